@@ -1,0 +1,68 @@
+// Jobs, and the handle by which they wait and run further jobs.
+ghost use Rattle.std.specs.Prelude.{◌≡◌, ℕ, ◌<◌, ◌≤◌, Result};
+
+use crate::context::{BroadcastContext, FnContext};
+use crate::join::PairRun;
+use crate::worker_thread::WorkerThread;
+use rayon_jobs::JobKind;
+use std::alloc::Global;
+use std::sync::Wait;
+
+/// A handle by which jobs wait, and run further jobs one level below. `levels` bounds the levels of the worker value
+/// that is lent beside it; what is counted, and refused `TooDeep`, are the worker value's own levels.
+pub trait Waits<J: JobKind>: Wait {
+    /// The most levels that a worker value beside this handle may have.
+    ghost levels: { Self → ℕ };
+
+    /// Runs a job at once, and lends it the worker value with one level fewer.
+    fn run_job(
+        &self,
+        alloc: Global,
+        w: &mut WorkerThread<J>,
+        job: J,
+        ctx: &mut FnContext<J>,
+    ) -> Result<J::Output, J::Fault>
+        requires some { 0 < w.old.levels }
+        requires levels { w.old.levels ≤ levels self.now }
+        ensures answer { J.answers (J.tag_of job) result }
+        ensures id { w.new.id ≡ w.old.id }
+        ensures level { w.new.levels ≡ w.old.levels };
+
+    /// Joins two sides that an outside caller sent, as one run: it is lent the worker value with one level fewer, and
+    /// lends it to each side with one level fewer still. Where that join is refused the sides run one after the other.
+    fn run_pair(&self, alloc: Global, w: &mut WorkerThread<J>, first: J, second: J) -> PairRun<J>
+        requires some { 1 < w.old.levels }
+        requires levels { w.old.levels ≤ levels self.now }
+        ensures id { w.new.id ≡ w.old.id }
+        ensures level { w.new.levels ≡ w.old.levels };
+}
+
+/// A job of a pool: what its runs do. Each implementation proves that they meet the job's relations for every worker
+/// value and context, and leave the worker value's id and levels.
+pub trait Job: JobKind {
+    /// Runs the job. The value is taken, so one job cannot run twice.
+    fn run<R: Waits<Self>>(
+        self,
+        rt: &R,
+        alloc: Global,
+        w: &mut WorkerThread<Self>,
+        ctx: &mut FnContext<Self>,
+    ) -> Result<Self::Output, Self::Fault>
+        requires levels { w.old.levels ≤ R.levels rt.now }
+        ensures answer { Self.answers (Self.tag_of self) result }
+        ensures id { w.new.id ≡ w.old.id }
+        ensures level { w.new.levels ≡ w.old.levels };
+
+    /// Runs the worker's piece of a broadcast of the job.
+    fn run_on<R: Waits<Self>>(
+        &self,
+        rt: &R,
+        alloc: Global,
+        w: &mut WorkerThread<Self>,
+        ctx: &mut BroadcastContext<Self>,
+    ) -> Result<Self::Output, Self::Fault>
+        requires levels { w.old.levels ≤ R.levels rt.now }
+        ensures answer { Self.answers_on (Self.tag_of self.now) ctx.old.index ctx.old.workers result }
+        ensures id { w.new.id ≡ w.old.id }
+        ensures level { w.new.levels ≡ w.old.levels };
+}

@@ -1,0 +1,384 @@
+// Two sides on one worker value.
+ghost use Rattle.rayon_registry.specs.Answers.{joined};
+ghost use Rattle.rayon_jobs.specs.Claims.{claim};
+ghost use Rattle.std.specs.Prelude.{◌≡◌, ◌⊎◌, ℕ, ◌≤◌, ◌<◌, Bool, Result, Ok, Err, IfOk, MatchResult, suc};
+
+use crate::answers::join_answer;
+use crate::context::{Context, FnContext, Scope};
+use crate::job::Waits;
+use crate::terminate::TerminateHold;
+use crate::worker_thread::WorkerThread;
+use rayon_jobs::{Done, JobKind, Lost, SecondSide, Task, Ticket, claimed};
+use rayon_words::{CallError, Refusal};
+use std::alloc::Global;
+use std::sync::Wait;
+
+/// What the two sides of a join that was sent to a pool gave.
+#[derive(Drop)]
+pub struct PairRun<J: JobKind> {
+    pub(crate) first: Done<J>,
+    pub(crate) second: Option<Done<J>>,
+}
+
+/// A second side that was pushed. It has no `Drop`: the join has to be finished.
+pub struct Fork<J: JobKind> {
+    hold: TerminateHold,
+    ticket: Ticket<J>,
+    tag: J::Tag,
+    levels: usize,
+}
+
+impl<J: JobKind> WorkerThread<J> {
+    /// Runs two jobs, each with one level fewer, and answers both outputs. Refused `TooDeep`, `Ended`, `Full`,
+    /// `NoRoom`, with the sides back, and neither has run.
+    pub fn join_jobs<R: Waits<J>>(
+        &mut self,
+        rt: &R,
+        alloc: Global,
+        a: J,
+        b: J,
+    ) -> Result<(J::Output, J::Output), CallError<J::Fault, (J, J)>>
+        requires levels { self.old.levels ≤ R.levels rt.now }
+        ensures ok { IfOk result (λ r. J.answers (J.tag_of a) (Ok r.0) × J.answers (J.tag_of b) (Ok r.1)) }
+        ensures fault { (f : _) → result ≡ Err (CallError.Fault f) → J.answers (J.tag_of a) (Err f) ⊎ (((x : _) × J.answers (J.tag_of a) (Ok x)) × J.answers (J.tag_of b) (Err f)) }
+        ensures lost { (result ≡ Err CallError.Missing) ⊎ (result ≡ Err CallError.Foreign) → (x : _) × J.answers (J.tag_of a) (Ok x) }
+        ensures back { (r : _) (sides : _) → result ≡ Err (CallError.Refused r sides) → sides ≡ (a, b) }
+        ensures id { self.new.id ≡ self.old.id }
+        ensures level { self.new.levels ≡ self.old.levels }
+    {
+        let fork = match self.fork(rt, alloc, b, false) {
+            Ok(fork) => fork,
+            Err((refusal, b)) => return Err(CallError::Refused(refusal, (a, b))),
+        };
+        let first = rt.run_job(alloc, self, a, &mut FnContext::new(false));
+        let (found, tag) = self.meet(rt, alloc, fork, first.is_err());
+        join_answer(first, claimed(found, &tag))
+    }
+}
+
+impl<J: JobKind> WorkerThread<J> {
+    // Takes the terminate count, makes the ticket, and pushes the second side. Refused as a join is.
+    fn fork<R: Wait>(
+        &mut self,
+        rt: &R,
+        alloc: Global,
+        b: J,
+        injected: bool,
+    ) -> Result<Fork<J>, (Refusal, J)>
+        ensures forked { MatchResult result (λ f. (f.tag ≡ J.tag_of b) × (f.levels ≡ self.old.levels) × (0 < self.old.levels)) (λ e. e.1 ≡ b) }
+        ensures id { self.new.id ≡ self.old.id }
+        ensures level { self.new.levels ≡ self.old.levels }
+    {
+        if self.levels == 0 {
+            return Err((Refusal::TooDeep, b));
+        }
+        let hold = match self.registry.increment_terminate_count(rt) {
+            Ok(hold) => hold,
+            Err(refusal) => return Err((refusal, b)),
+        };
+        let tag = b.tag();
+        let levels = self.levels;
+        match self.push_second(alloc, b, injected) {
+            Ok(ticket) => Ok(Fork {
+                hold,
+                ticket,
+                tag,
+                levels,
+            }),
+            Err((refusal, b)) => {
+                self.registry.decrement_terminate_count(rt, hold);
+                Err((refusal, b))
+            }
+        }
+    }
+
+    // Makes the ticket, and pushes the second side with a share of it. Refused `Full`, `NoRoom`.
+    fn push_second(
+        &mut self,
+        alloc: Global,
+        b: J,
+        injected: bool,
+    ) -> Result<Ticket<J>, (Refusal, J)>
+        ensures back { MatchResult result (λ _. Unit {0}) (λ e. e.1 ≡ b) }
+        ensures id { self.new.id ≡ self.old.id }
+        ensures level { self.new.levels ≡ self.old.levels }
+    {
+        let Some(number) = self.tickets.draw() else {
+            return Err((Refusal::Full, b));
+        };
+        let Ok(ticket) = Ticket::new(alloc, self.id.index, number) else {
+            return Err((Refusal::NoRoom, b));
+        };
+        let Ok(share) = ticket.share() else {
+            return Err((Refusal::NoRoom, b));
+        };
+        let second = SecondSide {
+            job: b,
+            ticket: share,
+            injected,
+        };
+        match self.push(Task::Second(second)) {
+            Ok(()) => Ok(ticket),
+            Err((refusal, Task::Second(second))) => Err((refusal, second.job)),
+            Err(_) => unreachable!(),
+        }
+    }
+
+    // Waits for the second side, takes its result beside the tag that was handed in, and gives the count back.
+    fn meet<R: Waits<J>>(
+        &mut self,
+        rt: &R,
+        alloc: Global,
+        fork: Fork<J>,
+        first_faulted: bool,
+    ) -> (Option<Done<J>>, J::Tag)
+        requires some { 0 < self.old.levels }
+        requires levels { self.old.levels ≤ R.levels rt.now }
+        ensures tag { result.1 ≡ fork.tag }
+        ensures id { self.new.id ≡ self.old.id }
+        ensures level { self.new.levels ≡ self.old.levels }
+    {
+        let Fork {
+            hold,
+            ticket,
+            tag,
+            levels: _,
+        } = fork;
+        let found = if first_faulted {
+            self.wait_until_cold(rt, alloc, ticket.latch());
+            ticket.take(rt)
+        } else {
+            self.run_until_met(rt, alloc, &ticket)
+        };
+        self.registry.decrement_terminate_count(rt, hold);
+        (found, tag)
+    }
+
+    // Runs local tasks until the own second side is met, which is run at once, or until its result is there.
+    fn run_until_met<R: Waits<J>>(
+        &mut self,
+        rt: &R,
+        alloc: Global,
+        ticket: &Ticket<J>,
+    ) -> Option<Done<J>>
+        requires some { 0 < self.old.levels }
+        requires levels { self.old.levels ≤ R.levels rt.now }
+        ensures id { self.new.id ≡ self.old.id }
+        ensures level { self.new.levels ≡ self.old.levels }
+    {
+        for _ in rt.forever() {
+            if ticket.probe(rt) {
+                break;
+            }
+            match self.take_local_job() {
+                Some(Task::Second(second)) => {
+                    let is_own = second.ticket.is_same(ticket);
+                    if is_own {
+                        return Some(self.run_to_done(rt, alloc, second.job, second.injected));
+                    }
+                    self.execute(rt, alloc, Task::Second(second));
+                }
+                Some(task) => self.execute(rt, alloc, task),
+                None => {
+                    self.wait_until_cold(rt, alloc, ticket.latch());
+                    break;
+                }
+            }
+        }
+        ticket.take(rt)
+    }
+
+    // Joins two sides that were sent to the pool; where the join is refused, they run one after the other.
+    pub(crate) fn join_pair<R: Waits<J>>(
+        &mut self,
+        rt: &R,
+        alloc: Global,
+        first: J,
+        second: J,
+    ) -> PairRun<J>
+        requires some { 0 < self.old.levels }
+        requires levels { self.old.levels ≤ R.levels rt.now }
+        ensures id { self.new.id ≡ self.old.id }
+        ensures level { self.new.levels ≡ self.old.levels }
+    {
+        match self.fork(rt, alloc, second, true) {
+            Ok(fork) => {
+                let tag = first.tag();
+                let answer = rt.run_job(alloc, self, first, &mut FnContext::new(true));
+                let (found, _) = self.meet(rt, alloc, fork, answer.is_err());
+                PairRun {
+                    first: Done::of_run(tag, answer),
+                    second: found,
+                }
+            }
+            Err((_, second)) => self.one_after_the_other(rt, alloc, first, second),
+        }
+    }
+
+    // Runs two sides that were sent to the pool, one after the other.
+    pub(crate) fn one_after_the_other<R: Waits<J>>(
+        &mut self,
+        rt: &R,
+        alloc: Global,
+        first: J,
+        second: J,
+    ) -> PairRun<J>
+        requires some { 0 < self.old.levels }
+        requires levels { self.old.levels ≤ R.levels rt.now }
+        ensures id { self.new.id ≡ self.old.id }
+        ensures level { self.new.levels ≡ self.old.levels }
+    {
+        let first = self.run_to_done(rt, alloc, first, true);
+        let second = self.run_to_done(rt, alloc, second, true);
+        PairRun {
+            first,
+            second: Some(second),
+        }
+    }
+}
+
+/// What a join with a closure is made of. It is not open to users, who call `ForkJoin`.
+pub trait Sides<J: JobKind> {
+    /// A second side that was pushed.
+    type Fork;
+
+    /// The type of scopes.
+    type Scope: Drop;
+
+    /// The levels of the worker value.
+    ghost height: { Self → ℕ };
+
+    /// The pool's number and the worker's index.
+    ghost id: { Self → ℕ × ℕ };
+
+    /// The tag of the job that was handed in as the second side.
+    ghost fork_tag: { Self.Fork → J.Tag };
+
+    /// The levels of the worker value before it was lent.
+    ghost fork_levels: { Self.Fork → ℕ };
+
+    /// Pushes the second side, and lends the worker value: it has one level fewer.
+    fn begin_join<R: Wait>(
+        &mut self,
+        rt: &R,
+        alloc: Global,
+        b: J,
+    ) -> Result<Self::Fork, (Refusal, J)>
+        ensures forked { MatchResult result (λ f. (fork_tag f ≡ J.tag_of b) × (fork_levels f ≡ height self.old) × (suc (height self.new) ≡ height self.old)) (λ e. (e.1 ≡ b) × (height self.new ≡ height self.old)) }
+        ensures id { id self.new ≡ id self.old };
+
+    /// Takes the worker value back, waits for the second side, and claims its result.
+    fn end_join<R: Waits<J>>(
+        &mut self,
+        rt: &R,
+        alloc: Global,
+        fork: Self::Fork,
+        first_faulted: bool,
+    ) -> Result<Result<J::Output, J::Fault>, Lost>
+        requires some { 0 < fork_levels fork }
+        requires levels { fork_levels fork ≤ R.levels rt.now }
+        ensures ok { IfOk result (λ r. J.answers (fork_tag fork) r) }
+        ensures height { height self.new ≡ fork_levels fork }
+        ensures id { id self.new ≡ id self.old };
+}
+
+impl<J: JobKind> Sides<J> for WorkerThread<J> {
+    type Fork = Fork<J>;
+
+    type Scope = Scope<J>;
+
+    ghost height = { λ w. w.levels };
+
+    ghost id = { λ w. (w.id.pool.number, w.id.index) };
+
+    ghost fork_tag = { λ f. f.tag };
+
+    ghost fork_levels = { λ f. f.levels };
+
+    fn begin_join<R: Wait>(
+        &mut self,
+        rt: &R,
+        alloc: Global,
+        b: J,
+    ) -> Result<Fork<J>, (Refusal, J)> {
+        let fork = self.fork(rt, alloc, b, false)?;
+        self.levels -= 1;
+        Ok(fork)
+    }
+
+    fn end_join<R: Waits<J>>(
+        &mut self,
+        rt: &R,
+        alloc: Global,
+        fork: Fork<J>,
+        first_faulted: bool,
+    ) -> Result<Result<J::Output, J::Fault>, Lost> {
+        self.levels = fork.levels;
+        let (found, tag) = self.meet(rt, alloc, fork, first_faulted);
+        claimed(found, &tag)
+    }
+}
+
+/// The calls of a worker value that fork into a closure and a job.
+pub trait ForkJoin<J: JobKind>: Sides<J> {
+    /// Runs a closure and a job, each with one level fewer, and answers both outputs. Refused `TooDeep`, `Ended`,
+    /// `Full`, `NoRoom`, with the sides back, and neither has run.
+    final fn join<
+        R: Waits<J>,
+        RA: Drop,
+        A: FnOnce(&mut Self, &mut Context<Self::Scope>) -> Result<RA, J::Fault>,
+    >(
+        &mut self,
+        rt: &R,
+        alloc: Global,
+        a: A,
+        b: J,
+    ) -> Result<(RA, J::Output), CallError<J::Fault, (A, J)>>
+        requires levels { Self.height self.old ≤ R.levels rt.now }
+        requires callable { (w : _) (ctx : _) → suc (Self.height w.now) ≡ Self.height self.old → Self.id w.now ≡ Self.id self.old → A.pre a w ctx }
+        requires keeps { (w : _) (ctx : _) (r : _) (v : _) (k : _) → A.post a w ctx r v k → (Self.height v.now ≡ Self.height w.now) × (Self.id v.now ≡ Self.id w.now) }
+        ensures first { IfOk result (λ r. (w : _) × (ctx : _) × (v : _) × (k : _) × A.post a w ctx (Ok r.0) v k) }
+        ensures second { IfOk result (λ r. J.answers (J.tag_of b) (Ok r.1)) }
+        ensures fault { (f : _) → result ≡ Err (CallError.Fault f) → ((w : _) × (ctx : _) × (v : _) × (k : _) × A.post a w ctx (Err f) v k) ⊎ (((x : _) × (w : _) × (ctx : _) × (v : _) × (k : _) × A.post a w ctx (Ok x) v k) × J.answers (J.tag_of b) (Err f)) }
+        ensures lost { (result ≡ Err CallError.Missing) ⊎ (result ≡ Err CallError.Foreign) → (x : _) × (w : _) × (ctx : _) × (v : _) × (k : _) × A.post a w ctx (Ok x) v k }
+        ensures back { (r : _) (sides : _) → result ≡ Err (CallError.Refused r sides) → sides ≡ (a, b) }
+        ensures height { Self.height self.new ≡ Self.height self.old }
+        ensures id { Self.id self.new ≡ Self.id self.old }
+    {
+        let fork = match self.begin_join(rt, alloc, b) {
+            Ok(fork) => fork,
+            Err((refusal, b)) => return Err(CallError::Refused(refusal, (a, b))),
+        };
+        let first = a(self, &mut Context::new(false));
+        let second = self.end_join(rt, alloc, fork, first.is_err());
+        join_answer(first, second)
+    }
+
+    /// The same as `join`: both sides are told of their context there too.
+    final fn join_context<
+        R: Waits<J>,
+        RA: Drop,
+        A: FnOnce(&mut Self, &mut Context<Self::Scope>) -> Result<RA, J::Fault>,
+    >(
+        &mut self,
+        rt: &R,
+        alloc: Global,
+        a: A,
+        b: J,
+    ) -> Result<(RA, J::Output), CallError<J::Fault, (A, J)>>
+        requires levels { Self.height self.old ≤ R.levels rt.now }
+        requires callable { (w : _) (ctx : _) → suc (Self.height w.now) ≡ Self.height self.old → Self.id w.now ≡ Self.id self.old → A.pre a w ctx }
+        requires keeps { (w : _) (ctx : _) (r : _) (v : _) (k : _) → A.post a w ctx r v k → (Self.height v.now ≡ Self.height w.now) × (Self.id v.now ≡ Self.id w.now) }
+        ensures first { IfOk result (λ r. (w : _) × (ctx : _) × (v : _) × (k : _) × A.post a w ctx (Ok r.0) v k) }
+        ensures second { IfOk result (λ r. J.answers (J.tag_of b) (Ok r.1)) }
+        ensures fault { (f : _) → result ≡ Err (CallError.Fault f) → ((w : _) × (ctx : _) × (v : _) × (k : _) × A.post a w ctx (Err f) v k) ⊎ (((x : _) × (w : _) × (ctx : _) × (v : _) × (k : _) × A.post a w ctx (Ok x) v k) × J.answers (J.tag_of b) (Err f)) }
+        ensures lost { (result ≡ Err CallError.Missing) ⊎ (result ≡ Err CallError.Foreign) → (x : _) × (w : _) × (ctx : _) × (v : _) × (k : _) × A.post a w ctx (Ok x) v k }
+        ensures back { (r : _) (sides : _) → result ≡ Err (CallError.Refused r sides) → sides ≡ (a, b) }
+        ensures height { Self.height self.new ≡ Self.height self.old }
+        ensures id { Self.id self.new ≡ Self.id self.old }
+    {
+        self.join(rt, alloc, a, b)
+    }
+}
+
+impl<J: JobKind> ForkJoin<J> for WorkerThread<J> {}

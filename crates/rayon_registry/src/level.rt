@@ -1,0 +1,244 @@
+// The number of levels by which a run that calls further runs is shown to end. None of this is open to users: what they
+// are lent is a handle that `Waits`, and each run that it makes lends the worker value with one level fewer.
+ghost use Rattle.std.specs.Prelude.{◌≡◌, ℕ, ◌<◌, ◌≤◌, Result};
+
+use crate::context::FnContext;
+use crate::job::{Job, Waits};
+use crate::join::PairRun;
+use crate::worker_thread::WorkerThread;
+use rayon_jobs::JobKind;
+use std::alloc::Global;
+use std::marker::Model;
+use std::sync::Wait;
+
+/// A number of levels, as a type that reaches itself: a recursion through it ends where the number does.
+#[derive(Drop)]
+pub struct Level {
+    left: usize,
+    below: Option<Box<Level>>,
+}
+
+impl Model for Level {
+    ghost use Rattle.std.specs.Prelude.{ℕ, IsNone};
+
+    ghost Value = { ℕ };
+
+    ghost view = { λ l. l.left };
+
+    ghost invariant = { λ l. IsNone l.below };
+
+    ghost size = { λ n. n };
+
+    ghost use Rattle.std.proofs.Common.{arith};
+
+    ghost size_decreases = { λ a h. Prim.grind (arith) };
+}
+
+impl Level {
+    /// This number of levels.
+    pub fn new(left: usize) -> Level
+        ensures { result ≡ left }
+    {
+        Level { left, below: None }
+    }
+}
+
+/// What a run of a job may answer, over the types of its worker value `W` and of its answer `O`.
+pub trait Meaning<W, O> {
+    /// Whether the job may answer this.
+    ghost may: { Self → O → Type 0 };
+
+    /// The levels of a worker value.
+    ghost height: { W → ℕ };
+
+    /// The pool's number and the index of a worker value.
+    ghost id: { W → ℕ × ℕ };
+}
+
+impl<J: JobKind> Meaning<WorkerThread<J>, Result<J::Output, J::Fault>> for J {
+    ghost may = { λ j r. J.answers (J.tag_of j) r };
+
+    ghost height = { λ w. w.levels };
+
+    ghost id = { λ w. (w.id.pool.number, w.id.index) };
+}
+
+/// What runs a job, or a pair of sides, that the worker value is lent to.
+pub trait Runs<J: Meaning<W, O>, W, C, O, P> {
+    /// The levels that are left.
+    ghost left: { Self → ℕ };
+
+    /// Runs a job.
+    fn run_below<R: Wait>(&self, rt: &R, alloc: Global, w: &mut W, job: J, ctx: &mut C) -> O
+        requires { J.height w.old < left self.now }
+        ensures may { J.may job result }
+        ensures height { J.height w.new ≡ J.height w.old }
+        ensures id { J.id w.new ≡ J.id w.old };
+
+    /// Joins a pair of sides.
+    fn run_pair_below<R: Wait>(&self, rt: &R, alloc: Global, w: &mut W, first: J, second: J) -> P
+        requires some { 0 < J.height w.old }
+        requires below { J.height w.old < left self.now }
+        ensures height { J.height w.new ≡ J.height w.old }
+        ensures id { J.id w.new ≡ J.id w.old };
+}
+
+/// What can be run at any level.
+pub trait Start<W, C, O, P>: Meaning<W, O> {
+    /// Runs the job.
+    fn start<R: Wait, L: Runs<Self, W, C, O, P>>(
+        self,
+        rt: &R,
+        level: &L,
+        alloc: Global,
+        w: &mut W,
+        ctx: &mut C,
+    ) -> O
+        requires { Self.height w.old ≤ L.left level.now }
+        ensures may { Self.may self result }
+        ensures height { Self.height w.new ≡ Self.height w.old }
+        ensures id { Self.id w.new ≡ Self.id w.old };
+
+    /// Joins this first side and a second one.
+    fn start_pair<R: Wait, L: Runs<Self, W, C, O, P>>(
+        self,
+        second: Self,
+        rt: &R,
+        level: &L,
+        alloc: Global,
+        w: &mut W,
+    ) -> P
+        requires some { 0 < Self.height w.old }
+        requires below { Self.height w.old ≤ L.left level.now }
+        ensures height { Self.height w.new ≡ Self.height w.old }
+        ensures id { Self.id w.new ≡ Self.id w.old };
+}
+
+// The step from a bound's method to a call that the recursion can name.
+fn start_at<J: Start<W, C, O, P>, W, C, O, P, R: Wait, L: Runs<J, W, C, O, P>>(
+    rt: &R,
+    level: &L,
+    alloc: Global,
+    w: &mut W,
+    job: J,
+    ctx: &mut C,
+) -> O
+    requires { J.height w.old ≤ L.left level.now }
+    ensures may { J.may job result }
+    ensures height { J.height w.new ≡ J.height w.old }
+    ensures id { J.id w.new ≡ J.id w.old }
+{
+    job.start(rt, level, alloc, w, ctx)
+}
+
+// The same for a pair of sides.
+fn start_pair_at<J: Start<W, C, O, P>, W, C, O, P, R: Wait, L: Runs<J, W, C, O, P>>(
+    rt: &R,
+    level: &L,
+    alloc: Global,
+    w: &mut W,
+    first: J,
+    second: J,
+) -> P
+    requires some { 0 < J.height w.old }
+    requires below { J.height w.old ≤ L.left level.now }
+    ensures height { J.height w.new ≡ J.height w.old }
+    ensures id { J.id w.new ≡ J.id w.old }
+{
+    first.start_pair(second, rt, level, alloc, w)
+}
+
+impl<J: Start<W, C, O, P>, W, C, O, P> Runs<J, W, C, O, P> for Level {
+    ghost left = { λ n. n };
+
+    #[cycle(levels)]
+    fn run_below<R: Wait>(&self, rt: &R, alloc: Global, w: &mut W, job: J, ctx: &mut C) -> O {
+        let lower = Level {
+            left: self.left - 1,
+            below: None,
+        };
+        start_at(rt, &lower, alloc, w, job, ctx)
+    }
+
+    #[cycle(levels)]
+    fn run_pair_below<R: Wait>(&self, rt: &R, alloc: Global, w: &mut W, first: J, second: J) -> P {
+        let lower = Level {
+            left: self.left - 1,
+            below: None,
+        };
+        start_pair_at(rt, &lower, alloc, w, first, second)
+    }
+}
+
+/// The handle of a run: what may wait, and the levels that are left.
+#[derive(Clone, Copy)]
+pub struct Leveled<'a, 'b, R, L> {
+    rt: &'a R,
+    level: &'b L,
+}
+
+impl<'a, 'b, R: Wait, L> Wait for Leveled<'a, 'b, R, L> {}
+
+impl<'a, 'b, R, L> Leveled<'a, 'b, R, L> {
+    /// The handle of runs at this level.
+    pub fn new(rt: &'a R, level: &'b L) -> Leveled<'a, 'b, R, L>
+        ensures { result.level.now ≡ level.now }
+    {
+        Leveled { rt, level }
+    }
+}
+
+impl<
+    'a,
+    'b,
+    J: JobKind,
+    R: Wait,
+    L: Runs<J, WorkerThread<J>, FnContext<J>, Result<J::Output, J::Fault>, PairRun<J>>,
+> Waits<J> for Leveled<'a, 'b, R, L> {
+    ghost levels = { λ h. L.left h.level.now };
+
+    fn run_job(
+        &self,
+        alloc: Global,
+        w: &mut WorkerThread<J>,
+        job: J,
+        ctx: &mut FnContext<J>,
+    ) -> Result<J::Output, J::Fault> {
+        w.levels -= 1;
+        let answer = self.level.run_below(self.rt, alloc, w, job, ctx);
+        w.levels += 1;
+        answer
+    }
+
+    fn run_pair(&self, alloc: Global, w: &mut WorkerThread<J>, first: J, second: J) -> PairRun<J> {
+        w.levels -= 1;
+        let run = self.level.run_pair_below(self.rt, alloc, w, first, second);
+        w.levels += 1;
+        run
+    }
+}
+
+impl<J: Job> Start<WorkerThread<J>, FnContext<J>, Result<J::Output, J::Fault>, PairRun<J>> for J {
+    fn start<
+        R: Wait,
+        L: Runs<J, WorkerThread<J>, FnContext<J>, Result<J::Output, J::Fault>, PairRun<J>>,
+    >(
+        self,
+        rt: &R,
+        level: &L,
+        alloc: Global,
+        w: &mut WorkerThread<J>,
+        ctx: &mut FnContext<J>,
+    ) -> Result<J::Output, J::Fault> {
+        let rt = Leveled::new(rt, level);
+        self.run(&rt, alloc, w, ctx)
+    }
+
+    fn start_pair<
+        R: Wait,
+        L: Runs<J, WorkerThread<J>, FnContext<J>, Result<J::Output, J::Fault>, PairRun<J>>,
+    >(self, second: Self, rt: &R, level: &L, alloc: Global, w: &mut WorkerThread<J>) -> PairRun<J> {
+        let rt = Leveled::new(rt, level);
+        w.join_pair(&rt, alloc, self, second)
+    }
+}

@@ -1,0 +1,20 @@
+//! A pool's shared part, its worker values, the jobs that they run, and the calls on a worker value.
+#![tactic(auto)]
+
+mod answers;
+mod context;
+mod ids;
+mod job;
+mod join;
+mod level;
+mod registry;
+mod terminate;
+mod worker_thread;
+
+pub use context::{BroadcastContext, Context, FnContext, PieceContext, Scope};
+pub use ids::{IdSource, Ids, PoolId, WorkerId};
+pub use job::{Job, Waits};
+pub use join::{ForkJoin, PairRun};
+pub use registry::{Registry, ThreadBuilder};
+pub use terminate::{TerminateCount, TerminateHold};
+pub use worker_thread::WorkerThread;

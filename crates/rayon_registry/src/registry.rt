@@ -1,0 +1,284 @@
+// What the threads of a pool share, and the calls that are made on a pool from outside.
+ghost use Rattle.rayon_registry.specs.Answers.{joined_pair};
+ghost use Rattle.std.specs.Prelude.{◌≡◌, ◌⊎◌, ℕ, Result, Ok, Err, IfOk, MatchResult};
+
+use crate::answers::{install_answer, join_answer};
+use crate::ids::PoolId;
+use crate::job::Job;
+use crate::level::{Level, Leveled};
+use crate::terminate::{TerminateCount, TerminateHold};
+use crate::worker_thread::WorkerThread;
+use rayon_jobs::{Installed, JobKind, Lost, Pair, PairReply, Reply, Task, claimed};
+use rayon_words::latch::{CoreLatch, LatchRef, SpinLatch};
+use rayon_words::sleep::Sleep;
+use rayon_words::{CallError, Refusal};
+use std::alloc::{AllocFailed, Global};
+use std::collections::VecDeque;
+use std::sync::{Arc, Mutex, Wait};
+
+/// What the threads of a pool share.
+#[derive(Drop)]
+pub struct Registry<J: JobKind> {
+    id: PoolId,
+    depth_limit: usize,
+    sleep: Sleep,
+    injector: Mutex<VecDeque<Task<J>>>,
+    terminate_count: Mutex<TerminateCount>,
+    terminate: SpinLatch,
+}
+
+impl<J: JobKind> Registry<J> {
+    /// The shared part of a pool of one worker, and the unit of the terminate count that the pool value holds. A
+    /// `depth_limit` of 0 counts as 1.
+    pub fn new(alloc: Global, id: PoolId, depth_limit: usize) -> (Registry<J>, TerminateHold) {
+        let registry = Registry {
+            id,
+            depth_limit: depth_limit.max(1),
+            sleep: Sleep::new(),
+            injector: Mutex::new(VecDeque::new(alloc)),
+            terminate_count: Mutex::new(TerminateCount::new()),
+            terminate: SpinLatch::new(0),
+        };
+        (registry, TerminateHold::taken())
+    }
+
+    /// The pool's number.
+    pub fn id(&self) -> PoolId {
+        self.id
+    }
+
+    /// Where the pool's worker sleeps.
+    pub(crate) fn sleep(&self) -> &Sleep {
+        &self.sleep
+    }
+
+    /// The latch that is set when the terminate count has become 0.
+    pub(crate) fn terminate(&self) -> LatchRef<'_, CoreLatch> {
+        self.terminate.core_latch()
+    }
+
+    /// Takes one unit of the terminate count. Refused `Ended`, `Full`.
+    pub(crate) fn increment_terminate_count<R: Wait>(
+        &self,
+        rt: &R,
+    ) -> Result<TerminateHold, Refusal> {
+        self.terminate_count.lock(rt).increment()?;
+        Ok(TerminateHold::taken())
+    }
+
+    /// Gives back a unit of the terminate count. Where it was the last one, the worker leaves its loop.
+    pub fn decrement_terminate_count<R: Wait>(&self, rt: &R, hold: TerminateHold) {
+        hold.spend();
+        let was_last = self.terminate_count.lock(rt).decrement();
+        if was_last {
+            self.terminate.set(rt, &self.sleep);
+        }
+    }
+
+    /// Adds a task last to the injected ones, and wakes the worker where it sleeps. Refused `NoRoom`.
+    fn inject<R: Wait>(&self, rt: &R, task: Task<J>) -> Result<(), (Refusal, Task<J>)>
+        ensures back { MatchResult result (λ _. Unit {0}) (λ e. e.1 ≡ task) }
+    {
+        let pushed = self.injector.lock(rt).push_back(task);
+        match pushed {
+            Ok(()) => {
+                self.sleep.new_injected_jobs(rt);
+                Ok(())
+            }
+            Err(AllocFailed { value }) => Err((Refusal::NoRoom, value)),
+        }
+    }
+
+    /// Takes the oldest injected task.
+    pub(crate) fn pop_injected_job<R: Wait>(&self, rt: &R) -> Option<Task<J>> {
+        self.injector.lock(rt).pop_front()
+    }
+
+    /// Runs a job on the pool for a caller that is no worker, which blocks until the job has run. Refused `Ended`,
+    /// `Full`, `NoRoom`, with the job back.
+    pub fn install<R: Wait>(
+        &self,
+        rt: &R,
+        alloc: Global,
+        job: J,
+    ) -> Result<J::Output, CallError<J::Fault, J>>
+        ensures ok { IfOk result (λ x. J.answers (J.tag_of job) (Ok x)) }
+        ensures fault { (f : _) → result ≡ Err (CallError.Fault f) → J.answers (J.tag_of job) (Err f) }
+        ensures back { (r : _) (j : _) → result ≡ Err (CallError.Refused r j) → j ≡ job }
+    {
+        let hold = match self.increment_terminate_count(rt) {
+            Ok(hold) => hold,
+            Err(refusal) => return Err(CallError::Refused(refusal, job)),
+        };
+        let answer = self.install_held(rt, alloc, job);
+        self.decrement_terminate_count(rt, hold);
+        answer
+    }
+
+    // Queues the job and blocks until its result is there, while the caller holds the terminate count.
+    fn install_held<R: Wait>(
+        &self,
+        rt: &R,
+        alloc: Global,
+        job: J,
+    ) -> Result<J::Output, CallError<J::Fault, J>>
+        ensures ok { IfOk result (λ x. J.answers (J.tag_of job) (Ok x)) }
+        ensures fault { (f : _) → result ≡ Err (CallError.Fault f) → J.answers (J.tag_of job) (Err f) }
+        ensures back { (r : _) (j : _) → result ≡ Err (CallError.Refused r j) → j ≡ job }
+    {
+        let tag = job.tag();
+        match self.send(rt, alloc, job) {
+            Ok(reply) => install_answer(claimed(reply.wait(rt), &tag)),
+            Err((refusal, job)) => Err(CallError::Refused(refusal, job)),
+        }
+    }
+
+    // Queues the job: what is answered is where its result will be. Refused `NoRoom`.
+    fn send<R: Wait>(
+        &self,
+        rt: &R,
+        alloc: Global,
+        job: J,
+    ) -> Result<Arc<Reply<J>, Global>, (Refusal, J)>
+        ensures back { MatchResult result (λ _. Unit {0}) (λ e. e.1 ≡ job) }
+    {
+        let Ok(reply) = Reply::new(alloc) else {
+            return Err((Refusal::NoRoom, job));
+        };
+        let Ok(theirs) = Arc::try_clone(&reply) else {
+            return Err((Refusal::NoRoom, job));
+        };
+        match self.inject(rt, Task::Job(Installed { job, reply: theirs })) {
+            Ok(()) => Ok(reply),
+            Err((refusal, Task::Job(installed))) => Err((refusal, installed.job)),
+            Err(_) => unreachable!(),
+        }
+    }
+
+    /// Joins two sides on the pool for a caller that is no worker, which blocks until both have run. Refused `Ended`,
+    /// `Full`, `NoRoom`, and `TooDeep` where the pool's `depth_limit` is 1, with the sides back.
+    pub fn join<R: Wait>(
+        &self,
+        rt: &R,
+        alloc: Global,
+        a: J,
+        b: J,
+    ) -> Result<(J::Output, J::Output), CallError<J::Fault, (J, J)>>
+        ensures ok { IfOk result (λ r. J.answers (J.tag_of a) (Ok r.0) × J.answers (J.tag_of b) (Ok r.1)) }
+        ensures fault { (f : _) → result ≡ Err (CallError.Fault f) → J.answers (J.tag_of a) (Err f) ⊎ (((x : _) × J.answers (J.tag_of a) (Ok x)) × J.answers (J.tag_of b) (Err f)) }
+        ensures back { (r : _) (sides : _) → result ≡ Err (CallError.Refused r sides) → sides ≡ (a, b) }
+    {
+        let hold = match self.increment_terminate_count(rt) {
+            Ok(hold) => hold,
+            Err(refusal) => return Err(CallError::Refused(refusal, (a, b))),
+        };
+        let answer = self.join_held(rt, alloc, a, b);
+        self.decrement_terminate_count(rt, hold);
+        answer
+    }
+
+    // Queues the sides and blocks until their results are there, while the caller holds the terminate count.
+    fn join_held<R: Wait>(
+        &self,
+        rt: &R,
+        alloc: Global,
+        a: J,
+        b: J,
+    ) -> Result<(J::Output, J::Output), CallError<J::Fault, (J, J)>>
+        ensures ok { IfOk result (λ r. J.answers (J.tag_of a) (Ok r.0) × J.answers (J.tag_of b) (Ok r.1)) }
+        ensures fault { (f : _) → result ≡ Err (CallError.Fault f) → J.answers (J.tag_of a) (Err f) ⊎ (((x : _) × J.answers (J.tag_of a) (Ok x)) × J.answers (J.tag_of b) (Err f)) }
+        ensures back { (r : _) (sides : _) → result ≡ Err (CallError.Refused r sides) → sides ≡ (a, b) }
+    {
+        let tags = (a.tag(), b.tag());
+        match self.send_pair(rt, alloc, a, b) {
+            Ok(reply) => {
+                let (first, second) = reply.wait(rt);
+                pair_answer(claimed(first, &tags.0), claimed(second, &tags.1))
+            }
+            Err((refusal, sides)) => Err(CallError::Refused(refusal, sides)),
+        }
+    }
+
+    // Queues the sides: what is answered is where their results will be. Refused `NoRoom`, `TooDeep`.
+    fn send_pair<R: Wait>(
+        &self,
+        rt: &R,
+        alloc: Global,
+        a: J,
+        b: J,
+    ) -> Result<Arc<PairReply<J>, Global>, (Refusal, (J, J))>
+        ensures back { MatchResult result (λ _. Unit {0}) (λ e. e.1 ≡ (a, b)) }
+    {
+        let Ok(reply) = PairReply::new(alloc) else {
+            return Err((Refusal::NoRoom, (a, b)));
+        };
+        let Ok(theirs) = Arc::try_clone(&reply) else {
+            return Err((Refusal::NoRoom, (a, b)));
+        };
+        if self.depth_limit < 2 {
+            return Err((Refusal::TooDeep, (a, b)));
+        }
+        let pair = Pair {
+            first: a,
+            second: b,
+            reply: theirs,
+        };
+        match self.inject(rt, Task::Pair(pair)) {
+            Ok(()) => Ok(reply),
+            Err((refusal, Task::Pair(pair))) => Err((refusal, (pair.first, pair.second))),
+            Err(_) => unreachable!(),
+        }
+    }
+}
+
+// What a join that was sent to a pool answers: whatever is wrong with the first side's result comes first.
+fn pair_answer<X: Drop, Y: Drop, F: Drop, B>(
+    first: Result<Result<X, F>, Lost>,
+    second: Result<Result<Y, F>, Lost>,
+) -> Result<(X, Y), CallError<F, B>>
+    ensures { result ≡ joined_pair first second }
+{
+    match first {
+        Err(Lost::Missing) => Err(CallError::Missing),
+        Err(Lost::Foreign) => Err(CallError::Foreign),
+        Ok(first) => join_answer(first, second),
+    }
+}
+
+/// A worker's thread that is not started yet.
+#[derive(Drop)]
+pub struct ThreadBuilder<J: JobKind> {
+    registry: Arc<Registry<J>, Global>,
+    worker: WorkerThread<J>,
+}
+
+impl<J: JobKind> ThreadBuilder<J> {
+    /// The thread of the worker with this index. Refused `NoRoom`.
+    pub fn new(
+        alloc: Global,
+        registry: &Arc<Registry<J>, Global>,
+        index: usize,
+    ) -> Result<ThreadBuilder<J>, Refusal> {
+        let (Ok(own), Ok(theirs)) = (Arc::try_clone(registry), Arc::try_clone(registry)) else {
+            return Err(Refusal::NoRoom);
+        };
+        let levels = own.depth_limit;
+        Ok(ThreadBuilder {
+            registry: own,
+            worker: WorkerThread::new(alloc, theirs, index, levels),
+        })
+    }
+
+    /// The worker's loop: runs what is queued, sleeps where nothing is, and ends when the pool has ended.
+    pub fn run<R: Wait>(self, rt: &R, alloc: Global)
+    where
+        J: Job,
+    {
+        let ThreadBuilder {
+            registry,
+            mut worker,
+        } = self;
+        let level = Level::new(worker.levels());
+        let _ended = worker.wait_until(&Leveled::new(rt, &level), alloc, registry.terminate());
+    }
+}

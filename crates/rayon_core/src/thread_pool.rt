@@ -1,0 +1,124 @@
+// Pools.
+ghost use Rattle.std.specs.Prelude.{◌≡◌, ◌⊎◌, ℕ, Result, Ok, Err, IfOk};
+
+use rayon_jobs::JobKind;
+use rayon_registry::{PoolId, Registry, TerminateHold};
+use rayon_words::CallError;
+use std::alloc::Global;
+use std::marker::Model;
+use std::sync::{Arc, Wait};
+use std::thread::{JoinHandle, Threads};
+
+/// A pool, held by its value. It has no `Drop`: it must be spent by `end`. Contracts see its number and how many
+/// workers it has.
+pub struct ThreadPool<J: JobKind> {
+    registry: Arc<Registry<J>, Global>,
+    hold: TerminateHold,
+    id: PoolId,
+    num_threads: usize,
+    worker: JoinHandle<()>,
+}
+
+impl<J: JobKind> Model for ThreadPool<J> {
+    ghost use Rattle.rayon_core.specs.Pool.{Pool};
+
+    ghost Value = { Pool };
+
+    ghost view = { λ p. record { id = p.id; workers = p.num_threads } };
+}
+
+impl<J: JobKind> ThreadPool<J> {
+    // The pool whose worker was started.
+    pub(crate) fn new(
+        registry: Arc<Registry<J>, Global>,
+        hold: TerminateHold,
+        id: PoolId,
+        num_threads: usize,
+        worker: JoinHandle<()>,
+    ) -> ThreadPool<J>
+        ensures { (result.id ≡ id) × (result.workers ≡ num_threads) }
+    {
+        ThreadPool {
+            registry,
+            hold,
+            id,
+            num_threads,
+            worker,
+        }
+    }
+
+    /// The pool's number.
+    pub fn id(&self) -> PoolId
+        ensures { result ≡ self.now.id }
+    {
+        self.id
+    }
+
+    /// How many workers the pool has.
+    pub fn current_num_threads(&self) -> usize
+        ensures { result ≡ self.now.workers }
+    {
+        self.num_threads
+    }
+
+    /// Runs a job on the pool, for a caller that is no worker; it blocks until the job has run, and answers the job's
+    /// output. Refused `Ended`, `Full`, `NoRoom`, with the job back.
+    pub fn install<R: Wait>(
+        &self,
+        rt: &R,
+        alloc: Global,
+        job: J,
+    ) -> Result<J::Output, CallError<J::Fault, J>>
+        ensures ok { IfOk result (λ x. J.answers (J.tag_of job) (Ok x)) }
+        ensures fault { (f : _) → result ≡ Err (CallError.Fault f) → J.answers (J.tag_of job) (Err f) }
+        ensures back { (r : _) (j : _) → result ≡ Err (CallError.Refused r j) → j ≡ job }
+    {
+        self.registry.install(rt, alloc, job)
+    }
+
+    /// Runs two jobs on the pool by a join there, for a caller that is no worker; it blocks until both have run, and
+    /// answers both outputs. Refused `Ended`, `Full`, `NoRoom`, and `TooDeep` where the depth limit is 1, with the
+    /// sides back, and neither has run.
+    pub fn join<R: Wait>(
+        &self,
+        rt: &R,
+        alloc: Global,
+        a: J,
+        b: J,
+    ) -> Result<(J::Output, J::Output), CallError<J::Fault, (J, J)>>
+        ensures ok { IfOk result (λ r. J.answers (J.tag_of a) (Ok r.0) × J.answers (J.tag_of b) (Ok r.1)) }
+        ensures fault { (f : _) → result ≡ Err (CallError.Fault f) → J.answers (J.tag_of a) (Err f) ⊎ (((x : _) × J.answers (J.tag_of a) (Ok x)) × J.answers (J.tag_of b) (Err f)) }
+        ensures back { (r : _) (sides : _) → result ≡ Err (CallError.Refused r sides) → sides ≡ (a, b) }
+    {
+        self.registry.join(rt, alloc, a, b)
+    }
+
+    /// The same as `join`: both jobs are told that their call came from outside the pool.
+    pub fn join_context<R: Wait>(
+        &self,
+        rt: &R,
+        alloc: Global,
+        a: J,
+        b: J,
+    ) -> Result<(J::Output, J::Output), CallError<J::Fault, (J, J)>>
+        ensures ok { IfOk result (λ r. J.answers (J.tag_of a) (Ok r.0) × J.answers (J.tag_of b) (Ok r.1)) }
+        ensures fault { (f : _) → result ≡ Err (CallError.Fault f) → J.answers (J.tag_of a) (Err f) ⊎ (((x : _) × J.answers (J.tag_of a) (Ok x)) × J.answers (J.tag_of b) (Err f)) }
+        ensures back { (r : _) (sides : _) → result ≡ Err (CallError.Refused r sides) → sides ≡ (a, b) }
+    {
+        self.registry.join(rt, alloc, a, b)
+    }
+
+    /// Ends the pool: no call is taken any more, and the worker's thread leaves once no waiting call holds the pool, and
+    /// is joined.
+    pub fn end<R: Threads + Wait>(self, rt: &R) {
+        let ThreadPool {
+            registry,
+            hold,
+            id: _,
+            num_threads: _,
+            worker,
+        } = self;
+        registry.decrement_terminate_count(rt, hold);
+        worker.join(rt);
+    }
+}

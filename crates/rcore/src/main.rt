@@ -23,3 +23,6 @@ fn main(rt: HostRuntime) -> ExitCode {
     let mut err = rt.stderr();
     ExitCode::from(run::run(&rt, alloc, &words, &mut rt.reader(), &mut out, &mut err))
 }
+
+#[cfg(test)]
+mod tests;

@@ -58,6 +58,7 @@ impl<J: JobKind> WorkerThread<J> {
 
 impl<J: JobKind> WorkerThread<J> {
     // Takes the terminate count, makes the ticket, and pushes the second side. Refused as a join is.
+    #[inline(always)]
     fn fork<R: Wait>(
         &mut self,
         rt: &R,
@@ -93,6 +94,7 @@ impl<J: JobKind> WorkerThread<J> {
     }
 
     // Makes the ticket, and pushes the second side with a share of it. Refused `Full`, `NoRoom`.
+    #[inline(always)]
     fn push_second(
         &mut self,
         alloc: Global,
@@ -125,6 +127,7 @@ impl<J: JobKind> WorkerThread<J> {
     }
 
     // Waits for the second side, takes its result beside the tag that was handed in, and gives the count back.
+    #[inline(always)]
     fn meet<R: Waits<J>>(
         &mut self,
         rt: &R,
@@ -155,6 +158,7 @@ impl<J: JobKind> WorkerThread<J> {
     }
 
     // Runs local tasks until the own second side is met, which is run at once, or until its result is there.
+    #[inline(always)]
     fn run_until_met<R: Waits<J>>(
         &mut self,
         rt: &R,

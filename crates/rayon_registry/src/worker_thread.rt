@@ -230,6 +230,7 @@ impl<J: JobKind> WorkerThread<J> {
     }
 
     // Runs a job, and puts its result beside its tag.
+    #[inline(always)]
     pub(crate) fn run_to_done<R: Waits<J>>(
         &mut self,
         rt: &R,

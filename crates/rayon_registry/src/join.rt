@@ -73,7 +73,7 @@ impl<J: JobKind> WorkerThread<J> {
         if self.levels == 0 {
             return Err((Refusal::TooDeep, b));
         }
-        let hold = match self.registry.increment_terminate_count(rt) {
+        let hold = match self.increment_terminate_count(rt) {
             Ok(hold) => hold,
             Err(refusal) => return Err((refusal, b)),
         };
@@ -87,7 +87,7 @@ impl<J: JobKind> WorkerThread<J> {
                 levels,
             }),
             Err((refusal, b)) => {
-                self.registry.decrement_terminate_count(rt, hold);
+                self.decrement_terminate_count(rt, hold);
                 Err((refusal, b))
             }
         }
@@ -153,7 +153,7 @@ impl<J: JobKind> WorkerThread<J> {
         } else {
             self.run_until_met(rt, alloc, &ticket)
         };
-        self.registry.decrement_terminate_count(rt, hold);
+        self.decrement_terminate_count(rt, hold);
         (found, tag)
     }
 

@@ -53,6 +53,66 @@ impl TerminateCount {
     }
 }
 
+/// How many units the calls of one worker hold. The outermost call's unit stands in the pool's own count; those of the
+/// calls nested in it are counted here alone, without a lock, since under the outermost one the pool cannot end. The
+/// pool's terminate count is its own number and all that its workers' nested calls hold. Contracts see the number.
+#[derive(Drop)]
+pub struct WorkerHolds {
+    calls: u64,
+}
+
+impl Model for WorkerHolds {
+    ghost use Rattle.std.specs.Prelude.{ℕ};
+
+    ghost Value = { ℕ };
+
+    ghost view = { λ h. h.calls };
+}
+
+impl WorkerHolds {
+    /// No call of the worker holds anything.
+    pub fn new() -> WorkerHolds
+        ensures { result ≡ 0 }
+    {
+        WorkerHolds { calls: 0 }
+    }
+
+    /// One call of the worker holds a unit, the one that it took from the pool's own count.
+    pub fn outermost() -> WorkerHolds
+        ensures { result ≡ 1 }
+    {
+        WorkerHolds { calls: 1 }
+    }
+
+    /// Whether no call of the worker holds anything.
+    pub fn is_empty(&self) -> bool
+        ensures { IsTrue result ↔ (self.now ≡ 0) }
+    {
+        self.calls == 0
+    }
+
+    /// One call more. Refused `Full` exactly at 2^64 - 1, with no change.
+    pub fn enter(&mut self) -> Result<(), Refusal>
+        ensures { MatchResult result (λ _. self.new ≡ self.old + 1) (λ r. (r ≡ Refusal.Full) × (self.old ≡ 2 ^ 64 - 1) × (self.new ≡ self.old)) }
+    {
+        let Some(calls) = self.calls.checked_add(1) else {
+            return Err(Refusal::Full);
+        };
+        self.calls = calls;
+        Ok(())
+    }
+
+    /// One call fewer, and none fewer at 0. True exactly if that was the outermost one.
+    pub fn leave(&mut self) -> bool
+        ensures state { self.new ≡ self.old - 1 }
+        ensures answer { IsTrue result ↔ (self.old ≡ 1) }
+    {
+        let was_outermost = self.calls == 1;
+        self.calls = self.calls.saturating_sub(1);
+        was_outermost
+    }
+}
+
 /// One unit of a pool's terminate count. It has no `Drop`: whoever takes one has to give it back.
 pub struct TerminateHold {
     _unit: (),

@@ -6,6 +6,7 @@ use crate::ids::{IdSource, WorkerId};
 use crate::job::Waits;
 use crate::join::PairRun;
 use crate::registry::Registry;
+use crate::terminate::{TerminateHold, WorkerHolds};
 use rayon_jobs::{Done, Installed, JobKind, Pair, SecondSide, Task};
 use rayon_words::latch::{CoreLatch, LatchRef};
 use rayon_words::{CallError, Refusal};
@@ -22,6 +23,7 @@ pub struct WorkerThread<J: JobKind> {
     pub(crate) levels: usize,
     pub(crate) registry: Arc<Registry<J>, Global>,
     pub(crate) tickets: IdSource,
+    holds: WorkerHolds,
     deque: VecDeque<Task<J>>,
 }
 
@@ -54,6 +56,7 @@ impl<J: JobKind> WorkerThread<J> {
             levels,
             registry,
             tickets: IdSource::new(),
+            holds: WorkerHolds::new(),
             deque: VecDeque::new(alloc),
         }
     }
@@ -116,6 +119,35 @@ impl<J: JobKind> WorkerThread<J> {
         }
     }
 
+    // Takes one unit of the pool's terminate count for a call of this worker. Refused `Ended`, `Full`.
+    #[inline(always)]
+    pub(crate) fn increment_terminate_count<R: Wait>(
+        &mut self,
+        rt: &R,
+    ) -> Result<TerminateHold, Refusal>
+        ensures { self.new ≡ self.old }
+    {
+        if self.holds.is_empty() {
+            let hold = self.registry.increment_terminate_count(rt)?;
+            self.holds = WorkerHolds::outermost();
+            return Ok(hold);
+        }
+        self.holds.enter()?;
+        Ok(TerminateHold::taken())
+    }
+
+    // Gives back a unit that a call of this worker took.
+    #[inline(always)]
+    pub(crate) fn decrement_terminate_count<R: Wait>(&mut self, rt: &R, hold: TerminateHold)
+        ensures { self.new ≡ self.old }
+    {
+        if self.holds.leave() {
+            self.registry.decrement_terminate_count(rt, hold);
+        } else {
+            hold.spend();
+        }
+    }
+
     /// Runs a job at once. Refused `TooDeep`, `Ended`, `Full`, with the job back. It is never `Foreign` or `Missing`.
     pub fn install<R: Waits<J>>(
         &mut self,
@@ -134,12 +166,12 @@ impl<J: JobKind> WorkerThread<J> {
         if self.levels == 0 {
             return Err(CallError::Refused(Refusal::TooDeep, job));
         }
-        let hold = match self.registry.increment_terminate_count(rt) {
+        let hold = match self.increment_terminate_count(rt) {
             Ok(hold) => hold,
             Err(refusal) => return Err(CallError::Refused(refusal, job)),
         };
         let answer = rt.run_job(alloc, self, job, &mut FnContext::new(false));
-        self.registry.decrement_terminate_count(rt, hold);
+        self.decrement_terminate_count(rt, hold);
         match answer {
             Ok(output) => Ok(output),
             Err(fault) => Err(CallError::Fault(fault)),

@@ -20,15 +20,16 @@ impl Model for TerminateCount {
 }
 
 impl TerminateCount {
-    /// The count of a pool that only the pool value holds.
-    pub fn new() -> TerminateCount
-        ensures { result ≡ 1 }
+    /// The count of a pool that only the pool value holds, and the unit that the pool value holds.
+    pub fn new() -> (TerminateCount, TerminateHold)
+        ensures { result.0 ≡ 1 }
     {
-        TerminateCount { holders: 1 }
+        (TerminateCount { holders: 1 }, TerminateHold { _unit: () })
     }
 
-    /// One holder more. Refused `Ended` exactly at 0, and `Full` exactly at 2^64 - 1, with no change.
-    pub fn increment(&mut self) -> Result<(), Refusal>
+    /// One holder more, and the unit that it holds. Refused `Ended` exactly at 0, and `Full` exactly at 2^64 - 1, with
+    /// no change.
+    pub fn increment(&mut self) -> Result<TerminateHold, Refusal>
         ensures ok { MatchResult result (λ _. (0 < self.old) × (self.new ≡ self.old + 1)) (λ _. self.new ≡ self.old) }
         ensures refused { MatchResult result (λ _. Unit {0}) (λ r. ((r ≡ Refusal.Ended) × (self.old ≡ 0)) ⊎ ((r ≡ Refusal.Full) × (self.old ≡ 2 ^ 64 - 1))) }
     {
@@ -39,33 +40,23 @@ impl TerminateCount {
             return Err(Refusal::Full);
         };
         self.holders = holders;
-        Ok(())
+        Ok(TerminateHold { _unit: () })
     }
 
-    /// One holder fewer, and none fewer at 0. True exactly if that was the last one.
-    pub fn decrement(&mut self) -> bool
+    /// One holder fewer, which gives its unit back, and none fewer at 0. True exactly if that was the last one.
+    pub fn decrement(&mut self, hold: TerminateHold) -> bool
         ensures state { self.new ≡ self.old - 1 }
         ensures answer { IsTrue result ↔ (self.old ≡ 1) }
     {
+        let TerminateHold { _unit } = hold;
         let was_last = self.holders == 1;
         self.holders = self.holders.saturating_sub(1);
         was_last
     }
 }
 
-/// One unit of a pool's terminate count. It has no `Drop`: whoever takes one has to give it back.
+/// One unit of a pool's terminate count. Only a count makes one, when it begins or is raised, and only its lowering
+/// spends one. It has no `Drop`: whoever takes one has to give it back.
 pub struct TerminateHold {
     _unit: (),
-}
-
-impl TerminateHold {
-    // The unit that a count was just raised by, or that a new count begins with.
-    pub(crate) fn taken() -> TerminateHold {
-        TerminateHold { _unit: () }
-    }
-
-    // Spent, right before the count is lowered for it.
-    pub(crate) fn spend(self) {
-        let TerminateHold { _unit } = self;
-    }
 }

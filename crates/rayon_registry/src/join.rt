@@ -61,6 +61,7 @@ impl<J: JobKind> WorkerThread<J> {
 
 impl<J: JobKind> WorkerThread<J> {
     // Takes the terminate count, makes the ticket, and pushes the second side. Refused as a join is.
+    #[inline(always)]
     fn fork<R: Wait>(
         &mut self,
         rt: &R,
@@ -77,7 +78,7 @@ impl<J: JobKind> WorkerThread<J> {
         if self.levels == 0 {
             return Err((Refusal::TooDeep, b));
         }
-        let hold = match self.registry.increment_terminate_count(rt) {
+        let hold = match self.increment_terminate_count(rt) {
             Ok(hold) => hold,
             Err(refusal) => return Err((refusal, b)),
         };
@@ -91,7 +92,7 @@ impl<J: JobKind> WorkerThread<J> {
                 levels,
             }),
             Err((refusal, b)) => {
-                self.registry.decrement_terminate_count(rt, hold);
+                self.decrement_terminate_count(rt, hold);
                 Err((refusal, b))
             }
         }
@@ -99,6 +100,7 @@ impl<J: JobKind> WorkerThread<J> {
 
     // Makes the ticket, and pushes the second side with a share of it, while the join holds a unit of the terminate
     // count. Refused `Full`, `NoRoom`.
+    #[inline(always)]
     fn push_second(
         &mut self,
         alloc: Global,
@@ -132,6 +134,7 @@ impl<J: JobKind> WorkerThread<J> {
     }
 
     // Waits for the second side, takes its result beside the tag that was handed in, and gives the count back.
+    #[inline(always)]
     fn meet<R: Waits<J>>(
         &mut self,
         rt: &R,
@@ -157,11 +160,12 @@ impl<J: JobKind> WorkerThread<J> {
         } else {
             self.run_until_met(rt, alloc, &ticket)
         };
-        self.registry.decrement_terminate_count(rt, hold);
+        self.decrement_terminate_count(rt, hold);
         (found, tag)
     }
 
     // Runs local tasks until the own second side is met, which is run at once, or until its result is there.
+    #[inline(always)]
     fn run_until_met<R: Waits<J>>(
         &mut self,
         rt: &R,

@@ -74,6 +74,7 @@ impl<J: JobKind> Registry<J> {
     }
 
     /// Takes one unit of the terminate count. Refused `Ended`, `Full`.
+    #[inline(always)]
     pub(crate) fn increment_terminate_count<R: Wait>(
         &self,
         rt: &R,

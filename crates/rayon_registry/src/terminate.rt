@@ -1,5 +1,5 @@
 // The count of what keeps a pool from ending.
-ghost use Rattle.std.specs.Prelude.{◌≡◌, ◌⊎◌, ◌↔◌, ℕ, ◌+◌, ◌-◌, ◌^◌, ◌<◌, IsTrue, MatchResult};
+ghost use Rattle.std.specs.Prelude.{◌≡◌, ◌⊎◌, ◌↔◌, ℕ, ◌+◌, ◌-◌, ◌^◌, ◌<◌, IsTrue, IsSome, MatchResult};
 
 use rayon_words::Refusal;
 use std::marker::Model;
@@ -55,8 +55,73 @@ impl TerminateCount {
     }
 }
 
-/// One unit of a pool's terminate count. Only a count makes one, when it begins or is raised, and only its lowering
-/// spends one. It has no `Drop`: whoever takes one has to give it back.
+/// How many units the calls of one worker hold. The outermost call's unit stands in the pool's own count; those of the
+/// calls nested in it are counted here alone, without a lock, since under the outermost one the pool cannot end. The
+/// pool's terminate count is its own number and all that its workers' nested calls hold. Contracts see the number.
+#[derive(Drop)]
+pub struct WorkerHolds {
+    calls: u64,
+}
+
+impl Model for WorkerHolds {
+    ghost use Rattle.std.specs.Prelude.{ℕ};
+
+    ghost Value = { ℕ };
+
+    ghost view = { λ h. h.calls };
+}
+
+impl WorkerHolds {
+    /// No call of the worker holds anything.
+    pub fn new() -> WorkerHolds
+        ensures { result ≡ 0 }
+    {
+        WorkerHolds { calls: 0 }
+    }
+
+    /// One call of the worker holds a unit, the one that it took from the pool's own count.
+    pub fn outermost() -> WorkerHolds
+        ensures { result ≡ 1 }
+    {
+        WorkerHolds { calls: 1 }
+    }
+
+    /// Whether no call of the worker holds anything.
+    pub fn is_empty(&self) -> bool
+        ensures { IsTrue result ↔ (self.now ≡ 0) }
+    {
+        self.calls == 0
+    }
+
+    /// One call more, and the unit that it holds. Refused `Full` exactly at 2^64 - 1, with no change.
+    pub fn enter(&mut self) -> Result<TerminateHold, Refusal>
+        ensures { MatchResult result (λ _. self.new ≡ self.old + 1) (λ r. (r ≡ Refusal.Full) × (self.old ≡ 2 ^ 64 - 1) × (self.new ≡ self.old)) }
+    {
+        let Some(calls) = self.calls.checked_add(1) else {
+            return Err(Refusal::Full);
+        };
+        self.calls = calls;
+        Ok(TerminateHold { _unit: () })
+    }
+
+    /// One call fewer, which gives its unit back, and none fewer at 0. Exactly the outermost call gets its unit back
+    /// out, since the pool's own count has to take that.
+    pub fn leave(&mut self, hold: TerminateHold) -> Option<TerminateHold>
+        ensures state { self.new ≡ self.old - 1 }
+        ensures outermost { IsSome result ↔ (self.old ≡ 1) }
+    {
+        let was_outermost = self.calls == 1;
+        self.calls = self.calls.saturating_sub(1);
+        if was_outermost {
+            return Some(hold);
+        }
+        let TerminateHold { _unit } = hold;
+        None
+    }
+}
+
+/// One unit of a pool's terminate count. Only the counts above make one, as they begin or are raised, and only their
+/// lowering spends one. It has no `Drop`: whoever takes one has to give it back.
 pub struct TerminateHold {
     _unit: (),
 }

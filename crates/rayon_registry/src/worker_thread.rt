@@ -1,12 +1,13 @@
 // The value that stands for a worker.
 ghost use Rattle.std.specs.Arc.{arc_value};
-ghost use Rattle.std.specs.Prelude.{◌≡◌, ◌⊎◌, ℕ, [], ◌∷◌, ◌++◌, ◌<◌, ◌≤◌, ◌↔◌, IsTrue, List, Result, Ok, Err, IfOk, IfSome, IfNone, MatchResult, None};
+ghost use Rattle.std.specs.Prelude.{◌≡◌, ◌⊎◌, ℕ, [], ◌∷◌, ◌++◌, ◌<◌, ◌≤◌, ◌↔◌, IsTrue, List, Result, Ok, Err, IfOk, IfSome, IfNone, IfErr, MatchResult, None};
 
 use crate::context::FnContext;
 use crate::ids::{IdSource, WorkerId};
 use crate::job::Waits;
 use crate::join::PairRun;
 use crate::registry::Registry;
+use crate::terminate::{TerminateHold, WorkerHolds};
 use rayon_jobs::{Done, Installed, JobKind, Pair, SecondSide, Task};
 use rayon_words::latch::{CoreLatch, LatchRef};
 use rayon_words::{CallError, Refusal};
@@ -23,6 +24,7 @@ pub struct WorkerThread<J: JobKind> {
     pub(crate) levels: usize,
     pub(crate) registry: Arc<Registry<J>, Global>,
     pub(crate) tickets: IdSource,
+    holds: WorkerHolds,
     deque: VecDeque<Task<J>>,
 }
 
@@ -57,6 +59,7 @@ impl<J: JobKind> WorkerThread<J> {
             levels,
             registry,
             tickets: IdSource::new(),
+            holds: WorkerHolds::new(),
             deque: VecDeque::new(alloc),
         }
     }
@@ -119,6 +122,33 @@ impl<J: JobKind> WorkerThread<J> {
         }
     }
 
+    // Takes one unit of the pool's terminate count for a call of this worker. Refused `Ended`, `Full`.
+    #[inline(always)]
+    pub(crate) fn increment_terminate_count<R: Wait>(
+        &mut self,
+        rt: &R,
+    ) -> Result<TerminateHold, Refusal>
+        ensures refused { IfErr result (λ r. (r ≡ Refusal.Ended) ⊎ (r ≡ Refusal.Full)) }
+        ensures same { self.new ≡ self.old }
+    {
+        if self.holds.is_empty() {
+            let hold = self.registry.increment_terminate_count(rt)?;
+            self.holds = WorkerHolds::outermost();
+            return Ok(hold);
+        }
+        self.holds.enter()
+    }
+
+    // Gives back a unit that a call of this worker took.
+    #[inline(always)]
+    pub(crate) fn decrement_terminate_count<R: Wait>(&mut self, rt: &R, hold: TerminateHold)
+        ensures { self.new ≡ self.old }
+    {
+        if let Some(hold) = self.holds.leave(hold) {
+            self.registry.decrement_terminate_count(rt, hold);
+        }
+    }
+
     /// Runs a job at once. Refused `TooDeep` exactly where no level is left, `Ended`, `Full`, with the job back and the
     /// worker value unchanged. It is never `Foreign` or `Missing`.
     pub fn install<R: Waits<J>>(
@@ -142,12 +172,12 @@ impl<J: JobKind> WorkerThread<J> {
         if self.levels == 0 {
             return Err(CallError::Refused(Refusal::TooDeep, job));
         }
-        let hold = match self.registry.increment_terminate_count(rt) {
+        let hold = match self.increment_terminate_count(rt) {
             Ok(hold) => hold,
             Err(refusal) => return Err(CallError::Refused(refusal, job)),
         };
         let answer = rt.run_job(alloc, self, job, &mut FnContext::new(false));
-        self.registry.decrement_terminate_count(rt, hold);
+        self.decrement_terminate_count(rt, hold);
         match answer {
             Ok(output) => Ok(output),
             Err(fault) => Err(CallError::Fault(fault)),
@@ -238,6 +268,7 @@ impl<J: JobKind> WorkerThread<J> {
     }
 
     // Runs a job, and puts its result beside its tag.
+    #[inline(always)]
     pub(crate) fn run_to_done<R: Waits<J>>(
         &mut self,
         rt: &R,

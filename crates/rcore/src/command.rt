@@ -1,0 +1,35 @@
+// What the words of a command line ask for.
+ghost use Rattle.std.specs.Prelude.{◌≡◌, ℕ, ◌≤◌, IfSome};
+
+/// What is asked for.
+#[derive(Clone, Copy, Debug, PartialEq, Eq)]
+pub enum Command {
+    /// `fib <workers> <n>`: the n-th Fibonacci number, on so many workers.
+    Fib {
+        /// The pool's workers.
+        workers: usize,
+        /// Which number.
+        n: u8,
+    },
+}
+
+/// The most workers that a command may ask for.
+const MAX_WORKERS: usize = 1;
+
+/// The largest index of a Fibonacci number that may be asked for.
+const MAX_INDEX: u8 = 30;
+
+impl Command {
+    /// The command that the words name. None where they name no command, or a number is not read or out of its range.
+    pub fn parse(words: &[String]) -> Option<Command> {
+        match words {
+            [name, workers, n] if name.as_str() == "fib" => {
+                let workers: usize = workers.parse().ok()?;
+                let n: u8 = n.parse().ok()?;
+                let in_range = (1..=MAX_WORKERS).contains(&workers) && n <= MAX_INDEX;
+                in_range.then_some(Command::Fib { workers, n })
+            }
+            _ => None,
+        }
+    }
+}

@@ -3,9 +3,11 @@
 #![tactic(auto)]
 
 mod builder;
+mod pool_ref;
 mod thread_pool;
 
 pub use builder::{ThreadPoolBuildError, ThreadPoolBuilder};
+pub use pool_ref::PoolRef;
 pub use rayon_jobs::{
     Cell, Done, Installed, JobKind, Pair, PairReply, Reply, SecondSide, Task, Ticket,
 };

@@ -1,9 +1,10 @@
 // Pools.
 ghost use Rattle.std.specs.Prelude.{◌≡◌, ◌⊎◌, ℕ, Result, Ok, Err, IfOk};
 
+use crate::pool_ref::PoolRef;
 use rayon_jobs::JobKind;
 use rayon_registry::{PoolId, Registry, TerminateHold};
-use rayon_words::CallError;
+use rayon_words::{CallError, Refusal};
 use std::alloc::Global;
 use std::marker::Model;
 use std::sync::{Arc, Wait};
@@ -59,6 +60,13 @@ impl<J: JobKind> ThreadPool<J> {
         ensures { result ≡ self.now.workers }
     {
         self.num_threads
+    }
+
+    /// What stands for the pool on other threads. Refused `NoRoom`.
+    pub fn pool_ref(&self) -> Result<PoolRef<J>, Refusal>
+        ensures { IfOk result (λ p. p ≡ self.now) }
+    {
+        PoolRef::new(&self.registry, self.id, self.num_threads)
     }
 
     /// Runs a job on the pool, for a caller that is no worker; it blocks until the job has run, and answers the job's

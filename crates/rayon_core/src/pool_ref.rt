@@ -1,0 +1,111 @@
+// What stands for a pool on other threads than the one that made it.
+ghost use Rattle.std.specs.Prelude.{◌≡◌, ◌⊎◌, ℕ, Result, Ok, Err, IfOk};
+
+use rayon_jobs::JobKind;
+use rayon_registry::{PoolId, Registry};
+use rayon_words::{CallError, Refusal};
+use std::alloc::Global;
+use std::marker::Model;
+use std::sync::{Arc, Wait};
+
+/// A pool as other threads use it: it can be sent to them and shared among them. It keeps no pool from ending. Contracts
+/// see the pool's number and how many workers it has.
+#[derive(Drop)]
+pub struct PoolRef<J: JobKind> {
+    registry: Arc<Registry<J>, Global>,
+    id: PoolId,
+    num_threads: usize,
+}
+
+impl<J: JobKind> Model for PoolRef<J> {
+    ghost use Rattle.rayon_core.specs.Pool.{Pool};
+
+    ghost Value = { Pool };
+
+    ghost view = { λ p. record { id = p.id; workers = p.num_threads } };
+}
+
+impl<J: JobKind> PoolRef<J> {
+    // One more share of what the pool's threads share. Refused `NoRoom`.
+    pub(crate) fn new(
+        registry: &Arc<Registry<J>, Global>,
+        id: PoolId,
+        num_threads: usize,
+    ) -> Result<PoolRef<J>, Refusal>
+        ensures { IfOk result (λ p. (p.id ≡ id) × (p.workers ≡ num_threads)) }
+    {
+        match Arc::try_clone(registry) {
+            Ok(registry) => Ok(PoolRef {
+                registry,
+                id,
+                num_threads,
+            }),
+            Err(_) => Err(Refusal::NoRoom),
+        }
+    }
+
+    /// A copy, for the same pool. Refused `NoRoom`.
+    pub fn pool_ref(&self) -> Result<PoolRef<J>, Refusal>
+        ensures { IfOk result (λ p. p ≡ self.now) }
+    {
+        PoolRef::new(&self.registry, self.id, self.num_threads)
+    }
+
+    /// The pool's number.
+    pub fn id(&self) -> PoolId
+        ensures { result ≡ self.now.id }
+    {
+        self.id
+    }
+
+    /// How many workers the pool has.
+    pub fn current_num_threads(&self) -> usize
+        ensures { result ≡ self.now.workers }
+    {
+        self.num_threads
+    }
+
+    /// Runs a job on the pool, for a caller that is no worker, as `ThreadPool::install` does.
+    pub fn install<R: Wait>(
+        &self,
+        rt: &R,
+        alloc: Global,
+        job: J,
+    ) -> Result<J::Output, CallError<J::Fault, J>>
+        ensures ok { IfOk result (λ x. J.answers (J.tag_of job) (Ok x)) }
+        ensures fault { (f : _) → result ≡ Err (CallError.Fault f) → J.answers (J.tag_of job) (Err f) }
+        ensures back { (r : _) (j : _) → result ≡ Err (CallError.Refused r j) → j ≡ job }
+    {
+        self.registry.install(rt, alloc, job)
+    }
+
+    /// Runs two jobs on the pool by a join there, for a caller that is no worker, as `ThreadPool::join` does.
+    pub fn join<R: Wait>(
+        &self,
+        rt: &R,
+        alloc: Global,
+        a: J,
+        b: J,
+    ) -> Result<(J::Output, J::Output), CallError<J::Fault, (J, J)>>
+        ensures ok { IfOk result (λ r. J.answers (J.tag_of a) (Ok r.0) × J.answers (J.tag_of b) (Ok r.1)) }
+        ensures fault { (f : _) → result ≡ Err (CallError.Fault f) → J.answers (J.tag_of a) (Err f) ⊎ (((x : _) × J.answers (J.tag_of a) (Ok x)) × J.answers (J.tag_of b) (Err f)) }
+        ensures back { (r : _) (sides : _) → result ≡ Err (CallError.Refused r sides) → sides ≡ (a, b) }
+    {
+        self.registry.join(rt, alloc, a, b)
+    }
+
+    /// The same as `join`: both jobs are told that their call came from outside the pool.
+    pub fn join_context<R: Wait>(
+        &self,
+        rt: &R,
+        alloc: Global,
+        a: J,
+        b: J,
+    ) -> Result<(J::Output, J::Output), CallError<J::Fault, (J, J)>>
+        ensures ok { IfOk result (λ r. J.answers (J.tag_of a) (Ok r.0) × J.answers (J.tag_of b) (Ok r.1)) }
+        ensures fault { (f : _) → result ≡ Err (CallError.Fault f) → J.answers (J.tag_of a) (Err f) ⊎ (((x : _) × J.answers (J.tag_of a) (Ok x)) × J.answers (J.tag_of b) (Err f)) }
+        ensures back { (r : _) (sides : _) → result ≡ Err (CallError.Refused r sides) → sides ≡ (a, b) }
+    {
+        self.registry.join(rt, alloc, a, b)
+    }
+}

@@ -110,6 +110,6 @@ impl<J: JobKind> PoolRef<J> {
         ensures back { (r : _) (sides : _) → result ≡ Err (CallError.Refused r sides) → sides ≡ (a, b) }
         ensures deep { (sides : _) → result ≡ Err (CallError.Refused Refusal.TooDeep sides) → self.now.depth_limit < 2 }
     {
-        self.registry.join(rt, alloc, a, b)
+        self.join(rt, alloc, a, b)
     }
 }

@@ -117,7 +117,7 @@ impl<J: JobKind> ThreadPool<J> {
         ensures back { (r : _) (sides : _) → result ≡ Err (CallError.Refused r sides) → sides ≡ (a, b) }
         ensures deep { (sides : _) → result ≡ Err (CallError.Refused Refusal.TooDeep sides) → self.now.depth_limit < 2 }
     {
-        self.registry.join(rt, alloc, a, b)
+        self.join(rt, alloc, a, b)
     }
 
     /// Ends the pool: no call is taken any more, and the worker's thread leaves once no waiting call holds the pool, and

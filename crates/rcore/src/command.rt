@@ -1,5 +1,6 @@
 // What the words of a command line ask for.
-ghost use Rattle.std.specs.Prelude.{◌≡◌, ℕ, ◌≤◌, IfSome};
+ghost use Rattle.rcore.specs.Words.{AsksFor, AskForNothing};
+ghost use Rattle.std.specs.Prelude.{◌≡◌, ℕ, IfSome, IfNone, map, string_bytes};
 
 /// What is asked for.
 #[derive(Clone, Copy, Debug, PartialEq, Eq)]
@@ -21,13 +22,18 @@ const MAX_INDEX: u8 = 30;
 
 impl Command {
     /// The command that the words name. None where they name no command, or a number is not read or out of its range.
-    pub fn parse(words: &[String]) -> Option<Command> {
+    pub fn parse(words: &[String]) -> Option<Command>
+        ensures some { IfSome result (λ c. AsksFor (map string_bytes words.now) c) }
+        ensures none { IfNone result (AskForNothing (map string_bytes words.now)) }
+    {
         match words {
             [name, workers, n] if name.as_str() == "fib" => {
                 let workers: usize = workers.parse().ok()?;
                 let n: u8 = n.parse().ok()?;
-                let in_range = (1..=MAX_WORKERS).contains(&workers) && n <= MAX_INDEX;
-                in_range.then_some(Command::Fib { workers, n })
+                if !(1..=MAX_WORKERS).contains(&workers) || n > MAX_INDEX {
+                    return None;
+                }
+                Some(Command::Fib { workers, n })
             }
             _ => None,
         }

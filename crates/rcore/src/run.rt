@@ -1,8 +1,9 @@
 // The program over any reader and writers.
 ghost use Rattle.rcore.specs.Fib.{fib};
+ghost use Rattle.rcore.specs.Words.{AsksForFib, AskForNothing};
 ghost use Rattle.std.specs.Fmt.{decimal};
 ghost use Rattle.std.specs.Io.KnownBytes.{Appends, Keeps};
-ghost use Rattle.std.specs.Prelude.{◌≡◌, ℕ, ◌∷◌, ◌++◌, []};
+ghost use Rattle.std.specs.Prelude.{◌≡◌, ℕ, ◌∷◌, ◌++◌, [], map, string_bytes};
 
 use crate::command::Command;
 use crate::fib::{Fib, FibFault};
@@ -32,7 +33,10 @@ pub fn run<R: Threads + Wait + Copy + Send + 'static, I: BufRead, W: Write, E: W
     out: &mut W,
     err: &mut E,
 ) -> u8
-    ensures bad_words { result ≡ 2 → Keeps (W.contents out.old) (W.contents out.new) }
+    ensures done { result ≡ 0 → (workers n : ℕ) × AsksForFib (map string_bytes words.now) workers n × Appends (W.contents out.old) (W.contents out.new) (decimal (fib n) ++ 10 ∷ []) }
+    ensures bad_words { result ≡ 2 → AskForNothing (map string_bytes words.now) }
+    ensures known { AskForNothing (map string_bytes words.now) → result ≡ 2 }
+    ensures kept { result ≡ 2 → Keeps (W.contents out.old) (W.contents out.new) }
 {
     match Command::parse(words) {
         None => {

@@ -1,5 +1,5 @@
 // How a pool is made.
-ghost use Rattle.std.specs.Prelude.{◌≡◌, ℕ, ◌-◌, ◌^◌, IfOk};
+ghost use Rattle.std.specs.Prelude.{◌≡◌, ℕ, ◌-◌, ◌^◌, max, IfOk};
 
 use crate::thread_pool::ThreadPool;
 use rayon_jobs::JobKind;
@@ -93,6 +93,7 @@ impl<J: JobKind> ThreadPoolBuilder<J> {
         J::Output: Send + Sync + 'static,
         J::Fault: Send + Sync + 'static,
         ensures workers { IfOk result (λ p. p.workers ≡ 1) }
+        ensures depth { IfOk result (λ p. p.depth_limit ≡ max 1 self.depth_limit) }
     {
         let Some(id) = ids.next(rt) else {
             return Err(ThreadPoolBuildError::NoIds);
@@ -101,7 +102,7 @@ impl<J: JobKind> ThreadPoolBuilder<J> {
         let (registry, hold) = Registry::new(alloc, id, self.depth_limit);
         match Arc::new(alloc, registry) {
             Ok(registry) => match start_worker(rt, alloc, &registry) {
-                Ok(worker) => Ok(ThreadPool::new(registry, hold, id, num_threads, worker)),
+                Ok(worker) => Ok(ThreadPool::new(registry, hold, num_threads, worker)),
                 Err(error) => {
                     registry.decrement_terminate_count(rt, hold);
                     Err(error)

@@ -1,5 +1,6 @@
 // What stands for a pool on other threads than the one that made it.
-ghost use Rattle.std.specs.Prelude.{◌≡◌, ◌⊎◌, ℕ, Result, Ok, Err, IfOk};
+ghost use Rattle.std.specs.Arc.{arc_value};
+ghost use Rattle.std.specs.Prelude.{◌≡◌, ◌⊎◌, ◌<◌, ℕ, Result, Ok, Err, IfOk};
 
 use rayon_jobs::JobKind;
 use rayon_registry::{PoolId, Registry};
@@ -9,35 +10,35 @@ use std::marker::Model;
 use std::sync::{Arc, Wait};
 
 /// A pool as other threads use it: it can be sent to them and shared among them. It keeps no pool from ending. Contracts
-/// see the pool's number and how many workers it has.
+/// see the pool's number, how many workers it has, and the levels of a worker value that no run was lent yet.
 #[derive(Drop)]
 pub struct PoolRef<J: JobKind> {
     registry: Arc<Registry<J>, Global>,
-    id: PoolId,
     num_threads: usize,
 }
 
 impl<J: JobKind> Model for PoolRef<J> {
     ghost use Rattle.rayon_core.specs.Pool.{Pool};
+    ghost use Rattle.std.specs.Arc.{arc_value};
 
     ghost Value = { Pool };
 
-    ghost view = { λ p. record { id = p.id; workers = p.num_threads } };
+    ghost view = { λ p. record { id = (arc_value p.registry).id; workers = p.num_threads; depth_limit = (arc_value p.registry).depth_limit } };
 }
 
 impl<J: JobKind> PoolRef<J> {
     // One more share of what the pool's threads share. Refused `NoRoom`.
     pub(crate) fn new(
         registry: &Arc<Registry<J>, Global>,
-        id: PoolId,
         num_threads: usize,
     ) -> Result<PoolRef<J>, Refusal>
-        ensures { IfOk result (λ p. (p.id ≡ id) × (p.workers ≡ num_threads)) }
+        ensures id { IfOk result (λ p. p.id ≡ (arc_value registry.now).id) }
+        ensures workers { IfOk result (λ p. p.workers ≡ num_threads) }
+        ensures depth { IfOk result (λ p. p.depth_limit ≡ (arc_value registry.now).depth_limit) }
     {
         match Arc::try_clone(registry) {
             Ok(registry) => Ok(PoolRef {
                 registry,
-                id,
                 num_threads,
             }),
             Err(_) => Err(Refusal::NoRoom),
@@ -48,14 +49,14 @@ impl<J: JobKind> PoolRef<J> {
     pub fn pool_ref(&self) -> Result<PoolRef<J>, Refusal>
         ensures { IfOk result (λ p. p ≡ self.now) }
     {
-        PoolRef::new(&self.registry, self.id, self.num_threads)
+        PoolRef::new(&self.registry, self.num_threads)
     }
 
     /// The pool's number.
     pub fn id(&self) -> PoolId
         ensures { result ≡ self.now.id }
     {
-        self.id
+        self.registry.id()
     }
 
     /// How many workers the pool has.
@@ -75,6 +76,7 @@ impl<J: JobKind> PoolRef<J> {
         ensures ok { IfOk result (λ x. J.answers (J.tag_of job) (Ok x)) }
         ensures fault { (f : _) → result ≡ Err (CallError.Fault f) → J.answers (J.tag_of job) (Err f) }
         ensures back { (r : _) (j : _) → result ≡ Err (CallError.Refused r j) → j ≡ job }
+        ensures shallow { (j : _) → result ≡ Err (CallError.Refused Refusal.TooDeep j) → ⊥ }
     {
         self.registry.install(rt, alloc, job)
     }
@@ -90,6 +92,7 @@ impl<J: JobKind> PoolRef<J> {
         ensures ok { IfOk result (λ r. J.answers (J.tag_of a) (Ok r.0) × J.answers (J.tag_of b) (Ok r.1)) }
         ensures fault { (f : _) → result ≡ Err (CallError.Fault f) → J.answers (J.tag_of a) (Err f) ⊎ (((x : _) × J.answers (J.tag_of a) (Ok x)) × J.answers (J.tag_of b) (Err f)) }
         ensures back { (r : _) (sides : _) → result ≡ Err (CallError.Refused r sides) → sides ≡ (a, b) }
+        ensures deep { (sides : _) → result ≡ Err (CallError.Refused Refusal.TooDeep sides) → self.now.depth_limit < 2 }
     {
         self.registry.join(rt, alloc, a, b)
     }
@@ -105,6 +108,7 @@ impl<J: JobKind> PoolRef<J> {
         ensures ok { IfOk result (λ r. J.answers (J.tag_of a) (Ok r.0) × J.answers (J.tag_of b) (Ok r.1)) }
         ensures fault { (f : _) → result ≡ Err (CallError.Fault f) → J.answers (J.tag_of a) (Err f) ⊎ (((x : _) × J.answers (J.tag_of a) (Ok x)) × J.answers (J.tag_of b) (Err f)) }
         ensures back { (r : _) (sides : _) → result ≡ Err (CallError.Refused r sides) → sides ≡ (a, b) }
+        ensures deep { (sides : _) → result ≡ Err (CallError.Refused Refusal.TooDeep sides) → self.now.depth_limit < 2 }
     {
         self.registry.join(rt, alloc, a, b)
     }

@@ -1,5 +1,6 @@
 // Pools.
-ghost use Rattle.std.specs.Prelude.{◌≡◌, ◌⊎◌, ℕ, Result, Ok, Err, IfOk};
+ghost use Rattle.std.specs.Arc.{arc_value};
+ghost use Rattle.std.specs.Prelude.{◌≡◌, ◌⊎◌, ◌<◌, ℕ, Result, Ok, Err, IfOk};
 
 use crate::pool_ref::PoolRef;
 use rayon_jobs::JobKind;
@@ -10,22 +11,22 @@ use std::marker::Model;
 use std::sync::{Arc, Wait};
 use std::thread::{JoinHandle, Threads};
 
-/// A pool, held by its value. It has no `Drop`: it must be spent by `end`. Contracts see its number and how many
-/// workers it has.
+/// A pool, held by its value. It has no `Drop`: it must be spent by `end`. Contracts see its number, how many
+/// workers it has, and the levels of a worker value that no run was lent yet.
 pub struct ThreadPool<J: JobKind> {
     registry: Arc<Registry<J>, Global>,
     hold: TerminateHold,
-    id: PoolId,
     num_threads: usize,
     worker: JoinHandle<()>,
 }
 
 impl<J: JobKind> Model for ThreadPool<J> {
     ghost use Rattle.rayon_core.specs.Pool.{Pool};
+    ghost use Rattle.std.specs.Arc.{arc_value};
 
     ghost Value = { Pool };
 
-    ghost view = { λ p. record { id = p.id; workers = p.num_threads } };
+    ghost view = { λ p. record { id = (arc_value p.registry).id; workers = p.num_threads; depth_limit = (arc_value p.registry).depth_limit } };
 }
 
 impl<J: JobKind> ThreadPool<J> {
@@ -33,16 +34,16 @@ impl<J: JobKind> ThreadPool<J> {
     pub(crate) fn new(
         registry: Arc<Registry<J>, Global>,
         hold: TerminateHold,
-        id: PoolId,
         num_threads: usize,
         worker: JoinHandle<()>,
     ) -> ThreadPool<J>
-        ensures { (result.id ≡ id) × (result.workers ≡ num_threads) }
+        ensures id { result.id ≡ (arc_value registry).id }
+        ensures workers { result.workers ≡ num_threads }
+        ensures depth { result.depth_limit ≡ (arc_value registry).depth_limit }
     {
         ThreadPool {
             registry,
             hold,
-            id,
             num_threads,
             worker,
         }
@@ -52,7 +53,7 @@ impl<J: JobKind> ThreadPool<J> {
     pub fn id(&self) -> PoolId
         ensures { result ≡ self.now.id }
     {
-        self.id
+        self.registry.id()
     }
 
     /// How many workers the pool has.
@@ -66,7 +67,7 @@ impl<J: JobKind> ThreadPool<J> {
     pub fn pool_ref(&self) -> Result<PoolRef<J>, Refusal>
         ensures { IfOk result (λ p. p ≡ self.now) }
     {
-        PoolRef::new(&self.registry, self.id, self.num_threads)
+        PoolRef::new(&self.registry, self.num_threads)
     }
 
     /// Runs a job on the pool, for a caller that is no worker; it blocks until the job has run, and answers the job's
@@ -80,6 +81,7 @@ impl<J: JobKind> ThreadPool<J> {
         ensures ok { IfOk result (λ x. J.answers (J.tag_of job) (Ok x)) }
         ensures fault { (f : _) → result ≡ Err (CallError.Fault f) → J.answers (J.tag_of job) (Err f) }
         ensures back { (r : _) (j : _) → result ≡ Err (CallError.Refused r j) → j ≡ job }
+        ensures shallow { (j : _) → result ≡ Err (CallError.Refused Refusal.TooDeep j) → ⊥ }
     {
         self.registry.install(rt, alloc, job)
     }
@@ -97,6 +99,7 @@ impl<J: JobKind> ThreadPool<J> {
         ensures ok { IfOk result (λ r. J.answers (J.tag_of a) (Ok r.0) × J.answers (J.tag_of b) (Ok r.1)) }
         ensures fault { (f : _) → result ≡ Err (CallError.Fault f) → J.answers (J.tag_of a) (Err f) ⊎ (((x : _) × J.answers (J.tag_of a) (Ok x)) × J.answers (J.tag_of b) (Err f)) }
         ensures back { (r : _) (sides : _) → result ≡ Err (CallError.Refused r sides) → sides ≡ (a, b) }
+        ensures deep { (sides : _) → result ≡ Err (CallError.Refused Refusal.TooDeep sides) → self.now.depth_limit < 2 }
     {
         self.registry.join(rt, alloc, a, b)
     }
@@ -112,6 +115,7 @@ impl<J: JobKind> ThreadPool<J> {
         ensures ok { IfOk result (λ r. J.answers (J.tag_of a) (Ok r.0) × J.answers (J.tag_of b) (Ok r.1)) }
         ensures fault { (f : _) → result ≡ Err (CallError.Fault f) → J.answers (J.tag_of a) (Err f) ⊎ (((x : _) × J.answers (J.tag_of a) (Ok x)) × J.answers (J.tag_of b) (Err f)) }
         ensures back { (r : _) (sides : _) → result ≡ Err (CallError.Refused r sides) → sides ≡ (a, b) }
+        ensures deep { (sides : _) → result ≡ Err (CallError.Refused Refusal.TooDeep sides) → self.now.depth_limit < 2 }
     {
         self.registry.join(rt, alloc, a, b)
     }
@@ -122,7 +126,6 @@ impl<J: JobKind> ThreadPool<J> {
         let ThreadPool {
             registry,
             hold,
-            id: _,
             num_threads: _,
             worker,
         } = self;

@@ -102,10 +102,10 @@ pub struct Pair<J: JobKind> {
 pub struct SecondSide<J: JobKind> {
     /// The job.
     pub job: J,
-    /// A share of the join's ticket.
-    pub ticket: Ticket<J>,
     /// Whether the join itself was sent to the pool by an outside caller.
     pub injected: bool,
+    /// A share of the join's ticket.
+    pub ticket: Ticket<J>,
 }
 
 /// What lies in a queue of a pool.

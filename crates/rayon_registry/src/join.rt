@@ -1,7 +1,7 @@
 // Two sides on one worker value.
 ghost use Rattle.rayon_registry.specs.Answers.{joined};
 ghost use Rattle.rayon_jobs.specs.Claims.{claim};
-ghost use Rattle.std.specs.Prelude.{◌≡◌, ◌⊎◌, ℕ, ◌≤◌, ◌<◌, Bool, Result, Ok, Err, IfOk, MatchResult, suc};
+ghost use Rattle.std.specs.Prelude.{◌≡◌, ◌⊎◌, ℕ, ◌≤◌, ◌<◌, [], ◌∷◌, ◌++◌, Bool, Result, Ok, Err, IfOk, IfErr, suc};
 
 use crate::answers::join_answer;
 use crate::context::{Context, FnContext, Scope};
@@ -29,8 +29,8 @@ pub struct Fork<J: JobKind> {
 }
 
 impl<J: JobKind> WorkerThread<J> {
-    /// Runs two jobs, each with one level fewer, and answers both outputs. Refused `TooDeep`, `Ended`, `Full`,
-    /// `NoRoom`, with the sides back, and neither has run.
+    /// Runs two jobs, each with one level fewer, and answers both outputs. Refused `TooDeep` exactly where no level is
+    /// left, `Ended`, `Full`, `NoRoom`, with the sides back and the worker value unchanged, and neither has run.
     pub fn join_jobs<R: Waits<J>>(
         &mut self,
         rt: &R,
@@ -43,6 +43,9 @@ impl<J: JobKind> WorkerThread<J> {
         ensures fault { (f : _) → result ≡ Err (CallError.Fault f) → J.answers (J.tag_of a) (Err f) ⊎ (((x : _) × J.answers (J.tag_of a) (Ok x)) × J.answers (J.tag_of b) (Err f)) }
         ensures lost { (result ≡ Err CallError.Missing) ⊎ (result ≡ Err CallError.Foreign) → (x : _) × J.answers (J.tag_of a) (Ok x) }
         ensures back { (r : _) (sides : _) → result ≡ Err (CallError.Refused r sides) → sides ≡ (a, b) }
+        ensures kept { (r : _) (sides : _) → result ≡ Err (CallError.Refused r sides) → self.new ≡ self.old }
+        ensures deep { self.old.levels ≡ 0 → result ≡ Err (CallError.Refused Refusal.TooDeep (a, b)) }
+        ensures shallow { (sides : _) → result ≡ Err (CallError.Refused Refusal.TooDeep sides) → self.old.levels ≡ 0 }
         ensures id { self.new.id ≡ self.old.id }
         ensures level { self.new.levels ≡ self.old.levels }
     {
@@ -58,6 +61,7 @@ impl<J: JobKind> WorkerThread<J> {
 
 impl<J: JobKind> WorkerThread<J> {
     // Takes the terminate count, makes the ticket, and pushes the second side. Refused as a join is.
+    #[inline(always)]
     fn fork<R: Wait>(
         &mut self,
         rt: &R,
@@ -65,20 +69,22 @@ impl<J: JobKind> WorkerThread<J> {
         b: J,
         injected: bool,
     ) -> Result<Fork<J>, (Refusal, J)>
-        ensures forked { MatchResult result (λ f. (f.tag ≡ J.tag_of b) × (f.levels ≡ self.old.levels) × (0 < self.old.levels)) (λ e. e.1 ≡ b) }
-        ensures id { self.new.id ≡ self.old.id }
-        ensures level { self.new.levels ≡ self.old.levels }
+        ensures forked { IfOk result (λ f. (f.tag ≡ J.tag_of b) × (f.levels ≡ self.old.levels) × (0 < self.old.levels)) }
+        ensures pushed { IfOk result (λ f. (s : _) × (self.new ≡ record self.old { pushed = self.old.pushed ++ Task.Second s ∷ [] }) × (s.job ≡ b) × (s.ticket ≡ f.ticket)) }
+        ensures back { IfErr result (λ e. (e.1 ≡ b) × (self.new ≡ self.old)) }
+        ensures deep { self.old.levels ≡ 0 → result ≡ Err (Refusal.TooDeep, b) }
+        ensures shallow { IfErr result (λ e. e.0 ≡ Refusal.TooDeep → self.old.levels ≡ 0) }
     {
         if self.levels == 0 {
             return Err((Refusal::TooDeep, b));
         }
-        let hold = match self.registry.increment_terminate_count(rt) {
+        let hold = match self.increment_terminate_count(rt) {
             Ok(hold) => hold,
             Err(refusal) => return Err((refusal, b)),
         };
         let tag = b.tag();
         let levels = self.levels;
-        match self.push_second(alloc, b, injected) {
+        match self.push_second(alloc, &hold, b, injected) {
             Ok(ticket) => Ok(Fork {
                 hold,
                 ticket,
@@ -86,22 +92,25 @@ impl<J: JobKind> WorkerThread<J> {
                 levels,
             }),
             Err((refusal, b)) => {
-                self.registry.decrement_terminate_count(rt, hold);
+                self.decrement_terminate_count(rt, hold);
                 Err((refusal, b))
             }
         }
     }
 
-    // Makes the ticket, and pushes the second side with a share of it. Refused `Full`, `NoRoom`.
+    // Makes the ticket, and pushes the second side with a share of it, while the join holds a unit of the terminate
+    // count. Refused `Full`, `NoRoom`.
+    #[inline(always)]
     fn push_second(
         &mut self,
         alloc: Global,
+        _hold: &TerminateHold,
         b: J,
         injected: bool,
     ) -> Result<Ticket<J>, (Refusal, J)>
-        ensures back { MatchResult result (λ _. Unit {0}) (λ e. e.1 ≡ b) }
-        ensures id { self.new.id ≡ self.old.id }
-        ensures level { self.new.levels ≡ self.old.levels }
+        ensures pushed { IfOk result (λ t. (s : _) × (self.new ≡ record self.old { pushed = self.old.pushed ++ Task.Second s ∷ [] }) × (s.job ≡ b) × (s.ticket ≡ t)) }
+        ensures back { IfErr result (λ e. (e.1 ≡ b) × (self.new ≡ self.old)) }
+        ensures refused { IfErr result (λ e. (e.0 ≡ Refusal.Full) ⊎ (e.0 ≡ Refusal.NoRoom)) }
     {
         let Some(number) = self.tickets.draw() else {
             return Err((Refusal::Full, b));
@@ -125,6 +134,7 @@ impl<J: JobKind> WorkerThread<J> {
     }
 
     // Waits for the second side, takes its result beside the tag that was handed in, and gives the count back.
+    #[inline(always)]
     fn meet<R: Waits<J>>(
         &mut self,
         rt: &R,
@@ -150,11 +160,12 @@ impl<J: JobKind> WorkerThread<J> {
         } else {
             self.run_until_met(rt, alloc, &ticket)
         };
-        self.registry.decrement_terminate_count(rt, hold);
+        self.decrement_terminate_count(rt, hold);
         (found, tag)
     }
 
     // Runs local tasks until the own second side is met, which is run at once, or until its result is there.
+    #[inline(always)]
     fn run_until_met<R: Waits<J>>(
         &mut self,
         rt: &R,
@@ -264,7 +275,10 @@ pub trait Sides<J: JobKind> {
         alloc: Global,
         b: J,
     ) -> Result<Self::Fork, (Refusal, J)>
-        ensures forked { MatchResult result (λ f. (fork_tag f ≡ J.tag_of b) × (fork_levels f ≡ height self.old) × (suc (height self.new) ≡ height self.old)) (λ e. (e.1 ≡ b) × (height self.new ≡ height self.old)) }
+        ensures forked { IfOk result (λ f. (fork_tag f ≡ J.tag_of b) × (fork_levels f ≡ height self.old) × (suc (height self.new) ≡ height self.old)) }
+        ensures back { IfErr result (λ e. (e.1 ≡ b) × (self.new ≡ self.old)) }
+        ensures deep { height self.old ≡ 0 → result ≡ Err (Refusal.TooDeep, b) }
+        ensures shallow { IfErr result (λ e. e.0 ≡ Refusal.TooDeep → height self.old ≡ 0) }
         ensures id { id self.new ≡ id self.old };
 
     /// Takes the worker value back, waits for the second side, and claims its result.
@@ -321,8 +335,8 @@ impl<J: JobKind> Sides<J> for WorkerThread<J> {
 
 /// The calls of a worker value that fork into a closure and a job.
 pub trait ForkJoin<J: JobKind>: Sides<J> {
-    /// Runs a closure and a job, each with one level fewer, and answers both outputs. Refused `TooDeep`, `Ended`,
-    /// `Full`, `NoRoom`, with the sides back, and neither has run.
+    /// Runs a closure and a job, each with one level fewer, and answers both outputs. Refused `TooDeep` exactly where no
+    /// level is left, `Ended`, `Full`, `NoRoom`, with the sides back and the worker value unchanged, and neither has run.
     final fn join<
         R: Waits<J>,
         RA: Drop,
@@ -342,6 +356,9 @@ pub trait ForkJoin<J: JobKind>: Sides<J> {
         ensures fault { (f : _) → result ≡ Err (CallError.Fault f) → ((w : _) × (ctx : _) × (v : _) × (k : _) × A.post a w ctx (Err f) v k) ⊎ (((x : _) × (w : _) × (ctx : _) × (v : _) × (k : _) × A.post a w ctx (Ok x) v k) × J.answers (J.tag_of b) (Err f)) }
         ensures lost { (result ≡ Err CallError.Missing) ⊎ (result ≡ Err CallError.Foreign) → (x : _) × (w : _) × (ctx : _) × (v : _) × (k : _) × A.post a w ctx (Ok x) v k }
         ensures back { (r : _) (sides : _) → result ≡ Err (CallError.Refused r sides) → sides ≡ (a, b) }
+        ensures kept { (r : _) (sides : _) → result ≡ Err (CallError.Refused r sides) → self.new ≡ self.old }
+        ensures deep { Self.height self.old ≡ 0 → result ≡ Err (CallError.Refused Refusal.TooDeep (a, b)) }
+        ensures shallow { (sides : _) → result ≡ Err (CallError.Refused Refusal.TooDeep sides) → Self.height self.old ≡ 0 }
         ensures height { Self.height self.new ≡ Self.height self.old }
         ensures id { Self.id self.new ≡ Self.id self.old }
     {
@@ -374,6 +391,9 @@ pub trait ForkJoin<J: JobKind>: Sides<J> {
         ensures fault { (f : _) → result ≡ Err (CallError.Fault f) → ((w : _) × (ctx : _) × (v : _) × (k : _) × A.post a w ctx (Err f) v k) ⊎ (((x : _) × (w : _) × (ctx : _) × (v : _) × (k : _) × A.post a w ctx (Ok x) v k) × J.answers (J.tag_of b) (Err f)) }
         ensures lost { (result ≡ Err CallError.Missing) ⊎ (result ≡ Err CallError.Foreign) → (x : _) × (w : _) × (ctx : _) × (v : _) × (k : _) × A.post a w ctx (Ok x) v k }
         ensures back { (r : _) (sides : _) → result ≡ Err (CallError.Refused r sides) → sides ≡ (a, b) }
+        ensures kept { (r : _) (sides : _) → result ≡ Err (CallError.Refused r sides) → self.new ≡ self.old }
+        ensures deep { Self.height self.old ≡ 0 → result ≡ Err (CallError.Refused Refusal.TooDeep (a, b)) }
+        ensures shallow { (sides : _) → result ≡ Err (CallError.Refused Refusal.TooDeep sides) → Self.height self.old ≡ 0 }
         ensures height { Self.height self.new ≡ Self.height self.old }
         ensures id { Self.id self.new ≡ Self.id self.old }
     {

@@ -16,5 +16,5 @@ pub use ids::{IdSource, Ids, PoolId, WorkerId};
 pub use job::{Job, Waits};
 pub use join::{ForkJoin, PairRun};
 pub use registry::{Registry, ThreadBuilder};
-pub use terminate::{TerminateCount, TerminateHold};
+pub use terminate::{TerminateCount, TerminateHold, WorkerHolds};
 pub use worker_thread::WorkerThread;

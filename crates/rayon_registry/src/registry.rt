@@ -1,6 +1,7 @@
 // What the threads of a pool share, and the calls that are made on a pool from outside.
 ghost use Rattle.rayon_registry.specs.Answers.{joined_pair};
-ghost use Rattle.std.specs.Prelude.{◌≡◌, ◌⊎◌, ℕ, Result, Ok, Err, IfOk, MatchResult};
+ghost use Rattle.std.specs.Arc.{arc_value};
+ghost use Rattle.std.specs.Prelude.{◌≡◌, ◌⊎◌, ◌<◌, ℕ, [], max, Result, Ok, Err, IfOk, IfErr};
 
 use crate::answers::{install_answer, join_answer};
 use crate::ids::PoolId;
@@ -14,9 +15,10 @@ use rayon_words::sleep::Sleep;
 use rayon_words::{CallError, Refusal};
 use std::alloc::{AllocFailed, Global};
 use std::collections::VecDeque;
+use std::marker::Model;
 use std::sync::{Arc, Mutex, Wait};
 
-/// What the threads of a pool share.
+/// What the threads of a pool share. Contracts see the pool's number, and the levels of its worker's own value.
 #[derive(Drop)]
 pub struct Registry<J: JobKind> {
     id: PoolId,
@@ -27,23 +29,37 @@ pub struct Registry<J: JobKind> {
     terminate: SpinLatch,
 }
 
+impl<J: JobKind> Model for Registry<J> {
+    ghost use Rattle.rayon_registry.specs.Worker.{Shared};
+
+    ghost Value = { Shared };
+
+    ghost view = { λ r. record { id = r.id; depth_limit = r.depth_limit } };
+}
+
 impl<J: JobKind> Registry<J> {
     /// The shared part of a pool of one worker, and the unit of the terminate count that the pool value holds. A
     /// `depth_limit` of 0 counts as 1.
-    pub fn new(alloc: Global, id: PoolId, depth_limit: usize) -> (Registry<J>, TerminateHold) {
+    pub fn new(alloc: Global, id: PoolId, depth_limit: usize) -> (Registry<J>, TerminateHold)
+        ensures id { result.0.id ≡ id }
+        ensures depth { result.0.depth_limit ≡ max 1 depth_limit }
+    {
+        let (terminate_count, hold) = TerminateCount::new();
         let registry = Registry {
             id,
             depth_limit: depth_limit.max(1),
             sleep: Sleep::new(),
             injector: Mutex::new(VecDeque::new(alloc)),
-            terminate_count: Mutex::new(TerminateCount::new()),
+            terminate_count: Mutex::new(terminate_count),
             terminate: SpinLatch::new(0),
         };
-        (registry, TerminateHold::taken())
+        (registry, hold)
     }
 
     /// The pool's number.
-    pub fn id(&self) -> PoolId {
+    pub fn id(&self) -> PoolId
+        ensures { result ≡ self.now.id }
+    {
         self.id
     }
 
@@ -58,26 +74,33 @@ impl<J: JobKind> Registry<J> {
     }
 
     /// Takes one unit of the terminate count. Refused `Ended`, `Full`.
+    #[inline(always)]
     pub(crate) fn increment_terminate_count<R: Wait>(
         &self,
         rt: &R,
-    ) -> Result<TerminateHold, Refusal> {
-        self.terminate_count.lock(rt).increment()?;
-        Ok(TerminateHold::taken())
+    ) -> Result<TerminateHold, Refusal>
+        ensures { IfErr result (λ r. (r ≡ Refusal.Ended) ⊎ (r ≡ Refusal.Full)) }
+    {
+        self.terminate_count.lock(rt).increment()
     }
 
     /// Gives back a unit of the terminate count. Where it was the last one, the worker leaves its loop.
     pub fn decrement_terminate_count<R: Wait>(&self, rt: &R, hold: TerminateHold) {
-        hold.spend();
-        let was_last = self.terminate_count.lock(rt).decrement();
+        let was_last = self.terminate_count.lock(rt).decrement(hold);
         if was_last {
             self.terminate.set(rt, &self.sleep);
         }
     }
 
-    /// Adds a task last to the injected ones, and wakes the worker where it sleeps. Refused `NoRoom`.
-    fn inject<R: Wait>(&self, rt: &R, task: Task<J>) -> Result<(), (Refusal, Task<J>)>
-        ensures back { MatchResult result (λ _. Unit {0}) (λ e. e.1 ≡ task) }
+    // Adds a task last to the injected ones, and wakes the worker where it sleeps, while the caller holds a unit of the
+    // terminate count. Refused `NoRoom`.
+    fn inject<R: Wait>(
+        &self,
+        rt: &R,
+        _hold: &TerminateHold,
+        task: Task<J>,
+    ) -> Result<(), (Refusal, Task<J>)>
+        ensures back { IfErr result (λ e. e ≡ (Refusal.NoRoom, task)) }
     {
         let pushed = self.injector.lock(rt).push_back(task);
         match pushed {
@@ -105,12 +128,13 @@ impl<J: JobKind> Registry<J> {
         ensures ok { IfOk result (λ x. J.answers (J.tag_of job) (Ok x)) }
         ensures fault { (f : _) → result ≡ Err (CallError.Fault f) → J.answers (J.tag_of job) (Err f) }
         ensures back { (r : _) (j : _) → result ≡ Err (CallError.Refused r j) → j ≡ job }
+        ensures shallow { (j : _) → result ≡ Err (CallError.Refused Refusal.TooDeep j) → ⊥ }
     {
         let hold = match self.increment_terminate_count(rt) {
             Ok(hold) => hold,
             Err(refusal) => return Err(CallError::Refused(refusal, job)),
         };
-        let answer = self.install_held(rt, alloc, job);
+        let answer = self.install_held(rt, alloc, &hold, job);
         self.decrement_terminate_count(rt, hold);
         answer
     }
@@ -120,14 +144,16 @@ impl<J: JobKind> Registry<J> {
         &self,
         rt: &R,
         alloc: Global,
+        hold: &TerminateHold,
         job: J,
     ) -> Result<J::Output, CallError<J::Fault, J>>
         ensures ok { IfOk result (λ x. J.answers (J.tag_of job) (Ok x)) }
         ensures fault { (f : _) → result ≡ Err (CallError.Fault f) → J.answers (J.tag_of job) (Err f) }
         ensures back { (r : _) (j : _) → result ≡ Err (CallError.Refused r j) → j ≡ job }
+        ensures shallow { (j : _) → result ≡ Err (CallError.Refused Refusal.TooDeep j) → ⊥ }
     {
         let tag = job.tag();
-        match self.send(rt, alloc, job) {
+        match self.send(rt, alloc, hold, job) {
             Ok(reply) => install_answer(claimed(reply.wait(rt), &tag)),
             Err((refusal, job)) => Err(CallError::Refused(refusal, job)),
         }
@@ -138,9 +164,10 @@ impl<J: JobKind> Registry<J> {
         &self,
         rt: &R,
         alloc: Global,
+        hold: &TerminateHold,
         job: J,
     ) -> Result<Arc<Reply<J>, Global>, (Refusal, J)>
-        ensures back { MatchResult result (λ _. Unit {0}) (λ e. e.1 ≡ job) }
+        ensures back { IfErr result (λ e. e ≡ (Refusal.NoRoom, job)) }
     {
         let Ok(reply) = Reply::new(alloc) else {
             return Err((Refusal::NoRoom, job));
@@ -148,7 +175,7 @@ impl<J: JobKind> Registry<J> {
         let Ok(theirs) = Arc::try_clone(&reply) else {
             return Err((Refusal::NoRoom, job));
         };
-        match self.inject(rt, Task::Job(Installed { job, reply: theirs })) {
+        match self.inject(rt, hold, Task::Job(Installed { job, reply: theirs })) {
             Ok(()) => Ok(reply),
             Err((refusal, Task::Job(installed))) => Err((refusal, installed.job)),
             Err(_) => unreachable!(),
@@ -167,12 +194,13 @@ impl<J: JobKind> Registry<J> {
         ensures ok { IfOk result (λ r. J.answers (J.tag_of a) (Ok r.0) × J.answers (J.tag_of b) (Ok r.1)) }
         ensures fault { (f : _) → result ≡ Err (CallError.Fault f) → J.answers (J.tag_of a) (Err f) ⊎ (((x : _) × J.answers (J.tag_of a) (Ok x)) × J.answers (J.tag_of b) (Err f)) }
         ensures back { (r : _) (sides : _) → result ≡ Err (CallError.Refused r sides) → sides ≡ (a, b) }
+        ensures deep { (sides : _) → result ≡ Err (CallError.Refused Refusal.TooDeep sides) → self.now.depth_limit < 2 }
     {
         let hold = match self.increment_terminate_count(rt) {
             Ok(hold) => hold,
             Err(refusal) => return Err(CallError::Refused(refusal, (a, b))),
         };
-        let answer = self.join_held(rt, alloc, a, b);
+        let answer = self.join_held(rt, alloc, &hold, a, b);
         self.decrement_terminate_count(rt, hold);
         answer
     }
@@ -182,15 +210,17 @@ impl<J: JobKind> Registry<J> {
         &self,
         rt: &R,
         alloc: Global,
+        hold: &TerminateHold,
         a: J,
         b: J,
     ) -> Result<(J::Output, J::Output), CallError<J::Fault, (J, J)>>
         ensures ok { IfOk result (λ r. J.answers (J.tag_of a) (Ok r.0) × J.answers (J.tag_of b) (Ok r.1)) }
         ensures fault { (f : _) → result ≡ Err (CallError.Fault f) → J.answers (J.tag_of a) (Err f) ⊎ (((x : _) × J.answers (J.tag_of a) (Ok x)) × J.answers (J.tag_of b) (Err f)) }
         ensures back { (r : _) (sides : _) → result ≡ Err (CallError.Refused r sides) → sides ≡ (a, b) }
+        ensures deep { (sides : _) → result ≡ Err (CallError.Refused Refusal.TooDeep sides) → self.now.depth_limit < 2 }
     {
         let tags = (a.tag(), b.tag());
-        match self.send_pair(rt, alloc, a, b) {
+        match self.send_pair(rt, alloc, hold, a, b) {
             Ok(reply) => {
                 let (first, second) = reply.wait(rt);
                 pair_answer(claimed(first, &tags.0), claimed(second, &tags.1))
@@ -204,10 +234,13 @@ impl<J: JobKind> Registry<J> {
         &self,
         rt: &R,
         alloc: Global,
+        hold: &TerminateHold,
         a: J,
         b: J,
     ) -> Result<Arc<PairReply<J>, Global>, (Refusal, (J, J))>
-        ensures back { MatchResult result (λ _. Unit {0}) (λ e. e.1 ≡ (a, b)) }
+        ensures sent { IfOk result (λ _. 1 < self.now.depth_limit) }
+        ensures back { IfErr result (λ e. e.1 ≡ (a, b)) }
+        ensures deep { IfErr result (λ e. e.0 ≡ Refusal.TooDeep → self.now.depth_limit < 2) }
     {
         let Ok(reply) = PairReply::new(alloc) else {
             return Err((Refusal::NoRoom, (a, b)));
@@ -223,7 +256,7 @@ impl<J: JobKind> Registry<J> {
             second: b,
             reply: theirs,
         };
-        match self.inject(rt, Task::Pair(pair)) {
+        match self.inject(rt, hold, Task::Pair(pair)) {
             Ok(()) => Ok(reply),
             Err((refusal, Task::Pair(pair))) => Err((refusal, (pair.first, pair.second))),
             Err(_) => unreachable!(),
@@ -245,11 +278,20 @@ fn pair_answer<X: Drop, Y: Drop, F: Drop, B>(
     }
 }
 
-/// A worker's thread that is not started yet.
+/// A worker's thread that is not started yet. Contracts see its worker.
 #[derive(Drop)]
 pub struct ThreadBuilder<J: JobKind> {
     registry: Arc<Registry<J>, Global>,
     worker: WorkerThread<J>,
+}
+
+impl<J: JobKind> Model for ThreadBuilder<J> {
+    ghost use Rattle.rayon_registry.specs.Worker.{Worker};
+    ghost use Rattle.rayon_jobs.specs.declared.task.Task.{Task};
+
+    ghost Value = { Worker (Task J J.Tag J.Output J.Fault) };
+
+    ghost view = { λ t. t.worker };
 }
 
 impl<J: JobKind> ThreadBuilder<J> {
@@ -258,7 +300,12 @@ impl<J: JobKind> ThreadBuilder<J> {
         alloc: Global,
         registry: &Arc<Registry<J>, Global>,
         index: usize,
-    ) -> Result<ThreadBuilder<J>, Refusal> {
+    ) -> Result<ThreadBuilder<J>, Refusal>
+        ensures pool { IfOk result (λ t. t.id.pool ≡ (arc_value registry.now).id) }
+        ensures index { IfOk result (λ t. t.id.index ≡ index) }
+        ensures levels { IfOk result (λ t. t.levels ≡ (arc_value registry.now).depth_limit) }
+        ensures pushed { IfOk result (λ t. t.pushed ≡ []) }
+    {
         let (Ok(own), Ok(theirs)) = (Arc::try_clone(registry), Arc::try_clone(registry)) else {
             return Err(Refusal::NoRoom);
         };

@@ -1,11 +1,13 @@
 // The value that stands for a worker.
-ghost use Rattle.std.specs.Prelude.{◌≡◌, ◌⊎◌, ℕ, [], ◌∷◌, ◌++◌, ◌<◌, ◌≤◌, ◌↔◌, IsTrue, List, Result, Ok, Err, IfOk, IfSome, IfNone, MatchResult};
+ghost use Rattle.std.specs.Arc.{arc_value};
+ghost use Rattle.std.specs.Prelude.{◌≡◌, ◌⊎◌, ℕ, [], ◌∷◌, ◌++◌, ◌<◌, ◌≤◌, ◌↔◌, IsTrue, List, Result, Ok, Err, IfOk, IfSome, IfNone, IfErr, MatchResult, None};
 
 use crate::context::FnContext;
 use crate::ids::{IdSource, WorkerId};
 use crate::job::Waits;
 use crate::join::PairRun;
 use crate::registry::Registry;
+use crate::terminate::{TerminateHold, WorkerHolds};
 use rayon_jobs::{Done, Installed, JobKind, Pair, SecondSide, Task};
 use rayon_words::latch::{CoreLatch, LatchRef};
 use rayon_words::{CallError, Refusal};
@@ -22,6 +24,7 @@ pub struct WorkerThread<J: JobKind> {
     pub(crate) levels: usize,
     pub(crate) registry: Arc<Registry<J>, Global>,
     pub(crate) tickets: IdSource,
+    holds: WorkerHolds,
     deque: VecDeque<Task<J>>,
 }
 
@@ -42,6 +45,8 @@ impl<J: JobKind> WorkerThread<J> {
         index: usize,
         levels: usize,
     ) -> WorkerThread<J>
+        ensures pool { result.id.pool ≡ (arc_value registry).id }
+        ensures index { result.id.index ≡ index }
         ensures levels { result.levels ≡ levels }
         ensures pushed { result.pushed ≡ [] }
     {
@@ -54,6 +59,7 @@ impl<J: JobKind> WorkerThread<J> {
             levels,
             registry,
             tickets: IdSource::new(),
+            holds: WorkerHolds::new(),
             deque: VecDeque::new(alloc),
         }
     }
@@ -107,8 +113,8 @@ impl<J: JobKind> WorkerThread<J> {
 
     // A task of the worker's own deque, else the oldest injected one.
     fn find_work<R: Wait>(&mut self, rt: &R) -> Option<Task<J>>
-        ensures id { self.new.id ≡ self.old.id }
-        ensures level { self.new.levels ≡ self.old.levels }
+        ensures some { IfSome result (λ t. (self.old ≡ record self.new { pushed = self.new.pushed ++ t ∷ [] }) ⊎ ((self.old.pushed ≡ []) × (self.new ≡ self.old))) }
+        ensures none { IfNone result ((self.old.pushed ≡ []) × (self.new ≡ self.old)) }
     {
         match self.take_local_job() {
             Some(task) => Some(task),
@@ -116,7 +122,35 @@ impl<J: JobKind> WorkerThread<J> {
         }
     }
 
-    /// Runs a job at once. Refused `TooDeep`, `Ended`, `Full`, with the job back. It is never `Foreign` or `Missing`.
+    // Takes one unit of the pool's terminate count for a call of this worker. Refused `Ended`, `Full`.
+    #[inline(always)]
+    pub(crate) fn increment_terminate_count<R: Wait>(
+        &mut self,
+        rt: &R,
+    ) -> Result<TerminateHold, Refusal>
+        ensures refused { IfErr result (λ r. (r ≡ Refusal.Ended) ⊎ (r ≡ Refusal.Full)) }
+        ensures same { self.new ≡ self.old }
+    {
+        if self.holds.is_empty() {
+            let hold = self.registry.increment_terminate_count(rt)?;
+            self.holds = WorkerHolds::outermost();
+            return Ok(hold);
+        }
+        self.holds.enter()
+    }
+
+    // Gives back a unit that a call of this worker took.
+    #[inline(always)]
+    pub(crate) fn decrement_terminate_count<R: Wait>(&mut self, rt: &R, hold: TerminateHold)
+        ensures { self.new ≡ self.old }
+    {
+        if let Some(hold) = self.holds.leave(hold) {
+            self.registry.decrement_terminate_count(rt, hold);
+        }
+    }
+
+    /// Runs a job at once. Refused `TooDeep` exactly where no level is left, `Ended`, `Full`, with the job back and the
+    /// worker value unchanged. It is never `Foreign` or `Missing`.
     pub fn install<R: Waits<J>>(
         &mut self,
         rt: &R,
@@ -127,6 +161,10 @@ impl<J: JobKind> WorkerThread<J> {
         ensures ok { IfOk result (λ x. J.answers (J.tag_of job) (Ok x)) }
         ensures fault { (f : _) → result ≡ Err (CallError.Fault f) → J.answers (J.tag_of job) (Err f) }
         ensures back { (r : _) (j : _) → result ≡ Err (CallError.Refused r j) → j ≡ job }
+        ensures kept { (r : _) (j : _) → result ≡ Err (CallError.Refused r j) → self.new ≡ self.old }
+        ensures deep { self.old.levels ≡ 0 → result ≡ Err (CallError.Refused Refusal.TooDeep job) }
+        ensures shallow { (j : _) → result ≡ Err (CallError.Refused Refusal.TooDeep j) → self.old.levels ≡ 0 }
+        ensures room { (j : _) → result ≡ Err (CallError.Refused Refusal.NoRoom j) → ⊥ }
         ensures found { (result ≡ Err CallError.Foreign → ⊥) × (result ≡ Err CallError.Missing → ⊥) }
         ensures id { self.new.id ≡ self.old.id }
         ensures level { self.new.levels ≡ self.old.levels }
@@ -134,12 +172,12 @@ impl<J: JobKind> WorkerThread<J> {
         if self.levels == 0 {
             return Err(CallError::Refused(Refusal::TooDeep, job));
         }
-        let hold = match self.registry.increment_terminate_count(rt) {
+        let hold = match self.increment_terminate_count(rt) {
             Ok(hold) => hold,
             Err(refusal) => return Err(CallError::Refused(refusal, job)),
         };
         let answer = rt.run_job(alloc, self, job, &mut FnContext::new(false));
-        self.registry.decrement_terminate_count(rt, hold);
+        self.decrement_terminate_count(rt, hold);
         match answer {
             Ok(output) => Ok(output),
             Err(fault) => Err(CallError::Fault(fault)),
@@ -230,6 +268,7 @@ impl<J: JobKind> WorkerThread<J> {
     }
 
     // Runs a job, and puts its result beside its tag.
+    #[inline(always)]
     pub(crate) fn run_to_done<R: Waits<J>>(
         &mut self,
         rt: &R,
@@ -240,6 +279,7 @@ impl<J: JobKind> WorkerThread<J> {
         requires some { 0 < self.old.levels }
         requires levels { self.old.levels ≤ R.levels rt.now }
         ensures tag { result.tag ≡ J.tag_of job }
+        ensures place { result.place ≡ None }
         ensures id { self.new.id ≡ self.old.id }
         ensures level { self.new.levels ≡ self.old.levels }
     {

@@ -123,16 +123,27 @@ impl CoreLatch {
 /// A shared reference to a latch.
 pub type LatchRef<'a, L> = &'a L;
 
-/// A core latch that belongs to a worker, which is woken where it sleeps when the latch is set.
+/// A core latch that belongs to a worker, which is woken where it sleeps when the latch is set. Contracts see the index
+/// of that worker.
 #[derive(Drop)]
 pub struct SpinLatch {
     core_latch: CoreLatch,
     target_worker_index: usize,
 }
 
+impl Model for SpinLatch {
+    ghost use Rattle.std.specs.Prelude.{ℕ};
+
+    ghost Value = { ℕ };
+
+    ghost view = { λ l. l.target_worker_index };
+}
+
 impl SpinLatch {
     /// An unset latch of the worker with this index.
-    pub fn new(target_worker_index: usize) -> SpinLatch {
+    pub fn new(target_worker_index: usize) -> SpinLatch
+        ensures { result ≡ target_worker_index }
+    {
         SpinLatch {
             core_latch: CoreLatch::new(),
             target_worker_index,

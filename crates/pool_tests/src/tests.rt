@@ -24,6 +24,34 @@ fn pool_of<R: Threads + Wait + Copy + Send + 'static>(
         .build(rt, alloc, &Ids::new())
 }
 
+// What an install of a job that does this gave, and how many runs it began.
+fn installed<R: Wait + Abort>(
+    rt: &R,
+    alloc: Global,
+    pool: &ThreadPool<Errand>,
+    deed: Deed,
+) -> (Result<Answer, Trouble>, u64) {
+    let marks = Marks::new(alloc).expect(rt, "room");
+    let job = Errand::new(Name::Caller, &marks, deed).expect(rt, "room");
+    let answer = outcome(pool.install(rt, alloc, job));
+    (answer, marks.runs())
+}
+
+// What a join from outside of two jobs that end so gave, and how many runs it began.
+fn joined<R: Wait + Abort>(
+    rt: &R,
+    alloc: Global,
+    pool: &ThreadPool<Errand>,
+    first: Result<Words, Words>,
+    second: Result<Words, Words>,
+) -> (Result<(Answer, Answer), Trouble>, u64) {
+    let marks = Marks::new(alloc).expect(rt, "room");
+    let a = Errand::new(Name::First, &marks, Deed::End(first)).expect(rt, "room");
+    let b = Errand::new(Name::Second, &marks, Deed::End(second)).expect(rt, "room");
+    let answers = outcomes(pool.join(rt, alloc, a, b));
+    (answers, marks.runs())
+}
+
 // A call from outside tells both sides that they migrated; on the one worker neither side is told so, also where the
 // first side faults.
 #[test]
@@ -34,82 +62,47 @@ fn contexts_tell_whether_a_side_migrated(rt: HostRuntime) -> Result<(), Fail> {
         Errand::new(Name::First, &marks, Deed::TellMigrated)?,
         Errand::new(Name::Second, &marks, Deed::TellMigrated)?,
     );
-    let answering = Errand::new(Name::Caller, &marks, Deed::JoinContext(Ok(())))?;
-    let faulting = Errand::new(
-        Name::Caller,
-        &marks,
-        Deed::JoinContext(Err(Words::HelloWorld)),
-    )?;
+    let failing = Deed::JoinContext(Err(Words::HelloWorld));
+    let failing = Errand::new(Name::Caller, &marks, failing)?;
     let pool = pool_of(&rt, alloc, 9)?;
     let outside = outcomes(pool.join_context(&rt, alloc, a, b));
-    let told_outside = marks.migrated();
-    let inside = outcome(pool.install(&rt, alloc, answering));
-    let runs = marks.runs();
-    let faulted = outcome(pool.install(&rt, alloc, faulting));
+    let (inside, inside_runs) = installed(&rt, alloc, &pool, Deed::JoinContext(Ok(())));
+    let failed = outcome(pool.install(&rt, alloc, failing));
     pool.end(&rt);
     let both_migrated = (Answer::Migrated(true), Answer::Migrated(true));
     assert_eq!(rt; outside, Ok(both_migrated));
-    assert_eq!(rt; told_outside, 2);
     assert_eq!(rt; inside, Ok(Answer::BothMigrated(false, false)));
-    assert_eq!(rt; runs, 4);
-    assert_eq!(rt; faulted, Err(Trouble::Said(Words::HelloWorld)));
-    assert_eq!(rt; marks.runs(), 6, "the second side has run");
+    assert_eq!(rt; inside_runs, 2);
+    assert_eq!(rt; failed, Err(Trouble::Said(Words::HelloWorld)));
+    assert_eq!(rt; marks.runs(), 4, "the second side has run");
     assert_eq!(rt; marks.migrated(), 2, "and was not told that it migrated");
     Ok(())
 }
 
-// Both sides run whatever they end with, and the first side's fault comes before the second's.
+// Both sides run whatever they end with, and the first side's fault comes before the second's: by a join from outside,
+// and by one on the worker.
 #[test]
 fn faults_come_out_in_order(rt: HostRuntime) -> Result<(), Fail> {
     let alloc = rt.alloc();
     let pool = pool_of(&rt, alloc, 9)?;
+    let (one, two) = (Words::One, Words::Two);
+    let (hello, goodbye) = (Words::HelloWorld, Words::GoodbyeWorld);
     for (first, second, fault) in [
-        (
-            Err(Words::HelloWorld),
-            Err(Words::GoodbyeWorld),
-            Some(Words::HelloWorld),
-        ),
-        (
-            Err(Words::HelloWorld),
-            Ok(Words::Two),
-            Some(Words::HelloWorld),
-        ),
-        (
-            Ok(Words::One),
-            Err(Words::GoodbyeWorld),
-            Some(Words::GoodbyeWorld),
-        ),
-        (Ok(Words::One), Ok(Words::Two), None),
+        (Err(hello), Err(goodbye), Some(hello)),
+        (Err(hello), Ok(two), Some(hello)),
+        (Ok(one), Err(goodbye), Some(goodbye)),
+        (Ok(one), Ok(two), None),
     ] {
-        let marks = Marks::new(alloc).expect(&rt, "room for marks");
-        let a = Errand::new(Name::First, &marks, Deed::End(first)).expect(&rt, "room");
-        let b = Errand::new(Name::Second, &marks, Deed::End(second)).expect(&rt, "room");
-        let both = Errand::new(Name::Caller, &marks, Deed::JoinJobs(first, second)).expect(
-            &rt, "room",
-        );
-        let outside = outcomes(pool.join(&rt, alloc, a, b));
-        assert_eq!(rt;
-            marks.runs(),
-            2,
-            "both sides of a join from outside have run"
-        );
-        let inside = outcome(pool.install(&rt, alloc, both));
-        assert_eq!(rt;
-            marks.runs(),
-            5,
-            "both sides of a join on the worker have run"
-        );
+        let outside = joined(&rt, alloc, &pool, first, second);
+        let inside = installed(&rt, alloc, &pool, Deed::JoinJobs(first, second));
         match fault {
             Some(words) => {
-                assert_eq!(rt; outside, Err(Trouble::Said(words)));
-                assert_eq!(rt; inside, Err(Trouble::Said(words)));
+                assert_eq!(rt; outside, (Err(Trouble::Said(words)), 2));
+                assert_eq!(rt; inside, (Err(Trouble::Said(words)), 3));
             }
             None => {
-                assert_eq!(rt;
-                    outside,
-                    Ok((Answer::Said(Words::One), Answer::Said(Words::Two)))
-                );
-                assert_eq!(rt; inside, Ok(Answer::Both(Words::One, Words::Two)));
+                assert_eq!(rt; outside, (Ok((Answer::Said(one), Answer::Said(two))), 2));
+                assert_eq!(rt; inside, (Ok(Answer::Both(one, two)), 3));
             }
         }
     }
@@ -117,71 +110,55 @@ fn faults_come_out_in_order(rt: HostRuntime) -> Result<(), Fail> {
     Ok(())
 }
 
-// A pool runs as many runs nested as its depth limit says. Where there is no level left, a join hands back the very jobs
-// and the closure, and none has run.
+// With one level an install is taken, and each join is refused: the very jobs come back, and neither has run. A depth
+// limit of 0 counts as 1.
 #[test]
-fn depth_limits(rt: HostRuntime) -> Result<(), Fail> {
+fn one_level_is_too_few_for_a_join(rt: HostRuntime) -> Result<(), Fail> {
     let alloc = rt.alloc();
-    for (depth_limit, levels) in [(0, 1), (1, 1), (2, 2), (5, 5)] {
-        let marks = Marks::new(alloc).expect(&rt, "room for marks");
-        let deep = levels == 1;
-        let turned_back = Answer::TurnedBack(Refusal::TooDeep, Name::First, Name::Second);
-        let mut before = 0;
+    let (one, two) = (Words::One, Words::Two);
+    let turned_back = Answer::TurnedBack(Refusal::TooDeep, Name::First, Name::Second);
+    let refused = Trouble::BothRefused(Refusal::TooDeep, Name::First, Name::Second);
+    for depth_limit in [0, 1] {
         let pool = pool_of(&rt, alloc, depth_limit).expect(&rt, "a pool");
-        for (deed, want, runs) in [
-            (
-                Deed::JoinJobs(Ok(Words::One), Ok(Words::Two)),
-                if deep {
-                    turned_back
-                } else {
-                    Answer::Both(Words::One, Words::Two)
-                },
-                if deep { 1 } else { 3 },
-            ),
-            (
-                Deed::JoinClosure(Words::One, Words::Two),
-                if deep {
-                    turned_back
-                } else {
-                    Answer::Both(Words::One, Words::Two)
-                },
-                if deep { 1 } else { 2 },
-            ),
-            (
-                Deed::Descend(levels - 1),
-                Answer::Nested(levels),
-                levels as u64,
-            ),
-        ] {
-            let job = Errand::new(Name::Caller, &marks, deed).expect(&rt, "room");
-            assert_eq!(rt;
-                outcome(pool.install(&rt, alloc, job)),
-                Ok(want),
-                "limit {depth_limit}"
-            );
-            assert_eq!(rt;
-                marks.runs(),
-                runs.saturating_add(before),
-                "limit {depth_limit}"
-            );
-            before = marks.runs();
-        }
-        let a = Errand::new(Name::First, &marks, Deed::End(Ok(Words::One))).expect(&rt, "room");
-        let b = Errand::new(Name::Second, &marks, Deed::End(Ok(Words::Two))).expect(&rt, "room");
-        let both = outcomes(pool.join(&rt, alloc, a, b));
+        let alone = installed(&rt, alloc, &pool, Deed::End(Ok(one)));
+        let jobs = installed(&rt, alloc, &pool, Deed::JoinJobs(Ok(one), Ok(two)));
+        let closure = installed(&rt, alloc, &pool, Deed::JoinClosure(one, two));
+        let outside = joined(&rt, alloc, &pool, Ok(one), Ok(two));
         pool.end(&rt);
-        if deep {
-            assert_eq!(rt;
-                both,
-                Err(Trouble::BothRefused(Refusal::TooDeep, Name::First, Name::Second))
-            );
-            assert_eq!(rt; marks.runs(), before, "neither side has run");
-        } else {
-            assert_eq!(rt;
-                both,
-                Ok((Answer::Said(Words::One), Answer::Said(Words::Two)))
-            );
-        }
+        assert_eq!(rt; alone, (Ok(Answer::Said(one)), 1));
+        assert_eq!(rt; jobs, (Ok(turned_back), 1));
+        assert_eq!(rt; closure, (Ok(turned_back), 1));
+        assert_eq!(rt; outside, (Err(refused), 0));
+    }
+    Ok(())
+}
+
+// With two levels each join is taken.
+#[test]
+fn two_levels_are_enough_for_a_join(rt: HostRuntime) -> Result<(), Fail> {
+    let alloc = rt.alloc();
+    let (one, two) = (Words::One, Words::Two);
+    let pool = pool_of(&rt, alloc, 2)?;
+    let jobs = installed(&rt, alloc, &pool, Deed::JoinJobs(Ok(one), Ok(two)));
+    let closure = installed(&rt, alloc, &pool, Deed::JoinClosure(one, two));
+    let outside = joined(&rt, alloc, &pool, Ok(one), Ok(two));
+    pool.end(&rt);
+    assert_eq!(rt; jobs, (Ok(Answer::Both(one, two)), 3));
+    assert_eq!(rt; closure, (Ok(Answer::Both(one, two)), 2));
+    assert_eq!(rt; outside, (Ok((Answer::Said(one), Answer::Said(two))), 2));
+    Ok(())
+}
+
+// As many runs nest as the depth limit says, each with one level fewer, and the install below the last is refused.
+#[test]
+fn runs_nest_to_the_depth_limit(rt: HostRuntime) -> Result<(), Fail> {
+    let alloc = rt.alloc();
+    for (depth_limit, levels, runs) in [(0, 0, 1), (1, 0, 1), (2, 1, 2), (5, 4, 5)] {
+        let pool = pool_of(&rt, alloc, depth_limit).expect(&rt, "a pool");
+        let (answer, count) = installed(&rt, alloc, &pool, Deed::Descend(levels));
+        pool.end(&rt);
+        assert_eq!(rt; answer, Ok(Answer::Nested(runs)), "limit {depth_limit}");
+        assert_eq!(rt; usize::try_from(count), Ok(runs), "limit {depth_limit}");
     }
     Ok(())
 }
@@ -227,23 +204,11 @@ fn many_callers(rt: HostRuntime) -> Result<(), Fail> {
     Ok(())
 }
 
-// The worker that the pool's jobs run on, as a job there sees it.
-fn worker_of<R: Wait + Abort>(
-    rt: &R,
-    alloc: Global,
-    pool: &ThreadPool<Errand>,
-    marks: &Arc<Marks>,
-) -> Result<Answer, Trouble> {
-    let asked = Errand::new(Name::Caller, marks, Deed::TellWorker)?;
-    outcome(pool.install(rt, alloc, asked))
-}
-
 // Pools of one source have numbers of their own, which their workers know, and a pool ends while nothing runs. A source
 // whose last number was drawn makes no pool.
 #[test]
 fn pools_have_numbers(rt: HostRuntime) -> Result<(), Fail> {
     let alloc = rt.alloc();
-    let marks = Marks::new(alloc)?;
     let ids = Ids::new();
     match ThreadPoolBuilder::<Errand>::new().build(&rt, alloc, &Ids::spent()) {
         Ok(pool) => {
@@ -257,8 +222,8 @@ fn pools_have_numbers(rt: HostRuntime) -> Result<(), Fail> {
     let two = ThreadPoolBuilder::<Errand>::new().build(&rt, alloc, &ids);
     let two = two.expect(&rt, "a pool");
     let workers = (
-        worker_of(&rt, alloc, &one, &marks),
-        worker_of(&rt, alloc, &two, &marks),
+        installed(&rt, alloc, &one, Deed::TellWorker),
+        installed(&rt, alloc, &two, Deed::TellWorker),
     );
     let (first, second) = (one.id(), two.id());
     assert_eq!(rt;
@@ -268,9 +233,22 @@ fn pools_have_numbers(rt: HostRuntime) -> Result<(), Fail> {
     one.end(&rt);
     two.end(&rt);
     assert_ne!(rt; first, second);
-    let of = |pool| Ok(Answer::Worker(WorkerId { pool, index: 0 }));
+    let of = |pool| (Ok(Answer::Worker(WorkerId { pool, index: 0 })), 1);
     assert_eq!(rt; workers, (of(first), of(second)));
     Ok(())
+}
+
+// What a join and a join with contexts gave, of jobs that tell whether they migrated.
+fn told_twice<R: Wait + Abort>(
+    rt: &R,
+    alloc: Global,
+    pool: &PoolRef<Errand>,
+    marks: &Arc<Marks>,
+) -> [Result<(Answer, Answer), Trouble>; 2] {
+    let tells = |name| Errand::new(name, marks, Deed::TellMigrated).expect(rt, "room");
+    let joined = pool.join(rt, alloc, tells(Name::First), tells(Name::Second));
+    let again = pool.join_context(rt, alloc, tells(Name::First), tells(Name::Second));
+    [outcomes(joined), outcomes(again)]
 }
 
 // A reference stands for the pool until the pool ends; then each call is refused, with the jobs back, and none has run.
@@ -278,55 +256,43 @@ fn pools_have_numbers(rt: HostRuntime) -> Result<(), Fail> {
 fn references(rt: HostRuntime) -> Result<(), Fail> {
     let alloc = rt.alloc();
     let marks = Marks::new(alloc)?;
+    let job = Errand::new(Name::Caller, &marks, Deed::End(Ok(Words::One)))?;
+    let late = Errand::new(Name::Caller, &marks, Deed::End(Ok(Words::Two)))?;
     let pool = pool_of(&rt, alloc, 9)?;
     let first = pool.pool_ref().expect(&rt, "room");
     let second = first.pool_ref().expect(&rt, "room");
-    assert_eq!(rt; (first.id(), first.current_num_threads()), (pool.id(), 1));
-    assert_eq!(rt; (second.id(), second.current_num_threads()), (pool.id(), 1));
-    let tells = |name| Errand::new(name, &marks, Deed::TellMigrated);
-    let both_migrated = (Answer::Migrated(true), Answer::Migrated(true));
-    let (a, b) = (
-        tells(Name::First).expect(&rt, "room"),
-        tells(Name::Second).expect(&rt, "room"),
-    );
-    assert_eq!(rt; outcomes(first.join(&rt, alloc, a, b)), Ok(both_migrated));
-    let (a, b) = (
-        tells(Name::First).expect(&rt, "room"),
-        tells(Name::Second).expect(&rt, "room"),
-    );
-    assert_eq!(rt;
-        outcomes(second.join_context(&rt, alloc, a, b)),
-        Ok(both_migrated)
-    );
+    let (id, workers) = (pool.id(), pool.current_num_threads());
+    let alone = outcome(second.install(&rt, alloc, job));
+    let before = told_twice(&rt, alloc, &second, &marks);
     pool.end(&rt);
-    let (one, a, b) = (
-        tells(Name::Caller)?,
-        tells(Name::First)?,
-        tells(Name::Second)?,
+    let alone_late = outcome(second.install(&rt, alloc, late));
+    let after = told_twice(&rt, alloc, &first, &marks);
+    assert_eq!(rt; (first.id(), first.current_num_threads()), (id, workers));
+    assert_eq!(rt; (second.id(), second.current_num_threads()), (id, workers));
+    assert_eq!(rt; alone, Ok(Answer::Said(Words::One)));
+    assert_eq!(rt;
+        before,
+        [Ok((Answer::Migrated(true), Answer::Migrated(true))); 2]
     );
     let ended = Trouble::BothRefused(Refusal::Ended, Name::First, Name::Second);
     assert_eq!(rt;
-        outcome(first.install(&rt, alloc, one)),
+        alone_late,
         Err(Trouble::Refused(Refusal::Ended, Name::Caller))
     );
-    assert_eq!(rt; outcomes(first.join(&rt, alloc, a, b)), Err(ended));
-    let (a, b) = (tells(Name::First)?, tells(Name::Second)?);
-    assert_eq!(rt; outcomes(second.join_context(&rt, alloc, a, b)), Err(ended));
-    assert_eq!(rt; marks.runs(), 4, "no job has run after the end");
+    assert_eq!(rt; after, [Err(ended); 2]);
+    assert_eq!(rt; marks.runs(), 5, "no job has run after the end");
     Ok(())
 }
 
-// A worker's own deque gives the newest task first, and the result of a task goes where the task says.
+// A worker's own deque gives the newest task first, the result of a task goes where the task says, and a task that is only
+// taken does not run.
 #[test]
 fn own_deque(rt: HostRuntime) -> Result<(), Fail> {
     let alloc = rt.alloc();
-    let marks = Marks::new(alloc)?;
-    let job = Errand::new(Name::Caller, &marks, Deed::Queue)?;
     let pool = pool_of(&rt, alloc, 9)?;
-    let answer = outcome(pool.install(&rt, alloc, job));
+    let answer = installed(&rt, alloc, &pool, Deed::Queue);
     pool.end(&rt);
-    assert_eq!(rt; answer, Ok(Answer::Said(Words::Newer)));
-    assert_eq!(rt; marks.runs(), 2, "the one that was only taken has not run");
+    assert_eq!(rt; answer, (Ok(Answer::Said(Words::Newer)), 2));
     Ok(())
 }
 
@@ -367,10 +333,9 @@ fn worker_waits(rt: HostRuntime) -> Result<(), Fail> {
     Ok(())
 }
 
-// What each step of a core latch answers, and that a thread that waits on a lock latch, or sleeps on a spin latch, goes
-// on when another thread sets it.
+// What each step of a core latch answers.
 #[test]
-fn latches(rt: HostRuntime) -> Result<(), Fail> {
+fn core_latch_steps(rt: HostRuntime) -> Result<(), Fail> {
     let core = CoreLatch::new();
     assert!(rt; !core.probe(&rt) && !core.fall_asleep(&rt));
     assert!(rt; core.get_sleepy(&rt) && !core.get_sleepy(&rt));
@@ -380,26 +345,41 @@ fn latches(rt: HostRuntime) -> Result<(), Fail> {
     assert!(rt; core.set(&rt) && !core.set(&rt));
     core.wake_up(&rt);
     assert!(rt; core.probe(&rt) && !core.get_sleepy(&rt));
-    let (there, back, spin, sleep) = (
-        LockLatch::new(),
-        LockLatch::new(),
-        SpinLatch::new(0),
-        Sleep::new(),
-    );
-    let (there, back, spin, sleep, handle) = (&there, &back, &spin, &sleep, &rt);
+    Ok(())
+}
+
+// A thread that waits on a lock latch goes on when another thread sets it, each time anew.
+#[test]
+fn lock_latches(rt: HostRuntime) -> Result<(), Fail> {
+    let (there, back) = (LockLatch::new(), LockLatch::new());
+    let (there, back, handle) = (&there, &back, &rt);
     thread::scope(thread::scope_env(), &rt, |scope| {
         let started = scope.spawn(move || {
             for _ in 0..100 {
                 there.wait_and_reset(handle);
                 back.set(handle);
             }
-            spin.set(handle, sleep);
         });
-        assert!(handle; started.is_ok(), "a thread");
+        assert!(handle; started.is_ok(), "a thread was refused");
         for _ in 0..100 {
             there.set(handle);
             back.wait_and_reset(handle);
         }
+        back.set(handle);
+    });
+    back.wait(&rt);
+    back.wait_and_reset(&rt);
+    Ok(())
+}
+
+// A thread that sleeps until a spin latch is set goes on when another thread sets it.
+#[test]
+fn spin_latches(rt: HostRuntime) -> Result<(), Fail> {
+    let (spin, sleep) = (SpinLatch::new(0), Sleep::new());
+    let (spin, sleep, handle) = (&spin, &sleep, &rt);
+    thread::scope(thread::scope_env(), &rt, |scope| {
+        let started = scope.spawn(move || spin.set(handle, sleep));
+        assert!(handle; started.is_ok(), "a thread was refused");
         for _ in handle.forever() {
             let events = sleep.events(handle);
             if spin.probe(handle) {
@@ -408,9 +388,6 @@ fn latches(rt: HostRuntime) -> Result<(), Fail> {
             sleep.no_work_found(handle, spin.core_latch(), events);
         }
     });
-    back.set(&rt);
-    back.wait(&rt);
-    back.wait_and_reset(&rt);
     assert!(rt; spin.core_latch().probe(&rt));
     Ok(())
 }

@@ -4,4 +4,8 @@ pub mod Steps
 pub mod Runs
 pub mod Readers
 pub mod Groups
+pub mod Once
 pub mod Committed
+pub mod End
+pub mod Latch
+pub mod Shares

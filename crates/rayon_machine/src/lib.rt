@@ -8,6 +8,7 @@
 pub mod act;
 pub mod error;
 pub mod event;
+pub mod laws;
 pub mod moves;
 pub mod place;
 pub mod shape;

@@ -6,6 +6,9 @@ pub mod Readers
 pub mod Groups
 pub mod Once
 pub mod Committed
+pub mod Attended
+pub mod Turn
+pub mod Searched
 pub mod End
 pub mod Latch
 pub mod Shares

@@ -12,5 +12,6 @@ pub mod laws;
 pub mod moves;
 pub mod place;
 pub mod shape;
+pub mod sleep_laws;
 pub mod state;
 pub mod table;

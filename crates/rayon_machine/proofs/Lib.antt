@@ -47,5 +47,13 @@ pub mod ShareSteps
 pub mod ShareLowers
 pub mod ShareEvents
 pub mod ShareEnds
+pub mod AfterWrites
+pub mod Stored
+pub mod Ends
+pub mod Deeds
+pub mod Acted
+pub mod Running
+pub mod Turning
+pub mod Calling
 pub mod Bares
 pub mod Returns

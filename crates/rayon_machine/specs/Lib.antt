@@ -12,3 +12,5 @@ pub mod Searched
 pub mod End
 pub mod Latch
 pub mod Shares
+pub mod State
+pub mod Starts

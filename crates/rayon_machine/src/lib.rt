@@ -6,12 +6,26 @@
 #![tactic(auto)]
 
 pub mod act;
+mod calls;
+mod commit;
+mod deed;
 pub mod error;
 pub mod event;
 pub mod laws;
 pub mod moves;
+mod parties;
+mod parts;
+mod perform;
 pub mod place;
+pub mod readers;
+mod replays;
 pub mod shape;
 pub mod sleep_laws;
+mod spot;
+mod start;
 pub mod state;
+mod step;
 pub mod table;
+mod tables;
+pub mod touch;
+pub mod world;

@@ -1,0 +1,24 @@
+-- runs that grow by a step
+use Rattle.std.proofs.Common.{◌≡◌, ◌<◌, ◌≤◌, ℕ, zero, suc, refl, sym, subst, List, [], ◌∷◌, Some, length, get_or, take, slice_get, IfSome, None, arith}
+use Rattle.std.proofs.lemmas.Option.{slice_get-get_or}
+use Rattle.rayon_machine.specs.declared.event.Event.{Event}
+use Rattle.rayon_machine.specs.World.{World}
+use Rattle.rayon_machine.specs.Runs.{IsRun}
+use Rattle.rayon_machine.specs.Steps.{step}
+
+-- a run of the first events, and a step of the next one
+pub run-next : (w : World) (es : List Event) (i : ℕ) (d : Event) (u v : World) → i < length es → IsRun w (take i es) u → step u (get_or es i d) ≡ Some v → IsRun w (take (suc i) es) v
+run-next w [] i d u v l r s = absurd (omega arith)
+run-next w (a ∷ es) zero d u v l r s = (v, subst (λ (x : World). step x a ≡ Some v) r s, refl)
+run-next w (a ∷ es) (suc i) d u v l r s = (r.0, r.1, run-next r.0 es i d u v (omega arith) r.2 s)
+
+-- a run of as many events as there are is a run of all
+pub run-all : (w : World) (es : List Event) (i : ℕ) (u : World) → length es ≤ i → IsRun w (take i es) u → IsRun w es u
+run-all w [] zero u l r = r
+run-all w [] (suc i) u l r = r
+run-all w (a ∷ es) zero u l r = absurd (omega arith)
+run-all w (a ∷ es) (suc i) u l r = (r.0, r.1, run-all r.0 es i u (omega arith) r.2)
+
+-- an event that is not enabled is not enabled where it stands in the list
+pub refused-there : (es : List Event) (i : ℕ) (d : Event) (u v : World) → i < length es → v ≡ u → step u (get_or es i d) ≡ None → IfSome (slice_get es i) (λ e. step v e ≡ None)
+refused-there es i d u v l e h = subst (λ o. IfSome o (λ e. step v e ≡ None)) (sym (slice_get-get_or es i d l)) (subst (λ (x : World). step x (get_or es i d) ≡ None) (sym e) h)

@@ -1,0 +1,15 @@
+use Rattle.std.proofs.Common.{◌∙◌, ap, subst}
+use Rattle.std.proofs.lemmas.Result.{on_ok_weaker}
+use Rattle.rayon_machine.specs.declared.act.Act.{Act}
+use Rattle.rayon_machine.specs.Places.{next_of}
+use Rattle.rayon_machine.specs.State.{IsDeed, shape_of}
+use Rattle.rayon_machine.proofs.Acted.{went}
+use Rattle.rayon_machine.proofs.world.World.go.Goals as goal
+
+pub returns-clause-ok : goal.returns-clause-ok
+returns-clause-ok c =
+    let w = c.args.self.now in
+    let q = c.args.party in
+    let x = c.top-place.result in
+    let d = c.in-Ok.deed in
+    on_ok_weaker c.perform.result (λ did. went w c.perform.new.self q x d c.next-step.result c.top-place.ensures (subst (λ (a : Act). IsDeed (shape_of w.shapes) w.parts q a d) c.act.ensures c.in-Ok.ensures.ok) (c.next-step.ensures ∙ ap (λ s. next_of s q x d.seen) c.pool.ensures) did) c.perform.ensures.ok

@@ -12,6 +12,8 @@ pub enum Command {
         /// Which number.
         n: u8,
     },
+    /// `replay`: the replay that standard input has.
+    Replay,
 }
 
 /// The most workers that a command may ask for.
@@ -35,6 +37,7 @@ impl Command {
                 }
                 Some(Command::Fib { workers, n })
             }
+            [name] if name.as_str() == "replay" => Some(Command::Replay),
             _ => None,
         }
     }

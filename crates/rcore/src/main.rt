@@ -3,6 +3,10 @@
 
 mod command;
 mod fib;
+mod replay;
+mod replay_command;
+mod replay_print;
+mod replay_text;
 mod run;
 
 use std::env;
@@ -24,5 +28,7 @@ fn main(rt: HostRuntime) -> ExitCode {
     ExitCode::from(run::run(&rt, alloc, &words, &mut rt.reader(), &mut out, &mut err))
 }
 
+#[cfg(test)]
+mod replay_tests;
 #[cfg(test)]
 mod tests;

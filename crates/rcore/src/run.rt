@@ -1,12 +1,14 @@
 // The program over any reader and writers.
 ghost use Rattle.rcore.specs.Fib.{fib};
-ghost use Rattle.rcore.specs.Words.{AsksForFib, AskForNothing};
+ghost use Rattle.rcore.specs.Words.{AsksFor, AskForNothing, IsPrinted};
+ghost use Rattle.rcore.specs.declared.command.Command.{Command};
 ghost use Rattle.std.specs.Fmt.{decimal};
 ghost use Rattle.std.specs.Io.KnownBytes.{Appends, Keeps};
 ghost use Rattle.std.specs.Prelude.{◌≡◌, ℕ, ◌∷◌, ◌++◌, [], map, string_bytes};
 
 use crate::command::Command;
 use crate::fib::{Fib, FibFault};
+use crate::replay_command::print_replay;
 use rayon_core::{CallError, Ids, ThreadPoolBuildError, ThreadPoolBuilder};
 use std::alloc::Global;
 use std::fmt::Display;
@@ -15,10 +17,10 @@ use std::sync::Wait;
 use std::thread::Threads;
 
 /// The status of a command that was done.
-const DONE: u8 = 0;
+pub(crate) const DONE: u8 = 0;
 
 /// The status of a fault or a refusal.
-const FAILED: u8 = 1;
+pub(crate) const FAILED: u8 = 1;
 
 /// The status of bad words.
 const BAD_WORDS: u8 = 2;
@@ -29,11 +31,11 @@ pub fn run<R: Threads + Wait + Copy + Send + 'static, I: BufRead, W: Write, E: W
     rt: &R,
     alloc: Global,
     words: &[String],
-    _reader: &mut I,
+    reader: &mut I,
     out: &mut W,
     err: &mut E,
 ) -> u8
-    ensures done { result ≡ 0 → (workers n : ℕ) × AsksForFib (map string_bytes words.now) workers n × Appends (W.contents out.old) (W.contents out.new) (decimal (fib n) ++ 10 ∷ []) }
+    ensures done { result ≡ 0 → (c : Command) × AsksFor (map string_bytes words.now) c × IsPrinted c (λ text. Appends (W.contents out.old) (W.contents out.new) text) }
     ensures bad_words { result ≡ 2 → AskForNothing (map string_bytes words.now) }
     ensures known { AskForNothing (map string_bytes words.now) → result ≡ 2 }
     ensures kept { result ≡ 2 → Keeps (W.contents out.old) (W.contents out.new) }
@@ -44,6 +46,7 @@ pub fn run<R: Threads + Wait + Copy + Send + 'static, I: BufRead, W: Write, E: W
             BAD_WORDS
         }
         Some(Command::Fib { workers, n }) => print_fib(rt, alloc, workers, n, out, err),
+        Some(Command::Replay) => print_replay(alloc, reader, out, err),
     }
 }
 
@@ -82,7 +85,7 @@ fn print_fib<R: Threads + Wait + Copy + Send + 'static, W: Write, E: Write>(
 }
 
 // Names what failed on `err`, and answers its status.
-fn fail<E: Write, D: Display + Drop>(err: &mut E, name: D) -> u8
+pub(crate) fn fail<E: Write, D: Display + Drop>(err: &mut E, name: D) -> u8
     ensures { result ≡ 1 }
 {
     complain(err, name);

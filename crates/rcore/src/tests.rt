@@ -18,7 +18,7 @@ const GOOD_LINES: [(&str, &str); 7] = [
 ];
 
 /// Command lines that are bad words.
-const BAD_LINES: [&str; 17] = [
+const BAD_LINES: [&str; 19] = [
     "",
     "fib",
     "fib 1",
@@ -36,6 +36,8 @@ const BAD_LINES: [&str; 17] = [
     "Fib 1 2",
     "fibonacci 1 2",
     "order lifo",
+    "replay 1",
+    "Replay",
 ];
 
 // The words of a line.

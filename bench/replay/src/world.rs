@@ -1,0 +1,315 @@
+//! What a world holds: pools, seats of workers, parties with their stacks, and open calls.
+
+use std::collections::VecDeque;
+
+/// The outside callers.
+pub const CALLERS: usize = 16;
+
+/// The shape of one pool.
+#[derive(Clone, Copy)]
+pub struct Shape {
+    pub workers: usize,
+    pub limit: u8,
+    pub newest_first: bool,
+    pub callers_own: bool,
+}
+
+/// A queued job: detached at a pool, or the one that an open call waits for.
+#[derive(Clone, Copy, PartialEq, Eq)]
+pub enum Task {
+    Detached(u8),
+    Answer(u32),
+}
+
+/// What the end of a run sets going.
+#[derive(Clone, Copy)]
+pub enum Run {
+    Detached(u8),
+    Answer(u32),
+    /// The call below goes on.
+    Direct,
+}
+
+#[derive(Clone, Copy, PartialEq, Eq)]
+pub enum Letter {
+    Unset,
+    Sleepy,
+    Sleeping,
+    Set,
+}
+
+/// The places of the wait, in the order of its table.
+#[derive(Clone, Copy, PartialEq, Eq)]
+pub enum At {
+    ProbeWorking,
+    PopWorking,
+    CastWorking,
+    BecomeInactive,
+    ProbeIdle,
+    PopIdle,
+    CastIdle,
+    Pick,
+    Steal,
+    PopInjected,
+    Announce,
+    Sleepy,
+    LockOwn,
+    Asleep,
+    Load,
+    TryAdd,
+    LookCast,
+    LookInjector,
+    Block,
+    Relock,
+    SubSleeping,
+    Wakeup,
+    Unlock,
+    SubInactive,
+    /// Others are being woken; then the task is begun, or the wait is left.
+    Leaving,
+}
+
+#[derive(Clone, Copy)]
+pub struct Wait {
+    /// The call whose latch is waited for, or none: the worker's terminate latch.
+    pub call: Option<u32>,
+    pub at: At,
+    pub rounds: u8,
+    pub kept: u64,
+    pub word: (u32, u32, u64),
+    pub victim: u8,
+    pub left: u8,
+    pub task: Option<Task>,
+}
+
+impl Wait {
+    pub fn new(call: Option<u32>) -> Wait {
+        Wait {
+            call,
+            at: At::ProbeWorking,
+            rounds: 0,
+            kept: 0,
+            word: (0, 0, 0),
+            victim: 0,
+            left: 0,
+            task: None,
+        }
+    }
+}
+
+/// Taking a lock, waking its worker, leaving the lock.
+#[derive(Clone, Copy, PartialEq, Eq)]
+pub enum Phase {
+    Lock,
+    Wake,
+    Unlock,
+}
+
+#[derive(Clone, Copy, PartialEq, Eq)]
+pub enum CallStep {
+    Raise,
+    Grow,
+    Look,
+    Push,
+    News,
+    /// Others are being woken.
+    Woken,
+    /// A wait or a run stands above.
+    Above,
+    WaitForLock,
+    Take,
+    Probe,
+    Pop,
+    Cast,
+    Second,
+}
+
+#[derive(Clone, Copy, PartialEq, Eq)]
+pub enum CallKind {
+    Spawn,
+    Here,
+    Send,
+    Join,
+}
+
+#[derive(Clone, Copy)]
+pub struct Call {
+    pub kind: CallKind,
+    pub step: CallStep,
+    pub pool: u8,
+    pub was_empty: bool,
+    pub number: u32,
+}
+
+#[derive(Clone, Copy, PartialEq, Eq)]
+pub enum Look {
+    Pop,
+    Cast,
+    Pick,
+    Steal,
+    Injected,
+}
+
+#[derive(Clone, Copy)]
+pub enum Frame {
+    Wait(Wait),
+    Stopped,
+    Begin(Run),
+    Run(Run),
+    Call(Call),
+    Yield { look: Look, local: bool, victim: u8, left: u8 },
+    Wake { pool: u8, worker: u8, owed: u8, phase: Phase },
+    Lower(u8),
+    Store { call: u32, fault: bool },
+    SetLock(u32),
+    /// Sets the latch of a call of this worker.
+    SetCall { seat: u16, call: u32 },
+    /// Sets the terminate latch of the worker and then of those after it.
+    SetTerminate { pool: u8, worker: u8 },
+    /// Wakes a worker whose latch was set while it slept; `all` goes on to the next terminate latch.
+    Settle { pool: u8, worker: u8, all: bool, phase: Phase },
+}
+
+#[derive(Clone)]
+pub struct Pool {
+    pub shape: Shape,
+    pub first_seat: usize,
+    pub injector: VecDeque<Task>,
+    pub sleeping: u32,
+    pub inactive: u32,
+    pub turn: u64,
+    pub count: u64,
+    pub held: bool,
+}
+
+#[derive(Clone)]
+pub struct Seat {
+    pub deque: VecDeque<Task>,
+    pub blocked: bool,
+    pub locked: bool,
+    pub terminate: Letter,
+}
+
+#[derive(Clone)]
+pub struct Party {
+    /// Pool and index of a worker.
+    pub worker: Option<(u8, u8)>,
+    pub stack: Vec<Frame>,
+}
+
+/// The latch and the cell of a call that waits.
+#[derive(Clone, Copy)]
+pub struct OpenCall {
+    pub owner: u16,
+    pub latch: Letter,
+    pub cell: Option<bool>,
+}
+
+#[derive(Clone, Default)]
+pub struct Totals {
+    pub queued: u64,
+    pub running: u64,
+    pub done: u64,
+}
+
+#[derive(Clone)]
+pub struct World {
+    pub mask: u64,
+    pub pools: Vec<Pool>,
+    pub seats: Vec<Seat>,
+    /// The workers, pool by pool, and then the callers.
+    pub parties: Vec<Party>,
+    pub calls: Vec<OpenCall>,
+    pub free_calls: Vec<u32>,
+    pub totals: Totals,
+}
+
+impl World {
+    /// The start world, or none for a shape that no world has.
+    pub fn start(shapes: &[Shape], bits: u64) -> Option<World> {
+        let fits = |s: &Shape| (1..=64).contains(&s.workers) && s.limit <= 32;
+        if !(1..=8).contains(&shapes.len()) || !(1..=32).contains(&bits) || !shapes.iter().all(fits) {
+            return None;
+        }
+        let mut world = World {
+            mask: (1 << bits) - 1,
+            pools: Vec::new(),
+            seats: Vec::new(),
+            parties: Vec::new(),
+            calls: Vec::new(),
+            free_calls: Vec::new(),
+            totals: Totals::default(),
+        };
+        for (number, shape) in shapes.iter().enumerate() {
+            world.add_pool(number as u8, *shape);
+        }
+        for _ in 0..CALLERS {
+            world.parties.push(Party { worker: None, stack: Vec::new() });
+        }
+        Some(world)
+    }
+
+    fn add_pool(&mut self, number: u8, shape: Shape) {
+        self.pools.push(Pool {
+            shape,
+            first_seat: self.seats.len(),
+            injector: VecDeque::new(),
+            sleeping: 0,
+            inactive: 0,
+            turn: 0,
+            count: 1,
+            held: true,
+        });
+        for index in 0..shape.workers {
+            let own = shape.callers_own && index == 0;
+            let stack = if own { Vec::new() } else { vec![Frame::Wait(Wait::new(None))] };
+            self.parties.push(Party { worker: Some((number, index as u8)), stack });
+            self.seats.push(Seat {
+                deque: VecDeque::new(),
+                blocked: false,
+                locked: false,
+                terminate: Letter::Unset,
+            });
+        }
+    }
+
+    pub fn seat_of(&self, pool: u8, worker: u8) -> usize {
+        self.pools[pool as usize].first_seat + worker as usize
+    }
+
+    pub fn is_free(&self, party: usize) -> bool {
+        match self.parties[party].stack.last() {
+            None => true,
+            Some(frame) => matches!(frame, Frame::Run(_)),
+        }
+    }
+
+    /// The pool of a worker.
+    pub fn own_pool(&self, party: usize) -> Option<u8> {
+        self.parties[party].worker.map(|(pool, _)| pool)
+    }
+
+    pub fn set_top(&mut self, party: usize, frame: Frame) {
+        if let Some(top) = self.parties[party].stack.last_mut() {
+            *top = frame;
+        }
+    }
+
+    pub fn push(&mut self, party: usize, frame: Frame) {
+        self.parties[party].stack.push(frame);
+    }
+
+    pub fn open_call(&mut self, owner: usize) -> u32 {
+        let record = OpenCall { owner: owner as u16, latch: Letter::Unset, cell: None };
+        match self.free_calls.pop() {
+            Some(number) => {
+                self.calls[number as usize] = record;
+                number
+            }
+            None => {
+                self.calls.push(record);
+                (self.calls.len() - 1) as u32
+            }
+        }
+    }
+}

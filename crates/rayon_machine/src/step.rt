@@ -17,7 +17,7 @@ use crate::tables::{grow_calls, grow_jobs, grow_pools};
 use crate::world::{Parts, World};
 
 impl World {
-    /// Makes one step: an event of one party. NotEnabled exactly where the event is not enabled in this world; NoRoom where
+    /// Makes one step: an event of one party. NotEnabled only where the event is not enabled in this world; NoRoom where
     /// memory was refused or a number would pass 2^64 - 1. Both leave the world as it was.
     pub fn step(&mut self, event: Event) -> Result<(), StepError>
         ensures ok { OnOk result (step_of (world_of self.old) event ≡ Some (world_of self.new)) }

@@ -1,16 +1,17 @@
 -- a performed deed is the step of the specification
-use Rattle.std.proofs.Common.{◌≡◌, ℕ, sym, ◌∙◌, ap, subst}
-use Rattle.std.specs.Prelude.{Some}
+use Rattle.std.proofs.Common.{◌≡◌, ℕ, refl, sym, ◌∙◌, ap, subst}
+use Rattle.std.specs.Prelude.{Some, None}
 use Rattle.rayon_machine.specs.declared.place.Party.{Party}
 use Rattle.rayon_machine.specs.declared.place.Place.{Place}
 use Rattle.rayon_machine.specs.declared.place.Move.{Move}
+use Rattle.rayon_machine.specs.declared.act.Act.{Act}
 use Rattle.rayon_machine.specs.declared.deed.Deed.{Deed}
 use Rattle.rayon_machine.specs.declared.event.Event.TheVariants.{Go}
 use Rattle.rayon_machine.specs.declared.world.World.{World as StoredWorld}
 use Rattle.rayon_machine.specs.Places.{act_of, next_of}
-use Rattle.rayon_machine.specs.World.{World}
+use Rattle.rayon_machine.specs.World.{Outcome, Stack, World}
 use Rattle.rayon_machine.specs.Steps.{acted, after, step}
-use Rattle.rayon_machine.specs.State.{IsDeed, Performed, part_at, queued, renumbered, shape_of, spot_of, world_of}
+use Rattle.rayon_machine.specs.State.{IsDeed, IsNoDeed, Performed, part_at, queued, renumbered, shape_of, spot_of, world_of}
 
 -- two worlds that agree everywhere are the same
 pub world-path : (u w : World) → u.shape ≡ w.shape → ((q : Party) → u.stack q ≡ w.stack q) → ((p i : ℕ) → u.seat p i ≡ w.seat p i) → ((p : ℕ) → u.pool p ≡ w.pool p) → ((n : ℕ) → u.call n ≡ w.call n) → ((n : ℕ) → u.job n ≡ w.job n) → u.calls ≡ w.calls → u.jobs ≡ w.jobs → u ≡ w
@@ -33,3 +34,18 @@ at-top w u q d m is to did =
 
 pub went : (w u : StoredWorld) (q : Party) (x : Place) (d : Deed) (m : Move) → x ≡ ((world_of w).stack q).top → IsDeed (shape_of w.shapes) w.parts q (act_of q x) d → m ≡ next_of ((shape_of w.shapes).pool (d.spot.pool)) q x (d.seen) → Performed w u q d m → step (world_of w) (Go q) ≡ Some (world_of u)
 went w u q x d m top is to did = at-top w u q d m (subst (λ (z : Place). IsDeed (shape_of w.shapes) w.parts q (act_of q z) d) top is) (to ∙ ap (λ z. next_of ((shape_of w.shapes).pool (d.spot.pool)) q z (d.seen)) top) did
+
+-- a world comes after each outcome of an act
+acted-enabled : (w : World) (q : Party) (s : Stack) (p i c n : ℕ) (o : Outcome) → ¬ (o ≡ None) → ¬ (acted w q s p i c n o ≡ None)
+acted-enabled w q s p i c n None some none = some refl
+acted-enabled w q s p i c n (Some r) some none = cc
+
+-- a party whose act is enabled can go
+pub can-go : (w : StoredWorld) (q : Party) (a : Act) (x : Place) → a ≡ act_of q x → x ≡ ((world_of w).stack q).top → ¬ (IsNoDeed (shape_of w.shapes) w.parts q a) → ¬ (step (world_of w) (Go q) ≡ None)
+can-go w q a x ea ex some =
+    let h = shape_of w.shapes in
+    let s = (world_of w).stack q in
+    let b = act_of q s.top in
+    let spot = spot_of h w.parts q b in
+    let there : ¬ (IsNoDeed h w.parts q b) = subst (λ (z : Act). ¬ (IsNoDeed h w.parts q z)) (ea ∙ ap (act_of q) ex) some in
+    acted-enabled (world_of w) q s (spot.pool) (spot.worker) (spot.call) (spot.job) _ there

@@ -14,8 +14,8 @@ use Rattle.rayon_machine.specs.declared.world.Parts.{Parts}
 use Rattle.rayon_machine.specs.declared.spot.Spot.{Spot}
 use Rattle.rayon_machine.specs.declared.deed.Deed.{Deed}
 use Rattle.rayon_machine.specs.Places.{own_pool, own_index}
-use Rattle.rayon_machine.specs.World.{Shape, Pool, Seat, Counts, Part, but_first, effect, empty_seen, head_of, last_of, own_left, own_of, popped, take_cast, target_call, target_job, target_pool, target_worker}
-use Rattle.rayon_machine.specs.State.{Acts, Does, DoesNot, IsDeed, IsNoDeed, aimed_job, counts_in, full, part_at, pool_at, seat_at, spot_of, touched_at, handled, is_census, is_queueing, is_sharing, looked, peeked, queued, taken}
+use Rattle.rayon_machine.specs.World.{Shape, Pool, Seat, Counts, Outcome, Part, but_first, effect, empty_seen, head_of, last_of, own_left, own_of, popped, take_cast, target_call, target_job, target_pool, target_worker}
+use Rattle.rayon_machine.specs.State.{Acts, Can, Does, DoesNot, IsDeed, IsNoDeed, aimed_job, counts_in, full, part_at, pool_at, seat_at, spot_of, touched_at, handled, is_census, is_queueing, is_sharing, looked, peeked, queued, taken}
 
 last-there : (y : ℕ) (ys : List ℕ) → last_of (y ∷ ys) ≡ None → ⊥
 last-there y [] e = cc
@@ -116,6 +116,20 @@ pub is-no-deed : (h : Shape) (w : Parts) (q : Party) (a : Act) (c : Counts) (t :
 is-no-deed h w q a c t et ec none =
     let m = part_at w (spot_of h w q a) in
     same-counts a h q c (counts_in h w (target_pool q a)) m ec ∙ ap (λ n. effect a h q c (full n m.seat.own m.pool.injector m.pool.casts)) (sym et) ∙ none h m.seat.own m.pool.injector m.pool.casts
+
+-- an act that the numbers at its spot let be done is enabled
+pub can-deed : (h : Shape) (w : Parts) (q : Party) (a : Act) (c : Counts) (t : Touched) → t ≡ touched_at w (spot_of h w q a) → (is_census a ≡ true → c ≡ counts_in h w (target_pool q a)) → Can a q c t → ¬ (IsNoDeed h w q a)
+can-deed h w q a c t et ec can none =
+    let m = part_at w (spot_of h w q a) in
+    can h m.seat.own m.pool.injector m.pool.casts (ap (λ n. effect a h q c (full n m.seat.own m.pool.injector m.pool.casts)) et ∙ sym (same-counts a h q c (counts_in h w (target_pool q a)) m ec) ∙ none)
+
+some-outcome : (o : Outcome) (r : Seen × Part) → o ≡ Some r → ¬ (o ≡ None)
+some-outcome None r e = λ _. cc
+some-outcome (Some s) r e = λ none. cc
+
+-- an act with a deed is enabled
+pub deed-enabled : (h : Shape) (w : Parts) (q : Party) (a : Act) (d : Deed) → IsDeed h w q a d → ¬ (IsNoDeed h w q a)
+deed-enabled h w q a d is = some-outcome _ _ is.effect
 
 -- the spot of an act, part by part
 pub is-spot : (h : Shape) (w : Parts) (q : Party) (a : Act) (found : Option ℕ) (o : Order) (s : Spot) → s.pool ≡ target_pool q a → s.worker ≡ target_worker q a → s.call ≡ target_call a → s.job ≡ aimed_job a found → o ≡ (h.pool (own_pool q)).order → found ≡ peeked o a q (seat_at w.benches.items (target_pool q a) (target_worker q a)).own (pool_at w.pools.items (target_pool q a)).injector (pool_at w.pools.items (target_pool q a)).casts → s ≡ spot_of h w q a

@@ -1,5 +1,5 @@
 -- runs that grow by a step
-use Rattle.std.proofs.Common.{◌≡◌, ◌<◌, ◌≤◌, ℕ, zero, suc, refl, sym, subst, List, [], ◌∷◌, Some, length, get_or, take, slice_get, IfSome, None, arith}
+use Rattle.std.proofs.Common.{◌≡◌, ◌<◌, ◌≤◌, ℕ, zero, suc, refl, sym, subst, List, [], ◌∷◌, Some, length, get_or, take, slice_get, IfSome, arith}
 use Rattle.std.proofs.lemmas.Option.{slice_get-get_or}
 use Rattle.rayon_machine.specs.declared.event.Event.{Event}
 use Rattle.rayon_machine.specs.World.{World}
@@ -19,6 +19,6 @@ run-all w [] (suc i) u l r = r
 run-all w (a ∷ es) zero u l r = absurd (omega arith)
 run-all w (a ∷ es) (suc i) u l r = (r.0, r.1, run-all r.0 es i u (omega arith) r.2)
 
--- an event that is not enabled is not enabled where it stands in the list
-pub refused-there : (es : List Event) (i : ℕ) (d : Event) (u v : World) → i < length es → v ≡ u → step u (get_or es i d) ≡ None → IfSome (slice_get es i) (λ e. step v e ≡ None)
-refused-there es i d u v l e h = subst (λ o. IfSome o (λ e. step v e ≡ None)) (sym (slice_get-get_or es i d l)) (subst (λ (x : World). step x (get_or es i d) ≡ None) (sym e) h)
+-- what holds of an event holds of it where it stands in the list
+pub holds-there : (P : World → Event → Type 0) (es : List Event) (i : ℕ) (d : Event) (u v : World) → i < length es → v ≡ u → P u (get_or es i d) → IfSome (slice_get es i) (P v)
+holds-there P es i d u v l e h = subst (λ o. IfSome o (P v)) (sym (slice_get-get_or es i d l)) (subst (λ (x : World). P x (get_or es i d)) (sym e) h)

@@ -65,6 +65,10 @@ Does a q c jec_bits t seen u = (h : Shape) (own injector : List ℕ) (casts : �
 abbrev pub DoesNot : Act → Party → Counts → Touched → Type 0
 DoesNot a q c t = (h : Shape) (own injector : List ℕ) (casts : ℕ → List ℕ) → effect a h q c (full t own injector casts) ≡ None
 
+-- the act is enabled, whatever the lists hold
+abbrev pub Can : Act → Party → Counts → Touched → Type 0
+Can a q c t = (h : Shape) (own injector : List ℕ) (casts : ℕ → List ℕ) → ¬ (effect a h q c (full t own injector casts) ≡ None)
+
 -- an act on the counters of inactive and sleeping workers, or on the turn
 abbrev pub is_counting : Act → Bool
 is_counting AddInactive = true

@@ -134,6 +134,7 @@ impl World {
     pub(crate) fn spawn(&mut self, party: Party, pool: usize) -> Result<(), StepError>
         ensures ok { OnOk result (spawned (world_of self.old) party pool ((world_of self.old).stack party) ≡ Some (world_of self.new)) }
         ensures not_enabled { IfErr result (λ e. e ≡ StepError.NotEnabled → spawned (world_of self.old) party pool ((world_of self.old).stack party) ≡ None) }
+        ensures enabled { IfErr result (λ e. e ≡ StepError.NoRoom → ¬ (spawned (world_of self.old) party pool ((world_of self.old).stack party) ≡ None)) }
         ensures err { OnErr result (world_of self.new ≡ world_of self.old) }
     {
         let frame = self.parties.top(&self.shapes, party);
@@ -156,6 +157,7 @@ impl World {
     pub(crate) fn install(&mut self, party: Party, pool: usize) -> Result<(), StepError>
         ensures ok { OnOk result (installed (world_of self.old) party pool ((world_of self.old).stack party) ≡ Some (world_of self.new)) }
         ensures not_enabled { IfErr result (λ e. e ≡ StepError.NotEnabled → installed (world_of self.old) party pool ((world_of self.old).stack party) ≡ None) }
+        ensures enabled { IfErr result (λ e. e ≡ StepError.NoRoom → ¬ (installed (world_of self.old) party pool ((world_of self.old).stack party) ≡ None)) }
         ensures err { OnErr result (world_of self.new ≡ world_of self.old) }
     {
         let frame = self.parties.top(&self.shapes, party);
@@ -185,6 +187,7 @@ impl World {
     pub(crate) fn join(&mut self, party: Party) -> Result<(), StepError>
         ensures ok { OnOk result (joined (world_of self.old) party ((world_of self.old).stack party) ≡ Some (world_of self.new)) }
         ensures not_enabled { IfErr result (λ e. e ≡ StepError.NotEnabled → joined (world_of self.old) party ((world_of self.old).stack party) ≡ None) }
+        ensures enabled { IfErr result (λ e. e ≡ StepError.NoRoom → ¬ (joined (world_of self.old) party ((world_of self.old).stack party) ≡ None)) }
         ensures err { OnErr result (world_of self.new ≡ world_of self.old) }
     {
         let frame = self.parties.top(&self.shapes, party);
@@ -271,6 +274,7 @@ impl World {
     pub(crate) fn end_pool(&mut self, party: Party, pool: usize) -> Result<(), StepError>
         ensures ok { OnOk result (given_up (world_of self.old) party pool ((world_of self.old).stack party) ≡ Some (world_of self.new)) }
         ensures not_enabled { IfErr result (λ e. e ≡ StepError.NotEnabled → given_up (world_of self.old) party pool ((world_of self.old).stack party) ≡ None) }
+        ensures enabled { IfErr result (λ e. e ≡ StepError.NoRoom → ¬ (given_up (world_of self.old) party pool ((world_of self.old).stack party) ≡ None)) }
         ensures err { OnErr result (world_of self.new ≡ world_of self.old) }
     {
         let frame = self.parties.top(&self.shapes, party);
@@ -314,6 +318,7 @@ impl World {
     pub(crate) fn end(&mut self, party: Party, ending: Ending) -> Result<(), StepError>
         ensures ok { OnOk result (ended (world_of self.old) party ending ((world_of self.old).stack party) ((world_of self.old).stack party).top ≡ Some (world_of self.new)) }
         ensures not_enabled { IfErr result (λ e. e ≡ StepError.NotEnabled → ended (world_of self.old) party ending ((world_of self.old).stack party) ((world_of self.old).stack party).top ≡ None) }
+        ensures enabled { IfErr result (λ e. e ≡ StepError.NoRoom → ¬ (ended (world_of self.old) party ending ((world_of self.old).stack party) ((world_of self.old).stack party).top ≡ None)) }
         ensures err { OnErr result (world_of self.new ≡ world_of self.old) }
     {
         match self.parties.top(&self.shapes, party) {

@@ -2,7 +2,7 @@
 ghost use Rattle.std.specs.Prelude.{IfErr, IfOk, ℕ, true, ◌≡◌};
 ghost use Rattle.rayon_machine.specs.World.{count_below};
 ghost use Rattle.rayon_machine.specs.declared.shape.Order.{Order as AnyOrder};
-ghost use Rattle.rayon_machine.specs.State.{Acts, DoesNot, IsDeed, IsNoDeed, counts_in, counts_of, is_census, seat_at, shape_of};
+ghost use Rattle.rayon_machine.specs.State.{Acts, Can, DoesNot, IsDeed, IsNoDeed, counts_in, counts_of, is_census, seat_at, shape_of};
 
 use crate::act::{Act, Seen};
 use crate::error::StepError;
@@ -48,6 +48,7 @@ impl Touched {
     ) -> Result<(Seen, Touched), StepError>
         ensures ok { IfOk result (λ r. (o : AnyOrder) → Acts o act party (counts_of census) jec_bits found self (r.0) (r.1)) }
         ensures not_enabled { IfErr result (λ e. e ≡ StepError.NotEnabled → DoesNot act party (counts_of census) self) }
+        ensures enabled { IfErr result (λ e. e ≡ StepError.NoRoom → Can act party (counts_of census) self) }
     {
         match act.kind() {
             Kind::Queueing => Ok(self.handle(act, party, found)),
@@ -97,6 +98,7 @@ impl Parts {
     pub(crate) fn deed(&self, shapes: &Shapes, party: Party, act: Act) -> Result<Deed, StepError>
         ensures ok { IfOk result (λ d. IsDeed (shape_of shapes.now) self.now party act d) }
         ensures not_enabled { IfErr result (λ e. e ≡ StepError.NotEnabled → IsNoDeed (shape_of shapes.now) self.now party act) }
+        ensures enabled { IfErr result (λ e. e ≡ StepError.NoRoom → ¬ (IsNoDeed (shape_of shapes.now) self.now party act)) }
     {
         let order = shapes.pool(party.pool()).order;
         let found = self.peek(act, party, order);

@@ -16,6 +16,7 @@ impl World {
         ensures index { IfErr result (λ e. e.0 < length events.now) }
         ensures before { IfErr result (λ e. IsRun (world_of self.old) (take e.0 events.now) (world_of self.new)) }
         ensures not_enabled { IfErr result (λ e. e.1 ≡ StepError.NotEnabled → IfSome (slice_get events.now e.0) (λ event. step_of (world_of self.new) event ≡ None)) }
+        ensures enabled { IfErr result (λ e. e.1 ≡ StepError.NoRoom → IfSome (slice_get events.now e.0) (λ event. ¬ (step_of (world_of self.new) event ≡ None))) }
     {
         for index in 0..events.len() {
             match self.step(events[index]) {

@@ -17,11 +17,13 @@ use crate::tables::{grow_calls, grow_jobs, grow_pools};
 use crate::world::{Parts, World};
 
 impl World {
-    /// Makes one step: an event of one party. NotEnabled only where the event is not enabled in this world; NoRoom where
-    /// memory was refused or a number would pass 2^64 - 1. Both leave the world as it was.
+    /// Makes one step: an event of one party. NotEnabled exactly where the event is not enabled in this world; NoRoom,
+    /// of an event that is enabled, where memory was refused or a number would pass 2^64 - 1. Both leave the world as it
+    /// was.
     pub fn step(&mut self, event: Event) -> Result<(), StepError>
         ensures ok { OnOk result (step_of (world_of self.old) event ≡ Some (world_of self.new)) }
         ensures not_enabled { IfErr result (λ e. e ≡ StepError.NotEnabled → step_of (world_of self.old) event ≡ None) }
+        ensures enabled { IfErr result (λ e. e ≡ StepError.NoRoom → ¬ (step_of (world_of self.old) event ≡ None)) }
         ensures err { OnErr result (world_of self.new ≡ world_of self.old) }
     {
         match event {
@@ -43,6 +45,7 @@ impl World {
     fn go(&mut self, party: Party) -> Result<(), StepError>
         ensures ok { OnOk result (step_of (world_of self.old) (Go party) ≡ Some (world_of self.new)) }
         ensures not_enabled { IfErr result (λ e. e ≡ StepError.NotEnabled → step_of (world_of self.old) (Go party) ≡ None) }
+        ensures enabled { IfErr result (λ e. e ≡ StepError.NoRoom → ¬ (step_of (world_of self.old) (Go party) ≡ None)) }
         ensures err { OnErr result (world_of self.new ≡ world_of self.old) }
     {
         let place = self.parties.top(&self.shapes, party);
@@ -176,6 +179,7 @@ impl World {
     fn choose(&mut self, party: Party, victim: usize) -> Result<(), StepError>
         ensures ok { OnOk result (step_of (world_of self.old) (From party victim) ≡ Some (world_of self.new)) }
         ensures not_enabled { IfErr result (λ e. e ≡ StepError.NotEnabled → step_of (world_of self.old) (From party victim) ≡ None) }
+        ensures enabled { IfErr result (λ e. e ≡ StepError.NoRoom → ¬ (step_of (world_of self.old) (From party victim) ≡ None)) }
         ensures err { OnErr result (world_of self.new ≡ world_of self.old) }
     {
         let place = self.parties.top(&self.shapes, party);
@@ -190,6 +194,7 @@ impl World {
     fn refuse(&mut self, party: Party) -> Result<(), StepError>
         ensures ok { OnOk result (step_of (world_of self.old) (Refuse party) ≡ Some (world_of self.new)) }
         ensures not_enabled { IfErr result (λ e. e ≡ StepError.NotEnabled → step_of (world_of self.old) (Refuse party) ≡ None) }
+        ensures enabled { IfErr result (λ e. e ≡ StepError.NoRoom → ¬ (step_of (world_of self.old) (Refuse party) ≡ None)) }
         ensures err { OnErr result (world_of self.new ≡ world_of self.old) }
     {
         let place = self.parties.top(&self.shapes, party);
@@ -204,6 +209,7 @@ impl World {
     fn miss(&mut self, party: Party) -> Result<(), StepError>
         ensures ok { OnOk result (step_of (world_of self.old) (Miss party) ≡ Some (world_of self.new)) }
         ensures not_enabled { IfErr result (λ e. e ≡ StepError.NotEnabled → step_of (world_of self.old) (Miss party) ≡ None) }
+        ensures enabled { IfErr result (λ e. e ≡ StepError.NoRoom → ¬ (step_of (world_of self.old) (Miss party) ≡ None)) }
         ensures err { OnErr result (world_of self.new ≡ world_of self.old) }
     {
         let place = self.parties.top(&self.shapes, party);
@@ -225,6 +231,7 @@ impl World {
     fn give_way(&mut self, party: Party, place: Place) -> Result<(), StepError>
         ensures ok { OnOk result (yielded (world_of self.old) party ((world_of self.old).stack party) place ≡ Some (world_of self.new)) }
         ensures not_enabled { IfErr result (λ e. e ≡ StepError.NotEnabled → yielded (world_of self.old) party ((world_of self.old).stack party) place ≡ None) }
+        ensures enabled { IfErr result (λ e. e ≡ StepError.NoRoom → ¬ (yielded (world_of self.old) party ((world_of self.old).stack party) place ≡ None)) }
         ensures err { OnErr result (world_of self.new ≡ world_of self.old) }
     {
         let frame = self.parties.top(&self.shapes, party);

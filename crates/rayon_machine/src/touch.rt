@@ -2,7 +2,7 @@
 //! one call and one job.
 ghost use Rattle.std.specs.Prelude.{IfErr, IfOk, min, List, true, ℕ, ◌%◌, ◌<◌, ◌^◌, ◌≡◌};
 ghost use Rattle.rayon_machine.specs.World.{at_job, begun as begun_by, is_own, is_set as set_seen, letter as letter_of, wakes_for_one as wakes_of, with_letter as with_letter_of};
-ghost use Rattle.rayon_machine.specs.State.{Does, DoesNot, counts_of, full, is_counting, is_latching, is_locking, is_sharing};
+ghost use Rattle.rayon_machine.specs.State.{Can, Does, DoesNot, counts_of, full, is_counting, is_latching, is_locking, is_sharing};
 ghost use Rattle.rayon_machine.specs.World.{Counts};
 ghost use Rattle.rayon_machine.specs.Places.{same_party};
 ghost use Rattle.rayon_machine.specs.declared.place.Party.{Party as AnyParty};
@@ -223,7 +223,8 @@ impl Touched {
     /// Raises an odd turn, and sees the event counter.
     fn announce(self, jec_bits: u32) -> Outcome
         ensures ok { IfOk result (λ r. (q : AnyParty) (c : Counts) → Does Announce q c jec_bits self (r.0) (r.1)) }
-        ensures enabled { IfErr result (λ e. e ≡ StepError.NoRoom) }
+        ensures no_room { IfErr result (λ e. e ≡ StepError.NoRoom) }
+        ensures enabled { IfErr result (λ e. (q : AnyParty) (c : Counts) → Can Announce q c self) }
     {
         if self.pool.turn % 2 == 0 {
             return Ok((Seen::Jec(event_counter(jec_bits, self.pool.turn)), self));
@@ -276,7 +277,8 @@ impl Touched {
     /// The acts on the counters of inactive and sleeping workers, and on the turn.
     pub(crate) fn counters(self, act: Act, census: Census, jec_bits: u32) -> Outcome
         ensures ok { IfOk result (λ r. is_counting act ≡ true → (q : AnyParty) → Does act q (counts_of census) jec_bits self (r.0) (r.1)) }
-        ensures enabled { IfErr result (λ e. is_counting act ≡ true → e ≡ StepError.NoRoom) }
+        ensures no_room { IfErr result (λ e. is_counting act ≡ true → e ≡ StepError.NoRoom) }
+        ensures enabled { IfErr result (λ e. is_counting act ≡ true → (q : AnyParty) (c : Counts) → Can act q c self) }
     {
         let worker = self.worker;
         match act {
@@ -380,6 +382,7 @@ impl Touched {
     pub(crate) fn latches(self, act: Act) -> Outcome
         ensures ok { IfOk result (λ r. is_latching act ≡ true → (q : AnyParty) (c : Counts) (jec_bits : ℕ) → Does act q c jec_bits self (r.0) (r.1)) }
         ensures not_enabled { IfErr result (λ e. is_latching act ≡ true → (q : AnyParty) (c : Counts) → DoesNot act q c self) }
+        ensures err { IfErr result (λ e. e ≡ StepError.NotEnabled) }
     {
         let call = self.call;
         match act {
@@ -423,6 +426,7 @@ impl Touched {
     fn lock(self, party: Party, pool: usize, worker: usize) -> Outcome
         ensures ok { IfOk result (λ r. (c : Counts) (jec_bits : ℕ) → Does (Lock pool worker) party c jec_bits self (r.0) (r.1)) }
         ensures not_enabled { IfErr result (λ e. (c : Counts) → DoesNot (Lock pool worker) party c self) }
+        ensures err { IfErr result (λ e. e ≡ StepError.NotEnabled) }
     {
         let own = party.is_worker(pool, worker);
         if self.worker.lock.is_none() && !(own && self.worker.blocked) {
@@ -442,6 +446,7 @@ impl Touched {
     fn unlock(self, party: Party) -> Outcome
         ensures ok { IfOk result (λ r. (c : Counts) (jec_bits pool worker : ℕ) → Does (Unlock pool worker) party c jec_bits self (r.0) (r.1)) }
         ensures not_enabled { IfErr result (λ e. (c : Counts) (pool worker : ℕ) → DoesNot (Unlock pool worker) party c self) }
+        ensures err { IfErr result (λ e. e ≡ StepError.NotEnabled) }
     {
         match self.worker.lock {
             Some(holder) if party.is(holder) => Ok((
@@ -475,6 +480,7 @@ impl Touched {
     pub(crate) fn locks(self, act: Act, party: Party) -> Outcome
         ensures ok { IfOk result (λ r. is_locking act ≡ true → (c : Counts) (jec_bits : ℕ) → Does act party c jec_bits self (r.0) (r.1)) }
         ensures not_enabled { IfErr result (λ e. is_locking act ≡ true → (c : Counts) → DoesNot act party c self) }
+        ensures err { IfErr result (λ e. e ≡ StepError.NotEnabled) }
     {
         match act {
             Act::Lock { pool, worker } => self.lock(party, pool, worker),
@@ -525,7 +531,8 @@ impl Touched {
     /// Takes a share of a terminate count for a job, unless the pool has ended.
     fn raise(self) -> Outcome
         ensures ok { IfOk result (λ r. (q : AnyParty) (c : Counts) (jec_bits pool job : ℕ) → Does (Raise pool job) q c jec_bits self (r.0) (r.1)) }
-        ensures enabled { IfErr result (λ e. e ≡ StepError.NoRoom) }
+        ensures no_room { IfErr result (λ e. e ≡ StepError.NoRoom) }
+        ensures enabled { IfErr result (λ e. (q : AnyParty) (c : Counts) (pool job : ℕ) → Can (Raise pool job) q c self) }
     {
         if self.pool.count == 0 {
             return Ok((Seen::Refused, self));
@@ -547,7 +554,8 @@ impl Touched {
     /// Begins the run of the job.
     fn begin(self, party: Party) -> Outcome
         ensures ok { IfOk result (λ r. (c : Counts) (jec_bits job : ℕ) → Does (Begin job) party c jec_bits self (r.0) (r.1)) }
-        ensures enabled { IfErr result (λ e. e ≡ StepError.NoRoom) }
+        ensures no_room { IfErr result (λ e. e ≡ StepError.NoRoom) }
+        ensures enabled { IfErr result (λ e. (c : Counts) (job : ℕ) → Can (Begin job) party c self) }
     {
         if self.job.runs == u64::MAX {
             return Err(StepError::NoRoom);
@@ -560,6 +568,7 @@ impl Touched {
     pub(crate) fn shares(self, act: Act, party: Party) -> Outcome
         ensures ok { IfOk result (λ r. is_sharing act ≡ true → (c : Counts) (jec_bits : ℕ) → Does act party c jec_bits self (r.0) (r.1)) }
         ensures not_enabled { IfErr result (λ e. is_sharing act ≡ true → e ≡ StepError.NotEnabled → (c : Counts) → DoesNot act party c self) }
+        ensures enabled { IfErr result (λ e. is_sharing act ≡ true → e ≡ StepError.NoRoom → (c : Counts) → Can act party c self) }
     {
         match act {
             Act::Begin(_) => self.begin(party),

@@ -1,4 +1,6 @@
 // What the program is asked to do.
+ghost use Rattle.join_bench.specs.Words.{AsksFor, AskForNothing};
+ghost use Rattle.std.specs.Prelude.{IfSome, IfNone, map, string_bytes};
 
 /// What the program is asked to do.
 #[derive(Clone, Copy)]
@@ -27,8 +29,12 @@ pub enum Command {
 }
 
 impl Command {
-    /// The command that these words are, the program's name left out. None where they are no command.
-    pub fn parse(words: &[String]) -> Option<Command> {
+    /// The command that these words are, the program's name left out. None where they are no command, or a number is not
+    /// read.
+    pub fn parse(words: &[String]) -> Option<Command>
+        ensures some { IfSome result (λ c. AsksFor (map string_bytes words.now) c) }
+        ensures none { IfNone result (AskForNothing (map string_bytes words.now)) }
+    {
         match words {
             [] => Some(Command::Values),
             [verb, times] if verb.as_str() == "install" => {

@@ -97,7 +97,10 @@ fn installed<R: Wait>(rt: &R, alloc: Global, pool: &ThreadPool<Fib>, n: u8) -> R
 }
 
 // F(n) by a join of two sides from outside the pool.
-fn joined<R: Wait>(rt: &R, alloc: Global, pool: &ThreadPool<Fib>, n: u8) -> Result<u64> {
+#[tactic(auto, using(crate::proofs::Fibs::fib_small, crate::proofs::Fibs::fib_step))]
+fn joined<R: Wait>(rt: &R, alloc: Global, pool: &ThreadPool<Fib>, n: u8) -> Result<u64>
+    ensures { IfOk result (λ v. v ≡ fib n) }
+{
     if n < 2 {
         return Ok(u64::from(n));
     }
@@ -110,6 +113,8 @@ fn joined<R: Wait>(rt: &R, alloc: Global, pool: &ThreadPool<Fib>, n: u8) -> Resu
 }
 
 // F(n) by plain recursion.
-fn plain(n: u8) -> Result<u64> {
+fn plain(n: u8) -> Result<u64>
+    ensures { IfOk result (λ v. v ≡ fib n) }
+{
     sequential(n).context("TooLarge")
 }

@@ -38,21 +38,21 @@ pub fn join_context<R: Waits<Errand>>(
     }
 }
 
-/// Joins two jobs that end so.
+/// Joins two jobs that do this.
 pub fn join_jobs<R: Waits<Errand>>(
     rt: &R,
     alloc: Global,
     w: &mut WorkerThread<Errand>,
     marks: &Arc<Marks>,
-    first: Result<Words, Words>,
-    second: Result<Words, Words>,
+    first: Deed,
+    second: Deed,
 ) -> Result<Answer, Trouble>
     requires { w.old.levels ≤ R.levels rt.now }
     ensures id { w.new.id ≡ w.old.id }
     ensures level { w.new.levels ≡ w.old.levels }
 {
-    let a = Errand::new(Name::First, marks, Deed::End(first))?;
-    let b = Errand::new(Name::Second, marks, Deed::End(second))?;
+    let a = Errand::new(Name::First, marks, first)?;
+    let b = Errand::new(Name::Second, marks, second)?;
     match w.join_jobs(rt, alloc, a, b) {
         Ok((Answer::Said(first), Answer::Said(second))) => Ok(Answer::Both(first, second)),
         Ok(_) => Err(Trouble::Unlike),

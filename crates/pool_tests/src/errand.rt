@@ -147,6 +147,8 @@ pub enum Deed {
     JoinContext(Result<(), Words>),
     /// Joins two jobs that end so.
     JoinJobs(Result<Words, Words>, Result<Words, Words>),
+    /// Joins a job that waits until the latch of these two shares is set, and a job that sets it.
+    JoinWait(Arc<CoreLatch>, Arc<CoreLatch>),
     /// Joins a closure that answers the first words, which it holds, and a job that answers the second.
     JoinClosure(Words, Words),
     /// Installs itself below as often as there are levels: this many.
@@ -226,7 +228,14 @@ impl Job for Errand {
                 Ok(Answer::Migrated(ctx.migrated()))
             }
             Deed::JoinContext(ending) => deeds::join_context(rt, alloc, w, &marks, ending),
-            Deed::JoinJobs(first, second) => deeds::join_jobs(rt, alloc, w, &marks, first, second),
+            Deed::JoinJobs(first, second) => {
+                let (first, second) = (Deed::End(first), Deed::End(second));
+                deeds::join_jobs(rt, alloc, w, &marks, first, second)
+            }
+            Deed::JoinWait(awaited, set) => {
+                let (first, second) = (Deed::WaitFor(awaited), Deed::Set(set));
+                deeds::join_jobs(rt, alloc, w, &marks, first, second)
+            }
             Deed::JoinClosure(held, words) => deeds::join_closure(
                 rt, alloc, w, &marks, held, words,
             ),

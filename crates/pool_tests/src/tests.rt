@@ -7,6 +7,7 @@ use rayon_core::{
 use rayon_words::sleep::Sleep;
 use std::alloc::Global;
 use std::process::Abort;
+use std::sync::atomic::{AtomicU64, Ordering};
 use std::sync::{Arc, Wait};
 use std::test::Fail;
 use std::thread;
@@ -333,6 +334,19 @@ fn worker_waits(rt: HostRuntime) -> Result<(), Fail> {
     Ok(())
 }
 
+// A first side that waits has its worker run the second side meanwhile, and the join finds the result that was stored.
+#[test]
+fn waiting_first_side_runs_the_second(rt: HostRuntime) -> Result<(), Fail> {
+    let alloc = rt.alloc();
+    let latch = Arc::new(alloc, CoreLatch::new())?;
+    let again = Arc::try_clone(&latch)?;
+    let pool = pool_of(&rt, alloc, 9)?;
+    let answer = installed(&rt, alloc, &pool, Deed::JoinWait(latch, again));
+    pool.end(&rt);
+    assert_eq!(rt; answer, (Ok(Answer::Both(Words::Waited, Words::Set)), 3));
+    Ok(())
+}
+
 // What each step of a core latch answers.
 #[test]
 fn core_latch_steps(rt: HostRuntime) -> Result<(), Fail> {
@@ -348,22 +362,24 @@ fn core_latch_steps(rt: HostRuntime) -> Result<(), Fail> {
     Ok(())
 }
 
-// A thread that waits on a lock latch goes on when another thread sets it, each time anew.
+// A thread that waits on a lock latch goes on when another thread sets it, and not before, each time anew.
 #[test]
 fn lock_latches(rt: HostRuntime) -> Result<(), Fail> {
-    let (there, back) = (LockLatch::new(), LockLatch::new());
-    let (there, back, handle) = (&there, &back, &rt);
+    let (there, back, rounds) = (LockLatch::new(), LockLatch::new(), AtomicU64::new(0));
+    let (there, back, rounds, handle) = (&there, &back, &rounds, &rt);
     thread::scope(thread::scope_env(), &rt, |scope| {
         let started = scope.spawn(move || {
             for _ in 0..100 {
                 there.wait_and_reset(handle);
+                rounds.fetch_add(1, Ordering::SeqCst);
                 back.set(handle);
             }
         });
         assert!(handle; started.is_ok(), "a thread was refused");
-        for _ in 0..100 {
+        for round in 1..=100 {
             there.set(handle);
             back.wait_and_reset(handle);
+            assert_eq!(handle; rounds.load(Ordering::SeqCst), round);
         }
         back.set(handle);
     });

@@ -2,7 +2,8 @@
 //!
 //! A world holds any number of pools, workers and outside callers. An event lets one party make one
 //! step: it performs the act that its place names, sees something, and goes where the table of
-//! places sends it. Nothing here starts a thread; the running pool performs the same acts.
+//! places sends it. Nothing here starts a thread: the running pool is meant to perform the same
+//! acts, which is not proved yet.
 #![tactic(auto)]
 
 pub mod act;

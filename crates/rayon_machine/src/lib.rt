@@ -4,29 +4,11 @@
 //! step: it performs the act that its place names, sees something, and goes where the table of
 //! places sends it. Nothing here starts a thread: the running pool is meant to perform the same
 //! acts, which is not proved yet.
+//!
+//! This crate only gives the names of the crates below it: `rayon_machine_places` has the places and their acts,
+//! `rayon_machine_laws` what holds in every run, and `rayon_machine_world` the world that makes the steps.
 #![tactic(auto)]
 
-pub mod act;
-mod calls;
-mod commit;
-mod deed;
-pub mod error;
-pub mod event;
-pub mod laws;
-pub mod moves;
-mod parties;
-mod parts;
-mod perform;
-pub mod place;
-pub mod readers;
-mod replays;
-pub mod shape;
-pub mod sleep_laws;
-mod spot;
-mod start;
-pub mod state;
-mod step;
-pub mod table;
-mod tables;
-pub mod touch;
-pub mod world;
+pub use rayon_machine_laws::{laws, sleep_laws};
+pub use rayon_machine_places::{act, error, event, moves, place, shape, state, table};
+pub use rayon_machine_world::{readers, world};

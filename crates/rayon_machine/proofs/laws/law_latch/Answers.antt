@@ -1,6 +1,0 @@
-use Rattle.rayon_machine.proofs.ClaimMakes.{always_calls}
-use Rattle.rayon_machine.proofs.Endings.{latched}
-use Rattle.rayon_machine.proofs.laws.law_latch.Goals as goal
-
-pub returns : goal.returns
-returns c h es w r = latched w (always_calls h es w r)

@@ -1,5 +1,0 @@
-use Rattle.rayon_machine.proofs.PlacedRuns.{always_once}
-use Rattle.rayon_machine.proofs.laws.law_once.Goals as goal
-
-pub returns : goal.returns
-returns c h es w r = always_once h es w r

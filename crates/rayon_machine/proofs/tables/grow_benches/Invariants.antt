@@ -1,9 +1,0 @@
-use Rattle.std.proofs.Common.{ℕ, ◌≡◌, ◌+◌, ◌-◌, vec_len}
-use Rattle.rayon_machine.specs.State.{seat_at}
-use Rattle.rayon_machine.proofs.tables.grow_benches.Given as goal
-
-abbrev pub invariant-fill : goal.invariant-fill
-invariant-fill l = (p i : ℕ) → seat_at l.benches.items p i ≡ seat_at l.fn.benches.items p i
-
-abbrev pub decreases-fill : goal.decreases-fill
-decreases-fill l = l.pool + 1 - vec_len l.benches

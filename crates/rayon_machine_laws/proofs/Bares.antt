@@ -1,0 +1,318 @@
+-- how often a stack holds a job that has no share: before its Raise and after its Lower
+use Rattle.std.proofs.Common.{arith}
+use Rattle.std.specs.Prelude.{ℕ, Bool, true, false, ◌&&◌, ◌+◌, ◌-◌, ◌==◌, ◌≤◌, nat_lt, if◌then◌else◌, Option, Some, None, List, [], ◌∷◌}
+use Rattle.rayon_machine_places.specs.declared.place.Party.{Party}
+use Rattle.rayon_machine_places.specs.declared.place.Party.TheVariants.{Worker, Caller}
+use Rattle.rayon_machine_places.specs.declared.place.Ending.{Ending}
+use Rattle.rayon_machine_places.specs.declared.place.Ending.TheVariants.{Fine, Fault}
+use Rattle.rayon_machine_places.specs.declared.place.JobKind.{JobKind}
+use Rattle.rayon_machine_places.specs.declared.place.JobKind.TheVariants.{Detached, Stored, Direct}
+use Rattle.rayon_machine_places.specs.declared.place.Target.{Target}
+use Rattle.rayon_machine_places.specs.declared.place.Target.TheVariants.{Termination, Answer}
+use Rattle.rayon_machine_places.specs.declared.place.Latch.{Latch}
+use Rattle.rayon_machine_places.specs.declared.place.Latch.TheVariants.{Terminate, OfCall}
+use Rattle.rayon_machine_places.specs.declared.place.Rounds.{Rounds}
+use Rattle.rayon_machine_places.specs.declared.place.Rounds.TheVariants.{Failed, Announced}
+use Rattle.rayon_machine_places.specs.declared.place.Plan.{Plan}
+use Rattle.rayon_machine_places.specs.declared.place.Plan.TheVariants.{Detach, Here, Send, Fork}
+use Rattle.rayon_machine_places.specs.declared.place.Then.{Then}
+use Rattle.rayon_machine_places.specs.declared.place.Then.TheVariants.{BeginFound, LeaveWait, Resume, Await, RunFirst, Answers, Ran, GiveBack}
+use Rattle.rayon_machine_places.specs.declared.place.Place.{Place}
+use Rattle.rayon_machine_places.specs.declared.place.Place.TheVariants.{ProbeWorking, PopWorking, TakeCastWorking, ProbeIdle, PopIdle, TakeCastIdle, PickVictim, StealFrom, PopInjected, AnnounceSelf, GetSleepy, FallAsleep, LoadCounters, AddSleeping, LookAtCast, LookAtInjector, WakeUp, LeaveSearch, JoinProbe, JoinPop, JoinTakeCast, YieldPop, YieldTakeCast, YieldPick, YieldSteal, YieldPopInjected, LocalPop, LocalTakeCast, BeginTask, BeginHere, RaiseCount, GrowCall, LookQueue, PushJob, TellNews, LockToWake, WakeWorker, UnlockWoken, TakeResult, LowerCount, StoreResult, SetLatch, LockToSettle, WakeSettled, UnlockSettled, FirstSide, SecondSide, AtOnce}
+use Rattle.rayon_machine_places.specs.declared.place.Move.{Move}
+use Rattle.rayon_machine_places.specs.declared.place.Move.TheVariants.{Stay, Enter, StartRun, Back, HandBack}
+use Rattle.rayon_machine_places.specs.declared.act.Seen.{Seen}
+use Rattle.rayon_machine_places.specs.declared.act.Seen.TheVariants.{Done, Yes, Task, Jec, Word, Start, Wakes, Begun, Found}
+use Rattle.rayon_machine_places.specs.declared.state.Whereabouts.{Whereabouts}
+use Rattle.rayon_machine_places.specs.declared.state.Whereabouts.TheVariants.{HandedBack}
+use Rattle.rayon_machine_places.specs.declared.state.Job.{Job}
+use Rattle.rayon_machine_places.specs.declared.shape.PoolShape.{PoolShape}
+use Rattle.rayon_machine_places.specs.declared.place.Wait.{Wait}
+use Rattle.rayon_machine_places.specs.declared.place.Settling.{Settling}
+use Rattle.rayon_machine_places.specs.Places.{own_pool, own_index, plan_pool, plan_job, after_wait, finish, walk, settle, after_set, after_found, after_news, goes_on, after_raise, set_call, next_victim, not_self, after_failure, next_steal, next_yield, next_of}
+use Rattle.rayon_machine_places.specs.World.{Stack, at_job, begun}
+use Rattle.rayon_machine_places.specs.Steps.{put, after_move, jobs_after, after_close}
+use Rattle.rayon_machine_laws.specs.Once.{one}
+use Rattle.rayon_machine_laws.specs.Shares.{share_of}
+use Rattle.rayon_machine_laws.proofs.Hands.{hand_plan, hand_then, hand, held_in, held}
+use Rattle.rayon_machine_laws.proofs.Amounts.{paid}
+
+-- a refused call's jobs, once its share is given back
+abbrev pub bare_then : ℕ → Then → ℕ
+bare_then t (GiveBack n) = hand_plan t n
+bare_then t _ = 0
+
+-- how often a place has job t in hand without a share: all jobs of a call before its Raise and after its undoing Lower, and in between a join's first side
+abbrev pub bare : ℕ → Place → ℕ
+bare t (RaiseCount n) = hand_plan t n
+bare t (GrowCall n) = hand_plan t n - one (t == plan_job n)
+bare t (LookQueue n) = hand_plan t n - one (t == plan_job n)
+bare t (PushJob n e) = hand_plan t n - one (t == plan_job n)
+bare t (LockToWake k) = bare_then t k.then
+bare t (WakeWorker k) = bare_then t k.then
+bare t (UnlockWoken k) = bare_then t k.then
+bare t (LowerCount p s n) = bare_then t n - share_of t s
+bare t (SetLatch k) = bare_then t k.then
+bare t (LockToSettle k) = bare_then t k.then
+bare t (WakeSettled k) = bare_then t k.then
+bare t (UnlockSettled k) = bare_then t k.then
+bare t _ = 0
+
+abbrev pub bare_in : ℕ → List Place → ℕ
+bare_in t [] = 0
+bare_in t (f ∷ fs) = bare t f + bare_in t fs
+
+abbrev pub all_bare : ℕ → Stack → ℕ
+all_bare t k = bare t k.top + bare_in t k.below
+
+abbrev pub bare_move : ℕ → Move → ℕ
+bare_move t (Stay y) = bare t y
+bare_move t (Enter f y) = bare t y + bare t f
+bare_move t (StartRun f a) = bare t f
+bare_move t Back = 0
+bare_move t (HandBack n) = hand_plan t n
+
+-- 1 for a job that is handed back
+abbrev pub backs : Whereabouts → ℕ
+backs HandedBack = 1
+backs _ = 0
+
+bare_hand_then : (t : ℕ) (n : Then) → bare_then t n ≤ hand_then t n
+bare_hand_then t (GiveBack n) = omega arith
+bare_hand_then t _ = omega arith
+
+-- what is so held is in hand
+bare_hand : (t : ℕ) (x : Place) → bare t x ≤ hand t x
+bare_hand t (LockToWake k) = bare_hand_then t k.then
+bare_hand t (WakeWorker k) = bare_hand_then t k.then
+bare_hand t (UnlockWoken k) = bare_hand_then t k.then
+bare_hand t (LowerCount p s n) = let a : bare_then t n ≤ hand_then t n = bare_hand_then t n in omega (arith, a)
+bare_hand t (SetLatch k) = bare_hand_then t k.then
+bare_hand t (LockToSettle k) = bare_hand_then t k.then
+bare_hand t (WakeSettled k) = bare_hand_then t k.then
+bare_hand t (UnlockSettled k) = bare_hand_then t k.then
+bare_hand t _ = omega arith
+
+bare_held_in : (t : ℕ) (fs : List Place) → bare_in t fs ≤ held_in t fs
+bare_held_in t [] = omega arith
+bare_held_in t (f ∷ fs) = let a : bare t f ≤ hand t f = bare_hand t f in let b : bare_in t fs ≤ held_in t fs = bare_held_in t fs in omega (arith, a, b)
+
+pub bare_held : (t : ℕ) (k : Stack) → all_bare t k ≤ held t k
+bare_held t k = let a : bare t k.top ≤ hand t k.top = bare_hand t k.top in let b : bare_in t k.below ≤ held_in t k.below = bare_held_in t k.below in omega (arith, a, b)
+
+pub bare_raised : (t : ℕ) (n : Plan) → bare_move t (after_raise n) + one (t == plan_job n) ≤ hand_plan t n
+bare_raised t (Detach r u) = omega arith
+bare_raised t (Here r u) = omega arith
+bare_raised t (Send o) = omega arith
+bare_raised t (Fork o a) = omega arith
+
+bare_left : (t : ℕ) (g : Target) → bare_move t (Stay (after_wait g)) ≤ 0
+bare_left t Termination = omega arith
+bare_left t (Answer o f) = omega arith
+
+bare_finish : (t : ℕ) (q : Party) (n : Then) → bare_move t (finish q n) ≤ bare_then t n
+bare_finish t q (BeginFound g u) = omega arith
+bare_finish t q (LeaveWait g) = bare_left t g
+bare_finish t q Resume = omega arith
+bare_finish t (Worker a b) (Await o) = omega arith
+bare_finish t (Caller c) (Await o) = omega arith
+bare_finish t q (RunFirst o a) = omega arith
+bare_finish t q (Answers o f e) = omega arith
+bare_finish t q (Ran u e) = omega arith
+bare_finish t q (GiveBack n) = omega arith
+
+bare_walk : (t : ℕ) (g : PoolShape) (q : Party) (r k i : ℕ) (n : Then) → bare_move t (walk g q r k i n) ≤ bare_then t n
+bare_walk t g q r k i n = by (nat_lt 0 k && nat_lt i g.workers)
+  where
+    by : (z : Bool) → bare_move t (if z then Stay (LockToWake (record { pool = r; owed = k; worker = i; then = n })) else finish q n) ≤ bare_then t n
+    by true = omega arith
+    by false = bare_finish t q n
+
+bare_settle : (t : ℕ) (g : PoolShape) (q : Party) (r i : ℕ) (n : Then) → bare_move t (settle g q r i n) ≤ bare_then t n
+bare_settle t g q r i n = by (nat_lt i g.workers)
+  where
+    by : (z : Bool) → bare_move t (if z then Stay (SetLatch (record { latch = Terminate; pool = r; worker = i; then = n })) else finish q n) ≤ bare_then t n
+    by true = omega arith
+    by false = bare_finish t q n
+
+bare_settled : (t : ℕ) (g : PoolShape) (q : Party) (k : Settling) (l : Latch) → bare_move t (after_set g q k l) ≤ bare_then t k.then
+bare_settled t g q k Terminate = bare_settle t g q k.pool (k.worker + 1) k.then
+bare_settled t g q k (OfCall i) = bare_finish t q k.then
+
+bare_if : (t n : ℕ) (x y : Move) (z : Bool) → bare_move t x ≤ n → bare_move t y ≤ n → bare_move t (if z then x else y) ≤ n
+bare_if t n x y true a b = a
+bare_if t n x y false a b = b
+
+bare_steal : (t : ℕ) (g : PoolShape) (q : Party) (k : Wait) (n : ℕ) → bare_move t (Stay (next_steal g q k n)) ≤ 0
+bare_steal t g q k n = by (n == 0)
+  where
+    by : (z : Bool) → bare_move t (Stay (if z then PopInjected k else StealFrom (record k { victim = not_self g.workers (own_index q) (next_victim g.workers k.victim) }) (n - 1))) ≤ 0
+    by true = omega arith
+    by false = omega arith
+
+bare_yield : (t : ℕ) (g : PoolShape) (q : Party) (v n : ℕ) → bare_move t (Stay (next_yield g q v n)) ≤ 0
+bare_yield t g q v n = by (n == 0)
+  where
+    by : (z : Bool) → bare_move t (Stay (if z then YieldPopInjected else YieldSteal (not_self g.workers (own_index q) (next_victim g.workers v)) (n - 1))) ≤ 0
+    by true = omega arith
+    by false = omega arith
+
+bare_failed : (t : ℕ) (g : PoolShape) (k : Wait) (r : Rounds) → bare_move t (Stay (after_failure g k r)) ≤ 0
+bare_failed t g k (Failed n) = by (nat_lt n g.limit)
+  where
+    by : (z : Bool) → bare_move t (Stay (if z then ProbeIdle (record k { rounds = Failed (n + 1) }) else AnnounceSelf k)) ≤ 0
+    by true = omega arith
+    by false = omega arith
+bare_failed t g k Announced = omega arith
+
+bare_goes : (t : ℕ) (n : Plan) → bare_then t (after_news n) ≤ 0
+bare_goes t (Detach r u) = omega arith
+bare_goes t (Here r u) = omega arith
+bare_goes t (Send o) = omega arith
+bare_goes t (Fork o a) = omega arith
+
+bare_after : (t : ℕ) (g : Target) (o : Option ℕ) → bare_then t (after_found g o) ≤ 0
+bare_after t g None = omega arith
+bare_after t g (Some u) = omega arith
+
+bare_set : (t : ℕ) (c : ℕ) (o : Party) → bare_move t (Stay (set_call c o)) ≤ 0
+bare_set t c (Worker a b) = omega arith
+bare_set t c (Caller n) = omega arith
+
+-- over the whole table: no move leads to more of them, but for the share that is given back
+pub bares : (g : PoolShape) (q : Party) (t : ℕ) (x : Place) (e : Seen) → bare_move t (next_of g q x e) ≤ bare t x + paid t x
+bares g q t (ProbeWorking k) Yes = let a : bare_move t (Stay (after_wait k.target)) ≤ 0 = bare_left t k.target in omega (arith, a)
+bares g q t (ProbeWorking k) _ = omega arith
+bares g q t (PopWorking k) (Task u) = omega arith
+bares g q t (PopWorking k) _ = omega arith
+bares g q t (TakeCastWorking k) (Task u) = omega arith
+bares g q t (TakeCastWorking k) _ = omega arith
+bares g q t (ProbeIdle k) Yes = omega arith
+bares g q t (ProbeIdle k) _ = omega arith
+bares g q t (PopIdle k) (Task u) = omega arith
+bares g q t (PopIdle k) _ = omega arith
+bares g q t (TakeCastIdle k) (Task u) = omega arith
+bares g q t (TakeCastIdle k) _ = let a : bare_move t (if g.workers == 1 then Stay (PopInjected k) else Stay (PickVictim k)) ≤ 0 = bare_if t 0 (Stay (PopInjected k)) (Stay (PickVictim k)) (g.workers == 1) (omega arith) (omega arith) in omega (arith, a)
+bares g q t (PickVictim k) (Start v) = omega arith
+bares g q t (PickVictim k) _ = omega arith
+bares g q t (StealFrom k n) (Task u) = omega arith
+bares g q t (StealFrom k n) _ = let a : bare_move t (Stay (next_steal g q k n)) ≤ 0 = bare_steal t g q k n in omega (arith, a)
+bares g q t (PopInjected k) (Task u) = omega arith
+bares g q t (PopInjected k) _ = let a : bare_move t (Stay (after_failure g k k.rounds)) ≤ 0 = bare_failed t g k k.rounds in omega (arith, a)
+bares g q t (AnnounceSelf k) (Jec j) = omega arith
+bares g q t (AnnounceSelf k) _ = omega arith
+bares g q t (GetSleepy k) Done = omega arith
+bares g q t (GetSleepy k) _ = omega arith
+bares g q t (FallAsleep k) Done = omega arith
+bares g q t (FallAsleep k) _ = omega arith
+bares g q t (AddSleeping k) Done = omega arith
+bares g q t (AddSleeping k) _ = omega arith
+bares g q t (LookAtCast k) Yes = omega arith
+bares g q t (LookAtCast k) _ = omega arith
+bares g q t (LookAtInjector k) Yes = omega arith
+bares g q t (LookAtInjector k) _ = omega arith
+bares g q t (LoadCounters k) (Word a1 b1 j) = let a : bare_move t (if j == k.kept then Stay (AddSleeping (record k { sleeping = a1; inactive = b1 })) else Stay (WakeUp (record k { rounds = Failed g.limit }))) ≤ 0 = bare_if t 0 (Stay (AddSleeping (record k { sleeping = a1; inactive = b1 }))) (Stay (WakeUp (record k { rounds = Failed g.limit }))) (j == k.kept) (omega arith) (omega arith) in omega (arith, a)
+bares g q t (LoadCounters k) _ = omega arith
+bares g q t (LeaveSearch k) (Wakes n) = let a : bare_move t (walk g q (own_pool q) n 0 (after_found k.target k.found)) ≤ bare_then t (after_found k.target k.found) = bare_walk t g q (own_pool q) n 0 (after_found k.target k.found) in let b : bare_then t (after_found k.target k.found) ≤ 0 = bare_after t k.target k.found in omega (arith, a, b)
+bares g q t (LeaveSearch k) _ = omega arith
+bares g q t (JoinProbe o) Yes = omega arith
+bares g q t (JoinProbe o) _ = omega arith
+bares g q t (JoinPop o) (Task u) = let a : bare_move t (if u == o.job then Enter (SecondSide o) (BeginHere u) else Enter (JoinProbe o) (BeginTask u)) ≤ 0 = bare_if t 0 (Enter (SecondSide o) (BeginHere u)) (Enter (JoinProbe o) (BeginTask u)) (u == o.job) (omega arith) (omega arith) in omega (arith, a)
+bares g q t (JoinPop o) _ = omega arith
+bares g q t (JoinTakeCast o) (Task u) = omega arith
+bares g q t (JoinTakeCast o) _ = omega arith
+bares g q t YieldPop (Task u) = omega arith
+bares g q t YieldPop _ = omega arith
+bares g q t YieldPopInjected (Task u) = omega arith
+bares g q t YieldPopInjected _ = omega arith
+bares g q t LocalPop (Task u) = omega arith
+bares g q t LocalPop _ = omega arith
+bares g q t LocalTakeCast (Task u) = omega arith
+bares g q t LocalTakeCast _ = omega arith
+bares g q t YieldTakeCast (Task u) = omega arith
+bares g q t YieldTakeCast _ = let a : bare_move t (if g.workers == 1 then Stay YieldPopInjected else Stay YieldPick) ≤ 0 = bare_if t 0 (Stay YieldPopInjected) (Stay YieldPick) (g.workers == 1) (omega arith) (omega arith) in omega (arith, a)
+bares g q t YieldPick (Start v) = omega arith
+bares g q t YieldPick _ = omega arith
+bares g q t (YieldSteal v n) (Task u) = omega arith
+bares g q t (YieldSteal v n) _ = let a : bare_move t (Stay (next_yield g q v n)) ≤ 0 = bare_yield t g q v n in omega (arith, a)
+bares g q t (BeginTask u) (Begun d) = omega arith
+bares g q t (BeginTask u) _ = omega arith
+bares g q t (RaiseCount n) Done = let a : bare_move t (after_raise n) + one (t == plan_job n) ≤ hand_plan t n = bare_raised t n in omega (arith, a)
+bares g q t (RaiseCount n) _ = omega arith
+bares g q t (GrowCall n) Done = omega arith
+bares g q t (GrowCall n) _ = omega arith
+bares g q t (LookQueue n) Yes = omega arith
+bares g q t (LookQueue n) _ = omega arith
+bares g q t (PushJob n v) Done = omega arith
+bares g q t (PushJob n v) e = omega arith
+bares g q t (TellNews n v) (Wakes k) = let a : bare_move t (walk g q (plan_pool n) k 0 (after_news n)) ≤ bare_then t (after_news n) = bare_walk t g q (plan_pool n) k 0 (after_news n) in let b : bare_then t (after_news n) ≤ 0 = bare_goes t n in omega (arith, a, b)
+bares g q t (TellNews n v) _ = omega arith
+bares g q t (WakeWorker k) Yes = omega arith
+bares g q t (WakeWorker k) _ = omega arith
+bares g q t (UnlockWoken k) e = let a : bare_move t (walk g q k.pool k.owed (k.worker + 1) k.then) ≤ bare_then t k.then = bare_walk t g q k.pool k.owed (k.worker + 1) k.then in omega (arith, a)
+bares g q t (TakeResult o f) (Found d) = omega arith
+bares g q t (TakeResult o f) _ = omega arith
+bares g q t (LowerCount r s n) Yes = let a : bare_move t (settle g q r 0 n) ≤ bare_then t n = bare_settle t g q r 0 n in omega (arith, a)
+bares g q t (LowerCount r s n) _ = let a : bare_move t (finish q n) ≤ bare_then t n = bare_finish t q n in omega (arith, a)
+bares g q t (StoreResult i o d) e = let a : bare_move t (Stay (set_call i o)) ≤ 0 = bare_set t i o in omega (arith, a)
+bares g q t (SetLatch k) Yes = omega arith
+bares g q t (SetLatch k) _ = let a : bare_move t (after_set g q k k.latch) ≤ bare_then t k.then = bare_settled t g q k k.latch in omega (arith, a)
+bares g q t (UnlockSettled k) e = let a : bare_move t (after_set g q k k.latch) ≤ bare_then t k.then = bare_settled t g q k k.latch in omega (arith, a)
+bares g q t _ e = omega arith
+
+put_back : (J : ℕ → Job) (a t : ℕ) → backs (put J a (at_job (J a) HandedBack) t).at ≤ one (t == a) + backs (J t).at
+put_back J a t = by (t == a)
+  where
+    by : (z : Bool) → backs (if z then at_job (J a) HandedBack else J t).at ≤ one z + backs (J t).at
+    by true = omega arith
+    by false = omega arith
+
+pub land_only : (t : ℕ) (g : Move) (fs : List Place) → all_bare t (after_move g fs) ≤ bare_move t g + bare_in t fs
+land_only t (Stay y) fs = omega arith
+land_only t (Enter f y) fs = omega arith
+land_only t (StartRun f a) fs = omega arith
+land_only t Back [] = omega arith
+land_only t Back (f ∷ fs) = omega arith
+land_only t (HandBack n) [] = omega arith
+land_only t (HandBack n) (f ∷ fs) = omega arith
+
+-- a move hands back no more than it held
+pub land_bare : (q : Party) (t : ℕ) (g : Move) (fs : List Place) (J : ℕ → Job) → all_bare t (after_move g fs) + backs (jobs_after q g J t).at ≤ bare_move t g + bare_in t fs + backs (J t).at
+land_bare q t (Stay y) fs J = omega arith
+land_bare q t (Enter f y) fs J = omega arith
+land_bare q t (StartRun f a) fs J = by (t == a)
+  where
+    by : (z : Bool) → all_bare t (after_move (StartRun f a) fs) + backs (if z then begun q (J a) else J t).at ≤ bare t f + bare_in t fs + backs (J t).at
+    by true = omega arith
+    by false = omega arith
+land_bare q t Back [] J = omega arith
+land_bare q t Back (f ∷ fs) J = omega arith
+land_bare q t (HandBack n) fs J = let a : backs (jobs_after q (HandBack n) J t).at ≤ hand_plan t n + backs (J t).at = plan n in let b : all_bare t (after_move (HandBack n) fs) ≤ bare_in t fs = frames fs in omega (arith, a, b)
+  where
+    frames : (fs : List Place) → all_bare t (after_move (HandBack n) fs) ≤ bare_in t fs
+    frames [] = omega arith
+    frames (f ∷ fs) = omega arith
+
+    plan : (n : Plan) → backs (jobs_after q (HandBack n) J t).at ≤ hand_plan t n + backs (J t).at
+    plan (Detach p a) = put_back J a t
+    plan (Here p a) = put_back J a t
+    plan (Send o) = put_back J (o.job) t
+    plan (Fork o a) = let b : backs (put J a (at_job (J a) HandedBack) t).at ≤ one (t == a) + backs (J t).at = put_back J a t in by (t == o.job) b
+      where
+        by : (z : Bool) → backs (put J a (at_job (J a) HandedBack) t).at ≤ one (t == a) + backs (J t).at → backs (if z then at_job (J (o.job)) HandedBack else put J a (at_job (J a) HandedBack) t).at ≤ one (t == a) + one z + backs (J t).at
+        by true b = omega arith
+        by false b = omega (arith, b)
+
+-- the end of a run leads to no more
+bare_on : (s : ℕ) (f : Place) (e : Ending) → bare s (goes_on f e) ≤ bare s f
+bare_on s (FirstSide o a) Fine = omega arith
+bare_on s (FirstSide o a) Fault = omega arith
+bare_on s (SecondSide o) e = omega arith
+bare_on s (AtOnce p t) e = omega arith
+bare_on s f e = omega arith
+
+pub closed_bare : (s t : ℕ) (k : JobKind) (e : Ending) (fs : List Place) → all_bare s (after_close t k e fs) ≤ bare_in s fs
+closed_bare s t (Detached p) e fs = omega arith
+closed_bare s t (Stored c o) e fs = omega arith
+closed_bare s t Direct e [] = omega arith
+closed_bare s t Direct e (f ∷ fs) = let a : bare s (goes_on f e) ≤ bare s f = bare_on s f e in omega (arith, a)

@@ -1,0 +1,250 @@
+-- the end of a run and the making of calls keep what the places say; and so does each step
+use Rattle.std.proofs.Common.{arith, refl, sym, ◌∙◌, ap, subst, inl, inr}
+use Rattle.std.specs.Prelude.{ℕ, Bool, true, false, ◌&&◌, ◌+◌, ◌==◌, ◌≤◌, ◌<◌, nat_lt, if◌then◌else◌, Option, Some, None, List, [], ◌≡◌, IfSome}
+use Rattle.std.proofs.lemmas.Bool.{eqb-true, eq-eqb, ltb-true, ltb-false}
+use Rattle.std.proofs.Math.Dec.{ltb}
+use Rattle.rayon_machine_places.specs.declared.place.Party.{Party}
+use Rattle.rayon_machine_places.specs.declared.place.Party.TheVariants.{Worker, Caller}
+use Rattle.rayon_machine_places.specs.declared.place.Ending.{Ending}
+use Rattle.rayon_machine_places.specs.declared.place.JobKind.{JobKind}
+use Rattle.rayon_machine_places.specs.declared.place.JobKind.TheVariants.{Detached, Stored, Direct}
+use Rattle.rayon_machine_places.specs.declared.place.Target.TheVariants.{Termination}
+use Rattle.rayon_machine_places.specs.declared.place.Plan.{Plan}
+use Rattle.rayon_machine_places.specs.declared.place.Plan.TheVariants.{Detach, Here, Send, Fork}
+use Rattle.rayon_machine_places.specs.declared.place.Place.{Place}
+use Rattle.rayon_machine_places.specs.declared.place.Place.TheVariants.{ProbeWorking, YieldPop, LocalPop, Run, RaiseCount, Free, Stopped}
+use Rattle.rayon_machine_places.specs.declared.event.Event.{Event}
+use Rattle.rayon_machine_places.specs.declared.event.Event.TheVariants.{Go, From, Refuse, Miss, End, Spawn, Install, Join, Yield, YieldLocal, EndPool}
+use Rattle.rayon_machine_places.specs.declared.state.Letter.TheVariants.{Set as IsSet}
+use Rattle.rayon_machine_places.specs.declared.state.Whereabouts.TheVariants.{Over}
+use Rattle.rayon_machine_places.specs.declared.state.Job.{Job}
+use Rattle.rayon_machine_places.specs.declared.state.Call.{Call}
+use Rattle.rayon_machine_places.specs.Places.{is_member, fresh, act_of, is_free}
+use Rattle.rayon_machine_places.specs.World.{Shape, World, target_pool, target_worker, target_call, at_job}
+use Rattle.rayon_machine_places.specs.Steps.{put, put_stack, after_close, after_end, after_call, is_pool, new_job, new_call, after_spawn, after_send, after_install, after_join, step}
+use Rattle.rayon_machine_places.specs.Runs.{start, IsRun}
+use Rattle.rayon_machine_places.specs.Readers.{is_done}
+use Rattle.rayon_machine_laws.proofs.Frame.{either, and_parts, if_cond, acted_keeps}
+use Rattle.rayon_machine_laws.proofs.Ties.{job_at, outcome}
+use Rattle.rayon_machine_laws.proofs.Events.{run_keeps}
+use Rattle.rayon_machine_laws.proofs.PlacedEvents.{IsFinal, final_left, Advance}
+use Rattle.rayon_machine_laws.proofs.PlacedRuns.{step_advance, first_jobs}
+use Rattle.rayon_machine_laws.proofs.Claims.{MadeAs, is_detached, SaysPlan, SaysRun, StackSays}
+use Rattle.rayon_machine_laws.proofs.Later.{Later, later_done, later_says, later_all}
+use Rattle.rayon_machine_laws.proofs.ClaimActs.{put_same, put_new, put_old}
+use Rattle.rayon_machine_laws.proofs.ClaimRuns.{CallsHold, all_says, go_calls}
+use Rattle.rayon_machine_laws.proofs.ClaimEvents.{both, from_calls, refuse_calls, miss_calls, called_says, yield_calls, give_calls, ended_world, says_closed}
+
+final_over : (w u : World) → Advance w u → (t : ℕ) (e : Ending) → (w.job t).at ≡ Over e → (u.job t).at ≡ Over e
+final_over w u a t e z = subst (λ v. IsFinal v ((u.job t).at)) z (a.final t)
+
+pub end_calls : (w : World) (q : Party) (d : Ending) (x : Place) (fs : List Place) → w.stack q ≡ record { top = x; below = fs } → CallsHold w → IfSome (after_end w q d (record { top = x; below = fs }) x) (λ u. Advance w u → CallsHold u)
+end_calls w q d (Run t k) fs z h = λ a. done a
+  where
+    u : World
+    u = ended_world w q d t k fs
+
+    now : ((ended_world w q d t k fs).job t).at ≡ Over d
+    now = ap (λ j. j.at) (put_new w.job t (at_job (w.job t) (Over d)))
+
+    old : StackSays w q (record { top = Run t k; below = fs })
+    old = subst (λ s. StackSays w q s) z (h.says q)
+
+    later : Advance w (ended_world w q d t k fs) → Later w (ended_world w q d t k fs)
+    later a = record { jobs = omega arith; calls = omega arith; over = final_over w (ended_world w q d t k fs) a; left = λ s z. final_left ((w.job s).at) (((ended_world w q d t k fs).job s).at) (a.final s) z; kind = λ s b. put_same (λ j. j.kind) w.job t (at_job (w.job t) (Over d)) s refl; pool = λ s b. put_same (λ j. j.pool) w.job t (at_job (w.job t) (Over d)) s refl; target = λ c b. refl; side = λ c b. refl; ended = λ p y. y; given = λ p y. y }
+
+    detached : (p : ℕ) → k ≡ Detached p → (w.job t).pool ≡ p
+    detached p e = let s : SaysRun w t (Detached p) = subst (λ k. SaysRun w t k) e (old.top) in h.pools t (s.0) p (s.1)
+
+    done : Advance w (ended_world w q d t k fs) → CallsHold (ended_world w q d t k fs)
+    done a = record {
+      jobs = record { ok = record { placed = a.placed; fit = a.fit }; unmade = a.unmade };
+      says = all_says w (ended_world w q d t k fs) (later a) q (after_close t k d fs)
+          (says_closed w (ended_world w q d t k fs) q d t k fs h (later a) (λ c. refl) now (put_same (λ j. j.pool) w.job t (at_job (w.job t) (Over d)) t refl) (later_says w (ended_world w q d t k fs) (later a) q (Run t k) (old.top)) (old.top) detached (later_all w (ended_world w q d t k fs) (later a) q fs (old.below)) (old.links)) (h.says);
+      ties = λ s b c o y. h.ties s b c o (sym (put_same (λ j. j.kind) w.job t (at_job (w.job t) (Over d)) s refl) ∙ y);
+      pools = λ s b p y. put_same (λ j. j.pool) w.job t (at_job (w.job t) (Over d)) s refl ∙ h.pools s b p (sym (put_same (λ j. j.kind) w.job t (at_job (w.job t) (Over d)) s refl) ∙ y);
+      cells = λ c e y. (later a).over ((w.call c).job) e (h.cells c e y);
+      latches = λ c y. later_done w (ended_world w q d t k fs) (later a) ((w.call c).job) (h.latches c y);
+      ends = h.ends;
+    }
+end_calls w q d _ fs z h = tt
+
+-- the world in which a party's call has begun
+abbrev pub calling : World → Party → Plan → (ℕ → Call) → (ℕ → Job) → ℕ → ℕ → World
+calling w q n C J c j = record w { stack = put_stack w.stack q (after_call (w.stack q) (RaiseCount n)); call = C; job = J; calls = c; jobs = j }
+
+-- what is to be shown of the new jobs and the new call
+pub record Makes (w u : World) (q : Party) (n : Plan) : Type 0 where
+  pub later : Later w u
+  pub says : SaysPlan u q n
+  pub ties : (t : ℕ) → t + 1 ≤ u.jobs → (c : ℕ) (o : Party) → (u.job t).kind ≡ Stored c o → (c + 1 ≤ u.calls) × ((u.call c).job ≡ t)
+  pub pools : (t : ℕ) → t + 1 ≤ u.jobs → (p : ℕ) → (u.job t).kind ≡ Detached p → (u.job t).pool ≡ p
+  pub cells : (c : ℕ) (e : Ending) → (u.call c).cell ≡ Some e → (u.job (u.call c).job).at ≡ Over e
+  pub latches : (c : ℕ) → (u.call c).latch ≡ IsSet → is_done (u.job (u.call c).job).at ≡ true
+
+made_calls : (w : World) (q : Party) (n : Plan) (C : ℕ → Call) (J : ℕ → Job) (c j : ℕ) → is_free (w.stack q).top ≡ true → CallsHold w → Makes w (calling w q n C J c j) q n → Advance w (calling w q n C J c j) → CallsHold (calling w q n C J c j)
+made_calls w q n C J c j f h m a = record {
+  jobs = record { ok = record { placed = a.placed; fit = a.fit }; unmade = a.unmade };
+  says = all_says w (calling w q n C J c j) (m.later) q (after_call (w.stack q) (RaiseCount n)) (called_says w (calling w q n C J c j) (m.later) q (RaiseCount n) f (m.says) h) (h.says);
+  ties = m.ties;
+  pools = m.pools;
+  cells = m.cells;
+  latches = m.latches;
+  ends = h.ends;
+}
+
+-- a number below another is not it
+pub below_new : (t n : ℕ) → t + 1 ≤ n → (t == n) ≡ false
+below_new t n b = elim (either (t == n)) [ inl y ↦ absurd (let z : t ≡ n = eqb-true t n y in omega (arith, z, b)) | inr z ↦ z ]
+
+below_or : (t n : ℕ) → (t == n) ≡ false → t + 1 ≤ n + 1 → t + 1 ≤ n
+below_or t n e b = elim (either (ltb t n)) [ inl y ↦ (let z : t < n = ltb-true t n y in omega (arith, z)) | inr y ↦ absurd (let z : n ≤ t = ltb-false t n y in let k : t ≡ n = omega (arith, z, b) in let g : (t == n) ≡ true = eq-eqb t n k in cc) ]
+
+-- a call that makes one job and waits for nobody
+plain_makes : (w : World) (q : Party) (n : Plan) (p : ℕ) (k : JobKind) → ((c : ℕ) (o : Party) → k ≡ Stored c o → ⊥) → ((r : ℕ) → k ≡ Detached r → p ≡ r) → ((u : World) → MadeAs u w.jobs p k → SaysPlan u q n) → CallsHold w → Advance w (calling w q n w.call (put w.job w.jobs (new_job q p k)) w.calls (w.jobs + 1)) → Makes w (calling w q n w.call (put w.job w.jobs (new_job q p k)) w.calls (w.jobs + 1)) q n
+plain_makes w q n p k ns dp sp h a = record {
+  later = later;
+  says = sp (calling w q n w.call (put w.job w.jobs (new_job q p k)) w.calls (w.jobs + 1)) (record { made = omega arith; kind = ap (λ j. j.kind) (put_new w.job w.jobs (new_job q p k)); pool = ap (λ j. j.pool) (put_new w.job w.jobs (new_job q p k)) });
+  ties = λ t b c o z. ties t b c o (t == w.jobs) refl z;
+  pools = λ t b r z. pools t b r (t == w.jobs) refl z;
+  cells = λ c e z. later.over ((w.call c).job) e (h.cells c e z);
+  latches = λ c z. later_done w (calling w q n w.call (put w.job w.jobs (new_job q p k)) w.calls (w.jobs + 1)) later ((w.call c).job) (h.latches c z);
+}
+  where
+    later : Later w (calling w q n w.call (put w.job w.jobs (new_job q p k)) w.calls (w.jobs + 1))
+    later = record { jobs = omega arith; calls = omega arith; over = final_over w (calling w q n w.call (put w.job w.jobs (new_job q p k)) w.calls (w.jobs + 1)) a; left = λ t z. final_left ((w.job t).at) ((((calling w q n w.call (put w.job w.jobs (new_job q p k)) w.calls (w.jobs + 1))).job t).at) (a.final t) z; kind = λ t b. ap (λ j. j.kind) (put_old w.job w.jobs (new_job q p k) t (below_new t w.jobs b)); pool = λ t b. ap (λ j. j.pool) (put_old w.job w.jobs (new_job q p k) t (below_new t w.jobs b)); target = λ c b. refl; side = λ c b. refl; ended = λ r z. z; given = λ r z. z }
+
+    ties : (t : ℕ) → t + 1 ≤ w.jobs + 1 → (c : ℕ) (o : Party) (z : Bool) → (t == w.jobs) ≡ z → (if z then new_job q p k else w.job t).kind ≡ Stored c o → (c + 1 ≤ w.calls) × ((w.call c).job ≡ t)
+    ties t b c o true e y = absurd (ns c o y)
+    ties t b c o false e y = h.ties t (below_or t w.jobs e b) c o y
+
+    pools : (t : ℕ) → t + 1 ≤ w.jobs + 1 → (r : ℕ) (z : Bool) → (t == w.jobs) ≡ z → (if z then new_job q p k else w.job t).kind ≡ Detached r → (if z then new_job q p k else w.job t).pool ≡ r
+    pools t b r true e y = dp r y
+    pools t b r false e y = h.pools t (below_or t w.jobs e b) r y
+
+-- a new call's cell is empty and its latch unset
+new_cells : (w u : World) (f : Option ℕ) (s : ℕ) → CallsHold w → Later w u → (c : ℕ) (e : Ending) → (put w.call w.calls (new_call f s) c).cell ≡ Some e → (u.job (put w.call w.calls (new_call f s) c).job).at ≡ Over e
+new_cells w u f s h l c e = by (c == w.calls)
+  where
+    by : (z : Bool) → (if z then new_call f s else w.call c).cell ≡ Some e → (u.job (if z then new_call f s else w.call c).job).at ≡ Over e
+    by true y = cc
+    by false y = l.over ((w.call c).job) e (h.cells c e y)
+
+new_latches : (w u : World) (f : Option ℕ) (s : ℕ) → CallsHold w → Later w u → (c : ℕ) → (put w.call w.calls (new_call f s) c).latch ≡ IsSet → is_done (u.job (put w.call w.calls (new_call f s) c).job).at ≡ true
+new_latches w u f s h l c = by (c == w.calls)
+  where
+    by : (z : Bool) → (if z then new_call f s else w.call c).latch ≡ IsSet → is_done (u.job (if z then new_call f s else w.call c).job).at ≡ true
+    by true y = cc
+    by false y = later_done w u l ((w.call c).job) (h.latches c y)
+
+-- a call that makes one job and waits for it
+send_makes : (w : World) (q : Party) (p : ℕ) → CallsHold w → Advance w (after_send w q p (w.stack q) false) → Makes w (after_send w q p (w.stack q) false) q (Send (record { number = w.calls; pool = p; job = w.jobs }))
+send_makes w q p h a = record {
+  later = later;
+  says = (record { number = omega arith; made = omega arith; target = ap (λ c. c.job) (put_new w.call w.calls (new_call None w.jobs)); kind = ap (λ j. j.kind) (put_new w.job w.jobs (new_job q p (Stored w.calls q))); pool = ap (λ j. j.pool) (put_new w.job w.jobs (new_job q p (Stored w.calls q))) }, ap (λ c. c.first) (put_new w.call w.calls (new_call None w.jobs)));
+  ties = λ t b c o z. ties t b c o (t == w.jobs) refl z;
+  pools = λ t b r z. pools t b r (t == w.jobs) refl z;
+  cells = new_cells w (after_send w q p (w.stack q) false) None w.jobs h later;
+  latches = new_latches w (after_send w q p (w.stack q) false) None w.jobs h later;
+}
+  where
+    later : Later w (after_send w q p (w.stack q) false)
+    later = record { jobs = omega arith; calls = omega arith; over = final_over w (after_send w q p (w.stack q) false) a; left = λ t z. final_left ((w.job t).at) ((((after_send w q p (w.stack q) false)).job t).at) (a.final t) z; kind = λ t b. ap (λ j. j.kind) (put_old w.job w.jobs (new_job q p (Stored w.calls q)) t (below_new t w.jobs b)); pool = λ t b. ap (λ j. j.pool) (put_old w.job w.jobs (new_job q p (Stored w.calls q)) t (below_new t w.jobs b)); target = λ c b. ap (λ i. i.job) (put_old w.call w.calls (new_call None w.jobs) c (below_new c w.calls b)); side = λ c b. ap (λ i. i.first) (put_old w.call w.calls (new_call None w.jobs) c (below_new c w.calls b)); ended = λ r z. z; given = λ r z. z }
+
+    ties : (t : ℕ) → t + 1 ≤ w.jobs + 1 → (c : ℕ) (o : Party) (z : Bool) → (t == w.jobs) ≡ z → (if z then new_job q p (Stored w.calls q) else w.job t).kind ≡ Stored c o → (c + 1 ≤ w.calls + 1) × ((put w.call w.calls (new_call None w.jobs) c).job ≡ t)
+    ties t b c o true e y = let k : w.calls ≡ c = cc in ((let g : c + 1 ≤ w.calls + 1 = omega (arith, k) in g), ap (λ n. (put w.call w.calls (new_call None w.jobs) n).job) (sym k) ∙ ap (λ i. i.job) (put_new w.call w.calls (new_call None w.jobs)) ∙ sym (eqb-true t w.jobs e))
+    ties t b c o false e y = let g : (c + 1 ≤ w.calls) × ((w.call c).job ≡ t) = h.ties t (below_or t w.jobs e b) c o y in let k : c + 1 ≤ w.calls = g.0 in ((let m : c + 1 ≤ w.calls + 1 = omega (arith, k) in m), ap (λ i. i.job) (put_old w.call w.calls (new_call None w.jobs) c (below_new c w.calls k)) ∙ g.1)
+
+    pools : (t : ℕ) → t + 1 ≤ w.jobs + 1 → (r : ℕ) (z : Bool) → (t == w.jobs) ≡ z → (if z then new_job q p (Stored w.calls q) else w.job t).kind ≡ Detached r → (if z then new_job q p (Stored w.calls q) else w.job t).pool ≡ r
+    pools t b r true e y = cc
+    pools t b r false e y = h.pools t (below_or t w.jobs e b) r y
+
+-- a join makes its two sides, and waits for the second
+abbrev pub forked : World → ℕ → ℕ → World
+forked w p i = record w {
+  stack = put_stack w.stack (Worker p i) (after_call (w.stack (Worker p i)) (RaiseCount (Fork (record { number = w.calls; pool = p; job = w.jobs + 1 }) w.jobs)));
+  job = put (put w.job w.jobs (new_job (Worker p i) p Direct)) (w.jobs + 1) (new_job (Worker p i) p (Stored w.calls (Worker p i)));
+  call = put w.call w.calls (new_call (Some w.jobs) (w.jobs + 1));
+  jobs = w.jobs + 2;
+  calls = w.calls + 1;
+}
+
+fork_makes : (w : World) (p i : ℕ) → CallsHold w → Advance w (forked w p i) → Makes w (forked w p i) (Worker p i) (Fork (record { number = w.calls; pool = p; job = w.jobs + 1 }) w.jobs)
+fork_makes w p i h a = record {
+  later = later;
+  says = (record { number = omega arith; made = omega arith; target = ap (λ c. c.job) (put_new w.call w.calls (new_call (Some w.jobs) (w.jobs + 1))); kind = ap (λ j. j.kind) second; pool = ap (λ j. j.pool) second }, ap (λ c. c.first) (put_new w.call w.calls (new_call (Some w.jobs) (w.jobs + 1))), record { made = omega arith; kind = ap (λ j. is_detached (j.kind)) first });
+  ties = λ t b c o z. ties t b c o (t == (w.jobs + 1)) (t == w.jobs) refl refl z;
+  pools = λ t b r z. pools t b r (t == (w.jobs + 1)) (t == w.jobs) refl refl z;
+  cells = new_cells w (forked w p i) (Some w.jobs) (w.jobs + 1) h later;
+  latches = new_latches w (forked w p i) (Some w.jobs) (w.jobs + 1) h later;
+}
+  where
+    second : (forked w p i).job (w.jobs + 1) ≡ new_job (Worker p i) p (Stored w.calls (Worker p i))
+    second = put_new (put w.job w.jobs (new_job (Worker p i) p Direct)) (w.jobs + 1) (new_job (Worker p i) p (Stored w.calls (Worker p i)))
+
+    first : (forked w p i).job w.jobs ≡ new_job (Worker p i) p Direct
+    first = put_old (put w.job w.jobs (new_job (Worker p i) p Direct)) (w.jobs + 1) (new_job (Worker p i) p (Stored w.calls (Worker p i))) w.jobs (below_new w.jobs (w.jobs + 1) (omega arith)) ∙ put_new w.job w.jobs (new_job (Worker p i) p Direct)
+
+    old : (t : ℕ) → t + 1 ≤ w.jobs → (forked w p i).job t ≡ w.job t
+    old t b = put_old (put w.job w.jobs (new_job (Worker p i) p Direct)) (w.jobs + 1) (new_job (Worker p i) p (Stored w.calls (Worker p i))) t (below_new t (w.jobs + 1) (omega (arith, b))) ∙ put_old w.job w.jobs (new_job (Worker p i) p Direct) t (below_new t w.jobs b)
+
+    later : Later w (forked w p i)
+    later = record { jobs = omega arith; calls = omega arith; over = final_over w (forked w p i) a; left = λ t z. final_left ((w.job t).at) ((((forked w p i)).job t).at) (a.final t) z; kind = λ t b. ap (λ j. j.kind) (old t b); pool = λ t b. ap (λ j. j.pool) (old t b); target = λ c b. ap (λ i. i.job) (put_old w.call w.calls (new_call (Some w.jobs) (w.jobs + 1)) c (below_new c w.calls b)); side = λ c b. ap (λ i. i.first) (put_old w.call w.calls (new_call (Some w.jobs) (w.jobs + 1)) c (below_new c w.calls b)); ended = λ r z. z; given = λ r z. z }
+
+    ties : (t : ℕ) → t + 1 ≤ w.jobs + 2 → (c : ℕ) (o : Party) (z v : Bool) → (t == (w.jobs + 1)) ≡ z → (t == w.jobs) ≡ v → (if z then new_job (Worker p i) p (Stored w.calls (Worker p i)) else (if v then new_job (Worker p i) p Direct else w.job t)).kind ≡ Stored c o → (c + 1 ≤ w.calls + 1) × ((put w.call w.calls (new_call (Some w.jobs) (w.jobs + 1)) c).job ≡ t)
+    ties t b c o true v e d y = let k : w.calls ≡ c = cc in ((let g : c + 1 ≤ w.calls + 1 = omega (arith, k) in g), ap (λ n. (put w.call w.calls (new_call (Some w.jobs) (w.jobs + 1)) n).job) (sym k) ∙ ap (λ i. i.job) (put_new w.call w.calls (new_call (Some w.jobs) (w.jobs + 1))) ∙ sym (eqb-true t (w.jobs + 1) e))
+    ties t b c o false true e d y = cc
+    ties t b c o false false e d y = let g : (c + 1 ≤ w.calls) × ((w.call c).job ≡ t) = h.ties t (below_or t w.jobs d (below_or t (w.jobs + 1) e (omega (arith, b)))) c o y in let k : c + 1 ≤ w.calls = g.0 in ((let m : c + 1 ≤ w.calls + 1 = omega (arith, k) in m), ap (λ i. i.job) (put_old w.call w.calls (new_call (Some w.jobs) (w.jobs + 1)) c (below_new c w.calls k)) ∙ g.1)
+
+    pools : (t : ℕ) → t + 1 ≤ w.jobs + 2 → (r : ℕ) (z v : Bool) → (t == (w.jobs + 1)) ≡ z → (t == w.jobs) ≡ v → (if z then new_job (Worker p i) p (Stored w.calls (Worker p i)) else (if v then new_job (Worker p i) p Direct else w.job t)).kind ≡ Detached r → (if z then new_job (Worker p i) p (Stored w.calls (Worker p i)) else (if v then new_job (Worker p i) p Direct else w.job t)).pool ≡ r
+    pools t b r true v e d y = cc
+    pools t b r false true e d y = cc
+    pools t b r false false e d y = h.pools t (below_or t w.jobs d (below_or t (w.jobs + 1) e (omega (arith, b)))) r y
+
+spawn_calls : (w : World) (q : Party) (p : ℕ) → CallsHold w → IfSome (after_spawn w q p (w.stack q)) (λ u. Advance w u → CallsHold u)
+spawn_calls w q p h = if_cond (λ u. Advance w u → CallsHold u) (is_free ((w.stack q).top) && is_pool w.shape p) _ (λ f a. made_calls w q (Detach p w.jobs) w.call (put w.job w.jobs (new_job q p (Detached p))) w.calls (w.jobs + 1) ((and_parts (is_free ((w.stack q).top)) (is_pool w.shape p) f).0) h
+    (plain_makes w q (Detach p w.jobs) p (Detached p) (λ c o z. cc) (λ r z. (let k : p ≡ r = cc in k)) (λ u s. s) h a) a)
+
+sent_calls : (w : World) (q : Party) (p : ℕ) (b : Bool) → is_free (w.stack q).top ≡ true → CallsHold w → Advance w (after_send w q p (w.stack q) b) → CallsHold (after_send w q p (w.stack q) b)
+sent_calls w q p true f h a = made_calls w q (Here p w.jobs) w.call (put w.job w.jobs (new_job q p Direct)) w.calls (w.jobs + 1) f h (plain_makes w q (Here p w.jobs) p Direct (λ c o z. cc) (λ r z. cc) (λ u s. s) h a) a
+sent_calls w q p false f h a = made_calls w q (Send (record { number = w.calls; pool = p; job = w.jobs })) (put w.call w.calls (new_call None w.jobs)) (put w.job w.jobs (new_job q p (Stored w.calls q))) (w.calls + 1) (w.jobs + 1) f h (send_makes w q p h a) a
+
+install_calls : (w : World) (q : Party) (p : ℕ) → CallsHold w → IfSome (after_install w q p (w.stack q)) (λ u. Advance w u → CallsHold u)
+install_calls w q p h = if_cond (λ u. Advance w u → CallsHold u) (is_free ((w.stack q).top) && is_pool w.shape p) _ (λ f a. sent_calls w q p (is_member q p) ((and_parts (is_free ((w.stack q).top)) (is_pool w.shape p) f).0) h a)
+
+join_calls : (w : World) (q : Party) → CallsHold w → IfSome (after_join w q (w.stack q)) (λ u. Advance w u → CallsHold u)
+join_calls w (Caller n) h = tt
+join_calls w (Worker p i) h = if_cond (λ u. Advance w u → CallsHold u) (is_free ((w.stack (Worker p i)).top)) _ (λ f a. made_calls w (Worker p i) (Fork (record { number = w.calls; pool = p; job = w.jobs + 1 }) w.jobs) (put w.call w.calls (new_call (Some w.jobs) (w.jobs + 1))) (put (put w.job w.jobs (new_job (Worker p i) p Direct)) (w.jobs + 1) (new_job (Worker p i) p (Stored w.calls (Worker p i)))) (w.calls + 1) (w.jobs + 2) f h (fork_makes w p i h a) a)
+
+-- each step keeps what the places, cells and latches say
+pub step_calls : (w : World) (e : Event) → CallsHold w → IfSome (step w e) CallsHold
+step_calls w (Go q) h = acted_keeps w q (w.stack q) (target_pool q (act_of q ((w.stack q).top))) (target_worker q (act_of q ((w.stack q).top))) (target_call (act_of q ((w.stack q).top))) (job_at w q (act_of q ((w.stack q).top))) (outcome w q (w.stack q)) CallsHold (go_calls w q h)
+step_calls w (From q v) h = both w (step w (From q v)) (step_advance w (From q v) ((h.jobs).ok) ((h.jobs).unmade)) (from_calls w q ((w.stack q).top) ((w.stack q).below) v refl h)
+step_calls w (Refuse q) h = both w (step w (Refuse q)) (step_advance w (Refuse q) ((h.jobs).ok) ((h.jobs).unmade)) (refuse_calls w q ((w.stack q).top) ((w.stack q).below) refl h)
+step_calls w (Miss q) h = both w (step w (Miss q)) (step_advance w (Miss q) ((h.jobs).ok) ((h.jobs).unmade)) (miss_calls w q ((w.stack q).top) ((w.stack q).below) refl h)
+step_calls w (End q d) h = both w (step w (End q d)) (step_advance w (End q d) ((h.jobs).ok) ((h.jobs).unmade)) (end_calls w q d ((w.stack q).top) ((w.stack q).below) refl h)
+step_calls w (Spawn q p) h = both w (step w (Spawn q p)) (step_advance w (Spawn q p) ((h.jobs).ok) ((h.jobs).unmade)) (spawn_calls w q p h)
+step_calls w (Install q p) h = both w (step w (Install q p)) (step_advance w (Install q p) ((h.jobs).ok) ((h.jobs).unmade)) (install_calls w q p h)
+step_calls w (Join q) h = both w (step w (Join q)) (step_advance w (Join q) ((h.jobs).ok) ((h.jobs).unmade)) (join_calls w q h)
+step_calls w (Yield q) h = both w (step w (Yield q)) (step_advance w (Yield q) ((h.jobs).ok) ((h.jobs).unmade)) (yield_calls w q YieldPop (λ u r. tt) h)
+step_calls w (YieldLocal q) h = both w (step w (YieldLocal q)) (step_advance w (YieldLocal q) ((h.jobs).ok) ((h.jobs).unmade)) (yield_calls w q LocalPop (λ u r. tt) h)
+step_calls w (EndPool q p) h = both w (step w (EndPool q p)) (step_advance w (EndPool q p) ((h.jobs).ok) ((h.jobs).unmade)) (give_calls w q p h)
+
+first_says : (h : Shape) (q : Party) → StackSays (start h) q ((start h).stack q)
+first_says h (Caller n) = at (nat_lt n h.callers)
+  where
+    at : (z : Bool) → StackSays (start h) (Caller n) (record { top = if z then Free else Stopped; below = [] })
+    at true = record { top = tt; below = tt; links = tt }
+    at false = record { top = tt; below = tt; links = tt }
+first_says h (Worker p i) = at (nat_lt i (h.pool p).workers) ((h.pool p).callers_own && (i == 0))
+  where
+    at : (y z : Bool) → StackSays (start h) (Worker p i) (record { top = if y then (if z then Free else ProbeWorking (fresh Termination)) else Stopped; below = [] })
+    at true true = record { top = tt; below = tt; links = tt }
+    at true false = record { top = tt; below = tt; links = tt }
+    at false z = record { top = tt; below = tt; links = tt }
+
+pub first_calls : (h : Shape) → CallsHold (start h)
+first_calls h = record { jobs = first_jobs h; says = first_says h; ties = λ t b c o z. cc; pools = λ t b p z. cc; cells = λ c e z. cc; latches = λ c z. cc; ends = λ p i z. cc }
+
+pub always_calls : (h : Shape) (es : List Event) (w : World) → IsRun (start h) es w → CallsHold w
+always_calls h es w r = run_keeps CallsHold step_calls (start h) w es (first_calls h) r

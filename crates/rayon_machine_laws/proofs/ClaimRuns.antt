@@ -1,0 +1,217 @@
+-- what places, cells and latches say holds in every world of every run
+use Rattle.std.proofs.Common.{arith, refl, sym, ◌∙◌, ap, subst, inl, inr}
+use Rattle.std.specs.Prelude.{ℕ, Bool, true, false, not, ◌&&◌, ◌+◌, ◌==◌, ◌≤◌, if◌then◌else◌, Option, Some, List, ◌≡◌, IfSome}
+use Rattle.std.proofs.lemmas.Bool.{eqb-true, eq-eqb}
+use Rattle.rayon_machine_places.specs.declared.place.Party.{Party}
+use Rattle.rayon_machine_places.specs.declared.place.Party.TheVariants.{Worker, Caller}
+use Rattle.rayon_machine_places.specs.declared.place.Ending.{Ending}
+use Rattle.rayon_machine_places.specs.declared.place.JobKind.TheVariants.{Detached, Stored}
+use Rattle.rayon_machine_places.specs.declared.place.Latch.{Latch}
+use Rattle.rayon_machine_places.specs.declared.place.Latch.TheVariants.{Terminate, OfCall}
+use Rattle.rayon_machine_places.specs.declared.place.Plan.TheVariants.{Detach, Here, Send, Fork}
+use Rattle.rayon_machine_places.specs.declared.place.Place.{Place}
+use Rattle.rayon_machine_places.specs.declared.place.Place.TheVariants.{PopWorking, TakeCastWorking, PopIdle, TakeCastIdle, StealFrom, PopInjected, JoinPop, JoinTakeCast, YieldPop, YieldTakeCast, YieldSteal, YieldPopInjected, LocalPop, LocalTakeCast, BeginTask, BeginHere, Run, TakeResult, LowerCount, StoreResult, SetLatch, SetLockLatch}
+use Rattle.rayon_machine_places.specs.declared.place.Move.{Move}
+use Rattle.rayon_machine_places.specs.declared.place.Move.TheVariants.{Stay, Enter, StartRun, Back, HandBack}
+use Rattle.rayon_machine_places.specs.declared.act.Seen.{Seen}
+use Rattle.rayon_machine_places.specs.declared.act.Seen.TheVariants.{Yes, Task, Begun, Found}
+use Rattle.rayon_machine_places.specs.declared.state.Letter.TheVariants.{Set as IsSet}
+use Rattle.rayon_machine_places.specs.declared.state.Whereabouts.TheVariants.{Over, HandedBack}
+use Rattle.rayon_machine_places.specs.declared.shape.PoolShape.{PoolShape}
+use Rattle.rayon_machine_places.specs.declared.place.OpenCall.{OpenCall}
+use Rattle.rayon_machine_places.specs.declared.state.Job.{Job}
+use Rattle.rayon_machine_places.specs.Places.{same_party, act_of, next_of}
+use Rattle.rayon_machine_places.specs.World.{Stack, World, counts_at, Part, target_pool, target_worker, call_of, target_call, at_job, begun}
+use Rattle.rayon_machine_places.specs.Steps.{put, put_stack, part_of, after_move, jobs_after, after}
+use Rattle.rayon_machine_places.specs.Readers.{is_done}
+use Rattle.rayon_machine_laws.specs.Once.{one}
+use Rattle.rayon_machine_laws.proofs.Frame.{same_index, same_party_true, if_some_and, if_some_map}
+use Rattle.rayon_machine_laws.proofs.Ties.{job_at, outcome, result}
+use Rattle.rayon_machine_laws.proofs.Hands.{held_in, held}
+use Rattle.rayon_machine_laws.proofs.Located.{is_left}
+use Rattle.rayon_machine_laws.proofs.Placed.{Kept}
+use Rattle.rayon_machine_laws.proofs.PlacedEvents.{go_kept, Advance, kept_advance}
+use Rattle.rayon_machine_laws.proofs.PlacedRuns.{JobsHold}
+use Rattle.rayon_machine_laws.proofs.Claims.{Opened, Left, SaysLatch, Says, StackSays, PassMove, none_passes, land_says, Learns, says_next}
+use Rattle.rayon_machine_laws.proofs.Later.{Later, later_done, later_says, later_all, later_stack, Static, act_static}
+use Rattle.rayon_machine_laws.proofs.ClaimActs.{put_new, Lasting, lasting, Took, Learned, act_learned, made_held, stores, is_call, sets_call, sets_seat, Written, act_written}
+
+-- what holds of the calls of every world
+pub record CallsHold (w : World) : Type 0 where
+  pub jobs : JobsHold w
+  pub says : (q : Party) → StackSays w q (w.stack q)
+  pub ties : (t : ℕ) → t + 1 ≤ w.jobs → (c : ℕ) (o : Party) → (w.job t).kind ≡ Stored c o → (c + 1 ≤ w.calls) × ((w.call c).job ≡ t)
+  pub pools : (t : ℕ) → t + 1 ≤ w.jobs → (p : ℕ) → (w.job t).kind ≡ Detached p → (w.job t).pool ≡ p
+  pub cells : (c : ℕ) (e : Ending) → (w.call c).cell ≡ Some e → (w.job (w.call c).job).at ≡ Over e
+  pub latches : (c : ℕ) → (w.call c).latch ≡ IsSet → is_done (w.job (w.call c).job).at ≡ true
+  pub ends : (p i : ℕ) → (w.seat p i).latch ≡ IsSet → (w.pool p).count ≡ 0
+
+-- the stacks after one party has another
+pub all_says : (w u : World) → Later w u → (q : Party) (k : Stack) → StackSays u q k → ((r : Party) → StackSays w r (w.stack r)) → (r : Party) → StackSays u r (put_stack w.stack q k r)
+all_says w u l q k s h r = by (same_party r q) refl
+  where
+    by : (z : Bool) → same_party r q ≡ z → StackSays u r (if z then k else w.stack r)
+    by true z = subst (λ g. StackSays u g k) (sym (same_party_true r q z)) s
+    by false z = later_stack w u l r (w.stack r) (h r)
+
+-- what is run for the frame below is passed on
+next_passes : (g : PoolShape) (q : Party) (x : Place) (e : Seen) → PassMove x (next_of g q x e)
+next_passes g q (BeginHere t) e = λ u z. z
+next_passes g q (Run t k) e = λ u z. z
+next_passes g q x e = none_passes x (next_of g q x e) refl
+
+-- a party's stack after a move, where its place and the answer tell of the new world
+pub moved_says : (w u : World) → Later w u → (g : PoolShape) (q : Party) (k : Stack) (e : Seen) → Learns u k.top e → StackSays w q k → StackSays u q (after_move (next_of g q k.top e) k.below)
+moved_says w u l g q k e n s = land_says u q k.top (next_of g q k.top e) k.below (says_next u g q k.top e n (later_says w u l q k.top (s.top))) (next_passes g q k.top e) (later_all w u l q k.below (s.below)) (s.links)
+
+-- the top of a party's stack is known
+pub top_says : (w : World) (q : Party) (x : Place) (fs : List Place) → CallsHold w → w.stack q ≡ record { top = x; below = fs } → Says w q x
+top_says w q x fs h z = subst (λ k. Says w q (k.top)) z ((h.says q).top)
+
+-- what an act's answer tells of its part, told of the new world
+abbrev pub world_after : World → Party → Place → List Place → Seen × Part → World
+world_after w q x fs r = after w q (record { top = x; below = fs }) (target_pool q (act_of q x)) (target_worker q (act_of q x)) (target_call (act_of q x)) (job_at w q (act_of q x)) r
+
+abbrev pub part_at : World → Party → Place → Part
+part_at w q x = part_of w (target_pool q (act_of q x)) (target_worker q (act_of q x)) (target_call (act_of q x)) (job_at w q (act_of q x))
+
+begun_held : (w : World) → JobsHold w → (q : Party) (t : ℕ) (fs : List Place) → w.stack q ≡ record { top = BeginTask t; below = fs } → t + 1 ≤ w.jobs
+begun_held w h q t fs z = made_held w h q t (let a : held t (w.stack q) ≡ (one (t == t) + held_in t fs) = ap (held t) z in let b : one (t == t) ≡ 1 = ap one (eq-eqb t t refl) in omega (arith, a, b))
+
+took : (w u : World) (q : Party) (o : OpenCall) (f : Option Ending) (d : Ending) → CallsHold w → Lasting w u → Opened w q o → (w.call o.number).cell ≡ Some d → (u.job o.job).at ≡ Over d
+took w u q o f d h l s y = (l.later).over (o.job) d (subst (λ t. (w.job t).at ≡ Over d) (s.target) (h.cells (o.number) d y))
+
+put_left : (J : ℕ → Job) (a : ℕ) (j : Job) (t : ℕ) → is_left (j.at) ≡ true → is_left (J t).at ≡ true → is_left (put J a j t).at ≡ true
+put_left J a j t y z = by (t == a)
+  where
+    by : (b : Bool) → is_left (if b then j else J t).at ≡ true
+    by true = y
+    by false = z
+
+after_left : (q : Party) (g : Move) (J : ℕ → Job) (t : ℕ) → is_left (J t).at ≡ true → is_left (jobs_after q g J t).at ≡ true
+after_left q (Stay y) J t z = z
+after_left q (Enter f y) J t z = z
+after_left q Back J t z = z
+after_left q (StartRun f a) J t z = put_left J a (begun q (J a)) t refl z
+after_left q (HandBack (Detach p a)) J t z = put_left J a (at_job (J a) HandedBack) t refl z
+after_left q (HandBack (Here p a)) J t z = put_left J a (at_job (J a) HandedBack) t refl z
+after_left q (HandBack (Send o)) J t z = put_left J (o.job) (at_job (J (o.job)) HandedBack) t refl z
+after_left q (HandBack (Fork o a)) J t z = put_left (put J a (at_job (J a) HandedBack)) (o.job) (at_job (J (o.job)) HandedBack) t refl (put_left J a (at_job (J a) HandedBack) t refl z)
+
+left_now : (w : World) (q : Party) (x : Place) (fs : List Place) (t : ℕ) (e : Seen) (m : Part) → Took w.shape q (part_at w q x) x t m → Left (world_after w q x fs (e, m)) t
+left_now w q x fs t e m k = after_left q (next_of (w.shape.pool (target_pool q (act_of q x))) q x e) (put w.job (job_at w q (act_of q x)) (m.job)) t (subst (λ n. is_left (put w.job (job_at w q (act_of q x)) (m.job) n).at ≡ true) (k.0) (ap (λ j. is_left (j.at)) (put_new w.job (job_at w q (act_of q x)) (m.job)) ∙ k.1))
+
+pub learns : (w : World) (q : Party) (x : Place) (fs : List Place) (r : Seen × Part) → CallsHold w → w.stack q ≡ record { top = x; below = fs } → Lasting w (world_after w q x fs r) → Learned w.shape q (part_at w q x) x r → Learns (world_after w q x fs r) x (r.0)
+learns w (Worker a b) (PopWorking k) fs (Task t, m) h z l y = left_now w (Worker a b) (PopWorking k) fs t (Task t) m y
+learns w (Worker a b) (TakeCastWorking k) fs (Task t, m) h z l y = left_now w (Worker a b) (TakeCastWorking k) fs t (Task t) m y
+learns w (Worker a b) (PopIdle k) fs (Task t, m) h z l y = left_now w (Worker a b) (PopIdle k) fs t (Task t) m y
+learns w (Worker a b) (TakeCastIdle k) fs (Task t, m) h z l y = left_now w (Worker a b) (TakeCastIdle k) fs t (Task t) m y
+learns w (Worker a b) (StealFrom k v) fs (Task t, m) h z l y = left_now w (Worker a b) (StealFrom k v) fs t (Task t) m y
+learns w (Worker a b) (PopInjected k) fs (Task t, m) h z l y = left_now w (Worker a b) (PopInjected k) fs t (Task t) m y
+learns w (Worker a b) (JoinPop o) fs (Task t, m) h z l y = left_now w (Worker a b) (JoinPop o) fs t (Task t) m y
+learns w (Worker a b) (JoinTakeCast o) fs (Task t, m) h z l y = left_now w (Worker a b) (JoinTakeCast o) fs t (Task t) m y
+learns w (Worker a b) YieldPop fs (Task t, m) h z l y = left_now w (Worker a b) YieldPop fs t (Task t) m y
+learns w (Worker a b) YieldTakeCast fs (Task t, m) h z l y = left_now w (Worker a b) YieldTakeCast fs t (Task t) m y
+learns w (Worker a b) (YieldSteal v j) fs (Task t, m) h z l y = left_now w (Worker a b) (YieldSteal v j) fs t (Task t) m y
+learns w (Worker a b) YieldPopInjected fs (Task t, m) h z l y = left_now w (Worker a b) YieldPopInjected fs t (Task t) m y
+learns w (Worker a b) LocalPop fs (Task t, m) h z l y = left_now w (Worker a b) LocalPop fs t (Task t) m y
+learns w (Worker a b) LocalTakeCast fs (Task t, m) h z l y = left_now w (Worker a b) LocalTakeCast fs t (Task t) m y
+learns w (Caller c) (PopWorking k) fs (Task t, m) h z l y = left_now w (Caller c) (PopWorking k) fs t (Task t) m y
+learns w (Caller c) (TakeCastWorking k) fs (Task t, m) h z l y = left_now w (Caller c) (TakeCastWorking k) fs t (Task t) m y
+learns w (Caller c) (PopIdle k) fs (Task t, m) h z l y = left_now w (Caller c) (PopIdle k) fs t (Task t) m y
+learns w (Caller c) (TakeCastIdle k) fs (Task t, m) h z l y = left_now w (Caller c) (TakeCastIdle k) fs t (Task t) m y
+learns w (Caller c) (StealFrom k v) fs (Task t, m) h z l y = left_now w (Caller c) (StealFrom k v) fs t (Task t) m y
+learns w (Caller c) (PopInjected k) fs (Task t, m) h z l y = left_now w (Caller c) (PopInjected k) fs t (Task t) m y
+learns w (Caller c) (JoinPop o) fs (Task t, m) h z l y = left_now w (Caller c) (JoinPop o) fs t (Task t) m y
+learns w (Caller c) (JoinTakeCast o) fs (Task t, m) h z l y = left_now w (Caller c) (JoinTakeCast o) fs t (Task t) m y
+learns w (Caller c) YieldPop fs (Task t, m) h z l y = left_now w (Caller c) YieldPop fs t (Task t) m y
+learns w (Caller c) YieldTakeCast fs (Task t, m) h z l y = left_now w (Caller c) YieldTakeCast fs t (Task t) m y
+learns w (Caller c) (YieldSteal v j) fs (Task t, m) h z l y = left_now w (Caller c) (YieldSteal v j) fs t (Task t) m y
+learns w (Caller c) YieldPopInjected fs (Task t, m) h z l y = left_now w (Caller c) YieldPopInjected fs t (Task t) m y
+learns w (Caller c) LocalPop fs (Task t, m) h z l y = left_now w (Caller c) LocalPop fs t (Task t) m y
+learns w (Caller c) LocalTakeCast fs (Task t, m) h z l y = left_now w (Caller c) LocalTakeCast fs t (Task t) m y
+learns w (Worker a b) (TakeResult o f) fs (Found d, m) h z l y = took w (world_after w (Worker a b) (TakeResult o f) fs (Found d, m)) (Worker a b) o f d h l ((top_says w (Worker a b) (TakeResult o f) fs h z).0) y
+learns w (Worker a b) (LowerCount p s k) fs (Yes, m) h z l y = ap (λ v. v.count) (put_new w.pool p (m.pool)) ∙ y
+learns w (Worker a b) (BeginTask t) fs (Begun d, m) h z l y = (begun_held w (h.jobs) (Worker a b) t fs z, l.kinds t ∙ y)
+learns w (Caller v) (TakeResult o f) fs (Found d, m) h z l y = took w (world_after w (Caller v) (TakeResult o f) fs (Found d, m)) (Caller v) o f d h l ((top_says w (Caller v) (TakeResult o f) fs h z).0) y
+learns w (Caller v) (LowerCount p s k) fs (Yes, m) h z l y = ap (λ v. v.count) (put_new w.pool p (m.pool)) ∙ y
+learns w (Caller v) (BeginTask t) fs (Begun d, m) h z l y = (begun_held w (h.jobs) (Caller v) t fs z, l.kinds t ∙ y)
+learns w q x fs (e, m) h z l y = tt
+
+-- who writes a cell or sets a latch knows that the job is over, or that the pool has ended
+store_says : (w : World) (q : Party) (x : Place) (e : Ending) → stores x ≡ Some e → Says w q x → (w.job (w.call (target_call (act_of q x))).job).at ≡ Over e
+store_says w (Worker a b) (StoreResult c o d) e z s = let k : d ≡ e = cc in s.1 ∙ ap Over k
+store_says w (Caller v) (StoreResult c o d) e z s = let k : d ≡ e = cc in s.1 ∙ ap Over k
+store_says w q _ e z s = cc
+
+call_latch_says : (w : World) (p : ℕ) (l : Latch) → is_call l ≡ true → SaysLatch w p l → is_done (w.job (w.call (call_of l)).job).at ≡ true
+call_latch_says w p Terminate z s = cc
+call_latch_says w p (OfCall c) z s = s.1
+
+seat_latch_says : (w : World) (p : ℕ) (l : Latch) → not (is_call l) ≡ true → SaysLatch w p l → (w.pool p).count ≡ 0
+seat_latch_says w p Terminate z s = s
+seat_latch_says w p (OfCall c) z s = cc
+
+set_call_says : (w : World) (q : Party) (x : Place) → sets_call x ≡ true → Says w q x → is_done (w.job (w.call (target_call (act_of q x))).job).at ≡ true
+set_call_says w (Worker a b) (SetLatch k) z s = call_latch_says w k.pool k.latch z (s.0)
+set_call_says w (Caller v) (SetLatch k) z s = call_latch_says w k.pool k.latch z (s.0)
+set_call_says w (Worker a b) (SetLockLatch c) z s = s.1
+set_call_says w (Caller v) (SetLockLatch c) z s = s.1
+set_call_says w q _ z s = cc
+
+set_seat_says : (w : World) (q : Party) (x : Place) → sets_seat x ≡ true → Says w q x → (w.pool (target_pool q (act_of q x))).count ≡ 0
+set_seat_says w (Worker a b) (SetLatch k) z s = seat_latch_says w k.pool k.latch z (s.0)
+set_seat_says w (Caller v) (SetLatch k) z s = seat_latch_says w k.pool k.latch z (s.0)
+set_seat_says w q _ z s = cc
+
+-- one act
+pub act_calls : (w : World) (q : Party) (x : Place) (fs : List Place) (r : Seen × Part) → CallsHold w → w.stack q ≡ record { top = x; below = fs } → Static (part_at w q x) r → Kept w (world_after w q x fs r) → Learned w.shape q (part_at w q x) x r → Written (part_at w q x) x r → CallsHold (world_after w q x fs r)
+act_calls w q x fs r h z st ke le wr = record {
+  jobs = jobs;
+  says = all_says w u (l.later) q (after_move (next_of (w.shape.pool (target_pool q (act_of q x))) q x (r.0)) fs) (moved_says w u (l.later) (w.shape.pool (target_pool q (act_of q x))) q (record { top = x; below = fs }) (r.0) (learns w q x fs r h z l le) (subst (λ k. StackSays w q k) z (h.says q))) (h.says);
+  ties = λ t b c o k. (let a : (c + 1 ≤ w.calls) × ((w.call c).job ≡ t) = h.ties t b c o (sym (l.kinds t) ∙ k) in (a.0, l.targets c ∙ a.1));
+  pools = λ t b p k. (l.later).pool t b ∙ h.pools t b p (sym (l.kinds t) ∙ k);
+  cells = λ c e k. cells c e (c == target_call (act_of q x)) refl k;
+  latches = λ c k. latches c (c == target_call (act_of q x)) refl k;
+  ends = λ p i k. ends p i ((p == target_pool q (act_of q x)) && (i == target_worker q (act_of q x))) refl k;
+}
+  where
+    u : World
+    u = world_after w q x fs r
+
+    l : Lasting w (world_after w q x fs r)
+    l = lasting w q (record { top = x; below = fs }) (target_pool q (act_of q x)) (target_worker q (act_of q x)) (target_call (act_of q x)) (job_at w q (act_of q x)) r st ke
+
+    jobs : JobsHold (world_after w q x fs r)
+    jobs = let a : Advance w (world_after w q x fs r) = kept_advance w (world_after w q x fs r) (omega arith) ((h.jobs).unmade) ke in record { ok = record { placed = a.placed; fit = a.fit }; unmade = a.unmade }
+
+    over_now : (c : ℕ) (e : Ending) → (w.job (w.call c).job).at ≡ Over e → ((world_after w q x fs r).job ((world_after w q x fs r).call c).job).at ≡ Over e
+    over_now c e k = ap (λ t. ((world_after w q x fs r).job t).at) (l.targets c) ∙ (l.later).over ((w.call c).job) e k
+
+    done_now : (c : ℕ) → is_done (w.job (w.call c).job).at ≡ true → is_done ((world_after w q x fs r).job ((world_after w q x fs r).call c).job).at ≡ true
+    done_now c k = ap (λ t. is_done ((world_after w q x fs r).job t).at) (l.targets c) ∙ later_done w (world_after w q x fs r) (l.later) ((w.call c).job) k
+
+    cells : (c : ℕ) (e : Ending) (b : Bool) → (c == target_call (act_of q x)) ≡ b → (if b then r.1.call else w.call c).cell ≡ Some e → ((world_after w q x fs r).job ((world_after w q x fs r).call c).job).at ≡ Over e
+    cells c e false y k = over_now c e (h.cells c e k)
+    cells c e true y k = over_now c e (subst (λ d. (w.job (w.call d).job).at ≡ Over e) (sym (eqb-true c (target_call (act_of q x)) y))
+        (elim (wr.cell e k) [ inl a ↦ h.cells (target_call (act_of q x)) e a | inr a ↦ store_says w q x e a (top_says w q x fs h z) ]))
+
+    latches : (c : ℕ) (b : Bool) → (c == target_call (act_of q x)) ≡ b → (if b then r.1.call else w.call c).latch ≡ IsSet → is_done ((world_after w q x fs r).job ((world_after w q x fs r).call c).job).at ≡ true
+    latches c false y k = done_now c (h.latches c k)
+    latches c true y k = done_now c (subst (λ d. is_done (w.job (w.call d).job).at ≡ true) (sym (eqb-true c (target_call (act_of q x)) y))
+        (elim (wr.call k) [ inl a ↦ h.latches (target_call (act_of q x)) a | inr a ↦ set_call_says w q x a (top_says w q x fs h z) ]))
+
+    ends : (p i : ℕ) (b : Bool) → ((p == target_pool q (act_of q x)) && (i == target_worker q (act_of q x))) ≡ b → (if b then r.1.seat else w.seat p i).latch ≡ IsSet → ((world_after w q x fs r).pool p).count ≡ 0
+    ends p i false y k = (l.later).ended p (h.ends p i k)
+    ends p i true y k = (l.later).ended p (subst (λ d. (w.pool d).count ≡ 0) (sym ((same_index p i (target_pool q (act_of q x)) (target_worker q (act_of q x)) y).0))
+        (elim (wr.seat k) [ inl a ↦ h.ends (target_pool q (act_of q x)) (target_worker q (act_of q x)) a | inr a ↦ set_seat_says w q x a (top_says w q x fs h z) ]))
+
+pub go_calls : (w : World) (q : Party) → CallsHold w → IfSome (outcome w q (w.stack q)) (λ r. CallsHold (result w q (w.stack q) r))
+go_calls w q h =
+    let k = w.stack q in let x = k.top in
+    if_some_map (λ r. (Static (part_at w q x) r × Learned w.shape q (part_at w q x) x r) × (Written (part_at w q x) x r × Kept w (result w q k r))) (λ r. CallsHold (result w q k r))
+    (λ r f. act_calls w q x (k.below) r h refl ((f.0).0) ((f.1).1) ((f.0).1) ((f.1).0))
+    (outcome w q k)
+    (if_some_and (λ r. Static (part_at w q x) r × Learned w.shape q (part_at w q x) x r) (λ r. Written (part_at w q x) x r × Kept w (result w q k r)) (outcome w q k)
+    (if_some_and (Static (part_at w q x)) (Learned w.shape q (part_at w q x) x) (outcome w q k) (act_static w.shape q (counts_at w (target_pool q (act_of q x))) (part_at w q x) x) (act_learned w.shape q (counts_at w (target_pool q (act_of q x))) (part_at w q x) x))
+    (if_some_and (Written (part_at w q x) x) (λ r. Kept w (result w q k r)) (outcome w q k) (act_written w.shape q (counts_at w (target_pool q (act_of q x))) (part_at w q x) x) (go_kept w q ((h.jobs).ok))))

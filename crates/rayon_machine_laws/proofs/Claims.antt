@@ -1,0 +1,432 @@
+-- what a place says of the world: of its party's calls, of their jobs, and of ended pools
+use Rattle.std.proofs.Common.{refl, sym, ◌∙◌, ap, subst}
+use Rattle.std.specs.Prelude.{ℕ, Bool, true, false, ◌&&◌, ◌+◌, ◌-◌, ◌==◌, ◌≤◌, nat_lt, if◌then◌else◌, Option, Some, None, List, [], ◌∷◌, ◌≡◌, ⊤}
+use Rattle.std.proofs.lemmas.Bool.{eqb-true}
+use Rattle.rayon_machine_places.specs.declared.place.Party.{Party}
+use Rattle.rayon_machine_places.specs.declared.place.Party.TheVariants.{Worker, Caller}
+use Rattle.rayon_machine_places.specs.declared.place.Ending.{Ending}
+use Rattle.rayon_machine_places.specs.declared.place.Ending.TheVariants.{Fine}
+use Rattle.rayon_machine_places.specs.declared.place.JobKind.{JobKind}
+use Rattle.rayon_machine_places.specs.declared.place.JobKind.TheVariants.{Detached, Stored, Direct}
+use Rattle.rayon_machine_places.specs.declared.place.Target.{Target}
+use Rattle.rayon_machine_places.specs.declared.place.Target.TheVariants.{Termination, Answer}
+use Rattle.rayon_machine_places.specs.declared.place.Latch.{Latch}
+use Rattle.rayon_machine_places.specs.declared.place.Latch.TheVariants.{Terminate, OfCall}
+use Rattle.rayon_machine_places.specs.declared.place.Rounds.{Rounds}
+use Rattle.rayon_machine_places.specs.declared.place.Rounds.TheVariants.{Failed, Announced}
+use Rattle.rayon_machine_places.specs.declared.place.Plan.{Plan}
+use Rattle.rayon_machine_places.specs.declared.place.Plan.TheVariants.{Detach, Here, Send, Fork}
+use Rattle.rayon_machine_places.specs.declared.place.Share.{Share}
+use Rattle.rayon_machine_places.specs.declared.place.Share.TheVariants.{PoolValue, OfJob}
+use Rattle.rayon_machine_places.specs.declared.place.Then.{Then}
+use Rattle.rayon_machine_places.specs.declared.place.Then.TheVariants.{BeginFound, LeaveWait, Resume, Await, RunFirst, Answers, Ran, GiveBack}
+use Rattle.rayon_machine_places.specs.declared.place.Place.{Place}
+use Rattle.rayon_machine_places.specs.declared.place.Place.TheVariants.{ProbeWorking, PopWorking, TakeCastWorking, BecomeInactive, ProbeIdle, PopIdle, TakeCastIdle, PickVictim, StealFrom, PopInjected, AnnounceSelf, GetSleepy, LockOwn, FallAsleep, LoadCounters, AddSleeping, LookAtCast, LookAtInjector, BlockSelf, RelockOwn, UndoSleeping, WakeUp, UnlockOwn, LeaveSearch, JoinProbe, JoinPop, JoinTakeCast, YieldPop, YieldTakeCast, YieldPick, YieldSteal, YieldPopInjected, LocalPop, LocalTakeCast, BeginTask, BeginHere, Run, RaiseCount, GrowCall, LookQueue, PushJob, TellNews, LockToWake, WakeWorker, UnlockWoken, WaitForLock, TakeResult, LowerCount, StoreResult, SetLatch, LockToSettle, WakeSettled, UnlockSettled, SetLockLatch, FirstSide, SecondSide, AtOnce}
+use Rattle.rayon_machine_places.specs.declared.place.Move.{Move}
+use Rattle.rayon_machine_places.specs.declared.place.Move.TheVariants.{Stay, Enter, StartRun, Back, HandBack}
+use Rattle.rayon_machine_places.specs.declared.act.Seen.{Seen}
+use Rattle.rayon_machine_places.specs.declared.act.Seen.TheVariants.{Done, Yes, Task, Jec, Word, Start, Wakes, Begun, Found}
+use Rattle.rayon_machine_places.specs.declared.state.Whereabouts.TheVariants.{Over}
+use Rattle.rayon_machine_places.specs.declared.shape.PoolShape.{PoolShape}
+use Rattle.rayon_machine_places.specs.declared.place.OpenCall.{OpenCall}
+use Rattle.rayon_machine_places.specs.declared.place.Wait.{Wait}
+use Rattle.rayon_machine_places.specs.declared.place.Settling.{Settling}
+use Rattle.rayon_machine_places.specs.Places.{own_pool, own_index, plan_pool, plan_job, after_wait, finish, walk, settle, after_set, after_found, after_news, after_raise, undo, set_call, next_victim, not_self, after_failure, next_steal, next_yield, next_of}
+use Rattle.rayon_machine_places.specs.World.{Stack, World}
+use Rattle.rayon_machine_places.specs.Steps.{after_move}
+use Rattle.rayon_machine_places.specs.Readers.{is_done}
+use Rattle.rayon_machine_laws.proofs.Located.{is_left}
+
+-- an open call's numbers are given out, and its job is the one whose ending comes into the call's cell
+pub record Opened (w : World) (q : Party) (o : OpenCall) : Type 0 where
+  pub number : o.number + 1 ≤ w.calls
+  pub made : o.job + 1 ≤ w.jobs
+  pub target : (w.call o.number).job ≡ o.job
+  pub kind : (w.job o.job).kind ≡ Stored o.number q
+  pub pool : (w.job o.job).pool ≡ o.pool
+
+-- a job of this kind, made by a call at this pool
+pub record MadeAs (w : World) (t p : ℕ) (k : JobKind) : Type 0 where
+  pub made : t + 1 ≤ w.jobs
+  pub kind : (w.job t).kind ≡ k
+  pub pool : (w.job t).pool ≡ p
+
+-- how the first side of a join ended; a call without a first side says nothing of one
+abbrev pub FirstEnds : World → Option ℕ → Option Ending → Type 0
+FirstEnds w None None = ⊤
+FirstEnds w (Some a) (Some e) = (w.job a).at ≡ Over e
+FirstEnds w _ _ = ⊥
+
+abbrev pub SaysTarget : World → Party → Target → Type 0
+SaysTarget w q Termination = ⊤
+SaysTarget w q (Answer o f) = Opened w q o × FirstEnds w (w.call o.number).first f
+
+-- a job that has left its call
+abbrev pub Left : World → ℕ → Type 0
+Left w t = is_left (w.job t).at ≡ true
+
+-- a job whose call waits for it
+abbrev pub is_detached : JobKind → Bool
+is_detached (Detached p) = true
+is_detached _ = false
+
+pub record Awaited (w : World) (t : ℕ) : Type 0 where
+  pub made : t + 1 ≤ w.jobs
+  pub kind : is_detached (w.job t).kind ≡ false
+
+abbrev pub SaysFound : World → Option ℕ → Type 0
+SaysFound w None = ⊤
+SaysFound w (Some t) = Left w t
+
+abbrev pub SaysPlan : World → Party → Plan → Type 0
+SaysPlan w q (Detach p t) = MadeAs w t p (Detached p)
+SaysPlan w q (Here p t) = MadeAs w t p Direct
+SaysPlan w q (Send o) = Opened w q o × ((w.call o.number).first ≡ None)
+SaysPlan w q (Fork o a) = Opened w q o × ((w.call o.number).first ≡ Some a) × Awaited w a
+
+abbrev pub SaysThen : World → Party → Then → Type 0
+SaysThen w q (BeginFound g t) = SaysTarget w q g × Left w t
+SaysThen w q (LeaveWait g) = SaysTarget w q g
+SaysThen w q Resume = ⊤
+SaysThen w q (Await o) = SaysTarget w q (Answer o None)
+SaysThen w q (RunFirst o a) = SaysPlan w q (Fork o a)
+SaysThen w q (Answers o f e) = Opened w q o × FirstEnds w (w.call o.number).first f × ((w.job o.job).at ≡ Over e)
+SaysThen w q (Ran t e) = (w.job t).at ≡ Over e
+SaysThen w q (GiveBack n) = SaysPlan w q n
+
+-- whose share is lowered, by what follows
+abbrev pub SaysOwner : World → ℕ → ℕ → Then → Type 0
+SaysOwner w t p Resume = ((w.job t).kind ≡ Detached p) × (is_done (w.job t).at ≡ true)
+SaysOwner w t p (Answers o f e) = o.job ≡ t
+SaysOwner w t p (Ran u e) = (u ≡ t) × ((w.job t).kind ≡ Direct)
+SaysOwner w t p (GiveBack n) = plan_job n ≡ t
+SaysOwner w t p _ = ⊥
+
+abbrev pub SaysShare : World → ℕ → Share → Then → Type 0
+SaysShare w p PoolValue n = ((w.pool p).held ≡ false) × (n ≡ Resume)
+SaysShare w p (OfJob t) n = (t + 1 ≤ w.jobs) × ((w.job t).pool ≡ p) × SaysOwner w t p n
+
+-- the job that a call's latch counts is over; a pool whose terminate latches are set has ended
+abbrev pub SaysLatch : World → ℕ → Latch → Type 0
+SaysLatch w p Terminate = (w.pool p).count ≡ 0
+SaysLatch w p (OfCall c) = (c + 1 ≤ w.calls) × (is_done (w.job (w.call c).job).at ≡ true)
+
+abbrev pub SaysRun : World → ℕ → JobKind → Type 0
+SaysRun w t Direct = ⊤
+SaysRun w t k = (t + 1 ≤ w.jobs) × ((w.job t).kind ≡ k)
+
+abbrev pub Says : World → Party → Place → Type 0
+Says w q (ProbeWorking k) = SaysTarget w q k.target
+Says w q (PopWorking k) = SaysTarget w q k.target
+Says w q (TakeCastWorking k) = SaysTarget w q k.target
+Says w q (BecomeInactive k) = SaysTarget w q k.target
+Says w q (ProbeIdle k) = SaysTarget w q k.target
+Says w q (PopIdle k) = SaysTarget w q k.target
+Says w q (TakeCastIdle k) = SaysTarget w q k.target
+Says w q (PickVictim k) = SaysTarget w q k.target
+Says w q (PopInjected k) = SaysTarget w q k.target
+Says w q (AnnounceSelf k) = SaysTarget w q k.target
+Says w q (GetSleepy k) = SaysTarget w q k.target
+Says w q (LockOwn k) = SaysTarget w q k.target
+Says w q (FallAsleep k) = SaysTarget w q k.target
+Says w q (LoadCounters k) = SaysTarget w q k.target
+Says w q (AddSleeping k) = SaysTarget w q k.target
+Says w q (LookAtCast k) = SaysTarget w q k.target
+Says w q (LookAtInjector k) = SaysTarget w q k.target
+Says w q (BlockSelf k) = SaysTarget w q k.target
+Says w q (RelockOwn k) = SaysTarget w q k.target
+Says w q (UndoSleeping k) = SaysTarget w q k.target
+Says w q (WakeUp k) = SaysTarget w q k.target
+Says w q (UnlockOwn k) = SaysTarget w q k.target
+Says w q (LeaveSearch k) = SaysTarget w q k.target × SaysFound w k.found
+Says w q (StealFrom k n) = SaysTarget w q k.target
+Says w q (JoinProbe o) = SaysTarget w q (Answer o (Some Fine))
+Says w q (JoinPop o) = SaysTarget w q (Answer o (Some Fine))
+Says w q (JoinTakeCast o) = SaysTarget w q (Answer o (Some Fine))
+Says w q (SecondSide o) = SaysTarget w q (Answer o (Some Fine))
+Says w q (BeginTask t) = Left w t
+Says w q (BeginHere t) = Awaited w t
+Says w q (Run t k) = SaysRun w t k
+Says w q (RaiseCount n) = SaysPlan w q n
+Says w q (GrowCall n) = SaysPlan w q n
+Says w q (LookQueue n) = SaysPlan w q n
+Says w q (PushJob n e) = SaysPlan w q n
+Says w q (TellNews n e) = SaysPlan w q n
+Says w q (LockToWake k) = SaysThen w q k.then
+Says w q (WakeWorker k) = SaysThen w q k.then
+Says w q (UnlockWoken k) = SaysThen w q k.then
+Says w q (WaitForLock o) = SaysTarget w q (Answer o None)
+Says w q (TakeResult o f) = SaysTarget w q (Answer o f)
+Says w q (LowerCount p s n) = SaysThen w q n × SaysShare w p s n
+Says w q (StoreResult c o e) = (c + 1 ≤ w.calls) × ((w.job (w.call c).job).at ≡ Over e)
+Says w q (SetLatch s) = SaysLatch w s.pool s.latch × SaysThen w q s.then
+Says w q (LockToSettle s) = SaysLatch w s.pool s.latch × SaysThen w q s.then
+Says w q (WakeSettled s) = SaysLatch w s.pool s.latch × SaysThen w q s.then
+Says w q (UnlockSettled s) = SaysLatch w s.pool s.latch × SaysThen w q s.then
+Says w q (SetLockLatch c) = SaysLatch w 0 (OfCall c)
+Says w q (FirstSide o a) = SaysPlan w q (Fork o a)
+Says w q (AtOnce p t) = SaysPlan w q (Here p t)
+Says w q _ = ⊤
+
+-- the job whose run a frame goes on from, and the job that a place begins or runs for its call
+abbrev pub wants : Place → Option ℕ
+wants (FirstSide o a) = Some a
+wants (SecondSide o) = Some o.job
+wants (AtOnce p t) = Some t
+wants _ = None
+
+abbrev pub here : Place → Option ℕ
+here (BeginHere t) = Some t
+here (Run t Direct) = Some t
+here _ = None
+
+-- above a frame stands what it goes on from
+abbrev pub Link : Place → Place → Type 0
+Link f x = (t : ℕ) → wants f ≡ Some t → here x ≡ Some t
+
+abbrev pub Linked : Place → List Place → Type 0
+Linked x [] = ⊤
+Linked x (f ∷ fs) = Link f x × Linked f fs
+
+abbrev pub AllSay : World → Party → List Place → Type 0
+AllSay w q [] = ⊤
+AllSay w q (f ∷ fs) = Says w q f × AllSay w q fs
+
+-- a party's whole stack
+pub record StackSays (w : World) (q : Party) (k : Stack) : Type 0 where
+  pub top : Says w q k.top
+  pub below : AllSay w q k.below
+  pub links : Linked k.top k.below
+
+-- what is said of where a move leads
+abbrev pub SaysMove : World → Party → Move → Type 0
+SaysMove w q (Stay y) = Says w q y
+SaysMove w q (Enter f y) = Says w q f × Says w q y × Link f y
+SaysMove w q (StartRun f a) = Says w q f × Link f (Run a Direct) × Awaited w a
+SaysMove w q Back = ⊤
+SaysMove w q (HandBack n) = ⊤
+
+-- what was run for a frame below is still so
+abbrev pub PassMove : Place → Move → Type 0
+PassMove x (Stay y) = (t : ℕ) → here x ≡ Some t → here y ≡ Some t
+PassMove x (Enter f y) = (t : ℕ) → here x ≡ Some t → here f ≡ Some t
+PassMove x (StartRun f a) = (t : ℕ) → here x ≡ Some t → here f ≡ Some t
+PassMove x _ = ⊤
+
+pub none_passes : (x : Place) (g : Move) → here x ≡ None → PassMove x g
+none_passes x (Stay y) e = λ t z. cc
+none_passes x (Enter f y) e = λ t z. cc
+none_passes x (StartRun f a) e = λ t z. cc
+none_passes x Back e = tt
+none_passes x (HandBack n) e = tt
+
+pub relink : (x y : Place) (fs : List Place) → ((t : ℕ) → here x ≡ Some t → here y ≡ Some t) → Linked x fs → Linked y fs
+relink x y [] h k = tt
+relink x y (f ∷ fs) h k = (λ t z. h t (k.0 t z), k.1)
+
+pub land_says : (w : World) (q : Party) (x : Place) (g : Move) (fs : List Place) → SaysMove w q g → PassMove x g → AllSay w q fs → Linked x fs → StackSays w q (after_move g fs)
+land_says w q x (Stay y) fs s p a k = record { top = s; below = a; links = relink x y fs p k }
+land_says w q x (Enter f y) fs s p a k = record { top = s.1; below = (s.0, a); links = (s.2, relink x f fs p k) }
+land_says w q x (StartRun f u) fs s p a k = record { top = tt; below = (s.0, a); links = (s.1, relink x f fs p k) }
+land_says w q x Back [] s p a k = record { top = tt; below = tt; links = tt }
+land_says w q x Back (f ∷ fs) s p a k = record { top = a.0; below = a.1; links = k.1 }
+land_says w q x (HandBack n) [] s p a k = record { top = tt; below = tt; links = tt }
+land_says w q x (HandBack n) (f ∷ fs) s p a k = record { top = a.0; below = a.1; links = k.1 }
+
+-- what an act's answer tells of the world after it
+abbrev pub Learns : World → Place → Seen → Type 0
+Learns w (PopWorking k) (Task t) = Left w t
+Learns w (TakeCastWorking k) (Task t) = Left w t
+Learns w (PopIdle k) (Task t) = Left w t
+Learns w (TakeCastIdle k) (Task t) = Left w t
+Learns w (StealFrom k n) (Task t) = Left w t
+Learns w (PopInjected k) (Task t) = Left w t
+Learns w (JoinPop o) (Task t) = Left w t
+Learns w (JoinTakeCast o) (Task t) = Left w t
+Learns w YieldPop (Task t) = Left w t
+Learns w YieldTakeCast (Task t) = Left w t
+Learns w (YieldSteal v n) (Task t) = Left w t
+Learns w YieldPopInjected (Task t) = Left w t
+Learns w LocalPop (Task t) = Left w t
+Learns w LocalTakeCast (Task t) = Left w t
+Learns w (TakeResult o f) (Found e) = (w.job o.job).at ≡ Over e
+Learns w (LowerCount p s n) Yes = (w.pool p).count ≡ 0
+Learns w (BeginTask t) (Begun k) = (t + 1 ≤ w.jobs) × ((w.job t).kind ≡ k)
+Learns w _ _ = ⊤
+
+says_left : (w : World) (q : Party) (g : Target) → SaysTarget w q g → Says w q (after_wait g)
+says_left w q Termination s = tt
+says_left w q (Answer o f) s = s
+
+says_finish : (w : World) (q : Party) (n : Then) → SaysThen w q n → SaysMove w q (finish q n)
+says_finish w q (BeginFound g t) s = (s.0, s.1, λ u z. cc)
+says_finish w q (LeaveWait g) s = says_left w q g s
+says_finish w q Resume s = tt
+says_finish w (Worker p i) (Await o) s = s
+says_finish w (Caller c) (Await o) s = s
+says_finish w q (RunFirst o a) s = (s, (λ u z. z), s.2)
+says_finish w q (Answers o f e) s = tt
+says_finish w q (Ran t e) s = tt
+says_finish w q (GiveBack n) s = tt
+
+says_walk : (w : World) (g : PoolShape) (q : Party) (p k i : ℕ) (n : Then) → SaysThen w q n → SaysMove w q (walk g q p k i n)
+says_walk w g q p k i n s = by (nat_lt 0 k && nat_lt i g.workers)
+  where
+    by : (z : Bool) → SaysMove w q (if z then Stay (LockToWake (record { pool = p; owed = k; worker = i; then = n })) else finish q n)
+    by true = s
+    by false = says_finish w q n s
+
+says_settle : (w : World) (g : PoolShape) (q : Party) (p i : ℕ) (n : Then) → (w.pool p).count ≡ 0 → SaysThen w q n → SaysMove w q (settle g q p i n)
+says_settle w g q p i n c s = by (nat_lt i g.workers)
+  where
+    by : (z : Bool) → SaysMove w q (if z then Stay (SetLatch (record { latch = Terminate; pool = p; worker = i; then = n })) else finish q n)
+    by true = (c, s)
+    by false = says_finish w q n s
+
+says_settled : (w : World) (g : PoolShape) (q : Party) (k : Settling) (l : Latch) → SaysLatch w k.pool l → SaysThen w q k.then → SaysMove w q (after_set g q k l)
+says_settled w g q k Terminate c s = says_settle w g q k.pool (k.worker + 1) k.then c s
+says_settled w g q k (OfCall i) c s = says_finish w q k.then s
+
+says_if : (w : World) (q : Party) (x y : Place) (z : Bool) → Says w q x → Says w q y → SaysMove w q (if z then Stay x else Stay y)
+says_if w q x y true a b = a
+says_if w q x y false a b = b
+
+says_steal : (w : World) (g : PoolShape) (q : Party) (k : Wait) (n : ℕ) → SaysTarget w q k.target → Says w q (next_steal g q k n)
+says_steal w g q k n s = by (n == 0)
+  where
+    by : (z : Bool) → Says w q (if z then PopInjected k else StealFrom (record k { victim = not_self g.workers (own_index q) (next_victim g.workers k.victim) }) (n - 1))
+    by true = s
+    by false = s
+
+says_yield : (w : World) (g : PoolShape) (q : Party) (v n : ℕ) → Says w q (next_yield g q v n)
+says_yield w g q v n = by (n == 0)
+  where
+    by : (z : Bool) → Says w q (if z then YieldPopInjected else YieldSteal (not_self g.workers (own_index q) (next_victim g.workers v)) (n - 1))
+    by true = tt
+    by false = tt
+
+says_failed : (w : World) (g : PoolShape) (q : Party) (k : Wait) (r : Rounds) → SaysTarget w q k.target → Says w q (after_failure g k r)
+says_failed w g q k (Failed n) s = by (nat_lt n g.limit)
+  where
+    by : (z : Bool) → Says w q (if z then ProbeIdle (record k { rounds = Failed (n + 1) }) else AnnounceSelf k)
+    by true = s
+    by false = s
+says_failed w g q k Announced s = s
+
+says_after : (w : World) (q : Party) (g : Target) (o : Option ℕ) → SaysTarget w q g × SaysFound w o → SaysThen w q (after_found g o)
+says_after w q g None s = s.0
+says_after w q g (Some t) s = (s.0, s.1)
+
+says_raised : (w : World) (q : Party) (n : Plan) → SaysPlan w q n → SaysMove w q (after_raise n)
+says_raised w q (Detach p t) s = s
+says_raised w q (Here p t) s = (s, record { made = s.made; kind = ap is_detached (s.kind) }, λ u z. z)
+says_raised w q (Send o) s = s
+says_raised w q (Fork o a) s = s
+
+says_undone : (w : World) (q : Party) (n : Plan) → SaysPlan w q n → Says w q (undo n)
+says_undone w q (Detach p t) s = (s, (s.made, s.pool, refl))
+says_undone w q (Here p t) s = (s, (s.made, s.pool, refl))
+says_undone w q (Send o) s = (s, ((s.0).made, (s.0).pool, refl))
+says_undone w q (Fork o a) s = (s, ((s.0).made, (s.0).pool, refl))
+
+says_goes : (w : World) (q : Party) (n : Plan) → SaysPlan w q n → SaysThen w q (after_news n)
+says_goes w q (Detach p t) s = tt
+says_goes w q (Here p t) s = tt
+says_goes w q (Send o) s = (s.0, subst (λ x. FirstEnds w x None) (sym (s.1)) tt)
+says_goes w q (Fork o a) s = s
+
+says_pop : (w : World) (q : Party) (o : OpenCall) (t : ℕ) → Left w t → SaysTarget w q (Answer o (Some Fine)) → SaysMove w q (if t == o.job then Enter (SecondSide o) (BeginHere t) else Enter (JoinProbe o) (BeginTask t))
+says_pop w q o t l s = by (t == o.job) refl
+  where
+    by : (z : Bool) → (t == o.job) ≡ z → SaysMove w q (if z then Enter (SecondSide o) (BeginHere t) else Enter (JoinProbe o) (BeginTask t))
+    by true e = (s, subst (λ v. Awaited w v) (sym (eqb-true t (o.job) e)) (record { made = (s.0).made; kind = ap is_detached ((s.0).kind) }), λ u z. ap Some (eqb-true t (o.job) e) ∙ z)
+    by false e = (s, l, λ u z. cc)
+
+says_set : (w : World) (q o : Party) (c : ℕ) (e : Ending) → (c + 1 ≤ w.calls) × ((w.job (w.call c).job).at ≡ Over e) → Says w q (set_call c o)
+says_set w q (Worker p i) c e s = ((s.0, ap is_done (s.1)), tt)
+says_set w q (Caller n) c e s = (s.0, ap is_done (s.1))
+
+-- what a place says, and what its act's answer tells, gives what is said of the next place
+pub says_next : (w : World) (g : PoolShape) (q : Party) (x : Place) (e : Seen) → Learns w x e → Says w q x → SaysMove w q (next_of g q x e)
+says_next w g q (ProbeWorking k) Yes l s = says_left w q k.target s
+says_next w g q (ProbeWorking k) _ l s = s
+says_next w g q (PopWorking k) (Task t) l s = (s, l, λ u z. cc)
+says_next w g q (PopWorking k) _ l s = s
+says_next w g q (TakeCastWorking k) (Task t) l s = (s, l, λ u z. cc)
+says_next w g q (TakeCastWorking k) _ l s = s
+says_next w g q (ProbeIdle k) Yes l s = (s, tt)
+says_next w g q (ProbeIdle k) _ l s = s
+says_next w g q (PopIdle k) (Task t) l s = (s, l)
+says_next w g q (PopIdle k) _ l s = s
+says_next w g q (TakeCastIdle k) (Task t) l s = (s, l)
+says_next w g q (TakeCastIdle k) _ l s = says_if w q (PopInjected k) (PickVictim k) (g.workers == 1) s s
+says_next w g q (PickVictim k) (Start v) l s = s
+says_next w g q (PickVictim k) _ l s = s
+says_next w g q (StealFrom k n) (Task t) l s = (s, l)
+says_next w g q (StealFrom k n) _ l s = says_steal w g q k n s
+says_next w g q (PopInjected k) (Task t) l s = (s, l)
+says_next w g q (PopInjected k) _ l s = says_failed w g q k k.rounds s
+says_next w g q (AnnounceSelf k) (Jec j) l s = s
+says_next w g q (AnnounceSelf k) _ l s = s
+says_next w g q (GetSleepy k) Done l s = s
+says_next w g q (GetSleepy k) _ l s = s
+says_next w g q (FallAsleep k) Done l s = s
+says_next w g q (FallAsleep k) _ l s = s
+says_next w g q (LoadCounters k) (Word a b j) l s = says_if w q (AddSleeping (record k { sleeping = a; inactive = b })) (WakeUp (record k { rounds = Failed g.limit })) (j == k.kept) s s
+says_next w g q (LoadCounters k) _ l s = s
+says_next w g q (AddSleeping k) Done l s = s
+says_next w g q (AddSleeping k) _ l s = s
+says_next w g q (LookAtCast k) Yes l s = s
+says_next w g q (LookAtCast k) _ l s = s
+says_next w g q (LookAtInjector k) Yes l s = s
+says_next w g q (LookAtInjector k) _ l s = s
+says_next w g q (LeaveSearch k) (Wakes n) l s = says_walk w g q (own_pool q) n 0 (after_found k.target k.found) (says_after w q k.target k.found s)
+says_next w g q (LeaveSearch k) _ l s = s
+says_next w g q (JoinProbe o) Yes l s = s
+says_next w g q (JoinProbe o) _ l s = s
+says_next w g q (JoinPop o) (Task t) l s = says_pop w q o t l s
+says_next w g q (JoinPop o) _ l s = s
+says_next w g q (JoinTakeCast o) (Task t) l s = (s, l, λ u z. cc)
+says_next w g q (JoinTakeCast o) _ l s = s
+says_next w g q YieldPop (Task t) l s = l
+says_next w g q YieldPop _ l s = tt
+says_next w g q YieldTakeCast (Task t) l s = l
+says_next w g q YieldTakeCast _ l s = says_if w q YieldPopInjected YieldPick (g.workers == 1) tt tt
+says_next w g q YieldPick (Start v) l s = tt
+says_next w g q YieldPick _ l s = tt
+says_next w g q (YieldSteal v n) (Task t) l s = l
+says_next w g q (YieldSteal v n) _ l s = says_yield w g q v n
+says_next w g q YieldPopInjected (Task t) l s = l
+says_next w g q YieldPopInjected _ l s = tt
+says_next w g q LocalPop (Task t) l s = l
+says_next w g q LocalPop _ l s = tt
+says_next w g q LocalTakeCast (Task t) l s = l
+says_next w g q LocalTakeCast _ l s = tt
+says_next w g q (BeginTask t) (Begun Direct) l s = tt
+says_next w g q (BeginTask t) (Begun (Detached p)) l s = l
+says_next w g q (BeginTask t) (Begun (Stored c o)) l s = l
+says_next w g q (BeginTask t) _ l s = s
+says_next w g q (BeginHere t) e l s = tt
+says_next w g q (RaiseCount n) Done l s = says_raised w q n s
+says_next w g q (RaiseCount n) _ l s = tt
+says_next w g q (GrowCall n) Done l s = s
+says_next w g q (GrowCall n) _ l s = says_undone w q n s
+says_next w g q (LookQueue n) Yes l s = s
+says_next w g q (LookQueue n) _ l s = s
+says_next w g q (PushJob n v) Done l s = s
+says_next w g q (PushJob n v) _ l s = says_undone w q n s
+says_next w g q (TellNews n v) (Wakes k) l s = says_walk w g q (plan_pool n) k 0 (after_news n) (says_goes w q n s)
+says_next w g q (TellNews n v) _ l s = s
+says_next w g q (WakeWorker k) Yes l s = s
+says_next w g q (WakeWorker k) _ l s = s
+says_next w g q (UnlockWoken k) e l s = says_walk w g q k.pool k.owed (k.worker + 1) k.then s
+says_next w g q (TakeResult o f) (Found e) l s = ((s.0, s.1, l), ((s.0).made, (s.0).pool, refl))
+says_next w g q (TakeResult o f) _ l s = s
+says_next w g q (LowerCount p a n) Yes l s = says_settle w g q p 0 n l (s.0)
+says_next w g q (LowerCount p a n) _ l s = says_finish w q n (s.0)
+says_next w g q (StoreResult c o e) _ l s = says_set w q o c e s
+says_next w g q (SetLatch k) Yes l s = s
+says_next w g q (SetLatch k) _ l s = says_settled w g q k k.latch (s.0) (s.1)
+says_next w g q (UnlockSettled k) e l s = says_settled w g q k k.latch (s.0) (s.1)
+says_next w g q (SetLockLatch c) e l s = tt
+says_next w g q _ e l s = s

@@ -1,0 +1,109 @@
+-- from what holds of the calls and jobs of each world to the laws of latches and ends
+use Rattle.std.proofs.Common.{arith, refl, ap, subst}
+use Rattle.std.specs.Prelude.{ℕ, ◌+◌, ◌==◌, ◌≤◌, Option, Some, None, ◌≡◌}
+use Rattle.std.proofs.lemmas.Bool.{eq-eqb}
+use Rattle.rayon_machine_places.specs.declared.place.Party.{Party}
+use Rattle.rayon_machine_places.specs.declared.place.Ending.{Ending}
+use Rattle.rayon_machine_places.specs.declared.place.Ending.TheVariants.{Fine, Fault}
+use Rattle.rayon_machine_places.specs.declared.place.Plan.{Plan}
+use Rattle.rayon_machine_places.specs.declared.place.Plan.TheVariants.{Detach, Here, Send, Fork}
+use Rattle.rayon_machine_places.specs.declared.place.Then.{Then}
+use Rattle.rayon_machine_places.specs.declared.place.Then.TheVariants.{Answers, Ran, GiveBack}
+use Rattle.rayon_machine_places.specs.declared.place.Place.{Place}
+use Rattle.rayon_machine_places.specs.declared.place.Place.TheVariants.{LowerCount, SetLatch, LockToSettle, WakeSettled, UnlockSettled}
+use Rattle.rayon_machine_places.specs.declared.state.Whereabouts.TheVariants.{Over}
+use Rattle.rayon_machine_places.specs.declared.place.OpenCall.{OpenCall}
+use Rattle.rayon_machine_places.specs.World.{World}
+use Rattle.rayon_machine_laws.specs.Once.{one, times}
+use Rattle.rayon_machine_laws.specs.Latch.{IsLatched}
+use Rattle.rayon_machine_laws.specs.End.{HasEnded, SideEnded, SideFine, answered, IsVerdict, follows, IsEnd, IsUntouched, AllJobs, IsRefused}
+use Rattle.rayon_machine_laws.proofs.Hands.{hand_plan, hand_then, hand, held}
+use Rattle.rayon_machine_laws.proofs.Located.{loc_of, loc_at, is_loc, where_is, fits, unbegun, Hand, Deck, Inj}
+use Rattle.rayon_machine_laws.proofs.PlacedRuns.{JobsHold, once}
+use Rattle.rayon_machine_laws.proofs.Claims.{Opened, FirstEnds, SaysThen, Says}
+use Rattle.rayon_machine_laws.proofs.ClaimRuns.{CallsHold}
+
+pub latched : (w : World) → CallsHold w → IsLatched w
+latched w h = record { latch = h.latches; cell = h.cells }
+
+pub has_ended : (w : World) → JobsHold w → (t : ℕ) (e : Ending) → (w.job t).at ≡ Over e → HasEnded w t e
+has_ended w h t e z = record { at = z; runs = (once w h).over t e z }
+
+side_ended : (w : World) → JobsHold w → (a : Option ℕ) (f : Option Ending) → FirstEnds w a f → SideEnded w a f
+side_ended w h None None s = tt
+side_ended w h (Some a) (Some e) s = has_ended w h a e s
+side_ended w h None (Some e) s = s
+side_ended w h (Some a) None s = s
+
+side_fine : (w : World) → JobsHold w → (a : Option ℕ) (f : Option Ending) → (f ≡ Some Fault → ⊥) → FirstEnds w a f → SideFine w a
+side_fine w h None f n s = tt
+side_fine w h (Some a) (Some Fine) n s = has_ended w h a Fine s
+side_fine w h (Some a) (Some Fault) n s = absurd (n refl)
+side_fine w h (Some a) None n s = absurd s
+
+verdict : (w : World) → JobsHold w → (o : OpenCall) (f : Option Ending) (e : Ending) → FirstEnds w (w.call o.number).first f → (w.job o.job).at ≡ Over e → IsVerdict w o (answered f e)
+verdict w h o (Some Fault) e s z = side_ended w h ((w.call o.number).first) (Some Fault) s
+verdict w h o (Some Fine) Fault s z = (has_ended w h (o.job) Fault z, side_fine w h ((w.call o.number).first) (Some Fine) (λ y. cc) s)
+verdict w h o (Some Fine) Fine s z = (has_ended w h (o.job) Fine z, side_fine w h ((w.call o.number).first) (Some Fine) (λ y. cc) s)
+verdict w h o None Fault s z = (has_ended w h (o.job) Fault z, side_fine w h ((w.call o.number).first) None (λ y. cc) s)
+verdict w h o None Fine s z = (has_ended w h (o.job) Fine z, side_fine w h ((w.call o.number).first) None (λ y. cc) s)
+
+some_same : {a b : Then} → Some a ≡ Some b → a ≡ b
+some_same e = cc
+
+-- what follows is what the place says of it
+follows_says : (w : World) (q : Party) (x : Place) (n : Then) → follows x ≡ Some n → Says w q x → SaysThen w q n
+follows_says w q (LowerCount p s k) n z y = subst (λ v. SaysThen w q v) (let e : k ≡ n = cc in e) (y.0)
+follows_says w q (SetLatch k) n z y = subst (λ v. SaysThen w q v) (let e : k.then ≡ n = some_same z in e) (y.1)
+follows_says w q (LockToSettle k) n z y = subst (λ v. SaysThen w q v) (let e : k.then ≡ n = some_same z in e) (y.1)
+follows_says w q (WakeSettled k) n z y = subst (λ v. SaysThen w q v) (let e : k.then ≡ n = some_same z in e) (y.1)
+follows_says w q (UnlockSettled k) n z y = subst (λ v. SaysThen w q v) (let e : k.then ≡ n = some_same z in e) (y.1)
+follows_says w q _ n z y = cc
+
+-- and what it has in hand
+follows_hand : (t : ℕ) (x : Place) (n : Then) → follows x ≡ Some n → hand t x ≡ hand_then t n
+follows_hand t (LowerCount p s k) n z = ap (hand_then t) (let e : k ≡ n = cc in e)
+follows_hand t (SetLatch k) n z = ap (hand_then t) (some_same z)
+follows_hand t (LockToSettle k) n z = ap (hand_then t) (some_same z)
+follows_hand t (WakeSettled k) n z = ap (hand_then t) (some_same z)
+follows_hand t (UnlockSettled k) n z = ap (hand_then t) (some_same z)
+follows_hand t _ n z = cc
+
+pub ends_so : (w : World) → CallsHold w → IsEnd w
+ends_so w h = record {
+  waited = λ q o f e z. (let s : Opened w q o × FirstEnds w (w.call o.number).first f × ((w.job o.job).at ≡ Over e) = follows_says w q ((w.stack q).top) (Answers o f e) z ((h.says q).top) in
+      record { own = (s.0).target; job = has_ended w (h.jobs) (o.job) e (s.2); side = side_ended w (h.jobs) ((w.call o.number).first) f (s.1); fault = verdict w (h.jobs) o f e (s.1) (s.2) });
+  once = λ q t e z. has_ended w (h.jobs) t e (follows_says w q ((w.stack q).top) (Ran t e) z ((h.says q).top));
+}
+
+-- a job whose record names no list, and that was not begun, is untouched
+untouched : (w : World) → JobsHold w → (t : ℕ) → (w.job t).runs ≡ 0 → ((p i : ℕ) → is_loc (Deck p i) (loc_at (w.job t)) ≡ 0) → ((p : ℕ) → is_loc (Inj p) (loc_at (w.job t)) ≡ 0) → IsUntouched w t
+untouched w h t r d i = record {
+  runs = r;
+  deque = λ p j. (let a : times t ((w.seat p j).own) ≤ is_loc (Deck p j) (loc_at (w.job t)) = ((h.ok).placed) (Deck p j) t in let b : is_loc (Deck p j) (loc_at (w.job t)) ≡ 0 = d p j in omega (arith, a, b));
+  cast = λ p j. (once w h).cast p j t;
+  injector = λ p. (let a : times t ((w.pool p).injector) ≤ is_loc (Inj p) (loc_at (w.job t)) = ((h.ok).placed) (Inj p) t in let b : is_loc (Inj p) (loc_at (w.job t)) ≡ 0 = i p in omega (arith, a, b));
+}
+
+held_untouched : (w : World) → JobsHold w → (q : Party) (t : ℕ) → 1 ≤ held t (w.stack q) → IsUntouched w t
+held_untouched w h q t b = let a : held t (w.stack q) ≤ is_loc (Hand q) (loc_at (w.job t)) = ((h.ok).placed) (Hand q) t in
+    let z : loc_at (w.job t) ≡ Some (Hand q) = where_is (Hand q) (loc_at (w.job t)) (omega (arith, a, b)) in
+    untouched w h t (unbegun ((w.job t).at) ((w.job t).runs) (Hand q) refl z) (λ p i. ap (is_loc (Deck p i)) z) (λ p. ap (is_loc (Inj p)) z)
+
+one_self : (t : ℕ) → one (t == t) ≡ 1
+one_self t = ap one (eq-eqb t t refl)
+
+given_back : (w : World) → JobsHold w → (q : Party) (n : Plan) → ((t : ℕ) → hand_plan t n ≤ held t (w.stack q)) → AllJobs (IsUntouched w) n
+given_back w h q (Detach p t) f = held_untouched w h q t (let a : one (t == t) ≤ held t (w.stack q) = f t in let b : one (t == t) ≡ 1 = one_self t in omega (arith, a, b))
+given_back w h q (Here p t) f = held_untouched w h q t (let a : one (t == t) ≤ held t (w.stack q) = f t in let b : one (t == t) ≡ 1 = one_self t in omega (arith, a, b))
+given_back w h q (Send o) f = held_untouched w h q (o.job) (let a : one (o.job == o.job) ≤ held (o.job) (w.stack q) = f (o.job) in let b : one (o.job == o.job) ≡ 1 = one_self (o.job) in omega (arith, a, b))
+given_back w h q (Fork o s) f = (
+  held_untouched w h q s (let a : one (s == s) + one (s == o.job) ≤ held s (w.stack q) = f s in let b : one (s == s) ≡ 1 = one_self s in omega (arith, a, b)),
+  held_untouched w h q (o.job) (let a : one (o.job == s) + one (o.job == o.job) ≤ held (o.job) (w.stack q) = f (o.job) in let b : one (o.job == o.job) ≡ 1 = one_self (o.job) in omega (arith, a, b)),
+)
+
+pub refused_so : (w : World) → JobsHold w → IsRefused w
+refused_so w h = record {
+  going = λ q n z. given_back w h q n (λ t. (let a : hand t ((w.stack q).top) ≡ hand_plan t n = follows_hand t ((w.stack q).top) (GiveBack n) z in omega (arith, a)));
+  gone = λ t z. untouched w h t (subst (λ v. fits v ((w.job t).runs)) z (((h.ok).fit) t)) (λ p i. ap (λ v. is_loc (Deck p i) (loc_of v ((w.job t).runs))) z) (λ p. ap (λ v. is_loc (Inj p) (loc_of v ((w.job t).runs))) z);
+}

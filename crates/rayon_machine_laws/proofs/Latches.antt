@@ -1,0 +1,122 @@
+-- what each act leaves of the latches
+use Rattle.std.proofs.Common.{rules, arith, refl, ap, subst}
+use Rattle.std.specs.Prelude.{ℕ, Bool, true, false, Option, Some, None, ◌≡◌, IfSome}
+use Rattle.rayon_machine_places.specs.declared.place.Party.{Party}
+use Rattle.rayon_machine_places.specs.declared.place.Party.TheVariants.{Worker, Caller}
+use Rattle.rayon_machine_places.specs.declared.place.Latch.{Latch}
+use Rattle.rayon_machine_places.specs.declared.place.Latch.TheVariants.{Terminate, OfCall}
+use Rattle.rayon_machine_places.specs.declared.place.Plan.{Plan}
+use Rattle.rayon_machine_places.specs.declared.place.Place.{Place}
+use Rattle.rayon_machine_places.specs.declared.place.Place.TheVariants.{ProbeWorking, GetSleepy, FallAsleep, BlockSelf, WakeUp, GrowCall, SetLatch, SetLockLatch}
+use Rattle.rayon_machine_places.specs.declared.act.Act.TheVariants.{Sleepy, Asleep, Wakeup, Set}
+use Rattle.rayon_machine_places.specs.declared.act.Seen.{Seen}
+use Rattle.rayon_machine_places.specs.declared.act.Seen.TheVariants.{Yes}
+use Rattle.rayon_machine_places.specs.declared.state.Letter.{Letter}
+use Rattle.rayon_machine_places.specs.declared.state.Letter.TheVariants.{Unset, Sleepy as IsSleepy, Sleeping, Set as IsSet}
+use Rattle.rayon_machine_places.specs.declared.place.Settling.{Settling}
+use Rattle.rayon_machine_places.specs.Places.{latch_of, act_of}
+use Rattle.rayon_machine_places.specs.World.{Shape, Counts, Part, letter, set_latch, effect}
+use Rattle.rayon_machine_laws.specs.Committed.{is_blocking}
+
+-- an act leaves the letters of the latches that it touches
+pub record SameLatches (m : Part) (r : Seen × Part) : Type 0 where
+  pub seat : r.1.seat.latch ≡ m.seat.latch
+  pub call : r.1.call.latch ≡ m.call.latch
+
+-- the places at which a party writes a latch
+abbrev pub is_latching : Place → Bool
+is_latching (GetSleepy k) = true
+is_latching (FallAsleep k) = true
+is_latching (WakeUp k) = true
+is_latching (GrowCall n) = true
+is_latching (SetLatch s) = true
+is_latching (SetLockLatch c) = true
+is_latching _ = false
+
+pub latches_same : (h : Shape) (q : Party) (c : Counts) (m : Part) (x : Place) → is_latching x ≡ false → IfSome (effect (act_of q x) h q c m) (SameLatches m)
+latches_same h (Worker a b) c m (ProbeWorking k) z = search (rules, arith)
+latches_same h q c m (GetSleepy k) z = cc
+latches_same h q c m (FallAsleep k) z = cc
+latches_same h q c m (WakeUp k) z = cc
+latches_same h q c m (GrowCall n) z = cc
+latches_same h q c m (SetLatch s) z = cc
+latches_same h q c m (SetLockLatch d) z = cc
+latches_same h (Worker a b) c m _ z = search (rules, arith)
+latches_same h (Caller n) c m _ z = search (rules, arith)
+
+-- an act on a latch writes no other: not the call's where it is the worker's own, and not the seat's where it is a call's
+abbrev pub OneLatch : Latch → Part → Seen × Part → Type 0
+OneLatch Terminate m r = r.1.call.latch ≡ m.call.latch
+OneLatch (OfCall c) m r = r.1.seat.latch ≡ m.seat.latch
+
+sleepy_one : (l : Latch) (h : Shape) (q : Party) (c : Counts) (m : Part) → IfSome (effect (Sleepy l) h q c m) (OneLatch l m)
+sleepy_one Terminate h q c m = search (rules, arith)
+sleepy_one (OfCall n) h q c m = search (rules, arith)
+
+asleep_one : (l : Latch) (h : Shape) (q : Party) (c : Counts) (m : Part) → IfSome (effect (Asleep l) h q c m) (OneLatch l m)
+asleep_one Terminate h q c m = search (rules, arith)
+asleep_one (OfCall n) h q c m = search (rules, arith)
+
+wakeup_one : (l : Latch) (h : Shape) (q : Party) (c : Counts) (m : Part) → IfSome (effect (Wakeup l) h q c m) (OneLatch l m)
+wakeup_one Terminate h q c m = search (rules, arith)
+wakeup_one (OfCall n) h q c m = search (rules, arith)
+
+-- the latch that a waiting worker writes
+abbrev pub writes : Place → Option Latch
+writes (GetSleepy k) = Some (latch_of k.target)
+writes (FallAsleep k) = Some (latch_of k.target)
+writes (WakeUp k) = Some (latch_of k.target)
+writes _ = None
+
+abbrev pub or_terminate : Option Latch → Latch
+or_terminate None = Terminate
+or_terminate (Some l) = l
+
+pub writes_one : (h : Shape) (q : Party) (c : Counts) (m : Part) (x : Place) (l : Latch) → writes x ≡ Some l → IfSome (effect (act_of q x) h q c m) (OneLatch l m)
+writes_one h (Worker a b) c m (GetSleepy k) l e = subst (λ z. IfSome (effect (Sleepy (latch_of k.target)) h (Worker a b) c m) (OneLatch z m)) (ap (λ z. or_terminate z) e) (sleepy_one (latch_of k.target) h (Worker a b) c m)
+writes_one h (Worker a b) c m (FallAsleep k) l e = subst (λ z. IfSome (effect (Asleep (latch_of k.target)) h (Worker a b) c m) (OneLatch z m)) (ap (λ z. or_terminate z) e) (asleep_one (latch_of k.target) h (Worker a b) c m)
+writes_one h (Worker a b) c m (WakeUp k) l e = subst (λ z. IfSome (effect (Wakeup (latch_of k.target)) h (Worker a b) c m) (OneLatch z m)) (ap (λ z. or_terminate z) e) (wakeup_one (latch_of k.target) h (Worker a b) c m)
+writes_one h (Caller n) c m (GetSleepy k) l e = tt
+writes_one h (Caller n) c m (FallAsleep k) l e = tt
+writes_one h (Caller n) c m (WakeUp k) l e = tt
+writes_one h q c m _ l e = cc
+
+pub grow_one : (h : Shape) (q : Party) (c : Counts) (m : Part) (n : Plan) → IfSome (effect (act_of q (GrowCall n)) h q c m) (λ r. r.1.seat.latch ≡ m.seat.latch)
+grow_one h (Worker a b) c m n = refl
+grow_one h (Caller o) c m n = refl
+
+pub lock_one : (h : Shape) (q : Party) (c : Counts) (m : Part) (d : ℕ) → IfSome (effect (act_of q (SetLockLatch d)) h q c m) (λ r. r.1.seat.latch ≡ m.seat.latch)
+lock_one h (Worker a b) c m d = refl
+lock_one h (Caller o) c m d = refl
+
+-- who sets a latch finds out whether its worker slept
+pub record Sets (l : Latch) (m : Part) (r : Seen × Part) : Type 0 where
+  pub other : OneLatch l m r
+  pub now : letter l (r.1) ≡ IsSet
+  pub yes : letter l m ≡ Sleeping → r.0 ≡ Yes
+
+set_if : (l : Latch) (m : Part) (x : Letter) → letter l m ≡ x → IfSome (set_latch l m x) (Sets l m)
+set_if Terminate m Sleeping e = record { other = refl; now = refl; yes = λ z. refl }
+set_if Terminate m Unset e = record { other = refl; now = refl; yes = λ z. absurd (cc) }
+set_if Terminate m IsSleepy e = record { other = refl; now = refl; yes = λ z. absurd (cc) }
+set_if Terminate m IsSet e = record { other = refl; now = refl; yes = λ z. absurd (cc) }
+set_if (OfCall n) m Sleeping e = record { other = refl; now = refl; yes = λ z. refl }
+set_if (OfCall n) m Unset e = record { other = refl; now = refl; yes = λ z. absurd (cc) }
+set_if (OfCall n) m IsSleepy e = record { other = refl; now = refl; yes = λ z. absurd (cc) }
+set_if (OfCall n) m IsSet e = record { other = refl; now = refl; yes = λ z. absurd (cc) }
+
+pub set_one : (h : Shape) (q : Party) (c : Counts) (m : Part) (s : Settling) → IfSome (effect (act_of q (SetLatch s)) h q c m) (Sets s.latch m)
+set_one h (Worker a b) c m s = set_if s.latch m (letter s.latch m) refl
+set_one h (Caller o) c m s = set_if s.latch m (letter s.latch m) refl
+
+set_blocks : (l : Latch) (r j : ℕ) (h : Shape) (q : Party) (c : Counts) (m : Part) → IfSome (effect (Set l r j) h q c m) (λ r. r.1.seat.blocked ≡ true → m.seat.blocked ≡ true)
+set_blocks Terminate r j h q c m = search (rules, arith)
+set_blocks (OfCall n) r j h q c m = search (rules, arith)
+
+-- only its own act blocks a worker
+pub blocks_not : (h : Shape) (q : Party) (c : Counts) (m : Part) (x : Place) → is_blocking x ≡ false → IfSome (effect (act_of q x) h q c m) (λ r. r.1.seat.blocked ≡ true → m.seat.blocked ≡ true)
+blocks_not h (Worker a b) c m (ProbeWorking k) z = search (rules, arith)
+blocks_not h q c m (BlockSelf k) z = cc
+blocks_not h q c m (SetLatch s) z = set_blocks s.latch s.pool s.worker h q c m
+blocks_not h (Worker a b) c m _ z = search (rules, arith)
+blocks_not h (Caller n) c m _ z = search (rules, arith)

@@ -1,0 +1,246 @@
+-- what no step takes back, so that what a place says stays true while others move
+use Rattle.std.proofs.Common.{rules, arith, refl, sym, ◌∙◌, ap, subst}
+use Rattle.std.specs.Prelude.{ℕ, Bool, true, false, ◌+◌, ◌-◌, ◌==◌, ◌≤◌, if◌then◌else◌, Option, Some, None, List, [], ◌∷◌, ◌≡◌, IfSome}
+use Rattle.std.proofs.lemmas.Bool.{eq-eqb}
+use Rattle.rayon_machine_places.specs.declared.place.Party.{Party}
+use Rattle.rayon_machine_places.specs.declared.place.Party.TheVariants.{Worker, Caller}
+use Rattle.rayon_machine_places.specs.declared.place.Ending.{Ending}
+use Rattle.rayon_machine_places.specs.declared.place.Ending.TheVariants.{Fine}
+use Rattle.rayon_machine_places.specs.declared.place.JobKind.{JobKind}
+use Rattle.rayon_machine_places.specs.declared.place.JobKind.TheVariants.{Detached, Stored, Direct}
+use Rattle.rayon_machine_places.specs.declared.place.Target.{Target}
+use Rattle.rayon_machine_places.specs.declared.place.Target.TheVariants.{Termination, Answer}
+use Rattle.rayon_machine_places.specs.declared.place.Latch.{Latch}
+use Rattle.rayon_machine_places.specs.declared.place.Latch.TheVariants.{Terminate, OfCall}
+use Rattle.rayon_machine_places.specs.declared.place.Plan.{Plan}
+use Rattle.rayon_machine_places.specs.declared.place.Plan.TheVariants.{Detach, Here, Send, Fork}
+use Rattle.rayon_machine_places.specs.declared.place.Share.{Share}
+use Rattle.rayon_machine_places.specs.declared.place.Share.TheVariants.{PoolValue, OfJob}
+use Rattle.rayon_machine_places.specs.declared.place.Then.{Then}
+use Rattle.rayon_machine_places.specs.declared.place.Then.TheVariants.{BeginFound, LeaveWait, Resume, Await, RunFirst, Answers, Ran, GiveBack}
+use Rattle.rayon_machine_places.specs.declared.place.Place.{Place}
+use Rattle.rayon_machine_places.specs.declared.place.Place.TheVariants.{ProbeWorking, PopWorking, TakeCastWorking, BecomeInactive, ProbeIdle, PopIdle, TakeCastIdle, PickVictim, StealFrom, PopInjected, AnnounceSelf, GetSleepy, LockOwn, FallAsleep, LoadCounters, AddSleeping, LookAtCast, LookAtInjector, BlockSelf, RelockOwn, UndoSleeping, WakeUp, UnlockOwn, LeaveSearch, JoinProbe, JoinPop, JoinTakeCast, BeginTask, BeginHere, Run, RaiseCount, GrowCall, LookQueue, PushJob, TellNews, LockToWake, WakeWorker, UnlockWoken, WaitForLock, TakeResult, LowerCount, StoreResult, SetLatch, LockToSettle, WakeSettled, UnlockSettled, SetLockLatch, FirstSide, SecondSide, AtOnce}
+use Rattle.rayon_machine_places.specs.declared.act.Seen.{Seen}
+use Rattle.rayon_machine_places.specs.declared.act.Seen.TheVariants.{Done, Refused, Yes, No}
+use Rattle.rayon_machine_places.specs.declared.state.Letter.{Letter}
+use Rattle.rayon_machine_places.specs.declared.state.Letter.TheVariants.{Unset, Sleepy as IsSleepy, Sleeping, Set as IsSet}
+use Rattle.rayon_machine_places.specs.declared.state.Whereabouts.{Whereabouts}
+use Rattle.rayon_machine_places.specs.declared.state.Whereabouts.TheVariants.{Nowhere, Made, InDeque, Injected, Running, Over, HandedBack}
+use Rattle.rayon_machine_places.specs.declared.place.OpenCall.{OpenCall}
+use Rattle.rayon_machine_places.specs.Places.{latch_of, act_of}
+use Rattle.rayon_machine_places.specs.World.{Shape, Stack, World, Counts, Part, letter, with_letter, sleepy, fall_asleep, wake_up, set_latch, lowered, effect}
+use Rattle.rayon_machine_places.specs.Readers.{is_done}
+use Rattle.rayon_machine_laws.proofs.Claims.{Opened, MadeAs, FirstEnds, SaysTarget, Left, is_detached, Awaited, SaysFound, SaysPlan, SaysThen, SaysOwner, SaysShare, SaysLatch, SaysRun, Says, AllSay, StackSays}
+
+pub record Later (w u : World) : Type 0 where
+  pub jobs : w.jobs ≤ u.jobs
+  pub calls : w.calls ≤ u.calls
+  pub over : (t : ℕ) (e : Ending) → (w.job t).at ≡ Over e → (u.job t).at ≡ Over e
+  pub left : (t : ℕ) → Left w t → Left u t
+  pub kind : (t : ℕ) → t + 1 ≤ w.jobs → (u.job t).kind ≡ (w.job t).kind
+  pub pool : (t : ℕ) → t + 1 ≤ w.jobs → (u.job t).pool ≡ (w.job t).pool
+  pub target : (c : ℕ) → c + 1 ≤ w.calls → (u.call c).job ≡ (w.call c).job
+  pub side : (c : ℕ) → c + 1 ≤ w.calls → (u.call c).first ≡ (w.call c).first
+  pub ended : (p : ℕ) → (w.pool p).count ≡ 0 → (u.pool p).count ≡ 0
+  pub given : (p : ℕ) → (w.pool p).held ≡ false → (u.pool p).held ≡ false
+
+later_opened : (w u : World) → Later w u → (q : Party) (o : OpenCall) → Opened w q o → Opened u q o
+later_opened w u l q o s = record {
+  number = (let a : o.number + 1 ≤ w.calls = s.number in let b : w.calls ≤ u.calls = l.calls in omega (arith, a, b));
+  made = (let a : o.job + 1 ≤ w.jobs = s.made in let b : w.jobs ≤ u.jobs = l.jobs in omega (arith, a, b));
+  target = l.target (o.number) (s.number) ∙ s.target;
+  kind = l.kind (o.job) (s.made) ∙ s.kind;
+  pool = l.pool (o.job) (s.made) ∙ s.pool;
+}
+
+later_ends : (w u : World) → Later w u → (a : Option ℕ) (f : Option Ending) → FirstEnds w a f → FirstEnds u a f
+later_ends w u l None None s = tt
+later_ends w u l (Some a) (Some e) s = l.over a e s
+later_ends w u l None (Some e) s = s
+later_ends w u l (Some a) None s = s
+
+later_first : (w u : World) → Later w u → (c : ℕ) (f : Option Ending) → c + 1 ≤ w.calls → FirstEnds w (w.call c).first f → FirstEnds u (u.call c).first f
+later_first w u l c f b s = subst (λ a. FirstEnds u a f) (sym (l.side c b)) (later_ends w u l ((w.call c).first) f s)
+
+pub later_target : (w u : World) → Later w u → (q : Party) (g : Target) → SaysTarget w q g → SaysTarget u q g
+later_target w u l q Termination s = tt
+later_target w u l q (Answer o f) s = (later_opened w u l q o (s.0), later_first w u l (o.number) f ((s.0).number) (s.1))
+
+later_made : (w u : World) → Later w u → (t p : ℕ) (k : JobKind) → MadeAs w t p k → MadeAs u t p k
+later_made w u l t p k s = record { made = (let a : t + 1 ≤ w.jobs = s.made in let b : w.jobs ≤ u.jobs = l.jobs in omega (arith, a, b)); kind = l.kind t (s.made) ∙ s.kind; pool = l.pool t (s.made) ∙ s.pool }
+
+later_awaited : (w u : World) → Later w u → (t : ℕ) → Awaited w t → Awaited u t
+later_awaited w u l t s = record { made = (let a : t + 1 ≤ w.jobs = s.made in let b : w.jobs ≤ u.jobs = l.jobs in omega (arith, a, b)); kind = ap is_detached (l.kind t (s.made)) ∙ s.kind }
+
+later_found : (w u : World) → Later w u → (o : Option ℕ) → SaysFound w o → SaysFound u o
+later_found w u l None s = tt
+later_found w u l (Some t) s = l.left t s
+
+later_plan : (w u : World) → Later w u → (q : Party) (n : Plan) → SaysPlan w q n → SaysPlan u q n
+later_plan w u l q (Detach p t) s = later_made w u l t p (Detached p) s
+later_plan w u l q (Here p t) s = later_made w u l t p Direct s
+later_plan w u l q (Send o) s = (later_opened w u l q o (s.0), l.side (o.number) ((s.0).number) ∙ s.1)
+later_plan w u l q (Fork o a) s = (later_opened w u l q o (s.0), l.side (o.number) ((s.0).number) ∙ s.1, later_awaited w u l a (s.2))
+
+later_then : (w u : World) → Later w u → (q : Party) (n : Then) → SaysThen w q n → SaysThen u q n
+later_then w u l q (BeginFound g t) s = (later_target w u l q g (s.0), l.left t (s.1))
+later_then w u l q (LeaveWait g) s = later_target w u l q g s
+later_then w u l q Resume s = tt
+later_then w u l q (Await o) s = later_target w u l q (Answer o None) s
+later_then w u l q (RunFirst o a) s = later_plan w u l q (Fork o a) s
+later_then w u l q (Answers o f e) s = (later_opened w u l q o (s.0), later_first w u l (o.number) f ((s.0).number) (s.1), l.over (o.job) e (s.2))
+later_then w u l q (Ran t e) s = l.over t e s
+later_then w u l q (GiveBack n) s = later_plan w u l q n s
+
+pub later_done : (w u : World) → Later w u → (t : ℕ) → is_done (w.job t).at ≡ true → is_done (u.job t).at ≡ true
+later_done w u l t s = by ((w.job t).at) refl s
+  where
+    by : (v : Whereabouts) → (w.job t).at ≡ v → is_done v ≡ true → is_done (u.job t).at ≡ true
+    by (Over e) z d = ap is_done (l.over t e z)
+    by (Made q) z d = cc
+    by (Running q) z d = cc
+    by (InDeque p i) z d = cc
+    by (Injected p) z d = cc
+    by HandedBack z d = cc
+    by Nowhere z d = cc
+
+later_owner : (w u : World) → Later w u → (t p : ℕ) (n : Then) → t + 1 ≤ w.jobs → SaysOwner w t p n → SaysOwner u t p n
+later_owner w u l t p Resume b s = (l.kind t b ∙ s.0, later_done w u l t (s.1))
+later_owner w u l t p (Answers o f e) b s = s
+later_owner w u l t p (Ran v e) b s = (s.0, l.kind t b ∙ s.1)
+later_owner w u l t p (GiveBack n) b s = s
+later_owner w u l t p (BeginFound g v) b s = s
+later_owner w u l t p (LeaveWait g) b s = s
+later_owner w u l t p (Await o) b s = s
+later_owner w u l t p (RunFirst o a) b s = s
+
+later_share : (w u : World) → Later w u → (p : ℕ) (a : Share) (n : Then) → SaysShare w p a n → SaysShare u p a n
+later_share w u l p PoolValue n s = (l.given p (s.0), s.1)
+later_share w u l p (OfJob t) n s = ((let a : t + 1 ≤ w.jobs = s.0 in let b : w.jobs ≤ u.jobs = l.jobs in omega (arith, a, b)), l.pool t (s.0) ∙ s.1, later_owner w u l t p n (s.0) (s.2))
+
+later_latch : (w u : World) → Later w u → (p : ℕ) (a : Latch) → SaysLatch w p a → SaysLatch u p a
+later_latch w u l p Terminate s = l.ended p s
+later_latch w u l p (OfCall c) s = ((let a : c + 1 ≤ w.calls = s.0 in let b : w.calls ≤ u.calls = l.calls in omega (arith, a, b)), ap (λ t. is_done (u.job t).at) (l.target c (s.0)) ∙ later_done w u l ((w.call c).job) (s.1))
+
+later_run : (w u : World) → Later w u → (t : ℕ) (k : JobKind) → SaysRun w t k → SaysRun u t k
+later_run w u l t Direct s = tt
+later_run w u l t (Detached p) s = ((let a : t + 1 ≤ w.jobs = s.0 in let b : w.jobs ≤ u.jobs = l.jobs in omega (arith, a, b)), l.kind t (s.0) ∙ s.1)
+later_run w u l t (Stored c o) s = ((let a : t + 1 ≤ w.jobs = s.0 in let b : w.jobs ≤ u.jobs = l.jobs in omega (arith, a, b)), l.kind t (s.0) ∙ s.1)
+
+-- what a place says stays true
+pub later_says : (w u : World) → Later w u → (q : Party) (x : Place) → Says w q x → Says u q x
+later_says w u l q (ProbeWorking k) s = later_target w u l q k.target s
+later_says w u l q (PopWorking k) s = later_target w u l q k.target s
+later_says w u l q (TakeCastWorking k) s = later_target w u l q k.target s
+later_says w u l q (BecomeInactive k) s = later_target w u l q k.target s
+later_says w u l q (ProbeIdle k) s = later_target w u l q k.target s
+later_says w u l q (PopIdle k) s = later_target w u l q k.target s
+later_says w u l q (TakeCastIdle k) s = later_target w u l q k.target s
+later_says w u l q (PickVictim k) s = later_target w u l q k.target s
+later_says w u l q (PopInjected k) s = later_target w u l q k.target s
+later_says w u l q (AnnounceSelf k) s = later_target w u l q k.target s
+later_says w u l q (GetSleepy k) s = later_target w u l q k.target s
+later_says w u l q (LockOwn k) s = later_target w u l q k.target s
+later_says w u l q (FallAsleep k) s = later_target w u l q k.target s
+later_says w u l q (LoadCounters k) s = later_target w u l q k.target s
+later_says w u l q (AddSleeping k) s = later_target w u l q k.target s
+later_says w u l q (LookAtCast k) s = later_target w u l q k.target s
+later_says w u l q (LookAtInjector k) s = later_target w u l q k.target s
+later_says w u l q (BlockSelf k) s = later_target w u l q k.target s
+later_says w u l q (RelockOwn k) s = later_target w u l q k.target s
+later_says w u l q (UndoSleeping k) s = later_target w u l q k.target s
+later_says w u l q (WakeUp k) s = later_target w u l q k.target s
+later_says w u l q (UnlockOwn k) s = later_target w u l q k.target s
+later_says w u l q (LeaveSearch k) s = (later_target w u l q k.target (s.0), later_found w u l k.found (s.1))
+later_says w u l q (StealFrom k n) s = later_target w u l q k.target s
+later_says w u l q (JoinProbe o) s = later_target w u l q (Answer o (Some Fine)) s
+later_says w u l q (JoinPop o) s = later_target w u l q (Answer o (Some Fine)) s
+later_says w u l q (JoinTakeCast o) s = later_target w u l q (Answer o (Some Fine)) s
+later_says w u l q (SecondSide o) s = later_target w u l q (Answer o (Some Fine)) s
+later_says w u l q (Run t k) s = later_run w u l t k s
+later_says w u l q (RaiseCount n) s = later_plan w u l q n s
+later_says w u l q (GrowCall n) s = later_plan w u l q n s
+later_says w u l q (LookQueue n) s = later_plan w u l q n s
+later_says w u l q (PushJob n e) s = later_plan w u l q n s
+later_says w u l q (TellNews n e) s = later_plan w u l q n s
+later_says w u l q (LockToWake k) s = later_then w u l q k.then s
+later_says w u l q (WakeWorker k) s = later_then w u l q k.then s
+later_says w u l q (UnlockWoken k) s = later_then w u l q k.then s
+later_says w u l q (WaitForLock o) s = later_target w u l q (Answer o None) s
+later_says w u l q (TakeResult o f) s = later_target w u l q (Answer o f) s
+later_says w u l q (LowerCount p a n) s = (later_then w u l q n (s.0), later_share w u l p a n (s.1))
+later_says w u l q (StoreResult c o e) s = ((let a : c + 1 ≤ w.calls = s.0 in let b : w.calls ≤ u.calls = l.calls in omega (arith, a, b)), ap (λ t. (u.job t).at) (l.target c (s.0)) ∙ l.over ((w.call c).job) e (s.1))
+later_says w u l q (SetLatch k) s = (later_latch w u l k.pool k.latch (s.0), later_then w u l q k.then (s.1))
+later_says w u l q (LockToSettle k) s = (later_latch w u l k.pool k.latch (s.0), later_then w u l q k.then (s.1))
+later_says w u l q (WakeSettled k) s = (later_latch w u l k.pool k.latch (s.0), later_then w u l q k.then (s.1))
+later_says w u l q (UnlockSettled k) s = (later_latch w u l k.pool k.latch (s.0), later_then w u l q k.then (s.1))
+later_says w u l q (SetLockLatch c) s = later_latch w u l 0 (OfCall c) s
+later_says w u l q (FirstSide o a) s = later_plan w u l q (Fork o a) s
+later_says w u l q (AtOnce p t) s = later_plan w u l q (Here p t) s
+later_says w u l q (BeginTask t) s = l.left t s
+later_says w u l q (BeginHere t) s = later_awaited w u l t s
+later_says w u l q _ s = s
+
+pub later_all : (w u : World) → Later w u → (q : Party) (fs : List Place) → AllSay w q fs → AllSay u q fs
+later_all w u l q [] s = tt
+later_all w u l q (f ∷ fs) s = (later_says w u l q f (s.0), later_all w u l q fs (s.1))
+
+pub later_stack : (w u : World) → Later w u → (q : Party) (k : Stack) → StackSays w q k → StackSays u q k
+later_stack w u l q k s = record { top = later_says w u l q k.top (s.top); below = later_all w u l q k.below (s.below); links = s.links }
+
+-- what no act changes of the part that it touches
+pub record Static (m : Part) (r : Seen × Part) : Type 0 where
+  pub kind : r.1.job.kind ≡ m.job.kind
+  pub pool : r.1.job.pool ≡ m.job.pool
+  pub target : r.1.call.job ≡ m.call.job
+  pub side : r.1.call.first ≡ m.call.first
+  pub held : r.1.pool.held ≡ m.pool.held
+  pub ended : m.pool.count ≡ 0 → r.1.pool.count ≡ 0
+
+letter_static : (l : Latch) (m : Part) (e : Seen) (y : Letter) → Static m (e, with_letter l m y)
+letter_static Terminate m e y = record { kind = refl; pool = refl; target = refl; side = refl; held = refl; ended = λ z. z }
+letter_static (OfCall c) m e y = record { kind = refl; pool = refl; target = refl; side = refl; held = refl; ended = λ z. z }
+
+same_static : (m : Part) (e : Seen) → Static m (e, m)
+same_static m e = record { kind = refl; pool = refl; target = refl; side = refl; held = refl; ended = λ z. z }
+
+set_static : (l : Latch) (m : Part) (x : Letter) → IfSome (set_latch l m x) (Static m)
+set_static l m Sleeping = letter_static l m Yes IsSet
+set_static l m _ = letter_static l m No IsSet
+
+sleepy_static : (l : Latch) (m : Part) (x : Letter) → IfSome (sleepy l m x) (Static m)
+sleepy_static l m Unset = letter_static l m Done IsSleepy
+sleepy_static l m _ = same_static m Refused
+
+asleep_static : (l : Latch) (m : Part) (x : Letter) → IfSome (fall_asleep l m x) (Static m)
+asleep_static l m IsSleepy = letter_static l m Done Sleeping
+asleep_static l m _ = same_static m Refused
+
+wake_static : (l : Latch) (m : Part) (x : Letter) → IfSome (wake_up l m x) (Static m)
+wake_static l m IsSet = same_static m Done
+wake_static l m _ = letter_static l m Done Unset
+
+raise_static : (m : Part) → IfSome (if m.pool.count == 0 then Some (Refused, m) else Some (Done, record m { pool = record (m.pool) { count = m.pool.count + 1 }; job = record (m.job) { counted = true } })) (Static m)
+raise_static m = by (m.pool.count == 0) refl
+  where
+    by : (z : Bool) → (m.pool.count == 0) ≡ z → IfSome (if z then Some (Refused, m) else Some (Done, record m { pool = record (m.pool) { count = m.pool.count + 1 }; job = record (m.job) { counted = true } })) (Static m)
+    by true e = same_static m Refused
+    by false e = record { kind = refl; pool = refl; target = refl; side = refl; held = refl; ended = λ z. absurd (let a : (m.pool.count == 0) ≡ true = eq-eqb (m.pool.count) 0 z in cc) }
+
+lower_static : (m : Part) (s : Share) (e : Seen) → Static m (e, lowered m s)
+lower_static m PoolValue e = record { kind = refl; pool = refl; target = refl; side = refl; held = refl; ended = λ z. (let n : m.pool.count ≡ 0 = z in let goal : m.pool.count - 1 ≡ 0 = omega (arith, n) in goal) }
+lower_static m (OfJob t) e = record { kind = refl; pool = refl; target = refl; side = refl; held = refl; ended = λ z. (let n : m.pool.count ≡ 0 = z in let goal : m.pool.count - 1 ≡ 0 = omega (arith, n) in goal) }
+
+pub act_static : (h : Shape) (q : Party) (c : Counts) (m : Part) (x : Place) → IfSome (effect (act_of q x) h q c m) (Static m)
+act_static h (Worker a b) c m (ProbeWorking k) = search (rules, arith)
+act_static h (Worker a b) c m (GetSleepy k) = sleepy_static (latch_of k.target) m (letter (latch_of k.target) m)
+act_static h (Worker a b) c m (FallAsleep k) = asleep_static (latch_of k.target) m (letter (latch_of k.target) m)
+act_static h (Worker a b) c m (WakeUp k) = wake_static (latch_of k.target) m (letter (latch_of k.target) m)
+act_static h (Worker a b) c m (SetLatch k) = set_static k.latch m (letter k.latch m)
+act_static h (Worker a b) c m (RaiseCount n) = raise_static m
+act_static h (Worker a b) c m (LowerCount p s n) = lower_static m s _
+act_static h (Worker a b) c m _ = search (rules, arith)
+act_static h (Caller n) c m (SetLatch k) = set_static k.latch m (letter k.latch m)
+act_static h (Caller n) c m (RaiseCount g) = raise_static m
+act_static h (Caller n) c m (LowerCount p s g) = lower_static m s _
+act_static h (Caller n) c m _ = search (rules, arith)

@@ -1,0 +1,268 @@
+-- whose call is whose: what a place names of calls, and what each act and move leaves of it
+use Rattle.std.proofs.Common.{rules, arith, refl, sym, ◌∙◌, subst}
+use Rattle.std.specs.Prelude.{ℕ, Bool, true, false, ◌&&◌, ◌+◌, nat_lt, if◌then◌else◌, Option, Some, None, ◌≡◌, IfSome, ⊤}
+use Rattle.rayon_machine_places.specs.declared.place.Party.{Party}
+use Rattle.rayon_machine_places.specs.declared.place.Party.TheVariants.{Worker, Caller}
+use Rattle.rayon_machine_places.specs.declared.place.Ending.{Ending}
+use Rattle.rayon_machine_places.specs.declared.place.JobKind.{JobKind}
+use Rattle.rayon_machine_places.specs.declared.place.JobKind.TheVariants.{Stored, Direct}
+use Rattle.rayon_machine_places.specs.declared.place.Target.{Target}
+use Rattle.rayon_machine_places.specs.declared.place.Target.TheVariants.{Termination, Answer}
+use Rattle.rayon_machine_places.specs.declared.place.Latch.{Latch}
+use Rattle.rayon_machine_places.specs.declared.place.Latch.TheVariants.{Terminate, OfCall}
+use Rattle.rayon_machine_places.specs.declared.place.Rounds.{Rounds}
+use Rattle.rayon_machine_places.specs.declared.place.Rounds.TheVariants.{Failed, Announced}
+use Rattle.rayon_machine_places.specs.declared.place.Plan.{Plan}
+use Rattle.rayon_machine_places.specs.declared.place.Plan.TheVariants.{Detach, Here, Send, Fork}
+use Rattle.rayon_machine_places.specs.declared.place.Share.{Share}
+use Rattle.rayon_machine_places.specs.declared.place.Then.{Then}
+use Rattle.rayon_machine_places.specs.declared.place.Then.TheVariants.{BeginFound, LeaveWait, Resume, Await, RunFirst, Answers, Ran, GiveBack}
+use Rattle.rayon_machine_places.specs.declared.place.Place.{Place}
+use Rattle.rayon_machine_places.specs.declared.place.Place.TheVariants.{ProbeWorking, PopWorking, TakeCastWorking, BecomeInactive, ProbeIdle, PopIdle, TakeCastIdle, PickVictim, StealFrom, PopInjected, AnnounceSelf, GetSleepy, LockOwn, FallAsleep, LoadCounters, AddSleeping, LookAtCast, LookAtInjector, BlockSelf, RelockOwn, UndoSleeping, WakeUp, UnlockOwn, LeaveSearch, JoinProbe, JoinPop, JoinTakeCast, BeginTask, Run, RaiseCount, GrowCall, LookQueue, PushJob, TellNews, LockToWake, WakeWorker, UnlockWoken, WaitForLock, TakeResult, LowerCount, StoreResult, SetLatch, LockToSettle, WakeSettled, UnlockSettled, SetLockLatch, FirstSide, SecondSide}
+use Rattle.rayon_machine_places.specs.declared.place.Move.{Move}
+use Rattle.rayon_machine_places.specs.declared.place.Move.TheVariants.{Stay, Enter, StartRun, Back, HandBack}
+use Rattle.rayon_machine_places.specs.declared.act.Seen.{Seen}
+use Rattle.rayon_machine_places.specs.declared.act.Seen.TheVariants.{Done, Yes, Task, Wakes}
+use Rattle.rayon_machine_places.specs.declared.shape.PoolShape.{PoolShape}
+use Rattle.rayon_machine_places.specs.declared.place.Wait.{Wait}
+use Rattle.rayon_machine_places.specs.declared.place.Settling.{Settling}
+use Rattle.rayon_machine_places.specs.Places.{own_pool, plan_pool, plan_call, after_wait, finish, walk, settle, after_set, after_found, after_news, undo, act_of, after_failure, next_of}
+use Rattle.rayon_machine_places.specs.World.{Shape, Counts, Part, effect}
+use Rattle.rayon_machine_laws.proofs.Frame.{if_some_all}
+
+-- the number of the call that a wait, a plan, or what follows belongs to
+abbrev pub target_number : Target → Option ℕ
+target_number Termination = None
+target_number (Answer o f) = Some o.number
+
+abbrev pub plan_number : Plan → Option ℕ
+plan_number (Detach p t) = None
+plan_number (Here p t) = None
+plan_number (Send o) = Some o.number
+plan_number (Fork o a) = Some o.number
+
+abbrev pub then_number : Then → Option ℕ
+then_number (BeginFound g t) = target_number g
+then_number (LeaveWait g) = target_number g
+then_number Resume = None
+then_number (Await o) = Some o.number
+then_number (RunFirst o a) = Some o.number
+then_number (Answers o f e) = Some o.number
+then_number (Ran t e) = None
+then_number (GiveBack n) = plan_number n
+
+-- the call of the party itself that a place belongs to
+abbrev pub own_call : Place → Option ℕ
+own_call (ProbeWorking k) = target_number k.target
+own_call (PopWorking k) = target_number k.target
+own_call (TakeCastWorking k) = target_number k.target
+own_call (BecomeInactive k) = target_number k.target
+own_call (ProbeIdle k) = target_number k.target
+own_call (PopIdle k) = target_number k.target
+own_call (TakeCastIdle k) = target_number k.target
+own_call (PickVictim k) = target_number k.target
+own_call (StealFrom k n) = target_number k.target
+own_call (PopInjected k) = target_number k.target
+own_call (AnnounceSelf k) = target_number k.target
+own_call (GetSleepy k) = target_number k.target
+own_call (LockOwn k) = target_number k.target
+own_call (FallAsleep k) = target_number k.target
+own_call (LoadCounters k) = target_number k.target
+own_call (AddSleeping k) = target_number k.target
+own_call (LookAtCast k) = target_number k.target
+own_call (LookAtInjector k) = target_number k.target
+own_call (BlockSelf k) = target_number k.target
+own_call (RelockOwn k) = target_number k.target
+own_call (UndoSleeping k) = target_number k.target
+own_call (WakeUp k) = target_number k.target
+own_call (UnlockOwn k) = target_number k.target
+own_call (LeaveSearch k) = target_number k.target
+own_call (JoinProbe o) = Some o.number
+own_call (JoinPop o) = Some o.number
+own_call (JoinTakeCast o) = Some o.number
+own_call (RaiseCount n) = plan_number n
+own_call (GrowCall n) = Some (plan_call n)
+own_call (LookQueue n) = plan_number n
+own_call (PushJob n e) = plan_number n
+own_call (TellNews n e) = plan_number n
+own_call (LockToWake k) = then_number k.then
+own_call (WakeWorker k) = then_number k.then
+own_call (UnlockWoken k) = then_number k.then
+own_call (WaitForLock o) = Some o.number
+own_call (TakeResult o f) = Some o.number
+own_call (LowerCount p s t) = then_number t
+own_call (SetLatch s) = then_number s.then
+own_call (LockToSettle s) = then_number s.then
+own_call (WakeSettled s) = then_number s.then
+own_call (UnlockSettled s) = then_number s.then
+own_call (FirstSide o a) = Some o.number
+own_call (SecondSide o) = Some o.number
+own_call _ = None
+
+-- a party as the setter of its latch knows it: any outside caller alike
+abbrev pub shown : Party → Party
+shown (Worker p i) = Worker p i
+shown (Caller n) = Caller 0
+
+-- the call whose latch the end of a run sets, and for whom
+abbrev pub kind_call : JobKind → Option (ℕ × Party)
+kind_call (Stored c o) = Some (c, shown o)
+kind_call _ = None
+
+abbrev pub latch_call : ℕ → ℕ → Latch → Option (ℕ × Party)
+latch_call p i Terminate = None
+latch_call p i (OfCall c) = Some (c, Worker p i)
+
+abbrev pub sets_for : Place → Option (ℕ × Party)
+sets_for (Run t k) = kind_call k
+sets_for (StoreResult c o e) = Some (c, shown o)
+sets_for (SetLatch s) = latch_call s.pool s.worker s.latch
+sets_for (LockToSettle s) = latch_call s.pool s.worker s.latch
+sets_for (WakeSettled s) = latch_call s.pool s.worker s.latch
+sets_for (UnlockSettled s) = latch_call s.pool s.worker s.latch
+sets_for (SetLockLatch c) = Some (c, Caller 0)
+sets_for _ = None
+
+-- what a relation on places says of a move, of the frame that it leaves too
+abbrev pub Both : (Place → Type 0) → Move → Type 0
+Both R (Stay y) = R y
+Both R (Enter f y) = R f × R y
+Both R (StartRun f t) = R f × R (Run t Direct)
+Both R Back = ⊤
+Both R (HandBack n) = ⊤
+
+-- a place names no call but those that another names
+abbrev pub OwnFrom : Option ℕ → Place → Type 0
+OwnFrom o y = (c : ℕ) → own_call y ≡ Some c → o ≡ Some c
+
+abbrev pub SetFrom : Option (ℕ × Party) → Place → Type 0
+SetFrom o y = (c : ℕ) (p : Party) → sets_for y ≡ Some (c, p) → o ≡ Some (c, p)
+
+abbrev pub NamesFrom : Place → Place → Type 0
+NamesFrom x y = OwnFrom (own_call x) y × SetFrom (sets_for x) y
+
+left_own : (g : Target) → OwnFrom (target_number g) (after_wait g)
+left_own Termination c e = cc
+left_own (Answer o f) c e = e
+
+left_set : (o : Option (ℕ × Party)) (g : Target) → SetFrom o (after_wait g)
+left_set o Termination c p e = absurd (cc)
+left_set o (Answer n f) c p e = absurd (cc)
+
+finish_names : (o : Option (ℕ × Party)) (q : Party) (t : Then) → Both (λ y. OwnFrom (then_number t) y × SetFrom o y) (finish q t)
+finish_names o q (BeginFound g t) = ((λ c e. e, λ c p e. absurd (cc)), (λ c e. absurd (cc), λ c p e. absurd (cc)))
+finish_names o q (LeaveWait g) = (left_own g, left_set o g)
+finish_names o (Worker i j) (Await n) = (λ c e. e, λ c p e. absurd (cc))
+finish_names o (Caller m) (Await n) = (λ c e. e, λ c p e. absurd (cc))
+finish_names o q (RunFirst n a) = ((λ c e. e, λ c p e. absurd (cc)), (λ c e. absurd (cc), λ c p e. absurd (cc)))
+finish_names o q Resume = tt
+finish_names o q (Answers n f e) = tt
+finish_names o q (Ran t e) = tt
+finish_names o q (GiveBack n) = tt
+
+if_names : (R : Place → Type 0) (b : Bool) (y : Place) (g : Move) → R y → Both R g → Both R (if b then Stay y else g)
+if_names R true y g a t = a
+if_names R false y g a t = t
+
+walk_names : (o : Option (ℕ × Party)) (h : PoolShape) (q : Party) (p n i : ℕ) (t : Then) → Both (λ y. OwnFrom (then_number t) y × SetFrom o y) (walk h q p n i t)
+walk_names o h q p n i t = if_names (λ y. OwnFrom (then_number t) y × SetFrom o y) (nat_lt 0 n && nat_lt i h.workers) (LockToWake (record { pool = p; owed = n; worker = i; then = t })) (finish q t) (λ c e. e, λ c p e. absurd (cc)) (finish_names o q t)
+
+settle_names : (o : Option (ℕ × Party)) (h : PoolShape) (q : Party) (p i : ℕ) (t : Then) → Both (λ y. OwnFrom (then_number t) y × SetFrom o y) (settle h q p i t)
+settle_names o h q p i t = if_names (λ y. OwnFrom (then_number t) y × SetFrom o y) (nat_lt i h.workers) (SetLatch (record { latch = Terminate; pool = p; worker = i; then = t })) (finish q t) (λ c e. e, λ c p e. absurd (cc)) (finish_names o q t)
+
+settled_names : (o : Option (ℕ × Party)) (h : PoolShape) (q : Party) (s : Settling) (l : Latch) → Both (λ y. OwnFrom (then_number s.then) y × SetFrom o y) (after_set h q s l)
+settled_names o h q s Terminate = settle_names o h q s.pool (s.worker + 1) s.then
+settled_names o h q s (OfCall c) = finish_names o q s.then
+
+set_names : (h : PoolShape) (q : Party) (s : Settling) (e : Seen) → Both (NamesFrom (SetLatch s)) (next_of h q (SetLatch s) e)
+set_names h q s Yes = (λ c e. e, λ c p e. e)
+set_names h q s _ = settled_names (latch_call s.pool s.worker s.latch) h q s s.latch
+
+found_number : (g : Target) (o : Option ℕ) → then_number (after_found g o) ≡ target_number g
+found_number g None = refl
+found_number g (Some t) = refl
+
+goes_number : (n : Plan) → then_number (after_news n) ≡ plan_number n
+goes_number (Detach p t) = refl
+goes_number (Here p t) = refl
+goes_number (Send o) = refl
+goes_number (Fork o a) = refl
+
+walk_from : (n : Option ℕ) (x : Place) (h : PoolShape) (q : Party) (p k i : ℕ) (t : Then) → own_call x ≡ n → then_number t ≡ n → Both (NamesFrom x) (walk h q p k i t)
+walk_from n x h q p k i t a b = subst (λ z. Both (λ y. OwnFrom z y × SetFrom (sets_for x) y) (walk h q p k i t)) (b ∙ sym a) (walk_names (sets_for x) h q p k i t)
+
+leave_names : (h : PoolShape) (q : Party) (k : Wait) (e : Seen) → Both (NamesFrom (LeaveSearch k)) (next_of h q (LeaveSearch k) e)
+leave_names h q k (Wakes n) = walk_from (target_number k.target) (LeaveSearch k) h q (own_pool q) n 0 (after_found k.target k.found) refl (found_number k.target k.found)
+leave_names h q k _ = (λ c e. e, λ c p e. e)
+
+tell_names : (h : PoolShape) (q : Party) (n : Plan) (v : Bool) (e : Seen) → Both (NamesFrom (TellNews n v)) (next_of h q (TellNews n v) e)
+tell_names h q n v (Wakes m) = walk_from (plan_number n) (TellNews n v) h q (plan_pool n) m 0 (after_news n) refl (goes_number n)
+tell_names h q n v _ = (λ c e. e, λ c p e. e)
+
+raise_names : (h : PoolShape) (q : Party) (n : Plan) (e : Seen) → Both (NamesFrom (RaiseCount n)) (next_of h q (RaiseCount n) e)
+raise_names h q (Detach p t) Done = (λ c e. e, λ c p e. e)
+raise_names h q (Here p t) Done = ((λ c e. e, λ c p e. e), (λ c e. e, λ c p e. e))
+raise_names h q (Send o) Done = (λ c e. e, λ c p e. e)
+raise_names h q (Fork o a) Done = (λ c e. e, λ c p e. e)
+raise_names h q n _ = tt
+
+undone_own : (n : Plan) → OwnFrom (plan_number n) (undo n)
+undone_own n c e = e
+
+pub plan_is : (n : Plan) (c : ℕ) → plan_number n ≡ Some c → Some (plan_call n) ≡ Some c
+plan_is (Detach p t) c e = cc
+plan_is (Here p t) c e = cc
+plan_is (Send o) c e = e
+plan_is (Fork o a) c e = e
+
+grow_names : (h : PoolShape) (q : Party) (n : Plan) (e : Seen) → Both (NamesFrom (GrowCall n)) (next_of h q (GrowCall n) e)
+grow_names h q n Done = (λ c e. plan_is n c e, λ c p e. e)
+grow_names h q n _ = (λ c e. plan_is n c e, λ c p e. e)
+
+store_names : (h : PoolShape) (q : Party) (c : ℕ) (o : Party) (d : Ending) (e : Seen) → Both (NamesFrom (StoreResult c o d)) (next_of h q (StoreResult c o d) e)
+store_names h q c (Worker p i) d e = (λ c e. e, λ c p e. e)
+store_names h q c (Caller n) d e = (λ c e. e, λ c p e. e)
+
+probe_names : (h : PoolShape) (q : Party) (k : Wait) (e : Seen) → Both (NamesFrom (ProbeWorking k)) (next_of h q (ProbeWorking k) e)
+probe_names h q k Yes = (left_own k.target, left_set None k.target)
+probe_names h q k _ = (λ c e. e, λ c p e. e)
+
+search_names : (h : PoolShape) (k : Wait) (r : Rounds) → NamesFrom (PopInjected k) (after_failure h k r)
+search_names h k (Failed m) = at (nat_lt m h.limit)
+  where
+    at : (b : Bool) → NamesFrom (PopInjected k) (if b then ProbeIdle (record k { rounds = Failed (m + 1) }) else AnnounceSelf k)
+    at true = (λ c e. e, λ c p e. e)
+    at false = (λ c e. e, λ c p e. e)
+search_names h k Announced = (λ c e. e, λ c p e. e)
+
+inject_names : (h : PoolShape) (q : Party) (k : Wait) (e : Seen) → Both (NamesFrom (PopInjected k)) (next_of h q (PopInjected k) e)
+inject_names h q k (Task t) = (λ c e. e, λ c p e. e)
+inject_names h q k _ = search_names h k k.rounds
+
+lower_names : (h : PoolShape) (q : Party) (p : ℕ) (s : Share) (t : Then) (e : Seen) → Both (NamesFrom (LowerCount p s t)) (next_of h q (LowerCount p s t) e)
+lower_names h q p s t Yes = settle_names None h q p 0 t
+lower_names h q p s t _ = finish_names None q t
+
+abbrev pub begins : Place → Bool
+begins (BeginTask t) = true
+begins _ = false
+
+of_every : (h : Shape) (g : PoolShape) (q : Party) (c : Counts) (m : Part) (x : Place) → ((e : Seen) → Both (NamesFrom x) (next_of g q x e)) → IfSome (effect (act_of q x) h q c m) (λ r. Both (NamesFrom x) (next_of g q x (r.0)))
+of_every h g q c m x f = if_some_all {A = Seen × Part} (λ r. Both (NamesFrom x) (next_of g q x (r.0))) (λ r. f (r.0)) (effect (act_of q x) h q c m)
+
+-- a move leads only to places that name what the one before did
+pub names_on : (h : Shape) (g : PoolShape) (q : Party) (c : Counts) (m : Part) (x : Place) → begins x ≡ false → IfSome (effect (act_of q x) h q c m) (λ r. Both (NamesFrom x) (next_of g q x (r.0)))
+names_on h g q c m (BeginTask t) z = cc
+names_on h g q c m (ProbeWorking k) z = of_every h g q c m (ProbeWorking k) (probe_names g q k)
+names_on h g q c m (PopInjected k) z = of_every h g q c m (PopInjected k) (inject_names g q k)
+names_on h g q c m (LeaveSearch k) z = of_every h g q c m (LeaveSearch k) (leave_names g q k)
+names_on h g q c m (TellNews n v) z = of_every h g q c m (TellNews n v) (tell_names g q n v)
+names_on h g q c m (RaiseCount n) z = of_every h g q c m (RaiseCount n) (raise_names g q n)
+names_on h g q c m (GrowCall n) z = of_every h g q c m (GrowCall n) (grow_names g q n)
+names_on h g q c m (StoreResult d o e) z = of_every h g q c m (StoreResult d o e) (store_names g q d o e)
+names_on h g q c m (LowerCount p s t) z = of_every h g q c m (LowerCount p s t) (lower_names g q p s t)
+names_on h g q c m (UnlockWoken k) z = of_every h g q c m (UnlockWoken k) (λ e. walk_names None g q k.pool k.owed (k.worker + 1) k.then)
+names_on h g q c m (SetLatch s) z = of_every h g q c m (SetLatch s) (set_names g q s)
+names_on h g q c m (UnlockSettled s) z = of_every h g q c m (UnlockSettled s) (λ e. settled_names (latch_call s.pool s.worker s.latch) g q s s.latch)
+names_on h g (Worker i j) c m _ z = search (rules, arith)
+names_on h g (Caller n) c m _ z = search (rules, arith)

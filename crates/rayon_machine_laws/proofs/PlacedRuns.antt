@@ -1,0 +1,287 @@
+-- each job is in its one place in every world of every run
+use Rattle.std.proofs.Common.{arith, refl, sym, ◌∙◌, ap, subst, inl, inr}
+use Rattle.std.specs.Prelude.{ℕ, Bool, true, false, ◌&&◌, ◌+◌, ◌==◌, ◌≤◌, nat_lt, if◌then◌else◌, Some, None, List, [], ◌∷◌, ◌≡◌, IfSome}
+use Rattle.std.proofs.lemmas.Bool.{eqb-true}
+use Rattle.rayon_machine_places.specs.declared.place.Party.{Party}
+use Rattle.rayon_machine_places.specs.declared.place.Party.TheVariants.{Worker, Caller}
+use Rattle.rayon_machine_places.specs.declared.place.Ending.{Ending}
+use Rattle.rayon_machine_places.specs.declared.place.Ending.TheVariants.{Fine, Fault}
+use Rattle.rayon_machine_places.specs.declared.place.JobKind.{JobKind}
+use Rattle.rayon_machine_places.specs.declared.place.JobKind.TheVariants.{Detached, Stored, Direct}
+use Rattle.rayon_machine_places.specs.declared.place.Target.TheVariants.{Termination}
+use Rattle.rayon_machine_places.specs.declared.place.Plan.{Plan}
+use Rattle.rayon_machine_places.specs.declared.place.Plan.TheVariants.{Detach, Here, Send, Fork}
+use Rattle.rayon_machine_places.specs.declared.place.Place.{Place}
+use Rattle.rayon_machine_places.specs.declared.place.Place.TheVariants.{ProbeWorking, YieldPop, LocalPop, Run, RaiseCount, FirstSide, Free, Stopped}
+use Rattle.rayon_machine_places.specs.declared.event.Event.{Event}
+use Rattle.rayon_machine_places.specs.declared.event.Event.TheVariants.{Go, From, Refuse, Miss, End, Spawn, Install, Join, Yield, YieldLocal, EndPool}
+use Rattle.rayon_machine_places.specs.declared.state.Whereabouts.{Whereabouts}
+use Rattle.rayon_machine_places.specs.declared.state.Whereabouts.TheVariants.{Nowhere, Made, InDeque, Injected, Running, Over, HandedBack}
+use Rattle.rayon_machine_places.specs.declared.place.OpenCall.{OpenCall}
+use Rattle.rayon_machine_places.specs.declared.state.Job.{Job}
+use Rattle.rayon_machine_places.specs.declared.state.Call.{Call}
+use Rattle.rayon_machine_places.specs.Places.{same_party, is_member, fresh, act_of, goes_on, is_free}
+use Rattle.rayon_machine_places.specs.World.{Shape, World, target_pool, target_worker, target_call, at_job}
+use Rattle.rayon_machine_places.specs.Steps.{put, put_stack, after_close, after_end, after_call, is_pool, new_job, new_call, after_spawn, after_send, after_install, after_join, step}
+use Rattle.rayon_machine_places.specs.Runs.{first_place, start, IsRun}
+use Rattle.rayon_machine_laws.specs.Once.{one, times, in_deque, in_injector, runs_with, run_of, runs_in, IsOnce}
+use Rattle.rayon_machine_laws.proofs.Frame.{either, same_party_true, if_some_map, if_cond, acted_keeps}
+use Rattle.rayon_machine_laws.proofs.Ties.{job_at, outcome, result}
+use Rattle.rayon_machine_laws.proofs.Events.{run_keeps}
+use Rattle.rayon_machine_laws.proofs.Hands.{hand_plan, hand, held_in, held, worked}
+use Rattle.rayon_machine_laws.proofs.Located.{Loc, same_loc, loc_of, loc_at, is_loc, weight, IsPlaced, JobsPlaced, make_ok, fits, at_work, no_cast, Hand, Work, Deck, Cast, Inj}
+use Rattle.rayon_machine_laws.proofs.Placed.{Kept, JobsOk, job_new, job_old, gone_ok}
+use Rattle.rayon_machine_laws.proofs.PlacedEvents.{go_kept, Unmade, IsFinal, Advance, kept_advance, from_kept, refuse_kept, miss_kept, yield_kept, give_kept}
+
+hand_goes_on : (t : ℕ) (f : Place) (e : Ending) → (hand t (goes_on f e) ≡ hand t f) × (run_of t (goes_on f e) ≡ run_of t f)
+hand_goes_on t (FirstSide o a) Fine = (refl, refl)
+hand_goes_on t (FirstSide o a) Fault = (refl, refl)
+hand_goes_on t f e = (refl, refl)
+
+closed_none : (t u : ℕ) (k : JobKind) (e : Ending) (fs : List Place) → (held t (after_close u k e fs) ≡ held_in t fs) × (worked t (after_close u k e fs) ≡ runs_in t fs)
+closed_none t u (Detached p) e fs = (omega arith, omega arith)
+closed_none t u (Stored c o) e fs = (omega arith, omega arith)
+closed_none t u Direct e [] = (refl, refl)
+closed_none t u Direct e (f ∷ fs) = (ap (λ z. z + held_in t fs) ((hand_goes_on t f e).0), ap (λ z. z + runs_in t fs) ((hand_goes_on t f e).1))
+
+-- a run's end: the job is over, and in no place
+end_kept : (w : World) (q : Party) (d : Ending) (x : Place) (fs : List Place) → w.stack q ≡ record { top = x; below = fs } → JobsOk w → Unmade w → IfSome (after_end w q d (record { top = x; below = fs }) x) (Advance w)
+end_kept w q d (Run u k) fs e ok un = kept_advance w (record w { stack = put_stack w.stack q (after_close u k d fs); job = put w.job u (at_job (w.job u) (Over d)) }) (omega arith) un
+    (gone_ok w (record w { stack = put_stack w.stack q (after_close u k d fs); job = put w.job u (at_job (w.job u) (Over d)) }) u (at_job (w.job u) (Over d)) (Work q) None refl shift (job_new w u (at_job (w.job u) (Over d))) (job_old w u (at_job (w.job u) (Over d))) (λ z. (refl, (at_work ((w.job u).at) ((w.job u).runs) q z).0, refl)) ok)
+  where
+    shift : (a : Loc) (t : ℕ) → weight (record w { stack = put_stack w.stack q (after_close u k d fs); job = put w.job u (at_job (w.job u) (Over d)) }) a t + one (same_loc a (Work q) && (t == u)) ≤ weight w a t + 0
+    shift (Hand g) t = by (same_party g q) refl
+      where
+        by : (z : Bool) → same_party g q ≡ z → held t (if z then after_close u k d fs else w.stack g) + 0 ≤ held t (w.stack g) + 0
+        by true z = let a : held t (after_close u k d fs) ≡ held_in t fs = (closed_none t u k d fs).0 in
+            let b : held t (w.stack g) ≡ (0 + held_in t fs) = ap (held t) (ap w.stack (same_party_true g q z) ∙ e) in omega (arith, a, b)
+        by false z = omega arith
+    shift (Work g) t = by (same_party g q) refl
+      where
+        by : (z : Bool) → same_party g q ≡ z → worked t (if z then after_close u k d fs else w.stack g) + one (z && (t == u)) ≤ worked t (w.stack g) + 0
+        by true z = let a : worked t (after_close u k d fs) ≡ runs_in t fs = (closed_none t u k d fs).1 in
+            let b : worked t (w.stack g) ≡ (one (t == u) + runs_in t fs) = ap (worked t) (ap w.stack (same_party_true g q z) ∙ e) in omega (arith, a, b)
+        by false z = omega arith
+    shift (Deck p i) t = omega arith
+    shift (Cast p i) t = omega arith
+    shift (Inj p) t = omega arith
+end_kept w q d _ fs e ok un = tt
+
+-- the weights where a party's call has new jobs
+called_weight : (w : World) (q : Party) (n : Plan) (l : Loc) (t : ℕ) → weight (record w { stack = put_stack w.stack q (after_call (w.stack q) (RaiseCount n)) }) l t ≤ weight w l t + (if same_loc l (Hand q) then hand_plan t n else 0)
+called_weight w q n (Hand g) t = by (same_party g q) refl
+  where
+    by : (z : Bool) → same_party g q ≡ z → held t (if z then after_call (w.stack q) (RaiseCount n) else w.stack g) ≤ held t (w.stack g) + (if z then hand_plan t n else 0)
+    by true z = subst (λ g. held t (after_call (w.stack q) (RaiseCount n)) ≤ held t (w.stack g) + hand_plan t n) (sym (same_party_true g q z)) (omega arith)
+    by false z = omega arith
+called_weight w q n (Work g) t = by (same_party g q) refl
+  where
+    by : (z : Bool) → same_party g q ≡ z → worked t (if z then after_call (w.stack q) (RaiseCount n) else w.stack g) ≤ worked t (w.stack g) + 0
+    by true z = subst (λ g. worked t (after_call (w.stack q) (RaiseCount n)) ≤ worked t (w.stack g) + 0) (sym (same_party_true g q z)) (omega arith)
+    by false z = omega arith
+called_weight w q n (Deck p i) t = omega arith
+called_weight w q n (Cast p i) t = omega arith
+called_weight w q n (Inj p) t = omega arith
+
+pub not_new : (n t : ℕ) → n + 1 ≤ t → (t == n) ≡ false
+not_new n t h = elim (either (t == n)) [ inl y ↦ absurd (let z : t ≡ n = eqb-true t n y in omega (arith, z)) | inr z ↦ z ]
+
+final_same : (a : Whereabouts) → IsFinal a a
+final_same (Over e) = refl
+final_same HandedBack = refl
+final_same (Made q) = tt
+final_same Nowhere = tt
+final_same _ = refl
+
+-- a call that makes one job
+make_one : (w : World) (q : Party) (n : Plan) (p : ℕ) (k : JobKind) (C : ℕ → Call) (c : ℕ) → ((t : ℕ) → hand_plan t n ≡ one (t == w.jobs)) → JobsOk w → Unmade w → Advance w (record w { stack = put_stack w.stack q (after_call (w.stack q) (RaiseCount n)); call = C; job = put w.job w.jobs (new_job q p k); calls = c; jobs = w.jobs + 1 })
+make_one w q n p k C c h ok un = record {
+  placed = make_ok (weight w) (weight (record w { stack = put_stack w.stack q (after_call (w.stack q) (RaiseCount n)) })) (λ t. loc_at (w.job t)) (λ t. loc_at (put w.job w.jobs (new_job q p k) t)) w.jobs q none le (ok.placed) (ap (λ x. loc_at x) (job_new w w.jobs (new_job q p k))) (λ t e. ap (λ x. loc_at x) (job_old w w.jobs (new_job q p k) t e));
+  fit = λ t. fit_by t (t == w.jobs);
+  final = λ t. fin_by t (t == w.jobs) refl;
+  unmade = λ t b. (let e : (t == w.jobs) ≡ false = not_new w.jobs t b in rw e (un t (omega (arith, b))));
+}
+  where
+    none : loc_at (w.job w.jobs) ≡ None
+    none = ap (λ x. loc_of x ((w.job w.jobs).runs)) (un w.jobs (omega arith))
+
+    le : (l : Loc) (t : ℕ) → weight (record w { stack = put_stack w.stack q (after_call (w.stack q) (RaiseCount n)) }) l t ≤ weight w l t + one (same_loc l (Hand q) && (t == w.jobs))
+    le l t = let a : weight (record w { stack = put_stack w.stack q (after_call (w.stack q) (RaiseCount n)) }) l t ≤ weight w l t + (if same_loc l (Hand q) then hand_plan t n else 0) = called_weight w q n l t in
+        let b : (if same_loc l (Hand q) then hand_plan t n else 0) ≡ one (same_loc l (Hand q) && (t == w.jobs)) = by (same_loc l (Hand q)) in omega (arith, a, b)
+      where
+        by : (z : Bool) → (if z then hand_plan t n else 0) ≡ one (z && (t == w.jobs))
+        by true = h t
+        by false = refl
+
+    fit_by : (t : ℕ) (z : Bool) → fits ((if z then new_job q p k else w.job t).at) ((if z then new_job q p k else w.job t).runs)
+    fit_by t true = refl
+    fit_by t false = (ok.fit) t
+
+    fin_by : (t : ℕ) (z : Bool) → (t == w.jobs) ≡ z → IsFinal ((w.job t).at) ((if z then new_job q p k else w.job t).at)
+    fin_by t true z = subst (λ v. IsFinal v (Made q)) (sym (un t (let e : t ≡ w.jobs = eqb-true t w.jobs z in omega (arith, e)))) tt
+    fin_by t false z = final_same ((w.job t).at)
+
+spawn_kept : (w : World) (q : Party) (p : ℕ) → JobsOk w → Unmade w → IfSome (after_spawn w q p (w.stack q)) (Advance w)
+spawn_kept w q p ok un = if_cond (Advance w) (is_free ((w.stack q).top) && is_pool w.shape p) _ (λ z. make_one w q (Detach p w.jobs) p (Detached p) w.call w.calls (λ t. refl) ok un)
+
+sent_kept : (w : World) (q : Party) (p : ℕ) (b : Bool) → JobsOk w → Unmade w → Advance w (after_send w q p (w.stack q) b)
+sent_kept w q p true ok un = make_one w q (Here p w.jobs) p Direct w.call w.calls (λ t. refl) ok un
+sent_kept w q p false ok un = make_one w q (Send (record { number = w.calls; pool = p; job = w.jobs })) p (Stored w.calls q) (put w.call w.calls (new_call None w.jobs)) (w.calls + 1) (λ t. refl) ok un
+
+install_kept : (w : World) (q : Party) (p : ℕ) → JobsOk w → Unmade w → IfSome (after_install w q p (w.stack q)) (Advance w)
+install_kept w q p ok un = if_cond (Advance w) (is_free ((w.stack q).top) && is_pool w.shape p) _ (λ z. sent_kept w q p (is_member q p) ok un)
+
+-- the weights with one new job
+abbrev pub mid_of : World → Party → Loc → ℕ → ℕ
+mid_of w q l t = weight w l t + one (same_loc l (Hand q) && (t == w.jobs))
+
+-- a join makes two
+make_two : (w : World) (q : Party) (p : ℕ) (k : JobKind) (C : ℕ → Call) (c : ℕ) (o : OpenCall) → o.job ≡ w.jobs + 1 → JobsOk w → Unmade w → Advance w (record w { stack = put_stack w.stack q (after_call (w.stack q) (RaiseCount (Fork o w.jobs))); call = C; job = put (put w.job w.jobs (new_job q p Direct)) (w.jobs + 1) (new_job q p k); calls = c; jobs = w.jobs + 2 })
+make_two w q p k C c o is ok un = record {
+  placed = make_ok (mid_of w q) (weight v) (λ t. loc_at (one_made t)) (λ t. loc_at (put one_made (w.jobs + 1) (new_job q p k) t)) (w.jobs + 1) q none2 le first (ap (λ x. loc_at x) (job_new (record w { job = one_made }) (w.jobs + 1) (new_job q p k))) (λ t e. ap (λ x. loc_at x) (job_old (record w { job = one_made }) (w.jobs + 1) (new_job q p k) t e));
+  fit = λ t. fit_by t (t == (w.jobs + 1)) (t == w.jobs);
+  final = λ t. fin_by t (t == (w.jobs + 1)) (t == w.jobs) refl refl;
+  unmade = λ t b. (let e : (t == w.jobs) ≡ false = not_new w.jobs t (omega (arith, b)) in let d : (t == (w.jobs + 1)) ≡ false = not_new (w.jobs + 1) t (omega (arith, b)) in rw (d, e) (un t (omega (arith, b))));
+}
+  where
+    v : World
+    v = record w { stack = put_stack w.stack q (after_call (w.stack q) (RaiseCount (Fork o w.jobs))) }
+
+    one_made : ℕ → Job
+    one_made = put w.job w.jobs (new_job q p Direct)
+
+    none : loc_at (w.job w.jobs) ≡ None
+    none = ap (λ x. loc_of x ((w.job w.jobs).runs)) (un w.jobs (omega arith))
+
+    none2 : loc_at (one_made (w.jobs + 1)) ≡ None
+    none2 = ap (λ x. loc_at x) (job_old w w.jobs (new_job q p Direct) (w.jobs + 1) (not_new w.jobs (w.jobs + 1) (omega arith))) ∙ ap (λ x. loc_of x ((w.job (w.jobs + 1)).runs)) (un (w.jobs + 1) (omega arith))
+
+    first : IsPlaced (mid_of w q) (λ t. loc_at (one_made t))
+    first = make_ok (weight w) (mid_of w q) (λ t. loc_at (w.job t)) (λ t. loc_at (one_made t)) w.jobs q none (λ l t. omega arith) (ok.placed) (ap (λ x. loc_at x) (job_new w w.jobs (new_job q p Direct))) (λ t e. ap (λ x. loc_at x) (job_old w w.jobs (new_job q p Direct) t e))
+
+    le : (l : Loc) (t : ℕ) → weight v l t ≤ mid_of w q l t + one (same_loc l (Hand q) && (t == (w.jobs + 1)))
+    le l t = let a : weight v l t ≤ weight w l t + (if same_loc l (Hand q) then hand_plan t (Fork o w.jobs) else 0) = called_weight w q (Fork o w.jobs) l t in
+        let b : (if same_loc l (Hand q) then hand_plan t (Fork o w.jobs) else 0) ≡ (one (same_loc l (Hand q) && (t == w.jobs)) + one (same_loc l (Hand q) && (t == (w.jobs + 1)))) = by (same_loc l (Hand q)) in omega (arith, a, b)
+      where
+        by : (z : Bool) → (if z then one (t == w.jobs) + one (t == o.job) else 0) ≡ (one (z && (t == w.jobs)) + one (z && (t == (w.jobs + 1))))
+        by true = ap (λ x. one (t == w.jobs) + one (t == x)) is
+        by false = refl
+
+    fit_by : (t : ℕ) (y z : Bool) → fits ((if y then new_job q p k else (if z then new_job q p Direct else w.job t)).at) ((if y then new_job q p k else (if z then new_job q p Direct else w.job t)).runs)
+    fit_by t true z = refl
+    fit_by t false true = refl
+    fit_by t false false = (ok.fit) t
+
+    fin_by : (t : ℕ) (y z : Bool) → (t == (w.jobs + 1)) ≡ y → (t == w.jobs) ≡ z → IsFinal ((w.job t).at) ((if y then new_job q p k else (if z then new_job q p Direct else w.job t)).at)
+    fin_by t true z d e = subst (λ v. IsFinal v (Made q)) (sym (un t (let f : t ≡ w.jobs + 1 = eqb-true t (w.jobs + 1) d in omega (arith, f)))) tt
+    fin_by t false true d e = subst (λ v. IsFinal v (Made q)) (sym (un t (let f : t ≡ w.jobs = eqb-true t w.jobs e in omega (arith, f)))) tt
+    fin_by t false false d e = final_same ((w.job t).at)
+
+join_kept : (w : World) (q : Party) → JobsOk w → Unmade w → IfSome (after_join w q (w.stack q)) (Advance w)
+join_kept w (Caller n) ok un = tt
+join_kept w (Worker p i) ok un = if_cond (Advance w) (is_free ((w.stack (Worker p i)).top)) _ (λ z. make_two w (Worker p i) p (Stored w.calls (Worker p i)) (put w.call w.calls (new_call (Some w.jobs) (w.jobs + 1))) (w.calls + 1) (record { number = w.calls; pool = p; job = w.jobs + 1 }) refl ok un)
+
+-- each event keeps each job in its one place
+pub step_advance : (w : World) (e : Event) → JobsOk w → Unmade w → IfSome (step w e) (Advance w)
+step_advance w (Go q) ok un = acted_keeps w q (w.stack q) (target_pool q (act_of q ((w.stack q).top))) (target_worker q (act_of q ((w.stack q).top))) (target_call (act_of q ((w.stack q).top))) (job_at w q (act_of q ((w.stack q).top))) (outcome w q (w.stack q)) (Advance w)
+    (if_some_map (λ r. Kept w (result w q (w.stack q) r)) (λ r. Advance w (result w q (w.stack q) r)) (λ r k. kept_advance w (result w q (w.stack q) r) (omega arith) un k) (outcome w q (w.stack q)) (go_kept w q ok))
+step_advance w (From q v) ok un = from_kept w q ((w.stack q).top) ((w.stack q).below) v refl ok un
+step_advance w (Refuse q) ok un = refuse_kept w q ((w.stack q).top) ((w.stack q).below) refl ok un
+step_advance w (Miss q) ok un = miss_kept w q ((w.stack q).top) ((w.stack q).below) refl ok un
+step_advance w (End q d) ok un = end_kept w q d ((w.stack q).top) ((w.stack q).below) refl ok un
+step_advance w (Spawn q p) ok un = spawn_kept w q p ok un
+step_advance w (Install q p) ok un = install_kept w q p ok un
+step_advance w (Join q) ok un = join_kept w q ok un
+step_advance w (Yield q) ok un = yield_kept w q YieldPop (λ t. refl) (λ t. refl) ok un
+step_advance w (YieldLocal q) ok un = yield_kept w q LocalPop (λ t. refl) (λ t. refl) ok un
+step_advance w (EndPool q p) ok un = give_kept w q p ok un
+
+-- what holds of the jobs of every world
+pub record JobsHold (w : World) : Type 0 where
+  pub ok : JobsOk w
+  pub unmade : Unmade w
+
+pub step_jobs : (w : World) (e : Event) → JobsHold w → IfSome (step w e) JobsHold
+step_jobs w e h = if_some_map (Advance w) JobsHold (λ u a. record { ok = record { placed = a.placed; fit = a.fit }; unmade = a.unmade }) (step w e) (step_advance w e (h.ok) (h.unmade))
+
+first_hand : (h : Shape) (q : Party) (t : ℕ) → (hand t (first_place h q) ≡ 0) × (run_of t (first_place h q) ≡ 0)
+first_hand h (Caller n) t = at (nat_lt n h.callers)
+  where
+    at : (z : Bool) → (hand t (if z then Free else Stopped) ≡ 0) × (run_of t (if z then Free else Stopped) ≡ 0)
+    at true = (refl, refl)
+    at false = (refl, refl)
+first_hand h (Worker p i) t = at (nat_lt i (h.pool p).workers) ((h.pool p).callers_own && (i == 0))
+  where
+    at : (y z : Bool) → (hand t (if y then (if z then Free else ProbeWorking (fresh Termination)) else Stopped) ≡ 0) × (run_of t (if y then (if z then Free else ProbeWorking (fresh Termination)) else Stopped) ≡ 0)
+    at true true = (refl, refl)
+    at true false = (refl, refl)
+    at false z = (refl, refl)
+
+first_placed : (h : Shape) → JobsPlaced (start h)
+first_placed h (Hand q) t = let a : hand t (first_place h q) ≡ 0 = (first_hand h q t).0 in omega (arith, a)
+first_placed h (Work q) t = let a : run_of t (first_place h q) ≡ 0 = (first_hand h q t).1 in omega (arith, a)
+first_placed h (Deck p i) t = omega arith
+first_placed h (Cast p i) t = omega arith
+first_placed h (Inj p) t = omega arith
+
+pub first_jobs : (h : Shape) → JobsHold (start h)
+first_jobs h = record { ok = record { placed = first_placed h; fit = λ t. refl }; unmade = λ t b. refl }
+
+-- from there to the law
+begun_once : (v : Whereabouts) (n : ℕ) → fits v n → n ≤ 1
+begun_once (Over e) n f = omega (arith, f)
+begun_once (Running q) n f = f
+begun_once (Made q) n f = omega (arith, f)
+begun_once (InDeque p i) n f = omega (arith, f)
+begun_once (Injected p) n f = omega (arith, f)
+begun_once HandedBack n f = omega (arith, f)
+begun_once Nowhere n f = omega (arith, f)
+
+loc_if : (l m : Loc) (n : ℕ) → is_loc l (if n == 0 then Some m else None) ≤ one (same_loc l m)
+loc_if l m n = by (n == 0)
+  where
+    by : (b : Bool) → is_loc l (if b then Some m else None) ≤ one (same_loc l m)
+    by true = omega arith
+    by false = omega arith
+
+loc_if2 : (l m k : Loc) (n : ℕ) → same_loc l m ≡ false → is_loc l (if n == 0 then Some m else (if n == 1 then Some k else None)) ≤ one (same_loc l k)
+loc_if2 l m k n z = by (n == 0) (n == 1)
+  where
+    by : (b d : Bool) → is_loc l (if b then Some m else (if d then Some k else None)) ≤ one (same_loc l k)
+    by true d = let a : one (same_loc l m) ≡ 0 = ap one z in omega (arith, a)
+    by false true = omega arith
+    by false false = omega arith
+
+deck_in : (p i : ℕ) (v : Whereabouts) (n : ℕ) → is_loc (Deck p i) (loc_of v n) ≤ one (in_deque p i v)
+deck_in p i (InDeque r j) n = loc_if (Deck p i) (Deck r j) n
+deck_in p i (Made q) n = loc_if (Deck p i) (Hand q) n
+deck_in p i (Injected r) n = loc_if (Deck p i) (Inj r) n
+deck_in p i (Running q) n = loc_if2 (Deck p i) (Hand q) (Work q) n refl
+deck_in p i _ n = omega arith
+
+inj_in : (p : ℕ) (v : Whereabouts) (n : ℕ) → is_loc (Inj p) (loc_of v n) ≤ one (in_injector p v)
+inj_in p (Injected r) n = loc_if (Inj p) (Inj r) n
+inj_in p (Made q) n = loc_if (Inj p) (Hand q) n
+inj_in p (InDeque r j) n = loc_if (Inj p) (Deck r j) n
+inj_in p (Running q) n = loc_if2 (Inj p) (Hand q) (Work q) n refl
+inj_in p _ n = omega arith
+
+work_in : (q : Party) (v : Whereabouts) (n : ℕ) → is_loc (Work q) (loc_of v n) ≤ one (runs_with q v)
+work_in q (Running r) n = loc_if2 (Work q) (Hand r) (Work r) n refl
+work_in q (Made r) n = loc_if (Work q) (Hand r) n
+work_in q (InDeque r j) n = loc_if (Work q) (Deck r j) n
+work_in q (Injected r) n = loc_if (Work q) (Inj r) n
+work_in q _ n = omega arith
+
+pub once : (w : World) → JobsHold w → IsOnce w
+once w h = record {
+  runs = λ t. begun_once ((w.job t).at) ((w.job t).runs) (((h.ok).fit) t);
+  over = λ t e z. subst (λ v. fits v ((w.job t).runs)) z (((h.ok).fit) t);
+  deque = λ p i t. (let a : times t ((w.seat p i).own) ≤ is_loc (Deck p i) (loc_at (w.job t)) = ((h.ok).placed) (Deck p i) t in let b : is_loc (Deck p i) (loc_at (w.job t)) ≤ one (in_deque p i ((w.job t).at)) = deck_in p i ((w.job t).at) ((w.job t).runs) in omega (arith, a, b));
+  injector = λ p t. (let a : times t ((w.pool p).injector) ≤ is_loc (Inj p) (loc_at (w.job t)) = ((h.ok).placed) (Inj p) t in let b : is_loc (Inj p) (loc_at (w.job t)) ≤ one (in_injector p ((w.job t).at)) = inj_in p ((w.job t).at) ((w.job t).runs) in omega (arith, a, b));
+  cast = λ p i t. (let a : times t ((w.pool p).casts i) ≤ is_loc (Cast p i) (loc_at (w.job t)) = ((h.ok).placed) (Cast p i) t in let b : is_loc (Cast p i) (loc_at (w.job t)) ≡ 0 = no_cast p i ((w.job t).at) ((w.job t).runs) in omega (arith, a, b));
+  running = λ q t. (let a : worked t (w.stack q) ≤ is_loc (Work q) (loc_at (w.job t)) = ((h.ok).placed) (Work q) t in let b : is_loc (Work q) (loc_at (w.job t)) ≤ one (runs_with q ((w.job t).at)) = work_in q ((w.job t).at) ((w.job t).runs) in omega (arith, a, b));
+}
+
+pub always_once : (h : Shape) (es : List Event) (w : World) → IsRun (start h) es w → IsOnce w
+always_once h es w r = once w (run_keeps JobsHold step_jobs (start h) w es (first_jobs h) r)

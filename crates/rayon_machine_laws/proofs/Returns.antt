@@ -1,0 +1,386 @@
+-- a refused call's share is given back: in every world its jobs are not in the count, from the act after its Lower on
+use Rattle.std.proofs.Common.{rules, arith, refl, sym, ◌∙◌, ap, subst, inl, inr}
+use Rattle.std.specs.Prelude.{ℕ, Bool, true, false, ◌&&◌, ◌+◌, ◌==◌, ◌≤◌, ◌<◌, nat_lt, if◌then◌else◌, Some, None, List, ◌≡◌, IfSome}
+use Rattle.std.proofs.lemmas.Bool.{eqb-true, ltb-true, ltb-false}
+use Rattle.std.proofs.Math.Dec.{ltb}
+use Rattle.rayon_machine_places.specs.declared.place.Party.{Party}
+use Rattle.rayon_machine_places.specs.declared.place.Party.TheVariants.{Worker, Caller}
+use Rattle.rayon_machine_places.specs.declared.place.Ending.{Ending}
+use Rattle.rayon_machine_places.specs.declared.place.JobKind.{JobKind}
+use Rattle.rayon_machine_places.specs.declared.place.JobKind.TheVariants.{Detached, Stored, Direct}
+use Rattle.rayon_machine_places.specs.declared.place.Latch.{Latch}
+use Rattle.rayon_machine_places.specs.declared.place.Latch.TheVariants.{Terminate, OfCall}
+use Rattle.rayon_machine_places.specs.declared.place.Plan.{Plan}
+use Rattle.rayon_machine_places.specs.declared.place.Plan.TheVariants.{Detach, Here, Send, Fork}
+use Rattle.rayon_machine_places.specs.declared.place.Share.TheVariants.{PoolValue, OfJob}
+use Rattle.rayon_machine_places.specs.declared.place.Then.{Then}
+use Rattle.rayon_machine_places.specs.declared.place.Then.TheVariants.{Resume, GiveBack}
+use Rattle.rayon_machine_places.specs.declared.place.Place.{Place}
+use Rattle.rayon_machine_places.specs.declared.place.Place.TheVariants.{ProbeWorking, PickVictim, StealFrom, GetSleepy, FallAsleep, WakeUp, YieldPop, YieldPick, YieldSteal, LocalPop, Run, RaiseCount, GrowCall, PushJob, LowerCount, SetLatch, LockToSettle, WakeSettled, UnlockSettled}
+use Rattle.rayon_machine_places.specs.declared.act.Seen.{Seen}
+use Rattle.rayon_machine_places.specs.declared.act.Seen.TheVariants.{Done, Refused, Yes, No, Missing, Start}
+use Rattle.rayon_machine_places.specs.declared.event.Event.{Event}
+use Rattle.rayon_machine_places.specs.declared.event.Event.TheVariants.{Go, From, Refuse, Miss, End, Spawn, Install, Join, Yield, YieldLocal, EndPool}
+use Rattle.rayon_machine_places.specs.declared.state.Letter.{Letter}
+use Rattle.rayon_machine_places.specs.declared.state.Letter.TheVariants.{Unset, Sleepy as IsSleepy, Sleeping, Set as IsSet}
+use Rattle.rayon_machine_places.specs.declared.state.Whereabouts.{Whereabouts}
+use Rattle.rayon_machine_places.specs.declared.state.Whereabouts.TheVariants.{Over, HandedBack}
+use Rattle.rayon_machine_places.specs.declared.state.Job.{Job}
+use Rattle.rayon_machine_places.specs.declared.state.Call.{Call}
+use Rattle.rayon_machine_places.specs.declared.shape.PoolShape.{PoolShape}
+use Rattle.rayon_machine_places.specs.Places.{same_party, own_pool, is_member, latch_of, plan_pool, plan_job, after_raise, act_of, next_of, is_free}
+use Rattle.rayon_machine_places.specs.World.{Shape, Stack, World, Counts, counts_at, Part, target_pool, target_worker, target_call, letter, with_letter, sleepy, fall_asleep, wake_up, set_latch, at_job, effect}
+use Rattle.rayon_machine_places.specs.Steps.{put, put_stack, after_move, jobs_after, after_choice, after_refusal, can_miss, after_miss, after_close, after_end, after_call, is_pool, new_job, new_call, after_spawn, after_send, after_install, after_join, after_yield, after_end_pool, step}
+use Rattle.rayon_machine_places.specs.Runs.{start, IsRun}
+use Rattle.rayon_machine_laws.specs.Once.{one}
+use Rattle.rayon_machine_laws.specs.End.{AllJobs, after_settling, IsReturned}
+use Rattle.rayon_machine_laws.proofs.Frame.{either, same_party_true, if_some_and, if_some_map, if_cond, acted_keeps}
+use Rattle.rayon_machine_laws.proofs.Ties.{job_at, outcome}
+use Rattle.rayon_machine_laws.proofs.Events.{run_keeps}
+use Rattle.rayon_machine_laws.proofs.Hands.{hand_plan, held}
+use Rattle.rayon_machine_laws.proofs.Located.{loc_of, loc_at, is_loc, where_is, Hand}
+use Rattle.rayon_machine_laws.proofs.ClaimActs.{put_same, put_new, put_old}
+use Rattle.rayon_machine_laws.proofs.ClaimRuns.{world_after, part_at}
+use Rattle.rayon_machine_laws.proofs.ClaimEvents.{ended_world}
+use Rattle.rayon_machine_laws.proofs.ClaimMakes.{calling, below_new}
+use Rattle.rayon_machine_laws.proofs.Amounts.{paid}
+use Rattle.rayon_machine_laws.proofs.ShareActs.{SharesHold, stack_mine, stack_other, after_counted, is_tally, Untallied, same_untallied, act_untallied}
+use Rattle.rayon_machine_laws.proofs.ShareSteps.{self_one, raised_world}
+use Rattle.rayon_machine_laws.proofs.ShareLowers.{lowered_world}
+use Rattle.rayon_machine_laws.proofs.ShareEnds.{step_shares, first_shares}
+use Rattle.rayon_machine_laws.proofs.Bares.{bare_then, bare, bare_in, all_bare, bare_move, backs, bare_held, bare_raised, bares, land_only, land_bare, closed_bare}
+
+-- a job with a share is not handed back, and no party has it in hand without one
+pub record ReturnsHold (w : World) : Type 0 where
+  pub shares : SharesHold w
+  pub bare : (q : Party) (t : ℕ) → (w.job t).counted ≡ true → all_bare t (w.stack q) + backs (w.job t).at ≤ 0
+
+-- one party has moved, and of each job with a share neither it nor another has more than before
+returns_by : (w u : World) (q : Party) (k : Stack) → ((r : Party) → u.stack r ≡ put_stack w.stack q k r) → ((t : ℕ) → (u.job t).counted ≡ true → (all_bare t k + backs (u.job t).at ≤ 0) × ((r : Party) → same_party r q ≡ false → all_bare t (w.stack r) ≤ 0)) → SharesHold u → ReturnsHold u
+returns_by w u q k st f s = record { shares = s; bare = λ r t c. by r t c (same_party r q) refl }
+  where
+    by : (r : Party) (t : ℕ) → (u.job t).counted ≡ true → (b : Bool) → same_party r q ≡ b → all_bare t (u.stack r) + backs (u.job t).at ≤ 0
+    by r t c true e = let a : all_bare t (u.stack r) ≡ all_bare t k = ap (all_bare t) (st r ∙ ap (put_stack w.stack q k) (same_party_true r q e) ∙ stack_mine w.stack q k) in let b : all_bare t k + backs (u.job t).at ≤ 0 = (f t c).0 in omega (arith, a, b)
+    by r t c false e = let a : all_bare t (u.stack r) ≡ all_bare t (w.stack r) = ap (all_bare t) (st r ∙ stack_other w.stack q r k e) in let b : all_bare t k + backs (u.job t).at ≤ 0 = (f t c).0 in let d : all_bare t (w.stack r) ≤ 0 = (f t c).1 r e in omega (arith, a, b, d)
+
+returns_keep : (w u : World) (q : Party) (k : Stack) → ((r : Party) → u.stack r ≡ put_stack w.stack q k r) → ((t : ℕ) → (u.job t).counted ≡ true → ((w.job t).counted ≡ true) × (all_bare t k + backs (u.job t).at ≤ all_bare t (w.stack q) + backs (w.job t).at)) → ReturnsHold w → SharesHold u → ReturnsHold u
+returns_keep w u q k st f h s = returns_by w u q k st (λ t c. (
+  (let a : all_bare t (w.stack q) + backs (w.job t).at ≤ 0 = h.bare q t ((f t c).0) in let b : all_bare t k + backs (u.job t).at ≤ all_bare t (w.stack q) + backs (w.job t).at = (f t c).1 in omega (arith, a, b)),
+  λ r e. (let a : all_bare t (w.stack r) + backs (w.job t).at ≤ 0 = h.bare r t ((f t c).0) in omega (arith, a)),
+)) s
+
+-- no act itself hands a job back
+abbrev pub Unbacked : Part → Seen × Part → Type 0
+Unbacked m r = backs r.1.job.at ≤ backs m.job.at
+
+letter_unbacked : (l : Latch) (m : Part) (e : Seen) (y : Letter) → Unbacked m (e, with_letter l m y)
+letter_unbacked Terminate m e y = omega arith
+letter_unbacked (OfCall c) m e y = omega arith
+
+set_unbacked : (l : Latch) (m : Part) (x : Letter) → IfSome (set_latch l m x) (Unbacked m)
+set_unbacked l m Sleeping = letter_unbacked l m Yes IsSet
+set_unbacked l m _ = letter_unbacked l m No IsSet
+
+sleepy_unbacked : (l : Latch) (m : Part) (x : Letter) → IfSome (sleepy l m x) (Unbacked m)
+sleepy_unbacked l m Unset = letter_unbacked l m Done IsSleepy
+sleepy_unbacked l m _ = omega arith
+
+asleep_unbacked : (l : Latch) (m : Part) (x : Letter) → IfSome (fall_asleep l m x) (Unbacked m)
+asleep_unbacked l m IsSleepy = letter_unbacked l m Done Sleeping
+asleep_unbacked l m _ = omega arith
+
+wake_unbacked : (l : Latch) (m : Part) (x : Letter) → IfSome (wake_up l m x) (Unbacked m)
+wake_unbacked l m IsSet = omega arith
+wake_unbacked l m _ = letter_unbacked l m Done Unset
+
+act_unbacked : (h : Shape) (q : Party) (c : Counts) (m : Part) (x : Place) → is_tally x ≡ false → IfSome (effect (act_of q x) h q c m) (Unbacked m)
+act_unbacked h (Worker a b) c m (ProbeWorking k) z = omega arith
+act_unbacked h (Worker a b) c m (GetSleepy k) z = sleepy_unbacked (latch_of k.target) m (letter (latch_of k.target) m)
+act_unbacked h (Worker a b) c m (FallAsleep k) z = asleep_unbacked (latch_of k.target) m (letter (latch_of k.target) m)
+act_unbacked h (Worker a b) c m (WakeUp k) z = wake_unbacked (latch_of k.target) m (letter (latch_of k.target) m)
+act_unbacked h (Worker a b) c m (SetLatch k) z = set_unbacked k.latch m (letter k.latch m)
+act_unbacked h (Worker a b) c m _ z = first_of (cc, search (rules, arith))
+act_unbacked h (Caller n) c m (SetLatch k) z = set_unbacked k.latch m (letter k.latch m)
+act_unbacked h (Caller n) c m _ z = first_of (cc, search (rules, arith))
+
+put_backs : (J : ℕ → Job) (n : ℕ) (j : Job) (t : ℕ) → backs j.at ≤ backs (J n).at → backs (put J n j t).at ≤ backs (J t).at
+put_backs J n j t a = by (t == n) refl
+  where
+    by : (b : Bool) → (t == n) ≡ b → backs (if b then j else J t).at ≤ backs (J t).at
+    by true e = subst (λ i. backs j.at ≤ backs (J i).at) (sym (eqb-true t n e)) a
+    by false e = omega arith
+
+-- what a party has after an act, and what its move hands back
+line : (w : World) (q : Party) (x : Place) (fs : List Place) (r : Seen × Part) (t : ℕ) → w.stack q ≡ record { top = x; below = fs } → Unbacked (part_at w q x) r → (all_bare t (after_move (next_of (w.shape.pool (target_pool q (act_of q x))) q x (r.0)) fs) + backs ((world_after w q x fs r).job t).at ≤ bare_move t (next_of (w.shape.pool (target_pool q (act_of q x))) q x (r.0)) + bare_in t fs + backs (w.job t).at) × (all_bare t (after_move (next_of (w.shape.pool (target_pool q (act_of q x))) q x (r.0)) fs) + backs ((world_after w q x fs r).job t).at ≤ all_bare t (w.stack q) + paid t x + backs (w.job t).at)
+line w q x fs r t z un = (omega (arith, one_part, two), omega (arith, one_part, two, three, four))
+  where
+    one_part : all_bare t (after_move (next_of (w.shape.pool (target_pool q (act_of q x))) q x (r.0)) fs) + backs ((world_after w q x fs r).job t).at ≤ bare_move t (next_of (w.shape.pool (target_pool q (act_of q x))) q x (r.0)) + bare_in t fs + backs (put w.job (job_at w q (act_of q x)) (r.1.job) t).at
+    one_part = land_bare q t (next_of (w.shape.pool (target_pool q (act_of q x))) q x (r.0)) fs (put w.job (job_at w q (act_of q x)) (r.1.job))
+
+    two : backs (put w.job (job_at w q (act_of q x)) (r.1.job) t).at ≤ backs (w.job t).at
+    two = put_backs w.job (job_at w q (act_of q x)) (r.1.job) t un
+
+    three : bare_move t (next_of (w.shape.pool (target_pool q (act_of q x))) q x (r.0)) ≤ bare t x + paid t x
+    three = bares (w.shape.pool (target_pool q (act_of q x))) q t x (r.0)
+
+    four : all_bare t (w.stack q) ≡ (bare t x + bare_in t fs)
+    four = ap (all_bare t) z
+
+-- an act that neither takes a share nor gives a job's back
+plain_returns : (w : World) (q : Party) (x : Place) (fs : List Place) (r : Seen × Part) → w.stack q ≡ record { top = x; below = fs } → Untallied (part_at w q x) r → Unbacked (part_at w q x) r → ((t : ℕ) → paid t x ≡ 0) → ReturnsHold w → SharesHold (world_after w q x fs r) → ReturnsHold (world_after w q x fs r)
+plain_returns w q x fs r z ut un none h s = returns_keep w (world_after w q x fs r) q (after_move (next_of (w.shape.pool (target_pool q (act_of q x))) q x (r.0)) fs) (λ i. refl)
+    (λ t c. (sym (counted t) ∙ c, (let a : all_bare t (after_move (next_of (w.shape.pool (target_pool q (act_of q x))) q x (r.0)) fs) + backs ((world_after w q x fs r).job t).at ≤ all_bare t (w.stack q) + paid t x + backs (w.job t).at = (line w q x fs r t z un).1 in let b : paid t x ≡ 0 = none t in omega (arith, a, b)))) h s
+  where
+    counted : (t : ℕ) → ((world_after w q x fs r).job t).counted ≡ (w.job t).counted
+    counted t = after_counted q (next_of (w.shape.pool (target_pool q (act_of q x))) q x (r.0)) (put w.job (job_at w q (act_of q x)) (r.1.job)) t ∙ put_same (λ j. j.counted) w.job (job_at w q (act_of q x)) (r.1.job) t (ut.job)
+
+-- a job's share is given back
+lower_returns : (w : World) (q : Party) (p u : ℕ) (n : Then) (fs : List Place) (e : Seen) → w.stack q ≡ record { top = LowerCount p (OfJob u) n; below = fs } → ReturnsHold w → SharesHold (lowered_world w q p (OfJob u) n fs e) → ReturnsHold (lowered_world w q p (OfJob u) n fs e)
+lower_returns w q p u n fs e z h s = returns_keep w v q (after_move (next_of (w.shape.pool p) q (LowerCount p (OfJob u) n) e) fs) (λ i. refl) (λ t c. by t c (t == u) refl) h s
+  where
+    v : World
+    v = lowered_world w q p (OfJob u) n fs e
+
+    counted : (t : ℕ) → (v.job t).counted ≡ (put w.job u (record (w.job u) { counted = false }) t).counted
+    counted t = after_counted q (next_of (w.shape.pool p) q (LowerCount p (OfJob u) n) e) (put w.job u (record (w.job u) { counted = false })) t
+
+    now : (v.job u).counted ≡ false
+    now = counted u ∙ ap (λ j. j.counted) (put_new w.job u (record (w.job u) { counted = false }))
+
+    bound : (t : ℕ) → all_bare t (after_move (next_of (w.shape.pool p) q (LowerCount p (OfJob u) n) e) fs) + backs (v.job t).at ≤ all_bare t (w.stack q) + one (t == u) + backs (w.job t).at
+    bound t = let a : all_bare t (after_move (next_of (w.shape.pool p) q (LowerCount p (OfJob u) n) e) fs) + backs (v.job t).at ≤ bare_move t (next_of (w.shape.pool p) q (LowerCount p (OfJob u) n) e) + bare_in t fs + backs (put w.job u (record (w.job u) { counted = false }) t).at = land_bare q t (next_of (w.shape.pool p) q (LowerCount p (OfJob u) n) e) fs (put w.job u (record (w.job u) { counted = false })) in
+        let b : backs (put w.job u (record (w.job u) { counted = false }) t).at ≤ backs (w.job t).at = put_backs w.job u (record (w.job u) { counted = false }) t (omega arith) in
+        let c : bare_move t (next_of (w.shape.pool p) q (LowerCount p (OfJob u) n) e) ≤ bare t (LowerCount p (OfJob u) n) + one (t == u) = bares (w.shape.pool p) q t (LowerCount p (OfJob u) n) e in
+        let d : all_bare t (w.stack q) ≡ (bare t (LowerCount p (OfJob u) n) + bare_in t fs) = ap (all_bare t) z in omega (arith, a, b, c, d)
+
+    by : (t : ℕ) → (v.job t).counted ≡ true → (b : Bool) → (t == u) ≡ b → ((w.job t).counted ≡ true) × (all_bare t (after_move (next_of (w.shape.pool p) q (LowerCount p (OfJob u) n) e) fs) + backs (v.job t).at ≤ all_bare t (w.stack q) + backs (w.job t).at)
+    by t c true y = absurd (let a : (v.job t).counted ≡ false = ap (λ i. (v.job i).counted) (eqb-true t u y) ∙ now in cc)
+    by t c false y = (sym (counted t ∙ ap (λ j. j.counted) (put_old w.job u (record (w.job u) { counted = false }) t y)) ∙ c, (let a : all_bare t (after_move (next_of (w.shape.pool p) q (LowerCount p (OfJob u) n) e) fs) + backs (v.job t).at ≤ all_bare t (w.stack q) + one (t == u) + backs (w.job t).at = bound t in let b : one (t == u) ≡ 0 = ap one y in omega (arith, a, b)))
+
+-- a share is taken: the job is in this party's hand alone
+raise_returns : (w : World) (q : Party) (n : Plan) (fs : List Place) → w.stack q ≡ record { top = RaiseCount n; below = fs } → ReturnsHold w → SharesHold (raised_world w q n fs) → ReturnsHold (raised_world w q n fs)
+raise_returns w q n fs z h s = returns_by w v q k (λ i. refl) (λ t c. by t c (t == plan_job n) refl) s
+  where
+    v : World
+    v = raised_world w q n fs
+
+    k : Stack
+    k = after_move (next_of (w.shape.pool (plan_pool n)) q (RaiseCount n) Done) fs
+
+    bound : (t : ℕ) → all_bare t (after_move (next_of (w.shape.pool (plan_pool n)) q (RaiseCount n) Done) fs) + backs ((raised_world w q n fs).job t).at + one (t == plan_job n) ≤ hand_plan t n + bare_in t fs + backs (w.job t).at
+    bound t = let a : all_bare t (after_move (after_raise n) fs) + backs (jobs_after q (after_raise n) (put w.job (plan_job n) (record (w.job (plan_job n)) { counted = true })) t).at ≤ bare_move t (after_raise n) + bare_in t fs + backs (put w.job (plan_job n) (record (w.job (plan_job n)) { counted = true }) t).at = land_bare q t (after_raise n) fs (put w.job (plan_job n) (record (w.job (plan_job n)) { counted = true })) in
+        let b : backs (put w.job (plan_job n) (record (w.job (plan_job n)) { counted = true }) t).at ≤ backs (w.job t).at = put_backs w.job (plan_job n) (record (w.job (plan_job n)) { counted = true }) t (omega arith) in
+        let c : bare_move t (after_raise n) + one (t == plan_job n) ≤ hand_plan t n = bare_raised t n in omega (arith, a, b, c)
+
+    stack : (t : ℕ) → all_bare t (w.stack q) ≡ (hand_plan t n + bare_in t fs)
+    stack t = ap (all_bare t) z
+
+    same : (t : ℕ) → (t == plan_job n) ≡ false → (v.job t).counted ≡ (w.job t).counted
+    same t e = after_counted q (next_of (w.shape.pool (plan_pool n)) q (RaiseCount n) Done) (put w.job (plan_job n) (record (w.job (plan_job n)) { counted = true })) t ∙ ap (λ j. j.counted) (put_old w.job (plan_job n) (record (w.job (plan_job n)) { counted = true }) t e)
+
+    in_hand : all_bare (plan_job n) (w.stack q) ≤ is_loc (Hand q) (loc_at (w.job (plan_job n)))
+    in_hand = let a : all_bare (plan_job n) (w.stack q) ≤ held (plan_job n) (w.stack q) = bare_held (plan_job n) (w.stack q) in let b : held (plan_job n) (w.stack q) ≤ is_loc (Hand q) (loc_at (w.job (plan_job n))) = ((((h.shares).calls).jobs).ok).placed (Hand q) (plan_job n) in omega (arith, a, b)
+
+    mine : loc_at (w.job (plan_job n)) ≡ Some (Hand q)
+    mine = where_is (Hand q) (loc_at (w.job (plan_job n))) (let a : all_bare (plan_job n) (w.stack q) ≤ is_loc (Hand q) (loc_at (w.job (plan_job n))) = in_hand in let b : all_bare (plan_job n) (w.stack q) ≡ (hand_plan (plan_job n) n + bare_in (plan_job n) fs) = stack (plan_job n) in let c : bare_move (plan_job n) (after_raise n) + one (plan_job n == plan_job n) ≤ hand_plan (plan_job n) n = bare_raised (plan_job n) n in let d : one (plan_job n == plan_job n) ≡ 1 = self_one (plan_job n) in omega (arith, a, b, c, d))
+
+    not_back : (x : Whereabouts) (m : ℕ) → loc_of x m ≡ Some (Hand q) → backs x ≤ 0
+    not_back HandedBack m e = cc
+    not_back _ m e = omega arith
+
+    others : (r : Party) → same_party r q ≡ false → all_bare (plan_job n) (w.stack r) ≤ 0
+    others r e = let a : all_bare (plan_job n) (w.stack r) ≤ held (plan_job n) (w.stack r) = bare_held (plan_job n) (w.stack r) in
+        let b : held (plan_job n) (w.stack r) ≤ is_loc (Hand r) (loc_at (w.job (plan_job n))) = ((((h.shares).calls).jobs).ok).placed (Hand r) (plan_job n) in
+        let c : is_loc (Hand r) (loc_at (w.job (plan_job n))) ≡ one (same_party r q) = ap (is_loc (Hand r)) mine in
+        let d : one (same_party r q) ≡ 0 = ap one e in omega (arith, a, b, c, d)
+
+    own : all_bare (plan_job n) (after_move (next_of (w.shape.pool (plan_pool n)) q (RaiseCount n) Done) fs) + backs ((raised_world w q n fs).job (plan_job n)).at ≤ 0
+    own = let a : all_bare (plan_job n) (after_move (next_of (w.shape.pool (plan_pool n)) q (RaiseCount n) Done) fs) + backs ((raised_world w q n fs).job (plan_job n)).at + one (plan_job n == plan_job n) ≤ hand_plan (plan_job n) n + bare_in (plan_job n) fs + backs (w.job (plan_job n)).at = bound (plan_job n) in
+        let b : one (plan_job n == plan_job n) ≡ 1 = self_one (plan_job n) in
+        let c : all_bare (plan_job n) (w.stack q) ≡ (hand_plan (plan_job n) n + bare_in (plan_job n) fs) = stack (plan_job n) in
+        let d : all_bare (plan_job n) (w.stack q) ≤ is_loc (Hand q) (loc_at (w.job (plan_job n))) = in_hand in
+        let f : is_loc (Hand q) (loc_at (w.job (plan_job n))) ≡ one (same_party q q) = ap (is_loc (Hand q)) mine in
+        let g : one (same_party q q) ≤ 1 = one_bound (same_party q q) in
+        let i : backs (w.job (plan_job n)).at ≤ 0 = not_back ((w.job (plan_job n)).at) ((w.job (plan_job n)).runs) mine in omega (arith, a, b, c, d, f, g, i)
+      where
+        one_bound : (b : Bool) → one b ≤ 1
+        one_bound true = omega arith
+        one_bound false = omega arith
+
+    by : (t : ℕ) → (v.job t).counted ≡ true → (b : Bool) → (t == plan_job n) ≡ b → (all_bare t k + backs (v.job t).at ≤ 0) × ((r : Party) → same_party r q ≡ false → all_bare t (w.stack r) ≤ 0)
+    by t c true e = subst (λ t. (all_bare t k + backs (v.job t).at ≤ 0) × ((r : Party) → same_party r q ≡ false → all_bare t (w.stack r) ≤ 0)) (sym (eqb-true t (plan_job n) e)) (own, others)
+    by t c false e = (
+      (let a : all_bare t (after_move (next_of (w.shape.pool (plan_pool n)) q (RaiseCount n) Done) fs) + backs ((raised_world w q n fs).job t).at + one (t == plan_job n) ≤ hand_plan t n + bare_in t fs + backs (w.job t).at = bound t in
+          let b : all_bare t (w.stack q) ≡ (hand_plan t n + bare_in t fs) = stack t in
+          let d : all_bare t (w.stack q) + backs (w.job t).at ≤ 0 = h.bare q t (sym (same t e) ∙ c) in omega (arith, a, b, d)),
+      λ r y. (let d : all_bare t (w.stack r) + backs (w.job t).at ≤ 0 = h.bare r t (sym (same t e) ∙ c) in omega (arith, d)),
+    )
+
+unpaid : (t : ℕ) (x : Place) → is_tally x ≡ false → paid t x ≡ 0
+unpaid t (LowerCount p s n) z = cc
+unpaid t _ z = refl
+
+-- each act
+raise_either : (w : World) (q : Party) (n : Plan) (fs : List Place) → w.stack q ≡ record { top = RaiseCount n; below = fs } → ReturnsHold w → (done : Seen × Part) → (SharesHold (world_after w q (RaiseCount n) fs done) → ReturnsHold (world_after w q (RaiseCount n) fs done)) → (b : Bool) → IfSome (if b then Some (Refused, part_at w q (RaiseCount n)) else Some done) (λ r. SharesHold (world_after w q (RaiseCount n) fs r) → ReturnsHold (world_after w q (RaiseCount n) fs r))
+raise_either w q n fs z h done f true = plain_returns w q (RaiseCount n) fs (Refused, part_at w q (RaiseCount n)) z (same_untallied (part_at w q (RaiseCount n)) Refused) (omega arith) (λ t. refl) h
+raise_either w q n fs z h done f false = f
+
+value_returns : (w : World) (q : Party) (p : ℕ) (n : Then) (fs : List Place) (e : Seen) → w.stack q ≡ record { top = LowerCount p PoolValue n; below = fs } → ReturnsHold w → SharesHold (lowered_world w q p PoolValue n fs e) → ReturnsHold (lowered_world w q p PoolValue n fs e)
+value_returns w q p n fs e z h s = returns_keep w (lowered_world w q p PoolValue n fs e) q (after_move (next_of (w.shape.pool p) q (LowerCount p PoolValue n) e) fs) (λ i. refl)
+    (λ t c. (
+      sym (after_counted q (next_of (w.shape.pool p) q (LowerCount p PoolValue n) e) (put w.job 0 (w.job 0)) t ∙ put_same (λ j. j.counted) w.job 0 (w.job 0) t refl) ∙ c,
+      (let a : all_bare t (after_move (next_of (w.shape.pool p) q (LowerCount p PoolValue n) e) fs) + backs ((lowered_world w q p PoolValue n fs e).job t).at ≤ bare_move t (next_of (w.shape.pool p) q (LowerCount p PoolValue n) e) + bare_in t fs + backs (put w.job 0 (w.job 0) t).at = land_bare q t (next_of (w.shape.pool p) q (LowerCount p PoolValue n) e) fs (put w.job 0 (w.job 0)) in
+          let b : backs (put w.job 0 (w.job 0) t).at ≤ backs (w.job t).at = put_backs w.job 0 (w.job 0) t (omega arith) in
+          let d : bare_move t (next_of (w.shape.pool p) q (LowerCount p PoolValue n) e) ≤ bare t (LowerCount p PoolValue n) + 0 = bares (w.shape.pool p) q t (LowerCount p PoolValue n) e in
+          let f : all_bare t (w.stack q) ≡ (bare t (LowerCount p PoolValue n) + bare_in t fs) = ap (all_bare t) z in omega (arith, a, b, d, f)),
+    )) h s
+
+plain_act : (w : World) (q : Party) (x : Place) (fs : List Place) → w.stack q ≡ record { top = x; below = fs } → is_tally x ≡ false → ReturnsHold w → IfSome (outcome w q (record { top = x; below = fs })) (λ r. SharesHold (world_after w q x fs r) → ReturnsHold (world_after w q x fs r))
+plain_act w q x fs z y h = if_some_map (λ r. Untallied (part_at w q x) r × Unbacked (part_at w q x) r) (λ r. SharesHold (world_after w q x fs r) → ReturnsHold (world_after w q x fs r)) (λ r f. plain_returns w q x fs r z (f.0) (f.1) (λ t. unpaid t x y) h) (outcome w q (record { top = x; below = fs }))
+    (if_some_and (Untallied (part_at w q x)) (Unbacked (part_at w q x)) (outcome w q (record { top = x; below = fs })) (act_untallied w.shape q (counts_at w (target_pool q (act_of q x))) (part_at w q x) x y) (act_unbacked w.shape q (counts_at w (target_pool q (act_of q x))) (part_at w q x) x y))
+
+go_by : (w : World) (q : Party) (x : Place) (fs : List Place) → w.stack q ≡ record { top = x; below = fs } → ReturnsHold w → IfSome (outcome w q (record { top = x; below = fs })) (λ r. SharesHold (world_after w q x fs r) → ReturnsHold (world_after w q x fs r))
+go_by w (Worker a b) (RaiseCount n) fs z h = raise_either w (Worker a b) n fs z h _ (raise_returns w (Worker a b) n fs z h) ((w.pool (plan_pool n)).count == 0)
+go_by w (Worker a b) (LowerCount p (OfJob u) n) fs z h = lower_returns w (Worker a b) p u n fs (if (w.pool p).count == 1 then Yes else No) z h
+go_by w (Worker a b) (LowerCount p PoolValue n) fs z h = value_returns w (Worker a b) p n fs (if (w.pool p).count == 1 then Yes else No) z h
+go_by w (Caller c) (RaiseCount n) fs z h = raise_either w (Caller c) n fs z h _ (raise_returns w (Caller c) n fs z h) ((w.pool (plan_pool n)).count == 0)
+go_by w (Caller c) (LowerCount p (OfJob u) n) fs z h = lower_returns w (Caller c) p u n fs (if (w.pool p).count == 1 then Yes else No) z h
+go_by w (Caller c) (LowerCount p PoolValue n) fs z h = value_returns w (Caller c) p n fs (if (w.pool p).count == 1 then Yes else No) z h
+go_by w q x fs z h = plain_act w q x fs z refl h
+
+-- a party goes on, and no job is touched
+moved_returns : (w u : World) (q : Party) (k : Stack) → ((r : Party) → u.stack r ≡ put_stack w.stack q k r) → ((t : ℕ) → u.job t ≡ w.job t) → ((t : ℕ) → all_bare t k ≤ all_bare t (w.stack q)) → ReturnsHold w → SharesHold u → ReturnsHold u
+moved_returns w u q k st jo le h s = returns_keep w u q k st (λ t c. (sym (ap (λ j. j.counted) (jo t)) ∙ c, (let a : backs (u.job t).at ≡ backs (w.job t).at = ap (λ j. backs (j.at)) (jo t) in let b : all_bare t k ≤ all_bare t (w.stack q) = le t in omega (arith, a, b)))) h s
+
+seen_returns : (w : World) (q : Party) (g : PoolShape) (x : Place) (fs : List Place) (e : Seen) → w.stack q ≡ record { top = x; below = fs } → is_tally x ≡ false → ReturnsHold w → SharesHold (record w { stack = put_stack w.stack q (after_move (next_of g q x e) fs) }) → ReturnsHold (record w { stack = put_stack w.stack q (after_move (next_of g q x e) fs) })
+seen_returns w q g x fs e z y h s = moved_returns w (record w { stack = put_stack w.stack q (after_move (next_of g q x e) fs) }) q (after_move (next_of g q x e) fs) (λ r. refl) (λ t. refl)
+    (λ t. (let i : all_bare t (after_move (next_of g q x e) fs) ≤ bare_move t (next_of g q x e) + bare_in t fs = land_only t (next_of g q x e) fs in
+    let b : bare_move t (next_of g q x e) ≤ bare t x + paid t x = bares g q t x e in let c : paid t x ≡ 0 = unpaid t x y in let d : all_bare t (w.stack q) ≡ (bare t x + bare_in t fs) = ap (all_bare t) z in omega (arith, i, b, c, d))) h s
+
+from_returns : (w : World) (q : Party) (x : Place) (fs : List Place) (v : ℕ) → w.stack q ≡ record { top = x; below = fs } → ReturnsHold w → IfSome (after_choice w q (record { top = x; below = fs }) x v) (λ u. SharesHold u → ReturnsHold u)
+from_returns w q (PickVictim k) fs v z h = if_cond (λ u. SharesHold u → ReturnsHold u) (nat_lt v (w.shape.pool (own_pool q)).workers) _ (λ y a. seen_returns w q (w.shape.pool (own_pool q)) (PickVictim k) fs (Start v) z refl h a)
+from_returns w q YieldPick fs v z h = if_cond (λ u. SharesHold u → ReturnsHold u) (nat_lt v (w.shape.pool (own_pool q)).workers) _ (λ y a. seen_returns w q (w.shape.pool (own_pool q)) YieldPick fs (Start v) z refl h a)
+from_returns w q _ fs v z h = tt
+
+refuse_returns : (w : World) (q : Party) (x : Place) (fs : List Place) → w.stack q ≡ record { top = x; below = fs } → ReturnsHold w → IfSome (after_refusal w q (record { top = x; below = fs })) (λ u. SharesHold u → ReturnsHold u)
+refuse_returns w q (GrowCall n) fs z h = λ a. seen_returns w q (w.shape.pool (own_pool q)) (GrowCall n) fs Refused z refl h a
+refuse_returns w q (PushJob n v) fs z h = λ a. seen_returns w q (w.shape.pool (own_pool q)) (PushJob n v) fs Refused z refl h a
+refuse_returns w q _ fs z h = tt
+
+miss_returns : (w : World) (q : Party) (x : Place) (fs : List Place) → w.stack q ≡ record { top = x; below = fs } → ReturnsHold w → IfSome (after_miss w q (record { top = x; below = fs }) x) (λ u. SharesHold u → ReturnsHold u)
+miss_returns w (Worker a b) (StealFrom k n) fs z h = if_cond (λ u. SharesHold u → ReturnsHold u) (can_miss w a k.victim) _ (λ y d. seen_returns w (Worker a b) (w.shape.pool a) (StealFrom k n) fs Missing z refl h d)
+miss_returns w (Worker a b) (YieldSteal v n) fs z h = if_cond (λ u. SharesHold u → ReturnsHold u) (can_miss w a v) _ (λ y d. seen_returns w (Worker a b) (w.shape.pool a) (YieldSteal v n) fs Missing z refl h d)
+miss_returns w (Worker a b) _ fs z h = tt
+miss_returns w (Caller n) _ fs z h = tt
+
+end_returns : (w : World) (q : Party) (d : Ending) (x : Place) (fs : List Place) → w.stack q ≡ record { top = x; below = fs } → ReturnsHold w → IfSome (after_end w q d (record { top = x; below = fs }) x) (λ u. SharesHold u → ReturnsHold u)
+end_returns w q d (Run t k) fs z h = λ s. returns_keep w (ended_world w q d t k fs) q (after_close t k d fs) (λ r. refl)
+    (λ i c. (sym (put_same (λ j. j.counted) w.job t (at_job (w.job t) (Over d)) i refl) ∙ c, (let a : all_bare i (after_close t k d fs) ≤ bare_in i fs = closed_bare i t k d fs in let b : backs (put w.job t (at_job (w.job t) (Over d)) i).at ≤ backs (w.job i).at = put_backs w.job t (at_job (w.job t) (Over d)) i (omega arith) in let e : all_bare i (w.stack q) ≡ (0 + bare_in i fs) = ap (all_bare i) z in omega (arith, a, b, e)))) h s
+end_returns w q d _ fs z h = tt
+
+-- a call begins: its jobs are new, and have no share yet
+made_returns : (w : World) (q : Party) (n : Plan) (C : ℕ → Call) (J : ℕ → Job) (c j : ℕ) → ((t : ℕ) → t + 1 ≤ w.jobs → hand_plan t n ≤ 0) → ((t : ℕ) → (J t).counted ≡ (w.job t).counted) → ((t : ℕ) → backs (J t).at ≤ backs (w.job t).at) → ReturnsHold w → SharesHold (calling w q n C J c j) → ReturnsHold (calling w q n C J c j)
+made_returns w q n C J c j new co ba h s = returns_keep w (calling w q n C J c j) q (after_call (w.stack q) (RaiseCount n)) (λ r. refl) (λ t e. (sym (co t) ∙ e, (let a : hand_plan t n ≤ 0 = new t (old t (sym (co t) ∙ e)) in let b : backs (J t).at ≤ backs (w.job t).at = ba t in omega (arith, a, b)))) h s
+  where
+    old : (t : ℕ) → (w.job t).counted ≡ true → t + 1 ≤ w.jobs
+    old t e = elim (either (ltb t w.jobs)) [ inl y ↦ (let b : t < w.jobs = ltb-true t w.jobs y in omega (arith, b)) | inr y ↦ absurd (let b : (w.job t).counted ≡ false = (h.shares).unmade t (ltb-false t w.jobs y) in cc) ]
+
+new_hand : (t n : ℕ) → t + 1 ≤ n → one (t == n) ≤ 0
+new_hand t n b = let a : one (t == n) ≡ 0 = ap one (below_new t n b) in omega (arith, a)
+
+new_counted : (w : World) (q : Party) (p : ℕ) (k : JobKind) → ReturnsHold w → (t : ℕ) → (put w.job w.jobs (new_job q p k) t).counted ≡ (w.job t).counted
+new_counted w q p k h t = put_same (λ j. j.counted) w.job w.jobs (new_job q p k) t (sym ((h.shares).unmade w.jobs (omega arith)))
+
+spawn_returns : (w : World) (q : Party) (p : ℕ) → ReturnsHold w → IfSome (after_spawn w q p (w.stack q)) (λ u. SharesHold u → ReturnsHold u)
+spawn_returns w q p h = if_cond (λ u. SharesHold u → ReturnsHold u) (is_free ((w.stack q).top) && is_pool w.shape p) _ (λ f s. made_returns w q (Detach p w.jobs) w.call (put w.job w.jobs (new_job q p (Detached p))) w.calls (w.jobs + 1) (λ t b. new_hand t w.jobs b) (new_counted w q p (Detached p) h) (λ t. put_backs w.job w.jobs (new_job q p (Detached p)) t (omega arith)) h s)
+
+sent_returns : (w : World) (q : Party) (p : ℕ) (b : Bool) → ReturnsHold w → SharesHold (after_send w q p (w.stack q) b) → ReturnsHold (after_send w q p (w.stack q) b)
+sent_returns w q p true h s = made_returns w q (Here p w.jobs) w.call (put w.job w.jobs (new_job q p Direct)) w.calls (w.jobs + 1) (λ t b. new_hand t w.jobs b) (new_counted w q p Direct h) (λ t. put_backs w.job w.jobs (new_job q p Direct) t (omega arith)) h s
+sent_returns w q p false h s = made_returns w q (Send (record { number = w.calls; pool = p; job = w.jobs })) (put w.call w.calls (new_call None w.jobs)) (put w.job w.jobs (new_job q p (Stored w.calls q))) (w.calls + 1) (w.jobs + 1) (λ t b. new_hand t w.jobs b) (new_counted w q p (Stored w.calls q) h) (λ t. put_backs w.job w.jobs (new_job q p (Stored w.calls q)) t (omega arith)) h s
+
+install_returns : (w : World) (q : Party) (p : ℕ) → ReturnsHold w → IfSome (after_install w q p (w.stack q)) (λ u. SharesHold u → ReturnsHold u)
+install_returns w q p h = if_cond (λ u. SharesHold u → ReturnsHold u) (is_free ((w.stack q).top) && is_pool w.shape p) _ (λ f s. sent_returns w q p (is_member q p) h s)
+
+join_returns : (w : World) (q : Party) → ReturnsHold w → IfSome (after_join w q (w.stack q)) (λ u. SharesHold u → ReturnsHold u)
+join_returns w (Caller n) h = tt
+join_returns w (Worker p i) h = if_cond (λ u. SharesHold u → ReturnsHold u) (is_free ((w.stack (Worker p i)).top)) _ (λ f s. made_returns w (Worker p i) (Fork (record { number = w.calls; pool = p; job = w.jobs + 1 }) w.jobs) (put w.call w.calls (new_call (Some w.jobs) (w.jobs + 1))) (put (put w.job w.jobs (new_job (Worker p i) p Direct)) (w.jobs + 1) (new_job (Worker p i) p (Stored w.calls (Worker p i)))) (w.calls + 1) (w.jobs + 2) new counted back h s)
+  where
+    J1 : ℕ → Job
+    J1 = put w.job w.jobs (new_job (Worker p i) p Direct)
+
+    new : (t : ℕ) → t + 1 ≤ w.jobs → one (t == w.jobs) + one (t == (w.jobs + 1)) ≤ 0
+    new t b = let a : one (t == w.jobs) ≤ 0 = new_hand t w.jobs b in let d : one (t == (w.jobs + 1)) ≤ 0 = new_hand t (w.jobs + 1) (omega (arith, b)) in omega (arith, a, d)
+
+    counted : (t : ℕ) → (put J1 (w.jobs + 1) (new_job (Worker p i) p (Stored w.calls (Worker p i))) t).counted ≡ (w.job t).counted
+    counted t = put_same (λ j. j.counted) J1 (w.jobs + 1) (new_job (Worker p i) p (Stored w.calls (Worker p i))) t (sym (new_counted w (Worker p i) p Direct h (w.jobs + 1) ∙ (h.shares).unmade (w.jobs + 1) (omega arith))) ∙ new_counted w (Worker p i) p Direct h t
+
+    back : (t : ℕ) → backs (put J1 (w.jobs + 1) (new_job (Worker p i) p (Stored w.calls (Worker p i))) t).at ≤ backs (w.job t).at
+    back t = let a : backs (put J1 (w.jobs + 1) (new_job (Worker p i) p (Stored w.calls (Worker p i))) t).at ≤ backs (J1 t).at = put_backs J1 (w.jobs + 1) (new_job (Worker p i) p (Stored w.calls (Worker p i))) t (omega arith) in let b : backs (J1 t).at ≤ backs (w.job t).at = put_backs w.job w.jobs (new_job (Worker p i) p Direct) t (omega arith) in omega (arith, a, b)
+
+yield_returns : (w : World) (q : Party) (x : Place) → ((t : ℕ) → bare t x ≡ 0) → ReturnsHold w → IfSome (after_yield w q (w.stack q) x) (λ u. SharesHold u → ReturnsHold u)
+yield_returns w (Worker a b) x n h = if_cond (λ u. SharesHold u → ReturnsHold u) (is_free ((w.stack (Worker a b)).top)) _ (λ f s. moved_returns w (record w { stack = put_stack w.stack (Worker a b) (after_call (w.stack (Worker a b)) x) }) (Worker a b) (after_call (w.stack (Worker a b)) x) (λ r. refl) (λ t. refl) (λ t. (let c : bare t x ≡ 0 = n t in omega (arith, c))) h s)
+yield_returns w (Caller c) x n h = tt
+
+give_returns : (w : World) (q : Party) (p : ℕ) → ReturnsHold w → IfSome (after_end_pool w q p (w.stack q)) (λ u. SharesHold u → ReturnsHold u)
+give_returns w q p h = if_cond (λ u. SharesHold u → ReturnsHold u) (is_free ((w.stack q).top) && (is_pool w.shape p && (w.pool p).held)) _ (λ f s. moved_returns w (record w { stack = put_stack w.stack q (after_call (w.stack q) (LowerCount p PoolValue Resume)); pool = put w.pool p (record (w.pool p) { held = false }) }) q (after_call (w.stack q) (LowerCount p PoolValue Resume)) (λ r. refl) (λ t. refl) (λ t. omega arith) h s)
+
+go_returns : (w : World) (q : Party) → ReturnsHold w → IfSome (step w (Go q)) (λ u. SharesHold u → ReturnsHold u)
+go_returns w q h = acted_keeps w q (w.stack q) (target_pool q (act_of q ((w.stack q).top))) (target_worker q (act_of q ((w.stack q).top))) (target_call (act_of q ((w.stack q).top))) (job_at w q (act_of q ((w.stack q).top))) (outcome w q (w.stack q)) (λ u. SharesHold u → ReturnsHold u) (go_by w q ((w.stack q).top) ((w.stack q).below) refl h)
+
+each_returns : (w : World) (e : Event) → ReturnsHold w → IfSome (step w e) (λ u. SharesHold u → ReturnsHold u)
+each_returns w (Go q) h = go_returns w q h
+each_returns w (From q v) h = from_returns w q ((w.stack q).top) ((w.stack q).below) v refl h
+each_returns w (Refuse q) h = refuse_returns w q ((w.stack q).top) ((w.stack q).below) refl h
+each_returns w (Miss q) h = miss_returns w q ((w.stack q).top) ((w.stack q).below) refl h
+each_returns w (End q d) h = end_returns w q d ((w.stack q).top) ((w.stack q).below) refl h
+each_returns w (Spawn q p) h = spawn_returns w q p h
+each_returns w (Install q p) h = install_returns w q p h
+each_returns w (Join q) h = join_returns w q h
+each_returns w (Yield q) h = yield_returns w q YieldPop (λ t. refl) h
+each_returns w (YieldLocal q) h = yield_returns w q LocalPop (λ t. refl) h
+each_returns w (EndPool q p) h = give_returns w q p h
+
+step_returns : (w : World) (e : Event) → ReturnsHold w → IfSome (step w e) ReturnsHold
+step_returns w e h = if_some_map (λ u. SharesHold u × (SharesHold u → ReturnsHold u)) ReturnsHold (λ u f. f.1 (f.0)) (step w e) (if_some_and SharesHold (λ u. SharesHold u → ReturnsHold u) (step w e) (step_shares w e (h.shares)) (each_returns w e h))
+
+first_returns : (h : Shape) → ReturnsHold (start h)
+first_returns h = record { shares = first_shares h; bare = λ q t c. absurd (let a : false ≡ true = c in cc) }
+
+pub always_returns : (h : Shape) (es : List Event) (w : World) → IsRun (start h) es w → ReturnsHold w
+always_returns h es w r = run_keeps ReturnsHold step_returns (start h) w es (first_returns h) r
+
+-- what a party has without a share is not in the count
+uncounted : (b : Bool) → (b ≡ true → ⊥) → b ≡ false
+uncounted true f = absurd (f refl)
+uncounted false f = refl
+
+some_then : {a b : Then} → Some a ≡ Some b → a ≡ b
+some_then e = cc
+
+settles_bare : (t : ℕ) (x : Place) (n : Then) → after_settling x ≡ Some n → bare t x ≡ bare_then t n
+settles_bare t (SetLatch k) n z = ap (bare_then t) (some_then z)
+settles_bare t (LockToSettle k) n z = ap (bare_then t) (some_then z)
+settles_bare t (WakeSettled k) n z = ap (bare_then t) (some_then z)
+settles_bare t (UnlockSettled k) n z = ap (bare_then t) (some_then z)
+settles_bare t _ n z = cc
+
+going : (w : World) → ReturnsHold w → (q : Party) (n : Plan) → ((t : ℕ) → hand_plan t n ≤ all_bare t (w.stack q)) → AllJobs (λ t. (w.job t).counted ≡ false) n
+going w h q n f = each n f
+  where
+    job : (t : ℕ) → 1 ≤ all_bare t (w.stack q) → (w.job t).counted ≡ false
+    job t b = uncounted ((w.job t).counted) (λ c. absurd (let a : all_bare t (w.stack q) + backs (w.job t).at ≤ 0 = h.bare q t c in omega (arith, a, b)))
+
+    each : (n : Plan) → ((t : ℕ) → hand_plan t n ≤ all_bare t (w.stack q)) → AllJobs (λ t. (w.job t).counted ≡ false) n
+    each (Detach p t) f = job t (let a : one (t == t) ≤ all_bare t (w.stack q) = f t in let b : one (t == t) ≡ 1 = self_one t in omega (arith, a, b))
+    each (Here p t) f = job t (let a : one (t == t) ≤ all_bare t (w.stack q) = f t in let b : one (t == t) ≡ 1 = self_one t in omega (arith, a, b))
+    each (Send o) f = job (o.job) (let a : one (o.job == o.job) ≤ all_bare (o.job) (w.stack q) = f (o.job) in let b : one (o.job == o.job) ≡ 1 = self_one (o.job) in omega (arith, a, b))
+    each (Fork o s) f = (
+      job s (let a : one (s == s) + one (s == o.job) ≤ all_bare s (w.stack q) = f s in let b : one (s == s) ≡ 1 = self_one s in omega (arith, a, b)),
+      job (o.job) (let a : one (o.job == s) + one (o.job == o.job) ≤ all_bare (o.job) (w.stack q) = f (o.job) in let b : one (o.job == o.job) ≡ 1 = self_one (o.job) in omega (arith, a, b)),
+    )
+
+pub returned_so : (w : World) → ReturnsHold w → IsReturned w
+returned_so w h = record {
+  going = λ q n z. going w h q n (λ t. (let a : bare t ((w.stack q).top) ≡ hand_plan t n = settles_bare t ((w.stack q).top) (GiveBack n) z in omega (arith, a)));
+  gone = λ t z. uncounted ((w.job t).counted) (λ c. absurd (let a : all_bare t (w.stack (Caller 0)) + backs (w.job t).at ≤ 0 = h.bare (Caller 0) t c in let b : backs (w.job t).at ≡ 1 = ap backs z in omega (arith, a, b)));
+}

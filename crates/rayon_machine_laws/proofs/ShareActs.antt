@@ -1,0 +1,233 @@
+-- each act keeps the shares and their sum
+use Rattle.std.proofs.Common.{rules, arith, refl, sym, ◌∙◌, ap, subst}
+use Rattle.std.specs.Prelude.{ℕ, Bool, true, false, ◌&&◌, ◌+◌, ◌==◌, ◌≤◌, if◌then◌else◌, Option, Some, None, List, [], ◌∷◌, ◌++◌, ◌≡◌, IfSome}
+use Rattle.std.proofs.lemmas.Bool.{eq-eqb}
+use Rattle.rayon_machine_places.specs.declared.shape.Order.{Order}
+use Rattle.rayon_machine_places.specs.declared.place.Party.{Party}
+use Rattle.rayon_machine_places.specs.declared.place.Party.TheVariants.{Worker, Caller}
+use Rattle.rayon_machine_places.specs.declared.place.Latch.{Latch}
+use Rattle.rayon_machine_places.specs.declared.place.Latch.TheVariants.{Terminate, OfCall}
+use Rattle.rayon_machine_places.specs.declared.place.Plan.{Plan}
+use Rattle.rayon_machine_places.specs.declared.place.Plan.TheVariants.{Detach, Here, Send, Fork}
+use Rattle.rayon_machine_places.specs.declared.place.Place.{Place}
+use Rattle.rayon_machine_places.specs.declared.place.Place.TheVariants.{ProbeWorking, PopWorking, TakeCastWorking, PopIdle, TakeCastIdle, StealFrom, PopInjected, GetSleepy, FallAsleep, WakeUp, JoinPop, JoinTakeCast, YieldPop, YieldTakeCast, YieldSteal, YieldPopInjected, LocalPop, LocalTakeCast, BeginTask, BeginHere, RaiseCount, PushJob, LowerCount, SetLatch}
+use Rattle.rayon_machine_places.specs.declared.place.Move.{Move}
+use Rattle.rayon_machine_places.specs.declared.place.Move.TheVariants.{Stay, Enter, StartRun, Back, HandBack}
+use Rattle.rayon_machine_places.specs.declared.act.Act.TheVariants.{PushInj, PushOwn}
+use Rattle.rayon_machine_places.specs.declared.act.Seen.{Seen}
+use Rattle.rayon_machine_places.specs.declared.act.Seen.TheVariants.{Done, Refused, Yes, No, Missing}
+use Rattle.rayon_machine_places.specs.declared.state.Letter.{Letter}
+use Rattle.rayon_machine_places.specs.declared.state.Letter.TheVariants.{Unset, Sleepy as IsSleepy, Sleeping, Set as IsSet}
+use Rattle.rayon_machine_places.specs.declared.state.Whereabouts.{Whereabouts}
+use Rattle.rayon_machine_places.specs.declared.state.Whereabouts.TheVariants.{Nowhere, Made, InDeque, Injected, HandedBack}
+use Rattle.rayon_machine_places.specs.declared.state.Job.{Job}
+use Rattle.rayon_machine_places.specs.Places.{same_party, own_pool, own_index, is_member, latch_of, plan_pool, plan_job, act_of}
+use Rattle.rayon_machine_places.specs.World.{Shape, Stack, World, Counts, counts_at, Part, target_pool, target_worker, target_call, head_of, but_first, own_of, own_left, or_none, letter, with_letter, sleepy, fall_asleep, wake_up, set_latch, at_job, begun, popped, take_cast, pop_injector, effect}
+use Rattle.rayon_machine_places.specs.Steps.{put, put_stack, part_of, jobs_after}
+use Rattle.rayon_machine_laws.specs.Once.{one, times, in_deque, in_injector, IsOnce}
+use Rattle.rayon_machine_laws.specs.Shares.{shares, is_busy}
+use Rattle.rayon_machine_laws.proofs.Frame.{same_party_refl, if_some_map}
+use Rattle.rayon_machine_laws.proofs.Ties.{job_at}
+use Rattle.rayon_machine_laws.proofs.Lists.{is_quiet, SameJobs, quiet_same, times_first, times_own}
+use Rattle.rayon_machine_laws.proofs.Located.{is_left}
+use Rattle.rayon_machine_laws.proofs.Placed.{outcome_of}
+use Rattle.rayon_machine_laws.proofs.Claims.{is_detached, SaysPlan, Says}
+use Rattle.rayon_machine_laws.proofs.ClaimActs.{put_same}
+use Rattle.rayon_machine_laws.proofs.ClaimRuns.{CallsHold, part_at}
+use Rattle.rayon_machine_laws.proofs.Amounts.{all_raises, all_values, pushed}
+use Rattle.rayon_machine_laws.proofs.Tokens.{Tokens, sum_below}
+
+-- a detached job that is queued or runs has its share itself
+abbrev pub with_job : Job → ℕ
+with_job j = one (is_detached j.kind && is_busy j.at)
+
+-- a job's share counts at its pool
+abbrev pub tally : ℕ → Job → ℕ
+tally p j = one (j.counted && (p == j.pool))
+
+-- what holds of the shares of every world
+pub record SharesHold (w : World) : Type 0 where
+  pub calls : CallsHold w
+  pub jobs : (t : ℕ) → Tokens (λ q. shares t (w.stack q)) (with_job (w.job t)) (one (w.job t).counted)
+  pub values : (p : ℕ) → Tokens (λ q. all_values p (w.stack q)) (one (w.pool p).held) (one (w.pool p).counted)
+  pub unraised : (q : Party) (t : ℕ) → all_raises t (w.stack q) + one (w.job t).counted ≤ 1
+  pub unmade : (t : ℕ) → w.jobs ≤ t → (w.job t).counted ≡ false
+  pub sums : (p : ℕ) → sum_below w.jobs (λ t. tally p (w.job t)) + one (w.pool p).counted ≤ (w.pool p).count
+
+pub one_most : (b : Bool) → one b ≤ 1
+one_most true = omega arith
+one_most false = omega arith
+
+pub one_is : (b : Bool) → 1 ≤ one b → b ≡ true
+one_is true h = refl
+one_is false h = absurd (omega arith)
+
+pub one_not : (b : Bool) → one b ≤ 0 → b ≡ false
+one_not true h = absurd (omega arith)
+one_not false h = refl
+
+pub after_counted : (q : Party) (g : Move) (J : ℕ → Job) (t : ℕ) → (jobs_after q g J t).counted ≡ (J t).counted
+after_counted q (Stay y) J t = refl
+after_counted q (Enter f y) J t = refl
+after_counted q Back J t = refl
+after_counted q (StartRun f a) J t = put_same (λ j. j.counted) J a (begun q (J a)) t refl
+after_counted q (HandBack (Detach p a)) J t = put_same (λ j. j.counted) J a (at_job (J a) HandedBack) t refl
+after_counted q (HandBack (Here p a)) J t = put_same (λ j. j.counted) J a (at_job (J a) HandedBack) t refl
+after_counted q (HandBack (Send o)) J t = put_same (λ j. j.counted) J (o.job) (at_job (J (o.job)) HandedBack) t refl
+after_counted q (HandBack (Fork o a)) J t = put_same (λ j. j.counted) (put J a (at_job (J a) HandedBack)) (o.job) (at_job (J (o.job)) HandedBack) t (sym (put_same (λ j. j.counted) J a (at_job (J a) HandedBack) (o.job) refl)) ∙ put_same (λ j. j.counted) J a (at_job (J a) HandedBack) t refl
+
+-- the stacks after one party has another
+pub stack_mine : (f : Party → Stack) (q : Party) (k : Stack) → put_stack f q k q ≡ k
+stack_mine f q k = by (same_party q q) (same_party_refl q)
+  where
+    by : (z : Bool) → z ≡ true → (if z then k else f q) ≡ k
+    by true e = refl
+    by false e = cc
+
+pub stack_other : (f : Party → Stack) (q r : Party) (k : Stack) → same_party r q ≡ false → put_stack f q k r ≡ f r
+stack_other f q r k e = by (same_party r q) e
+  where
+    by : (z : Bool) → z ≡ false → (if z then k else f r) ≡ f r
+    by true e = cc
+    by false e = refl
+
+-- places whose acts change the count
+abbrev pub is_tally : Place → Bool
+is_tally (RaiseCount n) = true
+is_tally (LowerCount p s n) = true
+is_tally _ = false
+
+pub record Untallied (m : Part) (r : Seen × Part) : Type 0 where
+  pub job : r.1.job.counted ≡ m.job.counted
+  pub pool : r.1.pool.counted ≡ m.pool.counted
+  pub count : r.1.pool.count ≡ m.pool.count
+
+letter_untallied : (l : Latch) (m : Part) (e : Seen) (y : Letter) → Untallied m (e, with_letter l m y)
+letter_untallied Terminate m e y = record { job = refl; pool = refl; count = refl }
+letter_untallied (OfCall c) m e y = record { job = refl; pool = refl; count = refl }
+
+pub same_untallied : (m : Part) (e : Seen) → Untallied m (e, m)
+same_untallied m e = record { job = refl; pool = refl; count = refl }
+
+set_untallied : (l : Latch) (m : Part) (x : Letter) → IfSome (set_latch l m x) (Untallied m)
+set_untallied l m Sleeping = letter_untallied l m Yes IsSet
+set_untallied l m _ = letter_untallied l m No IsSet
+
+sleepy_untallied : (l : Latch) (m : Part) (x : Letter) → IfSome (sleepy l m x) (Untallied m)
+sleepy_untallied l m Unset = letter_untallied l m Done IsSleepy
+sleepy_untallied l m _ = same_untallied m Refused
+
+asleep_untallied : (l : Latch) (m : Part) (x : Letter) → IfSome (fall_asleep l m x) (Untallied m)
+asleep_untallied l m IsSleepy = letter_untallied l m Done Sleeping
+asleep_untallied l m _ = same_untallied m Refused
+
+wake_untallied : (l : Latch) (m : Part) (x : Letter) → IfSome (wake_up l m x) (Untallied m)
+wake_untallied l m IsSet = same_untallied m Done
+wake_untallied l m _ = letter_untallied l m Done Unset
+
+pub act_untallied : (h : Shape) (q : Party) (c : Counts) (m : Part) (x : Place) → is_tally x ≡ false → IfSome (effect (act_of q x) h q c m) (Untallied m)
+act_untallied h (Worker a b) c m (ProbeWorking k) z = same_untallied m _
+act_untallied h (Worker a b) c m (GetSleepy k) z = sleepy_untallied (latch_of k.target) m (letter (latch_of k.target) m)
+act_untallied h (Worker a b) c m (FallAsleep k) z = asleep_untallied (latch_of k.target) m (letter (latch_of k.target) m)
+act_untallied h (Worker a b) c m (WakeUp k) z = wake_untallied (latch_of k.target) m (letter (latch_of k.target) m)
+act_untallied h (Worker a b) c m (SetLatch k) z = set_untallied k.latch m (letter k.latch m)
+act_untallied h (Worker a b) c m _ z = first_of (cc, search (rules, arith))
+act_untallied h (Caller n) c m (SetLatch k) z = set_untallied k.latch m (letter k.latch m)
+act_untallied h (Caller n) c m _ z = first_of (cc, search (rules, arith))
+
+-- a take is of a job that its list had
+take_left : (w : World) → IsOnce w → (p i t n : ℕ) → times t (w.seat p i).own ≡ (one (t == t) + n) → is_left (w.job t).at ≡ true
+take_left w h p i t n e = by ((w.job t).at) (let a : times t (w.seat p i).own ≤ one (in_deque p i (w.job t).at) = h.deque p i t in let b : one (t == t) ≡ 1 = ap one (eq-eqb t t refl) in omega (arith, a, b, e))
+  where
+    by : (v : Whereabouts) → 1 ≤ one (in_deque p i v) → is_left v ≡ true
+    by (InDeque r j) z = refl
+    by (Made q) z = absurd (omega (arith, z))
+    by Nowhere z = absurd (omega (arith, z))
+    by _ z = refl
+
+inject_left : (w : World) → IsOnce w → (p t n : ℕ) → times t (w.pool p).injector ≡ (one (t == t) + n) → is_left (w.job t).at ≡ true
+inject_left w h p t n e = by ((w.job t).at) (let a : times t (w.pool p).injector ≤ one (in_injector p (w.job t).at) = h.injector p t in let b : one (t == t) ≡ 1 = ap one (eq-eqb t t refl) in omega (arith, a, b, e))
+  where
+    by : (v : Whereabouts) → 1 ≤ one (in_injector p v) → is_left v ≡ true
+    by (Injected r) z = refl
+    by (Made q) z = absurd (omega (arith, z))
+    by Nowhere z = absurd (omega (arith, z))
+    by _ z = refl
+
+-- what an act tells of a detached job that its call still has: it has it still, or pushes it
+abbrev pub Stays : Part → Place → ℕ → Seen × Part → Type 0
+Stays m x n r = is_left m.job.at ≡ false → is_detached m.job.kind ≡ true → one (is_busy r.1.job.at) ≤ one (is_busy m.job.at) + pushed n x (r.0)
+
+same_stays : (m : Part) (x : Place) (n : ℕ) (r : Seen × Part) → r.1.job.at ≡ m.job.at → Stays m x n r
+same_stays m x n r e y z = let a : one (is_busy r.1.job.at) ≡ one (is_busy m.job.at) = ap (λ v. one (is_busy v)) e in omega (arith, a)
+
+pop_stays : (q : Party) (m : Part) (x : Place) (n : ℕ) (rest : List ℕ) (o : Option ℕ) → ((t : ℕ) → o ≡ Some t → is_left m.job.at ≡ true) → IfSome (popped q m rest o) (Stays m x n)
+pop_stays q m x n rest None f = same_stays m x n (Missing, m) refl
+pop_stays q m x n rest (Some t) f = λ y z. absurd (let a : is_left m.job.at ≡ true = f t refl in cc)
+
+cast_stays : (q : Party) (m : Part) (x : Place) (n : ℕ) (l : List ℕ) → ((t : ℕ) → head_of l ≡ Some t → is_left m.job.at ≡ true) → IfSome (take_cast q m l) (Stays m x n)
+cast_stays q m x n [] f = same_stays m x n (Missing, m) refl
+cast_stays q m x n (t ∷ ts) f = λ y z. absurd (let a : is_left m.job.at ≡ true = f t refl in cc)
+
+inj_stays : (q : Party) (m : Part) (x : Place) (n : ℕ) (l : List ℕ) → ((t : ℕ) → head_of l ≡ Some t → is_left m.job.at ≡ true) → IfSome (pop_injector q m l) (Stays m x n)
+inj_stays q m x n [] f = same_stays m x n (Missing, m) refl
+inj_stays q m x n (t ∷ ts) f = λ y z. absurd (let a : is_left m.job.at ≡ true = f t refl in cc)
+
+own_taken : (w : World) → IsOnce w → (b : Order) (p i t : ℕ) → own_of b (w.seat p i).own ≡ Some t → is_left (w.job (or_none (own_of b (w.seat p i).own))).at ≡ true
+own_taken w h b p i t e = subst (λ o. is_left (w.job (or_none o)).at ≡ true) (sym e) (take_left w h p i t (times t (own_left b (w.seat p i).own)) (times_own b ((w.seat p i).own) t t e))
+
+head_taken : (w : World) → IsOnce w → (p i t : ℕ) → head_of (w.seat p i).own ≡ Some t → is_left (w.job (or_none (head_of (w.seat p i).own))).at ≡ true
+head_taken w h p i t e = subst (λ o. is_left (w.job (or_none o)).at ≡ true) (sym e) (take_left w h p i t (times t (but_first (w.seat p i).own)) (times_first ((w.seat p i).own) t t e))
+
+inj_taken : (w : World) → IsOnce w → (p t : ℕ) → head_of (w.pool p).injector ≡ Some t → is_left (w.job (or_none (head_of (w.pool p).injector))).at ≡ true
+inj_taken w h p t e = subst (λ o. is_left (w.job (or_none o)).at ≡ true) (sym e) (inject_left w h p t (times t (but_first (w.pool p).injector)) (times_first ((w.pool p).injector) t t e))
+
+cast_taken : (w : World) → IsOnce w → (p i t : ℕ) → head_of ((w.pool p).casts i) ≡ Some t → is_left (w.job (or_none (head_of ((w.pool p).casts i)))).at ≡ true
+cast_taken w h p i t e = absurd (let a : times t ((w.pool p).casts i) ≡ 0 = h.cast p i t in let b : times t ((w.pool p).casts i) ≡ (one (t == t) + times t (but_first ((w.pool p).casts i))) = times_first ((w.pool p).casts i) t t e in let c : one (t == t) ≡ 1 = ap one (eq-eqb t t refl) in omega (arith, a, b, c))
+
+push_stays : (w : World) (q : Party) (n : Plan) (v : Bool) (m m' : Part) → SaysPlan w q n → m.job ≡ w.job (plan_job n) → Stays m (PushJob n v) (plan_job n) (Done, m')
+push_stays w q (Detach p t) v m m' s e y z = let a : one (t == t) ≡ 1 = ap one (eq-eqb t t refl) in let b : one (is_busy m'.job.at) ≤ 1 = one_most (is_busy m'.job.at) in omega (arith, a, b)
+push_stays w q (Here p t) v m m' s e y z = absurd (let a : is_detached m.job.kind ≡ false = ap (λ j. is_detached (j.kind)) e ∙ ap is_detached (s.kind) in cc)
+push_stays w q (Send o) v m m' s e y z = absurd (let a : is_detached m.job.kind ≡ false = ap (λ j. is_detached (j.kind)) e ∙ ap is_detached ((s.0).kind) in cc)
+push_stays w q (Fork o f) v m m' s e y z = absurd (let a : is_detached m.job.kind ≡ false = ap (λ j. is_detached (j.kind)) e ∙ ap is_detached ((s.0).kind) in cc)
+
+push_act_stays : (w : World) (q : Party) (n : Plan) (v z : Bool) → SaysPlan w q n → IfSome (outcome_of w q (if z then PushOwn (plan_job n) else PushInj (plan_pool n) (plan_job n))) (Stays (part_of w (target_pool q (if z then PushOwn (plan_job n) else PushInj (plan_pool n) (plan_job n))) (target_worker q (if z then PushOwn (plan_job n) else PushInj (plan_pool n) (plan_job n))) (target_call (if z then PushOwn (plan_job n) else PushInj (plan_pool n) (plan_job n))) (job_at w q (if z then PushOwn (plan_job n) else PushInj (plan_pool n) (plan_job n)))) (PushJob n v) (job_at w q (if z then PushOwn (plan_job n) else PushInj (plan_pool n) (plan_job n))))
+push_act_stays w q n v true s = let m : Part = part_of w (own_pool q) (own_index q) 0 (plan_job n) in push_stays w q n v m (record m { seat = record (m.seat) { own = m.seat.own ++ plan_job n ∷ [] }; job = at_job (m.job) (InDeque (own_pool q) (own_index q)) }) s refl
+push_act_stays w q n v false s = let m : Part = part_of w (plan_pool n) (own_index q) 0 (plan_job n) in push_stays w q n v m (record m { pool = record (m.pool) { injector = m.pool.injector ++ plan_job n ∷ [] }; job = at_job (m.job) (Injected (plan_pool n)) }) s refl
+
+quiet_stays : (h : Shape) (q : Party) (c : Counts) (m : Part) (x : Place) (n : ℕ) → is_quiet x ≡ true → IfSome (effect (act_of q x) h q c m) (Stays m x n)
+quiet_stays h q c m x n z = if_some_map (SameJobs m) (Stays m x n) (λ r s. same_stays m x n r (s.at)) (effect (act_of q x) h q c m) (quiet_same h q c m x z)
+
+pub act_stays : (w : World) (q : Party) (x : Place) → IsOnce w → Says w q x → IfSome (effect (act_of q x) w.shape q (counts_at w (target_pool q (act_of q x))) (part_at w q x)) (Stays (part_at w q x) x (job_at w q (act_of q x)))
+act_stays w (Worker a b) (PopWorking k) h s = pop_stays (Worker a b) (part_at w (Worker a b) (PopWorking k)) (PopWorking k) (job_at w (Worker a b) (act_of (Worker a b) (PopWorking k))) _ _ (λ t e. own_taken w h ((w.shape.pool a).order) a b t e)
+act_stays w (Caller c) (PopWorking k) h s = tt
+act_stays w (Worker a b) (PopIdle k) h s = pop_stays (Worker a b) (part_at w (Worker a b) (PopIdle k)) (PopIdle k) (job_at w (Worker a b) (act_of (Worker a b) (PopIdle k))) _ _ (λ t e. own_taken w h ((w.shape.pool a).order) a b t e)
+act_stays w (Caller c) (PopIdle k) h s = tt
+act_stays w (Worker a b) (JoinPop o) h s = pop_stays (Worker a b) (part_at w (Worker a b) (JoinPop o)) (JoinPop o) (job_at w (Worker a b) (act_of (Worker a b) (JoinPop o))) _ _ (λ t e. own_taken w h ((w.shape.pool a).order) a b t e)
+act_stays w (Caller c) (JoinPop o) h s = tt
+act_stays w (Worker a b) YieldPop h s = pop_stays (Worker a b) (part_at w (Worker a b) YieldPop) YieldPop (job_at w (Worker a b) (act_of (Worker a b) YieldPop)) _ _ (λ t e. own_taken w h ((w.shape.pool a).order) a b t e)
+act_stays w (Caller c) YieldPop h s = tt
+act_stays w (Worker a b) LocalPop h s = pop_stays (Worker a b) (part_at w (Worker a b) LocalPop) LocalPop (job_at w (Worker a b) (act_of (Worker a b) LocalPop)) _ _ (λ t e. own_taken w h ((w.shape.pool a).order) a b t e)
+act_stays w (Caller c) LocalPop h s = tt
+act_stays w (Worker a b) (StealFrom k n) h s = pop_stays (Worker a b) (part_at w (Worker a b) (StealFrom k n)) (StealFrom k n) (job_at w (Worker a b) (act_of (Worker a b) (StealFrom k n))) _ _ (λ t e. head_taken w h a (k.victim) t e)
+act_stays w (Caller c) (StealFrom k n) h s = tt
+act_stays w (Worker a b) (YieldSteal v n) h s = pop_stays (Worker a b) (part_at w (Worker a b) (YieldSteal v n)) (YieldSteal v n) (job_at w (Worker a b) (act_of (Worker a b) (YieldSteal v n))) _ _ (λ t e. head_taken w h a (v) t e)
+act_stays w (Caller c) (YieldSteal v n) h s = tt
+act_stays w (Worker a b) (PopInjected k) h s = inj_stays (Worker a b) (part_at w (Worker a b) (PopInjected k)) (PopInjected k) (job_at w (Worker a b) (act_of (Worker a b) (PopInjected k))) _ (λ t e. inj_taken w h a t e)
+act_stays w (Caller c) (PopInjected k) h s = tt
+act_stays w (Worker a b) YieldPopInjected h s = inj_stays (Worker a b) (part_at w (Worker a b) YieldPopInjected) YieldPopInjected (job_at w (Worker a b) (act_of (Worker a b) YieldPopInjected)) _ (λ t e. inj_taken w h a t e)
+act_stays w (Caller c) YieldPopInjected h s = tt
+act_stays w (Worker a b) (TakeCastWorking k) h s = cast_stays (Worker a b) (part_at w (Worker a b) (TakeCastWorking k)) (TakeCastWorking k) (job_at w (Worker a b) (act_of (Worker a b) (TakeCastWorking k))) _ (λ t e. cast_taken w h a b t e)
+act_stays w (Caller c) (TakeCastWorking k) h s = tt
+act_stays w (Worker a b) (TakeCastIdle k) h s = cast_stays (Worker a b) (part_at w (Worker a b) (TakeCastIdle k)) (TakeCastIdle k) (job_at w (Worker a b) (act_of (Worker a b) (TakeCastIdle k))) _ (λ t e. cast_taken w h a b t e)
+act_stays w (Caller c) (TakeCastIdle k) h s = tt
+act_stays w (Worker a b) (JoinTakeCast o) h s = cast_stays (Worker a b) (part_at w (Worker a b) (JoinTakeCast o)) (JoinTakeCast o) (job_at w (Worker a b) (act_of (Worker a b) (JoinTakeCast o))) _ (λ t e. cast_taken w h a b t e)
+act_stays w (Caller c) (JoinTakeCast o) h s = tt
+act_stays w (Worker a b) YieldTakeCast h s = cast_stays (Worker a b) (part_at w (Worker a b) YieldTakeCast) YieldTakeCast (job_at w (Worker a b) (act_of (Worker a b) YieldTakeCast)) _ (λ t e. cast_taken w h a b t e)
+act_stays w (Caller c) YieldTakeCast h s = tt
+act_stays w (Worker a b) LocalTakeCast h s = cast_stays (Worker a b) (part_at w (Worker a b) LocalTakeCast) LocalTakeCast (job_at w (Worker a b) (act_of (Worker a b) LocalTakeCast)) _ (λ t e. cast_taken w h a b t e)
+act_stays w (Caller c) LocalTakeCast h s = tt
+act_stays w q (BeginTask t) h s = λ y z. absurd (let a : is_left (w.job t).at ≡ true = s in cc)
+act_stays w q (BeginHere t) h s = λ y z. absurd (let a : is_detached (w.job t).kind ≡ false = s.kind in cc)
+act_stays w q (PushJob n v) h s = push_act_stays w q n v (is_member q (plan_pool n)) s
+act_stays w q x h s = quiet_stays w.shape q (counts_at w (target_pool q (act_of q x))) (part_at w q x) x (job_at w q (act_of q x)) refl

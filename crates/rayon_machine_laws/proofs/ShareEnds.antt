@@ -1,0 +1,253 @@
+-- the end of a run and the making of calls keep the shares; each step does; and so no pool ends early
+use Rattle.std.proofs.Common.{arith, refl, sym, ◌∙◌, ap, subst, inl, inr}
+use Rattle.std.specs.Prelude.{ℕ, Bool, true, false, ◌&&◌, ◌+◌, ◌==◌, ◌≤◌, ◌<◌, nat_lt, if◌then◌else◌, Some, None, List, [], ◌∷◌, ◌≡◌, IfSome}
+use Rattle.std.proofs.lemmas.Bool.{eqb-true, eq-eqb, ltb-true, ltb-false}
+use Rattle.std.proofs.Math.Dec.{ltb}
+use Rattle.rayon_machine_places.specs.declared.place.Party.{Party}
+use Rattle.rayon_machine_places.specs.declared.place.Party.TheVariants.{Worker, Caller}
+use Rattle.rayon_machine_places.specs.declared.place.Ending.{Ending}
+use Rattle.rayon_machine_places.specs.declared.place.Ending.TheVariants.{Fine, Fault}
+use Rattle.rayon_machine_places.specs.declared.place.JobKind.{JobKind}
+use Rattle.rayon_machine_places.specs.declared.place.JobKind.TheVariants.{Detached, Stored, Direct}
+use Rattle.rayon_machine_places.specs.declared.place.Target.TheVariants.{Termination}
+use Rattle.rayon_machine_places.specs.declared.place.Plan.{Plan}
+use Rattle.rayon_machine_places.specs.declared.place.Plan.TheVariants.{Detach, Here, Send, Fork}
+use Rattle.rayon_machine_places.specs.declared.place.Place.{Place}
+use Rattle.rayon_machine_places.specs.declared.place.Place.TheVariants.{ProbeWorking, YieldPop, LocalPop, Run, RaiseCount, FirstSide, SecondSide, AtOnce, Free, Stopped}
+use Rattle.rayon_machine_places.specs.declared.event.Event.{Event}
+use Rattle.rayon_machine_places.specs.declared.event.Event.TheVariants.{Go, From, Refuse, Miss, End, Spawn, Install, Join, Yield, YieldLocal, EndPool}
+use Rattle.rayon_machine_places.specs.declared.state.Whereabouts.TheVariants.{Nowhere, Running, Over}
+use Rattle.rayon_machine_places.specs.declared.state.Job.{Job}
+use Rattle.rayon_machine_places.specs.declared.state.Call.{Call}
+use Rattle.rayon_machine_places.specs.Places.{same_party, is_member, plan_job, fresh, act_of, goes_on, is_free}
+use Rattle.rayon_machine_places.specs.World.{Shape, World, target_pool, target_worker, target_call, at_job}
+use Rattle.rayon_machine_places.specs.Steps.{put, put_stack, after_close, after_end, after_call, is_pool, new_job, new_call, after_spawn, after_send, after_install, after_join, step}
+use Rattle.rayon_machine_places.specs.Runs.{first_place, start, IsRun}
+use Rattle.rayon_machine_laws.specs.Once.{one, runs_in}
+use Rattle.rayon_machine_laws.specs.Shares.{share, shares_in, shares, is_busy, IsGone, NoEarlyEnd}
+use Rattle.rayon_machine_laws.proofs.Frame.{either, same_party_true, if_cond, acted_keeps}
+use Rattle.rayon_machine_laws.proofs.Ties.{job_at, outcome}
+use Rattle.rayon_machine_laws.proofs.Events.{run_keeps}
+use Rattle.rayon_machine_laws.proofs.Hands.{held, worked}
+use Rattle.rayon_machine_laws.proofs.Located.{loc_of, loc_at, is_loc, where_is, at_work, Hand, Work}
+use Rattle.rayon_machine_laws.proofs.Claims.{is_detached, SaysRun}
+use Rattle.rayon_machine_laws.proofs.ClaimActs.{put_same, put_new, put_old}
+use Rattle.rayon_machine_laws.proofs.ClaimRuns.{CallsHold, top_says}
+use Rattle.rayon_machine_laws.proofs.ClaimEvents.{ended_world}
+use Rattle.rayon_machine_laws.proofs.ClaimMakes.{calling, below_new, step_calls, first_calls}
+use Rattle.rayon_machine_laws.proofs.Amounts.{raises, values, raises_in, values_in, all_raises, all_values}
+use Rattle.rayon_machine_laws.proofs.Tokens.{sum_below, sum_same, sum_least, sum_more}
+use Rattle.rayon_machine_laws.proofs.ShareActs.{with_job, tally, SharesHold, one_most, one_not, stack_mine}
+use Rattle.rayon_machine_laws.proofs.ShareRuns.{other_le, still_hold}
+use Rattle.rayon_machine_laws.proofs.ShareSteps.{tally_same, all_held, self_one}
+use Rattle.rayon_machine_laws.proofs.ShareEvents.{go_shares, with_calls, from_shares, refuse_shares, miss_shares, above, raises_called, yield_shares, give_shares}
+
+-- the share that the end of a detached job's run brings to the stack
+abbrev pub freed : ℕ → ℕ → JobKind → ℕ
+freed s t (Detached p) = one (s == t)
+freed s t _ = 0
+
+goes_on_shares : (s : ℕ) (f : Place) (e : Ending) → (share s (goes_on f e) ≤ share s f) × (values s (goes_on f e) ≤ values s f) × (raises s (goes_on f e) ≤ raises s f)
+goes_on_shares s (FirstSide o a) Fine = (omega arith, omega arith, omega arith)
+goes_on_shares s (FirstSide o a) Fault = (omega arith, omega arith, omega arith)
+goes_on_shares s (SecondSide o) e = (omega arith, omega arith, omega arith)
+goes_on_shares s (AtOnce p t) e = (omega arith, omega arith, omega arith)
+goes_on_shares s f e = (omega arith, omega arith, omega arith)
+
+closed_shares : (s t : ℕ) (k : JobKind) (e : Ending) (fs : List Place) → (shares s (after_close t k e fs) ≤ freed s t k + shares_in s fs) × (all_values s (after_close t k e fs) ≤ values_in s fs) × (all_raises s (after_close t k e fs) ≤ raises_in s fs)
+closed_shares s t (Detached p) e fs = (omega arith, omega arith, omega arith)
+closed_shares s t (Stored c o) e fs = (omega arith, omega arith, omega arith)
+closed_shares s t Direct e [] = (omega arith, omega arith, omega arith)
+closed_shares s t Direct e (f ∷ fs) = ((let a : share s (goes_on f e) ≤ share s f = (goes_on_shares s f e).0 in omega (arith, a)), (let a : values s (goes_on f e) ≤ values s f = (goes_on_shares s f e).1 in omega (arith, a)), (let a : raises s (goes_on f e) ≤ raises s f = (goes_on_shares s f e).2 in omega (arith, a)))
+
+and_none : (b : Bool) → one (b && false) ≡ 0
+and_none true = refl
+and_none false = refl
+
+freed_had : (w : World) (q : Party) (s t : ℕ) (k : JobKind) → (s == t) ≡ true → SaysRun w t k → (w.job t).at ≡ Running q → freed s t k ≤ with_job (w.job s)
+freed_had w q s t (Detached p) e r a = let i : s ≡ t = eqb-true s t e in let b : one (s == t) ≡ 1 = ap one e in let c : with_job (w.job s) ≡ with_job (w.job t) = ap (λ n. with_job (w.job n)) i in
+    let d : with_job (w.job t) ≡ 1 = ap (λ k. one (is_detached k && is_busy (w.job t).at)) (r.1) ∙ ap (λ v. one (is_busy v)) a in omega (arith, b, c, d)
+freed_had w q s t (Stored c o) e r a = omega arith
+freed_had w q s t Direct e r a = omega arith
+
+freed_none : (s t : ℕ) (k : JobKind) → (s == t) ≡ false → freed s t k ≡ 0
+freed_none s t (Detached p) e = ap one e
+freed_none s t (Stored c o) e = refl
+freed_none s t Direct e = refl
+
+end_shares : (w : World) (q : Party) (d : Ending) (x : Place) (fs : List Place) → w.stack q ≡ record { top = x; below = fs } → SharesHold w → IfSome (after_end w q d (record { top = x; below = fs }) x) (λ u. CallsHold u → SharesHold u)
+end_shares w q d (Run t k) fs z h = λ ch. still_hold w (ended_world w q d t k fs) q (after_close t k d fs) ch (λ s. refl) (omega arith) counted (λ p. refl)
+    (λ p. (let a : sum_below w.jobs (λ s. tally p ((ended_world w q d t k fs).job s)) ≡ sum_below w.jobs (λ s. tally p (w.job s)) = sum_same w.jobs (λ s. tally p ((ended_world w q d t k fs).job s)) (λ s. tally p (w.job s)) (λ s b. tally_same p ((ended_world w q d t k fs).job s) (w.job s) (counted s) (put_same (λ j. j.pool) w.job t (at_job (w.job t) (Over d)) s refl)) in omega (arith, a)))
+    (λ p. refl) (λ s. line s (s == t) refl)
+    (λ p. (let a : all_values p (put_stack w.stack q (after_close t k d fs) q) ≡ all_values p (after_close t k d fs) = ap (all_values p) (stack_mine w.stack q (after_close t k d fs)) in let b : all_values p (after_close t k d fs) ≤ values_in p fs = (closed_shares p t k d fs).1 in let c : all_values p (w.stack q) ≡ (0 + values_in p fs) = ap (all_values p) z in omega (arith, a, b, c)))
+    (λ s r. raised s r (same_party r q) refl) h
+  where
+    counted : (s : ℕ) → ((ended_world w q d t k fs).job s).counted ≡ (w.job s).counted
+    counted s = put_same (λ j. j.counted) w.job t (at_job (w.job t) (Over d)) s refl
+
+    running : (w.job t).at ≡ Running q
+    running = (at_work ((w.job t).at) ((w.job t).runs) q (where_is (Work q) (loc_at (w.job t)) (let a : worked t (w.stack q) ≤ is_loc (Work q) (loc_at (w.job t)) = (((h.calls).jobs).ok).placed (Work q) t in let b : worked t (w.stack q) ≡ (one (t == t) + runs_in t fs) = ap (worked t) z in let c : one (t == t) ≡ 1 = self_one t in omega (arith, a, b, c)))).1
+
+    mine : (s : ℕ) → shares s (put_stack w.stack q (after_close t k d fs) q) ≤ freed s t k + shares s (w.stack q)
+    mine s = let a : shares s (put_stack w.stack q (after_close t k d fs) q) ≡ shares s (after_close t k d fs) = ap (shares s) (stack_mine w.stack q (after_close t k d fs)) in let b : shares s (after_close t k d fs) ≤ freed s t k + shares_in s fs = (closed_shares s t k d fs).0 in let c : shares s (w.stack q) ≡ (0 + shares_in s fs) = ap (shares s) z in omega (arith, a, b, c)
+
+    line : (s : ℕ) (b : Bool) → (s == t) ≡ b → shares s (put_stack w.stack q (after_close t k d fs) q) + with_job (if b then at_job (w.job t) (Over d) else w.job s) ≤ shares s (w.stack q) + with_job (w.job s)
+    line s true e = let a : shares s (put_stack w.stack q (after_close t k d fs) q) ≤ freed s t k + shares s (w.stack q) = mine s in let b : with_job (at_job (w.job t) (Over d)) ≡ 0 = and_none (is_detached (w.job t).kind) in let c : freed s t k ≤ with_job (w.job s) = freed_had w q s t k e (top_says w q (Run t k) fs (h.calls) z) running in omega (arith, a, b, c)
+    line s false e = let a : shares s (put_stack w.stack q (after_close t k d fs) q) ≤ freed s t k + shares s (w.stack q) = mine s in let b : freed s t k ≡ 0 = freed_none s t k e in omega (arith, a, b)
+
+    raised : (s : ℕ) (r : Party) (b : Bool) → same_party r q ≡ b → all_raises s (put_stack w.stack q (after_close t k d fs) r) + one (w.job s).counted ≤ 1
+    raised s r true e = subst (λ r. all_raises s (put_stack w.stack q (after_close t k d fs) r) + one (w.job s).counted ≤ 1) (sym (same_party_true r q e)) (let a : all_raises s (put_stack w.stack q (after_close t k d fs) q) ≡ all_raises s (after_close t k d fs) = ap (all_raises s) (stack_mine w.stack q (after_close t k d fs)) in let b : all_raises s (after_close t k d fs) ≤ raises_in s fs = (closed_shares s t k d fs).2 in let c : all_raises s (w.stack q) ≡ (0 + raises_in s fs) = ap (all_raises s) z in let f : all_raises s (w.stack q) + one (w.job s).counted ≤ 1 = h.unraised q s in omega (arith, a, b, c, f))
+    raised s r false e = let a : all_raises s (put_stack w.stack q (after_close t k d fs) r) ≤ all_raises s (w.stack r) = other_le (all_raises s) w q (after_close t k d fs) r e in let f : all_raises s (w.stack r) + one (w.job s).counted ≤ 1 = h.unraised r s in omega (arith, a, f)
+end_shares w q d _ fs z h = tt
+
+-- a call begins: its jobs are new, and have no share yet
+made_shares : (w : World) (q : Party) (n : Plan) (C : ℕ → Call) (J : ℕ → Job) (c j : ℕ) → w.jobs ≤ plan_job n → w.jobs ≤ j → ((t : ℕ) → (J t).counted ≡ (w.job t).counted) → ((p : ℕ) → sum_below j (λ t. tally p (J t)) ≤ sum_below w.jobs (λ t. tally p (w.job t))) → ((t : ℕ) → with_job (J t) ≤ with_job (w.job t)) → SharesHold w → CallsHold (calling w q n C J c j) → SharesHold (calling w q n C J c j)
+made_shares w q n C J c j new more co su wi h ch = still_hold w (calling w q n C J c j) q (after_call (w.stack q) (RaiseCount n)) ch (λ s. refl) more co (λ p. refl) su (λ p. refl)
+    (λ t. (let a : shares t (put_stack w.stack q (after_call (w.stack q) (RaiseCount n)) q) ≡ (0 + shares t (w.stack q)) = above (share t) (shares_in t) (shares t) w q (RaiseCount n) (λ k. refl) (λ y ys. refl) in let b : with_job (J t) ≤ with_job (w.job t) = wi t in omega (arith, a, b)))
+    (λ p. (let a : all_values p (put_stack w.stack q (after_call (w.stack q) (RaiseCount n)) q) ≡ (0 + all_values p (w.stack q)) = above (values p) (values_in p) (all_values p) w q (RaiseCount n) (λ k. refl) (λ y ys. refl) in omega (arith, a)))
+    (λ t s. raised t s (t == plan_job n) refl) h
+  where
+    raised : (t : ℕ) (s : Party) (b : Bool) → (t == plan_job n) ≡ b → all_raises t (put_stack w.stack q (after_call (w.stack q) (RaiseCount n)) s) + one (w.job t).counted ≤ 1
+    raised t s true e = let i : t ≡ plan_job n = eqb-true t (plan_job n) e in let b : w.jobs ≤ t = omega (arith, i, new) in
+        let a : all_raises t (put_stack w.stack q (after_call (w.stack q) (RaiseCount n)) s) ≤ one (t == plan_job n) + all_raises t (w.stack s) = raises_called w q (RaiseCount n) t s in
+        let d : one (t == plan_job n) ≤ 1 = one_most (t == plan_job n) in
+        let f : all_raises t (w.stack s) ≤ held t (w.stack s) = all_held t (w.stack s) in
+        let g : held t (w.stack s) ≤ is_loc (Hand s) (loc_at (w.job t)) = (((h.calls).jobs).ok).placed (Hand s) t in
+        let k : is_loc (Hand s) (loc_at (w.job t)) ≡ 0 = ap (λ v. is_loc (Hand s) (loc_of v ((w.job t).runs))) (((h.calls).jobs).unmade t b) in
+        let l : one (w.job t).counted ≡ 0 = ap one (h.unmade t b) in omega (arith, a, d, f, g, k, l)
+    raised t s false e = let a : all_raises t (put_stack w.stack q (after_call (w.stack q) (RaiseCount n)) s) ≤ one (t == plan_job n) + all_raises t (w.stack s) = raises_called w q (RaiseCount n) t s in
+        let d : one (t == plan_job n) ≡ 0 = ap one e in let f : all_raises t (w.stack s) + one (w.job t).counted ≤ 1 = h.unraised s t in omega (arith, a, d, f)
+
+new_with : (q : Party) (p : ℕ) (k : JobKind) (n : ℕ) → with_job (new_job q p k) ≤ n
+new_with q p k n = let a : with_job (new_job q p k) ≡ 0 = and_none (is_detached k) in omega (arith, a)
+
+one_made : (w : World) (q : Party) (p : ℕ) (k : JobKind) → SharesHold w → ((t : ℕ) → (put w.job w.jobs (new_job q p k) t).counted ≡ (w.job t).counted) × ((t : ℕ) → with_job (put w.job w.jobs (new_job q p k) t) ≤ with_job (w.job t)) × ((r : ℕ) → sum_below (w.jobs + 1) (λ t. tally r (put w.job w.jobs (new_job q p k) t)) ≤ sum_below w.jobs (λ t. tally r (w.job t)))
+one_made w q p k h = (
+  λ t. put_same (λ j. j.counted) w.job w.jobs (new_job q p k) t (sym (h.unmade w.jobs (omega arith))),
+  λ t. with_it t (t == w.jobs),
+  λ r.
+      (let a : sum_below (w.jobs + 1) (λ t. tally r (put w.job w.jobs (new_job q p k) t)) ≡ sum_below w.jobs (λ t. tally r (put w.job w.jobs (new_job q p k) t)) = sum_more w.jobs (λ t. tally r (put w.job w.jobs (new_job q p k) t)) (ap (λ j. tally r j) (put_new w.job w.jobs (new_job q p k))) in
+      let b : sum_below w.jobs (λ t. tally r (put w.job w.jobs (new_job q p k) t)) ≡ sum_below w.jobs (λ t. tally r (w.job t)) = sum_same w.jobs (λ t. tally r (put w.job w.jobs (new_job q p k) t)) (λ t. tally r (w.job t)) (λ t z. ap (λ j. tally r j) (put_old w.job w.jobs (new_job q p k) t (below_new t w.jobs z))) in omega (arith, a, b)),
+)
+  where
+    with_it : (t : ℕ) (b : Bool) → with_job (if b then new_job q p k else w.job t) ≤ with_job (w.job t)
+    with_it t true = new_with q p k (with_job (w.job t))
+    with_it t false = omega arith
+
+spawn_shares : (w : World) (q : Party) (p : ℕ) → SharesHold w → IfSome (after_spawn w q p (w.stack q)) (λ u. CallsHold u → SharesHold u)
+spawn_shares w q p h = if_cond (λ u. CallsHold u → SharesHold u) (is_free ((w.stack q).top) && is_pool w.shape p) _ (λ f ch. (let m = one_made w q p (Detached p) h in made_shares w q (Detach p w.jobs) w.call (put w.job w.jobs (new_job q p (Detached p))) w.calls (w.jobs + 1) (omega arith) (omega arith) (m.0) (m.2) (m.1) h ch))
+
+sent_shares : (w : World) (q : Party) (p : ℕ) (b : Bool) → SharesHold w → CallsHold (after_send w q p (w.stack q) b) → SharesHold (after_send w q p (w.stack q) b)
+sent_shares w q p true h ch = let m = one_made w q p Direct h in made_shares w q (Here p w.jobs) w.call (put w.job w.jobs (new_job q p Direct)) w.calls (w.jobs + 1) (omega arith) (omega arith) (m.0) (m.2) (m.1) h ch
+sent_shares w q p false h ch = let m = one_made w q p (Stored w.calls q) h in made_shares w q (Send (record { number = w.calls; pool = p; job = w.jobs })) (put w.call w.calls (new_call None w.jobs)) (put w.job w.jobs (new_job q p (Stored w.calls q))) (w.calls + 1) (w.jobs + 1) (omega arith) (omega arith) (m.0) (m.2) (m.1) h ch
+
+install_shares : (w : World) (q : Party) (p : ℕ) → SharesHold w → IfSome (after_install w q p (w.stack q)) (λ u. CallsHold u → SharesHold u)
+install_shares w q p h = if_cond (λ u. CallsHold u → SharesHold u) (is_free ((w.stack q).top) && is_pool w.shape p) _ (λ f ch. sent_shares w q p (is_member q p) h ch)
+
+join_shares : (w : World) (q : Party) → SharesHold w → IfSome (after_join w q (w.stack q)) (λ u. CallsHold u → SharesHold u)
+join_shares w (Caller n) h = tt
+join_shares w (Worker p i) h = if_cond (λ u. CallsHold u → SharesHold u) (is_free ((w.stack (Worker p i)).top)) _ (λ f ch. made_shares w (Worker p i) (Fork (record { number = w.calls; pool = p; job = w.jobs + 1 }) w.jobs) (put w.call w.calls (new_call (Some w.jobs) (w.jobs + 1))) J2 (w.calls + 1) (w.jobs + 2) (omega arith) (omega arith) counted sums withs h ch)
+  where
+    q : Party
+    q = Worker p i
+
+    J1 : ℕ → Job
+    J1 = put w.job w.jobs (new_job (Worker p i) p Direct)
+
+    J2 : ℕ → Job
+    J2 = put (put w.job w.jobs (new_job (Worker p i) p Direct)) (w.jobs + 1) (new_job (Worker p i) p (Stored w.calls (Worker p i)))
+
+    m : ((t : ℕ) → (J1 t).counted ≡ (w.job t).counted) × ((t : ℕ) → with_job (J1 t) ≤ with_job (w.job t)) × ((r : ℕ) → sum_below (w.jobs + 1) (λ t. tally r (J1 t)) ≤ sum_below w.jobs (λ t. tally r (w.job t)))
+    m = one_made w (Worker p i) p Direct h
+
+    counted : (t : ℕ) → (J2 t).counted ≡ (w.job t).counted
+    counted t = put_same (λ j. j.counted) J1 (w.jobs + 1) (new_job (Worker p i) p (Stored w.calls (Worker p i))) t (sym (m.0 (w.jobs + 1) ∙ h.unmade (w.jobs + 1) (omega arith))) ∙ m.0 t
+
+    withs : (t : ℕ) → with_job (J2 t) ≤ with_job (w.job t)
+    withs t = by (t == (w.jobs + 1))
+      where
+        by : (b : Bool) → with_job (if b then new_job (Worker p i) p (Stored w.calls (Worker p i)) else J1 t) ≤ with_job (w.job t)
+        by true = new_with (Worker p i) p (Stored w.calls (Worker p i)) (with_job (w.job t))
+        by false = m.1 t
+
+    sums : (r : ℕ) → sum_below (w.jobs + 2) (λ t. tally r (J2 t)) ≤ sum_below w.jobs (λ t. tally r (w.job t))
+    sums r = let a : sum_below ((w.jobs + 1) + 1) (λ t. tally r (J2 t)) ≡ sum_below (w.jobs + 1) (λ t. tally r (J2 t)) = sum_more (w.jobs + 1) (λ t. tally r (J2 t)) (ap (λ j. tally r j) (put_new J1 (w.jobs + 1) (new_job (Worker p i) p (Stored w.calls (Worker p i))))) in
+        let b : sum_below (w.jobs + 1) (λ t. tally r (J2 t)) ≡ sum_below (w.jobs + 1) (λ t. tally r (J1 t)) = sum_same (w.jobs + 1) (λ t. tally r (J2 t)) (λ t. tally r (J1 t)) (λ t z. ap (λ j. tally r j) (put_old J1 (w.jobs + 1) (new_job (Worker p i) p (Stored w.calls (Worker p i))) t (below_new t (w.jobs + 1) z))) in
+        let c : sum_below (w.jobs + 1) (λ t. tally r (J1 t)) ≤ sum_below w.jobs (λ t. tally r (w.job t)) = m.2 r in
+        let d : sum_below (w.jobs + 2) (λ t. tally r (J2 t)) ≡ sum_below ((w.jobs + 1) + 1) (λ t. tally r (J2 t)) = ap (λ n. sum_below n (λ t. tally r (J2 t))) (let g : w.jobs + 2 ≡ (w.jobs + 1) + 1 = omega arith in g) in omega (arith, a, b, c, d)
+
+-- each step keeps the shares
+pub step_shares : (w : World) (e : Event) → SharesHold w → IfSome (step w e) SharesHold
+step_shares w (Go q) h = acted_keeps w q (w.stack q) (target_pool q (act_of q ((w.stack q).top))) (target_worker q (act_of q ((w.stack q).top))) (target_call (act_of q ((w.stack q).top))) (job_at w q (act_of q ((w.stack q).top))) (outcome w q (w.stack q)) SharesHold (go_shares w q h)
+step_shares w (From q v) h = with_calls w (step w (From q v)) (step_calls w (From q v) (h.calls)) (from_shares w q ((w.stack q).top) ((w.stack q).below) v refl h)
+step_shares w (Refuse q) h = with_calls w (step w (Refuse q)) (step_calls w (Refuse q) (h.calls)) (refuse_shares w q ((w.stack q).top) ((w.stack q).below) refl h)
+step_shares w (Miss q) h = with_calls w (step w (Miss q)) (step_calls w (Miss q) (h.calls)) (miss_shares w q ((w.stack q).top) ((w.stack q).below) refl h)
+step_shares w (End q d) h = with_calls w (step w (End q d)) (step_calls w (End q d) (h.calls)) (end_shares w q d ((w.stack q).top) ((w.stack q).below) refl h)
+step_shares w (Spawn q p) h = with_calls w (step w (Spawn q p)) (step_calls w (Spawn q p) (h.calls)) (spawn_shares w q p h)
+step_shares w (Install q p) h = with_calls w (step w (Install q p)) (step_calls w (Install q p) (h.calls)) (install_shares w q p h)
+step_shares w (Join q) h = with_calls w (step w (Join q)) (step_calls w (Join q) (h.calls)) (join_shares w q h)
+step_shares w (Yield q) h = with_calls w (step w (Yield q)) (step_calls w (Yield q) (h.calls)) (yield_shares w q YieldPop (λ t. (refl, refl)) (λ p. refl) h)
+step_shares w (YieldLocal q) h = with_calls w (step w (YieldLocal q)) (step_calls w (YieldLocal q) (h.calls)) (yield_shares w q LocalPop (λ t. (refl, refl)) (λ p. refl) h)
+step_shares w (EndPool q p) h = with_calls w (step w (EndPool q p)) (step_calls w (EndPool q p) (h.calls)) (give_shares w q p h)
+
+first_amounts : (h : Shape) (t : ℕ) (q : Party) → (share t (first_place h q) ≡ 0) × (values t (first_place h q) ≡ 0) × (raises t (first_place h q) ≡ 0)
+first_amounts h t (Caller n) = at (nat_lt n h.callers)
+  where
+    at : (z : Bool) → (share t (if z then Free else Stopped) ≡ 0) × (values t (if z then Free else Stopped) ≡ 0) × (raises t (if z then Free else Stopped) ≡ 0)
+    at true = (refl, refl, refl)
+    at false = (refl, refl, refl)
+first_amounts h t (Worker p i) = at (nat_lt i (h.pool p).workers) ((h.pool p).callers_own && (i == 0))
+  where
+    at : (y z : Bool) → (share t (if y then (if z then Free else ProbeWorking (fresh Termination)) else Stopped) ≡ 0) × (values t (if y then (if z then Free else ProbeWorking (fresh Termination)) else Stopped) ≡ 0) × (raises t (if y then (if z then Free else ProbeWorking (fresh Termination)) else Stopped) ≡ 0)
+    at true true = (refl, refl, refl)
+    at true false = (refl, refl, refl)
+    at false z = (refl, refl, refl)
+
+pub first_shares : (h : Shape) → SharesHold (start h)
+first_shares h = record {
+  calls = first_calls h;
+  jobs = λ t. record { alone = λ q. (let a : share t (first_place h q) ≡ 0 = (first_amounts h t q).0 in omega (arith, a)); apart = λ q r z. (let a : share t (first_place h q) ≡ 0 = (first_amounts h t q).0 in let b : share t (first_place h r) ≡ 0 = (first_amounts h t r).0 in omega (arith, a, b)) };
+  values = λ p. record { alone = λ q. (let a : values p (first_place h q) ≡ 0 = (first_amounts h p q).1 in omega (arith, a)); apart = λ q r z. (let a : values p (first_place h q) ≡ 0 = (first_amounts h p q).1 in let b : values p (first_place h r) ≡ 0 = (first_amounts h p r).1 in omega (arith, a, b)) };
+  unraised = λ q t. (let a : raises t (first_place h q) ≡ 0 = (first_amounts h t q).2 in omega (arith, a));
+  unmade = λ t b. refl;
+  sums = λ p. omega arith;
+}
+
+pub always_shares : (h : Shape) (es : List Event) (w : World) → IsRun (start h) es w → SharesHold w
+always_shares h es w r = run_keeps SharesHold step_shares (start h) w es (first_shares h) r
+
+-- a pool whose count is 0 has ended
+gone : (w : World) (p : ℕ) → SharesHold w → (w.pool p).count ≡ 0 → IsGone w p
+gone w p h z = record {
+  held = one_not ((w.pool p).held) (let a : all_values p (w.stack (Caller 0)) + one (w.pool p).held ≤ one (w.pool p).counted = (h.values p).alone (Caller 0) in let b : one (w.pool p).counted ≤ 0 = value in omega (arith, a, b));
+  counted = one_not ((w.pool p).counted) value;
+  calls = λ q t e. (let a : shares t (w.stack q) + with_job (w.job t) ≤ one (w.job t).counted = (h.jobs t).alone q in let b : one (w.job t).counted ≡ 0 = ap one (job t e) in omega (arith, a, b));
+  jobs = λ t e. job t e;
+  detached = λ t e. idle t e (is_busy (w.job t).at) refl;
+}
+  where
+    value : one (w.pool p).counted ≤ 0
+    value = let a : sum_below w.jobs (λ t. tally p (w.job t)) + one (w.pool p).counted ≤ (w.pool p).count = h.sums p in omega (arith, a, z)
+
+    job : (t : ℕ) → (w.job t).pool ≡ p → (w.job t).counted ≡ false
+    job t e = elim (either (ltb t w.jobs)) [ inl y ↦ (let b : t < w.jobs = ltb-true t w.jobs y in below (let c : t + 1 ≤ w.jobs = omega (arith, b) in c)) | inr y ↦ h.unmade t (ltb-false t w.jobs y) ]
+      where
+        below : t + 1 ≤ w.jobs → (w.job t).counted ≡ false
+        below b = one_not ((w.job t).counted) (let a : sum_below w.jobs (λ t. tally p (w.job t)) + one (w.pool p).counted ≤ (w.pool p).count = h.sums p in
+            let c : tally p (w.job t) ≤ sum_below w.jobs (λ t. tally p (w.job t)) = sum_least w.jobs (λ t. tally p (w.job t)) t b in
+            let d : tally p (w.job t) ≡ one (w.job t).counted = ap (λ x. one ((w.job t).counted && x)) (ap (λ m. p == m) e ∙ eq-eqb p p refl) ∙ ap one (and_all ((w.job t).counted)) in omega (arith, a, c, d, z))
+          where
+            and_all : (b : Bool) → (b && true) ≡ b
+            and_all true = refl
+            and_all false = refl
+
+    idle : (t : ℕ) → (w.job t).kind ≡ Detached p → (b : Bool) → is_busy (w.job t).at ≡ b → b ≡ false
+    idle t e false y = refl
+    idle t e true y = absurd (let m : t + 1 ≤ w.jobs = elim (either (ltb t w.jobs)) [ inl g ↦ (let b : t < w.jobs = ltb-true t w.jobs g in omega (arith, b)) | inr g ↦ absurd (let n : (w.job t).at ≡ Nowhere = ((h.calls).jobs).unmade t (ltb-false t w.jobs g) in let k : is_busy (w.job t).at ≡ false = ap is_busy n in cc) ] in
+        let c : (w.job t).counted ≡ false = job t ((h.calls).pools t m p e) in
+        let a : shares t (w.stack (Caller 0)) + with_job (w.job t) ≤ one (w.job t).counted = (h.jobs t).alone (Caller 0) in
+        let b : with_job (w.job t) ≡ 1 = ap (λ k. one (is_detached k && is_busy (w.job t).at)) e ∙ ap one y in
+        let d : one (w.job t).counted ≡ 0 = ap one c in omega (arith, a, b, d))
+
+pub no_early_end : (w : World) → SharesHold w → NoEarlyEnd w
+no_early_end w h p i z = gone w p h ((h.calls).ends p i z)

@@ -1,0 +1,151 @@
+-- each step keeps the shares, and a pool whose terminate latch is set has none left
+use Rattle.std.proofs.Common.{arith, refl, sym, ◌∙◌, ap, subst}
+use Rattle.std.specs.Prelude.{ℕ, Bool, true, false, ◌&&◌, ◌+◌, ◌==◌, ◌≤◌, nat_lt, if◌then◌else◌, Option, Some, None, List, ◌∷◌, ◌≡◌, IfSome}
+use Rattle.std.proofs.lemmas.Bool.{eqb-true}
+use Rattle.rayon_machine_places.specs.declared.place.Party.{Party}
+use Rattle.rayon_machine_places.specs.declared.place.Party.TheVariants.{Worker, Caller}
+use Rattle.rayon_machine_places.specs.declared.place.Plan.{Plan}
+use Rattle.rayon_machine_places.specs.declared.place.Share.TheVariants.{PoolValue, OfJob}
+use Rattle.rayon_machine_places.specs.declared.place.Then.TheVariants.{Resume}
+use Rattle.rayon_machine_places.specs.declared.place.Place.{Place}
+use Rattle.rayon_machine_places.specs.declared.place.Place.TheVariants.{PickVictim, StealFrom, YieldPick, YieldSteal, RaiseCount, GrowCall, PushJob, LowerCount}
+use Rattle.rayon_machine_places.specs.declared.place.Move.{Move}
+use Rattle.rayon_machine_places.specs.declared.place.Move.TheVariants.{Stay, Enter, StartRun, Back, HandBack}
+use Rattle.rayon_machine_places.specs.declared.act.Seen.{Seen}
+use Rattle.rayon_machine_places.specs.declared.act.Seen.TheVariants.{Refused, Yes, No, Missing, Start}
+use Rattle.rayon_machine_places.specs.declared.shape.PoolShape.{PoolShape}
+use Rattle.rayon_machine_places.specs.Places.{same_party, own_pool, plan_pool, act_of, next_of, is_free}
+use Rattle.rayon_machine_places.specs.World.{Stack, World, counts_at, Part, target_pool, target_worker, target_call}
+use Rattle.rayon_machine_places.specs.Steps.{put, put_stack, after_move, after_choice, after_refusal, can_miss, after_miss, after_call, is_pool, after_yield, after_end_pool}
+use Rattle.rayon_machine_laws.specs.Once.{one}
+use Rattle.rayon_machine_laws.specs.Shares.{share, shares_in, shares}
+use Rattle.rayon_machine_laws.proofs.Frame.{and_parts, same_party_true, if_some_and, if_some_map, if_cond}
+use Rattle.rayon_machine_laws.proofs.Ties.{job_at, outcome, result}
+use Rattle.rayon_machine_laws.proofs.Placed.{Kept}
+use Rattle.rayon_machine_laws.proofs.PlacedEvents.{go_kept}
+use Rattle.rayon_machine_laws.proofs.PlacedRuns.{once}
+use Rattle.rayon_machine_laws.proofs.Claims.{is_detached, SaysMove, says_next}
+use Rattle.rayon_machine_laws.proofs.Later.{later_says, Static, act_static}
+use Rattle.rayon_machine_laws.proofs.ClaimActs.{put_same, after_pool, Lasting, lasting, Learned, act_learned, Written, act_written}
+use Rattle.rayon_machine_laws.proofs.ClaimRuns.{CallsHold, world_after, part_at, learns, act_calls}
+use Rattle.rayon_machine_laws.proofs.Amounts.{raises, values, raises_in, values_in, all_raises, all_values, gained, pushed, paid}
+use Rattle.rayon_machine_laws.proofs.ShareActs.{with_job, SharesHold, stack_mine, is_tally, Untallied, same_untallied, act_untallied, Stays, act_stays}
+use Rattle.rayon_machine_laws.proofs.ShareRuns.{StartsAwaited, says_starts, busy_step, shares_mine, other_le, values_mine, raises_all, still_hold}
+use Rattle.rayon_machine_laws.proofs.ShareSteps.{Ready, plain_hold, raised_world, raise_hold}
+use Rattle.rayon_machine_laws.proofs.ShareLowers.{lowered_world, lower_job, lower_value}
+
+ready : (w : World) (q : Party) → SharesHold w → IfSome (outcome w q (w.stack q)) (λ r. Ready w q ((w.stack q).top) ((w.stack q).below) r)
+ready w q h =
+    let k = w.stack q in let x = k.top in
+    if_some_map (λ r. ((Static (part_at w q x) r × Learned w.shape q (part_at w q x) x r) × (Written (part_at w q x) x r × Kept w (result w q k r))) × Stays (part_at w q x) x (job_at w q (act_of q x)) r) (λ r. Ready w q x (k.below) r)
+    (λ r f. (let ch : CallsHold (world_after w q x (k.below) r) = act_calls w q x (k.below) r (h.calls) refl (((f.0).0).0) (((f.0).1).1) (((f.0).0).1) (((f.0).1).0) in
+    let la : Lasting w (world_after w q x (k.below) r) = lasting w q k (target_pool q (act_of q x)) (target_worker q (act_of q x)) (target_call (act_of q x)) (job_at w q (act_of q x)) r (((f.0).0).0) (((f.0).1).1) in
+    let sm : SaysMove (world_after w q x (k.below) r) q (next_of (w.shape.pool (target_pool q (act_of q x))) q x (r.0)) = says_next (world_after w q x (k.below) r) (w.shape.pool (target_pool q (act_of q x))) q x (r.0) (learns w q x (k.below) r (h.calls) refl la (((f.0).0).1)) (later_says w (world_after w q x (k.below) r) (la.later) q x (((h.calls).says q).top)) in
+    record {
+      hold = h;
+      stack = refl;
+      last = la;
+      calls = ch;
+      busy = busy_step w q x (k.below) r (((f.0).1).1) la (starts_back w (world_after w q x (k.below) r) la (next_of (w.shape.pool (target_pool q (act_of q x))) q x (r.0)) (says_starts (world_after w q x (k.below) r) q (next_of (w.shape.pool (target_pool q (act_of q x))) q x (r.0)) sm)) (f.1);
+      pools = λ t. after_pool q (next_of (w.shape.pool (target_pool q (act_of q x))) q x (r.0)) (put w.job (job_at w q (act_of q x)) (r.1.job)) t ∙ put_same (λ j. j.pool) w.job (job_at w q (act_of q x)) (r.1.job) t ((((f.0).0).0).pool);
+      held = λ p. put_same (λ v. v.held) w.pool (target_pool q (act_of q x)) (r.1.pool) p ((((f.0).0).0).held);
+    }))
+    (outcome w q k)
+    (if_some_and (λ r. (Static (part_at w q x) r × Learned w.shape q (part_at w q x) x r) × (Written (part_at w q x) x r × Kept w (result w q k r))) (Stays (part_at w q x) x (job_at w q (act_of q x))) (outcome w q k)
+    (if_some_and (λ r. Static (part_at w q x) r × Learned w.shape q (part_at w q x) x r) (λ r. Written (part_at w q x) x r × Kept w (result w q k r)) (outcome w q k)
+    (if_some_and (Static (part_at w q x)) (Learned w.shape q (part_at w q x) x) (outcome w q k) (act_static w.shape q (counts_at w (target_pool q (act_of q x))) (part_at w q x) x) (act_learned w.shape q (counts_at w (target_pool q (act_of q x))) (part_at w q x) x))
+    (if_some_and (Written (part_at w q x) x) (λ r. Kept w (result w q k r)) (outcome w q k) (act_written w.shape q (counts_at w (target_pool q (act_of q x))) (part_at w q x) x) (go_kept w q (((h.calls).jobs).ok))))
+    (act_stays w q x (once w ((h.calls).jobs)) (((h.calls).says q).top)))
+  where
+    starts_back : (w u : World) → Lasting w u → (g : Move) → StartsAwaited u g → StartsAwaited w g
+    starts_back w u l (StartRun f a) s = ap is_detached (sym (l.kinds a)) ∙ s
+    starts_back w u l (Stay y) s = tt
+    starts_back w u l (Enter f y) s = tt
+    starts_back w u l Back s = tt
+    starts_back w u l (HandBack n) s = tt
+
+-- the acts that raise a count, done or refused
+raise_go : (w : World) (q : Party) (n : Plan) (fs : List Place) → ((r : Seen × Part) → Ready w q (RaiseCount n) fs r → Untallied (part_at w q (RaiseCount n)) r → ((t : ℕ) → gained t (RaiseCount n) (r.0) ≡ 0) → SharesHold (world_after w q (RaiseCount n) fs r)) → (done : Seen × Part) → (Ready w q (RaiseCount n) fs done → SharesHold (world_after w q (RaiseCount n) fs done)) → (b : Bool) → IfSome (if b then Some (Refused, part_at w q (RaiseCount n)) else Some done) (Ready w q (RaiseCount n) fs) → IfSome (if b then Some (Refused, part_at w q (RaiseCount n)) else Some done) (λ r. SharesHold (world_after w q (RaiseCount n) fs r))
+raise_go w q n fs plain done f true d = plain (Refused, part_at w q (RaiseCount n)) d (same_untallied (part_at w q (RaiseCount n)) Refused) (λ t. refl)
+raise_go w q n fs plain done f false d = f d
+
+ungained : (t : ℕ) (x : Place) (e : Seen) → is_tally x ≡ false → gained t x e ≡ 0
+ungained t (RaiseCount n) e z = cc
+ungained t _ e z = refl
+
+plain_go : (w : World) (q : Party) (x : Place) (fs : List Place) → is_tally x ≡ false → IfSome (outcome w q (record { top = x; below = fs })) (Ready w q x fs) → IfSome (outcome w q (record { top = x; below = fs })) (λ r. SharesHold (world_after w q x fs r))
+plain_go w q x fs z d = if_some_map (λ r. Ready w q x fs r × Untallied (part_at w q x) r) (λ r. SharesHold (world_after w q x fs r)) (λ r f. plain_hold w q x fs r (f.0) (f.1) (λ t. ungained t x (r.0) z)) (outcome w q (record { top = x; below = fs }))
+    (if_some_and (Ready w q x fs) (Untallied (part_at w q x)) (outcome w q (record { top = x; below = fs })) d (act_untallied w.shape q (counts_at w (target_pool q (act_of q x))) (part_at w q x) x z))
+
+go_by : (w : World) (q : Party) (x : Place) (fs : List Place) → w.stack q ≡ record { top = x; below = fs } → SharesHold w → IfSome (outcome w q (record { top = x; below = fs })) (Ready w q x fs) → IfSome (outcome w q (record { top = x; below = fs })) (λ r. SharesHold (world_after w q x fs r))
+go_by w (Worker a b) (RaiseCount n) fs z h d = raise_go w (Worker a b) n fs (λ r y un none. plain_hold w (Worker a b) (RaiseCount n) fs r y un none) _ (λ y. raise_hold w (Worker a b) n fs h z (y.calls) (λ t. (let e : with_job ((raised_world w (Worker a b) n fs).job t) ≤ with_job (w.job t) + 0 = y.busy t in omega (arith, e))) (y.pools) (y.held)) ((w.pool (plan_pool n)).count == 0) d
+go_by w (Worker a b) (LowerCount p (OfJob u) n) fs z h d = lower_job w (Worker a b) p u n fs (if (w.pool p).count == 1 then Yes else No) h z (d.calls) (λ t. (let e : with_job ((lowered_world w (Worker a b) p (OfJob u) n fs (if (w.pool p).count == 1 then Yes else No)).job t) ≤ with_job (w.job t) + 0 = d.busy t in omega (arith, e))) (d.pools) (d.held)
+go_by w (Worker a b) (LowerCount p PoolValue n) fs z h d = lower_value w (Worker a b) p n fs (if (w.pool p).count == 1 then Yes else No) h z (d.calls) (λ t. (let e : with_job ((lowered_world w (Worker a b) p PoolValue n fs (if (w.pool p).count == 1 then Yes else No)).job t) ≤ with_job (w.job t) + 0 = d.busy t in omega (arith, e))) (d.pools) (d.held)
+go_by w (Caller c) (RaiseCount n) fs z h d = raise_go w (Caller c) n fs (λ r y un none. plain_hold w (Caller c) (RaiseCount n) fs r y un none) _ (λ y. raise_hold w (Caller c) n fs h z (y.calls) (λ t. (let e : with_job ((raised_world w (Caller c) n fs).job t) ≤ with_job (w.job t) + 0 = y.busy t in omega (arith, e))) (y.pools) (y.held)) ((w.pool (plan_pool n)).count == 0) d
+go_by w (Caller c) (LowerCount p (OfJob u) n) fs z h d = lower_job w (Caller c) p u n fs (if (w.pool p).count == 1 then Yes else No) h z (d.calls) (λ t. (let e : with_job ((lowered_world w (Caller c) p (OfJob u) n fs (if (w.pool p).count == 1 then Yes else No)).job t) ≤ with_job (w.job t) + 0 = d.busy t in omega (arith, e))) (d.pools) (d.held)
+go_by w (Caller c) (LowerCount p PoolValue n) fs z h d = lower_value w (Caller c) p n fs (if (w.pool p).count == 1 then Yes else No) h z (d.calls) (λ t. (let e : with_job ((lowered_world w (Caller c) p PoolValue n fs (if (w.pool p).count == 1 then Yes else No)).job t) ≤ with_job (w.job t) + 0 = d.busy t in omega (arith, e))) (d.pools) (d.held)
+go_by w q x fs z h d = plain_go w q x fs refl d
+
+pub go_shares : (w : World) (q : Party) → SharesHold w → IfSome (outcome w q (w.stack q)) (λ r. SharesHold (result w q (w.stack q) r))
+go_shares w q h = go_by w q ((w.stack q).top) ((w.stack q).below) refl h (ready w q h)
+
+-- an event that may not be enabled
+pub with_calls : (w : World) (o : Option World) → IfSome o CallsHold → IfSome o (λ u. CallsHold u → SharesHold u) → IfSome o SharesHold
+with_calls w None a f = tt
+with_calls w (Some u) a f = f a
+
+-- a party goes on as if its act had seen this
+seen_shares : (w : World) (q : Party) (g : PoolShape) (x : Place) (fs : List Place) (e : Seen) → w.stack q ≡ record { top = x; below = fs } → ((t : ℕ) → gained t x e ≡ 0) → SharesHold w → CallsHold (record w { stack = put_stack w.stack q (after_move (next_of g q x e) fs) }) → SharesHold (record w { stack = put_stack w.stack q (after_move (next_of g q x e) fs) })
+seen_shares w q g x fs e z none h ch = still_hold w (record w { stack = put_stack w.stack q (after_move (next_of g q x e) fs) }) q (after_move (next_of g q x e) fs) ch (λ s. refl) (omega arith) (λ t. refl) (λ p. refl) (λ p. omega arith) (λ p. refl)
+    (λ t. (let a : shares t (put_stack w.stack q (after_move (next_of g q x e) fs) q) + (pushed t x e + paid t x) ≤ shares t (w.stack q) + gained t x e = shares_mine w q x fs g e t z in let b : gained t x e ≡ 0 = none t in omega (arith, a, b)))
+    (λ p. (let a : all_values p (put_stack w.stack q (after_move (next_of g q x e) fs) q) + values p x ≤ all_values p (w.stack q) = values_mine w q x fs g e p z in omega (arith, a)))
+    (λ t s. (let a : all_raises t (put_stack w.stack q (after_move (next_of g q x e) fs) s) ≤ all_raises t (w.stack s) = raises_all w q x fs g e t z s in let b : all_raises t (w.stack s) + one (w.job t).counted ≤ 1 = h.unraised s t in omega (arith, a, b))) h
+
+pub from_shares : (w : World) (q : Party) (x : Place) (fs : List Place) (v : ℕ) → w.stack q ≡ record { top = x; below = fs } → SharesHold w → IfSome (after_choice w q (record { top = x; below = fs }) x v) (λ u. CallsHold u → SharesHold u)
+from_shares w q (PickVictim k) fs v z h = if_cond (λ u. CallsHold u → SharesHold u) (nat_lt v (w.shape.pool (own_pool q)).workers) _ (λ y a. seen_shares w q (w.shape.pool (own_pool q)) (PickVictim k) fs (Start v) z (λ t. refl) h a)
+from_shares w q YieldPick fs v z h = if_cond (λ u. CallsHold u → SharesHold u) (nat_lt v (w.shape.pool (own_pool q)).workers) _ (λ y a. seen_shares w q (w.shape.pool (own_pool q)) YieldPick fs (Start v) z (λ t. refl) h a)
+from_shares w q _ fs v z h = tt
+
+pub refuse_shares : (w : World) (q : Party) (x : Place) (fs : List Place) → w.stack q ≡ record { top = x; below = fs } → SharesHold w → IfSome (after_refusal w q (record { top = x; below = fs })) (λ u. CallsHold u → SharesHold u)
+refuse_shares w q (GrowCall n) fs z h = λ a. seen_shares w q (w.shape.pool (own_pool q)) (GrowCall n) fs Refused z (λ t. refl) h a
+refuse_shares w q (PushJob n v) fs z h = λ a. seen_shares w q (w.shape.pool (own_pool q)) (PushJob n v) fs Refused z (λ t. refl) h a
+refuse_shares w q _ fs z h = tt
+
+pub miss_shares : (w : World) (q : Party) (x : Place) (fs : List Place) → w.stack q ≡ record { top = x; below = fs } → SharesHold w → IfSome (after_miss w q (record { top = x; below = fs }) x) (λ u. CallsHold u → SharesHold u)
+miss_shares w (Worker a b) (StealFrom k n) fs z h = if_cond (λ u. CallsHold u → SharesHold u) (can_miss w a k.victim) _ (λ y d. seen_shares w (Worker a b) (w.shape.pool a) (StealFrom k n) fs Missing z (λ t. refl) h d)
+miss_shares w (Worker a b) (YieldSteal v n) fs z h = if_cond (λ u. CallsHold u → SharesHold u) (can_miss w a v) _ (λ y d. seen_shares w (Worker a b) (w.shape.pool a) (YieldSteal v n) fs Missing z (λ t. refl) h d)
+miss_shares w (Worker a b) _ fs z h = tt
+miss_shares w (Caller n) _ fs z h = tt
+
+-- where a party has a new place above its stack
+pub above : (f : Place → ℕ) (g : List Place → ℕ) (h : Stack → ℕ) (w : World) (q : Party) (x : Place) → ((k : Stack) → h k ≡ (f (k.top) + g (k.below))) → ((y : Place) (ys : List Place) → g (y ∷ ys) ≡ (f y + g ys)) → h (put_stack w.stack q (after_call (w.stack q) x) q) ≡ (f x + h (w.stack q))
+above f g h w q x a b = ap h (stack_mine w.stack q (after_call (w.stack q) x)) ∙ a (after_call (w.stack q) x) ∙ ap (λ n. f x + n) (b ((w.stack q).top) ((w.stack q).below) ∙ sym (a (w.stack q)))
+
+pub raises_called : (w : World) (q : Party) (x : Place) (t : ℕ) (s : Party) → all_raises t (put_stack w.stack q (after_call (w.stack q) x) s) ≤ raises t x + all_raises t (w.stack s)
+raises_called w q x t s = by (same_party s q) refl
+  where
+    by : (b : Bool) → same_party s q ≡ b → all_raises t (put_stack w.stack q (after_call (w.stack q) x) s) ≤ raises t x + all_raises t (w.stack s)
+    by true e = subst (λ s. all_raises t (put_stack w.stack q (after_call (w.stack q) x) s) ≤ raises t x + all_raises t (w.stack s)) (sym (same_party_true s q e)) (let a : all_raises t (put_stack w.stack q (after_call (w.stack q) x) q) ≡ (raises t x + all_raises t (w.stack q)) = above (raises t) (raises_in t) (all_raises t) w q x (λ k. refl) (λ y ys. refl) in omega (arith, a))
+    by false e = let a : all_raises t (put_stack w.stack q (after_call (w.stack q) x) s) ≤ all_raises t (w.stack s) = other_le (all_raises t) w q (after_call (w.stack q) x) s e in omega (arith, a)
+
+pub yield_shares : (w : World) (q : Party) (x : Place) → ((t : ℕ) → (share t x ≡ 0) × (raises t x ≡ 0)) → ((p : ℕ) → values p x ≡ 0) → SharesHold w → IfSome (after_yield w q (w.stack q) x) (λ u. CallsHold u → SharesHold u)
+yield_shares w (Worker a b) x sx vx h = if_cond (λ u. CallsHold u → SharesHold u) (is_free ((w.stack (Worker a b)).top)) _ (λ f ch. still_hold w (record w { stack = put_stack w.stack (Worker a b) (after_call (w.stack (Worker a b)) x) }) (Worker a b) (after_call (w.stack (Worker a b)) x) ch (λ s. refl) (omega arith) (λ t. refl) (λ p. refl) (λ p. omega arith) (λ p. refl)
+    (λ t. (let c : shares t (put_stack w.stack (Worker a b) (after_call (w.stack (Worker a b)) x) (Worker a b)) ≡ (share t x + shares t (w.stack (Worker a b))) = above (share t) (shares_in t) (shares t) w (Worker a b) x (λ k. refl) (λ y ys. refl) in let d : share t x ≡ 0 = (sx t).0 in omega (arith, c, d)))
+    (λ p. (let c : all_values p (put_stack w.stack (Worker a b) (after_call (w.stack (Worker a b)) x) (Worker a b)) ≡ (values p x + all_values p (w.stack (Worker a b))) = above (values p) (values_in p) (all_values p) w (Worker a b) x (λ k. refl) (λ y ys. refl) in let d : values p x ≡ 0 = vx p in omega (arith, c, d)))
+    (λ t s. (let c : all_raises t (put_stack w.stack (Worker a b) (after_call (w.stack (Worker a b)) x) s) ≤ raises t x + all_raises t (w.stack s) = raises_called w (Worker a b) x t s in let d : raises t x ≡ 0 = (sx t).1 in let e : all_raises t (w.stack s) + one (w.job t).counted ≤ 1 = h.unraised s t in omega (arith, c, d, e))) h)
+yield_shares w (Caller n) x sx vx h = tt
+
+pub give_shares : (w : World) (q : Party) (p : ℕ) → SharesHold w → IfSome (after_end_pool w q p (w.stack q)) (λ u. CallsHold u → SharesHold u)
+give_shares w q p h = if_cond (λ u. CallsHold u → SharesHold u) (is_free ((w.stack q).top) && (is_pool w.shape p && (w.pool p).held)) _ (λ f ch. still_hold w (record w { stack = put_stack w.stack q (after_call (w.stack q) (LowerCount p PoolValue Resume)); pool = put w.pool p (record (w.pool p) { held = false }) }) q (after_call (w.stack q) (LowerCount p PoolValue Resume)) ch (λ s. refl) (omega arith) (λ t. refl)
+    (λ r. put_same (λ v. v.counted) w.pool p (record (w.pool p) { held = false }) r refl) (λ r. omega arith) (λ r. put_same (λ v. v.count) w.pool p (record (w.pool p) { held = false }) r refl)
+    (λ t. (let c : shares t (put_stack w.stack q (after_call (w.stack q) (LowerCount p PoolValue Resume)) q) ≡ (0 + shares t (w.stack q)) = above (share t) (shares_in t) (shares t) w q (LowerCount p PoolValue Resume) (λ k. refl) (λ y ys. refl) in omega (arith, c)))
+    (λ r. (let c : all_values r (put_stack w.stack q (after_call (w.stack q) (LowerCount p PoolValue Resume)) q) ≡ (one (r == p) + all_values r (w.stack q)) = above (values r) (values_in r) (all_values r) w q (LowerCount p PoolValue Resume) (λ k. refl) (λ y ys. refl) in
+    let d : one (r == p) + one (put w.pool p (record (w.pool p) { held = false }) r).held ≤ one (w.pool r).held = given r (r == p) refl (and_held f) in omega (arith, c, d)))
+    (λ t s. (let c : all_raises t (put_stack w.stack q (after_call (w.stack q) (LowerCount p PoolValue Resume)) s) ≤ 0 + all_raises t (w.stack s) = raises_called w q (LowerCount p PoolValue Resume) t s in let e : all_raises t (w.stack s) + one (w.job t).counted ≤ 1 = h.unraised s t in omega (arith, c, e))) h)
+  where
+    and_held : (is_free ((w.stack q).top) && (is_pool w.shape p && (w.pool p).held)) ≡ true → (w.pool p).held ≡ true
+    and_held f = (and_parts (is_pool w.shape p) ((w.pool p).held) ((and_parts (is_free ((w.stack q).top)) (is_pool w.shape p && (w.pool p).held) f).1)).1
+
+    given : (r : ℕ) (b : Bool) → (r == p) ≡ b → (w.pool p).held ≡ true → one b + one (if b then record (w.pool p) { held = false } else w.pool r).held ≤ one (w.pool r).held
+    given r true e y = let a : one (w.pool r).held ≡ 1 = ap (λ n. one (w.pool n).held) (eqb-true r p e) ∙ ap one y in omega (arith, a)
+    given r false e y = omega arith

@@ -1,0 +1,136 @@
+-- the acts that give a share back
+use Rattle.std.proofs.Common.{arith, refl, sym, ◌∙◌, ap, subst}
+use Rattle.std.specs.Prelude.{ℕ, Bool, true, false, ◌&&◌, ◌+◌, ◌-◌, ◌==◌, ◌≤◌, if◌then◌else◌, List, ◌≡◌}
+use Rattle.std.proofs.lemmas.Bool.{eqb-true}
+use Rattle.rayon_machine_places.specs.declared.place.Party.{Party}
+use Rattle.rayon_machine_places.specs.declared.place.Share.{Share}
+use Rattle.rayon_machine_places.specs.declared.place.Share.TheVariants.{PoolValue, OfJob}
+use Rattle.rayon_machine_places.specs.declared.place.Then.{Then}
+use Rattle.rayon_machine_places.specs.declared.place.Place.{Place}
+use Rattle.rayon_machine_places.specs.declared.place.Place.TheVariants.{LowerCount}
+use Rattle.rayon_machine_places.specs.declared.act.Seen.{Seen}
+use Rattle.rayon_machine_places.specs.Places.{own_index, next_of}
+use Rattle.rayon_machine_places.specs.World.{Pool, Stack, World, share_job, lowered}
+use Rattle.rayon_machine_places.specs.Steps.{put, put_stack, part_of, after_move, after}
+use Rattle.rayon_machine_laws.specs.Once.{one}
+use Rattle.rayon_machine_laws.specs.Shares.{shares}
+use Rattle.rayon_machine_laws.proofs.Claims.{SaysOwner}
+use Rattle.rayon_machine_laws.proofs.ClaimActs.{put_same, put_new, put_old}
+use Rattle.rayon_machine_laws.proofs.ClaimRuns.{CallsHold, top_says}
+use Rattle.rayon_machine_laws.proofs.Amounts.{all_raises, all_values}
+use Rattle.rayon_machine_laws.proofs.Tokens.{Tokens, tokens_keep, tokens_pay, sum_below, sum_same, sum_change}
+use Rattle.rayon_machine_laws.proofs.ShareActs.{with_job, tally, SharesHold, one_most, one_is, one_not, after_counted}
+use Rattle.rayon_machine_laws.proofs.ShareRuns.{shares_mine, other_le, values_mine, raises_all}
+use Rattle.rayon_machine_laws.proofs.ShareSteps.{tally_same, self_one}
+
+abbrev pub lowered_world : World → Party → ℕ → Share → Then → List Place → Seen → World
+lowered_world w q p s n fs e = after w q (record { top = LowerCount p s n; below = fs }) p (own_index q) 0 (share_job s) (e, lowered (part_of w p (own_index q) 0 (share_job s)) s)
+
+-- a job's share
+pub lower_job : (w : World) (q : Party) (p0 u : ℕ) (n : Then) (fs : List Place) (e : Seen) → SharesHold w → w.stack q ≡ record { top = LowerCount p0 (OfJob u) n; below = fs } → CallsHold (lowered_world w q p0 (OfJob u) n fs e) → ((t : ℕ) → with_job ((lowered_world w q p0 (OfJob u) n fs e).job t) ≤ with_job (w.job t)) → ((t : ℕ) → ((lowered_world w q p0 (OfJob u) n fs e).job t).pool ≡ (w.job t).pool) → ((p : ℕ) → ((lowered_world w q p0 (OfJob u) n fs e).pool p).held ≡ (w.pool p).held) → SharesHold (lowered_world w q p0 (OfJob u) n fs e)
+lower_job w q p0 u n fs e h z ch busy pools keeps = record {
+  calls = ch;
+  jobs = λ t. jobs t (t == u) refl;
+  values = λ p. subst (λ c. Tokens (λ s. all_values p (v.stack s)) (one (v.pool p).held) (one c)) (sym (put_same (λ a. a.counted) w.pool p0 (record (w.pool p0) { count = (w.pool p0).count - 1 }) p refl))
+      (tokens_keep (λ s. all_values p (w.stack s)) (λ s. all_values p (v.stack s)) (one (w.pool p).held) (one (v.pool p).held) (one (w.pool p).counted) q (one_most ((w.pool p).counted)) (λ s y. other_le (all_values p) w q k s y)
+      (let a : all_values p (put_stack w.stack q k q) + 0 ≤ all_values p (w.stack q) = values_mine w q (LowerCount p0 (OfJob u) n) fs (w.shape.pool p0) e p z in let b : one (v.pool p).held ≡ one (w.pool p).held = ap one (keeps p) in omega (arith, a, b)) (h.values p));
+  unraised = λ s t. (let a : all_raises t (put_stack w.stack q k s) ≤ all_raises t (w.stack s) = raises_all w q (LowerCount p0 (OfJob u) n) fs (w.shape.pool p0) e t z s in let b : all_raises t (w.stack s) + one (w.job t).counted ≤ 1 = h.unraised s t in let c : one (v.job t).counted ≤ one (w.job t).counted = less t (t == u) refl in omega (arith, a, b, c));
+  unmade = λ t b. one_not ((v.job t).counted) (let a : one (v.job t).counted ≤ one (w.job t).counted = less t (t == u) refl in let c : one (w.job t).counted ≡ 0 = ap one (h.unmade t b) in omega (arith, a, c));
+  sums = λ p. sums p (p == p0) refl;
+}
+  where
+    v : World
+    v = lowered_world w q p0 (OfJob u) n fs e
+
+    k : Stack
+    k = after_move (next_of (w.shape.pool p0) q (LowerCount p0 (OfJob u) n) e) fs
+
+    said : (u + 1 ≤ w.jobs) × ((w.job u).pool ≡ p0) × SaysOwner w u p0 n
+    said = (top_says w q (LowerCount p0 (OfJob u) n) fs (h.calls) z).1
+
+    counted : (t : ℕ) → (v.job t).counted ≡ (put w.job u (record (w.job u) { counted = false }) t).counted
+    counted t = after_counted q (next_of (w.shape.pool p0) q (LowerCount p0 (OfJob u) n) e) (put w.job u (record (w.job u) { counted = false })) t
+
+    now : (v.job u).counted ≡ false
+    now = counted u ∙ ap (λ j. j.counted) (put_new w.job u (record (w.job u) { counted = false }))
+
+    same : (t : ℕ) → (t == u) ≡ false → (v.job t).counted ≡ (w.job t).counted
+    same t y = counted t ∙ ap (λ j. j.counted) (put_old w.job u (record (w.job u) { counted = false }) t y)
+
+    less : (t : ℕ) (b : Bool) → (t == u) ≡ b → one (v.job t).counted ≤ one (w.job t).counted
+    less t true y = let a : one (v.job t).counted ≡ 0 = ap (λ i. one (v.job i).counted) (eqb-true t u y) ∙ ap one now in omega (arith, a)
+    less t false y = let a : one (v.job t).counted ≡ one (w.job t).counted = ap one (same t y) in omega (arith, a)
+
+    line : (t : ℕ) → shares t (put_stack w.stack q k q) + one (t == u) ≤ shares t (w.stack q)
+    line t = let a : shares t (put_stack w.stack q k q) + (0 + one (t == u)) ≤ shares t (w.stack q) + 0 = shares_mine w q (LowerCount p0 (OfJob u) n) fs (w.shape.pool p0) e t z in omega (arith, a)
+
+    had : (w.job u).counted ≡ true
+    had = one_is ((w.job u).counted) (let a : shares u (put_stack w.stack q k q) + one (u == u) ≤ shares u (w.stack q) = line u in let b : one (u == u) ≡ 1 = self_one u in let c : shares u (w.stack q) + with_job (w.job u) ≤ one (w.job u).counted = (h.jobs u).alone q in omega (arith, a, b, c))
+
+    jobs : (t : ℕ) (b : Bool) → (t == u) ≡ b → Tokens (λ s. shares t (v.stack s)) (with_job (v.job t)) (one (v.job t).counted)
+    jobs t true y = subst (λ t. Tokens (λ s. shares t (v.stack s)) (with_job (v.job t)) (one (v.job t).counted)) (sym (eqb-true t u y))
+        (subst (λ c. Tokens (λ s. shares u (v.stack s)) (with_job (v.job u)) (one c)) (sym now)
+        (tokens_pay (λ s. shares u (w.stack s)) (λ s. shares u (v.stack s)) (with_job (w.job u)) (with_job (v.job u)) (one (w.job u).counted) q (one_most ((w.job u).counted)) (λ s d. other_le (shares u) w q k s d)
+        (let a : shares u (put_stack w.stack q k q) + one (u == u) ≤ shares u (w.stack q) = line u in let b : one (u == u) ≡ 1 = self_one u in omega (arith, a, b)) (busy u) (h.jobs u)))
+    jobs t false y = subst (λ c. Tokens (λ s. shares t (v.stack s)) (with_job (v.job t)) (one c)) (sym (same t y))
+        (tokens_keep (λ s. shares t (w.stack s)) (λ s. shares t (v.stack s)) (with_job (w.job t)) (with_job (v.job t)) (one (w.job t).counted) q (one_most ((w.job t).counted)) (λ s d. other_le (shares t) w q k s d)
+        (let a : shares t (put_stack w.stack q k q) + one (t == u) ≤ shares t (w.stack q) = line t in let b : with_job (v.job t) ≤ with_job (w.job t) = busy t in omega (arith, a, b)) (h.jobs t))
+
+    sums : (p : ℕ) (b : Bool) → (p == p0) ≡ b → sum_below w.jobs (λ t. tally p (v.job t)) + one (if b then record (w.pool p0) { count = (w.pool p0).count - 1 } else w.pool p).counted ≤ (if b then record (w.pool p0) { count = (w.pool p0).count - 1 } else w.pool p).count
+    sums p true y = let i : p ≡ p0 = eqb-true p p0 y in
+        let a : sum_below w.jobs (λ t. tally p (w.job t)) + one (w.pool p).counted ≤ (w.pool p).count = h.sums p in
+        let b : (sum_below w.jobs (λ t. tally p (v.job t)) + tally p (w.job u)) ≡ (sum_below w.jobs (λ t. tally p (w.job t)) + tally p (v.job u)) = sum_change w.jobs (λ t. tally p (w.job t)) (λ t. tally p (v.job t)) u (said.0) (λ t d. sym (tally_same p (v.job t) (w.job t) (same t d) (pools t))) in
+        let c : tally p (v.job u) ≡ 0 = ap (λ c. one (c && (p == (v.job u).pool))) now in
+        let d : tally p (w.job u) ≡ 1 = ap (λ c. one (c && (p == (w.job u).pool))) had ∙ ap (λ m. one (p == m)) (said.1) ∙ ap one y in
+        let f : one (w.pool p0).counted ≡ one (w.pool p).counted = ap (λ m. one (w.pool m).counted) (sym i) in
+        let g : (w.pool p0).count ≡ (w.pool p).count = ap (λ m. (w.pool m).count) (sym i) in omega (arith, a, b, c, d, f, g)
+    sums p false y = let a : sum_below w.jobs (λ t. tally p (w.job t)) + one (w.pool p).counted ≤ (w.pool p).count = h.sums p in
+        let b : (sum_below w.jobs (λ t. tally p (v.job t)) + tally p (w.job u)) ≡ (sum_below w.jobs (λ t. tally p (w.job t)) + tally p (v.job u)) = sum_change w.jobs (λ t. tally p (w.job t)) (λ t. tally p (v.job t)) u (said.0) (λ t d. sym (tally_same p (v.job t) (w.job t) (same t d) (pools t))) in
+        let c : tally p (v.job u) ≡ 0 = ap (λ c. one (c && (p == (v.job u).pool))) now in omega (arith, a, b, c)
+
+-- the share of a pool's value
+pub lower_value : (w : World) (q : Party) (p0 : ℕ) (n : Then) (fs : List Place) (e : Seen) → SharesHold w → w.stack q ≡ record { top = LowerCount p0 PoolValue n; below = fs } → CallsHold (lowered_world w q p0 PoolValue n fs e) → ((t : ℕ) → with_job ((lowered_world w q p0 PoolValue n fs e).job t) ≤ with_job (w.job t)) → ((t : ℕ) → ((lowered_world w q p0 PoolValue n fs e).job t).pool ≡ (w.job t).pool) → ((p : ℕ) → ((lowered_world w q p0 PoolValue n fs e).pool p).held ≡ (w.pool p).held) → SharesHold (lowered_world w q p0 PoolValue n fs e)
+lower_value w q p0 n fs e h z ch busy pools keeps = record {
+  calls = ch;
+  jobs = λ t. subst (λ c. Tokens (λ s. shares t (v.stack s)) (with_job (v.job t)) (one c)) (sym (same t))
+      (tokens_keep (λ s. shares t (w.stack s)) (λ s. shares t (v.stack s)) (with_job (w.job t)) (with_job (v.job t)) (one (w.job t).counted) q (one_most ((w.job t).counted)) (λ s d. other_le (shares t) w q k s d)
+      (let a : shares t (put_stack w.stack q k q) + (0 + 0) ≤ shares t (w.stack q) + 0 = shares_mine w q (LowerCount p0 PoolValue n) fs (w.shape.pool p0) e t z in let b : with_job (v.job t) ≤ with_job (w.job t) = busy t in omega (arith, a, b)) (h.jobs t));
+  values = λ p. values p (p == p0) refl;
+  unraised = λ s t. (let a : all_raises t (put_stack w.stack q k s) ≤ all_raises t (w.stack s) = raises_all w q (LowerCount p0 PoolValue n) fs (w.shape.pool p0) e t z s in let b : all_raises t (w.stack s) + one (w.job t).counted ≤ 1 = h.unraised s t in let c : one (v.job t).counted ≡ one (w.job t).counted = ap one (same t) in omega (arith, a, b, c));
+  unmade = λ t b. same t ∙ h.unmade t b;
+  sums = λ p. sums p (p == p0) refl;
+}
+  where
+    v : World
+    v = lowered_world w q p0 PoolValue n fs e
+
+    k : Stack
+    k = after_move (next_of (w.shape.pool p0) q (LowerCount p0 PoolValue n) e) fs
+
+    same : (t : ℕ) → (v.job t).counted ≡ (w.job t).counted
+    same t = after_counted q (next_of (w.shape.pool p0) q (LowerCount p0 PoolValue n) e) (put w.job 0 (w.job 0)) t ∙ put_same (λ j. j.counted) w.job 0 (w.job 0) t refl
+
+    line : (p : ℕ) → all_values p (put_stack w.stack q k q) + one (p == p0) ≤ all_values p (w.stack q)
+    line p = values_mine w q (LowerCount p0 PoolValue n) fs (w.shape.pool p0) e p z
+
+    had : (w.pool p0).counted ≡ true
+    had = one_is ((w.pool p0).counted) (let a : all_values p0 (put_stack w.stack q k q) + one (p0 == p0) ≤ all_values p0 (w.stack q) = line p0 in let b : one (p0 == p0) ≡ 1 = self_one p0 in let c : all_values p0 (w.stack q) + one (w.pool p0).held ≤ one (w.pool p0).counted = (h.values p0).alone q in omega (arith, a, b, c))
+
+    gone : Pool
+    gone = record (w.pool p0) { count = (w.pool p0).count - 1; counted = false }
+
+    values : (p : ℕ) (b : Bool) → (p == p0) ≡ b → Tokens (λ s. all_values p (v.stack s)) (one (if b then gone else w.pool p).held) (one (if b then gone else w.pool p).counted)
+    values p true y = subst (λ p. Tokens (λ s. all_values p (v.stack s)) (one (w.pool p0).held) 0) (sym (eqb-true p p0 y))
+        (tokens_pay (λ s. all_values p0 (w.stack s)) (λ s. all_values p0 (v.stack s)) (one (w.pool p0).held) (one (w.pool p0).held) (one (w.pool p0).counted) q (one_most ((w.pool p0).counted)) (λ s d. other_le (all_values p0) w q k s d)
+        (let a : all_values p0 (put_stack w.stack q k q) + one (p0 == p0) ≤ all_values p0 (w.stack q) = line p0 in let b : one (p0 == p0) ≡ 1 = self_one p0 in omega (arith, a, b)) (omega arith) (h.values p0))
+    values p false y = tokens_keep (λ s. all_values p (w.stack s)) (λ s. all_values p (v.stack s)) (one (w.pool p).held) (one (w.pool p).held) (one (w.pool p).counted) q (one_most ((w.pool p).counted)) (λ s d. other_le (all_values p) w q k s d)
+        (let a : all_values p (put_stack w.stack q k q) + one (p == p0) ≤ all_values p (w.stack q) = line p in omega (arith, a)) (h.values p)
+
+    sums : (p : ℕ) (b : Bool) → (p == p0) ≡ b → sum_below w.jobs (λ t. tally p (v.job t)) + one (if b then gone else w.pool p).counted ≤ (if b then gone else w.pool p).count
+    sums p true y = let i : p ≡ p0 = eqb-true p p0 y in
+        let a : sum_below w.jobs (λ t. tally p (w.job t)) + one (w.pool p).counted ≤ (w.pool p).count = h.sums p in
+        let b : sum_below w.jobs (λ t. tally p (v.job t)) ≡ sum_below w.jobs (λ t. tally p (w.job t)) = sum_same w.jobs (λ t. tally p (v.job t)) (λ t. tally p (w.job t)) (λ t d. tally_same p (v.job t) (w.job t) (same t) (pools t)) in
+        let c : one (w.pool p).counted ≡ 1 = ap (λ m. one (w.pool m).counted) i ∙ ap one had in
+        let g : (w.pool p0).count ≡ (w.pool p).count = ap (λ m. (w.pool m).count) (sym i) in omega (arith, a, b, c, g)
+    sums p false y = let a : sum_below w.jobs (λ t. tally p (w.job t)) + one (w.pool p).counted ≤ (w.pool p).count = h.sums p in
+        let b : sum_below w.jobs (λ t. tally p (v.job t)) ≡ sum_below w.jobs (λ t. tally p (w.job t)) = sum_same w.jobs (λ t. tally p (v.job t)) (λ t. tally p (w.job t)) (λ t d. tally_same p (v.job t) (w.job t) (same t) (pools t)) in omega (arith, a, b)

@@ -1,0 +1,41 @@
+-- sleepers are inactive, and the committed sleep and hold their locks
+use Rattle.std.proofs.Common.{refl, sym, ◌∙◌, ap, inl, inr}
+use Rattle.std.specs.Prelude.{ℕ, Bool, true, false, ◌||◌, Some, ◌≡◌, ◌⊎◌}
+use Rattle.rayon_machine_places.specs.declared.place.Party.TheVariants.{Worker}
+use Rattle.rayon_machine_places.specs.declared.place.Place.{Place}
+use Rattle.rayon_machine_places.specs.declared.place.Place.TheVariants.{BlockSelf}
+use Rattle.rayon_machine_laws.proofs.Frame.{or_parts}
+use Rattle.rayon_machine_laws.proofs.Seats.{Dozes, Lies, Mode, SeatOk, asleep_in, inactive_in, lies_in, mode, owns_in}
+use Rattle.rayon_machine_laws.proofs.Ties.{SeatsOk}
+use Rattle.rayon_machine_laws.specs.Committed.{is_blocking, is_committed}
+use Rattle.rayon_machine_places.specs.World.{Seat, World}
+
+sleeps_inactive : (x : Mode) → asleep_in x ≡ true → inactive_in x ≡ true
+sleeps_inactive Dozes e = refl
+sleeps_inactive _ e = cc
+
+lies_inactive : (x : Mode) → lies_in x ≡ true → inactive_in x ≡ true
+lies_inactive Lies e = refl
+lies_inactive _ e = cc
+
+pub sleeper : (p i : ℕ) (x : Mode) (s : Seat) → SeatOk p i x s → s.asleep ≡ true → s.inactive ≡ true
+sleeper p i x s ok e = ok.inactive ∙ elim (or_parts (asleep_in x) (s.blocked) (sym (ok.asleep) ∙ e)) [ inl a ↦ sleeps_inactive x a | inr b ↦ lies_inactive x (ok.blocked b) ]
+
+pub blocking_dozes : (x : Place) → is_blocking x ≡ true → mode x ≡ Dozes
+blocking_dozes (BlockSelf k) e = refl
+blocking_dozes _ e = cc
+
+pub committed_sleeps : (w : World) (p i : ℕ) → SeatsOk w → is_committed w p i ≡ true → (w.seat p i).asleep ≡ true
+committed_sleeps w p i ok e =
+    let x : Place = (w.stack (Worker p i)).top in
+    let o : SeatOk p i (mode x) (w.seat p i) = (ok p i).top in
+    o.asleep ∙ elim (or_parts (is_blocking x) ((w.seat p i).blocked) e) [ inl a ↦ (let d : asleep_in (mode x) ≡ true = ap asleep_in (blocking_dozes x a) in rw d refl) | inr b ↦ (rw b (or_true (asleep_in (mode x)))) ]
+  where
+    or_true : (b : Bool) → (b || true) ≡ true
+    or_true true = refl
+    or_true false = refl
+
+pub committed_holds : (w : World) (p i : ℕ) → SeatsOk w → is_committed w p i ≡ true → ((w.seat p i).lock ≡ Some (Worker p i)) ⊎ ((w.seat p i).blocked ≡ true)
+committed_holds w p i ok e =
+    let x : Place = (w.stack (Worker p i)).top in
+    elim (or_parts (is_blocking x) ((w.seat p i).blocked) e) [ inl a ↦ inl (((ok p i).top).lock (ap owns_in (blocking_dozes x a))) | inr b ↦ inr b ]

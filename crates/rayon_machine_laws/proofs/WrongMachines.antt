@@ -1,0 +1,215 @@
+-- wrong machines: replays, computed by the kernel, in which a changed table or act breaks the clause of a law that forbids it
+use Rattle.std.proofs.Common.{refl}
+use Rattle.std.specs.Prelude.{ℕ, zero, suc, Bool, true, false, not, ◌&&◌, ◌||◌, ◌+◌, ◌==◌, nat_lt, if◌then◌else◌, Option, Some, None, List, [], ◌∷◌, ◌++◌, ◌≡◌, IfSome}
+use Rattle.rayon_machine_places.specs.declared.shape.Order.TheVariants.{NewestFirst}
+use Rattle.rayon_machine_places.specs.declared.place.Party.{Party}
+use Rattle.rayon_machine_places.specs.declared.place.Party.TheVariants.{Worker, Caller}
+use Rattle.rayon_machine_places.specs.declared.place.Ending.TheVariants.{Fine}
+use Rattle.rayon_machine_places.specs.declared.place.Latch.{Latch}
+use Rattle.rayon_machine_places.specs.declared.place.Latch.TheVariants.{Terminate, OfCall}
+use Rattle.rayon_machine_places.specs.declared.place.Rounds.TheVariants.{Failed}
+use Rattle.rayon_machine_places.specs.declared.place.Place.{Place}
+use Rattle.rayon_machine_places.specs.declared.place.Place.TheVariants.{LoadCounters, AddSleeping, LookAtCast, LookAtInjector, BlockSelf, WakeUp, LockToWake, UnlockWoken, SetLatch, UnlockSettled, SetLockLatch}
+use Rattle.rayon_machine_places.specs.declared.place.Move.{Move}
+use Rattle.rayon_machine_places.specs.declared.place.Move.TheVariants.{Stay}
+use Rattle.rayon_machine_places.specs.declared.act.Act.{Act}
+use Rattle.rayon_machine_places.specs.declared.act.Act.TheVariants.{Announce, Lock, SubInactive, News, Set}
+use Rattle.rayon_machine_places.specs.declared.act.Seen.{Seen}
+use Rattle.rayon_machine_places.specs.declared.act.Seen.TheVariants.{Yes, No, Jec, Word, Wakes}
+use Rattle.rayon_machine_places.specs.declared.event.Event.{Event}
+use Rattle.rayon_machine_places.specs.declared.event.Event.TheVariants.{Go, End, Spawn, Install, Join}
+use Rattle.rayon_machine_places.specs.declared.state.Letter.{Letter}
+use Rattle.rayon_machine_places.specs.declared.state.Letter.TheVariants.{Sleeping, Set as IsSet}
+use Rattle.rayon_machine_places.specs.declared.shape.PoolShape.{PoolShape}
+use Rattle.rayon_machine_places.specs.declared.place.Settling.{Settling}
+use Rattle.rayon_machine_places.specs.Places.{finish, act_of, next_of}
+use Rattle.rayon_machine_places.specs.World.{Shape, Stack, World, Counts, counts_at, is_even, jec, Part, target_pool, target_worker, target_call, target_job, Outcome, effect}
+use Rattle.rayon_machine_places.specs.Steps.{put, put_stack, put_seat, part_of, after_move, jobs_after, step}
+use Rattle.rayon_machine_places.specs.Runs.{start}
+use Rattle.rayon_machine_laws.specs.Committed.{is_committed, is_looking}
+use Rattle.rayon_machine_laws.specs.Attended.{is_filled, has_pushed, owes_wake, settles}
+use Rattle.rayon_machine_laws.specs.Turn.{is_adding, is_added, is_news}
+
+-- a machine: what each act does, and where it leads
+record Machine : Type 0 where
+  does : Act → Shape → Party → Counts → Part → Outcome
+  next : PoolShape → Party → Place → Seen → Move
+
+-- a party's act, as `act_at` and `after` have it
+abbrev done_by : Machine → World → Party → Stack → Act → Outcome → Option World
+done_by m w q s a None = None
+done_by m w q s a (Some r) = Some (record w {
+  stack = put_stack w.stack q (after_move (m.next (w.shape.pool (target_pool q a)) q s.top (r.0)) s.below);
+  seat = put_seat w.seat (target_pool q a) (target_worker q a) (r.1.seat);
+  pool = put w.pool (target_pool q a) (r.1.pool);
+  call = put w.call (target_call a) (r.1.call);
+  job = jobs_after q (m.next (w.shape.pool (target_pool q a)) q s.top (r.0)) (put w.job (target_job w.shape q a (w.pool (target_pool q a)) (w.seat (target_pool q a) (target_worker q a))) (r.1.job));
+})
+
+abbrev act_by : Machine → World → Party → Stack → Act → Option World
+act_by m w q s a = done_by m w q s a (m.does a w.shape q (counts_at w (target_pool q a)) (part_of w (target_pool q a) (target_worker q a) (target_call a) (target_job w.shape q a (w.pool (target_pool q a)) (w.seat (target_pool q a) (target_worker q a)))))
+
+abbrev step_by : Machine → World → Event → Option World
+step_by m w (Go q) = act_by m w q (w.stack q) (act_of q (w.stack q).top)
+step_by m w e = step w e
+
+abbrev then_by : Machine → Option World → Event → Option World
+then_by m None e = None
+then_by m (Some w) e = step_by m w e
+
+abbrev run_by : Machine → Option World → List Event → Option World
+run_by m o [] = o
+run_by m o (e ∷ es) = run_by m (then_by m o e) es
+
+abbrev times_go : Party → ℕ → List Event
+times_go q zero = []
+times_go q (suc n) = Go q ∷ times_go q n
+
+-- two workers, with an event counter of so many bits
+abbrev two : ℕ → Option World
+two k = Some (start (record { pool = λ p. record { workers = 2; limit = 0; order = NewestFirst; callers_own = false }; callers = 16; jec_bits = k }))
+
+abbrev a : Party
+a = Worker 0 0
+
+abbrev b : Party
+b = Worker 0 1
+
+abbrev c : Party
+c = Caller 0
+
+abbrev d : Party
+d = Caller 1
+
+-- a party is no waker of pool 0 for this worker
+abbrev is_waker : World → Party → ℕ → Bool
+is_waker w q i = has_pushed q (w.stack q).top 0 || owes_wake (w.stack q).top 0 i
+
+-- the first clause is broken at this worker: nobody looks, and none of the parties that ever moved is a waker
+record Unattended (w : World) (i : ℕ) : Type 0 where
+  filled : is_filled (w.pool 0).injector ≡ true
+  committed : is_committed w 0 i ≡ true
+  looks : (is_looking w 0 0 || is_looking w 0 1) ≡ false
+  wakers : ((is_waker w a i || is_waker w b i) || (is_waker w c i || is_waker w d i)) ≡ false
+
+-- the machine as it is
+abbrev right : Machine
+right = record { does = effect; next = next_of }
+
+-- the last look at the injector comes before the worker counts itself as sleeping
+abbrev early_look : PoolShape → Party → Place → Seen → Move
+early_look h q (LoadCounters w) (Word s i j) = if j == w.kept then Stay (LookAtInjector (record w { sleeping = s; inactive = i })) else Stay (WakeUp (record w { rounds = Failed h.limit }))
+early_look h q (LookAtInjector w) Yes = Stay (AddSleeping w)
+early_look h q (LookAtCast w) Yes = Stay (BlockSelf w)
+early_look h q x e = next_of h q x e
+
+-- one worker looks, the other's Announce and one News make a whole turn of a counter of one bit, and that other leaves with the first of two jobs
+abbrev early_run : List Event
+early_run = times_go a 22 ++ times_go b 10 ++ Spawn c 0 ∷ times_go c 4 ++ Spawn d 0 ∷ times_go d 4 ++ times_go b 8 ++ times_go a 2
+
+injector_looked_at_before_counted : IfSome (run_by (record { does = effect; next = early_look }) (two 1) early_run) (λ w. Unattended w 0)
+injector_looked_at_before_counted = record { filled = refl; committed = refl; looks = refl; wakers = refl }
+
+-- a sleeper skips its last look at the injector
+abbrev no_look : PoolShape → Party → Place → Seen → Move
+no_look h q (LookAtCast w) Yes = Stay (BlockSelf w)
+no_look h q x e = next_of h q x e
+
+abbrev blind_run : List Event
+blind_run = times_go a 21 ++ times_go b 10 ++ Spawn c 0 ∷ times_go c 4 ++ Spawn d 0 ∷ times_go d 4 ++ times_go b 8 ++ times_go a 2
+
+last_look_skipped : IfSome (run_by (record { does = effect; next = no_look }) (two 1) blind_run) (λ w. Unattended w 0)
+last_look_skipped = record { filled = refl; committed = refl; looks = refl; wakers = refl }
+
+-- the machine as it is sees the job, and takes itself out of the sleeping ones
+last_look_made : IfSome (run_by right (two 1) (blind_run ++ Go a ∷ [])) (λ w. is_committed w 0 0 ≡ false)
+last_look_made = refl
+
+-- a worker that leaves its search wakes nobody
+abbrev leaves_alone : Act → Shape → Party → Counts → Part → Outcome
+leaves_alone SubInactive h q n m = Some (Wakes 0, record m { seat = record (m.seat) { inactive = false } })
+leaves_alone act h q n m = effect act h q n m
+
+-- two callers both saw an empty injector and one worker awake, which leaves with the first job
+abbrev leaving_run : List Event
+leaving_run = times_go a 25 ++ times_go b 9 ++ Spawn c 0 ∷ times_go c 2 ++ Spawn d 0 ∷ times_go d 2 ++ times_go c 2 ++ times_go d 2 ++ times_go b 2
+
+leaving_searcher_wakes_nobody : IfSome (run_by (record { does = leaves_alone; next = next_of }) (two 32) leaving_run) (λ w. Unattended w 0)
+leaving_searcher_wakes_nobody = record { filled = refl; committed = refl; looks = refl; wakers = refl }
+
+-- one worker runs a job and the other sleeps, when a second job comes
+abbrev second_job : List Event
+second_job = Spawn c 0 ∷ times_go c 4 ++ times_go a 12 ++ times_go b 25 ++ Spawn c 0 ∷ times_go c 4
+
+-- a waker stops one worker short of the last
+abbrev short_walk : PoolShape → Party → Place → Seen → Move
+short_walk h q (UnlockWoken k) e = if nat_lt 0 k.owed && nat_lt (k.worker + 2) h.workers then Stay (LockToWake (record k { worker = k.worker + 1 })) else finish q k.then
+short_walk h q x e = next_of h q x e
+
+waker_stops_one_short : IfSome (run_by (record { does = effect; next = short_walk }) (two 32) (second_job ++ times_go c 3)) (λ w. Unattended w 1)
+waker_stops_one_short = record { filled = refl; committed = refl; looks = refl; wakers = refl }
+
+-- News counts the sleepers among those that are awake and idle
+abbrev counts_sleepers : Act → Shape → Party → Counts → Part → Outcome
+counts_sleepers (News p e) h q n m = Some (Wakes (if n.sleeping == 0 then 0 else if not e then 1 else if nat_lt n.inactive 1 then 1 else 0), record m { pool = record (m.pool) { turn = if is_even m.pool.turn then m.pool.turn + 1 else m.pool.turn } })
+counts_sleepers act h q n m = effect act h q n m
+
+news_counts_sleepers_as_awake : IfSome (run_by (record { does = counts_sleepers; next = next_of }) (two 32) second_job) (λ w. Unattended w 1)
+news_counts_sleepers_as_awake = record { filled = refl; committed = refl; looks = refl; wakers = refl }
+
+abbrev loaded : Part → Letter → Outcome
+loaded m Sleeping = Some (Yes, record m { call = record (m.call) { latch = IsSet } })
+loaded m x = Some (No, m)
+
+-- a latch is set by a load, and then a store that no longer looks
+abbrev loads : Act → Shape → Party → Counts → Part → Outcome
+loads (Set (OfCall n) p i) h q k m = loaded m m.call.latch
+loads act h q k m = effect act h q k m
+
+abbrev stores_after : Settling → Latch → Move
+stores_after s Terminate = Stay (UnlockSettled s)
+stores_after s (OfCall n) = Stay (SetLockLatch n)
+
+abbrev load_and_store : PoolShape → Party → Place → Seen → Move
+load_and_store h q (SetLatch s) No = stores_after s s.latch
+load_and_store h q x e = next_of h q x e
+
+-- the owner of a join falls asleep between the thief's load and its store
+abbrev store_run : List Event
+store_run = Install c 0 ∷ times_go c 5 ++ times_go b 12 ++ Join b ∷ times_go b 5 ++ times_go a 11 ++ End b Fine ∷ times_go b 22 ++ End a Fine ∷ times_go a 2 ++ times_go b 6 ++ Go a ∷ []
+
+-- the second clause is broken: a worker is blocked on the set latch of call 1, and no party that ever moved settles it
+record Forgotten (w : World) : Type 0 where
+  blocked : (w.seat 0 1).blocked ≡ true
+  waits : act_of b (w.stack b).top ≡ Lock 0 1
+  set : (w.call 1).latch ≡ IsSet
+  settlers : (settles (w.stack a).top 0 1 (OfCall 1) || (settles (w.stack b).top 0 1 (OfCall 1) || settles (w.stack c).top 0 1 (OfCall 1))) ≡ false
+
+latch_set_by_load_and_store : IfSome (run_by (record { does = loads; next = load_and_store }) (two 32) store_run) Forgotten
+latch_set_by_load_and_store = record { blocked = refl; waits = refl; set = refl; settlers = refl }
+
+-- an Announce leaves the event counter as it is
+abbrev keeps_turn : Act → Shape → Party → Counts → Part → Outcome
+keeps_turn Announce h q n m = Some (Jec (jec h m.pool.turn), m)
+keeps_turn act h q n m = effect act h q n m
+
+abbrev quiet_machine : Machine
+quiet_machine = record { does = keeps_turn; next = next_of }
+
+-- the turn is odd when a worker announces itself
+abbrev odd_run : List Event
+odd_run = Spawn c 0 ∷ times_go c 4 ++ times_go b 12 ++ times_go a 11
+
+-- then it reads the counters, and a second job is pushed
+abbrev second_push : List Event
+second_push = odd_run ++ times_go a 10 ++ Spawn c 0 ∷ times_go c 3
+
+-- the law of the turn is broken: no raise lies between the Announce and the TryAdd, which is done, but a News does
+announced : IfSome (run_by quiet_machine (two 32) odd_run) (λ w. (w.pool 0).turn ≡ 1)
+announced = refl
+
+news_comes : IfSome (run_by quiet_machine (two 32) second_push) (λ w. (is_news 0 w (Go c) ≡ true) × (is_adding (w.stack a).top ≡ true))
+news_comes = (refl, refl)
+
+announce_leaves_event_counter : IfSome (run_by quiet_machine (two 32) (second_push ++ Go c ∷ Go a ∷ [])) (λ w. (is_added (w.stack a).top ≡ true) × ((w.pool 0).turn ≡ 1))
+announce_leaves_event_counter = (refl, refl)

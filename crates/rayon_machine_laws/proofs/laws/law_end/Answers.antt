@@ -1,0 +1,17 @@
+use Rattle.rayon_machine_laws.proofs.ClaimMakes.{always_calls}
+use Rattle.rayon_machine_laws.proofs.Endings.{ends_so, refused_so}
+use Rattle.rayon_machine_laws.proofs.ShareEnds.{always_shares, no_early_end}
+use Rattle.rayon_machine_laws.proofs.Returns.{always_returns, returned_so}
+use Rattle.rayon_machine_laws.proofs.laws.law_end.Goals as goal
+
+pub returns-clause-ends : goal.returns-clause-ends
+returns-clause-ends c h es w r = ends_so w (always_calls h es w r)
+
+pub returns-clause-refused : goal.returns-clause-refused
+returns-clause-refused c h es w r = refused_so w ((always_calls h es w r).jobs)
+
+pub returns-clause-returned : goal.returns-clause-returned
+returns-clause-returned c h es w r = returned_so w (always_returns h es w r)
+
+pub returns-clause-early : goal.returns-clause-early
+returns-clause-early c h es w r = no_early_end w (always_shares h es w r)

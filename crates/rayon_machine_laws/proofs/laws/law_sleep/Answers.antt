@@ -1,0 +1,14 @@
+use Rattle.rayon_machine_laws.proofs.Events.{always_seats}
+use Rattle.rayon_machine_laws.proofs.Sleepers.{sleeper, committed_sleeps, committed_holds}
+use Rattle.rayon_machine_laws.proofs.Seats.{mode}
+use Rattle.rayon_machine_places.specs.declared.place.Party.TheVariants.{Worker}
+use Rattle.rayon_machine_laws.proofs.laws.law_sleep.Goals as goal
+
+pub returns-clause-inactive : goal.returns-clause-inactive
+returns-clause-inactive c h es w r p i = sleeper p i (mode ((w.stack (Worker p i)).top)) (w.seat p i) ((always_seats h es w r p i).top)
+
+pub returns-clause-asleep : goal.returns-clause-asleep
+returns-clause-asleep c h es w r p i = committed_sleeps w p i (always_seats h es w r)
+
+pub returns-clause-held : goal.returns-clause-held
+returns-clause-held c h es w r p i = committed_holds w p i (always_seats h es w r)

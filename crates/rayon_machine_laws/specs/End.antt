@@ -1,0 +1,102 @@
+-- how calls end
+use Rattle.std.specs.Prelude.{ℕ, false, Option, Some, None, ◌≡◌, ⊤}
+use Rattle.rayon_machine_places.specs.declared.place.Party.{Party}
+use Rattle.rayon_machine_places.specs.declared.place.Ending.{Ending}
+use Rattle.rayon_machine_places.specs.declared.place.Ending.TheVariants.{Fine, Fault}
+use Rattle.rayon_machine_places.specs.declared.place.Plan.{Plan}
+use Rattle.rayon_machine_places.specs.declared.place.Plan.TheVariants.{Detach, Here, Send, Fork}
+use Rattle.rayon_machine_places.specs.declared.place.Then.{Then}
+use Rattle.rayon_machine_places.specs.declared.place.Then.TheVariants.{Answers, Ran, GiveBack}
+use Rattle.rayon_machine_places.specs.declared.place.Place.{Place}
+use Rattle.rayon_machine_places.specs.declared.place.Place.TheVariants.{LowerCount, SetLatch, LockToSettle, WakeSettled, UnlockSettled}
+use Rattle.rayon_machine_places.specs.declared.state.Whereabouts.TheVariants.{Over, HandedBack}
+use Rattle.rayon_machine_places.specs.declared.place.OpenCall.{OpenCall}
+use Rattle.rayon_machine_places.specs.World.{World}
+use Rattle.rayon_machine_laws.specs.Once.{times}
+
+-- a job has run once, and its run has ended so
+pub record HasEnded (w : World) (t : ℕ) (e : Ending) : Type 0 where
+  pub at : (w.job t).at ≡ Over e
+  pub runs : (w.job t).runs ≡ 1
+
+-- the first side of a join has ended so; another call has no first side and says nothing of one
+abbrev pub SideEnded : World → Option ℕ → Option Ending → Type 0
+SideEnded w None None = ⊤
+SideEnded w (Some a) (Some e) = HasEnded w a e
+SideEnded w _ _ = ⊥
+
+-- the first side, if there is one, has ended without a fault
+abbrev pub SideFine : World → Option ℕ → Type 0
+SideFine w None = ⊤
+SideFine w (Some a) = HasEnded w a Fine
+
+-- what a call can answer: no fault, its first side's, or that of the job that it waited for
+pub data Verdict : Type 0 where
+  AllFine : Verdict
+  FirstFault : Verdict
+  LastFault : Verdict
+
+-- the answer, by how the first side and the own job ended: the first side's fault comes before the job's
+abbrev pub answered : Option Ending → Ending → Verdict
+answered (Some Fault) last = FirstFault
+answered first Fault = LastFault
+answered first Fine = AllFine
+
+-- what each answer tells of the call's jobs
+abbrev pub IsVerdict : World → OpenCall → Verdict → Type 0
+IsVerdict w o FirstFault = SideEnded w (w.call o.number).first (Some Fault)
+IsVerdict w o LastFault = HasEnded w o.job Fault × SideFine w (w.call o.number).first
+IsVerdict w o AllFine = HasEnded w o.job Fine × SideFine w (w.call o.number).first
+
+-- a call that waited: its job has run once and ended as the call found it in its cell, and so has its first side, if it is a join; the answer's fault is the one that comes first
+pub record CallEnds (w : World) (o : OpenCall) (first : Option Ending) (last : Ending) : Type 0 where
+  pub own : (w.call o.number).job ≡ o.job
+  pub job : HasEnded w o.job last
+  pub side : SideEnded w (w.call o.number).first first
+  pub fault : IsVerdict w o (answered first last)
+
+-- what a party does after the last acts of a call
+abbrev pub follows : Place → Option Then
+follows (LowerCount p s n) = Some n
+follows (SetLatch s) = Some s.then
+follows (LockToSettle s) = Some s.then
+follows (WakeSettled s) = Some s.then
+follows (UnlockSettled s) = Some s.then
+follows _ = None
+
+-- the last steps of a call that was not refused: of one that waited, and of an install that ran its job at once
+pub record IsEnd (w : World) : Type 0 where
+  pub waited : (q : Party) (o : OpenCall) (first : Option Ending) (last : Ending) → follows (w.stack q).top ≡ Some (Answers o first last) → CallEnds w o first last
+  pub once : (q : Party) (t : ℕ) (e : Ending) → follows (w.stack q).top ≡ Some (Ran t e) → HasEnded w t e
+
+-- a job that stands in no list and whose run has never begun
+pub record IsUntouched (w : World) (t : ℕ) : Type 0 where
+  pub runs : (w.job t).runs ≡ 0
+  pub deque : (p i : ℕ) → times t (w.seat p i).own ≡ 0
+  pub cast : (p i : ℕ) → times t ((w.pool p).casts i) ≡ 0
+  pub injector : (p : ℕ) → times t (w.pool p).injector ≡ 0
+
+-- the jobs of a call
+abbrev pub AllJobs : (ℕ → Type 0) → Plan → Type 0
+AllJobs P (Detach p t) = P t
+AllJobs P (Here p t) = P t
+AllJobs P (Send o) = P o.job
+AllJobs P (Fork o a) = P a × P o.job
+
+-- a refused call: until its last step its jobs stand in no list and have never run, and once they are handed back that stays so
+pub record IsRefused (w : World) : Type 0 where
+  pub going : (q : Party) (n : Plan) → follows (w.stack q).top ≡ Some (GiveBack n) → AllJobs (IsUntouched w) n
+  pub gone : (t : ℕ) → (w.job t).at ≡ HandedBack → IsUntouched w t
+
+-- what a party does once it has set the latches after a Lower
+abbrev pub after_settling : Place → Option Then
+after_settling (SetLatch s) = Some s.then
+after_settling (LockToSettle s) = Some s.then
+after_settling (WakeSettled s) = Some s.then
+after_settling (UnlockSettled s) = Some s.then
+after_settling _ = None
+
+-- the share that a refused call took is given back: no job of it has a share of the terminate count from the act after its Lower to its last step, nor ever once it is handed back
+pub record IsReturned (w : World) : Type 0 where
+  pub going : (q : Party) (n : Plan) → after_settling (w.stack q).top ≡ Some (GiveBack n) → AllJobs (λ t. (w.job t).counted ≡ false) n
+  pub gone : (t : ℕ) → (w.job t).at ≡ HandedBack → (w.job t).counted ≡ false

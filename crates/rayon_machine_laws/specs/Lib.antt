@@ -1,0 +1,15 @@
+pub mod Once
+pub mod Committed
+pub mod Attended
+pub mod Turn
+pub mod Searched
+pub mod End
+pub mod Latch
+pub mod Shares
+pub use Rattle.rayon_machine_places.specs.Places
+pub use Rattle.rayon_machine_places.specs.World
+pub use Rattle.rayon_machine_places.specs.Steps
+pub use Rattle.rayon_machine_places.specs.Runs
+pub use Rattle.rayon_machine_places.specs.Readers
+pub use Rattle.rayon_machine_places.specs.Groups
+pub use Rattle.rayon_machine_places.specs.Starts

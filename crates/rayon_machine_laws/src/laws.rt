@@ -1,0 +1,44 @@
+//! The laws of the machine, each the contract of a call without arguments: it holds in every world of every run.
+ghost use Rattle.rayon_machine_places.specs.Runs.{Always};
+ghost use Rattle.rayon_machine_laws.specs.Committed.{CommittedHold, CommittedSleep, SleepersAreInactive};
+ghost use Rattle.rayon_machine_laws.specs.End.{IsEnd, IsRefused, IsReturned};
+ghost use Rattle.rayon_machine_laws.specs.Latch.{IsLatched};
+ghost use Rattle.rayon_machine_laws.specs.Once.{IsOnce};
+ghost use Rattle.rayon_machine_laws.specs.Shares.{NoEarlyEnd};
+
+/// In every world of every run each job's run has begun at most once, and a job that is over has run once. A job stands
+/// in a deque, an injector or under a run at most once, and only where its record says, so in one of them alone.
+/// It does not say that a job ever runs.
+pub fn law_once()
+    ensures { Always IsOnce }
+{}
+
+/// In every world of every run the latch of a call is set only when the job that the call waits for is over, and the
+/// call's cell holds an ending only where that job ended so.
+/// It does not say that a latch is ever set.
+pub fn law_latch()
+    ensures { Always IsLatched }
+{}
+
+/// In every world of every run, a call that was not refused and makes its last steps has run each of its jobs once: each is
+/// over, what the call took from its cell is how its own job ended, and the fault that it answers is its first side's,
+/// else its own job's. A call that is refused has jobs that stand in no list and have never run, before its last step
+/// and for ever after. The share of the terminate count that it took is given back: from the act after the one that does
+/// it, none of its jobs is in the count, and for ever after its last step. A pool's terminate latch is set only when the
+/// pool has ended: its value is given up, no call made at it keeps a share of its terminate count, and no detached job of
+/// it is queued or running.
+/// It does not say that a call ever comes to its last step, nor that a pool ever ends.
+pub fn law_end()
+    ensures ends { Always IsEnd }
+    ensures refused { Always IsRefused }
+    ensures returned { Always IsReturned }
+    ensures early { Always NoEarlyEnd }
+{}
+
+/// In every world of every run each sleeping worker is inactive, and each worker that is about to block itself or is
+/// blocked is counted as sleeping, and holds its own sleep lock unless it is blocked.
+pub fn law_sleep()
+    ensures inactive { Always SleepersAreInactive }
+    ensures asleep { Always CommittedSleep }
+    ensures held { Always CommittedHold }
+{}

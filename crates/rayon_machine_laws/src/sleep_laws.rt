@@ -1,0 +1,28 @@
+//! The laws of sleep and waking, each the contract of a call without arguments: it holds in every world of every run.
+ghost use Rattle.rayon_machine_laws.specs.Attended.{IsCastAttended, IsEmptyHanded, IsInjectorAttended, IsLatchAttended};
+ghost use Rattle.rayon_machine_places.specs.Runs.{Always};
+ghost use Rattle.rayon_machine_laws.specs.Searched.{SearchLaw};
+ghost use Rattle.rayon_machine_laws.specs.Turn.{TurnLaw};
+
+/// No worker sleeps beside work that nobody attends to, in any world of any run. Where a pool's injector is filled and
+/// a worker of the pool is about to block itself or is blocked, another worker of it looks for work, or some party has
+/// pushed a job and not yet told of it, or still owes a wake to a worker that it has not passed. A blocked
+/// worker waits on a latch, and where that latch is set, the party that has set it has not yet woken the worker. Where a
+/// worker that is about to block itself or is blocked has a filled broadcast list, some party has put tasks there and
+/// has not passed the worker. A blocked worker's own deque is empty.
+/// Between a worker's last Announce and its Block its last looks are a whole search of its own that found nothing.
+pub fn law_attended()
+    ensures injector { Always IsInjectorAttended }
+    ensures latch { Always IsLatchAttended }
+    ensures cast { Always IsCastAttended }
+    ensures own { Always IsEmptyHanded }
+    ensures search { SearchLaw }
+{}
+
+/// The event counter's turn tells a worker that falls asleep whether there was news since its last Announce, as long as
+/// the counter has not gone round: where fewer raises of the pool's turn than the counter has values lie between a
+/// worker's last Announce and its TryAdd that is done, there is no raise and no News of the pool between. The counter
+/// may have any number of bits.
+pub fn law_turn()
+    ensures { TurnLaw }
+{}

@@ -1,0 +1,4 @@
+pub mod AfterWrites
+pub mod Stored
+pub mod Ends
+pub mod Deeds

@@ -1,0 +1,10 @@
+use Rattle.std.proofs.lemmas.Result.{IfOk-weaker}
+use Rattle.rayon_machine_parts.specs.State.{census_counts}
+use Rattle.rayon_machine_parts.proofs.Deeds.{handled-acts, sharing-acts}
+use Rattle.rayon_machine_parts.proofs.numbers.Touched.outcome.Goals as goal
+
+pub returns-in-Queueing-clause-ok : goal.returns-in-Queueing-clause-ok
+returns-in-Queueing-clause-ok c = λ o. rw c.handle.ensures (handled-acts o c.args.act c.args.party (census_counts c.args.census) c.args.jec_bits c.args.found c.args.self c.in-Queueing.ensures)
+
+pub returns-in-Sharing-clause-ok : goal.returns-in-Sharing-clause-ok
+returns-in-Sharing-clause-ok c = IfOk-weaker c.shares.result _ _ (λ r f o. sharing-acts o c.args.act c.args.party (census_counts c.args.census) c.args.jec_bits c.args.found c.args.self (r.0) (r.1) c.in-Sharing.ensures (f c.in-Sharing.ensures (census_counts c.args.census) c.args.jec_bits)) c.shares.ensures.ok

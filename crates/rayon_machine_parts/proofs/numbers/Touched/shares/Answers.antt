@@ -1,0 +1,11 @@
+use Rattle.std.proofs.lemmas.Result.{IfOk-weaker}
+use Rattle.rayon_machine_parts.proofs.numbers.Touched.shares.Goals as goal
+
+pub returns-in-Begin-clause-ok : goal.returns-in-Begin-clause-ok
+returns-in-Begin-clause-ok c = IfOk-weaker c.begin.result _ _ (λ r f _ k b. rw c.in-Begin.is (f k b c.in-Begin.field-0)) c.begin.ensures.ok
+
+pub returns-in-Lower-clause-ok : goal.returns-in-Lower-clause-ok
+returns-in-Lower-clause-ok c = λ _ k b. rw c.in-Lower.is (c.lower.ensures c.args.party k b c.in-Lower.pool)
+
+pub returns-in-Raise-clause-ok : goal.returns-in-Raise-clause-ok
+returns-in-Raise-clause-ok c = IfOk-weaker c.raise.result _ _ (λ r f _ k b. rw c.in-Raise.is (f c.args.party k b c.in-Raise.pool c.in-Raise.job)) c.raise.ensures.ok

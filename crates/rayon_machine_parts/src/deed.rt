@@ -1,0 +1,129 @@
+//! What a party's next act sees, and what it leaves, before anything is changed.
+ghost use Rattle.std.specs.Prelude.{◌≡◌, true, IfErr, IfOk};
+ghost use Rattle.rayon_machine_parts.specs.State.{seat_at, shape_of, Can, DoesNot, census_counts, Acts, IsDeed, IsNoDeed, counts_in, is_census};
+ghost use Rattle.rayon_machine_places.specs.World.{count_below};
+ghost use Rattle.rayon_machine_places.specs.declared.shape.Order.{Order as AnyOrder};
+
+use crate::kind::Kind;
+use crate::numbers::{Census, Touched};
+use crate::parts::Parts;
+use crate::shapes::Shapes;
+use crate::spot::Spot;
+use rayon_machine_places::act::{Act, Seen};
+use rayon_machine_places::error::StepError;
+use rayon_machine_places::place::Party;
+use rayon_machine_places::shape::Order;
+
+/// What an act touches, what it sees, and the numbers after it. `order` is the order in which the
+/// party's pool takes tasks.
+/// It is the running world's own part, and not for users.
+#[derive(Clone, Copy)]
+pub struct Deed {
+    /// The act.
+    pub act: Act,
+    /// What it touches.
+    pub spot: Spot,
+    /// The order in which the party's pool takes tasks.
+    pub order: Order,
+    /// What it sees.
+    pub seen: Seen,
+    /// The numbers after it.
+    pub after: Touched,
+}
+
+/// Whether an act looks at the counts of sleeping and inactive workers.
+fn counts(act: Act) -> bool
+    ensures { result ≡ is_census act }
+{
+    match act {
+        Act::Load | Act::TryAdd { .. } | Act::SubInactive | Act::News { .. } => true,
+        _ => false,
+    }
+}
+
+impl Touched {
+    /// What an act sees, and the numbers after it.
+    fn outcome(
+        self,
+        act: Act,
+        party: Party,
+        found: Option<u64>,
+        census: Census,
+        jec_bits: u32,
+    ) -> Result<(Seen, Touched), StepError>
+        ensures ok { IfOk result (λ r. (o : AnyOrder) → Acts o act party (census_counts census) jec_bits found self (r.0) (r.1)) }
+        ensures not_enabled { IfErr result (λ e. e ≡ StepError.NotEnabled → DoesNot act party (census_counts census) self) }
+        ensures enabled { IfErr result (λ e. e ≡ StepError.NoRoom → Can act party (census_counts census) self) }
+    {
+        match Kind::of(act) {
+            Kind::Queueing => Ok(self.handle(act, party, found)),
+            Kind::Counting => self.counters(act, census, jec_bits),
+            Kind::Latching => self.latches(act),
+            Kind::Locking => self.locks(act, party),
+            Kind::Sharing => self.shares(act, party),
+        }
+    }
+}
+
+impl Parts {
+    /// How many of a pool's workers sleep, and how many are inactive.
+    pub fn census(&self, pool: usize, workers: usize) -> Census
+        ensures sleeping { result.sleeping ≡ count_below workers (λ i. (seat_at self.now.benches.items pool i).asleep) }
+        ensures inactive { result.inactive ≡ count_below workers (λ i. (seat_at self.now.benches.items pool i).inactive) }
+    {
+        let mut sleeping = 0;
+        let mut inactive = 0;
+        for index in 0..workers {
+            let flags = self.flags(pool, index);
+            if flags.asleep {
+                sleeping += 1;
+            }
+            if flags.inactive {
+                inactive += 1;
+            }
+        }
+        Census { sleeping, inactive }
+    }
+
+    /// The counts of a pool, where the act looks at them.
+    fn census_for(&self, shapes: &Shapes, act: Act, pool: usize) -> Census
+        ensures { is_census act ≡ true → census_counts result ≡ counts_in (shape_of shapes.now) self.now pool }
+    {
+        if counts(act) {
+            self.census(pool, shapes.pool(pool).workers)
+        } else {
+            Census {
+                sleeping: 0,
+                inactive: 0,
+            }
+        }
+    }
+
+    /// What a party's act does here.
+    pub fn deed(&self, shapes: &Shapes, party: Party, act: Act) -> Result<Deed, StepError>
+        ensures ok { IfOk result (λ d. IsDeed (shape_of shapes.now) self.now party act d) }
+        ensures not_enabled { IfErr result (λ e. e ≡ StepError.NotEnabled → IsNoDeed (shape_of shapes.now) self.now party act) }
+        ensures enabled { IfErr result (λ e. e ≡ StepError.NoRoom → ¬ (IsNoDeed (shape_of shapes.now) self.now party act)) }
+    {
+        let order = shapes.pool(party.pool()).order;
+        let found = self.peek(act, party, order);
+        let spot = Spot {
+            pool: act.pool(party),
+            worker: act.worker(party),
+            call: act.call(),
+            job: act.job(found),
+        };
+        let census = self.census_for(shapes, act, spot.pool);
+        let touched = self.touched(spot);
+        match touched.outcome(act, party, found, census, shapes.jec_bits) {
+            Ok((seen, after)) => Ok(Deed {
+                act,
+                spot,
+                order,
+                seen,
+                after,
+            }),
+            Err(error) => Err(error),
+        }
+    }
+}

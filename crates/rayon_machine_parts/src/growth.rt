@@ -1,0 +1,281 @@
+//! Room for what a step touches: a table is filled up to a number with what stands there at the start.
+ghost use Rattle.std.specs.Prelude.{◌≡◌, ℕ, OnOk, ◌<◌, vec_len};
+ghost use Rattle.std.specs.VecDeque.{deque_capacity, deque_len};
+ghost use Rattle.rayon_machine_parts.specs.State.{DequeFits, HasPool, HasSeat, InjectorFits, SeatFits, call_at, job_at, pool_at, pool_of, seat_of, seat_at, seat_in, shape_of, stack_of, blank_pool, blank_seat, first_stack, caller_in, stack_at, worker_in};
+ghost use Rattle.rayon_machine_places.specs.World.{Shape};
+
+use crate::numbers::{PoolNumbers, WorkerFlags};
+use crate::parties::{Crew, Stack};
+use crate::parts::{Bench, Pool, Seat};
+use crate::shapes::Shapes;
+use rayon_machine_places::act::Act;
+use rayon_machine_places::error::StepError;
+use rayon_machine_places::place::Party;
+use rayon_machine_places::state::{Call, Job, Letter};
+use std::alloc::Global;
+use std::collections::VecDeque;
+
+/// Room for the job of this number.
+pub fn grow_jobs(jobs: &mut Vec<Job>, number: usize) -> Result<(), StepError>
+    ensures same { (n : ℕ) → job_at jobs.new.items n ≡ job_at jobs.old.items n }
+    ensures room { OnOk result (number < vec_len jobs.new) }
+{
+    'fill: while jobs.len() <= number {
+        if jobs.push(Job::blank()).is_err() {
+            return Err(StepError::NoRoom);
+        }
+    }
+    Ok(())
+}
+
+/// Room for the call of this number.
+pub fn grow_calls(calls: &mut Vec<Call>, number: usize) -> Result<(), StepError>
+    ensures same { (n : ℕ) → call_at calls.new.items n ≡ call_at calls.old.items n }
+    ensures room { OnOk result (number < vec_len calls.new) }
+{
+    'fill: while calls.len() <= number {
+        if calls.push(Call::waiting(None, 0)).is_err() {
+            return Err(StepError::NoRoom);
+        }
+    }
+    Ok(())
+}
+
+/// Room for the pool of this index.
+pub fn grow_pools(alloc: Global, pools: &mut Vec<Pool>, index: usize) -> Result<(), StepError>
+    ensures same { (p : ℕ) → pool_at pools.new.items p ≡ pool_at pools.old.items p }
+    ensures room { OnOk result (index < vec_len pools.new) }
+{
+    'fill: while pools.len() <= index {
+        if pools.push(Pool::blank(alloc)).is_err() {
+            return Err(StepError::NoRoom);
+        }
+    }
+    Ok(())
+}
+
+/// Room for the seats of the pool of this index.
+pub(crate) fn grow_benches(
+    alloc: Global,
+    benches: &mut Vec<Bench>,
+    pool: usize,
+) -> Result<(), StepError>
+    ensures same { (p i : ℕ) → seat_at benches.new.items p i ≡ seat_at benches.old.items p i }
+    ensures room { OnOk result (pool < vec_len benches.new) }
+{
+    'fill: while benches.len() <= pool {
+        if benches
+            .push(Bench {
+                seats: Vec::new(alloc),
+            })
+            .is_err()
+        {
+            return Err(StepError::NoRoom);
+        }
+    }
+    Ok(())
+}
+
+/// Room for the seat of this index.
+pub(crate) fn grow_seats(
+    alloc: Global,
+    seats: &mut Vec<Seat>,
+    index: usize,
+) -> Result<(), StepError>
+    ensures same { (i : ℕ) → seat_in seats.new.items i ≡ seat_in seats.old.items i }
+    ensures room { OnOk result (index < vec_len seats.new) }
+{
+    'fill: while seats.len() <= index {
+        if seats.push(Seat::blank(alloc)).is_err() {
+            return Err(StepError::NoRoom);
+        }
+    }
+    Ok(())
+}
+
+/// Room for the stacks of the workers of the pool of this index.
+pub(crate) fn grow_crews(alloc: Global, crews: &mut Vec<Crew>, pool: usize) -> Result<(), StepError>
+    ensures same { (h : Shape) (p i : ℕ) → worker_in h crews.new.items p i ≡ worker_in h crews.old.items p i }
+    ensures room { OnOk result (pool < vec_len crews.new) }
+{
+    'fill: while crews.len() <= pool {
+        if crews
+            .push(Crew {
+                stacks: Vec::new(alloc),
+            })
+            .is_err()
+        {
+            return Err(StepError::NoRoom);
+        }
+    }
+    Ok(())
+}
+
+/// Room for the stack of a worker.
+pub(crate) fn grow_stacks(
+    alloc: Global,
+    shapes: &Shapes,
+    pool: usize,
+    stacks: &mut Vec<Stack>,
+    index: usize,
+) -> Result<(), StepError>
+    ensures same { (i : ℕ) → stack_at (shape_of shapes.now) pool stacks.new.items i ≡ stack_at (shape_of shapes.now) pool stacks.old.items i }
+    ensures room { OnOk result (index < vec_len stacks.new) }
+{
+    'fill: while stacks.len() <= index {
+        let party = Party::Worker {
+            pool,
+            index: stacks.len(),
+        };
+        if stacks.push(Stack::first(alloc, shapes, party)).is_err() {
+            return Err(StepError::NoRoom);
+        }
+    }
+    Ok(())
+}
+
+/// Room for the stack of an outside caller.
+pub(crate) fn grow_callers(
+    alloc: Global,
+    shapes: &Shapes,
+    callers: &mut Vec<Stack>,
+    number: usize,
+) -> Result<(), StepError>
+    ensures same { (c : ℕ) → caller_in (shape_of shapes.now) callers.new.items c ≡ caller_in (shape_of shapes.now) callers.old.items c }
+    ensures room { OnOk result (number < vec_len callers.new) }
+{
+    'fill: while callers.len() <= number {
+        let party = Party::Caller(callers.len());
+        if callers.push(Stack::first(alloc, shapes, party)).is_err() {
+            return Err(StepError::NoRoom);
+        }
+    }
+    Ok(())
+}
+
+impl Stack {
+    /// The stack of a party at the start.
+    fn first(alloc: Global, shapes: &Shapes, party: Party) -> Stack
+        ensures { stack_of result ≡ first_stack (shape_of shapes.now) party }
+    {
+        Stack {
+            top: shapes.first_place(party),
+            below: Vec::new(alloc),
+        }
+    }
+}
+
+/// Room for a pool, and for what an act injects.
+pub(crate) fn pool_room(
+    alloc: Global,
+    pools: &mut Vec<Pool>,
+    pool: usize,
+    act: Act,
+) -> Result<(), StepError>
+    ensures same { (p : ℕ) → pool_at pools.new.items p ≡ pool_at pools.old.items p }
+    ensures room { OnOk result (HasPool act pools.new.items pool) }
+{
+    grow_pools(alloc, pools, pool)?;
+    pool_fits(pools, pool, act)
+}
+
+/// Room in a stored pool for what an act injects.
+fn pool_fits(pools: &mut Vec<Pool>, pool: usize, act: Act) -> Result<(), StepError>
+    requires { pool < vec_len pools.old }
+    ensures same { (p : ℕ) → pool_at pools.new.items p ≡ pool_at pools.old.items p }
+    ensures room { OnOk result (HasPool act pools.new.items pool) }
+{
+    pools[pool].make_room(act)
+}
+
+/// Room for a seat, and for what an act pushes.
+pub(crate) fn seat_room(
+    alloc: Global,
+    benches: &mut Vec<Bench>,
+    pool: usize,
+    worker: usize,
+    act: Act,
+) -> Result<(), StepError>
+    ensures same { (p i : ℕ) → seat_at benches.new.items p i ≡ seat_at benches.old.items p i }
+    ensures room { OnOk result (HasSeat act benches.new.items pool worker) }
+{
+    grow_benches(alloc, benches, pool)?;
+    let bench = &mut benches[pool];
+    grow_seats(alloc, &mut bench.seats, worker)?;
+    seat_fits(&mut bench.seats, worker, act)
+}
+
+/// Room in a stored seat for what an act pushes.
+fn seat_fits(seats: &mut Vec<Seat>, worker: usize, act: Act) -> Result<(), StepError>
+    requires { worker < vec_len seats.old }
+    ensures same { (i : ℕ) → seat_in seats.new.items i ≡ seat_in seats.old.items i }
+    ensures room { OnOk result (SeatFits act seats.new.items worker) }
+{
+    seats[worker].make_room(act)
+}
+
+impl Pool {
+    /// A pool at the start.
+    fn blank(alloc: Global) -> Pool
+        ensures { pool_of result ≡ blank_pool }
+    {
+        Pool {
+            injector: VecDeque::new(alloc),
+            casts: Vec::new(alloc),
+            numbers: PoolNumbers {
+                turn: 0,
+                count: 1,
+                held: true,
+                counted: true,
+            },
+        }
+    }
+
+    /// Room for what an act injects.
+    fn make_room(&mut self, act: Act) -> Result<(), StepError>
+        ensures same { pool_of self.new ≡ pool_of self.old }
+        ensures room { OnOk result (InjectorFits act (deque_len self.new.injector) (deque_capacity self.new.injector)) }
+    {
+        match act {
+            Act::PushInj { .. } => if self.injector.try_reserve(1).is_err() {
+                Err(StepError::NoRoom)
+            } else {
+                Ok(())
+            },
+            _ => Ok(()),
+        }
+    }
+}
+
+impl Seat {
+    /// A seat at the start.
+    fn blank(alloc: Global) -> Seat
+        ensures { seat_of result ≡ blank_seat }
+    {
+        Seat {
+            own: VecDeque::new(alloc),
+            flags: WorkerFlags {
+                inactive: false,
+                asleep: false,
+                blocked: false,
+                latch: Letter::Unset,
+                lock: None,
+            },
+        }
+    }
+
+    /// Room for what an act pushes.
+    fn make_room(&mut self, act: Act) -> Result<(), StepError>
+        ensures same { seat_of self.new ≡ seat_of self.old }
+        ensures room { OnOk result (DequeFits act (deque_len self.new.own) (deque_capacity self.new.own)) }
+    {
+        match act {
+            Act::PushOwn(_) => if self.own.try_reserve(1).is_err() {
+                Err(StepError::NoRoom)
+            } else {
+                Ok(())
+            },
+            _ => Ok(()),
+        }
+    }
+}

@@ -1,0 +1,59 @@
+//! The kinds of acts, by what they touch.
+ghost use Rattle.rayon_machine_parts.specs.State.{kind_holds};
+
+use rayon_machine_places::act::Act;
+
+/// The kinds of acts, by what they touch.
+#[derive(Clone, Copy)]
+pub(crate) enum Kind {
+    /// A queue.
+    Queueing,
+    /// The counters of inactive and sleeping workers, or the turn.
+    Counting,
+    /// A latch or a cell.
+    Latching,
+    /// A sleep lock.
+    Locking,
+    /// A share of a terminate count, the run of a job, or nothing.
+    Sharing,
+}
+
+impl Kind {
+    /// The kind of an act.
+    pub(crate) fn of(act: Act) -> Kind
+        ensures { kind_holds result act }
+    {
+        match act {
+            Act::PopOwn
+            | Act::TakeCast
+            | Act::Steal { .. }
+            | Act::PopInj
+            | Act::LookCast
+            | Act::LookInj(_)
+            | Act::LookOwn
+            | Act::PushInj { .. }
+            | Act::PushOwn(_) => Kind::Queueing,
+            Act::AddInactive
+            | Act::Announce
+            | Act::Load
+            | Act::TryAdd { .. }
+            | Act::SubSleeping
+            | Act::SubInactive
+            | Act::News { .. } => Kind::Counting,
+            Act::Probe(_)
+            | Act::Sleepy(_)
+            | Act::Asleep(_)
+            | Act::Wakeup(_)
+            | Act::Set { .. }
+            | Act::LockSet(_)
+            | Act::LockWait(_)
+            | Act::Grow(_)
+            | Act::Store { .. }
+            | Act::Take(_) => Kind::Latching,
+            Act::Lock { .. } | Act::Block | Act::Unlock { .. } | Act::Wake { .. } => Kind::Locking,
+            Act::Begin(_) | Act::Lower { .. } | Act::Raise { .. } | Act::Pick | Act::Idle => {
+                Kind::Sharing
+            }
+        }
+    }
+}

@@ -1,0 +1,127 @@
+//! Writes to the parts of a world: a pool, a seat, a call or a job is changed, and all else stays as it was.
+ghost use Rattle.std.specs.Prelude.{◌≡◌, ℕ, ◌<◌, vec_len, false, ◌+◌};
+ghost use Rattle.std.specs.VecDeque.{deque_capacity, deque_len};
+ghost use Rattle.rayon_machine_places.specs.Steps.{put, put_seat};
+ghost use Rattle.rayon_machine_parts.specs.State.{DequeFits, HasPool, HasSeat, InjectorFits, SeatFits, call_at, job_at, pool_at, pool_of, seat_of, pool_queued, seat_at, seat_in, seat_queued, with_flags, with_numbers};
+
+use crate::numbers::{PoolNumbers, WorkerFlags};
+use crate::parts::{Bench, Pool, Seat};
+use crate::queues::{drop_newest, drop_oldest};
+use rayon_machine_places::act::Act;
+use rayon_machine_places::shape::Order;
+use rayon_machine_places::state::{Call, Job};
+
+impl Pool {
+    /// The pool with these numbers, after an act on its queues by the worker of this index.
+    fn write(&mut self, numbers: PoolNumbers, act: Act, index: usize)
+        requires { InjectorFits act (deque_len self.old.injector) (deque_capacity self.old.injector) }
+        ensures { pool_of self.new ≡ pool_queued act index (with_numbers (pool_of self.old) numbers) }
+    {
+        self.numbers = numbers;
+        match act {
+            Act::PopInj => drop_oldest(&mut self.injector),
+            Act::PushInj { job, .. } => {
+                let pushed = self.injector.push_back(job);
+                prove!(pushed.is_ok());
+            }
+            Act::TakeCast => if index < self.casts.len() {
+                drop_oldest(&mut self.casts[index]);
+            },
+            _ => {}
+        }
+    }
+}
+
+impl Seat {
+    /// The seat with these flags, after an act on its deque.
+    fn write(&mut self, flags: WorkerFlags, act: Act, order: Order)
+        requires { DequeFits act (deque_len self.old.own) (deque_capacity self.old.own) }
+        ensures { seat_of self.new ≡ seat_queued act order (with_flags (seat_of self.old) flags) }
+    {
+        self.flags = flags;
+        match act {
+            Act::PopOwn => match order {
+                Order::NewestFirst => drop_newest(&mut self.own),
+                Order::OldestFirst => drop_oldest(&mut self.own),
+            },
+            Act::Steal { .. } => drop_oldest(&mut self.own),
+            Act::PushOwn(job) => {
+                let pushed = self.own.push_back(job);
+                prove!(pushed.is_ok());
+            }
+            _ => {}
+        }
+    }
+}
+
+/// Writes a pool.
+pub(crate) fn write_pool(
+    pools: &mut Vec<Pool>,
+    pool: usize,
+    numbers: PoolNumbers,
+    act: Act,
+    index: usize,
+)
+    requires { HasPool act pools.old.items pool }
+    ensures { (p : ℕ) → pool_at pools.new.items p ≡ put (pool_at pools.old.items) pool (pool_queued act index (with_numbers (pool_at pools.old.items pool) numbers)) p }
+{
+    pools[pool].write(numbers, act, index)
+}
+
+/// Writes a seat in the list of a pool's seats.
+fn write_in(seats: &mut Vec<Seat>, worker: usize, flags: WorkerFlags, act: Act, order: Order)
+    requires { SeatFits act seats.old.items worker }
+    ensures { (i : ℕ) → seat_in seats.new.items i ≡ put (seat_in seats.old.items) worker (seat_queued act order (with_flags (seat_in seats.old.items worker) flags)) i }
+{
+    seats[worker].write(flags, act, order)
+}
+
+/// Writes a seat.
+pub(crate) fn write_seat(
+    benches: &mut Vec<Bench>,
+    pool: usize,
+    worker: usize,
+    flags: WorkerFlags,
+    act: Act,
+    order: Order,
+)
+    requires { HasSeat act benches.old.items pool worker }
+    ensures { (p i : ℕ) → seat_at benches.new.items p i ≡ put_seat (seat_at benches.old.items) pool worker (seat_queued act order (with_flags (seat_at benches.old.items pool worker) flags)) p i }
+{
+    let bench = &mut benches[pool];
+    write_in(&mut bench.seats, worker, flags, act, order)
+}
+
+/// Writes a call.
+pub fn write_call(calls: &mut Vec<Call>, number: u64, call: Call)
+    requires { number < vec_len calls.old }
+    ensures { (c : ℕ) → call_at calls.new.items c ≡ put (call_at calls.old.items) number call c }
+{
+    calls[number as usize] = call;
+}
+
+/// Writes a job.
+pub fn write_job(jobs: &mut Vec<Job>, number: u64, job: Job)
+    requires { number < vec_len jobs.old }
+    ensures values { (t : ℕ) → job_at jobs.new.items t ≡ put (job_at jobs.old.items) number job t }
+    ensures len { vec_len jobs.new ≡ vec_len jobs.old }
+{
+    jobs[number as usize] = job;
+}
+
+/// Writes a job, and the one of the next number.
+pub fn write_jobs(jobs: &mut Vec<Job>, number: u64, first: Job, second: Job)
+    requires { number + 1 < vec_len jobs.old }
+    ensures { (t : ℕ) → job_at jobs.new.items t ≡ put (put (job_at jobs.old.items) number first) (number + 1) second t }
+{
+    write_job(jobs, number, first);
+    write_job(jobs, number + 1, second);
+}
+
+/// A pool's value is no longer held.
+pub fn release(pools: &mut Vec<Pool>, pool: usize)
+    requires { pool < vec_len pools.old }
+    ensures { (p : ℕ) → pool_at pools.new.items p ≡ put (pool_at pools.old.items) pool (record (pool_at pools.old.items pool) { held = false }) p }
+{
+    pools[pool].numbers.held = false;
+}

@@ -1,0 +1,229 @@
+-- one step: the relation between two worlds, as a function that answers None where the event is not enabled
+use Rattle.std.specs.Prelude.{ℕ, Bool, true, false, ◌&&◌, ◌+◌, ◌==◌, nat_lt, if◌then◌else◌, Option, Some, None, List, [], ◌∷◌}
+use Rattle.rayon_machine_places.specs.declared.shape.Order.{Order}
+use Rattle.rayon_machine_places.specs.declared.shape.Order.TheVariants.{NewestFirst, OldestFirst}
+use Rattle.rayon_machine_places.specs.declared.place.Party.{Party}
+use Rattle.rayon_machine_places.specs.declared.place.Party.TheVariants.{Worker, Caller}
+use Rattle.rayon_machine_places.specs.declared.place.Ending.{Ending}
+use Rattle.rayon_machine_places.specs.declared.place.JobKind.{JobKind}
+use Rattle.rayon_machine_places.specs.declared.place.JobKind.TheVariants.{Detached, Stored, Direct}
+use Rattle.rayon_machine_places.specs.declared.place.Plan.{Plan}
+use Rattle.rayon_machine_places.specs.declared.place.Plan.TheVariants.{Detach, Here, Send, Fork}
+use Rattle.rayon_machine_places.specs.declared.place.Share.TheVariants.{PoolValue, OfJob}
+use Rattle.rayon_machine_places.specs.declared.place.Then.TheVariants.{Resume}
+use Rattle.rayon_machine_places.specs.declared.place.Place.{Place}
+use Rattle.rayon_machine_places.specs.declared.place.Place.TheVariants.{PickVictim, StealFrom, YieldPop, YieldPick, YieldSteal, LocalPop, Run, RaiseCount, LowerCount, StoreResult, Stopped}
+use Rattle.rayon_machine_places.specs.declared.place.Move.{Move}
+use Rattle.rayon_machine_places.specs.declared.place.Move.TheVariants.{Stay, Enter, StartRun, Back, HandBack}
+use Rattle.rayon_machine_places.specs.declared.act.Act.{Act}
+use Rattle.rayon_machine_places.specs.declared.act.Seen.{Seen}
+use Rattle.rayon_machine_places.specs.declared.act.Seen.TheVariants.{Refused, Missing, Start}
+use Rattle.rayon_machine_places.specs.declared.event.Event.{Event}
+use Rattle.rayon_machine_places.specs.declared.event.Event.TheVariants.{Go, From, Refuse, Miss, End, Spawn, Install, Join, Yield, YieldLocal, EndPool}
+use Rattle.rayon_machine_places.specs.declared.state.Letter.TheVariants.{Unset}
+use Rattle.rayon_machine_places.specs.declared.state.Whereabouts.TheVariants.{Nowhere, Made, Over, HandedBack}
+use Rattle.rayon_machine_places.specs.declared.state.Job.{Job}
+use Rattle.rayon_machine_places.specs.declared.state.Call.{Call}
+use Rattle.rayon_machine_places.specs.Places.{same_party, own_pool, is_member, act_of, next_of, goes_on, is_refusable, is_free}
+use Rattle.rayon_machine_places.specs.World.{Shape, Seat, Stack, World, counts_at, Part, target_pool, target_worker, target_call, target_job, Outcome, at_job, begun, effect}
+
+-- a function that is another at one argument
+abbrev pub put : {A : Type 0} → (ℕ → A) → ℕ → A → ℕ → A
+put f k v n = if n == k then v else f n
+
+abbrev pub put_stack : (Party → Stack) → Party → Stack → Party → Stack
+put_stack f q x r = if same_party r q then x else f r
+
+abbrev pub put_seat : (ℕ → ℕ → Seat) → ℕ → ℕ → Seat → ℕ → ℕ → Seat
+put_seat f p i s q j = if (q == p) && (j == i) then s else f q j
+
+-- the part of the world at a pool, a worker, a call and a job
+abbrev pub part_of : World → ℕ → ℕ → ℕ → ℕ → Part
+part_of w p i c n = record { pool = w.pool p; seat = w.seat p i; call = w.call c; job = w.job n }
+
+-- the stack after a party has gone back to the frame below
+abbrev pub back : List Place → Stack
+back [] = record { top = Stopped; below = [] }
+back (f ∷ fs) = record { top = f; below = fs }
+
+-- the stack after a move
+abbrev pub after_move : Move → List Place → Stack
+after_move (Stay y) fs = record { top = y; below = fs }
+after_move (Enter f y) fs = record { top = y; below = f ∷ fs }
+after_move (StartRun f t) fs = record { top = Run t Direct; below = f ∷ fs }
+after_move Back fs = back fs
+after_move (HandBack n) fs = back fs
+
+-- the jobs of a refused call are handed back
+abbrev pub handed_back : Plan → (ℕ → Job) → ℕ → Job
+handed_back (Detach p t) f = put f t (at_job (f t) HandedBack)
+handed_back (Here p t) f = put f t (at_job (f t) HandedBack)
+handed_back (Send o) f = put f o.job (at_job (f o.job) HandedBack)
+handed_back (Fork o a) f = put (put f a (at_job (f a) HandedBack)) o.job (at_job (f o.job) HandedBack)
+
+-- the jobs after a move: a run begins, or a refused call's jobs are handed back
+abbrev pub jobs_after : Party → Move → (ℕ → Job) → ℕ → Job
+jobs_after q (StartRun f t) g = put g t (begun q (g t))
+jobs_after q (HandBack n) g = handed_back n g
+jobs_after q _ g = g
+
+-- the world after an act: the part that it touches, the party's stack, and the jobs that its move begins or hands back
+abbrev pub after : World → Party → Stack → ℕ → ℕ → ℕ → ℕ → Seen × Part → World
+after w q s p i c n r = record w {
+  stack = put_stack w.stack q (after_move (next_of (w.shape.pool p) q s.top (r.0)) s.below);
+  seat = put_seat w.seat p i (r.1.seat);
+  pool = put w.pool p (r.1.pool);
+  call = put w.call c (r.1.call);
+  job = jobs_after q (next_of (w.shape.pool p) q s.top (r.0)) (put w.job n (r.1.job));
+}
+
+abbrev pub after_outcome : World → Party → Stack → ℕ → ℕ → ℕ → ℕ → Outcome → Option World
+after_outcome w q s p i c n None = None
+after_outcome w q s p i c n (Some r) = Some (after w q s p i c n r)
+
+-- a party's act
+abbrev pub act_at : World → Party → Stack → Act → Option World
+act_at w q s a =
+    let p = target_pool q a in let i = target_worker q a in let c = target_call a in
+    let n = target_job w.shape q a (w.pool p) (w.seat p i) in
+    after_outcome w q s p i c n (effect a w.shape q (counts_at w p) (part_of w p i c n))
+
+-- the world where one party has moved and nothing else is changed
+abbrev pub with_stack : World → Party → Stack → World
+with_stack w q s = record w { stack = put_stack w.stack q s }
+
+-- the party goes on as if its act had seen this
+abbrev pub seeing : World → Party → Stack → ℕ → Seen → World
+seeing w q s p e = with_stack w q (after_move (next_of (w.shape.pool p) q s.top e) s.below)
+
+-- a victim is chosen, a worker of the own pool
+abbrev pub after_choice : World → Party → Stack → Place → ℕ → Option World
+after_choice w q s (PickVictim k) v = if nat_lt v (w.shape.pool (own_pool q)).workers then Some (seeing w q s (own_pool q) (Start v)) else None
+after_choice w q s YieldPick v = if nat_lt v (w.shape.pool (own_pool q)).workers then Some (seeing w q s (own_pool q) (Start v)) else None
+after_choice w q s _ v = None
+
+-- the next act is refused, where it can be
+abbrev pub after_refusal : World → Party → Stack → Option World
+after_refusal w q s = if is_refusable s.top then Some (seeing w q s (own_pool q) Refused) else None
+
+abbrev pub has_one : List ℕ → Bool
+has_one [] = false
+has_one (x ∷ []) = true
+has_one (x ∷ y ∷ ys) = false
+
+abbrev pub is_newest_first : Order → Bool
+is_newest_first NewestFirst = true
+is_newest_first OldestFirst = false
+
+-- a thief can miss the one task of this worker's deque, where the newest is taken first
+abbrev pub can_miss : World → ℕ → ℕ → Bool
+can_miss w p v = is_newest_first (w.shape.pool p).order && has_one (w.seat p v).own
+
+-- a steal misses
+abbrev pub after_miss : World → Party → Stack → Place → Option World
+after_miss w (Worker p i) s (StealFrom k n) = if can_miss w p k.victim then Some (seeing w (Worker p i) s p Missing) else None
+after_miss w (Worker p i) s (YieldSteal v n) = if can_miss w p v then Some (seeing w (Worker p i) s p Missing) else None
+after_miss w q s _ = None
+
+-- the frame below a run goes on
+abbrev pub after_resume : List Place → Ending → Stack
+after_resume [] e = record { top = Stopped; below = [] }
+after_resume (f ∷ fs) e = record { top = goes_on f e; below = fs }
+
+-- what the end of a run sets going
+abbrev pub after_close : ℕ → JobKind → Ending → List Place → Stack
+after_close t (Detached p) e fs = record { top = LowerCount p (OfJob t) Resume; below = fs }
+after_close t (Stored c o) e fs = record { top = StoreResult c o e; below = fs }
+after_close t Direct e fs = after_resume fs e
+
+-- the run on top ends
+abbrev pub after_end : World → Party → Ending → Stack → Place → Option World
+after_end w q e s (Run t k) = Some (record w { stack = put_stack w.stack q (after_close t k e s.below); job = put w.job t (at_job (w.job t) (Over e)) })
+after_end w q e s _ = None
+
+-- a call begins above what the party did
+abbrev pub after_call : Stack → Place → Stack
+after_call s x = record { top = x; below = s.top ∷ s.below }
+
+abbrev pub is_pool : Shape → ℕ → Bool
+is_pool h p = nat_lt 0 (h.pool p).workers
+
+-- a job that a party's call has made at a pool
+abbrev pub new_job : Party → ℕ → JobKind → Job
+new_job q p k = record { kind = k; pool = p; at = Made q; runs = 0; counted = false }
+
+-- a job whose number is not given out
+abbrev pub blank_job : Job
+blank_job = record { kind = Direct; pool = 0; at = Nowhere; runs = 0; counted = false }
+
+-- a call that waits for a job
+abbrev pub new_call : Option ℕ → ℕ → Call
+new_call first t = record { latch = Unset; cell = None; first = first; job = t }
+
+abbrev pub after_spawn : World → Party → ℕ → Stack → Option World
+after_spawn w q p s =
+    if is_free s.top && is_pool w.shape p
+    then Some (record w {
+      stack = put_stack w.stack q (after_call s (RaiseCount (Detach p w.jobs)));
+      job = put w.job w.jobs (new_job q p (Detached p));
+      jobs = w.jobs + 1;
+    })
+    else None
+
+-- an install by a worker of the pool, and by others
+abbrev pub after_send : World → Party → ℕ → Stack → Bool → World
+after_send w q p s true = record w {
+  stack = put_stack w.stack q (after_call s (RaiseCount (Here p w.jobs)));
+  job = put w.job w.jobs (new_job q p Direct);
+  jobs = w.jobs + 1;
+}
+after_send w q p s false = record w {
+  stack = put_stack w.stack q (after_call s (RaiseCount (Send (record { number = w.calls; pool = p; job = w.jobs }))));
+  job = put w.job w.jobs (new_job q p (Stored w.calls q));
+  call = put w.call w.calls (new_call None w.jobs);
+  jobs = w.jobs + 1;
+  calls = w.calls + 1;
+}
+
+abbrev pub after_install : World → Party → ℕ → Stack → Option World
+after_install w q p s = if is_free s.top && is_pool w.shape p then Some (after_send w q p s (is_member q p)) else None
+
+-- a join makes two jobs, the first side and then the second
+abbrev pub after_join : World → Party → Stack → Option World
+after_join w (Worker p i) s =
+    if is_free s.top
+    then Some (record w {
+      stack = put_stack w.stack (Worker p i) (after_call s (RaiseCount (Fork (record { number = w.calls; pool = p; job = w.jobs + 1 }) w.jobs)));
+      job = put (put w.job w.jobs (new_job (Worker p i) p Direct)) (w.jobs + 1) (new_job (Worker p i) p (Stored w.calls (Worker p i)));
+      call = put w.call w.calls (new_call (Some w.jobs) (w.jobs + 1));
+      jobs = w.jobs + 2;
+      calls = w.calls + 1;
+    })
+    else None
+after_join w (Caller c) s = None
+
+-- a worker yields, beginning at this place
+abbrev pub after_yield : World → Party → Stack → Place → Option World
+after_yield w (Worker p i) s x = if is_free s.top then Some (with_stack w (Worker p i) (after_call s x)) else None
+after_yield w (Caller c) s x = None
+
+-- a pool's value is given up
+abbrev pub after_end_pool : World → Party → ℕ → Stack → Option World
+after_end_pool w q p s =
+    if is_free s.top && (is_pool w.shape p && (w.pool p).held)
+    then Some (record w { stack = put_stack w.stack q (after_call s (LowerCount p PoolValue Resume)); pool = put w.pool p (record (w.pool p) { held = false }) })
+    else None
+
+-- one step: the world after an event, or None where the event is not enabled
+abbrev pub step : World → Event → Option World
+step w (Go q) = act_at w q (w.stack q) (act_of q (w.stack q).top)
+step w (From q v) = after_choice w q (w.stack q) (w.stack q).top v
+step w (Refuse q) = after_refusal w q (w.stack q)
+step w (Miss q) = after_miss w q (w.stack q) (w.stack q).top
+step w (End q e) = after_end w q e (w.stack q) (w.stack q).top
+step w (Spawn q p) = after_spawn w q p (w.stack q)
+step w (Install q p) = after_install w q p (w.stack q)
+step w (Join q) = after_join w q (w.stack q)
+step w (Yield q) = after_yield w q (w.stack q) YieldPop
+step w (YieldLocal q) = after_yield w q (w.stack q) LocalPop
+step w (EndPool q p) = after_end_pool w q p (w.stack q)

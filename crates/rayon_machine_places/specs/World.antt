@@ -1,0 +1,345 @@
+-- the world, and what each act does to the part of it that it touches
+use Rattle.std.specs.Prelude.{ℕ, zero, suc, Bool, true, false, not, ◌&&◌, ◌+◌, ◌-◌, ◌%◌, ◌^◌, ◌==◌, min, nat_lt, if◌then◌else◌, Option, Some, None, List, [], ◌∷◌, ◌++◌}
+use Rattle.rayon_machine_places.specs.declared.shape.Order.{Order}
+use Rattle.rayon_machine_places.specs.declared.shape.Order.TheVariants.{NewestFirst, OldestFirst}
+use Rattle.rayon_machine_places.specs.declared.place.Party.{Party}
+use Rattle.rayon_machine_places.specs.declared.place.Party.TheVariants.{Worker}
+use Rattle.rayon_machine_places.specs.declared.place.Ending.{Ending}
+use Rattle.rayon_machine_places.specs.declared.place.Latch.{Latch}
+use Rattle.rayon_machine_places.specs.declared.place.Latch.TheVariants.{Terminate, OfCall}
+use Rattle.rayon_machine_places.specs.declared.place.Share.{Share}
+use Rattle.rayon_machine_places.specs.declared.place.Share.TheVariants.{PoolValue, OfJob}
+use Rattle.rayon_machine_places.specs.declared.place.Place.{Place}
+use Rattle.rayon_machine_places.specs.declared.act.Act.{Act}
+use Rattle.rayon_machine_places.specs.declared.act.Act.TheVariants.{Probe, PopOwn, TakeCast, AddInactive, Pick, Steal, PopInj, Announce, Sleepy, Lock, Asleep, Load, TryAdd, LookCast, LookInj, LookOwn, Block, SubSleeping, Wakeup, Unlock, SubInactive, Wake, Begin, PushInj, PushOwn, News, Set, LockSet, LockWait, Lower, Raise, Grow, Store, Take, Idle}
+use Rattle.rayon_machine_places.specs.declared.act.Seen.{Seen}
+use Rattle.rayon_machine_places.specs.declared.act.Seen.TheVariants.{Done, Refused, Yes, No, Task, Missing, Jec, Word, Start, Wakes, Begun, Found}
+use Rattle.rayon_machine_places.specs.declared.state.Letter.{Letter}
+use Rattle.rayon_machine_places.specs.declared.state.Letter.TheVariants.{Unset, Sleepy as IsSleepy, Sleeping, Set as IsSet}
+use Rattle.rayon_machine_places.specs.declared.state.Whereabouts.{Whereabouts}
+use Rattle.rayon_machine_places.specs.declared.state.Whereabouts.TheVariants.{InDeque, Injected, Running}
+use Rattle.rayon_machine_places.specs.declared.shape.PoolShape.{PoolShape}
+use Rattle.rayon_machine_places.specs.declared.state.Job.{Job}
+use Rattle.rayon_machine_places.specs.declared.state.Call.{Call}
+use Rattle.rayon_machine_places.specs.Places.{same_party, own_pool, own_index}
+
+-- what is the same in every world of a run: the pools (one without workers is none), the outside callers, and the bits of the event counter
+pub record Shape : Type 0 where
+  pub pool : ℕ → PoolShape
+  pub callers : ℕ
+  pub jec_bits : ℕ
+
+-- a worker's own deque, the oldest task first; whether it is in the sets inactive, asleep and blocked; its terminate latch; who holds its sleep lock
+pub record Seat : Type 0 where
+  pub own : List ℕ
+  pub inactive : Bool
+  pub asleep : Bool
+  pub blocked : Bool
+  pub latch : Letter
+  pub lock : Option Party
+
+-- a pool's injector, the oldest task first; each worker's broadcast list; the turn, which never wraps; the terminate count; whether the pool's value is held; whether its share is in the count
+pub record Pool : Type 0 where
+  pub injector : List ℕ
+  pub casts : ℕ → List ℕ
+  pub turn : ℕ
+  pub count : ℕ
+  pub held : Bool
+  pub counted : Bool
+
+-- where a party stands, and the frames that it goes back to
+pub record Stack : Type 0 where
+  pub top : Place
+  pub below : List Place
+
+-- every party's stack, every worker's seat, every pool; calls and jobs by number, with how many numbers are given out
+pub record World : Type 0 where
+  pub shape : Shape
+  pub stack : Party → Stack
+  pub seat : ℕ → ℕ → Seat
+  pub pool : ℕ → Pool
+  pub call : ℕ → Call
+  pub job : ℕ → Job
+  pub calls : ℕ
+  pub jobs : ℕ
+
+-- how many numbers below n pass a test
+abbrev pub count_below : ℕ → (ℕ → Bool) → ℕ
+count_below zero f = 0
+count_below (suc n) f = if f n then 1 + count_below n f else count_below n f
+
+-- the sizes of a pool's sets asleep and inactive
+pub record Counts : Type 0 where
+  pub sleeping : ℕ
+  pub inactive : ℕ
+
+abbrev pub counts_at : World → ℕ → Counts
+counts_at w p = record {
+  sleeping = count_below (w.shape.pool p).workers (λ i. (w.seat p i).asleep);
+  inactive = count_below (w.shape.pool p).workers (λ i. (w.seat p i).inactive);
+}
+
+abbrev pub is_even : ℕ → Bool
+is_even n = (n % 2) == 0
+
+-- the event counter: the turn modulo 2 to the number of its bits. With one bit or more it is even exactly where the turn is
+abbrev pub jec : Shape → ℕ → ℕ
+jec h turn = turn % (2 ^ h.jec_bits)
+
+-- how many to wake for one new task: nobody if nobody sleeps or, where the queue was empty, a worker is awake and idle
+abbrev pub wakes_for_one : Bool → Counts → ℕ
+wakes_for_one was_empty c =
+    if c.sleeping == 0 then 0
+    else if not was_empty then 1
+    else if nat_lt (c.inactive - c.sleeping) 1 then 1 else 0
+
+-- what an act touches: one pool, one worker's seat in it, one call and one job
+pub record Part : Type 0 where
+  pub pool : Pool
+  pub seat : Seat
+  pub call : Call
+  pub job : Job
+
+-- the pool that an act touches: the one that it names, else the party's own
+abbrev pub target_pool : Party → Act → ℕ
+target_pool q (Lock p i) = p
+target_pool q (Unlock p i) = p
+target_pool q (Wake p i) = p
+target_pool q (Set l p i) = p
+target_pool q (Steal p i) = p
+target_pool q (LookInj p) = p
+target_pool q (PushInj p t) = p
+target_pool q (News p e) = p
+target_pool q (Lower p s) = p
+target_pool q (Raise p t) = p
+target_pool q _ = own_pool q
+
+-- the worker that an act touches: the one that it names, else the party itself
+abbrev pub target_worker : Party → Act → ℕ
+target_worker q (Lock p i) = i
+target_worker q (Unlock p i) = i
+target_worker q (Wake p i) = i
+target_worker q (Set l p i) = i
+target_worker q (Steal p i) = i
+target_worker q _ = own_index q
+
+-- the call of a latch
+abbrev pub call_of : Latch → ℕ
+call_of Terminate = 0
+call_of (OfCall c) = c
+
+-- the call that an act touches, if it touches one
+abbrev pub target_call : Act → ℕ
+target_call (Probe l) = call_of l
+target_call (Sleepy l) = call_of l
+target_call (Asleep l) = call_of l
+target_call (Wakeup l) = call_of l
+target_call (Set l p i) = call_of l
+target_call (LockSet c) = c
+target_call (LockWait c) = c
+target_call (Grow c) = c
+target_call (Store c e) = c
+target_call (Take c) = c
+target_call _ = 0
+
+-- the first and the last of a list, and what is left without it
+abbrev pub head_of : List ℕ → Option ℕ
+head_of [] = None
+head_of (t ∷ ts) = Some t
+
+abbrev pub last_of : List ℕ → Option ℕ
+last_of [] = None
+last_of (t ∷ []) = Some t
+last_of (t ∷ u ∷ ts) = last_of (u ∷ ts)
+
+abbrev pub but_first : List ℕ → List ℕ
+but_first [] = []
+but_first (t ∷ ts) = ts
+
+abbrev pub but_last : List ℕ → List ℕ
+but_last [] = []
+but_last (t ∷ []) = []
+but_last (t ∷ u ∷ ts) = t ∷ but_last (u ∷ ts)
+
+-- the task that a worker takes from its own deque, and what is left
+abbrev pub own_of : Order → List ℕ → Option ℕ
+own_of NewestFirst l = last_of l
+own_of OldestFirst l = head_of l
+
+abbrev pub own_left : Order → List ℕ → List ℕ
+own_left NewestFirst l = but_last l
+own_left OldestFirst l = but_first l
+
+abbrev pub or_none : Option ℕ → ℕ
+or_none None = 0
+or_none (Some t) = t
+
+-- the job of a share
+abbrev pub share_job : Share → ℕ
+share_job PoolValue = 0
+share_job (OfJob t) = t
+
+-- the job that an act touches: the one that it names, or that it finds in its list
+abbrev pub target_job : Shape → Party → Act → Pool → Seat → ℕ
+target_job h q (Begin t) v s = t
+target_job h q (PushInj p t) v s = t
+target_job h q (PushOwn t) v s = t
+target_job h q (Raise p t) v s = t
+target_job h q (Lower p b) v s = share_job b
+target_job h q PopOwn v s = or_none (own_of (h.pool (own_pool q)).order s.own)
+target_job h q TakeCast v s = or_none (head_of (v.casts (own_index q)))
+target_job h q (Steal p i) v s = or_none (head_of s.own)
+target_job h q PopInj v s = or_none (head_of v.injector)
+target_job h q _ v s = 0
+
+-- the job that an act touches, where this task stands at the end of its queue
+abbrev pub aimed_job : Act → Option ℕ → ℕ
+aimed_job (Begin t) found = t
+aimed_job (PushInj p t) found = t
+aimed_job (PushOwn t) found = t
+aimed_job (Raise p t) found = t
+aimed_job (Lower p b) found = share_job b
+aimed_job PopOwn found = or_none found
+aimed_job TakeCast found = or_none found
+aimed_job (Steal p i) found = or_none found
+aimed_job PopInj found = or_none found
+aimed_job _ found = 0
+
+-- an act's lock is the party's own
+abbrev pub is_own : Party → ℕ → ℕ → Bool
+is_own q p i = same_party q (Worker p i)
+
+abbrev pub empty_seen : List ℕ → Seen
+empty_seen [] = Yes
+empty_seen (x ∷ xs) = No
+
+abbrev pub is_free_lock : Option Party → Bool
+is_free_lock None = true
+is_free_lock (Some q) = false
+
+abbrev pub is_held_by : Party → Option Party → Bool
+is_held_by q None = false
+is_held_by q (Some r) = same_party q r
+
+-- what an act sees and how it leaves its part, or None where it is not enabled
+abbrev pub Outcome : Type 0
+Outcome = Option (Seen × Part)
+
+-- the letter of a latch, and the part with another letter there
+abbrev pub letter : Latch → Part → Letter
+letter Terminate m = m.seat.latch
+letter (OfCall c) m = m.call.latch
+
+abbrev pub with_letter : Latch → Part → Letter → Part
+with_letter Terminate m x = record m { seat = record (m.seat) { latch = x } }
+with_letter (OfCall c) m x = record m { call = record (m.call) { latch = x } }
+
+abbrev pub is_set : Letter → Seen
+is_set IsSet = Yes
+is_set _ = No
+
+-- the core latch's steps, by the letter that stands there
+abbrev pub sleepy : Latch → Part → Letter → Outcome
+sleepy l m Unset = Some (Done, with_letter l m IsSleepy)
+sleepy l m _ = Some (Refused, m)
+
+abbrev pub fall_asleep : Latch → Part → Letter → Outcome
+fall_asleep l m IsSleepy = Some (Done, with_letter l m Sleeping)
+fall_asleep l m _ = Some (Refused, m)
+
+abbrev pub wake_up : Latch → Part → Letter → Outcome
+wake_up l m IsSet = Some (Done, m)
+wake_up l m _ = Some (Done, with_letter l m Unset)
+
+abbrev pub set_latch : Latch → Part → Letter → Outcome
+set_latch l m Sleeping = Some (Yes, with_letter l m IsSet)
+set_latch l m _ = Some (No, with_letter l m IsSet)
+
+-- a lock latch is passed only when it is set
+abbrev pub lock_wait : Part → Letter → Outcome
+lock_wait m IsSet = Some (Done, m)
+lock_wait m _ = None
+
+-- what a cell holds is taken out
+abbrev pub found : Part → Option Ending → Outcome
+found m None = Some (Missing, m)
+found m (Some e) = Some (Found e, record m { call = record (m.call) { cell = None } })
+
+-- a job that is somewhere else
+abbrev pub at_job : Job → Whereabouts → Job
+at_job j x = record j { at = x }
+
+-- a job whose run a party begins
+abbrev pub begun : Party → Job → Job
+begun q j = record j { at = Running q; runs = j.runs + 1 }
+
+-- a task comes into a party's hand from a deque, from the own broadcast list, or from the injector
+abbrev pub popped : Party → Part → List ℕ → Option ℕ → Outcome
+popped q m rest None = Some (Missing, m)
+popped q m rest (Some t) = Some (Task t, record m { seat = record (m.seat) { own = rest }; job = at_job (m.job) (Running q) })
+
+abbrev pub take_cast : Party → Part → List ℕ → Outcome
+take_cast q m [] = Some (Missing, m)
+take_cast q m (t ∷ ts) = Some (Task t, record m { pool = record (m.pool) { casts = λ i. if i == own_index q then ts else m.pool.casts i }; job = at_job (m.job) (Running q) })
+
+abbrev pub pop_injector : Party → Part → List ℕ → Outcome
+pop_injector q m [] = Some (Missing, m)
+pop_injector q m (t ∷ ts) = Some (Task t, record m { pool = record (m.pool) { injector = ts }; job = at_job (m.job) (Running q) })
+
+-- a share is no longer in the count
+abbrev pub lowered : Part → Share → Part
+lowered m PoolValue = record m { pool = record (m.pool) { count = m.pool.count - 1; counted = false } }
+lowered m (OfJob t) = record m { pool = record (m.pool) { count = m.pool.count - 1 }; job = record (m.job) { counted = false } }
+
+-- what an act does, in one step, to the part of the world that it touches
+abbrev pub effect : Act → Shape → Party → Counts → Part → Outcome
+effect (Probe l) h q c m = Some (is_set (letter l m), m)
+effect PopOwn h q c m = popped q m (own_left (h.pool (own_pool q)).order m.seat.own) (own_of (h.pool (own_pool q)).order m.seat.own)
+effect TakeCast h q c m = take_cast q m (m.pool.casts (own_index q))
+effect AddInactive h q c m = Some (Done, record m { seat = record (m.seat) { inactive = true } })
+effect Pick h q c m = Some (Start 0, m)
+effect (Steal p v) h q c m = popped q m (but_first m.seat.own) (head_of m.seat.own)
+effect PopInj h q c m = pop_injector q m m.pool.injector
+effect Announce h q c m =
+    let turn = if is_even m.pool.turn then m.pool.turn else m.pool.turn + 1 in
+    Some (Jec (jec h turn), record m { pool = record (m.pool) { turn = turn } })
+effect (Sleepy l) h q c m = sleepy l m (letter l m)
+effect (Lock p i) h q c m =
+    if is_free_lock m.seat.lock && not (is_own q p i && m.seat.blocked)
+    then Some (Done, record m { seat = record (m.seat) { lock = Some q } })
+    else None
+effect (Asleep l) h q c m = fall_asleep l m (letter l m)
+effect Load h q c m = Some (Word c.sleeping c.inactive (jec h m.pool.turn), m)
+effect (TryAdd a b j) h q c m =
+    if (a == c.sleeping) && (b == c.inactive) && (j == jec h m.pool.turn)
+    then Some (Done, record m { seat = record (m.seat) { asleep = true } })
+    else Some (Refused, m)
+effect LookCast h q c m = Some (empty_seen (m.pool.casts (own_index q)), m)
+effect (LookInj p) h q c m = Some (empty_seen m.pool.injector, m)
+effect LookOwn h q c m = Some (empty_seen m.seat.own, m)
+effect Block h q c m = Some (Done, record m { seat = record (m.seat) { blocked = true; lock = None } })
+effect SubSleeping h q c m = Some (Done, record m { seat = record (m.seat) { asleep = false } })
+effect (Wakeup l) h q c m = wake_up l m (letter l m)
+effect (Unlock p i) h q c m =
+    if is_held_by q m.seat.lock then Some (Done, record m { seat = record (m.seat) { lock = None } }) else None
+effect SubInactive h q c m = Some (Wakes (min 2 c.sleeping), record m { seat = record (m.seat) { inactive = false } })
+effect (Wake p i) h q c m =
+    if m.seat.blocked
+    then Some (Yes, record m { seat = record (m.seat) { blocked = false; asleep = false } })
+    else Some (No, m)
+effect (Begin t) h q c m = Some (Begun (m.job.kind), record m { job = begun q m.job })
+effect (PushInj p t) h q c m = Some (Done, record m { pool = record (m.pool) { injector = m.pool.injector ++ t ∷ [] }; job = at_job (m.job) (Injected p) })
+effect (PushOwn t) h q c m = Some (Done, record m { seat = record (m.seat) { own = m.seat.own ++ t ∷ [] }; job = at_job (m.job) (InDeque (own_pool q) (own_index q)) })
+effect (News p e) h q c m =
+    Some (Wakes (wakes_for_one e c), record m { pool = record (m.pool) { turn = if is_even m.pool.turn then m.pool.turn + 1 else m.pool.turn } })
+effect (Set l p i) h q c m = set_latch l m (letter l m)
+effect (LockSet k) h q c m = Some (Done, record m { call = record (m.call) { latch = IsSet } })
+effect (LockWait k) h q c m = lock_wait m m.call.latch
+effect (Lower p s) h q c m = Some ((if m.pool.count == 1 then Yes else No), lowered m s)
+effect (Raise p t) h q c m =
+    if m.pool.count == 0 then Some (Refused, m)
+    else Some (Done, record m { pool = record (m.pool) { count = m.pool.count + 1 }; job = record (m.job) { counted = true } })
+effect (Grow k) h q c m = Some (Done, record m { call = record (m.call) { latch = Unset; cell = None } })
+effect (Store k e) h q c m = Some (Done, record m { call = record (m.call) { cell = Some e } })
+effect (Take k) h q c m = found m m.call.cell
+effect Idle h q c m = None

@@ -1,0 +1,225 @@
+//! Acts, each done in one atomic step, and what they see.
+ghost use Rattle.std.specs.Prelude.{◌≡◌};
+ghost use Rattle.rayon_machine_places.specs.World.{target_call, target_pool, target_worker, aimed_job};
+
+use crate::place::{Ending, JobKind, Latch, Party, Share};
+
+/// What a party does in one step. Pools and workers are named by index, jobs and calls by number.
+#[derive(Clone, Copy)]
+pub enum Act {
+    /// Sees whether a core latch is set.
+    Probe(Latch),
+    /// Takes a task from the own deque: the newest, or the oldest in a pool that is oldest first.
+    PopOwn,
+    /// Takes the oldest task of the own broadcast list.
+    TakeCast,
+    /// Adds the worker to the inactive ones.
+    AddInactive,
+    /// Chooses the victim to begin with.
+    Pick,
+    /// Takes the oldest task of the victim's deque.
+    Steal {
+        pool: usize,
+        victim: usize,
+    },
+    /// Takes the oldest injected task of the own pool.
+    PopInj,
+    /// Raises the turn if it is odd, and sees the event counter.
+    Announce,
+    /// Makes an unset core latch sleepy.
+    Sleepy(Latch),
+    /// Takes a worker's sleep lock. Its own worker cannot while it is blocked.
+    Lock {
+        pool: usize,
+        worker: usize,
+    },
+    /// Makes a sleepy core latch sleeping.
+    Asleep(Latch),
+    /// Reads the counters' word.
+    Load,
+    /// Adds the worker to the sleeping ones, if the word is still the one read.
+    TryAdd {
+        sleeping: u64,
+        inactive: u64,
+        jec: u64,
+    },
+    /// Sees whether the own broadcast list is empty.
+    LookCast,
+    /// Sees whether a pool's injector is empty.
+    LookInj(usize),
+    /// Sees whether the own deque is empty.
+    LookOwn,
+    /// Blocks the worker and frees its sleep lock.
+    Block,
+    /// Takes the worker out of the sleeping ones.
+    SubSleeping,
+    /// Makes a core latch unset, unless it is set.
+    Wakeup(Latch),
+    /// Leaves a worker's sleep lock.
+    Unlock {
+        pool: usize,
+        worker: usize,
+    },
+    /// Takes the worker out of the inactive ones, and sees how many to wake.
+    SubInactive,
+    /// Wakes a worker, if it is blocked.
+    Wake {
+        pool: usize,
+        worker: usize,
+    },
+    /// Begins the run of a job.
+    Begin(u64),
+    /// Adds a job last to a pool's injector.
+    PushInj {
+        pool: usize,
+        job: u64,
+    },
+    /// Adds a job last to the own deque.
+    PushOwn(u64),
+    /// Raises the turn if it is even, and sees how many to wake.
+    News {
+        pool: usize,
+        was_empty: bool,
+    },
+    /// Sets a core latch of this worker, and sees whether it slept.
+    Set {
+        latch: Latch,
+        pool: usize,
+        worker: usize,
+    },
+    /// Sets the lock latch of a call.
+    LockSet(u64),
+    /// Passes the lock latch of a call, once it is set.
+    LockWait(u64),
+    /// Gives a share of a pool's terminate count back, and sees whether it was the last.
+    Lower {
+        pool: usize,
+        share: Share,
+    },
+    /// Takes a share of a pool's terminate count for a job, unless the pool has ended.
+    Raise {
+        pool: usize,
+        job: u64,
+    },
+    /// Makes the latch and the cell of a call.
+    Grow(u64),
+    /// Puts the ending of its job into the cell of a call.
+    Store {
+        call: u64,
+        ending: Ending,
+    },
+    /// Takes what the cell of a call holds.
+    Take(u64),
+    /// Does nothing: no act is enabled here.
+    Idle,
+}
+
+/// What an act sees.
+#[derive(Clone, Copy)]
+pub enum Seen {
+    /// It was done.
+    Done,
+    /// It was refused, or found another state than the one it wants.
+    Refused,
+    /// Yes: set, empty, sleeping, unblocked, the last one.
+    Yes,
+    /// No.
+    No,
+    /// The task that was taken.
+    Task(u64),
+    /// There was nothing to take.
+    Missing,
+    /// The event counter.
+    Jec(u64),
+    /// The counters' word.
+    Word {
+        sleeping: u64,
+        inactive: u64,
+        jec: u64,
+    },
+    /// The victim to begin with.
+    Start(usize),
+    /// How many workers to wake.
+    Wakes(u64),
+    /// The kind of the job that was begun.
+    Begun(JobKind),
+    /// The ending that the cell held.
+    Found(Ending),
+}
+
+/// What a worker does next.
+#[derive(Clone, Copy)]
+pub enum Next {
+    /// It makes this act.
+    Act(Act),
+    /// It can make a call: a run stands on top of its stack, or no call is open.
+    Free,
+    /// Nothing: it has left its loop.
+    Stopped,
+}
+
+impl Act {
+    /// The pool that an act touches.
+    pub fn pool(self, party: Party) -> usize
+        ensures { result ≡ target_pool party self }
+    {
+        match self {
+            Act::Lock { pool, .. }
+            | Act::Unlock { pool, .. }
+            | Act::Wake { pool, .. }
+            | Act::Set { pool, .. }
+            | Act::Steal { pool, .. }
+            | Act::LookInj(pool)
+            | Act::PushInj { pool, .. }
+            | Act::News { pool, .. }
+            | Act::Lower { pool, .. }
+            | Act::Raise { pool, .. } => pool,
+            _ => party.pool(),
+        }
+    }
+
+    /// The worker of that pool that it touches.
+    pub fn worker(self, party: Party) -> usize
+        ensures { result ≡ target_worker party self }
+    {
+        match self {
+            Act::Lock { worker, .. }
+            | Act::Unlock { worker, .. }
+            | Act::Wake { worker, .. }
+            | Act::Set { worker, .. } => worker,
+            Act::Steal { victim, .. } => victim,
+            _ => party.index(),
+        }
+    }
+
+    /// The call that it touches, if it touches one.
+    pub fn call(self) -> u64
+        ensures { result ≡ target_call self }
+    {
+        match self {
+            Act::Probe(latch) | Act::Sleepy(latch) | Act::Asleep(latch) | Act::Wakeup(latch) => {
+                latch.call()
+            }
+            Act::Set { latch, .. } => latch.call(),
+            Act::LockSet(call) | Act::LockWait(call) | Act::Grow(call) | Act::Take(call) => call,
+            Act::Store { call, .. } => call,
+            _ => 0,
+        }
+    }
+
+    /// The job that it touches, where this task stands at the end of its queue.
+    pub fn job(self, found: Option<u64>) -> u64
+        ensures { result ≡ aimed_job self found }
+    {
+        match self {
+            Act::Begin(job) | Act::PushOwn(job) => job,
+            Act::PushInj { job, .. } | Act::Raise { job, .. } => job,
+            Act::Lower { share, .. } => share.job(),
+            Act::PopOwn | Act::TakeCast | Act::Steal { .. } | Act::PopInj => match found {
+                Some(task) => task,
+                None => 0,
+            },
+            _ => 0,
+        }
+    }
+}

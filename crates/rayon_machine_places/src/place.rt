@@ -1,0 +1,405 @@
+//! Places: where a party stands, which is what it does next and what it keeps until then.
+ghost use Rattle.std.specs.Prelude.{◌≡◌};
+ghost use Rattle.rayon_machine_places.specs.World.{is_own, call_of, share_job};
+ghost use Rattle.rayon_machine_places.specs.Places.{same_party, is_member};
+
+/// A worker of a pool, or an outside caller.
+#[derive(Clone, Copy, Debug, PartialEq, Eq)]
+pub enum Party {
+    /// The worker of this index in this pool.
+    Worker { pool: usize, index: usize },
+    /// The outside caller of this number.
+    Caller(usize),
+}
+
+/// How a run ends.
+#[derive(Clone, Copy, Debug, PartialEq, Eq)]
+pub enum Ending {
+    /// The job answered Ok.
+    Fine,
+    /// The job answered a fault.
+    Fault,
+}
+
+/// What the end of a job's run sets going.
+#[derive(Clone, Copy)]
+pub enum JobKind {
+    /// A share of its pool's terminate count is given back.
+    Detached(usize),
+    /// Its ending is stored in the call's cell, and the call's latch is set for its owner.
+    Stored { call: u64, owner: Party },
+    /// The call below it on the stack goes on.
+    Direct,
+}
+
+/// A call that waits for a job: the call's number, the pool that it keeps from ending, and the job.
+#[derive(Clone, Copy)]
+pub struct OpenCall {
+    /// The number of the call.
+    pub number: u64,
+    /// The pool whose terminate count has a share for it.
+    pub pool: usize,
+    /// The job whose ending comes into the call's cell.
+    pub job: u64,
+}
+
+/// What a wait waits for.
+#[derive(Clone, Copy)]
+pub enum Target {
+    /// The end of the worker's pool.
+    Termination,
+    /// The latch of a call. Of a join it keeps how the first side ended.
+    Answer {
+        call: OpenCall,
+        first: Option<Ending>,
+    },
+}
+
+/// A core latch.
+#[derive(Clone, Copy)]
+pub enum Latch {
+    /// The worker's own terminate latch.
+    Terminate,
+    /// The latch of the call of this number.
+    OfCall(u64),
+}
+
+/// The searches of a worker since it last was busy.
+#[derive(Clone, Copy)]
+pub enum Rounds {
+    /// So many have failed.
+    Failed(u64),
+    /// All have failed and the worker has announced itself.
+    Announced,
+}
+
+/// What a wait keeps.
+#[derive(Clone, Copy)]
+pub struct Wait {
+    /// What it waits for.
+    pub target: Target,
+    /// The searches that have failed.
+    pub rounds: Rounds,
+    /// The event counter that the worker's last announcement saw.
+    pub kept: u64,
+    /// The sleeping count last read.
+    pub sleeping: u64,
+    /// The inactive count last read.
+    pub inactive: u64,
+    /// The victim to steal from.
+    pub victim: usize,
+    /// The task that the search has found.
+    pub found: Option<u64>,
+}
+
+/// A call that has begun.
+#[derive(Clone, Copy)]
+pub enum Plan {
+    /// A detached job is queued at a pool.
+    Detach { pool: usize, job: u64 },
+    /// A job is installed by a worker of the pool, which runs it at once.
+    Here { pool: usize, job: u64 },
+    /// A job is installed by another party, which queues it and waits.
+    Send(OpenCall),
+    /// Two sides are joined: the call waits for the second, and runs this first one.
+    Fork { call: OpenCall, first: u64 },
+}
+
+/// A share of a terminate count.
+#[derive(Clone, Copy)]
+pub enum Share {
+    /// The share of the pool's value.
+    PoolValue,
+    /// The share taken for the call that made this job.
+    OfJob(u64),
+}
+
+/// What follows once woken workers or terminate latches are seen to.
+#[derive(Clone, Copy)]
+pub enum Then {
+    /// The found task is begun, and the wait goes on after it.
+    BeginFound {
+        target: Target,
+        task: u64,
+    },
+    /// The wait is over.
+    LeaveWait(Target),
+    /// The party goes back to the frame below.
+    Resume,
+    /// The call waits.
+    Await(OpenCall),
+    /// The join runs its first side.
+    RunFirst {
+        call: OpenCall,
+        first: u64,
+    },
+    /// The call answers: how its first side ended, if it is a join, and what it took.
+    Answers {
+        call: OpenCall,
+        first: Option<Ending>,
+        last: Ending,
+    },
+    /// The install that ran its job at once answers.
+    Ran {
+        job: u64,
+        ending: Ending,
+    },
+    /// The refused call hands its jobs back.
+    GiveBack(Plan),
+}
+
+/// A walk over a pool's workers that wakes some of them.
+#[derive(Clone, Copy)]
+pub struct Walk {
+    /// The pool.
+    pub pool: usize,
+    /// How many are still to be woken.
+    pub owed: u64,
+    /// The worker that is looked at.
+    pub worker: usize,
+    /// What follows.
+    pub then: Then,
+}
+
+/// The setting of a core latch, and the waking of its worker if it slept.
+#[derive(Clone, Copy)]
+pub struct Settling {
+    /// The latch: the worker's terminate latch, or that of its call.
+    pub latch: Latch,
+    /// The pool of the worker.
+    pub pool: usize,
+    /// The worker whose latch it is.
+    pub worker: usize,
+    /// What follows. After a terminate latch those of the later workers come first.
+    pub then: Then,
+}
+
+/// Where a party stands.
+#[derive(Clone, Copy)]
+pub enum Place {
+    /// Waiting and busy: looks at the latch.
+    ProbeWorking(Wait),
+    /// Looks in its own deque.
+    PopWorking(Wait),
+    /// Looks in its own broadcast list.
+    TakeCastWorking(Wait),
+    /// Counts itself inactive.
+    BecomeInactive(Wait),
+    /// Searching: looks at the latch.
+    ProbeIdle(Wait),
+    /// Looks in its own deque.
+    PopIdle(Wait),
+    /// Looks in its own broadcast list.
+    TakeCastIdle(Wait),
+    /// Chooses whom to steal from first.
+    PickVictim(Wait),
+    /// Steals; so many victims are left after this one.
+    StealFrom {
+        wait: Wait,
+        left: usize,
+    },
+    /// Looks in the injector.
+    PopInjected(Wait),
+    /// Announces that it is about to sleep.
+    AnnounceSelf(Wait),
+    /// Makes its latch sleepy.
+    GetSleepy(Wait),
+    /// Takes its own sleep lock.
+    LockOwn(Wait),
+    /// Makes its latch sleeping.
+    FallAsleep(Wait),
+    /// Reads the counters.
+    LoadCounters(Wait),
+    /// Counts itself sleeping.
+    AddSleeping(Wait),
+    /// Looks once more in its own broadcast list.
+    LookAtCast(Wait),
+    /// Looks once more in the injector.
+    LookAtInjector(Wait),
+    /// Blocks.
+    BlockSelf(Wait),
+    /// Blocked: takes its lock again once it is woken.
+    RelockOwn(Wait),
+    /// Takes itself out of the sleeping ones.
+    UndoSleeping(Wait),
+    /// Makes its latch unset again.
+    WakeUp(Wait),
+    /// Leaves its own sleep lock.
+    UnlockOwn(Wait),
+    /// Counts itself active again, and wakes others.
+    LeaveSearch(Wait),
+    /// A join after its first side: looks at the latch.
+    JoinProbe(OpenCall),
+    /// Looks in its own deque for its second side.
+    JoinPop(OpenCall),
+    /// Looks in its own broadcast list.
+    JoinTakeCast(OpenCall),
+    /// A yield: looks in its own deque.
+    YieldPop,
+    /// Looks in its own broadcast list.
+    YieldTakeCast,
+    /// Chooses whom to steal from first.
+    YieldPick,
+    /// Steals from this victim; so many are left after it.
+    YieldSteal {
+        victim: usize,
+        left: usize,
+    },
+    /// Looks in the injector.
+    YieldPopInjected,
+    /// A local yield: looks in its own deque.
+    LocalPop,
+    /// Looks in its own broadcast list.
+    LocalTakeCast,
+    /// Begins a task.
+    BeginTask(u64),
+    /// Begins a job whose end its call below goes on from.
+    BeginHere(u64),
+    /// Runs a job.
+    Run {
+        job: u64,
+        kind: JobKind,
+    },
+    /// A call raises its pool's terminate count.
+    RaiseCount(Plan),
+    /// Makes its cell and latch.
+    GrowCall(Plan),
+    /// Looks whether the queue is empty.
+    LookQueue(Plan),
+    /// Queues its job.
+    PushJob {
+        plan: Plan,
+        was_empty: bool,
+    },
+    /// Tells the sleepers' counters of it.
+    TellNews {
+        plan: Plan,
+        was_empty: bool,
+    },
+    /// Waking so many: takes the lock of this worker.
+    LockToWake(Walk),
+    /// Wakes it.
+    WakeWorker(Walk),
+    /// Leaves its lock.
+    UnlockWoken(Walk),
+    /// An outside caller waits for its call's lock latch.
+    WaitForLock(OpenCall),
+    /// Takes what the call's cell holds.
+    TakeResult {
+        call: OpenCall,
+        first: Option<Ending>,
+    },
+    /// Gives a share of a terminate count back.
+    LowerCount {
+        pool: usize,
+        share: Share,
+        then: Then,
+    },
+    /// The end of a run: stores its ending in the call's cell.
+    StoreResult {
+        call: u64,
+        owner: Party,
+        ending: Ending,
+    },
+    /// Sets a core latch of this worker.
+    SetLatch(Settling),
+    /// It slept: takes its lock.
+    LockToSettle(Settling),
+    /// Wakes it.
+    WakeSettled(Settling),
+    /// Leaves its lock.
+    UnlockSettled(Settling),
+    /// Sets the lock latch of an outside caller's call.
+    SetLockLatch(u64),
+    /// A frame: a join below the run of its first side.
+    FirstSide {
+        call: OpenCall,
+        first: u64,
+    },
+    /// A frame: a join below the run of its own second side.
+    SecondSide(OpenCall),
+    /// A frame: an install below the run of its job.
+    AtOnce {
+        pool: usize,
+        job: u64,
+    },
+    /// No call is open.
+    Free,
+    /// The worker has left its loop.
+    Stopped,
+}
+
+/// Where a party goes after an act.
+#[derive(Clone, Copy)]
+pub enum Move {
+    /// To a place.
+    Stay(Place),
+    /// To a place above a frame that stays below it.
+    Enter { frame: Place, place: Place },
+    /// The frame stays below, and the run of a job that was in no queue begins.
+    StartRun { frame: Place, job: u64 },
+    /// Back to the frame below.
+    Back,
+    /// Back to the frame below, with the jobs of the refused call handed back.
+    HandBack(Plan),
+}
+
+impl Party {
+    /// Whether this is the same party.
+    pub fn is(self, other: Party) -> bool
+        ensures { result ≡ same_party self other }
+    {
+        match (self, other) {
+            (
+                Party::Worker { pool, index },
+                Party::Worker {
+                    pool: other_pool,
+                    index: other_index,
+                },
+            ) => pool == other_pool && index == other_index,
+            (Party::Caller(number), Party::Caller(other_number)) => number == other_number,
+            _ => false,
+        }
+    }
+
+    /// Whether this is that worker.
+    pub fn is_worker(self, pool: usize, index: usize) -> bool
+        ensures { result ≡ is_own self pool index }
+    {
+        self.is(Party::Worker { pool, index })
+    }
+
+    /// Whether a party is a worker of this pool.
+    pub fn belongs_to(self, other: usize) -> bool
+        ensures { result ≡ is_member self other }
+    {
+        match self {
+            Party::Worker { pool, .. } => pool == other,
+            Party::Caller(_) => false,
+        }
+    }
+}
+
+impl Latch {
+    /// The call of a latch.
+    pub fn call(self) -> u64
+        ensures { result ≡ call_of self }
+    {
+        match self {
+            Latch::Terminate => 0,
+            Latch::OfCall(call) => call,
+        }
+    }
+}
+
+impl Share {
+    /// The job of a share.
+    pub fn job(self) -> u64
+        ensures { result ≡ share_job self }
+    {
+        match self {
+            Share::PoolValue => 0,
+            Share::OfJob(job) => job,
+        }
+    }
+}

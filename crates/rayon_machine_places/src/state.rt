@@ -1,0 +1,153 @@
+//! What a world keeps of each latch, call and job.
+ghost use Rattle.std.specs.Prelude.{◌≡◌, ◌<◌};
+ghost use Rattle.rayon_machine_places.specs.World.{begun as begun_by};
+ghost use Rattle.rayon_machine_places.specs.Readers.{is_done, is_queued, is_running};
+ghost use Rattle.rayon_machine_places.specs.Steps.{new_call, blank_job, new_job};
+
+use crate::place::{Ending, JobKind, Party};
+
+/// The state of a core latch.
+#[derive(Clone, Copy, Debug, PartialEq, Eq)]
+pub enum Letter {
+    /// Its worker is awake.
+    Unset,
+    /// Its worker is about to sleep.
+    Sleepy,
+    /// Its worker sleeps, and must be woken by whoever sets the latch.
+    Sleeping,
+    /// Set, for good.
+    Set,
+}
+
+/// Where a job is.
+#[derive(Clone, Copy)]
+pub enum Whereabouts {
+    /// Its number is not given out yet.
+    Nowhere,
+    /// With the party whose call made it, neither queued nor begun.
+    Made(Party),
+    /// In this worker's deque.
+    InDeque { pool: usize, worker: usize },
+    /// In this pool's injector.
+    Injected(usize),
+    /// Taken or begun by this party, and not ended.
+    Running(Party),
+    /// Its run has ended.
+    Over(Ending),
+    /// Its call was refused.
+    HandedBack,
+}
+
+/// A job.
+#[derive(Clone, Copy)]
+pub struct Job {
+    /// What the end of its run sets going.
+    pub kind: JobKind,
+    /// The pool that its call was made at.
+    pub pool: usize,
+    /// Where it is.
+    pub at: Whereabouts,
+    /// How often its run was begun.
+    pub runs: u64,
+    /// Whether its pool's terminate count has a share for the call that made it.
+    pub counted: bool,
+}
+
+/// A call that waits.
+#[derive(Clone, Copy)]
+pub struct Call {
+    /// Its latch: a core latch of a worker, or a lock latch, which is only unset or set.
+    pub latch: Letter,
+    /// Its cell: the ending of its job, once that is stored.
+    pub cell: Option<Ending>,
+    /// The first side, of a join.
+    pub first: Option<u64>,
+    /// The job whose ending comes into the cell.
+    pub job: u64,
+}
+
+impl Whereabouts {
+    /// In a deque or an injector.
+    pub fn queues(self) -> bool
+        ensures { result ≡ is_queued self }
+    {
+        match self {
+            Whereabouts::InDeque { .. } | Whereabouts::Injected(_) => true,
+            _ => false,
+        }
+    }
+
+    /// Taken or begun, and not ended.
+    pub fn runs(self) -> bool
+        ensures { result ≡ is_running self }
+    {
+        match self {
+            Whereabouts::Running(_) => true,
+            _ => false,
+        }
+    }
+
+    /// Ended.
+    pub fn is_over(self) -> bool
+        ensures { result ≡ is_done self }
+    {
+        match self {
+            Whereabouts::Over(_) => true,
+            _ => false,
+        }
+    }
+}
+
+impl Job {
+    /// A job whose number is not given out.
+    pub fn blank() -> Job
+        ensures { result ≡ blank_job }
+    {
+        Job {
+            kind: JobKind::Direct,
+            pool: 0,
+            at: Whereabouts::Nowhere,
+            runs: 0,
+            counted: false,
+        }
+    }
+
+    /// A job that a party's call has made at a pool.
+    pub fn made(party: Party, pool: usize, kind: JobKind) -> Job
+        ensures { result ≡ new_job party pool kind }
+    {
+        Job {
+            kind,
+            pool,
+            at: Whereabouts::Made(party),
+            runs: 0,
+            counted: false,
+        }
+    }
+
+    /// The job in the hands of this party.
+    pub fn begun(self, party: Party) -> Job
+        requires { self.runs < 18446744073709551615 }
+        ensures { result ≡ begun_by party self }
+    {
+        Job {
+            at: Whereabouts::Running(party),
+            runs: self.runs + 1,
+            ..self
+        }
+    }
+}
+
+impl Call {
+    /// A call that waits for a job, with its first side if it is a join.
+    pub fn waiting(first: Option<u64>, job: u64) -> Call
+        ensures { result ≡ new_call first job }
+    {
+        Call {
+            latch: Letter::Unset,
+            cell: None,
+            first,
+            job,
+        }
+    }
+}

@@ -1,0 +1,4 @@
+pub mod Acted
+pub mod Running
+pub mod Turning
+pub mod Calling

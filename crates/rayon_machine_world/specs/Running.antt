@@ -1,0 +1,67 @@
+-- what a running world stands for, and what its steps leave
+use Rattle.std.specs.Prelude.{ℕ, ◌+◌, Some, None, ◌≡◌}
+use Rattle.rayon_machine_places.specs.declared.place.Party.{Party}
+use Rattle.rayon_machine_places.specs.declared.place.Place.{Place}
+use Rattle.rayon_machine_places.specs.declared.place.Place.TheVariants.{RaiseCount}
+use Rattle.rayon_machine_places.specs.declared.place.Move.{Move}
+use Rattle.rayon_machine_places.specs.declared.place.Move.TheVariants.{Enter}
+use Rattle.rayon_machine_places.specs.declared.place.Plan.{Plan}
+use Rattle.rayon_machine_places.specs.declared.state.Job.{Job}
+use Rattle.rayon_machine_parts.specs.declared.deed.Deed.{Deed}
+use Rattle.rayon_machine_world.specs.declared.world.World.{World as StoredWorld}
+use Rattle.rayon_machine_places.specs.Places.{own_index}
+use Rattle.rayon_machine_places.specs.Steps.{jobs_after, new_call, put, put_seat, put_stack, after_move}
+use Rattle.rayon_machine_places.specs.World.{World}
+use Rattle.rayon_machine_parts.specs.State.{call_at, job_at, pool_at, pool_queued, seat_at, seat_queued, shape_of, stack_in, with_flags, with_numbers}
+
+-- the specification's world that a running world stands for
+abbrev pub world_of : StoredWorld → World
+world_of w = record {
+  shape = shape_of w.shapes;
+  stack = stack_in (shape_of w.shapes) w.parties;
+  seat = seat_at w.parts.benches.items;
+  pool = pool_at w.parts.pools.items;
+  call = call_at w.parts.calls.items;
+  job = job_at w.parts.jobs.items;
+  calls = w.calls;
+  jobs = w.jobs;
+}
+
+-- the deed is done, and the party has moved on
+pub record Performed (w u : StoredWorld) (q : Party) (d : Deed) (m : Move) : Type 0 where
+  pub shape : shape_of u.shapes ≡ shape_of w.shapes
+  pub stack : (r : Party) → stack_in (shape_of u.shapes) u.parties r ≡ put_stack (stack_in (shape_of w.shapes) w.parties) q (after_move m (stack_in (shape_of w.shapes) w.parties q).below) r
+  pub pool : (p : ℕ) → pool_at u.parts.pools.items p ≡ put (pool_at w.parts.pools.items) d.spot.pool (pool_queued d.act (own_index q) (with_numbers (pool_at w.parts.pools.items d.spot.pool) d.after.pool)) p
+  pub seat : (p i : ℕ) → seat_at u.parts.benches.items p i ≡ put_seat (seat_at w.parts.benches.items) d.spot.pool d.spot.worker (seat_queued d.act d.order (with_flags (seat_at w.parts.benches.items d.spot.pool d.spot.worker) d.after.worker)) p i
+  pub call : (n : ℕ) → call_at u.parts.calls.items n ≡ put (call_at w.parts.calls.items) d.spot.call d.after.call n
+  pub job : (n : ℕ) → job_at u.parts.jobs.items n ≡ jobs_after q m (put (job_at w.parts.jobs.items) d.spot.job d.after.job) n
+  pub calls : u.calls ≡ w.calls
+  pub jobs : u.jobs ≡ w.jobs
+
+-- a join of two jobs has begun, above this frame
+abbrev pub forked : World → Party → Place → Plan → Job → Job → World
+forked w q frame plan first second = record w {
+  stack = put_stack w.stack q (after_move (Enter frame (RaiseCount plan)) (w.stack q).below);
+  job = put (put w.job w.jobs first) (w.jobs + 1) second;
+  call = put w.call w.calls (new_call (Some w.jobs) (w.jobs + 1));
+  jobs = w.jobs + 2;
+  calls = w.calls + 1;
+}
+
+-- a call of one job has begun, above this frame
+abbrev pub opened : World → Party → Place → Plan → Job → World
+opened w q frame plan job = record w {
+  stack = put_stack w.stack q (after_move (Enter frame (RaiseCount plan)) (w.stack q).below);
+  job = put w.job w.jobs job;
+  jobs = w.jobs + 1;
+}
+
+-- a call that waits for one job has begun, above this frame
+abbrev pub sent_off : World → Party → Place → Plan → Job → World
+sent_off w q frame plan job = record w {
+  stack = put_stack w.stack q (after_move (Enter frame (RaiseCount plan)) (w.stack q).below);
+  job = put w.job w.jobs job;
+  call = put w.call w.calls (new_call None w.jobs);
+  jobs = w.jobs + 1;
+  calls = w.calls + 1;
+}

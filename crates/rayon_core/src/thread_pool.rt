@@ -1,7 +1,6 @@
-//! Pools.
-ghost use Rattle.rayon_registry.specs.Answers.{InstallAnswers, JoinAnswers};
+// Pools.
 ghost use Rattle.std.specs.Arc.{arc_value};
-ghost use Rattle.std.specs.Prelude.{◌≡◌, ◌<◌, ℕ, Result, Ok, Err, IfOk};
+ghost use Rattle.std.specs.Prelude.{◌≡◌, ◌⊎◌, ◌<◌, ℕ, Result, Ok, Err, IfOk};
 
 use crate::pool_ref::PoolRef;
 use rayon_jobs::JobKind;
@@ -79,15 +78,17 @@ impl<J: JobKind> ThreadPool<J> {
         alloc: Global,
         job: J,
     ) -> Result<J::Output, CallError<J::Fault, J>>
-        ensures answers { InstallAnswers (λ r. J.answers (J.tag_of job) r) job result }
+        ensures ok { IfOk result (λ x. J.answers (J.tag_of job) (Ok x)) }
+        ensures fault { (f : _) → result ≡ Err (CallError.Fault f) → J.answers (J.tag_of job) (Err f) }
+        ensures back { (r : _) (j : _) → result ≡ Err (CallError.Refused r j) → j ≡ job }
         ensures shallow { (j : _) → result ≡ Err (CallError.Refused Refusal.TooDeep j) → ⊥ }
     {
         self.registry.install(rt, alloc, job)
     }
 
     /// Runs two jobs on the pool by a join there, for a caller that is no worker; it blocks until both have run, and
-    /// answers both outputs. Refused `TooDeep` exactly where the depth limit is 1, whatever else holds; `Ended`, `Full`,
-    /// `NoRoom`; with the sides back, and neither has run.
+    /// answers both outputs. Refused `Ended`, `Full`, `NoRoom`, and `TooDeep` where the depth limit is 1, with the
+    /// sides back, and neither has run.
     pub fn join<R: Wait>(
         &self,
         rt: &R,
@@ -95,9 +96,10 @@ impl<J: JobKind> ThreadPool<J> {
         a: J,
         b: J,
     ) -> Result<(J::Output, J::Output), CallError<J::Fault, (J, J)>>
-        ensures answers { JoinAnswers (λ r. J.answers (J.tag_of a) r) (λ r. J.answers (J.tag_of b) r) (a, b) result }
-        ensures deep { self.now.depth_limit < 2 → result ≡ Err (CallError.Refused Refusal.TooDeep (a, b)) }
-        ensures shallow { (sides : _) → result ≡ Err (CallError.Refused Refusal.TooDeep sides) → self.now.depth_limit < 2 }
+        ensures ok { IfOk result (λ r. J.answers (J.tag_of a) (Ok r.0) × J.answers (J.tag_of b) (Ok r.1)) }
+        ensures fault { (f : _) → result ≡ Err (CallError.Fault f) → J.answers (J.tag_of a) (Err f) ⊎ (((x : _) × J.answers (J.tag_of a) (Ok x)) × J.answers (J.tag_of b) (Err f)) }
+        ensures back { (r : _) (sides : _) → result ≡ Err (CallError.Refused r sides) → sides ≡ (a, b) }
+        ensures deep { (sides : _) → result ≡ Err (CallError.Refused Refusal.TooDeep sides) → self.now.depth_limit < 2 }
     {
         self.registry.join(rt, alloc, a, b)
     }
@@ -110,9 +112,10 @@ impl<J: JobKind> ThreadPool<J> {
         a: J,
         b: J,
     ) -> Result<(J::Output, J::Output), CallError<J::Fault, (J, J)>>
-        ensures answers { JoinAnswers (λ r. J.answers (J.tag_of a) r) (λ r. J.answers (J.tag_of b) r) (a, b) result }
-        ensures deep { self.now.depth_limit < 2 → result ≡ Err (CallError.Refused Refusal.TooDeep (a, b)) }
-        ensures shallow { (sides : _) → result ≡ Err (CallError.Refused Refusal.TooDeep sides) → self.now.depth_limit < 2 }
+        ensures ok { IfOk result (λ r. J.answers (J.tag_of a) (Ok r.0) × J.answers (J.tag_of b) (Ok r.1)) }
+        ensures fault { (f : _) → result ≡ Err (CallError.Fault f) → J.answers (J.tag_of a) (Err f) ⊎ (((x : _) × J.answers (J.tag_of a) (Ok x)) × J.answers (J.tag_of b) (Err f)) }
+        ensures back { (r : _) (sides : _) → result ≡ Err (CallError.Refused r sides) → sides ≡ (a, b) }
+        ensures deep { (sides : _) → result ≡ Err (CallError.Refused Refusal.TooDeep sides) → self.now.depth_limit < 2 }
     {
         self.join(rt, alloc, a, b)
     }

@@ -1,4 +1,4 @@
-//! What lies in the queues of a pool.
+// What lies in the queues of a pool.
 ghost use Rattle.std.specs.Prelude.{◌≡◌};
 
 use crate::cell::Cell;
@@ -10,8 +10,7 @@ use rayon_words::latch::LockLatch;
 use std::alloc::Global;
 use std::sync::{Arc, Mutex, Wait};
 
-/// Where the result of an installed job goes, and the latch on which its caller blocks. It is for the library's own use,
-/// and for a user who pushes a `Task` by hand.
+/// Where the result of an installed job goes, and the latch on which its caller blocks.
 #[derive(Drop)]
 pub struct Reply<J: JobKind> {
     latch: LockLatch,
@@ -41,8 +40,7 @@ impl<J: JobKind> Reply<J> {
     }
 }
 
-/// Where the results of a pair of sides go, and the latch on which its caller blocks. It is for the library's own use, and
-/// for a user who pushes a `Task` by hand.
+/// Where the results of a pair of sides go, and the latch on which its caller blocks.
 #[derive(Drop)]
 pub struct PairReply<J: JobKind> {
     latch: LockLatch,
@@ -79,8 +77,7 @@ impl<J: JobKind> PairReply<J> {
     }
 }
 
-/// A job that an outside caller sent to the pool, and for whose result it blocks. It is for the library's own use, and for
-/// a user who pushes a `Task` by hand.
+/// A job that an outside caller sent to the pool, and for whose result it blocks.
 #[derive(Drop)]
 pub struct Installed<J: JobKind> {
     /// The job.
@@ -89,8 +86,7 @@ pub struct Installed<J: JobKind> {
     pub reply: Arc<Reply<J>, Global>,
 }
 
-/// Two sides that an outside caller sent to the pool: the worker that takes them joins them. It is for the library's own
-/// use, and for a user who pushes a `Task` by hand.
+/// Two sides that an outside caller sent to the pool: the worker that takes them joins them.
 #[derive(Drop)]
 pub struct Pair<J: JobKind> {
     /// The first side.
@@ -101,8 +97,7 @@ pub struct Pair<J: JobKind> {
     pub reply: Arc<PairReply<J>, Global>,
 }
 
-/// The second side of a join. It is for the library's own use: joins make one, and a user meets it only inside a `Task`
-/// that was taken from a deque.
+/// The second side of a join.
 #[derive(Drop)]
 pub struct SecondSide<J: JobKind> {
     /// The job.
@@ -113,14 +108,13 @@ pub struct SecondSide<J: JobKind> {
     pub ticket: Ticket<J>,
 }
 
-/// What lies in a queue of a pool. A user needs it only for `WorkerThread::push` and `WorkerThread::take_local_job`.
+/// What lies in a queue of a pool.
 #[derive(Drop)]
 pub enum Task<J: JobKind> {
     /// A job that was sent to the pool.
     Job(Installed<J>),
     /// Two sides that were sent to the pool.
     Pair(Pair<J>),
-    /// The second side of a join. It is for the library's own use: joins make one, and a user meets it only inside a `Task`
-    /// that was taken from a deque.
+    /// The second side of a join.
     Second(SecondSide<J>),
 }

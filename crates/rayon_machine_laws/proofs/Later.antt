@@ -17,21 +17,20 @@ use Rattle.rayon_machine_places.specs.declared.place.Plan.TheVariants.{Detach, H
 use Rattle.rayon_machine_places.specs.declared.place.Share.{Share}
 use Rattle.rayon_machine_places.specs.declared.place.Share.TheVariants.{PoolValue, OfJob}
 use Rattle.rayon_machine_places.specs.declared.place.Then.{Then}
-use Rattle.rayon_machine_places.specs.declared.place.Then.TheVariants.{BeginFound, LeaveWait, Resume, Await, RunFirst, Answers, Missing, Ran, GiveBack}
+use Rattle.rayon_machine_places.specs.declared.place.Then.TheVariants.{BeginFound, LeaveWait, Resume, Await, RunFirst, Answers, Ran, GiveBack}
 use Rattle.rayon_machine_places.specs.declared.place.Place.{Place}
 use Rattle.rayon_machine_places.specs.declared.place.Place.TheVariants.{ProbeWorking, PopWorking, TakeCastWorking, BecomeInactive, ProbeIdle, PopIdle, TakeCastIdle, PickVictim, StealFrom, PopInjected, AnnounceSelf, GetSleepy, LockOwn, FallAsleep, LoadCounters, AddSleeping, LookAtCast, LookAtInjector, BlockSelf, RelockOwn, UndoSleeping, WakeUp, UnlockOwn, LeaveSearch, JoinProbe, JoinPop, JoinTakeCast, BeginTask, BeginHere, Run, RaiseCount, GrowCall, LookQueue, PushJob, TellNews, LockToWake, WakeWorker, UnlockWoken, WaitForLock, TakeResult, LowerCount, StoreResult, SetLatch, LockToSettle, WakeSettled, UnlockSettled, SetLockLatch, FirstSide, SecondSide, AtOnce}
 use Rattle.rayon_machine_places.specs.declared.act.Seen.{Seen}
-use Rattle.rayon_machine_places.specs.declared.act.Seen.TheVariants.{Done, Refused}
+use Rattle.rayon_machine_places.specs.declared.act.Seen.TheVariants.{Done, Refused, Yes, No}
 use Rattle.rayon_machine_places.specs.declared.state.Letter.{Letter}
-use Rattle.rayon_machine_places.specs.declared.state.Letter.TheVariants.{Set as IsSet}
+use Rattle.rayon_machine_places.specs.declared.state.Letter.TheVariants.{Unset, Sleepy as IsSleepy, Sleeping, Set as IsSet}
 use Rattle.rayon_machine_places.specs.declared.state.Whereabouts.{Whereabouts}
 use Rattle.rayon_machine_places.specs.declared.state.Whereabouts.TheVariants.{Nowhere, Made, InDeque, Injected, Running, Over, HandedBack}
 use Rattle.rayon_machine_places.specs.declared.place.OpenCall.{OpenCall}
 use Rattle.rayon_machine_places.specs.Places.{latch_of, act_of}
-use Rattle.rayon_machine_places.specs.World.{Shape, Stack, World, Counts, Part, letter, with_letter, lowered, effect}
+use Rattle.rayon_machine_places.specs.World.{Shape, Stack, World, Counts, Part, letter, with_letter, sleepy, fall_asleep, wake_up, set_latch, lowered, effect}
 use Rattle.rayon_machine_places.specs.Readers.{is_done}
 use Rattle.rayon_machine_laws.proofs.Claims.{Opened, MadeAs, FirstEnds, SaysTarget, Left, is_detached, Awaited, SaysFound, SaysPlan, SaysThen, SaysOwner, SaysShare, SaysLatch, SaysRun, Says, AllSay, StackSays}
-use Rattle.rayon_machine_laws.proofs.Letters.{sleepy_keeps, asleep_keeps, wake_keeps, set_keeps}
 
 pub record Later (w u : World) : Type 0 where
   pub jobs : w.jobs ≤ u.jobs
@@ -90,7 +89,6 @@ later_then w u l q Resume s = tt
 later_then w u l q (Await o) s = later_target w u l q (Answer o None) s
 later_then w u l q (RunFirst o a) s = later_plan w u l q (Fork o a) s
 later_then w u l q (Answers o f e) s = (later_opened w u l q o (s.0), later_first w u l (o.number) f ((s.0).number) (s.1), l.over (o.job) e (s.2))
-later_then w u l q (Missing o f) s = later_target w u l q (Answer o f) s
 later_then w u l q (Ran t e) s = l.over t e s
 later_then w u l q (GiveBack n) s = later_plan w u l q n s
 
@@ -109,7 +107,6 @@ later_done w u l t s = by ((w.job t).at) refl s
 later_owner : (w u : World) → Later w u → (t p : ℕ) (n : Then) → t + 1 ≤ w.jobs → SaysOwner w t p n → SaysOwner u t p n
 later_owner w u l t p Resume b s = (l.kind t b ∙ s.0, later_done w u l t (s.1))
 later_owner w u l t p (Answers o f e) b s = s
-later_owner w u l t p (Missing o f) b s = s
 later_owner w u l t p (Ran v e) b s = (s.0, l.kind t b ∙ s.1)
 later_owner w u l t p (GiveBack n) b s = s
 later_owner w u l t p (BeginFound g v) b s = s
@@ -207,6 +204,22 @@ letter_static (OfCall c) m e y = record { kind = refl; pool = refl; target = ref
 same_static : (m : Part) (e : Seen) → Static m (e, m)
 same_static m e = record { kind = refl; pool = refl; target = refl; side = refl; held = refl; ended = λ z. z }
 
+set_static : (l : Latch) (m : Part) (x : Letter) → IfSome (set_latch l m x) (Static m)
+set_static l m Sleeping = letter_static l m Yes IsSet
+set_static l m _ = letter_static l m No IsSet
+
+sleepy_static : (l : Latch) (m : Part) (x : Letter) → IfSome (sleepy l m x) (Static m)
+sleepy_static l m Unset = letter_static l m Done IsSleepy
+sleepy_static l m _ = same_static m Refused
+
+asleep_static : (l : Latch) (m : Part) (x : Letter) → IfSome (fall_asleep l m x) (Static m)
+asleep_static l m IsSleepy = letter_static l m Done Sleeping
+asleep_static l m _ = same_static m Refused
+
+wake_static : (l : Latch) (m : Part) (x : Letter) → IfSome (wake_up l m x) (Static m)
+wake_static l m IsSet = same_static m Done
+wake_static l m _ = letter_static l m Done Unset
+
 raise_static : (m : Part) → IfSome (if m.pool.count == 0 then Some (Refused, m) else Some (Done, record m { pool = record (m.pool) { count = m.pool.count + 1 }; job = record (m.job) { counted = true } })) (Static m)
 raise_static m = by (m.pool.count == 0) refl
   where
@@ -220,14 +233,14 @@ lower_static m (OfJob t) e = record { kind = refl; pool = refl; target = refl; s
 
 pub act_static : (h : Shape) (q : Party) (c : Counts) (m : Part) (x : Place) → IfSome (effect (act_of q x) h q c m) (Static m)
 act_static h (Worker a b) c m (ProbeWorking k) = search (rules, arith)
-act_static h (Worker a b) c m (GetSleepy k) = sleepy_keeps (latch_of k.target) Static same_static (λ v e y n. letter_static (latch_of k.target) v e y) m (letter (latch_of k.target) m)
-act_static h (Worker a b) c m (FallAsleep k) = asleep_keeps (latch_of k.target) Static same_static (λ v e y n. letter_static (latch_of k.target) v e y) m (letter (latch_of k.target) m)
-act_static h (Worker a b) c m (WakeUp k) = wake_keeps (latch_of k.target) Static same_static (λ v e y n. letter_static (latch_of k.target) v e y) m (letter (latch_of k.target) m)
-act_static h (Worker a b) c m (SetLatch k) = set_keeps k.latch Static (λ v e. letter_static k.latch v e IsSet) m (letter k.latch m)
+act_static h (Worker a b) c m (GetSleepy k) = sleepy_static (latch_of k.target) m (letter (latch_of k.target) m)
+act_static h (Worker a b) c m (FallAsleep k) = asleep_static (latch_of k.target) m (letter (latch_of k.target) m)
+act_static h (Worker a b) c m (WakeUp k) = wake_static (latch_of k.target) m (letter (latch_of k.target) m)
+act_static h (Worker a b) c m (SetLatch k) = set_static k.latch m (letter k.latch m)
 act_static h (Worker a b) c m (RaiseCount n) = raise_static m
 act_static h (Worker a b) c m (LowerCount p s n) = lower_static m s _
 act_static h (Worker a b) c m _ = search (rules, arith)
-act_static h (Caller n) c m (SetLatch k) = set_keeps k.latch Static (λ v e. letter_static k.latch v e IsSet) m (letter k.latch m)
+act_static h (Caller n) c m (SetLatch k) = set_static k.latch m (letter k.latch m)
 act_static h (Caller n) c m (RaiseCount g) = raise_static m
 act_static h (Caller n) c m (LowerCount p s g) = lower_static m s _
 act_static h (Caller n) c m _ = search (rules, arith)

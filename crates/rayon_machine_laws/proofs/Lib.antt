@@ -1,5 +1,4 @@
 pub mod Frame
-pub mod Letters
 pub mod WrongMachines
 pub mod Seats
 pub mod Ties
@@ -50,5 +49,3 @@ pub mod ShareEvents
 pub mod ShareEnds
 pub mod Bares
 pub mod Returns
-pub mod Takes
-pub mod Filled

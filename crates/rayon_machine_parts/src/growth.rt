@@ -9,40 +9,47 @@ use crate::parties::{Crew, Stack};
 use crate::parts::{Bench, Pool, Seat};
 use crate::shapes::Shapes;
 use rayon_machine_places::act::Act;
+use rayon_machine_places::error::StepError;
 use rayon_machine_places::place::Party;
 use rayon_machine_places::state::{Call, Job, Letter};
-use std::alloc::{AllocError, Global};
+use std::alloc::Global;
 use std::collections::VecDeque;
 
 /// Room for the job of this number.
-pub fn grow_jobs(jobs: &mut Vec<Job>, number: usize) -> Result<(), AllocError>
+pub fn grow_jobs(jobs: &mut Vec<Job>, number: usize) -> Result<(), StepError>
     ensures same { (n : ℕ) → job_at jobs.new.items n ≡ job_at jobs.old.items n }
     ensures room { OnOk result (number < vec_len jobs.new) }
 {
     'fill: while jobs.len() <= number {
-        jobs.push(Job::blank())?;
+        if jobs.push(Job::blank()).is_err() {
+            return Err(StepError::NoRoom);
+        }
     }
     Ok(())
 }
 
 /// Room for the call of this number.
-pub fn grow_calls(calls: &mut Vec<Call>, number: usize) -> Result<(), AllocError>
+pub fn grow_calls(calls: &mut Vec<Call>, number: usize) -> Result<(), StepError>
     ensures same { (n : ℕ) → call_at calls.new.items n ≡ call_at calls.old.items n }
     ensures room { OnOk result (number < vec_len calls.new) }
 {
     'fill: while calls.len() <= number {
-        calls.push(Call::waiting(None, 0))?;
+        if calls.push(Call::waiting(None, 0)).is_err() {
+            return Err(StepError::NoRoom);
+        }
     }
     Ok(())
 }
 
 /// Room for the pool of this index.
-pub fn grow_pools(alloc: Global, pools: &mut Vec<Pool>, index: usize) -> Result<(), AllocError>
+pub fn grow_pools(alloc: Global, pools: &mut Vec<Pool>, index: usize) -> Result<(), StepError>
     ensures same { (p : ℕ) → pool_at pools.new.items p ≡ pool_at pools.old.items p }
     ensures room { OnOk result (index < vec_len pools.new) }
 {
     'fill: while pools.len() <= index {
-        pools.push(Pool::blank(alloc))?;
+        if pools.push(Pool::blank(alloc)).is_err() {
+            return Err(StepError::NoRoom);
+        }
     }
     Ok(())
 }
@@ -52,14 +59,19 @@ pub(crate) fn grow_benches(
     alloc: Global,
     benches: &mut Vec<Bench>,
     pool: usize,
-) -> Result<(), AllocError>
+) -> Result<(), StepError>
     ensures same { (p i : ℕ) → seat_at benches.new.items p i ≡ seat_at benches.old.items p i }
     ensures room { OnOk result (pool < vec_len benches.new) }
 {
     'fill: while benches.len() <= pool {
-        benches.push(Bench {
-            seats: Vec::new(alloc),
-        })?;
+        if benches
+            .push(Bench {
+                seats: Vec::new(alloc),
+            })
+            .is_err()
+        {
+            return Err(StepError::NoRoom);
+        }
     }
     Ok(())
 }
@@ -69,29 +81,32 @@ pub(crate) fn grow_seats(
     alloc: Global,
     seats: &mut Vec<Seat>,
     index: usize,
-) -> Result<(), AllocError>
+) -> Result<(), StepError>
     ensures same { (i : ℕ) → seat_in seats.new.items i ≡ seat_in seats.old.items i }
     ensures room { OnOk result (index < vec_len seats.new) }
 {
     'fill: while seats.len() <= index {
-        seats.push(Seat::blank(alloc))?;
+        if seats.push(Seat::blank(alloc)).is_err() {
+            return Err(StepError::NoRoom);
+        }
     }
     Ok(())
 }
 
 /// Room for the stacks of the workers of the pool of this index.
-pub(crate) fn grow_crews(
-    alloc: Global,
-    crews: &mut Vec<Crew>,
-    pool: usize,
-) -> Result<(), AllocError>
+pub(crate) fn grow_crews(alloc: Global, crews: &mut Vec<Crew>, pool: usize) -> Result<(), StepError>
     ensures same { (h : Shape) (p i : ℕ) → worker_in h crews.new.items p i ≡ worker_in h crews.old.items p i }
     ensures room { OnOk result (pool < vec_len crews.new) }
 {
     'fill: while crews.len() <= pool {
-        crews.push(Crew {
-            stacks: Vec::new(alloc),
-        })?;
+        if crews
+            .push(Crew {
+                stacks: Vec::new(alloc),
+            })
+            .is_err()
+        {
+            return Err(StepError::NoRoom);
+        }
     }
     Ok(())
 }
@@ -103,7 +118,7 @@ pub(crate) fn grow_stacks(
     pool: usize,
     stacks: &mut Vec<Stack>,
     index: usize,
-) -> Result<(), AllocError>
+) -> Result<(), StepError>
     ensures same { (i : ℕ) → stack_at (shape_of shapes.now) pool stacks.new.items i ≡ stack_at (shape_of shapes.now) pool stacks.old.items i }
     ensures room { OnOk result (index < vec_len stacks.new) }
 {
@@ -112,7 +127,9 @@ pub(crate) fn grow_stacks(
             pool,
             index: stacks.len(),
         };
-        stacks.push(Stack::first(alloc, shapes, party))?;
+        if stacks.push(Stack::first(alloc, shapes, party)).is_err() {
+            return Err(StepError::NoRoom);
+        }
     }
     Ok(())
 }
@@ -123,13 +140,15 @@ pub(crate) fn grow_callers(
     shapes: &Shapes,
     callers: &mut Vec<Stack>,
     number: usize,
-) -> Result<(), AllocError>
+) -> Result<(), StepError>
     ensures same { (c : ℕ) → caller_in (shape_of shapes.now) callers.new.items c ≡ caller_in (shape_of shapes.now) callers.old.items c }
     ensures room { OnOk result (number < vec_len callers.new) }
 {
     'fill: while callers.len() <= number {
         let party = Party::Caller(callers.len());
-        callers.push(Stack::first(alloc, shapes, party))?;
+        if callers.push(Stack::first(alloc, shapes, party)).is_err() {
+            return Err(StepError::NoRoom);
+        }
     }
     Ok(())
 }
@@ -152,7 +171,7 @@ pub(crate) fn pool_room(
     pools: &mut Vec<Pool>,
     pool: usize,
     act: Act,
-) -> Result<(), AllocError>
+) -> Result<(), StepError>
     ensures same { (p : ℕ) → pool_at pools.new.items p ≡ pool_at pools.old.items p }
     ensures room { OnOk result (HasPool act pools.new.items pool) }
 {
@@ -161,7 +180,7 @@ pub(crate) fn pool_room(
 }
 
 /// Room in a stored pool for what an act injects.
-fn pool_fits(pools: &mut Vec<Pool>, pool: usize, act: Act) -> Result<(), AllocError>
+fn pool_fits(pools: &mut Vec<Pool>, pool: usize, act: Act) -> Result<(), StepError>
     requires { pool < vec_len pools.old }
     ensures same { (p : ℕ) → pool_at pools.new.items p ≡ pool_at pools.old.items p }
     ensures room { OnOk result (HasPool act pools.new.items pool) }
@@ -176,7 +195,7 @@ pub(crate) fn seat_room(
     pool: usize,
     worker: usize,
     act: Act,
-) -> Result<(), AllocError>
+) -> Result<(), StepError>
     ensures same { (p i : ℕ) → seat_at benches.new.items p i ≡ seat_at benches.old.items p i }
     ensures room { OnOk result (HasSeat act benches.new.items pool worker) }
 {
@@ -187,7 +206,7 @@ pub(crate) fn seat_room(
 }
 
 /// Room in a stored seat for what an act pushes.
-fn seat_fits(seats: &mut Vec<Seat>, worker: usize, act: Act) -> Result<(), AllocError>
+fn seat_fits(seats: &mut Vec<Seat>, worker: usize, act: Act) -> Result<(), StepError>
     requires { worker < vec_len seats.old }
     ensures same { (i : ℕ) → seat_in seats.new.items i ≡ seat_in seats.old.items i }
     ensures room { OnOk result (SeatFits act seats.new.items worker) }
@@ -213,12 +232,16 @@ impl Pool {
     }
 
     /// Room for what an act injects.
-    fn make_room(&mut self, act: Act) -> Result<(), AllocError>
+    fn make_room(&mut self, act: Act) -> Result<(), StepError>
         ensures same { pool_of self.new ≡ pool_of self.old }
         ensures room { OnOk result (InjectorFits act (deque_len self.new.injector) (deque_capacity self.new.injector)) }
     {
         match act {
-            Act::PushInj { .. } => self.injector.try_reserve(1),
+            Act::PushInj { .. } => if self.injector.try_reserve(1).is_err() {
+                Err(StepError::NoRoom)
+            } else {
+                Ok(())
+            },
             _ => Ok(()),
         }
     }
@@ -242,12 +265,16 @@ impl Seat {
     }
 
     /// Room for what an act pushes.
-    fn make_room(&mut self, act: Act) -> Result<(), AllocError>
+    fn make_room(&mut self, act: Act) -> Result<(), StepError>
         ensures same { seat_of self.new ≡ seat_of self.old }
         ensures room { OnOk result (DequeFits act (deque_len self.new.own) (deque_capacity self.new.own)) }
     {
         match act {
-            Act::PushOwn(_) => self.own.try_reserve(1),
+            Act::PushOwn(_) => if self.own.try_reserve(1).is_err() {
+                Err(StepError::NoRoom)
+            } else {
+                Ok(())
+            },
             _ => Ok(()),
         }
     }

@@ -159,8 +159,7 @@ pub enum Next {
 }
 
 impl Act {
-    /// The pool that this act of the party touches, by its index: the one that the act names, else the worker's own. It is 0
-    /// where an outside caller's act names none, which then touches no pool.
+    /// The pool that an act touches.
     pub fn pool(self, party: Party) -> usize
         ensures { result ≡ target_pool party self }
     {
@@ -179,8 +178,7 @@ impl Act {
         }
     }
 
-    /// The worker that an act of this party touches, by its index in that pool: the one that it names,
-    /// else the party itself, and 0 of an outside caller.
+    /// The worker of that pool that it touches.
     pub fn worker(self, party: Party) -> usize
         ensures { result ≡ target_worker party self }
     {
@@ -194,8 +192,7 @@ impl Act {
         }
     }
 
-    /// The number of the call that an act touches: the one that it or its latch names, and 0 where it
-    /// touches none.
+    /// The call that it touches, if it touches one.
     pub fn call(self) -> u64
         ensures { result ≡ target_call self }
     {
@@ -210,8 +207,7 @@ impl Act {
         }
     }
 
-    /// The number of the job that an act touches, where `found` stands at the end of the queue that it
-    /// takes from: the one that it names or takes, and 0 where it touches none.
+    /// The job that it touches, where this task stands at the end of its queue.
     pub fn job(self, found: Option<u64>) -> u64
         ensures { result ≡ aimed_job self found }
     {

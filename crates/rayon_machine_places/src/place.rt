@@ -139,12 +139,6 @@ pub enum Then {
         first: Option<Ending>,
         last: Ending,
     },
-    /// The call answers that it took nothing, since its cell was empty: how its first side ended, if it is a join. A
-    /// fault of the first side comes before that. No call of a run of the machine answers so.
-    Missing {
-        call: OpenCall,
-        first: Option<Ending>,
-    },
     /// The install that ran its job at once answers.
     Ran {
         job: u64,
@@ -387,7 +381,7 @@ impl Party {
 }
 
 impl Latch {
-    /// The number of the call whose latch this is, and 0 of a terminate latch.
+    /// The call of a latch.
     pub fn call(self) -> u64
         ensures { result ≡ call_of self }
     {
@@ -399,7 +393,7 @@ impl Latch {
 }
 
 impl Share {
-    /// The number of the job whose share this is, and 0 of the share of a pool's value.
+    /// The job of a share.
     pub fn job(self) -> u64
         ensures { result ≡ share_job self }
     {

@@ -1,10 +1,9 @@
 //! The table of places in parts, and the acts at the places of each part.
-ghost use Rattle.std.specs.Prelude.{ℕ, true, ◌≡◌};
-ghost use Rattle.rayon_machine_places.specs.Places.{act_of, is_free, is_pick, is_refusable, is_rest, latch_of, look_act, plan_call, plan_job, plan_pool, push_act, victim_of};
+ghost use Rattle.std.specs.Prelude.{◌≡◌};
+ghost use Rattle.rayon_machine_places.specs.Places.{act_of, latch_of, look_act, plan_call, plan_job, plan_pool, push_act, is_free, is_refusable, is_pick, victim_of};
 ghost use Rattle.rayon_machine_places.specs.Groups.{group_of};
 ghost use Rattle.rayon_machine_places.specs.declared.place.Party.{Party as AnyParty};
 ghost use Rattle.rayon_machine_places.specs.declared.place.Party.TheVariants.{Worker};
-ghost use Rattle.rayon_machine_places.specs.declared.act.Act.TheVariants.{Idle};
 ghost use Rattle.rayon_machine_places.specs.declared.table.Group.TheVariants.{Busy, Searching, Dozing, Rising, Joining, Yielding, Calling, Waking, Closing};
 ghost use Rattle.rayon_machine_places.specs.Readers.{next_at};
 
@@ -136,20 +135,6 @@ impl Place {
             Place::WakeSettled(_) | Place::UnlockSettled(_) | Place::SetLockLatch(_) =>
                 Group::Closing,
             _ => Group::Resting,
-        }
-    }
-
-    /// Whether no party has an act at the place: a run, a frame below a run, a free party, or one that has stopped. At every
-    /// other place each worker has an act. Where a call or a wake is made, or a run or a call ends, an outside caller
-    /// has one too; it never stands in a wait for work, in a join or in a yield.
-    pub fn rests(self) -> bool
-        ensures rest { result ≡ is_rest self }
-        ensures none { (q : AnyParty) → result ≡ true → act_of q self ≡ Idle }
-        ensures some { (p i : ℕ) → act_of (Worker p i) self ≡ Idle → result ≡ true }
-    {
-        match self.group() {
-            Group::Resting => true,
-            _ => false,
         }
     }
 
@@ -328,8 +313,7 @@ impl Place {
         }
     }
 
-    /// Whether the next act can be refused for want of room: where a call grows and where a job is
-    /// pushed.
+    /// Whether the next act can be refused for want of room.
     pub fn refusable(self) -> bool
         ensures { result ≡ is_refusable self }
     {
@@ -349,7 +333,7 @@ impl Place {
         }
     }
 
-    /// The worker that is stolen from here, by its index in the party's pool. None at every other place.
+    /// The victim that is stolen from here.
     pub fn victim(self) -> Option<usize>
         ensures { result ≡ victim_of self }
     {
@@ -360,8 +344,7 @@ impl Place {
         }
     }
 
-    /// What a party does next at the place: where it is free it can make a call, where it
-    /// has stopped nothing, and else it makes the place's act.
+    /// What a party does next at the place.
     pub fn next_of(self, party: Party) -> Next
         ensures { result ≡ next_at party self }
     {

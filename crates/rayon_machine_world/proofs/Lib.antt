@@ -2,4 +2,3 @@ pub mod Acted
 pub mod Running
 pub mod Turning
 pub mod Calling
-pub mod Made

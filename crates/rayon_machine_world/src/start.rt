@@ -32,7 +32,9 @@ impl World {
         if !is_shape(pools, jec_bits) {
             return Err(StartError::BadStart);
         }
-        let pools = pools.to_vec(alloc)?;
+        let Ok(pools) = pools.to_vec(alloc) else {
+            return Err(StartError::NoRoom);
+        };
         Ok(World {
             alloc,
             shapes: Shapes { pools, jec_bits },

@@ -1,5 +1,5 @@
-//! What the threads of a pool share, and the calls that are made on a pool from outside.
-ghost use Rattle.rayon_registry.specs.Answers.{joined_pair, InstallAnswers, JoinAnswers};
+// What the threads of a pool share, and the calls that are made on a pool from outside.
+ghost use Rattle.rayon_registry.specs.Answers.{joined_pair};
 ghost use Rattle.std.specs.Arc.{arc_value};
 ghost use Rattle.std.specs.Prelude.{◌≡◌, ◌⊎◌, ◌<◌, ℕ, [], max, Result, Ok, Err, IfOk, IfErr};
 
@@ -125,7 +125,9 @@ impl<J: JobKind> Registry<J> {
         alloc: Global,
         job: J,
     ) -> Result<J::Output, CallError<J::Fault, J>>
-        ensures answers { InstallAnswers (λ r. J.answers (J.tag_of job) r) job result }
+        ensures ok { IfOk result (λ x. J.answers (J.tag_of job) (Ok x)) }
+        ensures fault { (f : _) → result ≡ Err (CallError.Fault f) → J.answers (J.tag_of job) (Err f) }
+        ensures back { (r : _) (j : _) → result ≡ Err (CallError.Refused r j) → j ≡ job }
         ensures shallow { (j : _) → result ≡ Err (CallError.Refused Refusal.TooDeep j) → ⊥ }
     {
         let hold = match self.increment_terminate_count(rt) {
@@ -145,7 +147,9 @@ impl<J: JobKind> Registry<J> {
         hold: &TerminateHold,
         job: J,
     ) -> Result<J::Output, CallError<J::Fault, J>>
-        ensures answers { InstallAnswers (λ r. J.answers (J.tag_of job) r) job result }
+        ensures ok { IfOk result (λ x. J.answers (J.tag_of job) (Ok x)) }
+        ensures fault { (f : _) → result ≡ Err (CallError.Fault f) → J.answers (J.tag_of job) (Err f) }
+        ensures back { (r : _) (j : _) → result ≡ Err (CallError.Refused r j) → j ≡ job }
         ensures shallow { (j : _) → result ≡ Err (CallError.Refused Refusal.TooDeep j) → ⊥ }
     {
         let tag = job.tag();
@@ -178,8 +182,8 @@ impl<J: JobKind> Registry<J> {
         }
     }
 
-    /// Joins two sides on the pool for a caller that is no worker, which blocks until both have run. Refused `TooDeep`
-    /// exactly where the pool's `depth_limit` is 1, whatever else holds; `Ended`, `Full`, `NoRoom`; with the sides back.
+    /// Joins two sides on the pool for a caller that is no worker, which blocks until both have run. Refused `Ended`,
+    /// `Full`, `NoRoom`, and `TooDeep` where the pool's `depth_limit` is 1, with the sides back.
     pub fn join<R: Wait>(
         &self,
         rt: &R,
@@ -187,13 +191,11 @@ impl<J: JobKind> Registry<J> {
         a: J,
         b: J,
     ) -> Result<(J::Output, J::Output), CallError<J::Fault, (J, J)>>
-        ensures answers { JoinAnswers (λ r. J.answers (J.tag_of a) r) (λ r. J.answers (J.tag_of b) r) (a, b) result }
-        ensures deep { self.now.depth_limit < 2 → result ≡ Err (CallError.Refused Refusal.TooDeep (a, b)) }
-        ensures shallow { (sides : _) → result ≡ Err (CallError.Refused Refusal.TooDeep sides) → self.now.depth_limit < 2 }
+        ensures ok { IfOk result (λ r. J.answers (J.tag_of a) (Ok r.0) × J.answers (J.tag_of b) (Ok r.1)) }
+        ensures fault { (f : _) → result ≡ Err (CallError.Fault f) → J.answers (J.tag_of a) (Err f) ⊎ (((x : _) × J.answers (J.tag_of a) (Ok x)) × J.answers (J.tag_of b) (Err f)) }
+        ensures back { (r : _) (sides : _) → result ≡ Err (CallError.Refused r sides) → sides ≡ (a, b) }
+        ensures deep { (sides : _) → result ≡ Err (CallError.Refused Refusal.TooDeep sides) → self.now.depth_limit < 2 }
     {
-        if self.depth_limit < 2 {
-            return Err(CallError::Refused(Refusal::TooDeep, (a, b)));
-        }
         let hold = match self.increment_terminate_count(rt) {
             Ok(hold) => hold,
             Err(refusal) => return Err(CallError::Refused(refusal, (a, b))),
@@ -212,8 +214,10 @@ impl<J: JobKind> Registry<J> {
         a: J,
         b: J,
     ) -> Result<(J::Output, J::Output), CallError<J::Fault, (J, J)>>
-        ensures answers { JoinAnswers (λ r. J.answers (J.tag_of a) r) (λ r. J.answers (J.tag_of b) r) (a, b) result }
-        ensures shallow { (sides : _) → result ≡ Err (CallError.Refused Refusal.TooDeep sides) → ⊥ }
+        ensures ok { IfOk result (λ r. J.answers (J.tag_of a) (Ok r.0) × J.answers (J.tag_of b) (Ok r.1)) }
+        ensures fault { (f : _) → result ≡ Err (CallError.Fault f) → J.answers (J.tag_of a) (Err f) ⊎ (((x : _) × J.answers (J.tag_of a) (Ok x)) × J.answers (J.tag_of b) (Err f)) }
+        ensures back { (r : _) (sides : _) → result ≡ Err (CallError.Refused r sides) → sides ≡ (a, b) }
+        ensures deep { (sides : _) → result ≡ Err (CallError.Refused Refusal.TooDeep sides) → self.now.depth_limit < 2 }
     {
         let tags = (a.tag(), b.tag());
         match self.send_pair(rt, alloc, hold, a, b) {
@@ -225,7 +229,7 @@ impl<J: JobKind> Registry<J> {
         }
     }
 
-    // Queues the sides: what is answered is where their results will be. Refused `NoRoom`.
+    // Queues the sides: what is answered is where their results will be. Refused `NoRoom`, `TooDeep`.
     fn send_pair<R: Wait>(
         &self,
         rt: &R,
@@ -234,7 +238,9 @@ impl<J: JobKind> Registry<J> {
         a: J,
         b: J,
     ) -> Result<Arc<PairReply<J>, Global>, (Refusal, (J, J))>
-        ensures back { IfErr result (λ e. e ≡ (Refusal.NoRoom, (a, b))) }
+        ensures sent { IfOk result (λ _. 1 < self.now.depth_limit) }
+        ensures back { IfErr result (λ e. e.1 ≡ (a, b)) }
+        ensures deep { IfErr result (λ e. e.0 ≡ Refusal.TooDeep → self.now.depth_limit < 2) }
     {
         let Ok(reply) = PairReply::new(alloc) else {
             return Err((Refusal::NoRoom, (a, b)));
@@ -242,6 +248,9 @@ impl<J: JobKind> Registry<J> {
         let Ok(theirs) = Arc::try_clone(&reply) else {
             return Err((Refusal::NoRoom, (a, b)));
         };
+        if self.depth_limit < 2 {
+            return Err((Refusal::TooDeep, (a, b)));
+        }
         let pair = Pair {
             first: a,
             second: b,

@@ -1,29 +1,41 @@
-//! Adds up numbers on a pool: a job for more than one number forks into its two halves by a join.
+//! Adds up numbers on a pool: a job with more than one number forks into its two halves by a join.
 #![tactic(auto)]
 
-ghost use Rattle.slice_sum.specs.declared.TheConstants.{NUMBERS};
+ghost use Rattle.std.specs.Prelude.{◌≡◌, ℕ, ◌*◌, IfOk, sum, sum_by};
 ghost use Rattle.std.proofs.Common.{rules};
-ghost use Rattle.std.specs.Prelude.{◌≡◌, ℕ, ◌+◌, IfOk, sum, take};
 
 use rayon_core::{
-    BroadcastContext, CallError, EndAfter, FnContext, Ids, Job, JobKind, Refusal,
-    ThreadPoolBuilder, Waits, WorkerThread,
+    BroadcastContext, CallError, FnContext, Ids, Job, JobKind, Refusal, ThreadPoolBuilder, Waits,
+    WorkerThread,
 };
 use std::alloc::Global;
+use std::io;
 
 static NUMBERS: [u64; 12] = [3, 1, 4, 1, 5, 9, 2, 6, 5, 3, 5, 8];
 
-/// Adds up the numbers from one place up to another. A job is its own tag, quick to compare.
-#[derive(Clone, Copy, Debug, PartialEq, Eq)]
-struct Total(usize, usize);
+/// What the pool is asked for. A job is its own tag.
+#[derive(Clone, Copy, PartialEq, Eq)]
+enum Total {
+    Numbers(&'static [u64]),
+    Squares(&'static [u64]),
+}
 
 /// Why there is no total.
 #[derive(Debug, Drop)]
 enum TotalFault {
-    NoSuchPart,
     TooLarge,
     Refused(Refusal),
     Lost,
+}
+
+impl<B: Drop> From<CallError<TotalFault, B>> for TotalFault {
+    fn from(error: CallError<TotalFault, B>) -> TotalFault {
+        match error {
+            CallError::Fault(fault) => fault,
+            CallError::Refused(refusal, _) => TotalFault::Refused(refusal),
+            CallError::Foreign | CallError::Missing => TotalFault::Lost,
+        }
+    }
 }
 
 impl JobKind for Total {
@@ -33,15 +45,21 @@ impl JobKind for Total {
 
     type Fault = TotalFault;
 
-    ghost answers = { λ t r. IfOk r (λ v. sum (take t.0 NUMBERS) + v ≡ sum (take t.1 NUMBERS)) };
+    ghost use Rattle.slice_sum.specs.declared.Total.TheVariants.{Numbers, Squares};
+
+    ghost answers = { λ t r. IfOk r (λ v. v ≡ elim t [ Numbers s ↦ sum s.now | Squares s ↦ sum_by (λ x. x * x) s.now ]) };
+
+    ghost answers_on = { λ t i n r. IfOk r (λ v. v ≡ elim t [ Numbers s ↦ sum s.now | Squares s ↦ sum_by (λ x. x * x) s.now ]) };
 
     ghost tag_of = { λ j. j };
-
-    ghost same_answers = { λ t u e. Prim.search rules };
 
     fn tag(&self) -> Total {
         *self
     }
+
+    ghost same_answers = { λ t u r e h. Prim.search rules };
+
+    ghost same_answers_on = { λ t u i n r e h. Prim.search rules };
 }
 
 impl Job for Total {
@@ -52,38 +70,50 @@ impl Job for Total {
         w: &mut WorkerThread<Self>,
         _ctx: &mut FnContext<Self>,
     ) -> Result<u64, TotalFault> {
-        let Total(start, end) = self;
-        match NUMBERS.get(start..end) {
-            None => Err(TotalFault::NoSuchPart),
-            Some([]) => Ok(0),
-            Some([n]) => Ok(*n),
-            Some(numbers) => {
-                let middle = start + numbers.len() / 2;
-                match w.join_jobs(rt, alloc, Total(start, middle), Total(middle, end)) {
-                    Ok((a, b)) => a.checked_add(b).ok_or(TotalFault::TooLarge),
-                    Err(CallError::Fault(fault)) => Err(fault),
-                    Err(CallError::Refused(refusal, _)) => Err(TotalFault::Refused(refusal)),
-                    Err(CallError::Foreign | CallError::Missing) => Err(TotalFault::Lost),
-                }
+        match self {
+            Total::Numbers([]) | Total::Squares([]) => Ok(0),
+            Total::Numbers([n]) => Ok(*n),
+            Total::Squares([n]) => n.checked_mul(*n).ok_or(TotalFault::TooLarge),
+            Total::Numbers(numbers) => {
+                let (left, right) = numbers.split_at(numbers.len() / 2);
+                let (a, b) = w.join_jobs(rt, alloc, Total::Numbers(left), Total::Numbers(right))?;
+                a.checked_add(b).ok_or(TotalFault::TooLarge)
+            }
+            Total::Squares(numbers) => {
+                let (left, right) = numbers.split_at(numbers.len() / 2);
+                let (a, b) = w.join_jobs(rt, alloc, Total::Squares(left), Total::Squares(right))?;
+                a.checked_add(b).ok_or(TotalFault::TooLarge)
             }
         }
     }
 
     fn run_on<R: Waits<Self>>(
         &self,
-        _rt: &R,
-        _alloc: Global,
-        _w: &mut WorkerThread<Self>,
+        rt: &R,
+        alloc: Global,
+        w: &mut WorkerThread<Self>,
         _ctx: &mut BroadcastContext<Self>,
     ) -> Result<u64, TotalFault> {
-        Err(TotalFault::NoSuchPart)
+        Ok(w.install(rt, alloc, *self)?)
     }
 }
 
-fn main(rt: HostRuntime) -> anyhow::Result<()> {
-    let pool = ThreadPoolBuilder::new().build(&rt, rt.alloc(), &Ids::new())?;
-    match pool.end_after(&rt, |pool| pool.install(&rt, rt.alloc(), Total(0, 12))) {
-        Ok(total) => Ok(println!(rt; "{total}")?),
-        Err(error) => Ok(println!(rt; "no total: {error:?}")?),
+fn main(rt: HostRuntime) -> io::Result<()> {
+    let alloc = rt.alloc();
+    let pool = match ThreadPoolBuilder::new().build(&rt, alloc, &Ids::new()) {
+        Ok(pool) => pool,
+        Err(error) => return println!(rt; "no pool: {error}"),
+    };
+    let one = pool.install(&rt, alloc, Total::Numbers(&NUMBERS));
+    let both = pool.join(
+        &rt,
+        alloc,
+        Total::Numbers(&NUMBERS),
+        Total::Squares(&NUMBERS),
+    );
+    pool.end(&rt);
+    match (one, both) {
+        (Ok(sum), Ok((again, squares))) => println!(rt; "{sum} {again} {squares}"),
+        _ => println!(rt; "no total"),
     }
 }

@@ -19,7 +19,7 @@ use Rattle.rayon_machine_places.specs.World.{Shape, Pool, Stack, World, Counts, 
 use Rattle.rayon_machine_places.specs.Steps.{put_stack, after_move}
 use Rattle.rayon_machine_laws.specs.Committed.{is_committed}
 use Rattle.rayon_machine_laws.specs.Attended.{is_filled, HasLooker, has_pushed, owes_wake, HasWaker, IsInjectorAttended}
-use Rattle.rayon_machine_laws.proofs.Calm.{is_quiet, part_at, counts_of, next_at, Quiet, quiet_go}
+use Rattle.rayon_machine_laws.proofs.Calm.{is_quiet, part_at, counts_seen, next_at, Quiet, quiet_go}
 use Rattle.rayon_machine_laws.proofs.Frame.{and_parts, or_parts, same_party_true, same_party_refl, if_some_and, if_some_map}
 use Rattle.rayon_machine_laws.proofs.Ties.{outcome, result}
 use Rattle.rayon_machine_laws.proofs.Tops.{FramesOk}
@@ -71,12 +71,6 @@ attended_same w u p s a i below filled has =
           record { worker = l.worker; below = subst (λ n. l.worker < n) (sym s.workers) (l.below); looks = looks_from ((u.seat p (l.worker)).inactive) (is_committed u p (l.worker)) ((s.quiet (l.worker)).0 (ps.0)) ((s.quiet (l.worker)).1 ∙ ps.1) })
       | inr k ↦ inr (record { party = k.party; worker = k.worker; below = subst (λ n. k.worker < n) (sym s.workers) (k.below); committed = (s.quiet (k.worker)).1 ∙ k.committed; owing = s.owing (k.party) (k.worker) (k.below) (k.owing) })
     ]
-
-pub stack_own : (f : Party → Stack) (q : Party) (x : Stack) → put_stack f q x q ≡ x
-stack_own f q x = let e : same_party q q ≡ true = same_party_refl q in rw e
-
-pub stack_other : (f : Party → Stack) (q : Party) (x : Stack) (g : Party) → same_party g q ≡ false → put_stack f q x g ≡ f g
-stack_other f q x g e = rw e
 
 pub owing_put : (w : World) (q : Party) (x y : Stack) (g : Party) (p i : ℕ) (b : Bool) → same_party g q ≡ b → w.stack q ≡ x → (owes q x.top p i ≡ true → owes q y.top p i ≡ true) → owes g (w.stack g).top p i ≡ true → owes g (if b then y else w.stack g).top p i ≡ true
 owing_put w q x y g p i true eb e f h = let is : g ≡ q = same_party_true g q eb in subst (λ z. owes z y.top p i ≡ true) (sym is) (f (ap (λ z. owes q (z.top) p i) (sym e) ∙ subst (λ z. owes z (w.stack z).top p i ≡ true) is h))
@@ -165,4 +159,4 @@ quiet_attends w q k e fr a z np owe =
     (outcome w q k)
     (if_some_and (λ r. (p i : ℕ) → Quiet w (result w q k r) p i) (λ r. is_filled (r.1.pool.injector) ≡ true → is_filled (w.pool (target_pool q (act_of q k.top))).injector ≡ true) (outcome w q k)
     (quiet_go w q k e fr z)
-    (shrinks w.shape q (counts_of w q k) (part_at w q k) k.top np))
+    (shrinks w.shape q (counts_seen w q k) (part_at w q k) k.top np))

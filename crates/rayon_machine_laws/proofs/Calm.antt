@@ -92,8 +92,8 @@ quiet_looks _ e = refl
 abbrev pub part_at : World → Party → Stack → Part
 part_at w q k = part_of w (target_pool q (act_of q k.top)) (target_worker q (act_of q k.top)) (target_call (act_of q k.top)) (job_at w q (act_of q k.top))
 
-abbrev pub counts_of : World → Party → Stack → Counts
-counts_of w q k = counts_at w (target_pool q (act_of q k.top))
+abbrev pub counts_seen : World → Party → Stack → Counts
+counts_seen w q k = counts_at w (target_pool q (act_of q k.top))
 
 -- where the party goes
 abbrev pub next_at : World → Party → Stack → Seen → Move
@@ -132,5 +132,5 @@ quiet_go w q k e fr z =
     (λ r h p i. quiet_at w q k e fr (quiet_awake k.top z) r (h.0) (h.1) p i (same_party (Worker p i) q) ((p == target_pool q (act_of q k.top)) && (i == target_worker q (act_of q k.top))) refl refl)
     (outcome w q k)
     (if_some_and (λ r. SameSets ((part_at w q k).seat) (r.1.seat)) (λ r. Tops (λ y. is_blocking y ≡ false) (next_at w q k (r.0))) (outcome w q k)
-    (seat_same w.shape q (counts_of w q k) (part_at w q k) k.top z)
-    (stays_awake w.shape (shape_at w q k) q (counts_of w q k) (part_at w q k) k.top (quiet_looks k.top z)))
+    (seat_same w.shape q (counts_seen w q k) (part_at w q k) k.top z)
+    (stays_awake w.shape (shape_at w q k) q (counts_seen w q k) (part_at w q k) k.top (quiet_looks k.top z)))

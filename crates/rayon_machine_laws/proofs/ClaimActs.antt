@@ -27,54 +27,13 @@ use Rattle.rayon_machine_places.specs.declared.state.Job.{Job}
 use Rattle.rayon_machine_places.specs.Places.{latch_of, act_of, next_of}
 use Rattle.rayon_machine_places.specs.World.{Shape, Stack, World, Counts, Part, head_of, own_of, or_none, target_job, Outcome, letter, with_letter, sleepy, fall_asleep, wake_up, set_latch, found, at_job, begun, popped, take_cast, pop_injector, lowered, effect}
 use Rattle.rayon_machine_places.specs.Steps.{put, part_of, jobs_after, after}
-use Rattle.rayon_machine_laws.proofs.Frame.{either, if_some_all, if_some_map}
+use Rattle.rayon_machine_laws.proofs.Frame.{either, if_some_all, if_some_map, put_same, after_kind, after_pool}
 use Rattle.rayon_machine_laws.proofs.Hands.{held}
 use Rattle.rayon_machine_laws.proofs.Located.{loc_of, loc_at, is_loc, is_left, IsOnward, onward_left, Hand}
 use Rattle.rayon_machine_laws.proofs.Placed.{Kept}
 use Rattle.rayon_machine_laws.proofs.PlacedRuns.{JobsHold}
 use Rattle.rayon_machine_laws.proofs.Later.{Later, Static}
-
--- where one entry is put anew that agrees on something with the old one, all do
-pub put_same : {A B : Type 0} (P : A → B) (f : ℕ → A) (k : ℕ) (v : A) (n : ℕ) → P v ≡ P (f k) → P (put f k v n) ≡ P (f n)
-put_same P f k v n e = by (n == k) refl
-  where
-    by : (z : Bool) → (n == k) ≡ z → P (if z then v else f n) ≡ P (f n)
-    by true z = e ∙ ap (λ i. P (f i)) (sym (eqb-true n k z))
-    by false z = refl
-
-pub put_new : {A : Type 0} (f : ℕ → A) (k : ℕ) (v : A) → put f k v k ≡ v
-put_new f k v = by (k == k) (eq-eqb k k refl)
-  where
-    by : (z : Bool) → z ≡ true → (if z then v else f k) ≡ v
-    by true e = refl
-    by false e = cc
-
-pub put_old : {A : Type 0} (f : ℕ → A) (k : ℕ) (v : A) (n : ℕ) → (n == k) ≡ false → put f k v n ≡ f n
-put_old f k v n e = by (n == k) e
-  where
-    by : (z : Bool) → z ≡ false → (if z then v else f n) ≡ f n
-    by true e = cc
-    by false e = refl
-
-after_kind : (q : Party) (g : Move) (J : ℕ → Job) (t : ℕ) → (jobs_after q g J t).kind ≡ (J t).kind
-after_kind q (Stay y) J t = refl
-after_kind q (Enter f y) J t = refl
-after_kind q Back J t = refl
-after_kind q (StartRun f a) J t = put_same (λ j. j.kind) J a (begun q (J a)) t refl
-after_kind q (HandBack (Detach p a)) J t = put_same (λ j. j.kind) J a (at_job (J a) HandedBack) t refl
-after_kind q (HandBack (Here p a)) J t = put_same (λ j. j.kind) J a (at_job (J a) HandedBack) t refl
-after_kind q (HandBack (Send o)) J t = put_same (λ j. j.kind) J (o.job) (at_job (J (o.job)) HandedBack) t refl
-after_kind q (HandBack (Fork o a)) J t = put_same (λ j. j.kind) (put J a (at_job (J a) HandedBack)) (o.job) (at_job (J (o.job)) HandedBack) t (sym (put_same (λ j. j.kind) J a (at_job (J a) HandedBack) (o.job) refl)) ∙ put_same (λ j. j.kind) J a (at_job (J a) HandedBack) t refl
-
-pub after_pool : (q : Party) (g : Move) (J : ℕ → Job) (t : ℕ) → (jobs_after q g J t).pool ≡ (J t).pool
-after_pool q (Stay y) J t = refl
-after_pool q (Enter f y) J t = refl
-after_pool q Back J t = refl
-after_pool q (StartRun f a) J t = put_same (λ j. j.pool) J a (begun q (J a)) t refl
-after_pool q (HandBack (Detach p a)) J t = put_same (λ j. j.pool) J a (at_job (J a) HandedBack) t refl
-after_pool q (HandBack (Here p a)) J t = put_same (λ j. j.pool) J a (at_job (J a) HandedBack) t refl
-after_pool q (HandBack (Send o)) J t = put_same (λ j. j.pool) J (o.job) (at_job (J (o.job)) HandedBack) t refl
-after_pool q (HandBack (Fork o a)) J t = put_same (λ j. j.pool) (put J a (at_job (J a) HandedBack)) (o.job) (at_job (J (o.job)) HandedBack) t (sym (put_same (λ j. j.pool) J a (at_job (J a) HandedBack) (o.job) refl)) ∙ put_same (λ j. j.pool) J a (at_job (J a) HandedBack) t refl
+use Rattle.rayon_machine_laws.proofs.Letters.{sleepy_keeps, asleep_keeps, wake_keeps}
 
 -- what an act keeps of a world's fixed things
 pub record Lasting (w u : World) : Type 0 where
@@ -300,18 +259,6 @@ unset_written m x (OfCall c) e y n = record { cell = λ d z. inl z; call = λ z.
 same_written : (m : Part) (x : Place) (e : Seen) → Written m x (e, m)
 same_written m x e = record { cell = λ d z. inl z; call = λ z. inl z; seat = λ z. inl z }
 
-sleepy_written : (m : Part) (p : Place) (l : Latch) (x : Letter) → IfSome (sleepy l m x) (Written m p)
-sleepy_written m p l Unset = unset_written m p l Done IsSleepy (λ z. cc)
-sleepy_written m p l _ = same_written m p Refused
-
-asleep_written : (m : Part) (p : Place) (l : Latch) (x : Letter) → IfSome (fall_asleep l m x) (Written m p)
-asleep_written m p l IsSleepy = unset_written m p l Done Sleeping (λ z. cc)
-asleep_written m p l _ = same_written m p Refused
-
-wakeup_written : (m : Part) (p : Place) (l : Latch) (x : Letter) → IfSome (wake_up l m x) (Written m p)
-wakeup_written m p l IsSet = same_written m p Done
-wakeup_written m p l _ = unset_written m p l Done Unset (λ z. cc)
-
 set_written : (m : Part) (k : Settling) → IfSome (set_latch k.latch m (letter k.latch m)) (Written m (SetLatch k))
 set_written m k = by k.latch refl (letter k.latch m)
   where
@@ -333,9 +280,9 @@ lower_unwritten m (OfJob t) e = record { cell = refl; call = refl; seat = refl }
 
 pub act_written : (h : Shape) (q : Party) (c : Counts) (m : Part) (x : Place) → IfSome (effect (act_of q x) h q c m) (Written m x)
 act_written h (Worker a b) c m (ProbeWorking k) = same_written m (ProbeWorking k) _
-act_written h (Worker a b) c m (GetSleepy k) = sleepy_written m (GetSleepy k) (latch_of k.target) (letter (latch_of k.target) m)
-act_written h (Worker a b) c m (FallAsleep k) = asleep_written m (FallAsleep k) (latch_of k.target) (letter (latch_of k.target) m)
-act_written h (Worker a b) c m (WakeUp k) = wakeup_written m (WakeUp k) (latch_of k.target) (letter (latch_of k.target) m)
+act_written h (Worker a b) c m (GetSleepy k) = sleepy_keeps (latch_of k.target) (λ v r. Written v (GetSleepy k) r) (λ v e. same_written v (GetSleepy k) e) (λ v e y n. unset_written v (GetSleepy k) (latch_of k.target) e y n) m (letter (latch_of k.target) m)
+act_written h (Worker a b) c m (FallAsleep k) = asleep_keeps (latch_of k.target) (λ v r. Written v (FallAsleep k) r) (λ v e. same_written v (FallAsleep k) e) (λ v e y n. unset_written v (FallAsleep k) (latch_of k.target) e y n) m (letter (latch_of k.target) m)
+act_written h (Worker a b) c m (WakeUp k) = wake_keeps (latch_of k.target) (λ v r. Written v (WakeUp k) r) (λ v e. same_written v (WakeUp k) e) (λ v e y n. unset_written v (WakeUp k) (latch_of k.target) e y n) m (letter (latch_of k.target) m)
 act_written h (Worker a b) c m (SetLatch k) = set_written m k
 act_written h (Worker a b) c m (SetLockLatch i) = record { cell = λ e z. inl z; call = λ z. inr refl; seat = λ z. inl z }
 act_written h (Worker a b) c m (StoreResult i o e) = record { cell = λ d z. inr z; call = λ z. inl z; seat = λ z. inl z }

@@ -19,12 +19,11 @@ use Rattle.rayon_machine_places.specs.Places.{own_pool, next_of, goes_on, is_fre
 use Rattle.rayon_machine_places.specs.World.{Pool, Stack, World, at_job}
 use Rattle.rayon_machine_places.specs.Steps.{put, put_stack, after_move, after_choice, after_refusal, can_miss, after_miss, after_resume, after_close, after_call, is_pool, after_yield, after_end_pool}
 use Rattle.rayon_machine_places.specs.Readers.{is_done}
-use Rattle.rayon_machine_laws.proofs.Frame.{and_parts, if_cond}
+use Rattle.rayon_machine_laws.proofs.Frame.{and_parts, if_cond, put_same, put_new}
 use Rattle.rayon_machine_laws.proofs.Hands.{held}
 use Rattle.rayon_machine_laws.proofs.PlacedEvents.{Advance}
 use Rattle.rayon_machine_laws.proofs.Claims.{FirstEnds, SaysRun, Says, wants, here, Link, Linked, AllSay, StackSays, relink, Learns}
 use Rattle.rayon_machine_laws.proofs.Later.{Later, later_says, later_all}
-use Rattle.rayon_machine_laws.proofs.ClaimActs.{put_same, put_new}
 use Rattle.rayon_machine_laws.proofs.ClaimRuns.{CallsHold, all_says, moved_says}
 
 -- where one party has another stack, and pools keep what they said

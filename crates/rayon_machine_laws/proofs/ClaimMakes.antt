@@ -24,14 +24,13 @@ use Rattle.rayon_machine_places.specs.World.{Shape, World, target_pool, target_w
 use Rattle.rayon_machine_places.specs.Steps.{put, put_stack, after_close, after_end, after_call, is_pool, new_job, new_call, after_spawn, after_send, after_install, after_join, step}
 use Rattle.rayon_machine_places.specs.Runs.{start, IsRun}
 use Rattle.rayon_machine_places.specs.Readers.{is_done}
-use Rattle.rayon_machine_laws.proofs.Frame.{either, and_parts, if_cond, acted_keeps}
+use Rattle.rayon_machine_laws.proofs.Frame.{either, and_parts, if_cond, acted_keeps, put_same, put_new, put_old}
 use Rattle.rayon_machine_laws.proofs.Ties.{job_at, outcome}
 use Rattle.rayon_machine_laws.proofs.Events.{run_keeps}
 use Rattle.rayon_machine_laws.proofs.PlacedEvents.{IsFinal, final_left, Advance}
 use Rattle.rayon_machine_laws.proofs.PlacedRuns.{step_advance, first_jobs}
 use Rattle.rayon_machine_laws.proofs.Claims.{MadeAs, is_detached, SaysPlan, SaysRun, StackSays}
 use Rattle.rayon_machine_laws.proofs.Later.{Later, later_done, later_says, later_all}
-use Rattle.rayon_machine_laws.proofs.ClaimActs.{put_same, put_new, put_old}
 use Rattle.rayon_machine_laws.proofs.ClaimRuns.{CallsHold, all_says, go_calls}
 use Rattle.rayon_machine_laws.proofs.ClaimEvents.{both, from_calls, refuse_calls, miss_calls, called_says, yield_calls, give_calls, ended_world, says_closed}
 
@@ -160,8 +159,8 @@ send_makes w q p h a = record {
     pools t b r false e y = h.pools t (below_or t w.jobs e b) r y
 
 -- a join makes its two sides, and waits for the second
-abbrev pub forked : World → ℕ → ℕ → World
-forked w p i = record w {
+abbrev pub after_fork : World → ℕ → ℕ → World
+after_fork w p i = record w {
   stack = put_stack w.stack (Worker p i) (after_call (w.stack (Worker p i)) (RaiseCount (Fork (record { number = w.calls; pool = p; job = w.jobs + 1 }) w.jobs)));
   job = put (put w.job w.jobs (new_job (Worker p i) p Direct)) (w.jobs + 1) (new_job (Worker p i) p (Stored w.calls (Worker p i)));
   call = put w.call w.calls (new_call (Some w.jobs) (w.jobs + 1));
@@ -169,27 +168,27 @@ forked w p i = record w {
   calls = w.calls + 1;
 }
 
-fork_makes : (w : World) (p i : ℕ) → CallsHold w → Advance w (forked w p i) → Makes w (forked w p i) (Worker p i) (Fork (record { number = w.calls; pool = p; job = w.jobs + 1 }) w.jobs)
+fork_makes : (w : World) (p i : ℕ) → CallsHold w → Advance w (after_fork w p i) → Makes w (after_fork w p i) (Worker p i) (Fork (record { number = w.calls; pool = p; job = w.jobs + 1 }) w.jobs)
 fork_makes w p i h a = record {
   later = later;
   says = (record { number = omega arith; made = omega arith; target = ap (λ c. c.job) (put_new w.call w.calls (new_call (Some w.jobs) (w.jobs + 1))); kind = ap (λ j. j.kind) second; pool = ap (λ j. j.pool) second }, ap (λ c. c.first) (put_new w.call w.calls (new_call (Some w.jobs) (w.jobs + 1))), record { made = omega arith; kind = ap (λ j. is_detached (j.kind)) first });
   ties = λ t b c o z. ties t b c o (t == (w.jobs + 1)) (t == w.jobs) refl refl z;
   pools = λ t b r z. pools t b r (t == (w.jobs + 1)) (t == w.jobs) refl refl z;
-  cells = new_cells w (forked w p i) (Some w.jobs) (w.jobs + 1) h later;
-  latches = new_latches w (forked w p i) (Some w.jobs) (w.jobs + 1) h later;
+  cells = new_cells w (after_fork w p i) (Some w.jobs) (w.jobs + 1) h later;
+  latches = new_latches w (after_fork w p i) (Some w.jobs) (w.jobs + 1) h later;
 }
   where
-    second : (forked w p i).job (w.jobs + 1) ≡ new_job (Worker p i) p (Stored w.calls (Worker p i))
+    second : (after_fork w p i).job (w.jobs + 1) ≡ new_job (Worker p i) p (Stored w.calls (Worker p i))
     second = put_new (put w.job w.jobs (new_job (Worker p i) p Direct)) (w.jobs + 1) (new_job (Worker p i) p (Stored w.calls (Worker p i)))
 
-    first : (forked w p i).job w.jobs ≡ new_job (Worker p i) p Direct
+    first : (after_fork w p i).job w.jobs ≡ new_job (Worker p i) p Direct
     first = put_old (put w.job w.jobs (new_job (Worker p i) p Direct)) (w.jobs + 1) (new_job (Worker p i) p (Stored w.calls (Worker p i))) w.jobs (below_new w.jobs (w.jobs + 1) (omega arith)) ∙ put_new w.job w.jobs (new_job (Worker p i) p Direct)
 
-    old : (t : ℕ) → t + 1 ≤ w.jobs → (forked w p i).job t ≡ w.job t
+    old : (t : ℕ) → t + 1 ≤ w.jobs → (after_fork w p i).job t ≡ w.job t
     old t b = put_old (put w.job w.jobs (new_job (Worker p i) p Direct)) (w.jobs + 1) (new_job (Worker p i) p (Stored w.calls (Worker p i))) t (below_new t (w.jobs + 1) (omega (arith, b))) ∙ put_old w.job w.jobs (new_job (Worker p i) p Direct) t (below_new t w.jobs b)
 
-    later : Later w (forked w p i)
-    later = record { jobs = omega arith; calls = omega arith; over = final_over w (forked w p i) a; left = λ t z. final_left ((w.job t).at) ((((forked w p i)).job t).at) (a.final t) z; kind = λ t b. ap (λ j. j.kind) (old t b); pool = λ t b. ap (λ j. j.pool) (old t b); target = λ c b. ap (λ i. i.job) (put_old w.call w.calls (new_call (Some w.jobs) (w.jobs + 1)) c (below_new c w.calls b)); side = λ c b. ap (λ i. i.first) (put_old w.call w.calls (new_call (Some w.jobs) (w.jobs + 1)) c (below_new c w.calls b)); ended = λ r z. z; given = λ r z. z }
+    later : Later w (after_fork w p i)
+    later = record { jobs = omega arith; calls = omega arith; over = final_over w (after_fork w p i) a; left = λ t z. final_left ((w.job t).at) ((((after_fork w p i)).job t).at) (a.final t) z; kind = λ t b. ap (λ j. j.kind) (old t b); pool = λ t b. ap (λ j. j.pool) (old t b); target = λ c b. ap (λ i. i.job) (put_old w.call w.calls (new_call (Some w.jobs) (w.jobs + 1)) c (below_new c w.calls b)); side = λ c b. ap (λ i. i.first) (put_old w.call w.calls (new_call (Some w.jobs) (w.jobs + 1)) c (below_new c w.calls b)); ended = λ r z. z; given = λ r z. z }
 
     ties : (t : ℕ) → t + 1 ≤ w.jobs + 2 → (c : ℕ) (o : Party) (z v : Bool) → (t == (w.jobs + 1)) ≡ z → (t == w.jobs) ≡ v → (if z then new_job (Worker p i) p (Stored w.calls (Worker p i)) else (if v then new_job (Worker p i) p Direct else w.job t)).kind ≡ Stored c o → (c + 1 ≤ w.calls + 1) × ((put w.call w.calls (new_call (Some w.jobs) (w.jobs + 1)) c).job ≡ t)
     ties t b c o true v e d y = let k : w.calls ≡ c = cc in ((let g : c + 1 ≤ w.calls + 1 = omega (arith, k) in g), ap (λ n. (put w.call w.calls (new_call (Some w.jobs) (w.jobs + 1)) n).job) (sym k) ∙ ap (λ i. i.job) (put_new w.call w.calls (new_call (Some w.jobs) (w.jobs + 1))) ∙ sym (eqb-true t (w.jobs + 1) e))

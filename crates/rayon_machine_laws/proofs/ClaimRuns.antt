@@ -25,7 +25,7 @@ use Rattle.rayon_machine_places.specs.World.{Stack, World, counts_at, Part, targ
 use Rattle.rayon_machine_places.specs.Steps.{put, put_stack, part_of, after_move, jobs_after, after}
 use Rattle.rayon_machine_places.specs.Readers.{is_done}
 use Rattle.rayon_machine_laws.specs.Once.{one}
-use Rattle.rayon_machine_laws.proofs.Frame.{same_index, same_party_true, if_some_and, if_some_map}
+use Rattle.rayon_machine_laws.proofs.Frame.{same_index, same_party_true, if_some_and, if_some_map, put_new}
 use Rattle.rayon_machine_laws.proofs.Ties.{job_at, outcome, result}
 use Rattle.rayon_machine_laws.proofs.Hands.{held_in, held}
 use Rattle.rayon_machine_laws.proofs.Located.{is_left}
@@ -34,7 +34,7 @@ use Rattle.rayon_machine_laws.proofs.PlacedEvents.{go_kept, Advance, kept_advanc
 use Rattle.rayon_machine_laws.proofs.PlacedRuns.{JobsHold}
 use Rattle.rayon_machine_laws.proofs.Claims.{Opened, Left, SaysLatch, Says, StackSays, PassMove, none_passes, land_says, Learns, says_next}
 use Rattle.rayon_machine_laws.proofs.Later.{Later, later_done, later_says, later_all, later_stack, Static, act_static}
-use Rattle.rayon_machine_laws.proofs.ClaimActs.{put_new, Lasting, lasting, Took, Learned, act_learned, made_held, stores, is_call, sets_call, sets_seat, Written, act_written}
+use Rattle.rayon_machine_laws.proofs.ClaimActs.{Lasting, lasting, Took, Learned, act_learned, made_held, stores, is_call, sets_call, sets_seat, Written, act_written}
 
 -- what holds of the calls of every world
 pub record CallsHold (w : World) : Type 0 where
@@ -72,8 +72,8 @@ top_says w q x fs h z = subst (λ k. Says w q (k.top)) z ((h.says q).top)
 abbrev pub world_after : World → Party → Place → List Place → Seen × Part → World
 world_after w q x fs r = after w q (record { top = x; below = fs }) (target_pool q (act_of q x)) (target_worker q (act_of q x)) (target_call (act_of q x)) (job_at w q (act_of q x)) r
 
-abbrev pub part_at : World → Party → Place → Part
-part_at w q x = part_of w (target_pool q (act_of q x)) (target_worker q (act_of q x)) (target_call (act_of q x)) (job_at w q (act_of q x))
+abbrev pub place_part : World → Party → Place → Part
+place_part w q x = part_of w (target_pool q (act_of q x)) (target_worker q (act_of q x)) (target_call (act_of q x)) (job_at w q (act_of q x))
 
 begun_held : (w : World) → JobsHold w → (q : Party) (t : ℕ) (fs : List Place) → w.stack q ≡ record { top = BeginTask t; below = fs } → t + 1 ≤ w.jobs
 begun_held w h q t fs z = made_held w h q t (let a : held t (w.stack q) ≡ (one (t == t) + held_in t fs) = ap (held t) z in let b : one (t == t) ≡ 1 = ap one (eq-eqb t t refl) in omega (arith, a, b))
@@ -98,10 +98,10 @@ after_left q (HandBack (Here p a)) J t z = put_left J a (at_job (J a) HandedBack
 after_left q (HandBack (Send o)) J t z = put_left J (o.job) (at_job (J (o.job)) HandedBack) t refl z
 after_left q (HandBack (Fork o a)) J t z = put_left (put J a (at_job (J a) HandedBack)) (o.job) (at_job (J (o.job)) HandedBack) t refl (put_left J a (at_job (J a) HandedBack) t refl z)
 
-left_now : (w : World) (q : Party) (x : Place) (fs : List Place) (t : ℕ) (e : Seen) (m : Part) → Took w.shape q (part_at w q x) x t m → Left (world_after w q x fs (e, m)) t
+left_now : (w : World) (q : Party) (x : Place) (fs : List Place) (t : ℕ) (e : Seen) (m : Part) → Took w.shape q (place_part w q x) x t m → Left (world_after w q x fs (e, m)) t
 left_now w q x fs t e m k = after_left q (next_of (w.shape.pool (target_pool q (act_of q x))) q x e) (put w.job (job_at w q (act_of q x)) (m.job)) t (subst (λ n. is_left (put w.job (job_at w q (act_of q x)) (m.job) n).at ≡ true) (k.0) (ap (λ j. is_left (j.at)) (put_new w.job (job_at w q (act_of q x)) (m.job)) ∙ k.1))
 
-pub learns : (w : World) (q : Party) (x : Place) (fs : List Place) (r : Seen × Part) → CallsHold w → w.stack q ≡ record { top = x; below = fs } → Lasting w (world_after w q x fs r) → Learned w.shape q (part_at w q x) x r → Learns (world_after w q x fs r) x (r.0)
+pub learns : (w : World) (q : Party) (x : Place) (fs : List Place) (r : Seen × Part) → CallsHold w → w.stack q ≡ record { top = x; below = fs } → Lasting w (world_after w q x fs r) → Learned w.shape q (place_part w q x) x r → Learns (world_after w q x fs r) x (r.0)
 learns w (Worker a b) (PopWorking k) fs (Task t, m) h z l y = left_now w (Worker a b) (PopWorking k) fs t (Task t) m y
 learns w (Worker a b) (TakeCastWorking k) fs (Task t, m) h z l y = left_now w (Worker a b) (TakeCastWorking k) fs t (Task t) m y
 learns w (Worker a b) (PopIdle k) fs (Task t, m) h z l y = left_now w (Worker a b) (PopIdle k) fs t (Task t) m y
@@ -165,7 +165,7 @@ set_seat_says w (Caller v) (SetLatch k) z s = seat_latch_says w k.pool k.latch z
 set_seat_says w q _ z s = cc
 
 -- one act
-pub act_calls : (w : World) (q : Party) (x : Place) (fs : List Place) (r : Seen × Part) → CallsHold w → w.stack q ≡ record { top = x; below = fs } → Static (part_at w q x) r → Kept w (world_after w q x fs r) → Learned w.shape q (part_at w q x) x r → Written (part_at w q x) x r → CallsHold (world_after w q x fs r)
+pub act_calls : (w : World) (q : Party) (x : Place) (fs : List Place) (r : Seen × Part) → CallsHold w → w.stack q ≡ record { top = x; below = fs } → Static (place_part w q x) r → Kept w (world_after w q x fs r) → Learned w.shape q (place_part w q x) x r → Written (place_part w q x) x r → CallsHold (world_after w q x fs r)
 act_calls w q x fs r h z st ke le wr = record {
   jobs = jobs;
   says = all_says w u (l.later) q (after_move (next_of (w.shape.pool (target_pool q (act_of q x))) q x (r.0)) fs) (moved_says w u (l.later) (w.shape.pool (target_pool q (act_of q x))) q (record { top = x; below = fs }) (r.0) (learns w q x fs r h z l le) (subst (λ k. StackSays w q k) z (h.says q))) (h.says);
@@ -209,9 +209,9 @@ act_calls w q x fs r h z st ke le wr = record {
 pub go_calls : (w : World) (q : Party) → CallsHold w → IfSome (outcome w q (w.stack q)) (λ r. CallsHold (result w q (w.stack q) r))
 go_calls w q h =
     let k = w.stack q in let x = k.top in
-    if_some_map (λ r. (Static (part_at w q x) r × Learned w.shape q (part_at w q x) x r) × (Written (part_at w q x) x r × Kept w (result w q k r))) (λ r. CallsHold (result w q k r))
+    if_some_map (λ r. (Static (place_part w q x) r × Learned w.shape q (place_part w q x) x r) × (Written (place_part w q x) x r × Kept w (result w q k r))) (λ r. CallsHold (result w q k r))
     (λ r f. act_calls w q x (k.below) r h refl ((f.0).0) ((f.1).1) ((f.0).1) ((f.1).0))
     (outcome w q k)
-    (if_some_and (λ r. Static (part_at w q x) r × Learned w.shape q (part_at w q x) x r) (λ r. Written (part_at w q x) x r × Kept w (result w q k r)) (outcome w q k)
-    (if_some_and (Static (part_at w q x)) (Learned w.shape q (part_at w q x) x) (outcome w q k) (act_static w.shape q (counts_at w (target_pool q (act_of q x))) (part_at w q x) x) (act_learned w.shape q (counts_at w (target_pool q (act_of q x))) (part_at w q x) x))
-    (if_some_and (Written (part_at w q x) x) (λ r. Kept w (result w q k r)) (outcome w q k) (act_written w.shape q (counts_at w (target_pool q (act_of q x))) (part_at w q x) x) (go_kept w q ((h.jobs).ok))))
+    (if_some_and (λ r. Static (place_part w q x) r × Learned w.shape q (place_part w q x) x r) (λ r. Written (place_part w q x) x r × Kept w (result w q k r)) (outcome w q k)
+    (if_some_and (Static (place_part w q x)) (Learned w.shape q (place_part w q x) x) (outcome w q k) (act_static w.shape q (counts_at w (target_pool q (act_of q x))) (place_part w q x) x) (act_learned w.shape q (counts_at w (target_pool q (act_of q x))) (place_part w q x) x))
+    (if_some_and (Written (place_part w q x) x) (λ r. Kept w (result w q k r)) (outcome w q k) (act_written w.shape q (counts_at w (target_pool q (act_of q x))) (place_part w q x) x) (go_kept w q ((h.jobs).ok))))

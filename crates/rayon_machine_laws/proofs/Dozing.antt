@@ -21,9 +21,8 @@ use Rattle.rayon_machine_places.specs.Places.{same_party, own_pool, own_index, l
 use Rattle.rayon_machine_places.specs.World.{Stack, World, Part, target_pool, target_worker, call_of, target_call, letter}
 use Rattle.rayon_machine_places.specs.Steps.{after_move}
 use Rattle.rayon_machine_laws.specs.Attended.{letter_at, same_latch, settles, HasSettler}
-use Rattle.rayon_machine_laws.proofs.Attend.{stack_other}
-use Rattle.rayon_machine_laws.proofs.Calm.{part_at, counts_of, next_at}
-use Rattle.rayon_machine_laws.proofs.Frame.{either, and_parts, same_index, same_refl, same_party_true, if_some_map}
+use Rattle.rayon_machine_laws.proofs.Calm.{part_at, counts_seen, next_at}
+use Rattle.rayon_machine_laws.proofs.Frame.{either, and_parts, same_index, same_refl, same_party_true, if_some_map, stack_other}
 use Rattle.rayon_machine_laws.proofs.Holding.{LocksOk, hold_target}
 use Rattle.rayon_machine_laws.proofs.Latches.{SameLatches, is_latching, latches_same, OneLatch, writes, or_terminate, writes_one, grow_one, lock_one, Sets, set_one}
 use Rattle.rayon_machine_laws.proofs.Locks.{holds}
@@ -177,7 +176,7 @@ written : (w : World) (a b : ℕ) (x : Place) (fs : List Place) (p i : ℕ) (l n
 written w a b x fs p i l n e wr d ow mine =
     if_some_map {A = Seen × Part} (OneLatch n (part_at w q k)) (LetterChange w q k p i l) (λ r one. inl (letter_kept w q k r p i l
     (λ lt ep ei. absurd (let yes : same_party (Worker p i) (Worker a b) ≡ true = rw (eq-eqb p a (ep ∙ t.0), eq-eqb i b (ei ∙ t.1)) in cc))
-    (λ c lc ec. call n wr r one c lc (ec ∙ t.2)))) (outcome w q k) (writes_one w.shape q (counts_of w q k) (part_at w q k) x n wr)
+    (λ c lc ec. call n wr r one c lc (ec ∙ t.2)))) (outcome w q k) (writes_one w.shape q (counts_seen w q k) (part_at w q k) x n wr)
   where
     q : Party
     q = Worker a b
@@ -205,7 +204,7 @@ target_lock (Worker a b) n = refl
 target_lock (Caller o) n = refl
 
 set_changes : (w : World) (q : Party) (s : Settling) (fs : List Place) (p i : ℕ) (l : Latch) → w.stack q ≡ record { top = SetLatch s; below = fs } → Owned w → ((c : ℕ) → l ≡ OfCall c → Mine w (Worker p i) c) → IfSome (outcome w q (record { top = SetLatch s; below = fs })) (LetterChange w q (record { top = SetLatch s; below = fs }) p i l)
-set_changes w q s fs p i l e ow mine = if_some_map {A = Seen × Part} (Sets s.latch (part_at w q k)) (LetterChange w q k p i l) (λ r z. by_latches s.latch l refl refl r z) (outcome w q k) (set_one w.shape q (counts_of w q k) (part_at w q k) s)
+set_changes w q s fs p i l e ow mine = if_some_map {A = Seen × Part} (Sets s.latch (part_at w q k)) (LetterChange w q k p i l) (λ r z. by_latches s.latch l refl refl r z) (outcome w q k) (set_one w.shape q (counts_seen w q k) (part_at w q k) s)
   where
     k : Stack
     k = record { top = SetLatch s; below = fs }
@@ -236,7 +235,7 @@ set_changes w q s fs p i l e ow mine = if_some_map {A = Seen × Part} (Sets s.la
     ]
 
 plain_changes : (w : World) (q : Party) (x : Place) (fs : List Place) (p i : ℕ) (l : Latch) → is_latching x ≡ false → IfSome (outcome w q (record { top = x; below = fs })) (LetterChange w q (record { top = x; below = fs }) p i l)
-plain_changes w q x fs p i l z = if_some_map {A = Seen × Part} (SameLatches (part_at w q (record { top = x; below = fs }))) (LetterChange w q (record { top = x; below = fs }) p i l) (λ r s. inl (letter_kept w q (record { top = x; below = fs }) r p i l (λ lt ep ei. s.seat) (λ c lc ec. s.call))) (outcome w q (record { top = x; below = fs })) (latches_same w.shape q (counts_of w q (record { top = x; below = fs })) (part_at w q (record { top = x; below = fs })) x z)
+plain_changes w q x fs p i l z = if_some_map {A = Seen × Part} (SameLatches (part_at w q (record { top = x; below = fs }))) (LetterChange w q (record { top = x; below = fs }) p i l) (λ r s. inl (letter_kept w q (record { top = x; below = fs }) r p i l (λ lt ep ei. s.seat) (λ c lc ec. s.call))) (outcome w q (record { top = x; below = fs })) (latches_same w.shape q (counts_seen w q (record { top = x; below = fs })) (part_at w q (record { top = x; below = fs })) x z)
 
 pub letters : (w : World) (q : Party) (x : Place) (fs : List Place) (p i : ℕ) (l : Latch) → w.stack q ≡ record { top = x; below = fs } → same_party (Worker p i) q ≡ false → Owned w → ((c : ℕ) → l ≡ OfCall c → Mine w (Worker p i) c) → IfSome (outcome w q (record { top = x; below = fs })) (LetterChange w q (record { top = x; below = fs }) p i l)
 letters w (Worker a b) (GetSleepy k) fs p i l e d ow mine = written w a b (GetSleepy k) fs p i l (latch_of k.target) e refl d ow mine
@@ -248,10 +247,10 @@ letters w (Caller n) (WakeUp k) fs p i l e d ow mine = tt
 letters w q (SetLatch s) fs p i l e d ow mine = set_changes w q s fs p i l e ow mine
 letters w q (GrowCall n) fs p i l e d ow mine = if_some_map {A = Seen × Part} (λ r. r.1.seat.latch ≡ (part_at w q (record { top = GrowCall n; below = fs })).seat.latch) (LetterChange w q (record { top = GrowCall n; below = fs }) p i l)
     (λ r s. inl (letter_kept w q (record { top = GrowCall n; below = fs }) r p i l (λ lt ep ei. s) (λ c lc ec. absurd (clash w q p i c d (subst (Mine w q) (sym (ec ∙ target_grow q n)) ((subst (λ z. Names w q (z.top)) e ((ow.named q).top)).own (plan_call n) refl)) (mine c lc)))))
-    (outcome w q (record { top = GrowCall n; below = fs })) (grow_one w.shape q (counts_of w q (record { top = GrowCall n; below = fs })) (part_at w q (record { top = GrowCall n; below = fs })) n)
+    (outcome w q (record { top = GrowCall n; below = fs })) (grow_one w.shape q (counts_seen w q (record { top = GrowCall n; below = fs })) (part_at w q (record { top = GrowCall n; below = fs })) n)
 letters w q (SetLockLatch n) fs p i l e d ow mine = if_some_map {A = Seen × Part} (λ r. r.1.seat.latch ≡ (part_at w q (record { top = SetLockLatch n; below = fs })).seat.latch) (LetterChange w q (record { top = SetLockLatch n; below = fs }) p i l)
     (λ r s. inl (letter_kept w q (record { top = SetLockLatch n; below = fs }) r p i l (λ lt ep ei. s) (λ c lc ec. absurd (let v : Worker p i ≡ Caller 0 = set_clash w p i c (Caller 0) (subst (λ z. SetsFor w z (Caller 0)) (sym (ec ∙ target_lock q n)) ((subst (λ z. Names w q (z.top)) e ((ow.named q).top)).sets n (Caller 0) refl)) (mine c lc) in cc))))
-    (outcome w q (record { top = SetLockLatch n; below = fs })) (lock_one w.shape q (counts_of w q (record { top = SetLockLatch n; below = fs })) (part_at w q (record { top = SetLockLatch n; below = fs })) n)
+    (outcome w q (record { top = SetLockLatch n; below = fs })) (lock_one w.shape q (counts_seen w q (record { top = SetLockLatch n; below = fs })) (part_at w q (record { top = SetLockLatch n; below = fs })) n)
 letters w q x fs p i l e d ow mine = plain_changes w q x fs p i l refl
 
 -- a party that settles a latch goes on settling it until it has made its wake

@@ -33,7 +33,7 @@ use Rattle.rayon_machine_laws.specs.Attended.{is_filled, IsCastAttended, IsEmpty
 use Rattle.rayon_machine_laws.proofs.Asides.{Aside, steps_aside}
 use Rattle.rayon_machine_laws.proofs.Attend.{is_push}
 use Rattle.rayon_machine_laws.proofs.Attended.{aside_frames}
-use Rattle.rayon_machine_laws.proofs.Calm.{part_at, counts_of, next_at, top_then}
+use Rattle.rayon_machine_laws.proofs.Calm.{part_at, counts_seen, next_at, top_then}
 use Rattle.rayon_machine_laws.proofs.Events.{run_keeps}
 use Rattle.rayon_machine_laws.proofs.Frame.{either, same_index, same_refl, same_party_true, if_some_all, if_some_each, if_some_and, if_some_map}
 use Rattle.rayon_machine_laws.proofs.Holding.{if_some_h, go_frames}
@@ -208,9 +208,9 @@ other_empty w q k p i d ep ei e = by_place k.top refl
           let t : (target_pool q (act_of q (PushJob n v)) ≡ own_pool q) × (target_worker q (act_of q (PushJob n v)) ≡ own_index q) = push_target q n v mem in
           let me : q ≡ Worker p i = member_worker q (plan_pool n) mem ∙ ap (λ z. Worker z (own_index q)) (sym (ep ∙ ap (λ z. target_pool q (act_of q z)) s ∙ t.0)) ∙ ap (λ z. Worker p z) (sym (ei ∙ ap (λ z. target_worker q (act_of q z)) s ∙ t.1)) in
           let l : same_party (Worker p i) q ≡ true = ap (same_party (Worker p i)) me ∙ same_refl p i in cc)
-      | inr not_mem ↦ if_some_map {A = Seen × Part} (λ r. r.1.seat.own ≡ (part_at w q k).seat.own) (λ r. r.1.seat.own ≡ []) (λ r f. f ∙ e) (outcome w q k) (subst (λ z. IfSome (effect (act_of q z) w.shape q (counts_of w q k) (part_at w q k)) (λ r. r.1.seat.own ≡ (part_at w q k).seat.own)) (sym s) (push_other w.shape q (counts_of w q k) (part_at w q k) n v not_mem))
+      | inr not_mem ↦ if_some_map {A = Seen × Part} (λ r. r.1.seat.own ≡ (part_at w q k).seat.own) (λ r. r.1.seat.own ≡ []) (λ r f. f ∙ e) (outcome w q k) (subst (λ z. IfSome (effect (act_of q z) w.shape q (counts_seen w q k) (part_at w q k)) (λ r. r.1.seat.own ≡ (part_at w q k).seat.own)) (sym s) (push_other w.shape q (counts_seen w q k) (part_at w q k) n v not_mem))
     ]
-    by_place x s = subst (λ z. IfSome (effect (act_of q z) w.shape q (counts_of w q k) (part_at w q k)) (λ r. r.1.seat.own ≡ [])) (sym s) (stays_empty w.shape q (counts_of w q k) (part_at w q k) x refl e)
+    by_place x s = subst (λ z. IfSome (effect (act_of q z) w.shape q (counts_seen w q k) (part_at w q k)) (λ r. r.1.seat.own ≡ [])) (sym s) (stays_empty w.shape q (counts_seen w q k) (part_at w q k) x refl e)
 
 push_or : (x : Place) → (is_push x ≡ false) ⊎ (is_push x ≡ true)
 push_or x = elim (either (is_push x)) [ inl a ↦ inr a | inr b ↦ inl b ]
@@ -220,7 +220,7 @@ pushes_busy : (w : World) (q : Party) (k : Stack) → is_push k.top ≡ true →
 pushes_busy w q k e = by_place k.top refl e
   where
     by_place : (x : Place) → k.top ≡ x → is_push x ≡ true → IfSome (outcome w q k) (λ r. Tops (λ y. is_emptied y ≡ false) (next_at w q k (r.0)))
-    by_place (PushJob n v) s z = subst (λ z. IfSome (effect (act_of q z) w.shape q (counts_of w q k) (part_at w q k)) (λ r. Tops (λ y. is_emptied y ≡ false) (next_of (shape_at w q k) q z (r.0)))) (sym s) (push_busy w.shape (shape_at w q k) q (counts_of w q k) (part_at w q k) n v)
+    by_place (PushJob n v) s z = subst (λ z. IfSome (effect (act_of q z) w.shape q (counts_seen w q k) (part_at w q k)) (λ r. Tops (λ y. is_emptied y ≡ false) (next_of (shape_at w q k) q z (r.0)))) (sym s) (push_busy w.shape (shape_at w q k) q (counts_seen w q k) (part_at w q k) n v)
     by_place _ s z = cc
 
 at_empty : (w : World) (q : Party) (k : Stack) (p i : ℕ) (b d : Bool) → w.stack q ≡ k → FramesOk w → EmptiedOk w → same_party (Worker p i) q ≡ b → ((p == target_pool q (act_of q k.top)) && (i == target_worker q (act_of q k.top))) ≡ d → IfSome (outcome w q k) (λ r. is_emptied ((if b then after_move (next_at w q k (r.0)) k.below else w.stack (Worker p i)).top) ≡ true → (if d then r.1.seat else w.seat p i).own ≡ [])
@@ -246,10 +246,10 @@ at_empty w q k p i b d e fr ok eb ed = at b d eb ed
       | inr push ↦ push_true eb true push
       | inl calm ↦ (
           let is : Worker p i ≡ q = same_party_true (Worker p i) q eb in
-          let F : Party → Type 0 = λ z. IfSome (effect (act_of z k.top) w.shape z (counts_of w q k) (part_at w q k)) (λ r. Tops (λ y. is_emptied y ≡ true → r.1.seat.own ≡ []) (next_of (shape_at w q k) z k.top (r.0))) in
+          let F : Party → Type 0 = λ z. IfSome (effect (act_of z k.top) w.shape z (counts_seen w q k) (part_at w q k)) (λ r. Tops (λ y. is_emptied y ≡ true → r.1.seat.own ≡ []) (next_of (shape_at w q k) z k.top (r.0))) in
           if_some_map {A = Seen × Part} (λ r. Tops (λ y. is_emptied y ≡ true → r.1.seat.own ≡ []) (next_at w q k (r.0))) (λ r. is_emptied ((after_move (next_at w q k (r.0)) k.below).top) ≡ true → r.1.seat.own ≡ [])
           (λ r t. top_then (λ y. is_emptied y ≡ true → r.1.seat.own ≡ []) w q k (r.0) e fr (λ f ff. frame_fills f (r.1.seat.own ≡ []) ff) t) (outcome w q k)
-          (subst F is (own_left_empty w.shape (shape_at w q k) p i (counts_of w q k) (part_at w q k) k.top calm (λ h. ap (λ s. s.own) (here ed) ∙ mine eb h))))
+          (subst F is (own_left_empty w.shape (shape_at w q k) p i (counts_seen w q k) (part_at w q k) k.top calm (λ h. ap (λ s. s.own) (here ed) ∙ mine eb h))))
     ]
     at true false eb ed = elim (push_or k.top) [
       | inr push ↦ push_true eb false push
@@ -262,7 +262,7 @@ at_empty w q k p i b d e fr ok eb ed = at b d eb ed
             let yes : ((p == p0) && (i == i0)) ≡ true = rw (eq-eqb p p0 tp, eq-eqb i i0 ti) in cc)
         | inr later ↦ if_some_map {A = Seen × Part} (λ r. Tops (λ y. is_emptied y ≡ true → is_emptied k.top ≡ true) (next_at w q k (r.0))) (λ r. is_emptied ((after_move (next_at w q k (r.0)) k.below).top) ≡ true → (w.seat p i).own ≡ [])
             (λ r t h. mine eb (top_then (λ y. is_emptied y ≡ true → is_emptied k.top ≡ true) w q k (r.0) e fr (λ f ff. frame_fills f (is_emptied k.top ≡ true) ff) t h)) (outcome w q k)
-            (emptied_on w.shape (shape_at w q k) q (counts_of w q k) (part_at w q k) k.top later)
+            (emptied_on w.shape (shape_at w q k) q (counts_seen w q k) (part_at w q k) k.top later)
       ]
     ]
     at false true eb ed = if_some_h (is_emptied (w.stack (Worker p i)).top) (λ r. r.1.seat.own ≡ []) (outcome w q k) (λ h. (let z : (p ≡ p0) × (i ≡ i0) = same_index p i p0 i0 ed in other_empty w q k p i eb (z.0) (z.1) (ap (λ s. s.own) (here ed) ∙ ok p i h)))
@@ -308,7 +308,7 @@ casts_stay h (Worker a b) c m _ e = search (rules, arith)
 casts_stay h (Caller n) c m _ e = search (rules, arith)
 
 pub go_casts : (w : World) (q : Party) (k : Stack) → CastsEmpty w → IfSome (outcome w q k) (λ r. CastsEmpty (result w q k r))
-go_casts w q k ok = if_some_map {A = Seen × Part} (λ r. NoCasts (r.1)) (λ r. CastsEmpty (result w q k r)) (λ r f p i. at r f p i (p == target_pool q (act_of q k.top))) (outcome w q k) (casts_stay w.shape q (counts_of w q k) (part_at w q k) k.top (λ j. ok (target_pool q (act_of q k.top)) j))
+go_casts w q k ok = if_some_map {A = Seen × Part} (λ r. NoCasts (r.1)) (λ r. CastsEmpty (result w q k r)) (λ r f p i. at r f p i (p == target_pool q (act_of q k.top))) (outcome w q k) (casts_stay w.shape q (counts_seen w q k) (part_at w q k) k.top (λ j. ok (target_pool q (act_of q k.top)) j))
   where
     at : (r : Seen × Part) → NoCasts (r.1) → (p i : ℕ) (b : Bool) → (if b then r.1.pool else w.pool p).casts i ≡ []
     at r f p i true = f i

@@ -1,12 +1,18 @@
 -- how a step changes the world: tests on parties and indices, and what holds of an act that may not be enabled
-use Rattle.std.proofs.Common.{refl, ◌∙◌, ap, inl, inr}
+use Rattle.std.proofs.Common.{refl, sym, ◌∙◌, ap, inl, inr}
 use Rattle.std.specs.Prelude.{ℕ, Bool, true, false, ◌&&◌, ◌||◌, ◌==◌, if◌then◌else◌, Option, Some, None, ◌≡◌, IfSome, ◌⊎◌}
 use Rattle.std.proofs.lemmas.Bool.{eqb-true, eq-eqb}
 use Rattle.rayon_machine_places.specs.declared.place.Party.{Party}
 use Rattle.rayon_machine_places.specs.declared.place.Party.TheVariants.{Worker, Caller}
+use Rattle.rayon_machine_places.specs.declared.place.Plan.TheVariants.{Detach, Here, Send, Fork}
+use Rattle.rayon_machine_places.specs.declared.place.Move.{Move}
+use Rattle.rayon_machine_places.specs.declared.place.Move.TheVariants.{Stay, Enter, StartRun, Back, HandBack}
+use Rattle.rayon_machine_places.specs.declared.state.Job.{Job}
+use Rattle.rayon_machine_places.specs.declared.state.Whereabouts.{Whereabouts}
+use Rattle.rayon_machine_places.specs.declared.state.Whereabouts.TheVariants.{HandedBack}
 use Rattle.rayon_machine_places.specs.Places.{same_party}
-use Rattle.rayon_machine_places.specs.Steps.{after_outcome, after}
-use Rattle.rayon_machine_places.specs.World.{Outcome, Stack, World}
+use Rattle.rayon_machine_places.specs.Steps.{after_outcome, after, put, put_stack, jobs_after}
+use Rattle.rayon_machine_places.specs.World.{Outcome, Stack, World, at_job, begun}
 
 -- a test gives one of its two answers
 pub either : (b : Bool) → (b ≡ true) ⊎ (b ≡ false)
@@ -72,3 +78,46 @@ if_cond P false v h = tt
 pub acted_keeps : (w : World) (q : Party) (s : Stack) (p i c n : ℕ) (o : Outcome) (P : World → Type 0) → IfSome o (λ r. P (after w q s p i c n r)) → IfSome (after_outcome w q s p i c n o) P
 acted_keeps w q s p i c n None P h = tt
 acted_keeps w q s p i c n (Some r) P h = h
+
+-- where one entry is put anew that agrees on something with the old one, all do
+pub put_same : {A B : Type 0} (P : A → B) (f : ℕ → A) (k : ℕ) (v : A) (n : ℕ) → P v ≡ P (f k) → P (put f k v n) ≡ P (f n)
+put_same P f k v n e = by (n == k) refl
+  where
+    by : (z : Bool) → (n == k) ≡ z → P (if z then v else f n) ≡ P (f n)
+    by true z = e ∙ ap (λ i. P (f i)) (sym (eqb-true n k z))
+    by false z = refl
+
+pub put_new : {A : Type 0} (f : ℕ → A) (k : ℕ) (v : A) → put f k v k ≡ v
+put_new f k v = let e : (k == k) ≡ true = eq-eqb k k refl in rw e
+
+pub put_old : {A : Type 0} (f : ℕ → A) (k : ℕ) (v : A) (n : ℕ) → (n == k) ≡ false → put f k v n ≡ f n
+put_old f k v n e = rw e
+
+-- the stacks after one party has another
+pub stack_mine : (f : Party → Stack) (q : Party) (x : Stack) → put_stack f q x q ≡ x
+stack_mine f q x = let e : same_party q q ≡ true = same_party_refl q in rw e
+
+pub stack_other : (f : Party → Stack) (q : Party) (x : Stack) (g : Party) → same_party g q ≡ false → put_stack f q x g ≡ f g
+stack_other f q x g e = rw e
+
+-- what neither a beginning nor other whereabouts change of a job, no move changes of any
+pub after_part : {B : Type 0} (P : Job → B) → ((q : Party) (j : Job) → P (begun q j) ≡ P j) → ((j : Job) (x : Whereabouts) → P (at_job j x) ≡ P j) → (q : Party) (g : Move) (f : ℕ → Job) (t : ℕ) → P (jobs_after q g f t) ≡ P (f t)
+after_part P b a q (Stay y) f t = refl
+after_part P b a q (Enter x y) f t = refl
+after_part P b a q Back f t = refl
+after_part P b a q (StartRun x u) f t = put_same P f u (begun q (f u)) t (b q (f u))
+after_part P b a q (HandBack (Detach p u)) f t = put_same P f u (at_job (f u) HandedBack) t (a (f u) HandedBack)
+after_part P b a q (HandBack (Here p u)) f t = put_same P f u (at_job (f u) HandedBack) t (a (f u) HandedBack)
+after_part P b a q (HandBack (Send o)) f t = put_same P f o.job (at_job (f o.job) HandedBack) t (a (f o.job) HandedBack)
+after_part P b a q (HandBack (Fork o u)) f t =
+    let same : (n : ℕ) → P (put f u (at_job (f u) HandedBack) n) ≡ P (f n) = λ n. put_same P f u (at_job (f u) HandedBack) n (a (f u) HandedBack) in
+    put_same P (put f u (at_job (f u) HandedBack)) o.job (at_job (f o.job) HandedBack) t (a (f o.job) HandedBack ∙ sym (same o.job)) ∙ same t
+
+pub after_kind : (q : Party) (g : Move) (f : ℕ → Job) (t : ℕ) → (jobs_after q g f t).kind ≡ (f t).kind
+after_kind q g f t = after_part (λ j. j.kind) (λ r j. refl) (λ j x. refl) q g f t
+
+pub after_pool : (q : Party) (g : Move) (f : ℕ → Job) (t : ℕ) → (jobs_after q g f t).pool ≡ (f t).pool
+after_pool q g f t = after_part (λ j. j.pool) (λ r j. refl) (λ j x. refl) q g f t
+
+pub after_counted : (q : Party) (g : Move) (f : ℕ → Job) (t : ℕ) → (jobs_after q g f t).counted ≡ (f t).counted
+after_counted q g f t = after_part (λ j. j.counted) (λ r j. refl) (λ j x. refl) q g f t

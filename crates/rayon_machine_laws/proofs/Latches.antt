@@ -15,8 +15,9 @@ use Rattle.rayon_machine_places.specs.declared.state.Letter.{Letter}
 use Rattle.rayon_machine_places.specs.declared.state.Letter.TheVariants.{Unset, Sleepy as IsSleepy, Sleeping, Set as IsSet}
 use Rattle.rayon_machine_places.specs.declared.place.Settling.{Settling}
 use Rattle.rayon_machine_places.specs.Places.{latch_of, act_of}
-use Rattle.rayon_machine_places.specs.World.{Shape, Counts, Part, letter, set_latch, effect}
+use Rattle.rayon_machine_places.specs.World.{Shape, Counts, Part, letter, set_latch, effect, with_letter}
 use Rattle.rayon_machine_laws.specs.Committed.{is_blocking}
+use Rattle.rayon_machine_laws.proofs.Letters.{sleepy_keeps, asleep_keeps, wake_keeps}
 
 -- an act leaves the letters of the latches that it touches
 pub record SameLatches (m : Part) (r : Seen × Part) : Type 0 where
@@ -49,17 +50,13 @@ abbrev pub OneLatch : Latch → Part → Seen × Part → Type 0
 OneLatch Terminate m r = r.1.call.latch ≡ m.call.latch
 OneLatch (OfCall c) m r = r.1.seat.latch ≡ m.seat.latch
 
-sleepy_one : (l : Latch) (h : Shape) (q : Party) (c : Counts) (m : Part) → IfSome (effect (Sleepy l) h q c m) (OneLatch l m)
-sleepy_one Terminate h q c m = search (rules, arith)
-sleepy_one (OfCall n) h q c m = search (rules, arith)
+same_one : (l : Latch) (m : Part) (e : Seen) → OneLatch l m (e, m)
+same_one Terminate m e = refl
+same_one (OfCall c) m e = refl
 
-asleep_one : (l : Latch) (h : Shape) (q : Party) (c : Counts) (m : Part) → IfSome (effect (Asleep l) h q c m) (OneLatch l m)
-asleep_one Terminate h q c m = search (rules, arith)
-asleep_one (OfCall n) h q c m = search (rules, arith)
-
-wakeup_one : (l : Latch) (h : Shape) (q : Party) (c : Counts) (m : Part) → IfSome (effect (Wakeup l) h q c m) (OneLatch l m)
-wakeup_one Terminate h q c m = search (rules, arith)
-wakeup_one (OfCall n) h q c m = search (rules, arith)
+letter_one : (l : Latch) (m : Part) (e : Seen) (y : Letter) → OneLatch l m (e, with_letter l m y)
+letter_one Terminate m e y = refl
+letter_one (OfCall c) m e y = refl
 
 -- the latch that a waiting worker writes
 abbrev pub writes : Place → Option Latch
@@ -73,9 +70,9 @@ or_terminate None = Terminate
 or_terminate (Some l) = l
 
 pub writes_one : (h : Shape) (q : Party) (c : Counts) (m : Part) (x : Place) (l : Latch) → writes x ≡ Some l → IfSome (effect (act_of q x) h q c m) (OneLatch l m)
-writes_one h (Worker a b) c m (GetSleepy k) l e = subst (λ z. IfSome (effect (Sleepy (latch_of k.target)) h (Worker a b) c m) (OneLatch z m)) (ap (λ z. or_terminate z) e) (sleepy_one (latch_of k.target) h (Worker a b) c m)
-writes_one h (Worker a b) c m (FallAsleep k) l e = subst (λ z. IfSome (effect (Asleep (latch_of k.target)) h (Worker a b) c m) (OneLatch z m)) (ap (λ z. or_terminate z) e) (asleep_one (latch_of k.target) h (Worker a b) c m)
-writes_one h (Worker a b) c m (WakeUp k) l e = subst (λ z. IfSome (effect (Wakeup (latch_of k.target)) h (Worker a b) c m) (OneLatch z m)) (ap (λ z. or_terminate z) e) (wakeup_one (latch_of k.target) h (Worker a b) c m)
+writes_one h (Worker a b) c m (GetSleepy k) l e = subst (λ z. IfSome (effect (Sleepy (latch_of k.target)) h (Worker a b) c m) (OneLatch z m)) (ap (λ z. or_terminate z) e) (sleepy_keeps (latch_of k.target) (OneLatch (latch_of k.target)) (same_one (latch_of k.target)) (λ v d y n. letter_one (latch_of k.target) v d y) m (letter (latch_of k.target) m))
+writes_one h (Worker a b) c m (FallAsleep k) l e = subst (λ z. IfSome (effect (Asleep (latch_of k.target)) h (Worker a b) c m) (OneLatch z m)) (ap (λ z. or_terminate z) e) (asleep_keeps (latch_of k.target) (OneLatch (latch_of k.target)) (same_one (latch_of k.target)) (λ v d y n. letter_one (latch_of k.target) v d y) m (letter (latch_of k.target) m))
+writes_one h (Worker a b) c m (WakeUp k) l e = subst (λ z. IfSome (effect (Wakeup (latch_of k.target)) h (Worker a b) c m) (OneLatch z m)) (ap (λ z. or_terminate z) e) (wake_keeps (latch_of k.target) (OneLatch (latch_of k.target)) (same_one (latch_of k.target)) (λ v d y n. letter_one (latch_of k.target) v d y) m (letter (latch_of k.target) m))
 writes_one h (Caller n) c m (GetSleepy k) l e = tt
 writes_one h (Caller n) c m (FallAsleep k) l e = tt
 writes_one h (Caller n) c m (WakeUp k) l e = tt

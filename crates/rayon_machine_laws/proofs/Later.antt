@@ -31,6 +31,7 @@ use Rattle.rayon_machine_places.specs.Places.{latch_of, act_of}
 use Rattle.rayon_machine_places.specs.World.{Shape, Stack, World, Counts, Part, letter, with_letter, sleepy, fall_asleep, wake_up, set_latch, lowered, effect}
 use Rattle.rayon_machine_places.specs.Readers.{is_done}
 use Rattle.rayon_machine_laws.proofs.Claims.{Opened, MadeAs, FirstEnds, SaysTarget, Left, is_detached, Awaited, SaysFound, SaysPlan, SaysThen, SaysOwner, SaysShare, SaysLatch, SaysRun, Says, AllSay, StackSays}
+use Rattle.rayon_machine_laws.proofs.Letters.{sleepy_keeps, asleep_keeps, wake_keeps, set_keeps}
 
 pub record Later (w u : World) : Type 0 where
   pub jobs : w.jobs ≤ u.jobs
@@ -204,22 +205,6 @@ letter_static (OfCall c) m e y = record { kind = refl; pool = refl; target = ref
 same_static : (m : Part) (e : Seen) → Static m (e, m)
 same_static m e = record { kind = refl; pool = refl; target = refl; side = refl; held = refl; ended = λ z. z }
 
-set_static : (l : Latch) (m : Part) (x : Letter) → IfSome (set_latch l m x) (Static m)
-set_static l m Sleeping = letter_static l m Yes IsSet
-set_static l m _ = letter_static l m No IsSet
-
-sleepy_static : (l : Latch) (m : Part) (x : Letter) → IfSome (sleepy l m x) (Static m)
-sleepy_static l m Unset = letter_static l m Done IsSleepy
-sleepy_static l m _ = same_static m Refused
-
-asleep_static : (l : Latch) (m : Part) (x : Letter) → IfSome (fall_asleep l m x) (Static m)
-asleep_static l m IsSleepy = letter_static l m Done Sleeping
-asleep_static l m _ = same_static m Refused
-
-wake_static : (l : Latch) (m : Part) (x : Letter) → IfSome (wake_up l m x) (Static m)
-wake_static l m IsSet = same_static m Done
-wake_static l m _ = letter_static l m Done Unset
-
 raise_static : (m : Part) → IfSome (if m.pool.count == 0 then Some (Refused, m) else Some (Done, record m { pool = record (m.pool) { count = m.pool.count + 1 }; job = record (m.job) { counted = true } })) (Static m)
 raise_static m = by (m.pool.count == 0) refl
   where
@@ -233,14 +218,14 @@ lower_static m (OfJob t) e = record { kind = refl; pool = refl; target = refl; s
 
 pub act_static : (h : Shape) (q : Party) (c : Counts) (m : Part) (x : Place) → IfSome (effect (act_of q x) h q c m) (Static m)
 act_static h (Worker a b) c m (ProbeWorking k) = search (rules, arith)
-act_static h (Worker a b) c m (GetSleepy k) = sleepy_static (latch_of k.target) m (letter (latch_of k.target) m)
-act_static h (Worker a b) c m (FallAsleep k) = asleep_static (latch_of k.target) m (letter (latch_of k.target) m)
-act_static h (Worker a b) c m (WakeUp k) = wake_static (latch_of k.target) m (letter (latch_of k.target) m)
-act_static h (Worker a b) c m (SetLatch k) = set_static k.latch m (letter k.latch m)
+act_static h (Worker a b) c m (GetSleepy k) = sleepy_keeps (latch_of k.target) Static same_static (λ v e y n. letter_static (latch_of k.target) v e y) m (letter (latch_of k.target) m)
+act_static h (Worker a b) c m (FallAsleep k) = asleep_keeps (latch_of k.target) Static same_static (λ v e y n. letter_static (latch_of k.target) v e y) m (letter (latch_of k.target) m)
+act_static h (Worker a b) c m (WakeUp k) = wake_keeps (latch_of k.target) Static same_static (λ v e y n. letter_static (latch_of k.target) v e y) m (letter (latch_of k.target) m)
+act_static h (Worker a b) c m (SetLatch k) = set_keeps k.latch Static (λ v e. letter_static k.latch v e IsSet) m (letter k.latch m)
 act_static h (Worker a b) c m (RaiseCount n) = raise_static m
 act_static h (Worker a b) c m (LowerCount p s n) = lower_static m s _
 act_static h (Worker a b) c m _ = search (rules, arith)
-act_static h (Caller n) c m (SetLatch k) = set_static k.latch m (letter k.latch m)
+act_static h (Caller n) c m (SetLatch k) = set_keeps k.latch Static (λ v e. letter_static k.latch v e IsSet) m (letter k.latch m)
 act_static h (Caller n) c m (RaiseCount g) = raise_static m
 act_static h (Caller n) c m (LowerCount p s g) = lower_static m s _
 act_static h (Caller n) c m _ = search (rules, arith)

@@ -1,4 +1,5 @@
 pub mod Frame
+pub mod Letters
 pub mod WrongMachines
 pub mod Seats
 pub mod Ties

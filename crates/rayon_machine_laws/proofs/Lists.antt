@@ -18,25 +18,25 @@ use Rattle.rayon_machine_laws.specs.Once.{one, times}
 use Rattle.rayon_machine_laws.proofs.Hands.{got}
 
 -- places whose acts neither take nor push nor begin
-abbrev pub is_quiet : Place → Bool
-is_quiet (PopWorking k) = false
-is_quiet (TakeCastWorking k) = false
-is_quiet (PopIdle k) = false
-is_quiet (TakeCastIdle k) = false
-is_quiet (StealFrom k n) = false
-is_quiet (PopInjected k) = false
-is_quiet (JoinPop o) = false
-is_quiet (JoinTakeCast o) = false
-is_quiet YieldPop = false
-is_quiet YieldTakeCast = false
-is_quiet (YieldSteal v n) = false
-is_quiet YieldPopInjected = false
-is_quiet LocalPop = false
-is_quiet LocalTakeCast = false
-is_quiet (BeginTask t) = false
-is_quiet (BeginHere t) = false
-is_quiet (PushJob n e) = false
-is_quiet _ = true
+abbrev pub moves_no_job : Place → Bool
+moves_no_job (PopWorking k) = false
+moves_no_job (TakeCastWorking k) = false
+moves_no_job (PopIdle k) = false
+moves_no_job (TakeCastIdle k) = false
+moves_no_job (StealFrom k n) = false
+moves_no_job (PopInjected k) = false
+moves_no_job (JoinPop o) = false
+moves_no_job (JoinTakeCast o) = false
+moves_no_job YieldPop = false
+moves_no_job YieldTakeCast = false
+moves_no_job (YieldSteal v n) = false
+moves_no_job YieldPopInjected = false
+moves_no_job LocalPop = false
+moves_no_job LocalTakeCast = false
+moves_no_job (BeginTask t) = false
+moves_no_job (BeginHere t) = false
+moves_no_job (PushJob n e) = false
+moves_no_job _ = true
 
 -- the lists and the job's whereabouts are as before
 pub record SameJobs (m : Part) (r : Seen × Part) : Type 0 where
@@ -53,7 +53,7 @@ set_same Terminate m _ = search (rules, arith)
 set_same (OfCall c) m Unset = search (rules, arith)
 set_same (OfCall c) m _ = search (rules, arith)
 
-pub quiet_same : (h : Shape) (q : Party) (c : Counts) (m : Part) (x : Place) → is_quiet x ≡ true → IfSome (effect (act_of q x) h q c m) (SameJobs m)
+pub quiet_same : (h : Shape) (q : Party) (c : Counts) (m : Part) (x : Place) → moves_no_job x ≡ true → IfSome (effect (act_of q x) h q c m) (SameJobs m)
 quiet_same h (Worker a b) c m (ProbeWorking k) z = search (rules, arith)
 quiet_same h (Worker a b) c m (SetLatch k) z = set_same k.latch m (letter k.latch m)
 quiet_same h (Worker a b) c m _ z = first_of (cc, search (rules, arith))

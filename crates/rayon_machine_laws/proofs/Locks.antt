@@ -17,10 +17,12 @@ use Rattle.rayon_machine_places.specs.declared.act.Seen.TheVariants.{Yes}
 use Rattle.rayon_machine_places.specs.declared.shape.PoolShape.{PoolShape}
 use Rattle.rayon_machine_places.specs.declared.place.Settling.{Settling}
 use Rattle.rayon_machine_places.specs.Places.{same_party, latch_of, after_set, act_of, next_of}
-use Rattle.rayon_machine_places.specs.World.{Shape, Counts, Part, target_pool, target_worker, is_own, is_free_lock, effect}
+use Rattle.rayon_machine_places.specs.World.{Shape, Counts, Part, target_pool, target_worker, is_own, is_free_lock, effect, Outcome, letter, with_letter}
 use Rattle.rayon_machine_laws.specs.Committed.{is_blocking}
 use Rattle.rayon_machine_laws.proofs.Frame.{same_index, same_party_refl, if_some_all, if_some_map}
 use Rattle.rayon_machine_laws.proofs.Tops.{Tops, is_light, settled_leads, leads_tops}
+use Rattle.rayon_machine_laws.proofs.Letters.{sleepy_keeps, asleep_keeps, wake_keeps}
+use Rattle.rayon_machine_places.specs.declared.state.Letter.{Letter}
 
 -- whose sleep lock a party at this place holds, beside its own
 abbrev pub holds : Place → ℕ → ℕ → Bool
@@ -54,24 +56,26 @@ set_left : (n : Latch) (r j : ℕ) (h : Shape) (q : Party) (c : Counts) (m : Par
 set_left Terminate r j h q c m g l = search (rules, arith)
 set_left (OfCall n) r j h q c m g l = search (rules, arith)
 
-sleepy_left : (n : Latch) (h : Shape) (q : Party) (c : Counts) (m : Part) (g : Party) → m.seat.lock ≡ Some g → LockLeft (Sleepy n) h q c m g
-sleepy_left Terminate h q c m g l = search (rules, arith)
-sleepy_left (OfCall n) h q c m g l = search (rules, arith)
+-- a change of a letter leaves the lock of the seat
+abbrev LeftTo : Party → Part → Seen × Part → Type 0
+LeftTo g m r = m.seat.lock ≡ Some g → r.1.seat.lock ≡ Some g
 
-asleep_left : (n : Latch) (h : Shape) (q : Party) (c : Counts) (m : Part) (g : Party) → m.seat.lock ≡ Some g → LockLeft (Asleep n) h q c m g
-asleep_left Terminate h q c m g l = search (rules, arith)
-asleep_left (OfCall n) h q c m g l = search (rules, arith)
+same_left : (g : Party) (m : Part) (e : Seen) → LeftTo g m (e, m)
+same_left g m e l = l
 
-wakeup_left : (n : Latch) (h : Shape) (q : Party) (c : Counts) (m : Part) (g : Party) → m.seat.lock ≡ Some g → LockLeft (Wakeup n) h q c m g
-wakeup_left Terminate h q c m g l = search (rules, arith)
-wakeup_left (OfCall n) h q c m g l = search (rules, arith)
+letter_left : (g : Party) (n : Latch) (m : Part) (e : Seen) (y : Letter) → LeftTo g m (e, with_letter n m y)
+letter_left g Terminate m e y l = l
+letter_left g (OfCall c) m e y l = l
+
+left_by : (g : Party) (m : Part) (o : Outcome) → m.seat.lock ≡ Some g → IfSome o (LeftTo g m) → IfSome o (λ r. r.1.seat.lock ≡ Some g)
+left_by g m o l f = if_some_map (LeftTo g m) (λ r. r.1.seat.lock ≡ Some g) (λ r k. k l) o f
 
 -- an act takes no lock from another party
 pub lock_kept : (h : Shape) (q g : Party) (c : Counts) (m : Part) (x : Place) → m.seat.lock ≡ Some g → same_party q g ≡ false → ((p i : ℕ) → q ≡ Worker p i → is_blocking x ≡ true → m.seat.lock ≡ Some q) → LockLeft (act_of q x) h q c m g
 lock_kept h (Worker a z) g c m (ProbeWorking k) l d own = search (rules, arith)
-lock_kept h (Worker a z) g c m (GetSleepy k) l d own = sleepy_left (latch_of k.target) h (Worker a z) c m g l
-lock_kept h (Worker a z) g c m (FallAsleep k) l d own = asleep_left (latch_of k.target) h (Worker a z) c m g l
-lock_kept h (Worker a z) g c m (WakeUp k) l d own = wakeup_left (latch_of k.target) h (Worker a z) c m g l
+lock_kept h (Worker a z) g c m (GetSleepy k) l d own = left_by g m (effect (act_of (Worker a z) (GetSleepy k)) h (Worker a z) c m) l (sleepy_keeps (latch_of k.target) (LeftTo g) (same_left g) (λ v e y n. letter_left g (latch_of k.target) v e y) m (letter (latch_of k.target) m))
+lock_kept h (Worker a z) g c m (FallAsleep k) l d own = left_by g m (effect (act_of (Worker a z) (FallAsleep k)) h (Worker a z) c m) l (asleep_keeps (latch_of k.target) (LeftTo g) (same_left g) (λ v e y n. letter_left g (latch_of k.target) v e y) m (letter (latch_of k.target) m))
+lock_kept h (Worker a z) g c m (WakeUp k) l d own = left_by g m (effect (act_of (Worker a z) (WakeUp k)) h (Worker a z) c m) l (wake_keeps (latch_of k.target) (LeftTo g) (same_left g) (λ v e y n. letter_left g (latch_of k.target) v e y) m (letter (latch_of k.target) m))
 lock_kept h (Worker a z) g c m (BlockSelf k) l d own = absurd (let s : Worker a z ≡ g = (let f : m.seat.lock ≡ Some (Worker a z) = own a z refl refl in cc) in let k : same_party (Worker a z) g ≡ true = ap (same_party (Worker a z)) (sym s) ∙ same_party_refl (Worker a z) in cc)
 lock_kept h (Worker a z) g c m (LockOwn k) l d own = lock_left a z h (Worker a z) c m g l
 lock_kept h (Worker a z) g c m (RelockOwn k) l d own = lock_left a z h (Worker a z) c m g l

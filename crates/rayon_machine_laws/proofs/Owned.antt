@@ -31,8 +31,8 @@ use Rattle.rayon_machine_places.specs.Places.{same_party, own_pool, own_index, i
 use Rattle.rayon_machine_places.specs.World.{Shape, Stack, World, Counts, Part, target_pool, target_worker, target_call, at_job, begun, effect}
 use Rattle.rayon_machine_places.specs.Steps.{put, put_stack, after_move, handed_back, jobs_after, with_stack, after_choice, after_refusal, can_miss, after_miss, after_close, after_end, after_call, is_pool, new_job, new_call, after_spawn, after_send, after_install, after_join, after_yield, after_end_pool, step}
 use Rattle.rayon_machine_places.specs.Runs.{first_place, start}
-use Rattle.rayon_machine_laws.proofs.Calm.{part_at, counts_of, next_at}
-use Rattle.rayon_machine_laws.proofs.Frame.{same_party_true, if_some_and, if_some_map, if_cond, acted_keeps}
+use Rattle.rayon_machine_laws.proofs.Calm.{part_at, counts_seen, next_at}
+use Rattle.rayon_machine_laws.proofs.Frame.{same_party_true, if_some_and, if_some_map, if_cond, acted_keeps, either, put_same, put_new, put_old, after_kind}
 use Rattle.rayon_machine_laws.proofs.Owners.{own_call, kind_call, sets_for, Both, NamesFrom, plan_is, names_on}
 use Rattle.rayon_machine_laws.proofs.Ties.{job_at, shape_at, outcome, result}
 
@@ -120,31 +120,11 @@ act_fixed h q c m (SetLatch s) = set_fixed s.latch s.pool s.worker h q c m
 act_fixed h (Worker a b) c m _ = search (rules, arith)
 act_fixed h (Caller n) c m _ = search (rules, arith)
 
-put_part : {A B : Type 0} (P : A → B) (f : ℕ → A) (k : ℕ) (v : A) (n : ℕ) → P v ≡ P (f k) → P (put f k v n) ≡ P (f n)
-put_part P f k v n e = at (n == k) refl
-  where
-    at : (b : Bool) → (n == k) ≡ b → P (if b then v else f n) ≡ P (f n)
-    at true z = e ∙ ap (λ m. P (f m)) (sym (eqb-true n k z))
-    at false z = refl
-
-handed_kind : (n : Plan) (f : ℕ → Job) (t : ℕ) → (handed_back n f t).kind ≡ (f t).kind
-handed_kind (Detach p u) f t = put_part (λ j. j.kind) f u (at_job (f u) HandedBack) t refl
-handed_kind (Here p u) f t = put_part (λ j. j.kind) f u (at_job (f u) HandedBack) t refl
-handed_kind (Send o) f t = put_part (λ j. j.kind) f o.job (at_job (f o.job) HandedBack) t refl
-handed_kind (Fork o a) f t = put_part (λ j. j.kind) (put f a (at_job (f a) HandedBack)) o.job (at_job (f o.job) HandedBack) t (sym (put_part (λ j. j.kind) f a (at_job (f a) HandedBack) o.job refl)) ∙ put_part (λ j. j.kind) f a (at_job (f a) HandedBack) t refl
-
-after_kind : (q : Party) (g : Move) (f : ℕ → Job) (t : ℕ) → (jobs_after q g f t).kind ≡ (f t).kind
-after_kind q (StartRun x u) f t = put_part (λ j. j.kind) f u (begun q (f u)) t refl
-after_kind q (HandBack n) f t = handed_kind n f t
-after_kind q (Stay y) f t = refl
-after_kind q (Enter x y) f t = refl
-after_kind q Back f t = refl
-
 act_calls : (w : World) (q : Party) (k : Stack) (r : Seen × Part) → Fixed (part_at w q k) r → (c : ℕ) → ((result w q k r).call c).job ≡ (w.call c).job
-act_calls w q k r f c = put_part (λ z. z.job) w.call (target_call (act_of q k.top)) (r.1.call) c (f.0)
+act_calls w q k r f c = put_same (λ z. z.job) w.call (target_call (act_of q k.top)) (r.1.call) c (f.0)
 
 act_kinds : (w : World) (q : Party) (k : Stack) (r : Seen × Part) → Fixed (part_at w q k) r → (t : ℕ) → ((result w q k r).job t).kind ≡ (w.job t).kind
-act_kinds w q k r f t = after_kind q (next_at w q k (r.0)) (put w.job (job_at w q (act_of q k.top)) (r.1.job)) t ∙ put_part (λ z. z.kind) w.job (job_at w q (act_of q k.top)) (r.1.job) t (f.1)
+act_kinds w q k r f t = after_kind q (next_at w q k (r.0)) (put w.job (job_at w q (act_of q k.top)) (r.1.job)) t ∙ put_same (λ z. z.kind) w.job (job_at w q (act_of q k.top)) (r.1.job) t (f.1)
 
 act_grown : (w : World) (q : Party) (k : Stack) (r : Seen × Part) → Fixed (part_at w q k) r → Grown w (result w q k r)
 act_grown w q k r f = record { calls = omega arith; call = λ c l. act_calls w q k r f c; kind = λ t l. act_kinds w q k r f t }
@@ -173,7 +153,7 @@ next_names w q (BeginTask t) fs ow e = begin_names w q t fs ow
 next_names w q x fs ow e = if_some_map {A = Seen × Part} (λ r. Both (NamesFrom x) (next_at w q (record { top = x; below = fs }) (r.0))) (λ r. Both (Names w q) (next_at w q (record { top = x; below = fs }) (r.0)))
     (λ r f. both_map (NamesFrom x) (Names w q) (λ y n. from_names w q x y n (subst (λ z. Names w q (z.top)) e ((ow.named q).top))) (next_at w q (record { top = x; below = fs }) (r.0)) f)
     (outcome w q (record { top = x; below = fs }))
-    (names_on w.shape (shape_at w q (record { top = x; below = fs })) q (counts_of w q (record { top = x; below = fs })) (part_at w q (record { top = x; below = fs })) x refl)
+    (names_on w.shape (shape_at w q (record { top = x; below = fs })) q (counts_seen w q (record { top = x; below = fs })) (part_at w q (record { top = x; below = fs })) x refl)
 
 go_owned : (w : World) → Owned w → (q : Party) → IfSome (outcome w q (w.stack q)) (λ r. Owned (result w q (w.stack q) r))
 go_owned w ow q =
@@ -187,7 +167,7 @@ go_owned w ow q =
       named = λ p. at r g (h.1) p (same_party p q) refl;
     })
     (outcome w q k)
-    (if_some_and (Fixed (part_at w q k)) (λ r. Both (Names w q) (next_at w q k (r.0))) (outcome w q k) (act_fixed w.shape q (counts_of w q k) (part_at w q k) k.top) (next_names w q k.top k.below ow refl))
+    (if_some_and (Fixed (part_at w q k)) (λ r. Both (Names w q) (next_at w q k (r.0))) (outcome w q k) (act_fixed w.shape q (counts_seen w q k) (part_at w q k) k.top) (next_names w q k.top k.below ow refl))
   where
     at : (r : Seen × Part) → Grown w (result w q (w.stack q) r) → Both (Names w q) (next_at w q (w.stack q) (r.0)) → (p : Party) (b : Bool) → same_party p q ≡ b → StackNames (result w q (w.stack q) r) p (if b then after_move (next_at w q (w.stack q) (r.0)) (w.stack q).below else w.stack p)
     at r g t p true e = subst (λ z. StackNames (result w q (w.stack q) r) z (after_move (next_at w q (w.stack q) (r.0)) (w.stack q).below)) (sym (same_party_true p q e)) (grown_stack w (result w q (w.stack q) r) ow g q (after_move (next_at w q (w.stack q) (r.0)) (w.stack q).below) (land_names w q (next_at w q (w.stack q) (r.0)) (w.stack q).below t ((ow.named q).below)))
@@ -284,7 +264,7 @@ closed_names w q t Direct d (f ∷ fs) s = record { top = goes_on_names w q f d 
 end_bears : (w : World) (q : Party) (d : Ending) (x : Place) (fs : List Place) → Owned w → w.stack q ≡ record { top = x; below = fs } → IfSome (after_end w q d (record { top = x; below = fs }) x) (Bears w)
 end_bears w q d (Run t k) fs ow e =
     let u : World = record w { stack = put_stack w.stack q (after_close t k d fs); job = put w.job t (at_job (w.job t) (Over d)) } in
-    let same : (n : ℕ) → (u.job n).kind ≡ (w.job n).kind = λ n. put_part (λ j. j.kind) w.job t (at_job (w.job t) (Over d)) n refl in
+    let same : (n : ℕ) → (u.job n).kind ≡ (w.job n).kind = λ n. put_same (λ j. j.kind) w.job t (at_job (w.job t) (Over d)) n refl in
     let g : Grown w u = record { calls = omega arith; call = λ c l. refl; kind = λ n l. same n } in
     record {
       party = q;
@@ -405,15 +385,8 @@ new_bears w u q t y ow n st own sets =
     at c l true z = (let a : c < w.calls = ltb-true c w.calls z in let o : (w.call c).job < w.jobs = ow.called c a in let s : (u.call c).job ≡ (w.call c).job = n.call c a in let v : w.jobs ≤ t = n.above in let x : t < u.jobs = n.within in omega arith)
     at c l false z = (let a : w.calls ≤ c = ltb-false c w.calls z in let s : u.calls ≡ w.calls + 1 = n.calls in let is : c ≡ w.calls = omega arith in let v : (u.call c).job ≡ t = ap (λ a. (u.call a).job) is ∙ n.new in let x : t < u.jobs = n.within in omega arith)
 
-put_new : {A : Type 0} (f : ℕ → A) (k : ℕ) (v : A) → put f k v k ≡ v
-put_new f k v = let e : (k == k) ≡ true = eq-eqb k k refl in rw e
-
-put_old : {A : Type 0} (f : ℕ → A) (k : ℕ) (v : A) (n : ℕ) → n < k → put f k v n ≡ f n
-put_old f k v n l = at (n == k) refl
-  where
-    at : (b : Bool) → (n == k) ≡ b → (if b then v else f n) ≡ f n
-    at true z = absurd (let s : n ≡ k = eqb-true n k z in omega arith)
-    at false z = refl
+put_below : {A : Type 0} (f : ℕ → A) (k : ℕ) (v : A) (n : ℕ) → n < k → put f k v n ≡ f n
+put_below f k v n l = put_old f k v n (elim (either (n == k)) [ inl z ↦ absurd (let s : n ≡ k = eqb-true n k z in omega arith) | inr z ↦ z ])
 
 sent_bears : (w : World) (q : Party) (p : ℕ) → Owned w → Bears w (after_send w q p (w.stack q) false)
 sent_bears w q p ow = new_bears w u q w.jobs y ow new (λ r. refl) refl refl
@@ -433,10 +406,10 @@ sent_bears w q p ow = new_bears w u q w.jobs y ow new (λ r. refl) refl refl
       above = omega arith;
       within = omega arith;
       calls = refl;
-      call = λ c l. ap (λ a. a.job) (put_old w.call w.calls (new_call None w.jobs) c l);
+      call = λ c l. ap (λ a. a.job) (put_below w.call w.calls (new_call None w.jobs) c l);
       new = ap (λ a. a.job) (put_new w.call w.calls (new_call None w.jobs));
       kind = ap (λ a. a.kind) (put_new w.job w.jobs (new_job q p (Stored w.calls q)));
-      old = λ n l. ap (λ a. a.kind) (put_old w.job w.jobs (new_job q p (Stored w.calls q)) n l);
+      old = λ n l. ap (λ a. a.kind) (put_below w.job w.jobs (new_job q p (Stored w.calls q)) n l);
       others = λ n c o h. other n c o (n == w.jobs) refl h;
     }
 
@@ -479,10 +452,10 @@ join_bears w (Worker p i) ow = if_cond (Bears w) (is_free ((w.stack q).top)) u (
       above = omega arith;
       within = omega arith;
       calls = refl;
-      call = λ c l. ap (λ a. a.job) (put_old w.call w.calls (new_call (Some w.jobs) (w.jobs + 1)) c l);
+      call = λ c l. ap (λ a. a.job) (put_below w.call w.calls (new_call (Some w.jobs) (w.jobs + 1)) c l);
       new = ap (λ a. a.job) (put_new w.call w.calls (new_call (Some w.jobs) (w.jobs + 1)));
       kind = ap (λ a. a.kind) (put_new first (w.jobs + 1) (new_job q p (Stored w.calls q)));
-      old = λ n l. ap (λ a. a.kind) (put_old first (w.jobs + 1) (new_job q p (Stored w.calls q)) n (omega arith)) ∙ ap (λ a. a.kind) (put_old w.job w.jobs (new_job q p Direct) n l);
+      old = λ n l. ap (λ a. a.kind) (put_below first (w.jobs + 1) (new_job q p (Stored w.calls q)) n (omega arith)) ∙ ap (λ a. a.kind) (put_below w.job w.jobs (new_job q p Direct) n l);
       others = λ n c o h. other n c o (n == (w.jobs + 1)) (n == w.jobs) refl refl h;
     }
 

@@ -25,7 +25,7 @@ use Rattle.rayon_machine_laws.specs.Once.{one, times, run_of, runs_in}
 use Rattle.rayon_machine_laws.proofs.Frame.{same_index, same_refl, same_party_true, same_party_refl, if_some_each, if_some_and, if_some_map}
 use Rattle.rayon_machine_laws.proofs.Ties.{job_at, shape_at, outcome}
 use Rattle.rayon_machine_laws.proofs.Hands.{hand, held_in, held, worked, paused, hand_move, run_move, land_held, land_worked, got, starts, given, table, run_table}
-use Rattle.rayon_machine_laws.proofs.Lists.{is_quiet, SameJobs, quiet_same, times_first, times_own, times_push}
+use Rattle.rayon_machine_laws.proofs.Lists.{moves_no_job, SameJobs, quiet_same, times_first, times_own, times_push}
 use Rattle.rayon_machine_laws.proofs.Located.{Loc, same_loc, loc_of, loc_at, is_loc, weight, JobsPlaced, comes, Shifts, was_at, shift_ok, fits, JobsFit, is_left, IsOnward, onward_same, onward_loc, is_work, unbegun, no_cast, Hand, Work, Deck, Cast, Inj}
 
 -- what a step keeps of the jobs: each in its one place, begun as often as fits there, none gone back
@@ -179,13 +179,13 @@ all_tables w q k = if_some_each {I = ℕ} (λ t r. (hand_move t (next_of (shape_
     (run_table w.shape (shape_at w q k) q (counts_at w (target_pool q (act_of q (k.top)))) (part_of w (target_pool q (act_of q (k.top))) (target_worker q (act_of q (k.top))) (target_call (act_of q (k.top))) (job_at w q (act_of q (k.top)))) t (k.top)))
 
 -- places that begin nothing
-quiet_starts : (t : ℕ) (x : Place) → is_quiet x ≡ true → starts t x ≡ 0
+quiet_starts : (t : ℕ) (x : Place) → moves_no_job x ≡ true → starts t x ≡ 0
 quiet_starts t (BeginTask u) z = cc
 quiet_starts t (BeginHere u) z = cc
 quiet_starts t _ z = refl
 
 -- acts that neither take nor push nor begin
-quiet_mid : (w : World) (q : Party) (k : Stack) → w.stack q ≡ k → is_quiet (k.top) ≡ true → JobsOk w → Mid w q k
+quiet_mid : (w : World) (q : Party) (k : Stack) → w.stack q ≡ k → moves_no_job (k.top) ≡ true → JobsOk w → Mid w q k
 quiet_mid w q k e z ok =
     let p0 = target_pool q (act_of q (k.top)) in let i0 = target_worker q (act_of q (k.top)) in let c0 = target_call (act_of q (k.top)) in let n0 = job_at w q (act_of q (k.top)) in
     let m : Part = part_of w p0 i0 c0 n0 in

@@ -16,10 +16,10 @@ use Rattle.rayon_machine_places.specs.World.{Shape, Stack, World, count_below, C
 use Rattle.rayon_machine_places.specs.Steps.{after_move}
 use Rattle.rayon_machine_laws.specs.Committed.{is_committed}
 use Rattle.rayon_machine_laws.specs.Attended.{is_filled}
-use Rattle.rayon_machine_laws.proofs.Attend.{owes, HasOwing, AttendedAt, Attended, looks_from, attended_same, stack_own, same_quiet, owes_walk}
-use Rattle.rayon_machine_laws.proofs.Calm.{part_at, counts_of, next_at, Quiet, quiet_go}
+use Rattle.rayon_machine_laws.proofs.Attend.{owes, HasOwing, AttendedAt, Attended, looks_from, attended_same, same_quiet, owes_walk}
+use Rattle.rayon_machine_laws.proofs.Calm.{part_at, counts_seen, next_at, Quiet, quiet_go}
 use Rattle.rayon_machine_laws.proofs.Counting.{count_some, Passes, count_more, wakes_none}
-use Rattle.rayon_machine_laws.proofs.Frame.{either, if_some_and, if_some_map}
+use Rattle.rayon_machine_laws.proofs.Frame.{either, if_some_and, if_some_map, stack_mine}
 use Rattle.rayon_machine_laws.proofs.Sleepers.{committed_sleeps}
 use Rattle.rayon_machine_laws.proofs.Ties.{SeatsOk, shape_at, outcome, result}
 use Rattle.rayon_machine_laws.proofs.Tops.{FramesOk}
@@ -30,7 +30,7 @@ owing_here w q y u p i at below has owe = record { party = q; worker = i; below 
 
 -- the party's top after its act
 pub top_is : (w : World) (q : Party) (k : Stack) (r : Seen × Part) → ((result w q k r).stack q).top ≡ (after_move (next_at w q k (r.0)) k.below).top
-top_is w q k r = ap (λ z. z.top) (stack_own w.stack q (after_move (next_at w q k (r.0)) k.below))
+top_is w q k r = ap (λ z. z.top) (stack_mine w.stack q (after_move (next_at w q k (r.0)) k.below))
 
 -- what a push sees; at its own worker's deque it leaves the injector
 abbrev Pushed : Act → Shape → Party → Counts → Part → Bool → Type 0
@@ -62,7 +62,7 @@ push_attends w q n v fs e fr a =
     (λ r h p. by_pool r ((h.0).0) ((h.0).1) (h.1) p (plan_pool n == p) (is_member q (plan_pool n)) refl refl)
     (outcome w q k)
     (if_some_and (λ r. (r.0 ≡ Done) × (is_member q (plan_pool n) ≡ true → is_filled (r.1.pool.injector) ≡ true → is_filled (w.pool p0).injector ≡ true)) (λ r. (p i : ℕ) → Quiet w (result w q k r) p i) (outcome w q k)
-    (push_seen w.shape q (counts_of w q k) (part_at w q k) n v)
+    (push_seen w.shape q (counts_seen w q k) (part_at w q k) n v)
     (quiet_go w q k e fr refl))
   where
     k : Stack
@@ -98,7 +98,7 @@ tell_attends w q n v fs e ok fr a =
     (λ r h p. by_pool r ((h.0).0 ∙ ap (λ z. Wakes (wakes_for_one v (counts_at w z))) (tell_pool q n v)) ((h.0).1) (h.1) p (plan_pool n == p) (nat_lt 0 number) refl refl)
     (outcome w q k)
     (if_some_and (λ r. (r.0 ≡ Wakes (wakes_for_one v (counts_at w p0))) × (r.1.pool.injector ≡ (w.pool p0).injector)) (λ r. (p i : ℕ) → Quiet w (result w q k r) p i) (outcome w q k)
-    (tell_seen w.shape q (counts_of w q k) (part_at w q k) n v)
+    (tell_seen w.shape q (counts_seen w q k) (part_at w q k) n v)
     (quiet_go w q k e fr refl))
   where
     k : Stack

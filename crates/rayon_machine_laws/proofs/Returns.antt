@@ -34,21 +34,21 @@ use Rattle.rayon_machine_places.specs.Steps.{put, put_stack, after_move, jobs_af
 use Rattle.rayon_machine_places.specs.Runs.{start, IsRun}
 use Rattle.rayon_machine_laws.specs.Once.{one}
 use Rattle.rayon_machine_laws.specs.End.{AllJobs, after_settling, IsReturned}
-use Rattle.rayon_machine_laws.proofs.Frame.{either, same_party_true, if_some_and, if_some_map, if_cond, acted_keeps}
+use Rattle.rayon_machine_laws.proofs.Frame.{either, same_party_true, if_some_and, if_some_map, if_cond, acted_keeps, put_same, put_new, put_old, stack_mine, stack_other, after_counted}
 use Rattle.rayon_machine_laws.proofs.Ties.{job_at, outcome}
 use Rattle.rayon_machine_laws.proofs.Events.{run_keeps}
 use Rattle.rayon_machine_laws.proofs.Hands.{hand_plan, held}
 use Rattle.rayon_machine_laws.proofs.Located.{loc_of, loc_at, is_loc, where_is, Hand}
-use Rattle.rayon_machine_laws.proofs.ClaimActs.{put_same, put_new, put_old}
-use Rattle.rayon_machine_laws.proofs.ClaimRuns.{world_after, part_at}
+use Rattle.rayon_machine_laws.proofs.ClaimRuns.{world_after, place_part}
 use Rattle.rayon_machine_laws.proofs.ClaimEvents.{ended_world}
 use Rattle.rayon_machine_laws.proofs.ClaimMakes.{calling, below_new}
 use Rattle.rayon_machine_laws.proofs.Amounts.{paid}
-use Rattle.rayon_machine_laws.proofs.ShareActs.{SharesHold, stack_mine, stack_other, after_counted, is_tally, Untallied, same_untallied, act_untallied}
+use Rattle.rayon_machine_laws.proofs.ShareActs.{SharesHold, is_tally, Untallied, same_untallied, act_untallied}
 use Rattle.rayon_machine_laws.proofs.ShareSteps.{self_one, raised_world}
 use Rattle.rayon_machine_laws.proofs.ShareLowers.{lowered_world}
 use Rattle.rayon_machine_laws.proofs.ShareEnds.{step_shares, first_shares}
 use Rattle.rayon_machine_laws.proofs.Bares.{bare_then, bare, bare_in, all_bare, bare_move, backs, bare_held, bare_raised, bares, land_only, land_bare, closed_bare}
+use Rattle.rayon_machine_laws.proofs.Letters.{sleepy_keeps, asleep_keeps, wake_keeps, set_keeps}
 
 -- a job with a share is not handed back, and no party has it in hand without one
 pub record ReturnsHold (w : World) : Type 0 where
@@ -61,7 +61,7 @@ returns_by w u q k st f s = record { shares = s; bare = λ r t c. by r t c (same
   where
     by : (r : Party) (t : ℕ) → (u.job t).counted ≡ true → (b : Bool) → same_party r q ≡ b → all_bare t (u.stack r) + backs (u.job t).at ≤ 0
     by r t c true e = let a : all_bare t (u.stack r) ≡ all_bare t k = ap (all_bare t) (st r ∙ ap (put_stack w.stack q k) (same_party_true r q e) ∙ stack_mine w.stack q k) in let b : all_bare t k + backs (u.job t).at ≤ 0 = (f t c).0 in omega (arith, a, b)
-    by r t c false e = let a : all_bare t (u.stack r) ≡ all_bare t (w.stack r) = ap (all_bare t) (st r ∙ stack_other w.stack q r k e) in let b : all_bare t k + backs (u.job t).at ≤ 0 = (f t c).0 in let d : all_bare t (w.stack r) ≤ 0 = (f t c).1 r e in omega (arith, a, b, d)
+    by r t c false e = let a : all_bare t (u.stack r) ≡ all_bare t (w.stack r) = ap (all_bare t) (st r ∙ stack_other w.stack q k r e) in let b : all_bare t k + backs (u.job t).at ≤ 0 = (f t c).0 in let d : all_bare t (w.stack r) ≤ 0 = (f t c).1 r e in omega (arith, a, b, d)
 
 returns_keep : (w u : World) (q : Party) (k : Stack) → ((r : Party) → u.stack r ≡ put_stack w.stack q k r) → ((t : ℕ) → (u.job t).counted ≡ true → ((w.job t).counted ≡ true) × (all_bare t k + backs (u.job t).at ≤ all_bare t (w.stack q) + backs (w.job t).at)) → ReturnsHold w → SharesHold u → ReturnsHold u
 returns_keep w u q k st f h s = returns_by w u q k st (λ t c. (
@@ -77,30 +77,14 @@ letter_unbacked : (l : Latch) (m : Part) (e : Seen) (y : Letter) → Unbacked m 
 letter_unbacked Terminate m e y = omega arith
 letter_unbacked (OfCall c) m e y = omega arith
 
-set_unbacked : (l : Latch) (m : Part) (x : Letter) → IfSome (set_latch l m x) (Unbacked m)
-set_unbacked l m Sleeping = letter_unbacked l m Yes IsSet
-set_unbacked l m _ = letter_unbacked l m No IsSet
-
-sleepy_unbacked : (l : Latch) (m : Part) (x : Letter) → IfSome (sleepy l m x) (Unbacked m)
-sleepy_unbacked l m Unset = letter_unbacked l m Done IsSleepy
-sleepy_unbacked l m _ = omega arith
-
-asleep_unbacked : (l : Latch) (m : Part) (x : Letter) → IfSome (fall_asleep l m x) (Unbacked m)
-asleep_unbacked l m IsSleepy = letter_unbacked l m Done Sleeping
-asleep_unbacked l m _ = omega arith
-
-wake_unbacked : (l : Latch) (m : Part) (x : Letter) → IfSome (wake_up l m x) (Unbacked m)
-wake_unbacked l m IsSet = omega arith
-wake_unbacked l m _ = letter_unbacked l m Done Unset
-
 act_unbacked : (h : Shape) (q : Party) (c : Counts) (m : Part) (x : Place) → is_tally x ≡ false → IfSome (effect (act_of q x) h q c m) (Unbacked m)
 act_unbacked h (Worker a b) c m (ProbeWorking k) z = omega arith
-act_unbacked h (Worker a b) c m (GetSleepy k) z = sleepy_unbacked (latch_of k.target) m (letter (latch_of k.target) m)
-act_unbacked h (Worker a b) c m (FallAsleep k) z = asleep_unbacked (latch_of k.target) m (letter (latch_of k.target) m)
-act_unbacked h (Worker a b) c m (WakeUp k) z = wake_unbacked (latch_of k.target) m (letter (latch_of k.target) m)
-act_unbacked h (Worker a b) c m (SetLatch k) z = set_unbacked k.latch m (letter k.latch m)
+act_unbacked h (Worker a b) c m (GetSleepy k) z = sleepy_keeps (latch_of k.target) Unbacked (λ v e. omega arith) (λ v e y n. letter_unbacked (latch_of k.target) v e y) m (letter (latch_of k.target) m)
+act_unbacked h (Worker a b) c m (FallAsleep k) z = asleep_keeps (latch_of k.target) Unbacked (λ v e. omega arith) (λ v e y n. letter_unbacked (latch_of k.target) v e y) m (letter (latch_of k.target) m)
+act_unbacked h (Worker a b) c m (WakeUp k) z = wake_keeps (latch_of k.target) Unbacked (λ v e. omega arith) (λ v e y n. letter_unbacked (latch_of k.target) v e y) m (letter (latch_of k.target) m)
+act_unbacked h (Worker a b) c m (SetLatch k) z = set_keeps k.latch Unbacked (λ v e. letter_unbacked k.latch v e IsSet) m (letter k.latch m)
 act_unbacked h (Worker a b) c m _ z = first_of (cc, search (rules, arith))
-act_unbacked h (Caller n) c m (SetLatch k) z = set_unbacked k.latch m (letter k.latch m)
+act_unbacked h (Caller n) c m (SetLatch k) z = set_keeps k.latch Unbacked (λ v e. letter_unbacked k.latch v e IsSet) m (letter k.latch m)
 act_unbacked h (Caller n) c m _ z = first_of (cc, search (rules, arith))
 
 put_backs : (J : ℕ → Job) (n : ℕ) (j : Job) (t : ℕ) → backs j.at ≤ backs (J n).at → backs (put J n j t).at ≤ backs (J t).at
@@ -111,7 +95,7 @@ put_backs J n j t a = by (t == n) refl
     by false e = omega arith
 
 -- what a party has after an act, and what its move hands back
-line : (w : World) (q : Party) (x : Place) (fs : List Place) (r : Seen × Part) (t : ℕ) → w.stack q ≡ record { top = x; below = fs } → Unbacked (part_at w q x) r → (all_bare t (after_move (next_of (w.shape.pool (target_pool q (act_of q x))) q x (r.0)) fs) + backs ((world_after w q x fs r).job t).at ≤ bare_move t (next_of (w.shape.pool (target_pool q (act_of q x))) q x (r.0)) + bare_in t fs + backs (w.job t).at) × (all_bare t (after_move (next_of (w.shape.pool (target_pool q (act_of q x))) q x (r.0)) fs) + backs ((world_after w q x fs r).job t).at ≤ all_bare t (w.stack q) + paid t x + backs (w.job t).at)
+line : (w : World) (q : Party) (x : Place) (fs : List Place) (r : Seen × Part) (t : ℕ) → w.stack q ≡ record { top = x; below = fs } → Unbacked (place_part w q x) r → (all_bare t (after_move (next_of (w.shape.pool (target_pool q (act_of q x))) q x (r.0)) fs) + backs ((world_after w q x fs r).job t).at ≤ bare_move t (next_of (w.shape.pool (target_pool q (act_of q x))) q x (r.0)) + bare_in t fs + backs (w.job t).at) × (all_bare t (after_move (next_of (w.shape.pool (target_pool q (act_of q x))) q x (r.0)) fs) + backs ((world_after w q x fs r).job t).at ≤ all_bare t (w.stack q) + paid t x + backs (w.job t).at)
 line w q x fs r t z un = (omega (arith, one_part, two), omega (arith, one_part, two, three, four))
   where
     one_part : all_bare t (after_move (next_of (w.shape.pool (target_pool q (act_of q x))) q x (r.0)) fs) + backs ((world_after w q x fs r).job t).at ≤ bare_move t (next_of (w.shape.pool (target_pool q (act_of q x))) q x (r.0)) + bare_in t fs + backs (put w.job (job_at w q (act_of q x)) (r.1.job) t).at
@@ -127,7 +111,7 @@ line w q x fs r t z un = (omega (arith, one_part, two), omega (arith, one_part, 
     four = ap (all_bare t) z
 
 -- an act that neither takes a share nor gives a job's back
-plain_returns : (w : World) (q : Party) (x : Place) (fs : List Place) (r : Seen × Part) → w.stack q ≡ record { top = x; below = fs } → Untallied (part_at w q x) r → Unbacked (part_at w q x) r → ((t : ℕ) → paid t x ≡ 0) → ReturnsHold w → SharesHold (world_after w q x fs r) → ReturnsHold (world_after w q x fs r)
+plain_returns : (w : World) (q : Party) (x : Place) (fs : List Place) (r : Seen × Part) → w.stack q ≡ record { top = x; below = fs } → Untallied (place_part w q x) r → Unbacked (place_part w q x) r → ((t : ℕ) → paid t x ≡ 0) → ReturnsHold w → SharesHold (world_after w q x fs r) → ReturnsHold (world_after w q x fs r)
 plain_returns w q x fs r z ut un none h s = returns_keep w (world_after w q x fs r) q (after_move (next_of (w.shape.pool (target_pool q (act_of q x))) q x (r.0)) fs) (λ i. refl)
     (λ t c. (sym (counted t) ∙ c, (let a : all_bare t (after_move (next_of (w.shape.pool (target_pool q (act_of q x))) q x (r.0)) fs) + backs ((world_after w q x fs r).job t).at ≤ all_bare t (w.stack q) + paid t x + backs (w.job t).at = (line w q x fs r t z un).1 in let b : paid t x ≡ 0 = none t in omega (arith, a, b)))) h s
   where
@@ -221,8 +205,8 @@ unpaid t (LowerCount p s n) z = cc
 unpaid t _ z = refl
 
 -- each act
-raise_either : (w : World) (q : Party) (n : Plan) (fs : List Place) → w.stack q ≡ record { top = RaiseCount n; below = fs } → ReturnsHold w → (done : Seen × Part) → (SharesHold (world_after w q (RaiseCount n) fs done) → ReturnsHold (world_after w q (RaiseCount n) fs done)) → (b : Bool) → IfSome (if b then Some (Refused, part_at w q (RaiseCount n)) else Some done) (λ r. SharesHold (world_after w q (RaiseCount n) fs r) → ReturnsHold (world_after w q (RaiseCount n) fs r))
-raise_either w q n fs z h done f true = plain_returns w q (RaiseCount n) fs (Refused, part_at w q (RaiseCount n)) z (same_untallied (part_at w q (RaiseCount n)) Refused) (omega arith) (λ t. refl) h
+raise_either : (w : World) (q : Party) (n : Plan) (fs : List Place) → w.stack q ≡ record { top = RaiseCount n; below = fs } → ReturnsHold w → (done : Seen × Part) → (SharesHold (world_after w q (RaiseCount n) fs done) → ReturnsHold (world_after w q (RaiseCount n) fs done)) → (b : Bool) → IfSome (if b then Some (Refused, place_part w q (RaiseCount n)) else Some done) (λ r. SharesHold (world_after w q (RaiseCount n) fs r) → ReturnsHold (world_after w q (RaiseCount n) fs r))
+raise_either w q n fs z h done f true = plain_returns w q (RaiseCount n) fs (Refused, place_part w q (RaiseCount n)) z (same_untallied (place_part w q (RaiseCount n)) Refused) (omega arith) (λ t. refl) h
 raise_either w q n fs z h done f false = f
 
 value_returns : (w : World) (q : Party) (p : ℕ) (n : Then) (fs : List Place) (e : Seen) → w.stack q ≡ record { top = LowerCount p PoolValue n; below = fs } → ReturnsHold w → SharesHold (lowered_world w q p PoolValue n fs e) → ReturnsHold (lowered_world w q p PoolValue n fs e)
@@ -236,8 +220,8 @@ value_returns w q p n fs e z h s = returns_keep w (lowered_world w q p PoolValue
     )) h s
 
 plain_act : (w : World) (q : Party) (x : Place) (fs : List Place) → w.stack q ≡ record { top = x; below = fs } → is_tally x ≡ false → ReturnsHold w → IfSome (outcome w q (record { top = x; below = fs })) (λ r. SharesHold (world_after w q x fs r) → ReturnsHold (world_after w q x fs r))
-plain_act w q x fs z y h = if_some_map (λ r. Untallied (part_at w q x) r × Unbacked (part_at w q x) r) (λ r. SharesHold (world_after w q x fs r) → ReturnsHold (world_after w q x fs r)) (λ r f. plain_returns w q x fs r z (f.0) (f.1) (λ t. unpaid t x y) h) (outcome w q (record { top = x; below = fs }))
-    (if_some_and (Untallied (part_at w q x)) (Unbacked (part_at w q x)) (outcome w q (record { top = x; below = fs })) (act_untallied w.shape q (counts_at w (target_pool q (act_of q x))) (part_at w q x) x y) (act_unbacked w.shape q (counts_at w (target_pool q (act_of q x))) (part_at w q x) x y))
+plain_act w q x fs z y h = if_some_map (λ r. Untallied (place_part w q x) r × Unbacked (place_part w q x) r) (λ r. SharesHold (world_after w q x fs r) → ReturnsHold (world_after w q x fs r)) (λ r f. plain_returns w q x fs r z (f.0) (f.1) (λ t. unpaid t x y) h) (outcome w q (record { top = x; below = fs }))
+    (if_some_and (Untallied (place_part w q x)) (Unbacked (place_part w q x)) (outcome w q (record { top = x; below = fs })) (act_untallied w.shape q (counts_at w (target_pool q (act_of q x))) (place_part w q x) x y) (act_unbacked w.shape q (counts_at w (target_pool q (act_of q x))) (place_part w q x) x y))
 
 go_by : (w : World) (q : Party) (x : Place) (fs : List Place) → w.stack q ≡ record { top = x; below = fs } → ReturnsHold w → IfSome (outcome w q (record { top = x; below = fs })) (λ r. SharesHold (world_after w q x fs r) → ReturnsHold (world_after w q x fs r))
 go_by w (Worker a b) (RaiseCount n) fs z h = raise_either w (Worker a b) n fs z h _ (raise_returns w (Worker a b) n fs z h) ((w.pool (plan_pool n)).count == 0)

@@ -25,7 +25,7 @@ use Rattle.rayon_machine_laws.specs.Searched.{Spot, OwnDeque, OwnCast, Deque, In
 use Rattle.rayon_machine_laws.specs.Turn.{IsRunWithout, is_announcing, is_announce}
 use Rattle.rayon_machine_laws.proofs.Asides.{Aside, calm_step}
 use Rattle.rayon_machine_laws.proofs.Attended.{Awake, aside_frames, step_awake, always_awake, step_shape, always_shape}
-use Rattle.rayon_machine_laws.proofs.Calm.{part_at, counts_of, next_at, top_then}
+use Rattle.rayon_machine_laws.proofs.Calm.{part_at, counts_seen, next_at, top_then}
 use Rattle.rayon_machine_laws.proofs.Emptied.{own_none, settled_busy, set_busy}
 use Rattle.rayon_machine_laws.proofs.Frame.{same_refl, same_party_true, if_some_all, if_some_and, if_some_map, if_cond, acted_keeps}
 use Rattle.rayon_machine_laws.proofs.Holding.{go_frames}
@@ -108,7 +108,7 @@ own_search w p i (TakeCastIdle k) fs l below s = cast_stage (w.shape.pool p) (Wo
 own_search w p i (PickVictim k) fs l below s = pick_stage (w.shape.pool p).workers i 0 k l (omega arith) below s
 own_search w p i (StealFrom k v) fs l below s = thief_stage (w.shape.pool p) p i k v (part_at w (Worker p i) (record { top = StealFrom k v; below = fs })) l (w.seat p k.victim).own s
 own_search w p i (PopInjected k) fs l below s = last_stage (w.shape.pool p) (Worker p i) k (part_at w (Worker p i) (record { top = PopInjected k; below = fs })) i l (w.pool p).injector s
-own_search w p i x fs l below s = other_stage w.shape (w.shape.pool (target_pool (Worker p i) (act_of (Worker p i) x))) p i (counts_of w (Worker p i) (record { top = x; below = fs })) (part_at w (Worker p i) (record { top = x; below = fs })) x (w.shape.pool p).workers l refl s
+own_search w p i x fs l below s = other_stage w.shape (w.shape.pool (target_pool (Worker p i) (act_of (Worker p i) x))) p i (counts_seen w (Worker p i) (record { top = x; below = fs })) (part_at w (Worker p i) (record { top = x; below = fs })) x (w.shape.pool p).workers l refl s
 
 frame_stage : (n i : ℕ) (l : List Look) (f : Place) → is_frame f ≡ true → Stage n i f l
 frame_stage n i l f e = busy_stage n i f l (frame_not_emptied f e)

@@ -23,12 +23,12 @@ use Rattle.rayon_machine_places.specs.Runs.{first_place, start, IsRun}
 use Rattle.rayon_machine_laws.specs.Committed.{is_blocking}
 use Rattle.rayon_machine_laws.specs.Attended.{letter_at, settles, HasSettler, IsWaiting, IsLatchAttended}
 use Rattle.rayon_machine_laws.proofs.Asides.{Aside, steps_aside}
-use Rattle.rayon_machine_laws.proofs.Attend.{looks_parts, stack_other, is_owing}
+use Rattle.rayon_machine_laws.proofs.Attend.{looks_parts, is_owing}
 use Rattle.rayon_machine_laws.proofs.Attended.{Awake, step_awake, first_light, first_awake}
-use Rattle.rayon_machine_laws.proofs.Calm.{part_at, counts_of, next_at, top_then}
+use Rattle.rayon_machine_laws.proofs.Calm.{part_at, counts_seen, next_at, top_then}
 use Rattle.rayon_machine_laws.proofs.Dozing.{dozes_on, lies_at, is_deep, DozeOk, Dozing, dozes_own, dozes_calm, dozes_unsettling, light_dozes, light_unsettling, letter_kept, letter_new, LetterChange, letters, other_settled}
 use Rattle.rayon_machine_laws.proofs.Events.{run_keeps}
-use Rattle.rayon_machine_laws.proofs.Frame.{either, same_index, same_refl, same_party_true, if_some_all, if_some_each, if_some_and, if_some_map, if_none}
+use Rattle.rayon_machine_laws.proofs.Frame.{either, same_index, same_refl, same_party_true, if_some_all, if_some_each, if_some_and, if_some_map, if_none, stack_other}
 use Rattle.rayon_machine_laws.proofs.Holding.{blocking_home, if_some_h}
 use Rattle.rayon_machine_laws.proofs.Latches.{SameLatches, is_latching, latches_same, or_terminate, blocks_not}
 use Rattle.rayon_machine_laws.proofs.Locks.{tops_map}
@@ -71,7 +71,7 @@ own_settled w p i x fs l e z fr doze = elim (either (is_latching x)) [
       (λ r t on. absurd (let c : is_latching x ≡ false = dozes_calm x l ((dozed r t on).0) in cc)) (outcome w q k) table
   | inr calm ↦ if_some_map {A = Seen × Part} (λ r. Tops (DozedOn x l) (next_at w q k (r.0)) × SameLatches (part_at w q k) r) (λ r. dozes_on ((after_move (next_at w q k (r.0)) fs).top) ≡ Some l → DozeOk (result w q k r) p i l)
       (λ r a on. keep r (dozed r (a.0) on) (a.1)) (outcome w q k)
-      (if_some_and (λ r. Tops (DozedOn x l) (next_at w q k (r.0))) (SameLatches (part_at w q k)) (outcome w q k) table (latches_same w.shape q (counts_of w q k) (part_at w q k) x calm))
+      (if_some_and (λ r. Tops (DozedOn x l) (next_at w q k (r.0))) (SameLatches (part_at w q k)) (outcome w q k) table (latches_same w.shape q (counts_seen w q k) (part_at w q k) x calm))
 ]
   where
     q : Party
@@ -81,7 +81,7 @@ own_settled w p i x fs l e z fr doze = elim (either (is_latching x)) [
     k = record { top = x; below = fs }
 
     table : IfSome (outcome w q k) (λ r. Tops (DozedOn x l) (next_at w q k (r.0)))
-    table = doze_from w.shape (shape_at w q k) q (counts_of w q k) (part_at w q k) x l z
+    table = doze_from w.shape (shape_at w q k) q (counts_seen w q k) (part_at w q k) x l z
 
     dozed : (r : Seen × Part) → Tops (DozedOn x l) (next_at w q k (r.0)) → dozes_on ((after_move (next_at w q k (r.0)) fs).top) ≡ Some l → (dozes_on x ≡ Some l) × (lies_at x ≡ false)
     dozed r t on = top_then (DozedOn x l) w q k (r.0) e fr (λ f ff. frame_dozes f l ((dozes_on x ≡ Some l) × (lies_at x ≡ false)) ff) t on
@@ -147,7 +147,7 @@ other_doze w q x fs p i l e d a ow doze on =
     (letters w q x fs p i l e d ow (mine_of w p i l ow on))
     (if_some_and (λ r. ((result w q k r).seat p i).blocked ≡ true → (w.seat p i).blocked ≡ true) (λ r. wakes_at x ≡ true → Woke (part_at w q k) r) (outcome w q k)
     (blocking ((p == target_pool q (act_of q x)) && (i == target_worker q (act_of q x))) refl)
-    (if_some_h (wakes_at x) (Woke (part_at w q k)) (outcome w q k) (λ z. wake_seen w.shape q (counts_of w q k) (part_at w q k) x z))))
+    (if_some_h (wakes_at x) (Woke (part_at w q k)) (outcome w q k) (λ z. wake_seen w.shape q (counts_seen w q k) (part_at w q k) x z))))
   where
     k : Stack
     k = record { top = x; below = fs }
@@ -162,10 +162,10 @@ other_doze w q x fs p i l e d a ow doze on =
             let ti : i ≡ f = ei ∙ ap (λ z. target_worker z (act_of z x)) s ∙ home_worker c f x h in
             let is : Worker p i ≡ q = ap (λ z. Worker z i) tp ∙ ap (λ z. Worker c z) ti ∙ sym s in
             let y : same_party (Worker p i) q ≡ true = ap (same_party (Worker p i)) (sym is) ∙ same_refl p i in cc)
-        by_party (Caller n) s = if_none (λ r. r.1.seat.blocked ≡ true → (part_at w q k).seat.blocked ≡ true) (outcome w q k) (ap (λ a. effect a w.shape q (counts_of w q k) (part_at w q k)) (ap (λ z. act_of z x) s ∙ home_caller n x (blocking_home x b)))
+        by_party (Caller n) s = if_none (λ r. r.1.seat.blocked ≡ true → (part_at w q k).seat.blocked ≡ true) (outcome w q k) (ap (λ a. effect a w.shape q (counts_seen w q k) (part_at w q k)) (ap (λ z. act_of z x) s ∙ home_caller n x (blocking_home x b)))
 
     kept : p ≡ target_pool q (act_of q x) → i ≡ target_worker q (act_of q x) → IfSome (outcome w q k) (λ r. r.1.seat.blocked ≡ true → (part_at w q k).seat.blocked ≡ true)
-    kept ep ei = elim (either (is_blocking x)) [ inl b ↦ not_mine b ep ei | inr b ↦ blocks_not w.shape q (counts_of w q k) (part_at w q k) x b ]
+    kept ep ei = elim (either (is_blocking x)) [ inl b ↦ not_mine b ep ei | inr b ↦ blocks_not w.shape q (counts_seen w q k) (part_at w q k) x b ]
 
     blocking : (b : Bool) → ((p == target_pool q (act_of q x)) && (i == target_worker q (act_of q x))) ≡ b → IfSome (outcome w q k) (λ r. (if b then r.1.seat else w.seat p i).blocked ≡ true → (w.seat p i).blocked ≡ true)
     blocking true z =

@@ -26,16 +26,16 @@ use Rattle.rayon_machine_places.specs.World.{Shape, Stack, World, Counts, counts
 use Rattle.rayon_machine_places.specs.Steps.{put, put_stack, part_of, jobs_after}
 use Rattle.rayon_machine_laws.specs.Once.{one, times, in_deque, in_injector, IsOnce}
 use Rattle.rayon_machine_laws.specs.Shares.{shares, is_busy}
-use Rattle.rayon_machine_laws.proofs.Frame.{same_party_refl, if_some_map}
+use Rattle.rayon_machine_laws.proofs.Frame.{same_party_refl, if_some_map, put_same}
 use Rattle.rayon_machine_laws.proofs.Ties.{job_at}
-use Rattle.rayon_machine_laws.proofs.Lists.{is_quiet, SameJobs, quiet_same, times_first, times_own}
+use Rattle.rayon_machine_laws.proofs.Lists.{moves_no_job, SameJobs, quiet_same, times_first, times_own}
 use Rattle.rayon_machine_laws.proofs.Located.{is_left}
 use Rattle.rayon_machine_laws.proofs.Placed.{outcome_of}
 use Rattle.rayon_machine_laws.proofs.Claims.{is_detached, SaysPlan, Says}
-use Rattle.rayon_machine_laws.proofs.ClaimActs.{put_same}
-use Rattle.rayon_machine_laws.proofs.ClaimRuns.{CallsHold, part_at}
+use Rattle.rayon_machine_laws.proofs.ClaimRuns.{CallsHold, place_part}
 use Rattle.rayon_machine_laws.proofs.Amounts.{all_raises, all_values, pushed}
 use Rattle.rayon_machine_laws.proofs.Tokens.{Tokens, sum_below}
+use Rattle.rayon_machine_laws.proofs.Letters.{sleepy_keeps, asleep_keeps, wake_keeps, set_keeps}
 
 -- a detached job that is queued or runs has its share itself
 abbrev pub with_job : Job → ℕ
@@ -66,31 +66,6 @@ pub one_not : (b : Bool) → one b ≤ 0 → b ≡ false
 one_not true h = absurd (omega arith)
 one_not false h = refl
 
-pub after_counted : (q : Party) (g : Move) (J : ℕ → Job) (t : ℕ) → (jobs_after q g J t).counted ≡ (J t).counted
-after_counted q (Stay y) J t = refl
-after_counted q (Enter f y) J t = refl
-after_counted q Back J t = refl
-after_counted q (StartRun f a) J t = put_same (λ j. j.counted) J a (begun q (J a)) t refl
-after_counted q (HandBack (Detach p a)) J t = put_same (λ j. j.counted) J a (at_job (J a) HandedBack) t refl
-after_counted q (HandBack (Here p a)) J t = put_same (λ j. j.counted) J a (at_job (J a) HandedBack) t refl
-after_counted q (HandBack (Send o)) J t = put_same (λ j. j.counted) J (o.job) (at_job (J (o.job)) HandedBack) t refl
-after_counted q (HandBack (Fork o a)) J t = put_same (λ j. j.counted) (put J a (at_job (J a) HandedBack)) (o.job) (at_job (J (o.job)) HandedBack) t (sym (put_same (λ j. j.counted) J a (at_job (J a) HandedBack) (o.job) refl)) ∙ put_same (λ j. j.counted) J a (at_job (J a) HandedBack) t refl
-
--- the stacks after one party has another
-pub stack_mine : (f : Party → Stack) (q : Party) (k : Stack) → put_stack f q k q ≡ k
-stack_mine f q k = by (same_party q q) (same_party_refl q)
-  where
-    by : (z : Bool) → z ≡ true → (if z then k else f q) ≡ k
-    by true e = refl
-    by false e = cc
-
-pub stack_other : (f : Party → Stack) (q r : Party) (k : Stack) → same_party r q ≡ false → put_stack f q k r ≡ f r
-stack_other f q r k e = by (same_party r q) e
-  where
-    by : (z : Bool) → z ≡ false → (if z then k else f r) ≡ f r
-    by true e = cc
-    by false e = refl
-
 -- places whose acts change the count
 abbrev pub is_tally : Place → Bool
 is_tally (RaiseCount n) = true
@@ -109,30 +84,14 @@ letter_untallied (OfCall c) m e y = record { job = refl; pool = refl; count = re
 pub same_untallied : (m : Part) (e : Seen) → Untallied m (e, m)
 same_untallied m e = record { job = refl; pool = refl; count = refl }
 
-set_untallied : (l : Latch) (m : Part) (x : Letter) → IfSome (set_latch l m x) (Untallied m)
-set_untallied l m Sleeping = letter_untallied l m Yes IsSet
-set_untallied l m _ = letter_untallied l m No IsSet
-
-sleepy_untallied : (l : Latch) (m : Part) (x : Letter) → IfSome (sleepy l m x) (Untallied m)
-sleepy_untallied l m Unset = letter_untallied l m Done IsSleepy
-sleepy_untallied l m _ = same_untallied m Refused
-
-asleep_untallied : (l : Latch) (m : Part) (x : Letter) → IfSome (fall_asleep l m x) (Untallied m)
-asleep_untallied l m IsSleepy = letter_untallied l m Done Sleeping
-asleep_untallied l m _ = same_untallied m Refused
-
-wake_untallied : (l : Latch) (m : Part) (x : Letter) → IfSome (wake_up l m x) (Untallied m)
-wake_untallied l m IsSet = same_untallied m Done
-wake_untallied l m _ = letter_untallied l m Done Unset
-
 pub act_untallied : (h : Shape) (q : Party) (c : Counts) (m : Part) (x : Place) → is_tally x ≡ false → IfSome (effect (act_of q x) h q c m) (Untallied m)
 act_untallied h (Worker a b) c m (ProbeWorking k) z = same_untallied m _
-act_untallied h (Worker a b) c m (GetSleepy k) z = sleepy_untallied (latch_of k.target) m (letter (latch_of k.target) m)
-act_untallied h (Worker a b) c m (FallAsleep k) z = asleep_untallied (latch_of k.target) m (letter (latch_of k.target) m)
-act_untallied h (Worker a b) c m (WakeUp k) z = wake_untallied (latch_of k.target) m (letter (latch_of k.target) m)
-act_untallied h (Worker a b) c m (SetLatch k) z = set_untallied k.latch m (letter k.latch m)
+act_untallied h (Worker a b) c m (GetSleepy k) z = sleepy_keeps (latch_of k.target) Untallied same_untallied (λ v e y n. letter_untallied (latch_of k.target) v e y) m (letter (latch_of k.target) m)
+act_untallied h (Worker a b) c m (FallAsleep k) z = asleep_keeps (latch_of k.target) Untallied same_untallied (λ v e y n. letter_untallied (latch_of k.target) v e y) m (letter (latch_of k.target) m)
+act_untallied h (Worker a b) c m (WakeUp k) z = wake_keeps (latch_of k.target) Untallied same_untallied (λ v e y n. letter_untallied (latch_of k.target) v e y) m (letter (latch_of k.target) m)
+act_untallied h (Worker a b) c m (SetLatch k) z = set_keeps k.latch Untallied (λ v e. letter_untallied k.latch v e IsSet) m (letter k.latch m)
 act_untallied h (Worker a b) c m _ z = first_of (cc, search (rules, arith))
-act_untallied h (Caller n) c m (SetLatch k) z = set_untallied k.latch m (letter k.latch m)
+act_untallied h (Caller n) c m (SetLatch k) z = set_keeps k.latch Untallied (λ v e. letter_untallied k.latch v e IsSet) m (letter k.latch m)
 act_untallied h (Caller n) c m _ z = first_of (cc, search (rules, arith))
 
 -- a take is of a job that its list had
@@ -195,39 +154,39 @@ push_act_stays : (w : World) (q : Party) (n : Plan) (v z : Bool) → SaysPlan w 
 push_act_stays w q n v true s = let m : Part = part_of w (own_pool q) (own_index q) 0 (plan_job n) in push_stays w q n v m (record m { seat = record (m.seat) { own = m.seat.own ++ plan_job n ∷ [] }; job = at_job (m.job) (InDeque (own_pool q) (own_index q)) }) s refl
 push_act_stays w q n v false s = let m : Part = part_of w (plan_pool n) (own_index q) 0 (plan_job n) in push_stays w q n v m (record m { pool = record (m.pool) { injector = m.pool.injector ++ plan_job n ∷ [] }; job = at_job (m.job) (Injected (plan_pool n)) }) s refl
 
-quiet_stays : (h : Shape) (q : Party) (c : Counts) (m : Part) (x : Place) (n : ℕ) → is_quiet x ≡ true → IfSome (effect (act_of q x) h q c m) (Stays m x n)
+quiet_stays : (h : Shape) (q : Party) (c : Counts) (m : Part) (x : Place) (n : ℕ) → moves_no_job x ≡ true → IfSome (effect (act_of q x) h q c m) (Stays m x n)
 quiet_stays h q c m x n z = if_some_map (SameJobs m) (Stays m x n) (λ r s. same_stays m x n r (s.at)) (effect (act_of q x) h q c m) (quiet_same h q c m x z)
 
-pub act_stays : (w : World) (q : Party) (x : Place) → IsOnce w → Says w q x → IfSome (effect (act_of q x) w.shape q (counts_at w (target_pool q (act_of q x))) (part_at w q x)) (Stays (part_at w q x) x (job_at w q (act_of q x)))
-act_stays w (Worker a b) (PopWorking k) h s = pop_stays (Worker a b) (part_at w (Worker a b) (PopWorking k)) (PopWorking k) (job_at w (Worker a b) (act_of (Worker a b) (PopWorking k))) _ _ (λ t e. own_taken w h ((w.shape.pool a).order) a b t e)
+pub act_stays : (w : World) (q : Party) (x : Place) → IsOnce w → Says w q x → IfSome (effect (act_of q x) w.shape q (counts_at w (target_pool q (act_of q x))) (place_part w q x)) (Stays (place_part w q x) x (job_at w q (act_of q x)))
+act_stays w (Worker a b) (PopWorking k) h s = pop_stays (Worker a b) (place_part w (Worker a b) (PopWorking k)) (PopWorking k) (job_at w (Worker a b) (act_of (Worker a b) (PopWorking k))) _ _ (λ t e. own_taken w h ((w.shape.pool a).order) a b t e)
 act_stays w (Caller c) (PopWorking k) h s = tt
-act_stays w (Worker a b) (PopIdle k) h s = pop_stays (Worker a b) (part_at w (Worker a b) (PopIdle k)) (PopIdle k) (job_at w (Worker a b) (act_of (Worker a b) (PopIdle k))) _ _ (λ t e. own_taken w h ((w.shape.pool a).order) a b t e)
+act_stays w (Worker a b) (PopIdle k) h s = pop_stays (Worker a b) (place_part w (Worker a b) (PopIdle k)) (PopIdle k) (job_at w (Worker a b) (act_of (Worker a b) (PopIdle k))) _ _ (λ t e. own_taken w h ((w.shape.pool a).order) a b t e)
 act_stays w (Caller c) (PopIdle k) h s = tt
-act_stays w (Worker a b) (JoinPop o) h s = pop_stays (Worker a b) (part_at w (Worker a b) (JoinPop o)) (JoinPop o) (job_at w (Worker a b) (act_of (Worker a b) (JoinPop o))) _ _ (λ t e. own_taken w h ((w.shape.pool a).order) a b t e)
+act_stays w (Worker a b) (JoinPop o) h s = pop_stays (Worker a b) (place_part w (Worker a b) (JoinPop o)) (JoinPop o) (job_at w (Worker a b) (act_of (Worker a b) (JoinPop o))) _ _ (λ t e. own_taken w h ((w.shape.pool a).order) a b t e)
 act_stays w (Caller c) (JoinPop o) h s = tt
-act_stays w (Worker a b) YieldPop h s = pop_stays (Worker a b) (part_at w (Worker a b) YieldPop) YieldPop (job_at w (Worker a b) (act_of (Worker a b) YieldPop)) _ _ (λ t e. own_taken w h ((w.shape.pool a).order) a b t e)
+act_stays w (Worker a b) YieldPop h s = pop_stays (Worker a b) (place_part w (Worker a b) YieldPop) YieldPop (job_at w (Worker a b) (act_of (Worker a b) YieldPop)) _ _ (λ t e. own_taken w h ((w.shape.pool a).order) a b t e)
 act_stays w (Caller c) YieldPop h s = tt
-act_stays w (Worker a b) LocalPop h s = pop_stays (Worker a b) (part_at w (Worker a b) LocalPop) LocalPop (job_at w (Worker a b) (act_of (Worker a b) LocalPop)) _ _ (λ t e. own_taken w h ((w.shape.pool a).order) a b t e)
+act_stays w (Worker a b) LocalPop h s = pop_stays (Worker a b) (place_part w (Worker a b) LocalPop) LocalPop (job_at w (Worker a b) (act_of (Worker a b) LocalPop)) _ _ (λ t e. own_taken w h ((w.shape.pool a).order) a b t e)
 act_stays w (Caller c) LocalPop h s = tt
-act_stays w (Worker a b) (StealFrom k n) h s = pop_stays (Worker a b) (part_at w (Worker a b) (StealFrom k n)) (StealFrom k n) (job_at w (Worker a b) (act_of (Worker a b) (StealFrom k n))) _ _ (λ t e. head_taken w h a (k.victim) t e)
+act_stays w (Worker a b) (StealFrom k n) h s = pop_stays (Worker a b) (place_part w (Worker a b) (StealFrom k n)) (StealFrom k n) (job_at w (Worker a b) (act_of (Worker a b) (StealFrom k n))) _ _ (λ t e. head_taken w h a (k.victim) t e)
 act_stays w (Caller c) (StealFrom k n) h s = tt
-act_stays w (Worker a b) (YieldSteal v n) h s = pop_stays (Worker a b) (part_at w (Worker a b) (YieldSteal v n)) (YieldSteal v n) (job_at w (Worker a b) (act_of (Worker a b) (YieldSteal v n))) _ _ (λ t e. head_taken w h a (v) t e)
+act_stays w (Worker a b) (YieldSteal v n) h s = pop_stays (Worker a b) (place_part w (Worker a b) (YieldSteal v n)) (YieldSteal v n) (job_at w (Worker a b) (act_of (Worker a b) (YieldSteal v n))) _ _ (λ t e. head_taken w h a (v) t e)
 act_stays w (Caller c) (YieldSteal v n) h s = tt
-act_stays w (Worker a b) (PopInjected k) h s = inj_stays (Worker a b) (part_at w (Worker a b) (PopInjected k)) (PopInjected k) (job_at w (Worker a b) (act_of (Worker a b) (PopInjected k))) _ (λ t e. inj_taken w h a t e)
+act_stays w (Worker a b) (PopInjected k) h s = inj_stays (Worker a b) (place_part w (Worker a b) (PopInjected k)) (PopInjected k) (job_at w (Worker a b) (act_of (Worker a b) (PopInjected k))) _ (λ t e. inj_taken w h a t e)
 act_stays w (Caller c) (PopInjected k) h s = tt
-act_stays w (Worker a b) YieldPopInjected h s = inj_stays (Worker a b) (part_at w (Worker a b) YieldPopInjected) YieldPopInjected (job_at w (Worker a b) (act_of (Worker a b) YieldPopInjected)) _ (λ t e. inj_taken w h a t e)
+act_stays w (Worker a b) YieldPopInjected h s = inj_stays (Worker a b) (place_part w (Worker a b) YieldPopInjected) YieldPopInjected (job_at w (Worker a b) (act_of (Worker a b) YieldPopInjected)) _ (λ t e. inj_taken w h a t e)
 act_stays w (Caller c) YieldPopInjected h s = tt
-act_stays w (Worker a b) (TakeCastWorking k) h s = cast_stays (Worker a b) (part_at w (Worker a b) (TakeCastWorking k)) (TakeCastWorking k) (job_at w (Worker a b) (act_of (Worker a b) (TakeCastWorking k))) _ (λ t e. cast_taken w h a b t e)
+act_stays w (Worker a b) (TakeCastWorking k) h s = cast_stays (Worker a b) (place_part w (Worker a b) (TakeCastWorking k)) (TakeCastWorking k) (job_at w (Worker a b) (act_of (Worker a b) (TakeCastWorking k))) _ (λ t e. cast_taken w h a b t e)
 act_stays w (Caller c) (TakeCastWorking k) h s = tt
-act_stays w (Worker a b) (TakeCastIdle k) h s = cast_stays (Worker a b) (part_at w (Worker a b) (TakeCastIdle k)) (TakeCastIdle k) (job_at w (Worker a b) (act_of (Worker a b) (TakeCastIdle k))) _ (λ t e. cast_taken w h a b t e)
+act_stays w (Worker a b) (TakeCastIdle k) h s = cast_stays (Worker a b) (place_part w (Worker a b) (TakeCastIdle k)) (TakeCastIdle k) (job_at w (Worker a b) (act_of (Worker a b) (TakeCastIdle k))) _ (λ t e. cast_taken w h a b t e)
 act_stays w (Caller c) (TakeCastIdle k) h s = tt
-act_stays w (Worker a b) (JoinTakeCast o) h s = cast_stays (Worker a b) (part_at w (Worker a b) (JoinTakeCast o)) (JoinTakeCast o) (job_at w (Worker a b) (act_of (Worker a b) (JoinTakeCast o))) _ (λ t e. cast_taken w h a b t e)
+act_stays w (Worker a b) (JoinTakeCast o) h s = cast_stays (Worker a b) (place_part w (Worker a b) (JoinTakeCast o)) (JoinTakeCast o) (job_at w (Worker a b) (act_of (Worker a b) (JoinTakeCast o))) _ (λ t e. cast_taken w h a b t e)
 act_stays w (Caller c) (JoinTakeCast o) h s = tt
-act_stays w (Worker a b) YieldTakeCast h s = cast_stays (Worker a b) (part_at w (Worker a b) YieldTakeCast) YieldTakeCast (job_at w (Worker a b) (act_of (Worker a b) YieldTakeCast)) _ (λ t e. cast_taken w h a b t e)
+act_stays w (Worker a b) YieldTakeCast h s = cast_stays (Worker a b) (place_part w (Worker a b) YieldTakeCast) YieldTakeCast (job_at w (Worker a b) (act_of (Worker a b) YieldTakeCast)) _ (λ t e. cast_taken w h a b t e)
 act_stays w (Caller c) YieldTakeCast h s = tt
-act_stays w (Worker a b) LocalTakeCast h s = cast_stays (Worker a b) (part_at w (Worker a b) LocalTakeCast) LocalTakeCast (job_at w (Worker a b) (act_of (Worker a b) LocalTakeCast)) _ (λ t e. cast_taken w h a b t e)
+act_stays w (Worker a b) LocalTakeCast h s = cast_stays (Worker a b) (place_part w (Worker a b) LocalTakeCast) LocalTakeCast (job_at w (Worker a b) (act_of (Worker a b) LocalTakeCast)) _ (λ t e. cast_taken w h a b t e)
 act_stays w (Caller c) LocalTakeCast h s = tt
 act_stays w q (BeginTask t) h s = λ y z. absurd (let a : is_left (w.job t).at ≡ true = s in cc)
 act_stays w q (BeginHere t) h s = λ y z. absurd (let a : is_detached (w.job t).kind ≡ false = s.kind in cc)
 act_stays w q (PushJob n v) h s = push_act_stays w q n v (is_member q (plan_pool n)) s
-act_stays w q x h s = quiet_stays w.shape q (counts_at w (target_pool q (act_of q x))) (part_at w q x) x (job_at w q (act_of q x)) refl
+act_stays w q x h s = quiet_stays w.shape q (counts_at w (target_pool q (act_of q x))) (place_part w q x) x (job_at w q (act_of q x)) refl

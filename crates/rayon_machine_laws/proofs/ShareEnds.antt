@@ -25,19 +25,18 @@ use Rattle.rayon_machine_places.specs.Steps.{put, put_stack, after_close, after_
 use Rattle.rayon_machine_places.specs.Runs.{first_place, start, IsRun}
 use Rattle.rayon_machine_laws.specs.Once.{one, runs_in}
 use Rattle.rayon_machine_laws.specs.Shares.{share, shares_in, shares, is_busy, IsGone, NoEarlyEnd}
-use Rattle.rayon_machine_laws.proofs.Frame.{either, same_party_true, if_cond, acted_keeps}
+use Rattle.rayon_machine_laws.proofs.Frame.{either, same_party_true, if_cond, acted_keeps, put_same, put_new, put_old, stack_mine}
 use Rattle.rayon_machine_laws.proofs.Ties.{job_at, outcome}
 use Rattle.rayon_machine_laws.proofs.Events.{run_keeps}
 use Rattle.rayon_machine_laws.proofs.Hands.{held, worked}
 use Rattle.rayon_machine_laws.proofs.Located.{loc_of, loc_at, is_loc, where_is, at_work, Hand, Work}
 use Rattle.rayon_machine_laws.proofs.Claims.{is_detached, SaysRun}
-use Rattle.rayon_machine_laws.proofs.ClaimActs.{put_same, put_new, put_old}
 use Rattle.rayon_machine_laws.proofs.ClaimRuns.{CallsHold, top_says}
 use Rattle.rayon_machine_laws.proofs.ClaimEvents.{ended_world}
 use Rattle.rayon_machine_laws.proofs.ClaimMakes.{calling, below_new, step_calls, first_calls}
 use Rattle.rayon_machine_laws.proofs.Amounts.{raises, values, raises_in, values_in, all_raises, all_values}
 use Rattle.rayon_machine_laws.proofs.Tokens.{sum_below, sum_same, sum_least, sum_more}
-use Rattle.rayon_machine_laws.proofs.ShareActs.{with_job, tally, SharesHold, one_most, one_not, stack_mine}
+use Rattle.rayon_machine_laws.proofs.ShareActs.{with_job, tally, SharesHold, one_most, one_not}
 use Rattle.rayon_machine_laws.proofs.ShareRuns.{other_le, still_hold}
 use Rattle.rayon_machine_laws.proofs.ShareSteps.{tally_same, all_held, self_one}
 use Rattle.rayon_machine_laws.proofs.ShareEvents.{go_shares, with_calls, from_shares, refuse_shares, miss_shares, above, raises_called, yield_shares, give_shares}

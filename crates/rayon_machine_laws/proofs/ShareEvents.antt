@@ -19,17 +19,17 @@ use Rattle.rayon_machine_places.specs.World.{Stack, World, counts_at, Part, targ
 use Rattle.rayon_machine_places.specs.Steps.{put, put_stack, after_move, after_choice, after_refusal, can_miss, after_miss, after_call, is_pool, after_yield, after_end_pool}
 use Rattle.rayon_machine_laws.specs.Once.{one}
 use Rattle.rayon_machine_laws.specs.Shares.{share, shares_in, shares}
-use Rattle.rayon_machine_laws.proofs.Frame.{and_parts, same_party_true, if_some_and, if_some_map, if_cond}
+use Rattle.rayon_machine_laws.proofs.Frame.{and_parts, same_party_true, if_some_and, if_some_map, if_cond, put_same, after_pool, stack_mine}
 use Rattle.rayon_machine_laws.proofs.Ties.{job_at, outcome, result}
 use Rattle.rayon_machine_laws.proofs.Placed.{Kept}
 use Rattle.rayon_machine_laws.proofs.PlacedEvents.{go_kept}
 use Rattle.rayon_machine_laws.proofs.PlacedRuns.{once}
 use Rattle.rayon_machine_laws.proofs.Claims.{is_detached, SaysMove, says_next}
 use Rattle.rayon_machine_laws.proofs.Later.{later_says, Static, act_static}
-use Rattle.rayon_machine_laws.proofs.ClaimActs.{put_same, after_pool, Lasting, lasting, Learned, act_learned, Written, act_written}
-use Rattle.rayon_machine_laws.proofs.ClaimRuns.{CallsHold, world_after, part_at, learns, act_calls}
+use Rattle.rayon_machine_laws.proofs.ClaimActs.{Lasting, lasting, Learned, act_learned, Written, act_written}
+use Rattle.rayon_machine_laws.proofs.ClaimRuns.{CallsHold, world_after, place_part, learns, act_calls}
 use Rattle.rayon_machine_laws.proofs.Amounts.{raises, values, raises_in, values_in, all_raises, all_values, gained, pushed, paid}
-use Rattle.rayon_machine_laws.proofs.ShareActs.{with_job, SharesHold, stack_mine, is_tally, Untallied, same_untallied, act_untallied, Stays, act_stays}
+use Rattle.rayon_machine_laws.proofs.ShareActs.{with_job, SharesHold, is_tally, Untallied, same_untallied, act_untallied, Stays, act_stays}
 use Rattle.rayon_machine_laws.proofs.ShareRuns.{StartsAwaited, says_starts, busy_step, shares_mine, other_le, values_mine, raises_all, still_hold}
 use Rattle.rayon_machine_laws.proofs.ShareSteps.{Ready, plain_hold, raised_world, raise_hold}
 use Rattle.rayon_machine_laws.proofs.ShareLowers.{lowered_world, lower_job, lower_value}
@@ -37,7 +37,7 @@ use Rattle.rayon_machine_laws.proofs.ShareLowers.{lowered_world, lower_job, lowe
 ready : (w : World) (q : Party) → SharesHold w → IfSome (outcome w q (w.stack q)) (λ r. Ready w q ((w.stack q).top) ((w.stack q).below) r)
 ready w q h =
     let k = w.stack q in let x = k.top in
-    if_some_map (λ r. ((Static (part_at w q x) r × Learned w.shape q (part_at w q x) x r) × (Written (part_at w q x) x r × Kept w (result w q k r))) × Stays (part_at w q x) x (job_at w q (act_of q x)) r) (λ r. Ready w q x (k.below) r)
+    if_some_map (λ r. ((Static (place_part w q x) r × Learned w.shape q (place_part w q x) x r) × (Written (place_part w q x) x r × Kept w (result w q k r))) × Stays (place_part w q x) x (job_at w q (act_of q x)) r) (λ r. Ready w q x (k.below) r)
     (λ r f. (let ch : CallsHold (world_after w q x (k.below) r) = act_calls w q x (k.below) r (h.calls) refl (((f.0).0).0) (((f.0).1).1) (((f.0).0).1) (((f.0).1).0) in
     let la : Lasting w (world_after w q x (k.below) r) = lasting w q k (target_pool q (act_of q x)) (target_worker q (act_of q x)) (target_call (act_of q x)) (job_at w q (act_of q x)) r (((f.0).0).0) (((f.0).1).1) in
     let sm : SaysMove (world_after w q x (k.below) r) q (next_of (w.shape.pool (target_pool q (act_of q x))) q x (r.0)) = says_next (world_after w q x (k.below) r) (w.shape.pool (target_pool q (act_of q x))) q x (r.0) (learns w q x (k.below) r (h.calls) refl la (((f.0).0).1)) (later_says w (world_after w q x (k.below) r) (la.later) q x (((h.calls).says q).top)) in
@@ -51,10 +51,10 @@ ready w q h =
       held = λ p. put_same (λ v. v.held) w.pool (target_pool q (act_of q x)) (r.1.pool) p ((((f.0).0).0).held);
     }))
     (outcome w q k)
-    (if_some_and (λ r. (Static (part_at w q x) r × Learned w.shape q (part_at w q x) x r) × (Written (part_at w q x) x r × Kept w (result w q k r))) (Stays (part_at w q x) x (job_at w q (act_of q x))) (outcome w q k)
-    (if_some_and (λ r. Static (part_at w q x) r × Learned w.shape q (part_at w q x) x r) (λ r. Written (part_at w q x) x r × Kept w (result w q k r)) (outcome w q k)
-    (if_some_and (Static (part_at w q x)) (Learned w.shape q (part_at w q x) x) (outcome w q k) (act_static w.shape q (counts_at w (target_pool q (act_of q x))) (part_at w q x) x) (act_learned w.shape q (counts_at w (target_pool q (act_of q x))) (part_at w q x) x))
-    (if_some_and (Written (part_at w q x) x) (λ r. Kept w (result w q k r)) (outcome w q k) (act_written w.shape q (counts_at w (target_pool q (act_of q x))) (part_at w q x) x) (go_kept w q (((h.calls).jobs).ok))))
+    (if_some_and (λ r. (Static (place_part w q x) r × Learned w.shape q (place_part w q x) x r) × (Written (place_part w q x) x r × Kept w (result w q k r))) (Stays (place_part w q x) x (job_at w q (act_of q x))) (outcome w q k)
+    (if_some_and (λ r. Static (place_part w q x) r × Learned w.shape q (place_part w q x) x r) (λ r. Written (place_part w q x) x r × Kept w (result w q k r)) (outcome w q k)
+    (if_some_and (Static (place_part w q x)) (Learned w.shape q (place_part w q x) x) (outcome w q k) (act_static w.shape q (counts_at w (target_pool q (act_of q x))) (place_part w q x) x) (act_learned w.shape q (counts_at w (target_pool q (act_of q x))) (place_part w q x) x))
+    (if_some_and (Written (place_part w q x) x) (λ r. Kept w (result w q k r)) (outcome w q k) (act_written w.shape q (counts_at w (target_pool q (act_of q x))) (place_part w q x) x) (go_kept w q (((h.calls).jobs).ok))))
     (act_stays w q x (once w ((h.calls).jobs)) (((h.calls).says q).top)))
   where
     starts_back : (w u : World) → Lasting w u → (g : Move) → StartsAwaited u g → StartsAwaited w g
@@ -65,8 +65,8 @@ ready w q h =
     starts_back w u l (HandBack n) s = tt
 
 -- the acts that raise a count, done or refused
-raise_go : (w : World) (q : Party) (n : Plan) (fs : List Place) → ((r : Seen × Part) → Ready w q (RaiseCount n) fs r → Untallied (part_at w q (RaiseCount n)) r → ((t : ℕ) → gained t (RaiseCount n) (r.0) ≡ 0) → SharesHold (world_after w q (RaiseCount n) fs r)) → (done : Seen × Part) → (Ready w q (RaiseCount n) fs done → SharesHold (world_after w q (RaiseCount n) fs done)) → (b : Bool) → IfSome (if b then Some (Refused, part_at w q (RaiseCount n)) else Some done) (Ready w q (RaiseCount n) fs) → IfSome (if b then Some (Refused, part_at w q (RaiseCount n)) else Some done) (λ r. SharesHold (world_after w q (RaiseCount n) fs r))
-raise_go w q n fs plain done f true d = plain (Refused, part_at w q (RaiseCount n)) d (same_untallied (part_at w q (RaiseCount n)) Refused) (λ t. refl)
+raise_go : (w : World) (q : Party) (n : Plan) (fs : List Place) → ((r : Seen × Part) → Ready w q (RaiseCount n) fs r → Untallied (place_part w q (RaiseCount n)) r → ((t : ℕ) → gained t (RaiseCount n) (r.0) ≡ 0) → SharesHold (world_after w q (RaiseCount n) fs r)) → (done : Seen × Part) → (Ready w q (RaiseCount n) fs done → SharesHold (world_after w q (RaiseCount n) fs done)) → (b : Bool) → IfSome (if b then Some (Refused, place_part w q (RaiseCount n)) else Some done) (Ready w q (RaiseCount n) fs) → IfSome (if b then Some (Refused, place_part w q (RaiseCount n)) else Some done) (λ r. SharesHold (world_after w q (RaiseCount n) fs r))
+raise_go w q n fs plain done f true d = plain (Refused, place_part w q (RaiseCount n)) d (same_untallied (place_part w q (RaiseCount n)) Refused) (λ t. refl)
 raise_go w q n fs plain done f false d = f d
 
 ungained : (t : ℕ) (x : Place) (e : Seen) → is_tally x ≡ false → gained t x e ≡ 0
@@ -74,8 +74,8 @@ ungained t (RaiseCount n) e z = cc
 ungained t _ e z = refl
 
 plain_go : (w : World) (q : Party) (x : Place) (fs : List Place) → is_tally x ≡ false → IfSome (outcome w q (record { top = x; below = fs })) (Ready w q x fs) → IfSome (outcome w q (record { top = x; below = fs })) (λ r. SharesHold (world_after w q x fs r))
-plain_go w q x fs z d = if_some_map (λ r. Ready w q x fs r × Untallied (part_at w q x) r) (λ r. SharesHold (world_after w q x fs r)) (λ r f. plain_hold w q x fs r (f.0) (f.1) (λ t. ungained t x (r.0) z)) (outcome w q (record { top = x; below = fs }))
-    (if_some_and (Ready w q x fs) (Untallied (part_at w q x)) (outcome w q (record { top = x; below = fs })) d (act_untallied w.shape q (counts_at w (target_pool q (act_of q x))) (part_at w q x) x z))
+plain_go w q x fs z d = if_some_map (λ r. Ready w q x fs r × Untallied (place_part w q x) r) (λ r. SharesHold (world_after w q x fs r)) (λ r f. plain_hold w q x fs r (f.0) (f.1) (λ t. ungained t x (r.0) z)) (outcome w q (record { top = x; below = fs }))
+    (if_some_and (Ready w q x fs) (Untallied (place_part w q x)) (outcome w q (record { top = x; below = fs })) d (act_untallied w.shape q (counts_at w (target_pool q (act_of q x))) (place_part w q x) x z))
 
 go_by : (w : World) (q : Party) (x : Place) (fs : List Place) → w.stack q ≡ record { top = x; below = fs } → SharesHold w → IfSome (outcome w q (record { top = x; below = fs })) (Ready w q x fs) → IfSome (outcome w q (record { top = x; below = fs })) (λ r. SharesHold (world_after w q x fs r))
 go_by w (Worker a b) (RaiseCount n) fs z h d = raise_go w (Worker a b) n fs (λ r y un none. plain_hold w (Worker a b) (RaiseCount n) fs r y un none) _ (λ y. raise_hold w (Worker a b) n fs h z (y.calls) (λ t. (let e : with_job ((raised_world w (Worker a b) n fs).job t) ≤ with_job (w.job t) + 0 = y.busy t in omega (arith, e))) (y.pools) (y.held)) ((w.pool (plan_pool n)).count == 0) d

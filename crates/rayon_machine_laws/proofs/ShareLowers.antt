@@ -15,13 +15,13 @@ use Rattle.rayon_machine_places.specs.Steps.{put, put_stack, part_of, after_move
 use Rattle.rayon_machine_laws.specs.Once.{one}
 use Rattle.rayon_machine_laws.specs.Shares.{shares}
 use Rattle.rayon_machine_laws.proofs.Claims.{SaysOwner}
-use Rattle.rayon_machine_laws.proofs.ClaimActs.{put_same, put_new, put_old}
 use Rattle.rayon_machine_laws.proofs.ClaimRuns.{CallsHold, top_says}
 use Rattle.rayon_machine_laws.proofs.Amounts.{all_raises, all_values}
 use Rattle.rayon_machine_laws.proofs.Tokens.{Tokens, tokens_keep, tokens_pay, sum_below, sum_same, sum_change}
-use Rattle.rayon_machine_laws.proofs.ShareActs.{with_job, tally, SharesHold, one_most, one_is, one_not, after_counted}
+use Rattle.rayon_machine_laws.proofs.ShareActs.{with_job, tally, SharesHold, one_most, one_is, one_not}
 use Rattle.rayon_machine_laws.proofs.ShareRuns.{shares_mine, other_le, values_mine, raises_all}
 use Rattle.rayon_machine_laws.proofs.ShareSteps.{tally_same, self_one}
+use Rattle.rayon_machine_laws.proofs.Frame.{put_same, put_new, put_old, after_counted}
 
 abbrev pub lowered_world : World → Party → ℕ → Share → Then → List Place → Seen → World
 lowered_world w q p s n fs e = after w q (record { top = LowerCount p s n; below = fs }) p (own_index q) 0 (share_job s) (e, lowered (part_of w p (own_index q) 0 (share_job s)) s)

@@ -17,16 +17,16 @@ use Rattle.rayon_machine_places.specs.World.{Stack, World, Part, target_pool, at
 use Rattle.rayon_machine_places.specs.Steps.{put, put_stack, after_move, jobs_after}
 use Rattle.rayon_machine_laws.specs.Once.{one}
 use Rattle.rayon_machine_laws.specs.Shares.{share, shares_in, shares, is_busy}
-use Rattle.rayon_machine_laws.proofs.Frame.{same_party_true}
+use Rattle.rayon_machine_laws.proofs.Frame.{same_party_true, stack_mine, stack_other}
 use Rattle.rayon_machine_laws.proofs.Ties.{job_at}
 use Rattle.rayon_machine_laws.proofs.Located.{is_left, IsOnward}
 use Rattle.rayon_machine_laws.proofs.Placed.{Kept}
 use Rattle.rayon_machine_laws.proofs.Claims.{is_detached, SaysMove}
 use Rattle.rayon_machine_laws.proofs.ClaimActs.{Lasting}
-use Rattle.rayon_machine_laws.proofs.ClaimRuns.{CallsHold, world_after, part_at}
+use Rattle.rayon_machine_laws.proofs.ClaimRuns.{CallsHold, world_after, place_part}
 use Rattle.rayon_machine_laws.proofs.Amounts.{raises, values, raises_in, values_in, all_raises, all_values, share_move, raises_move, values_move, gained, pushed, paid, amounts, land_shares, land_raises, land_values}
 use Rattle.rayon_machine_laws.proofs.Tokens.{Tokens, tokens_keep, sum_below}
-use Rattle.rayon_machine_laws.proofs.ShareActs.{with_job, tally, SharesHold, one_most, stack_mine, stack_other, Stays}
+use Rattle.rayon_machine_laws.proofs.ShareActs.{with_job, tally, SharesHold, one_most, Stays}
 
 -- a run that a move starts is not of a detached job
 abbrev pub StartsAwaited : World → Move → Type 0
@@ -71,7 +71,7 @@ after_busy w q (HandBack (Fork o a)) J t s z = by (t == o.job)
     by false = gone_busy J a t
 
 -- a detached job has its share itself from its push on
-pub busy_step : (w : World) (q : Party) (x : Place) (fs : List Place) (r : Seen × Part) → Kept w (world_after w q x fs r) → Lasting w (world_after w q x fs r) → StartsAwaited w (next_of (w.shape.pool (target_pool q (act_of q x))) q x (r.0)) → Stays (part_at w q x) x (job_at w q (act_of q x)) r → (t : ℕ) → with_job ((world_after w q x fs r).job t) ≤ with_job (w.job t) + pushed t x (r.0)
+pub busy_step : (w : World) (q : Party) (x : Place) (fs : List Place) (r : Seen × Part) → Kept w (world_after w q x fs r) → Lasting w (world_after w q x fs r) → StartsAwaited w (next_of (w.shape.pool (target_pool q (act_of q x))) q x (r.0)) → Stays (place_part w q x) x (job_at w q (act_of q x)) r → (t : ℕ) → with_job ((world_after w q x fs r).job t) ≤ with_job (w.job t) + pushed t x (r.0)
 busy_step w q x fs r ke l sa st t = by (is_detached (w.job t).kind) refl
   where
     u : World
@@ -108,7 +108,7 @@ shares_mine w q x fs g e t z = let a : share_move t (next_of g q x e) + (pushed 
     let d : shares t (w.stack q) ≡ (share t x + shares_in t fs) = ap (shares t) z in omega (arith, a, b, c, d)
 
 pub other_le : (f : Stack → ℕ) (w : World) (q : Party) (k : Stack) (r : Party) → same_party r q ≡ false → f (put_stack w.stack q k r) ≤ f (w.stack r)
-other_le f w q k r e = let a : f (put_stack w.stack q k r) ≡ f (w.stack r) = ap f (stack_other w.stack q r k e) in omega (arith, a)
+other_le f w q k r e = let a : f (put_stack w.stack q k r) ≡ f (w.stack r) = ap f (stack_other w.stack q k r e) in omega (arith, a)
 
 zero_sum : (a b : ℕ) → (a + b) ≡ 0 → (a ≡ 0) × (b ≡ 0)
 zero_sum a b e = ((let g : a ≡ 0 = omega (arith, e) in g), (let g : b ≡ 0 = omega (arith, e) in g))

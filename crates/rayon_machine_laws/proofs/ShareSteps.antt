@@ -15,16 +15,16 @@ use Rattle.rayon_machine_places.specs.World.{Stack, World, Part, target_pool}
 use Rattle.rayon_machine_places.specs.Steps.{put, put_stack, part_of, after_move, after}
 use Rattle.rayon_machine_laws.specs.Once.{one}
 use Rattle.rayon_machine_laws.specs.Shares.{shares}
-use Rattle.rayon_machine_laws.proofs.Frame.{same_party_true}
+use Rattle.rayon_machine_laws.proofs.Frame.{same_party_true, put_same, put_new, put_old, after_counted}
 use Rattle.rayon_machine_laws.proofs.Ties.{job_at}
 use Rattle.rayon_machine_laws.proofs.Hands.{hand, held_in, held}
 use Rattle.rayon_machine_laws.proofs.Located.{loc_at, is_loc, where_is, Hand}
 use Rattle.rayon_machine_laws.proofs.Claims.{SaysPlan}
-use Rattle.rayon_machine_laws.proofs.ClaimActs.{put_same, put_new, put_old, Lasting}
-use Rattle.rayon_machine_laws.proofs.ClaimRuns.{CallsHold, top_says, world_after, part_at}
+use Rattle.rayon_machine_laws.proofs.ClaimActs.{Lasting}
+use Rattle.rayon_machine_laws.proofs.ClaimRuns.{CallsHold, top_says, world_after, place_part}
 use Rattle.rayon_machine_laws.proofs.Amounts.{raises, values, raises_in, all_raises, all_values, gained, pushed, paid}
 use Rattle.rayon_machine_laws.proofs.Tokens.{Tokens, tokens_keep, tokens_gain, sum_below, sum_same, sum_change}
-use Rattle.rayon_machine_laws.proofs.ShareActs.{with_job, tally, SharesHold, one_most, one_not, after_counted, Untallied}
+use Rattle.rayon_machine_laws.proofs.ShareActs.{with_job, tally, SharesHold, one_most, one_not, Untallied}
 use Rattle.rayon_machine_laws.proofs.ShareRuns.{shares_mine, other_le, values_mine, raises_mine, raises_all, still_hold}
 
 -- an act, with what is known of it
@@ -47,7 +47,7 @@ pub counted_now : (w : World) (q : Party) (x : Place) (fs : List Place) (r : See
 counted_now w q x fs r t = after_counted q (next_of (w.shape.pool (target_pool q (act_of q x))) q x (r.0)) (put w.job (job_at w q (act_of q x)) (r.1.job)) t
 
 -- an act that takes no share and gives none back
-pub plain_hold : (w : World) (q : Party) (x : Place) (fs : List Place) (r : Seen × Part) → Ready w q x fs r → Untallied (part_at w q x) r → ((t : ℕ) → gained t x (r.0) ≡ 0) → SharesHold (world_after w q x fs r)
+pub plain_hold : (w : World) (q : Party) (x : Place) (fs : List Place) (r : Seen × Part) → Ready w q x fs r → Untallied (place_part w q x) r → ((t : ℕ) → gained t x (r.0) ≡ 0) → SharesHold (world_after w q x fs r)
 plain_hold w q x fs r d un none = still_hold w (world_after w q x fs r) q (stack_after w q x fs (r.0)) (d.calls) (λ s. refl) (omega arith) counted
     (λ p. put_same (λ v. v.counted) w.pool (target_pool q (act_of q x)) (r.1.pool) p (un.pool))
     (λ p. (let a : sum_below w.jobs (λ t. tally p ((world_after w q x fs r).job t)) ≡ sum_below w.jobs (λ t. tally p (w.job t)) = sum_same w.jobs (λ t. tally p ((world_after w q x fs r).job t)) (λ t. tally p (w.job t)) (λ t b. tally_same p ((world_after w q x fs r).job t) (w.job t) (counted t) (d.pools t)) in omega (arith, a)))

@@ -31,7 +31,7 @@ use Rattle.rayon_machine_places.specs.Steps.{after_move, step}
 use Rattle.rayon_machine_laws.specs.Turn.{IsRunWithout, is_announcing, is_adding, is_added, is_announce, tells_news, is_news, TurnLaw}
 use Rattle.rayon_machine_laws.proofs.Asides.{Aside, one_step}
 use Rattle.rayon_machine_laws.proofs.Attended.{Awake, aside_frames, step_awake, always_awake, step_shape, always_shape}
-use Rattle.rayon_machine_laws.proofs.Calm.{part_at, counts_of, next_at, top_then}
+use Rattle.rayon_machine_laws.proofs.Calm.{part_at, counts_seen, next_at, top_then}
 use Rattle.rayon_machine_laws.proofs.Frame.{either, and_parts, same_refl, same_party_true, if_some_all, if_some_and, if_some_map, acted_keeps}
 use Rattle.rayon_machine_laws.proofs.Holding.{go_frames}
 use Rattle.rayon_machine_laws.proofs.Kept.{is_announced, announced, kept_at, KeepsOn, frame_unannounced}
@@ -130,7 +130,7 @@ turn_put f p0 v p false e h = omega arith
 
 -- a step's turn
 pub turn_step : (w : World) (q : Party) (k : Stack) (p : ℕ) → IfSome (outcome w q k) (λ r. (w.pool p).turn ≤ ((result w q k r).pool p).turn)
-turn_step w q k p = if_some_map (λ r. (w.pool (target_pool q (act_of q k.top))).turn ≤ r.1.pool.turn) (λ r. (w.pool p).turn ≤ ((result w q k r).pool p).turn) (λ r h. turn_put w.pool (target_pool q (act_of q k.top)) (r.1.pool) p (p == target_pool q (act_of q k.top)) refl h) (outcome w q k) (turn_up w.shape q (counts_of w q k) (part_at w q k) k.top)
+turn_step w q k p = if_some_map (λ r. (w.pool (target_pool q (act_of q k.top))).turn ≤ r.1.pool.turn) (λ r. (w.pool p).turn ≤ ((result w q k r).pool p).turn) (λ r h. turn_put w.pool (target_pool q (act_of q k.top)) (r.1.pool) p (p == target_pool q (act_of q k.top)) refl h) (outcome w q k) (turn_up w.shape q (counts_seen w q k) (part_at w q k) k.top)
 
 frame_keeps : (n : ℕ) (f : Place) → is_frame f ≡ true → KeepsOn n f
 frame_keeps n f e z = absurd (let k : announced f ≡ false = frame_unannounced f e in cc)
@@ -141,7 +141,7 @@ kept_put w q p i n true eb calm fr k =
     let F : Party → Type 0 = λ z. (is_announcing (w.stack z).top ≡ false) → IfSome (outcome w z (w.stack z)) (λ r. KeepsOn n ((after_move (next_at w z (w.stack z) (r.0)) (w.stack z).below).top)) in
     let base : F (Worker p i) = λ c. if_some_map (λ r. Tops (KeepsOn n) (next_at w (Worker p i) (w.stack (Worker p i)) (r.0))) (λ r. KeepsOn n ((after_move (next_at w (Worker p i) (w.stack (Worker p i)) (r.0)) (w.stack (Worker p i)).below).top))
     (λ r t. top_then (KeepsOn n) w (Worker p i) (w.stack (Worker p i)) (r.0) refl fr (frame_keeps n) t) (outcome w (Worker p i) (w.stack (Worker p i)))
-    (kept_on w.shape (shape_at w (Worker p i) (w.stack (Worker p i))) p i n (counts_of w (Worker p i) (w.stack (Worker p i))) (part_at w (Worker p i) (w.stack (Worker p i))) (w.stack (Worker p i)).top c k) in
+    (kept_on w.shape (shape_at w (Worker p i) (w.stack (Worker p i))) p i n (counts_seen w (Worker p i) (w.stack (Worker p i))) (part_at w (Worker p i) (w.stack (Worker p i))) (w.stack (Worker p i)).top c k) in
     subst F is base calm
 kept_put w q p i n false eb calm fr k = if_some_all (λ (r : Seen × Part). KeepsOn n (w.stack (Worker p i)).top) (λ r. k) (outcome w q (w.stack q))
 
@@ -191,7 +191,7 @@ news_go w q (TellNews n v) fs p is even =
     let yes : (p == target_pool q (act_of q (TellNews n v))) ≡ true = eq-eqb p (target_pool q (act_of q (TellNews n v))) (sym at) in
     if_some_map (λ r. (w.pool (target_pool q (act_of q (TellNews n v)))).turn < r.1.pool.turn) (λ r. (w.pool p).turn < ((result w q k r).pool p).turn)
     (λ r l. (let z : (w.pool p).turn < r.1.pool.turn = subst (λ z. (w.pool z).turn < r.1.pool.turn) at l in rw yes z)) (outcome w q k)
-    (tell_raises w.shape q (counts_of w q k) (part_at w q k) n v (ap (λ z. is_even (w.pool z).turn) at ∙ even))
+    (tell_raises w.shape q (counts_seen w q k) (part_at w q k) n v (ap (λ z. is_even (w.pool z).turn) at ∙ even))
 news_go w q _ fs p is even = cc
 
 news_raises : (w : World) (e : Event) (p : ℕ) → is_news p w e ≡ true → is_even (w.pool p).turn ≡ true → IfSome (step w e) (λ u. (w.pool p).turn < (u.pool p).turn)

@@ -15,9 +15,9 @@ use Rattle.rayon_machine_places.specs.World.{Shape, Seat, Stack, World, Counts, 
 use Rattle.rayon_machine_places.specs.Steps.{after_move}
 use Rattle.rayon_machine_laws.specs.Committed.{is_blocking, is_committed, is_looking}
 use Rattle.rayon_machine_laws.specs.Attended.{is_filled, HasLooker}
-use Rattle.rayon_machine_laws.proofs.Attend.{owes, HasOwing, Attended, looks_from, looks_parts, stack_other, filled_put}
-use Rattle.rayon_machine_laws.proofs.Calm.{frame_awake, stays_awake, part_at, counts_of, next_at, top_then}
-use Rattle.rayon_machine_laws.proofs.Frame.{either, and_parts, same_index, same_refl, same_party_true, if_some_and, if_some_map}
+use Rattle.rayon_machine_laws.proofs.Attend.{owes, HasOwing, Attended, looks_from, looks_parts, filled_put}
+use Rattle.rayon_machine_laws.proofs.Calm.{frame_awake, stays_awake, part_at, counts_seen, next_at, top_then}
+use Rattle.rayon_machine_laws.proofs.Frame.{either, and_parts, same_index, same_refl, same_party_true, if_some_and, if_some_map, stack_other}
 use Rattle.rayon_machine_laws.proofs.Holding.{LocksOk}
 use Rattle.rayon_machine_laws.proofs.Locks.{holds}
 use Rattle.rayon_machine_laws.proofs.Pushing.{owing_here, top_is, awake}
@@ -163,8 +163,8 @@ settled_attends w q s fs e ok fr a =
     (λ r h. woken_attends w q k r e a ((h.0).injector) (woken_at w q k e ok fr refl r (h.0) (h.1)) (λ p i below o has. cc))
     (outcome w q k)
     (if_some_and (Woke (part_at w q k)) (λ r. Tops (λ y. is_blocking y ≡ false) (next_at w q k (r.0))) (outcome w q k)
-    (wake_seen w.shape q (counts_of w q k) (part_at w q k) (WakeSettled s) refl)
-    (stays_awake w.shape (shape_at w q k) q (counts_of w q k) (part_at w q k) (WakeSettled s) refl))
+    (wake_seen w.shape q (counts_seen w q k) (part_at w q k) (WakeSettled s) refl)
+    (stays_awake w.shape (shape_at w q k) q (counts_seen w q k) (part_at w q k) (WakeSettled s) refl))
   where
     k : Stack
     k = record { top = WakeSettled s; below = fs }
@@ -180,8 +180,8 @@ wake_attends w q n fs e ok fr locks a =
     (λ r h. woken_attends w q k r e a ((h.0).injector) (woken_at w q k e ok fr refl r (h.0) (h.1)) (lost r (h.0) (woken_at w q k e ok fr refl r (h.0) (h.1)) ((w.seat n.pool n.worker).blocked) refl))
     (outcome w q k)
     (if_some_and (Woke (part_at w q k)) (λ r. Tops (λ y. is_blocking y ≡ false) (next_at w q k (r.0))) (outcome w q k)
-    (wake_seen w.shape q (counts_of w q k) (part_at w q k) (WakeWorker n) refl)
-    (stays_awake w.shape (shape_at w q k) q (counts_of w q k) (part_at w q k) (WakeWorker n) refl))
+    (wake_seen w.shape q (counts_seen w q k) (part_at w q k) (WakeWorker n) refl)
+    (stays_awake w.shape (shape_at w q k) q (counts_seen w q k) (part_at w q k) (WakeWorker n) refl))
   where
     k : Stack
     k = record { top = WakeWorker n; below = fs }

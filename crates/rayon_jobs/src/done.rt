@@ -18,7 +18,7 @@ impl<J: JobKind> Model for Done<J> {
 
     ghost view = { λ d. record { tag = d.tag; place = d.place; answer = d.answer } };
 
-    ghost invariant = { λ d. Within J.answers J.answers_on (record { tag = d.tag; place = d.place; answer = d.answer }) };
+    ghost invariant = { λ d. Within J.answers (J.answers_on J.answers) (record { tag = d.tag; place = d.place; answer = d.answer }) };
 }
 
 impl<J: JobKind> Done<J> {
@@ -51,7 +51,7 @@ impl<J: JobKind> Done<J> {
     /// What the run answered.
     pub fn into_result(self) -> Result<J::Output, J::Fault>
         ensures same { result ≡ self.answer }
-        ensures within { Within J.answers J.answers_on self }
+        ensures within { Within J.answers (J.answers_on J.answers) self }
     {
         let Done {
             tag: _,

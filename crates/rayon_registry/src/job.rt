@@ -62,7 +62,7 @@ pub trait Job: JobKind {
         ctx: &mut BroadcastContext<Self>,
     ) -> Result<Self::Output, Self::Fault>
         requires levels { w.old.levels ≤ R.levels rt.now }
-        ensures answer { Self.answers_on (Self.tag_of self.now) ctx.old.index ctx.old.workers result }
+        ensures answer { Self.answers_on Self.answers (Self.tag_of self.now) ctx.old.index ctx.old.workers result }
         ensures id { w.new.id ≡ w.old.id }
         ensures level { w.new.levels ≡ w.old.levels };
 }

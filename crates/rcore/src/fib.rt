@@ -42,13 +42,9 @@ impl JobKind for Fib {
 
     ghost answers = { AnswersFib };
 
-    ghost answers_on = { λ t i n r. AnswersFib t r };
-
     ghost tag_of = { λ j. j.0 };
 
-    ghost same_answers = { λ t u r e h. Prim.search rules };
-
-    ghost same_answers_on = { λ t u i n r e h. Prim.search rules };
+    ghost same_answers = { λ t u e. Prim.search rules };
 
     fn tag(&self) -> u8 {
         self.0

@@ -75,17 +75,13 @@ impl JobKind for Work {
 
     ghost answers = { λ t r. Unit {0} };
 
-    ghost answers_on = { λ t i n r. Unit {0} };
-
     ghost tag_of = { λ j. j.name };
 
     fn tag(&self) -> Name {
         self.name
     }
 
-    ghost same_answers = { λ t u r e h. h };
-
-    ghost same_answers_on = { λ t u i n r e h. h };
+    ghost same_answers = { λ t u e. (λ r h. h, λ i n r h. h) };
 }
 
 impl Job for Work {

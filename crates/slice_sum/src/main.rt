@@ -28,11 +28,11 @@ enum TotalFault {
     Lost,
 }
 
-impl<B: Drop> From<CallError<TotalFault, B>> for TotalFault {
-    fn from(error: CallError<TotalFault, B>) -> TotalFault {
+impl From<CallError<TotalFault, ()>> for TotalFault {
+    fn from(error: CallError<TotalFault, ()>) -> TotalFault {
         match error {
             CallError::Fault(fault) => fault,
-            CallError::Refused(refusal, _) => TotalFault::Refused(refusal),
+            CallError::Refused(refusal, ()) => TotalFault::Refused(refusal),
             CallError::Foreign | CallError::Missing => TotalFault::Lost,
         }
     }
@@ -49,17 +49,13 @@ impl JobKind for Total {
 
     ghost answers = { λ t r. IfOk r (λ v. v ≡ elim t [ Numbers s ↦ sum s.now | Squares s ↦ sum_by (λ x. x * x) s.now ]) };
 
-    ghost answers_on = { λ t i n r. IfOk r (λ v. v ≡ elim t [ Numbers s ↦ sum s.now | Squares s ↦ sum_by (λ x. x * x) s.now ]) };
-
     ghost tag_of = { λ j. j };
 
     fn tag(&self) -> Total {
         *self
     }
 
-    ghost same_answers = { λ t u r e h. Prim.search rules };
-
-    ghost same_answers_on = { λ t u i n r e h. Prim.search rules };
+    ghost same_answers = { λ t u e. Prim.search rules };
 }
 
 impl Job for Total {
@@ -76,12 +72,16 @@ impl Job for Total {
             Total::Squares([n]) => n.checked_mul(*n).ok_or(TotalFault::TooLarge),
             Total::Numbers(numbers) => {
                 let (left, right) = numbers.split_at(numbers.len() / 2);
-                let (a, b) = w.join_jobs(rt, alloc, Total::Numbers(left), Total::Numbers(right))?;
+                let (a, b) = w
+                    .join_jobs(rt, alloc, Total::Numbers(left), Total::Numbers(right))
+                    .map_err(CallError::without_sides)?;
                 a.checked_add(b).ok_or(TotalFault::TooLarge)
             }
             Total::Squares(numbers) => {
                 let (left, right) = numbers.split_at(numbers.len() / 2);
-                let (a, b) = w.join_jobs(rt, alloc, Total::Squares(left), Total::Squares(right))?;
+                let (a, b) = w
+                    .join_jobs(rt, alloc, Total::Squares(left), Total::Squares(right))
+                    .map_err(CallError::without_sides)?;
                 a.checked_add(b).ok_or(TotalFault::TooLarge)
             }
         }
@@ -94,7 +94,10 @@ impl Job for Total {
         w: &mut WorkerThread<Self>,
         _ctx: &mut BroadcastContext<Self>,
     ) -> Result<u64, TotalFault> {
-        Ok(w.install(rt, alloc, *self)?)
+        Ok(
+            w.install(rt, alloc, *self)
+                .map_err(CallError::without_sides)?,
+        )
     }
 }
 

@@ -1,8 +1,9 @@
-//! Adds up numbers on a pool: a job with more than one number forks into its two halves by a join.
+//! Adds up numbers on a pool: a job for more than one number forks into its two halves by a join.
 #![tactic(auto)]
 
-ghost use Rattle.std.specs.Prelude.{◌≡◌, ℕ, ◌*◌, IfOk, sum, sum_by};
+ghost use Rattle.slice_sum.specs.declared.TheConstants.{NUMBERS};
 ghost use Rattle.std.proofs.Common.{rules};
+ghost use Rattle.std.specs.Prelude.{◌≡◌, ℕ, ◌+◌, IfOk, sum, take};
 
 use rayon_core::{
     BroadcastContext, CallError, FnContext, Ids, Job, JobKind, Refusal, ThreadPoolBuilder, Waits,
@@ -13,16 +14,17 @@ use std::io;
 
 static NUMBERS: [u64; 12] = [3, 1, 4, 1, 5, 9, 2, 6, 5, 3, 5, 8];
 
-/// What the pool is asked for. A job is its own tag.
+/// The job of adding up the numbers from `start` up to `end`. It is its own tag: two integers, quick to compare.
 #[derive(Clone, Copy, PartialEq, Eq)]
-enum Total {
-    Numbers(&'static [u64]),
-    Squares(&'static [u64]),
+struct Total {
+    start: usize,
+    end: usize,
 }
 
 /// Why there is no total.
 #[derive(Debug, Drop)]
 enum TotalFault {
+    OutOfRange,
     TooLarge,
     Refused(Refusal),
     Lost,
@@ -45,9 +47,7 @@ impl JobKind for Total {
 
     type Fault = TotalFault;
 
-    ghost use Rattle.slice_sum.specs.declared.Total.TheVariants.{Numbers, Squares};
-
-    ghost answers = { λ t r. IfOk r (λ v. v ≡ elim t [ Numbers s ↦ sum s.now | Squares s ↦ sum_by (λ x. x * x) s.now ]) };
+    ghost answers = { λ t r. IfOk r (λ v. sum (take t.start NUMBERS) + v ≡ sum (take t.end NUMBERS)) };
 
     ghost tag_of = { λ j. j };
 
@@ -66,21 +66,16 @@ impl Job for Total {
         w: &mut WorkerThread<Self>,
         _ctx: &mut FnContext<Self>,
     ) -> Result<u64, TotalFault> {
-        match self {
-            Total::Numbers([]) | Total::Squares([]) => Ok(0),
-            Total::Numbers([n]) => Ok(*n),
-            Total::Squares([n]) => n.checked_mul(*n).ok_or(TotalFault::TooLarge),
-            Total::Numbers(numbers) => {
-                let (left, right) = numbers.split_at(numbers.len() / 2);
+        let Total { start, end } = self;
+        match NUMBERS.get(start..end) {
+            None => Err(TotalFault::OutOfRange),
+            Some([]) => Ok(0),
+            Some([n]) => Ok(*n),
+            Some(numbers) => {
+                let middle = start + numbers.len() / 2;
+                let (left, right) = (Total { start, end: middle }, Total { start: middle, end });
                 let (a, b) = w
-                    .join_jobs(rt, alloc, Total::Numbers(left), Total::Numbers(right))
-                    .map_err(CallError::without_sides)?;
-                a.checked_add(b).ok_or(TotalFault::TooLarge)
-            }
-            Total::Squares(numbers) => {
-                let (left, right) = numbers.split_at(numbers.len() / 2);
-                let (a, b) = w
-                    .join_jobs(rt, alloc, Total::Squares(left), Total::Squares(right))
+                    .join_jobs(rt, alloc, left, right)
                     .map_err(CallError::without_sides)?;
                 a.checked_add(b).ok_or(TotalFault::TooLarge)
             }
@@ -107,16 +102,12 @@ fn main(rt: HostRuntime) -> io::Result<()> {
         Ok(pool) => pool,
         Err(error) => return println!(rt; "no pool: {error}"),
     };
-    let one = pool.install(&rt, alloc, Total::Numbers(&NUMBERS));
-    let both = pool.join(
-        &rt,
-        alloc,
-        Total::Numbers(&NUMBERS),
-        Total::Squares(&NUMBERS),
-    );
+    let whole = pool.install(&rt, alloc, Total { start: 0, end: 12 });
+    let (left, right) = (Total { start: 0, end: 6 }, Total { start: 6, end: 12 });
+    let halves = pool.join(&rt, alloc, left, right);
     pool.end(&rt);
-    match (one, both) {
-        (Ok(sum), Ok((again, squares))) => println!(rt; "{sum} {again} {squares}"),
+    match (whole, halves) {
+        (Ok(sum), Ok((left, right))) => println!(rt; "{sum} = {left} + {right}"),
         _ => println!(rt; "no total"),
     }
 }

@@ -15,7 +15,7 @@ use Rattle.rayon_machine_parts.specs.declared.spot.Spot.{Spot}
 use Rattle.rayon_machine_parts.specs.declared.deed.Deed.{Deed}
 use Rattle.rayon_machine_places.specs.Places.{own_pool, own_index}
 use Rattle.rayon_machine_places.specs.World.{Shape, Pool, Seat, Counts, Outcome, Part, but_first, effect, empty_seen, head_of, last_of, own_left, own_of, popped, take_cast, target_call, target_job, target_pool, target_worker, aimed_job}
-use Rattle.rayon_machine_parts.specs.State.{Acts, Can, Does, DoesNot, IsDeed, IsNoDeed, counts_in, full, part_at_spot, pool_at, seat_at, spot_of, touched_at, handled, is_census, is_queueing, is_sharing, looked, peeked, queued, taken}
+use Rattle.rayon_machine_parts.specs.State.{Acts, Can, Does, DoesNot, IsDeed, IsNoDeed, counts_in, full, part_at_spot, pool_at, seat_at, spot_of, touched_at, after_handle, is_census, is_queueing, is_sharing, look_sees, end_task, part_queued, after_take}
 
 last-there : (y : ℕ) (ys : List ℕ) → last_of (y ∷ ys) ≡ None → ⊥
 last-there y [] e = cc
@@ -27,15 +27,15 @@ left-none NewestFirst (x ∷ xs) e = absurd (last-there x xs e)
 left-none OldestFirst [] e = refl
 left-none OldestFirst (x ∷ xs) e = cc
 
-pop-own : (q : Party) (t : Touched) (o : Order) (own injector : List ℕ) (casts : ℕ → List ℕ) (r : Option ℕ) → own_of o own ≡ r → popped q (full t own injector casts) (own_left o own) r ≡ Some ((taken q t r).0, queued o PopOwn q (full ((taken q t r).1) own injector casts))
+pop-own : (q : Party) (t : Touched) (o : Order) (own injector : List ℕ) (casts : ℕ → List ℕ) (r : Option ℕ) → own_of o own ≡ r → popped q (full t own injector casts) (own_left o own) r ≡ Some ((after_take q t r).0, part_queued o PopOwn q (full ((after_take q t r).1) own injector casts))
 pop-own q t o own injector casts None e = ap (λ l. Some (Missing, full t l injector casts)) (left-none o own e)
 pop-own q t o own injector casts (Some n) e = refl
 
-steal : (q : Party) (t : Touched) (o : Order) (p i : ℕ) (own injector : List ℕ) (casts : ℕ → List ℕ) → popped q (full t own injector casts) (but_first own) (head_of own) ≡ Some ((taken q t (head_of own)).0, queued o (Steal p i) q (full ((taken q t (head_of own)).1) own injector casts))
+steal : (q : Party) (t : Touched) (o : Order) (p i : ℕ) (own injector : List ℕ) (casts : ℕ → List ℕ) → popped q (full t own injector casts) (but_first own) (head_of own) ≡ Some ((after_take q t (head_of own)).0, part_queued o (Steal p i) q (full ((after_take q t (head_of own)).1) own injector casts))
 steal q t o p i [] injector casts = refl
 steal q t o p i (x ∷ xs) injector casts = refl
 
-look : (l : List ℕ) → empty_seen l ≡ looked (head_of l)
+look : (l : List ℕ) → empty_seen l ≡ look_sees (head_of l)
 look [] = refl
 look (x ∷ xs) = refl
 
@@ -49,11 +49,11 @@ none-left casts k e i = at (i == k) refl
     at true same = ap casts (eqb-true i k same) ∙ e ∙ ap but_first (sym e)
     at false same = refl
 
-cast : (q : Party) (t : Touched) (o : Order) (own injector : List ℕ) (casts : ℕ → List ℕ) (l : List ℕ) → casts (own_index q) ≡ l → take_cast q (full t own injector casts) l ≡ Some ((taken q t (head_of l)).0, queued o TakeCast q (full ((taken q t (head_of l)).1) own injector casts))
+cast : (q : Party) (t : Touched) (o : Order) (own injector : List ℕ) (casts : ℕ → List ℕ) (l : List ℕ) → casts (own_index q) ≡ l → take_cast q (full t own injector casts) l ≡ Some ((after_take q t (head_of l)).0, part_queued o TakeCast q (full ((after_take q t (head_of l)).1) own injector casts))
 cast q t o own injector casts [] e = λ j. Some (Missing, full t own injector (λ i. none-left casts (own_index q) e i j))
-cast q t o own injector casts (n ∷ ns) e = λ j. Some (Task n, full ((taken q t (Some n)).1) own injector (λ i. rest-of casts (own_index q) (n ∷ ns) e i j))
+cast q t o own injector casts (n ∷ ns) e = λ j. Some (Task n, full ((after_take q t (Some n)).1) own injector (λ i. rest-of casts (own_index q) (n ∷ ns) e i j))
 
-handles : (o : Order) (a : Act) (q : Party) (c : Counts) (t : Touched) (h : Shape) (own injector : List ℕ) (casts : ℕ → List ℕ) → is_queueing a ≡ true → (h.pool (own_pool q)).order ≡ o → effect a h q c (full t own injector casts) ≡ Some ((handled a q t (peeked o a q own injector casts)).0, queued o a q (full ((handled a q t (peeked o a q own injector casts)).1) own injector casts))
+handles : (o : Order) (a : Act) (q : Party) (c : Counts) (t : Touched) (h : Shape) (own injector : List ℕ) (casts : ℕ → List ℕ) → is_queueing a ≡ true → (h.pool (own_pool q)).order ≡ o → effect a h q c (full t own injector casts) ≡ Some ((after_handle a q t (end_task o a q own injector casts)).0, part_queued o a q (full ((after_handle a q t (end_task o a q own injector casts)).1) own injector casts))
 handles o PopOwn q c t h own injector casts k e = rw e (pop-own q t o own injector casts (own_of o own) refl)
 handles o TakeCast q c t h own injector casts k e = cast q t o own injector casts (casts (own_index q)) refl
 handles o (Steal p i) q c t h own injector casts k e = steal q t o p i own injector casts
@@ -67,8 +67,8 @@ handles o (PushOwn n) q c t h own injector casts k e = refl
 handles o _ q c t h own injector casts k e = cc
 
 -- an act on a queue
-pub handled-acts : (o : Order) (a : Act) (q : Party) (c : Counts) (b : ℕ) (found : Option ℕ) (t : Touched) → is_queueing a ≡ true → Acts o a q c b found t ((handled a q t found).0) ((handled a q t found).1)
-handled-acts o a q c b found t k = λ h own injector casts eb eo ef. subst (λ (r : Option ℕ). effect a h q c (full t own injector casts) ≡ Some ((handled a q t r).0, queued o a q (full ((handled a q t r).1) own injector casts))) ef (handles o a q c t h own injector casts k eo)
+pub handled-acts : (o : Order) (a : Act) (q : Party) (c : Counts) (b : ℕ) (found : Option ℕ) (t : Touched) → is_queueing a ≡ true → Acts o a q c b found t ((after_handle a q t found).0) ((after_handle a q t found).1)
+handled-acts o a q c b found t k = λ h own injector casts eb eo ef. subst (λ (r : Option ℕ). effect a h q c (full t own injector casts) ≡ Some ((after_handle a q t r).0, part_queued o a q (full ((after_handle a q t r).1) own injector casts))) ef (handles o a q c t h own injector casts k eo)
 
 -- an act on no queue leaves the queues
 pub sharing-acts : (o : Order) (a : Act) (q : Party) (c : Counts) (b : ℕ) (found : Option ℕ) (t : Touched) (seen : Seen) (u : Touched) → is_sharing a ≡ true → Does a q c b t seen u → Acts o a q c b found t seen u
@@ -88,7 +88,7 @@ counts-free (News p w) h q c k m e = cc
 counts-free _ h q c k m e = refl
 
 -- the job that an act touches
-pub aimed : (h : Shape) (q : Party) (a : Act) (v : Pool) (s : Seat) → aimed_job a (peeked ((h.pool (own_pool q)).order) a q s.own v.injector v.casts) ≡ target_job h q a v s
+pub aimed : (h : Shape) (q : Party) (a : Act) (v : Pool) (s : Seat) → aimed_job a (end_task ((h.pool (own_pool q)).order) a q s.own v.injector v.casts) ≡ target_job h q a v s
 aimed h q (Begin n) v s = refl
 aimed h q _ v s = refl
 
@@ -101,7 +101,7 @@ same-counts a h q c k m e = at (is_census a) refl
     at false f = counts-free a h q k c m f
 
 -- the deed that was told by the numbers at its spot is the act's
-pub is-deed : (h : Shape) (w : Parts) (q : Party) (a : Act) (found : Option ℕ) (c : Counts) (t : Touched) (d : Deed) → d.act ≡ a → d.spot ≡ spot_of h w q a → d.order ≡ (h.pool (own_pool q)).order → found ≡ peeked (d.order) a q (seat_at w.benches.items (target_pool q a) (target_worker q a)).own (pool_at w.pools.items (target_pool q a)).injector (pool_at w.pools.items (target_pool q a)).casts → t ≡ touched_at w (d.spot) → (is_census a ≡ true → c ≡ counts_in h w (target_pool q a)) → Acts (d.order) a q c (h.jec_bits) found t (d.seen) (d.after) → IsDeed h w q a d
+pub is-deed : (h : Shape) (w : Parts) (q : Party) (a : Act) (found : Option ℕ) (c : Counts) (t : Touched) (d : Deed) → d.act ≡ a → d.spot ≡ spot_of h w q a → d.order ≡ (h.pool (own_pool q)).order → found ≡ end_task (d.order) a q (seat_at w.benches.items (target_pool q a) (target_worker q a)).own (pool_at w.pools.items (target_pool q a)).injector (pool_at w.pools.items (target_pool q a)).casts → t ≡ touched_at w (d.spot) → (is_census a ≡ true → c ≡ counts_in h w (target_pool q a)) → Acts (d.order) a q c (h.jec_bits) found t (d.seen) (d.after) → IsDeed h w q a d
 is-deed h w q a found c t d ea es eo ef et ec acts =
     let m = part_at_spot w (spot_of h w q a) in
     let numbers : touched_at w (spot_of h w q a) ≡ t = ap (touched_at w) (sym es) ∙ sym et in
@@ -132,9 +132,9 @@ pub deed-enabled : (h : Shape) (w : Parts) (q : Party) (a : Act) (d : Deed) → 
 deed-enabled h w q a d is = some-outcome _ _ is.effect
 
 -- the spot of an act, part by part
-pub is-spot : (h : Shape) (w : Parts) (q : Party) (a : Act) (found : Option ℕ) (o : Order) (s : Spot) → s.pool ≡ target_pool q a → s.worker ≡ target_worker q a → s.call ≡ target_call a → s.job ≡ aimed_job a found → o ≡ (h.pool (own_pool q)).order → found ≡ peeked o a q (seat_at w.benches.items (target_pool q a) (target_worker q a)).own (pool_at w.pools.items (target_pool q a)).injector (pool_at w.pools.items (target_pool q a)).casts → s ≡ spot_of h w q a
+pub is-spot : (h : Shape) (w : Parts) (q : Party) (a : Act) (found : Option ℕ) (o : Order) (s : Spot) → s.pool ≡ target_pool q a → s.worker ≡ target_worker q a → s.call ≡ target_call a → s.job ≡ aimed_job a found → o ≡ (h.pool (own_pool q)).order → found ≡ end_task o a q (seat_at w.benches.items (target_pool q a) (target_worker q a)).own (pool_at w.pools.items (target_pool q a)).injector (pool_at w.pools.items (target_pool q a)).casts → s ≡ spot_of h w q a
 is-spot h w q a found o s ep ei ec ej eo ef =
     let v = pool_at w.pools.items (target_pool q a) in
     let seat = seat_at w.benches.items (target_pool q a) (target_worker q a) in
-    let job : s.job ≡ target_job h q a v seat = ej ∙ ap (aimed_job a) (ef ∙ ap (λ n. peeked n a q seat.own v.injector v.casts) eo) ∙ aimed h q a v seat in
+    let job : s.job ≡ target_job h q a v seat = ej ∙ ap (aimed_job a) (ef ∙ ap (λ n. end_task n a q seat.own v.injector v.casts) eo) ∙ aimed h q a v seat in
     λ j. record { pool = ep j; worker = ei j; call = ec j; job = job j }

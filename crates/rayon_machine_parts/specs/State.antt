@@ -1,5 +1,5 @@
 -- what the running world stands for
-use Rattle.std.specs.Prelude.{ℕ, Bool, true, false, ◌+◌, ◌<◌, ◌==◌, if◌then◌else◌, Option, Some, None, List, [], ◌∷◌, ◌++◌, ◌≡◌, slice_get, reverse, IsSomeAnd, vec_len, vec_capacity}
+use Rattle.std.specs.Prelude.{ℕ, Bool, true, false, ◌<◌, ◌==◌, if◌then◌else◌, Option, Some, None, List, [], ◌∷◌, ◌++◌, ◌≡◌, slice_get, reverse, IsSomeAnd, vec_len, vec_capacity}
 use Rattle.rayon_machine_places.specs.declared.place.Party.{Party}
 use Rattle.rayon_machine_places.specs.declared.act.Act.{Act}
 use Rattle.rayon_machine_places.specs.declared.act.Act.TheVariants.{Probe, PopOwn, TakeCast, AddInactive, Pick, Steal, PopInj, Announce, Sleepy, Lock, Asleep, Load, TryAdd, LookCast, LookInj, LookOwn, Block, SubSleeping, Wakeup, Unlock, SubInactive, Wake, Begin, PushInj, PushOwn, News, Set, LockSet, LockWait, Lower, Raise, Grow, Store, Take, Idle}
@@ -14,18 +14,15 @@ use Rattle.rayon_machine_parts.specs.declared.spot.Spot.{Spot}
 use Rattle.rayon_machine_parts.specs.declared.deed.Deed.{Deed}
 use Rattle.rayon_machine_parts.specs.declared.kind.Kind.TheVariants.{Queueing, Counting, Latching, Locking, Sharing}
 use Rattle.rayon_machine_places.specs.declared.place.Party.TheVariants.{Worker, Caller}
-use Rattle.rayon_machine_places.specs.declared.place.Place.{Place}
-use Rattle.rayon_machine_places.specs.declared.place.Place.TheVariants.{RaiseCount, PickVictim, StealFrom, YieldPick, YieldSteal}
-use Rattle.rayon_machine_places.specs.declared.place.JobKind.TheVariants.{Direct}
 use Rattle.rayon_machine_places.specs.declared.place.Move.{Move}
 use Rattle.rayon_machine_places.specs.declared.place.Plan.{Plan}
 use Rattle.rayon_machine_places.specs.declared.place.Plan.TheVariants.{Detach, Here, Send, Fork}
-use Rattle.rayon_machine_places.specs.declared.place.Move.TheVariants.{Enter, StartRun, HandBack}
+use Rattle.rayon_machine_places.specs.declared.place.Move.TheVariants.{StartRun, HandBack}
 use Rattle.rayon_machine_places.specs.declared.shape.Order.{Order}
 use Rattle.rayon_machine_places.specs.declared.shape.Order.TheVariants.{NewestFirst}
 use Rattle.rayon_machine_places.specs.declared.shape.PoolShape.{PoolShape}
 use Rattle.rayon_machine_places.specs.declared.state.Letter.TheVariants.{Unset}
-use Rattle.rayon_machine_places.specs.declared.state.Whereabouts.TheVariants.{Nowhere, InDeque, Injected, Running}
+use Rattle.rayon_machine_places.specs.declared.state.Whereabouts.TheVariants.{InDeque, Injected, Running}
 use Rattle.rayon_machine_places.specs.declared.state.Job.{Job}
 use Rattle.rayon_machine_places.specs.declared.state.Call.{Call}
 use Rattle.rayon_machine_parts.specs.declared.shapes.Shapes.{Shapes}
@@ -38,10 +35,10 @@ use Rattle.rayon_machine_parts.specs.declared.parts.Bench.{Bench}
 use Rattle.rayon_machine_parts.specs.declared.parts.Parts.{Parts}
 use Rattle.rayon_machine_places.specs.Places.{own_pool, own_index}
 use Rattle.rayon_machine_places.specs.Runs.{first_place}
-use Rattle.rayon_machine_places.specs.Steps.{blank_job, new_call, jobs_after, put, put_seat, put_stack, after_move}
+use Rattle.rayon_machine_places.specs.Steps.{blank_job, new_call}
 use Rattle.std.specs.Option.{option_map_or}
 use Rattle.std.specs.VecDeque.{deque_capacity, deque_len}
-use Rattle.rayon_machine_places.specs.World.{Shape, Seat, Pool, Stack, World, Counts, Part, at_job, head_of, own_of, own_left, but_first, or_none, share_job, count_below, target_pool, target_worker, target_call, target_job, effect}
+use Rattle.rayon_machine_places.specs.World.{Shape, Seat, Pool, Stack, Counts, Part, at_job, head_of, own_of, own_left, but_first, count_below, target_pool, target_worker, target_call, target_job, effect}
 
 -- the numbers of a census
 abbrev pub census_counts : Census → Counts
@@ -124,15 +121,15 @@ is_queueing (PushOwn t) = true
 is_queueing _ = false
 
 -- the task at the end of the queue that an act takes from or looks at
-abbrev pub peeked : Order → Act → Party → List ℕ → List ℕ → (ℕ → List ℕ) → Option ℕ
-peeked o PopOwn q own injector casts = own_of o own
-peeked o TakeCast q own injector casts = head_of (casts (own_index q))
-peeked o (Steal p i) q own injector casts = head_of own
-peeked o PopInj q own injector casts = head_of injector
-peeked o LookCast q own injector casts = head_of (casts (own_index q))
-peeked o (LookInj p) q own injector casts = head_of injector
-peeked o LookOwn q own injector casts = head_of own
-peeked o _ q own injector casts = None
+abbrev pub end_task : Order → Act → Party → List ℕ → List ℕ → (ℕ → List ℕ) → Option ℕ
+end_task o PopOwn q own injector casts = own_of o own
+end_task o TakeCast q own injector casts = head_of (casts (own_index q))
+end_task o (Steal p i) q own injector casts = head_of own
+end_task o PopInj q own injector casts = head_of injector
+end_task o LookCast q own injector casts = head_of (casts (own_index q))
+end_task o (LookInj p) q own injector casts = head_of injector
+end_task o LookOwn q own injector casts = head_of own
+end_task o _ q own injector casts = None
 
 -- a pool after an act on its queues, where the party is the worker of this index
 abbrev pub pool_queued : Act → ℕ → Pool → Pool
@@ -149,39 +146,39 @@ seat_queued (PushOwn t) o s = record s { own = s.own ++ t ∷ [] }
 seat_queued _ o s = s
 
 -- a part after an act on its queues
-abbrev pub queued : Order → Act → Party → Part → Part
-queued o a q m = record m { pool = pool_queued a (own_index q) m.pool; seat = seat_queued a o m.seat }
+abbrev pub part_queued : Order → Act → Party → Part → Part
+part_queued o a q m = record m { pool = pool_queued a (own_index q) m.pool; seat = seat_queued a o m.seat }
 
 -- the numbers with the job elsewhere
-abbrev pub job_moved : Touched → Job → Touched
-job_moved t j = record t { job = j }
+abbrev pub with_job : Touched → Job → Touched
+with_job t j = record t { job = j }
 
 -- what taking a task sees, and the numbers after it
-abbrev pub taken : Party → Touched → Option ℕ → Seen × Touched
-taken q t None = (Missing, t)
-taken q t (Some n) = (Task n, job_moved t (at_job (t.job) (Running q)))
+abbrev pub after_take : Party → Touched → Option ℕ → Seen × Touched
+after_take q t None = (Missing, t)
+after_take q t (Some n) = (Task n, with_job t (at_job (t.job) (Running q)))
 
 -- what a look at a queue sees
-abbrev pub looked : Option ℕ → Seen
-looked None = Yes
-looked (Some t) = No
+abbrev pub look_sees : Option ℕ → Seen
+look_sees None = Yes
+look_sees (Some t) = No
 
 -- what an act on a queue sees, and the numbers after it, where this task stands at the queue's end
-abbrev pub handled : Act → Party → Touched → Option ℕ → Seen × Touched
-handled PopOwn q t found = taken q t found
-handled TakeCast q t found = taken q t found
-handled (Steal p i) q t found = taken q t found
-handled PopInj q t found = taken q t found
-handled LookCast q t found = (looked found, t)
-handled (LookInj p) q t found = (looked found, t)
-handled LookOwn q t found = (looked found, t)
-handled (PushInj p n) q t found = (Done, job_moved t (at_job (t.job) (Injected p)))
-handled (PushOwn n) q t found = (Done, job_moved t (at_job (t.job) (InDeque (own_pool q) (own_index q))))
-handled _ q t found = (Done, t)
+abbrev pub after_handle : Act → Party → Touched → Option ℕ → Seen × Touched
+after_handle PopOwn q t found = after_take q t found
+after_handle TakeCast q t found = after_take q t found
+after_handle (Steal p i) q t found = after_take q t found
+after_handle PopInj q t found = after_take q t found
+after_handle LookCast q t found = (look_sees found, t)
+after_handle (LookInj p) q t found = (look_sees found, t)
+after_handle LookOwn q t found = (look_sees found, t)
+after_handle (PushInj p n) q t found = (Done, with_job t (at_job (t.job) (Injected p)))
+after_handle (PushOwn n) q t found = (Done, with_job t (at_job (t.job) (InDeque (own_pool q) (own_index q))))
+after_handle _ q t found = (Done, t)
 
 -- the act sees this and leaves these numbers and queues, where this task stands at the end of the queue that it looks at
 abbrev pub Acts : Order → Act → Party → Counts → ℕ → Option ℕ → Touched → Seen → Touched → Type 0
-Acts o a q c jec_bits found t seen u = (h : Shape) (own injector : List ℕ) (casts : ℕ → List ℕ) → h.jec_bits ≡ jec_bits → (h.pool (own_pool q)).order ≡ o → peeked o a q own injector casts ≡ found → effect a h q c (full t own injector casts) ≡ Some (seen, queued o a q (full u own injector casts))
+Acts o a q c jec_bits found t seen u = (h : Shape) (own injector : List ℕ) (casts : ℕ → List ℕ) → h.jec_bits ≡ jec_bits → (h.pool (own_pool q)).order ≡ o → end_task o a q own injector casts ≡ found → effect a h q c (full t own injector casts) ≡ Some (seen, part_queued o a q (full u own injector casts))
 
 -- a seat that no step has touched
 abbrev pub blank_seat : Seat
@@ -216,12 +213,12 @@ abbrev pub first_stack : Shape → Party → Stack
 first_stack h q = record { top = first_place h q; below = [] }
 
 -- the stack of this index in a list of stacks; one that is not there is blank
-abbrev pub stored : (ℕ → Stack) → List StoredStack → ℕ → Stack
-stored blank stacks i = option_map_or stack_of (slice_get stacks i) (blank i)
+abbrev pub stack_or : (ℕ → Stack) → List StoredStack → ℕ → Stack
+stack_or blank stacks i = option_map_or stack_of (slice_get stacks i) (blank i)
 
 -- the stack of a pool's worker, in the list of that pool's stacks
 abbrev pub stack_at : Shape → ℕ → List StoredStack → ℕ → Stack
-stack_at h p stacks i = stored (λ n. first_stack h (Worker p n)) stacks i
+stack_at h p stacks i = stack_or (λ n. first_stack h (Worker p n)) stacks i
 
 -- the stack of a worker
 abbrev pub worker_in : Shape → List Crew → ℕ → ℕ → Stack
@@ -229,7 +226,7 @@ worker_in h crews p i = option_map_or (λ (crew : Crew). stack_at h p crew.stack
 
 -- the stack of an outside caller
 abbrev pub caller_in : Shape → List StoredStack → ℕ → Stack
-caller_in h callers c = stored (λ n. first_stack h (Caller n)) callers c
+caller_in h callers c = stack_or (λ n. first_stack h (Caller n)) callers c
 
 -- the stack of a party
 abbrev pub stack_in : Shape → Parties → Party → Stack
@@ -343,8 +340,8 @@ abbrev pub part_at_spot : Parts → Spot → Part
 part_at_spot w s = record { pool = pool_at w.pools.items s.pool; seat = seat_at w.benches.items s.pool s.worker; call = call_at w.calls.items s.call; job = job_at w.jobs.items s.job }
 
 -- a part with these numbers
-abbrev pub renumbered : Part → Touched → Part
-renumbered m t = full t m.seat.own m.pool.injector m.pool.casts
+abbrev pub with_touched : Part → Touched → Part
+with_touched m t = full t m.seat.own m.pool.injector m.pool.casts
 
 -- the spot that a party's act touches
 abbrev pub spot_of : Shape → Parts → Party → Act → Spot
@@ -360,7 +357,7 @@ pub record IsDeed (h : Shape) (w : Parts) (q : Party) (a : Act) (d : Deed) : Typ
   pub act : d.act ≡ a
   pub spot : d.spot ≡ spot_of h w q a
   pub order : d.order ≡ (h.pool (own_pool q)).order
-  pub effect : effect a h q (counts_in h w (target_pool q a)) (part_at_spot w (spot_of h w q a)) ≡ Some (d.seen, queued d.order a q (renumbered (part_at_spot w (spot_of h w q a)) d.after))
+  pub effect : effect a h q (counts_in h w (target_pool q a)) (part_at_spot w (spot_of h w q a)) ≡ Some (d.seen, part_queued d.order a q (with_touched (part_at_spot w (spot_of h w q a)) d.after))
 
 -- the party's act is not enabled here
 abbrev pub IsNoDeed : Shape → Parts → Party → Act → Type 0

@@ -10,10 +10,9 @@ use crate::parts::Parts;
 use crate::spot::Spot;
 use crate::writes::{write_call, write_job, write_pool, write_seat};
 use rayon_machine_places::act::Act;
-use rayon_machine_places::error::StepError;
 use rayon_machine_places::place::{Move, Party, Plan};
 use rayon_machine_places::state::{Job, Whereabouts};
-use std::alloc::Global;
+use std::alloc::{AllocError, Global};
 
 /// The larger of two numbers.
 fn larger(first: u64, second: u64) -> u64
@@ -121,7 +120,7 @@ impl Parts {
         spot: Spot,
         act: Act,
         last: u64,
-    ) -> Result<(), StepError>
+    ) -> Result<(), AllocError>
         ensures pools { (p : ℕ) → pool_at self.new.pools.items p ≡ pool_at self.old.pools.items p }
         ensures seats { (p i : ℕ) → seat_at self.new.benches.items p i ≡ seat_at self.old.benches.items p i }
         ensures calls { (n : ℕ) → call_at self.new.calls.items n ≡ call_at self.old.calls.items n }

@@ -9,47 +9,40 @@ use crate::parties::{Crew, Stack};
 use crate::parts::{Bench, Pool, Seat};
 use crate::shapes::Shapes;
 use rayon_machine_places::act::Act;
-use rayon_machine_places::error::StepError;
 use rayon_machine_places::place::Party;
 use rayon_machine_places::state::{Call, Job, Letter};
-use std::alloc::Global;
+use std::alloc::{AllocError, Global};
 use std::collections::VecDeque;
 
 /// Room for the job of this number.
-pub fn grow_jobs(jobs: &mut Vec<Job>, number: usize) -> Result<(), StepError>
+pub fn grow_jobs(jobs: &mut Vec<Job>, number: usize) -> Result<(), AllocError>
     ensures same { (n : ℕ) → job_at jobs.new.items n ≡ job_at jobs.old.items n }
     ensures room { OnOk result (number < vec_len jobs.new) }
 {
     'fill: while jobs.len() <= number {
-        if jobs.push(Job::blank()).is_err() {
-            return Err(StepError::NoRoom);
-        }
+        jobs.push(Job::blank())?;
     }
     Ok(())
 }
 
 /// Room for the call of this number.
-pub fn grow_calls(calls: &mut Vec<Call>, number: usize) -> Result<(), StepError>
+pub fn grow_calls(calls: &mut Vec<Call>, number: usize) -> Result<(), AllocError>
     ensures same { (n : ℕ) → call_at calls.new.items n ≡ call_at calls.old.items n }
     ensures room { OnOk result (number < vec_len calls.new) }
 {
     'fill: while calls.len() <= number {
-        if calls.push(Call::waiting(None, 0)).is_err() {
-            return Err(StepError::NoRoom);
-        }
+        calls.push(Call::waiting(None, 0))?;
     }
     Ok(())
 }
 
 /// Room for the pool of this index.
-pub fn grow_pools(alloc: Global, pools: &mut Vec<Pool>, index: usize) -> Result<(), StepError>
+pub fn grow_pools(alloc: Global, pools: &mut Vec<Pool>, index: usize) -> Result<(), AllocError>
     ensures same { (p : ℕ) → pool_at pools.new.items p ≡ pool_at pools.old.items p }
     ensures room { OnOk result (index < vec_len pools.new) }
 {
     'fill: while pools.len() <= index {
-        if pools.push(Pool::blank(alloc)).is_err() {
-            return Err(StepError::NoRoom);
-        }
+        pools.push(Pool::blank(alloc))?;
     }
     Ok(())
 }
@@ -59,19 +52,14 @@ pub(crate) fn grow_benches(
     alloc: Global,
     benches: &mut Vec<Bench>,
     pool: usize,
-) -> Result<(), StepError>
+) -> Result<(), AllocError>
     ensures same { (p i : ℕ) → seat_at benches.new.items p i ≡ seat_at benches.old.items p i }
     ensures room { OnOk result (pool < vec_len benches.new) }
 {
     'fill: while benches.len() <= pool {
-        if benches
-            .push(Bench {
-                seats: Vec::new(alloc),
-            })
-            .is_err()
-        {
-            return Err(StepError::NoRoom);
-        }
+        benches.push(Bench {
+            seats: Vec::new(alloc),
+        })?;
     }
     Ok(())
 }
@@ -81,32 +69,29 @@ pub(crate) fn grow_seats(
     alloc: Global,
     seats: &mut Vec<Seat>,
     index: usize,
-) -> Result<(), StepError>
+) -> Result<(), AllocError>
     ensures same { (i : ℕ) → seat_in seats.new.items i ≡ seat_in seats.old.items i }
     ensures room { OnOk result (index < vec_len seats.new) }
 {
     'fill: while seats.len() <= index {
-        if seats.push(Seat::blank(alloc)).is_err() {
-            return Err(StepError::NoRoom);
-        }
+        seats.push(Seat::blank(alloc))?;
     }
     Ok(())
 }
 
 /// Room for the stacks of the workers of the pool of this index.
-pub(crate) fn grow_crews(alloc: Global, crews: &mut Vec<Crew>, pool: usize) -> Result<(), StepError>
+pub(crate) fn grow_crews(
+    alloc: Global,
+    crews: &mut Vec<Crew>,
+    pool: usize,
+) -> Result<(), AllocError>
     ensures same { (h : Shape) (p i : ℕ) → worker_in h crews.new.items p i ≡ worker_in h crews.old.items p i }
     ensures room { OnOk result (pool < vec_len crews.new) }
 {
     'fill: while crews.len() <= pool {
-        if crews
-            .push(Crew {
-                stacks: Vec::new(alloc),
-            })
-            .is_err()
-        {
-            return Err(StepError::NoRoom);
-        }
+        crews.push(Crew {
+            stacks: Vec::new(alloc),
+        })?;
     }
     Ok(())
 }
@@ -118,7 +103,7 @@ pub(crate) fn grow_stacks(
     pool: usize,
     stacks: &mut Vec<Stack>,
     index: usize,
-) -> Result<(), StepError>
+) -> Result<(), AllocError>
     ensures same { (i : ℕ) → stack_at (shape_of shapes.now) pool stacks.new.items i ≡ stack_at (shape_of shapes.now) pool stacks.old.items i }
     ensures room { OnOk result (index < vec_len stacks.new) }
 {
@@ -127,9 +112,7 @@ pub(crate) fn grow_stacks(
             pool,
             index: stacks.len(),
         };
-        if stacks.push(Stack::first(alloc, shapes, party)).is_err() {
-            return Err(StepError::NoRoom);
-        }
+        stacks.push(Stack::first(alloc, shapes, party))?;
     }
     Ok(())
 }
@@ -140,15 +123,13 @@ pub(crate) fn grow_callers(
     shapes: &Shapes,
     callers: &mut Vec<Stack>,
     number: usize,
-) -> Result<(), StepError>
+) -> Result<(), AllocError>
     ensures same { (c : ℕ) → caller_in (shape_of shapes.now) callers.new.items c ≡ caller_in (shape_of shapes.now) callers.old.items c }
     ensures room { OnOk result (number < vec_len callers.new) }
 {
     'fill: while callers.len() <= number {
         let party = Party::Caller(callers.len());
-        if callers.push(Stack::first(alloc, shapes, party)).is_err() {
-            return Err(StepError::NoRoom);
-        }
+        callers.push(Stack::first(alloc, shapes, party))?;
     }
     Ok(())
 }
@@ -171,7 +152,7 @@ pub(crate) fn pool_room(
     pools: &mut Vec<Pool>,
     pool: usize,
     act: Act,
-) -> Result<(), StepError>
+) -> Result<(), AllocError>
     ensures same { (p : ℕ) → pool_at pools.new.items p ≡ pool_at pools.old.items p }
     ensures room { OnOk result (HasPool act pools.new.items pool) }
 {
@@ -180,7 +161,7 @@ pub(crate) fn pool_room(
 }
 
 /// Room in a stored pool for what an act injects.
-fn pool_fits(pools: &mut Vec<Pool>, pool: usize, act: Act) -> Result<(), StepError>
+fn pool_fits(pools: &mut Vec<Pool>, pool: usize, act: Act) -> Result<(), AllocError>
     requires { pool < vec_len pools.old }
     ensures same { (p : ℕ) → pool_at pools.new.items p ≡ pool_at pools.old.items p }
     ensures room { OnOk result (HasPool act pools.new.items pool) }
@@ -195,7 +176,7 @@ pub(crate) fn seat_room(
     pool: usize,
     worker: usize,
     act: Act,
-) -> Result<(), StepError>
+) -> Result<(), AllocError>
     ensures same { (p i : ℕ) → seat_at benches.new.items p i ≡ seat_at benches.old.items p i }
     ensures room { OnOk result (HasSeat act benches.new.items pool worker) }
 {
@@ -206,7 +187,7 @@ pub(crate) fn seat_room(
 }
 
 /// Room in a stored seat for what an act pushes.
-fn seat_fits(seats: &mut Vec<Seat>, worker: usize, act: Act) -> Result<(), StepError>
+fn seat_fits(seats: &mut Vec<Seat>, worker: usize, act: Act) -> Result<(), AllocError>
     requires { worker < vec_len seats.old }
     ensures same { (i : ℕ) → seat_in seats.new.items i ≡ seat_in seats.old.items i }
     ensures room { OnOk result (SeatFits act seats.new.items worker) }
@@ -232,16 +213,12 @@ impl Pool {
     }
 
     /// Room for what an act injects.
-    fn make_room(&mut self, act: Act) -> Result<(), StepError>
+    fn make_room(&mut self, act: Act) -> Result<(), AllocError>
         ensures same { pool_of self.new ≡ pool_of self.old }
         ensures room { OnOk result (InjectorFits act (deque_len self.new.injector) (deque_capacity self.new.injector)) }
     {
         match act {
-            Act::PushInj { .. } => if self.injector.try_reserve(1).is_err() {
-                Err(StepError::NoRoom)
-            } else {
-                Ok(())
-            },
+            Act::PushInj { .. } => self.injector.try_reserve(1),
             _ => Ok(()),
         }
     }
@@ -265,16 +242,12 @@ impl Seat {
     }
 
     /// Room for what an act pushes.
-    fn make_room(&mut self, act: Act) -> Result<(), StepError>
+    fn make_room(&mut self, act: Act) -> Result<(), AllocError>
         ensures same { seat_of self.new ≡ seat_of self.old }
         ensures room { OnOk result (DequeFits act (deque_len self.new.own) (deque_capacity self.new.own)) }
     {
         match act {
-            Act::PushOwn(_) => if self.own.try_reserve(1).is_err() {
-                Err(StepError::NoRoom)
-            } else {
-                Ok(())
-            },
+            Act::PushOwn(_) => self.own.try_reserve(1),
             _ => Ok(()),
         }
     }

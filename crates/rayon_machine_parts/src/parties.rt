@@ -2,14 +2,13 @@
 ghost use Rattle.std.specs.Prelude.{◌≡◌, ℕ, OnOk, if◌then◌else◌, ◌==◌, ◌<◌, vec_len, reverse, vec_capacity, ◌∷◌};
 ghost use Rattle.rayon_machine_places.specs.declared.place.Party.{Party as AnyParty};
 ghost use Rattle.rayon_machine_places.specs.Steps.{after_move, put_stack, after_resume, back as back_to, after_close};
-ghost use Rattle.rayon_machine_parts.specs.State.{stack_in, shape_of, HasRoom, RoomAt, stack_of, stored};
+ghost use Rattle.rayon_machine_parts.specs.State.{stack_in, shape_of, HasRoom, RoomAt, stack_of, stack_or};
 ghost use Rattle.rayon_machine_places.specs.World.{Shape, Stack as AnyStack};
 
 use crate::growth::{grow_callers, grow_crews, grow_stacks};
 use crate::shapes::Shapes;
-use rayon_machine_places::error::StepError;
 use rayon_machine_places::place::{Ending, JobKind, Move, Party, Place, Share, Then};
-use std::alloc::Global;
+use std::alloc::{AllocError, Global};
 
 /// Where a party stands, and the frames that it goes back to, the one that it entered last at the
 /// end.
@@ -66,7 +65,7 @@ impl Parties {
         alloc: Global,
         shapes: &Shapes,
         party: Party,
-    ) -> Result<(), StepError>
+    ) -> Result<(), AllocError>
         ensures same { (q : AnyParty) → stack_in (shape_of shapes.now) self.new q ≡ stack_in (shape_of shapes.now) self.old q }
         ensures room { OnOk result (HasRoom self.new party) }
     {
@@ -185,21 +184,18 @@ impl Stack {
     }
 
     /// Room for one more frame.
-    fn make_room(&mut self) -> Result<(), StepError>
+    fn make_room(&mut self) -> Result<(), AllocError>
         ensures same { stack_of self.new ≡ stack_of self.old }
         ensures room { OnOk result (vec_len self.new.below < vec_capacity self.new.below) }
     {
-        if self.below.try_reserve(1).is_err() {
-            return Err(StepError::NoRoom);
-        }
-        Ok(())
+        self.below.try_reserve(1)
     }
 }
 
 /// Room for one more frame on the stack of this index.
-fn make_room_at(stacks: &mut Vec<Stack>, index: usize) -> Result<(), StepError>
+fn make_room_at(stacks: &mut Vec<Stack>, index: usize) -> Result<(), AllocError>
     requires { index < vec_len stacks.old }
-    ensures same { (blank : ℕ → AnyStack) (i : ℕ) → stored blank stacks.new.items i ≡ stored blank stacks.old.items i }
+    ensures same { (blank : ℕ → AnyStack) (i : ℕ) → stack_or blank stacks.new.items i ≡ stack_or blank stacks.old.items i }
     ensures room { OnOk result (RoomAt stacks.new.items index) }
 {
     stacks[index].make_room()
@@ -208,7 +204,7 @@ fn make_room_at(stacks: &mut Vec<Stack>, index: usize) -> Result<(), StepError>
 /// The stack of this index goes where a move leads.
 fn turn_at(stacks: &mut Vec<Stack>, index: usize, step: Move)
     requires { RoomAt stacks.old.items index }
-    ensures { (blank : ℕ → AnyStack) (i : ℕ) → stored blank stacks.new.items i ≡ (if i == index then after_move step (stored blank stacks.old.items index).below else stored blank stacks.old.items i) }
+    ensures { (blank : ℕ → AnyStack) (i : ℕ) → stack_or blank stacks.new.items i ≡ (if i == index then after_move step (stack_or blank stacks.old.items index).below else stack_or blank stacks.old.items i) }
 {
     stacks[index].turn(step)
 }
@@ -216,7 +212,7 @@ fn turn_at(stacks: &mut Vec<Stack>, index: usize, step: Move)
 /// The frame below the run on the stack of this index goes on.
 fn resume_at(stacks: &mut Vec<Stack>, index: usize, ending: Ending)
     requires { RoomAt stacks.old.items index }
-    ensures { (blank : ℕ → AnyStack) (i : ℕ) → stored blank stacks.new.items i ≡ (if i == index then after_resume (stored blank stacks.old.items index).below ending else stored blank stacks.old.items i) }
+    ensures { (blank : ℕ → AnyStack) (i : ℕ) → stack_or blank stacks.new.items i ≡ (if i == index then after_resume (stack_or blank stacks.old.items index).below ending else stack_or blank stacks.old.items i) }
 {
     stacks[index].resume(ending)
 }

@@ -1,7 +1,7 @@
 //! What an act on a queue finds there, and the numbers after it.
 ghost use Rattle.std.specs.Prelude.{◌≡◌};
 ghost use Rattle.rayon_machine_places.specs.World.{but_first, but_last, head_of, last_of};
-ghost use Rattle.rayon_machine_parts.specs.State.{handled, taken};
+ghost use Rattle.rayon_machine_parts.specs.State.{after_handle, after_take};
 
 use crate::numbers::Touched;
 use rayon_machine_places::act::{Act, Seen};
@@ -31,7 +31,7 @@ pub(crate) fn newest(queue: &VecDeque<u64>) -> Option<u64>
 
 /// A task is taken, if there is one.
 fn take(touched: Touched, party: Party, found: Option<u64>) -> (Seen, Touched)
-    ensures { result ≡ taken party touched found }
+    ensures { result ≡ after_take party touched found }
 {
     match found {
         None => (Seen::Missing, touched),
@@ -46,7 +46,7 @@ impl Touched {
     /// What an act on a queue sees, and the numbers after it, where this task stands at the end of
     /// the queue.
     pub(crate) fn handle(self, act: Act, party: Party, found: Option<u64>) -> (Seen, Touched)
-        ensures { result ≡ handled act party self found }
+        ensures { result ≡ after_handle act party self found }
     {
         match act {
             Act::PopOwn | Act::TakeCast | Act::Steal { .. } | Act::PopInj => {

@@ -1,6 +1,6 @@
 //! The spot of the world that an act touches: one pool, one worker's seat in it, one call, one job.
 ghost use Rattle.std.specs.Prelude.{◌≡◌, if◌then◌else◌};
-ghost use Rattle.rayon_machine_parts.specs.State.{call_at, job_at, pool_at, seat_at, flags_of, numbers_of, peeked, touched_at};
+ghost use Rattle.rayon_machine_parts.specs.State.{call_at, job_at, pool_at, seat_at, flags_of, numbers_of, end_task, touched_at};
 ghost use Rattle.rayon_machine_places.specs.World.{head_of, last_of, target_pool, target_worker};
 
 use crate::numbers::{PoolNumbers, Touched, WorkerFlags};
@@ -68,7 +68,7 @@ impl Parts {
 
     /// The task at the end of the queue that an act takes from or looks at.
     pub(crate) fn peek(&self, act: Act, party: Party, order: Order) -> Option<u64>
-        ensures { result ≡ peeked order act party (seat_at self.now.benches.items (target_pool party act) (target_worker party act)).own (pool_at self.now.pools.items (target_pool party act)).injector (pool_at self.now.pools.items (target_pool party act)).casts }
+        ensures { result ≡ end_task order act party (seat_at self.now.benches.items (target_pool party act) (target_worker party act)).own (pool_at self.now.pools.items (target_pool party act)).injector (pool_at self.now.pools.items (target_pool party act)).casts }
     {
         match act {
             Act::PopOwn => {

@@ -17,51 +17,45 @@ use Rattle.rayon_machine_places.specs.declared.state.Whereabouts.TheVariants.{Ov
 use Rattle.rayon_machine_places.specs.Places.{is_free, is_member}
 use Rattle.rayon_machine_places.specs.World.{World, at_job}
 use Rattle.rayon_machine_places.specs.Steps.{after_close, after_end, after_end_pool, after_install, is_pool, after_join, new_job, put, put_stack, after_spawn, after_move}
-use Rattle.rayon_machine_world.specs.Running.{forked, opened, sent_off}
+use Rattle.rayon_machine_world.specs.Running.{after_open_join, after_open_job, after_open_call}
 
-pub spawned-is : (w u : World) (q : Party) (p : ℕ) (x : Place) (job : Job) → x ≡ (w.stack q).top → is_free x ≡ true → is_pool w.shape p ≡ true → job ≡ new_job q p (Detached p) → u ≡ opened w q x (Detach p w.jobs) job → after_spawn w q p (w.stack q) ≡ Some u
-spawned-is w u q p x job ex f k ej eu =
+pub spawned-is : (w : World) (q : Party) (p : ℕ) (x : Place) (job : Job) → x ≡ (w.stack q).top → is_free x ≡ true → is_pool w.shape p ≡ true → job ≡ new_job q p (Detached p) → after_spawn w q p (w.stack q) ≡ Some (after_open_job w q x (Detach p w.jobs) job)
+spawned-is w q p x job ex f k ej =
     let free : is_free (w.stack q).top ≡ true = ap is_free (sym ex) ∙ f in
-    let to : Place → Option World = λ y. Some (opened w q y (Detach p w.jobs) (new_job q p (Detached p))) in
-    let with_job : Job → Option World = λ j. Some (opened w q x (Detach p w.jobs) j) in
-    let done : World → Option World = λ z. Some z in
-    rw (free, k) (ap to (sym ex) ∙ ap with_job (sym ej) ∙ ap done (sym eu))
+    let to : Place → Option World = λ y. Some (after_open_job w q y (Detach p w.jobs) (new_job q p (Detached p))) in
+    let with_job : Job → Option World = λ j. Some (after_open_job w q x (Detach p w.jobs) j) in
+    rw (free, k) (ap to (sym ex) ∙ ap with_job (sym ej))
 
-pub here-is : (w u : World) (q : Party) (p : ℕ) (x : Place) (job : Job) → x ≡ (w.stack q).top → is_free x ≡ true → is_pool w.shape p ≡ true → is_member q p ≡ true → job ≡ new_job q p Direct → u ≡ opened w q x (Here p w.jobs) job → after_install w q p (w.stack q) ≡ Some u
-here-is w u q p x job ex f k m ej eu =
+pub here-is : (w : World) (q : Party) (p : ℕ) (x : Place) (job : Job) → x ≡ (w.stack q).top → is_free x ≡ true → is_pool w.shape p ≡ true → is_member q p ≡ true → job ≡ new_job q p Direct → after_install w q p (w.stack q) ≡ Some (after_open_job w q x (Here p w.jobs) job)
+here-is w q p x job ex f k m ej =
     let free : is_free (w.stack q).top ≡ true = ap is_free (sym ex) ∙ f in
-    let to : Place → Option World = λ y. Some (opened w q y (Here p w.jobs) (new_job q p Direct)) in
-    let with_job : Job → Option World = λ j. Some (opened w q x (Here p w.jobs) j) in
-    let done : World → Option World = λ z. Some z in
-    rw (free, k, m) (ap to (sym ex) ∙ ap with_job (sym ej) ∙ ap done (sym eu))
+    let to : Place → Option World = λ y. Some (after_open_job w q y (Here p w.jobs) (new_job q p Direct)) in
+    let with_job : Job → Option World = λ j. Some (after_open_job w q x (Here p w.jobs) j) in
+    rw (free, k, m) (ap to (sym ex) ∙ ap with_job (sym ej))
 
-pub sent-is : (w u : World) (q : Party) (p : ℕ) (x : Place) (job : Job) → x ≡ (w.stack q).top → is_free x ≡ true → is_pool w.shape p ≡ true → is_member q p ≡ false → job ≡ new_job q p (Stored w.calls q) → u ≡ sent_off w q x (Send (record { number = w.calls; pool = p; job = w.jobs })) job → after_install w q p (w.stack q) ≡ Some u
-sent-is w u q p x job ex f k m ej eu =
+pub sent-is : (w : World) (q : Party) (p : ℕ) (x : Place) (job : Job) → x ≡ (w.stack q).top → is_free x ≡ true → is_pool w.shape p ≡ true → is_member q p ≡ false → job ≡ new_job q p (Stored w.calls q) → after_install w q p (w.stack q) ≡ Some (after_open_call w q x (Send (record { number = w.calls; pool = p; job = w.jobs })) job)
+sent-is w q p x job ex f k m ej =
     let free : is_free (w.stack q).top ≡ true = ap is_free (sym ex) ∙ f in
-    let to : Place → Option World = λ y. Some (sent_off w q y (Send (record { number = w.calls; pool = p; job = w.jobs })) (new_job q p (Stored w.calls q))) in
-    let with_job : Job → Option World = λ j. Some (sent_off w q x (Send (record { number = w.calls; pool = p; job = w.jobs })) j) in
-    let done : World → Option World = λ z. Some z in
-    rw (free, k, m) (ap to (sym ex) ∙ ap with_job (sym ej) ∙ ap done (sym eu))
+    let to : Place → Option World = λ y. Some (after_open_call w q y (Send (record { number = w.calls; pool = p; job = w.jobs })) (new_job q p (Stored w.calls q))) in
+    let with_job : Job → Option World = λ j. Some (after_open_call w q x (Send (record { number = w.calls; pool = p; job = w.jobs })) j) in
+    rw (free, k, m) (ap to (sym ex) ∙ ap with_job (sym ej))
 
-pub joined-is : (w u : World) (p i : ℕ) (x : Place) (first second : Job) → x ≡ (w.stack (Worker p i)).top → is_free x ≡ true → first ≡ new_job (Worker p i) p Direct → second ≡ new_job (Worker p i) p (Stored w.calls (Worker p i)) → u ≡ forked w (Worker p i) x (Fork (record { number = w.calls; pool = p; job = w.jobs + 1 }) w.jobs) first second → after_join w (Worker p i) (w.stack (Worker p i)) ≡ Some u
-joined-is w u p i x first second ex f ea eb eu =
+pub joined-is : (w : World) (p i : ℕ) (x : Place) (first second : Job) → x ≡ (w.stack (Worker p i)).top → is_free x ≡ true → first ≡ new_job (Worker p i) p Direct → second ≡ new_job (Worker p i) p (Stored w.calls (Worker p i)) → after_join w (Worker p i) (w.stack (Worker p i)) ≡ Some (after_open_join w (Worker p i) x (Fork (record { number = w.calls; pool = p; job = w.jobs + 1 }) w.jobs) first second)
+joined-is w p i x first second ex f ea eb =
     let free : is_free (w.stack (Worker p i)).top ≡ true = ap is_free (sym ex) ∙ f in
     let plan = Fork (record { number = w.calls; pool = p; job = w.jobs + 1 }) w.jobs in
-    let to : Place → Option World = λ y. Some (forked w (Worker p i) y plan (new_job (Worker p i) p Direct) (new_job (Worker p i) p (Stored w.calls (Worker p i)))) in
-    let with_first : Job → Option World = λ j. Some (forked w (Worker p i) x plan j (new_job (Worker p i) p (Stored w.calls (Worker p i)))) in
-    let with_second : Job → Option World = λ j. Some (forked w (Worker p i) x plan first j) in
-    let done : World → Option World = λ z. Some z in
-    rw free (ap to (sym ex) ∙ ap with_first (sym ea) ∙ ap with_second (sym eb) ∙ ap done (sym eu))
+    let to : Place → Option World = λ y. Some (after_open_join w (Worker p i) y plan (new_job (Worker p i) p Direct) (new_job (Worker p i) p (Stored w.calls (Worker p i)))) in
+    let with_first : Job → Option World = λ j. Some (after_open_join w (Worker p i) x plan j (new_job (Worker p i) p (Stored w.calls (Worker p i)))) in
+    let with_second : Job → Option World = λ j. Some (after_open_join w (Worker p i) x plan first j) in
+    rw free (ap to (sym ex) ∙ ap with_first (sym ea) ∙ ap with_second (sym eb))
 
-pub given-is : (w u : World) (q : Party) (p : ℕ) (x : Place) → x ≡ (w.stack q).top → is_free x ≡ true → is_pool w.shape p ≡ true → (w.pool p).held ≡ true → u ≡ record w { stack = put_stack w.stack q (after_move (Enter x (LowerCount p PoolValue Resume)) (w.stack q).below); pool = put w.pool p (record (w.pool p) { held = false }) } → after_end_pool w q p (w.stack q) ≡ Some u
-given-is w u q p x ex f k h eu =
+pub given-is : (w : World) (q : Party) (p : ℕ) (x : Place) → x ≡ (w.stack q).top → is_free x ≡ true → is_pool w.shape p ≡ true → (w.pool p).held ≡ true → after_end_pool w q p (w.stack q) ≡ Some (record w { stack = put_stack w.stack q (after_move (Enter x (LowerCount p PoolValue Resume)) (w.stack q).below); pool = put w.pool p (record (w.pool p) { held = false }) })
+given-is w q p x ex f k h =
     let free : is_free (w.stack q).top ≡ true = ap is_free (sym ex) ∙ f in
     let to : Place → Option World = λ y. Some (record w { stack = put_stack w.stack q (after_move (Enter y (LowerCount p PoolValue Resume)) (w.stack q).below); pool = put w.pool p (record (w.pool p) { held = false }) }) in
-    let done : World → Option World = λ z. Some z in
-    rw (free, k, h) (ap to (sym ex) ∙ ap done (sym eu))
+    rw (free, k, h) (ap to (sym ex))
 
-pub ended-is : (w u : World) (q : Party) (e : Ending) (t : ℕ) (k : JobKind) → Run t k ≡ (w.stack q).top → u ≡ record w { stack = put_stack w.stack q (after_close t k e (w.stack q).below); job = put w.job t (at_job (w.job t) (Over e)) } → after_end w q e (w.stack q) (w.stack q).top ≡ Some u
-ended-is w u q e t k ex eu =
+pub ended-is : (w : World) (q : Party) (e : Ending) (t : ℕ) (k : JobKind) → Run t k ≡ (w.stack q).top → after_end w q e (w.stack q) (w.stack q).top ≡ Some (record w { stack = put_stack w.stack q (after_close t k e (w.stack q).below); job = put w.job t (at_job (w.job t) (Over e)) })
+ended-is w q e t k ex =
     let to : Place → Option World = λ y. after_end w q e (w.stack q) y in
-    let done : World → Option World = λ z. Some z in
-    ap to (sym ex) ∙ ap done (sym eu)
+    ap to (sym ex)

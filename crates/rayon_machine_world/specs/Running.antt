@@ -1,5 +1,7 @@
 -- what a running world stands for, and what its steps leave
-use Rattle.std.specs.Prelude.{ℕ, ◌+◌, Some, None, ◌≡◌}
+use Rattle.std.specs.Prelude.{ℕ, ◌+◌, Option, Some, None, Result, ◌≡◌, IfErr, OnErr, OnOk}
+use Rattle.rayon_machine_places.specs.declared.error.StepError.{StepError}
+use Rattle.rayon_machine_places.specs.declared.error.StepError.TheVariants.{NotEnabled, NoRoom}
 use Rattle.rayon_machine_places.specs.declared.place.Party.{Party}
 use Rattle.rayon_machine_places.specs.declared.place.Place.{Place}
 use Rattle.rayon_machine_places.specs.declared.place.Place.TheVariants.{RaiseCount}
@@ -27,8 +29,21 @@ world_of w = record {
   jobs = w.jobs;
 }
 
+-- what a step answers and leaves, where the relation says this of its event: the relation's next world; not enabled exactly where it has none; no room only where it has one. A refusal leaves the world
+pub record IsStepOf (next : Option World) (r : Result (Unit {0}) StepError) (w u : World) : Type 0 where
+  pub ok : OnOk r (next ≡ Some u)
+  pub not_enabled : IfErr r (λ e. e ≡ NotEnabled → next ≡ None)
+  pub enabled : IfErr r (λ e. e ≡ NoRoom → ¬ (next ≡ None))
+  pub err : OnErr r (u ≡ w)
+
+-- what a step that is enabled answers and leaves, where this is the world after it: only room can be wanting, and a refusal leaves the world
+pub record IsMade (next : World) (r : Result (Unit {0}) StepError) (w u : World) : Type 0 where
+  pub ok : OnOk r (u ≡ next)
+  pub no_room : IfErr r (λ e. e ≡ NoRoom)
+  pub err : OnErr r (u ≡ w)
+
 -- the deed is done, and the party has moved on
-pub record Performed (w u : StoredWorld) (q : Party) (d : Deed) (m : Move) : Type 0 where
+pub record IsPerformed (w u : StoredWorld) (q : Party) (d : Deed) (m : Move) : Type 0 where
   pub shape : shape_of u.shapes ≡ shape_of w.shapes
   pub stack : (r : Party) → stack_in (shape_of u.shapes) u.parties r ≡ put_stack (stack_in (shape_of w.shapes) w.parties) q (after_move m (stack_in (shape_of w.shapes) w.parties q).below) r
   pub pool : (p : ℕ) → pool_at u.parts.pools.items p ≡ put (pool_at w.parts.pools.items) d.spot.pool (pool_queued d.act (own_index q) (with_numbers (pool_at w.parts.pools.items d.spot.pool) d.after.pool)) p
@@ -39,8 +54,8 @@ pub record Performed (w u : StoredWorld) (q : Party) (d : Deed) (m : Move) : Typ
   pub jobs : u.jobs ≡ w.jobs
 
 -- a join of two jobs has begun, above this frame
-abbrev pub forked : World → Party → Place → Plan → Job → Job → World
-forked w q frame plan first second = record w {
+abbrev pub after_open_join : World → Party → Place → Plan → Job → Job → World
+after_open_join w q frame plan first second = record w {
   stack = put_stack w.stack q (after_move (Enter frame (RaiseCount plan)) (w.stack q).below);
   job = put (put w.job w.jobs first) (w.jobs + 1) second;
   call = put w.call w.calls (new_call (Some w.jobs) (w.jobs + 1));
@@ -49,16 +64,16 @@ forked w q frame plan first second = record w {
 }
 
 -- a call of one job has begun, above this frame
-abbrev pub opened : World → Party → Place → Plan → Job → World
-opened w q frame plan job = record w {
+abbrev pub after_open_job : World → Party → Place → Plan → Job → World
+after_open_job w q frame plan job = record w {
   stack = put_stack w.stack q (after_move (Enter frame (RaiseCount plan)) (w.stack q).below);
   job = put w.job w.jobs job;
   jobs = w.jobs + 1;
 }
 
 -- a call that waits for one job has begun, above this frame
-abbrev pub sent_off : World → Party → Place → Plan → Job → World
-sent_off w q frame plan job = record w {
+abbrev pub after_open_call : World → Party → Place → Plan → Job → World
+after_open_call w q frame plan job = record w {
   stack = put_stack w.stack q (after_move (Enter frame (RaiseCount plan)) (w.stack q).below);
   job = put w.job w.jobs job;
   call = put w.call w.calls (new_call None w.jobs);

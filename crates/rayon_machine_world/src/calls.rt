@@ -1,7 +1,7 @@
 //! The steps in which a call begins or a run ends.
 ghost use Rattle.std.specs.Prelude.{◌≡◌, OnOk, false, IfErr, None, OnErr, Some};
 ghost use Rattle.rayon_machine_places.specs.Steps.{put, after_move, put_stack, after_close, after_end, after_end_pool, after_install, after_join, after_spawn};
-ghost use Rattle.rayon_machine_world.specs.Running.{world_of, forked, opened, sent_off};
+ghost use Rattle.rayon_machine_world.specs.Running.{IsMade, IsStepOf, world_of, after_open_join, after_open_job, after_open_call};
 ghost use Rattle.rayon_machine_places.specs.World.{at_job};
 ghost use Rattle.rayon_machine_places.specs.declared.place.Move.TheVariants.{Enter};
 ghost use Rattle.rayon_machine_places.specs.declared.place.Place.TheVariants.{LowerCount};
@@ -28,23 +28,13 @@ impl World {
         plan: Plan,
         job: Job,
     ) -> Result<(), StepError>
-        ensures ok { OnOk result (world_of self.new ≡ opened (world_of self.old) party frame plan job) }
-        ensures no_room { IfErr result (λ e. e ≡ StepError.NoRoom) }
-        ensures err { OnErr result (world_of self.new ≡ world_of self.old) }
+        ensures { IsMade (after_open_job (world_of self.old) party frame plan job) result (world_of self.old) (world_of self.new) }
     {
         if self.jobs == u64::MAX {
             return Err(StepError::NoRoom);
         }
-        if grow_jobs(&mut self.parts.jobs, self.jobs as usize).is_err() {
-            return Err(StepError::NoRoom);
-        }
-        if self
-            .parties
-            .make_room(self.alloc, &self.shapes, party)
-            .is_err()
-        {
-            return Err(StepError::NoRoom);
-        }
+        grow_jobs(&mut self.parts.jobs, self.jobs as usize)?;
+        self.parties.make_room(self.alloc, &self.shapes, party)?;
         write_job(&mut self.parts.jobs, self.jobs, job);
         self.parties.turn(
             party,
@@ -65,26 +55,14 @@ impl World {
         plan: Plan,
         job: Job,
     ) -> Result<(), StepError>
-        ensures ok { OnOk result (world_of self.new ≡ sent_off (world_of self.old) party frame plan job) }
-        ensures no_room { IfErr result (λ e. e ≡ StepError.NoRoom) }
-        ensures err { OnErr result (world_of self.new ≡ world_of self.old) }
+        ensures { IsMade (after_open_call (world_of self.old) party frame plan job) result (world_of self.old) (world_of self.new) }
     {
         if self.jobs == u64::MAX || self.calls == u64::MAX {
             return Err(StepError::NoRoom);
         }
-        if grow_jobs(&mut self.parts.jobs, self.jobs as usize).is_err() {
-            return Err(StepError::NoRoom);
-        }
-        if grow_calls(&mut self.parts.calls, self.calls as usize).is_err() {
-            return Err(StepError::NoRoom);
-        }
-        if self
-            .parties
-            .make_room(self.alloc, &self.shapes, party)
-            .is_err()
-        {
-            return Err(StepError::NoRoom);
-        }
+        grow_jobs(&mut self.parts.jobs, self.jobs as usize)?;
+        grow_calls(&mut self.parts.calls, self.calls as usize)?;
+        self.parties.make_room(self.alloc, &self.shapes, party)?;
         write_job(&mut self.parts.jobs, self.jobs, job);
         write_call(
             &mut self.parts.calls,
@@ -105,10 +83,7 @@ impl World {
 
     /// A party spawns a detached job.
     pub(crate) fn spawn(&mut self, party: Party, pool: usize) -> Result<(), StepError>
-        ensures ok { OnOk result (after_spawn (world_of self.old) party pool ((world_of self.old).stack party) ≡ Some (world_of self.new)) }
-        ensures not_enabled { IfErr result (λ e. e ≡ StepError.NotEnabled → after_spawn (world_of self.old) party pool ((world_of self.old).stack party) ≡ None) }
-        ensures enabled { IfErr result (λ e. e ≡ StepError.NoRoom → ¬ (after_spawn (world_of self.old) party pool ((world_of self.old).stack party) ≡ None)) }
-        ensures err { OnErr result (world_of self.new ≡ world_of self.old) }
+        ensures { IsStepOf (after_spawn (world_of self.old) party pool ((world_of self.old).stack party)) result (world_of self.old) (world_of self.new) }
     {
         let frame = self.parties.top(&self.shapes, party);
         if !frame.can_call() || !self.shapes.has_pool(pool) {
@@ -128,10 +103,7 @@ impl World {
 
     /// A party installs a job.
     pub(crate) fn install(&mut self, party: Party, pool: usize) -> Result<(), StepError>
-        ensures ok { OnOk result (after_install (world_of self.old) party pool ((world_of self.old).stack party) ≡ Some (world_of self.new)) }
-        ensures not_enabled { IfErr result (λ e. e ≡ StepError.NotEnabled → after_install (world_of self.old) party pool ((world_of self.old).stack party) ≡ None) }
-        ensures enabled { IfErr result (λ e. e ≡ StepError.NoRoom → ¬ (after_install (world_of self.old) party pool ((world_of self.old).stack party) ≡ None)) }
-        ensures err { OnErr result (world_of self.new ≡ world_of self.old) }
+        ensures { IsStepOf (after_install (world_of self.old) party pool ((world_of self.old).stack party)) result (world_of self.old) (world_of self.new) }
     {
         let frame = self.parties.top(&self.shapes, party);
         if !frame.can_call() || !self.shapes.has_pool(pool) {
@@ -158,10 +130,7 @@ impl World {
 
     /// A worker joins two sides.
     pub(crate) fn join(&mut self, party: Party) -> Result<(), StepError>
-        ensures ok { OnOk result (after_join (world_of self.old) party ((world_of self.old).stack party) ≡ Some (world_of self.new)) }
-        ensures not_enabled { IfErr result (λ e. e ≡ StepError.NotEnabled → after_join (world_of self.old) party ((world_of self.old).stack party) ≡ None) }
-        ensures enabled { IfErr result (λ e. e ≡ StepError.NoRoom → ¬ (after_join (world_of self.old) party ((world_of self.old).stack party) ≡ None)) }
-        ensures err { OnErr result (world_of self.new ≡ world_of self.old) }
+        ensures { IsStepOf (after_join (world_of self.old) party ((world_of self.old).stack party)) result (world_of self.old) (world_of self.new) }
     {
         let frame = self.parties.top(&self.shapes, party);
         let Party::Worker { pool, .. } = party else {
@@ -205,26 +174,14 @@ impl World {
         first: Job,
         second: Job,
     ) -> Result<(), StepError>
-        ensures ok { OnOk result (world_of self.new ≡ forked (world_of self.old) party frame plan first second) }
-        ensures no_room { IfErr result (λ e. e ≡ StepError.NoRoom) }
-        ensures err { OnErr result (world_of self.new ≡ world_of self.old) }
+        ensures { IsMade (after_open_join (world_of self.old) party frame plan first second) result (world_of self.old) (world_of self.new) }
     {
         if self.jobs >= u64::MAX - 1 || self.calls == u64::MAX {
             return Err(StepError::NoRoom);
         }
-        if grow_jobs(&mut self.parts.jobs, (self.jobs + 1) as usize).is_err() {
-            return Err(StepError::NoRoom);
-        }
-        if grow_calls(&mut self.parts.calls, self.calls as usize).is_err() {
-            return Err(StepError::NoRoom);
-        }
-        if self
-            .parties
-            .make_room(self.alloc, &self.shapes, party)
-            .is_err()
-        {
-            return Err(StepError::NoRoom);
-        }
+        grow_jobs(&mut self.parts.jobs, (self.jobs + 1) as usize)?;
+        grow_calls(&mut self.parts.calls, self.calls as usize)?;
+        self.parties.make_room(self.alloc, &self.shapes, party)?;
         write_jobs(&mut self.parts.jobs, self.jobs, first, second);
         write_call(
             &mut self.parts.calls,
@@ -245,10 +202,7 @@ impl World {
 
     /// A party gives up a pool's value.
     pub(crate) fn end_pool(&mut self, party: Party, pool: usize) -> Result<(), StepError>
-        ensures ok { OnOk result (after_end_pool (world_of self.old) party pool ((world_of self.old).stack party) ≡ Some (world_of self.new)) }
-        ensures not_enabled { IfErr result (λ e. e ≡ StepError.NotEnabled → after_end_pool (world_of self.old) party pool ((world_of self.old).stack party) ≡ None) }
-        ensures enabled { IfErr result (λ e. e ≡ StepError.NoRoom → ¬ (after_end_pool (world_of self.old) party pool ((world_of self.old).stack party) ≡ None)) }
-        ensures err { OnErr result (world_of self.new ≡ world_of self.old) }
+        ensures { IsStepOf (after_end_pool (world_of self.old) party pool ((world_of self.old).stack party)) result (world_of self.old) (world_of self.new) }
     {
         let frame = self.parties.top(&self.shapes, party);
         let held = self.parts.numbers(pool).held;
@@ -260,23 +214,13 @@ impl World {
 
     /// A pool's value is no longer held, and its share is to be given back.
     fn let_go(&mut self, party: Party, pool: usize, frame: Place) -> Result<(), StepError>
-        ensures ok { OnOk result (world_of self.new ≡ record (world_of self.old) {
+        ensures { IsMade (record (world_of self.old) {
           stack = put_stack ((world_of self.old).stack) party (after_move (Enter frame (LowerCount pool PoolValue Resume)) ((world_of self.old).stack party).below);
           pool = put ((world_of self.old).pool) pool (record ((world_of self.old).pool pool) { held = false });
-        }) }
-        ensures no_room { IfErr result (λ e. e ≡ StepError.NoRoom) }
-        ensures err { OnErr result (world_of self.new ≡ world_of self.old) }
+        }) result (world_of self.old) (world_of self.new) }
     {
-        if grow_pools(self.alloc, &mut self.parts.pools, pool).is_err() {
-            return Err(StepError::NoRoom);
-        }
-        if self
-            .parties
-            .make_room(self.alloc, &self.shapes, party)
-            .is_err()
-        {
-            return Err(StepError::NoRoom);
-        }
+        grow_pools(self.alloc, &mut self.parts.pools, pool)?;
+        self.parties.make_room(self.alloc, &self.shapes, party)?;
         release(&mut self.parts.pools, pool);
         let place = Place::LowerCount {
             pool,
@@ -289,10 +233,7 @@ impl World {
 
     /// The run on top of a party's stack ends.
     pub(crate) fn end(&mut self, party: Party, ending: Ending) -> Result<(), StepError>
-        ensures ok { OnOk result (after_end (world_of self.old) party ending ((world_of self.old).stack party) ((world_of self.old).stack party).top ≡ Some (world_of self.new)) }
-        ensures not_enabled { IfErr result (λ e. e ≡ StepError.NotEnabled → after_end (world_of self.old) party ending ((world_of self.old).stack party) ((world_of self.old).stack party).top ≡ None) }
-        ensures enabled { IfErr result (λ e. e ≡ StepError.NoRoom → ¬ (after_end (world_of self.old) party ending ((world_of self.old).stack party) ((world_of self.old).stack party).top ≡ None)) }
-        ensures err { OnErr result (world_of self.new ≡ world_of self.old) }
+        ensures { IsStepOf (after_end (world_of self.old) party ending ((world_of self.old).stack party) ((world_of self.old).stack party).top) result (world_of self.old) (world_of self.new) }
     {
         match self.parties.top(&self.shapes, party) {
             Place::Run { job, kind } => self.close(party, ending, job, kind),
@@ -308,23 +249,13 @@ impl World {
         job: u64,
         kind: JobKind,
     ) -> Result<(), StepError>
-        ensures ok { OnOk result (world_of self.new ≡ record (world_of self.old) {
+        ensures { IsMade (record (world_of self.old) {
           stack = put_stack ((world_of self.old).stack) party (after_close job kind ending ((world_of self.old).stack party).below);
           job = put ((world_of self.old).job) job (at_job ((world_of self.old).job job) (Over ending));
-        }) }
-        ensures no_room { IfErr result (λ e. e ≡ StepError.NoRoom) }
-        ensures err { OnErr result (world_of self.new ≡ world_of self.old) }
+        }) result (world_of self.old) (world_of self.new) }
     {
-        if grow_jobs(&mut self.parts.jobs, job as usize).is_err() {
-            return Err(StepError::NoRoom);
-        }
-        if self
-            .parties
-            .make_room(self.alloc, &self.shapes, party)
-            .is_err()
-        {
-            return Err(StepError::NoRoom);
-        }
+        grow_jobs(&mut self.parts.jobs, job as usize)?;
+        self.parties.make_room(self.alloc, &self.shapes, party)?;
         move_job(&mut self.parts.jobs, job, Whereabouts::Over(ending));
         self.parties.close(party, ending, job, kind);
         Ok(())

@@ -32,9 +32,7 @@ impl World {
         if !is_shape(pools, jec_bits) {
             return Err(StartError::BadStart);
         }
-        let Ok(pools) = pools.to_vec(alloc) else {
-            return Err(StartError::NoRoom);
-        };
+        let pools = pools.to_vec(alloc)?;
         Ok(World {
             alloc,
             shapes: Shapes { pools, jec_bits },

@@ -1,6 +1,6 @@
 //! One step of the running world.
 ghost use Rattle.std.specs.Prelude.{◌≡◌, OnOk, IfErr, None, OnErr, Some};
-ghost use Rattle.rayon_machine_world.specs.Running.{world_of, Performed};
+ghost use Rattle.rayon_machine_world.specs.Running.{IsMade, IsStepOf, world_of, IsPerformed};
 ghost use Rattle.rayon_machine_places.specs.Steps.{with_stack, step as step_of, after_move, after_yield};
 ghost use Rattle.rayon_machine_places.specs.declared.event.Event.TheVariants.{From, Go, Miss, Refuse};
 ghost use Rattle.rayon_machine_parts.specs.State.{stack_in, shape_of};
@@ -18,10 +18,7 @@ impl World {
     /// of an event that is enabled, where memory was refused or a number would pass 2^64 - 1. Both leave the world as it
     /// was.
     pub fn step(&mut self, event: Event) -> Result<(), StepError>
-        ensures ok { OnOk result (step_of (world_of self.old) event ≡ Some (world_of self.new)) }
-        ensures not_enabled { IfErr result (λ e. e ≡ StepError.NotEnabled → step_of (world_of self.old) event ≡ None) }
-        ensures enabled { IfErr result (λ e. e ≡ StepError.NoRoom → ¬ (step_of (world_of self.old) event ≡ None)) }
-        ensures err { OnErr result (world_of self.new ≡ world_of self.old) }
+        ensures { IsStepOf (step_of (world_of self.old) event) result (world_of self.old) (world_of self.new) }
     {
         match event {
             Event::Go(party) => self.go(party),
@@ -40,10 +37,7 @@ impl World {
 
     /// A party's next act.
     fn go(&mut self, party: Party) -> Result<(), StepError>
-        ensures ok { OnOk result (step_of (world_of self.old) (Go party) ≡ Some (world_of self.new)) }
-        ensures not_enabled { IfErr result (λ e. e ≡ StepError.NotEnabled → step_of (world_of self.old) (Go party) ≡ None) }
-        ensures enabled { IfErr result (λ e. e ≡ StepError.NoRoom → ¬ (step_of (world_of self.old) (Go party) ≡ None)) }
-        ensures err { OnErr result (world_of self.new ≡ world_of self.old) }
+        ensures { IsStepOf (step_of (world_of self.old) (Go party)) result (world_of self.old) (world_of self.new) }
     {
         let place = self.parties.top(&self.shapes, party);
         let deed = match self.parts.deed(&self.shapes, party, place.act(party)) {
@@ -56,27 +50,16 @@ impl World {
 
     /// A deed is done, and the party moves on.
     fn perform(&mut self, party: Party, deed: Deed, step: Move) -> Result<(), StepError>
-        ensures ok { OnOk result (Performed self.old self.new party deed step) }
+        ensures ok { OnOk result (IsPerformed self.old self.new party deed step) }
         ensures no_room { IfErr result (λ e. e ≡ StepError.NoRoom) }
         ensures err { OnErr result (world_of self.new ≡ world_of self.old) }
     {
         if !self.parts.can_begin(deed.spot.job, deed.after.job, step) {
             return Err(StepError::NoRoom);
         }
-        if self
-            .parts
-            .make_room(self.alloc, deed.spot, deed.act, last_job(step))
-            .is_err()
-        {
-            return Err(StepError::NoRoom);
-        }
-        if self
-            .parties
-            .make_room(self.alloc, &self.shapes, party)
-            .is_err()
-        {
-            return Err(StepError::NoRoom);
-        }
+        self.parts
+            .make_room(self.alloc, deed.spot, deed.act, last_job(step))?;
+        self.parties.make_room(self.alloc, &self.shapes, party)?;
         self.parts.commit(deed, party.index());
         move_jobs(&mut self.parts.jobs, party, step);
         self.parties.turn(party, step);
@@ -85,17 +68,9 @@ impl World {
 
     /// A party moves on, and nothing else is changed.
     fn turn(&mut self, party: Party, step: Move) -> Result<(), StepError>
-        ensures ok { OnOk result (world_of self.new ≡ with_stack (world_of self.old) party (after_move step (stack_in (shape_of self.old.shapes) self.old.parties party).below)) }
-        ensures no_room { IfErr result (λ e. e ≡ StepError.NoRoom) }
-        ensures err { OnErr result (world_of self.new ≡ world_of self.old) }
+        ensures { IsMade (with_stack (world_of self.old) party (after_move step (stack_in (shape_of self.old.shapes) self.old.parties party).below)) result (world_of self.old) (world_of self.new) }
     {
-        if self
-            .parties
-            .make_room(self.alloc, &self.shapes, party)
-            .is_err()
-        {
-            return Err(StepError::NoRoom);
-        }
+        self.parties.make_room(self.alloc, &self.shapes, party)?;
         self.parties.turn(party, step);
         Ok(())
     }
@@ -104,10 +79,7 @@ impl World {
 impl World {
     /// A party chooses a victim.
     fn choose(&mut self, party: Party, victim: usize) -> Result<(), StepError>
-        ensures ok { OnOk result (step_of (world_of self.old) (From party victim) ≡ Some (world_of self.new)) }
-        ensures not_enabled { IfErr result (λ e. e ≡ StepError.NotEnabled → step_of (world_of self.old) (From party victim) ≡ None) }
-        ensures enabled { IfErr result (λ e. e ≡ StepError.NoRoom → ¬ (step_of (world_of self.old) (From party victim) ≡ None)) }
-        ensures err { OnErr result (world_of self.new ≡ world_of self.old) }
+        ensures { IsStepOf (step_of (world_of self.old) (From party victim)) result (world_of self.old) (world_of self.new) }
     {
         let place = self.parties.top(&self.shapes, party);
         let shape = self.shapes.pool(party.pool());
@@ -119,10 +91,7 @@ impl World {
 
     /// A party's next act is refused.
     fn refuse(&mut self, party: Party) -> Result<(), StepError>
-        ensures ok { OnOk result (step_of (world_of self.old) (Refuse party) ≡ Some (world_of self.new)) }
-        ensures not_enabled { IfErr result (λ e. e ≡ StepError.NotEnabled → step_of (world_of self.old) (Refuse party) ≡ None) }
-        ensures enabled { IfErr result (λ e. e ≡ StepError.NoRoom → ¬ (step_of (world_of self.old) (Refuse party) ≡ None)) }
-        ensures err { OnErr result (world_of self.new ≡ world_of self.old) }
+        ensures { IsStepOf (step_of (world_of self.old) (Refuse party)) result (world_of self.old) (world_of self.new) }
     {
         let place = self.parties.top(&self.shapes, party);
         if !place.refusable() {
@@ -134,10 +103,7 @@ impl World {
 
     /// A party's steal misses.
     fn miss(&mut self, party: Party) -> Result<(), StepError>
-        ensures ok { OnOk result (step_of (world_of self.old) (Miss party) ≡ Some (world_of self.new)) }
-        ensures not_enabled { IfErr result (λ e. e ≡ StepError.NotEnabled → step_of (world_of self.old) (Miss party) ≡ None) }
-        ensures enabled { IfErr result (λ e. e ≡ StepError.NoRoom → ¬ (step_of (world_of self.old) (Miss party) ≡ None)) }
-        ensures err { OnErr result (world_of self.new ≡ world_of self.old) }
+        ensures { IsStepOf (step_of (world_of self.old) (Miss party)) result (world_of self.old) (world_of self.new) }
     {
         let place = self.parties.top(&self.shapes, party);
         let shape = self.shapes.pool(party.pool());
@@ -156,10 +122,7 @@ impl World {
 
     /// A worker yields, beginning at this place.
     fn give_way(&mut self, party: Party, place: Place) -> Result<(), StepError>
-        ensures ok { OnOk result (after_yield (world_of self.old) party ((world_of self.old).stack party) place ≡ Some (world_of self.new)) }
-        ensures not_enabled { IfErr result (λ e. e ≡ StepError.NotEnabled → after_yield (world_of self.old) party ((world_of self.old).stack party) place ≡ None) }
-        ensures enabled { IfErr result (λ e. e ≡ StepError.NoRoom → ¬ (after_yield (world_of self.old) party ((world_of self.old).stack party) place ≡ None)) }
-        ensures err { OnErr result (world_of self.new ≡ world_of self.old) }
+        ensures { IsStepOf (after_yield (world_of self.old) party ((world_of self.old).stack party) place) result (world_of self.old) (world_of self.new) }
     {
         let frame = self.parties.top(&self.shapes, party);
         match party {

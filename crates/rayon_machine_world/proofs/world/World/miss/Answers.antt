@@ -1,22 +1,27 @@
 use Rattle.std.proofs.Common.{rules, ◌≡◌, ◌∙◌, true, ap, sym}
-use Rattle.std.proofs.lemmas.Result.{on_ok_weaker}
 use Rattle.std.specs.Prelude.{Some}
 use Rattle.rayon_machine_places.specs.declared.act.Seen.TheVariants.{Missing}
 use Rattle.rayon_machine_places.specs.declared.place.Party.TheVariants.{Worker}
 use Rattle.rayon_machine_places.specs.Places.{next_of, own_pool, victim_of}
 use Rattle.rayon_machine_places.specs.Steps.{can_miss, has_one, is_newest_first}
 use Rattle.rayon_machine_world.specs.Running.{world_of}
+use Rattle.rayon_machine_world.proofs.Made.{made-is}
 use Rattle.rayon_machine_world.proofs.Turning.{missed-none, missed-turn}
 use Rattle.rayon_machine_world.proofs.world.World.miss.Goals as goal
 
-pub returns-in_default-victim-clause-not_enabled : goal.returns-in_default-victim-clause-not_enabled
-returns-in_default-victim-clause-not_enabled c =
+pub returns-in_default-victim : goal.returns-in_default-victim
+returns-in_default-victim c =
     let w = world_of c.args.self.now in
     let q = c.args.party in
-    λ _. missed-none w q (w.stack q) (w.stack q).top (ap victim_of (sym c.top-place.ensures) ∙ sym c.victim.ensures ∙ c.in_default-victim.is)
+    record {
+      ok = search rules;
+      not_enabled = λ _. missed-none w q (w.stack q) (w.stack q).top (ap victim_of (sym c.top-place.ensures) ∙ sym c.victim.ensures ∙ c.in_default-victim.is);
+      enabled = search rules;
+      err = search rules;
+    }
 
-pub returns-clause-ok : goal.returns-clause-ok
-returns-clause-ok c =
+pub returns : goal.returns
+returns c =
     let w = world_of c.args.self.now in
     let p = c.in-Worker.pool in
     let i = c.in-Worker.index in
@@ -33,4 +38,4 @@ returns-clause-ok c =
     let there : x ≡ (w.stack (Worker p i)).top = c.top-place.ensures ∙ ap (λ r. (w.stack r).top) c.in-Worker.is in
     let victim : victim_of x ≡ Some v = sym c.victim.ensures ∙ c.in-Some.is in
     let move : c.next-step.result ≡ next_of (w.shape.pool p) (Worker p i) x Missing = c.next-step.ensures ∙ ap (λ s. next_of s q x Missing) shape_there ∙ ap (λ r. next_of (w.shape.pool p) r x Missing) c.in-Worker.is in
-    rw c.in-Worker.is (on_ok_weaker c.turn.result (λ done. missed-turn w (world_of c.turn.new.self) p i v x c.next-step.result there victim can move done) c.turn.ensures.ok)
+    rw c.in-Worker.is (made-is (missed-turn w p i v x c.next-step.result there victim can move) c.turn.ensures)

@@ -1,4 +1,5 @@
 // Pools.
+ghost use Rattle.rayon_registry.specs.Answers.{InstallAnswers, JoinAnswers};
 ghost use Rattle.std.specs.Arc.{arc_value};
 ghost use Rattle.std.specs.Prelude.{◌≡◌, ◌⊎◌, ◌<◌, ℕ, Result, Ok, Err, IfOk};
 
@@ -78,9 +79,7 @@ impl<J: JobKind> ThreadPool<J> {
         alloc: Global,
         job: J,
     ) -> Result<J::Output, CallError<J::Fault, J>>
-        ensures ok { IfOk result (λ x. J.answers (J.tag_of job) (Ok x)) }
-        ensures fault { (f : _) → result ≡ Err (CallError.Fault f) → J.answers (J.tag_of job) (Err f) }
-        ensures back { (r : _) (j : _) → result ≡ Err (CallError.Refused r j) → j ≡ job }
+        ensures answers { InstallAnswers (λ r. J.answers (J.tag_of job) r) job result }
         ensures shallow { (j : _) → result ≡ Err (CallError.Refused Refusal.TooDeep j) → ⊥ }
     {
         self.registry.install(rt, alloc, job)
@@ -96,10 +95,9 @@ impl<J: JobKind> ThreadPool<J> {
         a: J,
         b: J,
     ) -> Result<(J::Output, J::Output), CallError<J::Fault, (J, J)>>
-        ensures ok { IfOk result (λ r. J.answers (J.tag_of a) (Ok r.0) × J.answers (J.tag_of b) (Ok r.1)) }
-        ensures fault { (f : _) → result ≡ Err (CallError.Fault f) → J.answers (J.tag_of a) (Err f) ⊎ (((x : _) × J.answers (J.tag_of a) (Ok x)) × J.answers (J.tag_of b) (Err f)) }
-        ensures back { (r : _) (sides : _) → result ≡ Err (CallError.Refused r sides) → sides ≡ (a, b) }
-        ensures deep { (sides : _) → result ≡ Err (CallError.Refused Refusal.TooDeep sides) → self.now.depth_limit < 2 }
+        ensures answers { JoinAnswers (λ r. J.answers (J.tag_of a) r) (λ r. J.answers (J.tag_of b) r) (a, b) result }
+        ensures deep { self.now.depth_limit < 2 → (r : _) × (result ≡ Err (CallError.Refused r (a, b))) }
+        ensures shallow { (sides : _) → result ≡ Err (CallError.Refused Refusal.TooDeep sides) → self.now.depth_limit < 2 }
     {
         self.registry.join(rt, alloc, a, b)
     }
@@ -112,10 +110,9 @@ impl<J: JobKind> ThreadPool<J> {
         a: J,
         b: J,
     ) -> Result<(J::Output, J::Output), CallError<J::Fault, (J, J)>>
-        ensures ok { IfOk result (λ r. J.answers (J.tag_of a) (Ok r.0) × J.answers (J.tag_of b) (Ok r.1)) }
-        ensures fault { (f : _) → result ≡ Err (CallError.Fault f) → J.answers (J.tag_of a) (Err f) ⊎ (((x : _) × J.answers (J.tag_of a) (Ok x)) × J.answers (J.tag_of b) (Err f)) }
-        ensures back { (r : _) (sides : _) → result ≡ Err (CallError.Refused r sides) → sides ≡ (a, b) }
-        ensures deep { (sides : _) → result ≡ Err (CallError.Refused Refusal.TooDeep sides) → self.now.depth_limit < 2 }
+        ensures answers { JoinAnswers (λ r. J.answers (J.tag_of a) r) (λ r. J.answers (J.tag_of b) r) (a, b) result }
+        ensures deep { self.now.depth_limit < 2 → (r : _) × (result ≡ Err (CallError.Refused r (a, b))) }
+        ensures shallow { (sides : _) → result ≡ Err (CallError.Refused Refusal.TooDeep sides) → self.now.depth_limit < 2 }
     {
         self.join(rt, alloc, a, b)
     }

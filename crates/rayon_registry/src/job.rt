@@ -1,5 +1,6 @@
 // Jobs, and the handle by which they wait and run further jobs.
-ghost use Rattle.std.specs.Prelude.{◌≡◌, ℕ, ◌<◌, ◌≤◌, Result};
+ghost use Rattle.rayon_registry.specs.Worker.{SameWorker};
+ghost use Rattle.std.specs.Prelude.{◌≡◌, ℕ, ◌<◌, ◌≤◌, ◌-◌, Result};
 
 use crate::context::{BroadcastContext, FnContext};
 use crate::join::PairRun;
@@ -14,7 +15,7 @@ pub trait Waits<J: JobKind>: Wait {
     /// The most levels that a worker value beside this handle may have.
     ghost levels: { Self → ℕ };
 
-    /// Runs a job at once, and lends it the worker value with one level fewer.
+    /// Runs a job at once, and lends it the worker value with exactly one level fewer.
     fn run_job(
         &self,
         alloc: Global,
@@ -25,16 +26,17 @@ pub trait Waits<J: JobKind>: Wait {
         requires some { 0 < w.old.levels }
         requires levels { w.old.levels ≤ levels self.now }
         ensures answer { J.answers (J.tag_of job) result }
-        ensures id { w.new.id ≡ w.old.id }
-        ensures level { w.new.levels ≡ w.old.levels };
+        ensures lent { J.answers_at job (w.old.levels - 1) result }
+        ensures same { SameWorker w.old w.new };
 
     /// Joins two sides that an outside caller sent, as one run: it is lent the worker value with one level fewer, and
     /// lends it to each side with one level fewer still. Where that join is refused the sides run one after the other.
+    /// What the first side's run gave stands first.
     fn run_pair(&self, alloc: Global, w: &mut WorkerThread<J>, first: J, second: J) -> PairRun<J>
         requires some { 1 < w.old.levels }
         requires levels { w.old.levels ≤ levels self.now }
-        ensures id { w.new.id ≡ w.old.id }
-        ensures level { w.new.levels ≡ w.old.levels };
+        ensures first { (result.first.tag ≡ J.tag_of first) × J.answers_at first (w.old.levels - 2) result.first.answer }
+        ensures same { SameWorker w.old w.new };
 }
 
 /// A job of a pool: what its runs do. Each implementation proves that they meet the job's relations for every worker
@@ -50,8 +52,8 @@ pub trait Job: JobKind {
     ) -> Result<Self::Output, Self::Fault>
         requires levels { w.old.levels ≤ R.levels rt.now }
         ensures answer { Self.answers (Self.tag_of self) result }
-        ensures id { w.new.id ≡ w.old.id }
-        ensures level { w.new.levels ≡ w.old.levels };
+        ensures lent { Self.answers_at self w.old.levels result }
+        ensures same { SameWorker w.old w.new };
 
     /// Runs the worker's piece of a broadcast of the job.
     fn run_on<R: Waits<Self>>(
@@ -63,6 +65,5 @@ pub trait Job: JobKind {
     ) -> Result<Self::Output, Self::Fault>
         requires levels { w.old.levels ≤ R.levels rt.now }
         ensures answer { Self.answers_on Self.answers (Self.tag_of self.now) ctx.old.index ctx.old.workers result }
-        ensures id { w.new.id ≡ w.old.id }
-        ensures level { w.new.levels ≡ w.old.levels };
+        ensures same { SameWorker w.old w.new };
 }

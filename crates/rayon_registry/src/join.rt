@@ -1,7 +1,8 @@
 // Two sides on one worker value.
-ghost use Rattle.rayon_registry.specs.Answers.{joined};
+ghost use Rattle.rayon_registry.specs.Answers.{joined, JoinAnswers};
+ghost use Rattle.rayon_registry.specs.Worker.{SameWorker};
 ghost use Rattle.rayon_jobs.specs.Claims.{claim};
-ghost use Rattle.std.specs.Prelude.{◌≡◌, ◌⊎◌, ℕ, ◌≤◌, ◌<◌, [], ◌∷◌, ◌++◌, Bool, Result, Ok, Err, IfOk, IfErr, suc};
+ghost use Rattle.std.specs.Prelude.{◌≡◌, ◌⊎◌, ℕ, ◌≤◌, ◌<◌, [], ◌∷◌, ◌++◌, ◌-◌, Bool, Result, Ok, Err, IfOk, IfErr, suc};
 
 use crate::answers::join_answer;
 use crate::context::{Context, FnContext, Scope};
@@ -11,6 +12,7 @@ use crate::worker_thread::WorkerThread;
 use rayon_jobs::{Done, JobKind, Lost, SecondSide, Task, Ticket, claimed};
 use rayon_words::{CallError, Refusal};
 use std::alloc::Global;
+use std::marker::Model;
 use std::sync::Wait;
 
 /// What the two sides of a join that was sent to a pool gave.
@@ -18,6 +20,14 @@ use std::sync::Wait;
 pub struct PairRun<J: JobKind> {
     pub(crate) first: Done<J>,
     pub(crate) second: Option<Done<J>>,
+}
+
+impl<J: JobKind> Model for PairRun<J> {
+    ghost use Rattle.rayon_registry.specs.Worker.{PairOfRuns};
+
+    ghost Value = { PairOfRuns J.Tag J.Output J.Fault };
+
+    ghost view = { λ p. record { first = p.first; second = p.second } };
 }
 
 /// A second side that was pushed. It has no `Drop`: the join has to be finished.
@@ -29,7 +39,7 @@ pub struct Fork<J: JobKind> {
 }
 
 impl<J: JobKind> WorkerThread<J> {
-    /// Runs two jobs, each with one level fewer, and answers both outputs. Refused `TooDeep` exactly where no level is
+    /// Runs two jobs, the first with exactly one level fewer, and answers both outputs. Refused `TooDeep` exactly where no level is
     /// left, `Ended`, `Full`, `NoRoom`, with the sides back and the worker value unchanged, and neither has run.
     pub fn join_jobs<R: Waits<J>>(
         &mut self,
@@ -39,15 +49,12 @@ impl<J: JobKind> WorkerThread<J> {
         b: J,
     ) -> Result<(J::Output, J::Output), CallError<J::Fault, (J, J)>>
         requires levels { self.old.levels ≤ R.levels rt.now }
-        ensures ok { IfOk result (λ r. J.answers (J.tag_of a) (Ok r.0) × J.answers (J.tag_of b) (Ok r.1)) }
-        ensures fault { (f : _) → result ≡ Err (CallError.Fault f) → J.answers (J.tag_of a) (Err f) ⊎ (((x : _) × J.answers (J.tag_of a) (Ok x)) × J.answers (J.tag_of b) (Err f)) }
+        ensures answers { JoinAnswers (λ r. J.answers (J.tag_of a) r × J.answers_at a (self.old.levels - 1) r) (λ r. J.answers (J.tag_of b) r) (a, b) result }
         ensures lost { (result ≡ Err CallError.Missing) ⊎ (result ≡ Err CallError.Foreign) → (x : _) × J.answers (J.tag_of a) (Ok x) }
-        ensures back { (r : _) (sides : _) → result ≡ Err (CallError.Refused r sides) → sides ≡ (a, b) }
         ensures kept { (r : _) (sides : _) → result ≡ Err (CallError.Refused r sides) → self.new ≡ self.old }
         ensures deep { self.old.levels ≡ 0 → result ≡ Err (CallError.Refused Refusal.TooDeep (a, b)) }
         ensures shallow { (sides : _) → result ≡ Err (CallError.Refused Refusal.TooDeep sides) → self.old.levels ≡ 0 }
-        ensures id { self.new.id ≡ self.old.id }
-        ensures level { self.new.levels ≡ self.old.levels }
+        ensures same { SameWorker self.old self.new }
     {
         let fork = match self.fork(rt, alloc, b, false) {
             Ok(fork) => fork,
@@ -145,8 +152,7 @@ impl<J: JobKind> WorkerThread<J> {
         requires some { 0 < self.old.levels }
         requires levels { self.old.levels ≤ R.levels rt.now }
         ensures tag { result.1 ≡ fork.tag }
-        ensures id { self.new.id ≡ self.old.id }
-        ensures level { self.new.levels ≡ self.old.levels }
+        ensures same { SameWorker self.old self.new }
     {
         let Fork {
             hold,
@@ -174,8 +180,7 @@ impl<J: JobKind> WorkerThread<J> {
     ) -> Option<Done<J>>
         requires some { 0 < self.old.levels }
         requires levels { self.old.levels ≤ R.levels rt.now }
-        ensures id { self.new.id ≡ self.old.id }
-        ensures level { self.new.levels ≡ self.old.levels }
+        ensures same { SameWorker self.old self.new }
     {
         for _ in rt.forever() {
             if ticket.probe(rt) {
@@ -209,8 +214,8 @@ impl<J: JobKind> WorkerThread<J> {
     ) -> PairRun<J>
         requires some { 0 < self.old.levels }
         requires levels { self.old.levels ≤ R.levels rt.now }
-        ensures id { self.new.id ≡ self.old.id }
-        ensures level { self.new.levels ≡ self.old.levels }
+        ensures first { (result.first.tag ≡ J.tag_of first) × J.answers_at first (self.old.levels - 1) result.first.answer }
+        ensures same { SameWorker self.old self.new }
     {
         match self.fork(rt, alloc, second, true) {
             Ok(fork) => {
@@ -236,8 +241,8 @@ impl<J: JobKind> WorkerThread<J> {
     ) -> PairRun<J>
         requires some { 0 < self.old.levels }
         requires levels { self.old.levels ≤ R.levels rt.now }
-        ensures id { self.new.id ≡ self.old.id }
-        ensures level { self.new.levels ≡ self.old.levels }
+        ensures first { (result.first.tag ≡ J.tag_of first) × J.answers_at first (self.old.levels - 1) result.first.answer }
+        ensures same { SameWorker self.old self.new }
     {
         let first = self.run_to_done(rt, alloc, first, true);
         let second = self.run_to_done(rt, alloc, second, true);
@@ -351,11 +356,8 @@ pub trait ForkJoin<J: JobKind>: Sides<J> {
         requires levels { Self.height self.old ≤ R.levels rt.now }
         requires callable { (w : _) (ctx : _) → suc (Self.height w.now) ≡ Self.height self.old → Self.id w.now ≡ Self.id self.old → A.pre a w ctx }
         requires keeps { (w : _) (ctx : _) (r : _) (v : _) (k : _) → A.post a w ctx r v k → (Self.height v.now ≡ Self.height w.now) × (Self.id v.now ≡ Self.id w.now) }
-        ensures first { IfOk result (λ r. (w : _) × (ctx : _) × (v : _) × (k : _) × A.post a w ctx (Ok r.0) v k) }
-        ensures second { IfOk result (λ r. J.answers (J.tag_of b) (Ok r.1)) }
-        ensures fault { (f : _) → result ≡ Err (CallError.Fault f) → ((w : _) × (ctx : _) × (v : _) × (k : _) × A.post a w ctx (Err f) v k) ⊎ (((x : _) × (w : _) × (ctx : _) × (v : _) × (k : _) × A.post a w ctx (Ok x) v k) × J.answers (J.tag_of b) (Err f)) }
+        ensures answers { JoinAnswers (λ r. (w : _) × (ctx : _) × (v : _) × (k : _) × A.post a w ctx r v k) (λ r. J.answers (J.tag_of b) r) (a, b) result }
         ensures lost { (result ≡ Err CallError.Missing) ⊎ (result ≡ Err CallError.Foreign) → (x : _) × (w : _) × (ctx : _) × (v : _) × (k : _) × A.post a w ctx (Ok x) v k }
-        ensures back { (r : _) (sides : _) → result ≡ Err (CallError.Refused r sides) → sides ≡ (a, b) }
         ensures kept { (r : _) (sides : _) → result ≡ Err (CallError.Refused r sides) → self.new ≡ self.old }
         ensures deep { Self.height self.old ≡ 0 → result ≡ Err (CallError.Refused Refusal.TooDeep (a, b)) }
         ensures shallow { (sides : _) → result ≡ Err (CallError.Refused Refusal.TooDeep sides) → Self.height self.old ≡ 0 }
@@ -386,11 +388,8 @@ pub trait ForkJoin<J: JobKind>: Sides<J> {
         requires levels { Self.height self.old ≤ R.levels rt.now }
         requires callable { (w : _) (ctx : _) → suc (Self.height w.now) ≡ Self.height self.old → Self.id w.now ≡ Self.id self.old → A.pre a w ctx }
         requires keeps { (w : _) (ctx : _) (r : _) (v : _) (k : _) → A.post a w ctx r v k → (Self.height v.now ≡ Self.height w.now) × (Self.id v.now ≡ Self.id w.now) }
-        ensures first { IfOk result (λ r. (w : _) × (ctx : _) × (v : _) × (k : _) × A.post a w ctx (Ok r.0) v k) }
-        ensures second { IfOk result (λ r. J.answers (J.tag_of b) (Ok r.1)) }
-        ensures fault { (f : _) → result ≡ Err (CallError.Fault f) → ((w : _) × (ctx : _) × (v : _) × (k : _) × A.post a w ctx (Err f) v k) ⊎ (((x : _) × (w : _) × (ctx : _) × (v : _) × (k : _) × A.post a w ctx (Ok x) v k) × J.answers (J.tag_of b) (Err f)) }
+        ensures answers { JoinAnswers (λ r. (w : _) × (ctx : _) × (v : _) × (k : _) × A.post a w ctx r v k) (λ r. J.answers (J.tag_of b) r) (a, b) result }
         ensures lost { (result ≡ Err CallError.Missing) ⊎ (result ≡ Err CallError.Foreign) → (x : _) × (w : _) × (ctx : _) × (v : _) × (k : _) × A.post a w ctx (Ok x) v k }
-        ensures back { (r : _) (sides : _) → result ≡ Err (CallError.Refused r sides) → sides ≡ (a, b) }
         ensures kept { (r : _) (sides : _) → result ≡ Err (CallError.Refused r sides) → self.new ≡ self.old }
         ensures deep { Self.height self.old ≡ 0 → result ≡ Err (CallError.Refused Refusal.TooDeep (a, b)) }
         ensures shallow { (sides : _) → result ≡ Err (CallError.Refused Refusal.TooDeep sides) → Self.height self.old ≡ 0 }

@@ -1,6 +1,7 @@
 // The number of levels by which a run that calls further runs is shown to end. None of this is open to users: what they
 // are lent is a handle that `Waits`, and each run that it makes lends the worker value with one level fewer.
-ghost use Rattle.std.specs.Prelude.{◌≡◌, ℕ, ◌<◌, ◌≤◌, Result};
+ghost use Rattle.rayon_registry.specs.Worker.{SameWorker};
+ghost use Rattle.std.specs.Prelude.{◌≡◌, ℕ, ◌<◌, ◌≤◌, ◌-◌, Result};
 
 use crate::context::FnContext;
 use crate::job::{Job, Waits};
@@ -43,48 +44,54 @@ impl Level {
     }
 }
 
-/// What a run of a job may answer, over the types of its worker value `W` and of its answer `O`.
-pub trait Meaning<W, O> {
-    /// Whether the job may answer this.
-    ghost may: { Self → O → Type 0 };
+/// What the runs of jobs may answer, over the types of their worker value `W`, of a job's answer `O` and of a pair's `P`.
+/// The relations are the bound's own to the functions below, so none of them can meet one but by a run that is lent as
+/// many levels as the relation says.
+pub trait Meaning<W, O, P> {
+    /// Whether the job may answer this where its worker value has so many levels.
+    ghost may: { Self → ℕ → O → Type 0 };
+
+    /// Whether a pair of which this is the first side may give this where its worker value has so many levels.
+    ghost may_pair: { Self → ℕ → P → Type 0 };
 
     /// The levels of a worker value.
     ghost height: { W → ℕ };
 
-    /// The pool's number and the index of a worker value.
-    ghost id: { W → ℕ × ℕ };
+    /// Whether the second is a value of the same worker with as many levels.
+    ghost same: { W → W → Type 0 };
 }
 
-impl<J: JobKind> Meaning<WorkerThread<J>, Result<J::Output, J::Fault>> for J {
-    ghost may = { λ j r. J.answers (J.tag_of j) r };
+impl<J: JobKind> Meaning<WorkerThread<J>, Result<J::Output, J::Fault>, PairRun<J>> for J {
+    ghost may = { λ j n r. J.answers (J.tag_of j) r × J.answers_at j n r };
+
+    ghost may_pair = { λ j n p. (p.first.tag ≡ J.tag_of j) × J.answers_at j (n - 1) p.first.answer };
 
     ghost height = { λ w. w.levels };
 
-    ghost id = { λ w. (w.id.pool.number, w.id.index) };
+    ghost same = { λ v w. SameWorker v w };
 }
 
 /// What runs a job, or a pair of sides, that the worker value is lent to.
-pub trait Runs<J: Meaning<W, O>, W, C, O, P> {
+pub trait Runs<J: Meaning<W, O, P>, W, C, O, P> {
     /// The levels that are left.
     ghost left: { Self → ℕ };
 
     /// Runs a job.
     fn run_below<R: Wait>(&self, rt: &R, alloc: Global, w: &mut W, job: J, ctx: &mut C) -> O
         requires { J.height w.old < left self.now }
-        ensures may { J.may job result }
-        ensures height { J.height w.new ≡ J.height w.old }
-        ensures id { J.id w.new ≡ J.id w.old };
+        ensures may { J.may job (J.height w.old) result }
+        ensures same { J.same w.old w.new };
 
     /// Joins a pair of sides.
     fn run_pair_below<R: Wait>(&self, rt: &R, alloc: Global, w: &mut W, first: J, second: J) -> P
         requires some { 0 < J.height w.old }
         requires below { J.height w.old < left self.now }
-        ensures height { J.height w.new ≡ J.height w.old }
-        ensures id { J.id w.new ≡ J.id w.old };
+        ensures may { J.may_pair first (J.height w.old) result }
+        ensures same { J.same w.old w.new };
 }
 
 /// What can be run at any level.
-pub trait Start<W, C, O, P>: Meaning<W, O> {
+pub trait Start<W, C, O, P>: Meaning<W, O, P> {
     /// Runs the job.
     fn start<R: Wait, L: Runs<Self, W, C, O, P>>(
         self,
@@ -95,9 +102,8 @@ pub trait Start<W, C, O, P>: Meaning<W, O> {
         ctx: &mut C,
     ) -> O
         requires { Self.height w.old ≤ L.left level.now }
-        ensures may { Self.may self result }
-        ensures height { Self.height w.new ≡ Self.height w.old }
-        ensures id { Self.id w.new ≡ Self.id w.old };
+        ensures may { Self.may self (Self.height w.old) result }
+        ensures same { Self.same w.old w.new };
 
     /// Joins this first side and a second one.
     fn start_pair<R: Wait, L: Runs<Self, W, C, O, P>>(
@@ -110,8 +116,8 @@ pub trait Start<W, C, O, P>: Meaning<W, O> {
     ) -> P
         requires some { 0 < Self.height w.old }
         requires below { Self.height w.old ≤ L.left level.now }
-        ensures height { Self.height w.new ≡ Self.height w.old }
-        ensures id { Self.id w.new ≡ Self.id w.old };
+        ensures may { Self.may_pair self (Self.height w.old) result }
+        ensures same { Self.same w.old w.new };
 }
 
 // The step from a bound's method to a call that the recursion can name.
@@ -124,9 +130,8 @@ fn start_at<J: Start<W, C, O, P>, W, C, O, P, R: Wait, L: Runs<J, W, C, O, P>>(
     ctx: &mut C,
 ) -> O
     requires { J.height w.old ≤ L.left level.now }
-    ensures may { J.may job result }
-    ensures height { J.height w.new ≡ J.height w.old }
-    ensures id { J.id w.new ≡ J.id w.old }
+    ensures may { J.may job (J.height w.old) result }
+    ensures same { J.same w.old w.new }
 {
     job.start(rt, level, alloc, w, ctx)
 }
@@ -142,8 +147,8 @@ fn start_pair_at<J: Start<W, C, O, P>, W, C, O, P, R: Wait, L: Runs<J, W, C, O, 
 ) -> P
     requires some { 0 < J.height w.old }
     requires below { J.height w.old ≤ L.left level.now }
-    ensures height { J.height w.new ≡ J.height w.old }
-    ensures id { J.id w.new ≡ J.id w.old }
+    ensures may { J.may_pair first (J.height w.old) result }
+    ensures same { J.same w.old w.new }
 {
     first.start_pair(second, rt, level, alloc, w)
 }

@@ -1,5 +1,5 @@
 // What the threads of a pool share, and the calls that are made on a pool from outside.
-ghost use Rattle.rayon_registry.specs.Answers.{joined_pair};
+ghost use Rattle.rayon_registry.specs.Answers.{joined_pair, InstallAnswers, JoinAnswers};
 ghost use Rattle.std.specs.Arc.{arc_value};
 ghost use Rattle.std.specs.Prelude.{◌≡◌, ◌⊎◌, ◌<◌, ℕ, [], max, Result, Ok, Err, IfOk, IfErr};
 
@@ -125,9 +125,7 @@ impl<J: JobKind> Registry<J> {
         alloc: Global,
         job: J,
     ) -> Result<J::Output, CallError<J::Fault, J>>
-        ensures ok { IfOk result (λ x. J.answers (J.tag_of job) (Ok x)) }
-        ensures fault { (f : _) → result ≡ Err (CallError.Fault f) → J.answers (J.tag_of job) (Err f) }
-        ensures back { (r : _) (j : _) → result ≡ Err (CallError.Refused r j) → j ≡ job }
+        ensures answers { InstallAnswers (λ r. J.answers (J.tag_of job) r) job result }
         ensures shallow { (j : _) → result ≡ Err (CallError.Refused Refusal.TooDeep j) → ⊥ }
     {
         let hold = match self.increment_terminate_count(rt) {
@@ -147,9 +145,7 @@ impl<J: JobKind> Registry<J> {
         hold: &TerminateHold,
         job: J,
     ) -> Result<J::Output, CallError<J::Fault, J>>
-        ensures ok { IfOk result (λ x. J.answers (J.tag_of job) (Ok x)) }
-        ensures fault { (f : _) → result ≡ Err (CallError.Fault f) → J.answers (J.tag_of job) (Err f) }
-        ensures back { (r : _) (j : _) → result ≡ Err (CallError.Refused r j) → j ≡ job }
+        ensures answers { InstallAnswers (λ r. J.answers (J.tag_of job) r) job result }
         ensures shallow { (j : _) → result ≡ Err (CallError.Refused Refusal.TooDeep j) → ⊥ }
     {
         let tag = job.tag();
@@ -191,10 +187,9 @@ impl<J: JobKind> Registry<J> {
         a: J,
         b: J,
     ) -> Result<(J::Output, J::Output), CallError<J::Fault, (J, J)>>
-        ensures ok { IfOk result (λ r. J.answers (J.tag_of a) (Ok r.0) × J.answers (J.tag_of b) (Ok r.1)) }
-        ensures fault { (f : _) → result ≡ Err (CallError.Fault f) → J.answers (J.tag_of a) (Err f) ⊎ (((x : _) × J.answers (J.tag_of a) (Ok x)) × J.answers (J.tag_of b) (Err f)) }
-        ensures back { (r : _) (sides : _) → result ≡ Err (CallError.Refused r sides) → sides ≡ (a, b) }
-        ensures deep { (sides : _) → result ≡ Err (CallError.Refused Refusal.TooDeep sides) → self.now.depth_limit < 2 }
+        ensures answers { JoinAnswers (λ r. J.answers (J.tag_of a) r) (λ r. J.answers (J.tag_of b) r) (a, b) result }
+        ensures deep { self.now.depth_limit < 2 → (r : _) × (result ≡ Err (CallError.Refused r (a, b))) }
+        ensures shallow { (sides : _) → result ≡ Err (CallError.Refused Refusal.TooDeep sides) → self.now.depth_limit < 2 }
     {
         let hold = match self.increment_terminate_count(rt) {
             Ok(hold) => hold,
@@ -214,10 +209,9 @@ impl<J: JobKind> Registry<J> {
         a: J,
         b: J,
     ) -> Result<(J::Output, J::Output), CallError<J::Fault, (J, J)>>
-        ensures ok { IfOk result (λ r. J.answers (J.tag_of a) (Ok r.0) × J.answers (J.tag_of b) (Ok r.1)) }
-        ensures fault { (f : _) → result ≡ Err (CallError.Fault f) → J.answers (J.tag_of a) (Err f) ⊎ (((x : _) × J.answers (J.tag_of a) (Ok x)) × J.answers (J.tag_of b) (Err f)) }
-        ensures back { (r : _) (sides : _) → result ≡ Err (CallError.Refused r sides) → sides ≡ (a, b) }
-        ensures deep { (sides : _) → result ≡ Err (CallError.Refused Refusal.TooDeep sides) → self.now.depth_limit < 2 }
+        ensures answers { JoinAnswers (λ r. J.answers (J.tag_of a) r) (λ r. J.answers (J.tag_of b) r) (a, b) result }
+        ensures deep { self.now.depth_limit < 2 → (r : _) × (result ≡ Err (CallError.Refused r (a, b))) }
+        ensures shallow { (sides : _) → result ≡ Err (CallError.Refused Refusal.TooDeep sides) → self.now.depth_limit < 2 }
     {
         let tags = (a.tag(), b.tag());
         match self.send_pair(rt, alloc, hold, a, b) {
@@ -240,7 +234,7 @@ impl<J: JobKind> Registry<J> {
     ) -> Result<Arc<PairReply<J>, Global>, (Refusal, (J, J))>
         ensures sent { IfOk result (λ _. 1 < self.now.depth_limit) }
         ensures back { IfErr result (λ e. e.1 ≡ (a, b)) }
-        ensures deep { IfErr result (λ e. e.0 ≡ Refusal.TooDeep → self.now.depth_limit < 2) }
+        ensures shallow { IfErr result (λ e. e.0 ≡ Refusal.TooDeep → self.now.depth_limit < 2) }
     {
         let Ok(reply) = PairReply::new(alloc) else {
             return Err((Refusal::NoRoom, (a, b)));

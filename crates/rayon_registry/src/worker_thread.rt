@@ -1,6 +1,8 @@
 // The value that stands for a worker.
+ghost use Rattle.rayon_registry.specs.Answers.{InstallAnswers};
+ghost use Rattle.rayon_registry.specs.Worker.{SameWorker};
 ghost use Rattle.std.specs.Arc.{arc_value};
-ghost use Rattle.std.specs.Prelude.{◌≡◌, ◌⊎◌, ℕ, [], ◌∷◌, ◌++◌, ◌<◌, ◌≤◌, ◌↔◌, IsTrue, List, Result, Ok, Err, IfOk, IfSome, IfNone, IfErr, MatchResult, None};
+ghost use Rattle.std.specs.Prelude.{◌≡◌, ◌⊎◌, ℕ, [], ◌∷◌, ◌++◌, ◌-◌, ◌<◌, ◌≤◌, ◌↔◌, IsTrue, List, Result, Ok, Err, IfOk, IfSome, IfNone, IfErr, MatchResult, None};
 
 use crate::context::FnContext;
 use crate::ids::{IdSource, WorkerId};
@@ -149,7 +151,7 @@ impl<J: JobKind> WorkerThread<J> {
         }
     }
 
-    /// Runs a job at once. Refused `TooDeep` exactly where no level is left, `Ended`, `Full`, with the job back and the
+    /// Runs a job at once, with exactly one level fewer. Refused `TooDeep` exactly where no level is left, `Ended`, `Full`, with the job back and the
     /// worker value unchanged. It is never `Foreign` or `Missing`.
     pub fn install<R: Waits<J>>(
         &mut self,
@@ -158,16 +160,13 @@ impl<J: JobKind> WorkerThread<J> {
         job: J,
     ) -> Result<J::Output, CallError<J::Fault, J>>
         requires levels { self.old.levels ≤ R.levels rt.now }
-        ensures ok { IfOk result (λ x. J.answers (J.tag_of job) (Ok x)) }
-        ensures fault { (f : _) → result ≡ Err (CallError.Fault f) → J.answers (J.tag_of job) (Err f) }
-        ensures back { (r : _) (j : _) → result ≡ Err (CallError.Refused r j) → j ≡ job }
+        ensures answers { InstallAnswers (λ r. J.answers (J.tag_of job) r × J.answers_at job (self.old.levels - 1) r) job result }
         ensures kept { (r : _) (j : _) → result ≡ Err (CallError.Refused r j) → self.new ≡ self.old }
         ensures deep { self.old.levels ≡ 0 → result ≡ Err (CallError.Refused Refusal.TooDeep job) }
         ensures shallow { (j : _) → result ≡ Err (CallError.Refused Refusal.TooDeep j) → self.old.levels ≡ 0 }
         ensures room { (j : _) → result ≡ Err (CallError.Refused Refusal.NoRoom j) → ⊥ }
         ensures found { (result ≡ Err CallError.Foreign → ⊥) × (result ≡ Err CallError.Missing → ⊥) }
-        ensures id { self.new.id ≡ self.old.id }
-        ensures level { self.new.levels ≡ self.old.levels }
+        ensures same { SameWorker self.old self.new }
     {
         if self.levels == 0 {
             return Err(CallError::Refused(Refusal::TooDeep, job));
@@ -193,8 +192,7 @@ impl<J: JobKind> WorkerThread<J> {
     ) -> Result<(), Refusal>
         requires levels { self.old.levels ≤ R.levels rt.now }
         ensures refused { MatchResult result (λ _. 0 < self.old.levels) (λ r. (r ≡ Refusal.TooDeep) × (self.old.levels ≡ 0) × (self.new ≡ self.old)) }
-        ensures id { self.new.id ≡ self.old.id }
-        ensures level { self.new.levels ≡ self.old.levels }
+        ensures same { SameWorker self.old self.new }
     {
         if self.levels == 0 {
             return Err(Refusal::TooDeep);
@@ -212,8 +210,7 @@ impl<J: JobKind> WorkerThread<J> {
     )
         requires some { 0 < self.old.levels }
         requires levels { self.old.levels ≤ R.levels rt.now }
-        ensures id { self.new.id ≡ self.old.id }
-        ensures level { self.new.levels ≡ self.old.levels }
+        ensures same { SameWorker self.old self.new }
     {
         for _ in rt.forever() {
             if latch.probe(rt) {
@@ -231,8 +228,7 @@ impl<J: JobKind> WorkerThread<J> {
     pub(crate) fn execute<R: Waits<J>>(&mut self, rt: &R, alloc: Global, task: Task<J>)
         requires some { 0 < self.old.levels }
         requires levels { self.old.levels ≤ R.levels rt.now }
-        ensures id { self.new.id ≡ self.old.id }
-        ensures level { self.new.levels ≡ self.old.levels }
+        ensures same { SameWorker self.old self.new }
     {
         match task {
             Task::Job(Installed { job, reply }) => {
@@ -280,8 +276,8 @@ impl<J: JobKind> WorkerThread<J> {
         requires levels { self.old.levels ≤ R.levels rt.now }
         ensures tag { result.tag ≡ J.tag_of job }
         ensures place { result.place ≡ None }
-        ensures id { self.new.id ≡ self.old.id }
-        ensures level { self.new.levels ≡ self.old.levels }
+        ensures lent { J.answers_at job (self.old.levels - 1) result.answer }
+        ensures same { SameWorker self.old self.new }
     {
         let tag = job.tag();
         let answer = rt.run_job(alloc, self, job, &mut FnContext::new(migrated));

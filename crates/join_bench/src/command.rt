@@ -1,4 +1,4 @@
-// What the program is asked to do.
+//! What the words of the command line ask for.
 ghost use Rattle.join_bench.specs.Words.{AsksFor, AskForNothing};
 ghost use Rattle.std.specs.Prelude.{IfSome, IfNone, map, string_bytes};
 

@@ -1,14 +1,13 @@
-// Times the calls of a pool of one worker, for `bench/run`. With no arguments it prints values alone.
+//! Times the calls of a pool of one worker, for `bench/run`. With no arguments it prints values alone.
 #![tactic(auto)]
 
 mod command;
-mod fib;
 mod measure;
 
 use crate::command::Command;
-use crate::fib::Fib;
 use crate::measure::run;
 use anyhow::{Result, bail};
+use fibonacci::Fib;
 use rayon_core::{Ids, ThreadPoolBuilder};
 use std::env;
 

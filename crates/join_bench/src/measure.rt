@@ -1,10 +1,10 @@
-// The commands: what is timed, and what is printed.
+//! The commands: what is timed, and what is printed.
 ghost use Rattle.std.specs.Prelude.{◌≡◌, ℕ, IfOk};
-ghost use Rattle.join_bench.specs.Fib.{fib};
+ghost use Rattle.fibonacci.specs.Fib.{fib};
 
 use crate::command::Command;
-use crate::fib::{Fib, FibFault, sequential};
-use anyhow::{Context, Result, bail};
+use anyhow::{Context, Result};
+use fibonacci::{Fib, sequential};
 use rayon_core::{CallError, ThreadPool};
 use std::alloc::Global;
 use std::rt::Runtime;
@@ -88,28 +88,24 @@ fn time_sequential<R: Runtime>(rt: &R, n: u8, times: u32) -> Result<()> {
 fn installed<R: Wait>(rt: &R, alloc: Global, pool: &ThreadPool<Fib>, n: u8) -> Result<u64>
     ensures { IfOk result (λ v. v ≡ fib n) }
 {
-    match pool.install(rt, alloc, Fib(n)) {
-        Ok(value) => Ok(value),
-        Err(CallError::Fault(fault)) => bail!("{fault}"),
-        Err(CallError::Refused(refusal, _)) => bail!("{refusal}"),
-        Err(_) => bail!("Lost"),
-    }
+    let value = pool
+        .install(rt, alloc, Fib(n))
+        .map_err(CallError::without_sides)?;
+    Ok(value)
 }
 
 // F(n) by a join of two sides from outside the pool.
-#[tactic(auto, using(crate::proofs::Fibs::fib_small, crate::proofs::Fibs::fib_step))]
+#[tactic(auto, using(fibonacci::proofs::Fibs::fib_small, fibonacci::proofs::Fibs::fib_sum))]
 fn joined<R: Wait>(rt: &R, alloc: Global, pool: &ThreadPool<Fib>, n: u8) -> Result<u64>
     ensures { IfOk result (λ v. v ≡ fib n) }
 {
     if n < 2 {
         return Ok(u64::from(n));
     }
-    match pool.join(rt, alloc, Fib(n - 1), Fib(n - 2)) {
-        Ok((x, y)) => x.checked_add(y).context("TooLarge"),
-        Err(CallError::Fault(fault)) => bail!("{fault}"),
-        Err(CallError::Refused(refusal, _)) => bail!("{refusal}"),
-        Err(_) => bail!("Lost"),
-    }
+    let (x, y) = pool
+        .join(rt, alloc, Fib(n - 1), Fib(n - 2))
+        .map_err(CallError::without_sides)?;
+    x.checked_add(y).context("TooLarge")
 }
 
 // F(n) by plain recursion.

@@ -1,7 +1,7 @@
 use Rattle.std.specs.Prelude.{◌≡◌, ℕ, ◌≤◌, List, [], ◌∷◌, ◌++◌, ⊤}
 use Rattle.std.specs.Str.Parse.{IsNumeral, digits_value, without_leading_plus}
 use Rattle.std.specs.Fmt.{decimal}
-use Rattle.rcore.specs.Fib.{fib}
+use Rattle.fibonacci.specs.Fib.{fib}
 use Rattle.rcore.specs.declared.command.Command.{Command}
 use Rattle.rcore.specs.declared.command.Command.TheVariants.{Fib, Replay}
 

@@ -1,6 +1,9 @@
-// What the words of a command line ask for.
+//! What the words of a command line ask for.
 ghost use Rattle.rcore.specs.Words.{AsksFor, AskForNothing};
 ghost use Rattle.std.specs.Prelude.{◌≡◌, ℕ, IfSome, IfNone, map, string_bytes};
+ghost use Rattle.std.specs.Vec.Iter.{into_iter_items};
+
+use std::env::Args;
 
 /// What is asked for.
 #[derive(Clone, Copy, Debug, PartialEq, Eq)]
@@ -24,20 +27,26 @@ const MAX_INDEX: u8 = 30;
 
 impl Command {
     /// The command that the words name. None where they name no command, or a number is not read or out of its range.
-    pub fn parse(words: &[String]) -> Option<Command>
-        ensures some { IfSome result (λ c. AsksFor (map string_bytes words.now) c) }
-        ensures none { IfNone result (AskForNothing (map string_bytes words.now)) }
+    pub fn parse(words: Args) -> Option<Command>
+        ensures some { IfSome result (λ c. AsksFor (map string_bytes (into_iter_items words)) c) }
+        ensures none { IfNone result (AskForNothing (map string_bytes (into_iter_items words))) }
     {
-        match words {
-            [name, workers, n] if name.as_str() == "fib" => {
-                let workers: usize = workers.parse().ok()?;
-                let n: u8 = n.parse().ok()?;
-                if !(1..=MAX_WORKERS).contains(&workers) || n > MAX_INDEX {
+        let mut words = words;
+        let name = words.next()?;
+        match name.as_str() {
+            "fib" => {
+                let workers: usize = words.next()?.parse().ok()?;
+                let n: u8 = words.next()?.parse().ok()?;
+                let in_range = (1..=MAX_WORKERS).contains(&workers) && n <= MAX_INDEX;
+                if !in_range || words.next().is_some() {
                     return None;
                 }
                 Some(Command::Fib { workers, n })
             }
-            [name] if name.as_str() == "replay" => Some(Command::Replay),
+            "replay" => match words.next() {
+                None => Some(Command::Replay),
+                Some(_) => None,
+            },
             _ => None,
         }
     }

@@ -2,32 +2,27 @@
 #![tactic(auto)]
 
 mod command;
-mod fib;
 mod replay;
 mod replay_command;
 mod replay_print;
 mod replay_text;
 mod run;
 
+use run::run_args;
 use std::env;
 use std::process::ExitCode;
 
 fn main(rt: HostRuntime) -> ExitCode {
     let alloc = rt.alloc();
-    let mut words: Vec<String> = Vec::new(alloc);
-    if let Ok(args) = env::args(&rt) {
-        for word in args.skip(1) {
-            if words.push(word).is_err() {
-                words.clear();
-                break;
-            }
-        }
-    }
+    let args = env::args(&rt);
     let mut out = rt.stdout();
     let mut err = rt.stderr();
-    ExitCode::from(run::run(&rt, alloc, &words, &mut rt.reader(), &mut out, &mut err))
+    let status = run_args(&rt, alloc, args, &mut rt.reader(), &mut out, &mut err);
+    ExitCode::from(status)
 }
 
+#[cfg(test)]
+mod refusal_tests;
 #[cfg(test)]
 mod replay_tests;
 #[cfg(test)]

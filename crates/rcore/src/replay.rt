@@ -1,4 +1,4 @@
-// A replay: the events of a text, one after the other, in one world.
+//! A replay: the events of a text, one after the other, in one world.
 use crate::replay_text::{read_line, read_start};
 use rayon_machine::error::{StartError, StepError};
 use rayon_machine::world::World;

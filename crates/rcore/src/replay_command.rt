@@ -1,4 +1,4 @@
-// The command replay.
+//! The command replay.
 ghost use Rattle.std.specs.Prelude.{◌≡◌};
 
 use crate::replay::{Replayed, replay};

@@ -1,4 +1,4 @@
-// The text of a world.
+//! The text of a world.
 use rayon_machine::act::Act;
 use rayon_machine::readers::{Next, WorkerState};
 use rayon_machine::world::World;

@@ -1,7 +1,8 @@
-// Replays over memory: the text, what is printed for it, and the status.
+//! Replays over memory: the text, what is printed for it, and the status.
 
 use crate::run::run;
 use std::alloc::{AllocError, Global};
+use std::env::Args;
 use std::io::{BufRead, Error, ErrorKind, Read, Result as IoResult};
 use std::process::Abort;
 use std::sync::Wait;
@@ -118,10 +119,10 @@ const REFUSED_LINES: [&str; 12] = [
 ];
 
 // The words that ask for a replay.
-fn replay_words(alloc: Global) -> Result<Vec<String>, AllocError> {
+fn replay_words(alloc: Global) -> Result<Args, AllocError> {
     let mut words = Vec::new(alloc);
     words.push(String::from_str(alloc, "replay")?)?;
-    Ok(words)
+    Ok(words.into_iter())
 }
 
 /// A reader that fails.
@@ -153,7 +154,7 @@ fn prints<R: Threads + Wait + Abort + Copy + Send + 'static>(
     let mut reader = text;
     let mut out: Vec<u8> = Vec::new(alloc);
     let mut err: Vec<u8> = Vec::new(alloc);
-    let status = run(rt, alloc, &words, &mut reader, &mut out, &mut err);
+    let status = run(rt, alloc, words, &mut reader, &mut out, &mut err);
     let refused = wanted.starts_with("refused");
     assert!(rt; out.as_slice() == wanted.as_bytes(), "{wanted}");
     assert_eq!(rt; status, u8::from(refused), "{wanted}");
@@ -197,7 +198,7 @@ fn failed_reads_and_writes(rt: HostRuntime) -> Result<(), Fail> {
     let mut reader = "start 0 1/0/l\n".as_bytes().chain(Broken);
     let mut out: Vec<u8> = Vec::new(alloc);
     let mut err: Vec<u8> = Vec::new(alloc);
-    let status = run(&rt, alloc, &words, &mut reader, &mut out, &mut err);
+    let status = run(&rt, alloc, words, &mut reader, &mut out, &mut err);
     assert_eq!(rt; status, 1);
     assert!(rt; out.is_empty());
     assert!(rt; err.as_slice() == "rcore: Read\n".as_bytes());
@@ -207,7 +208,8 @@ fn failed_reads_and_writes(rt: HostRuntime) -> Result<(), Fail> {
             let mut bytes = [0u8; 2];
             let mut out = &mut bytes[..room];
             let mut err: Vec<u8> = Vec::new(alloc);
-            let status = run(&rt, alloc, &words, &mut text.as_bytes(), &mut out, &mut err);
+            let words = replay_words(alloc)?;
+            let status = run(&rt, alloc, words, &mut text.as_bytes(), &mut out, &mut err);
             assert_eq!(rt; status, 1);
             assert!(rt; err.as_slice() == "rcore: Write\n".as_bytes());
         }

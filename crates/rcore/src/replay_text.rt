@@ -1,4 +1,4 @@
-// The lines of a replay: what a start line and an event line name.
+//! The lines of a replay: what a start line and an event line name.
 ghost use Rattle.std.specs.Fmt.{decimal};
 ghost use Rattle.std.specs.Prelude.{◌≡◌, ◌≢◌, ◌<◌, ◌^◌, ℕ, IfSome, Some, length, get_or, true, false, All};
 ghost use Rattle.std.specs.Int.{IsInRange};

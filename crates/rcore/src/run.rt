@@ -1,18 +1,22 @@
-// The program over any reader and writers.
-ghost use Rattle.rcore.specs.Fib.{fib};
+//! The program over any words, reader and writers.
+ghost use Rattle.fibonacci.specs.Fib.{fib};
 ghost use Rattle.rcore.specs.Words.{AsksFor, AskForNothing, IsPrinted};
 ghost use Rattle.rcore.specs.declared.command.Command.{Command};
 ghost use Rattle.std.specs.Fmt.{decimal};
 ghost use Rattle.std.specs.Io.KnownBytes.{Appends, Keeps};
-ghost use Rattle.std.specs.Prelude.{◌≡◌, ℕ, ◌∷◌, ◌++◌, [], map, string_bytes};
+ghost use Rattle.std.specs.IoError.{error_kind};
+ghost use Rattle.std.specs.Prelude.{◌≡◌, ◌≢◌, ℕ, ◌∷◌, ◌++◌, [], IfOk, IfErr, drop, map, string_bytes};
+ghost use Rattle.std.specs.Vec.Iter.{into_iter_items};
 
 use crate::command::Command;
-use crate::fib::{Fib, FibFault};
 use crate::replay_command::print_replay;
-use rayon_core::{CallError, Ids, ThreadPoolBuildError, ThreadPoolBuilder};
+use fibonacci::Fib;
+use rayon_core::{Ids, Refusal, ThreadPoolBuildError, ThreadPoolBuilder};
 use std::alloc::Global;
+use std::env::Args;
 use std::fmt::Display;
-use std::io::{BufRead, Write};
+use std::io;
+use std::io::{BufRead, ErrorKind, Write};
 use std::sync::Wait;
 use std::thread::Threads;
 
@@ -25,26 +29,56 @@ pub(crate) const FAILED: u8 = 1;
 /// The status of bad words.
 const BAD_WORDS: u8 = 2;
 
-/// Does what the words ask for, and answers the status: 0 done; 1 a fault, a refusal or a failed write, with its name
-/// on `err`; 2 bad words, with nothing on `out`.
-pub fn run<R: Threads + Wait + Copy + Send + 'static, I: BufRead, W: Write, E: Write>(
+/// Does what a command line asks for, and answers the status: 0 done; 1 a fault, a refusal or a failed write, with its
+/// name on `err`; 2 bad words, with nothing on `out`. The first of the arguments is the program's name. Where memory was
+/// refused while they were read the status is 1 with `NoRoom`; an argument that is no text makes them bad words.
+pub fn run_args<R: Threads + Wait + Copy + Send + 'static, I: BufRead, W: Write, E: Write>(
     rt: &R,
     alloc: Global,
-    words: &[String],
+    args: io::Result<Args>,
     reader: &mut I,
     out: &mut W,
     err: &mut E,
 ) -> u8
-    ensures done { result ≡ 0 → (c : Command) × AsksFor (map string_bytes words.now) c × IsPrinted c (λ text. Appends (W.contents out.old) (W.contents out.new) text) }
-    ensures bad_words { result ≡ 2 → AskForNothing (map string_bytes words.now) }
-    ensures known { AskForNothing (map string_bytes words.now) → result ≡ 2 }
+    ensures done { result ≡ 0 → IfErr args (λ e. ⊥) × IfOk args (λ a. (c : Command) × AsksFor (map string_bytes (drop 1 (into_iter_items a))) c × IsPrinted c (λ text. Appends (W.contents out.old) (W.contents out.new) text)) }
+    ensures bad_words { result ≡ 2 → IfOk args (λ a. AskForNothing (map string_bytes (drop 1 (into_iter_items a)))) }
+    ensures known { IfOk args (λ a. AskForNothing (map string_bytes (drop 1 (into_iter_items a))) → result ≡ 2) }
+    ensures no_room { IfErr args (λ e. error_kind e ≡ ErrorKind.OutOfMemory → result ≡ 1) }
+    ensures no_text { IfErr args (λ e. error_kind e ≢ ErrorKind.OutOfMemory → result ≡ 2) }
+    ensures kept { result ≡ 2 → Keeps (W.contents out.old) (W.contents out.new) }
+{
+    match args {
+        Ok(args) => run(rt, alloc, without_name(args), reader, out, err),
+        Err(error) if error.kind() == ErrorKind::OutOfMemory => fail(err, Refusal::NoRoom),
+        Err(_) => bad_words(err),
+    }
+}
+
+// The words after the program's name.
+fn without_name(args: Args) -> Args
+    ensures { into_iter_items result ≡ drop 1 (into_iter_items args) }
+{
+    let mut words = args;
+    let _ = words.next();
+    words
+}
+
+/// Does what the words ask for, and answers the status, as `run_args` does.
+pub fn run<R: Threads + Wait + Copy + Send + 'static, I: BufRead, W: Write, E: Write>(
+    rt: &R,
+    alloc: Global,
+    words: Args,
+    reader: &mut I,
+    out: &mut W,
+    err: &mut E,
+) -> u8
+    ensures done { result ≡ 0 → (c : Command) × AsksFor (map string_bytes (into_iter_items words)) c × IsPrinted c (λ text. Appends (W.contents out.old) (W.contents out.new) text) }
+    ensures bad_words { result ≡ 2 → AskForNothing (map string_bytes (into_iter_items words)) }
+    ensures known { AskForNothing (map string_bytes (into_iter_items words)) → result ≡ 2 }
     ensures kept { result ≡ 2 → Keeps (W.contents out.old) (W.contents out.new) }
 {
     match Command::parse(words) {
-        None => {
-            complain(err, "bad words");
-            BAD_WORDS
-        }
+        None => bad_words(err),
         Some(Command::Fib { workers, n }) => print_fib(rt, alloc, workers, n, out, err),
         Some(Command::Replay) => print_replay(alloc, reader, out, err),
     }
@@ -66,9 +100,7 @@ fn print_fib<R: Threads + Wait + Copy + Send + 'static, W: Write, E: Write>(
     let builder = ThreadPoolBuilder::<Fib>::new().num_threads(workers);
     let pool = match builder.build(rt, alloc, &ids) {
         Ok(pool) => pool,
-        Err(ThreadPoolBuildError::IOError(_)) => return fail(err, "IOError"),
-        Err(ThreadPoolBuildError::NoRoom) => return fail(err, "NoRoom"),
-        Err(ThreadPoolBuildError::NoIds) => return fail(err, "NoIds"),
+        Err(error) => return fail(err, build_error_name(&error)),
     };
     let answer = pool.install(rt, alloc, Fib(n));
     pool.end(rt);
@@ -77,11 +109,25 @@ fn print_fib<R: Threads + Wait + Copy + Send + 'static, W: Write, E: Write>(
             Ok(()) => DONE,
             Err(_) => fail(err, "Write"),
         },
-        Err(CallError::Fault(fault)) => fail(err, fault),
-        Err(CallError::Refused(refusal, _)) => fail(err, refusal),
-        Err(CallError::Foreign) => fail(err, FibFault::Foreign),
-        Err(CallError::Missing) => fail(err, FibFault::Missing),
+        Err(error) => fail(err, error),
     }
+}
+
+// The name of why a pool was not made, without the system's text.
+pub(crate) fn build_error_name(error: &ThreadPoolBuildError) -> &'static str {
+    match error {
+        ThreadPoolBuildError::IOError(_) => "IOError",
+        ThreadPoolBuildError::NoRoom => "NoRoom",
+        ThreadPoolBuildError::NoIds => "NoIds",
+    }
+}
+
+// Says that the words are bad, and answers their status.
+fn bad_words<E: Write>(err: &mut E) -> u8
+    ensures { result ≡ 2 }
+{
+    complain(err, "bad words");
+    BAD_WORDS
 }
 
 // Names what failed on `err`, and answers its status.

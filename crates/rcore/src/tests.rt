@@ -1,7 +1,8 @@
-// What each command line answers: status and bytes on both streams, over memory.
+//! What each command line answers: status and bytes on both streams, over memory.
 
 use crate::run::run;
 use std::alloc::{AllocError, Global};
+use std::env::Args;
 use std::test::Fail;
 
 const BAD_WORDS: &str = "rcore: bad words\n";
@@ -41,12 +42,12 @@ const BAD_LINES: [&str; 19] = [
 ];
 
 // The words of a line.
-fn words_of(alloc: Global, line: &str) -> Result<Vec<String>, AllocError> {
+fn words_of(alloc: Global, line: &str) -> Result<Args, AllocError> {
     let mut words = Vec::new(alloc);
     for word in line.split_whitespace() {
         words.push(String::from_str(alloc, word)?)?;
     }
-    Ok(words)
+    Ok(words.into_iter())
 }
 
 #[test]
@@ -56,7 +57,7 @@ fn good_lines(rt: HostRuntime) -> Result<(), Fail> {
         let words = words_of(alloc, line)?;
         let mut out: Vec<u8> = Vec::new(alloc);
         let mut err: Vec<u8> = Vec::new(alloc);
-        let status = run(&rt, alloc, &words, &mut rt.reader(), &mut out, &mut err);
+        let status = run(&rt, alloc, words, &mut rt.reader(), &mut out, &mut err);
         assert_eq!(rt; status, 0, "{line}");
         assert!(rt; out.as_slice() == text.as_bytes(), "{line}");
         assert!(rt; err.is_empty(), "{line}");
@@ -71,7 +72,7 @@ fn bad_lines(rt: HostRuntime) -> Result<(), Fail> {
         let words = words_of(alloc, line)?;
         let mut out: Vec<u8> = Vec::new(alloc);
         let mut err: Vec<u8> = Vec::new(alloc);
-        let status = run(&rt, alloc, &words, &mut rt.reader(), &mut out, &mut err);
+        let status = run(&rt, alloc, words, &mut rt.reader(), &mut out, &mut err);
         assert_eq!(rt; status, 2, "{line}");
         assert!(rt; out.is_empty(), "{line}");
         assert!(rt; err.as_slice() == BAD_WORDS.as_bytes(), "{line}");
@@ -82,20 +83,27 @@ fn bad_lines(rt: HostRuntime) -> Result<(), Fail> {
 #[test]
 fn failed_writes(rt: HostRuntime) -> Result<(), Fail> {
     let alloc = rt.alloc();
-    let words = words_of(alloc, "fib 1 20")?;
     // A slice without room takes no byte, and one with room for two takes two of the five.
     for room in [0, 2] {
         let mut bytes = [0u8; 2];
         let mut out = &mut bytes[..room];
         let mut err: Vec<u8> = Vec::new(alloc);
-        let status = run(&rt, alloc, &words, &mut rt.reader(), &mut out, &mut err);
+        let words = words_of(alloc, "fib 1 20")?;
+        let status = run(&rt, alloc, words, &mut rt.reader(), &mut out, &mut err);
         assert_eq!(rt; status, 1);
         assert!(rt; err.as_slice() == "rcore: Write\n".as_bytes());
     }
     let mut out: Vec<u8> = Vec::new(alloc);
     let mut nothing = [0u8; 0];
     let mut err = &mut nothing[..];
-    let status = run(&rt, alloc, &[], &mut rt.reader(), &mut out, &mut err);
+    let status = run(
+        &rt,
+        alloc,
+        words_of(alloc, "")?,
+        &mut rt.reader(),
+        &mut out,
+        &mut err,
+    );
     assert_eq!(rt; status, 2);
     assert!(rt; out.is_empty());
     Ok(())

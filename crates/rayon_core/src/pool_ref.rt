@@ -89,7 +89,7 @@ impl<J: JobKind> PoolRef<J> {
         b: J,
     ) -> Result<(J::Output, J::Output), CallError<J::Fault, (J, J)>>
         ensures answers { JoinAnswers (λ r. J.answers (J.tag_of a) r) (λ r. J.answers (J.tag_of b) r) (a, b) result }
-        ensures deep { self.now.depth_limit < 2 → (r : _) × (result ≡ Err (CallError.Refused r (a, b))) }
+        ensures deep { self.now.depth_limit < 2 → result ≡ Err (CallError.Refused Refusal.TooDeep (a, b)) }
         ensures shallow { (sides : _) → result ≡ Err (CallError.Refused Refusal.TooDeep sides) → self.now.depth_limit < 2 }
     {
         self.registry.join(rt, alloc, a, b)
@@ -104,7 +104,7 @@ impl<J: JobKind> PoolRef<J> {
         b: J,
     ) -> Result<(J::Output, J::Output), CallError<J::Fault, (J, J)>>
         ensures answers { JoinAnswers (λ r. J.answers (J.tag_of a) r) (λ r. J.answers (J.tag_of b) r) (a, b) result }
-        ensures deep { self.now.depth_limit < 2 → (r : _) × (result ≡ Err (CallError.Refused r (a, b))) }
+        ensures deep { self.now.depth_limit < 2 → result ≡ Err (CallError.Refused Refusal.TooDeep (a, b)) }
         ensures shallow { (sides : _) → result ≡ Err (CallError.Refused Refusal.TooDeep sides) → self.now.depth_limit < 2 }
     {
         self.join(rt, alloc, a, b)

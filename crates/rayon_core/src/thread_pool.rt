@@ -86,8 +86,8 @@ impl<J: JobKind> ThreadPool<J> {
     }
 
     /// Runs two jobs on the pool by a join there, for a caller that is no worker; it blocks until both have run, and
-    /// answers both outputs. Refused `Ended`, `Full`, `NoRoom`, and `TooDeep` where the depth limit is 1, with the
-    /// sides back, and neither has run.
+    /// answers both outputs. Refused `TooDeep` exactly where the depth limit is 1, whatever else holds; `Ended`, `Full`,
+    /// `NoRoom`; with the sides back, and neither has run.
     pub fn join<R: Wait>(
         &self,
         rt: &R,
@@ -96,7 +96,7 @@ impl<J: JobKind> ThreadPool<J> {
         b: J,
     ) -> Result<(J::Output, J::Output), CallError<J::Fault, (J, J)>>
         ensures answers { JoinAnswers (λ r. J.answers (J.tag_of a) r) (λ r. J.answers (J.tag_of b) r) (a, b) result }
-        ensures deep { self.now.depth_limit < 2 → (r : _) × (result ≡ Err (CallError.Refused r (a, b))) }
+        ensures deep { self.now.depth_limit < 2 → result ≡ Err (CallError.Refused Refusal.TooDeep (a, b)) }
         ensures shallow { (sides : _) → result ≡ Err (CallError.Refused Refusal.TooDeep sides) → self.now.depth_limit < 2 }
     {
         self.registry.join(rt, alloc, a, b)
@@ -111,7 +111,7 @@ impl<J: JobKind> ThreadPool<J> {
         b: J,
     ) -> Result<(J::Output, J::Output), CallError<J::Fault, (J, J)>>
         ensures answers { JoinAnswers (λ r. J.answers (J.tag_of a) r) (λ r. J.answers (J.tag_of b) r) (a, b) result }
-        ensures deep { self.now.depth_limit < 2 → (r : _) × (result ≡ Err (CallError.Refused r (a, b))) }
+        ensures deep { self.now.depth_limit < 2 → result ≡ Err (CallError.Refused Refusal.TooDeep (a, b)) }
         ensures shallow { (sides : _) → result ≡ Err (CallError.Refused Refusal.TooDeep sides) → self.now.depth_limit < 2 }
     {
         self.join(rt, alloc, a, b)

@@ -178,8 +178,8 @@ impl<J: JobKind> Registry<J> {
         }
     }
 
-    /// Joins two sides on the pool for a caller that is no worker, which blocks until both have run. Refused `Ended`,
-    /// `Full`, `NoRoom`, and `TooDeep` where the pool's `depth_limit` is 1, with the sides back.
+    /// Joins two sides on the pool for a caller that is no worker, which blocks until both have run. Refused `TooDeep`
+    /// exactly where the pool's `depth_limit` is 1, whatever else holds; `Ended`, `Full`, `NoRoom`; with the sides back.
     pub fn join<R: Wait>(
         &self,
         rt: &R,
@@ -188,9 +188,12 @@ impl<J: JobKind> Registry<J> {
         b: J,
     ) -> Result<(J::Output, J::Output), CallError<J::Fault, (J, J)>>
         ensures answers { JoinAnswers (λ r. J.answers (J.tag_of a) r) (λ r. J.answers (J.tag_of b) r) (a, b) result }
-        ensures deep { self.now.depth_limit < 2 → (r : _) × (result ≡ Err (CallError.Refused r (a, b))) }
+        ensures deep { self.now.depth_limit < 2 → result ≡ Err (CallError.Refused Refusal.TooDeep (a, b)) }
         ensures shallow { (sides : _) → result ≡ Err (CallError.Refused Refusal.TooDeep sides) → self.now.depth_limit < 2 }
     {
+        if self.depth_limit < 2 {
+            return Err(CallError::Refused(Refusal::TooDeep, (a, b)));
+        }
         let hold = match self.increment_terminate_count(rt) {
             Ok(hold) => hold,
             Err(refusal) => return Err(CallError::Refused(refusal, (a, b))),
@@ -210,8 +213,7 @@ impl<J: JobKind> Registry<J> {
         b: J,
     ) -> Result<(J::Output, J::Output), CallError<J::Fault, (J, J)>>
         ensures answers { JoinAnswers (λ r. J.answers (J.tag_of a) r) (λ r. J.answers (J.tag_of b) r) (a, b) result }
-        ensures deep { self.now.depth_limit < 2 → (r : _) × (result ≡ Err (CallError.Refused r (a, b))) }
-        ensures shallow { (sides : _) → result ≡ Err (CallError.Refused Refusal.TooDeep sides) → self.now.depth_limit < 2 }
+        ensures shallow { (sides : _) → result ≡ Err (CallError.Refused Refusal.TooDeep sides) → ⊥ }
     {
         let tags = (a.tag(), b.tag());
         match self.send_pair(rt, alloc, hold, a, b) {
@@ -223,7 +225,7 @@ impl<J: JobKind> Registry<J> {
         }
     }
 
-    // Queues the sides: what is answered is where their results will be. Refused `NoRoom`, `TooDeep`.
+    // Queues the sides: what is answered is where their results will be. Refused `NoRoom`.
     fn send_pair<R: Wait>(
         &self,
         rt: &R,
@@ -232,9 +234,7 @@ impl<J: JobKind> Registry<J> {
         a: J,
         b: J,
     ) -> Result<Arc<PairReply<J>, Global>, (Refusal, (J, J))>
-        ensures sent { IfOk result (λ _. 1 < self.now.depth_limit) }
-        ensures back { IfErr result (λ e. e.1 ≡ (a, b)) }
-        ensures shallow { IfErr result (λ e. e.0 ≡ Refusal.TooDeep → self.now.depth_limit < 2) }
+        ensures back { IfErr result (λ e. e ≡ (Refusal.NoRoom, (a, b))) }
     {
         let Ok(reply) = PairReply::new(alloc) else {
             return Err((Refusal::NoRoom, (a, b)));
@@ -242,9 +242,6 @@ impl<J: JobKind> Registry<J> {
         let Ok(theirs) = Arc::try_clone(&reply) else {
             return Err((Refusal::NoRoom, (a, b)));
         };
-        if self.depth_limit < 2 {
-            return Err((Refusal::TooDeep, (a, b)));
-        }
         let pair = Pair {
             first: a,
             second: b,

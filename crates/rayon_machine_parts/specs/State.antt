@@ -1,4 +1,4 @@
--- what the running world stands for
+-- what the stored parts of a world stand for, and what an act leaves of them
 use Rattle.std.specs.Prelude.{ℕ, Bool, true, false, ◌<◌, ◌==◌, if◌then◌else◌, Option, Some, None, List, [], ◌∷◌, ◌++◌, ◌≡◌, slice_get, reverse, IsSomeAnd, vec_len, vec_capacity}
 use Rattle.rayon_machine_places.specs.declared.place.Party.{Party}
 use Rattle.rayon_machine_places.specs.declared.act.Act.{Act}
@@ -241,7 +241,7 @@ pool_of v = record { injector = v.injector.items; casts = λ i. option_map_or (�
 abbrev pub seat_of : StoredSeat → Seat
 seat_of s = record { own = s.own.items; inactive = s.flags.inactive; asleep = s.flags.asleep; blocked = s.flags.blocked; latch = s.flags.latch; lock = s.flags.lock }
 
--- the pool, the seat, the call and the job of a number
+-- the pool of a number; one that is not there is blank
 abbrev pub pool_at : List StoredPool → ℕ → Pool
 pool_at pools p = option_map_or pool_of (slice_get pools p) blank_pool
 

@@ -32,7 +32,7 @@ pub struct Deed {
 }
 
 /// Whether an act looks at the counts of sleeping and inactive workers.
-fn counts(act: Act) -> bool
+fn looks_at_counts(act: Act) -> bool
     ensures { result ≡ is_census act }
 {
     match act {
@@ -89,7 +89,7 @@ impl Parts {
     fn census_for(&self, shapes: &Shapes, act: Act, pool: usize) -> Census
         ensures { is_census act ≡ true → census_counts result ≡ counts_in (shape_of shapes.now) self.now pool }
     {
-        if counts(act) {
+        if looks_at_counts(act) {
             self.census(pool, shapes.pool(pool).workers)
         } else {
             Census {

@@ -178,7 +178,8 @@ impl Act {
         }
     }
 
-    /// The worker of that pool that it touches.
+    /// The worker that an act of this party touches, by its index in that pool: the one that it names,
+    /// else the party itself, and 0 of an outside caller.
     pub fn worker(self, party: Party) -> usize
         ensures { result ≡ target_worker party self }
     {
@@ -192,7 +193,8 @@ impl Act {
         }
     }
 
-    /// The call that it touches, if it touches one.
+    /// The number of the call that an act touches: the one that it or its latch names, and 0 where it
+    /// touches none.
     pub fn call(self) -> u64
         ensures { result ≡ target_call self }
     {
@@ -207,7 +209,8 @@ impl Act {
         }
     }
 
-    /// The job that it touches, where this task stands at the end of its queue.
+    /// The number of the job that an act touches, where `found` stands at the end of the queue that it
+    /// takes from: the one that it names or takes, and 0 where it touches none.
     pub fn job(self, found: Option<u64>) -> u64
         ensures { result ≡ aimed_job self found }
     {

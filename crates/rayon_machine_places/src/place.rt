@@ -381,7 +381,7 @@ impl Party {
 }
 
 impl Latch {
-    /// The call of a latch.
+    /// The number of the call whose latch this is, and 0 of a terminate latch.
     pub fn call(self) -> u64
         ensures { result ≡ call_of self }
     {
@@ -393,7 +393,7 @@ impl Latch {
 }
 
 impl Share {
-    /// The job of a share.
+    /// The number of the job whose share this is, and 0 of the share of a pool's value.
     pub fn job(self) -> u64
         ensures { result ≡ share_job self }
     {

@@ -67,7 +67,7 @@ pub struct Call {
 }
 
 impl Whereabouts {
-    /// In a deque or an injector.
+    /// Whether the job stands in a deque or an injector.
     pub fn queues(self) -> bool
         ensures { result ≡ is_queued self }
     {
@@ -77,7 +77,7 @@ impl Whereabouts {
         }
     }
 
-    /// Taken or begun, and not ended.
+    /// Whether it is taken or begun, and not ended.
     pub fn runs(self) -> bool
         ensures { result ≡ is_running self }
     {
@@ -87,7 +87,7 @@ impl Whereabouts {
         }
     }
 
-    /// Ended.
+    /// Whether its run has ended.
     pub fn is_over(self) -> bool
         ensures { result ≡ is_done self }
     {

@@ -313,7 +313,8 @@ impl Place {
         }
     }
 
-    /// Whether the next act can be refused for want of room.
+    /// Whether the next act can be refused for want of room: where a call grows and where a job is
+    /// pushed.
     pub fn refusable(self) -> bool
         ensures { result ≡ is_refusable self }
     {
@@ -333,7 +334,7 @@ impl Place {
         }
     }
 
-    /// The victim that is stolen from here.
+    /// The worker that is stolen from here, by its index in the party's pool. None at every other place.
     pub fn victim(self) -> Option<usize>
         ensures { result ≡ victim_of self }
     {
@@ -344,7 +345,8 @@ impl Place {
         }
     }
 
-    /// What a party does next at the place.
+    /// What a party does next at the place: where it is free it can make a call, where it
+    /// has stopped nothing, and else it makes the place's act.
     pub fn next_of(self, party: Party) -> Next
         ensures { result ≡ next_at party self }
     {

@@ -13,7 +13,7 @@ use Rattle.rayon_machine_places.specs.declared.place.Plan.{Plan}
 use Rattle.rayon_machine_places.specs.declared.place.Plan.TheVariants.{Detach, Here, Send, Fork}
 use Rattle.rayon_machine_places.specs.declared.place.Share.TheVariants.{PoolValue}
 use Rattle.rayon_machine_places.specs.declared.place.Then.{Then}
-use Rattle.rayon_machine_places.specs.declared.place.Then.TheVariants.{BeginFound, LeaveWait, Resume, Await, RunFirst, Answers, Ran, GiveBack}
+use Rattle.rayon_machine_places.specs.declared.place.Then.TheVariants.{BeginFound, LeaveWait, Resume, Await, RunFirst, Answers, Missing, Ran, GiveBack}
 use Rattle.rayon_machine_places.specs.declared.place.Place.{Place}
 use Rattle.rayon_machine_places.specs.declared.place.Place.TheVariants.{ProbeWorking, PopWorking, TakeCastWorking, ProbeIdle, PopIdle, TakeCastIdle, PickVictim, StealFrom, PopInjected, AnnounceSelf, GetSleepy, FallAsleep, LoadCounters, AddSleeping, LookAtCast, LookAtInjector, WakeUp, LeaveSearch, JoinProbe, JoinPop, JoinTakeCast, YieldPop, YieldTakeCast, YieldPick, YieldSteal, YieldPopInjected, LocalPop, LocalTakeCast, BeginTask, BeginHere, RaiseCount, GrowCall, LookQueue, PushJob, TellNews, LockToWake, WakeWorker, UnlockWoken, TakeResult, LowerCount, StoreResult, SetLatch, UnlockSettled, SecondSide}
 use Rattle.rayon_machine_places.specs.declared.place.Move.{Move}
@@ -109,6 +109,7 @@ am_finish t p (Worker a b) (Await o) = (omega arith, refl)
 am_finish t p (Caller c) (Await o) = (omega arith, refl)
 am_finish t p q (RunFirst o a) = (omega arith, refl)
 am_finish t p q (Answers o f e) = (omega arith, refl)
+am_finish t p q (Missing o f) = (omega arith, refl)
 am_finish t p q (Ran u e) = (omega arith, refl)
 am_finish t p q (GiveBack n) = (omega arith, refl)
 

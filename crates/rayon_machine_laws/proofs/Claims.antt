@@ -19,7 +19,7 @@ use Rattle.rayon_machine_places.specs.declared.place.Plan.TheVariants.{Detach, H
 use Rattle.rayon_machine_places.specs.declared.place.Share.{Share}
 use Rattle.rayon_machine_places.specs.declared.place.Share.TheVariants.{PoolValue, OfJob}
 use Rattle.rayon_machine_places.specs.declared.place.Then.{Then}
-use Rattle.rayon_machine_places.specs.declared.place.Then.TheVariants.{BeginFound, LeaveWait, Resume, Await, RunFirst, Answers, Ran, GiveBack}
+use Rattle.rayon_machine_places.specs.declared.place.Then.TheVariants.{BeginFound, LeaveWait, Resume, Await, RunFirst, Answers, Missing, Ran, GiveBack}
 use Rattle.rayon_machine_places.specs.declared.place.Place.{Place}
 use Rattle.rayon_machine_places.specs.declared.place.Place.TheVariants.{ProbeWorking, PopWorking, TakeCastWorking, BecomeInactive, ProbeIdle, PopIdle, TakeCastIdle, PickVictim, StealFrom, PopInjected, AnnounceSelf, GetSleepy, LockOwn, FallAsleep, LoadCounters, AddSleeping, LookAtCast, LookAtInjector, BlockSelf, RelockOwn, UndoSleeping, WakeUp, UnlockOwn, LeaveSearch, JoinProbe, JoinPop, JoinTakeCast, YieldPop, YieldTakeCast, YieldPick, YieldSteal, YieldPopInjected, LocalPop, LocalTakeCast, BeginTask, BeginHere, Run, RaiseCount, GrowCall, LookQueue, PushJob, TellNews, LockToWake, WakeWorker, UnlockWoken, WaitForLock, TakeResult, LowerCount, StoreResult, SetLatch, LockToSettle, WakeSettled, UnlockSettled, SetLockLatch, FirstSide, SecondSide, AtOnce}
 use Rattle.rayon_machine_places.specs.declared.place.Move.{Move}
@@ -91,6 +91,7 @@ SaysThen w q Resume = ⊤
 SaysThen w q (Await o) = SaysTarget w q (Answer o None)
 SaysThen w q (RunFirst o a) = SaysPlan w q (Fork o a)
 SaysThen w q (Answers o f e) = Opened w q o × FirstEnds w (w.call o.number).first f × ((w.job o.job).at ≡ Over e)
+SaysThen w q (Missing o f) = SaysTarget w q (Answer o f)
 SaysThen w q (Ran t e) = (w.job t).at ≡ Over e
 SaysThen w q (GiveBack n) = SaysPlan w q n
 
@@ -98,6 +99,7 @@ SaysThen w q (GiveBack n) = SaysPlan w q n
 abbrev pub SaysOwner : World → ℕ → ℕ → Then → Type 0
 SaysOwner w t p Resume = ((w.job t).kind ≡ Detached p) × (is_done (w.job t).at ≡ true)
 SaysOwner w t p (Answers o f e) = o.job ≡ t
+SaysOwner w t p (Missing o f) = o.job ≡ t
 SaysOwner w t p (Ran u e) = (u ≡ t) × ((w.job t).kind ≡ Direct)
 SaysOwner w t p (GiveBack n) = plan_job n ≡ t
 SaysOwner w t p _ = ⊥
@@ -266,6 +268,7 @@ says_finish w (Worker p i) (Await o) s = s
 says_finish w (Caller c) (Await o) s = s
 says_finish w q (RunFirst o a) s = (s, (λ u z. z), s.2)
 says_finish w q (Answers o f e) s = tt
+says_finish w q (Missing o f) s = tt
 says_finish w q (Ran t e) s = tt
 says_finish w q (GiveBack n) s = tt
 
@@ -421,7 +424,7 @@ says_next w g q (WakeWorker k) Yes l s = s
 says_next w g q (WakeWorker k) _ l s = s
 says_next w g q (UnlockWoken k) e l s = says_walk w g q k.pool k.owed (k.worker + 1) k.then s
 says_next w g q (TakeResult o f) (Found e) l s = ((s.0, s.1, l), ((s.0).made, (s.0).pool, refl))
-says_next w g q (TakeResult o f) _ l s = s
+says_next w g q (TakeResult o f) _ l s = (s, ((s.0).made, (s.0).pool, refl))
 says_next w g q (LowerCount p a n) Yes l s = says_settle w g q p 0 n l (s.0)
 says_next w g q (LowerCount p a n) _ l s = says_finish w q n (s.0)
 says_next w g q (StoreResult c o e) _ l s = says_set w q o c e s

@@ -12,7 +12,7 @@ use Rattle.rayon_machine_places.specs.declared.place.Latch.{Latch}
 use Rattle.rayon_machine_places.specs.declared.place.Latch.TheVariants.{Terminate, OfCall}
 use Rattle.rayon_machine_places.specs.declared.place.Plan.{Plan}
 use Rattle.rayon_machine_places.specs.declared.place.Then.{Then}
-use Rattle.rayon_machine_places.specs.declared.place.Then.TheVariants.{BeginFound, LeaveWait, Resume, Await, RunFirst, Answers, Ran, GiveBack}
+use Rattle.rayon_machine_places.specs.declared.place.Then.TheVariants.{BeginFound, LeaveWait, Resume, Await, RunFirst, Answers, Missing, Ran, GiveBack}
 use Rattle.rayon_machine_places.specs.declared.place.Place.{Place}
 use Rattle.rayon_machine_places.specs.declared.place.Place.TheVariants.{ProbeWorking, PopWorking, TakeCastWorking, PopIdle, TakeCastIdle, StealFrom, RelockOwn, JoinPop, JoinTakeCast, YieldPop, YieldTakeCast, YieldSteal, LocalPop, LocalTakeCast, Run, PushJob, SetLatch, UnlockSettled, Free, Stopped}
 use Rattle.rayon_machine_places.specs.declared.place.Move.{Move}
@@ -118,6 +118,7 @@ settled_busy h q s = by_latch s.latch
     finish_busy (RunFirst o a) = refl
     finish_busy Resume = tt
     finish_busy (Answers o f e) = tt
+    finish_busy (Missing o f) = tt
     finish_busy (Ran t e) = tt
     finish_busy (GiveBack m) = tt
 

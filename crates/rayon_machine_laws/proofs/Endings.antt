@@ -8,9 +8,9 @@ use Rattle.rayon_machine_places.specs.declared.place.Ending.TheVariants.{Fine, F
 use Rattle.rayon_machine_places.specs.declared.place.Plan.{Plan}
 use Rattle.rayon_machine_places.specs.declared.place.Plan.TheVariants.{Detach, Here, Send, Fork}
 use Rattle.rayon_machine_places.specs.declared.place.Then.{Then}
-use Rattle.rayon_machine_places.specs.declared.place.Then.TheVariants.{Answers, Ran, GiveBack}
+use Rattle.rayon_machine_places.specs.declared.place.Then.TheVariants.{Answers, Missing, Ran, GiveBack}
 use Rattle.rayon_machine_places.specs.declared.place.Place.{Place}
-use Rattle.rayon_machine_places.specs.declared.place.Place.TheVariants.{LowerCount, SetLatch, LockToSettle, WakeSettled, UnlockSettled}
+use Rattle.rayon_machine_places.specs.declared.place.Place.TheVariants.{TakeResult, LowerCount, SetLatch, LockToSettle, WakeSettled, UnlockSettled}
 use Rattle.rayon_machine_places.specs.declared.state.Whereabouts.TheVariants.{Over}
 use Rattle.rayon_machine_places.specs.declared.place.OpenCall.{OpenCall}
 use Rattle.rayon_machine_places.specs.World.{World}
@@ -69,11 +69,13 @@ follows_hand t (WakeSettled k) n z = ap (hand_then t) (some_same z)
 follows_hand t (UnlockSettled k) n z = ap (hand_then t) (some_same z)
 follows_hand t _ n z = cc
 
-pub ends_so : (w : World) → CallsHold w → IsEnd w
-ends_so w h = record {
+pub ends_so : (w : World) → CallsHold w → ((q : Party) (o : OpenCall) (f : Option Ending) → (w.stack q).top ≡ TakeResult o f → (w.call o.number).cell ≡ None → ⊥) → ((q : Party) (o : OpenCall) (f : Option Ending) → follows (w.stack q).top ≡ Some (Missing o f) → ⊥) → IsEnd w
+ends_so w h filled missing = record {
   waited = λ q o f e z. (let s : Opened w q o × FirstEnds w (w.call o.number).first f × ((w.job o.job).at ≡ Over e) = follows_says w q ((w.stack q).top) (Answers o f e) z ((h.says q).top) in
       record { own = (s.0).target; job = has_ended w (h.jobs) (o.job) e (s.2); side = side_ended w (h.jobs) ((w.call o.number).first) f (s.1); fault = verdict w (h.jobs) o f e (s.1) (s.2) });
   once = λ q t e z. has_ended w (h.jobs) t e (follows_says w q ((w.stack q).top) (Ran t e) z ((h.says q).top));
+  filled = filled;
+  missing = missing;
 }
 
 -- a job whose record names no list, and that was not begun, is untouched

@@ -17,7 +17,7 @@ use Rattle.rayon_machine_places.specs.declared.place.Plan.TheVariants.{Detach, H
 use Rattle.rayon_machine_places.specs.declared.place.Share.{Share}
 use Rattle.rayon_machine_places.specs.declared.place.Share.TheVariants.{PoolValue, OfJob}
 use Rattle.rayon_machine_places.specs.declared.place.Then.{Then}
-use Rattle.rayon_machine_places.specs.declared.place.Then.TheVariants.{BeginFound, LeaveWait, Resume, Await, RunFirst, Answers, Ran, GiveBack}
+use Rattle.rayon_machine_places.specs.declared.place.Then.TheVariants.{BeginFound, LeaveWait, Resume, Await, RunFirst, Answers, Missing, Ran, GiveBack}
 use Rattle.rayon_machine_places.specs.declared.place.Place.{Place}
 use Rattle.rayon_machine_places.specs.declared.place.Place.TheVariants.{ProbeWorking, PopWorking, TakeCastWorking, BecomeInactive, ProbeIdle, PopIdle, TakeCastIdle, PickVictim, StealFrom, PopInjected, AnnounceSelf, GetSleepy, LockOwn, FallAsleep, LoadCounters, AddSleeping, LookAtCast, LookAtInjector, BlockSelf, RelockOwn, UndoSleeping, WakeUp, UnlockOwn, LeaveSearch, JoinProbe, JoinPop, JoinTakeCast, BeginTask, BeginHere, Run, RaiseCount, GrowCall, LookQueue, PushJob, TellNews, LockToWake, WakeWorker, UnlockWoken, WaitForLock, TakeResult, LowerCount, StoreResult, SetLatch, LockToSettle, WakeSettled, UnlockSettled, SetLockLatch, FirstSide, SecondSide, AtOnce}
 use Rattle.rayon_machine_places.specs.declared.act.Seen.{Seen}
@@ -90,6 +90,7 @@ later_then w u l q Resume s = tt
 later_then w u l q (Await o) s = later_target w u l q (Answer o None) s
 later_then w u l q (RunFirst o a) s = later_plan w u l q (Fork o a) s
 later_then w u l q (Answers o f e) s = (later_opened w u l q o (s.0), later_first w u l (o.number) f ((s.0).number) (s.1), l.over (o.job) e (s.2))
+later_then w u l q (Missing o f) s = later_target w u l q (Answer o f) s
 later_then w u l q (Ran t e) s = l.over t e s
 later_then w u l q (GiveBack n) s = later_plan w u l q n s
 
@@ -108,6 +109,7 @@ later_done w u l t s = by ((w.job t).at) refl s
 later_owner : (w u : World) → Later w u → (t p : ℕ) (n : Then) → t + 1 ≤ w.jobs → SaysOwner w t p n → SaysOwner u t p n
 later_owner w u l t p Resume b s = (l.kind t b ∙ s.0, later_done w u l t (s.1))
 later_owner w u l t p (Answers o f e) b s = s
+later_owner w u l t p (Missing o f) b s = s
 later_owner w u l t p (Ran v e) b s = (s.0, l.kind t b ∙ s.1)
 later_owner w u l t p (GiveBack n) b s = s
 later_owner w u l t p (BeginFound g v) b s = s

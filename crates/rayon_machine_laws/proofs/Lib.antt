@@ -50,3 +50,5 @@ pub mod ShareEvents
 pub mod ShareEnds
 pub mod Bares
 pub mod Returns
+pub mod Takes
+pub mod Filled

@@ -16,7 +16,7 @@ use Rattle.rayon_machine_places.specs.declared.place.Plan.{Plan}
 use Rattle.rayon_machine_places.specs.declared.place.Plan.TheVariants.{Detach, Here, Send, Fork}
 use Rattle.rayon_machine_places.specs.declared.place.Share.{Share}
 use Rattle.rayon_machine_places.specs.declared.place.Then.{Then}
-use Rattle.rayon_machine_places.specs.declared.place.Then.TheVariants.{BeginFound, LeaveWait, Resume, Await, RunFirst, Answers, Ran, GiveBack}
+use Rattle.rayon_machine_places.specs.declared.place.Then.TheVariants.{BeginFound, LeaveWait, Resume, Await, RunFirst, Answers, Missing, Ran, GiveBack}
 use Rattle.rayon_machine_places.specs.declared.place.Place.{Place}
 use Rattle.rayon_machine_places.specs.declared.place.Place.TheVariants.{ProbeWorking, PopWorking, TakeCastWorking, BecomeInactive, ProbeIdle, PopIdle, TakeCastIdle, PickVictim, StealFrom, PopInjected, AnnounceSelf, GetSleepy, LockOwn, FallAsleep, LoadCounters, AddSleeping, LookAtCast, LookAtInjector, BlockSelf, RelockOwn, UndoSleeping, WakeUp, UnlockOwn, LeaveSearch, JoinProbe, JoinPop, JoinTakeCast, BeginTask, Run, RaiseCount, GrowCall, LookQueue, PushJob, TellNews, LockToWake, WakeWorker, UnlockWoken, WaitForLock, TakeResult, LowerCount, StoreResult, SetLatch, LockToSettle, WakeSettled, UnlockSettled, SetLockLatch, FirstSide, SecondSide}
 use Rattle.rayon_machine_places.specs.declared.place.Move.{Move}
@@ -48,6 +48,7 @@ then_number Resume = None
 then_number (Await o) = Some o.number
 then_number (RunFirst o a) = Some o.number
 then_number (Answers o f e) = Some o.number
+then_number (Missing o f) = Some o.number
 then_number (Ran t e) = None
 then_number (GiveBack n) = plan_number n
 
@@ -157,6 +158,7 @@ finish_names o (Caller m) (Await n) = (λ c e. e, λ c p e. absurd (cc))
 finish_names o q (RunFirst n a) = ((λ c e. e, λ c p e. absurd (cc)), (λ c e. absurd (cc), λ c p e. absurd (cc)))
 finish_names o q Resume = tt
 finish_names o q (Answers n f e) = tt
+finish_names o q (Missing n f) = tt
 finish_names o q (Ran t e) = tt
 finish_names o q (GiveBack n) = tt
 

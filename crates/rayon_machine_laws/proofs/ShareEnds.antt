@@ -53,7 +53,7 @@ goes_on_shares s (SecondSide o) e = (omega arith, omega arith, omega arith)
 goes_on_shares s (AtOnce p t) e = (omega arith, omega arith, omega arith)
 goes_on_shares s f e = (omega arith, omega arith, omega arith)
 
-closed_shares : (s t : ℕ) (k : JobKind) (e : Ending) (fs : List Place) → (shares s (after_close t k e fs) ≤ freed s t k + shares_in s fs) × (all_values s (after_close t k e fs) ≤ values_in s fs) × (all_raises s (after_close t k e fs) ≤ raises_in s fs)
+pub closed_shares : (s t : ℕ) (k : JobKind) (e : Ending) (fs : List Place) → (shares s (after_close t k e fs) ≤ freed s t k + shares_in s fs) × (all_values s (after_close t k e fs) ≤ values_in s fs) × (all_raises s (after_close t k e fs) ≤ raises_in s fs)
 closed_shares s t (Detached p) e fs = (omega arith, omega arith, omega arith)
 closed_shares s t (Stored c o) e fs = (omega arith, omega arith, omega arith)
 closed_shares s t Direct e [] = (omega arith, omega arith, omega arith)

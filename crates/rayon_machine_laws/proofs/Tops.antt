@@ -8,7 +8,7 @@ use Rattle.rayon_machine_places.specs.declared.place.Target.TheVariants.{Termina
 use Rattle.rayon_machine_places.specs.declared.place.Latch.{Latch}
 use Rattle.rayon_machine_places.specs.declared.place.Latch.TheVariants.{Terminate, OfCall}
 use Rattle.rayon_machine_places.specs.declared.place.Then.{Then}
-use Rattle.rayon_machine_places.specs.declared.place.Then.TheVariants.{BeginFound, LeaveWait, Resume, Await, RunFirst, Answers, Ran, GiveBack}
+use Rattle.rayon_machine_places.specs.declared.place.Then.TheVariants.{BeginFound, LeaveWait, Resume, Await, RunFirst, Answers, Missing, Ran, GiveBack}
 use Rattle.rayon_machine_places.specs.declared.place.Place.{Place}
 use Rattle.rayon_machine_places.specs.declared.place.Place.TheVariants.{ProbeWorking, LockOwn, FallAsleep, LoadCounters, AddSleeping, LookAtCast, LookAtInjector, BlockSelf, RelockOwn, UndoSleeping, WakeUp, UnlockOwn, Run, LockToWake, WakeWorker, UnlockWoken, SetLatch, LockToSettle, WakeSettled, UnlockSettled, Stopped}
 use Rattle.rayon_machine_places.specs.declared.place.Move.{Move}
@@ -127,6 +127,7 @@ finish_leads b (Caller n) (Await o) = or_true b
 finish_leads b q (RunFirst o a) = refl
 finish_leads b q Resume = tt
 finish_leads b q (Answers o f e) = tt
+finish_leads b q (Missing o f) = tt
 finish_leads b q (Ran t e) = tt
 finish_leads b q (GiveBack n) = tt
 

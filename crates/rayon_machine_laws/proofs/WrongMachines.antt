@@ -8,24 +8,27 @@ use Rattle.rayon_machine_places.specs.declared.place.Ending.TheVariants.{Fine}
 use Rattle.rayon_machine_places.specs.declared.place.Latch.{Latch}
 use Rattle.rayon_machine_places.specs.declared.place.Latch.TheVariants.{Terminate, OfCall}
 use Rattle.rayon_machine_places.specs.declared.place.Rounds.TheVariants.{Failed}
+use Rattle.rayon_machine_places.specs.declared.place.Then.TheVariants.{Missing}
 use Rattle.rayon_machine_places.specs.declared.place.Place.{Place}
 use Rattle.rayon_machine_places.specs.declared.place.Place.TheVariants.{LoadCounters, AddSleeping, LookAtCast, LookAtInjector, BlockSelf, WakeUp, LockToWake, UnlockWoken, SetLatch, UnlockSettled, SetLockLatch}
 use Rattle.rayon_machine_places.specs.declared.place.Move.{Move}
 use Rattle.rayon_machine_places.specs.declared.place.Move.TheVariants.{Stay}
 use Rattle.rayon_machine_places.specs.declared.act.Act.{Act}
-use Rattle.rayon_machine_places.specs.declared.act.Act.TheVariants.{Announce, Lock, SubInactive, News, Set}
+use Rattle.rayon_machine_places.specs.declared.act.Act.TheVariants.{Announce, Lock, SubInactive, News, Set, LockWait}
 use Rattle.rayon_machine_places.specs.declared.act.Seen.{Seen}
-use Rattle.rayon_machine_places.specs.declared.act.Seen.TheVariants.{Yes, No, Jec, Word, Wakes}
+use Rattle.rayon_machine_places.specs.declared.act.Seen.TheVariants.{Done, Yes, No, Jec, Word, Wakes}
 use Rattle.rayon_machine_places.specs.declared.event.Event.{Event}
 use Rattle.rayon_machine_places.specs.declared.event.Event.TheVariants.{Go, End, Spawn, Install, Join}
 use Rattle.rayon_machine_places.specs.declared.state.Letter.{Letter}
 use Rattle.rayon_machine_places.specs.declared.state.Letter.TheVariants.{Sleeping, Set as IsSet}
+use Rattle.rayon_machine_places.specs.declared.state.Whereabouts.TheVariants.{Injected}
 use Rattle.rayon_machine_places.specs.declared.shape.PoolShape.{PoolShape}
 use Rattle.rayon_machine_places.specs.declared.place.Settling.{Settling}
 use Rattle.rayon_machine_places.specs.Places.{finish, act_of, next_of}
 use Rattle.rayon_machine_places.specs.World.{Shape, Stack, World, Counts, counts_at, is_even, jec, Part, target_pool, target_worker, target_call, target_job, Outcome, effect}
 use Rattle.rayon_machine_places.specs.Steps.{put, put_stack, put_seat, part_of, after_move, jobs_after, step}
 use Rattle.rayon_machine_places.specs.Runs.{start}
+use Rattle.rayon_machine_laws.specs.End.{follows}
 use Rattle.rayon_machine_laws.specs.Committed.{is_committed, is_looking}
 use Rattle.rayon_machine_laws.specs.Attended.{is_filled, has_pushed, owes_wake, settles}
 use Rattle.rayon_machine_laws.specs.Turn.{is_adding, is_added, is_news}
@@ -213,3 +216,24 @@ news_comes = (refl, refl)
 
 announce_leaves_event_counter : IfSome (run_by quiet_machine (two 32) (second_push ++ Go c ∷ Go a ∷ [])) (λ w. (is_added (w.stack a).top ≡ true) × ((w.pool 0).turn ≡ 1))
 announce_leaves_event_counter = (refl, refl)
+
+-- an outside caller passes its lock latch though it is not set
+abbrev passes_unset : Act → Shape → Party → Counts → Part → Outcome
+passes_unset (LockWait k) h q n m = Some (Done, m)
+passes_unset act h q n m = effect act h q n m
+
+-- it installs a job that no worker has taken yet, and takes from its cell
+abbrev early_take : List Event
+early_take = Install c 0 ∷ times_go c 7
+
+-- the law of ends is broken: a call answers that its result is missing, while its job still stands in the injector
+record Unanswered (w : World) : Type 0 where
+  answer : follows (w.stack c).top ≡ Some (Missing (record { number = 0; pool = 0; job = 0 }) None)
+  queued : (w.job 0).at ≡ Injected 0
+
+caller_passes_a_latch_that_is_not_set : IfSome (run_by (record { does = passes_unset; next = next_of }) (two 32) early_take) Unanswered
+caller_passes_a_latch_that_is_not_set = record { answer = refl; queued = refl }
+
+-- the machine as it is waits there
+caller_waits : run_by right (two 32) (Install c 0 ∷ times_go c 6) ≡ None
+caller_waits = refl

@@ -6,9 +6,9 @@ use Rattle.rayon_machine_places.specs.declared.place.Ending.TheVariants.{Fine, F
 use Rattle.rayon_machine_places.specs.declared.place.Plan.{Plan}
 use Rattle.rayon_machine_places.specs.declared.place.Plan.TheVariants.{Detach, Here, Send, Fork}
 use Rattle.rayon_machine_places.specs.declared.place.Then.{Then}
-use Rattle.rayon_machine_places.specs.declared.place.Then.TheVariants.{Answers, Ran, GiveBack}
+use Rattle.rayon_machine_places.specs.declared.place.Then.TheVariants.{Answers, Missing, Ran, GiveBack}
 use Rattle.rayon_machine_places.specs.declared.place.Place.{Place}
-use Rattle.rayon_machine_places.specs.declared.place.Place.TheVariants.{LowerCount, SetLatch, LockToSettle, WakeSettled, UnlockSettled}
+use Rattle.rayon_machine_places.specs.declared.place.Place.TheVariants.{TakeResult, LowerCount, SetLatch, LockToSettle, WakeSettled, UnlockSettled}
 use Rattle.rayon_machine_places.specs.declared.state.Whereabouts.TheVariants.{Over, HandedBack}
 use Rattle.rayon_machine_places.specs.declared.place.OpenCall.{OpenCall}
 use Rattle.rayon_machine_places.specs.World.{World}
@@ -64,10 +64,12 @@ follows (WakeSettled s) = Some s.then
 follows (UnlockSettled s) = Some s.then
 follows _ = None
 
--- the last steps of a call that was not refused: of one that waited, and of an install that ran its job at once
+-- the last steps of a call that was not refused: of one that waited, and of an install that ran its job at once. A call that is about to take finds its cell filled, and no call answers that it took nothing
 pub record IsEnd (w : World) : Type 0 where
   pub waited : (q : Party) (o : OpenCall) (first : Option Ending) (last : Ending) → follows (w.stack q).top ≡ Some (Answers o first last) → CallEnds w o first last
   pub once : (q : Party) (t : ℕ) (e : Ending) → follows (w.stack q).top ≡ Some (Ran t e) → HasEnded w t e
+  pub filled : (q : Party) (o : OpenCall) (first : Option Ending) → (w.stack q).top ≡ TakeResult o first → (w.call o.number).cell ≡ None → ⊥
+  pub missing : (q : Party) (o : OpenCall) (first : Option Ending) → follows (w.stack q).top ≡ Some (Missing o first) → ⊥
 
 -- a job that stands in no list and whose run has never begun
 pub record IsUntouched (w : World) (t : ℕ) : Type 0 where

@@ -15,7 +15,7 @@ use Rattle.rayon_machine_places.specs.declared.place.Plan.{Plan}
 use Rattle.rayon_machine_places.specs.declared.place.Plan.TheVariants.{Detach, Here, Send, Fork}
 use Rattle.rayon_machine_places.specs.declared.place.Share.TheVariants.{OfJob}
 use Rattle.rayon_machine_places.specs.declared.place.Then.{Then}
-use Rattle.rayon_machine_places.specs.declared.place.Then.TheVariants.{BeginFound, LeaveWait, Resume, Await, RunFirst, Answers, Ran, GiveBack}
+use Rattle.rayon_machine_places.specs.declared.place.Then.TheVariants.{BeginFound, LeaveWait, Resume, Await, RunFirst, Answers, Missing, Ran, GiveBack}
 use Rattle.rayon_machine_places.specs.declared.place.Place.{Place}
 use Rattle.rayon_machine_places.specs.declared.place.Place.TheVariants.{ProbeWorking, PopWorking, TakeCastWorking, BecomeInactive, ProbeIdle, PopIdle, TakeCastIdle, PickVictim, StealFrom, PopInjected, AnnounceSelf, GetSleepy, LockOwn, FallAsleep, LoadCounters, AddSleeping, LookAtCast, LookAtInjector, BlockSelf, RelockOwn, UndoSleeping, WakeUp, UnlockOwn, LeaveSearch, JoinProbe, JoinPop, JoinTakeCast, YieldPop, YieldTakeCast, YieldPick, YieldSteal, YieldPopInjected, LocalPop, LocalTakeCast, BeginTask, BeginHere, Run, RaiseCount, GrowCall, LookQueue, PushJob, TellNews, LockToWake, WakeWorker, UnlockWoken, WaitForLock, TakeResult, LowerCount, StoreResult, SetLatch, LockToSettle, WakeSettled, UnlockSettled, SetLockLatch, FirstSide, SecondSide, AtOnce, Free, Stopped}
 use Rattle.rayon_machine_places.specs.declared.place.Move.{Move}
@@ -98,6 +98,7 @@ finish q Resume = Back
 finish q (Await o) = Stay (awaits q o)
 finish q (RunFirst o a) = StartRun (FirstSide o a) a
 finish q (Answers o f e) = Back
+finish q (Missing o f) = Back
 finish q (Ran t e) = Back
 finish q (GiveBack n) = HandBack n
 
@@ -315,7 +316,7 @@ next_of h q (WakeWorker k) _ = Stay (UnlockWoken k)
 next_of h q (UnlockWoken k) _ = walk h q k.pool k.owed (k.worker + 1) k.then
 next_of h q (WaitForLock o) _ = Stay (TakeResult o None)
 next_of h q (TakeResult o f) (Found e) = Stay (LowerCount o.pool (OfJob o.job) (Answers o f e))
-next_of h q (TakeResult o f) _ = Stay (TakeResult o f)
+next_of h q (TakeResult o f) _ = Stay (LowerCount o.pool (OfJob o.job) (Missing o f))
 next_of h q (LowerCount p s t) Yes = settle h q p 0 t
 next_of h q (LowerCount p s t) _ = finish q t
 next_of h q (StoreResult c o e) _ = Stay (set_call c o)
@@ -357,6 +358,16 @@ abbrev pub victim_of : Place → Option ℕ
 victim_of (StealFrom k n) = Some k.victim
 victim_of (YieldSteal v n) = Some v
 victim_of _ = None
+
+-- where there is no act of any party: at a run, at a frame, where a party is free, and where it has stopped
+abbrev pub is_rest : Place → Bool
+is_rest (Run t k) = true
+is_rest (FirstSide o a) = true
+is_rest (SecondSide o) = true
+is_rest (AtOnce p t) = true
+is_rest Free = true
+is_rest Stopped = true
+is_rest _ = false
 
 -- where a party is free: at a run, or with no call open. There it can make a call
 abbrev pub is_free : Place → Bool

@@ -12,7 +12,7 @@ ghost use Rattle.rayon_machine_places.specs.declared.act.Seen.TheVariants.{Task,
 ghost use Rattle.rayon_machine_places.specs.declared.place.Place.TheVariants.{ProbeWorking, BeginTask, LowerCount, LeaveSearch, JoinProbe, SecondSide, BeginHere, PickVictim, YieldPick};
 ghost use Rattle.rayon_machine_places.specs.declared.place.Rounds.TheVariants.{Announced, Failed};
 ghost use Rattle.rayon_machine_places.specs.declared.place.Share.TheVariants.{OfJob};
-ghost use Rattle.rayon_machine_places.specs.declared.place.Then.TheVariants.{Answers};
+ghost use Rattle.rayon_machine_places.specs.declared.place.Then.TheVariants.{Answers, Missing};
 
 use crate::act::Seen;
 use crate::place::{
@@ -145,6 +145,18 @@ impl OpenCall {
             then,
         }
     }
+
+    /// The call's cell was empty: it gives its share of the terminate count back, and answers that.
+    fn unanswered(self, first: Option<Ending>) -> Place
+        ensures { result ≡ LowerCount self.pool (OfJob self.job) (Missing self first) }
+    {
+        let then = Then::Missing { call: self, first };
+        Place::LowerCount {
+            pool: self.pool,
+            share: Share::OfJob(self.job),
+            then,
+        }
+    }
 }
 
 impl Party {
@@ -208,7 +220,8 @@ impl Then {
         match self {
             Then::BeginFound { target, task } => target.begin(task),
             Then::LeaveWait(target) => Move::Stay(target.after_wait()),
-            Then::Resume | Then::Answers { .. } | Then::Ran { .. } => Move::Back,
+            Then::Resume | Then::Answers { .. } | Then::Missing { .. } | Then::Ran { .. } =>
+                Move::Back,
             Then::Await(call) => Move::Stay(party.awaiting(call)),
             Then::RunFirst { call, first } => Move::StartRun {
                 frame: Place::FirstSide { call, first },
@@ -663,6 +676,7 @@ impl Place {
             (Place::TakeResult { call, first }, Seen::Found(last)) => Move::Stay(call.answered(
                 first, last,
             )),
+            (Place::TakeResult { call, first }, _) => Move::Stay(call.unanswered(first)),
             (Place::LowerCount { pool, then, .. }, Seen::Yes) => shape.terminate(party, pool, then),
             (Place::LowerCount { then, .. }, _) => then.follow(party),
             (Place::StoreResult { call, owner, .. }, _) => Move::Stay(owner.latch_set(call)),

@@ -139,6 +139,12 @@ pub enum Then {
         first: Option<Ending>,
         last: Ending,
     },
+    /// The call answers that it took nothing, since its cell was empty: how its first side ended, if it is a join. A
+    /// fault of the first side comes before that. No call of a run of the machine answers so.
+    Missing {
+        call: OpenCall,
+        first: Option<Ending>,
+    },
     /// The install that ran its job at once answers.
     Ran {
         job: u64,

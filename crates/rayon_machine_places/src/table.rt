@@ -1,9 +1,10 @@
 //! The table of places in parts, and the acts at the places of each part.
-ghost use Rattle.std.specs.Prelude.{◌≡◌};
-ghost use Rattle.rayon_machine_places.specs.Places.{act_of, latch_of, look_act, plan_call, plan_job, plan_pool, push_act, is_free, is_refusable, is_pick, victim_of};
+ghost use Rattle.std.specs.Prelude.{ℕ, true, ◌≡◌};
+ghost use Rattle.rayon_machine_places.specs.Places.{act_of, is_free, is_pick, is_refusable, is_rest, latch_of, look_act, plan_call, plan_job, plan_pool, push_act, victim_of};
 ghost use Rattle.rayon_machine_places.specs.Groups.{group_of};
 ghost use Rattle.rayon_machine_places.specs.declared.place.Party.{Party as AnyParty};
 ghost use Rattle.rayon_machine_places.specs.declared.place.Party.TheVariants.{Worker};
+ghost use Rattle.rayon_machine_places.specs.declared.act.Act.TheVariants.{Idle};
 ghost use Rattle.rayon_machine_places.specs.declared.table.Group.TheVariants.{Busy, Searching, Dozing, Rising, Joining, Yielding, Calling, Waking, Closing};
 ghost use Rattle.rayon_machine_places.specs.Readers.{next_at};
 
@@ -135,6 +136,20 @@ impl Place {
             Place::WakeSettled(_) | Place::UnlockSettled(_) | Place::SetLockLatch(_) =>
                 Group::Closing,
             _ => Group::Resting,
+        }
+    }
+
+    /// Whether no party has an act at the place: a run, a frame below a run, a free party, or one that has stopped. At every
+    /// other place each worker has an act. Where a call or a wake is made, or a run or a call ends, an outside caller
+    /// has one too; it never stands in a wait for work, in a join or in a yield.
+    pub fn rests(self) -> bool
+        ensures rest { result ≡ is_rest self }
+        ensures none { (q : AnyParty) → result ≡ true → act_of q self ≡ Idle }
+        ensures some { (p i : ℕ) → act_of (Worker p i) self ≡ Idle → result ≡ true }
+    {
+        match self.group() {
+            Group::Resting => true,
+            _ => false,
         }
     }
 

@@ -1,0 +1,390 @@
+-- what a place has seen of its call's latch, whose latch it is about to set, and what it answers, over each act and move
+use Rattle.std.proofs.Common.{rules, arith, refl, sym, ◌∙◌, inl, inr}
+use Rattle.std.specs.Prelude.{ℕ, Bool, true, false, ◌&&◌, ◌+◌, nat_lt, if◌then◌else◌, Option, Some, None, ◌≡◌, ◌⊎◌, IfSome}
+use Rattle.rayon_machine_places.specs.declared.place.Party.{Party}
+use Rattle.rayon_machine_places.specs.declared.place.Party.TheVariants.{Worker, Caller}
+use Rattle.rayon_machine_places.specs.declared.place.Ending.{Ending}
+use Rattle.rayon_machine_places.specs.declared.place.Target.{Target}
+use Rattle.rayon_machine_places.specs.declared.place.Target.TheVariants.{Termination, Answer}
+use Rattle.rayon_machine_places.specs.declared.place.Latch.{Latch}
+use Rattle.rayon_machine_places.specs.declared.place.Latch.TheVariants.{Terminate, OfCall}
+use Rattle.rayon_machine_places.specs.declared.place.Rounds.{Rounds}
+use Rattle.rayon_machine_places.specs.declared.place.Rounds.TheVariants.{Failed, Announced}
+use Rattle.rayon_machine_places.specs.declared.place.Plan.{Plan}
+use Rattle.rayon_machine_places.specs.declared.place.Plan.TheVariants.{Detach, Here, Send, Fork}
+use Rattle.rayon_machine_places.specs.declared.place.Share.{Share}
+use Rattle.rayon_machine_places.specs.declared.place.Then.{Then}
+use Rattle.rayon_machine_places.specs.declared.place.Then.TheVariants.{BeginFound, LeaveWait, Resume, Await, RunFirst, Answers, Missing as NoResult, Ran, GiveBack}
+use Rattle.rayon_machine_places.specs.declared.place.Place.{Place}
+use Rattle.rayon_machine_places.specs.declared.place.Place.TheVariants.{ProbeWorking, ProbeIdle, PopInjected, AnnounceSelf, GetSleepy, FallAsleep, WakeUp, LeaveSearch, JoinProbe, Run, RaiseCount, GrowCall, TellNews, LockToWake, WakeWorker, UnlockWoken, WaitForLock, TakeResult, LowerCount, StoreResult, SetLatch, LockToSettle, WakeSettled, UnlockSettled, SetLockLatch, FirstSide, SecondSide, AtOnce, Free, Stopped}
+use Rattle.rayon_machine_places.specs.declared.place.Move.{Move}
+use Rattle.rayon_machine_places.specs.declared.place.Move.TheVariants.{Stay}
+use Rattle.rayon_machine_places.specs.declared.act.Act.TheVariants.{Set}
+use Rattle.rayon_machine_places.specs.declared.act.Seen.{Seen}
+use Rattle.rayon_machine_places.specs.declared.act.Seen.TheVariants.{Done, Yes, Task, Wakes, Found}
+use Rattle.rayon_machine_places.specs.declared.state.Letter.{Letter}
+use Rattle.rayon_machine_places.specs.declared.state.Letter.TheVariants.{Unset, Sleepy as IsSleepy, Sleeping, Set as IsSet}
+use Rattle.rayon_machine_places.specs.declared.shape.PoolShape.{PoolShape}
+use Rattle.rayon_machine_places.specs.declared.place.OpenCall.{OpenCall}
+use Rattle.rayon_machine_places.specs.declared.place.Wait.{Wait}
+use Rattle.rayon_machine_places.specs.declared.place.Settling.{Settling}
+use Rattle.rayon_machine_places.specs.Places.{own_pool, after_wait, latch_of, finish, walk, settle, after_set, after_found, act_of, after_failure, next_of}
+use Rattle.rayon_machine_places.specs.World.{Shape, Counts, Part, call_of, target_call, is_set, letter, lock_wait, sleepy, fall_asleep, wake_up, set_latch, found, effect}
+use Rattle.rayon_machine_laws.proofs.ClaimActs.{is_call, sets_call}
+use Rattle.rayon_machine_laws.proofs.Frame.{if_some_all, if_some_map}
+use Rattle.rayon_machine_laws.proofs.Latches.{SameLatches, latches_same}
+use Rattle.rayon_machine_laws.proofs.Owners.{target_number}
+use Rattle.rayon_machine_laws.proofs.Seats.{is_frame}
+use Rattle.rayon_machine_laws.proofs.Tops.{Tops}
+
+-- the call whose latch a place has seen set, and not yet taken from
+abbrev pub set_found : Target → Option ℕ → Option ℕ
+set_found g None = target_number g
+set_found g (Some t) = None
+
+abbrev pub set_then : Then → Option ℕ
+set_then (LeaveWait g) = target_number g
+set_then _ = None
+
+abbrev pub seen_set : Place → Option ℕ
+seen_set (LeaveSearch k) = set_found k.target k.found
+seen_set (LockToWake k) = set_then k.then
+seen_set (WakeWorker k) = set_then k.then
+seen_set (UnlockWoken k) = set_then k.then
+seen_set (TakeResult o f) = Some o.number
+seen_set (LowerCount p s t) = set_then t
+seen_set (SetLatch s) = set_then s.then
+seen_set (LockToSettle s) = set_then s.then
+seen_set (WakeSettled s) = set_then s.then
+seen_set (UnlockSettled s) = set_then s.then
+seen_set _ = None
+
+-- once its act has seen this
+abbrev pub sees_set : Place → Seen → Option ℕ
+sees_set (ProbeWorking k) Yes = target_number k.target
+sees_set (ProbeIdle k) Yes = target_number k.target
+sees_set (JoinProbe o) Yes = Some o.number
+sees_set (WaitForLock o) e = Some o.number
+sees_set x e = seen_set x
+
+-- the call whose latch a place is about to set, and the one whose cell it stores into
+abbrev pub latch_number : Latch → Option ℕ
+latch_number Terminate = None
+latch_number (OfCall c) = Some c
+
+abbrev pub sets_now : Place → Option ℕ
+sets_now (SetLatch s) = latch_number s.latch
+sets_now (SetLockLatch c) = Some c
+sets_now _ = None
+
+abbrev pub stores_now : Place → Option ℕ
+stores_now (StoreResult c o e) = Some c
+stores_now _ = None
+
+-- only a call that waits makes a cell
+abbrev pub is_waiting_plan : Plan → Bool
+is_waiting_plan (Detach p t) = false
+is_waiting_plan (Here p t) = false
+is_waiting_plan (Send o) = true
+is_waiting_plan (Fork o a) = true
+
+abbrev pub is_grown_well : Place → Bool
+is_grown_well (GrowCall n) = is_waiting_plan n
+is_grown_well _ = true
+
+-- a call answers that its result is missing
+abbrev pub then_missing : Then → Bool
+then_missing (NoResult o f) = true
+then_missing _ = false
+
+abbrev pub says_missing : Place → Bool
+says_missing (LockToWake k) = then_missing k.then
+says_missing (WakeWorker k) = then_missing k.then
+says_missing (UnlockWoken k) = then_missing k.then
+says_missing (LowerCount p s t) = then_missing t
+says_missing (SetLatch s) = then_missing s.then
+says_missing (LockToSettle s) = then_missing s.then
+says_missing (WakeSettled s) = then_missing s.then
+says_missing (UnlockSettled s) = then_missing s.then
+says_missing _ = false
+
+-- once its act has seen this
+abbrev pub finds_missing : Place → Seen → Bool
+finds_missing (TakeResult o f) (Found d) = false
+finds_missing (TakeResult o f) e = true
+finds_missing x e = says_missing x
+
+-- what is said of the place after, by what was said before
+abbrev pub Onward : Option ℕ → Option ℕ → Bool → Place → Type 0
+Onward seen stored missing y = ((c : ℕ) → seen_set y ≡ Some c → seen ≡ Some c) × ((c : ℕ) → sets_now y ≡ Some c → stored ≡ Some c) × (is_grown_well y ≡ true) × (says_missing y ≡ true → missing ≡ true)
+
+abbrev pub Follows : Place → Seen → Place → Type 0
+Follows x e y = Onward (sees_set x e) (stores_now x) (finds_missing x e) y
+
+pub frame_says : (seen stored : Option ℕ) (missing : Bool) (f : Place) → is_frame f ≡ true → Onward seen stored missing f
+frame_says n s b (ProbeWorking k) z = (λ c e. absurd (cc), λ c e. absurd (cc), refl, λ e. absurd (cc))
+frame_says n s b (JoinProbe o) z = (λ c e. absurd (cc), λ c e. absurd (cc), refl, λ e. absurd (cc))
+frame_says n s b (FirstSide o a) z = (λ c e. absurd (cc), λ c e. absurd (cc), refl, λ e. absurd (cc))
+frame_says n s b (SecondSide o) z = (λ c e. absurd (cc), λ c e. absurd (cc), refl, λ e. absurd (cc))
+frame_says n s b (AtOnce p t) z = (λ c e. absurd (cc), λ c e. absurd (cc), refl, λ e. absurd (cc))
+frame_says n s b (Run t k) z = (λ c e. absurd (cc), λ c e. absurd (cc), refl, λ e. absurd (cc))
+frame_says n s b Free z = (λ c e. absurd (cc), λ c e. absurd (cc), refl, λ e. absurd (cc))
+frame_says n s b Stopped z = (λ c e. absurd (cc), λ c e. absurd (cc), refl, λ e. absurd (cc))
+frame_says n s b _ z = cc
+
+left_on : (s : Option ℕ) (b : Bool) (g : Target) → Onward (target_number g) s b (after_wait g)
+left_on s b Termination = (λ c e. absurd (cc), λ c e. absurd (cc), refl, λ e. absurd (cc))
+left_on s b (Answer o f) = (λ c e. e, λ c e. absurd (cc), refl, λ e. absurd (cc))
+
+finish_on : (s : Option ℕ) (q : Party) (t : Then) → Tops (Onward (set_then t) s (then_missing t)) (finish q t)
+finish_on s q (BeginFound g t) = (λ c e. absurd (cc), λ c e. absurd (cc), refl, λ e. absurd (cc))
+finish_on s q (LeaveWait g) = left_on s false g
+finish_on s (Worker i j) (Await o) = (λ c e. absurd (cc), λ c e. absurd (cc), refl, λ e. absurd (cc))
+finish_on s (Caller n) (Await o) = (λ c e. absurd (cc), λ c e. absurd (cc), refl, λ e. absurd (cc))
+finish_on s q (RunFirst o a) = (λ c e. absurd (cc), λ c e. absurd (cc), refl, λ e. absurd (cc))
+finish_on s q Resume = tt
+finish_on s q (Answers o f e) = tt
+finish_on s q (NoResult o f) = tt
+finish_on s q (Ran t e) = tt
+finish_on s q (GiveBack n) = tt
+
+on_if : (R : Place → Type 0) (b : Bool) (y : Place) (g : Move) → R y → Tops R g → Tops R (if b then Stay y else g)
+on_if R true y g a t = a
+on_if R false y g a t = t
+
+walk_on : (s : Option ℕ) (h : PoolShape) (q : Party) (p n i : ℕ) (t : Then) → Tops (Onward (set_then t) s (then_missing t)) (walk h q p n i t)
+walk_on s h q p n i t = on_if (Onward (set_then t) s (then_missing t)) (nat_lt 0 n && nat_lt i h.workers) (LockToWake (record { pool = p; owed = n; worker = i; then = t })) (finish q t) (λ c e. e, λ c e. absurd (cc), refl, λ e. e) (finish_on s q t)
+
+settle_on : (s : Option ℕ) (h : PoolShape) (q : Party) (p i : ℕ) (t : Then) → Tops (Onward (set_then t) s (then_missing t)) (settle h q p i t)
+settle_on s h q p i t = on_if (Onward (set_then t) s (then_missing t)) (nat_lt i h.workers) (SetLatch (record { latch = Terminate; pool = p; worker = i; then = t })) (finish q t) (λ c e. e, λ c e. absurd (cc), refl, λ e. e) (finish_on s q t)
+
+settled_on : (o : Option ℕ) (h : PoolShape) (q : Party) (s : Settling) (l : Latch) → Tops (Onward (set_then s.then) o (then_missing s.then)) (after_set h q s l)
+settled_on o h q s Terminate = settle_on o h q s.pool (s.worker + 1) s.then
+settled_on o h q s (OfCall c) = finish_on o q s.then
+
+set_on : (h : PoolShape) (q : Party) (s : Settling) (e : Seen) → Tops (Follows (SetLatch s) e) (next_of h q (SetLatch s) e)
+set_on h q s Yes = (λ c e. e, λ c e. absurd (cc), refl, λ e. e)
+set_on h q s _ = settled_on None h q s s.latch
+
+leave_on : (h : PoolShape) (q : Party) (k : Wait) (e : Seen) → Tops (Follows (LeaveSearch k) e) (next_of h q (LeaveSearch k) e)
+leave_on h q k (Wakes n) = by k.found
+  where
+    by : (o : Option ℕ) → Tops (Onward (set_found k.target o) None false) (walk h q (own_pool q) n 0 (after_found k.target o))
+    by None = walk_on None h q (own_pool q) n 0 (LeaveWait k.target)
+    by (Some t) = walk_on None h q (own_pool q) n 0 (BeginFound k.target t)
+leave_on h q k _ = (λ c e. e, λ c e. absurd (cc), refl, λ e. absurd (cc))
+
+tell_on : (h : PoolShape) (q : Party) (n : Plan) (v : Bool) (e : Seen) → Tops (Follows (TellNews n v) e) (next_of h q (TellNews n v) e)
+tell_on h q (Detach p t) v (Wakes m) = walk_on None h q p m 0 Resume
+tell_on h q (Here p t) v (Wakes m) = walk_on None h q p m 0 Resume
+tell_on h q (Send o) v (Wakes m) = walk_on None h q o.pool m 0 (Await o)
+tell_on h q (Fork o a) v (Wakes m) = walk_on None h q o.pool m 0 (RunFirst o a)
+tell_on h q n v _ = (λ c e. absurd (cc), λ c e. absurd (cc), refl, λ e. absurd (cc))
+
+raise_on : (h : PoolShape) (q : Party) (n : Plan) (e : Seen) → Tops (Follows (RaiseCount n) e) (next_of h q (RaiseCount n) e)
+raise_on h q (Detach p t) Done = (λ c e. absurd (cc), λ c e. absurd (cc), refl, λ e. absurd (cc))
+raise_on h q (Here p t) Done = (λ c e. absurd (cc), λ c e. absurd (cc), refl, λ e. absurd (cc))
+raise_on h q (Send o) Done = (λ c e. absurd (cc), λ c e. absurd (cc), refl, λ e. absurd (cc))
+raise_on h q (Fork o a) Done = (λ c e. absurd (cc), λ c e. absurd (cc), refl, λ e. absurd (cc))
+raise_on h q n _ = tt
+
+store_on : (h : PoolShape) (q : Party) (c : ℕ) (o : Party) (d : Ending) (e : Seen) → Tops (Follows (StoreResult c o d) e) (next_of h q (StoreResult c o d) e)
+store_on h q c (Worker p i) d e = (λ c e. absurd (cc), λ c e. e, refl, λ e. absurd (cc))
+store_on h q c (Caller n) d e = (λ c e. absurd (cc), λ c e. e, refl, λ e. absurd (cc))
+
+probe_on : (h : PoolShape) (q : Party) (k : Wait) (e : Seen) → Tops (Follows (ProbeWorking k) e) (next_of h q (ProbeWorking k) e)
+probe_on h q k Yes = left_on None false k.target
+probe_on h q k _ = (λ c e. absurd (cc), λ c e. absurd (cc), refl, λ e. absurd (cc))
+
+lower_on : (h : PoolShape) (q : Party) (p : ℕ) (s : Share) (t : Then) (e : Seen) → Tops (Follows (LowerCount p s t) e) (next_of h q (LowerCount p s t) e)
+lower_on h q p s t Yes = settle_on None h q p 0 t
+lower_on h q p s t _ = finish_on None q t
+
+search_on : (h : PoolShape) (k : Wait) (r : Rounds) → Onward None None false (after_failure h k r)
+search_on h k (Failed m) = at (nat_lt m h.limit)
+  where
+    at : (b : Bool) → Onward None None false (if b then ProbeIdle (record k { rounds = Failed (m + 1) }) else AnnounceSelf k)
+    at true = (λ c e. absurd (cc), λ c e. absurd (cc), refl, λ e. absurd (cc))
+    at false = (λ c e. absurd (cc), λ c e. absurd (cc), refl, λ e. absurd (cc))
+search_on h k Announced = (λ c e. absurd (cc), λ c e. absurd (cc), refl, λ e. absurd (cc))
+
+inject_on : (h : PoolShape) (q : Party) (k : Wait) (e : Seen) → Tops (Follows (PopInjected k) e) (next_of h q (PopInjected k) e)
+inject_on h q k (Task t) = (λ c e. absurd (cc), λ c e. absurd (cc), refl, λ e. absurd (cc))
+inject_on h q k _ = search_on h k k.rounds
+
+take_on : (h : PoolShape) (q : Party) (o : OpenCall) (f : Option Ending) (e : Seen) → Tops (Follows (TakeResult o f) e) (next_of h q (TakeResult o f) e)
+take_on h q o f (Found d) = (λ c e. absurd (cc), λ c e. absurd (cc), refl, λ e. absurd (cc))
+take_on h q o f _ = (λ c e. absurd (cc), λ c e. absurd (cc), refl, λ e. refl)
+
+of_every : (h : Shape) (g : PoolShape) (q : Party) (c : Counts) (m : Part) (x : Place) → ((e : Seen) → Tops (Follows x e) (next_of g q x e)) → IfSome (effect (act_of q x) h q c m) (λ r. Tops (Follows x (r.0)) (next_of g q x (r.0)))
+of_every h g q c m x f = if_some_all {A = Seen × Part} (λ r. Tops (Follows x (r.0)) (next_of g q x (r.0))) (λ r. f (r.0)) (effect (act_of q x) h q c m)
+
+-- the place after an act
+pub follows_on : (h : Shape) (g : PoolShape) (q : Party) (c : Counts) (m : Part) (x : Place) → IfSome (effect (act_of q x) h q c m) (λ r. Tops (Follows x (r.0)) (next_of g q x (r.0)))
+follows_on h g q c m (ProbeWorking k) = of_every h g q c m (ProbeWorking k) (probe_on g q k)
+follows_on h g q c m (PopInjected k) = of_every h g q c m (PopInjected k) (inject_on g q k)
+follows_on h g q c m (LeaveSearch k) = of_every h g q c m (LeaveSearch k) (leave_on g q k)
+follows_on h g q c m (TellNews n v) = of_every h g q c m (TellNews n v) (tell_on g q n v)
+follows_on h g q c m (RaiseCount n) = of_every h g q c m (RaiseCount n) (raise_on g q n)
+follows_on h g q c m (StoreResult d o e) = of_every h g q c m (StoreResult d o e) (store_on g q d o e)
+follows_on h g q c m (LowerCount p s t) = of_every h g q c m (LowerCount p s t) (lower_on g q p s t)
+follows_on h g q c m (UnlockWoken k) = of_every h g q c m (UnlockWoken k) (λ e. walk_on None g q k.pool k.owed (k.worker + 1) k.then)
+follows_on h g q c m (SetLatch s) = of_every h g q c m (SetLatch s) (set_on g q s)
+follows_on h g q c m (UnlockSettled s) = of_every h g q c m (UnlockSettled s) (λ e. settled_on None g q s s.latch)
+follows_on h g q c m (TakeResult o f) = of_every h g q c m (TakeResult o f) (take_on g q o f)
+follows_on h g (Worker i j) c m _ = search (rules, arith)
+follows_on h g (Caller n) c m _ = search (rules, arith)
+
+-- places whose acts make a cell, and those whose acts write one
+abbrev pub is_growing : Place → Bool
+is_growing (GrowCall n) = true
+is_growing _ = false
+
+abbrev pub writes_cell : Place → Bool
+writes_cell (GrowCall n) = true
+writes_cell (TakeResult o f) = true
+writes_cell (StoreResult c o e) = true
+writes_cell _ = false
+
+pub number_is : (a b : ℕ) → Some a ≡ Some b → a ≡ b
+number_is a b e = cc
+
+-- who sees a latch set sees the one that its act touches
+abbrev pub SeesSet : Party → Part → Place → Seen × Part → Type 0
+SeesSet q m x r = (d : ℕ) → sees_set x (r.0) ≡ Some d → (seen_set x ≡ Some d) ⊎ ((target_call (act_of q x) ≡ d) × (m.call.latch ≡ IsSet))
+
+target_set : (m : Part) (g : Target) (d : ℕ) → letter (latch_of g) m ≡ IsSet → target_number g ≡ Some d → (call_of (latch_of g) ≡ d) × (m.call.latch ≡ IsSet)
+target_set m Termination d z e = absurd (cc)
+target_set m (Answer o f) d z e = (number_is (o.number) d e, z)
+
+working_sees : (q : Party) (m : Part) (k : Wait) (d : ℕ) (x : Letter) → letter (latch_of k.target) m ≡ x → sees_set (ProbeWorking k) (is_set x) ≡ Some d → (call_of (latch_of k.target) ≡ d) × (m.call.latch ≡ IsSet)
+working_sees q m k d IsSet z e = target_set m k.target d z e
+working_sees q m k d Unset z e = absurd (cc)
+working_sees q m k d IsSleepy z e = absurd (cc)
+working_sees q m k d Sleeping z e = absurd (cc)
+
+idle_sees : (q : Party) (m : Part) (k : Wait) (d : ℕ) (x : Letter) → letter (latch_of k.target) m ≡ x → sees_set (ProbeIdle k) (is_set x) ≡ Some d → (call_of (latch_of k.target) ≡ d) × (m.call.latch ≡ IsSet)
+idle_sees q m k d IsSet z e = target_set m k.target d z e
+idle_sees q m k d Unset z e = absurd (cc)
+idle_sees q m k d IsSleepy z e = absurd (cc)
+idle_sees q m k d Sleeping z e = absurd (cc)
+
+join_sees : (q : Party) (m : Part) (o : OpenCall) (d : ℕ) (x : Letter) → m.call.latch ≡ x → sees_set (JoinProbe o) (is_set x) ≡ Some d → (o.number ≡ d) × (m.call.latch ≡ IsSet)
+join_sees q m o d IsSet z e = (number_is (o.number) d e, z)
+join_sees q m o d Unset z e = absurd (cc)
+join_sees q m o d IsSleepy z e = absurd (cc)
+join_sees q m o d Sleeping z e = absurd (cc)
+
+lock_sees : (m : Part) (o : OpenCall) (x : Letter) → m.call.latch ≡ x → IfSome (lock_wait m x) (λ r. (d : ℕ) → Some o.number ≡ Some d → (seen_set (WaitForLock o) ≡ Some d) ⊎ ((o.number ≡ d) × (m.call.latch ≡ IsSet)))
+lock_sees m o IsSet z = λ d e. inr (number_is (o.number) d e, z)
+lock_sees m o Unset z = tt
+lock_sees m o IsSleepy z = tt
+lock_sees m o Sleeping z = tt
+
+pub act_sees : (h : Shape) (q : Party) (c : Counts) (m : Part) (x : Place) → IfSome (effect (act_of q x) h q c m) (SeesSet q m x)
+act_sees h (Worker a b) c m (ProbeWorking k) = λ d e. inr (working_sees (Worker a b) m k d (letter (latch_of k.target) m) refl e)
+act_sees h (Worker a b) c m (ProbeIdle k) = λ d e. inr (idle_sees (Worker a b) m k d (letter (latch_of k.target) m) refl e)
+act_sees h (Worker a b) c m (JoinProbe o) = λ d e. inr (join_sees (Worker a b) m o d m.call.latch refl e)
+act_sees h (Worker a b) c m (WaitForLock o) = lock_sees m o m.call.latch refl
+act_sees h (Worker a b) c m x = if_some_all (SeesSet (Worker a b) m x) (λ r d e. inl e) (effect (act_of (Worker a b) x) h (Worker a b) c m)
+act_sees h (Caller n) c m (ProbeWorking k) = tt
+act_sees h (Caller n) c m (ProbeIdle k) = tt
+act_sees h (Caller n) c m (JoinProbe o) = tt
+act_sees h (Caller n) c m (WaitForLock o) = lock_sees m o m.call.latch refl
+act_sees h (Caller n) c m x = if_some_all (SeesSet (Caller n) m x) (λ r d e. inl e) (effect (act_of (Caller n) x) h (Caller n) c m)
+
+-- the latch of a call stays set, but where the call is made
+abbrev pub StaysSet : Part → Seen × Part → Type 0
+StaysSet m r = m.call.latch ≡ IsSet → r.1.call.latch ≡ IsSet
+
+sleepy_stays : (l : Latch) (m : Part) (x : Letter) → letter l m ≡ x → IfSome (sleepy l m x) (StaysSet m)
+sleepy_stays Terminate m Unset z = λ s. s
+sleepy_stays (OfCall c) m Unset z = λ s. absurd (let k : Unset ≡ IsSet = sym z ∙ s in cc)
+sleepy_stays l m IsSleepy z = λ s. s
+sleepy_stays l m Sleeping z = λ s. s
+sleepy_stays l m IsSet z = λ s. s
+
+asleep_stays : (l : Latch) (m : Part) (x : Letter) → letter l m ≡ x → IfSome (fall_asleep l m x) (StaysSet m)
+asleep_stays Terminate m IsSleepy z = λ s. s
+asleep_stays (OfCall c) m IsSleepy z = λ s. absurd (let k : IsSleepy ≡ IsSet = sym z ∙ s in cc)
+asleep_stays l m Unset z = λ s. s
+asleep_stays l m Sleeping z = λ s. s
+asleep_stays l m IsSet z = λ s. s
+
+wake_stays : (l : Latch) (m : Part) (x : Letter) → letter l m ≡ x → IfSome (wake_up l m x) (StaysSet m)
+wake_stays l m IsSet z = λ s. s
+wake_stays Terminate m Unset z = λ s. s
+wake_stays Terminate m IsSleepy z = λ s. s
+wake_stays Terminate m Sleeping z = λ s. s
+wake_stays (OfCall c) m Unset z = λ s. absurd (let k : Unset ≡ IsSet = sym z ∙ s in cc)
+wake_stays (OfCall c) m IsSleepy z = λ s. absurd (let k : IsSleepy ≡ IsSet = sym z ∙ s in cc)
+wake_stays (OfCall c) m Sleeping z = λ s. absurd (let k : Sleeping ≡ IsSet = sym z ∙ s in cc)
+
+set_stays : (l : Latch) (m : Part) (x : Letter) → IfSome (set_latch l m x) (StaysSet m)
+set_stays Terminate m Sleeping = λ s. s
+set_stays Terminate m Unset = λ s. s
+set_stays Terminate m IsSleepy = λ s. s
+set_stays Terminate m IsSet = λ s. s
+set_stays (OfCall c) m Sleeping = λ s. refl
+set_stays (OfCall c) m Unset = λ s. refl
+set_stays (OfCall c) m IsSleepy = λ s. refl
+set_stays (OfCall c) m IsSet = λ s. refl
+
+pub act_stays_set : (h : Shape) (q : Party) (c : Counts) (m : Part) (x : Place) → is_growing x ≡ false → IfSome (effect (act_of q x) h q c m) (StaysSet m)
+act_stays_set h (Worker a b) c m (GetSleepy k) z = sleepy_stays (latch_of k.target) m (letter (latch_of k.target) m) refl
+act_stays_set h (Worker a b) c m (FallAsleep k) z = asleep_stays (latch_of k.target) m (letter (latch_of k.target) m) refl
+act_stays_set h (Worker a b) c m (WakeUp k) z = wake_stays (latch_of k.target) m (letter (latch_of k.target) m) refl
+act_stays_set h (Worker a b) c m (SetLatch s) z = set_stays s.latch m (letter s.latch m)
+act_stays_set h (Worker a b) c m (SetLockLatch d) z = λ s. refl
+act_stays_set h (Worker a b) c m (GrowCall n) z = cc
+act_stays_set h (Worker a b) c m x z = if_some_map (SameLatches m) (StaysSet m) (λ r s e. s.call ∙ e) (effect (act_of (Worker a b) x) h (Worker a b) c m) (latches_same h (Worker a b) c m x refl)
+act_stays_set h (Caller n) c m (GetSleepy k) z = tt
+act_stays_set h (Caller n) c m (FallAsleep k) z = tt
+act_stays_set h (Caller n) c m (WakeUp k) z = tt
+act_stays_set h (Caller n) c m (SetLatch s) z = set_stays s.latch m (letter s.latch m)
+act_stays_set h (Caller n) c m (SetLockLatch d) z = λ s. refl
+act_stays_set h (Caller n) c m (GrowCall e) z = cc
+act_stays_set h (Caller n) c m x z = if_some_map (SameLatches m) (StaysSet m) (λ r s e. s.call ∙ e) (effect (act_of (Caller n) x) h (Caller n) c m) (latches_same h (Caller n) c m x refl)
+
+-- a cell is as it was, but where it is made, stored into or taken from
+abbrev pub SameCell : Part → Seen × Part → Type 0
+SameCell m r = r.1.call.cell ≡ m.call.cell
+
+set_cell : (l : Latch) (r j : ℕ) (h : Shape) (q : Party) (c : Counts) (m : Part) → IfSome (effect (Set l r j) h q c m) (SameCell m)
+set_cell Terminate r j h q c m = search (rules, arith)
+set_cell (OfCall n) r j h q c m = search (rules, arith)
+
+pub act_cell : (h : Shape) (q : Party) (c : Counts) (m : Part) (x : Place) → writes_cell x ≡ false → IfSome (effect (act_of q x) h q c m) (SameCell m)
+act_cell h (Worker a b) c m (ProbeWorking k) z = search (rules, arith)
+act_cell h q c m (SetLatch s) z = set_cell s.latch s.pool s.worker h q c m
+act_cell h q c m (GrowCall n) z = cc
+act_cell h q c m (TakeResult o f) z = cc
+act_cell h q c m (StoreResult d o e) z = cc
+act_cell h (Worker a b) c m _ z = search (rules, arith)
+act_cell h (Caller n) c m _ z = search (rules, arith)
+
+-- what is stored is in the cell
+pub act_stores : (h : Shape) (q : Party) (c : Counts) (m : Part) (d : ℕ) (o : Party) (e : Ending) → IfSome (effect (act_of q (StoreResult d o e)) h q c m) (λ r. r.1.call.cell ≡ Some e)
+act_stores h (Worker a b) c m d o e = refl
+act_stores h (Caller n) c m d o e = refl
+
+-- a call that takes nothing found its cell empty
+take_finds : (m : Part) (o : OpenCall) (f : Option Ending) (x : Option Ending) → m.call.cell ≡ x → IfSome (found m x) (λ r. finds_missing (TakeResult o f) (r.0) ≡ true → m.call.cell ≡ None)
+take_finds m o f None z = λ e. z
+take_finds m o f (Some d) z = λ e. cc
+
+pub act_finds : (h : Shape) (q : Party) (c : Counts) (m : Part) (o : OpenCall) (f : Option Ending) → IfSome (effect (act_of q (TakeResult o f)) h q c m) (λ r. finds_missing (TakeResult o f) (r.0) ≡ true → m.call.cell ≡ None)
+act_finds h (Worker a b) c m o f = take_finds m o f m.call.cell refl
+act_finds h (Caller n) c m o f = take_finds m o f m.call.cell refl
+
+-- whose act sets the latch of a call is about to set the one that it touches
+latch_sets : (l : Latch) → is_call l ≡ true → latch_number l ≡ Some (call_of l)
+latch_sets (OfCall c) e = refl
+latch_sets Terminate e = cc
+
+pub sets_touched : (q : Party) (x : Place) → sets_call x ≡ true → sets_now x ≡ Some (target_call (act_of q x))
+sets_touched (Worker a b) (SetLatch s) e = latch_sets s.latch e
+sets_touched (Caller n) (SetLatch s) e = latch_sets s.latch e
+sets_touched (Worker a b) (SetLockLatch c) e = refl
+sets_touched (Caller n) (SetLockLatch c) e = refl
+sets_touched q _ e = cc

@@ -3,8 +3,9 @@
 
 #[cfg(test)]
 mod tests {
+    use rayon_machine::act::{Act, Seen};
     use rayon_machine::event::Event;
-    use rayon_machine::place::{Ending, Party};
+    use rayon_machine::place::{Ending, Move, OpenCall, Party, Place, Share, Then};
     use rayon_machine::shape::{Order, PoolShape};
     use rayon_machine::world::World;
     use std::alloc::{AllocError, Global};
@@ -182,5 +183,57 @@ mod tests {
         assert_eq!(rt; made(&mut world, &lines), 7);
         assert!(rt; pool_line(&world) == Some((0, 0, 1, 0, 2)));
         assert!(rt; job_line(&world) == (0, 1, 0));
+    }
+
+    /// A call that waits at pool 1.
+    const CALL: OpenCall = OpenCall {
+        number: 3,
+        pool: 1,
+        job: 5,
+    };
+
+    #[test]
+    fn a_call_with_an_empty_cell_lowers_its_share_and_answers_missing(rt: HostRuntime) {
+        let place = Place::TakeResult {
+            call: CALL,
+            first: Some(Ending::Fine),
+        };
+        let Move::Stay(next) = place.next(C, pool_of(2), Seen::Missing) else {
+            return assert!(rt; false);
+        };
+        let Place::LowerCount { pool, share, then } = next else {
+            return assert!(rt; false);
+        };
+        assert_eq!(rt; pool, 1);
+        assert!(rt; matches!(share, Share::OfJob(5)));
+        let Then::Missing { call, first } = then else {
+            return assert!(rt; false);
+        };
+        assert_eq!(rt; call.number, 3);
+        assert!(rt; first == Some(Ending::Fine));
+    }
+
+    #[test]
+    fn a_place_at_rest_has_no_act(rt: HostRuntime) {
+        for place in [Place::Free, Place::Stopped, Place::SecondSide(CALL)] {
+            assert!(rt; place.rests());
+            assert!(rt; matches!(place.act(A), Act::Idle));
+        }
+        for place in [
+            Place::YieldPop,
+            Place::JoinProbe(CALL),
+            Place::WaitForLock(CALL),
+        ] {
+            assert!(rt; !place.rests());
+            assert!(rt; !matches!(place.act(A), Act::Idle));
+        }
+    }
+
+    #[test]
+    fn an_act_touches_the_pool_that_it_names_or_the_own_one(rt: HostRuntime) {
+        let party = Party::Worker { pool: 7, index: 0 };
+        assert_eq!(rt; Act::LookInj(4).pool(party), 4);
+        assert_eq!(rt; Act::PopInj.pool(party), 7);
+        assert_eq!(rt; Act::Take(4).pool(C), 0);
     }
 }

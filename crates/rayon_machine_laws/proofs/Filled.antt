@@ -38,7 +38,7 @@ use Rattle.rayon_machine_laws.specs.End.{follows}
 use Rattle.rayon_machine_places.specs.Readers.{is_done}
 use Rattle.rayon_machine_laws.specs.Once.{one}
 use Rattle.rayon_machine_laws.specs.Shares.{share, shares_in, shares}
-use Rattle.rayon_machine_laws.proofs.Frame.{either, and_parts, if_some_all, if_some_and, if_some_map, if_cond, acted_keeps}
+use Rattle.rayon_machine_laws.proofs.Frame.{either, and_parts, if_some_all, if_some_and, if_some_map, if_cond, acted_keeps, put_same, put_new, stack_mine}
 use Rattle.rayon_machine_laws.proofs.Ties.{AllFrames, job_at, outcome, result}
 use Rattle.rayon_machine_laws.proofs.Tops.{Tops, FramesOk, top_after}
 use Rattle.rayon_machine_laws.proofs.Holding.{go_frames}
@@ -52,10 +52,10 @@ use Rattle.rayon_machine_laws.proofs.Located.{Loc, loc_of, loc_at, is_loc, where
 use Rattle.rayon_machine_laws.proofs.PlacedRuns.{JobsHold}
 use Rattle.rayon_machine_laws.proofs.Claims.{Opened, FirstEnds, SaysTarget, SaysThen, SaysLatch, Says}
 use Rattle.rayon_machine_laws.proofs.Later.{Static, act_static}
-use Rattle.rayon_machine_laws.proofs.ClaimActs.{put_same, put_new, Written, act_written}
-use Rattle.rayon_machine_laws.proofs.ClaimRuns.{CallsHold, top_says, part_at, world_after}
+use Rattle.rayon_machine_laws.proofs.ClaimActs.{Written, act_written}
+use Rattle.rayon_machine_laws.proofs.ClaimRuns.{CallsHold, top_says, place_part, world_after}
 use Rattle.rayon_machine_laws.proofs.Amounts.{gained, pushed, paid}
-use Rattle.rayon_machine_laws.proofs.ShareActs.{with_job, SharesHold, one_most, stack_mine}
+use Rattle.rayon_machine_laws.proofs.ShareActs.{with_job, SharesHold, one_most}
 use Rattle.rayon_machine_laws.proofs.ShareRuns.{shares_mine}
 use Rattle.rayon_machine_laws.proofs.ShareSteps.{self_one}
 use Rattle.rayon_machine_laws.proofs.ShareEvents.{go_shares}
@@ -152,11 +152,11 @@ record Deed (w : World) (q : Party) (x : Place) (fs : List Place) (r : Seen × P
   hold : SharesHold (world_after w q x fs r)
   frames : FramesOk (world_after w q x fs r)
   follows : Tops (Follows x (r.0)) (next_of (w.shape.pool (target_pool q (act_of q x))) q x (r.0))
-  static : Static (part_at w q x) r
-  written : Written (part_at w q x) x r
-  sees : SeesSet q (part_at w q x) x r
-  stays : is_growing x ≡ false → StaysSet (part_at w q x) r
-  cell : writes_cell x ≡ false → SameCell (part_at w q x) r
+  static : Static (place_part w q x) r
+  written : Written (place_part w q x) x r
+  sees : SeesSet q (place_part w q x) x r
+  stays : is_growing x ≡ false → StaysSet (place_part w q x) r
+  cell : writes_cell x ≡ false → SameCell (place_part w q x) r
   stored : (c : ℕ) → stores_now x ≡ Some c → (target_call (act_of q x) ≡ c) × (r.1.call.cell ≡ None → ⊥)
   found : finds_missing x (r.0) ≡ true → ⊥
 
@@ -172,15 +172,15 @@ stores_at h q k m x = if_some_all (λ r. (c : ℕ) → stores_now x ≡ Some c �
 -- no act finds that a result is missing
 finds_at : (w : World) (q : Party) (x : Place) (fs : List Place) → FilledHold w → w.stack q ≡ record { top = x; below = fs } → IfSome (outcome w q (record { top = x; below = fs })) (λ r. finds_missing x (r.0) ≡ true → ⊥)
 finds_at w (Worker a b) (TakeResult o f) fs h z = if_some_map (λ r. finds_missing (TakeResult o f) (r.0) ≡ true → (w.call o.number).cell ≡ None) (λ r. finds_missing (TakeResult o f) (r.0) ≡ true → ⊥) (λ r g e. take_filled w (Worker a b) o f fs h z (g e)) (outcome w (Worker a b) (record { top = TakeResult o f; below = fs }))
-    (act_finds w.shape (Worker a b) (counts_at w (target_pool (Worker a b) (act_of (Worker a b) (TakeResult o f)))) (part_at w (Worker a b) (TakeResult o f)) o f)
+    (act_finds w.shape (Worker a b) (counts_at w (target_pool (Worker a b) (act_of (Worker a b) (TakeResult o f)))) (place_part w (Worker a b) (TakeResult o f)) o f)
 finds_at w (Caller n) (TakeResult o f) fs h z = if_some_map (λ r. finds_missing (TakeResult o f) (r.0) ≡ true → (w.call o.number).cell ≡ None) (λ r. finds_missing (TakeResult o f) (r.0) ≡ true → ⊥) (λ r g e. take_filled w (Caller n) o f fs h z (g e)) (outcome w (Caller n) (record { top = TakeResult o f; below = fs }))
-    (act_finds w.shape (Caller n) (counts_at w (target_pool (Caller n) (act_of (Caller n) (TakeResult o f)))) (part_at w (Caller n) (TakeResult o f)) o f)
+    (act_finds w.shape (Caller n) (counts_at w (target_pool (Caller n) (act_of (Caller n) (TakeResult o f)))) (place_part w (Caller n) (TakeResult o f)) o f)
 finds_at w q x fs h z = if_some_all (λ r. finds_missing x (r.0) ≡ true → ⊥) (λ r e. absurd (let y : says_missing x ≡ false = ap (λ k. says_missing (k.top)) (sym z) ∙ h.found q in cc)) (outcome w q (record { top = x; below = fs }))
 
 deed_of : (w : World) (q : Party) → FilledHold w → IfSome (outcome w q (w.stack q)) (λ r. Deed w q ((w.stack q).top) ((w.stack q).below) r)
 deed_of w q h =
     let k : Stack = w.stack q in let x : Place = k.top in
-    let c : Counts = counts_at w (target_pool q (act_of q x)) in let m : Part = part_at w q x in let o : Outcome = outcome w q k in
+    let c : Counts = counts_at w (target_pool q (act_of q x)) in let m : Part = place_part w q x in let o : Outcome = outcome w q k in
     if_some_map (λ r. ((SharesHold (result w q k r) × FramesOk (result w q k r)) × (Static m r × Written m x r)) × (((Tops (Follows x (r.0)) (next_of (w.shape.pool (target_pool q (act_of q x))) q x (r.0)) × SeesSet q m x r) × ((is_growing x ≡ false → StaysSet m r) × (writes_cell x ≡ false → SameCell m r))) × (((d : ℕ) → stores_now x ≡ Some d → (target_call (act_of q x) ≡ d) × (r.1.call.cell ≡ None → ⊥)) × (finds_missing x (r.0) ≡ true → ⊥))))
     (λ r. Deed w q x (k.below) r)
     (λ r f. record { hold = ((f.0).0).0; frames = ((f.0).0).1; static = ((f.0).1).0; written = ((f.0).1).1; follows = (((f.1).0).0).0; sees = (((f.1).0).0).1; stays = (((f.1).0).1).0; cell = (((f.1).0).1).1; stored = ((f.1).1).0; found = ((f.1).1).1 })

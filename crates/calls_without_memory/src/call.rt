@@ -1,4 +1,4 @@
-// The calls that the program makes, and what they give.
+//! The calls that the program makes, and what they give.
 ghost use Rattle.std.specs.Prelude.{◌≡◌, ℕ, ◌≤◌};
 
 use crate::work::{Answer, Deed, Name, Work};

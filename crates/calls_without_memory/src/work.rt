@@ -1,4 +1,4 @@
-// The jobs of the program.
+//! The jobs of the program.
 ghost use Rattle.std.specs.Prelude.{◌≡◌, ℕ};
 
 use crate::call::{Outcome, Report, join_on_worker};

@@ -4,6 +4,8 @@
 mod deeds;
 mod errand;
 #[cfg(test)]
+mod lent;
+#[cfg(test)]
 mod tests;
 
 pub use errand::{Answer, Deed, Errand, Marks, Name, Trouble, Words};

@@ -3,10 +3,12 @@
 #![tactic(auto)]
 
 mod builder;
+mod end_after;
 mod pool_ref;
 mod thread_pool;
 
 pub use builder::{ThreadPoolBuildError, ThreadPoolBuilder};
+pub use end_after::EndAfter;
 pub use pool_ref::PoolRef;
 pub use rayon_jobs::{
     Cell, Done, Installed, JobKind, Pair, PairReply, Reply, SecondSide, Task, Ticket,

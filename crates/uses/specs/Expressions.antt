@@ -1,7 +1,7 @@
 use Rattle.std.specs.Prelude.{◌≡◌, ℕ, ◌+◌, ◌*◌, Bool, true, false, ◌&&◌, nat_eq, Option, Some, None, Result, MatchResult, if◌then◌else◌, nat_lt}
 use Rattle.std.specs.Cmp.{IsEquivalence, nat_eq_equiv}
 use Rattle.std.specs.Cmp.Derive.{both_true}
-use Rattle.std.proofs.Common.{refl, sym, ap, ◌∙◌, eqb-true}
+use Rattle.std.proofs.Common.{rules, refl, sym, ap, ◌∙◌, eqb-true}
 use Rattle.uses.specs.declared.tree.Operator.{Operator}
 use Rattle.uses.specs.declared.tree.Operator.TheVariants.{Plus, Times}
 use Rattle.uses.specs.declared.tree.Expression.{Expression}
@@ -43,14 +43,10 @@ same (Number m) (Apply' u r c s d) = false
 same (Apply' o p a q b) (Number n) = false
 same (Apply' o p a q b) (Apply' u r c s d) = same_operator o u && (same a c && same b d)
 
-left : (s t : Bool) → (s && t) ≡ true → s ≡ true
-left true t e = refl
-left false t e = e
-
-right : (s t : Bool) → (s && t) ≡ true → t ≡ true
-right true t e = e
-right false true e = refl
-right false false e = e
+apart : (s t u : Bool) → (s && (t && u)) ≡ true → (s ≡ true) × (t ≡ true) × (u ≡ true)
+apart true true u e = (refl, refl, e)
+apart true false u e = search rules
+apart false t u e = search rules
 
 same_operator-is : (o u : Operator) → same_operator o u ≡ true → o ≡ u
 same_operator-is Plus Plus e = refl
@@ -85,7 +81,8 @@ same-congr (Number m) (Apply' u r c s d) z e = search rules
 same-congr (Apply' o p a q b) (Number n) z e = search rules
 same-congr (Apply' o p a q b) (Apply' u r c s d) (Number n) e = refl
 same-congr (Apply' o p a q b) (Apply' u r c s d) (Apply' v h i j k) e =
-    rw (same_operator-is o u (left _ _ e), same-congr a c i (left _ _ (right _ _ e)), same-congr b d k (right _ _ (right _ _ e)))
+    let h = apart (same_operator o u) (same a c) (same b d) e in
+    rw (same_operator-is o u h.0, same-congr a c i h.1, same-congr b d k h.2)
 
 -- the law of `Eq`
 pub same_equivalence : IsEquivalence same
@@ -97,8 +94,9 @@ same_value (Number m) (Number n) e = ap Some (eqb-true m n e)
 same_value (Number m) (Apply' u r c s d) e = search rules
 same_value (Apply' o p a q b) (Number n) e = search rules
 same_value (Apply' o p a q b) (Apply' u r c s d) e =
-    rw (same_operator-is o u (left _ _ e), same_value a c (left _ _ (right _ _ e)), same_value b d (right _ _ (right _ _ e)))
+    let h = apart (same_operator o u) (same a c) (same b d) e in
+    rw (same_operator-is o u h.0, same_value a c h.1, same_value b d h.2)
 
--- the law of equal tags
-pub same_evaluates : (x y : Expression) (r : Result ℕ TreeFault) → same x y ≡ true → Evaluates x r → Evaluates y r
-same_evaluates x y r e h = rw (same_value x y e) at h
+-- the law of equal tags, for both relations
+pub same_evaluates : (x y : Expression) → same x y ≡ true → ((r : Result ℕ TreeFault) → Evaluates x r → Evaluates y r) × ((i n : ℕ) (r : Result ℕ TreeFault) → Evaluates x r → Evaluates y r)
+same_evaluates x y e = (λ r h. rw (same_value x y e) at h, λ i n r h. rw (same_value x y e) at h)

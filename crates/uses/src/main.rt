@@ -1,31 +1,93 @@
-//! Uses of `rayon_core`, as a caller writes them: one file for each feature.
+//! Uses of `rayon_core`, as a caller writes them: one file for each feature, and here how a pool is made for it, lent and
+//! ended.
 #![tactic(auto)]
 
+mod closure;
+mod sort;
 mod sum;
+mod threads;
 mod tree;
 
-use rayon_core::{Ids, ThreadPoolBuilder};
-use std::io;
-use sum::Squares;
+use rayon_core::{CallError, EndAfter, Ids, ThreadPoolBuilder};
+use sort::Sort;
+use std::alloc::Global;
+use std::sync::Wait;
+use std::thread::Threads;
+use sum::Sum;
+use tree::{Evaluate, Expression, Operator};
 
-fn main(rt: HostRuntime) -> io::Result<()> {
+// The sum of all numbers, and of each half.
+fn sums<R: Threads + Wait + Copy + Send + 'static>(
+    rt: &R,
+    alloc: Global,
+    ids: &Ids,
+) -> anyhow::Result<(u64, u64, u64)> {
+    let pool = ThreadPoolBuilder::new().build(rt, alloc, ids)?;
+    pool.end_after(rt, |pool| {
+        let whole = pool.install(rt, alloc, Sum { start: 0, end: 12 });
+        let (left, right) = (Sum { start: 0, end: 6 }, Sum { start: 6, end: 12 });
+        let halves = pool.join(rt, alloc, left, right);
+        let whole = whole.map_err(CallError::without_sides)?;
+        let (left, right) = halves.map_err(CallError::without_sides)?;
+        Ok((whole, left, right))
+    })
+}
+
+// Numbers that are owned, in ascending order.
+fn ascending<R: Threads + Wait + Copy + Send + 'static>(
+    rt: &R,
+    alloc: Global,
+    ids: &Ids,
+    numbers: Vec<u64>,
+) -> anyhow::Result<Vec<u64>> {
+    let numbers: &'static [u64] = numbers.leak();
+    let pool = ThreadPoolBuilder::new().build(rt, alloc, ids)?;
+    let sorted = pool.install(rt, alloc, Sort(numbers));
+    pool.end(rt);
+    Ok(sorted.map_err(CallError::without_sides)?)
+}
+
+// The value of (2 + 3) * (4 + 5).
+fn product_of_sums<R: Threads + Wait + Copy + Send + 'static>(
+    rt: &R,
+    alloc: Global,
+    ids: &Ids,
+) -> anyhow::Result<u64> {
+    let number = Expression::Number;
+    let left = Expression::apply(alloc, Operator::Plus, number(2), number(3))?;
+    let right = Expression::apply(alloc, Operator::Plus, number(4), number(5))?;
+    let whole = Expression::apply(alloc, Operator::Times, left, right)?;
+    let job = Evaluate::leaked(alloc, whole)?;
+    let pool = ThreadPoolBuilder::new()
+        .depth_limit(9)
+        .build(rt, alloc, ids)?;
+    let value = pool.end_after(rt, |pool| pool.install(rt, alloc, job));
+    Ok(value.map_err(CallError::without_sides)?)
+}
+
+// Three times 5 and three times 7, by two threads.
+fn triples<R: Threads + Wait + Copy + Send + 'static>(
+    rt: &R,
+    alloc: Global,
+    ids: &Ids,
+) -> anyhow::Result<Option<(u32, u32)>> {
+    let pool = ThreadPoolBuilder::new().build(rt, alloc, ids)?;
+    pool.end_after(rt, |pool| {
+        let shared = pool.pool_ref()?;
+        Ok(threads::triples_of(rt, alloc, &shared, 5, 7))
+    })
+}
+
+fn main(rt: HostRuntime) -> anyhow::Result<()> {
     let alloc = rt.alloc();
     let ids = Ids::new();
-    let pool = match ThreadPoolBuilder::new().build(&rt, alloc, &ids) {
-        Ok(pool) => pool,
-        Err(error) => return println!(rt; "no pool: {error}"),
-    };
-    let sum = pool.install(
-        &rt,
-        alloc,
-        Squares {
-            after: 0,
-            last: 100,
-        },
-    );
-    pool.end(&rt);
-    match sum {
-        Ok(sum) => println!(rt; "{sum}"),
-        Err(_) => println!(rt; "no sum"),
-    }
+    let (whole, left, right) = sums(&rt, alloc, &ids)?;
+    println!(rt; "sum: {whole} = {left} + {right}")?;
+    let sorted = ascending(&rt, alloc, &ids, vec![in alloc; 3, 1, 4, 1, 5]?)?;
+    println!(rt; "sorted: {sorted:?}")?;
+    let value = product_of_sums(&rt, alloc, &ids)?;
+    println!(rt; "value: {value}")?;
+    let triples = triples(&rt, alloc, &ids)?;
+    println!(rt; "triples: {triples:?}")?;
+    Ok(())
 }

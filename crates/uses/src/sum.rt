@@ -1,7 +1,7 @@
-// A sum by forks. The tag is a range into shared numbers: two integers.
-ghost use Rattle.std.specs.Prelude.{◌≡◌, ℕ, ◌+◌, ◌*◌, IfOk, sum_by, take};
+//! A sum by forks. The tag is a range into shared numbers: two integers.
+ghost use Rattle.std.specs.Prelude.{◌≡◌, ℕ, ◌+◌, IfOk, sum, take};
 ghost use Rattle.std.proofs.Common.{rules};
-ghost use Rattle.uses.specs.declared.sum.TheConstants.{NUMBERS};
+ghost use Rattle.uses.specs.declared.sum.TheConstants.{DATA};
 
 use rayon_core::{
     BroadcastContext, CallError, FnContext, Job, JobKind, Refusal, Waits, WorkerThread,
@@ -9,11 +9,11 @@ use rayon_core::{
 use std::alloc::Global;
 use thiserror::Error;
 
-static NUMBERS: [u64; 12] = [3, 1, 4, 1, 5, 9, 2, 6, 5, 3, 5, 8];
+static DATA: [u64; 12] = [3, 1, 4, 1, 5, 9, 2, 6, 5, 3, 5, 8];
 
-/// The job of adding up the squares of the numbers from `start` up to `end`. It is its own tag.
+/// The job of adding up the numbers from `start` up to `end`. It is its own tag.
 #[derive(Clone, Copy, PartialEq, Eq)]
-pub struct Squares {
+pub struct Sum {
     /// The place of the first number.
     pub start: usize,
     /// The place after the last one.
@@ -37,39 +37,35 @@ pub enum SumFault {
     Lost,
 }
 
-impl<B: Drop> From<CallError<SumFault, B>> for SumFault {
-    fn from(error: CallError<SumFault, B>) -> SumFault {
+impl From<CallError<SumFault, ()>> for SumFault {
+    fn from(error: CallError<SumFault, ()>) -> SumFault {
         match error {
             CallError::Fault(fault) => fault,
-            CallError::Refused(refusal, _) => SumFault::Refused(refusal),
+            CallError::Refused(refusal, ()) => SumFault::Refused(refusal),
             CallError::Foreign | CallError::Missing => SumFault::Lost,
         }
     }
 }
 
-impl JobKind for Squares {
-    type Tag = Squares;
+impl JobKind for Sum {
+    type Tag = Sum;
 
     type Output = u64;
 
     type Fault = SumFault;
 
-    ghost answers = { λ t r. IfOk r (λ v. sum_by (λ x. x * x) (take t.start NUMBERS) + v ≡ sum_by (λ x. x * x) (take t.end NUMBERS)) };
-
-    ghost answers_on = { λ t i n r. IfOk r (λ v. sum_by (λ x. x * x) (take t.start NUMBERS) + v ≡ sum_by (λ x. x * x) (take t.end NUMBERS)) };
+    ghost answers = { λ t r. IfOk r (λ v. sum (take t.start DATA) + v ≡ sum (take t.end DATA)) };
 
     ghost tag_of = { λ j. j };
 
-    fn tag(&self) -> Squares {
+    fn tag(&self) -> Sum {
         *self
     }
 
-    ghost same_answers = { λ t u r e h. Prim.search rules };
-
-    ghost same_answers_on = { λ t u i n r e h. Prim.search rules };
+    ghost same_answers = { λ t u e. Prim.search rules };
 }
 
-impl Job for Squares {
+impl Job for Sum {
     fn run<R: Waits<Self>>(
         self,
         rt: &R,
@@ -77,18 +73,17 @@ impl Job for Squares {
         w: &mut WorkerThread<Self>,
         _ctx: &mut FnContext<Self>,
     ) -> Result<u64, SumFault> {
-        let Squares { start, end } = self;
-        match NUMBERS.get(start..end) {
+        let Sum { start, end } = self;
+        match DATA.get(start..end) {
             None => Err(SumFault::OutOfRange),
             Some([]) => Ok(0),
-            Some([n]) => n.checked_mul(*n).ok_or(SumFault::TooLarge),
+            Some([n]) => Ok(*n),
             Some(numbers) => {
                 let middle = start + numbers.len() / 2;
-                let (left, right) = (
-                    Squares { start, end: middle },
-                    Squares { start: middle, end },
-                );
-                let (a, b) = w.join_jobs(rt, alloc, left, right)?;
+                let (left, right) = (Sum { start, end: middle }, Sum { start: middle, end });
+                let (a, b) = w
+                    .join_jobs(rt, alloc, left, right)
+                    .map_err(CallError::without_sides)?;
                 a.checked_add(b).ok_or(SumFault::TooLarge)
             }
         }
@@ -101,6 +96,9 @@ impl Job for Squares {
         w: &mut WorkerThread<Self>,
         _ctx: &mut BroadcastContext<Self>,
     ) -> Result<u64, SumFault> {
-        Ok(w.install(rt, alloc, *self)?)
+        Ok(
+            w.install(rt, alloc, *self)
+                .map_err(CallError::without_sides)?,
+        )
     }
 }

@@ -1,4 +1,4 @@
-// Expressions, evaluated by forks. The tag is a shared tree.
+//! Expressions, evaluated by forks. The tag is a shared tree, with an equality of its own.
 ghost use Rattle.std.specs.Prelude.{◌≡◌, ℕ};
 ghost use Rattle.std.proofs.Common.{rules};
 ghost use Rattle.std.specs.Cmp.{partial_equiv_from_equiv};
@@ -7,7 +7,7 @@ ghost use Rattle.uses.specs.Expressions.{Evaluates, applied, same, same_equivale
 use rayon_core::{
     BroadcastContext, CallError, FnContext, Job, JobKind, Refusal, Waits, WorkerThread,
 };
-use std::alloc::Global;
+use std::alloc::{AllocError, Global};
 use thiserror::Error;
 
 /// What an expression makes of two others.
@@ -40,6 +40,18 @@ pub enum Expression {
     Apply(Operator, Box<Expression>, Box<Expression>),
 }
 
+impl Expression {
+    /// What an operator makes of two expressions. Refused where memory is, and both are dropped.
+    pub fn apply(
+        alloc: Global,
+        operator: Operator,
+        a: Expression,
+        b: Expression,
+    ) -> Result<Expression, AllocError> {
+        Ok(Expression::Apply(operator, Box::new(alloc, a)?, Box::new(alloc, b)?))
+    }
+}
+
 impl PartialEq for Expression {
     ghost eq = { same };
 
@@ -67,6 +79,13 @@ impl Eq for Expression {
 /// The job of finding an expression's value. The expression is the tag.
 #[derive(Drop)]
 pub struct Evaluate(pub &'static Expression);
+
+impl Evaluate {
+    /// The job for an expression that is leaked, so that every run may share it. Refused where memory is.
+    pub fn leaked(alloc: Global, expression: Expression) -> Result<Evaluate, AllocError> {
+        Ok(Evaluate(Box::leak(Box::new(alloc, expression)?)))
+    }
+}
 
 /// Why there is no value.
 #[derive(Debug, Drop, Error)]
@@ -104,17 +123,13 @@ impl JobKind for Evaluate {
 
     ghost answers = { λ t r. Evaluates t.now r };
 
-    ghost answers_on = { λ t i n r. Evaluates t.now r };
-
     ghost tag_of = { λ j. j.0 };
 
     fn tag(&self) -> &'static Expression {
         self.0
     }
 
-    ghost same_answers = { λ t u r e h. same_evaluates t.now u.now r e h };
-
-    ghost same_answers_on = { λ t u i n r e h. same_evaluates t.now u.now r e h };
+    ghost same_answers = { λ t u e. same_evaluates t.now u.now e };
 }
 
 impl Job for Evaluate {

@@ -78,8 +78,9 @@ impl<T: Drop> Stealers<T> {
         }
     }
 
-    /// Steals the victim's oldest task, through a pass to its deque, and tries again there while others are first. `None` only if at
-    /// one moment of the call the deque held no task, or one alone that is its newest as well and the deque is newest first.
+    /// Steals the victim's oldest task, through a pass to its deque, and tries again there while others are first: rayon-core begins its
+    /// search anew at another victim. `None` only if at one moment of the call the deque held no task, or, where it is newest first, one
+    /// alone, which its owner may be popping.
     ///
     /// It may run as long as others go on taking tasks first.
     pub fn steal<R: Wait>(&self, rt: &R, victim: usize, pass: &mut StealPass<T>) -> Option<T>

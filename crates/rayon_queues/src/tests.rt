@@ -14,20 +14,20 @@ use std::thread::Threads;
 // How many tasks go through a queue that threads share.
 const TASKS: usize = 50_000;
 
-// How many turns a thread waits for the others.
-const TURNS: u32 = 1_000_000;
-
 // How often each task was taken, and what the threads tell each other.
 #[derive(Drop)]
 struct Marks {
     taken: Vec<AtomicU64>,
+    // How many threads are still going to push.
     pushers: AtomicU64,
+    // How many threads have taken a task, and how many are going to.
     takers: AtomicU64,
+    all_takers: u64,
 }
 
 impl Marks {
-    // Nothing was taken, and so many threads are going to push.
-    fn new(alloc: Global, pushers: u64) -> Result<Marks, Fail> {
+    // Nothing was taken, and so many threads are going to push, and to take.
+    fn new(alloc: Global, pushers: u64, takers: u64) -> Result<Marks, Fail> {
         let mut taken = Vec::new(alloc);
         for _ in 0..TASKS {
             taken.push(AtomicU64::new(0))?;
@@ -36,6 +36,7 @@ impl Marks {
             taken,
             pushers: AtomicU64::new(pushers),
             takers: AtomicU64::new(0),
+            all_takers: takers,
         })
     }
 
@@ -56,10 +57,10 @@ impl Marks {
         once
     }
 
-    // Waits until so many takers have taken a task, and no longer than so many turns.
-    fn wait_for_takers(&self, takers: u64) {
-        for _ in 0..TURNS {
-            if self.takers.load(Ordering::SeqCst) >= takers {
+    // Waits until each taker has taken a task.
+    fn wait_for_takers<R: Wait>(&self, rt: &R) {
+        for _ in rt.forever() {
+            if self.takers.load(Ordering::SeqCst) >= self.all_takers {
                 break;
             }
             thread::yield_now();
@@ -78,13 +79,13 @@ impl Marks {
 }
 
 // The owner pushes all tasks and pops one in three; what is left at the end it pops too.
-fn own_all<R: Wait>(rt: &R, own: &mut WorkerDeque<usize>, marks: &Marks, thieves: u64) {
+fn own_all<R: Wait>(rt: &R, own: &mut WorkerDeque<usize>, marks: &Marks) {
     for task in 0..TASKS {
         if let Err(back) = own.push(task) {
             marks.mark(back);
         }
         if task == 100 {
-            marks.wait_for_takers(thieves);
+            marks.wait_for_takers(rt);
         }
         if task % 3 == 0 {
             if let Some(popped) = own.pop() {
@@ -112,13 +113,20 @@ impl Taker {
         Taker { first: true }
     }
 
-    // Marks what was taken. False where nothing was taken after all had been pushed.
-    fn goes_on(&mut self, marks: &Marks, pushing: bool, taken: Option<usize>) -> bool {
+    // Marks what was taken, and after its first task waits for the other takers. False where nothing was taken after all had been pushed.
+    fn goes_on<R: Wait>(
+        &mut self,
+        rt: &R,
+        marks: &Marks,
+        pushing: bool,
+        taken: Option<usize>,
+    ) -> bool {
         match taken {
             Some(task) => {
                 marks.mark(task);
                 if self.first {
                     marks.takers.fetch_add(1, Ordering::SeqCst);
+                    marks.wait_for_takers(rt);
                 }
                 self.first = false;
                 true
@@ -140,7 +148,7 @@ fn steal_all<R: Wait>(rt: &R, stealers: &Stealers<usize>, marks: &Marks)
         let pushing = marks.pushing();
         let mut pass = stealers.pass(0);
         let taken = stealers.steal(rt, 0, &mut pass);
-        if !taker.goes_on(marks, pushing, taken) {
+        if !taker.goes_on(rt, marks, pushing, taken) {
             break;
         }
     }
@@ -153,7 +161,7 @@ fn take_all<R: Wait>(rt: &R, injector: &Injector<usize>, marks: &Marks) {
         let pushing = marks.pushing();
         let mut pass = injector.pass();
         let taken = injector.take(rt, &mut pass);
-        if !taker.goes_on(marks, pushing, taken) {
+        if !taker.goes_on(rt, marks, pushing, taken) {
             break;
         }
     }
@@ -169,7 +177,7 @@ fn inject_all<R: Wait>(rt: &R, injector: &Injector<usize>, marks: &Marks, from: 
             }
         }
         if task == 100 {
-            marks.wait_for_takers(2);
+            marks.wait_for_takers(rt);
         }
     }
     marks.pushed_all();
@@ -180,14 +188,14 @@ fn inject_all<R: Wait>(rt: &R, injector: &Injector<usize>, marks: &Marks, from: 
 fn each_task_of_a_deque_is_taken_once(rt: HostRuntime) -> Result<(), Fail> {
     let alloc = rt.alloc();
     for oldest_first in [false, true] {
-        let marks = Marks::new(alloc, 1)?;
+        let marks = Marks::new(alloc, 1, 3)?;
         let mut own = WorkerDeque::new(alloc, oldest_first)?;
         let mut stealers = Stealers::new(alloc);
         stealers.add(&own)?;
         let (owner, shared, seen, handle) = (&mut own, &stealers, &marks, &rt);
         thread::join(
             &rt,
-            move || own_all(handle, owner, seen, 3),
+            move || own_all(handle, owner, seen),
             move || -> ()
                 requires { 0 < length shared.now }
             {
@@ -227,7 +235,7 @@ fn each_task_of_a_deque_is_taken_once(rt: HostRuntime) -> Result<(), Fail> {
 #[test]
 fn each_injected_task_is_taken_once(rt: HostRuntime) -> Result<(), Fail> {
     let alloc = rt.alloc();
-    let marks = Marks::new(alloc, 2)?;
+    let marks = Marks::new(alloc, 2, 2)?;
     let injector = Injector::new(alloc)?;
     let (shared, seen, handle) = (&injector, &marks, &rt);
     thread::join(
@@ -276,6 +284,53 @@ fn a_deque_gives_back_what_was_pushed(rt: HostRuntime) -> Result<(), Fail> {
         assert!(rt; own.is_empty());
     }
     Ok(())
+}
+
+// A deque that could not grow hands the task back and adds nothing: what was taken in comes out, in its order, and no more. Run as it
+// is nothing is refused here; with each of the first allocations refused in turn, the growths are.
+#[test]
+fn a_refused_push_adds_nothing(rt: HostRuntime) {
+    for oldest_first in [false, true] {
+        let Ok(mut own) = WorkerDeque::new(rt.alloc(), oldest_first) else {
+            return;
+        };
+        let mut taken_in = 0u64;
+        for task in 1..=200u32 {
+            match own.push(task) {
+                Ok(()) => taken_in = taken_in.wrapping_add(u64::from(task)),
+                Err(back) => assert_eq!(rt; back, task),
+            }
+        }
+        let (mut out, mut last) = (0u64, if oldest_first { 0 } else { u32::MAX });
+        for _ in 0..200u32 {
+            if let Some(task) = own.pop() {
+                assert!(rt; (task > last) == oldest_first && task != last, "in order");
+                out = out.wrapping_add(u64::from(task));
+                last = task;
+            }
+        }
+        assert_eq!(rt; (out, own.pop()), (taken_in, None));
+    }
+}
+
+// An injector that has no room hands the task back and adds nothing.
+#[test]
+fn a_refused_injection_adds_nothing(rt: HostRuntime) {
+    let Ok(injector) = Injector::new(rt.alloc()) else {
+        return;
+    };
+    let mut taken_in = 0u64;
+    for task in 1..=200u32 {
+        match inject(&rt, &injector, task) {
+            Ok(()) => taken_in = taken_in.wrapping_add(u64::from(task)),
+            Err(back) => assert_eq!(rt; back, task),
+        }
+    }
+    let mut out = 0u64;
+    for _ in 0..200u32 {
+        out = out.wrapping_add(u64::from(taken(&rt, &injector).unwrap_or(0)));
+    }
+    assert_eq!(rt; (out, taken(&rt, &injector)), (taken_in, None));
 }
 
 // What one steal from a victim gives.

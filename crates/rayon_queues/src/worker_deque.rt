@@ -8,7 +8,7 @@ use crossbeam_deque::{Stealer, Worker};
 use std::alloc::{AllocError, Global};
 use std::marker::Model;
 
-// The slots that a deque begins with, as in the source.
+// The slots that a deque begins with. It grows by further slots, twice as many each time.
 const FIRST_SLOTS: usize = 32;
 
 /// A worker's own deque. The worker pushes and pops at it, and the others steal through [`crate::Stealers`].

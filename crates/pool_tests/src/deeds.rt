@@ -1,7 +1,8 @@
-// What the jobs of the tests do on a worker value.
+//! What the jobs of the tests do on a worker value.
+ghost use Rattle.rayon_core.specs.Worker.{SameWorker};
 ghost use Rattle.std.specs.Prelude.{◌≡◌, ℕ, ◌≤◌};
 
-use crate::errand::{Answer, Deed, Errand, Marks, Name, Trouble, Words, outcome};
+use crate::errand::{Answer, Deed, Errand, Marks, Name, Trouble, Words, outcome, outcomes};
 use rayon_core::latch::CoreLatch;
 use rayon_core::{CallError, Done, ForkJoin, Installed, Refusal, Reply, Task, Waits, WorkerThread};
 use std::alloc::Global;
@@ -16,8 +17,7 @@ pub fn join_context<R: Waits<Errand>>(
     ending: Result<(), Words>,
 ) -> Result<Answer, Trouble>
     requires { w.old.levels ≤ R.levels rt.now }
-    ensures id { w.new.id ≡ w.old.id }
-    ensures level { w.new.levels ≡ w.old.levels }
+    ensures same { SameWorker w.old w.new }
 {
     let second = Errand::new(Name::Second, marks, Deed::TellMigrated)?;
     let both = w.join_context(
@@ -48,8 +48,7 @@ pub fn join_jobs<R: Waits<Errand>>(
     second: Deed,
 ) -> Result<Answer, Trouble>
     requires { w.old.levels ≤ R.levels rt.now }
-    ensures id { w.new.id ≡ w.old.id }
-    ensures level { w.new.levels ≡ w.old.levels }
+    ensures same { SameWorker w.old w.new }
 {
     let a = Errand::new(Name::First, marks, first)?;
     let b = Errand::new(Name::Second, marks, second)?;
@@ -64,6 +63,39 @@ pub fn join_jobs<R: Waits<Errand>>(
     }
 }
 
+/// Joins two jobs that tell whether they migrated.
+pub fn join_tellers<R: Waits<Errand>>(
+    rt: &R,
+    alloc: Global,
+    w: &mut WorkerThread<Errand>,
+    marks: &Arc<Marks>,
+) -> Result<Answer, Trouble>
+    requires { w.old.levels ≤ R.levels rt.now }
+    ensures same { SameWorker w.old w.new }
+{
+    let a = Errand::new(Name::First, marks, Deed::TellMigrated)?;
+    let b = Errand::new(Name::Second, marks, Deed::TellMigrated)?;
+    match outcomes(w.join_jobs(rt, alloc, a, b)) {
+        Ok((Answer::Migrated(a), Answer::Migrated(b))) => Ok(Answer::BothMigrated(a, b)),
+        Ok(_) => Err(Trouble::Unlike),
+        Err(trouble) => Err(trouble),
+    }
+}
+
+/// Installs a job below that tells whether it migrated.
+pub fn install_teller<R: Waits<Errand>>(
+    rt: &R,
+    alloc: Global,
+    w: &mut WorkerThread<Errand>,
+    marks: &Arc<Marks>,
+) -> Result<Answer, Trouble>
+    requires { w.old.levels ≤ R.levels rt.now }
+    ensures same { SameWorker w.old w.new }
+{
+    let below = Errand::new(Name::Below, marks, Deed::TellMigrated)?;
+    outcome(w.install(rt, alloc, below))
+}
+
 /// Joins a closure that answers the words it holds, and a job that answers these.
 pub fn join_closure<R: Waits<Errand>>(
     rt: &R,
@@ -74,8 +106,7 @@ pub fn join_closure<R: Waits<Errand>>(
     words: Words,
 ) -> Result<Answer, Trouble>
     requires { w.old.levels ≤ R.levels rt.now }
-    ensures id { w.new.id ≡ w.old.id }
-    ensures level { w.new.levels ≡ w.old.levels }
+    ensures same { SameWorker w.old w.new }
 {
     let second = Errand::new(Name::Second, marks, Deed::End(Ok(words)))?;
     match w.join(rt, alloc, |_w, _ctx| Ok(Answer::Said(held)), second) {
@@ -98,8 +129,7 @@ pub fn descend<R: Waits<Errand>>(
     levels: usize,
 ) -> Result<Answer, Trouble>
     requires { w.old.levels ≤ R.levels rt.now }
-    ensures id { w.new.id ≡ w.old.id }
-    ensures level { w.new.levels ≡ w.old.levels }
+    ensures same { SameWorker w.old w.new }
 {
     if w.levels() != levels {
         return Err(Trouble::Unlike);
@@ -198,8 +228,7 @@ pub fn wait_for_own<R: Waits<Errand>>(
     latch: Arc<CoreLatch>,
 ) -> Result<Answer, Trouble>
     requires { w.old.levels ≤ R.levels rt.now }
-    ensures id { w.new.id ≡ w.old.id }
-    ensures level { w.new.levels ≡ w.old.levels }
+    ensures same { SameWorker w.old w.new }
 {
     let Ok(theirs) = Arc::try_clone(&latch) else {
         return Err(Trouble::NoMemory);
@@ -210,4 +239,28 @@ pub fn wait_for_own<R: Waits<Errand>>(
         Ok(()) => waited(rt, &reply, Name::Setter),
         Err(refusal) => Err(Trouble::Refused(refusal, Name::Setter)),
     }
+}
+
+/// Pushes a job that lingers, for whose result nobody waits.
+pub fn push_lingering(
+    alloc: Global,
+    w: &mut WorkerThread<Errand>,
+    marks: &Arc<Marks>,
+) -> Result<Answer, Trouble>
+    ensures same { SameWorker w.old w.new }
+{
+    let job = Errand::new(Name::Lingering, marks, Deed::Linger)?;
+    let _reply = push_job(alloc, w, job)?;
+    Ok(Answer::Said(Words::Pushed))
+}
+
+/// Waits until the marks are released, takes its turns, and leaves.
+pub fn linger<R: Wait>(rt: &R, marks: &Marks) -> Answer {
+    for _ in rt.forever() {
+        if marks.is_released() {
+            break;
+        }
+    }
+    marks.leave();
+    Answer::Said(Words::Gone)
 }

@@ -1,4 +1,4 @@
-// The jobs of the tests.
+//! The jobs of the tests.
 ghost use Rattle.std.specs.Prelude.{◌≡◌, ℕ};
 
 use crate::deeds;
@@ -10,11 +10,16 @@ use std::alloc::Global;
 use std::sync::Arc;
 use std::sync::atomic::{AtomicU64, Ordering};
 
+// How many turns a job that lingers takes after its release: far more than a call needs that waits for nothing.
+const LINGERING_TURNS: u64 = 5_000_000;
+
 /// What the runs of a test's jobs leave behind.
 #[derive(Drop)]
 pub struct Marks {
     runs: AtomicU64,
     migrated: AtomicU64,
+    released: AtomicU64,
+    left: AtomicU64,
 }
 
 impl Marks {
@@ -23,6 +28,8 @@ impl Marks {
         let marks = Marks {
             runs: AtomicU64::new(0),
             migrated: AtomicU64::new(0),
+            released: AtomicU64::new(0),
+            left: AtomicU64::new(0),
         };
         Arc::new(alloc, marks).map_err(|_| Trouble::NoMemory)
     }
@@ -35,6 +42,28 @@ impl Marks {
     /// How many runs that were asked to tell were told that they migrated.
     pub fn migrated(&self) -> u64 {
         self.migrated.load(Ordering::SeqCst)
+    }
+
+    /// Lets the job that lingers go on.
+    pub fn release(&self) {
+        self.released.store(1, Ordering::SeqCst);
+    }
+
+    /// Whether the job that lingers may go on.
+    pub fn is_released(&self) -> bool {
+        self.released.load(Ordering::SeqCst) == 1
+    }
+
+    /// Whether the job that lingers has left.
+    pub fn has_left(&self) -> bool {
+        self.left.load(Ordering::SeqCst) == LINGERING_TURNS
+    }
+
+    /// Takes the turns of the job that lingers, one after the other.
+    pub fn leave(&self) {
+        for _ in 0..LINGERING_TURNS {
+            self.left.fetch_add(1, Ordering::SeqCst);
+        }
     }
 
     // One more run has begun.
@@ -67,6 +96,8 @@ pub enum Name {
     Newer,
     /// A job that sets a latch.
     Setter,
+    /// A job that is still running when its pool ends.
+    Lingering,
 }
 
 /// What a job says.
@@ -96,6 +127,10 @@ pub enum Words {
     Waited,
     /// What a job says that set a latch.
     Set,
+    /// What a job says that pushed another.
+    Pushed,
+    /// What a job says that lingered.
+    Gone,
     /// What a piece of a broadcast says.
     Piece,
 }
@@ -145,6 +180,10 @@ pub enum Deed {
     TellMigrated,
     /// Joins a closure that ends so, and if it answers tells whether it migrated, and a job that tells the same.
     JoinContext(Result<(), Words>),
+    /// Installs below, on the worker value, a job that tells whether it migrated.
+    InstallTeller,
+    /// Joins two jobs that tell whether they migrated.
+    JoinTellers,
     /// Joins two jobs that end so.
     JoinJobs(Result<Words, Words>, Result<Words, Words>),
     /// Joins a job that waits until the latch of these two shares is set, and a job that sets it.
@@ -161,6 +200,10 @@ pub enum Deed {
     WaitFor(Arc<CoreLatch>),
     /// Sets this latch.
     Set(Arc<CoreLatch>),
+    /// Pushes a job that lingers.
+    PushLingering,
+    /// Waits until it is released, takes its turns, and leaves.
+    Linger,
     /// Tells which worker runs it.
     TellWorker,
 }
@@ -223,6 +266,10 @@ impl Job for Errand {
                 marks.tell(ctx.migrated());
                 Ok(Answer::Migrated(ctx.migrated()))
             }
+            Deed::InstallTeller => deeds::install_teller(rt, alloc, w, &marks),
+            Deed::JoinTellers => deeds::join_tellers(rt, alloc, w, &marks),
+            Deed::PushLingering => deeds::push_lingering(alloc, w, &marks),
+            Deed::Linger => Ok(deeds::linger(rt, &marks)),
             Deed::JoinContext(ending) => deeds::join_context(rt, alloc, w, &marks, ending),
             Deed::JoinJobs(first, second) => {
                 let (first, second) = (Deed::End(first), Deed::End(second));

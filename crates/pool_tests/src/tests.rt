@@ -1,4 +1,4 @@
-// The tests of the running pool.
+//! Tests of what the calls of a running pool answer.
 use crate::errand::{Answer, Deed, Errand, Marks, Name, Trouble, Words, outcome, outcomes};
 use rayon_core::latch::{CoreLatch, LockLatch, SpinLatch};
 use rayon_core::{
@@ -14,7 +14,7 @@ use std::thread;
 use std::thread::Threads;
 
 // A pool whose worker value has so many levels.
-fn pool_of<R: Threads + Wait + Copy + Send + 'static>(
+pub fn pool_of<R: Threads + Wait + Copy + Send + 'static>(
     rt: &R,
     alloc: Global,
     depth_limit: usize,
@@ -26,7 +26,7 @@ fn pool_of<R: Threads + Wait + Copy + Send + 'static>(
 }
 
 // What an install of a job that does this gave, and how many runs it began.
-fn installed<R: Wait + Abort>(
+pub fn installed<R: Wait + Abort>(
     rt: &R,
     alloc: Global,
     pool: &ThreadPool<Errand>,
@@ -39,7 +39,7 @@ fn installed<R: Wait + Abort>(
 }
 
 // What a join from outside of two jobs that end so gave, and how many runs it began.
-fn joined<R: Wait + Abort>(
+pub fn joined<R: Wait + Abort>(
     rt: &R,
     alloc: Global,
     pool: &ThreadPool<Errand>,
@@ -51,33 +51,6 @@ fn joined<R: Wait + Abort>(
     let b = Errand::new(Name::Second, &marks, Deed::End(second)).expect(rt, "room");
     let answers = outcomes(pool.join(rt, alloc, a, b));
     (answers, marks.runs())
-}
-
-// A call from outside tells both sides that they migrated; on the one worker neither side is told so, also where the
-// first side faults.
-#[test]
-fn contexts_tell_whether_a_side_migrated(rt: HostRuntime) -> Result<(), Fail> {
-    let alloc = rt.alloc();
-    let marks = Marks::new(alloc)?;
-    let (a, b) = (
-        Errand::new(Name::First, &marks, Deed::TellMigrated)?,
-        Errand::new(Name::Second, &marks, Deed::TellMigrated)?,
-    );
-    let failing = Deed::JoinContext(Err(Words::HelloWorld));
-    let failing = Errand::new(Name::Caller, &marks, failing)?;
-    let pool = pool_of(&rt, alloc, 9)?;
-    let outside = outcomes(pool.join_context(&rt, alloc, a, b));
-    let (inside, inside_runs) = installed(&rt, alloc, &pool, Deed::JoinContext(Ok(())));
-    let failed = outcome(pool.install(&rt, alloc, failing));
-    pool.end(&rt);
-    let both_migrated = (Answer::Migrated(true), Answer::Migrated(true));
-    assert_eq!(rt; outside, Ok(both_migrated));
-    assert_eq!(rt; inside, Ok(Answer::BothMigrated(false, false)));
-    assert_eq!(rt; inside_runs, 2);
-    assert_eq!(rt; failed, Err(Trouble::Said(Words::HelloWorld)));
-    assert_eq!(rt; marks.runs(), 4, "the second side has run");
-    assert_eq!(rt; marks.migrated(), 2, "and was not told that it migrated");
-    Ok(())
 }
 
 // Both sides run whatever they end with, and the first side's fault comes before the second's: by a join from outside,

@@ -1,4 +1,4 @@
-// How a pool is made.
+//! How a pool is made.
 ghost use Rattle.std.specs.Prelude.{◌≡◌, ℕ, ◌-◌, ◌^◌, max, IfOk};
 
 use crate::thread_pool::ThreadPool;

@@ -7,15 +7,20 @@ mod end_after;
 mod pool_ref;
 mod thread_pool;
 
+// What jobs and calls are written with.
 pub use builder::{ThreadPoolBuildError, ThreadPoolBuilder};
 pub use end_after::EndAfter;
 pub use pool_ref::PoolRef;
-pub use rayon_jobs::{
-    Cell, Done, Installed, JobKind, Pair, PairReply, Reply, SecondSide, Task, Ticket,
-};
+pub use rayon_jobs::{Done, JobKind};
 pub use rayon_registry::{
-    BroadcastContext, Context, FnContext, ForkJoin, IdSource, Ids, Job, PieceContext, PoolId,
-    Scope, Waits, WorkerId, WorkerThread,
+    BroadcastContext, FnContext, ForkJoin, Ids, Job, PoolId, Scope, Waits, WorkerId, WorkerThread,
 };
 pub use rayon_words::{CallError, Refusal, latch};
 pub use thread_pool::ThreadPool;
+
+// What a task that is pushed or taken by hand is made of.
+pub use rayon_jobs::{Installed, Pair, PairReply, Reply, SecondSide, Task, Ticket};
+
+// What the library is made of: contracts name it, and calls do not need it.
+pub use rayon_jobs::Cell;
+pub use rayon_registry::{Context, IdSource, PieceContext};

@@ -1,7 +1,7 @@
-// What stands for a pool on other threads than the one that made it.
+//! What stands for a pool on other threads than the one that made it.
 ghost use Rattle.rayon_registry.specs.Answers.{InstallAnswers, JoinAnswers};
 ghost use Rattle.std.specs.Arc.{arc_value};
-ghost use Rattle.std.specs.Prelude.{◌≡◌, ◌⊎◌, ◌<◌, ℕ, Result, Ok, Err, IfOk};
+ghost use Rattle.std.specs.Prelude.{◌≡◌, ◌<◌, ℕ, Result, Ok, Err, IfOk};
 
 use rayon_jobs::JobKind;
 use rayon_registry::{PoolId, Registry};

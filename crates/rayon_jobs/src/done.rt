@@ -1,4 +1,4 @@
-// What a run answered, beside its tag and place.
+//! What a run answered, beside its tag and place.
 ghost use Rattle.std.specs.Prelude.{◌≡◌, ℕ, Result, Option, Some, None};
 ghost use Rattle.rayon_jobs.specs.Within.{Run, Within};
 

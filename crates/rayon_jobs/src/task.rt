@@ -1,4 +1,4 @@
-// What lies in the queues of a pool.
+//! What lies in the queues of a pool.
 ghost use Rattle.std.specs.Prelude.{◌≡◌};
 
 use crate::cell::Cell;
@@ -10,7 +10,8 @@ use rayon_words::latch::LockLatch;
 use std::alloc::Global;
 use std::sync::{Arc, Mutex, Wait};
 
-/// Where the result of an installed job goes, and the latch on which its caller blocks.
+/// Where the result of an installed job goes, and the latch on which its caller blocks. It is for the library's own use,
+/// and for a user who pushes a `Task` by hand.
 #[derive(Drop)]
 pub struct Reply<J: JobKind> {
     latch: LockLatch,
@@ -40,7 +41,8 @@ impl<J: JobKind> Reply<J> {
     }
 }
 
-/// Where the results of a pair of sides go, and the latch on which its caller blocks.
+/// Where the results of a pair of sides go, and the latch on which its caller blocks. It is for the library's own use, and
+/// for a user who pushes a `Task` by hand.
 #[derive(Drop)]
 pub struct PairReply<J: JobKind> {
     latch: LockLatch,
@@ -77,7 +79,8 @@ impl<J: JobKind> PairReply<J> {
     }
 }
 
-/// A job that an outside caller sent to the pool, and for whose result it blocks.
+/// A job that an outside caller sent to the pool, and for whose result it blocks. It is for the library's own use, and for
+/// a user who pushes a `Task` by hand.
 #[derive(Drop)]
 pub struct Installed<J: JobKind> {
     /// The job.
@@ -86,7 +89,8 @@ pub struct Installed<J: JobKind> {
     pub reply: Arc<Reply<J>, Global>,
 }
 
-/// Two sides that an outside caller sent to the pool: the worker that takes them joins them.
+/// Two sides that an outside caller sent to the pool: the worker that takes them joins them. It is for the library's own
+/// use, and for a user who pushes a `Task` by hand.
 #[derive(Drop)]
 pub struct Pair<J: JobKind> {
     /// The first side.
@@ -97,7 +101,8 @@ pub struct Pair<J: JobKind> {
     pub reply: Arc<PairReply<J>, Global>,
 }
 
-/// The second side of a join.
+/// The second side of a join. It is for the library's own use: joins make one, and a user meets it only inside a `Task`
+/// that was taken from a deque.
 #[derive(Drop)]
 pub struct SecondSide<J: JobKind> {
     /// The job.
@@ -108,13 +113,14 @@ pub struct SecondSide<J: JobKind> {
     pub ticket: Ticket<J>,
 }
 
-/// What lies in a queue of a pool.
+/// What lies in a queue of a pool. A user needs it only for `WorkerThread::push` and `WorkerThread::take_local_job`.
 #[derive(Drop)]
 pub enum Task<J: JobKind> {
     /// A job that was sent to the pool.
     Job(Installed<J>),
     /// Two sides that were sent to the pool.
     Pair(Pair<J>),
-    /// The second side of a join.
+    /// The second side of a join. It is for the library's own use: joins make one, and a user meets it only inside a `Task`
+    /// that was taken from a deque.
     Second(SecondSide<J>),
 }

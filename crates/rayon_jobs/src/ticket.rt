@@ -1,4 +1,4 @@
-// What a second side is known by, and where its result goes.
+//! What a second side is known by, and where its result goes.
 ghost use Rattle.std.specs.Prelude.{◌≡◌, ◌↔◌, ℕ, IsTrue, IfOk};
 
 use crate::cell::Cell;
@@ -21,7 +21,8 @@ struct Frame<J: JobKind> {
 }
 
 /// What a second side is known by in its pool: the worker that forked it, and a number that the worker gives once. Its
-/// two shares, the join's own and the one that goes with the job, lead to the latch and the cell between them.
+/// two shares, the join's own and the one that goes with the job, lead to the latch and the cell between them. It is for
+/// the library's own use: joins make one, and a user meets it only inside a `Task` that was taken from a deque.
 #[derive(Drop)]
 pub struct Ticket<J: JobKind> {
     frame: Arc<Frame<J>, Global>,

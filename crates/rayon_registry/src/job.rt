@@ -1,4 +1,4 @@
-// Jobs, and the handle by which they wait and run further jobs.
+//! Jobs, and the handle by which they wait and run further jobs.
 ghost use Rattle.rayon_registry.specs.Worker.{SameWorker};
 ghost use Rattle.std.specs.Prelude.{◌≡◌, ℕ, ◌<◌, ◌≤◌, ◌-◌, Result};
 

@@ -1,4 +1,4 @@
-// Two sides on one worker value.
+//! Two sides on one worker value.
 ghost use Rattle.rayon_registry.specs.Answers.{joined, JoinAnswers};
 ghost use Rattle.rayon_registry.specs.Worker.{SameWorker};
 ghost use Rattle.rayon_jobs.specs.Claims.{claim};

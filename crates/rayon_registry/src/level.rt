@@ -1,5 +1,5 @@
-// The number of levels by which a run that calls further runs is shown to end. None of this is open to users: what they
-// are lent is a handle that `Waits`, and each run that it makes lends the worker value with one level fewer.
+//! The number of levels by which a run that calls further runs is shown to end. None of this is open to users: what they
+//! are lent is a handle that `Waits`, and each run that it makes lends the worker value with one level fewer.
 ghost use Rattle.rayon_registry.specs.Worker.{SameWorker};
 ghost use Rattle.std.specs.Prelude.{◌≡◌, ℕ, ◌<◌, ◌≤◌, ◌-◌, Result};
 

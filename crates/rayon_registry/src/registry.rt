@@ -1,4 +1,4 @@
-// What the threads of a pool share, and the calls that are made on a pool from outside.
+//! What the threads of a pool share, and the calls that are made on a pool from outside.
 ghost use Rattle.rayon_registry.specs.Answers.{joined_pair, InstallAnswers, JoinAnswers};
 ghost use Rattle.std.specs.Arc.{arc_value};
 ghost use Rattle.std.specs.Prelude.{◌≡◌, ◌⊎◌, ◌<◌, ℕ, [], max, Result, Ok, Err, IfOk, IfErr};

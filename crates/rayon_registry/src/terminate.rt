@@ -1,4 +1,4 @@
-// The count of what keeps a pool from ending.
+//! The count of what keeps a pool from ending.
 ghost use Rattle.std.specs.Prelude.{◌≡◌, ◌⊎◌, ◌↔◌, ℕ, ◌+◌, ◌-◌, ◌^◌, ◌<◌, IsTrue, IsSome, MatchResult};
 
 use rayon_words::Refusal;

@@ -1,4 +1,4 @@
-// The value that stands for a worker.
+//! The value that stands for a worker.
 ghost use Rattle.rayon_registry.specs.Answers.{InstallAnswers};
 ghost use Rattle.rayon_registry.specs.Worker.{SameWorker};
 ghost use Rattle.std.specs.Arc.{arc_value};

@@ -1,4 +1,4 @@
-// Latches: what is set once, and what a thread waits for until it is.
+//! Latches: what is set once, and what a thread waits for until it is.
 ghost use Rattle.std.specs.Prelude.{◌≡◌, ◌↔◌, IsTrue, true, false, Bool};
 
 use crate::Refusal;

@@ -1,4 +1,4 @@
-// How a worker that found no work waits until there may be some.
+//! How a worker that found no work waits until there may be some.
 ghost use Rattle.std.specs.Prelude.{◌≡◌, ℕ, ◌+◌, ◌%◌, ◌^◌};
 
 use crate::latch::CoreLatch;

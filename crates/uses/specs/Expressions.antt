@@ -1,7 +1,7 @@
 use Rattle.std.specs.Prelude.{◌≡◌, ℕ, ◌+◌, ◌*◌, Bool, true, false, ◌&&◌, nat_eq, Option, Some, None, Result, MatchResult, if◌then◌else◌, nat_lt}
 use Rattle.std.specs.Cmp.{IsEquivalence, nat_eq_equiv}
 use Rattle.std.specs.Cmp.Derive.{both_true}
-use Rattle.std.proofs.Common.{rules, refl, sym, ap, ◌∙◌, eqb-true}
+use Rattle.std.proofs.Common.{rules, refl, ap, eqb-true}
 use Rattle.uses.specs.declared.tree.Operator.{Operator}
 use Rattle.uses.specs.declared.tree.Operator.TheVariants.{Plus, Times}
 use Rattle.uses.specs.declared.tree.Expression.{Expression}

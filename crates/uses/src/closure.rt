@@ -1,4 +1,4 @@
-//! A closure as a join's first side: it is never queued, so it may borrow what is around it.
+//! A closure as a join's first side, which is never queued; and jobs of two kinds.
 ghost use Rattle.std.specs.Prelude.{◌≡◌, ℕ, ◌+◌, ◌≤◌, IfOk};
 ghost use Rattle.std.proofs.Common.{rules};
 

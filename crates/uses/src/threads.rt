@@ -1,4 +1,4 @@
-//! Several threads call one pool, each by a `PoolRef`; and a function that leaves by `?` while a pool is there.
+//! Several threads call one pool, by a `PoolRef`; what each thread answers is promised to the one that joins it.
 ghost use Rattle.std.specs.Prelude.{◌≡◌, ℕ, ◌+◌, IfOk, IfSome};
 
 use crate::closure::{Ask, AskFault};

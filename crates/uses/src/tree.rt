@@ -1,6 +1,5 @@
 //! Expressions, evaluated by forks. The tag is a shared tree, with an equality of its own.
 ghost use Rattle.std.specs.Prelude.{◌≡◌, ℕ};
-ghost use Rattle.std.proofs.Common.{rules};
 ghost use Rattle.std.specs.Cmp.{partial_equiv_from_equiv};
 ghost use Rattle.uses.specs.Expressions.{Evaluates, applied, same, same_equivalence, same_evaluates};
 

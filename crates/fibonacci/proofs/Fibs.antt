@@ -1,7 +1,9 @@
-use Rattle.std.proofs.Common.{◌≡◌, ◌⊎◌, inl, inr, ℕ, zero, suc, Err, ◌+◌, ◌-◌, ◌<◌, ◌≤◌, ◌^◌, refl, ap, arith}
+use Rattle.std.proofs.Common.{◌≡◌, inl, inr, subst, ℕ, zero, suc, Err, ◌+◌, ◌-◌, ◌<◌, ◌≤◌, ◌^◌, refl, ap, arith}
 use Rattle.rayon_words.specs.declared.refusal.CallError.{CallError}
 use Rattle.rayon_words.specs.Calls.{without_sides}
+use Rattle.rayon_core.specs.Answers.{JoinAnswers}
 use Rattle.fibonacci.specs.Fib.{fib, AnswersFib, fault_of}
+use Rattle.std.specs.Prelude.{Result}
 use Rattle.fibonacci.specs.declared.FibFault.{FibFault}
 use Rattle.fibonacci.specs.declared.FibFault.TheVariants.{TooLarge, Refused, Foreign, Missing}
 
@@ -50,8 +52,12 @@ fault_right n Foreign h a = tt
 fault_right n Missing h a = tt
 
 -- what a failed join of the two jobs before it leaves is a fault that a job may answer
-pub fault_of_join : {A B : Type 0} (n : ℕ) (e : CallError FibFault B) → 2 ≤ n → ((f : FibFault) → e ≡ CallError.Fault f → AnswersFib (n - 1) (Err f) ⊎ (A × AnswersFib (n - 2) (Err f))) → AnswersFib n (Err (fault_of (without_sides e)))
-fault_of_join n (CallError.Fault f) h p = elim (p f refl) [ inl a ↦ fault_left n f h a | inr b ↦ fault_right n f h b.1 ]
-fault_of_join n (CallError.Refused r b) h p = tt
-fault_of_join n CallError.Foreign h p = tt
-fault_of_join n CallError.Missing h p = tt
+pub fault_of_join : {B : Type 0} (n : ℕ) (sides : B) (r : Result (ℕ × ℕ) (CallError FibFault B)) (e : CallError FibFault B) → r ≡ Err e → 2 ≤ n → JoinAnswers (λ a. AnswersFib (n - 1) a × Unit {0}) (λ b. AnswersFib (n - 2) b) sides r → AnswersFib n (Err (fault_of (without_sides e)))
+fault_of_join {B = B} n sides r e is h p = by e (subst (JoinAnswers (λ a. AnswersFib (n - 1) a × Unit {0}) (λ b. AnswersFib (n - 2) b) sides) is p)
+  where
+    by : (e : CallError FibFault B) → JoinAnswers (λ a. AnswersFib (n - 1) a × Unit {0}) (λ b. AnswersFib (n - 2) b) sides (Err e) → AnswersFib n (Err (fault_of (without_sides e)))
+    by (CallError.Fault f) (inl a) = fault_left n f h (a.0)
+    by (CallError.Fault f) (inr b) = fault_right n f h (b.1)
+    by (CallError.Refused r b) a = tt
+    by CallError.Foreign a = tt
+    by CallError.Missing a = tt

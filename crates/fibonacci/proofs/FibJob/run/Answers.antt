@@ -1,8 +1,8 @@
-use Rattle.std.proofs.Common.{rules, ◌∙◌, ap, Err}
+use Rattle.std.proofs.Common.{rules}
 use Rattle.fibonacci.proofs.Fibs.{fault_of_join}
 use Rattle.fibonacci.proofs.FibJob.run.Goals as goal
 
 pub returns-in-Err-clause-answer : goal.returns-in-Err-clause-answer
 returns-in-Err-clause-answer g c =
-    let p = fault_of_join c.args.self.0 c.in-Err.error c.if-n-lt2.false (λ f e. c.join_jobs.ensures.fault f (c.in-Err.is ∙ ap Err e)) in
+    let p = fault_of_join c.args.self.0 _ _ c.in-Err.error c.in-Err.is c.if-n-lt2.false c.join_jobs.ensures.answers in
     search (rules, p)

@@ -1,7 +1,8 @@
 use Rattle.std.specs.Prelude.{◌≡◌, ℕ, ◌+◌, ◌*◌, Bool, true, false, ◌&&◌, nat_eq, Option, Some, None, Result, MatchResult, if◌then◌else◌, nat_lt}
 use Rattle.std.specs.Cmp.{IsEquivalence, nat_eq_equiv}
+use Rattle.std.proofs.lemmas.Bool.{true≢false}
 use Rattle.std.specs.Cmp.Derive.{both_true}
-use Rattle.std.proofs.Common.{rules, refl, ap, eqb-true}
+use Rattle.std.proofs.Common.{refl, sym, ap, eqb-true}
 use Rattle.uses.specs.declared.tree.Operator.{Operator}
 use Rattle.uses.specs.declared.tree.Operator.TheVariants.{Plus, Times}
 use Rattle.uses.specs.declared.tree.Expression.{Expression}
@@ -45,13 +46,13 @@ same (Apply' o p a q b) (Apply' u r c s d) = same_operator o u && (same a c && s
 
 apart : (s t u : Bool) → (s && (t && u)) ≡ true → (s ≡ true) × (t ≡ true) × (u ≡ true)
 apart true true u e = (refl, refl, e)
-apart true false u e = search rules
-apart false t u e = search rules
+apart true false u e = absurd (true≢false (sym e))
+apart false t u e = absurd (true≢false (sym e))
 
 same_operator-is : (o u : Operator) → same_operator o u ≡ true → o ≡ u
 same_operator-is Plus Plus e = refl
-same_operator-is Plus Times e = search rules
-same_operator-is Times Plus e = search rules
+same_operator-is Plus Times e = absurd (true≢false (sym e))
+same_operator-is Times Plus e = absurd (true≢false (sym e))
 same_operator-is Times Times e = refl
 
 same_operator-refl : (o : Operator) → same_operator o o ≡ true
@@ -77,8 +78,8 @@ same-symm (Apply' o p a q b) (Apply' u r c s d) = rw (same_operator-symm o u, sa
 same-congr : (x y z : Expression) → same x y ≡ true → same x z ≡ same y z
 same-congr (Number m) (Number n) (Number k) e = nat_eq_equiv.congr m n k e
 same-congr (Number m) (Number n) (Apply' u r c s d) e = refl
-same-congr (Number m) (Apply' u r c s d) z e = search rules
-same-congr (Apply' o p a q b) (Number n) z e = search rules
+same-congr (Number m) (Apply' u r c s d) z e = absurd (true≢false (sym e))
+same-congr (Apply' o p a q b) (Number n) z e = absurd (true≢false (sym e))
 same-congr (Apply' o p a q b) (Apply' u r c s d) (Number n) e = refl
 same-congr (Apply' o p a q b) (Apply' u r c s d) (Apply' v h i j k) e =
     let h = apart (same_operator o u) (same a c) (same b d) e in
@@ -91,8 +92,8 @@ same_equivalence = record { refl = same-refl; symm = same-symm; congr = same-con
 -- the same expressions have one value
 pub same_value : (x y : Expression) → same x y ≡ true → value x ≡ value y
 same_value (Number m) (Number n) e = ap Some (eqb-true m n e)
-same_value (Number m) (Apply' u r c s d) e = search rules
-same_value (Apply' o p a q b) (Number n) e = search rules
+same_value (Number m) (Apply' u r c s d) e = absurd (true≢false (sym e))
+same_value (Apply' o p a q b) (Number n) e = absurd (true≢false (sym e))
 same_value (Apply' o p a q b) (Apply' u r c s d) e =
     let h = apart (same_operator o u) (same a c) (same b d) e in
     rw (same_operator-is o u h.0, same_value a c h.1, same_value b d h.2)

@@ -22,7 +22,7 @@ fn call_until_ended<R: Wait + Abort>(
     words: Words,
 ) -> u64 {
     let says = |name| Errand::new(name, marks, Deed::End(Ok(words))).expect(rt, "room");
-    let mut answered = 0;
+    let mut answered = 0_u64;
     for _ in 0..TURNS {
         match outcome(pool.install(rt, alloc, says(Name::Caller))) {
             Ok(answer) => assert_eq!(rt; answer, Answer::Said(words)),
@@ -31,7 +31,7 @@ fn call_until_ended<R: Wait + Abort>(
                 return answered;
             }
         }
-        answered += 1;
+        answered = answered.saturating_add(1);
         match outcomes(pool.join(rt, alloc, says(Name::First), says(Name::Second))) {
             Ok(answers) => {
                 assert_eq!(rt; answers, (Answer::Said(words), Answer::Said(words)));
@@ -42,7 +42,7 @@ fn call_until_ended<R: Wait + Abort>(
                 return answered;
             }
         }
-        answered += 2;
+        answered = answered.saturating_add(2);
     }
     answered
 }
@@ -72,10 +72,12 @@ fn pools_end_in_a_storm_of_calls(rt: HostRuntime) -> Result<(), Fail> {
         let marks = Marks::new(alloc).expect(&rt, "room");
         let pool = pool_of(&rt, alloc, 9).expect(&rt, "a pool");
         let late = pool.pool_ref().expect(&rt, "room");
-        let callers = [Words::Red, Words::Green, Words::Blue].map(|words| {
-            let pool_ref = pool.pool_ref().expect(&rt, "room");
-            caller(&rt, alloc, pool_ref, &marks, words)
-        });
+        let mine = pool.pool_ref().expect(&rt, "room");
+        let red = caller(&rt, alloc, mine, &marks, Words::Red);
+        let mine = pool.pool_ref().expect(&rt, "room");
+        let green = caller(&rt, alloc, mine, &marks, Words::Green);
+        let mine = pool.pool_ref().expect(&rt, "room");
+        let blue = caller(&rt, alloc, mine, &marks, Words::Blue);
         for _ in rt.forever() {
             if marks.runs() >= round {
                 break;
@@ -83,8 +85,8 @@ fn pools_end_in_a_storm_of_calls(rt: HostRuntime) -> Result<(), Fail> {
         }
         pool.end(&rt);
         assert_eq!(rt; call_until_ended(&rt, alloc, &late, &marks, Words::One), 0);
-        let [red, green, blue] = callers;
-        let answered = red.join(&rt) + green.join(&rt) + blue.join(&rt);
+        let both = red.join(&rt).saturating_add(green.join(&rt));
+        let answered = both.saturating_add(blue.join(&rt));
         assert_eq!(rt; marks.runs(), answered, "round {round}");
     }
     Ok(())

@@ -89,10 +89,11 @@ fn sides_that_run_one_after_the_other_migrated(rt: HostRuntime) -> Result<(), Fa
         latch.set(handle);
         let woken = outcome(shared.install(handle, alloc, wakes));
         assert_eq!(handle; woken, Ok(Answer::Said(Words::Awake)));
-        match waiting {
-            Ok(waiting) => (waiting.join(handle), sides),
-            Err(_) => (Err(Trouble::NoMemory), sides),
-        }
+        let waited = match waiting {
+            Ok(waiting) => waiting.join(handle),
+            Err(_error) => Err(Trouble::NoMemory),
+        };
+        (waited, sides)
     });
     pool.end(&rt);
     assert_eq!(rt; waited, Ok(Answer::Said(Words::Waited)));

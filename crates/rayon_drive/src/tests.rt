@@ -1,4 +1,4 @@
-// Tests of `drive` with a performer that sees what a list says.
+//! Tests of `drive` with a performer that sees what a list says.
 use crate::drive::{Perform, drive};
 use crate::trace::Trace;
 use rayon_machine_places::act::{Act, Seen};

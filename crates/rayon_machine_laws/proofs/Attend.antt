@@ -16,11 +16,11 @@ use Rattle.rayon_machine_places.specs.declared.shape.PoolShape.{PoolShape}
 use Rattle.rayon_machine_places.specs.declared.place.Walk.{Walk}
 use Rattle.rayon_machine_places.specs.Places.{same_party, walk, act_of}
 use Rattle.rayon_machine_places.specs.World.{Shape, Pool, Stack, World, Counts, Part, target_pool, pop_injector, effect}
-use Rattle.rayon_machine_places.specs.Steps.{put_stack, after_move}
+use Rattle.rayon_machine_places.specs.Steps.{after_move}
 use Rattle.rayon_machine_laws.specs.Committed.{is_committed}
 use Rattle.rayon_machine_laws.specs.Attended.{is_filled, HasLooker, has_pushed, owes_wake, HasWaker, IsInjectorAttended}
 use Rattle.rayon_machine_laws.proofs.Calm.{is_quiet, part_at, counts_seen, next_at, Quiet, quiet_go}
-use Rattle.rayon_machine_laws.proofs.Frame.{and_parts, or_parts, same_party_true, same_party_refl, if_some_and, if_some_map}
+use Rattle.rayon_machine_laws.proofs.Frame.{and_parts, or_parts, same_party_true, if_some_and, if_some_map}
 use Rattle.rayon_machine_laws.proofs.Ties.{outcome, result}
 use Rattle.rayon_machine_laws.proofs.Tops.{FramesOk}
 

@@ -1,7 +1,7 @@
 -- in every world of every run what a party's places name are its own calls, and who sets a call's latch sets it for its owner
 use Rattle.std.proofs.Common.{rules, arith, refl, sym, ◌∙◌, ap, subst, inl, inr}
 use Rattle.std.specs.Prelude.{ℕ, Bool, true, false, ◌&&◌, ◌+◌, ◌-◌, ◌==◌, ◌<◌, ◌≤◌, nat_lt, if◌then◌else◌, Option, Some, None, List, [], ◌∷◌, ◌≡◌, ◌⊎◌, IfSome, ⊤}
-use Rattle.std.proofs.lemmas.Bool.{eqb-true, eq-eqb, ltb-true, ltb-false}
+use Rattle.std.proofs.lemmas.Bool.{eqb-true, ltb-true, ltb-false}
 use Rattle.rayon_machine_places.specs.declared.place.Party.{Party}
 use Rattle.rayon_machine_places.specs.declared.place.Party.TheVariants.{Worker, Caller}
 use Rattle.rayon_machine_places.specs.declared.place.Ending.{Ending}
@@ -11,7 +11,6 @@ use Rattle.rayon_machine_places.specs.declared.place.JobKind.TheVariants.{Detach
 use Rattle.rayon_machine_places.specs.declared.place.Target.TheVariants.{Termination}
 use Rattle.rayon_machine_places.specs.declared.place.Latch.{Latch}
 use Rattle.rayon_machine_places.specs.declared.place.Latch.TheVariants.{Terminate, OfCall}
-use Rattle.rayon_machine_places.specs.declared.place.Plan.{Plan}
 use Rattle.rayon_machine_places.specs.declared.place.Plan.TheVariants.{Detach, Here, Send, Fork}
 use Rattle.rayon_machine_places.specs.declared.place.Share.TheVariants.{PoolValue, OfJob}
 use Rattle.rayon_machine_places.specs.declared.place.Then.TheVariants.{Resume}
@@ -23,13 +22,13 @@ use Rattle.rayon_machine_places.specs.declared.act.Act.TheVariants.{Set}
 use Rattle.rayon_machine_places.specs.declared.act.Seen.{Seen}
 use Rattle.rayon_machine_places.specs.declared.event.Event.{Event}
 use Rattle.rayon_machine_places.specs.declared.event.Event.TheVariants.{Go, From, Refuse, Miss, End, Spawn, Install, Join, Yield, YieldLocal, EndPool}
-use Rattle.rayon_machine_places.specs.declared.state.Whereabouts.TheVariants.{Over, HandedBack}
+use Rattle.rayon_machine_places.specs.declared.state.Whereabouts.TheVariants.{Over}
 use Rattle.rayon_machine_places.specs.declared.shape.PoolShape.{PoolShape}
 use Rattle.rayon_machine_places.specs.declared.place.Wait.{Wait}
 use Rattle.rayon_machine_places.specs.declared.state.Job.{Job}
 use Rattle.rayon_machine_places.specs.Places.{same_party, own_pool, own_index, is_member, fresh, undo, next_victim, not_self, act_of, next_steal, next_yield, goes_on, is_free}
-use Rattle.rayon_machine_places.specs.World.{Shape, Stack, World, Counts, Part, target_pool, target_worker, target_call, at_job, begun, effect}
-use Rattle.rayon_machine_places.specs.Steps.{put, put_stack, after_move, handed_back, jobs_after, with_stack, after_choice, after_refusal, can_miss, after_miss, after_close, after_end, after_call, is_pool, new_job, new_call, after_spawn, after_send, after_install, after_join, after_yield, after_end_pool, step}
+use Rattle.rayon_machine_places.specs.World.{Shape, Stack, World, Counts, Part, target_pool, target_worker, target_call, at_job, effect}
+use Rattle.rayon_machine_places.specs.Steps.{put, put_stack, after_move, with_stack, after_choice, after_refusal, can_miss, after_miss, after_close, after_end, after_call, is_pool, new_job, new_call, after_spawn, after_send, after_install, after_join, after_yield, after_end_pool, step}
 use Rattle.rayon_machine_places.specs.Runs.{first_place, start}
 use Rattle.rayon_machine_laws.proofs.Calm.{part_at, counts_seen, next_at}
 use Rattle.rayon_machine_laws.proofs.Frame.{same_party_true, if_some_and, if_some_map, if_cond, acted_keeps, either, put_same, put_new, put_old, after_kind}

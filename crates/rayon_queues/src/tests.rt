@@ -1,5 +1,5 @@
-// Tests of the queues: that tasks move at all, in which order they come to thieves and takers, and that none is lost or doubled
-// between threads. What each pass took, and the order of the owner's pops, stand in the contracts.
+//! Tests of the queues: that tasks move at all, in which order they come to thieves and takers, and that none is lost or doubled
+//! between threads. What each pass took, and the order of the owner's pops, stand in the contracts.
 ghost use Rattle.std.specs.Prelude.{◌<◌, length};
 
 use crate::{Injector, Stealers, WorkerDeque, XorShift64Star};

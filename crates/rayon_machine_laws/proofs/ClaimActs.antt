@@ -212,7 +212,7 @@ pub made_held : (w : World) → JobsHold w → (q : Party) (t : ℕ) → 1 ≤ h
 made_held w h q t b = elim (either (ltb t w.jobs)) [ inl y ↦ (let z : t < w.jobs = ltb-true t w.jobs y in omega (arith, z)) | inr n ↦ absurd (none (ltb-false t w.jobs n)) ]
   where
     none : w.jobs ≤ t → ⊥
-    none z = let a : held t (w.stack q) ≤ is_loc (Hand q) (loc_at (w.job t)) = ((h.ok).placed) (Hand q) t in
+    none z = let a : held t (w.stack q) ≡ is_loc (Hand q) (loc_at (w.job t)) = ((h.ok).placed) (Hand q) t in
         let e : is_loc (Hand q) (loc_at (w.job t)) ≡ 0 = ap (λ v. is_loc (Hand q) (loc_of v ((w.job t).runs))) ((h.unmade) t z) in omega (arith, a, e, b)
 
 -- the acts that write a cell or set a latch

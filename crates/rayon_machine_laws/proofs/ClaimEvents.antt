@@ -22,6 +22,7 @@ use Rattle.rayon_machine_places.specs.Readers.{is_done}
 use Rattle.rayon_machine_laws.proofs.Frame.{and_parts, if_cond, put_same, put_new}
 use Rattle.rayon_machine_laws.proofs.Hands.{held}
 use Rattle.rayon_machine_laws.proofs.PlacedEvents.{Advance}
+use Rattle.rayon_machine_laws.proofs.PlacedRuns.{jobs_advance}
 use Rattle.rayon_machine_laws.proofs.Claims.{FirstEnds, SaysRun, Says, wants, here, Link, Linked, AllSay, StackSays, relink, Learns}
 use Rattle.rayon_machine_laws.proofs.Later.{Later, later_says, later_all}
 use Rattle.rayon_machine_laws.proofs.ClaimRuns.{CallsHold, all_says, moved_says}
@@ -29,7 +30,7 @@ use Rattle.rayon_machine_laws.proofs.ClaimRuns.{CallsHold, all_says, moved_says}
 -- where one party has another stack, and pools keep what they said
 restacked : (w : World) (q : Party) (k : Stack) (P : ℕ → Pool) → ((p : ℕ) → (P p).count ≡ (w.pool p).count) → ((p : ℕ) → (w.pool p).held ≡ false → (P p).held ≡ false) → (Later w (record w { stack = put_stack w.stack q k; pool = P }) → StackSays (record w { stack = put_stack w.stack q k; pool = P }) q k) → CallsHold w → Advance w (record w { stack = put_stack w.stack q k; pool = P }) → CallsHold (record w { stack = put_stack w.stack q k; pool = P })
 restacked w q k P counts held s h a = record {
-  jobs = record { ok = record { placed = a.placed; fit = a.fit }; unmade = a.unmade };
+  jobs = jobs_advance w (record w { stack = put_stack w.stack q k; pool = P }) (h.jobs) a;
   says = all_says w (record w { stack = put_stack w.stack q k; pool = P }) later q k (s later) (h.says);
   ties = h.ties;
   pools = h.pools;

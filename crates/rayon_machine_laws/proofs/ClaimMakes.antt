@@ -28,7 +28,7 @@ use Rattle.rayon_machine_laws.proofs.Frame.{either, and_parts, if_cond, acted_ke
 use Rattle.rayon_machine_laws.proofs.Ties.{job_at, outcome}
 use Rattle.rayon_machine_laws.proofs.Events.{run_keeps}
 use Rattle.rayon_machine_laws.proofs.PlacedEvents.{IsFinal, final_left, Advance}
-use Rattle.rayon_machine_laws.proofs.PlacedRuns.{step_advance, first_jobs}
+use Rattle.rayon_machine_laws.proofs.PlacedRuns.{jobs_advance, step_advance, first_jobs}
 use Rattle.rayon_machine_laws.proofs.Claims.{MadeAs, is_detached, SaysPlan, SaysRun, StackSays}
 use Rattle.rayon_machine_laws.proofs.Later.{Later, later_done, later_says, later_all}
 use Rattle.rayon_machine_laws.proofs.ClaimRuns.{CallsHold, all_says, go_calls}
@@ -57,7 +57,7 @@ end_calls w q d (Run t k) fs z h = λ a. done a
 
     done : Advance w (ended_world w q d t k fs) → CallsHold (ended_world w q d t k fs)
     done a = record {
-      jobs = record { ok = record { placed = a.placed; fit = a.fit }; unmade = a.unmade };
+      jobs = jobs_advance w (ended_world w q d t k fs) (h.jobs) a;
       says = all_says w (ended_world w q d t k fs) (later a) q (after_close t k d fs)
           (says_closed w (ended_world w q d t k fs) q d t k fs h (later a) (λ c. refl) now (put_same (λ j. j.pool) w.job t (at_job (w.job t) (Over d)) t refl) (later_says w (ended_world w q d t k fs) (later a) q (Run t k) (old.top)) (old.top) detached (later_all w (ended_world w q d t k fs) (later a) q fs (old.below)) (old.links)) (h.says);
       ties = λ s b c o y. h.ties s b c o (sym (put_same (λ j. j.kind) w.job t (at_job (w.job t) (Over d)) s refl) ∙ y);
@@ -83,7 +83,7 @@ pub record Makes (w u : World) (q : Party) (n : Plan) : Type 0 where
 
 made_calls : (w : World) (q : Party) (n : Plan) (C : ℕ → Call) (J : ℕ → Job) (c j : ℕ) → is_free (w.stack q).top ≡ true → CallsHold w → Makes w (calling w q n C J c j) q n → Advance w (calling w q n C J c j) → CallsHold (calling w q n C J c j)
 made_calls w q n C J c j f h m a = record {
-  jobs = record { ok = record { placed = a.placed; fit = a.fit }; unmade = a.unmade };
+  jobs = jobs_advance w (calling w q n C J c j) (h.jobs) a;
   says = all_says w (calling w q n C J c j) (m.later) q (after_call (w.stack q) (RaiseCount n)) (called_says w (calling w q n C J c j) (m.later) q (RaiseCount n) f (m.says) h) (h.says);
   ties = m.ties;
   pools = m.pools;

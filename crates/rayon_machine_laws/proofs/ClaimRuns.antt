@@ -31,7 +31,7 @@ use Rattle.rayon_machine_laws.proofs.Hands.{held_in, held}
 use Rattle.rayon_machine_laws.proofs.Located.{is_left}
 use Rattle.rayon_machine_laws.proofs.Placed.{Kept}
 use Rattle.rayon_machine_laws.proofs.PlacedEvents.{go_kept, Advance, kept_advance}
-use Rattle.rayon_machine_laws.proofs.PlacedRuns.{JobsHold}
+use Rattle.rayon_machine_laws.proofs.PlacedRuns.{JobsHold, jobs_advance}
 use Rattle.rayon_machine_laws.proofs.Claims.{Opened, Left, SaysLatch, Says, StackSays, PassMove, none_passes, land_says, Learns, says_next}
 use Rattle.rayon_machine_laws.proofs.Later.{Later, later_done, later_says, later_all, later_stack, Static, act_static}
 use Rattle.rayon_machine_laws.proofs.ClaimActs.{Lasting, lasting, Took, Learned, act_learned, made_held, stores, is_call, sets_call, sets_seat, Written, act_written}
@@ -183,7 +183,7 @@ act_calls w q x fs r h z st ke le wr = record {
     l = lasting w q (record { top = x; below = fs }) (target_pool q (act_of q x)) (target_worker q (act_of q x)) (target_call (act_of q x)) (job_at w q (act_of q x)) r st ke
 
     jobs : JobsHold (world_after w q x fs r)
-    jobs = let a : Advance w (world_after w q x fs r) = kept_advance w (world_after w q x fs r) (omega arith) ((h.jobs).unmade) ke in record { ok = record { placed = a.placed; fit = a.fit }; unmade = a.unmade }
+    jobs = let a : Advance w (world_after w q x fs r) = kept_advance w (world_after w q x fs r) (omega arith) ((h.jobs).unmade) ke in jobs_advance w (world_after w q x fs r) (h.jobs) a
 
     over_now : (c : ℕ) (e : Ending) → (w.job (w.call c).job).at ≡ Over e → ((world_after w q x fs r).job ((world_after w q x fs r).call c).job).at ≡ Over e
     over_now c e k = ap (λ t. ((world_after w q x fs r).job t).at) (l.targets c) ∙ (l.later).over ((w.call c).job) e k

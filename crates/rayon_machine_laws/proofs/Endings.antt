@@ -82,13 +82,13 @@ ends_so w h filled missing = record {
 untouched : (w : World) → JobsHold w → (t : ℕ) → (w.job t).runs ≡ 0 → ((p i : ℕ) → is_loc (Deck p i) (loc_at (w.job t)) ≡ 0) → ((p : ℕ) → is_loc (Inj p) (loc_at (w.job t)) ≡ 0) → IsUntouched w t
 untouched w h t r d i = record {
   runs = r;
-  deque = λ p j. (let a : times t ((w.seat p j).own) ≤ is_loc (Deck p j) (loc_at (w.job t)) = ((h.ok).placed) (Deck p j) t in let b : is_loc (Deck p j) (loc_at (w.job t)) ≡ 0 = d p j in omega (arith, a, b));
+  deque = λ p j. (let a : times t ((w.seat p j).own) ≡ is_loc (Deck p j) (loc_at (w.job t)) = ((h.ok).placed) (Deck p j) t in let b : is_loc (Deck p j) (loc_at (w.job t)) ≡ 0 = d p j in omega (arith, a, b));
   cast = λ p j. (once w h).cast p j t;
-  injector = λ p. (let a : times t ((w.pool p).injector) ≤ is_loc (Inj p) (loc_at (w.job t)) = ((h.ok).placed) (Inj p) t in let b : is_loc (Inj p) (loc_at (w.job t)) ≡ 0 = i p in omega (arith, a, b));
+  injector = λ p. (let a : times t ((w.pool p).injector) ≡ is_loc (Inj p) (loc_at (w.job t)) = ((h.ok).placed) (Inj p) t in let b : is_loc (Inj p) (loc_at (w.job t)) ≡ 0 = i p in omega (arith, a, b));
 }
 
 held_untouched : (w : World) → JobsHold w → (q : Party) (t : ℕ) → 1 ≤ held t (w.stack q) → IsUntouched w t
-held_untouched w h q t b = let a : held t (w.stack q) ≤ is_loc (Hand q) (loc_at (w.job t)) = ((h.ok).placed) (Hand q) t in
+held_untouched w h q t b = let a : held t (w.stack q) ≡ is_loc (Hand q) (loc_at (w.job t)) = ((h.ok).placed) (Hand q) t in
     let z : loc_at (w.job t) ≡ Some (Hand q) = where_is (Hand q) (loc_at (w.job t)) (omega (arith, a, b)) in
     untouched w h t (unbegun ((w.job t).at) ((w.job t).runs) (Hand q) refl z) (λ p i. ap (is_loc (Deck p i)) z) (λ p. ap (is_loc (Inj p)) z)
 

@@ -104,7 +104,7 @@ hand_undone (Running q) n l e z = cc
 hand_undone HandedBack n l e z = cc
 
 in_hand : (w : World) → JobsHold w → (q : Party) (t : ℕ) → 1 ≤ held t (w.stack q) → is_done (w.job t).at ≡ true → ⊥
-in_hand w h q t b z = let a : held t (w.stack q) ≤ is_loc (Hand q) (loc_at (w.job t)) = ((h.ok).placed) (Hand q) t in
+in_hand w h q t b z = let a : held t (w.stack q) ≡ is_loc (Hand q) (loc_at (w.job t)) = ((h.ok).placed) (Hand q) t in
     hand_undone ((w.job t).at) ((w.job t).runs) (Hand q) (where_is (Hand q) (loc_at (w.job t)) (omega (arith, a, b))) z
 
 gained_hand : (t : ℕ) (x : Place) (e : Seen) → gained t x e ≤ hand t x

@@ -1,16 +1,14 @@
 -- which jobs a party has in hand or runs, by its places
 use Rattle.std.proofs.Common.{rules, arith, refl}
-use Rattle.std.specs.Prelude.{ℕ, Bool, true, false, ◌+◌, ◌==◌, ◌≤◌, nat_lt, if◌then◌else◌, Option, Some, None, List, [], ◌∷◌, ◌≡◌, IfSome}
+use Rattle.std.specs.Prelude.{ℕ, Bool, true, false, ◌+◌, ◌==◌, nat_lt, if◌then◌else◌, List, [], ◌∷◌, ◌≡◌, IfSome}
 use Rattle.rayon_machine_places.specs.declared.place.Party.{Party}
 use Rattle.rayon_machine_places.specs.declared.place.Party.TheVariants.{Worker, Caller}
 use Rattle.rayon_machine_places.specs.declared.place.Latch.{Latch}
 use Rattle.rayon_machine_places.specs.declared.place.Latch.TheVariants.{Terminate, OfCall}
-use Rattle.rayon_machine_places.specs.declared.place.Plan.{Plan}
-use Rattle.rayon_machine_places.specs.declared.place.Plan.TheVariants.{Detach, Here, Send, Fork}
 use Rattle.rayon_machine_places.specs.declared.place.Then.{Then}
-use Rattle.rayon_machine_places.specs.declared.place.Then.TheVariants.{BeginFound, RunFirst, GiveBack}
+use Rattle.rayon_machine_places.specs.declared.place.Then.TheVariants.{BeginFound}
 use Rattle.rayon_machine_places.specs.declared.place.Place.{Place}
-use Rattle.rayon_machine_places.specs.declared.place.Place.TheVariants.{ProbeWorking, LeaveSearch, BeginTask, BeginHere, RaiseCount, GrowCall, LookQueue, PushJob, TellNews, LockToWake, WakeWorker, UnlockWoken, LowerCount, SetLatch, LockToSettle, WakeSettled, UnlockSettled}
+use Rattle.rayon_machine_places.specs.declared.place.Place.TheVariants.{ProbeWorking, BeginTask, BeginHere, RaiseCount, PushJob, SetLatch, UnlockSettled}
 use Rattle.rayon_machine_places.specs.declared.place.Move.{Move}
 use Rattle.rayon_machine_places.specs.declared.place.Move.TheVariants.{Stay, Enter, StartRun, Back, HandBack}
 use Rattle.rayon_machine_places.specs.declared.act.Seen.{Seen}
@@ -23,61 +21,8 @@ use Rattle.rayon_machine_places.specs.Places.{plan_job, finish, settle, after_se
 use Rattle.rayon_machine_places.specs.World.{Shape, Stack, Counts, Part, is_held_by, letter, set_latch, effect}
 use Rattle.rayon_machine_places.specs.Steps.{back}
 use Rattle.rayon_machine_laws.specs.Once.{one, run_of, runs_in}
+pub use Rattle.rayon_machine_laws.specs.Once.{hand_plan, hand_rest, hand_then, hand_found, hand, held_in, held, worked}
 use Rattle.rayon_machine_laws.proofs.Frame.{if_cond}
-
--- the jobs of a call that has not queued them
-abbrev pub hand_plan : ℕ → Plan → ℕ
-hand_plan t (Detach p j) = one (t == j)
-hand_plan t (Here p j) = one (t == j)
-hand_plan t (Send o) = one (t == o.job)
-hand_plan t (Fork o a) = one (t == a) + one (t == o.job)
-
--- after the push a join still has its first side
-abbrev pub hand_rest : ℕ → Plan → ℕ
-hand_rest t (Fork o a) = one (t == a)
-hand_rest t _ = 0
-
--- what follows keeps a found task, a first side, or the jobs of a refused call
-abbrev pub hand_then : ℕ → Then → ℕ
-hand_then t (BeginFound g u) = one (t == u)
-hand_then t (RunFirst o a) = one (t == a)
-hand_then t (GiveBack n) = hand_plan t n
-hand_then t _ = 0
-
-abbrev pub hand_found : ℕ → Option ℕ → ℕ
-hand_found t None = 0
-hand_found t (Some u) = one (t == u)
-
--- how often a place has job t in hand, not begun
-abbrev pub hand : ℕ → Place → ℕ
-hand t (LeaveSearch w) = hand_found t w.found
-hand t (BeginTask u) = one (t == u)
-hand t (BeginHere u) = one (t == u)
-hand t (RaiseCount n) = hand_plan t n
-hand t (GrowCall n) = hand_plan t n
-hand t (LookQueue n) = hand_plan t n
-hand t (PushJob n e) = hand_plan t n
-hand t (TellNews n e) = hand_rest t n
-hand t (LockToWake k) = hand_then t k.then
-hand t (WakeWorker k) = hand_then t k.then
-hand t (UnlockWoken k) = hand_then t k.then
-hand t (LowerCount p s n) = hand_then t n
-hand t (SetLatch s) = hand_then t s.then
-hand t (LockToSettle s) = hand_then t s.then
-hand t (WakeSettled s) = hand_then t s.then
-hand t (UnlockSettled s) = hand_then t s.then
-hand t _ = 0
-
-abbrev pub held_in : ℕ → List Place → ℕ
-held_in t [] = 0
-held_in t (f ∷ fs) = hand t f + held_in t fs
-
--- how often a whole stack has it in hand, and how often it runs it
-abbrev pub held : ℕ → Stack → ℕ
-held t k = hand t k.top + held_in t k.below
-
-abbrev pub worked : ℕ → Stack → ℕ
-worked t k = run_of t k.top + runs_in t k.below
 
 -- the stack after a move, before the run that it starts has begun and before the jobs of a refused call are handed back
 abbrev pub paused : Move → List Place → Stack
@@ -101,7 +46,7 @@ run_move t (StartRun f a) = run_of t f
 run_move t Back = 0
 run_move t (HandBack n) = 0
 
--- a move holds no more than the place and the frames below it
+-- a move holds what its places and the frames below them do
 pub land_held : (t : ℕ) (g : Move) (fs : List Place) → held t (paused g fs) ≡ (hand_move t g + held_in t fs)
 land_held t (Stay y) fs = refl
 land_held t (Enter f y) fs = omega arith
@@ -134,52 +79,52 @@ given t (PushJob n e) = one (t == plan_job n)
 given t x = starts t x
 
 -- the setting of a latch sees something, and changes no more than the latch
-pub set_sees : (P : Seen → Type 0) (l : Latch) (m : Part) (x : Letter) → ((e : Seen) → P e) → IfSome (set_latch l m x) (λ r. P (r.0))
-set_sees P l m Unset f = f No
-set_sees P l m IsSleepy f = f No
-set_sees P l m Sleeping f = f Yes
-set_sees P l m IsSet f = f No
+pub set_sees : (P : Seen → Type 0) (l : Latch) (m : Part) (x : Letter) → ((e : Seen) → ((t : ℕ) → got t e ≡ 0) → P e) → IfSome (set_latch l m x) (λ r. P (r.0))
+set_sees P l m Unset f = f No (λ t. refl)
+set_sees P l m IsSleepy f = f No (λ t. refl)
+set_sees P l m Sleeping f = f Yes (λ t. refl)
+set_sees P l m IsSet f = f No (λ t. refl)
 
-finish_hand : (t : ℕ) (q : Party) (n : Then) → (hand_move t (finish q n) ≤ hand_then t n) × (run_move t (finish q n) ≤ 0)
+finish_hand : (t : ℕ) (q : Party) (n : Then) → (hand_move t (finish q n) ≡ hand_then t n) × (run_move t (finish q n) ≡ 0)
 finish_hand t (Worker a b) (BeginFound g u) = (omega arith, omega arith)
 finish_hand t (Worker a b) n = (search (rules, arith), search (rules, arith))
 finish_hand t (Caller c) (BeginFound g u) = (omega arith, omega arith)
 finish_hand t (Caller c) n = (search (rules, arith), search (rules, arith))
 
-settle_hand : (t : ℕ) (g : PoolShape) (q : Party) (p i : ℕ) (n : Then) → (hand_move t (settle g q p i n) ≤ hand_then t n) × (run_move t (settle g q p i n) ≤ 0)
+settle_hand : (t : ℕ) (g : PoolShape) (q : Party) (p i : ℕ) (n : Then) → (hand_move t (settle g q p i n) ≡ hand_then t n) × (run_move t (settle g q p i n) ≡ 0)
 settle_hand t g q p i n = at (nat_lt i g.workers)
   where
-    at : (z : Bool) → (hand_move t (if z then Stay (SetLatch (record { latch = Terminate; pool = p; worker = i; then = n })) else finish q n) ≤ hand_then t n) × (run_move t (if z then Stay (SetLatch (record { latch = Terminate; pool = p; worker = i; then = n })) else finish q n) ≤ 0)
+    at : (z : Bool) → (hand_move t (if z then Stay (SetLatch (record { latch = Terminate; pool = p; worker = i; then = n })) else finish q n) ≡ hand_then t n) × (run_move t (if z then Stay (SetLatch (record { latch = Terminate; pool = p; worker = i; then = n })) else finish q n) ≡ 0)
     at true = (omega arith, omega arith)
     at false = finish_hand t q n
 
-settled_hand : (t : ℕ) (g : PoolShape) (q : Party) (k : Settling) (l : Latch) → (hand_move t (after_set g q k l) ≤ hand_then t k.then) × (run_move t (after_set g q k l) ≤ 0)
+settled_hand : (t : ℕ) (g : PoolShape) (q : Party) (k : Settling) (l : Latch) → (hand_move t (after_set g q k l) ≡ hand_then t k.then) × (run_move t (after_set g q k l) ≡ 0)
 settled_hand t g q k Terminate = settle_hand t g q k.pool (k.worker + 1) k.then
 settled_hand t g q k (OfCall c) = finish_hand t q k.then
 
 -- whatever the setting of a latch has seen
-set_hand : (t : ℕ) (g : PoolShape) (q : Party) (k : Settling) (e : Seen) → (hand_move t (next_of g q (SetLatch k) e) ≤ hand_then t k.then) × (run_move t (next_of g q (SetLatch k) e) ≤ 0)
+set_hand : (t : ℕ) (g : PoolShape) (q : Party) (k : Settling) (e : Seen) → (hand_move t (next_of g q (SetLatch k) e) ≡ hand_then t k.then) × (run_move t (next_of g q (SetLatch k) e) ≡ 0)
 set_hand t g q k Yes = (omega arith, omega arith)
 set_hand t g q k _ = settled_hand t g q k k.latch
 
 -- over the whole table: what a party has in hand after an act is what it had, with what it took, less what it gave
-pub table : (h : Shape) (s : PoolShape) (q : Party) (c : Counts) (m : Part) (t : ℕ) (x : Place) → IfSome (effect (act_of q x) h q c m) (λ r. hand_move t (next_of s q x (r.0)) + given t x ≤ hand t x + got t (r.0))
+pub table : (h : Shape) (s : PoolShape) (q : Party) (c : Counts) (m : Part) (t : ℕ) (x : Place) → IfSome (effect (act_of q x) h q c m) (λ r. (hand_move t (next_of s q x (r.0)) + given t x) ≡ (hand t x + got t (r.0)))
 table h s (Worker a b) c m t (ProbeWorking k) = search (rules, arith)
-table h s (Worker a b) c m t (SetLatch k) = set_sees (λ e. hand_move t (next_of s (Worker a b) (SetLatch k) e) + 0 ≤ hand t (SetLatch k) + got t e) k.latch m (letter k.latch m) (λ e. let both : (hand_move t (next_of s (Worker a b) (SetLatch k) e) ≤ hand_then t k.then) × (run_move t (next_of s (Worker a b) (SetLatch k) e) ≤ 0) = set_hand t s (Worker a b) k e in let b : hand_move t (next_of s (Worker a b) (SetLatch k) e) ≤ hand_then t k.then = both.0 in omega (arith, b))
-table h s (Worker a b) c m t (UnlockSettled k) = if_cond (λ r. hand_move t (next_of s (Worker a b) (UnlockSettled k) (r.0)) + 0 ≤ hand t (UnlockSettled k) + got t (r.0)) (is_held_by (Worker a b) m.seat.lock) _ (λ z. let both : (hand_move t (after_set s (Worker a b) k k.latch) ≤ hand_then t k.then) × (run_move t (after_set s (Worker a b) k k.latch) ≤ 0) = settled_hand t s (Worker a b) k k.latch in let b : hand_move t (after_set s (Worker a b) k k.latch) ≤ hand_then t k.then = both.0 in omega (arith, b))
+table h s (Worker a b) c m t (SetLatch k) = set_sees (λ e. hand_move t (next_of s (Worker a b) (SetLatch k) e) + 0 ≡ hand t (SetLatch k) + got t e) k.latch m (letter k.latch m) (λ e none. let both : (hand_move t (next_of s (Worker a b) (SetLatch k) e) ≡ hand_then t k.then) × (run_move t (next_of s (Worker a b) (SetLatch k) e) ≡ 0) = set_hand t s (Worker a b) k e in let b : hand_move t (next_of s (Worker a b) (SetLatch k) e) ≡ hand_then t k.then = both.0 in let z : got t e ≡ 0 = none t in omega (arith, b, z))
+table h s (Worker a b) c m t (UnlockSettled k) = if_cond (λ r. hand_move t (next_of s (Worker a b) (UnlockSettled k) (r.0)) + 0 ≡ hand t (UnlockSettled k) + got t (r.0)) (is_held_by (Worker a b) m.seat.lock) _ (λ z. let both : (hand_move t (after_set s (Worker a b) k k.latch) ≡ hand_then t k.then) × (run_move t (after_set s (Worker a b) k k.latch) ≡ 0) = settled_hand t s (Worker a b) k k.latch in let b : hand_move t (after_set s (Worker a b) k k.latch) ≡ hand_then t k.then = both.0 in omega (arith, b))
 table h s (Worker a b) c m t _ = search (rules, arith)
 table h s (Caller n) c m t (ProbeWorking k) = search (rules, arith)
-table h s (Caller n) c m t (SetLatch k) = set_sees (λ e. hand_move t (next_of s (Caller n) (SetLatch k) e) + 0 ≤ hand t (SetLatch k) + got t e) k.latch m (letter k.latch m) (λ e. let both : (hand_move t (next_of s (Caller n) (SetLatch k) e) ≤ hand_then t k.then) × (run_move t (next_of s (Caller n) (SetLatch k) e) ≤ 0) = set_hand t s (Caller n) k e in let b : hand_move t (next_of s (Caller n) (SetLatch k) e) ≤ hand_then t k.then = both.0 in omega (arith, b))
-table h s (Caller n) c m t (UnlockSettled k) = if_cond (λ r. hand_move t (next_of s (Caller n) (UnlockSettled k) (r.0)) + 0 ≤ hand t (UnlockSettled k) + got t (r.0)) (is_held_by (Caller n) m.seat.lock) _ (λ z. let both : (hand_move t (after_set s (Caller n) k k.latch) ≤ hand_then t k.then) × (run_move t (after_set s (Caller n) k k.latch) ≤ 0) = settled_hand t s (Caller n) k k.latch in let b : hand_move t (after_set s (Caller n) k k.latch) ≤ hand_then t k.then = both.0 in omega (arith, b))
+table h s (Caller n) c m t (SetLatch k) = set_sees (λ e. hand_move t (next_of s (Caller n) (SetLatch k) e) + 0 ≡ hand t (SetLatch k) + got t e) k.latch m (letter k.latch m) (λ e none. let both : (hand_move t (next_of s (Caller n) (SetLatch k) e) ≡ hand_then t k.then) × (run_move t (next_of s (Caller n) (SetLatch k) e) ≡ 0) = set_hand t s (Caller n) k e in let b : hand_move t (next_of s (Caller n) (SetLatch k) e) ≡ hand_then t k.then = both.0 in let z : got t e ≡ 0 = none t in omega (arith, b, z))
+table h s (Caller n) c m t (UnlockSettled k) = if_cond (λ r. hand_move t (next_of s (Caller n) (UnlockSettled k) (r.0)) + 0 ≡ hand t (UnlockSettled k) + got t (r.0)) (is_held_by (Caller n) m.seat.lock) _ (λ z. let both : (hand_move t (after_set s (Caller n) k k.latch) ≡ hand_then t k.then) × (run_move t (after_set s (Caller n) k k.latch) ≡ 0) = settled_hand t s (Caller n) k k.latch in let b : hand_move t (after_set s (Caller n) k k.latch) ≡ hand_then t k.then = both.0 in omega (arith, b))
 table h s (Caller n) c m t _ = search (rules, arith)
 
 -- and what it runs is what it ran, with what it began
-pub run_table : (h : Shape) (s : PoolShape) (q : Party) (c : Counts) (m : Part) (t : ℕ) (x : Place) → IfSome (effect (act_of q x) h q c m) (λ r. run_move t (next_of s q x (r.0)) ≤ run_of t x + starts t x)
+pub run_table : (h : Shape) (s : PoolShape) (q : Party) (c : Counts) (m : Part) (t : ℕ) (x : Place) → IfSome (effect (act_of q x) h q c m) (λ r. run_move t (next_of s q x (r.0)) ≡ run_of t x + starts t x)
 run_table h s (Worker a b) c m t (ProbeWorking k) = search (rules, arith)
-run_table h s (Worker a b) c m t (SetLatch k) = set_sees (λ e. run_move t (next_of s (Worker a b) (SetLatch k) e) ≤ run_of t (SetLatch k) + starts t (SetLatch k)) k.latch m (letter k.latch m) (λ e. let both : (hand_move t (next_of s (Worker a b) (SetLatch k) e) ≤ hand_then t k.then) × (run_move t (next_of s (Worker a b) (SetLatch k) e) ≤ 0) = set_hand t s (Worker a b) k e in let b : run_move t (next_of s (Worker a b) (SetLatch k) e) ≤ 0 = both.1 in omega (arith, b))
-run_table h s (Worker a b) c m t (UnlockSettled k) = if_cond (λ r. run_move t (next_of s (Worker a b) (UnlockSettled k) (r.0)) ≤ run_of t (UnlockSettled k) + starts t (UnlockSettled k)) (is_held_by (Worker a b) m.seat.lock) _ (λ z. let both : (hand_move t (after_set s (Worker a b) k k.latch) ≤ hand_then t k.then) × (run_move t (after_set s (Worker a b) k k.latch) ≤ 0) = settled_hand t s (Worker a b) k k.latch in let b : run_move t (after_set s (Worker a b) k k.latch) ≤ 0 = both.1 in omega (arith, b))
+run_table h s (Worker a b) c m t (SetLatch k) = set_sees (λ e. run_move t (next_of s (Worker a b) (SetLatch k) e) ≡ run_of t (SetLatch k) + starts t (SetLatch k)) k.latch m (letter k.latch m) (λ e none. let both : (hand_move t (next_of s (Worker a b) (SetLatch k) e) ≡ hand_then t k.then) × (run_move t (next_of s (Worker a b) (SetLatch k) e) ≡ 0) = set_hand t s (Worker a b) k e in let b : run_move t (next_of s (Worker a b) (SetLatch k) e) ≡ 0 = both.1 in omega (arith, b))
+run_table h s (Worker a b) c m t (UnlockSettled k) = if_cond (λ r. run_move t (next_of s (Worker a b) (UnlockSettled k) (r.0)) ≡ run_of t (UnlockSettled k) + starts t (UnlockSettled k)) (is_held_by (Worker a b) m.seat.lock) _ (λ z. let both : (hand_move t (after_set s (Worker a b) k k.latch) ≡ hand_then t k.then) × (run_move t (after_set s (Worker a b) k k.latch) ≡ 0) = settled_hand t s (Worker a b) k k.latch in let b : run_move t (after_set s (Worker a b) k k.latch) ≡ 0 = both.1 in omega (arith, b))
 run_table h s (Worker a b) c m t _ = search (rules, arith)
 run_table h s (Caller n) c m t (ProbeWorking k) = search (rules, arith)
-run_table h s (Caller n) c m t (SetLatch k) = set_sees (λ e. run_move t (next_of s (Caller n) (SetLatch k) e) ≤ run_of t (SetLatch k) + starts t (SetLatch k)) k.latch m (letter k.latch m) (λ e. let both : (hand_move t (next_of s (Caller n) (SetLatch k) e) ≤ hand_then t k.then) × (run_move t (next_of s (Caller n) (SetLatch k) e) ≤ 0) = set_hand t s (Caller n) k e in let b : run_move t (next_of s (Caller n) (SetLatch k) e) ≤ 0 = both.1 in omega (arith, b))
-run_table h s (Caller n) c m t (UnlockSettled k) = if_cond (λ r. run_move t (next_of s (Caller n) (UnlockSettled k) (r.0)) ≤ run_of t (UnlockSettled k) + starts t (UnlockSettled k)) (is_held_by (Caller n) m.seat.lock) _ (λ z. let both : (hand_move t (after_set s (Caller n) k k.latch) ≤ hand_then t k.then) × (run_move t (after_set s (Caller n) k k.latch) ≤ 0) = settled_hand t s (Caller n) k k.latch in let b : run_move t (after_set s (Caller n) k k.latch) ≤ 0 = both.1 in omega (arith, b))
+run_table h s (Caller n) c m t (SetLatch k) = set_sees (λ e. run_move t (next_of s (Caller n) (SetLatch k) e) ≡ run_of t (SetLatch k) + starts t (SetLatch k)) k.latch m (letter k.latch m) (λ e none. let both : (hand_move t (next_of s (Caller n) (SetLatch k) e) ≡ hand_then t k.then) × (run_move t (next_of s (Caller n) (SetLatch k) e) ≡ 0) = set_hand t s (Caller n) k e in let b : run_move t (next_of s (Caller n) (SetLatch k) e) ≡ 0 = both.1 in omega (arith, b))
+run_table h s (Caller n) c m t (UnlockSettled k) = if_cond (λ r. run_move t (next_of s (Caller n) (UnlockSettled k) (r.0)) ≡ run_of t (UnlockSettled k) + starts t (UnlockSettled k)) (is_held_by (Caller n) m.seat.lock) _ (λ z. let both : (hand_move t (after_set s (Caller n) k k.latch) ≡ hand_then t k.then) × (run_move t (after_set s (Caller n) k k.latch) ≡ 0) = settled_hand t s (Caller n) k k.latch in let b : run_move t (after_set s (Caller n) k k.latch) ≡ 0 = both.1 in omega (arith, b))
 run_table h s (Caller n) c m t _ = search (rules, arith)

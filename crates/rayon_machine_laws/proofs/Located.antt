@@ -1,6 +1,6 @@
--- each job is in at most one place, and there where its record says
+-- each job is in the one place that its record names, once
 use Rattle.std.proofs.Common.{arith, refl, sym, ◌∙◌, ap, subst}
-use Rattle.std.specs.Prelude.{ℕ, Bool, true, false, ◌&&◌, ◌+◌, ◌==◌, ◌≤◌, if◌then◌else◌, Option, Some, None, ◌≡◌, ⊤}
+use Rattle.std.specs.Prelude.{ℕ, Bool, true, false, ◌&&◌, ◌+◌, ◌==◌, ◌≤◌, if◌then◌else◌, Option, Some, None, ◌≡◌}
 use Rattle.std.proofs.lemmas.Bool.{eqb-true, eq-eqb}
 use Rattle.rayon_machine_places.specs.declared.place.Party.{Party}
 use Rattle.rayon_machine_places.specs.declared.state.Whereabouts.{Whereabouts}
@@ -8,7 +8,7 @@ use Rattle.rayon_machine_places.specs.declared.state.Whereabouts.TheVariants.{No
 use Rattle.rayon_machine_places.specs.declared.state.Job.{Job}
 use Rattle.rayon_machine_places.specs.Places.{same_party}
 use Rattle.rayon_machine_places.specs.World.{World}
-use Rattle.rayon_machine_laws.specs.Once.{one, times}
+use Rattle.rayon_machine_laws.specs.Once.{one, times, is_known}
 use Rattle.rayon_machine_laws.proofs.Frame.{same_index, same_refl, same_party_true, same_party_refl}
 use Rattle.rayon_machine_laws.proofs.Hands.{held, worked}
 
@@ -53,7 +53,7 @@ weight w (Cast p i) t = times t ((w.pool p).casts i)
 weight w (Inj p) t = times t (w.pool p).injector
 
 abbrev pub IsPlaced : (Loc → ℕ → ℕ) → (ℕ → Option Loc) → Type 0
-IsPlaced f at = (l : Loc) (t : ℕ) → f l t ≤ is_loc l (at t)
+IsPlaced f at = (l : Loc) (t : ℕ) → f l t ≡ is_loc l (at t)
 
 abbrev pub JobsPlaced : World → Type 0
 JobsPlaced w = IsPlaced (weight w) (λ t. loc_at (w.job t))
@@ -108,23 +108,23 @@ comes l (Some m) z = one (same_loc l m && z)
 
 -- the job u goes from place a to place b, if to any, and nothing else
 abbrev pub Shifts : (f g : Loc → ℕ → ℕ) → (u : ℕ) (a : Loc) (b : Option Loc) → Type 0
-Shifts f g u a b = (l : Loc) (t : ℕ) → g l t + one (same_loc l a && (t == u)) ≤ f l t + comes l b (t == u)
+Shifts f g u a b = (l : Loc) (t : ℕ) → g l t + one (same_loc l a && (t == u)) ≡ f l t + comes l b (t == u)
 
 -- where the job was
 pub was_at : (f g : Loc → ℕ → ℕ) (at : ℕ → Option Loc) (u : ℕ) (a : Loc) (b : Option Loc) → comes a b true ≡ 0 → Shifts f g u a b → IsPlaced f at → at u ≡ Some a
 was_at f g at u a b d s ok =
-    let k : g a u + one (same_loc a a && (u == u)) ≤ f a u + comes a b (u == u) = s a u in
+    let k : g a u + one (same_loc a a && (u == u)) ≡ f a u + comes a b (u == u) = s a u in
     let y : (same_loc a a && (u == u)) ≡ true = rw (same_loc_refl a) (eq-eqb u u refl) in
-    let k1 : g a u + 1 ≤ f a u + comes a b (u == u) = subst (λ z. g a u + one z ≤ f a u + comes a b (u == u)) y k in
-    let k2 : g a u + 1 ≤ f a u + comes a b true = subst (λ z. g a u + 1 ≤ f a u + comes a b z) (eq-eqb u u refl) k1 in
-    let o : f a u ≤ is_loc a (at u) = ok a u in
+    let k1 : g a u + 1 ≡ f a u + comes a b (u == u) = subst (λ z. g a u + one z ≡ f a u + comes a b (u == u)) y k in
+    let k2 : g a u + 1 ≡ f a u + comes a b true = subst (λ z. g a u + 1 ≡ f a u + comes a b z) (eq-eqb u u refl) k1 in
+    let o : f a u ≡ is_loc a (at u) = ok a u in
     where_is a (at u) (omega (arith, k2, o, d))
 
-and_true : (z : Bool) → (z && true) ≡ z
+pub and_true : (z : Bool) → (z && true) ≡ z
 and_true true = refl
 and_true false = refl
 
-and_false : (z : Bool) → (z && false) ≡ false
+pub and_false : (z : Bool) → (z && false) ≡ false
 and_false true = refl
 and_false false = refl
 
@@ -143,43 +143,43 @@ shift_ok f g at new u a b d s ok to rest l t = by (t == u) refl
     was : at u ≡ Some a
     was = was_at f g at u a b d s ok
 
-    by : (e : Bool) → (t == u) ≡ e → g l t ≤ is_loc l (new t)
+    by : (e : Bool) → (t == u) ≡ e → g l t ≡ is_loc l (new t)
     by true e =
-        let k : g l t + one (same_loc l a && (t == u)) ≤ f l t + comes l b (t == u) = s l t in
-        let k2 : g l t + one (same_loc l a && true) ≤ f l t + comes l b true = subst (λ z. g l t + one (same_loc l a && z) ≤ f l t + comes l b z) e k in
+        let k : g l t + one (same_loc l a && (t == u)) ≡ f l t + comes l b (t == u) = s l t in
+        let k2 : g l t + one (same_loc l a && true) ≡ f l t + comes l b true = subst (λ z. g l t + one (same_loc l a && z) ≡ f l t + comes l b z) e k in
         let x : one (same_loc l a && true) ≡ one (same_loc l a) = ap one (and_true (same_loc l a)) in
         let y : comes l b true ≡ is_loc l b = comes_true l b in
-        let o : f l t ≤ is_loc l (at t) = ok l t in
+        let o : f l t ≡ is_loc l (at t) = ok l t in
         let o2 : is_loc l (at t) ≡ one (same_loc l a) = ap (λ n. is_loc l (at n)) (eqb-true t u e) ∙ ap (is_loc l) was in
         let n : is_loc l (new t) ≡ is_loc l b = ap (λ n. is_loc l (new n)) (eqb-true t u e) ∙ ap (is_loc l) to in
         omega (arith, k2, x, y, o, o2, n)
     by false e =
-        let k : g l t + one (same_loc l a && (t == u)) ≤ f l t + comes l b (t == u) = s l t in
-        let k2 : g l t + one (same_loc l a && false) ≤ f l t + comes l b false = subst (λ z. g l t + one (same_loc l a && z) ≤ f l t + comes l b z) e k in
+        let k : g l t + one (same_loc l a && (t == u)) ≡ f l t + comes l b (t == u) = s l t in
+        let k2 : g l t + one (same_loc l a && false) ≡ f l t + comes l b false = subst (λ z. g l t + one (same_loc l a && z) ≡ f l t + comes l b z) e k in
         let x : one (same_loc l a && false) ≡ 0 = ap one (and_false (same_loc l a)) in
         let y : comes l b false ≡ 0 = comes_false l b in
-        let o : f l t ≤ is_loc l (at t) = ok l t in
+        let o : f l t ≡ is_loc l (at t) = ok l t in
         let n : is_loc l (new t) ≡ is_loc l (at t) = ap (is_loc l) (rest t e) in
         omega (arith, k2, x, y, o, n)
 
 -- a new job, in the hand of the party that makes it
-pub make_ok : (f g : Loc → ℕ → ℕ) (at new : ℕ → Option Loc) (u : ℕ) (q : Party) → at u ≡ None → ((l : Loc) (t : ℕ) → g l t ≤ f l t + one (same_loc l (Hand q) && (t == u))) → IsPlaced f at → new u ≡ Some (Hand q) → ((t : ℕ) → (t == u) ≡ false → new t ≡ at t) → IsPlaced g new
+pub make_ok : (f g : Loc → ℕ → ℕ) (at new : ℕ → Option Loc) (u : ℕ) (q : Party) → at u ≡ None → ((l : Loc) (t : ℕ) → g l t ≡ f l t + one (same_loc l (Hand q) && (t == u))) → IsPlaced f at → new u ≡ Some (Hand q) → ((t : ℕ) → (t == u) ≡ false → new t ≡ at t) → IsPlaced g new
 make_ok f g at new u q none s ok to rest l t = by (t == u) refl
   where
-    by : (z : Bool) → (t == u) ≡ z → g l t ≤ is_loc l (new t)
+    by : (z : Bool) → (t == u) ≡ z → g l t ≡ is_loc l (new t)
     by true z =
-        let k : g l t ≤ f l t + one (same_loc l (Hand q) && (t == u)) = s l t in
-        let k2 : g l t ≤ f l t + one (same_loc l (Hand q) && true) = subst (λ b. g l t ≤ f l t + one (same_loc l (Hand q) && b)) z k in
+        let k : g l t ≡ f l t + one (same_loc l (Hand q) && (t == u)) = s l t in
+        let k2 : g l t ≡ f l t + one (same_loc l (Hand q) && true) = subst (λ b. g l t ≡ f l t + one (same_loc l (Hand q) && b)) z k in
         let x : one (same_loc l (Hand q) && true) ≡ one (same_loc l (Hand q)) = ap one (and_true (same_loc l (Hand q))) in
-        let o : f l t ≤ is_loc l (at t) = ok l t in
+        let o : f l t ≡ is_loc l (at t) = ok l t in
         let o2 : is_loc l (at t) ≡ 0 = ap (λ n. is_loc l (at n)) (eqb-true t u z) ∙ ap (is_loc l) none in
         let n : is_loc l (new t) ≡ one (same_loc l (Hand q)) = ap (λ n. is_loc l (new n)) (eqb-true t u z) ∙ ap (is_loc l) to in
         omega (arith, k2, x, o, o2, n)
     by false z =
-        let k : g l t ≤ f l t + one (same_loc l (Hand q) && (t == u)) = s l t in
-        let k2 : g l t ≤ f l t + one (same_loc l (Hand q) && false) = subst (λ b. g l t ≤ f l t + one (same_loc l (Hand q) && b)) z k in
+        let k : g l t ≡ f l t + one (same_loc l (Hand q) && (t == u)) = s l t in
+        let k2 : g l t ≡ f l t + one (same_loc l (Hand q) && false) = subst (λ b. g l t ≡ f l t + one (same_loc l (Hand q) && b)) z k in
         let x : one (same_loc l (Hand q) && false) ≡ 0 = ap one (and_false (same_loc l (Hand q))) in
-        let o : f l t ≤ is_loc l (at t) = ok l t in
+        let o : f l t ≡ is_loc l (at t) = ok l t in
         let n : is_loc l (new t) ≡ is_loc l (at t) = ap (is_loc l) (rest t z) in
         omega (arith, k2, x, o, n)
 
@@ -198,16 +198,16 @@ is_left (Made q) = false
 is_left Nowhere = false
 is_left _ = true
 
--- what is over or handed back stays so, what has left its call does not come back to it, and what is not made is made by an event alone
+-- what is over or handed back stays so, what has left its call does not come back to it, what is made is not lost, and what is not made is made by an event alone
 abbrev pub IsOnward : Whereabouts → Whereabouts → Type 0
-IsOnward (Made q) b = ⊤
+IsOnward (Made q) b = is_known b ≡ true
 IsOnward (Over e) b = b ≡ Over e
 IsOnward HandedBack b = b ≡ HandedBack
 IsOnward Nowhere b = b ≡ Nowhere
 IsOnward _ b = is_left b ≡ true
 
 pub onward_same : (a b : Whereabouts) → b ≡ a → IsOnward a b
-onward_same (Made q) b e = tt
+onward_same (Made q) b e = ap is_known e
 onward_same (Running q) b e = ap is_left e
 onward_same (InDeque p i) b e = ap is_left e
 onward_same (Injected p) b e = ap is_left e
@@ -215,8 +215,13 @@ onward_same (Over d) b e = e
 onward_same HandedBack b e = e
 onward_same Nowhere b e = e
 
+pub left_known : (a : Whereabouts) → is_left a ≡ true → is_known a ≡ true
+left_known (Made q) z = cc
+left_known Nowhere z = cc
+left_known _ z = refl
+
 pub onward_loc : (a b : Whereabouts) (n : ℕ) (l : Loc) → loc_of a n ≡ Some l → is_left b ≡ true → IsOnward a b
-onward_loc (Made q) b n l e z = tt
+onward_loc (Made q) b n l e z = left_known b z
 onward_loc (Running q) b n l e z = z
 onward_loc (InDeque p i) b n l e z = z
 onward_loc (Injected p) b n l e z = z
@@ -233,6 +238,16 @@ onward_left HandedBack b h z = ap is_left h
 onward_left (Running q) b h z = h
 onward_left (InDeque p i) b h z = h
 onward_left (Injected p) b h z = h
+
+-- nor is what was made lost later
+pub onward_known : (a b : Whereabouts) → IsOnward a b → is_known a ≡ true → is_known b ≡ true
+onward_known (Made q) b h z = h
+onward_known Nowhere b h z = cc
+onward_known (Over e) b h z = ap is_known h
+onward_known HandedBack b h z = ap is_known h
+onward_known (Running q) b h z = left_known b h
+onward_known (InDeque p i) b h z = left_known b h
+onward_known (Injected p) b h z = left_known b h
 
 -- a job that is in a list or in hand was never begun
 abbrev pub is_work : Loc → Bool

@@ -50,34 +50,34 @@ midway w q s p i c n r = record w {
 }
 
 -- the weights halfway through an act, from those of the party's own stack and of the part that it touched
-weights_mid : (w : World) (q : Party) (k : Stack) (p0 i0 c0 n0 : ℕ) (r : Seen × Part) (A B : Loc → ℕ → ℕ) → w.stack q ≡ k → ((t : ℕ) → held t (paused (next_of (w.shape.pool p0) q (k.top) (r.0)) k.below) + A (Hand q) t ≤ held t k + B (Hand q) t) → ((t : ℕ) → worked t (paused (next_of (w.shape.pool p0) q (k.top) (r.0)) k.below) + A (Work q) t ≤ worked t k + B (Work q) t) → ((t : ℕ) → times t (r.1.seat.own) + A (Deck p0 i0) t ≤ times t ((w.seat p0 i0).own) + B (Deck p0 i0) t) → ((t : ℕ) → times t (r.1.pool.injector) + A (Inj p0) t ≤ times t ((w.pool p0).injector) + B (Inj p0) t) → ((i t : ℕ) → times t (r.1.pool.casts i) ≤ times t ((w.pool p0).casts i)) → ((g : Party) (t : ℕ) → same_party g q ≡ false → A (Hand g) t ≤ B (Hand g) t) → ((g : Party) (t : ℕ) → same_party g q ≡ false → A (Work g) t ≤ B (Work g) t) → ((p i t : ℕ) → ((p == p0) && (i == i0)) ≡ false → A (Deck p i) t ≤ B (Deck p i) t) → ((p t : ℕ) → (p == p0) ≡ false → A (Inj p) t ≤ B (Inj p) t) → ((p i t : ℕ) → A (Cast p i) t ≤ B (Cast p i) t) → (l : Loc) (t : ℕ) → weight (midway w q k p0 i0 c0 n0 r) l t + A l t ≤ weight w l t + B l t
+weights_mid : (w : World) (q : Party) (k : Stack) (p0 i0 c0 n0 : ℕ) (r : Seen × Part) (A B : Loc → ℕ → ℕ) → w.stack q ≡ k → ((t : ℕ) → held t (paused (next_of (w.shape.pool p0) q (k.top) (r.0)) k.below) + A (Hand q) t ≡ held t k + B (Hand q) t) → ((t : ℕ) → worked t (paused (next_of (w.shape.pool p0) q (k.top) (r.0)) k.below) + A (Work q) t ≡ worked t k + B (Work q) t) → ((t : ℕ) → times t (r.1.seat.own) + A (Deck p0 i0) t ≡ times t ((w.seat p0 i0).own) + B (Deck p0 i0) t) → ((t : ℕ) → times t (r.1.pool.injector) + A (Inj p0) t ≡ times t ((w.pool p0).injector) + B (Inj p0) t) → ((i t : ℕ) → times t (r.1.pool.casts i) ≡ times t ((w.pool p0).casts i)) → ((g : Party) (t : ℕ) → same_party g q ≡ false → A (Hand g) t ≡ B (Hand g) t) → ((g : Party) (t : ℕ) → same_party g q ≡ false → A (Work g) t ≡ B (Work g) t) → ((p i t : ℕ) → ((p == p0) && (i == i0)) ≡ false → A (Deck p i) t ≡ B (Deck p i) t) → ((p t : ℕ) → (p == p0) ≡ false → A (Inj p) t ≡ B (Inj p) t) → ((p i t : ℕ) → A (Cast p i) t ≡ B (Cast p i) t) → (l : Loc) (t : ℕ) → weight (midway w q k p0 i0 c0 n0 r) l t + A l t ≡ weight w l t + B l t
 weights_mid w q k p0 i0 c0 n0 r A B e hq hw hs hp hc oq ow os op oc (Hand g) t = by (same_party g q) refl
   where
-    by : (z : Bool) → same_party g q ≡ z → held t (if z then paused (next_of (w.shape.pool p0) q (k.top) (r.0)) k.below else w.stack g) + A (Hand g) t ≤ held t (w.stack g) + B (Hand g) t
+    by : (z : Bool) → same_party g q ≡ z → held t (if z then paused (next_of (w.shape.pool p0) q (k.top) (r.0)) k.below else w.stack g) + A (Hand g) t ≡ held t (w.stack g) + B (Hand g) t
     by true z = let is : q ≡ g = sym (same_party_true g q z) in
-        subst (λ g. held t (paused (next_of (w.shape.pool p0) q (k.top) (r.0)) k.below) + A (Hand g) t ≤ held t (w.stack g) + B (Hand g) t) is (subst (λ s. held t (paused (next_of (w.shape.pool p0) q (k.top) (r.0)) k.below) + A (Hand q) t ≤ held t s + B (Hand q) t) (sym e) (hq t))
-    by false z = let o : A (Hand g) t ≤ B (Hand g) t = oq g t z in omega (arith, o)
+        subst (λ g. held t (paused (next_of (w.shape.pool p0) q (k.top) (r.0)) k.below) + A (Hand g) t ≡ held t (w.stack g) + B (Hand g) t) is (subst (λ s. held t (paused (next_of (w.shape.pool p0) q (k.top) (r.0)) k.below) + A (Hand q) t ≡ held t s + B (Hand q) t) (sym e) (hq t))
+    by false z = let o : A (Hand g) t ≡ B (Hand g) t = oq g t z in omega (arith, o)
 weights_mid w q k p0 i0 c0 n0 r A B e hq hw hs hp hc oq ow os op oc (Work g) t = by (same_party g q) refl
   where
-    by : (z : Bool) → same_party g q ≡ z → worked t (if z then paused (next_of (w.shape.pool p0) q (k.top) (r.0)) k.below else w.stack g) + A (Work g) t ≤ worked t (w.stack g) + B (Work g) t
+    by : (z : Bool) → same_party g q ≡ z → worked t (if z then paused (next_of (w.shape.pool p0) q (k.top) (r.0)) k.below else w.stack g) + A (Work g) t ≡ worked t (w.stack g) + B (Work g) t
     by true z = let is : q ≡ g = sym (same_party_true g q z) in
-        subst (λ g. worked t (paused (next_of (w.shape.pool p0) q (k.top) (r.0)) k.below) + A (Work g) t ≤ worked t (w.stack g) + B (Work g) t) is (subst (λ s. worked t (paused (next_of (w.shape.pool p0) q (k.top) (r.0)) k.below) + A (Work q) t ≤ worked t s + B (Work q) t) (sym e) (hw t))
-    by false z = let o : A (Work g) t ≤ B (Work g) t = ow g t z in omega (arith, o)
+        subst (λ g. worked t (paused (next_of (w.shape.pool p0) q (k.top) (r.0)) k.below) + A (Work g) t ≡ worked t (w.stack g) + B (Work g) t) is (subst (λ s. worked t (paused (next_of (w.shape.pool p0) q (k.top) (r.0)) k.below) + A (Work q) t ≡ worked t s + B (Work q) t) (sym e) (hw t))
+    by false z = let o : A (Work g) t ≡ B (Work g) t = ow g t z in omega (arith, o)
 weights_mid w q k p0 i0 c0 n0 r A B e hq hw hs hp hc oq ow os op oc (Deck p i) t = by ((p == p0) && (i == i0)) refl
   where
-    by : (z : Bool) → ((p == p0) && (i == i0)) ≡ z → times t ((if z then r.1.seat else w.seat p i).own) + A (Deck p i) t ≤ times t ((w.seat p i).own) + B (Deck p i) t
+    by : (z : Bool) → ((p == p0) && (i == i0)) ≡ z → times t ((if z then r.1.seat else w.seat p i).own) + A (Deck p i) t ≡ times t ((w.seat p i).own) + B (Deck p i) t
     by true z = let is : (p ≡ p0) × (i ≡ i0) = same_index p i p0 i0 z in
-        subst (λ p. times t (r.1.seat.own) + A (Deck p i) t ≤ times t ((w.seat p i).own) + B (Deck p i) t) (sym (is.0)) (subst (λ i. times t (r.1.seat.own) + A (Deck p0 i) t ≤ times t ((w.seat p0 i).own) + B (Deck p0 i) t) (sym (is.1)) (hs t))
-    by false z = let o : A (Deck p i) t ≤ B (Deck p i) t = os p i t z in omega (arith, o)
+        subst (λ p. times t (r.1.seat.own) + A (Deck p i) t ≡ times t ((w.seat p i).own) + B (Deck p i) t) (sym (is.0)) (subst (λ i. times t (r.1.seat.own) + A (Deck p0 i) t ≡ times t ((w.seat p0 i).own) + B (Deck p0 i) t) (sym (is.1)) (hs t))
+    by false z = let o : A (Deck p i) t ≡ B (Deck p i) t = os p i t z in omega (arith, o)
 weights_mid w q k p0 i0 c0 n0 r A B e hq hw hs hp hc oq ow os op oc (Inj p) t = by (p == p0) refl
   where
-    by : (z : Bool) → (p == p0) ≡ z → times t ((if z then r.1.pool else w.pool p).injector) + A (Inj p) t ≤ times t ((w.pool p).injector) + B (Inj p) t
-    by true z = subst (λ p. times t (r.1.pool.injector) + A (Inj p) t ≤ times t ((w.pool p).injector) + B (Inj p) t) (sym (eqb-true p p0 z)) (hp t)
-    by false z = let o : A (Inj p) t ≤ B (Inj p) t = op p t z in omega (arith, o)
-weights_mid w q k p0 i0 c0 n0 r A B e hq hw hs hp hc oq ow os op oc (Cast p i) t = let o : A (Cast p i) t ≤ B (Cast p i) t = oc p i t in let m : times t ((if p == p0 then r.1.pool else w.pool p).casts i) ≤ times t ((w.pool p).casts i) = by (p == p0) refl in omega (arith, o, m)
+    by : (z : Bool) → (p == p0) ≡ z → times t ((if z then r.1.pool else w.pool p).injector) + A (Inj p) t ≡ times t ((w.pool p).injector) + B (Inj p) t
+    by true z = subst (λ p. times t (r.1.pool.injector) + A (Inj p) t ≡ times t ((w.pool p).injector) + B (Inj p) t) (sym (eqb-true p p0 z)) (hp t)
+    by false z = let o : A (Inj p) t ≡ B (Inj p) t = op p t z in omega (arith, o)
+weights_mid w q k p0 i0 c0 n0 r A B e hq hw hs hp hc oq ow os op oc (Cast p i) t = let o : A (Cast p i) t ≡ B (Cast p i) t = oc p i t in let m : times t ((if p == p0 then r.1.pool else w.pool p).casts i) ≡ times t ((w.pool p).casts i) = by (p == p0) refl in omega (arith, o, m)
   where
-    by : (z : Bool) → (p == p0) ≡ z → times t ((if z then r.1.pool else w.pool p).casts i) ≤ times t ((w.pool p).casts i)
-    by true z = subst (λ p. times t (r.1.pool.casts i) ≤ times t ((w.pool p).casts i)) (sym (eqb-true p p0 z)) (hc i t)
+    by : (z : Bool) → (p == p0) ≡ z → times t ((if z then r.1.pool else w.pool p).casts i) ≡ times t ((w.pool p).casts i)
+    by true z = subst (λ p. times t (r.1.pool.casts i) ≡ times t ((w.pool p).casts i)) (sym (eqb-true p p0 z)) (hc i t)
     by false z = omega arith
 
 -- the record of a job where one is put anew
@@ -95,18 +95,18 @@ job_old w u j t e = by (t == u) e
     by true e = cc
     by false e = refl
 
--- an act that leaves the lists and the job, by a party that has and runs no more
-same_ok : (w : World) (q : Party) (k : Stack) (p0 i0 c0 n0 : ℕ) (r : Seen × Part) → w.stack q ≡ k → r.1.seat.own ≡ (w.seat p0 i0).own → r.1.pool.casts ≡ (w.pool p0).casts → r.1.pool.injector ≡ (w.pool p0).injector → r.1.job.at ≡ (w.job n0).at → r.1.job.runs ≡ (w.job n0).runs → ((t : ℕ) → hand_move t (next_of (w.shape.pool p0) q (k.top) (r.0)) ≤ hand t (k.top)) → ((t : ℕ) → run_move t (next_of (w.shape.pool p0) q (k.top) (r.0)) ≤ run_of t (k.top)) → JobsOk w → Kept w (midway w q k p0 i0 c0 n0 r)
+-- an act that leaves the lists and the job, by a party that has and runs the same
+same_ok : (w : World) (q : Party) (k : Stack) (p0 i0 c0 n0 : ℕ) (r : Seen × Part) → w.stack q ≡ k → r.1.seat.own ≡ (w.seat p0 i0).own → r.1.pool.casts ≡ (w.pool p0).casts → r.1.pool.injector ≡ (w.pool p0).injector → r.1.job.at ≡ (w.job n0).at → r.1.job.runs ≡ (w.job n0).runs → ((t : ℕ) → hand_move t (next_of (w.shape.pool p0) q (k.top) (r.0)) ≡ hand t (k.top)) → ((t : ℕ) → run_move t (next_of (w.shape.pool p0) q (k.top) (r.0)) ≡ run_of t (k.top)) → JobsOk w → Kept w (midway w q k p0 i0 c0 n0 r)
 same_ok w q k p0 i0 c0 n0 r e own casts inj at runs less run ok = record {
   placed = λ l t.
-      let f : weight (midway w q k p0 i0 c0 n0 r) l t + 0 ≤ weight w l t + 0 = weights_mid w q k p0 i0 c0 n0 r (λ l t. 0) (λ l t. 0) e
-      (λ t. let a : hand_move t (next_of (w.shape.pool p0) q (k.top) (r.0)) ≤ hand t (k.top) = less t in let b : held t (paused (next_of (w.shape.pool p0) q (k.top) (r.0)) k.below) ≡ (hand_move t (next_of (w.shape.pool p0) q (k.top) (r.0)) + held_in t k.below) = land_held t (next_of (w.shape.pool p0) q (k.top) (r.0)) k.below in omega (arith, a, b))
-      (λ t. let a : run_move t (next_of (w.shape.pool p0) q (k.top) (r.0)) ≤ run_of t (k.top) = run t in let b : worked t (paused (next_of (w.shape.pool p0) q (k.top) (r.0)) k.below) ≡ (run_move t (next_of (w.shape.pool p0) q (k.top) (r.0)) + runs_in t k.below) = land_worked t (next_of (w.shape.pool p0) q (k.top) (r.0)) k.below in omega (arith, a, b))
+      let f : weight (midway w q k p0 i0 c0 n0 r) l t + 0 ≡ weight w l t + 0 = weights_mid w q k p0 i0 c0 n0 r (λ l t. 0) (λ l t. 0) e
+      (λ t. let a : hand_move t (next_of (w.shape.pool p0) q (k.top) (r.0)) ≡ hand t (k.top) = less t in let b : held t (paused (next_of (w.shape.pool p0) q (k.top) (r.0)) k.below) ≡ (hand_move t (next_of (w.shape.pool p0) q (k.top) (r.0)) + held_in t k.below) = land_held t (next_of (w.shape.pool p0) q (k.top) (r.0)) k.below in omega (arith, a, b))
+      (λ t. let a : run_move t (next_of (w.shape.pool p0) q (k.top) (r.0)) ≡ run_of t (k.top) = run t in let b : worked t (paused (next_of (w.shape.pool p0) q (k.top) (r.0)) k.below) ≡ (run_move t (next_of (w.shape.pool p0) q (k.top) (r.0)) + runs_in t k.below) = land_worked t (next_of (w.shape.pool p0) q (k.top) (r.0)) k.below in omega (arith, a, b))
       (λ t. let a : times t (r.1.seat.own) ≡ times t ((w.seat p0 i0).own) = ap (times t) own in omega (arith, a))
       (λ t. let a : times t (r.1.pool.injector) ≡ times t ((w.pool p0).injector) = ap (times t) inj in omega (arith, a))
       (λ i t. let a : times t (r.1.pool.casts i) ≡ times t ((w.pool p0).casts i) = ap (λ f. times t (f i)) casts in omega (arith, a))
       (λ g t z. omega arith) (λ g t z. omega arith) (λ p i t z. omega arith) (λ p t z. omega arith) (λ p i t. omega arith) l t in
-      let o : weight w l t ≤ is_loc l (loc_at (w.job t)) = (ok.placed) l t in
+      let o : weight w l t ≡ is_loc l (loc_at (w.job t)) = (ok.placed) l t in
       let v : is_loc l (loc_of ((put w.job n0 (r.1.job) t).at) ((put w.job n0 (r.1.job) t).runs)) ≡ is_loc l (loc_at (w.job t)) = ap (λ x. is_loc l (loc_of x ((put w.job n0 (r.1.job) t).runs))) (where_at t) ∙ ap (λ x. is_loc l (loc_of ((w.job t).at) x)) (how_often t) in
       omega (arith, f, o, v);
   fit = λ t. subst (λ x. fits x ((put w.job n0 (r.1.job) t).runs)) (sym (where_at t)) (subst (λ x. fits ((w.job t).at) x) (sym (how_often t)) ((ok.fit) t));
@@ -167,22 +167,23 @@ back_step j q e = (refl, unbegun (j.at) (j.runs) (Hand q) refl e, refl)
 
 -- what the tables say of an act
 abbrev pub Tabled : World → Party → Stack → PoolShape → Seen × Part → Type 0
-Tabled w q k g r = (t : ℕ) → (hand_move t (next_of g q (k.top) (r.0)) + given t (k.top) ≤ hand t (k.top) + got t (r.0)) × (run_move t (next_of g q (k.top) (r.0)) ≤ run_of t (k.top) + starts t (k.top))
+Tabled w q k g r = (t : ℕ) → (hand_move t (next_of g q (k.top) (r.0)) + given t (k.top) ≡ hand t (k.top) + got t (r.0)) × (run_move t (next_of g q (k.top) (r.0)) ≡ run_of t (k.top) + starts t (k.top))
 
 abbrev pub Mid : World → Party → Stack → Type 0
 Mid w q k = IfSome (outcome w q k) (λ r. Kept w (midway w q k (target_pool q (act_of q (k.top))) (target_worker q (act_of q (k.top))) (target_call (act_of q (k.top))) (job_at w q (act_of q (k.top))) r))
 
 all_tables : (w : World) (q : Party) (k : Stack) → IfSome (outcome w q k) (Tabled w q k (shape_at w q k))
-all_tables w q k = if_some_each {I = ℕ} (λ t r. (hand_move t (next_of (shape_at w q k) q (k.top) (r.0)) + given t (k.top) ≤ hand t (k.top) + got t (r.0)) × (run_move t (next_of (shape_at w q k) q (k.top) (r.0)) ≤ run_of t (k.top) + starts t (k.top))) (outcome w q k)
-    (λ t. if_some_and (λ r. hand_move t (next_of (shape_at w q k) q (k.top) (r.0)) + given t (k.top) ≤ hand t (k.top) + got t (r.0)) (λ r. run_move t (next_of (shape_at w q k) q (k.top) (r.0)) ≤ run_of t (k.top) + starts t (k.top)) (outcome w q k)
+all_tables w q k = if_some_each {I = ℕ} (λ t r. (hand_move t (next_of (shape_at w q k) q (k.top) (r.0)) + given t (k.top) ≡ hand t (k.top) + got t (r.0)) × (run_move t (next_of (shape_at w q k) q (k.top) (r.0)) ≡ run_of t (k.top) + starts t (k.top))) (outcome w q k)
+    (λ t. if_some_and (λ r. hand_move t (next_of (shape_at w q k) q (k.top) (r.0)) + given t (k.top) ≡ hand t (k.top) + got t (r.0)) (λ r. run_move t (next_of (shape_at w q k) q (k.top) (r.0)) ≡ run_of t (k.top) + starts t (k.top)) (outcome w q k)
     (table w.shape (shape_at w q k) q (counts_at w (target_pool q (act_of q (k.top)))) (part_of w (target_pool q (act_of q (k.top))) (target_worker q (act_of q (k.top))) (target_call (act_of q (k.top))) (job_at w q (act_of q (k.top)))) t (k.top))
     (run_table w.shape (shape_at w q k) q (counts_at w (target_pool q (act_of q (k.top)))) (part_of w (target_pool q (act_of q (k.top))) (target_worker q (act_of q (k.top))) (target_call (act_of q (k.top))) (job_at w q (act_of q (k.top)))) t (k.top)))
 
--- places that begin nothing
-quiet_starts : (t : ℕ) (x : Place) → moves_no_job x ≡ true → starts t x ≡ 0
-quiet_starts t (BeginTask u) z = cc
-quiet_starts t (BeginHere u) z = cc
-quiet_starts t _ z = refl
+-- places that give nothing away and begin nothing
+quiet_gives : (t : ℕ) (x : Place) → moves_no_job x ≡ true → (given t x ≡ 0) × (starts t x ≡ 0)
+quiet_gives t (BeginTask u) z = cc
+quiet_gives t (BeginHere u) z = cc
+quiet_gives t (PushJob n e) z = cc
+quiet_gives t _ z = (refl, refl)
 
 -- acts that neither take nor push nor begin
 quiet_mid : (w : World) (q : Party) (k : Stack) → w.stack q ≡ k → moves_no_job (k.top) ≡ true → JobsOk w → Mid w q k
@@ -191,19 +192,19 @@ quiet_mid w q k e z ok =
     let m : Part = part_of w p0 i0 c0 n0 in
     if_some_map (λ r. SameJobs m r × Tabled w q k (shape_at w q k) r) (λ r. Kept w (midway w q k p0 i0 c0 n0 r))
     (λ r f. same_ok w q k p0 i0 c0 n0 r e ((f.0).own) ((f.0).casts) ((f.0).injector) ((f.0).at) ((f.0).runs)
-    (λ t. let a : hand_move t (next_of (shape_at w q k) q (k.top) (r.0)) + given t (k.top) ≤ hand t (k.top) + got t (r.0) = (f.1 t).0 in let b : got t (r.0) ≡ 0 = (f.0).nothing t in omega (arith, a, b))
-    (λ t. let a : run_move t (next_of (shape_at w q k) q (k.top) (r.0)) ≤ run_of t (k.top) + starts t (k.top) = (f.1 t).1 in let b : starts t (k.top) ≡ 0 = quiet_starts t (k.top) z in omega (arith, a, b)) ok)
+    (λ t. let a : hand_move t (next_of (shape_at w q k) q (k.top) (r.0)) + given t (k.top) ≡ hand t (k.top) + got t (r.0) = (f.1 t).0 in let b : got t (r.0) ≡ 0 = (f.0).nothing t in let c : given t (k.top) ≡ 0 = (quiet_gives t (k.top) z).0 in omega (arith, a, b, c))
+    (λ t. let a : run_move t (next_of (shape_at w q k) q (k.top) (r.0)) ≡ run_of t (k.top) + starts t (k.top) = (f.1 t).1 in let b : starts t (k.top) ≡ 0 = (quiet_gives t (k.top) z).1 in omega (arith, a, b)) ok)
     (outcome w q k)
     (if_some_and (SameJobs m) (Tabled w q k (shape_at w q k)) (outcome w q k) (quiet_same w.shape q (counts_at w p0) m (k.top) z) (all_tables w q k))
 
 -- an act that found nothing
-missing_ok : (w : World) (q : Party) (k : Stack) (p0 i0 : ℕ) → w.stack q ≡ k → ((t : ℕ) → starts t (k.top) ≡ 0) → Tabled w q k (w.shape.pool p0) (Missing, part_of w p0 i0 0 0) → JobsOk w → Kept w (midway w q k p0 i0 0 0 (Missing, part_of w p0 i0 0 0))
+missing_ok : (w : World) (q : Party) (k : Stack) (p0 i0 : ℕ) → w.stack q ≡ k → ((t : ℕ) → (given t (k.top) ≡ 0) × (starts t (k.top) ≡ 0)) → Tabled w q k (w.shape.pool p0) (Missing, part_of w p0 i0 0 0) → JobsOk w → Kept w (midway w q k p0 i0 0 0 (Missing, part_of w p0 i0 0 0))
 missing_ok w q k p0 i0 e none tab ok = same_ok w q k p0 i0 0 0 (Missing, part_of w p0 i0 0 0) e refl refl refl refl refl
-    (λ t. let a : hand_move t (next_of (w.shape.pool p0) q (k.top) Missing) + given t (k.top) ≤ hand t (k.top) + 0 = (tab t).0 in omega (arith, a))
-    (λ t. let a : run_move t (next_of (w.shape.pool p0) q (k.top) Missing) ≤ run_of t (k.top) + starts t (k.top) = (tab t).1 in let b : starts t (k.top) ≡ 0 = none t in omega (arith, a, b)) ok
+    (λ t. let a : hand_move t (next_of (w.shape.pool p0) q (k.top) Missing) + given t (k.top) ≡ hand t (k.top) + 0 = (tab t).0 in let b : given t (k.top) ≡ 0 = (none t).0 in omega (arith, a, b))
+    (λ t. let a : run_move t (next_of (w.shape.pool p0) q (k.top) Missing) ≡ run_of t (k.top) + starts t (k.top) = (tab t).1 in let b : starts t (k.top) ≡ 0 = (none t).1 in omega (arith, a, b)) ok
 
 -- a pop of a deque, at whatever place and from either end
-pop_mid : (w : World) (q : Party) (k : Stack) (p0 i0 : ℕ) (rest : List ℕ) (o : Option ℕ) → w.stack q ≡ k → ((t : ℕ) → starts t (k.top) ≡ 0) → ((u t : ℕ) → o ≡ Some u → times t ((w.seat p0 i0).own) ≡ (one (t == u) + times t rest)) → IfSome (popped q (part_of w p0 i0 0 (or_none o)) rest o) (Tabled w q k (w.shape.pool p0)) → JobsOk w → IfSome (popped q (part_of w p0 i0 0 (or_none o)) rest o) (λ r. Kept w (midway w q k p0 i0 0 (or_none o) r))
+pop_mid : (w : World) (q : Party) (k : Stack) (p0 i0 : ℕ) (rest : List ℕ) (o : Option ℕ) → w.stack q ≡ k → ((t : ℕ) → (given t (k.top) ≡ 0) × (starts t (k.top) ≡ 0)) → ((u t : ℕ) → o ≡ Some u → times t ((w.seat p0 i0).own) ≡ (one (t == u) + times t rest)) → IfSome (popped q (part_of w p0 i0 0 (or_none o)) rest o) (Tabled w q k (w.shape.pool p0)) → JobsOk w → IfSome (popped q (part_of w p0 i0 0 (or_none o)) rest o) (λ r. Kept w (midway w q k p0 i0 0 (or_none o) r))
 pop_mid w q k p0 i0 rest None e none less tab ok = missing_ok w q k p0 i0 e none tab ok
 pop_mid w q k p0 i0 rest (Some u) e none less tab ok =
     let m : Part = part_of w p0 i0 0 u in
@@ -211,25 +212,26 @@ pop_mid w q k p0 i0 rest (Some u) e none less tab ok =
     let g : Move = next_of (w.shape.pool p0) q (k.top) (Task u) in
     gone_ok w (midway w q k p0 i0 0 u r) u (at_job (w.job u) (Running q)) (Deck p0 i0) (Some (Hand q)) refl
     (weights_mid w q k p0 i0 0 u r (λ l t. one (same_loc l (Deck p0 i0) && (t == u))) (λ l t. one (same_loc l (Hand q) && (t == u))) e
-    (λ t. let a : hand_move t g + given t (k.top) ≤ hand t (k.top) + one (t == u) = (tab t).0 in
+    (λ t. let a : hand_move t g + given t (k.top) ≡ hand t (k.top) + one (t == u) = (tab t).0 in
     let b : held t (paused g k.below) ≡ (hand_move t g + held_in t k.below) = land_held t g k.below in
-    let c : held t (paused g k.below) + 0 ≤ held t k + one (true && (t == u)) = omega (arith, a, b) in
-    subst (λ z. held t (paused g k.below) + 0 ≤ held t k + one (z && (t == u))) (sym (same_party_refl q)) c)
-    (λ t. let a : run_move t g ≤ run_of t (k.top) + starts t (k.top) = (tab t).1 in let d : starts t (k.top) ≡ 0 = none t in
+    let d : given t (k.top) ≡ 0 = (none t).0 in
+    let c : held t (paused g k.below) + 0 ≡ held t k + one (true && (t == u)) = omega (arith, a, b, d) in
+    subst (λ z. held t (paused g k.below) + 0 ≡ held t k + one (z && (t == u))) (sym (same_party_refl q)) c)
+    (λ t. let a : run_move t g ≡ run_of t (k.top) + starts t (k.top) = (tab t).1 in let d : starts t (k.top) ≡ 0 = (none t).1 in
     let b : worked t (paused g k.below) ≡ (run_move t g + runs_in t k.below) = land_worked t g k.below in omega (arith, a, b, d))
     (λ t. let a : times t ((w.seat p0 i0).own) ≡ (one (t == u) + times t rest) = less u t refl in
-    let c : times t rest + one (true && (t == u)) ≤ times t ((w.seat p0 i0).own) + 0 = omega (arith, a) in
-    subst (λ z. times t rest + one (z && (t == u)) ≤ times t ((w.seat p0 i0).own) + 0) (sym (same_refl p0 i0)) c)
+    let c : times t rest + one (true && (t == u)) ≡ times t ((w.seat p0 i0).own) + 0 = omega (arith, a) in
+    subst (λ z. times t rest + one (z && (t == u)) ≡ times t ((w.seat p0 i0).own) + 0) (sym (same_refl p0 i0)) c)
     (λ t. omega arith)
     (λ i t. omega arith)
+    (λ g t z. let c : 0 ≡ one (false && (t == u)) = omega arith in subst (λ z. 0 ≡ one (z && (t == u))) (sym z) c)
     (λ g t z. omega arith)
-    (λ g t z. omega arith)
-    (λ p i t z. let c : one (false && (t == u)) ≤ 0 = omega arith in subst (λ z. one (z && (t == u)) ≤ 0) (sym z) c)
+    (λ p i t z. let c : one (false && (t == u)) ≡ 0 = omega arith in subst (λ z. one (z && (t == u)) ≡ 0) (sym z) c)
     (λ p t z. omega arith)
     (λ p i t. omega arith))
     (job_new w u (at_job (w.job u) (Running q))) (job_old w u (at_job (w.job u) (Running q))) (taken_step (w.job u) q (Deck p0 i0) refl) ok
 
-inj_mid : (w : World) (q : Party) (k : Stack) (p0 i0 : ℕ) (l : List ℕ) → w.stack q ≡ k → ((t : ℕ) → starts t (k.top) ≡ 0) → (w.pool p0).injector ≡ l → IfSome (pop_injector q (part_of w p0 i0 0 (or_none (head_of l))) l) (Tabled w q k (w.shape.pool p0)) → JobsOk w → IfSome (pop_injector q (part_of w p0 i0 0 (or_none (head_of l))) l) (λ r. Kept w (midway w q k p0 i0 0 (or_none (head_of l)) r))
+inj_mid : (w : World) (q : Party) (k : Stack) (p0 i0 : ℕ) (l : List ℕ) → w.stack q ≡ k → ((t : ℕ) → (given t (k.top) ≡ 0) × (starts t (k.top) ≡ 0)) → (w.pool p0).injector ≡ l → IfSome (pop_injector q (part_of w p0 i0 0 (or_none (head_of l))) l) (Tabled w q k (w.shape.pool p0)) → JobsOk w → IfSome (pop_injector q (part_of w p0 i0 0 (or_none (head_of l))) l) (λ r. Kept w (midway w q k p0 i0 0 (or_none (head_of l)) r))
 inj_mid w q k p0 i0 [] e none is tab ok = missing_ok w q k p0 i0 e none tab ok
 inj_mid w q k p0 i0 (u ∷ rest) e none is tab ok =
     let m : Part = part_of w p0 i0 0 u in
@@ -237,29 +239,30 @@ inj_mid w q k p0 i0 (u ∷ rest) e none is tab ok =
     let g : Move = next_of (w.shape.pool p0) q (k.top) (Task u) in
     gone_ok w (midway w q k p0 i0 0 u r) u (at_job (w.job u) (Running q)) (Inj p0) (Some (Hand q)) refl
     (weights_mid w q k p0 i0 0 u r (λ l t. one (same_loc l (Inj p0) && (t == u))) (λ l t. one (same_loc l (Hand q) && (t == u))) e
-    (λ t. let a : hand_move t g + given t (k.top) ≤ hand t (k.top) + one (t == u) = (tab t).0 in
+    (λ t. let a : hand_move t g + given t (k.top) ≡ hand t (k.top) + one (t == u) = (tab t).0 in
     let b : held t (paused g k.below) ≡ (hand_move t g + held_in t k.below) = land_held t g k.below in
-    let c : held t (paused g k.below) + 0 ≤ held t k + one (true && (t == u)) = omega (arith, a, b) in
-    subst (λ z. held t (paused g k.below) + 0 ≤ held t k + one (z && (t == u))) (sym (same_party_refl q)) c)
-    (λ t. let a : run_move t g ≤ run_of t (k.top) + starts t (k.top) = (tab t).1 in let d : starts t (k.top) ≡ 0 = none t in
+    let d : given t (k.top) ≡ 0 = (none t).0 in
+    let c : held t (paused g k.below) + 0 ≡ held t k + one (true && (t == u)) = omega (arith, a, b, d) in
+    subst (λ z. held t (paused g k.below) + 0 ≡ held t k + one (z && (t == u))) (sym (same_party_refl q)) c)
+    (λ t. let a : run_move t g ≡ run_of t (k.top) + starts t (k.top) = (tab t).1 in let d : starts t (k.top) ≡ 0 = (none t).1 in
     let b : worked t (paused g k.below) ≡ (run_move t g + runs_in t k.below) = land_worked t g k.below in omega (arith, a, b, d))
     (λ t. omega arith)
     (λ t. let a : times t ((w.pool p0).injector) ≡ (one (t == u) + times t rest) = ap (times t) is in
-    let c : times t rest + one (true && (t == u)) ≤ times t ((w.pool p0).injector) + 0 = omega (arith, a) in
-    subst (λ z. times t rest + one (z && (t == u)) ≤ times t ((w.pool p0).injector) + 0) (sym (eq-eqb p0 p0 refl)) c)
+    let c : times t rest + one (true && (t == u)) ≡ times t ((w.pool p0).injector) + 0 = omega (arith, a) in
+    subst (λ z. times t rest + one (z && (t == u)) ≡ times t ((w.pool p0).injector) + 0) (sym (eq-eqb p0 p0 refl)) c)
     (λ i t. omega arith)
-    (λ g t z. omega arith)
+    (λ g t z. let c : 0 ≡ one (false && (t == u)) = omega arith in subst (λ z. 0 ≡ one (z && (t == u))) (sym z) c)
     (λ g t z. omega arith)
     (λ p i t z. omega arith)
-    (λ p t z. let c : one (false && (t == u)) ≤ 0 = omega arith in subst (λ z. one (z && (t == u)) ≤ 0) (sym z) c)
+    (λ p t z. let c : one (false && (t == u)) ≡ 0 = omega arith in subst (λ z. one (z && (t == u)) ≡ 0) (sym z) c)
     (λ p i t. omega arith))
     (job_new w u (at_job (w.job u) (Running q))) (job_old w u (at_job (w.job u) (Running q))) (taken_step (w.job u) q (Inj p0) refl) ok
 
 -- a broadcast list is empty: no job's record names it
-cast_mid : (w : World) (q : Party) (k : Stack) (p0 i0 i : ℕ) (l : List ℕ) → w.stack q ≡ k → ((t : ℕ) → starts t (k.top) ≡ 0) → (w.pool p0).casts i ≡ l → IfSome (take_cast q (part_of w p0 i0 0 (or_none (head_of l))) l) (Tabled w q k (w.shape.pool p0)) → JobsOk w → IfSome (take_cast q (part_of w p0 i0 0 (or_none (head_of l))) l) (λ r. Kept w (midway w q k p0 i0 0 (or_none (head_of l)) r))
+cast_mid : (w : World) (q : Party) (k : Stack) (p0 i0 i : ℕ) (l : List ℕ) → w.stack q ≡ k → ((t : ℕ) → (given t (k.top) ≡ 0) × (starts t (k.top) ≡ 0)) → (w.pool p0).casts i ≡ l → IfSome (take_cast q (part_of w p0 i0 0 (or_none (head_of l))) l) (Tabled w q k (w.shape.pool p0)) → JobsOk w → IfSome (take_cast q (part_of w p0 i0 0 (or_none (head_of l))) l) (λ r. Kept w (midway w q k p0 i0 0 (or_none (head_of l)) r))
 cast_mid w q k p0 i0 i [] e none is tab ok = missing_ok w q k p0 i0 e none tab ok
 cast_mid w q k p0 i0 i (u ∷ us) e none is tab ok =
-    let a : times u ((w.pool p0).casts i) ≤ is_loc (Cast p0 i) (loc_at (w.job u)) = (ok.placed) (Cast p0 i) u in
+    let a : times u ((w.pool p0).casts i) ≡ is_loc (Cast p0 i) (loc_at (w.job u)) = (ok.placed) (Cast p0 i) u in
     let b : times u ((w.pool p0).casts i) ≡ (one (u == u) + times u us) = ap (times u) is in
     let d : one (u == u) ≡ 1 = ap one (eq-eqb u u refl) in
     let c : is_loc (Cast p0 i) (loc_at (w.job u)) ≡ 0 = no_cast p0 i ((w.job u).at) ((w.job u).runs) in
@@ -277,18 +280,18 @@ push_mid w q n v fs true e tab ok =
     let r : Seen × Part = (Done, record m { seat = record (m.seat) { own = m.seat.own ++ u ∷ [] }; job = at_job (m.job) (InDeque p0 i0) }) in
     gone_ok w (midway w q k p0 i0 0 u r) u (at_job (w.job u) (InDeque p0 i0)) (Hand q) (Some (Deck p0 i0)) refl
     (weights_mid w q k p0 i0 0 u r (λ l t. one (same_loc l (Hand q) && (t == u))) (λ l t. one (same_loc l (Deck p0 i0) && (t == u))) e
-    (λ t. let a : hand t (TellNews n v) + one (t == u) ≤ hand t (PushJob n v) + 0 = (tab t).0 in
-    let c : (hand t (TellNews n v) + held_in t fs) + one (true && (t == u)) ≤ (hand t (PushJob n v) + held_in t fs) + 0 = omega (arith, a) in
-    subst (λ z. (hand t (TellNews n v) + held_in t fs) + one (z && (t == u)) ≤ (hand t (PushJob n v) + held_in t fs) + 0) (sym (same_party_refl q)) c)
+    (λ t. let a : hand t (TellNews n v) + one (t == u) ≡ hand t (PushJob n v) + 0 = (tab t).0 in
+    let c : (hand t (TellNews n v) + held_in t fs) + one (true && (t == u)) ≡ (hand t (PushJob n v) + held_in t fs) + 0 = omega (arith, a) in
+    subst (λ z. (hand t (TellNews n v) + held_in t fs) + one (z && (t == u)) ≡ (hand t (PushJob n v) + held_in t fs) + 0) (sym (same_party_refl q)) c)
     (λ t. omega arith)
     (λ t. let a : times t ((w.seat p0 i0).own ++ u ∷ []) ≡ (times t ((w.seat p0 i0).own) + one (t == u)) = times_push ((w.seat p0 i0).own) t u in
-    let c : times t ((w.seat p0 i0).own ++ u ∷ []) + 0 ≤ times t ((w.seat p0 i0).own) + one (true && (t == u)) = omega (arith, a) in
-    subst (λ z. times t ((w.seat p0 i0).own ++ u ∷ []) + 0 ≤ times t ((w.seat p0 i0).own) + one (z && (t == u))) (sym (same_refl p0 i0)) c)
+    let c : times t ((w.seat p0 i0).own ++ u ∷ []) + 0 ≡ times t ((w.seat p0 i0).own) + one (true && (t == u)) = omega (arith, a) in
+    subst (λ z. times t ((w.seat p0 i0).own ++ u ∷ []) + 0 ≡ times t ((w.seat p0 i0).own) + one (z && (t == u))) (sym (same_refl p0 i0)) c)
     (λ t. omega arith)
     (λ i t. omega arith)
-    (λ g t z. let c : one (false && (t == u)) ≤ 0 = omega arith in subst (λ z. one (z && (t == u)) ≤ 0) (sym z) c)
+    (λ g t z. let c : one (false && (t == u)) ≡ 0 = omega arith in subst (λ z. one (z && (t == u)) ≡ 0) (sym z) c)
     (λ g t z. omega arith)
-    (λ p i t z. omega arith)
+    (λ p i t z. let c : 0 ≡ one (false && (t == u)) = omega arith in subst (λ z. 0 ≡ one (z && (t == u))) (sym z) c)
     (λ p t z. omega arith)
     (λ p i t. omega arith))
     (job_new w u (at_job (w.job u) (InDeque p0 i0))) (job_old w u (at_job (w.job u) (InDeque p0 i0))) (own_step (w.job u) q p0 i0) ok
@@ -299,19 +302,19 @@ push_mid w q n v fs false e tab ok =
     let r : Seen × Part = (Done, record m { pool = record (m.pool) { injector = m.pool.injector ++ u ∷ [] }; job = at_job (m.job) (Injected p0) }) in
     gone_ok w (midway w q k p0 i0 0 u r) u (at_job (w.job u) (Injected p0)) (Hand q) (Some (Inj p0)) refl
     (weights_mid w q k p0 i0 0 u r (λ l t. one (same_loc l (Hand q) && (t == u))) (λ l t. one (same_loc l (Inj p0) && (t == u))) e
-    (λ t. let a : hand t (TellNews n v) + one (t == u) ≤ hand t (PushJob n v) + 0 = (tab t).0 in
-    let c : (hand t (TellNews n v) + held_in t fs) + one (true && (t == u)) ≤ (hand t (PushJob n v) + held_in t fs) + 0 = omega (arith, a) in
-    subst (λ z. (hand t (TellNews n v) + held_in t fs) + one (z && (t == u)) ≤ (hand t (PushJob n v) + held_in t fs) + 0) (sym (same_party_refl q)) c)
+    (λ t. let a : hand t (TellNews n v) + one (t == u) ≡ hand t (PushJob n v) + 0 = (tab t).0 in
+    let c : (hand t (TellNews n v) + held_in t fs) + one (true && (t == u)) ≡ (hand t (PushJob n v) + held_in t fs) + 0 = omega (arith, a) in
+    subst (λ z. (hand t (TellNews n v) + held_in t fs) + one (z && (t == u)) ≡ (hand t (PushJob n v) + held_in t fs) + 0) (sym (same_party_refl q)) c)
     (λ t. omega arith)
     (λ t. omega arith)
     (λ t. let a : times t ((w.pool p0).injector ++ u ∷ []) ≡ (times t ((w.pool p0).injector) + one (t == u)) = times_push ((w.pool p0).injector) t u in
-    let c : times t ((w.pool p0).injector ++ u ∷ []) + 0 ≤ times t ((w.pool p0).injector) + one (true && (t == u)) = omega (arith, a) in
-    subst (λ z. times t ((w.pool p0).injector ++ u ∷ []) + 0 ≤ times t ((w.pool p0).injector) + one (z && (t == u))) (sym (eq-eqb p0 p0 refl)) c)
+    let c : times t ((w.pool p0).injector ++ u ∷ []) + 0 ≡ times t ((w.pool p0).injector) + one (true && (t == u)) = omega (arith, a) in
+    subst (λ z. times t ((w.pool p0).injector ++ u ∷ []) + 0 ≡ times t ((w.pool p0).injector) + one (z && (t == u))) (sym (eq-eqb p0 p0 refl)) c)
     (λ i t. omega arith)
-    (λ g t z. let c : one (false && (t == u)) ≤ 0 = omega arith in subst (λ z. one (z && (t == u)) ≤ 0) (sym z) c)
+    (λ g t z. let c : one (false && (t == u)) ≡ 0 = omega arith in subst (λ z. one (z && (t == u)) ≡ 0) (sym z) c)
     (λ g t z. omega arith)
     (λ p i t z. omega arith)
-    (λ p t z. omega arith)
+    (λ p t z. let c : 0 ≡ one (false && (t == u)) = omega arith in subst (λ z. 0 ≡ one (z && (t == u))) (sym z) c)
     (λ p i t. omega arith))
     (job_new w u (at_job (w.job u) (Injected p0))) (job_old w u (at_job (w.job u) (Injected p0))) (inject_step (w.job u) q p0) ok
 
@@ -327,17 +330,17 @@ begin_mid w q x u y fs e had ran runs has to ok =
     (weights_mid w q k p0 i0 0 u r (λ l t. one (same_loc l (Hand q) && (t == u))) (λ l t. one (same_loc l (Work q) && (t == u))) e
     (λ t. let a : held t (paused g fs) ≡ (hand t (y ((w.job u).kind)) + held_in t fs) = ap (λ g. held t (paused g fs)) to in
     let b : hand t (y ((w.job u).kind)) ≡ 0 = has ((w.job u).kind) t in let d : hand t x ≡ one (t == u) = had t in
-    let c : held t (paused g fs) + one (true && (t == u)) ≤ (hand t x + held_in t fs) + 0 = omega (arith, a, b, d) in
-    subst (λ z. held t (paused g fs) + one (z && (t == u)) ≤ (hand t x + held_in t fs) + 0) (sym (same_party_refl q)) c)
+    let c : held t (paused g fs) + one (true && (t == u)) ≡ (hand t x + held_in t fs) + 0 = omega (arith, a, b, d) in
+    subst (λ z. held t (paused g fs) + one (z && (t == u)) ≡ (hand t x + held_in t fs) + 0) (sym (same_party_refl q)) c)
     (λ t. let a : worked t (paused g fs) ≡ (run_of t (y ((w.job u).kind)) + runs_in t fs) = ap (λ g. worked t (paused g fs)) to in
     let b : run_of t (y ((w.job u).kind)) ≡ one (t == u) = runs ((w.job u).kind) t in let d : run_of t x ≡ 0 = ran t in
-    let c : worked t (paused g fs) + 0 ≤ (run_of t x + runs_in t fs) + one (true && (t == u)) = omega (arith, a, b, d) in
-    subst (λ z. worked t (paused g fs) + 0 ≤ (run_of t x + runs_in t fs) + one (z && (t == u))) (sym (same_party_refl q)) c)
+    let c : worked t (paused g fs) + 0 ≡ (run_of t x + runs_in t fs) + one (true && (t == u)) = omega (arith, a, b, d) in
+    subst (λ z. worked t (paused g fs) + 0 ≡ (run_of t x + runs_in t fs) + one (z && (t == u))) (sym (same_party_refl q)) c)
     (λ t. omega arith)
     (λ t. omega arith)
     (λ i t. omega arith)
-    (λ g t z. let c : one (false && (t == u)) ≤ 0 = omega arith in subst (λ z. one (z && (t == u)) ≤ 0) (sym z) c)
-    (λ g t z. omega arith)
+    (λ g t z. let c : one (false && (t == u)) ≡ 0 = omega arith in subst (λ z. one (z && (t == u)) ≡ 0) (sym z) c)
+    (λ g t z. let c : 0 ≡ one (false && (t == u)) = omega arith in subst (λ z. 0 ≡ one (z && (t == u))) (sym z) c)
     (λ p i t z. omega arith)
     (λ p t z. omega arith)
     (λ p i t. omega arith))
@@ -345,33 +348,33 @@ begin_mid w q x u y fs e had ran runs has to ok =
 
 -- halfway through each act each job is in its one place
 pub go_mid : (w : World) (q : Party) (x : Place) (fs : List Place) → w.stack q ≡ record { top = x; below = fs } → JobsOk w → Mid w q (record { top = x; below = fs })
-go_mid w (Worker a b) (PopWorking k) fs e ok = pop_mid w (Worker a b) (record { top = PopWorking k; below = fs }) a b _ _ e (λ t. refl) (λ u t. times_own ((w.shape.pool a).order) ((w.seat a b).own) t u) (all_tables w (Worker a b) (record { top = PopWorking k; below = fs })) ok
+go_mid w (Worker a b) (PopWorking k) fs e ok = pop_mid w (Worker a b) (record { top = PopWorking k; below = fs }) a b _ _ e (λ t. (refl, refl)) (λ u t. times_own ((w.shape.pool a).order) ((w.seat a b).own) t u) (all_tables w (Worker a b) (record { top = PopWorking k; below = fs })) ok
 go_mid w (Caller c) (PopWorking k) fs e ok = tt
-go_mid w (Worker a b) (PopIdle k) fs e ok = pop_mid w (Worker a b) (record { top = PopIdle k; below = fs }) a b _ _ e (λ t. refl) (λ u t. times_own ((w.shape.pool a).order) ((w.seat a b).own) t u) (all_tables w (Worker a b) (record { top = PopIdle k; below = fs })) ok
+go_mid w (Worker a b) (PopIdle k) fs e ok = pop_mid w (Worker a b) (record { top = PopIdle k; below = fs }) a b _ _ e (λ t. (refl, refl)) (λ u t. times_own ((w.shape.pool a).order) ((w.seat a b).own) t u) (all_tables w (Worker a b) (record { top = PopIdle k; below = fs })) ok
 go_mid w (Caller c) (PopIdle k) fs e ok = tt
-go_mid w (Worker a b) (JoinPop o) fs e ok = pop_mid w (Worker a b) (record { top = JoinPop o; below = fs }) a b _ _ e (λ t. refl) (λ u t. times_own ((w.shape.pool a).order) ((w.seat a b).own) t u) (all_tables w (Worker a b) (record { top = JoinPop o; below = fs })) ok
+go_mid w (Worker a b) (JoinPop o) fs e ok = pop_mid w (Worker a b) (record { top = JoinPop o; below = fs }) a b _ _ e (λ t. (refl, refl)) (λ u t. times_own ((w.shape.pool a).order) ((w.seat a b).own) t u) (all_tables w (Worker a b) (record { top = JoinPop o; below = fs })) ok
 go_mid w (Caller c) (JoinPop o) fs e ok = tt
-go_mid w (Worker a b) YieldPop fs e ok = pop_mid w (Worker a b) (record { top = YieldPop; below = fs }) a b _ _ e (λ t. refl) (λ u t. times_own ((w.shape.pool a).order) ((w.seat a b).own) t u) (all_tables w (Worker a b) (record { top = YieldPop; below = fs })) ok
+go_mid w (Worker a b) YieldPop fs e ok = pop_mid w (Worker a b) (record { top = YieldPop; below = fs }) a b _ _ e (λ t. (refl, refl)) (λ u t. times_own ((w.shape.pool a).order) ((w.seat a b).own) t u) (all_tables w (Worker a b) (record { top = YieldPop; below = fs })) ok
 go_mid w (Caller c) YieldPop fs e ok = tt
-go_mid w (Worker a b) LocalPop fs e ok = pop_mid w (Worker a b) (record { top = LocalPop; below = fs }) a b _ _ e (λ t. refl) (λ u t. times_own ((w.shape.pool a).order) ((w.seat a b).own) t u) (all_tables w (Worker a b) (record { top = LocalPop; below = fs })) ok
+go_mid w (Worker a b) LocalPop fs e ok = pop_mid w (Worker a b) (record { top = LocalPop; below = fs }) a b _ _ e (λ t. (refl, refl)) (λ u t. times_own ((w.shape.pool a).order) ((w.seat a b).own) t u) (all_tables w (Worker a b) (record { top = LocalPop; below = fs })) ok
 go_mid w (Caller c) LocalPop fs e ok = tt
-go_mid w (Worker a b) (StealFrom k n) fs e ok = pop_mid w (Worker a b) (record { top = StealFrom k n; below = fs }) a (k.victim) _ _ e (λ t. refl) (λ u t. times_first ((w.seat a (k.victim)).own) t u) (all_tables w (Worker a b) (record { top = StealFrom k n; below = fs })) ok
+go_mid w (Worker a b) (StealFrom k n) fs e ok = pop_mid w (Worker a b) (record { top = StealFrom k n; below = fs }) a (k.victim) _ _ e (λ t. (refl, refl)) (λ u t. times_first ((w.seat a (k.victim)).own) t u) (all_tables w (Worker a b) (record { top = StealFrom k n; below = fs })) ok
 go_mid w (Caller c) (StealFrom k n) fs e ok = tt
-go_mid w (Worker a b) (YieldSteal v n) fs e ok = pop_mid w (Worker a b) (record { top = YieldSteal v n; below = fs }) a (v) _ _ e (λ t. refl) (λ u t. times_first ((w.seat a (v)).own) t u) (all_tables w (Worker a b) (record { top = YieldSteal v n; below = fs })) ok
+go_mid w (Worker a b) (YieldSteal v n) fs e ok = pop_mid w (Worker a b) (record { top = YieldSteal v n; below = fs }) a (v) _ _ e (λ t. (refl, refl)) (λ u t. times_first ((w.seat a (v)).own) t u) (all_tables w (Worker a b) (record { top = YieldSteal v n; below = fs })) ok
 go_mid w (Caller c) (YieldSteal v n) fs e ok = tt
-go_mid w (Worker a b) (PopInjected k) fs e ok = inj_mid w (Worker a b) (record { top = PopInjected k; below = fs }) a b ((w.pool a).injector) e (λ t. refl) refl (all_tables w (Worker a b) (record { top = PopInjected k; below = fs })) ok
+go_mid w (Worker a b) (PopInjected k) fs e ok = inj_mid w (Worker a b) (record { top = PopInjected k; below = fs }) a b ((w.pool a).injector) e (λ t. (refl, refl)) refl (all_tables w (Worker a b) (record { top = PopInjected k; below = fs })) ok
 go_mid w (Caller c) (PopInjected k) fs e ok = tt
-go_mid w (Worker a b) YieldPopInjected fs e ok = inj_mid w (Worker a b) (record { top = YieldPopInjected; below = fs }) a b ((w.pool a).injector) e (λ t. refl) refl (all_tables w (Worker a b) (record { top = YieldPopInjected; below = fs })) ok
+go_mid w (Worker a b) YieldPopInjected fs e ok = inj_mid w (Worker a b) (record { top = YieldPopInjected; below = fs }) a b ((w.pool a).injector) e (λ t. (refl, refl)) refl (all_tables w (Worker a b) (record { top = YieldPopInjected; below = fs })) ok
 go_mid w (Caller c) YieldPopInjected fs e ok = tt
-go_mid w (Worker a b) (TakeCastWorking k) fs e ok = cast_mid w (Worker a b) (record { top = TakeCastWorking k; below = fs }) a b b ((w.pool a).casts b) e (λ t. refl) refl (all_tables w (Worker a b) (record { top = TakeCastWorking k; below = fs })) ok
+go_mid w (Worker a b) (TakeCastWorking k) fs e ok = cast_mid w (Worker a b) (record { top = TakeCastWorking k; below = fs }) a b b ((w.pool a).casts b) e (λ t. (refl, refl)) refl (all_tables w (Worker a b) (record { top = TakeCastWorking k; below = fs })) ok
 go_mid w (Caller c) (TakeCastWorking k) fs e ok = tt
-go_mid w (Worker a b) (TakeCastIdle k) fs e ok = cast_mid w (Worker a b) (record { top = TakeCastIdle k; below = fs }) a b b ((w.pool a).casts b) e (λ t. refl) refl (all_tables w (Worker a b) (record { top = TakeCastIdle k; below = fs })) ok
+go_mid w (Worker a b) (TakeCastIdle k) fs e ok = cast_mid w (Worker a b) (record { top = TakeCastIdle k; below = fs }) a b b ((w.pool a).casts b) e (λ t. (refl, refl)) refl (all_tables w (Worker a b) (record { top = TakeCastIdle k; below = fs })) ok
 go_mid w (Caller c) (TakeCastIdle k) fs e ok = tt
-go_mid w (Worker a b) (JoinTakeCast o) fs e ok = cast_mid w (Worker a b) (record { top = JoinTakeCast o; below = fs }) a b b ((w.pool a).casts b) e (λ t. refl) refl (all_tables w (Worker a b) (record { top = JoinTakeCast o; below = fs })) ok
+go_mid w (Worker a b) (JoinTakeCast o) fs e ok = cast_mid w (Worker a b) (record { top = JoinTakeCast o; below = fs }) a b b ((w.pool a).casts b) e (λ t. (refl, refl)) refl (all_tables w (Worker a b) (record { top = JoinTakeCast o; below = fs })) ok
 go_mid w (Caller c) (JoinTakeCast o) fs e ok = tt
-go_mid w (Worker a b) YieldTakeCast fs e ok = cast_mid w (Worker a b) (record { top = YieldTakeCast; below = fs }) a b b ((w.pool a).casts b) e (λ t. refl) refl (all_tables w (Worker a b) (record { top = YieldTakeCast; below = fs })) ok
+go_mid w (Worker a b) YieldTakeCast fs e ok = cast_mid w (Worker a b) (record { top = YieldTakeCast; below = fs }) a b b ((w.pool a).casts b) e (λ t. (refl, refl)) refl (all_tables w (Worker a b) (record { top = YieldTakeCast; below = fs })) ok
 go_mid w (Caller c) YieldTakeCast fs e ok = tt
-go_mid w (Worker a b) LocalTakeCast fs e ok = cast_mid w (Worker a b) (record { top = LocalTakeCast; below = fs }) a b b ((w.pool a).casts b) e (λ t. refl) refl (all_tables w (Worker a b) (record { top = LocalTakeCast; below = fs })) ok
+go_mid w (Worker a b) LocalTakeCast fs e ok = cast_mid w (Worker a b) (record { top = LocalTakeCast; below = fs }) a b b ((w.pool a).casts b) e (λ t. (refl, refl)) refl (all_tables w (Worker a b) (record { top = LocalTakeCast; below = fs })) ok
 go_mid w (Caller c) LocalTakeCast fs e ok = tt
 go_mid w q (BeginTask u) fs e ok = begin_mid w q (BeginTask u) u (λ k. Run u k) fs e (λ t. refl) (λ t. refl) (λ k t. refl) (λ k t. refl) refl ok
 go_mid w q (BeginHere u) fs e ok = begin_mid w q (BeginHere u) u (λ k. Run u Direct) fs e (λ t. refl) (λ t. refl) (λ k t. refl) (λ k t. refl) refl ok

@@ -22,18 +22,18 @@ use Rattle.rayon_machine_places.specs.declared.state.Call.{Call}
 use Rattle.rayon_machine_places.specs.Places.{same_party, own_pool, own_index, next_victim, not_self, act_of, next_steal, next_yield, next_of, is_free}
 use Rattle.rayon_machine_places.specs.World.{Seat, Pool, Stack, World, target_pool, target_worker, target_call, at_job, begun}
 use Rattle.rayon_machine_places.specs.Steps.{put, put_stack, put_seat, back, after_move, handed_back, jobs_after, after_choice, after_refusal, can_miss, after_miss, after_call, is_pool, after_yield, after_end_pool, step}
-use Rattle.rayon_machine_laws.specs.Once.{one, times, run_of, runs_in}
+use Rattle.rayon_machine_laws.specs.Once.{one, times, is_known, run_of, runs_in}
 use Rattle.rayon_machine_laws.proofs.Frame.{same_party_true, if_some_map, if_cond}
 use Rattle.rayon_machine_laws.proofs.Ties.{job_at, outcome, result}
 use Rattle.rayon_machine_laws.proofs.Hands.{hand_plan, hand, held_in, held, worked, paused}
-use Rattle.rayon_machine_laws.proofs.Located.{Loc, same_loc, loc_at, is_loc, weight, JobsPlaced, fits, JobsFit, is_left, IsOnward, onward_same, onward_left, Hand, Work, Deck, Cast, Inj}
+use Rattle.rayon_machine_laws.proofs.Located.{Loc, same_loc, loc_at, is_loc, weight, JobsPlaced, fits, JobsFit, is_left, IsOnward, onward_same, onward_left, onward_known, Hand, Work, Deck, Cast, Inj}
 use Rattle.rayon_machine_laws.proofs.Placed.{Kept, JobsOk, midway, job_new, job_old, gone_ok, begun_step, back_step, go_mid}
 
 pub kept_then : (w v u : World) → Kept w v → Kept v u → Kept w u
 kept_then w v u a b = record { placed = b.placed; fit = b.fit; onward = λ t. go ((w.job t).at) ((v.job t).at) ((u.job t).at) (a.onward t) (b.onward t) }
   where
     go : (x y z : Whereabouts) → IsOnward x y → IsOnward y z → IsOnward x z
-    go (Made q) y z f g = tt
+    go (Made q) y z f g = onward_known y z g f
     go (Running q) y z f g = onward_left y z g f
     go (InDeque p i) y z f g = onward_left y z g f
     go (Injected p) y z f g = onward_left y z g f
@@ -45,20 +45,20 @@ kept_then w v u a b = record { placed = b.placed; fit = b.fit; onward = λ t. go
 abbrev pub with_parts : World → Party → Stack → (ℕ → ℕ → Seat) → (ℕ → Pool) → (ℕ → Call) → (ℕ → Job) → World
 with_parts w q k S P C J = record w { stack = put_stack w.stack q k; seat = S; pool = P; call = C; job = J }
 
--- a party's stack is another, which has no more in hand less one job, and that is in no place now
-drop_hand : (w : World) (q : Party) (k l : Stack) (S : ℕ → ℕ → Seat) (P : ℕ → Pool) (C : ℕ → Call) (J : ℕ → Job) (u : ℕ) (j : Job) → ((t : ℕ) → held t l + one (t == u) ≤ held t k) → ((t : ℕ) → worked t l ≤ worked t k) → (loc_at (J u) ≡ Some (Hand q) → (loc_at j ≡ None) × fits (j.at) (j.runs) × (is_left (j.at) ≡ true)) → JobsOk (with_parts w q k S P C J) → Kept (with_parts w q k S P C J) (with_parts w q l S P C (put J u j))
+-- a party's stack is another, which has the same in hand less one job, and that is in no place now
+drop_hand : (w : World) (q : Party) (k l : Stack) (S : ℕ → ℕ → Seat) (P : ℕ → Pool) (C : ℕ → Call) (J : ℕ → Job) (u : ℕ) (j : Job) → ((t : ℕ) → held t l + one (t == u) ≡ held t k) → ((t : ℕ) → worked t l ≡ worked t k) → (loc_at (J u) ≡ Some (Hand q) → (loc_at j ≡ None) × fits (j.at) (j.runs) × (is_left (j.at) ≡ true)) → JobsOk (with_parts w q k S P C J) → Kept (with_parts w q k S P C J) (with_parts w q l S P C (put J u j))
 drop_hand w q k l S P C J u j h r step ok = gone_ok (with_parts w q k S P C J) (with_parts w q l S P C (put J u j)) u j (Hand q) None refl shift (job_new (with_parts w q k S P C J) u j) (job_old (with_parts w q k S P C J) u j) step ok
   where
-    shift : (a : Loc) (t : ℕ) → weight (with_parts w q l S P C (put J u j)) a t + one (same_loc a (Hand q) && (t == u)) ≤ weight (with_parts w q k S P C J) a t + 0
+    shift : (a : Loc) (t : ℕ) → weight (with_parts w q l S P C (put J u j)) a t + one (same_loc a (Hand q) && (t == u)) ≡ weight (with_parts w q k S P C J) a t + 0
     shift (Hand g) t = by (same_party g q)
       where
-        by : (z : Bool) → held t (if z then l else w.stack g) + one (z && (t == u)) ≤ held t (if z then k else w.stack g) + 0
-        by true = let a : held t l + one (t == u) ≤ held t k = h t in omega (arith, a)
+        by : (z : Bool) → held t (if z then l else w.stack g) + one (z && (t == u)) ≡ held t (if z then k else w.stack g) + 0
+        by true = let a : held t l + one (t == u) ≡ held t k = h t in omega (arith, a)
         by false = omega arith
     shift (Work g) t = by (same_party g q)
       where
-        by : (z : Bool) → worked t (if z then l else w.stack g) + 0 ≤ worked t (if z then k else w.stack g) + 0
-        by true = let a : worked t l ≤ worked t k = r t in omega (arith, a)
+        by : (z : Bool) → worked t (if z then l else w.stack g) + 0 ≡ worked t (if z then k else w.stack g) + 0
+        by true = let a : worked t l ≡ worked t k = r t in omega (arith, a)
         by false = omega arith
     shift (Deck p i) t = omega arith
     shift (Cast p i) t = omega arith
@@ -68,15 +68,15 @@ drop_hand w q k l S P C J u j h r step ok = gone_ok (with_parts w q k S P C J) (
 start_run : (w : World) (q : Party) (f : Place) (u : ℕ) (fs : List Place) (S : ℕ → ℕ → Seat) (P : ℕ → Pool) (C : ℕ → Call) (J : ℕ → Job) → JobsOk (with_parts w q (record { top = BeginHere u; below = f ∷ fs }) S P C J) → Kept (with_parts w q (record { top = BeginHere u; below = f ∷ fs }) S P C J) (with_parts w q (record { top = Run u Direct; below = f ∷ fs }) S P C (put J u (begun q (J u))))
 start_run w q f u fs S P C J ok = gone_ok (with_parts w q (record { top = BeginHere u; below = f ∷ fs }) S P C J) (with_parts w q (record { top = Run u Direct; below = f ∷ fs }) S P C (put J u (begun q (J u)))) u (begun q (J u)) (Hand q) (Some (Work q)) refl shift (job_new (with_parts w q (record { top = BeginHere u; below = f ∷ fs }) S P C J) u (begun q (J u))) (job_old (with_parts w q (record { top = BeginHere u; below = f ∷ fs }) S P C J) u (begun q (J u))) (begun_step (J u) q) ok
   where
-    shift : (a : Loc) (t : ℕ) → weight (with_parts w q (record { top = Run u Direct; below = f ∷ fs }) S P C (put J u (begun q (J u)))) a t + one (same_loc a (Hand q) && (t == u)) ≤ weight (with_parts w q (record { top = BeginHere u; below = f ∷ fs }) S P C J) a t + one (same_loc a (Work q) && (t == u))
+    shift : (a : Loc) (t : ℕ) → weight (with_parts w q (record { top = Run u Direct; below = f ∷ fs }) S P C (put J u (begun q (J u)))) a t + one (same_loc a (Hand q) && (t == u)) ≡ weight (with_parts w q (record { top = BeginHere u; below = f ∷ fs }) S P C J) a t + one (same_loc a (Work q) && (t == u))
     shift (Hand g) t = by (same_party g q)
       where
-        by : (z : Bool) → held t (if z then record { top = Run u Direct; below = f ∷ fs } else w.stack g) + one (z && (t == u)) ≤ held t (if z then record { top = BeginHere u; below = f ∷ fs } else w.stack g) + 0
+        by : (z : Bool) → held t (if z then record { top = Run u Direct; below = f ∷ fs } else w.stack g) + one (z && (t == u)) ≡ held t (if z then record { top = BeginHere u; below = f ∷ fs } else w.stack g) + 0
         by true = omega arith
         by false = omega arith
     shift (Work g) t = by (same_party g q)
       where
-        by : (z : Bool) → worked t (if z then record { top = Run u Direct; below = f ∷ fs } else w.stack g) + 0 ≤ worked t (if z then record { top = BeginHere u; below = f ∷ fs } else w.stack g) + one (z && (t == u))
+        by : (z : Bool) → worked t (if z then record { top = Run u Direct; below = f ∷ fs } else w.stack g) + 0 ≡ worked t (if z then record { top = BeginHere u; below = f ∷ fs } else w.stack g) + one (z && (t == u))
         by true = omega arith
         by false = omega arith
     shift (Deck p i) t = omega arith
@@ -136,6 +136,10 @@ go_kept w q ok =
 abbrev pub Unmade : World → Type 0
 Unmade w = (t : ℕ) → w.jobs ≤ t → (w.job t).at ≡ Nowhere
 
+-- each number given out has one
+abbrev pub Known : World → Type 0
+Known w = (t : ℕ) → t + 1 ≤ w.jobs → is_known (w.job t).at ≡ true
+
 -- what is over or handed back stays so, and what has left its call does not come back to it
 abbrev pub IsFinal : Whereabouts → Whereabouts → Type 0
 IsFinal (Made q) b = ⊤
@@ -168,34 +172,35 @@ pub record Advance (w u : World) : Type 0 where
   pub fit : JobsFit u
   pub final : (t : ℕ) → IsFinal ((w.job t).at) ((u.job t).at)
   pub unmade : Unmade u
+  pub known : Known w → Known u
 
-pub kept_advance : (w u : World) → w.jobs ≤ u.jobs → Unmade w → Kept w u → Advance w u
-kept_advance w u e un k = record { placed = k.placed; fit = k.fit; final = λ t. final_onward ((w.job t).at) ((u.job t).at) (k.onward t); unmade = λ t b. subst (λ a. IsOnward a ((u.job t).at)) (un t (omega (arith, b, e))) (k.onward t) }
+pub kept_advance : (w u : World) → u.jobs ≡ w.jobs → Unmade w → Kept w u → Advance w u
+kept_advance w u e un k = record { known = λ f t b. onward_known ((w.job t).at) ((u.job t).at) (k.onward t) (f t (omega (arith, b, e))); placed = k.placed; fit = k.fit; final = λ t. final_onward ((w.job t).at) ((u.job t).at) (k.onward t); unmade = λ t b. subst (λ a. IsOnward a ((u.job t).at)) (un t (omega (arith, b, e))) (k.onward t) }
 
--- where one party has another stack, with no more jobs in it
-pub restack_ok : (w : World) (q : Party) (k : Stack) (P : ℕ → Pool) → ((t : ℕ) → held t k ≤ held t (w.stack q)) → ((t : ℕ) → worked t k ≤ worked t (w.stack q)) → ((p : ℕ) → (P p).injector ≡ (w.pool p).injector) → ((p : ℕ) → (P p).casts ≡ (w.pool p).casts) → JobsOk w → Unmade w → Advance w (record w { stack = put_stack w.stack q k; pool = P })
+-- where one party has another stack, with the same jobs in it
+pub restack_ok : (w : World) (q : Party) (k : Stack) (P : ℕ → Pool) → ((t : ℕ) → held t k ≡ held t (w.stack q)) → ((t : ℕ) → worked t k ≡ worked t (w.stack q)) → ((p : ℕ) → (P p).injector ≡ (w.pool p).injector) → ((p : ℕ) → (P p).casts ≡ (w.pool p).casts) → JobsOk w → Unmade w → Advance w (record w { stack = put_stack w.stack q k; pool = P })
 restack_ok w q k P h r inj casts ok un = kept_advance w (record w { stack = put_stack w.stack q k; pool = P }) (omega arith) un (record { placed = placed; fit = ok.fit; onward = λ t. onward_same ((w.job t).at) ((w.job t).at) refl })
   where
-    placed : (l : Loc) (t : ℕ) → weight (record w { stack = put_stack w.stack q k; pool = P }) l t ≤ is_loc l (loc_at (w.job t))
+    placed : (l : Loc) (t : ℕ) → weight (record w { stack = put_stack w.stack q k; pool = P }) l t ≡ is_loc l (loc_at (w.job t))
     placed (Hand g) t = by (same_party g q) refl
       where
-        by : (z : Bool) → same_party g q ≡ z → held t (if z then k else w.stack g) ≤ is_loc (Hand g) (loc_at (w.job t))
-        by true z = subst (λ g. held t k ≤ is_loc (Hand g) (loc_at (w.job t))) (sym (same_party_true g q z)) (let a : held t k ≤ held t (w.stack q) = h t in let b : held t (w.stack q) ≤ is_loc (Hand q) (loc_at (w.job t)) = (ok.placed) (Hand q) t in omega (arith, a, b))
+        by : (z : Bool) → same_party g q ≡ z → held t (if z then k else w.stack g) ≡ is_loc (Hand g) (loc_at (w.job t))
+        by true z = subst (λ g. held t k ≡ is_loc (Hand g) (loc_at (w.job t))) (sym (same_party_true g q z)) (let a : held t k ≡ held t (w.stack q) = h t in let b : held t (w.stack q) ≡ is_loc (Hand q) (loc_at (w.job t)) = (ok.placed) (Hand q) t in omega (arith, a, b))
         by false z = (ok.placed) (Hand g) t
     placed (Work g) t = by (same_party g q) refl
       where
-        by : (z : Bool) → same_party g q ≡ z → worked t (if z then k else w.stack g) ≤ is_loc (Work g) (loc_at (w.job t))
-        by true z = subst (λ g. worked t k ≤ is_loc (Work g) (loc_at (w.job t))) (sym (same_party_true g q z)) (let a : worked t k ≤ worked t (w.stack q) = r t in let b : worked t (w.stack q) ≤ is_loc (Work q) (loc_at (w.job t)) = (ok.placed) (Work q) t in omega (arith, a, b))
+        by : (z : Bool) → same_party g q ≡ z → worked t (if z then k else w.stack g) ≡ is_loc (Work g) (loc_at (w.job t))
+        by true z = subst (λ g. worked t k ≡ is_loc (Work g) (loc_at (w.job t))) (sym (same_party_true g q z)) (let a : worked t k ≡ worked t (w.stack q) = r t in let b : worked t (w.stack q) ≡ is_loc (Work q) (loc_at (w.job t)) = (ok.placed) (Work q) t in omega (arith, a, b))
         by false z = (ok.placed) (Work g) t
     placed (Deck p i) t = (ok.placed) (Deck p i) t
-    placed (Cast p i) t = subst (λ f. times t (f i) ≤ is_loc (Cast p i) (loc_at (w.job t))) (sym (casts p)) ((ok.placed) (Cast p i) t)
-    placed (Inj p) t = subst (λ f. times t f ≤ is_loc (Inj p) (loc_at (w.job t))) (sym (inj p)) ((ok.placed) (Inj p) t)
+    placed (Cast p i) t = subst (λ f. times t (f i) ≡ is_loc (Cast p i) (loc_at (w.job t))) (sym (casts p)) ((ok.placed) (Cast p i) t)
+    placed (Inj p) t = subst (λ f. times t f ≡ is_loc (Inj p) (loc_at (w.job t))) (sym (inj p)) ((ok.placed) (Inj p) t)
 
 -- the same where the old top is known
-pub retop_ok : (w : World) (q : Party) (x : Place) (fs : List Place) (k : Stack) → w.stack q ≡ record { top = x; below = fs } → ((t : ℕ) → held t k ≤ hand t x + held_in t fs) → ((t : ℕ) → worked t k ≤ run_of t x + runs_in t fs) → JobsOk w → Unmade w → Advance w (record w { stack = put_stack w.stack q k })
+pub retop_ok : (w : World) (q : Party) (x : Place) (fs : List Place) (k : Stack) → w.stack q ≡ record { top = x; below = fs } → ((t : ℕ) → held t k ≡ hand t x + held_in t fs) → ((t : ℕ) → worked t k ≡ run_of t x + runs_in t fs) → JobsOk w → Unmade w → Advance w (record w { stack = put_stack w.stack q k })
 retop_ok w q x fs k e h r ok un = restack_ok w q k w.pool
-    (λ t. let a : held t (w.stack q) ≡ (hand t x + held_in t fs) = ap (held t) e in let b : held t k ≤ hand t x + held_in t fs = h t in omega (arith, a, b))
-    (λ t. let a : worked t (w.stack q) ≡ (run_of t x + runs_in t fs) = ap (worked t) e in let b : worked t k ≤ run_of t x + runs_in t fs = r t in omega (arith, a, b))
+    (λ t. let a : held t (w.stack q) ≡ (hand t x + held_in t fs) = ap (held t) e in let b : held t k ≡ hand t x + held_in t fs = h t in omega (arith, a, b))
+    (λ t. let a : worked t (w.stack q) ≡ (run_of t x + runs_in t fs) = ap (worked t) e in let b : worked t k ≡ run_of t x + runs_in t fs = r t in omega (arith, a, b))
     (λ p. refl) (λ p. refl) ok un
 
 pub from_kept : (w : World) (q : Party) (x : Place) (fs : List Place) (v : ℕ) → w.stack q ≡ record { top = x; below = fs } → JobsOk w → Unmade w → IfSome (after_choice w q (record { top = x; below = fs }) x v) (Advance w)

@@ -1,7 +1,8 @@
--- each job is in its one place in every world of every run
+-- each job is in its one place, once, in every world of every run
 use Rattle.std.proofs.Common.{arith, refl, sym, ◌∙◌, ap, subst, inl, inr}
-use Rattle.std.specs.Prelude.{ℕ, Bool, true, false, ◌&&◌, ◌+◌, ◌==◌, ◌≤◌, nat_lt, if◌then◌else◌, Some, None, List, [], ◌∷◌, ◌≡◌, IfSome}
-use Rattle.std.proofs.lemmas.Bool.{eqb-true}
+use Rattle.std.specs.Prelude.{ℕ, Bool, true, false, ◌&&◌, ◌+◌, ◌==◌, ◌≤◌, ◌<◌, nat_lt, if◌then◌else◌, Some, None, List, [], ◌∷◌, ◌≡◌, IfSome}
+use Rattle.std.proofs.lemmas.Bool.{eqb-true, eq-eqb, ltb-true, ltb-false}
+use Rattle.std.proofs.Math.Dec.{ltb}
 use Rattle.rayon_machine_places.specs.declared.place.Party.{Party}
 use Rattle.rayon_machine_places.specs.declared.place.Party.TheVariants.{Worker, Caller}
 use Rattle.rayon_machine_places.specs.declared.place.Ending.{Ending}
@@ -24,14 +25,14 @@ use Rattle.rayon_machine_places.specs.Places.{same_party, is_member, fresh, act_
 use Rattle.rayon_machine_places.specs.World.{Shape, World, target_pool, target_worker, target_call, at_job}
 use Rattle.rayon_machine_places.specs.Steps.{put, put_stack, after_close, after_end, after_call, is_pool, new_job, new_call, after_spawn, after_send, after_install, after_join, step}
 use Rattle.rayon_machine_places.specs.Runs.{first_place, start, IsRun}
-use Rattle.rayon_machine_laws.specs.Once.{one, times, in_deque, in_injector, runs_with, run_of, runs_in, IsOnce}
+use Rattle.rayon_machine_laws.specs.Once.{one, in_deque, in_injector, runs_with, is_with, is_known, may_begin, run_of, runs_in, IsOnce}
 use Rattle.rayon_machine_laws.proofs.Frame.{either, same_party_true, if_some_map, if_cond, acted_keeps}
 use Rattle.rayon_machine_laws.proofs.Ties.{job_at, outcome, result}
 use Rattle.rayon_machine_laws.proofs.Events.{run_keeps}
 use Rattle.rayon_machine_laws.proofs.Hands.{hand_plan, hand, held_in, held, worked}
-use Rattle.rayon_machine_laws.proofs.Located.{Loc, same_loc, loc_of, loc_at, is_loc, weight, IsPlaced, JobsPlaced, make_ok, fits, at_work, no_cast, Hand, Work, Deck, Cast, Inj}
+use Rattle.rayon_machine_laws.proofs.Located.{Loc, same_loc, loc_of, loc_at, is_loc, weight, IsPlaced, JobsPlaced, and_true, and_false, make_ok, fits, at_work, no_cast, Hand, Work, Deck, Cast, Inj}
 use Rattle.rayon_machine_laws.proofs.Placed.{Kept, JobsOk, job_new, job_old, gone_ok}
-use Rattle.rayon_machine_laws.proofs.PlacedEvents.{go_kept, Unmade, IsFinal, Advance, kept_advance, from_kept, refuse_kept, miss_kept, yield_kept, give_kept}
+use Rattle.rayon_machine_laws.proofs.PlacedEvents.{go_kept, Unmade, Known, IsFinal, Advance, kept_advance, from_kept, refuse_kept, miss_kept, yield_kept, give_kept}
 
 hand_goes_on : (t : ℕ) (f : Place) (e : Ending) → (hand t (goes_on f e) ≡ hand t f) × (run_of t (goes_on f e) ≡ run_of t f)
 hand_goes_on t (FirstSide o a) Fine = (refl, refl)
@@ -49,16 +50,16 @@ end_kept : (w : World) (q : Party) (d : Ending) (x : Place) (fs : List Place) �
 end_kept w q d (Run u k) fs e ok un = kept_advance w (record w { stack = put_stack w.stack q (after_close u k d fs); job = put w.job u (at_job (w.job u) (Over d)) }) (omega arith) un
     (gone_ok w (record w { stack = put_stack w.stack q (after_close u k d fs); job = put w.job u (at_job (w.job u) (Over d)) }) u (at_job (w.job u) (Over d)) (Work q) None refl shift (job_new w u (at_job (w.job u) (Over d))) (job_old w u (at_job (w.job u) (Over d))) (λ z. (refl, (at_work ((w.job u).at) ((w.job u).runs) q z).0, refl)) ok)
   where
-    shift : (a : Loc) (t : ℕ) → weight (record w { stack = put_stack w.stack q (after_close u k d fs); job = put w.job u (at_job (w.job u) (Over d)) }) a t + one (same_loc a (Work q) && (t == u)) ≤ weight w a t + 0
+    shift : (a : Loc) (t : ℕ) → weight (record w { stack = put_stack w.stack q (after_close u k d fs); job = put w.job u (at_job (w.job u) (Over d)) }) a t + one (same_loc a (Work q) && (t == u)) ≡ weight w a t + 0
     shift (Hand g) t = by (same_party g q) refl
       where
-        by : (z : Bool) → same_party g q ≡ z → held t (if z then after_close u k d fs else w.stack g) + 0 ≤ held t (w.stack g) + 0
+        by : (z : Bool) → same_party g q ≡ z → held t (if z then after_close u k d fs else w.stack g) + 0 ≡ held t (w.stack g) + 0
         by true z = let a : held t (after_close u k d fs) ≡ held_in t fs = (closed_none t u k d fs).0 in
             let b : held t (w.stack g) ≡ (0 + held_in t fs) = ap (held t) (ap w.stack (same_party_true g q z) ∙ e) in omega (arith, a, b)
         by false z = omega arith
     shift (Work g) t = by (same_party g q) refl
       where
-        by : (z : Bool) → same_party g q ≡ z → worked t (if z then after_close u k d fs else w.stack g) + one (z && (t == u)) ≤ worked t (w.stack g) + 0
+        by : (z : Bool) → same_party g q ≡ z → worked t (if z then after_close u k d fs else w.stack g) + one (z && (t == u)) ≡ worked t (w.stack g) + 0
         by true z = let a : worked t (after_close u k d fs) ≡ runs_in t fs = (closed_none t u k d fs).1 in
             let b : worked t (w.stack g) ≡ (one (t == u) + runs_in t fs) = ap (worked t) (ap w.stack (same_party_true g q z) ∙ e) in omega (arith, a, b)
         by false z = omega arith
@@ -68,16 +69,16 @@ end_kept w q d (Run u k) fs e ok un = kept_advance w (record w { stack = put_sta
 end_kept w q d _ fs e ok un = tt
 
 -- the weights where a party's call has new jobs
-called_weight : (w : World) (q : Party) (n : Plan) (l : Loc) (t : ℕ) → weight (record w { stack = put_stack w.stack q (after_call (w.stack q) (RaiseCount n)) }) l t ≤ weight w l t + (if same_loc l (Hand q) then hand_plan t n else 0)
+called_weight : (w : World) (q : Party) (n : Plan) (l : Loc) (t : ℕ) → weight (record w { stack = put_stack w.stack q (after_call (w.stack q) (RaiseCount n)) }) l t ≡ weight w l t + (if same_loc l (Hand q) then hand_plan t n else 0)
 called_weight w q n (Hand g) t = by (same_party g q) refl
   where
-    by : (z : Bool) → same_party g q ≡ z → held t (if z then after_call (w.stack q) (RaiseCount n) else w.stack g) ≤ held t (w.stack g) + (if z then hand_plan t n else 0)
-    by true z = subst (λ g. held t (after_call (w.stack q) (RaiseCount n)) ≤ held t (w.stack g) + hand_plan t n) (sym (same_party_true g q z)) (omega arith)
+    by : (z : Bool) → same_party g q ≡ z → held t (if z then after_call (w.stack q) (RaiseCount n) else w.stack g) ≡ held t (w.stack g) + (if z then hand_plan t n else 0)
+    by true z = subst (λ g. held t (after_call (w.stack q) (RaiseCount n)) ≡ held t (w.stack g) + hand_plan t n) (sym (same_party_true g q z)) (omega arith)
     by false z = omega arith
 called_weight w q n (Work g) t = by (same_party g q) refl
   where
-    by : (z : Bool) → same_party g q ≡ z → worked t (if z then after_call (w.stack q) (RaiseCount n) else w.stack g) ≤ worked t (w.stack g) + 0
-    by true z = subst (λ g. worked t (after_call (w.stack q) (RaiseCount n)) ≤ worked t (w.stack g) + 0) (sym (same_party_true g q z)) (omega arith)
+    by : (z : Bool) → same_party g q ≡ z → worked t (if z then after_call (w.stack q) (RaiseCount n) else w.stack g) ≡ worked t (w.stack g) + 0
+    by true z = subst (λ g. worked t (after_call (w.stack q) (RaiseCount n)) ≡ worked t (w.stack g) + 0) (sym (same_party_true g q z)) (omega arith)
     by false z = omega arith
 called_weight w q n (Deck p i) t = omega arith
 called_weight w q n (Cast p i) t = omega arith
@@ -85,6 +86,10 @@ called_weight w q n (Inj p) t = omega arith
 
 pub not_new : (n t : ℕ) → n + 1 ≤ t → (t == n) ≡ false
 not_new n t h = elim (either (t == n)) [ inl y ↦ absurd (let z : t ≡ n = eqb-true t n y in omega (arith, z)) | inr z ↦ z ]
+
+-- a number below the next is that or lower
+old_below : (n t : ℕ) → (t == n) ≡ false → t + 1 ≤ n + 1 → t + 1 ≤ n
+old_below n t e b = elim (either (ltb t n)) [ inl y ↦ (let a : t < n = ltb-true t n y in omega (arith, a)) | inr y ↦ absurd (let a : n ≤ t = ltb-false t n y in let c : t ≡ n = omega (arith, a, b) in let d : (t == n) ≡ true = eq-eqb t n c in cc) ]
 
 final_same : (a : Whereabouts) → IsFinal a a
 final_same (Over e) = refl
@@ -100,13 +105,14 @@ make_one w q n p k C c h ok un = record {
   fit = λ t. fit_by t (t == w.jobs);
   final = λ t. fin_by t (t == w.jobs) refl;
   unmade = λ t b. (let e : (t == w.jobs) ≡ false = not_new w.jobs t b in rw e (un t (omega (arith, b))));
+  known = λ f t b. known_by f t b (t == w.jobs) refl;
 }
   where
     none : loc_at (w.job w.jobs) ≡ None
     none = ap (λ x. loc_of x ((w.job w.jobs).runs)) (un w.jobs (omega arith))
 
-    le : (l : Loc) (t : ℕ) → weight (record w { stack = put_stack w.stack q (after_call (w.stack q) (RaiseCount n)) }) l t ≤ weight w l t + one (same_loc l (Hand q) && (t == w.jobs))
-    le l t = let a : weight (record w { stack = put_stack w.stack q (after_call (w.stack q) (RaiseCount n)) }) l t ≤ weight w l t + (if same_loc l (Hand q) then hand_plan t n else 0) = called_weight w q n l t in
+    le : (l : Loc) (t : ℕ) → weight (record w { stack = put_stack w.stack q (after_call (w.stack q) (RaiseCount n)) }) l t ≡ weight w l t + one (same_loc l (Hand q) && (t == w.jobs))
+    le l t = let a : weight (record w { stack = put_stack w.stack q (after_call (w.stack q) (RaiseCount n)) }) l t ≡ weight w l t + (if same_loc l (Hand q) then hand_plan t n else 0) = called_weight w q n l t in
         let b : (if same_loc l (Hand q) then hand_plan t n else 0) ≡ one (same_loc l (Hand q) && (t == w.jobs)) = by (same_loc l (Hand q)) in omega (arith, a, b)
       where
         by : (z : Bool) → (if z then hand_plan t n else 0) ≡ one (z && (t == w.jobs))
@@ -116,6 +122,10 @@ make_one w q n p k C c h ok un = record {
     fit_by : (t : ℕ) (z : Bool) → fits ((if z then new_job q p k else w.job t).at) ((if z then new_job q p k else w.job t).runs)
     fit_by t true = refl
     fit_by t false = (ok.fit) t
+
+    known_by : Known w → (t : ℕ) → t + 1 ≤ w.jobs + 1 → (z : Bool) → (t == w.jobs) ≡ z → is_known ((if z then new_job q p k else w.job t).at) ≡ true
+    known_by f t b true z = refl
+    known_by f t b false z = f t (old_below w.jobs t z b)
 
     fin_by : (t : ℕ) (z : Bool) → (t == w.jobs) ≡ z → IsFinal ((w.job t).at) ((if z then new_job q p k else w.job t).at)
     fin_by t true z = subst (λ v. IsFinal v (Made q)) (sym (un t (let e : t ≡ w.jobs = eqb-true t w.jobs z in omega (arith, e)))) tt
@@ -142,6 +152,7 @@ make_two w q p k C c o is ok un = record {
   fit = λ t. fit_by t (t == (w.jobs + 1)) (t == w.jobs);
   final = λ t. fin_by t (t == (w.jobs + 1)) (t == w.jobs) refl refl;
   unmade = λ t b. (let e : (t == w.jobs) ≡ false = not_new w.jobs t (omega (arith, b)) in let d : (t == (w.jobs + 1)) ≡ false = not_new (w.jobs + 1) t (omega (arith, b)) in rw (d, e) (un t (omega (arith, b))));
+  known = λ f t b. known_by f t b (t == (w.jobs + 1)) (t == w.jobs) refl refl;
 }
   where
     v : World
@@ -159,8 +170,8 @@ make_two w q p k C c o is ok un = record {
     first : IsPlaced (mid_of w q) (λ t. loc_at (one_made t))
     first = make_ok (weight w) (mid_of w q) (λ t. loc_at (w.job t)) (λ t. loc_at (one_made t)) w.jobs q none (λ l t. omega arith) (ok.placed) (ap (λ x. loc_at x) (job_new w w.jobs (new_job q p Direct))) (λ t e. ap (λ x. loc_at x) (job_old w w.jobs (new_job q p Direct) t e))
 
-    le : (l : Loc) (t : ℕ) → weight v l t ≤ mid_of w q l t + one (same_loc l (Hand q) && (t == (w.jobs + 1)))
-    le l t = let a : weight v l t ≤ weight w l t + (if same_loc l (Hand q) then hand_plan t (Fork o w.jobs) else 0) = called_weight w q (Fork o w.jobs) l t in
+    le : (l : Loc) (t : ℕ) → weight v l t ≡ mid_of w q l t + one (same_loc l (Hand q) && (t == (w.jobs + 1)))
+    le l t = let a : weight v l t ≡ weight w l t + (if same_loc l (Hand q) then hand_plan t (Fork o w.jobs) else 0) = called_weight w q (Fork o w.jobs) l t in
         let b : (if same_loc l (Hand q) then hand_plan t (Fork o w.jobs) else 0) ≡ (one (same_loc l (Hand q) && (t == w.jobs)) + one (same_loc l (Hand q) && (t == (w.jobs + 1)))) = by (same_loc l (Hand q)) in omega (arith, a, b)
       where
         by : (z : Bool) → (if z then one (t == w.jobs) + one (t == o.job) else 0) ≡ (one (z && (t == w.jobs)) + one (z && (t == (w.jobs + 1))))
@@ -171,6 +182,11 @@ make_two w q p k C c o is ok un = record {
     fit_by t true z = refl
     fit_by t false true = refl
     fit_by t false false = (ok.fit) t
+
+    known_by : Known w → (t : ℕ) → t + 1 ≤ w.jobs + 2 → (y z : Bool) → (t == (w.jobs + 1)) ≡ y → (t == w.jobs) ≡ z → is_known ((if y then new_job q p k else (if z then new_job q p Direct else w.job t)).at) ≡ true
+    known_by f t b true z d e = refl
+    known_by f t b false true d e = refl
+    known_by f t b false false d e = f t (old_below w.jobs t e (old_below (w.jobs + 1) t d (let c : t + 1 ≤ (w.jobs + 1) + 1 = omega (arith, b) in c)))
 
     fin_by : (t : ℕ) (y z : Bool) → (t == (w.jobs + 1)) ≡ y → (t == w.jobs) ≡ z → IsFinal ((w.job t).at) ((if y then new_job q p k else (if z then new_job q p Direct else w.job t)).at)
     fin_by t true z d e = subst (λ v. IsFinal v (Made q)) (sym (un t (let f : t ≡ w.jobs + 1 = eqb-true t (w.jobs + 1) d in omega (arith, f)))) tt
@@ -200,9 +216,13 @@ step_advance w (EndPool q p) ok un = give_kept w q p ok un
 pub record JobsHold (w : World) : Type 0 where
   pub ok : JobsOk w
   pub unmade : Unmade w
+  pub known : Known w
+
+pub jobs_advance : (w u : World) → JobsHold w → Advance w u → JobsHold u
+jobs_advance w u h a = record { ok = record { placed = a.placed; fit = a.fit }; unmade = a.unmade; known = a.known (h.known) }
 
 pub step_jobs : (w : World) (e : Event) → JobsHold w → IfSome (step w e) JobsHold
-step_jobs w e h = if_some_map (Advance w) JobsHold (λ u a. record { ok = record { placed = a.placed; fit = a.fit }; unmade = a.unmade }) (step w e) (step_advance w e (h.ok) (h.unmade))
+step_jobs w e h = if_some_map (Advance w) JobsHold (λ u a. jobs_advance w u h a) (step w e) (step_advance w e (h.ok) (h.unmade))
 
 first_hand : (h : Shape) (q : Party) (t : ℕ) → (hand t (first_place h q) ≡ 0) × (run_of t (first_place h q) ≡ 0)
 first_hand h (Caller n) t = at (nat_lt n h.callers)
@@ -225,7 +245,7 @@ first_placed h (Cast p i) t = omega arith
 first_placed h (Inj p) t = omega arith
 
 pub first_jobs : (h : Shape) → JobsHold (start h)
-first_jobs h = record { ok = record { placed = first_placed h; fit = λ t. refl }; unmade = λ t b. refl }
+first_jobs h = record { ok = record { placed = first_placed h; fit = λ t. refl }; unmade = λ t b. refl; known = λ t b. absurd (omega (arith, b)) }
 
 -- from there to the law
 begun_once : (v : Whereabouts) (n : ℕ) → fits v n → n ≤ 1
@@ -237,50 +257,81 @@ begun_once (Injected p) n f = omega (arith, f)
 begun_once HandedBack n f = omega (arith, f)
 begun_once Nowhere n f = omega (arith, f)
 
-loc_if : (l m : Loc) (n : ℕ) → is_loc l (if n == 0 then Some m else None) ≤ one (same_loc l m)
+not_begun : (v : Whereabouts) (n : ℕ) → may_begin v ≡ false → fits v n → n ≡ 0
+not_begun (Over e) n z f = cc
+not_begun (Running q) n z f = cc
+not_begun (Made q) n z f = f
+not_begun (InDeque p i) n z f = f
+not_begun (Injected p) n z f = f
+not_begun HandedBack n z f = f
+not_begun Nowhere n z f = f
+
+-- a place that a record names while its job is not begun
+loc_if : (l m : Loc) (n : ℕ) → is_loc l (if n == 0 then Some m else None) ≡ one (same_loc l m && (n == 0))
 loc_if l m n = by (n == 0)
   where
-    by : (b : Bool) → is_loc l (if b then Some m else None) ≤ one (same_loc l m)
-    by true = omega arith
-    by false = omega arith
+    by : (b : Bool) → is_loc l (if b then Some m else None) ≡ one (same_loc l m && b)
+    by true = sym (ap one (and_true (same_loc l m)))
+    by false = sym (ap one (and_false (same_loc l m)))
 
-loc_if2 : (l m k : Loc) (n : ℕ) → same_loc l m ≡ false → is_loc l (if n == 0 then Some m else (if n == 1 then Some k else None)) ≤ one (same_loc l k)
-loc_if2 l m k n z = by (n == 0) (n == 1)
+-- one that it does not name
+loc_none : (l m : Loc) (n : ℕ) → same_loc l m ≡ false → is_loc l (if n == 0 then Some m else None) ≡ 0
+loc_none l m n z = loc_if l m n ∙ ap (λ b. one (b && (n == 0))) z
+
+-- the hand or the run of a party that has taken a job
+loc_run : (l m k : Loc) (n : ℕ) → is_loc l (if n == 0 then Some m else (if n == 1 then Some k else None)) ≡ (one (same_loc l m && (n == 0)) + one (same_loc l k && (n == 1)))
+loc_run l m k n = by (n == 0) (n == 1) refl refl
   where
-    by : (b d : Bool) → is_loc l (if b then Some m else (if d then Some k else None)) ≤ one (same_loc l k)
-    by true d = let a : one (same_loc l m) ≡ 0 = ap one z in omega (arith, a)
-    by false true = omega arith
-    by false false = omega arith
+    by : (b d : Bool) → (n == 0) ≡ b → (n == 1) ≡ d → is_loc l (if b then Some m else (if d then Some k else None)) ≡ (one (same_loc l m && b) + one (same_loc l k && d))
+    by true true e f = absurd (let x : n ≡ 0 = eqb-true n 0 e in let y : n ≡ 1 = eqb-true n 1 f in omega (arith, x, y))
+    by true false e f = let x : one (same_loc l m && true) ≡ one (same_loc l m) = ap one (and_true (same_loc l m)) in let y : one (same_loc l k && false) ≡ 0 = ap one (and_false (same_loc l k)) in omega (arith, x, y)
+    by false true e f = let x : one (same_loc l k && true) ≡ one (same_loc l k) = ap one (and_true (same_loc l k)) in let y : one (same_loc l m && false) ≡ 0 = ap one (and_false (same_loc l m)) in omega (arith, x, y)
+    by false false e f = let x : one (same_loc l k && false) ≡ 0 = ap one (and_false (same_loc l k)) in let y : one (same_loc l m && false) ≡ 0 = ap one (and_false (same_loc l m)) in omega (arith, x, y)
 
-deck_in : (p i : ℕ) (v : Whereabouts) (n : ℕ) → is_loc (Deck p i) (loc_of v n) ≤ one (in_deque p i v)
-deck_in p i (InDeque r j) n = loc_if (Deck p i) (Deck r j) n
-deck_in p i (Made q) n = loc_if (Deck p i) (Hand q) n
-deck_in p i (Injected r) n = loc_if (Deck p i) (Inj r) n
-deck_in p i (Running q) n = loc_if2 (Deck p i) (Hand q) (Work q) n refl
-deck_in p i _ n = omega arith
+-- what is queued was not begun
+loc_fits : (l m : Loc) (n : ℕ) → n ≡ 0 → is_loc l (if n == 0 then Some m else None) ≡ one (same_loc l m)
+loc_fits l m n e = loc_if l m n ∙ ap (λ n. one (same_loc l m && (n == 0))) e ∙ ap one (and_true (same_loc l m))
 
-inj_in : (p : ℕ) (v : Whereabouts) (n : ℕ) → is_loc (Inj p) (loc_of v n) ≤ one (in_injector p v)
-inj_in p (Injected r) n = loc_if (Inj p) (Inj r) n
-inj_in p (Made q) n = loc_if (Inj p) (Hand q) n
-inj_in p (InDeque r j) n = loc_if (Inj p) (Deck r j) n
-inj_in p (Running q) n = loc_if2 (Inj p) (Hand q) (Work q) n refl
-inj_in p _ n = omega arith
+deck_in : (p i : ℕ) (v : Whereabouts) (n : ℕ) → fits v n → is_loc (Deck p i) (loc_of v n) ≡ one (in_deque p i v)
+deck_in p i (InDeque r j) n f = loc_fits (Deck p i) (Deck r j) n f
+deck_in p i (Made q) n f = loc_none (Deck p i) (Hand q) n refl
+deck_in p i (Injected r) n f = loc_none (Deck p i) (Inj r) n refl
+deck_in p i (Running q) n f = loc_run (Deck p i) (Hand q) (Work q) n
+deck_in p i _ n f = refl
 
-work_in : (q : Party) (v : Whereabouts) (n : ℕ) → is_loc (Work q) (loc_of v n) ≤ one (runs_with q v)
-work_in q (Running r) n = loc_if2 (Work q) (Hand r) (Work r) n refl
-work_in q (Made r) n = loc_if (Work q) (Hand r) n
-work_in q (InDeque r j) n = loc_if (Work q) (Deck r j) n
-work_in q (Injected r) n = loc_if (Work q) (Inj r) n
-work_in q _ n = omega arith
+inj_in : (p : ℕ) (v : Whereabouts) (n : ℕ) → fits v n → is_loc (Inj p) (loc_of v n) ≡ one (in_injector p v)
+inj_in p (Injected r) n f = loc_fits (Inj p) (Inj r) n f
+inj_in p (Made q) n f = loc_none (Inj p) (Hand q) n refl
+inj_in p (InDeque r j) n f = loc_none (Inj p) (Deck r j) n refl
+inj_in p (Running q) n f = loc_run (Inj p) (Hand q) (Work q) n
+inj_in p _ n f = refl
+
+hand_in : (q : Party) (v : Whereabouts) (n : ℕ) → is_loc (Hand q) (loc_of v n) ≡ one (is_with q v && (n == 0))
+hand_in q (Made r) n = loc_if (Hand q) (Hand r) n
+hand_in q (Running r) n = let a : is_loc (Hand q) (loc_of (Running r) n) ≡ (one (same_party q r && (n == 0)) + one (false && (n == 1))) = loc_run (Hand q) (Hand r) (Work r) n in omega (arith, a)
+hand_in q (InDeque r j) n = loc_none (Hand q) (Deck r j) n refl
+hand_in q (Injected r) n = loc_none (Hand q) (Inj r) n refl
+hand_in q _ n = refl
+
+work_in : (q : Party) (v : Whereabouts) (n : ℕ) → is_loc (Work q) (loc_of v n) ≡ one (runs_with q v && (n == 1))
+work_in q (Running r) n = let a : is_loc (Work q) (loc_of (Running r) n) ≡ (one (false && (n == 0)) + one (same_party q r && (n == 1))) = loc_run (Work q) (Hand r) (Work r) n in omega (arith, a)
+work_in q (Made r) n = loc_none (Work q) (Hand r) n refl
+work_in q (InDeque r j) n = loc_none (Work q) (Deck r j) n refl
+work_in q (Injected r) n = loc_none (Work q) (Inj r) n refl
+work_in q _ n = refl
 
 pub once : (w : World) → JobsHold w → IsOnce w
 once w h = record {
+  known = λ t b. h.known t (omega (arith, b));
+  unknown = h.unmade;
   runs = λ t. begun_once ((w.job t).at) ((w.job t).runs) (((h.ok).fit) t);
   over = λ t e z. subst (λ v. fits v ((w.job t).runs)) z (((h.ok).fit) t);
-  deque = λ p i t. (let a : times t ((w.seat p i).own) ≤ is_loc (Deck p i) (loc_at (w.job t)) = ((h.ok).placed) (Deck p i) t in let b : is_loc (Deck p i) (loc_at (w.job t)) ≤ one (in_deque p i ((w.job t).at)) = deck_in p i ((w.job t).at) ((w.job t).runs) in omega (arith, a, b));
-  injector = λ p t. (let a : times t ((w.pool p).injector) ≤ is_loc (Inj p) (loc_at (w.job t)) = ((h.ok).placed) (Inj p) t in let b : is_loc (Inj p) (loc_at (w.job t)) ≤ one (in_injector p ((w.job t).at)) = inj_in p ((w.job t).at) ((w.job t).runs) in omega (arith, a, b));
-  cast = λ p i t. (let a : times t ((w.pool p).casts i) ≤ is_loc (Cast p i) (loc_at (w.job t)) = ((h.ok).placed) (Cast p i) t in let b : is_loc (Cast p i) (loc_at (w.job t)) ≡ 0 = no_cast p i ((w.job t).at) ((w.job t).runs) in omega (arith, a, b));
-  running = λ q t. (let a : worked t (w.stack q) ≤ is_loc (Work q) (loc_at (w.job t)) = ((h.ok).placed) (Work q) t in let b : is_loc (Work q) (loc_at (w.job t)) ≤ one (runs_with q ((w.job t).at)) = work_in q ((w.job t).at) ((w.job t).runs) in omega (arith, a, b));
+  unbegun = λ t z. not_begun ((w.job t).at) ((w.job t).runs) z (((h.ok).fit) t);
+  deque = λ p i t. ((h.ok).placed) (Deck p i) t ∙ deck_in p i ((w.job t).at) ((w.job t).runs) (((h.ok).fit) t);
+  injector = λ p t. ((h.ok).placed) (Inj p) t ∙ inj_in p ((w.job t).at) ((w.job t).runs) (((h.ok).fit) t);
+  cast = λ p i t. ((h.ok).placed) (Cast p i) t ∙ no_cast p i ((w.job t).at) ((w.job t).runs);
+  hand = λ q t. ((h.ok).placed) (Hand q) t ∙ hand_in q ((w.job t).at) ((w.job t).runs);
+  running = λ q t. ((h.ok).placed) (Work q) t ∙ work_in q ((w.job t).at) ((w.job t).runs);
 }
 
 pub always_once : (h : Shape) (es : List Event) (w : World) → IsRun (start h) es w → IsOnce w

@@ -163,7 +163,7 @@ raise_returns w q n fs z h s = returns_by w v q k (λ i. refl) (λ t c. by t c (
     same t e = after_counted q (next_of (w.shape.pool (plan_pool n)) q (RaiseCount n) Done) (put w.job (plan_job n) (record (w.job (plan_job n)) { counted = true })) t ∙ ap (λ j. j.counted) (put_old w.job (plan_job n) (record (w.job (plan_job n)) { counted = true }) t e)
 
     in_hand : all_bare (plan_job n) (w.stack q) ≤ is_loc (Hand q) (loc_at (w.job (plan_job n)))
-    in_hand = let a : all_bare (plan_job n) (w.stack q) ≤ held (plan_job n) (w.stack q) = bare_held (plan_job n) (w.stack q) in let b : held (plan_job n) (w.stack q) ≤ is_loc (Hand q) (loc_at (w.job (plan_job n))) = ((((h.shares).calls).jobs).ok).placed (Hand q) (plan_job n) in omega (arith, a, b)
+    in_hand = let a : all_bare (plan_job n) (w.stack q) ≤ held (plan_job n) (w.stack q) = bare_held (plan_job n) (w.stack q) in let b : held (plan_job n) (w.stack q) ≡ is_loc (Hand q) (loc_at (w.job (plan_job n))) = ((((h.shares).calls).jobs).ok).placed (Hand q) (plan_job n) in omega (arith, a, b)
 
     mine : loc_at (w.job (plan_job n)) ≡ Some (Hand q)
     mine = where_is (Hand q) (loc_at (w.job (plan_job n))) (let a : all_bare (plan_job n) (w.stack q) ≤ is_loc (Hand q) (loc_at (w.job (plan_job n))) = in_hand in let b : all_bare (plan_job n) (w.stack q) ≡ (hand_plan (plan_job n) n + bare_in (plan_job n) fs) = stack (plan_job n) in let c : bare_move (plan_job n) (after_raise n) + one (plan_job n == plan_job n) ≤ hand_plan (plan_job n) n = bare_raised (plan_job n) n in let d : one (plan_job n == plan_job n) ≡ 1 = self_one (plan_job n) in omega (arith, a, b, c, d))
@@ -174,7 +174,7 @@ raise_returns w q n fs z h s = returns_by w v q k (λ i. refl) (λ t c. by t c (
 
     others : (r : Party) → same_party r q ≡ false → all_bare (plan_job n) (w.stack r) ≤ 0
     others r e = let a : all_bare (plan_job n) (w.stack r) ≤ held (plan_job n) (w.stack r) = bare_held (plan_job n) (w.stack r) in
-        let b : held (plan_job n) (w.stack r) ≤ is_loc (Hand r) (loc_at (w.job (plan_job n))) = ((((h.shares).calls).jobs).ok).placed (Hand r) (plan_job n) in
+        let b : held (plan_job n) (w.stack r) ≡ is_loc (Hand r) (loc_at (w.job (plan_job n))) = ((((h.shares).calls).jobs).ok).placed (Hand r) (plan_job n) in
         let c : is_loc (Hand r) (loc_at (w.job (plan_job n))) ≡ one (same_party r q) = ap (is_loc (Hand r)) mine in
         let d : one (same_party r q) ≡ 0 = ap one e in omega (arith, a, b, c, d)
 

@@ -94,7 +94,7 @@ act_untallied h (Caller n) c m _ z = first_of (cc, search (rules, arith))
 
 -- a take is of a job that its list had
 take_left : (w : World) → IsOnce w → (p i t n : ℕ) → times t (w.seat p i).own ≡ (one (t == t) + n) → is_left (w.job t).at ≡ true
-take_left w h p i t n e = by ((w.job t).at) (let a : times t (w.seat p i).own ≤ one (in_deque p i (w.job t).at) = h.deque p i t in let b : one (t == t) ≡ 1 = ap one (eq-eqb t t refl) in omega (arith, a, b, e))
+take_left w h p i t n e = by ((w.job t).at) (let a : times t (w.seat p i).own ≡ one (in_deque p i (w.job t).at) = h.deque p i t in let b : one (t == t) ≡ 1 = ap one (eq-eqb t t refl) in omega (arith, a, b, e))
   where
     by : (v : Whereabouts) → 1 ≤ one (in_deque p i v) → is_left v ≡ true
     by (InDeque r j) z = refl
@@ -103,7 +103,7 @@ take_left w h p i t n e = by ((w.job t).at) (let a : times t (w.seat p i).own �
     by _ z = refl
 
 inject_left : (w : World) → IsOnce w → (p t n : ℕ) → times t (w.pool p).injector ≡ (one (t == t) + n) → is_left (w.job t).at ≡ true
-inject_left w h p t n e = by ((w.job t).at) (let a : times t (w.pool p).injector ≤ one (in_injector p (w.job t).at) = h.injector p t in let b : one (t == t) ≡ 1 = ap one (eq-eqb t t refl) in omega (arith, a, b, e))
+inject_left w h p t n e = by ((w.job t).at) (let a : times t (w.pool p).injector ≡ one (in_injector p (w.job t).at) = h.injector p t in let b : one (t == t) ≡ 1 = ap one (eq-eqb t t refl) in omega (arith, a, b, e))
   where
     by : (v : Whereabouts) → 1 ≤ one (in_injector p v) → is_left v ≡ true
     by (Injected r) z = refl

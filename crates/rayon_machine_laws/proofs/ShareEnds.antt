@@ -85,7 +85,7 @@ end_shares w q d (Run t k) fs z h = λ ch. still_hold w (ended_world w q d t k f
     counted s = put_same (λ j. j.counted) w.job t (at_job (w.job t) (Over d)) s refl
 
     running : (w.job t).at ≡ Running q
-    running = (at_work ((w.job t).at) ((w.job t).runs) q (where_is (Work q) (loc_at (w.job t)) (let a : worked t (w.stack q) ≤ is_loc (Work q) (loc_at (w.job t)) = (((h.calls).jobs).ok).placed (Work q) t in let b : worked t (w.stack q) ≡ (one (t == t) + runs_in t fs) = ap (worked t) z in let c : one (t == t) ≡ 1 = self_one t in omega (arith, a, b, c)))).1
+    running = (at_work ((w.job t).at) ((w.job t).runs) q (where_is (Work q) (loc_at (w.job t)) (let a : worked t (w.stack q) ≡ is_loc (Work q) (loc_at (w.job t)) = (((h.calls).jobs).ok).placed (Work q) t in let b : worked t (w.stack q) ≡ (one (t == t) + runs_in t fs) = ap (worked t) z in let c : one (t == t) ≡ 1 = self_one t in omega (arith, a, b, c)))).1
 
     mine : (s : ℕ) → shares s (put_stack w.stack q (after_close t k d fs) q) ≤ freed s t k + shares s (w.stack q)
     mine s = let a : shares s (put_stack w.stack q (after_close t k d fs) q) ≡ shares s (after_close t k d fs) = ap (shares s) (stack_mine w.stack q (after_close t k d fs)) in let b : shares s (after_close t k d fs) ≤ freed s t k + shares_in s fs = (closed_shares s t k d fs).0 in let c : shares s (w.stack q) ≡ (0 + shares_in s fs) = ap (shares s) z in omega (arith, a, b, c)
@@ -111,7 +111,7 @@ made_shares w q n C J c j new more co su wi h ch = still_hold w (calling w q n C
         let a : all_raises t (put_stack w.stack q (after_call (w.stack q) (RaiseCount n)) s) ≤ one (t == plan_job n) + all_raises t (w.stack s) = raises_called w q (RaiseCount n) t s in
         let d : one (t == plan_job n) ≤ 1 = one_most (t == plan_job n) in
         let f : all_raises t (w.stack s) ≤ held t (w.stack s) = all_held t (w.stack s) in
-        let g : held t (w.stack s) ≤ is_loc (Hand s) (loc_at (w.job t)) = (((h.calls).jobs).ok).placed (Hand s) t in
+        let g : held t (w.stack s) ≡ is_loc (Hand s) (loc_at (w.job t)) = (((h.calls).jobs).ok).placed (Hand s) t in
         let k : is_loc (Hand s) (loc_at (w.job t)) ≡ 0 = ap (λ v. is_loc (Hand s) (loc_of v ((w.job t).runs))) (((h.calls).jobs).unmade t b) in
         let l : one (w.job t).counted ≡ 0 = ap one (h.unmade t b) in omega (arith, a, d, f, g, k, l)
     raised t s false e = let a : all_raises t (put_stack w.stack q (after_call (w.stack q) (RaiseCount n)) s) ≤ one (t == plan_job n) + all_raises t (w.stack s) = raises_called w q (RaiseCount n) t s in

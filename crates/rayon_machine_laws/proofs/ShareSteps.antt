@@ -139,12 +139,12 @@ raise_hold w q n fs h z ch busy pools keeps = record {
     none_raises s true e = subst (λ s. all_raises (plan_job n) ((raised_world w q n fs).stack s) ≤ 0) (sym (same_party_true s q e)) (let a : all_raises (plan_job n) (put_stack w.stack q k q) + one (plan_job n == plan_job n) ≤ all_raises (plan_job n) (w.stack q) = raises_mine w q (RaiseCount n) fs (w.shape.pool (plan_pool n)) Done (plan_job n) z in let b : one (plan_job n == plan_job n) ≡ 1 = self_one (plan_job n) in let c : all_raises (plan_job n) (w.stack q) + one (w.job (plan_job n)).counted ≤ 1 = h.unraised q (plan_job n) in omega (arith, a, b, c))
     none_raises s false e = let a : all_raises (plan_job n) (put_stack w.stack q k s) ≤ all_raises (plan_job n) (w.stack s) = other_le (all_raises (plan_job n)) w q k s e in
         let b : all_raises (plan_job n) (w.stack s) ≤ held (plan_job n) (w.stack s) = all_held (plan_job n) (w.stack s) in
-        let c : held (plan_job n) (w.stack s) ≤ is_loc (Hand s) (loc_at (w.job (plan_job n))) = (((h.calls).jobs).ok).placed (Hand s) (plan_job n) in
+        let c : held (plan_job n) (w.stack s) ≡ is_loc (Hand s) (loc_at (w.job (plan_job n))) = (((h.calls).jobs).ok).placed (Hand s) (plan_job n) in
         let d : is_loc (Hand s) (loc_at (w.job (plan_job n))) ≡ one (same_party s q) = ap (is_loc (Hand s)) mine in
         let f : one (same_party s q) ≡ 0 = ap one e in omega (arith, a, b, c, d, f)
       where
         mine : loc_at (w.job (plan_job n)) ≡ Some (Hand q)
-        mine = where_is (Hand q) (loc_at (w.job (plan_job n))) (let a : all_raises (plan_job n) (w.stack q) ≤ held (plan_job n) (w.stack q) = all_held (plan_job n) (w.stack q) in let b : held (plan_job n) (w.stack q) ≤ is_loc (Hand q) (loc_at (w.job (plan_job n))) = (((h.calls).jobs).ok).placed (Hand q) (plan_job n) in let c : all_raises (plan_job n) (w.stack q) ≡ (one (plan_job n == plan_job n) + raises_in (plan_job n) fs) = mine_raises in let d : one (plan_job n == plan_job n) ≡ 1 = self_one (plan_job n) in omega (arith, a, b, c, d))
+        mine = where_is (Hand q) (loc_at (w.job (plan_job n))) (let a : all_raises (plan_job n) (w.stack q) ≤ held (plan_job n) (w.stack q) = all_held (plan_job n) (w.stack q) in let b : held (plan_job n) (w.stack q) ≡ is_loc (Hand q) (loc_at (w.job (plan_job n))) = (((h.calls).jobs).ok).placed (Hand q) (plan_job n) in let c : all_raises (plan_job n) (w.stack q) ≡ (one (plan_job n == plan_job n) + raises_in (plan_job n) fs) = mine_raises in let d : one (plan_job n == plan_job n) ≡ 1 = self_one (plan_job n) in omega (arith, a, b, c, d))
 
     unraised : (s : Party) (t : ℕ) (b : Bool) → (t == plan_job n) ≡ b → all_raises t ((raised_world w q n fs).stack s) + one ((raised_world w q n fs).job t).counted ≤ 1
     unraised s t true e = subst (λ t. all_raises t ((raised_world w q n fs).stack s) + one ((raised_world w q n fs).job t).counted ≤ 1) (sym (eqb-true t (plan_job n) e)) (let a : all_raises (plan_job n) ((raised_world w q n fs).stack s) ≤ 0 = none_raises s (same_party s q) refl in let b : one ((raised_world w q n fs).job (plan_job n)).counted ≤ 1 = one_most (((raised_world w q n fs).job (plan_job n)).counted) in omega (arith, a, b))

@@ -1,13 +1,17 @@
--- each job runs at most once, and stands in at most one place
-use Rattle.std.specs.Prelude.{ℕ, Bool, true, false, ◌&&◌, ◌+◌, ◌==◌, ◌≤◌, List, [], ◌∷◌, ◌≡◌}
+-- each job runs at most once, and stands exactly once where its record says
+use Rattle.std.specs.Prelude.{ℕ, Bool, true, false, ◌&&◌, ◌+◌, ◌==◌, ◌≤◌, ◌<◌, Option, Some, None, List, [], ◌∷◌, ◌≡◌}
 use Rattle.rayon_machine_places.specs.declared.place.Party.{Party}
 use Rattle.rayon_machine_places.specs.declared.place.Ending.{Ending}
+use Rattle.rayon_machine_places.specs.declared.place.Plan.{Plan}
+use Rattle.rayon_machine_places.specs.declared.place.Plan.TheVariants.{Detach, Here, Send, Fork}
+use Rattle.rayon_machine_places.specs.declared.place.Then.{Then}
+use Rattle.rayon_machine_places.specs.declared.place.Then.TheVariants.{BeginFound, RunFirst, GiveBack}
 use Rattle.rayon_machine_places.specs.declared.place.Place.{Place}
-use Rattle.rayon_machine_places.specs.declared.place.Place.TheVariants.{Run}
+use Rattle.rayon_machine_places.specs.declared.place.Place.TheVariants.{LeaveSearch, BeginTask, BeginHere, Run, RaiseCount, GrowCall, LookQueue, PushJob, TellNews, LockToWake, WakeWorker, UnlockWoken, LowerCount, SetLatch, LockToSettle, WakeSettled, UnlockSettled}
 use Rattle.rayon_machine_places.specs.declared.state.Whereabouts.{Whereabouts}
-use Rattle.rayon_machine_places.specs.declared.state.Whereabouts.TheVariants.{InDeque, Injected, Running, Over}
+use Rattle.rayon_machine_places.specs.declared.state.Whereabouts.TheVariants.{Nowhere, Made, InDeque, Injected, Running, Over}
 use Rattle.rayon_machine_places.specs.Places.{same_party}
-use Rattle.rayon_machine_places.specs.World.{World}
+use Rattle.rayon_machine_places.specs.World.{Stack, World}
 
 -- 1 where the test holds, else 0
 abbrev pub one : Bool → ℕ
@@ -34,21 +38,99 @@ abbrev pub runs_with : Party → Whereabouts → Bool
 runs_with q (Running r) = same_party q r
 runs_with q _ = false
 
+-- a job's record says that this party has it: its call has made it, or it has taken it or runs it
+abbrev pub is_with : Party → Whereabouts → Bool
+is_with q (Made r) = same_party q r
+is_with q (Running r) = same_party q r
+is_with q _ = false
+
+-- a job's record says that it is somewhere
+abbrev pub is_known : Whereabouts → Bool
+is_known Nowhere = false
+is_known _ = true
+
+-- a job's record says that it was taken to be run, or is over
+abbrev pub may_begin : Whereabouts → Bool
+may_begin (Running q) = true
+may_begin (Over e) = true
+may_begin _ = false
+
 -- how often a place is a run of this job
 abbrev pub run_of : ℕ → Place → ℕ
 run_of t (Run u k) = one (t == u)
 run_of t _ = 0
 
--- how often these places are
+-- how often these places are one
 abbrev pub runs_in : ℕ → List Place → ℕ
 runs_in t [] = 0
 runs_in t (f ∷ fs) = run_of t f + runs_in t fs
 
--- each job's run begins at most once, and a job that is over has run once; it stands in a deque, an injector or under a run at most once, and there alone where its record says: so in one place
+-- how often a whole stack runs job t
+abbrev pub worked : ℕ → Stack → ℕ
+worked t k = run_of t k.top + runs_in t k.below
+
+-- the jobs that a call has in hand before it queues one
+abbrev pub hand_plan : ℕ → Plan → ℕ
+hand_plan t (Detach p j) = one (t == j)
+hand_plan t (Here p j) = one (t == j)
+hand_plan t (Send o) = one (t == o.job)
+hand_plan t (Fork o a) = one (t == a) + one (t == o.job)
+
+-- after the push a join still has its first side in hand
+abbrev pub hand_rest : ℕ → Plan → ℕ
+hand_rest t (Fork o a) = one (t == a)
+hand_rest t _ = 0
+
+-- what follows keeps a found task, a first side, or the jobs of a refused call
+abbrev pub hand_then : ℕ → Then → ℕ
+hand_then t (BeginFound g u) = one (t == u)
+hand_then t (RunFirst o a) = one (t == a)
+hand_then t (GiveBack n) = hand_plan t n
+hand_then t _ = 0
+
+-- a task that a search has found
+abbrev pub hand_found : ℕ → Option ℕ → ℕ
+hand_found t None = 0
+hand_found t (Some u) = one (t == u)
+
+-- how often a place has job t in hand: made and not yet queued, or taken from a list, and not begun
+abbrev pub hand : ℕ → Place → ℕ
+hand t (LeaveSearch w) = hand_found t w.found
+hand t (BeginTask u) = one (t == u)
+hand t (BeginHere u) = one (t == u)
+hand t (RaiseCount n) = hand_plan t n
+hand t (GrowCall n) = hand_plan t n
+hand t (LookQueue n) = hand_plan t n
+hand t (PushJob n e) = hand_plan t n
+hand t (TellNews n e) = hand_rest t n
+hand t (LockToWake k) = hand_then t k.then
+hand t (WakeWorker k) = hand_then t k.then
+hand t (UnlockWoken k) = hand_then t k.then
+hand t (LowerCount p s n) = hand_then t n
+hand t (SetLatch s) = hand_then t s.then
+hand t (LockToSettle s) = hand_then t s.then
+hand t (WakeSettled s) = hand_then t s.then
+hand t (UnlockSettled s) = hand_then t s.then
+hand t _ = 0
+
+-- how often these places have it in hand
+abbrev pub held_in : ℕ → List Place → ℕ
+held_in t [] = 0
+held_in t (f ∷ fs) = hand t f + held_in t fs
+
+-- how often a whole stack has it in hand
+abbrev pub held : ℕ → Stack → ℕ
+held t k = hand t k.top + held_in t k.below
+
+-- each number that is given out is a job that is somewhere, and no other is. Its run begins at most once: a job that is over has run once, and one that was made, queued or handed back has not begun. A job stands in a deque, in an injector, in hand or under a run once where its record says, and nowhere else: in hand while its run has not begun, under the run from then on
 pub record IsOnce (w : World) : Type 0 where
+  pub known : (t : ℕ) → t < w.jobs → is_known (w.job t).at ≡ true
+  pub unknown : (t : ℕ) → w.jobs ≤ t → (w.job t).at ≡ Nowhere
   pub runs : (t : ℕ) → (w.job t).runs ≤ 1
   pub over : (t : ℕ) (e : Ending) → (w.job t).at ≡ Over e → (w.job t).runs ≡ 1
-  pub deque : (p i t : ℕ) → times t (w.seat p i).own ≤ one (in_deque p i (w.job t).at)
-  pub injector : (p t : ℕ) → times t (w.pool p).injector ≤ one (in_injector p (w.job t).at)
+  pub unbegun : (t : ℕ) → may_begin (w.job t).at ≡ false → (w.job t).runs ≡ 0
+  pub deque : (p i t : ℕ) → times t (w.seat p i).own ≡ one (in_deque p i (w.job t).at)
+  pub injector : (p t : ℕ) → times t (w.pool p).injector ≡ one (in_injector p (w.job t).at)
   pub cast : (p i t : ℕ) → times t ((w.pool p).casts i) ≡ 0
-  pub running : (q : Party) (t : ℕ) → run_of t (w.stack q).top + runs_in t (w.stack q).below ≤ one (runs_with q (w.job t).at)
+  pub hand : (q : Party) (t : ℕ) → held t (w.stack q) ≡ one (is_with q (w.job t).at && ((w.job t).runs == 0))
+  pub running : (q : Party) (t : ℕ) → worked t (w.stack q) ≡ one (runs_with q (w.job t).at && ((w.job t).runs == 1))

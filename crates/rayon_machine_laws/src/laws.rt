@@ -6,8 +6,10 @@ ghost use Rattle.rayon_machine_laws.specs.Latch.{IsLatched};
 ghost use Rattle.rayon_machine_laws.specs.Once.{IsOnce};
 ghost use Rattle.rayon_machine_laws.specs.Shares.{NoEarlyEnd};
 
-/// In every world of every run each job's run has begun at most once, and a job that is over has run once. A job stands
-/// in a deque, an injector or under a run at most once, and only where its record says, so in one of them alone.
+/// In every world of every run each number that was given out is a job, and its record says where it is. Its run has begun
+/// at most once: a job that is over has run once, and one that was made, queued or handed back has not begun. A job stands
+/// exactly once where its record says, and nowhere else: in that worker's deque, in that pool's injector, or with that
+/// party, in its hand until its run begins and under its run from then on. So no job is lost and none is doubled.
 /// It does not say that a job ever runs.
 pub fn law_once()
     ensures { Always IsOnce }

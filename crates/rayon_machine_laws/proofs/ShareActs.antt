@@ -50,7 +50,7 @@ pub record SharesHold (w : World) : Type 0 where
   pub values : (p : ℕ) → Tokens (λ q. all_values p (w.stack q)) (one (w.pool p).held) (one (w.pool p).counted)
   pub unraised : (q : Party) (t : ℕ) → all_raises t (w.stack q) + one (w.job t).counted ≤ 1
   pub unmade : (t : ℕ) → w.jobs ≤ t → (w.job t).counted ≡ false
-  pub sums : (p : ℕ) → sum_below w.jobs (λ t. tally p (w.job t)) + one (w.pool p).counted ≤ (w.pool p).count
+  pub sums : (p : ℕ) → sum_below w.jobs (λ t. tally p (w.job t)) + one (w.pool p).counted ≡ (w.pool p).count
 
 pub one_most : (b : Bool) → one b ≤ 1
 one_most true = omega arith

@@ -100,7 +100,7 @@ end_shares w q d (Run t k) fs z h = λ ch. still_hold w (ended_world w q d t k f
 end_shares w q d _ fs z h = tt
 
 -- a call begins: its jobs are new, and have no share yet
-made_shares : (w : World) (q : Party) (n : Plan) (C : ℕ → Call) (J : ℕ → Job) (c j : ℕ) → w.jobs ≤ plan_job n → w.jobs ≤ j → ((t : ℕ) → (J t).counted ≡ (w.job t).counted) → ((p : ℕ) → sum_below j (λ t. tally p (J t)) ≤ sum_below w.jobs (λ t. tally p (w.job t))) → ((t : ℕ) → with_job (J t) ≤ with_job (w.job t)) → SharesHold w → CallsHold (calling w q n C J c j) → SharesHold (calling w q n C J c j)
+made_shares : (w : World) (q : Party) (n : Plan) (C : ℕ → Call) (J : ℕ → Job) (c j : ℕ) → w.jobs ≤ plan_job n → w.jobs ≤ j → ((t : ℕ) → (J t).counted ≡ (w.job t).counted) → ((p : ℕ) → sum_below j (λ t. tally p (J t)) ≡ sum_below w.jobs (λ t. tally p (w.job t))) → ((t : ℕ) → with_job (J t) ≤ with_job (w.job t)) → SharesHold w → CallsHold (calling w q n C J c j) → SharesHold (calling w q n C J c j)
 made_shares w q n C J c j new more co su wi h ch = still_hold w (calling w q n C J c j) q (after_call (w.stack q) (RaiseCount n)) ch (λ s. refl) more co (λ p. refl) su (λ p. refl)
     (λ t. (let a : shares t (put_stack w.stack q (after_call (w.stack q) (RaiseCount n)) q) ≡ (0 + shares t (w.stack q)) = above (share t) (shares_in t) (shares t) w q (RaiseCount n) (λ k. refl) (λ y ys. refl) in let b : with_job (J t) ≤ with_job (w.job t) = wi t in omega (arith, a, b)))
     (λ p. (let a : all_values p (put_stack w.stack q (after_call (w.stack q) (RaiseCount n)) q) ≡ (0 + all_values p (w.stack q)) = above (values p) (values_in p) (all_values p) w q (RaiseCount n) (λ k. refl) (λ y ys. refl) in omega (arith, a)))
@@ -120,7 +120,7 @@ made_shares w q n C J c j new more co su wi h ch = still_hold w (calling w q n C
 new_with : (q : Party) (p : ℕ) (k : JobKind) (n : ℕ) → with_job (new_job q p k) ≤ n
 new_with q p k n = let a : with_job (new_job q p k) ≡ 0 = and_none (is_detached k) in omega (arith, a)
 
-one_made : (w : World) (q : Party) (p : ℕ) (k : JobKind) → SharesHold w → ((t : ℕ) → (put w.job w.jobs (new_job q p k) t).counted ≡ (w.job t).counted) × ((t : ℕ) → with_job (put w.job w.jobs (new_job q p k) t) ≤ with_job (w.job t)) × ((r : ℕ) → sum_below (w.jobs + 1) (λ t. tally r (put w.job w.jobs (new_job q p k) t)) ≤ sum_below w.jobs (λ t. tally r (w.job t)))
+one_made : (w : World) (q : Party) (p : ℕ) (k : JobKind) → SharesHold w → ((t : ℕ) → (put w.job w.jobs (new_job q p k) t).counted ≡ (w.job t).counted) × ((t : ℕ) → with_job (put w.job w.jobs (new_job q p k) t) ≤ with_job (w.job t)) × ((r : ℕ) → sum_below (w.jobs + 1) (λ t. tally r (put w.job w.jobs (new_job q p k) t)) ≡ sum_below w.jobs (λ t. tally r (w.job t)))
 one_made w q p k h = (
   λ t. put_same (λ j. j.counted) w.job w.jobs (new_job q p k) t (sym (h.unmade w.jobs (omega arith))),
   λ t. with_it t (t == w.jobs),
@@ -156,7 +156,7 @@ join_shares w (Worker p i) h = if_cond (λ u. CallsHold u → SharesHold u) (is_
     J2 : ℕ → Job
     J2 = put (put w.job w.jobs (new_job (Worker p i) p Direct)) (w.jobs + 1) (new_job (Worker p i) p (Stored w.calls (Worker p i)))
 
-    m : ((t : ℕ) → (J1 t).counted ≡ (w.job t).counted) × ((t : ℕ) → with_job (J1 t) ≤ with_job (w.job t)) × ((r : ℕ) → sum_below (w.jobs + 1) (λ t. tally r (J1 t)) ≤ sum_below w.jobs (λ t. tally r (w.job t)))
+    m : ((t : ℕ) → (J1 t).counted ≡ (w.job t).counted) × ((t : ℕ) → with_job (J1 t) ≤ with_job (w.job t)) × ((r : ℕ) → sum_below (w.jobs + 1) (λ t. tally r (J1 t)) ≡ sum_below w.jobs (λ t. tally r (w.job t)))
     m = one_made w (Worker p i) p Direct h
 
     counted : (t : ℕ) → (J2 t).counted ≡ (w.job t).counted
@@ -169,10 +169,10 @@ join_shares w (Worker p i) h = if_cond (λ u. CallsHold u → SharesHold u) (is_
         by true = new_with (Worker p i) p (Stored w.calls (Worker p i)) (with_job (w.job t))
         by false = m.1 t
 
-    sums : (r : ℕ) → sum_below (w.jobs + 2) (λ t. tally r (J2 t)) ≤ sum_below w.jobs (λ t. tally r (w.job t))
+    sums : (r : ℕ) → sum_below (w.jobs + 2) (λ t. tally r (J2 t)) ≡ sum_below w.jobs (λ t. tally r (w.job t))
     sums r = let a : sum_below ((w.jobs + 1) + 1) (λ t. tally r (J2 t)) ≡ sum_below (w.jobs + 1) (λ t. tally r (J2 t)) = sum_more (w.jobs + 1) (λ t. tally r (J2 t)) (ap (λ j. tally r j) (put_new J1 (w.jobs + 1) (new_job (Worker p i) p (Stored w.calls (Worker p i))))) in
         let b : sum_below (w.jobs + 1) (λ t. tally r (J2 t)) ≡ sum_below (w.jobs + 1) (λ t. tally r (J1 t)) = sum_same (w.jobs + 1) (λ t. tally r (J2 t)) (λ t. tally r (J1 t)) (λ t z. ap (λ j. tally r j) (put_old J1 (w.jobs + 1) (new_job (Worker p i) p (Stored w.calls (Worker p i))) t (below_new t (w.jobs + 1) z))) in
-        let c : sum_below (w.jobs + 1) (λ t. tally r (J1 t)) ≤ sum_below w.jobs (λ t. tally r (w.job t)) = m.2 r in
+        let c : sum_below (w.jobs + 1) (λ t. tally r (J1 t)) ≡ sum_below w.jobs (λ t. tally r (w.job t)) = m.2 r in
         let d : sum_below (w.jobs + 2) (λ t. tally r (J2 t)) ≡ sum_below ((w.jobs + 1) + 1) (λ t. tally r (J2 t)) = ap (λ n. sum_below n (λ t. tally r (J2 t))) (let g : w.jobs + 2 ≡ (w.jobs + 1) + 1 = omega arith in g) in omega (arith, a, b, c, d)
 
 -- each step keeps the shares
@@ -226,13 +226,13 @@ gone w p h z = record {
 }
   where
     value : one (w.pool p).counted ≤ 0
-    value = let a : sum_below w.jobs (λ t. tally p (w.job t)) + one (w.pool p).counted ≤ (w.pool p).count = h.sums p in omega (arith, a, z)
+    value = let a : sum_below w.jobs (λ t. tally p (w.job t)) + one (w.pool p).counted ≡ (w.pool p).count = h.sums p in omega (arith, a, z)
 
     job : (t : ℕ) → (w.job t).pool ≡ p → (w.job t).counted ≡ false
     job t e = elim (either (ltb t w.jobs)) [ inl y ↦ (let b : t < w.jobs = ltb-true t w.jobs y in below (let c : t + 1 ≤ w.jobs = omega (arith, b) in c)) | inr y ↦ h.unmade t (ltb-false t w.jobs y) ]
       where
         below : t + 1 ≤ w.jobs → (w.job t).counted ≡ false
-        below b = one_not ((w.job t).counted) (let a : sum_below w.jobs (λ t. tally p (w.job t)) + one (w.pool p).counted ≤ (w.pool p).count = h.sums p in
+        below b = one_not ((w.job t).counted) (let a : sum_below w.jobs (λ t. tally p (w.job t)) + one (w.pool p).counted ≡ (w.pool p).count = h.sums p in
             let c : tally p (w.job t) ≤ sum_below w.jobs (λ t. tally p (w.job t)) = sum_least w.jobs (λ t. tally p (w.job t)) t b in
             let d : tally p (w.job t) ≡ one (w.job t).counted = ap (λ x. one ((w.job t).counted && x)) (ap (λ m. p == m) e ∙ eq-eqb p p refl) ∙ ap one (and_all ((w.job t).counted)) in omega (arith, a, c, d, z))
           where

@@ -76,17 +76,18 @@ lower_job w q p0 u n fs e h z ch busy pools keeps = record {
         (tokens_keep (λ s. shares t (w.stack s)) (λ s. shares t (v.stack s)) (with_job (w.job t)) (with_job (v.job t)) (one (w.job t).counted) q (one_most ((w.job t).counted)) (λ s d. other_le (shares t) w q k s d)
         (let a : shares t (put_stack w.stack q k q) + one (t == u) ≤ shares t (w.stack q) = line t in let b : with_job (v.job t) ≤ with_job (w.job t) = busy t in omega (arith, a, b)) (h.jobs t))
 
-    sums : (p : ℕ) (b : Bool) → (p == p0) ≡ b → sum_below w.jobs (λ t. tally p (v.job t)) + one (if b then record (w.pool p0) { count = (w.pool p0).count - 1 } else w.pool p).counted ≤ (if b then record (w.pool p0) { count = (w.pool p0).count - 1 } else w.pool p).count
+    sums : (p : ℕ) (b : Bool) → (p == p0) ≡ b → sum_below w.jobs (λ t. tally p (v.job t)) + one (if b then record (w.pool p0) { count = (w.pool p0).count - 1 } else w.pool p).counted ≡ (if b then record (w.pool p0) { count = (w.pool p0).count - 1 } else w.pool p).count
     sums p true y = let i : p ≡ p0 = eqb-true p p0 y in
-        let a : sum_below w.jobs (λ t. tally p (w.job t)) + one (w.pool p).counted ≤ (w.pool p).count = h.sums p in
+        let a : sum_below w.jobs (λ t. tally p (w.job t)) + one (w.pool p).counted ≡ (w.pool p).count = h.sums p in
         let b : (sum_below w.jobs (λ t. tally p (v.job t)) + tally p (w.job u)) ≡ (sum_below w.jobs (λ t. tally p (w.job t)) + tally p (v.job u)) = sum_change w.jobs (λ t. tally p (w.job t)) (λ t. tally p (v.job t)) u (said.0) (λ t d. sym (tally_same p (v.job t) (w.job t) (same t d) (pools t))) in
         let c : tally p (v.job u) ≡ 0 = ap (λ c. one (c && (p == (v.job u).pool))) now in
         let d : tally p (w.job u) ≡ 1 = ap (λ c. one (c && (p == (w.job u).pool))) had ∙ ap (λ m. one (p == m)) (said.1) ∙ ap one y in
         let f : one (w.pool p0).counted ≡ one (w.pool p).counted = ap (λ m. one (w.pool m).counted) (sym i) in
         let g : (w.pool p0).count ≡ (w.pool p).count = ap (λ m. (w.pool m).count) (sym i) in omega (arith, a, b, c, d, f, g)
-    sums p false y = let a : sum_below w.jobs (λ t. tally p (w.job t)) + one (w.pool p).counted ≤ (w.pool p).count = h.sums p in
+    sums p false y = let a : sum_below w.jobs (λ t. tally p (w.job t)) + one (w.pool p).counted ≡ (w.pool p).count = h.sums p in
         let b : (sum_below w.jobs (λ t. tally p (v.job t)) + tally p (w.job u)) ≡ (sum_below w.jobs (λ t. tally p (w.job t)) + tally p (v.job u)) = sum_change w.jobs (λ t. tally p (w.job t)) (λ t. tally p (v.job t)) u (said.0) (λ t d. sym (tally_same p (v.job t) (w.job t) (same t d) (pools t))) in
-        let c : tally p (v.job u) ≡ 0 = ap (λ c. one (c && (p == (v.job u).pool))) now in omega (arith, a, b, c)
+        let c : tally p (v.job u) ≡ 0 = ap (λ c. one (c && (p == (v.job u).pool))) now in
+        let d : tally p (w.job u) ≡ 0 = ap (λ c. one (c && (p == (w.job u).pool))) had ∙ ap (λ m. one (p == m)) (said.1) ∙ ap one y in omega (arith, a, b, c, d)
 
 -- the share of a pool's value
 pub lower_value : (w : World) (q : Party) (p0 : ℕ) (n : Then) (fs : List Place) (e : Seen) → SharesHold w → w.stack q ≡ record { top = LowerCount p0 PoolValue n; below = fs } → CallsHold (lowered_world w q p0 PoolValue n fs e) → ((t : ℕ) → with_job ((lowered_world w q p0 PoolValue n fs e).job t) ≤ with_job (w.job t)) → ((t : ℕ) → ((lowered_world w q p0 PoolValue n fs e).job t).pool ≡ (w.job t).pool) → ((p : ℕ) → ((lowered_world w q p0 PoolValue n fs e).pool p).held ≡ (w.pool p).held) → SharesHold (lowered_world w q p0 PoolValue n fs e)
@@ -126,11 +127,11 @@ lower_value w q p0 n fs e h z ch busy pools keeps = record {
     values p false y = tokens_keep (λ s. all_values p (w.stack s)) (λ s. all_values p (v.stack s)) (one (w.pool p).held) (one (w.pool p).held) (one (w.pool p).counted) q (one_most ((w.pool p).counted)) (λ s d. other_le (all_values p) w q k s d)
         (let a : all_values p (put_stack w.stack q k q) + one (p == p0) ≤ all_values p (w.stack q) = line p in omega (arith, a)) (h.values p)
 
-    sums : (p : ℕ) (b : Bool) → (p == p0) ≡ b → sum_below w.jobs (λ t. tally p (v.job t)) + one (if b then gone else w.pool p).counted ≤ (if b then gone else w.pool p).count
+    sums : (p : ℕ) (b : Bool) → (p == p0) ≡ b → sum_below w.jobs (λ t. tally p (v.job t)) + one (if b then gone else w.pool p).counted ≡ (if b then gone else w.pool p).count
     sums p true y = let i : p ≡ p0 = eqb-true p p0 y in
-        let a : sum_below w.jobs (λ t. tally p (w.job t)) + one (w.pool p).counted ≤ (w.pool p).count = h.sums p in
+        let a : sum_below w.jobs (λ t. tally p (w.job t)) + one (w.pool p).counted ≡ (w.pool p).count = h.sums p in
         let b : sum_below w.jobs (λ t. tally p (v.job t)) ≡ sum_below w.jobs (λ t. tally p (w.job t)) = sum_same w.jobs (λ t. tally p (v.job t)) (λ t. tally p (w.job t)) (λ t d. tally_same p (v.job t) (w.job t) (same t) (pools t)) in
         let c : one (w.pool p).counted ≡ 1 = ap (λ m. one (w.pool m).counted) i ∙ ap one had in
         let g : (w.pool p0).count ≡ (w.pool p).count = ap (λ m. (w.pool m).count) (sym i) in omega (arith, a, b, c, g)
-    sums p false y = let a : sum_below w.jobs (λ t. tally p (w.job t)) + one (w.pool p).counted ≤ (w.pool p).count = h.sums p in
+    sums p false y = let a : sum_below w.jobs (λ t. tally p (w.job t)) + one (w.pool p).counted ≡ (w.pool p).count = h.sums p in
         let b : sum_below w.jobs (λ t. tally p (v.job t)) ≡ sum_below w.jobs (λ t. tally p (w.job t)) = sum_same w.jobs (λ t. tally p (v.job t)) (λ t. tally p (w.job t)) (λ t d. tally_same p (v.job t) (w.job t) (same t) (pools t)) in omega (arith, a, b)

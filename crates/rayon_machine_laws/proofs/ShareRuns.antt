@@ -133,7 +133,7 @@ raises_all w q x fs g e t z r = by (same_party r q) refl
     by false y = other_le (all_raises t) w q (after_move (next_of g q x e) fs) r y
 
 -- where no share is taken or given back
-pub still_hold : (w u : World) (q : Party) (k : Stack) → CallsHold u → ((r : Party) → u.stack r ≡ put_stack w.stack q k r) → w.jobs ≤ u.jobs → ((t : ℕ) → (u.job t).counted ≡ (w.job t).counted) → ((p : ℕ) → (u.pool p).counted ≡ (w.pool p).counted) → ((p : ℕ) → sum_below u.jobs (λ t. tally p (u.job t)) ≤ sum_below w.jobs (λ t. tally p (w.job t))) → ((p : ℕ) → (u.pool p).count ≡ (w.pool p).count) → ((t : ℕ) → shares t (put_stack w.stack q k q) + with_job (u.job t) ≤ shares t (w.stack q) + with_job (w.job t)) → ((p : ℕ) → all_values p (put_stack w.stack q k q) + one (u.pool p).held ≤ all_values p (w.stack q) + one (w.pool p).held) → ((t : ℕ) (r : Party) → all_raises t (put_stack w.stack q k r) + one (w.job t).counted ≤ 1) → SharesHold w → SharesHold u
+pub still_hold : (w u : World) (q : Party) (k : Stack) → CallsHold u → ((r : Party) → u.stack r ≡ put_stack w.stack q k r) → w.jobs ≤ u.jobs → ((t : ℕ) → (u.job t).counted ≡ (w.job t).counted) → ((p : ℕ) → (u.pool p).counted ≡ (w.pool p).counted) → ((p : ℕ) → sum_below u.jobs (λ t. tally p (u.job t)) ≡ sum_below w.jobs (λ t. tally p (w.job t))) → ((p : ℕ) → (u.pool p).count ≡ (w.pool p).count) → ((t : ℕ) → shares t (put_stack w.stack q k q) + with_job (u.job t) ≤ shares t (w.stack q) + with_job (w.job t)) → ((p : ℕ) → all_values p (put_stack w.stack q k q) + one (u.pool p).held ≤ all_values p (w.stack q) + one (w.pool p).held) → ((t : ℕ) (r : Party) → all_raises t (put_stack w.stack q k r) + one (w.job t).counted ≤ 1) → SharesHold w → SharesHold u
 still_hold w u q k ch st jo co pc su pn sh va ra h = record {
   calls = ch;
   jobs = λ t. subst (λ c. Tokens (λ r. shares t (u.stack r)) (with_job (u.job t)) (one c)) (sym (co t))
@@ -148,5 +148,5 @@ still_hold w u q k ch st jo co pc su pn sh va ra h = record {
       (h.values p));
   unraised = λ r t. (let a : all_raises t (u.stack r) ≡ all_raises t (put_stack w.stack q k r) = ap (all_raises t) (st r) in let b : all_raises t (put_stack w.stack q k r) + one (w.job t).counted ≤ 1 = ra t r in let c : one (u.job t).counted ≡ one (w.job t).counted = ap one (co t) in omega (arith, a, b, c));
   unmade = λ t b. co t ∙ h.unmade t (omega (arith, b, jo));
-  sums = λ p. (let a : sum_below w.jobs (λ t. tally p (w.job t)) + one (w.pool p).counted ≤ (w.pool p).count = h.sums p in let b : sum_below u.jobs (λ t. tally p (u.job t)) ≤ sum_below w.jobs (λ t. tally p (w.job t)) = su p in let c : one (u.pool p).counted ≡ one (w.pool p).counted = ap one (pc p) in let d : (u.pool p).count ≡ (w.pool p).count = pn p in omega (arith, a, b, c, d));
+  sums = λ p. (let a : sum_below w.jobs (λ t. tally p (w.job t)) + one (w.pool p).counted ≡ (w.pool p).count = h.sums p in let b : sum_below u.jobs (λ t. tally p (u.job t)) ≡ sum_below w.jobs (λ t. tally p (w.job t)) = su p in let c : one (u.pool p).counted ≡ one (w.pool p).counted = ap one (pc p) in let d : (u.pool p).count ≡ (w.pool p).count = pn p in omega (arith, a, b, c, d));
 }

@@ -160,15 +160,17 @@ raise_hold w q n fs h z ch busy pools keeps = record {
     new_tally : (p : ℕ) → tally p ((raised_world w q n fs).job (plan_job n)) ≡ one (p == plan_pool n)
     new_tally p = ap (λ c. one (c && (p == ((raised_world w q n fs).job (plan_job n)).pool))) now ∙ ap (λ m. one (p == m)) (pools (plan_job n) ∙ said.1)
 
-    sums : (p : ℕ) (b : Bool) → (p == plan_pool n) ≡ b → sum_below w.jobs (λ t. tally p ((raised_world w q n fs).job t)) + one (if b then record (w.pool (plan_pool n)) { count = (w.pool (plan_pool n)).count + 1 } else w.pool p).counted ≤ (if b then record (w.pool (plan_pool n)) { count = (w.pool (plan_pool n)).count + 1 } else w.pool p).count
+    sums : (p : ℕ) (b : Bool) → (p == plan_pool n) ≡ b → sum_below w.jobs (λ t. tally p ((raised_world w q n fs).job t)) + one (if b then record (w.pool (plan_pool n)) { count = (w.pool (plan_pool n)).count + 1 } else w.pool p).counted ≡ (if b then record (w.pool (plan_pool n)) { count = (w.pool (plan_pool n)).count + 1 } else w.pool p).count
     sums p true e = let i : p ≡ plan_pool n = eqb-true p (plan_pool n) e in
-        let a : sum_below w.jobs (λ t. tally p (w.job t)) + one (w.pool p).counted ≤ (w.pool p).count = h.sums p in
+        let a : sum_below w.jobs (λ t. tally p (w.job t)) + one (w.pool p).counted ≡ (w.pool p).count = h.sums p in
         let b : (sum_below w.jobs (λ t. tally p ((raised_world w q n fs).job t)) + tally p (w.job (plan_job n))) ≡ (sum_below w.jobs (λ t. tally p (w.job t)) + tally p ((raised_world w q n fs).job (plan_job n))) = change p in
         let c : tally p ((raised_world w q n fs).job (plan_job n)) ≡ one (p == plan_pool n) = new_tally p in
-        let d : one (p == plan_pool n) ≤ 1 = one_most (p == plan_pool n) in
+        let d : one (p == plan_pool n) ≡ 1 = ap one e in
         let f : one (w.pool (plan_pool n)).counted ≡ one (w.pool p).counted = ap (λ m. one (w.pool m).counted) (sym i) in
-        let g : (w.pool (plan_pool n)).count ≡ (w.pool p).count = ap (λ m. (w.pool m).count) (sym i) in omega (arith, a, b, c, d, f, g)
-    sums p false e = let a : sum_below w.jobs (λ t. tally p (w.job t)) + one (w.pool p).counted ≤ (w.pool p).count = h.sums p in
+        let g : (w.pool (plan_pool n)).count ≡ (w.pool p).count = ap (λ m. (w.pool m).count) (sym i) in
+        let old : tally p (w.job (plan_job n)) ≡ 0 = ap (λ c. one (c && (p == (w.job (plan_job n)).pool))) before in omega (arith, a, b, c, d, f, g, old)
+    sums p false e = let a : sum_below w.jobs (λ t. tally p (w.job t)) + one (w.pool p).counted ≡ (w.pool p).count = h.sums p in
         let b : (sum_below w.jobs (λ t. tally p ((raised_world w q n fs).job t)) + tally p (w.job (plan_job n))) ≡ (sum_below w.jobs (λ t. tally p (w.job t)) + tally p ((raised_world w q n fs).job (plan_job n))) = change p in
         let c : tally p ((raised_world w q n fs).job (plan_job n)) ≡ one (p == plan_pool n) = new_tally p in
-        let d : one (p == plan_pool n) ≡ 0 = ap one e in omega (arith, a, b, c, d)
+        let d : one (p == plan_pool n) ≡ 0 = ap one e in
+        let old : tally p (w.job (plan_job n)) ≡ 0 = ap (λ c. one (c && (p == (w.job (plan_job n)).pool))) before in omega (arith, a, b, c, d, old)

@@ -1,6 +1,6 @@
 -- how each move changes the shares that a stack keeps, and that no move leads to a raise or to the giving up of a value
 use Rattle.std.proofs.Common.{arith, refl}
-use Rattle.std.specs.Prelude.{ℕ, Bool, true, false, ◌&&◌, ◌+◌, ◌-◌, ◌==◌, ◌≤◌, nat_lt, if◌then◌else◌, Option, Some, None, List, [], ◌∷◌, ◌≡◌}
+use Rattle.std.specs.Prelude.{ℕ, Bool, true, false, ◌&&◌, ◌+◌, ◌-◌, ◌==◌, nat_lt, if◌then◌else◌, Option, Some, None, List, [], ◌∷◌, ◌≡◌}
 use Rattle.rayon_machine_places.specs.declared.place.Party.{Party}
 use Rattle.rayon_machine_places.specs.declared.place.Party.TheVariants.{Worker, Caller}
 use Rattle.rayon_machine_places.specs.declared.place.Target.{Target}
@@ -83,9 +83,10 @@ abbrev pub gained : ℕ → Place → Seen → ℕ
 gained t (RaiseCount n) Done = one (t == plan_job n)
 gained t _ _ = 0
 
--- the share that goes with a detached job that is pushed
+-- the share that goes with a job that is pushed and that no call waits for: a detached one, since an install that is run at once pushes none
 abbrev pub pushed : ℕ → Place → Seen → ℕ
 pushed t (PushJob (Detach r j) v) Done = one (t == j)
+pushed t (PushJob (Here r j) v) Done = one (t == j)
 pushed t _ _ = 0
 
 -- the share that is given back
@@ -95,7 +96,7 @@ paid t _ = 0
 
 -- what a move leads to
 abbrev pub Amount : ℕ → ℕ → Move → ℕ → Type 0
-Amount t p g n = (share_move t g ≤ n) × (begins_move t p g ≡ 0)
+Amount t p g n = (share_move t g ≡ n) × (begins_move t p g ≡ 0)
 
 am_left : (t p : ℕ) (g : Target) → Amount t p (Stay (after_wait g)) (share_target t g)
 am_left t p Termination = (omega arith, refl)
@@ -163,13 +164,13 @@ am_raised t p (Here r u) = (omega arith, refl)
 am_raised t p (Send o) = (omega arith, refl)
 am_raised t p (Fork o a) = (omega arith, refl)
 
-am_goes : (t : ℕ) (n : Plan) → share_then t (after_news n) ≤ share_rest t n
+am_goes : (t : ℕ) (n : Plan) → share_then t (after_news n) ≡ share_rest t n
 am_goes t (Detach r u) = omega arith
 am_goes t (Here r u) = omega arith
 am_goes t (Send o) = omega arith
 am_goes t (Fork o a) = omega arith
 
-am_after : (t : ℕ) (g : Target) (o : Option ℕ) → share_then t (after_found g o) ≤ share_target t g
+am_after : (t : ℕ) (g : Target) (o : Option ℕ) → share_then t (after_found g o) ≡ share_target t g
 am_after t g None = omega arith
 am_after t g (Some u) = omega arith
 
@@ -184,7 +185,7 @@ am_set : (t p : ℕ) (c : ℕ) (o : Party) → Amount t p (Stay (set_call c o)) 
 am_set t p c (Worker a b) = (omega arith, refl)
 am_set t p c (Caller n) = (omega arith, refl)
 
-am_push : (t : ℕ) (n : Plan) (v : Bool) → share t (TellNews n v) + pushed t (PushJob n v) Done ≤ one (t == plan_job n)
+am_push : (t : ℕ) (n : Plan) (v : Bool) → share t (TellNews n v) + pushed t (PushJob n v) Done ≡ one (t == plan_job n)
 am_push t (Detach r u) v = omega arith
 am_push t (Here r u) v = omega arith
 am_push t (Send o) v = omega arith
@@ -208,8 +209,8 @@ not_pushed t (Send o) v _ z = refl
 not_pushed t (Fork o a) v _ z = refl
 
 -- over the whole table: what a stack keeps after a move is what it kept, with what was raised, less what went with a job or was given back
-pub amounts : (g : PoolShape) (q : Party) (t p : ℕ) (x : Place) (e : Seen) → (share_move t (next_of g q x e) + (pushed t x e + paid t x) ≤ share t x + gained t x e) × (begins_move t p (next_of g q x e) ≡ 0)
-amounts g q t p (ProbeWorking k) Yes = (let a : Amount t p (Stay (after_wait k.target)) (share_target t k.target) = am_left t p k.target in let b : share_move t (Stay (after_wait k.target)) ≤ share_target t k.target = a.0 in omega (arith, b), (let a : Amount t p (Stay (after_wait k.target)) (share_target t k.target) = am_left t p k.target in a.1))
+pub amounts : (g : PoolShape) (q : Party) (t p : ℕ) (x : Place) (e : Seen) → (share_move t (next_of g q x e) + (pushed t x e + paid t x) ≡ share t x + gained t x e) × (begins_move t p (next_of g q x e) ≡ 0)
+amounts g q t p (ProbeWorking k) Yes = (let a : Amount t p (Stay (after_wait k.target)) (share_target t k.target) = am_left t p k.target in let b : share_move t (Stay (after_wait k.target)) ≡ share_target t k.target = a.0 in omega (arith, b), (let a : Amount t p (Stay (after_wait k.target)) (share_target t k.target) = am_left t p k.target in a.1))
 amounts g q t p (ProbeWorking k) _ = (omega arith, refl)
 amounts g q t p (PopWorking k) (Task u) = (omega arith, refl)
 amounts g q t p (PopWorking k) _ = (omega arith, refl)
@@ -220,13 +221,13 @@ amounts g q t p (ProbeIdle k) _ = (omega arith, refl)
 amounts g q t p (PopIdle k) (Task u) = (omega arith, refl)
 amounts g q t p (PopIdle k) _ = (omega arith, refl)
 amounts g q t p (TakeCastIdle k) (Task u) = (omega arith, refl)
-amounts g q t p (TakeCastIdle k) _ = (let a : Amount t p (if g.workers == 1 then Stay (PopInjected k) else Stay (PickVictim k)) (share_target t k.target) = am_if t p (share_target t k.target) (PopInjected k) (PickVictim k) (g.workers == 1) (omega arith, refl) (omega arith, refl) in let b : share_move t (if g.workers == 1 then Stay (PopInjected k) else Stay (PickVictim k)) ≤ share_target t k.target = a.0 in omega (arith, b), (let a : Amount t p (if g.workers == 1 then Stay (PopInjected k) else Stay (PickVictim k)) (share_target t k.target) = am_if t p (share_target t k.target) (PopInjected k) (PickVictim k) (g.workers == 1) (omega arith, refl) (omega arith, refl) in a.1))
+amounts g q t p (TakeCastIdle k) _ = (let a : Amount t p (if g.workers == 1 then Stay (PopInjected k) else Stay (PickVictim k)) (share_target t k.target) = am_if t p (share_target t k.target) (PopInjected k) (PickVictim k) (g.workers == 1) (omega arith, refl) (omega arith, refl) in let b : share_move t (if g.workers == 1 then Stay (PopInjected k) else Stay (PickVictim k)) ≡ share_target t k.target = a.0 in omega (arith, b), (let a : Amount t p (if g.workers == 1 then Stay (PopInjected k) else Stay (PickVictim k)) (share_target t k.target) = am_if t p (share_target t k.target) (PopInjected k) (PickVictim k) (g.workers == 1) (omega arith, refl) (omega arith, refl) in a.1))
 amounts g q t p (PickVictim k) (Start v) = (omega arith, refl)
 amounts g q t p (PickVictim k) _ = (omega arith, refl)
 amounts g q t p (StealFrom k n) (Task u) = (omega arith, refl)
-amounts g q t p (StealFrom k n) _ = (let a : Amount t p (Stay (next_steal g q k n)) (share_target t k.target) = am_steal t p g q k n in let b : share_move t (Stay (next_steal g q k n)) ≤ share_target t k.target = a.0 in omega (arith, b), (let a : Amount t p (Stay (next_steal g q k n)) (share_target t k.target) = am_steal t p g q k n in a.1))
+amounts g q t p (StealFrom k n) _ = (let a : Amount t p (Stay (next_steal g q k n)) (share_target t k.target) = am_steal t p g q k n in let b : share_move t (Stay (next_steal g q k n)) ≡ share_target t k.target = a.0 in omega (arith, b), (let a : Amount t p (Stay (next_steal g q k n)) (share_target t k.target) = am_steal t p g q k n in a.1))
 amounts g q t p (PopInjected k) (Task u) = (omega arith, refl)
-amounts g q t p (PopInjected k) _ = (let a : Amount t p (Stay (after_failure g k k.rounds)) (share_target t k.target) = am_failed t p g k k.rounds in let b : share_move t (Stay (after_failure g k k.rounds)) ≤ share_target t k.target = a.0 in omega (arith, b), (let a : Amount t p (Stay (after_failure g k k.rounds)) (share_target t k.target) = am_failed t p g k k.rounds in a.1))
+amounts g q t p (PopInjected k) _ = (let a : Amount t p (Stay (after_failure g k k.rounds)) (share_target t k.target) = am_failed t p g k k.rounds in let b : share_move t (Stay (after_failure g k k.rounds)) ≡ share_target t k.target = a.0 in omega (arith, b), (let a : Amount t p (Stay (after_failure g k k.rounds)) (share_target t k.target) = am_failed t p g k k.rounds in a.1))
 amounts g q t p (AnnounceSelf k) (Jec j) = (omega arith, refl)
 amounts g q t p (AnnounceSelf k) _ = (omega arith, refl)
 amounts g q t p (GetSleepy k) Done = (omega arith, refl)
@@ -239,13 +240,13 @@ amounts g q t p (LookAtCast k) Yes = (omega arith, refl)
 amounts g q t p (LookAtCast k) _ = (omega arith, refl)
 amounts g q t p (LookAtInjector k) Yes = (omega arith, refl)
 amounts g q t p (LookAtInjector k) _ = (omega arith, refl)
-amounts g q t p (LoadCounters k) (Word a1 b1 j) = (let a : Amount t p (if j == k.kept then Stay (AddSleeping (record k { sleeping = a1; inactive = b1 })) else Stay (WakeUp (record k { rounds = Failed g.limit }))) (share_target t k.target) = am_if t p (share_target t k.target) (AddSleeping (record k { sleeping = a1; inactive = b1 })) (WakeUp (record k { rounds = Failed g.limit })) (j == k.kept) (omega arith, refl) (omega arith, refl) in let b : share_move t (if j == k.kept then Stay (AddSleeping (record k { sleeping = a1; inactive = b1 })) else Stay (WakeUp (record k { rounds = Failed g.limit }))) ≤ share_target t k.target = a.0 in omega (arith, b), (let a : Amount t p (if j == k.kept then Stay (AddSleeping (record k { sleeping = a1; inactive = b1 })) else Stay (WakeUp (record k { rounds = Failed g.limit }))) (share_target t k.target) = am_if t p (share_target t k.target) (AddSleeping (record k { sleeping = a1; inactive = b1 })) (WakeUp (record k { rounds = Failed g.limit })) (j == k.kept) (omega arith, refl) (omega arith, refl) in a.1))
+amounts g q t p (LoadCounters k) (Word a1 b1 j) = (let a : Amount t p (if j == k.kept then Stay (AddSleeping (record k { sleeping = a1; inactive = b1 })) else Stay (WakeUp (record k { rounds = Failed g.limit }))) (share_target t k.target) = am_if t p (share_target t k.target) (AddSleeping (record k { sleeping = a1; inactive = b1 })) (WakeUp (record k { rounds = Failed g.limit })) (j == k.kept) (omega arith, refl) (omega arith, refl) in let b : share_move t (if j == k.kept then Stay (AddSleeping (record k { sleeping = a1; inactive = b1 })) else Stay (WakeUp (record k { rounds = Failed g.limit }))) ≡ share_target t k.target = a.0 in omega (arith, b), (let a : Amount t p (if j == k.kept then Stay (AddSleeping (record k { sleeping = a1; inactive = b1 })) else Stay (WakeUp (record k { rounds = Failed g.limit }))) (share_target t k.target) = am_if t p (share_target t k.target) (AddSleeping (record k { sleeping = a1; inactive = b1 })) (WakeUp (record k { rounds = Failed g.limit })) (j == k.kept) (omega arith, refl) (omega arith, refl) in a.1))
 amounts g q t p (LoadCounters k) _ = (omega arith, refl)
-amounts g q t p (LeaveSearch k) (Wakes n) = (let a : Amount t p (walk g q (own_pool q) n 0 (after_found k.target k.found)) (share_then t (after_found k.target k.found)) = am_walk t p g q (own_pool q) n 0 (after_found k.target k.found) in let b : share_move t (walk g q (own_pool q) n 0 (after_found k.target k.found)) ≤ share_then t (after_found k.target k.found) = a.0 in let c : share_then t (after_found k.target k.found) ≤ share_target t k.target = am_after t k.target k.found in omega (arith, b, c), (let a : Amount t p (walk g q (own_pool q) n 0 (after_found k.target k.found)) (share_then t (after_found k.target k.found)) = am_walk t p g q (own_pool q) n 0 (after_found k.target k.found) in a.1))
+amounts g q t p (LeaveSearch k) (Wakes n) = (let a : Amount t p (walk g q (own_pool q) n 0 (after_found k.target k.found)) (share_then t (after_found k.target k.found)) = am_walk t p g q (own_pool q) n 0 (after_found k.target k.found) in let b : share_move t (walk g q (own_pool q) n 0 (after_found k.target k.found)) ≡ share_then t (after_found k.target k.found) = a.0 in let c : share_then t (after_found k.target k.found) ≡ share_target t k.target = am_after t k.target k.found in omega (arith, b, c), (let a : Amount t p (walk g q (own_pool q) n 0 (after_found k.target k.found)) (share_then t (after_found k.target k.found)) = am_walk t p g q (own_pool q) n 0 (after_found k.target k.found) in a.1))
 amounts g q t p (LeaveSearch k) _ = (omega arith, refl)
 amounts g q t p (JoinProbe o) Yes = (omega arith, refl)
 amounts g q t p (JoinProbe o) _ = (omega arith, refl)
-amounts g q t p (JoinPop o) (Task u) = (let a : Amount t p (if u == o.job then Enter (SecondSide o) (BeginHere u) else Enter (JoinProbe o) (BeginTask u)) (one (t == o.job)) = am_pop t p o u in let b : share_move t (if u == o.job then Enter (SecondSide o) (BeginHere u) else Enter (JoinProbe o) (BeginTask u)) ≤ one (t == o.job) = a.0 in omega (arith, b), (let a : Amount t p (if u == o.job then Enter (SecondSide o) (BeginHere u) else Enter (JoinProbe o) (BeginTask u)) (one (t == o.job)) = am_pop t p o u in a.1))
+amounts g q t p (JoinPop o) (Task u) = (let a : Amount t p (if u == o.job then Enter (SecondSide o) (BeginHere u) else Enter (JoinProbe o) (BeginTask u)) (one (t == o.job)) = am_pop t p o u in let b : share_move t (if u == o.job then Enter (SecondSide o) (BeginHere u) else Enter (JoinProbe o) (BeginTask u)) ≡ one (t == o.job) = a.0 in omega (arith, b), (let a : Amount t p (if u == o.job then Enter (SecondSide o) (BeginHere u) else Enter (JoinProbe o) (BeginTask u)) (one (t == o.job)) = am_pop t p o u in a.1))
 amounts g q t p (JoinPop o) _ = (omega arith, refl)
 amounts g q t p (JoinTakeCast o) (Task u) = (omega arith, refl)
 amounts g q t p (JoinTakeCast o) _ = (omega arith, refl)
@@ -258,38 +259,38 @@ amounts g q t p LocalPop _ = (omega arith, refl)
 amounts g q t p LocalTakeCast (Task u) = (omega arith, refl)
 amounts g q t p LocalTakeCast _ = (omega arith, refl)
 amounts g q t p YieldTakeCast (Task u) = (omega arith, refl)
-amounts g q t p YieldTakeCast _ = (let a : Amount t p (if g.workers == 1 then Stay YieldPopInjected else Stay YieldPick) (0) = am_if t p 0 YieldPopInjected YieldPick (g.workers == 1) (omega arith, refl) (omega arith, refl) in let b : share_move t (if g.workers == 1 then Stay YieldPopInjected else Stay YieldPick) ≤ 0 = a.0 in omega (arith, b), (let a : Amount t p (if g.workers == 1 then Stay YieldPopInjected else Stay YieldPick) (0) = am_if t p 0 YieldPopInjected YieldPick (g.workers == 1) (omega arith, refl) (omega arith, refl) in a.1))
+amounts g q t p YieldTakeCast _ = (let a : Amount t p (if g.workers == 1 then Stay YieldPopInjected else Stay YieldPick) (0) = am_if t p 0 YieldPopInjected YieldPick (g.workers == 1) (omega arith, refl) (omega arith, refl) in let b : share_move t (if g.workers == 1 then Stay YieldPopInjected else Stay YieldPick) ≡ 0 = a.0 in omega (arith, b), (let a : Amount t p (if g.workers == 1 then Stay YieldPopInjected else Stay YieldPick) (0) = am_if t p 0 YieldPopInjected YieldPick (g.workers == 1) (omega arith, refl) (omega arith, refl) in a.1))
 amounts g q t p YieldPick (Start v) = (omega arith, refl)
 amounts g q t p YieldPick _ = (omega arith, refl)
 amounts g q t p (YieldSteal v n) (Task u) = (omega arith, refl)
-amounts g q t p (YieldSteal v n) _ = (let a : Amount t p (Stay (next_yield g q v n)) (0) = am_yield t p g q v n in let b : share_move t (Stay (next_yield g q v n)) ≤ 0 = a.0 in omega (arith, b), (let a : Amount t p (Stay (next_yield g q v n)) (0) = am_yield t p g q v n in a.1))
+amounts g q t p (YieldSteal v n) _ = (let a : Amount t p (Stay (next_yield g q v n)) (0) = am_yield t p g q v n in let b : share_move t (Stay (next_yield g q v n)) ≡ 0 = a.0 in omega (arith, b), (let a : Amount t p (Stay (next_yield g q v n)) (0) = am_yield t p g q v n in a.1))
 amounts g q t p (BeginTask u) (Begun d) = (omega arith, refl)
 amounts g q t p (BeginTask u) _ = (omega arith, refl)
-amounts g q t p (RaiseCount n) Done = (let a : Amount t p (after_raise n) (one (t == plan_job n)) = am_raised t p n in let b : share_move t (after_raise n) ≤ one (t == plan_job n) = a.0 in omega (arith, b), (let a : Amount t p (after_raise n) (one (t == plan_job n)) = am_raised t p n in a.1))
+amounts g q t p (RaiseCount n) Done = (let a : Amount t p (after_raise n) (one (t == plan_job n)) = am_raised t p n in let b : share_move t (after_raise n) ≡ one (t == plan_job n) = a.0 in omega (arith, b), (let a : Amount t p (after_raise n) (one (t == plan_job n)) = am_raised t p n in a.1))
 amounts g q t p (RaiseCount n) _ = (omega arith, refl)
 amounts g q t p (GrowCall n) Done = (omega arith, refl)
 amounts g q t p (GrowCall n) _ = (omega arith, refl)
 amounts g q t p (LookQueue n) Yes = (omega arith, refl)
 amounts g q t p (LookQueue n) _ = (omega arith, refl)
-amounts g q t p (PushJob n v) Done = (let b : share t (TellNews n v) + pushed t (PushJob n v) Done ≤ one (t == plan_job n) = am_push t n v in omega (arith, b), refl)
+amounts g q t p (PushJob n v) Done = (let b : share t (TellNews n v) + pushed t (PushJob n v) Done ≡ one (t == plan_job n) = am_push t n v in omega (arith, b), refl)
 amounts g q t p (PushJob n v) e = (let b : pushed t (PushJob n v) e ≡ 0 = not_pushed t n v e refl in omega (arith, b), refl)
-amounts g q t p (TellNews n v) (Wakes k) = (let a : Amount t p (walk g q (plan_pool n) k 0 (after_news n)) (share_then t (after_news n)) = am_walk t p g q (plan_pool n) k 0 (after_news n) in let b : share_move t (walk g q (plan_pool n) k 0 (after_news n)) ≤ share_then t (after_news n) = a.0 in let c : share_then t (after_news n) ≤ share_rest t n = am_goes t n in omega (arith, b, c), (let a : Amount t p (walk g q (plan_pool n) k 0 (after_news n)) (share_then t (after_news n)) = am_walk t p g q (plan_pool n) k 0 (after_news n) in a.1))
+amounts g q t p (TellNews n v) (Wakes k) = (let a : Amount t p (walk g q (plan_pool n) k 0 (after_news n)) (share_then t (after_news n)) = am_walk t p g q (plan_pool n) k 0 (after_news n) in let b : share_move t (walk g q (plan_pool n) k 0 (after_news n)) ≡ share_then t (after_news n) = a.0 in let c : share_then t (after_news n) ≡ share_rest t n = am_goes t n in omega (arith, b, c), (let a : Amount t p (walk g q (plan_pool n) k 0 (after_news n)) (share_then t (after_news n)) = am_walk t p g q (plan_pool n) k 0 (after_news n) in a.1))
 amounts g q t p (TellNews n v) _ = (omega arith, refl)
 amounts g q t p (WakeWorker k) Yes = (omega arith, refl)
 amounts g q t p (WakeWorker k) _ = (omega arith, refl)
-amounts g q t p (UnlockWoken k) e = (let a : Amount t p (walk g q k.pool k.owed (k.worker + 1) k.then) (share_then t k.then) = am_walk t p g q k.pool k.owed (k.worker + 1) k.then in let b : share_move t (walk g q k.pool k.owed (k.worker + 1) k.then) ≤ share_then t k.then = a.0 in omega (arith, b), (let a : Amount t p (walk g q k.pool k.owed (k.worker + 1) k.then) (share_then t k.then) = am_walk t p g q k.pool k.owed (k.worker + 1) k.then in a.1))
+amounts g q t p (UnlockWoken k) e = (let a : Amount t p (walk g q k.pool k.owed (k.worker + 1) k.then) (share_then t k.then) = am_walk t p g q k.pool k.owed (k.worker + 1) k.then in let b : share_move t (walk g q k.pool k.owed (k.worker + 1) k.then) ≡ share_then t k.then = a.0 in omega (arith, b), (let a : Amount t p (walk g q k.pool k.owed (k.worker + 1) k.then) (share_then t k.then) = am_walk t p g q k.pool k.owed (k.worker + 1) k.then in a.1))
 amounts g q t p (TakeResult o f) (Found d) = (omega arith, refl)
 amounts g q t p (TakeResult o f) _ = (omega arith, refl)
-amounts g q t p (LowerCount r s n) Yes = (let a : Amount t p (settle g q r 0 n) (share_then t n) = am_settle t p g q r 0 n in let b : share_move t (settle g q r 0 n) ≤ share_then t n = a.0 in omega (arith, b), (let a : Amount t p (settle g q r 0 n) (share_then t n) = am_settle t p g q r 0 n in a.1))
-amounts g q t p (LowerCount r s n) _ = (let a : Amount t p (finish q n) (share_then t n) = am_finish t p q n in let b : share_move t (finish q n) ≤ share_then t n = a.0 in omega (arith, b), (let a : Amount t p (finish q n) (share_then t n) = am_finish t p q n in a.1))
-amounts g q t p (StoreResult i o d) e = (let a : Amount t p (Stay (set_call i o)) (0) = am_set t p i o in let b : share_move t (Stay (set_call i o)) ≤ 0 = a.0 in omega (arith, b), (let a : Amount t p (Stay (set_call i o)) (0) = am_set t p i o in a.1))
+amounts g q t p (LowerCount r s n) Yes = (let a : Amount t p (settle g q r 0 n) (share_then t n) = am_settle t p g q r 0 n in let b : share_move t (settle g q r 0 n) ≡ share_then t n = a.0 in omega (arith, b), (let a : Amount t p (settle g q r 0 n) (share_then t n) = am_settle t p g q r 0 n in a.1))
+amounts g q t p (LowerCount r s n) _ = (let a : Amount t p (finish q n) (share_then t n) = am_finish t p q n in let b : share_move t (finish q n) ≡ share_then t n = a.0 in omega (arith, b), (let a : Amount t p (finish q n) (share_then t n) = am_finish t p q n in a.1))
+amounts g q t p (StoreResult i o d) e = (let a : Amount t p (Stay (set_call i o)) (0) = am_set t p i o in let b : share_move t (Stay (set_call i o)) ≡ 0 = a.0 in omega (arith, b), (let a : Amount t p (Stay (set_call i o)) (0) = am_set t p i o in a.1))
 amounts g q t p (SetLatch k) Yes = (omega arith, refl)
-amounts g q t p (SetLatch k) _ = (let a : Amount t p (after_set g q k k.latch) (share_then t k.then) = am_settled t p g q k k.latch in let b : share_move t (after_set g q k k.latch) ≤ share_then t k.then = a.0 in omega (arith, b), (let a : Amount t p (after_set g q k k.latch) (share_then t k.then) = am_settled t p g q k k.latch in a.1))
-amounts g q t p (UnlockSettled k) e = (let a : Amount t p (after_set g q k k.latch) (share_then t k.then) = am_settled t p g q k k.latch in let b : share_move t (after_set g q k k.latch) ≤ share_then t k.then = a.0 in omega (arith, b), (let a : Amount t p (after_set g q k k.latch) (share_then t k.then) = am_settled t p g q k k.latch in a.1))
+amounts g q t p (SetLatch k) _ = (let a : Amount t p (after_set g q k k.latch) (share_then t k.then) = am_settled t p g q k k.latch in let b : share_move t (after_set g q k k.latch) ≡ share_then t k.then = a.0 in omega (arith, b), (let a : Amount t p (after_set g q k k.latch) (share_then t k.then) = am_settled t p g q k k.latch in a.1))
+amounts g q t p (UnlockSettled k) e = (let a : Amount t p (after_set g q k k.latch) (share_then t k.then) = am_settled t p g q k k.latch in let b : share_move t (after_set g q k k.latch) ≡ share_then t k.then = a.0 in omega (arith, b), (let a : Amount t p (after_set g q k k.latch) (share_then t k.then) = am_settled t p g q k k.latch in a.1))
 amounts g q t p _ e = (omega arith, refl)
 
--- a move keeps no more than that and the frames below
-pub land_shares : (t : ℕ) (g : Move) (fs : List Place) → shares t (after_move g fs) ≤ share_move t g + shares_in t fs
+-- a move keeps what its places and the frames below them do
+pub land_shares : (t : ℕ) (g : Move) (fs : List Place) → shares t (after_move g fs) ≡ share_move t g + shares_in t fs
 land_shares t (Stay y) fs = omega arith
 land_shares t (Enter f y) fs = omega arith
 land_shares t (StartRun f a) fs = omega arith
@@ -298,7 +299,7 @@ land_shares t Back (f ∷ fs) = omega arith
 land_shares t (HandBack n) [] = omega arith
 land_shares t (HandBack n) (f ∷ fs) = omega arith
 
-pub land_raises : (t : ℕ) (g : Move) (fs : List Place) → all_raises t (after_move g fs) ≤ raises_move t g + raises_in t fs
+pub land_raises : (t : ℕ) (g : Move) (fs : List Place) → all_raises t (after_move g fs) ≡ raises_move t g + raises_in t fs
 land_raises t (Stay y) fs = omega arith
 land_raises t (Enter f y) fs = omega arith
 land_raises t (StartRun f a) fs = omega arith
@@ -307,7 +308,7 @@ land_raises t Back (f ∷ fs) = omega arith
 land_raises t (HandBack n) [] = omega arith
 land_raises t (HandBack n) (f ∷ fs) = omega arith
 
-pub land_values : (t : ℕ) (g : Move) (fs : List Place) → all_values t (after_move g fs) ≤ values_move t g + values_in t fs
+pub land_values : (t : ℕ) (g : Move) (fs : List Place) → all_values t (after_move g fs) ≡ values_move t g + values_in t fs
 land_values t (Stay y) fs = omega arith
 land_values t (Enter f y) fs = omega arith
 land_values t (StartRun f a) fs = omega arith

@@ -277,7 +277,7 @@ act_fills w q x fs r h z d = record {
         t = (w.call c).job
 
         mine : shares t k ≤ 0
-        mine = let l : shares t (put_stack w.stack q k q) + (pushed t x (r.0) + paid t x) ≤ shares t (w.stack q) + gained t x (r.0) = shares_mine w q x fs (w.shape.pool (target_pool q (act_of q x))) (r.0) t z in
+        mine = let l : shares t (put_stack w.stack q k q) + (pushed t x (r.0) + paid t x) ≡ shares t (w.stack q) + gained t x (r.0) = shares_mine w q x fs (w.shape.pool (target_pool q (act_of q x))) (r.0) t z in
             let m : shares t (put_stack w.stack q k q) ≡ shares t k = ap (shares t) (stack_mine w.stack q k) in
             let b : shares t (w.stack q) ≤ paid t ((w.stack q).top) = h.taken q c a e in
             let p : paid t ((w.stack q).top) ≡ paid t x = ap (λ n. paid t (n.top)) z in
@@ -484,7 +484,7 @@ end_beside w q d (Run t k) fs z a = record {
   call = λ c. inl refl;
   plain = closed_plain t k d fs a;
   unpaid = λ s. ap (λ n. paid s (n.top)) z;
-  line = λ s. (let b : shares s (w.stack q) ≡ (0 + shares_in s fs) = ap (shares s) z in let c : shares s (after_close t k d fs) ≤ freed s t k + shares_in s fs = (closed_shares s t k d fs).0 in let e : freed s t k ≤ paid s ((after_close t k d fs).top) = freed_paid s t k d fs in omega (arith, b, c, e));
+  line = λ s. (let b : shares s (w.stack q) ≡ (0 + shares_in s fs) = ap (shares s) z in let c : shares s (after_close t k d fs) ≡ freed s t k + shares_in s fs = (closed_shares s t k d fs).0 in let e : freed s t k ≤ paid s ((after_close t k d fs).top) = freed_paid s t k d fs in omega (arith, b, c, e));
 }
 end_beside w q d _ fs z a = tt
 

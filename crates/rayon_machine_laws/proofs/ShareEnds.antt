@@ -46,18 +46,18 @@ abbrev pub freed : ℕ → ℕ → JobKind → ℕ
 freed s t (Detached p) = one (s == t)
 freed s t _ = 0
 
-goes_on_shares : (s : ℕ) (f : Place) (e : Ending) → (share s (goes_on f e) ≤ share s f) × (values s (goes_on f e) ≤ values s f) × (raises s (goes_on f e) ≤ raises s f)
+goes_on_shares : (s : ℕ) (f : Place) (e : Ending) → (share s (goes_on f e) ≡ share s f) × (values s (goes_on f e) ≡ values s f) × (raises s (goes_on f e) ≡ raises s f)
 goes_on_shares s (FirstSide o a) Fine = (omega arith, omega arith, omega arith)
 goes_on_shares s (FirstSide o a) Fault = (omega arith, omega arith, omega arith)
 goes_on_shares s (SecondSide o) e = (omega arith, omega arith, omega arith)
 goes_on_shares s (AtOnce p t) e = (omega arith, omega arith, omega arith)
 goes_on_shares s f e = (omega arith, omega arith, omega arith)
 
-pub closed_shares : (s t : ℕ) (k : JobKind) (e : Ending) (fs : List Place) → (shares s (after_close t k e fs) ≤ freed s t k + shares_in s fs) × (all_values s (after_close t k e fs) ≤ values_in s fs) × (all_raises s (after_close t k e fs) ≤ raises_in s fs)
+pub closed_shares : (s t : ℕ) (k : JobKind) (e : Ending) (fs : List Place) → (shares s (after_close t k e fs) ≡ freed s t k + shares_in s fs) × (all_values s (after_close t k e fs) ≡ values_in s fs) × (all_raises s (after_close t k e fs) ≡ raises_in s fs)
 closed_shares s t (Detached p) e fs = (omega arith, omega arith, omega arith)
 closed_shares s t (Stored c o) e fs = (omega arith, omega arith, omega arith)
 closed_shares s t Direct e [] = (omega arith, omega arith, omega arith)
-closed_shares s t Direct e (f ∷ fs) = ((let a : share s (goes_on f e) ≤ share s f = (goes_on_shares s f e).0 in omega (arith, a)), (let a : values s (goes_on f e) ≤ values s f = (goes_on_shares s f e).1 in omega (arith, a)), (let a : raises s (goes_on f e) ≤ raises s f = (goes_on_shares s f e).2 in omega (arith, a)))
+closed_shares s t Direct e (f ∷ fs) = ((let a : share s (goes_on f e) ≡ share s f = (goes_on_shares s f e).0 in omega (arith, a)), (let a : values s (goes_on f e) ≡ values s f = (goes_on_shares s f e).1 in omega (arith, a)), (let a : raises s (goes_on f e) ≡ raises s f = (goes_on_shares s f e).2 in omega (arith, a)))
 
 and_none : (b : Bool) → one (b && false) ≡ 0
 and_none true = refl
@@ -78,7 +78,7 @@ end_shares : (w : World) (q : Party) (d : Ending) (x : Place) (fs : List Place) 
 end_shares w q d (Run t k) fs z h = λ ch. still_hold w (ended_world w q d t k fs) q (after_close t k d fs) ch (λ s. refl) (omega arith) counted (λ p. refl)
     (λ p. (let a : sum_below w.jobs (λ s. tally p ((ended_world w q d t k fs).job s)) ≡ sum_below w.jobs (λ s. tally p (w.job s)) = sum_same w.jobs (λ s. tally p ((ended_world w q d t k fs).job s)) (λ s. tally p (w.job s)) (λ s b. tally_same p ((ended_world w q d t k fs).job s) (w.job s) (counted s) (put_same (λ j. j.pool) w.job t (at_job (w.job t) (Over d)) s refl)) in omega (arith, a)))
     (λ p. refl) (λ s. line s (s == t) refl)
-    (λ p. (let a : all_values p (put_stack w.stack q (after_close t k d fs) q) ≡ all_values p (after_close t k d fs) = ap (all_values p) (stack_mine w.stack q (after_close t k d fs)) in let b : all_values p (after_close t k d fs) ≤ values_in p fs = (closed_shares p t k d fs).1 in let c : all_values p (w.stack q) ≡ (0 + values_in p fs) = ap (all_values p) z in omega (arith, a, b, c)))
+    (λ p. (let a : all_values p (put_stack w.stack q (after_close t k d fs) q) ≡ all_values p (after_close t k d fs) = ap (all_values p) (stack_mine w.stack q (after_close t k d fs)) in let b : all_values p (after_close t k d fs) ≡ values_in p fs = (closed_shares p t k d fs).1 in let c : all_values p (w.stack q) ≡ (0 + values_in p fs) = ap (all_values p) z in omega (arith, a, b, c)))
     (λ s r. raised s r (same_party r q) refl) h
   where
     counted : (s : ℕ) → ((ended_world w q d t k fs).job s).counted ≡ (w.job s).counted
@@ -88,14 +88,14 @@ end_shares w q d (Run t k) fs z h = λ ch. still_hold w (ended_world w q d t k f
     running = (at_work ((w.job t).at) ((w.job t).runs) q (where_is (Work q) (loc_at (w.job t)) (let a : worked t (w.stack q) ≡ is_loc (Work q) (loc_at (w.job t)) = (((h.calls).jobs).ok).placed (Work q) t in let b : worked t (w.stack q) ≡ (one (t == t) + runs_in t fs) = ap (worked t) z in let c : one (t == t) ≡ 1 = self_one t in omega (arith, a, b, c)))).1
 
     mine : (s : ℕ) → shares s (put_stack w.stack q (after_close t k d fs) q) ≤ freed s t k + shares s (w.stack q)
-    mine s = let a : shares s (put_stack w.stack q (after_close t k d fs) q) ≡ shares s (after_close t k d fs) = ap (shares s) (stack_mine w.stack q (after_close t k d fs)) in let b : shares s (after_close t k d fs) ≤ freed s t k + shares_in s fs = (closed_shares s t k d fs).0 in let c : shares s (w.stack q) ≡ (0 + shares_in s fs) = ap (shares s) z in omega (arith, a, b, c)
+    mine s = let a : shares s (put_stack w.stack q (after_close t k d fs) q) ≡ shares s (after_close t k d fs) = ap (shares s) (stack_mine w.stack q (after_close t k d fs)) in let b : shares s (after_close t k d fs) ≡ freed s t k + shares_in s fs = (closed_shares s t k d fs).0 in let c : shares s (w.stack q) ≡ (0 + shares_in s fs) = ap (shares s) z in omega (arith, a, b, c)
 
     line : (s : ℕ) (b : Bool) → (s == t) ≡ b → shares s (put_stack w.stack q (after_close t k d fs) q) + with_job (if b then at_job (w.job t) (Over d) else w.job s) ≤ shares s (w.stack q) + with_job (w.job s)
     line s true e = let a : shares s (put_stack w.stack q (after_close t k d fs) q) ≤ freed s t k + shares s (w.stack q) = mine s in let b : with_job (at_job (w.job t) (Over d)) ≡ 0 = and_none (is_detached (w.job t).kind) in let c : freed s t k ≤ with_job (w.job s) = freed_had w q s t k e (top_says w q (Run t k) fs (h.calls) z) running in omega (arith, a, b, c)
     line s false e = let a : shares s (put_stack w.stack q (after_close t k d fs) q) ≤ freed s t k + shares s (w.stack q) = mine s in let b : freed s t k ≡ 0 = freed_none s t k e in omega (arith, a, b)
 
     raised : (s : ℕ) (r : Party) (b : Bool) → same_party r q ≡ b → all_raises s (put_stack w.stack q (after_close t k d fs) r) + one (w.job s).counted ≤ 1
-    raised s r true e = subst (λ r. all_raises s (put_stack w.stack q (after_close t k d fs) r) + one (w.job s).counted ≤ 1) (sym (same_party_true r q e)) (let a : all_raises s (put_stack w.stack q (after_close t k d fs) q) ≡ all_raises s (after_close t k d fs) = ap (all_raises s) (stack_mine w.stack q (after_close t k d fs)) in let b : all_raises s (after_close t k d fs) ≤ raises_in s fs = (closed_shares s t k d fs).2 in let c : all_raises s (w.stack q) ≡ (0 + raises_in s fs) = ap (all_raises s) z in let f : all_raises s (w.stack q) + one (w.job s).counted ≤ 1 = h.unraised q s in omega (arith, a, b, c, f))
+    raised s r true e = subst (λ r. all_raises s (put_stack w.stack q (after_close t k d fs) r) + one (w.job s).counted ≤ 1) (sym (same_party_true r q e)) (let a : all_raises s (put_stack w.stack q (after_close t k d fs) q) ≡ all_raises s (after_close t k d fs) = ap (all_raises s) (stack_mine w.stack q (after_close t k d fs)) in let b : all_raises s (after_close t k d fs) ≡ raises_in s fs = (closed_shares s t k d fs).2 in let c : all_raises s (w.stack q) ≡ (0 + raises_in s fs) = ap (all_raises s) z in let f : all_raises s (w.stack q) + one (w.job s).counted ≤ 1 = h.unraised q s in omega (arith, a, b, c, f))
     raised s r false e = let a : all_raises s (put_stack w.stack q (after_close t k d fs) r) ≤ all_raises s (w.stack r) = other_le (all_raises s) w q (after_close t k d fs) r e in let f : all_raises s (w.stack r) + one (w.job s).counted ≤ 1 = h.unraised r s in omega (arith, a, f)
 end_shares w q d _ fs z h = tt
 

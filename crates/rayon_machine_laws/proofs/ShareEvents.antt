@@ -97,8 +97,8 @@ with_calls w (Some u) a f = f a
 -- a party goes on as if its act had seen this
 seen_shares : (w : World) (q : Party) (g : PoolShape) (x : Place) (fs : List Place) (e : Seen) → w.stack q ≡ record { top = x; below = fs } → ((t : ℕ) → gained t x e ≡ 0) → SharesHold w → CallsHold (record w { stack = put_stack w.stack q (after_move (next_of g q x e) fs) }) → SharesHold (record w { stack = put_stack w.stack q (after_move (next_of g q x e) fs) })
 seen_shares w q g x fs e z none h ch = still_hold w (record w { stack = put_stack w.stack q (after_move (next_of g q x e) fs) }) q (after_move (next_of g q x e) fs) ch (λ s. refl) (omega arith) (λ t. refl) (λ p. refl) (λ p. omega arith) (λ p. refl)
-    (λ t. (let a : shares t (put_stack w.stack q (after_move (next_of g q x e) fs) q) + (pushed t x e + paid t x) ≤ shares t (w.stack q) + gained t x e = shares_mine w q x fs g e t z in let b : gained t x e ≡ 0 = none t in omega (arith, a, b)))
-    (λ p. (let a : all_values p (put_stack w.stack q (after_move (next_of g q x e) fs) q) + values p x ≤ all_values p (w.stack q) = values_mine w q x fs g e p z in omega (arith, a)))
+    (λ t. (let a : shares t (put_stack w.stack q (after_move (next_of g q x e) fs) q) + (pushed t x e + paid t x) ≡ shares t (w.stack q) + gained t x e = shares_mine w q x fs g e t z in let b : gained t x e ≡ 0 = none t in omega (arith, a, b)))
+    (λ p. (let a : all_values p (put_stack w.stack q (after_move (next_of g q x e) fs) q) + values p x ≡ all_values p (w.stack q) = values_mine w q x fs g e p z in omega (arith, a)))
     (λ t s. (let a : all_raises t (put_stack w.stack q (after_move (next_of g q x e) fs) s) ≤ all_raises t (w.stack s) = raises_all w q x fs g e t z s in let b : all_raises t (w.stack s) + one (w.job t).counted ≤ 1 = h.unraised s t in omega (arith, a, b))) h
 
 pub from_shares : (w : World) (q : Party) (x : Place) (fs : List Place) (v : ℕ) → w.stack q ≡ record { top = x; below = fs } → SharesHold w → IfSome (after_choice w q (record { top = x; below = fs }) x v) (λ u. CallsHold u → SharesHold u)

@@ -33,7 +33,7 @@ lower_job w q p0 u n fs e h z ch busy pools keeps = record {
   jobs = λ t. jobs t (t == u) refl;
   values = λ p. subst (λ c. Tokens (λ s. all_values p (v.stack s)) (one (v.pool p).held) (one c)) (sym (put_same (λ a. a.counted) w.pool p0 (record (w.pool p0) { count = (w.pool p0).count - 1 }) p refl))
       (tokens_keep (λ s. all_values p (w.stack s)) (λ s. all_values p (v.stack s)) (one (w.pool p).held) (one (v.pool p).held) (one (w.pool p).counted) q (one_most ((w.pool p).counted)) (λ s y. other_le (all_values p) w q k s y)
-      (let a : all_values p (put_stack w.stack q k q) + 0 ≤ all_values p (w.stack q) = values_mine w q (LowerCount p0 (OfJob u) n) fs (w.shape.pool p0) e p z in let b : one (v.pool p).held ≡ one (w.pool p).held = ap one (keeps p) in omega (arith, a, b)) (h.values p));
+      (let a : all_values p (put_stack w.stack q k q) + 0 ≡ all_values p (w.stack q) = values_mine w q (LowerCount p0 (OfJob u) n) fs (w.shape.pool p0) e p z in let b : one (v.pool p).held ≡ one (w.pool p).held = ap one (keeps p) in omega (arith, a, b)) (h.values p));
   unraised = λ s t. (let a : all_raises t (put_stack w.stack q k s) ≤ all_raises t (w.stack s) = raises_all w q (LowerCount p0 (OfJob u) n) fs (w.shape.pool p0) e t z s in let b : all_raises t (w.stack s) + one (w.job t).counted ≤ 1 = h.unraised s t in let c : one (v.job t).counted ≤ one (w.job t).counted = less t (t == u) refl in omega (arith, a, b, c));
   unmade = λ t b. one_not ((v.job t).counted) (let a : one (v.job t).counted ≤ one (w.job t).counted = less t (t == u) refl in let c : one (w.job t).counted ≡ 0 = ap one (h.unmade t b) in omega (arith, a, c));
   sums = λ p. sums p (p == p0) refl;
@@ -62,7 +62,7 @@ lower_job w q p0 u n fs e h z ch busy pools keeps = record {
     less t false y = let a : one (v.job t).counted ≡ one (w.job t).counted = ap one (same t y) in omega (arith, a)
 
     line : (t : ℕ) → shares t (put_stack w.stack q k q) + one (t == u) ≤ shares t (w.stack q)
-    line t = let a : shares t (put_stack w.stack q k q) + (0 + one (t == u)) ≤ shares t (w.stack q) + 0 = shares_mine w q (LowerCount p0 (OfJob u) n) fs (w.shape.pool p0) e t z in omega (arith, a)
+    line t = let a : shares t (put_stack w.stack q k q) + (0 + one (t == u)) ≡ shares t (w.stack q) + 0 = shares_mine w q (LowerCount p0 (OfJob u) n) fs (w.shape.pool p0) e t z in omega (arith, a)
 
     had : (w.job u).counted ≡ true
     had = one_is ((w.job u).counted) (let a : shares u (put_stack w.stack q k q) + one (u == u) ≤ shares u (w.stack q) = line u in let b : one (u == u) ≡ 1 = self_one u in let c : shares u (w.stack q) + with_job (w.job u) ≤ one (w.job u).counted = (h.jobs u).alone q in omega (arith, a, b, c))
@@ -95,7 +95,7 @@ lower_value w q p0 n fs e h z ch busy pools keeps = record {
   calls = ch;
   jobs = λ t. subst (λ c. Tokens (λ s. shares t (v.stack s)) (with_job (v.job t)) (one c)) (sym (same t))
       (tokens_keep (λ s. shares t (w.stack s)) (λ s. shares t (v.stack s)) (with_job (w.job t)) (with_job (v.job t)) (one (w.job t).counted) q (one_most ((w.job t).counted)) (λ s d. other_le (shares t) w q k s d)
-      (let a : shares t (put_stack w.stack q k q) + (0 + 0) ≤ shares t (w.stack q) + 0 = shares_mine w q (LowerCount p0 PoolValue n) fs (w.shape.pool p0) e t z in let b : with_job (v.job t) ≤ with_job (w.job t) = busy t in omega (arith, a, b)) (h.jobs t));
+      (let a : shares t (put_stack w.stack q k q) + (0 + 0) ≡ shares t (w.stack q) + 0 = shares_mine w q (LowerCount p0 PoolValue n) fs (w.shape.pool p0) e t z in let b : with_job (v.job t) ≤ with_job (w.job t) = busy t in omega (arith, a, b)) (h.jobs t));
   values = λ p. values p (p == p0) refl;
   unraised = λ s t. (let a : all_raises t (put_stack w.stack q k s) ≤ all_raises t (w.stack s) = raises_all w q (LowerCount p0 PoolValue n) fs (w.shape.pool p0) e t z s in let b : all_raises t (w.stack s) + one (w.job t).counted ≤ 1 = h.unraised s t in let c : one (v.job t).counted ≡ one (w.job t).counted = ap one (same t) in omega (arith, a, b, c));
   unmade = λ t b. same t ∙ h.unmade t b;
@@ -111,11 +111,11 @@ lower_value w q p0 n fs e h z ch busy pools keeps = record {
     same : (t : ℕ) → (v.job t).counted ≡ (w.job t).counted
     same t = after_counted q (next_of (w.shape.pool p0) q (LowerCount p0 PoolValue n) e) (put w.job 0 (w.job 0)) t ∙ put_same (λ j. j.counted) w.job 0 (w.job 0) t refl
 
-    line : (p : ℕ) → all_values p (put_stack w.stack q k q) + one (p == p0) ≤ all_values p (w.stack q)
+    line : (p : ℕ) → all_values p (put_stack w.stack q k q) + one (p == p0) ≡ all_values p (w.stack q)
     line p = values_mine w q (LowerCount p0 PoolValue n) fs (w.shape.pool p0) e p z
 
     had : (w.pool p0).counted ≡ true
-    had = one_is ((w.pool p0).counted) (let a : all_values p0 (put_stack w.stack q k q) + one (p0 == p0) ≤ all_values p0 (w.stack q) = line p0 in let b : one (p0 == p0) ≡ 1 = self_one p0 in let c : all_values p0 (w.stack q) + one (w.pool p0).held ≤ one (w.pool p0).counted = (h.values p0).alone q in omega (arith, a, b, c))
+    had = one_is ((w.pool p0).counted) (let a : all_values p0 (put_stack w.stack q k q) + one (p0 == p0) ≡ all_values p0 (w.stack q) = line p0 in let b : one (p0 == p0) ≡ 1 = self_one p0 in let c : all_values p0 (w.stack q) + one (w.pool p0).held ≤ one (w.pool p0).counted = (h.values p0).alone q in omega (arith, a, b, c))
 
     gone : Pool
     gone = record (w.pool p0) { count = (w.pool p0).count - 1; counted = false }
@@ -123,9 +123,9 @@ lower_value w q p0 n fs e h z ch busy pools keeps = record {
     values : (p : ℕ) (b : Bool) → (p == p0) ≡ b → Tokens (λ s. all_values p (v.stack s)) (one (if b then gone else w.pool p).held) (one (if b then gone else w.pool p).counted)
     values p true y = subst (λ p. Tokens (λ s. all_values p (v.stack s)) (one (w.pool p0).held) 0) (sym (eqb-true p p0 y))
         (tokens_pay (λ s. all_values p0 (w.stack s)) (λ s. all_values p0 (v.stack s)) (one (w.pool p0).held) (one (w.pool p0).held) (one (w.pool p0).counted) q (one_most ((w.pool p0).counted)) (λ s d. other_le (all_values p0) w q k s d)
-        (let a : all_values p0 (put_stack w.stack q k q) + one (p0 == p0) ≤ all_values p0 (w.stack q) = line p0 in let b : one (p0 == p0) ≡ 1 = self_one p0 in omega (arith, a, b)) (omega arith) (h.values p0))
+        (let a : all_values p0 (put_stack w.stack q k q) + one (p0 == p0) ≡ all_values p0 (w.stack q) = line p0 in let b : one (p0 == p0) ≡ 1 = self_one p0 in omega (arith, a, b)) (omega arith) (h.values p0))
     values p false y = tokens_keep (λ s. all_values p (w.stack s)) (λ s. all_values p (v.stack s)) (one (w.pool p).held) (one (w.pool p).held) (one (w.pool p).counted) q (one_most ((w.pool p).counted)) (λ s d. other_le (all_values p) w q k s d)
-        (let a : all_values p (put_stack w.stack q k q) + one (p == p0) ≤ all_values p (w.stack q) = line p in omega (arith, a)) (h.values p)
+        (let a : all_values p (put_stack w.stack q k q) + one (p == p0) ≡ all_values p (w.stack q) = line p in omega (arith, a)) (h.values p)
 
     sums : (p : ℕ) (b : Bool) → (p == p0) ≡ b → sum_below w.jobs (λ t. tally p (v.job t)) + one (if b then gone else w.pool p).counted ≡ (if b then gone else w.pool p).count
     sums p true y = let i : p ≡ p0 = eqb-true p p0 y in

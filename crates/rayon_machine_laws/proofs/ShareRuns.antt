@@ -101,27 +101,30 @@ busy_step w q x fs r ke l sa st t = by (is_detached (w.job t).kind) refl
             touched true y = let i : t ≡ job_at w q (act_of q x) = eqb-true t (job_at w q (act_of q x)) y in subst (λ n. one (is_busy r.1.job.at) ≤ one (is_busy (w.job n).at) + pushed n x (r.0)) (sym i) (st (ap (λ n. is_left (w.job n).at) (sym i) ∙ z) (ap (λ n. is_detached (w.job n).kind) (sym i) ∙ e))
 
 -- the shares of a party's stack after a move, and of the others'
-pub shares_mine : (w : World) (q : Party) (x : Place) (fs : List Place) (g : PoolShape) (e : Seen) (t : ℕ) → w.stack q ≡ record { top = x; below = fs } → shares t (put_stack w.stack q (after_move (next_of g q x e) fs) q) + (pushed t x e + paid t x) ≤ shares t (w.stack q) + gained t x e
-shares_mine w q x fs g e t z = let a : share_move t (next_of g q x e) + (pushed t x e + paid t x) ≤ share t x + gained t x e = (amounts g q t 0 x e).0 in
-    let b : shares t (after_move (next_of g q x e) fs) ≤ share_move t (next_of g q x e) + shares_in t fs = land_shares t (next_of g q x e) fs in
+pub shares_mine : (w : World) (q : Party) (x : Place) (fs : List Place) (g : PoolShape) (e : Seen) (t : ℕ) → w.stack q ≡ record { top = x; below = fs } → shares t (put_stack w.stack q (after_move (next_of g q x e) fs) q) + (pushed t x e + paid t x) ≡ shares t (w.stack q) + gained t x e
+shares_mine w q x fs g e t z = let a : share_move t (next_of g q x e) + (pushed t x e + paid t x) ≡ share t x + gained t x e = (amounts g q t 0 x e).0 in
+    let b : shares t (after_move (next_of g q x e) fs) ≡ share_move t (next_of g q x e) + shares_in t fs = land_shares t (next_of g q x e) fs in
     let c : shares t (put_stack w.stack q (after_move (next_of g q x e) fs) q) ≡ shares t (after_move (next_of g q x e) fs) = ap (shares t) (stack_mine w.stack q (after_move (next_of g q x e) fs)) in
     let d : shares t (w.stack q) ≡ (share t x + shares_in t fs) = ap (shares t) z in omega (arith, a, b, c, d)
 
+pub other_is : (f : Stack → ℕ) (w : World) (q : Party) (k : Stack) (r : Party) → same_party r q ≡ false → f (put_stack w.stack q k r) ≡ f (w.stack r)
+other_is f w q k r e = ap f (stack_other w.stack q k r e)
+
 pub other_le : (f : Stack → ℕ) (w : World) (q : Party) (k : Stack) (r : Party) → same_party r q ≡ false → f (put_stack w.stack q k r) ≤ f (w.stack r)
-other_le f w q k r e = let a : f (put_stack w.stack q k r) ≡ f (w.stack r) = ap f (stack_other w.stack q k r e) in omega (arith, a)
+other_le f w q k r e = let a : f (put_stack w.stack q k r) ≡ f (w.stack r) = other_is f w q k r e in omega (arith, a)
 
 zero_sum : (a b : ℕ) → (a + b) ≡ 0 → (a ≡ 0) × (b ≡ 0)
 zero_sum a b e = ((let g : a ≡ 0 = omega (arith, e) in g), (let g : b ≡ 0 = omega (arith, e) in g))
 
-pub values_mine : (w : World) (q : Party) (x : Place) (fs : List Place) (g : PoolShape) (e : Seen) (p : ℕ) → w.stack q ≡ record { top = x; below = fs } → all_values p (put_stack w.stack q (after_move (next_of g q x e) fs) q) + values p x ≤ all_values p (w.stack q)
+pub values_mine : (w : World) (q : Party) (x : Place) (fs : List Place) (g : PoolShape) (e : Seen) (p : ℕ) → w.stack q ≡ record { top = x; below = fs } → all_values p (put_stack w.stack q (after_move (next_of g q x e) fs) q) + values p x ≡ all_values p (w.stack q)
 values_mine w q x fs g e p z = let a : values_move p (next_of g q x e) ≡ 0 = (zero_sum (raises_move 0 (next_of g q x e)) (values_move p (next_of g q x e)) ((amounts g q 0 p x e).1)).1 in
-    let b : all_values p (after_move (next_of g q x e) fs) ≤ values_move p (next_of g q x e) + values_in p fs = land_values p (next_of g q x e) fs in
+    let b : all_values p (after_move (next_of g q x e) fs) ≡ values_move p (next_of g q x e) + values_in p fs = land_values p (next_of g q x e) fs in
     let c : all_values p (put_stack w.stack q (after_move (next_of g q x e) fs) q) ≡ all_values p (after_move (next_of g q x e) fs) = ap (all_values p) (stack_mine w.stack q (after_move (next_of g q x e) fs)) in
     let d : all_values p (w.stack q) ≡ (values p x + values_in p fs) = ap (all_values p) z in omega (arith, a, b, c, d)
 
-pub raises_mine : (w : World) (q : Party) (x : Place) (fs : List Place) (g : PoolShape) (e : Seen) (t : ℕ) → w.stack q ≡ record { top = x; below = fs } → all_raises t (put_stack w.stack q (after_move (next_of g q x e) fs) q) + raises t x ≤ all_raises t (w.stack q)
+pub raises_mine : (w : World) (q : Party) (x : Place) (fs : List Place) (g : PoolShape) (e : Seen) (t : ℕ) → w.stack q ≡ record { top = x; below = fs } → all_raises t (put_stack w.stack q (after_move (next_of g q x e) fs) q) + raises t x ≡ all_raises t (w.stack q)
 raises_mine w q x fs g e t z = let a : raises_move t (next_of g q x e) ≡ 0 = (zero_sum (raises_move t (next_of g q x e)) (values_move 0 (next_of g q x e)) ((amounts g q t 0 x e).1)).0 in
-    let b : all_raises t (after_move (next_of g q x e) fs) ≤ raises_move t (next_of g q x e) + raises_in t fs = land_raises t (next_of g q x e) fs in
+    let b : all_raises t (after_move (next_of g q x e) fs) ≡ raises_move t (next_of g q x e) + raises_in t fs = land_raises t (next_of g q x e) fs in
     let c : all_raises t (put_stack w.stack q (after_move (next_of g q x e) fs) q) ≡ all_raises t (after_move (next_of g q x e) fs) = ap (all_raises t) (stack_mine w.stack q (after_move (next_of g q x e) fs)) in
     let d : all_raises t (w.stack q) ≡ (raises t x + raises_in t fs) = ap (all_raises t) z in omega (arith, a, b, c, d)
 
@@ -129,7 +132,7 @@ pub raises_all : (w : World) (q : Party) (x : Place) (fs : List Place) (g : Pool
 raises_all w q x fs g e t z r = by (same_party r q) refl
   where
     by : (b : Bool) → same_party r q ≡ b → all_raises t (put_stack w.stack q (after_move (next_of g q x e) fs) r) ≤ all_raises t (w.stack r)
-    by true y = subst (λ v. all_raises t (put_stack w.stack q (after_move (next_of g q x e) fs) v) ≤ all_raises t (w.stack v)) (sym (same_party_true r q y)) (let a : all_raises t (put_stack w.stack q (after_move (next_of g q x e) fs) q) + raises t x ≤ all_raises t (w.stack q) = raises_mine w q x fs g e t z in omega (arith, a))
+    by true y = subst (λ v. all_raises t (put_stack w.stack q (after_move (next_of g q x e) fs) v) ≤ all_raises t (w.stack v)) (sym (same_party_true r q y)) (let a : (all_raises t (put_stack w.stack q (after_move (next_of g q x e) fs) q) + raises t x) ≡ all_raises t (w.stack q) = raises_mine w q x fs g e t z in omega (arith, a))
     by false y = other_le (all_raises t) w q (after_move (next_of g q x e) fs) r y
 
 -- where no share is taken or given back

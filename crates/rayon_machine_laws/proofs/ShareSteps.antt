@@ -52,8 +52,8 @@ plain_hold w q x fs r d un none = still_hold w (world_after w q x fs r) q (stack
     (λ p. put_same (λ v. v.counted) w.pool (target_pool q (act_of q x)) (r.1.pool) p (un.pool))
     (λ p. (let a : sum_below w.jobs (λ t. tally p ((world_after w q x fs r).job t)) ≡ sum_below w.jobs (λ t. tally p (w.job t)) = sum_same w.jobs (λ t. tally p ((world_after w q x fs r).job t)) (λ t. tally p (w.job t)) (λ t b. tally_same p ((world_after w q x fs r).job t) (w.job t) (counted t) (d.pools t)) in omega (arith, a)))
     (λ p. put_same (λ v. v.count) w.pool (target_pool q (act_of q x)) (r.1.pool) p (un.count))
-    (λ t. (let a : shares t (put_stack w.stack q (stack_after w q x fs (r.0)) q) + (pushed t x (r.0) + paid t x) ≤ shares t (w.stack q) + gained t x (r.0) = shares_mine w q x fs (w.shape.pool (target_pool q (act_of q x))) (r.0) t (d.stack) in let b : with_job ((world_after w q x fs r).job t) ≤ with_job (w.job t) + pushed t x (r.0) = d.busy t in let c : gained t x (r.0) ≡ 0 = none t in omega (arith, a, b, c)))
-    (λ p. (let a : all_values p (put_stack w.stack q (stack_after w q x fs (r.0)) q) + values p x ≤ all_values p (w.stack q) = values_mine w q x fs (w.shape.pool (target_pool q (act_of q x))) (r.0) p (d.stack) in let b : one ((world_after w q x fs r).pool p).held ≡ one (w.pool p).held = ap one (d.held p) in omega (arith, a, b)))
+    (λ t. (let a : shares t (put_stack w.stack q (stack_after w q x fs (r.0)) q) + (pushed t x (r.0) + paid t x) ≡ shares t (w.stack q) + gained t x (r.0) = shares_mine w q x fs (w.shape.pool (target_pool q (act_of q x))) (r.0) t (d.stack) in let b : with_job ((world_after w q x fs r).job t) ≤ with_job (w.job t) + pushed t x (r.0) = d.busy t in let c : gained t x (r.0) ≡ 0 = none t in omega (arith, a, b, c)))
+    (λ p. (let a : all_values p (put_stack w.stack q (stack_after w q x fs (r.0)) q) + values p x ≡ all_values p (w.stack q) = values_mine w q x fs (w.shape.pool (target_pool q (act_of q x))) (r.0) p (d.stack) in let b : one ((world_after w q x fs r).pool p).held ≡ one (w.pool p).held = ap one (d.held p) in omega (arith, a, b)))
     (λ t s. (let a : all_raises t (put_stack w.stack q (stack_after w q x fs (r.0)) s) ≤ all_raises t (w.stack s) = raises_all w q x fs (w.shape.pool (target_pool q (act_of q x))) (r.0) t (d.stack) s in let b : all_raises t (w.stack s) + one (w.job t).counted ≤ 1 = ((d.hold).unraised) s t in omega (arith, a, b)))
     (d.hold)
   where
@@ -95,7 +95,7 @@ raise_hold w q n fs h z ch busy pools keeps = record {
   jobs = λ t. jobs t (t == plan_job n) refl;
   values = λ p. subst (λ c. Tokens (λ s. all_values p ((raised_world w q n fs).stack s)) (one ((raised_world w q n fs).pool p).held) (one c)) (sym (put_same (λ v. v.counted) w.pool (plan_pool n) (record (w.pool (plan_pool n)) { count = (w.pool (plan_pool n)).count + 1 }) p refl))
       (tokens_keep (λ s. all_values p (w.stack s)) (λ s. all_values p ((raised_world w q n fs).stack s)) (one (w.pool p).held) (one ((raised_world w q n fs).pool p).held) (one (w.pool p).counted) q (one_most ((w.pool p).counted)) (λ s e. other_le (all_values p) w q k s e)
-      (let a : all_values p (put_stack w.stack q k q) + values p (RaiseCount n) ≤ all_values p (w.stack q) = values_mine w q (RaiseCount n) fs (w.shape.pool (plan_pool n)) Done p z in let b : one ((raised_world w q n fs).pool p).held ≡ one (w.pool p).held = ap one (keeps p) in omega (arith, a, b)) (h.values p));
+      (let a : all_values p (put_stack w.stack q k q) + values p (RaiseCount n) ≡ all_values p (w.stack q) = values_mine w q (RaiseCount n) fs (w.shape.pool (plan_pool n)) Done p z in let b : one ((raised_world w q n fs).pool p).held ≡ one (w.pool p).held = ap one (keeps p) in omega (arith, a, b)) (h.values p));
   unraised = λ s t. unraised s t (t == plan_job n) refl;
   unmade = λ t b. unmade t b (t == plan_job n) refl;
   sums = λ p. sums p (p == plan_pool n) refl;
@@ -123,7 +123,7 @@ raise_hold w q n fs h z ch busy pools keeps = record {
     before = one_not ((w.job (plan_job n)).counted) (let a : all_raises (plan_job n) (w.stack q) + one (w.job (plan_job n)).counted ≤ 1 = h.unraised q (plan_job n) in let b : one (plan_job n == plan_job n) ≡ 1 = self_one (plan_job n) in let c : all_raises (plan_job n) (w.stack q) ≡ (one (plan_job n == plan_job n) + raises_in (plan_job n) fs) = mine_raises in omega (arith, a, b, c))
 
     line : (t : ℕ) → shares t (put_stack w.stack q k q) ≤ shares t (w.stack q) + one (t == plan_job n)
-    line t = let a : shares t (put_stack w.stack q k q) + (0 + 0) ≤ shares t (w.stack q) + one (t == plan_job n) = shares_mine w q (RaiseCount n) fs (w.shape.pool (plan_pool n)) Done t z in omega (arith, a)
+    line t = let a : shares t (put_stack w.stack q k q) + (0 + 0) ≡ shares t (w.stack q) + one (t == plan_job n) = shares_mine w q (RaiseCount n) fs (w.shape.pool (plan_pool n)) Done t z in omega (arith, a)
 
     jobs : (t : ℕ) (b : Bool) → (t == plan_job n) ≡ b → Tokens (λ s. shares t ((raised_world w q n fs).stack s)) (with_job ((raised_world w q n fs).job t)) (one ((raised_world w q n fs).job t).counted)
     jobs t true e = subst (λ t. Tokens (λ s. shares t ((raised_world w q n fs).stack s)) (with_job ((raised_world w q n fs).job t)) (one ((raised_world w q n fs).job t).counted)) (sym (eqb-true t (plan_job n) e))
@@ -136,7 +136,7 @@ raise_hold w q n fs h z ch busy pools keeps = record {
         (let a : shares t (put_stack w.stack q k q) ≤ shares t (w.stack q) + one (t == plan_job n) = line t in let b : with_job ((raised_world w q n fs).job t) ≤ with_job (w.job t) = busy t in let c : one (t == plan_job n) ≡ 0 = ap one e in omega (arith, a, b, c)) (h.jobs t))
 
     none_raises : (s : Party) (b : Bool) → same_party s q ≡ b → all_raises (plan_job n) ((raised_world w q n fs).stack s) ≤ 0
-    none_raises s true e = subst (λ s. all_raises (plan_job n) ((raised_world w q n fs).stack s) ≤ 0) (sym (same_party_true s q e)) (let a : all_raises (plan_job n) (put_stack w.stack q k q) + one (plan_job n == plan_job n) ≤ all_raises (plan_job n) (w.stack q) = raises_mine w q (RaiseCount n) fs (w.shape.pool (plan_pool n)) Done (plan_job n) z in let b : one (plan_job n == plan_job n) ≡ 1 = self_one (plan_job n) in let c : all_raises (plan_job n) (w.stack q) + one (w.job (plan_job n)).counted ≤ 1 = h.unraised q (plan_job n) in omega (arith, a, b, c))
+    none_raises s true e = subst (λ s. all_raises (plan_job n) ((raised_world w q n fs).stack s) ≤ 0) (sym (same_party_true s q e)) (let a : all_raises (plan_job n) (put_stack w.stack q k q) + one (plan_job n == plan_job n) ≡ all_raises (plan_job n) (w.stack q) = raises_mine w q (RaiseCount n) fs (w.shape.pool (plan_pool n)) Done (plan_job n) z in let b : one (plan_job n == plan_job n) ≡ 1 = self_one (plan_job n) in let c : all_raises (plan_job n) (w.stack q) + one (w.job (plan_job n)).counted ≤ 1 = h.unraised q (plan_job n) in omega (arith, a, b, c))
     none_raises s false e = let a : all_raises (plan_job n) (put_stack w.stack q k s) ≤ all_raises (plan_job n) (w.stack s) = other_le (all_raises (plan_job n)) w q k s e in
         let b : all_raises (plan_job n) (w.stack s) ≤ held (plan_job n) (w.stack s) = all_held (plan_job n) (w.stack s) in
         let c : held (plan_job n) (w.stack s) ≡ is_loc (Hand s) (loc_at (w.job (plan_job n))) = (((h.calls).jobs).ok).placed (Hand s) (plan_job n) in

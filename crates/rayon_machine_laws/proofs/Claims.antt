@@ -84,6 +84,17 @@ SaysPlan w q (Here p t) = MadeAs w t p Direct
 SaysPlan w q (Send o) = Opened w q o × ((w.call o.number).first ≡ None)
 SaysPlan w q (Fork o a) = Opened w q o × ((w.call o.number).first ≡ Some a) × Awaited w a
 
+-- a call that queues a job; an install that runs its job at once queues none
+abbrev pub SaysQueue : World → Party → Plan → Type 0
+SaysQueue w q (Here p t) = ⊥
+SaysQueue w q n = SaysPlan w q n
+
+pub queue_plan : (w : World) (q : Party) (n : Plan) → SaysQueue w q n → SaysPlan w q n
+queue_plan w q (Here p t) s = absurd s
+queue_plan w q (Detach p t) s = s
+queue_plan w q (Send o) s = s
+queue_plan w q (Fork o a) s = s
+
 abbrev pub SaysThen : World → Party → Then → Type 0
 SaysThen w q (BeginFound g t) = SaysTarget w q g × Left w t
 SaysThen w q (LeaveWait g) = SaysTarget w q g
@@ -114,7 +125,7 @@ SaysLatch w p Terminate = (w.pool p).count ≡ 0
 SaysLatch w p (OfCall c) = (c + 1 ≤ w.calls) × (is_done (w.job (w.call c).job).at ≡ true)
 
 abbrev pub SaysRun : World → ℕ → JobKind → Type 0
-SaysRun w t Direct = ⊤
+SaysRun w t Direct = Awaited w t
 SaysRun w t k = (t + 1 ≤ w.jobs) × ((w.job t).kind ≡ k)
 
 abbrev pub Says : World → Party → Place → Type 0
@@ -150,9 +161,9 @@ Says w q (BeginTask t) = Left w t
 Says w q (BeginHere t) = Awaited w t
 Says w q (Run t k) = SaysRun w t k
 Says w q (RaiseCount n) = SaysPlan w q n
-Says w q (GrowCall n) = SaysPlan w q n
-Says w q (LookQueue n) = SaysPlan w q n
-Says w q (PushJob n e) = SaysPlan w q n
+Says w q (GrowCall n) = SaysQueue w q n
+Says w q (LookQueue n) = SaysQueue w q n
+Says w q (PushJob n e) = SaysQueue w q n
 Says w q (TellNews n e) = SaysPlan w q n
 Says w q (LockToWake k) = SaysThen w q k.then
 Says w q (WakeWorker k) = SaysThen w q k.then
@@ -229,7 +240,7 @@ relink x y (f ∷ fs) h k = (λ t z. h t (k.0 t z), k.1)
 pub land_says : (w : World) (q : Party) (x : Place) (g : Move) (fs : List Place) → SaysMove w q g → PassMove x g → AllSay w q fs → Linked x fs → StackSays w q (after_move g fs)
 land_says w q x (Stay y) fs s p a k = record { top = s; below = a; links = relink x y fs p k }
 land_says w q x (Enter f y) fs s p a k = record { top = s.1; below = (s.0, a); links = (s.2, relink x f fs p k) }
-land_says w q x (StartRun f u) fs s p a k = record { top = tt; below = (s.0, a); links = (s.1, relink x f fs p k) }
+land_says w q x (StartRun f u) fs s p a k = record { top = s.2; below = (s.0, a); links = (s.1, relink x f fs p k) }
 land_says w q x Back [] s p a k = record { top = tt; below = tt; links = tt }
 land_says w q x Back (f ∷ fs) s p a k = record { top = a.0; below = a.1; links = k.1 }
 land_says w q x (HandBack n) [] s p a k = record { top = tt; below = tt; links = tt }
@@ -405,19 +416,19 @@ says_next w g q LocalPop (Task t) l s = l
 says_next w g q LocalPop _ l s = tt
 says_next w g q LocalTakeCast (Task t) l s = l
 says_next w g q LocalTakeCast _ l s = tt
-says_next w g q (BeginTask t) (Begun Direct) l s = tt
+says_next w g q (BeginTask t) (Begun Direct) l s = record { made = l.0; kind = ap is_detached (l.1) }
 says_next w g q (BeginTask t) (Begun (Detached p)) l s = l
 says_next w g q (BeginTask t) (Begun (Stored c o)) l s = l
 says_next w g q (BeginTask t) _ l s = s
-says_next w g q (BeginHere t) e l s = tt
+says_next w g q (BeginHere t) e l s = s
 says_next w g q (RaiseCount n) Done l s = says_raised w q n s
 says_next w g q (RaiseCount n) _ l s = tt
 says_next w g q (GrowCall n) Done l s = s
-says_next w g q (GrowCall n) _ l s = says_undone w q n s
+says_next w g q (GrowCall n) _ l s = says_undone w q n (queue_plan w q n s)
 says_next w g q (LookQueue n) Yes l s = s
 says_next w g q (LookQueue n) _ l s = s
-says_next w g q (PushJob n v) Done l s = s
-says_next w g q (PushJob n v) _ l s = says_undone w q n s
+says_next w g q (PushJob n v) Done l s = queue_plan w q n s
+says_next w g q (PushJob n v) _ l s = says_undone w q n (queue_plan w q n s)
 says_next w g q (TellNews n v) (Wakes k) l s = says_walk w g q (plan_pool n) k 0 (after_news n) (says_goes w q n s)
 says_next w g q (TellNews n v) _ l s = s
 says_next w g q (WakeWorker k) Yes l s = s

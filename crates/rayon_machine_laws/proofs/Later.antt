@@ -30,7 +30,7 @@ use Rattle.rayon_machine_places.specs.declared.place.OpenCall.{OpenCall}
 use Rattle.rayon_machine_places.specs.Places.{latch_of, act_of}
 use Rattle.rayon_machine_places.specs.World.{Shape, Stack, World, Counts, Part, letter, with_letter, lowered, effect}
 use Rattle.rayon_machine_places.specs.Readers.{is_done}
-use Rattle.rayon_machine_laws.proofs.Claims.{Opened, MadeAs, FirstEnds, SaysTarget, Left, is_detached, Awaited, SaysFound, SaysPlan, SaysThen, SaysOwner, SaysShare, SaysLatch, SaysRun, Says, AllSay, StackSays}
+use Rattle.rayon_machine_laws.proofs.Claims.{Opened, MadeAs, FirstEnds, SaysTarget, Left, is_detached, Awaited, SaysFound, SaysPlan, SaysQueue, SaysThen, SaysOwner, SaysShare, SaysLatch, SaysRun, Says, AllSay, StackSays}
 use Rattle.rayon_machine_laws.proofs.Letters.{sleepy_keeps, asleep_keeps, wake_keeps, set_keeps}
 
 pub record Later (w u : World) : Type 0 where
@@ -117,6 +117,12 @@ later_owner w u l t p (LeaveWait g) b s = s
 later_owner w u l t p (Await o) b s = s
 later_owner w u l t p (RunFirst o a) b s = s
 
+later_queue : (w u : World) → Later w u → (q : Party) (n : Plan) → SaysQueue w q n → SaysQueue u q n
+later_queue w u l q (Here p t) s = s
+later_queue w u l q (Detach p t) s = later_plan w u l q (Detach p t) s
+later_queue w u l q (Send o) s = later_plan w u l q (Send o) s
+later_queue w u l q (Fork o a) s = later_plan w u l q (Fork o a) s
+
 later_share : (w u : World) → Later w u → (p : ℕ) (a : Share) (n : Then) → SaysShare w p a n → SaysShare u p a n
 later_share w u l p PoolValue n s = (l.given p (s.0), s.1)
 later_share w u l p (OfJob t) n s = ((let a : t + 1 ≤ w.jobs = s.0 in let b : w.jobs ≤ u.jobs = l.jobs in omega (arith, a, b)), l.pool t (s.0) ∙ s.1, later_owner w u l t p n (s.0) (s.2))
@@ -126,7 +132,7 @@ later_latch w u l p Terminate s = l.ended p s
 later_latch w u l p (OfCall c) s = ((let a : c + 1 ≤ w.calls = s.0 in let b : w.calls ≤ u.calls = l.calls in omega (arith, a, b)), ap (λ t. is_done (u.job t).at) (l.target c (s.0)) ∙ later_done w u l ((w.call c).job) (s.1))
 
 later_run : (w u : World) → Later w u → (t : ℕ) (k : JobKind) → SaysRun w t k → SaysRun u t k
-later_run w u l t Direct s = tt
+later_run w u l t Direct s = later_awaited w u l t s
 later_run w u l t (Detached p) s = ((let a : t + 1 ≤ w.jobs = s.0 in let b : w.jobs ≤ u.jobs = l.jobs in omega (arith, a, b)), l.kind t (s.0) ∙ s.1)
 later_run w u l t (Stored c o) s = ((let a : t + 1 ≤ w.jobs = s.0 in let b : w.jobs ≤ u.jobs = l.jobs in omega (arith, a, b)), l.kind t (s.0) ∙ s.1)
 
@@ -162,9 +168,9 @@ later_says w u l q (JoinTakeCast o) s = later_target w u l q (Answer o (Some Fin
 later_says w u l q (SecondSide o) s = later_target w u l q (Answer o (Some Fine)) s
 later_says w u l q (Run t k) s = later_run w u l t k s
 later_says w u l q (RaiseCount n) s = later_plan w u l q n s
-later_says w u l q (GrowCall n) s = later_plan w u l q n s
-later_says w u l q (LookQueue n) s = later_plan w u l q n s
-later_says w u l q (PushJob n e) s = later_plan w u l q n s
+later_says w u l q (GrowCall n) s = later_queue w u l q n s
+later_says w u l q (LookQueue n) s = later_queue w u l q n s
+later_says w u l q (PushJob n e) s = later_queue w u l q n s
 later_says w u l q (TellNews n e) s = later_plan w u l q n s
 later_says w u l q (LockToWake k) s = later_then w u l q k.then s
 later_says w u l q (WakeWorker k) s = later_then w u l q k.then s

@@ -29,7 +29,7 @@ use Rattle.rayon_machine_laws.proofs.Ties.{job_at}
 use Rattle.rayon_machine_laws.proofs.Lists.{moves_no_job, SameJobs, quiet_same, times_first, times_own}
 use Rattle.rayon_machine_laws.proofs.Located.{is_left}
 use Rattle.rayon_machine_laws.proofs.Placed.{outcome_of}
-use Rattle.rayon_machine_laws.proofs.Claims.{is_detached, SaysPlan, Says}
+use Rattle.rayon_machine_laws.proofs.Claims.{is_detached, SaysPlan, queue_plan, Says}
 use Rattle.rayon_machine_laws.proofs.ClaimRuns.{CallsHold, place_part}
 use Rattle.rayon_machine_laws.proofs.Amounts.{all_raises, all_values, pushed}
 use Rattle.rayon_machine_laws.proofs.Tokens.{Tokens, sum_below}
@@ -186,5 +186,5 @@ act_stays w (Worker a b) LocalTakeCast h s = cast_stays (Worker a b) (place_part
 act_stays w (Caller c) LocalTakeCast h s = tt
 act_stays w q (BeginTask t) h s = λ y z. absurd (let a : is_left (w.job t).at ≡ true = s in cc)
 act_stays w q (BeginHere t) h s = λ y z. absurd (let a : is_detached (w.job t).kind ≡ false = s.kind in cc)
-act_stays w q (PushJob n v) h s = push_act_stays w q n v (is_member q (plan_pool n)) s
+act_stays w q (PushJob n v) h s = push_act_stays w q n v (is_member q (plan_pool n)) (queue_plan w q n s)
 act_stays w q x h s = quiet_stays w.shape q (counts_at w (target_pool q (act_of q x))) (place_part w q x) x (job_at w q (act_of q x)) refl

@@ -11,7 +11,6 @@ use Rattle.rayon_machine_places.specs.declared.place.Rounds.{Rounds}
 use Rattle.rayon_machine_places.specs.declared.place.Rounds.TheVariants.{Failed, Announced}
 use Rattle.rayon_machine_places.specs.declared.place.Plan.{Plan}
 use Rattle.rayon_machine_places.specs.declared.place.Plan.TheVariants.{Detach, Here, Send, Fork}
-use Rattle.rayon_machine_places.specs.declared.place.Share.TheVariants.{PoolValue}
 use Rattle.rayon_machine_places.specs.declared.place.Then.{Then}
 use Rattle.rayon_machine_places.specs.declared.place.Then.TheVariants.{BeginFound, LeaveWait, Resume, Await, RunFirst, Answers, Missing, Ran, GiveBack}
 use Rattle.rayon_machine_places.specs.declared.place.Place.{Place}
@@ -28,6 +27,7 @@ use Rattle.rayon_machine_places.specs.Places.{own_pool, own_index, plan_pool, pl
 use Rattle.rayon_machine_places.specs.World.{Stack}
 use Rattle.rayon_machine_places.specs.Steps.{after_move}
 use Rattle.rayon_machine_laws.specs.Once.{one}
+pub use Rattle.rayon_machine_laws.specs.Counted.{values, values_in, all_values}
 use Rattle.rayon_machine_laws.specs.Shares.{share_target, share_rest, share_then, share_of, share, shares_in, shares}
 
 -- a place that raises the count for job t
@@ -35,24 +35,12 @@ abbrev pub raises : ℕ → Place → ℕ
 raises t (RaiseCount n) = one (t == plan_job n)
 raises t _ = 0
 
--- a place that gives up the value of pool p
-abbrev pub values : ℕ → Place → ℕ
-values p (LowerCount r PoolValue n) = one (p == r)
-values p _ = 0
-
 abbrev pub raises_in : ℕ → List Place → ℕ
 raises_in t [] = 0
 raises_in t (f ∷ fs) = raises t f + raises_in t fs
 
-abbrev pub values_in : ℕ → List Place → ℕ
-values_in p [] = 0
-values_in p (f ∷ fs) = values p f + values_in p fs
-
 abbrev pub all_raises : ℕ → Stack → ℕ
 all_raises t k = raises t k.top + raises_in t k.below
-
-abbrev pub all_values : ℕ → Stack → ℕ
-all_values p k = values p k.top + values_in p k.below
 
 abbrev pub share_move : ℕ → Move → ℕ
 share_move t (Stay y) = share t y
@@ -198,7 +186,7 @@ is_done_seen _ = false
 am_back : (t p : ℕ) (n : Plan) (v : Bool) (e : Seen) → Amount t p (Stay (undo n)) (one (t == plan_job n))
 am_back t p n v e = (omega arith, refl)
 
-not_pushed : (t : ℕ) (n : Plan) (v : Bool) (e : Seen) → is_done_seen e ≡ false → pushed t (PushJob n v) e ≡ 0
+pub not_pushed : (t : ℕ) (n : Plan) (v : Bool) (e : Seen) → is_done_seen e ≡ false → pushed t (PushJob n v) e ≡ 0
 not_pushed t (Detach r u) v Done z = cc
 not_pushed t (Here r u) v Done z = cc
 not_pushed t (Send o) v Done z = cc

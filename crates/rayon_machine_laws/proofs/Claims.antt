@@ -35,6 +35,7 @@ use Rattle.rayon_machine_places.specs.Places.{own_pool, own_index, plan_pool, pl
 use Rattle.rayon_machine_places.specs.World.{Stack, World}
 use Rattle.rayon_machine_places.specs.Steps.{after_move}
 use Rattle.rayon_machine_places.specs.Readers.{is_done}
+pub use Rattle.rayon_machine_laws.specs.Counted.{is_detached}
 use Rattle.rayon_machine_laws.proofs.Located.{is_left}
 
 -- an open call's numbers are given out, and its job is the one whose ending comes into the call's cell
@@ -66,10 +67,6 @@ abbrev pub Left : World → ℕ → Type 0
 Left w t = is_left (w.job t).at ≡ true
 
 -- a job whose call waits for it
-abbrev pub is_detached : JobKind → Bool
-is_detached (Detached p) = true
-is_detached _ = false
-
 pub record Awaited (w : World) (t : ℕ) : Type 0 where
   pub made : t + 1 ≤ w.jobs
   pub kind : is_detached (w.job t).kind ≡ false

@@ -50,5 +50,7 @@ pub mod ShareEvents
 pub mod ShareEnds
 pub mod Bares
 pub mod Returns
+pub mod Keepers
+pub mod Keeping
 pub mod Takes
 pub mod Filled

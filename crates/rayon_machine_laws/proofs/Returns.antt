@@ -200,7 +200,7 @@ raise_returns w q n fs z h s = returns_by w v q k (λ i. refl) (λ t c. by t c (
       λ r y. (let d : all_bare t (w.stack r) + backs (w.job t).at ≤ 0 = h.bare r t (sym (same t e) ∙ c) in omega (arith, d)),
     )
 
-unpaid : (t : ℕ) (x : Place) → is_tally x ≡ false → paid t x ≡ 0
+pub unpaid : (t : ℕ) (x : Place) → is_tally x ≡ false → paid t x ≡ 0
 unpaid t (LowerCount p s n) z = cc
 unpaid t _ z = refl
 
@@ -324,10 +324,10 @@ each_returns w (Yield q) h = yield_returns w q YieldPop (λ t. refl) h
 each_returns w (YieldLocal q) h = yield_returns w q LocalPop (λ t. refl) h
 each_returns w (EndPool q p) h = give_returns w q p h
 
-step_returns : (w : World) (e : Event) → ReturnsHold w → IfSome (step w e) ReturnsHold
+pub step_returns : (w : World) (e : Event) → ReturnsHold w → IfSome (step w e) ReturnsHold
 step_returns w e h = if_some_map (λ u. SharesHold u × (SharesHold u → ReturnsHold u)) ReturnsHold (λ u f. f.1 (f.0)) (step w e) (if_some_and SharesHold (λ u. SharesHold u → ReturnsHold u) (step w e) (step_shares w e (h.shares)) (each_returns w e h))
 
-first_returns : (h : Shape) → ReturnsHold (start h)
+pub first_returns : (h : Shape) → ReturnsHold (start h)
 first_returns h = record { shares = first_shares h; bare = λ q t c. absurd (let a : false ≡ true = c in cc) }
 
 pub always_returns : (h : Shape) (es : List Event) (w : World) → IsRun (start h) es w → ReturnsHold w

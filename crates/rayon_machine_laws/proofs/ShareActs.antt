@@ -1,6 +1,6 @@
 -- each act keeps the shares and their sum
 use Rattle.std.proofs.Common.{rules, arith, refl, sym, ◌∙◌, ap, subst}
-use Rattle.std.specs.Prelude.{ℕ, Bool, true, false, ◌&&◌, ◌+◌, ◌==◌, ◌≤◌, if◌then◌else◌, Option, Some, None, List, [], ◌∷◌, ◌++◌, ◌≡◌, IfSome}
+use Rattle.std.specs.Prelude.{ℕ, Bool, true, false, ◌+◌, ◌==◌, ◌≤◌, if◌then◌else◌, Option, Some, None, List, [], ◌∷◌, ◌++◌, ◌≡◌, IfSome}
 use Rattle.std.proofs.lemmas.Bool.{eq-eqb}
 use Rattle.rayon_machine_places.specs.declared.shape.Order.{Order}
 use Rattle.rayon_machine_places.specs.declared.place.Party.{Party}
@@ -23,6 +23,7 @@ use Rattle.rayon_machine_places.specs.Places.{own_pool, own_index, is_member, la
 use Rattle.rayon_machine_places.specs.World.{Shape, World, Counts, counts_at, Part, target_pool, target_worker, target_call, head_of, but_first, own_of, own_left, or_none, letter, with_letter, at_job, popped, take_cast, pop_injector, effect}
 use Rattle.rayon_machine_places.specs.Steps.{part_of}
 use Rattle.rayon_machine_laws.specs.Once.{one, times, in_deque, in_injector, IsOnce}
+use Rattle.rayon_machine_laws.specs.Counted.{keeps_own, has_share}
 use Rattle.rayon_machine_laws.specs.Shares.{shares, is_busy}
 use Rattle.rayon_machine_laws.proofs.Frame.{if_some_map}
 use Rattle.rayon_machine_laws.proofs.Ties.{job_at}
@@ -37,11 +38,11 @@ use Rattle.rayon_machine_laws.proofs.Letters.{sleepy_keeps, asleep_keeps, wake_k
 
 -- a detached job that is queued or runs has its share itself
 abbrev pub with_job : Job → ℕ
-with_job j = one (is_detached j.kind && is_busy j.at)
+with_job j = one (keeps_own j)
 
 -- a job's share counts at its pool
 abbrev pub tally : ℕ → Job → ℕ
-tally p j = one (j.counted && (p == j.pool))
+tally p j = one (has_share p j)
 
 -- what holds of the shares of every world
 pub record SharesHold (w : World) : Type 0 where

@@ -69,7 +69,7 @@ freed_had w q s t (Detached p) e r a = let i : s ≡ t = eqb-true s t e in let b
 freed_had w q s t (Stored c o) e r a = omega arith
 freed_had w q s t Direct e r a = omega arith
 
-freed_none : (s t : ℕ) (k : JobKind) → (s == t) ≡ false → freed s t k ≡ 0
+pub freed_none : (s t : ℕ) (k : JobKind) → (s == t) ≡ false → freed s t k ≡ 0
 freed_none s t (Detached p) e = ap one e
 freed_none s t (Stored c o) e = refl
 freed_none s t Direct e = refl

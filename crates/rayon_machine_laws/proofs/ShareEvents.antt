@@ -34,7 +34,7 @@ use Rattle.rayon_machine_laws.proofs.ShareRuns.{StartsAwaited, says_starts, busy
 use Rattle.rayon_machine_laws.proofs.ShareSteps.{Ready, plain_hold, raised_world, raise_hold}
 use Rattle.rayon_machine_laws.proofs.ShareLowers.{lowered_world, lower_job, lower_value}
 
-ready : (w : World) (q : Party) → SharesHold w → IfSome (outcome w q (w.stack q)) (λ r. Ready w q ((w.stack q).top) ((w.stack q).below) r)
+pub ready : (w : World) (q : Party) → SharesHold w → IfSome (outcome w q (w.stack q)) (λ r. Ready w q ((w.stack q).top) ((w.stack q).below) r)
 ready w q h =
     let k = w.stack q in let x = k.top in
     if_some_map (λ r. ((Static (place_part w q x) r × Learned w.shape q (place_part w q x) x r) × (Written (place_part w q x) x r × Kept w (result w q k r))) × Stays (place_part w q x) x (job_at w q (act_of q x)) r) (λ r. Ready w q x (k.below) r)
@@ -69,7 +69,7 @@ raise_go : (w : World) (q : Party) (n : Plan) (fs : List Place) → ((r : Seen �
 raise_go w q n fs plain done f true d = plain (Refused, place_part w q (RaiseCount n)) d (same_untallied (place_part w q (RaiseCount n)) Refused) (λ t. refl)
 raise_go w q n fs plain done f false d = f d
 
-ungained : (t : ℕ) (x : Place) (e : Seen) → is_tally x ≡ false → gained t x e ≡ 0
+pub ungained : (t : ℕ) (x : Place) (e : Seen) → is_tally x ≡ false → gained t x e ≡ 0
 ungained t (RaiseCount n) e z = cc
 ungained t _ e z = refl
 

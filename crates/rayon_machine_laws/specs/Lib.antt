@@ -6,6 +6,7 @@ pub mod Searched
 pub mod End
 pub mod Latch
 pub mod Shares
+pub mod Counted
 pub use Rattle.rayon_machine_places.specs.Places
 pub use Rattle.rayon_machine_places.specs.World
 pub use Rattle.rayon_machine_places.specs.Steps

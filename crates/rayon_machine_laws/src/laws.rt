@@ -1,6 +1,7 @@
 //! The laws of the machine, each the contract of a call without arguments: it holds in every world of every run.
 ghost use Rattle.rayon_machine_places.specs.Runs.{Always};
 ghost use Rattle.rayon_machine_laws.specs.Committed.{CommittedHold, CommittedSleep, SleepersAreInactive};
+ghost use Rattle.rayon_machine_laws.specs.Counted.{IsCounted};
 ghost use Rattle.rayon_machine_laws.specs.End.{IsEnd, IsRefused, IsReturned};
 ghost use Rattle.rayon_machine_laws.specs.Latch.{IsLatched};
 ghost use Rattle.rayon_machine_laws.specs.Once.{IsOnce};
@@ -20,6 +21,17 @@ pub fn law_once()
 /// It does not say that a latch is ever set.
 pub fn law_latch()
     ensures { Always IsLatched }
+{}
+
+/// In every world of every run a pool's terminate count is the number of the shares in it: one for the pool's value until
+/// its Lower, and one for each job at the pool that has a share. Each of them is kept exactly once, and no other is kept.
+/// The value's share is kept by the held value, or by the one Lower that gives it back. A job's share is kept by the one
+/// call that waits for it, from its Raise to its Lower; where no call waits for the job, by its call before it is queued,
+/// then by the job itself while it is queued, in a hand or running, and last by the Lower that follows its run. So no
+/// share is lost, and none stays in the count that nobody will give back.
+/// It does not say that a share is ever given back.
+pub fn law_count()
+    ensures { Always IsCounted }
 {}
 
 /// In every world of every run, a call that was not refused and makes its last steps has run each of its jobs once: each is

@@ -1,0 +1,190 @@
+-- each share that is in the count has a keeper: what a party or the share's owner keeps, no act loses
+use Rattle.std.proofs.Common.{arith, refl, sym, ◌∙◌, ap, subst}
+use Rattle.std.specs.Prelude.{ℕ, zero, suc, Bool, true, false, ◌&&◌, ◌+◌, ◌==◌, ◌≤◌, if◌then◌else◌, Option, Some, None, List, [], ◌∷◌, ◌≡◌, IfSome}
+use Rattle.std.proofs.lemmas.Bool.{eqb-true}
+use Rattle.rayon_machine_places.specs.declared.place.Party.{Party}
+use Rattle.rayon_machine_places.specs.declared.place.Party.TheVariants.{Worker, Caller}
+use Rattle.rayon_machine_places.specs.declared.place.Plan.{Plan}
+use Rattle.rayon_machine_places.specs.declared.place.Plan.TheVariants.{Detach, Here, Send, Fork}
+use Rattle.rayon_machine_places.specs.declared.place.Place.{Place}
+use Rattle.rayon_machine_places.specs.declared.place.Place.TheVariants.{PopWorking, TakeCastWorking, PopIdle, TakeCastIdle, StealFrom, PopInjected, JoinPop, JoinTakeCast, YieldPop, YieldTakeCast, YieldSteal, YieldPopInjected, LocalPop, LocalTakeCast, BeginTask, BeginHere, PushJob}
+use Rattle.rayon_machine_places.specs.declared.place.Move.{Move}
+use Rattle.rayon_machine_places.specs.declared.place.Move.TheVariants.{Stay, Enter, StartRun, Back, HandBack}
+use Rattle.rayon_machine_places.specs.declared.act.Act.TheVariants.{PushInj, PushOwn}
+use Rattle.rayon_machine_places.specs.declared.act.Seen.{Seen}
+use Rattle.rayon_machine_places.specs.declared.state.Whereabouts.TheVariants.{HandedBack}
+use Rattle.rayon_machine_places.specs.declared.state.Job.{Job}
+use Rattle.rayon_machine_places.specs.Places.{same_party, is_member, plan_pool, plan_job, act_of, next_of}
+use Rattle.rayon_machine_places.specs.World.{Shape, Stack, World, Counts, Part, target_pool, at_job, begun, popped, take_cast, pop_injector, effect}
+use Rattle.rayon_machine_places.specs.Steps.{put, put_stack, jobs_after}
+use Rattle.rayon_machine_laws.specs.Once.{one}
+use Rattle.rayon_machine_laws.specs.Counted.{is_detached, all_values}
+use Rattle.rayon_machine_laws.specs.Shares.{shares, is_busy}
+use Rattle.rayon_machine_laws.proofs.Frame.{same_party_true, if_some_map, stack_mine, stack_other}
+use Rattle.rayon_machine_laws.proofs.Ties.{job_at}
+use Rattle.rayon_machine_laws.proofs.Lists.{SameJobs, quiet_same}
+use Rattle.rayon_machine_laws.proofs.ClaimActs.{Lasting}
+use Rattle.rayon_machine_laws.proofs.ClaimRuns.{world_after, place_part}
+use Rattle.rayon_machine_laws.proofs.ShareActs.{with_job, one_most}
+use Rattle.rayon_machine_laws.proofs.Bares.{backs}
+use Rattle.rayon_machine_laws.proofs.Returns.{ReturnsHold}
+
+-- what a keeper has of a share
+abbrev pub kept_by : (Party → ℕ) → ℕ → Option Party → ℕ
+kept_by f own None = own
+kept_by f own (Some q) = f q
+
+abbrev pub HasKeeper : (Party → ℕ) → ℕ → ℕ → Type 0
+HasKeeper f own cap = (o : Option Party) × (cap ≤ kept_by f own o)
+
+-- what a party and the owner have together, one of them has
+one_of_two : (g : Party → ℕ) (new cap : ℕ) (q : Party) → cap ≤ 1 → cap ≤ g q + new → HasKeeper g new cap
+one_of_two g new cap q c h = by new refl
+  where
+    by : (n : ℕ) → new ≡ n → HasKeeper g new cap
+    by zero e = (Some q, (let a : cap ≤ g q = omega (arith, h, e) in a))
+    by (suc n) e = (None, (let a : cap ≤ new = omega (arith, c, e) in a))
+
+-- where a party and the owner have together no less than before, and the others the same, a keeper stays
+keeper_stays : (f g : Party → ℕ) (own new cap : ℕ) (q : Party) → cap ≤ 1 → ((r : Party) → same_party r q ≡ false → g r ≡ f r) → f q + own ≤ g q + new → HasKeeper f own cap → HasKeeper g new cap
+keeper_stays f g own new cap q c other mine (None, h) = let k : cap ≤ own = h in one_of_two g new cap q c (omega (arith, mine, k))
+keeper_stays f g own new cap q c other mine (Some r, h) = by (same_party r q) refl
+  where
+    has : cap ≤ f r
+    has = h
+
+    by : (z : Bool) → same_party r q ≡ z → HasKeeper g new cap
+    by true z = let e : f r ≡ f q = ap f (same_party_true r q z) in let k : cap ≤ f r = has in one_of_two g new cap q c (omega (arith, mine, k, e))
+    by false z = (Some r, (let e : g r ≡ f r = other r z in let k : cap ≤ f r = has in let a : cap ≤ g r = omega (arith, k, e) in a))
+
+-- each share that is in the count has a keeper
+pub record KeepersHold (w : World) : Type 0 where
+  pub returns : ReturnsHold w
+  pub jobs : (t : ℕ) → HasKeeper (λ q. shares t (w.stack q)) (with_job (w.job t)) (one (w.job t).counted)
+  pub values : (p : ℕ) → HasKeeper (λ q. all_values p (w.stack q)) (one (w.pool p).held) (one (w.pool p).counted)
+
+-- one party has moved: a share that is in the count was so before, or has come to it now
+pub keepers_by : (w u : World) (q : Party) (k : Stack) → ((r : Party) → u.stack r ≡ put_stack w.stack q k r) → ((t : ℕ) → (u.job t).counted ≡ true → (g : ℕ) × ((one (w.job t).counted + g) ≡ 1) × (shares t (w.stack q) + with_job (w.job t) + g ≤ shares t k + with_job (u.job t))) → ((p : ℕ) → (u.pool p).counted ≡ true → ((w.pool p).counted ≡ true) × (all_values p (w.stack q) + one (w.pool p).held ≤ all_values p k + one (u.pool p).held)) → KeepersHold w → ReturnsHold u → KeepersHold u
+keepers_by w u q k st fj fp h s = record { returns = s; jobs = λ t. job t ((u.job t).counted) refl; values = λ p. value p ((u.pool p).counted) refl }
+  where
+    mine : (f : Stack → ℕ) → f (u.stack q) ≡ f k
+    mine f = ap f (st q ∙ stack_mine w.stack q k)
+
+    others : (f : Stack → ℕ) (r : Party) → same_party r q ≡ false → f (u.stack r) ≡ f (w.stack r)
+    others f r e = ap f (st r ∙ stack_other w.stack q k r e)
+
+    job : (t : ℕ) (b : Bool) → (u.job t).counted ≡ b → HasKeeper (λ r. shares t (u.stack r)) (with_job (u.job t)) (one b)
+    job t false e = (None, omega arith)
+    job t true e = by ((w.job t).counted) refl (fj t e)
+      where
+        by : (b : Bool) → (w.job t).counted ≡ b → (g : ℕ) × ((one (w.job t).counted + g) ≡ 1) × (shares t (w.stack q) + with_job (w.job t) + g ≤ shares t k + with_job (u.job t)) → HasKeeper (λ r. shares t (u.stack r)) (with_job (u.job t)) 1
+        by true z (g, one_now, kept) = keeper_stays (λ r. shares t (w.stack r)) (λ r. shares t (u.stack r)) (with_job (w.job t)) (with_job (u.job t)) 1 q (omega arith) (λ r x. others (shares t) r x)
+            (let a : shares t (u.stack q) ≡ shares t k = mine (shares t) in let b : shares t (w.stack q) + with_job (w.job t) + g ≤ shares t k + with_job (u.job t) = kept in omega (arith, a, b))
+            (subst (λ c. HasKeeper (λ r. shares t (w.stack r)) (with_job (w.job t)) (one c)) z (h.jobs t))
+        by false z (g, one_now, kept) = one_of_two (λ r. shares t (u.stack r)) (with_job (u.job t)) 1 q (omega arith)
+            (let a : shares t (u.stack q) ≡ shares t k = mine (shares t) in let b : shares t (w.stack q) + with_job (w.job t) + g ≤ shares t k + with_job (u.job t) = kept in let c : (one (w.job t).counted + g) ≡ 1 = one_now in let e : one (w.job t).counted ≡ 0 = ap one z in omega (arith, a, b, c, e))
+
+    value : (p : ℕ) (b : Bool) → (u.pool p).counted ≡ b → HasKeeper (λ r. all_values p (u.stack r)) (one (u.pool p).held) (one b)
+    value p false e = (None, omega arith)
+    value p true e = keeper_stays (λ r. all_values p (w.stack r)) (λ r. all_values p (u.stack r)) (one (w.pool p).held) (one (u.pool p).held) 1 q (omega arith) (λ r x. others (all_values p) r x)
+        (let a : all_values p (u.stack q) ≡ all_values p k = mine (all_values p) in let b : all_values p (w.stack q) + one (w.pool p).held ≤ all_values p k + one (u.pool p).held = (fp p e).1 in omega (arith, a, b))
+        (subst (λ c. HasKeeper (λ r. all_values p (w.stack r)) (one (w.pool p).held) (one c)) ((fp p e).0) (h.values p))
+
+-- an act leaves a job that is queued, in a hand or running so
+abbrev pub StaysBusy : Part → Seen × Part → Type 0
+StaysBusy m r = one (is_busy m.job.at) ≤ one (is_busy r.1.job.at)
+
+pop_busies : (q : Party) (m : Part) (rest : List ℕ) (o : Option ℕ) → IfSome (popped q m rest o) (StaysBusy m)
+pop_busies q m rest None = omega arith
+pop_busies q m rest (Some t) = one_most (is_busy m.job.at)
+
+cast_busies : (q : Party) (m : Part) (l : List ℕ) → IfSome (take_cast q m l) (StaysBusy m)
+cast_busies q m [] = omega arith
+cast_busies q m (t ∷ ts) = one_most (is_busy m.job.at)
+
+inj_busies : (q : Party) (m : Part) (l : List ℕ) → IfSome (pop_injector q m l) (StaysBusy m)
+inj_busies q m [] = omega arith
+inj_busies q m (t ∷ ts) = one_most (is_busy m.job.at)
+
+push_busies : (h : Shape) (q : Party) (c : Counts) (m : Part) (p t : ℕ) (z : Bool) → IfSome (effect (if z then PushOwn t else PushInj p t) h q c m) (λ r. is_busy r.1.job.at ≡ true)
+push_busies h q c m p t true = refl
+push_busies h q c m p t false = refl
+
+pub act_pushes : (h : Shape) (q : Party) (c : Counts) (m : Part) (n : Plan) (v : Bool) → IfSome (effect (act_of q (PushJob n v)) h q c m) (λ r. is_busy r.1.job.at ≡ true)
+act_pushes h (Caller e) c m n v = refl
+act_pushes h (Worker a b) c m n v = push_busies h (Worker a b) c m (plan_pool n) (plan_job n) (is_member (Worker a b) (plan_pool n))
+
+pub act_busies : (h : Shape) (q : Party) (c : Counts) (m : Part) (x : Place) → IfSome (effect (act_of q x) h q c m) (StaysBusy m)
+act_busies h (Worker a b) c m (PopWorking k) = pop_busies (Worker a b) m _ _
+act_busies h (Caller n) c m (PopWorking k) = tt
+act_busies h (Worker a b) c m (PopIdle k) = pop_busies (Worker a b) m _ _
+act_busies h (Caller n) c m (PopIdle k) = tt
+act_busies h (Worker a b) c m (JoinPop o) = pop_busies (Worker a b) m _ _
+act_busies h (Caller n) c m (JoinPop o) = tt
+act_busies h (Worker a b) c m YieldPop = pop_busies (Worker a b) m _ _
+act_busies h (Caller n) c m YieldPop = tt
+act_busies h (Worker a b) c m LocalPop = pop_busies (Worker a b) m _ _
+act_busies h (Caller n) c m LocalPop = tt
+act_busies h (Worker a b) c m (StealFrom k n) = pop_busies (Worker a b) m _ _
+act_busies h (Caller e) c m (StealFrom k n) = tt
+act_busies h (Worker a b) c m (YieldSteal v n) = pop_busies (Worker a b) m _ _
+act_busies h (Caller e) c m (YieldSteal v n) = tt
+act_busies h (Worker a b) c m (PopInjected k) = inj_busies (Worker a b) m _
+act_busies h (Caller n) c m (PopInjected k) = tt
+act_busies h (Worker a b) c m YieldPopInjected = inj_busies (Worker a b) m _
+act_busies h (Caller n) c m YieldPopInjected = tt
+act_busies h (Worker a b) c m (TakeCastWorking k) = cast_busies (Worker a b) m _
+act_busies h (Caller n) c m (TakeCastWorking k) = tt
+act_busies h (Worker a b) c m (TakeCastIdle k) = cast_busies (Worker a b) m _
+act_busies h (Caller n) c m (TakeCastIdle k) = tt
+act_busies h (Worker a b) c m (JoinTakeCast o) = cast_busies (Worker a b) m _
+act_busies h (Caller n) c m (JoinTakeCast o) = tt
+act_busies h (Worker a b) c m YieldTakeCast = cast_busies (Worker a b) m _
+act_busies h (Caller n) c m YieldTakeCast = tt
+act_busies h (Worker a b) c m LocalTakeCast = cast_busies (Worker a b) m _
+act_busies h (Caller n) c m LocalTakeCast = tt
+act_busies h q c m (BeginTask t) = one_most (is_busy m.job.at)
+act_busies h q c m (BeginHere t) = one_most (is_busy m.job.at)
+act_busies h q c m (PushJob n v) = if_some_map (λ r. is_busy r.1.job.at ≡ true) (StaysBusy m) (λ r e. (let a : one (is_busy m.job.at) ≤ 1 = one_most (is_busy m.job.at) in let b : one (is_busy r.1.job.at) ≡ 1 = ap one e in omega (arith, a, b))) (effect (act_of q (PushJob n v)) h q c m) (act_pushes h q c m n v)
+act_busies h q c m x = if_some_map (SameJobs m) (StaysBusy m) (λ r s. (let a : one (is_busy r.1.job.at) ≡ one (is_busy m.job.at) = ap (λ v. one (is_busy v)) (s.at) in omega (arith, a))) (effect (act_of q x) h q c m) (quiet_same h q c m x refl)
+
+-- and so does a move, but for what it hands back
+back_stays : (J : ℕ → Job) (n t : ℕ) → backs (put J n (at_job (J n) HandedBack) t).at ≤ 0 → one (is_busy (J t).at) ≤ one (is_busy (put J n (at_job (J n) HandedBack) t).at)
+back_stays J n t = by (t == n)
+  where
+    by : (z : Bool) → backs (if z then at_job (J n) HandedBack else J t).at ≤ 0 → one (is_busy (J t).at) ≤ one (is_busy (if z then at_job (J n) HandedBack else J t).at)
+    by true h = absurd (omega (arith, h))
+    by false h = omega arith
+
+pub moved_stays : (q : Party) (g : Move) (J : ℕ → Job) (t : ℕ) → backs (jobs_after q g J t).at ≤ 0 → one (is_busy (J t).at) ≤ one (is_busy (jobs_after q g J t).at)
+moved_stays q (Stay y) J t h = omega arith
+moved_stays q (Enter f y) J t h = omega arith
+moved_stays q Back J t h = omega arith
+moved_stays q (StartRun f n) J t h = by (t == n)
+  where
+    by : (z : Bool) → one (is_busy (J t).at) ≤ one (is_busy (if z then begun q (J n) else J t).at)
+    by true = one_most (is_busy (J t).at)
+    by false = omega arith
+moved_stays q (HandBack (Detach p n)) J t h = back_stays J n t h
+moved_stays q (HandBack (Here p n)) J t h = back_stays J n t h
+moved_stays q (HandBack (Send o)) J t h = back_stays J (o.job) t h
+moved_stays q (HandBack (Fork o n)) J t h = by (t == o.job) h
+  where
+    by : (z : Bool) → backs (if z then at_job (J (o.job)) HandedBack else put J n (at_job (J n) HandedBack) t).at ≤ 0 → one (is_busy (J t).at) ≤ one (is_busy (if z then at_job (J (o.job)) HandedBack else put J n (at_job (J n) HandedBack) t).at)
+    by true h = absurd (omega (arith, h))
+    by false h = back_stays J n t h
+
+pub both_le : (d e b c : Bool) → e ≡ d → one b ≤ one c → one (d && b) ≤ one (e && c)
+both_le true true b c z h = h
+both_le true false b c z h = cc
+both_le false e b c z h = omega arith
+
+-- a job that keeps its share keeps it after an act that pushes none
+pub busy_kept : (w : World) (q : Party) (x : Place) (fs : List Place) (r : Seen × Part) → Lasting w (world_after w q x fs r) → StaysBusy (place_part w q x) r → (t : ℕ) → backs ((world_after w q x fs r).job t).at ≤ 0 → with_job (w.job t) ≤ with_job ((world_after w q x fs r).job t)
+busy_kept w q x fs r l st t b = both_le (is_detached (w.job t).kind) (is_detached ((world_after w q x fs r).job t).kind) (is_busy (w.job t).at) (is_busy ((world_after w q x fs r).job t).at) (ap is_detached (l.kinds t))
+    (let c : one (is_busy (w.job t).at) ≤ one (is_busy (put w.job (job_at w q (act_of q x)) (r.1.job) t).at) = touched (t == job_at w q (act_of q x)) refl in
+    let d : one (is_busy (put w.job (job_at w q (act_of q x)) (r.1.job) t).at) ≤ one (is_busy ((world_after w q x fs r).job t).at) = moved_stays q (next_of (w.shape.pool (target_pool q (act_of q x))) q x (r.0)) (put w.job (job_at w q (act_of q x)) (r.1.job)) t b in omega (arith, c, d))
+  where
+    touched : (z : Bool) → (t == job_at w q (act_of q x)) ≡ z → one (is_busy (w.job t).at) ≤ one (is_busy (if z then r.1.job else w.job t).at)
+    touched false e = omega arith
+    touched true e = subst (λ n. one (is_busy (w.job n).at) ≤ one (is_busy r.1.job.at)) (sym (eqb-true t (job_at w q (act_of q x)) e)) st

@@ -1,0 +1,373 @@
+-- each step leaves each share that is in the count with a keeper; so a pool's terminate count is the number of its shares, and each is kept once
+use Rattle.std.proofs.Common.{arith, refl, sym, ◌∙◌, ap, inl, inr}
+use Rattle.std.specs.Prelude.{ℕ, zero, suc, Bool, true, false, ◌&&◌, ◌+◌, ◌-◌, ◌==◌, ◌≤◌, ◌<◌, nat_lt, if◌then◌else◌, Some, None, List, ◌≡◌, IfSome}
+use Rattle.std.proofs.lemmas.Bool.{eqb-true, ltb-true, ltb-false}
+use Rattle.std.proofs.Math.Dec.{ltb}
+use Rattle.rayon_machine_places.specs.declared.place.Party.{Party}
+use Rattle.rayon_machine_places.specs.declared.place.Party.TheVariants.{Worker, Caller}
+use Rattle.rayon_machine_places.specs.declared.place.Ending.{Ending}
+use Rattle.rayon_machine_places.specs.declared.place.JobKind.{JobKind}
+use Rattle.rayon_machine_places.specs.declared.place.JobKind.TheVariants.{Detached, Stored, Direct}
+use Rattle.rayon_machine_places.specs.declared.place.Plan.{Plan}
+use Rattle.rayon_machine_places.specs.declared.place.Plan.TheVariants.{Detach, Here, Send, Fork}
+use Rattle.rayon_machine_places.specs.declared.place.Share.TheVariants.{PoolValue, OfJob}
+use Rattle.rayon_machine_places.specs.declared.place.Then.{Then}
+use Rattle.rayon_machine_places.specs.declared.place.Then.TheVariants.{Resume}
+use Rattle.rayon_machine_places.specs.declared.place.Place.{Place}
+use Rattle.rayon_machine_places.specs.declared.place.Place.TheVariants.{PickVictim, StealFrom, YieldPop, YieldPick, YieldSteal, LocalPop, Run, RaiseCount, GrowCall, PushJob, LowerCount}
+use Rattle.rayon_machine_places.specs.declared.act.Act.TheVariants.{PushInj, PushOwn}
+use Rattle.rayon_machine_places.specs.declared.act.Seen.{Seen}
+use Rattle.rayon_machine_places.specs.declared.act.Seen.TheVariants.{Done, Refused, Yes, No, Missing, Start}
+use Rattle.rayon_machine_places.specs.declared.event.Event.{Event}
+use Rattle.rayon_machine_places.specs.declared.event.Event.TheVariants.{Go, From, Refuse, Miss, End, Spawn, Install, Join, Yield, YieldLocal, EndPool}
+use Rattle.rayon_machine_places.specs.declared.state.Whereabouts.TheVariants.{Over}
+use Rattle.rayon_machine_places.specs.declared.shape.PoolShape.{PoolShape}
+use Rattle.rayon_machine_places.specs.declared.state.Job.{Job}
+use Rattle.rayon_machine_places.specs.declared.state.Call.{Call}
+use Rattle.rayon_machine_places.specs.Places.{same_party, own_pool, is_member, plan_pool, plan_job, act_of, next_of, is_free}
+use Rattle.rayon_machine_places.specs.World.{Shape, World, count_below, counts_at, Part, target_pool, target_worker, target_call, at_job}
+use Rattle.rayon_machine_places.specs.Steps.{put, put_stack, after_move, after_choice, after_refusal, can_miss, after_miss, after_close, after_end, after_call, is_pool, new_job, new_call, after_spawn, after_send, after_install, after_join, after_yield, after_end_pool, step}
+use Rattle.rayon_machine_places.specs.Runs.{start, IsRun}
+use Rattle.rayon_machine_laws.specs.Once.{one}
+use Rattle.rayon_machine_laws.specs.Counted.{is_detached, keeps_own, has_share, values, values_in, all_values, KeptOnce, IsCounted}
+use Rattle.rayon_machine_laws.specs.Shares.{share, shares_in, shares, is_busy}
+use Rattle.rayon_machine_laws.proofs.Frame.{either, same_party_true, if_some_and, if_some_map, if_cond, acted_keeps, put_same, put_old, stack_mine, after_counted}
+use Rattle.rayon_machine_laws.proofs.Ties.{job_at, outcome}
+use Rattle.rayon_machine_laws.proofs.Events.{run_keeps}
+use Rattle.rayon_machine_laws.proofs.Claims.{SaysQueue, SaysRun}
+use Rattle.rayon_machine_laws.proofs.ClaimActs.{Lasting}
+use Rattle.rayon_machine_laws.proofs.ClaimRuns.{top_says, world_after, place_part}
+use Rattle.rayon_machine_laws.proofs.ClaimEvents.{ended_world}
+use Rattle.rayon_machine_laws.proofs.ClaimMakes.{calling, below_new}
+use Rattle.rayon_machine_laws.proofs.Amounts.{all_raises, raises_in, gained, pushed, paid, not_pushed}
+use Rattle.rayon_machine_laws.proofs.Tokens.{Tokens, sum_below}
+use Rattle.rayon_machine_laws.proofs.ShareActs.{with_job, tally, SharesHold, one_most, one_is, one_not, is_tally, Untallied, same_untallied, act_untallied}
+use Rattle.rayon_machine_laws.proofs.ShareRuns.{shares_mine, values_mine}
+use Rattle.rayon_machine_laws.proofs.ShareSteps.{Ready, stack_after, counted_now, raised_world}
+use Rattle.rayon_machine_laws.proofs.ShareLowers.{lowered_world}
+use Rattle.rayon_machine_laws.proofs.ShareEvents.{ready, ungained}
+use Rattle.rayon_machine_laws.proofs.ShareEnds.{freed, closed_shares}
+use Rattle.rayon_machine_laws.proofs.Bares.{all_bare, backs}
+use Rattle.rayon_machine_laws.proofs.Returns.{ReturnsHold, unpaid, step_returns, first_returns}
+use Rattle.rayon_machine_laws.proofs.Keepers.{HasKeeper, KeepersHold, keepers_by, StaysBusy, act_pushes, act_busies, moved_stays, busy_kept}
+
+-- the share of a job that is pushed goes with a detached job alone
+pushed_most : (t : ℕ) (n : Plan) (v : Bool) (e : Seen) → pushed t (PushJob n v) e ≤ one (t == plan_job n)
+pushed_most t (Detach p j) v Done = omega arith
+pushed_most t (Detach p j) v _ = omega arith
+pushed_most t (Here p j) v Done = omega arith
+pushed_most t (Here p j) v _ = omega arith
+pushed_most t (Send o) v e = omega arith
+pushed_most t (Fork o a) v e = omega arith
+
+plan_pushed : (w : World) (q : Party) (n : Plan) (v : Bool) (e : Seen) (t : ℕ) → SaysQueue w q n → (t == plan_job n) ≡ true → pushed t (PushJob n v) e ≤ one (is_detached (w.job t).kind)
+plan_pushed w q (Detach p j) v e t s y = let a : pushed t (PushJob (Detach p j) v) e ≤ one (t == j) = pushed_most t (Detach p j) v e in let b : one (t == j) ≤ 1 = one_most (t == j) in
+    let c : one (is_detached (w.job t).kind) ≡ 1 = ap (λ i. one (is_detached (w.job i).kind)) (eqb-true t j y) ∙ ap (λ k. one (is_detached k)) (s.kind) in omega (arith, a, b, c)
+plan_pushed w q (Here p j) v e t s y = absurd s
+plan_pushed w q (Send o) v e t s y = omega arith
+plan_pushed w q (Fork o a) v e t s y = omega arith
+
+-- what a detached job keeps itself, it keeps after each act; and one that is pushed keeps its share from then on
+abbrev BusyAfter : World → Party → Place → List Place → Seen × Part → Type 0
+BusyAfter w q x fs r = (t : ℕ) → backs ((world_after w q x fs r).job t).at ≤ 0 → with_job (w.job t) + pushed t x (r.0) ≤ with_job ((world_after w q x fs r).job t)
+
+push_job : (w : World) (q : Party) (n : Plan) (v : Bool) → job_at w q (act_of q (PushJob n v)) ≡ plan_job n
+push_job w (Caller c) n v = refl
+push_job w (Worker a b) n v = by (is_member (Worker a b) (plan_pool n))
+  where
+    by : (z : Bool) → job_at w (Worker a b) (if z then PushOwn (plan_job n) else PushInj (plan_pool n) (plan_job n)) ≡ plan_job n
+    by true = refl
+    by false = refl
+
+push_kept : (w : World) (q : Party) (n : Plan) (v : Bool) (fs : List Place) (r : Seen × Part) → SharesHold w → w.stack q ≡ record { top = PushJob n v; below = fs } → Lasting w (world_after w q (PushJob n v) fs r) → StaysBusy (place_part w q (PushJob n v)) r → is_busy r.1.job.at ≡ true → BusyAfter w q (PushJob n v) fs r
+push_kept w q n v fs r h z l st bu t b = by (t == plan_job n) refl
+  where
+    still : with_job (w.job t) ≤ with_job ((world_after w q (PushJob n v) fs r).job t)
+    still = busy_kept w q (PushJob n v) fs r l st t b
+
+    by : (y : Bool) → (t == plan_job n) ≡ y → with_job (w.job t) + pushed t (PushJob n v) (r.0) ≤ with_job ((world_after w q (PushJob n v) fs r).job t)
+    by false y = let a : pushed t (PushJob n v) (r.0) ≤ one (t == plan_job n) = pushed_most t n v (r.0) in let c : one (t == plan_job n) ≡ 0 = ap one y in let d : with_job (w.job t) ≤ with_job ((world_after w q (PushJob n v) fs r).job t) = still in omega (arith, a, c, d)
+    by true y = let a : pushed t (PushJob n v) (r.0) ≤ one (is_detached (w.job t).kind) = plan_pushed w q n v (r.0) t (top_says w q (PushJob n v) fs (h.calls) z) y in
+        let c : shares t (w.stack q) + with_job (w.job t) ≤ one (w.job t).counted = (h.jobs t).alone q in
+        let d : one (w.job t).counted ≤ 1 = one_most ((w.job t).counted) in
+        let e : shares t (w.stack q) ≡ (one (t == plan_job n) + shares_in t fs) = ap (shares t) z in
+        let f : one (t == plan_job n) ≡ 1 = ap one y in
+        let g : with_job ((world_after w q (PushJob n v) fs r).job t) ≡ one (is_detached (w.job t).kind) = own in omega (arith, a, c, d, e, f, g)
+      where
+        and_all : (c : Bool) → (c && true) ≡ c
+        and_all true = refl
+        and_all false = refl
+
+        here : (t == job_at w q (act_of q (PushJob n v))) ≡ true
+        here = ap (λ m. t == m) (push_job w q n v) ∙ y
+
+        now : is_busy ((world_after w q (PushJob n v) fs r).job t).at ≡ true
+        now = one_is (is_busy ((world_after w q (PushJob n v) fs r).job t).at)
+            (let k : one (is_busy (put w.job (job_at w q (act_of q (PushJob n v))) (r.1.job) t).at) ≤ one (is_busy ((world_after w q (PushJob n v) fs r).job t).at) = moved_stays q (next_of (w.shape.pool (target_pool q (act_of q (PushJob n v)))) q (PushJob n v) (r.0)) (put w.job (job_at w q (act_of q (PushJob n v))) (r.1.job)) t b in
+            let m : one (is_busy (put w.job (job_at w q (act_of q (PushJob n v))) (r.1.job) t).at) ≡ 1 = ap (λ c. one (is_busy (if c then r.1.job else w.job t).at)) here ∙ ap one bu in omega (arith, k, m))
+
+        own : with_job ((world_after w q (PushJob n v) fs r).job t) ≡ one (is_detached (w.job t).kind)
+        own = ap (λ c. one (is_detached ((world_after w q (PushJob n v) fs r).job t).kind && c)) now ∙ ap one (and_all (is_detached ((world_after w q (PushJob n v) fs r).job t).kind)) ∙ ap (λ k. one (is_detached k)) (l.kinds t)
+
+-- places that push no job
+abbrev is_push : Place → Bool
+is_push (PushJob n v) = true
+is_push _ = false
+
+unpushed : (t : ℕ) (x : Place) (e : Seen) → is_push x ≡ false → pushed t x e ≡ 0
+unpushed t (PushJob n v) e z = cc
+unpushed t _ e z = refl
+
+plain_busy : (w : World) (q : Party) (x : Place) (fs : List Place) → is_push x ≡ false → IfSome (outcome w q (record { top = x; below = fs })) (λ r. Lasting w (world_after w q x fs r)) → IfSome (outcome w q (record { top = x; below = fs })) (BusyAfter w q x fs)
+plain_busy w q x fs y d = if_some_map (λ r. Lasting w (world_after w q x fs r) × StaysBusy (place_part w q x) r) (BusyAfter w q x fs)
+    (λ r f t b. (let a : with_job (w.job t) ≤ with_job ((world_after w q x fs r).job t) = busy_kept w q x fs r (f.0) (f.1) t b in let c : pushed t x (r.0) ≡ 0 = unpushed t x (r.0) y in omega (arith, a, c)))
+    (outcome w q (record { top = x; below = fs })) (if_some_and (λ r. Lasting w (world_after w q x fs r)) (StaysBusy (place_part w q x)) (outcome w q (record { top = x; below = fs })) d (act_busies w.shape q (counts_at w (target_pool q (act_of q x))) (place_part w q x) x))
+
+all_busy : (w : World) (q : Party) (x : Place) (fs : List Place) → w.stack q ≡ record { top = x; below = fs } → SharesHold w → IfSome (outcome w q (record { top = x; below = fs })) (λ r. Lasting w (world_after w q x fs r)) → IfSome (outcome w q (record { top = x; below = fs })) (BusyAfter w q x fs)
+all_busy w q (PushJob n v) fs z h d = if_some_map (λ r. Lasting w (world_after w q (PushJob n v) fs r) × (StaysBusy (place_part w q (PushJob n v)) r × (is_busy r.1.job.at ≡ true))) (BusyAfter w q (PushJob n v) fs)
+    (λ r f. push_kept w q n v fs r h z (f.0) ((f.1).0) ((f.1).1))
+    (outcome w q (record { top = PushJob n v; below = fs }))
+    (if_some_and (λ r. Lasting w (world_after w q (PushJob n v) fs r)) (λ r. StaysBusy (place_part w q (PushJob n v)) r × (is_busy r.1.job.at ≡ true)) (outcome w q (record { top = PushJob n v; below = fs })) d
+    (if_some_and (StaysBusy (place_part w q (PushJob n v))) (λ r. is_busy r.1.job.at ≡ true) (outcome w q (record { top = PushJob n v; below = fs })) (act_busies w.shape q (counts_at w (target_pool q (act_of q (PushJob n v)))) (place_part w q (PushJob n v)) (PushJob n v)) (act_pushes w.shape q (counts_at w (target_pool q (act_of q (PushJob n v)))) (place_part w q (PushJob n v)) n v)))
+all_busy w q x fs z h d = plain_busy w q x fs refl d
+
+-- an act, by what it says of the shares that are in the count after it
+act_keepers : (w : World) (q : Party) (x : Place) (fs : List Place) (r : Seen × Part) → Ready w q x fs r → BusyAfter w q x fs r → ((t : ℕ) → ((world_after w q x fs r).job t).counted ≡ true → (paid t x ≡ 0) × ((one (w.job t).counted + gained t x (r.0)) ≡ 1)) → ((p : ℕ) → ((world_after w q x fs r).pool p).counted ≡ true → ((w.pool p).counted ≡ true) × (values p x ≡ 0)) → KeepersHold w → ReturnsHold (world_after w q x fs r) → KeepersHold (world_after w q x fs r)
+act_keepers w q x fs r d bu fj fp h s = keepers_by w (world_after w q x fs r) q (stack_after w q x fs (r.0)) (λ i. refl)
+    (λ t c. (
+      gained t x (r.0),
+      (fj t c).1,
+      (let a : shares t (put_stack w.stack q (stack_after w q x fs (r.0)) q) + (pushed t x (r.0) + paid t x) ≡ shares t (w.stack q) + gained t x (r.0) = shares_mine w q x fs (w.shape.pool (target_pool q (act_of q x))) (r.0) t (d.stack) in
+          let b : shares t (put_stack w.stack q (stack_after w q x fs (r.0)) q) ≡ shares t (stack_after w q x fs (r.0)) = ap (shares t) (stack_mine w.stack q (stack_after w q x fs (r.0))) in
+          let e : all_bare t ((world_after w q x fs r).stack q) + backs ((world_after w q x fs r).job t).at ≤ 0 = s.bare q t c in
+          let f : with_job (w.job t) + pushed t x (r.0) ≤ with_job ((world_after w q x fs r).job t) = bu t (omega (arith, e)) in
+          let g : paid t x ≡ 0 = (fj t c).0 in omega (arith, a, b, f, g)),
+    ))
+    (λ p c. (
+      (fp p c).0,
+      (let a : all_values p (put_stack w.stack q (stack_after w q x fs (r.0)) q) + values p x ≡ all_values p (w.stack q) = values_mine w q x fs (w.shape.pool (target_pool q (act_of q x))) (r.0) p (d.stack) in
+          let b : all_values p (put_stack w.stack q (stack_after w q x fs (r.0)) q) ≡ all_values p (stack_after w q x fs (r.0)) = ap (all_values p) (stack_mine w.stack q (stack_after w q x fs (r.0))) in
+          let e : values p x ≡ 0 = (fp p c).1 in let f : one ((world_after w q x fs r).pool p).held ≡ one (w.pool p).held = ap one (d.held p) in omega (arith, a, b, e, f)),
+    )) h s
+
+-- an act that neither takes a share nor gives one back
+plain_keepers : (w : World) (q : Party) (x : Place) (fs : List Place) (r : Seen × Part) → Ready w q x fs r → BusyAfter w q x fs r → Untallied (place_part w q x) r → ((t : ℕ) → (paid t x ≡ 0) × (gained t x (r.0) ≡ 0)) → ((p : ℕ) → values p x ≡ 0) → KeepersHold w → ReturnsHold (world_after w q x fs r) → KeepersHold (world_after w q x fs r)
+plain_keepers w q x fs r d bu un none still h s = act_keepers w q x fs r d bu
+    (λ t c. ((none t).0, (let a : one (w.job t).counted ≡ 1 = ap one (sym (counted t) ∙ c) in let b : gained t x (r.0) ≡ 0 = (none t).1 in omega (arith, a, b))))
+    (λ p c. (sym (put_same (λ v. v.counted) w.pool (target_pool q (act_of q x)) (r.1.pool) p (un.pool)) ∙ c, still p)) h s
+  where
+    counted : (t : ℕ) → ((world_after w q x fs r).job t).counted ≡ (w.job t).counted
+    counted t = counted_now w q x fs r t ∙ put_same (λ j. j.counted) w.job (job_at w q (act_of q x)) (r.1.job) t (un.job)
+
+-- who has a share after one is taken, and after one is given back
+raise_jobs : (w : World) (q : Party) (n : Plan) (fs : List Place) → SharesHold w → w.stack q ≡ record { top = RaiseCount n; below = fs } → (t : ℕ) → ((raised_world w q n fs).job t).counted ≡ true → (one (w.job t).counted + one (t == plan_job n)) ≡ 1
+raise_jobs w q n fs h z t c = by (t == plan_job n) refl
+  where
+    by : (b : Bool) → (t == plan_job n) ≡ b → (one (w.job t).counted + one b) ≡ 1
+    by true e = let a : all_raises t (w.stack q) + one (w.job t).counted ≤ 1 = h.unraised q t in let b : all_raises t (w.stack q) ≡ (one (t == plan_job n) + raises_in t fs) = ap (all_raises t) z in let d : one (t == plan_job n) ≡ 1 = ap one e in omega (arith, a, b, d)
+    by false e = let a : one (w.job t).counted ≡ 1 = ap one (sym (after_counted q (next_of (w.shape.pool (plan_pool n)) q (RaiseCount n) Done) (put w.job (plan_job n) (record (w.job (plan_job n)) { counted = true })) t ∙ ap (λ j. j.counted) (put_old w.job (plan_job n) (record (w.job (plan_job n)) { counted = true }) t e)) ∙ c) in omega (arith, a)
+
+raise_pools : (w : World) (q : Party) (n : Plan) (fs : List Place) (p : ℕ) → ((raised_world w q n fs).pool p).counted ≡ true → (w.pool p).counted ≡ true
+raise_pools w q n fs p c = sym (put_same (λ v. v.counted) w.pool (plan_pool n) (record (w.pool (plan_pool n)) { count = (w.pool (plan_pool n)).count + 1 }) p refl) ∙ c
+
+lower_jobs : (w : World) (q : Party) (p u : ℕ) (n : Then) (fs : List Place) (e : Seen) (t : ℕ) → ((lowered_world w q p (OfJob u) n fs e).job t).counted ≡ true → (one (t == u) ≡ 0) × ((one (w.job t).counted + 0) ≡ 1)
+lower_jobs w q p u n fs e t c = by (t == u) refl
+  where
+    counted : ((lowered_world w q p (OfJob u) n fs e).job t).counted ≡ (put w.job u (record (w.job u) { counted = false }) t).counted
+    counted = after_counted q (next_of (w.shape.pool p) q (LowerCount p (OfJob u) n) e) (put w.job u (record (w.job u) { counted = false })) t
+
+    by : (b : Bool) → (t == u) ≡ b → (one b ≡ 0) × ((one (w.job t).counted + 0) ≡ 1)
+    by true y = absurd (let a : (put w.job u (record (w.job u) { counted = false }) t).counted ≡ false = ap (λ b. (if b then record (w.job u) { counted = false } else w.job t).counted) y in let b : (put w.job u (record (w.job u) { counted = false }) t).counted ≡ true = sym counted ∙ c in let d : false ≡ true = sym a ∙ b in cc)
+    by false y = (refl, (let a : one (w.job t).counted ≡ 1 = ap one (sym (counted ∙ ap (λ j. j.counted) (put_old w.job u (record (w.job u) { counted = false }) t y)) ∙ c) in omega (arith, a)))
+
+lower_pools : (w : World) (q : Party) (p u : ℕ) (n : Then) (fs : List Place) (e : Seen) (r : ℕ) → ((lowered_world w q p (OfJob u) n fs e).pool r).counted ≡ true → (w.pool r).counted ≡ true
+lower_pools w q p u n fs e r c = sym (put_same (λ v. v.counted) w.pool p (record (w.pool p) { count = (w.pool p).count - 1 }) r refl) ∙ c
+
+value_jobs : (w : World) (q : Party) (p : ℕ) (n : Then) (fs : List Place) (e : Seen) (t : ℕ) → ((lowered_world w q p PoolValue n fs e).job t).counted ≡ true → (one (w.job t).counted + 0) ≡ 1
+value_jobs w q p n fs e t c = let a : one (w.job t).counted ≡ 1 = ap one (sym (after_counted q (next_of (w.shape.pool p) q (LowerCount p PoolValue n) e) (put w.job 0 (w.job 0)) t ∙ put_same (λ j. j.counted) w.job 0 (w.job 0) t refl) ∙ c) in omega (arith, a)
+
+value_pools : (w : World) (q : Party) (p : ℕ) (n : Then) (fs : List Place) (e : Seen) (r : ℕ) → ((lowered_world w q p PoolValue n fs e).pool r).counted ≡ true → ((w.pool r).counted ≡ true) × (one (r == p) ≡ 0)
+value_pools w q p n fs e r c = by (r == p) refl c
+  where
+    by : (b : Bool) → (r == p) ≡ b → (if b then record (w.pool p) { count = (w.pool p).count - 1; counted = false } else w.pool r).counted ≡ true → ((w.pool r).counted ≡ true) × (one b ≡ 0)
+    by true y c = absurd (let d : false ≡ true = c in cc)
+    by false y c = (c, refl)
+
+-- each act
+raise_by : (w : World) (q : Party) (n : Plan) (fs : List Place) → KeepersHold w → (done : Seen × Part) → (Ready w q (RaiseCount n) fs done × BusyAfter w q (RaiseCount n) fs done → ReturnsHold (world_after w q (RaiseCount n) fs done) → KeepersHold (world_after w q (RaiseCount n) fs done)) → (b : Bool) → IfSome (if b then Some (Refused, place_part w q (RaiseCount n)) else Some done) (λ r. Ready w q (RaiseCount n) fs r × BusyAfter w q (RaiseCount n) fs r) → IfSome (if b then Some (Refused, place_part w q (RaiseCount n)) else Some done) (λ r. ReturnsHold (world_after w q (RaiseCount n) fs r) → KeepersHold (world_after w q (RaiseCount n) fs r))
+raise_by w q n fs h done f true d = plain_keepers w q (RaiseCount n) fs (Refused, place_part w q (RaiseCount n)) (d.0) (d.1) (same_untallied (place_part w q (RaiseCount n)) Refused) (λ t. (refl, refl)) (λ p. refl) h
+raise_by w q n fs h done f false d = f d
+
+unvalued : (p : ℕ) (x : Place) → is_tally x ≡ false → values p x ≡ 0
+unvalued p (LowerCount r s n) z = cc
+unvalued p _ z = refl
+
+plain_by : (w : World) (q : Party) (x : Place) (fs : List Place) → is_tally x ≡ false → KeepersHold w → IfSome (outcome w q (record { top = x; below = fs })) (λ r. Ready w q x fs r × BusyAfter w q x fs r) → IfSome (outcome w q (record { top = x; below = fs })) (λ r. ReturnsHold (world_after w q x fs r) → KeepersHold (world_after w q x fs r))
+plain_by w q x fs y h d = if_some_map (λ r. (Ready w q x fs r × BusyAfter w q x fs r) × Untallied (place_part w q x) r) (λ r. ReturnsHold (world_after w q x fs r) → KeepersHold (world_after w q x fs r)) (λ r f. plain_keepers w q x fs r ((f.0).0) ((f.0).1) (f.1) (λ t. (unpaid t x y, ungained t x (r.0) y)) (λ p. unvalued p x y) h) (outcome w q (record { top = x; below = fs }))
+    (if_some_and (λ r. Ready w q x fs r × BusyAfter w q x fs r) (Untallied (place_part w q x)) (outcome w q (record { top = x; below = fs })) d (act_untallied w.shape q (counts_at w (target_pool q (act_of q x))) (place_part w q x) x y))
+
+go_by : (w : World) (q : Party) (x : Place) (fs : List Place) → w.stack q ≡ record { top = x; below = fs } → KeepersHold w → IfSome (outcome w q (record { top = x; below = fs })) (λ r. Ready w q x fs r × BusyAfter w q x fs r) → IfSome (outcome w q (record { top = x; below = fs })) (λ r. ReturnsHold (world_after w q x fs r) → KeepersHold (world_after w q x fs r))
+go_by w (Worker a b) (RaiseCount n) fs z h d = raise_by w (Worker a b) n fs h _ (λ f. act_keepers w (Worker a b) (RaiseCount n) fs _ (f.0) (f.1) (λ t c. (refl, raise_jobs w (Worker a b) n fs ((h.returns).shares) z t c)) (λ p c. (raise_pools w (Worker a b) n fs p c, refl)) h) ((w.pool (plan_pool n)).count == 0) d
+go_by w (Caller e) (RaiseCount n) fs z h d = raise_by w (Caller e) n fs h _ (λ f. act_keepers w (Caller e) (RaiseCount n) fs _ (f.0) (f.1) (λ t c. (refl, raise_jobs w (Caller e) n fs ((h.returns).shares) z t c)) (λ p c. (raise_pools w (Caller e) n fs p c, refl)) h) ((w.pool (plan_pool n)).count == 0) d
+go_by w (Worker a b) (LowerCount p (OfJob u) n) fs z h d = act_keepers w (Worker a b) (LowerCount p (OfJob u) n) fs _ (d.0) (d.1) (λ t c. lower_jobs w (Worker a b) p u n fs (if (w.pool p).count == 1 then Yes else No) t c) (λ r c. (lower_pools w (Worker a b) p u n fs (if (w.pool p).count == 1 then Yes else No) r c, refl)) h
+go_by w (Caller e) (LowerCount p (OfJob u) n) fs z h d = act_keepers w (Caller e) (LowerCount p (OfJob u) n) fs _ (d.0) (d.1) (λ t c. lower_jobs w (Caller e) p u n fs (if (w.pool p).count == 1 then Yes else No) t c) (λ r c. (lower_pools w (Caller e) p u n fs (if (w.pool p).count == 1 then Yes else No) r c, refl)) h
+go_by w (Worker a b) (LowerCount p PoolValue n) fs z h d = act_keepers w (Worker a b) (LowerCount p PoolValue n) fs _ (d.0) (d.1) (λ t c. (refl, value_jobs w (Worker a b) p n fs (if (w.pool p).count == 1 then Yes else No) t c)) (λ r c. value_pools w (Worker a b) p n fs (if (w.pool p).count == 1 then Yes else No) r c) h
+go_by w (Caller e) (LowerCount p PoolValue n) fs z h d = act_keepers w (Caller e) (LowerCount p PoolValue n) fs _ (d.0) (d.1) (λ t c. (refl, value_jobs w (Caller e) p n fs (if (w.pool p).count == 1 then Yes else No) t c)) (λ r c. value_pools w (Caller e) p n fs (if (w.pool p).count == 1 then Yes else No) r c) h
+go_by w q x fs z h d = plain_by w q x fs refl h d
+
+go_keepers : (w : World) (q : Party) → KeepersHold w → IfSome (step w (Go q)) (λ u. ReturnsHold u → KeepersHold u)
+go_keepers w q h = acted_keeps w q (w.stack q) (target_pool q (act_of q ((w.stack q).top))) (target_worker q (act_of q ((w.stack q).top))) (target_call (act_of q ((w.stack q).top))) (job_at w q (act_of q ((w.stack q).top))) (outcome w q (w.stack q)) (λ u. ReturnsHold u → KeepersHold u)
+    (go_by w q ((w.stack q).top) ((w.stack q).below) refl h
+    (if_some_and (λ r. Ready w q ((w.stack q).top) ((w.stack q).below) r) (BusyAfter w q ((w.stack q).top) ((w.stack q).below)) (outcome w q (w.stack q)) (ready w q ((h.returns).shares))
+    (all_busy w q ((w.stack q).top) ((w.stack q).below) refl ((h.returns).shares) (if_some_map (λ r. Ready w q ((w.stack q).top) ((w.stack q).below) r) (λ r. Lasting w (world_after w q ((w.stack q).top) ((w.stack q).below) r)) (λ r d. d.last) (outcome w q (w.stack q)) (ready w q ((h.returns).shares))))))
+
+-- a party goes on as if its act had seen this
+seen_keepers : (w : World) (q : Party) (g : PoolShape) (x : Place) (fs : List Place) (e : Seen) → w.stack q ≡ record { top = x; below = fs } → is_tally x ≡ false → ((t : ℕ) → pushed t x e ≡ 0) → KeepersHold w → ReturnsHold (record w { stack = put_stack w.stack q (after_move (next_of g q x e) fs) }) → KeepersHold (record w { stack = put_stack w.stack q (after_move (next_of g q x e) fs) })
+seen_keepers w q g x fs e z y none h s = keepers_by w (record w { stack = put_stack w.stack q (after_move (next_of g q x e) fs) }) q (after_move (next_of g q x e) fs) (λ i. refl)
+    (λ t c. (
+      0,
+      (let a : one (w.job t).counted ≡ 1 = ap one c in omega (arith, a)),
+      (let a : shares t (put_stack w.stack q (after_move (next_of g q x e) fs) q) + (pushed t x e + paid t x) ≡ shares t (w.stack q) + gained t x e = shares_mine w q x fs g e t z in
+          let b : shares t (put_stack w.stack q (after_move (next_of g q x e) fs) q) ≡ shares t (after_move (next_of g q x e) fs) = ap (shares t) (stack_mine w.stack q (after_move (next_of g q x e) fs)) in
+          let d : pushed t x e ≡ 0 = none t in let f : paid t x ≡ 0 = unpaid t x y in omega (arith, a, b, d, f)),
+    ))
+    (λ p c. (
+      c,
+      (let a : all_values p (put_stack w.stack q (after_move (next_of g q x e) fs) q) + values p x ≡ all_values p (w.stack q) = values_mine w q x fs g e p z in
+          let b : all_values p (put_stack w.stack q (after_move (next_of g q x e) fs) q) ≡ all_values p (after_move (next_of g q x e) fs) = ap (all_values p) (stack_mine w.stack q (after_move (next_of g q x e) fs)) in
+          let d : values p x ≡ 0 = unvalued p x y in omega (arith, a, b, d)),
+    )) h s
+
+from_keepers : (w : World) (q : Party) (x : Place) (fs : List Place) (v : ℕ) → w.stack q ≡ record { top = x; below = fs } → KeepersHold w → IfSome (after_choice w q (record { top = x; below = fs }) x v) (λ u. ReturnsHold u → KeepersHold u)
+from_keepers w q (PickVictim k) fs v z h = if_cond (λ u. ReturnsHold u → KeepersHold u) (nat_lt v (w.shape.pool (own_pool q)).workers) _ (λ y s. seen_keepers w q (w.shape.pool (own_pool q)) (PickVictim k) fs (Start v) z refl (λ t. refl) h s)
+from_keepers w q YieldPick fs v z h = if_cond (λ u. ReturnsHold u → KeepersHold u) (nat_lt v (w.shape.pool (own_pool q)).workers) _ (λ y s. seen_keepers w q (w.shape.pool (own_pool q)) YieldPick fs (Start v) z refl (λ t. refl) h s)
+from_keepers w q _ fs v z h = tt
+
+refuse_keepers : (w : World) (q : Party) (x : Place) (fs : List Place) → w.stack q ≡ record { top = x; below = fs } → KeepersHold w → IfSome (after_refusal w q (record { top = x; below = fs })) (λ u. ReturnsHold u → KeepersHold u)
+refuse_keepers w q (GrowCall n) fs z h = λ s. seen_keepers w q (w.shape.pool (own_pool q)) (GrowCall n) fs Refused z refl (λ t. refl) h s
+refuse_keepers w q (PushJob n v) fs z h = λ s. seen_keepers w q (w.shape.pool (own_pool q)) (PushJob n v) fs Refused z refl (λ t. not_pushed t n v Refused refl) h s
+refuse_keepers w q _ fs z h = tt
+
+miss_keepers : (w : World) (q : Party) (x : Place) (fs : List Place) → w.stack q ≡ record { top = x; below = fs } → KeepersHold w → IfSome (after_miss w q (record { top = x; below = fs }) x) (λ u. ReturnsHold u → KeepersHold u)
+miss_keepers w (Worker a b) (StealFrom k n) fs z h = if_cond (λ u. ReturnsHold u → KeepersHold u) (can_miss w a k.victim) _ (λ y s. seen_keepers w (Worker a b) (w.shape.pool a) (StealFrom k n) fs Missing z refl (λ t. refl) h s)
+miss_keepers w (Worker a b) (YieldSteal v n) fs z h = if_cond (λ u. ReturnsHold u → KeepersHold u) (can_miss w a v) _ (λ y s. seen_keepers w (Worker a b) (w.shape.pool a) (YieldSteal v n) fs Missing z refl (λ t. refl) h s)
+miss_keepers w (Worker a b) _ fs z h = tt
+miss_keepers w (Caller n) _ fs z h = tt
+
+-- the end of a run: a detached job's share comes to the party that ran it
+freed_all : (w : World) (s t : ℕ) (k : JobKind) → (s == t) ≡ true → SaysRun w t k → with_job (w.job s) ≤ freed s t k
+freed_all w s t (Detached p) e r = let a : freed s t (Detached p) ≡ 1 = ap one e in let b : with_job (w.job s) ≤ 1 = one_most (keeps_own (w.job s)) in omega (arith, a, b)
+freed_all w s t (Stored c o) e r = let a : with_job (w.job s) ≡ 0 = ap (λ n. with_job (w.job n)) (eqb-true s t e) ∙ ap (λ k. one (is_detached k && is_busy (w.job t).at)) (r.1) in omega (arith, a)
+freed_all w s t Direct e r = let a : with_job (w.job s) ≡ 0 = ap (λ n. with_job (w.job n)) (eqb-true s t e) ∙ ap (λ b. one (b && is_busy (w.job t).at)) (r.kind) in omega (arith, a)
+
+end_keepers : (w : World) (q : Party) (d : Ending) (x : Place) (fs : List Place) → w.stack q ≡ record { top = x; below = fs } → KeepersHold w → IfSome (after_end w q d (record { top = x; below = fs }) x) (λ u. ReturnsHold u → KeepersHold u)
+end_keepers w q d (Run t k) fs z h = λ s. keepers_by w (ended_world w q d t k fs) q (after_close t k d fs) (λ i. refl)
+    (λ i c. (0, (let a : one (w.job i).counted ≡ 1 = ap one (sym (put_same (λ j. j.counted) w.job t (at_job (w.job t) (Over d)) i refl) ∙ c) in omega (arith, a)), line i (i == t) refl))
+    (λ p c. (c, (let b : all_values p (after_close t k d fs) ≡ values_in p fs = (closed_shares p t k d fs).1 in let e : all_values p (w.stack q) ≡ (0 + values_in p fs) = ap (all_values p) z in omega (arith, b, e)))) h s
+  where
+    line : (i : ℕ) (b : Bool) → (i == t) ≡ b → shares i (w.stack q) + with_job (w.job i) + 0 ≤ shares i (after_close t k d fs) + with_job (if b then at_job (w.job t) (Over d) else w.job i)
+    line i true e = let a : shares i (after_close t k d fs) ≡ freed i t k + shares_in i fs = (closed_shares i t k d fs).0 in let b : shares i (w.stack q) ≡ (0 + shares_in i fs) = ap (shares i) z in let c : with_job (w.job i) ≤ freed i t k = freed_all w i t k e (top_says w q (Run t k) fs (((h.returns).shares).calls) z) in omega (arith, a, b, c)
+    line i false e = let a : shares i (after_close t k d fs) ≡ freed i t k + shares_in i fs = (closed_shares i t k d fs).0 in let b : shares i (w.stack q) ≡ (0 + shares_in i fs) = ap (shares i) z in omega (arith, a, b)
+end_keepers w q d _ fs z h = tt
+
+-- a call begins: the jobs that were are as they were, and its own have no share yet
+made_keepers : (w : World) (q : Party) (n : Plan) (C : ℕ → Call) (J : ℕ → Job) (c j : ℕ) → ((t : ℕ) → t + 1 ≤ w.jobs → J t ≡ w.job t) → ((t : ℕ) → w.jobs ≤ t → (J t).counted ≡ false) → KeepersHold w → ReturnsHold (calling w q n C J c j) → KeepersHold (calling w q n C J c j)
+made_keepers w q n C J c j same new h s = keepers_by w (calling w q n C J c j) q (after_call (w.stack q) (RaiseCount n)) (λ i. refl)
+    (λ t e. (0, (let a : one (w.job t).counted ≡ 1 = ap one (ap (λ i. i.counted) (sym (was t e)) ∙ e) in omega (arith, a)), (let a : with_job (J t) ≡ with_job (w.job t) = ap (λ i. with_job i) (was t e) in omega (arith, a))))
+    (λ p e. (e, omega arith)) h s
+  where
+    was : (t : ℕ) → (J t).counted ≡ true → J t ≡ w.job t
+    was t e = elim (either (ltb t w.jobs)) [ inl y ↦ (let b : t < w.jobs = ltb-true t w.jobs y in same t (omega (arith, b))) | inr y ↦ absurd (let a : (J t).counted ≡ false = new t (ltb-false t w.jobs y) in let d : false ≡ true = sym a ∙ e in cc) ]
+
+put_made : (w : World) (q : Party) (p : ℕ) (k : JobKind) → KeepersHold w → ((t : ℕ) → t + 1 ≤ w.jobs → put w.job w.jobs (new_job q p k) t ≡ w.job t) × ((t : ℕ) → w.jobs ≤ t → (put w.job w.jobs (new_job q p k) t).counted ≡ false)
+put_made w q p k h = (
+  λ t b. put_old w.job w.jobs (new_job q p k) t (below_new t w.jobs b),
+  λ t b. put_same (λ j. j.counted) w.job w.jobs (new_job q p k) t (sym (((h.returns).shares).unmade w.jobs (omega arith))) ∙ ((h.returns).shares).unmade t b,
+)
+
+spawn_keepers : (w : World) (q : Party) (p : ℕ) → KeepersHold w → IfSome (after_spawn w q p (w.stack q)) (λ u. ReturnsHold u → KeepersHold u)
+spawn_keepers w q p h = if_cond (λ u. ReturnsHold u → KeepersHold u) (is_free ((w.stack q).top) && is_pool w.shape p) _ (λ f s. made_keepers w q (Detach p w.jobs) w.call (put w.job w.jobs (new_job q p (Detached p))) w.calls (w.jobs + 1) ((put_made w q p (Detached p) h).0) ((put_made w q p (Detached p) h).1) h s)
+
+sent_keepers : (w : World) (q : Party) (p : ℕ) (b : Bool) → KeepersHold w → ReturnsHold (after_send w q p (w.stack q) b) → KeepersHold (after_send w q p (w.stack q) b)
+sent_keepers w q p true h s = made_keepers w q (Here p w.jobs) w.call (put w.job w.jobs (new_job q p Direct)) w.calls (w.jobs + 1) ((put_made w q p Direct h).0) ((put_made w q p Direct h).1) h s
+sent_keepers w q p false h s = made_keepers w q (Send (record { number = w.calls; pool = p; job = w.jobs })) (put w.call w.calls (new_call None w.jobs)) (put w.job w.jobs (new_job q p (Stored w.calls q))) (w.calls + 1) (w.jobs + 1) ((put_made w q p (Stored w.calls q) h).0) ((put_made w q p (Stored w.calls q) h).1) h s
+
+install_keepers : (w : World) (q : Party) (p : ℕ) → KeepersHold w → IfSome (after_install w q p (w.stack q)) (λ u. ReturnsHold u → KeepersHold u)
+install_keepers w q p h = if_cond (λ u. ReturnsHold u → KeepersHold u) (is_free ((w.stack q).top) && is_pool w.shape p) _ (λ f s. sent_keepers w q p (is_member q p) h s)
+
+join_keepers : (w : World) (q : Party) → KeepersHold w → IfSome (after_join w q (w.stack q)) (λ u. ReturnsHold u → KeepersHold u)
+join_keepers w (Caller n) h = tt
+join_keepers w (Worker p i) h = if_cond (λ u. ReturnsHold u → KeepersHold u) (is_free ((w.stack (Worker p i)).top)) _ (λ f s. made_keepers w (Worker p i) (Fork (record { number = w.calls; pool = p; job = w.jobs + 1 }) w.jobs) (put w.call w.calls (new_call (Some w.jobs) (w.jobs + 1))) (put J1 (w.jobs + 1) (new_job (Worker p i) p (Stored w.calls (Worker p i)))) (w.calls + 1) (w.jobs + 2) same new h s)
+  where
+    J1 : ℕ → Job
+    J1 = put w.job w.jobs (new_job (Worker p i) p Direct)
+
+    same : (t : ℕ) → t + 1 ≤ w.jobs → put J1 (w.jobs + 1) (new_job (Worker p i) p (Stored w.calls (Worker p i))) t ≡ w.job t
+    same t b = put_old J1 (w.jobs + 1) (new_job (Worker p i) p (Stored w.calls (Worker p i))) t (below_new t (w.jobs + 1) (omega (arith, b))) ∙ (put_made w (Worker p i) p Direct h).0 t b
+
+    new : (t : ℕ) → w.jobs ≤ t → (put J1 (w.jobs + 1) (new_job (Worker p i) p (Stored w.calls (Worker p i))) t).counted ≡ false
+    new t b = put_same (λ j. j.counted) J1 (w.jobs + 1) (new_job (Worker p i) p (Stored w.calls (Worker p i))) t (sym ((put_made w (Worker p i) p Direct h).1 (w.jobs + 1) (omega arith))) ∙ (put_made w (Worker p i) p Direct h).1 t b
+
+yield_keepers : (w : World) (q : Party) (x : Place) → ((t : ℕ) → share t x ≡ 0) → ((p : ℕ) → values p x ≡ 0) → KeepersHold w → IfSome (after_yield w q (w.stack q) x) (λ u. ReturnsHold u → KeepersHold u)
+yield_keepers w (Worker a b) x sx vx h = if_cond (λ u. ReturnsHold u → KeepersHold u) (is_free ((w.stack (Worker a b)).top)) _ (λ f s. keepers_by w (record w { stack = put_stack w.stack (Worker a b) (after_call (w.stack (Worker a b)) x) }) (Worker a b) (after_call (w.stack (Worker a b)) x) (λ i. refl)
+    (λ t c. (0, (let d : one (w.job t).counted ≡ 1 = ap one c in omega (arith, d)), (let d : share t x ≡ 0 = sx t in omega (arith, d))))
+    (λ p c. (c, (let d : values p x ≡ 0 = vx p in omega (arith, d)))) h s)
+yield_keepers w (Caller n) x sx vx h = tt
+
+-- a pool's value is given up: its share comes to the Lower that follows
+give_keepers : (w : World) (q : Party) (p : ℕ) → KeepersHold w → IfSome (after_end_pool w q p (w.stack q)) (λ u. ReturnsHold u → KeepersHold u)
+give_keepers w q p h = if_cond (λ u. ReturnsHold u → KeepersHold u) (is_free ((w.stack q).top) && (is_pool w.shape p && (w.pool p).held)) _ (λ f s. keepers_by w (record w { stack = put_stack w.stack q (after_call (w.stack q) (LowerCount p PoolValue Resume)); pool = put w.pool p (record (w.pool p) { held = false }) }) q (after_call (w.stack q) (LowerCount p PoolValue Resume)) (λ i. refl)
+    (λ t c. (0, (let d : one (w.job t).counted ≡ 1 = ap one c in omega (arith, d)), omega arith))
+    (λ r c. (sym (put_same (λ v. v.counted) w.pool p (record (w.pool p) { held = false }) r refl) ∙ c, given r (r == p) refl)) h s)
+  where
+    given : (r : ℕ) (b : Bool) → (r == p) ≡ b → all_values r (w.stack q) + one (w.pool r).held ≤ (one b + all_values r (w.stack q)) + one (if b then record (w.pool p) { held = false } else w.pool r).held
+    given r true e = let a : one (w.pool r).held ≤ 1 = one_most ((w.pool r).held) in omega (arith, a)
+    given r false e = omega arith
+
+each_keepers : (w : World) (e : Event) → KeepersHold w → IfSome (step w e) (λ u. ReturnsHold u → KeepersHold u)
+each_keepers w (Go q) h = go_keepers w q h
+each_keepers w (From q v) h = from_keepers w q ((w.stack q).top) ((w.stack q).below) v refl h
+each_keepers w (Refuse q) h = refuse_keepers w q ((w.stack q).top) ((w.stack q).below) refl h
+each_keepers w (Miss q) h = miss_keepers w q ((w.stack q).top) ((w.stack q).below) refl h
+each_keepers w (End q d) h = end_keepers w q d ((w.stack q).top) ((w.stack q).below) refl h
+each_keepers w (Spawn q p) h = spawn_keepers w q p h
+each_keepers w (Install q p) h = install_keepers w q p h
+each_keepers w (Join q) h = join_keepers w q h
+each_keepers w (Yield q) h = yield_keepers w q YieldPop (λ t. refl) (λ p. refl) h
+each_keepers w (YieldLocal q) h = yield_keepers w q LocalPop (λ t. refl) (λ p. refl) h
+each_keepers w (EndPool q p) h = give_keepers w q p h
+
+step_keepers : (w : World) (e : Event) → KeepersHold w → IfSome (step w e) KeepersHold
+step_keepers w e h = if_some_map (λ u. ReturnsHold u × (ReturnsHold u → KeepersHold u)) KeepersHold (λ u f. f.1 (f.0)) (step w e) (if_some_and ReturnsHold (λ u. ReturnsHold u → KeepersHold u) (step w e) (step_returns w e (h.returns)) (each_keepers w e h))
+
+first_keepers : (h : Shape) → KeepersHold (start h)
+first_keepers h = record { returns = first_returns h; jobs = λ t. (None, omega arith); values = λ p. (None, omega arith) }
+
+-- with a share that has a keeper and is in at most one place, that keeper alone keeps it
+kept_once : (f : Party → ℕ) (own b : Bool) → Tokens f (one own) (one b) → HasKeeper f (one own) (one b) → KeptOnce f own b
+kept_once f own false t h = (λ q. (let a : f q + one own ≤ 0 = t.alone q in omega (arith, a)), one_not own (let a : f (Caller 0) + one own ≤ 0 = t.alone (Caller 0) in omega (arith, a)))
+kept_once f own true t (None, h) = (None, λ q. (let a : f q + one own ≤ 1 = t.alone q in let b : 1 ≤ one own = h in omega (arith, a, b)), one_is own h)
+kept_once f own true t (Some r, h) = (Some r, λ q. by q (same_party q r) refl, one_not own (let a : f r + one own ≤ 1 = t.alone r in let b : 1 ≤ f r = h in omega (arith, a, b)))
+  where
+    by : (q : Party) (z : Bool) → same_party q r ≡ z → f q ≡ one z
+    by q true z = let e : f q ≡ f r = ap f (same_party_true q r z) in let a : f r + one own ≤ 1 = t.alone r in let b : 1 ≤ f r = h in omega (arith, a, b, e)
+    by q false z = let a : f q + f r ≤ 1 = t.apart q r z in let b : 1 ≤ f r = h in omega (arith, a, b)
+
+count_sum : (n : ℕ) (f : ℕ → Bool) → count_below n f ≡ sum_below n (λ t. one (f t))
+count_sum zero f = refl
+count_sum (suc n) f = by (f n) (count_sum n f)
+  where
+    by : (b : Bool) → count_below n f ≡ sum_below n (λ t. one (f t)) → (if b then 1 + count_below n f else count_below n f) ≡ (one b + sum_below n (λ t. one (f t)))
+    by true a = omega (arith, a)
+    by false a = omega (arith, a)
+
+pub always_counted : (h : Shape) (es : List Event) (w : World) → IsRun (start h) es w → IsCounted w
+always_counted h es w r = counted (run_keeps KeepersHold step_keepers (start h) w es (first_keepers h) r)
+  where
+    counted : KeepersHold w → IsCounted w
+    counted k = record {
+      count = λ p. (let a : sum_below w.jobs (λ t. tally p (w.job t)) + one (w.pool p).counted ≡ (w.pool p).count = ((k.returns).shares).sums p in let b : count_below w.jobs (λ t. has_share p (w.job t)) ≡ sum_below w.jobs (λ t. tally p (w.job t)) = count_sum w.jobs (λ t. has_share p (w.job t)) in omega (arith, a, b));
+      made = ((k.returns).shares).unmade;
+      value = λ p. kept_once (λ q. all_values p (w.stack q)) ((w.pool p).held) ((w.pool p).counted) (((k.returns).shares).values p) (k.values p);
+      jobs = λ t. kept_once (λ q. shares t (w.stack q)) (keeps_own (w.job t)) ((w.job t).counted) (((k.returns).shares).jobs t) (k.jobs t);
+    }

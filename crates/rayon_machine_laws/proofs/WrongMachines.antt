@@ -8,26 +8,30 @@ use Rattle.rayon_machine_places.specs.declared.place.Ending.TheVariants.{Fine}
 use Rattle.rayon_machine_places.specs.declared.place.Latch.{Latch}
 use Rattle.rayon_machine_places.specs.declared.place.Latch.TheVariants.{Terminate, OfCall}
 use Rattle.rayon_machine_places.specs.declared.place.Rounds.TheVariants.{Failed}
+use Rattle.rayon_machine_places.specs.declared.place.Share.TheVariants.{OfJob}
 use Rattle.rayon_machine_places.specs.declared.place.Then.TheVariants.{Missing}
 use Rattle.rayon_machine_places.specs.declared.place.Place.{Place}
-use Rattle.rayon_machine_places.specs.declared.place.Place.TheVariants.{LoadCounters, AddSleeping, LookAtCast, LookAtInjector, BlockSelf, WakeUp, LockToWake, UnlockWoken, SetLatch, UnlockSettled, SetLockLatch}
+use Rattle.rayon_machine_places.specs.declared.place.Place.TheVariants.{LoadCounters, AddSleeping, LookAtCast, LookAtInjector, BlockSelf, WakeUp, PushJob, LockToWake, UnlockWoken, SetLatch, UnlockSettled, SetLockLatch}
 use Rattle.rayon_machine_places.specs.declared.place.Move.{Move}
-use Rattle.rayon_machine_places.specs.declared.place.Move.TheVariants.{Stay}
+use Rattle.rayon_machine_places.specs.declared.place.Move.TheVariants.{Stay, Back, HandBack}
 use Rattle.rayon_machine_places.specs.declared.act.Act.{Act}
-use Rattle.rayon_machine_places.specs.declared.act.Act.TheVariants.{Announce, Lock, SubInactive, News, Set, LockWait}
+use Rattle.rayon_machine_places.specs.declared.act.Act.TheVariants.{Announce, Lock, SubInactive, PushInj, News, Set, LockWait, Lower}
 use Rattle.rayon_machine_places.specs.declared.act.Seen.{Seen}
-use Rattle.rayon_machine_places.specs.declared.act.Seen.TheVariants.{Done, Yes, No, Jec, Word, Wakes}
+use Rattle.rayon_machine_places.specs.declared.act.Seen.TheVariants.{Done, Refused, Yes, No, Jec, Word, Wakes}
 use Rattle.rayon_machine_places.specs.declared.event.Event.{Event}
-use Rattle.rayon_machine_places.specs.declared.event.Event.TheVariants.{Go, End, Spawn, Install, Join}
+use Rattle.rayon_machine_places.specs.declared.event.Event.TheVariants.{Go, Refuse, End, Spawn, Install, Join}
 use Rattle.rayon_machine_places.specs.declared.state.Letter.{Letter}
 use Rattle.rayon_machine_places.specs.declared.state.Letter.TheVariants.{Sleeping, Set as IsSet}
-use Rattle.rayon_machine_places.specs.declared.state.Whereabouts.TheVariants.{Injected}
+use Rattle.rayon_machine_places.specs.declared.state.Whereabouts.TheVariants.{Injected, HandedBack}
 use Rattle.rayon_machine_places.specs.declared.shape.PoolShape.{PoolShape}
 use Rattle.rayon_machine_places.specs.declared.place.Settling.{Settling}
-use Rattle.rayon_machine_places.specs.Places.{finish, act_of, next_of}
-use Rattle.rayon_machine_places.specs.World.{Shape, Stack, World, Counts, counts_at, is_even, jec, Part, target_pool, target_worker, target_call, target_job, Outcome, effect}
+use Rattle.rayon_machine_places.specs.Places.{own_pool, finish, act_of, next_of, is_refusable}
+use Rattle.rayon_machine_places.specs.World.{Shape, Stack, World, count_below, Counts, counts_at, is_even, jec, Part, target_pool, target_worker, target_call, target_job, Outcome, at_job, effect}
 use Rattle.rayon_machine_places.specs.Steps.{put, put_stack, put_seat, part_of, after_move, jobs_after, step}
 use Rattle.rayon_machine_places.specs.Runs.{start}
+use Rattle.rayon_machine_laws.specs.Once.{one, times, in_injector, is_with, held}
+use Rattle.rayon_machine_laws.specs.Shares.{shares}
+use Rattle.rayon_machine_laws.specs.Counted.{keeps_own, has_share}
 use Rattle.rayon_machine_laws.specs.End.{follows}
 use Rattle.rayon_machine_laws.specs.Committed.{is_committed, is_looking}
 use Rattle.rayon_machine_laws.specs.Attended.{is_filled, has_pushed, owes_wake, settles}
@@ -52,8 +56,19 @@ done_by m w q s a (Some r) = Some (record w {
 abbrev act_by : Machine → World → Party → Stack → Act → Option World
 act_by m w q s a = done_by m w q s a (m.does a w.shape q (counts_at w (target_pool q a)) (part_of w (target_pool q a) (target_worker q a) (target_call a) (target_job w.shape q a (w.pool (target_pool q a)) (w.seat (target_pool q a) (target_worker q a)))))
 
+-- a party's next act is refused, as `after_refusal` has it; where the machine leads to the call's last step at once, that is made too
+abbrev refused_by : Machine → World → Party → Stack → Option World
+refused_by m w q s =
+    if is_refusable s.top
+    then Some (record w {
+      stack = put_stack w.stack q (after_move (m.next (w.shape.pool (own_pool q)) q s.top Refused) s.below);
+      job = jobs_after q (m.next (w.shape.pool (own_pool q)) q s.top Refused) w.job;
+    })
+    else None
+
 abbrev step_by : Machine → World → Event → Option World
 step_by m w (Go q) = act_by m w q (w.stack q) (act_of q (w.stack q).top)
+step_by m w (Refuse q) = refused_by m w q (w.stack q)
 step_by m w e = step w e
 
 abbrev then_by : Machine → Option World → Event → Option World
@@ -237,3 +252,67 @@ caller_passes_a_latch_that_is_not_set = record { answer = refl; queued = refl }
 -- the machine as it is waits there
 caller_waits : run_by right (two 32) (Install c 0 ∷ times_go c 6) ≡ None
 caller_waits = refl
+
+-- a caller's spawn whose push is refused, and the act after that
+abbrev refused_run : List Event
+refused_run = Spawn c 0 ∷ times_go c 2 ++ Refuse c ∷ Go c ∷ []
+
+-- the machine as it is lowers the count again, and hands the job back
+refused_push_undone : IfSome (run_by right (two 32) refused_run) (λ w. ((w.pool 0).count ≡ 1) × ((w.job 0).counted ≡ false) × ((w.job 0).at ≡ HandedBack))
+refused_push_undone = (refl, refl, refl)
+
+-- a refused push keeps its share of the terminate count
+abbrev keeps_share : PoolShape → Party → Place → Seen → Move
+keeps_share h q (PushJob n e) Refused = HandBack n
+keeps_share h q x e = next_of h q x e
+
+-- the law of the count is broken: a share is in the count that none of the parties that ever moved keeps, nor its job
+record Unkept (w : World) (t : ℕ) : Type 0 where
+  counted : (w.job t).counted ≡ true
+  parties : (shares t (w.stack a) + shares t (w.stack b) + (shares t (w.stack c) + shares t (w.stack d))) ≡ 0
+  owner : keeps_own (w.job t) ≡ false
+
+refused_push_keeps_its_share : IfSome (run_by (record { does = effect; next = keeps_share }) (two 32) (Spawn c 0 ∷ times_go c 2 ++ Refuse c ∷ [])) (λ w. Unkept w 0)
+refused_push_keeps_its_share = record { counted = refl; parties = refl; owner = refl }
+
+-- a Lower clears the record of its share, and leaves the number
+abbrev leaves_number : Act → Shape → Party → Counts → Part → Outcome
+leaves_number (Lower p (OfJob t)) h q n m = Some ((if m.pool.count == 1 then Yes else No), record m { job = record (m.job) { counted = false } })
+leaves_number act h q n m = effect act h q n m
+
+-- the law of the count is broken: the number is one more than the shares, so this pool will never end
+record Miscounted (w : World) (p : ℕ) : Type 0 where
+  number : (w.pool p).count ≡ 2
+  shares : (one (w.pool p).counted + count_below w.jobs (λ t. has_share p (w.job t))) ≡ 1
+
+lower_lowers_nothing : IfSome (run_by (record { does = leaves_number; next = next_of }) (two 32) refused_run) (λ w. Miscounted w 0)
+lower_lowers_nothing = record { number = refl; shares = refl }
+
+-- a push into an injector drops its job
+abbrev drops_job : Act → Shape → Party → Counts → Part → Outcome
+drops_job (PushInj p t) h q n m = Some (Done, record m { job = at_job (m.job) (Injected p) })
+drops_job act h q n m = effect act h q n m
+
+-- the law of places is broken: a job's record says that it is injected, and it does not stand there
+record Dropped (w : World) (p t : ℕ) : Type 0 where
+  says : in_injector p (w.job t).at ≡ true
+  stands : times t (w.pool p).injector ≡ 0
+
+push_drops_its_job : IfSome (run_by (record { does = drops_job; next = next_of }) (two 32) (Spawn c 0 ∷ times_go c 3)) (λ w. Dropped w 0 0)
+push_drops_its_job = record { says = refl; stands = refl }
+
+-- a refused call makes its last step, and hands no job back
+abbrev gives_none : Move → Move
+gives_none (HandBack n) = Back
+gives_none g = g
+
+abbrev loses_jobs : PoolShape → Party → Place → Seen → Move
+loses_jobs h q x e = gives_none (next_of h q x e)
+
+-- the law of places is broken: a job's record says that its call has it, and nobody has it in hand
+record Lost (w : World) (t : ℕ) : Type 0 where
+  says : (is_with c (w.job t).at && ((w.job t).runs == 0)) ≡ true
+  hand : held t (w.stack c) ≡ 0
+
+refused_call_loses_its_jobs : IfSome (run_by (record { does = effect; next = loses_jobs }) (two 32) refused_run) (λ w. Lost w 0)
+refused_call_loses_its_jobs = record { says = refl; hand = refl }

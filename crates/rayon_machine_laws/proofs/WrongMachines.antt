@@ -8,10 +8,9 @@ use Rattle.rayon_machine_places.specs.declared.place.Ending.TheVariants.{Fine}
 use Rattle.rayon_machine_places.specs.declared.place.Latch.{Latch}
 use Rattle.rayon_machine_places.specs.declared.place.Latch.TheVariants.{Terminate, OfCall}
 use Rattle.rayon_machine_places.specs.declared.place.Rounds.TheVariants.{Failed}
-use Rattle.rayon_machine_places.specs.declared.place.Share.TheVariants.{OfJob}
 use Rattle.rayon_machine_places.specs.declared.place.Then.TheVariants.{Missing}
 use Rattle.rayon_machine_places.specs.declared.place.Place.{Place}
-use Rattle.rayon_machine_places.specs.declared.place.Place.TheVariants.{LoadCounters, AddSleeping, LookAtCast, LookAtInjector, BlockSelf, WakeUp, PushJob, LockToWake, UnlockWoken, SetLatch, UnlockSettled, SetLockLatch}
+use Rattle.rayon_machine_places.specs.declared.place.Place.TheVariants.{LoadCounters, AddSleeping, LookAtCast, LookAtInjector, BlockSelf, WakeUp, GrowCall, PushJob, LockToWake, UnlockWoken, SetLatch, UnlockSettled, SetLockLatch}
 use Rattle.rayon_machine_places.specs.declared.place.Move.{Move}
 use Rattle.rayon_machine_places.specs.declared.place.Move.TheVariants.{Stay, Back, HandBack}
 use Rattle.rayon_machine_places.specs.declared.act.Act.{Act}
@@ -26,7 +25,7 @@ use Rattle.rayon_machine_places.specs.declared.state.Whereabouts.TheVariants.{In
 use Rattle.rayon_machine_places.specs.declared.shape.PoolShape.{PoolShape}
 use Rattle.rayon_machine_places.specs.declared.place.Settling.{Settling}
 use Rattle.rayon_machine_places.specs.Places.{own_pool, finish, act_of, next_of, is_refusable}
-use Rattle.rayon_machine_places.specs.World.{Shape, Stack, World, count_below, Counts, counts_at, is_even, jec, Part, target_pool, target_worker, target_call, target_job, Outcome, at_job, effect}
+use Rattle.rayon_machine_places.specs.World.{Shape, Stack, World, count_below, Counts, counts_at, is_even, jec, Part, target_pool, target_worker, target_call, target_job, Outcome, at_job, lowered, effect}
 use Rattle.rayon_machine_places.specs.Steps.{put, put_stack, put_seat, part_of, after_move, jobs_after, step}
 use Rattle.rayon_machine_places.specs.Runs.{start}
 use Rattle.rayon_machine_laws.specs.Once.{one, times, in_injector, is_with, held}
@@ -261,8 +260,9 @@ refused_run = Spawn c 0 ∷ times_go c 2 ++ Refuse c ∷ Go c ∷ []
 refused_push_undone : IfSome (run_by right (two 32) refused_run) (λ w. ((w.pool 0).count ≡ 1) × ((w.job 0).counted ≡ false) × ((w.job 0).at ≡ HandedBack))
 refused_push_undone = (refl, refl, refl)
 
--- a refused push keeps its share of the terminate count
+-- a refused push keeps its share of the terminate count, and so does a call that is refused its room
 abbrev keeps_share : PoolShape → Party → Place → Seen → Move
+keeps_share h q (GrowCall n) Refused = HandBack n
 keeps_share h q (PushJob n e) Refused = HandBack n
 keeps_share h q x e = next_of h q x e
 
@@ -277,7 +277,9 @@ refused_push_keeps_its_share = record { counted = refl; parties = refl; owner = 
 
 -- a Lower clears the record of its share, and leaves the number
 abbrev leaves_number : Act → Shape → Party → Counts → Part → Outcome
-leaves_number (Lower p (OfJob t)) h q n m = Some ((if m.pool.count == 1 then Yes else No), record m { job = record (m.job) { counted = false } })
+leaves_number (Lower p s) h q n m =
+    let v : Part = lowered m s in
+    Some ((if m.pool.count == 1 then Yes else No), record v { pool = record (v.pool) { count = m.pool.count } })
 leaves_number act h q n m = effect act h q n m
 
 -- the law of the count is broken: the number is one more than the shares, so this pool will never end

@@ -93,7 +93,7 @@ abbrev pub hand_found : ℕ → Option ℕ → ℕ
 hand_found t None = 0
 hand_found t (Some u) = one (t == u)
 
--- how often a place has job t in hand: made and not yet queued, or taken from a list, and not begun
+-- how often a place has job t in hand: made by its call, or taken from a list, and neither queued nor begun since
 abbrev pub hand : ℕ → Place → ℕ
 hand t (LeaveSearch w) = hand_found t w.found
 hand t (BeginTask u) = one (t == u)

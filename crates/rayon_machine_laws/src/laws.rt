@@ -7,10 +7,11 @@ ghost use Rattle.rayon_machine_laws.specs.Latch.{IsLatched};
 ghost use Rattle.rayon_machine_laws.specs.Once.{IsOnce};
 ghost use Rattle.rayon_machine_laws.specs.Shares.{NoEarlyEnd};
 
-/// In every world of every run each number that was given out is a job, and its record says where it is. Its run has begun
-/// at most once: a job that is over has run once, and one that was made, queued or handed back has not begun. A job stands
-/// exactly once where its record says, and nowhere else: in that worker's deque, in that pool's injector, or with that
-/// party, in its hand until its run begins and under its run from then on. So no job is lost and none is doubled.
+/// In every world of every run each number that was given out is a job, and its record says where it is. Its run has
+/// begun at most once: a job that is over has run once, and one that was made, queued or handed back has not begun. A
+/// job that is not over and not handed back stands exactly once where its record says, and nowhere else: in that
+/// worker's deque, in that pool's injector, or with that party, in its hand until its run begins and under its run
+/// from then on. One that is over or handed back stands nowhere. So no job is lost and none is doubled.
 /// It does not say that a job ever runs.
 pub fn law_once()
     ensures { Always IsOnce }
@@ -23,12 +24,12 @@ pub fn law_latch()
     ensures { Always IsLatched }
 {}
 
-/// In every world of every run a pool's terminate count is the number of the shares in it: one for the pool's value until
-/// its Lower, and one for each job at the pool that has a share. Each of them is kept exactly once, and no other is kept.
-/// The value's share is kept by the held value, or by the one Lower that gives it back. A job's share is kept by the one
-/// call that waits for it, from its Raise to its Lower; where no call waits for the job, by its call before it is queued,
-/// then by the job itself while it is queued, in a hand or running, and last by the Lower that follows its run. So no
-/// share is lost, and none stays in the count that nobody will give back.
+/// In every world of every run a pool's terminate count is the number of the shares in it: one for the pool's value
+/// until its Lower, and one for each job at the pool that has a share. Each of them is kept exactly once, and no other
+/// is kept. The value's share is kept by the held value, or by the one Lower that gives it back. A job's share is kept
+/// by the one call that waits for it, from its Raise to its Lower; where no call waits for the job, by its call before
+/// it is queued, then by the job itself while it is queued, in a hand or running, and last by the Lower that follows
+/// its run. So no share is lost, and none stays in the count that nobody keeps.
 /// It does not say that a share is ever given back.
 pub fn law_count()
     ensures { Always IsCounted }

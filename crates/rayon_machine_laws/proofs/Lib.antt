@@ -54,3 +54,10 @@ pub mod Keepers
 pub mod Keeping
 pub mod Takes
 pub mod Filled
+pub mod CallPlaces
+pub mod CallActs
+pub mod CallEvents
+pub mod CallSteps
+pub mod CallStretch
+pub mod Calls
+pub mod CallTeeth

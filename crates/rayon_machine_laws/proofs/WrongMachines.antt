@@ -37,12 +37,12 @@ use Rattle.rayon_machine_laws.specs.Attended.{is_filled, has_pushed, owes_wake, 
 use Rattle.rayon_machine_laws.specs.Turn.{is_adding, is_added, is_news}
 
 -- a machine: what each act does, and where it leads
-record Machine : Type 0 where
-  does : Act → Shape → Party → Counts → Part → Outcome
-  next : PoolShape → Party → Place → Seen → Move
+pub record Machine : Type 0 where
+  pub does : Act → Shape → Party → Counts → Part → Outcome
+  pub next : PoolShape → Party → Place → Seen → Move
 
 -- a party's act, as `act_at` and `after` have it
-abbrev done_by : Machine → World → Party → Stack → Act → Outcome → Option World
+abbrev pub done_by : Machine → World → Party → Stack → Act → Outcome → Option World
 done_by m w q s a None = None
 done_by m w q s a (Some r) = Some (record w {
   stack = put_stack w.stack q (after_move (m.next (w.shape.pool (target_pool q a)) q s.top (r.0)) s.below);
@@ -52,11 +52,11 @@ done_by m w q s a (Some r) = Some (record w {
   job = jobs_after q (m.next (w.shape.pool (target_pool q a)) q s.top (r.0)) (put w.job (target_job w.shape q a (w.pool (target_pool q a)) (w.seat (target_pool q a) (target_worker q a))) (r.1.job));
 })
 
-abbrev act_by : Machine → World → Party → Stack → Act → Option World
+abbrev pub act_by : Machine → World → Party → Stack → Act → Option World
 act_by m w q s a = done_by m w q s a (m.does a w.shape q (counts_at w (target_pool q a)) (part_of w (target_pool q a) (target_worker q a) (target_call a) (target_job w.shape q a (w.pool (target_pool q a)) (w.seat (target_pool q a) (target_worker q a)))))
 
 -- a party's next act is refused, as `after_refusal` has it; where the machine leads to the call's last step at once, that is made too
-abbrev refused_by : Machine → World → Party → Stack → Option World
+abbrev pub refused_by : Machine → World → Party → Stack → Option World
 refused_by m w q s =
     if is_refusable s.top
     then Some (record w {
@@ -65,34 +65,34 @@ refused_by m w q s =
     })
     else None
 
-abbrev step_by : Machine → World → Event → Option World
+abbrev pub step_by : Machine → World → Event → Option World
 step_by m w (Go q) = act_by m w q (w.stack q) (act_of q (w.stack q).top)
 step_by m w (Refuse q) = refused_by m w q (w.stack q)
 step_by m w e = step w e
 
-abbrev then_by : Machine → Option World → Event → Option World
+abbrev pub then_by : Machine → Option World → Event → Option World
 then_by m None e = None
 then_by m (Some w) e = step_by m w e
 
-abbrev run_by : Machine → Option World → List Event → Option World
+abbrev pub run_by : Machine → Option World → List Event → Option World
 run_by m o [] = o
 run_by m o (e ∷ es) = run_by m (then_by m o e) es
 
-abbrev times_go : Party → ℕ → List Event
+abbrev pub times_go : Party → ℕ → List Event
 times_go q zero = []
 times_go q (suc n) = Go q ∷ times_go q n
 
 -- two workers, with an event counter of so many bits
-abbrev two : ℕ → Option World
+abbrev pub two : ℕ → Option World
 two k = Some (start (record { pool = λ p. record { workers = 2; limit = 0; order = NewestFirst; callers_own = false }; callers = 16; jec_bits = k }))
 
-abbrev a : Party
+abbrev pub a : Party
 a = Worker 0 0
 
-abbrev b : Party
+abbrev pub b : Party
 b = Worker 0 1
 
-abbrev c : Party
+abbrev pub c : Party
 c = Caller 0
 
 abbrev d : Party
@@ -110,7 +110,7 @@ record Unattended (w : World) (i : ℕ) : Type 0 where
   wakers : ((is_waker w a i || is_waker w b i) || (is_waker w c i || is_waker w d i)) ≡ false
 
 -- the machine as it is
-abbrev right : Machine
+abbrev pub right : Machine
 right = record { does = effect; next = next_of }
 
 -- the last look at the injector comes before the worker counts itself as sleeping

@@ -7,6 +7,7 @@ pub mod End
 pub mod Latch
 pub mod Shares
 pub mod Counted
+pub mod Calls
 pub use Rattle.rayon_machine_places.specs.Places
 pub use Rattle.rayon_machine_places.specs.World
 pub use Rattle.rayon_machine_places.specs.Steps

@@ -2,6 +2,7 @@
 ghost use Rattle.rayon_machine_places.specs.Runs.{Always};
 ghost use Rattle.rayon_machine_laws.specs.Committed.{CommittedHold, CommittedSleep, SleepersAreInactive};
 ghost use Rattle.rayon_machine_laws.specs.Counted.{IsCounted};
+ghost use Rattle.rayon_machine_laws.specs.Calls.{CallLaw};
 ghost use Rattle.rayon_machine_laws.specs.End.{IsEnd, IsRefused, IsReturned};
 ghost use Rattle.rayon_machine_laws.specs.Latch.{IsLatched};
 ghost use Rattle.rayon_machine_laws.specs.Once.{IsOnce};
@@ -43,12 +44,20 @@ pub fn law_count()
 /// it, none of its jobs is in the count, and for ever after its last step. A pool's terminate latch is set only when the
 /// pool has ended: its value is given up, no call made at it keeps a share of its terminate count, and no detached job of
 /// it is queued or running.
+/// The same is said of calls, with places named by their acts alone (`calls`): from the event by which a party begins
+/// a spawn, an install or a join, to the first world in which the party's stack is again what it was, the stack stands
+/// on what it was. There each job that the event made has run once and is over, or, of a spawn, is queued, in a hand,
+/// running or over; but if a step of the call itself was refused, each is handed back and has never run. What the call
+/// takes from a cell is how the last of its jobs ended. An install or a join that nothing refused has its answer where
+/// it is to lower the terminate count, and the fault is the one that comes first. Once it is over, its share is given
+/// back.
 /// It does not say that a call ever comes to its last step, nor that a pool ever ends.
 pub fn law_end()
     ensures ends { Always IsEnd }
     ensures refused { Always IsRefused }
     ensures returned { Always IsReturned }
     ensures early { Always NoEarlyEnd }
+    ensures calls { CallLaw }
 {}
 
 /// In every world of every run each sleeping worker is inactive, and each worker that is about to block itself or is

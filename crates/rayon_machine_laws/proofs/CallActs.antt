@@ -1,0 +1,152 @@
+-- what one step does to a call's place, and what it keeps of the call's jobs
+use Rattle.std.proofs.Common.{rules, arith, refl, sym, ◌∙◌, ap, subst}
+use Rattle.std.specs.Prelude.{ℕ, Bool, true, false, ◌||◌, ◌+◌, ◌==◌, ◌≤◌, nat_lt, if◌then◌else◌, Option, Some, None, List, ◌≡◌, IfSome, ⊤}
+use Rattle.rayon_machine_places.specs.declared.place.Party.{Party}
+use Rattle.rayon_machine_places.specs.declared.place.Party.TheVariants.{Worker, Caller}
+use Rattle.rayon_machine_places.specs.declared.place.Ending.{Ending}
+use Rattle.rayon_machine_places.specs.declared.place.Plan.{Plan}
+use Rattle.rayon_machine_places.specs.declared.place.Plan.TheVariants.{Detach, Here, Send, Fork}
+use Rattle.rayon_machine_places.specs.declared.place.Share.{Share}
+use Rattle.rayon_machine_places.specs.declared.place.Share.TheVariants.{OfJob}
+use Rattle.rayon_machine_places.specs.declared.place.Then.{Then}
+use Rattle.rayon_machine_places.specs.declared.place.Then.TheVariants.{BeginFound, LeaveWait, Resume, Await, RunFirst, Answers, Missing, Ran, GiveBack}
+use Rattle.rayon_machine_places.specs.declared.place.Latch.TheVariants.{Terminate}
+use Rattle.rayon_machine_places.specs.declared.place.Place.{Place}
+use Rattle.rayon_machine_places.specs.declared.place.Place.TheVariants.{RaiseCount, GrowCall, PushJob, TakeResult, LowerCount, SetLatch}
+use Rattle.rayon_machine_places.specs.declared.place.Move.{Move}
+use Rattle.rayon_machine_places.specs.declared.place.Move.TheVariants.{Stay, Back}
+use Rattle.rayon_machine_places.specs.declared.act.Act.{Act}
+use Rattle.rayon_machine_places.specs.declared.act.Act.TheVariants.{PushInj, PushOwn}
+use Rattle.rayon_machine_places.specs.declared.act.Seen.{Seen}
+use Rattle.rayon_machine_places.specs.declared.act.Seen.TheVariants.{Done, Refused, Yes, No}
+use Rattle.rayon_machine_places.specs.declared.shape.PoolShape.{PoolShape}
+use Rattle.rayon_machine_places.specs.declared.state.Whereabouts.{Whereabouts}
+use Rattle.rayon_machine_places.specs.declared.state.Whereabouts.TheVariants.{InDeque, Injected}
+use Rattle.rayon_machine_places.specs.declared.place.OpenCall.{OpenCall}
+use Rattle.rayon_machine_places.specs.declared.state.Job.{Job}
+use Rattle.rayon_machine_places.specs.Places.{own_pool, own_index, is_member, plan_pool, plan_job, finish, settle, act_of, next_of}
+use Rattle.rayon_machine_places.specs.World.{World, Part as Piece, target_pool, target_worker, target_call, counts_at, at_job, found, effect}
+use Rattle.rayon_machine_places.specs.Steps.{put, part_of, jobs_after, after}
+use Rattle.rayon_machine_places.specs.Readers.{is_queued, is_running, is_done}
+use Rattle.rayon_machine_laws.specs.Calls.{is_raise_refused}
+use Rattle.rayon_machine_laws.proofs.Frame.{if_some_all, put_new}
+use Rattle.rayon_machine_laws.proofs.Ties.{job_at, outcome}
+use Rattle.rayon_machine_laws.proofs.Claims.{Says}
+use Rattle.rayon_machine_laws.proofs.ClaimRuns.{place_part, world_after}
+use Rattle.rayon_machine_laws.proofs.ShareLowers.{lowered_world}
+use Rattle.rayon_machine_laws.proofs.CallPlaces.{Stage, Going, Gone, Paid, Undone, is_undone, Part, PartOwed, Known, Leads, raised_leads, lower_leads, is_decisive, part_leads, open_job, here_job}
+
+-- what is known of a spawned job once it is queued
+abbrev pub Queued : (ℕ → Job) → Plan → Type 0
+Queued f (Detach p t) = (is_queued (f t).at || (is_running (f t).at || is_done (f t).at)) ≡ true
+Queued f _ = ⊤
+
+-- what is known of a plan's job by how far its call has come
+abbrev pub Sofar : World → Stage → Plan → Type 0
+Sofar w Going n = ⊤
+Sofar w Undone n = ⊤
+Sofar w Gone n = Queued w.job n
+Sofar w Paid n = (plan_job n + 1 ≤ w.jobs) × ((is_done (w.job (plan_job n)).at ≡ true) × ((w.job (plan_job n)).counted ≡ false))
+
+-- the call's own act has moved it: to a place of it, or out of the call
+pub record Went (w u : World) (n : Plan) (s : Stage) (b : Bool) (g : Move) : Type 0 where
+  pub stage : Stage
+  pub leads : Leads w n stage g
+  pub sofar : Sofar u s n → Sofar u stage n
+  pub flag : is_undone stage ≡ (is_undone s || b)
+
+pub or_false : (b : Bool) → b ≡ (b || false)
+or_false true = refl
+or_false false = refl
+
+not_raised : (w : World) (q : Party) (x : Place) → is_decisive x ≡ false → is_raise_refused w (act_of q x) ≡ false
+not_raised w q (RaiseCount m) d = absurd (let a : true ≡ false = d in cc)
+not_raised w q (GrowCall m) d = absurd (let a : true ≡ false = d in cc)
+not_raised w q (PushJob m e) d = absurd (let a : true ≡ false = d in cc)
+not_raised w q (TakeResult o f) d = absurd (let a : true ≡ false = d in cc)
+not_raised w q (LowerCount p h t) d = absurd (let a : true ≡ false = d in cc)
+not_raised w (Worker i j) x d = search (rules, arith)
+not_raised w (Caller c) x d = search (rules, arith)
+
+pub or_true : (b : Bool) → true ≡ (b || true)
+or_true true = refl
+or_true false = refl
+
+-- where an act's answer leads from a place of the call
+abbrev pub Goes : World → Party → Plan → Stage → Place → List Place → Type 0
+Goes w q n s x fs = IfSome (outcome w q (record { top = x; below = fs })) (λ r. Went w (world_after w q x fs r) n s (is_raise_refused w (act_of q x)) (next_of (w.shape.pool (target_pool q (act_of q x))) q x (r.0)))
+
+raise_goes : (w : World) (q : Party) (n : Plan) (s : Stage) (m : Plan) (fs : List Place) (h : Piece) → (m ≡ n) × (s ≡ Going) → (b : Bool) → ((w.pool (plan_pool m)).count == 0) ≡ b → IfSome (if b then Some (Refused, place_part w q (RaiseCount m)) else Some (Done, h)) (λ r. Went w (world_after w q (RaiseCount m) fs r) n s ((w.pool (plan_pool m)).count == 0) (next_of (w.shape.pool (target_pool q (act_of q (RaiseCount m)))) q (RaiseCount m) (r.0)))
+raise_goes w q n s m fs h y true e = record { stage = Undone; leads = (y.0, refl); sofar = λ z. tt; flag = or_true (is_undone s) ∙ ap (λ v. is_undone s || v) (sym e) }
+raise_goes w q n s m fs h y false e = record { stage = s; leads = raised_leads w n s m y; sofar = λ z. z; flag = or_false (is_undone s) ∙ ap (λ v. is_undone s || v) (sym e) }
+
+-- a spawn's job is queued by its push
+queued_now : (f g : ℕ → Job) (n m : Plan) (a : Whereabouts) → m ≡ n → (is_queued a || (is_running a || is_done a)) ≡ true → g (plan_job m) ≡ at_job (f (plan_job m)) a → Queued g n
+queued_now f g n (Detach p t) a e z i = subst (λ v. Queued g v) e (ap (λ j. is_queued j.at || (is_running j.at || is_done j.at)) i ∙ z)
+queued_now f g n (Here p t) a e z i = subst (λ v. Queued g v) e tt
+queued_now f g n (Send o) a e z i = subst (λ v. Queued g v) e tt
+queued_now f g n (Fork o b) a e z i = subst (λ v. Queued g v) e tt
+
+push_goes : (w : World) (q : Party) (n : Plan) (s : Stage) (m : Plan) (v : Bool) (fs : List Place) → Part n s (PushJob m v) → (b : Bool) → (λ (a : Act). IfSome (effect a w.shape q (counts_at w (target_pool q a)) (part_of w (target_pool q a) (target_worker q a) (target_call a) (job_at w q a))) (λ r. Went w (after w q (record { top = PushJob m v; below = fs }) (target_pool q a) (target_worker q a) (target_call a) (job_at w q a) r) n s (is_raise_refused w a) (next_of (w.shape.pool (target_pool q a)) q (PushJob m v) (r.0)))) (if b then PushOwn (plan_job m) else PushInj (plan_pool m) (plan_job m))
+push_goes w q n s m v fs y true = record { stage = Gone; leads = (y.0, refl, y.2); sofar = λ z. queued_now w.job (put w.job (plan_job m) (at_job (w.job (plan_job m)) (InDeque (own_pool q) (own_index q)))) n m (InDeque (own_pool q) (own_index q)) (y.0) refl (put_new w.job (plan_job m) (at_job (w.job (plan_job m)) (InDeque (own_pool q) (own_index q)))); flag = ap is_undone (sym (y.1)) ∙ or_false (is_undone s) }
+push_goes w q n s m v fs y false = record { stage = Gone; leads = (y.0, refl, y.2); sofar = λ z. queued_now w.job (put w.job (plan_job m) (at_job (w.job (plan_job m)) (Injected (plan_pool m)))) n m (Injected (plan_pool m)) (y.0) refl (put_new w.job (plan_job m) (at_job (w.job (plan_job m)) (Injected (plan_pool m)))); flag = ap is_undone (sym (y.1)) ∙ or_false (is_undone s) }
+
+take_goes : (w : World) (q : Party) (n : Plan) (s : Stage) (o : OpenCall) (f : Option Ending) (fs : List Place) → Part n s (TakeResult o f) → (c : Option Ending) → (c ≡ None → ⊥) → IfSome (found (place_part w q (TakeResult o f)) c) (λ r. Went w (world_after w q (TakeResult o f) fs r) n s false (next_of (w.shape.pool (target_pool q (act_of q (TakeResult o f)))) q (TakeResult o f) (r.0)))
+take_goes w q n s o f fs y None g = absurd (g refl)
+take_goes w q n s o f fs y (Some e) g = record { stage = s; leads = (ap OfJob (open_job n o (y.0)), y); sofar = λ z. z; flag = or_false (is_undone s) }
+
+-- the call's own Lower gives its share back
+settle_jobs : (g : PoolShape) (q : Party) (p i : ℕ) (t : Then) (f : ℕ → Job) → finish q t ≡ Back → jobs_after q (settle g q p i t) f ≡ f
+settle_jobs g q p i t f z = by (nat_lt i g.workers)
+  where
+    by : (b : Bool) → jobs_after q (if b then Stay (SetLatch (record { latch = Terminate; pool = p; worker = i; then = t })) else finish q t) f ≡ f
+    by true = refl
+    by false = ap (λ m. jobs_after q m f) z
+
+lower_jobs : (g : PoolShape) (q : Party) (p : ℕ) (h : Share) (t : Then) (e : Seen) (f : ℕ → Job) → finish q t ≡ Back → jobs_after q (next_of g q (LowerCount p h t) e) f ≡ f
+lower_jobs g q p h t Yes f z = settle_jobs g q p 0 t f z
+lower_jobs g q p h t _ f z = ap (λ m. jobs_after q m f) z
+
+lowered_so : (w : World) (q : Party) (n : Plan) (p : ℕ) (t : Then) (fs : List Place) (e : Seen) → finish q t ≡ Back → plan_job n + 1 ≤ w.jobs → is_done (w.job (plan_job n)).at ≡ true → Sofar (lowered_world w q p (OfJob (plan_job n)) t fs e) Paid n
+lowered_so w q n p t fs e z m d =
+    let j : Job = record (w.job (plan_job n)) { counted = false } in
+    let same : jobs_after q (next_of (w.shape.pool p) q (LowerCount p (OfJob (plan_job n)) t) e) (put w.job (plan_job n) j) ≡ put w.job (plan_job n) j = lower_jobs (w.shape.pool p) q p (OfJob (plan_job n)) t e (put w.job (plan_job n) j) z in
+    let new : put w.job (plan_job n) j (plan_job n) ≡ j = put_new w.job (plan_job n) j in
+    (m, (ap (λ v. is_done (v (plan_job n)).at) same ∙ ap (λ v. is_done v.at) new ∙ d, ap (λ v. (v (plan_job n)).counted) same ∙ ap (λ v. v.counted) new))
+
+lower_went : (w : World) (q : Party) (n : Plan) (s : Stage) (p : ℕ) (t : Then) (fs : List Place) (e : Seen) → Known w n → Says w q (LowerCount p (OfJob (plan_job n)) t) → PartOwed n s t → Went w (lowered_world w q p (OfJob (plan_job n)) t fs e) n s false (next_of (w.shape.pool p) q (LowerCount p (OfJob (plan_job n)) t) e)
+lower_went w q n s p (Answers o f d) fs e k z y = record {
+  stage = Paid;
+  leads = lower_leads w (w.shape.pool p) q n Paid p (OfJob (plan_job n)) (Answers o f d) e k (z.0) (y.0, refl);
+  sofar = λ v. lowered_so w q n p (Answers o f d) fs e refl ((z.1).0) (subst (λ t. is_done (w.job t).at ≡ true) (open_job n o (y.0)) (ap is_done ((z.0).2)));
+  flag = ap is_undone (sym (y.1)) ∙ or_false (is_undone s);
+}
+lower_went w q n s p (Ran t d) fs e k z y = record {
+  stage = Paid;
+  leads = lower_leads w (w.shape.pool p) q n Paid p (OfJob (plan_job n)) (Ran t d) e k (z.0) (y.0, refl);
+  sofar = λ v. lowered_so w q n p (Ran t d) fs e refl ((z.1).0) (subst (λ t. is_done (w.job t).at ≡ true) (here_job n t (y.0)) (ap is_done (z.0)));
+  flag = ap is_undone (sym (y.1)) ∙ or_false (is_undone s);
+}
+lower_went w q n s p (GiveBack m) fs e k z y = record { stage = s; leads = lower_leads w (w.shape.pool p) q n s p (OfJob (plan_job n)) (GiveBack m) e k (z.0) y; sofar = λ v. v; flag = or_false (is_undone s) }
+lower_went w q n s p (BeginFound g t) fs e k z y = absurd y
+lower_went w q n s p (LeaveWait g) fs e k z y = absurd y
+lower_went w q n s p Resume fs e k z y = absurd y
+lower_went w q n s p (Await o) fs e k z y = absurd y
+lower_went w q n s p (RunFirst o a) fs e k z y = absurd y
+lower_went w q n s p (Missing o f) fs e k z y = absurd y
+
+plain_goes : (w : World) (q : Party) (n : Plan) (s : Stage) (x : Place) (fs : List Place) → is_decisive x ≡ false → Known w n → Says w q x → Part n s x → Goes w q n s x fs
+plain_goes w q n s x fs d k z y = if_some_all (λ r. Went w (world_after w q x fs r) n s (is_raise_refused w (act_of q x)) (next_of (w.shape.pool (target_pool q (act_of q x))) q x (r.0))) (λ r. record { stage = s; leads = part_leads w (w.shape.pool (target_pool q (act_of q x))) q n s x (r.0) d k z y; sofar = λ v. v; flag = or_false (is_undone s) ∙ ap (λ v. is_undone s || v) (sym (not_raised w q x d)) }) (outcome w q (record { top = x; below = fs }))
+
+pub call_goes : (w : World) (q : Party) (n : Plan) (s : Stage) (x : Place) (fs : List Place) → ((o : OpenCall) (f : Option Ending) → x ≡ TakeResult o f → (w.call o.number).cell ≡ None → ⊥) → Known w n → Says w q x → Part n s x → Goes w q n s x fs
+call_goes w (Worker a b) n s (RaiseCount m) fs g k z y = raise_goes w (Worker a b) n s m fs _ y ((w.pool (plan_pool m)).count == 0) refl
+call_goes w (Caller c) n s (RaiseCount m) fs g k z y = raise_goes w (Caller c) n s m fs _ y ((w.pool (plan_pool m)).count == 0) refl
+call_goes w (Worker a b) n s (GrowCall m) fs g k z y = record { stage = s; leads = y; sofar = λ v. v; flag = or_false (is_undone s) }
+call_goes w (Caller c) n s (GrowCall m) fs g k z y = record { stage = s; leads = y; sofar = λ v. v; flag = or_false (is_undone s) }
+call_goes w (Worker a b) n s (PushJob m v) fs g k z y = push_goes w (Worker a b) n s m v fs y (is_member (Worker a b) (plan_pool m))
+call_goes w (Caller c) n s (PushJob m v) fs g k z y = push_goes w (Caller c) n s m v fs y false
+call_goes w (Worker a b) n s (TakeResult o f) fs g k z y = take_goes w (Worker a b) n s o f fs y ((w.call o.number).cell) (g o f refl)
+call_goes w (Caller c) n s (TakeResult o f) fs g k z y = take_goes w (Caller c) n s o f fs y ((w.call o.number).cell) (g o f refl)
+call_goes w (Worker a b) n s (LowerCount p h t) fs g k z y = subst (λ i. Says w (Worker a b) (LowerCount p i t) → Goes w (Worker a b) n s (LowerCount p i t) fs) (sym (y.0)) (λ v. lower_went w (Worker a b) n s p t fs (if (w.pool p).count == 1 then Yes else No) k v (y.1)) z
+call_goes w (Caller c) n s (LowerCount p h t) fs g k z y = subst (λ i. Says w (Caller c) (LowerCount p i t) → Goes w (Caller c) n s (LowerCount p i t) fs) (sym (y.0)) (λ v. lower_went w (Caller c) n s p t fs (if (w.pool p).count == 1 then Yes else No) k v (y.1)) z
+call_goes w q n s x fs g k z y = plain_goes w q n s x fs refl k z y

@@ -1,0 +1,387 @@
+-- which places are of a call's own program, and where each leads
+use Rattle.std.proofs.Common.{refl, sym, ap, subst}
+use Rattle.std.specs.Prelude.{ℕ, Bool, true, false, ◌&&◌, ◌+◌, ◌-◌, ◌==◌, ◌≤◌, nat_lt, if◌then◌else◌, Option, Some, None, ◌≡◌, ⊤}
+use Rattle.rayon_machine_places.specs.declared.place.Party.{Party}
+use Rattle.rayon_machine_places.specs.declared.place.Party.TheVariants.{Worker, Caller}
+use Rattle.rayon_machine_places.specs.declared.place.Ending.{Ending}
+use Rattle.rayon_machine_places.specs.declared.place.Target.{Target}
+use Rattle.rayon_machine_places.specs.declared.place.Target.TheVariants.{Termination, Answer}
+use Rattle.rayon_machine_places.specs.declared.place.Latch.{Latch}
+use Rattle.rayon_machine_places.specs.declared.place.Latch.TheVariants.{Terminate, OfCall}
+use Rattle.rayon_machine_places.specs.declared.place.Rounds.{Rounds}
+use Rattle.rayon_machine_places.specs.declared.place.Rounds.TheVariants.{Failed, Announced}
+use Rattle.rayon_machine_places.specs.declared.place.Plan.{Plan}
+use Rattle.rayon_machine_places.specs.declared.place.Plan.TheVariants.{Detach, Here, Send, Fork}
+use Rattle.rayon_machine_places.specs.declared.place.Share.{Share}
+use Rattle.rayon_machine_places.specs.declared.place.Share.TheVariants.{OfJob}
+use Rattle.rayon_machine_places.specs.declared.place.Then.{Then}
+use Rattle.rayon_machine_places.specs.declared.place.Then.TheVariants.{BeginFound, LeaveWait, Resume, Await, RunFirst, Answers, Missing, Ran, GiveBack}
+use Rattle.rayon_machine_places.specs.declared.place.Place.{Place}
+use Rattle.rayon_machine_places.specs.declared.place.Place.TheVariants.{ProbeWorking, PopWorking, TakeCastWorking, BecomeInactive, ProbeIdle, PopIdle, TakeCastIdle, PickVictim, StealFrom, PopInjected, AnnounceSelf, GetSleepy, LockOwn, FallAsleep, LoadCounters, AddSleeping, LookAtCast, LookAtInjector, BlockSelf, RelockOwn, UndoSleeping, WakeUp, UnlockOwn, LeaveSearch, JoinProbe, JoinPop, JoinTakeCast, YieldPop, YieldTakeCast, YieldPick, YieldSteal, YieldPopInjected, LocalPop, LocalTakeCast, BeginTask, BeginHere, Run, RaiseCount, GrowCall, LookQueue, PushJob, TellNews, LockToWake, WakeWorker, UnlockWoken, WaitForLock, TakeResult, LowerCount, StoreResult, SetLatch, LockToSettle, WakeSettled, UnlockSettled, SetLockLatch, FirstSide, SecondSide, AtOnce, Free, Stopped}
+use Rattle.rayon_machine_places.specs.declared.place.Move.{Move}
+use Rattle.rayon_machine_places.specs.declared.place.Move.TheVariants.{Stay, Enter, StartRun, Back, HandBack}
+use Rattle.rayon_machine_places.specs.declared.act.Seen.{Seen}
+use Rattle.rayon_machine_places.specs.declared.act.Seen.TheVariants.{Done, Yes, Task, Jec, Word, Start, Wakes}
+use Rattle.rayon_machine_places.specs.declared.state.Whereabouts.TheVariants.{Over}
+use Rattle.rayon_machine_places.specs.declared.shape.PoolShape.{PoolShape}
+use Rattle.rayon_machine_places.specs.declared.place.OpenCall.{OpenCall}
+use Rattle.rayon_machine_places.specs.declared.place.Wait.{Wait}
+use Rattle.rayon_machine_places.specs.declared.place.Settling.{Settling}
+use Rattle.rayon_machine_places.specs.Places.{own_pool, own_index, plan_pool, plan_job, after_wait, finish, walk, settle, after_set, after_found, after_news, after_raise, next_victim, not_self, after_failure, next_steal, next_of}
+use Rattle.rayon_machine_places.specs.World.{World}
+use Rattle.rayon_machine_places.specs.Readers.{is_done}
+use Rattle.rayon_machine_laws.proofs.Claims.{FirstEnds, is_detached, SaysThen, Says}
+
+-- how far a call has come: its job is not yet queued, or it is; its share is given back; or a step of the call was refused
+pub data Stage : Type 0 where
+  Going : Stage
+  Gone : Stage
+  Paid : Stage
+  Undone : Stage
+
+abbrev pub is_undone : Stage → Bool
+is_undone Undone = true
+is_undone _ = false
+
+-- what a plan is: a call that waits, an install that runs its job at once, a spawn
+abbrev pub plan_open : Plan → Option OpenCall
+plan_open (Send o) = Some o
+plan_open (Fork o a) = Some o
+plan_open _ = None
+
+abbrev pub plan_here : Plan → Option ℕ
+plan_here (Here p t) = Some t
+plan_here _ = None
+
+abbrev pub is_detach : Plan → Bool
+is_detach (Detach p t) = true
+is_detach _ = false
+
+abbrev pub is_sent : Plan → Bool
+is_sent (Here p t) = false
+is_sent _ = true
+
+-- what belongs to the call of a plan n that has come to a stage s
+abbrev pub PartPlan : Plan → Stage → Stage → Plan → Type 0
+PartPlan n s r m = (m ≡ n) × (s ≡ r) × (is_sent m ≡ true)
+
+abbrev pub PartOpen : Plan → Stage → OpenCall → Type 0
+PartOpen n s o = (plan_open n ≡ Some o) × (s ≡ Gone)
+
+abbrev pub PartTarget : Plan → Stage → Target → Type 0
+PartTarget n s Termination = ⊥
+PartTarget n s (Answer o f) = PartOpen n s o
+
+-- while others are woken
+abbrev pub PartThen : Plan → Stage → Then → Type 0
+PartThen n s (BeginFound g t) = PartTarget n s g
+PartThen n s (LeaveWait g) = PartTarget n s g
+PartThen n s Resume = (is_detach n ≡ true) × (s ≡ Gone)
+PartThen n s (Await o) = PartOpen n s o
+PartThen n s (RunFirst o a) = (n ≡ Fork o a) × (s ≡ Gone)
+PartThen n s _ = ⊥
+
+-- before the call's share is given back
+abbrev pub PartOwed : Plan → Stage → Then → Type 0
+PartOwed n s (Answers o f e) = PartOpen n s o
+PartOwed n s (Ran t e) = (plan_here n ≡ Some t) × (s ≡ Going)
+PartOwed n s (GiveBack m) = (m ≡ n) × (s ≡ Undone)
+PartOwed n s _ = ⊥
+
+-- and after that
+abbrev pub PartPaid : Plan → Stage → Then → Type 0
+PartPaid n s (Answers o f e) = (plan_open n ≡ Some o) × (s ≡ Paid)
+PartPaid n s (Ran t e) = (plan_here n ≡ Some t) × (s ≡ Paid)
+PartPaid n s (GiveBack m) = (m ≡ n) × (s ≡ Undone)
+PartPaid n s _ = ⊥
+
+abbrev pub Part : Plan → Stage → Place → Type 0
+Part n s (ProbeWorking k) = PartTarget n s k.target
+Part n s (PopWorking k) = PartTarget n s k.target
+Part n s (TakeCastWorking k) = PartTarget n s k.target
+Part n s (BecomeInactive k) = PartTarget n s k.target
+Part n s (ProbeIdle k) = PartTarget n s k.target
+Part n s (PopIdle k) = PartTarget n s k.target
+Part n s (TakeCastIdle k) = PartTarget n s k.target
+Part n s (PickVictim k) = PartTarget n s k.target
+Part n s (StealFrom k m) = PartTarget n s k.target
+Part n s (PopInjected k) = PartTarget n s k.target
+Part n s (AnnounceSelf k) = PartTarget n s k.target
+Part n s (GetSleepy k) = PartTarget n s k.target
+Part n s (LockOwn k) = PartTarget n s k.target
+Part n s (FallAsleep k) = PartTarget n s k.target
+Part n s (LoadCounters k) = PartTarget n s k.target
+Part n s (AddSleeping k) = PartTarget n s k.target
+Part n s (LookAtCast k) = PartTarget n s k.target
+Part n s (LookAtInjector k) = PartTarget n s k.target
+Part n s (BlockSelf k) = PartTarget n s k.target
+Part n s (RelockOwn k) = PartTarget n s k.target
+Part n s (UndoSleeping k) = PartTarget n s k.target
+Part n s (WakeUp k) = PartTarget n s k.target
+Part n s (UnlockOwn k) = PartTarget n s k.target
+Part n s (LeaveSearch k) = PartTarget n s k.target
+Part n s (JoinProbe o) = PartOpen n s o
+Part n s (JoinPop o) = PartOpen n s o
+Part n s (JoinTakeCast o) = PartOpen n s o
+Part n s (SecondSide o) = PartOpen n s o
+Part n s (WaitForLock o) = PartOpen n s o
+Part n s (TakeResult o f) = PartOpen n s o
+Part n s (RaiseCount m) = (m ≡ n) × (s ≡ Going)
+Part n s (GrowCall m) = PartPlan n s Going m
+Part n s (LookQueue m) = PartPlan n s Going m
+Part n s (PushJob m e) = PartPlan n s Going m
+Part n s (TellNews m e) = PartPlan n s Gone m
+Part n s (LockToWake k) = PartThen n s k.then
+Part n s (WakeWorker k) = PartThen n s k.then
+Part n s (UnlockWoken k) = PartThen n s k.then
+Part n s (LowerCount p h t) = (h ≡ OfJob (plan_job n)) × PartOwed n s t
+Part n s (SetLatch k) = PartPaid n s k.then
+Part n s (LockToSettle k) = PartPaid n s k.then
+Part n s (WakeSettled k) = PartPaid n s k.then
+Part n s (UnlockSettled k) = PartPaid n s k.then
+Part n s (FirstSide o a) = (n ≡ Fork o a) × (s ≡ Gone)
+Part n s (AtOnce p t) = (n ≡ Here p t) × (s ≡ Going)
+Part n s _ = ⊥
+
+abbrev pub Ended : World → ℕ → Type 0
+Ended w t = is_done (w.job t).at ≡ true
+
+-- a call that nothing refused can return: its jobs are over and its share is given back, or it was a spawn and has queued its job
+abbrev pub Returns : World → Plan → Stage → Type 0
+Returns w (Detach p t) s = s ≡ Gone
+Returns w (Here p t) s = (s ≡ Paid) × Ended w t
+Returns w (Send o) s = (s ≡ Paid) × Ended w o.job
+Returns w (Fork o a) s = (s ≡ Paid) × (Ended w a × Ended w o.job)
+
+-- what the world tells of a plan: a spawn's job is detached, a call that waits knows its first side, if it is a join
+abbrev pub Known : World → Plan → Type 0
+Known w (Detach p t) = (t + 1 ≤ w.jobs) × (is_detached (w.job t).kind ≡ true)
+Known w (Send o) = (o.number + 1 ≤ w.calls) × ((w.call o.number).first ≡ None)
+Known w (Fork o a) = (o.number + 1 ≤ w.calls) × ((w.call o.number).first ≡ Some a)
+Known w _ = ⊤
+
+-- where a move of the call's own step leads
+abbrev pub Leads : World → Plan → Stage → Move → Type 0
+Leads w n s (Stay y) = Part n s y
+Leads w n s (Enter f y) = Part n s f
+Leads w n s (StartRun f t) = Part n s f
+Leads w n s Back = Returns w n s
+Leads w n s (HandBack m) = (m ≡ n) × (s ≡ Undone)
+
+first_ended : (w : World) (a : ℕ) (f : Option Ending) → FirstEnds w (Some a) f → Ended w a
+first_ended w a (Some e) z = ap is_done z
+first_ended w a None z = absurd z
+
+some_open : {o p : OpenCall} → Some o ≡ Some p → o ≡ p
+some_open e = cc
+
+open_returns : (w : World) (q : Party) (n : Plan) (s : Stage) (o : OpenCall) (f : Option Ending) (e : Ending) → Known w n → SaysThen w q (Answers o f e) → (plan_open n ≡ Some o) × (s ≡ Paid) → Returns w n s
+open_returns w q (Detach p t) s o f e k z y = absurd (let a : None ≡ Some o = y.0 in cc)
+open_returns w q (Here p t) s o f e k z y = absurd (let a : None ≡ Some o = y.0 in cc)
+open_returns w q (Send p) s o f e k z y = (y.1, subst (λ v. Ended w v.job) (sym (some_open (y.0))) (ap is_done (z.2)))
+open_returns w q (Fork p a) s o f e k z y =
+    let same : p ≡ o = some_open (y.0) in
+    let side : FirstEnds w (w.call p.number).first f = subst (λ v. FirstEnds w (w.call v.number).first f) (sym same) (z.1) in
+    (y.1, (first_ended w a f (subst (λ v. FirstEnds w v f) (k.1) side), subst (λ v. Ended w v.job) (sym same) (ap is_done (z.2))))
+
+detach_returns : (w : World) (n : Plan) (s : Stage) → (is_detach n ≡ true) × (s ≡ Gone) → Returns w n s
+detach_returns w (Detach p t) s y = y.1
+detach_returns w (Here p t) s y = absurd (let a : false ≡ true = y.0 in cc)
+detach_returns w (Send o) s y = absurd (let a : false ≡ true = y.0 in cc)
+detach_returns w (Fork o a) s y = absurd (let b : false ≡ true = y.0 in cc)
+
+here_returns : (w : World) (n : Plan) (s : Stage) (t : ℕ) (e : Ending) → (w.job t).at ≡ Over e → (plan_here n ≡ Some t) × (s ≡ Paid) → Returns w n s
+here_returns w (Here p u) s t e z y = (y.1, (let a : Some u ≡ Some t = y.0 in let b : u ≡ t = cc in subst (λ v. Ended w v) (sym b) (ap is_done z)))
+here_returns w (Detach p u) s t e z y = absurd (let a : None ≡ Some t = y.0 in cc)
+here_returns w (Send o) s t e z y = absurd (let a : None ≡ Some t = y.0 in cc)
+here_returns w (Fork o b) s t e z y = absurd (let a : None ≡ Some t = y.0 in cc)
+
+finish_leads : (w : World) (q : Party) (n : Plan) (s : Stage) (t : Then) → PartThen n s t → Leads w n s (finish q t)
+finish_leads w q n s (BeginFound g t) y = y
+finish_leads w q n s (LeaveWait Termination) y = absurd y
+finish_leads w q n s (LeaveWait (Answer o f)) y = y
+finish_leads w q n s Resume y = detach_returns w n s y
+finish_leads w (Worker p i) n s (Await o) y = y
+finish_leads w (Caller c) n s (Await o) y = y
+finish_leads w q n s (RunFirst o a) y = y
+finish_leads w q n s (Answers o f e) y = absurd y
+finish_leads w q n s (Missing o f) y = absurd y
+finish_leads w q n s (Ran t e) y = absurd y
+finish_leads w q n s (GiveBack m) y = absurd y
+
+paid_leads : (w : World) (q : Party) (n : Plan) (s : Stage) (t : Then) → Known w n → SaysThen w q t → PartPaid n s t → Leads w n s (finish q t)
+paid_leads w q n s (Answers o f e) k z y = open_returns w q n s o f e k z y
+paid_leads w q n s (Ran t e) k z y = here_returns w n s t e z y
+paid_leads w q n s (GiveBack m) k z y = y
+paid_leads w q n s (BeginFound g t) k z y = absurd y
+paid_leads w q n s (LeaveWait g) k z y = absurd y
+paid_leads w q n s Resume k z y = absurd y
+paid_leads w q n s (Await o) k z y = absurd y
+paid_leads w q n s (RunFirst o a) k z y = absurd y
+paid_leads w q n s (Missing o f) k z y = absurd y
+
+walk_leads : (w : World) (g : PoolShape) (q : Party) (n : Plan) (s : Stage) (p h i : ℕ) (t : Then) → PartThen n s t → Leads w n s (walk g q p h i t)
+walk_leads w g q n s p h i t y = by (nat_lt 0 h && nat_lt i g.workers)
+  where
+    by : (b : Bool) → Leads w n s (if b then Stay (LockToWake (record { pool = p; owed = h; worker = i; then = t })) else finish q t)
+    by true = y
+    by false = finish_leads w q n s t y
+
+pub settle_leads : (w : World) (g : PoolShape) (q : Party) (n : Plan) (s : Stage) (p i : ℕ) (t : Then) → Known w n → SaysThen w q t → PartPaid n s t → Leads w n s (settle g q p i t)
+settle_leads w g q n s p i t k z y = by (nat_lt i g.workers)
+  where
+    by : (b : Bool) → Leads w n s (if b then Stay (SetLatch (record { latch = Terminate; pool = p; worker = i; then = t })) else finish q t)
+    by true = y
+    by false = paid_leads w q n s t k z y
+
+settled_leads : (w : World) (g : PoolShape) (q : Party) (n : Plan) (s : Stage) (h : Settling) (l : Latch) → Known w n → SaysThen w q h.then → PartPaid n s h.then → Leads w n s (after_set g q h l)
+settled_leads w g q n s h Terminate k z y = settle_leads w g q n s h.pool (h.worker + 1) h.then k z y
+settled_leads w g q n s h (OfCall c) k z y = paid_leads w q n s h.then k z y
+
+-- a Lower of the call leads on as it has been paid
+pub lower_leads : (w : World) (g : PoolShape) (q : Party) (n : Plan) (s : Stage) (p : ℕ) (h : Share) (t : Then) (e : Seen) → Known w n → SaysThen w q t → PartPaid n s t → Leads w n s (next_of g q (LowerCount p h t) e)
+lower_leads w g q n s p h t Yes k z y = settle_leads w g q n s p 0 t k z y
+lower_leads w g q n s p h t _ k z y = paid_leads w q n s t k z y
+
+leads_if : (w : World) (n : Plan) (s : Stage) (x y : Place) (b : Bool) → Part n s x → Part n s y → Leads w n s (if b then Stay x else Stay y)
+leads_if w n s x y true a b = a
+leads_if w n s x y false a b = b
+
+pub steal_part : (n : Plan) (s : Stage) (g : PoolShape) (q : Party) (k : Wait) (m : ℕ) → PartTarget n s k.target → Part n s (next_steal g q k m)
+steal_part n s g q k m y = by (m == 0)
+  where
+    by : (b : Bool) → Part n s (if b then PopInjected k else StealFrom (record k { victim = not_self g.workers (own_index q) (next_victim g.workers k.victim) }) (m - 1))
+    by true = y
+    by false = y
+
+failed_part : (n : Plan) (s : Stage) (g : PoolShape) (k : Wait) (r : Rounds) → PartTarget n s k.target → Part n s (after_failure g k r)
+failed_part n s g k (Failed m) y = by (nat_lt m g.limit)
+  where
+    by : (b : Bool) → Part n s (if b then ProbeIdle (record k { rounds = Failed (m + 1) }) else AnnounceSelf k)
+    by true = y
+    by false = y
+failed_part n s g k Announced y = y
+
+left_part : (n : Plan) (s : Stage) (g : Target) → PartTarget n s g → Part n s (after_wait g)
+left_part n s Termination y = absurd y
+left_part n s (Answer o f) y = y
+
+found_part : (n : Plan) (s : Stage) (g : Target) (o : Option ℕ) → PartTarget n s g → PartThen n s (after_found g o)
+found_part n s g None y = y
+found_part n s g (Some t) y = y
+
+pop_leads : (w : World) (n : Plan) (s : Stage) (o : OpenCall) (t : ℕ) → PartOpen n s o → Leads w n s (if t == o.job then Enter (SecondSide o) (BeginHere t) else Enter (JoinProbe o) (BeginTask t))
+pop_leads w n s o t y = by (t == o.job)
+  where
+    by : (b : Bool) → Leads w n s (if b then Enter (SecondSide o) (BeginHere t) else Enter (JoinProbe o) (BeginTask t))
+    by true = y
+    by false = y
+
+-- what a call goes on with once its job is queued
+news_part : (n : Plan) (s : Stage) (m : Plan) → PartPlan n s Gone m → PartThen n s (after_news m)
+news_part n s (Detach p t) y = (subst (λ v. is_detach v ≡ true) (y.0) refl, y.1)
+news_part n s (Here p t) y = absurd (let a : false ≡ true = y.2 in cc)
+news_part n s (Send o) y = (subst (λ v. plan_open v ≡ Some o) (y.0) refl, y.1)
+news_part n s (Fork o a) y = (sym (y.0), y.1)
+
+-- once its pool's count is raised for it
+pub raised_leads : (w : World) (n : Plan) (s : Stage) (m : Plan) → (m ≡ n) × (s ≡ Going) → Leads w n s (after_raise m)
+raised_leads w n s (Detach p t) y = (y.0, y.1, refl)
+raised_leads w n s (Here p t) y = (sym (y.0), y.1)
+raised_leads w n s (Send o) y = (y.0, y.1, refl)
+raised_leads w n s (Fork o a) y = (y.0, y.1, refl)
+
+-- the acts whose answer decides more than the place
+abbrev pub is_decisive : Place → Bool
+is_decisive (RaiseCount m) = true
+is_decisive (GrowCall m) = true
+is_decisive (PushJob m e) = true
+is_decisive (TakeResult o f) = true
+is_decisive (LowerCount p h t) = true
+is_decisive _ = false
+
+-- every other place of a call leads to another of it, or the call returns
+pub part_leads : (w : World) (g : PoolShape) (q : Party) (n : Plan) (s : Stage) (x : Place) (e : Seen) → is_decisive x ≡ false → Known w n → Says w q x → Part n s x → Leads w n s (next_of g q x e)
+part_leads w g q n s (ProbeWorking k) Yes d h z y = left_part n s k.target y
+part_leads w g q n s (ProbeWorking k) _ d h z y = y
+part_leads w g q n s (PopWorking k) (Task t) d h z y = y
+part_leads w g q n s (PopWorking k) _ d h z y = y
+part_leads w g q n s (TakeCastWorking k) (Task t) d h z y = y
+part_leads w g q n s (TakeCastWorking k) _ d h z y = y
+part_leads w g q n s (ProbeIdle k) Yes d h z y = y
+part_leads w g q n s (ProbeIdle k) _ d h z y = y
+part_leads w g q n s (PopIdle k) (Task t) d h z y = y
+part_leads w g q n s (PopIdle k) _ d h z y = y
+part_leads w g q n s (TakeCastIdle k) (Task t) d h z y = y
+part_leads w g q n s (TakeCastIdle k) _ d h z y = leads_if w n s (PopInjected k) (PickVictim k) (g.workers == 1) y y
+part_leads w g q n s (PickVictim k) (Start v) d h z y = y
+part_leads w g q n s (PickVictim k) _ d h z y = y
+part_leads w g q n s (StealFrom k m) (Task t) d h z y = y
+part_leads w g q n s (StealFrom k m) _ d h z y = steal_part n s g q k m y
+part_leads w g q n s (PopInjected k) (Task t) d h z y = y
+part_leads w g q n s (PopInjected k) _ d h z y = failed_part n s g k k.rounds y
+part_leads w g q n s (AnnounceSelf k) (Jec j) d h z y = y
+part_leads w g q n s (AnnounceSelf k) _ d h z y = y
+part_leads w g q n s (GetSleepy k) Done d h z y = y
+part_leads w g q n s (GetSleepy k) _ d h z y = y
+part_leads w g q n s (FallAsleep k) Done d h z y = y
+part_leads w g q n s (FallAsleep k) _ d h z y = y
+part_leads w g q n s (LoadCounters k) (Word a b j) d h z y = leads_if w n s (AddSleeping (record k { sleeping = a; inactive = b })) (WakeUp (record k { rounds = Failed g.limit })) (j == k.kept) y y
+part_leads w g q n s (LoadCounters k) _ d h z y = y
+part_leads w g q n s (AddSleeping k) Done d h z y = y
+part_leads w g q n s (AddSleeping k) _ d h z y = y
+part_leads w g q n s (LookAtCast k) Yes d h z y = y
+part_leads w g q n s (LookAtCast k) _ d h z y = y
+part_leads w g q n s (LookAtInjector k) Yes d h z y = y
+part_leads w g q n s (LookAtInjector k) _ d h z y = y
+part_leads w g q n s (LeaveSearch k) (Wakes m) d h z y = walk_leads w g q n s (own_pool q) m 0 (after_found k.target k.found) (found_part n s k.target k.found y)
+part_leads w g q n s (LeaveSearch k) _ d h z y = y
+part_leads w g q n s (JoinProbe o) Yes d h z y = y
+part_leads w g q n s (JoinProbe o) _ d h z y = y
+part_leads w g q n s (JoinPop o) (Task t) d h z y = pop_leads w n s o t y
+part_leads w g q n s (JoinPop o) _ d h z y = y
+part_leads w g q n s (JoinTakeCast o) (Task t) d h z y = y
+part_leads w g q n s (JoinTakeCast o) _ d h z y = y
+part_leads w g q n s YieldPop e d h z y = absurd y
+part_leads w g q n s YieldTakeCast e d h z y = absurd y
+part_leads w g q n s YieldPick e d h z y = absurd y
+part_leads w g q n s (YieldSteal v m) e d h z y = absurd y
+part_leads w g q n s YieldPopInjected e d h z y = absurd y
+part_leads w g q n s LocalPop e d h z y = absurd y
+part_leads w g q n s LocalTakeCast e d h z y = absurd y
+part_leads w g q n s (BeginTask t) e d h z y = absurd y
+part_leads w g q n s (BeginHere t) e d h z y = absurd y
+part_leads w g q n s (Run t k) e d h z y = absurd y
+part_leads w g q n s (StoreResult c o f) e d h z y = absurd y
+part_leads w g q n s (SetLockLatch c) e d h z y = absurd y
+part_leads w g q n s Free e d h z y = absurd y
+part_leads w g q n s Stopped e d h z y = absurd y
+part_leads w g q n s (RaiseCount m) e d h z y = absurd (let a : true ≡ false = d in cc)
+part_leads w g q n s (GrowCall m) e d h z y = absurd (let a : true ≡ false = d in cc)
+part_leads w g q n s (PushJob m v) e d h z y = absurd (let a : true ≡ false = d in cc)
+part_leads w g q n s (TakeResult o f) e d h z y = absurd (let a : true ≡ false = d in cc)
+part_leads w g q n s (LookQueue m) Yes d h z y = y
+part_leads w g q n s (LookQueue m) _ d h z y = y
+part_leads w g q n s (TellNews m v) (Wakes k) d h z y = walk_leads w g q n s (plan_pool m) k 0 (after_news m) (news_part n s m y)
+part_leads w g q n s (TellNews m v) _ d h z y = y
+part_leads w g q n s (WakeWorker k) Yes d h z y = y
+part_leads w g q n s (WakeWorker k) _ d h z y = y
+part_leads w g q n s (UnlockWoken k) e d h z y = walk_leads w g q n s k.pool k.owed (k.worker + 1) k.then y
+part_leads w g q n s (LowerCount p a t) e d h z y = absurd (let b : true ≡ false = d in cc)
+part_leads w g q n s (SetLatch k) Yes d h z y = y
+part_leads w g q n s (SetLatch k) _ d h z y = settled_leads w g q n s k k.latch h (z.1) y
+part_leads w g q n s (UnlockSettled k) e d h z y = settled_leads w g q n s k k.latch h (z.1) y
+part_leads w g q n s _ e d h z y = y
+
+-- the job of a call's plan is the one that it waits for, or runs at once
+pub open_job : (n : Plan) (o : OpenCall) → plan_open n ≡ Some o → o.job ≡ plan_job n
+open_job (Detach p t) o e = absurd (cc)
+open_job (Here p t) o e = absurd (cc)
+open_job (Send m) o e = let a : m ≡ o = cc in ap (λ x. x.job) (sym a)
+open_job (Fork m a) o e = let b : m ≡ o = cc in ap (λ x. x.job) (sym b)
+
+pub here_job : (n : Plan) (t : ℕ) → plan_here n ≡ Some t → t ≡ plan_job n
+here_job (Detach p u) t e = absurd (cc)
+here_job (Here p u) t e = (let a : u ≡ t = cc in sym a)
+here_job (Send m) t e = absurd (cc)
+here_job (Fork m a) t e = absurd (cc)

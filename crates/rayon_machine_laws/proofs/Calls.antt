@@ -1,0 +1,383 @@
+-- the law of calls: from the event that begins a call to the world in which its party is back
+use Rattle.std.proofs.Common.{arith, refl, sym, ◌∙◌, ap, subst, inl, inr}
+use Rattle.std.specs.Prelude.{ℕ, Bool, true, false, ◌&&◌, ◌||◌, ◌+◌, ◌-◌, ◌==◌, ◌≤◌, ◌<◌, if◌then◌else◌, Option, Some, None, List, [], ◌∷◌, ◌++◌, ◌≡◌, IfSome, ◌⊎◌, length}
+use Rattle.std.proofs.lemmas.Bool.{eqb-true, eq-eqb}
+use Rattle.std.proofs.lemmas.List.{append_assoc, length-append}
+use Rattle.rayon_machine_places.specs.declared.place.Party.{Party}
+use Rattle.rayon_machine_places.specs.declared.place.Party.TheVariants.{Worker, Caller}
+use Rattle.rayon_machine_places.specs.declared.place.Ending.{Ending}
+use Rattle.rayon_machine_places.specs.declared.place.JobKind.TheVariants.{Detached}
+use Rattle.rayon_machine_places.specs.declared.place.Plan.{Plan}
+use Rattle.rayon_machine_places.specs.declared.place.Plan.TheVariants.{Detach, Here, Send, Fork}
+use Rattle.rayon_machine_places.specs.declared.place.Ending.TheVariants.{Fine, Fault}
+use Rattle.rayon_machine_places.specs.declared.place.Share.{Share}
+use Rattle.rayon_machine_places.specs.declared.place.Then.{Then}
+use Rattle.rayon_machine_places.specs.declared.place.Then.TheVariants.{BeginFound, LeaveWait, Resume, Await, RunFirst, Answers, Missing, Ran, GiveBack}
+use Rattle.rayon_machine_places.specs.declared.place.Place.{Place}
+use Rattle.rayon_machine_places.specs.declared.place.Place.TheVariants.{RaiseCount, LookQueue, PushJob, TakeResult, LowerCount}
+use Rattle.rayon_machine_places.specs.declared.act.Act.TheVariants.{LookOwn, LookInj, PushOwn, PushInj, Take, Lower}
+use Rattle.rayon_machine_places.specs.declared.event.Event.{Event}
+use Rattle.rayon_machine_places.specs.declared.event.Event.TheVariants.{Spawn, Install, Join}
+use Rattle.rayon_machine_places.specs.declared.state.Whereabouts.{Whereabouts}
+use Rattle.rayon_machine_places.specs.declared.state.Whereabouts.TheVariants.{Nowhere, Made, InDeque, Injected, Running, Over, HandedBack}
+use Rattle.rayon_machine_places.specs.declared.place.OpenCall.{OpenCall}
+use Rattle.rayon_machine_places.specs.Places.{is_member, plan_pool, plan_job, act_of, is_free}
+use Rattle.rayon_machine_places.specs.World.{Shape, Stack, World}
+use Rattle.rayon_machine_places.specs.Steps.{after_call, is_pool, new_job, new_call, after_spawn, after_send, after_install, after_join, step}
+use Rattle.rayon_machine_places.specs.Runs.{IsRun, start}
+use Rattle.rayon_machine_places.specs.Readers.{is_done}
+use Rattle.rayon_machine_laws.specs.End.{HasEnded, Verdict, AllFine, FirstFault, LastFault, answered, follows, AllJobs}
+use Rattle.rayon_machine_laws.specs.Calls.{caller_of, jobs_of, is_awaited, verdict_of, IsPrecedent, IsRunUntil, is_at_call, is_refusal, is_any, HasRun, LeavesJob, HoldsEnding, StandsOn, CallLaw}
+use Rattle.rayon_machine_laws.proofs.Frame.{either, if_cond, put_new, stack_mine}
+use Rattle.rayon_machine_laws.proofs.PlacedEvents.{Advance}
+use Rattle.rayon_machine_laws.proofs.PlacedRuns.{JobsHold, step_advance, once}
+use Rattle.rayon_machine_laws.proofs.Claims.{Opened, FirstEnds, is_detached, SaysThen, Says}
+use Rattle.rayon_machine_laws.proofs.ClaimMakes.{always_calls}
+use Rattle.rayon_machine_laws.proofs.Endings.{has_ended, refused_so}
+use Rattle.rayon_machine_laws.proofs.Returns.{always_returns, returned_so}
+use Rattle.rayon_machine_laws.proofs.Filled.{always_filled, takes_filled}
+use Rattle.rayon_machine_laws.proofs.CallPlaces.{Stage, Going, is_undone, Part, PartOpen, PartOwed, plan_open, plan_here, is_detach, Ended, Known, open_job}
+use Rattle.rayon_machine_laws.proofs.CallActs.{or_false}
+use Rattle.rayon_machine_laws.proofs.CallEvents.{whole, Stands, at_call_no}
+use Rattle.rayon_machine_laws.proofs.CallStretch.{Ground, Inside, Unrefused, Returned, After, Stays, step_stays}
+
+run_more : (w v u : World) (es : List Event) (e : Event) → IsRun w es v → step v e ≡ Some u → IsRun w (es ++ (e ∷ [])) u
+run_more w v u [] e r one = (u, subst (λ x. step x e ≡ Some u) r one, refl)
+run_more w v u (a ∷ es) e (x, two, rest) one = (x, two, run_more x v u es e rest one)
+
+ground_of : (h : Shape) (es : List Event) (w : World) → IsRun (start h) es w → Ground w
+ground_of h es w r = record { calls = always_calls h es w r; filled = always_filled h es w r; returns = always_returns h es w r }
+
+or_assoc : (a b c : Bool) → ((a || b) || c) ≡ (a || (b || c))
+or_assoc true b c = refl
+or_assoc false b c = refl
+
+-- from the call's event to any world up to its end
+stretch : (h : Shape) (before : List Event) (w : World) (q : Party) (s : Stack) (n : Plan) (u : World) (es : List Event) (r : Bool) → IsRun (start h) before w → Inside w q s n r → IsRunUntil q s w es u → After u q s n (r || is_any (is_refusal q s) (Some w) es)
+stretch h before w q s n u [] r run i same = subst (λ v. After v q s n (r || false)) (sym same) (subst (λ b. After w q s n b) (or_false r) (inl i))
+stretch h before w q s n u (e ∷ es) r run i (v, opened, one, rest) =
+    let next : IsRun (start h) (before ++ (e ∷ [])) v = run_more (start h) w v before e run one in
+    let d : Ground w = ground_of h before w run in
+    let adv : Advance w v = (let f : IfSome (Some v) (Advance w) = subst (λ o. IfSome o (Advance w)) one (step_advance w e ((d.calls.jobs).ok) ((d.calls.jobs).unmade)) in f) in
+    let st : Stays w e q s n r v = (let f : IfSome (Some v) (Stays w e q s n r) = subst (λ o. IfSome o (Stays w e q s n r)) one (step_stays w e q s n r d i) in f) in
+    let b : Bool = is_refusal q s w e in
+    elim (st one (ground_of h (before ++ (e ∷ [])) v next) adv) [
+      | inl k ↦ subst (λ c. After u q s n c) (or_assoc r b (is_any (is_refusal q s) (Some v) es) ∙ ap (λ o. r || (b || is_any (is_refusal q s) o es)) (sym one)) (stretch h (before ++ (e ∷ [])) v q s n u es (r || b) next k rest)
+      | inr k ↦ over v b k one es rest
+    ]
+  where
+    over : (v : World) (b : Bool) → Returned v q s n (r || b) → step w e ≡ Some v → (es : List Event) → IsRunUntil q s v es u → After u q s n (r || (b || is_any (is_refusal q s) (step w e) es))
+    over v b k one [] same = subst (λ x. After x q s n (r || (b || is_any (is_refusal q s) (step w e) []))) (sym same) (subst (λ c. After v q s n c) (ap (λ c. r || c) (or_false b) ∙ ap (λ o. r || (b || is_any (is_refusal q s) o [])) (sym one)) (inr k))
+    over v b k one (a ∷ gs) (x, opened, two, rest) = absurd (opened k.back)
+
+-- the jobs of a plan
+abbrev IsOf : ℕ → Plan → Type 0
+IsOf t (Detach p a) = t ≡ a
+IsOf t (Here p a) = t ≡ a
+IsOf t (Send o) = t ≡ o.job
+IsOf t (Fork o a) = (t ≡ a) ⊎ (t ≡ o.job)
+
+all_of : (P : ℕ → Type 0) (t : ℕ) (n : Plan) → IsOf t n → AllJobs P n → P t
+all_of P t (Detach p a) e z = subst P (sym e) z
+all_of P t (Here p a) e z = subst P (sym e) z
+all_of P t (Send o) e z = subst P (sym e) z
+all_of P t (Fork o a) (inl e) z = subst P (sym e) (z.0)
+all_of P t (Fork o a) (inr e) z = subst P (sym e) (z.1)
+
+has_run : (u : World) → JobsHold u → (t : ℕ) → Ended u t → HasRun u t
+has_run u h t z = record { over = z; runs = by ((u.job t).at) refl z }
+  where
+    by : (v : Whereabouts) → (u.job t).at ≡ v → is_done v ≡ true → (u.job t).runs ≡ 1
+    by (Over e) i d = (once u h).over t e i
+    by (Made q) i d = cc
+    by (Running q) i d = cc
+    by (InDeque p j) i d = cc
+    by (Injected p) i d = cc
+    by HandedBack i d = cc
+    by Nowhere i d = cc
+
+-- what a call of this plan answers, by how its jobs ended
+abbrev PlanAnswers : World → Plan → Verdict → Type 0
+PlanAnswers u (Detach p t) x = ⊥
+PlanAnswers u (Here p t) FirstFault = ⊥
+PlanAnswers u (Here p t) LastFault = HasEnded u t Fault
+PlanAnswers u (Here p t) AllFine = HasEnded u t Fine
+PlanAnswers u (Send o) FirstFault = ⊥
+PlanAnswers u (Send o) LastFault = HasEnded u o.job Fault
+PlanAnswers u (Send o) AllFine = HasEnded u o.job Fine
+PlanAnswers u (Fork o a) FirstFault = HasEnded u a Fault
+PlanAnswers u (Fork o a) LastFault = HasEnded u o.job Fault × HasEnded u a Fine
+PlanAnswers u (Fork o a) AllFine = HasEnded u o.job Fine × HasEnded u a Fine
+
+one_answer : (w u : World) (q : Party) (p t l : ℕ) → t ≡ l → (x : Verdict) → PlanAnswers u (Here p t) x → IsPrecedent (Install q p) u w.jobs l (Some x)
+one_answer w u q p t l i FirstFault y = absurd y
+one_answer w u q p t l i LastFault y = (subst (λ v. HasEnded u v Fault) i y, λ z. absurd (cc))
+one_answer w u q p t l i AllFine y = (subst (λ v. HasEnded u v Fine) i y, λ z. absurd (cc))
+
+sent_answer : (u : World) (o : OpenCall) (x : Verdict) → PlanAnswers u (Send o) x → PlanAnswers u (Here 0 o.job) x
+sent_answer u o FirstFault y = y
+sent_answer u o LastFault y = y
+sent_answer u o AllFine y = y
+
+two_answer : (u : World) (q : Party) (o : OpenCall) (a l : ℕ) → o.job ≡ l → (x : Verdict) → PlanAnswers u (Fork o a) x → IsPrecedent (Join q) u a l (Some x)
+two_answer u q o a l i FirstFault y = (refl, y)
+two_answer u q o a l i LastFault y = (subst (λ v. HasEnded u v Fault) i (y.0), λ z. y.1)
+two_answer u q o a l i AllFine y = (subst (λ v. HasEnded u v Fine) i (y.0), λ z. y.1)
+
+-- a call has begun, with its plan
+record Begun (w v : World) (q : Party) (e : Event) : Type 0 where
+  plan : Plan
+  made : v.jobs ≡ w.jobs + jobs_of e
+  inside : Inside v q (w.stack q) plan false
+  numbers : (t : ℕ) → w.jobs ≤ t → t < v.jobs → IsOf t plan
+  last : plan_job plan ≡ v.jobs - 1
+  awaited : is_awaited e ≡ true → is_detach plan ≡ false
+  answer : (u : World) (x : Verdict) → PlanAnswers u plan x → IsPrecedent e u w.jobs (v.jobs - 1) (Some x)
+  leaves : (u : World) → JobsHold u → (t : ℕ) → IsOf t plan → Unrefused u plan → LeavesJob e u t
+
+first_inside : (w v : World) (q : Party) (n : Plan) → v.stack q ≡ after_call (w.stack q) (RaiseCount n) → Known v n → Inside v q (w.stack q) n false
+first_inside w v q n z k = record { stage = Going; stands = record { above = []; place = RaiseCount n; is = ap whole z; part = (refl, refl) }; sofar = tt; known = k; flag = refl }
+
+spawn_begun : (w : World) (q : Party) (p : ℕ) → IfSome (after_spawn w q p (w.stack q)) (λ v. Begun w v q (Spawn q p))
+spawn_begun w q p = if_cond (λ v. Begun w v q (Spawn q p)) (is_free ((w.stack q).top) && is_pool w.shape p) _ (λ b. record {
+  plan = Detach p w.jobs;
+  made = refl;
+  inside = first_inside w _ q (Detach p w.jobs) (stack_mine w.stack q (after_call (w.stack q) (RaiseCount (Detach p w.jobs)))) ((omega arith), ap (λ j. is_detached j.kind) (put_new w.job w.jobs (new_job q p (Detached p))));
+  numbers = λ t l m. omega (arith, l, m);
+  last = omega arith;
+  awaited = λ z. absurd (cc);
+  answer = λ u x y. absurd y;
+  leaves = λ u h t i z. subst (λ x. LeavesJob (Spawn q p) u x) (sym i) z;
+})
+
+sent_begun : (w : World) (q : Party) (p : ℕ) (b : Bool) → Begun w (after_send w q p (w.stack q) b) q (Install q p)
+sent_begun w q p true = record {
+  plan = Here p w.jobs;
+  made = refl;
+  inside = first_inside w _ q (Here p w.jobs) (stack_mine w.stack q (after_call (w.stack q) (RaiseCount (Here p w.jobs)))) tt;
+  numbers = λ t l m. omega (arith, l, m);
+  last = omega arith;
+  awaited = λ z. refl;
+  answer = λ u x y. one_answer w u q p w.jobs (w.jobs + 1 - 1) (omega arith) x y;
+  leaves = λ u h t i z. has_run u h t (subst (λ x. Ended u x) (sym i) z);
+}
+sent_begun w q p false = record {
+  plan = Send (record { number = w.calls; pool = p; job = w.jobs });
+  made = refl;
+  inside = first_inside w _ q (Send (record { number = w.calls; pool = p; job = w.jobs })) (stack_mine w.stack q (after_call (w.stack q) (RaiseCount (Send (record { number = w.calls; pool = p; job = w.jobs }))))) ((omega arith), ap (λ k. k.first) (put_new w.call w.calls (new_call None w.jobs)));
+  numbers = λ t l m. omega (arith, l, m);
+  last = omega arith;
+  awaited = λ z. refl;
+  answer = λ u x y. one_answer w u q 0 w.jobs (w.jobs + 1 - 1) (omega arith) x (sent_answer u (record { number = w.calls; pool = p; job = w.jobs }) x y);
+  leaves = λ u h t i z. has_run u h t (subst (λ x. Ended u x) (sym i) z);
+}
+
+install_begun : (w : World) (q : Party) (p : ℕ) → IfSome (after_install w q p (w.stack q)) (λ v. Begun w v q (Install q p))
+install_begun w q p = if_cond (λ v. Begun w v q (Install q p)) (is_free ((w.stack q).top) && is_pool w.shape p) _ (λ b. sent_begun w q p (is_member q p))
+
+join_begun : (w : World) (q : Party) → IfSome (after_join w q (w.stack q)) (λ v. Begun w v q (Join q))
+join_begun w (Worker p i) = if_cond (λ v. Begun w v (Worker p i) (Join (Worker p i))) (is_free ((w.stack (Worker p i)).top)) _ (λ b. record {
+  plan = Fork (record { number = w.calls; pool = p; job = w.jobs + 1 }) w.jobs;
+  made = refl;
+  inside = first_inside w _ (Worker p i) (Fork (record { number = w.calls; pool = p; job = w.jobs + 1 }) w.jobs) (stack_mine w.stack (Worker p i) (after_call (w.stack (Worker p i)) (RaiseCount (Fork (record { number = w.calls; pool = p; job = w.jobs + 1 }) w.jobs)))) ((omega arith), ap (λ k. k.first) (put_new w.call w.calls (new_call (Some w.jobs) (w.jobs + 1))));
+  numbers = λ t l m. two t l m (t == w.jobs) refl;
+  last = omega arith;
+  awaited = λ z. refl;
+  answer = λ u x y. two_answer u (Worker p i) (record { number = w.calls; pool = p; job = w.jobs + 1 }) w.jobs (w.jobs + 2 - 1) (omega arith) x y;
+  leaves = λ u h t i z. has_run u h t (all_of (Ended u) t (Fork (record { number = w.calls; pool = p; job = w.jobs + 1 }) w.jobs) i z);
+})
+  where
+    two : (t : ℕ) → w.jobs ≤ t → t < w.jobs + 2 → (b : Bool) → (t == w.jobs) ≡ b → (t ≡ w.jobs) ⊎ (t ≡ w.jobs + 1)
+    two t l m true e = inl (eqb-true t w.jobs e)
+    two t l m false e = inr (let n : t ≡ w.jobs → ⊥ = λ z. (let k : (t == w.jobs) ≡ true = eq-eqb t w.jobs z in cc) in omega (arith, l, m, n))
+join_begun w (Caller c) = tt
+
+some_party : {q r : Party} → Some q ≡ Some r → q ≡ r
+some_party e = cc
+
+begun_by : (w : World) (q : Party) (e : Event) → caller_of e ≡ Some q → IfSome (step w e) (λ v. Begun w v q e)
+begun_by w q (Spawn r p) z = subst (λ x. IfSome (step w (Spawn r p)) (λ v. Begun w v x (Spawn r p))) (some_party z) (spawn_begun w r p)
+begun_by w q (Install r p) z = subst (λ x. IfSome (step w (Install r p)) (λ v. Begun w v x (Install r p))) (some_party z) (install_begun w r p)
+begun_by w q (Join r) z = subst (λ x. IfSome (step w (Join r)) (λ v. Begun w v x (Join r))) (some_party z) (join_begun w r)
+begun_by w q _ z = absurd (cc)
+
+-- only one place takes from a cell
+record Takes (x : Place) (c : ℕ) : Type 0 where
+  opened : OpenCall
+  first : Option Ending
+  is : x ≡ TakeResult opened first
+  number : opened.number ≡ c
+
+take_of : {a b : ℕ} → Take a ≡ Take b → a ≡ b
+take_of e = cc
+
+taker : (q : Party) (x : Place) (c : ℕ) → act_of q x ≡ Take c → Takes x c
+taker (Worker i j) (TakeResult o f) c e = record { opened = o; first = f; is = refl; number = take_of e }
+taker (Caller i) (TakeResult o f) c e = record { opened = o; first = f; is = refl; number = take_of e }
+taker (Worker i j) (LookQueue n) c e = absurd (by (is_member (Worker i j) (plan_pool n)) e)
+  where
+    by : (b : Bool) → (if b then LookOwn else LookInj (plan_pool n)) ≡ Take c → ⊥
+    by true z = cc
+    by false z = cc
+taker (Worker i j) (PushJob n v) c e = absurd (by (is_member (Worker i j) (plan_pool n)) e)
+  where
+    by : (b : Bool) → (if b then PushOwn (plan_job n) else PushInj (plan_pool n) (plan_job n)) ≡ Take c → ⊥
+    by true z = cc
+    by false z = cc
+taker (Worker i j) _ c e = absurd (cc)
+taker (Caller i) _ c e = absurd (cc)
+
+-- what stands on a stack is no longer it
+stands_apart : (n : Plan) (r : Stage) (s k : Stack) → Stands n r s k → k ≡ s → ⊥
+stands_apart n r s k h e =
+    let a : length (whole k) ≡ length (h.above ++ (h.place ∷ whole s)) = ap length h.is in
+    let b : length (h.above ++ (h.place ∷ whole s)) ≡ length h.above + length (h.place ∷ whole s) = length-append h.above (h.place ∷ whole s) in
+    let c : length (whole k) ≡ length (whole s) = ap (λ x. length (whole x)) e in omega (arith, a, b, c)
+
+stands_on : (s k : Stack) (above : List Place) (place : Place) → whole k ≡ above ++ (place ∷ whole s) → StandsOn s k
+stands_on s k [] place e = record { more = []; is = (let a : k.below ≡ whole s = cc in a) }
+stands_on s k (a ∷ gs) place e = record { more = gs ++ (place ∷ []); is = (let b : k.below ≡ gs ++ (place ∷ whole s) = cc in b) ∙ sym (append_assoc gs (place ∷ []) (whole s)) }
+
+call_stands : (u : World) (q : Party) (s : Stack) (n : Plan) (r : Bool) → After u q s n r → StandsOn s (u.stack q) ⊎ (u.stack q ≡ s)
+call_stands u q s n r (inl i) = inl (stands_on s (u.stack q) i.stands.above i.stands.place i.stands.is)
+call_stands u q s n r (inr k) = inr k.back
+
+at_place : (n : Plan) (r : Stage) (s k : Stack) (above : List Place) (place : Place) → whole k ≡ above ++ (place ∷ whole s) → is_at_call s k ≡ true → Part n r place → Part n r k.top
+at_place n r s k [] place e z p = (let a : k.top ≡ place = cc in subst (λ x. Part n r x) (sym a) p)
+at_place n r s k (a ∷ gs) place e z p = absurd (let b : k.below ≡ gs ++ (place ∷ whole s) = cc in let c : is_at_call s k ≡ false = at_call_no s k gs place b in cc)
+
+not_at_itself : (s : Stack) → is_at_call s s ≡ true → ⊥
+not_at_itself s e = let a : length s.below ≡ length s.below + 1 = eqb-true (length s.below) (length s.below + 1) e in omega (arith, a)
+
+finds : (u : World) → Ground u → (q : Party) (n : Plan) (r : Stage) (c t : ℕ) → ((o : OpenCall) → plan_open n ≡ Some o → o.job ≡ t) → Part n r (u.stack q).top → Takes (u.stack q).top c → HoldsEnding u c t
+finds u g q n r c t last p k = by ((u.call c).cell) refl
+  where
+    part : PartOpen n r k.opened
+    part = subst (λ x. Part n r x) k.is p
+
+    says : Opened u q k.opened × FirstEnds u (u.call k.opened.number).first k.first
+    says = subst (λ x. Says u q x) k.is ((g.calls.says q).top)
+
+    is : (u.call c).job ≡ t
+    is = ap (λ x. (u.call x).job) (sym k.number) ∙ (says.0).target ∙ last k.opened (part.0)
+
+    by : (e : Option Ending) → (u.call c).cell ≡ e → HoldsEnding u c t
+    by None z = absurd (takes_filled u g.filled q k.opened k.first k.is (ap (λ x. (u.call x).cell) k.number ∙ z))
+    by (Some e) z = record { ending = e; cell = z; job = subst (λ x. HasEnded u x e) is (has_ended u (g.calls.jobs) ((u.call c).job) e (g.calls.cells c e z)) }
+
+-- only one place lowers a count
+record Lowers (x : Place) (p : ℕ) (h : Share) : Type 0 where
+  pool : ℕ
+  share : Share
+  after : Then
+  is : x ≡ LowerCount pool share after
+
+lowerer : (q : Party) (x : Place) (p : ℕ) (h : Share) → act_of q x ≡ Lower p h → Lowers x p h
+lowerer (Worker i j) (LowerCount r s t) p h e = record { pool = r; share = s; after = t; is = refl }
+lowerer (Caller i) (LowerCount r s t) p h e = record { pool = r; share = s; after = t; is = refl }
+lowerer (Worker i j) (LookQueue n) p h e = absurd (by (is_member (Worker i j) (plan_pool n)) e)
+  where
+    by : (b : Bool) → (if b then LookOwn else LookInj (plan_pool n)) ≡ Lower p h → ⊥
+    by true z = cc
+    by false z = cc
+lowerer (Worker i j) (PushJob n v) p h e = absurd (by (is_member (Worker i j) (plan_pool n)) e)
+  where
+    by : (b : Bool) → (if b then PushOwn (plan_job n) else PushInj (plan_pool n) (plan_job n)) ≡ Lower p h → ⊥
+    by true z = cc
+    by false z = cc
+lowerer (Worker i j) _ p h e = absurd (cc)
+lowerer (Caller i) _ p h e = absurd (cc)
+
+-- what the call's own Lower says of its answer
+open_answers : (u : World) → JobsHold u → (n : Plan) (o : OpenCall) (f : Option Ending) (d : Ending) → Known u n → FirstEnds u (u.call o.number).first f → (u.job o.job).at ≡ Over d → plan_open n ≡ Some o → PlanAnswers u n (answered f d)
+open_answers u h (Detach p t) o f d k s z e = absurd (cc)
+open_answers u h (Here p t) o f d k s z e = absurd (cc)
+open_answers u h (Send m) o f d k s z e = by f d (subst (λ x. FirstEnds u x f) (ap (λ x. (u.call x.number).first) (sym same) ∙ k.1) s) (subst (λ x. (u.job x.job).at ≡ Over d) (sym same) z)
+  where
+    same : m ≡ o
+    same = cc
+
+    by : (f : Option Ending) (d : Ending) → FirstEnds u None f → (u.job m.job).at ≡ Over d → PlanAnswers u (Send m) (answered f d)
+    by (Some g) d a b = absurd a
+    by None Fault a b = has_ended u h (m.job) Fault b
+    by None Fine a b = has_ended u h (m.job) Fine b
+open_answers u h (Fork m t) o f d k s z e = by f d (subst (λ x. FirstEnds u x f) (ap (λ x. (u.call x.number).first) (sym same) ∙ k.1) s) (subst (λ x. (u.job x.job).at ≡ Over d) (sym same) z)
+  where
+    same : m ≡ o
+    same = cc
+
+    by : (f : Option Ending) (d : Ending) → FirstEnds u (Some t) f → (u.job m.job).at ≡ Over d → PlanAnswers u (Fork m t) (answered f d)
+    by None d a b = absurd a
+    by (Some Fault) d a b = has_ended u h t Fault a
+    by (Some Fine) Fault a b = (has_ended u h (m.job) Fault b, has_ended u h t Fine a)
+    by (Some Fine) Fine a b = (has_ended u h (m.job) Fine b, has_ended u h t Fine a)
+
+here_answers : (u : World) → JobsHold u → (n : Plan) (t : ℕ) (d : Ending) → (u.job t).at ≡ Over d → plan_here n ≡ Some t → PlanAnswers u n (answered None d)
+here_answers u h (Detach p i) t d z e = absurd (cc)
+here_answers u h (Send o) t d z e = absurd (cc)
+here_answers u h (Fork o a) t d z e = absurd (cc)
+here_answers u h (Here p i) t d z e = by d (let a : i ≡ t = cc in subst (λ x. (u.job x).at ≡ Over d) (sym a) z)
+  where
+    by : (d : Ending) → (u.job i).at ≡ Over d → PlanAnswers u (Here p i) (answered None d)
+    by Fault b = has_ended u h i Fault b
+    by Fine b = has_ended u h i Fine b
+
+then_answers : (u : World) → JobsHold u → (q : Party) (n : Plan) (r : Stage) (t : Then) (P : Option Verdict → Type 0) → ((x : Verdict) → PlanAnswers u n x → P (Some x)) → Known u n → SaysThen u q t → is_undone r ≡ false → PartOwed n r t → P (verdict_of (Some t))
+then_answers u h q n r (Answers o f e) P g k s d y = g (answered f e) (open_answers u h n o f e k (s.1) (s.2) (y.0))
+then_answers u h q n r (Ran t e) P g k s d y = g (answered None e) (here_answers u h n t e s (y.0))
+then_answers u h q n r (GiveBack m) P g k s d y = absurd (let a : is_undone r ≡ true = ap is_undone (y.1) in cc)
+then_answers u h q n r (BeginFound x t) P g k s d y = absurd y
+then_answers u h q n r (LeaveWait x) P g k s d y = absurd y
+then_answers u h q n r Resume P g k s d y = absurd y
+then_answers u h q n r (Await o) P g k s d y = absurd y
+then_answers u h q n r (RunFirst o a) P g k s d y = absurd y
+then_answers u h q n r (Missing o f) P g k s d y = absurd y
+
+call_answers : (u : World) → Ground u → (q : Party) (s : Stack) (n : Plan) (r : Bool) (p : ℕ) (h : Share) (P : Option Verdict → Type 0) → ((x : Verdict) → PlanAnswers u n x → P (Some x)) → After u q s n r → is_at_call s (u.stack q) ≡ true → act_of q (u.stack q).top ≡ Lower p h → r ≡ false → P (verdict_of (follows (u.stack q).top))
+call_answers u g q s n r p h P f (inr k) z a d = absurd (not_at_itself s (subst (λ x. is_at_call s x ≡ true) k.back z))
+call_answers u g q s n r p h P f (inl i) z a d =
+    let l : Lowers (u.stack q).top p h = lowerer q ((u.stack q).top) p h a in
+    let y : Part n i.stage (LowerCount l.pool l.share l.after) = subst (λ x. Part n i.stage x) l.is (at_place n i.stage s (u.stack q) i.stands.above i.stands.place i.stands.is z i.stands.part) in
+    let e : Says u q (LowerCount l.pool l.share l.after) = subst (λ x. Says u q x) l.is ((g.calls.says q).top) in
+    subst (λ x. P (verdict_of (follows x))) (sym l.is) (then_answers u (g.calls.jobs) q n i.stage l.after P f i.known (e.0) (i.flag ∙ d) (y.1))
+
+call_takes : (u : World) → Ground u → (q : Party) (s : Stack) (n : Plan) (r : Bool) (c t : ℕ) → ((o : OpenCall) → plan_open n ≡ Some o → o.job ≡ t) → After u q s n r → is_at_call s (u.stack q) ≡ true → act_of q (u.stack q).top ≡ Take c → HoldsEnding u c t
+call_takes u g q s n r c t last (inl i) z a = finds u g q n i.stage c t last (at_place n i.stage s (u.stack q) i.stands.above i.stands.place i.stands.is z i.stands.part) (taker q ((u.stack q).top) c a)
+call_takes u g q s n r c t last (inr k) z a = absurd (not_at_itself s (subst (λ x. is_at_call s x ≡ true) k.back z))
+
+is_own : (n : Plan) → IsOf (plan_job n) n
+is_own (Detach p t) = refl
+is_own (Here p t) = refl
+is_own (Send o) = refl
+is_own (Fork o a) = inr refl
+
+by_refusal : (u : World) → Ground u → (q : Party) (s : Stack) (n : Plan) (r : Bool) → Returned u q s n r → is_detach n ≡ false → (r ≡ true) ⊎ (r ≡ false) → (u.job (plan_job n)).counted ≡ false
+by_refusal u g q s n r k d (inl z) = (returned_so u g.returns).gone (plan_job n) (all_of (λ x. (u.job x).at ≡ HandedBack) (plan_job n) n (is_own n) (k.refused z))
+by_refusal u g q s n r k d (inr z) = k.paid z d
+
+is_returned : (u : World) (q : Party) (s : Stack) (n : Plan) (r : Bool) → After u q s n r → u.stack q ≡ s → Returned u q s n r
+is_returned u q s n r (inl i) z = absurd (stands_apart n i.stage s (u.stack q) i.stands z)
+is_returned u q s n r (inr k) z = k
+
+run_on : (h : Shape) (before : List Event) (w : World) (q : Party) (s : Stack) (u : World) (es : List Event) → IsRun (start h) before w → IsRunUntil q s w es u → Ground u
+run_on h before w q s u [] run same = subst Ground (sym same) (ground_of h before w run)
+run_on h before w q s u (e ∷ es) run (v, opened, one, rest) = run_on h (before ++ (e ∷ [])) v q s u es (run_more (start h) w v before e run one) rest
+
+pub call_law : CallLaw
+call_law h before q e w v u between b run =
+    let begun : Begun w v q e = (let f : IfSome (Some v) (λ x. Begun w x q e) = subst (λ o. IfSome o (λ x. Begun w x q e)) b.made (begun_by w q e b.caller) in f) in
+    let s : Stack = w.stack q in
+    let next : IsRun (start h) (before ++ (e ∷ [])) v = run_more (start h) w v before e b.reached b.made in
+    let g : Ground u = run_on h (before ++ (e ∷ [])) v q s u between next run in
+    let n : Plan = begun.plan in
+    let r : Bool = is_any (is_refusal q s) (Some v) between in
+    let a : After u q s n r = stretch h (before ++ (e ∷ [])) v q s n u between false next begun.inside run in
+    record {
+      made = begun.made;
+      stands = call_stands u q s n r a;
+      takes = λ c z y. call_takes u g q s n r c (v.jobs - 1) (λ o z. open_job n o z ∙ begun.last) a z y;
+      answers = λ y p h z x d. call_answers u g q s n r p h (IsPrecedent e u w.jobs (v.jobs - 1)) (begun.answer u) a z x d;
+      pays = λ z y. subst (λ t. (u.job t).counted ≡ false) begun.last (by_refusal u g q s n r (is_returned u q s n r a z) (begun.awaited y) (either r));
+      ends = λ z y t l m. begun.leaves u (g.calls.jobs) t (begun.numbers t l m) ((is_returned u q s n r a z).ends y);
+      refused = λ z y t l m. (let i : (u.job t).at ≡ HandedBack = all_of (λ x. (u.job x).at ≡ HandedBack) t n (begun.numbers t l m) ((is_returned u q s n r a z).refused y) in record { at = i; untouched = (refused_so u (g.calls.jobs)).gone t i; share = (returned_so u g.returns).gone t i });
+    }

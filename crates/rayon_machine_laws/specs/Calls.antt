@@ -1,0 +1,141 @@
+-- calls, each from the event that begins it to the world in which its party's stack is again what it was
+use Rattle.std.specs.Prelude.{ℕ, Bool, true, false, ◌&&◌, ◌||◌, ◌+◌, ◌-◌, ◌==◌, ◌≤◌, ◌<◌, Option, Some, None, List, [], ◌∷◌, ◌++◌, ◌≡◌, ◌⊎◌, length}
+use Rattle.rayon_machine_places.specs.declared.place.Party.{Party}
+use Rattle.rayon_machine_places.specs.declared.place.Ending.{Ending}
+use Rattle.rayon_machine_places.specs.declared.place.Ending.TheVariants.{Fine, Fault}
+use Rattle.rayon_machine_places.specs.declared.place.Share.{Share}
+use Rattle.rayon_machine_places.specs.declared.place.Then.{Then}
+use Rattle.rayon_machine_places.specs.declared.place.Then.TheVariants.{Answers, Ran}
+use Rattle.rayon_machine_places.specs.declared.place.Place.{Place}
+use Rattle.rayon_machine_places.specs.declared.act.Act.{Act}
+use Rattle.rayon_machine_places.specs.declared.act.Act.TheVariants.{Raise, Take, Lower}
+use Rattle.rayon_machine_places.specs.declared.event.Event.{Event}
+use Rattle.rayon_machine_places.specs.declared.event.Event.TheVariants.{Go, Refuse, Spawn, Install, Join}
+use Rattle.rayon_machine_places.specs.declared.state.Whereabouts.TheVariants.{HandedBack}
+use Rattle.rayon_machine_places.specs.Places.{same_party, act_of}
+use Rattle.rayon_machine_places.specs.World.{Shape, Stack, World}
+use Rattle.rayon_machine_places.specs.Steps.{step}
+use Rattle.rayon_machine_places.specs.Runs.{IsRun, start}
+use Rattle.rayon_machine_places.specs.Readers.{is_queued, is_running, is_done}
+use Rattle.rayon_machine_laws.specs.End.{HasEnded, Verdict, AllFine, FirstFault, LastFault, answered, follows, IsUntouched}
+
+-- the party that begins a call by this event
+abbrev pub caller_of : Event → Option Party
+caller_of (Spawn q p) = Some q
+caller_of (Install q p) = Some q
+caller_of (Join q) = Some q
+caller_of _ = None
+
+-- how many jobs a call makes: a join has two sides
+abbrev pub jobs_of : Event → ℕ
+jobs_of (Join q) = 2
+jobs_of _ = 1
+
+-- a call with two sides
+abbrev pub is_join : Event → Bool
+is_join (Join q) = true
+is_join _ = false
+
+-- a call that its party waits for: an install or a join
+abbrev pub is_awaited : Event → Bool
+is_awaited (Spawn q p) = false
+is_awaited _ = true
+
+-- a party begins a call (from w to v), in some world of a run from a start
+pub record BeginsCall (shape : Shape) (before : List Event) (q : Party) (e : Event) (w v : World) : Type 0 where
+  pub reached : IsRun (start shape) before w
+  pub caller : caller_of e ≡ Some q
+  pub made : step w e ≡ Some v
+
+-- a run in which the party's stack is this one in no world before the last
+abbrev pub IsRunUntil : Party → Stack → World → List Event → World → Type 0
+IsRunUntil q s w [] u = u ≡ w
+IsRunUntil q s w (e ∷ es) u = (v : World) × (w.stack q ≡ s → ⊥) × (step w e ≡ Some v) × IsRunUntil q s v es u
+
+-- a stack has exactly one frame more than this one: the next step is that of the call itself, and of nothing that runs inside it
+abbrev pub is_at_call : Stack → Stack → Bool
+is_at_call s k = length k.below == length s.below + 1
+
+-- an act that is to raise a terminate count of 0 is refused
+abbrev pub is_raise_refused : World → Act → Bool
+is_raise_refused w (Raise p t) = (w.pool p).count == 0
+is_raise_refused w _ = false
+
+-- the event is a refusal of the call's own step
+abbrev pub is_refusal : Party → Stack → World → Event → Bool
+is_refusal q s w (Refuse r) = same_party q r && is_at_call s (w.stack q)
+is_refusal q s w (Go r) = same_party q r && (is_at_call s (w.stack q) && is_raise_refused w (act_of q (w.stack q).top))
+is_refusal q s w _ = false
+
+-- some event of a run passes the test
+abbrev pub is_any : (World → Event → Bool) → Option World → List Event → Bool
+is_any test None es = false
+is_any test (Some w) [] = false
+is_any test (Some w) (e ∷ es) = test w e || is_any test (step w e) es
+
+-- a job has run once, and its run has ended
+pub record HasRun (w : World) (t : ℕ) : Type 0 where
+  pub over : is_done (w.job t).at ≡ true
+  pub runs : (w.job t).runs ≡ 1
+
+-- a job is queued, in a hand, running or over
+abbrev pub IsHandedOn : World → ℕ → Type 0
+IsHandedOn w t = (is_queued (w.job t).at || (is_running (w.job t).at || is_done (w.job t).at)) ≡ true
+
+-- what a call that nothing refused leaves of a job that it made: a spawn has handed it on, an install and a join have seen it run
+abbrev pub LeavesJob : Event → World → ℕ → Type 0
+LeavesJob (Spawn q p) w t = IsHandedOn w t
+LeavesJob _ w t = HasRun w t
+
+-- a job is handed back, stands in no list, has never run, and has no share of the terminate count
+pub record IsGivenBack (w : World) (t : ℕ) : Type 0 where
+  pub at : (w.job t).at ≡ HandedBack
+  pub untouched : IsUntouched w t
+  pub share : (w.job t).counted ≡ false
+
+-- a call's cell holds how this job ended
+pub record HoldsEnding (w : World) (c t : ℕ) : Type 0 where
+  pub ending : Ending
+  pub cell : (w.call c).cell ≡ Some ending
+  pub job : HasEnded w t ending
+
+-- what a party answers with its last acts of a call: the answers of calls that waited, and of an install that ran its job at once
+abbrev pub verdict_of : Option Then → Option Verdict
+verdict_of (Some (Answers o first last)) = Some (answered first last)
+verdict_of (Some (Ran t e)) = Some (answered None e)
+verdict_of _ = None
+
+-- a first side has ended without a fault, if the call has one
+abbrev pub FirstFine : Event → World → ℕ → Type 0
+FirstFine e w t = is_join e ≡ true → HasEnded w t Fine
+
+-- a call answers the fault that takes precedence: that of its first job, if it is a join, and else that of its last
+abbrev pub IsPrecedent : Event → World → (first last : ℕ) → Option Verdict → Type 0
+IsPrecedent e w first last None = ⊥
+IsPrecedent e w first last (Some FirstFault) = (is_join e ≡ true) × HasEnded w first Fault
+IsPrecedent e w first last (Some LastFault) = HasEnded w last Fault × FirstFine e w first
+IsPrecedent e w first last (Some AllFine) = HasEnded w last Fine × FirstFine e w first
+
+-- a stack stands on this one: it has all its frames below, and its top is another
+pub record StandsOn (s k : Stack) : Type 0 where
+  pub more : List Place
+  pub is : k.below ≡ more ++ (s.top ∷ s.below)
+
+-- a call that the party q began by the event e (from w to v), in a world u that the events between lead to; its jobs are the numbers that the event gave out.
+-- Until it is over the party's stack stands on what it was. Where the call's own next act is to take from a cell, that holds how the last of its jobs ended;
+-- where it is to lower the terminate count, and nothing refused it, it has the answer, and the fault is the one that takes precedence.
+-- Once it is over, either nothing refused it and it leaves each job as it should, or a step of it was refused and each job is given back;
+-- and an install and a join have given back their share of the terminate count, which the last of the jobs has
+pub record CallGoes (q : Party) (e : Event) (w v u : World) (between : List Event) : Type 0 where
+  pub made : v.jobs ≡ w.jobs + jobs_of e
+  pub stands : StandsOn (w.stack q) (u.stack q) ⊎ (u.stack q ≡ w.stack q)
+  pub takes : (c : ℕ) → is_at_call (w.stack q) (u.stack q) ≡ true → act_of q (u.stack q).top ≡ Take c → HoldsEnding u c (v.jobs - 1)
+  pub answers : is_awaited e ≡ true → (p : ℕ) (h : Share) → is_at_call (w.stack q) (u.stack q) ≡ true → act_of q (u.stack q).top ≡ Lower p h → is_any (is_refusal q (w.stack q)) (Some v) between ≡ false → IsPrecedent e u w.jobs (v.jobs - 1) (verdict_of (follows (u.stack q).top))
+  pub pays : u.stack q ≡ w.stack q → is_awaited e ≡ true → (u.job (v.jobs - 1)).counted ≡ false
+  pub ends : u.stack q ≡ w.stack q → is_any (is_refusal q (w.stack q)) (Some v) between ≡ false → (t : ℕ) → w.jobs ≤ t → t < v.jobs → LeavesJob e u t
+  pub refused : u.stack q ≡ w.stack q → is_any (is_refusal q (w.stack q)) (Some v) between ≡ true → (t : ℕ) → w.jobs ≤ t → t < v.jobs → IsGivenBack u t
+
+-- each call goes so, in every run from a start, up to the first world in which its party's stack is again what it was before the event
+abbrev pub CallLaw : Type 0
+CallLaw = (shape : Shape) (before : List Event) (q : Party) (e : Event) (w v u : World) (between : List Event) →
+    BeginsCall shape before q e w v → IsRunUntil q (w.stack q) v between u → CallGoes q e w v u between

@@ -9,6 +9,6 @@
 //! `rayon_machine_laws` what holds in every run, and `rayon_machine_world` the world that makes the steps.
 #![tactic(auto)]
 
-pub use rayon_machine_laws::{laws, sleep_laws};
+pub use rayon_machine_laws::{laws, order_laws, sleep_laws};
 pub use rayon_machine_places::{act, error, event, moves, place, shape, state, table};
 pub use rayon_machine_world::{readers, world};

@@ -61,3 +61,13 @@ pub mod CallSteps
 pub mod CallStretch
 pub mod Calls
 pub mod CallTeeth
+pub mod Walks
+pub mod Lone
+pub mod Dealt
+pub mod Dealing
+pub mod Handed
+pub mod Standing
+pub mod Begun
+pub mod Walked
+pub mod Walking
+pub mod Ordered

@@ -1,5 +1,6 @@
--- wrong machines: replays, computed by the kernel, in which a changed table or act breaks the clause of a law that forbids it
-use Rattle.std.proofs.Common.{refl}
+-- wrong machines: replays, computed by the kernel, in which a changed table or act breaks the clause of a law that
+-- forbids it
+use Rattle.std.proofs.Common.{refl, ◌∙◌, ap, inl, inr}
 use Rattle.std.specs.Prelude.{ℕ, zero, suc, Bool, true, false, not, ◌&&◌, ◌||◌, ◌+◌, ◌==◌, nat_lt, if◌then◌else◌, Option, Some, None, List, [], ◌∷◌, ◌++◌, ◌≡◌, IfSome}
 use Rattle.rayon_machine_places.specs.declared.shape.Order.TheVariants.{NewestFirst}
 use Rattle.rayon_machine_places.specs.declared.place.Party.{Party}
@@ -14,7 +15,7 @@ use Rattle.rayon_machine_places.specs.declared.place.Place.TheVariants.{LoadCoun
 use Rattle.rayon_machine_places.specs.declared.place.Move.{Move}
 use Rattle.rayon_machine_places.specs.declared.place.Move.TheVariants.{Stay, Back, HandBack}
 use Rattle.rayon_machine_places.specs.declared.act.Act.{Act}
-use Rattle.rayon_machine_places.specs.declared.act.Act.TheVariants.{Announce, Lock, SubInactive, PushInj, News, Set, LockWait, Lower}
+use Rattle.rayon_machine_places.specs.declared.act.Act.TheVariants.{PopOwn, Announce, Lock, SubInactive, PushInj, News, Set, LockWait, Lower}
 use Rattle.rayon_machine_places.specs.declared.act.Seen.{Seen}
 use Rattle.rayon_machine_places.specs.declared.act.Seen.TheVariants.{Done, Refused, Yes, No, Jec, Word, Wakes}
 use Rattle.rayon_machine_places.specs.declared.event.Event.{Event}
@@ -25,7 +26,7 @@ use Rattle.rayon_machine_places.specs.declared.state.Whereabouts.TheVariants.{In
 use Rattle.rayon_machine_places.specs.declared.shape.PoolShape.{PoolShape}
 use Rattle.rayon_machine_places.specs.declared.place.Settling.{Settling}
 use Rattle.rayon_machine_places.specs.Places.{own_pool, finish, act_of, next_of, is_refusable}
-use Rattle.rayon_machine_places.specs.World.{Shape, Stack, World, count_below, Counts, counts_at, is_even, jec, Part, target_pool, target_worker, target_call, target_job, Outcome, at_job, lowered, effect}
+use Rattle.rayon_machine_places.specs.World.{Shape, Stack, World, count_below, Counts, counts_at, is_even, jec, head_of, last_of, but_first, popped, Part, target_pool, target_worker, target_call, target_job, Outcome, at_job, lowered, effect}
 use Rattle.rayon_machine_places.specs.Steps.{put, put_stack, put_seat, part_of, after_move, jobs_after, step}
 use Rattle.rayon_machine_places.specs.Runs.{start}
 use Rattle.rayon_machine_laws.specs.Once.{one, times, in_injector, is_with, held}
@@ -35,6 +36,7 @@ use Rattle.rayon_machine_laws.specs.End.{follows}
 use Rattle.rayon_machine_laws.specs.Committed.{is_committed, is_looking}
 use Rattle.rayon_machine_laws.specs.Attended.{is_filled, has_pushed, owes_wake, settles}
 use Rattle.rayon_machine_laws.specs.Turn.{is_adding, is_added, is_news}
+use Rattle.rayon_machine_laws.specs.Order.{Happening, Adds, Begins, happening, and_next, TokenList}
 
 -- a machine: what each act does, and where it leads
 pub record Machine : Type 0 where
@@ -120,7 +122,8 @@ early_look h q (LookAtInjector w) Yes = Stay (AddSleeping w)
 early_look h q (LookAtCast w) Yes = Stay (BlockSelf w)
 early_look h q x e = next_of h q x e
 
--- one worker looks, the other's Announce and one News make a whole turn of a counter of one bit, and that other leaves with the first of two jobs
+-- one worker looks, the other's Announce and one News make a whole turn of a counter of one bit, and that other leaves
+-- with the first of two jobs
 abbrev early_run : List Event
 early_run = times_go a 22 ++ times_go b 10 ++ Spawn c 0 ∷ times_go c 4 ++ Spawn d 0 ∷ times_go d 4 ++ times_go b 8 ++ times_go a 2
 
@@ -318,3 +321,42 @@ record Lost (w : World) (t : ℕ) : Type 0 where
 
 refused_call_loses_its_jobs : IfSome (run_by (record { does = effect; next = loses_jobs }) (two 32) refused_run) (λ w. Lost w 0)
 refused_call_loses_its_jobs = record { says = refl; hand = refl }
+
+-- a worker takes from its own deque the oldest job, where it should take the newest
+abbrev wrong_end : Act → Shape → Party → Counts → Part → Outcome
+wrong_end PopOwn h q n m = popped q m (but_first m.seat.own) (head_of m.seat.own)
+wrong_end act h q n m = effect act h q n m
+
+-- what happens at worker 0 of pool 0 in a run of a machine
+abbrev happenings_by : Machine → Option World → List Event → List Happening
+happenings_by m None es = []
+happenings_by m (Some w) [] = []
+happenings_by m (Some w) (e ∷ es) = and_next (happening 0 w e) (happenings_by m (step_by m w e) es)
+
+-- one worker, whose job spawns two; once it has ended, the worker begins one of them
+abbrev lone : Option World
+lone = Some (start (record { pool = λ p. record { workers = 1; limit = 0; order = NewestFirst; callers_own = false }; callers = 16; jec_bits = 32 }))
+
+abbrev two_spawns : List Event
+two_spawns = Spawn c 0 ∷ times_go c 4 ++ times_go a 10 ++ Spawn a 0 ∷ times_go a 4 ++ Spawn a 0 ∷ times_go a 4 ++ End a Fine ∷ times_go a 4
+
+-- the law of the order is broken: no token list hands the jobs out so
+abbrev earlier_first : List Happening
+earlier_first = Begins 0 ∷ Adds (Some 0) 1 ∷ Adds (Some 0) 2 ∷ Begins 1 ∷ []
+
+worker_pops_at_the_wrong_end : happenings_by (record { does = wrong_end; next = next_of }) lone two_spawns ≡ earlier_first
+worker_pops_at_the_wrong_end = refl
+
+last_entry : (l : List ℕ) (t : ℕ) → last_of (l ++ t ∷ []) ≡ Some t
+last_entry [] t = refl
+last_entry (u ∷ []) t = refl
+last_entry (u ∷ v ∷ l) t = last_entry (v ∷ l) t
+
+not_handed : (left : List ℕ) → TokenList NewestFirst [] earlier_first left → ⊥
+not_handed left (inl (rest, h, more)) = let k : last_of [] ≡ Some 0 = ap last_of h ∙ last_entry rest 0 in cc
+not_handed left (inr (z, inl (rest, h, more))) = let k : last_of (1 ∷ 2 ∷ []) ≡ Some 1 = ap last_of h ∙ last_entry rest 1 in cc
+not_handed left (inr (z, inr (y, more))) = cc
+
+-- the machine as it is begins the later one
+later_first : happenings_by right lone two_spawns ≡ Begins 0 ∷ Adds (Some 0) 1 ∷ Adds (Some 0) 2 ∷ Begins 2 ∷ []
+later_first = refl

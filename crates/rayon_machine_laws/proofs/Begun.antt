@@ -1,0 +1,127 @@
+-- a job that has begun stays so: no step takes a begin back
+use Rattle.std.proofs.Common.{rules, arith, refl, ap, subst}
+use Rattle.std.specs.Prelude.{ℕ, Bool, true, false, ◌+◌, ◌==◌, ◌≤◌, if◌then◌else◌, ◌≡◌, IfSome}
+use Rattle.std.proofs.lemmas.Bool.{eqb-true}
+use Rattle.rayon_machine_places.specs.declared.place.Party.{Party}
+use Rattle.rayon_machine_places.specs.declared.place.Party.TheVariants.{Worker, Caller}
+use Rattle.rayon_machine_places.specs.declared.place.Ending.{Ending}
+use Rattle.rayon_machine_places.specs.declared.place.Latch.{Latch}
+use Rattle.rayon_machine_places.specs.declared.place.Latch.TheVariants.{Terminate, OfCall}
+use Rattle.rayon_machine_places.specs.declared.place.Plan.TheVariants.{Detach, Here, Send, Fork}
+use Rattle.rayon_machine_places.specs.declared.place.Place.{Place}
+use Rattle.rayon_machine_places.specs.declared.place.Place.TheVariants.{ProbeWorking, PickVictim, StealFrom, YieldPop, YieldPick, YieldSteal, LocalPop, Run, SetLatch}
+use Rattle.rayon_machine_places.specs.declared.place.Move.{Move}
+use Rattle.rayon_machine_places.specs.declared.place.Move.TheVariants.{Stay, Enter, StartRun, Back, HandBack}
+use Rattle.rayon_machine_places.specs.declared.act.Act.TheVariants.{Set}
+use Rattle.rayon_machine_places.specs.declared.event.Event.{Event}
+use Rattle.rayon_machine_places.specs.declared.event.Event.TheVariants.{Go, From, Refuse, Miss, End, Spawn, Install, Join, Yield, YieldLocal, EndPool}
+use Rattle.rayon_machine_places.specs.declared.state.Whereabouts.TheVariants.{HandedBack, Over}
+use Rattle.rayon_machine_places.specs.declared.state.Job.{Job}
+use Rattle.rayon_machine_places.specs.Places.{act_of, is_free, is_member}
+use Rattle.rayon_machine_places.specs.World.{Shape, Stack, World, Counts, Part, at_job, begun, effect, target_pool, target_worker, target_call}
+use Rattle.rayon_machine_places.specs.Steps.{put, jobs_after, after_choice, after_miss, after_end, after_send, after_join, after_yield, step}
+use Rattle.rayon_machine_laws.proofs.Calm.{part_at, counts_seen, next_at}
+use Rattle.rayon_machine_laws.proofs.Frame.{if_some_map, if_cond, acted_keeps}
+use Rattle.rayon_machine_laws.proofs.Located.{fits}
+use Rattle.rayon_machine_laws.proofs.PlacedRuns.{JobsHold}
+use Rattle.rayon_machine_laws.proofs.Ties.{job_at, outcome, result}
+
+-- each job has begun at least as often
+abbrev pub BeginsOn : World → World → Type 0
+BeginsOn w u = (t : ℕ) → (w.job t).runs ≤ (u.job t).runs
+
+set_runs : (l : Latch) (r j : ℕ) (h : Shape) (q : Party) (c : Counts) (m : Part) → IfSome (effect (Set l r j) h q c m) (λ r. m.job.runs ≤ r.1.job.runs)
+set_runs Terminate r j h q c m = search (rules, arith)
+set_runs (OfCall n) r j h q c m = search (rules, arith)
+
+act_runs : (h : Shape) (q : Party) (c : Counts) (m : Part) (x : Place) → IfSome (effect (act_of q x) h q c m) (λ r. m.job.runs ≤ r.1.job.runs)
+act_runs h (Worker a b) c m (ProbeWorking k) = search (rules, arith)
+act_runs h q c m (SetLatch s) = set_runs s.latch s.pool s.worker h q c m
+act_runs h (Worker a b) c m _ = search (rules, arith)
+act_runs h (Caller a) c m _ = search (rules, arith)
+
+put_runs : (f : ℕ → Job) (u : ℕ) (j : Job) → (f u).runs ≤ j.runs → (t : ℕ) → (f t).runs ≤ (put f u j t).runs
+put_runs f u j l t = at (t == u) refl
+  where
+    at : (b : Bool) → (t == u) ≡ b → (f t).runs ≤ (if b then j else f t).runs
+    at true e = let k : (f t).runs ≡ (f u).runs = ap (λ n. (f n).runs) (eqb-true t u e) in omega (arith, k, l)
+    at false e = omega arith
+
+after_runs : (q : Party) (g : Move) (f : ℕ → Job) (t : ℕ) → (f t).runs ≤ (jobs_after q g f t).runs
+after_runs q (Stay y) f t = omega arith
+after_runs q (Enter x y) f t = omega arith
+after_runs q Back f t = omega arith
+after_runs q (StartRun x u) f t = put_runs f u (begun q (f u)) (omega arith) t
+after_runs q (HandBack (Detach p u)) f t = put_runs f u (at_job (f u) HandedBack) (omega arith) t
+after_runs q (HandBack (Here p u)) f t = put_runs f u (at_job (f u) HandedBack) (omega arith) t
+after_runs q (HandBack (Send o)) f t = put_runs f o.job (at_job (f o.job) HandedBack) (omega arith) t
+after_runs q (HandBack (Fork o u)) f t =
+    let a : (f t).runs ≤ (put f u (at_job (f u) HandedBack) t).runs = put_runs f u (at_job (f u) HandedBack) (omega arith) t in
+    let b : (f o.job).runs ≤ (put f u (at_job (f u) HandedBack) o.job).runs = put_runs f u (at_job (f u) HandedBack) (omega arith) o.job in
+    second a (t == o.job) refl
+  where
+    second : (f t).runs ≤ (put f u (at_job (f u) HandedBack) t).runs → (b : Bool) → (t == o.job) ≡ b → (f t).runs ≤ (if b then at_job (f o.job) HandedBack else put f u (at_job (f u) HandedBack) t).runs
+    second a true e = let k : (f t).runs ≡ (f o.job).runs = ap (λ n. (f n).runs) (eqb-true t o.job e) in omega (arith, k)
+    second a false e = a
+
+go_runs : (w : World) (q : Party) → IfSome (outcome w q (w.stack q)) (λ r. BeginsOn w (result w q (w.stack q) r))
+go_runs w q =
+    let k : Stack = w.stack q in
+    let n : ℕ = job_at w q (act_of q k.top) in
+    if_some_map (λ r. (w.job n).runs ≤ r.1.job.runs) (λ r. BeginsOn w (result w q k r))
+    (λ r l t. (let a : (w.job t).runs ≤ (put w.job n (r.1.job) t).runs = put_runs w.job n (r.1.job) l t in let b : (put w.job n (r.1.job) t).runs ≤ (jobs_after q (next_at w q k (r.0)) (put w.job n (r.1.job)) t).runs = after_runs q (next_at w q k (r.0)) (put w.job n (r.1.job)) t in omega (arith, a, b)))
+    (outcome w q k) (act_runs w.shape q (counts_seen w q k) (part_at w q k) k.top)
+
+-- the numbers not given out have no begins
+unmade_runs : (w : World) → JobsHold w → (t : ℕ) → w.jobs ≤ t → (w.job t).runs ≡ 0
+unmade_runs w h t l = subst (λ v. fits v ((w.job t).runs)) (h.unmade t l) (((h.ok).fit) t)
+
+make_runs : (w : World) → JobsHold w → (u : ℕ) (j : Job) → w.jobs ≤ u → (t : ℕ) → (w.job t).runs ≤ (put w.job u j t).runs
+make_runs w h u j l t = put_runs w.job u j (let z : (w.job u).runs ≡ 0 = unmade_runs w h u l in omega (arith, z)) t
+
+from_runs : (w : World) (q : Party) (s : Stack) (x : Place) (v : ℕ) → IfSome (after_choice w q s x v) (BeginsOn w)
+from_runs w q s (PickVictim k) v = if_cond (BeginsOn w) _ _ (λ b t. omega arith)
+from_runs w q s YieldPick v = if_cond (BeginsOn w) _ _ (λ b t. omega arith)
+from_runs w q s _ v = tt
+
+miss_runs : (w : World) (q : Party) (s : Stack) (x : Place) → IfSome (after_miss w q s x) (BeginsOn w)
+miss_runs w (Worker a b) s (StealFrom k n) = if_cond (BeginsOn w) _ _ (λ b t. omega arith)
+miss_runs w (Worker a b) s (YieldSteal v n) = if_cond (BeginsOn w) _ _ (λ b t. omega arith)
+miss_runs w (Worker a b) s _ = tt
+miss_runs w (Caller n) s _ = tt
+
+end_runs : (w : World) (q : Party) (d : Ending) (s : Stack) (x : Place) → IfSome (after_end w q d s x) (BeginsOn w)
+end_runs w q d s (Run n k) = λ t. put_runs w.job n (at_job (w.job n) (Over d)) (omega arith) t
+end_runs w q d s _ = tt
+
+sent_runs : (w : World) (q : Party) (p : ℕ) (b : Bool) → JobsHold w → BeginsOn w (after_send w q p (w.stack q) b)
+sent_runs w q p true h t = make_runs w h w.jobs _ (omega arith) t
+sent_runs w q p false h t = make_runs w h w.jobs _ (omega arith) t
+
+two_runs : (w : World) → JobsHold w → (j k : Job) (t : ℕ) → (w.job t).runs ≤ (put (put w.job w.jobs j) (w.jobs + 1) k t).runs
+two_runs w h j k t = at (t == (w.jobs + 1)) refl
+  where
+    at : (y : Bool) → (t == (w.jobs + 1)) ≡ y → (w.job t).runs ≤ (if y then k else put w.job w.jobs j t).runs
+    at true e = let l : t ≡ w.jobs + 1 = eqb-true t (w.jobs + 1) e in let z : (w.job t).runs ≡ 0 = unmade_runs w h t (omega (arith, l)) in omega (arith, z)
+    at false e = make_runs w h w.jobs j (omega arith) t
+
+join_runs : (w : World) (q : Party) → JobsHold w → IfSome (after_join w q (w.stack q)) (BeginsOn w)
+join_runs w (Caller n) h = tt
+join_runs w (Worker a b) h = if_cond (BeginsOn w) (is_free (w.stack (Worker a b)).top) _ (λ z t. two_runs w h _ _ t)
+
+yield_runs : (w : World) (q : Party) (x : Place) → IfSome (after_yield w q (w.stack q) x) (BeginsOn w)
+yield_runs w (Worker a b) x = if_cond (BeginsOn w) _ _ (λ b t. omega arith)
+yield_runs w (Caller n) x = tt
+
+pub step_runs : (w : World) (e : Event) → JobsHold w → IfSome (step w e) (BeginsOn w)
+step_runs w (Go q) h = acted_keeps w q (w.stack q) (target_pool q (act_of q (w.stack q).top)) (target_worker q (act_of q (w.stack q).top)) (target_call (act_of q (w.stack q).top)) (job_at w q (act_of q (w.stack q).top)) (outcome w q (w.stack q)) (BeginsOn w) (go_runs w q)
+step_runs w (From q v) h = from_runs w q (w.stack q) (w.stack q).top v
+step_runs w (Refuse q) h = if_cond (BeginsOn w) _ _ (λ b t. omega arith)
+step_runs w (Miss q) h = miss_runs w q (w.stack q) (w.stack q).top
+step_runs w (End q d) h = end_runs w q d (w.stack q) (w.stack q).top
+step_runs w (Spawn q p) h = if_cond (BeginsOn w) _ _ (λ b t. make_runs w h w.jobs _ (omega arith) t)
+step_runs w (Install q p) h = if_cond (BeginsOn w) _ _ (λ b. sent_runs w q p (is_member q p) h)
+step_runs w (Join q) h = join_runs w q h
+step_runs w (Yield q) h = yield_runs w q YieldPop
+step_runs w (YieldLocal q) h = yield_runs w q LocalPop
+step_runs w (EndPool q p) h = if_cond (BeginsOn w) _ _ (λ b t. omega arith)

@@ -1,0 +1,127 @@
+-- what each step does to the own deque of a worker that is alone in its pool, and what it has taken from it
+use Rattle.std.proofs.Common.{refl, sym, ◌∙◌, ap, subst, inl, inr}
+use Rattle.std.specs.Prelude.{ℕ, Bool, true, false, ◌==◌, if◌then◌else◌, Option, Some, None, List, [], ◌∷◌, ◌++◌, ◌≡◌, ◌⊎◌, IfSome}
+use Rattle.rayon_machine_places.specs.declared.shape.Order.{Order}
+use Rattle.rayon_machine_places.specs.declared.place.Party.{Party}
+use Rattle.rayon_machine_places.specs.declared.place.Party.TheVariants.{Worker}
+use Rattle.rayon_machine_places.specs.declared.place.Plan.{Plan}
+use Rattle.rayon_machine_places.specs.declared.place.Place.{Place}
+use Rattle.rayon_machine_places.specs.declared.place.Place.TheVariants.{PopWorking, PopIdle, JoinPop, YieldPop, LocalPop, JoinProbe, SecondSide, BeginTask, BeginHere, PushJob}
+use Rattle.rayon_machine_places.specs.declared.place.Move.TheVariants.{Enter}
+use Rattle.rayon_machine_places.specs.declared.act.Act.{Act}
+use Rattle.rayon_machine_places.specs.declared.act.Act.TheVariants.{PushOwn, PushInj}
+use Rattle.rayon_machine_places.specs.declared.act.Seen.{Seen}
+use Rattle.rayon_machine_places.specs.declared.act.Seen.TheVariants.{Task, Missing}
+use Rattle.rayon_machine_places.specs.declared.shape.PoolShape.{PoolShape}
+use Rattle.rayon_machine_places.specs.declared.place.OpenCall.{OpenCall}
+use Rattle.rayon_machine_places.specs.Places.{same_party, plan_pool, plan_job, act_of, next_of}
+use Rattle.rayon_machine_places.specs.World.{Stack, World, counts_at, Part, own_of, own_left, popped, target_pool, target_worker, target_call, effect}
+use Rattle.rayon_machine_places.specs.Steps.{put_seat, part_of, after_move, step}
+use Rattle.rayon_machine_laws.specs.Order.{Happening, act_happens, happening, Hands}
+use Rattle.rayon_machine_laws.proofs.Calm.{part_at, counts_seen, next_at}
+use Rattle.rayon_machine_laws.proofs.Frame.{either, if_some_and, if_some_map, same_party_true, acted_keeps}
+use Rattle.rayon_machine_laws.proofs.Lone.{Honest, Turns, is_act, is_thief, taken, turns}
+use Rattle.rayon_machine_laws.proofs.Ties.{AllFrames, job_at, shape_at, outcome, result}
+use Rattle.rayon_machine_laws.proofs.Tops.{FramesOk}
+use Rattle.rayon_machine_places.specs.declared.event.Event.{Event}
+use Rattle.rayon_machine_places.specs.declared.event.Event.TheVariants.{Go}
+use Rattle.rayon_machine_laws.proofs.Dealt.{is_pop, elsewhere, is_start, is_push, Dealt, own_hands, hand_on, silent, seat_mine, seat_own, quiet_own, other_own}
+
+-- what a step does to a worker's deque, between two worlds
+abbrev pub Deals : Order → ℕ → ℕ → World → World → Option Happening → Type 0
+Deals o p i w u h = Dealt o (w.stack (Worker p i)).top (w.seat p i).own (u.seat p i).own (u.stack (Worker p i)).top h
+
+-- over the worker's own act
+abbrev Own : World → ℕ → ℕ → Place → List Place → Type 0
+Own w p i x fs = IfSome (outcome w (Worker p i) (record { top = x; below = fs })) (λ r. Dealt (w.shape.pool p).order x (w.seat p i).own ((result w (Worker p i) (record { top = x; below = fs }) r).seat p i).own (after_move (next_at w (Worker p i) (record { top = x; below = fs }) (r.0)) fs).top (act_happens (act_of (Worker p i) x) fs))
+
+-- a look in the own deque, by what it leads to
+popped_deals : (w : World) (p i : ℕ) (x : Place) (fs : List Place) (m : Part) (j : Option ℕ) → own_of (w.shape.pool p).order (w.seat p i).own ≡ j → m.seat ≡ w.seat p i → taken x ≡ None → (taken ((after_move (next_of (w.shape.pool p) (Worker p i) x Missing) fs).top) ≡ None) → ((t : ℕ) → taken ((after_move (next_of (w.shape.pool p) (Worker p i) x (Task t)) fs).top) ≡ Some t) →
+    IfSome (popped (Worker p i) m (own_left (w.shape.pool p).order (w.seat p i).own) j) (λ r. Dealt (w.shape.pool p).order x (w.seat p i).own (put_seat w.seat p i (r.1.seat) p i).own (after_move (next_of (w.shape.pool p) (Worker p i) x (r.0)) fs).top None)
+popped_deals w p i x fs m None e s n a b = inl (ap (λ z. z.own) (seat_mine w.seat p i m.seat ∙ s), inl (n, inl a))
+popped_deals w p i x fs m (Some t) e s n a b = inr (t, subst (λ z. Hands (w.shape.pool p).order (w.seat p i).own t z) (sym (ap (λ z. z.own) (seat_mine w.seat p i (record (m.seat) { own = own_left (w.shape.pool p).order (w.seat p i).own })))) (own_hands (w.shape.pool p).order (w.seat p i).own t e), n, b t)
+
+join_taken : (h : PoolShape) (q : Party) (o : OpenCall) (t : ℕ) (fs : List Place) → taken ((after_move (next_of h q (JoinPop o) (Task t)) fs).top) ≡ Some t
+join_taken h q o t fs = at (t == o.job)
+  where
+    at : (b : Bool) → taken ((after_move (if b then Enter (SecondSide o) (BeginHere t) else Enter (JoinProbe o) (BeginTask t)) fs).top) ≡ Some t
+    at true = refl
+    at false = refl
+
+pop_deals : (w : World) (p i : ℕ) (x : Place) (fs : List Place) → is_pop x ≡ true → Own w p i x fs
+pop_deals w p i (PopWorking k) fs z = popped_deals w p i (PopWorking k) fs (part_at w (Worker p i) (record { top = PopWorking k; below = fs })) (own_of (w.shape.pool p).order (w.seat p i).own) refl refl refl refl (λ t. refl)
+pop_deals w p i (PopIdle k) fs z = popped_deals w p i (PopIdle k) fs (part_at w (Worker p i) (record { top = PopIdle k; below = fs })) (own_of (w.shape.pool p).order (w.seat p i).own) refl refl refl refl (λ t. refl)
+pop_deals w p i (JoinPop o) fs z = popped_deals w p i (JoinPop o) fs (part_at w (Worker p i) (record { top = JoinPop o; below = fs })) (own_of (w.shape.pool p).order (w.seat p i).own) refl refl refl refl (λ t. join_taken (w.shape.pool p) (Worker p i) o t fs)
+pop_deals w p i YieldPop fs z = popped_deals w p i YieldPop fs (part_at w (Worker p i) (record { top = YieldPop; below = fs })) (own_of (w.shape.pool p).order (w.seat p i).own) refl refl refl refl (λ t. refl)
+pop_deals w p i LocalPop fs z = popped_deals w p i LocalPop fs (part_at w (Worker p i) (record { top = LocalPop; below = fs })) (own_of (w.shape.pool p).order (w.seat p i).own) refl refl refl refl (λ t. refl)
+pop_deals w p i _ fs z = cc
+
+-- a begin
+start_deals : (w : World) (p i : ℕ) (x : Place) (fs : List Place) → is_start x ≡ true → Own w p i x fs
+start_deals w p i (BeginTask t) fs z = (ap (λ s. s.own) (seat_mine w.seat p i (w.seat p i)), refl, refl)
+start_deals w p i (BeginHere t) fs z = (ap (λ s. s.own) (seat_mine w.seat p i (w.seat p i)), refl, refl)
+start_deals w p i _ fs z = cc
+
+-- a push, onto the own deque or elsewhere
+push_deals : (w : World) (p i : ℕ) (n : Plan) (v : Bool) (fs : List Place) → Own w p i (PushJob n v) fs
+push_deals w p i n v fs = at (p == plan_pool n)
+  where
+    me : Party
+    me = Worker p i
+
+    ByAct : Act → Type 0
+    ByAct a = IfSome (effect a w.shape me (counts_at w (target_pool me a)) (part_of w (target_pool me a) (target_worker me a) (target_call a) (job_at w me a))) (λ r. Dealt (w.shape.pool p).order (PushJob n v) (w.seat p i).own (put_seat w.seat (target_pool me a) (target_worker me a) (r.1.seat) p i).own (after_move (next_of (w.shape.pool (target_pool me a)) me (PushJob n v) (r.0)) fs).top (act_happens a fs))
+
+    at : (z : Bool) → ByAct (if z then PushOwn (plan_job n) else PushInj (plan_pool n) (plan_job n))
+    at true = (ap (λ s. s.own) (seat_mine w.seat p i (record (w.seat p i) { own = (w.seat p i).own ++ plan_job n ∷ [] })), refl, refl)
+    at false = inl (seat_own w.seat (plan_pool n) i p i (w.seat (plan_pool n) i) refl, inl (refl, inl refl))
+
+push_own : (w : World) (p i : ℕ) (x : Place) (fs : List Place) → is_push x ≡ true → Own w p i x fs
+push_own w p i (PushJob n v) fs z = push_deals w p i n v fs
+push_own w p i _ fs z = cc
+
+quiet_deals : (w : World) (p i : ℕ) (x : Place) (fs : List Place) → AllFrames fs → is_pop x ≡ false → is_thief x ≡ false → is_push x ≡ false → is_start x ≡ false → Own w p i x fs
+quiet_deals w p i x fs a y z s b =
+    let me : Party = Worker p i in
+    let k : Stack = record { top = x; below = fs } in
+    let Hand : Seen × Part → Type 0 = λ r. ((taken x ≡ None) × ((taken ((after_move (next_at w me k (r.0)) fs).top) ≡ None) ⊎ (elsewhere x ≡ true))) ⊎ (taken ((after_move (next_at w me k (r.0)) fs).top) ≡ taken x) in
+    let Mine : Seen × Part → Type 0 = λ r. ((result w me k r).seat p i).own ≡ (w.seat p i).own in
+    subst (λ h. IfSome (outcome w me k) (λ r. Dealt (w.shape.pool p).order x (w.seat p i).own ((result w me k r).seat p i).own (after_move (next_at w me k (r.0)) fs).top h)) (sym (silent me x fs s b))
+    (if_some_map {A = Seen × Part} (λ r. Mine r × Hand r) (λ r. Dealt (w.shape.pool p).order x (w.seat p i).own ((result w me k r).seat p i).own (after_move (next_at w me k (r.0)) fs).top None) (λ r h. inl (h.0, h.1)) (outcome w me k)
+    (if_some_and Mine Hand (outcome w me k) (quiet_own w me k p i y z s) (hand_on w.shape (shape_at w me k) me (counts_seen w me k) (part_at w me k) x fs a y b)))
+
+own_deals : (w : World) (p i : ℕ) (x : Place) (fs : List Place) → AllFrames fs → is_thief x ≡ false → Own w p i x fs
+own_deals w p i x fs a z = elim (either (is_pop x)) [
+  | inl y ↦ pop_deals w p i x fs y
+  | inr y ↦ elim (either (is_start x)) [
+    | inl b ↦ start_deals w p i x fs b
+    | inr b ↦ elim (either (is_push x)) [
+      | inl s ↦ push_own w p i x fs s
+      | inr s ↦ quiet_deals w p i x fs a y z s b
+    ]
+  ]
+]
+
+go_deals : (w : World) (q : Party) (p : ℕ) (b : Bool) → same_party (Worker p 0) q ≡ b → FramesOk w → Honest p w → IfSome (outcome w q (w.stack q)) (λ r. Dealt (w.shape.pool p).order (w.stack (Worker p 0)).top (w.seat p 0).own ((result w q (w.stack q) r).seat p 0).own ((if b then after_move (next_at w q (w.stack q) (r.0)) (w.stack q).below else w.stack (Worker p 0)).top) (if b then act_happens (act_of q (w.stack q).top) (w.stack q).below else None))
+go_deals w q p true eb fr ok =
+    let me : Party = Worker p 0 in
+    let F : Party → Type 0 = λ z. IfSome (outcome w z (w.stack z)) (λ r. Dealt (w.shape.pool p).order (w.stack me).top (w.seat p 0).own ((result w z (w.stack z) r).seat p 0).own ((after_move (next_at w z (w.stack z) (r.0)) (w.stack z).below).top) (act_happens (act_of z (w.stack z).top) (w.stack z).below)) in
+    let base : F me = own_deals w p 0 (w.stack me).top (w.stack me).below (fr me) (ok 0) in
+    subst F (same_party_true me q eb) base
+go_deals w q p false eb fr ok = if_some_map {A = Seen × Part} (λ r. ((result w q (w.stack q) r).seat p 0).own ≡ (w.seat p 0).own) (λ r. Dealt (w.shape.pool p).order (w.stack (Worker p 0)).top (w.seat p 0).own ((result w q (w.stack q) r).seat p 0).own ((w.stack (Worker p 0)).top) None) (λ r e. inl (e, inr refl)) (outcome w q (w.stack q)) (other_own w q (w.stack q).top (w.stack q).below p 0 eb (λ b is. ap (λ z. is_thief ((w.stack z).top)) is ∙ ok b))
+
+nothing : (p : ℕ) (w : World) (e : Event) → is_act e ≡ false → happening p w e ≡ None
+nothing p w (Go q) z = cc
+nothing p w _ z = refl
+
+turn_deals : (w u : World) (p : ℕ) → Turns w u → Honest p w → Deals (w.shape.pool p).order p 0 w u None
+turn_deals w u p m ok = inl (ap (λ s. s.own) (m.seat p 0), subst (λ k. ((taken (w.stack (Worker p 0)).top ≡ None) × ((taken (k.top) ≡ None) ⊎ (elsewhere (w.stack (Worker p 0)).top ≡ true))) ⊎ (taken (k.top) ≡ taken (w.stack (Worker p 0)).top)) (sym (m.stack (Worker p 0))) (at (same_party (Worker p 0) (m.party)) refl))
+  where
+    at : (b : Bool) → same_party (Worker p 0) (m.party) ≡ b → ((taken (w.stack (Worker p 0)).top ≡ None) × ((taken ((if b then m.to else w.stack (Worker p 0)).top) ≡ None) ⊎ (elsewhere (w.stack (Worker p 0)).top ≡ true))) ⊎ (taken ((if b then m.to else w.stack (Worker p 0)).top) ≡ taken (w.stack (Worker p 0)).top)
+    at true e = let is : Worker p 0 ≡ m.party = same_party_true (Worker p 0) (m.party) e in inl (ap (λ z. taken ((w.stack z).top)) is ∙ m.empty, inl ((m.honest (ap (λ z. is_thief ((w.stack z).top)) (sym is) ∙ ok 0)).1))
+    at false e = inr refl
+
+-- what each step does to the deque of the pool's one worker
+pub step_deals : (p : ℕ) (w : World) (e : Event) → FramesOk w → Honest p w → IfSome (step w e) (λ u. Deals (w.shape.pool p).order p 0 w u (happening p w e))
+step_deals p w (Go q) fr ok = acted_keeps w q (w.stack q) (target_pool q (act_of q (w.stack q).top)) (target_worker q (act_of q (w.stack q).top)) (target_call (act_of q (w.stack q).top)) (job_at w q (act_of q (w.stack q).top)) (outcome w q (w.stack q)) (λ u. Deals (w.shape.pool p).order p 0 w u (happening p w (Go q))) (go_deals w q p (same_party (Worker p 0) q) refl fr ok)
+step_deals p w e fr ok = if_some_map (Turns w) (λ u. Deals (w.shape.pool p).order p 0 w u (happening p w e)) (λ u m. subst (Deals (w.shape.pool p).order p 0 w u) (sym (nothing p w e refl)) (turn_deals w u p m ok)) (step w e) (turns w fr e refl)

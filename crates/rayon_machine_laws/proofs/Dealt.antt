@@ -1,0 +1,357 @@
+-- what each step does to the own deque of a worker that is alone in its pool
+use Rattle.std.proofs.Common.{rules, arith, refl, sym, ◌∙◌, ap, inl, inr}
+use Rattle.std.specs.Prelude.{ℕ, Bool, true, false, ◌&&◌, ◌==◌, if◌then◌else◌, Option, Some, None, List, [], ◌∷◌, ◌++◌, ◌≡◌, ◌⊎◌, IfSome}
+use Rattle.std.proofs.lemmas.Bool.{eqb-true}
+use Rattle.rayon_machine_places.specs.declared.shape.Order.{Order}
+use Rattle.rayon_machine_places.specs.declared.shape.Order.TheVariants.{NewestFirst, OldestFirst}
+use Rattle.rayon_machine_places.specs.declared.place.Party.{Party}
+use Rattle.rayon_machine_places.specs.declared.place.Party.TheVariants.{Worker, Caller}
+use Rattle.rayon_machine_places.specs.declared.place.Target.{Target}
+use Rattle.rayon_machine_places.specs.declared.place.Target.TheVariants.{Termination, Answer}
+use Rattle.rayon_machine_places.specs.declared.place.Latch.{Latch}
+use Rattle.rayon_machine_places.specs.declared.place.Latch.TheVariants.{Terminate, OfCall}
+use Rattle.rayon_machine_places.specs.declared.place.Plan.{Plan}
+use Rattle.rayon_machine_places.specs.declared.place.Plan.TheVariants.{Detach, Here, Send, Fork}
+use Rattle.rayon_machine_places.specs.declared.place.Then.{Then}
+use Rattle.rayon_machine_places.specs.declared.place.Then.TheVariants.{BeginFound, LeaveWait, Resume, Await, RunFirst, Answers, Missing as Lacks, Ran, GiveBack}
+use Rattle.rayon_machine_places.specs.declared.place.Place.{Place}
+use Rattle.rayon_machine_places.specs.declared.place.Place.TheVariants.{ProbeWorking, PopWorking, TakeCastWorking, PopIdle, TakeCastIdle, StealFrom, PopInjected, LeaveSearch, JoinPop, JoinTakeCast, YieldPop, YieldTakeCast, YieldSteal, YieldPopInjected, LocalPop, LocalTakeCast, PickVictim, YieldPick, BeginTask, BeginHere, RaiseCount, LookQueue, PushJob, TellNews, LockToWake, WakeWorker, UnlockWoken, LowerCount, SetLatch, LockToSettle, WakeSettled, UnlockSettled}
+use Rattle.rayon_machine_places.specs.declared.place.Move.{Move}
+use Rattle.rayon_machine_places.specs.declared.place.Move.TheVariants.{Stay, Enter, StartRun, Back, HandBack}
+use Rattle.rayon_machine_places.specs.declared.act.Act.TheVariants.{LookOwn, LookInj, PushOwn, PushInj, Set}
+use Rattle.rayon_machine_places.specs.declared.act.Seen.{Seen}
+use Rattle.rayon_machine_places.specs.declared.act.Seen.TheVariants.{Yes}
+use Rattle.rayon_machine_places.specs.declared.shape.PoolShape.{PoolShape}
+use Rattle.rayon_machine_places.specs.declared.place.Settling.{Settling}
+use Rattle.rayon_machine_places.specs.Places.{same_party, is_member, plan_pool, plan_job, finish, walk, settle, after_set, after_found, after_news, act_of, next_of}
+use Rattle.rayon_machine_places.specs.World.{Shape, Seat, Stack, World, Counts, Part, last_of, but_last, own_of, own_left, target_pool, target_worker, effect}
+use Rattle.rayon_machine_places.specs.Steps.{put_seat, after_move}
+use Rattle.rayon_machine_laws.specs.Order.{Happening, Adds, Begins, act_happens, Hands}
+use Rattle.rayon_machine_laws.proofs.Calm.{part_at, counts_seen}
+use Rattle.rayon_machine_laws.proofs.Frame.{either, if_some_all, if_some_map, same_index, same_refl}
+use Rattle.rayon_machine_laws.proofs.Lone.{is_thief, settle_move, settled_move, taken, taken_then, walk_move}
+use Rattle.rayon_machine_laws.proofs.Seats.{is_frame}
+use Rattle.rayon_machine_laws.proofs.Ties.{AllFrames, outcome, result}
+use Rattle.rayon_machine_laws.proofs.Tops.{Tops, top_after}
+
+-- a worker looks in its own deque
+abbrev pub is_pop : Place → Bool
+is_pop (PopWorking k) = true
+is_pop (PopIdle k) = true
+is_pop (JoinPop o) = true
+is_pop YieldPop = true
+is_pop LocalPop = true
+is_pop _ = false
+
+-- a call that runs its job at once
+abbrev is_here : Plan → Bool
+is_here (Here p t) = true
+is_here _ = false
+
+-- a party comes by a job that was in no own deque
+abbrev pub elsewhere : Place → Bool
+elsewhere (TakeCastWorking k) = true
+elsewhere (TakeCastIdle k) = true
+elsewhere (StealFrom k n) = true
+elsewhere (PopInjected k) = true
+elsewhere (JoinTakeCast o) = true
+elsewhere YieldTakeCast = true
+elsewhere (YieldSteal v n) = true
+elsewhere YieldPopInjected = true
+elsewhere LocalTakeCast = true
+elsewhere (RaiseCount n) = is_here n
+elsewhere _ = false
+
+-- a party begins a job
+abbrev pub is_start : Place → Bool
+is_start (BeginTask t) = true
+is_start (BeginHere t) = true
+is_start _ = false
+
+abbrev pub is_push : Place → Bool
+is_push (PushJob n e) = true
+is_push _ = false
+
+-- the deque is as it was: a party that had taken no job has none, or one that was elsewhere; one that had a job still
+-- has it
+abbrev pub Keeps : Place → List ℕ → List ℕ → Place → Type 0
+Keeps x old new y = (new ≡ old) × (((taken x ≡ None) × ((taken y ≡ None) ⊎ (elsewhere x ≡ true))) ⊎ (taken y ≡ taken x))
+
+-- the next job of the deque is taken
+abbrev pub Pops : Order → Place → List ℕ → List ℕ → Place → Type 0
+Pops o x old new y = (t : ℕ) × Hands o old t new × (taken x ≡ None) × (taken y ≡ Some t)
+
+-- what a step does to a worker's deque and to what it has taken, by what happens
+abbrev pub Dealt : Order → Place → List ℕ → List ℕ → Place → Option Happening → Type 0
+Dealt o x old new y None = Keeps x old new y ⊎ Pops o x old new y
+Dealt o x old new y (Some (Adds by t)) = (new ≡ old ++ t ∷ []) × (taken x ≡ None) × (taken y ≡ None)
+Dealt o x old new y (Some (Begins t)) = (new ≡ old) × (taken x ≡ Some t) × (taken y ≡ None)
+
+-- the next job that a list hands out is the one that the worker takes from its deque
+last_hands : (l : List ℕ) (t : ℕ) → last_of l ≡ Some t → l ≡ but_last l ++ t ∷ []
+last_hands [] t e = absurd (cc)
+last_hands (u ∷ []) t e = let k : u ≡ t = cc in ap (λ z. z ∷ []) k
+last_hands (u ∷ v ∷ l) t e = ap (λ z. u ∷ z) (last_hands (v ∷ l) t e)
+
+pub own_hands : (o : Order) (l : List ℕ) (t : ℕ) → own_of o l ≡ Some t → Hands o l t (own_left o l)
+own_hands NewestFirst l t e = last_hands l t e
+own_hands OldestFirst [] t e = absurd (cc)
+own_hands OldestFirst (u ∷ l) t e = let k : u ≡ t = cc in ap (λ z. z ∷ l) k
+
+-- what a move leads to at once, above frames
+abbrev Lands : (Place → Type 0) → Move → Type 0
+Lands R (Stay y) = R y
+Lands R (Enter f y) = R y
+Lands R (StartRun f t) = ⊥
+Lands R Back = ⊥
+Lands R (HandBack n) = ⊥
+
+lands_top : (R : Place → Type 0) (g : Move) (fs : List Place) → Lands R g → R ((after_move g fs).top)
+lands_top R (Stay y) fs l = l
+lands_top R (Enter f y) fs l = l
+lands_top R (StartRun f t) fs l = absurd l
+lands_top R Back fs l = absurd l
+lands_top R (HandBack n) fs l = absurd l
+
+frame_empty : (f : Place) → is_frame f ≡ true → taken f ≡ None
+frame_empty (ProbeWorking k) e = refl
+frame_empty _ e = cc
+
+-- a party without a job comes by none, and one with a job keeps it, until it begins it
+abbrev FreeOf : Move → Type 0
+FreeOf g = Tops (λ y. taken y ≡ None) g
+
+abbrev Has : ℕ → Move → Type 0
+Has t g = Lands (λ y. taken y ≡ Some t) g
+
+finish_free : (q : Party) (n : Then) → taken_then n ≡ None → FreeOf (finish q n)
+finish_free q (BeginFound g t) e = absurd (cc)
+finish_free q (LeaveWait Termination) e = refl
+finish_free q (LeaveWait (Answer o f)) e = refl
+finish_free (Worker a b) (Await o) e = refl
+finish_free (Caller c) (Await o) e = refl
+finish_free q (RunFirst o a) e = refl
+finish_free q Resume e = tt
+finish_free q (Answers o f d) e = tt
+finish_free q (Lacks o f) e = tt
+finish_free q (Ran t d) e = tt
+finish_free q (GiveBack m) e = tt
+
+finish_has : (q : Party) (n : Then) (t : ℕ) → taken_then n ≡ Some t → Has t (finish q n)
+finish_has q (BeginFound g u) t e = e
+finish_has q (LeaveWait g) t e = absurd (cc)
+finish_has q (Await o) t e = absurd (cc)
+finish_has q (RunFirst o a) t e = absurd (cc)
+finish_has q Resume t e = absurd (cc)
+finish_has q (Answers o f d) t e = absurd (cc)
+finish_has q (Lacks o f) t e = absurd (cc)
+finish_has q (Ran u d) t e = absurd (cc)
+finish_has q (GiveBack m) t e = absurd (cc)
+
+settle_free : (g : PoolShape) (q : Party) (p i : ℕ) (n : Then) → taken_then n ≡ None → FreeOf (settle g q p i n)
+settle_free g q p i n e = settle_move FreeOf g q p i n (λ k d. ap taken_then d ∙ e) (finish_free q n e)
+
+settle_has : (g : PoolShape) (q : Party) (p i : ℕ) (n : Then) (t : ℕ) → taken_then n ≡ Some t → Has t (settle g q p i n)
+settle_has g q p i n t e = settle_move (Has t) g q p i n (λ k d. ap taken_then d ∙ e) (finish_has q n t e)
+
+settled_free : (g : PoolShape) (q : Party) (s : Settling) → taken_then s.then ≡ None → FreeOf (after_set g q s s.latch)
+settled_free g q s e = settled_move FreeOf g q s s.latch (λ k d. ap taken_then d ∙ e) (finish_free q s.then e)
+
+settled_has : (g : PoolShape) (q : Party) (s : Settling) (t : ℕ) → taken_then s.then ≡ Some t → Has t (after_set g q s s.latch)
+settled_has g q s t e = settled_move (Has t) g q s s.latch (λ k d. ap taken_then d ∙ e) (finish_has q s.then t e)
+
+walk_free : (g : PoolShape) (q : Party) (p n i : ℕ) (t : Then) → taken_then t ≡ None → FreeOf (walk g q p n i t)
+walk_free g q p n i t e = walk_move FreeOf g q p n i t (λ k d. ap taken_then d ∙ e) (finish_free q t e)
+
+walk_has : (g : PoolShape) (q : Party) (p n i : ℕ) (m : Then) (t : ℕ) → taken_then m ≡ Some t → Has t (walk g q p n i m)
+walk_has g q p n i m t e = walk_move (Has t) g q p n i m (λ k d. ap taken_then d ∙ e) (finish_has q m t e)
+
+found_taken : (g : Target) (o : Option ℕ) → taken_then (after_found g o) ≡ o
+found_taken g None = refl
+found_taken g (Some t) = refl
+
+news_taken : (n : Plan) → taken_then (after_news n) ≡ None
+news_taken (Detach p t) = refl
+news_taken (Here p t) = refl
+news_taken (Send o) = refl
+news_taken (Fork o a) = refl
+
+set_free : (g : PoolShape) (q : Party) (s : Settling) (e : Seen) → taken_then s.then ≡ None → FreeOf (next_of g q (SetLatch s) e)
+set_free g q s Yes z = z
+set_free g q s _ z = settled_free g q s z
+
+set_has : (g : PoolShape) (q : Party) (s : Settling) (e : Seen) (t : ℕ) → taken_then s.then ≡ Some t → Has t (next_of g q (SetLatch s) e)
+set_has g q s Yes t z = z
+set_has g q s _ t z = settled_has g q s t z
+
+stays_free : (h : Shape) (g : PoolShape) (q : Party) (c : Counts) (m : Part) (x : Place) → is_pop x ≡ false → elsewhere x ≡ false → is_start x ≡ false → taken x ≡ None → IfSome (effect (act_of q x) h q c m) (λ r. FreeOf (next_of g q x (r.0)))
+stays_free h g (Worker a b) c m (ProbeWorking k) y z s e = search (rules, arith)
+stays_free h g (Worker a b) c m (LeaveSearch k) y z s e = walk_free g (Worker a b) a _ 0 (after_found k.target k.found) (found_taken k.target k.found ∙ e)
+stays_free h g (Worker a b) c m (TellNews n v) y z s e = walk_free g (Worker a b) (plan_pool n) _ 0 (after_news n) (news_taken n)
+stays_free h g (Caller o) c m (TellNews n v) y z s e = walk_free g (Caller o) (plan_pool n) _ 0 (after_news n) (news_taken n)
+stays_free h g q c m (UnlockWoken k) y z s e = if_some_all {A = Seen × Part} (λ r. FreeOf (next_of g q (UnlockWoken k) (r.0))) (λ r. walk_free g q k.pool k.owed _ k.then e) (effect (act_of q (UnlockWoken k)) h q c m)
+stays_free h g q c m (LowerCount p v n) y z s e = if_some_all {A = Seen × Part} (λ r. FreeOf (next_of g q (LowerCount p v n) (r.0))) (λ r. lowers (r.0)) (effect (act_of q (LowerCount p v n)) h q c m)
+  where
+    lowers : (d : Seen) → FreeOf (next_of g q (LowerCount p v n) d)
+    lowers Yes = settle_free g q p 0 n e
+    lowers _ = finish_free q n e
+stays_free h g q c m (SetLatch k) y z s e = if_some_all {A = Seen × Part} (λ r. FreeOf (next_of g q (SetLatch k) (r.0))) (λ r. set_free g q k (r.0) e) (effect (act_of q (SetLatch k)) h q c m)
+stays_free h g q c m (UnlockSettled k) y z s e = if_some_all {A = Seen × Part} (λ r. FreeOf (next_of g q (UnlockSettled k) (r.0))) (λ r. settled_free g q k e) (effect (act_of q (UnlockSettled k)) h q c m)
+stays_free h g (Worker a b) c m _ y z s e = first_of (cc, search (rules, arith))
+stays_free h g (Caller n) c m _ y z s e = first_of (cc, search (rules, arith))
+
+keeps_task : (h : Shape) (g : PoolShape) (q : Party) (c : Counts) (m : Part) (x : Place) (t : ℕ) → is_start x ≡ false → taken x ≡ Some t → IfSome (effect (act_of q x) h q c m) (λ r. Has t (next_of g q x (r.0)))
+keeps_task h g (Worker a b) c m (LeaveSearch k) t s e = walk_has g (Worker a b) a _ 0 (after_found k.target k.found) t (found_taken k.target k.found ∙ e)
+keeps_task h g (Caller n) c m (LeaveSearch k) t s e = tt
+keeps_task h g q c m (LockToWake k) t s e = if_some_all {A = Seen × Part} (λ r. Has t (next_of g q (LockToWake k) (r.0))) (λ r. e) (effect (act_of q (LockToWake k)) h q c m)
+keeps_task h g q c m (WakeWorker k) t s e = if_some_all {A = Seen × Part} (λ r. Has t (next_of g q (WakeWorker k) (r.0))) (λ r. wakes (r.0)) (effect (act_of q (WakeWorker k)) h q c m)
+  where
+    wakes : (d : Seen) → Has t (next_of g q (WakeWorker k) d)
+    wakes Yes = e
+    wakes _ = e
+keeps_task h g q c m (UnlockWoken k) t s e = if_some_all {A = Seen × Part} (λ r. Has t (next_of g q (UnlockWoken k) (r.0))) (λ r. walk_has g q k.pool k.owed _ k.then t e) (effect (act_of q (UnlockWoken k)) h q c m)
+keeps_task h g q c m (LowerCount p v n) t s e = if_some_all {A = Seen × Part} (λ r. Has t (next_of g q (LowerCount p v n) (r.0))) (λ r. lowers (r.0)) (effect (act_of q (LowerCount p v n)) h q c m)
+  where
+    lowers : (d : Seen) → Has t (next_of g q (LowerCount p v n) d)
+    lowers Yes = settle_has g q p 0 n t e
+    lowers _ = finish_has q n t e
+keeps_task h g q c m (SetLatch k) t s e = if_some_all {A = Seen × Part} (λ r. Has t (next_of g q (SetLatch k) (r.0))) (λ r. set_has g q k (r.0) t e) (effect (act_of q (SetLatch k)) h q c m)
+keeps_task h g q c m (LockToSettle k) t s e = if_some_all {A = Seen × Part} (λ r. Has t (next_of g q (LockToSettle k) (r.0))) (λ r. e) (effect (act_of q (LockToSettle k)) h q c m)
+keeps_task h g q c m (WakeSettled k) t s e = if_some_all {A = Seen × Part} (λ r. Has t (next_of g q (WakeSettled k) (r.0))) (λ r. e) (effect (act_of q (WakeSettled k)) h q c m)
+keeps_task h g q c m (UnlockSettled k) t s e = if_some_all {A = Seen × Part} (λ r. Has t (next_of g q (UnlockSettled k) (r.0))) (λ r. settled_has g q k t e) (effect (act_of q (UnlockSettled k)) h q c m)
+keeps_task h g q c m (BeginTask u) t s e = cc
+keeps_task h g q c m (BeginHere u) t s e = cc
+keeps_task h g q c m _ t s e = absurd (cc)
+
+option_or : (o : Option ℕ) → (o ≡ None) ⊎ ((t : ℕ) × (o ≡ Some t))
+option_or None = inl refl
+option_or (Some t) = inr (t, refl)
+
+-- the party's own list of taken jobs, over an act that neither pops nor begins
+pub hand_on : (h : Shape) (g : PoolShape) (q : Party) (c : Counts) (m : Part) (x : Place) (fs : List Place) → AllFrames fs → is_pop x ≡ false → is_start x ≡ false → IfSome (effect (act_of q x) h q c m) (λ r. ((taken x ≡ None) × ((taken ((after_move (next_of g q x (r.0)) fs).top) ≡ None) ⊎ (elsewhere x ≡ true))) ⊎ (taken ((after_move (next_of g q x (r.0)) fs).top) ≡ taken x))
+hand_on h g q c m x fs a y s = elim (option_or (taken x)) [
+  | inl e ↦ elim (either (elsewhere x)) [
+    | inl z ↦ if_some_all {A = Seen × Part} (λ r. ((taken x ≡ None) × ((taken ((after_move (next_of g q x (r.0)) fs).top) ≡ None) ⊎ (elsewhere x ≡ true))) ⊎ (taken ((after_move (next_of g q x (r.0)) fs).top) ≡ taken x)) (λ r. inl (e, inr z)) (effect (act_of q x) h q c m)
+    | inr z ↦ if_some_map {A = Seen × Part} (λ r. FreeOf (next_of g q x (r.0))) (λ r. ((taken x ≡ None) × ((taken ((after_move (next_of g q x (r.0)) fs).top) ≡ None) ⊎ (elsewhere x ≡ true))) ⊎ (taken ((after_move (next_of g q x (r.0)) fs).top) ≡ taken x)) (λ r t. inl (e, inl (top_after (λ y. taken y ≡ None) (next_of g q x (r.0)) fs t frame_empty a))) (effect (act_of q x) h q c m) (stays_free h g q c m x y z s e)
+  ]
+  | inr (t, e) ↦ if_some_map {A = Seen × Part} (λ r. Has t (next_of g q x (r.0))) (λ r. ((taken x ≡ None) × ((taken ((after_move (next_of g q x (r.0)) fs).top) ≡ None) ⊎ (elsewhere x ≡ true))) ⊎ (taken ((after_move (next_of g q x (r.0)) fs).top) ≡ taken x)) (λ r l. inr (lands_top (λ y. taken y ≡ Some t) (next_of g q x (r.0)) fs l ∙ sym e)) (effect (act_of q x) h q c m) (keeps_task h g q c m x t s e)
+]
+
+-- only a look in the own deque, a steal and a push change a deque
+set_own : (l : Latch) (r j : ℕ) (h : Shape) (q : Party) (c : Counts) (m : Part) → IfSome (effect (Set l r j) h q c m) (λ r. r.1.seat.own ≡ m.seat.own)
+set_own Terminate r j h q c m = search (rules, arith)
+set_own (OfCall n) r j h q c m = search (rules, arith)
+
+pub own_same : (h : Shape) (q : Party) (c : Counts) (m : Part) (x : Place) → is_pop x ≡ false → is_thief x ≡ false → is_push x ≡ false → IfSome (effect (act_of q x) h q c m) (λ r. r.1.seat.own ≡ m.seat.own)
+own_same h (Worker a b) c m (ProbeWorking k) y z s = search (rules, arith)
+own_same h q c m (SetLatch k) y z s = set_own k.latch k.pool k.worker h q c m
+own_same h (Worker a b) c m _ y z s = first_of (cc, search (rules, arith))
+own_same h (Caller n) c m _ y z s = first_of (cc, search (rules, arith))
+
+-- a push elsewhere
+push_away : (h : Shape) (q : Party) (c : Counts) (m : Part) (n : Plan) (v : Bool) → is_member q (plan_pool n) ≡ false → IfSome (effect (act_of q (PushJob n v)) h q c m) (λ r. r.1.seat.own ≡ m.seat.own)
+push_away h (Worker a b) c m n v e = at (is_member (Worker a b) (plan_pool n)) e
+  where
+    at : (z : Bool) → z ≡ false → IfSome (effect (if z then PushOwn (plan_job n) else PushInj (plan_pool n) (plan_job n)) h (Worker a b) c m) (λ r. r.1.seat.own ≡ m.seat.own)
+    at true f = cc
+    at false f = refl
+push_away h (Caller o) c m n v e = refl
+
+-- what no place but a push and a begin says
+pub silent : (q : Party) (x : Place) (fs : List Place) → is_push x ≡ false → is_start x ≡ false → act_happens (act_of q x) fs ≡ None
+silent (Worker a b) (LookQueue n) fs z s = at (a == plan_pool n)
+  where
+    at : (y : Bool) → act_happens (if y then LookOwn else LookInj (plan_pool n)) fs ≡ None
+    at true = refl
+    at false = refl
+silent (Caller c) (LookQueue n) fs z s = refl
+silent (Worker a b) _ fs z s = first_of (cc, search (rules, arith))
+silent (Caller c) _ fs z s = first_of (cc, search (rules, arith))
+
+pub seat_mine : (f : ℕ → ℕ → Seat) (p i : ℕ) (s : Seat) → put_seat f p i s p i ≡ s
+seat_mine f p i s = let e : ((p == p) && (i == i)) ≡ true = same_refl p i in rw e
+
+seat_away : (f : ℕ → ℕ → Seat) (a b p i : ℕ) (s : Seat) → ((p == a) && (i == b)) ≡ false → put_seat f a b s p i ≡ f p i
+seat_away f a b p i s e = rw e
+
+pub seat_own : (f : ℕ → ℕ → Seat) (a b p i : ℕ) (s : Seat) → s.own ≡ (f a b).own → (put_seat f a b s p i).own ≡ (f p i).own
+seat_own f a b p i s e = at ((p == a) && (i == b)) refl
+  where
+    at : (z : Bool) → ((p == a) && (i == b)) ≡ z → (if z then s else f p i).own ≡ (f p i).own
+    at true d = let k : (p ≡ a) × (i ≡ b) = same_index p i a b d in e ∙ ap (λ n. (f n b).own) (sym (k.0)) ∙ ap (λ n. (f p n).own) (sym (k.1))
+    at false d = refl
+
+-- the deque of a worker over any act that changes none
+pub quiet_own : (w : World) (q : Party) (k : Stack) (p i : ℕ) → is_pop k.top ≡ false → is_thief k.top ≡ false → is_push k.top ≡ false → IfSome (outcome w q k) (λ r. ((result w q k r).seat p i).own ≡ (w.seat p i).own)
+quiet_own w q k p i y z s = if_some_map {A = Seen × Part} (λ r. r.1.seat.own ≡ (part_at w q k).seat.own) (λ r. ((result w q k r).seat p i).own ≡ (w.seat p i).own) (λ r e. seat_own w.seat (target_pool q (act_of q k.top)) (target_worker q (act_of q k.top)) p i (r.1.seat) e) (outcome w q k) (own_same w.shape q (counts_seen w q k) (part_at w q k) k.top y z s)
+
+-- the deque of a worker over what another party does
+abbrev Spared : World → Party → Stack → ℕ → ℕ → Type 0
+Spared w q k p i = IfSome (outcome w q k) (λ r. ((result w q k r).seat p i).own ≡ (w.seat p i).own)
+
+away : (w : World) (a b p i : ℕ) (k : Stack) → same_party (Worker p i) (Worker a b) ≡ false → target_pool (Worker a b) (act_of (Worker a b) k.top) ≡ a → target_worker (Worker a b) (act_of (Worker a b) k.top) ≡ b → Spared w (Worker a b) k p i
+away w a b p i k d ea eb = if_some_all {A = Seen × Part} (λ r. ((result w (Worker a b) k r).seat p i).own ≡ (w.seat p i).own) (λ r. ap (λ s. s.own) (seat_away w.seat (target_pool (Worker a b) (act_of (Worker a b) k.top)) (target_worker (Worker a b) (act_of (Worker a b) k.top)) p i (r.1.seat) (ap (λ n. (p == n) && (i == target_worker (Worker a b) (act_of (Worker a b) k.top))) ea ∙ ap (λ n. (p == a) && (i == n)) eb ∙ d))) (outcome w (Worker a b) k)
+
+pop_other : (w : World) (q : Party) (x : Place) (fs : List Place) (p i : ℕ) → is_pop x ≡ true → same_party (Worker p i) q ≡ false → Spared w q (record { top = x; below = fs }) p i
+pop_other w (Worker a b) (PopWorking k) fs p i z d = away w a b p i (record { top = PopWorking k; below = fs }) d refl refl
+pop_other w (Worker a b) (PopIdle k) fs p i z d = away w a b p i (record { top = PopIdle k; below = fs }) d refl refl
+pop_other w (Worker a b) (JoinPop o) fs p i z d = away w a b p i (record { top = JoinPop o; below = fs }) d refl refl
+pop_other w (Worker a b) YieldPop fs p i z d = away w a b p i (record { top = YieldPop; below = fs }) d refl refl
+pop_other w (Worker a b) LocalPop fs p i z d = away w a b p i (record { top = LocalPop; below = fs }) d refl refl
+pop_other w (Caller n) (PopWorking k) fs p i z d = tt
+pop_other w (Caller n) (PopIdle k) fs p i z d = tt
+pop_other w (Caller n) (JoinPop o) fs p i z d = tt
+pop_other w (Caller n) YieldPop fs p i z d = tt
+pop_other w (Caller n) LocalPop fs p i z d = tt
+pop_other w q _ fs p i z d = cc
+
+steal_away : (w : World) (a b p i : ℕ) (k : Stack) → (p == a) ≡ false → target_pool (Worker a b) (act_of (Worker a b) k.top) ≡ a → Spared w (Worker a b) k p i
+steal_away w a b p i k d ea = if_some_all {A = Seen × Part} (λ r. ((result w (Worker a b) k r).seat p i).own ≡ (w.seat p i).own) (λ r. ap (λ s. s.own) (seat_away w.seat (target_pool (Worker a b) (act_of (Worker a b) k.top)) (target_worker (Worker a b) (act_of (Worker a b) k.top)) p i (r.1.seat) (ap (λ n. (p == n) && (i == target_worker (Worker a b) (act_of (Worker a b) k.top))) ea ∙ ap (λ z. z && (i == target_worker (Worker a b) (act_of (Worker a b) k.top))) d))) (outcome w (Worker a b) k)
+
+-- a thief of another pool
+thief_other : (w : World) (q : Party) (x : Place) (fs : List Place) (p i : ℕ) → is_thief x ≡ true → ((b : ℕ) → q ≡ Worker p b → is_thief x ≡ false) → Spared w q (record { top = x; below = fs }) p i
+thief_other w (Worker a b) x fs p i z f = elim (either (p == a)) [
+  | inl e ↦ absurd (let k : is_thief x ≡ false = f b (ap (λ n. Worker n b) (sym (eqb-true p a e))) in cc)
+  | inr e ↦ steal_away w a b p i (record { top = x; below = fs }) e (at x z)
+]
+  where
+    at : (x : Place) → is_thief x ≡ true → target_pool (Worker a b) (act_of (Worker a b) x) ≡ a
+    at (PickVictim k) z = refl
+    at (StealFrom k n) z = refl
+    at YieldPick z = refl
+    at (YieldSteal v n) z = refl
+    at _ z = cc
+thief_other w (Caller n) x fs p i z f = at x z
+  where
+    at : (x : Place) → is_thief x ≡ true → Spared w (Caller n) (record { top = x; below = fs }) p i
+    at (PickVictim k) z = tt
+    at (StealFrom k n) z = tt
+    at YieldPick z = tt
+    at (YieldSteal v n) z = tt
+    at _ z = cc
+
+push_other : (w : World) (q : Party) (n : Plan) (v : Bool) (fs : List Place) (p i : ℕ) → same_party (Worker p i) q ≡ false → Spared w q (record { top = PushJob n v; below = fs }) p i
+push_other w q n v fs p i d = elim (either (is_member q (plan_pool n))) [
+  | inl e ↦ mine q d e
+  | inr e ↦ if_some_map {A = Seen × Part} (λ r. r.1.seat.own ≡ (part_at w q (record { top = PushJob n v; below = fs })).seat.own) (λ r. ((result w q (record { top = PushJob n v; below = fs }) r).seat p i).own ≡ (w.seat p i).own) (λ r s. seat_own w.seat (target_pool q (act_of q (PushJob n v))) (target_worker q (act_of q (PushJob n v))) p i (r.1.seat) s) (outcome w q (record { top = PushJob n v; below = fs })) (push_away w.shape q (counts_seen w q (record { top = PushJob n v; below = fs })) (part_at w q (record { top = PushJob n v; below = fs })) n v e)
+]
+  where
+    mine : (q : Party) → same_party (Worker p i) q ≡ false → is_member q (plan_pool n) ≡ true → Spared w q (record { top = PushJob n v; below = fs }) p i
+    mine (Worker a b) d e = away w a b p i (record { top = PushJob n v; below = fs }) d (ap (λ z. target_pool (Worker a b) (if z then PushOwn (plan_job n) else PushInj (plan_pool n) (plan_job n))) e) (ap (λ z. target_worker (Worker a b) (if z then PushOwn (plan_job n) else PushInj (plan_pool n) (plan_job n))) e)
+    mine (Caller m) d e = cc
+
+other_push : (w : World) (q : Party) (x : Place) (fs : List Place) (p i : ℕ) → is_push x ≡ true → same_party (Worker p i) q ≡ false → Spared w q (record { top = x; below = fs }) p i
+other_push w q (PushJob n v) fs p i z d = push_other w q n v fs p i d
+other_push w q _ fs p i z d = cc
+
+pub other_own : (w : World) (q : Party) (x : Place) (fs : List Place) (p i : ℕ) → same_party (Worker p i) q ≡ false → ((b : ℕ) → q ≡ Worker p b → is_thief x ≡ false) → Spared w q (record { top = x; below = fs }) p i
+other_own w q x fs p i d f = elim (either (is_pop x)) [
+  | inl y ↦ pop_other w q x fs p i y d
+  | inr y ↦ elim (either (is_thief x)) [
+    | inl z ↦ thief_other w q x fs p i z f
+    | inr z ↦ elim (either (is_push x)) [
+      | inl s ↦ other_push w q x fs p i s d
+      | inr s ↦ quiet_own w q (record { top = x; below = fs }) p i y z s
+    ]
+  ]
+]

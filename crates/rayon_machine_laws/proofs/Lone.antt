@@ -1,0 +1,277 @@
+-- in a pool of one worker nobody steals; what the events that are no acts do to the party that makes them
+use Rattle.std.proofs.Common.{rules, arith, refl, sym, ◌∙◌, ap, subst}
+use Rattle.std.specs.Prelude.{ℕ, Bool, true, false, ◌&&◌, ◌+◌, ◌==◌, nat_lt, if◌then◌else◌, Option, Some, None, List, [], ◌∷◌, ◌≡◌, IfSome}
+use Rattle.std.proofs.lemmas.Bool.{eq-eqb}
+use Rattle.rayon_machine_places.specs.declared.place.Party.{Party}
+use Rattle.rayon_machine_places.specs.declared.place.Party.TheVariants.{Worker, Caller}
+use Rattle.rayon_machine_places.specs.declared.place.Ending.{Ending}
+use Rattle.rayon_machine_places.specs.declared.place.Ending.TheVariants.{Fine, Fault}
+use Rattle.rayon_machine_places.specs.declared.place.JobKind.{JobKind}
+use Rattle.rayon_machine_places.specs.declared.place.JobKind.TheVariants.{Detached, Stored, Direct}
+use Rattle.rayon_machine_places.specs.declared.place.Target.TheVariants.{Termination, Answer}
+use Rattle.rayon_machine_places.specs.declared.place.Latch.{Latch}
+use Rattle.rayon_machine_places.specs.declared.place.Latch.TheVariants.{Terminate, OfCall}
+use Rattle.rayon_machine_places.specs.declared.place.Then.{Then}
+use Rattle.rayon_machine_places.specs.declared.place.Then.TheVariants.{BeginFound, LeaveWait, Resume, Await, RunFirst, Answers, Missing, Ran, GiveBack}
+use Rattle.rayon_machine_places.specs.declared.place.Place.{Place}
+use Rattle.rayon_machine_places.specs.declared.place.Place.TheVariants.{ProbeWorking, TakeCastIdle, PickVictim, StealFrom, LeaveSearch, YieldPop, YieldTakeCast, YieldPick, YieldSteal, LocalPop, BeginTask, BeginHere, Run, GrowCall, PushJob, LockToWake, WakeWorker, UnlockWoken, LowerCount, SetLatch, LockToSettle, WakeSettled, UnlockSettled, FirstSide, Free, Stopped}
+use Rattle.rayon_machine_places.specs.declared.place.Move.{Move}
+use Rattle.rayon_machine_places.specs.declared.place.Move.TheVariants.{Stay}
+use Rattle.rayon_machine_places.specs.declared.act.Seen.{Seen}
+use Rattle.rayon_machine_places.specs.declared.act.Seen.TheVariants.{Yes}
+use Rattle.rayon_machine_places.specs.declared.event.Event.{Event}
+use Rattle.rayon_machine_places.specs.declared.event.Event.TheVariants.{Go, From, Refuse, Miss, End, Spawn, Install, Join, Yield, YieldLocal, EndPool}
+use Rattle.rayon_machine_places.specs.declared.shape.PoolShape.{PoolShape}
+use Rattle.rayon_machine_places.specs.declared.place.Walk.{Walk}
+use Rattle.rayon_machine_places.specs.declared.place.Settling.{Settling}
+use Rattle.rayon_machine_places.specs.Places.{same_party, own_pool, is_member, finish, walk, settle, after_set, act_of, next_of, goes_on, is_free, fresh}
+use Rattle.rayon_machine_places.specs.World.{Shape, Stack, World, Counts, Part, target_pool, target_worker, target_call, effect}
+use Rattle.rayon_machine_places.specs.Steps.{put_stack, after_choice, after_refusal, can_miss, after_miss, after_close, after_end, is_pool, after_spawn, after_send, after_install, after_join, after_yield, after_end_pool, after_move, step}
+use Rattle.rayon_machine_places.specs.Runs.{IsRun, start}
+use Rattle.rayon_machine_laws.proofs.Attended.{aside_frames, step_shape}
+use Rattle.rayon_machine_laws.proofs.Asides.{steps_aside}
+use Rattle.rayon_machine_laws.proofs.Calm.{part_at, counts_seen, next_at, top_then}
+use Rattle.rayon_machine_laws.proofs.Events.{run_keeps}
+use Rattle.rayon_machine_laws.proofs.Frame.{and_parts, if_some_all, if_some_and, if_some_each, if_some_map, if_cond, same_party_true, acted_keeps}
+use Rattle.rayon_machine_laws.proofs.Holding.{go_frames}
+use Rattle.rayon_machine_laws.proofs.Seats.{is_frame}
+use Rattle.rayon_machine_laws.proofs.Ties.{AllFrames, job_at, shape_at, outcome, result}
+use Rattle.rayon_machine_laws.proofs.Tops.{Tops, FramesOk}
+
+-- the places at which a worker chooses a victim or steals
+abbrev pub is_thief : Place → Bool
+is_thief (PickVictim k) = true
+is_thief (StealFrom k n) = true
+is_thief YieldPick = true
+is_thief (YieldSteal v n) = true
+is_thief _ = false
+
+-- the task that a wake was made with in hand
+abbrev pub taken_then : Then → Option ℕ
+taken_then (BeginFound g t) = Some t
+taken_then _ = None
+
+-- the job that a party is about to begin by an act of its own
+abbrev pub taken : Place → Option ℕ
+taken (LeaveSearch w) = w.found
+taken (LockToWake k) = taken_then k.then
+taken (WakeWorker k) = taken_then k.then
+taken (UnlockWoken k) = taken_then k.then
+taken (LowerCount p s n) = taken_then n
+taken (SetLatch s) = taken_then s.then
+taken (LockToSettle s) = taken_then s.then
+taken (WakeSettled s) = taken_then s.then
+taken (UnlockSettled s) = taken_then s.then
+taken (BeginTask t) = Some t
+taken (BeginHere t) = Some t
+taken _ = None
+
+-- what holds of where a latch's setter goes on
+pub settle_move : (P : Move → Type 0) (h : PoolShape) (q : Party) (p i : ℕ) (t : Then) → ((k : Settling) → k.then ≡ t → P (Stay (SetLatch k))) → P (finish q t) → P (settle h q p i t)
+settle_move P h q p i t f g = at (nat_lt i h.workers)
+  where
+    at : (b : Bool) → P (if b then Stay (SetLatch (record { latch = Terminate; pool = p; worker = i; then = t })) else finish q t)
+    at true = f (record { latch = Terminate; pool = p; worker = i; then = t }) refl
+    at false = g
+
+pub settled_move : (P : Move → Type 0) (h : PoolShape) (q : Party) (s : Settling) (l : Latch) → ((k : Settling) → k.then ≡ s.then → P (Stay (SetLatch k))) → P (finish q s.then) → P (after_set h q s l)
+settled_move P h q s Terminate f g = settle_move P h q s.pool (s.worker + 1) s.then f g
+settled_move P h q s (OfCall c) f g = g
+
+-- what holds of where a waker goes on
+pub walk_move : (P : Move → Type 0) (h : PoolShape) (q : Party) (p n i : ℕ) (t : Then) → ((k : Walk) → k.then ≡ t → P (Stay (LockToWake k))) → P (finish q t) → P (walk h q p n i t)
+walk_move P h q p n i t f g = at (nat_lt 0 n && nat_lt i h.workers)
+  where
+    at : (b : Bool) → P (if b then Stay (LockToWake (record { pool = p; owed = n; worker = i; then = t })) else finish q t)
+    at true = f (record { pool = p; owed = n; worker = i; then = t }) refl
+    at false = g
+
+abbrev NoThief : Move → Type 0
+NoThief g = Tops (λ y. is_thief y ≡ false) g
+
+finish_honest : (q : Party) (t : Then) → NoThief (finish q t)
+finish_honest q (BeginFound g t) = refl
+finish_honest q (LeaveWait Termination) = refl
+finish_honest q (LeaveWait (Answer o f)) = refl
+finish_honest (Worker a b) (Await o) = refl
+finish_honest (Caller c) (Await o) = refl
+finish_honest q (RunFirst o a) = refl
+finish_honest q Resume = tt
+finish_honest q (Answers o f e) = tt
+finish_honest q (Missing o f) = tt
+finish_honest q (Ran t e) = tt
+finish_honest q (GiveBack m) = tt
+
+settled_honest : (h : PoolShape) (q : Party) (s : Settling) → NoThief (after_set h q s s.latch)
+settled_honest h q s = settled_move NoThief h q s s.latch (λ k e. refl) (finish_honest q s.then)
+
+set_honest : (h : PoolShape) (q : Party) (s : Settling) (e : Seen) → NoThief (next_of h q (SetLatch s) e)
+set_honest h q s Yes = refl
+set_honest h q s _ = settled_honest h q s
+
+-- the places from which a worker of a larger pool goes on to steal
+abbrev pub turns_thief : Place → Bool
+turns_thief (TakeCastIdle k) = true
+turns_thief YieldTakeCast = true
+turns_thief _ = false
+
+-- a worker alone in its pool does not come to steal
+stays_honest : (h : Shape) (g : PoolShape) (q : Party) (c : Counts) (m : Part) (x : Place) → is_thief x ≡ false → (turns_thief x ≡ true → g.workers ≡ 1) → IfSome (effect (act_of q x) h q c m) (λ r. NoThief (next_of g q x (r.0)))
+stays_honest h g (Worker a b) c m (ProbeWorking k) z f = search (rules, arith)
+stays_honest h g q c m (PickVictim k) z f = cc
+stays_honest h g q c m (StealFrom k n) z f = cc
+stays_honest h g q c m YieldPick z f = cc
+stays_honest h g q c m (YieldSteal v n) z f = cc
+stays_honest h g (Worker a b) c m (TakeCastIdle k) z f = let one : g.workers ≡ 1 = f refl in let b : (g.workers == 1) ≡ true = eq-eqb g.workers 1 one in search (rules, arith)
+stays_honest h g (Worker a b) c m YieldTakeCast z f = let one : g.workers ≡ 1 = f refl in let b : (g.workers == 1) ≡ true = eq-eqb g.workers 1 one in search (rules, arith)
+stays_honest h g q c m (SetLatch s) z f = if_some_all {A = Seen × Part} (λ r. NoThief (next_of g q (SetLatch s) (r.0))) (λ r. set_honest g q s (r.0)) (effect (act_of q (SetLatch s)) h q c m)
+stays_honest h g q c m (UnlockSettled s) z f = if_some_all {A = Seen × Part} (λ r. NoThief (next_of g q (UnlockSettled s) (r.0))) (λ r. settled_honest g q s) (effect (act_of q (UnlockSettled s)) h q c m)
+stays_honest h g (Worker a b) c m _ z f = search (rules, arith)
+stays_honest h g (Caller n) c m _ z f = search (rules, arith)
+
+frame_honest : (f : Place) → is_frame f ≡ true → is_thief f ≡ false
+frame_honest (ProbeWorking w) e = refl
+frame_honest _ e = cc
+
+-- an event that is no act: one party's stack is another, no seat is changed, and the party had taken no job; if it did
+-- not steal, it does not come to do so, and takes no job
+pub record Turns (w u : World) : Type 0 where
+  pub party : Party
+  pub to : Stack
+  pub stack : (r : Party) → u.stack r ≡ put_stack w.stack party to r
+  pub seat : (p i : ℕ) → u.seat p i ≡ w.seat p i
+  pub empty : taken (w.stack party).top ≡ None
+  pub honest : is_thief (w.stack party).top ≡ false → (is_thief to.top ≡ false) × (taken to.top ≡ None)
+
+free_empty : (x : Place) → is_free x ≡ true → taken x ≡ None
+free_empty (Run t k) e = refl
+free_empty Free e = refl
+free_empty _ e = cc
+
+abbrev pub is_act : Event → Bool
+is_act (Go q) = true
+is_act _ = false
+
+at_place : (w : World) (q : Party) (x : Place) (fs : List Place) (R : Place → Type 0) → w.stack q ≡ record { top = x; below = fs } → R x → R (w.stack q).top
+at_place w q x fs R e r = subst (λ z. R (z.top)) (sym e) r
+
+thief_turn : (w : World) (q : Party) (x : Place) (fs : List Place) (to : Stack) → w.stack q ≡ record { top = x; below = fs } → is_thief x ≡ true → taken x ≡ None → Turns w (record w { stack = put_stack w.stack q to })
+thief_turn w q x fs to e z n = record { party = q; to = to; stack = λ r. refl; seat = λ p i. refl; empty = at_place w q x fs (λ y. taken y ≡ None) e n; honest = λ h. absurd (let k : is_thief (w.stack q).top ≡ true = at_place w q x fs (λ y. is_thief y ≡ true) e z in cc) }
+
+from_turn : (w : World) (q : Party) (x : Place) (fs : List Place) (v : ℕ) → w.stack q ≡ record { top = x; below = fs } → IfSome (after_choice w q (record { top = x; below = fs }) x v) (Turns w)
+from_turn w q (PickVictim k) fs v e = if_cond (Turns w) (nat_lt v (w.shape.pool (own_pool q)).workers) _ (λ b. thief_turn w q (PickVictim k) fs _ e refl refl)
+from_turn w q YieldPick fs v e = if_cond (Turns w) (nat_lt v (w.shape.pool (own_pool q)).workers) _ (λ b. thief_turn w q YieldPick fs _ e refl refl)
+from_turn w q _ fs v e = tt
+
+miss_turn : (w : World) (q : Party) (x : Place) (fs : List Place) → w.stack q ≡ record { top = x; below = fs } → IfSome (after_miss w q (record { top = x; below = fs }) x) (Turns w)
+miss_turn w (Worker a b) (StealFrom k n) fs e = if_cond (Turns w) (can_miss w a k.victim) _ (λ z. thief_turn w (Worker a b) (StealFrom k n) fs _ e refl refl)
+miss_turn w (Worker a b) (YieldSteal v n) fs e = if_cond (Turns w) (can_miss w a v) _ (λ z. thief_turn w (Worker a b) (YieldSteal v n) fs _ e refl refl)
+miss_turn w (Worker a b) _ fs e = tt
+miss_turn w (Caller n) _ fs e = tt
+
+refuse_turn : (w : World) (q : Party) (x : Place) (fs : List Place) → w.stack q ≡ record { top = x; below = fs } → IfSome (after_refusal w q (record { top = x; below = fs })) (Turns w)
+refuse_turn w q (GrowCall n) fs e = record { party = q; to = _; stack = λ r. refl; seat = λ p i. refl; empty = at_place w q (GrowCall n) fs (λ y. taken y ≡ None) e refl; honest = λ h. (refl, refl) }
+refuse_turn w q (PushJob n v) fs e = record { party = q; to = _; stack = λ r. refl; seat = λ p i. refl; empty = at_place w q (PushJob n v) fs (λ y. taken y ≡ None) e refl; honest = λ h. (refl, refl) }
+refuse_turn w q _ fs e = tt
+
+goes_honest : (f : Place) (e : Ending) → is_frame f ≡ true → (is_thief (goes_on f e) ≡ false) × (taken (goes_on f e) ≡ None)
+goes_honest (FirstSide o a) Fine m = (refl, refl)
+goes_honest (FirstSide o a) Fault m = (refl, refl)
+goes_honest (ProbeWorking k) e m = (refl, refl)
+goes_honest _ e m = (cc, cc)
+
+close_honest : (t : ℕ) (k : JobKind) (d : Ending) (fs : List Place) → AllFrames fs → (is_thief (after_close t k d fs).top ≡ false) × (taken (after_close t k d fs).top ≡ None)
+close_honest t (Detached p) d fs a = (refl, refl)
+close_honest t (Stored c o) d fs a = (refl, refl)
+close_honest t Direct d [] a = (refl, refl)
+close_honest t Direct d (f ∷ fs) a = goes_honest f d (a.0)
+
+end_turn : (w : World) (q : Party) (d : Ending) (x : Place) (fs : List Place) → w.stack q ≡ record { top = x; below = fs } → AllFrames fs → IfSome (after_end w q d (record { top = x; below = fs }) x) (Turns w)
+end_turn w q d (Run t k) fs e a = record { party = q; to = after_close t k d fs; stack = λ r. refl; seat = λ p i. refl; empty = at_place w q (Run t k) fs (λ y. taken y ≡ None) e refl; honest = λ h. close_honest t k d fs a }
+end_turn w q d _ fs e a = tt
+
+spawn_turn : (w : World) (q : Party) (p : ℕ) → IfSome (after_spawn w q p (w.stack q)) (Turns w)
+spawn_turn w q p = if_cond (Turns w) (is_free ((w.stack q).top) && is_pool w.shape p) _ (λ b. record { party = q; to = _; stack = λ r. refl; seat = λ p i. refl; empty = free_empty (w.stack q).top ((and_parts (is_free ((w.stack q).top)) (is_pool w.shape p) b).0); honest = λ h. (refl, refl) })
+
+sent_turn : (w : World) (q : Party) (p : ℕ) (b : Bool) → is_free ((w.stack q).top) ≡ true → Turns w (after_send w q p (w.stack q) b)
+sent_turn w q p true e = record { party = q; to = _; stack = λ r. refl; seat = λ p i. refl; empty = free_empty (w.stack q).top e; honest = λ h. (refl, refl) }
+sent_turn w q p false e = record { party = q; to = _; stack = λ r. refl; seat = λ p i. refl; empty = free_empty (w.stack q).top e; honest = λ h. (refl, refl) }
+
+install_turn : (w : World) (q : Party) (p : ℕ) → IfSome (after_install w q p (w.stack q)) (Turns w)
+install_turn w q p = if_cond (Turns w) (is_free ((w.stack q).top) && is_pool w.shape p) _ (λ e. sent_turn w q p (is_member q p) ((and_parts (is_free ((w.stack q).top)) (is_pool w.shape p) e).0))
+
+join_turn : (w : World) (q : Party) → IfSome (after_join w q (w.stack q)) (Turns w)
+join_turn w (Worker a b) = if_cond (Turns w) (is_free ((w.stack (Worker a b)).top)) _ (λ z. record { party = Worker a b; to = _; stack = λ r. refl; seat = λ p i. refl; empty = free_empty (w.stack (Worker a b)).top z; honest = λ h. (refl, refl) })
+join_turn w (Caller n) = tt
+
+yield_turn : (w : World) (q : Party) (x : Place) → (is_thief x ≡ false) × (taken x ≡ None) → IfSome (after_yield w q (w.stack q) x) (Turns w)
+yield_turn w (Worker a b) x m = if_cond (Turns w) (is_free ((w.stack (Worker a b)).top)) _ (λ z. record { party = Worker a b; to = _; stack = λ r. refl; seat = λ p i. refl; empty = free_empty (w.stack (Worker a b)).top z; honest = λ h. m })
+yield_turn w (Caller n) x m = tt
+
+give_turn : (w : World) (q : Party) (p : ℕ) → IfSome (after_end_pool w q p (w.stack q)) (Turns w)
+give_turn w q p = if_cond (Turns w) (is_free ((w.stack q).top) && (is_pool w.shape p && (w.pool p).held)) _ (λ b. record { party = q; to = _; stack = λ r. refl; seat = λ p i. refl; empty = free_empty (w.stack q).top ((and_parts (is_free ((w.stack q).top)) (is_pool w.shape p && (w.pool p).held) b).0); honest = λ h. (refl, refl) })
+
+pub turns : (w : World) → FramesOk w → (e : Event) → is_act e ≡ false → IfSome (step w e) (Turns w)
+turns w fr (Go q) z = cc
+turns w fr (From q v) z = from_turn w q ((w.stack q).top) ((w.stack q).below) v refl
+turns w fr (Refuse q) z = refuse_turn w q ((w.stack q).top) ((w.stack q).below) refl
+turns w fr (Miss q) z = miss_turn w q ((w.stack q).top) ((w.stack q).below) refl
+turns w fr (End q d) z = end_turn w q d ((w.stack q).top) ((w.stack q).below) refl (fr q)
+turns w fr (Spawn q p) z = spawn_turn w q p
+turns w fr (Install q p) z = install_turn w q p
+turns w fr (Join q) z = join_turn w q
+turns w fr (Yield q) z = yield_turn w q YieldPop (refl, refl)
+turns w fr (YieldLocal q) z = yield_turn w q LocalPop (refl, refl)
+turns w fr (EndPool q p) z = give_turn w q p
+
+-- no worker of the pool stands where it would steal
+abbrev pub Honest : ℕ → World → Type 0
+Honest p w = (i : ℕ) → is_thief (w.stack (Worker p i)).top ≡ false
+
+-- where a worker turns thief it looks at its own pool
+pub turn_target : (p i : ℕ) (x : Place) → turns_thief x ≡ true → target_pool (Worker p i) (act_of (Worker p i) x) ≡ p
+turn_target p i (TakeCastIdle k) e = refl
+turn_target p i YieldTakeCast e = refl
+turn_target p i _ e = cc
+
+honest_put : (w : World) (q : Party) (p i : ℕ) (b : Bool) → same_party (Worker p i) q ≡ b → (w.shape.pool p).workers ≡ 1 → FramesOk w → Honest p w → IfSome (outcome w q (w.stack q)) (λ r. is_thief ((if b then after_move (next_at w q (w.stack q) (r.0)) (w.stack q).below else w.stack (Worker p i)).top) ≡ false)
+honest_put w q p i true eb one fr ok =
+    let F : Party → Type 0 = λ z. IfSome (outcome w z (w.stack z)) (λ r. is_thief ((after_move (next_at w z (w.stack z) (r.0)) (w.stack z).below).top) ≡ false) in
+    let me : Party = Worker p i in
+    let k : Stack = w.stack me in
+    let base : F me = if_some_map {A = Seen × Part} (λ r. NoThief (next_at w me k (r.0))) (λ r. is_thief ((after_move (next_at w me k (r.0)) k.below).top) ≡ false)
+    (λ r t. top_then (λ y. is_thief y ≡ false) w me k (r.0) refl fr frame_honest t) (outcome w me k)
+    (stays_honest w.shape (shape_at w me k) me (counts_seen w me k) (part_at w me k) k.top (ok i) (λ z. ap (λ n. (w.shape.pool n).workers) (turn_target p i k.top z) ∙ one)) in
+    subst F (same_party_true (Worker p i) q eb) base
+honest_put w q p i false eb one fr ok = if_some_all {A = Seen × Part} (λ r. is_thief (w.stack (Worker p i)).top ≡ false) (λ r. ok i) (outcome w q (w.stack q))
+
+honest_turn : (w u : World) (p : ℕ) → Turns w u → Honest p w → Honest p u
+honest_turn w u p m ok i = ap (λ s. is_thief (s.top)) (m.stack (Worker p i)) ∙ at (same_party (Worker p i) (m.party)) refl
+  where
+    at : (b : Bool) → same_party (Worker p i) (m.party) ≡ b → is_thief ((if b then m.to else w.stack (Worker p i)).top) ≡ false
+    at true e = (m.honest (ap (λ z. is_thief ((w.stack z).top)) (sym (same_party_true (Worker p i) (m.party) e)) ∙ ok i)).0
+    at false e = ok i
+
+step_honest : (p : ℕ) (w : World) (e : Event) → (w.shape.pool p).workers ≡ 1 → FramesOk w → Honest p w → IfSome (step w e) (Honest p)
+step_honest p w (Go q) one fr ok = acted_keeps w q (w.stack q) (target_pool q (act_of q (w.stack q).top)) (target_worker q (act_of q (w.stack q).top)) (target_call (act_of q (w.stack q).top)) (job_at w q (act_of q (w.stack q).top)) (outcome w q (w.stack q)) (Honest p)
+    (if_some_each {I = ℕ} (λ i r. is_thief ((result w q (w.stack q) r).stack (Worker p i)).top ≡ false) (outcome w q (w.stack q)) (λ i. honest_put w q p i (same_party (Worker p i) q) refl one fr ok))
+step_honest p w e one fr ok = if_some_map (Turns w) (Honest p) (λ u m. honest_turn w u p m ok) (step w e) (turns w fr e refl)
+
+-- in every world of every run of a shape with such a pool of one
+pub always_honest : (h : Shape) (p : ℕ) → (h.pool p).workers ≡ 1 → (es : List Event) (w : World) → IsRun (start h) es w → Honest p w
+always_honest h p one es w r = ((run_keeps (λ u. FramesOk u × ((u.shape ≡ h) × Honest p u)) each (start h) w es (first_frames, (refl, first)) r).1).1
+  where
+    first_frames : FramesOk (start h)
+    first_frames q = tt
+
+    first : Honest p (start h)
+    first i = at (nat_lt i (h.pool p).workers) ((h.pool p).callers_own && (i == 0))
+      where
+        at : (b d : Bool) → is_thief (if b then (if d then Free else ProbeWorking (fresh Termination)) else Stopped) ≡ false
+        at true true = refl
+        at true false = refl
+        at false d = refl
+
+    each : (u : World) (e : Event) → FramesOk u × ((u.shape ≡ h) × Honest p u) → IfSome (step u e) (λ v. FramesOk v × ((v.shape ≡ h) × Honest p v))
+    each u e a = if_some_and FramesOk (λ v. (v.shape ≡ h) × Honest p v) (step u e) (steps_aside FramesOk u (a.0) (λ q. go_frames u q (u.stack q) refl (a.0)) (λ v m. aside_frames u v m (a.0)) e)
+        (if_some_and (λ v. v.shape ≡ h) (Honest p) (step u e) (step_shape h u e (a.0) ((a.1).0)) (step_honest p u e (ap (λ z. (z.pool p).workers) ((a.1).0) ∙ one) (a.0) ((a.1).1)))

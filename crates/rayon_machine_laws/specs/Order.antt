@@ -1,0 +1,180 @@
+-- the order in which a pool's one worker begins the jobs of its own deque
+use Rattle.std.specs.Prelude.{ℕ, Bool, true, false, ◌==◌, if◌then◌else◌, Option, Some, None, List, [], ◌∷◌, ◌++◌, ◌≡◌, ◌⊎◌, ⊤}
+use Rattle.rayon_machine_places.specs.declared.shape.Order.{Order}
+use Rattle.rayon_machine_places.specs.declared.shape.Order.TheVariants.{NewestFirst, OldestFirst}
+use Rattle.rayon_machine_places.specs.declared.place.Party.TheVariants.{Worker}
+use Rattle.rayon_machine_places.specs.declared.place.Place.{Place}
+use Rattle.rayon_machine_places.specs.declared.place.Place.TheVariants.{ProbeWorking, Run}
+use Rattle.rayon_machine_places.specs.declared.place.Target.TheVariants.{Termination}
+use Rattle.rayon_machine_places.specs.declared.act.Act.{Act}
+use Rattle.rayon_machine_places.specs.declared.act.Act.TheVariants.{Begin, PushOwn}
+use Rattle.rayon_machine_places.specs.declared.event.Event.{Event}
+use Rattle.rayon_machine_places.specs.declared.event.Event.TheVariants.{Go, Install, Join, Yield, YieldLocal, EndPool}
+use Rattle.rayon_machine_places.specs.Places.{act_of, fresh, same_party}
+use Rattle.rayon_machine_places.specs.World.{Shape, World}
+use Rattle.rayon_machine_places.specs.Steps.{step}
+use Rattle.rayon_machine_places.specs.Runs.{IsRun, start}
+use Rattle.rayon_machine_laws.specs.Once.{times}
+use Rattle.rayon_machine_laws.specs.Turn.{IsRunWithout}
+
+-- what bears on the order: the run of a job, or no run, adds a job to the worker's own deque; the worker begins a job
+pub data Happening : Type 0 where
+  Adds : (by : Option ℕ) → (job : ℕ) → Happening
+  Begins : (job : ℕ) → Happening
+
+-- the job whose run makes the call that stands above these frames, if a run does
+abbrev pub caller_of : List Place → Option ℕ
+caller_of (Run t k ∷ fs) = Some t
+caller_of _ = None
+
+-- what an act above these frames is
+abbrev pub act_happens : Act → List Place → Option Happening
+act_happens (PushOwn t) fs = Some (Adds (caller_of fs) t)
+act_happens (Begin t) fs = Some (Begins t)
+act_happens _ fs = None
+
+-- what an event is: an act of worker 0 of that pool
+abbrev pub happening : ℕ → World → Event → Option Happening
+happening p w (Go q) = if same_party (Worker p 0) q then act_happens (act_of q (w.stack q).top) (w.stack q).below else None
+happening p w _ = None
+
+-- what happened at one event, before what happened at the later ones
+abbrev pub and_next : Option Happening → List Happening → List Happening
+and_next None hs = hs
+and_next (Some h) hs = h ∷ hs
+
+-- what happens at that worker in a stretch of a run, in its order
+abbrev pub happenings : ℕ → Option World → List Event → List Happening
+happenings p None es = []
+happenings p (Some w) [] = []
+happenings p (Some w) (e ∷ es) = and_next (happening p w e) (happenings p (step w e) es)
+
+-- a job is the next that a list hands out, and this is left: it is the last entry, or in a pool that is oldest first
+-- the first
+abbrev pub Hands : Order → List ℕ → ℕ → List ℕ → Type 0
+Hands NewestFirst l t rest = l ≡ rest ++ t ∷ []
+Hands OldestFirst l t rest = l ≡ t ∷ rest
+
+-- the token list: what is added stands last; a job that begins is the next that the list hands out, or it is none of
+-- the list's; at the end this is left
+abbrev pub TokenList : Order → List ℕ → List Happening → List ℕ → Type 0
+TokenList o l [] left = left ≡ l
+TokenList o l (Adds by t ∷ hs) left = TokenList o (l ++ t ∷ []) hs left
+TokenList o l (Begins t ∷ hs) left = ((rest : List ℕ) × Hands o l t rest × TokenList o rest hs left) ⊎ ((times t l ≡ 0) × TokenList o l hs left)
+
+-- the list is what stands in the worker's own deque, or that with one job that the worker has taken from it and not
+-- begun
+abbrev pub IsLeft : World → ℕ → List ℕ → Type 0
+IsLeft u p l = (l ≡ (u.seat p 0).own) ⊎ ((t : ℕ) × Hands (u.shape.pool p).order l t (u.seat p 0).own × ((u.job t).runs ≡ 0))
+
+-- in every stretch of every run, the worker of a pool of one begins the jobs of its own deque as the token list hands
+-- them out, from what stood in the deque
+abbrev pub TokenLaw : Type 0
+TokenLaw = (shape : Shape) (before : List Event) (p : ℕ) (w u : World) (stretch : List Event) → (shape.pool p).workers ≡ 1 →
+    IsRun (start shape) before w → IsRun w stretch u →
+    (left : List ℕ) × TokenList (shape.pool p).order (w.seat p 0).own (happenings p (Some w) stretch) left × IsLeft u p left
+
+-- trees side by side: a job, below it the trees of the jobs that its run has added to the deque, in their order, and
+-- beside it the later trees
+pub data Trees : Type 0 where
+  NoTree : Trees
+  Tree : (job : ℕ) → (below : Trees) → (later : Trees) → Trees
+
+-- the jobs at the roots of trees
+abbrev pub roots : Trees → List ℕ
+roots NoTree = []
+roots (Tree t ks ts) = t ∷ roots ts
+
+-- the walk of trees in preorder with children reversed: a job comes before those below it, and the later of two trees
+-- before the earlier
+abbrev pub walk_back : Trees → List ℕ
+walk_back NoTree = []
+walk_back (Tree t ks ts) = walk_back ts ++ t ∷ walk_back ks
+
+-- levels side by side
+abbrev pub beside : List (List ℕ) → List (List ℕ) → List (List ℕ)
+beside [] ms = ms
+beside (l ∷ ls) [] = l ∷ ls
+beside (l ∷ ls) (m ∷ ms) = (l ++ m) ∷ beside ls ms
+
+-- the levels of trees: their roots, then the roots' children, and so on
+abbrev pub levels : Trees → List (List ℕ)
+levels NoTree = []
+levels (Tree t ks ts) = beside ((t ∷ []) ∷ levels ks) (levels ts)
+
+-- one list after the other
+abbrev pub joined : List (List ℕ) → List ℕ
+joined [] = []
+joined (l ∷ ls) = l ++ joined ls
+
+-- the walk of trees: in preorder with children reversed, or in a pool that is oldest first level by level
+abbrev pub walk : Order → Trees → List ℕ
+walk NewestFirst ts = walk_back ts
+walk OldestFirst ts = joined (levels ts)
+
+-- the walks of each of the trees, one after the other
+abbrev pub walk_each : Order → Trees → List ℕ
+walk_each o NoTree = []
+walk_each o (Tree t ks ts) = walk o (Tree t ks NoTree) ++ walk_each o ts
+
+-- the same job's run, or no run twice
+abbrev pub same_run : Option ℕ → Option ℕ → Bool
+same_run (Some s) (Some t) = s == t
+same_run None None = true
+same_run _ _ = false
+
+-- the jobs that this job's run has added, in their order, or that no run has
+abbrev pub added_by : Option ℕ → List Happening → List ℕ
+added_by r [] = []
+added_by r (Adds s t ∷ hs) = if same_run r s then t ∷ added_by r hs else added_by r hs
+added_by r (Begins t ∷ hs) = added_by r hs
+
+-- the jobs that have begun, in their order
+abbrev pub begun_in : List Happening → List ℕ
+begun_in [] = []
+begun_in (Adds s t ∷ hs) = begun_in hs
+begun_in (Begins t ∷ hs) = t ∷ begun_in hs
+
+-- trees of what happened: below each job stand those that its run has added
+abbrev pub AreSpawned : List Happening → Trees → Type 0
+AreSpawned hs NoTree = ⊤
+AreSpawned hs (Tree t ks ts) = (roots ks ≡ added_by (Some t) hs) × (AreSpawned hs ks × AreSpawned hs ts)
+
+-- a list from its last entry to its first
+abbrev pub reversed : List ℕ → List ℕ
+reversed [] = []
+reversed (t ∷ ts) = reversed ts ++ t ∷ []
+
+-- all that a list hands out, if nothing is added
+abbrev pub handed : Order → List ℕ → List ℕ
+handed NewestFirst l = reversed l
+handed OldestFirst l = l
+
+-- what has begun, and then what is left, is the walk of a forest of what happened: of the trees under what stood in the
+-- deque, and then of those of the jobs that came from elsewhere, one after the other
+pub record IsWalk (o : Order) (stood : List ℕ) (hs : List Happening) (left : List ℕ) : Type 0 where
+  pub standing : Trees
+  pub arrived : Trees
+  pub top : roots standing ≡ stood ++ added_by None hs
+  pub below : AreSpawned hs standing × AreSpawned hs arrived
+  pub order : begun_in hs ++ handed o left ≡ walk o standing ++ walk_each o arrived
+
+-- worker 0 of that pool stands at the beginning of its wait for the end of the pool: it has no run and no call open
+abbrev pub IsBetweenRuns : World → ℕ → Type 0
+IsBetweenRuns w p = w.stack (Worker p 0) ≡ record { top = ProbeWorking (fresh Termination); below = [] }
+
+-- the event begins a call of worker 0 of that pool that is no spawn
+abbrev pub is_other_call : ℕ → World → Event → Bool
+is_other_call p w (Install q r) = same_party (Worker p 0) q
+is_other_call p w (Join q) = same_party (Worker p 0) q
+is_other_call p w (Yield q) = same_party (Worker p 0) q
+is_other_call p w (YieldLocal q) = same_party (Worker p 0) q
+is_other_call p w (EndPool q r) = same_party (Worker p 0) q
+is_other_call p w _ = false
+
+-- in every stretch that begins where the worker of a pool of one is between runs, and in which it makes no call but
+-- spawns, it begins jobs in the order of the walk of the trees of spawns
+abbrev pub TreeLaw : Type 0
+TreeLaw = (shape : Shape) (before : List Event) (p : ℕ) (w u : World) (stretch : List Event) → (shape.pool p).workers ≡ 1 →
+    IsRun (start shape) before w → IsBetweenRuns w p → IsRunWithout (is_other_call p) w stretch u →
+    (left : List ℕ) × IsWalk (shape.pool p).order (w.seat p 0).own (happenings p (Some w) stretch) left × IsLeft u p left

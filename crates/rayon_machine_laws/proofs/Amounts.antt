@@ -71,7 +71,8 @@ abbrev pub gained : ℕ → Place → Seen → ℕ
 gained t (RaiseCount n) Done = one (t == plan_job n)
 gained t _ _ = 0
 
--- the share that goes with a job that is pushed and that no call waits for: a detached one, since an install that is run at once pushes none
+-- the share that goes with a job that is pushed and that no call waits for: a detached one, since an install that is
+-- run at once pushes none
 abbrev pub pushed : ℕ → Place → Seen → ℕ
 pushed t (PushJob (Detach r j) v) Done = one (t == j)
 pushed t (PushJob (Here r j) v) Done = one (t == j)
@@ -196,7 +197,8 @@ not_pushed t (Here r u) v _ z = refl
 not_pushed t (Send o) v _ z = refl
 not_pushed t (Fork o a) v _ z = refl
 
--- over the whole table: what a stack keeps after a move is what it kept, with what was raised, less what went with a job or was given back
+-- over the whole table: what a stack keeps after a move is what it kept, with what was raised, less what went with a
+-- job or was given back
 pub amounts : (g : PoolShape) (q : Party) (t p : ℕ) (x : Place) (e : Seen) → (share_move t (next_of g q x e) + (pushed t x e + paid t x) ≡ share t x + gained t x e) × (begins_move t p (next_of g q x e) ≡ 0)
 amounts g q t p (ProbeWorking k) Yes = (let a : Amount t p (Stay (after_wait k.target)) (share_target t k.target) = am_left t p k.target in let b : share_move t (Stay (after_wait k.target)) ≡ share_target t k.target = a.0 in omega (arith, b), (let a : Amount t p (Stay (after_wait k.target)) (share_target t k.target) = am_left t p k.target in a.1))
 amounts g q t p (ProbeWorking k) _ = (omega arith, refl)

@@ -32,7 +32,8 @@ use Rattle.rayon_machine_places.specs.World.{World}
 use Rattle.rayon_machine_places.specs.Readers.{is_done}
 use Rattle.rayon_machine_laws.proofs.Claims.{FirstEnds, is_detached, SaysThen, Says}
 
--- how far a call has come: its job is not yet queued, or it is; its share is given back; or a step of the call was refused
+-- how far a call has come: its job is not yet queued, or it is; its share is given back; or a step of the call was
+-- refused
 pub data Stage : Type 0 where
   Going : Stage
   Gone : Stage
@@ -146,7 +147,8 @@ Part n s _ = ⊥
 abbrev pub Ended : World → ℕ → Type 0
 Ended w t = is_done (w.job t).at ≡ true
 
--- a call that nothing refused can return: its jobs are over and its share is given back, or it was a spawn and has queued its job
+-- a call that nothing refused can return: its jobs are over and its share is given back, or it was a spawn and has
+-- queued its job
 abbrev pub Returns : World → Plan → Stage → Type 0
 Returns w (Detach p t) s = s ≡ Gone
 Returns w (Here p t) s = (s ≡ Paid) × Ended w t

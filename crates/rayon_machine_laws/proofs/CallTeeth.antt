@@ -1,4 +1,5 @@
--- the law of calls has teeth: replays, computed by the kernel, in which a changed table or act breaks it, and that its premises are met in the machine as it is
+-- the law of calls has teeth: replays, computed by the kernel, in which a changed table or act breaks it, and that its
+-- premises are met in the machine as it is
 use Rattle.std.proofs.Common.{refl}
 use Rattle.std.specs.Prelude.{ℕ, Bool, true, false, ◌&&◌, ◌||◌, ◌-◌, ◌==◌, nat_lt, nat_le, Option, Some, None, List, [], ◌∷◌, ◌++◌, ◌≡◌, IfSome, length}
 use Rattle.rayon_machine_places.specs.declared.place.Party.{Party}
@@ -38,7 +39,8 @@ any_by m test (Some w) (e ∷ es) = test w e || any_by m test (step_by m w e) es
 abbrev is_back : Party → World → World → Event → Bool
 is_back q w x e = length (x.stack q).below == length (w.stack q).below
 
--- a call of the party, begun by an event from w to v, is over in u, where its party is back for the first time; whether it was refused, and where a job of it is then
+-- a call of the party, begun by an event from w to v, is over in u, where its party is back for the first time; whether
+-- it was refused, and where a job of it is then
 record EndsSo (m : Machine) (q : Party) (e : Event) (between : List Event) (is_refused : Bool) (t : ℕ) (where_is : Whereabouts) (w v u : World) : Type 0 where
   caller : caller_of e ≡ Some q
   back : u.stack q ≡ w.stack q
@@ -93,7 +95,8 @@ abbrev unwaiting : PoolShape → Party → Place → Seen → Move
 unwaiting h q (TellNews (Send o) v) (Wakes k) = walk h q o.pool k 0 Resume
 unwaiting h q x e = next_of h q x e
 
--- the clause is broken: nothing refused the worker's install on another pool, it is over, and its job stands in the injector
+-- the clause is broken: nothing refused the worker's install on another pool, it is over, and its job stands in the
+-- injector
 install_does_not_wait : Ends (record { does = effect; next = unwaiting }) running b (Install b 1) (times_go b 5) false 1 (Injected 1)
 install_does_not_wait = record { caller = refl; back = refl; until = refl; refused = refl; mine = refl; at = refl }
 
@@ -111,7 +114,8 @@ abbrev stores_nothing : Act → Shape → Party → Counts → Part → Outcome
 stores_nothing (Store k e) h q n m = Some (Done, m)
 stores_nothing act h q n m = effect act h q n m
 
--- a call of the party, begun in w, whose own next act in u is to take from an empty cell, though the last of its jobs is over
+-- a call of the party, begun in w, whose own next act in u is to take from an empty cell, though the last of its jobs
+-- is over
 record TakesNothing (q : Party) (e : Event) (w v u : World) : Type 0 where
   caller : caller_of e ≡ Some q
   own : is_at_call (w.stack q) (u.stack q) ≡ true

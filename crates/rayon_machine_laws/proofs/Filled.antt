@@ -66,7 +66,8 @@ use Rattle.rayon_machine_laws.proofs.Takes.{set_found, set_then, seen_set, sees_
 abbrev pub IsSettled : World → ℕ → Type 0
 IsSettled w c = ((w.call c).latch ≡ IsSet) ⊎ ((r : Party) × (sets_now (w.stack r).top ≡ Some c))
 
--- where a call's latch is set, or about to be, and its cell is empty, nobody has its share but to give it back: what was stored has been taken
+-- where a call's latch is set, or about to be, and its cell is empty, nobody has its share but to give it back: what
+-- was stored has been taken
 abbrev pub IsTaken : World → Party → ℕ → Type 0
 IsTaken w q c = shares ((w.call c).job) (w.stack q) ≤ paid ((w.call c).job) ((w.stack q).top)
 

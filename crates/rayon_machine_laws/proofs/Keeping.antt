@@ -1,4 +1,5 @@
--- each step leaves each share that is in the count with a keeper; so a pool's terminate count is the number of its shares, and each is kept once
+-- each step leaves each share that is in the count with a keeper; so a pool's terminate count is the number of its
+-- shares, and each is kept once
 use Rattle.std.proofs.Common.{arith, refl, sym, ◌∙◌, ap, inl, inr}
 use Rattle.std.specs.Prelude.{ℕ, zero, suc, Bool, true, false, ◌&&◌, ◌+◌, ◌-◌, ◌==◌, ◌≤◌, ◌<◌, nat_lt, if◌then◌else◌, Some, None, List, ◌≡◌, IfSome}
 use Rattle.std.proofs.lemmas.Bool.{eqb-true, ltb-true, ltb-false}

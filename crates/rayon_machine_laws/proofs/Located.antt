@@ -198,7 +198,8 @@ is_left (Made q) = false
 is_left Nowhere = false
 is_left _ = true
 
--- what is over or handed back stays so, what has left its call does not come back to it, what is made is not lost, and what is not made is made by an event alone
+-- what is over or handed back stays so, what has left its call does not come back to it, what is made is not lost, and
+-- what is not made is made by an event alone
 abbrev pub IsOnward : Whereabouts → Whereabouts → Type 0
 IsOnward (Made q) b = is_known b ≡ true
 IsOnward (Over e) b = b ≡ Over e

@@ -57,7 +57,8 @@ done_by m w q s a (Some r) = Some (record w {
 abbrev pub act_by : Machine → World → Party → Stack → Act → Option World
 act_by m w q s a = done_by m w q s a (m.does a w.shape q (counts_at w (target_pool q a)) (part_of w (target_pool q a) (target_worker q a) (target_call a) (target_job w.shape q a (w.pool (target_pool q a)) (w.seat (target_pool q a) (target_worker q a)))))
 
--- a party's next act is refused, as `after_refusal` has it; where the machine leads to the call's last step at once, that is made too
+-- a party's next act is refused, as `after_refusal` has it; where the machine leads to the call's last step at once,
+-- that is made too
 abbrev pub refused_by : Machine → World → Party → Stack → Option World
 refused_by m w q s =
     if is_refusable s.top

@@ -52,7 +52,8 @@ abbrev pub IsRunUntil : Party → Stack → World → List Event → World → T
 IsRunUntil q s w [] u = u ≡ w
 IsRunUntil q s w (e ∷ es) u = (v : World) × (w.stack q ≡ s → ⊥) × (step w e ≡ Some v) × IsRunUntil q s v es u
 
--- a stack has exactly one frame more than this one: the next step is that of the call itself, and of nothing that runs inside it
+-- a stack has exactly one frame more than this one: the next step is that of the call itself, and of nothing that runs
+-- inside it
 abbrev pub is_at_call : Stack → Stack → Bool
 is_at_call s k = length k.below == length s.below + 1
 
@@ -82,7 +83,8 @@ pub record HasRun (w : World) (t : ℕ) : Type 0 where
 abbrev pub IsHandedOn : World → ℕ → Type 0
 IsHandedOn w t = (is_queued (w.job t).at || (is_running (w.job t).at || is_done (w.job t).at)) ≡ true
 
--- what a call that nothing refused leaves of a job that it made: a spawn has handed it on, an install and a join have seen it run
+-- what a call that nothing refused leaves of a job that it made: a spawn has handed it on, an install and a join have
+-- seen it run
 abbrev pub LeavesJob : Event → World → ℕ → Type 0
 LeavesJob (Spawn q p) w t = IsHandedOn w t
 LeavesJob _ w t = HasRun w t
@@ -99,7 +101,8 @@ pub record HoldsEnding (w : World) (c t : ℕ) : Type 0 where
   pub cell : (w.call c).cell ≡ Some ending
   pub job : HasEnded w t ending
 
--- what a party answers with its last acts of a call: the answers of calls that waited, and of an install that ran its job at once
+-- what a party answers with its last acts of a call: the answers of calls that waited, and of an install that ran its
+-- job at once
 abbrev pub verdict_of : Option Then → Option Verdict
 verdict_of (Some (Answers o first last)) = Some (answered first last)
 verdict_of (Some (Ran t e)) = Some (answered None e)
@@ -121,11 +124,12 @@ pub record StandsOn (s k : Stack) : Type 0 where
   pub more : List Place
   pub is : k.below ≡ more ++ (s.top ∷ s.below)
 
--- a call that the party q began by the event e (from w to v), in a world u that the events between lead to; its jobs are the numbers that the event gave out.
--- Until it is over the party's stack stands on what it was. Where the call's own next act is to take from a cell, that holds how the last of its jobs ended;
--- where it is to lower the terminate count, and nothing refused it, it has the answer, and the fault is the one that takes precedence.
--- Once it is over, either nothing refused it and it leaves each job as it should, or a step of it was refused and each job is given back;
--- and an install and a join have given back their share of the terminate count, which the last of the jobs has
+-- a call that the party q began by the event e (from w to v), in a world u that the events between lead to; its jobs
+-- are the numbers that the event gave out. Until it is over the party's stack stands on what it was. Where the call's
+-- own next act is to take from a cell, that holds how the last of its jobs ended; where it is to lower the terminate
+-- count, and nothing refused it, it has the answer, and the fault is the one that takes precedence. Once it is over,
+-- either nothing refused it and it leaves each job as it should, or a step of it was refused and each job is given
+-- back; and an install and a join have given back their share of the terminate count, which the last of the jobs has
 pub record CallGoes (q : Party) (e : Event) (w v u : World) (between : List Event) : Type 0 where
   pub made : v.jobs ≡ w.jobs + jobs_of e
   pub stands : StandsOn (w.stack q) (u.stack q) ⊎ (u.stack q ≡ w.stack q)
@@ -135,7 +139,8 @@ pub record CallGoes (q : Party) (e : Event) (w v u : World) (between : List Even
   pub ends : u.stack q ≡ w.stack q → is_any (is_refusal q (w.stack q)) (Some v) between ≡ false → (t : ℕ) → w.jobs ≤ t → t < v.jobs → LeavesJob e u t
   pub refused : u.stack q ≡ w.stack q → is_any (is_refusal q (w.stack q)) (Some v) between ≡ true → (t : ℕ) → w.jobs ≤ t → t < v.jobs → IsGivenBack u t
 
--- each call goes so, in every run from a start, up to the first world in which its party's stack is again what it was before the event
+-- each call goes so, in every run from a start, up to the first world in which its party's stack is again what it was
+-- before the event
 abbrev pub CallLaw : Type 0
 CallLaw = (shape : Shape) (before : List Event) (q : Party) (e : Event) (w v u : World) (between : List Event) →
     BeginsCall shape before q e w v → IsRunUntil q (w.stack q) v between u → CallGoes q e w v u between

@@ -17,7 +17,8 @@ abbrev pub is_detached : JobKind → Bool
 is_detached (Detached p) = true
 is_detached _ = false
 
--- a job keeps its share itself: a detached one that is queued, in a hand or running. Its call keeps the share before, and the party that ran it after
+-- a job keeps its share itself: a detached one that is queued, in a hand or running. Its call keeps the share before,
+-- and the party that ran it after
 abbrev pub keeps_own : Job → Bool
 keeps_own j = is_detached j.kind && is_busy j.at
 
@@ -53,7 +54,10 @@ abbrev pub KeptOnce : (Party → ℕ) → Bool → Bool → Type 0
 KeptOnce parties owner true = (o : Option Party) × ((q : Party) → parties q ≡ one (is_kept_by q o)) × (owner ≡ is_kept_by_owner o)
 KeptOnce parties owner false = ((q : Party) → parties q ≡ 0) × (owner ≡ false)
 
--- each pool's terminate count is 1 while its value's share is in it, and 1 more for each job with a share of it. The share of the value is kept by the held value or by the one Lower that gives it back; the share of a job by the one call that waits for it, from its Raise to its Lower, or, where no call waits, by its call before it is queued, by the job itself, or by its Lower once it has run
+-- each pool's terminate count is 1 while its value's share is in it, and 1 more for each job with a share of it. The
+-- share of the value is kept by the held value or by the one Lower that gives it back; the share of a job by the one
+-- call that waits for it, from its Raise to its Lower, or, where no call waits, by its call before it is queued, by the
+-- job itself, or by its Lower once it has run
 pub record IsCounted (w : World) : Type 0 where
   pub count : (p : ℕ) → (w.pool p).count ≡ one (w.pool p).counted + count_below w.jobs (λ t. has_share p (w.job t))
   pub made : (t : ℕ) → w.jobs ≤ t → (w.job t).counted ≡ false

@@ -122,7 +122,10 @@ held_in t (f ∷ fs) = hand t f + held_in t fs
 abbrev pub held : ℕ → Stack → ℕ
 held t k = hand t k.top + held_in t k.below
 
--- each number that is given out is a job that is somewhere, and no other is. Its run begins at most once: a job that is over has run once, and one that was made, queued or handed back has not begun. A job stands in a deque, in an injector, in hand or under a run once where its record says, and nowhere else: in hand while its run has not begun, under the run from then on
+-- each number that is given out is a job that is somewhere, and no other is. Its run begins at most once: a job that is
+-- over has run once, and one that was made, queued or handed back has not begun. A job stands in a deque, in an
+-- injector, in hand or under a run once where its record says, and nowhere else: in hand while its run has not begun,
+-- under the run from then on
 pub record IsOnce (w : World) : Type 0 where
   pub known : (t : ℕ) → t < w.jobs → is_known (w.job t).at ≡ true
   pub unknown : (t : ℕ) → w.jobs ≤ t → (w.job t).at ≡ Nowhere

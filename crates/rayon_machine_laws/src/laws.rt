@@ -36,14 +36,14 @@ pub fn law_count()
     ensures { Always IsCounted }
 {}
 
-/// In every world of every run, a call that was not refused and makes its last steps has run each of its jobs once: each is
-/// over, what the call took from its cell is how its own job ended, and the fault that it answers is its first side's,
-/// else its own job's. No call finds its cell empty when it takes from it, and none answers that its result is
-/// missing. A call that is refused has jobs that stand in no list and have never run, before its last step
-/// and for ever after. The share of the terminate count that it took is given back: from the act after the one that does
-/// it, none of its jobs is in the count, and for ever after its last step. A pool's terminate latch is set only when the
-/// pool has ended: its value is given up, no call made at it keeps a share of its terminate count, and no detached job of
-/// it is queued or running.
+/// In every world of every run, a call that was not refused and makes its last steps has run each of its jobs once:
+/// each is over, what the call took from its cell is how its own job ended, and the fault that it answers is its first
+/// side's, else its own job's. No call finds its cell empty when it takes from it, and none answers that its result is
+/// missing. A call that is refused has jobs that stand in no list and have never run, before its last step and for ever
+/// after. The share of the terminate count that it took is given back: from the act after the one that does it, none of
+/// its jobs is in the count, and for ever after its last step. A pool's terminate latch is set only when the pool has
+/// ended: its value is given up, no call made at it keeps a share of its terminate count, and no detached job of it is
+/// queued or running.
 /// The same is said of calls, with places named by their acts alone (`calls`): from the event by which a party begins
 /// a spawn, an install or a join, to the first world in which the party's stack is again what it was, the stack stands
 /// on what it was. There each job that the event made has run once and is over, or, of a spawn, is queued, in a hand,

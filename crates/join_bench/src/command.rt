@@ -29,8 +29,8 @@ pub enum Command {
 }
 
 impl Command {
-    /// The command that these words are, the program's name left out. None where they are no command, or a number is not
-    /// read.
+    /// The command that these words are, the program's name left out. None where they are no command, or a number is
+    /// not read.
     pub fn parse(words: &[String]) -> Option<Command>
         ensures some { IfSome result (λ c. AsksFor (map string_bytes words.now) c) }
         ensures none { IfNone result (AskForNothing (map string_bytes words.now)) }

@@ -11,8 +11,8 @@ use std::rt::Runtime;
 use std::sync::Wait;
 use std::time::Instant;
 
-/// Does what the command asks for on this pool, and prints what it says: for each timed run the nanoseconds that it took
-/// and what it answered.
+/// Does what the command asks for on this pool, and prints what it says: for each timed run the nanoseconds that it
+/// took and what it answered.
 pub fn run<R: Runtime + Wait>(
     rt: &R,
     alloc: Global,

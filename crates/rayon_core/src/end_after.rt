@@ -11,8 +11,8 @@ pub trait EndAfter: Sized {
     /// Ends it, as `ThreadPool::end` does.
     fn end_lent<R: Threads + Wait>(self, rt: &R);
 
-    /// Lends the pool to a closure, ends it once the closure has answered, and answers the same, whatever that is. So the
-    /// closure may leave by `?`, which a function that holds a pool by its value may not: that has to be spent.
+    /// Lends the pool to a closure, ends it once the closure has answered, and answers the same, whatever that is. So
+    /// the closure may leave by `?`, which a function that holds a pool by its value may not: that has to be spent.
     final fn end_after<R: Threads + Wait, T, F: FnOnce(&Self) -> T>(self, rt: &R, with_pool: F) -> T
         requires callable { (pool : _) → pool.now ≡ self → F.pre with_pool pool }
         ensures answer { (pool : _) × (pool.now ≡ self) × F.post with_pool pool result }

@@ -10,8 +10,8 @@ use std::alloc::Global;
 use std::marker::Model;
 use std::sync::{Arc, Wait};
 
-/// A pool as other threads use it: it can be sent to them and shared among them. It keeps no pool from ending. Contracts
-/// see the pool's number, how many workers it has, and the levels of a worker value that no run was lent yet.
+/// A pool as other threads use it: it can be sent to them and shared among them. It keeps no pool from ending.
+/// Contracts see the pool's number, how many workers it has, and the levels of a worker value that no run was lent yet.
 #[derive(Drop)]
 pub struct PoolRef<J: JobKind> {
     registry: Arc<Registry<J>, Global>,

@@ -86,8 +86,8 @@ impl<J: JobKind> ThreadPool<J> {
     }
 
     /// Runs two jobs on the pool by a join there, for a caller that is no worker; it blocks until both have run, and
-    /// answers both outputs. Refused `TooDeep` exactly where the depth limit is 1, whatever else holds; `Ended`, `Full`,
-    /// `NoRoom`; with the sides back, and neither has run.
+    /// answers both outputs. Refused `TooDeep` exactly where the depth limit is 1, whatever else holds; `Ended`,
+    /// `Full`, `NoRoom`; with the sides back, and neither has run.
     pub fn join<R: Wait>(
         &self,
         rt: &R,
@@ -117,8 +117,9 @@ impl<J: JobKind> ThreadPool<J> {
         self.join(rt, alloc, a, b)
     }
 
-    /// Ends the pool: no call is taken any more, and the worker's thread leaves once no waiting call holds the pool, and
-    /// is joined.
+    /// Ends the pool: gives up the unit of the terminate count that the pool's value holds. Calls through a `PoolRef` are
+    /// still answered while other calls hold the pool; once none does, each further call is refused `Ended`, and the
+    /// worker's thread leaves and is joined. So this waits for the waiting calls that other threads have made.
     pub fn end<R: Threads + Wait>(self, rt: &R) {
         let ThreadPool {
             registry,

@@ -159,8 +159,8 @@ pub enum Next {
 }
 
 impl Act {
-    /// The pool that this act of the party touches, by its index: the one that the act names, else the worker's own. It is 0
-    /// where an outside caller's act names none, which then touches no pool.
+    /// The pool that this act of the party touches, by its index: the one that the act names, else the worker's own. It
+    /// is 0 where an outside caller's act names none, which then touches no pool.
     pub fn pool(self, party: Party) -> usize
         ensures { result ≡ target_pool party self }
     {

@@ -139,9 +139,9 @@ impl Place {
         }
     }
 
-    /// Whether no party has an act at the place: a run, a frame below a run, a free party, or one that has stopped. At every
-    /// other place each worker has an act. Where a call or a wake is made, or a run or a call ends, an outside caller
-    /// has one too; it never stands in a wait for work, in a join or in a yield.
+    /// Whether no party has an act at the place: a run, a frame below a run, a free party, or one that has stopped. At
+    /// every other place each worker has an act. Where a call or a wake is made, or a run or a call ends, an outside
+    /// caller has one too; it never stands in a wait for work, in a join or in a yield.
     pub fn rests(self) -> bool
         ensures rest { result ≡ is_rest self }
         ensures none { (q : AnyParty) → result ≡ true → act_of q self ≡ Idle }
@@ -153,7 +153,8 @@ impl Place {
         }
     }
 
-    /// The act of this party at the place. Only workers stand in waits, joins and yields; where there is no act, it is `Idle`.
+    /// The act of this party at the place. Only workers stand in waits, joins and yields; where there is no act, it is
+    /// `Idle`.
     pub fn act(self, party: Party) -> Act
         ensures { result ≡ act_of party self }
     {

@@ -9,8 +9,8 @@ use rayon_machine_places::error::StepError;
 use rayon_machine_places::event::Event;
 
 impl World {
-    /// Makes the steps of these events in order, up to the first that is refused: it answers that event's index, counted
-    /// from 0, and why. The steps before it are then made, and it itself is not.
+    /// Makes the steps of these events in order, up to the first that is refused: it answers that event's index,
+    /// counted from 0, and why. The steps before it are then made, and it itself is not.
     pub fn replay(&mut self, events: &[Event]) -> Result<(), (usize, StepError)>
         ensures run { OnOk result (IsRun (world_of self.old) events.now (world_of self.new)) }
         ensures index { IfErr result (λ e. e.0 < length events.now) }

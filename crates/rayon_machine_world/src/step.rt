@@ -15,8 +15,8 @@ use rayon_machine_places::place::{Move, Party, Place};
 
 impl World {
     /// Makes one step: an event of one party. NotEnabled exactly where the event is not enabled in this world; NoRoom,
-    /// of an event that is enabled, where memory was refused or a number would pass 2^64 - 1. Both leave the world as it
-    /// was.
+    /// of an event that is enabled, where memory was refused or a number would pass 2^64 - 1. Both leave the world as
+    /// it was.
     pub fn step(&mut self, event: Event) -> Result<(), StepError>
         ensures { IsStepOf (step_of (world_of self.old) event) result (world_of self.old) (world_of self.new) }
     {

@@ -39,8 +39,9 @@ pub struct Fork<J: JobKind> {
 }
 
 impl<J: JobKind> WorkerThread<J> {
-    /// Runs two jobs, the first with exactly one level fewer, and answers both outputs. Refused `TooDeep` exactly where no level is
-    /// left, `Ended`, `Full`, `NoRoom`, with the sides back and the worker value unchanged, and neither has run.
+    /// Runs two jobs, the first with exactly one level fewer, and answers both outputs. Refused `TooDeep` exactly where
+    /// no level is left, `Ended`, `Full`, `NoRoom`, with the sides back and the worker value unchanged, and neither has
+    /// run.
     pub fn join_jobs<R: Waits<J>>(
         &mut self,
         rt: &R,
@@ -340,8 +341,9 @@ impl<J: JobKind> Sides<J> for WorkerThread<J> {
 
 /// The calls of a worker value that fork into a closure and a job.
 pub trait ForkJoin<J: JobKind>: Sides<J> {
-    /// Runs a closure and a job, each with one level fewer, and answers both outputs. Refused `TooDeep` exactly where no
-    /// level is left, `Ended`, `Full`, `NoRoom`, with the sides back and the worker value unchanged, and neither has run.
+    /// Runs a closure and a job, each with one level fewer, and answers both outputs. Refused `TooDeep` exactly where
+    /// no level is left, `Ended`, `Full`, `NoRoom`, with the sides back and the worker value unchanged, and neither has
+    /// run.
     final fn join<
         R: Waits<J>,
         RA: Drop,

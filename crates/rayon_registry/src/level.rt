@@ -1,5 +1,5 @@
-//! The number of levels by which a run that calls further runs is shown to end. None of this is open to users: what they
-//! are lent is a handle that `Waits`, and each run that it makes lends the worker value with one level fewer.
+//! The number of levels by which a run that calls further runs is shown to end. None of this is open to users: what
+//! they are lent is a handle that `Waits`, and each run that it makes lends the worker value with one level fewer.
 ghost use Rattle.rayon_registry.specs.Worker.{SameWorker};
 ghost use Rattle.std.specs.Prelude.{◌≡◌, ℕ, ◌<◌, ◌≤◌, ◌-◌, Result};
 
@@ -44,9 +44,9 @@ impl Level {
     }
 }
 
-/// What the runs of jobs may answer, over the types of their worker value `W`, of a job's answer `O` and of a pair's `P`.
-/// The relations are the bound's own to the functions below, so none of them can meet one but by a run that is lent as
-/// many levels as the relation says.
+/// What the runs of jobs may answer, over the types of their worker value `W`, of a job's answer `O` and of a pair's
+/// `P`. The relations are the bound's own to the functions below, so none of them can meet one but by a run that is
+/// lent as many levels as the relation says.
 pub trait Meaning<W, O, P> {
     /// Whether the job may answer this where its worker value has so many levels.
     ghost may: { Self → ℕ → O → Type 0 };

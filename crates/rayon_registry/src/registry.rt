@@ -179,7 +179,8 @@ impl<J: JobKind> Registry<J> {
     }
 
     /// Joins two sides on the pool for a caller that is no worker, which blocks until both have run. Refused `TooDeep`
-    /// exactly where the pool's `depth_limit` is 1, whatever else holds; `Ended`, `Full`, `NoRoom`; with the sides back.
+    /// exactly where the pool's `depth_limit` is 1, whatever else holds; `Ended`, `Full`, `NoRoom`; with the sides
+    /// back.
     pub fn join<R: Wait>(
         &self,
         rt: &R,

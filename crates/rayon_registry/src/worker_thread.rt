@@ -151,8 +151,8 @@ impl<J: JobKind> WorkerThread<J> {
         }
     }
 
-    /// Runs a job at once, with exactly one level fewer. Refused `TooDeep` exactly where no level is left, `Ended`, `Full`, with the job back and the
-    /// worker value unchanged. It is never `Foreign` or `Missing`.
+    /// Runs a job at once, with exactly one level fewer. Refused `TooDeep` exactly where no level is left, `Ended`,
+    /// `Full`, with the job back and the worker value unchanged. It is never `Foreign` or `Missing`.
     pub fn install<R: Waits<J>>(
         &mut self,
         rt: &R,

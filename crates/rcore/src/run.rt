@@ -30,8 +30,8 @@ pub(crate) const FAILED: u8 = 1;
 const BAD_WORDS: u8 = 2;
 
 /// Does what a command line asks for, and answers the status: 0 done; 1 a fault, a refusal or a failed write, with its
-/// name on `err`; 2 bad words, with nothing on `out`. The first of the arguments is the program's name. Where memory was
-/// refused while they were read the status is 1 with `NoRoom`; an argument that is no text makes them bad words.
+/// name on `err`; 2 bad words, with nothing on `out`. The first of the arguments is the program's name. Where memory
+/// was refused while they were read the status is 1 with `NoRoom`; an argument that is no text makes them bad words.
 pub fn run_args<R: Threads + Wait + Copy + Send + 'static, I: BufRead, W: Write, E: Write>(
     rt: &R,
     alloc: Global,

@@ -1,6 +1,6 @@
-//! Makes a list of steps on the pure machine and, where an allocation of the start or of a step was refused, looks whether
-//! the world is as before and makes the same call again. It prints how often that was, and what the world shows at the end.
-//! Standard input has the number of allocations that the program makes and gives back before anything else.
+//! Makes a list of steps on the pure machine and, where an allocation of the start or of a step was refused, looks
+//! whether the world is as before and makes the same call again. It prints how often that was, and what the world shows
+//! at the end. Standard input has the number of allocations that the program makes and gives back before anything else.
 #![tactic(auto)]
 
 use rayon_machine::error::{StartError, StepError};

@@ -89,8 +89,8 @@ impl Job for Ask {
     }
 }
 
-// A helper that takes the worker value says what a run has to: that the handle has as many levels, and that id and levels
-// stay.
+// A helper that takes the worker value says what a run has to: that the handle has as many levels, and that id and
+// levels stay.
 fn triple<R: Waits<Ask>>(
     rt: &R,
     alloc: Global,

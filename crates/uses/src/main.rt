@@ -1,5 +1,5 @@
-//! Uses of `rayon_core`, as a caller writes them: one file for each feature, and here how a pool is made for it, lent and
-//! ended.
+//! Uses of `rayon_core`, as a caller writes them: one file for each feature, and here how a pool is made for it, lent
+//! and ended.
 #![tactic(auto)]
 
 mod closure;

@@ -31,7 +31,7 @@ abbrev pub whole : Stack → List Place
 whole k = k.top ∷ k.below
 
 -- in the stack k a place of the call stands right above the stack s
-pub record Stands (n : Plan) (r : Stage) (s k : Stack) : Type 0 where
+pub record CallStands (n : Plan) (r : Stage) (s k : Stack) : Type 0 where
   pub above : List Place
   pub place : Place
   pub is : whole k ≡ above ++ (place ∷ whole s)
@@ -40,7 +40,7 @@ pub record Stands (n : Plan) (r : Stage) (s k : Stack) : Type 0 where
 -- so it does after an event, which refused the call its step or did not
 pub record Stood (u : World) (n : Plan) (r : Stage) (s k : Stack) (b : Bool) : Type 0 where
   pub stage : Stage
-  pub stands : Stands n stage s k
+  pub stands : CallStands n stage s k
   pub sofar : Sofar u r n → Sofar u stage n
   pub flag : is_undone stage ≡ (is_undone r || b)
 
@@ -50,23 +50,23 @@ pub record Turned (w u : World) (q : Party) (e : Event) : Type 0 where
   pub stack : (r : Party) → u.stack r ≡ put_stack w.stack q to r
   pub sides : (c : ℕ) → c + 1 ≤ w.calls → (c + 1 ≤ u.calls) × ((u.call c).first ≡ (w.call c).first)
   pub made : (t : ℕ) → t + 1 ≤ w.jobs → (t + 1 ≤ u.jobs) × (((u.job t).kind ≡ (w.job t).kind) × ((u.job t).counted ≡ (w.job t).counted))
-  pub stood : (n : Plan) (r : Stage) (s : Stack) → Stands n r s (w.stack q) → Stood u n r s to (is_refusal q s w e)
+  pub stood : (n : Plan) (r : Stage) (s : Stack) → CallStands n r s (w.stack q) → Stood u n r s to (is_refusal q s w e)
   pub quiet : (r : Party) (s : Stack) → same_party r q ≡ false → is_refusal r s w e ≡ false
 
 -- nothing is refused
-same_stood : (u : World) (n : Plan) (r : Stage) (s k : Stack) → Stands n r s k → Stood u n r s k false
+same_stood : (u : World) (n : Plan) (r : Stage) (s k : Stack) → CallStands n r s k → Stood u n r s k false
 same_stood u n r s k h = record { stage = r; stands = h; sofar = λ z. z; flag = or_false (is_undone r) }
 
 -- another top, which is of the call if the old one was
-retop : (n : Plan) (r z : Stage) (s : Stack) (x y : Place) (fs above : List Place) (place : Place) → x ∷ fs ≡ above ++ (place ∷ whole s) → Part n r place → r ≡ z → (Part n r x → Part n z y) → Stands n z s (record { top = y; below = fs })
+retop : (n : Plan) (r z : Stage) (s : Stack) (x y : Place) (fs above : List Place) (place : Place) → x ∷ fs ≡ above ++ (place ∷ whole s) → Part n r place → r ≡ z → (Part n r x → Part n z y) → CallStands n z s (record { top = y; below = fs })
 retop n r z s x y fs [] place e p i f = record { above = []; place = y; is = (let a : fs ≡ whole s = cc in ap (λ v. y ∷ v) a); part = f (let a : x ≡ place = cc in subst (λ v. Part n r v) (sym a) p) }
 retop n r z s x y fs (a ∷ gs) place e p i f = record { above = y ∷ gs; place = place; is = (let b : fs ≡ gs ++ (place ∷ whole s) = cc in ap (λ v. y ∷ v) b); part = subst (λ v. Part n v place) i p }
 
-topped : (n : Plan) (r : Stage) (s k : Stack) (x y : Place) (fs : List Place) → k ≡ record { top = x; below = fs } → (Part n r x → Part n r y) → Stands n r s k → Stands n r s (record { top = y; below = fs })
+topped : (n : Plan) (r : Stage) (s k : Stack) (x y : Place) (fs : List Place) → k ≡ record { top = x; below = fs } → (Part n r x → Part n r y) → CallStands n r s k → CallStands n r s (record { top = y; below = fs })
 topped n r s k x y fs z f h = retop n r r s x y fs h.above h.place (ap whole (sym z) ∙ h.is) h.part refl f
 
 -- a place above it all
-called : (n : Plan) (r : Stage) (s k : Stack) (y : Place) → Stands n r s k → Stands n r s (after_call k y)
+called : (n : Plan) (r : Stage) (s k : Stack) (y : Place) → CallStands n r s k → CallStands n r s (after_call k y)
 called n r s k y h = record { above = y ∷ h.above; place = h.place; is = ap (λ v. y ∷ v) h.is; part = h.part }
 
 -- numbers that are given out have what they had
@@ -127,18 +127,18 @@ goes_on_part n r (SecondSide o) e y = (ap OfJob (open_job n o (y.0)), y)
 goes_on_part n r (AtOnce p t) e y = (ap OfJob (here_job n t (ap plan_here (y.0))), (ap plan_here (y.0), y.1))
 goes_on_part n r f e y = y
 
-resumed : (n : Plan) (r : Stage) (s : Stack) (e : Ending) (fs gs : List Place) (place : Place) → fs ≡ gs ++ (place ∷ whole s) → Part n r place → Stands n r s (after_resume fs e)
+resumed : (n : Plan) (r : Stage) (s : Stack) (e : Ending) (fs gs : List Place) (place : Place) → fs ≡ gs ++ (place ∷ whole s) → Part n r place → CallStands n r s (after_resume fs e)
 resumed n r s e [] [] place z p = absurd (cc)
 resumed n r s e [] (a ∷ gs) place z p = absurd (cc)
 resumed n r s e (f ∷ fs) [] place z p = record { above = []; place = goes_on f e; is = (let a : fs ≡ whole s = cc in ap (λ v. goes_on f e ∷ v) a); part = goes_on_part n r f e (let a : f ≡ place = cc in subst (λ v. Part n r v) (sym a) p) }
 resumed n r s e (f ∷ fs) (a ∷ gs) place z p = record { above = goes_on f e ∷ gs; place = place; is = (let b : fs ≡ gs ++ (place ∷ whole s) = cc in ap (λ v. goes_on f e ∷ v) b); part = p }
 
-closed : (n : Plan) (r : Stage) (s : Stack) (t : ℕ) (k : JobKind) (e : Ending) (fs gs : List Place) (place : Place) → fs ≡ gs ++ (place ∷ whole s) → Part n r place → Stands n r s (after_close t k e fs)
+closed : (n : Plan) (r : Stage) (s : Stack) (t : ℕ) (k : JobKind) (e : Ending) (fs gs : List Place) (place : Place) → fs ≡ gs ++ (place ∷ whole s) → Part n r place → CallStands n r s (after_close t k e fs)
 closed n r s t (Detached p) e fs gs place z y = record { above = LowerCount p (OfJob t) Resume ∷ gs; place = place; is = ap (λ v. LowerCount p (OfJob t) Resume ∷ v) z; part = y }
 closed n r s t (Stored c o) e fs gs place z y = record { above = StoreResult c o e ∷ gs; place = place; is = ap (λ v. StoreResult c o e ∷ v) z; part = y }
 closed n r s t Direct e fs gs place z y = resumed n r s e fs gs place z y
 
-ended : (n : Plan) (r : Stage) (s : Stack) (t : ℕ) (k : JobKind) (e : Ending) (fs above : List Place) (place : Place) → Run t k ∷ fs ≡ above ++ (place ∷ whole s) → Part n r place → Stands n r s (after_close t k e fs)
+ended : (n : Plan) (r : Stage) (s : Stack) (t : ℕ) (k : JobKind) (e : Ending) (fs above : List Place) (place : Place) → Run t k ∷ fs ≡ above ++ (place ∷ whole s) → Part n r place → CallStands n r s (after_close t k e fs)
 ended n r s t k e fs [] place z y = absurd (let a : Run t k ≡ place = cc in let b : Part n r (Run t k) = subst (λ v. Part n r v) (sym a) y in b)
 ended n r s t k e fs (a ∷ gs) place z y = closed n r s t k e fs gs place (let b : fs ≡ gs ++ (place ∷ whole s) = cc in b) y
 

@@ -28,7 +28,7 @@ use Rattle.rayon_machine_laws.proofs.Returns.{ReturnsHold}
 use Rattle.rayon_machine_laws.proofs.Filled.{FilledHold, takes_filled}
 use Rattle.rayon_machine_laws.proofs.CallPlaces.{Stage, Paid, is_undone, is_detach, Part, Ended, Returns, Known}
 use Rattle.rayon_machine_laws.proofs.CallActs.{Sofar, Went, call_goes, or_false}
-use Rattle.rayon_machine_laws.proofs.CallEvents.{whole, Stands, Stood, Turned, at_call_yes, at_call_no}
+use Rattle.rayon_machine_laws.proofs.CallEvents.{whole, CallStands, Stood, Turned, at_call_yes, at_call_no}
 use Rattle.rayon_machine_laws.proofs.CallSteps.{Carries, mover, turns, go_all, step_carries, known_on, ended_on, sofar_on}
 
 -- what holds of every world
@@ -40,7 +40,7 @@ pub record Ground (w : World) : Type 0 where
 -- the call goes on
 pub record Inside (u : World) (q : Party) (s : Stack) (n : Plan) (r : Bool) : Type 0 where
   pub stage : Stage
-  pub stands : Stands n stage s (u.stack q)
+  pub stands : CallStands n stage s (u.stack q)
   pub sofar : Sofar u stage n
   pub known : Known u n
   pub flag : is_undone stage ≡ r
@@ -100,7 +100,7 @@ landed w u q s n st b Back f z j h so k a = inr (record { back = z; ends = λ e.
 landed w u q s n st b (HandBack m) f z j h so k a = inr (record { back = z; ends = λ e. absurd (let c : is_undone h.stage ≡ true = ap is_undone ((h.leads).1) in let d : is_undone h.stage ≡ false = h.flag ∙ e in cc); paid = λ e d. absurd (let c : is_undone h.stage ≡ true = ap is_undone ((h.leads).1) in let d : is_undone h.stage ≡ false = h.flag ∙ e in cc); refused = λ e. subst (λ v. AllJobs (λ t. (u.job t).at ≡ HandedBack) v) ((h.leads).0) (subst (λ v. AllJobs (λ t. (v t).at ≡ HandedBack) m) (sym j) (handed_all f m)) })
 
 -- what goes on above the call's place
-climbs : (n : Plan) (st : Stage) (s : Stack) (g : Move) (gs : List Place) (p : Place) → Part n st p → Stands n st s (after_move g (gs ++ (p ∷ whole s)))
+climbs : (n : Plan) (st : Stage) (s : Stack) (g : Move) (gs : List Place) (p : Place) → Part n st p → CallStands n st s (after_move g (gs ++ (p ∷ whole s)))
 climbs n st s (Stay y) gs p h = record { above = y ∷ gs; place = p; is = refl; part = h }
 climbs n st s (Enter x y) gs p h = record { above = y ∷ (x ∷ gs); place = p; is = refl; part = h }
 climbs n st s (StartRun x t) gs p h = record { above = Run t Direct ∷ (x ∷ gs); place = p; is = refl; part = h }
@@ -121,7 +121,7 @@ keeps_known w u e made n k = known_on w u (let f : IfSome (Some u) (λ v. Carrie
 idle : (w u : World) (e : Event) (q : Party) (s : Stack) (n : Plan) (r : Bool) → Ground w → Inside w q s n r → u.stack q ≡ w.stack q → is_refusal q s w e ≡ false → Stays w e q s n r u
 idle w u e q s n r g i z c made h a = inl (record {
   stage = i.stage;
-  stands = subst (λ k. Stands n i.stage s k) (sym z) i.stands;
+  stands = subst (λ k. CallStands n i.stage s k) (sym z) i.stands;
   sofar = sofar_on w u e made (g.returns.shares) h.returns a n i.known i.stage i.sofar;
   known = keeps_known w u e made n i.known;
   flag = i.flag ∙ or_false r ∙ ap (λ v. r || v) (sym c);
@@ -134,7 +134,7 @@ turned w u e q s n r g i t made h a =
     let z : u.stack q ≡ t.to = t.stack q ∙ stack_mine w.stack q t.to in
     inl (record {
       stage = st.stage;
-      stands = subst (λ k. Stands n st.stage s k) (sym z) st.stands;
+      stands = subst (λ k. CallStands n st.stage s k) (sym z) st.stands;
       sofar = st.sofar (sofar_on w u e made (g.returns.shares) h.returns a n i.known i.stage i.sofar);
       known = keeps_known w u e made n i.known;
       flag = st.flag ∙ ap (λ v. v || is_refusal q s w e) i.flag;
@@ -163,7 +163,7 @@ inner_act w q s n r st x fs gs p z e g h so k fl v made d a =
     let refuses : is_refusal q s w (Go q) ≡ false = (let b : same_party q q ≡ true = same_party_refl q in let c : is_at_call s (w.stack q) ≡ false = at_call_no s (w.stack q) gs p (ap (λ y. y.below) z ∙ e) in rw b (rw c refl)) in
     inl (record {
       stage = st;
-      stands = subst (λ y. Stands n st s y) (sym (stack_mine w.stack q (after_move move fs) ∙ ap (λ y. after_move move y) e)) (climbs n st s move gs p h);
+      stands = subst (λ y. CallStands n st s y) (sym (stack_mine w.stack q (after_move move fs) ∙ ap (λ y. after_move move y) e)) (climbs n st s move gs p h);
       sofar = sofar_on w (world_after w q x fs v) (Go q) made (g.returns.shares) d.returns a n k st so;
       known = keeps_known w (world_after w q x fs v) (Go q) made n k;
       flag = fl ∙ or_false r ∙ ap (λ y. r || y) (sym refuses);

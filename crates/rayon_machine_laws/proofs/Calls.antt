@@ -38,7 +38,7 @@ use Rattle.rayon_machine_laws.proofs.Returns.{always_returns, returned_so}
 use Rattle.rayon_machine_laws.proofs.Filled.{always_filled, takes_filled}
 use Rattle.rayon_machine_laws.proofs.CallPlaces.{Stage, Going, is_undone, Part, PartOpen, PartOwed, plan_open, plan_here, is_detach, Ended, Known, open_job}
 use Rattle.rayon_machine_laws.proofs.CallActs.{or_false}
-use Rattle.rayon_machine_laws.proofs.CallEvents.{whole, Stands, at_call_no}
+use Rattle.rayon_machine_laws.proofs.CallEvents.{whole, CallStands, at_call_no}
 use Rattle.rayon_machine_laws.proofs.CallStretch.{Ground, Inside, Unrefused, Returned, After, Stays, step_stays}
 
 run_more : (w v u : World) (es : List Event) (e : Event) → IsRun w es v → step v e ≡ Some u → IsRun w (es ++ (e ∷ [])) u
@@ -228,7 +228,7 @@ taker (Worker i j) _ c e = absurd (cc)
 taker (Caller i) _ c e = absurd (cc)
 
 -- what stands on a stack is no longer it
-stands_apart : (n : Plan) (r : Stage) (s k : Stack) → Stands n r s k → k ≡ s → ⊥
+stands_apart : (n : Plan) (r : Stage) (s k : Stack) → CallStands n r s k → k ≡ s → ⊥
 stands_apart n r s k h e =
     let a : length (whole k) ≡ length (h.above ++ (h.place ∷ whole s)) = ap length h.is in
     let b : length (h.above ++ (h.place ∷ whole s)) ≡ length h.above + length (h.place ∷ whole s) = length-append h.above (h.place ∷ whole s) in

@@ -12,8 +12,8 @@ use std::thread::{JoinHandle, Threads};
 // How many turns a thread takes at most in one round: while calls overlap the pool cannot end, and they may always do.
 const TURNS: u64 = 30;
 
-// Installs a job and joins two, in turn, until the pool has ended, and answers how many runs its calls were answered of.
-// Each answer is the calls' own, or that the pool has ended, with the very jobs back.
+// Installs a job and joins two, in turn, until the pool has ended, and answers how many runs its calls were answered
+// of. Each answer is the calls' own, or that the pool has ended, with the very jobs back.
 fn call_until_ended<R: Wait + Abort>(
     rt: &R,
     alloc: Global,

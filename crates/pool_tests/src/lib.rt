@@ -1,9 +1,11 @@
 //! Tests of a running pool, by jobs whose tags, outputs and faults are words and not numbers alone.
 #![tactic(auto)]
 
+#[cfg(test)]
 mod deeds;
 #[cfg(test)]
 mod ending;
+#[cfg(test)]
 mod errand;
 #[cfg(test)]
 mod lent;
@@ -11,5 +13,3 @@ mod lent;
 mod tests;
 #[cfg(test)]
 mod told;
-
-pub use errand::{Answer, Deed, Errand, Marks, Name, Trouble, Words};

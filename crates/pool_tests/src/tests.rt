@@ -13,7 +13,7 @@ use std::test::Fail;
 use std::thread;
 use std::thread::Threads;
 
-// A pool whose worker value has so many levels.
+/// A pool whose worker value has so many levels.
 pub fn pool_of<R: Threads + Wait + Copy + Send + 'static>(
     rt: &R,
     alloc: Global,
@@ -25,7 +25,7 @@ pub fn pool_of<R: Threads + Wait + Copy + Send + 'static>(
         .build(rt, alloc, &Ids::new())
 }
 
-// What an install of a job that does this gave, and how many runs it began.
+/// What an install of a job that does this gave, and how many runs it began.
 pub fn installed<R: Wait + Abort>(
     rt: &R,
     alloc: Global,
@@ -38,7 +38,7 @@ pub fn installed<R: Wait + Abort>(
     (answer, marks.runs())
 }
 
-// What a join from outside of two jobs that end so gave, and how many runs it began.
+/// What a join from outside of two jobs that end so gave, and how many runs it began.
 pub fn joined<R: Wait + Abort>(
     rt: &R,
     alloc: Global,
@@ -258,8 +258,8 @@ fn references(rt: HostRuntime) -> Result<(), Fail> {
     Ok(())
 }
 
-// A worker's own deque gives the newest task first, the result of a task goes where the task says, and a task that is only
-// taken does not run.
+// A worker's own deque gives the newest task first, the result of a task goes where the task says, and a task that is
+// only taken does not run.
 #[test]
 fn own_deque(rt: HostRuntime) -> Result<(), Fail> {
     let alloc = rt.alloc();

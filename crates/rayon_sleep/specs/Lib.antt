@@ -1,0 +1,3 @@
+pub mod Berths
+pub mod Counters
+pub mod Stretches

@@ -10,8 +10,8 @@ use rayon_words::latch::LockLatch;
 use std::alloc::Global;
 use std::sync::{Arc, Mutex, Wait};
 
-/// Where the result of an installed job goes, and the latch on which its caller blocks. It is for the library's own use,
-/// and for a user who pushes a `Task` by hand.
+/// Where the result of an installed job goes, and the latch on which its caller blocks. It is for the library's own
+/// use, and for a user who pushes a `Task` by hand.
 #[derive(Drop)]
 pub struct Reply<J: JobKind> {
     latch: LockLatch,
@@ -41,8 +41,8 @@ impl<J: JobKind> Reply<J> {
     }
 }
 
-/// Where the results of a pair of sides go, and the latch on which its caller blocks. It is for the library's own use, and
-/// for a user who pushes a `Task` by hand.
+/// Where the results of a pair of sides go, and the latch on which its caller blocks. It is for the library's own use,
+/// and for a user who pushes a `Task` by hand.
 #[derive(Drop)]
 pub struct PairReply<J: JobKind> {
     latch: LockLatch,
@@ -79,8 +79,8 @@ impl<J: JobKind> PairReply<J> {
     }
 }
 
-/// A job that an outside caller sent to the pool, and for whose result it blocks. It is for the library's own use, and for
-/// a user who pushes a `Task` by hand.
+/// A job that an outside caller sent to the pool, and for whose result it blocks. It is for the library's own use, and
+/// for a user who pushes a `Task` by hand.
 #[derive(Drop)]
 pub struct Installed<J: JobKind> {
     /// The job.
@@ -89,8 +89,8 @@ pub struct Installed<J: JobKind> {
     pub reply: Arc<Reply<J>, Global>,
 }
 
-/// Two sides that an outside caller sent to the pool: the worker that takes them joins them. It is for the library's own
-/// use, and for a user who pushes a `Task` by hand.
+/// Two sides that an outside caller sent to the pool: the worker that takes them joins them. It is for the library's
+/// own use, and for a user who pushes a `Task` by hand.
 #[derive(Drop)]
 pub struct Pair<J: JobKind> {
     /// The first side.
@@ -120,7 +120,7 @@ pub enum Task<J: JobKind> {
     Job(Installed<J>),
     /// Two sides that were sent to the pool.
     Pair(Pair<J>),
-    /// The second side of a join. It is for the library's own use: joins make one, and a user meets it only inside a `Task`
-    /// that was taken from a deque.
+    /// The second side of a join. It is for the library's own use: joins make one, and a user meets it only inside a
+    /// `Task` that was taken from a deque.
     Second(SecondSide<J>),
 }

@@ -21,8 +21,8 @@ struct Frame<J: JobKind> {
 }
 
 /// What a second side is known by in its pool: the worker that forked it, and a number that the worker gives once. Its
-/// two shares, the join's own and the one that goes with the job, lead to the latch and the cell between them. It is for
-/// the library's own use: joins make one, and a user meets it only inside a `Task` that was taken from a deque.
+/// two shares, the join's own and the one that goes with the job, lead to the latch and the cell between them. It is
+/// for the library's own use: joins make one, and a user meets it only inside a `Task` that was taken from a deque.
 #[derive(Drop)]
 pub struct Ticket<J: JobKind> {
     frame: Arc<Frame<J>, Global>,
@@ -38,7 +38,8 @@ impl<J: JobKind> Model for Ticket<J> {
 }
 
 impl<J: JobKind> Ticket<J> {
-    /// The ticket of the `number`-th second side of this worker, with an unset latch and an empty cell. Refused `NoRoom`.
+    /// The ticket of the `number`-th second side of this worker, with an unset latch and an empty cell. Refused
+    /// `NoRoom`.
     pub fn new(alloc: Global, worker: usize, number: u64) -> Result<Ticket<J>, Refusal>
         ensures { IfOk result (λ t. (t.worker ≡ worker) × (t.number ≡ number)) }
     {

@@ -1,0 +1,11 @@
+//! The latch that a call waits on.
+use rayon_words::latch::{CoreLatch, LockLatch};
+
+/// What a call waits on.
+#[derive(Drop)]
+pub enum CallLatch {
+    /// Of a worker's call: it looks at the latch while it works, and may sleep on it.
+    Core(CoreLatch),
+    /// Of an outside caller's call: the caller blocks on it.
+    Lock(LockLatch),
+}

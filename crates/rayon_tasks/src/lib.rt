@@ -1,0 +1,15 @@
+//! What lies in the queues of a pool of many workers, and what a waiting call of it is known by: the names of jobs,
+//! tickets that only a call makes, and tasks that are opaque to who has no more than one. No pool uses them yet:
+//! today's has one worker, and queues the tasks of `rayon_jobs`.
+#![tactic(auto)]
+
+mod call_latch;
+mod names;
+mod task;
+mod ticket;
+mod work;
+
+pub use names::{Names, law_names};
+pub use task::{Task, task_of_job, task_of_pair, task_parts};
+pub use ticket::Ticket;
+pub use work::{Pair, Work};

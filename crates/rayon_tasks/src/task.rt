@@ -1,0 +1,111 @@
+//! What lies in the queues of a pool.
+ghost use Rattle.rayon_tasks.specs.Tasks.{OneJob, TwoSides};
+ghost use Rattle.rayon_tasks.specs.Works.{work_of};
+ghost use Rattle.std.specs.Prelude.{◌≡◌, true, IfOk, IfErr};
+
+use crate::ticket::Ticket;
+use crate::work::{Pair, Work};
+use rayon_jobs::JobKind;
+use rayon_machine_places::place::Party;
+use std::alloc::Global;
+use std::marker::Model;
+
+/// What a call queued: a second side, a job that was sent to the pool, or two sides that were sent to the pool.
+///
+/// Users of the pool see this type alone of the crate, and to them it is opaque. Tasks are made and taken apart by
+/// functions beside the type, not by its methods, so who has a task and not this crate can neither take its ticket out
+/// nor make a task with it: no task answers for a call but the one that the call queued.
+#[derive(Drop)]
+pub struct Task<J: JobKind> {
+    work: Work<J>,
+    injected: bool,
+    ticket: Ticket<J>,
+}
+
+impl<J: JobKind> Model for Task<J> {
+    ghost use Rattle.rayon_tasks.specs.Tasks.{TaskOf};
+    ghost use Rattle.rayon_tasks.specs.Works.{work_of};
+
+    ghost Value = { TaskOf J };
+
+    ghost view = { λ t. record { work = work_of t.work; injected = t.injected; ticket = t.ticket } };
+}
+
+impl<J: JobKind> Task<J> {
+    /// The name of the call's job.
+    pub fn number(&self) -> u64
+        ensures { result ≡ self.now.ticket.number }
+    {
+        self.ticket.number()
+    }
+
+    /// Who made the call.
+    pub fn owner(&self) -> Party
+        ensures { result ≡ self.now.ticket.owner }
+    {
+        self.ticket.owner()
+    }
+
+    /// Whether the call was made outside the pool.
+    pub fn injected(&self) -> bool
+        ensures { result ≡ self.now.injected }
+    {
+        self.injected
+    }
+}
+
+/// The task of one job, whose result goes to the cell of this ticket.
+pub fn task_of_job<J: JobKind>(job: J, injected: bool, ticket: Ticket<J>) -> Task<J>
+    ensures { result ≡ record { work = OneJob job; injected = injected; ticket = ticket } }
+{
+    let work = Work::Job(job);
+    Task {
+        work,
+        injected,
+        ticket,
+    }
+}
+
+/// The task of two sides that an outside caller joins: the first side's result goes to the cell of `first_result`, the
+/// second's to that of `ticket`. Where memory is refused it gives the sides back, and lets the tickets go.
+pub fn task_of_pair<J: JobKind>(
+    alloc: Global,
+    first: J,
+    second: J,
+    first_result: Ticket<J>,
+    ticket: Ticket<J>,
+) -> Result<Task<J>, (J, J)>
+    ensures made { IfOk result (λ t. t ≡ record { work = TwoSides first second first_result; injected = true; ticket = ticket }) }
+    ensures back { IfErr result (λ sides. sides ≡ (first, second)) }
+{
+    let pair = Pair {
+        first,
+        second,
+        first_result,
+    };
+    match Box::new(alloc, pair) {
+        Ok(pair) => Ok(Task {
+            work: Work::Pair(pair),
+            injected: true,
+            ticket,
+        }),
+        Err(refused) => {
+            let Pair { first, second, .. } = refused.value;
+            Err((first, second))
+        }
+    }
+}
+
+/// What there is to run, whether the call was made outside the pool, and the call's ticket.
+pub fn task_parts<J: JobKind>(task: Task<J>) -> (Work<J>, bool, Ticket<J>)
+    ensures work { work_of result.0 ≡ task.work }
+    ensures injected { result.1 ≡ task.injected }
+    ensures ticket { result.2 ≡ task.ticket }
+{
+    let Task {
+        work,
+        injected,
+        ticket,
+    } = task;
+    (work, injected, ticket)
+}

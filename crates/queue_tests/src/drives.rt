@@ -1,6 +1,6 @@
 //! Tests of `drive` with a performer that sees what a list says.
-use crate::drive::{Perform, drive};
-use crate::trace::Trace;
+use rayon_drive::drive::{Perform, drive};
+use rayon_drive::trace::Trace;
 use rayon_machine_places::act::{Act, Seen};
 use rayon_machine_places::place::{Move, Party, Place, Target};
 use rayon_machine_places::shape::{Order, PoolShape};

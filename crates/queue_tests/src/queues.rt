@@ -1,8 +1,8 @@
-//! Tests of the queues: that tasks move at all, in which order they come to thieves and takers, and that none is lost or doubled
-//! between threads. What each pass took, and the order of the owner's pops, stand in the contracts.
+//! Tests of the queues: that tasks move at all, in which order they come to thieves and takers, and that none is lost
+//! or doubled between threads. What each pass took, and the order of the owner's pops, stand in the contracts.
 ghost use Rattle.std.specs.Prelude.{◌<◌, length};
 
-use crate::{Injector, Stealers, WorkerDeque, XorShift64Star};
+use rayon_queues::{Injector, Stealers, WorkerDeque, XorShift64Star};
 use std::alloc::Global;
 use std::process::Abort;
 use std::sync::Wait;
@@ -113,7 +113,8 @@ impl Taker {
         Taker { first: true }
     }
 
-    // Marks what was taken, and after its first task waits for the other takers. False where nothing was taken after all had been pushed.
+    // Marks what was taken, and after its first task waits for the other takers. False where nothing was taken after
+    // all had been pushed.
     fn goes_on<R: Wait>(
         &mut self,
         rt: &R,
@@ -286,8 +287,8 @@ fn a_deque_gives_back_what_was_pushed(rt: HostRuntime) -> Result<(), Fail> {
     Ok(())
 }
 
-// A deque that could not grow hands the task back and adds nothing: what was taken in comes out, in its order, and no more. Run as it
-// is nothing is refused here; with each of the first allocations refused in turn, the growths are.
+// A deque that could not grow hands the task back and adds nothing: what was taken in comes out, in its order, and no
+// more. Run as it is nothing is refused here; with each of the first allocations refused in turn, the growths are.
 #[test]
 fn a_refused_push_adds_nothing(rt: HostRuntime) {
     for oldest_first in [false, true] {
@@ -426,7 +427,8 @@ fn numbers_of_the_generator(rt: HostRuntime) {
     );
 }
 
-// Worker i's seed is the pool's plus i, wrapping, so the seeds before 0 and 0 itself give what 1 gives at index 1 and 2.
+// Worker i's seed is the pool's plus i, wrapping, so the seeds before 0 and 0 itself give what 1 gives at index 1 and
+// 2.
 #[test]
 fn workers_have_seeds_of_their_own(rt: HostRuntime) {
     let of_one = first_numbers(XorShift64Star::new(1));

@@ -1,0 +1,5 @@
+pub mod Offers
+pub mod Stretches
+pub mod Tails
+pub mod Visits
+pub mod Waits

@@ -1,0 +1,106 @@
+-- A program that only wakes workers and sets latches ends in what follows.
+use Rattle.std.proofs.Common.{◌≡◌, ℕ, ◌+◌, Bool, true, false, nat_lt, ◌&&◌, if◌then◌else◌, refl, sym, subst, true≢false}
+use Rattle.rayon_machine_places.specs.declared.place.Party.{Party}
+use Rattle.rayon_machine_places.specs.declared.place.Party.TheVariants.{Worker}
+use Rattle.rayon_machine_places.specs.declared.place.Latch.{Latch}
+use Rattle.rayon_machine_places.specs.declared.place.Latch.TheVariants.{Terminate, OfCall}
+use Rattle.rayon_machine_places.specs.declared.place.Then.{Then}
+use Rattle.rayon_machine_places.specs.declared.place.Then.TheVariants.{Resume, RunFirst, Answers, Missing, Ran, GiveBack}
+use Rattle.rayon_machine_places.specs.declared.place.Settling.{Settling}
+use Rattle.rayon_machine_places.specs.declared.place.Place.{Place}
+use Rattle.rayon_machine_places.specs.declared.place.Place.TheVariants as at
+use Rattle.rayon_machine_places.specs.declared.place.Move.{Move}
+use Rattle.rayon_machine_places.specs.declared.place.Move.TheVariants.{Stay, Enter, StartRun, Back, HandBack}
+use Rattle.rayon_machine_places.specs.declared.act.Seen.{Seen}
+use Rattle.rayon_machine_places.specs.declared.act.Seen.TheVariants.{Yes}
+use Rattle.rayon_machine_places.specs.declared.shape.PoolShape.{PoolShape}
+use Rattle.rayon_machine_places.specs.Places.{next_of, finish, walk, settle, after_set, act_of}
+use Rattle.rayon_drive.specs.Paths.{goes, act_at, onward, Driven}
+use Rattle.rayon_drive.proofs.Paths.{driven_keeps}
+use Rattle.rayon_performers.specs.Hands.{Hands, Does, Same}
+use Rattle.rayon_performers.specs.Tails.{IsLast, TailAt, IsTail}
+
+last : (q : Party) (t : Then) → IsLast t → IsTail q t (finish q t)
+last q Resume l = refl
+last q (RunFirst o a) l = refl
+last q (Answers o f e) l = refl
+last q (Missing o f) l = refl
+last q (Ran n e) l = refl
+last q (GiveBack n) l = refl
+last q _ l = absurd l
+
+walk_tail : (h : PoolShape) (q : Party) (p k i : ℕ) (t : Then) → IsLast t → IsTail q t (walk h q p k i t)
+walk_tail h q p k i t l = by (nat_lt 0 k && nat_lt i h.workers)
+  where
+    by : (z : Bool) → IsTail q t (if z then Stay (at.LockToWake (record { pool = p; owed = k; worker = i; then = t })) else finish q t)
+    by true = refl
+    by false = last q t l
+
+settle_tail : (h : PoolShape) (q : Party) (p i : ℕ) (t : Then) → IsLast t → IsTail q t (settle h q p i t)
+settle_tail h q p i t l = by (nat_lt i h.workers)
+  where
+    by : (z : Bool) → IsTail q t (if z then Stay (at.SetLatch (record { latch = Terminate; pool = p; worker = i; then = t })) else finish q t)
+    by true = refl
+    by false = last q t l
+
+set_tail : (h : PoolShape) (q : Party) (s : Settling) (l : Latch) (t : Then) → s.then ≡ t → IsLast t → IsTail q t (after_set h q s l)
+set_tail h q s Terminate t e l = subst (λ (z : Then). IsTail q t (settle h q s.pool (s.worker + 1) z)) (sym e) (settle_tail h q s.pool (s.worker + 1) t l)
+set_tail h q s (OfCall c) t e l = subst (λ (z : Then). IsTail q t (finish q z)) (sym e) (last q t l)
+
+tail_on : (h : PoolShape) (q : Party) (t : Then) (y : Place) (x : Seen) → IsLast t → TailAt t y → IsTail q t (next_of h q y x)
+tail_on h q t (at.LockToWake k) _ l a = a
+tail_on h q t (at.WakeWorker k) Yes l a = a
+tail_on h q t (at.WakeWorker k) _ l a = a
+tail_on h q t (at.UnlockWoken k) _ l a = subst (λ (z : Then). IsTail q t (walk h q k.pool k.owed (k.worker + 1) z)) (sym a) (walk_tail h q k.pool k.owed (k.worker + 1) t l)
+tail_on h q t (at.SetLatch s) Yes l a = a
+tail_on h q t (at.SetLatch s) _ l a = set_tail h q s s.latch t a l
+tail_on h q t (at.LockToSettle s) _ l a = a
+tail_on h q t (at.WakeSettled s) _ l a = a
+tail_on h q t (at.UnlockSettled s) _ l a = set_tail h q s s.latch t a l
+tail_on h q t (at.SetLockLatch c) _ l a = subst (λ (z : Then). finish q z ≡ Back) (sym a) refl
+tail_on h q t _ _ l a = absurd a
+
+-- where it stops, what follows is reached
+stopped : (q : Party) (t : Then) (m : Move) → IsTail q t m → goes m ≡ false → finish q t ≡ m
+stopped q t (Stay (at.LockToWake k)) a g = absurd (true≢false g)
+stopped q t (Stay (at.WakeWorker k)) a g = absurd (true≢false g)
+stopped q t (Stay (at.UnlockWoken k)) a g = absurd (true≢false g)
+stopped q t (Stay (at.SetLatch s)) a g = absurd (true≢false g)
+stopped q t (Stay (at.LockToSettle s)) a g = absurd (true≢false g)
+stopped q t (Stay (at.WakeSettled s)) a g = absurd (true≢false g)
+stopped q t (Stay (at.UnlockSettled s)) a g = absurd (true≢false g)
+stopped q t (Stay (at.SetLockLatch c)) a g = absurd (true≢false g)
+stopped q t (Stay _) a g = absurd a
+stopped q t (Enter f p) a g = a
+stopped q t (StartRun f n) a g = a
+stopped q t Back a g = a
+stopped q t (HandBack n) a g = a
+
+module _ {X G O F : Type 0} where
+  same_as : (s u v : Hands X G O F) → Same s u → Same u v → Same s v
+  same_as s u v a b = subst (λ (z : Hands X G O F). v ≡ record z { trace = v.trace }) a b
+
+  -- the acts of such a program change nothing but the trace
+  tail_same : (p i : ℕ) (t : Then) (y : Place) (x : Seen) (u v : Hands X G O F) → TailAt t y → Does (act_of (Worker p i) y) x u v → Same u v
+  tail_same p i t (at.LockToWake k) x u v a d = d
+  tail_same p i t (at.WakeWorker k) x u v a d = d
+  tail_same p i t (at.UnlockWoken k) x u v a d = d
+  tail_same p i t (at.SetLatch s) x u v a d = d
+  tail_same p i t (at.LockToSettle s) x u v a d = d
+  tail_same p i t (at.WakeSettled s) x u v a d = d
+  tail_same p i t (at.UnlockSettled s) x u v a d = d
+  tail_same p i t (at.SetLockLatch c) x u v a d = d
+  tail_same p i t _ x u v a d = absurd a
+
+  -- what a drive through such places leaves: what follows is reached, and nothing but the trace is another
+  pub tail_ends : (h : PoolShape) (i : ℕ) (t : Then) (m : Move) (s u : Hands X G O F) (n : Move) → IsLast t → IsTail (Worker 0 i) t m → Driven (λ (a : Hands X G O F) x y b. Does x y a b) (λ (a : Hands X G O F). a.trace) h (Worker 0 i) m s u n → goes n ≡ false → (finish (Worker 0 i) t ≡ n) × Same s u
+  tail_ends h i t m s u n l a d g =
+      let end = driven_keeps (λ (a : Hands X G O F) x y b. Does x y a b) (λ (a : Hands X G O F). a.trace) (λ (v : Hands X G O F) k. IsTail (Worker 0 i) t k × Same s v) h (Worker 0 i) keeps m s u n (a, refl) d in
+      (stopped (Worker 0 i) t n end.0 g, end.1)
+    where
+      keeps : (v w : Hands X G O F) (k : Move) (x : Seen) → goes k ≡ true → IsTail (Worker 0 i) t k × Same s v → Does (act_at (Worker 0 i) k) x v w → IsTail (Worker 0 i) t (onward h (Worker 0 i) k x) × Same s w
+      keeps v w (Stay y) x go b e = (tail_on h (Worker 0 i) t y x l b.0, same_as s v w b.1 (tail_same 0 i t y x v w b.0 e))
+      keeps v w (Enter f y) x go b e = absurd (true≢false (sym go))
+      keeps v w (StartRun f y) x go b e = absurd (true≢false (sym go))
+      keeps v w Back x go b e = absurd (true≢false (sym go))
+      keeps v w (HandBack y) x go b e = absurd (true≢false (sym go))

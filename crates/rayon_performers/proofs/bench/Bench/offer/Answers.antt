@@ -1,0 +1,68 @@
+use Rattle.std.proofs.Common.{refl, ap, ◌∙◌}
+use Rattle.rayon_machine_places.specs.declared.place.Move.TheVariants.{Stay, StartRun, HandBack}
+use Rattle.rayon_machine_places.specs.declared.place.Place.TheVariants as at
+use Rattle.rayon_machine_places.specs.declared.act.Seen.TheVariants.{Done, Refused}
+use Rattle.rayon_machine_places.specs.Places.{undo}
+use Rattle.rayon_performers.specs.Calls.{own_call, own_join}
+use Rattle.rayon_performers.proofs.Offers.{join_grown, join_not_grown, join_looked, join_pushed, join_not_pushed}
+use Rattle.rayon_performers.proofs.Stretches.{so_far, by_act, and_then, of_worker}
+use Rattle.rayon_performers.proofs.bench.Bench.offer.Goals as goal
+
+pub returns-in-Err-clause-path : goal.returns-in-Err-clause-path
+returns-in-Err-clause-path g c =
+    let h = c.args.self.now.shape in
+    let i = c.args.self.now.index in
+    let n = c.args.name in
+    let first = Stay (at.RaiseCount (own_join n)) in
+    let s = c.args.self.now in
+    by_act h i first s first s c.raise.new.self Refused refl (so_far h i first s) c.in-Err.ensures.does c.in-Err.ensures.adds
+
+pub returns-in_default-grow-clause-path : goal.returns-in_default-grow-clause-path
+returns-in_default-grow-clause-path g c =
+    let h = c.args.self.now.shape in
+    let i = c.args.self.now.index in
+    let n = c.args.name in
+    let first = Stay (at.RaiseCount (own_join n)) in
+    let s = c.args.self.now in
+    let t = c.raise.new.self in
+    let raised = by_act h i first s first s t Done refl (so_far h i first s) c.in_default.ensures.does c.in_default.ensures.adds in
+    let u = c.grow.new.self in
+    and_then h i first s (Stay (undo (own_join n))) (HandBack (own_join n)) u c.lower_then.new.self
+    (join_not_grown h i n first s t u raised c.in_default-grow.ensures.same c.in_default-grow.ensures.grown)
+    (of_worker s u c.lower_then.new.self (Stay (undo (own_join n))) (HandBack (own_join n)) (ap (λ z. z.shape) c.in_default-grow.ensures.same ∙ ap (λ z. z.shape) c.in_default.ensures.does) (ap (λ z. z.index) c.in_default-grow.ensures.same ∙ ap (λ z. z.index) c.in_default.ensures.does) c.lower_then.ensures.path)
+
+pub returns-in-Err-push_own-clause-path : goal.returns-in-Err-push_own-clause-path
+returns-in-Err-push_own-clause-path g c =
+    let h = c.args.self.now.shape in
+    let i = c.args.self.now.index in
+    let n = c.args.name in
+    let first = Stay (at.RaiseCount (own_join n)) in
+    let s = c.args.self.now in
+    let t = c.raise.new.self in
+    let raised = by_act h i first s first s t Done refl (so_far h i first s) c.in_default.ensures.does c.in_default.ensures.adds in
+    let u = c.grow.new.self in
+    let v = c.look_own-was_empty.new.self in
+    let grown = join_grown h i n first s t u raised c.in-Some.ensures.same c.in-Some.ensures.grown.0 in
+    let looked = join_looked h i n first s u v c.look_own-was_empty.result grown c.look_own-was_empty.ensures.does c.look_own-was_empty.ensures.adds in
+    let w = c.push_own.new.self in
+    and_then h i first s (Stay (undo (own_join n))) (HandBack (own_join n)) w c.lower_then-in-Err-push_own.new.self
+    (join_not_pushed h i n first s v w c.look_own-was_empty.result looked (c.in-Err-push_own.ensures.same.0, c.in-Err-push_own.ensures.pushed.1, c.in-Err-push_own.ensures.same.1) c.in-Err-push_own.ensures.pushed.2)
+    (of_worker s w c.lower_then-in-Err-push_own.new.self (Stay (undo (own_join n))) (HandBack (own_join n)) (ap (λ z. z.shape) c.in-Err-push_own.ensures.same.1 ∙ ap (λ z. z.shape) c.look_own-was_empty.ensures.does.2 ∙ ap (λ z. z.shape) c.in-Some.ensures.same ∙ ap (λ z. z.shape) c.in_default.ensures.does) (ap (λ z. z.index) c.in-Err-push_own.ensures.same.1 ∙ ap (λ z. z.index) c.look_own-was_empty.ensures.does.2 ∙ ap (λ z. z.index) c.in-Some.ensures.same ∙ ap (λ z. z.index) c.in_default.ensures.does) c.lower_then-in-Err-push_own.ensures.path)
+
+pub returns-clause-path : goal.returns-clause-path
+returns-clause-path g c =
+    let h = c.args.self.now.shape in
+    let i = c.args.self.now.index in
+    let n = c.args.name in
+    let first = Stay (at.RaiseCount (own_join n)) in
+    let s = c.args.self.now in
+    let t = c.raise.new.self in
+    let raised = by_act h i first s first s t Done refl (so_far h i first s) c.in_default.ensures.does c.in_default.ensures.adds in
+    let u = c.grow.new.self in
+    let v = c.look_own-was_empty.new.self in
+    let grown = join_grown h i n first s t u raised c.in-Some.ensures.same c.in-Some.ensures.grown.0 in
+    let looked = join_looked h i n first s u v c.look_own-was_empty.result grown c.look_own-was_empty.ensures.does c.look_own-was_empty.ensures.adds in
+    let w = c.push_own.new.self in
+    and_then h i first s (Stay (at.TellNews (own_join n) c.look_own-was_empty.result)) (StartRun (at.FirstSide (own_call n) n) n) w c.tell_news.new.self
+    (join_pushed h i n first s v w c.look_own-was_empty.result looked (c.task_of_job.result, c.in_default-push_own.ensures.pushed.0, c.in_default-push_own.ensures.same.0, c.in_default-push_own.ensures.same.1) c.in_default-push_own.ensures.pushed.1)
+    (of_worker s w c.tell_news.new.self (Stay (at.TellNews (own_join n) c.look_own-was_empty.result)) (StartRun (at.FirstSide (own_call n) n) n) (ap (λ z. z.shape) c.in_default-push_own.ensures.same.1 ∙ ap (λ z. z.shape) c.look_own-was_empty.ensures.does.2 ∙ ap (λ z. z.shape) c.in-Some.ensures.same ∙ ap (λ z. z.shape) c.in_default.ensures.does) (ap (λ z. z.index) c.in_default-push_own.ensures.same.1 ∙ ap (λ z. z.index) c.look_own-was_empty.ensures.does.2 ∙ ap (λ z. z.index) c.in-Some.ensures.same ∙ ap (λ z. z.index) c.in_default.ensures.does) c.tell_news.ensures.path)

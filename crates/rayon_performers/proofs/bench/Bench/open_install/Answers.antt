@@ -1,0 +1,5 @@
+use Rattle.rayon_performers.proofs.Offers.{install_raised}
+use Rattle.rayon_performers.proofs.bench.Bench.open_install.Goals as goal
+
+pub returns-clause-path : goal.returns-clause-path
+returns-clause-path g c = install_raised c.args.self.now.shape c.args.self.now.index c.args.name c.args.self.now c.raise.new.self c.raise.result c.raise.ensures.does c.raise.ensures.adds

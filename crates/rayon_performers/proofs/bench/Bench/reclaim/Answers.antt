@@ -1,0 +1,42 @@
+use Rattle.std.proofs.Common.{false, true, refl, subst}
+use Rattle.rayon_machine_places.specs.declared.place.Move.TheVariants.{Stay}
+use Rattle.rayon_machine_places.specs.declared.place.Party.TheVariants.{Worker}
+use Rattle.rayon_machine_places.specs.declared.place.Place.TheVariants as at
+use Rattle.rayon_machine_places.specs.declared.act.Seen.TheVariants.{Yes}
+use Rattle.rayon_machine_places.specs.Places.{next_of}
+use Rattle.rayon_performers.proofs.Offers.{join_probed, join_popped, own_popped}
+use Rattle.rayon_performers.proofs.Stretches.{So, and_then}
+use Rattle.rayon_performers.proofs.bench.Bench.reclaim.Goals as goal
+
+pub returns-then-probe-clause-path : goal.returns-then-probe-clause-path
+returns-then-probe-clause-path g c =
+    let h = c.args.self.now.shape in
+    let i = c.args.self.now.index in
+    let o = c.args.call in
+    let s = c.args.self.now in
+    and_then h i (Stay (at.JoinProbe o)) s (next_of h (Worker 0 i) (at.JoinProbe o) Yes) c.go_on_from.result c.probe.new.self c.go_on_from.new.self
+    (join_probed h i o s c.probe.new.self c.probe.new.self true c.if-probe.ensures.does c.if-probe.ensures.adds)
+    (subst (λ v. So v.shape v.index (next_of v.shape (Worker 0 v.index) (at.JoinProbe o) Yes) c.probe.new.self c.go_on_from.result c.go_on_from.new.self) c.self.view_is c.go_on_from.ensures.path)
+
+pub returns-then-is_task-clause-path : goal.returns-then-is_task-clause-path
+returns-then-is_task-clause-path g c =
+    let h = c.args.self.now.shape in
+    let i = c.args.self.now.index in
+    let o = c.args.call in
+    let s = c.args.self.now in
+    own_popped h i o s c.probe.new.self c.pop_own-popped.new.self c.pop_own-popped.result (c.if-is_task.ensures refl)
+    (join_popped h i o s c.probe.new.self c.pop_own-popped.new.self c.pop_own-popped.result
+    (join_probed h i o s c.probe.new.self c.probe.new.self false c.if-probe.ensures.does c.if-probe.ensures.adds)
+    c.pop_own-popped.ensures.does c.pop_own-popped.ensures.adds)
+
+pub returns-clause-path : goal.returns-clause-path
+returns-clause-path g c =
+    let h = c.args.self.now.shape in
+    let i = c.args.self.now.index in
+    let o = c.args.call in
+    let s = c.args.self.now in
+    and_then h i (Stay (at.JoinProbe o)) s (next_of h (Worker 0 i) (at.JoinPop o) c.pop_own-popped.result) c.go_on_from-2.result c.pop_own-popped.new.self c.go_on_from-2.new.self
+    (join_popped h i o s c.probe.new.self c.pop_own-popped.new.self c.pop_own-popped.result
+    (join_probed h i o s c.probe.new.self c.probe.new.self false c.if-probe.ensures.does c.if-probe.ensures.adds)
+    c.pop_own-popped.ensures.does c.pop_own-popped.ensures.adds)
+    (subst (λ v. So v.shape v.index (next_of v.shape (Worker 0 v.index) (at.JoinPop o) c.pop_own-popped.result) c.pop_own-popped.new.self c.go_on_from-2.result c.go_on_from-2.new.self) c.self.view_is c.go_on_from-2.ensures.path)

@@ -1,0 +1,31 @@
+use Rattle.std.proofs.Common.{subst}
+use Rattle.rayon_machine_places.specs.declared.place.Move.{Move}
+use Rattle.rayon_machine_places.specs.declared.place.Move.TheVariants.{Stay, StartRun}
+use Rattle.rayon_machine_places.specs.declared.place.Party.TheVariants.{Worker}
+use Rattle.rayon_machine_places.specs.declared.place.Place.TheVariants as at
+use Rattle.rayon_machine_places.specs.declared.place.Then.TheVariants.{RunFirst}
+use Rattle.rayon_machine_places.specs.Places.{walk}
+use Rattle.rayon_performers.specs.Calls.{own_call, own_join}
+use Rattle.rayon_performers.proofs.Offers.{told, no_walk}
+use Rattle.rayon_performers.proofs.Stretches.{So, and_then}
+use Rattle.rayon_performers.proofs.bench.Bench.tell_news.Goals as goal
+
+pub returns-then-owed-gt0-clause-path : goal.returns-then-owed-gt0-clause-path
+returns-then-owed-gt0-clause-path g c =
+    let h = c.args.self.now.shape in
+    let i = c.args.self.now.index in
+    let n = c.args.name in
+    let first = Stay (at.TellNews (own_join n) c.args.was_empty) in
+    let s = c.args.self.now in
+    and_then h i first s (walk h (Worker 0 i) 0 c.news-owed.result 0 (RunFirst (own_call n) n)) (StartRun (at.FirstSide (own_call n) n) n) c.news-owed.new.self c.finish_from.new.self
+    (told h i n s c.news-owed.new.self c.args.was_empty c.news-owed.result c.news-owed.ensures.same c.news-owed.ensures.adds)
+    (subst (λ v. So v.shape v.index (walk v.shape (Worker 0 v.index) 0 c.news-owed.result 0 (RunFirst (own_call n) n)) c.news-owed.new.self (StartRun (at.FirstSide (own_call n) n) n) c.finish_from.new.self) c.self.view_is c.finish_from.ensures.path)
+
+pub returns-else-owed-gt0-clause-path : goal.returns-else-owed-gt0-clause-path
+returns-else-owed-gt0-clause-path g c =
+    let h = c.args.self.now.shape in
+    let i = c.args.self.now.index in
+    let n = c.args.name in
+    subst (λ (m : Move). So h i (Stay (at.TellNews (own_join n) c.args.was_empty)) c.args.self.now m c.news-owed.new.self)
+    (no_walk h (Worker 0 i) 0 c.news-owed.result 0 (RunFirst (own_call n) n) c.if-owed-gt0.false)
+    (told h i n c.args.self.now c.news-owed.new.self c.args.was_empty c.news-owed.result c.news-owed.ensures.same c.news-owed.ensures.adds)

@@ -1,0 +1,14 @@
+use Rattle.std.proofs.Common.{subst}
+use Rattle.rayon_machine_places.specs.declared.place.Move.TheVariants.{Stay}
+use Rattle.rayon_machine_places.specs.declared.place.Place.TheVariants as at
+use Rattle.rayon_performers.proofs.Stretches.{So}
+use Rattle.rayon_performers.proofs.Waits.{wait_ends}
+use Rattle.rayon_performers.proofs.bench.Bench.wait.Goals as goal
+
+pub returns-clause-ends : goal.returns-clause-ends
+returns-clause-ends g c =
+    let h = c.args.self.now.shape in
+    let i = c.args.self.now.index in
+    wait_ends h i c.args.target c.args.self.now c.drive.new.self c.drive.result
+    (subst (λ w. So h i (Stay (at.ProbeWorking w)) c.args.self.now c.drive.result c.drive.new.self) c.wait.ensures c.drive.ensures.path)
+    c.drive.ensures.stops

@@ -1,0 +1,9 @@
+pub mod Calls
+pub mod Hands
+pub mod Keeps
+pub mod Pools
+pub mod Stands
+pub mod Tails
+pub mod Visiting
+pub mod Visits
+pub mod Waits

@@ -1,0 +1,186 @@
+-- What a worker has at hand at each place of the table to which a drive leads it.
+use Rattle.std.specs.Prelude.{◌≡◌, ℕ, Bool, true, false, Option, None, Some}
+use Rattle.rayon_machine_places.specs.declared.place.Party.{Party}
+use Rattle.rayon_machine_places.specs.declared.place.Party.TheVariants.{Worker, Caller}
+use Rattle.rayon_machine_places.specs.declared.place.Ending.{Ending}
+use Rattle.rayon_machine_places.specs.declared.place.Target.{Target}
+use Rattle.rayon_machine_places.specs.declared.place.Target.TheVariants.{Termination, Answer}
+use Rattle.rayon_machine_places.specs.declared.place.Then.{Then}
+use Rattle.rayon_machine_places.specs.declared.place.Then.TheVariants.{BeginFound, LeaveWait, Await}
+use Rattle.rayon_machine_places.specs.declared.place.Place.{Place}
+use Rattle.rayon_machine_places.specs.declared.place.Place.TheVariants as at
+use Rattle.rayon_machine_places.specs.declared.place.Move.{Move}
+use Rattle.rayon_machine_places.specs.declared.place.Move.TheVariants.{Stay, Enter, StartRun, Back, HandBack}
+use Rattle.rayon_performers.specs.Hands.{Hands, HasTask, HasTicket, HasResult, call_latch}
+
+-- the call that a wait waits for
+abbrev pub call_to : Target → Option ℕ
+call_to Termination = None
+call_to (Answer o f) = Some o.number
+
+-- the task that was taken and is begun once others are woken
+abbrev pub task_then : Then → Option ℕ
+task_then (BeginFound g t) = Some t
+task_then _ = None
+
+-- the call that goes on once others are woken
+abbrev pub call_then : Then → Option ℕ
+call_then (BeginFound g t) = call_to g
+call_then (LeaveWait g) = call_to g
+call_then (Await o) = Some o.number
+call_then _ = None
+
+-- whether the wait is left since its latch was seen set
+abbrev pub leaves : Then → Bool
+leaves (LeaveWait g) = true
+leaves _ = false
+
+-- the name of the task that was taken and is not begun
+abbrev pub task_at : Place → Option ℕ
+task_at (at.LeaveSearch w) = w.found
+task_at (at.BeginTask t) = Some t
+task_at (at.BeginHere t) = Some t
+task_at (at.Run t k) = Some t
+task_at (at.LockToWake k) = task_then k.then
+task_at (at.WakeWorker k) = task_then k.then
+task_at (at.UnlockWoken k) = task_then k.then
+task_at (at.LowerCount p s t) = task_then t
+task_at (at.SetLatch s) = task_then s.then
+task_at (at.LockToSettle s) = task_then s.then
+task_at (at.WakeSettled s) = task_then s.then
+task_at (at.UnlockSettled s) = task_then s.then
+task_at _ = None
+
+-- the call whose ticket is in hand
+abbrev pub call_at : Place → Option ℕ
+call_at (at.ProbeWorking w) = call_to w.target
+call_at (at.PopWorking w) = call_to w.target
+call_at (at.TakeCastWorking w) = call_to w.target
+call_at (at.BecomeInactive w) = call_to w.target
+call_at (at.ProbeIdle w) = call_to w.target
+call_at (at.PopIdle w) = call_to w.target
+call_at (at.TakeCastIdle w) = call_to w.target
+call_at (at.PickVictim w) = call_to w.target
+call_at (at.StealFrom w n) = call_to w.target
+call_at (at.PopInjected w) = call_to w.target
+call_at (at.AnnounceSelf w) = call_to w.target
+call_at (at.GetSleepy w) = call_to w.target
+call_at (at.LockOwn w) = call_to w.target
+call_at (at.FallAsleep w) = call_to w.target
+call_at (at.LoadCounters w) = call_to w.target
+call_at (at.AddSleeping w) = call_to w.target
+call_at (at.LookAtCast w) = call_to w.target
+call_at (at.LookAtInjector w) = call_to w.target
+call_at (at.BlockSelf w) = call_to w.target
+call_at (at.RelockOwn w) = call_to w.target
+call_at (at.UndoSleeping w) = call_to w.target
+call_at (at.WakeUp w) = call_to w.target
+call_at (at.UnlockOwn w) = call_to w.target
+call_at (at.LeaveSearch w) = call_to w.target
+call_at (at.JoinProbe o) = Some o.number
+call_at (at.JoinPop o) = Some o.number
+call_at (at.JoinTakeCast o) = Some o.number
+call_at (at.LockToWake k) = call_then k.then
+call_at (at.WakeWorker k) = call_then k.then
+call_at (at.UnlockWoken k) = call_then k.then
+call_at (at.TakeResult o f) = Some o.number
+call_at (at.LowerCount p s t) = call_then t
+call_at (at.SetLatch s) = call_then s.then
+call_at (at.LockToSettle s) = call_then s.then
+call_at (at.WakeSettled s) = call_then s.then
+call_at (at.UnlockSettled s) = call_then s.then
+call_at (at.FirstSide o a) = Some o.number
+call_at (at.SecondSide o) = Some o.number
+call_at _ = None
+
+-- the call whose job's end is told
+abbrev pub reply_at : Place → Option ℕ
+reply_at (at.StoreResult c o e) = Some c
+reply_at (at.SetLatch s) = call_latch s.latch
+reply_at (at.SetLockLatch c) = Some c
+reply_at _ = None
+
+-- how the run ended whose result is to be stored
+abbrev pub done_at : Place → Option Ending
+done_at (at.StoreResult c o e) = Some e
+done_at _ = None
+
+-- whether the latch that was looked at last was set
+abbrev pub probed_at : Place → Bool
+probed_at (at.LeaveSearch w) = elim w.found [ None ↦ true | Some t ↦ false ]
+probed_at (at.LockToWake k) = leaves k.then
+probed_at (at.WakeWorker k) = leaves k.then
+probed_at (at.UnlockWoken k) = leaves k.then
+probed_at (at.LowerCount p s t) = leaves t
+probed_at (at.SetLatch s) = leaves s.then
+probed_at (at.LockToSettle s) = leaves s.then
+probed_at (at.WakeSettled s) = leaves s.then
+probed_at (at.UnlockSettled s) = leaves s.then
+probed_at (at.TakeResult o f) = true
+probed_at at.Stopped = true
+probed_at _ = false
+
+-- a place of a call before its wait. What it queues is its own affair: no drive stands there
+abbrev pub IsDriven : Place → Type 0
+IsDriven (at.RaiseCount n) = ⊥
+IsDriven (at.GrowCall n) = ⊥
+IsDriven (at.LookQueue n) = ⊥
+IsDriven (at.PushJob n e) = ⊥
+IsDriven (at.TellNews n e) = ⊥
+IsDriven (at.WaitForLock o) = ⊥
+IsDriven _ = Unit {0}
+
+-- the task that begins above a frame
+abbrev pub task_begun : Place → Option ℕ
+task_begun (at.BeginTask t) = Some t
+task_begun (at.BeginHere t) = Some t
+task_begun _ = None
+
+-- a task begins
+abbrev pub IsBegun : Place → Type 0
+IsBegun (at.BeginTask t) = Unit {0}
+IsBegun (at.BeginHere t) = Unit {0}
+IsBegun _ = ⊥
+
+-- a frame above which a task that was taken may begin
+abbrev pub BeginsAbove : Place → Place → Type 0
+BeginsAbove (at.ProbeWorking w) p = IsBegun p
+BeginsAbove (at.JoinProbe o) p = IsBegun p
+BeginsAbove (at.SecondSide o) p = IsBegun p
+BeginsAbove _ p = ⊥
+
+-- a place that waits below a run
+abbrev pub IsFrame : Place → Type 0
+IsFrame (at.ProbeWorking w) = Unit {0}
+IsFrame (at.JoinProbe o) = Unit {0}
+IsFrame (at.FirstSide o a) = Unit {0}
+IsFrame (at.SecondSide o) = Unit {0}
+IsFrame (at.AtOnce p t) = Unit {0}
+IsFrame _ = ⊥
+
+-- only a worker stands in waits, joins and yields
+abbrev pub IsWorker : Party → Type 0
+IsWorker (Worker p i) = Unit {0}
+IsWorker (Caller c) = ⊥
+
+-- if so, then it holds
+abbrev pub If : Bool → Type 0 → Type 0
+If true P = P
+If false P = Unit {0}
+
+module _ {X G O F : Type 0} where
+  -- what is in hand at a place
+  pub record StandsAt (s : Hands X G O F) (tasked called replied : Option ℕ) (result : Option Ending) (seen : Bool) : Type 0 where
+    pub task : HasTask s.task tasked
+    pub call : HasTicket s.call called
+    pub reply : HasTicket s.reply replied
+    pub done : HasResult s.done result
+    pub probed : If seen (s.probed ≡ true)
+
+  -- what is in hand where a program has moved so
+  abbrev pub Stands : Hands X G O F → Move → Type 0
+  Stands s (Stay p) = StandsAt s (task_at p) (call_at p) (reply_at p) (done_at p) (probed_at p) × IsDriven p
+  Stands s (Enter f p) = StandsAt s (task_begun p) (call_at f) None None false × BeginsAbove f p
+  Stands s (StartRun f t) = StandsAt s None None None None false × IsFrame f
+  Stands s Back = Unit {0}
+  Stands s (HandBack n) = Unit {0}

@@ -1,0 +1,147 @@
+//! What a worker performs its acts with.
+ghost use Rattle.std.specs.Prelude.{◌≡◌, [], None, Some};
+ghost use Rattle.std.specs.Arc.{arc_value};
+ghost use Rattle.rayon_drive.specs.declared.trace.Log.TheVariants.{Empty};
+ghost use Rattle.rayon_performers.specs.Hands.{Hands};
+ghost use Rattle.rayon_queues.specs.Deques.{visitor};
+
+use crate::registry::Registry;
+use rayon_drive::trace::Trace;
+use rayon_jobs::{Done, JobKind};
+use rayon_machine_places::shape::PoolShape;
+use rayon_queues::{InjectorPass, StealPass, WorkerDeque, XorShift64Star};
+use rayon_tasks::{Task, Ticket};
+use std::alloc::Global;
+use std::marker::Model;
+use std::sync::Arc;
+
+/// What a worker performs its acts with: its own deque and its passes of the other queues, and what the program at hand
+/// has. Each act of it adds one entry to its trace, and nothing else does.
+#[derive(Drop)]
+pub struct Bench<J: JobKind> {
+    pub(crate) registry: Arc<Registry<J>, Global>,
+    pub(crate) shape: PoolShape,
+    pub(crate) index: usize,
+    pub(crate) random: XorShift64Star,
+    pub(crate) own: WorkerDeque<Task<J>>,
+    pub(crate) inlet: InjectorPass<Task<J>>,
+    pub(crate) thief: Option<StealPass<Task<J>>>,
+    pub(crate) task: Option<Task<J>>,
+    pub(crate) call: Option<Ticket<J>>,
+    pub(crate) reply: Option<Ticket<J>>,
+    pub(crate) done: Option<Done<J>>,
+    // of two sides, the first side's result, and the ticket to whose cell it goes
+    pub(crate) first: Option<(Ticket<J>, Done<J>)>,
+    pub(crate) probed: bool,
+    pub(crate) holds: u64,
+    pub(crate) trace: Trace,
+}
+
+impl<J: JobKind> Model for Bench<J> {
+    ghost use Rattle.std.specs.Arc.{arc_value};
+    ghost use Rattle.std.specs.Prelude.{◌≡◌};
+    ghost use Rattle.std.specs.Coded.{codes};
+    ghost use Rattle.rayon_drive.specs.contracts.trace.Log as logs;
+    ghost use Rattle.rayon_performers.specs.Hands.{Hands};
+
+    ghost Value = { Hands J J.Tag J.Output J.Fault };
+
+    ghost coded = { Prim.hlevel (codes, logs.the_row.coded) };
+
+    ghost view = { λ b. record {
+      index = b.index;
+      shape = b.shape;
+      deques = (arc_value b.registry).deques;
+      own = b.own;
+      inlet = b.inlet;
+      thief = b.thief;
+      task = b.task;
+      call = b.call;
+      reply = b.reply;
+      done = b.done;
+      probed = b.probed;
+      holds = b.holds;
+      trace = b.trace;
+    } };
+
+    ghost invariant = { λ b. b.inlet.injector ≡ (arc_value b.registry).injector };
+}
+
+impl<J: JobKind> Bench<J> {
+    /// What the worker of this index begins with: nothing at hand, and nothing done. It is made where the worker's thread
+    /// runs, of a share of what the threads have in common.
+    pub fn new(
+        registry: Arc<Registry<J>, Global>,
+        index: usize,
+        own: WorkerDeque<Task<J>>,
+    ) -> Bench<J>
+        ensures index { result.index ≡ index }
+        ensures pool { (result.deques ≡ (arc_value registry).deques) × (result.shape.workers ≡ (arc_value registry).workers) }
+        ensures passes { (result.own ≡ own) × (result.inlet ≡ visitor (arc_value registry).injector [] []) }
+        ensures empty { (result.task ≡ None) × (result.holds ≡ 0) × (result.trace ≡ Empty) }
+    {
+        let inlet = registry.injector().pass();
+        Bench {
+            shape: registry.shape(),
+            index,
+            random: XorShift64Star::of_worker(registry.steal_seed(), index),
+            own,
+            inlet,
+            thief: None,
+            task: None,
+            call: None,
+            reply: None,
+            done: None,
+            first: None,
+            probed: false,
+            holds: 0,
+            trace: Trace::new(),
+            registry,
+        }
+    }
+
+    /// The ticket of the call that is waited for next.
+    pub fn set_call(&mut self, call: Option<Ticket<J>>)
+        ensures { self.new ≡ record self.old { call = call } }
+    {
+        self.call = call;
+    }
+
+    /// Takes the ticket of the call out.
+    pub fn take_call(&mut self) -> Option<Ticket<J>>
+        ensures given { result ≡ self.old.call }
+        ensures left { self.new ≡ record self.old { call = None } }
+    {
+        self.call.take()
+    }
+
+    /// The result of a run that has ended, of two sides the first one's too, and the ticket of the call to answer.
+    pub fn set_reply(
+        &mut self,
+        ticket: Ticket<J>,
+        done: Done<J>,
+        first: Option<(Ticket<J>, Done<J>)>,
+    )
+        ensures { self.new ≡ record self.old { reply = Some ticket; done = Some done } }
+    {
+        self.reply = Some(ticket);
+        self.done = Some(done);
+        self.first = first;
+    }
+
+    /// Takes the task that was taken and begun.
+    pub fn take_task(&mut self) -> Option<Task<J>>
+        ensures given { result ≡ self.old.task }
+        ensures left { self.new ≡ record self.old { task = None } }
+    {
+        self.task.take()
+    }
+
+    /// Takes the result that was found.
+    pub fn take_done(&mut self) -> Option<Done<J>>
+        ensures given { result ≡ self.old.done }
+        ensures left { self.new ≡ record self.old { done = None } }
+    {
+        self.done.take()
+    }
+}

@@ -1,0 +1,14 @@
+//! Who performs the machine's acts in a running pool: its workers, and the callers outside it.
+#![tactic(auto)]
+
+mod acts;
+mod bench;
+mod guest;
+mod registry;
+mod stretch;
+mod terminate;
+
+pub use bench::Bench;
+pub use guest::Guest;
+pub use registry::Registry;
+pub use terminate::{PoolHold, TerminateCount};

@@ -1,0 +1,190 @@
+//! What the threads of a pool share.
+ghost use Rattle.std.specs.Prelude.{◌≡◌, ◌⊎◌, ◌<◌, ℕ, ◌+◌, max, length, IfOk, IfErr};
+
+use crate::terminate::{PoolHold, TerminateCount};
+use crossbeam_utils::CachePadded;
+use rayon_jobs::JobKind;
+use rayon_machine_places::shape::{Order, PoolShape};
+use rayon_queues::{Injector, Stealers, WorkerDeque};
+use rayon_sleep::latch::Owner;
+use rayon_sleep::sleep::Sleep;
+use rayon_tasks::{Names, Task};
+use rayon_words::Refusal;
+use rayon_words::latch::{CoreLatch, LatchRef};
+use std::alloc::{AllocError, Global};
+use std::marker::Model;
+use std::sync::{Arc, Mutex, Wait};
+
+// How many searches of an idle worker fail before it announces itself, less one.
+const ROUNDS_UNTIL_SLEEPY: u64 = 32;
+
+/// What the threads of a pool share. Contracts see how many workers it has, the levels of a worker value that no run was
+/// lent yet, and which deques and which injector are its own.
+#[derive(Drop)]
+pub struct Registry<J: JobKind> {
+    depth_limit: usize,
+    num_threads: usize,
+    steal_seed: u64,
+    sleep: Arc<Sleep, Global>,
+    injector: Injector<Task<J>>,
+    stealers: Stealers<Task<J>>,
+    terminate_count: CachePadded<Mutex<TerminateCount>>,
+    terminate: Vec<CachePadded<CoreLatch>>,
+    caller_names: Mutex<Names>,
+}
+
+impl<J: JobKind> Model for Registry<J> {
+    ghost use Rattle.rayon_performers.specs.Pools.{Shared};
+    ghost use Rattle.std.specs.Prelude.{◌≡◌, ◌<◌, length};
+
+    ghost Value = { Shared };
+
+    ghost view = { λ r. record { workers = r.num_threads; depth_limit = r.depth_limit; deques = r.stealers; injector = r.injector } };
+
+    ghost invariant = { λ r. (length r.stealers ≡ r.num_threads) × (r.num_threads < 65536) };
+}
+
+impl<J: JobKind> Registry<J> {
+    /// The shared part of a pool of so many workers, the workers' own deques by index, and the unit of the terminate count
+    /// that the pool's value holds. A `depth_limit` of 0 counts as 1. Refused `NoRoom`.
+    pub fn new(
+        alloc: Global,
+        num_threads: usize,
+        depth_limit: usize,
+        steal_seed: u64,
+    ) -> Result<(Registry<J>, Vec<WorkerDeque<Task<J>>>, PoolHold), Refusal>
+        requires { (0 < num_threads) × (num_threads < 65536) }
+        ensures workers { IfOk result (λ r. r.0.workers ≡ num_threads) }
+        ensures depth { IfOk result (λ r. r.0.depth_limit ≡ max 1 depth_limit) }
+        ensures refused { IfErr result (λ r. r ≡ Refusal.NoRoom) }
+    {
+        let Ok(sleep) = Sleep::new(alloc, num_threads) else {
+            return Err(Refusal::NoRoom);
+        };
+        let (Ok(sleep), Ok(injector)) = (Arc::new(alloc, sleep), Injector::new(alloc)) else {
+            return Err(Refusal::NoRoom);
+        };
+        let mut deques = Vec::new(alloc);
+        let mut stealers = Stealers::new(alloc);
+        let mut terminate = Vec::new(alloc);
+        for _ in 0..num_threads {
+            let Ok(deque) = new_deque(alloc, &mut stealers) else {
+                return Err(Refusal::NoRoom);
+            };
+            if deques.push(deque).is_err() {
+                return Err(Refusal::NoRoom);
+            }
+            if terminate.push(CachePadded::new(CoreLatch::new())).is_err() {
+                return Err(Refusal::NoRoom);
+            }
+        }
+        let registry = Registry {
+            depth_limit: depth_limit.max(1),
+            num_threads,
+            steal_seed,
+            sleep,
+            injector,
+            stealers,
+            terminate_count: CachePadded::new(Mutex::new(TerminateCount::new())),
+            terminate,
+            caller_names: Mutex::new(Names::new(num_threads, num_threads + 1)),
+        };
+        Ok((registry, deques, PoolHold::new()))
+    }
+
+    /// How many workers the pool has.
+    pub fn num_threads(&self) -> usize
+        ensures { result ≡ self.now.workers }
+    {
+        self.num_threads
+    }
+
+    /// The levels of a worker value that no run was lent yet.
+    pub fn depth_limit(&self) -> usize
+        ensures { result ≡ self.now.depth_limit }
+    {
+        self.depth_limit
+    }
+
+    /// What is added to each worker's index for the seed of its choice of victims.
+    pub fn steal_seed(&self) -> u64 {
+        self.steal_seed
+    }
+
+    /// What the table of places asks of the pool.
+    pub fn shape(&self) -> PoolShape
+        ensures { result.workers ≡ self.now.workers }
+    {
+        PoolShape {
+            workers: self.num_threads,
+            limit: ROUNDS_UNTIL_SLEEPY,
+            order: Order::NewestFirst,
+            callers_own: false,
+        }
+    }
+
+    /// Where the pool's workers sleep.
+    pub(crate) fn sleep(&self) -> &Sleep {
+        &self.sleep
+    }
+
+    /// What stands for a worker where a latch is set that the worker may sleep on. Refused `NoRoom`.
+    pub fn owner(&self, worker: usize) -> Result<Owner, Refusal>
+        ensures { IfOk result (λ o. o ≡ worker) }
+    {
+        match Arc::try_clone(&self.sleep) {
+            Ok(sleep) => Ok(Owner::new(sleep, worker)),
+            Err(_) => Err(Refusal::NoRoom),
+        }
+    }
+
+    /// The injector.
+    pub(crate) fn injector(&self) -> &Injector<Task<J>>
+        ensures { result.now ≡ self.now.injector }
+    {
+        &self.injector
+    }
+
+    /// The stealers of the workers' deques.
+    pub(crate) fn stealers(&self) -> &Stealers<Task<J>>
+        ensures same { result.now ≡ self.now.deques }
+        ensures length { length result.now ≡ self.now.workers }
+    {
+        &self.stealers
+    }
+
+    /// A worker's terminate latch, if the pool has that worker.
+    pub(crate) fn terminate(&self, worker: usize) -> Option<LatchRef<'_, CoreLatch>> {
+        let latch: &CoreLatch = self.terminate.get(worker)?;
+        Some(latch)
+    }
+
+    /// Takes a unit of the terminate count. Refused `Ended`, `Full`.
+    pub(crate) fn increment_terminate_count<R: Wait>(&self, rt: &R) -> Result<(), Refusal>
+        ensures { IfErr result (λ r. (r ≡ Refusal.Ended) ⊎ (r ≡ Refusal.Full)) }
+    {
+        self.terminate_count.lock(rt).increment()
+    }
+
+    /// Gives a unit of the terminate count back. True exactly if it was the last.
+    pub(crate) fn decrement_terminate_count<R: Wait>(&self, rt: &R) -> bool {
+        self.terminate_count.lock(rt).decrement()
+    }
+
+    /// A name for the job of an outside caller. None where all are used up.
+    pub fn caller_name<R: Wait>(&self, rt: &R) -> Option<u64> {
+        self.caller_names.lock(rt).draw()
+    }
+}
+
+// One deque more, and the stealer of it.
+fn new_deque<T: Drop>(
+    alloc: Global,
+    stealers: &mut Stealers<T>,
+) -> Result<WorkerDeque<T>, AllocError>
+    ensures { IfOk result (λ d. length stealers.new ≡ length stealers.old + 1) }
+{
+    let deque = WorkerDeque::new(alloc, false)?;
+    stealers.add(&deque)?;
+    Ok(deque)
+}

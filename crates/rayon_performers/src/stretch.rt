@@ -1,0 +1,285 @@
+//! Programs of the table, as far as the next run: by a drive, and the hot ones as straight stretches of a worker's own acts.
+ghost use Rattle.std.specs.Prelude.{◌≡◌, ◌⊎◌, ◌+◌, ◌-◌, ◌++◌, [], ◌∷◌, None, Some, IsTrue, IfErr, IfOk, MatchResult, false};
+ghost use Rattle.rayon_drive.specs.Paths.{Driven, goes};
+ghost use Rattle.rayon_machine_places.specs.Places.{finish, fresh, next_of};
+ghost use Rattle.rayon_tasks.specs.Tasks.{OneJob};
+ghost use Rattle.rayon_machine_places.specs.declared.act.Seen.TheVariants as saw;
+ghost use Rattle.rayon_machine_places.specs.declared.place.JobKind.TheVariants.{Direct};
+ghost use Rattle.rayon_machine_places.specs.declared.place.Move.TheVariants.{Back, Enter, HandBack, StartRun, Stay};
+ghost use Rattle.rayon_machine_places.specs.declared.place.Party.TheVariants.{Worker};
+ghost use Rattle.rayon_machine_places.specs.declared.place.Place.TheVariants as at;
+ghost use Rattle.rayon_machine_places.specs.declared.place.Plan.TheVariants.{Here};
+ghost use Rattle.rayon_machine_places.specs.declared.place.Share.TheVariants.{OfJob};
+ghost use Rattle.rayon_performers.specs.Calls.{IsJobOf, IsOneJob, own_call, own_join};
+ghost use Rattle.rayon_performers.specs.Hands.{Does, HasResult, HasTask, HasTicket, Same, kind_of};
+ghost use Rattle.rayon_performers.specs.Stands.{Stands, call_to};
+ghost use Rattle.rayon_performers.specs.Tails.{IsLast, IsTail};
+ghost use Rattle.rayon_performers.specs.Waits.{Waited};
+
+use crate::bench::Bench;
+use rayon_drive::drive::drive;
+use rayon_jobs::JobKind;
+use rayon_machine_places::act::Seen;
+use rayon_machine_places::place::{
+    Ending, Latch, Move, OpenCall, Party, Place, Plan, Share, Target, Then,
+};
+use rayon_machine_places::shape::PoolShape;
+use rayon_tasks::{Task, Ticket, Work, task_of_job, task_parts};
+use rayon_words::Refusal;
+use std::alloc::Global;
+use std::sync::Wait;
+
+impl<J: JobKind> Bench<J> {
+    /// Performs the program from this place on, as far as the next run or its end.
+    pub fn drive<R: Wait>(&mut self, rt: &R, place: Place) -> Move
+        requires { Stands self.old (Stay place) }
+        ensures path { Driven (λ s a x t. Does a x s t) (λ s. s.trace) self.old.shape (Worker 0 self.old.index) (Stay place) self.old self.new result }
+        ensures stands { Stands self.new result }
+        ensures stops { goes result ≡ false }
+    {
+        let shape = self.shape;
+        let party = self.party();
+        drive(rt, shape, party, place, self)
+    }
+
+    /// Waits for this, and works meanwhile: as far as a task that it has found, or to the end of the wait. Then the latch that
+    /// it waits on was seen set.
+    pub fn wait<R: Wait>(&mut self, rt: &R, target: Target) -> Move
+        requires { HasTicket self.old.call (call_to target) }
+        ensures path { Driven (λ s a x t. Does a x s t) (λ s. s.trace) self.old.shape (Worker 0 self.old.index) (Stay (at.ProbeWorking (fresh target))) self.old self.new result }
+        ensures stands { Stands self.new result }
+        ensures ends { Waited target result }
+    {
+        self.drive(rt, Place::ProbeWorking(target.wait()))
+    }
+
+    // Goes on from what an act saw at this place, as this worker of a pool of this shape.
+    #[cold]
+    #[inline(never)]
+    pub(crate) fn go_on_from<R: Wait>(
+        &mut self,
+        rt: &R,
+        shape: PoolShape,
+        index: usize,
+        place: Place,
+        seen: Seen,
+    ) -> Move
+        requires { Stands self.old (next_of shape (Worker 0 index) place seen) }
+        ensures path { Driven (λ s a x t. Does a x s t) (λ s. s.trace) shape (Worker 0 index) (next_of shape (Worker 0 index) place seen) self.old self.new result }
+        ensures stands { Stands self.new result }
+        ensures stops { goes result ≡ false }
+    {
+        let party = Party::Worker { pool: 0, index };
+        match place.next(party, shape, seen) {
+            Move::Stay(place) => drive(rt, shape, party, place, self),
+            other => other,
+        }
+    }
+
+    // Goes on in the same way where only workers are woken and latches are set before this follows.
+    #[cold]
+    #[inline(never)]
+    fn finish_from<R: Wait>(
+        &mut self,
+        rt: &R,
+        shape: PoolShape,
+        index: usize,
+        place: Place,
+        seen: Seen,
+        then: Then,
+    )
+        requires stands { Stands self.old (next_of shape (Worker 0 index) place seen) }
+        requires last { IsLast then }
+        requires tail { IsTail (Worker 0 index) then (next_of shape (Worker 0 index) place seen) }
+        ensures path { Driven (λ s a x t. Does a x s t) (λ s. s.trace) shape (Worker 0 index) (next_of shape (Worker 0 index) place seen) self.old self.new (finish (Worker 0 index) then) }
+        ensures same { Same self.old self.new }
+    {
+        self.go_on_from(rt, shape, index, place, seen);
+    }
+
+    /// Gives a unit of the terminate count back, and where it was the last sets the workers' terminate latches, before this
+    /// follows.
+    #[inline(always)]
+    pub fn lower_then<R: Wait>(&mut self, rt: &R, job: u64, then: Then)
+        requires { IsLast then }
+        ensures path { Driven (λ s a x t. Does a x s t) (λ s. s.trace) self.old.shape (Worker 0 self.old.index) (Stay (at.LowerCount 0 (OfJob job) then)) self.old self.new (finish (Worker 0 self.old.index) then) }
+        ensures same { self.new ≡ record self.old { holds = self.old.holds - 1; trace = self.new.trace } }
+    {
+        let shape = self.shape;
+        let index = self.index;
+        let share = Share::OfJob(job);
+        if self.lower(rt, 0, share) {
+            let place = Place::LowerCount {
+                pool: 0,
+                share,
+                then,
+            };
+            self.finish_from(rt, shape, index, place, Seen::Yes, then);
+        }
+    }
+
+    /// A join offers its second side, a job that has this name: Raise, Grow, LookOwn, PushOwn, News and its wakes, as far as
+    /// the run of its first side. Answers the join's ticket. Refused `Ended`, `Full`, `NoRoom`, with the job back, nothing
+    /// pushed, and the unit of the terminate count given back.
+    #[inline(always)]
+    pub fn offer<R: Wait>(
+        &mut self,
+        rt: &R,
+        alloc: Global,
+        name: u64,
+        job: J,
+        injected: bool,
+    ) -> Result<Ticket<J>, (Refusal, J)>
+        ensures path { MatchResult result
+            (λ _. Driven (λ s a x t. Does a x s t) (λ s. s.trace) self.old.shape (Worker 0 self.old.index) (Stay (at.RaiseCount (own_join name))) self.old self.new (StartRun (at.FirstSide (own_call name) name) name))
+            (λ _. Driven (λ s a x t. Does a x s t) (λ s. s.trace) self.old.shape (Worker 0 self.old.index) (Stay (at.RaiseCount (own_join name))) self.old self.new (HandBack (own_join name))) }
+        ensures pushed { MatchResult result
+            (λ t. self.new.own.pushed ≡ self.old.own.pushed ++ record { work = OneJob job; injected = injected; ticket = t } ∷ [])
+            (λ e. (e.1 ≡ job) × (self.new.own.pushed ≡ self.old.own.pushed)) }
+        ensures ticket { IfOk result (λ t. t ≡ record { owner = Worker 0 self.old.index; number = name }) }
+        ensures left { MatchResult result
+            (λ _. self.new ≡ record self.old { own = self.new.own; holds = self.old.holds + 1; trace = self.new.trace })
+            (λ _. self.new ≡ record self.old { own = self.new.own; trace = self.new.trace }) }
+        ensures refused { IfErr result (λ e. (e.0 ≡ Refusal.Ended) ⊎ ((e.0 ≡ Refusal.Full) ⊎ (e.0 ≡ Refusal.NoRoom))) }
+    {
+        let call = OpenCall {
+            number: name,
+            pool: 0,
+            job: name,
+        };
+        let plan = Plan::Fork { call, first: name };
+        if let Err(refusal) = self.raise(rt, name) {
+            return Err((refusal, job));
+        }
+        let Some((ticket, share)) = self.grow(alloc, name) else {
+            self.lower_then(rt, name, Then::GiveBack(plan));
+            return Err((Refusal::NoRoom, job));
+        };
+        let was_empty = self.look_own();
+        if let Err(task) = self.push_own(name, task_of_job(job, injected, share)) {
+            self.lower_then(rt, name, Then::GiveBack(plan));
+            return Err((Refusal::NoRoom, only_job(task)));
+        }
+        self.tell_news(rt, name, was_empty);
+        Ok(ticket)
+    }
+
+    // Tells that a join's second side was pushed, and wakes whom that owes a wake, before its first side runs.
+    #[inline(always)]
+    fn tell_news<R: Wait>(&mut self, rt: &R, name: u64, was_empty: bool)
+        ensures path { Driven (λ s a x t. Does a x s t) (λ s. s.trace) self.old.shape (Worker 0 self.old.index) (Stay (at.TellNews (own_join name) was_empty)) self.old self.new (StartRun (at.FirstSide (own_call name) name) name) }
+        ensures same { Same self.old self.new }
+    {
+        let shape = self.shape;
+        let index = self.index;
+        let owed = self.news(rt, was_empty);
+        if owed > 0 {
+            let call = OpenCall {
+                number: name,
+                pool: 0,
+                job: name,
+            };
+            let place = Place::TellNews {
+                plan: Plan::Fork { call, first: name },
+                was_empty,
+            };
+            let then = Then::RunFirst { call, first: name };
+            self.finish_from(rt, shape, index, place, Seen::Wakes(owed), then);
+        }
+    }
+
+    /// An install by a worker of the pool takes its unit of the terminate count, as far as the beginning of its job's run.
+    /// Refused `Ended`, `Full`.
+    #[inline(always)]
+    pub fn open_install<R: Wait>(&mut self, rt: &R, name: u64) -> Result<(), Refusal>
+        ensures path { MatchResult result
+            (λ _. Driven (λ s a x t. Does a x s t) (λ s. s.trace) self.old.shape (Worker 0 self.old.index) (Stay (at.RaiseCount (Here 0 name))) self.old self.new (Enter (at.AtOnce 0 name) (at.BeginHere name)))
+            (λ _. Driven (λ s a x t. Does a x s t) (λ s. s.trace) self.old.shape (Worker 0 self.old.index) (Stay (at.RaiseCount (Here 0 name))) self.old self.new (HandBack (Here 0 name))) }
+        ensures left { MatchResult result (λ _. self.new ≡ record self.old { holds = self.old.holds + 1; trace = self.new.trace }) (λ _. Same self.old self.new) }
+        ensures refused { IfErr result (λ r. (r ≡ Refusal.Ended) ⊎ (r ≡ Refusal.Full)) }
+    {
+        self.raise(rt, name)
+    }
+
+    /// The run of a job that was in no queue, or of the own second side, begins.
+    #[inline(always)]
+    pub fn begin_here(&mut self, name: u64)
+        ensures path { Driven (λ s a x t. Does a x s t) (λ s. s.trace) self.old.shape (Worker 0 self.old.index) (Stay (at.BeginHere name)) self.old self.new (Stay (at.Run name Direct)) }
+        ensures same { Same self.old self.new }
+    {
+        self.begin(name);
+    }
+
+    /// The run of a task begins that was found and is in hand, above the frame of the program that found it.
+    pub fn begin_task(&mut self, name: u64)
+        requires { HasTask self.old.task (Some name) }
+        ensures path { Driven (λ s a x t. Does a x s t) (λ s. s.trace) self.old.shape (Worker 0 self.old.index) (Stay (at.BeginTask name)) self.old self.new (Stay (at.Run name (kind_of self.old.task))) }
+        ensures same { Same self.old self.new }
+    {
+        self.begin(name);
+    }
+
+    /// The end of the run of a task that was taken: the result at hand goes where its call looks for it, the call's latch is
+    /// set, and its owner is woken where it slept.
+    pub fn tell<R: Wait>(&mut self, rt: &R, call: u64, owner: Party, ending: Ending)
+        requires reply { HasTicket self.old.reply (Some call) }
+        requires done { HasResult self.old.done (Some ending) }
+        ensures path { Driven (λ s a x t. Does a x s t) (λ s. s.trace) self.old.shape (Worker 0 self.old.index) (Stay (at.StoreResult call owner ending)) self.old self.new Back }
+        ensures same { self.new ≡ record self.old { done = None; trace = self.new.trace } }
+    {
+        let shape = self.shape;
+        let index = self.index;
+        self.store(rt, call, ending);
+        let place = Place::StoreResult {
+            call,
+            owner,
+            ending,
+        };
+        self.finish_from(rt, shape, index, place, Seen::Done, Then::Resume);
+    }
+
+    /// A join whose first side has ended without a fault looks at its latch, and takes its own second side back where that
+    /// is the newest task of the own deque. Else it answers how far the program has gone from there.
+    #[inline(always)]
+    pub fn reclaim<R: Wait>(&mut self, rt: &R, call: OpenCall) -> Result<(), Move>
+        requires { HasTicket self.old.call (Some call.number) }
+        ensures path { MatchResult result
+            (λ _. Driven (λ s a x t. Does a x s t) (λ s. s.trace) self.old.shape (Worker 0 self.old.index) (Stay (at.JoinProbe call)) self.old self.new (Enter (at.SecondSide call) (at.BeginHere call.job)))
+            (λ m. Driven (λ s a x t. Does a x s t) (λ s. s.trace) self.old.shape (Worker 0 self.old.index) (Stay (at.JoinProbe call)) self.old self.new m) }
+        ensures own { MatchResult result (λ _. HasTask self.new.task (Some call.job)) (λ m. Stands self.new m × (goes m ≡ false)) }
+    {
+        let shape = self.shape;
+        let index = self.index;
+        if self.probe(rt, Latch::OfCall(call.number)) {
+            return Err(self.go_on_from(rt, shape, index, Place::JoinProbe(call), Seen::Yes));
+        }
+        let popped = self.pop_own();
+        if is_task(popped, call.job) {
+            return Ok(());
+        }
+        Err(self.go_on_from(rt, shape, index, Place::JoinPop(call), popped))
+    }
+}
+
+// Whether the task of this name was seen.
+#[inline(always)]
+fn is_task(seen: Seen, name: u64) -> bool
+    ensures { IsTrue result → seen ≡ saw.Task name }
+{
+    match seen {
+        Seen::Task(task) => task == name,
+        _ => false,
+    }
+}
+
+// The job of a task that has one job.
+fn only_job<J: JobKind>(task: Task<J>) -> J
+    requires { IsOneJob task.work }
+    ensures { IsJobOf task.work result }
+{
+    let (work, _, _) = task_parts(task);
+    match work {
+        Work::Job(job) => job,
+        Work::Pair(_) => unreachable!(),
+    }
+}

@@ -95,7 +95,7 @@ fn yes(yes: bool) -> Seen
 
 // Done or refused.
 #[inline(always)]
-fn done(answer: bool) -> Seen {
+pub(crate) fn done(answer: bool) -> Seen {
     if answer { Seen::Done } else { Seen::Refused }
 }
 
@@ -113,7 +113,7 @@ impl<J: JobKind> Bench<J> {
 
     // Adds the entry of an act that was done.
     #[inline(always)]
-    fn add(&mut self, act: Act, seen: Seen) -> Seen
+    pub(crate) fn add(&mut self, act: Act, seen: Seen) -> Seen
         ensures same { self.new ≡ record self.old { trace = self.new.trace } }
         ensures adds { Adds act seen self.old.trace self.new.trace }
         ensures seen { result ≡ seen }
@@ -156,9 +156,19 @@ impl<J: JobKind> Bench<J> {
             Some(latch) => latch.probe(rt),
             None => false,
         };
-        self.probed = is_set;
-        self.add(Act::Probe(latch), yes(is_set));
+        self.probed(latch, is_set);
         is_set
+    }
+
+    // It was seen whether this latch is set.
+    #[inline(always)]
+    pub(crate) fn probed(&mut self, latch: Latch, is_set: bool) -> Seen
+        ensures seen { result ≡ answer is_set }
+        ensures does { Does (acts.Probe latch) result self.old self.new }
+        ensures adds { Adds (acts.Probe latch) result self.old.trace self.new.trace }
+    {
+        self.probed = is_set;
+        self.add(Act::Probe(latch), yes(is_set))
     }
 
     // Takes the newest task of the own deque.

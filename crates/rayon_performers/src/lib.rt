@@ -7,6 +7,7 @@ mod guest;
 mod registry;
 mod stretch;
 mod terminate;
+mod waiter;
 
 pub use bench::Bench;
 pub use guest::Guest;

@@ -214,12 +214,7 @@ impl<J: JobKind> Bench<J> {
         ensures does { Does acts.Pick result self.old self.new }
         ensures adds { Adds acts.Pick result self.old.trace self.new.trace }
     {
-        let num_threads = self.registry.num_threads();
-        let first = if num_threads == 0 {
-            0
-        } else {
-            self.random.next_usize(num_threads)
-        };
+        let first = self.random.next_usize(self.registry.num_threads());
         self.add(Act::Pick, Seen::Start(first))
     }
 

@@ -3,6 +3,7 @@ ghost use Rattle.std.specs.Prelude.{◌≡◌, [], None, Some};
 ghost use Rattle.std.specs.Arc.{arc_value};
 ghost use Rattle.rayon_drive.specs.declared.trace.Log.TheVariants.{Empty};
 ghost use Rattle.rayon_performers.specs.Hands.{Hands};
+ghost use Rattle.rayon_performers.specs.Pools.{shape_of};
 ghost use Rattle.rayon_queues.specs.Deques.{visitor};
 
 use crate::registry::Registry;
@@ -76,7 +77,7 @@ impl<J: JobKind> Bench<J> {
         own: WorkerDeque<Task<J>>,
     ) -> Bench<J>
         ensures index { result.index ≡ index }
-        ensures pool { (result.deques ≡ (arc_value registry).deques) × (result.shape.workers ≡ (arc_value registry).workers) }
+        ensures pool { (result.deques ≡ (arc_value registry).deques) × (result.shape ≡ shape_of (arc_value registry).workers) }
         ensures passes { (result.own ≡ own) × (result.inlet ≡ visitor (arc_value registry).injector [] []) }
         ensures empty { (result.task ≡ None) × (result.holds ≡ 0) × (result.trace ≡ Empty) }
     {

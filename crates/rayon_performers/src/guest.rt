@@ -12,6 +12,7 @@ ghost use Rattle.rayon_machine_places.specs.declared.place.Place.TheVariants as 
 ghost use Rattle.rayon_machine_places.specs.declared.place.Share.TheVariants.{OfJob, PoolValue};
 ghost use Rattle.rayon_machine_places.specs.declared.place.Then.TheVariants.{GiveBack, Resume};
 ghost use Rattle.rayon_performers.specs.Hands.{answer};
+ghost use Rattle.rayon_performers.specs.Pools.{shape_of};
 ghost use Rattle.rayon_performers.specs.Visiting.{IsCaller, Keeps, Stands, end_of, guest_needs, guest_on};
 ghost use Rattle.rayon_performers.specs.Visits.{Does, Needs, Takes, plan_of, ticket_of, with_pushed};
 ghost use Rattle.rayon_queues.specs.Deques.{visitor};
@@ -139,7 +140,7 @@ impl<'a, J: JobKind> Guest<'a, J> {
     /// An outside caller of this pool that has done nothing yet.
     pub fn new(registry: &'a Registry<J>) -> Guest<'a, J>
         ensures inlet { result.inlet ≡ visitor registry.now.injector [] [] }
-        ensures shape { result.shape.workers ≡ registry.now.workers }
+        ensures shape { result.shape ≡ shape_of registry.now.workers }
         ensures empty { (result.holds ≡ false) × (result.trace ≡ Empty) }
     {
         Guest {

@@ -1,5 +1,7 @@
 //! What the threads of a pool share.
-ghost use Rattle.std.specs.Prelude.{◌≡◌, ◌⊎◌, ◌<◌, ℕ, ◌+◌, max, length, IfOk, IfErr};
+ghost use Rattle.std.specs.Prelude.{◌≡◌, ◌⊎◌, ◌<◌, ◌++◌, [], ◌∷◌, All, false, map, max, length, IfOk, IfErr};
+ghost use Rattle.rayon_performers.specs.Pools.{shape_of};
+ghost use Rattle.rayon_queues.specs.Deques.{IsNew};
 
 use crate::terminate::{PoolHold, TerminateCount};
 use crossbeam_utils::CachePadded;
@@ -41,7 +43,7 @@ impl<J: JobKind> Model for Registry<J> {
 
     ghost view = { λ r. record { workers = r.num_threads; depth_limit = r.depth_limit; deques = r.stealers; injector = r.injector } };
 
-    ghost invariant = { λ r. (length r.stealers ≡ r.num_threads) × (r.num_threads < 65536) };
+    ghost invariant = { λ r. (length r.stealers ≡ r.num_threads) × (0 < r.num_threads) × (r.num_threads < 65536) };
 }
 
 impl<J: JobKind> Registry<J> {
@@ -56,6 +58,8 @@ impl<J: JobKind> Registry<J> {
         requires { (0 < num_threads) × (num_threads < 65536) }
         ensures workers { IfOk result (λ r. r.0.workers ≡ num_threads) }
         ensures depth { IfOk result (λ r. r.0.depth_limit ≡ max 1 depth_limit) }
+        ensures deques { IfOk result (λ r. map (λ d. d.id) r.1.items ≡ r.0.deques) }
+        ensures empty { IfOk result (λ r. All (IsNew false 32) r.1.items) }
         ensures refused { IfErr result (λ r. r ≡ Refusal.NoRoom) }
     {
         let Ok(sleep) = Sleep::new(alloc, num_threads) else {
@@ -94,7 +98,8 @@ impl<J: JobKind> Registry<J> {
 
     /// How many workers the pool has.
     pub fn num_threads(&self) -> usize
-        ensures { result ≡ self.now.workers }
+        ensures workers { result ≡ self.now.workers }
+        ensures some { 0 < result }
     {
         self.num_threads
     }
@@ -113,7 +118,7 @@ impl<J: JobKind> Registry<J> {
 
     /// What the table of places asks of the pool.
     pub fn shape(&self) -> PoolShape
-        ensures { result.workers ≡ self.now.workers }
+        ensures { result ≡ shape_of self.now.workers }
     {
         PoolShape {
             workers: self.num_threads,
@@ -182,7 +187,8 @@ fn new_deque<T: Drop>(
     alloc: Global,
     stealers: &mut Stealers<T>,
 ) -> Result<WorkerDeque<T>, AllocError>
-    ensures { IfOk result (λ d. length stealers.new ≡ length stealers.old + 1) }
+    ensures stealer { IfOk result (λ d. stealers.new ≡ stealers.old ++ d.id ∷ []) }
+    ensures empty { IfOk result (λ d. IsNew false 32 d) }
 {
     let deque = WorkerDeque::new(alloc, false)?;
     stealers.add(&deque)?;

@@ -1,5 +1,6 @@
-use Rattle.std.proofs.Common.{◌≡◌, length}
+use Rattle.std.proofs.Common.{◌≡◌, All, false, length, map}
+use Rattle.rayon_queues.specs.Deques.{IsNew}
 use Rattle.rayon_performers.proofs.registry.Registry.new.Given as goal
 
 abbrev pub invariant-loop : goal.invariant-loop
-invariant-loop g l = length l.stealers ≡ l.counter
+invariant-loop g l = (length l.stealers ≡ l.counter) × (map (λ d. d.id) l.deques.items ≡ l.stealers) × All (IsNew false 32) l.deques.items

@@ -1,0 +1,33 @@
+use Rattle.std.proofs.Common.{◌≡◌, ◌∙◌, ℕ, ◌+◌, ◌++◌, [], ◌∷◌, List, length, map, All, false, Result, Ok, Err, if◌then◌else◌, sym, subst, ap, true≢false}
+use Rattle.std.specs.Result.{is_ok, is_err}
+use Rattle.std.proofs.lemmas.List.{map-append, length-append}
+use Rattle.std.proofs.lemmas.List.Elements.{All-append, All-nil, All-cons}
+use Rattle.rayon_queues.specs.Deques.{Deque, DequeId, IsNew}
+use Rattle.rayon_performers.proofs.registry.Registry.new.Goals as goal
+
+-- what a push left that was not refused
+pushed : {U E X : Type 0} (r : Result U E) (xs ys zs : List X) → is_err r ≡ false → zs ≡ (if is_ok r then ys else xs) → zs ≡ ys
+pushed (Ok u) xs ys zs n e = e
+pushed (Err u) xs ys zs n e = absurd (true≢false n)
+
+more : (ids news : List DequeId) (x : DequeId) (k : ℕ) → news ≡ ids ++ x ∷ [] → length ids ≡ k → length news ≡ k + 1
+more ids news x k e n = ap length e ∙ length-append ids (x ∷ []) ∙ ap (λ (j : ℕ). j + 1) n
+
+module _ {T : Type 0} where
+  -- one deque more, and the stealer of it
+  tied : (xs zs : List (Deque T)) (x : Deque T) (ids news : List DequeId) → zs ≡ xs ++ x ∷ [] → news ≡ ids ++ x.id ∷ [] → map (λ (d : Deque T). d.id) xs ≡ ids → map (λ (d : Deque T). d.id) zs ≡ news
+  tied xs zs x ids news e n m = ap (λ (l : List (Deque T)). map (λ (d : Deque T). d.id) l) e ∙ map-append (λ (d : Deque T). d.id) xs (x ∷ []) ∙ ap (λ (l : List DequeId). l ++ x.id ∷ []) m ∙ sym n
+
+  all_new : (xs zs : List (Deque T)) (x : Deque T) → zs ≡ xs ++ x ∷ [] → All (IsNew false 32) xs → IsNew false 32 x → All (IsNew false 32) zs
+  all_new xs zs x e a b = subst (λ (l : List (Deque T)). All (IsNew false 32) l) (sym e) (All-append (IsNew false 32) xs (x ∷ []) a (All-cons (IsNew false 32) x [] b (All-nil (IsNew false 32))))
+
+pub loop-preserved : goal.loop-preserved
+loop-preserved g c =
+    let xs = c.loop.deques.items in
+    let zs = c.push.new.self.items in
+    let x = c.in-Ok-new_deque.deque in
+    let ids = c.loop.stealers in
+    let news = c.new_deque.new.stealers in
+    let e = pushed c.push.result xs (xs ++ x ∷ []) zs (sym c.is_err.ensures.value ∙ c.if-is_err.false) c.push.ensures.items in
+    let n = c.in-Ok-new_deque.ensures.stealer in
+    (more ids news x.id c.loop.counter n c.loop.invariant.0, tied xs zs x ids news e n c.loop.invariant.1, all_new xs zs x e c.loop.invariant.2 c.in-Ok-new_deque.ensures.empty)

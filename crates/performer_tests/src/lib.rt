@@ -5,4 +5,8 @@
 #[cfg(test)]
 mod errand;
 #[cfg(test)]
+mod pool;
+#[cfg(test)]
+mod waits;
+#[cfg(test)]
 mod workers;

@@ -1,115 +1,11 @@
 //! Tests of a worker's performer and of an outside caller's.
-ghost use Rattle.rayon_performers.specs.Hands.{HasTicket};
-ghost use Rattle.std.specs.Prelude.{◌≡◌, Some};
-
 use crate::errand::Errand;
-use rayon_jobs::{Done, JobKind};
-use rayon_machine_places::place::{Ending, Move, OpenCall, Place, Target, Then};
-use rayon_performers::{Bench, Guest, PoolHold, Registry};
-use rayon_queues::WorkerDeque;
-use rayon_tasks::{Task, Work, task_parts};
+use crate::pool::{Two, call_of, end, found, number_of, offer, work};
+use rayon_machine_places::place::{Ending, Then};
+use rayon_performers::{Bench, Guest};
 use rayon_words::Refusal;
-use std::alloc::Global;
-use std::process::Abort;
-use std::sync::{Arc, Wait};
 use std::test::Fail;
 use std::thread;
-
-// The call of the job of this name.
-fn call_of(name: u64) -> OpenCall
-    ensures { result.number ≡ name }
-{
-    OpenCall {
-        number: name,
-        pool: 0,
-        job: name,
-    }
-}
-
-// The number of a task's errand, and that of nothing else.
-fn number_of(task: Option<Task<Errand>>) -> Option<u8> {
-    match task {
-        Some(task) => match task_parts(task) {
-            (Work::Job(job), _, _) => Some(job.0),
-            (Work::Pair(_), _, _) => None,
-        },
-        None => None,
-    }
-}
-
-// Ends the pool.
-fn end<R: Wait>(rt: &R, registry: &Registry<Errand>, hold: PoolHold) {
-    let mut guest = Guest::new(registry);
-    guest.end(rt, hold);
-}
-
-// A pool of two workers, their own deques, and the unit of the terminate count of its value.
-struct Two {
-    registry: Arc<Registry<Errand>, Global>,
-    first: WorkerDeque<Task<Errand>>,
-    second: WorkerDeque<Task<Errand>>,
-    hold: PoolHold,
-}
-
-impl Two {
-    fn new<R: Wait + Abort>(rt: &R, alloc: Global) -> Two {
-        let (registry, deques, hold) = Registry::new(alloc, 2, 8, 0).expect(rt, "room");
-        let registry = Arc::new(alloc, registry).expect(rt, "room");
-        let mut deques = deques.into_iter();
-        let first = deques.next().expect(rt, "a deque");
-        let second = deques.next().expect(rt, "another");
-        Two {
-            registry,
-            first,
-            second,
-            hold,
-        }
-    }
-
-    // One more share of what the workers have in common.
-    fn share<R: Wait + Abort>(&self, rt: &R) -> Arc<Registry<Errand>, Global> {
-        Arc::try_clone(&self.registry).expect(rt, "room")
-    }
-}
-
-// Waits as a worker's main loop does for a task, runs it to this answer, and tells its call. Answers the task's errand.
-fn work<R: Wait>(rt: &R, bench: &mut Bench<Errand>, answer: u8) -> Option<u8> {
-    let Move::Enter {
-        place: Place::BeginTask(name),
-        ..
-    } = bench.wait(rt, Target::Termination)
-    else {
-        return None;
-    };
-    bench.begin_task(name);
-    let (Work::Job(job), _, ticket) = task_parts(bench.take_task()?) else {
-        return None;
-    };
-    let (call, owner) = (ticket.number(), ticket.owner());
-    let done = Done::of_run(job.tag(), Ok(answer));
-    let ending = done.ending();
-    bench.set_reply(ticket, done, None);
-    bench.tell(rt, call, owner, ending);
-    Some(job.0)
-}
-
-// The worker offers the errand 7 by this name, and has the ticket of its join in hand.
-fn offer<R: Wait + Abort>(rt: &R, alloc: Global, bench: &mut Bench<Errand>, name: u64)
-    ensures { HasTicket bench.new.call (Some name) }
-{
-    match bench.offer(rt, alloc, name, Errand(7), false) {
-        Ok(ticket) => bench.set_call(Some(ticket)),
-        Err(_) => panic!(rt; "no room"),
-    }
-}
-
-// What a worker's call has found.
-fn found(bench: &mut Bench<Errand>) -> Option<Result<u8, u8>> {
-    match bench.take_done() {
-        Some(done) => Some(done.into_result()),
-        None => None,
-    }
-}
 
 // A second side that nobody stole is taken back and run by its own join, and the share of the count is given back.
 #[test]
@@ -232,5 +128,21 @@ fn an_ended_pool_refuses(rt: HostRuntime) -> Result<(), Fail> {
     assert_eq!(rt; installed, Err(Refusal::Ended));
     assert_eq!(rt; offered, Some((Refusal::Ended, 7)));
     assert_eq!(rt; sent, Some((Refusal::Ended, 6)));
+    Ok(())
+}
+
+// Each outside caller draws a name that no other has, and that no worker draws.
+#[test]
+fn callers_have_names_of_their_own(rt: HostRuntime) -> Result<(), Fail> {
+    let two = Two::new(&rt, rt.alloc());
+    let Two {
+        registry,
+        first: _,
+        second: _,
+        hold,
+    } = two;
+    let names = (registry.caller_name(&rt), registry.caller_name(&rt));
+    end(&rt, &registry, hold);
+    assert_eq!(rt; names, (Some(2), Some(5)));
     Ok(())
 }

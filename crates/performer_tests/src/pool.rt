@@ -1,0 +1,131 @@
+//! The pool of the tests, and what its workers do in them.
+ghost use Rattle.rayon_performers.specs.Hands.{HasTicket};
+ghost use Rattle.rayon_performers.specs.Stands.{Stands};
+ghost use Rattle.std.specs.Prelude.{◌≡◌, Some};
+
+use crate::errand::Errand;
+use rayon_jobs::{Done, JobKind};
+use rayon_machine_places::place::{Move, OpenCall, Place, Target};
+use rayon_performers::{Bench, Guest, PoolHold, Registry};
+use rayon_queues::WorkerDeque;
+use rayon_tasks::{Task, Work, task_parts};
+use std::alloc::Global;
+use std::process::Abort;
+use std::sync::{Arc, Wait};
+
+// The call of the job of this name.
+pub(crate) fn call_of(name: u64) -> OpenCall
+    ensures { result.number ≡ name }
+{
+    OpenCall {
+        number: name,
+        pool: 0,
+        job: name,
+    }
+}
+
+// The number of a task's errand, and that of nothing else.
+pub(crate) fn number_of(task: Option<Task<Errand>>) -> Option<u8> {
+    match task {
+        Some(task) => match task_parts(task) {
+            (Work::Job(job), _, _) => Some(job.0),
+            (Work::Pair(_), _, _) => None,
+        },
+        None => None,
+    }
+}
+
+// Ends the pool.
+pub(crate) fn end<R: Wait>(rt: &R, registry: &Registry<Errand>, hold: PoolHold) {
+    let mut guest = Guest::new(registry);
+    guest.end(rt, hold);
+}
+
+// A pool of two workers, their own deques, and the unit of the terminate count of its value.
+pub(crate) struct Two {
+    pub(crate) registry: Arc<Registry<Errand>, Global>,
+    pub(crate) first: WorkerDeque<Task<Errand>>,
+    pub(crate) second: WorkerDeque<Task<Errand>>,
+    pub(crate) hold: PoolHold,
+}
+
+impl Two {
+    pub(crate) fn new<R: Wait + Abort>(rt: &R, alloc: Global) -> Two {
+        let (registry, deques, hold) = Registry::new(alloc, 2, 8, 0).expect(rt, "room");
+        let registry = Arc::new(alloc, registry).expect(rt, "room");
+        let mut deques = deques.into_iter();
+        let first = deques.next().expect(rt, "a deque");
+        let second = deques.next().expect(rt, "another");
+        Two {
+            registry,
+            first,
+            second,
+            hold,
+        }
+    }
+
+    // One more share of what the workers have in common.
+    pub(crate) fn share<R: Wait + Abort>(&self, rt: &R) -> Arc<Registry<Errand>, Global> {
+        Arc::try_clone(&self.registry).expect(rt, "room")
+    }
+}
+
+// The task of a worker whose wait has ended so, which it begins.
+pub(crate) fn begun(bench: &mut Bench<Errand>, found: Move) -> Option<Task<Errand>>
+    requires { Stands bench.old found }
+{
+    let Move::Enter {
+        place: Place::BeginTask(name),
+        ..
+    } = found
+    else {
+        return None;
+    };
+    bench.begin_task(name);
+    bench.take_task()
+}
+
+// A worker whose wait has ended so runs the task that it found to this answer, and tells its call. Answers the task's
+// errand.
+pub(crate) fn tell<R: Wait>(
+    rt: &R,
+    bench: &mut Bench<Errand>,
+    found: Move,
+    answer: u8,
+) -> Option<u8>
+    requires { Stands bench.old found }
+{
+    let (Work::Job(job), _, ticket) = task_parts(begun(bench, found)?) else {
+        return None;
+    };
+    let (call, owner) = (ticket.number(), ticket.owner());
+    let done = Done::of_run(job.tag(), Ok(answer));
+    let ending = done.ending();
+    bench.set_reply(ticket, done, None);
+    bench.tell(rt, call, owner, ending);
+    Some(job.0)
+}
+
+// Waits as a worker's main loop does for a task, runs it to this answer, and tells its call. Answers the task's errand.
+pub(crate) fn work<R: Wait>(rt: &R, bench: &mut Bench<Errand>, answer: u8) -> Option<u8> {
+    let found = bench.wait(rt, Target::Termination);
+    tell(rt, bench, found, answer)
+}
+
+// The worker offers the errand 7 by this name, and has the ticket of its join in hand.
+pub(crate) fn offer<R: Wait + Abort>(rt: &R, alloc: Global, bench: &mut Bench<Errand>, name: u64)
+    ensures { HasTicket bench.new.call (Some name) }
+{
+    match bench.offer(rt, alloc, name, Errand(7), false) {
+        Ok(ticket) => bench.set_call(Some(ticket)),
+        Err(_) => panic!(rt; "no room"),
+    }
+}
+
+// What a worker's call has found.
+pub(crate) fn found(bench: &mut Bench<Errand>) -> Option<Result<u8, u8>> {
+    match bench.take_done() {
+        Some(done) => Some(done.into_result()),
+        None => None,
+    }
+}

@@ -1,4 +1,4 @@
-use Rattle.std.proofs.Common.{◌≡◌, refl, sym, ◌∙◌}
+use Rattle.std.proofs.Common.{◌≡◌, refl, ◌∙◌}
 use Rattle.rayon_machine_places.specs.declared.place.Move.TheVariants.{Stay}
 use Rattle.rayon_drive.proofs.Paths.{driven_read, driven_keeps}
 use Rattle.rayon_performers.proofs.waiter.Waiter.drive.Goals as goal

@@ -121,8 +121,8 @@ fn a_worker_works_while_it_waits_on_a_latch(rt: HostRuntime) -> Result<(), Fail>
     Ok(())
 }
 
-// Two sides that an outside caller sends are run by a worker, and the caller finds the results of both, the first side's
-// first.
+// Two sides that an outside caller sends are run by a worker, and the caller finds the results of both, that of the
+// first side first.
 #[test]
 fn a_sent_pair_is_answered_in_order(rt: HostRuntime) -> Result<(), Fail> {
     let alloc = rt.alloc();

@@ -25,7 +25,7 @@ use Rattle.rayon_performers.specs.Hands.{Hands, Does}
 use Rattle.rayon_performers.specs.Waits.{IsTaken, Waited}
 
 -- what follows a search of this wait
-abbrev After : Target → Then → Type 0
+abbrev pub After : Target → Then → Type 0
 After g (BeginFound k t) = k ≡ g
 After g (LeaveWait k) = k ≡ g
 After (Answer o f) (Answers p s e) = Unit {0}
@@ -33,7 +33,7 @@ After (Answer o f) (Missing p s) = Unit {0}
 After g _ = ⊥
 
 -- a place of this wait, or of the end of the call that it waits for
-abbrev WaitAt : Target → Place → Type 0
+abbrev pub WaitAt : Target → Place → Type 0
 WaitAt g (at.ProbeWorking k) = k.target ≡ g
 WaitAt g (at.PopWorking k) = k.target ≡ g
 WaitAt g (at.TakeCastWorking k) = k.target ≡ g
@@ -70,7 +70,7 @@ WaitAt g (at.UnlockSettled s) = After g s.then
 WaitAt Termination at.Stopped = Unit {0}
 WaitAt g _ = ⊥
 
-abbrev InWait : Target → Move → Type 0
+abbrev pub InWait : Target → Move → Type 0
 InWait g (Stay p) = WaitAt g p
 InWait g (Enter f p) = (f ≡ at.ProbeWorking (fresh g)) × IsTaken p
 InWait (Answer o f) Back = Unit {0}
@@ -133,7 +133,7 @@ steal_in g h i k m e = by (m == 0)
     by true = e
     by false = e
 
-wait_on : (g : Target) (h : PoolShape) (i : ℕ) (y : Place) (x : Seen) → WaitAt g y → InWait g (next_of h (Worker 0 i) y x)
+pub wait_on : (g : Target) (h : PoolShape) (i : ℕ) (y : Place) (x : Seen) → WaitAt g y → InWait g (next_of h (Worker 0 i) y x)
 wait_on g h i (at.ProbeWorking k) Yes a = subst (λ (z : Target). InWait g (Stay (after_wait z))) (sym a) (left_in g)
 wait_on g h i (at.ProbeWorking k) _ a = a
 wait_on g h i (at.PopWorking k) (Task t) a = begun_in k.target g t a
@@ -192,7 +192,7 @@ wait_on g h i (at.UnlockSettled s) _ a = set_in g h i s s.latch a
 wait_on Termination h i at.Stopped _ a = tt
 wait_on g h i _ _ a = absurd a
 
-stopped : (g : Target) (m : Move) → InWait g m → goes m ≡ false → Waited g m
+pub stopped : (g : Target) (m : Move) → InWait g m → goes m ≡ false → Waited g m
 stopped Termination (Stay at.Stopped) a e = refl
 stopped g (Stay (at.ProbeWorking k)) a e = absurd (true≢false e)
 stopped g (Stay (at.PopWorking k)) a e = absurd (true≢false e)

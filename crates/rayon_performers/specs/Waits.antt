@@ -1,5 +1,8 @@
--- How a wait ends: with a task that begins above it, with its latch set, or with the result of the call that it waits for.
-use Rattle.std.specs.Prelude.{◌≡◌}
+-- How a wait ends: with a task that begins above it, with its latch set, or with the result of the call that it waits for;
+-- and how a join's look for its own second side does.
+use Rattle.std.specs.Prelude.{◌≡◌, ◌⊎◌, Some}
+use Rattle.rayon_machine_places.specs.declared.place.Ending.TheVariants.{Fine}
+use Rattle.rayon_machine_places.specs.declared.place.OpenCall.{OpenCall}
 use Rattle.rayon_machine_places.specs.declared.place.Target.{Target}
 use Rattle.rayon_machine_places.specs.declared.place.Target.TheVariants.{Termination, Answer}
 use Rattle.rayon_machine_places.specs.declared.place.Place.{Place}
@@ -20,3 +23,10 @@ Waited g (Enter f p) = (f ≡ at.ProbeWorking (fresh g)) × IsTaken p
 Waited Termination (Stay p) = p ≡ at.Stopped
 Waited (Answer o f) Back = Unit {0}
 Waited g m = ⊥
+
+-- a join that did not find its own second side found another task, which begins above it, waits for the thief's answer
+-- and found a task meanwhile, or has the result
+abbrev pub Rejoined : OpenCall → Move → Type 0
+Rejoined o (Enter f p) = ((f ≡ at.JoinProbe o) ⊎ (f ≡ at.ProbeWorking (fresh (Answer o (Some Fine))))) × IsTaken p
+Rejoined o Back = Unit {0}
+Rejoined o m = ⊥

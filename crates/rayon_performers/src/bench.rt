@@ -1,5 +1,5 @@
 //! What a worker performs its acts with.
-ghost use Rattle.std.specs.Prelude.{◌≡◌, [], None, Some};
+ghost use Rattle.std.specs.Prelude.{◌≡◌, [], None, Some, IfOk};
 ghost use Rattle.std.specs.Arc.{arc_value};
 ghost use Rattle.rayon_drive.specs.declared.trace.Log.TheVariants.{Empty};
 ghost use Rattle.rayon_performers.specs.Hands.{Hands};
@@ -11,7 +11,9 @@ use rayon_drive::trace::Trace;
 use rayon_jobs::{Done, JobKind};
 use rayon_machine_places::shape::PoolShape;
 use rayon_queues::{InjectorPass, StealPass, WorkerDeque, XorShift64Star};
+use rayon_sleep::latch::Owner;
 use rayon_tasks::{Task, Ticket};
+use rayon_words::Refusal;
 use std::alloc::Global;
 use std::marker::Model;
 use std::sync::Arc;
@@ -99,6 +101,13 @@ impl<J: JobKind> Bench<J> {
             trace: Trace::new(),
             registry,
         }
+    }
+
+    /// What stands for the worker where a latch is set that it may sleep on. Refused `NoRoom`.
+    pub fn owner(&self) -> Result<Owner, Refusal>
+        ensures { IfOk result (λ o. o ≡ self.now.index) }
+    {
+        self.registry.owner(self.index)
     }
 
     /// The ticket of the call that is waited for next.

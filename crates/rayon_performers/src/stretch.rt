@@ -1,5 +1,5 @@
 //! Programs of the table, as far as the next run: by a drive, and the hot ones as straight stretches of a worker's own acts.
-ghost use Rattle.std.specs.Prelude.{◌≡◌, ◌⊎◌, ◌+◌, ◌-◌, ◌++◌, [], ◌∷◌, None, Some, IsTrue, IfErr, IfOk, MatchResult, false};
+ghost use Rattle.std.specs.Prelude.{◌≡◌, ◌⊎◌, ◌↔◌, ◌+◌, ◌-◌, ◌++◌, [], ◌∷◌, None, Some, IsTrue, IfErr, IfOk, MatchResult, false};
 ghost use Rattle.rayon_drive.specs.Paths.{Driven, goes};
 ghost use Rattle.rayon_machine_places.specs.Places.{finish, fresh, next_of};
 ghost use Rattle.rayon_tasks.specs.Tasks.{OneJob};
@@ -14,7 +14,7 @@ ghost use Rattle.rayon_performers.specs.Calls.{IsJobOf, IsOneJob, own_call, own_
 ghost use Rattle.rayon_performers.specs.Hands.{Does, HasResult, HasTask, HasTicket, Same, kind_of};
 ghost use Rattle.rayon_performers.specs.Stands.{Stands, call_to};
 ghost use Rattle.rayon_performers.specs.Tails.{IsLast, IsTail};
-ghost use Rattle.rayon_performers.specs.Waits.{Waited};
+ghost use Rattle.rayon_performers.specs.Waits.{Rejoined, Waited};
 
 use crate::bench::Bench;
 use rayon_drive::drive::drive;
@@ -247,6 +247,7 @@ impl<J: JobKind> Bench<J> {
             (λ _. Driven (λ s a x t. Does a x s t) (λ s. s.trace) self.old.shape (Worker 0 self.old.index) (Stay (at.JoinProbe call)) self.old self.new (Enter (at.SecondSide call) (at.BeginHere call.job)))
             (λ m. Driven (λ s a x t. Does a x s t) (λ s. s.trace) self.old.shape (Worker 0 self.old.index) (Stay (at.JoinProbe call)) self.old self.new m) }
         ensures own { MatchResult result (λ _. HasTask self.new.task (Some call.job)) (λ m. Stands self.new m × (goes m ≡ false)) }
+        ensures rejoins { IfErr result (λ m. Rejoined call m) }
     {
         let shape = self.shape;
         let index = self.index;
@@ -264,7 +265,7 @@ impl<J: JobKind> Bench<J> {
 // Whether the task of this name was seen.
 #[inline(always)]
 fn is_task(seen: Seen, name: u64) -> bool
-    ensures { IsTrue result → seen ≡ saw.Task name }
+    ensures { IsTrue result ↔ (seen ≡ saw.Task name) }
 {
     match seen {
         Seen::Task(task) => task == name,

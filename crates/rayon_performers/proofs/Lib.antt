@@ -1,3 +1,4 @@
+pub mod Finds
 pub mod Joins
 pub mod Offers
 pub mod Stretches

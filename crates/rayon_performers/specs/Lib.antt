@@ -1,4 +1,5 @@
 pub mod Calls
+pub mod Finds
 pub mod Hands
 pub mod Keeps
 pub mod Pools

@@ -4,6 +4,7 @@
 mod acts;
 mod bench;
 mod guest;
+mod looks;
 mod registry;
 mod stretch;
 mod terminate;

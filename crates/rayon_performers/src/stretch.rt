@@ -79,7 +79,7 @@ impl<J: JobKind> Bench<J> {
     // Goes on in the same way where only workers are woken and latches are set before this follows.
     #[cold]
     #[inline(never)]
-    fn finish_from<R: Wait>(
+    pub(crate) fn finish_from<R: Wait>(
         &mut self,
         rt: &R,
         shape: PoolShape,

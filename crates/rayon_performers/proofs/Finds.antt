@@ -1,0 +1,213 @@
+-- The looks that run nothing, act by act: what was taken so far, and where the table leads.
+use Rattle.std.proofs.Common.{◌≡◌, inl, inr, ℕ, ◌-◌, ◌==◌, ◌≤◌, ◌++◌, [], ◌∷◌, List, ◌∙◌, Bool, true, false, if◌then◌else◌, Option, None, Some, MatchOption, slice_get, refl, sym, subst, ap, arith}
+use Rattle.rayon_machine_places.specs.declared.place.Party.{Party}
+use Rattle.rayon_machine_places.specs.declared.place.Party.TheVariants.{Worker}
+use Rattle.rayon_machine_places.specs.declared.place.Place.{Place}
+use Rattle.rayon_machine_places.specs.declared.place.Place.TheVariants as at
+use Rattle.rayon_machine_places.specs.declared.place.Plan.TheVariants.{Detach}
+use Rattle.rayon_machine_places.specs.declared.place.Then.TheVariants.{Resume}
+use Rattle.rayon_machine_places.specs.declared.place.Move.{Move}
+use Rattle.rayon_machine_places.specs.declared.place.Move.TheVariants.{Stay, Back}
+use Rattle.rayon_machine_places.specs.declared.act.Act.{Act}
+use Rattle.rayon_machine_places.specs.declared.act.Act.TheVariants as acts
+use Rattle.rayon_machine_places.specs.declared.act.Seen.{Seen}
+use Rattle.rayon_machine_places.specs.declared.act.Seen.TheVariants.{Yes, No, Task, Start, Wakes}
+use Rattle.rayon_machine_places.specs.declared.shape.PoolShape.{PoolShape}
+use Rattle.rayon_machine_places.specs.Places.{act_of, next_of, next_victim, not_self, walk}
+use Rattle.rayon_drive.specs.Paths.{goes}
+use Rattle.rayon_drive.specs.Traces.{Adds}
+use Rattle.rayon_queues.specs.Deques.{Deque, DequeId, Leaves, Popped, SameDeque, Thief, Unmoved, Visitor}
+use Rattle.rayon_tasks.specs.Tasks.{TaskOf}
+use Rattle.rayon_performers.specs.Hands.{Hands, HasTask, Does, Same, Looks, PoppedFrom, StolenBy, TakenBy, answer}
+use Rattle.rayon_performers.specs.Finds.{Found, Kept}
+use Rattle.rayon_performers.proofs.Stretches.{So, so_far, by_act}
+
+-- no task was seen
+abbrev pub NoTask : Seen → Type 0
+NoTask x = (n : ℕ) → x ≡ Task n → ⊥
+
+local_goes : (h : PoolShape) (q : Party) (x : Seen) → NoTask x → next_of h q at.LocalPop x ≡ Stay at.LocalTakeCast
+local_goes h q (Task n) k = absurd (k n refl)
+local_goes h q _ k = refl
+
+module _ {X G O F : Type 0} (s t u : Hands X G O F) where
+  missed : (x : Seen) → NoTask x → Does acts.PopOwn x s t → Looks s t
+  missed (Task n) k d = absurd (k n refl)
+  missed _ k d = d
+
+  no_cast : (y : Seen) → Does acts.TakeCast y t u → Same t u
+  no_cast (Task n) d = absurd d
+  no_cast _ d = d
+
+  local_ends : (h : PoolShape) (q : Party) (y : Seen) → Does acts.TakeCast y t u → next_of h q at.LocalTakeCast y ≡ Back
+  local_ends h q (Task n) d = absurd d
+  local_ends h q _ d = refl
+
+  -- the own deque and the broadcast list had none
+  pub local_missed : (h : PoolShape) (i : ℕ) (x y : Seen) → NoTask x → Does acts.PopOwn x s t → Adds acts.PopOwn x s.trace t.trace → Does acts.TakeCast y t u → Adds acts.TakeCast y t.trace u.trace → So h i (Stay at.LocalPop) s Back u
+  local_missed h i x y k d a e b =
+      let first = Stay at.LocalPop in
+      let looked = subst (λ (m : Move). So h i first s m t) (local_goes h (Worker 0 i) x k) (by_act h i first s first s t x refl (so_far h i first s) d a) in
+      subst (λ (m : Move). So h i first s m u) (local_ends h (Worker 0 i) y e) (by_act h i first s (Stay at.LocalTakeCast) t u y refl looked e b)
+
+  pub missed_unmoved : (x y : Seen) → NoTask x → Does acts.PopOwn x s t → Does acts.TakeCast y t u → Unmoved s.own u.own
+  missed_unmoved x y k d e = subst (λ (z : Hands X G O F). Unmoved s.own z.own) (sym (no_cast y e)) (missed x k d).1
+
+  pub missed_same : (x y : Seen) → NoTask x → Does acts.PopOwn x s t → Does acts.TakeCast y t u → SameDeque s.own u.own
+  missed_same x y k d e = subst (λ (z : Hands X G O F). SameDeque s.own z.own) (sym (no_cast y e)) (missed x k d).0
+
+  pub missed_left : (x y : Seen) → NoTask x → Does acts.PopOwn x s t → Does acts.TakeCast y t u → u ≡ record s { own = u.own; trace = u.trace }
+  missed_left x y k d e = subst (λ (z : Hands X G O F). z ≡ record s { own = z.own; trace = z.trace }) (sym (no_cast y e)) (ap (λ (z : Hands X G O F). record z { trace = u.trace }) (missed x k d).2)
+
+module _ {X G O F : Type 0} (h : PoolShape) (i : ℕ) (m : Move) (s u v : Hands X G O F) where
+  -- the task that was found is given out of the hands
+  pub given : (n : ℕ) (r : Option (TaskOf X)) → r ≡ u.task → v ≡ record u { task = None } → HasTask u.task (Some n) → So h i m s (Stay (at.BeginTask n)) u → MatchOption r (So h i m s Back v) (λ t. So h i m s (Stay (at.BeginTask t.ticket.number)) (record v { task = Some t }))
+  given n None e f k d = absurd (subst (λ (z : Option (TaskOf X)). HasTask z (Some n)) (sym e) k)
+  given n (Some t) e f k d =
+      let is : t.ticket.number ≡ n = subst (λ (z : Option (TaskOf X)). HasTask z (Some n)) (sym e) k in
+      let same : u ≡ record v { task = Some t } = subst (λ (z : Hands X G O F). u ≡ record z { task = Some t }) (sym f) (ap (λ (z : Option (TaskOf X)). record u { task = z }) (sym e)) in
+      subst (λ (z : Hands X G O F). So h i m s (Stay (at.BeginTask t.ticket.number)) z) same (subst (λ (z : ℕ). So h i m s (Stay (at.BeginTask z)) u) (sym is) d)
+
+module _ {X G O F : Type 0} (h : PoolShape) (i n : ℕ) (s t u : Hands X G O F) where
+  -- the own deque is looked at before the push
+  pub push_looked : (z : Bool) → Looks s t → Adds acts.LookOwn (answer z) s.trace t.trace → So h i (Stay (at.LookQueue (Detach 0 n))) s (Stay (at.PushJob (Detach 0 n) z)) t
+  push_looked true d a = by_act h i (Stay (at.LookQueue (Detach 0 n))) s (Stay (at.LookQueue (Detach 0 n))) s t Yes refl (so_far h i (Stay (at.LookQueue (Detach 0 n))) s) d a
+  push_looked false d a = by_act h i (Stay (at.LookQueue (Detach 0 n))) s (Stay (at.LookQueue (Detach 0 n))) s t No refl (so_far h i (Stay (at.LookQueue (Detach 0 n))) s) d a
+
+  -- the news of a pushed task, and the walk that it owes
+  pub push_told : (z : Bool) (k : ℕ) → Same s t → Adds (acts.News 0 z) (Wakes k) s.trace t.trace → So h i (Stay (at.TellNews (Detach 0 n) z)) s (walk h (Worker 0 i) 0 k 0 Resume) t
+  push_told z k d e = by_act h i (Stay (at.TellNews (Detach 0 n) z)) s (Stay (at.TellNews (Detach 0 n) z)) s t (Wakes k) refl (so_far h i (Stay (at.TellNews (Detach 0 n) z)) s) d e
+
+-- a place of a yield's look
+abbrev pub IsYield : Place → Type 0
+IsYield at.YieldPop = Unit {0}
+IsYield at.YieldTakeCast = Unit {0}
+IsYield at.YieldPick = Unit {0}
+IsYield (at.YieldSteal v n) = Unit {0}
+IsYield at.YieldPopInjected = Unit {0}
+IsYield _ = ⊥
+
+yield_goes : (y : Place) → IsYield y → goes (Stay y) ≡ true
+yield_goes at.YieldPop l = refl
+yield_goes at.YieldTakeCast l = refl
+yield_goes at.YieldPick l = refl
+yield_goes (at.YieldSteal v n) l = refl
+yield_goes at.YieldPopInjected l = refl
+yield_goes _ l = absurd l
+
+module _ {X : Type 0} where
+  same_deque : (d e f : Deque (TaskOf X)) → SameDeque d e → SameDeque e f → SameDeque d f
+  same_deque d e f a b =
+      let x : d.room ≤ e.room = a.2 in
+      let y : e.room ≤ f.room = b.2 in
+      let z : d.room ≤ f.room = omega arith in
+      (b.0 ∙ a.0, b.1 ∙ a.1, z)
+
+  popped_on : (d e f : Deque (TaskOf X)) (t : TaskOf X) → SameDeque d e → Unmoved d e → Popped e t f → Popped d t f
+  popped_on d e f t a b p = (p.0 ∙ b.0, p.1 ∙ ap (λ (z : List (TaskOf X)). z ++ t ∷ []) b.1, subst (λ (z : Bool). Leaves z d.left t f.left) a.1 (subst (λ (z : List (TaskOf X)). Leaves e.oldest_first z t f.left) b.2 p.2))
+
+module _ {X G O F : Type 0} where
+  -- only the passes, the task in hand and the trace are others
+  abbrev pub Moved : Hands X G O F → Hands X G O F → Type 0
+  Moved s u = u ≡ record s { own = u.own; inlet = u.inlet; thief = u.thief; task = u.task; trace = u.trace }
+
+  -- nothing was taken so far
+  abbrev pub Missed : Hands X G O F → Hands X G O F → Type 0
+  Missed s u = Kept s u × (u ≡ record s { own = u.own; thief = u.thief; trace = u.trace })
+
+  -- the task in hand was found
+  abbrev pub HasFound : Option (TaskOf X) → Hands X G O F → Hands X G O F → Type 0
+  HasFound None s u = ⊥
+  HasFound (Some t) s u = Found t s u
+
+  -- what a look has made: it goes on or is over with nothing taken, or a task is in hand and not begun
+  abbrev pub Looking : Hands X G O F → Hands X G O F → Move → Type 0
+  Looking s u (Stay (at.BeginTask n)) = HasTask u.task (Some n) × HasFound u.task s u × Moved s u
+  Looking s u (Stay y) = Missed s u × IsYield y
+  Looking s u Back = Missed s u
+  Looking s u m = ⊥
+
+  moved_on : (s u v : Hands X G O F) → Missed s u → Moved u v → Moved s v
+  moved_on s u v a b =
+      let first : Moved s u = subst (λ (z : Hands X G O F). Moved s z) (sym a.1) refl in
+      b ∙ ap (λ (z : Hands X G O F). record z { own = v.own; inlet = v.inlet; thief = v.thief; task = v.task; trace = v.trace }) first
+
+  -- a look that missed
+  looked : (s u v : Hands X G O F) → Missed s u → Looks u v → Missed s v
+  looked s u v a d =
+      let e = ap (λ (z : Hands X G O F). z.inlet) d.2 in
+      ((same_deque s.own u.own v.own a.0.0 d.0, (d.1.0 ∙ a.0.1.0, d.1.1 ∙ a.0.1.1, d.1.2 ∙ a.0.1.2), e ∙ a.0.2), subst (λ (z : Hands X G O F). z ≡ record s { own = z.own; thief = z.thief; trace = z.trace }) (sym d.2) (ap (λ (z : Hands X G O F). record z { own = v.own; trace = v.trace }) a.1))
+
+  same : (s u v : Hands X G O F) → Missed s u → Same u v → Missed s v
+  same s u v a d = subst (λ (z : Hands X G O F). Missed s z) (sym d) (a.0, ap (λ (z : Hands X G O F). record z { trace = v.trace }) a.1)
+
+  not_stolen : (s u v : Hands X G O F) → Missed s u → v ≡ record u { thief = v.thief; trace = v.trace } → Missed s v
+  not_stolen s u v a d = subst (λ (z : Hands X G O F). Missed s z) (sym d) (a.0, ap (λ (z : Hands X G O F). record z { thief = v.thief; trace = v.trace }) a.1)
+
+  -- a look that found a task
+  found_own : (s u v : Hands X G O F) (o : Option (TaskOf X)) → Missed s u → PoppedFrom u.own o v.own → v.inlet ≡ u.inlet → HasFound o s v
+  found_own s u v None a p e = absurd p
+  found_own s u v (Some t) a p e = inl (same_deque s.own u.own v.own a.0.0 p.0, popped_on s.own u.own v.own t a.0.0 a.0.1 p.1, e ∙ a.0.2)
+
+  found_other : (s u v : Hands X G O F) (k : ℕ) (o : Option (TaskOf X)) → Missed s u → StolenBy (slice_get u.deques k) o v.thief → Kept s v → HasFound o s v
+  found_other s u v k None a p e = absurd (no_task (slice_get u.deques k) v.thief p)
+    where
+      no_task : (d : Option DequeId) (f : Option (Thief (TaskOf X))) → StolenBy d None f → ⊥
+      no_task None f q = q
+      no_task (Some d) f q = q
+  found_other s u v k (Some t) a p e = inr (inl (k, subst (λ (z : List DequeId). StolenBy (slice_get z k) (Some t) v.thief) (ap (λ (z : Hands X G O F). z.deques) a.1) p, e))
+
+  found_injected : (s u v : Hands X G O F) (o : Option (TaskOf X)) → Missed s u → TakenBy u.inlet o v.inlet → Kept s (record v { inlet = u.inlet }) → HasFound o s v
+  found_injected s u v None a p e = absurd p
+  found_injected s u v (Some t) a p e = inr (inr (subst (λ (z : Visitor (TaskOf X)). TakenBy z (Some t) v.inlet) a.0.2 p, e.0, e.1))
+
+  either : (s u : Hands X G O F) (z : Bool) (m n : Move) → Looking s u m → Looking s u n → Looking s u (if z then m else n)
+  either s u true m n a b = a
+  either s u false m n a b = b
+
+  either_place : (s u : Hands X G O F) (z : Bool) (m n : Place) → Looking s u (Stay m) → Looking s u (Stay n) → Looking s u (Stay (if z then m else n))
+  either_place s u true m n a b = a
+  either_place s u false m n a b = b
+
+  -- one look more
+  pub yield_on : (h : PoolShape) (i : ℕ) (s u v : Hands X G O F) (y : Place) (x : Seen) → IsYield y → Missed s u → Does (act_of (Worker 0 i) y) x u v → Looking s v (next_of h (Worker 0 i) y x)
+  yield_on h i s u v at.YieldPop (Task n) l a d = (d.0, found_own s u v v.task a d.1 (ap (λ (z : Hands X G O F). z.inlet) d.2), moved_on s u v a (subst (λ (z : Hands X G O F). Moved u z) (sym d.2) refl))
+  yield_on h i s u v at.YieldPop _ l a d = (looked s u v a d, tt)
+  yield_on h i s u v at.YieldTakeCast (Task n) l a d = absurd d
+  yield_on h i s u v at.YieldTakeCast _ l a d = either s v (h.workers == 1) (Stay at.YieldPopInjected) (Stay at.YieldPick) (same s u v a d, tt) (same s u v a d, tt)
+  yield_on h i s u v at.YieldPick (Start n) l a d = (same s u v a d, tt)
+  yield_on h i s u v at.YieldPick _ l a d = (same s u v a d, tt)
+  yield_on h i s u v (at.YieldSteal k m) (Task n) l a d = (d.0, found_other s u v k v.task a d.1 (subst (λ (z : Hands X G O F). Kept s z) (sym d.2) a.0), moved_on s u v a (subst (λ (z : Hands X G O F). Moved u z) (sym d.2) refl))
+  yield_on h i s u v (at.YieldSteal k m) _ l a d = either_place s v (m == 0) at.YieldPopInjected (at.YieldSteal (not_self h.workers i (next_victim h.workers k)) (m - 1)) (not_stolen s u v a d, tt) (not_stolen s u v a d, tt)
+  yield_on h i s u v at.YieldPopInjected (Task n) l a d = (d.0, found_injected s u v v.task a d.1 (subst (λ (z : Hands X G O F). Kept s (record z { inlet = u.inlet })) (sym d.2) a.0), moved_on s u v a (subst (λ (z : Hands X G O F). Moved u z) (sym d.2) refl))
+  yield_on h i s u v at.YieldPopInjected _ l a d = same s u v a d
+  yield_on h i s u v _ _ l a d = absurd l
+
+  -- where it goes on nothing was taken
+  pub still_looks : (s u : Hands X G O F) (y : Place) → ((n : ℕ) → y ≡ at.BeginTask n → ⊥) → Looking s u (Stay y) → Missed s u × IsYield y
+  still_looks s u (at.BeginTask n) k a = absurd (k n refl)
+  still_looks s u _ k a = a
+
+  -- what was found is given out of the hands
+  pub given_found : (s u v : Hands X G O F) (n : ℕ) (r : Option (TaskOf X)) → r ≡ u.task → v ≡ record u { task = None } → Looking s u (Stay (at.BeginTask n)) → MatchOption r (Kept s v) (λ t. Found t s v)
+  given_found s u v n None e f k = absurd (subst (λ (z : Option (TaskOf X)). HasTask z (Some n)) (sym e) k.0)
+  given_found s u v n (Some t) e f k = subst (λ (z : Hands X G O F). Found t s z) (sym f) (subst (λ (z : Option (TaskOf X)). HasFound z s u) (sym e) k.1)
+
+  pub given_left : (s u v : Hands X G O F) (n : ℕ) (r : Option (TaskOf X)) → r ≡ u.task → v ≡ record u { task = None } → Looking s u (Stay (at.BeginTask n)) → MatchOption r (v ≡ record s { own = v.own; thief = v.thief; trace = v.trace }) (λ _. v ≡ record s { own = v.own; inlet = v.inlet; thief = v.thief; task = None; trace = v.trace })
+  given_left s u v n None e f k = absurd (subst (λ (z : Option (TaskOf X)). HasTask z (Some n)) (sym e) k.0)
+  given_left s u v n (Some t) e f k = subst (λ (z : Hands X G O F). z ≡ record s { own = z.own; inlet = z.inlet; thief = z.thief; task = None; trace = z.trace }) (sym f) (ap (λ (z : Hands X G O F). record z { task = None }) k.2)
+
+  -- where the look is over nothing was taken
+  pub ended : (s u : Hands X G O F) (m : Move) → ((y : Place) → m ≡ Stay y → ⊥) → Looking s u m → (m ≡ Back) × Missed s u
+  ended s u (Stay y) k a = absurd (k y refl)
+  ended s u Back k a = (refl, a)
+  ended s u _ k a = absurd a
+
+  -- one look more: where the table leads, and what was found
+  pub one_more : (h : PoolShape) (i : ℕ) (q : Party) (m : Move) (s u v : Hands X G O F) (y : Place) (x : Seen) (b : Act) (n : Move) → q ≡ Worker 0 i → b ≡ act_of q y → n ≡ next_of h q y x → So h i m s (Stay y) u → Missed s u → IsYield y → Does b x u v → Adds b x u.trace v.trace → So h i m s n v × Looking s v n
+  one_more h i q m s u v y x b n r e f p a l d c =
+      let act : b ≡ act_of (Worker 0 i) y = subst (λ (z : Party). b ≡ act_of z y) r e in
+      let next : next_of h (Worker 0 i) y x ≡ n = sym (subst (λ (z : Party). n ≡ next_of h z y x) r f) in
+      let does : Does (act_of (Worker 0 i) y) x u v = subst (λ (z : Act). Does z x u v) act d in
+      let adds : Adds (act_of (Worker 0 i) y) x u.trace v.trace = subst (λ (z : Act). Adds z x u.trace v.trace) act c in
+      (subst (λ (z : Move). So h i m s z v) next (by_act h i m s (Stay y) u v x (yield_goes y l) p does adds), subst (λ (z : Move). Looking s v z) next (yield_on h i s u v y x l a does))

@@ -1,0 +1,112 @@
+//! What a worker looks for and pushes without running it. Each is a stretch of the table as far as a task's beginning, which is
+//! not performed, or to its end.
+ghost use Rattle.std.specs.Prelude.{◌≡◌, MatchOption, MatchResult, Some, None};
+ghost use Rattle.rayon_drive.specs.Paths.{Driven};
+ghost use Rattle.rayon_machine_places.specs.Places.{undo};
+ghost use Rattle.rayon_machine_places.specs.declared.place.Move.TheVariants.{Back, Stay};
+ghost use Rattle.rayon_machine_places.specs.declared.place.Party.TheVariants.{Worker};
+ghost use Rattle.rayon_machine_places.specs.declared.place.Place.TheVariants as at;
+ghost use Rattle.rayon_machine_places.specs.declared.place.Plan.TheVariants.{Detach};
+ghost use Rattle.rayon_performers.specs.Hands.{Does, Same};
+ghost use Rattle.rayon_performers.specs.Finds.{Found, Kept, StandsLast};
+ghost use Rattle.rayon_queues.specs.Deques.{Popped, SameDeque, Unmoved};
+
+use crate::bench::Bench;
+use rayon_drive::drive::Perform;
+use rayon_jobs::JobKind;
+use rayon_machine_places::act::{Act, Seen};
+use rayon_machine_places::place::{Move, Place, Plan, Then};
+use rayon_tasks::Task;
+use std::sync::Wait;
+
+impl<J: JobKind> Bench<J> {
+    /// Takes the newest task of the own deque, and does not run it: the look of a yield to the own tasks. Where the deque is
+    /// empty the broadcast list is looked at too, which holds no task yet. It refuses nothing: None says that neither has one.
+    /// The path with a task leads as far as that task's beginning, in the state with the task in hand, out of which it is given.
+    #[inline(always)]
+    pub fn take_local<R: Wait>(&mut self, rt: &R) -> Option<Task<J>>
+        ensures path { MatchOption result
+            (Driven (λ s a x t. Does a x s t) (λ s. s.trace) self.old.shape (Worker 0 self.old.index) (Stay at.LocalPop) self.old self.new Back)
+            (λ t. Driven (λ s a x t. Does a x s t) (λ s. s.trace) self.old.shape (Worker 0 self.old.index) (Stay at.LocalPop) self.old (record self.new { task = Some t }) (Stay (at.BeginTask t.ticket.number))) }
+        ensures popped { MatchOption result (Unmoved self.old.own self.new.own) (λ t. Popped self.old.own t self.new.own) }
+        ensures same { SameDeque self.old.own self.new.own }
+        ensures left { MatchOption result
+            (self.new ≡ record self.old { own = self.new.own; trace = self.new.trace })
+            (λ _. self.new ≡ record self.old { own = self.new.own; task = None; trace = self.new.trace }) }
+    {
+        if let Seen::Task(_) = self.pop_own() {
+            return self.take_task();
+        }
+        self.perform(rt, Act::TakeCast);
+        None
+    }
+
+    /// Looks for a task in all places of a yield, and does not run it: the own deque, the broadcast list, the other workers'
+    /// deques from a chosen one on, each once, and last the injector. It refuses nothing: None says that each look missed.
+    /// Before that answer other threads run first, as after each search that has found nothing, which is no act and changes
+    /// nothing of it. The path with a task leads as far as that task's beginning, in the state with the task in hand, out of
+    /// which it is given.
+    pub fn find_work<R: Wait>(&mut self, rt: &R) -> Option<Task<J>>
+        ensures path { MatchOption result
+            (Driven (λ s a x t. Does a x s t) (λ s. s.trace) self.old.shape (Worker 0 self.old.index) (Stay at.YieldPop) self.old self.new Back)
+            (λ t. Driven (λ s a x t. Does a x s t) (λ s. s.trace) self.old.shape (Worker 0 self.old.index) (Stay at.YieldPop) self.old (record self.new { task = Some t }) (Stay (at.BeginTask t.ticket.number))) }
+        ensures found { MatchOption result (Kept self.old self.new) (λ t. Found t self.old self.new) }
+        ensures left { MatchOption result
+            (self.new ≡ record self.old { own = self.new.own; thief = self.new.thief; trace = self.new.trace })
+            (λ _. self.new ≡ record self.old { own = self.new.own; inlet = self.new.inlet; thief = self.new.thief; task = None; trace = self.new.trace }) }
+    {
+        let shape = self.shape;
+        let party = self.party();
+        let mut place = Place::YieldPop;
+        for _ in rt.forever() {
+            let seen = self.perform(rt, place.act(party));
+            match place.next(party, shape, seen) {
+                Move::Stay(next) => {
+                    if let Place::BeginTask(_) = next {
+                        return self.take_task();
+                    }
+                    place = next;
+                }
+                _ => return None,
+            }
+        }
+        unreachable!()
+    }
+
+    /// Pushes a task onto the own deque, tells that it is there, and wakes whom that owes a wake: a call that does not wait,
+    /// after its Raise and as far as its end. Where there is no room the task comes back, and nothing was added: the path
+    /// then leads to where the table has such a call give its unit of the terminate count back. That Lower is not performed
+    /// here, since the Raise was not: whoever took a unit for the task keeps it.
+    #[inline(always)]
+    pub fn push<R: Wait>(&mut self, rt: &R, task: Task<J>) -> Result<(), Task<J>>
+        ensures path { MatchResult result
+            (λ _. Driven (λ s a x t. Does a x s t) (λ s. s.trace) self.old.shape (Worker 0 self.old.index) (Stay (at.LookQueue (Detach 0 task.ticket.number))) self.old self.new Back)
+            (λ _. Driven (λ s a x t. Does a x s t) (λ s. s.trace) self.old.shape (Worker 0 self.old.index) (Stay (at.LookQueue (Detach 0 task.ticket.number))) self.old self.new (Stay (undo (Detach 0 task.ticket.number)))) }
+        ensures pushed { MatchResult result (λ _. StandsLast self.old.own task self.new.own) (λ back. (back ≡ task) × Unmoved self.old.own self.new.own) }
+        ensures left { SameDeque self.old.own self.new.own × (self.new ≡ record self.old { own = self.new.own; trace = self.new.trace }) }
+    {
+        let name = task.number();
+        let was_empty = self.look_own();
+        self.push_own(name, task)?;
+        self.tell_pushed(rt, name, was_empty);
+        Ok(())
+    }
+
+    // Tells that the task of a call that does not wait was pushed, and wakes whom that owes a wake.
+    #[inline(always)]
+    fn tell_pushed<R: Wait>(&mut self, rt: &R, name: u64, was_empty: bool)
+        ensures path { Driven (λ s a x t. Does a x s t) (λ s. s.trace) self.old.shape (Worker 0 self.old.index) (Stay (at.TellNews (Detach 0 name) was_empty)) self.old self.new Back }
+        ensures same { Same self.old self.new }
+    {
+        let shape = self.shape;
+        let index = self.index;
+        let owed = self.news(rt, was_empty);
+        if owed > 0 {
+            let place = Place::TellNews {
+                plan: Plan::Detach { pool: 0, job: name },
+                was_empty,
+            };
+            self.finish_from(rt, shape, index, place, Seen::Wakes(owed), Then::Resume);
+        }
+    }
+}

@@ -1,5 +1,5 @@
-//! What a worker looks for and pushes without running it. Each is a stretch of the table as far as a task's beginning, which is
-//! not performed, or to its end.
+//! What a worker looks for and pushes without running it. Each is a stretch of the table as far as a task's beginning,
+//! which is not performed, or to its end.
 ghost use Rattle.std.specs.Prelude.{◌≡◌, MatchOption, MatchResult, Some, None};
 ghost use Rattle.rayon_drive.specs.Paths.{Driven};
 ghost use Rattle.rayon_machine_places.specs.Places.{undo};
@@ -20,9 +20,10 @@ use rayon_tasks::Task;
 use std::sync::Wait;
 
 impl<J: JobKind> Bench<J> {
-    /// Takes the newest task of the own deque, and does not run it: the look of a yield to the own tasks. Where the deque is
-    /// empty the broadcast list is looked at too, which holds no task yet. It refuses nothing: None says that neither has one.
-    /// The path with a task leads as far as that task's beginning, in the state with the task in hand, out of which it is given.
+    /// Takes the newest task of the own deque, and does not run it: the look of a yield to the own tasks. Where the
+    /// deque is empty the broadcast list is looked at too, which holds no task yet. It refuses nothing: None says that
+    /// neither gave one. The path with a task leads as far as that task's beginning, in the state with the task in
+    /// hand, out of which it is given.
     #[inline(always)]
     pub fn take_local<R: Wait>(&mut self, rt: &R) -> Option<Task<J>>
         ensures path { MatchOption result
@@ -41,11 +42,11 @@ impl<J: JobKind> Bench<J> {
         None
     }
 
-    /// Looks for a task in all places of a yield, and does not run it: the own deque, the broadcast list, the other workers'
-    /// deques from a chosen one on, each once, and last the injector. It refuses nothing: None says that each look missed.
-    /// Before that answer other threads run first, as after each search that has found nothing, which is no act and changes
-    /// nothing of it. The path with a task leads as far as that task's beginning, in the state with the task in hand, out of
-    /// which it is given.
+    /// Looks for a task in all places of a yield, and does not run it: the own deque, the broadcast list, the other
+    /// workers' deques from a chosen one on, each once, and last the injector. It refuses nothing: None says that each
+    /// look missed. Before that answer other threads run first, as after each search that has found nothing; that is no
+    /// act, and changes nothing of the answer. The path with a task leads as far as that task's beginning, in the state
+    /// with the task in hand, out of which it is given.
     pub fn find_work<R: Wait>(&mut self, rt: &R) -> Option<Task<J>>
         ensures path { MatchOption result
             (Driven (λ s a x t. Does a x s t) (λ s. s.trace) self.old.shape (Worker 0 self.old.index) (Stay at.YieldPop) self.old self.new Back)
@@ -73,10 +74,10 @@ impl<J: JobKind> Bench<J> {
         unreachable!()
     }
 
-    /// Pushes a task onto the own deque, tells that it is there, and wakes whom that owes a wake: a call that does not wait,
-    /// after its Raise and as far as its end. Where there is no room the task comes back, and nothing was added: the path
-    /// then leads to where the table has such a call give its unit of the terminate count back. That Lower is not performed
-    /// here, since the Raise was not: whoever took a unit for the task keeps it.
+    /// Pushes a task onto the own deque, tells that it is there, and wakes whom that owes a wake: a call that does not
+    /// wait, after its Raise and as far as its end. Refused for want of room alone, with the task back and nothing
+    /// added: the path then leads to where the table has such a call give its unit of the terminate count back. That
+    /// Lower is not performed here, since the Raise was not: whoever took a unit for the task still has it.
     #[inline(always)]
     pub fn push<R: Wait>(&mut self, rt: &R, task: Task<J>) -> Result<(), Task<J>>
         ensures path { MatchResult result

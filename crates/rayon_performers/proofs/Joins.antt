@@ -1,5 +1,5 @@
 -- A join that does not find its own second side finds another task, or ends as the wait for the thief's answer does.
-use Rattle.std.proofs.Common.{◌≡◌, ◌⊎◌, inl, inr, ℕ, Bool, true, false, ◌==◌, if◌then◌else◌, Some, refl, sym, subst, ap, true≢false}
+use Rattle.std.proofs.Common.{◌≡◌, inl, inr, ℕ, Bool, true, false, ◌==◌, if◌then◌else◌, Some, refl, sym, ap, true≢false}
 use Rattle.std.proofs.lemmas.Bool.{eqb-true}
 use Rattle.rayon_machine_places.specs.declared.place.Ending.TheVariants.{Fine}
 use Rattle.rayon_machine_places.specs.declared.place.Party.TheVariants.{Worker}
@@ -12,7 +12,7 @@ use Rattle.rayon_machine_places.specs.declared.place.Move.TheVariants.{Stay, Ent
 use Rattle.rayon_machine_places.specs.declared.act.Seen.{Seen}
 use Rattle.rayon_machine_places.specs.declared.act.Seen.TheVariants.{Task}
 use Rattle.rayon_machine_places.specs.declared.shape.PoolShape.{PoolShape}
-use Rattle.rayon_machine_places.specs.Places.{next_of, fresh}
+use Rattle.rayon_machine_places.specs.Places.{next_of}
 use Rattle.rayon_drive.specs.Paths.{goes, act_at, onward, Driven}
 use Rattle.rayon_drive.proofs.Paths.{driven_keeps}
 use Rattle.rayon_performers.specs.Hands.{Hands, Does}

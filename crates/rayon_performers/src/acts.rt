@@ -1,5 +1,5 @@
 //! A worker's acts. Each does what the machine's act of its name does, and adds the one entry of that act to the trace.
-ghost use Rattle.std.specs.Prelude.{◌≡◌, ◌⊎◌, ◌+◌, ℕ, Some, IfErr, MatchOption, MatchResult};
+ghost use Rattle.std.specs.Prelude.{◌≡◌, ◌⊎◌, ◌+◌, ℕ, [], true, Some, IfErr, MatchOption, MatchResult};
 ghost use Rattle.rayon_drive.specs.Traces.{Adds};
 ghost use Rattle.rayon_machine_places.specs.declared.act.Act.TheVariants as acts;
 ghost use Rattle.rayon_machine_places.specs.declared.act.Seen.TheVariants as saw;
@@ -183,11 +183,12 @@ impl<J: JobKind> Bench<J> {
         }
     }
 
-    // Sees whether the own deque is empty.
+    /// Sees whether the own deque is empty.
     #[inline(always)]
-    pub(crate) fn look_own(&mut self) -> bool
+    pub fn look_own(&mut self) -> bool
         ensures does { Looks self.old self.new }
         ensures adds { Adds acts.LookOwn (answer result) self.old.trace self.new.trace }
+        ensures empty { self.old.own.left ≡ [] → result ≡ true }
     {
         let is_empty = self.own.is_empty();
         self.add(Act::LookOwn, yes(is_empty));

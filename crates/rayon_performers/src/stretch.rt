@@ -11,10 +11,12 @@ ghost use Rattle.rayon_machine_places.specs.declared.place.Place.TheVariants as 
 ghost use Rattle.rayon_machine_places.specs.declared.place.Plan.TheVariants.{Here};
 ghost use Rattle.rayon_machine_places.specs.declared.place.Share.TheVariants.{OfJob};
 ghost use Rattle.rayon_performers.specs.Calls.{IsJobOf, IsOneJob, own_call, own_join};
+ghost use Rattle.rayon_performers.specs.Finds.{StandsLast};
 ghost use Rattle.rayon_performers.specs.Hands.{Does, HasResult, HasTask, HasTicket, Same, kind_of};
 ghost use Rattle.rayon_performers.specs.Stands.{Stands, call_to};
 ghost use Rattle.rayon_performers.specs.Tails.{IsLast, IsTail};
 ghost use Rattle.rayon_performers.specs.Waits.{Rejoined, Waited};
+ghost use Rattle.rayon_queues.specs.Deques.{SameDeque, Unmoved};
 
 use crate::bench::Bench;
 use rayon_drive::drive::drive;
@@ -134,8 +136,9 @@ impl<J: JobKind> Bench<J> {
             (λ _. Driven (λ s a x t. Does a x s t) (λ s. s.trace) self.old.shape (Worker 0 self.old.index) (Stay (at.RaiseCount (own_join name))) self.old self.new (StartRun (at.FirstSide (own_call name) name) name))
             (λ _. Driven (λ s a x t. Does a x s t) (λ s. s.trace) self.old.shape (Worker 0 self.old.index) (Stay (at.RaiseCount (own_join name))) self.old self.new (HandBack (own_join name))) }
         ensures pushed { MatchResult result
-            (λ t. self.new.own.pushed ≡ self.old.own.pushed ++ record { work = OneJob job; injected = injected; ticket = t } ∷ [])
-            (λ e. (e.1 ≡ job) × (self.new.own.pushed ≡ self.old.own.pushed)) }
+            (λ t. StandsLast self.old.own (record { work = OneJob job; injected = injected; ticket = t }) self.new.own)
+            (λ e. (e.1 ≡ job) × Unmoved self.old.own self.new.own) }
+        ensures deque { SameDeque self.old.own self.new.own }
         ensures ticket { IfOk result (λ t. t ≡ record { owner = Worker 0 self.old.index; number = name }) }
         ensures left { MatchResult result
             (λ _. self.new ≡ record self.old { own = self.new.own; holds = self.old.holds + 1; trace = self.new.trace })

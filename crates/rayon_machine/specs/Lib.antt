@@ -14,7 +14,7 @@ pub use Rattle.rayon_machine_laws.specs.End
 pub use Rattle.rayon_machine_laws.specs.Latch
 pub use Rattle.rayon_machine_laws.specs.Shares
 pub use Rattle.rayon_machine_laws.specs.Counted
-pub use Rattle.rayon_machine_laws.specs.Calls
-pub use Rattle.rayon_machine_laws.specs.Order
+pub use Rattle.rayon_machine_orders.specs.Calls
+pub use Rattle.rayon_machine_orders.specs.Order
 pub use Rattle.rayon_machine_parts.specs.State
 pub use Rattle.rayon_machine_world.specs.Running

@@ -6,9 +6,11 @@
 //! acts, which is not proved yet.
 //!
 //! This crate only gives the names of the crates below it: `rayon_machine_places` has the places and their acts,
-//! `rayon_machine_laws` what holds in every run, and `rayon_machine_world` the world that makes the steps.
+//! `rayon_machine_laws` and `rayon_machine_orders` what holds in every run, and `rayon_machine_world` the world that
+//! makes the steps.
 #![tactic(auto)]
 
-pub use rayon_machine_laws::{laws, order_laws, sleep_laws};
+pub use rayon_machine_laws::{laws, sleep_laws};
+pub use rayon_machine_orders::{call_laws, order_laws};
 pub use rayon_machine_places::{act, error, event, moves, place, shape, state, table};
 pub use rayon_machine_world::{readers, world};

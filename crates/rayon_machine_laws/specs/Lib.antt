@@ -7,8 +7,6 @@ pub mod End
 pub mod Latch
 pub mod Shares
 pub mod Counted
-pub mod Calls
-pub mod Order
 pub use Rattle.rayon_machine_places.specs.Places
 pub use Rattle.rayon_machine_places.specs.World
 pub use Rattle.rayon_machine_places.specs.Steps

@@ -34,9 +34,9 @@ use Rattle.rayon_machine_laws.proofs.ClaimRuns.{place_part, world_after}
 use Rattle.rayon_machine_laws.proofs.Bares.{all_bare, backs}
 use Rattle.rayon_machine_laws.proofs.ShareActs.{SharesHold, with_job, Untallied, act_untallied, one_most, one_is}
 use Rattle.rayon_machine_laws.proofs.Returns.{ReturnsHold}
-use Rattle.rayon_machine_laws.proofs.CallPlaces.{Stage, Going, Gone, Paid, Undone, Ended, Known}
-use Rattle.rayon_machine_laws.proofs.CallActs.{Queued, Sofar}
-use Rattle.rayon_machine_laws.proofs.CallEvents.{Turned, from_turned, refuse_turned, miss_turned, end_turned, spawn_turned, install_turned, join_turned, yield_turned, give_turned}
+use Rattle.rayon_machine_orders.proofs.CallPlaces.{Stage, Going, Gone, Paid, Undone, Ended, Known}
+use Rattle.rayon_machine_orders.proofs.CallActs.{Queued, Sofar}
+use Rattle.rayon_machine_orders.proofs.CallEvents.{Turned, from_turned, refuse_turned, miss_turned, end_turned, spawn_turned, install_turned, join_turned, yield_turned, give_turned}
 
 -- calls keep their first side, and jobs their kind
 pub record Carries (w u : World) : Type 0 where

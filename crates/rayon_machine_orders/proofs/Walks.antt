@@ -6,7 +6,7 @@ use Rattle.std.proofs.lemmas.List.{append_assoc}
 use Rattle.rayon_machine_places.specs.declared.shape.Order.{Order}
 use Rattle.rayon_machine_places.specs.declared.shape.Order.TheVariants.{NewestFirst, OldestFirst}
 use Rattle.rayon_machine_laws.specs.Once.{one, times}
-use Rattle.rayon_machine_laws.specs.Order.{Happening, Adds, Begins, Hands, Trees, NoTree, Tree, roots, walk_back, beside, levels, joined, walk, walk_each, same_run, added_by, begun_in, AreSpawned, reversed, handed}
+use Rattle.rayon_machine_orders.specs.Order.{Happening, Adds, Begins, Hands, Trees, NoTree, Tree, roots, walk_back, beside, levels, joined, walk, walk_each, same_run, added_by, begun_in, AreSpawned, reversed, handed}
 use Rattle.rayon_machine_laws.proofs.Frame.{either}
 
 -- a job is neither added nor begun

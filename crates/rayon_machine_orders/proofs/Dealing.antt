@@ -17,15 +17,15 @@ use Rattle.rayon_machine_places.specs.declared.place.OpenCall.{OpenCall}
 use Rattle.rayon_machine_places.specs.Places.{same_party, plan_pool, plan_job, act_of, next_of}
 use Rattle.rayon_machine_places.specs.World.{Stack, World, counts_at, Part, own_of, own_left, popped, target_pool, target_worker, target_call, effect}
 use Rattle.rayon_machine_places.specs.Steps.{put_seat, part_of, after_move, step}
-use Rattle.rayon_machine_laws.specs.Order.{Happening, act_happens, happening, Hands}
+use Rattle.rayon_machine_orders.specs.Order.{Happening, act_happens, happening, Hands}
 use Rattle.rayon_machine_laws.proofs.Calm.{part_at, counts_seen, next_at}
 use Rattle.rayon_machine_laws.proofs.Frame.{either, if_some_and, if_some_map, same_party_true, acted_keeps}
-use Rattle.rayon_machine_laws.proofs.Lone.{Honest, Turns, is_act, is_thief, taken, turns}
+use Rattle.rayon_machine_orders.proofs.Lone.{Honest, Turns, is_act, is_thief, taken, turns}
 use Rattle.rayon_machine_laws.proofs.Ties.{AllFrames, job_at, shape_at, outcome, result}
 use Rattle.rayon_machine_laws.proofs.Tops.{FramesOk}
 use Rattle.rayon_machine_places.specs.declared.event.Event.{Event}
 use Rattle.rayon_machine_places.specs.declared.event.Event.TheVariants.{Go}
-use Rattle.rayon_machine_laws.proofs.Dealt.{is_pop, elsewhere, is_start, is_push, Dealt, own_hands, hand_on, silent, seat_mine, seat_own, quiet_own, other_own}
+use Rattle.rayon_machine_orders.proofs.Dealt.{is_pop, elsewhere, is_start, is_push, Dealt, own_hands, hand_on, silent, seat_mine, seat_own, quiet_own, other_own}
 
 -- what a step does to a worker's deque, between two worlds
 abbrev pub Deals : Order → ℕ → ℕ → World → World → Option Happening → Type 0

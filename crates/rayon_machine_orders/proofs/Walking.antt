@@ -14,19 +14,19 @@ use Rattle.rayon_machine_places.specs.Places.{same_party, plan_pool, plan_job, a
 use Rattle.rayon_machine_places.specs.World.{Shape, World, begun, target_pool, target_worker, target_call}
 use Rattle.rayon_machine_places.specs.Steps.{put, step}
 use Rattle.rayon_machine_laws.specs.Once.{times}
-use Rattle.rayon_machine_laws.specs.Order.{Happening, Adds, Begins, happening, and_next, happenings, Hands, act_happens, IsLeft, IsWalk, is_other_call, TreeLaw}
+use Rattle.rayon_machine_orders.specs.Order.{Happening, Adds, Begins, happening, and_next, happenings, Hands, act_happens, IsLeft, IsWalk, is_other_call, TreeLaw}
 use Rattle.rayon_machine_laws.specs.Turn.{IsRunWithout}
 use Rattle.rayon_machine_laws.proofs.Ties.{job_at, outcome, result}
-use Rattle.rayon_machine_laws.proofs.Begun.{BeginsOn, step_runs}
-use Rattle.rayon_machine_laws.proofs.Dealing.{Deals}
-use Rattle.rayon_machine_laws.proofs.Dealt.{elsewhere, is_push, is_start, silent}
+use Rattle.rayon_machine_orders.proofs.Begun.{BeginsOn, step_runs}
+use Rattle.rayon_machine_orders.proofs.Dealing.{Deals}
+use Rattle.rayon_machine_orders.proofs.Dealt.{elsewhere, is_push, is_start, silent}
 use Rattle.rayon_machine_laws.proofs.Frame.{either, acted_keeps, put_new, same_party_true}
-use Rattle.rayon_machine_laws.proofs.Handed.{Reached, reach_on, reached_jobs, reached_lists, reached_shape, in_hand, taken_once, none_some, some_same, left_of, deals_on}
-use Rattle.rayon_machine_laws.proofs.Lone.{taken}
+use Rattle.rayon_machine_orders.proofs.Handed.{Reached, reach_on, reached_jobs, reached_lists, reached_shape, in_hand, taken_once, none_some, some_same, left_of, deals_on}
+use Rattle.rayon_machine_orders.proofs.Lone.{taken}
 use Rattle.rayon_machine_laws.proofs.PlacedRuns.{JobsHold}
-use Rattle.rayon_machine_laws.proofs.Standing.{StandsAt, stands_emptied}
-use Rattle.rayon_machine_laws.proofs.Walked.{next_run, event_adds, adds_hand, adds_caller, Stood, step_stands}
-use Rattle.rayon_machine_laws.proofs.Walks.{Absent, Orderly, Grown, grown}
+use Rattle.rayon_machine_orders.proofs.Standing.{StandsAt, stands_emptied}
+use Rattle.rayon_machine_orders.proofs.Walked.{next_run, event_adds, adds_hand, adds_caller, Stood, step_stands}
+use Rattle.rayon_machine_orders.proofs.Walks.{Absent, Orderly, Grown, grown}
 
 -- a job that is added, or begins, had not begun before
 adds_unbegun : (p : ℕ) (w : World) (e : Event) (by : Option ℕ) (s : ℕ) → JobsHold w → happening p w e ≡ Some (Adds by s) → (w.job s).runs ≡ 0

@@ -10,7 +10,7 @@ use Rattle.rayon_machine_places.specs.declared.event.Event.{Event}
 use Rattle.rayon_machine_places.specs.declared.event.Event.TheVariants.{Go, Refuse, End, Spawn, YieldLocal}
 use Rattle.rayon_machine_places.specs.Runs.{start}
 use Rattle.rayon_machine_places.specs.World.{World}
-use Rattle.rayon_machine_laws.specs.Order.{Happening, Adds, Begins, happenings, begun_in, NoTree, Tree, walk, IsWalk, TokenList}
+use Rattle.rayon_machine_orders.specs.Order.{Happening, Adds, Begins, happenings, begun_in, NoTree, Tree, walk, IsWalk, TokenList}
 
 abbrev gos : Party → ℕ → List Event
 gos q zero = []

@@ -60,7 +60,7 @@ use Rattle.rayon_machine_laws.proofs.ShareRuns.{shares_mine}
 use Rattle.rayon_machine_laws.proofs.ShareSteps.{self_one}
 use Rattle.rayon_machine_laws.proofs.ShareEvents.{go_shares}
 use Rattle.rayon_machine_laws.proofs.ShareEnds.{freed, closed_shares, step_shares, first_shares}
-use Rattle.rayon_machine_laws.proofs.Takes.{set_found, set_then, seen_set, sees_set, latch_number, sets_now, stores_now, is_grown_well, then_missing, says_missing, finds_missing, Follows, frame_says, follows_on, is_growing, writes_cell, number_is, SeesSet, act_sees, StaysSet, act_stays_set, SameCell, act_cell, act_finds, sets_touched}
+use Rattle.rayon_machine_orders.proofs.Takes.{set_found, set_then, seen_set, sees_set, latch_number, sets_now, stores_now, is_grown_well, then_missing, says_missing, finds_missing, Follows, frame_says, follows_on, is_growing, writes_cell, number_is, SeesSet, act_sees, StaysSet, act_stays_set, SameCell, act_cell, act_finds, sets_touched}
 
 -- a call whose latch is set, or about to be
 abbrev pub IsSettled : World → ℕ → Type 0

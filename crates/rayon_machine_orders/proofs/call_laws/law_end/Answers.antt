@@ -1,10 +1,10 @@
 use Rattle.rayon_machine_laws.proofs.ClaimMakes.{always_calls}
 use Rattle.rayon_machine_laws.proofs.Endings.{ends_so, refused_so}
 use Rattle.rayon_machine_laws.proofs.ShareEnds.{always_shares, no_early_end}
-use Rattle.rayon_machine_laws.proofs.Filled.{FilledHold, always_filled, takes_filled, none_missing}
+use Rattle.rayon_machine_orders.proofs.Filled.{FilledHold, always_filled, takes_filled, none_missing}
 use Rattle.rayon_machine_laws.proofs.Returns.{always_returns, returned_so}
-use Rattle.rayon_machine_laws.proofs.Calls.{call_law}
-use Rattle.rayon_machine_laws.proofs.laws.law_end.Goals as goal
+use Rattle.rayon_machine_orders.proofs.Calls.{call_law}
+use Rattle.rayon_machine_orders.proofs.call_laws.law_end.Goals as goal
 
 pub returns-clause-ends : goal.returns-clause-ends
 returns-clause-ends c h es w r = let f : FilledHold w = always_filled h es w r in ends_so w (always_calls h es w r) (takes_filled w f) (none_missing w f)

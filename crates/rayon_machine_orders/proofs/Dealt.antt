@@ -26,10 +26,10 @@ use Rattle.rayon_machine_places.specs.declared.place.Settling.{Settling}
 use Rattle.rayon_machine_places.specs.Places.{same_party, is_member, plan_pool, plan_job, finish, walk, settle, after_set, after_found, after_news, act_of, next_of}
 use Rattle.rayon_machine_places.specs.World.{Shape, Seat, Stack, World, Counts, Part, last_of, but_last, own_of, own_left, target_pool, target_worker, effect}
 use Rattle.rayon_machine_places.specs.Steps.{put_seat, after_move}
-use Rattle.rayon_machine_laws.specs.Order.{Happening, Adds, Begins, act_happens, Hands}
+use Rattle.rayon_machine_orders.specs.Order.{Happening, Adds, Begins, act_happens, Hands}
 use Rattle.rayon_machine_laws.proofs.Calm.{part_at, counts_seen}
 use Rattle.rayon_machine_laws.proofs.Frame.{either, if_some_all, if_some_map, same_index, same_refl}
-use Rattle.rayon_machine_laws.proofs.Lone.{is_thief, settle_move, settled_move, taken, taken_then, walk_move}
+use Rattle.rayon_machine_orders.proofs.Lone.{is_thief, settle_move, settled_move, taken, taken_then, walk_move}
 use Rattle.rayon_machine_laws.proofs.Seats.{is_frame}
 use Rattle.rayon_machine_laws.proofs.Ties.{AllFrames, outcome, result}
 use Rattle.rayon_machine_laws.proofs.Tops.{Tops, top_after}

@@ -1,6 +1,6 @@
 //! The law of the order of jobs on one worker, the contract of a call without arguments: it holds in every stretch of
 //! every run.
-ghost use Rattle.rayon_machine_laws.specs.Order.{TokenLaw, TreeLaw};
+ghost use Rattle.rayon_machine_orders.specs.Order.{TokenLaw, TreeLaw};
 
 /// In a pool of one worker the jobs of the worker's own deque begin in the order in which a token list hands them out,
 /// from what stood in the deque on: what is added stands last, and the last begins next, or the first in a pool that is

@@ -26,8 +26,8 @@ use Rattle.rayon_machine_places.specs.declared.place.Wait.{Wait}
 use Rattle.rayon_machine_places.specs.Places.{walk, act_of, next_of}
 use Rattle.rayon_machine_places.specs.World.{Shape, World, Counts, Part, Outcome, effect}
 use Rattle.rayon_machine_laws.specs.End.{AllFine, follows}
-use Rattle.rayon_machine_laws.specs.Calls.{caller_of, is_awaited, verdict_of, is_at_call, is_refusal}
-use Rattle.rayon_machine_laws.proofs.WrongMachines.{Machine, step_by, run_by, times_go, two, b, c, right}
+use Rattle.rayon_machine_orders.specs.Calls.{caller_of, is_awaited, verdict_of, is_at_call, is_refusal}
+use Rattle.rayon_machine_orders.proofs.WrongMachines.{Machine, step_by, run_by, times_go, two, b, c, right}
 
 -- some event of a machine's run passes the test
 abbrev any_by : Machine → (World → Event → Bool) → Option World → List Event → Bool

@@ -50,7 +50,7 @@ use Rattle.rayon_machine_laws.proofs.ShareEvents.{ready, ungained}
 use Rattle.rayon_machine_laws.proofs.ShareEnds.{freed, closed_shares}
 use Rattle.rayon_machine_laws.proofs.Bares.{all_bare, backs}
 use Rattle.rayon_machine_laws.proofs.Returns.{ReturnsHold, unpaid, step_returns, first_returns}
-use Rattle.rayon_machine_laws.proofs.Keepers.{HasKeeper, KeepersHold, keepers_by, StaysBusy, act_pushes, act_busies, moved_stays, busy_kept}
+use Rattle.rayon_machine_orders.proofs.Keepers.{HasKeeper, KeepersHold, keepers_by, StaysBusy, act_pushes, act_busies, moved_stays, busy_kept}
 
 -- the share of a job that is pushed goes with a detached job alone
 pushed_most : (t : ℕ) (n : Plan) (v : Bool) (e : Seen) → pushed t (PushJob n v) e ≤ one (t == plan_job n)

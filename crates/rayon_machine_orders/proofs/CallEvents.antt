@@ -21,10 +21,10 @@ use Rattle.rayon_machine_places.specs.declared.state.Whereabouts.TheVariants.{Ov
 use Rattle.rayon_machine_places.specs.Places.{own_pool, plan_job, is_member, undo, next_steal, next_yield, goes_on, is_free, same_party}
 use Rattle.rayon_machine_places.specs.World.{Stack, World, at_job}
 use Rattle.rayon_machine_places.specs.Steps.{put, put_stack, with_stack, after_choice, after_refusal, can_miss, after_miss, after_resume, after_close, after_end, after_call, is_pool, new_job, new_call, after_spawn, after_send, after_install, after_join, after_yield, after_end_pool}
-use Rattle.rayon_machine_laws.specs.Calls.{is_at_call, is_refusal}
+use Rattle.rayon_machine_orders.specs.Calls.{is_at_call, is_refusal}
 use Rattle.rayon_machine_laws.proofs.Frame.{if_cond, put_same, put_old, same_party_refl}
-use Rattle.rayon_machine_laws.proofs.CallPlaces.{Stage, Undone, is_undone, Part, plan_open, plan_here, steal_part, open_job, here_job}
-use Rattle.rayon_machine_laws.proofs.CallActs.{Sofar, or_false, or_true}
+use Rattle.rayon_machine_orders.proofs.CallPlaces.{Stage, Undone, is_undone, Part, plan_open, plan_here, steal_part, open_job, here_job}
+use Rattle.rayon_machine_orders.proofs.CallActs.{Sofar, or_false, or_true}
 
 -- the frames of a stack and its top
 abbrev pub whole : Stack → List Place

@@ -28,13 +28,13 @@ use Rattle.rayon_machine_places.specs.Places.{own_pool, own_index, is_member, pl
 use Rattle.rayon_machine_places.specs.World.{World, Part as Piece, target_pool, target_worker, target_call, counts_at, at_job, found, effect}
 use Rattle.rayon_machine_places.specs.Steps.{put, part_of, jobs_after, after}
 use Rattle.rayon_machine_places.specs.Readers.{is_queued, is_running, is_done}
-use Rattle.rayon_machine_laws.specs.Calls.{is_raise_refused}
+use Rattle.rayon_machine_orders.specs.Calls.{is_raise_refused}
 use Rattle.rayon_machine_laws.proofs.Frame.{if_some_all, put_new}
 use Rattle.rayon_machine_laws.proofs.Ties.{job_at, outcome}
 use Rattle.rayon_machine_laws.proofs.Claims.{Says}
 use Rattle.rayon_machine_laws.proofs.ClaimRuns.{place_part, world_after}
 use Rattle.rayon_machine_laws.proofs.ShareLowers.{lowered_world}
-use Rattle.rayon_machine_laws.proofs.CallPlaces.{Stage, Going, Gone, Paid, Undone, is_undone, Part, PartOwed, Known, Leads, raised_leads, lower_leads, is_decisive, part_leads, open_job, here_job}
+use Rattle.rayon_machine_orders.proofs.CallPlaces.{Stage, Going, Gone, Paid, Undone, is_undone, Part, PartOwed, Known, Leads, raised_leads, lower_leads, is_decisive, part_leads, open_job, here_job}
 
 -- what is known of a spawned job once it is queued
 abbrev pub Queued : (ℕ → Job) → Plan → Type 0

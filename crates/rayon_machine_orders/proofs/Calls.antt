@@ -27,7 +27,7 @@ use Rattle.rayon_machine_places.specs.Steps.{after_call, is_pool, new_job, new_c
 use Rattle.rayon_machine_places.specs.Runs.{IsRun, start}
 use Rattle.rayon_machine_places.specs.Readers.{is_done}
 use Rattle.rayon_machine_laws.specs.End.{HasEnded, Verdict, AllFine, FirstFault, LastFault, answered, follows, AllJobs}
-use Rattle.rayon_machine_laws.specs.Calls.{caller_of, jobs_of, is_awaited, verdict_of, IsPrecedent, IsRunUntil, is_at_call, is_refusal, is_any, HasRun, LeavesJob, HoldsEnding, StandsOn, CallLaw}
+use Rattle.rayon_machine_orders.specs.Calls.{caller_of, jobs_of, is_awaited, verdict_of, IsPrecedent, IsRunUntil, is_at_call, is_refusal, is_any, HasRun, LeavesJob, HoldsEnding, StandsOn, CallLaw}
 use Rattle.rayon_machine_laws.proofs.Frame.{either, if_cond, put_new, stack_mine}
 use Rattle.rayon_machine_laws.proofs.PlacedEvents.{Advance}
 use Rattle.rayon_machine_laws.proofs.PlacedRuns.{JobsHold, step_advance, once}
@@ -35,11 +35,11 @@ use Rattle.rayon_machine_laws.proofs.Claims.{Opened, FirstEnds, is_detached, Say
 use Rattle.rayon_machine_laws.proofs.ClaimMakes.{always_calls}
 use Rattle.rayon_machine_laws.proofs.Endings.{has_ended, refused_so}
 use Rattle.rayon_machine_laws.proofs.Returns.{always_returns, returned_so}
-use Rattle.rayon_machine_laws.proofs.Filled.{always_filled, takes_filled}
-use Rattle.rayon_machine_laws.proofs.CallPlaces.{Stage, Going, is_undone, Part, PartOpen, PartOwed, plan_open, plan_here, is_detach, Ended, Known, open_job}
-use Rattle.rayon_machine_laws.proofs.CallActs.{or_false}
-use Rattle.rayon_machine_laws.proofs.CallEvents.{whole, CallStands, at_call_no}
-use Rattle.rayon_machine_laws.proofs.CallStretch.{Ground, Inside, Unrefused, Returned, After, Stays, step_stays}
+use Rattle.rayon_machine_orders.proofs.Filled.{always_filled, takes_filled}
+use Rattle.rayon_machine_orders.proofs.CallPlaces.{Stage, Going, is_undone, Part, PartOpen, PartOwed, plan_open, plan_here, is_detach, Ended, Known, open_job}
+use Rattle.rayon_machine_orders.proofs.CallActs.{or_false}
+use Rattle.rayon_machine_orders.proofs.CallEvents.{whole, CallStands, at_call_no}
+use Rattle.rayon_machine_orders.proofs.CallStretch.{Ground, Inside, Unrefused, Returned, After, Stays, step_stays}
 
 run_more : (w v u : World) (es : List Event) (e : Event) → IsRun w es v → step v e ≡ Some u → IsRun w (es ++ (e ∷ [])) u
 run_more w v u [] e r one = (u, subst (λ x. step x e ≡ Some u) r one, refl)

@@ -36,7 +36,7 @@ use Rattle.rayon_machine_laws.specs.End.{follows}
 use Rattle.rayon_machine_laws.specs.Committed.{is_committed, is_looking}
 use Rattle.rayon_machine_laws.specs.Attended.{is_filled, has_pushed, owes_wake, settles}
 use Rattle.rayon_machine_laws.specs.Turn.{is_adding, is_added, is_news}
-use Rattle.rayon_machine_laws.specs.Order.{Happening, Adds, Begins, happening, and_next, TokenList}
+use Rattle.rayon_machine_orders.specs.Order.{Happening, Adds, Begins, happening, and_next, TokenList}
 
 -- a machine: what each act does, and where it leads
 pub record Machine : Type 0 where

@@ -18,13 +18,13 @@ use Rattle.rayon_machine_places.specs.Places.{same_party, own_pool, is_member, p
 use Rattle.rayon_machine_places.specs.World.{Stack, World, Part, target_pool, target_worker, target_call}
 use Rattle.rayon_machine_places.specs.Steps.{put_stack, after_move, after_choice, after_refusal, after_miss, after_end, after_send, is_pool, can_miss, step}
 use Rattle.rayon_machine_laws.specs.Once.{one}
-use Rattle.rayon_machine_laws.specs.Order.{Happening, Adds, Begins, caller_of, act_happens, happening, is_other_call}
+use Rattle.rayon_machine_orders.specs.Order.{Happening, Adds, Begins, caller_of, act_happens, happening, is_other_call}
 use Rattle.rayon_machine_laws.proofs.Calm.{next_at}
-use Rattle.rayon_machine_laws.proofs.Dealt.{is_push, is_start, silent}
+use Rattle.rayon_machine_orders.proofs.Dealt.{is_push, is_start, silent}
 use Rattle.rayon_machine_laws.proofs.Frame.{either, if_some_all, if_cond, same_party_true, acted_keeps}
 use Rattle.rayon_machine_laws.proofs.Hands.{hand, hand_plan}
-use Rattle.rayon_machine_laws.proofs.Lone.{turn_target, turns_thief}
-use Rattle.rayon_machine_laws.proofs.Standing.{Above, Stands, StandsAt, stands_next, stands_begun, stands_closed, stands_caller}
+use Rattle.rayon_machine_orders.proofs.Lone.{turn_target, turns_thief}
+use Rattle.rayon_machine_orders.proofs.Standing.{Above, Stands, StandsAt, stands_next, stands_begun, stands_closed, stands_caller}
 use Rattle.rayon_machine_laws.proofs.Ties.{job_at, shape_at, outcome}
 
 -- the run that began last, after what happens

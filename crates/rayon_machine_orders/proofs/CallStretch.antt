@@ -18,18 +18,18 @@ use Rattle.rayon_machine_places.specs.Places.{plan_job, same_party, act_of, next
 use Rattle.rayon_machine_places.specs.World.{Stack, World, Part as Piece, target_pool, at_job}
 use Rattle.rayon_machine_places.specs.Steps.{put, after_move, handed_back, jobs_after, step}
 use Rattle.rayon_machine_laws.specs.End.{AllJobs}
-use Rattle.rayon_machine_laws.specs.Calls.{is_at_call, is_raise_refused, is_refusal, IsHandedOn}
+use Rattle.rayon_machine_orders.specs.Calls.{is_at_call, is_raise_refused, is_refusal, IsHandedOn}
 use Rattle.rayon_machine_laws.proofs.Frame.{if_some_all, if_some_map, put_new, same_party_true, same_party_refl, stack_mine, stack_other}
 use Rattle.rayon_machine_laws.proofs.Ties.{job_at, outcome, result}
 use Rattle.rayon_machine_laws.proofs.PlacedEvents.{Advance}
 use Rattle.rayon_machine_laws.proofs.Claims.{Says}
 use Rattle.rayon_machine_laws.proofs.ClaimRuns.{CallsHold, world_after}
 use Rattle.rayon_machine_laws.proofs.Returns.{ReturnsHold}
-use Rattle.rayon_machine_laws.proofs.Filled.{FilledHold, takes_filled}
-use Rattle.rayon_machine_laws.proofs.CallPlaces.{Stage, Paid, is_undone, is_detach, Part, Ended, Returns, Known}
-use Rattle.rayon_machine_laws.proofs.CallActs.{Sofar, Went, call_goes, or_false}
-use Rattle.rayon_machine_laws.proofs.CallEvents.{whole, CallStands, Stood, Turned, at_call_yes, at_call_no}
-use Rattle.rayon_machine_laws.proofs.CallSteps.{Carries, mover, turns, go_all, step_carries, known_on, ended_on, sofar_on}
+use Rattle.rayon_machine_orders.proofs.Filled.{FilledHold, takes_filled}
+use Rattle.rayon_machine_orders.proofs.CallPlaces.{Stage, Paid, is_undone, is_detach, Part, Ended, Returns, Known}
+use Rattle.rayon_machine_orders.proofs.CallActs.{Sofar, Went, call_goes, or_false}
+use Rattle.rayon_machine_orders.proofs.CallEvents.{whole, CallStands, Stood, Turned, at_call_yes, at_call_no}
+use Rattle.rayon_machine_orders.proofs.CallSteps.{Carries, mover, turns, go_all, step_carries, known_on, ended_on, sofar_on}
 
 -- what holds of every world
 pub record Ground (w : World) : Type 0 where

@@ -26,10 +26,10 @@ use Rattle.rayon_machine_places.specs.declared.place.Settling.{Settling}
 use Rattle.rayon_machine_places.specs.Places.{own_pool, after_wait, finish, walk, settle, after_set, after_found, after_news, plan_pool, next_of, after_failure}
 use Rattle.rayon_machine_places.specs.World.{Stack}
 use Rattle.rayon_machine_places.specs.Steps.{back, after_move, after_close}
-use Rattle.rayon_machine_laws.specs.Order.{caller_of}
-use Rattle.rayon_machine_laws.proofs.Dealt.{is_start, elsewhere}
+use Rattle.rayon_machine_orders.specs.Order.{caller_of}
+use Rattle.rayon_machine_orders.proofs.Dealt.{is_start, elsewhere}
 use Rattle.rayon_machine_laws.proofs.Kept.{is_emptied}
-use Rattle.rayon_machine_laws.proofs.Lone.{settle_move, settled_move, turns_thief, walk_move}
+use Rattle.rayon_machine_orders.proofs.Lone.{settle_move, settled_move, turns_thief, walk_move}
 
 -- frames of the wait for the end of the pool
 abbrev pub IsBase : Place → Type 0

@@ -14,14 +14,14 @@ use Rattle.rayon_machine_places.specs.Runs.{IsRun, start}
 use Rattle.rayon_machine_places.specs.Steps.{step}
 use Rattle.rayon_machine_places.specs.World.{Shape, World}
 use Rattle.rayon_machine_laws.specs.Once.{one, times}
-use Rattle.rayon_machine_laws.specs.Order.{Happening, Adds, Begins, happening, and_next, happenings, Hands, TokenList, IsLeft, TokenLaw}
+use Rattle.rayon_machine_orders.specs.Order.{Happening, Adds, Begins, happening, and_next, happenings, Hands, TokenList, IsLeft, TokenLaw}
 use Rattle.rayon_machine_laws.proofs.Attended.{always_shape}
-use Rattle.rayon_machine_laws.proofs.Dealing.{Deals, step_deals}
+use Rattle.rayon_machine_orders.proofs.Dealing.{Deals, step_deals}
 use Rattle.rayon_machine_laws.proofs.Emptied.{ListsOk, always_lists}
 use Rattle.rayon_machine_laws.proofs.Events.{run_keeps}
 use Rattle.rayon_machine_laws.proofs.Hands.{hand, hand_then, hand_found, held}
 use Rattle.rayon_machine_laws.proofs.Located.{loc_at, is_loc, where_is, unbegun, Hand, Deck}
-use Rattle.rayon_machine_laws.proofs.Lone.{always_honest, taken, taken_then}
+use Rattle.rayon_machine_orders.proofs.Lone.{always_honest, taken, taken_then}
 use Rattle.rayon_machine_laws.proofs.PlacedRuns.{JobsHold, step_jobs, first_jobs}
 
 -- a world that a run from a start leads to

@@ -1,9 +1,0 @@
-use Rattle.rayon_machine_laws.proofs.Handed.{token_law}
-use Rattle.rayon_machine_laws.proofs.Walking.{tree_law}
-use Rattle.rayon_machine_laws.proofs.order_laws.law_order.Goals as goal
-
-pub returns-clause-tokens : goal.returns-clause-tokens
-returns-clause-tokens c = token_law
-
-pub returns-clause-trees : goal.returns-clause-trees
-returns-clause-trees c = tree_law

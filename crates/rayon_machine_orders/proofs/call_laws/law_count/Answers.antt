@@ -1,0 +1,5 @@
+use Rattle.rayon_machine_orders.proofs.Keeping.{always_counted}
+use Rattle.rayon_machine_orders.proofs.call_laws.law_count.Goals as goal
+
+pub returns : goal.returns
+returns c h es w r = always_counted h es w r

@@ -1,0 +1,42 @@
+//! The laws of the terminate count and of how calls end, each the contract of a call without arguments: it holds in
+//! every world of every run.
+ghost use Rattle.rayon_machine_places.specs.Runs.{Always};
+ghost use Rattle.rayon_machine_laws.specs.Counted.{IsCounted};
+ghost use Rattle.rayon_machine_laws.specs.End.{IsEnd, IsRefused, IsReturned};
+ghost use Rattle.rayon_machine_laws.specs.Shares.{NoEarlyEnd};
+ghost use Rattle.rayon_machine_orders.specs.Calls.{CallLaw};
+
+/// In every world of every run a pool's terminate count is the number of the shares in it: one for the pool's value
+/// until its Lower, and one for each job at the pool that has a share. Each of them is kept exactly once, and no other
+/// is kept. The value's share is kept by the held value, or by the one Lower that gives it back. A job's share is kept
+/// by the one call that waits for it, from its Raise to its Lower; where no call waits for the job, by its call before
+/// it is queued, then by the job itself while it is queued, in a hand or running, and last by the Lower that follows
+/// its run. So no share is lost, and none stays in the count that nobody keeps.
+/// It does not say that a share is ever given back.
+pub fn law_count()
+    ensures { Always IsCounted }
+{}
+
+/// In every world of every run, a call that was not refused and makes its last steps has run each of its jobs once:
+/// each is over, what the call took from its cell is how its own job ended, and the fault that it answers is its first
+/// side's, else its own job's. No call finds its cell empty when it takes from it, and none answers that its result is
+/// missing. A call that is refused has jobs that stand in no list and have never run, before its last step and for ever
+/// after. The share of the terminate count that it took is given back: from the act after the one that does it, none of
+/// its jobs is in the count, and for ever after its last step. A pool's terminate latch is set only when the pool has
+/// ended: its value is given up, no call made at it keeps a share of its terminate count, and no detached job of it is
+/// queued or running.
+/// The same is said of calls, with places named by their acts alone (`calls`): from the event by which a party begins
+/// a spawn, an install or a join, to the first world in which the party's stack is again what it was, the stack stands
+/// on what it was. There each job that the event made has run once and is over, or, of a spawn, is queued, in a hand,
+/// running or over; but if a step of the call itself was refused, each is handed back and has never run. What the call
+/// takes from a cell is how the last of its jobs ended. An install or a join that nothing refused has its answer where
+/// it is to lower the terminate count, and the fault is the one that comes first. Once it is over, its share is given
+/// back.
+/// It does not say that a call ever comes to its last step, nor that a pool ever ends.
+pub fn law_end()
+    ensures ends { Always IsEnd }
+    ensures refused { Always IsRefused }
+    ensures returned { Always IsReturned }
+    ensures early { Always NoEarlyEnd }
+    ensures calls { CallLaw }
+{}

@@ -1,16 +1,13 @@
 //! The calls that the program makes, and what they give.
-ghost use Rattle.std.specs.Prelude.{◌≡◌, ℕ, ◌≤◌};
-
-use crate::work::{Answer, Deed, Name, Work};
-use rayon_core::{
-    CallError, Ids, Refusal, ThreadPool, ThreadPoolBuildError, ThreadPoolBuilder, Waits,
-    WorkerThread,
-};
+use crate::on_worker::WorkerCall;
+use crate::outcome::{NoPool, Outcome, Report};
+use crate::work::{Answer, Deed, Name, Work, joined};
+use rayon_core::{CallError, Ids, Refusal, ThreadPool, ThreadPoolBuilder};
 use std::alloc::Global;
+use std::str;
 use std::sync::atomic::{AtomicU64, Ordering};
 use std::sync::{Arc, Wait};
 use std::thread::Threads;
-use std::{fmt, str};
 
 /// What is called.
 #[derive(Clone, Copy)]
@@ -26,10 +23,10 @@ pub enum Call {
 pub enum PoolCall {
     /// `ThreadPool::install`.
     Install,
-    /// `WorkerThread::join_jobs`.
-    Join,
     /// `ThreadPool::join`.
-    PoolJoin,
+    Join,
+    /// A call on a worker of the pool.
+    OnWorker(WorkerCall),
 }
 
 impl Call {
@@ -39,87 +36,37 @@ impl Call {
         let call = match name {
             "build" => Call::Build,
             "install" => Call::OnPool(PoolCall::Install),
-            "join" => Call::OnPool(PoolCall::Join),
-            "pool_join" => Call::OnPool(PoolCall::PoolJoin),
+            "pool_join" => Call::OnPool(PoolCall::Join),
+            "join" => Call::OnPool(PoolCall::OnWorker(WorkerCall::Join)),
+            "worker_install" => Call::OnPool(PoolCall::OnWorker(WorkerCall::Install)),
+            "wait_until" => Call::OnPool(PoolCall::OnWorker(WorkerCall::WaitUntil)),
+            "push" => Call::OnPool(PoolCall::OnWorker(WorkerCall::Push)),
+            "deep" => Call::OnPool(PoolCall::OnWorker(WorkerCall::Deep)),
             _ => return None,
         };
         Some((call, count.parse().ok()?))
     }
 }
 
-/// Why no pool was made.
-#[derive(Clone, Copy, Debug)]
-pub enum NoPool {
-    /// Memory was refused.
-    NoRoom,
-    /// The worker's thread was refused.
-    IOError,
-    /// The last pool number was drawn.
-    NoIds,
-}
-
-/// What a call gave.
-#[derive(Clone, Copy)]
-pub enum Outcome {
-    /// A pool was made.
-    Made,
-    /// This number was answered.
-    Answered(u64),
-    /// No pool was made.
-    NotMade(NoPool),
-    /// The call was refused: whether the very jobs came back, and how many jobs had run by then.
-    Refused {
-        refusal: Refusal,
-        same_jobs: bool,
-        runs: u64,
-    },
-    /// Anything else.
-    Unlike,
-}
-
-impl fmt::Display for Outcome {
-    fn fmt<W: fmt::Write>(&self, f: &mut fmt::Formatter<W>) -> fmt::Result {
-        match *self {
-            Outcome::Made => write!(f, "Ok"),
-            Outcome::Answered(number) => write!(f, "Ok {number}"),
-            Outcome::NotMade(why) => write!(f, "{why:?}"),
-            Outcome::Refused {
-                refusal,
-                same_jobs,
-                runs,
-            } => {
-                let jobs = if same_jobs { "the same" } else { "other" };
-                write!(f, "{refusal}, {jobs} jobs back, {runs} run")
-            }
-            Outcome::Unlike => write!(f, "something else"),
+impl PoolCall {
+    // How many workers the pool has: one where the call is of a task in the own deque that none may steal, else two.
+    fn workers(self) -> usize {
+        match self {
+            PoolCall::OnWorker(WorkerCall::Push | WorkerCall::Deep) => 1,
+            _ => 2,
         }
-    }
-}
-
-/// What a call gave and, where it was refused, what the same call gave then.
-#[derive(Clone, Copy)]
-pub struct Report {
-    pub first: Outcome,
-    pub again: Option<Outcome>,
-}
-
-// Why no pool was made, without the system's error.
-fn no_pool(error: ThreadPoolBuildError) -> NoPool {
-    match error {
-        ThreadPoolBuildError::IOError(_) => NoPool::IOError,
-        ThreadPoolBuildError::NoRoom => NoPool::NoRoom,
-        ThreadPoolBuildError::NoIds => NoPool::NoIds,
     }
 }
 
 // Makes a pool, and ends it.
 fn build<R: Threads + Wait + Copy + Send + 'static>(rt: &R, alloc: Global) -> Outcome {
-    match ThreadPoolBuilder::<Work>::new().build(rt, alloc, &Ids::new()) {
+    let builder = ThreadPoolBuilder::<Work>::new().num_threads(2);
+    match builder.build(rt, alloc, &Ids::new()) {
         Ok(pool) => {
             pool.end(rt);
             Outcome::Made
         }
-        Err(error) => Outcome::NotMade(no_pool(error)),
+        Err(error) => Outcome::NotMade(NoPool::of(error)),
     }
 }
 
@@ -135,55 +82,24 @@ fn install<R: Wait>(
         Ok(Answer::Number(number)) => Outcome::Answered(number),
         Err(CallError::Refused(refusal, job)) => Outcome::Refused {
             refusal,
-            same_jobs: job.is(Name::Installed, 7),
+            same_jobs: job.is(Name::Installed, Deed::Number(7)),
             runs: runs.load(Ordering::SeqCst),
         },
         _ => Outcome::Unlike,
     })
 }
 
-// What a join of the two sides gave.
-fn joined(
-    answer: Result<(Answer, Answer), CallError<Refusal, (Work, Work)>>,
-    runs: &Arc<AtomicU64>,
-) -> Outcome {
-    match answer {
-        Ok((Answer::Number(first), Answer::Number(second))) => {
-            Outcome::Answered(first.saturating_add(second))
-        }
-        Err(CallError::Refused(refusal, (first, second))) => Outcome::Refused {
-            refusal,
-            same_jobs: first.is(Name::First, 20) && second.is(Name::Second, 3),
-            runs: runs.load(Ordering::SeqCst),
-        },
-        _ => Outcome::Unlike,
-    }
-}
-
-// Joins the two sides from outside.
-fn join_on_pool<R: Wait>(
+// Joins two sides from outside.
+fn join<R: Wait>(
     rt: &R,
     alloc: Global,
     pool: &ThreadPool<Work>,
     runs: &Arc<AtomicU64>,
 ) -> Result<Outcome, Refusal> {
-    let (first, second) = Work::sides(runs)?;
-    Ok(joined(pool.join(rt, alloc, first, second), runs))
-}
-
-/// Joins the two sides on a worker.
-pub fn join_on_worker<R: Waits<Work>>(
-    rt: &R,
-    alloc: Global,
-    w: &mut WorkerThread<Work>,
-    runs: &Arc<AtomicU64>,
-) -> Result<Outcome, Refusal>
-    requires { w.old.levels ≤ R.levels rt.now }
-    ensures id { w.new.id ≡ w.old.id }
-    ensures level { w.new.levels ≡ w.old.levels }
-{
-    let (first, second) = Work::sides(runs)?;
-    Ok(joined(w.join_jobs(rt, alloc, first, second), runs))
+    let (one, two) = (Deed::Number(20), Deed::Number(3));
+    let first = Work::new(Name::First, runs, one)?;
+    let second = Work::new(Name::Second, runs, two)?;
+    Ok(joined(pool.join(rt, alloc, first, second), runs, one, two))
 }
 
 // Makes a call and, where it is refused, the same again.
@@ -198,21 +114,19 @@ fn twice<F: Fn() -> Result<Outcome, Refusal>>(call: F) -> Result<Report, Refusal
     Ok(Report { first, again })
 }
 
-// Installs a job that makes the join on its worker twice, where the first is refused.
-fn install_join<R: Wait>(
+// Installs a job that makes the call on its worker and, where it is refused, the same again.
+fn install_caller<R: Wait>(
     rt: &R,
     alloc: Global,
     pool: &ThreadPool<Work>,
     runs: &Arc<AtomicU64>,
+    call: WorkerCall,
 ) -> Result<Report, Refusal> {
-    let job = Work::new(Name::Installed, runs, Deed::Join)?;
+    let job = Work::new(Name::Installed, runs, Deed::Call(call))?;
     match pool.install(rt, alloc, job) {
-        Ok(Answer::Joined(report)) => Ok(report),
+        Ok(Answer::Reported(report)) => Ok(report),
         Err(CallError::Refused(refusal, _)) => Err(refusal),
-        _ => Ok(Report {
-            first: Outcome::Unlike,
-            again: None,
-        }),
+        _ => Ok(Report::of(Outcome::Unlike)),
     }
 }
 
@@ -235,13 +149,14 @@ fn make_on_pool<R: Threads + Wait + Copy + Send + 'static>(
     call: PoolCall,
 ) -> Result<Report, Refusal> {
     let runs = Arc::new(alloc, AtomicU64::new(0)).map_err(|_| Refusal::NoRoom)?;
-    let Ok(pool) = ThreadPoolBuilder::<Work>::new().build(rt, alloc, &Ids::new()) else {
+    let builder = ThreadPoolBuilder::<Work>::new().num_threads(call.workers());
+    let Ok(pool) = builder.build(rt, alloc, &Ids::new()) else {
         return Err(Refusal::NoRoom);
     };
     let report = match call {
         PoolCall::Install => twice(|| install(rt, alloc, &pool, &runs)),
-        PoolCall::Join => install_join(rt, alloc, &pool, &runs),
-        PoolCall::PoolJoin => twice(|| join_on_pool(rt, alloc, &pool, &runs)),
+        PoolCall::Join => twice(|| join(rt, alloc, &pool, &runs)),
+        PoolCall::OnWorker(call) => install_caller(rt, alloc, &pool, &runs, call),
     };
     pool.end(rt);
     report

@@ -3,9 +3,12 @@
 #![tactic(auto)]
 
 mod call;
+mod on_worker;
+mod outcome;
 mod work;
 
-use call::{Call, Report};
+use call::Call;
+use outcome::Report;
 use std::alloc::Global;
 use std::io;
 use std::io::Read;

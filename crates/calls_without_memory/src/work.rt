@@ -1,8 +1,11 @@
 //! The jobs of the program.
 ghost use Rattle.std.specs.Prelude.{◌≡◌, ℕ};
 
-use crate::call::{Outcome, Report, join_on_worker};
-use rayon_core::{BroadcastContext, FnContext, Job, JobKind, Refusal, Waits, WorkerThread};
+use crate::on_worker::{WorkerCall, deep, make_on_worker, push_again};
+use crate::outcome::{Outcome, Report};
+use rayon_core::{
+    BroadcastContext, CallError, FnContext, Job, JobKind, Refusal, Waits, WorkerThread,
+};
 use std::alloc::Global;
 use std::sync::Arc;
 use std::sync::atomic::{AtomicU64, Ordering};
@@ -12,27 +15,31 @@ use std::sync::atomic::{AtomicU64, Ordering};
 pub enum Name {
     /// A job that is installed.
     Installed,
-    /// The first side of a join.
+    /// The first side of a join, or the job of an install on the worker.
     First,
     /// The second side of a join.
     Second,
 }
 
 /// What a job does.
-#[derive(Clone, Copy)]
+#[derive(Clone, Copy, PartialEq, Eq)]
 pub enum Deed {
     /// Counts its run, and answers this number.
     Number(u64),
-    /// Joins two such jobs on its worker, and again where that was refused.
-    Join,
+    /// Makes a call on its worker, and again where that was refused.
+    Call(WorkerCall),
+    /// Takes the newest task out of its worker's deque, and pushes it again.
+    Push,
+    /// Joins the same one less deep, and a job that answers 1.
+    Deep(u32),
 }
 
 /// A job: its name, where runs are counted, and what it does.
 #[derive(Drop)]
 pub struct Work {
-    pub name: Name,
-    pub runs: Arc<AtomicU64>,
-    pub deed: Deed,
+    name: Name,
+    runs: Arc<AtomicU64>,
+    deed: Deed,
 }
 
 /// What a job answers.
@@ -40,8 +47,8 @@ pub struct Work {
 pub enum Answer {
     /// A number.
     Number(u64),
-    /// What a join on the worker gave.
-    Joined(Report),
+    /// What a call on the worker gave.
+    Reported(Report),
 }
 
 impl Work {
@@ -53,16 +60,29 @@ impl Work {
         }
     }
 
-    /// The two sides of a join, which answer 20 and 3. Refused `NoRoom`.
-    pub fn sides(runs: &Arc<AtomicU64>) -> Result<(Work, Work), Refusal> {
-        let first = Work::new(Name::First, runs, Deed::Number(20))?;
-        let second = Work::new(Name::Second, runs, Deed::Number(3))?;
-        Ok((first, second))
+    /// Whether this is the job with this name that does this.
+    pub fn is(&self, name: Name, deed: Deed) -> bool {
+        self.name == name && self.deed == deed
     }
+}
 
-    /// Whether this is the job with this name that answers this number.
-    pub fn is(&self, name: Name, number: u64) -> bool {
-        self.name == name && matches!(self.deed, Deed::Number(n) if n == number)
+/// What a join gave of a first side that does the first of these, and a second side that does the other.
+pub fn joined(
+    answer: Result<(Answer, Answer), CallError<Refusal, (Work, Work)>>,
+    runs: &Arc<AtomicU64>,
+    first_deed: Deed,
+    second_deed: Deed,
+) -> Outcome {
+    match answer {
+        Ok((Answer::Number(first), Answer::Number(second))) => {
+            Outcome::Answered(first.saturating_add(second))
+        }
+        Err(CallError::Refused(refusal, (first, second))) => Outcome::Refused {
+            refusal,
+            same_jobs: first.is(Name::First, first_deed) && second.is(Name::Second, second_deed),
+            runs: runs.load(Ordering::SeqCst),
+        },
+        _ => Outcome::Unlike,
     }
 }
 
@@ -97,14 +117,12 @@ impl Job for Work {
                 self.runs.fetch_add(1, Ordering::SeqCst);
                 Ok(Answer::Number(number))
             }
-            Deed::Join => {
-                let first = join_on_worker(rt, alloc, w, &self.runs)?;
-                let again = match first {
-                    Outcome::Refused { .. } => Some(join_on_worker(rt, alloc, w, &self.runs)?),
-                    _ => None,
-                };
-                Ok(Answer::Joined(Report { first, again }))
+            Deed::Call(call) => {
+                let report = make_on_worker(rt, alloc, w, &self.runs, call)?;
+                Ok(Answer::Reported(report))
             }
+            Deed::Push => push_again(w),
+            Deed::Deep(depth) => Ok(Answer::Reported(deep(rt, alloc, w, &self.runs, depth)?)),
         }
     }
 

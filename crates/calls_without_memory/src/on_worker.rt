@@ -1,0 +1,197 @@
+//! The calls that a job makes on its worker, and what they give.
+ghost use Rattle.std.specs.Prelude.{◌≡◌, ℕ, ◌≤◌};
+
+use crate::outcome::{Outcome, Report};
+use crate::work::{Answer, Deed, Name, Work, joined};
+use rayon_core::latch::CoreLatch;
+use rayon_core::{CallError, Refusal, Waits, WorkerThread};
+use std::alloc::Global;
+use std::sync::Arc;
+use std::sync::atomic::{AtomicU64, Ordering};
+
+/// How many joins stand nested: more than a deque has room for at first.
+const DEPTH: u32 = 40;
+
+/// A call on a worker.
+#[derive(Clone, Copy, PartialEq, Eq)]
+pub enum WorkerCall {
+    /// `WorkerThread::join_jobs`.
+    Join,
+    /// `WorkerThread::install`.
+    Install,
+    /// `WorkerThread::wait_until`.
+    WaitUntil,
+    /// `WorkerThread::push`, of a second side that was taken before.
+    Push,
+    /// `WorkerThread::join_jobs` within the first side of another, so often.
+    Deep,
+}
+
+/// Makes the call on a worker and, where it is refused, the same again. Refused where something before it is refused.
+pub fn make_on_worker<R: Waits<Work>>(
+    rt: &R,
+    alloc: Global,
+    w: &mut WorkerThread<Work>,
+    runs: &Arc<AtomicU64>,
+    call: WorkerCall,
+) -> Result<Report, Refusal>
+    requires { w.old.levels ≤ R.levels rt.now }
+    ensures id { w.new.id ≡ w.old.id }
+    ensures level { w.new.levels ≡ w.old.levels }
+{
+    if call == WorkerCall::Deep {
+        return deep(rt, alloc, w, runs, DEPTH);
+    }
+    let first = make_once(rt, alloc, w, runs, call)?;
+    let again = match first {
+        Outcome::Refused { .. } => Some(make_once(rt, alloc, w, runs, call)?),
+        _ => None,
+    };
+    Ok(Report { first, again })
+}
+
+// Makes the call once.
+fn make_once<R: Waits<Work>>(
+    rt: &R,
+    alloc: Global,
+    w: &mut WorkerThread<Work>,
+    runs: &Arc<AtomicU64>,
+    call: WorkerCall,
+) -> Result<Outcome, Refusal>
+    requires { w.old.levels ≤ R.levels rt.now }
+    ensures id { w.new.id ≡ w.old.id }
+    ensures level { w.new.levels ≡ w.old.levels }
+{
+    match call {
+        WorkerCall::Join => join(rt, alloc, w, runs, Deed::Number(20)),
+        WorkerCall::Push => join(rt, alloc, w, runs, Deed::Push),
+        WorkerCall::Install => install(rt, alloc, w, runs),
+        WorkerCall::WaitUntil => Ok(wait_until(rt, alloc, w)),
+        WorkerCall::Deep => Ok(Outcome::Unlike),
+    }
+}
+
+// Joins a job that does this, and one that answers 3.
+fn join<R: Waits<Work>>(
+    rt: &R,
+    alloc: Global,
+    w: &mut WorkerThread<Work>,
+    runs: &Arc<AtomicU64>,
+    deed: Deed,
+) -> Result<Outcome, Refusal>
+    requires { w.old.levels ≤ R.levels rt.now }
+    ensures id { w.new.id ≡ w.old.id }
+    ensures level { w.new.levels ≡ w.old.levels }
+{
+    let first = Work::new(Name::First, runs, deed)?;
+    let second = Work::new(Name::Second, runs, Deed::Number(3))?;
+    let answer = w.join_jobs(rt, alloc, first, second);
+    Ok(joined(answer, runs, deed, Deed::Number(3)))
+}
+
+// Installs a job that answers a number.
+fn install<R: Waits<Work>>(
+    rt: &R,
+    alloc: Global,
+    w: &mut WorkerThread<Work>,
+    runs: &Arc<AtomicU64>,
+) -> Result<Outcome, Refusal>
+    requires { w.old.levels ≤ R.levels rt.now }
+    ensures id { w.new.id ≡ w.old.id }
+    ensures level { w.new.levels ≡ w.old.levels }
+{
+    let job = Work::new(Name::First, runs, Deed::Number(7))?;
+    Ok(match w.install(rt, alloc, job) {
+        Ok(Answer::Number(number)) => Outcome::Answered(number),
+        Err(CallError::Refused(refusal, job)) => Outcome::Refused {
+            refusal,
+            same_jobs: job.is(Name::First, Deed::Number(7)),
+            runs: runs.load(Ordering::SeqCst),
+        },
+        _ => Outcome::Unlike,
+    })
+}
+
+// Waits until a latch is set that is set.
+fn wait_until<R: Waits<Work>>(rt: &R, alloc: Global, w: &mut WorkerThread<Work>) -> Outcome
+    requires { w.old.levels ≤ R.levels rt.now }
+    ensures id { w.new.id ≡ w.old.id }
+    ensures level { w.new.levels ≡ w.old.levels }
+{
+    let latch = CoreLatch::new();
+    latch.set(rt);
+    match w.wait_until(rt, alloc, &latch) {
+        Ok(()) => Outcome::Answered(1),
+        Err(_) => Outcome::Unlike,
+    }
+}
+
+/// Takes the newest task out of the worker's own deque and pushes it again, and once more where that is refused: then
+/// it answers one less than 20.
+pub fn push_again(w: &mut WorkerThread<Work>) -> Result<Answer, Refusal>
+    ensures id { w.new.id ≡ w.old.id }
+    ensures level { w.new.levels ≡ w.old.levels }
+{
+    let Some(task) = w.take_local_job() else {
+        return Ok(Answer::Number(0));
+    };
+    match w.push(task) {
+        Ok(()) => Ok(Answer::Number(20)),
+        Err((_, task)) => match w.push(task) {
+            Ok(()) => Ok(Answer::Number(19)),
+            Err((refusal, _)) => Err(refusal),
+        },
+    }
+}
+
+/// Joins the same one less deep, and a job that answers 1, and where that is refused the same again. What the one below
+/// reported comes out where this one is not refused.
+pub fn deep<R: Waits<Work>>(
+    rt: &R,
+    alloc: Global,
+    w: &mut WorkerThread<Work>,
+    runs: &Arc<AtomicU64>,
+    depth: u32,
+) -> Result<Report, Refusal>
+    requires { w.old.levels ≤ R.levels rt.now }
+    ensures id { w.new.id ≡ w.old.id }
+    ensures level { w.new.levels ≡ w.old.levels }
+{
+    let report = join_below(rt, alloc, w, runs, depth)?;
+    match report {
+        Report {
+            first: Outcome::Refused { .. },
+            again: None,
+        } => {
+            let again = join_below(rt, alloc, w, runs, depth)?;
+            Ok(Report {
+                first: report.first,
+                again: Some(again.first),
+            })
+        }
+        report => Ok(report),
+    }
+}
+
+// The same, once.
+fn join_below<R: Waits<Work>>(
+    rt: &R,
+    alloc: Global,
+    w: &mut WorkerThread<Work>,
+    runs: &Arc<AtomicU64>,
+    depth: u32,
+) -> Result<Report, Refusal>
+    requires { w.old.levels ≤ R.levels rt.now }
+    ensures id { w.new.id ≡ w.old.id }
+    ensures level { w.new.levels ≡ w.old.levels }
+{
+    let Some(below) = depth.checked_sub(1) else {
+        return Ok(Report::of(Outcome::Answered(0)));
+    };
+    let first = Work::new(Name::First, runs, Deed::Deep(below))?;
+    let second = Work::new(Name::Second, runs, Deed::Number(1))?;
+    match w.join_jobs(rt, alloc, first, second) {
+        Ok((Answer::Reported(report), Answer::Number(number))) => Ok(report.and(number)),
+        answer => Ok(Report::of(joined(answer, runs, Deed::Deep(below), Deed::Number(1)))),
+    }
+}

@@ -146,3 +146,40 @@ fn callers_have_names_of_their_own(rt: HostRuntime) -> Result<(), Fail> {
     assert_eq!(rt; names, (Some(2), Some(5)));
     Ok(())
 }
+
+// A task that a worker takes back and pushes again is found by another worker, and then lies nowhere.
+#[test]
+fn a_pushed_task_is_taken_and_found(rt: HostRuntime) -> Result<(), Fail> {
+    let alloc = rt.alloc();
+    let two = Two::new(&rt, alloc);
+    let (share, other) = (two.share(&rt), two.share(&rt));
+    let Two {
+        registry,
+        first,
+        second,
+        hold,
+    } = two;
+    let mut first = Bench::new(share, 0, first);
+    let mut second = Bench::new(other, 1, second);
+    offer(&rt, alloc, &mut first, 3);
+    let pushed = match first.take_local(&rt) {
+        Some(task) => first.push(&rt, task).is_ok(),
+        None => false,
+    };
+    let number = number_of(second.find_work(&rt));
+    let rest = (
+        first.take_local(&rt).is_none(),
+        second.find_work(&rt).is_none(),
+    );
+    let then = Then::Answers {
+        call: call_of(3),
+        first: Some(Ending::Fine),
+        last: Ending::Fine,
+    };
+    first.lower_then(&rt, 3, then);
+    end(&rt, &registry, hold);
+    assert!(rt; pushed, "no task was taken, or it was not pushed");
+    assert_eq!(rt; number, Some(7));
+    assert_eq!(rt; rest, (true, true));
+    Ok(())
+}

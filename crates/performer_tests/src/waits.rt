@@ -29,7 +29,7 @@ fn work_pair<R: Wait + Clock>(rt: &R, bench: &mut Bench<Errand>) -> Option<(u8, 
         first,
         second,
         first_result,
-    } = Box::into_inner(pair);
+    } = pair;
     pause(rt);
     let first_done = Done::of_run(first.tag(), Ok(1));
     let done = Done::of_run(second.tag(), Ok(2));

@@ -37,7 +37,7 @@ use std::sync::Wait;
 /// else does.
 #[derive(Drop)]
 pub struct Guest<'a, J: JobKind> {
-    registry: &'a Registry<J>,
+    registry: &'a Registry<Task<J>>,
     shape: PoolShape,
     inlet: InjectorPass<Task<J>>,
     call: Option<Ticket<J>>,
@@ -138,7 +138,7 @@ const CALLER: Party = Party::Caller(0);
 
 impl<'a, J: JobKind> Guest<'a, J> {
     /// An outside caller of this pool that has done nothing yet.
-    pub fn new(registry: &'a Registry<J>) -> Guest<'a, J>
+    pub fn new(registry: &'a Registry<Task<J>>) -> Guest<'a, J>
         ensures inlet { result.inlet ≡ visitor registry.now.injector [] [] }
         ensures shape { result.shape ≡ shape_of registry.now.workers }
         ensures empty { (result.holds ≡ false) × (result.trace ≡ Empty) }
@@ -451,8 +451,7 @@ impl<'a, J: JobKind> Guest<'a, J> {
             Err(task) => {
                 let (work, _injected, _ticket) = task_parts(task);
                 match work {
-                    Work::Pair(pair) => {
-                        let Pair { first, second, .. } = Box::into_inner(pair);
+                    Work::Pair(Pair { first, second, .. }) => {
                         Err((Refusal::NoRoom, (first, second)))
                     }
                     Work::Job(_) => unreachable!(),

@@ -1,6 +1,5 @@
 //! What lies in the queues of a pool of many workers, and what a waiting call of it is known by: the names of jobs,
-//! tickets that only a call makes, and tasks that are opaque to who has no more than one. No pool uses them yet:
-//! today's has one worker, and queues the tasks of `rayon_jobs`.
+//! tickets that only a call makes, and tasks that are opaque to who has no more than one.
 #![tactic(auto)]
 
 mod call_latch;

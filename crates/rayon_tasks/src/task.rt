@@ -17,18 +17,28 @@ use std::marker::Model;
 /// nor make a task with it: no task answers for a call but the one that the call queued.
 #[derive(Drop)]
 pub struct Task<J: JobKind> {
-    work: Work<J>,
+    job: J,
     injected: bool,
     ticket: Ticket<J>,
+    // of two sides, the first side's task: the job above is then the second one
+    first: Option<Box<Task<J>, Global>>,
 }
 
 impl<J: JobKind> Model for Task<J> {
-    ghost use Rattle.rayon_tasks.specs.Tasks.{TaskOf};
-    ghost use Rattle.rayon_tasks.specs.Works.{work_of};
+    ghost use Rattle.rayon_tasks.specs.Tasks.{IsSingle, TaskOf, sides_of, work_with};
+    ghost use Rattle.std.specs.Prelude.{⊤, Some, None};
 
     ghost Value = { TaskOf J };
 
-    ghost view = { λ t. record { work = work_of t.work; injected = t.injected; ticket = t.ticket } };
+    ghost view = { λ t. record { work = elim t.first [ None ↦ work_with t.job None | Some b ↦ work_with t.job (Some b.value) ]; injected = t.injected; ticket = t.ticket } };
+
+    ghost invariant = { λ t. elim t.first [ None ↦ ⊤ | Some b ↦ IsSingle b.value.work ] };
+
+    ghost size = { λ t. sides_of t.work };
+
+    ghost use Rattle.std.proofs.Common.{arith};
+
+    ghost size_decreases = { λ a h. Prim.grind (arith) };
 }
 
 impl<J: JobKind> Task<J> {
@@ -58,11 +68,11 @@ impl<J: JobKind> Task<J> {
 pub fn task_of_job<J: JobKind>(job: J, injected: bool, ticket: Ticket<J>) -> Task<J>
     ensures { result ≡ record { work = OneJob job; injected = injected; ticket = ticket } }
 {
-    let work = Work::Job(job);
     Task {
-        work,
+        job,
         injected,
         ticket,
+        first: None,
     }
 }
 
@@ -78,19 +88,16 @@ pub fn task_of_pair<J: JobKind>(
     ensures made { IfOk result (λ t. t ≡ record { work = TwoSides first second first_result; injected = true; ticket = ticket }) }
     ensures back { IfErr result (λ sides. sides ≡ (first, second)) }
 {
-    let pair = Pair {
-        first,
-        second,
-        first_result,
-    };
-    match Box::new(alloc, pair) {
-        Ok(pair) => Ok(Task {
-            work: Work::Pair(pair),
+    let first = task_of_job(first, true, first_result);
+    match Box::new(alloc, first) {
+        Ok(first) => Ok(Task {
+            job: second,
             injected: true,
             ticket,
+            first: Some(first),
         }),
         Err(refused) => {
-            let Pair { first, second, .. } = refused.value;
+            let Task { job: first, .. } = refused.value;
             Err((first, second))
         }
     }
@@ -103,9 +110,25 @@ pub fn task_parts<J: JobKind>(task: Task<J>) -> (Work<J>, bool, Ticket<J>)
     ensures ticket { result.2 ≡ task.ticket }
 {
     let Task {
-        work,
+        job,
         injected,
         ticket,
+        first,
     } = task;
+    let work = match first {
+        None => Work::Job(job),
+        Some(first) => {
+            let Task {
+                job: first,
+                ticket: first_result,
+                ..
+            } = Box::into_inner(first);
+            Work::Pair(Pair {
+                first,
+                second: job,
+                first_result,
+            })
+        }
+    };
     (work, injected, ticket)
 }

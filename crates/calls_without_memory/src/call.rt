@@ -40,6 +40,7 @@ impl Call {
             "join" => Call::OnPool(PoolCall::OnWorker(WorkerCall::Join)),
             "worker_install" => Call::OnPool(PoolCall::OnWorker(WorkerCall::Install)),
             "wait_until" => Call::OnPool(PoolCall::OnWorker(WorkerCall::WaitUntil)),
+            "owner" => Call::OnPool(PoolCall::OnWorker(WorkerCall::Owner)),
             "push" => Call::OnPool(PoolCall::OnWorker(WorkerCall::Push)),
             "deep" => Call::OnPool(PoolCall::OnWorker(WorkerCall::Deep)),
             _ => return None,

@@ -6,8 +6,8 @@ use crate::work::{Answer, Deed, Name, Work, joined};
 use rayon_core::latch::CoreLatch;
 use rayon_core::{CallError, Refusal, Waits, WorkerThread};
 use std::alloc::Global;
-use std::sync::Arc;
 use std::sync::atomic::{AtomicU64, Ordering};
+use std::sync::{Arc, Wait};
 
 /// How many joins stand nested: more than a deque has room for at first.
 const DEPTH: u32 = 40;
@@ -21,6 +21,8 @@ pub enum WorkerCall {
     Install,
     /// `WorkerThread::wait_until`.
     WaitUntil,
+    /// `WorkerThread::owner`.
+    Owner,
     /// `WorkerThread::push`, of a second side that was taken before.
     Push,
     /// `WorkerThread::join_jobs` within the first side of another, so often.
@@ -67,6 +69,7 @@ fn make_once<R: Waits<Work>>(
         WorkerCall::Push => join(rt, alloc, w, runs, Deed::Push),
         WorkerCall::Install => install(rt, alloc, w, runs),
         WorkerCall::WaitUntil => Ok(wait_until(rt, alloc, w)),
+        WorkerCall::Owner => Ok(owner(w, runs)),
         WorkerCall::Deep => Ok(Outcome::Unlike),
     }
 }
@@ -126,18 +129,30 @@ fn wait_until<R: Waits<Work>>(rt: &R, alloc: Global, w: &mut WorkerThread<Work>)
     }
 }
 
+// Asks for what stands for the worker where a latch is set.
+fn owner(w: &WorkerThread<Work>, runs: &Arc<AtomicU64>) -> Outcome {
+    match w.owner() {
+        Ok(_) => Outcome::Answered(1),
+        Err(refusal) => Outcome::Refused {
+            refusal,
+            same_jobs: true,
+            runs: runs.load(Ordering::SeqCst),
+        },
+    }
+}
+
 /// Takes the newest task out of the worker's own deque and pushes it again, and once more where that is refused: then
 /// it answers one less than 20.
-pub fn push_again(w: &mut WorkerThread<Work>) -> Result<Answer, Refusal>
+pub fn push_again<R: Wait>(rt: &R, w: &mut WorkerThread<Work>) -> Result<Answer, Refusal>
     ensures id { w.new.id ≡ w.old.id }
     ensures level { w.new.levels ≡ w.old.levels }
 {
-    let Some(task) = w.take_local_job() else {
+    let Some(task) = w.take_local_job(rt) else {
         return Ok(Answer::Number(0));
     };
-    match w.push(task) {
+    match w.push(rt, task) {
         Ok(()) => Ok(Answer::Number(20)),
-        Err((_, task)) => match w.push(task) {
+        Err((_, task)) => match w.push(rt, task) {
             Ok(()) => Ok(Answer::Number(19)),
             Err((refusal, _)) => Err(refusal),
         },

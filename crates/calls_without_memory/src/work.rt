@@ -121,7 +121,7 @@ impl Job for Work {
                 let report = make_on_worker(rt, alloc, w, &self.runs, call)?;
                 Ok(Answer::Reported(report))
             }
-            Deed::Push => push_again(w),
+            Deed::Push => push_again(rt, w),
             Deed::Deep(depth) => Ok(Answer::Reported(deep(rt, alloc, w, &self.runs, depth)?)),
         }
     }

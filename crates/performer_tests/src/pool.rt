@@ -36,14 +36,14 @@ pub(crate) fn number_of(task: Option<Task<Errand>>) -> Option<u8> {
 }
 
 // Ends the pool.
-pub(crate) fn end<R: Wait>(rt: &R, registry: &Registry<Errand>, hold: PoolHold) {
+pub(crate) fn end<R: Wait>(rt: &R, registry: &Registry<Task<Errand>>, hold: PoolHold) {
     let mut guest = Guest::new(registry);
     guest.end(rt, hold);
 }
 
 // A pool of two workers, their own deques, and the unit of the terminate count of its value.
 pub(crate) struct Two {
-    pub(crate) registry: Arc<Registry<Errand>, Global>,
+    pub(crate) registry: Arc<Registry<Task<Errand>>, Global>,
     pub(crate) first: WorkerDeque<Task<Errand>>,
     pub(crate) second: WorkerDeque<Task<Errand>>,
     pub(crate) hold: PoolHold,
@@ -65,7 +65,7 @@ impl Two {
     }
 
     // One more share of what the workers have in common.
-    pub(crate) fn share<R: Wait + Abort>(&self, rt: &R) -> Arc<Registry<Errand>, Global> {
+    pub(crate) fn share<R: Wait + Abort>(&self, rt: &R) -> Arc<Registry<Task<Errand>>, Global> {
         Arc::try_clone(&self.registry).expect(rt, "room")
     }
 }

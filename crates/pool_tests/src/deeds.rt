@@ -3,10 +3,9 @@ ghost use Rattle.rayon_core.specs.Worker.{SameWorker};
 ghost use Rattle.std.specs.Prelude.{◌≡◌, ℕ, ◌≤◌};
 
 use crate::errand::{Answer, Deed, Errand, Marks, Name, Trouble, Words, outcome, outcomes};
-use rayon_core::latch::CoreLatch;
-use rayon_core::{CallError, Done, ForkJoin, Installed, Refusal, Reply, Task, Waits, WorkerThread};
+use rayon_core::{CallError, ForkJoin, Refusal, Waits, WorkerThread};
 use std::alloc::Global;
-use std::sync::{Arc, Wait};
+use std::sync::Arc;
 
 /// Joins a closure that ends so, and a job that tells whether it migrated.
 pub fn join_context<R: Waits<Errand>>(
@@ -38,20 +37,20 @@ pub fn join_context<R: Waits<Errand>>(
     }
 }
 
-/// Joins two jobs that do this.
+/// Joins two jobs that end so.
 pub fn join_jobs<R: Waits<Errand>>(
     rt: &R,
     alloc: Global,
     w: &mut WorkerThread<Errand>,
     marks: &Arc<Marks>,
-    first: Deed,
-    second: Deed,
+    first: Result<Words, Words>,
+    second: Result<Words, Words>,
 ) -> Result<Answer, Trouble>
     requires { w.old.levels ≤ R.levels rt.now }
     ensures same { SameWorker w.old w.new }
 {
-    let a = Errand::new(Name::First, marks, first)?;
-    let b = Errand::new(Name::Second, marks, second)?;
+    let a = Errand::new(Name::First, marks, Deed::End(first))?;
+    let b = Errand::new(Name::Second, marks, Deed::End(second))?;
     match w.join_jobs(rt, alloc, a, b) {
         Ok((Answer::Said(first), Answer::Said(second))) => Ok(Answer::Both(first, second)),
         Ok(_) => Err(Trouble::Unlike),
@@ -143,124 +142,4 @@ pub fn descend<R: Waits<Errand>>(
         )),
         Err(trouble) => Err(trouble),
     }
-}
-
-/// Pushes two jobs into the own deque, takes them again, and runs the one taken first as its task says.
-pub fn queue<R: Waits<Errand>>(
-    rt: &R,
-    alloc: Global,
-    w: &mut WorkerThread<Errand>,
-    marks: &Arc<Marks>,
-) -> Result<Answer, Trouble>
-    requires { w.old.levels ≤ R.levels rt.now }
-    ensures id { w.new.id ≡ w.old.id }
-    ensures level { w.new.levels ≡ w.old.levels }
-{
-    let older = push_end(alloc, w, marks, Name::Older, Words::Older)?;
-    let newer = push_end(alloc, w, marks, Name::Newer, Words::Newer)?;
-    let (Some(Task::Job(first)), Some(Task::Job(second))) = (w.take_local_job(), w.take_local_job())
-    else {
-        return Err(Trouble::Unlike);
-    };
-    if first.job.name() != Name::Newer || second.job.name() != Name::Older {
-        return Err(Trouble::Unlike);
-    }
-    if !w.local_deque_is_empty() {
-        return Err(Trouble::Unlike);
-    }
-    drop(older);
-    let answer = outcome(w.install(rt, alloc, first.job));
-    first.reply.settle(rt, Done::of_run(Name::Newer, answer));
-    waited(rt, &newer, Name::Newer)
-}
-
-// Pushes a job that ends with these words, and answers where its result goes.
-fn push_end(
-    alloc: Global,
-    w: &mut WorkerThread<Errand>,
-    marks: &Arc<Marks>,
-    name: Name,
-    words: Words,
-) -> Result<Arc<Reply<Errand>>, Trouble>
-    ensures id { w.new.id ≡ w.old.id }
-    ensures level { w.new.levels ≡ w.old.levels }
-{
-    let job = Errand::new(name, marks, Deed::End(Ok(words)))?;
-    push_job(alloc, w, job)
-}
-
-// Pushes a job, and answers where its result goes.
-fn push_job(
-    alloc: Global,
-    w: &mut WorkerThread<Errand>,
-    job: Errand,
-) -> Result<Arc<Reply<Errand>>, Trouble>
-    ensures id { w.new.id ≡ w.old.id }
-    ensures level { w.new.levels ≡ w.old.levels }
-{
-    let Ok(reply) = Reply::new(alloc) else {
-        return Err(Trouble::NoMemory);
-    };
-    let Ok(theirs) = Arc::try_clone(&reply) else {
-        return Err(Trouble::NoMemory);
-    };
-    match w.push(Task::Job(Installed { job, reply: theirs })) {
-        Ok(()) if w.local_deque_is_empty() => Err(Trouble::Unlike),
-        Ok(()) => Ok(reply),
-        Err(_) => Err(Trouble::NoMemory),
-    }
-}
-
-// The result that was stored, if it is of the job with this name.
-fn waited<R: Wait>(rt: &R, reply: &Reply<Errand>, name: Name) -> Result<Answer, Trouble> {
-    match reply.wait(rt) {
-        Some(done) if *done.tag() == name && done.place().is_none() => done.into_result(),
-        _ => Err(Trouble::Lost),
-    }
-}
-
-/// Pushes a job that sets the latch, and waits until it is set: the worker runs the job while it waits.
-pub fn wait_for_own<R: Waits<Errand>>(
-    rt: &R,
-    alloc: Global,
-    w: &mut WorkerThread<Errand>,
-    marks: &Arc<Marks>,
-    latch: Arc<CoreLatch>,
-) -> Result<Answer, Trouble>
-    requires { w.old.levels ≤ R.levels rt.now }
-    ensures same { SameWorker w.old w.new }
-{
-    let Ok(theirs) = Arc::try_clone(&latch) else {
-        return Err(Trouble::NoMemory);
-    };
-    let job = Errand::new(Name::Setter, marks, Deed::Set(theirs))?;
-    let reply = push_job(alloc, w, job)?;
-    match w.wait_until(rt, alloc, &latch) {
-        Ok(()) => waited(rt, &reply, Name::Setter),
-        Err(refusal) => Err(Trouble::Refused(refusal, Name::Setter)),
-    }
-}
-
-/// Pushes a job that lingers, for whose result nobody waits.
-pub fn push_lingering(
-    alloc: Global,
-    w: &mut WorkerThread<Errand>,
-    marks: &Arc<Marks>,
-) -> Result<Answer, Trouble>
-    ensures same { SameWorker w.old w.new }
-{
-    let job = Errand::new(Name::Lingering, marks, Deed::Linger)?;
-    let _reply = push_job(alloc, w, job)?;
-    Ok(Answer::Said(Words::Pushed))
-}
-
-/// Waits until the marks are released, takes its turns, and leaves.
-pub fn linger<R: Wait>(rt: &R, marks: &Marks) -> Answer {
-    for _ in rt.forever() {
-        if marks.is_released() {
-            break;
-        }
-    }
-    marks.leave();
-    Answer::Said(Words::Gone)
 }

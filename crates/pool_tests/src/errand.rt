@@ -1,7 +1,9 @@
 //! The jobs of the tests.
 ghost use Rattle.std.specs.Prelude.{◌≡◌, ℕ};
 
-use crate::deeds;
+use crate::many_workers::Many;
+use crate::together::Together;
+use crate::{deeds, many_workers, together};
 use rayon_core::latch::CoreLatch;
 use rayon_core::{
     BroadcastContext, CallError, FnContext, Job, JobKind, Refusal, Waits, WorkerId, WorkerThread,
@@ -11,7 +13,7 @@ use std::sync::Arc;
 use std::sync::atomic::{AtomicU64, Ordering};
 
 // How many turns a job that lingers takes after its release: far more than a call needs that waits for nothing.
-const LINGERING_TURNS: u64 = 5_000_000;
+const LINGERING_TURNS: u64 = 2_000_000;
 
 /// What the runs of a test's jobs leave behind.
 #[derive(Drop)]
@@ -20,6 +22,7 @@ pub struct Marks {
     migrated: AtomicU64,
     released: AtomicU64,
     left: AtomicU64,
+    noted: AtomicU64,
 }
 
 impl Marks {
@@ -30,6 +33,7 @@ impl Marks {
             migrated: AtomicU64::new(0),
             released: AtomicU64::new(0),
             left: AtomicU64::new(0),
+            noted: AtomicU64::new(0),
         };
         Arc::new(alloc, marks).map_err(|_| Trouble::NoMemory)
     }
@@ -44,22 +48,34 @@ impl Marks {
         self.migrated.load(Ordering::SeqCst)
     }
 
-    /// Lets the job that lingers go on.
+    /// Notes a digit after those that were noted, while no other job notes one.
+    pub fn note(&self, digit: u64) {
+        let noted = self.noted.load(Ordering::SeqCst);
+        let after = noted.saturating_mul(10).saturating_add(digit);
+        self.noted.store(after, Ordering::SeqCst);
+    }
+
+    /// The digits that were noted.
+    pub fn noted(&self) -> u64 {
+        self.noted.load(Ordering::SeqCst)
+    }
+
+    /// Lets the jobs that linger go on.
     pub fn release(&self) {
         self.released.store(1, Ordering::SeqCst);
     }
 
-    /// Whether the job that lingers may go on.
+    /// Whether the jobs that linger may go on.
     pub fn is_released(&self) -> bool {
         self.released.load(Ordering::SeqCst) == 1
     }
 
-    /// Whether the job that lingers has left.
-    pub fn has_left(&self) -> bool {
-        self.left.load(Ordering::SeqCst) == LINGERING_TURNS
+    /// How many of the jobs that linger have left.
+    pub fn left(&self) -> u64 {
+        self.left.load(Ordering::SeqCst) / LINGERING_TURNS
     }
 
-    /// Takes the turns of the job that lingers, one after the other.
+    /// Takes the turns of a job that lingers, one after the other.
     pub fn leave(&self) {
         for _ in 0..LINGERING_TURNS {
             self.left.fetch_add(1, Ordering::SeqCst);
@@ -90,14 +106,6 @@ pub enum Name {
     Second,
     /// A job one level below another.
     Below,
-    /// The task that was pushed first.
-    Older,
-    /// The task that was pushed last.
-    Newer,
-    /// A job that sets a latch.
-    Setter,
-    /// A job that is still running when its pool ends.
-    Lingering,
 }
 
 /// What a job says.
@@ -117,18 +125,12 @@ pub enum Words {
     Green,
     /// The third caller's.
     Blue,
-    /// What the task says that was pushed first.
-    Older,
-    /// What the task says that was pushed last.
-    Newer,
     /// What a job says that is run while another waits.
     Awake,
     /// What a job says that waited until a latch was set.
     Waited,
     /// What a job says that set a latch.
     Set,
-    /// What a job says that pushed another.
-    Pushed,
     /// What a job says that lingered.
     Gone,
     /// What a piece of a broadcast says.
@@ -150,6 +152,8 @@ pub enum Answer {
     Worker(WorkerId),
     /// How many runs stood nested, this one among them.
     Nested(usize),
+    /// This number.
+    Number(u64),
     /// A call that the job made was refused, and the jobs with these names came back.
     TurnedBack(Refusal, Name, Name),
 }
@@ -186,26 +190,18 @@ pub enum Deed {
     JoinTellers,
     /// Joins two jobs that end so.
     JoinJobs(Result<Words, Words>, Result<Words, Words>),
-    /// Joins a job that waits until the latch of these two shares is set, and a job that sets it.
-    JoinWait(Arc<CoreLatch>, Arc<CoreLatch>),
     /// Joins a closure that answers the first words, which it holds, and a job that answers the second.
     JoinClosure(Words, Words),
     /// Installs itself below as often as there are levels: this many.
     Descend(usize),
-    /// Pushes two jobs into the own deque, takes them again, and runs the one taken first.
-    Queue,
-    /// Pushes a job that sets this latch, and waits until it is set.
-    WaitForOwn(Arc<CoreLatch>),
     /// Waits until this latch is set.
     WaitFor(Arc<CoreLatch>),
-    /// Sets this latch.
-    Set(Arc<CoreLatch>),
-    /// Pushes a job that lingers.
-    PushLingering,
-    /// Waits until it is released, takes its turns, and leaves.
-    Linger,
     /// Tells which worker runs it.
     TellWorker,
+    /// Does what is for any number of workers.
+    Together(Together),
+    /// Does what is for one worker of several.
+    Many(Many),
 }
 
 /// A job: its name, which is its tag, where its run leaves its marks, and what it does.
@@ -268,33 +264,20 @@ impl Job for Errand {
             }
             Deed::InstallTeller => deeds::install_teller(rt, alloc, w, &marks),
             Deed::JoinTellers => deeds::join_tellers(rt, alloc, w, &marks),
-            Deed::PushLingering => deeds::push_lingering(alloc, w, &marks),
-            Deed::Linger => Ok(deeds::linger(rt, &marks)),
             Deed::JoinContext(ending) => deeds::join_context(rt, alloc, w, &marks, ending),
-            Deed::JoinJobs(first, second) => {
-                let (first, second) = (Deed::End(first), Deed::End(second));
-                deeds::join_jobs(rt, alloc, w, &marks, first, second)
-            }
-            Deed::JoinWait(awaited, set) => {
-                let (first, second) = (Deed::WaitFor(awaited), Deed::Set(set));
-                deeds::join_jobs(rt, alloc, w, &marks, first, second)
-            }
+            Deed::JoinJobs(first, second) => deeds::join_jobs(rt, alloc, w, &marks, first, second),
             Deed::JoinClosure(held, words) => deeds::join_closure(
                 rt, alloc, w, &marks, held, words,
             ),
             Deed::Descend(levels) => deeds::descend(rt, alloc, w, &marks, levels),
-            Deed::Queue => deeds::queue(rt, alloc, w, &marks),
-            Deed::WaitForOwn(latch) => deeds::wait_for_own(rt, alloc, w, &marks, latch),
             Deed::WaitFor(latch) => match w.wait_until(rt, alloc, &latch) {
                 Ok(()) => Ok(Answer::Said(Words::Waited)),
                 Err(refusal) => Err(Trouble::Refused(refusal, name)),
             },
-            Deed::Set(latch) => {
-                latch.set(rt);
-                Ok(Answer::Said(Words::Set))
-            }
             Deed::TellWorker if w.id().index == w.index() => Ok(Answer::Worker(w.id())),
             Deed::TellWorker => Err(Trouble::Unlike),
+            Deed::Together(deed) => together::run(rt, alloc, w, &marks, ctx.migrated(), deed),
+            Deed::Many(deed) => many_workers::run(rt, alloc, w, &marks, deed),
         }
     }
 

@@ -11,7 +11,7 @@ fn lent_pools_are_ended(rt: HostRuntime) -> Result<(), Fail> {
     let marks = Marks::new(alloc)?;
     for ending in [Ok(Words::One), Err(Words::Two)] {
         let job = Errand::new(Name::Caller, &marks, Deed::End(ending))?;
-        let next = Errand::new(Name::Below, &marks, Deed::End(Ok(Words::Newer)))?;
+        let next = Errand::new(Name::Below, &marks, Deed::End(Ok(Words::Waited)))?;
         let late = Errand::new(Name::Caller, &marks, Deed::End(Ok(Words::One)))?;
         let pool = ThreadPoolBuilder::<Errand>::new().build(&rt, alloc, &Ids::new())?;
         let shared = pool.pool_ref().expect(&rt, "room");
@@ -21,7 +21,7 @@ fn lent_pools_are_ended(rt: HostRuntime) -> Result<(), Fail> {
         });
         let late = outcome(shared.install(&rt, alloc, late));
         match ending {
-            Ok(_) => assert_eq!(rt; answer, Ok(Answer::Said(Words::Newer))),
+            Ok(_) => assert_eq!(rt; answer, Ok(Answer::Said(Words::Waited))),
             Err(words) => assert_eq!(rt; answer, Err(Trouble::Said(words))),
         }
         assert_eq!(rt; late, Err(Trouble::Refused(Refusal::Ended, Name::Caller)));

@@ -10,6 +10,12 @@ mod errand;
 #[cfg(test)]
 mod lent;
 #[cfg(test)]
+mod many_workers;
+#[cfg(test)]
 mod tests;
 #[cfg(test)]
+mod together;
+#[cfg(test)]
 mod told;
+#[cfg(test)]
+mod workers;

@@ -1,10 +1,10 @@
 //! Tests of what the calls of a running pool answer.
 use crate::errand::{Answer, Deed, Errand, Marks, Name, Trouble, Words, outcome, outcomes};
-use rayon_core::latch::{CoreLatch, LockLatch, SpinLatch};
+use crate::together::Together;
+use rayon_core::latch::{CoreLatch, LockLatch};
 use rayon_core::{
     Ids, PoolRef, Refusal, ThreadPool, ThreadPoolBuildError, ThreadPoolBuilder, WorkerId,
 };
-use rayon_words::sleep::Sleep;
 use std::alloc::Global;
 use std::process::Abort;
 use std::sync::atomic::{AtomicU64, Ordering};
@@ -13,14 +13,30 @@ use std::test::Fail;
 use std::thread;
 use std::thread::Threads;
 
-/// A pool whose worker value has so many levels.
+/// The numbers of workers on which what is the same on each is tested.
+pub const WORKERS: [usize; 3] = [1, 2, 4];
+
+/// More levels than any test here needs, however many runs nest in a worker that waits.
+pub const LEVELS: usize = 4_000;
+
+/// A pool of one worker whose value has so many levels.
 pub fn pool_of<R: Threads + Wait + Copy + Send + 'static>(
     rt: &R,
     alloc: Global,
     depth_limit: usize,
 ) -> Result<ThreadPool<Errand>, ThreadPoolBuildError> {
+    pool_with(rt, alloc, 1, depth_limit)
+}
+
+/// A pool of so many workers whose values have so many levels.
+pub fn pool_with<R: Threads + Wait + Copy + Send + 'static>(
+    rt: &R,
+    alloc: Global,
+    workers: usize,
+    depth_limit: usize,
+) -> Result<ThreadPool<Errand>, ThreadPoolBuildError> {
     ThreadPoolBuilder::new()
-        .num_threads(1)
+        .num_threads(workers)
         .depth_limit(depth_limit)
         .build(rt, alloc, &Ids::new())
 }
@@ -58,68 +74,60 @@ pub fn joined<R: Wait + Abort>(
 #[test]
 fn faults_come_out_in_order(rt: HostRuntime) -> Result<(), Fail> {
     let alloc = rt.alloc();
-    let pool = pool_of(&rt, alloc, 9)?;
     let (one, two) = (Words::One, Words::Two);
     let (hello, goodbye) = (Words::HelloWorld, Words::GoodbyeWorld);
-    for (first, second, fault) in [
-        (Err(hello), Err(goodbye), Some(hello)),
-        (Err(hello), Ok(two), Some(hello)),
-        (Ok(one), Err(goodbye), Some(goodbye)),
-        (Ok(one), Ok(two), None),
-    ] {
-        let outside = joined(&rt, alloc, &pool, first, second);
-        let inside = installed(&rt, alloc, &pool, Deed::JoinJobs(first, second));
-        match fault {
-            Some(words) => {
-                assert_eq!(rt; outside, (Err(Trouble::Said(words)), 2));
-                assert_eq!(rt; inside, (Err(Trouble::Said(words)), 3));
-            }
-            None => {
-                assert_eq!(rt; outside, (Ok((Answer::Said(one), Answer::Said(two))), 2));
-                assert_eq!(rt; inside, (Ok(Answer::Both(one, two)), 3));
+    for workers in WORKERS {
+        let pool = pool_with(&rt, alloc, workers, 9).expect(&rt, "a pool");
+        for (first, second, fault) in [
+            (Err(hello), Err(goodbye), Some(hello)),
+            (Err(hello), Ok(two), Some(hello)),
+            (Ok(one), Err(goodbye), Some(goodbye)),
+            (Ok(one), Ok(two), None),
+        ] {
+            let outside = joined(&rt, alloc, &pool, first, second);
+            let inside = installed(&rt, alloc, &pool, Deed::JoinJobs(first, second));
+            match fault {
+                Some(words) => {
+                    assert_eq!(rt; outside, (Err(Trouble::Said(words)), 2));
+                    assert_eq!(rt; inside, (Err(Trouble::Said(words)), 3));
+                }
+                None => {
+                    assert_eq!(rt; outside, (Ok((Answer::Said(one), Answer::Said(two))), 2));
+                    assert_eq!(rt; inside, (Ok(Answer::Both(one, two)), 3));
+                }
             }
         }
+        pool.end(&rt);
     }
-    pool.end(&rt);
     Ok(())
 }
 
 // With one level an install is taken, and each join is refused: the very jobs come back, and neither has run. A depth
-// limit of 0 counts as 1.
+// limit of 0 counts as 1. With two levels each join is taken.
 #[test]
-fn one_level_is_too_few_for_a_join(rt: HostRuntime) -> Result<(), Fail> {
+fn joins_take_two_levels(rt: HostRuntime) -> Result<(), Fail> {
     let alloc = rt.alloc();
     let (one, two) = (Words::One, Words::Two);
     let turned_back = Answer::TurnedBack(Refusal::TooDeep, Name::First, Name::Second);
     let refused = Trouble::BothRefused(Refusal::TooDeep, Name::First, Name::Second);
-    for depth_limit in [0, 1] {
-        let pool = pool_of(&rt, alloc, depth_limit).expect(&rt, "a pool");
+    for (workers, depth_limit) in [(1, 0), (2, 1), (1, 2), (4, 2)] {
+        let pool = pool_with(&rt, alloc, workers, depth_limit).expect(&rt, "a pool");
         let alone = installed(&rt, alloc, &pool, Deed::End(Ok(one)));
         let jobs = installed(&rt, alloc, &pool, Deed::JoinJobs(Ok(one), Ok(two)));
         let closure = installed(&rt, alloc, &pool, Deed::JoinClosure(one, two));
         let outside = joined(&rt, alloc, &pool, Ok(one), Ok(two));
         pool.end(&rt);
         assert_eq!(rt; alone, (Ok(Answer::Said(one)), 1));
-        assert_eq!(rt; jobs, (Ok(turned_back), 1));
-        assert_eq!(rt; closure, (Ok(turned_back), 1));
-        assert_eq!(rt; outside, (Err(refused), 0));
+        if depth_limit < 2 {
+            assert_eq!(rt; jobs, (Ok(turned_back), 1));
+            assert_eq!(rt; closure, (Ok(turned_back), 1));
+            assert_eq!(rt; outside, (Err(refused), 0));
+        } else {
+            assert_eq!(rt; jobs, (Ok(Answer::Both(one, two)), 3));
+            assert_eq!(rt; closure, (Ok(Answer::Both(one, two)), 2));
+            assert_eq!(rt; outside, (Ok((Answer::Said(one), Answer::Said(two))), 2));
+        }
     }
-    Ok(())
-}
-
-// With two levels each join is taken.
-#[test]
-fn two_levels_are_enough_for_a_join(rt: HostRuntime) -> Result<(), Fail> {
-    let alloc = rt.alloc();
-    let (one, two) = (Words::One, Words::Two);
-    let pool = pool_of(&rt, alloc, 2)?;
-    let jobs = installed(&rt, alloc, &pool, Deed::JoinJobs(Ok(one), Ok(two)));
-    let closure = installed(&rt, alloc, &pool, Deed::JoinClosure(one, two));
-    let outside = joined(&rt, alloc, &pool, Ok(one), Ok(two));
-    pool.end(&rt);
-    assert_eq!(rt; jobs, (Ok(Answer::Both(one, two)), 3));
-    assert_eq!(rt; closure, (Ok(Answer::Both(one, two)), 2));
-    assert_eq!(rt; outside, (Ok((Answer::Said(one), Answer::Said(two))), 2));
     Ok(())
 }
 
@@ -128,53 +136,12 @@ fn two_levels_are_enough_for_a_join(rt: HostRuntime) -> Result<(), Fail> {
 fn runs_nest_to_the_depth_limit(rt: HostRuntime) -> Result<(), Fail> {
     let alloc = rt.alloc();
     for (depth_limit, levels, runs) in [(0, 0, 1), (1, 0, 1), (2, 1, 2), (5, 4, 5)] {
-        let pool = pool_of(&rt, alloc, depth_limit).expect(&rt, "a pool");
+        let pool = pool_with(&rt, alloc, 2, depth_limit).expect(&rt, "a pool");
         let (answer, count) = installed(&rt, alloc, &pool, Deed::Descend(levels));
         pool.end(&rt);
         assert_eq!(rt; answer, Ok(Answer::Nested(runs)), "limit {depth_limit}");
         assert_eq!(rt; usize::try_from(count), Ok(runs), "limit {depth_limit}");
     }
-    Ok(())
-}
-
-// Sends jobs to the pool that answer, and that fault with, these words.
-fn call_often<R: Wait + Abort>(
-    rt: &R,
-    alloc: Global,
-    pool: &PoolRef<Errand>,
-    marks: &Arc<Marks>,
-    words: Words,
-) {
-    for _ in 0..50 {
-        for (ending, want) in [
-            (Ok(words), Ok(Answer::Said(words))),
-            (Err(words), Err(Trouble::Said(words))),
-        ] {
-            let job = Errand::new(Name::Caller, marks, Deed::End(ending)).expect(rt, "room");
-            assert_eq!(rt; outcome(pool.install(rt, alloc, job)), want);
-        }
-    }
-}
-
-// Several threads install through one pool at once, and each gets its own answer or fault.
-#[test]
-fn many_callers(rt: HostRuntime) -> Result<(), Fail> {
-    let alloc = rt.alloc();
-    let marks = Marks::new(alloc)?;
-    let pool = pool_of(&rt, alloc, 9)?;
-    let pool_ref = pool.pool_ref().expect(&rt, "room");
-    let (shared, handle, theirs) = (&pool_ref, &rt, &marks);
-    let started = thread::scope(thread::scope_env(), &rt, |scope| {
-        let mut started = true;
-        for words in [Words::Red, Words::Green, Words::Blue] {
-            let call = scope.spawn(move || call_often(handle, alloc, shared, theirs, words));
-            started = started && call.is_ok();
-        }
-        started
-    });
-    pool.end(&rt);
-    assert!(rt; started, "a thread was refused");
-    assert_eq!(rt; marks.runs(), 300);
     Ok(())
 }
 
@@ -258,65 +225,20 @@ fn references(rt: HostRuntime) -> Result<(), Fail> {
     Ok(())
 }
 
-// A worker's own deque gives the newest task first, the result of a task goes where the task says, and a task that is
-// only taken does not run.
+// A worker's own deque gives the newest task first: two second sides that a first side takes out by hand and pushes
+// again, the newer one first, run in the other order. Each runs once, and its join finds its answer.
 #[test]
 fn own_deque(rt: HostRuntime) -> Result<(), Fail> {
     let alloc = rt.alloc();
-    let pool = pool_of(&rt, alloc, 9)?;
-    let answer = installed(&rt, alloc, &pool, Deed::Queue);
-    pool.end(&rt);
-    assert_eq!(rt; answer, (Ok(Answer::Said(Words::Newer)), 2));
-    Ok(())
-}
-
-// A worker that waits on a latch runs what it has pushed, and goes on when another thread has set the latch.
-#[test]
-fn worker_waits(rt: HostRuntime) -> Result<(), Fail> {
-    let alloc = rt.alloc();
     let marks = Marks::new(alloc)?;
-    let (own, other) = (
-        Arc::new(alloc, CoreLatch::new())?,
-        Arc::new(alloc, CoreLatch::new())?,
-    );
-    let (own_again, other_again) = (Arc::try_clone(&own)?, Arc::try_clone(&other)?);
-    let waits_for_own = Errand::new(Name::Caller, &marks, Deed::WaitForOwn(own_again))?;
-    let waits_for_other = Errand::new(Name::Caller, &marks, Deed::WaitFor(other_again))?;
-    let wakes = Errand::new(Name::Caller, &marks, Deed::End(Ok(Words::Awake)))?;
+    let deed = Deed::Together(Together::JoinTaker);
+    let job = Errand::new(Name::Caller, &marks, deed)?;
     let pool = pool_of(&rt, alloc, 9)?;
-    assert_eq!(rt;
-        outcome(pool.install(&rt, alloc, waits_for_own)),
-        Ok(Answer::Said(Words::Set))
-    );
-    assert!(rt; own.probe(&rt));
-    let pool_ref = pool.pool_ref().expect(&rt, "room");
-    let (shared, handle) = (&pool_ref, &rt);
-    let answer = thread::scope(thread::scope_env(), &rt, |scope| {
-        let waiting = scope.spawn(move || outcome(shared.install(handle, alloc, waits_for_other)));
-        other.set(handle);
-        let woken = outcome(shared.install(handle, alloc, wakes));
-        assert_eq!(handle; woken, Ok(Answer::Said(Words::Awake)));
-        match waiting {
-            Ok(waiting) => waiting.join(handle),
-            Err(_) => Err(Trouble::NoMemory),
-        }
-    });
+    let taken = outcome(pool.install(&rt, alloc, job));
     pool.end(&rt);
-    assert_eq!(rt; answer, Ok(Answer::Said(Words::Waited)));
-    assert_eq!(rt; marks.runs(), 4);
-    Ok(())
-}
-
-// A first side that waits has its worker run the second side meanwhile, and the join finds the result that was stored.
-#[test]
-fn waiting_first_side_runs_the_second(rt: HostRuntime) -> Result<(), Fail> {
-    let alloc = rt.alloc();
-    let latch = Arc::new(alloc, CoreLatch::new())?;
-    let again = Arc::try_clone(&latch)?;
-    let pool = pool_of(&rt, alloc, 9)?;
-    let answer = installed(&rt, alloc, &pool, Deed::JoinWait(latch, again));
-    pool.end(&rt);
-    assert_eq!(rt; answer, (Ok(Answer::Both(Words::Waited, Words::Set)), 3));
+    assert_eq!(rt; taken, Ok(Answer::Number(2)));
+    assert_eq!(rt; marks.noted(), 12, "the older one has run first");
+    assert_eq!(rt; marks.runs(), 5);
     Ok(())
 }
 
@@ -358,25 +280,5 @@ fn lock_latches(rt: HostRuntime) -> Result<(), Fail> {
     });
     back.wait(&rt);
     back.wait_and_reset(&rt);
-    Ok(())
-}
-
-// A thread that sleeps until a spin latch is set goes on when another thread sets it.
-#[test]
-fn spin_latches(rt: HostRuntime) -> Result<(), Fail> {
-    let (spin, sleep) = (SpinLatch::new(0), Sleep::new());
-    let (spin, sleep, handle) = (&spin, &sleep, &rt);
-    thread::scope(thread::scope_env(), &rt, |scope| {
-        let started = scope.spawn(move || spin.set(handle, sleep));
-        assert!(handle; started.is_ok(), "a thread was refused");
-        for _ in handle.forever() {
-            let events = sleep.events(handle);
-            if spin.probe(handle) {
-                break;
-            }
-            sleep.no_work_found(handle, spin.core_latch(), events);
-        }
-    });
-    assert!(rt; spin.core_latch().probe(&rt));
     Ok(())
 }

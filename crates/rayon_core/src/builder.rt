@@ -1,12 +1,14 @@
 //! How a pool is made.
-ghost use Rattle.std.specs.Prelude.{◌≡◌, ℕ, ◌-◌, ◌^◌, max, IfOk};
+ghost use Rattle.std.specs.Prelude.{◌≡◌, ℕ, ◌+◌, ◌-◌, ◌^◌, max, min, length, IfOk};
 
-use crate::thread_pool::ThreadPool;
+use crate::thread_pool::{ThreadPool, end_workers};
 use rayon_jobs::JobKind;
-use rayon_registry::{Ids, Job, PoolId, Registry, TerminateHold, ThreadBuilder};
+use rayon_queues::WorkerDeque;
+use rayon_registry::{Ids, Job, Registry, ThreadBuilder};
+use rayon_tasks::Task;
 use std::alloc::{AllocFailed, Global};
 use std::marker::{Model, PhantomData};
-use std::sync::{Arc, Wait};
+use std::sync::Wait;
 use std::thread::{JoinHandle, Threads};
 use std::{io, thread};
 use thiserror::Error;
@@ -26,13 +28,14 @@ pub enum ThreadPoolBuildError {
 }
 
 /// The most workers that a pool is made with.
-const MAX_WORKERS: usize = 1;
+const MAX_WORKERS: usize = 65_535;
 
 /// What a pool is to be like. Contracts see what was set.
 #[derive(Drop)]
 pub struct ThreadPoolBuilder<J: JobKind> {
     num_threads: usize,
     depth_limit: usize,
+    steal_seed: u64,
     jobs: PhantomData<J>,
 }
 
@@ -41,30 +44,32 @@ impl<J: JobKind> Model for ThreadPoolBuilder<J> {
 
     ghost Value = { Settings };
 
-    ghost view = { λ b. record { num_threads = b.num_threads; depth_limit = b.depth_limit } };
+    ghost view = { λ b. record { num_threads = b.num_threads; depth_limit = b.depth_limit; steal_seed = b.steal_seed } };
 }
 
 impl<J: JobKind> ThreadPoolBuilder<J> {
     /// Settings of which none was made: the builder chooses how many workers, and runs may nest as deep as the memory
     /// of a thread allows.
     pub fn new() -> ThreadPoolBuilder<J>
-        ensures { result ≡ record { num_threads = 0; depth_limit = 2 ^ 64 - 1 } }
+        ensures { result ≡ record { num_threads = 0; depth_limit = 2 ^ 64 - 1; steal_seed = 0 } }
     {
         ThreadPoolBuilder {
             num_threads: 0,
             depth_limit: usize::MAX,
+            steal_seed: 0,
             jobs: PhantomData,
         }
     }
 
-    /// Asks for this many workers; 0 leaves the choice to the builder. A pool has one worker for now, whatever is
-    /// asked.
+    /// Asks for this many workers, of which a pool has at most 65,535; 0 leaves the choice to the builder, which takes
+    /// one for now.
     pub fn num_threads(self, num_threads: usize) -> ThreadPoolBuilder<J>
         ensures { result ≡ record self { num_threads = num_threads } }
     {
         ThreadPoolBuilder {
             num_threads,
             depth_limit: self.depth_limit,
+            steal_seed: self.steal_seed,
             jobs: PhantomData,
         }
     }
@@ -82,12 +87,26 @@ impl<J: JobKind> ThreadPoolBuilder<J> {
         ThreadPoolBuilder {
             num_threads: self.num_threads,
             depth_limit,
+            steal_seed: self.steal_seed,
             jobs: PhantomData,
         }
     }
 
-    /// Makes the pool: draws its number, and starts its worker's thread. Refused `NoIds`, `NoRoom`, `IOError`, in this
-    /// order, and no thread is left.
+    /// Sets what is added to each worker's index for the seed by which it chooses from whom to steal first.
+    pub fn steal_seed(self, steal_seed: u64) -> ThreadPoolBuilder<J>
+        ensures { result ≡ record self { steal_seed = steal_seed } }
+    {
+        ThreadPoolBuilder {
+            num_threads: self.num_threads,
+            depth_limit: self.depth_limit,
+            steal_seed,
+            jobs: PhantomData,
+        }
+    }
+
+    /// Makes the pool: draws its number, and starts its workers' threads. Refused `NoIds`, `NoRoom`, `IOError`, in this
+    /// order where more than one holds before a thread is started; what was started is ended and joined again, so no
+    /// thread is left.
     pub fn build<R: Threads + Wait + Copy + Send + 'static>(
         self,
         rt: &R,
@@ -99,35 +118,72 @@ impl<J: JobKind> ThreadPoolBuilder<J> {
         J::Tag: Send + Sync + 'static,
         J::Output: Send + Sync + 'static,
         J::Fault: Send + Sync + 'static,
-        ensures workers { IfOk result (λ p. p.workers ≡ 1) }
+        ensures workers { IfOk result (λ p. p.workers ≡ min 65535 (max 1 self.num_threads)) }
         ensures depth { IfOk result (λ p. p.depth_limit ≡ max 1 self.depth_limit) }
     {
         let Some(id) = ids.next(rt) else {
             return Err(ThreadPoolBuildError::NoIds);
         };
         let num_threads = self.num_threads.clamp(1, MAX_WORKERS);
-        let (registry, hold) = Registry::new(alloc, id, self.depth_limit);
-        match Arc::new(alloc, registry) {
-            Ok(registry) => match start_worker(rt, alloc, &registry) {
-                Ok(worker) => Ok(ThreadPool::new(registry, hold, num_threads, worker)),
-                Err(error) => {
-                    registry.decrement_terminate_count(rt, hold);
-                    Err(error)
+        let made = Registry::new(
+            rt,
+            alloc,
+            id,
+            num_threads,
+            self.depth_limit,
+            self.steal_seed,
+        );
+        let Ok((registry, deques, hold)) = made else {
+            return Err(ThreadPoolBuildError::NoRoom);
+        };
+        let mut workers = Vec::new(alloc);
+        match start_workers(rt, alloc, &registry, deques, &mut workers) {
+            Ok(()) => Ok(ThreadPool::new(registry, hold, workers)),
+            Err(Unstarted { error, worker }) => {
+                end_workers(rt, &registry, hold, workers);
+                if let Some(worker) = worker {
+                    worker.join(rt);
                 }
-            },
-            Err(AllocFailed { value: registry }) => {
-                registry.decrement_terminate_count(rt, hold);
-                Err(ThreadPoolBuildError::NoRoom)
+                Err(error)
             }
         }
     }
 }
 
-// Starts the thread of worker 0.
-fn start_worker<J, R: Threads + Wait + Copy + Send + 'static>(
+// Starts a thread that begins with these two values. They stand in types of their own, as the deque does in
+// `start_sharing`: the checker finds of each that it may be sent, and not of a type that holds both.
+fn start_with<
+    S: Drop + Send + 'static,
+    D: Drop + Send + 'static,
+    R: Threads + Wait + Copy + Send + 'static,
+    F: FnOnce(&R, S, D) + Drop + Send + 'static,
+>(rt: &R, shared: S, deque: D, begin: F) -> Result<JoinHandle<()>, ThreadPoolBuildError>
+    requires { F.IsAlwaysCallable begin }
+{
+    let theirs = *rt;
+    let started = thread::Builder::new().spawn(rt, move || begin(&theirs, shared, deque));
+    started.map_err(ThreadPoolBuildError::IOError)
+}
+
+// A worker's own deque.
+trait OwnDeque<J: JobKind>: Drop {
+    // The deque itself.
+    fn into_deque(self) -> WorkerDeque<Task<J>>;
+}
+
+impl<J: JobKind> OwnDeque<J> for WorkerDeque<Task<J>> {
+    fn into_deque(self) -> WorkerDeque<Task<J>> {
+        self
+    }
+}
+
+// Starts a thread that begins with what the pool's threads share, and with this deque.
+fn start_sharing<J, D: OwnDeque<J> + Send + 'static, R: Threads + Wait + Copy + Send + 'static>(
     rt: &R,
     alloc: Global,
-    registry: &Arc<Registry<J>, Global>,
+    registry: &Registry<J>,
+    index: usize,
+    deque: D,
 ) -> Result<JoinHandle<()>, ThreadPoolBuildError>
 where
     J: Job + Send + Sync + 'static,
@@ -135,10 +191,78 @@ where
     J::Output: Send + Sync + 'static,
     J::Fault: Send + Sync + 'static,
 {
-    let Ok(thread) = ThreadBuilder::new(alloc, registry, 0) else {
+    let id = registry.id();
+    let Ok(shared) = registry.shared() else {
         return Err(ThreadPoolBuildError::NoRoom);
     };
-    let theirs = *rt;
-    let started = thread::Builder::new().spawn(rt, move || thread.run(&theirs, alloc));
-    started.map_err(ThreadPoolBuildError::IOError)
+    start_with(rt, shared, deque, move |rt, shared, deque| {
+        if let Some(thread) = ThreadBuilder::new(id, index, shared, deque.into_deque()) {
+            thread.run(rt, alloc);
+        }
+    })
+}
+
+// Starts the thread of the worker with this index, whose own deque this is.
+fn start_worker<J, R: Threads + Wait + Copy + Send + 'static>(
+    rt: &R,
+    alloc: Global,
+    registry: &Registry<J>,
+    index: usize,
+    deque: WorkerDeque<Task<J>>,
+) -> Result<JoinHandle<()>, ThreadPoolBuildError>
+where
+    J: Job + Send + Sync + 'static,
+    J::Tag: Send + Sync + 'static,
+    J::Output: Send + Sync + 'static,
+    J::Fault: Send + Sync + 'static,
+{
+    start_sharing(rt, alloc, registry, index, deque)
+}
+
+// Why not all workers were started, and a worker that was, but whose handle found no room beside the others'. It leaves
+// its loop once the pool has ended, and can be joined then.
+struct Unstarted {
+    error: ThreadPoolBuildError,
+    worker: Option<JoinHandle<()>>,
+}
+
+impl Unstarted {
+    // No worker is left over.
+    fn of(error: ThreadPoolBuildError) -> Unstarted {
+        Unstarted {
+            error,
+            worker: None,
+        }
+    }
+}
+
+// Starts the threads of the workers whose deques these are, by index, and adds them to those that were started.
+fn start_workers<J, R: Threads + Wait + Copy + Send + 'static>(
+    rt: &R,
+    alloc: Global,
+    registry: &Registry<J>,
+    deques: Vec<WorkerDeque<Task<J>>>,
+    workers: &mut Vec<JoinHandle<()>>,
+) -> Result<(), Unstarted>
+where
+    J: Job + Send + Sync + 'static,
+    J::Tag: Send + Sync + 'static,
+    J::Output: Send + Sync + 'static,
+    J::Fault: Send + Sync + 'static,
+    ensures started { IfOk result (λ _. length workers.new.items ≡ length workers.old.items + length deques.items) }
+{
+    for (index, deque) in deques.into_iter().enumerate() {
+        match start_worker(rt, alloc, registry, index, deque) {
+            Ok(worker) => {
+                if let Err(AllocFailed { value: worker }) = workers.push(worker) {
+                    return Err(Unstarted {
+                        error: ThreadPoolBuildError::NoRoom,
+                        worker: Some(worker),
+                    });
+                }
+            }
+            Err(error) => return Err(Unstarted::of(error)),
+        }
+    }
+    Ok(())
 }

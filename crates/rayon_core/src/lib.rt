@@ -15,11 +15,12 @@ pub use rayon_jobs::{Done, JobKind};
 pub use rayon_registry::{
     BroadcastContext, FnContext, ForkJoin, Ids, Job, PoolId, Scope, Waits, WorkerId, WorkerThread,
 };
+pub use rayon_sleep::latch::{Owner, SpinLatch};
 pub use rayon_words::{CallError, Refusal, latch};
 pub use thread_pool::ThreadPool;
 
-// What a task that is pushed or taken by hand is made of.
-pub use rayon_jobs::{Installed, Pair, PairReply, Reply, SecondSide, Task, Ticket};
+// What is pushed and taken by hand. To users it is opaque: none answers for a call but the one that the call queued.
+pub use rayon_tasks::Task;
 
 // What the library is made of: contracts name it, and calls do not need it.
 pub use rayon_jobs::Cell;

@@ -8,49 +8,37 @@ use rayon_registry::{PoolId, Registry};
 use rayon_words::{CallError, Refusal};
 use std::alloc::Global;
 use std::marker::Model;
-use std::sync::{Arc, Wait};
+use std::sync::Wait;
 
 /// A pool as other threads use it: it can be sent to them and shared among them. It keeps no pool from ending.
 /// Contracts see the pool's number, how many workers it has, and the levels of a worker value that no run was lent yet.
 #[derive(Drop)]
 pub struct PoolRef<J: JobKind> {
-    registry: Arc<Registry<J>, Global>,
-    num_threads: usize,
+    registry: Registry<J>,
 }
 
 impl<J: JobKind> Model for PoolRef<J> {
     ghost use Rattle.rayon_core.specs.Pool.{Pool};
-    ghost use Rattle.std.specs.Arc.{arc_value};
 
     ghost Value = { Pool };
 
-    ghost view = { λ p. record { id = (arc_value p.registry).id; workers = p.num_threads; depth_limit = (arc_value p.registry).depth_limit } };
+    ghost view = { λ p. record { id = p.registry.id; workers = p.registry.workers; depth_limit = p.registry.depth_limit } };
 }
 
 impl<J: JobKind> PoolRef<J> {
     // One more share of what the pool's threads share. Refused `NoRoom`.
-    pub(crate) fn new(
-        registry: &Arc<Registry<J>, Global>,
-        num_threads: usize,
-    ) -> Result<PoolRef<J>, Refusal>
-        ensures id { IfOk result (λ p. p.id ≡ (arc_value registry.now).id) }
-        ensures workers { IfOk result (λ p. p.workers ≡ num_threads) }
-        ensures depth { IfOk result (λ p. p.depth_limit ≡ (arc_value registry.now).depth_limit) }
+    pub(crate) fn new(registry: &Registry<J>) -> Result<PoolRef<J>, Refusal>
+        ensures { IfOk result (λ p. p ≡ record { id = registry.now.id; workers = registry.now.workers; depth_limit = registry.now.depth_limit }) }
     {
-        match Arc::try_clone(registry) {
-            Ok(registry) => Ok(PoolRef {
-                registry,
-                num_threads,
-            }),
-            Err(_) => Err(Refusal::NoRoom),
-        }
+        let registry = registry.share()?;
+        Ok(PoolRef { registry })
     }
 
     /// A copy, for the same pool. Refused `NoRoom`.
     pub fn pool_ref(&self) -> Result<PoolRef<J>, Refusal>
         ensures { IfOk result (λ p. p ≡ self.now) }
     {
-        PoolRef::new(&self.registry, self.num_threads)
+        PoolRef::new(&self.registry)
     }
 
     /// The pool's number.
@@ -64,7 +52,7 @@ impl<J: JobKind> PoolRef<J> {
     pub fn current_num_threads(&self) -> usize
         ensures { result ≡ self.now.workers }
     {
-        self.num_threads
+        self.registry.num_threads()
     }
 
     /// Runs a job on the pool, for a caller that is no worker, as `ThreadPool::install` does.

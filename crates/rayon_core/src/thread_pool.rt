@@ -1,52 +1,51 @@
 //! Pools.
 ghost use Rattle.rayon_registry.specs.Answers.{InstallAnswers, JoinAnswers};
 ghost use Rattle.std.specs.Arc.{arc_value};
-ghost use Rattle.std.specs.Prelude.{◌≡◌, ◌<◌, ℕ, Result, Ok, Err, IfOk};
+ghost use Rattle.std.specs.Prelude.{◌≡◌, ◌<◌, ℕ, length, Result, Ok, Err, IfOk};
 
 use crate::pool_ref::PoolRef;
 use rayon_jobs::JobKind;
-use rayon_registry::{PoolId, Registry, TerminateHold};
+use rayon_performers::PoolHold;
+use rayon_registry::{PoolId, Registry};
 use rayon_words::{CallError, Refusal};
 use std::alloc::Global;
 use std::marker::Model;
-use std::sync::{Arc, Wait};
+use std::sync::Wait;
 use std::thread::{JoinHandle, Threads};
 
 /// A pool, held by its value. It has no `Drop`: it must be spent by `end`. Contracts see its number, how many
 /// workers it has, and the levels of a worker value that no run was lent yet.
 pub struct ThreadPool<J: JobKind> {
-    registry: Arc<Registry<J>, Global>,
-    hold: TerminateHold,
-    num_threads: usize,
-    worker: JoinHandle<()>,
+    registry: Registry<J>,
+    hold: PoolHold,
+    workers: Vec<JoinHandle<()>>,
 }
 
 impl<J: JobKind> Model for ThreadPool<J> {
     ghost use Rattle.rayon_core.specs.Pool.{Pool};
-    ghost use Rattle.std.specs.Arc.{arc_value};
+    ghost use Rattle.std.specs.Prelude.{◌≡◌, length};
 
     ghost Value = { Pool };
 
-    ghost view = { λ p. record { id = (arc_value p.registry).id; workers = p.num_threads; depth_limit = (arc_value p.registry).depth_limit } };
+    ghost view = { λ p. record { id = p.registry.id; workers = p.registry.workers; depth_limit = p.registry.depth_limit } };
+
+    ghost invariant = { λ p. length p.workers.items ≡ p.registry.workers };
 }
 
 impl<J: JobKind> ThreadPool<J> {
-    // The pool whose worker was started.
+    // The pool whose workers were started, each in a thread of its own.
     pub(crate) fn new(
-        registry: Arc<Registry<J>, Global>,
-        hold: TerminateHold,
-        num_threads: usize,
-        worker: JoinHandle<()>,
+        registry: Registry<J>,
+        hold: PoolHold,
+        workers: Vec<JoinHandle<()>>,
     ) -> ThreadPool<J>
-        ensures id { result.id ≡ (arc_value registry).id }
-        ensures workers { result.workers ≡ num_threads }
-        ensures depth { result.depth_limit ≡ (arc_value registry).depth_limit }
+        requires { length workers.items ≡ registry.workers }
+        ensures { result ≡ record { id = registry.id; workers = registry.workers; depth_limit = registry.depth_limit } }
     {
         ThreadPool {
             registry,
             hold,
-            num_threads,
-            worker,
+            workers,
         }
     }
 
@@ -61,14 +60,14 @@ impl<J: JobKind> ThreadPool<J> {
     pub fn current_num_threads(&self) -> usize
         ensures { result ≡ self.now.workers }
     {
-        self.num_threads
+        self.registry.num_threads()
     }
 
     /// What stands for the pool on other threads. Refused `NoRoom`.
     pub fn pool_ref(&self) -> Result<PoolRef<J>, Refusal>
         ensures { IfOk result (λ p. p ≡ self.now) }
     {
-        PoolRef::new(&self.registry, self.num_threads)
+        PoolRef::new(&self.registry)
     }
 
     /// Runs a job on the pool, for a caller that is no worker; it blocks until the job has run, and answers the job's
@@ -117,17 +116,28 @@ impl<J: JobKind> ThreadPool<J> {
         self.join(rt, alloc, a, b)
     }
 
-    /// Ends the pool: gives up the unit of the terminate count that the pool's value holds. Calls through a `PoolRef` are
-    /// still answered while other calls hold the pool; once none does, each further call is refused `Ended`, and the
-    /// worker's thread leaves and is joined. So this waits for the waiting calls that other threads have made.
+    /// Ends the pool: gives up the unit of the terminate count that the pool's value holds. Calls through a `PoolRef`
+    /// are still answered while other calls hold the pool; once none does, each further call is refused `Ended`, and
+    /// the workers' threads leave and are joined. So this waits for the waiting calls that other threads have made.
     pub fn end<R: Threads + Wait>(self, rt: &R) {
         let ThreadPool {
             registry,
             hold,
-            num_threads: _,
-            worker,
+            workers,
         } = self;
-        registry.decrement_terminate_count(rt, hold);
+        end_workers(rt, &registry, hold, workers);
+    }
+}
+
+// Gives up the unit of the terminate count that stands for the pool's value, and joins these workers.
+pub(crate) fn end_workers<J: JobKind, R: Threads + Wait>(
+    rt: &R,
+    registry: &Registry<J>,
+    hold: PoolHold,
+    workers: Vec<JoinHandle<()>>,
+) {
+    registry.end(rt, hold);
+    for worker in workers {
         worker.join(rt);
     }
 }

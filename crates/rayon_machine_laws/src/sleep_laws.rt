@@ -6,11 +6,11 @@ ghost use Rattle.rayon_machine_laws.specs.Turn.{TurnLaw};
 
 /// No worker sleeps beside work that nobody attends to, in any world of any run. Where a pool's injector is filled and
 /// a worker of the pool is about to block itself or is blocked, another worker of it looks for work, or some party has
-/// pushed a job and not yet told of it, or still owes a wake to a worker that it has not passed. A blocked
-/// worker waits on a latch, and where that latch is set, the party that has set it has not yet woken the worker. Where a
-/// worker that is about to block itself or is blocked has a filled broadcast list, some party has put tasks there and
-/// has not passed the worker. A blocked worker's own deque is empty.
-/// Between a worker's last Announce and its Block its last looks are a whole search of its own that found nothing.
+/// pushed a job and not yet told of it, or still owes a wake to a worker that it has not passed. A blocked worker waits
+/// on a latch, and where that latch is set, the party that has set it has not yet woken the worker. Where a worker that
+/// is about to block itself or is blocked has a filled broadcast list, some party has put tasks there and has not
+/// passed the worker. A blocked worker's own deque is empty. Between a worker's last Announce and its Block its last
+/// looks are a whole search of its own that found nothing.
 pub fn law_attended()
     ensures injector { Always IsInjectorAttended }
     ensures latch { Always IsLatchAttended }

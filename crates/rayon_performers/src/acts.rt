@@ -289,8 +289,9 @@ impl<J: JobKind> Bench<J> {
         }
     }
 
-    // Takes a unit of the terminate count for a call of this worker. The outermost call's stands in the pool's own count;
-    // those of the calls nested in it are counted by the worker alone, since under the outermost one the pool cannot end.
+    // Takes a unit of the terminate count for a call of this worker. The outermost call's stands in the pool's own
+    // count; those of the calls nested in it are counted by the worker alone, since under the outermost one the pool
+    // cannot end.
     #[inline(always)]
     pub(crate) fn raise<R: Wait>(&mut self, rt: &R, job: u64) -> Result<(), Refusal>
         ensures does { MatchResult result (λ _. Does (acts.Raise 0 job) saw.Done self.old self.new) (λ _. Does (acts.Raise 0 job) saw.Refused self.old self.new) }

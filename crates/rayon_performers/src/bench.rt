@@ -22,7 +22,7 @@ use std::sync::Arc;
 /// has. Each act of it adds one entry to its trace, and nothing else does.
 #[derive(Drop)]
 pub struct Bench<J: JobKind> {
-    pub(crate) registry: Arc<Registry<J>, Global>,
+    pub(crate) registry: Arc<Registry<Task<J>>, Global>,
     pub(crate) shape: PoolShape,
     pub(crate) index: usize,
     pub(crate) random: XorShift64Star,
@@ -71,10 +71,10 @@ impl<J: JobKind> Model for Bench<J> {
 }
 
 impl<J: JobKind> Bench<J> {
-    /// What the worker of this index begins with: nothing at hand, and nothing done. It is made where the worker's thread
-    /// runs, of a share of what the threads have in common.
+    /// What the worker of this index begins with: nothing at hand, and nothing done. It is made where the worker's
+    /// thread runs, of a share of what the threads have in common.
     pub fn new(
-        registry: Arc<Registry<J>, Global>,
+        registry: Arc<Registry<Task<J>>, Global>,
         index: usize,
         own: WorkerDeque<Task<J>>,
     ) -> Bench<J>

@@ -5,12 +5,11 @@ ghost use Rattle.rayon_queues.specs.Deques.{IsNew};
 
 use crate::terminate::{PoolHold, TerminateCount};
 use crossbeam_utils::CachePadded;
-use rayon_jobs::JobKind;
 use rayon_machine_places::shape::{Order, PoolShape};
 use rayon_queues::{Injector, Stealers, WorkerDeque};
 use rayon_sleep::latch::Owner;
 use rayon_sleep::sleep::Sleep;
-use rayon_tasks::{Names, Task};
+use rayon_tasks::Names;
 use rayon_words::Refusal;
 use rayon_words::latch::{CoreLatch, LatchRef};
 use std::alloc::{AllocError, Global};
@@ -20,22 +19,22 @@ use std::sync::{Arc, Mutex, Wait};
 // How many searches of an idle worker fail before it announces itself, less one.
 const ROUNDS_UNTIL_SLEEPY: u64 = 32;
 
-/// What the threads of a pool share. Contracts see how many workers it has, the levels of a worker value that no run was
-/// lent yet, and which deques and which injector are its own.
+/// What the threads of a pool share, where its queues hold `T`: tasks. Contracts see how many workers it has, the levels of a worker value that no run
+/// was lent yet, and which deques and which injector are its own.
 #[derive(Drop)]
-pub struct Registry<J: JobKind> {
+pub struct Registry<T> {
     depth_limit: usize,
     num_threads: usize,
     steal_seed: u64,
     sleep: Arc<Sleep, Global>,
-    injector: Injector<Task<J>>,
-    stealers: Stealers<Task<J>>,
+    injector: Injector<T>,
+    stealers: Stealers<T>,
     terminate_count: CachePadded<Mutex<TerminateCount>>,
     terminate: Vec<CachePadded<CoreLatch>>,
     caller_names: Mutex<Names>,
 }
 
-impl<J: JobKind> Model for Registry<J> {
+impl<T> Model for Registry<T> {
     ghost use Rattle.rayon_performers.specs.Pools.{Shared};
     ghost use Rattle.std.specs.Prelude.{◌≡◌, ◌<◌, length};
 
@@ -46,18 +45,19 @@ impl<J: JobKind> Model for Registry<J> {
     ghost invariant = { λ r. (length r.stealers ≡ r.num_threads) × (0 < r.num_threads) × (r.num_threads < 65536) };
 }
 
-impl<J: JobKind> Registry<J> {
-    /// The shared part of a pool of so many workers, the workers' own deques by index, and the unit of the terminate count
-    /// that the pool's value holds. A `depth_limit` of 0 counts as 1. Refused `NoRoom`.
+impl<T: Drop> Registry<T> {
+    /// The shared part of a pool of so many workers, the workers' own deques by index, and the unit of the terminate
+    /// count that the pool's value holds. A `depth_limit` of 0 counts as 1. Refused `NoRoom`.
     pub fn new(
         alloc: Global,
         num_threads: usize,
         depth_limit: usize,
         steal_seed: u64,
-    ) -> Result<(Registry<J>, Vec<WorkerDeque<Task<J>>>, PoolHold), Refusal>
+    ) -> Result<(Registry<T>, Vec<WorkerDeque<T>>, PoolHold), Refusal>
         requires { (0 < num_threads) × (num_threads < 65536) }
         ensures workers { IfOk result (λ r. r.0.workers ≡ num_threads) }
         ensures depth { IfOk result (λ r. r.0.depth_limit ≡ max 1 depth_limit) }
+        ensures length { IfOk result (λ r. length r.1.items ≡ num_threads) }
         ensures deques { IfOk result (λ r. map (λ d. d.id) r.1.items ≡ r.0.deques) }
         ensures empty { IfOk result (λ r. All (IsNew false 32) r.1.items) }
         ensures refused { IfErr result (λ r. r ≡ Refusal.NoRoom) }
@@ -144,14 +144,14 @@ impl<J: JobKind> Registry<J> {
     }
 
     /// The injector.
-    pub(crate) fn injector(&self) -> &Injector<Task<J>>
+    pub(crate) fn injector(&self) -> &Injector<T>
         ensures { result.now ≡ self.now.injector }
     {
         &self.injector
     }
 
     /// The stealers of the workers' deques.
-    pub(crate) fn stealers(&self) -> &Stealers<Task<J>>
+    pub(crate) fn stealers(&self) -> &Stealers<T>
         ensures same { result.now ≡ self.now.deques }
         ensures length { length result.now ≡ self.now.workers }
     {

@@ -1,4 +1,5 @@
-//! Programs of the table, as far as the next run: by a drive, and the hot ones as straight stretches of a worker's own acts.
+//! Programs of the table, as far as the next run: by a drive, and the hot ones as straight stretches of a worker's own
+//! acts.
 ghost use Rattle.std.specs.Prelude.{◌≡◌, ◌⊎◌, ◌↔◌, ◌+◌, ◌-◌, ◌++◌, [], ◌∷◌, None, Some, IsTrue, IfErr, IfOk, MatchResult, false};
 ghost use Rattle.rayon_drive.specs.Paths.{Driven, goes};
 ghost use Rattle.rayon_machine_places.specs.Places.{finish, fresh, next_of};
@@ -44,8 +45,8 @@ impl<J: JobKind> Bench<J> {
         drive(rt, shape, party, place, self)
     }
 
-    /// Waits for this, and works meanwhile: as far as a task that it has found, or to the end of the wait. Then the latch that
-    /// it waits on was seen set.
+    /// Waits for this, and works meanwhile: as far as a task that it has found, or to the end of the wait. Then the
+    /// latch that it waits on was seen set.
     pub fn wait<R: Wait>(&mut self, rt: &R, target: Target) -> Move
         requires { HasTicket self.old.call (call_to target) }
         ensures path { Driven (λ s a x t. Does a x s t) (λ s. s.trace) self.old.shape (Worker 0 self.old.index) (Stay (at.ProbeWorking (fresh target))) self.old self.new result }
@@ -99,8 +100,8 @@ impl<J: JobKind> Bench<J> {
         self.go_on_from(rt, shape, index, place, seen);
     }
 
-    /// Gives a unit of the terminate count back, and where it was the last sets the workers' terminate latches, before this
-    /// follows.
+    /// Gives a unit of the terminate count back, and where it was the last sets the workers' terminate latches, before
+    /// this follows.
     #[inline(always)]
     pub fn lower_then<R: Wait>(&mut self, rt: &R, job: u64, then: Then)
         requires { IsLast then }
@@ -120,9 +121,9 @@ impl<J: JobKind> Bench<J> {
         }
     }
 
-    /// A join offers its second side, a job that has this name: Raise, Grow, LookOwn, PushOwn, News and its wakes, as far as
-    /// the run of its first side. Answers the join's ticket. Refused `Ended`, `Full`, `NoRoom`, with the job back, nothing
-    /// pushed, and the unit of the terminate count given back.
+    /// A join offers its second side, a job that has this name: Raise, Grow, LookOwn, PushOwn, News and its wakes, as
+    /// far as the run of its first side. Answers the join's ticket. Refused `Ended`, `Full`, `NoRoom`, with the job
+    /// back, nothing pushed, and the unit of the terminate count given back.
     #[inline(always)]
     pub fn offer<R: Wait>(
         &mut self,
@@ -191,8 +192,8 @@ impl<J: JobKind> Bench<J> {
         }
     }
 
-    /// An install by a worker of the pool takes its unit of the terminate count, as far as the beginning of its job's run.
-    /// Refused `Ended`, `Full`.
+    /// An install by a worker of the pool takes its unit of the terminate count, as far as the beginning of its job's
+    /// run. Refused `Ended`, `Full`.
     #[inline(always)]
     pub fn open_install<R: Wait>(&mut self, rt: &R, name: u64) -> Result<(), Refusal>
         ensures path { MatchResult result
@@ -222,8 +223,8 @@ impl<J: JobKind> Bench<J> {
         self.begin(name);
     }
 
-    /// The end of the run of a task that was taken: the result at hand goes where its call looks for it, the call's latch is
-    /// set, and its owner is woken where it slept.
+    /// The end of the run of a task that was taken: the result at hand goes where its call looks for it, the call's
+    /// latch is set, and its owner is woken where it slept.
     pub fn tell<R: Wait>(&mut self, rt: &R, call: u64, owner: Party, ending: Ending)
         requires reply { HasTicket self.old.reply (Some call) }
         requires done { HasResult self.old.done (Some ending) }
@@ -241,8 +242,8 @@ impl<J: JobKind> Bench<J> {
         self.finish_from(rt, shape, index, place, Seen::Done, Then::Resume);
     }
 
-    /// A join whose first side has ended without a fault looks at its latch, and takes its own second side back where that
-    /// is the newest task of the own deque. Else it answers how far the program has gone from there.
+    /// A join whose first side has ended without a fault looks at its latch, and takes its own second side back where
+    /// that is the newest task of the own deque. Else it answers how far the program has gone from there.
     #[inline(always)]
     pub fn reclaim<R: Wait>(&mut self, rt: &R, call: OpenCall) -> Result<(), Move>
         requires { HasTicket self.old.call (Some call.number) }

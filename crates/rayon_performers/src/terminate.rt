@@ -4,8 +4,8 @@ ghost use Rattle.std.specs.Prelude.{◌≡◌, ◌⊎◌, ◌↔◌, ℕ, ◌+�
 use rayon_words::Refusal;
 use std::marker::Model;
 
-/// How many hold a pool: the pool value itself, and each outermost waiting call. Contracts see the number. At 0 the pool
-/// has ended, for good.
+/// How many hold a pool: the pool value itself, and each outermost waiting call. Contracts see the number. At 0 the
+/// pool has ended, for good.
 #[derive(Drop)]
 pub struct TerminateCount {
     holders: u64,

@@ -86,8 +86,8 @@ impl<'a, 'l, J: JobKind> Waiter<'a, 'l, J> {
 }
 
 impl<J: JobKind> Bench<J> {
-    /// Waits until this latch is set, which is no call's, and works meanwhile: as far as a task that it has found, or to the
-    /// end of the wait. Then the latch was seen set. Whoever sets it wakes this worker, as `SpinLatch` does.
+    /// Waits until this latch is set, which is no call's, and works meanwhile: as far as a task that it has found, or
+    /// to the end of the wait. Then the latch was seen set. Whoever sets it wakes this worker, as `SpinLatch` does.
     ///
     /// The table has one latch of a worker's that is no call's. So in the trace this latch stands under the name of the
     /// terminate latch, and the end of the wait is the place `Stopped`; the worker goes on after it.

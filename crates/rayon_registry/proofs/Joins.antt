@@ -3,20 +3,22 @@ use Rattle.rayon_words.specs.declared.refusal.CallError.{CallError}
 use Rattle.rayon_registry.specs.Answers.{JoinAnswers}
 use Rattle.std.specs.Prelude.{IfOk}
 
--- a join of a closure and a job answers what it may, by a run of the closure and by what a job's run may answer
-pub closure_join_answers : {X Y F B W C : Type 0} (post : W → C → Result X F → W → C → Type 0) (second : Result Y F → Type 0) (sides : B)
+-- a join of a closure and a job answers what it may, by a run of the closure, by what that was told, and by
+-- what a job's run may answer
+pub closure_join_answers : {X Y F B W C : Type 0} (post : W → C → Result X F → W → C → Type 0) (told : C → Type 0) (second : Result Y F → Type 0) (sides : B)
     (w v : W) (c k : C) (ended : Result X F) (r : Result (X × Y) (CallError F B))
     → post w c ended v k
+    → told c
     → IfOk r (λ x. (ended ≡ Ok x.0) × second (Ok x.1))
     → ((f : F) → r ≡ Err (CallError.Fault f) → (ended ≡ Err f) ⊎ (((x : X) × (ended ≡ Ok x)) × second (Err f)))
     → ((e : _) (back : B) → r ≡ Err (CallError.Refused e back) → back ≡ sides)
-    → JoinAnswers (λ a. (w : W) × (c : C) × (v : W) × (k : C) × post w c a v k) second sides r
-closure_join_answers post second sides w v c k ended (Ok x) h ok fault back = ((w, c, v, k, rw ok.0 at h), ok.1)
-closure_join_answers post second sides w v c k ended (Err (CallError.Fault f)) h ok fault back =
+    → JoinAnswers (λ a. (w : W) × (c : C) × (v : W) × (k : C) × post w c a v k × told c) second sides r
+closure_join_answers post told second sides w v c k ended (Ok x) h t ok fault back = ((w, c, v, k, rw ok.0 at h, t), ok.1)
+closure_join_answers post told second sides w v c k ended (Err (CallError.Fault f)) h t ok fault back =
     elim (fault f refl) [
-      | inl p ↦ inl (w, c, v, k, rw p at h)
-      | inr q ↦ inr ((q.0.0, (w, c, v, k, rw q.0.1 at h)), q.1)
+      | inl p ↦ inl (w, c, v, k, rw p at h, t)
+      | inr q ↦ inr ((q.0.0, (w, c, v, k, rw q.0.1 at h, t)), q.1)
     ]
-closure_join_answers post second sides w v c k ended (Err (CallError.Refused e b)) h ok fault back = back e b refl
-closure_join_answers post second sides w v c k ended (Err CallError.Foreign) h ok fault back = tt
-closure_join_answers post second sides w v c k ended (Err CallError.Missing) h ok fault back = tt
+closure_join_answers post told second sides w v c k ended (Err (CallError.Refused e b)) h t ok fault back = back e b refl
+closure_join_answers post told second sides w v c k ended (Err CallError.Foreign) h t ok fault back = tt
+closure_join_answers post told second sides w v c k ended (Err CallError.Missing) h t ok fault back = tt

@@ -1,6 +1,6 @@
 //! Jobs, and the handle by which they wait and run further jobs.
 ghost use Rattle.rayon_registry.specs.Worker.{SameWorker};
-ghost use Rattle.std.specs.Prelude.{◌≡◌, ℕ, ◌<◌, ◌≤◌, ◌-◌, Result};
+ghost use Rattle.std.specs.Prelude.{◌≡◌, ℕ, ◌<◌, ◌≤◌, ◌-◌, Result, true};
 
 use crate::context::{BroadcastContext, FnContext};
 use crate::join::PairRun;
@@ -26,7 +26,7 @@ pub trait Waits<J: JobKind>: Wait {
         requires some { 0 < w.old.levels }
         requires levels { w.old.levels ≤ levels self.now }
         ensures answer { J.answers (J.tag_of job) result }
-        ensures lent { J.answers_at job (w.old.levels - 1) result }
+        ensures lent { J.answers_at job (w.old.levels - 1) ctx.old.migrated result }
         ensures same { SameWorker w.old w.new };
 
     /// Joins two sides that an outside caller sent, as one run: it is lent the worker value with one level fewer, and
@@ -35,7 +35,7 @@ pub trait Waits<J: JobKind>: Wait {
     fn run_pair(&self, alloc: Global, w: &mut WorkerThread<J>, first: J, second: J) -> PairRun<J>
         requires some { 1 < w.old.levels }
         requires levels { w.old.levels ≤ levels self.now }
-        ensures first { (result.first.tag ≡ J.tag_of first) × J.answers_at first (w.old.levels - 2) result.first.answer }
+        ensures first { (result.first.tag ≡ J.tag_of first) × J.answers_at first (w.old.levels - 2) true result.first.answer }
         ensures same { SameWorker w.old w.new };
 }
 
@@ -52,7 +52,7 @@ pub trait Job: JobKind {
     ) -> Result<Self::Output, Self::Fault>
         requires levels { w.old.levels ≤ R.levels rt.now }
         ensures answer { Self.answers (Self.tag_of self) result }
-        ensures lent { Self.answers_at self w.old.levels result }
+        ensures lent { Self.answers_at self w.old.levels ctx.old.migrated result }
         ensures same { SameWorker w.old w.new };
 
     /// Runs the worker's piece of a broadcast of the job.

@@ -1,15 +1,16 @@
 //! Two sides on one worker value.
 ghost use Rattle.rayon_registry.specs.Answers.{joined, JoinAnswers};
 ghost use Rattle.rayon_registry.specs.Worker.{SameWorker};
-ghost use Rattle.rayon_jobs.specs.Claims.{claim};
-ghost use Rattle.std.specs.Prelude.{◌≡◌, ◌⊎◌, ℕ, ◌≤◌, ◌<◌, [], ◌∷◌, ◌++◌, ◌-◌, Bool, Result, Ok, Err, IfOk, IfErr, suc};
+ghost use Rattle.rayon_tasks.specs.Tasks.{OneJob};
+ghost use Rattle.std.specs.Prelude.{◌≡◌, ◌⊎◌, ℕ, ◌≤◌, ◌<◌, [], ◌∷◌, ◌++◌, ◌-◌, Bool, Result, Ok, Err, IfOk, IfErr, suc, true, false};
 
 use crate::answers::join_answer;
 use crate::context::{Context, FnContext, Scope};
 use crate::job::Waits;
-use crate::terminate::TerminateHold;
 use crate::worker_thread::WorkerThread;
-use rayon_jobs::{Done, JobKind, Lost, SecondSide, Task, Ticket, claimed};
+use rayon_jobs::{Done, JobKind, Lost, claimed};
+use rayon_machine_places::place::{Ending, Move, OpenCall, Place, Target, Then};
+use rayon_tasks::{Ticket, task_parts};
 use rayon_words::{CallError, Refusal};
 use std::alloc::Global;
 use std::marker::Model;
@@ -32,7 +33,6 @@ impl<J: JobKind> Model for PairRun<J> {
 
 /// A second side that was pushed. It has no `Drop`: the join has to be finished.
 pub struct Fork<J: JobKind> {
-    hold: TerminateHold,
     ticket: Ticket<J>,
     tag: J::Tag,
     levels: usize,
@@ -50,7 +50,7 @@ impl<J: JobKind> WorkerThread<J> {
         b: J,
     ) -> Result<(J::Output, J::Output), CallError<J::Fault, (J, J)>>
         requires levels { self.old.levels ≤ R.levels rt.now }
-        ensures answers { JoinAnswers (λ r. J.answers (J.tag_of a) r × J.answers_at a (self.old.levels - 1) r) (λ r. J.answers (J.tag_of b) r) (a, b) result }
+        ensures answers { JoinAnswers (λ r. J.answers (J.tag_of a) r × J.answers_at a (self.old.levels - 1) false r) (λ r. J.answers (J.tag_of b) r) (a, b) result }
         ensures lost { (result ≡ Err CallError.Missing) ⊎ (result ≡ Err CallError.Foreign) → (x : _) × J.answers (J.tag_of a) (Ok x) }
         ensures kept { (r : _) (sides : _) → result ≡ Err (CallError.Refused r sides) → self.new ≡ self.old }
         ensures deep { self.old.levels ≡ 0 → result ≡ Err (CallError.Refused Refusal.TooDeep (a, b)) }
@@ -68,8 +68,10 @@ impl<J: JobKind> WorkerThread<J> {
 }
 
 impl<J: JobKind> WorkerThread<J> {
-    // Takes the terminate count, makes the ticket, and pushes the second side. Refused as a join is.
+    // Takes a unit of the terminate count, makes the ticket, pushes the second side, and tells the others of it.
+    // Refused as a join is.
     #[inline(always)]
+    #[tactic(auto, unfolding(crate::specs::Pushes::pushed_by, crate::specs::Pushes::left_to, crate::specs::Pushes::takes_oldest))]
     fn fork<R: Wait>(
         &mut self,
         rt: &R,
@@ -78,7 +80,7 @@ impl<J: JobKind> WorkerThread<J> {
         injected: bool,
     ) -> Result<Fork<J>, (Refusal, J)>
         ensures forked { IfOk result (λ f. (f.tag ≡ J.tag_of b) × (f.levels ≡ self.old.levels) × (0 < self.old.levels)) }
-        ensures pushed { IfOk result (λ f. (s : _) × (self.new ≡ record self.old { pushed = self.old.pushed ++ Task.Second s ∷ [] }) × (s.job ≡ b) × (s.ticket ≡ f.ticket)) }
+        ensures pushed { IfOk result (λ f. self.new ≡ record self.old { pushed = self.old.pushed ++ record { work = OneJob b; injected = injected; ticket = f.ticket } ∷ []; left = self.old.left ++ record { work = OneJob b; injected = injected; ticket = f.ticket } ∷ [] }) }
         ensures back { IfErr result (λ e. (e.1 ≡ b) × (self.new ≡ self.old)) }
         ensures deep { self.old.levels ≡ 0 → result ≡ Err (Refusal.TooDeep, b) }
         ensures shallow { IfErr result (λ e. e.0 ≡ Refusal.TooDeep → self.old.levels ≡ 0) }
@@ -86,59 +88,17 @@ impl<J: JobKind> WorkerThread<J> {
         if self.levels == 0 {
             return Err((Refusal::TooDeep, b));
         }
-        let hold = match self.increment_terminate_count(rt) {
-            Ok(hold) => hold,
-            Err(refusal) => return Err((refusal, b)),
+        let Some(name) = self.names.draw() else {
+            return Err((Refusal::Full, b));
         };
         let tag = b.tag();
         let levels = self.levels;
-        match self.push_second(alloc, &hold, b, injected) {
-            Ok(ticket) => Ok(Fork {
-                hold,
-                ticket,
-                tag,
-                levels,
-            }),
-            Err((refusal, b)) => {
-                self.decrement_terminate_count(rt, hold);
-                Err((refusal, b))
-            }
-        }
-    }
-
-    // Makes the ticket, and pushes the second side with a share of it, while the join holds a unit of the terminate
-    // count. Refused `Full`, `NoRoom`.
-    #[inline(always)]
-    fn push_second(
-        &mut self,
-        alloc: Global,
-        _hold: &TerminateHold,
-        b: J,
-        injected: bool,
-    ) -> Result<Ticket<J>, (Refusal, J)>
-        ensures pushed { IfOk result (λ t. (s : _) × (self.new ≡ record self.old { pushed = self.old.pushed ++ Task.Second s ∷ [] }) × (s.job ≡ b) × (s.ticket ≡ t)) }
-        ensures back { IfErr result (λ e. (e.1 ≡ b) × (self.new ≡ self.old)) }
-        ensures refused { IfErr result (λ e. (e.0 ≡ Refusal.Full) ⊎ (e.0 ≡ Refusal.NoRoom)) }
-    {
-        let Some(number) = self.tickets.draw() else {
-            return Err((Refusal::Full, b));
-        };
-        let Ok(ticket) = Ticket::new(alloc, self.id.index, number) else {
-            return Err((Refusal::NoRoom, b));
-        };
-        let Ok(share) = ticket.share() else {
-            return Err((Refusal::NoRoom, b));
-        };
-        let second = SecondSide {
-            job: b,
-            ticket: share,
-            injected,
-        };
-        match self.push(Task::Second(second)) {
-            Ok(()) => Ok(ticket),
-            Err((refusal, Task::Second(second))) => Err((refusal, second.job)),
-            Err(_) => unreachable!(),
-        }
+        let ticket = self.bench.offer(rt, alloc, name, b, injected)?;
+        Ok(Fork {
+            ticket,
+            tag,
+            levels,
+        })
     }
 
     // Waits for the second side, takes its result beside the tag that was handed in, and gives the count back.
@@ -156,53 +116,93 @@ impl<J: JobKind> WorkerThread<J> {
         ensures same { SameWorker self.old self.new }
     {
         let Fork {
-            hold,
             ticket,
             tag,
             levels: _,
         } = fork;
-        let found = if first_faulted {
-            self.wait_until_cold(rt, alloc, ticket.latch());
-            ticket.take(rt)
-        } else {
-            self.run_until_met(rt, alloc, &ticket)
+        let name = ticket.number();
+        let call = OpenCall {
+            number: name,
+            pool: 0,
+            job: name,
         };
-        self.decrement_terminate_count(rt, hold);
+        let found = if first_faulted {
+            let target = Target::Answer {
+                call,
+                first: Some(Ending::Fault),
+            };
+            self.wait_for(rt, alloc, target, Some(ticket))
+        } else {
+            self.second_side(rt, alloc, call, ticket)
+        };
         (found, tag)
     }
 
-    // Runs local tasks until the own second side is met, which is run at once, or until its result is there.
+    // Takes the own second side back and runs it, or runs what lies above it until it is met, or waits for the result
+    // of the worker that stole it.
     #[inline(always)]
-    fn run_until_met<R: Waits<J>>(
+    fn second_side<R: Waits<J>>(
         &mut self,
         rt: &R,
         alloc: Global,
-        ticket: &Ticket<J>,
+        call: OpenCall,
+        ticket: Ticket<J>,
     ) -> Option<Done<J>>
+        requires some { 0 < self.old.levels }
+        requires levels { self.old.levels ≤ R.levels rt.now }
+        requires ticket { ticket.number ≡ call.number }
+        ensures same { SameWorker self.old self.new }
+    {
+        let mut ticket = Some(ticket);
+        for _ in rt.forever() {
+            self.bench.set_call(ticket);
+            match self.bench.reclaim(rt, call) {
+                Ok(()) => return self.run_second(rt, alloc, call),
+                Err(
+                    Move::Enter {
+                        frame,
+                        place: Place::BeginTask(name),
+                    },
+                ) => {
+                    ticket = self.bench.take_call();
+                    self.bench.begin_task(name);
+                    let Some(task) = self.bench.take_task() else {
+                        unreachable!()
+                    };
+                    self.run_task(rt, alloc, task);
+                    if let Place::ProbeWorking(wait) = frame {
+                        return self.wait_for(rt, alloc, wait.target, ticket);
+                    }
+                }
+                Err(_) => return self.bench.take_done(),
+            }
+        }
+        unreachable!()
+    }
+
+    // Runs the own second side, which was taken back, and gives the unit of the terminate count back.
+    #[inline(always)]
+    fn run_second<R: Waits<J>>(&mut self, rt: &R, alloc: Global, call: OpenCall) -> Option<Done<J>>
         requires some { 0 < self.old.levels }
         requires levels { self.old.levels ≤ R.levels rt.now }
         ensures same { SameWorker self.old self.new }
     {
-        for _ in rt.forever() {
-            if ticket.probe(rt) {
-                break;
-            }
-            match self.take_local_job() {
-                Some(Task::Second(second)) => {
-                    let is_own = second.ticket.is_same(ticket);
-                    if is_own {
-                        return Some(self.run_to_done(rt, alloc, second.job, second.injected));
-                    }
-                    self.execute(rt, alloc, Task::Second(second));
-                }
-                Some(task) => self.execute(rt, alloc, task),
-                None => {
-                    self.wait_until_cold(rt, alloc, ticket.latch());
-                    break;
-                }
-            }
+        let Some(task) = self.bench.take_task() else {
+            return None;
+        };
+        let (work, injected, _ticket) = task_parts(task);
+        self.bench.begin_here(call.job);
+        let (done, first) = self.run_work(rt, alloc, work, injected);
+        if let Some((ticket, done)) = first {
+            ticket.store(rt, done);
         }
-        ticket.take(rt)
+        let then = Then::Answers {
+            call,
+            first: Some(Ending::Fine),
+            last: done.ending(),
+        };
+        self.bench.lower_then(rt, call.job, then);
+        Some(done)
     }
 
     // Joins two sides that were sent to the pool; where the join is refused, they run one after the other.
@@ -215,7 +215,7 @@ impl<J: JobKind> WorkerThread<J> {
     ) -> PairRun<J>
         requires some { 0 < self.old.levels }
         requires levels { self.old.levels ≤ R.levels rt.now }
-        ensures first { (result.first.tag ≡ J.tag_of first) × J.answers_at first (self.old.levels - 1) result.first.answer }
+        ensures first { (result.first.tag ≡ J.tag_of first) × J.answers_at first (self.old.levels - 1) true result.first.answer }
         ensures same { SameWorker self.old self.new }
     {
         match self.fork(rt, alloc, second, true) {
@@ -242,7 +242,7 @@ impl<J: JobKind> WorkerThread<J> {
     ) -> PairRun<J>
         requires some { 0 < self.old.levels }
         requires levels { self.old.levels ≤ R.levels rt.now }
-        ensures first { (result.first.tag ≡ J.tag_of first) × J.answers_at first (self.old.levels - 1) result.first.answer }
+        ensures first { (result.first.tag ≡ J.tag_of first) × J.answers_at first (self.old.levels - 1) true result.first.answer }
         ensures same { SameWorker self.old self.new }
     {
         let first = self.run_to_done(rt, alloc, first, true);
@@ -356,9 +356,9 @@ pub trait ForkJoin<J: JobKind>: Sides<J> {
         b: J,
     ) -> Result<(RA, J::Output), CallError<J::Fault, (A, J)>>
         requires levels { Self.height self.old ≤ R.levels rt.now }
-        requires callable { (w : _) (ctx : _) → suc (Self.height w.now) ≡ Self.height self.old → Self.id w.now ≡ Self.id self.old → A.pre a w ctx }
+        requires callable { (w : _) (ctx : _) → ctx.now.migrated ≡ false → suc (Self.height w.now) ≡ Self.height self.old → Self.id w.now ≡ Self.id self.old → A.pre a w ctx }
         requires keeps { (w : _) (ctx : _) (r : _) (v : _) (k : _) → A.post a w ctx r v k → (Self.height v.now ≡ Self.height w.now) × (Self.id v.now ≡ Self.id w.now) }
-        ensures answers { JoinAnswers (λ r. (w : _) × (ctx : _) × (v : _) × (k : _) × A.post a w ctx r v k) (λ r. J.answers (J.tag_of b) r) (a, b) result }
+        ensures answers { JoinAnswers (λ r. (w : _) × (ctx : _) × (v : _) × (k : _) × A.post a w ctx r v k × (ctx.now.migrated ≡ false)) (λ r. J.answers (J.tag_of b) r) (a, b) result }
         ensures lost { (result ≡ Err CallError.Missing) ⊎ (result ≡ Err CallError.Foreign) → (x : _) × (w : _) × (ctx : _) × (v : _) × (k : _) × A.post a w ctx (Ok x) v k }
         ensures kept { (r : _) (sides : _) → result ≡ Err (CallError.Refused r sides) → self.new ≡ self.old }
         ensures deep { Self.height self.old ≡ 0 → result ≡ Err (CallError.Refused Refusal.TooDeep (a, b)) }
@@ -388,9 +388,9 @@ pub trait ForkJoin<J: JobKind>: Sides<J> {
         b: J,
     ) -> Result<(RA, J::Output), CallError<J::Fault, (A, J)>>
         requires levels { Self.height self.old ≤ R.levels rt.now }
-        requires callable { (w : _) (ctx : _) → suc (Self.height w.now) ≡ Self.height self.old → Self.id w.now ≡ Self.id self.old → A.pre a w ctx }
+        requires callable { (w : _) (ctx : _) → ctx.now.migrated ≡ false → suc (Self.height w.now) ≡ Self.height self.old → Self.id w.now ≡ Self.id self.old → A.pre a w ctx }
         requires keeps { (w : _) (ctx : _) (r : _) (v : _) (k : _) → A.post a w ctx r v k → (Self.height v.now ≡ Self.height w.now) × (Self.id v.now ≡ Self.id w.now) }
-        ensures answers { JoinAnswers (λ r. (w : _) × (ctx : _) × (v : _) × (k : _) × A.post a w ctx r v k) (λ r. J.answers (J.tag_of b) r) (a, b) result }
+        ensures answers { JoinAnswers (λ r. (w : _) × (ctx : _) × (v : _) × (k : _) × A.post a w ctx r v k × (ctx.now.migrated ≡ false)) (λ r. J.answers (J.tag_of b) r) (a, b) result }
         ensures lost { (result ≡ Err CallError.Missing) ⊎ (result ≡ Err CallError.Foreign) → (x : _) × (w : _) × (ctx : _) × (v : _) × (k : _) × A.post a w ctx (Ok x) v k }
         ensures kept { (r : _) (sides : _) → result ≡ Err (CallError.Refused r sides) → self.new ≡ self.old }
         ensures deep { Self.height self.old ≡ 0 → result ≡ Err (CallError.Refused Refusal.TooDeep (a, b)) }

@@ -1,7 +1,7 @@
 //! The number of levels by which a run that calls further runs is shown to end. None of this is open to users: what
 //! they are lent is a handle that `Waits`, and each run that it makes lends the worker value with one level fewer.
 ghost use Rattle.rayon_registry.specs.Worker.{SameWorker};
-ghost use Rattle.std.specs.Prelude.{◌≡◌, ℕ, ◌<◌, ◌≤◌, ◌-◌, Result};
+ghost use Rattle.std.specs.Prelude.{◌≡◌, ℕ, ◌<◌, ◌≤◌, ◌-◌, Bool, Result, true};
 
 use crate::context::FnContext;
 use crate::job::{Job, Waits};
@@ -44,12 +44,13 @@ impl Level {
     }
 }
 
-/// What the runs of jobs may answer, over the types of their worker value `W`, of a job's answer `O` and of a pair's
-/// `P`. The relations are the bound's own to the functions below, so none of them can meet one but by a run that is
-/// lent as many levels as the relation says.
-pub trait Meaning<W, O, P> {
-    /// Whether the job may answer this where its worker value has so many levels.
-    ghost may: { Self → ℕ → O → Type 0 };
+/// What the runs of jobs may answer, over the types of their worker value `W`, of what a run is told of itself `C`, of
+/// a job's answer `O` and of a pair's `P`. The relations are the bound's own to the functions below, so none of them
+/// can meet one but by a run that is lent as many levels as the relation says.
+pub trait Meaning<W, C, O, P> {
+    /// Whether the job may answer this where its worker value has so many levels and it is told so of whether it
+    /// migrated.
+    ghost may: { Self → ℕ → Bool → O → Type 0 };
 
     /// Whether a pair of which this is the first side may give this where its worker value has so many levels.
     ghost may_pair: { Self → ℕ → P → Type 0 };
@@ -57,29 +58,35 @@ pub trait Meaning<W, O, P> {
     /// The levels of a worker value.
     ghost height: { W → ℕ };
 
+    /// Whether a run is told that it migrated.
+    ghost told: { C → Bool };
+
     /// Whether the second is a value of the same worker with as many levels.
     ghost same: { W → W → Type 0 };
 }
 
-impl<J: JobKind> Meaning<WorkerThread<J>, Result<J::Output, J::Fault>, PairRun<J>> for J {
-    ghost may = { λ j n r. J.answers (J.tag_of j) r × J.answers_at j n r };
+impl<J: JobKind> Meaning<WorkerThread<J>, FnContext<J>, Result<J::Output, J::Fault>, PairRun<J>>
+    for J {
+    ghost may = { λ j n m r. J.answers (J.tag_of j) r × J.answers_at j n m r };
 
-    ghost may_pair = { λ j n p. (p.first.tag ≡ J.tag_of j) × J.answers_at j (n - 1) p.first.answer };
+    ghost may_pair = { λ j n p. (p.first.tag ≡ J.tag_of j) × J.answers_at j (n - 1) true p.first.answer };
 
     ghost height = { λ w. w.levels };
+
+    ghost told = { λ c. c.migrated };
 
     ghost same = { λ v w. SameWorker v w };
 }
 
 /// What runs a job, or a pair of sides, that the worker value is lent to.
-pub trait Runs<J: Meaning<W, O, P>, W, C, O, P> {
+pub trait Runs<J: Meaning<W, C, O, P>, W, C, O, P> {
     /// The levels that are left.
     ghost left: { Self → ℕ };
 
     /// Runs a job.
     fn run_below<R: Wait>(&self, rt: &R, alloc: Global, w: &mut W, job: J, ctx: &mut C) -> O
         requires { J.height w.old < left self.now }
-        ensures may { J.may job (J.height w.old) result }
+        ensures may { J.may job (J.height w.old) (J.told ctx.old) result }
         ensures same { J.same w.old w.new };
 
     /// Joins a pair of sides.
@@ -91,7 +98,7 @@ pub trait Runs<J: Meaning<W, O, P>, W, C, O, P> {
 }
 
 /// What can be run at any level.
-pub trait Start<W, C, O, P>: Meaning<W, O, P> {
+pub trait Start<W, C, O, P>: Meaning<W, C, O, P> {
     /// Runs the job.
     fn start<R: Wait, L: Runs<Self, W, C, O, P>>(
         self,
@@ -102,7 +109,7 @@ pub trait Start<W, C, O, P>: Meaning<W, O, P> {
         ctx: &mut C,
     ) -> O
         requires { Self.height w.old ≤ L.left level.now }
-        ensures may { Self.may self (Self.height w.old) result }
+        ensures may { Self.may self (Self.height w.old) (Self.told ctx.old) result }
         ensures same { Self.same w.old w.new };
 
     /// Joins this first side and a second one.
@@ -130,7 +137,7 @@ fn start_at<J: Start<W, C, O, P>, W, C, O, P, R: Wait, L: Runs<J, W, C, O, P>>(
     ctx: &mut C,
 ) -> O
     requires { J.height w.old ≤ L.left level.now }
-    ensures may { J.may job (J.height w.old) result }
+    ensures may { J.may job (J.height w.old) (J.told ctx.old) result }
     ensures same { J.same w.old w.new }
 {
     job.start(rt, level, alloc, w, ctx)
@@ -246,4 +253,15 @@ impl<J: Job> Start<WorkerThread<J>, FnContext<J>, Result<J::Output, J::Fault>, P
         let rt = Leveled::new(rt, level);
         w.join_pair(&rt, alloc, self, second)
     }
+}
+
+/// The loop of a worker whose runs are at this level.
+pub fn work_at<
+    J: JobKind,
+    R: Wait,
+    L: Runs<J, WorkerThread<J>, FnContext<J>, Result<J::Output, J::Fault>, PairRun<J>>,
+>(rt: &R, level: &L, alloc: Global, worker: &mut WorkerThread<J>)
+    requires { worker.old.levels ≤ L.left level.now }
+{
+    worker.main_loop(&Leveled::new(rt, level), alloc);
 }

@@ -8,7 +8,6 @@ mod job;
 mod join;
 mod level;
 mod registry;
-mod terminate;
 mod worker_thread;
 
 pub use context::{BroadcastContext, Context, FnContext, PieceContext, Scope};
@@ -16,5 +15,4 @@ pub use ids::{IdSource, Ids, PoolId, WorkerId};
 pub use job::{Job, Waits};
 pub use join::{ForkJoin, PairRun};
 pub use registry::{Registry, ThreadBuilder};
-pub use terminate::{TerminateCount, TerminateHold, WorkerHolds};
 pub use worker_thread::WorkerThread;

@@ -1,120 +1,131 @@
-//! What the threads of a pool share, and the calls that are made on a pool from outside.
+//! What stands for a pool, and the calls that are made on it from outside.
 ghost use Rattle.rayon_registry.specs.Answers.{joined_pair, InstallAnswers, JoinAnswers};
 ghost use Rattle.std.specs.Arc.{arc_value};
-ghost use Rattle.std.specs.Prelude.{◌≡◌, ◌⊎◌, ◌<◌, ℕ, [], max, Result, Ok, Err, IfOk, IfErr};
+ghost use Rattle.std.specs.Prelude.{◌≡◌, ◌⊎◌, ◌<◌, ◌≤◌, ℕ, max, length, Result, Ok, Err, IfOk, IfErr, IfSome, IfNone};
 
 use crate::answers::{install_answer, join_answer};
 use crate::ids::PoolId;
 use crate::job::Job;
-use crate::level::{Level, Leveled};
-use crate::terminate::{TerminateCount, TerminateHold};
+use crate::level::{Level, work_at};
 use crate::worker_thread::WorkerThread;
-use rayon_jobs::{Installed, JobKind, Lost, Pair, PairReply, Reply, Task, claimed};
-use rayon_words::latch::{CoreLatch, LatchRef, SpinLatch};
-use rayon_words::sleep::Sleep;
+use rayon_jobs::{JobKind, Lost, claimed};
+use rayon_performers::{Guest, PoolHold};
+use rayon_queues::WorkerDeque;
+use rayon_tasks::Task;
 use rayon_words::{CallError, Refusal};
 use std::alloc::{AllocFailed, Global};
-use std::collections::VecDeque;
 use std::marker::Model;
-use std::sync::{Arc, Mutex, Wait};
+use std::sync::{Arc, Wait};
 
-/// What the threads of a pool share. Contracts see the pool's number, and the levels of its worker's own value.
+// A pool's number, and a share of what its threads have in common, where its queues hold such tasks. It stands apart from
+// the job type, so that the checker finds once that it may be sent where its tasks may be.
+#[derive(Drop)]
+pub(crate) struct PoolShare<T> {
+    pub(crate) id: PoolId,
+    pub(crate) shared: Arc<rayon_performers::Registry<T>, Global>,
+}
+
+/// What stands for a pool: its number, and a share of what its threads have in common. Contracts see the pool's number,
+/// how many workers it has, and the levels of a worker value that no run was lent yet.
 #[derive(Drop)]
 pub struct Registry<J: JobKind> {
-    id: PoolId,
-    depth_limit: usize,
-    sleep: Sleep,
-    injector: Mutex<VecDeque<Task<J>>>,
-    terminate_count: Mutex<TerminateCount>,
-    terminate: SpinLatch,
+    pub(crate) pool: PoolShare<Task<J>>,
 }
 
 impl<J: JobKind> Model for Registry<J> {
     ghost use Rattle.rayon_registry.specs.Worker.{Shared};
+    ghost use Rattle.std.specs.Arc.{arc_value};
 
     ghost Value = { Shared };
 
-    ghost view = { λ r. record { id = r.id; depth_limit = r.depth_limit } };
+    ghost view = { λ r. record { id = r.pool.id; workers = (arc_value r.pool.shared).workers; depth_limit = (arc_value r.pool.shared).depth_limit } };
 }
 
 impl<J: JobKind> Registry<J> {
-    /// The shared part of a pool of one worker, and the unit of the terminate count that the pool value holds. A
-    /// `depth_limit` of 0 counts as 1.
-    pub fn new(alloc: Global, id: PoolId, depth_limit: usize) -> (Registry<J>, TerminateHold)
-        ensures id { result.0.id ≡ id }
-        ensures depth { result.0.depth_limit ≡ max 1 depth_limit }
+    /// A pool of so many workers, none of which runs yet; the workers' own deques by index; and the unit of the
+    /// terminate count that the pool's value holds. A `depth_limit` of 0 counts as 1; `steal_seed` is added to each
+    /// worker's index for the seed of its choice of victims. Refused `NoRoom`.
+    pub fn new<R: Wait>(
+        rt: &R,
+        alloc: Global,
+        id: PoolId,
+        num_threads: usize,
+        depth_limit: usize,
+        steal_seed: u64,
+    ) -> Result<(Registry<J>, Vec<WorkerDeque<Task<J>>>, PoolHold), Refusal>
+        requires { (0 < num_threads) × (num_threads < 65536) }
+        ensures made { IfOk result (λ r. r.0 ≡ record { id = id; workers = num_threads; depth_limit = max 1 depth_limit }) }
+        ensures deques { IfOk result (λ r. length r.1.items ≡ num_threads) }
+        ensures refused { IfErr result (λ r. r ≡ Refusal.NoRoom) }
     {
-        let (terminate_count, hold) = TerminateCount::new();
-        let registry = Registry {
-            id,
-            depth_limit: depth_limit.max(1),
-            sleep: Sleep::new(),
-            injector: Mutex::new(VecDeque::new(alloc)),
-            terminate_count: Mutex::new(terminate_count),
-            terminate: SpinLatch::new(0),
-        };
-        (registry, hold)
+        let (shared, deques, hold) = rayon_performers::Registry::new(
+            alloc,
+            num_threads,
+            depth_limit,
+            steal_seed,
+        )?;
+        match Arc::new(alloc, shared) {
+            Ok(shared) => Ok((Registry::of(id, shared), deques, hold)),
+            Err(AllocFailed { value: shared }) => {
+                Guest::new(&shared).end(rt, hold);
+                Err(Refusal::NoRoom)
+            }
+        }
+    }
+
+    // The pool with this number, whose threads share this.
+    fn of(id: PoolId, shared: Arc<rayon_performers::Registry<Task<J>>, Global>) -> Registry<J>
+        ensures { result ≡ record { id = id; workers = (arc_value shared).workers; depth_limit = (arc_value shared).depth_limit } }
+    {
+        Registry {
+            pool: PoolShare { id, shared },
+        }
+    }
+
+    /// One more share. Refused `NoRoom`.
+    pub fn share(&self) -> Result<Registry<J>, Refusal>
+        ensures same { IfOk result (λ r. r ≡ self.now) }
+        ensures refused { IfErr result (λ r. r ≡ Refusal.NoRoom) }
+    {
+        let shared = self.shared()?;
+        Ok(Registry::of(self.id(), shared))
+    }
+
+    /// What the pool's threads share, for one thread more. Refused `NoRoom`.
+    pub fn shared(&self) -> Result<Arc<rayon_performers::Registry<Task<J>>, Global>, Refusal>
+        ensures workers { IfOk result (λ s. (arc_value s).workers ≡ self.now.workers) }
+        ensures depth { IfOk result (λ s. (arc_value s).depth_limit ≡ self.now.depth_limit) }
+        ensures refused { IfErr result (λ r. r ≡ Refusal.NoRoom) }
+    {
+        Arc::try_clone(&self.pool.shared).map_err(|_| Refusal::NoRoom)
     }
 
     /// The pool's number.
     pub fn id(&self) -> PoolId
         ensures { result ≡ self.now.id }
     {
-        self.id
+        self.pool.id
     }
 
-    /// Where the pool's worker sleeps.
-    pub(crate) fn sleep(&self) -> &Sleep {
-        &self.sleep
-    }
-
-    /// The latch that is set when the terminate count has become 0.
-    pub(crate) fn terminate(&self) -> LatchRef<'_, CoreLatch> {
-        self.terminate.core_latch()
-    }
-
-    /// Takes one unit of the terminate count. Refused `Ended`, `Full`.
-    #[inline(always)]
-    pub(crate) fn increment_terminate_count<R: Wait>(
-        &self,
-        rt: &R,
-    ) -> Result<TerminateHold, Refusal>
-        ensures { IfErr result (λ r. (r ≡ Refusal.Ended) ⊎ (r ≡ Refusal.Full)) }
+    /// How many workers the pool has.
+    pub fn num_threads(&self) -> usize
+        ensures { result ≡ self.now.workers }
     {
-        self.terminate_count.lock(rt).increment()
+        self.pool.shared.num_threads()
     }
 
-    /// Gives back a unit of the terminate count. Where it was the last one, the worker leaves its loop.
-    pub fn decrement_terminate_count<R: Wait>(&self, rt: &R, hold: TerminateHold) {
-        let was_last = self.terminate_count.lock(rt).decrement(hold);
-        if was_last {
-            self.terminate.set(rt, &self.sleep);
-        }
-    }
-
-    // Adds a task last to the injected ones, and wakes the worker where it sleeps, while the caller holds a unit of the
-    // terminate count. Refused `NoRoom`.
-    fn inject<R: Wait>(
-        &self,
-        rt: &R,
-        _hold: &TerminateHold,
-        task: Task<J>,
-    ) -> Result<(), (Refusal, Task<J>)>
-        ensures back { IfErr result (λ e. e ≡ (Refusal.NoRoom, task)) }
+    /// The levels of a worker value that no run was lent yet.
+    pub fn depth_limit(&self) -> usize
+        ensures { result ≡ self.now.depth_limit }
     {
-        let pushed = self.injector.lock(rt).push_back(task);
-        match pushed {
-            Ok(()) => {
-                self.sleep.new_injected_jobs(rt);
-                Ok(())
-            }
-            Err(AllocFailed { value }) => Err((Refusal::NoRoom, value)),
-        }
+        self.pool.shared.depth_limit()
     }
 
-    /// Takes the oldest injected task.
-    pub(crate) fn pop_injected_job<R: Wait>(&self, rt: &R) -> Option<Task<J>> {
-        self.injector.lock(rt).pop_front()
+    /// Gives back the unit of the terminate count that the pool's value holds. Where it was the last one, the workers
+    /// leave their loops.
+    pub fn end<R: Wait>(&self, rt: &R, hold: PoolHold) {
+        let mut guest = Guest::new(&*self.pool.shared);
+        guest.end(rt, hold);
     }
 
     /// Runs a job on the pool for a caller that is no worker, which blocks until the job has run. Refused `Ended`,
@@ -128,53 +139,14 @@ impl<J: JobKind> Registry<J> {
         ensures answers { InstallAnswers (λ r. J.answers (J.tag_of job) r) job result }
         ensures shallow { (j : _) → result ≡ Err (CallError.Refused Refusal.TooDeep j) → ⊥ }
     {
-        let hold = match self.increment_terminate_count(rt) {
-            Ok(hold) => hold,
-            Err(refusal) => return Err(CallError::Refused(refusal, job)),
+        let Some(name) = self.pool.shared.caller_name(rt) else {
+            return Err(CallError::Refused(Refusal::Full, job));
         };
-        let answer = self.install_held(rt, alloc, &hold, job);
-        self.decrement_terminate_count(rt, hold);
-        answer
-    }
-
-    // Queues the job and blocks until its result is there, while the caller holds the terminate count.
-    fn install_held<R: Wait>(
-        &self,
-        rt: &R,
-        alloc: Global,
-        hold: &TerminateHold,
-        job: J,
-    ) -> Result<J::Output, CallError<J::Fault, J>>
-        ensures answers { InstallAnswers (λ r. J.answers (J.tag_of job) r) job result }
-        ensures shallow { (j : _) → result ≡ Err (CallError.Refused Refusal.TooDeep j) → ⊥ }
-    {
         let tag = job.tag();
-        match self.send(rt, alloc, hold, job) {
-            Ok(reply) => install_answer(claimed(reply.wait(rt), &tag)),
+        let mut guest = Guest::new(&*self.pool.shared);
+        match guest.send(rt, alloc, name, job) {
+            Ok(found) => install_answer(claimed(found, &tag)),
             Err((refusal, job)) => Err(CallError::Refused(refusal, job)),
-        }
-    }
-
-    // Queues the job: what is answered is where its result will be. Refused `NoRoom`.
-    fn send<R: Wait>(
-        &self,
-        rt: &R,
-        alloc: Global,
-        hold: &TerminateHold,
-        job: J,
-    ) -> Result<Arc<Reply<J>, Global>, (Refusal, J)>
-        ensures back { IfErr result (λ e. e ≡ (Refusal.NoRoom, job)) }
-    {
-        let Ok(reply) = Reply::new(alloc) else {
-            return Err((Refusal::NoRoom, job));
-        };
-        let Ok(theirs) = Arc::try_clone(&reply) else {
-            return Err((Refusal::NoRoom, job));
-        };
-        match self.inject(rt, hold, Task::Job(Installed { job, reply: theirs })) {
-            Ok(()) => Ok(reply),
-            Err((refusal, Task::Job(installed))) => Err((refusal, installed.job)),
-            Err(_) => unreachable!(),
         }
     }
 
@@ -192,66 +164,19 @@ impl<J: JobKind> Registry<J> {
         ensures deep { self.now.depth_limit < 2 → result ≡ Err (CallError.Refused Refusal.TooDeep (a, b)) }
         ensures shallow { (sides : _) → result ≡ Err (CallError.Refused Refusal.TooDeep sides) → self.now.depth_limit < 2 }
     {
-        if self.depth_limit < 2 {
+        if self.depth_limit() < 2 {
             return Err(CallError::Refused(Refusal::TooDeep, (a, b)));
         }
-        let hold = match self.increment_terminate_count(rt) {
-            Ok(hold) => hold,
-            Err(refusal) => return Err(CallError::Refused(refusal, (a, b))),
+        let Some(name) = self.pool.shared.caller_name(rt) else {
+            return Err(CallError::Refused(Refusal::Full, (a, b)));
         };
-        let answer = self.join_held(rt, alloc, &hold, a, b);
-        self.decrement_terminate_count(rt, hold);
-        answer
-    }
-
-    // Queues the sides and blocks until their results are there, while the caller holds the terminate count.
-    fn join_held<R: Wait>(
-        &self,
-        rt: &R,
-        alloc: Global,
-        hold: &TerminateHold,
-        a: J,
-        b: J,
-    ) -> Result<(J::Output, J::Output), CallError<J::Fault, (J, J)>>
-        ensures answers { JoinAnswers (λ r. J.answers (J.tag_of a) r) (λ r. J.answers (J.tag_of b) r) (a, b) result }
-        ensures shallow { (sides : _) → result ≡ Err (CallError.Refused Refusal.TooDeep sides) → ⊥ }
-    {
         let tags = (a.tag(), b.tag());
-        match self.send_pair(rt, alloc, hold, a, b) {
-            Ok(reply) => {
-                let (first, second) = reply.wait(rt);
+        let mut guest = Guest::new(&*self.pool.shared);
+        match guest.send_pair(rt, alloc, name, a, b) {
+            Ok((first, second)) => {
                 pair_answer(claimed(first, &tags.0), claimed(second, &tags.1))
             }
             Err((refusal, sides)) => Err(CallError::Refused(refusal, sides)),
-        }
-    }
-
-    // Queues the sides: what is answered is where their results will be. Refused `NoRoom`.
-    fn send_pair<R: Wait>(
-        &self,
-        rt: &R,
-        alloc: Global,
-        hold: &TerminateHold,
-        a: J,
-        b: J,
-    ) -> Result<Arc<PairReply<J>, Global>, (Refusal, (J, J))>
-        ensures back { IfErr result (λ e. e ≡ (Refusal.NoRoom, (a, b))) }
-    {
-        let Ok(reply) = PairReply::new(alloc) else {
-            return Err((Refusal::NoRoom, (a, b)));
-        };
-        let Ok(theirs) = Arc::try_clone(&reply) else {
-            return Err((Refusal::NoRoom, (a, b)));
-        };
-        let pair = Pair {
-            first: a,
-            second: b,
-            reply: theirs,
-        };
-        match self.inject(rt, hold, Task::Pair(pair)) {
-            Ok(()) => Ok(reply),
-            Err((refusal, Task::Pair(pair))) => Err((refusal, (pair.first, pair.second))),
-            Err(_) => unreachable!(),
         }
     }
 }
@@ -270,42 +195,53 @@ fn pair_answer<X: Drop, Y: Drop, F: Drop, B>(
     }
 }
 
-/// A worker's thread that is not started yet. Contracts see its worker.
+/// A worker's thread that has not begun its loop yet. Contracts see its pool and its index.
 #[derive(Drop)]
 pub struct ThreadBuilder<J: JobKind> {
-    registry: Arc<Registry<J>, Global>,
-    worker: WorkerThread<J>,
+    registry: Registry<J>,
+    index: usize,
+    deque: WorkerDeque<Task<J>>,
 }
 
 impl<J: JobKind> Model for ThreadBuilder<J> {
-    ghost use Rattle.rayon_registry.specs.Worker.{Worker};
-    ghost use Rattle.rayon_jobs.specs.declared.task.Task.{Task};
+    ghost use Rattle.rayon_registry.specs.Worker.{Seat};
+    ghost use Rattle.std.specs.Prelude.{◌<◌};
 
-    ghost Value = { Worker (Task J J.Tag J.Output J.Fault) };
+    ghost Value = { Seat };
 
-    ghost view = { λ t. t.worker };
+    ghost view = { λ t. record { pool = t.registry; index = t.index } };
+
+    ghost invariant = { λ t. t.index < t.registry.workers };
 }
 
 impl<J: JobKind> ThreadBuilder<J> {
-    /// The thread of the worker with this index. Refused `NoRoom`.
+    /// The thread of the worker with this index of the pool with this number, by what the pool's threads share and by
+    /// the worker's own deque. It is made in the thread itself, of what was sent there. None where the pool has no
+    /// worker with this index.
     pub fn new(
-        alloc: Global,
-        registry: &Arc<Registry<J>, Global>,
+        id: PoolId,
         index: usize,
-    ) -> Result<ThreadBuilder<J>, Refusal>
-        ensures pool { IfOk result (λ t. t.id.pool ≡ (arc_value registry.now).id) }
-        ensures index { IfOk result (λ t. t.id.index ≡ index) }
-        ensures levels { IfOk result (λ t. t.levels ≡ (arc_value registry.now).depth_limit) }
-        ensures pushed { IfOk result (λ t. t.pushed ≡ []) }
+        shared: Arc<rayon_performers::Registry<Task<J>>, Global>,
+        deque: WorkerDeque<Task<J>>,
+    ) -> Option<ThreadBuilder<J>>
+        ensures seat { IfSome result (λ t. t ≡ record { pool = record { id = id; workers = (arc_value shared).workers; depth_limit = (arc_value shared).depth_limit }; index = index }) }
+        ensures none { IfNone result ((arc_value shared).workers ≤ index) }
     {
-        let (Ok(own), Ok(theirs)) = (Arc::try_clone(registry), Arc::try_clone(registry)) else {
-            return Err(Refusal::NoRoom);
-        };
-        let levels = own.depth_limit;
-        Ok(ThreadBuilder {
-            registry: own,
-            worker: WorkerThread::new(alloc, theirs, index, levels),
+        if index >= shared.num_threads() {
+            return None;
+        }
+        Some(ThreadBuilder {
+            registry: Registry::of(id, shared),
+            index,
+            deque,
         })
+    }
+
+    /// The worker's index in its pool, from 0.
+    pub fn index(&self) -> usize
+        ensures { result ≡ self.now.index }
+    {
+        self.index
     }
 
     /// The worker's loop: runs what is queued, sleeps where nothing is, and ends when the pool has ended.
@@ -315,9 +251,11 @@ impl<J: JobKind> ThreadBuilder<J> {
     {
         let ThreadBuilder {
             registry,
-            mut worker,
+            index,
+            deque,
         } = self;
+        let mut worker = WorkerThread::new(registry, index, deque);
         let level = Level::new(worker.levels());
-        let _ended = worker.wait_until(&Leveled::new(rt, &level), alloc, registry.terminate());
+        work_at(rt, &level, alloc, &mut worker);
     }
 }

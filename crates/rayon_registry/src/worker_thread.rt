@@ -1,68 +1,68 @@
 //! The value that stands for a worker.
+ghost use Rattle.rayon_performers.specs.Hands.{HasTicket};
+ghost use Rattle.rayon_performers.specs.Stands.{call_to};
+ghost use Rattle.rayon_queues.specs.Deques.{Leaves};
 ghost use Rattle.rayon_registry.specs.Answers.{InstallAnswers};
 ghost use Rattle.rayon_registry.specs.Worker.{SameWorker};
-ghost use Rattle.std.specs.Arc.{arc_value};
-ghost use Rattle.std.specs.Prelude.{◌≡◌, ◌⊎◌, ℕ, [], ◌∷◌, ◌++◌, ◌-◌, ◌<◌, ◌≤◌, ◌↔◌, IsTrue, List, Result, Ok, Err, IfOk, IfSome, IfNone, IfErr, MatchResult, None};
+ghost use Rattle.std.specs.Prelude.{◌≡◌, ◌⊎◌, ℕ, [], ◌∷◌, ◌++◌, ◌-◌, ◌<◌, ◌≤◌, ◌↔◌, IsTrue, List, Result, Ok, Err, IfOk, IfSome, IfNone, IfErr, MatchResult, None, true, false};
 
 use crate::context::FnContext;
-use crate::ids::{IdSource, WorkerId};
+use crate::ids::WorkerId;
 use crate::job::Waits;
 use crate::join::PairRun;
-use crate::registry::Registry;
-use crate::terminate::{TerminateHold, WorkerHolds};
-use rayon_jobs::{Done, Installed, JobKind, Pair, SecondSide, Task};
+use crate::registry::{PoolShare, Registry};
+use rayon_jobs::{Done, JobKind};
+use rayon_machine_places::place::{Ending, Move, Place, Target, Then};
+use rayon_performers::Bench;
+use rayon_queues::WorkerDeque;
+use rayon_sleep::latch::Owner;
+use rayon_tasks::{Names, Pair, Task, Ticket, Work, task_parts};
 use rayon_words::latch::{CoreLatch, LatchRef};
 use rayon_words::{CallError, Refusal};
-use std::alloc::{AllocFailed, Global};
-use std::collections::VecDeque;
+use std::alloc::Global;
 use std::marker::Model;
-use std::sync::{Arc, Wait};
+use std::sync::Wait;
 
-/// A worker of a pool, lent to each run. Contracts see whose it is, the levels that are left, and the tasks that it
-/// pushed and that were not taken yet.
+/// A worker of a pool, lent to each run. Contracts see whose it is, the levels that are left, the tasks that it pushed,
+/// and those of them that it did not take back.
 #[derive(Drop)]
 pub struct WorkerThread<J: JobKind> {
     pub(crate) id: WorkerId,
     pub(crate) levels: usize,
-    pub(crate) registry: Arc<Registry<J>, Global>,
-    pub(crate) tickets: IdSource,
-    holds: WorkerHolds,
-    deque: VecDeque<Task<J>>,
+    pub(crate) names: Names,
+    pub(crate) bench: Bench<J>,
 }
 
 impl<J: JobKind> Model for WorkerThread<J> {
     ghost use Rattle.rayon_registry.specs.Worker.{Worker};
-    ghost use Rattle.rayon_jobs.specs.declared.task.Task.{Task};
+    ghost use Rattle.rayon_tasks.specs.Tasks.{TaskOf};
+    ghost use Rattle.rayon_registry.specs.Pushes.{left_to, pushed_by, takes_oldest};
 
-    ghost Value = { Worker (Task J J.Tag J.Output J.Fault) };
+    ghost Value = { Worker (TaskOf J) };
 
-    ghost view = { λ w. record { id = w.id; levels = w.levels; pushed = w.deque.items } };
+    ghost view = { λ w. record { id = w.id; levels = w.levels; pushed = pushed_by w.bench; left = left_to w.bench; oldest_first = takes_oldest w.bench } };
 }
 
 impl<J: JobKind> WorkerThread<J> {
-    /// The worker with this index of the pool. There is one value for each.
+    /// The worker with this index of the pool, whose own deque this is. There is one value for each.
     pub(crate) fn new(
-        alloc: Global,
-        registry: Arc<Registry<J>, Global>,
+        registry: Registry<J>,
         index: usize,
-        levels: usize,
+        deque: WorkerDeque<Task<J>>,
     ) -> WorkerThread<J>
-        ensures pool { result.id.pool ≡ (arc_value registry).id }
+        requires { index < registry.workers }
+        ensures pool { result.id.pool ≡ registry.id }
         ensures index { result.id.index ≡ index }
-        ensures levels { result.levels ≡ levels }
-        ensures pushed { result.pushed ≡ [] }
+        ensures levels { result.levels ≡ registry.depth_limit }
     {
-        let id = WorkerId {
-            pool: registry.id(),
-            index,
-        };
+        let PoolShare { id, shared } = registry.pool;
+        let levels = shared.depth_limit();
+        let parties = shared.num_threads().saturating_add(1);
         WorkerThread {
-            id,
+            id: WorkerId { pool: id, index },
             levels,
-            registry,
-            tickets: IdSource::new(),
-            holds: WorkerHolds::new(),
-            deque: VecDeque::new(alloc),
+            names: Names::new(index, parties),
+            bench: Bench::new(shared, index, deque),
         }
     }
 
@@ -87,72 +87,15 @@ impl<J: JobKind> WorkerThread<J> {
         self.levels
     }
 
-    /// Whether nothing lies in the worker's own deque.
-    pub fn local_deque_is_empty(&self) -> bool
-        ensures { IsTrue result ↔ (self.now.pushed ≡ []) }
-    {
-        self.deque.is_empty()
-    }
-
-    /// Puts a task last into the worker's own deque. Refused `NoRoom`, with the task back and nothing added. It raises
-    /// no count.
-    pub fn push(&mut self, task: Task<J>) -> Result<(), (Refusal, Task<J>)>
-        ensures pushed { MatchResult result (λ _. self.new ≡ record self.old { pushed = self.old.pushed ++ task ∷ [] }) (λ e. (e ≡ (Refusal.NoRoom, task)) × (self.new ≡ self.old)) }
-    {
-        match self.deque.push_back(task) {
-            Ok(()) => Ok(()),
-            Err(AllocFailed { value }) => Err((Refusal::NoRoom, value)),
-        }
-    }
-
-    /// Takes the newest task of the worker's own deque. None exactly if nothing lies there.
-    pub fn take_local_job(&mut self) -> Option<Task<J>>
-        ensures some { IfSome result (λ t. self.old ≡ record self.new { pushed = self.new.pushed ++ t ∷ [] }) }
-        ensures none { IfNone result ((self.old.pushed ≡ []) × (self.new ≡ self.old)) }
-    {
-        self.deque.pop_back()
-    }
-
-    // A task of the worker's own deque, else the oldest injected one.
-    fn find_work<R: Wait>(&mut self, rt: &R) -> Option<Task<J>>
-        ensures some { IfSome result (λ t. (self.old ≡ record self.new { pushed = self.new.pushed ++ t ∷ [] }) ⊎ ((self.old.pushed ≡ []) × (self.new ≡ self.old))) }
-        ensures none { IfNone result ((self.old.pushed ≡ []) × (self.new ≡ self.old)) }
-    {
-        match self.take_local_job() {
-            Some(task) => Some(task),
-            None => self.registry.pop_injected_job(rt),
-        }
-    }
-
-    // Takes one unit of the pool's terminate count for a call of this worker. Refused `Ended`, `Full`.
-    #[inline(always)]
-    pub(crate) fn increment_terminate_count<R: Wait>(
-        &mut self,
-        rt: &R,
-    ) -> Result<TerminateHold, Refusal>
-        ensures refused { IfErr result (λ r. (r ≡ Refusal.Ended) ⊎ (r ≡ Refusal.Full)) }
-        ensures same { self.new ≡ self.old }
-    {
-        if self.holds.is_empty() {
-            let hold = self.registry.increment_terminate_count(rt)?;
-            self.holds = WorkerHolds::outermost();
-            return Ok(hold);
-        }
-        self.holds.enter()
-    }
-
-    // Gives back a unit that a call of this worker took.
-    #[inline(always)]
-    pub(crate) fn decrement_terminate_count<R: Wait>(&mut self, rt: &R, hold: TerminateHold)
-        ensures { self.new ≡ self.old }
-    {
-        if let Some(hold) = self.holds.leave(hold) {
-            self.registry.decrement_terminate_count(rt, hold);
-        }
+    /// What stands for the worker where a latch is set that it may sleep on, as another thread does: a `SpinLatch` of
+    /// this owner wakes the worker. Refused `NoRoom`.
+    pub fn owner(&self) -> Result<Owner, Refusal> {
+        self.bench.owner()
     }
 
     /// Runs a job at once, with exactly one level fewer. Refused `TooDeep` exactly where no level is left, `Ended`,
     /// `Full`, with the job back and the worker value unchanged. It is never `Foreign` or `Missing`.
+    #[tactic(auto, unfolding(crate::specs::Pushes::pushed_by, crate::specs::Pushes::left_to, crate::specs::Pushes::takes_oldest))]
     pub fn install<R: Waits<J>>(
         &mut self,
         rt: &R,
@@ -160,7 +103,7 @@ impl<J: JobKind> WorkerThread<J> {
         job: J,
     ) -> Result<J::Output, CallError<J::Fault, J>>
         requires levels { self.old.levels ≤ R.levels rt.now }
-        ensures answers { InstallAnswers (λ r. J.answers (J.tag_of job) r × J.answers_at job (self.old.levels - 1) r) job result }
+        ensures answers { InstallAnswers (λ r. J.answers (J.tag_of job) r × J.answers_at job (self.old.levels - 1) false r) job result }
         ensures kept { (r : _) (j : _) → result ≡ Err (CallError.Refused r j) → self.new ≡ self.old }
         ensures deep { self.old.levels ≡ 0 → result ≡ Err (CallError.Refused Refusal.TooDeep job) }
         ensures shallow { (j : _) → result ≡ Err (CallError.Refused Refusal.TooDeep j) → self.old.levels ≡ 0 }
@@ -171,19 +114,70 @@ impl<J: JobKind> WorkerThread<J> {
         if self.levels == 0 {
             return Err(CallError::Refused(Refusal::TooDeep, job));
         }
-        let hold = match self.increment_terminate_count(rt) {
-            Ok(hold) => hold,
-            Err(refusal) => return Err(CallError::Refused(refusal, job)),
+        let Some(name) = self.names.draw() else {
+            return Err(CallError::Refused(Refusal::Full, job));
         };
+        if let Err(refusal) = self.bench.open_install(rt, name) {
+            return Err(CallError::Refused(refusal, job));
+        }
+        self.bench.begin_here(name);
         let answer = rt.run_job(alloc, self, job, &mut FnContext::new(false));
-        self.decrement_terminate_count(rt, hold);
+        let ending = ending_of(&answer);
+        self.bench
+            .lower_then(rt, name, Then::Ran { job: name, ending });
         match answer {
             Ok(output) => Ok(output),
             Err(fault) => Err(CallError::Fault(fault)),
         }
     }
 
-    /// Runs queued tasks until the latch is set, and sleeps where nothing is queued. Refused `TooDeep`.
+    /// Whether nothing lies in the worker's own deque. It is so where nothing that the worker pushed is left to it;
+    /// else thieves may have taken that.
+    #[tactic(auto, unfolding(crate::specs::Pushes::pushed_by, crate::specs::Pushes::left_to, crate::specs::Pushes::takes_oldest))]
+    pub fn local_deque_is_empty(&mut self) -> bool
+        ensures empty { self.old.left ≡ [] → result ≡ true }
+        ensures same { self.new ≡ self.old }
+    {
+        self.bench.look_own()
+    }
+
+    /// Puts a task last into the worker's own deque, and wakes whom that owes a wake. Refused `NoRoom`, with the task
+    /// back and nothing added. It raises no count.
+    #[tactic(auto, unfolding(crate::specs::Pushes::pushed_by, crate::specs::Pushes::left_to, crate::specs::Pushes::takes_oldest))]
+    pub fn push<R: Wait>(&mut self, rt: &R, task: Task<J>) -> Result<(), (Refusal, Task<J>)>
+        ensures pushed { MatchResult result (λ _. self.new ≡ record self.old { pushed = self.old.pushed ++ task ∷ []; left = self.old.left ++ task ∷ [] }) (λ e. (e ≡ (Refusal.NoRoom, task)) × (self.new ≡ self.old)) }
+    {
+        match self.bench.push(rt, task) {
+            Ok(()) => Ok(()),
+            Err(task) => Err((Refusal::NoRoom, task)),
+        }
+    }
+
+    /// Takes the newest task of the worker's own deque, or the oldest where that is its order. None where nothing lies
+    /// there.
+    #[tactic(auto, unfolding(crate::specs::Pushes::pushed_by, crate::specs::Pushes::left_to, crate::specs::Pushes::takes_oldest))]
+    pub fn take_local_job<R: Wait>(&mut self, rt: &R) -> Option<Task<J>>
+        ensures some { IfSome result (λ t. Leaves self.old.oldest_first self.old.left t self.new.left) }
+        ensures none { IfNone result (self.new.left ≡ self.old.left) }
+        ensures kept { self.new ≡ record self.old { left = self.new.left } }
+    {
+        self.bench.take_local(rt)
+    }
+
+    /// Looks for a task: in the worker's own deque, in the other workers', from a chosen one on, each once, and last
+    /// among the injected ones. None where each look missed.
+    #[tactic(auto, unfolding(crate::specs::Pushes::pushed_by, crate::specs::Pushes::left_to, crate::specs::Pushes::takes_oldest))]
+    pub fn find_work<R: Wait>(&mut self, rt: &R) -> Option<Task<J>>
+        ensures some { IfSome result (λ t. Leaves self.old.oldest_first self.old.left t self.new.left ⊎ (self.new.left ≡ self.old.left)) }
+        ensures none { IfNone result (self.new.left ≡ self.old.left) }
+        ensures kept { self.new ≡ record self.old { left = self.new.left } }
+    {
+        self.bench.find_work(rt)
+    }
+
+    /// Runs queued tasks until the latch is set, and sleeps where nothing is queued: who sets the latch wakes the
+    /// worker if it does so through its `owner`, as a `SpinLatch` does. Refused `TooDeep` exactly where no level is
+    /// left.
     pub fn wait_until<R: Waits<J>>(
         &mut self,
         rt: &R,
@@ -197,69 +191,129 @@ impl<J: JobKind> WorkerThread<J> {
         if self.levels == 0 {
             return Err(Refusal::TooDeep);
         }
-        self.wait_until_cold(rt, alloc, latch);
-        Ok(())
+        for _ in rt.forever() {
+            match self.bench.wait_on(rt, latch) {
+                Move::Enter {
+                    place: Place::BeginTask(name),
+                    ..
+                } => {
+                    self.bench.begin_task(name);
+                    let Some(task) = self.bench.take_task() else {
+                        unreachable!()
+                    };
+                    self.run_task(rt, alloc, task);
+                }
+                _ => return Ok(()),
+            }
+        }
+        unreachable!()
     }
 
-    // The same where a level is left.
-    pub(crate) fn wait_until_cold<R: Waits<J>>(
-        &mut self,
-        rt: &R,
-        alloc: Global,
-        latch: LatchRef<'_, CoreLatch>,
-    )
-        requires some { 0 < self.old.levels }
+    // The worker's loop: it works until the pool has ended.
+    pub(crate) fn main_loop<R: Waits<J>>(&mut self, rt: &R, alloc: Global)
         requires levels { self.old.levels ≤ R.levels rt.now }
-        ensures same { SameWorker self.old self.new }
     {
-        for _ in rt.forever() {
-            if latch.probe(rt) {
-                break;
-            }
-            let events = self.registry.sleep().events(rt);
-            match self.find_work(rt) {
-                Some(task) => self.execute(rt, alloc, task),
-                None => self.registry.sleep().no_work_found(rt, latch, events),
-            }
+        if self.levels > 0 {
+            self.wait_for(rt, alloc, Target::Termination, None);
         }
     }
 
-    // Runs a task, and hands its result on.
-    pub(crate) fn execute<R: Waits<J>>(&mut self, rt: &R, alloc: Global, task: Task<J>)
+    // Waits for this, with the ticket of the call if it is a call's result, and runs the tasks that it meets meanwhile.
+    // Answers the result that was found.
+    pub(crate) fn wait_for<R: Waits<J>>(
+        &mut self,
+        rt: &R,
+        alloc: Global,
+        target: Target,
+        ticket: Option<Ticket<J>>,
+    ) -> Option<Done<J>>
+        requires some { 0 < self.old.levels }
+        requires levels { self.old.levels ≤ R.levels rt.now }
+        requires ticket { HasTicket ticket (call_to target) }
+        ensures same { SameWorker self.old self.new }
+    {
+        let mut ticket = ticket;
+        for _ in rt.forever() {
+            self.bench.set_call(ticket);
+            match self.bench.wait(rt, target) {
+                Move::Enter {
+                    place: Place::BeginTask(name),
+                    ..
+                } => {
+                    ticket = self.bench.take_call();
+                    self.bench.begin_task(name);
+                    let Some(task) = self.bench.take_task() else {
+                        unreachable!()
+                    };
+                    self.run_task(rt, alloc, task);
+                }
+                _ => return self.bench.take_done(),
+            }
+        }
+        unreachable!()
+    }
+
+    // Runs a task that was taken and has begun, and tells its call.
+    pub(crate) fn run_task<R: Waits<J>>(&mut self, rt: &R, alloc: Global, task: Task<J>)
         requires some { 0 < self.old.levels }
         requires levels { self.old.levels ≤ R.levels rt.now }
         ensures same { SameWorker self.old self.new }
     {
-        match task {
-            Task::Job(Installed { job, reply }) => {
-                let done = self.run_to_done(rt, alloc, job, true);
-                reply.settle(rt, done);
-            }
-            Task::Second(
-                SecondSide {
-                    job,
-                    ticket,
-                    injected,
-                },
-            ) => {
-                let migrated = injected || ticket.worker() != self.id.index;
-                let done = self.run_to_done(rt, alloc, job, migrated);
-                ticket.settle(rt, self.registry.sleep(), done);
-            }
-            Task::Pair(
-                Pair {
-                    first,
-                    second,
-                    reply,
-                },
-            ) => {
-                let PairRun { first, second } = if self.levels > 1 {
-                    rt.run_pair(alloc, self, first, second)
-                } else {
-                    self.one_after_the_other(rt, alloc, first, second)
-                };
-                reply.settle(rt, first, second);
-            }
+        let (call, owner) = (task.number(), task.owner());
+        let migrated = task.injected() || !owner.is_worker(0, self.id.index);
+        let (work, _injected, ticket) = task_parts(task);
+        let (done, first) = self.run_work(rt, alloc, work, migrated);
+        let ending = done.ending();
+        self.bench.set_reply(ticket, done, first);
+        self.bench.tell(rt, call, owner, ending);
+    }
+
+    // Runs what there is to run of a task. Answers the result for the call's cell, and of two sides the first one's
+    // with the ticket to whose cell that goes.
+    pub(crate) fn run_work<R: Waits<J>>(
+        &mut self,
+        rt: &R,
+        alloc: Global,
+        work: Work<J>,
+        migrated: bool,
+    ) -> (Done<J>, Option<(Ticket<J>, Done<J>)>)
+        requires some { 0 < self.old.levels }
+        requires levels { self.old.levels ≤ R.levels rt.now }
+        ensures same { SameWorker self.old self.new }
+    {
+        match work {
+            Work::Job(job) => (self.run_to_done(rt, alloc, job, migrated), None),
+            Work::Pair(pair) => self.run_sides(rt, alloc, pair),
+        }
+    }
+
+    // Joins two sides that were sent to the pool. Where no result of the second was found there is none for the first
+    // one's cell: the caller finds that result missing.
+    #[cold]
+    #[inline(never)]
+    fn run_sides<R: Waits<J>>(
+        &mut self,
+        rt: &R,
+        alloc: Global,
+        pair: Pair<J>,
+    ) -> (Done<J>, Option<(Ticket<J>, Done<J>)>)
+        requires some { 0 < self.old.levels }
+        requires levels { self.old.levels ≤ R.levels rt.now }
+        ensures same { SameWorker self.old self.new }
+    {
+        let Pair {
+            first,
+            second,
+            first_result,
+        } = pair;
+        let PairRun { first, second } = if self.levels > 1 {
+            rt.run_pair(alloc, self, first, second)
+        } else {
+            self.one_after_the_other(rt, alloc, first, second)
+        };
+        match second {
+            Some(second) => (second, Some((first_result, first))),
+            None => (first, None),
         }
     }
 
@@ -276,11 +330,20 @@ impl<J: JobKind> WorkerThread<J> {
         requires levels { self.old.levels ≤ R.levels rt.now }
         ensures tag { result.tag ≡ J.tag_of job }
         ensures place { result.place ≡ None }
-        ensures lent { J.answers_at job (self.old.levels - 1) result.answer }
+        ensures lent { J.answers_at job (self.old.levels - 1) migrated result.answer }
         ensures same { SameWorker self.old self.new }
     {
         let tag = job.tag();
         let answer = rt.run_job(alloc, self, job, &mut FnContext::new(migrated));
         Done::of_run(tag, answer)
+    }
+}
+
+// How a run with this answer ended.
+#[inline(always)]
+pub(crate) fn ending_of<O, F>(answer: &Result<O, F>) -> Ending {
+    match answer {
+        Ok(_) => Ending::Fine,
+        Err(_) => Ending::Fault,
     }
 }

@@ -1,5 +1,5 @@
 //! The sleep of a pool of many workers: its counters, the locks that workers sleep by, and the latches whose owners are
-//! woken. No pool uses it yet: today's has one worker, and sleeps by `rayon_words`.
+//! woken.
 //!
 //! Each call on a shared thing is one step under its lock. What the step does is the contract of the call of the same
 //! name on the state behind the lock. The calls of [`sleep::Sleep`] that make several steps add each to their caller's

@@ -17,10 +17,14 @@ replay_word = 114 ∷ 101 ∷ 112 ∷ 108 ∷ 97 ∷ 121 ∷ []
 abbrev pub Writes : List ℕ → ℕ → Type 0
 Writes word n = IsNumeral 10 (without_leading_plus word) × (digits_value 10 (without_leading_plus word) ≡ n)
 
+-- so many workers, and the index of a Fibonacci number, that may be asked for
+abbrev pub InRange : ℕ → ℕ → Type 0
+InRange workers n = (1 ≤ workers) × (workers ≤ 64) × (n ≤ 30)
+
 -- three words that ask for the n-th Fibonacci number on so many workers: fib and the two numbers, each within its range
 abbrev pub AsksForFib : List (List ℕ) → ℕ → ℕ → Type 0
 AsksForFib words workers n =
-    (w v : List ℕ) × (words ≡ fib_word ∷ w ∷ v ∷ []) × Writes w workers × Writes v n × (workers ≡ 1) × (n ≤ 30)
+    (w v : List ℕ) × (words ≡ fib_word ∷ w ∷ v ∷ []) × Writes w workers × Writes v n × InRange workers n
 
 -- what the words of a command line ask for
 abbrev pub AsksFor : List (List ℕ) → Command → Type 0

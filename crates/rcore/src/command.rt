@@ -1,6 +1,6 @@
 //! What the words of a command line ask for.
-ghost use Rattle.rcore.specs.Words.{AsksFor, AskForNothing};
-ghost use Rattle.std.specs.Prelude.{◌≡◌, ℕ, IfSome, IfNone, map, string_bytes};
+ghost use Rattle.rcore.specs.Words.{AsksFor, AskForNothing, InRange};
+ghost use Rattle.std.specs.Prelude.{◌≡◌, ◌↔◌, ℕ, IsTrue, IfSome, IfNone, map, string_bytes};
 ghost use Rattle.std.specs.Vec.Iter.{into_iter_items};
 
 use std::env::Args;
@@ -20,7 +20,7 @@ pub enum Command {
 }
 
 /// The most workers that a command may ask for.
-const MAX_WORKERS: usize = 1;
+const MAX_WORKERS: usize = 64;
 
 /// The largest index of a Fibonacci number that may be asked for.
 const MAX_INDEX: u8 = 30;
@@ -37,8 +37,7 @@ impl Command {
             "fib" => {
                 let workers: usize = words.next()?.parse().ok()?;
                 let n: u8 = words.next()?.parse().ok()?;
-                let in_range = (1..=MAX_WORKERS).contains(&workers) && n <= MAX_INDEX;
-                if !in_range || words.next().is_some() {
+                if !is_in_range(workers, n) || words.next().is_some() {
                     return None;
                 }
                 Some(Command::Fib { workers, n })
@@ -50,4 +49,11 @@ impl Command {
             _ => None,
         }
     }
+}
+
+// Whether so many workers and the Fibonacci number with this index may be asked for.
+fn is_in_range(workers: usize, n: u8) -> bool
+    ensures { IsTrue result ↔ InRange workers n }
+{
+    (1..=MAX_WORKERS).contains(&workers) && n <= MAX_INDEX
 }

@@ -8,7 +8,7 @@ use std::test::Fail;
 const BAD_WORDS: &str = "rcore: bad words\n";
 
 /// Command lines that are done, and what they print.
-const GOOD_LINES: [(&str, &str); 7] = [
+const GOOD_LINES: [(&str, &str); 12] = [
     ("fib 1 20", "6765\n"),
     ("fib 1 0", "0\n"),
     ("fib 1 1", "1\n"),
@@ -16,18 +16,25 @@ const GOOD_LINES: [(&str, &str); 7] = [
     ("fib 1 30", "832040\n"),
     ("fib 1 +7", "13\n"),
     ("fib +1 007", "13\n"),
+    ("fib 4 0", "0\n"),
+    ("fib 2 20", "6765\n"),
+    ("fib 04 21", "10946\n"),
+    ("fib 16 22", "17711\n"),
+    ("fib 64 25", "75025\n"),
 ];
 
 /// Command lines that are bad words.
-const BAD_LINES: [&str; 19] = [
+const BAD_LINES: [&str; 21] = [
     "",
     "fib",
     "fib 1",
     "fib 1 x",
     "fib x 1",
     "fib 0 5",
-    "fib 2 5",
     "fib 65 1",
+    "fib 18446744073709551617 1",
+    "fib -1 1",
+    "fib 64 31",
     "fib 1 31",
     "fib 1 256",
     "fib 1 -1",

@@ -2,12 +2,16 @@
 //! and ended.
 #![tactic(auto)]
 
+ghost use Rattle.std.specs.Prelude.{◌≡◌, IfOk, false};
+
 mod closure;
+mod migrated;
 mod sort;
 mod sum;
 mod threads;
 mod tree;
 
+use migrated::Tell;
 use rayon_core::{CallError, EndAfter, Ids, ThreadPoolBuilder};
 use sort::Sort;
 use std::alloc::Global;
@@ -78,6 +82,23 @@ fn triples<R: Threads + Wait + Copy + Send + 'static>(
     })
 }
 
+// Whether the first side of a join migrated, where it is a job and where it is a closure.
+fn first_sides<R: Threads + Wait + Copy + Send + 'static>(
+    rt: &R,
+    alloc: Global,
+    ids: &Ids,
+) -> anyhow::Result<(bool, bool)>
+    ensures { IfOk result (λ p. (p.0 ≡ false) × (p.1 ≡ false)) }
+{
+    let pool = ThreadPoolBuilder::new().build(rt, alloc, ids)?;
+    let job = pool.install(rt, alloc, Tell::FirstJob);
+    let closure = pool.install(rt, alloc, Tell::Closure);
+    pool.end(rt);
+    let job = job.map_err(CallError::without_sides)?;
+    let closure = closure.map_err(CallError::without_sides)?;
+    Ok((job, closure))
+}
+
 fn main(rt: HostRuntime) -> anyhow::Result<()> {
     let alloc = rt.alloc();
     let ids = Ids::new();
@@ -89,5 +110,7 @@ fn main(rt: HostRuntime) -> anyhow::Result<()> {
     println!(rt; "value: {value}")?;
     let triples = triples(&rt, alloc, &ids)?;
     println!(rt; "triples: {triples:?}")?;
+    let (job, closure) = first_sides(&rt, alloc, &ids)?;
+    println!(rt; "migrated: {job} {closure}")?;
     Ok(())
 }

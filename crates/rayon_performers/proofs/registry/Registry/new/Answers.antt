@@ -10,7 +10,7 @@ pushed : {U E X : Type 0} (r : Result U E) (xs ys zs : List X) → is_err r ≡ 
 pushed (Ok u) xs ys zs n e = e
 pushed (Err u) xs ys zs n e = absurd (true≢false n)
 
-more : (ids news : List DequeId) (x : DequeId) (k : ℕ) → news ≡ ids ++ x ∷ [] → length ids ≡ k → length news ≡ k + 1
+more : {X : Type 0} (ids news : List X) (x : X) (k : ℕ) → news ≡ ids ++ x ∷ [] → length ids ≡ k → length news ≡ k + 1
 more ids news x k e n = ap length e ∙ length-append ids (x ∷ []) ∙ ap (λ (j : ℕ). j + 1) n
 
 module _ {T : Type 0} where
@@ -30,4 +30,4 @@ loop-preserved g c =
     let news = c.new_deque.new.stealers in
     let e = pushed c.push.result xs (xs ++ x ∷ []) zs (sym c.is_err.ensures.value ∙ c.if-is_err.false) c.push.ensures.items in
     let n = c.in-Ok-new_deque.ensures.stealer in
-    (more ids news x.id c.loop.counter n c.loop.invariant.0, tied xs zs x ids news e n c.loop.invariant.1, all_new xs zs x e c.loop.invariant.2 c.in-Ok-new_deque.ensures.empty)
+    (more ids news x.id c.loop.counter n c.loop.invariant.0, tied xs zs x ids news e n c.loop.invariant.1, all_new xs zs x e c.loop.invariant.2 c.in-Ok-new_deque.ensures.empty, more xs zs x c.loop.counter e c.loop.invariant.3)

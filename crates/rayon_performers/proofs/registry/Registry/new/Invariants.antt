@@ -3,4 +3,4 @@ use Rattle.rayon_queues.specs.Deques.{IsNew}
 use Rattle.rayon_performers.proofs.registry.Registry.new.Given as goal
 
 abbrev pub invariant-loop : goal.invariant-loop
-invariant-loop g l = (length l.stealers ≡ l.counter) × (map (λ d. d.id) l.deques.items ≡ l.stealers) × All (IsNew false 32) l.deques.items
+invariant-loop g l = (length l.stealers ≡ l.counter) × (map (λ d. d.id) l.deques.items ≡ l.stealers) × All (IsNew false 32) l.deques.items × (length l.deques.items ≡ l.counter)

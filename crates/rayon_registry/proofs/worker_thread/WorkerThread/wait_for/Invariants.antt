@@ -1,0 +1,11 @@
+use Rattle.std.proofs.Common.{◌≡◌}
+use Rattle.rayon_performers.specs.Hands.{HasTicket}
+use Rattle.rayon_performers.specs.Stands.{call_to}
+use Rattle.rayon_registry.proofs.worker_thread.WorkerThread.wait_for.Given as goal
+
+abbrev pub invariant-loop : goal.invariant-loop
+invariant-loop g l =
+    (goal.iterator-loop g).can_next l.iterator' × (goal.iterator-loop g).is_finite l.iterator'
+    × (l.self.levels ≡ l.initial.self.levels)
+    × (l.self.id ≡ l.initial.self.id)
+    × HasTicket l.ticket (call_to l.target)

@@ -1,8 +1,0 @@
-use Rattle.std.proofs.Common.{◌≡◌}
-use Rattle.rayon_registry.proofs.worker_thread.WorkerThread.wait_until_cold.Given as goal
-
-abbrev pub invariant-loop : goal.invariant-loop
-invariant-loop g l =
-    (goal.iterator-loop g).can_next l.iterator' × (goal.iterator-loop g).is_finite l.iterator'
-    × (l.self.levels ≡ l.initial.self.levels)
-    × (l.self.id ≡ l.initial.self.id)

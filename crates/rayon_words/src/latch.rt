@@ -2,8 +2,6 @@
 ghost use Rattle.std.specs.Prelude.{◌≡◌, ◌↔◌, IsTrue, true, false, Bool};
 
 use crate::Refusal;
-use crate::sleep::Sleep;
-use std::alloc::Global;
 use std::marker::Model;
 use std::sync::{Condvar, Mutex, Wait};
 
@@ -122,51 +120,6 @@ impl CoreLatch {
 
 /// A shared reference to a latch.
 pub type LatchRef<'a, L> = &'a L;
-
-/// A core latch that belongs to a worker, which is woken where it sleeps when the latch is set. Contracts see the index
-/// of that worker.
-#[derive(Drop)]
-pub struct SpinLatch {
-    core_latch: CoreLatch,
-    target_worker_index: usize,
-}
-
-impl Model for SpinLatch {
-    ghost use Rattle.std.specs.Prelude.{ℕ};
-
-    ghost Value = { ℕ };
-
-    ghost view = { λ l. l.target_worker_index };
-}
-
-impl SpinLatch {
-    /// An unset latch of the worker with this index.
-    pub fn new(target_worker_index: usize) -> SpinLatch
-        ensures { result ≡ target_worker_index }
-    {
-        SpinLatch {
-            core_latch: CoreLatch::new(),
-            target_worker_index,
-        }
-    }
-
-    /// The latch that the owner waits on.
-    pub fn core_latch(&self) -> LatchRef<'_, CoreLatch> {
-        &self.core_latch
-    }
-
-    /// Whether the latch is set.
-    pub fn probe<R: Wait>(&self, rt: &R) -> bool {
-        self.core_latch.probe(rt)
-    }
-
-    /// Sets the latch, and wakes its owner where that sleeps. `sleep` is the one of the owner's pool.
-    pub fn set<R: Wait>(&self, rt: &R, sleep: &Sleep) {
-        if self.core_latch.set(rt) {
-            sleep.notify_worker_latch_is_set(rt, self.target_worker_index);
-        }
-    }
-}
 
 /// What a lock latch holds under its lock: contracts see whether it is set.
 #[derive(Drop)]

@@ -1,22 +1,47 @@
-//! The commands of `join_bench` on the original's pool of one thread: for each timed run the nanoseconds that it took
-//! and what it answered.
+//! The commands of `join_bench` on the original's pools: for each timed run the nanoseconds that it took and what it
+//! answered.
 
 use rayon_core::{join, ThreadPool, ThreadPoolBuilder};
 use std::error::Error;
 use std::hint::black_box;
-use std::time::Instant;
+use std::thread;
+use std::time::{Duration, Instant};
+
+/// The largest index that `leaves` finds by plain recursion.
+const LARGEST_LEAF: u8 = 18;
+
+/// How many times F(n) is found.
+const RUNS: u32 = 3;
+
+/// How many calls are made from outside, one after the other.
+const CALLS: u32 = 20_000;
+
+/// How many seconds a pool is idle.
+const SECONDS: u64 = 2;
 
 fn main() -> Result<(), Box<dyn Error>> {
     let words: Vec<String> = std::env::args().skip(1).collect();
     let words: Vec<&str> = words.iter().map(String::as_str).collect();
-    let pool = ThreadPoolBuilder::new().num_threads(1).build()?;
     match words[..] {
-        [] => print_values(&pool),
-        ["join", n, times] => time_joins(&pool, n.parse()?, times.parse()?),
-        ["sequential", n, times] => time_sequential(n.parse()?, times.parse()?),
-        ["install", times] => time_installs(&pool, times.parse()?),
-        _ => Err("join N TIMES, sequential N TIMES, install TIMES, or nothing".into()),
+        [] => print_values(&pool_of(1)?),
+        ["join", workers, n] => time_runs(&pool_of(workers.parse()?)?, n.parse()?, by_join),
+        ["leaves", workers, n] => time_runs(&pool_of(workers.parse()?)?, n.parse()?, by_leaves),
+        ["sequential", _, n] => time_sequential(n.parse()?),
+        ["install", workers, n] => {
+            let pool = pool_of(workers.parse()?)?;
+            time_calls(n.parse()?, |n| installed(&pool, n, by_join))
+        }
+        ["pool_join", workers, n] => {
+            let pool = pool_of(workers.parse()?)?;
+            time_calls(n.parse()?, |n| joined_twice(&pool, n))
+        }
+        ["idle", workers, n] => idle(&pool_of(workers.parse()?)?, n.parse()?),
+        _ => Err("join|leaves|sequential|install|pool_join|idle WORKERS N, or nothing".into()),
     }
+}
+
+fn pool_of(workers: usize) -> Result<ThreadPool, Box<dyn Error>> {
+    Ok(ThreadPoolBuilder::new().num_threads(workers).build()?)
 }
 
 fn print_values(pool: &ThreadPool) -> Result<(), Box<dyn Error>> {
@@ -24,35 +49,35 @@ fn print_values(pool: &ThreadPool) -> Result<(), Box<dyn Error>> {
     let (Some(first), Some(second)) = sides else {
         return Err("TooLarge".into());
     };
-    println!("F(20) installed: {}", installed(pool, 20)?);
+    println!("F(20) installed: {}", installed(pool, 20, by_join)?);
     println!("F(20) joined: {}", first + second);
     println!("F(20) sequential: {}", plain(20)?);
     Ok(())
 }
 
-fn time_joins(pool: &ThreadPool, n: u8, times: u32) -> Result<(), Box<dyn Error>> {
-    for _ in 0..times {
+fn time_runs(pool: &ThreadPool, n: u8, find: fn(u8) -> Option<u64>) -> Result<(), Box<dyn Error>> {
+    for _ in 0..RUNS {
         let start = Instant::now();
-        let value = installed(pool, n)?;
+        let value = installed(pool, n, find)?;
         let nanoseconds = start.elapsed().as_nanos();
         println!("{nanoseconds} {value}");
     }
     Ok(())
 }
 
-fn time_installs(pool: &ThreadPool, times: u32) -> Result<(), Box<dyn Error>> {
+fn time_calls(n: u8, call: impl Fn(u8) -> Result<u64, &'static str>) -> Result<(), Box<dyn Error>> {
     let start = Instant::now();
     let mut sum = 0;
-    for _ in 0..times {
-        sum += installed(pool, 1)?;
+    for _ in 0..CALLS {
+        sum += call(n)?;
     }
     let nanoseconds = start.elapsed().as_nanos();
     println!("{nanoseconds} {sum}");
     Ok(())
 }
 
-fn time_sequential(n: u8, times: u32) -> Result<(), Box<dyn Error>> {
-    for _ in 0..times {
+fn time_sequential(n: u8) -> Result<(), Box<dyn Error>> {
+    for _ in 0..RUNS {
         let start = Instant::now();
         let value = plain(black_box(n))?;
         let nanoseconds = start.elapsed().as_nanos();
@@ -61,8 +86,24 @@ fn time_sequential(n: u8, times: u32) -> Result<(), Box<dyn Error>> {
     Ok(())
 }
 
-fn installed(pool: &ThreadPool, n: u8) -> Result<u64, &'static str> {
-    pool.install(|| by_join(n)).ok_or("TooLarge")
+fn idle(pool: &ThreadPool, n: u8) -> Result<(), Box<dyn Error>> {
+    let start = Instant::now();
+    let value = installed(pool, n, by_join)?;
+    thread::sleep(Duration::from_secs(SECONDS));
+    let nanoseconds = start.elapsed().as_nanos();
+    println!("{nanoseconds} {value}");
+    Ok(())
+}
+
+fn installed(pool: &ThreadPool, n: u8, find: fn(u8) -> Option<u64>) -> Result<u64, &'static str> {
+    pool.install(|| find(n)).ok_or("TooLarge")
+}
+
+fn joined_twice(pool: &ThreadPool, n: u8) -> Result<u64, &'static str> {
+    match pool.join(|| by_join(n), || by_join(n)) {
+        (Some(first), Some(second)) => Ok(first + second),
+        _ => Err("TooLarge"),
+    }
 }
 
 fn plain(n: u8) -> Result<u64, &'static str> {
@@ -74,6 +115,14 @@ fn by_join(n: u8) -> Option<u64> {
         return Some(u64::from(n));
     }
     let (x, y) = join(|| by_join(n - 1), || by_join(n - 2));
+    x?.checked_add(y?)
+}
+
+fn by_leaves(n: u8) -> Option<u64> {
+    if n <= LARGEST_LEAF {
+        return sequential(n);
+    }
+    let (x, y) = join(|| by_leaves(n - 1), || by_leaves(n - 2));
     x?.checked_add(y?)
 }
 

@@ -1,27 +1,21 @@
-//! Times the calls of a pool of one worker, for `bench/run`. With no arguments it prints values alone.
+//! Times the calls of pools, for `bench/run`. With no arguments it prints values alone.
 #![tactic(auto)]
 
 mod command;
+mod leaves;
 mod measure;
 
 use crate::command::Command;
 use crate::measure::run;
 use anyhow::{Result, bail};
-use fibonacci::Fib;
-use rayon_core::{Ids, ThreadPoolBuilder};
 use std::env;
 
 fn main(rt: HostRuntime) -> Result<()> {
     let alloc = rt.alloc();
-    let words: Vec<String> = env::args(&rt)?.skip(1).collect(alloc)?;
-    let Some(command) = Command::parse(words.as_slice()) else {
-        bail!("join N TIMES, sequential N TIMES, install TIMES, or nothing");
+    let mut words = env::args(&rt)?;
+    let _ = words.next();
+    let Some(command) = Command::parse(words) else {
+        bail!("join|leaves|sequential|install|pool_join|idle WORKERS N, or nothing");
     };
-    let ids = Ids::new();
-    let pool = ThreadPoolBuilder::<Fib>::new()
-        .num_threads(1)
-        .build(&rt, alloc, &ids)?;
-    let outcome = run(&rt, alloc, &pool, command);
-    pool.end(&rt);
-    outcome
+    run(&rt, alloc, command)
 }

@@ -1,29 +1,98 @@
 //! The commands: what is timed, and what is printed.
-ghost use Rattle.std.specs.Prelude.{◌≡◌, ℕ, IfOk};
+ghost use Rattle.std.specs.Prelude.{◌≡◌, ℕ, ◌+◌, IfOk};
 ghost use Rattle.fibonacci.specs.Fib.{fib};
 
-use crate::command::Command;
+use crate::command::{Command, Timed};
+use crate::leaves::Leaves;
 use anyhow::{Context, Result};
 use fibonacci::{Fib, sequential};
-use rayon_core::{CallError, ThreadPool};
+use rayon_core::{CallError, Ids, ThreadPool, ThreadPoolBuilder};
 use std::alloc::Global;
 use std::rt::Runtime;
 use std::sync::Wait;
-use std::time::Instant;
+use std::thread;
+use std::thread::Threads;
+use std::time::{Duration, Instant};
 
-/// Does what the command asks for on this pool, and prints what it says: for each timed run the nanoseconds that it
-/// took and what it answered.
-pub fn run<R: Runtime + Wait>(
+// How many times F(n) is found.
+const RUNS: u32 = 3;
+
+// How many calls are made from outside, one after the other.
+const CALLS: u32 = 20_000;
+
+// How many seconds a pool is idle.
+const SECONDS: u64 = 2;
+
+/// Does what the command asks for, and prints what it says: for each timed run the nanoseconds that it took and what it
+/// answered.
+pub fn run<R: Runtime + Threads + Wait + Copy + Send + 'static>(
     rt: &R,
     alloc: Global,
-    pool: &ThreadPool<Fib>,
     command: Command,
 ) -> Result<()> {
     match command {
-        Command::Values => print_values(rt, alloc, pool),
-        Command::Join { n, times } => time_joins(rt, alloc, pool, n, times),
-        Command::Install { times } => time_installs(rt, alloc, pool, times),
-        Command::Sequential { n, times } => time_sequential(rt, n, times),
+        Command::Values => run_on_pool(rt, alloc, 1, None),
+        Command::Time {
+            what: Timed::Sequential,
+            n,
+            ..
+        } => time_sequential(rt, n),
+        Command::Time {
+            what: Timed::Leaves,
+            workers,
+            n,
+        } => run_leaves(rt, alloc, workers, n),
+        Command::Time { what, workers, n } => run_on_pool(rt, alloc, workers, Some((what, n))),
+    }
+}
+
+// Makes a pool of so many workers, times this on it or prints values, and ends it.
+fn run_on_pool<R: Runtime + Threads + Wait + Copy + Send + 'static>(
+    rt: &R,
+    alloc: Global,
+    workers: usize,
+    timed: Option<(Timed, u8)>,
+) -> Result<()> {
+    let ids = Ids::new();
+    let builder = ThreadPoolBuilder::<Fib>::new().num_threads(workers);
+    let pool = builder.build(rt, alloc, &ids)?;
+    let outcome = match timed {
+        None => print_values(rt, alloc, &pool),
+        Some((what, n)) => time(rt, alloc, &pool, what, n),
+    };
+    pool.end(rt);
+    outcome
+}
+
+// The same of jobs with leaves.
+fn run_leaves<R: Runtime + Threads + Wait + Copy + Send + 'static>(
+    rt: &R,
+    alloc: Global,
+    workers: usize,
+    n: u8,
+) -> Result<()> {
+    let ids = Ids::new();
+    let builder = ThreadPoolBuilder::<Leaves>::new().num_threads(workers);
+    let pool = builder.build(rt, alloc, &ids)?;
+    let outcome = time_leaves(rt, alloc, &pool, n);
+    pool.end(rt);
+    outcome
+}
+
+// Times this on the pool.
+fn time<R: Runtime + Wait>(
+    rt: &R,
+    alloc: Global,
+    pool: &ThreadPool<Fib>,
+    what: Timed,
+    n: u8,
+) -> Result<()> {
+    match what {
+        Timed::Join => time_joins(rt, alloc, pool, n),
+        Timed::Install => time_installs(rt, alloc, pool, n),
+        Timed::PoolJoin => time_pool_joins(rt, alloc, pool, n),
+        Timed::Idle => idle(rt, alloc, pool, n),
+        Timed::Leaves | Timed::Sequential => Ok(()),
     }
 }
 
@@ -41,9 +110,8 @@ fn time_joins<R: Runtime + Wait>(
     alloc: Global,
     pool: &ThreadPool<Fib>,
     n: u8,
-    times: u32,
 ) -> Result<()> {
-    for _ in 0..times {
+    for _ in 0..RUNS {
         let start = Instant::now(rt)?;
         let value = installed(rt, alloc, pool, n)?;
         let nanoseconds = start.elapsed(rt)?.as_nanos();
@@ -52,27 +120,70 @@ fn time_joins<R: Runtime + Wait>(
     Ok(())
 }
 
-// All installs in one go. The sum of the answers, each of which is 1, is the number of installs.
+// The same with leaves.
+fn time_leaves<R: Runtime + Wait>(
+    rt: &R,
+    alloc: Global,
+    pool: &ThreadPool<Leaves>,
+    n: u8,
+) -> Result<()> {
+    for _ in 0..RUNS {
+        let start = Instant::now(rt)?;
+        let value = with_leaves(rt, alloc, pool, n)?;
+        let nanoseconds = start.elapsed(rt)?.as_nanos();
+        println!(rt; "{nanoseconds} {value}")?;
+    }
+    Ok(())
+}
+
+// All installs in one go, and the sum of the answers.
 fn time_installs<R: Runtime + Wait>(
     rt: &R,
     alloc: Global,
     pool: &ThreadPool<Fib>,
-    times: u32,
+    n: u8,
 ) -> Result<()> {
     let start = Instant::now(rt)?;
     let mut sum: u64 = 0;
-    for _ in 0..times {
-        sum = sum.saturating_add(installed(rt, alloc, pool, 1)?);
+    for _ in 0..CALLS {
+        sum = sum.saturating_add(installed(rt, alloc, pool, n)?);
     }
     let nanoseconds = start.elapsed(rt)?.as_nanos();
     println!(rt; "{nanoseconds} {sum}")?;
     Ok(())
 }
 
+// All joins from outside in one go, and the sum of the answers.
+fn time_pool_joins<R: Runtime + Wait>(
+    rt: &R,
+    alloc: Global,
+    pool: &ThreadPool<Fib>,
+    n: u8,
+) -> Result<()> {
+    let start = Instant::now(rt)?;
+    let mut sum: u64 = 0;
+    for _ in 0..CALLS {
+        sum = sum.saturating_add(joined_twice(rt, alloc, pool, n)?);
+    }
+    let nanoseconds = start.elapsed(rt)?.as_nanos();
+    println!(rt; "{nanoseconds} {sum}")?;
+    Ok(())
+}
+
+// One install, and then nothing for some seconds.
+fn idle<R: Runtime + Wait>(rt: &R, alloc: Global, pool: &ThreadPool<Fib>, n: u8) -> Result<()> {
+    let start = Instant::now(rt)?;
+    let value = installed(rt, alloc, pool, n)?;
+    thread::sleep(rt, Duration::from_secs(SECONDS));
+    let nanoseconds = start.elapsed(rt)?.as_nanos();
+    println!(rt; "{nanoseconds} {value}")?;
+    Ok(())
+}
+
 // Each answer decides which number is next, and it is the same one: so no run can be left out.
-fn time_sequential<R: Runtime>(rt: &R, n: u8, times: u32) -> Result<()> {
+fn time_sequential<R: Runtime>(rt: &R, n: u8) -> Result<()> {
     let mut next = n;
-    for _ in 0..times {
+    for _ in 0..RUNS {
         let start = Instant::now(rt)?;
         let value = plain(next)?;
         let nanoseconds = start.elapsed(rt)?.as_nanos();
@@ -94,6 +205,16 @@ fn installed<R: Wait>(rt: &R, alloc: Global, pool: &ThreadPool<Fib>, n: u8) -> R
     Ok(value)
 }
 
+// The same by a job with leaves.
+fn with_leaves<R: Wait>(rt: &R, alloc: Global, pool: &ThreadPool<Leaves>, n: u8) -> Result<u64>
+    ensures { IfOk result (λ v. v ≡ fib n) }
+{
+    let value = pool
+        .install(rt, alloc, Leaves(n))
+        .map_err(CallError::without_sides)?;
+    Ok(value)
+}
+
 // F(n) by a join of two sides from outside the pool.
 #[tactic(auto, using(fibonacci::proofs::Fibs::fib_small, fibonacci::proofs::Fibs::fib_sum))]
 fn joined<R: Wait>(rt: &R, alloc: Global, pool: &ThreadPool<Fib>, n: u8) -> Result<u64>
@@ -104,6 +225,16 @@ fn joined<R: Wait>(rt: &R, alloc: Global, pool: &ThreadPool<Fib>, n: u8) -> Resu
     }
     let (x, y) = pool
         .join(rt, alloc, Fib(n - 1), Fib(n - 2))
+        .map_err(CallError::without_sides)?;
+    x.checked_add(y).context("TooLarge")
+}
+
+// Twice F(n), by a join of two like sides from outside the pool.
+fn joined_twice<R: Wait>(rt: &R, alloc: Global, pool: &ThreadPool<Fib>, n: u8) -> Result<u64>
+    ensures { IfOk result (λ v. v ≡ fib n + fib n) }
+{
+    let (x, y) = pool
+        .join(rt, alloc, Fib(n), Fib(n))
         .map_err(CallError::without_sides)?;
     x.checked_add(y).context("TooLarge")
 }

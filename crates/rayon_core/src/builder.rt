@@ -77,10 +77,9 @@ impl<J: JobKind> ThreadPoolBuilder<J> {
     /// Sets how many runs may stand nested under one worker's own value; 0 counts as 1. What is not set is bounded by
     /// the stack of the worker's thread alone, and a call that is nested deeper than it allows ends the process. That
     /// stack is as large as the system's limit says, mostly 8 MiB (`ulimit -s`; 2 MiB where there is no limit). A level
-    /// costs at least 112 bytes of it by `install` and 240 by `join_jobs`, about 1,100 where a worker that waits takes
-    /// the job from a queue, and on top of that what the job's own `run` needs. A limit of 4,000 leaves 2 KiB for a
-    /// level of 8 MiB (1,000 do so of 2 MiB): safe for jobs whose `run` needs less than 900 bytes for its own
-    /// variables.
+    /// costs about 1,500 bytes of it by `join_jobs`, about 2,600 where a worker that waits takes the job from a queue,
+    /// and on top of that what the job's own `run` needs. A limit of 2,000 leaves 4 KiB for a level of 8 MiB (500 do so
+    /// of 2 MiB): safe for jobs whose `run` needs less than 1,400 bytes for its own variables.
     pub fn depth_limit(self, depth_limit: usize) -> ThreadPoolBuilder<J>
         ensures { result ≡ record self { depth_limit = depth_limit } }
     {

@@ -56,7 +56,8 @@ fn draw(world: &World, numbers: &mut Numbers) -> (Event, usize) {
     match numbers.below(40) {
         0..=8 if free => (Event::End { party, fault: false }, 1),
         9..=10 if free => (Event::End { party, fault: true }, 1),
-        11..=16 if free => (Event::Spawn { party, pool }, 1),
+        11..=13 if free => (Event::Spawn { party, pool }, 1),
+        14..=16 if free => (Event::Fifo { party, pool }, 1),
         17..=21 if free => (Event::Install { party, pool }, 1),
         22..=27 if free => (Event::Join(party), 1),
         28..=31 if free => (Event::Yield { party, local: false }, 1),
@@ -84,6 +85,7 @@ fn words(world: &World, event: Event, times: usize) -> String {
         Event::End { party, fault: false } => format!("{} ok", name(party)),
         Event::End { party, fault: true } => format!("{} fault", name(party)),
         Event::Spawn { party, pool } => format!("{} spawn {pool}", name(party)),
+        Event::Fifo { party, pool } => format!("{} fifo {pool}", name(party)),
         Event::Install { party, pool } => format!("{} install {pool}", name(party)),
         Event::Join(party) => format!("{} join", name(party)),
         Event::Yield { party, local: false } => format!("{} yield", name(party)),

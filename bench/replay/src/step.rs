@@ -18,6 +18,7 @@ pub enum Event {
     Act { party: usize, how: How },
     End { party: usize, fault: bool },
     Spawn { party: usize, pool: usize },
+    Fifo { party: usize, pool: usize },
     Install { party: usize, pool: usize },
     Join(usize),
     Yield { party: usize, local: bool },
@@ -33,6 +34,10 @@ impl World {
             Event::Act { party, how } => self.act(party, how),
             Event::End { party, fault } => self.end_run(party, fault),
             Event::Spawn { party, pool } => self.call(party, pool, CallKind::Spawn),
+            Event::Fifo { party, pool } if self.own_pool(party) == Some(pool as u8) => {
+                self.call(party, pool, CallKind::Fifo)
+            }
+            Event::Fifo { party, pool } => self.call(party, pool, CallKind::Spawn),
             Event::Install { party, pool } if self.own_pool(party) == Some(pool as u8) => {
                 self.call(party, pool, CallKind::Here)
             }
@@ -151,13 +156,13 @@ impl World {
     /// The frame stays below a taken task.
     fn begin_over(&mut self, party: usize, below: Frame, task: Task) {
         self.set_top(party, below);
-        self.push(party, Frame::Begin(run_of(task)));
+        self.push(party, begin_of(task));
     }
 
     /// The call has queued its job and woken others.
     fn after_news(&mut self, party: usize, call: Call) {
         match call.kind {
-            CallKind::Spawn => self.done(party),
+            CallKind::Spawn | CallKind::Fifo => self.done(party),
             CallKind::Join => {
                 self.go_on(party, call, CallStep::Above);
                 self.totals.running += 1;
@@ -185,6 +190,7 @@ impl World {
                 self.set_top(party, Frame::Run(run));
                 true
             }
+            Frame::Redeem(worker) => self.redeem(party, worker),
             Frame::Wake { .. } | Frame::Settle { .. } => self.wake_act(party, frame),
             Frame::Lower(_) | Frame::Store { .. } | Frame::SetLock(_) => self.end_act(party, frame),
             Frame::SetCall { .. } | Frame::SetTerminate { .. } => self.set_act(party, frame),
@@ -206,7 +212,10 @@ impl World {
                 picks && own.is_some_and(|pool| victim < pool.shape.workers)
             }
             How::Refuse => match frame {
-                Frame::Call(call) => matches!(call.step, CallStep::Grow | CallStep::Push),
+                Frame::Call(call) => matches!(
+                    call.step,
+                    CallStep::Grow | CallStep::Push | CallStep::Add | CallStep::PushToken
+                ),
                 _ => false,
             },
             How::Miss => {
@@ -355,6 +364,9 @@ impl World {
 
     fn call_act(&mut self, party: usize, call: Call, how: How) -> bool {
         match call.step {
+            CallStep::Add | CallStep::LookForToken | CallStep::PushToken | CallStep::TakeBack => {
+                return self.fifo_act(party, call, how);
+            }
             CallStep::Raise => self.raise(party, call),
             CallStep::Grow if how == How::Refuse => self.set_top(party, Frame::Lower(call.pool)),
             CallStep::Grow => {
@@ -381,6 +393,70 @@ impl World {
             CallStep::News => self.news(party, call),
             _ => return self.later_act(party, call),
         }
+        true
+    }
+
+    /// Whether no other party holds the FIFO list of this worker.
+    fn is_open(&self, party: usize, seat: usize) -> bool {
+        self.seats[seat].feeder.is_none_or(|holder| holder == party)
+    }
+
+    /// An act of a call that spawns in order.
+    fn fifo_act(&mut self, party: usize, call: Call, how: How) -> bool {
+        let Some((_, index)) = self.parties[party].worker else {
+            return false;
+        };
+        match call.step {
+            CallStep::Add if how == How::Refuse => self.set_top(party, Frame::Lower(call.pool)),
+            CallStep::Add => {
+                if !self.is_open(party, party) {
+                    return false;
+                }
+                self.seats[party].fifo += 1;
+                self.seats[party].feeder = Some(party);
+                self.totals.queued += 1;
+                self.go_on(party, call, CallStep::LookForToken);
+            }
+            CallStep::LookForToken => {
+                let was_empty = self.seats[party].deque.is_empty();
+                self.go_on(party, Call { was_empty, ..call }, CallStep::PushToken);
+            }
+            CallStep::PushToken if how == How::Refuse => self.go_on(party, call, CallStep::TakeBack),
+            CallStep::PushToken => {
+                self.seats[party].deque.push_back(Task::Token(index));
+                self.seats[party].feeder = None;
+                self.go_on(party, call, CallStep::News);
+            }
+            _ => {
+                if !self.is_open(party, party) {
+                    return false;
+                }
+                self.seats[party].fifo -= 1;
+                self.seats[party].feeder = None;
+                self.totals.queued -= 1;
+                self.set_top(party, Frame::Lower(call.pool));
+            }
+        }
+        true
+    }
+
+    /// A token is redeemed: the first job of the FIFO list begins.
+    fn redeem(&mut self, party: usize, worker: u8) -> bool {
+        let Some(pool) = self.own_pool(party) else {
+            return false;
+        };
+        let seat = self.seat_of(pool, worker);
+        if !self.is_open(party, seat) {
+            return false;
+        }
+        if self.seats[seat].fifo == 0 {
+            self.done(party);
+            return true;
+        }
+        self.seats[seat].fifo -= 1;
+        self.totals.queued -= 1;
+        self.totals.running += 1;
+        self.set_top(party, Frame::Run(Run::Detached(pool)));
         true
     }
 
@@ -417,6 +493,7 @@ impl World {
         *count += 1;
         match call.kind {
             CallKind::Spawn => self.go_on(party, call, CallStep::Look),
+            CallKind::Fifo => self.go_on(party, call, CallStep::Add),
             CallKind::Here => {
                 self.go_on(party, call, CallStep::Second);
                 self.push(party, Frame::Begin(Run::Direct));
@@ -463,7 +540,7 @@ impl World {
     }
 
     fn taken(&mut self, task: Found) -> Found {
-        if task.is_some() {
+        if task.is_some_and(|task| !matches!(task, Task::Token(_))) {
             self.totals.queued -= 1;
             self.totals.running += 1;
         }
@@ -538,7 +615,7 @@ impl World {
             Look::Injected => (self.pop_injected(pool), None),
         };
         match (task, next) {
-            (Some(task), _) => self.set_top(party, Frame::Begin(run_of(task))),
+            (Some(task), _) => self.set_top(party, begin_of(task)),
             (None, Some(frame)) => self.set_top(party, frame),
             (None, None) => self.done(party),
         }
@@ -745,10 +822,12 @@ impl World {
     }
 }
 
-fn run_of(task: Task) -> Run {
+/// What was taken is begun.
+fn begin_of(task: Task) -> Frame {
     match task {
-        Task::Detached(pool) => Run::Detached(pool),
-        Task::Answer(call) => Run::Answer(call),
+        Task::Detached(pool) => Frame::Begin(Run::Detached(pool)),
+        Task::Answer(call) => Frame::Begin(Run::Answer(call)),
+        Task::Token(worker) => Frame::Redeem(worker),
     }
 }
 

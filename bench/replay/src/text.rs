@@ -77,6 +77,7 @@ fn event(world: &World, line: &str) -> Option<(Event, u64)> {
         ("ok", None) => Event::End { party, fault: false },
         ("fault", None) => Event::End { party, fault: true },
         ("spawn", Some(pool)) => Event::Spawn { party, pool: index(pool)? },
+        ("fifo", Some(pool)) => Event::Fifo { party, pool: index(pool)? },
         ("install", Some(pool)) => Event::Install { party, pool: index(pool)? },
         ("join", None) => Event::Join(party),
         ("yield", None) => Event::Yield { party, local: false },

@@ -14,11 +14,12 @@ pub struct Shape {
     pub callers_own: bool,
 }
 
-/// A queued job: detached at a pool, or the one that an open call waits for.
+/// A queued job: detached at a pool, or the one that an open call waits for; or a token for the FIFO list of a worker.
 #[derive(Clone, Copy, PartialEq, Eq)]
 pub enum Task {
     Detached(u8),
     Answer(u32),
+    Token(u8),
 }
 
 /// What the end of a run sets going.
@@ -111,6 +112,11 @@ pub enum CallStep {
     Grow,
     Look,
     Push,
+    /// A job is added to the own FIFO list, a token of it is pushed; or the job is taken back.
+    Add,
+    LookForToken,
+    PushToken,
+    TakeBack,
     News,
     /// Others are being woken.
     Woken,
@@ -127,6 +133,8 @@ pub enum CallStep {
 #[derive(Clone, Copy, PartialEq, Eq)]
 pub enum CallKind {
     Spawn,
+    /// A spawn in order, by a worker of the pool.
+    Fifo,
     Here,
     Send,
     Join,
@@ -155,6 +163,8 @@ pub enum Frame {
     Wait(Wait),
     Stopped,
     Begin(Run),
+    /// A token for the FIFO list of this worker of the own pool is redeemed.
+    Redeem(u8),
     Run(Run),
     Call(Call),
     Yield { look: Look, local: bool, victim: u8, left: u8 },
@@ -185,6 +195,9 @@ pub struct Pool {
 #[derive(Clone)]
 pub struct Seat {
     pub deque: VecDeque<Task>,
+    /// The jobs in the FIFO list, all detached at the worker's pool, and the party that holds the list.
+    pub fifo: u64,
+    pub feeder: Option<usize>,
     pub blocked: bool,
     pub locked: bool,
     pub terminate: Letter,
@@ -266,6 +279,8 @@ impl World {
             self.parties.push(Party { worker: Some((number, index as u8)), stack });
             self.seats.push(Seat {
                 deque: VecDeque::new(),
+                fifo: 0,
+                feeder: None,
                 blocked: false,
                 locked: false,
                 terminate: Letter::Unset,

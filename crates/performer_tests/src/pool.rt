@@ -5,7 +5,7 @@ ghost use Rattle.std.specs.Prelude.{◌≡◌, Some};
 
 use crate::errand::Errand;
 use rayon_jobs::{Done, JobKind};
-use rayon_machine_places::place::{Move, OpenCall, Place, Target};
+use rayon_machine_places::place::{Move, OpenCall, Place, Taken, Target};
 use rayon_performers::{Bench, Guest, PoolHold, Registry};
 use rayon_queues::WorkerDeque;
 use rayon_tasks::{Task, Work, task_parts};
@@ -75,13 +75,13 @@ pub(crate) fn begun(bench: &mut Bench<Errand>, found: Move) -> Option<Task<Erran
     requires { Stands bench.old found }
 {
     let Move::Enter {
-        place: Place::BeginTask(name),
+        place: Place::BeginTask(task),
         ..
     } = found
     else {
         return None;
     };
-    bench.begin_task(name);
+    bench.begin_task(task);
     bench.take_task()
 }
 

@@ -2,7 +2,7 @@
 use rayon_drive::drive::{Perform, drive};
 use rayon_drive::trace::Trace;
 use rayon_machine_places::act::{Act, Seen};
-use rayon_machine_places::place::{Move, Party, Place, Target};
+use rayon_machine_places::place::{Move, Party, Place, Taken, Target};
 use rayon_machine_places::shape::{Order, PoolShape};
 use std::sync::Wait;
 use std::test::Fail;
@@ -97,14 +97,14 @@ fn a_worker_with_a_set_latch_stops(rt: HostRuntime) -> Result<(), Fail> {
 #[test]
 fn a_popped_task_begins(rt: HostRuntime) -> Result<(), Fail> {
     let alloc = rt.alloc();
-    let sees = vec![in alloc; Seen::Task(7), Seen::No]?;
+    let sees = vec![in alloc; Seen::Task(Taken::Plain(7)), Seen::No]?;
     let (to, made) = driven(&rt, sees, Vec::new(alloc));
     assert!(rt;
         matches!(
             to,
             Move::Enter {
                 frame: Place::ProbeWorking(_),
-                place: Place::BeginTask(7)
+                place: Place::BeginTask(Taken::Plain(7))
             }
         )
     );

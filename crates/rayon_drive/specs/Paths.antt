@@ -2,7 +2,7 @@
 use Rattle.std.specs.Prelude.{◌≡◌, Bool, true, false, not, List, [], ◌∷◌}
 use Rattle.rayon_machine_places.specs.declared.place.Party.{Party}
 use Rattle.rayon_machine_places.specs.declared.place.Move.{Move}
-use Rattle.rayon_machine_places.specs.declared.place.Move.TheVariants.{Stay, Enter, StartRun, Back, HandBack}
+use Rattle.rayon_machine_places.specs.declared.place.Move.TheVariants.{Stay, Enter, StartRun, Back, HandBack, HandIn, Discard}
 use Rattle.rayon_machine_places.specs.declared.shape.PoolShape.{PoolShape}
 use Rattle.rayon_machine_places.specs.declared.act.Act.{Act}
 use Rattle.rayon_machine_places.specs.declared.act.Act.TheVariants.{Idle}
@@ -18,6 +18,8 @@ goes (Enter f p) = false
 goes (StartRun f t) = false
 goes Back = false
 goes (HandBack n) = false
+goes (HandIn p k) = false
+goes (Discard k) = false
 
 -- the act there, and where the table leads from what it saw
 abbrev pub act_at : Party → Move → Act
@@ -26,6 +28,8 @@ act_at q (Enter f p) = Idle
 act_at q (StartRun f t) = Idle
 act_at q Back = Idle
 act_at q (HandBack n) = Idle
+act_at q (HandIn p k) = Idle
+act_at q (Discard k) = Idle
 
 abbrev pub onward : PoolShape → Party → Move → Seen → Move
 onward h q (Stay p) x = next_of h q p x
@@ -33,6 +37,8 @@ onward h q (Enter f p) x = Enter f p
 onward h q (StartRun f t) x = StartRun f t
 onward h q Back x = Back
 onward h q (HandBack n) x = HandBack n
+onward h q (HandIn p k) x = HandIn p k
+onward h q (Discard k) x = Discard k
 
 -- each act is the one of its place, and what was seen leads on
 abbrev pub IsPath : PoolShape → Party → Move → List (Act × Seen) → Move → Type 0

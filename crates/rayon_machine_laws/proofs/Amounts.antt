@@ -10,20 +10,22 @@ use Rattle.rayon_machine_places.specs.declared.place.Latch.TheVariants.{Terminat
 use Rattle.rayon_machine_places.specs.declared.place.Rounds.{Rounds}
 use Rattle.rayon_machine_places.specs.declared.place.Rounds.TheVariants.{Failed, Announced}
 use Rattle.rayon_machine_places.specs.declared.place.Plan.{Plan}
-use Rattle.rayon_machine_places.specs.declared.place.Plan.TheVariants.{Detach, Here, Send, Fork}
+use Rattle.rayon_machine_places.specs.declared.place.Plan.TheVariants.{Detach, Here, Send, Fork, Feed}
 use Rattle.rayon_machine_places.specs.declared.place.Then.{Then}
 use Rattle.rayon_machine_places.specs.declared.place.Then.TheVariants.{BeginFound, LeaveWait, Resume, Await, RunFirst, Answers, Missing, Ran, GiveBack}
+use Rattle.rayon_machine_places.specs.declared.place.Taken.{Taken}
+use Rattle.rayon_machine_places.specs.declared.place.Taken.TheVariants.{Plain, Token}
 use Rattle.rayon_machine_places.specs.declared.place.Place.{Place}
-use Rattle.rayon_machine_places.specs.declared.place.Place.TheVariants.{ProbeWorking, PopWorking, TakeCastWorking, ProbeIdle, PopIdle, TakeCastIdle, PickVictim, StealFrom, PopInjected, AnnounceSelf, GetSleepy, FallAsleep, LoadCounters, AddSleeping, LookAtCast, LookAtInjector, WakeUp, LeaveSearch, JoinProbe, JoinPop, JoinTakeCast, YieldPop, YieldTakeCast, YieldPick, YieldSteal, YieldPopInjected, LocalPop, LocalTakeCast, BeginTask, BeginHere, RaiseCount, GrowCall, LookQueue, PushJob, TellNews, LockToWake, WakeWorker, UnlockWoken, TakeResult, LowerCount, StoreResult, SetLatch, UnlockSettled, SecondSide}
+use Rattle.rayon_machine_places.specs.declared.place.Place.TheVariants.{ProbeWorking, PopWorking, TakeCastWorking, ProbeIdle, PopIdle, TakeCastIdle, PickVictim, StealFrom, PopInjected, AnnounceSelf, GetSleepy, FallAsleep, LoadCounters, AddSleeping, LookAtCast, LookAtInjector, WakeUp, LeaveSearch, JoinProbe, JoinPop, JoinTakeCast, YieldPop, YieldTakeCast, YieldPick, YieldSteal, YieldPopInjected, LocalPop, LocalTakeCast, BeginTask, BeginHere, RaiseCount, GrowCall, LookQueue, PushJob, TellNews, LockToWake, WakeWorker, UnlockWoken, TakeResult, LowerCount, StoreResult, SetLatch, UnlockSettled, SecondSide, AddToFifo, LookForToken, PushToken, TakeFromFifo}
 use Rattle.rayon_machine_places.specs.declared.place.Move.{Move}
-use Rattle.rayon_machine_places.specs.declared.place.Move.TheVariants.{Stay, Enter, StartRun, Back, HandBack}
+use Rattle.rayon_machine_places.specs.declared.place.Move.TheVariants.{Stay, Enter, StartRun, Back, HandBack, Discard, HandIn}
 use Rattle.rayon_machine_places.specs.declared.act.Seen.{Seen}
-use Rattle.rayon_machine_places.specs.declared.act.Seen.TheVariants.{Done, Yes, Task, Jec, Word, Start, Wakes, Begun, Found}
+use Rattle.rayon_machine_places.specs.declared.act.Seen.TheVariants.{Done, Yes, Task, Jec, Word, Start, Wakes, Begun, Found, Handed}
 use Rattle.rayon_machine_places.specs.declared.shape.PoolShape.{PoolShape}
 use Rattle.rayon_machine_places.specs.declared.place.OpenCall.{OpenCall}
 use Rattle.rayon_machine_places.specs.declared.place.Wait.{Wait}
 use Rattle.rayon_machine_places.specs.declared.place.Settling.{Settling}
-use Rattle.rayon_machine_places.specs.Places.{own_pool, own_index, plan_pool, plan_job, after_wait, finish, walk, settle, after_set, after_found, after_news, after_raise, undo, set_call, next_victim, not_self, after_failure, next_steal, next_yield, next_of}
+use Rattle.rayon_machine_places.specs.Places.{own_pool, own_index, plan_pool, plan_job, after_wait, finish, walk, settle, after_set, after_found, after_news, after_raise, undo, set_call, next_victim, not_self, after_failure, next_steal, next_yield, next_of, is_taken, taken_number}
 use Rattle.rayon_machine_places.specs.World.{Stack}
 use Rattle.rayon_machine_places.specs.Steps.{after_move}
 use Rattle.rayon_machine_laws.specs.Once.{one}
@@ -44,24 +46,30 @@ all_raises t k = raises t k.top + raises_in t k.below
 
 abbrev pub share_move : ℕ → Move → ℕ
 share_move t (Stay y) = share t y
+share_move t (HandIn y token) = share t y
 share_move t (Enter f y) = share t y + share t f
 share_move t (StartRun f a) = share t f
 share_move t Back = 0
 share_move t (HandBack n) = 0
+share_move t (Discard n) = 0
 
 abbrev pub raises_move : ℕ → Move → ℕ
 raises_move t (Stay y) = raises t y
+raises_move t (HandIn y token) = raises t y
 raises_move t (Enter f y) = raises t y + raises t f
 raises_move t (StartRun f a) = raises t f
 raises_move t Back = 0
 raises_move t (HandBack n) = 0
+raises_move t (Discard n) = 0
 
 abbrev pub values_move : ℕ → Move → ℕ
 values_move p (Stay y) = values p y
+values_move p (HandIn y token) = values p y
 values_move p (Enter f y) = values p y + values p f
 values_move p (StartRun f a) = values p f
 values_move p Back = 0
 values_move p (HandBack n) = 0
+values_move p (Discard n) = 0
 
 abbrev pub begins_move : ℕ → ℕ → Move → ℕ
 begins_move t p g = raises_move t g + values_move p g
@@ -76,7 +84,14 @@ gained t _ _ = 0
 abbrev pub pushed : ℕ → Place → Seen → ℕ
 pushed t (PushJob (Detach r j) v) Done = one (t == j)
 pushed t (PushJob (Here r j) v) Done = one (t == j)
+pushed t (PushJob (Feed f) v) Done = one (t == f.job)
+pushed t (AddToFifo f) Done = one (t == f.job)
 pushed t _ _ = 0
+
+-- the share that comes back to a call with the job that it takes back out of a FIFO list
+abbrev pub regained : ℕ → Place → Seen → ℕ
+regained t (TakeFromFifo f) (Task x) = one (t == taken_number x)
+regained t _ _ = 0
 
 -- the share that is given back
 abbrev pub paid : ℕ → Place → ℕ
@@ -152,21 +167,23 @@ am_raised t p (Detach r u) = (omega arith, refl)
 am_raised t p (Here r u) = (omega arith, refl)
 am_raised t p (Send o) = (omega arith, refl)
 am_raised t p (Fork o a) = (omega arith, refl)
+am_raised t p (Feed f) = (omega arith, refl)
 
 am_goes : (t : ℕ) (n : Plan) → share_then t (after_news n) ≡ share_rest t n
 am_goes t (Detach r u) = omega arith
 am_goes t (Here r u) = omega arith
 am_goes t (Send o) = omega arith
 am_goes t (Fork o a) = omega arith
+am_goes t (Feed f) = omega arith
 
-am_after : (t : ℕ) (g : Target) (o : Option ℕ) → share_then t (after_found g o) ≡ share_target t g
+am_after : (t : ℕ) (g : Target) (o : Option Taken) → share_then t (after_found g o) ≡ share_target t g
 am_after t g None = omega arith
 am_after t g (Some u) = omega arith
 
-am_pop : (t p : ℕ) (o : OpenCall) (u : ℕ) → Amount t p (if u == o.job then Enter (SecondSide o) (BeginHere u) else Enter (JoinProbe o) (BeginTask u)) (one (t == o.job))
-am_pop t p o u = by (u == o.job)
+am_pop : (t p : ℕ) (o : OpenCall) (u : Taken) → Amount t p (if is_taken u o.job then Enter (SecondSide o) (BeginHere o.job) else Enter (JoinProbe o) (BeginTask u)) (one (t == o.job))
+am_pop t p o u = by (is_taken u o.job)
   where
-    by : (z : Bool) → Amount t p (if z then Enter (SecondSide o) (BeginHere u) else Enter (JoinProbe o) (BeginTask u)) (one (t == o.job))
+    by : (z : Bool) → Amount t p (if z then Enter (SecondSide o) (BeginHere o.job) else Enter (JoinProbe o) (BeginTask u)) (one (t == o.job))
     by true = (omega arith, refl)
     by false = (omega arith, refl)
 
@@ -179,6 +196,7 @@ am_push t (Detach r u) v = omega arith
 am_push t (Here r u) v = omega arith
 am_push t (Send o) v = omega arith
 am_push t (Fork o a) v = omega arith
+am_push t (Feed f) v = omega arith
 
 abbrev pub is_done_seen : Seen → Bool
 is_done_seen Done = true
@@ -192,14 +210,16 @@ not_pushed t (Detach r u) v Done z = cc
 not_pushed t (Here r u) v Done z = cc
 not_pushed t (Send o) v Done z = cc
 not_pushed t (Fork o a) v Done z = cc
+not_pushed t (Feed f) v Done z = cc
 not_pushed t (Detach r u) v _ z = refl
 not_pushed t (Here r u) v _ z = refl
 not_pushed t (Send o) v _ z = refl
 not_pushed t (Fork o a) v _ z = refl
+not_pushed t (Feed f) v _ z = refl
 
 -- over the whole table: what a stack keeps after a move is what it kept, with what was raised, less what went with a
 -- job or was given back
-pub amounts : (g : PoolShape) (q : Party) (t p : ℕ) (x : Place) (e : Seen) → (share_move t (next_of g q x e) + (pushed t x e + paid t x) ≡ share t x + gained t x e) × (begins_move t p (next_of g q x e) ≡ 0)
+pub amounts : (g : PoolShape) (q : Party) (t p : ℕ) (x : Place) (e : Seen) → (share_move t (next_of g q x e) + (pushed t x e + paid t x) ≡ share t x + (gained t x e + regained t x e)) × (begins_move t p (next_of g q x e) ≡ 0)
 amounts g q t p (ProbeWorking k) Yes = (let a : Amount t p (Stay (after_wait k.target)) (share_target t k.target) = am_left t p k.target in let b : share_move t (Stay (after_wait k.target)) ≡ share_target t k.target = a.0 in omega (arith, b), (let a : Amount t p (Stay (after_wait k.target)) (share_target t k.target) = am_left t p k.target in a.1))
 amounts g q t p (ProbeWorking k) _ = (omega arith, refl)
 amounts g q t p (PopWorking k) (Task u) = (omega arith, refl)
@@ -236,7 +256,7 @@ amounts g q t p (LeaveSearch k) (Wakes n) = (let a : Amount t p (walk g q (own_p
 amounts g q t p (LeaveSearch k) _ = (omega arith, refl)
 amounts g q t p (JoinProbe o) Yes = (omega arith, refl)
 amounts g q t p (JoinProbe o) _ = (omega arith, refl)
-amounts g q t p (JoinPop o) (Task u) = (let a : Amount t p (if u == o.job then Enter (SecondSide o) (BeginHere u) else Enter (JoinProbe o) (BeginTask u)) (one (t == o.job)) = am_pop t p o u in let b : share_move t (if u == o.job then Enter (SecondSide o) (BeginHere u) else Enter (JoinProbe o) (BeginTask u)) ≡ one (t == o.job) = a.0 in omega (arith, b), (let a : Amount t p (if u == o.job then Enter (SecondSide o) (BeginHere u) else Enter (JoinProbe o) (BeginTask u)) (one (t == o.job)) = am_pop t p o u in a.1))
+amounts g q t p (JoinPop o) (Task u) = (let a : Amount t p (if is_taken u o.job then Enter (SecondSide o) (BeginHere o.job) else Enter (JoinProbe o) (BeginTask u)) (one (t == o.job)) = am_pop t p o u in let b : share_move t (if is_taken u o.job then Enter (SecondSide o) (BeginHere o.job) else Enter (JoinProbe o) (BeginTask u)) ≡ one (t == o.job) = a.0 in omega (arith, b), (let a : Amount t p (if is_taken u o.job then Enter (SecondSide o) (BeginHere o.job) else Enter (JoinProbe o) (BeginTask u)) (one (t == o.job)) = am_pop t p o u in a.1))
 amounts g q t p (JoinPop o) _ = (omega arith, refl)
 amounts g q t p (JoinTakeCast o) (Task u) = (omega arith, refl)
 amounts g q t p (JoinTakeCast o) _ = (omega arith, refl)
@@ -254,8 +274,18 @@ amounts g q t p YieldPick (Start v) = (omega arith, refl)
 amounts g q t p YieldPick _ = (omega arith, refl)
 amounts g q t p (YieldSteal v n) (Task u) = (omega arith, refl)
 amounts g q t p (YieldSteal v n) _ = (let a : Amount t p (Stay (next_yield g q v n)) (0) = am_yield t p g q v n in let b : share_move t (Stay (next_yield g q v n)) ≡ 0 = a.0 in omega (arith, b), (let a : Amount t p (Stay (next_yield g q v n)) (0) = am_yield t p g q v n in a.1))
-amounts g q t p (BeginTask u) (Begun d) = (omega arith, refl)
-amounts g q t p (BeginTask u) _ = (omega arith, refl)
+amounts g q t p (BeginTask (Plain u)) (Begun d) = (omega arith, refl)
+amounts g q t p (BeginTask (Plain u)) _ = (omega arith, refl)
+amounts g q t p (BeginTask (Token k i)) (Handed u d) = (omega arith, refl)
+amounts g q t p (BeginTask (Token k i)) _ = (omega arith, refl)
+amounts g q t p (AddToFifo f) Done = (omega arith, refl)
+amounts g q t p (AddToFifo f) _ = (omega arith, refl)
+amounts g q t p (LookForToken f) Yes = (omega arith, refl)
+amounts g q t p (LookForToken f) _ = (omega arith, refl)
+amounts g q t p (PushToken f v) Done = (omega arith, refl)
+amounts g q t p (PushToken f v) _ = (omega arith, refl)
+amounts g q t p (TakeFromFifo f) (Task x) = (omega arith, refl)
+amounts g q t p (TakeFromFifo f) _ = (omega arith, refl)
 amounts g q t p (RaiseCount n) Done = (let a : Amount t p (after_raise n) (one (t == plan_job n)) = am_raised t p n in let b : share_move t (after_raise n) ≡ one (t == plan_job n) = a.0 in omega (arith, b), (let a : Amount t p (after_raise n) (one (t == plan_job n)) = am_raised t p n in a.1))
 amounts g q t p (RaiseCount n) _ = (omega arith, refl)
 amounts g q t p (GrowCall n) Done = (omega arith, refl)
@@ -282,27 +312,36 @@ amounts g q t p _ e = (omega arith, refl)
 -- a move keeps what its places and the frames below them do
 pub land_shares : (t : ℕ) (g : Move) (fs : List Place) → shares t (after_move g fs) ≡ share_move t g + shares_in t fs
 land_shares t (Stay y) fs = omega arith
+land_shares t (HandIn y token) fs = omega arith
 land_shares t (Enter f y) fs = omega arith
 land_shares t (StartRun f a) fs = omega arith
 land_shares t Back [] = omega arith
 land_shares t Back (f ∷ fs) = omega arith
 land_shares t (HandBack n) [] = omega arith
+land_shares t (Discard n) [] = omega arith
 land_shares t (HandBack n) (f ∷ fs) = omega arith
+land_shares t (Discard n) (f ∷ fs) = omega arith
 
 pub land_raises : (t : ℕ) (g : Move) (fs : List Place) → all_raises t (after_move g fs) ≡ raises_move t g + raises_in t fs
 land_raises t (Stay y) fs = omega arith
+land_raises t (HandIn y token) fs = omega arith
 land_raises t (Enter f y) fs = omega arith
 land_raises t (StartRun f a) fs = omega arith
 land_raises t Back [] = omega arith
 land_raises t Back (f ∷ fs) = omega arith
 land_raises t (HandBack n) [] = omega arith
+land_raises t (Discard n) [] = omega arith
 land_raises t (HandBack n) (f ∷ fs) = omega arith
+land_raises t (Discard n) (f ∷ fs) = omega arith
 
 pub land_values : (t : ℕ) (g : Move) (fs : List Place) → all_values t (after_move g fs) ≡ values_move t g + values_in t fs
 land_values t (Stay y) fs = omega arith
+land_values t (HandIn y token) fs = omega arith
 land_values t (Enter f y) fs = omega arith
 land_values t (StartRun f a) fs = omega arith
 land_values t Back [] = omega arith
 land_values t Back (f ∷ fs) = omega arith
 land_values t (HandBack n) [] = omega arith
+land_values t (Discard n) [] = omega arith
 land_values t (HandBack n) (f ∷ fs) = omega arith
+land_values t (Discard n) (f ∷ fs) = omega arith

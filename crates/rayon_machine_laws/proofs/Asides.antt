@@ -7,23 +7,23 @@ use Rattle.rayon_machine_places.specs.declared.place.Party.TheVariants.{Worker, 
 use Rattle.rayon_machine_places.specs.declared.place.Ending.{Ending}
 use Rattle.rayon_machine_places.specs.declared.place.Ending.TheVariants.{Fine, Fault}
 use Rattle.rayon_machine_places.specs.declared.place.JobKind.{JobKind}
-use Rattle.rayon_machine_places.specs.declared.place.JobKind.TheVariants.{Detached, Stored, Direct}
-use Rattle.rayon_machine_places.specs.declared.place.Plan.TheVariants.{Detach, Here, Send, Fork}
+use Rattle.rayon_machine_places.specs.declared.place.JobKind.TheVariants.{Detached, Stored, Direct, TokenOf}
+use Rattle.rayon_machine_places.specs.declared.place.Plan.TheVariants.{Detach, Here, Send, Fork, Feed}
 use Rattle.rayon_machine_places.specs.declared.place.Share.TheVariants.{PoolValue}
 use Rattle.rayon_machine_places.specs.declared.place.Then.TheVariants.{Resume}
 use Rattle.rayon_machine_places.specs.declared.place.Place.{Place}
-use Rattle.rayon_machine_places.specs.declared.place.Place.TheVariants.{ProbeWorking, PickVictim, StealFrom, PopInjected, JoinProbe, YieldPop, YieldPick, YieldSteal, YieldPopInjected, LocalPop, Run, RaiseCount, GrowCall, PushJob, LowerCount, FirstSide, SecondSide, AtOnce, Free, Stopped}
+use Rattle.rayon_machine_places.specs.declared.place.Place.TheVariants.{ProbeWorking, PickVictim, StealFrom, PopInjected, JoinProbe, YieldPop, YieldPick, YieldSteal, YieldPopInjected, LocalPop, Run, RaiseCount, GrowCall, PushJob, LowerCount, FirstSide, SecondSide, AtOnce, Free, Stopped, AddToFifo, PushToken, TakeFromFifo}
 use Rattle.rayon_machine_places.specs.declared.event.Event.{Event}
-use Rattle.rayon_machine_places.specs.declared.event.Event.TheVariants.{Go, From, Refuse, Miss, End, Spawn, Install, Join, Yield, YieldLocal, EndPool}
+use Rattle.rayon_machine_places.specs.declared.event.Event.TheVariants.{Go, From, Refuse, Miss, End, Spawn, Fifo, Install, Join, Yield, YieldLocal, EndPool}
 use Rattle.rayon_machine_places.specs.declared.shape.PoolShape.{PoolShape}
 use Rattle.rayon_machine_places.specs.declared.place.Wait.{Wait}
 use Rattle.rayon_machine_places.specs.declared.state.Call.{Call}
 use Rattle.rayon_machine_places.specs.Places.{own_pool, own_index, is_member, undo, next_victim, not_self, act_of, next_steal, next_yield, goes_on, is_free}
 use Rattle.rayon_machine_places.specs.World.{Pool, Stack, World, target_pool, target_worker, target_call}
-use Rattle.rayon_machine_places.specs.Steps.{put, put_stack, with_stack, after_choice, after_refusal, can_miss, after_miss, after_close, after_end, after_call, is_pool, new_call, after_spawn, after_send, after_install, after_join, after_yield, after_end_pool, step}
+use Rattle.rayon_machine_places.specs.Steps.{put, put_stack, with_stack, after_choice, after_refusal, can_miss, after_miss, after_close, after_end, after_call, is_pool, new_call, after_spawn, after_fifo, after_send, after_install, after_join, after_yield, after_end_pool, step}
 use Rattle.rayon_machine_laws.proofs.Attend.{is_owing}
 use Rattle.rayon_machine_laws.proofs.Events.{free_frame}
-use Rattle.rayon_machine_laws.proofs.Frame.{and_parts, if_some_map, if_cond, acted_keeps}
+use Rattle.rayon_machine_laws.proofs.Frame.{fifo_cases, and_parts, if_some_map, if_cond, acted_keeps}
 use Rattle.rayon_machine_laws.proofs.Kept.{announced, KeepsOn, is_emptied}
 use Rattle.rayon_machine_laws.proofs.Seats.{is_frame}
 use Rattle.rayon_machine_laws.proofs.Ties.{AllFrames, job_at, outcome, result}
@@ -148,6 +148,8 @@ miss_aside w (Caller n) _ fs e = tt
 refuse_aside : (w : World) (q : Party) (x : Place) (fs : List Place) → w.stack q ≡ record { top = x; below = fs } → IfSome (after_refusal w q (record { top = x; below = fs })) (Quietly w)
 unfolding aside_at
 refuse_aside w q (GrowCall n) fs e = (aside_at w q (GrowCall n) (undo n) fs e refl refl (λ m h z. absurd (cc)) (λ h. absurd (cc)), refl)
+refuse_aside w q (AddToFifo f) fs e = (aside_at w q (AddToFifo f) (undo (Feed f)) fs e refl refl (λ m h z. absurd (cc)) (λ h. absurd (cc)), refl)
+refuse_aside w q (PushToken f v) fs e = (aside_at w q (PushToken f v) (TakeFromFifo f) fs e refl refl (λ m h z. absurd (cc)) (λ h. absurd (cc)), refl)
 refuse_aside w q (PushJob n z) fs e = (aside_at w q (PushJob n z) (undo n) fs e refl refl (λ m h z. absurd (cc)) (λ h. absurd (cc)), refl)
 refuse_aside w q _ fs e = tt
 
@@ -174,7 +176,9 @@ closed_calm : (t : ℕ) (k : JobKind) (d : Ending) (fs : List Place) → AllFram
 closed_calm t (Detached p) d fs a = record { calm = refl; frames = a; keeps = refl; emptied = refl }
 closed_calm t (Stored c o) d fs a = record { calm = refl; frames = a; keeps = refl; emptied = refl }
 closed_calm t Direct d [] a = record { calm = refl; frames = tt; keeps = refl; emptied = refl }
+closed_calm t (TokenOf i9) d [] a = record { calm = refl; frames = tt; keeps = refl; emptied = refl }
 closed_calm t Direct d (f ∷ fs) a = goes_on_calm f d fs (a.0) (a.1)
+closed_calm t (TokenOf i9) d (f ∷ fs) a = goes_on_calm f d fs (a.0) (a.1)
 
 end_aside : (w : World) (q : Party) (d : Ending) (x : Place) (fs : List Place) → w.stack q ≡ record { top = x; below = fs } → AllFrames fs → IfSome (after_end w q d (record { top = x; below = fs }) x) (Quietly w)
 end_aside w q d (Run t k) fs e a =
@@ -201,6 +205,9 @@ end_aside w q d _ fs e a = tt
 
 spawn_aside : (w : World) (q : Party) (p : ℕ) → IfSome (after_spawn w q p (w.stack q)) (Quietly w)
 spawn_aside w q p = if_cond (Quietly w) (is_free ((w.stack q).top) && is_pool w.shape p) _ (λ b. begins_aside w _ q (RaiseCount (Detach p w.jobs)) (record { shape = refl; stack = λ r. refl; seat = λ p i. refl; injector = λ p. refl; casts = λ p i. refl; turn = λ p. refl; letters = λ c l. refl; free = (and_parts (is_free ((w.stack q).top)) (is_pool w.shape p) b).0; calm = refl; keeps = refl; emptied = refl }))
+
+fifo_aside : (w : World) (q : Party) (p : ℕ) → IfSome (after_fifo w q p (w.stack q)) (Quietly w)
+fifo_aside w q p = fifo_cases (Quietly w) w q p (spawn_aside w q p) (λ i free. begins_aside w _ (Worker p i) (RaiseCount (Feed (record { pool = p; job = w.jobs; token = w.jobs + 1 }))) (record { shape = refl; stack = λ r. refl; seat = λ p i. refl; injector = λ p. refl; casts = λ p i. refl; turn = λ p. refl; letters = λ c l. refl; free = free; calm = refl; keeps = refl; emptied = refl }))
 
 -- the calls that were there are as they were
 old_letter : (w : World) (v : Call) (c : ℕ) → c < w.calls → (put w.call w.calls v c).latch ≡ (w.call c).latch
@@ -254,7 +261,8 @@ is_steal (From q v) = true
 is_steal (Miss q) = true
 is_steal _ = false
 
--- a property holds after a step that is no steal, if after the act that the event may be and after each event that leads its party aside
+-- a property holds after a step that is no steal, if after the act that the event may be and after each event that
+-- leads its party aside
 pub calm_step : (P : World → Type 0) (w : World) → FramesOk w → (e : Event) → is_steal e ≡ false → ((q : Party) → e ≡ Go q → IfSome (outcome w q (w.stack q)) (λ r. P (result w q (w.stack q) r))) → ((u : World) → Quietly w u → P u) → IfSome (step w e) P
 calm_step P w fr (Go q) z go move = acted_keeps w q (w.stack q) (target_pool q (act_of q (w.stack q).top)) (target_worker q (act_of q (w.stack q).top)) (target_call (act_of q (w.stack q).top)) (job_at w q (act_of q (w.stack q).top)) (outcome w q (w.stack q)) P (go q refl)
 calm_step P w fr (From q v) z go move = cc
@@ -262,6 +270,7 @@ calm_step P w fr (Miss q) z go move = cc
 calm_step P w fr (Refuse q) z go move = if_some_map (Quietly w) P move _ (refuse_aside w q ((w.stack q).top) ((w.stack q).below) refl)
 calm_step P w fr (End q d) z go move = if_some_map (Quietly w) P move _ (end_aside w q d ((w.stack q).top) ((w.stack q).below) refl (fr q))
 calm_step P w fr (Spawn q p) z go move = if_some_map (Quietly w) P move _ (spawn_aside w q p)
+calm_step P w fr (Fifo q p) z go move = if_some_map (Quietly w) P move _ (fifo_aside w q p)
 calm_step P w fr (Install q p) z go move = if_some_map (Quietly w) P move _ (install_aside w q p)
 calm_step P w fr (Join q) z go move = if_some_map (Quietly w) P move _ (join_aside w q)
 calm_step P w fr (Yield q) z go move = if_some_map (Quietly w) P move _ (begin_yield w q YieldPop refl refl refl)

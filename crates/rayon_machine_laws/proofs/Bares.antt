@@ -6,7 +6,7 @@ use Rattle.rayon_machine_places.specs.declared.place.Party.TheVariants.{Worker, 
 use Rattle.rayon_machine_places.specs.declared.place.Ending.{Ending}
 use Rattle.rayon_machine_places.specs.declared.place.Ending.TheVariants.{Fine, Fault}
 use Rattle.rayon_machine_places.specs.declared.place.JobKind.{JobKind}
-use Rattle.rayon_machine_places.specs.declared.place.JobKind.TheVariants.{Detached, Stored, Direct}
+use Rattle.rayon_machine_places.specs.declared.place.JobKind.TheVariants.{Detached, Stored, Direct, TokenOf}
 use Rattle.rayon_machine_places.specs.declared.place.Target.{Target}
 use Rattle.rayon_machine_places.specs.declared.place.Target.TheVariants.{Termination, Answer}
 use Rattle.rayon_machine_places.specs.declared.place.Latch.{Latch}
@@ -14,27 +14,29 @@ use Rattle.rayon_machine_places.specs.declared.place.Latch.TheVariants.{Terminat
 use Rattle.rayon_machine_places.specs.declared.place.Rounds.{Rounds}
 use Rattle.rayon_machine_places.specs.declared.place.Rounds.TheVariants.{Failed, Announced}
 use Rattle.rayon_machine_places.specs.declared.place.Plan.{Plan}
-use Rattle.rayon_machine_places.specs.declared.place.Plan.TheVariants.{Detach, Here, Send, Fork}
+use Rattle.rayon_machine_places.specs.declared.place.Plan.TheVariants.{Detach, Here, Send, Fork, Feed}
 use Rattle.rayon_machine_places.specs.declared.place.Then.{Then}
 use Rattle.rayon_machine_places.specs.declared.place.Then.TheVariants.{BeginFound, LeaveWait, Resume, Await, RunFirst, Answers, Missing, Ran, GiveBack}
+use Rattle.rayon_machine_places.specs.declared.place.Taken.{Taken}
+use Rattle.rayon_machine_places.specs.declared.place.Taken.TheVariants.{Plain, Token}
 use Rattle.rayon_machine_places.specs.declared.place.Place.{Place}
-use Rattle.rayon_machine_places.specs.declared.place.Place.TheVariants.{ProbeWorking, PopWorking, TakeCastWorking, ProbeIdle, PopIdle, TakeCastIdle, PickVictim, StealFrom, PopInjected, AnnounceSelf, GetSleepy, FallAsleep, LoadCounters, AddSleeping, LookAtCast, LookAtInjector, WakeUp, LeaveSearch, JoinProbe, JoinPop, JoinTakeCast, YieldPop, YieldTakeCast, YieldPick, YieldSteal, YieldPopInjected, LocalPop, LocalTakeCast, BeginTask, BeginHere, RaiseCount, GrowCall, LookQueue, PushJob, TellNews, LockToWake, WakeWorker, UnlockWoken, TakeResult, LowerCount, StoreResult, SetLatch, LockToSettle, WakeSettled, UnlockSettled, FirstSide, SecondSide, AtOnce}
+use Rattle.rayon_machine_places.specs.declared.place.Place.TheVariants.{ProbeWorking, PopWorking, TakeCastWorking, ProbeIdle, PopIdle, TakeCastIdle, PickVictim, StealFrom, PopInjected, AnnounceSelf, GetSleepy, FallAsleep, LoadCounters, AddSleeping, LookAtCast, LookAtInjector, WakeUp, LeaveSearch, JoinProbe, JoinPop, JoinTakeCast, YieldPop, YieldTakeCast, YieldPick, YieldSteal, YieldPopInjected, LocalPop, LocalTakeCast, BeginTask, BeginHere, RaiseCount, GrowCall, LookQueue, PushJob, TellNews, LockToWake, WakeWorker, UnlockWoken, TakeResult, LowerCount, StoreResult, SetLatch, LockToSettle, WakeSettled, UnlockSettled, FirstSide, SecondSide, AtOnce, AddToFifo, LookForToken, PushToken, TakeFromFifo}
 use Rattle.rayon_machine_places.specs.declared.place.Move.{Move}
-use Rattle.rayon_machine_places.specs.declared.place.Move.TheVariants.{Stay, Enter, StartRun, Back, HandBack}
+use Rattle.rayon_machine_places.specs.declared.place.Move.TheVariants.{Stay, Enter, StartRun, Back, HandBack, Discard, HandIn}
 use Rattle.rayon_machine_places.specs.declared.act.Seen.{Seen}
-use Rattle.rayon_machine_places.specs.declared.act.Seen.TheVariants.{Done, Yes, Task, Jec, Word, Start, Wakes, Begun, Found}
+use Rattle.rayon_machine_places.specs.declared.act.Seen.TheVariants.{Done, Yes, Task, Jec, Word, Start, Wakes, Begun, Found, Handed}
 use Rattle.rayon_machine_places.specs.declared.state.Whereabouts.{Whereabouts}
-use Rattle.rayon_machine_places.specs.declared.state.Whereabouts.TheVariants.{HandedBack}
+use Rattle.rayon_machine_places.specs.declared.state.Whereabouts.TheVariants.{HandedBack, Spent}
 use Rattle.rayon_machine_places.specs.declared.state.Job.{Job}
 use Rattle.rayon_machine_places.specs.declared.shape.PoolShape.{PoolShape}
 use Rattle.rayon_machine_places.specs.declared.place.Wait.{Wait}
 use Rattle.rayon_machine_places.specs.declared.place.Settling.{Settling}
-use Rattle.rayon_machine_places.specs.Places.{own_pool, own_index, plan_pool, plan_job, after_wait, finish, walk, settle, after_set, after_found, after_news, goes_on, after_raise, set_call, next_victim, not_self, after_failure, next_steal, next_yield, next_of}
+use Rattle.rayon_machine_places.specs.Places.{own_pool, own_index, plan_pool, plan_job, after_wait, finish, walk, settle, after_set, after_found, after_news, goes_on, after_raise, set_call, next_victim, not_self, after_failure, next_steal, next_yield, next_of, is_taken}
 use Rattle.rayon_machine_places.specs.World.{Stack, at_job, begun}
 use Rattle.rayon_machine_places.specs.Steps.{put, after_move, jobs_after, after_close}
 use Rattle.rayon_machine_laws.specs.Once.{one}
 use Rattle.rayon_machine_laws.specs.Shares.{share_of}
-use Rattle.rayon_machine_laws.proofs.Hands.{hand_plan, hand_then, hand, held_in, held}
+use Rattle.rayon_machine_laws.proofs.Hands.{hand_plan, hand_rest, hand_then, hand, held_in, held}
 use Rattle.rayon_machine_laws.proofs.Amounts.{paid}
 
 -- a refused call's jobs, once its share is given back
@@ -42,12 +44,23 @@ abbrev pub bare_then : ℕ → Then → ℕ
 bare_then t (GiveBack n) = hand_plan t n
 bare_then t _ = 0
 
--- how often a place has job t in hand without a share: all jobs of a call before its Raise and after its undoing Lower, and in between a join's first side
+-- a call that has queued its job keeps its token, if it has one
+abbrev pub bare_rest : ℕ → Plan → ℕ
+bare_rest t (Feed f) = one (t == f.token)
+bare_rest t _ = 0
+
+-- how often a place has job t in hand without a share: all jobs of a call before its Raise and after its undoing Lower,
+-- and in between a join's first side
 abbrev pub bare : ℕ → Place → ℕ
 bare t (RaiseCount n) = hand_plan t n
 bare t (GrowCall n) = hand_plan t n - one (t == plan_job n)
 bare t (LookQueue n) = hand_plan t n - one (t == plan_job n)
 bare t (PushJob n e) = hand_plan t n - one (t == plan_job n)
+bare t (AddToFifo f) = one (t == f.token)
+bare t (LookForToken f) = one (t == f.token)
+bare t (PushToken f e) = one (t == f.token)
+bare t (TakeFromFifo f) = one (t == f.token)
+bare t (TellNews n e) = bare_rest t n
 bare t (LockToWake k) = bare_then t k.then
 bare t (WakeWorker k) = bare_then t k.then
 bare t (UnlockWoken k) = bare_then t k.then
@@ -67,10 +80,12 @@ all_bare t k = bare t k.top + bare_in t k.below
 
 abbrev pub bare_move : ℕ → Move → ℕ
 bare_move t (Stay y) = bare t y
+bare_move t (HandIn y token) = bare t y
 bare_move t (Enter f y) = bare t y + bare t f
 bare_move t (StartRun f a) = bare t f
 bare_move t Back = 0
 bare_move t (HandBack n) = hand_plan t n
+bare_move t (Discard token) = 0
 
 -- 1 for a job that is handed back
 abbrev pub backs : Whereabouts → ℕ
@@ -81,8 +96,13 @@ bare_hand_then : (t : ℕ) (n : Then) → bare_then t n ≤ hand_then t n
 bare_hand_then t (GiveBack n) = omega arith
 bare_hand_then t _ = omega arith
 
+bare_hand_rest : (t : ℕ) (n : Plan) → bare_rest t n ≤ hand_rest t n
+bare_hand_rest t (Feed f) = omega arith
+bare_hand_rest t _ = omega arith
+
 -- what is so held is in hand
 bare_hand : (t : ℕ) (x : Place) → bare t x ≤ hand t x
+bare_hand t (TellNews n e) = bare_hand_rest t n
 bare_hand t (LockToWake k) = bare_hand_then t k.then
 bare_hand t (WakeWorker k) = bare_hand_then t k.then
 bare_hand t (UnlockWoken k) = bare_hand_then t k.then
@@ -105,6 +125,7 @@ bare_raised t (Detach r u) = omega arith
 bare_raised t (Here r u) = omega arith
 bare_raised t (Send o) = omega arith
 bare_raised t (Fork o a) = omega arith
+bare_raised t (Feed f) = omega arith
 
 bare_left : (t : ℕ) (g : Target) → bare_move t (Stay (after_wait g)) ≤ 0
 bare_left t Termination = omega arith
@@ -166,13 +187,14 @@ bare_failed t g k (Failed n) = by (nat_lt n g.limit)
     by false = omega arith
 bare_failed t g k Announced = omega arith
 
-bare_goes : (t : ℕ) (n : Plan) → bare_then t (after_news n) ≤ 0
+bare_goes : (t : ℕ) (n : Plan) → bare_then t (after_news n) ≤ bare_rest t n
 bare_goes t (Detach r u) = omega arith
 bare_goes t (Here r u) = omega arith
 bare_goes t (Send o) = omega arith
 bare_goes t (Fork o a) = omega arith
+bare_goes t (Feed f) = omega arith
 
-bare_after : (t : ℕ) (g : Target) (o : Option ℕ) → bare_then t (after_found g o) ≤ 0
+bare_after : (t : ℕ) (g : Target) (o : Option Taken) → bare_then t (after_found g o) ≤ 0
 bare_after t g None = omega arith
 bare_after t g (Some u) = omega arith
 
@@ -218,7 +240,7 @@ bares g q t (LeaveSearch k) (Wakes n) = let a : bare_move t (walk g q (own_pool 
 bares g q t (LeaveSearch k) _ = omega arith
 bares g q t (JoinProbe o) Yes = omega arith
 bares g q t (JoinProbe o) _ = omega arith
-bares g q t (JoinPop o) (Task u) = let a : bare_move t (if u == o.job then Enter (SecondSide o) (BeginHere u) else Enter (JoinProbe o) (BeginTask u)) ≤ 0 = bare_if t 0 (Enter (SecondSide o) (BeginHere u)) (Enter (JoinProbe o) (BeginTask u)) (u == o.job) (omega arith) (omega arith) in omega (arith, a)
+bares g q t (JoinPop o) (Task u) = let a : bare_move t (if is_taken u o.job then Enter (SecondSide o) (BeginHere o.job) else Enter (JoinProbe o) (BeginTask u)) ≤ 0 = bare_if t 0 (Enter (SecondSide o) (BeginHere o.job)) (Enter (JoinProbe o) (BeginTask u)) (is_taken u o.job) (omega arith) (omega arith) in omega (arith, a)
 bares g q t (JoinPop o) _ = omega arith
 bares g q t (JoinTakeCast o) (Task u) = omega arith
 bares g q t (JoinTakeCast o) _ = omega arith
@@ -236,17 +258,28 @@ bares g q t YieldPick (Start v) = omega arith
 bares g q t YieldPick _ = omega arith
 bares g q t (YieldSteal v n) (Task u) = omega arith
 bares g q t (YieldSteal v n) _ = let a : bare_move t (Stay (next_yield g q v n)) ≤ 0 = bare_yield t g q v n in omega (arith, a)
-bares g q t (BeginTask u) (Begun d) = omega arith
-bares g q t (BeginTask u) _ = omega arith
+bares g q t (BeginTask (Plain u)) (Begun d) = omega arith
+bares g q t (BeginTask (Plain u)) _ = omega arith
+bares g q t (BeginTask (Token k i)) (Handed u d) = omega arith
+bares g q t (BeginTask (Token k i)) _ = omega arith
+bares g q t (AddToFifo f) Done = omega arith
+bares g q t (AddToFifo f) _ = omega arith
+bares g q t (LookForToken f) Yes = omega arith
+bares g q t (LookForToken f) _ = omega arith
+bares g q t (PushToken f v) Done = omega arith
+bares g q t (PushToken f v) _ = omega arith
+bares g q t (TakeFromFifo f) (Task x) = omega arith
+bares g q t (TakeFromFifo f) _ = omega arith
 bares g q t (RaiseCount n) Done = let a : bare_move t (after_raise n) + one (t == plan_job n) ≤ hand_plan t n = bare_raised t n in omega (arith, a)
 bares g q t (RaiseCount n) _ = omega arith
 bares g q t (GrowCall n) Done = omega arith
 bares g q t (GrowCall n) _ = omega arith
 bares g q t (LookQueue n) Yes = omega arith
 bares g q t (LookQueue n) _ = omega arith
+bares g q t (PushJob (Feed f) v) Done = omega arith
 bares g q t (PushJob n v) Done = omega arith
 bares g q t (PushJob n v) e = omega arith
-bares g q t (TellNews n v) (Wakes k) = let a : bare_move t (walk g q (plan_pool n) k 0 (after_news n)) ≤ bare_then t (after_news n) = bare_walk t g q (plan_pool n) k 0 (after_news n) in let b : bare_then t (after_news n) ≤ 0 = bare_goes t n in omega (arith, a, b)
+bares g q t (TellNews n v) (Wakes k) = let a : bare_move t (walk g q (plan_pool n) k 0 (after_news n)) ≤ bare_then t (after_news n) = bare_walk t g q (plan_pool n) k 0 (after_news n) in let b : bare_then t (after_news n) ≤ bare_rest t n = bare_goes t n in omega (arith, a, b)
 bares g q t (TellNews n v) _ = omega arith
 bares g q t (WakeWorker k) Yes = omega arith
 bares g q t (WakeWorker k) _ = omega arith
@@ -261,6 +294,13 @@ bares g q t (SetLatch k) _ = let a : bare_move t (after_set g q k k.latch) ≤ b
 bares g q t (UnlockSettled k) e = let a : bare_move t (after_set g q k k.latch) ≤ bare_then t k.then = bare_settled t g q k k.latch in omega (arith, a)
 bares g q t _ e = omega arith
 
+spent_back : (J : ℕ → Job) (k t : ℕ) → backs (put J k (at_job (J k) Spent) t).at ≤ backs (J t).at
+spent_back J k t = by (t == k)
+  where
+    by : (z : Bool) → backs (if z then at_job (J k) Spent else J t).at ≤ backs (J t).at
+    by true = omega arith
+    by false = omega arith
+
 put_back : (J : ℕ → Job) (a t : ℕ) → backs (put J a (at_job (J a) HandedBack) t).at ≤ one (t == a) + backs (J t).at
 put_back J a t = by (t == a)
   where
@@ -270,16 +310,20 @@ put_back J a t = by (t == a)
 
 pub land_only : (t : ℕ) (g : Move) (fs : List Place) → all_bare t (after_move g fs) ≤ bare_move t g + bare_in t fs
 land_only t (Stay y) fs = omega arith
+land_only t (HandIn y token) fs = omega arith
 land_only t (Enter f y) fs = omega arith
 land_only t (StartRun f a) fs = omega arith
 land_only t Back [] = omega arith
 land_only t Back (f ∷ fs) = omega arith
 land_only t (HandBack n) [] = omega arith
+land_only t (Discard n) [] = omega arith
 land_only t (HandBack n) (f ∷ fs) = omega arith
+land_only t (Discard n) (f ∷ fs) = omega arith
 
 -- a move hands back no more than it held
 pub land_bare : (q : Party) (t : ℕ) (g : Move) (fs : List Place) (J : ℕ → Job) → all_bare t (after_move g fs) + backs (jobs_after q g J t).at ≤ bare_move t g + bare_in t fs + backs (J t).at
 land_bare q t (Stay y) fs J = omega arith
+land_bare q t (HandIn y k) fs J = let a : backs (put J k (at_job (J k) Spent) t).at ≤ backs (J t).at = spent_back J k t in omega (arith, a)
 land_bare q t (Enter f y) fs J = omega arith
 land_bare q t (StartRun f a) fs J = by (t == a)
   where
@@ -298,11 +342,18 @@ land_bare q t (HandBack n) fs J = let a : backs (jobs_after q (HandBack n) J t).
     plan (Detach p a) = put_back J a t
     plan (Here p a) = put_back J a t
     plan (Send o) = put_back J (o.job) t
+    plan (Feed d) = let b : backs (put J (d.job) (at_job (J (d.job)) HandedBack) t).at ≤ one (t == d.job) + backs (J t).at = put_back J (d.job) t in by (t == d.token) b
+      where
+        by : (z : Bool) → backs (put J (d.job) (at_job (J (d.job)) HandedBack) t).at ≤ one (t == d.job) + backs (J t).at → backs (if z then at_job (J (d.token)) HandedBack else put J (d.job) (at_job (J (d.job)) HandedBack) t).at ≤ one (t == d.job) + one z + backs (J t).at
+        by true b = omega arith
+        by false b = omega (arith, b)
     plan (Fork o a) = let b : backs (put J a (at_job (J a) HandedBack) t).at ≤ one (t == a) + backs (J t).at = put_back J a t in by (t == o.job) b
       where
         by : (z : Bool) → backs (put J a (at_job (J a) HandedBack) t).at ≤ one (t == a) + backs (J t).at → backs (if z then at_job (J (o.job)) HandedBack else put J a (at_job (J a) HandedBack) t).at ≤ one (t == a) + one z + backs (J t).at
         by true b = omega arith
         by false b = omega (arith, b)
+land_bare q t (Discard k) [] J = let a : backs (put J k (at_job (J k) Spent) t).at ≤ backs (J t).at = spent_back J k t in omega (arith, a)
+land_bare q t (Discard k) (f ∷ fs) J = let a : backs (put J k (at_job (J k) Spent) t).at ≤ backs (J t).at = spent_back J k t in omega (arith, a)
 
 -- the end of a run leads to no more
 bare_on : (s : ℕ) (f : Place) (e : Ending) → bare s (goes_on f e) ≤ bare s f
@@ -316,4 +367,6 @@ pub closed_bare : (s t : ℕ) (k : JobKind) (e : Ending) (fs : List Place) → a
 closed_bare s t (Detached p) e fs = omega arith
 closed_bare s t (Stored c o) e fs = omega arith
 closed_bare s t Direct e [] = omega arith
+closed_bare s t (TokenOf i9) e [] = omega arith
 closed_bare s t Direct e (f ∷ fs) = let a : bare s (goes_on f e) ≤ bare s f = bare_on s f e in omega (arith, a)
+closed_bare s t (TokenOf i9) e (f ∷ fs) = let a : bare s (goes_on f e) ≤ bare s f = bare_on s f e in omega (arith, a)

@@ -1,7 +1,7 @@
 -- each act keeps what the places say, and what cells and latches hold
 use Rattle.std.proofs.Common.{rules, arith, refl, sym, ◌∙◌, ap, subst, inl, inr}
-use Rattle.std.specs.Prelude.{ℕ, Bool, true, false, not, ◌+◌, ◌-◌, ◌==◌, ◌≤◌, ◌<◌, if◌then◌else◌, Option, Some, None, List, [], ◌∷◌, ◌≡◌, IfSome, ◌⊎◌, ⊤}
-use Rattle.std.proofs.lemmas.Bool.{eqb-true, ltb-true, ltb-false}
+use Rattle.std.specs.Prelude.{ℕ, Bool, true, false, not, ◌+◌, ◌-◌, ◌==◌, ◌≤◌, ◌<◌, if◌then◌else◌, Option, Some, None, List, [], ◌∷◌, ◌≡◌, IfSome, ◌⊎◌, ⊤, ◌++◌}
+use Rattle.std.proofs.lemmas.Bool.{eqb-true, ltb-true, ltb-false, eq-eqb}
 use Rattle.std.proofs.Math.Dec.{ltb}
 use Rattle.rayon_machine_places.specs.declared.place.Party.{Party}
 use Rattle.rayon_machine_places.specs.declared.place.Party.TheVariants.{Worker, Caller}
@@ -11,24 +11,33 @@ use Rattle.rayon_machine_places.specs.declared.place.Latch.TheVariants.{Terminat
 use Rattle.rayon_machine_places.specs.declared.place.Share.{Share}
 use Rattle.rayon_machine_places.specs.declared.place.Share.TheVariants.{PoolValue, OfJob}
 use Rattle.rayon_machine_places.specs.declared.place.Then.{Then}
+use Rattle.rayon_machine_places.specs.declared.place.Taken.TheVariants.{Plain, Token}
+use Rattle.rayon_machine_places.specs.declared.act.Act.TheVariants.{FifoOut, FifoUndo, PushOwn, PushInj}
 use Rattle.rayon_machine_places.specs.declared.place.Place.{Place}
-use Rattle.rayon_machine_places.specs.declared.place.Place.TheVariants.{ProbeWorking, PopWorking, TakeCastWorking, PopIdle, TakeCastIdle, StealFrom, PopInjected, GetSleepy, FallAsleep, WakeUp, JoinPop, JoinTakeCast, YieldPop, YieldTakeCast, YieldSteal, YieldPopInjected, LocalPop, LocalTakeCast, BeginTask, GrowCall, TakeResult, LowerCount, StoreResult, SetLatch, SetLockLatch}
+use Rattle.rayon_machine_places.specs.declared.place.Place.TheVariants.{ProbeWorking, PopWorking, TakeCastWorking, PopIdle, TakeCastIdle, StealFrom, PopInjected, GetSleepy, FallAsleep, WakeUp, JoinPop, JoinTakeCast, YieldPop, YieldTakeCast, YieldSteal, YieldPopInjected, LocalPop, LocalTakeCast, BeginTask, GrowCall, TakeResult, LowerCount, StoreResult, SetLatch, SetLockLatch, TakeFromFifo, AddToFifo, PushToken, PushJob, BeginHere}
 use Rattle.rayon_machine_places.specs.declared.act.Seen.{Seen}
-use Rattle.rayon_machine_places.specs.declared.act.Seen.TheVariants.{Yes, No, Task, Missing, Begun, Found}
+use Rattle.rayon_machine_places.specs.declared.act.Seen.TheVariants.{Yes, No, Task, Missing, Begun, Found, Handed}
 use Rattle.rayon_machine_places.specs.declared.state.Letter.{Letter}
 use Rattle.rayon_machine_places.specs.declared.state.Letter.TheVariants.{Sleeping, Set as IsSet}
 use Rattle.rayon_machine_places.specs.declared.place.OpenCall.{OpenCall}
 use Rattle.rayon_machine_places.specs.declared.place.Settling.{Settling}
-use Rattle.rayon_machine_places.specs.Places.{latch_of, act_of, next_of}
-use Rattle.rayon_machine_places.specs.World.{Shape, Stack, World, Counts, Part, head_of, own_of, or_none, target_job, Outcome, letter, with_letter, set_latch, found, popped, take_cast, pop_injector, lowered, effect}
+use Rattle.rayon_machine_places.specs.Places.{latch_of, act_of, next_of, taken_number, plan_job, plan_pool, is_member}
+use Rattle.rayon_machine_places.specs.World.{Shape, Stack, World, Counts, Part, head_of, own_of, or_none, target_job, Outcome, letter, with_letter, set_latch, found, popped, take_cast, pop_injector, lowered, effect, is_open, but_last, at_job, taken_as}
 use Rattle.rayon_machine_places.specs.Steps.{put, part_of, after}
-use Rattle.rayon_machine_laws.proofs.Frame.{either, if_some_all, if_some_map, put_same, after_kind, after_pool}
+use Rattle.rayon_machine_laws.proofs.Frame.{either, if_some_all, if_some_map, put_same, after_kind, after_pool, out_sees, undo_sees, if_cond}
 use Rattle.rayon_machine_laws.proofs.Hands.{held}
-use Rattle.rayon_machine_laws.proofs.Located.{loc_of, loc_at, is_loc, is_left, IsOnward, onward_left, Hand}
-use Rattle.rayon_machine_laws.proofs.Placed.{Kept}
+use Rattle.rayon_machine_laws.specs.Once.{one, times}
+use Rattle.rayon_machine_laws.proofs.Lists.{SameJobs, quiet_same, times_push, times_drop}
+use Rattle.rayon_machine_laws.proofs.Located.{loc_of, loc_at, is_loc, is_left, IsOnward, onward_left, Hand, Line}
+use Rattle.rayon_machine_laws.proofs.Placed.{Kept, same_number}
 use Rattle.rayon_machine_laws.proofs.PlacedRuns.{JobsHold}
 use Rattle.rayon_machine_laws.proofs.Later.{Later, Static}
 use Rattle.rayon_machine_laws.proofs.Letters.{sleepy_keeps, asleep_keeps, wake_keeps}
+use Rattle.rayon_machine_places.specs.declared.state.Job.{Job}
+use Rattle.rayon_machine_places.specs.declared.place.JobKind.{JobKind}
+use Rattle.rayon_machine_places.specs.declared.place.Taken.{Taken}
+use Rattle.rayon_machine_places.specs.declared.state.Whereabouts.TheVariants.{Running}
+use Rattle.rayon_machine_places.specs.declared.place.JobKind.TheVariants.{TokenOf}
 
 -- what an act keeps of a world's fixed things
 pub record Lasting (w u : World) : Type 0 where
@@ -65,8 +74,17 @@ lasting w q k p i c n r s o = record {
     ends a false z e = e
 
 -- what an act's answer tells of its part. Of a task: that it is the job that is touched, and is taken
-abbrev pub Took : Shape → Party → Part → Place → ℕ → Part → Type 0
-Took h q m x t n = (target_job h q (act_of q x) m.pool m.seat ≡ t) × (is_left n.job.at ≡ true)
+-- a token's record says whose it is
+abbrev pub KindOf : Job → Taken → Type 0
+KindOf j (Plain t) = ⊤
+KindOf j (Token k i) = j.kind ≡ TokenOf i
+
+kind_of : (t : ℕ) (d : JobKind) (j : Job) → j.kind ≡ d → KindOf j (taken_as t d)
+kind_of t (TokenOf i) j e = e
+kind_of t _ j e = tt
+
+abbrev pub Took : Shape → Party → Part → Place → Taken → Part → Type 0
+Took h q m x t n = (target_job h q (act_of q x) m.pool m.seat ≡ taken_number t) × (is_left n.job.at ≡ true) × KindOf n.job t
 
 abbrev pub Learned : Shape → Party → Part → Place → Seen × Part → Type 0
 Learned h q m (PopWorking k) (Task t, n) = Took h q m (PopWorking k) t n
@@ -85,7 +103,9 @@ Learned h q m LocalPop (Task t, n) = Took h q m LocalPop t n
 Learned h q m LocalTakeCast (Task t, n) = Took h q m LocalTakeCast t n
 Learned h q m (TakeResult o f) (Found e, n) = m.call.cell ≡ Some e
 Learned h q m (LowerCount p s k) (Yes, n) = n.pool.count ≡ 0
-Learned h q m (BeginTask t) (Begun k, n) = m.job.kind ≡ k
+Learned h q m (BeginTask (Plain t)) (Begun k, n) = m.job.kind ≡ k
+Learned h q m (BeginTask (Token k i)) (Handed t d, n) = (target_job h q (FifoOut k i) m.pool m.seat ≡ t) × (1 ≤ times t m.seat.fifo) × (m.job.kind ≡ d)
+Learned h q m (TakeFromFifo f) (Task x, n) = (target_job h q FifoUndo m.pool m.seat ≡ taken_number x) × (1 ≤ times (taken_number x) m.seat.fifo)
 Learned h q m _ _ = ⊤
 
 take_learned : (h : Shape) (q : Party) (m : Part) (o : OpenCall) (f : Option Ending) (x : Option Ending) → m.call.cell ≡ x → IfSome (found m x) (Learned h q m (TakeResult o f))
@@ -105,20 +125,20 @@ lower_learned h q m p s k = by (m.pool.count == 1) refl
 
 -- what the three kinds of takes tell
 abbrev pub TookIt : ℕ → Seen × Part → Type 0
-TookIt n (Task t, m) = (n ≡ t) × (is_left m.job.at ≡ true)
+TookIt n (Task t, m) = (n ≡ taken_number t) × (is_left m.job.at ≡ true) × KindOf m.job t
 TookIt n _ = ⊤
 
 pop_took : (q : Party) (m : Part) (rest : List ℕ) (o : Option ℕ) → IfSome (popped q m rest o) (TookIt (or_none o))
 pop_took q m rest None = tt
-pop_took q m rest (Some t) = (refl, refl)
+pop_took q m rest (Some t) = (sym (same_number t (m.job.kind)), refl, kind_of t (m.job.kind) (at_job (m.job) (Running q)) refl)
 
 cast_took : (q : Party) (m : Part) (l : List ℕ) → IfSome (take_cast q m l) (TookIt (or_none (head_of l)))
 cast_took q m [] = tt
-cast_took q m (t ∷ ts) = (refl, refl)
+cast_took q m (t ∷ ts) = (sym (same_number t (m.job.kind)), refl, kind_of t (m.job.kind) (at_job (m.job) (Running q)) refl)
 
 inj_took : (q : Party) (m : Part) (l : List ℕ) → IfSome (pop_injector q m l) (TookIt (or_none (head_of l)))
 inj_took q m [] = tt
-inj_took q m (t ∷ ts) = (refl, refl)
+inj_took q m (t ∷ ts) = (sym (same_number t (m.job.kind)), refl, kind_of t (m.job.kind) (at_job (m.job) (Running q)) refl)
 
 -- a place whose act is a take
 abbrev pub is_take : Place → Bool
@@ -139,33 +159,33 @@ is_take LocalTakeCast = true
 is_take _ = false
 
 as_learned : (h : Shape) (q : Party) (m : Part) (x : Place) (n : ℕ) → is_take x ≡ true → target_job h q (act_of q x) m.pool m.seat ≡ n → (r : Seen × Part) → TookIt n r → Learned h q m x r
-as_learned h q m (PopWorking w) n z e (Task t, j) k = (e ∙ k.0, k.1)
+as_learned h q m (PopWorking w) n z e (Task t, j) k = (e ∙ k.0, k.1, k.2)
 as_learned h q m (PopWorking w) n z e (_, j) k = tt
-as_learned h q m (TakeCastWorking w) n z e (Task t, j) k = (e ∙ k.0, k.1)
+as_learned h q m (TakeCastWorking w) n z e (Task t, j) k = (e ∙ k.0, k.1, k.2)
 as_learned h q m (TakeCastWorking w) n z e (_, j) k = tt
-as_learned h q m (PopIdle w) n z e (Task t, j) k = (e ∙ k.0, k.1)
+as_learned h q m (PopIdle w) n z e (Task t, j) k = (e ∙ k.0, k.1, k.2)
 as_learned h q m (PopIdle w) n z e (_, j) k = tt
-as_learned h q m (TakeCastIdle w) n z e (Task t, j) k = (e ∙ k.0, k.1)
+as_learned h q m (TakeCastIdle w) n z e (Task t, j) k = (e ∙ k.0, k.1, k.2)
 as_learned h q m (TakeCastIdle w) n z e (_, j) k = tt
-as_learned h q m (StealFrom w v) n z e (Task t, j) k = (e ∙ k.0, k.1)
+as_learned h q m (StealFrom w v) n z e (Task t, j) k = (e ∙ k.0, k.1, k.2)
 as_learned h q m (StealFrom w v) n z e (_, j) k = tt
-as_learned h q m (PopInjected w) n z e (Task t, j) k = (e ∙ k.0, k.1)
+as_learned h q m (PopInjected w) n z e (Task t, j) k = (e ∙ k.0, k.1, k.2)
 as_learned h q m (PopInjected w) n z e (_, j) k = tt
-as_learned h q m (JoinPop o) n z e (Task t, j) k = (e ∙ k.0, k.1)
+as_learned h q m (JoinPop o) n z e (Task t, j) k = (e ∙ k.0, k.1, k.2)
 as_learned h q m (JoinPop o) n z e (_, j) k = tt
-as_learned h q m (JoinTakeCast o) n z e (Task t, j) k = (e ∙ k.0, k.1)
+as_learned h q m (JoinTakeCast o) n z e (Task t, j) k = (e ∙ k.0, k.1, k.2)
 as_learned h q m (JoinTakeCast o) n z e (_, j) k = tt
-as_learned h q m YieldPop n z e (Task t, j) k = (e ∙ k.0, k.1)
+as_learned h q m YieldPop n z e (Task t, j) k = (e ∙ k.0, k.1, k.2)
 as_learned h q m YieldPop n z e (_, j) k = tt
-as_learned h q m YieldTakeCast n z e (Task t, j) k = (e ∙ k.0, k.1)
+as_learned h q m YieldTakeCast n z e (Task t, j) k = (e ∙ k.0, k.1, k.2)
 as_learned h q m YieldTakeCast n z e (_, j) k = tt
-as_learned h q m (YieldSteal v i) n z e (Task t, j) k = (e ∙ k.0, k.1)
+as_learned h q m (YieldSteal v i) n z e (Task t, j) k = (e ∙ k.0, k.1, k.2)
 as_learned h q m (YieldSteal v i) n z e (_, j) k = tt
-as_learned h q m YieldPopInjected n z e (Task t, j) k = (e ∙ k.0, k.1)
+as_learned h q m YieldPopInjected n z e (Task t, j) k = (e ∙ k.0, k.1, k.2)
 as_learned h q m YieldPopInjected n z e (_, j) k = tt
-as_learned h q m LocalPop n z e (Task t, j) k = (e ∙ k.0, k.1)
+as_learned h q m LocalPop n z e (Task t, j) k = (e ∙ k.0, k.1, k.2)
 as_learned h q m LocalPop n z e (_, j) k = tt
-as_learned h q m LocalTakeCast n z e (Task t, j) k = (e ∙ k.0, k.1)
+as_learned h q m LocalTakeCast n z e (Task t, j) k = (e ∙ k.0, k.1, k.2)
 as_learned h q m LocalTakeCast n z e (_, j) k = tt
 as_learned h q m _ n z e r k = cc
 
@@ -186,11 +206,14 @@ act_learned h (Worker a b) c m YieldTakeCast = if_some_map (TookIt (or_none (hea
 act_learned h (Worker a b) c m LocalTakeCast = if_some_map (TookIt (or_none (head_of (m.pool.casts b)))) (Learned h (Worker a b) m LocalTakeCast) (λ r tk. as_learned h (Worker a b) m LocalTakeCast (or_none (head_of (m.pool.casts b))) refl refl r tk) _ (cast_took (Worker a b) m (m.pool.casts b))
 act_learned h (Worker a b) c m (TakeResult o f) = take_learned h (Worker a b) m o f m.call.cell refl
 act_learned h (Worker a b) c m (LowerCount p s k) = lower_learned h (Worker a b) m p s k
-act_learned h (Worker a b) c m (BeginTask t) = refl
+act_learned h (Worker a b) c m (BeginTask (Plain t)) = refl
+act_learned h (Worker a b) c m (BeginTask (Token k i)) = out_sees (Learned h (Worker a b) m (BeginTask (Token k i))) (Worker a b) m tt (λ u us e. (ap (λ l. or_none (head_of l)) e, (let a : times u m.seat.fifo ≡ (one (u == u) + times u us) = ap (times u) e in let b : one (u == u) ≡ 1 = ap one (eq-eqb u u refl) in omega (arith, a, b)), refl))
+act_learned h (Worker a b) c m (TakeFromFifo f) = undo_sees (Learned h (Worker a b) m (TakeFromFifo f)) (Worker a b) m tt (λ u e. (ap or_none e, (let a : times u m.seat.fifo ≡ (one (u == u) + times u (but_last m.seat.fifo)) = times_drop m.seat.fifo u u e in let b : one (u == u) ≡ 1 = ap one (eq-eqb u u refl) in omega (arith, a, b))))
 act_learned h (Worker a b) c m x = if_some_all (Learned h (Worker a b) m x) (λ r. tt) (effect (act_of (Worker a b) x) h (Worker a b) c m)
 act_learned h (Caller g) c m (TakeResult o f) = take_learned h (Caller g) m o f m.call.cell refl
 act_learned h (Caller g) c m (LowerCount p s k) = lower_learned h (Caller g) m p s k
-act_learned h (Caller g) c m (BeginTask t) = refl
+act_learned h (Caller g) c m (BeginTask (Plain t)) = refl
+act_learned h (Caller g) c m (BeginTask (Token k i)) = out_sees (Learned h (Caller g) m (BeginTask (Token k i))) (Caller g) m tt (λ u us e. (ap (λ l. or_none (head_of l)) e, (let a : times u m.seat.fifo ≡ (one (u == u) + times u us) = ap (times u) e in let b : one (u == u) ≡ 1 = ap one (eq-eqb u u refl) in omega (arith, a, b)), refl))
 act_learned h (Caller g) c m (PopWorking w) = tt
 act_learned h (Caller g) c m (TakeCastWorking w) = tt
 act_learned h (Caller g) c m (PopIdle w) = tt
@@ -205,6 +228,7 @@ act_learned h (Caller g) c m (YieldSteal v i) = tt
 act_learned h (Caller g) c m YieldPopInjected = tt
 act_learned h (Caller g) c m LocalPop = tt
 act_learned h (Caller g) c m LocalTakeCast = tt
+act_learned h (Caller g) c m (TakeFromFifo f) = tt
 act_learned h (Caller g) c m x = if_some_all (Learned h (Caller g) m x) (λ r. tt) (effect (act_of (Caller g) x) h (Caller g) c m)
 
 -- a job that a party has in hand was made
@@ -214,6 +238,81 @@ made_held w h q t b = elim (either (ltb t w.jobs)) [ inl y ↦ (let z : t < w.jo
     none : w.jobs ≤ t → ⊥
     none z = let a : held t (w.stack q) ≡ is_loc (Hand q) (loc_at (w.job t)) = ((h.ok).placed) (Hand q) t in
         let e : is_loc (Hand q) (loc_at (w.job t)) ≡ 0 = ap (λ v. is_loc (Hand q) (loc_of v ((w.job t).runs))) ((h.unmade) t z) in omega (arith, a, e, b)
+
+-- what comes to a FIFO list
+abbrev pub lined : ℕ → Place → ℕ
+lined t (AddToFifo f) = one (t == f.job)
+lined t _ = 0
+
+-- no act brings more to one
+abbrev pub Lines : Part → ℕ → Place → Seen × Part → Type 0
+Lines m t x r = times t (r.1.seat.fifo) ≤ times t m.seat.fifo + lined t x
+
+pop_lined : (q : Party) (m : Part) (t : ℕ) (rest : List ℕ) (o : Option ℕ) → IfSome (popped q m rest o) (λ r. times t (r.1.seat.fifo) ≤ times t m.seat.fifo + 0)
+pop_lined q m t rest None = omega arith
+pop_lined q m t rest (Some u) = omega arith
+
+inj_lined : (q : Party) (m : Part) (t : ℕ) (l : List ℕ) → IfSome (pop_injector q m l) (λ r. times t (r.1.seat.fifo) ≤ times t m.seat.fifo + 0)
+inj_lined q m t [] = omega arith
+inj_lined q m t (u ∷ us) = omega arith
+
+cast_lined : (q : Party) (m : Part) (t : ℕ) (l : List ℕ) → IfSome (take_cast q m l) (λ r. times t (r.1.seat.fifo) ≤ times t m.seat.fifo + 0)
+cast_lined q m t [] = omega arith
+cast_lined q m t (u ∷ us) = omega arith
+
+push_lined : (h : Shape) (q : Party) (c : Counts) (m : Part) (t u p : ℕ) (z : Bool) → IfSome (effect (if z then PushOwn u else PushInj p u) h q c m) (λ r. times t (r.1.seat.fifo) ≤ times t m.seat.fifo + 0)
+push_lined h q c m t u p true = omega arith
+push_lined h q c m t u p false = omega arith
+
+pub line_table : (h : Shape) (q : Party) (c : Counts) (m : Part) (t : ℕ) (x : Place) → IfSome (effect (act_of q x) h q c m) (Lines m t x)
+line_table h (Worker a b) c m t (PopWorking k) = pop_lined (Worker a b) m t _ _
+line_table h (Caller n) c m t (PopWorking k) = tt
+line_table h (Worker a b) c m t (PopIdle k) = pop_lined (Worker a b) m t _ _
+line_table h (Caller n) c m t (PopIdle k) = tt
+line_table h (Worker a b) c m t (JoinPop o) = pop_lined (Worker a b) m t _ _
+line_table h (Caller n) c m t (JoinPop o) = tt
+line_table h (Worker a b) c m t YieldPop = pop_lined (Worker a b) m t _ _
+line_table h (Caller n) c m t YieldPop = tt
+line_table h (Worker a b) c m t LocalPop = pop_lined (Worker a b) m t _ _
+line_table h (Caller n) c m t LocalPop = tt
+line_table h (Worker a b) c m t (StealFrom k n) = pop_lined (Worker a b) m t _ _
+line_table h (Caller g) c m t (StealFrom k n) = tt
+line_table h (Worker a b) c m t (YieldSteal v n) = pop_lined (Worker a b) m t _ _
+line_table h (Caller g) c m t (YieldSteal v n) = tt
+line_table h (Worker a b) c m t (PopInjected k) = inj_lined (Worker a b) m t m.pool.injector
+line_table h (Caller n) c m t (PopInjected k) = tt
+line_table h (Worker a b) c m t YieldPopInjected = inj_lined (Worker a b) m t m.pool.injector
+line_table h (Caller n) c m t YieldPopInjected = tt
+line_table h (Worker a b) c m t (TakeCastWorking k) = cast_lined (Worker a b) m t (m.pool.casts b)
+line_table h (Caller n) c m t (TakeCastWorking k) = tt
+line_table h (Worker a b) c m t (TakeCastIdle k) = cast_lined (Worker a b) m t (m.pool.casts b)
+line_table h (Caller n) c m t (TakeCastIdle k) = tt
+line_table h (Worker a b) c m t (JoinTakeCast o) = cast_lined (Worker a b) m t (m.pool.casts b)
+line_table h (Caller n) c m t (JoinTakeCast o) = tt
+line_table h (Worker a b) c m t YieldTakeCast = cast_lined (Worker a b) m t (m.pool.casts b)
+line_table h (Caller n) c m t YieldTakeCast = tt
+line_table h (Worker a b) c m t LocalTakeCast = cast_lined (Worker a b) m t (m.pool.casts b)
+line_table h (Caller n) c m t LocalTakeCast = tt
+line_table h (Worker a b) c m t (PushJob n v) = push_lined h (Worker a b) c m t (plan_job n) (plan_pool n) (is_member (Worker a b) (plan_pool n))
+line_table h (Caller g) c m t (PushJob n v) = push_lined h (Caller g) c m t (plan_job n) (plan_pool n) (is_member (Caller g) (plan_pool n))
+line_table h (Worker a b) c m t (PushToken f v) = omega arith
+line_table h (Caller g) c m t (PushToken f v) = tt
+line_table h (Worker a b) c m t (AddToFifo f) = if_cond (Lines m t (AddToFifo f)) (is_open (Worker a b) m.seat.feeder) _ (λ z. let k : times t (m.seat.fifo ++ f.job ∷ []) ≡ (times t m.seat.fifo + one (t == f.job)) = times_push m.seat.fifo t f.job in omega (arith, k))
+line_table h (Caller g) c m t (AddToFifo f) = tt
+line_table h (Worker a b) c m t (TakeFromFifo f) = undo_sees (Lines m t (TakeFromFifo f)) (Worker a b) m (omega arith) (λ u e. let k : times t m.seat.fifo ≡ (one (t == u) + times t (but_last m.seat.fifo)) = times_drop m.seat.fifo t u e in omega (arith, k))
+line_table h (Caller g) c m t (TakeFromFifo f) = tt
+line_table h q c m t (BeginTask (Plain u)) = omega arith
+line_table h q c m t (BeginTask (Token k i)) = out_sees (Lines m t (BeginTask (Token k i))) q m (omega arith) (λ u us e. let k : times t m.seat.fifo ≡ (one (t == u) + times t us) = ap (times t) e in omega (arith, k))
+line_table h q c m t (BeginHere u) = omega arith
+line_table h q c m t x = if_some_map (SameJobs m) (Lines m t x) (λ r s. let k : times t (r.1.seat.fifo) ≡ times t m.seat.fifo = ap (times t) (s.fifo) in omega (arith, k)) (effect (act_of q x) h q c m) (quiet_same h q c m x refl)
+
+-- a job in a FIFO list was made
+pub made_lined : (w : World) → JobsHold w → (p i t : ℕ) → 1 ≤ times t (w.seat p i).fifo → t + 1 ≤ w.jobs
+made_lined w h p i t b = elim (either (ltb t w.jobs)) [ inl y ↦ (let z : t < w.jobs = ltb-true t w.jobs y in omega (arith, z)) | inr n ↦ absurd (none (ltb-false t w.jobs n)) ]
+  where
+    none : w.jobs ≤ t → ⊥
+    none z = let a : times t (w.seat p i).fifo ≡ is_loc (Line p i) (loc_at (w.job t)) = ((h.ok).placed) (Line p i) t in
+        let e : is_loc (Line p i) (loc_at (w.job t)) ≡ 0 = ap (λ v. is_loc (Line p i) (loc_of v ((w.job t).runs))) ((h.unmade) t z) in omega (arith, a, e, b)
 
 -- the acts that write a cell or set a latch
 abbrev pub stores : Place → Option Ending

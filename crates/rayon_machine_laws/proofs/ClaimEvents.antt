@@ -6,11 +6,11 @@ use Rattle.rayon_machine_places.specs.declared.place.Party.TheVariants.{Worker, 
 use Rattle.rayon_machine_places.specs.declared.place.Ending.{Ending}
 use Rattle.rayon_machine_places.specs.declared.place.Ending.TheVariants.{Fine, Fault}
 use Rattle.rayon_machine_places.specs.declared.place.JobKind.{JobKind}
-use Rattle.rayon_machine_places.specs.declared.place.JobKind.TheVariants.{Detached, Stored, Direct}
+use Rattle.rayon_machine_places.specs.declared.place.JobKind.TheVariants.{Detached, Stored, Direct, TokenOf}
 use Rattle.rayon_machine_places.specs.declared.place.Share.TheVariants.{PoolValue, OfJob}
 use Rattle.rayon_machine_places.specs.declared.place.Then.TheVariants.{Resume}
 use Rattle.rayon_machine_places.specs.declared.place.Place.{Place}
-use Rattle.rayon_machine_places.specs.declared.place.Place.TheVariants.{PickVictim, StealFrom, YieldPick, YieldSteal, Run, GrowCall, PushJob, LowerCount, StoreResult, FirstSide, SecondSide, AtOnce, Free}
+use Rattle.rayon_machine_places.specs.declared.place.Place.TheVariants.{PickVictim, StealFrom, YieldPick, YieldSteal, Run, GrowCall, PushJob, LowerCount, StoreResult, FirstSide, SecondSide, AtOnce, Free, AddToFifo, PushToken}
 use Rattle.rayon_machine_places.specs.declared.act.Seen.{Seen}
 use Rattle.rayon_machine_places.specs.declared.act.Seen.TheVariants.{Refused, Missing, Start}
 use Rattle.rayon_machine_places.specs.declared.state.Whereabouts.TheVariants.{Over}
@@ -24,7 +24,7 @@ use Rattle.rayon_machine_laws.proofs.Hands.{held}
 use Rattle.rayon_machine_laws.proofs.PlacedEvents.{Advance}
 use Rattle.rayon_machine_laws.proofs.PlacedRuns.{jobs_advance}
 use Rattle.rayon_machine_laws.proofs.Claims.{FirstEnds, SaysRun, Says, wants, here, Link, Linked, AllSay, StackSays, relink, Learns}
-use Rattle.rayon_machine_laws.proofs.Later.{Later, later_says, later_all}
+use Rattle.rayon_machine_laws.proofs.Later.{Later, later_says, later_all, later_made}
 use Rattle.rayon_machine_laws.proofs.ClaimRuns.{CallsHold, all_says, moved_says}
 
 -- where one party has another stack, and pools keep what they said
@@ -37,6 +37,7 @@ restacked w q k P counts held s h a = record {
   cells = h.cells;
   latches = h.latches;
   ends = λ p i z. counts p ∙ h.ends p i z;
+  lines = λ p i t b. later_made w (record w { stack = put_stack w.stack q k; pool = P }) later t p (Detached p) (h.lines p i t b);
 }
   where
     later : Later w (record w { stack = put_stack w.stack q k; pool = P })
@@ -59,6 +60,8 @@ from_calls w q _ fs v z h = tt
 
 pub refuse_calls : (w : World) (q : Party) (x : Place) (fs : List Place) → w.stack q ≡ record { top = x; below = fs } → CallsHold w → IfSome (after_refusal w q (record { top = x; below = fs })) (λ u. Advance w u → CallsHold u)
 refuse_calls w q (GrowCall n) fs z h = λ a. seeing_calls w q (w.shape.pool (own_pool q)) (GrowCall n) fs Refused z tt h a
+refuse_calls w q (AddToFifo f) fs z h = λ a. seeing_calls w q (w.shape.pool (own_pool q)) (AddToFifo f) fs Refused z tt h a
+refuse_calls w q (PushToken f v) fs z h = λ a. seeing_calls w q (w.shape.pool (own_pool q)) (PushToken f v) fs Refused z tt h a
 refuse_calls w q (PushJob n v) fs z h = λ a. seeing_calls w q (w.shape.pool (own_pool q)) (PushJob n v) fs Refused z tt h a
 refuse_calls w q _ fs z h = tt
 
@@ -123,3 +126,4 @@ pub says_closed : (w u : World) (q : Party) (d : Ending) (t : ℕ) (k : JobKind)
 says_closed w u q d t (Detached p) fs h l c z y s s0 dp a k = record { top = (tt, (s.0, y ∙ dp p refl, (s.1, ap is_done z))); below = a; links = plain_links (Run t (Detached p)) (LowerCount p (OfJob t) Resume) fs refl k }
 says_closed w u q d t (Stored i o) fs h l c z y s s0 dp a k = record { top = (let b : (i + 1 ≤ w.calls) × ((w.call i).job ≡ t) = h.ties t (s0.0) i o (s0.1) in let m : w.calls ≤ u.calls = l.calls in let n : i + 1 ≤ w.calls = b.0 in ((let g : i + 1 ≤ u.calls = omega (arith, m, n) in g), ap (λ n. (u.job n).at) (c i ∙ b.1) ∙ z)); below = a; links = plain_links (Run t (Stored i o)) (StoreResult i o d) fs refl k }
 says_closed w u q d t Direct fs h l c z y s s0 dp a k = says_resumed u q d t fs z a k
+says_closed w u q d t (TokenOf i) fs h l c z y s s0 dp a k = says_resumed u q d t fs z a (relink (Run t (TokenOf i)) (Run t Direct) fs (λ v e. e) k)

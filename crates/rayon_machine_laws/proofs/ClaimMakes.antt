@@ -7,30 +7,30 @@ use Rattle.rayon_machine_places.specs.declared.place.Party.{Party}
 use Rattle.rayon_machine_places.specs.declared.place.Party.TheVariants.{Worker, Caller}
 use Rattle.rayon_machine_places.specs.declared.place.Ending.{Ending}
 use Rattle.rayon_machine_places.specs.declared.place.JobKind.{JobKind}
-use Rattle.rayon_machine_places.specs.declared.place.JobKind.TheVariants.{Detached, Stored, Direct}
+use Rattle.rayon_machine_places.specs.declared.place.JobKind.TheVariants.{Detached, Stored, Direct, TokenOf}
 use Rattle.rayon_machine_places.specs.declared.place.Target.TheVariants.{Termination}
 use Rattle.rayon_machine_places.specs.declared.place.Plan.{Plan}
-use Rattle.rayon_machine_places.specs.declared.place.Plan.TheVariants.{Detach, Here, Send, Fork}
+use Rattle.rayon_machine_places.specs.declared.place.Plan.TheVariants.{Detach, Here, Send, Fork, Feed}
 use Rattle.rayon_machine_places.specs.declared.place.Place.{Place}
 use Rattle.rayon_machine_places.specs.declared.place.Place.TheVariants.{ProbeWorking, YieldPop, LocalPop, Run, RaiseCount, Free, Stopped}
 use Rattle.rayon_machine_places.specs.declared.event.Event.{Event}
-use Rattle.rayon_machine_places.specs.declared.event.Event.TheVariants.{Go, From, Refuse, Miss, End, Spawn, Install, Join, Yield, YieldLocal, EndPool}
+use Rattle.rayon_machine_places.specs.declared.event.Event.TheVariants.{Go, From, Refuse, Miss, End, Spawn, Fifo, Install, Join, Yield, YieldLocal, EndPool}
 use Rattle.rayon_machine_places.specs.declared.state.Letter.TheVariants.{Set as IsSet}
 use Rattle.rayon_machine_places.specs.declared.state.Whereabouts.TheVariants.{Over}
 use Rattle.rayon_machine_places.specs.declared.state.Job.{Job}
 use Rattle.rayon_machine_places.specs.declared.state.Call.{Call}
 use Rattle.rayon_machine_places.specs.Places.{is_member, fresh, act_of, is_free}
 use Rattle.rayon_machine_places.specs.World.{Shape, World, target_pool, target_worker, target_call, at_job}
-use Rattle.rayon_machine_places.specs.Steps.{put, put_stack, after_close, after_end, after_call, is_pool, new_job, new_call, after_spawn, after_send, after_install, after_join, step}
+use Rattle.rayon_machine_places.specs.Steps.{put, put_stack, after_close, after_end, after_call, is_pool, new_job, new_call, after_spawn, after_send, after_install, after_join, step, after_feed, after_fifo}
 use Rattle.rayon_machine_places.specs.Runs.{start, IsRun}
 use Rattle.rayon_machine_places.specs.Readers.{is_done}
-use Rattle.rayon_machine_laws.proofs.Frame.{either, and_parts, if_cond, acted_keeps, put_same, put_new, put_old}
+use Rattle.rayon_machine_laws.proofs.Frame.{either, and_parts, if_cond, acted_keeps, put_same, put_new, put_old, fifo_cases}
 use Rattle.rayon_machine_laws.proofs.Ties.{job_at, outcome}
 use Rattle.rayon_machine_laws.proofs.Events.{run_keeps}
 use Rattle.rayon_machine_laws.proofs.PlacedEvents.{IsFinal, final_left, Advance}
 use Rattle.rayon_machine_laws.proofs.PlacedRuns.{jobs_advance, step_advance, first_jobs}
 use Rattle.rayon_machine_laws.proofs.Claims.{MadeAs, is_detached, SaysPlan, SaysRun, StackSays}
-use Rattle.rayon_machine_laws.proofs.Later.{Later, later_done, later_says, later_all}
+use Rattle.rayon_machine_laws.proofs.Later.{Later, later_done, later_says, later_all, later_made}
 use Rattle.rayon_machine_laws.proofs.ClaimRuns.{CallsHold, all_says, go_calls}
 use Rattle.rayon_machine_laws.proofs.ClaimEvents.{both, from_calls, refuse_calls, miss_calls, called_says, yield_calls, give_calls, ended_world, says_closed}
 
@@ -65,6 +65,7 @@ end_calls w q d (Run t k) fs z h = λ a. done a
       cells = λ c e y. (later a).over ((w.call c).job) e (h.cells c e y);
       latches = λ c y. later_done w (ended_world w q d t k fs) (later a) ((w.call c).job) (h.latches c y);
       ends = h.ends;
+      lines = λ p i s b. later_made w (ended_world w q d t k fs) (later a) s p (Detached p) (h.lines p i s b);
     }
 end_calls w q d _ fs z h = tt
 
@@ -90,6 +91,7 @@ made_calls w q n C J c j f h m a = record {
   cells = m.cells;
   latches = m.latches;
   ends = h.ends;
+  lines = λ p i t b. later_made w (calling w q n C J c j) (m.later) t p (Detached p) (h.lines p i t b);
 }
 
 -- a number below another is not it
@@ -204,6 +206,60 @@ spawn_calls : (w : World) (q : Party) (p : ℕ) → CallsHold w → IfSome (afte
 spawn_calls w q p h = if_cond (λ u. Advance w u → CallsHold u) (is_free ((w.stack q).top) && is_pool w.shape p) _ (λ f a. made_calls w q (Detach p w.jobs) w.call (put w.job w.jobs (new_job q p (Detached p))) w.calls (w.jobs + 1) ((and_parts (is_free ((w.stack q).top)) (is_pool w.shape p) f).0) h
     (plain_makes w q (Detach p w.jobs) p (Detached p) (λ c o z. cc) (λ r z. (let k : p ≡ r = cc in k)) (λ u s. s) h a) a)
 
+-- a call that makes a job for a FIFO list, and a token of it
+feed_calls : (w : World) (p i : ℕ) → is_free (w.stack (Worker p i)).top ≡ true → CallsHold w → Advance w (after_feed w p i (w.stack (Worker p i))) → CallsHold (after_feed w p i (w.stack (Worker p i)))
+feed_calls w p i free h a = made_calls w q n w.call J w.calls (w.jobs + 2) free h makes a
+  where
+    q : Party
+    q = Worker p i
+
+    n : Plan
+    n = Feed (record { pool = p; job = w.jobs; token = w.jobs + 1 })
+
+    first : ℕ → Job
+    first = put w.job w.jobs (new_job q p (Detached p))
+
+    J : ℕ → Job
+    J = put first (w.jobs + 1) (new_job q p (TokenOf i))
+
+    u : World
+    u = after_feed w p i (w.stack q)
+
+    same : (t : ℕ) → t + 1 ≤ w.jobs → J t ≡ w.job t
+    same t b = put_old first (w.jobs + 1) (new_job q p (TokenOf i)) t (below_new t (w.jobs + 1) (omega (arith, b))) ∙ put_old w.job w.jobs (new_job q p (Detached p)) t (below_new t w.jobs b)
+
+    mine : J w.jobs ≡ new_job q p (Detached p)
+    mine = put_old first (w.jobs + 1) (new_job q p (TokenOf i)) w.jobs (below_new w.jobs (w.jobs + 1) (omega arith)) ∙ put_new w.job w.jobs (new_job q p (Detached p))
+
+    token : J (w.jobs + 1) ≡ new_job q p (TokenOf i)
+    token = put_new first (w.jobs + 1) (new_job q p (TokenOf i))
+
+    later : Later w u
+    later = record { jobs = omega arith; calls = omega arith; over = final_over w u a; left = λ t z. final_left ((w.job t).at) ((u.job t).at) (a.final t) z; kind = λ t b. ap (λ j. j.kind) (same t b); pool = λ t b. ap (λ j. j.pool) (same t b); target = λ c b. refl; side = λ c b. refl; given = λ r e. e; ended = λ r e. e }
+
+    ties : (t : ℕ) (c : ℕ) (o : Party) (y z : Bool) → (t == (w.jobs + 1)) ≡ y → (t == w.jobs) ≡ z → t + 1 ≤ w.jobs + 2 → (if y then new_job q p (TokenOf i) else (if z then new_job q p (Detached p) else w.job t)).kind ≡ Stored c o → (c + 1 ≤ w.calls) × ((w.call c).job ≡ t)
+    ties t c o true z e f b k = absurd (cc)
+    ties t c o false true e f b k = absurd (cc)
+    ties t c o false false e f b k = h.ties t (below_or t w.jobs f (below_or t (w.jobs + 1) e (omega (arith, b)))) c o k
+
+    pools : (t r : ℕ) (y z : Bool) → (t == (w.jobs + 1)) ≡ y → (t == w.jobs) ≡ z → t + 1 ≤ w.jobs + 2 → (if y then new_job q p (TokenOf i) else (if z then new_job q p (Detached p) else w.job t)).kind ≡ Detached r → (if y then new_job q p (TokenOf i) else (if z then new_job q p (Detached p) else w.job t)).pool ≡ r
+    pools t r true z e f b k = absurd (cc)
+    pools t r false true e f b k = (let g : p ≡ r = cc in g)
+    pools t r false false e f b k = h.pools t (below_or t w.jobs f (below_or t (w.jobs + 1) e (omega (arith, b)))) r k
+
+    makes : Makes w u q n
+    makes = record {
+      later = later;
+      says = (record { made = omega arith; kind = ap (λ j. j.kind) mine; pool = ap (λ j. j.pool) mine }, record { made = omega arith; kind = ap (λ j. j.kind) token; pool = ap (λ j. j.pool) token }, refl);
+      ties = λ t b c o k. ties t c o (t == (w.jobs + 1)) (t == w.jobs) refl refl b k;
+      pools = λ t b r k. pools t r (t == (w.jobs + 1)) (t == w.jobs) refl refl b k;
+      cells = λ c e z. later.over ((w.call c).job) e (h.cells c e z);
+      latches = λ c z. later_done w u later ((w.call c).job) (h.latches c z);
+    }
+
+fifo_calls : (w : World) (q : Party) (p : ℕ) → CallsHold w → IfSome (after_fifo w q p (w.stack q)) (λ u. Advance w u → CallsHold u)
+fifo_calls w q p h = fifo_cases (λ u. Advance w u → CallsHold u) w q p (spawn_calls w q p h) (λ i free a. feed_calls w p i free h a)
+
 sent_calls : (w : World) (q : Party) (p : ℕ) (b : Bool) → is_free (w.stack q).top ≡ true → CallsHold w → Advance w (after_send w q p (w.stack q) b) → CallsHold (after_send w q p (w.stack q) b)
 sent_calls w q p true f h a = made_calls w q (Here p w.jobs) w.call (put w.job w.jobs (new_job q p Direct)) w.calls (w.jobs + 1) f h (plain_makes w q (Here p w.jobs) p Direct (λ c o z. cc) (λ r z. cc) (λ u s. s) h a) a
 sent_calls w q p false f h a = made_calls w q (Send (record { number = w.calls; pool = p; job = w.jobs })) (put w.call w.calls (new_call None w.jobs)) (put w.job w.jobs (new_job q p (Stored w.calls q))) (w.calls + 1) (w.jobs + 1) f h (send_makes w q p h a) a
@@ -218,16 +274,17 @@ join_calls w (Worker p i) h = if_cond (λ u. Advance w u → CallsHold u) (is_fr
 -- each step keeps what the places, cells and latches say
 pub step_calls : (w : World) (e : Event) → CallsHold w → IfSome (step w e) CallsHold
 step_calls w (Go q) h = acted_keeps w q (w.stack q) (target_pool q (act_of q ((w.stack q).top))) (target_worker q (act_of q ((w.stack q).top))) (target_call (act_of q ((w.stack q).top))) (job_at w q (act_of q ((w.stack q).top))) (outcome w q (w.stack q)) CallsHold (go_calls w q h)
-step_calls w (From q v) h = both w (step w (From q v)) (step_advance w (From q v) ((h.jobs).ok) ((h.jobs).unmade)) (from_calls w q ((w.stack q).top) ((w.stack q).below) v refl h)
-step_calls w (Refuse q) h = both w (step w (Refuse q)) (step_advance w (Refuse q) ((h.jobs).ok) ((h.jobs).unmade)) (refuse_calls w q ((w.stack q).top) ((w.stack q).below) refl h)
-step_calls w (Miss q) h = both w (step w (Miss q)) (step_advance w (Miss q) ((h.jobs).ok) ((h.jobs).unmade)) (miss_calls w q ((w.stack q).top) ((w.stack q).below) refl h)
-step_calls w (End q d) h = both w (step w (End q d)) (step_advance w (End q d) ((h.jobs).ok) ((h.jobs).unmade)) (end_calls w q d ((w.stack q).top) ((w.stack q).below) refl h)
-step_calls w (Spawn q p) h = both w (step w (Spawn q p)) (step_advance w (Spawn q p) ((h.jobs).ok) ((h.jobs).unmade)) (spawn_calls w q p h)
-step_calls w (Install q p) h = both w (step w (Install q p)) (step_advance w (Install q p) ((h.jobs).ok) ((h.jobs).unmade)) (install_calls w q p h)
-step_calls w (Join q) h = both w (step w (Join q)) (step_advance w (Join q) ((h.jobs).ok) ((h.jobs).unmade)) (join_calls w q h)
-step_calls w (Yield q) h = both w (step w (Yield q)) (step_advance w (Yield q) ((h.jobs).ok) ((h.jobs).unmade)) (yield_calls w q YieldPop (λ u r. tt) h)
-step_calls w (YieldLocal q) h = both w (step w (YieldLocal q)) (step_advance w (YieldLocal q) ((h.jobs).ok) ((h.jobs).unmade)) (yield_calls w q LocalPop (λ u r. tt) h)
-step_calls w (EndPool q p) h = both w (step w (EndPool q p)) (step_advance w (EndPool q p) ((h.jobs).ok) ((h.jobs).unmade)) (give_calls w q p h)
+step_calls w (From q v) h = both w (step w (From q v)) (step_advance w (From q v) ((h.jobs).feeds) ((h.jobs).ok) ((h.jobs).unmade)) (from_calls w q ((w.stack q).top) ((w.stack q).below) v refl h)
+step_calls w (Refuse q) h = both w (step w (Refuse q)) (step_advance w (Refuse q) ((h.jobs).feeds) ((h.jobs).ok) ((h.jobs).unmade)) (refuse_calls w q ((w.stack q).top) ((w.stack q).below) refl h)
+step_calls w (Miss q) h = both w (step w (Miss q)) (step_advance w (Miss q) ((h.jobs).feeds) ((h.jobs).ok) ((h.jobs).unmade)) (miss_calls w q ((w.stack q).top) ((w.stack q).below) refl h)
+step_calls w (End q d) h = both w (step w (End q d)) (step_advance w (End q d) ((h.jobs).feeds) ((h.jobs).ok) ((h.jobs).unmade)) (end_calls w q d ((w.stack q).top) ((w.stack q).below) refl h)
+step_calls w (Spawn q p) h = both w (step w (Spawn q p)) (step_advance w (Spawn q p) ((h.jobs).feeds) ((h.jobs).ok) ((h.jobs).unmade)) (spawn_calls w q p h)
+step_calls w (Fifo q p) h = both w (step w (Fifo q p)) (step_advance w (Fifo q p) ((h.jobs).feeds) ((h.jobs).ok) ((h.jobs).unmade)) (fifo_calls w q p h)
+step_calls w (Install q p) h = both w (step w (Install q p)) (step_advance w (Install q p) ((h.jobs).feeds) ((h.jobs).ok) ((h.jobs).unmade)) (install_calls w q p h)
+step_calls w (Join q) h = both w (step w (Join q)) (step_advance w (Join q) ((h.jobs).feeds) ((h.jobs).ok) ((h.jobs).unmade)) (join_calls w q h)
+step_calls w (Yield q) h = both w (step w (Yield q)) (step_advance w (Yield q) ((h.jobs).feeds) ((h.jobs).ok) ((h.jobs).unmade)) (yield_calls w q YieldPop (λ u r. tt) h)
+step_calls w (YieldLocal q) h = both w (step w (YieldLocal q)) (step_advance w (YieldLocal q) ((h.jobs).feeds) ((h.jobs).ok) ((h.jobs).unmade)) (yield_calls w q LocalPop (λ u r. tt) h)
+step_calls w (EndPool q p) h = both w (step w (EndPool q p)) (step_advance w (EndPool q p) ((h.jobs).feeds) ((h.jobs).ok) ((h.jobs).unmade)) (give_calls w q p h)
 
 first_says : (h : Shape) (q : Party) → StackSays (start h) q ((start h).stack q)
 first_says h (Caller n) = at (nat_lt n h.callers)
@@ -243,7 +300,7 @@ first_says h (Worker p i) = at (nat_lt i (h.pool p).workers) ((h.pool p).callers
     at false z = record { top = tt; below = tt; links = tt }
 
 pub first_calls : (h : Shape) → CallsHold (start h)
-first_calls h = record { jobs = first_jobs h; says = first_says h; ties = λ t b c o z. cc; pools = λ t b p z. cc; cells = λ c e z. cc; latches = λ c z. cc; ends = λ p i z. cc }
+first_calls h = record { jobs = first_jobs h; says = first_says h; ties = λ t b c o z. cc; pools = λ t b p z. cc; cells = λ c e z. cc; latches = λ c z. cc; ends = λ p i z. cc; lines = λ p i t b. absurd (omega (arith, b)) }
 
 pub always_calls : (h : Shape) (es : List Event) (w : World) → IsRun (start h) es w → CallsHold w
 always_calls h es w r = run_keeps CallsHold step_calls (start h) w es (first_calls h) r

@@ -1,40 +1,44 @@
 -- what places, cells and latches say holds in every world of every run
 use Rattle.std.proofs.Common.{arith, refl, sym, ◌∙◌, ap, subst, inl, inr}
-use Rattle.std.specs.Prelude.{ℕ, Bool, true, false, not, ◌&&◌, ◌+◌, ◌==◌, ◌≤◌, if◌then◌else◌, Option, Some, List, ◌≡◌, IfSome}
-use Rattle.std.proofs.lemmas.Bool.{eqb-true, eq-eqb}
+use Rattle.std.specs.Prelude.{ℕ, Bool, true, false, not, ◌&&◌, ◌+◌, ◌==◌, ◌≤◌, ◌<◌, if◌then◌else◌, Option, Some, List, ◌≡◌, IfSome, zero, suc}
+use Rattle.std.proofs.lemmas.Bool.{eqb-true, eq-eqb, ltb-true, ltb-false}
+use Rattle.std.proofs.Math.Dec.{ltb}
 use Rattle.rayon_machine_places.specs.declared.place.Party.{Party}
 use Rattle.rayon_machine_places.specs.declared.place.Party.TheVariants.{Worker, Caller}
 use Rattle.rayon_machine_places.specs.declared.place.Ending.{Ending}
-use Rattle.rayon_machine_places.specs.declared.place.JobKind.TheVariants.{Detached, Stored}
+use Rattle.rayon_machine_places.specs.declared.place.JobKind.TheVariants.{Detached, Stored, TokenOf}
 use Rattle.rayon_machine_places.specs.declared.place.Latch.{Latch}
 use Rattle.rayon_machine_places.specs.declared.place.Latch.TheVariants.{Terminate, OfCall}
-use Rattle.rayon_machine_places.specs.declared.place.Plan.TheVariants.{Detach, Here, Send, Fork}
+use Rattle.rayon_machine_places.specs.declared.place.Plan.TheVariants.{Detach, Here, Send, Fork, Feed}
+use Rattle.rayon_machine_places.specs.declared.place.Taken.TheVariants.{Plain, Token}
 use Rattle.rayon_machine_places.specs.declared.place.Place.{Place}
-use Rattle.rayon_machine_places.specs.declared.place.Place.TheVariants.{PopWorking, TakeCastWorking, PopIdle, TakeCastIdle, StealFrom, PopInjected, JoinPop, JoinTakeCast, YieldPop, YieldTakeCast, YieldSteal, YieldPopInjected, LocalPop, LocalTakeCast, BeginTask, BeginHere, Run, TakeResult, LowerCount, StoreResult, SetLatch, SetLockLatch}
+use Rattle.rayon_machine_places.specs.declared.place.Place.TheVariants.{PopWorking, TakeCastWorking, PopIdle, TakeCastIdle, StealFrom, PopInjected, JoinPop, JoinTakeCast, YieldPop, YieldTakeCast, YieldSteal, YieldPopInjected, LocalPop, LocalTakeCast, BeginTask, BeginHere, Run, TakeResult, LowerCount, StoreResult, SetLatch, SetLockLatch, AddToFifo, TakeFromFifo}
 use Rattle.rayon_machine_places.specs.declared.place.Move.{Move}
-use Rattle.rayon_machine_places.specs.declared.place.Move.TheVariants.{Stay, Enter, StartRun, Back, HandBack}
+use Rattle.rayon_machine_places.specs.declared.place.Move.TheVariants.{Stay, Enter, StartRun, Back, HandBack, Discard, HandIn}
 use Rattle.rayon_machine_places.specs.declared.act.Seen.{Seen}
-use Rattle.rayon_machine_places.specs.declared.act.Seen.TheVariants.{Yes, Task, Begun, Found}
+use Rattle.rayon_machine_places.specs.declared.act.Seen.TheVariants.{Yes, Task, Begun, Found, Handed}
 use Rattle.rayon_machine_places.specs.declared.state.Letter.TheVariants.{Set as IsSet}
-use Rattle.rayon_machine_places.specs.declared.state.Whereabouts.TheVariants.{Over, HandedBack}
+use Rattle.rayon_machine_places.specs.declared.state.Whereabouts.TheVariants.{Nowhere, Over, HandedBack, Spent}
 use Rattle.rayon_machine_places.specs.declared.shape.PoolShape.{PoolShape}
 use Rattle.rayon_machine_places.specs.declared.place.OpenCall.{OpenCall}
 use Rattle.rayon_machine_places.specs.declared.state.Job.{Job}
-use Rattle.rayon_machine_places.specs.Places.{same_party, act_of, next_of}
+use Rattle.rayon_machine_places.specs.Places.{same_party, act_of, next_of, taken_number}
 use Rattle.rayon_machine_places.specs.World.{Stack, World, counts_at, Part, target_pool, target_worker, call_of, target_call, at_job, begun}
 use Rattle.rayon_machine_places.specs.Steps.{put, put_stack, part_of, after_move, jobs_after, after}
 use Rattle.rayon_machine_places.specs.Readers.{is_done}
-use Rattle.rayon_machine_laws.specs.Once.{one}
-use Rattle.rayon_machine_laws.proofs.Frame.{same_index, same_party_true, if_some_and, if_some_map, put_new}
+use Rattle.rayon_machine_laws.specs.Once.{one, times}
+use Rattle.rayon_machine_laws.proofs.Frame.{either, after_kind, same_index, same_party_true, if_some_and, if_some_map, put_new, if_some_each}
 use Rattle.rayon_machine_laws.proofs.Ties.{job_at, outcome, result}
 use Rattle.rayon_machine_laws.proofs.Hands.{held_in, held}
-use Rattle.rayon_machine_laws.proofs.Located.{is_left}
+use Rattle.rayon_machine_laws.proofs.Feeds.{fed, fed_in, all_fed, fed_after, fed_stacks}
+use Rattle.rayon_machine_laws.proofs.Located.{is_left, IsOnward}
 use Rattle.rayon_machine_laws.proofs.Placed.{Kept}
 use Rattle.rayon_machine_laws.proofs.PlacedEvents.{go_kept, Advance, kept_advance}
 use Rattle.rayon_machine_laws.proofs.PlacedRuns.{JobsHold, jobs_advance}
-use Rattle.rayon_machine_laws.proofs.Claims.{Opened, Left, SaysLatch, Says, StackSays, PassMove, none_passes, land_says, Learns, says_next}
-use Rattle.rayon_machine_laws.proofs.Later.{Later, later_done, later_says, later_all, later_stack, Static, act_static}
-use Rattle.rayon_machine_laws.proofs.ClaimActs.{Lasting, lasting, Took, Learned, act_learned, made_held, stores, is_call, sets_call, sets_seat, Written, act_written}
+use Rattle.rayon_machine_laws.proofs.Claims.{Opened, Left, Taking, SaysLatch, Says, StackSays, PassMove, none_passes, land_says, Learns, says_next, MadeAs}
+use Rattle.rayon_machine_laws.proofs.Later.{Later, later_done, later_says, later_all, later_stack, Static, act_static, later_made}
+use Rattle.rayon_machine_laws.proofs.ClaimActs.{Lasting, lasting, Took, Learned, act_learned, made_held, stores, is_call, sets_call, sets_seat, Written, act_written, made_lined, lined, Lines, line_table}
+use Rattle.rayon_machine_places.specs.declared.place.Taken.{Taken}
 
 -- what holds of the calls of every world
 pub record CallsHold (w : World) : Type 0 where
@@ -45,6 +49,7 @@ pub record CallsHold (w : World) : Type 0 where
   pub cells : (c : ℕ) (e : Ending) → (w.call c).cell ≡ Some e → (w.job (w.call c).job).at ≡ Over e
   pub latches : (c : ℕ) → (w.call c).latch ≡ IsSet → is_done (w.job (w.call c).job).at ≡ true
   pub ends : (p i : ℕ) → (w.seat p i).latch ≡ IsSet → (w.pool p).count ≡ 0
+  pub lines : (p i t : ℕ) → 1 ≤ times t (w.seat p i).fifo → MadeAs w t p (Detached p)
 
 -- the stacks after one party has another
 pub all_says : (w u : World) → Later w u → (q : Party) (k : Stack) → StackSays u q k → ((r : Party) → StackSays w r (w.stack r)) → (r : Party) → StackSays u r (put_stack w.stack q k r)
@@ -75,7 +80,7 @@ world_after w q x fs r = after w q (record { top = x; below = fs }) (target_pool
 abbrev pub place_part : World → Party → Place → Part
 place_part w q x = part_of w (target_pool q (act_of q x)) (target_worker q (act_of q x)) (target_call (act_of q x)) (job_at w q (act_of q x))
 
-begun_held : (w : World) → JobsHold w → (q : Party) (t : ℕ) (fs : List Place) → w.stack q ≡ record { top = BeginTask t; below = fs } → t + 1 ≤ w.jobs
+begun_held : (w : World) → JobsHold w → (q : Party) (t : ℕ) (fs : List Place) → w.stack q ≡ record { top = BeginTask (Plain t); below = fs } → t + 1 ≤ w.jobs
 begun_held w h q t fs z = made_held w h q t (let a : held t (w.stack q) ≡ (one (t == t) + held_in t fs) = ap (held t) z in let b : one (t == t) ≡ 1 = ap one (eq-eqb t t refl) in omega (arith, a, b))
 
 took : (w u : World) (q : Party) (o : OpenCall) (f : Option Ending) (d : Ending) → CallsHold w → Lasting w u → Opened w q o → (w.call o.number).cell ≡ Some d → (u.job o.job).at ≡ Over d
@@ -90,6 +95,9 @@ put_left J a j t y z = by (t == a)
 
 after_left : (q : Party) (g : Move) (J : ℕ → Job) (t : ℕ) → is_left (J t).at ≡ true → is_left (jobs_after q g J t).at ≡ true
 after_left q (Stay y) J t z = z
+after_left q (HandIn y k) J t z = put_left J k (at_job (J k) Spent) t refl z
+after_left q (Discard k) J t z = put_left J k (at_job (J k) Spent) t refl z
+after_left q (HandBack (Feed d)) J t z = put_left (put J (d.job) (at_job (J (d.job)) HandedBack)) (d.token) (at_job (J (d.token)) HandedBack) t refl (put_left J (d.job) (at_job (J (d.job)) HandedBack) t refl z)
 after_left q (Enter f y) J t z = z
 after_left q Back J t z = z
 after_left q (StartRun f a) J t z = put_left J a (begun q (J a)) t refl z
@@ -98,45 +106,57 @@ after_left q (HandBack (Here p a)) J t z = put_left J a (at_job (J a) HandedBack
 after_left q (HandBack (Send o)) J t z = put_left J (o.job) (at_job (J (o.job)) HandedBack) t refl z
 after_left q (HandBack (Fork o a)) J t z = put_left (put J a (at_job (J a) HandedBack)) (o.job) (at_job (J (o.job)) HandedBack) t refl (put_left J a (at_job (J a) HandedBack) t refl z)
 
-left_now : (w : World) (q : Party) (x : Place) (fs : List Place) (t : ℕ) (e : Seen) (m : Part) → Took w.shape q (place_part w q x) x t m → Left (world_after w q x fs (e, m)) t
-left_now w q x fs t e m k = after_left q (next_of (w.shape.pool (target_pool q (act_of q x))) q x e) (put w.job (job_at w q (act_of q x)) (m.job)) t (subst (λ n. is_left (put w.job (job_at w q (act_of q x)) (m.job) n).at ≡ true) (k.0) (ap (λ j. is_left (j.at)) (put_new w.job (job_at w q (act_of q x)) (m.job)) ∙ k.1))
+left_now : (w : World) (q : Party) (x : Place) (fs : List Place) (t : Taken) (e : Seen) (m : Part) → Took w.shape q (place_part w q x) x t m → Left (world_after w q x fs (e, m)) (taken_number t)
+left_now w q x fs t e m k = after_left q (next_of (w.shape.pool (target_pool q (act_of q x))) q x e) (put w.job (job_at w q (act_of q x)) (m.job)) (taken_number t) (subst (λ n. is_left (put w.job (job_at w q (act_of q x)) (m.job) n).at ≡ true) (k.0) (ap (λ j. is_left (j.at)) (put_new w.job (job_at w q (act_of q x)) (m.job)) ∙ k.1))
 
-pub learns : (w : World) (q : Party) (x : Place) (fs : List Place) (r : Seen × Part) → CallsHold w → w.stack q ≡ record { top = x; below = fs } → Lasting w (world_after w q x fs r) → Learned w.shape q (place_part w q x) x r → Learns (world_after w q x fs r) x (r.0)
-learns w (Worker a b) (PopWorking k) fs (Task t, m) h z l y = left_now w (Worker a b) (PopWorking k) fs t (Task t) m y
-learns w (Worker a b) (TakeCastWorking k) fs (Task t, m) h z l y = left_now w (Worker a b) (TakeCastWorking k) fs t (Task t) m y
-learns w (Worker a b) (PopIdle k) fs (Task t, m) h z l y = left_now w (Worker a b) (PopIdle k) fs t (Task t) m y
-learns w (Worker a b) (TakeCastIdle k) fs (Task t, m) h z l y = left_now w (Worker a b) (TakeCastIdle k) fs t (Task t) m y
-learns w (Worker a b) (StealFrom k v) fs (Task t, m) h z l y = left_now w (Worker a b) (StealFrom k v) fs t (Task t) m y
-learns w (Worker a b) (PopInjected k) fs (Task t, m) h z l y = left_now w (Worker a b) (PopInjected k) fs t (Task t) m y
-learns w (Worker a b) (JoinPop o) fs (Task t, m) h z l y = left_now w (Worker a b) (JoinPop o) fs t (Task t) m y
-learns w (Worker a b) (JoinTakeCast o) fs (Task t, m) h z l y = left_now w (Worker a b) (JoinTakeCast o) fs t (Task t) m y
-learns w (Worker a b) YieldPop fs (Task t, m) h z l y = left_now w (Worker a b) YieldPop fs t (Task t) m y
-learns w (Worker a b) YieldTakeCast fs (Task t, m) h z l y = left_now w (Worker a b) YieldTakeCast fs t (Task t) m y
-learns w (Worker a b) (YieldSteal v j) fs (Task t, m) h z l y = left_now w (Worker a b) (YieldSteal v j) fs t (Task t) m y
-learns w (Worker a b) YieldPopInjected fs (Task t, m) h z l y = left_now w (Worker a b) YieldPopInjected fs t (Task t) m y
-learns w (Worker a b) LocalPop fs (Task t, m) h z l y = left_now w (Worker a b) LocalPop fs t (Task t) m y
-learns w (Worker a b) LocalTakeCast fs (Task t, m) h z l y = left_now w (Worker a b) LocalTakeCast fs t (Task t) m y
-learns w (Caller c) (PopWorking k) fs (Task t, m) h z l y = left_now w (Caller c) (PopWorking k) fs t (Task t) m y
-learns w (Caller c) (TakeCastWorking k) fs (Task t, m) h z l y = left_now w (Caller c) (TakeCastWorking k) fs t (Task t) m y
-learns w (Caller c) (PopIdle k) fs (Task t, m) h z l y = left_now w (Caller c) (PopIdle k) fs t (Task t) m y
-learns w (Caller c) (TakeCastIdle k) fs (Task t, m) h z l y = left_now w (Caller c) (TakeCastIdle k) fs t (Task t) m y
-learns w (Caller c) (StealFrom k v) fs (Task t, m) h z l y = left_now w (Caller c) (StealFrom k v) fs t (Task t) m y
-learns w (Caller c) (PopInjected k) fs (Task t, m) h z l y = left_now w (Caller c) (PopInjected k) fs t (Task t) m y
-learns w (Caller c) (JoinPop o) fs (Task t, m) h z l y = left_now w (Caller c) (JoinPop o) fs t (Task t) m y
-learns w (Caller c) (JoinTakeCast o) fs (Task t, m) h z l y = left_now w (Caller c) (JoinTakeCast o) fs t (Task t) m y
-learns w (Caller c) YieldPop fs (Task t, m) h z l y = left_now w (Caller c) YieldPop fs t (Task t) m y
-learns w (Caller c) YieldTakeCast fs (Task t, m) h z l y = left_now w (Caller c) YieldTakeCast fs t (Task t) m y
-learns w (Caller c) (YieldSteal v j) fs (Task t, m) h z l y = left_now w (Caller c) (YieldSteal v j) fs t (Task t) m y
-learns w (Caller c) YieldPopInjected fs (Task t, m) h z l y = left_now w (Caller c) YieldPopInjected fs t (Task t) m y
-learns w (Caller c) LocalPop fs (Task t, m) h z l y = left_now w (Caller c) LocalPop fs t (Task t) m y
-learns w (Caller c) LocalTakeCast fs (Task t, m) h z l y = left_now w (Caller c) LocalTakeCast fs t (Task t) m y
-learns w (Worker a b) (TakeResult o f) fs (Found d, m) h z l y = took w (world_after w (Worker a b) (TakeResult o f) fs (Found d, m)) (Worker a b) o f d h l ((top_says w (Worker a b) (TakeResult o f) fs h z).0) y
-learns w (Worker a b) (LowerCount p s k) fs (Yes, m) h z l y = ap (λ v. v.count) (put_new w.pool p (m.pool)) ∙ y
-learns w (Worker a b) (BeginTask t) fs (Begun d, m) h z l y = (begun_held w (h.jobs) (Worker a b) t fs z, l.kinds t ∙ y)
-learns w (Caller v) (TakeResult o f) fs (Found d, m) h z l y = took w (world_after w (Caller v) (TakeResult o f) fs (Found d, m)) (Caller v) o f d h l ((top_says w (Caller v) (TakeResult o f) fs h z).0) y
-learns w (Caller v) (LowerCount p s k) fs (Yes, m) h z l y = ap (λ v. v.count) (put_new w.pool p (m.pool)) ∙ y
-learns w (Caller v) (BeginTask t) fs (Begun d, m) h z l y = (begun_held w (h.jobs) (Caller v) t fs z, l.kinds t ∙ y)
-learns w q x fs (e, m) h z l y = tt
+-- what has left its call was made before
+left_made : (w u : World) → JobsHold w → Kept w u → (t : ℕ) → Left u t → t + 1 ≤ w.jobs
+left_made w u h k t z = elim (either (ltb t w.jobs)) [ inl y ↦ (let b : t < w.jobs = ltb-true t w.jobs y in omega (arith, b)) | inr n ↦ absurd (let a : (w.job t).at ≡ Nowhere = (h.unmade) t (ltb-false t w.jobs n) in let c : (u.job t).at ≡ Nowhere = subst (λ v. IsOnward v ((u.job t).at)) a (k.onward t) in let d : is_left (u.job t).at ≡ false = ap is_left c in cc) ]
+
+taking_now : (w : World) (q : Party) (x : Place) (fs : List Place) (t : Taken) (e : Seen) (m : Part) → JobsHold w → Kept w (world_after w q x fs (e, m)) → Took w.shape q (place_part w q x) x t m → Taking (world_after w q x fs (e, m)) t
+taking_now w q x fs (Plain t) e m h o k = left_now w q x fs (Plain t) e m k
+taking_now w q x fs (Token t i) e m h o k = (left_now w q x fs (Token t i) e m k, left_made w (world_after w q x fs (e, m)) h o t (left_now w q x fs (Token t i) e m k), after_kind q (next_of (w.shape.pool (target_pool q (act_of q x))) q x e) (put w.job (job_at w q (act_of q x)) (m.job)) t ∙ subst (λ n. (put w.job (job_at w q (act_of q x)) (m.job) n).kind ≡ TokenOf i) (k.0) (ap (λ j. j.kind) (put_new w.job (job_at w q (act_of q x)) (m.job)) ∙ k.2))
+
+pub learns : (w : World) (q : Party) (x : Place) (fs : List Place) (r : Seen × Part) → CallsHold w → w.stack q ≡ record { top = x; below = fs } → Kept w (world_after w q x fs r) → Lasting w (world_after w q x fs r) → Learned w.shape q (place_part w q x) x r → Learns (world_after w q x fs r) x (r.0)
+learns w (Worker a b) (PopWorking k) fs (Task t, m) h z o l y = taking_now w (Worker a b) (PopWorking k) fs t (Task t) m (h.jobs) o y
+learns w (Worker a b) (TakeCastWorking k) fs (Task t, m) h z o l y = taking_now w (Worker a b) (TakeCastWorking k) fs t (Task t) m (h.jobs) o y
+learns w (Worker a b) (PopIdle k) fs (Task t, m) h z o l y = taking_now w (Worker a b) (PopIdle k) fs t (Task t) m (h.jobs) o y
+learns w (Worker a b) (TakeCastIdle k) fs (Task t, m) h z o l y = taking_now w (Worker a b) (TakeCastIdle k) fs t (Task t) m (h.jobs) o y
+learns w (Worker a b) (StealFrom k v) fs (Task t, m) h z o l y = taking_now w (Worker a b) (StealFrom k v) fs t (Task t) m (h.jobs) o y
+learns w (Worker a b) (PopInjected k) fs (Task t, m) h z o l y = taking_now w (Worker a b) (PopInjected k) fs t (Task t) m (h.jobs) o y
+learns w (Worker a b) (JoinPop o) fs (Task t, m) h z k l y = taking_now w (Worker a b) (JoinPop o) fs t (Task t) m (h.jobs) k y
+learns w (Worker a b) (JoinTakeCast o) fs (Task t, m) h z k l y = taking_now w (Worker a b) (JoinTakeCast o) fs t (Task t) m (h.jobs) k y
+learns w (Worker a b) YieldPop fs (Task t, m) h z o l y = taking_now w (Worker a b) YieldPop fs t (Task t) m (h.jobs) o y
+learns w (Worker a b) YieldTakeCast fs (Task t, m) h z o l y = taking_now w (Worker a b) YieldTakeCast fs t (Task t) m (h.jobs) o y
+learns w (Worker a b) (YieldSteal v j) fs (Task t, m) h z o l y = taking_now w (Worker a b) (YieldSteal v j) fs t (Task t) m (h.jobs) o y
+learns w (Worker a b) YieldPopInjected fs (Task t, m) h z o l y = taking_now w (Worker a b) YieldPopInjected fs t (Task t) m (h.jobs) o y
+learns w (Worker a b) LocalPop fs (Task t, m) h z o l y = taking_now w (Worker a b) LocalPop fs t (Task t) m (h.jobs) o y
+learns w (Worker a b) LocalTakeCast fs (Task t, m) h z o l y = taking_now w (Worker a b) LocalTakeCast fs t (Task t) m (h.jobs) o y
+learns w (Caller c) (PopWorking k) fs (Task t, m) h z o l y = taking_now w (Caller c) (PopWorking k) fs t (Task t) m (h.jobs) o y
+learns w (Caller c) (TakeCastWorking k) fs (Task t, m) h z o l y = taking_now w (Caller c) (TakeCastWorking k) fs t (Task t) m (h.jobs) o y
+learns w (Caller c) (PopIdle k) fs (Task t, m) h z o l y = taking_now w (Caller c) (PopIdle k) fs t (Task t) m (h.jobs) o y
+learns w (Caller c) (TakeCastIdle k) fs (Task t, m) h z o l y = taking_now w (Caller c) (TakeCastIdle k) fs t (Task t) m (h.jobs) o y
+learns w (Caller c) (StealFrom k v) fs (Task t, m) h z o l y = taking_now w (Caller c) (StealFrom k v) fs t (Task t) m (h.jobs) o y
+learns w (Caller c) (PopInjected k) fs (Task t, m) h z o l y = taking_now w (Caller c) (PopInjected k) fs t (Task t) m (h.jobs) o y
+learns w (Caller c) (JoinPop o) fs (Task t, m) h z k l y = taking_now w (Caller c) (JoinPop o) fs t (Task t) m (h.jobs) k y
+learns w (Caller c) (JoinTakeCast o) fs (Task t, m) h z k l y = taking_now w (Caller c) (JoinTakeCast o) fs t (Task t) m (h.jobs) k y
+learns w (Caller c) YieldPop fs (Task t, m) h z o l y = taking_now w (Caller c) YieldPop fs t (Task t) m (h.jobs) o y
+learns w (Caller c) YieldTakeCast fs (Task t, m) h z o l y = taking_now w (Caller c) YieldTakeCast fs t (Task t) m (h.jobs) o y
+learns w (Caller c) (YieldSteal v j) fs (Task t, m) h z o l y = taking_now w (Caller c) (YieldSteal v j) fs t (Task t) m (h.jobs) o y
+learns w (Caller c) YieldPopInjected fs (Task t, m) h z o l y = taking_now w (Caller c) YieldPopInjected fs t (Task t) m (h.jobs) o y
+learns w (Caller c) LocalPop fs (Task t, m) h z o l y = taking_now w (Caller c) LocalPop fs t (Task t) m (h.jobs) o y
+learns w (Caller c) LocalTakeCast fs (Task t, m) h z o l y = taking_now w (Caller c) LocalTakeCast fs t (Task t) m (h.jobs) o y
+learns w (Worker a b) (TakeResult o f) fs (Found d, m) h z k l y = took w (world_after w (Worker a b) (TakeResult o f) fs (Found d, m)) (Worker a b) o f d h l ((top_says w (Worker a b) (TakeResult o f) fs h z).0) y
+learns w (Worker a b) (LowerCount p s k) fs (Yes, m) h z o l y = ap (λ v. v.count) (put_new w.pool p (m.pool)) ∙ y
+learns w (Worker a b) (TakeFromFifo f) fs (Task x, m) h z o l y = later_made w (world_after w (Worker a b) (TakeFromFifo f) fs (Task x, m)) (l.later) (taken_number x) f.pool (Detached f.pool) (subst (λ p. MadeAs w (taken_number x) p (Detached p)) (sym ((top_says w (Worker a b) (TakeFromFifo f) fs h z).2)) (h.lines a b (taken_number x) (y.1)))
+learns w (Worker a b) (BeginTask (Plain t)) fs (Begun d, m) h z o l y = (begun_held w (h.jobs) (Worker a b) t fs z, l.kinds t ∙ y)
+learns w (Worker a b) (BeginTask (Token k i)) fs (Handed t d, m) h z o l y = (made_lined w (h.jobs) a i t (y.1), l.kinds t ∙ ap (λ n. (w.job n).kind) (sym (y.0)) ∙ y.2)
+learns w (Caller v) (TakeResult o f) fs (Found d, m) h z k l y = took w (world_after w (Caller v) (TakeResult o f) fs (Found d, m)) (Caller v) o f d h l ((top_says w (Caller v) (TakeResult o f) fs h z).0) y
+learns w (Caller v) (LowerCount p s k) fs (Yes, m) h z o l y = ap (λ v. v.count) (put_new w.pool p (m.pool)) ∙ y
+learns w (Caller v) (TakeFromFifo f) fs (Task x, m) h z o l y = later_made w (world_after w (Caller v) (TakeFromFifo f) fs (Task x, m)) (l.later) (taken_number x) f.pool (Detached f.pool) (subst (λ p. MadeAs w (taken_number x) p (Detached p)) (sym ((top_says w (Caller v) (TakeFromFifo f) fs h z).2)) (h.lines 0 0 (taken_number x) (y.1)))
+learns w (Caller v) (BeginTask (Plain t)) fs (Begun d, m) h z o l y = (begun_held w (h.jobs) (Caller v) t fs z, l.kinds t ∙ y)
+learns w (Caller v) (BeginTask (Token k i)) fs (Handed t d, m) h z o l y = (made_lined w (h.jobs) 0 i t (y.1), l.kinds t ∙ ap (λ n. (w.job n).kind) (sym (y.0)) ∙ y.2)
+learns w q x fs (e, m) h z o l y = tt
 
 -- who writes a cell or sets a latch knows that the job is over, or that the pool has ended
 store_says : (w : World) (q : Party) (x : Place) (e : Ending) → stores x ≡ Some e → Says w q x → (w.job (w.call (target_call (act_of q x))).job).at ≡ Over e
@@ -164,16 +184,30 @@ set_seat_says w (Worker a b) (SetLatch k) z s = seat_latch_says w k.pool k.latch
 set_seat_says w (Caller v) (SetLatch k) z s = seat_latch_says w k.pool k.latch z (s.0)
 set_seat_says w q _ z s = cc
 
+-- what comes to a FIFO list is a detached job of its pool
+same_number_one : (t u : ℕ) → 1 ≤ one (t == u) → t ≡ u
+same_number_one t u k = by (t == u) refl k
+  where
+    by : (z : Bool) → (t == u) ≡ z → 1 ≤ one z → t ≡ u
+    by true e b = eqb-true t u e
+    by false e b = absurd (omega (arith, b))
+
+line_says : (w : World) (q : Party) (x : Place) (t : ℕ) → 1 ≤ lined t x → Says w q x → MadeAs w t (target_pool q (act_of q x)) (Detached (target_pool q (act_of q x)))
+line_says w (Worker a b) (AddToFifo f) t k s = subst (λ p. MadeAs w t p (Detached p)) (s.2) (subst (λ n. MadeAs w n f.pool (Detached f.pool)) (sym (same_number_one t f.job k)) (s.0))
+line_says w (Caller c) (AddToFifo f) t k s = subst (λ p. MadeAs w t p (Detached p)) (s.2) (subst (λ n. MadeAs w n f.pool (Detached f.pool)) (sym (same_number_one t f.job k)) (s.0))
+line_says w q _ t k s = absurd (omega (arith, k))
+
 -- one act
-pub act_calls : (w : World) (q : Party) (x : Place) (fs : List Place) (r : Seen × Part) → CallsHold w → w.stack q ≡ record { top = x; below = fs } → Static (place_part w q x) r → Kept w (world_after w q x fs r) → Learned w.shape q (place_part w q x) x r → Written (place_part w q x) x r → CallsHold (world_after w q x fs r)
-act_calls w q x fs r h z st ke le wr = record {
+pub act_calls : (w : World) (q : Party) (x : Place) (fs : List Place) (r : Seen × Part) → CallsHold w → w.stack q ≡ record { top = x; below = fs } → Static (place_part w q x) r → Kept w (world_after w q x fs r) → Learned w.shape q (place_part w q x) x r → Written (place_part w q x) x r → ((t : ℕ) → Lines (place_part w q x) t x r) → CallsHold (world_after w q x fs r)
+act_calls w q x fs r h z st ke le wr li = record {
   jobs = jobs;
-  says = all_says w u (l.later) q (after_move (next_of (w.shape.pool (target_pool q (act_of q x))) q x (r.0)) fs) (moved_says w u (l.later) (w.shape.pool (target_pool q (act_of q x))) q (record { top = x; below = fs }) (r.0) (learns w q x fs r h z l le) (subst (λ k. StackSays w q k) z (h.says q))) (h.says);
+  says = all_says w u (l.later) q (after_move (next_of (w.shape.pool (target_pool q (act_of q x))) q x (r.0)) fs) (moved_says w u (l.later) (w.shape.pool (target_pool q (act_of q x))) q (record { top = x; below = fs }) (r.0) (learns w q x fs r h z ke l le) (subst (λ k. StackSays w q k) z (h.says q))) (h.says);
   ties = λ t b c o k. (let a : (c + 1 ≤ w.calls) × ((w.call c).job ≡ t) = h.ties t b c o (sym (l.kinds t) ∙ k) in (a.0, l.targets c ∙ a.1));
   pools = λ t b p k. (l.later).pool t b ∙ h.pools t b p (sym (l.kinds t) ∙ k);
   cells = λ c e k. cells c e (c == target_call (act_of q x)) refl k;
   latches = λ c k. latches c (c == target_call (act_of q x)) refl k;
   ends = λ p i k. ends p i ((p == target_pool q (act_of q x)) && (i == target_worker q (act_of q x))) refl k;
+  lines = λ p i t b. later_made w u (l.later) t p (Detached p) (lines p i t ((p == target_pool q (act_of q x)) && (i == target_worker q (act_of q x))) refl b);
 }
   where
     u : World
@@ -183,7 +217,7 @@ act_calls w q x fs r h z st ke le wr = record {
     l = lasting w q (record { top = x; below = fs }) (target_pool q (act_of q x)) (target_worker q (act_of q x)) (target_call (act_of q x)) (job_at w q (act_of q x)) r st ke
 
     jobs : JobsHold (world_after w q x fs r)
-    jobs = let a : Advance w (world_after w q x fs r) = kept_advance w (world_after w q x fs r) (omega arith) ((h.jobs).unmade) ke in jobs_advance w (world_after w q x fs r) (h.jobs) a
+    jobs = let a : Advance w (world_after w q x fs r) = kept_advance w (world_after w q x fs r) (omega arith) ((h.jobs).unmade) (fed_stacks w q (after_move (next_of (w.shape.pool (target_pool q (act_of q x))) q x (r.0)) fs) (λ t. let f : all_fed t (after_move (next_of (w.shape.pool (target_pool q (act_of q x))) q x (r.0)) fs) ≤ fed t x + fed_in t fs = fed_after (w.shape.pool (target_pool q (act_of q x))) q t x fs (r.0) in let g : all_fed t (w.stack q) ≡ (fed t x + fed_in t fs) = ap (all_fed t) z in omega (arith, f, g))) ke in jobs_advance w (world_after w q x fs r) (h.jobs) a
 
     over_now : (c : ℕ) (e : Ending) → (w.job (w.call c).job).at ≡ Over e → ((world_after w q x fs r).job ((world_after w q x fs r).call c).job).at ≡ Over e
     over_now c e k = ap (λ t. ((world_after w q x fs r).job t).at) (l.targets c) ∙ (l.later).over ((w.call c).job) e k
@@ -201,6 +235,14 @@ act_calls w q x fs r h z st ke le wr = record {
     latches c true y k = done_now c (subst (λ d. is_done (w.job (w.call d).job).at ≡ true) (sym (eqb-true c (target_call (act_of q x)) y))
         (elim (wr.call k) [ inl a ↦ h.latches (target_call (act_of q x)) a | inr a ↦ set_call_says w q x a (top_says w q x fs h z) ]))
 
+    lines : (p i t : ℕ) (b : Bool) → ((p == target_pool q (act_of q x)) && (i == target_worker q (act_of q x))) ≡ b → 1 ≤ times t ((if b then r.1.seat else w.seat p i).fifo) → MadeAs w t p (Detached p)
+    lines p i t false y k = h.lines p i t k
+    lines p i t true y k = subst (λ n. MadeAs w t n (Detached n)) (sym ((same_index p i (target_pool q (act_of q x)) (target_worker q (act_of q x)) y).0)) (by (times t ((w.seat (target_pool q (act_of q x)) (target_worker q (act_of q x))).fifo)) refl)
+      where
+        by : (n : ℕ) → times t ((w.seat (target_pool q (act_of q x)) (target_worker q (act_of q x))).fifo) ≡ n → MadeAs w t (target_pool q (act_of q x)) (Detached (target_pool q (act_of q x)))
+        by zero e = line_says w q x t (let a : times t (r.1.seat.fifo) ≤ times t ((w.seat (target_pool q (act_of q x)) (target_worker q (act_of q x))).fifo) + lined t x = li t in omega (arith, a, e, k)) (top_says w q x fs h z)
+        by (suc n) e = h.lines (target_pool q (act_of q x)) (target_worker q (act_of q x)) t (omega (arith, e))
+
     ends : (p i : ℕ) (b : Bool) → ((p == target_pool q (act_of q x)) && (i == target_worker q (act_of q x))) ≡ b → (if b then r.1.seat else w.seat p i).latch ≡ IsSet → ((world_after w q x fs r).pool p).count ≡ 0
     ends p i false y k = (l.later).ended p (h.ends p i k)
     ends p i true y k = (l.later).ended p (subst (λ d. (w.pool d).count ≡ 0) (sym ((same_index p i (target_pool q (act_of q x)) (target_worker q (act_of q x)) y).0))
@@ -209,9 +251,11 @@ act_calls w q x fs r h z st ke le wr = record {
 pub go_calls : (w : World) (q : Party) → CallsHold w → IfSome (outcome w q (w.stack q)) (λ r. CallsHold (result w q (w.stack q) r))
 go_calls w q h =
     let k = w.stack q in let x = k.top in
-    if_some_map (λ r. (Static (place_part w q x) r × Learned w.shape q (place_part w q x) x r) × (Written (place_part w q x) x r × Kept w (result w q k r))) (λ r. CallsHold (result w q k r))
-    (λ r f. act_calls w q x (k.below) r h refl ((f.0).0) ((f.1).1) ((f.0).1) ((f.1).0))
+    if_some_map (λ r. ((t : ℕ) → Lines (place_part w q x) t x r) × ((Static (place_part w q x) r × Learned w.shape q (place_part w q x) x r) × (Written (place_part w q x) x r × Kept w (result w q k r)))) (λ r. CallsHold (result w q k r))
+    (λ r f. act_calls w q x (k.below) r h refl (((f.1).0).0) (((f.1).1).1) (((f.1).0).1) (((f.1).1).0) (f.0))
     (outcome w q k)
+    (if_some_and (λ r. (t : ℕ) → Lines (place_part w q x) t x r) (λ r. (Static (place_part w q x) r × Learned w.shape q (place_part w q x) x r) × (Written (place_part w q x) x r × Kept w (result w q k r))) (outcome w q k)
+    (if_some_each {I = ℕ} (λ t r. Lines (place_part w q x) t x r) (outcome w q k) (λ t. line_table w.shape q (counts_at w (target_pool q (act_of q x))) (place_part w q x) t x))
     (if_some_and (λ r. Static (place_part w q x) r × Learned w.shape q (place_part w q x) x r) (λ r. Written (place_part w q x) x r × Kept w (result w q k r)) (outcome w q k)
     (if_some_and (Static (place_part w q x)) (Learned w.shape q (place_part w q x) x) (outcome w q k) (act_static w.shape q (counts_at w (target_pool q (act_of q x))) (place_part w q x) x) (act_learned w.shape q (counts_at w (target_pool q (act_of q x))) (place_part w q x) x))
-    (if_some_and (Written (place_part w q x) x) (λ r. Kept w (result w q k r)) (outcome w q k) (act_written w.shape q (counts_at w (target_pool q (act_of q x))) (place_part w q x) x) (go_kept w q ((h.jobs).ok))))
+    (if_some_and (Written (place_part w q x) x) (λ r. Kept w (result w q k r)) (outcome w q k) (act_written w.shape q (counts_at w (target_pool q (act_of q x))) (place_part w q x) x) (go_kept w q ((h.jobs).feeds) ((h.jobs).ok)))))

@@ -1,13 +1,12 @@
 -- what a place says of the world: of its party's calls, of their jobs, and of ended pools
-use Rattle.std.proofs.Common.{refl, sym, ◌∙◌, ap, subst}
+use Rattle.std.proofs.Common.{refl, sym, ap, subst}
 use Rattle.std.specs.Prelude.{ℕ, Bool, true, false, ◌&&◌, ◌+◌, ◌-◌, ◌==◌, ◌≤◌, nat_lt, if◌then◌else◌, Option, Some, None, List, [], ◌∷◌, ◌≡◌, ⊤}
-use Rattle.std.proofs.lemmas.Bool.{eqb-true}
 use Rattle.rayon_machine_places.specs.declared.place.Party.{Party}
 use Rattle.rayon_machine_places.specs.declared.place.Party.TheVariants.{Worker, Caller}
 use Rattle.rayon_machine_places.specs.declared.place.Ending.{Ending}
 use Rattle.rayon_machine_places.specs.declared.place.Ending.TheVariants.{Fine}
 use Rattle.rayon_machine_places.specs.declared.place.JobKind.{JobKind}
-use Rattle.rayon_machine_places.specs.declared.place.JobKind.TheVariants.{Detached, Stored, Direct}
+use Rattle.rayon_machine_places.specs.declared.place.JobKind.TheVariants.{Detached, Stored, Direct, TokenOf}
 use Rattle.rayon_machine_places.specs.declared.place.Target.{Target}
 use Rattle.rayon_machine_places.specs.declared.place.Target.TheVariants.{Termination, Answer}
 use Rattle.rayon_machine_places.specs.declared.place.Latch.{Latch}
@@ -15,23 +14,25 @@ use Rattle.rayon_machine_places.specs.declared.place.Latch.TheVariants.{Terminat
 use Rattle.rayon_machine_places.specs.declared.place.Rounds.{Rounds}
 use Rattle.rayon_machine_places.specs.declared.place.Rounds.TheVariants.{Failed, Announced}
 use Rattle.rayon_machine_places.specs.declared.place.Plan.{Plan}
-use Rattle.rayon_machine_places.specs.declared.place.Plan.TheVariants.{Detach, Here, Send, Fork}
+use Rattle.rayon_machine_places.specs.declared.place.Plan.TheVariants.{Detach, Here, Send, Fork, Feed}
 use Rattle.rayon_machine_places.specs.declared.place.Share.{Share}
 use Rattle.rayon_machine_places.specs.declared.place.Share.TheVariants.{PoolValue, OfJob}
 use Rattle.rayon_machine_places.specs.declared.place.Then.{Then}
 use Rattle.rayon_machine_places.specs.declared.place.Then.TheVariants.{BeginFound, LeaveWait, Resume, Await, RunFirst, Answers, Missing, Ran, GiveBack}
+use Rattle.rayon_machine_places.specs.declared.place.Taken.{Taken}
+use Rattle.rayon_machine_places.specs.declared.place.Taken.TheVariants.{Plain, Token}
 use Rattle.rayon_machine_places.specs.declared.place.Place.{Place}
-use Rattle.rayon_machine_places.specs.declared.place.Place.TheVariants.{ProbeWorking, PopWorking, TakeCastWorking, BecomeInactive, ProbeIdle, PopIdle, TakeCastIdle, PickVictim, StealFrom, PopInjected, AnnounceSelf, GetSleepy, LockOwn, FallAsleep, LoadCounters, AddSleeping, LookAtCast, LookAtInjector, BlockSelf, RelockOwn, UndoSleeping, WakeUp, UnlockOwn, LeaveSearch, JoinProbe, JoinPop, JoinTakeCast, YieldPop, YieldTakeCast, YieldPick, YieldSteal, YieldPopInjected, LocalPop, LocalTakeCast, BeginTask, BeginHere, Run, RaiseCount, GrowCall, LookQueue, PushJob, TellNews, LockToWake, WakeWorker, UnlockWoken, WaitForLock, TakeResult, LowerCount, StoreResult, SetLatch, LockToSettle, WakeSettled, UnlockSettled, SetLockLatch, FirstSide, SecondSide, AtOnce}
+use Rattle.rayon_machine_places.specs.declared.place.Place.TheVariants.{ProbeWorking, PopWorking, TakeCastWorking, BecomeInactive, ProbeIdle, PopIdle, TakeCastIdle, PickVictim, StealFrom, PopInjected, AnnounceSelf, GetSleepy, LockOwn, FallAsleep, LoadCounters, AddSleeping, LookAtCast, LookAtInjector, BlockSelf, RelockOwn, UndoSleeping, WakeUp, UnlockOwn, LeaveSearch, JoinProbe, JoinPop, JoinTakeCast, YieldPop, YieldTakeCast, YieldPick, YieldSteal, YieldPopInjected, LocalPop, LocalTakeCast, BeginTask, BeginHere, Run, RaiseCount, GrowCall, LookQueue, PushJob, TellNews, LockToWake, WakeWorker, UnlockWoken, WaitForLock, TakeResult, LowerCount, StoreResult, SetLatch, LockToSettle, WakeSettled, UnlockSettled, SetLockLatch, FirstSide, SecondSide, AtOnce, AddToFifo, LookForToken, PushToken, TakeFromFifo}
 use Rattle.rayon_machine_places.specs.declared.place.Move.{Move}
-use Rattle.rayon_machine_places.specs.declared.place.Move.TheVariants.{Stay, Enter, StartRun, Back, HandBack}
+use Rattle.rayon_machine_places.specs.declared.place.Move.TheVariants.{Stay, Enter, StartRun, Back, HandBack, Discard, HandIn}
 use Rattle.rayon_machine_places.specs.declared.act.Seen.{Seen}
-use Rattle.rayon_machine_places.specs.declared.act.Seen.TheVariants.{Done, Yes, Task, Jec, Word, Start, Wakes, Begun, Found}
+use Rattle.rayon_machine_places.specs.declared.act.Seen.TheVariants.{Done, Yes, Task, Jec, Word, Start, Wakes, Begun, Found, Handed}
 use Rattle.rayon_machine_places.specs.declared.state.Whereabouts.TheVariants.{Over}
 use Rattle.rayon_machine_places.specs.declared.shape.PoolShape.{PoolShape}
 use Rattle.rayon_machine_places.specs.declared.place.OpenCall.{OpenCall}
 use Rattle.rayon_machine_places.specs.declared.place.Wait.{Wait}
 use Rattle.rayon_machine_places.specs.declared.place.Settling.{Settling}
-use Rattle.rayon_machine_places.specs.Places.{own_pool, own_index, plan_pool, plan_job, after_wait, finish, walk, settle, after_set, after_found, after_news, after_raise, undo, set_call, next_victim, not_self, after_failure, next_steal, next_yield, next_of}
+use Rattle.rayon_machine_places.specs.Places.{own_pool, own_index, plan_pool, plan_job, after_wait, finish, walk, settle, after_set, after_found, after_news, after_raise, undo, set_call, next_victim, not_self, after_failure, next_steal, next_yield, next_of, is_taken, taken_number}
 use Rattle.rayon_machine_places.specs.World.{Stack, World}
 use Rattle.rayon_machine_places.specs.Steps.{after_move}
 use Rattle.rayon_machine_places.specs.Readers.{is_done}
@@ -66,34 +67,53 @@ SaysTarget w q (Answer o f) = Opened w q o × FirstEnds w (w.call o.number).firs
 abbrev pub Left : World → ℕ → Type 0
 Left w t = is_left (w.job t).at ≡ true
 
+-- what a party has taken: a job that has left its call, or a token
+abbrev pub Taking : World → Taken → Type 0
+Taking w (Plain t) = Left w t
+Taking w (Token k i) = Left w k × (k + 1 ≤ w.jobs) × ((w.job k).kind ≡ TokenOf i)
+
+-- a token
+abbrev pub Spendable : World → ℕ → Type 0
+Spendable w k = is_detached (w.job k).kind ≡ false
+
 -- a job whose call waits for it
 pub record Awaited (w : World) (t : ℕ) : Type 0 where
   pub made : t + 1 ≤ w.jobs
   pub kind : is_detached (w.job t).kind ≡ false
 
-abbrev pub SaysFound : World → Option ℕ → Type 0
+abbrev pub SaysFound : World → Option Taken → Type 0
 SaysFound w None = ⊤
-SaysFound w (Some t) = Left w t
+SaysFound w (Some x) = Taking w x
 
 abbrev pub SaysPlan : World → Party → Plan → Type 0
 SaysPlan w q (Detach p t) = MadeAs w t p (Detached p)
 SaysPlan w q (Here p t) = MadeAs w t p Direct
+SaysPlan w q (Feed f) = MadeAs w f.job f.pool (Detached f.pool) × MadeAs w f.token f.pool (TokenOf (own_index q)) × (f.pool ≡ own_pool q)
 SaysPlan w q (Send o) = Opened w q o × ((w.call o.number).first ≡ None)
 SaysPlan w q (Fork o a) = Opened w q o × ((w.call o.number).first ≡ Some a) × Awaited w a
 
--- a call that queues a job; an install that runs its job at once queues none
+-- a call that queues a job; an install that runs its job at once queues none, and a call for a FIFO list queues a token
+-- by places of its own
 abbrev pub SaysQueue : World → Party → Plan → Type 0
 SaysQueue w q (Here p t) = ⊥
+SaysQueue w q (Feed f) = ⊥
 SaysQueue w q n = SaysPlan w q n
+
+-- a call that has queued a job or a token
+abbrev pub SaysTold : World → Party → Plan → Type 0
+SaysTold w q (Detach p t) = (t + 1 ≤ w.jobs) × ((w.job t).pool ≡ p)
+SaysTold w q (Feed f) = ⊥
+SaysTold w q n = SaysPlan w q n
 
 pub queue_plan : (w : World) (q : Party) (n : Plan) → SaysQueue w q n → SaysPlan w q n
 queue_plan w q (Here p t) s = absurd s
+queue_plan w q (Feed f) s = absurd s
 queue_plan w q (Detach p t) s = s
 queue_plan w q (Send o) s = s
 queue_plan w q (Fork o a) s = s
 
 abbrev pub SaysThen : World → Party → Then → Type 0
-SaysThen w q (BeginFound g t) = SaysTarget w q g × Left w t
+SaysThen w q (BeginFound g x) = SaysTarget w q g × Taking w x
 SaysThen w q (LeaveWait g) = SaysTarget w q g
 SaysThen w q Resume = ⊤
 SaysThen w q (Await o) = SaysTarget w q (Answer o None)
@@ -123,6 +143,7 @@ SaysLatch w p (OfCall c) = (c + 1 ≤ w.calls) × (is_done (w.job (w.call c).job
 
 abbrev pub SaysRun : World → ℕ → JobKind → Type 0
 SaysRun w t Direct = Awaited w t
+SaysRun w t (TokenOf i) = Awaited w t
 SaysRun w t k = (t + 1 ≤ w.jobs) × ((w.job t).kind ≡ k)
 
 abbrev pub Says : World → Party → Place → Type 0
@@ -154,14 +175,18 @@ Says w q (JoinProbe o) = SaysTarget w q (Answer o (Some Fine))
 Says w q (JoinPop o) = SaysTarget w q (Answer o (Some Fine))
 Says w q (JoinTakeCast o) = SaysTarget w q (Answer o (Some Fine))
 Says w q (SecondSide o) = SaysTarget w q (Answer o (Some Fine))
-Says w q (BeginTask t) = Left w t
+Says w q (BeginTask x) = Taking w x
 Says w q (BeginHere t) = Awaited w t
 Says w q (Run t k) = SaysRun w t k
 Says w q (RaiseCount n) = SaysPlan w q n
 Says w q (GrowCall n) = SaysQueue w q n
 Says w q (LookQueue n) = SaysQueue w q n
 Says w q (PushJob n e) = SaysQueue w q n
-Says w q (TellNews n e) = SaysPlan w q n
+Says w q (AddToFifo f) = SaysPlan w q (Feed f)
+Says w q (LookForToken f) = SaysPlan w q (Feed f)
+Says w q (PushToken f e) = SaysPlan w q (Feed f)
+Says w q (TakeFromFifo f) = SaysPlan w q (Feed f)
+Says w q (TellNews n e) = SaysTold w q n
 Says w q (LockToWake k) = SaysThen w q k.then
 Says w q (WakeWorker k) = SaysThen w q k.then
 Says w q (UnlockWoken k) = SaysThen w q k.then
@@ -188,6 +213,7 @@ wants _ = None
 abbrev pub here : Place → Option ℕ
 here (BeginHere t) = Some t
 here (Run t Direct) = Some t
+here (Run t (TokenOf i)) = Some t
 here _ = None
 
 -- above a frame stands what it goes on from
@@ -208,27 +234,44 @@ pub record StackSays (w : World) (q : Party) (k : Stack) : Type 0 where
   pub below : AllSay w q k.below
   pub links : Linked k.top k.below
 
+-- the job that a refused call has taken back, or never added to its FIFO list, is detached, and so no token
+abbrev pub SaysBack : World → Plan → Type 0
+SaysBack w (Feed f) = is_detached (w.job f.job).kind ≡ true
+SaysBack w _ = ⊤
+
+says_back : (w : World) (q : Party) (n : Plan) → SaysPlan w q n → SaysBack w n
+says_back w q (Feed f) s = ap is_detached ((s.0).kind)
+says_back w q (Detach p t) s = tt
+says_back w q (Here p t) s = tt
+says_back w q (Send o) s = tt
+says_back w q (Fork o a) s = tt
+
 -- what is said of where a move leads
 abbrev pub SaysMove : World → Party → Move → Type 0
 SaysMove w q (Stay y) = Says w q y
+SaysMove w q (HandIn y k) = Says w q y × Spendable w k
 SaysMove w q (Enter f y) = Says w q f × Says w q y × Link f y
 SaysMove w q (StartRun f a) = Says w q f × Link f (Run a Direct) × Awaited w a
 SaysMove w q Back = ⊤
-SaysMove w q (HandBack n) = ⊤
+SaysMove w q (HandBack n) = SaysBack w n
+SaysMove w q (Discard k) = Spendable w k
 
 -- what was run for a frame below is still so
 abbrev pub PassMove : Place → Move → Type 0
 PassMove x (Stay y) = (t : ℕ) → here x ≡ Some t → here y ≡ Some t
+PassMove x (HandIn y token) = (t : ℕ) → here x ≡ Some t → here y ≡ Some t
 PassMove x (Enter f y) = (t : ℕ) → here x ≡ Some t → here f ≡ Some t
 PassMove x (StartRun f a) = (t : ℕ) → here x ≡ Some t → here f ≡ Some t
 PassMove x _ = ⊤
 
 pub none_passes : (x : Place) (g : Move) → here x ≡ None → PassMove x g
 none_passes x (Stay y) e = λ t z. cc
+none_passes x (HandIn y token) e = λ t z. cc
 none_passes x (Enter f y) e = λ t z. cc
 none_passes x (StartRun f a) e = λ t z. cc
 none_passes x Back e = tt
 none_passes x (HandBack n) e = tt
+none_passes x (Discard n) e = tt
 
 pub relink : (x y : Place) (fs : List Place) → ((t : ℕ) → here x ≡ Some t → here y ≡ Some t) → Linked x fs → Linked y fs
 relink x y [] h k = tt
@@ -236,32 +279,37 @@ relink x y (f ∷ fs) h k = (λ t z. h t (k.0 t z), k.1)
 
 pub land_says : (w : World) (q : Party) (x : Place) (g : Move) (fs : List Place) → SaysMove w q g → PassMove x g → AllSay w q fs → Linked x fs → StackSays w q (after_move g fs)
 land_says w q x (Stay y) fs s p a k = record { top = s; below = a; links = relink x y fs p k }
+land_says w q x (HandIn y token) fs s p a k = record { top = s.0; below = a; links = relink x y fs p k }
 land_says w q x (Enter f y) fs s p a k = record { top = s.1; below = (s.0, a); links = (s.2, relink x f fs p k) }
 land_says w q x (StartRun f u) fs s p a k = record { top = s.2; below = (s.0, a); links = (s.1, relink x f fs p k) }
 land_says w q x Back [] s p a k = record { top = tt; below = tt; links = tt }
 land_says w q x Back (f ∷ fs) s p a k = record { top = a.0; below = a.1; links = k.1 }
 land_says w q x (HandBack n) [] s p a k = record { top = tt; below = tt; links = tt }
+land_says w q x (Discard n) [] s p a k = record { top = tt; below = tt; links = tt }
 land_says w q x (HandBack n) (f ∷ fs) s p a k = record { top = a.0; below = a.1; links = k.1 }
+land_says w q x (Discard n) (f ∷ fs) s p a k = record { top = a.0; below = a.1; links = k.1 }
 
 -- what an act's answer tells of the world after it
 abbrev pub Learns : World → Place → Seen → Type 0
-Learns w (PopWorking k) (Task t) = Left w t
-Learns w (TakeCastWorking k) (Task t) = Left w t
-Learns w (PopIdle k) (Task t) = Left w t
-Learns w (TakeCastIdle k) (Task t) = Left w t
-Learns w (StealFrom k n) (Task t) = Left w t
-Learns w (PopInjected k) (Task t) = Left w t
-Learns w (JoinPop o) (Task t) = Left w t
-Learns w (JoinTakeCast o) (Task t) = Left w t
-Learns w YieldPop (Task t) = Left w t
-Learns w YieldTakeCast (Task t) = Left w t
-Learns w (YieldSteal v n) (Task t) = Left w t
-Learns w YieldPopInjected (Task t) = Left w t
-Learns w LocalPop (Task t) = Left w t
-Learns w LocalTakeCast (Task t) = Left w t
+Learns w (PopWorking k) (Task t) = Taking w t
+Learns w (TakeCastWorking k) (Task t) = Taking w t
+Learns w (PopIdle k) (Task t) = Taking w t
+Learns w (TakeCastIdle k) (Task t) = Taking w t
+Learns w (StealFrom k n) (Task t) = Taking w t
+Learns w (PopInjected k) (Task t) = Taking w t
+Learns w (JoinPop o) (Task t) = Taking w t
+Learns w (JoinTakeCast o) (Task t) = Taking w t
+Learns w YieldPop (Task t) = Taking w t
+Learns w YieldTakeCast (Task t) = Taking w t
+Learns w (YieldSteal v n) (Task t) = Taking w t
+Learns w YieldPopInjected (Task t) = Taking w t
+Learns w LocalPop (Task t) = Taking w t
+Learns w LocalTakeCast (Task t) = Taking w t
 Learns w (TakeResult o f) (Found e) = (w.job o.job).at ≡ Over e
 Learns w (LowerCount p s n) Yes = (w.pool p).count ≡ 0
-Learns w (BeginTask t) (Begun k) = (t + 1 ≤ w.jobs) × ((w.job t).kind ≡ k)
+Learns w (BeginTask (Plain t)) (Begun k) = (t + 1 ≤ w.jobs) × ((w.job t).kind ≡ k)
+Learns w (BeginTask (Token k i)) (Handed t d) = (t + 1 ≤ w.jobs) × ((w.job t).kind ≡ d)
+Learns w (TakeFromFifo f) (Task x) = MadeAs w (taken_number x) f.pool (Detached f.pool)
 Learns w _ _ = ⊤
 
 says_left : (w : World) (q : Party) (g : Target) → SaysTarget w q g → Says w q (after_wait g)
@@ -278,7 +326,7 @@ says_finish w q (RunFirst o a) s = (s, (λ u z. z), s.2)
 says_finish w q (Answers o f e) s = tt
 says_finish w q (Missing o f) s = tt
 says_finish w q (Ran t e) s = tt
-says_finish w q (GiveBack n) s = tt
+says_finish w q (GiveBack n) s = says_back w q n s
 
 says_walk : (w : World) (g : PoolShape) (q : Party) (p k i : ℕ) (n : Then) → SaysThen w q n → SaysMove w q (walk g q p k i n)
 says_walk w g q p k i n s = by (nat_lt 0 k && nat_lt i g.workers)
@@ -324,7 +372,7 @@ says_failed w g q k (Failed n) s = by (nat_lt n g.limit)
     by false = s
 says_failed w g q k Announced s = s
 
-says_after : (w : World) (q : Party) (g : Target) (o : Option ℕ) → SaysTarget w q g × SaysFound w o → SaysThen w q (after_found g o)
+says_after : (w : World) (q : Party) (g : Target) (o : Option Taken) → SaysTarget w q g × SaysFound w o → SaysThen w q (after_found g o)
 says_after w q g None s = s.0
 says_after w q g (Some t) s = (s.0, s.1)
 
@@ -333,25 +381,35 @@ says_raised w q (Detach p t) s = s
 says_raised w q (Here p t) s = (s, record { made = s.made; kind = ap is_detached (s.kind) }, λ u z. z)
 says_raised w q (Send o) s = s
 says_raised w q (Fork o a) s = s
+says_raised w q (Feed f) s = s
 
 says_undone : (w : World) (q : Party) (n : Plan) → SaysPlan w q n → Says w q (undo n)
 says_undone w q (Detach p t) s = (s, (s.made, s.pool, refl))
 says_undone w q (Here p t) s = (s, (s.made, s.pool, refl))
 says_undone w q (Send o) s = (s, ((s.0).made, (s.0).pool, refl))
+says_undone w q (Feed f) s = (s, ((s.0).made, (s.0).pool, refl))
 says_undone w q (Fork o a) s = (s, ((s.0).made, (s.0).pool, refl))
 
-says_goes : (w : World) (q : Party) (n : Plan) → SaysPlan w q n → SaysThen w q (after_news n)
+says_goes : (w : World) (q : Party) (n : Plan) → SaysTold w q n → SaysThen w q (after_news n)
 says_goes w q (Detach p t) s = tt
 says_goes w q (Here p t) s = tt
 says_goes w q (Send o) s = (s.0, subst (λ x. FirstEnds w x None) (sym (s.1)) tt)
 says_goes w q (Fork o a) s = s
+says_goes w q (Feed f) s = absurd s
 
-says_pop : (w : World) (q : Party) (o : OpenCall) (t : ℕ) → Left w t → SaysTarget w q (Answer o (Some Fine)) → SaysMove w q (if t == o.job then Enter (SecondSide o) (BeginHere t) else Enter (JoinProbe o) (BeginTask t))
-says_pop w q o t l s = by (t == o.job) refl
+says_told : (w : World) (q : Party) (n : Plan) → SaysQueue w q n → SaysTold w q n
+says_told w q (Detach p t) s = (s.made, s.pool)
+says_told w q (Here p t) s = absurd s
+says_told w q (Feed f) s = absurd s
+says_told w q (Send o) s = s
+says_told w q (Fork o a) s = s
+
+says_pop : (w : World) (q : Party) (o : OpenCall) (x : Taken) → Taking w x → SaysTarget w q (Answer o (Some Fine)) → SaysMove w q (if is_taken x o.job then Enter (SecondSide o) (BeginHere o.job) else Enter (JoinProbe o) (BeginTask x))
+says_pop w q o x l s = by (is_taken x o.job)
   where
-    by : (z : Bool) → (t == o.job) ≡ z → SaysMove w q (if z then Enter (SecondSide o) (BeginHere t) else Enter (JoinProbe o) (BeginTask t))
-    by true e = (s, subst (λ v. Awaited w v) (sym (eqb-true t (o.job) e)) (record { made = (s.0).made; kind = ap is_detached ((s.0).kind) }), λ u z. ap Some (eqb-true t (o.job) e) ∙ z)
-    by false e = (s, l, λ u z. cc)
+    by : (z : Bool) → SaysMove w q (if z then Enter (SecondSide o) (BeginHere o.job) else Enter (JoinProbe o) (BeginTask x))
+    by true = (s, record { made = (s.0).made; kind = ap is_detached ((s.0).kind) }, λ u z. z)
+    by false = (s, l, λ u z. cc)
 
 says_set : (w : World) (q o : Party) (c : ℕ) (e : Ending) → (c + 1 ≤ w.calls) × ((w.job (w.call c).job).at ≡ Over e) → Says w q (set_call c o)
 says_set w q (Worker p i) c e s = ((s.0, ap is_done (s.1)), tt)
@@ -413,18 +471,32 @@ says_next w g q LocalPop (Task t) l s = l
 says_next w g q LocalPop _ l s = tt
 says_next w g q LocalTakeCast (Task t) l s = l
 says_next w g q LocalTakeCast _ l s = tt
-says_next w g q (BeginTask t) (Begun Direct) l s = record { made = l.0; kind = ap is_detached (l.1) }
-says_next w g q (BeginTask t) (Begun (Detached p)) l s = l
-says_next w g q (BeginTask t) (Begun (Stored c o)) l s = l
-says_next w g q (BeginTask t) _ l s = s
+says_next w g q (BeginTask (Plain t)) (Begun Direct) l s = record { made = l.0; kind = ap is_detached (l.1) }
+says_next w g q (BeginTask (Plain t)) (Begun (TokenOf i)) l s = record { made = l.0; kind = ap is_detached (l.1) }
+says_next w g q (BeginTask (Plain t)) (Begun (Detached p)) l s = l
+says_next w g q (BeginTask (Plain t)) (Begun (Stored c o)) l s = l
+says_next w g q (BeginTask (Plain t)) _ l s = s
+says_next w g q (BeginTask (Token k i)) (Handed t Direct) l s = (record { made = l.0; kind = ap is_detached (l.1) }, ap is_detached (s.2))
+says_next w g q (BeginTask (Token k i)) (Handed t (TokenOf j)) l s = (record { made = l.0; kind = ap is_detached (l.1) }, ap is_detached (s.2))
+says_next w g q (BeginTask (Token k i)) (Handed t (Detached p)) l s = (l, ap is_detached (s.2))
+says_next w g q (BeginTask (Token k i)) (Handed t (Stored c o)) l s = (l, ap is_detached (s.2))
+says_next w g q (BeginTask (Token k i)) _ l s = ap is_detached (s.2)
+says_next w g q (AddToFifo f) Done l s = s
+says_next w g q (AddToFifo f) _ l s = says_undone w q (Feed f) s
+says_next w g q (LookForToken f) Yes l s = s
+says_next w g q (LookForToken f) _ l s = s
+says_next w g q (PushToken f v) Done l s = ((s.1).made, (s.1).pool)
+says_next w g q (PushToken f v) _ l s = s
+says_next w g q (TakeFromFifo f) (Task x) l s = ((l, s.1, s.2), (l.made, l.pool, refl))
+says_next w g q (TakeFromFifo f) _ l s = tt
 says_next w g q (BeginHere t) e l s = s
 says_next w g q (RaiseCount n) Done l s = says_raised w q n s
-says_next w g q (RaiseCount n) _ l s = tt
+says_next w g q (RaiseCount n) _ l s = says_back w q n s
 says_next w g q (GrowCall n) Done l s = s
 says_next w g q (GrowCall n) _ l s = says_undone w q n (queue_plan w q n s)
 says_next w g q (LookQueue n) Yes l s = s
 says_next w g q (LookQueue n) _ l s = s
-says_next w g q (PushJob n v) Done l s = queue_plan w q n s
+says_next w g q (PushJob n v) Done l s = says_told w q n s
 says_next w g q (PushJob n v) _ l s = says_undone w q n (queue_plan w q n s)
 says_next w g q (TellNews n v) (Wakes k) l s = says_walk w g q (plan_pool n) k 0 (after_news n) (says_goes w q n s)
 says_next w g q (TellNews n v) _ l s = s

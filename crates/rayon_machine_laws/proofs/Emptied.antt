@@ -13,10 +13,12 @@ use Rattle.rayon_machine_places.specs.declared.place.Latch.TheVariants.{Terminat
 use Rattle.rayon_machine_places.specs.declared.place.Plan.{Plan}
 use Rattle.rayon_machine_places.specs.declared.place.Then.{Then}
 use Rattle.rayon_machine_places.specs.declared.place.Then.TheVariants.{BeginFound, LeaveWait, Resume, Await, RunFirst, Answers, Missing, Ran, GiveBack}
+use Rattle.rayon_machine_places.specs.declared.place.Feeding.{Feeding}
+use Rattle.rayon_machine_places.specs.declared.place.Taken.TheVariants.{Plain, Token}
 use Rattle.rayon_machine_places.specs.declared.place.Place.{Place}
-use Rattle.rayon_machine_places.specs.declared.place.Place.TheVariants.{ProbeWorking, PopWorking, TakeCastWorking, PopIdle, TakeCastIdle, StealFrom, RelockOwn, JoinPop, JoinTakeCast, YieldPop, YieldTakeCast, YieldSteal, LocalPop, LocalTakeCast, Run, PushJob, SetLatch, UnlockSettled, Free, Stopped}
+use Rattle.rayon_machine_places.specs.declared.place.Place.TheVariants.{ProbeWorking, PopWorking, TakeCastWorking, PopIdle, TakeCastIdle, StealFrom, RelockOwn, JoinPop, JoinTakeCast, YieldPop, YieldTakeCast, YieldSteal, LocalPop, LocalTakeCast, Run, PushJob, SetLatch, UnlockSettled, Free, Stopped, PushToken, BeginTask, TakeFromFifo}
 use Rattle.rayon_machine_places.specs.declared.place.Move.{Move}
-use Rattle.rayon_machine_places.specs.declared.place.Move.TheVariants.{Stay, Enter, StartRun, Back, HandBack}
+use Rattle.rayon_machine_places.specs.declared.place.Move.TheVariants.{Stay, Enter, StartRun, Back, HandBack, Discard, HandIn}
 use Rattle.rayon_machine_places.specs.declared.act.Act.{Act}
 use Rattle.rayon_machine_places.specs.declared.act.Act.TheVariants.{PushInj, PushOwn, Set}
 use Rattle.rayon_machine_places.specs.declared.act.Seen.{Seen}
@@ -26,16 +28,15 @@ use Rattle.rayon_machine_places.specs.declared.shape.PoolShape.{PoolShape}
 use Rattle.rayon_machine_places.specs.declared.place.Wait.{Wait}
 use Rattle.rayon_machine_places.specs.declared.place.Settling.{Settling}
 use Rattle.rayon_machine_places.specs.Places.{same_party, own_pool, own_index, is_member, plan_pool, plan_job, fresh, awaits, finish, after_set, act_of, next_of}
-use Rattle.rayon_machine_places.specs.World.{Shape, Stack, World, Counts, Part, target_pool, target_worker, head_of, last_of, but_first, own_of, own_left, popped, take_cast, effect}
+use Rattle.rayon_machine_places.specs.World.{Shape, Stack, World, Counts, Part, target_pool, target_worker, head_of, last_of, but_first, own_of, own_left, popped, take_cast, effect, fifo_out, fifo_undo}
 use Rattle.rayon_machine_places.specs.Steps.{after_move, step}
 use Rattle.rayon_machine_places.specs.Runs.{first_place, start, IsRun}
 use Rattle.rayon_machine_laws.specs.Attended.{is_filled, IsCastAttended, IsEmptyHanded}
 use Rattle.rayon_machine_laws.proofs.Asides.{Aside, steps_aside}
-use Rattle.rayon_machine_laws.proofs.Attend.{is_push}
 use Rattle.rayon_machine_laws.proofs.Attended.{aside_frames}
 use Rattle.rayon_machine_laws.proofs.Calm.{part_at, counts_seen, next_at, top_then}
 use Rattle.rayon_machine_laws.proofs.Events.{run_keeps}
-use Rattle.rayon_machine_laws.proofs.Frame.{either, same_index, same_refl, same_party_true, if_some_all, if_some_each, if_some_and, if_some_map}
+use Rattle.rayon_machine_laws.proofs.Frame.{either, same_index, same_refl, same_party_true, if_some_all, if_some_each, if_some_and, if_some_map, out_sees, undo_sees}
 use Rattle.rayon_machine_laws.proofs.Holding.{if_some_h, go_frames}
 use Rattle.rayon_machine_laws.proofs.Kept.{is_emptied, frame_not_emptied}
 use Rattle.rayon_machine_laws.proofs.Locks.{tops_map}
@@ -67,10 +68,26 @@ set_empty : (l : Latch) (r j : ℕ) (h : Shape) (q : Party) (c : Counts) (m : Pa
 set_empty Terminate r j h q c m e = search (rules, arith)
 set_empty (OfCall n) r j h q c m e = search (rules, arith)
 
+-- places whose acts add to a deque or an injector
+abbrev pub is_filling : Place → Bool
+is_filling (PushJob n e) = true
+is_filling (PushToken f e) = true
+is_filling _ = false
+
+out_empty : (q : Party) (m : Part) → m.seat.own ≡ [] → IfSome (fifo_out q m) (λ r. r.1.seat.own ≡ [])
+out_empty q m e = out_sees (λ r. r.1.seat.own ≡ []) q m e (λ u us is. e)
+
+back_empty : (q : Party) (m : Part) → m.seat.own ≡ [] → IfSome (fifo_undo q m) (λ r. r.1.seat.own ≡ [])
+back_empty q m e = undo_sees (λ r. r.1.seat.own ≡ []) q m e (λ u is. e)
+
 -- no act but a push fills a deque
-stays_empty : (h : Shape) (q : Party) (c : Counts) (m : Part) (x : Place) → is_push x ≡ false → StaysEmpty (act_of q x) h q c m
+stays_empty : (h : Shape) (q : Party) (c : Counts) (m : Part) (x : Place) → is_filling x ≡ false → StaysEmpty (act_of q x) h q c m
 stays_empty h (Worker a b) c m (ProbeWorking k) z e = search (rules, arith)
 stays_empty h q c m (PushJob n v) z e = cc
+stays_empty h q c m (PushToken f v) z e = cc
+stays_empty h q c m (BeginTask (Plain t)) z e = e
+stays_empty h q c m (BeginTask (Token k i)) z e = out_empty q m e
+stays_empty h (Worker a b) c m (TakeFromFifo f) z e = back_empty (Worker a b) m e
 stays_empty h (Worker a b) c m (PopWorking k) z e = pop_empty (Worker a b) m (h.pool a).order m.seat.own refl e
 stays_empty h (Worker a b) c m (PopIdle k) z e = pop_empty (Worker a b) m (h.pool a).order m.seat.own refl e
 stays_empty h (Worker a b) c m (JoinPop o) z e = pop_empty (Worker a b) m (h.pool a).order m.seat.own refl e
@@ -156,7 +173,7 @@ abbrev SeatLeft : World → Party → Stack → Seen × Part → Type 0
 SeatLeft w q k r = Tops (λ y. is_emptied y ≡ true → (is_emptied k.top ≡ true → (part_at w q k).seat.own ≡ []) → r.1.seat.own ≡ []) (next_at w q k (r.0))
 
 -- an act of a worker on its own seat
-own_left_empty : (h : Shape) (g : PoolShape) (p i : ℕ) (c : Counts) (m : Part) (x : Place) → is_push x ≡ false → (is_emptied x ≡ true → m.seat.own ≡ []) → IfSome (effect (act_of (Worker p i) x) h (Worker p i) c m) (λ r. Tops (λ y. is_emptied y ≡ true → r.1.seat.own ≡ []) (next_of g (Worker p i) x (r.0)))
+own_left_empty : (h : Shape) (g : PoolShape) (p i : ℕ) (c : Counts) (m : Part) (x : Place) → is_filling x ≡ false → (is_emptied x ≡ true → m.seat.own ≡ []) → IfSome (effect (act_of (Worker p i) x) h (Worker p i) c m) (λ r. Tops (λ y. is_emptied y ≡ true → r.1.seat.own ≡ []) (next_of g (Worker p i) x (r.0)))
 own_left_empty h g p i c m (PopWorking k) z f = busy_empties g (Worker p i) k m (h.pool p).order (own_of (h.pool p).order m.seat.own) refl
 own_left_empty h g p i c m x z f = elim (either (is_emptied x)) [
   | inl e ↦ if_some_map {A = Seen × Part} (λ r. r.1.seat.own ≡ []) (λ r. Tops (λ y. is_emptied y ≡ true → r.1.seat.own ≡ []) (next_of g (Worker p i) x (r.0))) (λ r o. every (λ y. is_emptied y ≡ true → r.1.seat.own ≡ []) (next_of g (Worker p i) x (r.0)) (λ y a. o)) (effect (act_of (Worker p i) x) h (Worker p i) c m) (stays_empty h (Worker p i) c m x z (f e))
@@ -165,10 +182,12 @@ own_left_empty h g p i c m x z f = elim (either (is_emptied x)) [
   where
     every : (R : Place → Type 0) (g : Move) → ((y : Place) → R y) → Tops R g
     every R (Stay y) a = a y
+    every R (HandIn y token) a = a y
     every R (Enter x y) a = a y
     every R (StartRun x n) a = a (Run n Direct)
     every R Back a = tt
     every R (HandBack n) a = tt
+    every R (Discard n) a = tt
 
 push_busy : (h : Shape) (g : PoolShape) (q : Party) (c : Counts) (m : Part) (n : Plan) (v : Bool) → IfSome (effect (act_of q (PushJob n v)) h q c m) (λ r. Tops (λ y. is_emptied y ≡ false) (next_of g q (PushJob n v) (r.0)))
 push_busy h g (Worker a b) c m n v = at (is_member (Worker a b) (plan_pool n))
@@ -177,6 +196,10 @@ push_busy h g (Worker a b) c m n v = at (is_member (Worker a b) (plan_pool n))
     at true = refl
     at false = refl
 push_busy h g (Caller o) c m n v = refl
+
+token_busy : (h : Shape) (g : PoolShape) (q : Party) (c : Counts) (m : Part) (f : Feeding) (v : Bool) → IfSome (effect (act_of q (PushToken f v)) h q c m) (λ r. Tops (λ y. is_emptied y ≡ false) (next_of g q (PushToken f v) (r.0)))
+token_busy h g (Worker a b) c m f v = refl
+token_busy h g (Caller o) c m f v = tt
 
 push_other : (h : Shape) (q : Party) (c : Counts) (m : Part) (n : Plan) (v : Bool) → is_member q (plan_pool n) ≡ false → IfSome (effect (act_of q (PushJob n v)) h q c m) (λ r. r.1.seat.own ≡ m.seat.own)
 push_other h (Worker a b) c m n v e = at (is_member (Worker a b) (plan_pool n)) e
@@ -204,6 +227,15 @@ other_empty : (w : World) (q : Party) (k : Stack) (p i : ℕ) → same_party (Wo
 other_empty w q k p i d ep ei e = by_place k.top refl
   where
     by_place : (x : Place) → k.top ≡ x → IfSome (outcome w q k) (λ r. r.1.seat.own ≡ [])
+    by_place (PushToken f v) s = token q refl (λ z. ep ∙ ap (λ z. target_pool q (act_of q z)) s ∙ z) (λ z. ei ∙ ap (λ z. target_worker q (act_of q z)) s ∙ z)
+      where
+        token : (g : Party) → q ≡ g → (target_pool q (act_of q (PushToken f v)) ≡ own_pool q → p ≡ own_pool q) → (target_worker q (act_of q (PushToken f v)) ≡ own_index q → i ≡ own_index q) → IfSome (outcome w q k) (λ r. r.1.seat.own ≡ [])
+        token (Caller n) is a b = subst (λ z. IfSome (effect (act_of q z) w.shape q (counts_seen w q k) (part_at w q k)) (λ r. r.1.seat.own ≡ [])) (sym s) (subst (λ z. IfSome (effect (act_of z (PushToken f v)) w.shape z (counts_seen w q k) (part_at w q k)) (λ r. r.1.seat.own ≡ [])) (sym is) tt)
+        token (Worker x y) is a b = absurd (
+            let ea : p ≡ x = a (ap (λ z. target_pool z (act_of z (PushToken f v))) is ∙ sym (ap own_pool is)) ∙ ap own_pool is in
+            let eb : i ≡ y = b (ap (λ z. target_worker z (act_of z (PushToken f v))) is ∙ sym (ap own_index is)) ∙ ap own_index is in
+            let me : q ≡ Worker p i = is ∙ ap (λ z. Worker z y) (sym ea) ∙ ap (λ z. Worker p z) (sym eb) in
+            let l : same_party (Worker p i) q ≡ true = ap (same_party (Worker p i)) me ∙ same_refl p i in cc)
     by_place (PushJob n v) s = elim (either (is_member q (plan_pool n))) [
       | inl mem ↦ absurd (
           let t : (target_pool q (act_of q (PushJob n v)) ≡ own_pool q) × (target_worker q (act_of q (PushJob n v)) ≡ own_index q) = push_target q n v mem in
@@ -213,15 +245,16 @@ other_empty w q k p i d ep ei e = by_place k.top refl
     ]
     by_place x s = subst (λ z. IfSome (effect (act_of q z) w.shape q (counts_seen w q k) (part_at w q k)) (λ r. r.1.seat.own ≡ [])) (sym s) (stays_empty w.shape q (counts_seen w q k) (part_at w q k) x refl e)
 
-push_or : (x : Place) → (is_push x ≡ false) ⊎ (is_push x ≡ true)
-push_or x = elim (either (is_push x)) [ inl a ↦ inr a | inr b ↦ inl b ]
+push_or : (x : Place) → (is_filling x ≡ false) ⊎ (is_filling x ≡ true)
+push_or x = elim (either (is_filling x)) [ inl a ↦ inr a | inr b ↦ inl b ]
 
 -- where a worker pushes, it does not come to where its deque is known to be empty
-pushes_busy : (w : World) (q : Party) (k : Stack) → is_push k.top ≡ true → IfSome (outcome w q k) (λ r. Tops (λ y. is_emptied y ≡ false) (next_at w q k (r.0)))
+pushes_busy : (w : World) (q : Party) (k : Stack) → is_filling k.top ≡ true → IfSome (outcome w q k) (λ r. Tops (λ y. is_emptied y ≡ false) (next_at w q k (r.0)))
 pushes_busy w q k e = by_place k.top refl e
   where
-    by_place : (x : Place) → k.top ≡ x → is_push x ≡ true → IfSome (outcome w q k) (λ r. Tops (λ y. is_emptied y ≡ false) (next_at w q k (r.0)))
+    by_place : (x : Place) → k.top ≡ x → is_filling x ≡ true → IfSome (outcome w q k) (λ r. Tops (λ y. is_emptied y ≡ false) (next_at w q k (r.0)))
     by_place (PushJob n v) s z = subst (λ z. IfSome (effect (act_of q z) w.shape q (counts_seen w q k) (part_at w q k)) (λ r. Tops (λ y. is_emptied y ≡ false) (next_of (shape_at w q k) q z (r.0)))) (sym s) (push_busy w.shape (shape_at w q k) q (counts_seen w q k) (part_at w q k) n v)
+    by_place (PushToken f v) s z = subst (λ z. IfSome (effect (act_of q z) w.shape q (counts_seen w q k) (part_at w q k)) (λ r. Tops (λ y. is_emptied y ≡ false) (next_of (shape_at w q k) q z (r.0)))) (sym s) (token_busy w.shape (shape_at w q k) q (counts_seen w q k) (part_at w q k) f v)
     by_place _ s z = cc
 
 at_empty : (w : World) (q : Party) (k : Stack) (p i : ℕ) (b d : Bool) → w.stack q ≡ k → FramesOk w → EmptiedOk w → same_party (Worker p i) q ≡ b → ((p == target_pool q (act_of q k.top)) && (i == target_worker q (act_of q k.top))) ≡ d → IfSome (outcome w q k) (λ r. is_emptied ((if b then after_move (next_at w q k (r.0)) k.below else w.stack (Worker p i)).top) ≡ true → (if d then r.1.seat else w.seat p i).own ≡ [])
@@ -239,7 +272,7 @@ at_empty w q k p i b d e fr ok eb ed = at b d eb ed
     mine : same_party (Worker p i) q ≡ true → is_emptied k.top ≡ true → (w.seat p i).own ≡ []
     mine z h = ok p i (ap (λ n. is_emptied ((w.stack n).top)) (same_party_true (Worker p i) q z) ∙ ap (λ n. is_emptied (n.top)) e ∙ h)
 
-    push_true : same_party (Worker p i) q ≡ true → (d : Bool) → is_push k.top ≡ true → IfSome (outcome w q k) (λ r. is_emptied ((after_move (next_at w q k (r.0)) k.below).top) ≡ true → (if d then r.1.seat else w.seat p i).own ≡ [])
+    push_true : same_party (Worker p i) q ≡ true → (d : Bool) → is_filling k.top ≡ true → IfSome (outcome w q k) (λ r. is_emptied ((after_move (next_at w q k (r.0)) k.below).top) ≡ true → (if d then r.1.seat else w.seat p i).own ≡ [])
     push_true z d push = if_some_map {A = Seen × Part} (λ r. Tops (λ y. is_emptied y ≡ false) (next_at w q k (r.0))) (λ r. is_emptied ((after_move (next_at w q k (r.0)) k.below).top) ≡ true → (if d then r.1.seat else w.seat p i).own ≡ []) (λ r t h. absurd (let n : is_emptied ((after_move (next_at w q k (r.0)) k.below).top) ≡ false = top_then (λ y. is_emptied y ≡ false) w q k (r.0) e fr frame_not_emptied t in cc)) (outcome w q k) (pushes_busy w q k push)
 
     at : (b d : Bool) → same_party (Worker p i) q ≡ b → ((p == p0) && (i == i0)) ≡ d → IfSome (outcome w q k) (λ r. is_emptied ((if b then after_move (next_at w q k (r.0)) k.below else w.stack (Worker p i)).top) ≡ true → (if d then r.1.seat else w.seat p i).own ≡ [])

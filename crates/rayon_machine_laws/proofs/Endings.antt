@@ -6,7 +6,7 @@ use Rattle.rayon_machine_places.specs.declared.place.Party.{Party}
 use Rattle.rayon_machine_places.specs.declared.place.Ending.{Ending}
 use Rattle.rayon_machine_places.specs.declared.place.Ending.TheVariants.{Fine, Fault}
 use Rattle.rayon_machine_places.specs.declared.place.Plan.{Plan}
-use Rattle.rayon_machine_places.specs.declared.place.Plan.TheVariants.{Detach, Here, Send, Fork}
+use Rattle.rayon_machine_places.specs.declared.place.Plan.TheVariants.{Detach, Here, Send, Fork, Feed}
 use Rattle.rayon_machine_places.specs.declared.place.Then.{Then}
 use Rattle.rayon_machine_places.specs.declared.place.Then.TheVariants.{Answers, Missing, Ran, GiveBack}
 use Rattle.rayon_machine_places.specs.declared.place.Place.{Place}
@@ -18,7 +18,7 @@ use Rattle.rayon_machine_laws.specs.Once.{one, times}
 use Rattle.rayon_machine_laws.specs.Latch.{IsLatched}
 use Rattle.rayon_machine_laws.specs.End.{HasEnded, SideEnded, SideFine, answered, IsVerdict, follows, IsEnd, IsUntouched, AllJobs, IsRefused}
 use Rattle.rayon_machine_laws.proofs.Hands.{hand_plan, hand_then, hand, held}
-use Rattle.rayon_machine_laws.proofs.Located.{loc_of, loc_at, is_loc, where_is, fits, unbegun, Hand, Deck, Inj}
+use Rattle.rayon_machine_laws.proofs.Located.{loc_of, loc_at, is_loc, where_is, fits, unbegun, Hand, Deck, Inj, Line}
 use Rattle.rayon_machine_laws.proofs.PlacedRuns.{JobsHold, once}
 use Rattle.rayon_machine_laws.proofs.Claims.{Opened, FirstEnds, SaysThen, Says}
 use Rattle.rayon_machine_laws.proofs.ClaimRuns.{CallsHold}
@@ -79,10 +79,11 @@ ends_so w h filled missing = record {
 }
 
 -- a job whose record names no list, and that was not begun, is untouched
-untouched : (w : World) → JobsHold w → (t : ℕ) → (w.job t).runs ≡ 0 → ((p i : ℕ) → is_loc (Deck p i) (loc_at (w.job t)) ≡ 0) → ((p : ℕ) → is_loc (Inj p) (loc_at (w.job t)) ≡ 0) → IsUntouched w t
-untouched w h t r d i = record {
+untouched : (w : World) → JobsHold w → (t : ℕ) → (w.job t).runs ≡ 0 → ((p i : ℕ) → is_loc (Deck p i) (loc_at (w.job t)) ≡ 0) → ((p : ℕ) → is_loc (Inj p) (loc_at (w.job t)) ≡ 0) → ((p i : ℕ) → is_loc (Line p i) (loc_at (w.job t)) ≡ 0) → IsUntouched w t
+untouched w h t r d i l = record {
   runs = r;
   deque = λ p j. (let a : times t ((w.seat p j).own) ≡ is_loc (Deck p j) (loc_at (w.job t)) = ((h.ok).placed) (Deck p j) t in let b : is_loc (Deck p j) (loc_at (w.job t)) ≡ 0 = d p j in omega (arith, a, b));
+  fifo = λ p j. (let a : times t ((w.seat p j).fifo) ≡ is_loc (Line p j) (loc_at (w.job t)) = ((h.ok).placed) (Line p j) t in let b : is_loc (Line p j) (loc_at (w.job t)) ≡ 0 = l p j in omega (arith, a, b));
   cast = λ p j. (once w h).cast p j t;
   injector = λ p. (let a : times t ((w.pool p).injector) ≡ is_loc (Inj p) (loc_at (w.job t)) = ((h.ok).placed) (Inj p) t in let b : is_loc (Inj p) (loc_at (w.job t)) ≡ 0 = i p in omega (arith, a, b));
 }
@@ -90,7 +91,7 @@ untouched w h t r d i = record {
 held_untouched : (w : World) → JobsHold w → (q : Party) (t : ℕ) → 1 ≤ held t (w.stack q) → IsUntouched w t
 held_untouched w h q t b = let a : held t (w.stack q) ≡ is_loc (Hand q) (loc_at (w.job t)) = ((h.ok).placed) (Hand q) t in
     let z : loc_at (w.job t) ≡ Some (Hand q) = where_is (Hand q) (loc_at (w.job t)) (omega (arith, a, b)) in
-    untouched w h t (unbegun ((w.job t).at) ((w.job t).runs) (Hand q) refl z) (λ p i. ap (is_loc (Deck p i)) z) (λ p. ap (is_loc (Inj p)) z)
+    untouched w h t (unbegun ((w.job t).at) ((w.job t).runs) (Hand q) refl z) (λ p i. ap (is_loc (Deck p i)) z) (λ p. ap (is_loc (Inj p)) z) (λ p i. ap (is_loc (Line p i)) z)
 
 one_self : (t : ℕ) → one (t == t) ≡ 1
 one_self t = ap one (eq-eqb t t refl)
@@ -99,6 +100,10 @@ given_back : (w : World) → JobsHold w → (q : Party) (n : Plan) → ((t : ℕ
 given_back w h q (Detach p t) f = held_untouched w h q t (let a : one (t == t) ≤ held t (w.stack q) = f t in let b : one (t == t) ≡ 1 = one_self t in omega (arith, a, b))
 given_back w h q (Here p t) f = held_untouched w h q t (let a : one (t == t) ≤ held t (w.stack q) = f t in let b : one (t == t) ≡ 1 = one_self t in omega (arith, a, b))
 given_back w h q (Send o) f = held_untouched w h q (o.job) (let a : one (o.job == o.job) ≤ held (o.job) (w.stack q) = f (o.job) in let b : one (o.job == o.job) ≡ 1 = one_self (o.job) in omega (arith, a, b))
+given_back w h q (Feed d) f = (
+  held_untouched w h q (d.job) (let a : one (d.job == d.job) + one (d.job == d.token) ≤ held (d.job) (w.stack q) = f (d.job) in let b : one (d.job == d.job) ≡ 1 = one_self (d.job) in omega (arith, a, b)),
+  held_untouched w h q (d.token) (let a : one (d.token == d.job) + one (d.token == d.token) ≤ held (d.token) (w.stack q) = f (d.token) in let b : one (d.token == d.token) ≡ 1 = one_self (d.token) in omega (arith, a, b)),
+)
 given_back w h q (Fork o s) f = (
   held_untouched w h q s (let a : one (s == s) + one (s == o.job) ≤ held s (w.stack q) = f s in let b : one (s == s) ≡ 1 = one_self s in omega (arith, a, b)),
   held_untouched w h q (o.job) (let a : one (o.job == s) + one (o.job == o.job) ≤ held (o.job) (w.stack q) = f (o.job) in let b : one (o.job == o.job) ≡ 1 = one_self (o.job) in omega (arith, a, b)),
@@ -107,5 +112,5 @@ given_back w h q (Fork o s) f = (
 pub refused_so : (w : World) → JobsHold w → IsRefused w
 refused_so w h = record {
   going = λ q n z. given_back w h q n (λ t. (let a : hand t ((w.stack q).top) ≡ hand_plan t n = follows_hand t ((w.stack q).top) (GiveBack n) z in omega (arith, a)));
-  gone = λ t z. untouched w h t (subst (λ v. fits v ((w.job t).runs)) z (((h.ok).fit) t)) (λ p i. ap (λ v. is_loc (Deck p i) (loc_of v ((w.job t).runs))) z) (λ p. ap (λ v. is_loc (Inj p) (loc_of v ((w.job t).runs))) z);
+  gone = λ t z. untouched w h t (subst (λ v. fits v ((w.job t).runs)) z (((h.ok).fit) t)) (λ p i. ap (λ v. is_loc (Deck p i) (loc_of v ((w.job t).runs))) z) (λ p. ap (λ v. is_loc (Inj p) (loc_of v ((w.job t).runs))) z) (λ p i. ap (λ v. is_loc (Line p i) (loc_of v ((w.job t).runs))) z);
 }

@@ -6,20 +6,20 @@ use Rattle.rayon_machine_places.specs.declared.place.Party.TheVariants.{Worker, 
 use Rattle.rayon_machine_places.specs.declared.place.Ending.{Ending}
 use Rattle.rayon_machine_places.specs.declared.place.Ending.TheVariants.{Fine, Fault}
 use Rattle.rayon_machine_places.specs.declared.place.JobKind.{JobKind}
-use Rattle.rayon_machine_places.specs.declared.place.JobKind.TheVariants.{Detached, Stored, Direct}
+use Rattle.rayon_machine_places.specs.declared.place.JobKind.TheVariants.{Detached, Stored, Direct, TokenOf}
 use Rattle.rayon_machine_places.specs.declared.place.Target.TheVariants.{Termination}
 use Rattle.rayon_machine_places.specs.declared.place.Place.{Place}
-use Rattle.rayon_machine_places.specs.declared.place.Place.TheVariants.{ProbeWorking, PickVictim, StealFrom, PopInjected, YieldPop, YieldPick, YieldSteal, YieldPopInjected, LocalPop, Run, GrowCall, PushJob, FirstSide, Free, Stopped}
+use Rattle.rayon_machine_places.specs.declared.place.Place.TheVariants.{ProbeWorking, PickVictim, StealFrom, PopInjected, YieldPop, YieldPick, YieldSteal, YieldPopInjected, LocalPop, Run, GrowCall, PushJob, FirstSide, Free, Stopped, PushToken, AddToFifo}
 use Rattle.rayon_machine_places.specs.declared.event.Event.{Event}
-use Rattle.rayon_machine_places.specs.declared.event.Event.TheVariants.{Go, From, Refuse, Miss, End, Spawn, Install, Join, Yield, YieldLocal, EndPool}
+use Rattle.rayon_machine_places.specs.declared.event.Event.TheVariants.{Go, From, Refuse, Miss, End, Spawn, Fifo, Install, Join, Yield, YieldLocal, EndPool}
 use Rattle.rayon_machine_places.specs.declared.shape.PoolShape.{PoolShape}
 use Rattle.rayon_machine_places.specs.declared.place.Wait.{Wait}
-use Rattle.rayon_machine_laws.proofs.Frame.{and_parts, if_cond, if_some_map, same_party_true}
+use Rattle.rayon_machine_laws.proofs.Frame.{fifo_cases, and_parts, if_cond, if_some_map, same_party_true}
 use Rattle.rayon_machine_laws.proofs.Seats.{Out, SeatOk, Seeks, frame_out, is_frame, mode}
 use Rattle.rayon_machine_laws.proofs.Ties.{AllFrames, SeatsOk, StackOk, go_seats, job_at, outcome, result}
 use Rattle.rayon_machine_places.specs.Places.{act_of, fresh, goes_on, is_free, is_member, next_steal, next_victim, next_yield, not_self, own_index, own_pool, same_party}
 use Rattle.rayon_machine_places.specs.Runs.{IsRun, start}
-use Rattle.rayon_machine_places.specs.Steps.{after_outcome, after_call, can_miss, after_choice, after_close, after_end, after_end_pool, after_install, is_pool, after_join, after_miss, put_stack, after_refusal, after_resume, after_send, after_spawn, step, after_yield}
+use Rattle.rayon_machine_places.specs.Steps.{after_outcome, after_call, can_miss, after_choice, after_close, after_end, after_end_pool, after_install, is_pool, after_join, after_miss, put_stack, after_refusal, after_resume, after_send, after_spawn, after_fifo, step, after_yield}
 use Rattle.rayon_machine_places.specs.World.{Outcome, Seat, Shape, Stack, World, target_call, target_pool, target_worker}
 
 --
@@ -60,6 +60,7 @@ fits_closed : (p i t : ℕ) (k : JobKind) (fs : List Place) (e : Ending) (s : Se
 fits_closed p i t (Detached r) fs e s ok a = record { top = ok; below = a }
 fits_closed p i t (Stored c o) fs e s ok a = record { top = ok; below = a }
 fits_closed p i t Direct fs e s ok a = fits_resumed p i fs e s ok a
+fits_closed p i t (TokenOf i9) fs e s ok a = fits_resumed p i fs e s ok a
 
 -- a call begins above a free place
 fits_called : (p i : ℕ) (k : Stack) (y : Place) (s : Seat) → is_free (k.top) ≡ true → mode y ≡ Out → StackOk p i k s → StackOk p i (after_call k y) s
@@ -92,6 +93,8 @@ miss_moves w (Caller n) _ fs e = tt
 
 refuse_moves : (w : World) (q : Party) (x : Place) (fs : List Place) → w.stack q ≡ record { top = x; below = fs } → IfSome (after_refusal w q (record { top = x; below = fs })) (Moved w)
 refuse_moves w q (GrowCall n) fs e = record { party = q; to = _; shape = refl; stack = λ r. refl; seat = λ p i. refl; fits = λ p i s ok. same_mode p i (GrowCall n) _ fs (w.stack q) s e refl ok }
+refuse_moves w q (PushToken f v) fs e = record { party = q; to = _; shape = refl; stack = λ r. refl; seat = λ p i. refl; fits = λ p i s ok. same_mode p i (PushToken f v) _ fs (w.stack q) s e refl ok }
+refuse_moves w q (AddToFifo f) fs e = record { party = q; to = _; shape = refl; stack = λ r. refl; seat = λ p i. refl; fits = λ p i s ok. same_mode p i (AddToFifo f) _ fs (w.stack q) s e refl ok }
 refuse_moves w q (PushJob n z) fs e = record { party = q; to = _; shape = refl; stack = λ r. refl; seat = λ p i. refl; fits = λ p i s ok. same_mode p i (PushJob n z) _ fs (w.stack q) s e refl ok }
 refuse_moves w q _ fs e = tt
 
@@ -101,6 +104,9 @@ end_moves w q d _ fs e = tt
 
 spawn_moves : (w : World) (q : Party) (p : ℕ) → IfSome (after_spawn w q p (w.stack q)) (Moved w)
 spawn_moves w q p = if_cond (Moved w) (is_free ((w.stack q).top) && is_pool w.shape p) _ (λ b. record { party = q; to = _; shape = refl; stack = λ r. refl; seat = λ p i. refl; fits = λ a i s ok. fits_called a i (w.stack q) _ s ((and_parts (is_free ((w.stack q).top)) (is_pool w.shape p) b).0) refl ok })
+
+fifo_moves : (w : World) (q : Party) (p : ℕ) → IfSome (after_fifo w q p (w.stack q)) (Moved w)
+fifo_moves w q p = fifo_cases (Moved w) w q p (spawn_moves w q p) (λ i free. record { party = Worker p i; to = _; shape = refl; stack = λ r. refl; seat = λ p i. refl; fits = λ a j s ok. fits_called a j (w.stack (Worker p i)) _ s free refl ok })
 
 sent_moves : (w : World) (q : Party) (p : ℕ) (b : Bool) → is_free ((w.stack q).top) ≡ true → Moved w (after_send w q p (w.stack q) b)
 sent_moves w q p true e = record { party = q; to = _; shape = refl; stack = λ r. refl; seat = λ p i. refl; fits = λ p i s ok. fits_called p i (w.stack q) _ s e refl ok }
@@ -132,6 +138,7 @@ each_step P w go move (Refuse q) = if_some_map (Moved w) P move _ (refuse_moves 
 each_step P w go move (Miss q) = if_some_map (Moved w) P move _ (miss_moves w q ((w.stack q).top) ((w.stack q).below) refl)
 each_step P w go move (End q d) = if_some_map (Moved w) P move _ (end_moves w q d ((w.stack q).top) ((w.stack q).below) refl)
 each_step P w go move (Spawn q p) = if_some_map (Moved w) P move _ (spawn_moves w q p)
+each_step P w go move (Fifo q p) = if_some_map (Moved w) P move _ (fifo_moves w q p)
 each_step P w go move (Install q p) = if_some_map (Moved w) P move _ (install_moves w q p)
 each_step P w go move (Join q) = if_some_map (Moved w) P move _ (join_moves w q)
 each_step P w go move (Yield q) = if_some_map (Moved w) P move _ (yield_moves w q YieldPop refl)

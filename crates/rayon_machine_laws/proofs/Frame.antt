@@ -1,18 +1,21 @@
 -- how a step changes the world: tests on parties and indices, and what holds of an act that may not be enabled
-use Rattle.std.proofs.Common.{refl, sym, ◌∙◌, ap, inl, inr}
-use Rattle.std.specs.Prelude.{ℕ, Bool, true, false, ◌&&◌, ◌||◌, ◌==◌, if◌then◌else◌, Option, Some, None, ◌≡◌, IfSome, ◌⊎◌}
+use Rattle.std.proofs.Common.{refl, sym, ◌∙◌, ap, subst, inl, inr}
+use Rattle.std.specs.Prelude.{ℕ, Bool, true, false, ◌&&◌, ◌||◌, ◌==◌, if◌then◌else◌, Option, Some, None, ◌≡◌, IfSome, ◌⊎◌, List, [], ◌∷◌}
 use Rattle.std.proofs.lemmas.Bool.{eqb-true, eq-eqb}
 use Rattle.rayon_machine_places.specs.declared.place.Party.{Party}
 use Rattle.rayon_machine_places.specs.declared.place.Party.TheVariants.{Worker, Caller}
-use Rattle.rayon_machine_places.specs.declared.place.Plan.TheVariants.{Detach, Here, Send, Fork}
+use Rattle.rayon_machine_places.specs.declared.place.Plan.TheVariants.{Detach, Here, Send, Fork, Feed}
+use Rattle.rayon_machine_places.specs.declared.place.Taken.TheVariants.{Plain}
 use Rattle.rayon_machine_places.specs.declared.place.Move.{Move}
-use Rattle.rayon_machine_places.specs.declared.place.Move.TheVariants.{Stay, Enter, StartRun, Back, HandBack}
+use Rattle.rayon_machine_places.specs.declared.place.Move.TheVariants.{Stay, Enter, StartRun, Back, HandBack, Discard, HandIn}
+use Rattle.rayon_machine_places.specs.declared.act.Seen.{Seen}
+use Rattle.rayon_machine_places.specs.declared.act.Seen.TheVariants.{Task, Missing, Handed}
 use Rattle.rayon_machine_places.specs.declared.state.Job.{Job}
 use Rattle.rayon_machine_places.specs.declared.state.Whereabouts.{Whereabouts}
-use Rattle.rayon_machine_places.specs.declared.state.Whereabouts.TheVariants.{HandedBack}
-use Rattle.rayon_machine_places.specs.Places.{same_party}
-use Rattle.rayon_machine_places.specs.Steps.{after_outcome, after, put, put_stack, jobs_after}
-use Rattle.rayon_machine_places.specs.World.{Outcome, Stack, World, at_job, begun}
+use Rattle.rayon_machine_places.specs.declared.state.Whereabouts.TheVariants.{HandedBack, Spent, Retaken}
+use Rattle.rayon_machine_places.specs.Places.{is_free, same_party}
+use Rattle.rayon_machine_places.specs.Steps.{after_feed, after_fifo, after_outcome, after_spawn, after, is_pool, put, put_stack, jobs_after}
+use Rattle.rayon_machine_places.specs.World.{Outcome, Stack, World, at_job, begun, Part, is_open, fifo_back, fifo_first, fifo_out, fifo_undo, but_last, last_of}
 
 -- a test gives one of its two answers
 pub either : (b : Bool) → (b ≡ true) ⊎ (b ≡ false)
@@ -103,6 +106,11 @@ stack_other f q x g e = rw e
 -- what neither a beginning nor other whereabouts change of a job, no move changes of any
 pub after_part : {B : Type 0} (P : Job → B) → ((q : Party) (j : Job) → P (begun q j) ≡ P j) → ((j : Job) (x : Whereabouts) → P (at_job j x) ≡ P j) → (q : Party) (g : Move) (f : ℕ → Job) (t : ℕ) → P (jobs_after q g f t) ≡ P (f t)
 after_part P b a q (Stay y) f t = refl
+after_part P b a q (HandIn y k) f t = put_same P f k (at_job (f k) Spent) t (a (f k) Spent)
+after_part P b a q (Discard k) f t = put_same P f k (at_job (f k) Spent) t (a (f k) Spent)
+after_part P b a q (HandBack (Feed d)) f t =
+    let same : (n : ℕ) → P (put f d.job (at_job (f d.job) HandedBack) n) ≡ P (f n) = λ n. put_same P f d.job (at_job (f d.job) HandedBack) n (a (f d.job) HandedBack) in
+    put_same P (put f d.job (at_job (f d.job) HandedBack)) d.token (at_job (f d.token) HandedBack) t (a (f d.token) HandedBack ∙ sym (same d.token)) ∙ same t
 after_part P b a q (Enter x y) f t = refl
 after_part P b a q Back f t = refl
 after_part P b a q (StartRun x u) f t = put_same P f u (begun q (f u)) t (b q (f u))
@@ -121,3 +129,42 @@ after_pool q g f t = after_part (λ j. j.pool) (λ r j. refl) (λ j x. refl) q g
 
 pub after_counted : (q : Party) (g : Move) (f : ℕ → Job) (t : ℕ) → (jobs_after q g f t).counted ≡ (f t).counted
 after_counted q g f t = after_part (λ j. j.counted) (λ r j. refl) (λ j x. refl) q g f t
+
+-- a FIFO spawn is that of a worker of the pool, or a spawn
+pub fifo_cases : (P : World → Type 0) (w : World) (q : Party) (p : ℕ) → IfSome (after_spawn w q p (w.stack q)) P → ((i : ℕ) → is_free ((w.stack (Worker p i)).top) ≡ true → P (after_feed w p i (w.stack (Worker p i)))) → IfSome (after_fifo w q p (w.stack q)) P
+fifo_cases P w (Caller c) p s f = s
+fifo_cases P w (Worker r i) p s f = by (r == p) refl
+  where
+    own : (n : ℕ) → Option World
+    own n = if is_free ((w.stack (Worker n i)).top) && is_pool w.shape p then Some (after_feed w p i (w.stack (Worker n i))) else None
+
+    mine : IfSome (own p) P
+    mine = if_cond P (is_free ((w.stack (Worker p i)).top) && is_pool w.shape p) _ (λ z. f i ((and_parts (is_free ((w.stack (Worker p i)).top)) (is_pool w.shape p) z).0))
+
+    by : (z : Bool) → (r == p) ≡ z → IfSome (if z then own r else after_spawn w (Worker r i) p (w.stack (Worker r i))) P
+    by true z = subst (λ n. IfSome (own n) P) (sym (eqb-true r p z)) mine
+    by false z = s
+
+-- a token takes the first job of a list that is open, or finds none
+pub out_sees : (P : Seen × Part → Type 0) (q : Party) (m : Part) → P (Missing, m) → ((u : ℕ) (us : List ℕ) → m.seat.fifo ≡ u ∷ us → P (Handed u m.job.kind, record m { seat = record (m.seat) { fifo = us }; job = begun q m.job })) → IfSome (fifo_out q m) P
+out_sees P q m none some = by (is_open q m.seat.feeder)
+  where
+    first : (l : List ℕ) → m.seat.fifo ≡ l → IfSome (fifo_first q m l) P
+    first [] e = none
+    first (u ∷ us) e = some u us e
+
+    by : (z : Bool) → IfSome (if z then fifo_first q m m.seat.fifo else None) P
+    by true = first m.seat.fifo refl
+    by false = tt
+
+-- the job that was added last comes out of a list that is open, or there is none
+pub undo_sees : (P : Seen × Part → Type 0) (q : Party) (m : Part) → P (Missing, m) → ((u : ℕ) → last_of m.seat.fifo ≡ Some u → P (Task (Plain u), record m { seat = record (m.seat) { fifo = but_last m.seat.fifo; feeder = None }; job = at_job (m.job) (Retaken q) })) → IfSome (fifo_undo q m) P
+undo_sees P q m none some = by (is_open q m.seat.feeder)
+  where
+    back : (o : Option ℕ) → last_of m.seat.fifo ≡ o → IfSome (fifo_back q m o) P
+    back None e = none
+    back (Some u) e = some u e
+
+    by : (z : Bool) → IfSome (if z then fifo_back q m (last_of m.seat.fifo) else None) P
+    by true = back (last_of m.seat.fifo) refl
+    by false = tt

@@ -7,31 +7,33 @@ use Rattle.rayon_machine_places.specs.declared.place.Party.TheVariants.{Worker, 
 use Rattle.rayon_machine_places.specs.declared.place.Ending.{Ending}
 use Rattle.rayon_machine_places.specs.declared.place.Ending.TheVariants.{Fine}
 use Rattle.rayon_machine_places.specs.declared.place.JobKind.{JobKind}
-use Rattle.rayon_machine_places.specs.declared.place.JobKind.TheVariants.{Detached, Stored, Direct}
+use Rattle.rayon_machine_places.specs.declared.place.JobKind.TheVariants.{Detached, Stored, Direct, TokenOf}
 use Rattle.rayon_machine_places.specs.declared.place.Target.{Target}
 use Rattle.rayon_machine_places.specs.declared.place.Target.TheVariants.{Termination, Answer}
 use Rattle.rayon_machine_places.specs.declared.place.Latch.{Latch}
 use Rattle.rayon_machine_places.specs.declared.place.Latch.TheVariants.{Terminate, OfCall}
 use Rattle.rayon_machine_places.specs.declared.place.Plan.{Plan}
-use Rattle.rayon_machine_places.specs.declared.place.Plan.TheVariants.{Detach, Here, Send, Fork}
+use Rattle.rayon_machine_places.specs.declared.place.Plan.TheVariants.{Detach, Here, Send, Fork, Feed}
 use Rattle.rayon_machine_places.specs.declared.place.Share.{Share}
 use Rattle.rayon_machine_places.specs.declared.place.Share.TheVariants.{PoolValue, OfJob}
 use Rattle.rayon_machine_places.specs.declared.place.Then.{Then}
 use Rattle.rayon_machine_places.specs.declared.place.Then.TheVariants.{BeginFound, LeaveWait, Resume, Await, RunFirst, Answers, Missing, Ran, GiveBack}
+use Rattle.rayon_machine_places.specs.declared.place.Taken.{Taken}
 use Rattle.rayon_machine_places.specs.declared.place.Place.{Place}
-use Rattle.rayon_machine_places.specs.declared.place.Place.TheVariants.{ProbeWorking, PopWorking, TakeCastWorking, BecomeInactive, ProbeIdle, PopIdle, TakeCastIdle, PickVictim, StealFrom, PopInjected, AnnounceSelf, GetSleepy, LockOwn, FallAsleep, LoadCounters, AddSleeping, LookAtCast, LookAtInjector, BlockSelf, RelockOwn, UndoSleeping, WakeUp, UnlockOwn, LeaveSearch, JoinProbe, JoinPop, JoinTakeCast, BeginTask, BeginHere, Run, RaiseCount, GrowCall, LookQueue, PushJob, TellNews, LockToWake, WakeWorker, UnlockWoken, WaitForLock, TakeResult, LowerCount, StoreResult, SetLatch, LockToSettle, WakeSettled, UnlockSettled, SetLockLatch, FirstSide, SecondSide, AtOnce}
+use Rattle.rayon_machine_places.specs.declared.place.Place.TheVariants.{ProbeWorking, PopWorking, TakeCastWorking, BecomeInactive, ProbeIdle, PopIdle, TakeCastIdle, PickVictim, StealFrom, PopInjected, AnnounceSelf, GetSleepy, LockOwn, FallAsleep, LoadCounters, AddSleeping, LookAtCast, LookAtInjector, BlockSelf, RelockOwn, UndoSleeping, WakeUp, UnlockOwn, LeaveSearch, JoinProbe, JoinPop, JoinTakeCast, BeginTask, BeginHere, Run, RaiseCount, GrowCall, LookQueue, PushJob, TellNews, LockToWake, WakeWorker, UnlockWoken, WaitForLock, TakeResult, LowerCount, StoreResult, SetLatch, LockToSettle, WakeSettled, UnlockSettled, SetLockLatch, FirstSide, SecondSide, AtOnce, AddToFifo, LookForToken, PushToken, TakeFromFifo}
 use Rattle.rayon_machine_places.specs.declared.act.Seen.{Seen}
 use Rattle.rayon_machine_places.specs.declared.act.Seen.TheVariants.{Done, Refused}
 use Rattle.rayon_machine_places.specs.declared.state.Letter.{Letter}
 use Rattle.rayon_machine_places.specs.declared.state.Letter.TheVariants.{Set as IsSet}
 use Rattle.rayon_machine_places.specs.declared.state.Whereabouts.{Whereabouts}
-use Rattle.rayon_machine_places.specs.declared.state.Whereabouts.TheVariants.{Nowhere, Made, InDeque, Injected, Running, Over, HandedBack}
+use Rattle.rayon_machine_places.specs.declared.state.Whereabouts.TheVariants.{Nowhere, Made, InDeque, Injected, InFifo, Running, Over, HandedBack, Spent, Retaken}
 use Rattle.rayon_machine_places.specs.declared.place.OpenCall.{OpenCall}
-use Rattle.rayon_machine_places.specs.Places.{latch_of, act_of}
+use Rattle.rayon_machine_places.specs.Places.{latch_of, act_of, own_index}
 use Rattle.rayon_machine_places.specs.World.{Shape, Stack, World, Counts, Part, letter, with_letter, lowered, effect}
 use Rattle.rayon_machine_places.specs.Readers.{is_done}
-use Rattle.rayon_machine_laws.proofs.Claims.{Opened, MadeAs, FirstEnds, SaysTarget, Left, is_detached, Awaited, SaysFound, SaysPlan, SaysQueue, SaysThen, SaysOwner, SaysShare, SaysLatch, SaysRun, Says, AllSay, StackSays}
+use Rattle.rayon_machine_laws.proofs.Claims.{Opened, MadeAs, FirstEnds, SaysTarget, Left, Taking, is_detached, Awaited, SaysFound, SaysPlan, SaysQueue, SaysThen, SaysOwner, SaysShare, SaysLatch, SaysRun, Says, AllSay, StackSays, SaysTold}
 use Rattle.rayon_machine_laws.proofs.Letters.{sleepy_keeps, asleep_keeps, wake_keeps, set_keeps}
+use Rattle.rayon_machine_places.specs.declared.place.Taken.TheVariants.{Plain, Token}
 
 pub record Later (w u : World) : Type 0 where
   pub jobs : w.jobs ≤ u.jobs
@@ -67,24 +69,36 @@ pub later_target : (w u : World) → Later w u → (q : Party) (g : Target) → 
 later_target w u l q Termination s = tt
 later_target w u l q (Answer o f) s = (later_opened w u l q o (s.0), later_first w u l (o.number) f ((s.0).number) (s.1))
 
-later_made : (w u : World) → Later w u → (t p : ℕ) (k : JobKind) → MadeAs w t p k → MadeAs u t p k
+pub later_made : (w u : World) → Later w u → (t p : ℕ) (k : JobKind) → MadeAs w t p k → MadeAs u t p k
 later_made w u l t p k s = record { made = (let a : t + 1 ≤ w.jobs = s.made in let b : w.jobs ≤ u.jobs = l.jobs in omega (arith, a, b)); kind = l.kind t (s.made) ∙ s.kind; pool = l.pool t (s.made) ∙ s.pool }
 
 later_awaited : (w u : World) → Later w u → (t : ℕ) → Awaited w t → Awaited u t
 later_awaited w u l t s = record { made = (let a : t + 1 ≤ w.jobs = s.made in let b : w.jobs ≤ u.jobs = l.jobs in omega (arith, a, b)); kind = ap is_detached (l.kind t (s.made)) ∙ s.kind }
 
-later_found : (w u : World) → Later w u → (o : Option ℕ) → SaysFound w o → SaysFound u o
+later_taking : (w u : World) → Later w u → (x : Taken) → Taking w x → Taking u x
+later_taking w u l (Plain t) s = l.left t s
+later_taking w u l (Token k i) s = (l.left k (s.0), (let a : k + 1 ≤ w.jobs = s.1 in let b : w.jobs ≤ u.jobs = l.jobs in omega (arith, a, b)), l.kind k (s.1) ∙ s.2)
+
+later_found : (w u : World) → Later w u → (o : Option Taken) → SaysFound w o → SaysFound u o
 later_found w u l None s = tt
-later_found w u l (Some t) s = l.left t s
+later_found w u l (Some x) s = later_taking w u l x s
 
 later_plan : (w u : World) → Later w u → (q : Party) (n : Plan) → SaysPlan w q n → SaysPlan u q n
 later_plan w u l q (Detach p t) s = later_made w u l t p (Detached p) s
 later_plan w u l q (Here p t) s = later_made w u l t p Direct s
+later_plan w u l q (Feed f) s = (later_made w u l f.job f.pool (Detached f.pool) (s.0), later_made w u l f.token f.pool (TokenOf (own_index q)) (s.1), s.2)
 later_plan w u l q (Send o) s = (later_opened w u l q o (s.0), l.side (o.number) ((s.0).number) ∙ s.1)
 later_plan w u l q (Fork o a) s = (later_opened w u l q o (s.0), l.side (o.number) ((s.0).number) ∙ s.1, later_awaited w u l a (s.2))
 
+later_told : (w u : World) → Later w u → (q : Party) (n : Plan) → SaysTold w q n → SaysTold u q n
+later_told w u l q (Detach p t) s = ((let a : t + 1 ≤ w.jobs = s.0 in let b : w.jobs ≤ u.jobs = l.jobs in omega (arith, a, b)), l.pool t (s.0) ∙ s.1)
+later_told w u l q (Feed f) s = absurd s
+later_told w u l q (Here p t) s = later_plan w u l q (Here p t) s
+later_told w u l q (Send o) s = later_plan w u l q (Send o) s
+later_told w u l q (Fork o a) s = later_plan w u l q (Fork o a) s
+
 later_then : (w u : World) → Later w u → (q : Party) (n : Then) → SaysThen w q n → SaysThen u q n
-later_then w u l q (BeginFound g t) s = (later_target w u l q g (s.0), l.left t (s.1))
+later_then w u l q (BeginFound g x) s = (later_target w u l q g (s.0), later_taking w u l x (s.1))
 later_then w u l q (LeaveWait g) s = later_target w u l q g s
 later_then w u l q Resume s = tt
 later_then w u l q (Await o) s = later_target w u l q (Answer o None) s
@@ -103,7 +117,10 @@ later_done w u l t s = by ((w.job t).at) refl s
     by (Running q) z d = cc
     by (InDeque p i) z d = cc
     by (Injected p) z d = cc
+    by (InFifo p i) z d = cc
+    by (Retaken r) z d = cc
     by HandedBack z d = cc
+    by Spent z d = cc
     by Nowhere z d = cc
 
 later_owner : (w u : World) → Later w u → (t p : ℕ) (n : Then) → t + 1 ≤ w.jobs → SaysOwner w t p n → SaysOwner u t p n
@@ -119,6 +136,7 @@ later_owner w u l t p (RunFirst o a) b s = s
 
 later_queue : (w u : World) → Later w u → (q : Party) (n : Plan) → SaysQueue w q n → SaysQueue u q n
 later_queue w u l q (Here p t) s = s
+later_queue w u l q (Feed f) s = s
 later_queue w u l q (Detach p t) s = later_plan w u l q (Detach p t) s
 later_queue w u l q (Send o) s = later_plan w u l q (Send o) s
 later_queue w u l q (Fork o a) s = later_plan w u l q (Fork o a) s
@@ -133,6 +151,7 @@ later_latch w u l p (OfCall c) s = ((let a : c + 1 ≤ w.calls = s.0 in let b : 
 
 later_run : (w u : World) → Later w u → (t : ℕ) (k : JobKind) → SaysRun w t k → SaysRun u t k
 later_run w u l t Direct s = later_awaited w u l t s
+later_run w u l t (TokenOf i) s = later_awaited w u l t s
 later_run w u l t (Detached p) s = ((let a : t + 1 ≤ w.jobs = s.0 in let b : w.jobs ≤ u.jobs = l.jobs in omega (arith, a, b)), l.kind t (s.0) ∙ s.1)
 later_run w u l t (Stored c o) s = ((let a : t + 1 ≤ w.jobs = s.0 in let b : w.jobs ≤ u.jobs = l.jobs in omega (arith, a, b)), l.kind t (s.0) ∙ s.1)
 
@@ -171,7 +190,12 @@ later_says w u l q (RaiseCount n) s = later_plan w u l q n s
 later_says w u l q (GrowCall n) s = later_queue w u l q n s
 later_says w u l q (LookQueue n) s = later_queue w u l q n s
 later_says w u l q (PushJob n e) s = later_queue w u l q n s
-later_says w u l q (TellNews n e) s = later_plan w u l q n s
+later_says w u l q (AddToFifo f) s = later_plan w u l q (Feed f) s
+later_says w u l q (LookForToken f) s = later_plan w u l q (Feed f) s
+later_says w u l q (PushToken f e) s = later_plan w u l q (Feed f) s
+later_says w u l q (TakeFromFifo f) s = later_plan w u l q (Feed f) s
+later_says w u l q (BeginTask x) s = later_taking w u l x s
+later_says w u l q (TellNews n e) s = later_told w u l q n s
 later_says w u l q (LockToWake k) s = later_then w u l q k.then s
 later_says w u l q (WakeWorker k) s = later_then w u l q k.then s
 later_says w u l q (UnlockWoken k) s = later_then w u l q k.then s
@@ -186,7 +210,6 @@ later_says w u l q (UnlockSettled k) s = (later_latch w u l k.pool k.latch (s.0)
 later_says w u l q (SetLockLatch c) s = later_latch w u l 0 (OfCall c) s
 later_says w u l q (FirstSide o a) s = later_plan w u l q (Fork o a) s
 later_says w u l q (AtOnce p t) s = later_plan w u l q (Here p t) s
-later_says w u l q (BeginTask t) s = l.left t s
 later_says w u l q (BeginHere t) s = later_awaited w u l t s
 later_says w u l q _ s = s
 

@@ -27,6 +27,7 @@ pub mod Settled
 pub mod Stages
 pub mod Searching
 pub mod Hands
+pub mod Feeds
 pub mod Lists
 pub mod Located
 pub mod Placed
@@ -49,3 +50,6 @@ pub mod ShareEvents
 pub mod ShareEnds
 pub mod Bares
 pub mod Returns
+pub mod Feeders
+pub mod Stocked
+pub mod Redeems

@@ -8,14 +8,14 @@ use Rattle.rayon_machine_places.specs.declared.place.Party.TheVariants.{Worker, 
 use Rattle.rayon_machine_places.specs.declared.place.Latch.{Latch}
 use Rattle.rayon_machine_places.specs.declared.place.Latch.TheVariants.{Terminate, OfCall}
 use Rattle.rayon_machine_places.specs.declared.place.Place.{Place}
-use Rattle.rayon_machine_places.specs.declared.place.Place.TheVariants.{ProbeWorking, PopWorking, TakeCastWorking, PopIdle, TakeCastIdle, StealFrom, PopInjected, JoinPop, JoinTakeCast, YieldPop, YieldTakeCast, YieldSteal, YieldPopInjected, LocalPop, LocalTakeCast, BeginTask, BeginHere, PushJob, SetLatch}
+use Rattle.rayon_machine_places.specs.declared.place.Place.TheVariants.{ProbeWorking, PopWorking, TakeCastWorking, PopIdle, TakeCastIdle, StealFrom, PopInjected, JoinPop, JoinTakeCast, YieldPop, YieldTakeCast, YieldSteal, YieldPopInjected, LocalPop, LocalTakeCast, BeginTask, BeginHere, PushJob, AddToFifo, PushToken, TakeFromFifo, SetLatch}
 use Rattle.rayon_machine_places.specs.declared.act.Seen.{Seen}
 use Rattle.rayon_machine_places.specs.declared.state.Letter.{Letter}
 use Rattle.rayon_machine_places.specs.declared.state.Letter.TheVariants.{Unset}
 use Rattle.rayon_machine_places.specs.Places.{act_of}
 use Rattle.rayon_machine_places.specs.World.{Shape, Counts, Part, head_of, last_of, but_first, but_last, own_of, own_left, letter, set_latch, effect}
 use Rattle.rayon_machine_laws.specs.Once.{one, times}
-use Rattle.rayon_machine_laws.proofs.Hands.{got}
+use Rattle.rayon_machine_laws.proofs.Hands.{got, outs}
 
 -- places whose acts neither take nor push nor begin
 abbrev pub moves_no_job : Place → Bool
@@ -36,16 +36,21 @@ moves_no_job LocalTakeCast = false
 moves_no_job (BeginTask t) = false
 moves_no_job (BeginHere t) = false
 moves_no_job (PushJob n e) = false
+moves_no_job (AddToFifo f) = false
+moves_no_job (PushToken f e) = false
+moves_no_job (TakeFromFifo f) = false
 moves_no_job _ = true
 
 -- the lists and the job's whereabouts are as before
 pub record SameJobs (m : Part) (r : Seen × Part) : Type 0 where
   pub own : r.1.seat.own ≡ m.seat.own
+  pub fifo : r.1.seat.fifo ≡ m.seat.fifo
+  pub feeder : r.1.seat.feeder ≡ m.seat.feeder
   pub casts : r.1.pool.casts ≡ m.pool.casts
   pub injector : r.1.pool.injector ≡ m.pool.injector
   pub at : r.1.job.at ≡ m.job.at
   pub runs : r.1.job.runs ≡ m.job.runs
-  pub nothing : (t : ℕ) → got t (r.0) ≡ 0
+  pub nothing : (t : ℕ) → (got t (r.0) ≡ 0) × (outs t (r.0) ≡ 0)
 
 set_same : (l : Latch) (m : Part) (x : Letter) → IfSome (set_latch l m x) (SameJobs m)
 set_same Terminate m Unset = search (rules, arith)
@@ -77,3 +82,6 @@ times_own OldestFirst l t u e = times_first l t u e
 pub times_push : (l : List ℕ) (t u : ℕ) → times t (l ++ u ∷ []) ≡ (times t l + one (t == u))
 times_push [] t u = omega arith
 times_push (v ∷ vs) t u = let k : times t (vs ++ u ∷ []) ≡ (times t vs + one (t == u)) = times_push vs t u in omega (arith, k)
+
+pub times_drop : (l : List ℕ) (t u : ℕ) → last_of l ≡ Some u → times t l ≡ (one (t == u) + times t (but_last l))
+times_drop l t u e = times_last l t u e

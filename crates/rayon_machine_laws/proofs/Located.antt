@@ -4,7 +4,7 @@ use Rattle.std.specs.Prelude.{ℕ, Bool, true, false, ◌&&◌, ◌+◌, ◌==�
 use Rattle.std.proofs.lemmas.Bool.{eqb-true, eq-eqb}
 use Rattle.rayon_machine_places.specs.declared.place.Party.{Party}
 use Rattle.rayon_machine_places.specs.declared.state.Whereabouts.{Whereabouts}
-use Rattle.rayon_machine_places.specs.declared.state.Whereabouts.TheVariants.{Nowhere, Made, InDeque, Injected, Running, Over, HandedBack}
+use Rattle.rayon_machine_places.specs.declared.state.Whereabouts.TheVariants.{Nowhere, Made, InDeque, Injected, InFifo, Retaken, Running, Over, HandedBack, Spent}
 use Rattle.rayon_machine_places.specs.declared.state.Job.{Job}
 use Rattle.rayon_machine_places.specs.Places.{same_party}
 use Rattle.rayon_machine_places.specs.World.{World}
@@ -12,13 +12,15 @@ use Rattle.rayon_machine_laws.specs.Once.{one, times, is_known}
 use Rattle.rayon_machine_laws.proofs.Frame.{same_index, same_refl, same_party_true, same_party_refl}
 use Rattle.rayon_machine_laws.proofs.Hands.{held, worked}
 
--- the places where a job can be: in a party's hand, under a party's run, in a deque, a broadcast list, an injector
+-- the places where a job can be: in a party's hand, under a party's run, in a deque, a broadcast list, an injector, a
+-- FIFO list
 pub data Loc : Type 0 where
   Hand : Party → Loc
   Work : Party → Loc
   Deck : (pool worker : ℕ) → Loc
   Cast : (pool worker : ℕ) → Loc
   Inj : (pool : ℕ) → Loc
+  Line : (pool worker : ℕ) → Loc
 
 abbrev pub same_loc : Loc → Loc → Bool
 same_loc (Hand q) (Hand r) = same_party q r
@@ -26,6 +28,7 @@ same_loc (Work q) (Work r) = same_party q r
 same_loc (Deck p i) (Deck r j) = (p == r) && (i == j)
 same_loc (Cast p i) (Cast r j) = (p == r) && (i == j)
 same_loc (Inj p) (Inj r) = p == r
+same_loc (Line p i) (Line r j) = (p == r) && (i == j)
 same_loc _ _ = false
 
 -- the place that a job's record names: where it is, and how often it was begun
@@ -34,6 +37,8 @@ loc_of (Made q) n = if n == 0 then Some (Hand q) else None
 loc_of (Running q) n = if n == 0 then Some (Hand q) else (if n == 1 then Some (Work q) else None)
 loc_of (InDeque p i) n = if n == 0 then Some (Deck p i) else None
 loc_of (Injected p) n = if n == 0 then Some (Inj p) else None
+loc_of (Retaken q) n = if n == 0 then Some (Hand q) else None
+loc_of (InFifo p i) n = if n == 0 then Some (Line p i) else None
 loc_of _ n = None
 
 abbrev pub loc_at : Job → Option Loc
@@ -51,6 +56,7 @@ weight w (Work q) t = worked t (w.stack q)
 weight w (Deck p i) t = times t (w.seat p i).own
 weight w (Cast p i) t = times t ((w.pool p).casts i)
 weight w (Inj p) t = times t (w.pool p).injector
+weight w (Line p i) t = times t (w.seat p i).fifo
 
 abbrev pub IsPlaced : (Loc → ℕ → ℕ) → (ℕ → Option Loc) → Type 0
 IsPlaced f at = (l : Loc) (t : ℕ) → f l t ≡ is_loc l (at t)
@@ -68,6 +74,17 @@ same_loc_true (Work q) (Work r) e = ap Work (same_party_true q r e)
 same_loc_true (Deck p i) (Deck r j) e = let a : (p ≡ r) × (i ≡ j) = same_index p i r j e in cc
 same_loc_true (Cast p i) (Cast r j) e = let a : (p ≡ r) × (i ≡ j) = same_index p i r j e in cc
 same_loc_true (Inj p) (Inj r) e = ap Inj (eqb-true p r e)
+same_loc_true (Line p i) (Line r j) e = let a : (p ≡ r) × (i ≡ j) = same_index p i r j e in cc
+same_loc_true (Line p i) (Hand r) e = cc
+same_loc_true (Line p i) (Work r) e = cc
+same_loc_true (Line p i) (Deck r j) e = cc
+same_loc_true (Line p i) (Cast r j) e = cc
+same_loc_true (Line p i) (Inj r) e = cc
+same_loc_true (Hand q) (Line r j) e = cc
+same_loc_true (Work q) (Line r j) e = cc
+same_loc_true (Deck p i) (Line r j) e = cc
+same_loc_true (Cast p i) (Line r j) e = cc
+same_loc_true (Inj p) (Line r j) e = cc
 same_loc_true (Hand q) (Work r) e = cc
 same_loc_true (Hand q) (Deck r j) e = cc
 same_loc_true (Hand q) (Cast r j) e = cc
@@ -95,6 +112,7 @@ same_loc_refl (Work q) = same_party_refl q
 same_loc_refl (Deck p i) = same_refl p i
 same_loc_refl (Cast p i) = same_refl p i
 same_loc_refl (Inj p) = eq-eqb p p refl
+same_loc_refl (Line p i) = same_refl p i
 
 -- a place that has a job is the one that is named
 pub where_is : (a : Loc) (v : Option Loc) → 1 ≤ is_loc a v → v ≡ Some a
@@ -192,18 +210,30 @@ fits _ n = n ≡ 0
 abbrev pub JobsFit : World → Type 0
 JobsFit w = (t : ℕ) → fits (w.job t).at (w.job t).runs
 
--- a job that was queued, begun or handed back: it has left the call that made it
+-- a job that was queued in a deque or an injector, begun or handed back: it has left the call that made it. One that is
+-- added to a FIFO list has not, since the call can take it back
 abbrev pub is_left : Whereabouts → Bool
 is_left (Made q) = false
 is_left Nowhere = false
+is_left (InFifo p i) = false
+is_left (Retaken q) = false
 is_left _ = true
+
+-- a job that was made, and is no longer as its call has made it
+abbrev pub is_past : Whereabouts → Bool
+is_past (Made q) = false
+is_past Nowhere = false
+is_past _ = true
 
 -- what is over or handed back stays so, what has left its call does not come back to it, what is made is not lost, and
 -- what is not made is made by an event alone
 abbrev pub IsOnward : Whereabouts → Whereabouts → Type 0
 IsOnward (Made q) b = is_known b ≡ true
+IsOnward (InFifo p i) b = is_past b ≡ true
+IsOnward (Retaken q) b = is_past b ≡ true
 IsOnward (Over e) b = b ≡ Over e
 IsOnward HandedBack b = b ≡ HandedBack
+IsOnward Spent b = b ≡ Spent
 IsOnward Nowhere b = b ≡ Nowhere
 IsOnward _ b = is_left b ≡ true
 
@@ -212,22 +242,38 @@ onward_same (Made q) b e = ap is_known e
 onward_same (Running q) b e = ap is_left e
 onward_same (InDeque p i) b e = ap is_left e
 onward_same (Injected p) b e = ap is_left e
+onward_same (InFifo p i) b e = ap is_past e
+onward_same (Retaken q) b e = ap is_past e
 onward_same (Over d) b e = e
 onward_same HandedBack b e = e
+onward_same Spent b e = e
 onward_same Nowhere b e = e
 
+pub past_known : (a : Whereabouts) → is_past a ≡ true → is_known a ≡ true
+past_known (Made q) z = cc
+past_known Nowhere z = cc
+past_known _ z = refl
+
+pub left_past : (a : Whereabouts) → is_left a ≡ true → is_past a ≡ true
+left_past (Made q) z = cc
+left_past Nowhere z = cc
+left_past (InFifo p i) z = cc
+left_past (Retaken q) z = cc
+left_past _ z = refl
+
 pub left_known : (a : Whereabouts) → is_left a ≡ true → is_known a ≡ true
-left_known (Made q) z = cc
-left_known Nowhere z = cc
-left_known _ z = refl
+left_known a z = past_known a (left_past a z)
 
 pub onward_loc : (a b : Whereabouts) (n : ℕ) (l : Loc) → loc_of a n ≡ Some l → is_left b ≡ true → IsOnward a b
 onward_loc (Made q) b n l e z = left_known b z
 onward_loc (Running q) b n l e z = z
 onward_loc (InDeque p i) b n l e z = z
 onward_loc (Injected p) b n l e z = z
+onward_loc (InFifo p i) b n l e z = left_past b z
+onward_loc (Retaken q) b n l e z = left_past b z
 onward_loc (Over d) b n l e z = cc
 onward_loc HandedBack b n l e z = cc
+onward_loc Spent b n l e z = cc
 onward_loc Nowhere b n l e z = cc
 
 -- what has left its call has still done so later
@@ -236,9 +282,25 @@ onward_left (Made q) b h z = cc
 onward_left Nowhere b h z = cc
 onward_left (Over e) b h z = ap is_left h
 onward_left HandedBack b h z = ap is_left h
+onward_left Spent b h z = ap is_left h
 onward_left (Running q) b h z = h
 onward_left (InDeque p i) b h z = h
 onward_left (Injected p) b h z = h
+onward_left (InFifo p i) b h z = cc
+onward_left (Retaken q) b h z = cc
+
+-- what is no longer as its call has made it does not become so again
+pub onward_past : (a b : Whereabouts) → IsOnward a b → is_past a ≡ true → is_past b ≡ true
+onward_past (Made q) b h z = cc
+onward_past Nowhere b h z = cc
+onward_past (Over e) b h z = ap is_past h
+onward_past HandedBack b h z = ap is_past h
+onward_past Spent b h z = ap is_past h
+onward_past (Running q) b h z = left_past b h
+onward_past (InDeque p i) b h z = left_past b h
+onward_past (Injected p) b h z = left_past b h
+onward_past (InFifo p i) b h z = h
+onward_past (Retaken q) b h z = h
 
 -- nor is what was made lost later
 pub onward_known : (a b : Whereabouts) → IsOnward a b → is_known a ≡ true → is_known b ≡ true
@@ -246,9 +308,67 @@ onward_known (Made q) b h z = h
 onward_known Nowhere b h z = cc
 onward_known (Over e) b h z = ap is_known h
 onward_known HandedBack b h z = ap is_known h
+onward_known Spent b h z = ap is_known h
 onward_known (Running q) b h z = left_known b h
 onward_known (InDeque p i) b h z = left_known b h
 onward_known (Injected p) b h z = left_known b h
+onward_known (InFifo p i) b h z = past_known b h
+onward_known (Retaken q) b h z = past_known b h
+
+-- a party's hand
+abbrev pub is_hand : Loc → Bool
+is_hand (Hand q) = true
+is_hand _ = false
+
+abbrev pub in_hand : Option Loc → Bool
+in_hand None = false
+in_hand (Some l) = is_hand l
+
+-- what is as its call has made it is in that party's hand
+pub made_hand : (q : Party) (n : ℕ) (l : Loc) → loc_of (Made q) n ≡ Some l → is_hand l ≡ true
+made_hand q n l e = by (n == 0) e
+  where
+    by : (b : Bool) → (if b then Some (Hand q) else None) ≡ Some l → is_hand l ≡ true
+    by true g = let k : Hand q ≡ l = cc in ap is_hand (sym k)
+    by false g = cc
+
+-- what is in a FIFO list has a record that says so
+pub at_line : (v : Whereabouts) (n p i : ℕ) → loc_of v n ≡ Some (Line p i) → v ≡ InFifo p i
+at_line (InFifo r j) n p i e = by (n == 0) e
+  where
+    by : (b : Bool) → (if b then Some (Line r j) else None) ≡ Some (Line p i) → InFifo r j ≡ InFifo p i
+    by true g = let k : Line r j ≡ Line p i = cc in let a : r ≡ p = cc in let c : j ≡ i = cc in cc
+    by false g = cc
+at_line (Made q) n p i e = by (n == 0) e
+  where
+    by : (b : Bool) → (if b then Some (Hand q) else None) ≡ Some (Line p i) → Made q ≡ InFifo p i
+    by true g = cc
+    by false g = cc
+at_line (Retaken q) n p i e = by (n == 0) e
+  where
+    by : (b : Bool) → (if b then Some (Hand q) else None) ≡ Some (Line p i) → Retaken q ≡ InFifo p i
+    by true g = cc
+    by false g = cc
+at_line (InDeque r j) n p i e = by (n == 0) e
+  where
+    by : (b : Bool) → (if b then Some (Deck r j) else None) ≡ Some (Line p i) → InDeque r j ≡ InFifo p i
+    by true g = cc
+    by false g = cc
+at_line (Injected r) n p i e = by (n == 0) e
+  where
+    by : (b : Bool) → (if b then Some (Inj r) else None) ≡ Some (Line p i) → Injected r ≡ InFifo p i
+    by true g = cc
+    by false g = cc
+at_line (Running q) n p i e = by (n == 0) (n == 1) e
+  where
+    by : (b d : Bool) → (if b then Some (Hand q) else (if d then Some (Work q) else None)) ≡ Some (Line p i) → Running q ≡ InFifo p i
+    by true d g = cc
+    by false true g = cc
+    by false false g = cc
+at_line (Over d) n p i e = cc
+at_line HandedBack n p i e = cc
+at_line Spent n p i e = cc
+at_line Nowhere n p i e = cc
 
 -- a job that is in a list or in hand was never begun
 abbrev pub is_work : Loc → Bool
@@ -257,6 +377,11 @@ is_work _ = false
 
 pub unbegun : (v : Whereabouts) (n : ℕ) (l : Loc) → is_work l ≡ false → loc_of v n ≡ Some l → n ≡ 0
 unbegun (Made q) n l z e = by (n == 0) refl e
+  where
+    by : (b : Bool) → (n == 0) ≡ b → (if b then Some (Hand q) else None) ≡ Some l → n ≡ 0
+    by true f g = eqb-true n 0 f
+    by false f g = cc
+unbegun (Retaken q) n l z e = by (n == 0) refl e
   where
     by : (b : Bool) → (n == 0) ≡ b → (if b then Some (Hand q) else None) ≡ Some l → n ≡ 0
     by true f g = eqb-true n 0 f
@@ -271,6 +396,11 @@ unbegun (Injected p) n l z e = by (n == 0) refl e
     by : (b : Bool) → (n == 0) ≡ b → (if b then Some (Inj p) else None) ≡ Some l → n ≡ 0
     by true f g = eqb-true n 0 f
     by false f g = cc
+unbegun (InFifo p i) n l z e = by (n == 0) refl e
+  where
+    by : (b : Bool) → (n == 0) ≡ b → (if b then Some (Line p i) else None) ≡ Some l → n ≡ 0
+    by true f g = eqb-true n 0 f
+    by false f g = cc
 unbegun (Running q) n l z e = by (n == 0) (n == 1) refl e
   where
     by : (b d : Bool) → (n == 0) ≡ b → (if b then Some (Hand q) else (if d then Some (Work q) else None)) ≡ Some l → n ≡ 0
@@ -279,6 +409,7 @@ unbegun (Running q) n l z e = by (n == 0) (n == 1) refl e
     by false false f g = cc
 unbegun (Over d) n l z e = cc
 unbegun HandedBack n l z e = cc
+unbegun Spent n l z e = cc
 unbegun Nowhere n l z e = cc
 
 -- a job under a party's run was begun once, and the party runs it
@@ -286,6 +417,11 @@ pub at_work : (v : Whereabouts) (n : ℕ) (q : Party) → loc_of v n ≡ Some (W
 at_work (Made r) n q e = by (n == 0) e
   where
     by : (b : Bool) → (if b then Some (Hand r) else None) ≡ Some (Work q) → (n ≡ 1) × (Made r ≡ Running q)
+    by true g = cc
+    by false g = cc
+at_work (Retaken r) n q e = by (n == 0) e
+  where
+    by : (b : Bool) → (if b then Some (Hand r) else None) ≡ Some (Work q) → (n ≡ 1) × (Retaken r ≡ Running q)
     by true g = cc
     by false g = cc
 at_work (InDeque p i) n q e = by (n == 0) e
@@ -298,6 +434,11 @@ at_work (Injected p) n q e = by (n == 0) e
     by : (b : Bool) → (if b then Some (Inj p) else None) ≡ Some (Work q) → (n ≡ 1) × (Injected p ≡ Running q)
     by true g = cc
     by false g = cc
+at_work (InFifo p i) n q e = by (n == 0) e
+  where
+    by : (b : Bool) → (if b then Some (Line p i) else None) ≡ Some (Work q) → (n ≡ 1) × (InFifo p i ≡ Running q)
+    by true g = cc
+    by false g = cc
 at_work (Running r) n q e = by (n == 0) (n == 1) refl e
   where
     by : (b d : Bool) → (n == 1) ≡ d → (if b then Some (Hand r) else (if d then Some (Work r) else None)) ≡ Some (Work q) → (n ≡ 1) × (Running r ≡ Running q)
@@ -306,6 +447,7 @@ at_work (Running r) n q e = by (n == 0) (n == 1) refl e
     by false false f g = cc
 at_work (Over d) n q e = cc
 at_work HandedBack n q e = cc
+at_work Spent n q e = cc
 at_work Nowhere n q e = cc
 
 -- no record names a broadcast list
@@ -321,6 +463,11 @@ no_cast p i (Running q) n = by (n == 0) (n == 1)
     by true d = refl
     by false true = refl
     by false false = refl
+no_cast p i (Retaken q) n = by (n == 0)
+  where
+    by : (b : Bool) → is_loc (Cast p i) (if b then Some (Hand q) else None) ≡ 0
+    by true = refl
+    by false = refl
 no_cast p i (InDeque r j) n = by (n == 0)
   where
     by : (b : Bool) → is_loc (Cast p i) (if b then Some (Deck r j) else None) ≡ 0
@@ -329,6 +476,11 @@ no_cast p i (InDeque r j) n = by (n == 0)
 no_cast p i (Injected r) n = by (n == 0)
   where
     by : (b : Bool) → is_loc (Cast p i) (if b then Some (Inj r) else None) ≡ 0
+    by true = refl
+    by false = refl
+no_cast p i (InFifo r j) n = by (n == 0)
+  where
+    by : (b : Bool) → is_loc (Cast p i) (if b then Some (Line r j) else None) ≡ 0
     by true = refl
     by false = refl
 no_cast p i _ n = refl

@@ -9,7 +9,7 @@ use Rattle.rayon_machine_places.specs.declared.place.Latch.TheVariants.{Terminat
 use Rattle.rayon_machine_places.specs.declared.place.Place.{Place}
 use Rattle.rayon_machine_places.specs.declared.place.Place.TheVariants.{ProbeWorking, GetSleepy, LockOwn, FallAsleep, BlockSelf, RelockOwn, WakeUp, UnlockOwn, Run, LockToWake, WakeWorker, UnlockWoken, SetLatch, LockToSettle, WakeSettled, UnlockSettled}
 use Rattle.rayon_machine_places.specs.declared.place.Move.{Move}
-use Rattle.rayon_machine_places.specs.declared.place.Move.TheVariants.{Stay, Enter, StartRun, Back, HandBack}
+use Rattle.rayon_machine_places.specs.declared.place.Move.TheVariants.{Stay, Enter, StartRun, Back, HandBack, Discard, HandIn}
 use Rattle.rayon_machine_places.specs.declared.act.Act.{Act}
 use Rattle.rayon_machine_places.specs.declared.act.Act.TheVariants.{Lock, Unlock, Wake, Set}
 use Rattle.rayon_machine_places.specs.declared.act.Seen.{Seen}
@@ -107,10 +107,12 @@ if_both false P h k = k
 -- a relation on places that follows from another
 pub tops_map : (P Q : Place → Type 0) → ((y : Place) → P y → Q y) → (g : Move) → Tops P g → Tops Q g
 tops_map P Q f (Stay y) t = f y t
+tops_map P Q f (HandIn y token) t = f y t
 tops_map P Q f (Enter x y) t = f y t
 tops_map P Q f (StartRun x n) t = f (Run n Direct) t
 tops_map P Q f Back t = tt
 tops_map P Q f (HandBack n) t = tt
+tops_map P Q f (Discard n) t = tt
 
 abbrev is_locking : Place → Bool
 is_locking (LockToWake k) = true

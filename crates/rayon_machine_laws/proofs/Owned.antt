@@ -1,4 +1,5 @@
--- in every world of every run what a party's places name are its own calls, and who sets a call's latch sets it for its owner
+-- in every world of every run what a party's places name are its own calls, and who sets a call's latch sets it for its
+-- owner
 use Rattle.std.proofs.Common.{rules, arith, refl, sym, ◌∙◌, ap, subst, inl, inr}
 use Rattle.std.specs.Prelude.{ℕ, Bool, true, false, ◌&&◌, ◌+◌, ◌-◌, ◌==◌, ◌<◌, ◌≤◌, nat_lt, if◌then◌else◌, Option, Some, None, List, [], ◌∷◌, ◌≡◌, ◌⊎◌, IfSome, ⊤}
 use Rattle.std.proofs.lemmas.Bool.{eqb-true, ltb-true, ltb-false}
@@ -7,31 +8,33 @@ use Rattle.rayon_machine_places.specs.declared.place.Party.TheVariants.{Worker, 
 use Rattle.rayon_machine_places.specs.declared.place.Ending.{Ending}
 use Rattle.rayon_machine_places.specs.declared.place.Ending.TheVariants.{Fine, Fault}
 use Rattle.rayon_machine_places.specs.declared.place.JobKind.{JobKind}
-use Rattle.rayon_machine_places.specs.declared.place.JobKind.TheVariants.{Detached, Stored, Direct}
+use Rattle.rayon_machine_places.specs.declared.place.JobKind.TheVariants.{Detached, Stored, Direct, TokenOf}
 use Rattle.rayon_machine_places.specs.declared.place.Target.TheVariants.{Termination}
 use Rattle.rayon_machine_places.specs.declared.place.Latch.{Latch}
 use Rattle.rayon_machine_places.specs.declared.place.Latch.TheVariants.{Terminate, OfCall}
-use Rattle.rayon_machine_places.specs.declared.place.Plan.TheVariants.{Detach, Here, Send, Fork}
+use Rattle.rayon_machine_places.specs.declared.place.Plan.TheVariants.{Detach, Here, Send, Fork, Feed}
 use Rattle.rayon_machine_places.specs.declared.place.Share.TheVariants.{PoolValue, OfJob}
 use Rattle.rayon_machine_places.specs.declared.place.Then.TheVariants.{Resume}
+use Rattle.rayon_machine_places.specs.declared.place.Taken.{Taken}
+use Rattle.rayon_machine_places.specs.declared.place.Taken.TheVariants.{Plain, Token}
 use Rattle.rayon_machine_places.specs.declared.place.Place.{Place}
-use Rattle.rayon_machine_places.specs.declared.place.Place.TheVariants.{ProbeWorking, PickVictim, StealFrom, PopInjected, YieldPop, YieldPick, YieldSteal, YieldPopInjected, LocalPop, BeginTask, Run, RaiseCount, GrowCall, PushJob, LowerCount, SetLatch, FirstSide, SecondSide, AtOnce, Free, Stopped}
+use Rattle.rayon_machine_places.specs.declared.place.Place.TheVariants.{ProbeWorking, PickVictim, StealFrom, PopInjected, YieldPop, YieldPick, YieldSteal, YieldPopInjected, LocalPop, BeginTask, Run, RaiseCount, GrowCall, PushJob, LowerCount, SetLatch, FirstSide, SecondSide, AtOnce, Free, Stopped, AddToFifo, PushToken, TakeFromFifo}
 use Rattle.rayon_machine_places.specs.declared.place.Move.{Move}
-use Rattle.rayon_machine_places.specs.declared.place.Move.TheVariants.{Stay, Enter, StartRun, Back, HandBack}
+use Rattle.rayon_machine_places.specs.declared.place.Move.TheVariants.{Stay, Enter, StartRun, Back, HandBack, Discard, HandIn}
 use Rattle.rayon_machine_places.specs.declared.act.Act.TheVariants.{Set}
 use Rattle.rayon_machine_places.specs.declared.act.Seen.{Seen}
 use Rattle.rayon_machine_places.specs.declared.event.Event.{Event}
-use Rattle.rayon_machine_places.specs.declared.event.Event.TheVariants.{Go, From, Refuse, Miss, End, Spawn, Install, Join, Yield, YieldLocal, EndPool}
+use Rattle.rayon_machine_places.specs.declared.event.Event.TheVariants.{Go, From, Refuse, Miss, End, Spawn, Fifo, Install, Join, Yield, YieldLocal, EndPool}
 use Rattle.rayon_machine_places.specs.declared.state.Whereabouts.TheVariants.{Over}
 use Rattle.rayon_machine_places.specs.declared.shape.PoolShape.{PoolShape}
 use Rattle.rayon_machine_places.specs.declared.place.Wait.{Wait}
 use Rattle.rayon_machine_places.specs.declared.state.Job.{Job}
-use Rattle.rayon_machine_places.specs.Places.{same_party, own_pool, own_index, is_member, fresh, undo, next_victim, not_self, act_of, next_steal, next_yield, goes_on, is_free}
-use Rattle.rayon_machine_places.specs.World.{Shape, Stack, World, Counts, Part, target_pool, target_worker, target_call, at_job, effect}
-use Rattle.rayon_machine_places.specs.Steps.{put, put_stack, after_move, with_stack, after_choice, after_refusal, can_miss, after_miss, after_close, after_end, after_call, is_pool, new_job, new_call, after_spawn, after_send, after_install, after_join, after_yield, after_end_pool, step}
+use Rattle.rayon_machine_places.specs.Places.{same_party, own_pool, own_index, is_member, fresh, undo, next_victim, not_self, act_of, next_steal, next_yield, goes_on, is_free, after_begin}
+use Rattle.rayon_machine_places.specs.World.{Shape, Stack, World, Counts, Part, target_pool, target_worker, target_call, at_job, effect, or_none, head_of}
+use Rattle.rayon_machine_places.specs.Steps.{put, put_stack, after_move, with_stack, after_choice, after_refusal, can_miss, after_miss, after_close, after_end, after_call, is_pool, new_job, new_call, after_spawn, after_send, after_install, after_join, after_yield, after_end_pool, step, part_of, after_feed, after_fifo}
 use Rattle.rayon_machine_places.specs.Runs.{first_place, start}
 use Rattle.rayon_machine_laws.proofs.Calm.{part_at, counts_seen, next_at}
-use Rattle.rayon_machine_laws.proofs.Frame.{same_party_true, if_some_and, if_some_map, if_cond, acted_keeps, either, put_same, put_new, put_old, after_kind}
+use Rattle.rayon_machine_laws.proofs.Frame.{same_party_true, if_some_and, if_some_map, if_cond, acted_keeps, either, put_same, put_new, put_old, after_kind, out_sees, fifo_cases}
 use Rattle.rayon_machine_laws.proofs.Owners.{own_call, kind_call, sets_for, Both, NamesFrom, plan_is, names_on}
 use Rattle.rayon_machine_laws.proofs.Ties.{job_at, shape_at, outcome, result}
 
@@ -88,22 +91,27 @@ from_names w q x y f n = record { own = λ c e. n.own c (f.0 c e); sets = λ c p
 
 both_map : (P Q : Place → Type 0) → ((y : Place) → P y → Q y) → (g : Move) → Both P g → Both Q g
 both_map P Q f (Stay y) t = f y t
+both_map P Q f (HandIn y token) t = f y t
 both_map P Q f (Enter x y) t = (f x (t.0), f y (t.1))
 both_map P Q f (StartRun x n) t = (f x (t.0), f (Run n Direct) (t.1))
 both_map P Q f Back t = tt
 both_map P Q f (HandBack n) t = tt
+both_map P Q f (Discard n) t = tt
 
 nameless : (w : World) (q : Party) (x : Place) → own_call x ≡ None → sets_for x ≡ None → Names w q x
 nameless w q x a b = record { own = λ c e. absurd (cc); sets = λ c p e. absurd (cc) }
 
 land_names : (w : World) (q : Party) (g : Move) (fs : List Place) → Both (Names w q) g → AllNames w q fs → StackNames w q (after_move g fs)
 land_names w q (Stay y) fs t a = record { top = t; below = a }
+land_names w q (HandIn y token) fs t a = record { top = t; below = a }
 land_names w q (Enter f y) fs t a = record { top = t.1; below = (t.0, a) }
 land_names w q (StartRun f n) fs t a = record { top = t.1; below = (t.0, a) }
 land_names w q Back [] t a = record { top = nameless w q Stopped refl refl; below = tt }
 land_names w q Back (f ∷ fs) t a = record { top = a.0; below = a.1 }
 land_names w q (HandBack n) [] t a = record { top = nameless w q Stopped refl refl; below = tt }
+land_names w q (Discard n) [] t a = record { top = nameless w q Stopped refl refl; below = tt }
 land_names w q (HandBack n) (f ∷ fs) t a = record { top = a.0; below = a.1 }
+land_names w q (Discard n) (f ∷ fs) t a = record { top = a.0; below = a.1 }
 
 -- an act leaves a call's job and a job's kind
 abbrev Fixed : Part → Seen × Part → Type 0
@@ -141,11 +149,17 @@ kind_stored : (k : JobKind) (c : ℕ) (p : Party) → kind_call k ≡ Some (c, p
 kind_stored (Stored d o) c p e = (o, ap (λ z. Stored z o) (ap number_of e))
 kind_stored (Detached r) c p e = absurd (cc)
 kind_stored Direct c p e = absurd (cc)
+kind_stored (TokenOf i) c p e = absurd (cc)
 
 -- a job that begins sets the latch of its own call
-begin_names : (w : World) (q : Party) (t : ℕ) (fs : List Place) → Owned w → IfSome (outcome w q (record { top = BeginTask t; below = fs })) (λ r. Both (Names w q) (next_at w q (record { top = BeginTask t; below = fs }) (r.0)))
-begin_names w (Worker i j) t fs ow = record { own = λ c e. absurd (cc); sets = λ c p e. (let s : (o : Party) × ((w.job t).kind ≡ Stored c o) = kind_stored (w.job t).kind c p e in let m : Mine w (s.0) c = ow.kinds t c (s.0) (s.1) in (m.0, ap kind_call (m.1 ∙ sym (s.1)) ∙ e)) }
-begin_names w (Caller n) t fs ow = record { own = λ c e. absurd (cc); sets = λ c p e. (let s : (o : Party) × ((w.job t).kind ≡ Stored c o) = kind_stored (w.job t).kind c p e in let m : Mine w (s.0) c = ow.kinds t c (s.0) (s.1) in (m.0, ap kind_call (m.1 ∙ sym (s.1)) ∙ e)) }
+run_names : (w : World) (q : Party) (t : ℕ) → Owned w → Names w q (Run t ((w.job t).kind))
+run_names w q t ow = record { own = λ c e. absurd (cc); sets = λ c p e. (let s : (o : Party) × ((w.job t).kind ≡ Stored c o) = kind_stored (w.job t).kind c p e in let m : Mine w (s.0) c = ow.kinds t c (s.0) (s.1) in (m.0, ap kind_call (m.1 ∙ sym (s.1)) ∙ e)) }
+
+begin_names : (w : World) (q : Party) (x : Taken) (fs : List Place) → Owned w → IfSome (outcome w q (record { top = BeginTask x; below = fs })) (λ r. Both (Names w q) (next_at w q (record { top = BeginTask x; below = fs }) (r.0)))
+begin_names w (Worker i j) (Token k v) fs ow = out_sees (λ r. Both (Names w (Worker i j)) (after_begin (Token k v) (r.0))) (Worker i j) (part_of w i v 0 (or_none (head_of ((w.seat i v).fifo)))) tt (λ u us is. subst (λ n. Names w (Worker i j) (Run u ((w.job n).kind))) (ap (λ l. or_none (head_of l)) (sym is)) (run_names w (Worker i j) u ow))
+begin_names w (Caller n) (Token k v) fs ow = out_sees (λ r. Both (Names w (Caller n)) (after_begin (Token k v) (r.0))) (Caller n) (part_of w 0 v 0 (or_none (head_of ((w.seat 0 v).fifo)))) tt (λ u us is. subst (λ m. Names w (Caller n) (Run u ((w.job m).kind))) (ap (λ l. or_none (head_of l)) (sym is)) (run_names w (Caller n) u ow))
+begin_names w (Worker i j) (Plain t) fs ow = record { own = λ c e. absurd (cc); sets = λ c p e. (let s : (o : Party) × ((w.job t).kind ≡ Stored c o) = kind_stored (w.job t).kind c p e in let m : Mine w (s.0) c = ow.kinds t c (s.0) (s.1) in (m.0, ap kind_call (m.1 ∙ sym (s.1)) ∙ e)) }
+begin_names w (Caller n) (Plain t) fs ow = record { own = λ c e. absurd (cc); sets = λ c p e. (let s : (o : Party) × ((w.job t).kind ≡ Stored c o) = kind_stored (w.job t).kind c p e in let m : Mine w (s.0) c = ow.kinds t c (s.0) (s.1) in (m.0, ap kind_call (m.1 ∙ sym (s.1)) ∙ e)) }
 
 next_names : (w : World) (q : Party) (x : Place) (fs : List Place) → Owned w → w.stack q ≡ record { top = x; below = fs } → IfSome (outcome w q (record { top = x; below = fs })) (λ r. Both (Names w q) (next_at w q (record { top = x; below = fs }) (r.0)))
 next_names w q (BeginTask t) fs ow e = begin_names w q t fs ow
@@ -243,6 +257,8 @@ miss_bears w (Caller n) _ fs ow e = tt
 
 refuse_bears : (w : World) (q : Party) (x : Place) (fs : List Place) → Owned w → w.stack q ≡ record { top = x; below = fs } → IfSome (after_refusal w q (record { top = x; below = fs })) (Bears w)
 refuse_bears w q (GrowCall n) fs ow e = turn_bears w q (GrowCall n) (undo n) fs ow e (λ c z. plan_is n c z, λ c p z. z)
+refuse_bears w q (AddToFifo f) fs ow e = turn_bears w q (AddToFifo f) (undo (Feed f)) fs ow e (λ c z. z, λ c p z. z)
+refuse_bears w q (PushToken f v) fs ow e = turn_bears w q (PushToken f v) (TakeFromFifo f) fs ow e (λ c z. z, λ c p z. z)
 refuse_bears w q (PushJob n z) fs ow e = turn_bears w q (PushJob n z) (undo n) fs ow e (λ c z. z, λ c p z. z)
 refuse_bears w q _ fs ow e = tt
 
@@ -258,7 +274,9 @@ closed_names : (w : World) (q : Party) (t : ℕ) (k : JobKind) (d : Ending) (fs 
 closed_names w q t (Detached p) d fs s = record { top = nameless w q (LowerCount p (OfJob t) Resume) refl refl; below = s.below }
 closed_names w q t (Stored c o) d fs s = record { top = record { own = λ c z. absurd (cc); sets = λ c p z. (s.top).sets c p z }; below = s.below }
 closed_names w q t Direct d [] s = record { top = nameless w q Stopped refl refl; below = tt }
+closed_names w q t (TokenOf i) d [] s = record { top = nameless w q Stopped refl refl; below = tt }
 closed_names w q t Direct d (f ∷ fs) s = record { top = goes_on_names w q f d ((s.below).0); below = (s.below).1 }
+closed_names w q t (TokenOf i) d (f ∷ fs) s = record { top = goes_on_names w q f d ((s.below).0); below = (s.below).1 }
 
 end_bears : (w : World) (q : Party) (d : Ending) (x : Place) (fs : List Place) → Owned w → w.stack q ≡ record { top = x; below = fs } → IfSome (after_end w q d (record { top = x; below = fs }) x) (Bears w)
 end_bears w q d (Run t k) fs ow e =
@@ -318,6 +336,42 @@ spawn_bears w q p ow = if_cond (Bears w) (is_free ((w.stack q).top) && is_pool w
       called = λ c l. (let z : (w.call c).job < w.jobs = ow.called c l in omega arith);
       named = called_names w u q y ow (h.0) (nameless u q y refl refl);
     })
+
+feed_bears : (w : World) (p i : ℕ) → Owned w → Bears w (after_feed w p i (w.stack (Worker p i)))
+feed_bears w p i ow = record {
+  party = q;
+  to = after_call (w.stack q) y;
+  stack = λ r. refl;
+  grown = g;
+  kinds = λ n c o h. kinds n c o (n == (w.jobs + 1)) (n == w.jobs) h;
+  called = λ c l. (let z : (w.call c).job < w.jobs = ow.called c l in omega arith);
+  named = called_names w u q y ow g (nameless u q y refl refl);
+}
+  where
+    q : Party
+    q = Worker p i
+
+    y : Place
+    y = RaiseCount (Feed (record { pool = p; job = w.jobs; token = w.jobs + 1 }))
+
+    u : World
+    u = after_feed w p i (w.stack q)
+
+    old : (n : ℕ) → n < w.jobs → (b d : Bool) → (n == (w.jobs + 1)) ≡ b → (n == w.jobs) ≡ d → (if b then new_job q p (TokenOf i) else (if d then new_job q p (Detached p) else w.job n)).kind ≡ (w.job n).kind
+    old n l true d e f = absurd (let s : n ≡ w.jobs + 1 = eqb-true n (w.jobs + 1) e in omega arith)
+    old n l false true e f = absurd (let s : n ≡ w.jobs = eqb-true n w.jobs f in omega arith)
+    old n l false false e f = refl
+
+    g : Grown w u
+    g = record { calls = omega arith; call = λ c l. refl; kind = λ n l. old n l (n == (w.jobs + 1)) (n == w.jobs) refl refl }
+
+    kinds : (n c : ℕ) (o : Party) (b d : Bool) → (if b then new_job q p (TokenOf i) else (if d then new_job q p (Detached p) else w.job n)).kind ≡ Stored c o → Mine u o c
+    kinds n c o true d h = absurd (cc)
+    kinds n c o false true h = absurd (cc)
+    kinds n c o false false h = grown_mine w u ow g o c (ow.kinds n c o h)
+
+fifo_bears : (w : World) (q : Party) (p : ℕ) → Owned w → IfSome (after_fifo w q p (w.stack q)) (Bears w)
+fifo_bears w q p ow = fifo_cases (Bears w) w q p (spawn_bears w q p ow) (λ i free. feed_bears w p i ow)
 
 here_bears : (w : World) (q : Party) (p : ℕ) → Owned w → Bears w (after_send w q p (w.stack q) true)
 here_bears w q p ow =
@@ -480,6 +534,7 @@ step_owned w (Refuse q) ow = if_some_map (Bears w) Owned (λ u m. bears_owned w 
 step_owned w (Miss q) ow = if_some_map (Bears w) Owned (λ u m. bears_owned w u ow m) _ (miss_bears w q ((w.stack q).top) ((w.stack q).below) ow refl)
 step_owned w (End q d) ow = if_some_map (Bears w) Owned (λ u m. bears_owned w u ow m) _ (end_bears w q d ((w.stack q).top) ((w.stack q).below) ow refl)
 step_owned w (Spawn q p) ow = if_some_map (Bears w) Owned (λ u m. bears_owned w u ow m) _ (spawn_bears w q p ow)
+step_owned w (Fifo q p) ow = if_some_map (Bears w) Owned (λ u m. bears_owned w u ow m) _ (fifo_bears w q p ow)
 step_owned w (Install q p) ow = if_some_map (Bears w) Owned (λ u m. bears_owned w u ow m) _ (install_bears w q p ow)
 step_owned w (Join q) ow = if_some_map (Bears w) Owned (λ u m. bears_owned w u ow m) _ (join_bears w q ow)
 step_owned w (Yield q) ow = if_some_map (Bears w) Owned (λ u m. bears_owned w u ow m) _ (yield_bears w q YieldPop ow refl refl)

@@ -13,14 +13,16 @@ use Rattle.rayon_machine_places.specs.declared.place.Latch.TheVariants.{Terminat
 use Rattle.rayon_machine_places.specs.declared.place.Rounds.{Rounds}
 use Rattle.rayon_machine_places.specs.declared.place.Rounds.TheVariants.{Failed, Announced}
 use Rattle.rayon_machine_places.specs.declared.place.Plan.{Plan}
-use Rattle.rayon_machine_places.specs.declared.place.Plan.TheVariants.{Detach, Here, Send, Fork}
+use Rattle.rayon_machine_places.specs.declared.place.Plan.TheVariants.{Detach, Here, Send, Fork, Feed}
 use Rattle.rayon_machine_places.specs.declared.place.Share.{Share}
 use Rattle.rayon_machine_places.specs.declared.place.Then.{Then}
 use Rattle.rayon_machine_places.specs.declared.place.Then.TheVariants.{BeginFound, LeaveWait, Resume, Await, RunFirst, Answers, Missing, Ran, GiveBack}
+use Rattle.rayon_machine_places.specs.declared.place.Feeding.{Feeding}
+use Rattle.rayon_machine_places.specs.declared.place.Taken.{Taken}
 use Rattle.rayon_machine_places.specs.declared.place.Place.{Place}
-use Rattle.rayon_machine_places.specs.declared.place.Place.TheVariants.{ProbeWorking, PopWorking, TakeCastWorking, BecomeInactive, ProbeIdle, PopIdle, TakeCastIdle, PickVictim, StealFrom, PopInjected, AnnounceSelf, GetSleepy, LockOwn, FallAsleep, LoadCounters, AddSleeping, LookAtCast, LookAtInjector, BlockSelf, RelockOwn, UndoSleeping, WakeUp, UnlockOwn, LeaveSearch, JoinProbe, JoinPop, JoinTakeCast, BeginTask, Run, RaiseCount, GrowCall, LookQueue, PushJob, TellNews, LockToWake, WakeWorker, UnlockWoken, WaitForLock, TakeResult, LowerCount, StoreResult, SetLatch, LockToSettle, WakeSettled, UnlockSettled, SetLockLatch, FirstSide, SecondSide}
+use Rattle.rayon_machine_places.specs.declared.place.Place.TheVariants.{ProbeWorking, PopWorking, TakeCastWorking, BecomeInactive, ProbeIdle, PopIdle, TakeCastIdle, PickVictim, StealFrom, PopInjected, AnnounceSelf, GetSleepy, LockOwn, FallAsleep, LoadCounters, AddSleeping, LookAtCast, LookAtInjector, BlockSelf, RelockOwn, UndoSleeping, WakeUp, UnlockOwn, LeaveSearch, JoinProbe, JoinPop, JoinTakeCast, BeginTask, Run, RaiseCount, GrowCall, LookQueue, PushJob, TellNews, LockToWake, WakeWorker, UnlockWoken, WaitForLock, TakeResult, LowerCount, StoreResult, SetLatch, LockToSettle, WakeSettled, UnlockSettled, SetLockLatch, FirstSide, SecondSide, AddToFifo, TakeFromFifo}
 use Rattle.rayon_machine_places.specs.declared.place.Move.{Move}
-use Rattle.rayon_machine_places.specs.declared.place.Move.TheVariants.{Stay, Enter, StartRun, Back, HandBack}
+use Rattle.rayon_machine_places.specs.declared.place.Move.TheVariants.{Stay, Enter, StartRun, Back, HandBack, Discard, HandIn}
 use Rattle.rayon_machine_places.specs.declared.act.Seen.{Seen}
 use Rattle.rayon_machine_places.specs.declared.act.Seen.TheVariants.{Done, Yes, Task, Wakes}
 use Rattle.rayon_machine_places.specs.declared.shape.PoolShape.{PoolShape}
@@ -38,6 +40,7 @@ target_number (Answer o f) = Some o.number
 abbrev pub plan_number : Plan → Option ℕ
 plan_number (Detach p t) = None
 plan_number (Here p t) = None
+plan_number (Feed f) = None
 plan_number (Send o) = Some o.number
 plan_number (Fork o a) = Some o.number
 
@@ -127,10 +130,12 @@ sets_for _ = None
 -- what a relation on places says of a move, of the frame that it leaves too
 abbrev pub Both : (Place → Type 0) → Move → Type 0
 Both R (Stay y) = R y
+Both R (HandIn y token) = R y
 Both R (Enter f y) = R f × R y
 Both R (StartRun f t) = R f × R (Run t Direct)
 Both R Back = ⊤
 Both R (HandBack n) = ⊤
+Both R (Discard n) = ⊤
 
 -- a place names no call but those that another names
 abbrev pub OwnFrom : Option ℕ → Place → Type 0
@@ -180,7 +185,7 @@ set_names : (h : PoolShape) (q : Party) (s : Settling) (e : Seen) → Both (Name
 set_names h q s Yes = (λ c e. e, λ c p e. e)
 set_names h q s _ = settled_names (latch_call s.pool s.worker s.latch) h q s s.latch
 
-found_number : (g : Target) (o : Option ℕ) → then_number (after_found g o) ≡ target_number g
+found_number : (g : Target) (o : Option Taken) → then_number (after_found g o) ≡ target_number g
 found_number g None = refl
 found_number g (Some t) = refl
 
@@ -189,6 +194,7 @@ goes_number (Detach p t) = refl
 goes_number (Here p t) = refl
 goes_number (Send o) = refl
 goes_number (Fork o a) = refl
+goes_number (Feed f) = refl
 
 walk_from : (n : Option ℕ) (x : Place) (h : PoolShape) (q : Party) (p k i : ℕ) (t : Then) → own_call x ≡ n → then_number t ≡ n → Both (NamesFrom x) (walk h q p k i t)
 walk_from n x h q p k i t a b = subst (λ z. Both (λ y. OwnFrom z y × SetFrom (sets_for x) y) (walk h q p k i t)) (b ∙ sym a) (walk_names (sets_for x) h q p k i t)
@@ -206,6 +212,7 @@ raise_names h q (Detach p t) Done = (λ c e. e, λ c p e. e)
 raise_names h q (Here p t) Done = ((λ c e. e, λ c p e. e), (λ c e. e, λ c p e. e))
 raise_names h q (Send o) Done = (λ c e. e, λ c p e. e)
 raise_names h q (Fork o a) Done = (λ c e. e, λ c p e. e)
+raise_names h q (Feed f) Done = (λ c e. e, λ c p e. e)
 raise_names h q n _ = tt
 
 undone_own : (n : Plan) → OwnFrom (plan_number n) (undo n)
@@ -216,6 +223,7 @@ plan_is (Detach p t) c e = cc
 plan_is (Here p t) c e = cc
 plan_is (Send o) c e = e
 plan_is (Fork o a) c e = e
+plan_is (Feed f) c e = cc
 
 grow_names : (h : PoolShape) (q : Party) (n : Plan) (e : Seen) → Both (NamesFrom (GrowCall n)) (next_of h q (GrowCall n) e)
 grow_names h q n Done = (λ c e. plan_is n c e, λ c p e. e)
@@ -245,6 +253,14 @@ lower_names : (h : PoolShape) (q : Party) (p : ℕ) (s : Share) (t : Then) (e : 
 lower_names h q p s t Yes = settle_names None h q p 0 t
 lower_names h q p s t _ = finish_names None q t
 
+add_names : (h : PoolShape) (q : Party) (f : Feeding) (e : Seen) → Both (NamesFrom (AddToFifo f)) (next_of h q (AddToFifo f) e)
+add_names h q f Done = (λ c e. e, λ c p e. e)
+add_names h q f _ = (λ c e. e, λ c p e. e)
+
+back_names : (h : PoolShape) (q : Party) (f : Feeding) (e : Seen) → Both (NamesFrom (TakeFromFifo f)) (next_of h q (TakeFromFifo f) e)
+back_names h q f (Task x) = (λ c e. e, λ c p e. e)
+back_names h q f _ = tt
+
 abbrev pub begins : Place → Bool
 begins (BeginTask t) = true
 begins _ = false
@@ -255,6 +271,8 @@ of_every h g q c m x f = if_some_all {A = Seen × Part} (λ r. Both (NamesFrom x
 -- a move leads only to places that name what the one before did
 pub names_on : (h : Shape) (g : PoolShape) (q : Party) (c : Counts) (m : Part) (x : Place) → begins x ≡ false → IfSome (effect (act_of q x) h q c m) (λ r. Both (NamesFrom x) (next_of g q x (r.0)))
 names_on h g q c m (BeginTask t) z = cc
+names_on h g q c m (AddToFifo f) z = of_every h g q c m (AddToFifo f) (add_names g q f)
+names_on h g q c m (TakeFromFifo f) z = of_every h g q c m (TakeFromFifo f) (back_names g q f)
 names_on h g q c m (ProbeWorking k) z = of_every h g q c m (ProbeWorking k) (probe_names g q k)
 names_on h g q c m (PopInjected k) z = of_every h g q c m (PopInjected k) (inject_names g q k)
 names_on h g q c m (LeaveSearch k) z = of_every h g q c m (LeaveSearch k) (leave_names g q k)

@@ -1,6 +1,6 @@
 -- each job is in its one place, once, in every world of every run
 use Rattle.std.proofs.Common.{arith, refl, sym, ◌∙◌, ap, subst, inl, inr}
-use Rattle.std.specs.Prelude.{ℕ, Bool, true, false, ◌&&◌, ◌+◌, ◌==◌, ◌≤◌, ◌<◌, nat_lt, if◌then◌else◌, Some, None, List, [], ◌∷◌, ◌≡◌, IfSome}
+use Rattle.std.specs.Prelude.{ℕ, Bool, true, false, ◌&&◌, ◌+◌, ◌==◌, ◌≤◌, ◌<◌, nat_lt, if◌then◌else◌, Some, None, List, [], ◌∷◌, ◌≡◌, IfSome, suc, zero}
 use Rattle.std.proofs.lemmas.Bool.{eqb-true, eq-eqb, ltb-true, ltb-false}
 use Rattle.std.proofs.Math.Dec.{ltb}
 use Rattle.rayon_machine_places.specs.declared.place.Party.{Party}
@@ -8,31 +8,32 @@ use Rattle.rayon_machine_places.specs.declared.place.Party.TheVariants.{Worker, 
 use Rattle.rayon_machine_places.specs.declared.place.Ending.{Ending}
 use Rattle.rayon_machine_places.specs.declared.place.Ending.TheVariants.{Fine, Fault}
 use Rattle.rayon_machine_places.specs.declared.place.JobKind.{JobKind}
-use Rattle.rayon_machine_places.specs.declared.place.JobKind.TheVariants.{Detached, Stored, Direct}
+use Rattle.rayon_machine_places.specs.declared.place.JobKind.TheVariants.{Detached, Stored, Direct, TokenOf}
 use Rattle.rayon_machine_places.specs.declared.place.Target.TheVariants.{Termination}
 use Rattle.rayon_machine_places.specs.declared.place.Plan.{Plan}
-use Rattle.rayon_machine_places.specs.declared.place.Plan.TheVariants.{Detach, Here, Send, Fork}
+use Rattle.rayon_machine_places.specs.declared.place.Plan.TheVariants.{Detach, Here, Send, Fork, Feed}
 use Rattle.rayon_machine_places.specs.declared.place.Place.{Place}
 use Rattle.rayon_machine_places.specs.declared.place.Place.TheVariants.{ProbeWorking, YieldPop, LocalPop, Run, RaiseCount, FirstSide, Free, Stopped}
+use Rattle.rayon_machine_places.specs.declared.act.Seen.{Seen}
 use Rattle.rayon_machine_places.specs.declared.event.Event.{Event}
-use Rattle.rayon_machine_places.specs.declared.event.Event.TheVariants.{Go, From, Refuse, Miss, End, Spawn, Install, Join, Yield, YieldLocal, EndPool}
+use Rattle.rayon_machine_places.specs.declared.event.Event.TheVariants.{Go, From, Refuse, Miss, End, Spawn, Fifo, Install, Join, Yield, YieldLocal, EndPool}
 use Rattle.rayon_machine_places.specs.declared.state.Whereabouts.{Whereabouts}
-use Rattle.rayon_machine_places.specs.declared.state.Whereabouts.TheVariants.{Nowhere, Made, InDeque, Injected, Running, Over, HandedBack}
-use Rattle.rayon_machine_places.specs.declared.place.OpenCall.{OpenCall}
+use Rattle.rayon_machine_places.specs.declared.state.Whereabouts.TheVariants.{Nowhere, Made, InDeque, Injected, InFifo, Retaken, Running, Over, HandedBack, Spent}
 use Rattle.rayon_machine_places.specs.declared.state.Job.{Job}
 use Rattle.rayon_machine_places.specs.declared.state.Call.{Call}
-use Rattle.rayon_machine_places.specs.Places.{same_party, is_member, fresh, act_of, goes_on, is_free}
-use Rattle.rayon_machine_places.specs.World.{Shape, World, target_pool, target_worker, target_call, at_job}
-use Rattle.rayon_machine_places.specs.Steps.{put, put_stack, after_close, after_end, after_call, is_pool, new_job, new_call, after_spawn, after_send, after_install, after_join, step}
+use Rattle.rayon_machine_places.specs.Places.{same_party, is_member, fresh, act_of, next_of, goes_on, is_free}
+use Rattle.rayon_machine_places.specs.World.{Shape, World, Part, target_pool, target_worker, target_call, at_job}
+use Rattle.rayon_machine_places.specs.Steps.{put, put_stack, after_move, after_close, after_end, after_call, is_pool, new_job, new_call, after_spawn, after_fifo, after_send, after_install, after_join, step}
 use Rattle.rayon_machine_places.specs.Runs.{first_place, start, IsRun}
-use Rattle.rayon_machine_laws.specs.Once.{one, in_deque, in_injector, runs_with, is_with, is_known, may_begin, run_of, runs_in, IsOnce}
-use Rattle.rayon_machine_laws.proofs.Frame.{either, same_party_true, if_some_map, if_cond, acted_keeps}
-use Rattle.rayon_machine_laws.proofs.Ties.{job_at, outcome, result}
+use Rattle.rayon_machine_laws.specs.Once.{one, in_deque, in_fifo, in_injector, runs_with, is_with, is_known, may_begin, run_of, runs_in, IsOnce}
+use Rattle.rayon_machine_laws.proofs.Frame.{either, fifo_cases, same_party_true, if_some_map, if_cond, acted_keeps}
+use Rattle.rayon_machine_laws.proofs.Ties.{job_at, shape_at, outcome, result}
 use Rattle.rayon_machine_laws.proofs.Events.{run_keeps}
 use Rattle.rayon_machine_laws.proofs.Hands.{hand_plan, hand, held_in, held, worked}
-use Rattle.rayon_machine_laws.proofs.Located.{Loc, same_loc, loc_of, loc_at, is_loc, weight, IsPlaced, JobsPlaced, and_true, and_false, make_ok, fits, at_work, no_cast, Hand, Work, Deck, Cast, Inj}
-use Rattle.rayon_machine_laws.proofs.Placed.{Kept, JobsOk, job_new, job_old, gone_ok}
-use Rattle.rayon_machine_laws.proofs.PlacedEvents.{go_kept, Unmade, Known, IsFinal, Advance, kept_advance, from_kept, refuse_kept, miss_kept, yield_kept, give_kept}
+use Rattle.rayon_machine_laws.proofs.Feeds.{fed, fed_in, all_fed, fed_held, fed_after, fed_stacks}
+use Rattle.rayon_machine_laws.proofs.Located.{Loc, same_loc, loc_of, loc_at, is_loc, weight, IsPlaced, JobsPlaced, and_true, and_false, make_ok, fits, onward_loc, at_work, no_cast, Hand, Work, Deck, Cast, Inj, Line}
+use Rattle.rayon_machine_laws.proofs.Placed.{Kept, JobsOk, Feeds, job_new, job_old, gone_ok}
+use Rattle.rayon_machine_laws.proofs.PlacedEvents.{go_kept, Unmade, Known, IsFinal, Advance, FedLess, kept_advance, from_kept, refuse_kept, miss_kept, yield_kept, give_kept}
 
 hand_goes_on : (t : ℕ) (f : Place) (e : Ending) → (hand t (goes_on f e) ≡ hand t f) × (run_of t (goes_on f e) ≡ run_of t f)
 hand_goes_on t (FirstSide o a) Fine = (refl, refl)
@@ -43,13 +44,31 @@ closed_none : (t u : ℕ) (k : JobKind) (e : Ending) (fs : List Place) → (held
 closed_none t u (Detached p) e fs = (omega arith, omega arith)
 closed_none t u (Stored c o) e fs = (omega arith, omega arith)
 closed_none t u Direct e [] = (refl, refl)
+closed_none t u (TokenOf i) e [] = (refl, refl)
 closed_none t u Direct e (f ∷ fs) = (ap (λ z. z + held_in t fs) ((hand_goes_on t f e).0), ap (λ z. z + runs_in t fs) ((hand_goes_on t f e).1))
+closed_none t u (TokenOf i) e (f ∷ fs) = (ap (λ z. z + held_in t fs) ((hand_goes_on t f e).0), ap (λ z. z + runs_in t fs) ((hand_goes_on t f e).1))
+
+fed_goes_on : (t : ℕ) (f : Place) (e : Ending) → fed t (goes_on f e) ≤ fed t f
+fed_goes_on t (FirstSide o a) Fine = omega arith
+fed_goes_on t (FirstSide o a) Fault = omega arith
+fed_goes_on t f e = omega arith
+
+fed_closed : (t u : ℕ) (k : JobKind) (e : Ending) (fs : List Place) → all_fed t (after_close u k e fs) ≤ fed_in t fs
+fed_closed t u (Detached p) e fs = omega arith
+fed_closed t u (Stored c o) e fs = omega arith
+fed_closed t u Direct e [] = omega arith
+fed_closed t u (TokenOf i) e [] = omega arith
+fed_closed t u Direct e (f ∷ fs) = let a : fed t (goes_on f e) ≤ fed t f = fed_goes_on t f e in omega (arith, a)
+fed_closed t u (TokenOf i) e (f ∷ fs) = let a : fed t (goes_on f e) ≤ fed t f = fed_goes_on t f e in omega (arith, a)
 
 -- a run's end: the job is over, and in no place
 end_kept : (w : World) (q : Party) (d : Ending) (x : Place) (fs : List Place) → w.stack q ≡ record { top = x; below = fs } → JobsOk w → Unmade w → IfSome (after_end w q d (record { top = x; below = fs }) x) (Advance w)
-end_kept w q d (Run u k) fs e ok un = kept_advance w (record w { stack = put_stack w.stack q (after_close u k d fs); job = put w.job u (at_job (w.job u) (Over d)) }) (omega arith) un
-    (gone_ok w (record w { stack = put_stack w.stack q (after_close u k d fs); job = put w.job u (at_job (w.job u) (Over d)) }) u (at_job (w.job u) (Over d)) (Work q) None refl shift (job_new w u (at_job (w.job u) (Over d))) (job_old w u (at_job (w.job u) (Over d))) (λ z. (refl, (at_work ((w.job u).at) ((w.job u).runs) q z).0, refl)) ok)
+end_kept w q d (Run u k) fs e ok un = kept_advance w (record w { stack = put_stack w.stack q (after_close u k d fs); job = put w.job u (at_job (w.job u) (Over d)) }) (omega arith) un (fed_stacks w q (after_close u k d fs) closed_fed)
+    (gone_ok w (record w { stack = put_stack w.stack q (after_close u k d fs); job = put w.job u (at_job (w.job u) (Over d)) }) u (at_job (w.job u) (Over d)) (Work q) None refl shift (job_new w u (at_job (w.job u) (Over d))) (job_old w u (at_job (w.job u) (Over d))) refl (λ z. (refl, (at_work ((w.job u).at) ((w.job u).runs) q z).0, onward_loc ((w.job u).at) (Over d) ((w.job u).runs) (Work q) z refl)) ok)
   where
+    closed_fed : (t : ℕ) → all_fed t (after_close u k d fs) ≤ all_fed t (w.stack q)
+    closed_fed t = let a : all_fed t (after_close u k d fs) ≤ fed_in t fs = fed_closed t u k d fs in let b : all_fed t (w.stack q) ≡ (0 + fed_in t fs) = ap (all_fed t) e in omega (arith, a, b)
+
     shift : (a : Loc) (t : ℕ) → weight (record w { stack = put_stack w.stack q (after_close u k d fs); job = put w.job u (at_job (w.job u) (Over d)) }) a t + one (same_loc a (Work q) && (t == u)) ≡ weight w a t + 0
     shift (Hand g) t = by (same_party g q) refl
       where
@@ -66,6 +85,7 @@ end_kept w q d (Run u k) fs e ok un = kept_advance w (record w { stack = put_sta
     shift (Deck p i) t = omega arith
     shift (Cast p i) t = omega arith
     shift (Inj p) t = omega arith
+    shift (Line p i) t = omega arith
 end_kept w q d _ fs e ok un = tt
 
 -- the weights where a party's call has new jobs
@@ -83,6 +103,7 @@ called_weight w q n (Work g) t = by (same_party g q) refl
 called_weight w q n (Deck p i) t = omega arith
 called_weight w q n (Cast p i) t = omega arith
 called_weight w q n (Inj p) t = omega arith
+called_weight w q n (Line p i) t = omega arith
 
 pub not_new : (n t : ℕ) → n + 1 ≤ t → (t == n) ≡ false
 not_new n t h = elim (either (t == n)) [ inl y ↦ absurd (let z : t ≡ n = eqb-true t n y in omega (arith, z)) | inr z ↦ z ]
@@ -94,13 +115,46 @@ old_below n t e b = elim (either (ltb t n)) [ inl y ↦ (let a : t < n = ltb-tru
 final_same : (a : Whereabouts) → IsFinal a a
 final_same (Over e) = refl
 final_same HandedBack = refl
+final_same Spent = refl
 final_same (Made q) = tt
 final_same Nowhere = tt
+final_same (InFifo p i) = refl
+final_same (Retaken q) = refl
 final_same _ = refl
+
+-- what was made before has another number than what is made now
+known_old : (w : World) (t : ℕ) → Unmade w → is_known (w.job t).at ≡ true → (t == w.jobs) ≡ false
+known_old w t un k = elim (either (t == w.jobs)) [ inl y ↦ absurd (let z : t ≡ w.jobs = eqb-true t w.jobs y in let n : (w.job t).at ≡ Nowhere = un t (omega (arith, z)) in let b : is_known (w.job t).at ≡ false = ap is_known n in cc) | inr z ↦ z ]
+
+known_next : (w : World) (t : ℕ) → Unmade w → is_known (w.job t).at ≡ true → (t == (w.jobs + 1)) ≡ false
+known_next w t un k = elim (either (t == (w.jobs + 1))) [ inl y ↦ absurd (let z : t ≡ w.jobs + 1 = eqb-true t (w.jobs + 1) y in let n : (w.job t).at ≡ Nowhere = un t (omega (arith, z)) in let b : is_known (w.job t).at ≡ false = ap is_known n in cc) | inr z ↦ z ]
+
+one_new : (w : World) (q : Party) (t p : ℕ) (k : JobKind) → 1 ≤ one (t == w.jobs) → (put w.job w.jobs (new_job q p k) t).at ≡ Made q
+one_new w q t p k b = by (t == w.jobs) b
+  where
+    by : (z : Bool) → 1 ≤ one z → (if z then new_job q p k else w.job t).at ≡ Made q
+    by true f = refl
+    by false f = absurd (omega (arith, f))
+
+-- a call that has begun has its jobs as it has made them
+new_feeds : (w : World) (q : Party) (n : Plan) (J : ℕ → Job) → ((t : ℕ) → 1 ≤ hand_plan t n → (J t).at ≡ Made q) → ((t : ℕ) → is_known (w.job t).at ≡ true → (J t).at ≡ (w.job t).at) → Feeds w → Feeds (record w { stack = put_stack w.stack q (after_call (w.stack q) (RaiseCount n)); job = J })
+new_feeds w q n J new old fe r t h = by (same_party r q) refl h
+  where
+    before : (s : Party) → 1 ≤ all_fed t (w.stack s) → (J t).at ≡ Made s
+    before s f = let a : (w.job t).at ≡ Made s = fe s t f in old t (ap is_known a) ∙ a
+
+    mine : (m : ℕ) → hand_plan t n ≡ m → 1 ≤ m + all_fed t (w.stack q) → (J t).at ≡ Made q
+    mine zero e f = before q (omega (arith, f))
+    mine (suc m) e f = new t (omega (arith, e))
+
+    by : (z : Bool) → same_party r q ≡ z → 1 ≤ all_fed t (if z then after_call (w.stack q) (RaiseCount n) else w.stack r) → (J t).at ≡ Made r
+    by true z f = mine (hand_plan t n) refl f ∙ ap Made (sym (same_party_true r q z))
+    by false z f = before r f
 
 -- a call that makes one job
 make_one : (w : World) (q : Party) (n : Plan) (p : ℕ) (k : JobKind) (C : ℕ → Call) (c : ℕ) → ((t : ℕ) → hand_plan t n ≡ one (t == w.jobs)) → JobsOk w → Unmade w → Advance w (record w { stack = put_stack w.stack q (after_call (w.stack q) (RaiseCount n)); call = C; job = put w.job w.jobs (new_job q p k); calls = c; jobs = w.jobs + 1 })
 make_one w q n p k C c h ok un = record {
+  feeds = λ fe. new_feeds w q n (put w.job w.jobs (new_job q p k)) (λ t b. one_new w q t p k (let f : hand_plan t n ≡ one (t == w.jobs) = h t in omega (arith, f, b))) (λ t e. ap (λ j. j.at) (job_old w w.jobs (new_job q p k) t (known_old w t un e))) fe;
   placed = make_ok (weight w) (weight (record w { stack = put_stack w.stack q (after_call (w.stack q) (RaiseCount n)) })) (λ t. loc_at (w.job t)) (λ t. loc_at (put w.job w.jobs (new_job q p k) t)) w.jobs q none le (ok.placed) (ap (λ x. loc_at x) (job_new w w.jobs (new_job q p k))) (λ t e. ap (λ x. loc_at x) (job_old w w.jobs (new_job q p k) t e));
   fit = λ t. fit_by t (t == w.jobs);
   final = λ t. fin_by t (t == w.jobs) refl;
@@ -145,9 +199,12 @@ install_kept w q p ok un = if_cond (Advance w) (is_free ((w.stack q).top) && is_
 abbrev pub mid_of : World → Party → Loc → ℕ → ℕ
 mid_of w q l t = weight w l t + one (same_loc l (Hand q) && (t == w.jobs))
 
--- a join makes two
-make_two : (w : World) (q : Party) (p : ℕ) (k : JobKind) (C : ℕ → Call) (c : ℕ) (o : OpenCall) → o.job ≡ w.jobs + 1 → JobsOk w → Unmade w → Advance w (record w { stack = put_stack w.stack q (after_call (w.stack q) (RaiseCount (Fork o w.jobs))); call = C; job = put (put w.job w.jobs (new_job q p Direct)) (w.jobs + 1) (new_job q p k); calls = c; jobs = w.jobs + 2 })
-make_two w q p k C c o is ok un = record {
+-- a call that makes two
+make_two : (w : World) (q : Party) (n : Plan) (p : ℕ) (d k : JobKind) (C : ℕ → Call) (c : ℕ) → ((t : ℕ) → hand_plan t n ≡ one (t == w.jobs) + one (t == (w.jobs + 1))) → JobsOk w → Unmade w → Advance w (record w { stack = put_stack w.stack q (after_call (w.stack q) (RaiseCount n)); call = C; job = put (put w.job w.jobs (new_job q p d)) (w.jobs + 1) (new_job q p k); calls = c; jobs = w.jobs + 2 })
+make_two w q n p d k C c is ok un = record {
+  feeds = λ fe. new_feeds w q n (put one_made (w.jobs + 1) (new_job q p k))
+      (λ t b. two_new t (t == (w.jobs + 1)) refl (let f : hand_plan t n ≡ one (t == w.jobs) + one (t == (w.jobs + 1)) = is t in omega (arith, f, b)))
+      (λ t e. ap (λ j. j.at) (job_old (record w { job = one_made }) (w.jobs + 1) (new_job q p k) t (known_next w t un e) ∙ job_old w w.jobs (new_job q p d) t (known_old w t un e))) fe;
   placed = make_ok (mid_of w q) (weight v) (λ t. loc_at (one_made t)) (λ t. loc_at (put one_made (w.jobs + 1) (new_job q p k) t)) (w.jobs + 1) q none2 le first (ap (λ x. loc_at x) (job_new (record w { job = one_made }) (w.jobs + 1) (new_job q p k))) (λ t e. ap (λ x. loc_at x) (job_old (record w { job = one_made }) (w.jobs + 1) (new_job q p k) t e));
   fit = λ t. fit_by t (t == (w.jobs + 1)) (t == w.jobs);
   final = λ t. fin_by t (t == (w.jobs + 1)) (t == w.jobs) refl refl;
@@ -156,73 +213,85 @@ make_two w q p k C c o is ok un = record {
 }
   where
     v : World
-    v = record w { stack = put_stack w.stack q (after_call (w.stack q) (RaiseCount (Fork o w.jobs))) }
+    v = record w { stack = put_stack w.stack q (after_call (w.stack q) (RaiseCount n)) }
 
     one_made : ℕ → Job
-    one_made = put w.job w.jobs (new_job q p Direct)
+    one_made = put w.job w.jobs (new_job q p d)
+
+    two_new : (t : ℕ) (z : Bool) → (t == (w.jobs + 1)) ≡ z → 1 ≤ one (t == w.jobs) + one (t == (w.jobs + 1)) → (if z then new_job q p k else one_made t).at ≡ Made q
+    two_new t true z b = refl
+    two_new t false z b = one_new w q t p d (let a : one (t == (w.jobs + 1)) ≡ 0 = ap one z in omega (arith, a, b))
 
     none : loc_at (w.job w.jobs) ≡ None
     none = ap (λ x. loc_of x ((w.job w.jobs).runs)) (un w.jobs (omega arith))
 
     none2 : loc_at (one_made (w.jobs + 1)) ≡ None
-    none2 = ap (λ x. loc_at x) (job_old w w.jobs (new_job q p Direct) (w.jobs + 1) (not_new w.jobs (w.jobs + 1) (omega arith))) ∙ ap (λ x. loc_of x ((w.job (w.jobs + 1)).runs)) (un (w.jobs + 1) (omega arith))
+    none2 = ap (λ x. loc_at x) (job_old w w.jobs (new_job q p d) (w.jobs + 1) (not_new w.jobs (w.jobs + 1) (omega arith))) ∙ ap (λ x. loc_of x ((w.job (w.jobs + 1)).runs)) (un (w.jobs + 1) (omega arith))
 
     first : IsPlaced (mid_of w q) (λ t. loc_at (one_made t))
-    first = make_ok (weight w) (mid_of w q) (λ t. loc_at (w.job t)) (λ t. loc_at (one_made t)) w.jobs q none (λ l t. omega arith) (ok.placed) (ap (λ x. loc_at x) (job_new w w.jobs (new_job q p Direct))) (λ t e. ap (λ x. loc_at x) (job_old w w.jobs (new_job q p Direct) t e))
+    first = make_ok (weight w) (mid_of w q) (λ t. loc_at (w.job t)) (λ t. loc_at (one_made t)) w.jobs q none (λ l t. omega arith) (ok.placed) (ap (λ x. loc_at x) (job_new w w.jobs (new_job q p d))) (λ t e. ap (λ x. loc_at x) (job_old w w.jobs (new_job q p d) t e))
 
     le : (l : Loc) (t : ℕ) → weight v l t ≡ mid_of w q l t + one (same_loc l (Hand q) && (t == (w.jobs + 1)))
-    le l t = let a : weight v l t ≡ weight w l t + (if same_loc l (Hand q) then hand_plan t (Fork o w.jobs) else 0) = called_weight w q (Fork o w.jobs) l t in
-        let b : (if same_loc l (Hand q) then hand_plan t (Fork o w.jobs) else 0) ≡ (one (same_loc l (Hand q) && (t == w.jobs)) + one (same_loc l (Hand q) && (t == (w.jobs + 1)))) = by (same_loc l (Hand q)) in omega (arith, a, b)
+    le l t = let a : weight v l t ≡ weight w l t + (if same_loc l (Hand q) then hand_plan t n else 0) = called_weight w q n l t in
+        let b : (if same_loc l (Hand q) then hand_plan t n else 0) ≡ (one (same_loc l (Hand q) && (t == w.jobs)) + one (same_loc l (Hand q) && (t == (w.jobs + 1)))) = by (same_loc l (Hand q)) in omega (arith, a, b)
       where
-        by : (z : Bool) → (if z then one (t == w.jobs) + one (t == o.job) else 0) ≡ (one (z && (t == w.jobs)) + one (z && (t == (w.jobs + 1))))
-        by true = ap (λ x. one (t == w.jobs) + one (t == x)) is
+        by : (z : Bool) → (if z then hand_plan t n else 0) ≡ (one (z && (t == w.jobs)) + one (z && (t == (w.jobs + 1))))
+        by true = is t
         by false = refl
 
-    fit_by : (t : ℕ) (y z : Bool) → fits ((if y then new_job q p k else (if z then new_job q p Direct else w.job t)).at) ((if y then new_job q p k else (if z then new_job q p Direct else w.job t)).runs)
+    fit_by : (t : ℕ) (y z : Bool) → fits ((if y then new_job q p k else (if z then new_job q p d else w.job t)).at) ((if y then new_job q p k else (if z then new_job q p d else w.job t)).runs)
     fit_by t true z = refl
     fit_by t false true = refl
     fit_by t false false = (ok.fit) t
 
-    known_by : Known w → (t : ℕ) → t + 1 ≤ w.jobs + 2 → (y z : Bool) → (t == (w.jobs + 1)) ≡ y → (t == w.jobs) ≡ z → is_known ((if y then new_job q p k else (if z then new_job q p Direct else w.job t)).at) ≡ true
+    known_by : Known w → (t : ℕ) → t + 1 ≤ w.jobs + 2 → (y z : Bool) → (t == (w.jobs + 1)) ≡ y → (t == w.jobs) ≡ z → is_known ((if y then new_job q p k else (if z then new_job q p d else w.job t)).at) ≡ true
     known_by f t b true z d e = refl
     known_by f t b false true d e = refl
     known_by f t b false false d e = f t (old_below w.jobs t e (old_below (w.jobs + 1) t d (let c : t + 1 ≤ (w.jobs + 1) + 1 = omega (arith, b) in c)))
 
-    fin_by : (t : ℕ) (y z : Bool) → (t == (w.jobs + 1)) ≡ y → (t == w.jobs) ≡ z → IsFinal ((w.job t).at) ((if y then new_job q p k else (if z then new_job q p Direct else w.job t)).at)
+    fin_by : (t : ℕ) (y z : Bool) → (t == (w.jobs + 1)) ≡ y → (t == w.jobs) ≡ z → IsFinal ((w.job t).at) ((if y then new_job q p k else (if z then new_job q p d else w.job t)).at)
     fin_by t true z d e = subst (λ v. IsFinal v (Made q)) (sym (un t (let f : t ≡ w.jobs + 1 = eqb-true t (w.jobs + 1) d in omega (arith, f)))) tt
     fin_by t false true d e = subst (λ v. IsFinal v (Made q)) (sym (un t (let f : t ≡ w.jobs = eqb-true t w.jobs e in omega (arith, f)))) tt
     fin_by t false false d e = final_same ((w.job t).at)
 
 join_kept : (w : World) (q : Party) → JobsOk w → Unmade w → IfSome (after_join w q (w.stack q)) (Advance w)
 join_kept w (Caller n) ok un = tt
-join_kept w (Worker p i) ok un = if_cond (Advance w) (is_free ((w.stack (Worker p i)).top)) _ (λ z. make_two w (Worker p i) p (Stored w.calls (Worker p i)) (put w.call w.calls (new_call (Some w.jobs) (w.jobs + 1))) (w.calls + 1) (record { number = w.calls; pool = p; job = w.jobs + 1 }) refl ok un)
+join_kept w (Worker p i) ok un = if_cond (Advance w) (is_free ((w.stack (Worker p i)).top)) _ (λ z. make_two w (Worker p i) (Fork (record { number = w.calls; pool = p; job = w.jobs + 1 }) w.jobs) p Direct (Stored w.calls (Worker p i)) (put w.call w.calls (new_call (Some w.jobs) (w.jobs + 1))) (w.calls + 1) (λ t. refl) ok un)
+
+fifo_kept : (w : World) (q : Party) (p : ℕ) → JobsOk w → Unmade w → IfSome (after_fifo w q p (w.stack q)) (Advance w)
+fifo_kept w q p ok un = fifo_cases (Advance w) w q p (spawn_kept w q p ok un) (λ i free. make_two w (Worker p i) (Feed (record { pool = p; job = w.jobs; token = w.jobs + 1 })) p (Detached p) (TokenOf i) w.call w.calls (λ t. refl) ok un)
+
+pub go_fed : (w : World) (q : Party) (r : Seen × Part) → FedLess w (result w q (w.stack q) r)
+go_fed w q r = fed_stacks w q (after_move (next_of (shape_at w q (w.stack q)) q ((w.stack q).top) (r.0)) ((w.stack q).below)) (λ t. fed_after (shape_at w q (w.stack q)) q t ((w.stack q).top) ((w.stack q).below) (r.0))
 
 -- each event keeps each job in its one place
-pub step_advance : (w : World) (e : Event) → JobsOk w → Unmade w → IfSome (step w e) (Advance w)
-step_advance w (Go q) ok un = acted_keeps w q (w.stack q) (target_pool q (act_of q ((w.stack q).top))) (target_worker q (act_of q ((w.stack q).top))) (target_call (act_of q ((w.stack q).top))) (job_at w q (act_of q ((w.stack q).top))) (outcome w q (w.stack q)) (Advance w)
-    (if_some_map (λ r. Kept w (result w q (w.stack q) r)) (λ r. Advance w (result w q (w.stack q) r)) (λ r k. kept_advance w (result w q (w.stack q) r) (omega arith) un k) (outcome w q (w.stack q)) (go_kept w q ok))
-step_advance w (From q v) ok un = from_kept w q ((w.stack q).top) ((w.stack q).below) v refl ok un
-step_advance w (Refuse q) ok un = refuse_kept w q ((w.stack q).top) ((w.stack q).below) refl ok un
-step_advance w (Miss q) ok un = miss_kept w q ((w.stack q).top) ((w.stack q).below) refl ok un
-step_advance w (End q d) ok un = end_kept w q d ((w.stack q).top) ((w.stack q).below) refl ok un
-step_advance w (Spawn q p) ok un = spawn_kept w q p ok un
-step_advance w (Install q p) ok un = install_kept w q p ok un
-step_advance w (Join q) ok un = join_kept w q ok un
-step_advance w (Yield q) ok un = yield_kept w q YieldPop (λ t. refl) (λ t. refl) ok un
-step_advance w (YieldLocal q) ok un = yield_kept w q LocalPop (λ t. refl) (λ t. refl) ok un
-step_advance w (EndPool q p) ok un = give_kept w q p ok un
+pub step_advance : (w : World) (e : Event) → Feeds w → JobsOk w → Unmade w → IfSome (step w e) (Advance w)
+step_advance w (Go q) fe ok un = acted_keeps w q (w.stack q) (target_pool q (act_of q ((w.stack q).top))) (target_worker q (act_of q ((w.stack q).top))) (target_call (act_of q ((w.stack q).top))) (job_at w q (act_of q ((w.stack q).top))) (outcome w q (w.stack q)) (Advance w)
+    (if_some_map (λ r. Kept w (result w q (w.stack q) r)) (λ r. Advance w (result w q (w.stack q) r)) (λ r k. kept_advance w (result w q (w.stack q) r) (omega arith) un (go_fed w q r) k) (outcome w q (w.stack q)) (go_kept w q fe ok))
+step_advance w (From q v) fe ok un = from_kept w q ((w.stack q).top) ((w.stack q).below) v refl ok un
+step_advance w (Refuse q) fe ok un = refuse_kept w q ((w.stack q).top) ((w.stack q).below) refl ok un
+step_advance w (Miss q) fe ok un = miss_kept w q ((w.stack q).top) ((w.stack q).below) refl ok un
+step_advance w (End q d) fe ok un = end_kept w q d ((w.stack q).top) ((w.stack q).below) refl ok un
+step_advance w (Spawn q p) fe ok un = spawn_kept w q p ok un
+step_advance w (Fifo q p) fe ok un = fifo_kept w q p ok un
+step_advance w (Install q p) fe ok un = install_kept w q p ok un
+step_advance w (Join q) fe ok un = join_kept w q ok un
+step_advance w (Yield q) fe ok un = yield_kept w q YieldPop (λ t. refl) (λ t. refl) (λ t. refl) ok un
+step_advance w (YieldLocal q) fe ok un = yield_kept w q LocalPop (λ t. refl) (λ t. refl) (λ t. refl) ok un
+step_advance w (EndPool q p) fe ok un = give_kept w q p ok un
 
 -- what holds of the jobs of every world
 pub record JobsHold (w : World) : Type 0 where
   pub ok : JobsOk w
   pub unmade : Unmade w
   pub known : Known w
+  pub feeds : Feeds w
 
 pub jobs_advance : (w u : World) → JobsHold w → Advance w u → JobsHold u
-jobs_advance w u h a = record { ok = record { placed = a.placed; fit = a.fit }; unmade = a.unmade; known = a.known (h.known) }
+jobs_advance w u h a = record { ok = record { placed = a.placed; fit = a.fit }; unmade = a.unmade; known = a.known (h.known); feeds = a.feeds (h.feeds) }
 
 pub step_jobs : (w : World) (e : Event) → JobsHold w → IfSome (step w e) JobsHold
-step_jobs w e h = if_some_map (Advance w) JobsHold (λ u a. jobs_advance w u h a) (step w e) (step_advance w e (h.ok) (h.unmade))
+step_jobs w e h = if_some_map (Advance w) JobsHold (λ u a. jobs_advance w u h a) (step w e) (step_advance w e (h.feeds) (h.ok) (h.unmade))
 
 first_hand : (h : Shape) (q : Party) (t : ℕ) → (hand t (first_place h q) ≡ 0) × (run_of t (first_place h q) ≡ 0)
 first_hand h (Caller n) t = at (nat_lt n h.callers)
@@ -243,9 +312,10 @@ first_placed h (Work q) t = let a : run_of t (first_place h q) ≡ 0 = (first_ha
 first_placed h (Deck p i) t = omega arith
 first_placed h (Cast p i) t = omega arith
 first_placed h (Inj p) t = omega arith
+first_placed h (Line p i) t = omega arith
 
 pub first_jobs : (h : Shape) → JobsHold (start h)
-first_jobs h = record { ok = record { placed = first_placed h; fit = λ t. refl }; unmade = λ t b. refl; known = λ t b. absurd (omega (arith, b)) }
+first_jobs h = record { ok = record { placed = first_placed h; fit = λ t. refl }; unmade = λ t b. refl; known = λ t b. absurd (omega (arith, b)); feeds = λ q t n. absurd (let a : all_fed t ((start h).stack q) ≤ held t ((start h).stack q) = fed_held t ((start h).stack q) in let b : hand t (first_place h q) ≡ 0 = (first_hand h q t).0 in omega (arith, a, b, n)) }
 
 -- from there to the law
 begun_once : (v : Whereabouts) (n : ℕ) → fits v n → n ≤ 1
@@ -254,7 +324,10 @@ begun_once (Running q) n f = f
 begun_once (Made q) n f = omega (arith, f)
 begun_once (InDeque p i) n f = omega (arith, f)
 begun_once (Injected p) n f = omega (arith, f)
+begun_once (InFifo p i) n f = omega (arith, f)
+begun_once (Retaken q) n f = omega (arith, f)
 begun_once HandedBack n f = omega (arith, f)
+begun_once Spent n f = omega (arith, f)
 begun_once Nowhere n f = omega (arith, f)
 
 not_begun : (v : Whereabouts) (n : ℕ) → may_begin v ≡ false → fits v n → n ≡ 0
@@ -263,7 +336,10 @@ not_begun (Running q) n z f = cc
 not_begun (Made q) n z f = f
 not_begun (InDeque p i) n z f = f
 not_begun (Injected p) n z f = f
+not_begun (InFifo p i) n z f = f
+not_begun (Retaken q) n z f = f
 not_begun HandedBack n z f = f
+not_begun Spent n z f = f
 not_begun Nowhere n z f = f
 
 -- a place that a record names while its job is not begun
@@ -296,21 +372,36 @@ deck_in : (p i : ℕ) (v : Whereabouts) (n : ℕ) → fits v n → is_loc (Deck 
 deck_in p i (InDeque r j) n f = loc_fits (Deck p i) (Deck r j) n f
 deck_in p i (Made q) n f = loc_none (Deck p i) (Hand q) n refl
 deck_in p i (Injected r) n f = loc_none (Deck p i) (Inj r) n refl
+deck_in p i (InFifo r j) n f = loc_none (Deck p i) (Line r j) n refl
+deck_in p i (Retaken q) n f = loc_none (Deck p i) (Hand q) n refl
 deck_in p i (Running q) n f = loc_run (Deck p i) (Hand q) (Work q) n
 deck_in p i _ n f = refl
 
 inj_in : (p : ℕ) (v : Whereabouts) (n : ℕ) → fits v n → is_loc (Inj p) (loc_of v n) ≡ one (in_injector p v)
 inj_in p (Injected r) n f = loc_fits (Inj p) (Inj r) n f
+inj_in p (InFifo r j) n f = loc_none (Inj p) (Line r j) n refl
+inj_in p (Retaken q) n f = loc_none (Inj p) (Hand q) n refl
 inj_in p (Made q) n f = loc_none (Inj p) (Hand q) n refl
 inj_in p (InDeque r j) n f = loc_none (Inj p) (Deck r j) n refl
 inj_in p (Running q) n f = loc_run (Inj p) (Hand q) (Work q) n
 inj_in p _ n f = refl
+
+line_in : (p i : ℕ) (v : Whereabouts) (n : ℕ) → fits v n → is_loc (Line p i) (loc_of v n) ≡ one (in_fifo p i v)
+line_in p i (InFifo r j) n f = loc_fits (Line p i) (Line r j) n f
+line_in p i (InDeque r j) n f = loc_none (Line p i) (Deck r j) n refl
+line_in p i (Made q) n f = loc_none (Line p i) (Hand q) n refl
+line_in p i (Retaken q) n f = loc_none (Line p i) (Hand q) n refl
+line_in p i (Injected r) n f = loc_none (Line p i) (Inj r) n refl
+line_in p i (Running q) n f = loc_run (Line p i) (Hand q) (Work q) n
+line_in p i _ n f = refl
 
 hand_in : (q : Party) (v : Whereabouts) (n : ℕ) → is_loc (Hand q) (loc_of v n) ≡ one (is_with q v && (n == 0))
 hand_in q (Made r) n = loc_if (Hand q) (Hand r) n
 hand_in q (Running r) n = let a : is_loc (Hand q) (loc_of (Running r) n) ≡ (one (same_party q r && (n == 0)) + one (false && (n == 1))) = loc_run (Hand q) (Hand r) (Work r) n in omega (arith, a)
 hand_in q (InDeque r j) n = loc_none (Hand q) (Deck r j) n refl
 hand_in q (Injected r) n = loc_none (Hand q) (Inj r) n refl
+hand_in q (InFifo r j) n = loc_none (Hand q) (Line r j) n refl
+hand_in q (Retaken r) n = loc_if (Hand q) (Hand r) n
 hand_in q _ n = refl
 
 work_in : (q : Party) (v : Whereabouts) (n : ℕ) → is_loc (Work q) (loc_of v n) ≡ one (runs_with q v && (n == 1))
@@ -318,6 +409,8 @@ work_in q (Running r) n = let a : is_loc (Work q) (loc_of (Running r) n) ≡ (on
 work_in q (Made r) n = loc_none (Work q) (Hand r) n refl
 work_in q (InDeque r j) n = loc_none (Work q) (Deck r j) n refl
 work_in q (Injected r) n = loc_none (Work q) (Inj r) n refl
+work_in q (InFifo r j) n = loc_none (Work q) (Line r j) n refl
+work_in q (Retaken r) n = loc_none (Work q) (Hand r) n refl
 work_in q _ n = refl
 
 pub once : (w : World) → JobsHold w → IsOnce w
@@ -329,6 +422,7 @@ once w h = record {
   unbegun = λ t z. not_begun ((w.job t).at) ((w.job t).runs) z (((h.ok).fit) t);
   deque = λ p i t. ((h.ok).placed) (Deck p i) t ∙ deck_in p i ((w.job t).at) ((w.job t).runs) (((h.ok).fit) t);
   injector = λ p t. ((h.ok).placed) (Inj p) t ∙ inj_in p ((w.job t).at) ((w.job t).runs) (((h.ok).fit) t);
+  fifo = λ p i t. ((h.ok).placed) (Line p i) t ∙ line_in p i ((w.job t).at) ((w.job t).runs) (((h.ok).fit) t);
   cast = λ p i t. ((h.ok).placed) (Cast p i) t ∙ no_cast p i ((w.job t).at) ((w.job t).runs);
   hand = λ q t. ((h.ok).placed) (Hand q) t ∙ hand_in q ((w.job t).at) ((w.job t).runs);
   running = λ q t. ((h.ok).placed) (Work q) t ∙ work_in q ((w.job t).at) ((w.job t).runs);

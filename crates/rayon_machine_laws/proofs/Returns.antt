@@ -7,34 +7,34 @@ use Rattle.rayon_machine_places.specs.declared.place.Party.{Party}
 use Rattle.rayon_machine_places.specs.declared.place.Party.TheVariants.{Worker, Caller}
 use Rattle.rayon_machine_places.specs.declared.place.Ending.{Ending}
 use Rattle.rayon_machine_places.specs.declared.place.JobKind.{JobKind}
-use Rattle.rayon_machine_places.specs.declared.place.JobKind.TheVariants.{Detached, Stored, Direct}
+use Rattle.rayon_machine_places.specs.declared.place.JobKind.TheVariants.{Detached, Stored, Direct, TokenOf}
 use Rattle.rayon_machine_places.specs.declared.place.Latch.{Latch}
 use Rattle.rayon_machine_places.specs.declared.place.Latch.TheVariants.{Terminate, OfCall}
 use Rattle.rayon_machine_places.specs.declared.place.Plan.{Plan}
-use Rattle.rayon_machine_places.specs.declared.place.Plan.TheVariants.{Detach, Here, Send, Fork}
+use Rattle.rayon_machine_places.specs.declared.place.Plan.TheVariants.{Detach, Here, Send, Fork, Feed}
 use Rattle.rayon_machine_places.specs.declared.place.Share.TheVariants.{PoolValue, OfJob}
 use Rattle.rayon_machine_places.specs.declared.place.Then.{Then}
 use Rattle.rayon_machine_places.specs.declared.place.Then.TheVariants.{Resume, GiveBack}
 use Rattle.rayon_machine_places.specs.declared.place.Place.{Place}
-use Rattle.rayon_machine_places.specs.declared.place.Place.TheVariants.{ProbeWorking, PickVictim, StealFrom, GetSleepy, FallAsleep, WakeUp, YieldPop, YieldPick, YieldSteal, LocalPop, Run, RaiseCount, GrowCall, PushJob, LowerCount, SetLatch, LockToSettle, WakeSettled, UnlockSettled}
+use Rattle.rayon_machine_places.specs.declared.place.Place.TheVariants.{ProbeWorking, PickVictim, StealFrom, GetSleepy, FallAsleep, WakeUp, YieldPop, YieldPick, YieldSteal, LocalPop, Run, RaiseCount, GrowCall, PushJob, LowerCount, SetLatch, LockToSettle, WakeSettled, UnlockSettled, AddToFifo, PushToken}
 use Rattle.rayon_machine_places.specs.declared.act.Seen.{Seen}
 use Rattle.rayon_machine_places.specs.declared.act.Seen.TheVariants.{Done, Refused, Yes, No, Missing, Start}
 use Rattle.rayon_machine_places.specs.declared.event.Event.{Event}
-use Rattle.rayon_machine_places.specs.declared.event.Event.TheVariants.{Go, From, Refuse, Miss, End, Spawn, Install, Join, Yield, YieldLocal, EndPool}
+use Rattle.rayon_machine_places.specs.declared.event.Event.TheVariants.{Go, From, Refuse, Miss, End, Spawn, Fifo, Install, Join, Yield, YieldLocal, EndPool}
 use Rattle.rayon_machine_places.specs.declared.state.Letter.{Letter}
 use Rattle.rayon_machine_places.specs.declared.state.Letter.TheVariants.{Set as IsSet}
 use Rattle.rayon_machine_places.specs.declared.state.Whereabouts.{Whereabouts}
-use Rattle.rayon_machine_places.specs.declared.state.Whereabouts.TheVariants.{Over, HandedBack}
+use Rattle.rayon_machine_places.specs.declared.state.Whereabouts.TheVariants.{Over, HandedBack, Spent}
 use Rattle.rayon_machine_places.specs.declared.state.Job.{Job}
 use Rattle.rayon_machine_places.specs.declared.state.Call.{Call}
 use Rattle.rayon_machine_places.specs.declared.shape.PoolShape.{PoolShape}
 use Rattle.rayon_machine_places.specs.Places.{same_party, own_pool, is_member, latch_of, plan_pool, plan_job, after_raise, act_of, next_of, is_free}
 use Rattle.rayon_machine_places.specs.World.{Shape, Stack, World, Counts, counts_at, Part, target_pool, target_worker, target_call, letter, with_letter, at_job, effect}
-use Rattle.rayon_machine_places.specs.Steps.{put, put_stack, after_move, jobs_after, after_choice, after_refusal, can_miss, after_miss, after_close, after_end, after_call, is_pool, new_job, new_call, after_spawn, after_send, after_install, after_join, after_yield, after_end_pool, step}
+use Rattle.rayon_machine_places.specs.Steps.{put, put_stack, after_move, jobs_after, after_choice, after_refusal, can_miss, after_miss, after_close, after_end, after_call, is_pool, new_job, new_call, after_spawn, after_send, after_install, after_join, after_yield, after_end_pool, step, after_feed}
 use Rattle.rayon_machine_places.specs.Runs.{start, IsRun}
 use Rattle.rayon_machine_laws.specs.Once.{one}
 use Rattle.rayon_machine_laws.specs.End.{AllJobs, after_settling, IsReturned}
-use Rattle.rayon_machine_laws.proofs.Frame.{either, same_party_true, if_some_and, if_some_map, if_cond, acted_keeps, put_same, put_new, put_old, stack_mine, stack_other, after_counted}
+use Rattle.rayon_machine_laws.proofs.Frame.{either, same_party_true, if_some_and, if_some_map, if_cond, acted_keeps, put_same, put_new, put_old, stack_mine, stack_other, after_counted, fifo_cases}
 use Rattle.rayon_machine_laws.proofs.Ties.{job_at, outcome}
 use Rattle.rayon_machine_laws.proofs.Events.{run_keeps}
 use Rattle.rayon_machine_laws.proofs.Hands.{hand_plan, held}
@@ -77,7 +77,7 @@ letter_unbacked : (l : Latch) (m : Part) (e : Seen) (y : Letter) → Unbacked m 
 letter_unbacked Terminate m e y = omega arith
 letter_unbacked (OfCall c) m e y = omega arith
 
-act_unbacked : (h : Shape) (q : Party) (c : Counts) (m : Part) (x : Place) → is_tally x ≡ false → IfSome (effect (act_of q x) h q c m) (Unbacked m)
+pub act_unbacked : (h : Shape) (q : Party) (c : Counts) (m : Part) (x : Place) → is_tally x ≡ false → IfSome (effect (act_of q x) h q c m) (Unbacked m)
 act_unbacked h (Worker a b) c m (ProbeWorking k) z = omega arith
 act_unbacked h (Worker a b) c m (GetSleepy k) z = sleepy_keeps (latch_of k.target) Unbacked (λ v e. omega arith) (λ v e y n. letter_unbacked (latch_of k.target) v e y) m (letter (latch_of k.target) m)
 act_unbacked h (Worker a b) c m (FallAsleep k) z = asleep_keeps (latch_of k.target) Unbacked (λ v e. omega arith) (λ v e y n. letter_unbacked (latch_of k.target) v e y) m (letter (latch_of k.target) m)
@@ -87,7 +87,7 @@ act_unbacked h (Worker a b) c m _ z = first_of (cc, search (rules, arith))
 act_unbacked h (Caller n) c m (SetLatch k) z = set_keeps k.latch Unbacked (λ v e. letter_unbacked k.latch v e IsSet) m (letter k.latch m)
 act_unbacked h (Caller n) c m _ z = first_of (cc, search (rules, arith))
 
-put_backs : (J : ℕ → Job) (n : ℕ) (j : Job) (t : ℕ) → backs j.at ≤ backs (J n).at → backs (put J n j t).at ≤ backs (J t).at
+pub put_backs : (J : ℕ → Job) (n : ℕ) (j : Job) (t : ℕ) → backs j.at ≤ backs (J n).at → backs (put J n j t).at ≤ backs (J t).at
 put_backs J n j t a = by (t == n) refl
   where
     by : (b : Bool) → (t == n) ≡ b → backs (if b then j else J t).at ≤ backs (J t).at
@@ -170,6 +170,7 @@ raise_returns w q n fs z h s = returns_by w v q k (λ i. refl) (λ t c. by t c (
 
     not_back : (x : Whereabouts) (m : ℕ) → loc_of x m ≡ Some (Hand q) → backs x ≤ 0
     not_back HandedBack m e = cc
+    not_back Spent m e = cc
     not_back _ m e = omega arith
 
     others : (r : Party) → same_party r q ≡ false → all_bare (plan_job n) (w.stack r) ≤ 0
@@ -248,6 +249,8 @@ from_returns w q _ fs v z h = tt
 
 refuse_returns : (w : World) (q : Party) (x : Place) (fs : List Place) → w.stack q ≡ record { top = x; below = fs } → ReturnsHold w → IfSome (after_refusal w q (record { top = x; below = fs })) (λ u. SharesHold u → ReturnsHold u)
 refuse_returns w q (GrowCall n) fs z h = λ a. seen_returns w q (w.shape.pool (own_pool q)) (GrowCall n) fs Refused z refl h a
+refuse_returns w q (AddToFifo f) fs z h = λ a. seen_returns w q (w.shape.pool (own_pool q)) (AddToFifo f) fs Refused z refl h a
+refuse_returns w q (PushToken f v) fs z h = λ a. seen_returns w q (w.shape.pool (own_pool q)) (PushToken f v) fs Refused z refl h a
 refuse_returns w q (PushJob n v) fs z h = λ a. seen_returns w q (w.shape.pool (own_pool q)) (PushJob n v) fs Refused z refl h a
 refuse_returns w q _ fs z h = tt
 
@@ -301,6 +304,21 @@ join_returns w (Worker p i) h = if_cond (λ u. SharesHold u → ReturnsHold u) (
     back : (t : ℕ) → backs (put J1 (w.jobs + 1) (new_job (Worker p i) p (Stored w.calls (Worker p i))) t).at ≤ backs (w.job t).at
     back t = let a : backs (put J1 (w.jobs + 1) (new_job (Worker p i) p (Stored w.calls (Worker p i))) t).at ≤ backs (J1 t).at = put_backs J1 (w.jobs + 1) (new_job (Worker p i) p (Stored w.calls (Worker p i))) t (omega arith) in let b : backs (J1 t).at ≤ backs (w.job t).at = put_backs w.job w.jobs (new_job (Worker p i) p Direct) t (omega arith) in omega (arith, a, b)
 
+feed_returns : (w : World) (p i : ℕ) → ReturnsHold w → SharesHold (after_feed w p i (w.stack (Worker p i))) → ReturnsHold (after_feed w p i (w.stack (Worker p i)))
+feed_returns w p i h s = made_returns w (Worker p i) (Feed (record { pool = p; job = w.jobs; token = w.jobs + 1 })) w.call (put J1 (w.jobs + 1) (new_job (Worker p i) p (TokenOf i))) w.calls (w.jobs + 2) new counted back h s
+  where
+    J1 : ℕ → Job
+    J1 = put w.job w.jobs (new_job (Worker p i) p (Detached p))
+
+    new : (t : ℕ) → t + 1 ≤ w.jobs → one (t == w.jobs) + one (t == (w.jobs + 1)) ≤ 0
+    new t b = let a : one (t == w.jobs) ≤ 0 = new_hand t w.jobs b in let d : one (t == (w.jobs + 1)) ≤ 0 = new_hand t (w.jobs + 1) (omega (arith, b)) in omega (arith, a, d)
+
+    counted : (t : ℕ) → (put J1 (w.jobs + 1) (new_job (Worker p i) p (TokenOf i)) t).counted ≡ (w.job t).counted
+    counted t = put_same (λ j. j.counted) J1 (w.jobs + 1) (new_job (Worker p i) p (TokenOf i)) t (sym (new_counted w (Worker p i) p (Detached p) h (w.jobs + 1) ∙ (h.shares).unmade (w.jobs + 1) (omega arith))) ∙ new_counted w (Worker p i) p (Detached p) h t
+
+    back : (t : ℕ) → backs (put J1 (w.jobs + 1) (new_job (Worker p i) p (TokenOf i)) t).at ≤ backs (w.job t).at
+    back t = let a : backs (put J1 (w.jobs + 1) (new_job (Worker p i) p (TokenOf i)) t).at ≤ backs (J1 t).at = put_backs J1 (w.jobs + 1) (new_job (Worker p i) p (TokenOf i)) t (omega arith) in let b : backs (J1 t).at ≤ backs (w.job t).at = put_backs w.job w.jobs (new_job (Worker p i) p (Detached p)) t (omega arith) in omega (arith, a, b)
+
 yield_returns : (w : World) (q : Party) (x : Place) → ((t : ℕ) → bare t x ≡ 0) → ReturnsHold w → IfSome (after_yield w q (w.stack q) x) (λ u. SharesHold u → ReturnsHold u)
 yield_returns w (Worker a b) x n h = if_cond (λ u. SharesHold u → ReturnsHold u) (is_free ((w.stack (Worker a b)).top)) _ (λ f s. moved_returns w (record w { stack = put_stack w.stack (Worker a b) (after_call (w.stack (Worker a b)) x) }) (Worker a b) (after_call (w.stack (Worker a b)) x) (λ r. refl) (λ t. refl) (λ t. (let c : bare t x ≡ 0 = n t in omega (arith, c))) h s)
 yield_returns w (Caller c) x n h = tt
@@ -318,6 +336,7 @@ each_returns w (Refuse q) h = refuse_returns w q ((w.stack q).top) ((w.stack q).
 each_returns w (Miss q) h = miss_returns w q ((w.stack q).top) ((w.stack q).below) refl h
 each_returns w (End q d) h = end_returns w q d ((w.stack q).top) ((w.stack q).below) refl h
 each_returns w (Spawn q p) h = spawn_returns w q p h
+each_returns w (Fifo q p) h = fifo_cases (λ u. SharesHold u → ReturnsHold u) w q p (spawn_returns w q p h) (λ i free s. feed_returns w p i h s)
 each_returns w (Install q p) h = install_returns w q p h
 each_returns w (Join q) h = join_returns w q h
 each_returns w (Yield q) h = yield_returns w q YieldPop (λ t. refl) h
@@ -358,6 +377,10 @@ going w h q n f = each n f
     each (Detach p t) f = job t (let a : one (t == t) ≤ all_bare t (w.stack q) = f t in let b : one (t == t) ≡ 1 = self_one t in omega (arith, a, b))
     each (Here p t) f = job t (let a : one (t == t) ≤ all_bare t (w.stack q) = f t in let b : one (t == t) ≡ 1 = self_one t in omega (arith, a, b))
     each (Send o) f = job (o.job) (let a : one (o.job == o.job) ≤ all_bare (o.job) (w.stack q) = f (o.job) in let b : one (o.job == o.job) ≡ 1 = self_one (o.job) in omega (arith, a, b))
+    each (Feed d) f = (
+      job (d.job) (let a : one (d.job == d.job) + one (d.job == d.token) ≤ all_bare (d.job) (w.stack q) = f (d.job) in let b : one (d.job == d.job) ≡ 1 = self_one (d.job) in omega (arith, a, b)),
+      job (d.token) (let a : one (d.token == d.job) + one (d.token == d.token) ≤ all_bare (d.token) (w.stack q) = f (d.token) in let b : one (d.token == d.token) ≡ 1 = self_one (d.token) in omega (arith, a, b)),
+    )
     each (Fork o s) f = (
       job s (let a : one (s == s) + one (s == o.job) ≤ all_bare s (w.stack q) = f s in let b : one (s == s) ≡ 1 = self_one s in omega (arith, a, b)),
       job (o.job) (let a : one (o.job == s) + one (o.job == o.job) ≤ all_bare (o.job) (w.stack q) = f (o.job) in let b : one (o.job == o.job) ≡ 1 = self_one (o.job) in omega (arith, a, b)),

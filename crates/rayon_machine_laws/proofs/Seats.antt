@@ -1,6 +1,6 @@
 -- each worker's seat fits the place where the worker stands
 use Rattle.std.proofs.Common.{rules, arith, refl, sym, subst}
-use Rattle.std.specs.Prelude.{ℕ, Bool, true, false, ◌&&◌, ◌||◌, ◌+◌, nat_lt, if◌then◌else◌, Some, ◌≡◌, IfSome}
+use Rattle.std.specs.Prelude.{ℕ, Bool, true, false, ◌&&◌, ◌||◌, ◌+◌, nat_lt, if◌then◌else◌, Some, ◌≡◌, IfSome, Option, None, List, [], ◌∷◌, ◌++◌}
 use Rattle.rayon_machine_places.specs.declared.place.Party.{Party}
 use Rattle.rayon_machine_places.specs.declared.place.Party.TheVariants.{Worker, Caller}
 use Rattle.rayon_machine_places.specs.declared.place.JobKind.TheVariants.{Direct}
@@ -9,21 +9,24 @@ use Rattle.rayon_machine_places.specs.declared.place.Latch.{Latch}
 use Rattle.rayon_machine_places.specs.declared.place.Latch.TheVariants.{Terminate, OfCall}
 use Rattle.rayon_machine_places.specs.declared.place.Then.{Then}
 use Rattle.rayon_machine_places.specs.declared.place.Then.TheVariants.{BeginFound, LeaveWait, Await}
+use Rattle.rayon_machine_places.specs.declared.place.Taken.{Taken}
+use Rattle.rayon_machine_places.specs.declared.place.Taken.TheVariants.{Plain, Token}
 use Rattle.rayon_machine_places.specs.declared.place.Place.{Place}
-use Rattle.rayon_machine_places.specs.declared.place.Place.TheVariants.{ProbeWorking, PopWorking, TakeCastWorking, BecomeInactive, ProbeIdle, PopIdle, TakeCastIdle, PickVictim, StealFrom, PopInjected, AnnounceSelf, GetSleepy, LockOwn, FallAsleep, LoadCounters, AddSleeping, LookAtCast, LookAtInjector, BlockSelf, RelockOwn, UndoSleeping, WakeUp, UnlockOwn, LeaveSearch, JoinProbe, Run, LockToWake, WakeWorker, UnlockWoken, SetLatch, LockToSettle, WakeSettled, UnlockSettled, FirstSide, SecondSide, AtOnce, Free, Stopped}
+use Rattle.rayon_machine_places.specs.declared.place.Place.TheVariants.{ProbeWorking, PopWorking, TakeCastWorking, BecomeInactive, ProbeIdle, PopIdle, TakeCastIdle, PickVictim, StealFrom, PopInjected, AnnounceSelf, GetSleepy, LockOwn, FallAsleep, LoadCounters, AddSleeping, LookAtCast, LookAtInjector, BlockSelf, RelockOwn, UndoSleeping, WakeUp, UnlockOwn, LeaveSearch, JoinProbe, Run, LockToWake, WakeWorker, UnlockWoken, SetLatch, LockToSettle, WakeSettled, UnlockSettled, FirstSide, SecondSide, AtOnce, Free, Stopped, BeginTask, AddToFifo, TakeFromFifo}
 use Rattle.rayon_machine_places.specs.declared.place.Move.{Move}
-use Rattle.rayon_machine_places.specs.declared.place.Move.TheVariants.{Stay, Enter, StartRun, Back, HandBack}
+use Rattle.rayon_machine_places.specs.declared.place.Move.TheVariants.{Stay, Enter, StartRun, Back, HandBack, Discard, HandIn}
 use Rattle.rayon_machine_places.specs.declared.act.Act.{Act}
-use Rattle.rayon_machine_places.specs.declared.act.Act.TheVariants.{Lock, Unlock, Wake, Set}
+use Rattle.rayon_machine_places.specs.declared.act.Act.TheVariants.{Lock, Unlock, Wake, Set, FifoIn, FifoUndo}
 use Rattle.rayon_machine_places.specs.declared.act.Seen.{Seen}
 use Rattle.rayon_machine_places.specs.declared.act.Seen.TheVariants.{Yes}
 use Rattle.rayon_machine_places.specs.declared.shape.PoolShape.{PoolShape}
 use Rattle.rayon_machine_places.specs.declared.place.Settling.{Settling}
-use Rattle.rayon_machine_laws.proofs.Frame.{if_some_map}
-use Rattle.rayon_machine_places.specs.Places.{act_of, finish, next_of, same_party, settle, after_set, walk}
-use Rattle.rayon_machine_places.specs.World.{Counts, Part, Seat, Shape, effect}
+use Rattle.rayon_machine_laws.proofs.Frame.{if_some_map, if_cond, out_sees, undo_sees}
+use Rattle.rayon_machine_places.specs.Places.{act_of, finish, next_of, same_party, settle, after_set, walk, begin_act}
+use Rattle.rayon_machine_places.specs.World.{Counts, Part, Seat, Shape, effect, is_open, but_last}
 
--- what a place says of its party's seat: nothing; inactive; holding its own lock too; asleep too; inactive and perhaps blocked
+-- what a place says of its party's seat: nothing; inactive; holding its own lock too; asleep too; inactive and perhaps
+-- blocked
 pub data Mode : Type 0 where
   Out : Mode
   Seeks : Mode
@@ -100,10 +103,12 @@ frame_out _ e = cc
 -- what a relation on places says of a move: what is left below is a frame, and any frame will do to go back to
 abbrev pub Goes : (Place → Type 0) → Move → Type 0
 Goes R (Stay y) = R y
+Goes R (HandIn y token) = R y
 Goes R (Enter f y) = (is_frame f ≡ true) × R y
 Goes R (StartRun f t) = (is_frame f ≡ true) × R (Run t Direct)
 Goes R Back = (f : Place) → is_frame f ≡ true → mode f ≡ Out → R f
 Goes R (HandBack n) = (f : Place) → is_frame f ≡ true → mode f ≡ Out → R f
+Goes R (Discard n) = (f : Place) → is_frame f ≡ true → mode f ≡ Out → R f
 
 -- the places of a worker's wait, whose acts touch its own seat
 abbrev pub at_home : Place → Bool
@@ -155,10 +160,12 @@ wake_keeps r j h q c m p i _ ok = search (rules, arith)
 
 pub out_goes : (p i : ℕ) (s : Seat) (g : Move) → Goes (λ y. mode y ≡ Out) g → SeatOk p i Out s → Goes (OkAt p i s) g
 out_goes p i s (Stay y) e ok = subst (λ x. SeatOk p i x s) (sym e) ok
+out_goes p i s (HandIn y token) e ok = subst (λ x. SeatOk p i x s) (sym e) ok
 out_goes p i s (Enter f y) e ok = (e.0, subst (λ x. SeatOk p i x s) (sym (e.1)) ok)
 out_goes p i s (StartRun f t) e ok = (e.0, ok)
 out_goes p i s Back e ok = λ f k o. subst (λ x. SeatOk p i x s) (sym o) ok
 out_goes p i s (HandBack n) e ok = λ f k o. subst (λ x. SeatOk p i x s) (sym o) ok
+out_goes p i s (Discard n) e ok = λ f k o. subst (λ x. SeatOk p i x s) (sym o) ok
 
 -- what follows a walk or the setting of a latch is outside of any search
 pub finish_out : (q : Party) (t : Then) → Goes (λ y. mode y ≡ Out) (finish q t)
@@ -198,6 +205,20 @@ own_keeps h g p i c m (SetLatch s) ok = if_some_map (λ r. SeatOk p i Out (r.1.s
 own_keeps h g p i c m (UnlockSettled s) ok = if_some_map (λ r. SeatOk p i Out (r.1.seat)) (λ r. Goes (OkAt p i (r.1.seat)) (next_of g (Worker p i) (UnlockSettled s) (r.0))) (λ r k. out_goes p i (r.1.seat) (after_set g (Worker p i) s s.latch) (settled_out g (Worker p i) s s.latch) k) (effect (act_of (Worker p i) (UnlockSettled s)) h (Worker p i) c m) (rest_unlocks s.pool s.worker h (Worker p i) c m p i ok)
 own_keeps h g p i c m _ ok = search (rules, arith)
 
+-- a seat with another FIFO list fits as before
+fed_keeps : (p i : ℕ) (x : Mode) (s : Seat) (l : List ℕ) (o : Option Party) → SeatOk p i x s → SeatOk p i x (record s { fifo = l; feeder = o })
+fed_keeps p i x s l o ok = record { inactive = ok.inactive; asleep = ok.asleep; blocked = ok.blocked; lock = ok.lock }
+
+begin_keeps : (h : Shape) (q : Party) (c : Counts) (m : Part) (x : Taken) (p i : ℕ) (y : Mode) → SeatOk p i y m.seat → IfSome (effect (begin_act x) h q c m) (λ r. SeatOk p i y (r.1.seat))
+begin_keeps h q c m (Plain t) p i y ok = ok
+begin_keeps h q c m (Token k j) p i y ok = out_sees (λ r. SeatOk p i y (r.1.seat)) q m ok (λ u us e. fed_keeps p i y m.seat us m.seat.feeder ok)
+
+feed_keeps : (h : Shape) (q : Party) (c : Counts) (m : Part) (t p i : ℕ) (y : Mode) → SeatOk p i y m.seat → IfSome (effect (FifoIn t) h q c m) (λ r. SeatOk p i y (r.1.seat))
+feed_keeps h q c m t p i y ok = if_cond (λ r. SeatOk p i y (r.1.seat)) (is_open q m.seat.feeder) _ (λ z. fed_keeps p i y m.seat (m.seat.fifo ++ t ∷ []) (Some q) ok)
+
+back_keeps : (h : Shape) (q : Party) (c : Counts) (m : Part) (p i : ℕ) (y : Mode) → SeatOk p i y m.seat → IfSome (effect FifoUndo h q c m) (λ r. SeatOk p i y (r.1.seat))
+back_keeps h q c m p i y ok = undo_sees (λ r. SeatOk p i y (r.1.seat)) q m ok (λ u e. fed_keeps p i y m.seat (but_last m.seat.fifo) None ok)
+
 -- another party's act leaves a worker's seat fitting the worker's place
 pub other_keeps : (h : Shape) (q : Party) (c : Counts) (m : Part) (x : Place) (p i : ℕ) (y : Place) → at_home x ≡ false → same_party q (Worker p i) ≡ false → SeatOk p i (mode y) m.seat → IfSome (effect (act_of q x) h q c m) (λ r. SeatOk p i (mode y) (r.1.seat))
 other_keeps h (Worker a b) c m (StealFrom k n) p i y away d ok = search (rules, arith)
@@ -208,6 +229,9 @@ other_keeps h (Worker a b) c m (UnlockWoken k) p i y away d ok = unlock_keeps k.
 other_keeps h (Worker a b) c m (UnlockSettled s) p i y away d ok = unlock_keeps s.pool s.worker h (Worker a b) c m p i (mode y) d ok
 other_keeps h (Worker a b) c m (WakeWorker k) p i y away d ok = wake_keeps k.pool k.worker h (Worker a b) c m p i (mode y) ok
 other_keeps h (Worker a b) c m (WakeSettled s) p i y away d ok = wake_keeps s.pool s.worker h (Worker a b) c m p i (mode y) ok
+other_keeps h (Worker a b) c m (BeginTask x) p i y away d ok = begin_keeps h (Worker a b) c m x p i (mode y) ok
+other_keeps h (Worker a b) c m (AddToFifo f) p i y away d ok = feed_keeps h (Worker a b) c m f.job p i (mode y) ok
+other_keeps h (Worker a b) c m (TakeFromFifo f) p i y away d ok = back_keeps h (Worker a b) c m p i (mode y) ok
 other_keeps h (Worker a b) c m _ p i y away d ok = first_of (cc, search (rules, arith))
 other_keeps h (Caller n) c m (StealFrom k l) p i y away d ok = search (rules, arith)
 other_keeps h (Caller n) c m (SetLatch s) p i y away d ok = set_keeps s.latch s.pool s.worker h (Caller n) c m p i (mode y) ok
@@ -217,4 +241,5 @@ other_keeps h (Caller n) c m (UnlockWoken k) p i y away d ok = unlock_keeps k.po
 other_keeps h (Caller n) c m (UnlockSettled s) p i y away d ok = unlock_keeps s.pool s.worker h (Caller n) c m p i (mode y) d ok
 other_keeps h (Caller n) c m (WakeWorker k) p i y away d ok = wake_keeps k.pool k.worker h (Caller n) c m p i (mode y) ok
 other_keeps h (Caller n) c m (WakeSettled s) p i y away d ok = wake_keeps s.pool s.worker h (Caller n) c m p i (mode y) ok
+other_keeps h (Caller n) c m (BeginTask x) p i y away d ok = begin_keeps h (Caller n) c m x p i (mode y) ok
 other_keeps h (Caller n) c m _ p i y away d ok = first_of (cc, search (rules, arith))

@@ -1,6 +1,6 @@
 -- each act keeps the shares and their sum
 use Rattle.std.proofs.Common.{rules, arith, refl, sym, ◌∙◌, ap, subst}
-use Rattle.std.specs.Prelude.{ℕ, Bool, true, false, ◌+◌, ◌==◌, ◌≤◌, if◌then◌else◌, Option, Some, None, List, [], ◌∷◌, ◌++◌, ◌≡◌, IfSome}
+use Rattle.std.specs.Prelude.{ℕ, Bool, true, false, ◌+◌, ◌==◌, ◌≤◌, if◌then◌else◌, Option, Some, None, List, [], ◌∷◌, ◌++◌, ◌≡◌, IfSome, ◌&&◌, ⊤}
 use Rattle.std.proofs.lemmas.Bool.{eq-eqb}
 use Rattle.rayon_machine_places.specs.declared.shape.Order.{Order}
 use Rattle.rayon_machine_places.specs.declared.place.Party.{Party}
@@ -8,26 +8,27 @@ use Rattle.rayon_machine_places.specs.declared.place.Party.TheVariants.{Worker, 
 use Rattle.rayon_machine_places.specs.declared.place.Latch.{Latch}
 use Rattle.rayon_machine_places.specs.declared.place.Latch.TheVariants.{Terminate, OfCall}
 use Rattle.rayon_machine_places.specs.declared.place.Plan.{Plan}
-use Rattle.rayon_machine_places.specs.declared.place.Plan.TheVariants.{Detach, Here, Send, Fork}
+use Rattle.rayon_machine_places.specs.declared.place.Plan.TheVariants.{Detach, Here, Send, Fork, Feed}
+use Rattle.rayon_machine_places.specs.declared.place.Taken.TheVariants.{Plain, Token}
 use Rattle.rayon_machine_places.specs.declared.place.Place.{Place}
-use Rattle.rayon_machine_places.specs.declared.place.Place.TheVariants.{ProbeWorking, PopWorking, TakeCastWorking, PopIdle, TakeCastIdle, StealFrom, PopInjected, GetSleepy, FallAsleep, WakeUp, JoinPop, JoinTakeCast, YieldPop, YieldTakeCast, YieldSteal, YieldPopInjected, LocalPop, LocalTakeCast, BeginTask, BeginHere, RaiseCount, PushJob, LowerCount, SetLatch}
-use Rattle.rayon_machine_places.specs.declared.act.Act.TheVariants.{PushInj, PushOwn}
+use Rattle.rayon_machine_places.specs.declared.place.Place.TheVariants.{ProbeWorking, PopWorking, TakeCastWorking, PopIdle, TakeCastIdle, StealFrom, PopInjected, GetSleepy, FallAsleep, WakeUp, JoinPop, JoinTakeCast, YieldPop, YieldTakeCast, YieldSteal, YieldPopInjected, LocalPop, LocalTakeCast, BeginTask, BeginHere, RaiseCount, PushJob, LowerCount, SetLatch, PushToken, AddToFifo, TakeFromFifo}
+use Rattle.rayon_machine_places.specs.declared.act.Act.TheVariants.{PushInj, PushOwn, FifoOut, FifoUndo}
 use Rattle.rayon_machine_places.specs.declared.act.Seen.{Seen}
-use Rattle.rayon_machine_places.specs.declared.act.Seen.TheVariants.{Done, Missing}
+use Rattle.rayon_machine_places.specs.declared.act.Seen.TheVariants.{Done, Missing, Task}
 use Rattle.rayon_machine_places.specs.declared.state.Letter.{Letter}
 use Rattle.rayon_machine_places.specs.declared.state.Letter.TheVariants.{Set as IsSet}
 use Rattle.rayon_machine_places.specs.declared.state.Whereabouts.{Whereabouts}
-use Rattle.rayon_machine_places.specs.declared.state.Whereabouts.TheVariants.{Nowhere, Made, InDeque, Injected}
+use Rattle.rayon_machine_places.specs.declared.state.Whereabouts.TheVariants.{Nowhere, Made, InDeque, Injected, InFifo, Retaken}
 use Rattle.rayon_machine_places.specs.declared.state.Job.{Job}
-use Rattle.rayon_machine_places.specs.Places.{own_pool, own_index, is_member, latch_of, plan_pool, plan_job, act_of}
-use Rattle.rayon_machine_places.specs.World.{Shape, World, Counts, counts_at, Part, target_pool, target_worker, target_call, head_of, but_first, own_of, own_left, or_none, letter, with_letter, at_job, popped, take_cast, pop_injector, effect}
+use Rattle.rayon_machine_places.specs.Places.{own_pool, own_index, is_member, latch_of, plan_pool, plan_job, act_of, taken_number}
+use Rattle.rayon_machine_places.specs.World.{Shape, World, Counts, counts_at, Part, target_pool, target_worker, target_call, head_of, but_first, own_of, own_left, or_none, but_last, letter, with_letter, at_job, popped, take_cast, pop_injector, effect, is_open}
 use Rattle.rayon_machine_places.specs.Steps.{part_of}
-use Rattle.rayon_machine_laws.specs.Once.{one, times, in_deque, in_injector, IsOnce}
+use Rattle.rayon_machine_laws.specs.Once.{one, times, in_deque, in_injector, IsOnce, in_fifo}
 use Rattle.rayon_machine_laws.specs.Counted.{keeps_own, has_share}
 use Rattle.rayon_machine_laws.specs.Shares.{shares, is_busy}
-use Rattle.rayon_machine_laws.proofs.Frame.{if_some_map}
+use Rattle.rayon_machine_laws.proofs.Frame.{if_some_all, if_some_map, out_sees, undo_sees, if_cond}
 use Rattle.rayon_machine_laws.proofs.Ties.{job_at}
-use Rattle.rayon_machine_laws.proofs.Lists.{moves_no_job, SameJobs, quiet_same, times_first, times_own}
+use Rattle.rayon_machine_laws.proofs.Lists.{moves_no_job, SameJobs, quiet_same, times_first, times_own, times_drop}
 use Rattle.rayon_machine_laws.proofs.Located.{is_left}
 use Rattle.rayon_machine_laws.proofs.Placed.{outcome_of}
 use Rattle.rayon_machine_laws.proofs.Claims.{is_detached, SaysPlan, queue_plan, Says}
@@ -99,6 +100,8 @@ take_left w h p i t n e = by ((w.job t).at) (let a : times t (w.seat p i).own �
   where
     by : (v : Whereabouts) → 1 ≤ one (in_deque p i v) → is_left v ≡ true
     by (InDeque r j) z = refl
+    by (InFifo r j) z = absurd (omega (arith, z))
+    by (Retaken q) z = absurd (omega (arith, z))
     by (Made q) z = absurd (omega (arith, z))
     by Nowhere z = absurd (omega (arith, z))
     by _ z = refl
@@ -108,6 +111,8 @@ inject_left w h p t n e = by ((w.job t).at) (let a : times t (w.pool p).injector
   where
     by : (v : Whereabouts) → 1 ≤ one (in_injector p v) → is_left v ≡ true
     by (Injected r) z = refl
+    by (InFifo r j) z = absurd (omega (arith, z))
+    by (Retaken q) z = absurd (omega (arith, z))
     by (Made q) z = absurd (omega (arith, z))
     by Nowhere z = absurd (omega (arith, z))
     by _ z = refl
@@ -140,11 +145,19 @@ head_taken w h p i t e = subst (λ o. is_left (w.job (or_none o)).at ≡ true) (
 inj_taken : (w : World) → IsOnce w → (p t : ℕ) → head_of (w.pool p).injector ≡ Some t → is_left (w.job (or_none (head_of (w.pool p).injector))).at ≡ true
 inj_taken w h p t e = subst (λ o. is_left (w.job (or_none o)).at ≡ true) (sym e) (inject_left w h p t (times t (but_first (w.pool p).injector)) (times_first ((w.pool p).injector) t t e))
 
+line_busy : (w : World) → IsOnce w → (p i t : ℕ) → head_of (w.seat p i).fifo ≡ Some t → is_busy (w.job (or_none (head_of (w.seat p i).fifo))).at ≡ true
+line_busy w h p i t e = subst (λ o. is_busy (w.job (or_none o)).at ≡ true) (sym e) (by ((w.job t).at) (let a : times t (w.seat p i).fifo ≡ one (in_fifo p i (w.job t).at) = h.fifo p i t in let b : times t (w.seat p i).fifo ≡ (one (t == t) + times t (but_first (w.seat p i).fifo)) = times_first ((w.seat p i).fifo) t t e in let c : one (t == t) ≡ 1 = ap one (eq-eqb t t refl) in omega (arith, a, b, c)))
+  where
+    by : (v : Whereabouts) → 1 ≤ one (in_fifo p i v) → is_busy v ≡ true
+    by (InFifo r j) z = refl
+    by _ z = absurd (omega (arith, z))
+
 cast_taken : (w : World) → IsOnce w → (p i t : ℕ) → head_of ((w.pool p).casts i) ≡ Some t → is_left (w.job (or_none (head_of ((w.pool p).casts i)))).at ≡ true
 cast_taken w h p i t e = absurd (let a : times t ((w.pool p).casts i) ≡ 0 = h.cast p i t in let b : times t ((w.pool p).casts i) ≡ (one (t == t) + times t (but_first ((w.pool p).casts i))) = times_first ((w.pool p).casts i) t t e in let c : one (t == t) ≡ 1 = ap one (eq-eqb t t refl) in omega (arith, a, b, c))
 
 push_stays : (w : World) (q : Party) (n : Plan) (v : Bool) (m m' : Part) → SaysPlan w q n → m.job ≡ w.job (plan_job n) → Stays m (PushJob n v) (plan_job n) (Done, m')
 push_stays w q (Detach p t) v m m' s e y z = let a : one (t == t) ≡ 1 = ap one (eq-eqb t t refl) in let b : one (is_busy m'.job.at) ≤ 1 = one_most (is_busy m'.job.at) in omega (arith, a, b)
+push_stays w q (Feed f) v m m' s e y z = let a : one (f.job == f.job) ≡ 1 = ap one (eq-eqb f.job f.job refl) in let b : one (is_busy m'.job.at) ≤ 1 = one_most (is_busy m'.job.at) in omega (arith, a, b)
 push_stays w q (Here p t) v m m' s e y z = absurd (let a : is_detached m.job.kind ≡ false = ap (λ j. is_detached (j.kind)) e ∙ ap is_detached (s.kind) in cc)
 push_stays w q (Send o) v m m' s e y z = absurd (let a : is_detached m.job.kind ≡ false = ap (λ j. is_detached (j.kind)) e ∙ ap is_detached ((s.0).kind) in cc)
 push_stays w q (Fork o f) v m m' s e y z = absurd (let a : is_detached m.job.kind ≡ false = ap (λ j. is_detached (j.kind)) e ∙ ap is_detached ((s.0).kind) in cc)
@@ -185,7 +198,32 @@ act_stays w (Worker a b) YieldTakeCast h s = cast_stays (Worker a b) (place_part
 act_stays w (Caller c) YieldTakeCast h s = tt
 act_stays w (Worker a b) LocalTakeCast h s = cast_stays (Worker a b) (place_part w (Worker a b) LocalTakeCast) LocalTakeCast (job_at w (Worker a b) (act_of (Worker a b) LocalTakeCast)) _ (λ t e. cast_taken w h a b t e)
 act_stays w (Caller c) LocalTakeCast h s = tt
-act_stays w q (BeginTask t) h s = λ y z. absurd (let a : is_left (w.job t).at ≡ true = s in cc)
+act_stays w q (BeginTask (Plain t)) h s = λ y z. absurd (let a : is_left (w.job t).at ≡ true = s in cc)
+act_stays w (Worker a b) (BeginTask (Token k i)) h s = out_sees (Stays (place_part w (Worker a b) (BeginTask (Token k i))) (BeginTask (Token k i)) (job_at w (Worker a b) (FifoOut k i))) (Worker a b) (place_part w (Worker a b) (BeginTask (Token k i))) (same_stays (place_part w (Worker a b) (BeginTask (Token k i))) (BeginTask (Token k i)) (job_at w (Worker a b) (FifoOut k i)) (Missing, place_part w (Worker a b) (BeginTask (Token k i))) refl) (λ u us e y z. (let o : one (is_busy (w.job (or_none (head_of ((w.seat a i).fifo)))).at) ≡ 1 = ap one (line_busy w h a i u (ap head_of e)) in omega (arith, o)))
+act_stays w (Caller c) (BeginTask (Token k i)) h s = out_sees (Stays (place_part w (Caller c) (BeginTask (Token k i))) (BeginTask (Token k i)) (job_at w (Caller c) (FifoOut k i))) (Caller c) (place_part w (Caller c) (BeginTask (Token k i))) (same_stays (place_part w (Caller c) (BeginTask (Token k i))) (BeginTask (Token k i)) (job_at w (Caller c) (FifoOut k i)) (Missing, place_part w (Caller c) (BeginTask (Token k i))) refl) (λ u us e y z. (let o : one (is_busy (w.job (or_none (head_of ((w.seat 0 i).fifo)))).at) ≡ 1 = ap one (line_busy w h 0 i u (ap head_of e)) in omega (arith, o)))
+act_stays w (Worker a b) (PushToken f v) h s = λ y z. absurd (let k : is_detached (w.job f.token).kind ≡ false = ap is_detached ((s.1).kind) in cc)
+act_stays w (Caller c) (PushToken f v) h s = tt
+act_stays w (Worker a b) (AddToFifo f) h s = if_cond (Stays (place_part w (Worker a b) (AddToFifo f)) (AddToFifo f) f.job) (is_open (Worker a b) ((w.seat a b).feeder)) _ (λ t y z. (let o : one (f.job == f.job) ≡ 1 = ap one (eq-eqb f.job f.job refl) in omega (arith, o)))
+act_stays w (Caller c) (AddToFifo f) h s = tt
+act_stays w (Worker a b) (TakeFromFifo f) h s = undo_sees (Stays (place_part w (Worker a b) (TakeFromFifo f)) (TakeFromFifo f) (job_at w (Worker a b) FifoUndo)) (Worker a b) (place_part w (Worker a b) (TakeFromFifo f)) (same_stays (place_part w (Worker a b) (TakeFromFifo f)) (TakeFromFifo f) (job_at w (Worker a b) FifoUndo) (Missing, place_part w (Worker a b) (TakeFromFifo f)) refl) (λ u e y z. omega arith)
+act_stays w (Caller c) (TakeFromFifo f) h s = tt
 act_stays w q (BeginHere t) h s = λ y z. absurd (let a : is_detached (w.job t).kind ≡ false = s.kind in cc)
 act_stays w q (PushJob n v) h s = push_act_stays w q n v (is_member q (plan_pool n)) (queue_plan w q n s)
 act_stays w q x h s = quiet_stays w.shape q (counts_at w (target_pool q (act_of q x))) (place_part w q x) x (job_at w q (act_of q x)) refl
+
+-- the job that a call takes back out of its FIFO list had its share itself, and has it no longer
+abbrev pub Regains : World → Party → Place → Seen × Part → Type 0
+Regains w q (TakeFromFifo f) (Task y, m) = (job_at w q (act_of q (TakeFromFifo f)) ≡ taken_number y) × (with_job (w.job (taken_number y)) ≡ 1) × (is_busy m.job.at ≡ false)
+Regains w q _ _ = ⊤
+
+lined_share : (w : World) → CallsHold w → IsOnce w → (p i t : ℕ) → 1 ≤ times t (w.seat p i).fifo → with_job (w.job t) ≡ 1
+lined_share w h o p i t n = ap (λ k. one (is_detached k && is_busy (w.job t).at)) (h.lines p i t n).kind ∙ ap one (by ((w.job t).at) (let a : times t (w.seat p i).fifo ≡ one (in_fifo p i (w.job t).at) = o.fifo p i t in omega (arith, a, n)))
+  where
+    by : (v : Whereabouts) → 1 ≤ one (in_fifo p i v) → is_busy v ≡ true
+    by (InFifo r j) z = refl
+    by _ z = absurd (omega (arith, z))
+
+pub act_regains : (w : World) (q : Party) (x : Place) → CallsHold w → IsOnce w → IfSome (effect (act_of q x) w.shape q (counts_at w (target_pool q (act_of q x))) (place_part w q x)) (Regains w q x)
+act_regains w (Worker a b) (TakeFromFifo f) h o = undo_sees (Regains w (Worker a b) (TakeFromFifo f)) (Worker a b) (place_part w (Worker a b) (TakeFromFifo f)) tt (λ u e. (ap or_none e, lined_share w h o a b u (let d : times u (w.seat a b).fifo ≡ (one (u == u) + times u (but_last (w.seat a b).fifo)) = times_drop (w.seat a b).fifo u u e in let c : one (u == u) ≡ 1 = ap one (eq-eqb u u refl) in omega (arith, c, d)), refl))
+act_regains w (Caller c) (TakeFromFifo f) h o = tt
+act_regains w q x h o = if_some_all (Regains w q x) (λ r. tt) (effect (act_of q x) w.shape q (counts_at w (target_pool q (act_of q x))) (place_part w q x))

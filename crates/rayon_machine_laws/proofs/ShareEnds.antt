@@ -8,24 +8,24 @@ use Rattle.rayon_machine_places.specs.declared.place.Party.TheVariants.{Worker, 
 use Rattle.rayon_machine_places.specs.declared.place.Ending.{Ending}
 use Rattle.rayon_machine_places.specs.declared.place.Ending.TheVariants.{Fine, Fault}
 use Rattle.rayon_machine_places.specs.declared.place.JobKind.{JobKind}
-use Rattle.rayon_machine_places.specs.declared.place.JobKind.TheVariants.{Detached, Stored, Direct}
+use Rattle.rayon_machine_places.specs.declared.place.JobKind.TheVariants.{Detached, Stored, Direct, TokenOf}
 use Rattle.rayon_machine_places.specs.declared.place.Target.TheVariants.{Termination}
 use Rattle.rayon_machine_places.specs.declared.place.Plan.{Plan}
-use Rattle.rayon_machine_places.specs.declared.place.Plan.TheVariants.{Detach, Here, Send, Fork}
+use Rattle.rayon_machine_places.specs.declared.place.Plan.TheVariants.{Detach, Here, Send, Fork, Feed}
 use Rattle.rayon_machine_places.specs.declared.place.Place.{Place}
 use Rattle.rayon_machine_places.specs.declared.place.Place.TheVariants.{ProbeWorking, YieldPop, LocalPop, Run, RaiseCount, FirstSide, SecondSide, AtOnce, Free, Stopped}
 use Rattle.rayon_machine_places.specs.declared.event.Event.{Event}
-use Rattle.rayon_machine_places.specs.declared.event.Event.TheVariants.{Go, From, Refuse, Miss, End, Spawn, Install, Join, Yield, YieldLocal, EndPool}
+use Rattle.rayon_machine_places.specs.declared.event.Event.TheVariants.{Go, From, Refuse, Miss, End, Spawn, Fifo, Install, Join, Yield, YieldLocal, EndPool}
 use Rattle.rayon_machine_places.specs.declared.state.Whereabouts.TheVariants.{Nowhere, Running, Over}
 use Rattle.rayon_machine_places.specs.declared.state.Job.{Job}
 use Rattle.rayon_machine_places.specs.declared.state.Call.{Call}
 use Rattle.rayon_machine_places.specs.Places.{same_party, is_member, plan_job, fresh, act_of, goes_on, is_free}
 use Rattle.rayon_machine_places.specs.World.{Shape, World, target_pool, target_worker, target_call, at_job}
-use Rattle.rayon_machine_places.specs.Steps.{put, put_stack, after_close, after_end, after_call, is_pool, new_job, new_call, after_spawn, after_send, after_install, after_join, step}
+use Rattle.rayon_machine_places.specs.Steps.{put, put_stack, after_close, after_end, after_call, is_pool, new_job, new_call, after_spawn, after_fifo, after_send, after_install, after_join, step}
 use Rattle.rayon_machine_places.specs.Runs.{first_place, start, IsRun}
 use Rattle.rayon_machine_laws.specs.Once.{one, runs_in}
 use Rattle.rayon_machine_laws.specs.Shares.{share, shares_in, shares, is_busy, IsGone, NoEarlyEnd}
-use Rattle.rayon_machine_laws.proofs.Frame.{either, same_party_true, if_cond, acted_keeps, put_same, put_new, put_old, stack_mine}
+use Rattle.rayon_machine_laws.proofs.Frame.{either, fifo_cases, same_party_true, if_cond, acted_keeps, put_same, put_new, put_old, stack_mine}
 use Rattle.rayon_machine_laws.proofs.Ties.{job_at, outcome}
 use Rattle.rayon_machine_laws.proofs.Events.{run_keeps}
 use Rattle.rayon_machine_laws.proofs.Hands.{held, worked}
@@ -57,7 +57,9 @@ pub closed_shares : (s t : ℕ) (k : JobKind) (e : Ending) (fs : List Place) →
 closed_shares s t (Detached p) e fs = (omega arith, omega arith, omega arith)
 closed_shares s t (Stored c o) e fs = (omega arith, omega arith, omega arith)
 closed_shares s t Direct e [] = (omega arith, omega arith, omega arith)
+closed_shares s t (TokenOf i9) e [] = (omega arith, omega arith, omega arith)
 closed_shares s t Direct e (f ∷ fs) = ((let a : share s (goes_on f e) ≡ share s f = (goes_on_shares s f e).0 in omega (arith, a)), (let a : values s (goes_on f e) ≡ values s f = (goes_on_shares s f e).1 in omega (arith, a)), (let a : raises s (goes_on f e) ≡ raises s f = (goes_on_shares s f e).2 in omega (arith, a)))
+closed_shares s t (TokenOf i9) e (f ∷ fs) = ((let a : share s (goes_on f e) ≡ share s f = (goes_on_shares s f e).0 in omega (arith, a)), (let a : values s (goes_on f e) ≡ values s f = (goes_on_shares s f e).1 in omega (arith, a)), (let a : raises s (goes_on f e) ≡ raises s f = (goes_on_shares s f e).2 in omega (arith, a)))
 
 and_none : (b : Bool) → one (b && false) ≡ 0
 and_none true = refl
@@ -68,11 +70,13 @@ freed_had w q s t (Detached p) e r a = let i : s ≡ t = eqb-true s t e in let b
     let d : with_job (w.job t) ≡ 1 = ap (λ k. one (is_detached k && is_busy (w.job t).at)) (r.1) ∙ ap (λ v. one (is_busy v)) a in omega (arith, b, c, d)
 freed_had w q s t (Stored c o) e r a = omega arith
 freed_had w q s t Direct e r a = omega arith
+freed_had w q s t (TokenOf i9) e r a = omega arith
 
 pub freed_none : (s t : ℕ) (k : JobKind) → (s == t) ≡ false → freed s t k ≡ 0
 freed_none s t (Detached p) e = ap one e
 freed_none s t (Stored c o) e = refl
 freed_none s t Direct e = refl
+freed_none s t (TokenOf i9) e = refl
 
 end_shares : (w : World) (q : Party) (d : Ending) (x : Place) (fs : List Place) → w.stack q ≡ record { top = x; below = fs } → SharesHold w → IfSome (after_end w q d (record { top = x; below = fs }) x) (λ u. CallsHold u → SharesHold u)
 end_shares w q d (Run t k) fs z h = λ ch. still_hold w (ended_world w q d t k fs) q (after_close t k d fs) ch (λ s. refl) (omega arith) counted (λ p. refl)
@@ -143,37 +147,41 @@ sent_shares w q p false h ch = let m = one_made w q p (Stored w.calls q) h in ma
 install_shares : (w : World) (q : Party) (p : ℕ) → SharesHold w → IfSome (after_install w q p (w.stack q)) (λ u. CallsHold u → SharesHold u)
 install_shares w q p h = if_cond (λ u. CallsHold u → SharesHold u) (is_free ((w.stack q).top) && is_pool w.shape p) _ (λ f ch. sent_shares w q p (is_member q p) h ch)
 
-join_shares : (w : World) (q : Party) → SharesHold w → IfSome (after_join w q (w.stack q)) (λ u. CallsHold u → SharesHold u)
-join_shares w (Caller n) h = tt
-join_shares w (Worker p i) h = if_cond (λ u. CallsHold u → SharesHold u) (is_free ((w.stack (Worker p i)).top)) _ (λ f ch. made_shares w (Worker p i) (Fork (record { number = w.calls; pool = p; job = w.jobs + 1 }) w.jobs) (put w.call w.calls (new_call (Some w.jobs) (w.jobs + 1))) J2 (w.calls + 1) (w.jobs + 2) (omega arith) (omega arith) counted sums withs h ch)
+-- the shares where two jobs are new
+two_made : (w : World) (q : Party) (p : ℕ) (d k : JobKind) → SharesHold w → ((t : ℕ) → (put (put w.job w.jobs (new_job q p d)) (w.jobs + 1) (new_job q p k) t).counted ≡ (w.job t).counted) × ((t : ℕ) → with_job (put (put w.job w.jobs (new_job q p d)) (w.jobs + 1) (new_job q p k) t) ≤ with_job (w.job t)) × ((r : ℕ) → sum_below (w.jobs + 2) (λ t. tally r (put (put w.job w.jobs (new_job q p d)) (w.jobs + 1) (new_job q p k) t)) ≡ sum_below w.jobs (λ t. tally r (w.job t)))
+two_made w q p d k h = (counted, withs, sums)
   where
-    q : Party
-    q = Worker p i
-
     J1 : ℕ → Job
-    J1 = put w.job w.jobs (new_job (Worker p i) p Direct)
+    J1 = put w.job w.jobs (new_job q p d)
 
     J2 : ℕ → Job
-    J2 = put (put w.job w.jobs (new_job (Worker p i) p Direct)) (w.jobs + 1) (new_job (Worker p i) p (Stored w.calls (Worker p i)))
+    J2 = put (put w.job w.jobs (new_job q p d)) (w.jobs + 1) (new_job q p k)
 
     m : ((t : ℕ) → (J1 t).counted ≡ (w.job t).counted) × ((t : ℕ) → with_job (J1 t) ≤ with_job (w.job t)) × ((r : ℕ) → sum_below (w.jobs + 1) (λ t. tally r (J1 t)) ≡ sum_below w.jobs (λ t. tally r (w.job t)))
-    m = one_made w (Worker p i) p Direct h
+    m = one_made w q p d h
 
     counted : (t : ℕ) → (J2 t).counted ≡ (w.job t).counted
-    counted t = put_same (λ j. j.counted) J1 (w.jobs + 1) (new_job (Worker p i) p (Stored w.calls (Worker p i))) t (sym (m.0 (w.jobs + 1) ∙ h.unmade (w.jobs + 1) (omega arith))) ∙ m.0 t
+    counted t = put_same (λ j. j.counted) J1 (w.jobs + 1) (new_job q p k) t (sym (m.0 (w.jobs + 1) ∙ h.unmade (w.jobs + 1) (omega arith))) ∙ m.0 t
 
     withs : (t : ℕ) → with_job (J2 t) ≤ with_job (w.job t)
     withs t = by (t == (w.jobs + 1))
       where
-        by : (b : Bool) → with_job (if b then new_job (Worker p i) p (Stored w.calls (Worker p i)) else J1 t) ≤ with_job (w.job t)
-        by true = new_with (Worker p i) p (Stored w.calls (Worker p i)) (with_job (w.job t))
+        by : (b : Bool) → with_job (if b then new_job q p k else J1 t) ≤ with_job (w.job t)
+        by true = new_with q p k (with_job (w.job t))
         by false = m.1 t
 
     sums : (r : ℕ) → sum_below (w.jobs + 2) (λ t. tally r (J2 t)) ≡ sum_below w.jobs (λ t. tally r (w.job t))
-    sums r = let a : sum_below ((w.jobs + 1) + 1) (λ t. tally r (J2 t)) ≡ sum_below (w.jobs + 1) (λ t. tally r (J2 t)) = sum_more (w.jobs + 1) (λ t. tally r (J2 t)) (ap (λ j. tally r j) (put_new J1 (w.jobs + 1) (new_job (Worker p i) p (Stored w.calls (Worker p i))))) in
-        let b : sum_below (w.jobs + 1) (λ t. tally r (J2 t)) ≡ sum_below (w.jobs + 1) (λ t. tally r (J1 t)) = sum_same (w.jobs + 1) (λ t. tally r (J2 t)) (λ t. tally r (J1 t)) (λ t z. ap (λ j. tally r j) (put_old J1 (w.jobs + 1) (new_job (Worker p i) p (Stored w.calls (Worker p i))) t (below_new t (w.jobs + 1) z))) in
+    sums r = let a : sum_below ((w.jobs + 1) + 1) (λ t. tally r (J2 t)) ≡ sum_below (w.jobs + 1) (λ t. tally r (J2 t)) = sum_more (w.jobs + 1) (λ t. tally r (J2 t)) (ap (λ j. tally r j) (put_new J1 (w.jobs + 1) (new_job q p k))) in
+        let b : sum_below (w.jobs + 1) (λ t. tally r (J2 t)) ≡ sum_below (w.jobs + 1) (λ t. tally r (J1 t)) = sum_same (w.jobs + 1) (λ t. tally r (J2 t)) (λ t. tally r (J1 t)) (λ t z. ap (λ j. tally r j) (put_old J1 (w.jobs + 1) (new_job q p k) t (below_new t (w.jobs + 1) z))) in
         let c : sum_below (w.jobs + 1) (λ t. tally r (J1 t)) ≡ sum_below w.jobs (λ t. tally r (w.job t)) = m.2 r in
         let d : sum_below (w.jobs + 2) (λ t. tally r (J2 t)) ≡ sum_below ((w.jobs + 1) + 1) (λ t. tally r (J2 t)) = ap (λ n. sum_below n (λ t. tally r (J2 t))) (let g : w.jobs + 2 ≡ (w.jobs + 1) + 1 = omega arith in g) in omega (arith, a, b, c, d)
+
+join_shares : (w : World) (q : Party) → SharesHold w → IfSome (after_join w q (w.stack q)) (λ u. CallsHold u → SharesHold u)
+join_shares w (Caller n) h = tt
+join_shares w (Worker p i) h = if_cond (λ u. CallsHold u → SharesHold u) (is_free ((w.stack (Worker p i)).top)) _ (λ f ch. (let m = two_made w (Worker p i) p Direct (Stored w.calls (Worker p i)) h in made_shares w (Worker p i) (Fork (record { number = w.calls; pool = p; job = w.jobs + 1 }) w.jobs) (put w.call w.calls (new_call (Some w.jobs) (w.jobs + 1))) (put (put w.job w.jobs (new_job (Worker p i) p Direct)) (w.jobs + 1) (new_job (Worker p i) p (Stored w.calls (Worker p i)))) (w.calls + 1) (w.jobs + 2) (omega arith) (omega arith) (m.0) (m.2) (m.1) h ch))
+
+fifo_shares : (w : World) (q : Party) (p : ℕ) → SharesHold w → IfSome (after_fifo w q p (w.stack q)) (λ u. CallsHold u → SharesHold u)
+fifo_shares w q p h = fifo_cases (λ u. CallsHold u → SharesHold u) w q p (spawn_shares w q p h) (λ i free ch. (let m = two_made w (Worker p i) p (Detached p) (TokenOf i) h in made_shares w (Worker p i) (Feed (record { pool = p; job = w.jobs; token = w.jobs + 1 })) w.call (put (put w.job w.jobs (new_job (Worker p i) p (Detached p))) (w.jobs + 1) (new_job (Worker p i) p (TokenOf i))) w.calls (w.jobs + 2) (omega arith) (omega arith) (m.0) (m.2) (m.1) h ch))
 
 -- each step keeps the shares
 pub step_shares : (w : World) (e : Event) → SharesHold w → IfSome (step w e) SharesHold
@@ -183,6 +191,7 @@ step_shares w (Refuse q) h = with_calls w (step w (Refuse q)) (step_calls w (Ref
 step_shares w (Miss q) h = with_calls w (step w (Miss q)) (step_calls w (Miss q) (h.calls)) (miss_shares w q ((w.stack q).top) ((w.stack q).below) refl h)
 step_shares w (End q d) h = with_calls w (step w (End q d)) (step_calls w (End q d) (h.calls)) (end_shares w q d ((w.stack q).top) ((w.stack q).below) refl h)
 step_shares w (Spawn q p) h = with_calls w (step w (Spawn q p)) (step_calls w (Spawn q p) (h.calls)) (spawn_shares w q p h)
+step_shares w (Fifo q p) h = with_calls w (step w (Fifo q p)) (step_calls w (Fifo q p) (h.calls)) (fifo_shares w q p h)
 step_shares w (Install q p) h = with_calls w (step w (Install q p)) (step_calls w (Install q p) (h.calls)) (install_shares w q p h)
 step_shares w (Join q) h = with_calls w (step w (Join q)) (step_calls w (Join q) (h.calls)) (join_shares w q h)
 step_shares w (Yield q) h = with_calls w (step w (Yield q)) (step_calls w (Yield q) (h.calls)) (yield_shares w q YieldPop (λ t. (refl, refl)) (λ p. refl) h)

@@ -5,64 +5,101 @@ use Rattle.std.proofs.lemmas.Bool.{eqb-true}
 use Rattle.rayon_machine_places.specs.declared.place.Party.{Party}
 use Rattle.rayon_machine_places.specs.declared.place.Party.TheVariants.{Worker, Caller}
 use Rattle.rayon_machine_places.specs.declared.place.Plan.{Plan}
+use Rattle.rayon_machine_places.specs.declared.place.Plan.TheVariants.{Detach, Here, Send, Fork, Feed}
 use Rattle.rayon_machine_places.specs.declared.place.Share.TheVariants.{PoolValue, OfJob}
 use Rattle.rayon_machine_places.specs.declared.place.Then.TheVariants.{Resume}
 use Rattle.rayon_machine_places.specs.declared.place.Place.{Place}
-use Rattle.rayon_machine_places.specs.declared.place.Place.TheVariants.{PickVictim, StealFrom, YieldPick, YieldSteal, RaiseCount, GrowCall, PushJob, LowerCount}
+use Rattle.rayon_machine_places.specs.declared.place.Place.TheVariants.{PickVictim, StealFrom, YieldPick, YieldSteal, RaiseCount, GrowCall, PushJob, LowerCount, AddToFifo, PushToken, TakeFromFifo}
 use Rattle.rayon_machine_places.specs.declared.place.Move.{Move}
-use Rattle.rayon_machine_places.specs.declared.place.Move.TheVariants.{Stay, Enter, StartRun, Back, HandBack}
+use Rattle.rayon_machine_places.specs.declared.place.Move.TheVariants.{Stay, Enter, StartRun, Back, HandBack, Discard, HandIn}
 use Rattle.rayon_machine_places.specs.declared.act.Seen.{Seen}
-use Rattle.rayon_machine_places.specs.declared.act.Seen.TheVariants.{Refused, Yes, No, Missing, Start}
+use Rattle.rayon_machine_places.specs.declared.act.Seen.TheVariants.{Refused, Yes, No, Missing, Start, Task}
 use Rattle.rayon_machine_places.specs.declared.shape.PoolShape.{PoolShape}
-use Rattle.rayon_machine_places.specs.Places.{same_party, own_pool, plan_pool, act_of, next_of, is_free}
+use Rattle.rayon_machine_places.specs.Places.{same_party, own_pool, plan_pool, act_of, next_of, is_free, taken_number}
 use Rattle.rayon_machine_places.specs.World.{Stack, World, counts_at, Part, target_pool, target_worker, target_call}
 use Rattle.rayon_machine_places.specs.Steps.{put, put_stack, after_move, after_choice, after_refusal, can_miss, after_miss, after_call, is_pool, after_yield, after_end_pool}
 use Rattle.rayon_machine_laws.specs.Once.{one}
 use Rattle.rayon_machine_laws.specs.Shares.{share, shares_in, shares}
-use Rattle.rayon_machine_laws.proofs.Frame.{and_parts, same_party_true, if_some_and, if_some_map, if_cond, put_same, after_pool, stack_mine}
+use Rattle.rayon_machine_laws.proofs.Frame.{and_parts, same_party_true, if_some_and, if_some_map, if_cond, put_same, put_new, after_pool, stack_mine, if_some_each}
 use Rattle.rayon_machine_laws.proofs.Ties.{job_at, outcome, result}
 use Rattle.rayon_machine_laws.proofs.Placed.{Kept}
 use Rattle.rayon_machine_laws.proofs.PlacedEvents.{go_kept}
 use Rattle.rayon_machine_laws.proofs.PlacedRuns.{once}
 use Rattle.rayon_machine_laws.proofs.Claims.{is_detached, SaysMove, says_next}
 use Rattle.rayon_machine_laws.proofs.Later.{later_says, Static, act_static}
-use Rattle.rayon_machine_laws.proofs.ClaimActs.{Lasting, lasting, Learned, act_learned, Written, act_written}
+use Rattle.rayon_machine_laws.proofs.ClaimActs.{Lasting, lasting, Learned, act_learned, Written, act_written, Lines, line_table}
 use Rattle.rayon_machine_laws.proofs.ClaimRuns.{CallsHold, world_after, place_part, learns, act_calls}
-use Rattle.rayon_machine_laws.proofs.Amounts.{raises, values, raises_in, values_in, all_raises, all_values, gained, pushed, paid}
-use Rattle.rayon_machine_laws.proofs.ShareActs.{with_job, SharesHold, is_tally, Untallied, same_untallied, act_untallied, Stays, act_stays}
+use Rattle.rayon_machine_laws.proofs.Amounts.{regained, raises, values, raises_in, values_in, all_raises, all_values, gained, pushed, paid}
+use Rattle.rayon_machine_laws.proofs.ShareActs.{with_job, SharesHold, Regains, act_regains, is_tally, Untallied, same_untallied, act_untallied, Stays, act_stays}
 use Rattle.rayon_machine_laws.proofs.ShareRuns.{StartsAwaited, says_starts, busy_step, shares_mine, other_le, values_mine, raises_all, still_hold}
 use Rattle.rayon_machine_laws.proofs.ShareSteps.{Ready, plain_hold, raised_world, raise_hold}
 use Rattle.rayon_machine_laws.proofs.ShareLowers.{lowered_world, lower_job, lower_value}
 
+-- the share that comes back to a call was the job's own
+regain : (w : World) (q : Party) (x : Place) (fs : List Place) (r : Seen × Part) → Regains w q x r → (t : ℕ) → with_job ((world_after w q x fs r).job t) ≤ with_job (w.job t) + pushed t x (r.0) → with_job ((world_after w q x fs r).job t) + regained t x (r.0) ≤ with_job (w.job t) + pushed t x (r.0)
+regain w q (TakeFromFifo f) fs (Task y, m) g t b = by (t == taken_number y) refl
+  where
+    n0 : ℕ
+    n0 = job_at w q (act_of q (TakeFromFifo f))
+
+    now : (z : ℕ) → n0 ≡ z → put w.job n0 m.job z ≡ m.job
+    now z e = subst (λ z. put w.job n0 m.job z ≡ m.job) e (put_new w.job n0 m.job)
+
+    idle : with_job (put w.job n0 m.job (taken_number y)) ≡ 0
+    idle = ap with_job (now (taken_number y) (g.0)) ∙ ap (λ v. one (is_detached m.job.kind && v)) (g.2) ∙ none (is_detached m.job.kind)
+      where
+        none : (z : Bool) → one (z && false) ≡ 0
+        none true = refl
+        none false = refl
+
+    by : (z : Bool) → (t == taken_number y) ≡ z → with_job (put w.job n0 m.job t) + one (t == taken_number y) ≤ with_job (w.job t) + 0
+    by true e = let i : t ≡ taken_number y = eqb-true t (taken_number y) e in let a : with_job (put w.job n0 m.job t) ≡ 0 = ap (λ n. with_job (put w.job n0 m.job n)) i ∙ idle in let c : with_job (w.job t) ≡ 1 = ap (λ n. with_job (w.job n)) i ∙ g.1 in let d : one (t == taken_number y) ≡ 1 = ap one e in omega (arith, a, c, d)
+    by false e = let d : one (t == taken_number y) ≡ 0 = ap one e in omega (arith, b, d)
+regain w q x fs r g t b = omega (arith, b)
+
 pub ready : (w : World) (q : Party) → SharesHold w → IfSome (outcome w q (w.stack q)) (λ r. Ready w q ((w.stack q).top) ((w.stack q).below) r)
 ready w q h =
     let k = w.stack q in let x = k.top in
-    if_some_map (λ r. ((Static (place_part w q x) r × Learned w.shape q (place_part w q x) x r) × (Written (place_part w q x) x r × Kept w (result w q k r))) × Stays (place_part w q x) x (job_at w q (act_of q x)) r) (λ r. Ready w q x (k.below) r)
-    (λ r f. (let ch : CallsHold (world_after w q x (k.below) r) = act_calls w q x (k.below) r (h.calls) refl (((f.0).0).0) (((f.0).1).1) (((f.0).0).1) (((f.0).1).0) in
+    if_some_map (λ r. (((Static (place_part w q x) r × Learned w.shape q (place_part w q x) x r) × (Written (place_part w q x) x r × Kept w (result w q k r))) × Stays (place_part w q x) x (job_at w q (act_of q x)) r) × (((t : ℕ) → Lines (place_part w q x) t x r) × Regains w q x r)) (λ r. Ready w q x (k.below) r)
+    (λ r g. (let f : ((Static (place_part w q x) r × Learned w.shape q (place_part w q x) x r) × (Written (place_part w q x) x r × Kept w (result w q k r))) × Stays (place_part w q x) x (job_at w q (act_of q x)) r = g.0 in let ch : CallsHold (world_after w q x (k.below) r) = act_calls w q x (k.below) r (h.calls) refl (((f.0).0).0) (((f.0).1).1) (((f.0).0).1) (((f.0).1).0) ((g.1).0) in
     let la : Lasting w (world_after w q x (k.below) r) = lasting w q k (target_pool q (act_of q x)) (target_worker q (act_of q x)) (target_call (act_of q x)) (job_at w q (act_of q x)) r (((f.0).0).0) (((f.0).1).1) in
-    let sm : SaysMove (world_after w q x (k.below) r) q (next_of (w.shape.pool (target_pool q (act_of q x))) q x (r.0)) = says_next (world_after w q x (k.below) r) (w.shape.pool (target_pool q (act_of q x))) q x (r.0) (learns w q x (k.below) r (h.calls) refl la (((f.0).0).1)) (later_says w (world_after w q x (k.below) r) (la.later) q x (((h.calls).says q).top)) in
+    let sm : SaysMove (world_after w q x (k.below) r) q (next_of (w.shape.pool (target_pool q (act_of q x))) q x (r.0)) = says_next (world_after w q x (k.below) r) (w.shape.pool (target_pool q (act_of q x))) q x (r.0) (learns w q x (k.below) r (h.calls) refl (((f.0).1).1) la (((f.0).0).1)) (later_says w (world_after w q x (k.below) r) (la.later) q x (((h.calls).says q).top)) in
+    let starts : StartsAwaited w (next_of (w.shape.pool (target_pool q (act_of q x))) q x (r.0)) = starts_back w (world_after w q x (k.below) r) la (next_of (w.shape.pool (target_pool q (act_of q x))) q x (r.0)) (says_starts (world_after w q x (k.below) r) q (next_of (w.shape.pool (target_pool q (act_of q x))) q x (r.0)) sm) in
+    let busy : (t : ℕ) → with_job ((world_after w q x (k.below) r).job t) ≤ with_job (w.job t) + pushed t x (r.0) = busy_step w q x (k.below) r (((f.0).1).1) la starts (f.1) in
     record {
       hold = h;
       stack = refl;
       last = la;
       calls = ch;
-      busy = busy_step w q x (k.below) r (((f.0).1).1) la (starts_back w (world_after w q x (k.below) r) la (next_of (w.shape.pool (target_pool q (act_of q x))) q x (r.0)) (says_starts (world_after w q x (k.below) r) q (next_of (w.shape.pool (target_pool q (act_of q x))) q x (r.0)) sm)) (f.1);
+      starts = starts;
+      busy = busy;
+      regains = λ t. regain w q x (k.below) r ((g.1).1) t (busy t);
       pools = λ t. after_pool q (next_of (w.shape.pool (target_pool q (act_of q x))) q x (r.0)) (put w.job (job_at w q (act_of q x)) (r.1.job)) t ∙ put_same (λ j. j.pool) w.job (job_at w q (act_of q x)) (r.1.job) t ((((f.0).0).0).pool);
       held = λ p. put_same (λ v. v.held) w.pool (target_pool q (act_of q x)) (r.1.pool) p ((((f.0).0).0).held);
     }))
     (outcome w q k)
+    (if_some_and (λ r. ((Static (place_part w q x) r × Learned w.shape q (place_part w q x) x r) × (Written (place_part w q x) x r × Kept w (result w q k r))) × Stays (place_part w q x) x (job_at w q (act_of q x)) r) (λ r. ((t : ℕ) → Lines (place_part w q x) t x r) × Regains w q x r) (outcome w q k)
     (if_some_and (λ r. (Static (place_part w q x) r × Learned w.shape q (place_part w q x) x r) × (Written (place_part w q x) x r × Kept w (result w q k r))) (Stays (place_part w q x) x (job_at w q (act_of q x))) (outcome w q k)
     (if_some_and (λ r. Static (place_part w q x) r × Learned w.shape q (place_part w q x) x r) (λ r. Written (place_part w q x) x r × Kept w (result w q k r)) (outcome w q k)
     (if_some_and (Static (place_part w q x)) (Learned w.shape q (place_part w q x) x) (outcome w q k) (act_static w.shape q (counts_at w (target_pool q (act_of q x))) (place_part w q x) x) (act_learned w.shape q (counts_at w (target_pool q (act_of q x))) (place_part w q x) x))
-    (if_some_and (Written (place_part w q x) x) (λ r. Kept w (result w q k r)) (outcome w q k) (act_written w.shape q (counts_at w (target_pool q (act_of q x))) (place_part w q x) x) (go_kept w q (((h.calls).jobs).ok))))
+    (if_some_and (Written (place_part w q x) x) (λ r. Kept w (result w q k r)) (outcome w q k) (act_written w.shape q (counts_at w (target_pool q (act_of q x))) (place_part w q x) x) (go_kept w q (((h.calls).jobs).feeds) (((h.calls).jobs).ok))))
     (act_stays w q x (once w ((h.calls).jobs)) (((h.calls).says q).top)))
+    (if_some_and (λ r. (t : ℕ) → Lines (place_part w q x) t x r) (Regains w q x) (outcome w q k)
+    (if_some_each {I = ℕ} (λ t r. Lines (place_part w q x) t x r) (outcome w q k) (λ t. line_table w.shape q (counts_at w (target_pool q (act_of q x))) (place_part w q x) t x))
+    (act_regains w q x (h.calls) (once w ((h.calls).jobs)))))
   where
     starts_back : (w u : World) → Lasting w u → (g : Move) → StartsAwaited u g → StartsAwaited w g
     starts_back w u l (StartRun f a) s = ap is_detached (sym (l.kinds a)) ∙ s
     starts_back w u l (Stay y) s = tt
+    starts_back w u l (HandIn y k) s = ap is_detached (sym (l.kinds k)) ∙ s
     starts_back w u l (Enter f y) s = tt
     starts_back w u l Back s = tt
-    starts_back w u l (HandBack n) s = tt
+    starts_back w u l (HandBack (Feed d)) s = ap is_detached (sym (l.kinds d.job)) ∙ s
+    starts_back w u l (HandBack (Detach p t)) s = tt
+    starts_back w u l (HandBack (Here p t)) s = tt
+    starts_back w u l (HandBack (Send o)) s = tt
+    starts_back w u l (HandBack (Fork o a)) s = tt
+    starts_back w u l (Discard k) s = ap is_detached (sym (l.kinds k)) ∙ s
 
 -- the acts that raise a count, done or refused
 raise_go : (w : World) (q : Party) (n : Plan) (fs : List Place) → ((r : Seen × Part) → Ready w q (RaiseCount n) fs r → Untallied (place_part w q (RaiseCount n)) r → ((t : ℕ) → gained t (RaiseCount n) (r.0) ≡ 0) → SharesHold (world_after w q (RaiseCount n) fs r)) → (done : Seen × Part) → (Ready w q (RaiseCount n) fs done → SharesHold (world_after w q (RaiseCount n) fs done)) → (b : Bool) → IfSome (if b then Some (Refused, place_part w q (RaiseCount n)) else Some done) (Ready w q (RaiseCount n) fs) → IfSome (if b then Some (Refused, place_part w q (RaiseCount n)) else Some done) (λ r. SharesHold (world_after w q (RaiseCount n) fs r))
@@ -95,9 +132,9 @@ with_calls w None a f = tt
 with_calls w (Some u) a f = f a
 
 -- a party goes on as if its act had seen this
-seen_shares : (w : World) (q : Party) (g : PoolShape) (x : Place) (fs : List Place) (e : Seen) → w.stack q ≡ record { top = x; below = fs } → ((t : ℕ) → gained t x e ≡ 0) → SharesHold w → CallsHold (record w { stack = put_stack w.stack q (after_move (next_of g q x e) fs) }) → SharesHold (record w { stack = put_stack w.stack q (after_move (next_of g q x e) fs) })
+seen_shares : (w : World) (q : Party) (g : PoolShape) (x : Place) (fs : List Place) (e : Seen) → w.stack q ≡ record { top = x; below = fs } → ((t : ℕ) → gained t x e + regained t x e ≡ 0) → SharesHold w → CallsHold (record w { stack = put_stack w.stack q (after_move (next_of g q x e) fs) }) → SharesHold (record w { stack = put_stack w.stack q (after_move (next_of g q x e) fs) })
 seen_shares w q g x fs e z none h ch = still_hold w (record w { stack = put_stack w.stack q (after_move (next_of g q x e) fs) }) q (after_move (next_of g q x e) fs) ch (λ s. refl) (omega arith) (λ t. refl) (λ p. refl) (λ p. omega arith) (λ p. refl)
-    (λ t. (let a : shares t (put_stack w.stack q (after_move (next_of g q x e) fs) q) + (pushed t x e + paid t x) ≡ shares t (w.stack q) + gained t x e = shares_mine w q x fs g e t z in let b : gained t x e ≡ 0 = none t in omega (arith, a, b)))
+    (λ t. (let a : shares t (put_stack w.stack q (after_move (next_of g q x e) fs) q) + (pushed t x e + paid t x) ≡ shares t (w.stack q) + (gained t x e + regained t x e) = shares_mine w q x fs g e t z in let b : gained t x e + regained t x e ≡ 0 = none t in omega (arith, a, b)))
     (λ p. (let a : all_values p (put_stack w.stack q (after_move (next_of g q x e) fs) q) + values p x ≡ all_values p (w.stack q) = values_mine w q x fs g e p z in omega (arith, a)))
     (λ t s. (let a : all_raises t (put_stack w.stack q (after_move (next_of g q x e) fs) s) ≤ all_raises t (w.stack s) = raises_all w q x fs g e t z s in let b : all_raises t (w.stack s) + one (w.job t).counted ≤ 1 = h.unraised s t in omega (arith, a, b))) h
 
@@ -108,6 +145,8 @@ from_shares w q _ fs v z h = tt
 
 pub refuse_shares : (w : World) (q : Party) (x : Place) (fs : List Place) → w.stack q ≡ record { top = x; below = fs } → SharesHold w → IfSome (after_refusal w q (record { top = x; below = fs })) (λ u. CallsHold u → SharesHold u)
 refuse_shares w q (GrowCall n) fs z h = λ a. seen_shares w q (w.shape.pool (own_pool q)) (GrowCall n) fs Refused z (λ t. refl) h a
+refuse_shares w q (AddToFifo f) fs z h = λ a. seen_shares w q (w.shape.pool (own_pool q)) (AddToFifo f) fs Refused z (λ t. refl) h a
+refuse_shares w q (PushToken f v) fs z h = λ a. seen_shares w q (w.shape.pool (own_pool q)) (PushToken f v) fs Refused z (λ t. refl) h a
 refuse_shares w q (PushJob n v) fs z h = λ a. seen_shares w q (w.shape.pool (own_pool q)) (PushJob n v) fs Refused z (λ t. refl) h a
 refuse_shares w q _ fs z h = tt
 

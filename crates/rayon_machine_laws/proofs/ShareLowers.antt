@@ -95,7 +95,7 @@ lower_value w q p0 n fs e h z ch busy pools keeps = record {
   calls = ch;
   jobs = λ t. subst (λ c. Tokens (λ s. shares t (v.stack s)) (with_job (v.job t)) (one c)) (sym (same t))
       (tokens_keep (λ s. shares t (w.stack s)) (λ s. shares t (v.stack s)) (with_job (w.job t)) (with_job (v.job t)) (one (w.job t).counted) q (one_most ((w.job t).counted)) (λ s d. other_le (shares t) w q k s d)
-      (let a : shares t (put_stack w.stack q k q) + (0 + 0) ≡ shares t (w.stack q) + 0 = shares_mine w q (LowerCount p0 PoolValue n) fs (w.shape.pool p0) e t z in let b : with_job (v.job t) ≤ with_job (w.job t) = busy t in omega (arith, a, b)) (h.jobs t));
+      (let a : shares t (put_stack w.stack q k q) + (0 + 0) ≡ shares t (w.stack q) + (0 + 0) = shares_mine w q (LowerCount p0 PoolValue n) fs (w.shape.pool p0) e t z in let b : with_job (v.job t) ≤ with_job (w.job t) = busy t in omega (arith, a, b)) (h.jobs t));
   values = λ p. values p (p == p0) refl;
   unraised = λ s t. (let a : all_raises t (put_stack w.stack q k s) ≤ all_raises t (w.stack s) = raises_all w q (LowerCount p0 PoolValue n) fs (w.shape.pool p0) e t z s in let b : all_raises t (w.stack s) + one (w.job t).counted ≤ 1 = h.unraised s t in let c : one (v.job t).counted ≡ one (w.job t).counted = ap one (same t) in omega (arith, a, b, c));
   unmade = λ t b. same t ∙ h.unmade t b;

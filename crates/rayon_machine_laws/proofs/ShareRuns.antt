@@ -3,13 +3,13 @@ use Rattle.std.proofs.Common.{arith, refl, sym, ◌∙◌, ap, subst}
 use Rattle.std.specs.Prelude.{ℕ, Bool, true, false, ◌&&◌, ◌+◌, ◌==◌, ◌≤◌, if◌then◌else◌, List, ◌≡◌, ⊤}
 use Rattle.std.proofs.lemmas.Bool.{eqb-true}
 use Rattle.rayon_machine_places.specs.declared.place.Party.{Party}
-use Rattle.rayon_machine_places.specs.declared.place.Plan.TheVariants.{Detach, Here, Send, Fork}
+use Rattle.rayon_machine_places.specs.declared.place.Plan.TheVariants.{Detach, Here, Send, Fork, Feed}
 use Rattle.rayon_machine_places.specs.declared.place.Place.{Place}
 use Rattle.rayon_machine_places.specs.declared.place.Move.{Move}
-use Rattle.rayon_machine_places.specs.declared.place.Move.TheVariants.{Stay, Enter, StartRun, Back, HandBack}
+use Rattle.rayon_machine_places.specs.declared.place.Move.TheVariants.{Stay, Enter, StartRun, Back, HandBack, Discard, HandIn}
 use Rattle.rayon_machine_places.specs.declared.act.Seen.{Seen}
 use Rattle.rayon_machine_places.specs.declared.state.Whereabouts.{Whereabouts}
-use Rattle.rayon_machine_places.specs.declared.state.Whereabouts.TheVariants.{Nowhere, Made, InDeque, Injected, Running, Over, HandedBack}
+use Rattle.rayon_machine_places.specs.declared.state.Whereabouts.TheVariants.{Nowhere, Made, InDeque, Injected, InFifo, Retaken, Running, Over, HandedBack, Spent}
 use Rattle.rayon_machine_places.specs.declared.shape.PoolShape.{PoolShape}
 use Rattle.rayon_machine_places.specs.declared.state.Job.{Job}
 use Rattle.rayon_machine_places.specs.Places.{same_party, act_of, next_of}
@@ -21,24 +21,30 @@ use Rattle.rayon_machine_laws.proofs.Frame.{same_party_true, stack_mine, stack_o
 use Rattle.rayon_machine_laws.proofs.Ties.{job_at}
 use Rattle.rayon_machine_laws.proofs.Located.{is_left, IsOnward}
 use Rattle.rayon_machine_laws.proofs.Placed.{Kept}
-use Rattle.rayon_machine_laws.proofs.Claims.{is_detached, SaysMove}
+use Rattle.rayon_machine_laws.proofs.Claims.{is_detached, SaysMove, SaysBack}
 use Rattle.rayon_machine_laws.proofs.ClaimActs.{Lasting}
 use Rattle.rayon_machine_laws.proofs.ClaimRuns.{CallsHold, world_after, place_part}
-use Rattle.rayon_machine_laws.proofs.Amounts.{raises, values, raises_in, values_in, all_raises, all_values, share_move, raises_move, values_move, gained, pushed, paid, amounts, land_shares, land_raises, land_values}
+use Rattle.rayon_machine_laws.proofs.Amounts.{raises, values, raises_in, values_in, all_raises, all_values, share_move, raises_move, values_move, gained, pushed, paid, amounts, land_shares, land_raises, land_values, regained}
 use Rattle.rayon_machine_laws.proofs.Tokens.{Tokens, tokens_keep, sum_below}
 use Rattle.rayon_machine_laws.proofs.ShareActs.{with_job, tally, SharesHold, one_most, Stays}
 
--- a run that a move starts is not of a detached job
+-- a run that a move starts is not of a detached job, nor is a token that it spends one; but what comes back from a call
+-- for a FIFO list is, beside its token
 abbrev pub StartsAwaited : World → Move → Type 0
 StartsAwaited w (StartRun f a) = is_detached (w.job a).kind ≡ false
+StartsAwaited w (HandIn y k) = is_detached (w.job k).kind ≡ false
+StartsAwaited w (Discard k) = is_detached (w.job k).kind ≡ false
+StartsAwaited w (HandBack n) = SaysBack w n
 StartsAwaited w _ = ⊤
 
 pub says_starts : (w : World) (q : Party) (g : Move) → SaysMove w q g → StartsAwaited w g
 says_starts w q (StartRun f a) s = (s.2).kind
 says_starts w q (Stay y) s = tt
+says_starts w q (HandIn y k) s = s.1
 says_starts w q (Enter f y) s = tt
 says_starts w q Back s = tt
-says_starts w q (HandBack n) s = tt
+says_starts w q (HandBack n) s = s
+says_starts w q (Discard k) s = s
 
 pub one_le : (b d : Bool) → (b ≡ true → d ≡ true) → one b ≤ one d
 one_le true d f = let e : one d ≡ 1 = ap one (f refl) in omega (arith, e)
@@ -51,9 +57,23 @@ gone_busy J a t = by (t == a)
     by true = omega arith
     by false = omega arith
 
+spent_busy : (J : ℕ → Job) (a t : ℕ) → one (is_busy (put J a (at_job (J a) Spent) t).at) ≤ one (is_busy (J t).at)
+spent_busy J a t = by (t == a)
+  where
+    by : (z : Bool) → one (is_busy (if z then at_job (J a) Spent else J t).at) ≤ one (is_busy (J t).at)
+    by true = omega arith
+    by false = omega arith
+
 -- a move makes no detached job busy
 after_busy : (w : World) (q : Party) (g : Move) (J : ℕ → Job) (t : ℕ) → StartsAwaited w g → is_detached (w.job t).kind ≡ true → one (is_busy (jobs_after q g J t).at) ≤ one (is_busy (J t).at)
 after_busy w q (Stay y) J t s z = omega arith
+after_busy w q (HandIn y k) J t s z = spent_busy J k t
+after_busy w q (Discard k) J t s z = spent_busy J k t
+after_busy w q (HandBack (Feed d)) J t s z = by (t == d.token)
+  where
+    by : (b : Bool) → one (is_busy (if b then at_job (J (d.token)) HandedBack else put J (d.job) (at_job (J (d.job)) HandedBack) t).at) ≤ one (is_busy (J t).at)
+    by true = omega arith
+    by false = gone_busy J (d.job) t
 after_busy w q (Enter f y) J t s z = omega arith
 after_busy w q Back J t s z = omega arith
 after_busy w q (StartRun f a) J t s z = by (t == a) refl
@@ -87,8 +107,11 @@ busy_step w q x fs r ke l sa st t = by (is_detached (w.job t).kind) refl
         left_busy Nowhere v2 z o = cc
         left_busy (Over d) v2 z o = let a : one (is_busy v2) ≡ 0 = ap (λ v. one (is_busy v)) o in omega (arith, a)
         left_busy HandedBack v2 z o = let a : one (is_busy v2) ≡ 0 = ap (λ v. one (is_busy v)) o in omega (arith, a)
+        left_busy Spent v2 z o = let a : one (is_busy v2) ≡ 0 = ap (λ v. one (is_busy v)) o in omega (arith, a)
         left_busy (InDeque p i) v2 z o = one_most (is_busy v2)
         left_busy (Injected p) v2 z o = one_most (is_busy v2)
+        left_busy (InFifo p i) v2 z o = cc
+        left_busy (Retaken s) v2 z o = cc
         left_busy (Running s) v2 z o = one_most (is_busy v2)
 
         busy : (b : Bool) → is_left (w.job t).at ≡ b → one (is_busy ((world_after w q x fs r).job t).at) ≤ one (is_busy (w.job t).at) + pushed t x (r.0)
@@ -101,8 +124,8 @@ busy_step w q x fs r ke l sa st t = by (is_detached (w.job t).kind) refl
             touched true y = let i : t ≡ job_at w q (act_of q x) = eqb-true t (job_at w q (act_of q x)) y in subst (λ n. one (is_busy r.1.job.at) ≤ one (is_busy (w.job n).at) + pushed n x (r.0)) (sym i) (st (ap (λ n. is_left (w.job n).at) (sym i) ∙ z) (ap (λ n. is_detached (w.job n).kind) (sym i) ∙ e))
 
 -- the shares of a party's stack after a move, and of the others'
-pub shares_mine : (w : World) (q : Party) (x : Place) (fs : List Place) (g : PoolShape) (e : Seen) (t : ℕ) → w.stack q ≡ record { top = x; below = fs } → shares t (put_stack w.stack q (after_move (next_of g q x e) fs) q) + (pushed t x e + paid t x) ≡ shares t (w.stack q) + gained t x e
-shares_mine w q x fs g e t z = let a : share_move t (next_of g q x e) + (pushed t x e + paid t x) ≡ share t x + gained t x e = (amounts g q t 0 x e).0 in
+pub shares_mine : (w : World) (q : Party) (x : Place) (fs : List Place) (g : PoolShape) (e : Seen) (t : ℕ) → w.stack q ≡ record { top = x; below = fs } → shares t (put_stack w.stack q (after_move (next_of g q x e) fs) q) + (pushed t x e + paid t x) ≡ shares t (w.stack q) + (gained t x e + regained t x e)
+shares_mine w q x fs g e t z = let a : share_move t (next_of g q x e) + (pushed t x e + paid t x) ≡ share t x + (gained t x e + regained t x e) = (amounts g q t 0 x e).0 in
     let b : shares t (after_move (next_of g q x e) fs) ≡ share_move t (next_of g q x e) + shares_in t fs = land_shares t (next_of g q x e) fs in
     let c : shares t (put_stack w.stack q (after_move (next_of g q x e) fs) q) ≡ shares t (after_move (next_of g q x e) fs) = ap (shares t) (stack_mine w.stack q (after_move (next_of g q x e) fs)) in
     let d : shares t (w.stack q) ≡ (share t x + shares_in t fs) = ap (shares t) z in omega (arith, a, b, c, d)

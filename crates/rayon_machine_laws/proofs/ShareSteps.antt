@@ -4,7 +4,7 @@ use Rattle.std.specs.Prelude.{ℕ, Bool, true, false, ◌&&◌, ◌+◌, ◌==�
 use Rattle.std.proofs.lemmas.Bool.{eqb-true, eq-eqb}
 use Rattle.rayon_machine_places.specs.declared.place.Party.{Party}
 use Rattle.rayon_machine_places.specs.declared.place.Plan.{Plan}
-use Rattle.rayon_machine_places.specs.declared.place.Plan.TheVariants.{Detach, Here, Send, Fork}
+use Rattle.rayon_machine_places.specs.declared.place.Plan.TheVariants.{Detach, Here, Send, Fork, Feed}
 use Rattle.rayon_machine_places.specs.declared.place.Place.{Place}
 use Rattle.rayon_machine_places.specs.declared.place.Place.TheVariants.{RaiseCount}
 use Rattle.rayon_machine_places.specs.declared.act.Seen.{Seen}
@@ -22,10 +22,10 @@ use Rattle.rayon_machine_laws.proofs.Located.{loc_at, is_loc, where_is, Hand}
 use Rattle.rayon_machine_laws.proofs.Claims.{SaysPlan}
 use Rattle.rayon_machine_laws.proofs.ClaimActs.{Lasting}
 use Rattle.rayon_machine_laws.proofs.ClaimRuns.{CallsHold, top_says, world_after, place_part}
-use Rattle.rayon_machine_laws.proofs.Amounts.{raises, values, raises_in, all_raises, all_values, gained, pushed, paid}
+use Rattle.rayon_machine_laws.proofs.Amounts.{raises, values, raises_in, all_raises, all_values, gained, pushed, paid, regained}
 use Rattle.rayon_machine_laws.proofs.Tokens.{Tokens, tokens_keep, tokens_gain, sum_below, sum_same, sum_change}
 use Rattle.rayon_machine_laws.proofs.ShareActs.{with_job, tally, SharesHold, one_most, one_not, Untallied}
-use Rattle.rayon_machine_laws.proofs.ShareRuns.{shares_mine, other_le, values_mine, raises_mine, raises_all, still_hold}
+use Rattle.rayon_machine_laws.proofs.ShareRuns.{StartsAwaited, shares_mine, other_le, values_mine, raises_mine, raises_all, still_hold}
 
 -- an act, with what is known of it
 pub record Ready (w : World) (q : Party) (x : Place) (fs : List Place) (r : Seen × Part) : Type 0 where
@@ -33,7 +33,9 @@ pub record Ready (w : World) (q : Party) (x : Place) (fs : List Place) (r : Seen
   pub stack : w.stack q ≡ record { top = x; below = fs }
   pub last : Lasting w (world_after w q x fs r)
   pub calls : CallsHold (world_after w q x fs r)
+  pub starts : StartsAwaited w (next_of (w.shape.pool (target_pool q (act_of q x))) q x (r.0))
   pub busy : (t : ℕ) → with_job ((world_after w q x fs r).job t) ≤ with_job (w.job t) + pushed t x (r.0)
+  pub regains : (t : ℕ) → with_job ((world_after w q x fs r).job t) + regained t x (r.0) ≤ with_job (w.job t) + pushed t x (r.0)
   pub pools : (t : ℕ) → ((world_after w q x fs r).job t).pool ≡ (w.job t).pool
   pub held : (p : ℕ) → ((world_after w q x fs r).pool p).held ≡ (w.pool p).held
 
@@ -52,7 +54,7 @@ plain_hold w q x fs r d un none = still_hold w (world_after w q x fs r) q (stack
     (λ p. put_same (λ v. v.counted) w.pool (target_pool q (act_of q x)) (r.1.pool) p (un.pool))
     (λ p. (let a : sum_below w.jobs (λ t. tally p ((world_after w q x fs r).job t)) ≡ sum_below w.jobs (λ t. tally p (w.job t)) = sum_same w.jobs (λ t. tally p ((world_after w q x fs r).job t)) (λ t. tally p (w.job t)) (λ t b. tally_same p ((world_after w q x fs r).job t) (w.job t) (counted t) (d.pools t)) in omega (arith, a)))
     (λ p. put_same (λ v. v.count) w.pool (target_pool q (act_of q x)) (r.1.pool) p (un.count))
-    (λ t. (let a : shares t (put_stack w.stack q (stack_after w q x fs (r.0)) q) + (pushed t x (r.0) + paid t x) ≡ shares t (w.stack q) + gained t x (r.0) = shares_mine w q x fs (w.shape.pool (target_pool q (act_of q x))) (r.0) t (d.stack) in let b : with_job ((world_after w q x fs r).job t) ≤ with_job (w.job t) + pushed t x (r.0) = d.busy t in let c : gained t x (r.0) ≡ 0 = none t in omega (arith, a, b, c)))
+    (λ t. (let a : shares t (put_stack w.stack q (stack_after w q x fs (r.0)) q) + (pushed t x (r.0) + paid t x) ≡ shares t (w.stack q) + (gained t x (r.0) + regained t x (r.0)) = shares_mine w q x fs (w.shape.pool (target_pool q (act_of q x))) (r.0) t (d.stack) in let b : with_job ((world_after w q x fs r).job t) + regained t x (r.0) ≤ with_job (w.job t) + pushed t x (r.0) = d.regains t in let c : gained t x (r.0) ≡ 0 = none t in omega (arith, a, b, c)))
     (λ p. (let a : all_values p (put_stack w.stack q (stack_after w q x fs (r.0)) q) + values p x ≡ all_values p (w.stack q) = values_mine w q x fs (w.shape.pool (target_pool q (act_of q x))) (r.0) p (d.stack) in let b : one ((world_after w q x fs r).pool p).held ≡ one (w.pool p).held = ap one (d.held p) in omega (arith, a, b)))
     (λ t s. (let a : all_raises t (put_stack w.stack q (stack_after w q x fs (r.0)) s) ≤ all_raises t (w.stack s) = raises_all w q x fs (w.shape.pool (target_pool q (act_of q x))) (r.0) t (d.stack) s in let b : all_raises t (w.stack s) + one (w.job t).counted ≤ 1 = ((d.hold).unraised) s t in omega (arith, a, b)))
     (d.hold)
@@ -80,6 +82,7 @@ plan_made : (w : World) (q : Party) (n : Plan) → SaysPlan w q n → (plan_job 
 plan_made w q (Detach p t) s = (s.made, s.pool)
 plan_made w q (Here p t) s = (s.made, s.pool)
 plan_made w q (Send o) s = ((s.0).made, (s.0).pool)
+plan_made w q (Feed f) s = ((s.0).made, (s.0).pool)
 plan_made w q (Fork o a) s = ((s.0).made, (s.0).pool)
 
 pub self_one : (t : ℕ) → one (t == t) ≡ 1
@@ -123,7 +126,7 @@ raise_hold w q n fs h z ch busy pools keeps = record {
     before = one_not ((w.job (plan_job n)).counted) (let a : all_raises (plan_job n) (w.stack q) + one (w.job (plan_job n)).counted ≤ 1 = h.unraised q (plan_job n) in let b : one (plan_job n == plan_job n) ≡ 1 = self_one (plan_job n) in let c : all_raises (plan_job n) (w.stack q) ≡ (one (plan_job n == plan_job n) + raises_in (plan_job n) fs) = mine_raises in omega (arith, a, b, c))
 
     line : (t : ℕ) → shares t (put_stack w.stack q k q) ≤ shares t (w.stack q) + one (t == plan_job n)
-    line t = let a : shares t (put_stack w.stack q k q) + (0 + 0) ≡ shares t (w.stack q) + one (t == plan_job n) = shares_mine w q (RaiseCount n) fs (w.shape.pool (plan_pool n)) Done t z in omega (arith, a)
+    line t = let a : shares t (put_stack w.stack q k q) + (0 + 0) ≡ shares t (w.stack q) + (one (t == plan_job n) + 0) = shares_mine w q (RaiseCount n) fs (w.shape.pool (plan_pool n)) Done t z in omega (arith, a)
 
     jobs : (t : ℕ) (b : Bool) → (t == plan_job n) ≡ b → Tokens (λ s. shares t ((raised_world w q n fs).stack s)) (with_job ((raised_world w q n fs).job t)) (one ((raised_world w q n fs).job t).counted)
     jobs t true e = subst (λ t. Tokens (λ s. shares t ((raised_world w q n fs).stack s)) (with_job ((raised_world w q n fs).job t)) (one ((raised_world w q n fs).job t).counted)) (sym (eqb-true t (plan_job n) e))

@@ -9,15 +9,18 @@ use Rattle.rayon_machine_places.specs.declared.place.Latch.{Latch}
 use Rattle.rayon_machine_places.specs.declared.place.Latch.TheVariants.{Terminate, OfCall}
 use Rattle.rayon_machine_places.specs.declared.place.Then.{Then}
 use Rattle.rayon_machine_places.specs.declared.place.Then.TheVariants.{BeginFound, LeaveWait, Resume, Await, RunFirst, Answers, Missing, Ran, GiveBack}
+use Rattle.rayon_machine_places.specs.declared.place.Feeding.{Feeding}
+use Rattle.rayon_machine_places.specs.declared.place.Taken.{Taken}
+use Rattle.rayon_machine_places.specs.declared.place.Taken.TheVariants.{Plain, Token}
 use Rattle.rayon_machine_places.specs.declared.place.Place.{Place}
-use Rattle.rayon_machine_places.specs.declared.place.Place.TheVariants.{ProbeWorking, LockOwn, FallAsleep, LoadCounters, AddSleeping, LookAtCast, LookAtInjector, BlockSelf, RelockOwn, UndoSleeping, WakeUp, UnlockOwn, Run, LockToWake, WakeWorker, UnlockWoken, SetLatch, LockToSettle, WakeSettled, UnlockSettled, Stopped}
+use Rattle.rayon_machine_places.specs.declared.place.Place.TheVariants.{ProbeWorking, LockOwn, FallAsleep, LoadCounters, AddSleeping, LookAtCast, LookAtInjector, BlockSelf, RelockOwn, UndoSleeping, WakeUp, UnlockOwn, Run, LockToWake, WakeWorker, UnlockWoken, SetLatch, LockToSettle, WakeSettled, UnlockSettled, Stopped, BeginTask, AddToFifo, TakeFromFifo}
 use Rattle.rayon_machine_places.specs.declared.place.Move.{Move}
-use Rattle.rayon_machine_places.specs.declared.place.Move.TheVariants.{Stay, Enter, StartRun, Back, HandBack}
+use Rattle.rayon_machine_places.specs.declared.place.Move.TheVariants.{Stay, Enter, StartRun, Back, HandBack, Discard, HandIn}
 use Rattle.rayon_machine_places.specs.declared.act.Seen.{Seen}
-use Rattle.rayon_machine_places.specs.declared.act.Seen.TheVariants.{Yes}
+use Rattle.rayon_machine_places.specs.declared.act.Seen.TheVariants.{Yes, Done, Task, Begun, Handed}
 use Rattle.rayon_machine_places.specs.declared.shape.PoolShape.{PoolShape}
 use Rattle.rayon_machine_places.specs.declared.place.Settling.{Settling}
-use Rattle.rayon_machine_places.specs.Places.{finish, walk, settle, after_set, act_of, next_of}
+use Rattle.rayon_machine_places.specs.Places.{finish, walk, settle, after_set, act_of, next_of, after_begin, taken_back}
 use Rattle.rayon_machine_places.specs.World.{Shape, World, Counts, Part, effect}
 use Rattle.rayon_machine_places.specs.Steps.{after_move}
 use Rattle.rayon_machine_laws.proofs.Frame.{if_some_all}
@@ -27,43 +30,54 @@ use Rattle.rayon_machine_laws.proofs.Ties.{AllFrames}
 -- what a relation on places says of the top after a move. What stands below is known by itself
 abbrev pub Tops : (Place → Type 0) → Move → Type 0
 Tops R (Stay y) = R y
+Tops R (HandIn y token) = R y
 Tops R (Enter f y) = R y
 Tops R (StartRun f t) = R (Run t Direct)
 Tops R Back = ⊤
 Tops R (HandBack n) = ⊤
+Tops R (Discard n) = ⊤
 
 -- a move leaves frames below
 abbrev pub Lowered : Move → Type 0
 Lowered (Stay y) = ⊤
+Lowered (HandIn y token) = ⊤
 Lowered (Enter f y) = is_frame f ≡ true
 Lowered (StartRun f t) = is_frame f ≡ true
 Lowered Back = ⊤
 Lowered (HandBack n) = ⊤
+Lowered (Discard n) = ⊤
 
 -- the top after a move, where the relation holds of each frame
 pub top_after : (R : Place → Type 0) (g : Move) (fs : List Place) → Tops R g → ((f : Place) → is_frame f ≡ true → R f) → AllFrames fs → R ((after_move g fs).top)
 top_after R (Stay y) fs t k a = t
+top_after R (HandIn y token) fs t k a = t
 top_after R (Enter f y) fs t k a = t
 top_after R (StartRun f n) fs t k a = t
 top_after R Back [] t k a = k Stopped refl
 top_after R Back (f ∷ fs) t k a = k f (a.0)
 top_after R (HandBack n) [] t k a = k Stopped refl
+top_after R (Discard n) [] t k a = k Stopped refl
 top_after R (HandBack n) (f ∷ fs) t k a = k f (a.0)
+top_after R (Discard n) (f ∷ fs) t k a = k f (a.0)
 
 pub below_after : (g : Move) (fs : List Place) → Lowered g → AllFrames fs → AllFrames ((after_move g fs).below)
 below_after (Stay y) fs l a = a
+below_after (HandIn y token) fs l a = a
 below_after (Enter f y) fs l a = (l, a)
 below_after (StartRun f n) fs l a = (l, a)
 below_after Back [] l a = tt
 below_after Back (f ∷ fs) l a = a.1
 below_after (HandBack n) [] l a = tt
+below_after (Discard n) [] l a = tt
 below_after (HandBack n) (f ∷ fs) l a = a.1
+below_after (Discard n) (f ∷ fs) l a = a.1
 
 -- every party's frames
 abbrev pub FramesOk : World → Type 0
 FramesOk w = (q : Party) → AllFrames (w.stack q).below
 
--- a place at which nothing of the sleep is half done: neither about to block, nor with another's lock, nor falling asleep
+-- a place at which nothing of the sleep is half done: neither about to block, nor with another's lock, nor falling
+-- asleep
 abbrev pub is_light : Place → Bool
 is_light (FallAsleep w) = false
 is_light (LoadCounters w) = false
@@ -108,10 +122,12 @@ frame_light _ e = cc
 -- a move leaves frames below, and leads to a light place where it comes from one that is not heavy
 abbrev pub Leads : Bool → Move → Type 0
 Leads b (Stay y) = (b || is_light y) ≡ true
+Leads b (HandIn y token) = (b || is_light y) ≡ true
 Leads b (Enter f y) = (is_frame f ≡ true) × ((b || is_light y) ≡ true)
 Leads b (StartRun f t) = is_frame f ≡ true
 Leads b Back = ⊤
 Leads b (HandBack n) = ⊤
+Leads b (Discard n) = ⊤
 
 or_true : (b : Bool) → (b || true) ≡ true
 or_true true = refl
@@ -149,23 +165,44 @@ set_leads : (h : PoolShape) (q : Party) (s : Settling) (e : Seen) → Leads true
 set_leads h q s Yes = refl
 set_leads h q s _ = settled_leads true h q s s.latch
 
+begin_leads : (x : Taken) (e : Seen) → Leads false (after_begin x e)
+begin_leads (Plain t) (Begun d) = refl
+begin_leads (Plain t) _ = refl
+begin_leads (Token k i) (Handed t d) = refl
+begin_leads (Token k i) _ = tt
+
+feed_leads : (g : PoolShape) (q : Party) (f : Feeding) (e : Seen) → Leads false (next_of g q (AddToFifo f) e)
+feed_leads g q f Done = refl
+feed_leads g q f _ = refl
+
+back_leads : (f : Feeding) (e : Seen) → Leads false (taken_back f e)
+back_leads f (Task x) = refl
+back_leads f _ = tt
+
 pub leads : (h : Shape) (g : PoolShape) (q : Party) (c : Counts) (m : Part) (x : Place) → IfSome (effect (act_of q x) h q c m) (λ r. Leads (is_heavy x) (next_of g q x (r.0)))
 leads h g (Worker i j) c m (ProbeWorking k) = search (rules, arith)
 leads h g q c m (SetLatch s) = if_some_all {A = Seen × Part} (λ r. Leads true (next_of g q (SetLatch s) (r.0))) (λ r. set_leads g q s (r.0)) (effect (act_of q (SetLatch s)) h q c m)
+leads h g q c m (BeginTask x) = if_some_all {A = Seen × Part} (λ r. Leads false (after_begin x (r.0))) (λ r. begin_leads x (r.0)) (effect (act_of q (BeginTask x)) h q c m)
+leads h g q c m (AddToFifo f) = if_some_all {A = Seen × Part} (λ r. Leads false (next_of g q (AddToFifo f) (r.0))) (λ r. feed_leads g q f (r.0)) (effect (act_of q (AddToFifo f)) h q c m)
+leads h g q c m (TakeFromFifo f) = if_some_all {A = Seen × Part} (λ r. Leads false (taken_back f (r.0))) (λ r. back_leads f (r.0)) (effect (act_of q (TakeFromFifo f)) h q c m)
 leads h g q c m (UnlockSettled s) = if_some_all {A = Seen × Part} (λ r. Leads false (next_of g q (UnlockSettled s) (r.0))) (λ r. settled_leads false g q s s.latch) (effect (act_of q (UnlockSettled s)) h q c m)
 leads h g (Worker i j) c m _ = search (rules, arith)
 leads h g (Caller n) c m _ = search (rules, arith)
 
 pub leads_lowered : (b : Bool) (g : Move) → Leads b g → Lowered g
 leads_lowered b (Stay y) l = tt
+leads_lowered b (HandIn y token) l = tt
 leads_lowered b (Enter f y) l = l.0
 leads_lowered b (StartRun f t) l = l
 leads_lowered b Back l = tt
 leads_lowered b (HandBack n) l = tt
+leads_lowered b (Discard n) l = tt
 
 pub leads_tops : (g : Move) → Leads false g → Tops (λ y. is_light y ≡ true) g
 leads_tops (Stay y) l = l
+leads_tops (HandIn y token) l = l
 leads_tops (Enter f y) l = l.1
 leads_tops (StartRun f t) l = refl
 leads_tops Back l = tt
 leads_tops (HandBack n) l = tt
+leads_tops (Discard n) l = tt

@@ -14,7 +14,7 @@ use Rattle.rayon_machine_places.specs.declared.event.Event.{Event}
 use Rattle.rayon_machine_places.specs.declared.event.Event.TheVariants.{Go, Refuse, End, Spawn, Install, Join, YieldLocal, EndPool}
 use Rattle.rayon_machine_places.specs.declared.state.Whereabouts.TheVariants.{Over}
 use Rattle.rayon_machine_places.specs.Places.{act_of, is_free}
-use Rattle.rayon_machine_places.specs.Readers.{is_done, is_queued, is_running, jobs_that}
+use Rattle.rayon_machine_places.specs.Readers.{is_done, is_job_that, is_queued, is_running, jobs_that}
 use Rattle.rayon_machine_places.specs.Runs.{start}
 use Rattle.rayon_machine_places.specs.Steps.{step}
 use Rattle.rayon_machine_places.specs.World.{Shape, World, counts_at}
@@ -70,6 +70,7 @@ abbrev falls_asleep : List Event
 falls_asleep = gos a 21
 
 sleeper : IfSome (run (Some (start (pools 1 32))) falls_asleep) (λ w. PoolLine w 0 1 1 0 0 1 × WorkerLine w 0 0 0 true (Lock 0 0) × JobLine w 0 0 0)
+unfolding is_job_that
 sleeper = (record { sleeps = refl; idles = refl; turns = refl; holds = refl; counts = refl }, record { own = refl; blocks = refl; acts = refl }, record { waits = refl; runs = refl; ends = refl })
 
 -- a blocked worker cannot go on
@@ -81,10 +82,12 @@ abbrev woken_by_spawn : List Event
 woken_by_spawn = falls_asleep ++ Spawn c 0 ∷ gos c 7
 
 woken : IfSome (run (Some (start (pools 1 32))) woken_by_spawn) (λ w. PoolLine w 0 0 1 1 1 2 × WorkerLine w 0 0 0 false (Lock 0 0) × JobLine w 1 0 0)
+unfolding is_job_that
 woken = (record { sleeps = refl; idles = refl; turns = refl; holds = refl; counts = refl }, record { own = refl; blocks = refl; acts = refl }, record { waits = refl; runs = refl; ends = refl })
 
 -- the job runs, the pool's value is given up, and the worker stops
 stops : IfSome (run (Some (start (pools 1 32))) (woken_by_spawn ++ gos a 9 ++ End a Fine ∷ Go a ∷ EndPool c 0 ∷ gos c 2 ++ Go a ∷ [])) (λ w. PoolLine w 0 0 0 1 0 0 × WorkerLine w 0 0 0 false Idle × JobLine w 0 0 1 × ((w.stack a).top ≡ Stopped))
+unfolding is_job_that
 stops = (record { sleeps = refl; idles = refl; turns = refl; holds = refl; counts = refl }, record { own = refl; blocks = refl; acts = refl }, record { waits = refl; runs = refl; ends = refl }, refl)
 
 -- with a counter of one bit the counter makes a whole turn, and the first worker falls asleep beside a new job
@@ -92,10 +95,12 @@ abbrev whole_turn : List Event
 whole_turn = gos a 20 ++ gos b 10 ++ Spawn c 0 ∷ gos c 4 ++ Go b ∷ gos a 5
 
 turned_round : IfSome (run (Some (start (pools 2 1))) whole_turn) (λ w. PoolLine w 0 0 2 2 1 2 × WorkerLine w 0 0 0 false (Wakeup Terminate) × WorkerLine w 0 1 0 false (Probe Terminate) × JobLine w 1 0 0)
+unfolding is_job_that
 turned_round = (record { sleeps = refl; idles = refl; turns = refl; holds = refl; counts = refl }, record { own = refl; blocks = refl; acts = refl }, record { own = refl; blocks = refl; acts = refl }, record { waits = refl; runs = refl; ends = refl })
 
 -- with one of 32 bits it sees the difference
 turned_not : IfSome (run (Some (start (pools 2 32))) whole_turn) (λ w. PoolLine w 0 0 2 2 1 2 × WorkerLine w 0 0 0 false TakeCast × WorkerLine w 0 1 0 false (Probe Terminate) × JobLine w 1 0 0)
+unfolding is_job_that
 turned_not = (record { sleeps = refl; idles = refl; turns = refl; holds = refl; counts = refl }, record { own = refl; blocks = refl; acts = refl }, record { own = refl; blocks = refl; acts = refl }, record { waits = refl; runs = refl; ends = refl })
 
 -- an installed job joins two sides on one worker
@@ -106,6 +111,7 @@ abbrev until_first_ends : Ending → List Event
 until_first_ends e = until_join ++ gos a 5 ++ End a e ∷ gos a 3 ++ End a Fine ∷ Go a ∷ []
 
 joined_both : IfSome (run (Some (start (pools 1 32))) (until_first_ends Fine ++ End a Fine ∷ gos a 2 ++ gos c 3)) (λ w. PoolLine w 0 0 0 1 0 1 × WorkerLine w 0 0 0 false (Probe Terminate) × JobLine w 0 0 3 × ((w.stack c).top ≡ Free))
+unfolding is_job_that
 joined_both = (record { sleeps = refl; idles = refl; turns = refl; holds = refl; counts = refl }, record { own = refl; blocks = refl; acts = refl }, record { waits = refl; runs = refl; ends = refl }, refl)
 
 -- where the first side faults the second runs inside the wait, so the installed job cannot end yet
@@ -121,6 +127,7 @@ not_ended = refl
 
 -- a join whose push is refused: its two jobs are handed back, and the job that called runs on
 join_refused : IfSome (run (Some (start (pools 1 32))) (until_join ++ gos a 3 ++ Refuse a ∷ Go a ∷ [])) (λ w. PoolLine w 0 0 0 1 0 2 × WorkerLine w 0 0 0 false Idle × JobLine w 0 1 0 × (is_free (w.stack a).top ≡ true))
+unfolding is_job_that
 join_refused = (record { sleeps = refl; idles = refl; turns = refl; holds = refl; counts = refl }, record { own = refl; blocks = refl; acts = refl }, record { waits = refl; runs = refl; ends = refl }, refl)
 
 -- two injected jobs, the second beside a worker that is about to leave its search: the leaving worker wakes the sleeper
@@ -128,10 +135,12 @@ abbrev two_spawns : List Event
 two_spawns = gos a 25 ++ gos b 4 ++ Spawn c 0 ∷ Spawn (Caller 1) 0 ∷ gos c 2 ++ gos (Caller 1) 2 ++ gos c 2 ++ gos (Caller 1) 2
 
 leaving_wakes : IfSome (run (Some (start (pools 2 32))) (two_spawns ++ gos b 10)) (λ w. PoolLine w 0 0 1 1 1 3 × WorkerLine w 0 0 0 false (Lock 0 0) × WorkerLine w 0 1 0 false (Begin 0) × JobLine w 1 1 0)
+unfolding is_job_that
 leaving_wakes = (record { sleeps = refl; idles = refl; turns = refl; holds = refl; counts = refl }, record { own = refl; blocks = refl; acts = refl }, record { own = refl; blocks = refl; acts = refl }, record { waits = refl; runs = refl; ends = refl })
 
 -- before its last steps that worker has not woken it yet
 not_yet_woken : IfSome (run (Some (start (pools 2 32))) (two_spawns ++ gos b 7)) (λ w. PoolLine w 0 1 1 1 1 3 × WorkerLine w 0 0 0 true (Lock 0 0) × WorkerLine w 0 1 0 false (Lock 0 0) × JobLine w 1 1 0)
+unfolding is_job_that
 not_yet_woken = (record { sleeps = refl; idles = refl; turns = refl; holds = refl; counts = refl }, record { own = refl; blocks = refl; acts = refl }, record { own = refl; blocks = refl; acts = refl }, record { waits = refl; runs = refl; ends = refl })
 
 -- installs nested across two pools: each pool's worker waits for the other's
@@ -139,6 +148,7 @@ abbrev nested : List Event
 nested = Spawn c 0 ∷ gos c 4 ++ gos a 10 ++ Install a 1 ∷ gos a 5 ++ gos (Worker 1 0) 10 ++ Install (Worker 1 0) 0 ∷ gos (Worker 1 0) 5 ++ gos a 10
 
 across_pools : IfSome (run (Some (start (pools 1 32))) (nested ++ End a Fine ∷ gos a 2 ++ gos (Worker 1 0) 3 ++ End (Worker 1 0) Fine ∷ gos (Worker 1 0) 2 ++ gos a 3)) (λ w. PoolLine w 0 0 0 1 0 2 × WorkerLine w 0 0 0 false Idle × PoolLine w 1 0 0 1 0 1 × WorkerLine w 1 0 0 false (Probe Terminate) × JobLine w 0 1 2 × (is_free (w.stack a).top ≡ true))
+unfolding is_job_that
 across_pools = (record { sleeps = refl; idles = refl; turns = refl; holds = refl; counts = refl }, record { own = refl; blocks = refl; acts = refl }, record { sleeps = refl; idles = refl; turns = refl; holds = refl; counts = refl }, record { own = refl; blocks = refl; acts = refl }, record { waits = refl; runs = refl; ends = refl }, refl)
 
 -- the caller's own worker runs jobs only inside its calls
@@ -146,9 +156,11 @@ abbrev own_worker : Shape
 own_worker = record { pool = λ p. record { workers = 1; limit = 0; order = OldestFirst; callers_own = true }; callers = 16; jec_bits = 32 }
 
 own_spawns : IfSome (run (Some (start own_worker)) (Spawn a 0 ∷ gos a 4 ++ Spawn a 0 ∷ gos a 4)) (λ w. PoolLine w 0 0 0 1 0 3 × WorkerLine w 0 0 2 false Idle × JobLine w 2 0 0 × ((w.stack a).top ≡ Free))
+unfolding is_job_that
 own_spawns = (record { sleeps = refl; idles = refl; turns = refl; holds = refl; counts = refl }, record { own = refl; blocks = refl; acts = refl }, record { waits = refl; runs = refl; ends = refl }, refl)
 
 own_yields : IfSome (run (Some (start own_worker)) (Spawn a 0 ∷ gos a 4 ++ Spawn a 0 ∷ gos a 4 ++ YieldLocal a ∷ gos a 2 ++ End a Fine ∷ Go a ∷ [])) (λ w. PoolLine w 0 0 0 1 0 2 × WorkerLine w 0 0 1 false Idle × JobLine w 1 0 1 × ((w.stack a).top ≡ Free) × ((w.job 0).at ≡ Over Fine))
+unfolding is_job_that
 own_yields = (record { sleeps = refl; idles = refl; turns = refl; holds = refl; counts = refl }, record { own = refl; blocks = refl; acts = refl }, record { waits = refl; runs = refl; ends = refl }, refl, refl)
 
 no_end_when_free : run (Some (start own_worker)) (End a Fine ∷ []) ≡ None

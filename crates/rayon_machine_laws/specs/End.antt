@@ -4,7 +4,7 @@ use Rattle.rayon_machine_places.specs.declared.place.Party.{Party}
 use Rattle.rayon_machine_places.specs.declared.place.Ending.{Ending}
 use Rattle.rayon_machine_places.specs.declared.place.Ending.TheVariants.{Fine, Fault}
 use Rattle.rayon_machine_places.specs.declared.place.Plan.{Plan}
-use Rattle.rayon_machine_places.specs.declared.place.Plan.TheVariants.{Detach, Here, Send, Fork}
+use Rattle.rayon_machine_places.specs.declared.place.Plan.TheVariants.{Detach, Here, Send, Fork, Feed}
 use Rattle.rayon_machine_places.specs.declared.place.Then.{Then}
 use Rattle.rayon_machine_places.specs.declared.place.Then.TheVariants.{Answers, Missing, Ran, GiveBack}
 use Rattle.rayon_machine_places.specs.declared.place.Place.{Place}
@@ -48,7 +48,8 @@ IsVerdict w o FirstFault = SideEnded w (w.call o.number).first (Some Fault)
 IsVerdict w o LastFault = HasEnded w o.job Fault × SideFine w (w.call o.number).first
 IsVerdict w o AllFine = HasEnded w o.job Fine × SideFine w (w.call o.number).first
 
--- a call that waited: its job has run once and ended as the call found it in its cell, and so has its first side, if it is a join; the answer's fault is the one that comes first
+-- a call that waited: its job has run once and ended as the call found it in its cell, and so has its first side, if it
+-- is a join; the answer's fault is the one that comes first
 pub record CallEnds (w : World) (o : OpenCall) (first : Option Ending) (last : Ending) : Type 0 where
   pub own : (w.call o.number).job ≡ o.job
   pub job : HasEnded w o.job last
@@ -64,7 +65,8 @@ follows (WakeSettled s) = Some s.then
 follows (UnlockSettled s) = Some s.then
 follows _ = None
 
--- the last steps of a call that was not refused: of one that waited, and of an install that ran its job at once. A call that is about to take finds its cell filled, and no call answers that it took nothing
+-- the last steps of a call that was not refused: of one that waited, and of an install that ran its job at once. A call
+-- that is about to take finds its cell filled, and no call answers that it took nothing
 pub record IsEnd (w : World) : Type 0 where
   pub waited : (q : Party) (o : OpenCall) (first : Option Ending) (last : Ending) → follows (w.stack q).top ≡ Some (Answers o first last) → CallEnds w o first last
   pub once : (q : Party) (t : ℕ) (e : Ending) → follows (w.stack q).top ≡ Some (Ran t e) → HasEnded w t e
@@ -75,6 +77,7 @@ pub record IsEnd (w : World) : Type 0 where
 pub record IsUntouched (w : World) (t : ℕ) : Type 0 where
   pub runs : (w.job t).runs ≡ 0
   pub deque : (p i : ℕ) → times t (w.seat p i).own ≡ 0
+  pub fifo : (p i : ℕ) → times t (w.seat p i).fifo ≡ 0
   pub cast : (p i : ℕ) → times t ((w.pool p).casts i) ≡ 0
   pub injector : (p : ℕ) → times t (w.pool p).injector ≡ 0
 
@@ -84,8 +87,10 @@ AllJobs P (Detach p t) = P t
 AllJobs P (Here p t) = P t
 AllJobs P (Send o) = P o.job
 AllJobs P (Fork o a) = P a × P o.job
+AllJobs P (Feed f) = P f.job × P f.token
 
--- a refused call: until its last step its jobs stand in no list and have never run, and once they are handed back that stays so
+-- a refused call: until its last step its jobs stand in no list and have never run, and once they are handed back that
+-- stays so
 pub record IsRefused (w : World) : Type 0 where
   pub going : (q : Party) (n : Plan) → follows (w.stack q).top ≡ Some (GiveBack n) → AllJobs (IsUntouched w) n
   pub gone : (t : ℕ) → (w.job t).at ≡ HandedBack → IsUntouched w t
@@ -98,7 +103,8 @@ after_settling (WakeSettled s) = Some s.then
 after_settling (UnlockSettled s) = Some s.then
 after_settling _ = None
 
--- the share that a refused call took is given back: no job of it has a share of the terminate count from the act after its Lower to its last step, nor ever once it is handed back
+-- the share that a refused call took is given back: no job of it has a share of the terminate count from the act after
+-- its Lower to its last step, nor ever once it is handed back
 pub record IsReturned (w : World) : Type 0 where
   pub going : (q : Party) (n : Plan) → after_settling (w.stack q).top ≡ Some (GiveBack n) → AllJobs (λ t. (w.job t).counted ≡ false) n
   pub gone : (t : ℕ) → (w.job t).at ≡ HandedBack → (w.job t).counted ≡ false

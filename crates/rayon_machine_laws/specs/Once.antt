@@ -1,16 +1,18 @@
--- each job runs at most once, and stands exactly once where its record says
+-- each job runs at most once, and stands exactly once where its record says, and so does each token
 use Rattle.std.specs.Prelude.{ℕ, Bool, true, false, ◌&&◌, ◌+◌, ◌==◌, ◌≤◌, ◌<◌, Option, Some, None, List, [], ◌∷◌, ◌≡◌}
 use Rattle.rayon_machine_places.specs.declared.place.Party.{Party}
 use Rattle.rayon_machine_places.specs.declared.place.Ending.{Ending}
 use Rattle.rayon_machine_places.specs.declared.place.Plan.{Plan}
-use Rattle.rayon_machine_places.specs.declared.place.Plan.TheVariants.{Detach, Here, Send, Fork}
+use Rattle.rayon_machine_places.specs.declared.place.Plan.TheVariants.{Detach, Here, Send, Fork, Feed}
+use Rattle.rayon_machine_places.specs.declared.place.Taken.{Taken}
 use Rattle.rayon_machine_places.specs.declared.place.Then.{Then}
 use Rattle.rayon_machine_places.specs.declared.place.Then.TheVariants.{BeginFound, RunFirst, GiveBack}
 use Rattle.rayon_machine_places.specs.declared.place.Place.{Place}
-use Rattle.rayon_machine_places.specs.declared.place.Place.TheVariants.{LeaveSearch, BeginTask, BeginHere, Run, RaiseCount, GrowCall, LookQueue, PushJob, TellNews, LockToWake, WakeWorker, UnlockWoken, LowerCount, SetLatch, LockToSettle, WakeSettled, UnlockSettled}
+use Rattle.rayon_machine_places.specs.declared.place.Place.TheVariants.{LeaveSearch, BeginTask, BeginHere, Run, RaiseCount, GrowCall, LookQueue, PushJob, AddToFifo, LookForToken, PushToken, TakeFromFifo, TellNews, LockToWake, WakeWorker, UnlockWoken, LowerCount, SetLatch, LockToSettle, WakeSettled, UnlockSettled}
 use Rattle.rayon_machine_places.specs.declared.state.Whereabouts.{Whereabouts}
-use Rattle.rayon_machine_places.specs.declared.state.Whereabouts.TheVariants.{Nowhere, Made, InDeque, Injected, Running, Over}
-use Rattle.rayon_machine_places.specs.Places.{same_party}
+use Rattle.rayon_machine_places.specs.declared.state.Whereabouts.TheVariants.{Nowhere, Made, InDeque, Injected, InFifo, Retaken, Running, Over}
+use Rattle.rayon_machine_places.specs.declared.act.Act.TheVariants.{FifoOut}
+use Rattle.rayon_machine_places.specs.Places.{same_party, taken_number, act_of, own_pool}
 use Rattle.rayon_machine_places.specs.World.{Stack, World}
 
 -- 1 where the test holds, else 0
@@ -33,6 +35,11 @@ abbrev pub in_injector : ℕ → Whereabouts → Bool
 in_injector p (Injected q) = p == q
 in_injector p _ = false
 
+-- a job's record says that it is in this worker's FIFO list
+abbrev pub in_fifo : ℕ → ℕ → Whereabouts → Bool
+in_fifo p i (InFifo q j) = (p == q) && (i == j)
+in_fifo p i _ = false
+
 -- a job's record says that this party has taken it or runs it
 abbrev pub runs_with : Party → Whereabouts → Bool
 runs_with q (Running r) = same_party q r
@@ -41,6 +48,7 @@ runs_with q _ = false
 -- a job's record says that this party has it: its call has made it, or it has taken it or runs it
 abbrev pub is_with : Party → Whereabouts → Bool
 is_with q (Made r) = same_party q r
+is_with q (Retaken r) = same_party q r
 is_with q (Running r) = same_party q r
 is_with q _ = false
 
@@ -75,33 +83,39 @@ hand_plan t (Detach p j) = one (t == j)
 hand_plan t (Here p j) = one (t == j)
 hand_plan t (Send o) = one (t == o.job)
 hand_plan t (Fork o a) = one (t == a) + one (t == o.job)
+hand_plan t (Feed f) = one (t == f.job) + one (t == f.token)
 
--- after the push a join still has its first side in hand
+-- after the push a join still has its first side in hand, and a call for a FIFO list its token
 abbrev pub hand_rest : ℕ → Plan → ℕ
 hand_rest t (Fork o a) = one (t == a)
+hand_rest t (Feed f) = one (t == f.token)
 hand_rest t _ = 0
 
 -- what follows keeps a found task, a first side, or the jobs of a refused call
 abbrev pub hand_then : ℕ → Then → ℕ
-hand_then t (BeginFound g u) = one (t == u)
+hand_then t (BeginFound g x) = one (t == taken_number x)
 hand_then t (RunFirst o a) = one (t == a)
 hand_then t (GiveBack n) = hand_plan t n
 hand_then t _ = 0
 
 -- a task that a search has found
-abbrev pub hand_found : ℕ → Option ℕ → ℕ
+abbrev pub hand_found : ℕ → Option Taken → ℕ
 hand_found t None = 0
-hand_found t (Some u) = one (t == u)
+hand_found t (Some x) = one (t == taken_number x)
 
 -- how often a place has job t in hand: made by its call, or taken from a list, and neither queued nor begun since
 abbrev pub hand : ℕ → Place → ℕ
 hand t (LeaveSearch w) = hand_found t w.found
-hand t (BeginTask u) = one (t == u)
+hand t (BeginTask x) = one (t == taken_number x)
 hand t (BeginHere u) = one (t == u)
 hand t (RaiseCount n) = hand_plan t n
 hand t (GrowCall n) = hand_plan t n
 hand t (LookQueue n) = hand_plan t n
 hand t (PushJob n e) = hand_plan t n
+hand t (AddToFifo f) = one (t == f.job) + one (t == f.token)
+hand t (LookForToken f) = one (t == f.token)
+hand t (PushToken f e) = one (t == f.token)
+hand t (TakeFromFifo f) = one (t == f.token)
 hand t (TellNews n e) = hand_rest t n
 hand t (LockToWake k) = hand_then t k.then
 hand t (WakeWorker k) = hand_then t k.then
@@ -122,10 +136,10 @@ held_in t (f ∷ fs) = hand t f + held_in t fs
 abbrev pub held : ℕ → Stack → ℕ
 held t k = hand t k.top + held_in t k.below
 
--- each number that is given out is a job that is somewhere, and no other is. Its run begins at most once: a job that is
--- over has run once, and one that was made, queued or handed back has not begun. A job stands in a deque, in an
--- injector, in hand or under a run once where its record says, and nowhere else: in hand while its run has not begun,
--- under the run from then on
+-- each number that is given out is a job or a token that is somewhere, and no other is. A job's run begins at most
+-- once: a job that is over has run once, and one that was made, queued or handed back has not begun. A job stands in a
+-- deque, in an injector, in a FIFO list, in hand or under a run once where its record says, and nowhere else: in hand
+-- while its run has not begun, under the run from then on
 pub record IsOnce (w : World) : Type 0 where
   pub known : (t : ℕ) → t < w.jobs → is_known (w.job t).at ≡ true
   pub unknown : (t : ℕ) → w.jobs ≤ t → (w.job t).at ≡ Nowhere
@@ -134,6 +148,11 @@ pub record IsOnce (w : World) : Type 0 where
   pub unbegun : (t : ℕ) → may_begin (w.job t).at ≡ false → (w.job t).runs ≡ 0
   pub deque : (p i t : ℕ) → times t (w.seat p i).own ≡ one (in_deque p i (w.job t).at)
   pub injector : (p t : ℕ) → times t (w.pool p).injector ≡ one (in_injector p (w.job t).at)
+  pub fifo : (p i t : ℕ) → times t (w.seat p i).fifo ≡ one (in_fifo p i (w.job t).at)
   pub cast : (p i t : ℕ) → times t ((w.pool p).casts i) ≡ 0
   pub hand : (q : Party) (t : ℕ) → held t (w.stack q) ≡ one (is_with q (w.job t).at && ((w.job t).runs == 0))
   pub running : (q : Party) (t : ℕ) → worked t (w.stack q) ≡ one (runs_with q (w.job t).at && ((w.job t).runs == 1))
+
+-- no party that is to redeem a token finds the FIFO list of the token's worker empty
+abbrev pub IsRedeemed : World → Type 0
+IsRedeemed w = (q : Party) (token worker : ℕ) → act_of q (w.stack q).top ≡ FifoOut token worker → (w.seat (own_pool q) worker).fifo ≡ [] → ⊥

@@ -11,10 +11,10 @@ use Rattle.rayon_machine_places.specs.declared.place.Share.TheVariants.{PoolValu
 use Rattle.rayon_machine_places.specs.declared.place.Then.{Then}
 use Rattle.rayon_machine_places.specs.declared.place.Then.TheVariants.{BeginFound, LeaveWait, Await, RunFirst}
 use Rattle.rayon_machine_places.specs.declared.place.Place.{Place}
-use Rattle.rayon_machine_places.specs.declared.place.Place.TheVariants.{ProbeWorking, PopWorking, TakeCastWorking, BecomeInactive, ProbeIdle, PopIdle, TakeCastIdle, PickVictim, StealFrom, PopInjected, AnnounceSelf, GetSleepy, LockOwn, FallAsleep, LoadCounters, AddSleeping, LookAtCast, LookAtInjector, BlockSelf, RelockOwn, UndoSleeping, WakeUp, UnlockOwn, LeaveSearch, JoinProbe, JoinPop, JoinTakeCast, GrowCall, LookQueue, PushJob, TellNews, LockToWake, WakeWorker, UnlockWoken, WaitForLock, TakeResult, LowerCount, SetLatch, LockToSettle, WakeSettled, UnlockSettled, FirstSide, SecondSide, AtOnce}
+use Rattle.rayon_machine_places.specs.declared.place.Place.TheVariants.{ProbeWorking, PopWorking, TakeCastWorking, BecomeInactive, ProbeIdle, PopIdle, TakeCastIdle, PickVictim, StealFrom, PopInjected, AnnounceSelf, GetSleepy, LockOwn, FallAsleep, LoadCounters, AddSleeping, LookAtCast, LookAtInjector, BlockSelf, RelockOwn, UndoSleeping, WakeUp, UnlockOwn, LeaveSearch, JoinProbe, JoinPop, JoinTakeCast, GrowCall, LookQueue, PushJob, AddToFifo, TellNews, LockToWake, WakeWorker, UnlockWoken, WaitForLock, TakeResult, LowerCount, SetLatch, LockToSettle, WakeSettled, UnlockSettled, FirstSide, SecondSide, AtOnce}
 use Rattle.rayon_machine_places.specs.declared.state.Letter.TheVariants.{Set as IsSet}
 use Rattle.rayon_machine_places.specs.declared.state.Whereabouts.{Whereabouts}
-use Rattle.rayon_machine_places.specs.declared.state.Whereabouts.TheVariants.{InDeque, Injected, Running}
+use Rattle.rayon_machine_places.specs.declared.state.Whereabouts.TheVariants.{InDeque, Injected, InFifo, Running}
 use Rattle.rayon_machine_places.specs.Places.{plan_job}
 use Rattle.rayon_machine_places.specs.World.{Stack, World}
 use Rattle.rayon_machine_laws.specs.Once.{one}
@@ -80,6 +80,7 @@ share t (TakeResult o f) = one (t == o.job)
 share t (GrowCall n) = one (t == plan_job n)
 share t (LookQueue n) = one (t == plan_job n)
 share t (PushJob n e) = one (t == plan_job n)
+share t (AddToFifo f) = one (t == f.job)
 share t (TellNews n e) = share_rest t n
 share t (LockToWake k) = share_then t k.then
 share t (WakeWorker k) = share_then t k.then
@@ -104,10 +105,12 @@ shares t k = share t k.top + shares_in t k.below
 abbrev pub is_busy : Whereabouts → Bool
 is_busy (InDeque p i) = true
 is_busy (Injected p) = true
+is_busy (InFifo p i) = true
 is_busy (Running q) = true
 is_busy _ = false
 
--- a pool that has ended: its value is given up, and so is the value's share of the count; no call made at the pool keeps a share, and no detached job of it is queued or running
+-- a pool that has ended: its value is given up, and so is the value's share of the count; no call made at the pool
+-- keeps a share, and no detached job of it is queued, in a FIFO list or running
 pub record IsGone (w : World) (p : ℕ) : Type 0 where
   pub held : (w.pool p).held ≡ false
   pub counted : (w.pool p).counted ≡ false

@@ -7,21 +7,21 @@ use Rattle.rayon_machine_places.specs.declared.place.Party.TheVariants.{Worker, 
 use Rattle.rayon_machine_places.specs.declared.place.Ending.{Ending}
 use Rattle.rayon_machine_places.specs.declared.place.Latch.{Latch}
 use Rattle.rayon_machine_places.specs.declared.place.Latch.TheVariants.{Terminate, OfCall}
-use Rattle.rayon_machine_places.specs.declared.place.Plan.TheVariants.{Detach, Here, Send, Fork}
+use Rattle.rayon_machine_places.specs.declared.place.Plan.TheVariants.{Detach, Here, Send, Fork, Feed}
 use Rattle.rayon_machine_places.specs.declared.place.Place.{Place}
 use Rattle.rayon_machine_places.specs.declared.place.Place.TheVariants.{ProbeWorking, PickVictim, StealFrom, YieldPop, YieldPick, YieldSteal, LocalPop, Run, SetLatch}
 use Rattle.rayon_machine_places.specs.declared.place.Move.{Move}
-use Rattle.rayon_machine_places.specs.declared.place.Move.TheVariants.{Stay, Enter, StartRun, Back, HandBack}
+use Rattle.rayon_machine_places.specs.declared.place.Move.TheVariants.{Stay, Enter, StartRun, Back, HandBack, Discard, HandIn}
 use Rattle.rayon_machine_places.specs.declared.act.Act.TheVariants.{Set}
 use Rattle.rayon_machine_places.specs.declared.event.Event.{Event}
-use Rattle.rayon_machine_places.specs.declared.event.Event.TheVariants.{Go, From, Refuse, Miss, End, Spawn, Install, Join, Yield, YieldLocal, EndPool}
-use Rattle.rayon_machine_places.specs.declared.state.Whereabouts.TheVariants.{HandedBack, Over}
+use Rattle.rayon_machine_places.specs.declared.event.Event.TheVariants.{Go, From, Refuse, Miss, End, Spawn, Fifo, Install, Join, Yield, YieldLocal, EndPool}
+use Rattle.rayon_machine_places.specs.declared.state.Whereabouts.TheVariants.{HandedBack, Spent, Over}
 use Rattle.rayon_machine_places.specs.declared.state.Job.{Job}
 use Rattle.rayon_machine_places.specs.Places.{act_of, is_free, is_member}
 use Rattle.rayon_machine_places.specs.World.{Shape, Stack, World, Counts, Part, at_job, begun, effect, target_pool, target_worker, target_call}
 use Rattle.rayon_machine_places.specs.Steps.{put, jobs_after, after_choice, after_miss, after_end, after_send, after_join, after_yield, step}
 use Rattle.rayon_machine_laws.proofs.Calm.{part_at, counts_seen, next_at}
-use Rattle.rayon_machine_laws.proofs.Frame.{if_some_map, if_cond, acted_keeps}
+use Rattle.rayon_machine_laws.proofs.Frame.{if_some_map, if_cond, acted_keeps, fifo_cases}
 use Rattle.rayon_machine_laws.proofs.Located.{fits}
 use Rattle.rayon_machine_laws.proofs.PlacedRuns.{JobsHold}
 use Rattle.rayon_machine_laws.proofs.Ties.{job_at, outcome, result}
@@ -47,22 +47,25 @@ put_runs f u j l t = at (t == u) refl
     at true e = let k : (f t).runs ≡ (f u).runs = ap (λ n. (f n).runs) (eqb-true t u e) in omega (arith, k, l)
     at false e = omega arith
 
+two_back : (f : ℕ → Job) (u v t : ℕ) → (f t).runs ≤ (put (put f u (at_job (f u) HandedBack)) v (at_job (f v) HandedBack) t).runs
+two_back f u v t = second (t == v) refl
+  where
+    second : (b : Bool) → (t == v) ≡ b → (f t).runs ≤ (if b then at_job (f v) HandedBack else put f u (at_job (f u) HandedBack) t).runs
+    second true e = let k : (f t).runs ≡ (f v).runs = ap (λ n. (f n).runs) (eqb-true t v e) in omega (arith, k)
+    second false e = put_runs f u (at_job (f u) HandedBack) (omega arith) t
+
 after_runs : (q : Party) (g : Move) (f : ℕ → Job) (t : ℕ) → (f t).runs ≤ (jobs_after q g f t).runs
 after_runs q (Stay y) f t = omega arith
+after_runs q (HandIn y k) f t = put_runs f k (at_job (f k) Spent) (omega arith) t
+after_runs q (Discard k) f t = put_runs f k (at_job (f k) Spent) (omega arith) t
+after_runs q (HandBack (Feed d)) f t = two_back f d.job d.token t
 after_runs q (Enter x y) f t = omega arith
 after_runs q Back f t = omega arith
 after_runs q (StartRun x u) f t = put_runs f u (begun q (f u)) (omega arith) t
 after_runs q (HandBack (Detach p u)) f t = put_runs f u (at_job (f u) HandedBack) (omega arith) t
 after_runs q (HandBack (Here p u)) f t = put_runs f u (at_job (f u) HandedBack) (omega arith) t
 after_runs q (HandBack (Send o)) f t = put_runs f o.job (at_job (f o.job) HandedBack) (omega arith) t
-after_runs q (HandBack (Fork o u)) f t =
-    let a : (f t).runs ≤ (put f u (at_job (f u) HandedBack) t).runs = put_runs f u (at_job (f u) HandedBack) (omega arith) t in
-    let b : (f o.job).runs ≤ (put f u (at_job (f u) HandedBack) o.job).runs = put_runs f u (at_job (f u) HandedBack) (omega arith) o.job in
-    second a (t == o.job) refl
-  where
-    second : (f t).runs ≤ (put f u (at_job (f u) HandedBack) t).runs → (b : Bool) → (t == o.job) ≡ b → (f t).runs ≤ (if b then at_job (f o.job) HandedBack else put f u (at_job (f u) HandedBack) t).runs
-    second a true e = let k : (f t).runs ≡ (f o.job).runs = ap (λ n. (f n).runs) (eqb-true t o.job e) in omega (arith, k)
-    second a false e = a
+after_runs q (HandBack (Fork o u)) f t = two_back f u o.job t
 
 go_runs : (w : World) (q : Party) → IfSome (outcome w q (w.stack q)) (λ r. BeginsOn w (result w q (w.stack q) r))
 go_runs w q =
@@ -120,6 +123,7 @@ step_runs w (Refuse q) h = if_cond (BeginsOn w) _ _ (λ b t. omega arith)
 step_runs w (Miss q) h = miss_runs w q (w.stack q) (w.stack q).top
 step_runs w (End q d) h = end_runs w q d (w.stack q) (w.stack q).top
 step_runs w (Spawn q p) h = if_cond (BeginsOn w) _ _ (λ b t. make_runs w h w.jobs _ (omega arith) t)
+step_runs w (Fifo q p) h = fifo_cases (BeginsOn w) w q p (if_cond (BeginsOn w) _ _ (λ b t. make_runs w h w.jobs _ (omega arith) t)) (λ i free t. two_runs w h _ _ t)
 step_runs w (Install q p) h = if_cond (BeginsOn w) _ _ (λ b. sent_runs w q p (is_member q p) h)
 step_runs w (Join q) h = join_runs w q h
 step_runs w (Yield q) h = yield_runs w q YieldPop

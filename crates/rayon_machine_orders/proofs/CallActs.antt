@@ -1,18 +1,19 @@
 -- what one step does to a call's place, and what it keeps of the call's jobs
-use Rattle.std.proofs.Common.{rules, arith, refl, sym, ◌∙◌, ap, subst}
-use Rattle.std.specs.Prelude.{ℕ, Bool, true, false, ◌||◌, ◌+◌, ◌==◌, ◌≤◌, nat_lt, if◌then◌else◌, Option, Some, None, List, ◌≡◌, IfSome, ⊤}
+use Rattle.std.proofs.Common.{rules, arith, refl, sym, ◌∙◌, ap, subst, inl, inr}
+use Rattle.std.proofs.lemmas.Bool.{eqb-true, eq-eqb}
+use Rattle.std.specs.Prelude.{ℕ, Bool, true, false, ◌||◌, ◌+◌, ◌==◌, ◌≤◌, nat_lt, if◌then◌else◌, Option, Some, None, List, ◌≡◌, IfSome, ⊤, ◌⊎◌}
 use Rattle.rayon_machine_places.specs.declared.place.Party.{Party}
 use Rattle.rayon_machine_places.specs.declared.place.Party.TheVariants.{Worker, Caller}
 use Rattle.rayon_machine_places.specs.declared.place.Ending.{Ending}
 use Rattle.rayon_machine_places.specs.declared.place.Plan.{Plan}
-use Rattle.rayon_machine_places.specs.declared.place.Plan.TheVariants.{Detach, Here, Send, Fork}
+use Rattle.rayon_machine_places.specs.declared.place.Plan.TheVariants.{Detach, Here, Send, Fork, Feed}
 use Rattle.rayon_machine_places.specs.declared.place.Share.{Share}
 use Rattle.rayon_machine_places.specs.declared.place.Share.TheVariants.{OfJob}
 use Rattle.rayon_machine_places.specs.declared.place.Then.{Then}
 use Rattle.rayon_machine_places.specs.declared.place.Then.TheVariants.{BeginFound, LeaveWait, Resume, Await, RunFirst, Answers, Missing, Ran, GiveBack}
 use Rattle.rayon_machine_places.specs.declared.place.Latch.TheVariants.{Terminate}
 use Rattle.rayon_machine_places.specs.declared.place.Place.{Place}
-use Rattle.rayon_machine_places.specs.declared.place.Place.TheVariants.{RaiseCount, GrowCall, PushJob, TakeResult, LowerCount, SetLatch}
+use Rattle.rayon_machine_places.specs.declared.place.Place.TheVariants.{RaiseCount, GrowCall, PushJob, TakeResult, LowerCount, SetLatch, AddToFifo, BeginTask, PushToken, TakeFromFifo}
 use Rattle.rayon_machine_places.specs.declared.place.Move.{Move}
 use Rattle.rayon_machine_places.specs.declared.place.Move.TheVariants.{Stay, Back}
 use Rattle.rayon_machine_places.specs.declared.act.Act.{Act}
@@ -21,30 +22,48 @@ use Rattle.rayon_machine_places.specs.declared.act.Seen.{Seen}
 use Rattle.rayon_machine_places.specs.declared.act.Seen.TheVariants.{Done, Refused, Yes, No}
 use Rattle.rayon_machine_places.specs.declared.shape.PoolShape.{PoolShape}
 use Rattle.rayon_machine_places.specs.declared.state.Whereabouts.{Whereabouts}
-use Rattle.rayon_machine_places.specs.declared.state.Whereabouts.TheVariants.{InDeque, Injected}
+use Rattle.rayon_machine_places.specs.declared.state.Whereabouts.TheVariants.{InDeque, Injected, InFifo, Spent}
 use Rattle.rayon_machine_places.specs.declared.place.OpenCall.{OpenCall}
 use Rattle.rayon_machine_places.specs.declared.state.Job.{Job}
 use Rattle.rayon_machine_places.specs.Places.{own_pool, own_index, is_member, plan_pool, plan_job, finish, settle, act_of, next_of}
-use Rattle.rayon_machine_places.specs.World.{World, Part as Piece, target_pool, target_worker, target_call, counts_at, at_job, found, effect}
+use Rattle.rayon_machine_places.specs.World.{World, Part as Piece, target_pool, target_worker, target_call, counts_at, at_job, found, effect, but_last, fifo_back, is_open, last_of, or_none}
 use Rattle.rayon_machine_places.specs.Steps.{put, part_of, jobs_after, after}
 use Rattle.rayon_machine_places.specs.Readers.{is_queued, is_running, is_done}
 use Rattle.rayon_machine_orders.specs.Calls.{is_raise_refused}
-use Rattle.rayon_machine_laws.proofs.Frame.{if_some_all, put_new}
+use Rattle.rayon_machine_laws.proofs.Frame.{if_some_all, put_new, either, if_cond, put_old}
 use Rattle.rayon_machine_laws.proofs.Ties.{job_at, outcome}
 use Rattle.rayon_machine_laws.proofs.Claims.{Says}
 use Rattle.rayon_machine_laws.proofs.ClaimRuns.{place_part, world_after}
 use Rattle.rayon_machine_laws.proofs.ShareLowers.{lowered_world}
-use Rattle.rayon_machine_orders.proofs.CallPlaces.{Stage, Going, Gone, Paid, Undone, is_undone, Part, PartOwed, Known, Leads, raised_leads, lower_leads, is_decisive, part_leads, open_job, here_job}
+use Rattle.rayon_machine_orders.proofs.CallPlaces.{Stage, Going, Gone, Paid, Undone, is_undone, Part, PartOwed, Known, Leads, raised_leads, lower_leads, is_decisive, part_leads, open_job, here_job, is_sent, told, Added, Withdrawing}
+use Rattle.rayon_machine_laws.proofs.Feeders.{FeedersHold, feeds_now, waits}
+use Rattle.rayon_machine_places.specs.declared.place.Feeding.{Feeding}
+use Rattle.rayon_machine_laws.proofs.PlacedRuns.{JobsHold, once}
+use Rattle.rayon_machine_places.specs.declared.place.Taken.TheVariants.{Plain, Token}
+use Rattle.rayon_machine_laws.specs.Once.{in_fifo, times, one}
+use Rattle.rayon_machine_laws.proofs.Located.{is_left}
+use Rattle.rayon_machine_laws.proofs.Lists.{times_drop}
+
+-- a job is queued, in a hand, running or over
+abbrev pub HandedOn : Job → Type 0
+HandedOn j = (is_queued j.at || (is_running j.at || is_done j.at)) ≡ true
+
+-- a token is, or was given for a job
+abbrev pub TokenOn : Job → Type 0
+TokenOn j = (is_left j.at ≡ true) × (HandedOn j ⊎ (j.at ≡ Spent))
 
 -- what is known of a spawned job once it is queued
 abbrev pub Queued : (ℕ → Job) → Plan → Type 0
-Queued f (Detach p t) = (is_queued (f t).at || (is_running (f t).at || is_done (f t).at)) ≡ true
+Queued f (Detach p t) = (is_left (f t).at ≡ true) × HandedOn (f t)
+Queued f (Feed d) = HandedOn (f d.job) × TokenOn (f d.token) × (d.token ≡ d.job + 1)
 Queued f _ = ⊤
 
 -- what is known of a plan's job by how far its call has come
 abbrev pub Sofar : World → Stage → Plan → Type 0
 Sofar w Going n = ⊤
 Sofar w Undone n = ⊤
+Sofar w Added n = ⊤
+Sofar w Withdrawing n = ⊤
 Sofar w Gone n = Queued w.job n
 Sofar w Paid n = (plan_job n + 1 ≤ w.jobs) × ((is_done (w.job (plan_job n)).at ≡ true) × ((w.job (plan_job n)).counted ≡ false))
 
@@ -63,6 +82,11 @@ not_raised : (w : World) (q : Party) (x : Place) → is_decisive x ≡ false →
 not_raised w q (RaiseCount m) d = absurd (let a : true ≡ false = d in cc)
 not_raised w q (GrowCall m) d = absurd (let a : true ≡ false = d in cc)
 not_raised w q (PushJob m e) d = absurd (let a : true ≡ false = d in cc)
+not_raised w q (AddToFifo f) d = absurd (let a : true ≡ false = d in cc)
+not_raised w q (PushToken f e) d = absurd (let a : true ≡ false = d in cc)
+not_raised w q (TakeFromFifo f) d = absurd (let a : true ≡ false = d in cc)
+not_raised w q (BeginTask (Plain t)) d = search (rules, arith)
+not_raised w q (BeginTask (Token k i)) d = search (rules, arith)
 not_raised w q (TakeResult o f) d = absurd (let a : true ≡ false = d in cc)
 not_raised w q (LowerCount p h t) d = absurd (let a : true ≡ false = d in cc)
 not_raised w (Worker i j) x d = search (rules, arith)
@@ -81,15 +105,74 @@ raise_goes w q n s m fs h y true e = record { stage = Undone; leads = (y.0, refl
 raise_goes w q n s m fs h y false e = record { stage = s; leads = raised_leads w n s m y; sofar = λ z. z; flag = or_false (is_undone s) ∙ ap (λ v. is_undone s || v) (sym e) }
 
 -- a spawn's job is queued by its push
-queued_now : (f g : ℕ → Job) (n m : Plan) (a : Whereabouts) → m ≡ n → (is_queued a || (is_running a || is_done a)) ≡ true → g (plan_job m) ≡ at_job (f (plan_job m)) a → Queued g n
-queued_now f g n (Detach p t) a e z i = subst (λ v. Queued g v) e (ap (λ j. is_queued j.at || (is_running j.at || is_done j.at)) i ∙ z)
-queued_now f g n (Here p t) a e z i = subst (λ v. Queued g v) e tt
-queued_now f g n (Send o) a e z i = subst (λ v. Queued g v) e tt
-queued_now f g n (Fork o b) a e z i = subst (λ v. Queued g v) e tt
+queued_now : (f g : ℕ → Job) (n m : Plan) (a : Whereabouts) → m ≡ n → is_sent m ≡ true → is_left a ≡ true → (is_queued a || (is_running a || is_done a)) ≡ true → g (plan_job m) ≡ at_job (f (plan_job m)) a → Queued g n
+queued_now f g n (Detach p t) a e s l z i = subst (λ v. Queued g v) e (ap (λ j. is_left j.at) i ∙ l, ap (λ j. is_queued j.at || (is_running j.at || is_done j.at)) i ∙ z)
+queued_now f g n (Here p t) a e s l z i = subst (λ v. Queued g v) e tt
+queued_now f g n (Feed d) a e s l z i = absurd (let b : false ≡ true = s in cc)
+queued_now f g n (Send o) a e s l z i = subst (λ v. Queued g v) e tt
+queued_now f g n (Fork o b) a e s l z i = subst (λ v. Queued g v) e tt
+
+sent_told : (n m : Plan) → m ≡ n → is_sent m ≡ true → n ≡ told n
+sent_told (Detach p t) m e s = refl
+sent_told (Here p t) m e s = refl
+sent_told (Send o) m e s = refl
+sent_told (Fork o a) m e s = refl
+sent_told (Feed f) m e s = absurd (let a : is_sent m ≡ false = ap is_sent e in let b : true ≡ false = sym s ∙ a in cc)
 
 push_goes : (w : World) (q : Party) (n : Plan) (s : Stage) (m : Plan) (v : Bool) (fs : List Place) → Part n s (PushJob m v) → (b : Bool) → (λ (a : Act). IfSome (effect a w.shape q (counts_at w (target_pool q a)) (part_of w (target_pool q a) (target_worker q a) (target_call a) (job_at w q a))) (λ r. Went w (after w q (record { top = PushJob m v; below = fs }) (target_pool q a) (target_worker q a) (target_call a) (job_at w q a) r) n s (is_raise_refused w a) (next_of (w.shape.pool (target_pool q a)) q (PushJob m v) (r.0)))) (if b then PushOwn (plan_job m) else PushInj (plan_pool m) (plan_job m))
-push_goes w q n s m v fs y true = record { stage = Gone; leads = (y.0, refl, y.2); sofar = λ z. queued_now w.job (put w.job (plan_job m) (at_job (w.job (plan_job m)) (InDeque (own_pool q) (own_index q)))) n m (InDeque (own_pool q) (own_index q)) (y.0) refl (put_new w.job (plan_job m) (at_job (w.job (plan_job m)) (InDeque (own_pool q) (own_index q)))); flag = ap is_undone (sym (y.1)) ∙ or_false (is_undone s) }
-push_goes w q n s m v fs y false = record { stage = Gone; leads = (y.0, refl, y.2); sofar = λ z. queued_now w.job (put w.job (plan_job m) (at_job (w.job (plan_job m)) (Injected (plan_pool m)))) n m (Injected (plan_pool m)) (y.0) refl (put_new w.job (plan_job m) (at_job (w.job (plan_job m)) (Injected (plan_pool m)))); flag = ap is_undone (sym (y.1)) ∙ or_false (is_undone s) }
+push_goes w q n s m v fs y true = record { stage = Gone; leads = (y.0 ∙ sent_told n m (y.0) (y.2), refl, y.2); sofar = λ z. queued_now w.job (put w.job (plan_job m) (at_job (w.job (plan_job m)) (InDeque (own_pool q) (own_index q)))) n m (InDeque (own_pool q) (own_index q)) (y.0) (y.2) refl refl (put_new w.job (plan_job m) (at_job (w.job (plan_job m)) (InDeque (own_pool q) (own_index q)))); flag = ap is_undone (sym (y.1)) ∙ or_false (is_undone s) }
+push_goes w q n s m v fs y false = record { stage = Gone; leads = (y.0 ∙ sent_told n m (y.0) (y.2), refl, y.2); sofar = λ z. queued_now w.job (put w.job (plan_job m) (at_job (w.job (plan_job m)) (Injected (plan_pool m)))) n m (Injected (plan_pool m)) (y.0) (y.2) refl refl (put_new w.job (plan_job m) (at_job (w.job (plan_job m)) (Injected (plan_pool m)))); flag = ap is_undone (sym (y.1)) ∙ or_false (is_undone s) }
+
+-- the acts of a call for a FIFO list
+add_goes : (w : World) (a b : ℕ) (n : Plan) (s : Stage) (f : Feeding) (fs : List Place) → Part n s (AddToFifo f) → Goes w (Worker a b) n s (AddToFifo f) fs
+add_goes w a b n s f fs y = if_cond (λ r. Went w (world_after w (Worker a b) (AddToFifo f) fs r) n s false (next_of (w.shape.pool a) (Worker a b) (AddToFifo f) (r.0))) (is_open (Worker a b) ((w.seat a b).feeder)) _ (λ o. record { stage = Added; leads = (y.0, refl); sofar = λ z. tt; flag = ap is_undone (sym (y.1)) ∙ or_false (is_undone s) })
+
+-- its job stands in the list, and its token in the deque
+token_goes : (w : World) (a b : ℕ) (n : Plan) (s : Stage) (f : Feeding) (v : Bool) (fs : List Place) → w.stack (Worker a b) ≡ record { top = PushToken f v; below = fs } → FeedersHold w → JobsHold w → Part n s (PushToken f v) → Goes w (Worker a b) n s (PushToken f v) fs
+token_goes w a b n s f v fs z fe h y = record { stage = Gone; leads = (ap told (sym (y.0)), refl, refl); sofar = λ k. subst (λ m. Queued J m) (sym (y.0)) (in_line, now, pair); flag = ap is_undone (sym (y.1)) ∙ or_false (is_undone s) }
+  where
+    J : ℕ → Job
+    J = put w.job f.token (at_job (w.job f.token) (InDeque a b))
+
+    pair : f.token ≡ f.job + 1
+    pair = fe.pairs (Worker a b) f (ap (λ k. feeds_now (k.top)) z)
+
+    now : TokenOn (J f.token)
+    now = let e : J f.token ≡ at_job (w.job f.token) (InDeque a b) = put_new w.job f.token (at_job (w.job f.token) (InDeque a b)) in subst TokenOn (sym e) (refl, inl refl)
+
+    apart : (f.job == f.token) ≡ false
+    apart = elim (either (f.job == f.token)) [ inl e ↦ absurd (let i : f.job ≡ f.token = eqb-true f.job f.token e in omega (arith, i, pair)) | inr e ↦ e ]
+
+    listed : 1 ≤ times f.job ((w.seat a b).fifo)
+    listed = let e : last_of ((w.seat a b).fifo) ≡ Some f.job = (fe.feeds a b f (ap (λ k. waits (k.top)) z)).1 in let c : times f.job ((w.seat a b).fifo) ≡ (one (f.job == f.job) + times f.job (but_last ((w.seat a b).fifo))) = times_drop ((w.seat a b).fifo) f.job f.job e in let d : one (f.job == f.job) ≡ 1 = ap one (eq-eqb f.job f.job refl) in omega (arith, c, d)
+
+    in_line : HandedOn (J f.job)
+    in_line = ap (λ j. is_queued j.at || (is_running j.at || is_done j.at)) (put_old w.job f.token (at_job (w.job f.token) (InDeque a b)) f.job apart) ∙ by ((w.job f.job).at) (let e : times f.job ((w.seat a b).fifo) ≡ one (in_fifo a b (w.job f.job).at) = (once w h).fifo a b f.job in omega (arith, e, listed))
+      where
+        by : (x : Whereabouts) → 1 ≤ one (in_fifo a b x) → (is_queued x || (is_running x || is_done x)) ≡ true
+        by (InFifo r j) e = refl
+        by _ e = absurd (omega (arith, e))
+
+-- its job comes back to it
+back_goes : (w : World) (a b : ℕ) (n : Plan) (s : Stage) (f : Feeding) (fs : List Place) → w.stack (Worker a b) ≡ record { top = TakeFromFifo f; below = fs } → FeedersHold w → Part n s (TakeFromFifo f) → Goes w (Worker a b) n s (TakeFromFifo f) fs
+back_goes w a b n s f fs z fe y = by (is_open (Worker a b) ((w.seat a b).feeder))
+  where
+    P : Seen × Piece → Type 0
+    P r = Went w (world_after w (Worker a b) (TakeFromFifo f) fs r) n s false (next_of (w.shape.pool a) (Worker a b) (TakeFromFifo f) (r.0))
+
+    last : last_of ((w.seat a b).fifo) ≡ Some f.job
+    last = (fe.feeds a b f (ap (λ k. waits (k.top)) z)).1
+
+    own : (u : ℕ) → Some u ≡ Some f.job → Feed (record f { job = u }) ≡ n
+    own u e = (let i : u ≡ f.job = cc in ap (λ v. Feed (record f { job = v })) i) ∙ sym (y.0)
+
+    taken : (o : Option ℕ) → last_of ((w.seat a b).fifo) ≡ o → IfSome (fifo_back (Worker a b) (part_of w a b 0 (or_none (last_of ((w.seat a b).fifo)))) o) P
+    taken None e = absurd (let c : Some f.job ≡ None = sym last ∙ e in cc)
+    taken (Some u) e = record { stage = Undone; leads = (ap (λ m. OfJob (plan_job m)) (own u (sym e ∙ last)), (own u (sym e ∙ last), refl)); sofar = λ k. tt; flag = ap is_undone (sym (y.1)) ∙ or_false (is_undone s) }
+
+    by : (c : Bool) → IfSome (if c then fifo_back (Worker a b) (part_of w a b 0 (or_none (last_of ((w.seat a b).fifo)))) (last_of ((w.seat a b).fifo)) else None) P
+    by true = taken (last_of ((w.seat a b).fifo)) refl
+    by false = tt
 
 take_goes : (w : World) (q : Party) (n : Plan) (s : Stage) (o : OpenCall) (f : Option Ending) (fs : List Place) → Part n s (TakeResult o f) → (c : Option Ending) → (c ≡ None → ⊥) → IfSome (found (place_part w q (TakeResult o f)) c) (λ r. Went w (world_after w q (TakeResult o f) fs r) n s false (next_of (w.shape.pool (target_pool q (act_of q (TakeResult o f)))) q (TakeResult o f) (r.0)))
 take_goes w q n s o f fs y None g = absurd (g refl)
@@ -138,15 +221,21 @@ lower_went w q n s p (Missing o f) fs e k z y = absurd y
 plain_goes : (w : World) (q : Party) (n : Plan) (s : Stage) (x : Place) (fs : List Place) → is_decisive x ≡ false → Known w n → Says w q x → Part n s x → Goes w q n s x fs
 plain_goes w q n s x fs d k z y = if_some_all (λ r. Went w (world_after w q x fs r) n s (is_raise_refused w (act_of q x)) (next_of (w.shape.pool (target_pool q (act_of q x))) q x (r.0))) (λ r. record { stage = s; leads = part_leads w (w.shape.pool (target_pool q (act_of q x))) q n s x (r.0) d k z y; sofar = λ v. v; flag = or_false (is_undone s) ∙ ap (λ v. is_undone s || v) (sym (not_raised w q x d)) }) (outcome w q (record { top = x; below = fs }))
 
-pub call_goes : (w : World) (q : Party) (n : Plan) (s : Stage) (x : Place) (fs : List Place) → ((o : OpenCall) (f : Option Ending) → x ≡ TakeResult o f → (w.call o.number).cell ≡ None → ⊥) → Known w n → Says w q x → Part n s x → Goes w q n s x fs
-call_goes w (Worker a b) n s (RaiseCount m) fs g k z y = raise_goes w (Worker a b) n s m fs _ y ((w.pool (plan_pool m)).count == 0) refl
-call_goes w (Caller c) n s (RaiseCount m) fs g k z y = raise_goes w (Caller c) n s m fs _ y ((w.pool (plan_pool m)).count == 0) refl
-call_goes w (Worker a b) n s (GrowCall m) fs g k z y = record { stage = s; leads = y; sofar = λ v. v; flag = or_false (is_undone s) }
-call_goes w (Caller c) n s (GrowCall m) fs g k z y = record { stage = s; leads = y; sofar = λ v. v; flag = or_false (is_undone s) }
-call_goes w (Worker a b) n s (PushJob m v) fs g k z y = push_goes w (Worker a b) n s m v fs y (is_member (Worker a b) (plan_pool m))
-call_goes w (Caller c) n s (PushJob m v) fs g k z y = push_goes w (Caller c) n s m v fs y false
-call_goes w (Worker a b) n s (TakeResult o f) fs g k z y = take_goes w (Worker a b) n s o f fs y ((w.call o.number).cell) (g o f refl)
-call_goes w (Caller c) n s (TakeResult o f) fs g k z y = take_goes w (Caller c) n s o f fs y ((w.call o.number).cell) (g o f refl)
-call_goes w (Worker a b) n s (LowerCount p h t) fs g k z y = subst (λ i. Says w (Worker a b) (LowerCount p i t) → Goes w (Worker a b) n s (LowerCount p i t) fs) (sym (y.0)) (λ v. lower_went w (Worker a b) n s p t fs (if (w.pool p).count == 1 then Yes else No) k v (y.1)) z
-call_goes w (Caller c) n s (LowerCount p h t) fs g k z y = subst (λ i. Says w (Caller c) (LowerCount p i t) → Goes w (Caller c) n s (LowerCount p i t) fs) (sym (y.0)) (λ v. lower_went w (Caller c) n s p t fs (if (w.pool p).count == 1 then Yes else No) k v (y.1)) z
-call_goes w q n s x fs g k z y = plain_goes w q n s x fs refl k z y
+pub call_goes : (w : World) (q : Party) (n : Plan) (s : Stage) (x : Place) (fs : List Place) → ((o : OpenCall) (f : Option Ending) → x ≡ TakeResult o f → (w.call o.number).cell ≡ None → ⊥) → w.stack q ≡ record { top = x; below = fs } → FeedersHold w → JobsHold w → Known w n → Says w q x → Part n s x → Goes w q n s x fs
+call_goes w (Worker a b) n s (RaiseCount m) fs g st fe h k z y = raise_goes w (Worker a b) n s m fs _ y ((w.pool (plan_pool m)).count == 0) refl
+call_goes w (Caller c) n s (RaiseCount m) fs g st fe h k z y = raise_goes w (Caller c) n s m fs _ y ((w.pool (plan_pool m)).count == 0) refl
+call_goes w (Worker a b) n s (GrowCall m) fs g st fe h k z y = record { stage = s; leads = y; sofar = λ v. v; flag = or_false (is_undone s) }
+call_goes w (Caller c) n s (GrowCall m) fs g st fe h k z y = record { stage = s; leads = y; sofar = λ v. v; flag = or_false (is_undone s) }
+call_goes w (Worker a b) n s (PushJob m v) fs g st fe h k z y = push_goes w (Worker a b) n s m v fs y (is_member (Worker a b) (plan_pool m))
+call_goes w (Caller c) n s (PushJob m v) fs g st fe h k z y = push_goes w (Caller c) n s m v fs y false
+call_goes w (Worker a b) n s (TakeResult o f) fs g st fe h k z y = take_goes w (Worker a b) n s o f fs y ((w.call o.number).cell) (g o f refl)
+call_goes w (Caller c) n s (TakeResult o f) fs g st fe h k z y = take_goes w (Caller c) n s o f fs y ((w.call o.number).cell) (g o f refl)
+call_goes w (Worker a b) n s (LowerCount p d t) fs g st fe h k z y = subst (λ i. Says w (Worker a b) (LowerCount p i t) → Goes w (Worker a b) n s (LowerCount p i t) fs) (sym (y.0)) (λ v. lower_went w (Worker a b) n s p t fs (if (w.pool p).count == 1 then Yes else No) k v (y.1)) z
+call_goes w (Caller c) n s (LowerCount p d t) fs g st fe h k z y = subst (λ i. Says w (Caller c) (LowerCount p i t) → Goes w (Caller c) n s (LowerCount p i t) fs) (sym (y.0)) (λ v. lower_went w (Caller c) n s p t fs (if (w.pool p).count == 1 then Yes else No) k v (y.1)) z
+call_goes w (Worker a b) n s (AddToFifo f) fs g st fe h k z y = add_goes w a b n s f fs y
+call_goes w (Caller c) n s (AddToFifo f) fs g st fe h k z y = tt
+call_goes w (Worker a b) n s (PushToken f v) fs g st fe h k z y = token_goes w a b n s f v fs st fe h y
+call_goes w (Caller c) n s (PushToken f v) fs g st fe h k z y = tt
+call_goes w (Worker a b) n s (TakeFromFifo f) fs g st fe h k z y = back_goes w a b n s f fs st fe y
+call_goes w (Caller c) n s (TakeFromFifo f) fs g st fe h k z y = tt
+call_goes w q n s x fs g st fe h k z y = plain_goes w q n s x fs refl k z y

@@ -1,5 +1,5 @@
 -- which places are of a call's own program, and where each leads
-use Rattle.std.proofs.Common.{refl, sym, ap, subst}
+use Rattle.std.proofs.Common.{refl, sym, ap, subst, ◌∙◌}
 use Rattle.std.specs.Prelude.{ℕ, Bool, true, false, ◌&&◌, ◌+◌, ◌-◌, ◌==◌, ◌≤◌, nat_lt, if◌then◌else◌, Option, Some, None, ◌≡◌, ⊤}
 use Rattle.rayon_machine_places.specs.declared.place.Party.{Party}
 use Rattle.rayon_machine_places.specs.declared.place.Party.TheVariants.{Worker, Caller}
@@ -11,15 +11,15 @@ use Rattle.rayon_machine_places.specs.declared.place.Latch.TheVariants.{Terminat
 use Rattle.rayon_machine_places.specs.declared.place.Rounds.{Rounds}
 use Rattle.rayon_machine_places.specs.declared.place.Rounds.TheVariants.{Failed, Announced}
 use Rattle.rayon_machine_places.specs.declared.place.Plan.{Plan}
-use Rattle.rayon_machine_places.specs.declared.place.Plan.TheVariants.{Detach, Here, Send, Fork}
+use Rattle.rayon_machine_places.specs.declared.place.Plan.TheVariants.{Detach, Here, Send, Fork, Feed}
 use Rattle.rayon_machine_places.specs.declared.place.Share.{Share}
 use Rattle.rayon_machine_places.specs.declared.place.Share.TheVariants.{OfJob}
 use Rattle.rayon_machine_places.specs.declared.place.Then.{Then}
 use Rattle.rayon_machine_places.specs.declared.place.Then.TheVariants.{BeginFound, LeaveWait, Resume, Await, RunFirst, Answers, Missing, Ran, GiveBack}
 use Rattle.rayon_machine_places.specs.declared.place.Place.{Place}
-use Rattle.rayon_machine_places.specs.declared.place.Place.TheVariants.{ProbeWorking, PopWorking, TakeCastWorking, BecomeInactive, ProbeIdle, PopIdle, TakeCastIdle, PickVictim, StealFrom, PopInjected, AnnounceSelf, GetSleepy, LockOwn, FallAsleep, LoadCounters, AddSleeping, LookAtCast, LookAtInjector, BlockSelf, RelockOwn, UndoSleeping, WakeUp, UnlockOwn, LeaveSearch, JoinProbe, JoinPop, JoinTakeCast, YieldPop, YieldTakeCast, YieldPick, YieldSteal, YieldPopInjected, LocalPop, LocalTakeCast, BeginTask, BeginHere, Run, RaiseCount, GrowCall, LookQueue, PushJob, TellNews, LockToWake, WakeWorker, UnlockWoken, WaitForLock, TakeResult, LowerCount, StoreResult, SetLatch, LockToSettle, WakeSettled, UnlockSettled, SetLockLatch, FirstSide, SecondSide, AtOnce, Free, Stopped}
+use Rattle.rayon_machine_places.specs.declared.place.Place.TheVariants.{ProbeWorking, PopWorking, TakeCastWorking, BecomeInactive, ProbeIdle, PopIdle, TakeCastIdle, PickVictim, StealFrom, PopInjected, AnnounceSelf, GetSleepy, LockOwn, FallAsleep, LoadCounters, AddSleeping, LookAtCast, LookAtInjector, BlockSelf, RelockOwn, UndoSleeping, WakeUp, UnlockOwn, LeaveSearch, JoinProbe, JoinPop, JoinTakeCast, YieldPop, YieldTakeCast, YieldPick, YieldSteal, YieldPopInjected, LocalPop, LocalTakeCast, BeginTask, BeginHere, Run, RaiseCount, GrowCall, LookQueue, PushJob, TellNews, LockToWake, WakeWorker, UnlockWoken, WaitForLock, TakeResult, LowerCount, StoreResult, SetLatch, LockToSettle, WakeSettled, UnlockSettled, SetLockLatch, FirstSide, SecondSide, AtOnce, Free, Stopped, AddToFifo, LookForToken, PushToken, TakeFromFifo}
 use Rattle.rayon_machine_places.specs.declared.place.Move.{Move}
-use Rattle.rayon_machine_places.specs.declared.place.Move.TheVariants.{Stay, Enter, StartRun, Back, HandBack}
+use Rattle.rayon_machine_places.specs.declared.place.Move.TheVariants.{Stay, Enter, StartRun, Back, HandBack, Discard, HandIn}
 use Rattle.rayon_machine_places.specs.declared.act.Seen.{Seen}
 use Rattle.rayon_machine_places.specs.declared.act.Seen.TheVariants.{Done, Yes, Task, Jec, Word, Start, Wakes}
 use Rattle.rayon_machine_places.specs.declared.state.Whereabouts.TheVariants.{Over}
@@ -27,21 +27,26 @@ use Rattle.rayon_machine_places.specs.declared.shape.PoolShape.{PoolShape}
 use Rattle.rayon_machine_places.specs.declared.place.OpenCall.{OpenCall}
 use Rattle.rayon_machine_places.specs.declared.place.Wait.{Wait}
 use Rattle.rayon_machine_places.specs.declared.place.Settling.{Settling}
-use Rattle.rayon_machine_places.specs.Places.{own_pool, own_index, plan_pool, plan_job, after_wait, finish, walk, settle, after_set, after_found, after_news, after_raise, next_victim, not_self, after_failure, next_steal, next_of}
-use Rattle.rayon_machine_places.specs.World.{World}
+use Rattle.rayon_machine_places.specs.Places.{own_pool, own_index, plan_pool, plan_job, after_wait, finish, walk, settle, after_set, after_found, after_news, after_raise, next_victim, not_self, after_failure, next_steal, next_of, is_taken}
+use Rattle.rayon_machine_places.specs.World.{World, is_token}
 use Rattle.rayon_machine_places.specs.Readers.{is_done}
 use Rattle.rayon_machine_laws.proofs.Claims.{FirstEnds, is_detached, SaysThen, Says}
+use Rattle.rayon_machine_places.specs.declared.place.Taken.{Taken}
 
 -- how far a call has come: its job is not yet queued, or it is; its share is given back; or a step of the call was
+-- refused. In between the job of a call for a FIFO list is there without a token, and is taken back where that is
 -- refused
 pub data Stage : Type 0 where
   Going : Stage
   Gone : Stage
   Paid : Stage
   Undone : Stage
+  Added : Stage
+  Withdrawing : Stage
 
 abbrev pub is_undone : Stage → Bool
 is_undone Undone = true
+is_undone Withdrawing = true
 is_undone _ = false
 
 -- what a plan is: a call that waits, an install that runs its job at once, a spawn
@@ -56,11 +61,18 @@ plan_here _ = None
 
 abbrev pub is_detach : Plan → Bool
 is_detach (Detach p t) = true
+is_detach (Feed f) = true
 is_detach _ = false
 
 abbrev pub is_sent : Plan → Bool
 is_sent (Here p t) = false
+is_sent (Feed f) = false
 is_sent _ = true
+
+-- of which plan a call tells the news: one for a FIFO list, of its token
+abbrev pub told : Plan → Plan
+told (Feed f) = Detach f.pool f.token
+told n = n
 
 -- what belongs to the call of a plan n that has come to a stage s
 abbrev pub PartPlan : Plan → Stage → Stage → Plan → Type 0
@@ -131,7 +143,11 @@ Part n s (RaiseCount m) = (m ≡ n) × (s ≡ Going)
 Part n s (GrowCall m) = PartPlan n s Going m
 Part n s (LookQueue m) = PartPlan n s Going m
 Part n s (PushJob m e) = PartPlan n s Going m
-Part n s (TellNews m e) = PartPlan n s Gone m
+Part n s (AddToFifo f) = (n ≡ Feed f) × (s ≡ Going)
+Part n s (LookForToken f) = (n ≡ Feed f) × (s ≡ Added)
+Part n s (PushToken f e) = (n ≡ Feed f) × (s ≡ Added)
+Part n s (TakeFromFifo f) = (n ≡ Feed f) × (s ≡ Withdrawing)
+Part n s (TellNews m e) = PartPlan (told n) s Gone m
 Part n s (LockToWake k) = PartThen n s k.then
 Part n s (WakeWorker k) = PartThen n s k.then
 Part n s (UnlockWoken k) = PartThen n s k.then
@@ -151,6 +167,7 @@ Ended w t = is_done (w.job t).at ≡ true
 -- queued its job
 abbrev pub Returns : World → Plan → Stage → Type 0
 Returns w (Detach p t) s = s ≡ Gone
+Returns w (Feed f) s = s ≡ Gone
 Returns w (Here p t) s = (s ≡ Paid) × Ended w t
 Returns w (Send o) s = (s ≡ Paid) × Ended w o.job
 Returns w (Fork o a) s = (s ≡ Paid) × (Ended w a × Ended w o.job)
@@ -158,6 +175,7 @@ Returns w (Fork o a) s = (s ≡ Paid) × (Ended w a × Ended w o.job)
 -- what the world tells of a plan: a spawn's job is detached, a call that waits knows its first side, if it is a join
 abbrev pub Known : World → Plan → Type 0
 Known w (Detach p t) = (t + 1 ≤ w.jobs) × (is_detached (w.job t).kind ≡ true)
+Known w (Feed f) = ((f.job + 1 ≤ w.jobs) × (is_detached (w.job f.job).kind ≡ true)) × ((f.token + 1 ≤ w.jobs) × (is_token (w.job f.token).kind ≡ true))
 Known w (Send o) = (o.number + 1 ≤ w.calls) × ((w.call o.number).first ≡ None)
 Known w (Fork o a) = (o.number + 1 ≤ w.calls) × ((w.call o.number).first ≡ Some a)
 Known w _ = ⊤
@@ -165,10 +183,12 @@ Known w _ = ⊤
 -- where a move of the call's own step leads
 abbrev pub Leads : World → Plan → Stage → Move → Type 0
 Leads w n s (Stay y) = Part n s y
+Leads w n s (HandIn y k) = ⊥
 Leads w n s (Enter f y) = Part n s f
 Leads w n s (StartRun f t) = Part n s f
 Leads w n s Back = Returns w n s
 Leads w n s (HandBack m) = (m ≡ n) × (s ≡ Undone)
+Leads w n s (Discard k) = ⊥
 
 first_ended : (w : World) (a : ℕ) (f : Option Ending) → FirstEnds w (Some a) f → Ended w a
 first_ended w a (Some e) z = ap is_done z
@@ -180,6 +200,7 @@ some_open e = cc
 open_returns : (w : World) (q : Party) (n : Plan) (s : Stage) (o : OpenCall) (f : Option Ending) (e : Ending) → Known w n → SaysThen w q (Answers o f e) → (plan_open n ≡ Some o) × (s ≡ Paid) → Returns w n s
 open_returns w q (Detach p t) s o f e k z y = absurd (let a : None ≡ Some o = y.0 in cc)
 open_returns w q (Here p t) s o f e k z y = absurd (let a : None ≡ Some o = y.0 in cc)
+open_returns w q (Feed d) s o f e k z y = absurd (let a : None ≡ Some o = y.0 in cc)
 open_returns w q (Send p) s o f e k z y = (y.1, subst (λ v. Ended w v.job) (sym (some_open (y.0))) (ap is_done (z.2)))
 open_returns w q (Fork p a) s o f e k z y =
     let same : p ≡ o = some_open (y.0) in
@@ -188,12 +209,14 @@ open_returns w q (Fork p a) s o f e k z y =
 
 detach_returns : (w : World) (n : Plan) (s : Stage) → (is_detach n ≡ true) × (s ≡ Gone) → Returns w n s
 detach_returns w (Detach p t) s y = y.1
+detach_returns w (Feed f) s y = y.1
 detach_returns w (Here p t) s y = absurd (let a : false ≡ true = y.0 in cc)
 detach_returns w (Send o) s y = absurd (let a : false ≡ true = y.0 in cc)
 detach_returns w (Fork o a) s y = absurd (let b : false ≡ true = y.0 in cc)
 
 here_returns : (w : World) (n : Plan) (s : Stage) (t : ℕ) (e : Ending) → (w.job t).at ≡ Over e → (plan_here n ≡ Some t) × (s ≡ Paid) → Returns w n s
 here_returns w (Here p u) s t e z y = (y.1, (let a : Some u ≡ Some t = y.0 in let b : u ≡ t = cc in subst (λ v. Ended w v) (sym b) (ap is_done z)))
+here_returns w (Feed f) s t e z y = absurd (let a : None ≡ Some t = y.0 in cc)
 here_returns w (Detach p u) s t e z y = absurd (let a : None ≡ Some t = y.0 in cc)
 here_returns w (Send o) s t e z y = absurd (let a : None ≡ Some t = y.0 in cc)
 here_returns w (Fork o b) s t e z y = absurd (let a : None ≡ Some t = y.0 in cc)
@@ -268,27 +291,50 @@ left_part : (n : Plan) (s : Stage) (g : Target) → PartTarget n s g → Part n 
 left_part n s Termination y = absurd y
 left_part n s (Answer o f) y = y
 
-found_part : (n : Plan) (s : Stage) (g : Target) (o : Option ℕ) → PartTarget n s g → PartThen n s (after_found g o)
+found_part : (n : Plan) (s : Stage) (g : Target) (o : Option Taken) → PartTarget n s g → PartThen n s (after_found g o)
 found_part n s g None y = y
 found_part n s g (Some t) y = y
 
-pop_leads : (w : World) (n : Plan) (s : Stage) (o : OpenCall) (t : ℕ) → PartOpen n s o → Leads w n s (if t == o.job then Enter (SecondSide o) (BeginHere t) else Enter (JoinProbe o) (BeginTask t))
-pop_leads w n s o t y = by (t == o.job)
+pop_leads : (w : World) (n : Plan) (s : Stage) (o : OpenCall) (t : Taken) → PartOpen n s o → Leads w n s (if is_taken t o.job then Enter (SecondSide o) (BeginHere o.job) else Enter (JoinProbe o) (BeginTask t))
+pop_leads w n s o t y = by (is_taken t o.job)
   where
-    by : (b : Bool) → Leads w n s (if b then Enter (SecondSide o) (BeginHere t) else Enter (JoinProbe o) (BeginTask t))
+    by : (b : Bool) → Leads w n s (if b then Enter (SecondSide o) (BeginHere o.job) else Enter (JoinProbe o) (BeginTask t))
     by true = y
     by false = y
 
 -- what a call goes on with once its job is queued
-news_part : (n : Plan) (s : Stage) (m : Plan) → PartPlan n s Gone m → PartThen n s (after_news m)
-news_part n s (Detach p t) y = (subst (λ v. is_detach v ≡ true) (y.0) refl, y.1)
+told_detach : (n : Plan) → is_detach (told n) ≡ is_detach n
+told_detach (Feed f) = refl
+told_detach (Detach p t) = refl
+told_detach (Here p t) = refl
+told_detach (Send o) = refl
+told_detach (Fork o a) = refl
+
+told_open : (n : Plan) → plan_open (told n) ≡ plan_open n
+told_open (Feed f) = refl
+told_open (Detach p t) = refl
+told_open (Here p t) = refl
+told_open (Send o) = refl
+told_open (Fork o a) = refl
+
+told_fork : (n : Plan) (o : OpenCall) (a : ℕ) → Fork o a ≡ told n → n ≡ Fork o a
+told_fork (Feed f) o a e = cc
+told_fork (Detach p t) o a e = sym e
+told_fork (Here p t) o a e = sym e
+told_fork (Send m) o a e = sym e
+told_fork (Fork m b) o a e = sym e
+
+news_part : (n : Plan) (s : Stage) (m : Plan) → PartPlan (told n) s Gone m → PartThen n s (after_news m)
+news_part n s (Detach p t) y = (sym (told_detach n) ∙ ap is_detach (sym (y.0)), y.1)
 news_part n s (Here p t) y = absurd (let a : false ≡ true = y.2 in cc)
-news_part n s (Send o) y = (subst (λ v. plan_open v ≡ Some o) (y.0) refl, y.1)
-news_part n s (Fork o a) y = (sym (y.0), y.1)
+news_part n s (Feed f) y = absurd (let a : false ≡ true = y.2 in cc)
+news_part n s (Send o) y = (sym (told_open n) ∙ ap plan_open (sym (y.0)), y.1)
+news_part n s (Fork o a) y = (told_fork n o a (y.0), y.1)
 
 -- once its pool's count is raised for it
 pub raised_leads : (w : World) (n : Plan) (s : Stage) (m : Plan) → (m ≡ n) × (s ≡ Going) → Leads w n s (after_raise m)
 raised_leads w n s (Detach p t) y = (y.0, y.1, refl)
+raised_leads w n s (Feed f) y = (sym (y.0), y.1)
 raised_leads w n s (Here p t) y = (sym (y.0), y.1)
 raised_leads w n s (Send o) y = (y.0, y.1, refl)
 raised_leads w n s (Fork o a) y = (y.0, y.1, refl)
@@ -298,6 +344,9 @@ abbrev pub is_decisive : Place → Bool
 is_decisive (RaiseCount m) = true
 is_decisive (GrowCall m) = true
 is_decisive (PushJob m e) = true
+is_decisive (AddToFifo f) = true
+is_decisive (PushToken f e) = true
+is_decisive (TakeFromFifo f) = true
 is_decisive (TakeResult o f) = true
 is_decisive (LowerCount p h t) = true
 is_decisive _ = false
@@ -361,6 +410,11 @@ part_leads w g q n s Stopped e d h z y = absurd y
 part_leads w g q n s (RaiseCount m) e d h z y = absurd (let a : true ≡ false = d in cc)
 part_leads w g q n s (GrowCall m) e d h z y = absurd (let a : true ≡ false = d in cc)
 part_leads w g q n s (PushJob m v) e d h z y = absurd (let a : true ≡ false = d in cc)
+part_leads w g q n s (AddToFifo f) e d h z y = absurd (let a : true ≡ false = d in cc)
+part_leads w g q n s (PushToken f v) e d h z y = absurd (let a : true ≡ false = d in cc)
+part_leads w g q n s (TakeFromFifo f) e d h z y = absurd (let a : true ≡ false = d in cc)
+part_leads w g q n s (LookForToken f) Yes d h z y = y
+part_leads w g q n s (LookForToken f) _ d h z y = y
 part_leads w g q n s (TakeResult o f) e d h z y = absurd (let a : true ≡ false = d in cc)
 part_leads w g q n s (LookQueue m) Yes d h z y = y
 part_leads w g q n s (LookQueue m) _ d h z y = y
@@ -379,11 +433,13 @@ part_leads w g q n s _ e d h z y = y
 pub open_job : (n : Plan) (o : OpenCall) → plan_open n ≡ Some o → o.job ≡ plan_job n
 open_job (Detach p t) o e = absurd (cc)
 open_job (Here p t) o e = absurd (cc)
+open_job (Feed f) o e = absurd (cc)
 open_job (Send m) o e = let a : m ≡ o = cc in ap (λ x. x.job) (sym a)
 open_job (Fork m a) o e = let b : m ≡ o = cc in ap (λ x. x.job) (sym b)
 
 pub here_job : (n : Plan) (t : ℕ) → plan_here n ≡ Some t → t ≡ plan_job n
 here_job (Detach p u) t e = absurd (cc)
+here_job (Feed f) t e = absurd (cc)
 here_job (Here p u) t e = (let a : u ≡ t = cc in sym a)
 here_job (Send m) t e = absurd (cc)
 here_job (Fork m a) t e = absurd (cc)

@@ -1,42 +1,57 @@
 -- what a step keeps of the calls and jobs that a call names
-use Rattle.std.proofs.Common.{arith, refl, ◌∙◌, ap, subst}
-use Rattle.std.specs.Prelude.{ℕ, Bool, true, false, ◌&&◌, ◌||◌, ◌+◌, ◌==◌, ◌≤◌, if◌then◌else◌, Some, List, ◌≡◌, IfSome}
-use Rattle.std.proofs.lemmas.Bool.{eq-eqb}
+use Rattle.std.proofs.Common.{arith, refl, ◌∙◌, ap, subst, inl, inr, sym}
+use Rattle.std.specs.Prelude.{ℕ, Bool, true, false, ◌&&◌, ◌||◌, ◌+◌, ◌==◌, ◌≤◌, if◌then◌else◌, Some, List, ◌≡◌, IfSome, ◌⊎◌, zero, suc}
+use Rattle.std.proofs.lemmas.Bool.{eqb-true, eq-eqb}
 use Rattle.rayon_machine_places.specs.declared.place.Party.{Party}
 use Rattle.rayon_machine_places.specs.declared.place.Party.TheVariants.{Worker, Caller}
 use Rattle.rayon_machine_places.specs.declared.place.Plan.{Plan}
-use Rattle.rayon_machine_places.specs.declared.place.Plan.TheVariants.{Detach, Here, Send, Fork}
+use Rattle.rayon_machine_places.specs.declared.place.Plan.TheVariants.{Detach, Here, Send, Fork, Feed}
 use Rattle.rayon_machine_places.specs.declared.place.Share.TheVariants.{PoolValue, OfJob}
 use Rattle.rayon_machine_places.specs.declared.place.Then.{Then}
 use Rattle.rayon_machine_places.specs.declared.place.Place.{Place}
-use Rattle.rayon_machine_places.specs.declared.place.Place.TheVariants.{YieldPop, LocalPop, RaiseCount, LowerCount}
+use Rattle.rayon_machine_places.specs.declared.place.Place.TheVariants.{YieldPop, LocalPop, RaiseCount, LowerCount, TakeFromFifo}
 use Rattle.rayon_machine_places.specs.declared.act.Seen.{Seen}
-use Rattle.rayon_machine_places.specs.declared.act.Seen.TheVariants.{Done, Refused}
+use Rattle.rayon_machine_places.specs.declared.act.Seen.TheVariants.{Done, Refused, Task}
 use Rattle.rayon_machine_places.specs.declared.event.Event.{Event}
-use Rattle.rayon_machine_places.specs.declared.event.Event.TheVariants.{Go, From, Refuse, Miss, End, Spawn, Install, Join, Yield, YieldLocal, EndPool}
+use Rattle.rayon_machine_places.specs.declared.event.Event.TheVariants.{Go, From, Refuse, Miss, End, Spawn, Fifo, Install, Join, Yield, YieldLocal, EndPool}
 use Rattle.rayon_machine_places.specs.declared.state.Whereabouts.{Whereabouts}
-use Rattle.rayon_machine_places.specs.declared.state.Whereabouts.TheVariants.{Nowhere, Made, InDeque, Injected, Running, Over, HandedBack}
-use Rattle.rayon_machine_places.specs.Places.{plan_job, plan_pool, act_of, next_of}
-use Rattle.rayon_machine_places.specs.World.{World, Part, counts_at, target_pool, target_worker, target_call}
-use Rattle.rayon_machine_places.specs.Steps.{put, step}
+use Rattle.rayon_machine_places.specs.declared.state.Whereabouts.TheVariants.{Nowhere, Made, InDeque, Injected, InFifo, Running, Over, HandedBack, Spent, Retaken}
+use Rattle.rayon_machine_places.specs.Places.{plan_job, plan_pool, act_of, next_of, taken_number}
+use Rattle.rayon_machine_places.specs.World.{World, Part, counts_at, target_pool, target_worker, target_call, at_job, begun, is_token, last_of, or_none}
+use Rattle.rayon_machine_places.specs.Steps.{put, step, jobs_after}
 use Rattle.rayon_machine_places.specs.Readers.{is_queued, is_running, is_done}
-use Rattle.rayon_machine_laws.specs.Once.{one}
+use Rattle.rayon_machine_laws.specs.Once.{one, in_fifo, times}
 use Rattle.rayon_machine_laws.specs.Shares.{is_busy, share, shares_in, shares}
-use Rattle.rayon_machine_laws.proofs.Frame.{if_some_map, acted_keeps, put_same, after_kind, after_counted}
+use Rattle.rayon_machine_laws.proofs.Frame.{if_some_map, acted_keeps, put_same, after_kind, after_counted, and_parts, either, if_some_all, if_some_and}
 use Rattle.rayon_machine_laws.proofs.Ties.{job_at, outcome, result}
 use Rattle.rayon_machine_laws.proofs.Hands.{hand_plan, held_in, held}
 use Rattle.rayon_machine_laws.proofs.Located.{Loc, Hand, loc_of, loc_at, is_loc, is_left}
-use Rattle.rayon_machine_laws.proofs.PlacedRuns.{JobsHold}
-use Rattle.rayon_machine_laws.proofs.PlacedEvents.{Advance, IsFinal}
+use Rattle.rayon_machine_laws.proofs.PlacedRuns.{JobsHold, once}
+use Rattle.rayon_machine_laws.proofs.PlacedEvents.{Advance, IsFinal, final_left}
 use Rattle.rayon_machine_laws.proofs.Claims.{is_detached}
 use Rattle.rayon_machine_laws.proofs.Later.{Static, act_static}
 use Rattle.rayon_machine_laws.proofs.ClaimRuns.{place_part, world_after}
 use Rattle.rayon_machine_laws.proofs.Bares.{all_bare, backs}
 use Rattle.rayon_machine_laws.proofs.ShareActs.{SharesHold, with_job, Untallied, act_untallied, one_most, one_is}
-use Rattle.rayon_machine_laws.proofs.Returns.{ReturnsHold}
-use Rattle.rayon_machine_orders.proofs.CallPlaces.{Stage, Going, Gone, Paid, Undone, Ended, Known}
-use Rattle.rayon_machine_orders.proofs.CallActs.{Queued, Sofar}
-use Rattle.rayon_machine_orders.proofs.CallEvents.{Turned, from_turned, refuse_turned, miss_turned, end_turned, spawn_turned, install_turned, join_turned, yield_turned, give_turned}
+use Rattle.rayon_machine_laws.proofs.Returns.{ReturnsHold, Unbacked, act_unbacked, put_backs}
+use Rattle.rayon_machine_orders.proofs.CallPlaces.{Stage, Going, Gone, Paid, Undone, Ended, Known, Added, Withdrawing}
+use Rattle.rayon_machine_orders.proofs.CallActs.{Queued, Sofar, HandedOn, TokenOn}
+use Rattle.rayon_machine_orders.proofs.CallEvents.{Turned, from_turned, refuse_turned, miss_turned, end_turned, spawn_turned, install_turned, join_turned, yield_turned, give_turned, fifo_turned}
+use Rattle.rayon_machine_places.specs.declared.place.Move.TheVariants.{Back, Discard, Enter, HandBack, HandIn, StartRun, Stay}
+use Rattle.rayon_machine_orders.proofs.Keeping.{BusyAfter, all_busy}
+use Rattle.rayon_machine_places.specs.declared.place.JobKind.TheVariants.{Detached, Direct, Stored, TokenOf}
+use Rattle.rayon_machine_laws.proofs.Feeders.{FeedersHold, feeds_now, waits}
+use Rattle.rayon_machine_places.specs.declared.place.Feeding.{Feeding}
+use Rattle.rayon_machine_places.specs.declared.state.Job.{Job}
+use Rattle.rayon_machine_places.specs.declared.place.JobKind.{JobKind}
+use Rattle.rayon_machine_laws.proofs.ClaimActs.{Learned, act_learned}
+use Rattle.rayon_machine_places.specs.declared.place.Move.{Move}
+use Rattle.rayon_machine_laws.proofs.ShareSteps.{Ready}
+use Rattle.rayon_machine_laws.proofs.ShareRuns.{StartsAwaited}
+use Rattle.rayon_machine_places.specs.declared.place.Taken.{Taken}
+use Rattle.rayon_machine_laws.proofs.Feeds.{all_fed, fed, fed_in, fed_move, feds}
+use Rattle.rayon_machine_laws.proofs.ShareEvents.{ready}
+use Rattle.rayon_machine_laws.proofs.Amounts.{regained, pushed}
 
 -- calls keep their first side, and jobs their kind
 pub record Carries (w u : World) : Type 0 where
@@ -60,6 +75,7 @@ mover (Refuse q) = q
 mover (Miss q) = q
 mover (End q d) = q
 mover (Spawn q p) = q
+mover (Fifo q p) = q
 mover (Install q p) = q
 mover (Join q) = q
 mover (Yield q) = q
@@ -77,6 +93,7 @@ turns w (Refuse q) z = refuse_turned w q ((w.stack q).top) ((w.stack q).below) r
 turns w (Miss q) z = miss_turned w q ((w.stack q).top) ((w.stack q).below) refl
 turns w (End q d) z = end_turned w q d ((w.stack q).top) ((w.stack q).below) refl
 turns w (Spawn q p) z = spawn_turned w q p
+turns w (Fifo q p) z = fifo_turned w q p
 turns w (Install q p) z = install_turned w q p
 turns w (Join q) z = join_turned w q
 turns w (Yield q) z = yield_turned w q YieldPop (Yield q) (λ r s. refl)
@@ -94,6 +111,7 @@ by_act P w (Refuse q) go turn true z = absurd (let a : false ≡ true = z in cc)
 by_act P w (Miss q) go turn true z = absurd (let a : false ≡ true = z in cc)
 by_act P w (End q d) go turn true z = absurd (let a : false ≡ true = z in cc)
 by_act P w (Spawn q p) go turn true z = absurd (let a : false ≡ true = z in cc)
+by_act P w (Fifo q p) go turn true z = absurd (let a : false ≡ true = z in cc)
 by_act P w (Install q p) go turn true z = absurd (let a : false ≡ true = z in cc)
 by_act P w (Join q) go turn true z = absurd (let a : false ≡ true = z in cc)
 by_act P w (Yield q) go turn true z = absurd (let a : false ≡ true = z in cc)
@@ -105,6 +123,7 @@ step_carries w e = by_act (Carries w) w e (λ q. if_some_map (Static (place_part
 
 pub known_on : (w u : World) → Carries w u → (n : Plan) → Known w n → Known u n
 known_on w u c (Detach p t) k = ((c.made t (k.0)).0, ap is_detached ((c.made t (k.0)).1) ∙ k.1)
+known_on w u c (Feed f) k = (((c.made f.job ((k.0).0)).0, ap is_detached ((c.made f.job ((k.0).0)).1) ∙ (k.0).1), ((c.made f.token ((k.1).0)).0, ap is_token ((c.made f.token ((k.1).0)).1) ∙ (k.1).1))
 known_on w u c (Here p t) k = tt
 known_on w u c (Send o) k = ((c.sides (o.number) (k.0)).0, (c.sides (o.number) (k.0)).1 ∙ k.1)
 known_on w u c (Fork o a) k = ((c.sides (o.number) (k.0)).0, (c.sides (o.number) (k.0)).1 ∙ k.1)
@@ -153,47 +172,234 @@ ended_on w u a t z = by ((w.job t).at) (a.final t) z
     by (Running q) f d = cc
     by (InDeque p i) f d = cc
     by (Injected p) f d = cc
+    by (InFifo p i) f d = cc
     by HandedBack f d = cc
+    by (Retaken q) f d = cc
+    by Spent f d = cc
     by Nowhere f d = cc
 
--- a spawned job that is queued, in a hand or running has its share, so it is not handed back
-pub queued_on : (w u : World) (e : Event) → step w e ≡ Some u → SharesHold w → ReturnsHold u → Advance w u → (n : Plan) → Known w n → Queued w.job n → Queued u.job n
-queued_on w u e made h r a (Here p t) k z = tt
-queued_on w u e made h r a (Send o) k z = tt
-queued_on w u e made h r a (Fork o b) k z = tt
-queued_on w u e made h r a (Detach p t) k z = by ((w.job t).at) refl z (a.final t)
+-- a job in a FIFO list can be taken back by its call
+lined_apart : (w : World) → JobsHold w → (p i t : ℕ) → 1 ≤ times t ((w.seat p i).fifo) → is_left (w.job t).at ≡ true → ⊥
+lined_apart w h p i t n l = by ((w.job t).at) (let a : times t ((w.seat p i).fifo) ≡ one (in_fifo p i (w.job t).at) = (once w h).fifo p i t in omega (arith, a, n)) l
   where
-    kept : (v : Whereabouts) → is_left v ≡ true → backs v ≤ 0 → (is_queued v || (is_running v || is_done v)) ≡ true
-    kept (Made q) l b = cc
-    kept Nowhere l b = cc
-    kept HandedBack l b = absurd (omega (arith, b))
-    kept (InDeque p i) l b = refl
-    kept (Injected p) l b = refl
-    kept (Running q) l b = refl
-    kept (Over d) l b = refl
+    by : (v : Whereabouts) → 1 ≤ one (in_fifo p i v) → is_left v ≡ true → ⊥
+    by (InFifo r j) e l = cc
+    by _ e l = absurd (omega (arith, e))
 
-    busy : is_busy (w.job t).at ≡ true → is_left (u.job t).at ≡ true → (is_queued (u.job t).at || (is_running (u.job t).at || is_done (u.job t).at)) ≡ true
-    busy y l =
-        let own : with_job (w.job t) ≡ 1 = ap (λ b. one (b && is_busy (w.job t).at)) (k.1) ∙ ap one y in
+-- an act takes job t back from no FIFO list
+abbrev Untaken : World → ℕ → Type 0
+Untaken w t = (q : Party) → IfSome (outcome w q (w.stack q)) (λ r. regained t ((w.stack q).top) (r.0) ≡ 0)
+
+-- so it is, if who takes a job back takes another
+untaken : (w : World) (t : ℕ) → ((a b : ℕ) (f : Feeding) (fs : List Place) (y : Taken) (m : Part) → w.stack (Worker a b) ≡ record { top = TakeFromFifo f; below = fs } → Learned w.shape (Worker a b) (place_part w (Worker a b) (TakeFromFifo f)) (TakeFromFifo f) (Task y, m) → (t == taken_number y) ≡ false) → Untaken w t
+untaken w t g q = by q ((w.stack q).top) ((w.stack q).below) refl
+  where
+    at : (a b : ℕ) (f : Feeding) (fs : List Place) → w.stack (Worker a b) ≡ record { top = TakeFromFifo f; below = fs } → (r : Seen × Part) → Learned w.shape (Worker a b) (place_part w (Worker a b) (TakeFromFifo f)) (TakeFromFifo f) r → regained t (TakeFromFifo f) (r.0) ≡ 0
+    at a b f fs z (Task y, m) l = ap one (g a b f fs y m z l)
+    at a b f fs z (e, m) l = refl
+
+    by : (q : Party) (x : Place) (fs : List Place) → w.stack q ≡ record { top = x; below = fs } → IfSome (outcome w q (record { top = x; below = fs })) (λ r. regained t x (r.0) ≡ 0)
+    by (Worker a b) (TakeFromFifo f) fs z = if_some_map (Learned w.shape (Worker a b) (place_part w (Worker a b) (TakeFromFifo f)) (TakeFromFifo f)) (λ r. regained t (TakeFromFifo f) (r.0) ≡ 0) (λ r l. at a b f fs z r l) (outcome w (Worker a b) (record { top = TakeFromFifo f; below = fs })) (act_learned w.shape (Worker a b) (counts_at w a) (place_part w (Worker a b) (TakeFromFifo f)) (TakeFromFifo f))
+    by (Caller c) (TakeFromFifo f) fs z = tt
+    by q x fs z = if_some_all {A = Seen × Part} (λ r. regained t x (r.0) ≡ 0) (λ r. refl) (outcome w q (record { top = x; below = fs }))
+
+-- who has left its call is in no FIFO list
+left_untaken : (w : World) → JobsHold w → (t : ℕ) → is_left (w.job t).at ≡ true → Untaken w t
+left_untaken w h t l = untaken w t (λ a b f fs y m z k. elim (either (t == taken_number y)) [ inl e ↦ absurd (lined_apart w h a b (taken_number y) (k.1) (ap (λ n. is_left (w.job n).at) (sym (eqb-true t (taken_number y) e)) ∙ l)) | inr e ↦ e ])
+
+-- and a call takes its own job back, whose token it still has
+paired_untaken : (w : World) → JobsHold w → FeedersHold w → (t k : ℕ) → k ≡ t + 1 → is_left (w.job k).at ≡ true → Untaken w t
+paired_untaken w h fe t k pair l = untaken w t (λ a b f fs y m z j. elim (either (t == taken_number y)) [ inl e ↦ absurd (same a b f fs y m z j (eqb-true t (taken_number y) e)) | inr e ↦ e ])
+  where
+    same : (a b : ℕ) (f : Feeding) (fs : List Place) (y : Taken) (m : Part) → w.stack (Worker a b) ≡ record { top = TakeFromFifo f; below = fs } → Learned w.shape (Worker a b) (place_part w (Worker a b) (TakeFromFifo f)) (TakeFromFifo f) (Task y, m) → t ≡ taken_number y → ⊥
+    same a b f fs y m z j e =
+        let last : last_of ((w.seat a b).fifo) ≡ Some f.job = (fe.feeds a b f (ap (λ k. waits (k.top)) z)).1 in
+        let own : f.job ≡ taken_number y = sym (ap or_none last) ∙ j.0 in
+        let two : f.token ≡ f.job + 1 = fe.pairs (Worker a b) f (ap (λ k. feeds_now (k.top)) z) in
+        let is : k ≡ f.token = pair ∙ ap (λ n. n + 1) (e ∙ sym own) ∙ sym two in
+        let made : (w.job f.token).at ≡ Made (Worker a b) = h.feeds (Worker a b) f.token (let c : all_fed f.token (w.stack (Worker a b)) ≡ (one (f.token == f.token) + fed_in f.token fs) = ap (all_fed f.token) z in let o : one (f.token == f.token) ≡ 1 = self f.token in omega (arith, c, o)) in
+        let c : is_left (w.job k).at ≡ false = ap (λ n. is_left (w.job n).at) is ∙ ap is_left made in
+        let d : true ≡ false = sym l ∙ c in cc
+
+-- what keeps its share itself does so still, or is over
+abbrev KeptOn : World → ℕ → Type 0
+KeptOn u t = backs (u.job t).at ≤ 0 → HandedOn (u.job t)
+
+busy_on : (v : Whereabouts) → is_busy v ≡ true → (is_queued v || (is_running v || is_done v)) ≡ true
+busy_on (InDeque p i) e = refl
+busy_on (Injected p) e = refl
+busy_on (InFifo p i) e = refl
+busy_on (Running q) e = refl
+busy_on _ e = cc
+
+done_on : (v : Whereabouts) → is_done v ≡ true → (is_queued v || (is_running v || is_done v)) ≡ true
+done_on (Over d) e = refl
+done_on _ e = cc
+
+busy_act : (w : World) (t : ℕ) → SharesHold w → with_job (w.job t) ≡ 1 → Untaken w t → (q : Party) → IfSome (outcome w q (w.stack q)) (λ r. KeptOn (result w q (w.stack q) r) t)
+busy_act w t h own un q =
+    let x : Place = (w.stack q).top in let fs : List Place = (w.stack q).below in
+    if_some_map (λ r. BusyAfter w q x fs r × (regained t x (r.0) ≡ 0)) (λ r. KeptOn (result w q (w.stack q) r) t)
+    (λ r f b. busy_on (((result w q (w.stack q) r).job t).at) ((and_parts (is_detached ((result w q (w.stack q) r).job t).kind) (is_busy ((result w q (w.stack q) r).job t).at) (one_is (is_detached ((result w q (w.stack q) r).job t).kind && is_busy ((result w q (w.stack q) r).job t).at)
+    (let a : with_job (w.job t) + pushed t x (r.0) ≤ with_job ((result w q (w.stack q) r).job t) + regained t x (r.0) = f.0 t b in let c : regained t x (r.0) ≡ 0 = f.1 in omega (arith, a, c, own)))).1))
+    (outcome w q (w.stack q)) (if_some_and (BusyAfter w q x fs) (λ r. regained t x (r.0) ≡ 0) (outcome w q (w.stack q)) (all_busy w q x fs refl h (ready w q h)) (un q))
+
+-- a detached job that is queued, in a hand or running has its share, so it is not handed back
+handed_on : (w u : World) (e : Event) → step w e ≡ Some u → SharesHold w → ReturnsHold u → Advance w u → (t : ℕ) → t + 1 ≤ w.jobs → is_detached (w.job t).kind ≡ true → Untaken w t → HandedOn (w.job t) → HandedOn (u.job t)
+handed_on w u e made h r a t l k un z = by ((w.job t).at) refl z (a.final t)
+  where
+    busy : is_busy (w.job t).at ≡ true → HandedOn (u.job t)
+    busy y =
+        let own : with_job (w.job t) ≡ 1 = ap (λ b. one (b && is_busy (w.job t).at)) k ∙ ap one y in
         let counted : (w.job t).counted ≡ true = one_is ((w.job t).counted) (let b : shares t (w.stack (mover e)) + with_job (w.job t) ≤ one (w.job t).counted = (h.jobs t).alone (mover e) in omega (arith, b, own)) in
         let none : (q : Party) → shares t (w.stack q) ≡ 0 = λ q. (let b : shares t (w.stack q) + with_job (w.job t) ≤ one (w.job t).counted = (h.jobs t).alone q in let d : one (w.job t).counted ≤ 1 = one_most ((w.job t).counted) in omega (arith, b, d, own)) in
-        let now : (u.job t).counted ≡ true = (let f : IfSome (Some u) (λ v. (v.job t).counted ≡ true) = subst (λ o. IfSome o (λ v. (v.job t).counted ≡ true)) made (step_counts w e t (k.0) none counted) in f) in
-        kept ((u.job t).at) l (let b : all_bare t (u.stack (mover e)) + backs (u.job t).at ≤ 0 = r.bare (mover e) t now in omega (arith, b))
+        let now : (u.job t).counted ≡ true = (let f : IfSome (Some u) (λ v. (v.job t).counted ≡ true) = subst (λ o. IfSome o (λ v. (v.job t).counted ≡ true)) made (step_counts w e t l none counted) in f) in
+        let kept : KeptOn u t = (let f : IfSome (Some u) (λ v. KeptOn v t) = subst (λ o. IfSome o (λ v. KeptOn v t)) made (by_act (λ v. KeptOn v t) w e (busy_act w t h own un) (λ v m. turned v m) (is_act e) refl) in f) in
+        kept (let b : all_bare t (u.stack (mover e)) + backs (u.job t).at ≤ 0 = r.bare (mover e) t now in omega (arith, b))
+      where
+        turned : (v : World) → Turned w v (mover e) e → KeptOn v t
+        turned v m b = elim (m.ats t l) [ inl s ↦ ap (λ x. is_queued x || (is_running x || is_done x)) s ∙ z | inr d ↦ done_on ((v.job t).at) d ]
 
-    by : (v : Whereabouts) → (w.job t).at ≡ v → (is_queued v || (is_running v || is_done v)) ≡ true → IsFinal v ((u.job t).at) → (is_queued (u.job t).at || (is_running (u.job t).at || is_done (u.job t).at)) ≡ true
+    by : (v : Whereabouts) → (w.job t).at ≡ v → (is_queued v || (is_running v || is_done v)) ≡ true → IsFinal v ((u.job t).at) → HandedOn (u.job t)
     by (Over d) i y f = ap (λ v. is_queued v || (is_running v || is_done v)) f
-    by (InDeque p j) i y f = busy (ap is_busy i) f
-    by (Injected p) i y f = busy (ap is_busy i) f
-    by (Running q) i y f = busy (ap is_busy i) f
+    by (InDeque p j) i y f = busy (ap is_busy i)
+    by (Injected p) i y f = busy (ap is_busy i)
+    by (InFifo p j) i y f = busy (ap is_busy i)
+    by (Running q) i y f = busy (ap is_busy i)
     by (Made q) i y f = cc
+    by (Retaken q) i y f = cc
     by HandedBack i y f = cc
+    by Spent i y f = cc
     by Nowhere i y f = cc
+
+-- a token that has left its call is not handed back
+token_kinds : (k : JobKind) → is_detached k ≡ true → is_token k ≡ true → ⊥
+token_kinds (Detached p) d e = cc
+token_kinds (TokenOf i) d e = cc
+token_kinds (Stored c o) d e = cc
+token_kinds Direct d e = cc
+
+put_handed : (J : ℕ → Job) (a k : ℕ) → one (k == a) ≤ 0 → backs (J k).at ≤ 0 → backs (put J a (at_job (J a) HandedBack) k).at ≤ 0
+put_handed J a k n b = by (k == a) n
+  where
+    by : (z : Bool) → one z ≤ 0 → backs (if z then at_job (J a) HandedBack else J k).at ≤ 0
+    by true c = absurd (omega (arith, c))
+    by false c = b
+
+put_other : (J : ℕ → Job) (a k : ℕ) (j : Job) → backs j.at ≤ 0 → backs (J k).at ≤ 0 → backs (put J a j k).at ≤ 0
+put_other J a k j n b = by (k == a)
+  where
+    by : (z : Bool) → backs (if z then j else J k).at ≤ 0
+    by true = n
+    by false = b
+
+land_kept : (w : World) (q : Party) (g : Move) (J : ℕ → Job) (k : ℕ) → StartsAwaited w g → is_token (w.job k).kind ≡ true → fed_move k g ≤ 0 → backs (J k).at ≤ 0 → backs (jobs_after q g J k).at ≤ 0
+land_kept w q (Stay y) J k s t f b = b
+land_kept w q (HandIn y m) J k s t f b = put_other J m k (at_job (J m) Spent) (omega arith) b
+land_kept w q (Discard m) J k s t f b = put_other J m k (at_job (J m) Spent) (omega arith) b
+land_kept w q (Enter x y) J k s t f b = b
+land_kept w q Back J k s t f b = b
+land_kept w q (StartRun x m) J k s t f b = put_other J m k (begun q (J m)) (omega arith) b
+land_kept w q (HandBack (Detach p a)) J k s t f b = put_handed J a k f b
+land_kept w q (HandBack (Here p a)) J k s t f b = put_handed J a k f b
+land_kept w q (HandBack (Send o)) J k s t f b = put_handed J (o.job) k f b
+land_kept w q (HandBack (Fork o a)) J k s t f b = by (k == o.job) refl
+  where
+    by : (z : Bool) → (k == o.job) ≡ z → backs (if z then at_job (J o.job) HandedBack else put J a (at_job (J a) HandedBack) k).at ≤ 0
+    by true e = absurd (let c : one (k == o.job) ≡ 1 = ap one e in omega (arith, c, f))
+    by false e = put_handed J a k (omega (arith, f)) b
+land_kept w q (HandBack (Feed d)) J k s t f b = by (k == d.token) refl
+  where
+    apart : (z : Bool) → (k == d.job) ≡ z → backs (if z then at_job (J d.job) HandedBack else J k).at ≤ 0
+    apart true e = absurd (token_kinds ((w.job k).kind) (ap (λ n. is_detached (w.job n).kind) (eqb-true k d.job e) ∙ s) t)
+    apart false e = b
+
+    by : (z : Bool) → (k == d.token) ≡ z → backs (if z then at_job (J d.token) HandedBack else put J d.job (at_job (J d.job) HandedBack) k).at ≤ 0
+    by true e = absurd (let c : one (k == d.token) ≡ 1 = ap one e in omega (arith, c, f))
+    by false e = apart (k == d.job) refl
+
+all_unbacked : (w : World) (q : Party) (x : Place) (fs : List Place) → IfSome (outcome w q (record { top = x; below = fs })) (Unbacked (place_part w q x))
+all_unbacked w (Worker a b) (RaiseCount n) fs = by ((w.pool (plan_pool n)).count == 0)
+  where
+    by : (z : Bool) → IfSome {T = Seen × Part} (if z then Some (Refused, place_part w (Worker a b) (RaiseCount n)) else Some (Done, record (place_part w (Worker a b) (RaiseCount n)) { pool = record (w.pool (plan_pool n)) { count = (w.pool (plan_pool n)).count + 1 }; job = record (w.job (plan_job n)) { counted = true } })) (Unbacked (place_part w (Worker a b) (RaiseCount n)))
+    by true = omega arith
+    by false = omega arith
+all_unbacked w (Caller c) (RaiseCount n) fs = by ((w.pool (plan_pool n)).count == 0)
+  where
+    by : (z : Bool) → IfSome {T = Seen × Part} (if z then Some (Refused, place_part w (Caller c) (RaiseCount n)) else Some (Done, record (place_part w (Caller c) (RaiseCount n)) { pool = record (w.pool (plan_pool n)) { count = (w.pool (plan_pool n)).count + 1 }; job = record (w.job (plan_job n)) { counted = true } })) (Unbacked (place_part w (Caller c) (RaiseCount n)))
+    by true = omega arith
+    by false = omega arith
+all_unbacked w (Worker a b) (LowerCount p PoolValue n) fs = omega arith
+all_unbacked w (Worker a b) (LowerCount p (OfJob u) n) fs = omega arith
+all_unbacked w (Caller c) (LowerCount p PoolValue n) fs = omega arith
+all_unbacked w (Caller c) (LowerCount p (OfJob u) n) fs = omega arith
+all_unbacked w q x fs = act_unbacked w.shape q (counts_at w (target_pool q (act_of q x))) (place_part w q x) x refl
+
+token_act : (w : World) (k : ℕ) → SharesHold w → is_token (w.job k).kind ≡ true → is_left (w.job k).at ≡ true → backs (w.job k).at ≤ 0 → (q : Party) → IfSome (outcome w q (w.stack q)) (λ r. backs ((result w q (w.stack q) r).job k).at ≤ 0)
+token_act w k h t l b q =
+    let x : Place = (w.stack q).top in let fs : List Place = (w.stack q).below in
+    if_some_map (λ r. Ready w q x fs r × Unbacked (place_part w q x) r) (λ r. backs ((result w q (w.stack q) r).job k).at ≤ 0)
+    (λ r f. land_kept w q (next_of (w.shape.pool (target_pool q (act_of q x))) q x (r.0)) (put w.job (job_at w q (act_of q x)) (r.1.job)) k ((f.0).starts) t
+    (let a : fed_move k (next_of (w.shape.pool (target_pool q (act_of q x))) q x (r.0)) ≤ fed k x = feds (w.shape.pool (target_pool q (act_of q x))) q k x (r.0) in let c : fed k x ≤ 0 = unfed in omega (arith, a, c))
+    (let a : backs (put w.job (job_at w q (act_of q x)) (r.1.job) k).at ≤ backs (w.job k).at = put_backs w.job (job_at w q (act_of q x)) (r.1.job) k (f.1) in omega (arith, a, b)))
+    (outcome w q (w.stack q)) (if_some_and (Ready w q x fs) (Unbacked (place_part w q x)) (outcome w q (w.stack q)) (ready w q h) (all_unbacked w q x fs))
+  where
+    unfed : fed k ((w.stack q).top) ≤ 0
+    unfed = by (fed k ((w.stack q).top)) refl
+      where
+        by : (n : ℕ) → fed k ((w.stack q).top) ≡ n → fed k ((w.stack q).top) ≤ 0
+        by zero e = omega (arith, e)
+        by (suc n) e = absurd (let a : (w.job k).at ≡ Made q = ((h.calls).jobs).feeds q k (omega (arith, e)) in let c : is_left (w.job k).at ≡ false = ap is_left a in let d : true ≡ false = sym l ∙ c in cc)
+
+token_on : (w u : World) (e : Event) → step w e ≡ Some u → SharesHold w → Advance w u → (k : ℕ) → k + 1 ≤ w.jobs → is_token (w.job k).kind ≡ true → TokenOn (w.job k) → TokenOn (u.job k)
+token_on w u e made h a k l t z = (left, by ((u.job k).at) left unbacked)
+  where
+    left : is_left (u.job k).at ≡ true
+    left = final_left ((w.job k).at) ((u.job k).at) (a.final k) (z.0)
+
+    before : backs (w.job k).at ≤ 0
+    before = elim (z.1) [ inl y ↦ known ((w.job k).at) y | inr y ↦ (let b : backs (w.job k).at ≡ 0 = ap backs y in omega (arith, b)) ]
+      where
+        known : (v : Whereabouts) → (is_queued v || (is_running v || is_done v)) ≡ true → backs v ≤ 0
+        known HandedBack y = cc
+        known _ y = omega arith
+
+    unbacked : backs (u.job k).at ≤ 0
+    unbacked = let f : IfSome (Some u) (λ v. backs (v.job k).at ≤ 0) = subst (λ o. IfSome o (λ v. backs (v.job k).at ≤ 0)) made (by_act (λ v. backs (v.job k).at ≤ 0) w e (token_act w k h t (z.0) before) (λ v m. turned v m) (is_act e) refl) in f
+      where
+        finished : (x : Whereabouts) → is_done x ≡ true → backs x ≤ 0
+        finished (Over d) y = omega arith
+        finished _ y = cc
+
+        turned : (v : World) → Turned w v (mover e) e → backs (v.job k).at ≤ 0
+        turned v m = elim (m.ats k l) [ inl s ↦ (let b : backs (v.job k).at ≡ backs (w.job k).at = ap backs s in omega (arith, b, before)) | inr d ↦ finished ((v.job k).at) d ]
+
+    by : (v : Whereabouts) → is_left v ≡ true → backs v ≤ 0 → ((is_queued v || (is_running v || is_done v)) ≡ true) ⊎ (v ≡ Spent)
+    by (Made q) y b = cc
+    by Nowhere y b = cc
+    by (InFifo p i) y b = cc
+    by (Retaken q) y b = cc
+    by HandedBack y b = absurd (omega (arith, b))
+    by (InDeque p i) y b = inl refl
+    by (Injected p) y b = inl refl
+    by (Running q) y b = inl refl
+    by (Over d) y b = inl refl
+    by Spent y b = inr refl
+
+-- a spawned job that is queued, in a hand, running or over is so still
+pub queued_on : (w u : World) (e : Event) → step w e ≡ Some u → SharesHold w → FeedersHold w → ReturnsHold u → Advance w u → (n : Plan) → Known w n → Queued w.job n → Queued u.job n
+queued_on w u e made h fe r a (Here p t) k z = tt
+queued_on w u e made h fe r a (Send o) k z = tt
+queued_on w u e made h fe r a (Fork o b) k z = tt
+queued_on w u e made h fe r a (Detach p t) k z = (final_left ((w.job t).at) ((u.job t).at) (a.final t) (z.0), handed_on w u e made h r a t (k.0) (k.1) (left_untaken w ((h.calls).jobs) t (z.0)) (z.1))
+queued_on w u e made h fe r a (Feed d) k z = (handed_on w u e made h r a d.job ((k.0).0) ((k.0).1) (paired_untaken w ((h.calls).jobs) fe d.job d.token (z.2) ((z.1).0)) (z.0), token_on w u e made h a d.token ((k.1).0) ((k.1).1) (z.1), z.2)
 
 -- a job that is over is in nobody's hand, so no Raise takes a share for it
 plan_hand : (t : ℕ) (n : Plan) → one (t == plan_job n) ≤ hand_plan t n
 plan_hand t (Detach p u) = omega arith
 plan_hand t (Here p u) = omega arith
 plan_hand t (Send o) = omega arith
+plan_hand t (Feed f) = omega arith
 plan_hand t (Fork o a) = omega arith
 
 over_nowhere : (v : Whereabouts) (n : ℕ) (l : Loc) → is_done v ≡ true → is_loc l (loc_of v n) ≡ 0
@@ -202,7 +408,10 @@ over_nowhere (Made q) n l d = cc
 over_nowhere (Running q) n l d = cc
 over_nowhere (InDeque p i) n l d = cc
 over_nowhere (Injected p) n l d = cc
+over_nowhere (InFifo p i) n l d = cc
 over_nowhere HandedBack n l d = cc
+over_nowhere (Retaken q) n l d = cc
+over_nowhere Spent n l d = cc
 over_nowhere Nowhere n l d = cc
 
 raise_apart : (w : World) → JobsHold w → (q : Party) (n : Plan) (fs : List Place) (t : ℕ) → w.stack q ≡ record { top = RaiseCount n; below = fs } → is_done (w.job t).at ≡ true → (t == plan_job n) ≡ true → ⊥
@@ -249,8 +458,10 @@ paid_on w u e made h a n z = (
   ),
 )
 
-pub sofar_on : (w u : World) (e : Event) → step w e ≡ Some u → SharesHold w → ReturnsHold u → Advance w u → (n : Plan) → Known w n → (s : Stage) → Sofar w s n → Sofar u s n
-sofar_on w u e made h r a n k Going z = tt
-sofar_on w u e made h r a n k Undone z = tt
-sofar_on w u e made h r a n k Paid z = paid_on w u e made ((h.calls).jobs) a n z
-sofar_on w u e made h r a n k Gone z = queued_on w u e made h r a n k z
+pub sofar_on : (w u : World) (e : Event) → step w e ≡ Some u → SharesHold w → FeedersHold w → ReturnsHold u → Advance w u → (n : Plan) → Known w n → (s : Stage) → Sofar w s n → Sofar u s n
+sofar_on w u e made h fe r a n k Going z = tt
+sofar_on w u e made h fe r a n k Undone z = tt
+sofar_on w u e made h fe r a n k Added z = tt
+sofar_on w u e made h fe r a n k Withdrawing z = tt
+sofar_on w u e made h fe r a n k Paid z = paid_on w u e made ((h.calls).jobs) a n z
+sofar_on w u e made h fe r a n k Gone z = queued_on w u e made h fe r a n k z

@@ -4,11 +4,11 @@ use Rattle.std.specs.Prelude.{ℕ, Bool, true, false, ◌&&◌, ◌||◌, ◌==�
 use Rattle.rayon_machine_places.specs.declared.place.Party.{Party}
 use Rattle.rayon_machine_places.specs.declared.place.JobKind.TheVariants.{Direct}
 use Rattle.rayon_machine_places.specs.declared.place.Plan.{Plan}
-use Rattle.rayon_machine_places.specs.declared.place.Plan.TheVariants.{Detach, Here, Send, Fork}
+use Rattle.rayon_machine_places.specs.declared.place.Plan.TheVariants.{Detach, Here, Send, Fork, Feed}
 use Rattle.rayon_machine_places.specs.declared.place.Place.{Place}
 use Rattle.rayon_machine_places.specs.declared.place.Place.TheVariants.{Run}
 use Rattle.rayon_machine_places.specs.declared.place.Move.{Move}
-use Rattle.rayon_machine_places.specs.declared.place.Move.TheVariants.{Stay, Enter, StartRun, Back, HandBack}
+use Rattle.rayon_machine_places.specs.declared.place.Move.TheVariants.{Stay, Enter, StartRun, Back, HandBack, Discard, HandIn}
 use Rattle.rayon_machine_places.specs.declared.act.Seen.{Seen}
 use Rattle.rayon_machine_places.specs.declared.event.Event.{Event}
 use Rattle.rayon_machine_places.specs.declared.event.Event.TheVariants.{Go}
@@ -18,7 +18,7 @@ use Rattle.rayon_machine_places.specs.Places.{plan_job, same_party, act_of, next
 use Rattle.rayon_machine_places.specs.World.{Stack, World, Part as Piece, target_pool, at_job}
 use Rattle.rayon_machine_places.specs.Steps.{put, after_move, handed_back, jobs_after, step}
 use Rattle.rayon_machine_laws.specs.End.{AllJobs}
-use Rattle.rayon_machine_orders.specs.Calls.{is_at_call, is_raise_refused, is_refusal, IsHandedOn}
+use Rattle.rayon_machine_orders.specs.Calls.{is_at_call, is_raise_refused, is_refusal, IsHandedOn, IsSpent}
 use Rattle.rayon_machine_laws.proofs.Frame.{if_some_all, if_some_map, put_new, same_party_true, same_party_refl, stack_mine, stack_other}
 use Rattle.rayon_machine_laws.proofs.Ties.{job_at, outcome, result}
 use Rattle.rayon_machine_laws.proofs.PlacedEvents.{Advance}
@@ -26,16 +26,18 @@ use Rattle.rayon_machine_laws.proofs.Claims.{Says}
 use Rattle.rayon_machine_laws.proofs.ClaimRuns.{CallsHold, world_after}
 use Rattle.rayon_machine_laws.proofs.Returns.{ReturnsHold}
 use Rattle.rayon_machine_orders.proofs.Filled.{FilledHold, takes_filled}
-use Rattle.rayon_machine_orders.proofs.CallPlaces.{Stage, Paid, is_undone, is_detach, Part, Ended, Returns, Known}
+use Rattle.rayon_machine_orders.proofs.CallPlaces.{Stage, Paid, is_undone, is_detach, Part, Ended, Returns, Known, Gone}
 use Rattle.rayon_machine_orders.proofs.CallActs.{Sofar, Went, call_goes, or_false}
 use Rattle.rayon_machine_orders.proofs.CallEvents.{whole, CallStands, Stood, Turned, at_call_yes, at_call_no}
 use Rattle.rayon_machine_orders.proofs.CallSteps.{Carries, mover, turns, go_all, step_carries, known_on, ended_on, sofar_on}
+use Rattle.rayon_machine_laws.proofs.Feeders.{FeedersHold}
 
 -- what holds of every world
 pub record Ground (w : World) : Type 0 where
   pub calls : CallsHold w
   pub filled : FilledHold w
   pub returns : ReturnsHold w
+  pub feeders : FeedersHold w
 
 -- the call goes on
 pub record Inside (u : World) (q : Party) (s : Stack) (n : Plan) (r : Bool) : Type 0 where
@@ -48,6 +50,7 @@ pub record Inside (u : World) (q : Party) (s : Stack) (n : Plan) (r : Bool) : Ty
 -- what a call that nothing refused leaves
 abbrev pub Unrefused : World → Plan → Type 0
 Unrefused u (Detach p t) = IsHandedOn u t
+Unrefused u (Feed f) = IsHandedOn u f.job × (IsHandedOn u f.token ⊎ IsSpent u f.token)
 Unrefused u (Here p t) = Ended u t
 Unrefused u (Send o) = Ended u o.job
 Unrefused u (Fork o a) = Ended u a × Ended u o.job
@@ -63,13 +66,15 @@ abbrev pub After : World → Party → Stack → Plan → Bool → Type 0
 After u q s n r = Inside u q s n r ⊎ Returned u q s n r
 
 -- a call returns
-left_so : (w u : World) → Advance w u → (n : Plan) (s : Stage) → Returns w n s → Sofar u s n → Unrefused u n
-left_so w u a (Detach p t) s y z = subst (λ v. Sofar u v (Detach p t)) y z
-left_so w u a (Here p t) s y z = ended_on w u a t (y.1)
-left_so w u a (Send o) s y z = ended_on w u a (o.job) (y.1)
-left_so w u a (Fork o b) s y z = (ended_on w u a b ((y.1).0), ended_on w u a (o.job) ((y.1).1))
+left_so : (w u : World) → Advance w u → (n : Plan) (s : Stage) → Known u n → Returns w n s → Sofar u s n → Unrefused u n
+left_so w u a (Detach p t) s k y z = (let b : Sofar u Gone (Detach p t) = subst (λ v. Sofar u v (Detach p t)) y z in b.1)
+left_so w u a (Feed f) s k y z = (let b : Sofar u Gone (Feed f) = subst (λ v. Sofar u v (Feed f)) y z in (b.0, elim ((b.1).1) [ inl c ↦ inl c | inr c ↦ inr (record { token = (k.1).1; at = c }) ]))
+left_so w u a (Here p t) s k y z = ended_on w u a t (y.1)
+left_so w u a (Send o) s k y z = ended_on w u a (o.job) (y.1)
+left_so w u a (Fork o b) s k y z = (ended_on w u a b ((y.1).0), ended_on w u a (o.job) ((y.1).1))
 
 paid_so : (w u : World) (n : Plan) (s : Stage) → Returns w n s → is_detach n ≡ false → Sofar u s n → (u.job (plan_job n)).counted ≡ false
+paid_so w u (Feed f) s y d z = absurd (let a : true ≡ false = d in cc)
 paid_so w u (Detach p t) s y d z = absurd (let a : true ≡ false = d in cc)
 paid_so w u (Here p t) s y d z = (let k : Sofar u Paid (Here p t) = subst (λ v. Sofar u v (Here p t)) (y.0) z in (k.1).1)
 paid_so w u (Send o) s y d z = (let k : Sofar u Paid (Send o) = subst (λ v. Sofar u v (Send o)) (y.0) z in (k.1).1)
@@ -77,37 +82,47 @@ paid_so w u (Fork o b) s y d z = (let k : Sofar u Paid (Fork o b) = subst (λ v.
 
 not_undone : (w : World) (n : Plan) (s : Stage) → Returns w n s → is_undone s ≡ false
 not_undone w (Detach p t) s y = ap is_undone y
+not_undone w (Feed f) s y = ap is_undone y
 not_undone w (Here p t) s y = ap is_undone (y.0)
 not_undone w (Send o) s y = ap is_undone (y.0)
 not_undone w (Fork o b) s y = ap is_undone (y.0)
+
+two_handed : (f : ℕ → Job) (a b : ℕ) → ((put (put f a (at_job (f a) HandedBack)) b (at_job (f b) HandedBack) a).at ≡ HandedBack) × ((put (put f a (at_job (f a) HandedBack)) b (at_job (f b) HandedBack) b).at ≡ HandedBack)
+two_handed f a b = (by (a == b), ap (λ j. j.at) (put_new (put f a (at_job (f a) HandedBack)) b (at_job (f b) HandedBack)))
+  where
+    by : (z : Bool) → (if z then at_job (f b) HandedBack else put f a (at_job (f a) HandedBack) a).at ≡ HandedBack
+    by true = refl
+    by false = ap (λ j. j.at) (put_new f a (at_job (f a) HandedBack))
 
 handed_all : (f : ℕ → Job) (m : Plan) → AllJobs (λ t. (handed_back m f t).at ≡ HandedBack) m
 handed_all f (Detach p t) = ap (λ j. j.at) (put_new f t (at_job (f t) HandedBack))
 handed_all f (Here p t) = ap (λ j. j.at) (put_new f t (at_job (f t) HandedBack))
 handed_all f (Send o) = ap (λ j. j.at) (put_new f (o.job) (at_job (f (o.job)) HandedBack))
-handed_all f (Fork o a) = (by (a == o.job), ap (λ j. j.at) (put_new (put f a (at_job (f a) HandedBack)) (o.job) (at_job (f (o.job)) HandedBack)))
-  where
-    by : (b : Bool) → (if b then at_job (f o.job) HandedBack else put f a (at_job (f a) HandedBack) a).at ≡ HandedBack
-    by true = refl
-    by false = ap (λ j. j.at) (put_new f a (at_job (f a) HandedBack))
+handed_all f (Fork o a) = two_handed f a o.job
+handed_all f (Feed d) = two_handed f d.job d.token
 
 -- where the call's own act leads
 landed : (w u : World) (q : Party) (s : Stack) (n : Plan) (st : Stage) (b : Bool) (g : Move) (f : ℕ → Job) → u.stack q ≡ after_move g (whole s) → u.job ≡ jobs_after q g f → Went w u n st b g → Sofar u st n → Known u n → Advance w u → After u q s n (is_undone st || b)
 landed w u q s n st b (Stay y) f z j h so k a = inl (record { stage = h.stage; stands = record { above = []; place = y; is = ap whole z; part = h.leads }; sofar = h.sofar so; known = k; flag = h.flag })
+landed w u q s n st b (HandIn y t) f z j h so k a = absurd h.leads
 landed w u q s n st b (Enter x y) f z j h so k a = inl (record { stage = h.stage; stands = record { above = y ∷ []; place = x; is = ap whole z; part = h.leads }; sofar = h.sofar so; known = k; flag = h.flag })
 landed w u q s n st b (StartRun x t) f z j h so k a = inl (record { stage = h.stage; stands = record { above = Run t Direct ∷ []; place = x; is = ap whole z; part = h.leads }; sofar = h.sofar so; known = k; flag = h.flag })
-landed w u q s n st b Back f z j h so k a = inr (record { back = z; ends = λ e. left_so w u a n h.stage h.leads (h.sofar so); paid = λ e d. paid_so w u n h.stage h.leads d (h.sofar so); refused = λ e. absurd (let c : is_undone h.stage ≡ false = not_undone w n h.stage h.leads in let d : is_undone h.stage ≡ true = h.flag ∙ e in cc) })
+landed w u q s n st b Back f z j h so k a = inr (record { back = z; ends = λ e. left_so w u a n h.stage k h.leads (h.sofar so); paid = λ e d. paid_so w u n h.stage h.leads d (h.sofar so); refused = λ e. absurd (let c : is_undone h.stage ≡ false = not_undone w n h.stage h.leads in let d : is_undone h.stage ≡ true = h.flag ∙ e in cc) })
 landed w u q s n st b (HandBack m) f z j h so k a = inr (record { back = z; ends = λ e. absurd (let c : is_undone h.stage ≡ true = ap is_undone ((h.leads).1) in let d : is_undone h.stage ≡ false = h.flag ∙ e in cc); paid = λ e d. absurd (let c : is_undone h.stage ≡ true = ap is_undone ((h.leads).1) in let d : is_undone h.stage ≡ false = h.flag ∙ e in cc); refused = λ e. subst (λ v. AllJobs (λ t. (u.job t).at ≡ HandedBack) v) ((h.leads).0) (subst (λ v. AllJobs (λ t. (v t).at ≡ HandedBack) m) (sym j) (handed_all f m)) })
+landed w u q s n st b (Discard t) f z j h so k a = absurd h.leads
 
 -- what goes on above the call's place
 climbs : (n : Plan) (st : Stage) (s : Stack) (g : Move) (gs : List Place) (p : Place) → Part n st p → CallStands n st s (after_move g (gs ++ (p ∷ whole s)))
 climbs n st s (Stay y) gs p h = record { above = y ∷ gs; place = p; is = refl; part = h }
+climbs n st s (HandIn y token) gs p h = record { above = y ∷ gs; place = p; is = refl; part = h }
 climbs n st s (Enter x y) gs p h = record { above = y ∷ (x ∷ gs); place = p; is = refl; part = h }
 climbs n st s (StartRun x t) gs p h = record { above = Run t Direct ∷ (x ∷ gs); place = p; is = refl; part = h }
 climbs n st s Back [] p h = record { above = []; place = p; is = refl; part = h }
 climbs n st s Back (b ∷ bs) p h = record { above = b ∷ bs; place = p; is = refl; part = h }
 climbs n st s (HandBack m) [] p h = record { above = []; place = p; is = refl; part = h }
+climbs n st s (Discard m) [] p h = record { above = []; place = p; is = refl; part = h }
 climbs n st s (HandBack m) (b ∷ bs) p h = record { above = b ∷ bs; place = p; is = refl; part = h }
+climbs n st s (Discard m) (b ∷ bs) p h = record { above = b ∷ bs; place = p; is = refl; part = h }
 
 -- what each step leaves of a call
 abbrev pub Stays : World → Event → Party → Stack → Plan → Bool → World → Type 0
@@ -122,7 +137,7 @@ idle : (w u : World) (e : Event) (q : Party) (s : Stack) (n : Plan) (r : Bool) �
 idle w u e q s n r g i z c made h a = inl (record {
   stage = i.stage;
   stands = subst (λ k. CallStands n i.stage s k) (sym z) i.stands;
-  sofar = sofar_on w u e made (g.returns.shares) h.returns a n i.known i.stage i.sofar;
+  sofar = sofar_on w u e made (g.returns.shares) g.feeders h.returns a n i.known i.stage i.sofar;
   known = keeps_known w u e made n i.known;
   flag = i.flag ∙ or_false r ∙ ap (λ v. r || v) (sym c);
 })
@@ -135,7 +150,7 @@ turned w u e q s n r g i t made h a =
     inl (record {
       stage = st.stage;
       stands = subst (λ k. CallStands n st.stage s k) (sym z) st.stands;
-      sofar = st.sofar (sofar_on w u e made (g.returns.shares) h.returns a n i.known i.stage i.sofar);
+      sofar = st.sofar (sofar_on w u e made (g.returns.shares) g.feeders h.returns a n i.known i.stage i.sofar);
       known = keeps_known w u e made n i.known;
       flag = st.flag ∙ ap (λ v. v || is_refusal q s w e) i.flag;
     })
@@ -147,14 +162,14 @@ by_turn w u e q s n r g i t false z = idle w u e q s n r g i (t.stack q ∙ stac
 -- its act is the call's own
 own_act : (w : World) (q : Party) (s : Stack) (n : Plan) (r : Bool) (st : Stage) (x : Place) (fs : List Place) → w.stack q ≡ record { top = x; below = fs } → fs ≡ whole s → Ground w → Part n st x → Sofar w st n → Known w n → is_undone st ≡ r → IfSome (outcome w q (record { top = x; below = fs })) (λ z. Stays w (Go q) q s n r (world_after w q x fs z))
 own_act w q s n r st x fs z e g p so k fl = if_some_map (λ v. Went w (world_after w q x fs v) n st (is_raise_refused w (act_of q x)) (next_of (w.shape.pool (target_pool q (act_of q x))) q x (v.0))) (λ v. Stays w (Go q) q s n r (world_after w q x fs v)) (λ v h made d a. lands v h made d a) (outcome w q (record { top = x; below = fs }))
-    (call_goes w q n st x fs (λ o f i c. takes_filled w g.filled q o f (ap (λ v. v.top) z ∙ i) c) k (subst (λ v. Says w q (v.top)) z ((g.calls.says q).top)) p)
+    (call_goes w q n st x fs (λ o f i c. takes_filled w g.filled q o f (ap (λ v. v.top) z ∙ i) c) z g.feeders (g.calls.jobs) k (subst (λ v. Says w q (v.top)) z ((g.calls.says q).top)) p)
   where
     refuses : is_refusal q s w (Go q) ≡ is_raise_refused w (act_of q x)
     refuses = let a : same_party q q ≡ true = same_party_refl q in let b : is_at_call s (w.stack q) ≡ true = at_call_yes s (w.stack q) (ap (λ v. v.below) z ∙ e) in rw a (rw b (ap (λ v. is_raise_refused w (act_of q v.top)) z))
 
     lands : (v : Seen × Piece) → Went w (world_after w q x fs v) n st (is_raise_refused w (act_of q x)) (next_of (w.shape.pool (target_pool q (act_of q x))) q x (v.0)) → Stays w (Go q) q s n r (world_after w q x fs v)
     lands v h made d a = subst (λ c. After (world_after w q x fs v) q s n c) (ap (λ c. c || is_raise_refused w (act_of q x)) fl ∙ ap (λ c. r || c) (sym refuses))
-        (landed w (world_after w q x fs v) q s n st (is_raise_refused w (act_of q x)) (next_of (w.shape.pool (target_pool q (act_of q x))) q x (v.0)) (put w.job (job_at w q (act_of q x)) (v.1.job)) (stack_mine w.stack q (after_move (next_of (w.shape.pool (target_pool q (act_of q x))) q x (v.0)) fs) ∙ ap (λ c. after_move (next_of (w.shape.pool (target_pool q (act_of q x))) q x (v.0)) c) e) refl h (sofar_on w (world_after w q x fs v) (Go q) made (g.returns.shares) d.returns a n k st so) (keeps_known w (world_after w q x fs v) (Go q) made n k) a)
+        (landed w (world_after w q x fs v) q s n st (is_raise_refused w (act_of q x)) (next_of (w.shape.pool (target_pool q (act_of q x))) q x (v.0)) (put w.job (job_at w q (act_of q x)) (v.1.job)) (stack_mine w.stack q (after_move (next_of (w.shape.pool (target_pool q (act_of q x))) q x (v.0)) fs) ∙ ap (λ c. after_move (next_of (w.shape.pool (target_pool q (act_of q x))) q x (v.0)) c) e) refl h (sofar_on w (world_after w q x fs v) (Go q) made (g.returns.shares) g.feeders d.returns a n k st so) (keeps_known w (world_after w q x fs v) (Go q) made n k) a)
 
 -- its act is of what runs inside the call
 inner_act : (w : World) (q : Party) (s : Stack) (n : Plan) (r : Bool) (st : Stage) (x : Place) (fs gs : List Place) (p : Place) → w.stack q ≡ record { top = x; below = fs } → fs ≡ gs ++ (p ∷ whole s) → Ground w → Part n st p → Sofar w st n → Known w n → is_undone st ≡ r → (v : Seen × Piece) → Stays w (Go q) q s n r (world_after w q x fs v)
@@ -164,7 +179,7 @@ inner_act w q s n r st x fs gs p z e g h so k fl v made d a =
     inl (record {
       stage = st;
       stands = subst (λ y. CallStands n st s y) (sym (stack_mine w.stack q (after_move move fs) ∙ ap (λ y. after_move move y) e)) (climbs n st s move gs p h);
-      sofar = sofar_on w (world_after w q x fs v) (Go q) made (g.returns.shares) d.returns a n k st so;
+      sofar = sofar_on w (world_after w q x fs v) (Go q) made (g.returns.shares) g.feeders d.returns a n k st so;
       known = keeps_known w (world_after w q x fs v) (Go q) made n k;
       flag = fl ∙ or_false r ∙ ap (λ y. r || y) (sym refuses);
     })

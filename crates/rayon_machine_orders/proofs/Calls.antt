@@ -6,29 +6,29 @@ use Rattle.std.proofs.lemmas.List.{append_assoc, length-append}
 use Rattle.rayon_machine_places.specs.declared.place.Party.{Party}
 use Rattle.rayon_machine_places.specs.declared.place.Party.TheVariants.{Worker, Caller}
 use Rattle.rayon_machine_places.specs.declared.place.Ending.{Ending}
-use Rattle.rayon_machine_places.specs.declared.place.JobKind.TheVariants.{Detached}
+use Rattle.rayon_machine_places.specs.declared.place.JobKind.TheVariants.{Detached, TokenOf}
 use Rattle.rayon_machine_places.specs.declared.place.Plan.{Plan}
-use Rattle.rayon_machine_places.specs.declared.place.Plan.TheVariants.{Detach, Here, Send, Fork}
+use Rattle.rayon_machine_places.specs.declared.place.Plan.TheVariants.{Detach, Here, Send, Fork, Feed}
 use Rattle.rayon_machine_places.specs.declared.place.Ending.TheVariants.{Fine, Fault}
 use Rattle.rayon_machine_places.specs.declared.place.Share.{Share}
 use Rattle.rayon_machine_places.specs.declared.place.Then.{Then}
 use Rattle.rayon_machine_places.specs.declared.place.Then.TheVariants.{BeginFound, LeaveWait, Resume, Await, RunFirst, Answers, Missing, Ran, GiveBack}
 use Rattle.rayon_machine_places.specs.declared.place.Place.{Place}
-use Rattle.rayon_machine_places.specs.declared.place.Place.TheVariants.{RaiseCount, LookQueue, PushJob, TakeResult, LowerCount}
+use Rattle.rayon_machine_places.specs.declared.place.Place.TheVariants.{RaiseCount, LookQueue, PushJob, TakeResult, LowerCount, BeginTask}
 use Rattle.rayon_machine_places.specs.declared.act.Act.TheVariants.{LookOwn, LookInj, PushOwn, PushInj, Take, Lower}
 use Rattle.rayon_machine_places.specs.declared.event.Event.{Event}
-use Rattle.rayon_machine_places.specs.declared.event.Event.TheVariants.{Spawn, Install, Join}
+use Rattle.rayon_machine_places.specs.declared.event.Event.TheVariants.{Spawn, Fifo, Install, Join}
 use Rattle.rayon_machine_places.specs.declared.state.Whereabouts.{Whereabouts}
-use Rattle.rayon_machine_places.specs.declared.state.Whereabouts.TheVariants.{Nowhere, Made, InDeque, Injected, Running, Over, HandedBack}
+use Rattle.rayon_machine_places.specs.declared.state.Whereabouts.TheVariants.{Nowhere, Made, InDeque, Injected, InFifo, Running, Over, HandedBack, Spent, Retaken}
 use Rattle.rayon_machine_places.specs.declared.place.OpenCall.{OpenCall}
 use Rattle.rayon_machine_places.specs.Places.{is_member, plan_pool, plan_job, act_of, is_free}
-use Rattle.rayon_machine_places.specs.World.{Shape, Stack, World}
-use Rattle.rayon_machine_places.specs.Steps.{after_call, is_pool, new_job, new_call, after_spawn, after_send, after_install, after_join, step}
+use Rattle.rayon_machine_places.specs.World.{Shape, Stack, World, is_token}
+use Rattle.rayon_machine_places.specs.Steps.{after_call, is_pool, new_job, new_call, after_spawn, after_send, after_install, after_join, step, after_feed, after_fifo, put}
 use Rattle.rayon_machine_places.specs.Runs.{IsRun, start}
 use Rattle.rayon_machine_places.specs.Readers.{is_done}
 use Rattle.rayon_machine_laws.specs.End.{HasEnded, Verdict, AllFine, FirstFault, LastFault, answered, follows, AllJobs}
-use Rattle.rayon_machine_orders.specs.Calls.{caller_of, jobs_of, is_awaited, verdict_of, IsPrecedent, IsRunUntil, is_at_call, is_refusal, is_any, HasRun, LeavesJob, HoldsEnding, StandsOn, CallLaw}
-use Rattle.rayon_machine_laws.proofs.Frame.{either, if_cond, put_new, stack_mine}
+use Rattle.rayon_machine_orders.specs.Calls.{caller_of, jobs_of, is_awaited, verdict_of, IsPrecedent, IsRunUntil, is_at_call, is_refusal, is_any, HasRun, LeavesJob, HoldsEnding, StandsOn, CallLaw, IsHandedOn, IsSpent}
+use Rattle.rayon_machine_laws.proofs.Frame.{either, if_cond, put_new, stack_mine, put_old}
 use Rattle.rayon_machine_laws.proofs.PlacedEvents.{Advance}
 use Rattle.rayon_machine_laws.proofs.PlacedRuns.{JobsHold, step_advance, once}
 use Rattle.rayon_machine_laws.proofs.Claims.{Opened, FirstEnds, is_detached, SaysThen, Says}
@@ -40,13 +40,15 @@ use Rattle.rayon_machine_orders.proofs.CallPlaces.{Stage, Going, is_undone, Part
 use Rattle.rayon_machine_orders.proofs.CallActs.{or_false}
 use Rattle.rayon_machine_orders.proofs.CallEvents.{whole, CallStands, at_call_no}
 use Rattle.rayon_machine_orders.proofs.CallStretch.{Ground, Inside, Unrefused, Returned, After, Stays, step_stays}
+use Rattle.rayon_machine_places.specs.declared.place.Taken.TheVariants.{Plain, Token}
+use Rattle.rayon_machine_laws.proofs.Feeders.{always_feeders}
 
 run_more : (w v u : World) (es : List Event) (e : Event) → IsRun w es v → step v e ≡ Some u → IsRun w (es ++ (e ∷ [])) u
 run_more w v u [] e r one = (u, subst (λ x. step x e ≡ Some u) r one, refl)
 run_more w v u (a ∷ es) e (x, two, rest) one = (x, two, run_more x v u es e rest one)
 
 ground_of : (h : Shape) (es : List Event) (w : World) → IsRun (start h) es w → Ground w
-ground_of h es w r = record { calls = always_calls h es w r; filled = always_filled h es w r; returns = always_returns h es w r }
+ground_of h es w r = record { calls = always_calls h es w r; filled = always_filled h es w r; returns = always_returns h es w r; feeders = always_feeders h es w r }
 
 or_assoc : (a b c : Bool) → ((a || b) || c) ≡ (a || (b || c))
 or_assoc true b c = refl
@@ -58,7 +60,7 @@ stretch h before w q s n u [] r run i same = subst (λ v. After v q s n (r || fa
 stretch h before w q s n u (e ∷ es) r run i (v, opened, one, rest) =
     let next : IsRun (start h) (before ++ (e ∷ [])) v = run_more (start h) w v before e run one in
     let d : Ground w = ground_of h before w run in
-    let adv : Advance w v = (let f : IfSome (Some v) (Advance w) = subst (λ o. IfSome o (Advance w)) one (step_advance w e ((d.calls.jobs).ok) ((d.calls.jobs).unmade)) in f) in
+    let adv : Advance w v = (let f : IfSome (Some v) (Advance w) = subst (λ o. IfSome o (Advance w)) one (step_advance w e ((d.calls.jobs).feeds) ((d.calls.jobs).ok) ((d.calls.jobs).unmade)) in f) in
     let st : Stays w e q s n r v = (let f : IfSome (Some v) (Stays w e q s n r) = subst (λ o. IfSome o (Stays w e q s n r)) one (step_stays w e q s n r d i) in f) in
     let b : Bool = is_refusal q s w e in
     elim (st one (ground_of h (before ++ (e ∷ [])) v next) adv) [
@@ -74,12 +76,15 @@ stretch h before w q s n u (e ∷ es) r run i (v, opened, one, rest) =
 abbrev IsOf : ℕ → Plan → Type 0
 IsOf t (Detach p a) = t ≡ a
 IsOf t (Here p a) = t ≡ a
+IsOf t (Feed f) = (t ≡ f.job) ⊎ (t ≡ f.token)
 IsOf t (Send o) = t ≡ o.job
 IsOf t (Fork o a) = (t ≡ a) ⊎ (t ≡ o.job)
 
 all_of : (P : ℕ → Type 0) (t : ℕ) (n : Plan) → IsOf t n → AllJobs P n → P t
 all_of P t (Detach p a) e z = subst P (sym e) z
 all_of P t (Here p a) e z = subst P (sym e) z
+all_of P t (Feed f) (inl e) z = subst P (sym e) (z.0)
+all_of P t (Feed f) (inr e) z = subst P (sym e) (z.1)
 all_of P t (Send o) e z = subst P (sym e) z
 all_of P t (Fork o a) (inl e) z = subst P (sym e) (z.0)
 all_of P t (Fork o a) (inr e) z = subst P (sym e) (z.1)
@@ -93,12 +98,16 @@ has_run u h t z = record { over = z; runs = by ((u.job t).at) refl z }
     by (Running q) i d = cc
     by (InDeque p j) i d = cc
     by (Injected p) i d = cc
+    by (InFifo p j) i d = cc
+    by (Retaken q) i d = cc
     by HandedBack i d = cc
+    by Spent i d = cc
     by Nowhere i d = cc
 
 -- what a call of this plan answers, by how its jobs ended
 abbrev PlanAnswers : World → Plan → Verdict → Type 0
 PlanAnswers u (Detach p t) x = ⊥
+PlanAnswers u (Feed f) x = ⊥
 PlanAnswers u (Here p t) FirstFault = ⊥
 PlanAnswers u (Here p t) LastFault = HasEnded u t Fault
 PlanAnswers u (Here p t) AllFine = HasEnded u t Fine
@@ -130,7 +139,7 @@ record Begun (w v : World) (q : Party) (e : Event) : Type 0 where
   made : v.jobs ≡ w.jobs + jobs_of e
   inside : Inside v q (w.stack q) plan false
   numbers : (t : ℕ) → w.jobs ≤ t → t < v.jobs → IsOf t plan
-  last : plan_job plan ≡ v.jobs - 1
+  last : is_detach plan ≡ false → plan_job plan ≡ v.jobs - 1
   awaited : is_awaited e ≡ true → is_detach plan ≡ false
   answer : (u : World) (x : Verdict) → PlanAnswers u plan x → IsPrecedent e u w.jobs (v.jobs - 1) (Some x)
   leaves : (u : World) → JobsHold u → (t : ℕ) → IsOf t plan → Unrefused u plan → LeavesJob e u t
@@ -138,17 +147,64 @@ record Begun (w v : World) (q : Party) (e : Event) : Type 0 where
 first_inside : (w v : World) (q : Party) (n : Plan) → v.stack q ≡ after_call (w.stack q) (RaiseCount n) → Known v n → Inside v q (w.stack q) n false
 first_inside w v q n z k = record { stage = Going; stands = record { above = []; place = RaiseCount n; is = ap whole z; part = (refl, refl) }; sofar = tt; known = k; flag = refl }
 
-spawn_begun : (w : World) (q : Party) (p : ℕ) → IfSome (after_spawn w q p (w.stack q)) (λ v. Begun w v q (Spawn q p))
-spawn_begun w q p = if_cond (λ v. Begun w v q (Spawn q p)) (is_free ((w.stack q).top) && is_pool w.shape p) _ (λ b. record {
+-- the event of a spawn that makes one job
+record OneSpawned (e : Event) : Type 0 where
+  one : jobs_of e ≡ 1
+  free : is_awaited e ≡ false
+  leaves : (u : World) (t : ℕ) → IsHandedOn u t → LeavesJob e u t
+
+spawn_as : (w : World) (q : Party) (p : ℕ) (e : Event) → OneSpawned e → IfSome (after_spawn w q p (w.stack q)) (λ v. Begun w v q e)
+spawn_as w q p e s = if_cond (λ v. Begun w v q e) (is_free ((w.stack q).top) && is_pool w.shape p) _ (λ b. record {
   plan = Detach p w.jobs;
-  made = refl;
+  made = ap (λ n. w.jobs + n) (sym s.one);
   inside = first_inside w _ q (Detach p w.jobs) (stack_mine w.stack q (after_call (w.stack q) (RaiseCount (Detach p w.jobs)))) ((omega arith), ap (λ j. is_detached j.kind) (put_new w.job w.jobs (new_job q p (Detached p))));
   numbers = λ t l m. omega (arith, l, m);
-  last = omega arith;
-  awaited = λ z. absurd (cc);
+  last = λ z. omega arith;
+  awaited = λ z. absurd (let a : true ≡ false = sym z ∙ s.free in cc);
   answer = λ u x y. absurd y;
-  leaves = λ u h t i z. subst (λ x. LeavesJob (Spawn q p) u x) (sym i) z;
+  leaves = λ u h t i z. s.leaves u t (subst (λ x. IsHandedOn u x) (sym i) z);
 })
+
+spawn_begun : (w : World) (q : Party) (p : ℕ) → IfSome (after_spawn w q p (w.stack q)) (λ v. Begun w v q (Spawn q p))
+spawn_begun w q p = spawn_as w q p (Spawn q p) (record { one = refl; free = refl; leaves = λ u t z. z })
+
+-- the numbers that a call with two gives out
+two_of : (n t : ℕ) → n ≤ t → t < n + 2 → (b : Bool) → (t == n) ≡ b → (t ≡ n) ⊎ (t ≡ n + 1)
+two_of n t l m true e = inl (eqb-true t n e)
+two_of n t l m false e = inr (let o : t ≡ n → ⊥ = λ z. (let k : (t == n) ≡ true = eq-eqb t n z in cc) in omega (arith, l, m, o))
+
+feed_known : (w : World) (p i : ℕ) → Known (after_feed w p i (w.stack (Worker p i))) (Feed (record { pool = p; job = w.jobs; token = w.jobs + 1 }))
+feed_known w p i = ((omega arith, ap (λ j. is_detached j.kind) first), (omega arith, ap (λ j. is_token j.kind) (put_new (put w.job w.jobs (new_job (Worker p i) p (Detached p))) (w.jobs + 1) (new_job (Worker p i) p (TokenOf i)))))
+  where
+    apart : (w.jobs == (w.jobs + 1)) ≡ false
+    apart = elim (either (w.jobs == (w.jobs + 1))) [ inl e ↦ absurd (let z : w.jobs ≡ w.jobs + 1 = eqb-true w.jobs (w.jobs + 1) e in omega (arith, z)) | inr e ↦ e ]
+
+    first : put (put w.job w.jobs (new_job (Worker p i) p (Detached p))) (w.jobs + 1) (new_job (Worker p i) p (TokenOf i)) w.jobs ≡ new_job (Worker p i) p (Detached p)
+    first = put_old (put w.job w.jobs (new_job (Worker p i) p (Detached p))) (w.jobs + 1) (new_job (Worker p i) p (TokenOf i)) w.jobs apart ∙ put_new w.job w.jobs (new_job (Worker p i) p (Detached p))
+
+feed_begun : (w : World) (p i : ℕ) → (p == p) ≡ true → Begun w (after_feed w p i (w.stack (Worker p i))) (Worker p i) (Fifo (Worker p i) p)
+feed_begun w p i same = record {
+  plan = Feed (record { pool = p; job = w.jobs; token = w.jobs + 1 });
+  made = ap (λ b. w.jobs + (if b then 2 else 1)) (sym same);
+  inside = first_inside w _ (Worker p i) (Feed (record { pool = p; job = w.jobs; token = w.jobs + 1 })) (stack_mine w.stack (Worker p i) (after_call (w.stack (Worker p i)) (RaiseCount (Feed (record { pool = p; job = w.jobs; token = w.jobs + 1 }))))) (feed_known w p i);
+  numbers = λ t l m. two_of w.jobs t l m (t == w.jobs) refl;
+  last = λ z. absurd (let a : true ≡ false = z in cc);
+  awaited = λ z. absurd (let a : true ≡ false = sym z in cc);
+  answer = λ u x y. absurd y;
+  leaves = λ u h t j z. by u t j z;
+}
+  where
+    by : (u : World) (t : ℕ) → (t ≡ w.jobs) ⊎ (t ≡ w.jobs + 1) → IsHandedOn u w.jobs × (IsHandedOn u (w.jobs + 1) ⊎ IsSpent u (w.jobs + 1)) → IsHandedOn u t ⊎ IsSpent u t
+    by u t (inl e) z = inl (subst (λ x. IsHandedOn u x) (sym e) (z.0))
+    by u t (inr e) z = subst (λ x. IsHandedOn u x ⊎ IsSpent u x) (sym e) (z.1)
+
+fifo_begun : (w : World) (q : Party) (p : ℕ) → IfSome (after_fifo w q p (w.stack q)) (λ v. Begun w v q (Fifo q p))
+fifo_begun w (Caller c) p = spawn_as w (Caller c) p (Fifo (Caller c) p) (record { one = refl; free = refl; leaves = λ u t z. inl z })
+fifo_begun w (Worker r i) p = by (r == p) refl
+  where
+    by : (z : Bool) → (r == p) ≡ z → IfSome (if z then (if is_free ((w.stack (Worker r i)).top) && is_pool w.shape p then Some (after_feed w p i (w.stack (Worker r i))) else None) else after_spawn w (Worker r i) p (w.stack (Worker r i))) (λ v. Begun w v (Worker r i) (Fifo (Worker r i) p))
+    by true z = subst (λ n. IfSome (if is_free ((w.stack (Worker n i)).top) && is_pool w.shape p then Some (after_feed w p i (w.stack (Worker n i))) else None) (λ v. Begun w v (Worker n i) (Fifo (Worker n i) p))) (sym (eqb-true r p z)) (if_cond (λ v. Begun w v (Worker p i) (Fifo (Worker p i) p)) (is_free ((w.stack (Worker p i)).top) && is_pool w.shape p) _ (λ b. feed_begun w p i (eq-eqb p p refl)))
+    by false z = spawn_as w (Worker r i) p (Fifo (Worker r i) p) (record { one = ap (λ b. if b then 2 else 1) z; free = refl; leaves = λ u t y. inl y })
 
 sent_begun : (w : World) (q : Party) (p : ℕ) (b : Bool) → Begun w (after_send w q p (w.stack q) b) q (Install q p)
 sent_begun w q p true = record {
@@ -156,7 +212,7 @@ sent_begun w q p true = record {
   made = refl;
   inside = first_inside w _ q (Here p w.jobs) (stack_mine w.stack q (after_call (w.stack q) (RaiseCount (Here p w.jobs)))) tt;
   numbers = λ t l m. omega (arith, l, m);
-  last = omega arith;
+  last = λ z. omega arith;
   awaited = λ z. refl;
   answer = λ u x y. one_answer w u q p w.jobs (w.jobs + 1 - 1) (omega arith) x y;
   leaves = λ u h t i z. has_run u h t (subst (λ x. Ended u x) (sym i) z);
@@ -166,7 +222,7 @@ sent_begun w q p false = record {
   made = refl;
   inside = first_inside w _ q (Send (record { number = w.calls; pool = p; job = w.jobs })) (stack_mine w.stack q (after_call (w.stack q) (RaiseCount (Send (record { number = w.calls; pool = p; job = w.jobs }))))) ((omega arith), ap (λ k. k.first) (put_new w.call w.calls (new_call None w.jobs)));
   numbers = λ t l m. omega (arith, l, m);
-  last = omega arith;
+  last = λ z. omega arith;
   awaited = λ z. refl;
   answer = λ u x y. one_answer w u q 0 w.jobs (w.jobs + 1 - 1) (omega arith) x (sent_answer u (record { number = w.calls; pool = p; job = w.jobs }) x y);
   leaves = λ u h t i z. has_run u h t (subst (λ x. Ended u x) (sym i) z);
@@ -181,7 +237,7 @@ join_begun w (Worker p i) = if_cond (λ v. Begun w v (Worker p i) (Join (Worker 
   made = refl;
   inside = first_inside w _ (Worker p i) (Fork (record { number = w.calls; pool = p; job = w.jobs + 1 }) w.jobs) (stack_mine w.stack (Worker p i) (after_call (w.stack (Worker p i)) (RaiseCount (Fork (record { number = w.calls; pool = p; job = w.jobs + 1 }) w.jobs)))) ((omega arith), ap (λ k. k.first) (put_new w.call w.calls (new_call (Some w.jobs) (w.jobs + 1))));
   numbers = λ t l m. two t l m (t == w.jobs) refl;
-  last = omega arith;
+  last = λ z. omega arith;
   awaited = λ z. refl;
   answer = λ u x y. two_answer u (Worker p i) (record { number = w.calls; pool = p; job = w.jobs + 1 }) w.jobs (w.jobs + 2 - 1) (omega arith) x y;
   leaves = λ u h t i z. has_run u h t (all_of (Ended u) t (Fork (record { number = w.calls; pool = p; job = w.jobs + 1 }) w.jobs) i z);
@@ -192,11 +248,19 @@ join_begun w (Worker p i) = if_cond (λ v. Begun w v (Worker p i) (Join (Worker 
     two t l m false e = inr (let n : t ≡ w.jobs → ⊥ = λ z. (let k : (t == w.jobs) ≡ true = eq-eqb t w.jobs z in cc) in omega (arith, l, m, n))
 join_begun w (Caller c) = tt
 
+open_awaited : (n : Plan) (o : OpenCall) → plan_open n ≡ Some o → is_detach n ≡ false
+open_awaited (Detach p t) o e = cc
+open_awaited (Feed f) o e = cc
+open_awaited (Here p t) o e = refl
+open_awaited (Send p) o e = refl
+open_awaited (Fork p a) o e = refl
+
 some_party : {q r : Party} → Some q ≡ Some r → q ≡ r
 some_party e = cc
 
 begun_by : (w : World) (q : Party) (e : Event) → caller_of e ≡ Some q → IfSome (step w e) (λ v. Begun w v q e)
 begun_by w q (Spawn r p) z = subst (λ x. IfSome (step w (Spawn r p)) (λ v. Begun w v x (Spawn r p))) (some_party z) (spawn_begun w r p)
+begun_by w q (Fifo r p) z = subst (λ x. IfSome (step w (Fifo r p)) (λ v. Begun w v x (Fifo r p))) (some_party z) (fifo_begun w r p)
 begun_by w q (Install r p) z = subst (λ x. IfSome (step w (Install r p)) (λ v. Begun w v x (Install r p))) (some_party z) (install_begun w r p)
 begun_by w q (Join r) z = subst (λ x. IfSome (step w (Join r)) (λ v. Begun w v x (Join r))) (some_party z) (join_begun w r)
 begun_by w q _ z = absurd (cc)
@@ -224,6 +288,16 @@ taker (Worker i j) (PushJob n v) c e = absurd (by (is_member (Worker i j) (plan_
     by : (b : Bool) → (if b then PushOwn (plan_job n) else PushInj (plan_pool n) (plan_job n)) ≡ Take c → ⊥
     by true z = cc
     by false z = cc
+taker q (BeginTask (Plain t)) c e = absurd (begun q e)
+  where
+    begun : (q : Party) → act_of q (BeginTask (Plain t)) ≡ Take c → ⊥
+    begun (Worker i j) z = cc
+    begun (Caller i) z = cc
+taker q (BeginTask (Token k l)) c e = absurd (begun q e)
+  where
+    begun : (q : Party) → act_of q (BeginTask (Token k l)) ≡ Take c → ⊥
+    begun (Worker i j) z = cc
+    begun (Caller i) z = cc
 taker (Worker i j) _ c e = absurd (cc)
 taker (Caller i) _ c e = absurd (cc)
 
@@ -285,12 +359,23 @@ lowerer (Worker i j) (PushJob n v) p h e = absurd (by (is_member (Worker i j) (p
     by : (b : Bool) → (if b then PushOwn (plan_job n) else PushInj (plan_pool n) (plan_job n)) ≡ Lower p h → ⊥
     by true z = cc
     by false z = cc
+lowerer q (BeginTask (Plain t)) p h e = absurd (begun q e)
+  where
+    begun : (q : Party) → act_of q (BeginTask (Plain t)) ≡ Lower p h → ⊥
+    begun (Worker i j) z = cc
+    begun (Caller i) z = cc
+lowerer q (BeginTask (Token k l)) p h e = absurd (begun q e)
+  where
+    begun : (q : Party) → act_of q (BeginTask (Token k l)) ≡ Lower p h → ⊥
+    begun (Worker i j) z = cc
+    begun (Caller i) z = cc
 lowerer (Worker i j) _ p h e = absurd (cc)
 lowerer (Caller i) _ p h e = absurd (cc)
 
 -- what the call's own Lower says of its answer
 open_answers : (u : World) → JobsHold u → (n : Plan) (o : OpenCall) (f : Option Ending) (d : Ending) → Known u n → FirstEnds u (u.call o.number).first f → (u.job o.job).at ≡ Over d → plan_open n ≡ Some o → PlanAnswers u n (answered f d)
 open_answers u h (Detach p t) o f d k s z e = absurd (cc)
+open_answers u h (Feed g) o f d k s z e = absurd (cc)
 open_answers u h (Here p t) o f d k s z e = absurd (cc)
 open_answers u h (Send m) o f d k s z e = by f d (subst (λ x. FirstEnds u x f) (ap (λ x. (u.call x.number).first) (sym same) ∙ k.1) s) (subst (λ x. (u.job x.job).at ≡ Over d) (sym same) z)
   where
@@ -314,6 +399,7 @@ open_answers u h (Fork m t) o f d k s z e = by f d (subst (λ x. FirstEnds u x f
 
 here_answers : (u : World) → JobsHold u → (n : Plan) (t : ℕ) (d : Ending) → (u.job t).at ≡ Over d → plan_here n ≡ Some t → PlanAnswers u n (answered None d)
 here_answers u h (Detach p i) t d z e = absurd (cc)
+here_answers u h (Feed f) t d z e = absurd (cc)
 here_answers u h (Send o) t d z e = absurd (cc)
 here_answers u h (Fork o a) t d z e = absurd (cc)
 here_answers u h (Here p i) t d z e = by d (let a : i ≡ t = cc in subst (λ x. (u.job x).at ≡ Over d) (sym a) z)
@@ -348,6 +434,7 @@ call_takes u g q s n r c t last (inr k) z a = absurd (not_at_itself s (subst (λ
 is_own : (n : Plan) → IsOf (plan_job n) n
 is_own (Detach p t) = refl
 is_own (Here p t) = refl
+is_own (Feed f) = inl refl
 is_own (Send o) = refl
 is_own (Fork o a) = inr refl
 
@@ -375,9 +462,9 @@ call_law h before q e w v u between b run =
     record {
       made = begun.made;
       stands = call_stands u q s n r a;
-      takes = λ c z y. call_takes u g q s n r c (v.jobs - 1) (λ o z. open_job n o z ∙ begun.last) a z y;
+      takes = λ c z y. call_takes u g q s n r c (v.jobs - 1) (λ o z. open_job n o z ∙ begun.last (open_awaited n o z)) a z y;
       answers = λ y p h z x d. call_answers u g q s n r p h (IsPrecedent e u w.jobs (v.jobs - 1)) (begun.answer u) a z x d;
-      pays = λ z y. subst (λ t. (u.job t).counted ≡ false) begun.last (by_refusal u g q s n r (is_returned u q s n r a z) (begun.awaited y) (either r));
+      pays = λ z y. subst (λ t. (u.job t).counted ≡ false) (begun.last (begun.awaited y)) (by_refusal u g q s n r (is_returned u q s n r a z) (begun.awaited y) (either r));
       ends = λ z y t l m. begun.leaves u (g.calls.jobs) t (begun.numbers t l m) ((is_returned u q s n r a z).ends y);
       refused = λ z y t l m. (let i : (u.job t).at ≡ HandedBack = all_of (λ x. (u.job x).at ≡ HandedBack) t n (begun.numbers t l m) ((is_returned u q s n r a z).refused y) in record { at = i; untouched = (refused_so u (g.calls.jobs)).gone t i; share = (returned_so u g.returns).gone t i });
     }

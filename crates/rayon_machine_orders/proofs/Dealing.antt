@@ -1,21 +1,22 @@
 -- what each step does to the own deque of a worker that is alone in its pool, and what it has taken from it
 use Rattle.std.proofs.Common.{refl, sym, ◌∙◌, ap, subst, inl, inr}
+use Rattle.std.proofs.lemmas.Bool.{eqb-true}
 use Rattle.std.specs.Prelude.{ℕ, Bool, true, false, ◌==◌, if◌then◌else◌, Option, Some, None, List, [], ◌∷◌, ◌++◌, ◌≡◌, ◌⊎◌, IfSome}
 use Rattle.rayon_machine_places.specs.declared.shape.Order.{Order}
 use Rattle.rayon_machine_places.specs.declared.place.Party.{Party}
 use Rattle.rayon_machine_places.specs.declared.place.Party.TheVariants.{Worker}
 use Rattle.rayon_machine_places.specs.declared.place.Plan.{Plan}
 use Rattle.rayon_machine_places.specs.declared.place.Place.{Place}
-use Rattle.rayon_machine_places.specs.declared.place.Place.TheVariants.{PopWorking, PopIdle, JoinPop, YieldPop, LocalPop, JoinProbe, SecondSide, BeginTask, BeginHere, PushJob}
-use Rattle.rayon_machine_places.specs.declared.place.Move.TheVariants.{Enter}
+use Rattle.rayon_machine_places.specs.declared.place.Place.TheVariants.{PopWorking, PopIdle, JoinPop, YieldPop, LocalPop, JoinProbe, SecondSide, BeginTask, BeginHere, PushJob, PushToken}
+use Rattle.rayon_machine_places.specs.declared.place.Move.TheVariants.{Enter, Discard}
 use Rattle.rayon_machine_places.specs.declared.act.Act.{Act}
 use Rattle.rayon_machine_places.specs.declared.act.Act.TheVariants.{PushOwn, PushInj}
 use Rattle.rayon_machine_places.specs.declared.act.Seen.{Seen}
 use Rattle.rayon_machine_places.specs.declared.act.Seen.TheVariants.{Task, Missing}
 use Rattle.rayon_machine_places.specs.declared.shape.PoolShape.{PoolShape}
 use Rattle.rayon_machine_places.specs.declared.place.OpenCall.{OpenCall}
-use Rattle.rayon_machine_places.specs.Places.{same_party, plan_pool, plan_job, act_of, next_of}
-use Rattle.rayon_machine_places.specs.World.{Stack, World, counts_at, Part, own_of, own_left, popped, target_pool, target_worker, target_call, effect}
+use Rattle.rayon_machine_places.specs.Places.{same_party, plan_pool, plan_job, act_of, next_of, after_begin, is_taken, taken_number}
+use Rattle.rayon_machine_places.specs.World.{Stack, World, counts_at, Part, own_of, own_left, popped, target_pool, target_worker, target_call, effect, fifo_first, head_of, is_open, left_by, or_none, taken_as}
 use Rattle.rayon_machine_places.specs.Steps.{put_seat, part_of, after_move, step}
 use Rattle.rayon_machine_orders.specs.Order.{Happening, act_happens, happening, Hands}
 use Rattle.rayon_machine_laws.proofs.Calm.{part_at, counts_seen, next_at}
@@ -25,7 +26,10 @@ use Rattle.rayon_machine_laws.proofs.Ties.{AllFrames, job_at, shape_at, outcome,
 use Rattle.rayon_machine_laws.proofs.Tops.{FramesOk}
 use Rattle.rayon_machine_places.specs.declared.event.Event.{Event}
 use Rattle.rayon_machine_places.specs.declared.event.Event.TheVariants.{Go}
-use Rattle.rayon_machine_orders.proofs.Dealt.{is_pop, elsewhere, is_start, is_push, Dealt, own_hands, hand_on, silent, seat_mine, seat_own, quiet_own, other_own}
+use Rattle.rayon_machine_orders.proofs.Dealt.{is_pop, elsewhere, is_start, is_push, Dealt, own_hands, hand_on, silent, seat_mine, seat_own, quiet_own, other_own, lands_free}
+use Rattle.rayon_machine_places.specs.declared.place.Taken.TheVariants.{Plain, Token}
+use Rattle.rayon_machine_places.specs.declared.place.Taken.{Taken}
+use Rattle.rayon_machine_laws.proofs.Placed.{same_number}
 
 -- what a step does to a worker's deque, between two worlds
 abbrev pub Deals : Order → ℕ → ℕ → World → World → Option Happening → Type 0
@@ -36,17 +40,21 @@ abbrev Own : World → ℕ → ℕ → Place → List Place → Type 0
 Own w p i x fs = IfSome (outcome w (Worker p i) (record { top = x; below = fs })) (λ r. Dealt (w.shape.pool p).order x (w.seat p i).own ((result w (Worker p i) (record { top = x; below = fs }) r).seat p i).own (after_move (next_at w (Worker p i) (record { top = x; below = fs }) (r.0)) fs).top (act_happens (act_of (Worker p i) x) fs))
 
 -- a look in the own deque, by what it leads to
-popped_deals : (w : World) (p i : ℕ) (x : Place) (fs : List Place) (m : Part) (j : Option ℕ) → own_of (w.shape.pool p).order (w.seat p i).own ≡ j → m.seat ≡ w.seat p i → taken x ≡ None → (taken ((after_move (next_of (w.shape.pool p) (Worker p i) x Missing) fs).top) ≡ None) → ((t : ℕ) → taken ((after_move (next_of (w.shape.pool p) (Worker p i) x (Task t)) fs).top) ≡ Some t) →
+popped_deals : (w : World) (p i : ℕ) (x : Place) (fs : List Place) (m : Part) (j : Option ℕ) → own_of (w.shape.pool p).order (w.seat p i).own ≡ j → m.seat ≡ w.seat p i → taken x ≡ None → (taken ((after_move (next_of (w.shape.pool p) (Worker p i) x Missing) fs).top) ≡ None) → ((t : Taken) → taken ((after_move (next_of (w.shape.pool p) (Worker p i) x (Task t)) fs).top) ≡ Some (taken_number t)) →
     IfSome (popped (Worker p i) m (own_left (w.shape.pool p).order (w.seat p i).own) j) (λ r. Dealt (w.shape.pool p).order x (w.seat p i).own (put_seat w.seat p i (r.1.seat) p i).own (after_move (next_of (w.shape.pool p) (Worker p i) x (r.0)) fs).top None)
 popped_deals w p i x fs m None e s n a b = inl (ap (λ z. z.own) (seat_mine w.seat p i m.seat ∙ s), inl (n, inl a))
-popped_deals w p i x fs m (Some t) e s n a b = inr (t, subst (λ z. Hands (w.shape.pool p).order (w.seat p i).own t z) (sym (ap (λ z. z.own) (seat_mine w.seat p i (record (m.seat) { own = own_left (w.shape.pool p).order (w.seat p i).own })))) (own_hands (w.shape.pool p).order (w.seat p i).own t e), n, b t)
+popped_deals w p i x fs m (Some t) e s n a b = inr (t, subst (λ z. Hands (w.shape.pool p).order (w.seat p i).own t z) (sym (ap (λ z. z.own) (seat_mine w.seat p i (record (m.seat) { own = own_left (w.shape.pool p).order (w.seat p i).own })))) (own_hands (w.shape.pool p).order (w.seat p i).own t e), n, b (taken_as t (m.job.kind)) ∙ ap Some (same_number t (m.job.kind)))
 
-join_taken : (h : PoolShape) (q : Party) (o : OpenCall) (t : ℕ) (fs : List Place) → taken ((after_move (next_of h q (JoinPop o) (Task t)) fs).top) ≡ Some t
-join_taken h q o t fs = at (t == o.job)
+join_taken : (h : PoolShape) (q : Party) (o : OpenCall) (t : Taken) (fs : List Place) → taken ((after_move (next_of h q (JoinPop o) (Task t)) fs).top) ≡ Some (taken_number t)
+join_taken h q o t fs = at (is_taken t o.job) refl
   where
-    at : (b : Bool) → taken ((after_move (if b then Enter (SecondSide o) (BeginHere t) else Enter (JoinProbe o) (BeginTask t)) fs).top) ≡ Some t
-    at true = refl
-    at false = refl
+    is : (t : Taken) → is_taken t o.job ≡ true → o.job ≡ taken_number t
+    is (Plain u) e = sym (eqb-true u o.job e)
+    is (Token k i) e = cc
+
+    at : (b : Bool) → is_taken t o.job ≡ b → taken ((after_move (if b then Enter (SecondSide o) (BeginHere o.job) else Enter (JoinProbe o) (BeginTask t)) fs).top) ≡ Some (taken_number t)
+    at true e = ap Some (is t e)
+    at false e = refl
 
 pop_deals : (w : World) (p i : ℕ) (x : Place) (fs : List Place) → is_pop x ≡ true → Own w p i x fs
 pop_deals w p i (PopWorking k) fs z = popped_deals w p i (PopWorking k) fs (part_at w (Worker p i) (record { top = PopWorking k; below = fs })) (own_of (w.shape.pool p).order (w.seat p i).own) refl refl refl refl (λ t. refl)
@@ -57,10 +65,28 @@ pop_deals w p i LocalPop fs z = popped_deals w p i LocalPop fs (part_at w (Worke
 pop_deals w p i _ fs z = cc
 
 -- a begin
-start_deals : (w : World) (p i : ℕ) (x : Place) (fs : List Place) → is_start x ≡ true → Own w p i x fs
-start_deals w p i (BeginTask t) fs z = (ap (λ s. s.own) (seat_mine w.seat p i (w.seat p i)), refl, refl)
-start_deals w p i (BeginHere t) fs z = (ap (λ s. s.own) (seat_mine w.seat p i (w.seat p i)), refl, refl)
-start_deals w p i _ fs z = cc
+start_deals : (w : World) (p i : ℕ) (x : Place) (fs : List Place) → AllFrames fs → is_start x ≡ true → Own w p i x fs
+start_deals w p i (BeginTask (Plain t)) fs a z = (ap (λ s. s.own) (seat_mine w.seat p i (w.seat p i)), refl, refl)
+start_deals w p i (BeginTask (Token k j)) fs a z = by (is_open me ((w.seat p j).feeder))
+  where
+    me : Party
+    me = Worker p i
+
+    P : Seen × Part → Type 0
+    P r = ((put_seat w.seat p j (r.1.seat) p i).own ≡ (w.seat p i).own) × (Some k ≡ Some k) × (taken ((after_move (after_begin (Token k j) (r.0)) fs).top) ≡ None)
+
+    spent : taken ((after_move (Discard k) fs).top) ≡ None
+    spent = lands_free (Discard k) fs a tt
+
+    first : (l : List ℕ) → (w.seat p j).fifo ≡ l → IfSome (fifo_first me (part_of w p j 0 (or_none (head_of ((w.seat p j).fifo)))) l) P
+    first [] e = (seat_own w.seat p j p i (w.seat p j) refl, refl, spent)
+    first (u ∷ us) e = (seat_own w.seat p j p i (record (w.seat p j) { fifo = us }) refl, refl, refl)
+
+    by : (b : Bool) → IfSome (if b then fifo_first me (part_of w p j 0 (or_none (head_of ((w.seat p j).fifo)))) ((w.seat p j).fifo) else None) P
+    by true = first ((w.seat p j).fifo) refl
+    by false = tt
+start_deals w p i (BeginHere t) fs a z = (ap (λ s. s.own) (seat_mine w.seat p i (w.seat p i)), refl, refl)
+start_deals w p i _ fs a z = cc
 
 -- a push, onto the own deque or elsewhere
 push_deals : (w : World) (p i : ℕ) (n : Plan) (v : Bool) (fs : List Place) → Own w p i (PushJob n v) fs
@@ -73,11 +99,12 @@ push_deals w p i n v fs = at (p == plan_pool n)
     ByAct a = IfSome (effect a w.shape me (counts_at w (target_pool me a)) (part_of w (target_pool me a) (target_worker me a) (target_call a) (job_at w me a))) (λ r. Dealt (w.shape.pool p).order (PushJob n v) (w.seat p i).own (put_seat w.seat (target_pool me a) (target_worker me a) (r.1.seat) p i).own (after_move (next_of (w.shape.pool (target_pool me a)) me (PushJob n v) (r.0)) fs).top (act_happens a fs))
 
     at : (z : Bool) → ByAct (if z then PushOwn (plan_job n) else PushInj (plan_pool n) (plan_job n))
-    at true = (ap (λ s. s.own) (seat_mine w.seat p i (record (w.seat p i) { own = (w.seat p i).own ++ plan_job n ∷ [] })), refl, refl)
+    at true = (ap (λ s. s.own) (seat_mine w.seat p i (record (w.seat p i) { own = (w.seat p i).own ++ plan_job n ∷ []; feeder = left_by (Worker p i) ((w.seat p i).feeder) })), refl, refl)
     at false = inl (seat_own w.seat (plan_pool n) i p i (w.seat (plan_pool n) i) refl, inl (refl, inl refl))
 
 push_own : (w : World) (p i : ℕ) (x : Place) (fs : List Place) → is_push x ≡ true → Own w p i x fs
 push_own w p i (PushJob n v) fs z = push_deals w p i n v fs
+push_own w p i (PushToken f v) fs z = (ap (λ s. s.own) (seat_mine w.seat p i (record (w.seat p i) { own = (w.seat p i).own ++ f.token ∷ []; feeder = left_by (Worker p i) ((w.seat p i).feeder) })), refl, refl)
 push_own w p i _ fs z = cc
 
 quiet_deals : (w : World) (p i : ℕ) (x : Place) (fs : List Place) → AllFrames fs → is_pop x ≡ false → is_thief x ≡ false → is_push x ≡ false → is_start x ≡ false → Own w p i x fs
@@ -94,7 +121,7 @@ own_deals : (w : World) (p i : ℕ) (x : Place) (fs : List Place) → AllFrames 
 own_deals w p i x fs a z = elim (either (is_pop x)) [
   | inl y ↦ pop_deals w p i x fs y
   | inr y ↦ elim (either (is_start x)) [
-    | inl b ↦ start_deals w p i x fs b
+    | inl b ↦ start_deals w p i x fs a b
     | inr b ↦ elim (either (is_push x)) [
       | inl s ↦ push_own w p i x fs s
       | inr s ↦ quiet_deals w p i x fs a y z s b

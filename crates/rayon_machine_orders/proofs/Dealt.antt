@@ -11,28 +11,30 @@ use Rattle.rayon_machine_places.specs.declared.place.Target.TheVariants.{Termina
 use Rattle.rayon_machine_places.specs.declared.place.Latch.{Latch}
 use Rattle.rayon_machine_places.specs.declared.place.Latch.TheVariants.{Terminate, OfCall}
 use Rattle.rayon_machine_places.specs.declared.place.Plan.{Plan}
-use Rattle.rayon_machine_places.specs.declared.place.Plan.TheVariants.{Detach, Here, Send, Fork}
+use Rattle.rayon_machine_places.specs.declared.place.Plan.TheVariants.{Detach, Here, Send, Fork, Feed}
 use Rattle.rayon_machine_places.specs.declared.place.Then.{Then}
 use Rattle.rayon_machine_places.specs.declared.place.Then.TheVariants.{BeginFound, LeaveWait, Resume, Await, RunFirst, Answers, Missing as Lacks, Ran, GiveBack}
 use Rattle.rayon_machine_places.specs.declared.place.Place.{Place}
-use Rattle.rayon_machine_places.specs.declared.place.Place.TheVariants.{ProbeWorking, PopWorking, TakeCastWorking, PopIdle, TakeCastIdle, StealFrom, PopInjected, LeaveSearch, JoinPop, JoinTakeCast, YieldPop, YieldTakeCast, YieldSteal, YieldPopInjected, LocalPop, LocalTakeCast, PickVictim, YieldPick, BeginTask, BeginHere, RaiseCount, LookQueue, PushJob, TellNews, LockToWake, WakeWorker, UnlockWoken, LowerCount, SetLatch, LockToSettle, WakeSettled, UnlockSettled}
+use Rattle.rayon_machine_places.specs.declared.place.Place.TheVariants.{ProbeWorking, PopWorking, TakeCastWorking, PopIdle, TakeCastIdle, StealFrom, PopInjected, LeaveSearch, JoinPop, JoinTakeCast, YieldPop, YieldTakeCast, YieldSteal, YieldPopInjected, LocalPop, LocalTakeCast, PickVictim, YieldPick, BeginTask, BeginHere, RaiseCount, LookQueue, PushJob, TellNews, LockToWake, WakeWorker, UnlockWoken, LowerCount, SetLatch, LockToSettle, WakeSettled, UnlockSettled, AddToFifo, PushToken, TakeFromFifo}
 use Rattle.rayon_machine_places.specs.declared.place.Move.{Move}
-use Rattle.rayon_machine_places.specs.declared.place.Move.TheVariants.{Stay, Enter, StartRun, Back, HandBack}
+use Rattle.rayon_machine_places.specs.declared.place.Move.TheVariants.{Stay, Enter, StartRun, Back, HandBack, Discard, HandIn}
 use Rattle.rayon_machine_places.specs.declared.act.Act.TheVariants.{LookOwn, LookInj, PushOwn, PushInj, Set}
 use Rattle.rayon_machine_places.specs.declared.act.Seen.{Seen}
-use Rattle.rayon_machine_places.specs.declared.act.Seen.TheVariants.{Yes}
+use Rattle.rayon_machine_places.specs.declared.act.Seen.TheVariants.{Yes, Done, Task}
 use Rattle.rayon_machine_places.specs.declared.shape.PoolShape.{PoolShape}
 use Rattle.rayon_machine_places.specs.declared.place.Settling.{Settling}
-use Rattle.rayon_machine_places.specs.Places.{same_party, is_member, plan_pool, plan_job, finish, walk, settle, after_set, after_found, after_news, act_of, next_of}
-use Rattle.rayon_machine_places.specs.World.{Shape, Seat, Stack, World, Counts, Part, last_of, but_last, own_of, own_left, target_pool, target_worker, effect}
+use Rattle.rayon_machine_places.specs.Places.{same_party, is_member, plan_pool, plan_job, finish, walk, settle, after_set, after_found, after_news, act_of, next_of, taken_back}
+use Rattle.rayon_machine_places.specs.World.{Shape, Seat, Stack, World, Counts, Part, last_of, but_last, own_of, own_left, target_pool, target_worker, effect, is_open}
 use Rattle.rayon_machine_places.specs.Steps.{put_seat, after_move}
-use Rattle.rayon_machine_orders.specs.Order.{Happening, Adds, Begins, act_happens, Hands}
+use Rattle.rayon_machine_orders.specs.Order.{Happening, Adds, Begins, Redeems, act_happens, Hands}
 use Rattle.rayon_machine_laws.proofs.Calm.{part_at, counts_seen}
-use Rattle.rayon_machine_laws.proofs.Frame.{either, if_some_all, if_some_map, same_index, same_refl}
-use Rattle.rayon_machine_orders.proofs.Lone.{is_thief, settle_move, settled_move, taken, taken_then, walk_move}
+use Rattle.rayon_machine_laws.proofs.Frame.{either, if_some_all, if_some_map, same_index, same_refl, if_cond, out_sees, undo_sees}
+use Rattle.rayon_machine_orders.proofs.Lone.{is_thief, settle_move, settled_move, taken, taken_then, walk_move, number_found}
 use Rattle.rayon_machine_laws.proofs.Seats.{is_frame}
 use Rattle.rayon_machine_laws.proofs.Ties.{AllFrames, outcome, result}
 use Rattle.rayon_machine_laws.proofs.Tops.{Tops, top_after}
+use Rattle.rayon_machine_places.specs.declared.place.Taken.TheVariants.{Plain, Token}
+use Rattle.rayon_machine_places.specs.declared.place.Taken.{Taken}
 
 -- a worker looks in its own deque
 abbrev pub is_pop : Place → Bool
@@ -70,6 +72,7 @@ is_start _ = false
 
 abbrev pub is_push : Place → Bool
 is_push (PushJob n e) = true
+is_push (PushToken f e) = true
 is_push _ = false
 
 -- the deque is as it was: a party that had taken no job has none, or one that was elsewhere; one that had a job still
@@ -85,6 +88,7 @@ Pops o x old new y = (t : ℕ) × Hands o old t new × (taken x ≡ None) × (ta
 abbrev pub Dealt : Order → Place → List ℕ → List ℕ → Place → Option Happening → Type 0
 Dealt o x old new y None = Keeps x old new y ⊎ Pops o x old new y
 Dealt o x old new y (Some (Adds by t)) = (new ≡ old ++ t ∷ []) × (taken x ≡ None) × (taken y ≡ None)
+Dealt o x old new y (Some (Redeems t)) = (new ≡ old) × (taken x ≡ Some t) × (taken y ≡ None)
 Dealt o x old new y (Some (Begins t)) = (new ≡ old) × (taken x ≡ Some t) × (taken y ≡ None)
 
 -- the next job that a list hands out is the one that the worker takes from its deque
@@ -101,17 +105,21 @@ own_hands OldestFirst (u ∷ l) t e = let k : u ≡ t = cc in ap (λ z. z ∷ l)
 -- what a move leads to at once, above frames
 abbrev Lands : (Place → Type 0) → Move → Type 0
 Lands R (Stay y) = R y
+Lands R (HandIn y token) = R y
 Lands R (Enter f y) = R y
 Lands R (StartRun f t) = ⊥
 Lands R Back = ⊥
 Lands R (HandBack n) = ⊥
+Lands R (Discard n) = ⊥
 
 lands_top : (R : Place → Type 0) (g : Move) (fs : List Place) → Lands R g → R ((after_move g fs).top)
 lands_top R (Stay y) fs l = l
+lands_top R (HandIn y token) fs l = l
 lands_top R (Enter f y) fs l = l
 lands_top R (StartRun f t) fs l = absurd l
 lands_top R Back fs l = absurd l
 lands_top R (HandBack n) fs l = absurd l
+lands_top R (Discard n) fs l = absurd l
 
 frame_empty : (f : Place) → is_frame f ≡ true → taken f ≡ None
 frame_empty (ProbeWorking k) e = refl
@@ -123,6 +131,9 @@ FreeOf g = Tops (λ y. taken y ≡ None) g
 
 abbrev Has : ℕ → Move → Type 0
 Has t g = Lands (λ y. taken y ≡ Some t) g
+
+pub lands_free : (g : Move) (fs : List Place) → AllFrames fs → FreeOf g → taken ((after_move g fs).top) ≡ None
+lands_free g fs a f = top_after (λ y. taken y ≡ None) g fs f frame_empty a
 
 finish_free : (q : Party) (n : Then) → taken_then n ≡ None → FreeOf (finish q n)
 finish_free q (BeginFound g t) e = absurd (cc)
@@ -166,7 +177,7 @@ walk_free g q p n i t e = walk_move FreeOf g q p n i t (λ k d. ap taken_then d 
 walk_has : (g : PoolShape) (q : Party) (p n i : ℕ) (m : Then) (t : ℕ) → taken_then m ≡ Some t → Has t (walk g q p n i m)
 walk_has g q p n i m t e = walk_move (Has t) g q p n i m (λ k d. ap taken_then d ∙ e) (finish_has q m t e)
 
-found_taken : (g : Target) (o : Option ℕ) → taken_then (after_found g o) ≡ o
+found_taken : (g : Target) (o : Option Taken) → taken_then (after_found g o) ≡ number_found o
 found_taken g None = refl
 found_taken g (Some t) = refl
 
@@ -175,6 +186,7 @@ news_taken (Detach p t) = refl
 news_taken (Here p t) = refl
 news_taken (Send o) = refl
 news_taken (Fork o a) = refl
+news_taken (Feed f) = refl
 
 set_free : (g : PoolShape) (q : Party) (s : Settling) (e : Seen) → taken_then s.then ≡ None → FreeOf (next_of g q (SetLatch s) e)
 set_free g q s Yes z = z
@@ -197,6 +209,17 @@ stays_free h g q c m (LowerCount p v n) y z s e = if_some_all {A = Seen × Part}
     lowers _ = finish_free q n e
 stays_free h g q c m (SetLatch k) y z s e = if_some_all {A = Seen × Part} (λ r. FreeOf (next_of g q (SetLatch k) (r.0))) (λ r. set_free g q k (r.0) e) (effect (act_of q (SetLatch k)) h q c m)
 stays_free h g q c m (UnlockSettled k) y z s e = if_some_all {A = Seen × Part} (λ r. FreeOf (next_of g q (UnlockSettled k) (r.0))) (λ r. settled_free g q k e) (effect (act_of q (UnlockSettled k)) h q c m)
+stays_free h g q c m (AddToFifo f) y z s e = if_some_all {A = Seen × Part} (λ r. FreeOf (next_of g q (AddToFifo f) (r.0))) (λ r. adds (r.0)) (effect (act_of q (AddToFifo f)) h q c m)
+  where
+    adds : (d : Seen) → FreeOf (next_of g q (AddToFifo f) d)
+    adds Done = refl
+    adds _ = refl
+stays_free h g q c m (TakeFromFifo f) y z s e = if_some_all {A = Seen × Part} (λ r. FreeOf (taken_back f (r.0))) (λ r. backs (r.0)) (effect (act_of q (TakeFromFifo f)) h q c m)
+  where
+    backs : (d : Seen) → FreeOf (taken_back f d)
+    backs (Task x) = refl
+    backs _ = tt
+stays_free h g q c m (BeginTask x) y z s e = cc
 stays_free h g (Worker a b) c m _ y z s e = first_of (cc, search (rules, arith))
 stays_free h g (Caller n) c m _ y z s e = first_of (cc, search (rules, arith))
 
@@ -245,6 +268,13 @@ set_own (OfCall n) r j h q c m = search (rules, arith)
 pub own_same : (h : Shape) (q : Party) (c : Counts) (m : Part) (x : Place) → is_pop x ≡ false → is_thief x ≡ false → is_push x ≡ false → IfSome (effect (act_of q x) h q c m) (λ r. r.1.seat.own ≡ m.seat.own)
 own_same h (Worker a b) c m (ProbeWorking k) y z s = search (rules, arith)
 own_same h q c m (SetLatch k) y z s = set_own k.latch k.pool k.worker h q c m
+own_same h q c m (BeginTask (Plain t)) y z s = refl
+own_same h q c m (BeginTask (Token k i)) y z s = out_sees (λ r. r.1.seat.own ≡ m.seat.own) q m refl (λ u us e. refl)
+own_same h (Worker a b) c m (AddToFifo f) y z s = if_cond (λ (r : Seen × Part). r.1.seat.own ≡ m.seat.own) (is_open (Worker a b) m.seat.feeder) _ (λ o. refl)
+own_same h (Caller n) c m (AddToFifo f) y z s = tt
+own_same h (Worker a b) c m (TakeFromFifo f) y z s = undo_sees (λ r. r.1.seat.own ≡ m.seat.own) (Worker a b) m refl (λ u e. refl)
+own_same h (Caller n) c m (TakeFromFifo f) y z s = tt
+own_same h q c m (PushToken f v) y z s = cc
 own_same h (Worker a b) c m _ y z s = first_of (cc, search (rules, arith))
 own_same h (Caller n) c m _ y z s = first_of (cc, search (rules, arith))
 
@@ -265,6 +295,7 @@ silent (Worker a b) (LookQueue n) fs z s = at (a == plan_pool n)
     at true = refl
     at false = refl
 silent (Caller c) (LookQueue n) fs z s = refl
+silent q (PushToken f v) fs z s = cc
 silent (Worker a b) _ fs z s = first_of (cc, search (rules, arith))
 silent (Caller c) _ fs z s = first_of (cc, search (rules, arith))
 
@@ -342,6 +373,8 @@ push_other w q n v fs p i d = elim (either (is_member q (plan_pool n))) [
 
 other_push : (w : World) (q : Party) (x : Place) (fs : List Place) (p i : ℕ) → is_push x ≡ true → same_party (Worker p i) q ≡ false → Spared w q (record { top = x; below = fs }) p i
 other_push w q (PushJob n v) fs p i z d = push_other w q n v fs p i d
+other_push w (Worker a b) (PushToken f v) fs p i z d = away w a b p i (record { top = PushToken f v; below = fs }) d refl refl
+other_push w (Caller c) (PushToken f v) fs p i z d = tt
 other_push w q _ fs p i z d = cc
 
 pub other_own : (w : World) (q : Party) (x : Place) (fs : List Place) (p i : ℕ) → same_party (Worker p i) q ≡ false → ((b : ℕ) → q ≡ Worker p b → is_thief x ≡ false) → Spared w q (record { top = x; below = fs }) p i

@@ -7,38 +7,38 @@ use Rattle.rayon_machine_places.specs.declared.place.Party.TheVariants.{Worker, 
 use Rattle.rayon_machine_places.specs.declared.place.Ending.{Ending}
 use Rattle.rayon_machine_places.specs.declared.place.Ending.TheVariants.{Fine, Fault}
 use Rattle.rayon_machine_places.specs.declared.place.JobKind.{JobKind}
-use Rattle.rayon_machine_places.specs.declared.place.JobKind.TheVariants.{Detached, Stored, Direct}
+use Rattle.rayon_machine_places.specs.declared.place.JobKind.TheVariants.{Detached, Stored, Direct, TokenOf}
 use Rattle.rayon_machine_places.specs.declared.place.Target.{Target}
 use Rattle.rayon_machine_places.specs.declared.place.Target.TheVariants.{Termination, Answer}
 use Rattle.rayon_machine_places.specs.declared.place.Latch.{Latch}
 use Rattle.rayon_machine_places.specs.declared.place.Latch.TheVariants.{Terminate, OfCall}
 use Rattle.rayon_machine_places.specs.declared.place.Plan.{Plan}
-use Rattle.rayon_machine_places.specs.declared.place.Plan.TheVariants.{Detach, Here, Send, Fork}
+use Rattle.rayon_machine_places.specs.declared.place.Plan.TheVariants.{Detach, Here, Send, Fork, Feed}
 use Rattle.rayon_machine_places.specs.declared.place.Share.TheVariants.{PoolValue}
 use Rattle.rayon_machine_places.specs.declared.place.Then.{Then}
 use Rattle.rayon_machine_places.specs.declared.place.Then.TheVariants.{LeaveWait, Resume, Missing}
 use Rattle.rayon_machine_places.specs.declared.place.Place.{Place}
-use Rattle.rayon_machine_places.specs.declared.place.Place.TheVariants.{ProbeWorking, PickVictim, StealFrom, PopInjected, LeaveSearch, JoinProbe, YieldPop, YieldPick, YieldSteal, YieldPopInjected, LocalPop, Run, RaiseCount, GrowCall, PushJob, LockToWake, WakeWorker, UnlockWoken, TakeResult, LowerCount, StoreResult, SetLatch, LockToSettle, WakeSettled, UnlockSettled, SetLockLatch, FirstSide, SecondSide, AtOnce, Free, Stopped}
+use Rattle.rayon_machine_places.specs.declared.place.Place.TheVariants.{ProbeWorking, PickVictim, StealFrom, PopInjected, LeaveSearch, JoinProbe, YieldPop, YieldPick, YieldSteal, YieldPopInjected, LocalPop, Run, RaiseCount, GrowCall, PushJob, LockToWake, WakeWorker, UnlockWoken, TakeResult, LowerCount, StoreResult, SetLatch, LockToSettle, WakeSettled, UnlockSettled, SetLockLatch, FirstSide, SecondSide, AtOnce, Free, Stopped, AddToFifo, PushToken, TakeFromFifo}
 use Rattle.rayon_machine_places.specs.declared.act.Seen.{Seen}
-use Rattle.rayon_machine_places.specs.declared.act.Seen.TheVariants.{Done, Found}
+use Rattle.rayon_machine_places.specs.declared.act.Seen.TheVariants.{Done, Found, Task}
 use Rattle.rayon_machine_places.specs.declared.event.Event.{Event}
-use Rattle.rayon_machine_places.specs.declared.event.Event.TheVariants.{Go, From, Refuse, Miss, End, Spawn, Install, Join, Yield, YieldLocal, EndPool}
+use Rattle.rayon_machine_places.specs.declared.event.Event.TheVariants.{Go, From, Refuse, Miss, End, Spawn, Fifo, Install, Join, Yield, YieldLocal, EndPool}
 use Rattle.rayon_machine_places.specs.declared.state.Letter.TheVariants.{Unset, Set as IsSet}
 use Rattle.rayon_machine_places.specs.declared.state.Whereabouts.{Whereabouts}
-use Rattle.rayon_machine_places.specs.declared.state.Whereabouts.TheVariants.{Nowhere, Made, InDeque, Injected, Running, Over, HandedBack}
+use Rattle.rayon_machine_places.specs.declared.state.Whereabouts.TheVariants.{Nowhere, Made, InDeque, Injected, InFifo, Running, Over, HandedBack, Spent, Retaken}
 use Rattle.rayon_machine_places.specs.declared.shape.PoolShape.{PoolShape}
 use Rattle.rayon_machine_places.specs.declared.place.OpenCall.{OpenCall}
 use Rattle.rayon_machine_places.specs.declared.place.Wait.{Wait}
 use Rattle.rayon_machine_places.specs.declared.state.Call.{Call}
-use Rattle.rayon_machine_places.specs.Places.{same_party, own_pool, own_index, is_member, fresh, plan_call, undo, next_victim, not_self, act_of, next_steal, next_yield, next_of, goes_on, is_free}
+use Rattle.rayon_machine_places.specs.Places.{same_party, own_pool, own_index, is_member, fresh, plan_call, undo, next_victim, not_self, act_of, next_steal, next_yield, next_of, goes_on, is_free, taken_number}
 use Rattle.rayon_machine_places.specs.World.{Shape, Stack, World, Counts, counts_at, Part, target_pool, target_worker, target_call, Outcome, effect}
-use Rattle.rayon_machine_places.specs.Steps.{put, put_stack, after_move, with_stack, after_choice, after_refusal, can_miss, after_miss, after_close, after_end, after_call, is_pool, new_call, after_spawn, after_send, after_install, after_join, after_yield, after_end_pool, step}
+use Rattle.rayon_machine_places.specs.Steps.{put, put_stack, after_move, with_stack, after_choice, after_refusal, can_miss, after_miss, after_close, after_end, after_call, is_pool, new_call, after_spawn, after_send, after_install, after_join, after_yield, after_end_pool, step, after_fifo}
 use Rattle.rayon_machine_places.specs.Runs.{first_place, start, IsRun}
 use Rattle.rayon_machine_laws.specs.End.{follows}
 use Rattle.rayon_machine_places.specs.Readers.{is_done}
 use Rattle.rayon_machine_laws.specs.Once.{one}
-use Rattle.rayon_machine_laws.specs.Shares.{share, shares_in, shares}
-use Rattle.rayon_machine_laws.proofs.Frame.{either, and_parts, if_some_all, if_some_and, if_some_map, if_cond, acted_keeps, put_same, put_new, stack_mine}
+use Rattle.rayon_machine_laws.specs.Shares.{share, shares_in, shares, is_busy}
+use Rattle.rayon_machine_laws.proofs.Frame.{either, and_parts, if_some_all, if_some_and, if_some_map, if_cond, acted_keeps, put_same, put_new, stack_mine, fifo_cases}
 use Rattle.rayon_machine_laws.proofs.Ties.{AllFrames, job_at, outcome, result}
 use Rattle.rayon_machine_laws.proofs.Tops.{Tops, FramesOk, top_after}
 use Rattle.rayon_machine_laws.proofs.Holding.{go_frames}
@@ -49,18 +49,19 @@ use Rattle.rayon_machine_laws.proofs.Seats.{is_frame}
 use Rattle.rayon_machine_laws.proofs.Owners.{target_number}
 use Rattle.rayon_machine_laws.proofs.Hands.{hand, held_in, held}
 use Rattle.rayon_machine_laws.proofs.Located.{Loc, loc_of, loc_at, is_loc, where_is, Hand}
-use Rattle.rayon_machine_laws.proofs.PlacedRuns.{JobsHold}
-use Rattle.rayon_machine_laws.proofs.Claims.{Opened, FirstEnds, SaysTarget, SaysThen, SaysLatch, Says}
+use Rattle.rayon_machine_laws.proofs.PlacedRuns.{JobsHold, once}
+use Rattle.rayon_machine_laws.proofs.Claims.{Opened, FirstEnds, SaysTarget, SaysThen, SaysLatch, Says, is_detached}
 use Rattle.rayon_machine_laws.proofs.Later.{Static, act_static}
 use Rattle.rayon_machine_laws.proofs.ClaimActs.{Written, act_written}
 use Rattle.rayon_machine_laws.proofs.ClaimRuns.{CallsHold, top_says, place_part, world_after}
-use Rattle.rayon_machine_laws.proofs.Amounts.{gained, pushed, paid}
-use Rattle.rayon_machine_laws.proofs.ShareActs.{with_job, SharesHold, one_most}
+use Rattle.rayon_machine_laws.proofs.Amounts.{gained, pushed, paid, regained}
+use Rattle.rayon_machine_laws.proofs.ShareActs.{with_job, SharesHold, one_most, Regains, act_regains}
 use Rattle.rayon_machine_laws.proofs.ShareRuns.{shares_mine}
 use Rattle.rayon_machine_laws.proofs.ShareSteps.{self_one}
 use Rattle.rayon_machine_laws.proofs.ShareEvents.{go_shares}
 use Rattle.rayon_machine_laws.proofs.ShareEnds.{freed, closed_shares, step_shares, first_shares}
 use Rattle.rayon_machine_orders.proofs.Takes.{set_found, set_then, seen_set, sees_set, latch_number, sets_now, stores_now, is_grown_well, then_missing, says_missing, finds_missing, Follows, frame_says, follows_on, is_growing, writes_cell, number_is, SeesSet, act_sees, StaysSet, act_stays_set, SameCell, act_cell, act_finds, sets_touched}
+use Rattle.rayon_machine_places.specs.declared.place.Taken.{Taken}
 
 -- a call whose latch is set, or about to be
 abbrev pub IsSettled : World → ℕ → Type 0
@@ -101,8 +102,11 @@ hand_undone Nowhere n l e z = cc
 hand_undone (Made q) n l e z = cc
 hand_undone (InDeque p i) n l e z = cc
 hand_undone (Injected p) n l e z = cc
+hand_undone (InFifo p i) n l e z = cc
 hand_undone (Running q) n l e z = cc
 hand_undone HandedBack n l e z = cc
+hand_undone Spent n l e z = cc
+hand_undone (Retaken q) n l e z = cc
 
 in_hand : (w : World) → JobsHold w → (q : Party) (t : ℕ) → 1 ≤ held t (w.stack q) → is_done (w.job t).at ≡ true → ⊥
 in_hand w h q t b z = let a : held t (w.stack q) ≡ is_loc (Hand q) (loc_at (w.job t)) = ((h.ok).placed) (Hand q) t in
@@ -113,6 +117,7 @@ gained_hand t (RaiseCount (Detach p u)) Done = omega arith
 gained_hand t (RaiseCount (Here p u)) Done = omega arith
 gained_hand t (RaiseCount (Send o)) Done = omega arith
 gained_hand t (RaiseCount (Fork o a)) Done = omega arith
+gained_hand t (RaiseCount (Feed f)) Done = omega arith
 gained_hand t (RaiseCount n) _ = omega arith
 gained_hand t _ e = omega arith
 
@@ -127,6 +132,7 @@ unsettled w q o h s b z = in_hand w (h.jobs) q (o.job) b (subst (λ t. is_done (
 plan_unsettled : (w : World) (q : Party) (n : Plan) (fs : List Place) → FilledHold w → w.stack q ≡ record { top = GrowCall n; below = fs } → IsSettled w (plan_call n) → ⊥
 plan_unsettled w q (Detach p t) fs h z s = absurd (let a : false ≡ true = ap (λ k. is_grown_well (k.top)) (sym z) ∙ h.grown q in cc)
 plan_unsettled w q (Here p t) fs h z s = absurd (let a : false ≡ true = ap (λ k. is_grown_well (k.top)) (sym z) ∙ h.grown q in cc)
+plan_unsettled w q (Feed f) fs h z s = absurd (let a : false ≡ true = ap (λ k. is_grown_well (k.top)) (sym z) ∙ h.grown q in cc)
 plan_unsettled w q (Send o) fs h z s = unsettled w q o ((h.hold).calls) ((top_says w q (GrowCall (Send o)) fs ((h.hold).calls) z).0) (let a : held (o.job) (w.stack q) ≡ (one (o.job == o.job) + held_in (o.job) fs) = ap (held (o.job)) z in let b : one (o.job == o.job) ≡ 1 = self_one (o.job) in omega (arith, a, b)) s
 plan_unsettled w q (Fork o f) fs h z s = unsettled w q o ((h.hold).calls) ((top_says w q (GrowCall (Fork o f)) fs ((h.hold).calls) z).0) (let a : held (o.job) (w.stack q) ≡ ((one (o.job == f) + one (o.job == o.job)) + held_in (o.job) fs) = ap (held (o.job)) z in let b : one (o.job == o.job) ≡ 1 = self_one (o.job) in omega (arith, a, b)) s
 
@@ -160,6 +166,7 @@ record Deed (w : World) (q : Party) (x : Place) (fs : List Place) (r : Seen × P
   cell : writes_cell x ≡ false → SameCell (place_part w q x) r
   stored : (c : ℕ) → stores_now x ≡ Some c → (target_call (act_of q x) ≡ c) × (r.1.call.cell ≡ None → ⊥)
   found : finds_missing x (r.0) ≡ true → ⊥
+  regains : Regains w q x r
 
 if_under : {A : Type 0} (b : Bool) (P : A → Type 0) (o : Option A) → (b ≡ false → IfSome o P) → IfSome o (λ r. b ≡ false → P r)
 if_under b P None f = tt
@@ -182,10 +189,12 @@ deed_of : (w : World) (q : Party) → FilledHold w → IfSome (outcome w q (w.st
 deed_of w q h =
     let k : Stack = w.stack q in let x : Place = k.top in
     let c : Counts = counts_at w (target_pool q (act_of q x)) in let m : Part = place_part w q x in let o : Outcome = outcome w q k in
-    if_some_map (λ r. ((SharesHold (result w q k r) × FramesOk (result w q k r)) × (Static m r × Written m x r)) × (((Tops (Follows x (r.0)) (next_of (w.shape.pool (target_pool q (act_of q x))) q x (r.0)) × SeesSet q m x r) × ((is_growing x ≡ false → StaysSet m r) × (writes_cell x ≡ false → SameCell m r))) × (((d : ℕ) → stores_now x ≡ Some d → (target_call (act_of q x) ≡ d) × (r.1.call.cell ≡ None → ⊥)) × (finds_missing x (r.0) ≡ true → ⊥))))
+    let P : Seen × Part → Type 0 = λ r. ((SharesHold (result w q k r) × FramesOk (result w q k r)) × (Static m r × Written m x r)) × (((Tops (Follows x (r.0)) (next_of (w.shape.pool (target_pool q (act_of q x))) q x (r.0)) × SeesSet q m x r) × ((is_growing x ≡ false → StaysSet m r) × (writes_cell x ≡ false → SameCell m r))) × (((d : ℕ) → stores_now x ≡ Some d → (target_call (act_of q x) ≡ d) × (r.1.call.cell ≡ None → ⊥)) × (finds_missing x (r.0) ≡ true → ⊥))) in
+    if_some_map (λ r. P r × Regains w q x r)
     (λ r. Deed w q x (k.below) r)
-    (λ r f. record { hold = ((f.0).0).0; frames = ((f.0).0).1; static = ((f.0).1).0; written = ((f.0).1).1; follows = (((f.1).0).0).0; sees = (((f.1).0).0).1; stays = (((f.1).0).1).0; cell = (((f.1).0).1).1; stored = ((f.1).1).0; found = ((f.1).1).1 })
+    (λ r g. record { hold = (((g.0).0).0).0; frames = (((g.0).0).0).1; static = (((g.0).0).1).0; written = (((g.0).0).1).1; follows = ((((g.0).1).0).0).0; sees = ((((g.0).1).0).0).1; stays = ((((g.0).1).0).1).0; cell = ((((g.0).1).0).1).1; stored = (((g.0).1).1).0; found = (((g.0).1).1).1; regains = g.1 })
     o
+    (if_some_and P (Regains w q x) o
     (if_some_and (λ r. (SharesHold (result w q k r) × FramesOk (result w q k r)) × (Static m r × Written m x r)) (λ r. ((Tops (Follows x (r.0)) (next_of (w.shape.pool (target_pool q (act_of q x))) q x (r.0)) × SeesSet q m x r) × ((is_growing x ≡ false → StaysSet m r) × (writes_cell x ≡ false → SameCell m r))) × (((d : ℕ) → stores_now x ≡ Some d → (target_call (act_of q x) ≡ d) × (r.1.call.cell ≡ None → ⊥)) × (finds_missing x (r.0) ≡ true → ⊥))) o
     (if_some_and (λ r. SharesHold (result w q k r) × FramesOk (result w q k r)) (λ r. Static m r × Written m x r) o
     (if_some_and (λ r. SharesHold (result w q k r)) (λ r. FramesOk (result w q k r)) o (go_shares w q h.hold) (go_frames w q k refl h.frames))
@@ -195,6 +204,7 @@ deed_of w q h =
     (if_some_and (λ r. Tops (Follows x (r.0)) (next_of (w.shape.pool (target_pool q (act_of q x))) q x (r.0))) (SeesSet q m x) o (follows_on w.shape (w.shape.pool (target_pool q (act_of q x))) q c m x) (act_sees w.shape q c m x))
     (if_some_and (λ r. is_growing x ≡ false → StaysSet m r) (λ r. writes_cell x ≡ false → SameCell m r) o (if_under (is_growing x) (StaysSet m) o (act_stays_set w.shape q c m x)) (if_under (writes_cell x) (SameCell m) o (act_cell w.shape q c m x))))
     (if_some_and (λ r. (d : ℕ) → stores_now x ≡ Some d → (target_call (act_of q x) ≡ d) × (r.1.call.cell ≡ None → ⊥)) (λ r. finds_missing x (r.0) ≡ true → ⊥) o (stores_at w.shape q c m x) (finds_at w q x k.below h refl))))
+    (act_regains w q x ((h.hold).calls) (once w (((h.hold).calls).jobs))))
 
 none_of : (n : ℕ) → (1 ≤ n → ⊥) → n ≤ 0
 none_of zero f = omega arith
@@ -213,6 +223,31 @@ takes_last w q o f fs h z =
 takes_line : (t : ℕ) (g : PoolShape) (q : Party) (o : OpenCall) (f : Option Ending) (fs : List Place) (e : Seen) → shares_in t fs ≤ 0 → shares t (after_move (next_of g q (TakeResult o f) e) fs) ≤ paid t ((after_move (next_of g q (TakeResult o f) e) fs).top)
 takes_line t g q o f fs (Found d) n = omega (arith, n)
 takes_line t g q o f fs _ n = omega (arith, n)
+
+-- a job that is taken back is not over
+regained_none : (w : World) (q : Party) (x : Place) (r : Seen × Part) → Regains w q x r → (t : ℕ) → is_done (w.job t).at ≡ true → regained t x (r.0) ≤ 0
+regained_none w q (TakeFromFifo f) (Task y, m) g t e = by (t == taken_number y) refl
+  where
+    idle : (v : Whereabouts) → is_done v ≡ true → is_busy v ≡ false
+    idle (Over d) z = refl
+    idle Nowhere z = cc
+    idle (Made q) z = cc
+    idle (InDeque p i) z = cc
+    idle (Injected p) z = cc
+    idle (InFifo p i) z = cc
+    idle (Running q) z = cc
+    idle (Retaken q) z = cc
+    idle HandedBack z = cc
+    idle Spent z = cc
+
+    and_none : (b : Bool) → one (b && false) ≡ 0
+    and_none true = refl
+    and_none false = refl
+
+    by : (z : Bool) → (t == taken_number y) ≡ z → one (t == taken_number y) ≤ 0
+    by true z = absurd (let a : with_job (w.job t) ≡ 1 = ap (λ n. with_job (w.job n)) (eqb-true t (taken_number y) z) ∙ g.1 in let b : with_job (w.job t) ≡ 0 = ap (λ v. one (is_detached (w.job t).kind && v)) (idle ((w.job t).at) e) ∙ and_none (is_detached (w.job t).kind) in omega (arith, a, b))
+    by false z = let a : one (t == taken_number y) ≡ 0 = ap one z in omega (arith, a)
+regained_none w q x r g t e = omega arith
 
 act_fills : (w : World) (q : Party) (x : Place) (fs : List Place) (r : Seen × Part) → FilledHold w → w.stack q ≡ record { top = x; below = fs } → Deed w q x fs r → FilledHold (world_after w q x fs r)
 act_fills w q x fs r h z d = record {
@@ -278,12 +313,13 @@ act_fills w q x fs r h z d = record {
         t = (w.call c).job
 
         mine : shares t k ≤ 0
-        mine = let l : shares t (put_stack w.stack q k q) + (pushed t x (r.0) + paid t x) ≡ shares t (w.stack q) + gained t x (r.0) = shares_mine w q x fs (w.shape.pool (target_pool q (act_of q x))) (r.0) t z in
+        mine = let l : shares t (put_stack w.stack q k q) + (pushed t x (r.0) + paid t x) ≡ shares t (w.stack q) + (gained t x (r.0) + regained t x (r.0)) = shares_mine w q x fs (w.shape.pool (target_pool q (act_of q x))) (r.0) t z in
+            let y : regained t x (r.0) ≤ 0 = regained_none w q x r (d.regains) t (settled_done w ((h.hold).calls) c a) in
             let m : shares t (put_stack w.stack q k q) ≡ shares t k = ap (shares t) (stack_mine w.stack q k) in
             let b : shares t (w.stack q) ≤ paid t ((w.stack q).top) = h.taken q c a e in
             let p : paid t ((w.stack q).top) ≡ paid t x = ap (λ n. paid t (n.top)) z in
             let g : gained t x (r.0) ≤ 0 = none_of (gained t x (r.0)) (λ y. in_hand w (((h.hold).calls).jobs) q t (let v : gained t x (r.0) ≤ hand t x = gained_hand t x (r.0) in let i : held t (w.stack q) ≡ (hand t x + held_in t fs) = ap (held t) z in omega (arith, v, i, y)) (settled_done w ((h.hold).calls) c a)) in
-            omega (arith, l, m, b, p, g)
+            omega (arith, l, m, b, p, g, y)
 
         at : (b : Bool) → same_party s q ≡ b → shares t (if b then k else w.stack s) ≤ paid t ((if b then k else w.stack s).top)
         at false y = h.taken s c a e
@@ -325,7 +361,7 @@ target_known : (w : World) (q : Party) (c : ℕ) (g : Target) → target_number 
 target_known w q c Termination e s = cc
 target_known w q c (Answer o f) e s = subst (λ n. n + 1 ≤ w.calls) (number_is (o.number) c e) ((s.0).number)
 
-found_known : (w : World) (q : Party) (c : ℕ) (g : Target) (o : Option ℕ) → set_found g o ≡ Some c → SaysTarget w q g → c + 1 ≤ w.calls
+found_known : (w : World) (q : Party) (c : ℕ) (g : Target) (o : Option Taken) → set_found g o ≡ Some c → SaysTarget w q g → c + 1 ≤ w.calls
 found_known w q c g None e s = target_known w q c g e s
 found_known w q c g (Some t) e s = cc
 
@@ -430,6 +466,8 @@ from_beside w q _ fs v z = tt
 
 refuse_beside : (w : World) (q : Party) (x : Place) (fs : List Place) → w.stack q ≡ record { top = x; below = fs } → IfSome (after_refusal w q (record { top = x; below = fs })) (Beside w)
 refuse_beside w q (GrowCall n) fs z = turn_beside w q (GrowCall n) (undo n) fs z (refl, refl, refl, refl) (λ t. (refl, omega arith))
+refuse_beside w q (AddToFifo f) fs z = turn_beside w q (AddToFifo f) (undo (Feed f)) fs z (refl, refl, refl, refl) (λ t. (refl, omega arith))
+refuse_beside w q (PushToken f v) fs z = turn_beside w q (PushToken f v) (TakeFromFifo f) fs z (refl, refl, refl, refl) (λ t. (refl, omega arith))
 refuse_beside w q (PushJob n v) fs z = turn_beside w q (PushJob n v) (undo n) fs z (refl, refl, refl, refl) (λ t. (refl, omega arith))
 refuse_beside w q _ fs z = tt
 
@@ -470,12 +508,15 @@ closed_plain : (t : ℕ) (k : JobKind) (d : Ending) (fs : List Place) → AllFra
 closed_plain t (Detached p) d fs a = (refl, refl, refl, refl)
 closed_plain t (Stored c o) d fs a = (refl, refl, refl, refl)
 closed_plain t Direct d [] a = (refl, refl, refl, refl)
+closed_plain t (TokenOf i) d [] a = (refl, refl, refl, refl)
 closed_plain t Direct d (f ∷ fs) a = goes_on_plain f d (a.0)
+closed_plain t (TokenOf i) d (f ∷ fs) a = goes_on_plain f d (a.0)
 
 freed_paid : (s t : ℕ) (k : JobKind) (d : Ending) (fs : List Place) → freed s t k ≤ paid s ((after_close t k d fs).top)
 freed_paid s t (Detached p) d fs = omega arith
 freed_paid s t (Stored c o) d fs = omega arith
 freed_paid s t Direct d fs = omega arith
+freed_paid s t (TokenOf i) d fs = omega arith
 
 end_beside : (w : World) (q : Party) (d : Ending) (x : Place) (fs : List Place) → w.stack q ≡ record { top = x; below = fs } → AllFrames fs → IfSome (after_end w q d (record { top = x; below = fs }) x) (Beside w)
 end_beside w q d (Run t k) fs z a = record {
@@ -507,6 +548,9 @@ begin_beside w u q y f s c p n = record {
 
 spawn_beside : (w : World) (q : Party) (p : ℕ) → IfSome (after_spawn w q p (w.stack q)) (Beside w)
 spawn_beside w q p = if_cond (Beside w) (is_free ((w.stack q).top) && is_pool w.shape p) _ (λ b. begin_beside w _ q (RaiseCount (Detach p w.jobs)) ((and_parts (is_free ((w.stack q).top)) (is_pool w.shape p) b).0) (λ r. refl) (λ c. inl refl) (refl, refl, refl, refl) (λ t. refl))
+
+fifo_beside : (w : World) (q : Party) (p : ℕ) → IfSome (after_fifo w q p (w.stack q)) (Beside w)
+fifo_beside w q p = fifo_cases (Beside w) w q p (spawn_beside w q p) (λ i f. begin_beside w _ (Worker p i) (RaiseCount (Feed (record { pool = p; job = w.jobs; token = w.jobs + 1 }))) f (λ r. refl) (λ c. inl refl) (refl, refl, refl, refl) (λ t. refl))
 
 -- the calls after a new one
 old_call : (w : World) (v : Call) (c : ℕ) → v.latch ≡ Unset → (put w.call w.calls v c ≡ w.call c) ⊎ (((put w.call w.calls v c).latch ≡ Unset) × (w.calls ≤ c))
@@ -547,6 +591,7 @@ step_fills w (Refuse q) h = step_beside w (Refuse q) h (refuse_beside w q ((w.st
 step_fills w (Miss q) h = step_beside w (Miss q) h (miss_beside w q ((w.stack q).top) ((w.stack q).below) refl)
 step_fills w (End q d) h = step_beside w (End q d) h (end_beside w q d ((w.stack q).top) ((w.stack q).below) refl (h.frames q))
 step_fills w (Spawn q p) h = step_beside w (Spawn q p) h (spawn_beside w q p)
+step_fills w (Fifo q p) h = step_beside w (Fifo q p) h (fifo_beside w q p)
 step_fills w (Install q p) h = step_beside w (Install q p) h (install_beside w q p)
 step_fills w (Join q) h = step_beside w (Join q) h (join_beside w q)
 step_fills w (Yield q) h = step_beside w (Yield q) h (yield_beside w q YieldPop (refl, refl, refl, refl) (λ t. refl))

@@ -14,15 +14,17 @@ use Rattle.rayon_machine_places.specs.Runs.{IsRun, start}
 use Rattle.rayon_machine_places.specs.Steps.{step}
 use Rattle.rayon_machine_places.specs.World.{Shape, World}
 use Rattle.rayon_machine_laws.specs.Once.{one, times}
-use Rattle.rayon_machine_orders.specs.Order.{Happening, Adds, Begins, happening, and_next, happenings, Hands, TokenList, IsLeft, TokenLaw}
+use Rattle.rayon_machine_orders.specs.Order.{Happening, Adds, Begins, Redeems, happening, and_next, happenings, Hands, TokenList, IsLeft, TokenLaw}
 use Rattle.rayon_machine_laws.proofs.Attended.{always_shape}
 use Rattle.rayon_machine_orders.proofs.Dealing.{Deals, step_deals}
 use Rattle.rayon_machine_laws.proofs.Emptied.{ListsOk, always_lists}
 use Rattle.rayon_machine_laws.proofs.Events.{run_keeps}
 use Rattle.rayon_machine_laws.proofs.Hands.{hand, hand_then, hand_found, held}
 use Rattle.rayon_machine_laws.proofs.Located.{loc_at, is_loc, where_is, unbegun, Hand, Deck}
-use Rattle.rayon_machine_orders.proofs.Lone.{always_honest, taken, taken_then}
+use Rattle.rayon_machine_orders.proofs.Lone.{always_honest, taken, taken_then, number_found}
 use Rattle.rayon_machine_laws.proofs.PlacedRuns.{JobsHold, step_jobs, first_jobs}
+use Rattle.rayon_machine_places.specs.declared.place.Taken.{Taken}
+use Rattle.rayon_machine_places.specs.Places.{taken_number}
 
 -- a world that a run from a start leads to
 pub record Reached (h : Shape) (w : World) : Type 0 where
@@ -50,11 +52,11 @@ self : (t : ℕ) → one (t == t) ≡ 1
 self t = ap one (eq-eqb t t refl)
 
 then_hand : (n : Then) (t : ℕ) → taken_then n ≡ Some t → 1 ≤ hand_then t n
-then_hand (BeginFound g u) t e = let k : u ≡ t = cc in let s : one (t == u) ≡ 1 = ap (λ z. one (t == z)) k ∙ self t in omega (arith, s)
+then_hand (BeginFound g x) t e = let k : taken_number x ≡ t = cc in let s : one (t == taken_number x) ≡ 1 = ap (λ z. one (t == z)) k ∙ self t in omega (arith, s)
 then_hand _ t e = absurd (cc)
 
-found_hand : (o : Option ℕ) (t : ℕ) → o ≡ Some t → 1 ≤ hand_found t o
-found_hand (Some u) t e = let k : u ≡ t = cc in let s : one (t == u) ≡ 1 = ap (λ z. one (t == z)) k ∙ self t in omega (arith, s)
+found_hand : (o : Option Taken) (t : ℕ) → number_found o ≡ Some t → 1 ≤ hand_found t o
+found_hand (Some x) t e = let k : taken_number x ≡ t = cc in let s : one (t == taken_number x) ≡ 1 = ap (λ z. one (t == z)) k ∙ self t in omega (arith, s)
 found_hand None t e = absurd (cc)
 
 taken_hand : (x : Place) (t : ℕ) → taken x ≡ Some t → 1 ≤ hand t x
@@ -67,7 +69,7 @@ taken_hand (SetLatch s) t e = then_hand s.then t e
 taken_hand (LockToSettle s) t e = then_hand s.then t e
 taken_hand (WakeSettled s) t e = then_hand s.then t e
 taken_hand (UnlockSettled s) t e = then_hand s.then t e
-taken_hand (BeginTask u) t e = let k : u ≡ t = cc in let s : one (t == u) ≡ 1 = ap (λ z. one (t == z)) k ∙ self t in omega (arith, s)
+taken_hand (BeginTask x) t e = let k : taken_number x ≡ t = cc in let s : one (t == taken_number x) ≡ 1 = ap (λ z. one (t == z)) k ∙ self t in omega (arith, s)
 taken_hand (BeginHere u) t e = let k : u ≡ t = cc in let s : one (t == u) ≡ 1 = ap (λ z. one (t == z)) k ∙ self t in omega (arith, s)
 taken_hand _ t e = absurd (cc)
 
@@ -103,6 +105,12 @@ hand_out o p u t l rest hs h (left, a, b) = (left, inl (rest, h, a), b)
 come_by : (o : Order) (p : ℕ) (u : World) (t : ℕ) (l : List ℕ) (hs : List Happening) → times t l ≡ 0 → Rest o p u l hs → Rest o p u l (Begins t ∷ hs)
 come_by o p u t l hs h (left, a, b) = (left, inr (h, a), b)
 
+token_out : (o : Order) (p : ℕ) (u : World) (t : ℕ) (l rest : List ℕ) (hs : List Happening) → Hands o l t rest → Rest o p u rest hs → Rest o p u l (Redeems t ∷ hs)
+token_out o p u t l rest hs h (left, a, b) = (left, inl (rest, h, a), b)
+
+token_by : (o : Order) (p : ℕ) (u : World) (t : ℕ) (l : List ℕ) (hs : List Happening) → times t l ≡ 0 → Rest o p u l hs → Rest o p u l (Redeems t ∷ hs)
+token_by o p u t l hs h (left, a, b) = (left, inr (h, a), b)
+
 token_step : (o : Order) (p : ℕ) (w v u : World) (l : List ℕ) (hs : List Happening) (hp : Option Happening) → Deals o p 0 w v hp → JobsHold w → Held o p l w → ((m : List ℕ) → Held o p m v → Rest o p u m hs) → Rest o p u l (and_next hp hs)
 token_step o p w v u l hs None (inl (same, k)) j (inl e) rec = rec l (inl (e ∙ sym same))
 token_step o p w v u l hs None (inr (t, h, n, y)) j (inl e) rec = rec l (inr (t, subst (λ z. Hands o z t (v.seat p 0).own) (sym e) h, y))
@@ -112,7 +120,9 @@ token_step o p w v u l hs None (inr (s, g, n, y)) j (inr (t, h, e)) rec = none_s
 token_step o p w v u l hs (Some (Adds by t)) (grow, n, z) j (inl e) rec = add_on o p u by t l hs (rec (l ++ t ∷ []) (inl (ap (λ z. z ++ t ∷ []) e ∙ sym grow)))
 token_step o p w v u l hs (Some (Adds by t)) (grow, n, z) j (inr (s, h, e)) rec = none_some (taken (w.stack (Worker p 0)).top) s n e
 token_step o p w v u l hs (Some (Begins t)) (same, y, z) j (inl e) rec = come_by o p u t l hs (ap (times t) e ∙ (taken_once w (Worker p 0) t j y).1 p 0) (rec l (inl (e ∙ sym same)))
+token_step o p w v u l hs (Some (Redeems t)) (same, y, z) j (inl e) rec = token_by o p u t l hs (ap (times t) e ∙ (taken_once w (Worker p 0) t j y).1 p 0) (rec l (inl (e ∙ sym same)))
 token_step o p w v u l hs (Some (Begins t)) (same, y, z) j (inr (s, h, e)) rec = hand_out o p u t l (w.seat p 0).own hs (subst (λ z. Hands o l z (w.seat p 0).own) (some_same (taken (w.stack (Worker p 0)).top) s t e y) h) (rec (w.seat p 0).own (inl (sym same)))
+token_step o p w v u l hs (Some (Redeems t)) (same, y, z) j (inr (s, h, e)) rec = token_out o p u t l (w.seat p 0).own hs (subst (λ z. Hands o l z (w.seat p 0).own) (some_same (taken (w.stack (Worker p 0)).top) s t e y) h) (rec (w.seat p 0).own (inl (sym same)))
 
 pub left_of : (h : Shape) (p : ℕ) (w : World) (l : List ℕ) → Reached h w → Held (h.pool p).order p l w → IsLeft w p l
 left_of h p w l r (inl e) = inl e

@@ -1,26 +1,26 @@
 -- each share that is in the count has a keeper: what a party or the share's owner keeps, no act loses
-use Rattle.std.proofs.Common.{arith, refl, sym, ◌∙◌, ap, subst}
-use Rattle.std.specs.Prelude.{ℕ, zero, suc, Bool, true, false, ◌&&◌, ◌+◌, ◌==◌, ◌≤◌, if◌then◌else◌, Option, Some, None, List, [], ◌∷◌, ◌≡◌, IfSome}
+use Rattle.std.proofs.Common.{arith, refl, sym, ◌∙◌, ap, subst, inl, inr}
+use Rattle.std.specs.Prelude.{ℕ, zero, suc, Bool, true, false, ◌&&◌, ◌+◌, ◌==◌, ◌≤◌, if◌then◌else◌, Option, Some, None, List, [], ◌∷◌, ◌≡◌, IfSome, ⊤}
 use Rattle.std.proofs.lemmas.Bool.{eqb-true}
 use Rattle.rayon_machine_places.specs.declared.place.Party.{Party}
 use Rattle.rayon_machine_places.specs.declared.place.Party.TheVariants.{Worker, Caller}
 use Rattle.rayon_machine_places.specs.declared.place.Plan.{Plan}
-use Rattle.rayon_machine_places.specs.declared.place.Plan.TheVariants.{Detach, Here, Send, Fork}
+use Rattle.rayon_machine_places.specs.declared.place.Plan.TheVariants.{Detach, Here, Send, Fork, Feed}
 use Rattle.rayon_machine_places.specs.declared.place.Place.{Place}
-use Rattle.rayon_machine_places.specs.declared.place.Place.TheVariants.{PopWorking, TakeCastWorking, PopIdle, TakeCastIdle, StealFrom, PopInjected, JoinPop, JoinTakeCast, YieldPop, YieldTakeCast, YieldSteal, YieldPopInjected, LocalPop, LocalTakeCast, BeginTask, BeginHere, PushJob}
+use Rattle.rayon_machine_places.specs.declared.place.Place.TheVariants.{PopWorking, TakeCastWorking, PopIdle, TakeCastIdle, StealFrom, PopInjected, JoinPop, JoinTakeCast, YieldPop, YieldTakeCast, YieldSteal, YieldPopInjected, LocalPop, LocalTakeCast, BeginTask, BeginHere, PushJob, TakeFromFifo, AddToFifo, PushToken}
 use Rattle.rayon_machine_places.specs.declared.place.Move.{Move}
-use Rattle.rayon_machine_places.specs.declared.place.Move.TheVariants.{Stay, Enter, StartRun, Back, HandBack}
+use Rattle.rayon_machine_places.specs.declared.place.Move.TheVariants.{Stay, Enter, StartRun, Back, HandBack, Discard, HandIn}
 use Rattle.rayon_machine_places.specs.declared.act.Act.TheVariants.{PushInj, PushOwn}
 use Rattle.rayon_machine_places.specs.declared.act.Seen.{Seen}
-use Rattle.rayon_machine_places.specs.declared.state.Whereabouts.TheVariants.{HandedBack}
+use Rattle.rayon_machine_places.specs.declared.state.Whereabouts.TheVariants.{HandedBack, Spent}
 use Rattle.rayon_machine_places.specs.declared.state.Job.{Job}
 use Rattle.rayon_machine_places.specs.Places.{same_party, is_member, plan_pool, plan_job, act_of, next_of}
-use Rattle.rayon_machine_places.specs.World.{Shape, Stack, World, Counts, Part, target_pool, at_job, begun, popped, take_cast, pop_injector, effect}
+use Rattle.rayon_machine_places.specs.World.{Shape, Stack, World, Counts, Part, target_pool, at_job, begun, popped, take_cast, pop_injector, effect, is_open}
 use Rattle.rayon_machine_places.specs.Steps.{put, put_stack, jobs_after}
 use Rattle.rayon_machine_laws.specs.Once.{one}
 use Rattle.rayon_machine_laws.specs.Counted.{is_detached, all_values}
 use Rattle.rayon_machine_laws.specs.Shares.{shares, is_busy}
-use Rattle.rayon_machine_laws.proofs.Frame.{same_party_true, if_some_map, stack_mine, stack_other}
+use Rattle.rayon_machine_laws.proofs.Frame.{same_party_true, if_some_map, stack_mine, stack_other, either, undo_sees, out_sees, if_cond}
 use Rattle.rayon_machine_laws.proofs.Ties.{job_at}
 use Rattle.rayon_machine_laws.proofs.Lists.{SameJobs, quiet_same}
 use Rattle.rayon_machine_laws.proofs.ClaimActs.{Lasting}
@@ -28,6 +28,10 @@ use Rattle.rayon_machine_laws.proofs.ClaimRuns.{world_after, place_part}
 use Rattle.rayon_machine_laws.proofs.ShareActs.{with_job, one_most}
 use Rattle.rayon_machine_laws.proofs.Bares.{backs}
 use Rattle.rayon_machine_laws.proofs.Returns.{ReturnsHold}
+use Rattle.rayon_machine_places.specs.declared.place.Feeding.{Feeding}
+use Rattle.rayon_machine_places.specs.declared.place.Taken.TheVariants.{Plain, Token}
+use Rattle.rayon_machine_laws.proofs.ShareRuns.{StartsAwaited}
+use Rattle.rayon_machine_places.specs.declared.act.Seen.TheVariants.{Task}
 
 -- what a keeper has of a share
 abbrev pub kept_by : (Party → ℕ) → ℕ → Option Party → ℕ
@@ -114,39 +118,58 @@ pub act_pushes : (h : Shape) (q : Party) (c : Counts) (m : Part) (n : Plan) (v :
 act_pushes h (Caller e) c m n v = refl
 act_pushes h (Worker a b) c m n v = push_busies h (Worker a b) c m (plan_pool n) (plan_job n) (is_member (Worker a b) (plan_pool n))
 
-pub act_busies : (h : Shape) (q : Party) (c : Counts) (m : Part) (x : Place) → IfSome (effect (act_of q x) h q c m) (StaysBusy m)
-act_busies h (Worker a b) c m (PopWorking k) = pop_busies (Worker a b) m _ _
-act_busies h (Caller n) c m (PopWorking k) = tt
-act_busies h (Worker a b) c m (PopIdle k) = pop_busies (Worker a b) m _ _
-act_busies h (Caller n) c m (PopIdle k) = tt
-act_busies h (Worker a b) c m (JoinPop o) = pop_busies (Worker a b) m _ _
-act_busies h (Caller n) c m (JoinPop o) = tt
-act_busies h (Worker a b) c m YieldPop = pop_busies (Worker a b) m _ _
-act_busies h (Caller n) c m YieldPop = tt
-act_busies h (Worker a b) c m LocalPop = pop_busies (Worker a b) m _ _
-act_busies h (Caller n) c m LocalPop = tt
-act_busies h (Worker a b) c m (StealFrom k n) = pop_busies (Worker a b) m _ _
-act_busies h (Caller e) c m (StealFrom k n) = tt
-act_busies h (Worker a b) c m (YieldSteal v n) = pop_busies (Worker a b) m _ _
-act_busies h (Caller e) c m (YieldSteal v n) = tt
-act_busies h (Worker a b) c m (PopInjected k) = inj_busies (Worker a b) m _
-act_busies h (Caller n) c m (PopInjected k) = tt
-act_busies h (Worker a b) c m YieldPopInjected = inj_busies (Worker a b) m _
-act_busies h (Caller n) c m YieldPopInjected = tt
-act_busies h (Worker a b) c m (TakeCastWorking k) = cast_busies (Worker a b) m _
-act_busies h (Caller n) c m (TakeCastWorking k) = tt
-act_busies h (Worker a b) c m (TakeCastIdle k) = cast_busies (Worker a b) m _
-act_busies h (Caller n) c m (TakeCastIdle k) = tt
-act_busies h (Worker a b) c m (JoinTakeCast o) = cast_busies (Worker a b) m _
-act_busies h (Caller n) c m (JoinTakeCast o) = tt
-act_busies h (Worker a b) c m YieldTakeCast = cast_busies (Worker a b) m _
-act_busies h (Caller n) c m YieldTakeCast = tt
-act_busies h (Worker a b) c m LocalTakeCast = cast_busies (Worker a b) m _
-act_busies h (Caller n) c m LocalTakeCast = tt
-act_busies h q c m (BeginTask t) = one_most (is_busy m.job.at)
-act_busies h q c m (BeginHere t) = one_most (is_busy m.job.at)
-act_busies h q c m (PushJob n v) = if_some_map (λ r. is_busy r.1.job.at ≡ true) (StaysBusy m) (λ r e. (let a : one (is_busy m.job.at) ≤ 1 = one_most (is_busy m.job.at) in let b : one (is_busy r.1.job.at) ≡ 1 = ap one e in omega (arith, a, b))) (effect (act_of q (PushJob n v)) h q c m) (act_pushes h q c m n v)
-act_busies h q c m x = if_some_map (SameJobs m) (StaysBusy m) (λ r s. (let a : one (is_busy r.1.job.at) ≡ one (is_busy m.job.at) = ap (λ v. one (is_busy v)) (s.at) in omega (arith, a))) (effect (act_of q x) h q c m) (quiet_same h q c m x refl)
+-- a place whose act takes a job back out of a FIFO list
+abbrev pub is_retake : Place → Bool
+is_retake (TakeFromFifo f) = true
+is_retake _ = false
+
+pub act_busies : (h : Shape) (q : Party) (c : Counts) (m : Part) (x : Place) → is_retake x ≡ false → IfSome (effect (act_of q x) h q c m) (StaysBusy m)
+act_busies h (Worker a b) c m (PopWorking k) z = pop_busies (Worker a b) m _ _
+act_busies h (Caller n) c m (PopWorking k) z = tt
+act_busies h (Worker a b) c m (PopIdle k) z = pop_busies (Worker a b) m _ _
+act_busies h (Caller n) c m (PopIdle k) z = tt
+act_busies h (Worker a b) c m (JoinPop o) z = pop_busies (Worker a b) m _ _
+act_busies h (Caller n) c m (JoinPop o) z = tt
+act_busies h (Worker a b) c m YieldPop z = pop_busies (Worker a b) m _ _
+act_busies h (Caller n) c m YieldPop z = tt
+act_busies h (Worker a b) c m LocalPop z = pop_busies (Worker a b) m _ _
+act_busies h (Caller n) c m LocalPop z = tt
+act_busies h (Worker a b) c m (StealFrom k n) z = pop_busies (Worker a b) m _ _
+act_busies h (Caller e) c m (StealFrom k n) z = tt
+act_busies h (Worker a b) c m (YieldSteal v n) z = pop_busies (Worker a b) m _ _
+act_busies h (Caller e) c m (YieldSteal v n) z = tt
+act_busies h (Worker a b) c m (PopInjected k) z = inj_busies (Worker a b) m _
+act_busies h (Caller n) c m (PopInjected k) z = tt
+act_busies h (Worker a b) c m YieldPopInjected z = inj_busies (Worker a b) m _
+act_busies h (Caller n) c m YieldPopInjected z = tt
+act_busies h (Worker a b) c m (TakeCastWorking k) z = cast_busies (Worker a b) m _
+act_busies h (Caller n) c m (TakeCastWorking k) z = tt
+act_busies h (Worker a b) c m (TakeCastIdle k) z = cast_busies (Worker a b) m _
+act_busies h (Caller n) c m (TakeCastIdle k) z = tt
+act_busies h (Worker a b) c m (JoinTakeCast o) z = cast_busies (Worker a b) m _
+act_busies h (Caller n) c m (JoinTakeCast o) z = tt
+act_busies h (Worker a b) c m YieldTakeCast z = cast_busies (Worker a b) m _
+act_busies h (Caller n) c m YieldTakeCast z = tt
+act_busies h (Worker a b) c m LocalTakeCast z = cast_busies (Worker a b) m _
+act_busies h (Caller n) c m LocalTakeCast z = tt
+act_busies h q c m (BeginTask (Plain t)) z = one_most (is_busy m.job.at)
+act_busies h q c m (BeginTask (Token k i)) z = out_sees (StaysBusy m) q m (omega arith) (λ u us e. one_most (is_busy m.job.at))
+act_busies h (Worker a b) c m (AddToFifo f) z = if_cond (StaysBusy m) (is_open (Worker a b) m.seat.feeder) _ (λ o. one_most (is_busy m.job.at))
+act_busies h (Caller n) c m (AddToFifo f) z = tt
+act_busies h (Worker a b) c m (PushToken f v) z = one_most (is_busy m.job.at)
+act_busies h (Caller n) c m (PushToken f v) z = tt
+act_busies h q c m (TakeFromFifo f) z = cc
+act_busies h q c m (BeginHere t) z = one_most (is_busy m.job.at)
+act_busies h q c m (PushJob n v) z = if_some_map (λ r. is_busy r.1.job.at ≡ true) (StaysBusy m) (λ r e. (let a : one (is_busy m.job.at) ≤ 1 = one_most (is_busy m.job.at) in let b : one (is_busy r.1.job.at) ≡ 1 = ap one e in omega (arith, a, b))) (effect (act_of q (PushJob n v)) h q c m) (act_pushes h q c m n v)
+act_busies h q c m x z = if_some_map (SameJobs m) (StaysBusy m) (λ r s. (let a : one (is_busy r.1.job.at) ≡ one (is_busy m.job.at) = ap (λ v. one (is_busy v)) (s.at) in omega (arith, a))) (effect (act_of q x) h q c m) (quiet_same h q c m x refl)
+
+-- where none is taken back, the job that is touched stays as it was
+abbrev pub StaysUntaken : Part → Seen × Part → Type 0
+StaysUntaken m (Task y, n) = ⊤
+StaysUntaken m r = StaysBusy m r
+
+pub retake_busies : (h : Shape) (a b : ℕ) (c : Counts) (m : Part) (f : Feeding) → IfSome (effect (act_of (Worker a b) (TakeFromFifo f)) h (Worker a b) c m) (StaysUntaken m)
+retake_busies h a b c m f = undo_sees (StaysUntaken m) (Worker a b) m (omega arith) (λ u e. tt)
 
 -- and so does a move, but for what it hands back
 back_stays : (J : ℕ → Job) (n t : ℕ) → backs (put J n (at_job (J n) HandedBack) t).at ≤ 0 → one (is_busy (J t).at) ≤ one (is_busy (put J n (at_job (J n) HandedBack) t).at)
@@ -156,19 +179,48 @@ back_stays J n t = by (t == n)
     by true h = absurd (omega (arith, h))
     by false h = omega arith
 
-pub moved_stays : (q : Party) (g : Move) (J : ℕ → Job) (t : ℕ) → backs (jobs_after q g J t).at ≤ 0 → one (is_busy (J t).at) ≤ one (is_busy (jobs_after q g J t).at)
-moved_stays q (Stay y) J t h = omega arith
-moved_stays q (Enter f y) J t h = omega arith
-moved_stays q Back J t h = omega arith
-moved_stays q (StartRun f n) J t h = by (t == n)
+spent_stays : (J : ℕ → Job) (n t : ℕ) → (t == n) ≡ false → one (is_busy (J t).at) ≤ one (is_busy (put J n (at_job (J n) Spent) t).at)
+spent_stays J n t e = by (t == n) e
+  where
+    by : (z : Bool) → z ≡ false → one (is_busy (J t).at) ≤ one (is_busy (if z then at_job (J n) Spent else J t).at)
+    by true e = cc
+    by false e = omega arith
+
+-- a move spends another number
+abbrev pub SpendsOther : ℕ → Move → Type 0
+SpendsOther t (HandIn y k) = (t == k) ≡ false
+SpendsOther t (Discard k) = (t == k) ≡ false
+SpendsOther t _ = ⊤
+
+-- a detached job is no token
+other : (w : World) (t k : ℕ) → is_detached (w.job k).kind ≡ false → is_detached (w.job t).kind ≡ true → (t == k) ≡ false
+other w t k s e = elim (either (t == k)) [ inl y ↦ absurd (let i : t ≡ k = eqb-true t k y in let a : is_detached (w.job t).kind ≡ false = ap (λ n. is_detached (w.job n).kind) i ∙ s in cc) | inr z ↦ z ]
+
+pub spends_other : (w : World) (t : ℕ) (g : Move) → StartsAwaited w g → is_detached (w.job t).kind ≡ true → SpendsOther t g
+spends_other w t (HandIn y k) s e = other w t k s e
+spends_other w t (Discard k) s e = other w t k s e
+spends_other w t _ s e = tt
+
+pub moved_stays : (q : Party) (g : Move) (J : ℕ → Job) (t : ℕ) → SpendsOther t g → backs (jobs_after q g J t).at ≤ 0 → one (is_busy (J t).at) ≤ one (is_busy (jobs_after q g J t).at)
+moved_stays q (Stay y) J t n h = omega arith
+moved_stays q (HandIn y k) J t n h = spent_stays J k t n
+moved_stays q (Discard k) J t n h = spent_stays J k t n
+moved_stays q (Enter f y) J t n h = omega arith
+moved_stays q Back J t n h = omega arith
+moved_stays q (StartRun f n) J t e h = by (t == n)
   where
     by : (z : Bool) → one (is_busy (J t).at) ≤ one (is_busy (if z then begun q (J n) else J t).at)
     by true = one_most (is_busy (J t).at)
     by false = omega arith
-moved_stays q (HandBack (Detach p n)) J t h = back_stays J n t h
-moved_stays q (HandBack (Here p n)) J t h = back_stays J n t h
-moved_stays q (HandBack (Send o)) J t h = back_stays J (o.job) t h
-moved_stays q (HandBack (Fork o n)) J t h = by (t == o.job) h
+moved_stays q (HandBack (Detach p n)) J t e h = back_stays J n t h
+moved_stays q (HandBack (Here p n)) J t e h = back_stays J n t h
+moved_stays q (HandBack (Send o)) J t n h = back_stays J (o.job) t h
+moved_stays q (HandBack (Feed d)) J t e h = by (t == d.token) h
+  where
+    by : (z : Bool) → backs (if z then at_job (J (d.token)) HandedBack else put J (d.job) (at_job (J (d.job)) HandedBack) t).at ≤ 0 → one (is_busy (J t).at) ≤ one (is_busy (if z then at_job (J (d.token)) HandedBack else put J (d.job) (at_job (J (d.job)) HandedBack) t).at)
+    by true h = absurd (omega (arith, h))
+    by false h = back_stays J (d.job) t h
+moved_stays q (HandBack (Fork o n)) J t e h = by (t == o.job) h
   where
     by : (z : Bool) → backs (if z then at_job (J (o.job)) HandedBack else put J n (at_job (J n) HandedBack) t).at ≤ 0 → one (is_busy (J t).at) ≤ one (is_busy (if z then at_job (J (o.job)) HandedBack else put J n (at_job (J n) HandedBack) t).at)
     by true h = absurd (omega (arith, h))
@@ -180,11 +232,17 @@ both_le true false b c z h = cc
 both_le false e b c z h = omega arith
 
 -- a job that keeps its share keeps it after an act that pushes none
-pub busy_kept : (w : World) (q : Party) (x : Place) (fs : List Place) (r : Seen × Part) → Lasting w (world_after w q x fs r) → StaysBusy (place_part w q x) r → (t : ℕ) → backs ((world_after w q x fs r).job t).at ≤ 0 → with_job (w.job t) ≤ with_job ((world_after w q x fs r).job t)
-busy_kept w q x fs r l st t b = both_le (is_detached (w.job t).kind) (is_detached ((world_after w q x fs r).job t).kind) (is_busy (w.job t).at) (is_busy ((world_after w q x fs r).job t).at) (ap is_detached (l.kinds t))
-    (let c : one (is_busy (w.job t).at) ≤ one (is_busy (put w.job (job_at w q (act_of q x)) (r.1.job) t).at) = touched (t == job_at w q (act_of q x)) refl in
-    let d : one (is_busy (put w.job (job_at w q (act_of q x)) (r.1.job) t).at) ≤ one (is_busy ((world_after w q x fs r).job t).at) = moved_stays q (next_of (w.shape.pool (target_pool q (act_of q x))) q x (r.0)) (put w.job (job_at w q (act_of q x)) (r.1.job)) t b in omega (arith, c, d))
+pub busy_kept : (w : World) (q : Party) (x : Place) (fs : List Place) (r : Seen × Part) → Lasting w (world_after w q x fs r) → StartsAwaited w (next_of (w.shape.pool (target_pool q (act_of q x))) q x (r.0)) → StaysBusy (place_part w q x) r → (t : ℕ) → backs ((world_after w q x fs r).job t).at ≤ 0 → with_job (w.job t) ≤ with_job ((world_after w q x fs r).job t)
+busy_kept w q x fs r l sa st t b = by (is_detached (w.job t).kind) refl
   where
     touched : (z : Bool) → (t == job_at w q (act_of q x)) ≡ z → one (is_busy (w.job t).at) ≤ one (is_busy (if z then r.1.job else w.job t).at)
     touched false e = omega arith
     touched true e = subst (λ n. one (is_busy (w.job n).at) ≤ one (is_busy r.1.job.at)) (sym (eqb-true t (job_at w q (act_of q x)) e)) st
+
+    still : SpendsOther t (next_of (w.shape.pool (target_pool q (act_of q x))) q x (r.0)) → one (is_busy (w.job t).at) ≤ one (is_busy ((world_after w q x fs r).job t).at)
+    still n = let c : one (is_busy (w.job t).at) ≤ one (is_busy (put w.job (job_at w q (act_of q x)) (r.1.job) t).at) = touched (t == job_at w q (act_of q x)) refl in
+        let d : one (is_busy (put w.job (job_at w q (act_of q x)) (r.1.job) t).at) ≤ one (is_busy ((world_after w q x fs r).job t).at) = moved_stays q (next_of (w.shape.pool (target_pool q (act_of q x))) q x (r.0)) (put w.job (job_at w q (act_of q x)) (r.1.job)) t n b in omega (arith, c, d)
+
+    by : (d : Bool) → is_detached (w.job t).kind ≡ d → one (d && is_busy (w.job t).at) ≤ with_job ((world_after w q x fs r).job t)
+    by true e = both_le true (is_detached ((world_after w q x fs r).job t).kind) (is_busy (w.job t).at) (is_busy ((world_after w q x fs r).job t).at) (ap is_detached (l.kinds t) ∙ e) (still (spends_other w t (next_of (w.shape.pool (target_pool q (act_of q x))) q x (r.0)) sa e))
+    by false e = omega arith

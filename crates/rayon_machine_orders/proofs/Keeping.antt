@@ -8,49 +8,51 @@ use Rattle.rayon_machine_places.specs.declared.place.Party.{Party}
 use Rattle.rayon_machine_places.specs.declared.place.Party.TheVariants.{Worker, Caller}
 use Rattle.rayon_machine_places.specs.declared.place.Ending.{Ending}
 use Rattle.rayon_machine_places.specs.declared.place.JobKind.{JobKind}
-use Rattle.rayon_machine_places.specs.declared.place.JobKind.TheVariants.{Detached, Stored, Direct}
+use Rattle.rayon_machine_places.specs.declared.place.JobKind.TheVariants.{Detached, Stored, Direct, TokenOf}
 use Rattle.rayon_machine_places.specs.declared.place.Plan.{Plan}
-use Rattle.rayon_machine_places.specs.declared.place.Plan.TheVariants.{Detach, Here, Send, Fork}
+use Rattle.rayon_machine_places.specs.declared.place.Plan.TheVariants.{Detach, Here, Send, Fork, Feed}
 use Rattle.rayon_machine_places.specs.declared.place.Share.TheVariants.{PoolValue, OfJob}
 use Rattle.rayon_machine_places.specs.declared.place.Then.{Then}
 use Rattle.rayon_machine_places.specs.declared.place.Then.TheVariants.{Resume}
 use Rattle.rayon_machine_places.specs.declared.place.Place.{Place}
-use Rattle.rayon_machine_places.specs.declared.place.Place.TheVariants.{PickVictim, StealFrom, YieldPop, YieldPick, YieldSteal, LocalPop, Run, RaiseCount, GrowCall, PushJob, LowerCount}
+use Rattle.rayon_machine_places.specs.declared.place.Place.TheVariants.{PickVictim, StealFrom, YieldPop, YieldPick, YieldSteal, LocalPop, Run, RaiseCount, GrowCall, PushJob, LowerCount, AddToFifo, PushToken, TakeFromFifo}
 use Rattle.rayon_machine_places.specs.declared.act.Act.TheVariants.{PushInj, PushOwn}
 use Rattle.rayon_machine_places.specs.declared.act.Seen.{Seen}
-use Rattle.rayon_machine_places.specs.declared.act.Seen.TheVariants.{Done, Refused, Yes, No, Missing, Start}
+use Rattle.rayon_machine_places.specs.declared.act.Seen.TheVariants.{Done, Refused, Yes, No, Missing, Start, Task}
 use Rattle.rayon_machine_places.specs.declared.event.Event.{Event}
-use Rattle.rayon_machine_places.specs.declared.event.Event.TheVariants.{Go, From, Refuse, Miss, End, Spawn, Install, Join, Yield, YieldLocal, EndPool}
+use Rattle.rayon_machine_places.specs.declared.event.Event.TheVariants.{Go, From, Refuse, Miss, End, Spawn, Fifo, Install, Join, Yield, YieldLocal, EndPool}
 use Rattle.rayon_machine_places.specs.declared.state.Whereabouts.TheVariants.{Over}
 use Rattle.rayon_machine_places.specs.declared.shape.PoolShape.{PoolShape}
 use Rattle.rayon_machine_places.specs.declared.state.Job.{Job}
 use Rattle.rayon_machine_places.specs.declared.state.Call.{Call}
-use Rattle.rayon_machine_places.specs.Places.{same_party, own_pool, is_member, plan_pool, plan_job, act_of, next_of, is_free}
-use Rattle.rayon_machine_places.specs.World.{Shape, World, count_below, counts_at, Part, target_pool, target_worker, target_call, at_job}
-use Rattle.rayon_machine_places.specs.Steps.{put, put_stack, after_move, after_choice, after_refusal, can_miss, after_miss, after_close, after_end, after_call, is_pool, new_job, new_call, after_spawn, after_send, after_install, after_join, after_yield, after_end_pool, step}
+use Rattle.rayon_machine_places.specs.Places.{same_party, own_pool, is_member, plan_pool, plan_job, act_of, next_of, is_free, taken_number}
+use Rattle.rayon_machine_places.specs.World.{Shape, World, count_below, counts_at, Part, target_pool, target_worker, target_call, at_job, is_open}
+use Rattle.rayon_machine_places.specs.Steps.{put, put_stack, after_move, after_choice, after_refusal, can_miss, after_miss, after_close, after_end, after_call, is_pool, new_job, new_call, after_spawn, after_send, after_install, after_join, after_yield, after_end_pool, step, after_fifo}
 use Rattle.rayon_machine_places.specs.Runs.{start, IsRun}
 use Rattle.rayon_machine_laws.specs.Once.{one}
 use Rattle.rayon_machine_laws.specs.Counted.{is_detached, keeps_own, has_share, values, values_in, all_values, KeptOnce, IsCounted}
 use Rattle.rayon_machine_laws.specs.Shares.{share, shares_in, shares, is_busy}
-use Rattle.rayon_machine_laws.proofs.Frame.{either, same_party_true, if_some_and, if_some_map, if_cond, acted_keeps, put_same, put_old, stack_mine, after_counted}
+use Rattle.rayon_machine_laws.proofs.Frame.{either, same_party_true, if_some_and, if_some_map, if_cond, acted_keeps, put_same, put_old, stack_mine, after_counted, fifo_cases}
 use Rattle.rayon_machine_laws.proofs.Ties.{job_at, outcome}
 use Rattle.rayon_machine_laws.proofs.Events.{run_keeps}
-use Rattle.rayon_machine_laws.proofs.Claims.{SaysQueue, SaysRun}
+use Rattle.rayon_machine_laws.proofs.Claims.{SaysQueue, SaysRun, MadeAs}
 use Rattle.rayon_machine_laws.proofs.ClaimActs.{Lasting}
 use Rattle.rayon_machine_laws.proofs.ClaimRuns.{top_says, world_after, place_part}
 use Rattle.rayon_machine_laws.proofs.ClaimEvents.{ended_world}
 use Rattle.rayon_machine_laws.proofs.ClaimMakes.{calling, below_new}
-use Rattle.rayon_machine_laws.proofs.Amounts.{all_raises, raises_in, gained, pushed, paid, not_pushed}
+use Rattle.rayon_machine_laws.proofs.Amounts.{all_raises, raises_in, gained, pushed, paid, not_pushed, regained}
 use Rattle.rayon_machine_laws.proofs.Tokens.{Tokens, sum_below}
-use Rattle.rayon_machine_laws.proofs.ShareActs.{with_job, tally, SharesHold, one_most, one_is, one_not, is_tally, Untallied, same_untallied, act_untallied}
-use Rattle.rayon_machine_laws.proofs.ShareRuns.{shares_mine, values_mine}
+use Rattle.rayon_machine_laws.proofs.ShareActs.{with_job, tally, SharesHold, one_most, one_is, one_not, is_tally, Untallied, same_untallied, act_untallied, Regains, act_regains}
+use Rattle.rayon_machine_laws.proofs.ShareRuns.{shares_mine, values_mine, StartsAwaited}
 use Rattle.rayon_machine_laws.proofs.ShareSteps.{Ready, stack_after, counted_now, raised_world}
 use Rattle.rayon_machine_laws.proofs.ShareLowers.{lowered_world}
 use Rattle.rayon_machine_laws.proofs.ShareEvents.{ready, ungained}
 use Rattle.rayon_machine_laws.proofs.ShareEnds.{freed, closed_shares}
 use Rattle.rayon_machine_laws.proofs.Bares.{all_bare, backs}
 use Rattle.rayon_machine_laws.proofs.Returns.{ReturnsHold, unpaid, step_returns, first_returns}
-use Rattle.rayon_machine_orders.proofs.Keepers.{HasKeeper, KeepersHold, keepers_by, StaysBusy, act_pushes, act_busies, moved_stays, busy_kept}
+use Rattle.rayon_machine_orders.proofs.Keepers.{HasKeeper, KeepersHold, keepers_by, StaysBusy, act_pushes, act_busies, moved_stays, busy_kept, is_retake, StaysUntaken, spends_other, retake_busies}
+use Rattle.rayon_machine_places.specs.declared.place.Feeding.{Feeding}
+use Rattle.rayon_machine_laws.proofs.PlacedRuns.{once}
 
 -- the share of a job that is pushed goes with a detached job alone
 pushed_most : (t : ℕ) (n : Plan) (v : Bool) (e : Seen) → pushed t (PushJob n v) e ≤ one (t == plan_job n)
@@ -60,6 +62,8 @@ pushed_most t (Here p j) v Done = omega arith
 pushed_most t (Here p j) v _ = omega arith
 pushed_most t (Send o) v e = omega arith
 pushed_most t (Fork o a) v e = omega arith
+pushed_most t (Feed f) v Done = omega arith
+pushed_most t (Feed f) v _ = omega arith
 
 plan_pushed : (w : World) (q : Party) (n : Plan) (v : Bool) (e : Seen) (t : ℕ) → SaysQueue w q n → (t == plan_job n) ≡ true → pushed t (PushJob n v) e ≤ one (is_detached (w.job t).kind)
 plan_pushed w q (Detach p j) v e t s y = let a : pushed t (PushJob (Detach p j) v) e ≤ one (t == j) = pushed_most t (Detach p j) v e in let b : one (t == j) ≤ 1 = one_most (t == j) in
@@ -67,10 +71,21 @@ plan_pushed w q (Detach p j) v e t s y = let a : pushed t (PushJob (Detach p j) 
 plan_pushed w q (Here p j) v e t s y = absurd s
 plan_pushed w q (Send o) v e t s y = omega arith
 plan_pushed w q (Fork o a) v e t s y = omega arith
+plan_pushed w q (Feed f) v e t s y = absurd s
 
--- what a detached job keeps itself, it keeps after each act; and one that is pushed keeps its share from then on
-abbrev BusyAfter : World → Party → Place → List Place → Seen × Part → Type 0
-BusyAfter w q x fs r = (t : ℕ) → backs ((world_after w q x fs r).job t).at ≤ 0 → with_job (w.job t) + pushed t x (r.0) ≤ with_job ((world_after w q x fs r).job t)
+-- nor with one that is added to a FIFO list
+added_most : (t : ℕ) (f : Feeding) (e : Seen) → pushed t (AddToFifo f) e ≤ one (t == f.job)
+added_most t f Done = omega arith
+added_most t f _ = omega arith
+
+added_plan : (w : World) (t : ℕ) (f : Feeding) (e : Seen) → (t == f.job) ≡ true → MadeAs w f.job f.pool (Detached f.pool) → pushed t (AddToFifo f) e ≤ one (is_detached (w.job t).kind)
+added_plan w t f e y s = let a : pushed t (AddToFifo f) e ≤ one (t == f.job) = added_most t f e in let b : one (t == f.job) ≤ 1 = one_most (t == f.job) in
+    let c : one (is_detached (w.job t).kind) ≡ 1 = ap (λ i. one (is_detached (w.job i).kind)) (eqb-true t f.job y) ∙ ap (λ k. one (is_detached k)) (s.kind) in omega (arith, a, b, c)
+
+-- what a detached job keeps itself, it keeps after each act, but where its call takes it back; and one that is pushed
+-- keeps its share from then on
+abbrev pub BusyAfter : World → Party → Place → List Place → Seen × Part → Type 0
+BusyAfter w q x fs r = (t : ℕ) → backs ((world_after w q x fs r).job t).at ≤ 0 → with_job (w.job t) + pushed t x (r.0) ≤ with_job ((world_after w q x fs r).job t) + regained t x (r.0)
 
 push_job : (w : World) (q : Party) (n : Plan) (v : Bool) → job_at w q (act_of q (PushJob n v)) ≡ plan_job n
 push_job w (Caller c) n v = refl
@@ -80,56 +95,99 @@ push_job w (Worker a b) n v = by (is_member (Worker a b) (plan_pool n))
     by true = refl
     by false = refl
 
-push_kept : (w : World) (q : Party) (n : Plan) (v : Bool) (fs : List Place) (r : Seen × Part) → SharesHold w → w.stack q ≡ record { top = PushJob n v; below = fs } → Lasting w (world_after w q (PushJob n v) fs r) → StaysBusy (place_part w q (PushJob n v)) r → is_busy r.1.job.at ≡ true → BusyAfter w q (PushJob n v) fs r
-push_kept w q n v fs r h z l st bu t b = by (t == plan_job n) refl
-  where
-    still : with_job (w.job t) ≤ with_job ((world_after w q (PushJob n v) fs r).job t)
-    still = busy_kept w q (PushJob n v) fs r l st t b
+-- where a place's act puts its job j into a list, of which it has the share
+record Puts (w : World) (q : Party) (x : Place) (j : ℕ) (e : Seen) : Type 0 where
+  pub most : (t : ℕ) → pushed t x e ≤ one (t == j)
+  pub plan : (t : ℕ) → (t == j) ≡ true → pushed t x e ≤ one (is_detached (w.job t).kind)
+  pub at : job_at w q (act_of q x) ≡ j
+  pub share : (t : ℕ) → share t x ≡ one (t == j)
 
-    by : (y : Bool) → (t == plan_job n) ≡ y → with_job (w.job t) + pushed t (PushJob n v) (r.0) ≤ with_job ((world_after w q (PushJob n v) fs r).job t)
-    by false y = let a : pushed t (PushJob n v) (r.0) ≤ one (t == plan_job n) = pushed_most t n v (r.0) in let c : one (t == plan_job n) ≡ 0 = ap one y in let d : with_job (w.job t) ≤ with_job ((world_after w q (PushJob n v) fs r).job t) = still in omega (arith, a, c, d)
-    by true y = let a : pushed t (PushJob n v) (r.0) ≤ one (is_detached (w.job t).kind) = plan_pushed w q n v (r.0) t (top_says w q (PushJob n v) fs (h.calls) z) y in
+push_kept : (w : World) (q : Party) (x : Place) (j : ℕ) (fs : List Place) (r : Seen × Part) → SharesHold w → w.stack q ≡ record { top = x; below = fs } → Puts w q x j (r.0) → Lasting w (world_after w q x fs r) → StartsAwaited w (next_of (w.shape.pool (target_pool q (act_of q x))) q x (r.0)) → StaysBusy (place_part w q x) r → is_busy r.1.job.at ≡ true → BusyAfter w q x fs r
+push_kept w q x j fs r h z pu l sa st bu t b = by (t == j) refl
+  where
+    still : with_job (w.job t) ≤ with_job ((world_after w q x fs r).job t)
+    still = busy_kept w q x fs r l sa st t b
+
+    by : (y : Bool) → (t == j) ≡ y → with_job (w.job t) + pushed t x (r.0) ≤ with_job ((world_after w q x fs r).job t) + regained t x (r.0)
+    by false y = let a : pushed t x (r.0) ≤ one (t == j) = pu.most t in let c : one (t == j) ≡ 0 = ap one y in let d : with_job (w.job t) ≤ with_job ((world_after w q x fs r).job t) = still in omega (arith, a, c, d)
+    by true y = let a : pushed t x (r.0) ≤ one (is_detached (w.job t).kind) = pu.plan t y in
         let c : shares t (w.stack q) + with_job (w.job t) ≤ one (w.job t).counted = (h.jobs t).alone q in
         let d : one (w.job t).counted ≤ 1 = one_most ((w.job t).counted) in
-        let e : shares t (w.stack q) ≡ (one (t == plan_job n) + shares_in t fs) = ap (shares t) z in
-        let f : one (t == plan_job n) ≡ 1 = ap one y in
-        let g : with_job ((world_after w q (PushJob n v) fs r).job t) ≡ one (is_detached (w.job t).kind) = own in omega (arith, a, c, d, e, f, g)
+        let e : shares t (w.stack q) ≡ (share t x + shares_in t fs) = ap (shares t) z in
+        let k : share t x ≡ one (t == j) = pu.share t in
+        let f : one (t == j) ≡ 1 = ap one y in
+        let g : with_job ((world_after w q x fs r).job t) ≡ one (is_detached (w.job t).kind) = own in omega (arith, a, c, d, e, f, g, k)
       where
         and_all : (c : Bool) → (c && true) ≡ c
         and_all true = refl
         and_all false = refl
 
-        here : (t == job_at w q (act_of q (PushJob n v))) ≡ true
-        here = ap (λ m. t == m) (push_job w q n v) ∙ y
+        here : (t == job_at w q (act_of q x)) ≡ true
+        here = ap (λ m. t == m) (pu.at) ∙ y
 
-        now : is_busy ((world_after w q (PushJob n v) fs r).job t).at ≡ true
-        now = one_is (is_busy ((world_after w q (PushJob n v) fs r).job t).at)
-            (let k : one (is_busy (put w.job (job_at w q (act_of q (PushJob n v))) (r.1.job) t).at) ≤ one (is_busy ((world_after w q (PushJob n v) fs r).job t).at) = moved_stays q (next_of (w.shape.pool (target_pool q (act_of q (PushJob n v)))) q (PushJob n v) (r.0)) (put w.job (job_at w q (act_of q (PushJob n v))) (r.1.job)) t b in
-            let m : one (is_busy (put w.job (job_at w q (act_of q (PushJob n v))) (r.1.job) t).at) ≡ 1 = ap (λ c. one (is_busy (if c then r.1.job else w.job t).at)) here ∙ ap one bu in omega (arith, k, m))
+        now : is_detached (w.job t).kind ≡ true → is_busy ((world_after w q x fs r).job t).at ≡ true
+        now de = one_is (is_busy ((world_after w q x fs r).job t).at)
+            (let k : one (is_busy (put w.job (job_at w q (act_of q x)) (r.1.job) t).at) ≤ one (is_busy ((world_after w q x fs r).job t).at) = moved_stays q (next_of (w.shape.pool (target_pool q (act_of q x))) q x (r.0)) (put w.job (job_at w q (act_of q x)) (r.1.job)) t (spends_other w t (next_of (w.shape.pool (target_pool q (act_of q x))) q x (r.0)) sa de) b in
+            let m : one (is_busy (put w.job (job_at w q (act_of q x)) (r.1.job) t).at) ≡ 1 = ap (λ c. one (is_busy (if c then r.1.job else w.job t).at)) here ∙ ap one bu in omega (arith, k, m))
 
-        own : with_job ((world_after w q (PushJob n v) fs r).job t) ≡ one (is_detached (w.job t).kind)
-        own = ap (λ c. one (is_detached ((world_after w q (PushJob n v) fs r).job t).kind && c)) now ∙ ap one (and_all (is_detached ((world_after w q (PushJob n v) fs r).job t).kind)) ∙ ap (λ k. one (is_detached k)) (l.kinds t)
+        own : with_job ((world_after w q x fs r).job t) ≡ one (is_detached (w.job t).kind)
+        own = ap (λ k. one (is_detached k && is_busy ((world_after w q x fs r).job t).at)) (l.kinds t) ∙ both (is_detached (w.job t).kind) refl
+          where
+            both : (c : Bool) → is_detached (w.job t).kind ≡ c → one (is_detached (w.job t).kind && is_busy ((world_after w q x fs r).job t).at) ≡ one (is_detached (w.job t).kind)
+            both true de = ap (λ k. one (is_detached (w.job t).kind && k)) (now de) ∙ ap one (and_all (is_detached (w.job t).kind))
+            both false de = ap (λ k. one (k && is_busy ((world_after w q x fs r).job t).at)) de ∙ sym (ap one de)
 
--- places that push no job
+-- a job that is taken back: its share comes back to its call
+retake_kept : (w : World) (q : Party) (f : Feeding) (fs : List Place) (r : Seen × Part) → Ready w q (TakeFromFifo f) fs r → Regains w q (TakeFromFifo f) r → StaysUntaken (place_part w q (TakeFromFifo f)) r → BusyAfter w q (TakeFromFifo f) fs r
+retake_kept w q f fs (Task y, m) d g st t b = by (t == taken_number y) refl
+  where
+    n0 : ℕ
+    n0 = job_at w q (act_of q (TakeFromFifo f))
+
+    by : (z : Bool) → (t == taken_number y) ≡ z → with_job (w.job t) + 0 ≤ with_job (put w.job n0 m.job t) + one (t == taken_number y)
+    by true e = let a : with_job (w.job t) ≤ 1 = one_most (keeps_own (w.job t)) in let c : one (t == taken_number y) ≡ 1 = ap one e in omega (arith, a, c)
+    by false e = let a : with_job (put w.job n0 m.job t) ≡ with_job (w.job t) = ap with_job (put_old w.job n0 m.job t (ap (λ n. t == n) (g.0) ∙ e)) in omega (arith, a)
+retake_kept w q f fs (e, m) d g st t b = let a : with_job (w.job t) ≤ with_job ((world_after w q (TakeFromFifo f) fs (e, m)).job t) = busy_kept w q (TakeFromFifo f) fs (e, m) (d.last) (d.starts) st t b in omega (arith, a)
+
+-- places whose act puts no job into a list, and takes none back out of a FIFO list
 abbrev is_push : Place → Bool
 is_push (PushJob n v) = true
+is_push (AddToFifo f) = true
+is_push (TakeFromFifo f) = true
 is_push _ = false
 
 unpushed : (t : ℕ) (x : Place) (e : Seen) → is_push x ≡ false → pushed t x e ≡ 0
 unpushed t (PushJob n v) e z = cc
+unpushed t (AddToFifo f) e z = cc
 unpushed t _ e z = refl
 
-plain_busy : (w : World) (q : Party) (x : Place) (fs : List Place) → is_push x ≡ false → IfSome (outcome w q (record { top = x; below = fs })) (λ r. Lasting w (world_after w q x fs r)) → IfSome (outcome w q (record { top = x; below = fs })) (BusyAfter w q x fs)
-plain_busy w q x fs y d = if_some_map (λ r. Lasting w (world_after w q x fs r) × StaysBusy (place_part w q x) r) (BusyAfter w q x fs)
-    (λ r f t b. (let a : with_job (w.job t) ≤ with_job ((world_after w q x fs r).job t) = busy_kept w q x fs r (f.0) (f.1) t b in let c : pushed t x (r.0) ≡ 0 = unpushed t x (r.0) y in omega (arith, a, c)))
-    (outcome w q (record { top = x; below = fs })) (if_some_and (λ r. Lasting w (world_after w q x fs r)) (StaysBusy (place_part w q x)) (outcome w q (record { top = x; below = fs })) d (act_busies w.shape q (counts_at w (target_pool q (act_of q x))) (place_part w q x) x))
+push_retakes : (x : Place) → is_push x ≡ false → is_retake x ≡ false
+push_retakes (TakeFromFifo f) z = cc
+push_retakes _ z = refl
 
-all_busy : (w : World) (q : Party) (x : Place) (fs : List Place) → w.stack q ≡ record { top = x; below = fs } → SharesHold w → IfSome (outcome w q (record { top = x; below = fs })) (λ r. Lasting w (world_after w q x fs r)) → IfSome (outcome w q (record { top = x; below = fs })) (BusyAfter w q x fs)
-all_busy w q (PushJob n v) fs z h d = if_some_map (λ r. Lasting w (world_after w q (PushJob n v) fs r) × (StaysBusy (place_part w q (PushJob n v)) r × (is_busy r.1.job.at ≡ true))) (BusyAfter w q (PushJob n v) fs)
-    (λ r f. push_kept w q n v fs r h z (f.0) ((f.1).0) ((f.1).1))
+plain_busy : (w : World) (q : Party) (x : Place) (fs : List Place) → is_push x ≡ false → IfSome (outcome w q (record { top = x; below = fs })) (Ready w q x fs) → IfSome (outcome w q (record { top = x; below = fs })) (BusyAfter w q x fs)
+plain_busy w q x fs y d = if_some_map (λ r. Ready w q x fs r × StaysBusy (place_part w q x) r) (BusyAfter w q x fs)
+    (λ r f t b. (let a : with_job (w.job t) ≤ with_job ((world_after w q x fs r).job t) = busy_kept w q x fs r ((f.0).last) ((f.0).starts) (f.1) t b in let c : pushed t x (r.0) ≡ 0 = unpushed t x (r.0) y in omega (arith, a, c)))
+    (outcome w q (record { top = x; below = fs })) (if_some_and (Ready w q x fs) (StaysBusy (place_part w q x)) (outcome w q (record { top = x; below = fs })) d (act_busies w.shape q (counts_at w (target_pool q (act_of q x))) (place_part w q x) x (push_retakes x y)))
+
+pub all_busy : (w : World) (q : Party) (x : Place) (fs : List Place) → w.stack q ≡ record { top = x; below = fs } → SharesHold w → IfSome (outcome w q (record { top = x; below = fs })) (Ready w q x fs) → IfSome (outcome w q (record { top = x; below = fs })) (BusyAfter w q x fs)
+all_busy w q (PushJob n v) fs z h d = if_some_map (λ r. Ready w q (PushJob n v) fs r × (StaysBusy (place_part w q (PushJob n v)) r × (is_busy r.1.job.at ≡ true))) (BusyAfter w q (PushJob n v) fs)
+    (λ r f. push_kept w q (PushJob n v) (plan_job n) fs r h z (record { most = λ t. pushed_most t n v (r.0); plan = λ t y. plan_pushed w q n v (r.0) t (top_says w q (PushJob n v) fs (h.calls) z) y; at = push_job w q n v; share = λ t. refl }) ((f.0).last) ((f.0).starts) ((f.1).0) ((f.1).1))
     (outcome w q (record { top = PushJob n v; below = fs }))
-    (if_some_and (λ r. Lasting w (world_after w q (PushJob n v) fs r)) (λ r. StaysBusy (place_part w q (PushJob n v)) r × (is_busy r.1.job.at ≡ true)) (outcome w q (record { top = PushJob n v; below = fs })) d
-    (if_some_and (StaysBusy (place_part w q (PushJob n v))) (λ r. is_busy r.1.job.at ≡ true) (outcome w q (record { top = PushJob n v; below = fs })) (act_busies w.shape q (counts_at w (target_pool q (act_of q (PushJob n v)))) (place_part w q (PushJob n v)) (PushJob n v)) (act_pushes w.shape q (counts_at w (target_pool q (act_of q (PushJob n v)))) (place_part w q (PushJob n v)) n v)))
+    (if_some_and (Ready w q (PushJob n v) fs) (λ r. StaysBusy (place_part w q (PushJob n v)) r × (is_busy r.1.job.at ≡ true)) (outcome w q (record { top = PushJob n v; below = fs })) d
+    (if_some_and (StaysBusy (place_part w q (PushJob n v))) (λ r. is_busy r.1.job.at ≡ true) (outcome w q (record { top = PushJob n v; below = fs })) (act_busies w.shape q (counts_at w (target_pool q (act_of q (PushJob n v)))) (place_part w q (PushJob n v)) (PushJob n v) refl) (act_pushes w.shape q (counts_at w (target_pool q (act_of q (PushJob n v)))) (place_part w q (PushJob n v)) n v)))
+all_busy w (Worker a b) (AddToFifo f) fs z h d = if_some_map (λ r. Ready w (Worker a b) (AddToFifo f) fs r × (StaysBusy (place_part w (Worker a b) (AddToFifo f)) r × (is_busy r.1.job.at ≡ true))) (BusyAfter w (Worker a b) (AddToFifo f) fs)
+    (λ r g. push_kept w (Worker a b) (AddToFifo f) (f.job) fs r h z (record { most = λ t. added_most t f (r.0); plan = λ t y. added_plan w t f (r.0) y ((top_says w (Worker a b) (AddToFifo f) fs (h.calls) z).0); at = refl; share = λ t. refl }) ((g.0).last) ((g.0).starts) ((g.1).0) ((g.1).1))
+    (outcome w (Worker a b) (record { top = AddToFifo f; below = fs }))
+    (if_some_and (Ready w (Worker a b) (AddToFifo f) fs) (λ r. StaysBusy (place_part w (Worker a b) (AddToFifo f)) r × (is_busy r.1.job.at ≡ true)) (outcome w (Worker a b) (record { top = AddToFifo f; below = fs })) d
+    (if_some_and (StaysBusy (place_part w (Worker a b) (AddToFifo f))) (λ r. is_busy r.1.job.at ≡ true) (outcome w (Worker a b) (record { top = AddToFifo f; below = fs })) (act_busies w.shape (Worker a b) (counts_at w a) (place_part w (Worker a b) (AddToFifo f)) (AddToFifo f) refl) (if_cond (λ (r : Seen × Part). is_busy r.1.job.at ≡ true) (is_open (Worker a b) ((w.seat a b).feeder)) _ (λ o. refl))))
+all_busy w (Caller c) (AddToFifo f) fs z h d = tt
+all_busy w (Worker a b) (TakeFromFifo f) fs z h d = if_some_map (λ r. Ready w (Worker a b) (TakeFromFifo f) fs r × (Regains w (Worker a b) (TakeFromFifo f) r × StaysUntaken (place_part w (Worker a b) (TakeFromFifo f)) r)) (BusyAfter w (Worker a b) (TakeFromFifo f) fs)
+    (λ r g. retake_kept w (Worker a b) f fs r (g.0) ((g.1).0) ((g.1).1))
+    (outcome w (Worker a b) (record { top = TakeFromFifo f; below = fs }))
+    (if_some_and (Ready w (Worker a b) (TakeFromFifo f) fs) (λ r. Regains w (Worker a b) (TakeFromFifo f) r × StaysUntaken (place_part w (Worker a b) (TakeFromFifo f)) r) (outcome w (Worker a b) (record { top = TakeFromFifo f; below = fs })) d
+    (if_some_and (Regains w (Worker a b) (TakeFromFifo f)) (StaysUntaken (place_part w (Worker a b) (TakeFromFifo f))) (outcome w (Worker a b) (record { top = TakeFromFifo f; below = fs })) (act_regains w (Worker a b) (TakeFromFifo f) (h.calls) (once w ((h.calls).jobs))) (retake_busies w.shape a b (counts_at w a) (place_part w (Worker a b) (TakeFromFifo f)) f)))
+all_busy w (Caller c) (TakeFromFifo f) fs z h d = tt
 all_busy w q x fs z h d = plain_busy w q x fs refl d
 
 -- an act, by what it says of the shares that are in the count after it
@@ -138,10 +196,10 @@ act_keepers w q x fs r d bu fj fp h s = keepers_by w (world_after w q x fs r) q 
     (λ t c. (
       gained t x (r.0),
       (fj t c).1,
-      (let a : shares t (put_stack w.stack q (stack_after w q x fs (r.0)) q) + (pushed t x (r.0) + paid t x) ≡ shares t (w.stack q) + gained t x (r.0) = shares_mine w q x fs (w.shape.pool (target_pool q (act_of q x))) (r.0) t (d.stack) in
+      (let a : shares t (put_stack w.stack q (stack_after w q x fs (r.0)) q) + (pushed t x (r.0) + paid t x) ≡ shares t (w.stack q) + (gained t x (r.0) + regained t x (r.0)) = shares_mine w q x fs (w.shape.pool (target_pool q (act_of q x))) (r.0) t (d.stack) in
           let b : shares t (put_stack w.stack q (stack_after w q x fs (r.0)) q) ≡ shares t (stack_after w q x fs (r.0)) = ap (shares t) (stack_mine w.stack q (stack_after w q x fs (r.0))) in
           let e : all_bare t ((world_after w q x fs r).stack q) + backs ((world_after w q x fs r).job t).at ≤ 0 = s.bare q t c in
-          let f : with_job (w.job t) + pushed t x (r.0) ≤ with_job ((world_after w q x fs r).job t) = bu t (omega (arith, e)) in
+          let f : with_job (w.job t) + pushed t x (r.0) ≤ with_job ((world_after w q x fs r).job t) + regained t x (r.0) = bu t (omega (arith, e)) in
           let g : paid t x ≡ 0 = (fj t c).0 in omega (arith, a, b, f, g)),
     ))
     (λ p c. (
@@ -220,7 +278,7 @@ go_keepers : (w : World) (q : Party) → KeepersHold w → IfSome (step w (Go q)
 go_keepers w q h = acted_keeps w q (w.stack q) (target_pool q (act_of q ((w.stack q).top))) (target_worker q (act_of q ((w.stack q).top))) (target_call (act_of q ((w.stack q).top))) (job_at w q (act_of q ((w.stack q).top))) (outcome w q (w.stack q)) (λ u. ReturnsHold u → KeepersHold u)
     (go_by w q ((w.stack q).top) ((w.stack q).below) refl h
     (if_some_and (λ r. Ready w q ((w.stack q).top) ((w.stack q).below) r) (BusyAfter w q ((w.stack q).top) ((w.stack q).below)) (outcome w q (w.stack q)) (ready w q ((h.returns).shares))
-    (all_busy w q ((w.stack q).top) ((w.stack q).below) refl ((h.returns).shares) (if_some_map (λ r. Ready w q ((w.stack q).top) ((w.stack q).below) r) (λ r. Lasting w (world_after w q ((w.stack q).top) ((w.stack q).below) r)) (λ r d. d.last) (outcome w q (w.stack q)) (ready w q ((h.returns).shares))))))
+    (all_busy w q ((w.stack q).top) ((w.stack q).below) refl ((h.returns).shares) (ready w q ((h.returns).shares)))))
 
 -- a party goes on as if its act had seen this
 seen_keepers : (w : World) (q : Party) (g : PoolShape) (x : Place) (fs : List Place) (e : Seen) → w.stack q ≡ record { top = x; below = fs } → is_tally x ≡ false → ((t : ℕ) → pushed t x e ≡ 0) → KeepersHold w → ReturnsHold (record w { stack = put_stack w.stack q (after_move (next_of g q x e) fs) }) → KeepersHold (record w { stack = put_stack w.stack q (after_move (next_of g q x e) fs) })
@@ -228,7 +286,7 @@ seen_keepers w q g x fs e z y none h s = keepers_by w (record w { stack = put_st
     (λ t c. (
       0,
       (let a : one (w.job t).counted ≡ 1 = ap one c in omega (arith, a)),
-      (let a : shares t (put_stack w.stack q (after_move (next_of g q x e) fs) q) + (pushed t x e + paid t x) ≡ shares t (w.stack q) + gained t x e = shares_mine w q x fs g e t z in
+      (let a : shares t (put_stack w.stack q (after_move (next_of g q x e) fs) q) + (pushed t x e + paid t x) ≡ shares t (w.stack q) + (gained t x e + regained t x e) = shares_mine w q x fs g e t z in
           let b : shares t (put_stack w.stack q (after_move (next_of g q x e) fs) q) ≡ shares t (after_move (next_of g q x e) fs) = ap (shares t) (stack_mine w.stack q (after_move (next_of g q x e) fs)) in
           let d : pushed t x e ≡ 0 = none t in let f : paid t x ≡ 0 = unpaid t x y in omega (arith, a, b, d, f)),
     ))
@@ -246,6 +304,8 @@ from_keepers w q _ fs v z h = tt
 
 refuse_keepers : (w : World) (q : Party) (x : Place) (fs : List Place) → w.stack q ≡ record { top = x; below = fs } → KeepersHold w → IfSome (after_refusal w q (record { top = x; below = fs })) (λ u. ReturnsHold u → KeepersHold u)
 refuse_keepers w q (GrowCall n) fs z h = λ s. seen_keepers w q (w.shape.pool (own_pool q)) (GrowCall n) fs Refused z refl (λ t. refl) h s
+refuse_keepers w q (AddToFifo f) fs z h = λ s. seen_keepers w q (w.shape.pool (own_pool q)) (AddToFifo f) fs Refused z refl (λ t. refl) h s
+refuse_keepers w q (PushToken f v) fs z h = λ s. seen_keepers w q (w.shape.pool (own_pool q)) (PushToken f v) fs Refused z refl (λ t. refl) h s
 refuse_keepers w q (PushJob n v) fs z h = λ s. seen_keepers w q (w.shape.pool (own_pool q)) (PushJob n v) fs Refused z refl (λ t. not_pushed t n v Refused refl) h s
 refuse_keepers w q _ fs z h = tt
 
@@ -260,6 +320,7 @@ freed_all : (w : World) (s t : ℕ) (k : JobKind) → (s == t) ≡ true → Says
 freed_all w s t (Detached p) e r = let a : freed s t (Detached p) ≡ 1 = ap one e in let b : with_job (w.job s) ≤ 1 = one_most (keeps_own (w.job s)) in omega (arith, a, b)
 freed_all w s t (Stored c o) e r = let a : with_job (w.job s) ≡ 0 = ap (λ n. with_job (w.job n)) (eqb-true s t e) ∙ ap (λ k. one (is_detached k && is_busy (w.job t).at)) (r.1) in omega (arith, a)
 freed_all w s t Direct e r = let a : with_job (w.job s) ≡ 0 = ap (λ n. with_job (w.job n)) (eqb-true s t e) ∙ ap (λ b. one (b && is_busy (w.job t).at)) (r.kind) in omega (arith, a)
+freed_all w s t (TokenOf i) e r = let a : with_job (w.job s) ≡ 0 = ap (λ n. with_job (w.job n)) (eqb-true s t e) ∙ ap (λ b. one (b && is_busy (w.job t).at)) (r.kind) in omega (arith, a)
 
 end_keepers : (w : World) (q : Party) (d : Ending) (x : Place) (fs : List Place) → w.stack q ≡ record { top = x; below = fs } → KeepersHold w → IfSome (after_end w q d (record { top = x; below = fs }) x) (λ u. ReturnsHold u → KeepersHold u)
 end_keepers w q d (Run t k) fs z h = λ s. keepers_by w (ended_world w q d t k fs) q (after_close t k d fs) (λ i. refl)
@@ -296,18 +357,19 @@ sent_keepers w q p false h s = made_keepers w q (Send (record { number = w.calls
 install_keepers : (w : World) (q : Party) (p : ℕ) → KeepersHold w → IfSome (after_install w q p (w.stack q)) (λ u. ReturnsHold u → KeepersHold u)
 install_keepers w q p h = if_cond (λ u. ReturnsHold u → KeepersHold u) (is_free ((w.stack q).top) && is_pool w.shape p) _ (λ f s. sent_keepers w q p (is_member q p) h s)
 
+-- the same of two jobs
+two_put : (w : World) (q : Party) (p : ℕ) (d k : JobKind) → KeepersHold w → ((t : ℕ) → t + 1 ≤ w.jobs → put (put w.job w.jobs (new_job q p d)) (w.jobs + 1) (new_job q p k) t ≡ w.job t) × ((t : ℕ) → w.jobs ≤ t → (put (put w.job w.jobs (new_job q p d)) (w.jobs + 1) (new_job q p k) t).counted ≡ false)
+two_put w q p d k h = (
+  λ t b. put_old (put w.job w.jobs (new_job q p d)) (w.jobs + 1) (new_job q p k) t (below_new t (w.jobs + 1) (omega (arith, b))) ∙ (put_made w q p d h).0 t b,
+  λ t b. put_same (λ j. j.counted) (put w.job w.jobs (new_job q p d)) (w.jobs + 1) (new_job q p k) t (sym ((put_made w q p d h).1 (w.jobs + 1) (omega arith))) ∙ (put_made w q p d h).1 t b,
+)
+
 join_keepers : (w : World) (q : Party) → KeepersHold w → IfSome (after_join w q (w.stack q)) (λ u. ReturnsHold u → KeepersHold u)
 join_keepers w (Caller n) h = tt
-join_keepers w (Worker p i) h = if_cond (λ u. ReturnsHold u → KeepersHold u) (is_free ((w.stack (Worker p i)).top)) _ (λ f s. made_keepers w (Worker p i) (Fork (record { number = w.calls; pool = p; job = w.jobs + 1 }) w.jobs) (put w.call w.calls (new_call (Some w.jobs) (w.jobs + 1))) (put J1 (w.jobs + 1) (new_job (Worker p i) p (Stored w.calls (Worker p i)))) (w.calls + 1) (w.jobs + 2) same new h s)
-  where
-    J1 : ℕ → Job
-    J1 = put w.job w.jobs (new_job (Worker p i) p Direct)
+join_keepers w (Worker p i) h = if_cond (λ u. ReturnsHold u → KeepersHold u) (is_free ((w.stack (Worker p i)).top)) _ (λ f s. (let m = two_put w (Worker p i) p Direct (Stored w.calls (Worker p i)) h in made_keepers w (Worker p i) (Fork (record { number = w.calls; pool = p; job = w.jobs + 1 }) w.jobs) (put w.call w.calls (new_call (Some w.jobs) (w.jobs + 1))) (put (put w.job w.jobs (new_job (Worker p i) p Direct)) (w.jobs + 1) (new_job (Worker p i) p (Stored w.calls (Worker p i)))) (w.calls + 1) (w.jobs + 2) (m.0) (m.1) h s))
 
-    same : (t : ℕ) → t + 1 ≤ w.jobs → put J1 (w.jobs + 1) (new_job (Worker p i) p (Stored w.calls (Worker p i))) t ≡ w.job t
-    same t b = put_old J1 (w.jobs + 1) (new_job (Worker p i) p (Stored w.calls (Worker p i))) t (below_new t (w.jobs + 1) (omega (arith, b))) ∙ (put_made w (Worker p i) p Direct h).0 t b
-
-    new : (t : ℕ) → w.jobs ≤ t → (put J1 (w.jobs + 1) (new_job (Worker p i) p (Stored w.calls (Worker p i))) t).counted ≡ false
-    new t b = put_same (λ j. j.counted) J1 (w.jobs + 1) (new_job (Worker p i) p (Stored w.calls (Worker p i))) t (sym ((put_made w (Worker p i) p Direct h).1 (w.jobs + 1) (omega arith))) ∙ (put_made w (Worker p i) p Direct h).1 t b
+fifo_keepers : (w : World) (q : Party) (p : ℕ) → KeepersHold w → IfSome (after_fifo w q p (w.stack q)) (λ u. ReturnsHold u → KeepersHold u)
+fifo_keepers w q p h = fifo_cases (λ u. ReturnsHold u → KeepersHold u) w q p (spawn_keepers w q p h) (λ i free s. (let m = two_put w (Worker p i) p (Detached p) (TokenOf i) h in made_keepers w (Worker p i) (Feed (record { pool = p; job = w.jobs; token = w.jobs + 1 })) w.call (put (put w.job w.jobs (new_job (Worker p i) p (Detached p))) (w.jobs + 1) (new_job (Worker p i) p (TokenOf i))) w.calls (w.jobs + 2) (m.0) (m.1) h s))
 
 yield_keepers : (w : World) (q : Party) (x : Place) → ((t : ℕ) → share t x ≡ 0) → ((p : ℕ) → values p x ≡ 0) → KeepersHold w → IfSome (after_yield w q (w.stack q) x) (λ u. ReturnsHold u → KeepersHold u)
 yield_keepers w (Worker a b) x sx vx h = if_cond (λ u. ReturnsHold u → KeepersHold u) (is_free ((w.stack (Worker a b)).top)) _ (λ f s. keepers_by w (record w { stack = put_stack w.stack (Worker a b) (after_call (w.stack (Worker a b)) x) }) (Worker a b) (after_call (w.stack (Worker a b)) x) (λ i. refl)
@@ -332,6 +394,7 @@ each_keepers w (Refuse q) h = refuse_keepers w q ((w.stack q).top) ((w.stack q).
 each_keepers w (Miss q) h = miss_keepers w q ((w.stack q).top) ((w.stack q).below) refl h
 each_keepers w (End q d) h = end_keepers w q d ((w.stack q).top) ((w.stack q).below) refl h
 each_keepers w (Spawn q p) h = spawn_keepers w q p h
+each_keepers w (Fifo q p) h = fifo_keepers w q p h
 each_keepers w (Install q p) h = install_keepers w q p h
 each_keepers w (Join q) h = join_keepers w q h
 each_keepers w (Yield q) h = yield_keepers w q YieldPop (λ t. refl) (λ p. refl) h

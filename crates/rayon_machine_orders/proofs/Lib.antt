@@ -10,6 +10,7 @@ pub mod CallSteps
 pub mod CallStretch
 pub mod Calls
 pub mod CallTeeth
+pub mod FifoTeeth
 pub mod Walks
 pub mod Lone
 pub mod Dealt
@@ -20,3 +21,4 @@ pub mod Begun
 pub mod Walked
 pub mod Walking
 pub mod Ordered
+pub mod Queued

@@ -7,36 +7,39 @@ use Rattle.rayon_machine_places.specs.declared.place.Party.TheVariants.{Worker, 
 use Rattle.rayon_machine_places.specs.declared.place.Ending.{Ending}
 use Rattle.rayon_machine_places.specs.declared.place.Ending.TheVariants.{Fine, Fault}
 use Rattle.rayon_machine_places.specs.declared.place.JobKind.{JobKind}
-use Rattle.rayon_machine_places.specs.declared.place.JobKind.TheVariants.{Detached, Stored, Direct}
+use Rattle.rayon_machine_places.specs.declared.place.JobKind.TheVariants.{Detached, Stored, Direct, TokenOf}
 use Rattle.rayon_machine_places.specs.declared.place.Target.TheVariants.{Termination, Answer}
 use Rattle.rayon_machine_places.specs.declared.place.Latch.{Latch}
 use Rattle.rayon_machine_places.specs.declared.place.Latch.TheVariants.{Terminate, OfCall}
 use Rattle.rayon_machine_places.specs.declared.place.Then.{Then}
 use Rattle.rayon_machine_places.specs.declared.place.Then.TheVariants.{BeginFound, LeaveWait, Resume, Await, RunFirst, Answers, Missing, Ran, GiveBack}
 use Rattle.rayon_machine_places.specs.declared.place.Place.{Place}
-use Rattle.rayon_machine_places.specs.declared.place.Place.TheVariants.{ProbeWorking, TakeCastIdle, PickVictim, StealFrom, LeaveSearch, YieldPop, YieldTakeCast, YieldPick, YieldSteal, LocalPop, BeginTask, BeginHere, Run, GrowCall, PushJob, LockToWake, WakeWorker, UnlockWoken, LowerCount, SetLatch, LockToSettle, WakeSettled, UnlockSettled, FirstSide, Free, Stopped}
+use Rattle.rayon_machine_places.specs.declared.place.Place.TheVariants.{ProbeWorking, TakeCastIdle, PickVictim, StealFrom, LeaveSearch, YieldPop, YieldTakeCast, YieldPick, YieldSteal, LocalPop, BeginTask, BeginHere, Run, GrowCall, PushJob, LockToWake, WakeWorker, UnlockWoken, LowerCount, SetLatch, LockToSettle, WakeSettled, UnlockSettled, FirstSide, Free, Stopped, AddToFifo, PushToken, TakeFromFifo}
 use Rattle.rayon_machine_places.specs.declared.place.Move.{Move}
 use Rattle.rayon_machine_places.specs.declared.place.Move.TheVariants.{Stay}
 use Rattle.rayon_machine_places.specs.declared.act.Seen.{Seen}
-use Rattle.rayon_machine_places.specs.declared.act.Seen.TheVariants.{Yes}
+use Rattle.rayon_machine_places.specs.declared.act.Seen.TheVariants.{Yes, Begun, Done, Handed, Task}
 use Rattle.rayon_machine_places.specs.declared.event.Event.{Event}
-use Rattle.rayon_machine_places.specs.declared.event.Event.TheVariants.{Go, From, Refuse, Miss, End, Spawn, Install, Join, Yield, YieldLocal, EndPool}
+use Rattle.rayon_machine_places.specs.declared.event.Event.TheVariants.{Go, From, Refuse, Miss, End, Spawn, Fifo, Install, Join, Yield, YieldLocal, EndPool}
 use Rattle.rayon_machine_places.specs.declared.shape.PoolShape.{PoolShape}
 use Rattle.rayon_machine_places.specs.declared.place.Walk.{Walk}
 use Rattle.rayon_machine_places.specs.declared.place.Settling.{Settling}
-use Rattle.rayon_machine_places.specs.Places.{same_party, own_pool, is_member, finish, walk, settle, after_set, act_of, next_of, goes_on, is_free, fresh}
+use Rattle.rayon_machine_places.specs.Places.{same_party, own_pool, is_member, finish, walk, settle, after_set, act_of, next_of, goes_on, is_free, fresh, after_begin, taken_back, taken_number}
 use Rattle.rayon_machine_places.specs.World.{Shape, Stack, World, Counts, Part, target_pool, target_worker, target_call, effect}
-use Rattle.rayon_machine_places.specs.Steps.{put_stack, after_choice, after_refusal, can_miss, after_miss, after_close, after_end, is_pool, after_spawn, after_send, after_install, after_join, after_yield, after_end_pool, after_move, step}
+use Rattle.rayon_machine_places.specs.Steps.{put_stack, after_choice, after_refusal, can_miss, after_miss, after_close, after_end, is_pool, after_spawn, after_send, after_install, after_join, after_yield, after_end_pool, after_move, step, after_fifo}
 use Rattle.rayon_machine_places.specs.Runs.{IsRun, start}
 use Rattle.rayon_machine_laws.proofs.Attended.{aside_frames, step_shape}
 use Rattle.rayon_machine_laws.proofs.Asides.{steps_aside}
 use Rattle.rayon_machine_laws.proofs.Calm.{part_at, counts_seen, next_at, top_then}
 use Rattle.rayon_machine_laws.proofs.Events.{run_keeps}
-use Rattle.rayon_machine_laws.proofs.Frame.{and_parts, if_some_all, if_some_and, if_some_each, if_some_map, if_cond, same_party_true, acted_keeps}
+use Rattle.rayon_machine_laws.proofs.Frame.{and_parts, if_some_all, if_some_and, if_some_each, if_some_map, if_cond, same_party_true, acted_keeps, fifo_cases}
 use Rattle.rayon_machine_laws.proofs.Holding.{go_frames}
 use Rattle.rayon_machine_laws.proofs.Seats.{is_frame}
 use Rattle.rayon_machine_laws.proofs.Ties.{AllFrames, job_at, shape_at, outcome, result}
 use Rattle.rayon_machine_laws.proofs.Tops.{Tops, FramesOk}
+use Rattle.rayon_machine_places.specs.declared.place.Feeding.{Feeding}
+use Rattle.rayon_machine_places.specs.declared.place.Taken.TheVariants.{Plain, Token}
+use Rattle.rayon_machine_places.specs.declared.place.Taken.{Taken}
 
 -- the places at which a worker chooses a victim or steals
 abbrev pub is_thief : Place → Bool
@@ -48,12 +51,17 @@ is_thief _ = false
 
 -- the task that a wake was made with in hand
 abbrev pub taken_then : Then → Option ℕ
-taken_then (BeginFound g t) = Some t
+taken_then (BeginFound g x) = Some (taken_number x)
 taken_then _ = None
 
--- the job that a party is about to begin by an act of its own
+-- the number of what a search has found
+abbrev pub number_found : Option Taken → Option ℕ
+number_found None = None
+number_found (Some x) = Some (taken_number x)
+
+-- the job that a party is about to begin, or the token that it is about to redeem, by an act of its own
 abbrev pub taken : Place → Option ℕ
-taken (LeaveSearch w) = w.found
+taken (LeaveSearch w) = number_found w.found
 taken (LockToWake k) = taken_then k.then
 taken (WakeWorker k) = taken_then k.then
 taken (UnlockWoken k) = taken_then k.then
@@ -62,7 +70,7 @@ taken (SetLatch s) = taken_then s.then
 taken (LockToSettle s) = taken_then s.then
 taken (WakeSettled s) = taken_then s.then
 taken (UnlockSettled s) = taken_then s.then
-taken (BeginTask t) = Some t
+taken (BeginTask x) = Some (taken_number x)
 taken (BeginHere t) = Some t
 taken _ = None
 
@@ -109,6 +117,20 @@ set_honest : (h : PoolShape) (q : Party) (s : Settling) (e : Seen) → NoThief (
 set_honest h q s Yes = refl
 set_honest h q s _ = settled_honest h q s
 
+begin_honest : (x : Taken) (e : Seen) → NoThief (after_begin x e)
+begin_honest (Plain t) (Begun d) = refl
+begin_honest (Plain t) _ = refl
+begin_honest (Token k i) (Handed t d) = refl
+begin_honest (Token k i) _ = tt
+
+add_honest : (g : PoolShape) (q : Party) (f : Feeding) (e : Seen) → NoThief (next_of g q (AddToFifo f) e)
+add_honest g q f Done = refl
+add_honest g q f _ = refl
+
+back_honest : (f : Feeding) (e : Seen) → NoThief (taken_back f e)
+back_honest f (Task x) = refl
+back_honest f _ = tt
+
 -- the places from which a worker of a larger pool goes on to steal
 abbrev pub turns_thief : Place → Bool
 turns_thief (TakeCastIdle k) = true
@@ -126,6 +148,9 @@ stays_honest h g (Worker a b) c m (TakeCastIdle k) z f = let one : g.workers ≡
 stays_honest h g (Worker a b) c m YieldTakeCast z f = let one : g.workers ≡ 1 = f refl in let b : (g.workers == 1) ≡ true = eq-eqb g.workers 1 one in search (rules, arith)
 stays_honest h g q c m (SetLatch s) z f = if_some_all {A = Seen × Part} (λ r. NoThief (next_of g q (SetLatch s) (r.0))) (λ r. set_honest g q s (r.0)) (effect (act_of q (SetLatch s)) h q c m)
 stays_honest h g q c m (UnlockSettled s) z f = if_some_all {A = Seen × Part} (λ r. NoThief (next_of g q (UnlockSettled s) (r.0))) (λ r. settled_honest g q s) (effect (act_of q (UnlockSettled s)) h q c m)
+stays_honest h g q c m (BeginTask x) z f = if_some_all {A = Seen × Part} (λ r. NoThief (after_begin x (r.0))) (λ r. begin_honest x (r.0)) (effect (act_of q (BeginTask x)) h q c m)
+stays_honest h g q c m (AddToFifo d) z f = if_some_all {A = Seen × Part} (λ r. NoThief (next_of g q (AddToFifo d) (r.0))) (λ r. add_honest g q d (r.0)) (effect (act_of q (AddToFifo d)) h q c m)
+stays_honest h g q c m (TakeFromFifo d) z f = if_some_all {A = Seen × Part} (λ r. NoThief (taken_back d (r.0))) (λ r. back_honest d (r.0)) (effect (act_of q (TakeFromFifo d)) h q c m)
 stays_honest h g (Worker a b) c m _ z f = search (rules, arith)
 stays_honest h g (Caller n) c m _ z f = search (rules, arith)
 
@@ -172,6 +197,8 @@ miss_turn w (Caller n) _ fs e = tt
 refuse_turn : (w : World) (q : Party) (x : Place) (fs : List Place) → w.stack q ≡ record { top = x; below = fs } → IfSome (after_refusal w q (record { top = x; below = fs })) (Turns w)
 refuse_turn w q (GrowCall n) fs e = record { party = q; to = _; stack = λ r. refl; seat = λ p i. refl; empty = at_place w q (GrowCall n) fs (λ y. taken y ≡ None) e refl; honest = λ h. (refl, refl) }
 refuse_turn w q (PushJob n v) fs e = record { party = q; to = _; stack = λ r. refl; seat = λ p i. refl; empty = at_place w q (PushJob n v) fs (λ y. taken y ≡ None) e refl; honest = λ h. (refl, refl) }
+refuse_turn w q (AddToFifo f) fs e = record { party = q; to = _; stack = λ r. refl; seat = λ p i. refl; empty = at_place w q (AddToFifo f) fs (λ y. taken y ≡ None) e refl; honest = λ h. (refl, refl) }
+refuse_turn w q (PushToken f v) fs e = record { party = q; to = _; stack = λ r. refl; seat = λ p i. refl; empty = at_place w q (PushToken f v) fs (λ y. taken y ≡ None) e refl; honest = λ h. (refl, refl) }
 refuse_turn w q _ fs e = tt
 
 goes_honest : (f : Place) (e : Ending) → is_frame f ≡ true → (is_thief (goes_on f e) ≡ false) × (taken (goes_on f e) ≡ None)
@@ -184,7 +211,9 @@ close_honest : (t : ℕ) (k : JobKind) (d : Ending) (fs : List Place) → AllFra
 close_honest t (Detached p) d fs a = (refl, refl)
 close_honest t (Stored c o) d fs a = (refl, refl)
 close_honest t Direct d [] a = (refl, refl)
+close_honest t (TokenOf i) d [] a = (refl, refl)
 close_honest t Direct d (f ∷ fs) a = goes_honest f d (a.0)
+close_honest t (TokenOf i) d (f ∷ fs) a = goes_honest f d (a.0)
 
 end_turn : (w : World) (q : Party) (d : Ending) (x : Place) (fs : List Place) → w.stack q ≡ record { top = x; below = fs } → AllFrames fs → IfSome (after_end w q d (record { top = x; below = fs }) x) (Turns w)
 end_turn w q d (Run t k) fs e a = record { party = q; to = after_close t k d fs; stack = λ r. refl; seat = λ p i. refl; empty = at_place w q (Run t k) fs (λ y. taken y ≡ None) e refl; honest = λ h. close_honest t k d fs a }
@@ -192,6 +221,9 @@ end_turn w q d _ fs e a = tt
 
 spawn_turn : (w : World) (q : Party) (p : ℕ) → IfSome (after_spawn w q p (w.stack q)) (Turns w)
 spawn_turn w q p = if_cond (Turns w) (is_free ((w.stack q).top) && is_pool w.shape p) _ (λ b. record { party = q; to = _; stack = λ r. refl; seat = λ p i. refl; empty = free_empty (w.stack q).top ((and_parts (is_free ((w.stack q).top)) (is_pool w.shape p) b).0); honest = λ h. (refl, refl) })
+
+fifo_turn : (w : World) (q : Party) (p : ℕ) → IfSome (after_fifo w q p (w.stack q)) (Turns w)
+fifo_turn w q p = fifo_cases (Turns w) w q p (spawn_turn w q p) (λ i f. record { party = Worker p i; to = _; stack = λ r. refl; seat = λ p i. refl; empty = free_empty (w.stack (Worker p i)).top f; honest = λ h. (refl, refl) })
 
 sent_turn : (w : World) (q : Party) (p : ℕ) (b : Bool) → is_free ((w.stack q).top) ≡ true → Turns w (after_send w q p (w.stack q) b)
 sent_turn w q p true e = record { party = q; to = _; stack = λ r. refl; seat = λ p i. refl; empty = free_empty (w.stack q).top e; honest = λ h. (refl, refl) }
@@ -218,6 +250,7 @@ turns w fr (Refuse q) z = refuse_turn w q ((w.stack q).top) ((w.stack q).below) 
 turns w fr (Miss q) z = miss_turn w q ((w.stack q).top) ((w.stack q).below) refl
 turns w fr (End q d) z = end_turn w q d ((w.stack q).top) ((w.stack q).below) refl (fr q)
 turns w fr (Spawn q p) z = spawn_turn w q p
+turns w fr (Fifo q p) z = fifo_turn w q p
 turns w fr (Install q p) z = install_turn w q p
 turns w fr (Join q) z = join_turn w q
 turns w fr (Yield q) z = yield_turn w q YieldPop (refl, refl)

@@ -6,13 +6,13 @@ use Rattle.rayon_machine_places.specs.declared.place.Party.{Party}
 use Rattle.rayon_machine_places.specs.declared.place.Party.TheVariants.{Worker, Caller}
 use Rattle.rayon_machine_places.specs.declared.place.Ending.{Ending}
 use Rattle.rayon_machine_places.specs.declared.place.JobKind.{JobKind}
-use Rattle.rayon_machine_places.specs.declared.place.JobKind.TheVariants.{Detached, Stored, Direct}
+use Rattle.rayon_machine_places.specs.declared.place.JobKind.TheVariants.{Detached, Stored, Direct, TokenOf}
 use Rattle.rayon_machine_places.specs.declared.place.Target.{Target}
 use Rattle.rayon_machine_places.specs.declared.place.Target.TheVariants.{Termination, Answer}
 use Rattle.rayon_machine_places.specs.declared.place.Rounds.{Rounds}
 use Rattle.rayon_machine_places.specs.declared.place.Rounds.TheVariants.{Failed, Announced}
 use Rattle.rayon_machine_places.specs.declared.place.Plan.{Plan}
-use Rattle.rayon_machine_places.specs.declared.place.Plan.TheVariants.{Detach, Here, Send, Fork}
+use Rattle.rayon_machine_places.specs.declared.place.Plan.TheVariants.{Detach, Here, Send, Fork, Feed}
 use Rattle.rayon_machine_places.specs.declared.place.Then.{Then}
 use Rattle.rayon_machine_places.specs.declared.place.Then.TheVariants.{BeginFound, LeaveWait, Resume, GiveBack}
 use Rattle.rayon_machine_places.specs.declared.place.Place.{Place}
@@ -30,6 +30,8 @@ use Rattle.rayon_machine_orders.specs.Order.{caller_of}
 use Rattle.rayon_machine_orders.proofs.Dealt.{is_start, elsewhere}
 use Rattle.rayon_machine_laws.proofs.Kept.{is_emptied}
 use Rattle.rayon_machine_orders.proofs.Lone.{settle_move, settled_move, turns_thief, walk_move}
+use Rattle.rayon_machine_places.specs.declared.place.Taken.TheVariants.{Plain}
+use Rattle.rayon_machine_places.specs.declared.place.Taken.{Taken}
 
 -- frames of the wait for the end of the pool
 abbrev pub IsBase : Place → Type 0
@@ -146,7 +148,7 @@ settles_on r g q p i t fs a = settle_move (Leads r fs) g q p i t (λ k e. subst 
 settled_on : (r : Option ℕ) (g : PoolShape) (q : Party) (s : Settling) (fs : List Place) → EndsAbove r s.then fs → Leads r fs (after_set g q s s.latch)
 settled_on r g q s fs a = settled_move (Leads r fs) g q s s.latch (λ k e. subst (λ z. EndsAbove r z fs) (sym e) a) (finish_end r q s.then fs a)
 
-found_above : (r : Option ℕ) (g : Target) (o : Option ℕ) (fs : List Place) → (g ≡ Termination) × AllBase fs → WakesAbove r (after_found g o) fs
+found_above : (r : Option ℕ) (g : Target) (o : Option Taken) (fs : List Place) → (g ≡ Termination) × AllBase fs → WakesAbove r (after_found g o) fs
 found_above r g None fs a = a
 found_above r g (Some t) fs a = a
 
@@ -154,6 +156,7 @@ news_above : (r : Option ℕ) (n : Plan) (fs : List Place) → IsDetach n × Abo
 news_above r (Detach p t) fs a = a.1
 news_above r (Here p t) fs a = absurd (a.0)
 news_above r (Send o) fs a = absurd (a.0)
+news_above r (Feed f) fs a = absurd (a.0)
 news_above r (Fork o b) fs a = absurd (a.0)
 
 -- from each such place an act leads to such a place
@@ -215,6 +218,7 @@ stands_next g q (RaiseCount n) Done r fs s z f = raised n s
     raised (Detach p t) a = a
     raised (Here p t) a = absurd (a.0)
     raised (Send o) a = absurd (a.0)
+    raised (Feed f) a = absurd (a.0)
     raised (Fork o b) a = absurd (a.0)
 stands_next g q (RaiseCount n) _ r fs s z f = back_above r fs (s.1)
 stands_next g q (LookQueue n) Yes r fs s z f = s
@@ -241,7 +245,7 @@ stands_next g q Stopped _ r fs s z f = s
 stands_next g q _ e r fs s z f = absurd s
 
 -- a task begins
-pub stands_begun : (g : PoolShape) (q : Party) (t : ℕ) (k : JobKind) (r : Option ℕ) (fs : List Place) → Stands r (BeginTask t) fs → Leads (Some t) fs (next_of g q (BeginTask t) (Begun k))
+pub stands_begun : (g : PoolShape) (q : Party) (t : ℕ) (k : JobKind) (r : Option ℕ) (fs : List Place) → Stands r (BeginTask (Plain t)) fs → Leads (Some t) fs (next_of g q (BeginTask (Plain t)) (Begun k))
 stands_begun g q t k r fs s = (refl, s)
 
 -- a run ends
@@ -249,8 +253,11 @@ pub stands_closed : (r : Option ℕ) (t : ℕ) (k : JobKind) (e : Ending) (fs : 
 stands_closed r t (Detached p) e fs a = a
 stands_closed r t (Stored c o) e fs a = a
 stands_closed r t Direct e [] a = tt
+stands_closed r t (TokenOf i) e [] a = tt
 stands_closed r t Direct e (ProbeWorking k ∷ fs) a = a
+stands_closed r t (TokenOf i) e (ProbeWorking k ∷ fs) a = a
 stands_closed r t Direct e (_ ∷ fs) a = absurd (a.0)
+stands_closed r t (TokenOf i) e (_ ∷ fs) a = absurd (a.0)
 
 -- what such a worker comes by elsewhere it finds where its deque is known to be empty
 pub stands_emptied : (r : Option ℕ) (x : Place) (fs : List Place) → Stands r x fs → elsewhere x ≡ true → is_emptied x ≡ true
@@ -260,6 +267,7 @@ stands_emptied r (PopInjected k) fs s e = refl
 stands_emptied r (RaiseCount (Detach p t)) fs s e = cc
 stands_emptied r (RaiseCount (Here p t)) fs s e = absurd (s.0)
 stands_emptied r (RaiseCount (Send o)) fs s e = absurd (s.0)
+stands_emptied r (RaiseCount (Feed f)) fs s e = absurd (s.0)
 stands_emptied r (RaiseCount (Fork o a)) fs s e = absurd (s.0)
 stands_emptied r _ fs s e = first_of (cc, search (rules, arith))
 

@@ -1,4 +1,5 @@
--- what a place has seen of its call's latch, whose latch it is about to set, and what it answers, over each act and move
+-- what a place has seen of its call's latch, whose latch it is about to set, and what it answers, over each act and
+-- move
 use Rattle.std.proofs.Common.{rules, arith, refl, sym, ◌∙◌, inl, inr}
 use Rattle.std.specs.Prelude.{ℕ, Bool, true, false, ◌&&◌, ◌+◌, nat_lt, if◌then◌else◌, Option, Some, None, ◌≡◌, ◌⊎◌, IfSome}
 use Rattle.rayon_machine_places.specs.declared.place.Party.{Party}
@@ -11,7 +12,7 @@ use Rattle.rayon_machine_places.specs.declared.place.Latch.TheVariants.{Terminat
 use Rattle.rayon_machine_places.specs.declared.place.Rounds.{Rounds}
 use Rattle.rayon_machine_places.specs.declared.place.Rounds.TheVariants.{Failed, Announced}
 use Rattle.rayon_machine_places.specs.declared.place.Plan.{Plan}
-use Rattle.rayon_machine_places.specs.declared.place.Plan.TheVariants.{Detach, Here, Send, Fork}
+use Rattle.rayon_machine_places.specs.declared.place.Plan.TheVariants.{Detach, Here, Send, Fork, Feed}
 use Rattle.rayon_machine_places.specs.declared.place.Share.{Share}
 use Rattle.rayon_machine_places.specs.declared.place.Then.{Then}
 use Rattle.rayon_machine_places.specs.declared.place.Then.TheVariants.{BeginFound, LeaveWait, Resume, Await, RunFirst, Answers, Missing as NoResult, Ran, GiveBack}
@@ -36,9 +37,10 @@ use Rattle.rayon_machine_laws.proofs.Latches.{SameLatches, latches_same}
 use Rattle.rayon_machine_laws.proofs.Owners.{target_number}
 use Rattle.rayon_machine_laws.proofs.Seats.{is_frame}
 use Rattle.rayon_machine_laws.proofs.Tops.{Tops}
+use Rattle.rayon_machine_places.specs.declared.place.Taken.{Taken}
 
 -- the call whose latch a place has seen set, and not yet taken from
-abbrev pub set_found : Target → Option ℕ → Option ℕ
+abbrev pub set_found : Target → Option Taken → Option ℕ
 set_found g None = target_number g
 set_found g (Some t) = None
 
@@ -87,6 +89,7 @@ is_waiting_plan (Detach p t) = false
 is_waiting_plan (Here p t) = false
 is_waiting_plan (Send o) = true
 is_waiting_plan (Fork o a) = true
+is_waiting_plan (Feed f) = false
 
 abbrev pub is_grown_well : Place → Bool
 is_grown_well (GrowCall n) = is_waiting_plan n
@@ -169,7 +172,7 @@ set_on h q s _ = settled_on None h q s s.latch
 leave_on : (h : PoolShape) (q : Party) (k : Wait) (e : Seen) → Tops (Follows (LeaveSearch k) e) (next_of h q (LeaveSearch k) e)
 leave_on h q k (Wakes n) = by k.found
   where
-    by : (o : Option ℕ) → Tops (Onward (set_found k.target o) None false) (walk h q (own_pool q) n 0 (after_found k.target o))
+    by : (o : Option Taken) → Tops (Onward (set_found k.target o) None false) (walk h q (own_pool q) n 0 (after_found k.target o))
     by None = walk_on None h q (own_pool q) n 0 (LeaveWait k.target)
     by (Some t) = walk_on None h q (own_pool q) n 0 (BeginFound k.target t)
 leave_on h q k _ = (λ c e. e, λ c e. absurd (cc), refl, λ e. absurd (cc))
@@ -179,6 +182,7 @@ tell_on h q (Detach p t) v (Wakes m) = walk_on None h q p m 0 Resume
 tell_on h q (Here p t) v (Wakes m) = walk_on None h q p m 0 Resume
 tell_on h q (Send o) v (Wakes m) = walk_on None h q o.pool m 0 (Await o)
 tell_on h q (Fork o a) v (Wakes m) = walk_on None h q o.pool m 0 (RunFirst o a)
+tell_on h q (Feed f) v (Wakes m) = walk_on None h q f.pool m 0 (GiveBack (Detach f.pool f.token))
 tell_on h q n v _ = (λ c e. absurd (cc), λ c e. absurd (cc), refl, λ e. absurd (cc))
 
 raise_on : (h : PoolShape) (q : Party) (n : Plan) (e : Seen) → Tops (Follows (RaiseCount n) e) (next_of h q (RaiseCount n) e)
@@ -186,6 +190,7 @@ raise_on h q (Detach p t) Done = (λ c e. absurd (cc), λ c e. absurd (cc), refl
 raise_on h q (Here p t) Done = (λ c e. absurd (cc), λ c e. absurd (cc), refl, λ e. absurd (cc))
 raise_on h q (Send o) Done = (λ c e. absurd (cc), λ c e. absurd (cc), refl, λ e. absurd (cc))
 raise_on h q (Fork o a) Done = (λ c e. absurd (cc), λ c e. absurd (cc), refl, λ e. absurd (cc))
+raise_on h q (Feed f) Done = (λ c e. absurd (cc), λ c e. absurd (cc), refl, λ e. absurd (cc))
 raise_on h q n _ = tt
 
 store_on : (h : PoolShape) (q : Party) (c : ℕ) (o : Party) (d : Ending) (e : Seen) → Tops (Follows (StoreResult c o d) e) (next_of h q (StoreResult c o d) e)

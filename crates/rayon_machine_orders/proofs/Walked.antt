@@ -1,24 +1,24 @@
 -- what happens at a worker that makes no call but spawns, and where each step leads it
 use Rattle.std.proofs.Common.{arith, refl, sym, ◌∙◌, ap, subst, inl, inr}
 use Rattle.std.specs.Prelude.{ℕ, Bool, true, false, ◌&&◌, ◌==◌, ◌≤◌, nat_lt, if◌then◌else◌, Option, Some, None, List, ◌∷◌, ◌≡◌, IfSome}
-use Rattle.std.proofs.lemmas.Bool.{eq-eqb}
+use Rattle.std.proofs.lemmas.Bool.{eqb-true, eq-eqb}
 use Rattle.rayon_machine_places.specs.declared.place.Party.{Party}
 use Rattle.rayon_machine_places.specs.declared.place.Party.TheVariants.{Worker, Caller}
 use Rattle.rayon_machine_places.specs.declared.place.Ending.{Ending}
 use Rattle.rayon_machine_places.specs.declared.place.Plan.{Plan}
-use Rattle.rayon_machine_places.specs.declared.place.Plan.TheVariants.{Detach, Here, Send, Fork}
+use Rattle.rayon_machine_places.specs.declared.place.Plan.TheVariants.{Detach, Here, Send, Fork, Feed}
 use Rattle.rayon_machine_places.specs.declared.place.Place.{Place}
-use Rattle.rayon_machine_places.specs.declared.place.Place.TheVariants.{PickVictim, StealFrom, YieldPick, YieldSteal, BeginTask, BeginHere, Run, GrowCall, PushJob, Free}
+use Rattle.rayon_machine_places.specs.declared.place.Place.TheVariants.{PickVictim, StealFrom, YieldPick, YieldSteal, BeginTask, BeginHere, Run, GrowCall, PushJob, Free, AddToFifo, PushToken}
 use Rattle.rayon_machine_places.specs.declared.act.Act.TheVariants.{PushOwn, PushInj}
 use Rattle.rayon_machine_places.specs.declared.act.Seen.{Seen}
 use Rattle.rayon_machine_places.specs.declared.act.Seen.TheVariants.{Refused}
 use Rattle.rayon_machine_places.specs.declared.event.Event.{Event}
-use Rattle.rayon_machine_places.specs.declared.event.Event.TheVariants.{Go, From, Refuse, Miss, End, Spawn, Install, Join, Yield, YieldLocal, EndPool}
+use Rattle.rayon_machine_places.specs.declared.event.Event.TheVariants.{Go, From, Refuse, Miss, End, Spawn, Fifo, Install, Join, Yield, YieldLocal, EndPool}
 use Rattle.rayon_machine_places.specs.Places.{same_party, own_pool, is_member, plan_pool, plan_job, act_of, is_free, is_refusable}
 use Rattle.rayon_machine_places.specs.World.{Stack, World, Part, target_pool, target_worker, target_call}
-use Rattle.rayon_machine_places.specs.Steps.{put_stack, after_move, after_choice, after_refusal, after_miss, after_end, after_send, is_pool, can_miss, step}
+use Rattle.rayon_machine_places.specs.Steps.{put_stack, after_move, after_choice, after_refusal, after_miss, after_end, after_send, is_pool, can_miss, step, after_feed, after_spawn}
 use Rattle.rayon_machine_laws.specs.Once.{one}
-use Rattle.rayon_machine_orders.specs.Order.{Happening, Adds, Begins, caller_of, act_happens, happening, is_other_call}
+use Rattle.rayon_machine_orders.specs.Order.{Happening, Adds, Begins, caller_of, act_happens, happening, is_other, is_redeem}
 use Rattle.rayon_machine_laws.proofs.Calm.{next_at}
 use Rattle.rayon_machine_orders.proofs.Dealt.{is_push, is_start, silent}
 use Rattle.rayon_machine_laws.proofs.Frame.{either, if_some_all, if_cond, same_party_true, acted_keeps}
@@ -26,6 +26,7 @@ use Rattle.rayon_machine_laws.proofs.Hands.{hand, hand_plan}
 use Rattle.rayon_machine_orders.proofs.Lone.{turn_target, turns_thief}
 use Rattle.rayon_machine_orders.proofs.Standing.{Above, Stands, StandsAt, stands_next, stands_begun, stands_closed, stands_caller}
 use Rattle.rayon_machine_laws.proofs.Ties.{job_at, shape_at, outcome}
+use Rattle.rayon_machine_places.specs.declared.place.Taken.TheVariants.{Plain, Token}
 
 -- the run that began last, after what happens
 abbrev pub next_run : Option ℕ → Option Happening → Option ℕ
@@ -36,13 +37,16 @@ next_run r _ = r
 plan_hand : (n : Plan) → 1 ≤ hand_plan (plan_job n) n
 plan_hand (Detach p t) = let e : one (t == t) ≡ 1 = ap one (eq-eqb t t refl) in omega (arith, e)
 plan_hand (Here p t) = let e : one (t == t) ≡ 1 = ap one (eq-eqb t t refl) in omega (arith, e)
+plan_hand (Feed f) = let e : one (f.job == f.job) ≡ 1 = ap one (eq-eqb f.job f.job refl) in omega (arith, e)
 plan_hand (Send o) = let e : one (o.job == o.job) ≡ 1 = ap one (eq-eqb o.job o.job refl) in omega (arith, e)
 plan_hand (Fork o a) = let e : one (o.job == o.job) ≡ 1 = ap one (eq-eqb o.job o.job refl) in omega (arith, e)
 
 start_adds : (q : Party) (x : Place) (fs : List Place) (by : Option ℕ) (s : ℕ) → is_start x ≡ true → act_happens (act_of q x) fs ≡ Some (Adds by s) → ⊥
-start_adds (Worker a b) (BeginTask t) fs by s z e = cc
+start_adds (Worker a b) (BeginTask (Plain t)) fs by s z e = cc
+start_adds (Worker a b) (BeginTask (Token k i)) fs by s z e = cc
 start_adds (Worker a b) (BeginHere t) fs by s z e = cc
-start_adds (Caller a) (BeginTask t) fs by s z e = cc
+start_adds (Caller a) (BeginTask (Plain t)) fs by s z e = cc
+start_adds (Caller a) (BeginTask (Token k i)) fs by s z e = cc
 start_adds (Caller a) (BeginHere t) fs by s z e = cc
 start_adds q _ fs by s z e = cc
 
@@ -69,6 +73,11 @@ adds_hand q x fs by s e = at x e (adds_push q x fs by s e)
   where
     at : (x : Place) → act_happens (act_of q x) fs ≡ Some (Adds by s) → is_push x ≡ true → 1 ≤ hand s x
     at (PushJob n v) d z = subst (λ t. 1 ≤ hand_plan t n) (sym ((push_adds q n v fs by s d).1)) (plan_hand n)
+    at (PushToken f v) d z = token q d
+      where
+        token : (q : Party) → act_happens (act_of q (PushToken f v)) fs ≡ Some (Adds by s) → 1 ≤ one (s == f.token)
+        token (Worker a b) d = let i : f.token ≡ s = cc in let e : one (s == f.token) ≡ 1 = ap one (eq-eqb s f.token (sym i)) in omega (arith, e)
+        token (Caller c) d = absurd (cc)
     at _ d z = absurd (cc)
 
 pub adds_caller : (q : Party) (x : Place) (fs : List Place) (r by : Option ℕ) (s : ℕ) → Stands r x fs → act_happens (act_of q x) fs ≡ Some (Adds by s) → by ≡ r
@@ -76,6 +85,7 @@ adds_caller q x fs r by s st e = at x e st (adds_push q x fs by s e)
   where
     at : (x : Place) → act_happens (act_of q x) fs ≡ Some (Adds by s) → Stands r x fs → is_push x ≡ true → by ≡ r
     at (PushJob n v) d a z = (push_adds q n v fs by s d).0 ∙ stands_caller r n v fs a
+    at (PushToken f v) d a z = absurd a
     at _ d a z = absurd (cc)
 
 -- what an event of the worker adds
@@ -112,6 +122,8 @@ miss_stands w p r (Caller n) _ fs s f = tt
 refusable_calm : (x : Place) → is_refusable x ≡ true → (is_start x ≡ false) × (turns_thief x ≡ false)
 refusable_calm (GrowCall n) e = (refl, refl)
 refusable_calm (PushJob n v) e = (refl, refl)
+refusable_calm (AddToFifo f) e = (refl, refl)
+refusable_calm (PushToken f v) e = (refl, refl)
 refusable_calm _ e = absurd (cc)
 
 refuse_stands : (w : World) (p : ℕ) (r : Option ℕ) (q : Party) → StandsAt r (w.stack (Worker p 0)) → (same_party (Worker p 0) q ≡ true → StandsAt r (w.stack q)) → IfSome (after_refusal w q (w.stack q)) (Stood w p r)
@@ -146,6 +158,14 @@ join_stands : (w : World) (p : ℕ) (r : Option ℕ) (q : Party) → StandsAt r 
 join_stands w p r (Worker a b) s c = if_cond (Stood w p r) (is_free (w.stack (Worker a b)).top) _ (λ y. turned w p r (Worker a b) _ s (λ z. absurd (never (same_party (Worker p 0) (Worker a b)) c z)))
 join_stands w p r (Caller n) s c = tt
 
+fifo_stands : (w : World) (p : ℕ) (r : Option ℕ) (q : Party) (n : ℕ) → StandsAt r (w.stack (Worker p 0)) → same_party (Worker p 0) q ≡ false → IfSome (step w (Fifo q n)) (Stood w p r)
+fifo_stands w p r (Caller c) n s d = spawn_stands w p r (Caller c) n s (λ z. absurd (never (same_party (Worker p 0) (Caller c)) d z))
+fifo_stands w p r (Worker m i) n s d = by (m == n) refl
+  where
+    by : (z : Bool) → (m == n) ≡ z → IfSome (if z then (if is_free ((w.stack (Worker m i)).top) && is_pool w.shape n then Some (after_feed w n i (w.stack (Worker m i))) else None) else after_spawn w (Worker m i) n (w.stack (Worker m i))) (Stood w p r)
+    by true e = if_cond (Stood w p r) (is_free ((w.stack (Worker m i)).top) && is_pool w.shape n) _ (λ b. turned w p r (Worker n i) _ s (λ z. absurd (never (same_party (Worker p 0) (Worker m i)) d (ap (λ v. same_party (Worker p 0) (Worker v i)) (eqb-true m n e) ∙ z))))
+    by false e = spawn_stands w p r (Worker m i) n s (λ z. absurd (never (same_party (Worker p 0) (Worker m i)) d z))
+
 yield_stands : (w : World) (p : ℕ) (r : Option ℕ) (q : Party) → StandsAt r (w.stack (Worker p 0)) → same_party (Worker p 0) q ≡ false → IfSome (step w (Yield q)) (Stood w p r) × IfSome (step w (YieldLocal q)) (Stood w p r)
 yield_stands w p r (Worker a b) s c = (if_cond (Stood w p r) (is_free (w.stack (Worker a b)).top) _ (λ y. turned w p r (Worker a b) _ s (λ z. absurd (never (same_party (Worker p 0) (Worker a b)) c z))), if_cond (Stood w p r) (is_free (w.stack (Worker a b)).top) _ (λ y. turned w p r (Worker a b) _ s (λ z. absurd (never (same_party (Worker p 0) (Worker a b)) c z))))
 yield_stands w p r (Caller n) s c = (tt, tt)
@@ -166,34 +186,41 @@ run_same q x fs r z = elim (either (is_push x)) [
         mine : (q : Party) → next_run r (act_happens (act_of q (PushJob n v)) fs) ≡ r
         mine (Worker a b) = by_act a n (a == plan_pool n)
         mine (Caller c) = refl
+    at (PushToken f v) y = mine q
+      where
+        mine : (q : Party) → next_run r (act_happens (act_of q (PushToken f v)) fs) ≡ r
+        mine (Worker a b) = refl
+        mine (Caller c) = refl
     at _ y = absurd (cc)
 
-own_stands : (w : World) (p : ℕ) (x : Place) (fs : List Place) (r : Option ℕ) → (w.shape.pool p).workers ≡ 1 → Stands r x fs → IfSome (outcome w (Worker p 0) (record { top = x; below = fs })) (λ d. StandsAt (next_run r (act_happens (act_of (Worker p 0) x) fs)) (after_move (next_at w (Worker p 0) (record { top = x; below = fs }) (d.0)) fs))
-own_stands w p x fs r one s = elim (either (is_start x)) [
-  | inl z ↦ begins x z s
+own_stands : (w : World) (p : ℕ) (x : Place) (fs : List Place) (r : Option ℕ) → (w.shape.pool p).workers ≡ 1 → is_redeem (act_of (Worker p 0) x) ≡ false → Stands r x fs → IfSome (outcome w (Worker p 0) (record { top = x; below = fs })) (λ d. StandsAt (next_run r (act_happens (act_of (Worker p 0) x) fs)) (after_move (next_at w (Worker p 0) (record { top = x; below = fs }) (d.0)) fs))
+own_stands w p x fs r one calm s = elim (either (is_start x)) [
+  | inl z ↦ begins x z calm s
   | inr z ↦ if_some_all {A = Seen × Part} (λ d. StandsAt (next_run r (act_happens (act_of (Worker p 0) x) fs)) (after_move (next_at w (Worker p 0) (record { top = x; below = fs }) (d.0)) fs)) (λ d. subst (λ n. StandsAt n (after_move (next_at w (Worker p 0) (record { top = x; below = fs }) (d.0)) fs)) (sym (run_same (Worker p 0) x fs r z)) (stands_next (shape_at w (Worker p 0) (record { top = x; below = fs })) (Worker p 0) x (d.0) r fs s z (λ y. ap (λ n. (w.shape.pool n).workers) (turn_target p 0 x y) ∙ one))) (outcome w (Worker p 0) (record { top = x; below = fs }))
 ]
   where
-    begins : (x : Place) → is_start x ≡ true → Stands r x fs → IfSome (outcome w (Worker p 0) (record { top = x; below = fs })) (λ d. StandsAt (next_run r (act_happens (act_of (Worker p 0) x) fs)) (after_move (next_at w (Worker p 0) (record { top = x; below = fs }) (d.0)) fs))
-    begins (BeginTask t) z a = stands_begun (w.shape.pool p) (Worker p 0) t (w.job t).kind r fs a
-    begins (BeginHere t) z a = absurd a
-    begins _ z a = absurd (cc)
+    begins : (x : Place) → is_start x ≡ true → is_redeem (act_of (Worker p 0) x) ≡ false → Stands r x fs → IfSome (outcome w (Worker p 0) (record { top = x; below = fs })) (λ d. StandsAt (next_run r (act_happens (act_of (Worker p 0) x) fs)) (after_move (next_at w (Worker p 0) (record { top = x; below = fs }) (d.0)) fs))
+    begins (BeginTask (Token k i)) z c a = absurd (let b : true ≡ false = c in cc)
+    begins (BeginTask (Plain t)) z c a = stands_begun (w.shape.pool p) (Worker p 0) t (w.job t).kind r fs a
+    begins (BeginHere t) z c a = absurd a
+    begins _ z c a = absurd (cc)
 
-go_stands : (w : World) (q : Party) (p : ℕ) (r : Option ℕ) (b : Bool) → same_party (Worker p 0) q ≡ b → (w.shape.pool p).workers ≡ 1 → StandsAt r (w.stack (Worker p 0)) → IfSome (outcome w q (w.stack q)) (λ d. StandsAt (next_run r (if b then act_happens (act_of q (w.stack q).top) (w.stack q).below else None)) (if b then after_move (next_at w q (w.stack q) (d.0)) (w.stack q).below else w.stack (Worker p 0)))
-go_stands w q p r true eb one s =
+go_stands : (w : World) (q : Party) (p : ℕ) (r : Option ℕ) (b : Bool) → same_party (Worker p 0) q ≡ b → (b && is_redeem (act_of q (w.stack q).top)) ≡ false → (w.shape.pool p).workers ≡ 1 → StandsAt r (w.stack (Worker p 0)) → IfSome (outcome w q (w.stack q)) (λ d. StandsAt (next_run r (if b then act_happens (act_of q (w.stack q).top) (w.stack q).below else None)) (if b then after_move (next_at w q (w.stack q) (d.0)) (w.stack q).below else w.stack (Worker p 0)))
+go_stands w q p r true eb calm one s =
     let me : Party = Worker p 0 in
     let F : Party → Type 0 = λ z. IfSome (outcome w z (w.stack z)) (λ d. StandsAt (next_run r (act_happens (act_of z (w.stack z).top) (w.stack z).below)) (after_move (next_at w z (w.stack z) (d.0)) (w.stack z).below)) in
-    let base : F me = own_stands w p (w.stack me).top (w.stack me).below r one s in
+    let base : F me = own_stands w p (w.stack me).top (w.stack me).below r one (ap (λ z. is_redeem (act_of z (w.stack z).top)) (same_party_true me q eb) ∙ calm) s in
     subst F (same_party_true me q eb) base
-go_stands w q p r false eb one s = if_some_all {A = Seen × Part} (λ d. StandsAt r (w.stack (Worker p 0))) (λ d. s) (outcome w q (w.stack q))
+go_stands w q p r false eb calm one s = if_some_all {A = Seen × Part} (λ d. StandsAt r (w.stack (Worker p 0))) (λ d. s) (outcome w q (w.stack q))
 
-pub step_stands : (w : World) (e : Event) (p : ℕ) (r : Option ℕ) → (w.shape.pool p).workers ≡ 1 → is_other_call p w e ≡ false → StandsAt r (w.stack (Worker p 0)) → IfSome (step w e) (Stood w p (next_run r (happening p w e)))
-step_stands w (Go q) p r one calm s = acted_keeps w q (w.stack q) (target_pool q (act_of q (w.stack q).top)) (target_worker q (act_of q (w.stack q).top)) (target_call (act_of q (w.stack q).top)) (job_at w q (act_of q (w.stack q).top)) (outcome w q (w.stack q)) (Stood w p (next_run r (happening p w (Go q)))) (go_stands w q p r (same_party (Worker p 0) q) refl one s)
+pub step_stands : (w : World) (e : Event) (p : ℕ) (r : Option ℕ) → (w.shape.pool p).workers ≡ 1 → is_other p w e ≡ false → StandsAt r (w.stack (Worker p 0)) → IfSome (step w e) (Stood w p (next_run r (happening p w e)))
+step_stands w (Go q) p r one calm s = acted_keeps w q (w.stack q) (target_pool q (act_of q (w.stack q).top)) (target_worker q (act_of q (w.stack q).top)) (target_call (act_of q (w.stack q).top)) (job_at w q (act_of q (w.stack q).top)) (outcome w q (w.stack q)) (Stood w p (next_run r (happening p w (Go q)))) (go_stands w q p r (same_party (Worker p 0) q) refl calm one s)
 step_stands w (From q v) p r one calm s = from_stands w p r q (w.stack q).top (w.stack q).below v s (λ z. subst (λ y. StandsAt r (w.stack y)) (same_party_true (Worker p 0) q z) s)
 step_stands w (Refuse q) p r one calm s = refuse_stands w p r q s (λ z. subst (λ y. StandsAt r (w.stack y)) (same_party_true (Worker p 0) q z) s)
 step_stands w (Miss q) p r one calm s = miss_stands w p r q (w.stack q).top (w.stack q).below s (λ z. subst (λ y. StandsAt r (w.stack y)) (same_party_true (Worker p 0) q z) s)
 step_stands w (End q d) p r one calm s = end_stands w p r q d (w.stack q).top (w.stack q).below s (λ z. subst (λ y. StandsAt r (w.stack y)) (same_party_true (Worker p 0) q z) s)
 step_stands w (Spawn q n) p r one calm s = spawn_stands w p r q n s (λ z. subst (λ y. StandsAt r (w.stack y)) (same_party_true (Worker p 0) q z) s)
+step_stands w (Fifo q n) p r one calm s = fifo_stands w p r q n s calm
 step_stands w (Install q n) p r one calm s = if_cond (Stood w p r) (is_free ((w.stack q).top) && is_pool w.shape n) _ (λ b. sent_stands w p r q n (is_member q n) s calm)
 step_stands w (Join q) p r one calm s = join_stands w p r q s calm
 step_stands w (Yield q) p r one calm s = (yield_stands w p r q s calm).0

@@ -13,7 +13,7 @@ use Rattle.rayon_machine_places.specs.declared.place.Then.TheVariants.{Missing}
 use Rattle.rayon_machine_places.specs.declared.place.Place.{Place}
 use Rattle.rayon_machine_places.specs.declared.place.Place.TheVariants.{LoadCounters, AddSleeping, LookAtCast, LookAtInjector, BlockSelf, WakeUp, GrowCall, PushJob, LockToWake, UnlockWoken, SetLatch, UnlockSettled, SetLockLatch}
 use Rattle.rayon_machine_places.specs.declared.place.Move.{Move}
-use Rattle.rayon_machine_places.specs.declared.place.Move.TheVariants.{Stay, Back, HandBack}
+use Rattle.rayon_machine_places.specs.declared.place.Move.TheVariants.{Stay, Back, HandBack, Discard}
 use Rattle.rayon_machine_places.specs.declared.act.Act.{Act}
 use Rattle.rayon_machine_places.specs.declared.act.Act.TheVariants.{PopOwn, Announce, Lock, SubInactive, PushInj, News, Set, LockWait, Lower}
 use Rattle.rayon_machine_places.specs.declared.act.Seen.{Seen}
@@ -310,6 +310,7 @@ push_drops_its_job = record { says = refl; stands = refl }
 -- a refused call makes its last step, and hands no job back
 abbrev gives_none : Move → Move
 gives_none (HandBack n) = Back
+gives_none (Discard n) = Back
 gives_none g = g
 
 abbrev loses_jobs : PoolShape → Party → Place → Seen → Move
@@ -335,7 +336,7 @@ happenings_by m (Some w) [] = []
 happenings_by m (Some w) (e ∷ es) = and_next (happening 0 w e) (happenings_by m (step_by m w e) es)
 
 -- one worker, whose job spawns two; once it has ended, the worker begins one of them
-abbrev lone : Option World
+abbrev pub lone : Option World
 lone = Some (start (record { pool = λ p. record { workers = 1; limit = 0; order = NewestFirst; callers_own = false }; callers = 16; jec_bits = 32 }))
 
 abbrev two_spawns : List Event

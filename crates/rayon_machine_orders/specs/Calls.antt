@@ -1,5 +1,5 @@
 -- calls, each from the event that begins it to the world in which its party's stack is again what it was
-use Rattle.std.specs.Prelude.{ℕ, Bool, true, false, ◌&&◌, ◌||◌, ◌+◌, ◌-◌, ◌==◌, ◌≤◌, ◌<◌, Option, Some, None, List, [], ◌∷◌, ◌++◌, ◌≡◌, ◌⊎◌, length}
+use Rattle.std.specs.Prelude.{ℕ, Bool, true, false, ◌&&◌, ◌||◌, ◌+◌, ◌-◌, ◌==◌, ◌≤◌, ◌<◌, if◌then◌else◌, Option, Some, None, List, [], ◌∷◌, ◌++◌, ◌≡◌, ◌⊎◌, length}
 use Rattle.rayon_machine_places.specs.declared.place.Party.{Party}
 use Rattle.rayon_machine_places.specs.declared.place.Ending.{Ending}
 use Rattle.rayon_machine_places.specs.declared.place.Ending.TheVariants.{Fine, Fault}
@@ -10,10 +10,10 @@ use Rattle.rayon_machine_places.specs.declared.place.Place.{Place}
 use Rattle.rayon_machine_places.specs.declared.act.Act.{Act}
 use Rattle.rayon_machine_places.specs.declared.act.Act.TheVariants.{Raise, Take, Lower}
 use Rattle.rayon_machine_places.specs.declared.event.Event.{Event}
-use Rattle.rayon_machine_places.specs.declared.event.Event.TheVariants.{Go, Refuse, Spawn, Install, Join}
-use Rattle.rayon_machine_places.specs.declared.state.Whereabouts.TheVariants.{HandedBack}
-use Rattle.rayon_machine_places.specs.Places.{same_party, act_of}
-use Rattle.rayon_machine_places.specs.World.{Shape, Stack, World}
+use Rattle.rayon_machine_places.specs.declared.event.Event.TheVariants.{Go, Refuse, Spawn, Fifo, Install, Join}
+use Rattle.rayon_machine_places.specs.declared.state.Whereabouts.TheVariants.{HandedBack, Spent}
+use Rattle.rayon_machine_places.specs.Places.{same_party, is_member, act_of}
+use Rattle.rayon_machine_places.specs.World.{Shape, Stack, World, is_token}
 use Rattle.rayon_machine_places.specs.Steps.{step}
 use Rattle.rayon_machine_places.specs.Runs.{IsRun, start}
 use Rattle.rayon_machine_places.specs.Readers.{is_queued, is_running, is_done}
@@ -22,13 +22,16 @@ use Rattle.rayon_machine_laws.specs.End.{HasEnded, Verdict, AllFine, FirstFault,
 -- the party that begins a call by this event
 abbrev pub caller_of : Event → Option Party
 caller_of (Spawn q p) = Some q
+caller_of (Fifo q p) = Some q
 caller_of (Install q p) = Some q
 caller_of (Join q) = Some q
 caller_of _ = None
 
--- how many jobs a call makes: a join has two sides
+-- how many numbers a call gives out: a join has two sides, and a worker of the pool that spawns in order makes a token
+-- beside its job
 abbrev pub jobs_of : Event → ℕ
 jobs_of (Join q) = 2
+jobs_of (Fifo q p) = if is_member q p then 2 else 1
 jobs_of _ = 1
 
 -- a call with two sides
@@ -39,6 +42,7 @@ is_join _ = false
 -- a call that its party waits for: an install or a join
 abbrev pub is_awaited : Event → Bool
 is_awaited (Spawn q p) = false
+is_awaited (Fifo q p) = false
 is_awaited _ = true
 
 -- a party begins a call (from w to v), in some world of a run from a start
@@ -83,10 +87,16 @@ pub record HasRun (w : World) (t : ℕ) : Type 0 where
 abbrev pub IsHandedOn : World → ℕ → Type 0
 IsHandedOn w t = (is_queued (w.job t).at || (is_running (w.job t).at || is_done (w.job t).at)) ≡ true
 
+-- a token was given for a job
+pub record IsSpent (w : World) (t : ℕ) : Type 0 where
+  pub token : is_token (w.job t).kind ≡ true
+  pub at : (w.job t).at ≡ Spent
+
 -- what a call that nothing refused leaves of a job that it made: a spawn has handed it on, an install and a join have
--- seen it run
+-- seen it run. A token is handed on as a job is, and is spent in the end
 abbrev pub LeavesJob : Event → World → ℕ → Type 0
 LeavesJob (Spawn q p) w t = IsHandedOn w t
+LeavesJob (Fifo q p) w t = IsHandedOn w t ⊎ IsSpent w t
 LeavesJob _ w t = HasRun w t
 
 -- a job is handed back, stands in no list, has never run, and has no share of the terminate count

@@ -1,5 +1,6 @@
 pub mod Calls
 pub mod Order
+pub mod Queue
 pub use Rattle.rayon_machine_places.specs.Places
 pub use Rattle.rayon_machine_places.specs.World
 pub use Rattle.rayon_machine_places.specs.Steps

@@ -1,5 +1,5 @@
 -- the order in which a pool's one worker begins the jobs of its own deque
-use Rattle.std.specs.Prelude.{ℕ, Bool, true, false, ◌==◌, if◌then◌else◌, Option, Some, None, List, [], ◌∷◌, ◌++◌, ◌≡◌, ◌⊎◌, ⊤}
+use Rattle.std.specs.Prelude.{ℕ, Bool, true, false, ◌&&◌, ◌==◌, if◌then◌else◌, Option, Some, None, List, [], ◌∷◌, ◌++◌, ◌≡◌, ◌⊎◌, ⊤}
 use Rattle.rayon_machine_places.specs.declared.shape.Order.{Order}
 use Rattle.rayon_machine_places.specs.declared.shape.Order.TheVariants.{NewestFirst, OldestFirst}
 use Rattle.rayon_machine_places.specs.declared.place.Party.TheVariants.{Worker}
@@ -7,9 +7,9 @@ use Rattle.rayon_machine_places.specs.declared.place.Place.{Place}
 use Rattle.rayon_machine_places.specs.declared.place.Place.TheVariants.{ProbeWorking, Run}
 use Rattle.rayon_machine_places.specs.declared.place.Target.TheVariants.{Termination}
 use Rattle.rayon_machine_places.specs.declared.act.Act.{Act}
-use Rattle.rayon_machine_places.specs.declared.act.Act.TheVariants.{Begin, PushOwn}
+use Rattle.rayon_machine_places.specs.declared.act.Act.TheVariants.{Begin, PushOwn, FifoOut}
 use Rattle.rayon_machine_places.specs.declared.event.Event.{Event}
-use Rattle.rayon_machine_places.specs.declared.event.Event.TheVariants.{Go, Install, Join, Yield, YieldLocal, EndPool}
+use Rattle.rayon_machine_places.specs.declared.event.Event.TheVariants.{Go, Fifo, Install, Join, Yield, YieldLocal, EndPool}
 use Rattle.rayon_machine_places.specs.Places.{act_of, fresh, same_party}
 use Rattle.rayon_machine_places.specs.World.{Shape, World}
 use Rattle.rayon_machine_places.specs.Steps.{step}
@@ -17,10 +17,12 @@ use Rattle.rayon_machine_places.specs.Runs.{IsRun, start}
 use Rattle.rayon_machine_laws.specs.Once.{times}
 use Rattle.rayon_machine_laws.specs.Turn.{IsRunWithout}
 
--- what bears on the order: the run of a job, or no run, adds a job to the worker's own deque; the worker begins a job
+-- what bears on the order: the run of a job, or no run, adds a job or a token to the worker's own deque; the worker
+-- begins a job, or redeems a token
 pub data Happening : Type 0 where
   Adds : (by : Option ℕ) → (job : ℕ) → Happening
   Begins : (job : ℕ) → Happening
+  Redeems : (token : ℕ) → Happening
 
 -- the job whose run makes the call that stands above these frames, if a run does
 abbrev pub caller_of : List Place → Option ℕ
@@ -31,6 +33,7 @@ caller_of _ = None
 abbrev pub act_happens : Act → List Place → Option Happening
 act_happens (PushOwn t) fs = Some (Adds (caller_of fs) t)
 act_happens (Begin t) fs = Some (Begins t)
+act_happens (FifoOut k i) fs = Some (Redeems k)
 act_happens _ fs = None
 
 -- what an event is: an act of worker 0 of that pool
@@ -55,11 +58,12 @@ abbrev pub Hands : Order → List ℕ → ℕ → List ℕ → Type 0
 Hands NewestFirst l t rest = l ≡ rest ++ t ∷ []
 Hands OldestFirst l t rest = l ≡ t ∷ rest
 
--- the token list: what is added stands last; a job that begins is the next that the list hands out, or it is none of
--- the list's; at the end this is left
+-- the token list: what is added stands last; a job that begins, or a token that is redeemed, is the next that the list
+-- hands out, or it is none of the list's; at the end this is left
 abbrev pub TokenList : Order → List ℕ → List Happening → List ℕ → Type 0
 TokenList o l [] left = left ≡ l
 TokenList o l (Adds by t ∷ hs) left = TokenList o (l ++ t ∷ []) hs left
+TokenList o l (Redeems t ∷ hs) left = ((rest : List ℕ) × Hands o l t rest × TokenList o rest hs left) ⊎ ((times t l ≡ 0) × TokenList o l hs left)
 TokenList o l (Begins t ∷ hs) left = ((rest : List ℕ) × Hands o l t rest × TokenList o rest hs left) ⊎ ((times t l ≡ 0) × TokenList o l hs left)
 
 -- the list is what stands in the worker's own deque, or that with one job that the worker has taken from it and not
@@ -67,8 +71,8 @@ TokenList o l (Begins t ∷ hs) left = ((rest : List ℕ) × Hands o l t rest ×
 abbrev pub IsLeft : World → ℕ → List ℕ → Type 0
 IsLeft u p l = (l ≡ (u.seat p 0).own) ⊎ ((t : ℕ) × Hands (u.shape.pool p).order l t (u.seat p 0).own × ((u.job t).runs ≡ 0))
 
--- in every stretch of every run, the worker of a pool of one begins the jobs of its own deque as the token list hands
--- them out, from what stood in the deque
+-- in every stretch of every run, the worker of a pool of one begins the jobs of its own deque, and redeems the tokens,
+-- as the token list hands them out, from what stood in the deque
 abbrev pub TokenLaw : Type 0
 TokenLaw = (shape : Shape) (before : List Event) (p : ℕ) (w u : World) (stretch : List Event) → (shape.pool p).workers ≡ 1 →
     IsRun (start shape) before w → IsRun w stretch u →
@@ -128,12 +132,14 @@ abbrev pub added_by : Option ℕ → List Happening → List ℕ
 added_by r [] = []
 added_by r (Adds s t ∷ hs) = if same_run r s then t ∷ added_by r hs else added_by r hs
 added_by r (Begins t ∷ hs) = added_by r hs
+added_by r (Redeems t ∷ hs) = added_by r hs
 
 -- the jobs that have begun, in their order
 abbrev pub begun_in : List Happening → List ℕ
 begun_in [] = []
 begun_in (Adds s t ∷ hs) = begun_in hs
 begun_in (Begins t ∷ hs) = t ∷ begun_in hs
+begun_in (Redeems t ∷ hs) = begun_in hs
 
 -- trees of what happened: below each job stand those that its run has added
 abbrev pub AreSpawned : List Happening → Trees → Type 0
@@ -163,18 +169,25 @@ pub record IsWalk (o : Order) (stood : List ℕ) (hs : List Happening) (left : L
 abbrev pub IsBetweenRuns : World → ℕ → Type 0
 IsBetweenRuns w p = w.stack (Worker p 0) ≡ record { top = ProbeWorking (fresh Termination); below = [] }
 
--- the event begins a call of worker 0 of that pool that is no spawn
-abbrev pub is_other_call : ℕ → World → Event → Bool
-is_other_call p w (Install q r) = same_party (Worker p 0) q
-is_other_call p w (Join q) = same_party (Worker p 0) q
-is_other_call p w (Yield q) = same_party (Worker p 0) q
-is_other_call p w (YieldLocal q) = same_party (Worker p 0) q
-is_other_call p w (EndPool q r) = same_party (Worker p 0) q
-is_other_call p w _ = false
+-- the act redeems a token
+abbrev pub is_redeem : Act → Bool
+is_redeem (FifoOut k i) = true
+is_redeem _ = false
+
+-- by the event worker 0 of that pool begins a call that is no spawn, or redeems a token
+abbrev pub is_other : ℕ → World → Event → Bool
+is_other p w (Go q) = same_party (Worker p 0) q && is_redeem (act_of q (w.stack q).top)
+is_other p w (Fifo q r) = same_party (Worker p 0) q
+is_other p w (Install q r) = same_party (Worker p 0) q
+is_other p w (Join q) = same_party (Worker p 0) q
+is_other p w (Yield q) = same_party (Worker p 0) q
+is_other p w (YieldLocal q) = same_party (Worker p 0) q
+is_other p w (EndPool q r) = same_party (Worker p 0) q
+is_other p w _ = false
 
 -- in every stretch that begins where the worker of a pool of one is between runs, and in which it makes no call but
--- spawns, it begins jobs in the order of the walk of the trees of spawns
+-- spawns and redeems no token, it begins jobs in the order of the walk of the trees of spawns
 abbrev pub TreeLaw : Type 0
 TreeLaw = (shape : Shape) (before : List Event) (p : ℕ) (w u : World) (stretch : List Event) → (shape.pool p).workers ≡ 1 →
-    IsRun (start shape) before w → IsBetweenRuns w p → IsRunWithout (is_other_call p) w stretch u →
+    IsRun (start shape) before w → IsBetweenRuns w p → IsRunWithout (is_other p) w stretch u →
     (left : List ℕ) × IsWalk (shape.pool p).order (w.seat p 0).own (happenings p (Some w) stretch) left × IsLeft u p left

@@ -10,8 +10,9 @@ ghost use Rattle.rayon_machine_orders.specs.Calls.{CallLaw};
 /// until its Lower, and one for each job at the pool that has a share. Each of them is kept exactly once, and no other
 /// is kept. The value's share is kept by the held value, or by the one Lower that gives it back. A job's share is kept
 /// by the one call that waits for it, from its Raise to its Lower; where no call waits for the job, by its call before
-/// it is queued, then by the job itself while it is queued, in a hand or running, and last by the Lower that follows
-/// its run. So no share is lost, and none stays in the count that nobody keeps.
+/// it is queued or stands in a FIFO list, and again once the call has taken it back from there; then by the job itself
+/// while it is queued, in a FIFO list, in a hand or running, and last by the Lower that follows its run. A token has no
+/// share. So no share is lost, and none stays in the count that nobody keeps.
 /// It does not say that a share is ever given back.
 pub fn law_count()
     ensures { Always IsCounted }
@@ -24,14 +25,14 @@ pub fn law_count()
 /// after. The share of the terminate count that it took is given back: from the act after the one that does it, none of
 /// its jobs is in the count, and for ever after its last step. A pool's terminate latch is set only when the pool has
 /// ended: its value is given up, no call made at it keeps a share of its terminate count, and no detached job of it is
-/// queued or running.
+/// queued, in a FIFO list or running.
 /// The same is said of calls, with places named by their acts alone (`calls`): from the event by which a party begins
-/// a spawn, an install or a join, to the first world in which the party's stack is again what it was, the stack stands
-/// on what it was. There each job that the event made has run once and is over, or, of a spawn, is queued, in a hand,
-/// running or over; but if a step of the call itself was refused, each is handed back and has never run. What the call
-/// takes from a cell is how the last of its jobs ended. An install or a join that nothing refused has its answer where
-/// it is to lower the terminate count, and the fault is the one that comes first. Once it is over, its share is given
-/// back.
+/// a spawn, a spawn in order, an install or a join, to the first world in which the party's stack is again what it was,
+/// the stack stands on what it was. There each job that the event made has run once and is over, or, of a spawn, is
+/// queued, in a FIFO list, in a hand, running or over, and of a spawn in order so is the token, or it is spent; but if
+/// a step of the call itself was refused, each is handed back and has never run. What the call takes from a cell is how
+/// the last of its jobs ended. An install or a join that nothing refused has its answer where it is to lower the
+/// terminate count, and the fault is the one that comes first. Once it is over, its share is given back.
 /// It does not say that a call ever comes to its last step, nor that a pool ever ends.
 pub fn law_end()
     ensures ends { Always IsEnd }

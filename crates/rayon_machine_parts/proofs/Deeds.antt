@@ -4,9 +4,11 @@ use Rattle.std.specs.Prelude.{Option, Some, None, if◌then◌else◌, ◌==◌}
 use Rattle.std.proofs.lemmas.Bool.{eqb-true}
 use Rattle.rayon_machine_places.specs.declared.place.Party.{Party}
 use Rattle.rayon_machine_places.specs.declared.act.Act.{Act}
-use Rattle.rayon_machine_places.specs.declared.act.Act.TheVariants.{PopOwn, TakeCast, Pick, Steal, PopInj, Load, TryAdd, LookCast, LookInj, LookOwn, SubInactive, Begin, PushInj, PushOwn, News, Lower, Raise, Idle}
+use Rattle.rayon_machine_places.specs.declared.act.Act.TheVariants.{PopOwn, TakeCast, Pick, Steal, PopInj, Load, TryAdd, LookCast, LookInj, LookOwn, SubInactive, Begin, PushInj, PushOwn, FifoUndo, News, Lower, Raise, Idle}
 use Rattle.rayon_machine_places.specs.declared.act.Seen.{Seen}
 use Rattle.rayon_machine_places.specs.declared.act.Seen.TheVariants.{Missing, Task}
+use Rattle.rayon_machine_places.specs.declared.place.Taken.TheVariants.{Plain}
+use Rattle.rayon_machine_places.specs.declared.state.Whereabouts.TheVariants.{Retaken}
 use Rattle.rayon_machine_places.specs.declared.shape.Order.{Order}
 use Rattle.rayon_machine_places.specs.declared.shape.Order.TheVariants.{NewestFirst, OldestFirst}
 use Rattle.rayon_machine_parts.specs.declared.numbers.Touched.{Touched}
@@ -14,8 +16,8 @@ use Rattle.rayon_machine_parts.specs.declared.parts.Parts.{Parts}
 use Rattle.rayon_machine_parts.specs.declared.spot.Spot.{Spot}
 use Rattle.rayon_machine_parts.specs.declared.deed.Deed.{Deed}
 use Rattle.rayon_machine_places.specs.Places.{own_pool, own_index}
-use Rattle.rayon_machine_places.specs.World.{Shape, Pool, Seat, Counts, Outcome, Part, but_first, effect, empty_seen, head_of, last_of, own_left, own_of, popped, take_cast, target_call, target_job, target_pool, target_worker, aimed_job}
-use Rattle.rayon_machine_parts.specs.State.{Acts, Can, Does, DoesNot, IsDeed, IsNoDeed, counts_in, full, part_at_spot, pool_at, seat_at, spot_of, touched_at, after_handle, is_census, is_queueing, is_sharing, look_sees, end_task, part_queued, after_take}
+use Rattle.rayon_machine_places.specs.World.{Shape, Pool, Seat, Counts, Outcome, Part, but_first, effect, empty_seen, head_of, last_of, own_left, own_of, at_job, is_open, popped, take_cast, taken_as, target_call, target_job, target_pool, target_worker, aimed_job}
+use Rattle.rayon_machine_parts.specs.State.{Acts, Can, Does, DoesNot, IsDeed, IsNoDeed, counts_in, full, part_at_spot, pool_at, seat_at, spot_of, touched_at, after_handle, is_census, is_queueing, is_sharing, look_sees, end_task, part_queued, after_take, with_job}
 
 last-there : (y : ℕ) (ys : List ℕ) → last_of (y ∷ ys) ≡ None → ⊥
 last-there y [] e = cc
@@ -27,13 +29,13 @@ left-none NewestFirst (x ∷ xs) e = absurd (last-there x xs e)
 left-none OldestFirst [] e = refl
 left-none OldestFirst (x ∷ xs) e = cc
 
-pop-own : (q : Party) (t : Touched) (o : Order) (own injector : List ℕ) (casts : ℕ → List ℕ) (r : Option ℕ) → own_of o own ≡ r → popped q (full t own injector casts) (own_left o own) r ≡ Some ((after_take q t r).0, part_queued o PopOwn q (full ((after_take q t r).1) own injector casts))
-pop-own q t o own injector casts None e = ap (λ l. Some (Missing, full t l injector casts)) (left-none o own e)
-pop-own q t o own injector casts (Some n) e = refl
+pop-own : (q : Party) (t : Touched) (o : Order) (own fifo injector : List ℕ) (casts : ℕ → List ℕ) (r : Option ℕ) → own_of o own ≡ r → popped q (full t own fifo injector casts) (own_left o own) r ≡ Some ((after_take q t r).0, part_queued o PopOwn q (full ((after_take q t r).1) own fifo injector casts))
+pop-own q t o own fifo injector casts None e = ap (λ l. Some (Missing, full t l fifo injector casts)) (left-none o own e)
+pop-own q t o own fifo injector casts (Some n) e = refl
 
-steal : (q : Party) (t : Touched) (o : Order) (p i : ℕ) (own injector : List ℕ) (casts : ℕ → List ℕ) → popped q (full t own injector casts) (but_first own) (head_of own) ≡ Some ((after_take q t (head_of own)).0, part_queued o (Steal p i) q (full ((after_take q t (head_of own)).1) own injector casts))
-steal q t o p i [] injector casts = refl
-steal q t o p i (x ∷ xs) injector casts = refl
+steal : (q : Party) (t : Touched) (o : Order) (p i : ℕ) (own fifo injector : List ℕ) (casts : ℕ → List ℕ) → popped q (full t own fifo injector casts) (but_first own) (head_of own) ≡ Some ((after_take q t (head_of own)).0, part_queued o (Steal p i) q (full ((after_take q t (head_of own)).1) own fifo injector casts))
+steal q t o p i [] fifo injector casts = refl
+steal q t o p i (x ∷ xs) fifo injector casts = refl
 
 look : (l : List ℕ) → empty_seen l ≡ look_sees (head_of l)
 look [] = refl
@@ -49,34 +51,41 @@ none-left casts k e i = at (i == k) refl
     at true same = ap casts (eqb-true i k same) ∙ e ∙ ap but_first (sym e)
     at false same = refl
 
-cast : (q : Party) (t : Touched) (o : Order) (own injector : List ℕ) (casts : ℕ → List ℕ) (l : List ℕ) → casts (own_index q) ≡ l → take_cast q (full t own injector casts) l ≡ Some ((after_take q t (head_of l)).0, part_queued o TakeCast q (full ((after_take q t (head_of l)).1) own injector casts))
-cast q t o own injector casts [] e = λ j. Some (Missing, full t own injector (λ i. none-left casts (own_index q) e i j))
-cast q t o own injector casts (n ∷ ns) e = λ j. Some (Task n, full ((after_take q t (Some n)).1) own injector (λ i. rest-of casts (own_index q) (n ∷ ns) e i j))
+cast : (q : Party) (t : Touched) (o : Order) (own fifo injector : List ℕ) (casts : ℕ → List ℕ) (l : List ℕ) → casts (own_index q) ≡ l → take_cast q (full t own fifo injector casts) l ≡ Some ((after_take q t (head_of l)).0, part_queued o TakeCast q (full ((after_take q t (head_of l)).1) own fifo injector casts))
+cast q t o own fifo injector casts [] e = λ j. Some (Missing, full t own fifo injector (λ i. none-left casts (own_index q) e i j))
+cast q t o own fifo injector casts (n ∷ ns) e = λ j. Some (Task (taken_as n t.job.kind), full ((after_take q t (Some n)).1) own fifo injector (λ i. rest-of casts (own_index q) (n ∷ ns) e i j))
 
-handles : (o : Order) (a : Act) (q : Party) (c : Counts) (t : Touched) (h : Shape) (own injector : List ℕ) (casts : ℕ → List ℕ) → is_queueing a ≡ true → (h.pool (own_pool q)).order ≡ o → effect a h q c (full t own injector casts) ≡ Some ((after_handle a q t (end_task o a q own injector casts)).0, part_queued o a q (full ((after_handle a q t (end_task o a q own injector casts)).1) own injector casts))
-handles o PopOwn q c t h own injector casts k e = rw e (pop-own q t o own injector casts (own_of o own) refl)
-handles o TakeCast q c t h own injector casts k e = cast q t o own injector casts (casts (own_index q)) refl
-handles o (Steal p i) q c t h own injector casts k e = steal q t o p i own injector casts
-handles o PopInj q c t h own [] casts k e = refl
-handles o PopInj q c t h own (x ∷ xs) casts k e = refl
-handles o LookCast q c t h own injector casts k e = ap (λ s. Some (s, full t own injector casts)) (look (casts (own_index q)))
-handles o (LookInj p) q c t h own injector casts k e = ap (λ s. Some (s, full t own injector casts)) (look injector)
-handles o LookOwn q c t h own injector casts k e = ap (λ s. Some (s, full t own injector casts)) (look own)
-handles o (PushInj p n) q c t h own injector casts k e = refl
-handles o (PushOwn n) q c t h own injector casts k e = refl
-handles o _ q c t h own injector casts k e = cc
+handles : (o : Order) (a : Act) (q : Party) (c : Counts) (t : Touched) (h : Shape) (own fifo injector : List ℕ) (casts : ℕ → List ℕ) → is_queueing a ≡ true → (h.pool (own_pool q)).order ≡ o → effect a h q c (full t own fifo injector casts) ≡ Some ((after_handle a q t (end_task o a q own fifo injector casts)).0, part_queued o a q (full ((after_handle a q t (end_task o a q own fifo injector casts)).1) own fifo injector casts))
+handles o PopOwn q c t h own fifo injector casts k e = rw e (pop-own q t o own fifo injector casts (own_of o own) refl)
+handles o TakeCast q c t h own fifo injector casts k e = cast q t o own fifo injector casts (casts (own_index q)) refl
+handles o (Steal p i) q c t h own fifo injector casts k e = steal q t o p i own fifo injector casts
+handles o PopInj q c t h own fifo [] casts k e = refl
+handles o PopInj q c t h own fifo (x ∷ xs) casts k e = refl
+handles o LookCast q c t h own fifo injector casts k e = ap (λ s. Some (s, full t own fifo injector casts)) (look (casts (own_index q)))
+handles o (LookInj p) q c t h own fifo injector casts k e = ap (λ s. Some (s, full t own fifo injector casts)) (look injector)
+handles o LookOwn q c t h own fifo injector casts k e = ap (λ s. Some (s, full t own fifo injector casts)) (look own)
+handles o (PushInj p n) q c t h own fifo injector casts k e = refl
+handles o (PushOwn n) q c t h own fifo injector casts k e = refl
+handles o _ q c t h own fifo injector casts k e = cc
 
 -- an act on a queue
 pub handled-acts : (o : Order) (a : Act) (q : Party) (c : Counts) (b : ℕ) (found : Option ℕ) (t : Touched) → is_queueing a ≡ true → Acts o a q c b found t ((after_handle a q t found).0) ((after_handle a q t found).1)
-handled-acts o a q c b found t k = λ h own injector casts eb eo ef. subst (λ (r : Option ℕ). effect a h q c (full t own injector casts) ≡ Some ((after_handle a q t r).0, part_queued o a q (full ((after_handle a q t r).1) own injector casts))) ef (handles o a q c t h own injector casts k eo)
+handled-acts o a q c b found t k = λ h own fifo injector casts eb eo ef. subst (λ (r : Option ℕ). effect a h q c (full t own fifo injector casts) ≡ Some ((after_handle a q t r).0, part_queued o a q (full ((after_handle a q t r).1) own fifo injector casts))) ef (handles o a q c t h own fifo injector casts k eo)
+
+-- the last job of a FIFO list, where there is none, and where there is one
+pub none-back : (o : Order) (q : Party) (c : Counts) (b : ℕ) (t : Touched) → is_open q t.worker.feeder ≡ true → Acts o FifoUndo q c b None t Missing t
+none-back o q c b t free = λ h own fifo injector casts eb eo ef. rw (free, ef) (ap (λ l. Some (Missing, full t own l injector casts)) (left-none NewestFirst fifo ef))
+
+pub some-back : (o : Order) (n : ℕ) (q : Party) (c : Counts) (b : ℕ) (t : Touched) → is_open q t.worker.feeder ≡ true → Acts o FifoUndo q c b (Some n) t (Task (Plain n)) (with_job (record t { worker = record (t.worker) { feeder = None } }) (at_job (t.job) (Retaken q)))
+some-back o n q c b t free = λ h own fifo injector casts eb eo ef. rw (free, ef) refl
 
 -- an act on no queue leaves the queues
 pub sharing-acts : (o : Order) (a : Act) (q : Party) (c : Counts) (b : ℕ) (found : Option ℕ) (t : Touched) (seen : Seen) (u : Touched) → is_sharing a ≡ true → Does a q c b t seen u → Acts o a q c b found t seen u
-sharing-acts o (Begin n) q c b found t seen u k d = λ h own injector casts eb eo ef. d h own injector casts eb
-sharing-acts o (Lower p n) q c b found t seen u k d = λ h own injector casts eb eo ef. d h own injector casts eb
-sharing-acts o (Raise p n) q c b found t seen u k d = λ h own injector casts eb eo ef. d h own injector casts eb
-sharing-acts o Pick q c b found t seen u k d = λ h own injector casts eb eo ef. d h own injector casts eb
-sharing-acts o Idle q c b found t seen u k d = λ h own injector casts eb eo ef. d h own injector casts eb
+sharing-acts o (Begin n) q c b found t seen u k d = λ h own fifo injector casts eb eo ef. d h own fifo injector casts eb
+sharing-acts o (Lower p n) q c b found t seen u k d = λ h own fifo injector casts eb eo ef. d h own fifo injector casts eb
+sharing-acts o (Raise p n) q c b found t seen u k d = λ h own fifo injector casts eb eo ef. d h own fifo injector casts eb
+sharing-acts o Pick q c b found t seen u k d = λ h own fifo injector casts eb eo ef. d h own fifo injector casts eb
+sharing-acts o Idle q c b found t seen u k d = λ h own fifo injector casts eb eo ef. d h own fifo injector casts eb
 sharing-acts o _ q c b found t seen u k d = cc
 
 -- an act that does not look at the counts does the same whatever they are
@@ -88,7 +97,7 @@ counts-free (News p w) h q c k m e = cc
 counts-free _ h q c k m e = refl
 
 -- the job that an act touches
-pub aimed : (h : Shape) (q : Party) (a : Act) (v : Pool) (s : Seat) → aimed_job a (end_task ((h.pool (own_pool q)).order) a q s.own v.injector v.casts) ≡ target_job h q a v s
+pub aimed : (h : Shape) (q : Party) (a : Act) (v : Pool) (s : Seat) → aimed_job a (end_task ((h.pool (own_pool q)).order) a q s.own s.fifo v.injector v.casts) ≡ target_job h q a v s
 aimed h q (Begin n) v s = refl
 aimed h q _ v s = refl
 
@@ -101,7 +110,7 @@ same-counts a h q c k m e = at (is_census a) refl
     at false f = counts-free a h q k c m f
 
 -- the deed that was told by the numbers at its spot is the act's
-pub is-deed : (h : Shape) (w : Parts) (q : Party) (a : Act) (found : Option ℕ) (c : Counts) (t : Touched) (d : Deed) → d.act ≡ a → d.spot ≡ spot_of h w q a → d.order ≡ (h.pool (own_pool q)).order → found ≡ end_task (d.order) a q (seat_at w.benches.items (target_pool q a) (target_worker q a)).own (pool_at w.pools.items (target_pool q a)).injector (pool_at w.pools.items (target_pool q a)).casts → t ≡ touched_at w (d.spot) → (is_census a ≡ true → c ≡ counts_in h w (target_pool q a)) → Acts (d.order) a q c (h.jec_bits) found t (d.seen) (d.after) → IsDeed h w q a d
+pub is-deed : (h : Shape) (w : Parts) (q : Party) (a : Act) (found : Option ℕ) (c : Counts) (t : Touched) (d : Deed) → d.act ≡ a → d.spot ≡ spot_of h w q a → d.order ≡ (h.pool (own_pool q)).order → found ≡ end_task (d.order) a q (seat_at w.benches.items (target_pool q a) (target_worker q a)).own (seat_at w.benches.items (target_pool q a) (target_worker q a)).fifo (pool_at w.pools.items (target_pool q a)).injector (pool_at w.pools.items (target_pool q a)).casts → t ≡ touched_at w (d.spot) → (is_census a ≡ true → c ≡ counts_in h w (target_pool q a)) → Acts (d.order) a q c (h.jec_bits) found t (d.seen) (d.after) → IsDeed h w q a d
 is-deed h w q a found c t d ea es eo ef et ec acts =
     let m = part_at_spot w (spot_of h w q a) in
     let numbers : touched_at w (spot_of h w q a) ≡ t = ap (touched_at w) (sym es) ∙ sym et in
@@ -109,19 +118,19 @@ is-deed h w q a found c t d ea es eo ef et ec acts =
       act = ea;
       spot = es;
       order = eo;
-      effect = same-counts a h q c (counts_in h w (target_pool q a)) m ec ∙ ap (λ n. effect a h q c (full n m.seat.own m.pool.injector m.pool.casts)) numbers ∙ acts h m.seat.own m.pool.injector m.pool.casts refl (sym eo) (sym ef);
+      effect = same-counts a h q c (counts_in h w (target_pool q a)) m ec ∙ ap (λ n. effect a h q c (full n m.seat.own m.seat.fifo m.pool.injector m.pool.casts)) numbers ∙ acts h m.seat.own m.seat.fifo m.pool.injector m.pool.casts refl (sym eo) (sym ef);
     }
 
 pub is-no-deed : (h : Shape) (w : Parts) (q : Party) (a : Act) (c : Counts) (t : Touched) → t ≡ touched_at w (spot_of h w q a) → (is_census a ≡ true → c ≡ counts_in h w (target_pool q a)) → DoesNot a q c t → IsNoDeed h w q a
 is-no-deed h w q a c t et ec none =
     let m = part_at_spot w (spot_of h w q a) in
-    same-counts a h q c (counts_in h w (target_pool q a)) m ec ∙ ap (λ n. effect a h q c (full n m.seat.own m.pool.injector m.pool.casts)) (sym et) ∙ none h m.seat.own m.pool.injector m.pool.casts
+    same-counts a h q c (counts_in h w (target_pool q a)) m ec ∙ ap (λ n. effect a h q c (full n m.seat.own m.seat.fifo m.pool.injector m.pool.casts)) (sym et) ∙ none h m.seat.own m.seat.fifo m.pool.injector m.pool.casts
 
 -- an act that the numbers at its spot let be done is enabled
 pub can-deed : (h : Shape) (w : Parts) (q : Party) (a : Act) (c : Counts) (t : Touched) → t ≡ touched_at w (spot_of h w q a) → (is_census a ≡ true → c ≡ counts_in h w (target_pool q a)) → Can a q c t → ¬ (IsNoDeed h w q a)
 can-deed h w q a c t et ec can none =
     let m = part_at_spot w (spot_of h w q a) in
-    can h m.seat.own m.pool.injector m.pool.casts (ap (λ n. effect a h q c (full n m.seat.own m.pool.injector m.pool.casts)) et ∙ sym (same-counts a h q c (counts_in h w (target_pool q a)) m ec) ∙ none)
+    can h m.seat.own m.seat.fifo m.pool.injector m.pool.casts (ap (λ n. effect a h q c (full n m.seat.own m.seat.fifo m.pool.injector m.pool.casts)) et ∙ sym (same-counts a h q c (counts_in h w (target_pool q a)) m ec) ∙ none)
 
 some-outcome : (o : Outcome) (r : Seen × Part) → o ≡ Some r → ¬ (o ≡ None)
 some-outcome None r e = λ _. cc
@@ -132,9 +141,9 @@ pub deed-enabled : (h : Shape) (w : Parts) (q : Party) (a : Act) (d : Deed) → 
 deed-enabled h w q a d is = some-outcome _ _ is.effect
 
 -- the spot of an act, part by part
-pub is-spot : (h : Shape) (w : Parts) (q : Party) (a : Act) (found : Option ℕ) (o : Order) (s : Spot) → s.pool ≡ target_pool q a → s.worker ≡ target_worker q a → s.call ≡ target_call a → s.job ≡ aimed_job a found → o ≡ (h.pool (own_pool q)).order → found ≡ end_task o a q (seat_at w.benches.items (target_pool q a) (target_worker q a)).own (pool_at w.pools.items (target_pool q a)).injector (pool_at w.pools.items (target_pool q a)).casts → s ≡ spot_of h w q a
+pub is-spot : (h : Shape) (w : Parts) (q : Party) (a : Act) (found : Option ℕ) (o : Order) (s : Spot) → s.pool ≡ target_pool q a → s.worker ≡ target_worker q a → s.call ≡ target_call a → s.job ≡ aimed_job a found → o ≡ (h.pool (own_pool q)).order → found ≡ end_task o a q (seat_at w.benches.items (target_pool q a) (target_worker q a)).own (seat_at w.benches.items (target_pool q a) (target_worker q a)).fifo (pool_at w.pools.items (target_pool q a)).injector (pool_at w.pools.items (target_pool q a)).casts → s ≡ spot_of h w q a
 is-spot h w q a found o s ep ei ec ej eo ef =
     let v = pool_at w.pools.items (target_pool q a) in
     let seat = seat_at w.benches.items (target_pool q a) (target_worker q a) in
-    let job : s.job ≡ target_job h q a v seat = ej ∙ ap (aimed_job a) (ef ∙ ap (λ n. end_task n a q seat.own v.injector v.casts) eo) ∙ aimed h q a v seat in
+    let job : s.job ≡ target_job h q a v seat = ej ∙ ap (aimed_job a) (ef ∙ ap (λ n. end_task n a q seat.own seat.fifo v.injector v.casts) eo) ∙ aimed h q a v seat in
     λ j. record { pool = ep j; worker = ei j; call = ec j; job = job j }

@@ -2,7 +2,7 @@
 use Rattle.std.specs.Prelude.{ℕ, Bool, true, false, ◌<◌, ◌==◌, if◌then◌else◌, Option, Some, None, List, [], ◌∷◌, ◌++◌, ◌≡◌, slice_get, reverse, IsSomeAnd, vec_len, vec_capacity}
 use Rattle.rayon_machine_places.specs.declared.place.Party.{Party}
 use Rattle.rayon_machine_places.specs.declared.act.Act.{Act}
-use Rattle.rayon_machine_places.specs.declared.act.Act.TheVariants.{Probe, PopOwn, TakeCast, AddInactive, Pick, Steal, PopInj, Announce, Sleepy, Lock, Asleep, Load, TryAdd, LookCast, LookInj, LookOwn, Block, SubSleeping, Wakeup, Unlock, SubInactive, Wake, Begin, PushInj, PushOwn, News, Set, LockSet, LockWait, Lower, Raise, Grow, Store, Take, Idle}
+use Rattle.rayon_machine_places.specs.declared.act.Act.TheVariants.{Probe, PopOwn, TakeCast, AddInactive, Pick, Steal, PopInj, Announce, Sleepy, Lock, Asleep, Load, TryAdd, LookCast, LookInj, LookOwn, Block, SubSleeping, Wakeup, Unlock, SubInactive, Wake, Begin, PushInj, PushOwn, FifoIn, FifoUndo, FifoOut, News, Set, LockSet, LockWait, Lower, Raise, Grow, Store, Take, Idle}
 use Rattle.rayon_machine_places.specs.declared.act.Seen.{Seen}
 use Rattle.rayon_machine_places.specs.declared.act.Seen.TheVariants.{Done, Yes, No, Task, Missing}
 use Rattle.rayon_machine_parts.specs.declared.numbers.Touched.{Touched}
@@ -12,12 +12,12 @@ use Rattle.rayon_machine_parts.specs.declared.numbers.WorkerFlags.{WorkerFlags}
 use Rattle.rayon_machine_parts.specs.declared.kind.Kind.{Kind}
 use Rattle.rayon_machine_parts.specs.declared.spot.Spot.{Spot}
 use Rattle.rayon_machine_parts.specs.declared.deed.Deed.{Deed}
-use Rattle.rayon_machine_parts.specs.declared.kind.Kind.TheVariants.{Queueing, Counting, Latching, Locking, Sharing}
+use Rattle.rayon_machine_parts.specs.declared.kind.Kind.TheVariants.{Queueing, Feeding, Counting, Latching, Locking, Sharing}
 use Rattle.rayon_machine_places.specs.declared.place.Party.TheVariants.{Worker, Caller}
 use Rattle.rayon_machine_places.specs.declared.place.Move.{Move}
 use Rattle.rayon_machine_places.specs.declared.place.Plan.{Plan}
-use Rattle.rayon_machine_places.specs.declared.place.Plan.TheVariants.{Detach, Here, Send, Fork}
-use Rattle.rayon_machine_places.specs.declared.place.Move.TheVariants.{StartRun, HandBack}
+use Rattle.rayon_machine_places.specs.declared.place.Plan.TheVariants.{Detach, Here, Send, Fork, Feed}
+use Rattle.rayon_machine_places.specs.declared.place.Move.TheVariants.{StartRun, HandBack, HandIn, Discard}
 use Rattle.rayon_machine_places.specs.declared.shape.Order.{Order}
 use Rattle.rayon_machine_places.specs.declared.shape.Order.TheVariants.{NewestFirst}
 use Rattle.rayon_machine_places.specs.declared.shape.PoolShape.{PoolShape}
@@ -38,32 +38,32 @@ use Rattle.rayon_machine_places.specs.Runs.{first_place}
 use Rattle.rayon_machine_places.specs.Steps.{blank_job, new_call}
 use Rattle.std.specs.Option.{option_map_or}
 use Rattle.std.specs.VecDeque.{deque_capacity, deque_len}
-use Rattle.rayon_machine_places.specs.World.{Shape, Seat, Pool, Stack, Counts, Part, at_job, head_of, own_of, own_left, but_first, count_below, target_pool, target_worker, target_call, target_job, effect}
+use Rattle.rayon_machine_places.specs.World.{Shape, Seat, Pool, Stack, Counts, Part, at_job, head_of, last_of, own_of, own_left, but_first, but_last, count_below, taken_as, left_by, target_pool, target_worker, target_call, target_job, effect}
 
 -- the numbers of a census
 abbrev pub census_counts : Census → Counts
 census_counts c = record { sleeping = c.sleeping; inactive = c.inactive }
 
 -- the part of a world with these numbers and these lists
-abbrev pub full : Touched → List ℕ → List ℕ → (ℕ → List ℕ) → Part
-full t own injector casts = record {
+abbrev pub full : Touched → List ℕ → List ℕ → List ℕ → (ℕ → List ℕ) → Part
+full t own fifo injector casts = record {
   pool = record { injector = injector; casts = casts; turn = t.pool.turn; count = t.pool.count; held = t.pool.held; counted = t.pool.counted };
-  seat = record { own = own; inactive = t.worker.inactive; asleep = t.worker.asleep; blocked = t.worker.blocked; latch = t.worker.latch; lock = t.worker.lock };
+  seat = record { own = own; fifo = fifo; feeder = t.worker.feeder; inactive = t.worker.inactive; asleep = t.worker.asleep; blocked = t.worker.blocked; latch = t.worker.latch; lock = t.worker.lock };
   call = t.call;
   job = t.job;
 }
 
 -- the act sees this and leaves these numbers, whatever the lists hold
 abbrev pub Does : Act → Party → Counts → ℕ → Touched → Seen → Touched → Type 0
-Does a q c jec_bits t seen u = (h : Shape) (own injector : List ℕ) (casts : ℕ → List ℕ) → h.jec_bits ≡ jec_bits → effect a h q c (full t own injector casts) ≡ Some (seen, full u own injector casts)
+Does a q c jec_bits t seen u = (h : Shape) (own fifo injector : List ℕ) (casts : ℕ → List ℕ) → h.jec_bits ≡ jec_bits → effect a h q c (full t own fifo injector casts) ≡ Some (seen, full u own fifo injector casts)
 
 -- the act is not enabled, whatever the lists hold
 abbrev pub DoesNot : Act → Party → Counts → Touched → Type 0
-DoesNot a q c t = (h : Shape) (own injector : List ℕ) (casts : ℕ → List ℕ) → effect a h q c (full t own injector casts) ≡ None
+DoesNot a q c t = (h : Shape) (own fifo injector : List ℕ) (casts : ℕ → List ℕ) → effect a h q c (full t own fifo injector casts) ≡ None
 
 -- the act is enabled, whatever the lists hold
 abbrev pub Can : Act → Party → Counts → Touched → Type 0
-Can a q c t = (h : Shape) (own injector : List ℕ) (casts : ℕ → List ℕ) → ¬ (effect a h q c (full t own injector casts) ≡ None)
+Can a q c t = (h : Shape) (own fifo injector : List ℕ) (casts : ℕ → List ℕ) → ¬ (effect a h q c (full t own fifo injector casts) ≡ None)
 
 -- an act on the counters of inactive and sleeping workers, or on the turn
 abbrev pub is_counting : Act → Bool
@@ -120,16 +120,25 @@ is_queueing (PushInj p t) = true
 is_queueing (PushOwn t) = true
 is_queueing _ = false
 
+-- an act on a FIFO list
+abbrev pub is_feeding : Act → Bool
+is_feeding (FifoIn t) = true
+is_feeding FifoUndo = true
+is_feeding (FifoOut k i) = true
+is_feeding _ = false
+
 -- the task at the end of the queue that an act takes from or looks at
-abbrev pub end_task : Order → Act → Party → List ℕ → List ℕ → (ℕ → List ℕ) → Option ℕ
-end_task o PopOwn q own injector casts = own_of o own
-end_task o TakeCast q own injector casts = head_of (casts (own_index q))
-end_task o (Steal p i) q own injector casts = head_of own
-end_task o PopInj q own injector casts = head_of injector
-end_task o LookCast q own injector casts = head_of (casts (own_index q))
-end_task o (LookInj p) q own injector casts = head_of injector
-end_task o LookOwn q own injector casts = head_of own
-end_task o _ q own injector casts = None
+abbrev pub end_task : Order → Act → Party → List ℕ → List ℕ → List ℕ → (ℕ → List ℕ) → Option ℕ
+end_task o PopOwn q own fifo injector casts = own_of o own
+end_task o TakeCast q own fifo injector casts = head_of (casts (own_index q))
+end_task o (Steal p i) q own fifo injector casts = head_of own
+end_task o PopInj q own fifo injector casts = head_of injector
+end_task o LookCast q own fifo injector casts = head_of (casts (own_index q))
+end_task o (LookInj p) q own fifo injector casts = head_of injector
+end_task o LookOwn q own fifo injector casts = head_of own
+end_task o FifoUndo q own fifo injector casts = last_of fifo
+end_task o (FifoOut k i) q own fifo injector casts = head_of fifo
+end_task o _ q own fifo injector casts = None
 
 -- a pool after an act on its queues, where the party is the worker of this index
 abbrev pub pool_queued : Act → ℕ → Pool → Pool
@@ -138,11 +147,14 @@ pool_queued TakeCast k v = record v { casts = λ i. if i == k then but_first (v.
 pool_queued (PushInj p t) k v = record v { injector = v.injector ++ t ∷ [] }
 pool_queued _ k v = v
 
--- a worker's seat after an act on its deque
+-- a worker's seat after an act on its deque or its FIFO list
 abbrev pub seat_queued : Act → Order → Seat → Seat
 seat_queued PopOwn o s = record s { own = own_left o s.own }
 seat_queued (Steal p i) o s = record s { own = but_first s.own }
 seat_queued (PushOwn t) o s = record s { own = s.own ++ t ∷ [] }
+seat_queued (FifoIn t) o s = record s { fifo = s.fifo ++ t ∷ [] }
+seat_queued FifoUndo o s = record s { fifo = but_last s.fifo }
+seat_queued (FifoOut k i) o s = record s { fifo = but_first s.fifo }
 seat_queued _ o s = s
 
 -- a part after an act on its queues
@@ -156,12 +168,16 @@ with_job t j = record t { job = j }
 -- what taking a task sees, and the numbers after it
 abbrev pub after_take : Party → Touched → Option ℕ → Seen × Touched
 after_take q t None = (Missing, t)
-after_take q t (Some n) = (Task n, with_job t (at_job (t.job) (Running q)))
+after_take q t (Some n) = (Task (taken_as n t.job.kind), with_job t (at_job (t.job) (Running q)))
 
 -- what a look at a queue sees
 abbrev pub look_sees : Option ℕ → Seen
 look_sees None = Yes
 look_sees (Some t) = No
+
+-- the numbers with the FIFO list left by this party
+abbrev pub with_left : Party → Touched → Touched
+with_left q t = record t { worker = record (t.worker) { feeder = left_by q t.worker.feeder } }
 
 -- what an act on a queue sees, and the numbers after it, where this task stands at the queue's end
 abbrev pub after_handle : Act → Party → Touched → Option ℕ → Seen × Touched
@@ -173,16 +189,17 @@ after_handle LookCast q t found = (look_sees found, t)
 after_handle (LookInj p) q t found = (look_sees found, t)
 after_handle LookOwn q t found = (look_sees found, t)
 after_handle (PushInj p n) q t found = (Done, with_job t (at_job (t.job) (Injected p)))
-after_handle (PushOwn n) q t found = (Done, with_job t (at_job (t.job) (InDeque (own_pool q) (own_index q))))
+after_handle (PushOwn n) q t found = (Done, with_job (with_left q t) (at_job (t.job) (InDeque (own_pool q) (own_index q))))
 after_handle _ q t found = (Done, t)
 
--- the act sees this and leaves these numbers and queues, where this task stands at the end of the queue that it looks at
+-- the act sees this and leaves these numbers and queues, where this task stands at the end of the queue that it looks
+-- at
 abbrev pub Acts : Order → Act → Party → Counts → ℕ → Option ℕ → Touched → Seen → Touched → Type 0
-Acts o a q c jec_bits found t seen u = (h : Shape) (own injector : List ℕ) (casts : ℕ → List ℕ) → h.jec_bits ≡ jec_bits → (h.pool (own_pool q)).order ≡ o → end_task o a q own injector casts ≡ found → effect a h q c (full t own injector casts) ≡ Some (seen, part_queued o a q (full u own injector casts))
+Acts o a q c jec_bits found t seen u = (h : Shape) (own fifo injector : List ℕ) (casts : ℕ → List ℕ) → h.jec_bits ≡ jec_bits → (h.pool (own_pool q)).order ≡ o → end_task o a q own fifo injector casts ≡ found → effect a h q c (full t own fifo injector casts) ≡ Some (seen, part_queued o a q (full u own fifo injector casts))
 
 -- a seat that no step has touched
 abbrev pub blank_seat : Seat
-blank_seat = record { own = []; inactive = false; asleep = false; blocked = false; latch = Unset; lock = None }
+blank_seat = record { own = []; fifo = []; feeder = None; inactive = false; asleep = false; blocked = false; latch = Unset; lock = None }
 
 -- a pool that no step has touched
 abbrev pub blank_pool : Pool
@@ -237,9 +254,9 @@ stack_in h w (Caller c) = caller_in h w.callers.items c
 abbrev pub pool_of : StoredPool → Pool
 pool_of v = record { injector = v.injector.items; casts = λ i. option_map_or (λ l. l.items) (slice_get v.casts.items i) []; turn = v.numbers.turn; count = v.numbers.count; held = v.numbers.held; counted = v.numbers.counted }
 
--- a stored seat's deque and flags
+-- a stored seat's deque, FIFO list and flags
 abbrev pub seat_of : StoredSeat → Seat
-seat_of s = record { own = s.own.items; inactive = s.flags.inactive; asleep = s.flags.asleep; blocked = s.flags.blocked; latch = s.flags.latch; lock = s.flags.lock }
+seat_of s = record { own = s.own.items; fifo = s.fifo.items; feeder = s.flags.feeder; inactive = s.flags.inactive; asleep = s.flags.asleep; blocked = s.flags.blocked; latch = s.flags.latch; lock = s.flags.lock }
 
 -- the pool of a number; one that is not there is blank
 abbrev pub pool_at : List StoredPool → ℕ → Pool
@@ -273,6 +290,7 @@ HasRoom w (Caller c) = RoomAt w.callers.items c
 -- what the kind of an act says of it
 abbrev pub kind_holds : Kind → Act → Type 0
 kind_holds Queueing a = is_queueing a ≡ true
+kind_holds Feeding a = is_feeding a ≡ true
 kind_holds Counting a = is_counting a ≡ true
 kind_holds Latching a = is_latching a ≡ true
 kind_holds Locking a = is_locking a ≡ true
@@ -284,7 +302,7 @@ with_numbers v n = record v { turn = n.turn; count = n.count; held = n.held; cou
 
 -- a seat with these flags
 abbrev pub with_flags : Seat → WorkerFlags → Seat
-with_flags s f = record s { inactive = f.inactive; asleep = f.asleep; blocked = f.blocked; latch = f.latch; lock = f.lock }
+with_flags s f = record s { feeder = f.feeder; inactive = f.inactive; asleep = f.asleep; blocked = f.blocked; latch = f.latch; lock = f.lock }
 
 -- a task that is injected, or pushed on a deque, finds room
 abbrev pub InjectorFits : Act → ℕ → ℕ → Type 0
@@ -296,13 +314,18 @@ abbrev pub DequeFits : Act → ℕ → ℕ → Type 0
 DequeFits (PushOwn t) len capacity = len < capacity
 DequeFits _ len capacity = Unit {0}
 
+-- a job that is added to a FIFO list finds room
+abbrev pub FifoFits : Act → ℕ → ℕ → Type 0
+FifoFits (FifoIn t) len capacity = len < capacity
+FifoFits _ len capacity = Unit {0}
+
 -- the numbers of a pool, and the flags of a seat
 abbrev pub numbers_of : Pool → PoolNumbers
 numbers_of v = record { turn = v.turn; count = v.count; held = v.held; counted = v.counted }
 
 -- the flags of a seat
 abbrev pub flags_of : Seat → WorkerFlags
-flags_of s = record { inactive = s.inactive; asleep = s.asleep; blocked = s.blocked; latch = s.latch; lock = s.lock }
+flags_of s = record { feeder = s.feeder; inactive = s.inactive; asleep = s.asleep; blocked = s.blocked; latch = s.latch; lock = s.lock }
 
 -- the numbers at a spot
 abbrev pub touched_at : Parts → Spot → Touched
@@ -314,7 +337,7 @@ HasPool a pools p = IsSomeAnd (slice_get pools p) (λ v. InjectorFits a (deque_l
 
 -- a seat of this index is stored, with room for what the act pushes
 abbrev pub SeatFits : Act → List StoredSeat → ℕ → Type 0
-SeatFits a seats i = IsSomeAnd (slice_get seats i) (λ s. DequeFits a (deque_len s.own) (deque_capacity s.own))
+SeatFits a seats i = IsSomeAnd (slice_get seats i) (λ s. DequeFits a (deque_len s.own) (deque_capacity s.own) × FifoFits a (deque_len s.fifo) (deque_capacity s.fifo))
 
 -- a seat of this pool and index is stored, with room for what the act pushes
 abbrev pub HasSeat : Act → List Bench → ℕ → ℕ → Type 0
@@ -341,7 +364,7 @@ part_at_spot w s = record { pool = pool_at w.pools.items s.pool; seat = seat_at 
 
 -- a part with these numbers
 abbrev pub with_touched : Part → Touched → Part
-with_touched m t = full t m.seat.own m.pool.injector m.pool.casts
+with_touched m t = full t m.seat.own m.seat.fifo m.pool.injector m.pool.casts
 
 -- the spot that a party's act touches
 abbrev pub spot_of : Shape → Parts → Party → Act → Spot
@@ -369,11 +392,14 @@ PlanWithin (Detach p t) n = t < n
 PlanWithin (Here p t) n = t < n
 PlanWithin (Send o) n = o.job < n
 PlanWithin (Fork o a) n = (a < n) × (o.job < n)
+PlanWithin (Feed f) n = (f.job < n) × (f.token < n)
 
--- the jobs that a move begins or hands back have numbers below this
+-- the jobs that a move begins or hands back, and the tokens that it spends, have numbers below this
 abbrev pub MoveWithin : Move → ℕ → Type 0
 MoveWithin (StartRun f t) n = t < n
 MoveWithin (HandBack plan) n = PlanWithin plan n
+MoveWithin (HandIn y k) n = k < n
+MoveWithin (Discard k) n = k < n
 MoveWithin _ n = Unit {0}
 
 -- the number of runs of the job that a move begins can grow

@@ -3,6 +3,7 @@ ghost use Rattle.std.specs.Prelude.{◌≡◌, ℕ, OnOk, ◌<◌, vec_len, true
 ghost use Rattle.rayon_machine_places.specs.Steps.{put, put_seat, handed_back, jobs_after};
 ghost use Rattle.rayon_machine_parts.specs.State.{HasPool, HasSeat, call_at, job_at, pool_at, pool_queued, seat_at, seat_queued, with_flags, with_numbers, MoveWithin, PlanWithin, RunsFit};
 ghost use Rattle.rayon_machine_places.specs.World.{at_job};
+ghost use Rattle.rayon_machine_places.specs.declared.state.Whereabouts.TheVariants.{HandedBack};
 
 use crate::deed::Deed;
 use crate::growth::{grow_calls, grow_jobs, pool_room, seat_room};
@@ -30,16 +31,19 @@ fn last_of_call(plan: Plan) -> u64
         Plan::Detach { job, .. } | Plan::Here { job, .. } => job,
         Plan::Send(call) => call.job,
         Plan::Fork { call, first } => larger(call.job, first),
+        Plan::Feed(feeding) => larger(feeding.job, feeding.token),
     }
 }
 
-/// The last number of the jobs that a move begins or hands back, and 0 if it does neither.
+/// The last number of the jobs that a move begins or hands back or of the token that it spends, and 0 if it does none
+/// of these.
 pub fn last_job(step: Move) -> u64
     ensures { (n : ℕ) → result < n → MoveWithin step n }
 {
     match step {
         Move::StartRun { job, .. } => job,
         Move::HandBack(plan) => last_of_call(plan),
+        Move::HandIn { token, .. } | Move::Discard(token) => token,
         _ => 0,
     }
 }
@@ -63,23 +67,31 @@ fn hand_back(jobs: &mut Vec<Job>, plan: Plan)
             move_job(jobs, job, Whereabouts::HandedBack)
         }
         Plan::Send(call) => move_job(jobs, call.job, Whereabouts::HandedBack),
-        Plan::Fork { call, first } => {
-            let second = jobs[call.job as usize];
-            let back = Job {
-                at: Whereabouts::HandedBack,
-                ..second
-            };
-            let job = jobs[first as usize];
-            jobs[first as usize] = Job {
-                at: Whereabouts::HandedBack,
-                ..job
-            };
-            jobs[call.job as usize] = back;
-        }
+        Plan::Fork { call, first } => hand_both(jobs, first, call.job),
+        Plan::Feed(feeding) => hand_both(jobs, feeding.job, feeding.token),
     }
 }
 
-/// The run of a job begins, or a refused call's jobs are handed back.
+/// Two jobs are handed back.
+fn hand_both(jobs: &mut Vec<Job>, first: u64, second: u64)
+    requires first { first < vec_len jobs.old }
+    requires second { second < vec_len jobs.old }
+    ensures { (t : ℕ) → job_at jobs.new.items t ≡ put (put (job_at jobs.old.items) first (at_job (job_at jobs.old.items first) HandedBack)) second (at_job (job_at jobs.old.items second) HandedBack) t }
+{
+    let job = jobs[second as usize];
+    let back = Job {
+        at: Whereabouts::HandedBack,
+        ..job
+    };
+    let job = jobs[first as usize];
+    jobs[first as usize] = Job {
+        at: Whereabouts::HandedBack,
+        ..job
+    };
+    jobs[second as usize] = back;
+}
+
+/// The run of a job begins, a refused call's jobs are handed back, or a token is spent.
 pub fn move_jobs(jobs: &mut Vec<Job>, party: Party, step: Move)
     requires within { MoveWithin step (vec_len jobs.old) }
     requires runs { RunsFit step (job_at jobs.old.items) }
@@ -91,6 +103,9 @@ pub fn move_jobs(jobs: &mut Vec<Job>, party: Party, step: Move)
             jobs[job as usize] = begun;
         }
         Move::HandBack(plan) => hand_back(jobs, plan),
+        Move::HandIn { token, .. } | Move::Discard(token) => {
+            move_job(jobs, token, Whereabouts::Spent)
+        }
         _ => {}
     }
 }

@@ -1,7 +1,7 @@
 //! Room for what a step touches: a table is filled up to a number with what stands there at the start.
 ghost use Rattle.std.specs.Prelude.{◌≡◌, ℕ, OnOk, ◌<◌, vec_len};
 ghost use Rattle.std.specs.VecDeque.{deque_capacity, deque_len};
-ghost use Rattle.rayon_machine_parts.specs.State.{DequeFits, HasPool, HasSeat, InjectorFits, SeatFits, call_at, job_at, pool_at, pool_of, seat_of, seat_at, seat_in, shape_of, stack_of, blank_pool, blank_seat, first_stack, caller_in, stack_at, worker_in};
+ghost use Rattle.rayon_machine_parts.specs.State.{DequeFits, FifoFits, HasPool, HasSeat, InjectorFits, SeatFits, call_at, job_at, pool_at, pool_of, seat_of, seat_at, seat_in, shape_of, stack_of, blank_pool, blank_seat, first_stack, caller_in, stack_at, worker_in};
 ghost use Rattle.rayon_machine_places.specs.World.{Shape};
 
 use crate::numbers::{PoolNumbers, WorkerFlags};
@@ -231,12 +231,14 @@ impl Seat {
     {
         Seat {
             own: VecDeque::new(alloc),
+            fifo: VecDeque::new(alloc),
             flags: WorkerFlags {
                 inactive: false,
                 asleep: false,
                 blocked: false,
                 latch: Letter::Unset,
                 lock: None,
+                feeder: None,
             },
         }
     }
@@ -244,10 +246,12 @@ impl Seat {
     /// Room for what an act pushes.
     fn make_room(&mut self, act: Act) -> Result<(), AllocError>
         ensures same { seat_of self.new ≡ seat_of self.old }
-        ensures room { OnOk result (DequeFits act (deque_len self.new.own) (deque_capacity self.new.own)) }
+        ensures deque { OnOk result (DequeFits act (deque_len self.new.own) (deque_capacity self.new.own)) }
+        ensures fifo { OnOk result (FifoFits act (deque_len self.new.fifo) (deque_capacity self.new.fifo)) }
     {
         match act {
             Act::PushOwn(_) => self.own.try_reserve(1),
+            Act::FifoIn(_) => self.fifo.try_reserve(1),
             _ => Ok(()),
         }
     }

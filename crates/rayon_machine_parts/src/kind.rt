@@ -8,6 +8,8 @@ use rayon_machine_places::act::Act;
 pub(crate) enum Kind {
     /// A queue.
     Queueing,
+    /// A FIFO list.
+    Feeding,
     /// The counters of inactive and sleeping workers, or the turn.
     Counting,
     /// A latch or a cell.
@@ -33,6 +35,7 @@ impl Kind {
             | Act::LookOwn
             | Act::PushInj { .. }
             | Act::PushOwn(_) => Kind::Queueing,
+            Act::FifoIn(_) | Act::FifoUndo | Act::FifoOut { .. } => Kind::Feeding,
             Act::AddInactive
             | Act::Announce
             | Act::Load

@@ -38,6 +38,8 @@ pub struct WorkerFlags {
     pub latch: Letter,
     /// Who holds its sleep lock.
     pub lock: Option<Party>,
+    /// Who holds its FIFO list.
+    pub feeder: Option<Party>,
 }
 
 /// The numbers that an act touches.
@@ -123,7 +125,7 @@ fn is_set(letter: Letter) -> Seen
 impl Touched {
     /// The letter of a core latch.
     fn letter(self, latch: Latch) -> Letter
-        ensures { (own injector : List ℕ) (casts : ℕ → List ℕ) → letter_of latch (full self own injector casts) ≡ result }
+        ensures { (own fifo injector : List ℕ) (casts : ℕ → List ℕ) → letter_of latch (full self own fifo injector casts) ≡ result }
     {
         match latch {
             Latch::Terminate => self.worker.latch,
@@ -133,7 +135,7 @@ impl Touched {
 
     /// The same with this letter at a core latch.
     fn with_letter(self, latch: Latch, letter: Letter) -> Touched
-        ensures { (own injector : List ℕ) (casts : ℕ → List ℕ) → with_letter_of latch (full self own injector casts) letter ≡ full result own injector casts }
+        ensures { (own fifo injector : List ℕ) (casts : ℕ → List ℕ) → with_letter_of latch (full self own fifo injector casts) letter ≡ full result own fifo injector casts }
     {
         match latch {
             Latch::Terminate => Touched {
@@ -165,7 +167,7 @@ impl Touched {
 }
 
 /// What an act saw, and the numbers after it.
-type Outcome = Result<(Seen, Touched), StepError>;
+pub(crate) type Outcome = Result<(Seen, Touched), StepError>;
 
 impl Touched {
     /// The same with another turn.
@@ -226,7 +228,7 @@ impl Touched {
     }
 
     /// The same with another worker.
-    fn with_worker(self, worker: WorkerFlags) -> Touched
+    pub(crate) fn with_worker(self, worker: WorkerFlags) -> Touched
         ensures { result ≡ record self { worker = worker } }
     {
         Touched { worker, ..self }

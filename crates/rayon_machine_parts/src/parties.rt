@@ -133,7 +133,7 @@ impl Parties {
                     ending,
                 }),
             ),
-            JobKind::Direct => self.resume(party, ending),
+            JobKind::Direct | JobKind::TokenOf(_) => self.resume(party, ending),
         }
     }
 }
@@ -162,7 +162,7 @@ impl Stack {
         ensures { stack_of self.new ≡ after_move step (reverse self.old.below.items) }
     {
         match step {
-            Move::Stay(place) => self.top = place,
+            Move::Stay(place) | Move::HandIn { place, .. } => self.top = place,
             Move::Enter { frame, place } => self.enter(frame, place),
             Move::StartRun { frame, job } => self.enter(
                 frame,
@@ -171,7 +171,7 @@ impl Stack {
                     kind: JobKind::Direct,
                 },
             ),
-            Move::Back | Move::HandBack(_) => self.back(),
+            Move::Back | Move::HandBack(_) | Move::Discard(_) => self.back(),
         }
     }
 

@@ -2,7 +2,7 @@
 ghost use Rattle.std.specs.Prelude.{◌≡◌, length};
 ghost use Rattle.rayon_machine_parts.specs.State.{job_at, pool_at, seat_at};
 ghost use Rattle.rayon_machine_places.specs.Steps.{has_one as one_left};
-ghost use Rattle.rayon_machine_places.specs.Readers.{is_done, is_queued, is_running};
+ghost use Rattle.rayon_machine_places.specs.Readers.{is_done, is_job_that, is_queued, is_running};
 ghost use Rattle.rayon_machine_places.specs.World.{count_below};
 
 use crate::numbers::{PoolNumbers, WorkerFlags};
@@ -21,12 +21,14 @@ pub struct Pool {
     pub numbers: PoolNumbers,
 }
 
-/// A worker's deque, the oldest task first, and its flags.
+/// A worker's deque and its FIFO list, the oldest task first, and its flags.
 /// It is the running world's own part, and not for users.
 #[derive(Drop)]
 pub struct Seat {
     /// The tasks of its deque.
     pub own: VecDeque<u64>,
+    /// The jobs of its FIFO list.
+    pub fifo: VecDeque<u64>,
     /// Its flags.
     pub flags: WorkerFlags,
 }
@@ -53,10 +55,10 @@ pub struct Parts {
     pub jobs: Vec<Job>,
 }
 
-/// How many jobs of a world stand in a queue, run, and are done.
+/// How many jobs of a world stand in a queue, run, and are done. Tokens do not count.
 #[derive(Clone, Copy)]
 pub struct JobTotals {
-    /// In a deque or an injector.
+    /// In a deque, an injector or a FIFO list.
     pub queued: u64,
     /// Taken or begun, and not ended.
     pub running: u64,
@@ -67,22 +69,22 @@ pub struct JobTotals {
 impl Parts {
     /// How many of the jobs below this number are queued, running and done.
     pub fn totals(&self, jobs: u64) -> JobTotals
-        ensures queued { result.queued ≡ count_below jobs (λ t. is_queued (job_at self.now.jobs.items t).at) }
-        ensures running { result.running ≡ count_below jobs (λ t. is_running (job_at self.now.jobs.items t).at) }
-        ensures done { result.done ≡ count_below jobs (λ t. is_done (job_at self.now.jobs.items t).at) }
+        ensures queued { result.queued ≡ count_below jobs (λ t. is_job_that is_queued (job_at self.now.jobs.items t)) }
+        ensures running { result.running ≡ count_below jobs (λ t. is_job_that is_running (job_at self.now.jobs.items t)) }
+        ensures done { result.done ≡ count_below jobs (λ t. is_job_that is_done (job_at self.now.jobs.items t)) }
     {
         let mut queued = 0u64;
         let mut running = 0u64;
         let mut done = 0u64;
         for number in 0..jobs {
-            let at = self.job(number).at;
-            if at.queues() {
+            let job = self.job(number);
+            if job.is_queued() {
                 queued += 1;
             }
-            if at.runs() {
+            if job.is_running() {
                 running += 1;
             }
-            if at.is_over() {
+            if job.is_done() {
                 done += 1;
             }
         }

@@ -1,11 +1,14 @@
 //! What an act on a queue finds there, and the numbers after it.
-ghost use Rattle.std.specs.Prelude.{◌≡◌};
-ghost use Rattle.rayon_machine_places.specs.World.{but_first, but_last, head_of, last_of};
-ghost use Rattle.rayon_machine_parts.specs.State.{after_handle, after_take};
+ghost use Rattle.std.specs.Prelude.{◌≡◌, ℕ, true, IfErr, IfOk};
+ghost use Rattle.rayon_machine_places.specs.declared.shape.Order.{Order as AnyOrder};
+ghost use Rattle.rayon_machine_places.specs.declared.act.Act.TheVariants.{FifoOut, FifoUndo};
+ghost use Rattle.rayon_machine_places.specs.World.{but_first, but_last, head_of, last_of, is_open, Counts};
+ghost use Rattle.rayon_machine_parts.specs.State.{Acts, Can, DoesNot, after_handle, after_take, is_feeding, with_left};
 
-use crate::numbers::Touched;
+use crate::numbers::{Outcome, Touched, WorkerFlags};
 use rayon_machine_places::act::{Act, Seen};
-use rayon_machine_places::place::Party;
+use rayon_machine_places::error::StepError;
+use rayon_machine_places::place::{Party, Taken};
 use rayon_machine_places::state::Whereabouts;
 use std::collections::VecDeque;
 
@@ -36,13 +39,103 @@ fn take(touched: Touched, party: Party, found: Option<u64>) -> (Seen, Touched)
     match found {
         None => (Seen::Missing, touched),
         Some(task) => (
-            Seen::Task(task),
+            Seen::Task(touched.job.kind.taken(task)),
             touched.with_job_at(Whereabouts::Running(party)),
         ),
     }
 }
 
 impl Touched {
+    /// The same with the FIFO list left by this party, if it holds it.
+    fn leaving_fifo(self, party: Party) -> Touched
+        ensures { result ≡ with_left party self }
+    {
+        match self.worker.feeder {
+            Some(holder) if party.is(holder) => self.with_feeder(None),
+            _ => self,
+        }
+    }
+
+    /// The same with this holder of the FIFO list.
+    fn with_feeder(self, feeder: Option<Party>) -> Touched
+        ensures { result ≡ record self { worker = record (self.worker) { feeder = feeder } } }
+    {
+        self.with_worker(WorkerFlags {
+            feeder,
+            ..self.worker
+        })
+    }
+
+    /// Whether no other party holds the FIFO list.
+    fn is_open_to(self, party: Party) -> bool
+        ensures { result ≡ is_open party self.worker.feeder }
+    {
+        match self.worker.feeder {
+            Some(holder) => party.is(holder),
+            None => true,
+        }
+    }
+
+    /// The first job of a FIFO list begins, where this job stands first in it.
+    fn hand_out(self, party: Party, found: Option<u64>) -> Outcome
+        ensures ok { IfOk result (λ r. (token worker : ℕ) (c : Counts) (jec_bits : ℕ) (o : AnyOrder) → is_open party self.worker.feeder ≡ true → Acts o (FifoOut token worker) party c jec_bits found self (r.0) (r.1)) }
+        ensures no_room { IfErr result (λ e. e ≡ StepError.NoRoom) }
+        ensures enabled { IfErr result (λ e. (token worker : ℕ) (c : Counts) → is_open party self.worker.feeder ≡ true → Can (FifoOut token worker) party c self) }
+    {
+        match found {
+            None => Ok((Seen::Missing, self)),
+            Some(_) if self.job.runs == u64::MAX => Err(StepError::NoRoom),
+            Some(job) => {
+                let seen = Seen::Handed {
+                    job,
+                    kind: self.job.kind,
+                };
+                let begun = self.job.begun(party);
+                Ok((seen, Touched { job: begun, ..self }))
+            }
+        }
+    }
+
+    /// The job that was added last comes out of a FIFO list, where this job stands last in it.
+    fn take_back(self, party: Party, found: Option<u64>) -> (Seen, Touched)
+        ensures { (c : Counts) (jec_bits : ℕ) (o : AnyOrder) → is_open party self.worker.feeder ≡ true → Acts o FifoUndo party c jec_bits found self (result.0) (result.1) }
+    {
+        match found {
+            None => (Seen::Missing, self),
+            Some(job) => (
+                Seen::Task(Taken::Plain(job)),
+                self.with_feeder(None)
+                    .with_job_at(Whereabouts::Retaken(party)),
+            ),
+        }
+    }
+
+    /// What an act on a FIFO list sees, and the numbers after it, where this job stands first in the list.
+    pub(crate) fn feeds(self, act: Act, party: Party, found: Option<u64>) -> Outcome
+        ensures ok { IfOk result (λ r. is_feeding act ≡ true → (c : Counts) (jec_bits : ℕ) (o : AnyOrder) → Acts o act party c jec_bits found self (r.0) (r.1)) }
+        ensures not_enabled { IfErr result (λ e. is_feeding act ≡ true → e ≡ StepError.NotEnabled → (c : Counts) → DoesNot act party c self) }
+        ensures enabled { IfErr result (λ e. is_feeding act ≡ true → e ≡ StepError.NoRoom → (c : Counts) → Can act party c self) }
+    {
+        if !self.is_open_to(party) {
+            return Err(StepError::NotEnabled);
+        }
+        match act {
+            Act::FifoIn(_) => {
+                let at = Whereabouts::InFifo {
+                    pool: party.pool(),
+                    worker: party.index(),
+                };
+                Ok((
+                    Seen::Done,
+                    self.with_feeder(Some(party)).with_job_at(at),
+                ))
+            }
+            Act::FifoUndo => Ok(self.take_back(party, found)),
+            Act::FifoOut { .. } => self.hand_out(party, found),
+            _ => Err(StepError::NotEnabled),
+        }
+    }
+
     /// What an act on a queue sees, and the numbers after it, where this task stands at the end of
     /// the queue.
     pub(crate) fn handle(self, act: Act, party: Party, found: Option<u64>) -> (Seen, Touched)
@@ -65,7 +158,7 @@ impl Touched {
                     pool: party.pool(),
                     worker: party.index(),
                 };
-                (Seen::Done, self.with_job_at(at))
+                (Seen::Done, self.leaving_fifo(party).with_job_at(at))
             }
             _ => (Seen::Done, self),
         }

@@ -43,6 +43,23 @@ impl Parts {
         }
     }
 
+    /// The oldest job of a worker's FIFO list, or the newest if that is wanted.
+    fn fifo_end(&self, pool: usize, worker: usize, newest_first: bool) -> Option<u64>
+        ensures { result ≡ (if newest_first then last_of (seat_at self.now.benches.items pool worker).fifo else head_of (seat_at self.now.benches.items pool worker).fifo) }
+    {
+        match self.benches.get(pool) {
+            Some(bench) => match bench.seats.get(worker) {
+                Some(seat) => if newest_first {
+                    newest(&seat.fifo)
+                } else {
+                    oldest(&seat.fifo)
+                },
+                None => None,
+            },
+            None => None,
+        }
+    }
+
     /// The oldest task of a pool's injector.
     fn injected(&self, pool: usize) -> Option<u64>
         ensures { result ≡ head_of (pool_at self.now.pools.items pool).injector }
@@ -68,7 +85,7 @@ impl Parts {
 
     /// The task at the end of the queue that an act takes from or looks at.
     pub(crate) fn peek(&self, act: Act, party: Party, order: Order) -> Option<u64>
-        ensures { result ≡ end_task order act party (seat_at self.now.benches.items (target_pool party act) (target_worker party act)).own (pool_at self.now.pools.items (target_pool party act)).injector (pool_at self.now.pools.items (target_pool party act)).casts }
+        ensures { result ≡ end_task order act party (seat_at self.now.benches.items (target_pool party act) (target_worker party act)).own (seat_at self.now.benches.items (target_pool party act) (target_worker party act)).fifo (pool_at self.now.pools.items (target_pool party act)).injector (pool_at self.now.pools.items (target_pool party act)).casts }
     {
         match act {
             Act::PopOwn => {
@@ -83,6 +100,8 @@ impl Parts {
             Act::TakeCast | Act::LookCast => self.cast(party.pool(), party.index()),
             Act::PopInj => self.injected(party.pool()),
             Act::LookInj(pool) => self.injected(pool),
+            Act::FifoUndo => self.fifo_end(party.pool(), party.index(), true),
+            Act::FifoOut { worker, .. } => self.fifo_end(party.pool(), worker, false),
             _ => None,
         }
     }
@@ -112,6 +131,7 @@ impl Parts {
             blocked: false,
             latch: Letter::Unset,
             lock: None,
+            feeder: None,
         };
         match self.benches.get(pool) {
             Some(bench) => match bench.seats.get(worker) {

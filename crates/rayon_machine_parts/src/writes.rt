@@ -2,7 +2,7 @@
 ghost use Rattle.std.specs.Prelude.{◌≡◌, ℕ, ◌<◌, vec_len, false, ◌+◌};
 ghost use Rattle.std.specs.VecDeque.{deque_capacity, deque_len};
 ghost use Rattle.rayon_machine_places.specs.Steps.{put, put_seat};
-ghost use Rattle.rayon_machine_parts.specs.State.{DequeFits, HasPool, HasSeat, InjectorFits, SeatFits, call_at, job_at, pool_at, pool_of, seat_of, pool_queued, seat_at, seat_in, seat_queued, with_flags, with_numbers};
+ghost use Rattle.rayon_machine_parts.specs.State.{DequeFits, FifoFits, HasPool, HasSeat, InjectorFits, SeatFits, call_at, job_at, pool_at, pool_of, seat_of, pool_queued, seat_at, seat_in, seat_queued, with_flags, with_numbers};
 
 use crate::numbers::{PoolNumbers, WorkerFlags};
 use crate::parts::{Bench, Pool, Seat};
@@ -33,9 +33,10 @@ impl Pool {
 }
 
 impl Seat {
-    /// The seat with these flags, after an act on its deque.
+    /// The seat with these flags, after an act on its deque or its FIFO list.
     fn write(&mut self, flags: WorkerFlags, act: Act, order: Order)
-        requires { DequeFits act (deque_len self.old.own) (deque_capacity self.old.own) }
+        requires deque { DequeFits act (deque_len self.old.own) (deque_capacity self.old.own) }
+        requires fifo { FifoFits act (deque_len self.old.fifo) (deque_capacity self.old.fifo) }
         ensures { seat_of self.new ≡ seat_queued act order (with_flags (seat_of self.old) flags) }
     {
         self.flags = flags;
@@ -49,6 +50,12 @@ impl Seat {
                 let pushed = self.own.push_back(job);
                 prove!(pushed.is_ok());
             }
+            Act::FifoIn(job) => {
+                let added = self.fifo.push_back(job);
+                prove!(added.is_ok());
+            }
+            Act::FifoUndo => drop_newest(&mut self.fifo),
+            Act::FifoOut { .. } => drop_oldest(&mut self.fifo),
             _ => {}
         }
     }

@@ -5,6 +5,9 @@ use Rattle.rayon_machine_places.specs.declared.place.Party.TheVariants.{Worker, 
 use Rattle.rayon_machine_places.specs.declared.place.Ending.{Ending}
 use Rattle.rayon_machine_places.specs.declared.place.Ending.TheVariants.{Fine, Fault}
 use Rattle.rayon_machine_places.specs.declared.place.JobKind.TheVariants.{Direct}
+use Rattle.rayon_machine_places.specs.declared.place.Feeding.{Feeding}
+use Rattle.rayon_machine_places.specs.declared.place.Taken.{Taken}
+use Rattle.rayon_machine_places.specs.declared.place.Taken.TheVariants.{Plain, Token}
 use Rattle.rayon_machine_places.specs.declared.place.Target.{Target}
 use Rattle.rayon_machine_places.specs.declared.place.Target.TheVariants.{Termination, Answer}
 use Rattle.rayon_machine_places.specs.declared.place.Latch.{Latch}
@@ -12,18 +15,18 @@ use Rattle.rayon_machine_places.specs.declared.place.Latch.TheVariants.{Terminat
 use Rattle.rayon_machine_places.specs.declared.place.Rounds.{Rounds}
 use Rattle.rayon_machine_places.specs.declared.place.Rounds.TheVariants.{Failed, Announced}
 use Rattle.rayon_machine_places.specs.declared.place.Plan.{Plan}
-use Rattle.rayon_machine_places.specs.declared.place.Plan.TheVariants.{Detach, Here, Send, Fork}
+use Rattle.rayon_machine_places.specs.declared.place.Plan.TheVariants.{Detach, Here, Send, Fork, Feed}
 use Rattle.rayon_machine_places.specs.declared.place.Share.TheVariants.{OfJob}
 use Rattle.rayon_machine_places.specs.declared.place.Then.{Then}
 use Rattle.rayon_machine_places.specs.declared.place.Then.TheVariants.{BeginFound, LeaveWait, Resume, Await, RunFirst, Answers, Missing, Ran, GiveBack}
 use Rattle.rayon_machine_places.specs.declared.place.Place.{Place}
-use Rattle.rayon_machine_places.specs.declared.place.Place.TheVariants.{ProbeWorking, PopWorking, TakeCastWorking, BecomeInactive, ProbeIdle, PopIdle, TakeCastIdle, PickVictim, StealFrom, PopInjected, AnnounceSelf, GetSleepy, LockOwn, FallAsleep, LoadCounters, AddSleeping, LookAtCast, LookAtInjector, BlockSelf, RelockOwn, UndoSleeping, WakeUp, UnlockOwn, LeaveSearch, JoinProbe, JoinPop, JoinTakeCast, YieldPop, YieldTakeCast, YieldPick, YieldSteal, YieldPopInjected, LocalPop, LocalTakeCast, BeginTask, BeginHere, Run, RaiseCount, GrowCall, LookQueue, PushJob, TellNews, LockToWake, WakeWorker, UnlockWoken, WaitForLock, TakeResult, LowerCount, StoreResult, SetLatch, LockToSettle, WakeSettled, UnlockSettled, SetLockLatch, FirstSide, SecondSide, AtOnce, Free, Stopped}
+use Rattle.rayon_machine_places.specs.declared.place.Place.TheVariants.{ProbeWorking, PopWorking, TakeCastWorking, BecomeInactive, ProbeIdle, PopIdle, TakeCastIdle, PickVictim, StealFrom, PopInjected, AnnounceSelf, GetSleepy, LockOwn, FallAsleep, LoadCounters, AddSleeping, LookAtCast, LookAtInjector, BlockSelf, RelockOwn, UndoSleeping, WakeUp, UnlockOwn, LeaveSearch, JoinProbe, JoinPop, JoinTakeCast, YieldPop, YieldTakeCast, YieldPick, YieldSteal, YieldPopInjected, LocalPop, LocalTakeCast, BeginTask, BeginHere, Run, RaiseCount, GrowCall, LookQueue, PushJob, AddToFifo, LookForToken, PushToken, TakeFromFifo, TellNews, LockToWake, WakeWorker, UnlockWoken, WaitForLock, TakeResult, LowerCount, StoreResult, SetLatch, LockToSettle, WakeSettled, UnlockSettled, SetLockLatch, FirstSide, SecondSide, AtOnce, Free, Stopped}
 use Rattle.rayon_machine_places.specs.declared.place.Move.{Move}
-use Rattle.rayon_machine_places.specs.declared.place.Move.TheVariants.{Stay, Enter, StartRun, Back, HandBack}
+use Rattle.rayon_machine_places.specs.declared.place.Move.TheVariants.{Stay, Enter, StartRun, Back, HandBack, HandIn, Discard}
 use Rattle.rayon_machine_places.specs.declared.act.Act.{Act}
-use Rattle.rayon_machine_places.specs.declared.act.Act.TheVariants.{Probe, PopOwn, TakeCast, AddInactive, Pick, Steal, PopInj, Announce, Sleepy, Lock, Asleep, Load, TryAdd, LookCast, LookInj, LookOwn, Block, SubSleeping, Wakeup, Unlock, SubInactive, Wake, Begin, PushInj, PushOwn, News, Set, LockSet, LockWait, Lower, Raise, Grow, Store, Take, Idle}
+use Rattle.rayon_machine_places.specs.declared.act.Act.TheVariants.{Probe, PopOwn, TakeCast, AddInactive, Pick, Steal, PopInj, Announce, Sleepy, Lock, Asleep, Load, TryAdd, LookCast, LookInj, LookOwn, Block, SubSleeping, Wakeup, Unlock, SubInactive, Wake, Begin, PushInj, PushOwn, FifoIn, FifoUndo, FifoOut, News, Set, LockSet, LockWait, Lower, Raise, Grow, Store, Take, Idle}
 use Rattle.rayon_machine_places.specs.declared.act.Seen.{Seen}
-use Rattle.rayon_machine_places.specs.declared.act.Seen.TheVariants.{Done, Yes, Task, Jec, Word, Start, Wakes, Begun, Found}
+use Rattle.rayon_machine_places.specs.declared.act.Seen.TheVariants.{Done, Yes, Task, Jec, Word, Start, Wakes, Begun, Found, Handed}
 use Rattle.rayon_machine_places.specs.declared.shape.PoolShape.{PoolShape}
 use Rattle.rayon_machine_places.specs.declared.place.OpenCall.{OpenCall}
 use Rattle.rayon_machine_places.specs.declared.place.Wait.{Wait}
@@ -61,6 +64,7 @@ plan_pool (Detach p t) = p
 plan_pool (Here p t) = p
 plan_pool (Send o) = o.pool
 plan_pool (Fork o a) = o.pool
+plan_pool (Feed f) = f.pool
 
 -- the job that a call queues or runs at once: a join's second side
 abbrev pub plan_job : Plan → ℕ
@@ -68,6 +72,7 @@ plan_job (Detach p t) = t
 plan_job (Here p t) = t
 plan_job (Send o) = o.job
 plan_job (Fork o a) = o.job
+plan_job (Feed f) = f.job
 
 -- the number of a call that waits
 abbrev pub plan_call : Plan → ℕ
@@ -75,6 +80,7 @@ plan_call (Detach p t) = 0
 plan_call (Here p t) = 0
 plan_call (Send o) = o.number
 plan_call (Fork o a) = o.number
+plan_call (Feed f) = 0
 
 -- a wait at its beginning
 abbrev pub fresh : Target → Wait
@@ -116,7 +122,7 @@ after_set h q s Terminate = settle h q s.pool (s.worker + 1) s.then
 after_set h q s (OfCall c) = finish q s.then
 
 -- what a search that found this leads to, once others are woken
-abbrev pub after_found : Target → Option ℕ → Then
+abbrev pub after_found : Target → Option Taken → Then
 after_found g None = LeaveWait g
 after_found g (Some t) = BeginFound g t
 
@@ -126,6 +132,7 @@ after_news (Detach p t) = Resume
 after_news (Here p t) = Resume
 after_news (Send o) = Await o
 after_news (Fork o a) = RunFirst o a
+after_news (Feed f) = GiveBack (Detach f.pool f.token)
 
 -- what a call does once its pool's terminate count is raised for it
 abbrev pub after_raise : Plan → Move
@@ -133,10 +140,38 @@ after_raise (Detach p t) = Stay (LookQueue (Detach p t))
 after_raise (Here p t) = Enter (AtOnce p t) (BeginHere t)
 after_raise (Send o) = Stay (GrowCall (Send o))
 after_raise (Fork o a) = Stay (GrowCall (Fork o a))
+after_raise (Feed f) = Stay (AddToFifo f)
 
 -- a refused call gives its share of the terminate count back, and then its jobs
 abbrev pub undo : Plan → Place
 undo n = LowerCount (plan_pool n) (OfJob (plan_job n)) (GiveBack n)
+
+-- the number of what is taken
+abbrev pub taken_number : Taken → ℕ
+taken_number (Plain t) = t
+taken_number (Token k i) = k
+
+-- where a refused call goes that has taken back the job that was added last. If there was none, only its token is left
+abbrev pub taken_back : Feeding → Seen → Move
+taken_back f (Task x) = Stay (undo (Feed (record f { job = taken_number x })))
+taken_back f _ = HandBack (Detach f.pool f.token)
+
+-- what is taken is this job
+abbrev pub is_taken : Taken → ℕ → Bool
+is_taken (Plain t) u = t == u
+is_taken (Token k i) u = false
+
+-- the act by which a party begins what it has taken: with a token it takes the first job of a FIFO list
+abbrev pub begin_act : Taken → Act
+begin_act (Plain t) = Begin t
+begin_act (Token k i) = FifoOut k i
+
+-- where a party goes that has begun what it took. A token that got no job is spent all the same
+abbrev pub after_begin : Taken → Seen → Move
+after_begin (Plain t) (Begun d) = Stay (Run t d)
+after_begin (Plain t) _ = Stay (BeginTask (Plain t))
+after_begin (Token k i) (Handed t d) = HandIn (Run t d) k
+after_begin (Token k i) _ = Discard k
 
 -- the latch of a call is set for its owner: a worker's core latch, or an outside caller's lock latch
 abbrev pub set_call : ℕ → Party → Place
@@ -161,7 +196,7 @@ push_act q p t = if is_member q p then PushOwn t else PushInj p t
 
 -- the act at a place of a call, of the end of a run, or of a wake: any party's
 abbrev pub call_act : Party → Place → Act
-call_act q (BeginTask t) = Begin t
+call_act q (BeginTask x) = begin_act x
 call_act q (BeginHere t) = Begin t
 call_act q (RaiseCount n) = Raise (plan_pool n) (plan_job n)
 call_act q (GrowCall n) = Grow (plan_call n)
@@ -182,7 +217,7 @@ call_act q (UnlockSettled s) = Unlock s.pool s.worker
 call_act q (SetLockLatch c) = LockSet c
 call_act q _ = Idle
 
--- the act at a place. Only workers stand in waits, joins and yields
+-- the act at a place. Only workers stand in waits, joins and yields, and have FIFO lists
 abbrev pub act_of : Party → Place → Act
 act_of (Worker p i) (ProbeWorking w) = Probe (latch_of w.target)
 act_of (Worker p i) (PopWorking w) = PopOwn
@@ -218,6 +253,10 @@ act_of (Worker p i) (YieldSteal v n) = Steal p v
 act_of (Worker p i) YieldPopInjected = PopInj
 act_of (Worker p i) LocalPop = PopOwn
 act_of (Worker p i) LocalTakeCast = TakeCast
+act_of (Worker p i) (AddToFifo f) = FifoIn f.job
+act_of (Worker p i) (LookForToken f) = LookOwn
+act_of (Worker p i) (PushToken f e) = PushOwn f.token
+act_of (Worker p i) (TakeFromFifo f) = FifoUndo
 act_of q x = call_act q x
 
 -- a search that found nothing: one more, or the worker announces itself, or it tries to sleep
@@ -279,7 +318,7 @@ next_of h q (LeaveSearch w) (Wakes k) = walk h q (own_pool q) k 0 (after_found w
 next_of h q (LeaveSearch w) _ = Stay (LeaveSearch w)
 next_of h q (JoinProbe o) Yes = Stay (TakeResult o (Some Fine))
 next_of h q (JoinProbe o) _ = Stay (JoinPop o)
-next_of h q (JoinPop o) (Task t) = if t == o.job then Enter (SecondSide o) (BeginHere t) else Enter (JoinProbe o) (BeginTask t)
+next_of h q (JoinPop o) (Task t) = if is_taken t o.job then Enter (SecondSide o) (BeginHere o.job) else Enter (JoinProbe o) (BeginTask t)
 next_of h q (JoinPop o) _ = Stay (JoinTakeCast o)
 next_of h q (JoinTakeCast o) (Task t) = Enter (JoinProbe o) (BeginTask t)
 next_of h q (JoinTakeCast o) _ = Stay (ProbeWorking (fresh (Answer o (Some Fine))))
@@ -297,8 +336,7 @@ next_of h q LocalPop (Task t) = Stay (BeginTask t)
 next_of h q LocalPop _ = Stay LocalTakeCast
 next_of h q LocalTakeCast (Task t) = Stay (BeginTask t)
 next_of h q LocalTakeCast _ = Back
-next_of h q (BeginTask t) (Begun k) = Stay (Run t k)
-next_of h q (BeginTask t) _ = Stay (BeginTask t)
+next_of h q (BeginTask t) e = after_begin t e
 next_of h q (BeginHere t) _ = Stay (Run t Direct)
 next_of h q (RaiseCount n) Done = after_raise n
 next_of h q (RaiseCount n) _ = HandBack n
@@ -308,6 +346,13 @@ next_of h q (LookQueue n) Yes = Stay (PushJob n true)
 next_of h q (LookQueue n) _ = Stay (PushJob n false)
 next_of h q (PushJob n e) Done = Stay (TellNews n e)
 next_of h q (PushJob n e) _ = Stay (undo n)
+next_of h q (AddToFifo f) Done = Stay (LookForToken f)
+next_of h q (AddToFifo f) _ = Stay (undo (Feed f))
+next_of h q (LookForToken f) Yes = Stay (PushToken f true)
+next_of h q (LookForToken f) _ = Stay (PushToken f false)
+next_of h q (PushToken f e) Done = Stay (TellNews (Detach f.pool f.token) e)
+next_of h q (PushToken f e) _ = Stay (TakeFromFifo f)
+next_of h q (TakeFromFifo f) e = taken_back f e
 next_of h q (TellNews n e) (Wakes k) = walk h q (plan_pool n) k 0 (after_news n)
 next_of h q (TellNews n e) _ = Stay (TellNews n e)
 next_of h q (LockToWake k) _ = Stay (WakeWorker k)
@@ -345,6 +390,8 @@ goes_on x e = x
 abbrev pub is_refusable : Place → Bool
 is_refusable (GrowCall n) = true
 is_refusable (PushJob n e) = true
+is_refusable (AddToFifo f) = true
+is_refusable (PushToken f e) = true
 is_refusable _ = false
 
 -- where a party chooses a victim

@@ -13,7 +13,8 @@ use Rattle.rayon_machine_places.specs.Places.{fresh}
 use Rattle.rayon_machine_places.specs.World.{Shape, World}
 use Rattle.rayon_machine_places.specs.Steps.{new_call, step}
 
--- where a party stands at the start: a worker waits for the end of its pool; the caller's own worker and the outside callers are free
+-- where a party stands at the start: a worker waits for the end of its pool; the caller's own worker and the outside
+-- callers are free
 abbrev pub first_place : Shape → Party → Place
 first_place h (Worker p i) =
     if nat_lt i (h.pool p).workers
@@ -21,12 +22,13 @@ first_place h (Worker p i) =
     else Stopped
 first_place h (Caller c) = if nat_lt c h.callers then Free else Stopped
 
--- the start world of a shape: all lists and sets empty, all latches unset, all locks free, each pool's count 1 for its value
+-- the start world of a shape: all lists and sets empty, all latches unset, all locks free, each pool's count 1 for its
+-- value
 abbrev pub start : Shape → World
 start h = record {
   shape = h;
   stack = λ q. record { top = first_place h q; below = [] };
-  seat = λ p i. record { own = []; inactive = false; asleep = false; blocked = false; latch = Unset; lock = None };
+  seat = λ p i. record { own = []; fifo = []; feeder = None; inactive = false; asleep = false; blocked = false; latch = Unset; lock = None };
   pool = λ p. record { injector = []; casts = λ i. []; turn = 0; count = 1; held = true; counted = true };
   call = λ c. new_call None 0;
   job = λ t. record { kind = Direct; pool = 0; at = Nowhere; runs = 0; counted = false };

@@ -6,22 +6,22 @@ use Rattle.rayon_machine_places.specs.declared.place.Party.{Party}
 use Rattle.rayon_machine_places.specs.declared.place.Party.TheVariants.{Worker, Caller}
 use Rattle.rayon_machine_places.specs.declared.place.Ending.{Ending}
 use Rattle.rayon_machine_places.specs.declared.place.JobKind.{JobKind}
-use Rattle.rayon_machine_places.specs.declared.place.JobKind.TheVariants.{Detached, Stored, Direct}
+use Rattle.rayon_machine_places.specs.declared.place.JobKind.TheVariants.{Detached, Stored, Direct, TokenOf}
 use Rattle.rayon_machine_places.specs.declared.place.Plan.{Plan}
-use Rattle.rayon_machine_places.specs.declared.place.Plan.TheVariants.{Detach, Here, Send, Fork}
+use Rattle.rayon_machine_places.specs.declared.place.Plan.TheVariants.{Detach, Here, Send, Fork, Feed}
 use Rattle.rayon_machine_places.specs.declared.place.Share.TheVariants.{PoolValue, OfJob}
 use Rattle.rayon_machine_places.specs.declared.place.Then.TheVariants.{Resume}
 use Rattle.rayon_machine_places.specs.declared.place.Place.{Place}
 use Rattle.rayon_machine_places.specs.declared.place.Place.TheVariants.{PickVictim, StealFrom, YieldPop, YieldPick, YieldSteal, LocalPop, Run, RaiseCount, LowerCount, StoreResult, Stopped}
 use Rattle.rayon_machine_places.specs.declared.place.Move.{Move}
-use Rattle.rayon_machine_places.specs.declared.place.Move.TheVariants.{Stay, Enter, StartRun, Back, HandBack}
+use Rattle.rayon_machine_places.specs.declared.place.Move.TheVariants.{Stay, Enter, StartRun, Back, HandBack, HandIn, Discard}
 use Rattle.rayon_machine_places.specs.declared.act.Act.{Act}
 use Rattle.rayon_machine_places.specs.declared.act.Seen.{Seen}
 use Rattle.rayon_machine_places.specs.declared.act.Seen.TheVariants.{Refused, Missing, Start}
 use Rattle.rayon_machine_places.specs.declared.event.Event.{Event}
-use Rattle.rayon_machine_places.specs.declared.event.Event.TheVariants.{Go, From, Refuse, Miss, End, Spawn, Install, Join, Yield, YieldLocal, EndPool}
+use Rattle.rayon_machine_places.specs.declared.event.Event.TheVariants.{Go, From, Refuse, Miss, End, Spawn, Fifo, Install, Join, Yield, YieldLocal, EndPool}
 use Rattle.rayon_machine_places.specs.declared.state.Letter.TheVariants.{Unset}
-use Rattle.rayon_machine_places.specs.declared.state.Whereabouts.TheVariants.{Nowhere, Made, Over, HandedBack}
+use Rattle.rayon_machine_places.specs.declared.state.Whereabouts.TheVariants.{Nowhere, Made, Over, HandedBack, Spent}
 use Rattle.rayon_machine_places.specs.declared.state.Job.{Job}
 use Rattle.rayon_machine_places.specs.declared.state.Call.{Call}
 use Rattle.rayon_machine_places.specs.Places.{same_party, own_pool, is_member, act_of, next_of, goes_on, is_refusable, is_free}
@@ -53,6 +53,8 @@ after_move (Enter f y) fs = record { top = y; below = f ∷ fs }
 after_move (StartRun f t) fs = record { top = Run t Direct; below = f ∷ fs }
 after_move Back fs = back fs
 after_move (HandBack n) fs = back fs
+after_move (HandIn y k) fs = record { top = y; below = fs }
+after_move (Discard k) fs = back fs
 
 -- the jobs of a refused call are handed back
 abbrev pub handed_back : Plan → (ℕ → Job) → ℕ → Job
@@ -61,10 +63,14 @@ handed_back (Here p t) f = put f t (at_job (f t) HandedBack)
 handed_back (Send o) f = put f o.job (at_job (f o.job) HandedBack)
 handed_back (Fork o a) f = put (put f a (at_job (f a) HandedBack)) o.job (at_job (f o.job) HandedBack)
 
--- the jobs after a move: a run begins, or a refused call's jobs are handed back
+handed_back (Feed d) f = put (put f d.job (at_job (f d.job) HandedBack)) d.token (at_job (f d.token) HandedBack)
+
+-- the jobs after a move: a run begins, a refused call's jobs are handed back, or a token is spent
 abbrev pub jobs_after : Party → Move → (ℕ → Job) → ℕ → Job
 jobs_after q (StartRun f t) g = put g t (begun q (g t))
 jobs_after q (HandBack n) g = handed_back n g
+jobs_after q (HandIn y k) g = put g k (at_job (g k) Spent)
+jobs_after q (Discard k) g = put g k (at_job (g k) Spent)
 jobs_after q _ g = g
 
 -- the world after an act: the part that it touches, the party's stack, and the jobs that its move begins or hands back
@@ -135,6 +141,7 @@ abbrev pub after_close : ℕ → JobKind → Ending → List Place → Stack
 after_close t (Detached p) e fs = record { top = LowerCount p (OfJob t) Resume; below = fs }
 after_close t (Stored c o) e fs = record { top = StoreResult c o e; below = fs }
 after_close t Direct e fs = after_resume fs e
+after_close t (TokenOf i) e fs = after_resume fs e
 
 -- the run on top ends
 abbrev pub after_end : World → Party → Ending → Stack → Place → Option World
@@ -169,6 +176,22 @@ after_spawn w q p s =
       jobs = w.jobs + 1;
     })
     else None
+
+-- a worker of the pool makes a job for its own FIFO list, and a token of it
+abbrev pub after_feed : World → ℕ → ℕ → Stack → World
+after_feed w p i s = record w {
+  stack = put_stack w.stack (Worker p i) (after_call s (RaiseCount (Feed (record { pool = p; job = w.jobs; token = w.jobs + 1 }))));
+  job = put (put w.job w.jobs (new_job (Worker p i) p (Detached p))) (w.jobs + 1) (new_job (Worker p i) p (TokenOf i));
+  jobs = w.jobs + 2;
+}
+
+-- a detached job in order: a worker of the pool adds it to its own FIFO list, others spawn it
+abbrev pub after_fifo : World → Party → ℕ → Stack → Option World
+after_fifo w (Worker r i) p s =
+    if r == p
+    then (if is_free s.top && is_pool w.shape p then Some (after_feed w p i s) else None)
+    else after_spawn w (Worker r i) p s
+after_fifo w (Caller c) p s = after_spawn w (Caller c) p s
 
 -- an install by a worker of the pool, and by others
 abbrev pub after_send : World → Party → ℕ → Stack → Bool → World
@@ -222,6 +245,7 @@ step w (Refuse q) = after_refusal w q (w.stack q)
 step w (Miss q) = after_miss w q (w.stack q) (w.stack q).top
 step w (End q e) = after_end w q e (w.stack q) (w.stack q).top
 step w (Spawn q p) = after_spawn w q p (w.stack q)
+step w (Fifo q p) = after_fifo w q p (w.stack q)
 step w (Install q p) = after_install w q p (w.stack q)
 step w (Join q) = after_join w q (w.stack q)
 step w (Yield q) = after_yield w q (w.stack q) YieldPop

@@ -5,40 +5,49 @@ use Rattle.rayon_machine_places.specs.declared.shape.Order.TheVariants.{NewestFi
 use Rattle.rayon_machine_places.specs.declared.place.Party.{Party}
 use Rattle.rayon_machine_places.specs.declared.place.Party.TheVariants.{Worker}
 use Rattle.rayon_machine_places.specs.declared.place.Ending.{Ending}
+use Rattle.rayon_machine_places.specs.declared.place.JobKind.{JobKind}
+use Rattle.rayon_machine_places.specs.declared.place.JobKind.TheVariants.{TokenOf}
+use Rattle.rayon_machine_places.specs.declared.place.Taken.{Taken}
+use Rattle.rayon_machine_places.specs.declared.place.Taken.TheVariants.{Plain, Token}
 use Rattle.rayon_machine_places.specs.declared.place.Latch.{Latch}
 use Rattle.rayon_machine_places.specs.declared.place.Latch.TheVariants.{Terminate, OfCall}
 use Rattle.rayon_machine_places.specs.declared.place.Share.{Share}
 use Rattle.rayon_machine_places.specs.declared.place.Share.TheVariants.{PoolValue, OfJob}
 use Rattle.rayon_machine_places.specs.declared.place.Place.{Place}
 use Rattle.rayon_machine_places.specs.declared.act.Act.{Act}
-use Rattle.rayon_machine_places.specs.declared.act.Act.TheVariants.{Probe, PopOwn, TakeCast, AddInactive, Pick, Steal, PopInj, Announce, Sleepy, Lock, Asleep, Load, TryAdd, LookCast, LookInj, LookOwn, Block, SubSleeping, Wakeup, Unlock, SubInactive, Wake, Begin, PushInj, PushOwn, News, Set, LockSet, LockWait, Lower, Raise, Grow, Store, Take, Idle}
+use Rattle.rayon_machine_places.specs.declared.act.Act.TheVariants.{Probe, PopOwn, TakeCast, AddInactive, Pick, Steal, PopInj, Announce, Sleepy, Lock, Asleep, Load, TryAdd, LookCast, LookInj, LookOwn, Block, SubSleeping, Wakeup, Unlock, SubInactive, Wake, Begin, PushInj, PushOwn, FifoIn, FifoUndo, FifoOut, News, Set, LockSet, LockWait, Lower, Raise, Grow, Store, Take, Idle}
 use Rattle.rayon_machine_places.specs.declared.act.Seen.{Seen}
-use Rattle.rayon_machine_places.specs.declared.act.Seen.TheVariants.{Done, Refused, Yes, No, Task, Missing, Jec, Word, Start, Wakes, Begun, Found}
+use Rattle.rayon_machine_places.specs.declared.act.Seen.TheVariants.{Done, Refused, Yes, No, Task, Missing, Jec, Word, Start, Wakes, Begun, Found, Handed}
 use Rattle.rayon_machine_places.specs.declared.state.Letter.{Letter}
 use Rattle.rayon_machine_places.specs.declared.state.Letter.TheVariants.{Unset, Sleepy as IsSleepy, Sleeping, Set as IsSet}
 use Rattle.rayon_machine_places.specs.declared.state.Whereabouts.{Whereabouts}
-use Rattle.rayon_machine_places.specs.declared.state.Whereabouts.TheVariants.{InDeque, Injected, Running}
+use Rattle.rayon_machine_places.specs.declared.state.Whereabouts.TheVariants.{InDeque, Injected, InFifo, Retaken, Running}
 use Rattle.rayon_machine_places.specs.declared.shape.PoolShape.{PoolShape}
 use Rattle.rayon_machine_places.specs.declared.state.Job.{Job}
 use Rattle.rayon_machine_places.specs.declared.state.Call.{Call}
 use Rattle.rayon_machine_places.specs.Places.{same_party, own_pool, own_index}
 
--- what is the same in every world of a run: the pools (one without workers is none), the outside callers, and the bits of the event counter
+-- what is the same in every world of a run: the pools (one without workers is none), the outside callers, and the bits
+-- of the event counter
 pub record Shape : Type 0 where
   pub pool : ℕ → PoolShape
   pub callers : ℕ
   pub jec_bits : ℕ
 
--- a worker's own deque, the oldest task first; whether it is in the sets inactive, asleep and blocked; its terminate latch; who holds its sleep lock
+-- a worker's own deque, the oldest task first; its FIFO list of jobs that wait for tokens, the oldest first, and who
+-- holds the list; whether it is in the sets inactive, asleep and blocked; its terminate latch; who holds its sleep lock
 pub record Seat : Type 0 where
   pub own : List ℕ
+  pub fifo : List ℕ
+  pub feeder : Option Party
   pub inactive : Bool
   pub asleep : Bool
   pub blocked : Bool
   pub latch : Letter
   pub lock : Option Party
 
--- a pool's injector, the oldest task first; each worker's broadcast list; the turn, which never wraps; the terminate count; whether the pool's value is held; whether its share is in the count
+-- a pool's injector, the oldest task first; each worker's broadcast list; the turn, which never wraps; the terminate
+-- count; whether the pool's value is held; whether its share is in the count
 pub record Pool : Type 0 where
   pub injector : List ℕ
   pub casts : ℕ → List ℕ
@@ -82,7 +91,8 @@ counts_at w p = record {
 abbrev pub is_even : ℕ → Bool
 is_even n = (n % 2) == 0
 
--- the event counter: the turn modulo 2 to the number of its bits. With one bit or more it is even exactly where the turn is
+-- the event counter: the turn modulo 2 to the number of its bits. With one bit or more it is even exactly where the
+-- turn is
 abbrev pub jec : Shape → ℕ → ℕ
 jec h turn = turn % (2 ^ h.jec_bits)
 
@@ -121,6 +131,7 @@ target_worker q (Unlock p i) = i
 target_worker q (Wake p i) = i
 target_worker q (Set l p i) = i
 target_worker q (Steal p i) = i
+target_worker q (FifoOut k i) = i
 target_worker q _ = own_index q
 
 -- the call of a latch
@@ -184,6 +195,9 @@ abbrev pub target_job : Shape → Party → Act → Pool → Seat → ℕ
 target_job h q (Begin t) v s = t
 target_job h q (PushInj p t) v s = t
 target_job h q (PushOwn t) v s = t
+target_job h q (FifoIn t) v s = t
+target_job h q FifoUndo v s = or_none (last_of s.fifo)
+target_job h q (FifoOut k i) v s = or_none (head_of s.fifo)
 target_job h q (Raise p t) v s = t
 target_job h q (Lower p b) v s = share_job b
 target_job h q PopOwn v s = or_none (own_of (h.pool (own_pool q)).order s.own)
@@ -197,6 +211,9 @@ abbrev pub aimed_job : Act → Option ℕ → ℕ
 aimed_job (Begin t) found = t
 aimed_job (PushInj p t) found = t
 aimed_job (PushOwn t) found = t
+aimed_job (FifoIn t) found = t
+aimed_job FifoUndo found = or_none found
+aimed_job (FifoOut k i) found = or_none found
 aimed_job (Raise p t) found = t
 aimed_job (Lower p b) found = share_job b
 aimed_job PopOwn found = or_none found
@@ -273,18 +290,61 @@ at_job j x = record j { at = x }
 abbrev pub begun : Party → Job → Job
 begun q j = record j { at = Running q; runs = j.runs + 1 }
 
+-- what has this number and is of this kind
+abbrev pub taken_as : ℕ → JobKind → Taken
+taken_as t (TokenOf i) = Token t i
+taken_as t _ = Plain t
+
+-- a token is no job
+abbrev pub is_token : JobKind → Bool
+is_token (TokenOf i) = true
+is_token _ = false
+
+-- a FIFO list is held by no other party
+abbrev pub is_open : Party → Option Party → Bool
+is_open q None = true
+is_open q (Some r) = same_party q r
+
+-- who holds a FIFO list once this party has left it
+abbrev pub left_by : Party → Option Party → Option Party
+left_by q None = None
+left_by q (Some r) = if same_party q r then None else Some r
+
+-- a job is added last to the own FIFO list, which the party holds then
+abbrev pub fifo_in : Party → Part → ℕ → Outcome
+fifo_in q m t =
+    if is_open q m.seat.feeder
+    then Some (Done, record m { seat = record (m.seat) { fifo = m.seat.fifo ++ t ∷ []; feeder = Some q }; job = at_job (m.job) (InFifo (own_pool q) (own_index q)) })
+    else None
+
+-- the job that was added last is taken back, and the list is left
+abbrev pub fifo_back : Party → Part → Option ℕ → Outcome
+fifo_back q m None = Some (Missing, m)
+fifo_back q m (Some t) = Some (Task (Plain t), record m { seat = record (m.seat) { fifo = but_last m.seat.fifo; feeder = None }; job = at_job (m.job) (Retaken q) })
+
+abbrev pub fifo_undo : Party → Part → Outcome
+fifo_undo q m = if is_open q m.seat.feeder then fifo_back q m (last_of m.seat.fifo) else None
+
+-- the first job of a FIFO list begins, if there is one
+abbrev pub fifo_first : Party → Part → List ℕ → Outcome
+fifo_first q m [] = Some (Missing, m)
+fifo_first q m (t ∷ ts) = Some (Handed t m.job.kind, record m { seat = record (m.seat) { fifo = ts }; job = begun q m.job })
+
+abbrev pub fifo_out : Party → Part → Outcome
+fifo_out q m = if is_open q m.seat.feeder then fifo_first q m m.seat.fifo else None
+
 -- a task comes into a party's hand from a deque, from the own broadcast list, or from the injector
 abbrev pub popped : Party → Part → List ℕ → Option ℕ → Outcome
 popped q m rest None = Some (Missing, m)
-popped q m rest (Some t) = Some (Task t, record m { seat = record (m.seat) { own = rest }; job = at_job (m.job) (Running q) })
+popped q m rest (Some t) = Some (Task (taken_as t m.job.kind), record m { seat = record (m.seat) { own = rest }; job = at_job (m.job) (Running q) })
 
 abbrev pub take_cast : Party → Part → List ℕ → Outcome
 take_cast q m [] = Some (Missing, m)
-take_cast q m (t ∷ ts) = Some (Task t, record m { pool = record (m.pool) { casts = λ i. if i == own_index q then ts else m.pool.casts i }; job = at_job (m.job) (Running q) })
+take_cast q m (t ∷ ts) = Some (Task (taken_as t m.job.kind), record m { pool = record (m.pool) { casts = λ i. if i == own_index q then ts else m.pool.casts i }; job = at_job (m.job) (Running q) })
 
 abbrev pub pop_injector : Party → Part → List ℕ → Outcome
 pop_injector q m [] = Some (Missing, m)
-pop_injector q m (t ∷ ts) = Some (Task t, record m { pool = record (m.pool) { injector = ts }; job = at_job (m.job) (Running q) })
+pop_injector q m (t ∷ ts) = Some (Task (taken_as t m.job.kind), record m { pool = record (m.pool) { injector = ts }; job = at_job (m.job) (Running q) })
 
 -- a share is no longer in the count
 abbrev pub lowered : Part → Share → Part
@@ -329,7 +389,10 @@ effect (Wake p i) h q c m =
     else Some (No, m)
 effect (Begin t) h q c m = Some (Begun (m.job.kind), record m { job = begun q m.job })
 effect (PushInj p t) h q c m = Some (Done, record m { pool = record (m.pool) { injector = m.pool.injector ++ t ∷ [] }; job = at_job (m.job) (Injected p) })
-effect (PushOwn t) h q c m = Some (Done, record m { seat = record (m.seat) { own = m.seat.own ++ t ∷ [] }; job = at_job (m.job) (InDeque (own_pool q) (own_index q)) })
+effect (FifoIn t) h q c m = fifo_in q m t
+effect FifoUndo h q c m = fifo_undo q m
+effect (FifoOut k i) h q c m = fifo_out q m
+effect (PushOwn t) h q c m = Some (Done, record m { seat = record (m.seat) { own = m.seat.own ++ t ∷ []; feeder = left_by q m.seat.feeder }; job = at_job (m.job) (InDeque (own_pool q) (own_index q)) })
 effect (News p e) h q c m =
     Some (Wakes (wakes_for_one e c), record m { pool = record (m.pool) { turn = if is_even m.pool.turn then m.pool.turn + 1 else m.pool.turn } })
 effect (Set l p i) h q c m = set_latch l m (letter l m)

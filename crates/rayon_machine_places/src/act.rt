@@ -2,7 +2,7 @@
 ghost use Rattle.std.specs.Prelude.{◌≡◌};
 ghost use Rattle.rayon_machine_places.specs.World.{target_call, target_pool, target_worker, aimed_job};
 
-use crate::place::{Ending, JobKind, Latch, Party, Share};
+use crate::place::{Ending, JobKind, Latch, Party, Share, Taken};
 
 /// What a party does in one step. Pools and workers are named by index, jobs and calls by number.
 #[derive(Clone, Copy)]
@@ -74,8 +74,17 @@ pub enum Act {
         pool: usize,
         job: u64,
     },
-    /// Adds a job last to the own deque.
+    /// Adds a job or a token last to the own deque, and leaves the own FIFO list.
     PushOwn(u64),
+    /// Adds a job last to the own FIFO list, and holds the list until the party's next push or undo.
+    FifoIn(u64),
+    /// Takes the job that was added last back out of the own FIFO list, and leaves the list.
+    FifoUndo,
+    /// Takes the first job of this worker's FIFO list, of the own pool, and begins it for a token.
+    FifoOut {
+        token: u64,
+        worker: usize,
+    },
     /// Raises the turn if it is even, and sees how many to wake.
     News {
         pool: usize,
@@ -126,7 +135,7 @@ pub enum Seen {
     /// No.
     No,
     /// The task that was taken.
-    Task(u64),
+    Task(Taken),
     /// There was nothing to take.
     Missing,
     /// The event counter.
@@ -145,6 +154,11 @@ pub enum Seen {
     Begun(JobKind),
     /// The ending that the cell held.
     Found(Ending),
+    /// The job that was begun for a token, and its kind.
+    Handed {
+        job: u64,
+        kind: JobKind,
+    },
 }
 
 /// What a worker does next.
@@ -190,6 +204,7 @@ impl Act {
             | Act::Wake { worker, .. }
             | Act::Set { worker, .. } => worker,
             Act::Steal { victim, .. } => victim,
+            Act::FifoOut { worker, .. } => worker,
             _ => party.index(),
         }
     }
@@ -216,10 +231,15 @@ impl Act {
         ensures { result ≡ aimed_job self found }
     {
         match self {
-            Act::Begin(job) | Act::PushOwn(job) => job,
+            Act::Begin(job) | Act::PushOwn(job) | Act::FifoIn(job) => job,
             Act::PushInj { job, .. } | Act::Raise { job, .. } => job,
             Act::Lower { share, .. } => share.job(),
-            Act::PopOwn | Act::TakeCast | Act::Steal { .. } | Act::PopInj => match found {
+            Act::PopOwn
+            | Act::TakeCast
+            | Act::Steal { .. }
+            | Act::PopInj
+            | Act::FifoUndo
+            | Act::FifoOut { .. } => match found {
                 Some(task) => task,
                 None => 0,
             },

@@ -17,6 +17,8 @@ pub enum Event {
     End { party: Party, ending: Ending },
     /// The party spawns a detached job at a pool.
     Spawn { party: Party, pool: usize },
+    /// The party spawns a detached job at a pool: a worker of the pool adds it to its own FIFO list.
+    Fifo { party: Party, pool: usize },
     /// The party installs a job at a pool, and waits for it.
     Install { party: Party, pool: usize },
     /// A worker joins two sides.

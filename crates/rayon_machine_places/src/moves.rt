@@ -2,10 +2,11 @@
 ghost use Rattle.std.specs.Prelude.{◌≡◌, Some, ◌+◌};
 ghost use Rattle.rayon_machine_places.specs.Groups.{group_of};
 ghost use Rattle.rayon_machine_places.specs.declared.place.Party.{Party as AnyParty};
-ghost use Rattle.rayon_machine_places.specs.declared.table.Group.TheVariants.{Busy, Searching, Dozing, Rising, Joining, Yielding, Calling, Waking, Closing};
-ghost use Rattle.rayon_machine_places.specs.Places.{own_index, own_pool, after_found, awaits, after_failure, finish, fresh, after_news, goes_on, after_wait, next_of, next_steal, next_victim, next_yield, not_self, after_raise, set_call, settle, after_set, undo, walk};
+ghost use Rattle.rayon_machine_places.specs.declared.table.Group.TheVariants.{Busy, Searching, Dozing, Rising, Joining, Yielding, Calling, InOrder, Waking, Closing};
+ghost use Rattle.rayon_machine_places.specs.Places.{own_index, own_pool, after_begin, after_found, awaits, after_failure, finish, fresh, after_news, goes_on, after_wait, next_of, next_steal, next_victim, next_yield, not_self, after_raise, set_call, settle, after_set, taken_back, undo, walk};
 ghost use Rattle.rayon_machine_places.specs.declared.shape.PoolShape.{PoolShape as AnyShape};
 ghost use Rattle.rayon_machine_places.specs.declared.place.Move.TheVariants.{Stay, Enter};
+ghost use Rattle.rayon_machine_places.specs.declared.place.Plan.TheVariants.{Detach};
 ghost use Rattle.rayon_machine_places.specs.declared.place.Target.TheVariants.{Answer};
 ghost use Rattle.rayon_machine_places.specs.declared.place.Ending.TheVariants.{Fine};
 ghost use Rattle.rayon_machine_places.specs.declared.act.Seen.TheVariants.{Task, Start};
@@ -16,8 +17,8 @@ ghost use Rattle.rayon_machine_places.specs.declared.place.Then.TheVariants.{Ans
 
 use crate::act::Seen;
 use crate::place::{
-    Ending, JobKind, Latch, Move, OpenCall, Party, Place, Plan, Rounds, Settling, Share, Target,
-    Then, Wait, Walk,
+    Ending, Feeding, JobKind, Latch, Move, OpenCall, Party, Place, Plan, Rounds, Settling, Share,
+    Taken, Target, Then, Wait, Walk,
 };
 use crate::shape::PoolShape;
 use crate::table::Group;
@@ -49,7 +50,7 @@ impl Target {
     }
 
     /// What follows a search that found this, once others are woken.
-    fn after_search(self, found: Option<u64>) -> Then
+    fn after_search(self, found: Option<Taken>) -> Then
         ensures { result ≡ after_found self found }
     {
         match found {
@@ -59,7 +60,7 @@ impl Target {
     }
 
     /// Begins a task that a waiting worker has found in a queue of its own.
-    fn begin(self, task: u64) -> Move
+    fn begin(self, task: Taken) -> Move
         ensures { result ≡ Enter (ProbeWorking (fresh self)) (BeginTask task) }
     {
         Move::Enter {
@@ -82,7 +83,7 @@ impl Wait {
     }
 
     /// The worker leaves its search with what it has found.
-    fn leaving(self, found: Option<u64>) -> Place
+    fn leaving(self, found: Option<Taken>) -> Place
         ensures { result ≡ LeaveSearch (record self { found = found }) }
     {
         Place::LeaveSearch(Wait { found, ..self })
@@ -111,7 +112,7 @@ impl OpenCall {
     }
 
     /// A join begins a task that it has found meanwhile.
-    fn begin(self, task: u64) -> Move
+    fn begin(self, task: Taken) -> Move
         ensures { result ≡ Enter (JoinProbe self) (BeginTask task) }
     {
         Move::Enter {
@@ -121,12 +122,12 @@ impl OpenCall {
     }
 
     /// A join begins its own second side, which it has found meanwhile.
-    fn begin_second(self, task: u64) -> Move
-        ensures { result ≡ Enter (SecondSide self) (BeginHere task) }
+    fn begin_second(self) -> Move
+        ensures { result ≡ Enter (SecondSide self) (BeginHere self.job) }
     {
         Move::Enter {
             frame: Place::SecondSide(self),
-            place: Place::BeginHere(task),
+            place: Place::BeginHere(self.job),
         }
     }
 
@@ -232,6 +233,50 @@ impl Then {
     }
 }
 
+impl Taken {
+    /// Where a party goes that begins this: to the run of the job, or of the job that it got for the token. A token
+    /// that got none is spent all the same.
+    fn begun(self, seen: Seen) -> Move
+        ensures { result ≡ after_begin self seen }
+    {
+        match (self, seen) {
+            (Taken::Plain(job), Seen::Begun(kind)) => Move::Stay(Place::Run { job, kind }),
+            (Taken::Token { number, .. }, Seen::Handed { job, kind }) => Move::HandIn {
+                place: Place::Run { job, kind },
+                token: number,
+            },
+            (Taken::Token { number, .. }, _) => Move::Discard(number),
+            _ => Move::Stay(Place::BeginTask(self)),
+        }
+    }
+}
+
+impl Feeding {
+    /// Where a refused call goes once it has taken the job back that was added last. If there was none, only its token
+    /// is left to hand back.
+    fn taken_back(self, seen: Seen) -> Move
+        ensures { result ≡ taken_back self seen }
+    {
+        match seen {
+            Seen::Task(task) => {
+                let job = task.number();
+                Move::Stay(Plan::Feed(Feeding { job, ..self }).undo())
+            }
+            _ => Move::HandBack(self.only_token()),
+        }
+    }
+
+    /// The call once its job is queued: only the token is left.
+    fn only_token(self) -> Plan
+        ensures { result ≡ Detach self.pool self.token }
+    {
+        Plan::Detach {
+            pool: self.pool,
+            job: self.token,
+        }
+    }
+}
+
 impl Plan {
     /// What the call does once it has queued its job and woken others.
     fn after_news(self) -> Then
@@ -241,6 +286,7 @@ impl Plan {
             Plan::Detach { .. } | Plan::Here { .. } => Then::Resume,
             Plan::Send(call) => Then::Await(call),
             Plan::Fork { call, first } => Then::RunFirst { call, first },
+            Plan::Feed(feeding) => Then::GiveBack(feeding.only_token()),
         }
     }
 
@@ -255,6 +301,7 @@ impl Plan {
                 place: Place::BeginHere(job),
             },
             Plan::Send(_) | Plan::Fork { .. } => Move::Stay(Place::GrowCall(self)),
+            Plan::Feed(feeding) => Move::Stay(Place::AddToFifo(feeding)),
         }
     }
 
@@ -434,6 +481,7 @@ impl Place {
             Group::Joining => self.next_joining(seen),
             Group::Yielding => self.next_yielding(party, shape, seen),
             Group::Calling => self.next_calling(party, shape, seen),
+            Group::InOrder => self.next_feeding(seen),
             Group::Waking => self.next_waking(party, shape, seen),
             Group::Closing => self.next_closing(party, shape, seen),
             Group::Resting => Move::Stay(self),
@@ -570,7 +618,7 @@ impl Place {
                 _ => Move::Stay(Place::JoinPop(call)),
             },
             Place::JoinPop(call) => match seen {
-                Seen::Task(task) if task == call.job => call.begin_second(task),
+                Seen::Task(task) if task.is_job(call.job) => call.begin_second(),
                 Seen::Task(task) => call.begin(task),
                 _ => Move::Stay(Place::JoinTakeCast(call)),
             },
@@ -606,7 +654,7 @@ impl Place {
     }
 
     /// A yield begins the task that it has found. The choice of a victim finds none.
-    fn found_in_yield(self, task: u64) -> Place
+    fn found_in_yield(self, task: Taken) -> Place
         ensures { (h : AnyShape) (q : AnyParty) → group_of self ≡ Yielding → Stay result ≡ next_of h q self (Task task) }
     {
         match self {
@@ -620,7 +668,7 @@ impl Place {
         ensures { group_of self ≡ Calling → result ≡ next_of shape party self seen }
     {
         match (self, seen) {
-            (Place::BeginTask(job), Seen::Begun(kind)) => Move::Stay(Place::Run { job, kind }),
+            (Place::BeginTask(task), _) => task.begun(seen),
             (Place::BeginHere(job), _) => Move::Stay(Place::Run {
                 job,
                 kind: JobKind::Direct,
@@ -647,6 +695,31 @@ impl Place {
                 owed,
                 plan.after_news(),
             ),
+            _ => Move::Stay(self),
+        }
+    }
+
+    /// The moves of a party that adds a job to its FIFO list, and queues a token of it.
+    fn next_feeding(self, seen: Seen) -> Move
+        ensures { (h : AnyShape) (q : AnyParty) → group_of self ≡ InOrder → result ≡ next_of h q self seen }
+    {
+        match (self, seen) {
+            (Place::AddToFifo(feeding), Seen::Done) => Move::Stay(Place::LookForToken(feeding)),
+            (Place::AddToFifo(feeding), _) => Move::Stay(Plan::Feed(feeding).undo()),
+            (Place::LookForToken(feeding), Seen::Yes) => Move::Stay(Place::PushToken {
+                feeding,
+                was_empty: true,
+            }),
+            (Place::LookForToken(feeding), _) => Move::Stay(Place::PushToken {
+                feeding,
+                was_empty: false,
+            }),
+            (Place::PushToken { feeding, was_empty }, Seen::Done) => Move::Stay(Place::TellNews {
+                plan: feeding.only_token(),
+                was_empty,
+            }),
+            (Place::PushToken { feeding, .. }, _) => Move::Stay(Place::TakeFromFifo(feeding)),
+            (Place::TakeFromFifo(feeding), _) => feeding.taken_back(seen),
             _ => Move::Stay(self),
         }
     }

@@ -1,7 +1,7 @@
 //! Places: where a party stands, which is what it does next and what it keeps until then.
 ghost use Rattle.std.specs.Prelude.{◌≡◌};
-ghost use Rattle.rayon_machine_places.specs.World.{is_own, call_of, share_job};
-ghost use Rattle.rayon_machine_places.specs.Places.{same_party, is_member};
+ghost use Rattle.rayon_machine_places.specs.World.{is_own, call_of, share_job, taken_as, is_token};
+ghost use Rattle.rayon_machine_places.specs.Places.{same_party, is_member, is_taken, taken_number};
 
 /// A worker of a pool, or an outside caller.
 #[derive(Clone, Copy, Debug, PartialEq, Eq)]
@@ -30,6 +30,17 @@ pub enum JobKind {
     Stored { call: u64, owner: Party },
     /// The call below it on the stack goes on.
     Direct,
+    /// It has no run: it is a token of this worker's FIFO list, in its pool.
+    TokenOf(usize),
+}
+
+/// What is taken from a list. Both have a number, and in lists stand the numbers alone.
+#[derive(Clone, Copy)]
+pub enum Taken {
+    /// A job.
+    Plain(u64),
+    /// A token of the FIFO list of this worker: who has it begins the first job of that list.
+    Token { number: u64, worker: usize },
 }
 
 /// A call that waits for a job: the call's number, the pool that it keeps from ending, and the job.
@@ -89,7 +100,7 @@ pub struct Wait {
     /// The victim to steal from.
     pub victim: usize,
     /// The task that the search has found.
-    pub found: Option<u64>,
+    pub found: Option<Taken>,
 }
 
 /// A call that has begun.
@@ -103,6 +114,19 @@ pub enum Plan {
     Send(OpenCall),
     /// Two sides are joined: the call waits for the second, and runs this first one.
     Fork { call: OpenCall, first: u64 },
+    /// A detached job is added to the party's own FIFO list, and then a token of it is queued.
+    Feed(Feeding),
+}
+
+/// A detached job for a FIFO list, and the token that is queued for it.
+#[derive(Clone, Copy)]
+pub struct Feeding {
+    /// The pool.
+    pub pool: usize,
+    /// The number of the job.
+    pub job: u64,
+    /// The number of the token.
+    pub token: u64,
 }
 
 /// A share of a terminate count.
@@ -120,7 +144,7 @@ pub enum Then {
     /// The found task is begun, and the wait goes on after it.
     BeginFound {
         target: Target,
-        task: u64,
+        task: Taken,
     },
     /// The wait is over.
     LeaveWait(Target),
@@ -257,8 +281,8 @@ pub enum Place {
     LocalPop,
     /// Looks in its own broadcast list.
     LocalTakeCast,
-    /// Begins a task.
-    BeginTask(u64),
+    /// Begins a task: a job, or with a token the first job of a FIFO list.
+    BeginTask(Taken),
     /// Begins a job whose end its call below goes on from.
     BeginHere(u64),
     /// Runs a job.
@@ -277,6 +301,17 @@ pub enum Place {
         plan: Plan,
         was_empty: bool,
     },
+    /// Adds its job to the party's own FIFO list.
+    AddToFifo(Feeding),
+    /// Looks whether the queue is empty.
+    LookForToken(Feeding),
+    /// Queues the token.
+    PushToken {
+        feeding: Feeding,
+        was_empty: bool,
+    },
+    /// A refused call takes its job back out of the FIFO list.
+    TakeFromFifo(Feeding),
     /// Tells the sleepers' counters of it.
     TellNews {
         plan: Plan,
@@ -348,6 +383,54 @@ pub enum Move {
     Back,
     /// Back to the frame below, with the jobs of the refused call handed back.
     HandBack(Plan),
+    /// To a place, with this token spent.
+    HandIn { place: Place, token: u64 },
+    /// Back to the frame below, with this token spent on nothing.
+    Discard(u64),
+}
+
+impl Taken {
+    /// The number of what was taken.
+    pub fn number(self) -> u64
+        ensures { result ≡ taken_number self }
+    {
+        match self {
+            Taken::Plain(job) => job,
+            Taken::Token { number, .. } => number,
+        }
+    }
+
+    /// Whether it is this job.
+    pub fn is_job(self, job: u64) -> bool
+        ensures { result ≡ is_taken self job }
+    {
+        match self {
+            Taken::Plain(taken) => taken == job,
+            Taken::Token { .. } => false,
+        }
+    }
+}
+
+impl JobKind {
+    /// What has this number and is of this kind.
+    pub fn taken(self, number: u64) -> Taken
+        ensures { result ≡ taken_as number self }
+    {
+        match self {
+            JobKind::TokenOf(worker) => Taken::Token { number, worker },
+            _ => Taken::Plain(number),
+        }
+    }
+
+    /// Whether it is a token.
+    pub fn is_token(self) -> bool
+        ensures { result ≡ is_token self }
+    {
+        match self {
+            JobKind::TokenOf(_) => true,
+            _ => false,
+        }
+    }
 }
 
 impl Party {

@@ -1,7 +1,7 @@
 //! What a world keeps of each latch, call and job.
 ghost use Rattle.std.specs.Prelude.{◌≡◌, ◌<◌};
 ghost use Rattle.rayon_machine_places.specs.World.{begun as begun_by};
-ghost use Rattle.rayon_machine_places.specs.Readers.{is_done, is_queued, is_running};
+ghost use Rattle.rayon_machine_places.specs.Readers.{is_done, is_job_that, is_queued, is_running};
 ghost use Rattle.rayon_machine_places.specs.Steps.{new_call, blank_job, new_job};
 
 use crate::place::{Ending, JobKind, Party};
@@ -30,15 +30,21 @@ pub enum Whereabouts {
     InDeque { pool: usize, worker: usize },
     /// In this pool's injector.
     Injected(usize),
+    /// In this worker's FIFO list.
+    InFifo { pool: usize, worker: usize },
     /// Taken or begun by this party, and not ended.
     Running(Party),
     /// Its run has ended.
     Over(Ending),
+    /// With the party whose call was refused, which has taken it back out of its FIFO list.
+    Retaken(Party),
     /// Its call was refused.
     HandedBack,
+    /// Of a token: it was given for a job, or found none.
+    Spent,
 }
 
-/// A job.
+/// A job, or a token.
 #[derive(Clone, Copy)]
 pub struct Job {
     /// What the end of its run sets going.
@@ -67,12 +73,13 @@ pub struct Call {
 }
 
 impl Whereabouts {
-    /// Whether the job stands in a deque or an injector.
+    /// Whether the job stands in a deque, in an injector or in a FIFO list.
     pub fn queues(self) -> bool
         ensures { result ≡ is_queued self }
     {
         match self {
             Whereabouts::InDeque { .. } | Whereabouts::Injected(_) => true,
+            Whereabouts::InFifo { .. } => true,
             _ => false,
         }
     }
@@ -123,6 +130,30 @@ impl Job {
             runs: 0,
             counted: false,
         }
+    }
+
+    /// Whether it is a job in a deque, an injector or a FIFO list.
+    #[tactic(auto, unfolding(crate::specs::Readers::is_job_that))]
+    pub fn is_queued(self) -> bool
+        ensures { result ≡ is_job_that is_queued self }
+    {
+        !self.kind.is_token() && self.at.queues()
+    }
+
+    /// Whether it is a job that is taken or begun, and not ended.
+    #[tactic(auto, unfolding(crate::specs::Readers::is_job_that))]
+    pub fn is_running(self) -> bool
+        ensures { result ≡ is_job_that is_running self }
+    {
+        !self.kind.is_token() && self.at.runs()
+    }
+
+    /// Whether it is a job whose run has ended.
+    #[tactic(auto, unfolding(crate::specs::Readers::is_job_that))]
+    pub fn is_done(self) -> bool
+        ensures { result ≡ is_job_that is_done self }
+    {
+        !self.kind.is_token() && self.at.is_over()
     }
 
     /// The job in the hands of this party.

@@ -1,15 +1,15 @@
 //! The table of places in parts, and the acts at the places of each part.
 ghost use Rattle.std.specs.Prelude.{ℕ, true, ◌≡◌};
-ghost use Rattle.rayon_machine_places.specs.Places.{act_of, is_free, is_pick, is_refusable, is_rest, latch_of, look_act, plan_call, plan_job, plan_pool, push_act, victim_of};
+ghost use Rattle.rayon_machine_places.specs.Places.{act_of, is_free, is_pick, is_refusable, is_rest, latch_of, begin_act, look_act, plan_call, plan_job, plan_pool, push_act, victim_of};
 ghost use Rattle.rayon_machine_places.specs.Groups.{group_of};
 ghost use Rattle.rayon_machine_places.specs.declared.place.Party.{Party as AnyParty};
 ghost use Rattle.rayon_machine_places.specs.declared.place.Party.TheVariants.{Worker};
 ghost use Rattle.rayon_machine_places.specs.declared.act.Act.TheVariants.{Idle};
-ghost use Rattle.rayon_machine_places.specs.declared.table.Group.TheVariants.{Busy, Searching, Dozing, Rising, Joining, Yielding, Calling, Waking, Closing};
+ghost use Rattle.rayon_machine_places.specs.declared.table.Group.TheVariants.{Busy, Searching, Dozing, Rising, Joining, Yielding, Calling, InOrder, Waking, Closing};
 ghost use Rattle.rayon_machine_places.specs.Readers.{next_at};
 
 use crate::act::{Act, Next};
-use crate::place::{Latch, Party, Place, Plan, Target};
+use crate::place::{Latch, Party, Place, Plan, Taken, Target};
 
 /// The parts of the table of places.
 #[derive(Clone, Copy)]
@@ -28,6 +28,8 @@ pub(crate) enum Group {
     Yielding,
     /// Beginning a run or a call.
     Calling,
+    /// A call with a FIFO list.
+    InOrder,
     /// Waking workers.
     Waking,
     /// The end of a run or of a call.
@@ -55,6 +57,7 @@ impl Plan {
     {
         match self {
             Plan::Detach { pool, .. } | Plan::Here { pool, .. } => pool,
+            Plan::Feed(feeding) => feeding.pool,
             Plan::Send(call) | Plan::Fork { call, .. } => call.pool,
         }
     }
@@ -65,6 +68,7 @@ impl Plan {
     {
         match self {
             Plan::Detach { job, .. } | Plan::Here { job, .. } => job,
+            Plan::Feed(feeding) => feeding.job,
             Plan::Send(call) | Plan::Fork { call, .. } => call.job,
         }
     }
@@ -74,10 +78,11 @@ impl Plan {
         ensures { result ≡ plan_call self }
     {
         match self {
-            Plan::Detach { .. } | Plan::Here { .. } => 0,
             Plan::Send(call) | Plan::Fork { call, .. } => call.number,
+            _ => 0,
         }
     }
+
 }
 
 /// Looks at a pool's queue: its workers look at their own deques, others at the injector.
@@ -97,6 +102,19 @@ fn push(party: Party, pool: usize, job: u64) -> Act
     match party {
         Party::Worker { pool: own, .. } if own == pool => Act::PushOwn(job),
         _ => Act::PushInj { pool, job },
+    }
+}
+
+/// Begins what was taken.
+fn begin(task: Taken) -> Act
+    ensures { result ≡ begin_act task }
+{
+    match task {
+        Taken::Plain(job) => Act::Begin(job),
+        Taken::Token { number, worker } => Act::FifoOut {
+            token: number,
+            worker,
+        },
     }
 }
 
@@ -127,6 +145,8 @@ impl Place {
             Place::YieldPopInjected | Place::LocalPop | Place::LocalTakeCast => Group::Yielding,
             Place::BeginTask(_) | Place::BeginHere(_) | Place::RaiseCount(_) | Place::GrowCall(_) =>
                 Group::Calling,
+            Place::AddToFifo(_) | Place::TakeFromFifo(_) => Group::InOrder,
+            Place::LookForToken(_) | Place::PushToken { .. } => Group::InOrder,
             Place::LookQueue(_) | Place::PushJob { .. } | Place::TellNews { .. } => Group::Calling,
             Place::LockToWake(_) | Place::WakeWorker(_) | Place::UnlockWoken(_) => Group::Waking,
             Place::WaitForLock(_) | Place::TakeResult { .. } | Place::LowerCount { .. } =>
@@ -141,7 +161,7 @@ impl Place {
 
     /// Whether no party has an act at the place: a run, a frame below a run, a free party, or one that has stopped. At
     /// every other place each worker has an act. Where a call or a wake is made, or a run or a call ends, an outside
-    /// caller has one too; it never stands in a wait for work, in a join or in a yield.
+    /// caller has one too; it never stands in a wait for work, in a join, in a yield or in a call with a FIFO list.
     pub fn rests(self) -> bool
         ensures rest { result ≡ is_rest self }
         ensures none { (q : AnyParty) → result ≡ true → act_of q self ≡ Idle }
@@ -153,8 +173,8 @@ impl Place {
         }
     }
 
-    /// The act of this party at the place. Only workers stand in waits, joins and yields; where there is no act, it is
-    /// `Idle`.
+    /// The act of this party at the place. Only workers stand in waits, joins and yields, and have FIFO lists; where
+    /// there is no act, it is `Idle`.
     pub fn act(self, party: Party) -> Act
         ensures { result ≡ act_of party self }
     {
@@ -169,6 +189,7 @@ impl Place {
                 pool, index,
             ),
             (Group::Calling, _) => self.calling_act(party),
+            (Group::InOrder, Party::Worker { .. }) => self.feeding_act(),
             (Group::Waking, _) => self.waking_act(),
             (Group::Closing, _) => self.closing_act(),
             _ => Act::Idle,
@@ -249,7 +270,8 @@ impl Place {
         ensures calling { group_of self ≡ Calling → result ≡ act_of party self }
     {
         match self {
-            Place::BeginTask(job) | Place::BeginHere(job) => Act::Begin(job),
+            Place::BeginTask(task) => begin(task),
+            Place::BeginHere(job) => Act::Begin(job),
             Place::RaiseCount(plan) => Act::Raise {
                 pool: plan.pool(),
                 job: plan.job(),
@@ -261,6 +283,19 @@ impl Place {
                 pool: plan.pool(),
                 was_empty,
             },
+            _ => Act::Idle,
+        }
+    }
+
+    /// The act of a worker that adds a job to its FIFO list.
+    fn feeding_act(self) -> Act
+        ensures feeding { (p i : ℕ) → group_of self ≡ InOrder → result ≡ act_of (Worker p i) self }
+    {
+        match self {
+            Place::AddToFifo(feeding) => Act::FifoIn(feeding.job),
+            Place::LookForToken(_) => Act::LookOwn,
+            Place::PushToken { feeding, .. } => Act::PushOwn(feeding.token),
+            Place::TakeFromFifo(_) => Act::FifoUndo,
             _ => Act::Idle,
         }
     }
@@ -329,13 +364,14 @@ impl Place {
         }
     }
 
-    /// Whether the next act can be refused for want of room: where a call grows and where a job is
-    /// pushed.
+    /// Whether the next act can be refused for want of room: where a call grows, where a job is pushed, and where
+    /// one is added to a FIFO list.
     pub fn refusable(self) -> bool
         ensures { result ≡ is_refusable self }
     {
         match self {
             Place::GrowCall(_) | Place::PushJob { .. } => true,
+            Place::AddToFifo(_) | Place::PushToken { .. } => true,
             _ => false,
         }
     }

@@ -1,23 +1,24 @@
 -- the steps in which a call begins or a run ends
 use Rattle.std.proofs.Common.{◌≡◌, ℕ, true, false, sym, ◌∙◌, ap}
-use Rattle.std.specs.Prelude.{Option, Some, ◌+◌}
+use Rattle.std.specs.Prelude.{Option, Some, None, ◌&&◌, ◌+◌, ◌==◌, if◌then◌else◌}
+use Rattle.std.proofs.lemmas.Bool.{eqb-true}
 use Rattle.rayon_machine_places.specs.declared.place.Party.{Party}
 use Rattle.rayon_machine_places.specs.declared.place.Party.TheVariants.{Worker}
 use Rattle.rayon_machine_places.specs.declared.place.Ending.{Ending}
 use Rattle.rayon_machine_places.specs.declared.place.JobKind.{JobKind}
-use Rattle.rayon_machine_places.specs.declared.place.JobKind.TheVariants.{Detached, Direct, Stored}
+use Rattle.rayon_machine_places.specs.declared.place.JobKind.TheVariants.{Detached, Direct, Stored, TokenOf}
 use Rattle.rayon_machine_places.specs.declared.place.Place.{Place}
 use Rattle.rayon_machine_places.specs.declared.place.Place.TheVariants.{LowerCount, Run}
 use Rattle.rayon_machine_places.specs.declared.place.Move.TheVariants.{Enter}
-use Rattle.rayon_machine_places.specs.declared.place.Plan.TheVariants.{Detach, Fork, Here, Send}
+use Rattle.rayon_machine_places.specs.declared.place.Plan.TheVariants.{Detach, Feed, Fork, Here, Send}
 use Rattle.rayon_machine_places.specs.declared.place.Share.TheVariants.{PoolValue}
 use Rattle.rayon_machine_places.specs.declared.place.Then.TheVariants.{Resume}
 use Rattle.rayon_machine_places.specs.declared.state.Job.{Job}
 use Rattle.rayon_machine_places.specs.declared.state.Whereabouts.TheVariants.{Over}
 use Rattle.rayon_machine_places.specs.Places.{is_free, is_member}
 use Rattle.rayon_machine_places.specs.World.{World, at_job}
-use Rattle.rayon_machine_places.specs.Steps.{after_close, after_end, after_end_pool, after_install, is_pool, after_join, new_job, put, put_stack, after_spawn, after_move}
-use Rattle.rayon_machine_world.specs.Running.{after_open_join, after_open_job, after_open_call}
+use Rattle.rayon_machine_places.specs.Steps.{after_close, after_end, after_end_pool, after_feed, after_fifo, after_install, is_pool, after_join, new_job, put, put_stack, after_spawn, after_move}
+use Rattle.rayon_machine_world.specs.Running.{after_open_feed, after_open_join, after_open_job, after_open_call, after_own_fifo}
 
 pub spawned-is : (w : World) (q : Party) (p : ℕ) (x : Place) (job : Job) → x ≡ (w.stack q).top → is_free x ≡ true → is_pool w.shape p ≡ true → job ≡ new_job q p (Detached p) → after_spawn w q p (w.stack q) ≡ Some (after_open_job w q x (Detach p w.jobs) job)
 spawned-is w q p x job ex f k ej =
@@ -48,6 +49,21 @@ joined-is w p i x first second ex f ea eb =
     let with_first : Job → Option World = λ j. Some (after_open_join w (Worker p i) x plan j (new_job (Worker p i) p (Stored w.calls (Worker p i)))) in
     let with_second : Job → Option World = λ j. Some (after_open_join w (Worker p i) x plan first j) in
     rw free (ap to (sym ex) ∙ ap with_first (sym ea) ∙ ap with_second (sym eb))
+
+pub fed-is : (w : World) (p i : ℕ) (x : Place) (job token : Job) → x ≡ (w.stack (Worker p i)).top → is_free x ≡ true → is_pool w.shape p ≡ true → job ≡ new_job (Worker p i) p (Detached p) → token ≡ new_job (Worker p i) p (TokenOf i) → after_own_fifo w p i ≡ Some (after_open_feed w (Worker p i) x (Feed (record { pool = p; job = w.jobs; token = w.jobs + 1 })) job token)
+fed-is w p i x job token ex f k ea eb =
+    let free : is_free (w.stack (Worker p i)).top ≡ true = ap is_free (sym ex) ∙ f in
+    let plan = Feed (record { pool = p; job = w.jobs; token = w.jobs + 1 }) in
+    let to : Place → Option World = λ y. Some (after_open_feed w (Worker p i) y plan (new_job (Worker p i) p (Detached p)) (new_job (Worker p i) p (TokenOf i))) in
+    let with_job : Job → Option World = λ j. Some (after_open_feed w (Worker p i) x plan j (new_job (Worker p i) p (TokenOf i))) in
+    let with_token : Job → Option World = λ j. Some (after_open_feed w (Worker p i) x plan job j) in
+    rw (free, k) (ap to (sym ex) ∙ ap with_job (sym ea) ∙ ap with_token (sym eb))
+
+-- a worker's FIFO spawn at its own pool, and at another
+pub own-fifo-is : (w : World) (q : Party) (p r i : ℕ) → q ≡ Worker r i → (r == p) ≡ true → after_fifo w q p (w.stack q) ≡ after_own_fifo w p i
+own-fifo-is w q p r i e z =
+    let same : r ≡ p = eqb-true r p z in
+    ap (λ n. after_fifo w n p (w.stack n)) e ∙ rw z (ap (λ n. if is_free (w.stack (Worker n i)).top && is_pool w.shape p then Some (after_feed w p i (w.stack (Worker n i))) else None) same)
 
 pub given-is : (w : World) (q : Party) (p : ℕ) (x : Place) → x ≡ (w.stack q).top → is_free x ≡ true → is_pool w.shape p ≡ true → (w.pool p).held ≡ true → after_end_pool w q p (w.stack q) ≡ Some (record w { stack = put_stack w.stack q (after_move (Enter x (LowerCount p PoolValue Resume)) (w.stack q).below); pool = put w.pool p (record (w.pool p) { held = false }) })
 given-is w q p x ex f k h =

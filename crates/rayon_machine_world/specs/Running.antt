@@ -1,8 +1,9 @@
 -- what a running world stands for, and what its steps leave
-use Rattle.std.specs.Prelude.{ℕ, ◌+◌, Option, Some, None, Result, ◌≡◌, IfErr, OnErr, OnOk}
+use Rattle.std.specs.Prelude.{ℕ, ◌&&◌, ◌+◌, if◌then◌else◌, Option, Some, None, Result, ◌≡◌, IfErr, OnErr, OnOk}
 use Rattle.rayon_machine_places.specs.declared.error.StepError.{StepError}
 use Rattle.rayon_machine_places.specs.declared.error.StepError.TheVariants.{NotEnabled, NoRoom}
 use Rattle.rayon_machine_places.specs.declared.place.Party.{Party}
+use Rattle.rayon_machine_places.specs.declared.place.Party.TheVariants.{Worker}
 use Rattle.rayon_machine_places.specs.declared.place.Place.{Place}
 use Rattle.rayon_machine_places.specs.declared.place.Place.TheVariants.{RaiseCount}
 use Rattle.rayon_machine_places.specs.declared.place.Move.{Move}
@@ -11,8 +12,8 @@ use Rattle.rayon_machine_places.specs.declared.place.Plan.{Plan}
 use Rattle.rayon_machine_places.specs.declared.state.Job.{Job}
 use Rattle.rayon_machine_parts.specs.declared.deed.Deed.{Deed}
 use Rattle.rayon_machine_world.specs.declared.world.World.{World as StoredWorld}
-use Rattle.rayon_machine_places.specs.Places.{own_index}
-use Rattle.rayon_machine_places.specs.Steps.{jobs_after, new_call, put, put_seat, put_stack, after_move}
+use Rattle.rayon_machine_places.specs.Places.{is_free, own_index}
+use Rattle.rayon_machine_places.specs.Steps.{after_feed, is_pool, jobs_after, new_call, put, put_seat, put_stack, after_move}
 use Rattle.rayon_machine_places.specs.World.{World}
 use Rattle.rayon_machine_parts.specs.State.{call_at, job_at, pool_at, pool_queued, seat_at, seat_queued, shape_of, stack_in, with_flags, with_numbers}
 
@@ -29,14 +30,16 @@ world_of w = record {
   jobs = w.jobs;
 }
 
--- what a step answers and leaves, where the relation says this of its event: the relation's next world; not enabled exactly where it has none; no room only where it has one. A refusal leaves the world
+-- what a step answers and leaves, where the relation says this of its event: the relation's next world; not enabled
+-- exactly where it has none; no room only where it has one. A refusal leaves the world
 pub record IsStepOf (next : Option World) (r : Result (Unit {0}) StepError) (w u : World) : Type 0 where
   pub ok : OnOk r (next ≡ Some u)
   pub not_enabled : IfErr r (λ e. e ≡ NotEnabled → next ≡ None)
   pub enabled : IfErr r (λ e. e ≡ NoRoom → ¬ (next ≡ None))
   pub err : OnErr r (u ≡ w)
 
--- what a step that is enabled answers and leaves, where this is the world after it: only room can be wanting, and a refusal leaves the world
+-- what a step that is enabled answers and leaves, where this is the world after it: only room can be wanting, and a
+-- refusal leaves the world
 pub record IsMade (next : World) (r : Result (Unit {0}) StepError) (w u : World) : Type 0 where
   pub ok : OnOk r (u ≡ next)
   pub no_room : IfErr r (λ e. e ≡ NoRoom)
@@ -62,6 +65,18 @@ after_open_join w q frame plan first second = record w {
   jobs = w.jobs + 2;
   calls = w.calls + 1;
 }
+
+-- a call of a job and its token has begun, above this frame
+abbrev pub after_open_feed : World → Party → Place → Plan → Job → Job → World
+after_open_feed w q frame plan job token = record w {
+  stack = put_stack w.stack q (after_move (Enter frame (RaiseCount plan)) (w.stack q).below);
+  job = put (put w.job w.jobs job) (w.jobs + 1) token;
+  jobs = w.jobs + 2;
+}
+
+-- the world after a worker has begun a call for its own FIFO list
+abbrev pub after_own_fifo : World → ℕ → ℕ → Option World
+after_own_fifo w p i = if is_free (w.stack (Worker p i)).top && is_pool w.shape p then Some (after_feed w p i (w.stack (Worker p i))) else None
 
 -- a call of one job has begun, above this frame
 abbrev pub after_open_job : World → Party → Place → Plan → Job → World

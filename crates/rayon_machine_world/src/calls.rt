@@ -1,7 +1,7 @@
 //! The steps in which a call begins or a run ends.
 ghost use Rattle.std.specs.Prelude.{◌≡◌, OnOk, false, IfErr, None, OnErr, Some};
-ghost use Rattle.rayon_machine_places.specs.Steps.{put, after_move, put_stack, after_close, after_end, after_end_pool, after_install, after_join, after_spawn};
-ghost use Rattle.rayon_machine_world.specs.Running.{IsMade, IsStepOf, world_of, after_open_join, after_open_job, after_open_call};
+ghost use Rattle.rayon_machine_places.specs.Steps.{put, after_move, put_stack, after_close, after_end, after_end_pool, after_fifo, after_install, after_join, after_spawn};
+ghost use Rattle.rayon_machine_world.specs.Running.{IsMade, IsStepOf, world_of, after_open_feed, after_open_join, after_open_job, after_open_call, after_own_fifo};
 ghost use Rattle.rayon_machine_places.specs.World.{at_job};
 ghost use Rattle.rayon_machine_places.specs.declared.place.Move.TheVariants.{Enter};
 ghost use Rattle.rayon_machine_places.specs.declared.place.Place.TheVariants.{LowerCount};
@@ -15,7 +15,7 @@ use rayon_machine_parts::growth::{grow_calls, grow_jobs, grow_pools};
 use rayon_machine_parts::writes::{release, write_call, write_job, write_jobs};
 use rayon_machine_places::error::StepError;
 use rayon_machine_places::place::{
-    Ending, JobKind, Move, OpenCall, Party, Place, Plan, Share, Then,
+    Ending, Feeding, JobKind, Move, OpenCall, Party, Place, Plan, Share, Then,
 };
 use rayon_machine_places::state::{Call, Job, Whereabouts};
 
@@ -99,6 +99,66 @@ impl World {
             plan,
             Job::made(party, pool, JobKind::Detached(pool)),
         )
+    }
+
+    /// A party spawns a detached job in order: a worker of the pool adds it to its own FIFO list.
+    pub(crate) fn fifo(&mut self, party: Party, pool: usize) -> Result<(), StepError>
+        ensures { IsStepOf (after_fifo (world_of self.old) party pool ((world_of self.old).stack party)) result (world_of self.old) (world_of self.new) }
+    {
+        match party {
+            Party::Worker { pool: own, index } if own == pool => self.feed(pool, index),
+            _ => self.spawn(party, pool),
+        }
+    }
+
+    /// A worker makes a job for its own FIFO list, and a token of it.
+    fn feed(&mut self, pool: usize, index: usize) -> Result<(), StepError>
+        ensures { IsStepOf (after_own_fifo (world_of self.old) pool index) result (world_of self.old) (world_of self.new) }
+    {
+        let party = Party::Worker { pool, index };
+        let frame = self.parties.top(&self.shapes, party);
+        if !frame.can_call() || !self.shapes.has_pool(pool) {
+            return Err(StepError::NotEnabled);
+        }
+        if self.jobs == u64::MAX {
+            return Err(StepError::NoRoom);
+        }
+        let plan = Plan::Feed(Feeding {
+            pool,
+            job: self.jobs,
+            token: self.jobs + 1,
+        });
+        let job = Job::made(party, pool, JobKind::Detached(pool));
+        let token = Job::made(party, pool, JobKind::TokenOf(index));
+        self.open_feed(party, frame, plan, job, token)
+    }
+
+    /// A call of a job and its token begins.
+    fn open_feed(
+        &mut self,
+        party: Party,
+        frame: Place,
+        plan: Plan,
+        job: Job,
+        token: Job,
+    ) -> Result<(), StepError>
+        ensures { IsMade (after_open_feed (world_of self.old) party frame plan job token) result (world_of self.old) (world_of self.new) }
+    {
+        if self.jobs >= u64::MAX - 1 {
+            return Err(StepError::NoRoom);
+        }
+        grow_jobs(&mut self.parts.jobs, (self.jobs + 1) as usize)?;
+        self.parties.make_room(self.alloc, &self.shapes, party)?;
+        write_jobs(&mut self.parts.jobs, self.jobs, job, token);
+        self.parties.turn(
+            party,
+            Move::Enter {
+                frame,
+                place: Place::RaiseCount(plan),
+            },
+        );
+        self.jobs += 2;
+        Ok(())
     }
 
     /// A party installs a job.

@@ -27,6 +27,7 @@ impl World {
             Event::Miss(party) => self.miss(party),
             Event::End { party, ending } => self.end(party, ending),
             Event::Spawn { party, pool } => self.spawn(party, pool),
+            Event::Fifo { party, pool } => self.fifo(party, pool),
             Event::Install { party, pool } => self.install(party, pool),
             Event::Join(party) => self.join(party),
             Event::Yield(party) => self.give_way(party, Place::YieldPop),

@@ -1,5 +1,7 @@
 -- The looks that run nothing, act by act: what was taken so far, and where the table leads.
 use Rattle.std.proofs.Common.{◌≡◌, inl, inr, ℕ, ◌-◌, ◌==◌, ◌≤◌, ◌++◌, [], ◌∷◌, List, ◌∙◌, Bool, true, false, if◌then◌else◌, Option, None, Some, MatchOption, slice_get, refl, sym, subst, ap, arith}
+use Rattle.rayon_machine_places.specs.declared.place.Taken.{Taken}
+use Rattle.rayon_machine_places.specs.declared.place.Taken.TheVariants.{Plain, Token}
 use Rattle.rayon_machine_places.specs.declared.place.Party.{Party}
 use Rattle.rayon_machine_places.specs.declared.place.Party.TheVariants.{Worker}
 use Rattle.rayon_machine_places.specs.declared.place.Place.{Place}
@@ -24,7 +26,7 @@ use Rattle.rayon_performers.proofs.Stretches.{So, so_far, by_act}
 
 -- no task was seen
 abbrev pub NoTask : Seen → Type 0
-NoTask x = (n : ℕ) → x ≡ Task n → ⊥
+NoTask x = (n : Taken) → x ≡ Task n → ⊥
 
 local_goes : (h : PoolShape) (q : Party) (x : Seen) → NoTask x → next_of h q at.LocalPop x ≡ Stay at.LocalTakeCast
 local_goes h q (Task n) k = absurd (k n refl)
@@ -61,12 +63,13 @@ module _ {X G O F : Type 0} (s t u : Hands X G O F) where
 
 module _ {X G O F : Type 0} (h : PoolShape) (i : ℕ) (m : Move) (s u v : Hands X G O F) where
   -- the task that was found is given out of the hands
-  pub given : (n : ℕ) (r : Option (TaskOf X)) → r ≡ u.task → v ≡ record u { task = None } → HasTask u.task (Some n) → So h i m s (Stay (at.BeginTask n)) u → MatchOption r (So h i m s Back v) (λ t. So h i m s (Stay (at.BeginTask t.ticket.number)) (record v { task = Some t }))
+  pub given : (n : Taken) (r : Option (TaskOf X)) → r ≡ u.task → v ≡ record u { task = None } → HasTask u.task (Some n) → So h i m s (Stay (at.BeginTask n)) u → MatchOption r (So h i m s Back v) (λ t. So h i m s (Stay (at.BeginTask (Plain t.ticket.number))) (record v { task = Some t }))
   given n None e f k d = absurd (subst (λ (z : Option (TaskOf X)). HasTask z (Some n)) (sym e) k)
-  given n (Some t) e f k d =
-      let is : t.ticket.number ≡ n = subst (λ (z : Option (TaskOf X)). HasTask z (Some n)) (sym e) k in
+  given (Token n j) (Some t) e f k d = absurd (subst (λ (z : Option (TaskOf X)). HasTask z (Some (Token n j))) (sym e) k)
+  given (Plain n) (Some t) e f k d =
+      let is : t.ticket.number ≡ n = subst (λ (z : Option (TaskOf X)). HasTask z (Some (Plain n))) (sym e) k in
       let same : u ≡ record v { task = Some t } = subst (λ (z : Hands X G O F). u ≡ record z { task = Some t }) (sym f) (ap (λ (z : Option (TaskOf X)). record u { task = z }) (sym e)) in
-      subst (λ (z : Hands X G O F). So h i m s (Stay (at.BeginTask t.ticket.number)) z) same (subst (λ (z : ℕ). So h i m s (Stay (at.BeginTask z)) u) (sym is) d)
+      subst (λ (z : Hands X G O F). So h i m s (Stay (at.BeginTask (Plain t.ticket.number))) z) same (subst (λ (z : ℕ). So h i m s (Stay (at.BeginTask (Plain z))) u) (sym is) d)
 
 module _ {X G O F : Type 0} (h : PoolShape) (i n : ℕ) (s t u : Hands X G O F) where
   -- the own deque is looked at before the push
@@ -184,16 +187,16 @@ module _ {X G O F : Type 0} where
   yield_on h i s u v _ _ l a d = absurd l
 
   -- where it goes on nothing was taken
-  pub still_looks : (s u : Hands X G O F) (y : Place) → ((n : ℕ) → y ≡ at.BeginTask n → ⊥) → Looking s u (Stay y) → Missed s u × IsYield y
+  pub still_looks : (s u : Hands X G O F) (y : Place) → ((n : Taken) → y ≡ at.BeginTask n → ⊥) → Looking s u (Stay y) → Missed s u × IsYield y
   still_looks s u (at.BeginTask n) k a = absurd (k n refl)
   still_looks s u _ k a = a
 
   -- what was found is given out of the hands
-  pub given_found : (s u v : Hands X G O F) (n : ℕ) (r : Option (TaskOf X)) → r ≡ u.task → v ≡ record u { task = None } → Looking s u (Stay (at.BeginTask n)) → MatchOption r (Kept s v) (λ t. Found t s v)
+  pub given_found : (s u v : Hands X G O F) (n : Taken) (r : Option (TaskOf X)) → r ≡ u.task → v ≡ record u { task = None } → Looking s u (Stay (at.BeginTask n)) → MatchOption r (Kept s v) (λ t. Found t s v)
   given_found s u v n None e f k = absurd (subst (λ (z : Option (TaskOf X)). HasTask z (Some n)) (sym e) k.0)
   given_found s u v n (Some t) e f k = subst (λ (z : Hands X G O F). Found t s z) (sym f) (subst (λ (z : Option (TaskOf X)). HasFound z s u) (sym e) k.1)
 
-  pub given_left : (s u v : Hands X G O F) (n : ℕ) (r : Option (TaskOf X)) → r ≡ u.task → v ≡ record u { task = None } → Looking s u (Stay (at.BeginTask n)) → MatchOption r (v ≡ record s { own = v.own; thief = v.thief; trace = v.trace }) (λ _. v ≡ record s { own = v.own; inlet = v.inlet; thief = v.thief; task = None; trace = v.trace })
+  pub given_left : (s u v : Hands X G O F) (n : Taken) (r : Option (TaskOf X)) → r ≡ u.task → v ≡ record u { task = None } → Looking s u (Stay (at.BeginTask n)) → MatchOption r (v ≡ record s { own = v.own; thief = v.thief; trace = v.trace }) (λ _. v ≡ record s { own = v.own; inlet = v.inlet; thief = v.thief; task = None; trace = v.trace })
   given_left s u v n None e f k = absurd (subst (λ (z : Option (TaskOf X)). HasTask z (Some n)) (sym e) k.0)
   given_left s u v n (Some t) e f k = subst (λ (z : Hands X G O F). z ≡ record s { own = z.own; inlet = z.inlet; thief = z.thief; task = None; trace = z.trace }) (sym f) (ap (λ (z : Hands X G O F). record z { task = None }) k.2)
 

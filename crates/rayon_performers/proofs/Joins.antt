@@ -1,6 +1,7 @@
 -- A join that does not find its own second side finds another task, or ends as the wait for the thief's answer does.
 use Rattle.std.proofs.Common.{◌≡◌, inl, inr, ℕ, Bool, true, false, ◌==◌, if◌then◌else◌, Some, refl, sym, ap, true≢false}
 use Rattle.std.proofs.lemmas.Bool.{eqb-true}
+use Rattle.rayon_machine_places.specs.declared.place.Taken.TheVariants.{Plain, Token}
 use Rattle.rayon_machine_places.specs.declared.place.Ending.TheVariants.{Fine}
 use Rattle.rayon_machine_places.specs.declared.place.Party.TheVariants.{Worker}
 use Rattle.rayon_machine_places.specs.declared.place.Target.TheVariants.{Answer}
@@ -8,7 +9,7 @@ use Rattle.rayon_machine_places.specs.declared.place.OpenCall.{OpenCall}
 use Rattle.rayon_machine_places.specs.declared.place.Place.{Place}
 use Rattle.rayon_machine_places.specs.declared.place.Place.TheVariants as at
 use Rattle.rayon_machine_places.specs.declared.place.Move.{Move}
-use Rattle.rayon_machine_places.specs.declared.place.Move.TheVariants.{Stay, Enter, StartRun, Back, HandBack}
+use Rattle.rayon_machine_places.specs.declared.place.Move.TheVariants.{Stay, Enter, StartRun, Back, HandBack, HandIn, Discard}
 use Rattle.rayon_machine_places.specs.declared.act.Seen.{Seen}
 use Rattle.rayon_machine_places.specs.declared.act.Seen.TheVariants.{Task}
 use Rattle.rayon_machine_places.specs.declared.shape.PoolShape.{PoolShape}
@@ -32,6 +33,8 @@ wait_joins o (Enter f p) a = (inr a.0, a.1)
 wait_joins o Back a = tt
 wait_joins o (StartRun f n) a = absurd a
 wait_joins o (HandBack n) a = absurd a
+wait_joins o (HandIn p n) a = absurd a
+wait_joins o (Discard n) a = absurd a
 
 join_on : (o : OpenCall) (h : PoolShape) (i : ℕ) (y : Place) (x : Seen) → InJoin o (Stay y) → InJoin o (next_of h (Worker 0 i) y x)
 join_on o h i (at.JoinTakeCast p) (Task t) a = (inl (ap at.JoinProbe a), tt)
@@ -45,6 +48,8 @@ join_stopped o (Enter f p) a e = a
 join_stopped o Back a e = tt
 join_stopped o (StartRun f n) a e = absurd a
 join_stopped o (HandBack n) a e = absurd a
+join_stopped o (HandIn p n) a e = absurd a
+join_stopped o (Discard n) a e = absurd a
 
 module _ {X G O F : Type 0} where
   -- a drive from there ends so
@@ -57,12 +62,15 @@ module _ {X G O F : Type 0} where
       keeps v w (StartRun f y) x go b e = absurd (true≢false (sym go))
       keeps v w Back x go b e = absurd (true≢false (sym go))
       keeps v w (HandBack y) x go b e = absurd (true≢false (sym go))
+      keeps v w (HandIn p y) x go b e = absurd (true≢false (sym go))
+      keeps v w (Discard y) x go b e = absurd (true≢false (sym go))
 
 -- what a pop that was not the own second side leads to
-pub popped_joins : (h : PoolShape) (i : ℕ) (o : OpenCall) (x : Seen) → (x ≡ Task o.job → ⊥) → InJoin o (next_of h (Worker 0 i) (at.JoinPop o) x)
-popped_joins h i o (Task t) n = by (t == o.job) refl
+pub popped_joins : (h : PoolShape) (i : ℕ) (o : OpenCall) (x : Seen) → (x ≡ Task (Plain o.job) → ⊥) → InJoin o (next_of h (Worker 0 i) (at.JoinPop o) x)
+popped_joins h i o (Task (Token k j)) n = (inl refl, tt)
+popped_joins h i o (Task (Plain t)) n = by (t == o.job) refl
   where
-    by : (z : Bool) → (t == o.job) ≡ z → InJoin o (if z then Enter (at.SecondSide o) (at.BeginHere t) else Enter (at.JoinProbe o) (at.BeginTask t))
-    by true e = absurd (n (ap Task (eqb-true t o.job e)))
+    by : (z : Bool) → (t == o.job) ≡ z → InJoin o (if z then Enter (at.SecondSide o) (at.BeginHere o.job) else Enter (at.JoinProbe o) (at.BeginTask (Plain t)))
+    by true e = absurd (n (ap (λ (z : ℕ). Task (Plain z)) (eqb-true t o.job e)))
     by false e = (inl refl, tt)
 popped_joins h i o _ n = refl

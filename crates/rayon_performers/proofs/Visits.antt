@@ -10,7 +10,7 @@ use Rattle.rayon_machine_places.specs.declared.place.Then.TheVariants.{Resume, A
 use Rattle.rayon_machine_places.specs.declared.place.Place.{Place}
 use Rattle.rayon_machine_places.specs.declared.place.Place.TheVariants as at
 use Rattle.rayon_machine_places.specs.declared.place.Move.{Move}
-use Rattle.rayon_machine_places.specs.declared.place.Move.TheVariants.{Stay, Enter, StartRun, Back, HandBack}
+use Rattle.rayon_machine_places.specs.declared.place.Move.TheVariants.{Stay, Enter, StartRun, Back, HandBack, HandIn, Discard}
 use Rattle.rayon_machine_places.specs.declared.act.Seen.{Seen}
 use Rattle.rayon_machine_places.specs.declared.act.Seen.TheVariants.{Done, Yes, Missing, Wakes, Found}
 use Rattle.rayon_machine_places.specs.declared.shape.PoolShape.{PoolShape}
@@ -117,6 +117,8 @@ module _ {X G O F : Type 0} where
   stopped : (u : Visit X G O F) (n : Move) → Stands u n → goes n ≡ false → (end_of n ≡ n) × (u.holds ≡ false)
   stopped u Back a g = (refl, a)
   stopped u (HandBack n) a g = (refl, a)
+  stopped u (HandIn p n) a g = absurd a
+  stopped u (Discard n) a g = absurd a
   stopped u (Enter f p) a g = absurd a
   stopped u (StartRun f n) a g = absurd a
   stopped u (Stay (at.TellNews n e)) a g = absurd (true≢false g)
@@ -146,6 +148,8 @@ module _ {X G O F : Type 0} where
       keeps v w (StartRun f z) x go b e = absurd (true≢false (sym go))
       keeps v w Back x go b e = absurd (true≢false (sym go))
       keeps v w (HandBack z) x go b e = absurd (true≢false (sym go))
+      keeps v w (HandIn p z) x go b e = absurd (true≢false (sym go))
+      keeps v w (Discard z) x go b e = absurd (true≢false (sym go))
 
   -- the tickets of a call are made, of one job or of two sides
   pub grown_one : (n : ℕ) (u v : Visit X G O F) → v ≡ record u { call = Some (ticket_of n); first = None; trace = v.trace } → Grows n Done u v

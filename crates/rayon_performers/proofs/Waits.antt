@@ -1,5 +1,6 @@
 -- A wait ends with a task that begins above it, or with what it waits for.
 use Rattle.std.proofs.Common.{◌≡◌, ℕ, ◌+◌, ◌-◌, Bool, true, false, nat_lt, ◌==◌, ◌&&◌, if◌then◌else◌, Option, None, Some, refl, sym, subst, true≢false}
+use Rattle.rayon_machine_places.specs.declared.place.Taken.{Taken}
 use Rattle.rayon_machine_places.specs.declared.place.Party.TheVariants.{Worker}
 use Rattle.rayon_machine_places.specs.declared.place.Latch.{Latch}
 use Rattle.rayon_machine_places.specs.declared.place.Latch.TheVariants.{Terminate, OfCall}
@@ -14,7 +15,7 @@ use Rattle.rayon_machine_places.specs.declared.place.Settling.{Settling}
 use Rattle.rayon_machine_places.specs.declared.place.Place.{Place}
 use Rattle.rayon_machine_places.specs.declared.place.Place.TheVariants as at
 use Rattle.rayon_machine_places.specs.declared.place.Move.{Move}
-use Rattle.rayon_machine_places.specs.declared.place.Move.TheVariants.{Stay, Enter, StartRun, Back, HandBack}
+use Rattle.rayon_machine_places.specs.declared.place.Move.TheVariants.{Stay, Enter, StartRun, Back, HandBack, HandIn, Discard}
 use Rattle.rayon_machine_places.specs.declared.act.Seen.{Seen}
 use Rattle.rayon_machine_places.specs.declared.act.Seen.TheVariants.{Done, Yes, Task, Jec, Word, Start, Wakes, Found}
 use Rattle.rayon_machine_places.specs.declared.shape.PoolShape.{PoolShape}
@@ -80,7 +81,7 @@ left_in : (g : Target) → InWait g (Stay (after_wait g))
 left_in Termination = tt
 left_in (Answer o f) = tt
 
-begun_in : (k g : Target) (t : ℕ) → k ≡ g → InWait g (Enter (at.ProbeWorking (fresh k)) (at.BeginTask t))
+begun_in : (k g : Target) (t : Taken) → k ≡ g → InWait g (Enter (at.ProbeWorking (fresh k)) (at.BeginTask t))
 begun_in k g t e = subst (λ (z : Target). InWait g (Enter (at.ProbeWorking (fresh z)) (at.BeginTask t))) (sym e) (refl, tt)
 
 finish_in : (g : Target) (i : ℕ) (t : Then) → After g t → InWait g (finish (Worker 0 i) t)
@@ -110,7 +111,7 @@ set_in : (g : Target) (h : PoolShape) (i : ℕ) (s : Settling) (l : Latch) → A
 set_in g h i s Terminate a = settle_in g h i s.pool (s.worker + 1) s.then a
 set_in g h i s (OfCall c) a = finish_in g i s.then a
 
-found_in : (g k : Target) (f : Option ℕ) → k ≡ g → After g (after_found k f)
+found_in : (g k : Target) (f : Option Taken) → k ≡ g → After g (after_found k f)
 found_in g k None e = e
 found_in g k (Some t) e = e
 
@@ -233,6 +234,8 @@ stopped (Answer o f) Back a e = tt
 stopped Termination Back a e = absurd a
 stopped g (StartRun f n) a e = absurd a
 stopped g (HandBack n) a e = absurd a
+stopped g (HandIn p n) a e = absurd a
+stopped g (Discard n) a e = absurd a
 
 module _ {X G O F : Type 0} where
   -- a drive that begins a wait ends as waits do
@@ -245,3 +248,5 @@ module _ {X G O F : Type 0} where
       keeps v w (StartRun f y) x go b e = absurd (true≢false (sym go))
       keeps v w Back x go b e = absurd (true≢false (sym go))
       keeps v w (HandBack y) x go b e = absurd (true≢false (sym go))
+      keeps v w (HandIn p y) x go b e = absurd (true≢false (sym go))
+      keeps v w (Discard y) x go b e = absurd (true≢false (sym go))

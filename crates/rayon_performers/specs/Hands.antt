@@ -5,6 +5,8 @@ use Rattle.rayon_machine_places.specs.declared.place.JobKind.{JobKind}
 use Rattle.rayon_machine_places.specs.declared.place.JobKind.TheVariants.{Stored, Direct}
 use Rattle.rayon_machine_places.specs.declared.place.Latch.{Latch}
 use Rattle.rayon_machine_places.specs.declared.place.Latch.TheVariants.{Terminate, OfCall}
+use Rattle.rayon_machine_places.specs.declared.place.Taken.{Taken}
+use Rattle.rayon_machine_places.specs.declared.place.Taken.TheVariants.{Plain, Token}
 use Rattle.rayon_machine_places.specs.declared.shape.PoolShape.{PoolShape}
 use Rattle.rayon_machine_places.specs.declared.act.Act.{Act}
 use Rattle.rayon_machine_places.specs.declared.act.Act.TheVariants as acts
@@ -17,9 +19,10 @@ use Rattle.rayon_tasks.specs.Tasks.{TaskOf}
 use Rattle.rayon_tasks.specs.Tickets.{TicketOf}
 use Rattle.rayon_jobs.specs.Within.{Run}
 
--- what a worker has at hand: its index in the pool, the pool's shape and deques; its own deque, its pass of the injector and
--- its last pass of another's deque; the task that was taken and is not begun; the ticket of its call, the one to answer, the
--- result to store or that was found; whether the latch that it looked at last was set; the units of the terminate count that its calls hold; and what it did
+-- what a worker has at hand: its index in the pool, the pool's shape and deques; its own deque, its pass of the
+-- injector and its last pass of another's deque; the task that was taken and is not begun; the ticket of its call, the
+-- one to answer, the result to store or that was found; whether the latch that it looked at last was set; the units of
+-- the terminate count that its calls hold; and what it did
 pub record Hands (X G O F : Type 0) : Type 0 where
   pub index : ℕ
   pub shape : PoolShape
@@ -52,11 +55,12 @@ HasTicket None (Some n) = ⊥
 HasTicket (Some u) (Some n) = u.number ≡ n
 
 module _ {X : Type 0} where
-  -- the task of this name is in hand
-  abbrev pub HasTask : Option (TaskOf X) → Option ℕ → Type 0
+  -- the task of this name is in hand; no worker has a token yet
+  abbrev pub HasTask : Option (TaskOf X) → Option Taken → Type 0
   HasTask k None = Unit {0}
   HasTask None (Some n) = ⊥
-  HasTask (Some x) (Some n) = x.ticket.number ≡ n
+  HasTask (Some x) (Some (Plain n)) = x.ticket.number ≡ n
+  HasTask (Some x) (Some (Token n i)) = ⊥
 
   -- the task stands last in what the own pass has taken, from the end that the deque's order says
   abbrev pub PoppedFrom : Deque (TaskOf X) → Option (TaskOf X) → Deque (TaskOf X) → Type 0
@@ -73,8 +77,8 @@ module _ {X : Type 0} where
   StolenBy (Some d) (Some x) (Some p) = p ≡ thief d (x ∷ [])
   StolenBy d x p = ⊥
 
-  -- what the end of a run sets going: of a task that was taken, its result is stored for its call; of a job that was in no
-  -- queue the call itself goes on
+  -- what the end of a run sets going: of a task that was taken, its result is stored for its call; of a job that was in
+  -- no queue the call itself goes on
   abbrev pub kind_of : Option (TaskOf X) → JobKind
   kind_of None = Direct
   kind_of (Some x) = Stored x.ticket.number x.ticket.owner
@@ -97,7 +101,10 @@ module _ {X G O F : Type 0} where
   Needs (acts.Store c e) s = HasTicket s.reply (Some c) × HasResult s.done (Some e)
   Needs (acts.Set l p i) s = HasTicket s.reply (call_latch l)
   Needs (acts.LockSet c) s = HasTicket s.reply (Some c)
-  Needs (acts.Begin n) s = HasTask s.task (Some n)
+  Needs (acts.Begin n) s = HasTask s.task (Some (Plain n))
+  Needs (acts.FifoIn n) s = ⊥
+  Needs acts.FifoUndo s = ⊥
+  Needs (acts.FifoOut n i) s = ⊥
   Needs (acts.PushOwn n) s = ⊥
   Needs (acts.PushInj p n) s = ⊥
   Needs (acts.Grow c) s = ⊥
@@ -163,7 +170,8 @@ module _ {X G O F : Type 0} where
   abbrev pub Lowers : Hands X G O F → Hands X G O F → Type 0
   Lowers s t = t ≡ record s { holds = s.holds - 1; trace = t.trace }
 
-  -- a task is pushed onto the own deque: it stands last in what the own pass has pushed; or it was refused and nothing was added
+  -- a task is pushed onto the own deque: it stands last in what the own pass has pushed; or it was refused and nothing
+  -- was added
   abbrev pub Queues : ℕ → Seen → Hands X G O F → Hands X G O F → Type 0
   Queues n Done s t = (x : TaskOf X) × Pushed s.own x t.own × SameDeque s.own t.own × (t ≡ record s { own = t.own; trace = t.trace })
   Queues n _ s t = Looks s t

@@ -1,6 +1,7 @@
 -- At each place a worker has at hand what the act there asks, and after it what belongs to where the table leads.
 use Rattle.std.specs.Prelude.{◌≡◌, ℕ, ◌+◌, ◌-◌, ◌==◌, nat_lt, ◌&&◌, if◌then◌else◌, Bool, true, false, Option, None, Some}
 use Rattle.std.proofs.Common.{refl, sym, subst, ap, true≢false}
+use Rattle.std.proofs.lemmas.Bool.{eqb-true}
 use Rattle.rayon_machine_places.specs.declared.place.Party.{Party}
 use Rattle.rayon_machine_places.specs.declared.place.Party.TheVariants.{Worker, Caller}
 use Rattle.rayon_machine_places.specs.declared.place.Ending.{Ending}
@@ -8,6 +9,7 @@ use Rattle.rayon_machine_places.specs.declared.place.Latch.{Latch}
 use Rattle.rayon_machine_places.specs.declared.place.Latch.TheVariants.{Terminate, OfCall}
 use Rattle.rayon_machine_places.specs.declared.place.Target.{Target}
 use Rattle.rayon_machine_places.specs.declared.place.Target.TheVariants.{Termination, Answer}
+use Rattle.rayon_machine_places.specs.declared.place.OpenCall.{OpenCall}
 use Rattle.rayon_machine_places.specs.declared.place.Rounds.{Rounds}
 use Rattle.rayon_machine_places.specs.declared.place.Rounds.TheVariants.{Failed, Announced}
 use Rattle.rayon_machine_places.specs.declared.place.Then.{Then}
@@ -16,52 +18,61 @@ use Rattle.rayon_machine_places.specs.declared.place.Wait.{Wait}
 use Rattle.rayon_machine_places.specs.declared.place.Settling.{Settling}
 use Rattle.rayon_machine_places.specs.declared.place.Place.{Place}
 use Rattle.rayon_machine_places.specs.declared.place.Place.TheVariants as at
+use Rattle.rayon_machine_places.specs.declared.place.Taken.{Taken}
+use Rattle.rayon_machine_places.specs.declared.place.Taken.TheVariants.{Plain, Token}
 use Rattle.rayon_machine_places.specs.declared.place.Move.{Move}
 use Rattle.rayon_machine_places.specs.declared.place.Move.TheVariants.{Stay, Enter}
 use Rattle.rayon_machine_places.specs.declared.act.Seen.{Seen}
 use Rattle.rayon_machine_places.specs.declared.act.Seen.TheVariants.{Done, Yes, Task, Missing, Jec, Word, Start, Wakes, Begun, Found}
 use Rattle.rayon_machine_places.specs.declared.shape.PoolShape.{PoolShape}
-use Rattle.rayon_machine_places.specs.Places.{latch_of, act_of, next_of, after_wait, finish, walk, settle, after_set, after_found, after_failure, set_call, next_victim, not_self, is_rest}
+use Rattle.rayon_machine_places.specs.Places.{latch_of, act_of, next_of, after_wait, finish, walk, settle, after_set, after_found, is_taken, after_failure, set_call, next_victim, not_self, is_rest}
+use Rattle.rayon_tasks.specs.Tasks.{TaskOf}
 use Rattle.rayon_tasks.specs.Tickets.{TicketOf}
-use Rattle.rayon_performers.specs.Hands.{Hands, HasTicket, Needs, Does, Same, Looks, Pops, PopsInjected, Steals, call_latch}
+use Rattle.rayon_performers.specs.Hands.{Hands, HasTask, HasTicket, Needs, Does, Same, Looks, Pops, PopsInjected, Steals, call_latch}
 use Rattle.rayon_performers.specs.Stands.{IsWorker, StandsAt, Stands, call_to, call_then, task_then, leaves}
+
+module _ {X : Type 0} where
+  -- a token is no task that a worker has
+  no_token : (t : Option (TaskOf X)) (k i : ℕ) → HasTask t (Some (Token k i)) → ⊥
+  no_token None k i a = a
+  no_token (Some x) k i a = a
 
 module _ {X G O F : Type 0} where
   -- what is in hand is in hand of an equal
-  via : (v u : Hands X G O F) (t c r : Option ℕ) (e : Option Ending) (z : Bool) → v ≡ u → StandsAt u t c r e z → StandsAt v t c r e z
+  via : (v u : Hands X G O F) (t : Option Taken) (c r : Option ℕ) (e : Option Ending) (z : Bool) → v ≡ u → StandsAt u t c r e z → StandsAt v t c r e z
   via v u t c r e z d a = subst (λ (x : Hands X G O F). StandsAt x t c r e z) (sym d) a
 
-  same : (u v : Hands X G O F) (t c r : Option ℕ) (e : Option Ending) (z : Bool) → Same u v → StandsAt u t c r e z → StandsAt v t c r e z
+  same : (u v : Hands X G O F) (t : Option Taken) (c r : Option ℕ) (e : Option Ending) (z : Bool) → Same u v → StandsAt u t c r e z → StandsAt v t c r e z
   same u v t c r e z d a = via v _ t c r e z d (record { task = a.task; call = a.call; reply = a.reply; done = a.done; probed = a.probed })
 
-  looked : (u v : Hands X G O F) (t c r : Option ℕ) (e : Option Ending) (z : Bool) → Looks u v → StandsAt u t c r e z → StandsAt v t c r e z
+  looked : (u v : Hands X G O F) (t : Option Taken) (c r : Option ℕ) (e : Option Ending) (z : Bool) → Looks u v → StandsAt u t c r e z → StandsAt v t c r e z
   looked u v t c r e z d a = via v _ t c r e z d.2 (record { task = a.task; call = a.call; reply = a.reply; done = a.done; probed = a.probed })
 
   -- the latch was not set
-  unset : (u v : Hands X G O F) (t c r : Option ℕ) (e : Option Ending) → v ≡ record u { probed = false; trace = v.trace } → StandsAt u t c r e false → StandsAt v t c r e false
+  unset : (u v : Hands X G O F) (t : Option Taken) (c r : Option ℕ) (e : Option Ending) → v ≡ record u { probed = false; trace = v.trace } → StandsAt u t c r e false → StandsAt v t c r e false
   unset u v t c r e d a = via v _ t c r e false d (record { task = a.task; call = a.call; reply = a.reply; done = a.done; probed = tt })
 
   -- it was
-  set : (u v : Hands X G O F) (t c r : Option ℕ) (e : Option Ending) → v ≡ record u { probed = true; trace = v.trace } → StandsAt u t c r e false → StandsAt v t c r e true
+  set : (u v : Hands X G O F) (t : Option Taken) (c r : Option ℕ) (e : Option Ending) → v ≡ record u { probed = true; trace = v.trace } → StandsAt u t c r e false → StandsAt v t c r e true
   set u v t c r e d a = via v _ t c r e true d (record { task = a.task; call = a.call; reply = a.reply; done = a.done; probed = refl })
 
-  missed : (u v : Hands X G O F) (t c r : Option ℕ) (e : Option Ending) (z : Bool) → v ≡ record u { thief = v.thief; trace = v.trace } → StandsAt u t c r e z → StandsAt v t c r e z
+  missed : (u v : Hands X G O F) (t : Option Taken) (c r : Option ℕ) (e : Option Ending) (z : Bool) → v ≡ record u { thief = v.thief; trace = v.trace } → StandsAt u t c r e z → StandsAt v t c r e z
   missed u v t c r e z d a = via v _ t c r e z d (record { task = a.task; call = a.call; reply = a.reply; done = a.done; probed = a.probed })
 
-  lowered : (u v : Hands X G O F) (t c r : Option ℕ) (e : Option Ending) (z : Bool) → v ≡ record u { holds = u.holds - 1; trace = v.trace } → StandsAt u t c r e z → StandsAt v t c r e z
+  lowered : (u v : Hands X G O F) (t : Option Taken) (c r : Option ℕ) (e : Option Ending) (z : Bool) → v ≡ record u { holds = u.holds - 1; trace = v.trace } → StandsAt u t c r e z → StandsAt v t c r e z
   lowered u v t c r e z d a = via v _ t c r e z d (record { task = a.task; call = a.call; reply = a.reply; done = a.done; probed = a.probed })
 
   call_of : (u v : Hands X G O F) (c : Option ℕ) → v.call ≡ u.call → HasTicket u.call c → HasTicket v.call c
   call_of u v c e k = subst (λ (x : Option TicketOf). HasTicket x c) (sym e) k
 
   -- a task was taken
-  popped : (u v : Hands X G O F) (c : Option ℕ) (n : ℕ) → HasTicket u.call c → Pops (Task n) u v → StandsAt v (Some n) c None None false
+  popped : (u v : Hands X G O F) (c : Option ℕ) (n : Taken) → HasTicket u.call c → Pops (Task n) u v → StandsAt v (Some n) c None None false
   popped u v c n k d = record { task = d.0; call = call_of u v c (ap (λ (z : Hands X G O F). z.call) d.2) k; reply = tt; done = tt; probed = tt }
 
-  popped_injected : (u v : Hands X G O F) (c : Option ℕ) (n : ℕ) → HasTicket u.call c → PopsInjected (Task n) u v → StandsAt v (Some n) c None None false
+  popped_injected : (u v : Hands X G O F) (c : Option ℕ) (n : Taken) → HasTicket u.call c → PopsInjected (Task n) u v → StandsAt v (Some n) c None None false
   popped_injected u v c n k d = record { task = d.0; call = call_of u v c (ap (λ (z : Hands X G O F). z.call) d.2) k; reply = tt; done = tt; probed = tt }
 
-  stolen : (u v : Hands X G O F) (m : ℕ) (c : Option ℕ) (n : ℕ) → HasTicket u.call c → Steals m (Task n) u v → StandsAt v (Some n) c None None false
+  stolen : (u v : Hands X G O F) (m : ℕ) (c : Option ℕ) (n : Taken) → HasTicket u.call c → Steals m (Task n) u v → StandsAt v (Some n) c None None false
   stolen u v m c n k d = record { task = d.0; call = call_of u v c (ap (λ (z : Hands X G O F). z.call) d.2) k; reply = tt; done = tt; probed = tt }
 
   -- less is asked
@@ -104,7 +115,7 @@ module _ {X G O F : Type 0} where
   after_set_stands u h p i s Terminate a = settle_stands u h p i s.pool (s.worker + 1) s.then a
   after_set_stands u h p i s (OfCall c) a = finish_stands u p i s.then a
 
-  found_stands : (u : Hands X G O F) (g : Target) (f : Option ℕ) → StandsAt u f (call_to g) None None (elim f [ None ↦ true | Some t ↦ false ]) → StandsThen u (after_found g f)
+  found_stands : (u : Hands X G O F) (g : Target) (f : Option Taken) → StandsAt u f (call_to g) None None (elim f [ None ↦ true | Some t ↦ false ]) → StandsThen u (after_found g f)
   found_stands u g None a = a
   found_stands u g (Some n) a = a
 
@@ -136,6 +147,15 @@ module _ {X G O F : Type 0} where
   latch_needs u Termination k = tt
   latch_needs u (Answer o f) k = k
 
+  -- a join has found its own second side, or another task
+  joined : (u : Hands X G O F) (o : OpenCall) (n : Taken) → StandsAt u (Some n) (Some o.number) None None false → Stands u (if is_taken n o.job then Enter (at.SecondSide o) (at.BeginHere o.job) else Enter (at.JoinProbe o) (at.BeginTask n))
+  joined u o (Token k i) a = absurd (no_token u.task k i a.task)
+  joined u o (Plain n) a = by (n == o.job) refl
+    where
+      by : (z : Bool) → (n == o.job) ≡ z → Stands u (if z then Enter (at.SecondSide o) (at.BeginHere o.job) else Enter (at.JoinProbe o) (at.BeginTask (Plain n)))
+      by true e = (subst (λ (k : ℕ). StandsAt u (Some (Plain k)) (Some o.number) None None false) (eqb-true n o.job e) a, tt)
+      by false e = (a, tt)
+
   -- what the act at a place asks is there
   pub stands_needs : (u : Hands X G O F) (p i : ℕ) (y : Place) → is_rest y ≡ false → Stands u (Stay y) → Needs (act_of (Worker p i) y) u
   stands_needs u p i (at.ProbeWorking k) r a = latch_needs u k.target a.0.call
@@ -148,12 +168,17 @@ module _ {X G O F : Type 0} where
   stands_needs u p i (at.StoreResult c o e) r a = (a.0.reply, a.0.done)
   stands_needs u p i (at.SetLatch s) r a = a.0.reply
   stands_needs u p i (at.SetLockLatch c) r a = a.0.reply
-  stands_needs u p i (at.BeginTask t) r a = a.0.task
+  stands_needs u p i (at.BeginTask (Plain t)) r a = a.0.task
+  stands_needs u p i (at.BeginTask (Token t j)) r a = no_token u.task t j a.0.task
   stands_needs u p i (at.BeginHere t) r a = a.0.task
   stands_needs u p i (at.RaiseCount n) r a = absurd a.1
   stands_needs u p i (at.GrowCall n) r a = absurd a.1
   stands_needs u p i (at.LookQueue n) r a = absurd a.1
   stands_needs u p i (at.PushJob n e) r a = absurd a.1
+  stands_needs u p i (at.AddToFifo f) r a = absurd a.1
+  stands_needs u p i (at.LookForToken f) r a = absurd a.1
+  stands_needs u p i (at.PushToken f e) r a = absurd a.1
+  stands_needs u p i (at.TakeFromFifo f) r a = absurd a.1
   stands_needs u p i (at.TellNews n e) r a = absurd a.1
   stands_needs u p i (at.WaitForLock o) r a = absurd a.1
   stands_needs u p i (at.Run t k) r a = absurd (true≢false r)
@@ -209,7 +234,7 @@ module _ {X G O F : Type 0} where
   stands_on u v h p i (at.LeaveSearch k) _ r a d = (same u v _ _ _ _ _ d a.0, tt)
   stands_on u v h p i (at.JoinProbe o) Yes r a d = (set u v _ _ _ _ d a.0, tt)
   stands_on u v h p i (at.JoinProbe o) _ r a d = (unset u v _ _ _ _ d a.0, tt)
-  stands_on u v h p i (at.JoinPop o) (Task n) r a d = either v (n == o.job) (Enter (at.SecondSide o) (at.BeginHere n)) (Enter (at.JoinProbe o) (at.BeginTask n)) (popped u v (Some o.number) n a.0.call d, tt) (popped u v (Some o.number) n a.0.call d, tt)
+  stands_on u v h p i (at.JoinPop o) (Task n) r a d = joined v o n (popped u v (Some o.number) n a.0.call d)
   stands_on u v h p i (at.JoinPop o) _ r a d = (looked u v _ _ _ _ _ d a.0, tt)
   stands_on u v h p i (at.JoinTakeCast o) (Task n) r a d = absurd d
   stands_on u v h p i (at.JoinTakeCast o) _ r a d = (same u v _ _ _ _ _ d a.0, tt)
@@ -227,8 +252,9 @@ module _ {X G O F : Type 0} where
   stands_on u v h p i at.LocalPop _ r a d = (looked u v _ _ _ _ _ d a.0, tt)
   stands_on u v h p i at.LocalTakeCast (Task n) r a d = absurd d
   stands_on u v h p i at.LocalTakeCast _ r a d = tt
-  stands_on u v h p i (at.BeginTask t) (Begun k) r a d = (same u v _ _ _ _ _ d.1 a.0, tt)
-  stands_on u v h p i (at.BeginTask t) _ r a d = absurd d
+  stands_on u v h p i (at.BeginTask (Plain t)) (Begun k) r a d = (same u v _ _ _ _ _ d.1 a.0, tt)
+  stands_on u v h p i (at.BeginTask (Plain t)) _ r a d = absurd d
+  stands_on u v h p i (at.BeginTask (Token t j)) _ r a d = absurd (no_token u.task t j a.0.task)
   stands_on u v h p i (at.BeginHere t) (Begun k) r a d = (same u v _ _ _ _ _ d.1 a.0, tt)
   stands_on u v h p i (at.BeginHere t) _ r a d = absurd d
   stands_on u v h p i (at.LockToWake k) _ r a d = (same u v _ _ _ _ _ d a.0, tt)
@@ -251,6 +277,10 @@ module _ {X G O F : Type 0} where
   stands_on u v h p i (at.GrowCall n) _ r a d = absurd a.1
   stands_on u v h p i (at.LookQueue n) _ r a d = absurd a.1
   stands_on u v h p i (at.PushJob n e) _ r a d = absurd a.1
+  stands_on u v h p i (at.AddToFifo f) _ r a d = absurd a.1
+  stands_on u v h p i (at.LookForToken f) _ r a d = absurd a.1
+  stands_on u v h p i (at.PushToken f e) _ r a d = absurd a.1
+  stands_on u v h p i (at.TakeFromFifo f) _ r a d = absurd a.1
   stands_on u v h p i (at.TellNews n e) _ r a d = absurd a.1
   stands_on u v h p i (at.WaitForLock o) _ r a d = absurd a.1
   stands_on u v h p i _ _ r a d = absurd (true≢false r)

@@ -7,10 +7,12 @@ use Rattle.rayon_machine_places.specs.declared.place.Target.{Target}
 use Rattle.rayon_machine_places.specs.declared.place.Target.TheVariants.{Termination, Answer}
 use Rattle.rayon_machine_places.specs.declared.place.Then.{Then}
 use Rattle.rayon_machine_places.specs.declared.place.Then.TheVariants.{BeginFound, LeaveWait, Await}
+use Rattle.rayon_machine_places.specs.declared.place.Taken.{Taken}
+use Rattle.rayon_machine_places.specs.declared.place.Taken.TheVariants.{Plain}
 use Rattle.rayon_machine_places.specs.declared.place.Place.{Place}
 use Rattle.rayon_machine_places.specs.declared.place.Place.TheVariants as at
 use Rattle.rayon_machine_places.specs.declared.place.Move.{Move}
-use Rattle.rayon_machine_places.specs.declared.place.Move.TheVariants.{Stay, Enter, StartRun, Back, HandBack}
+use Rattle.rayon_machine_places.specs.declared.place.Move.TheVariants.{Stay, Enter, StartRun, Back, HandBack, HandIn, Discard}
 use Rattle.rayon_performers.specs.Hands.{Hands, HasTask, HasTicket, HasResult, call_latch}
 
 -- the call that a wait waits for
@@ -19,7 +21,7 @@ call_to Termination = None
 call_to (Answer o f) = Some o.number
 
 -- the task that was taken and is begun once others are woken
-abbrev pub task_then : Then → Option ℕ
+abbrev pub task_then : Then → Option Taken
 task_then (BeginFound g t) = Some t
 task_then _ = None
 
@@ -36,11 +38,11 @@ leaves (LeaveWait g) = true
 leaves _ = false
 
 -- the name of the task that was taken and is not begun
-abbrev pub task_at : Place → Option ℕ
+abbrev pub task_at : Place → Option Taken
 task_at (at.LeaveSearch w) = w.found
 task_at (at.BeginTask t) = Some t
-task_at (at.BeginHere t) = Some t
-task_at (at.Run t k) = Some t
+task_at (at.BeginHere t) = Some (Plain t)
+task_at (at.Run t k) = Some (Plain t)
 task_at (at.LockToWake k) = task_then k.then
 task_at (at.WakeWorker k) = task_then k.then
 task_at (at.UnlockWoken k) = task_then k.then
@@ -126,14 +128,18 @@ IsDriven (at.RaiseCount n) = ⊥
 IsDriven (at.GrowCall n) = ⊥
 IsDriven (at.LookQueue n) = ⊥
 IsDriven (at.PushJob n e) = ⊥
+IsDriven (at.AddToFifo f) = ⊥
+IsDriven (at.LookForToken f) = ⊥
+IsDriven (at.PushToken f e) = ⊥
+IsDriven (at.TakeFromFifo f) = ⊥
 IsDriven (at.TellNews n e) = ⊥
 IsDriven (at.WaitForLock o) = ⊥
 IsDriven _ = Unit {0}
 
 -- the task that begins above a frame
-abbrev pub task_begun : Place → Option ℕ
+abbrev pub task_begun : Place → Option Taken
 task_begun (at.BeginTask t) = Some t
-task_begun (at.BeginHere t) = Some t
+task_begun (at.BeginHere t) = Some (Plain t)
 task_begun _ = None
 
 -- a task begins
@@ -170,7 +176,7 @@ If false P = Unit {0}
 
 module _ {X G O F : Type 0} where
   -- what is in hand at a place
-  pub record StandsAt (s : Hands X G O F) (tasked called replied : Option ℕ) (result : Option Ending) (seen : Bool) : Type 0 where
+  pub record StandsAt (s : Hands X G O F) (tasked : Option Taken) (called replied : Option ℕ) (result : Option Ending) (seen : Bool) : Type 0 where
     pub task : HasTask s.task tasked
     pub call : HasTicket s.call called
     pub reply : HasTicket s.reply replied
@@ -184,3 +190,5 @@ module _ {X G O F : Type 0} where
   Stands s (StartRun f t) = StandsAt s None None None None false × IsFrame f
   Stands s Back = Unit {0}
   Stands s (HandBack n) = Unit {0}
+  Stands s (HandIn p n) = ⊥
+  Stands s (Discard n) = ⊥

@@ -4,6 +4,7 @@ ghost use Rattle.rayon_drive.specs.Traces.{Adds};
 ghost use Rattle.rayon_machine_places.specs.declared.act.Act.TheVariants as acts;
 ghost use Rattle.rayon_machine_places.specs.declared.act.Seen.TheVariants as saw;
 ghost use Rattle.rayon_machine_places.specs.declared.place.Party.TheVariants.{Worker};
+ghost use Rattle.rayon_machine_places.specs.declared.place.Taken.TheVariants.{Plain};
 ghost use Rattle.rayon_performers.specs.Hands.{Does, Looks, Lowers, Needs, Stores, answer};
 ghost use Rattle.rayon_performers.specs.Keeps.{bench_needs, bench_on};
 ghost use Rattle.rayon_performers.specs.Stands.{IsWorker, Stands};
@@ -13,7 +14,7 @@ use crate::bench::Bench;
 use rayon_drive::drive::Perform;
 use rayon_jobs::JobKind;
 use rayon_machine_places::act::{Act, Seen};
-use rayon_machine_places::place::{Ending, JobKind as Kind, Latch, Party, Share};
+use rayon_machine_places::place::{Ending, JobKind as Kind, Latch, Party, Share, Taken};
 use rayon_sleep::counters::Counters;
 use rayon_tasks::{Task, Ticket};
 use rayon_words::Refusal;
@@ -47,6 +48,9 @@ impl<J: JobKind> Perform for Bench<J> {
             Act::Lower { pool, share } => yes(self.lower(rt, pool, share)),
             Act::PushOwn(_)
             | Act::PushInj { .. }
+            | Act::FifoIn(_)
+            | Act::FifoUndo
+            | Act::FifoOut { .. }
             | Act::Grow(_)
             | Act::LockWait(_)
             | Act::Raise { .. }
@@ -126,12 +130,12 @@ impl<J: JobKind> Bench<J> {
     #[inline(always)]
     fn took(&mut self, act: Act, task: Task<J>) -> Seen
         ensures same { self.new ≡ record self.old { task = Some task; trace = self.new.trace } }
-        ensures seen { result ≡ saw.Task task.ticket.number }
+        ensures seen { result ≡ saw.Task (Plain task.ticket.number) }
         ensures adds { Adds act result self.old.trace self.new.trace }
     {
         let name = task.number();
         self.task = Some(task);
-        self.add(act, Seen::Task(name))
+        self.add(act, Seen::Task(Taken::Plain(name)))
     }
 
     // A latch of the worker.

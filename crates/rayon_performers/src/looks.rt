@@ -5,6 +5,7 @@ ghost use Rattle.rayon_drive.specs.Paths.{Driven};
 ghost use Rattle.rayon_machine_places.specs.Places.{undo};
 ghost use Rattle.rayon_machine_places.specs.declared.place.Move.TheVariants.{Back, Stay};
 ghost use Rattle.rayon_machine_places.specs.declared.place.Party.TheVariants.{Worker};
+ghost use Rattle.rayon_machine_places.specs.declared.place.Taken.TheVariants.{Plain};
 ghost use Rattle.rayon_machine_places.specs.declared.place.Place.TheVariants as at;
 ghost use Rattle.rayon_machine_places.specs.declared.place.Plan.TheVariants.{Detach};
 ghost use Rattle.rayon_performers.specs.Hands.{Does, Same};
@@ -28,7 +29,7 @@ impl<J: JobKind> Bench<J> {
     pub fn take_local<R: Wait>(&mut self, rt: &R) -> Option<Task<J>>
         ensures path { MatchOption result
             (Driven (λ s a x t. Does a x s t) (λ s. s.trace) self.old.shape (Worker 0 self.old.index) (Stay at.LocalPop) self.old self.new Back)
-            (λ t. Driven (λ s a x t. Does a x s t) (λ s. s.trace) self.old.shape (Worker 0 self.old.index) (Stay at.LocalPop) self.old (record self.new { task = Some t }) (Stay (at.BeginTask t.ticket.number))) }
+            (λ t. Driven (λ s a x t. Does a x s t) (λ s. s.trace) self.old.shape (Worker 0 self.old.index) (Stay at.LocalPop) self.old (record self.new { task = Some t }) (Stay (at.BeginTask (Plain t.ticket.number)))) }
         ensures popped { MatchOption result (Unmoved self.old.own self.new.own) (λ t. Popped self.old.own t self.new.own) }
         ensures same { SameDeque self.old.own self.new.own }
         ensures left { MatchOption result
@@ -50,7 +51,7 @@ impl<J: JobKind> Bench<J> {
     pub fn find_work<R: Wait>(&mut self, rt: &R) -> Option<Task<J>>
         ensures path { MatchOption result
             (Driven (λ s a x t. Does a x s t) (λ s. s.trace) self.old.shape (Worker 0 self.old.index) (Stay at.YieldPop) self.old self.new Back)
-            (λ t. Driven (λ s a x t. Does a x s t) (λ s. s.trace) self.old.shape (Worker 0 self.old.index) (Stay at.YieldPop) self.old (record self.new { task = Some t }) (Stay (at.BeginTask t.ticket.number))) }
+            (λ t. Driven (λ s a x t. Does a x s t) (λ s. s.trace) self.old.shape (Worker 0 self.old.index) (Stay at.YieldPop) self.old (record self.new { task = Some t }) (Stay (at.BeginTask (Plain t.ticket.number)))) }
         ensures found { MatchOption result (Kept self.old self.new) (λ t. Found t self.old self.new) }
         ensures left { MatchOption result
             (self.new ≡ record self.old { own = self.new.own; thief = self.new.thief; trace = self.new.trace })

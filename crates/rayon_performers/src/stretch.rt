@@ -2,7 +2,7 @@
 //! acts.
 ghost use Rattle.std.specs.Prelude.{◌≡◌, ◌⊎◌, ◌↔◌, ◌+◌, ◌-◌, ◌++◌, [], ◌∷◌, None, Some, IsTrue, IfErr, IfOk, MatchResult, false};
 ghost use Rattle.rayon_drive.specs.Paths.{Driven, goes};
-ghost use Rattle.rayon_machine_places.specs.Places.{finish, fresh, next_of};
+ghost use Rattle.rayon_machine_places.specs.Places.{finish, fresh, next_of, taken_number};
 ghost use Rattle.rayon_tasks.specs.Tasks.{OneJob};
 ghost use Rattle.rayon_machine_places.specs.declared.act.Seen.TheVariants as saw;
 ghost use Rattle.rayon_machine_places.specs.declared.place.JobKind.TheVariants.{Direct};
@@ -11,6 +11,7 @@ ghost use Rattle.rayon_machine_places.specs.declared.place.Party.TheVariants.{Wo
 ghost use Rattle.rayon_machine_places.specs.declared.place.Place.TheVariants as at;
 ghost use Rattle.rayon_machine_places.specs.declared.place.Plan.TheVariants.{Here};
 ghost use Rattle.rayon_machine_places.specs.declared.place.Share.TheVariants.{OfJob};
+ghost use Rattle.rayon_machine_places.specs.declared.place.Taken.TheVariants.{Plain};
 ghost use Rattle.rayon_performers.specs.Calls.{IsJobOf, IsOneJob, own_call, own_join};
 ghost use Rattle.rayon_performers.specs.Finds.{StandsLast};
 ghost use Rattle.rayon_performers.specs.Hands.{Does, HasResult, HasTask, HasTicket, Same, kind_of};
@@ -24,7 +25,7 @@ use rayon_drive::drive::drive;
 use rayon_jobs::JobKind;
 use rayon_machine_places::act::Seen;
 use rayon_machine_places::place::{
-    Ending, Latch, Move, OpenCall, Party, Place, Plan, Share, Target, Then,
+    Ending, Latch, Move, OpenCall, Party, Place, Plan, Share, Taken, Target, Then,
 };
 use rayon_machine_places::shape::PoolShape;
 use rayon_tasks::{Task, Ticket, Work, task_of_job, task_parts};
@@ -214,12 +215,16 @@ impl<J: JobKind> Bench<J> {
         self.begin(name);
     }
 
-    /// The run of a task begins that was found and is in hand, above the frame of the program that found it.
-    pub fn begin_task(&mut self, name: u64)
-        requires { HasTask self.old.task (Some name) }
-        ensures path { Driven (λ s a x t. Does a x s t) (λ s. s.trace) self.old.shape (Worker 0 self.old.index) (Stay (at.BeginTask name)) self.old self.new (Stay (at.Run name (kind_of self.old.task))) }
+    /// The run of a task begins that was found and is in hand, above the frame of the program that found it. No worker has
+    /// a token in hand yet, of a FIFO list: that is asked.
+    pub fn begin_task(&mut self, task: Taken)
+        requires { HasTask self.old.task (Some task) }
+        ensures path { Driven (λ s a x t. Does a x s t) (λ s. s.trace) self.old.shape (Worker 0 self.old.index) (Stay (at.BeginTask task)) self.old self.new (Stay (at.Run (taken_number task) (kind_of self.old.task))) }
         ensures same { Same self.old self.new }
     {
+        let Taken::Plain(name) = task else {
+            unreachable!()
+        };
         self.begin(name);
     }
 
@@ -250,7 +255,7 @@ impl<J: JobKind> Bench<J> {
         ensures path { MatchResult result
             (λ _. Driven (λ s a x t. Does a x s t) (λ s. s.trace) self.old.shape (Worker 0 self.old.index) (Stay (at.JoinProbe call)) self.old self.new (Enter (at.SecondSide call) (at.BeginHere call.job)))
             (λ m. Driven (λ s a x t. Does a x s t) (λ s. s.trace) self.old.shape (Worker 0 self.old.index) (Stay (at.JoinProbe call)) self.old self.new m) }
-        ensures own { MatchResult result (λ _. HasTask self.new.task (Some call.job)) (λ m. Stands self.new m × (goes m ≡ false)) }
+        ensures own { MatchResult result (λ _. HasTask self.new.task (Some (Plain call.job))) (λ m. Stands self.new m × (goes m ≡ false)) }
         ensures rejoins { IfErr result (λ m. Rejoined call m) }
     {
         let shape = self.shape;
@@ -269,10 +274,10 @@ impl<J: JobKind> Bench<J> {
 // Whether the task of this name was seen.
 #[inline(always)]
 fn is_task(seen: Seen, name: u64) -> bool
-    ensures { IsTrue result ↔ (seen ≡ saw.Task name) }
+    ensures { IsTrue result ↔ (seen ≡ saw.Task (Plain name)) }
 {
     match seen {
-        Seen::Task(task) => task == name,
+        Seen::Task(Taken::Plain(task)) => task == name,
         _ => false,
     }
 }

@@ -92,11 +92,21 @@ fn act_name(act: Act) -> &'static str {
         Act::Set { .. } => "Set",
         Act::LockSet(_) => "LockSet",
         Act::LockWait(_) => "LockWait",
+        _ => rare_act_name(act),
+    }
+}
+
+// The name of an act of a call or on a FIFO list.
+fn rare_act_name(act: Act) -> &'static str {
+    match act {
+        Act::FifoIn(_) => "FifoIn",
+        Act::FifoUndo => "FifoUndo",
+        Act::FifoOut { .. } => "FifoOut",
         Act::Lower { .. } => "Lower",
         Act::Raise { .. } => "Raise",
         Act::Grow(_) => "Grow",
         Act::Store { .. } => "Store",
         Act::Take(_) => "Take",
-        Act::Idle => "Idle",
+        _ => "Idle",
     }
 }

@@ -108,6 +108,10 @@ fn event(party: Party, word: &str, argument: &str) -> Option<Event> {
             party,
             pool: index(argument)?,
         }),
+        "fifo" => Some(Event::Fifo {
+            party,
+            pool: index(argument)?,
+        }),
         "install" => Some(Event::Install {
             party,
             pool: index(argument)?,

@@ -2,7 +2,7 @@ use Rattle.std.proofs.Common.{◌≡◌, false, not, sym, ◌∙◌, subst, ap, 
 use Rattle.rayon_machine_places.specs.declared.act.Act.{Act as AnyAct}
 use Rattle.rayon_machine_places.specs.declared.place.Place.{Place as AnyPlace}
 use Rattle.rayon_machine_places.specs.declared.place.Move.{Move as AnyMove}
-use Rattle.rayon_machine_places.specs.declared.place.Move.TheVariants.{Stay, Enter, StartRun, Back, HandBack}
+use Rattle.rayon_machine_places.specs.declared.place.Move.TheVariants.{Stay, Enter, StartRun, Back, HandBack, HandIn, Discard}
 use Rattle.rayon_drive.specs.Traces.{Adds}
 use Rattle.rayon_machine_places.specs.Places.{is_rest}
 use Rattle.rayon_drive.specs.Paths.{Driven, goes}
@@ -16,6 +16,8 @@ no_further (Enter f p) n = refl
 no_further (StartRun f t) n = refl
 no_further Back n = refl
 no_further (HandBack m) n = refl
+no_further (HandIn p k) n = refl
+no_further (Discard k) n = refl
 
 pub loop-preserved : goal.loop-preserved
 loop-preserved g c =

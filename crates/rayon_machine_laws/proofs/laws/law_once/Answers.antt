@@ -1,5 +1,9 @@
 use Rattle.rayon_machine_laws.proofs.PlacedRuns.{always_once}
+use Rattle.rayon_machine_laws.proofs.Redeems.{always_stocks, redeems}
 use Rattle.rayon_machine_laws.proofs.laws.law_once.Goals as goal
 
-pub returns : goal.returns
-returns c h es w r = always_once h es w r
+pub returns-clause-once : goal.returns-clause-once
+returns-clause-once c h es w r = always_once h es w r
+
+pub returns-clause-redeemed : goal.returns-clause-redeemed
+returns-clause-redeemed c h es w r = redeems w (always_stocks h es w r)

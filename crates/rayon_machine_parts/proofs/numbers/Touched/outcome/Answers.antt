@@ -6,5 +6,8 @@ use Rattle.rayon_machine_parts.proofs.numbers.Touched.outcome.Goals as goal
 pub returns-in-Queueing-clause-ok : goal.returns-in-Queueing-clause-ok
 returns-in-Queueing-clause-ok c = λ o. rw c.handle.ensures (handled-acts o c.args.act c.args.party (census_counts c.args.census) c.args.jec_bits c.args.found c.args.self c.in-Queueing.ensures)
 
+pub returns-in-Feeding-clause-ok : goal.returns-in-Feeding-clause-ok
+returns-in-Feeding-clause-ok c = IfOk-weaker c.feeds.result _ _ (λ r f o. f c.in-Feeding.ensures (census_counts c.args.census) c.args.jec_bits o) c.feeds.ensures.ok
+
 pub returns-in-Sharing-clause-ok : goal.returns-in-Sharing-clause-ok
 returns-in-Sharing-clause-ok c = IfOk-weaker c.shares.result _ _ (λ r f o. sharing-acts o c.args.act c.args.party (census_counts c.args.census) c.args.jec_bits c.args.found c.args.self (r.0) (r.1) c.in-Sharing.ensures (f c.in-Sharing.ensures (census_counts c.args.census) c.args.jec_bits)) c.shares.ensures.ok

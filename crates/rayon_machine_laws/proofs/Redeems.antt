@@ -1,0 +1,379 @@
+-- a token that is to be redeemed finds a job in its FIFO list: the tokens that are queued or in hand, and the list's
+-- holder, are no more than its jobs
+use Rattle.std.proofs.Common.{arith, refl, sym, ◌∙◌, ap, subst, inl, inr}
+use Rattle.std.specs.Prelude.{ℕ, zero, suc, Bool, true, false, ◌&&◌, ◌+◌, ◌==◌, ◌≤◌, ◌<◌, if◌then◌else◌, Some, List, ◌≡◌, IfSome, length, nat_lt}
+use Rattle.std.proofs.lemmas.Bool.{eqb-true, eq-eqb, ltb-true, ltb-false}
+use Rattle.rayon_machine_places.specs.declared.place.Move.TheVariants.{Back, Discard, Enter, HandBack, HandIn, StartRun, Stay}
+use Rattle.rayon_machine_places.specs.declared.place.Place.TheVariants.{BeginTask, LocalPop, LookForToken, LookQueue, PickVictim, PushJob, PushToken, Run, StealFrom, TakeFromFifo, YieldPick, YieldPop, YieldSteal}
+use Rattle.rayon_machine_places.specs.declared.place.Party.TheVariants.{Caller, Worker}
+use Rattle.rayon_machine_laws.proofs.ClaimRuns.{CallsHold, place_part, top_says, world_after}
+use Rattle.rayon_machine_places.specs.declared.place.Plan.TheVariants.{Detach, Feed, Fork, Here, Send}
+use Rattle.rayon_machine_places.specs.declared.place.JobKind.TheVariants.{Detached, Direct, Stored, TokenOf}
+use Rattle.rayon_machine_places.specs.declared.event.Event.TheVariants.{End, EndPool, Fifo, From, Go, Install, Join, Miss, Refuse, Spawn, Yield, YieldLocal}
+use Rattle.rayon_machine_places.specs.declared.place.Ending.{Ending}
+use Rattle.rayon_machine_places.specs.declared.event.Event.{Event}
+use Rattle.rayon_machine_laws.proofs.Stocked.{Fair, act_fair, at_pool, begun_off, draws, is_held, is_pushing, live, live_off, one_set, token_of, up}
+use Rattle.rayon_machine_laws.proofs.Feeders.{FeedersHold, first_feeders, is_waiting, step_feeders, waits}
+use Rattle.rayon_machine_places.specs.declared.act.Act.TheVariants.{FifoOut, LookInj, LookOwn, PushInj, PushOwn}
+use Rattle.rayon_machine_places.specs.declared.act.Seen.TheVariants.{Handed}
+use Rattle.rayon_machine_places.specs.declared.state.Whereabouts.TheVariants.{HandedBack, Made, Over, Retaken, Running, Spent}
+use Rattle.rayon_machine_laws.specs.Once.{IsOnce, IsRedeemed, is_with, one}
+use Rattle.rayon_machine_places.specs.Runs.{IsRun, start}
+use Rattle.rayon_machine_places.specs.declared.state.Job.{Job}
+use Rattle.rayon_machine_places.specs.declared.place.JobKind.{JobKind}
+use Rattle.rayon_machine_places.specs.declared.place.Move.{Move}
+use Rattle.rayon_machine_places.specs.World.{Part, Shape, Stack, World, at_job, begun, target_call, target_pool, target_worker}
+use Rattle.rayon_machine_places.specs.declared.place.Party.{Party}
+use Rattle.rayon_machine_places.specs.declared.place.Place.{Place}
+use Rattle.rayon_machine_places.specs.declared.place.Plan.{Plan}
+use Rattle.rayon_machine_laws.proofs.Claims.{Says, Taking}
+use Rattle.rayon_machine_places.specs.declared.act.Seen.{Seen}
+use Rattle.rayon_machine_places.specs.declared.place.Taken.TheVariants.{Token}
+use Rattle.rayon_machine_places.specs.declared.state.Whereabouts.{Whereabouts}
+use Rattle.rayon_machine_places.specs.Places.{act_of, after_begin, is_free, is_member, is_refusable, look_act, next_of, own_index, own_pool, plan_job, plan_pool, push_act, same_party}
+use Rattle.rayon_machine_laws.proofs.Frame.{acted_keeps, and_parts, either, fifo_cases, if_cond, if_some_and, if_some_map, put_new, put_old, same_index, same_party_true}
+use Rattle.rayon_machine_places.specs.Steps.{after_choice, after_end, after_end_pool, after_fifo, after_install, after_join, after_miss, after_send, after_spawn, after_yield, blank_job, can_miss, handed_back, is_pool, jobs_after, new_job, put, step}
+use Rattle.rayon_machine_laws.proofs.ClaimMakes.{first_calls, step_calls}
+use Rattle.rayon_machine_laws.proofs.Hands.{held, held_in}
+use Rattle.rayon_machine_laws.proofs.Located.{is_left}
+use Rattle.rayon_machine_laws.proofs.Ties.{job_at, outcome, result}
+use Rattle.rayon_machine_laws.proofs.PlacedRuns.{once}
+use Rattle.rayon_machine_laws.proofs.Events.{run_keeps}
+use Rattle.rayon_machine_laws.proofs.Tokens.{sum_below, sum_least}
+use Rattle.std.proofs.Math.Dec.{ltb}
+
+-- sums, by their summands
+other : (j n k : ℕ) → n ≡ k → j + 1 ≤ n → (j == k) ≡ false
+other j n k i l = elim (either (j == k)) [ inl y ↦ absurd (let w : j ≡ k = eqb-true j k y in omega (arith, w, l, i)) | inr y ↦ y ]
+
+below : (n k : ℕ) → (n == k) ≡ false → k + 1 ≤ n + 1 → k + 1 ≤ n
+below n k y b = elim (either (ltb k n)) [ inl w ↦ (let v : k < n = ltb-true k n w in omega (arith, v)) | inr w ↦ absurd (let v : n ≤ k = ltb-false k n w in let u : n ≡ k = omega (arith, v, b) in let g : (n == k) ≡ true = eq-eqb n k u in cc) ]
+
+sum_least_of : (n : ℕ) (f g : ℕ → ℕ) → ((i : ℕ) → i + 1 ≤ n → g i ≤ f i) → sum_below n g ≤ sum_below n f
+sum_least_of zero f g e = omega arith
+sum_least_of (suc n) f g e = let a : g n ≤ f n = e n (omega arith) in let b : sum_below n g ≤ sum_below n f = sum_least_of n f g (λ i z. e i (omega (arith, z))) in omega (arith, a, b)
+
+sum_put : (n : ℕ) (f g : ℕ → ℕ) (k c : ℕ) → ((i : ℕ) → (i == k) ≡ false → g i ≤ f i) → g k ≤ f k + c → sum_below n g ≤ sum_below n f + c
+sum_put zero f g k c e z = omega arith
+sum_put (suc n) f g k c e z = by (sum_put n f g k c e z) (n == k) refl
+  where
+    by : sum_below n g ≤ sum_below n f + c → (b : Bool) → (n == k) ≡ b → g n + sum_below n g ≤ (f n + sum_below n f) + c
+    by rec true y = let i : n ≡ k = eqb-true n k y in let a : g n ≡ g k = ap g i in let b : f n ≡ f k = ap f i in let s : sum_below n g ≤ sum_below n f = sum_least_of n f g (λ j l. e j (other j n k i l)) in omega (arith, a, b, z, s)
+    by rec false y = let a : g n ≤ f n = e n y in omega (arith, a, rec)
+
+sum_less : (n : ℕ) (f g : ℕ → ℕ) (k : ℕ) → k + 1 ≤ n → ((i : ℕ) → g i ≤ f i) → g k + 1 ≤ f k → sum_below n g + 1 ≤ sum_below n f
+sum_less zero f g k l e z = absurd (omega (arith, l))
+sum_less (suc n) f g k l e z = by (λ m. sum_less n f g k m e z) (n == k) refl
+  where
+    by : (k + 1 ≤ n → sum_below n g + 1 ≤ sum_below n f) → (b : Bool) → (n == k) ≡ b → (g n + sum_below n g) + 1 ≤ f n + sum_below n f
+    by rec true y = let i : n ≡ k = eqb-true n k y in let a : g n ≡ g k = ap g i in let b : f n ≡ f k = ap f i in let s : sum_below n g ≤ sum_below n f = sum_least_of n f g (λ j m. e j) in omega (arith, a, b, z, s)
+    by rec false y = let a : g n ≤ f n = e n in let b : sum_below n g + 1 ≤ sum_below n f = rec (below n k y (omega (arith, l))) in omega (arith, a, b)
+
+sum_up : (m n : ℕ) (f : ℕ → ℕ) → sum_below n f ≤ sum_below (m + n) f
+sum_up zero n f = subst (λ z. sum_below n f ≤ sum_below z f) (let e : n ≡ 0 + n = omega arith in e) (omega arith)
+sum_up (suc m) n f = subst (λ z. sum_below n f ≤ sum_below z f) (let e : suc (m + n) ≡ suc m + n = omega arith in e) (let a : sum_below n f ≤ sum_below (m + n) f = sum_up m n f in let b : sum_below n f ≤ f (m + n) + sum_below (m + n) f = omega (arith, a) in b)
+
+-- no move makes more tokens
+put_less : (p j : ℕ) (f : ℕ → Job) (k : ℕ) (v : Job) (t : ℕ) → live p j v ≤ live p j (f k) → live p j (put f k v t) ≤ live p j (f t)
+put_less p j f k v t e = by (t == k) refl
+  where
+    by : (b : Bool) → (t == k) ≡ b → live p j (if b then v else f t) ≤ live p j (f t)
+    by true y = let a : live p j (f k) ≡ live p j (f t) = ap (λ n. live p j (f n)) (sym (eqb-true t k y)) in omega (arith, a, e)
+    by false y = omega arith
+
+off_less : (p j : ℕ) (v : Job) (n : ℕ) → at_pool p v.at v.runs ≡ false → live p j v ≤ n
+off_less p j v n e = let a : live p j v ≡ 0 = live_off p j v e in omega (arith, a)
+
+back_less : (p j : ℕ) (n : Plan) (f : ℕ → Job) (t : ℕ) → live p j (handed_back n f t) ≤ live p j (f t)
+back_less p j (Detach r u) f t = put_less p j f u (at_job (f u) HandedBack) t (off_less p j (at_job (f u) HandedBack) (live p j (f u)) refl)
+back_less p j (Here r u) f t = put_less p j f u (at_job (f u) HandedBack) t (off_less p j (at_job (f u) HandedBack) (live p j (f u)) refl)
+back_less p j (Send o) f t = put_less p j f o.job (at_job (f o.job) HandedBack) t (off_less p j (at_job (f o.job) HandedBack) (live p j (f o.job)) refl)
+back_less p j (Fork o u) f t =
+    let g : ℕ → Job = put f u (at_job (f u) HandedBack) in
+    let a : live p j (g t) ≤ live p j (f t) = put_less p j f u (at_job (f u) HandedBack) t (off_less p j (at_job (f u) HandedBack) (live p j (f u)) refl) in
+    let b : live p j (put g o.job (at_job (f o.job) HandedBack) t) ≤ live p j (g t) = put_less p j g o.job (at_job (f o.job) HandedBack) t (off_less p j (at_job (f o.job) HandedBack) (live p j (g o.job)) refl) in omega (arith, a, b)
+back_less p j (Feed d) f t =
+    let g : ℕ → Job = put f d.job (at_job (f d.job) HandedBack) in
+    let a : live p j (g t) ≤ live p j (f t) = put_less p j f d.job (at_job (f d.job) HandedBack) t (off_less p j (at_job (f d.job) HandedBack) (live p j (f d.job)) refl) in
+    let b : live p j (put g d.token (at_job (f d.token) HandedBack) t) ≤ live p j (g t) = put_less p j g d.token (at_job (f d.token) HandedBack) t (off_less p j (at_job (f d.token) HandedBack) (live p j (g d.token)) refl) in omega (arith, a, b)
+
+after_less : (p j : ℕ) (q : Party) (g : Move) (f : ℕ → Job) (t : ℕ) → live p j (jobs_after q g f t) ≤ live p j (f t)
+after_less p j q (Stay y) f t = omega arith
+after_less p j q (Enter x y) f t = omega arith
+after_less p j q Back f t = omega arith
+after_less p j q (StartRun x u) f t = put_less p j f u (begun q (f u)) t (let a : live p j (begun q (f u)) ≡ 0 = begun_off p j q (f u) in omega (arith, a))
+after_less p j q (HandIn y k) f t = put_less p j f k (at_job (f k) Spent) t (off_less p j (at_job (f k) Spent) (live p j (f k)) refl)
+after_less p j q (Discard k) f t = put_less p j f k (at_job (f k) Spent) t (off_less p j (at_job (f k) Spent) (live p j (f k)) refl)
+after_less p j q (HandBack n) f t = back_less p j n f t
+
+-- the token that a party redeems is none any more
+spent : (p j : ℕ) (f : ℕ → Job) (k : ℕ) → live p j (put f k (at_job (f k) Spent) k) ≡ 0
+spent p j f k = ap (live p j) (put_new f k (at_job (f k) Spent)) ∙ live_off p j (at_job (f k) Spent) refl
+
+begin_spends : (p j : ℕ) (q : Party) (k i : ℕ) (e : Seen) (f : ℕ → Job) → live p j (jobs_after q (after_begin (Token k i) e) f k) ≡ 0
+begin_spends p j q k i (Handed t d) f = spent p j f k
+begin_spends p j q k i _ f = spent p j f k
+
+-- and it is one before
+in_hand_live : (q : Party) (v : Whereabouts) (n : ℕ) → is_left v ≡ true → (is_with q v && (n == 0)) ≡ true → at_pool (own_pool q) v n ≡ true
+in_hand_live q (Running r) n l e = let a : (same_party q r ≡ true) × ((n == 0) ≡ true) = and_parts (same_party q r) (n == 0) e in rw (eq-eqb (own_pool q) (own_pool r) (ap own_pool (same_party_true q r (a.0)))) (a.1)
+in_hand_live q (Made r) n l e = absurd (cc)
+in_hand_live q (Retaken r) n l e = absurd (cc)
+in_hand_live q _ n l e = absurd (cc)
+
+token_live : (w : World) (q : Party) (k i : ℕ) (fs : List Place) → w.stack q ≡ record { top = BeginTask (Token k i); below = fs } → IsOnce w → Taking w (Token k i) → live (own_pool q) i (w.job k) ≡ 1
+token_live w q k i fs e h s =
+    let a : held k (w.stack q) ≡ (one (k == k) + held_in k fs) = ap (held k) e in let b : one (k == k) ≡ 1 = ap one (eq-eqb k k refl) in
+    let c : held k (w.stack q) ≡ one (is_with q (w.job k).at && ((w.job k).runs == 0)) = h.hand q k in
+    let d : (is_with q (w.job k).at && ((w.job k).runs == 0)) ≡ true = one_set (is_with q (w.job k).at && ((w.job k).runs == 0)) (omega (arith, a, b, c)) in
+    let t : token_of i (w.job k).kind ≡ true = ap (token_of i) (s.2) ∙ eq-eqb i i refl in
+    let p : at_pool (own_pool q) (w.job k).at (w.job k).runs ≡ true = in_hand_live q (w.job k).at (w.job k).runs (s.0) d in
+    ap (λ z. one (z && at_pool (own_pool q) (w.job k).at (w.job k).runs)) t ∙ ap one p
+
+-- the tokens of each FIFO list, and its holder, are no more than its jobs
+abbrev pub Stocks : World → Type 0
+Stocks w = (p j n : ℕ) → sum_below n (λ t. live p j (w.job t)) + one (is_held (w.seat p j).feeder) ≤ length (w.seat p j).fifo
+
+pub record StocksHold (w : World) : Type 0 where
+  pub calls : CallsHold w
+  pub feeders : FeedersHold w
+  pub stocks : Stocks w
+
+-- an act, for each job
+old_less : (w : World) (q : Party) (x : Place) (fs : List Place) (r : Seen × Part) (p j t : ℕ) → (t == job_at w q (act_of q x)) ≡ false → live p j ((world_after w q x fs r).job t) ≤ live p j (w.job t)
+old_less w q x fs r p j t e =
+    let g : Move = next_of (w.shape.pool (target_pool q (act_of q x))) q x (r.0) in
+    let a : live p j ((world_after w q x fs r).job t) ≤ live p j (put w.job (job_at w q (act_of q x)) (r.1.job) t) = after_less p j q g (put w.job (job_at w q (act_of q x)) (r.1.job)) t in
+    let b : live p j (put w.job (job_at w q (act_of q x)) (r.1.job) t) ≡ live p j (w.job t) = ap (live p j) (put_old w.job (job_at w q (act_of q x)) (r.1.job) t e) in omega (arith, a, b)
+
+new_less : (w : World) (q : Party) (x : Place) (fs : List Place) (r : Seen × Part) → Fair q x (place_part w q x) r → (p j : ℕ) → live p j ((world_after w q x fs r).job (job_at w q (act_of q x))) ≤ live p j (w.job (job_at w q (act_of q x))) + up q x p j
+new_less w q x fs r f p j =
+    let g : Move = next_of (w.shape.pool (target_pool q (act_of q x))) q x (r.0) in
+    let n : ℕ = job_at w q (act_of q x) in
+    let a : live p j ((world_after w q x fs r).job n) ≤ live p j (put w.job n (r.1.job) n) = after_less p j q g (put w.job n (r.1.job)) n in
+    let b : live p j (put w.job n (r.1.job) n) ≡ live p j (r.1.job) = ap (live p j) (put_new w.job n (r.1.job)) in
+    let c : live p j (r.1.job) ≤ live p j (w.job n) + up q x p j = f.job p j in omega (arith, a, b, c)
+
+-- and for their sum
+act_sum : (w : World) (q : Party) (x : Place) (fs : List Place) (r : Seen × Part) → Fair q x (place_part w q x) r → (p j n : ℕ) → sum_below n (λ t. live p j ((world_after w q x fs r).job t)) ≤ sum_below n (λ t. live p j (w.job t)) + up q x p j
+act_sum w q x fs r f p j n = sum_put n (λ t. live p j (w.job t)) (λ t. live p j ((world_after w q x fs r).job t)) (job_at w q (act_of q x)) (up q x p j) (λ t e. old_less w q x fs r p j t e) (new_less w q x fs r f p j)
+
+up_most : (q : Party) (x : Place) (p j : ℕ) → up q x p j ≤ one (is_pushing x)
+up_most q x p j = by (is_pushing x) ((p == own_pool q) && (j == own_index q))
+  where
+    by : (a b : Bool) → one (a && b) ≤ one a
+    by true true = omega arith
+    by true false = omega arith
+    by false b = omega arith
+
+up_other : (q : Party) (x : Place) (p j : ℕ) → ((p == target_pool q (act_of q x)) && (j == target_worker q (act_of q x))) ≡ false → up q x p j ≡ 0
+up_other (Worker a b) (PushToken f v) p j e = ap one e
+up_other (Caller c) (PushToken f v) p j e = ap one e
+up_other q _ p j e = refl
+
+-- the list that an act touches
+plain_stocks : (w : World) (q : Party) (x : Place) (fs : List Place) (r : Seen × Part) → StocksHold w → Fair q x (place_part w q x) r → draws x ≡ 0 → (n : ℕ) → sum_below n (λ t. live (target_pool q (act_of q x)) (target_worker q (act_of q x)) ((world_after w q x fs r).job t)) + one (is_held r.1.seat.feeder) ≤ length r.1.seat.fifo
+plain_stocks w q x fs r h f z n =
+    let p : ℕ = target_pool q (act_of q x) in let j : ℕ = target_worker q (act_of q x) in
+    let a : sum_below n (λ t. live p j ((world_after w q x fs r).job t)) ≤ sum_below n (λ t. live p j (w.job t)) + up q x p j = act_sum w q x fs r f p j n in
+    let b : sum_below n (λ t. live p j (w.job t)) + one (is_held (w.seat p j).feeder) ≤ length (w.seat p j).fifo = h.stocks p j n in
+    let c : (one (is_held r.1.seat.feeder) + length (w.seat p j).fifo) + one (is_pushing x) ≤ (one (is_held (w.seat p j).feeder) + length r.1.seat.fifo) + draws x = f.list in
+    let d : up q x p j ≤ one (is_pushing x) = up_most q x p j in omega (arith, a, b, c, d, z)
+
+token_at : (q : Party) (k i : ℕ) → (target_pool q (act_of q (BeginTask (Token k i))) ≡ own_pool q) × (target_worker q (act_of q (BeginTask (Token k i))) ≡ i)
+token_at (Worker a b) k i = (refl, refl)
+token_at (Caller c) k i = (refl, refl)
+
+drawn_less : (w : World) (q : Party) (k i : ℕ) (fs : List Place) (r : Seen × Part) → Fair q (BeginTask (Token k i)) (place_part w q (BeginTask (Token k i))) r → (p j t : ℕ) → live p j ((world_after w q (BeginTask (Token k i)) fs r).job t) ≤ live p j (w.job t)
+drawn_less w q k i fs r f p j t = elim (either (t == job_at w q (act_of q (BeginTask (Token k i))))) [
+  | inl y ↦ subst (λ n. live p j ((world_after w q (BeginTask (Token k i)) fs r).job n) ≤ live p j (w.job n)) (sym (eqb-true t (job_at w q (act_of q (BeginTask (Token k i)))) y))
+      (let a : live p j ((world_after w q (BeginTask (Token k i)) fs r).job (job_at w q (act_of q (BeginTask (Token k i))))) ≤ live p j (w.job (job_at w q (act_of q (BeginTask (Token k i))))) + 0 = new_less w q (BeginTask (Token k i)) fs r f p j in omega (arith, a))
+  | inr y ↦ old_less w q (BeginTask (Token k i)) fs r p j t y
+]
+
+drawn_stocks : (w : World) (q : Party) (k i : ℕ) (fs : List Place) (r : Seen × Part) → w.stack q ≡ record { top = BeginTask (Token k i); below = fs } → StocksHold w → Fair q (BeginTask (Token k i)) (place_part w q (BeginTask (Token k i))) r → (n : ℕ) → sum_below n (λ t. live (target_pool q (act_of q (BeginTask (Token k i)))) (target_worker q (act_of q (BeginTask (Token k i)))) ((world_after w q (BeginTask (Token k i)) fs r).job t)) + one (is_held r.1.seat.feeder) ≤ length r.1.seat.fifo
+drawn_stocks w q k i fs r e h f n =
+    let p : ℕ = target_pool q (act_of q (BeginTask (Token k i))) in let j : ℕ = target_worker q (act_of q (BeginTask (Token k i))) in
+    let was : live p j (w.job k) ≡ 1 = subst (λ a. live a j (w.job k) ≡ 1) (sym ((token_at q k i).0)) (subst (λ b. live (own_pool q) b (w.job k) ≡ 1) (sym ((token_at q k i).1)) (token_live w q k i fs e (once w ((h.calls).jobs)) (top_says w q (BeginTask (Token k i)) fs h.calls e))) in
+    let now : live p j ((world_after w q (BeginTask (Token k i)) fs r).job k) ≡ 0 = begin_spends p j q k i (r.0) (put w.job (job_at w q (act_of q (BeginTask (Token k i)))) (r.1.job)) in
+    let a : sum_below n (λ t. live p j ((world_after w q (BeginTask (Token k i)) fs r).job t)) ≤ sum_below (suc k + n) (λ t. live p j ((world_after w q (BeginTask (Token k i)) fs r).job t)) = sum_up (suc k) n (λ t. live p j ((world_after w q (BeginTask (Token k i)) fs r).job t)) in
+    let b : sum_below (suc k + n) (λ t. live p j ((world_after w q (BeginTask (Token k i)) fs r).job t)) + 1 ≤ sum_below (suc k + n) (λ t. live p j (w.job t)) = sum_less (suc k + n) (λ t. live p j (w.job t)) (λ t. live p j ((world_after w q (BeginTask (Token k i)) fs r).job t)) k (omega arith) (λ t. drawn_less w q k i fs r f p j t) (omega (arith, was, now)) in
+    let c : sum_below (suc k + n) (λ t. live p j (w.job t)) + one (is_held (w.seat p j).feeder) ≤ length (w.seat p j).fifo = h.stocks p j (suc k + n) in
+    let d : (one (is_held r.1.seat.feeder) + length (w.seat p j).fifo) + 0 ≤ (one (is_held (w.seat p j).feeder) + length r.1.seat.fifo) + 1 = f.list in omega (arith, a, b, c, d)
+
+own_stocks : (w : World) (q : Party) (x : Place) (fs : List Place) (r : Seen × Part) → w.stack q ≡ record { top = x; below = fs } → StocksHold w → Fair q x (place_part w q x) r → (n : ℕ) → sum_below n (λ t. live (target_pool q (act_of q x)) (target_worker q (act_of q x)) ((world_after w q x fs r).job t)) + one (is_held r.1.seat.feeder) ≤ length r.1.seat.fifo
+own_stocks w q (BeginTask (Token k i)) fs r e h f n = drawn_stocks w q k i fs r e h f n
+own_stocks w q x fs r e h f n = plain_stocks w q x fs r h f refl n
+
+act_stocks : (w : World) (q : Party) (x : Place) (fs : List Place) (r : Seen × Part) → w.stack q ≡ record { top = x; below = fs } → StocksHold w → Fair q x (place_part w q x) r → Stocks (world_after w q x fs r)
+act_stocks w q x fs r e h f p j n = by ((p == p0) && (j == i0)) refl
+  where
+    p0 : ℕ
+    p0 = target_pool q (act_of q x)
+
+    i0 : ℕ
+    i0 = target_worker q (act_of q x)
+
+    by : (b : Bool) → ((p == p0) && (j == i0)) ≡ b → sum_below n (λ t. live p j ((world_after w q x fs r).job t)) + one (is_held (if b then r.1.seat else w.seat p j).feeder) ≤ length (if b then r.1.seat else w.seat p j).fifo
+    by true y = let i : (p ≡ p0) × (j ≡ i0) = same_index p j p0 i0 y in
+        subst (λ a. sum_below n (λ t. live a j ((world_after w q x fs r).job t)) + one (is_held r.1.seat.feeder) ≤ length r.1.seat.fifo) (sym (i.0)) (subst (λ b. sum_below n (λ t. live p0 b ((world_after w q x fs r).job t)) + one (is_held r.1.seat.feeder) ≤ length r.1.seat.fifo) (sym (i.1)) (own_stocks w q x fs r e h f n))
+    by false y =
+        let a : sum_below n (λ t. live p j ((world_after w q x fs r).job t)) ≤ sum_below n (λ t. live p j (w.job t)) + up q x p j = act_sum w q x fs r f p j n in
+        let b : sum_below n (λ t. live p j (w.job t)) + one (is_held (w.seat p j).feeder) ≤ length (w.seat p j).fifo = h.stocks p j n in
+        let c : up q x p j ≡ 0 = up_other q x p j y in omega (arith, a, b, c)
+
+go_stocks : (w : World) (q : Party) → StocksHold w → IfSome (outcome w q (w.stack q)) (λ r. Stocks (result w q (w.stack q) r))
+go_stocks w q h = if_some_map (Fair q ((w.stack q).top) (place_part w q ((w.stack q).top))) (λ r. Stocks (result w q (w.stack q) r)) (λ r f. act_stocks w q ((w.stack q).top) ((w.stack q).below) r refl h f) (outcome w q (w.stack q))
+    (act_fair w q ((w.stack q).top) (once w ((h.calls).jobs)) (((h.calls).says q).top) (λ p i e z. held p i e z))
+  where
+    held : (p i : ℕ) → q ≡ Worker p i → is_waiting ((w.stack q).top) ≡ true → (w.seat p i).feeder ≡ Some (Worker p i)
+    held p i e z = some ((w.stack (Worker p i)).top) refl (ap (λ g. is_waiting ((w.stack g).top)) (sym e) ∙ z)
+      where
+        some : (x : Place) → (w.stack (Worker p i)).top ≡ x → is_waiting x ≡ true → (w.seat p i).feeder ≡ Some (Worker p i)
+        some (LookForToken f) y d = ((h.feeders).feeds p i f (ap waits y)).0
+        some (PushToken f v) y d = ((h.feeders).feeds p i f (ap waits y)).0
+        some (TakeFromFifo f) y d = ((h.feeders).feeds p i f (ap waits y)).0
+        some _ y d = absurd (cc)
+
+-- an event that is no act makes no more of them, and leaves the lists
+abbrev pub Fades : World → World → Type 0
+Fades w u = ((p j t : ℕ) → live p j (u.job t) ≤ live p j (w.job t)) × ((p j : ℕ) → u.seat p j ≡ w.seat p j)
+
+fade_stocks : (w u : World) → Stocks w → Fades w u → Stocks u
+fade_stocks w u h f p j n =
+    let a : sum_below n (λ t. live p j (u.job t)) ≤ sum_below n (λ t. live p j (w.job t)) = sum_least_of n (λ t. live p j (w.job t)) (λ t. live p j (u.job t)) (λ t l. f.0 p j t) in
+    let b : sum_below n (λ t. live p j (w.job t)) + one (is_held (w.seat p j).feeder) ≤ length (w.seat p j).fifo = h p j n in
+    subst (λ s. sum_below n (λ t. live p j (u.job t)) + one (is_held s.feeder) ≤ length s.fifo) (sym (f.1 p j)) (omega (arith, a, b))
+
+from_fades : (w : World) (q : Party) (k : Stack) (x : Place) (v : ℕ) → IfSome (after_choice w q k x v) (Fades w)
+from_fades w q k (PickVictim n) v = if_cond (Fades w) (nat_lt v (w.shape.pool (own_pool q)).workers) _ (λ b. (λ p j t. omega arith, λ p j. refl))
+from_fades w q k YieldPick v = if_cond (Fades w) (nat_lt v (w.shape.pool (own_pool q)).workers) _ (λ b. (λ p j t. omega arith, λ p j. refl))
+from_fades w q k _ v = tt
+
+miss_fades : (w : World) (q : Party) (k : Stack) (x : Place) → IfSome (after_miss w q k x) (Fades w)
+miss_fades w (Worker a b) k (StealFrom c n) = if_cond (Fades w) (can_miss w a c.victim) _ (λ y. (λ p j t. omega arith, λ p j. refl))
+miss_fades w (Worker a b) k (YieldSteal v n) = if_cond (Fades w) (can_miss w a v) _ (λ y. (λ p j t. omega arith, λ p j. refl))
+miss_fades w (Worker a b) k _ = tt
+miss_fades w (Caller c) k _ = tt
+
+end_fades : (w : World) (q : Party) (d : Ending) (k : Stack) (x : Place) → IfSome (after_end w q d k x) (Fades w)
+end_fades w q d k (Run u c) = (λ p j t. put_less p j w.job u (at_job (w.job u) (Over d)) t (off_less p j (at_job (w.job u) (Over d)) (live p j (w.job u)) refl), λ p j. refl)
+end_fades w q d k _ = tt
+
+new_less_job : (p j : ℕ) (f : ℕ → Job) (n : ℕ) (q : Party) (a : ℕ) (k : JobKind) (t : ℕ) → live p j (put f n (new_job q a k) t) ≤ live p j (f t)
+new_less_job p j f n q a k t = put_less p j f n (new_job q a k) t (off_less p j (new_job q a k) (live p j (f n)) refl)
+
+two_less_jobs : (p j : ℕ) (f : ℕ → Job) (n : ℕ) (q : Party) (a : ℕ) (k l : JobKind) (t : ℕ) → live p j (put (put f n (new_job q a k)) (n + 1) (new_job q a l) t) ≤ live p j (f t)
+two_less_jobs p j f n q a k l t =
+    let x : live p j (put (put f n (new_job q a k)) (n + 1) (new_job q a l) t) ≤ live p j (put f n (new_job q a k) t) = new_less_job p j (put f n (new_job q a k)) (n + 1) q a l t in
+    let y : live p j (put f n (new_job q a k) t) ≤ live p j (f t) = new_less_job p j f n q a k t in omega (arith, x, y)
+
+spawn_fades : (w : World) (q : Party) (r : ℕ) → IfSome (after_spawn w q r (w.stack q)) (Fades w)
+spawn_fades w q r = if_cond (Fades w) (is_free ((w.stack q).top) && is_pool w.shape r) _ (λ b. (λ p j t. new_less_job p j w.job w.jobs q r (Detached r) t, λ p j. refl))
+
+fifo_fades : (w : World) (q : Party) (r : ℕ) → IfSome (after_fifo w q r (w.stack q)) (Fades w)
+fifo_fades w q r = fifo_cases (Fades w) w q r (spawn_fades w q r) (λ i free. (λ p j t. two_less_jobs p j w.job w.jobs (Worker r i) r (Detached r) (TokenOf i) t, λ p j. refl))
+
+sent_fades : (w : World) (q : Party) (r : ℕ) (b : Bool) → Fades w (after_send w q r (w.stack q) b)
+sent_fades w q r true = (λ p j t. new_less_job p j w.job w.jobs q r Direct t, λ p j. refl)
+sent_fades w q r false = (λ p j t. new_less_job p j w.job w.jobs q r (Stored w.calls q) t, λ p j. refl)
+
+install_fades : (w : World) (q : Party) (r : ℕ) → IfSome (after_install w q r (w.stack q)) (Fades w)
+install_fades w q r = if_cond (Fades w) (is_free ((w.stack q).top) && is_pool w.shape r) _ (λ e. sent_fades w q r (is_member q r))
+
+join_fades : (w : World) (q : Party) → IfSome (after_join w q (w.stack q)) (Fades w)
+join_fades w (Worker a b) = if_cond (Fades w) (is_free ((w.stack (Worker a b)).top)) _ (λ z. (λ p j t. two_less_jobs p j w.job w.jobs (Worker a b) a Direct (Stored w.calls (Worker a b)) t, λ p j. refl))
+join_fades w (Caller n) = tt
+
+yield_fades : (w : World) (q : Party) (x : Place) → IfSome (after_yield w q (w.stack q) x) (Fades w)
+yield_fades w (Worker a b) x = if_cond (Fades w) (is_free ((w.stack (Worker a b)).top)) _ (λ z. (λ p j t. omega arith, λ p j. refl))
+yield_fades w (Caller c) x = tt
+
+give_fades : (w : World) (q : Party) (r : ℕ) → IfSome (after_end_pool w q r (w.stack q)) (Fades w)
+give_fades w q r = if_cond (Fades w) (is_free ((w.stack q).top) && (is_pool w.shape r && (w.pool r).held)) _ (λ b. (λ p j t. omega arith, λ p j. refl))
+
+step_fade : (w : World) (e : Event) → StocksHold w → IfSome (step w e) (Fades w) → IfSome (step w e) Stocks
+step_fade w e h f = if_some_map (Fades w) Stocks (λ u g. fade_stocks w u h.stocks g) (step w e) f
+
+abbrev pub is_act : Event → Bool
+is_act (Go q) = true
+is_act _ = false
+
+pub event_fades : (w : World) (e : Event) → is_act e ≡ false → IfSome (step w e) (Fades w)
+event_fades w (Go q) e = absurd (cc)
+event_fades w (From q v) e = from_fades w q (w.stack q) ((w.stack q).top) v
+event_fades w (Refuse q) e = if_cond (Fades w) (is_refusable ((w.stack q).top)) _ (λ b. (λ p j t. omega arith, λ p j. refl))
+event_fades w (Miss q) e = miss_fades w q (w.stack q) ((w.stack q).top)
+event_fades w (End q d) e = end_fades w q d (w.stack q) ((w.stack q).top)
+event_fades w (Spawn q p) e = spawn_fades w q p
+event_fades w (Fifo q p) e = fifo_fades w q p
+event_fades w (Install q p) e = install_fades w q p
+event_fades w (Join q) e = join_fades w q
+event_fades w (Yield q) e = yield_fades w q YieldPop
+event_fades w (YieldLocal q) e = yield_fades w q LocalPop
+event_fades w (EndPool q p) e = give_fades w q p
+
+step_sums : (w : World) (e : Event) → StocksHold w → IfSome (step w e) Stocks
+step_sums w (Go q) h = acted_keeps w q (w.stack q) (target_pool q (act_of q ((w.stack q).top))) (target_worker q (act_of q ((w.stack q).top))) (target_call (act_of q ((w.stack q).top))) (job_at w q (act_of q ((w.stack q).top))) (outcome w q (w.stack q)) Stocks (go_stocks w q h)
+step_sums w (From q v) h = step_fade w (From q v) h (event_fades w (From q v) refl)
+step_sums w (Refuse q) h = step_fade w (Refuse q) h (event_fades w (Refuse q) refl)
+step_sums w (Miss q) h = step_fade w (Miss q) h (event_fades w (Miss q) refl)
+step_sums w (End q d) h = step_fade w (End q d) h (event_fades w (End q d) refl)
+step_sums w (Spawn q p) h = step_fade w (Spawn q p) h (event_fades w (Spawn q p) refl)
+step_sums w (Fifo q p) h = step_fade w (Fifo q p) h (event_fades w (Fifo q p) refl)
+step_sums w (Install q p) h = step_fade w (Install q p) h (event_fades w (Install q p) refl)
+step_sums w (Join q) h = step_fade w (Join q) h (event_fades w (Join q) refl)
+step_sums w (Yield q) h = step_fade w (Yield q) h (event_fades w (Yield q) refl)
+step_sums w (YieldLocal q) h = step_fade w (YieldLocal q) h (event_fades w (YieldLocal q) refl)
+step_sums w (EndPool q p) h = step_fade w (EndPool q p) h (event_fades w (EndPool q p) refl)
+
+pub step_stocks : (w : World) (e : Event) → StocksHold w → IfSome (step w e) StocksHold
+step_stocks w e h = if_some_map (λ u. CallsHold u × (FeedersHold u × Stocks u)) StocksHold (λ u k. record { calls = k.0; feeders = (k.1).0; stocks = (k.1).1 }) (step w e)
+    (if_some_and CallsHold (λ u. FeedersHold u × Stocks u) (step w e) (step_calls w e h.calls) (if_some_and FeedersHold Stocks (step w e) (step_feeders w e h.feeders) (step_sums w e h)))
+
+-- in the first world there is none
+first_none : (n p j : ℕ) → sum_below n (λ t. live p j blank_job) ≡ 0
+first_none zero p j = refl
+first_none (suc n) p j = let a : sum_below n (λ t. live p j blank_job) ≡ 0 = first_none n p j in omega (arith, a)
+
+pub first_stocks : (h : Shape) → StocksHold (start h)
+first_stocks h = record { calls = first_calls h; feeders = first_feeders h; stocks = λ p j n. (let a : sum_below n (λ t. live p j blank_job) ≡ 0 = first_none n p j in omega (arith, a)) }
+
+pub always_stocks : (h : Shape) (es : List Event) (w : World) → IsRun (start h) es w → StocksHold w
+always_stocks h es w r = run_keeps StocksHold step_stocks (start h) w es (first_stocks h) r
+
+-- a token is redeemed where it begins
+out_place : (q : Party) (x : Place) (k i : ℕ) → act_of q x ≡ FifoOut k i → x ≡ BeginTask (Token k i)
+out_place (Worker a b) (BeginTask (Token m j)) k i e = cc
+out_place (Caller c) (BeginTask (Token m j)) k i e = cc
+out_place q (PushJob n v) k i e = absurd (by (is_member q (plan_pool n)) (pushed q e))
+  where
+    pushed : (q : Party) → act_of q (PushJob n v) ≡ FifoOut k i → push_act q (plan_pool n) (plan_job n) ≡ FifoOut k i
+    pushed (Worker a b) d = d
+    pushed (Caller c) d = d
+
+    by : (z : Bool) → (if z then PushOwn (plan_job n) else PushInj (plan_pool n) (plan_job n)) ≡ FifoOut k i → ⊥
+    by true d = cc
+    by false d = cc
+out_place q (LookQueue n) k i e = absurd (by (is_member q (plan_pool n)) (looked q e))
+  where
+    looked : (q : Party) → act_of q (LookQueue n) ≡ FifoOut k i → look_act q (plan_pool n) ≡ FifoOut k i
+    looked (Worker a b) d = d
+    looked (Caller c) d = d
+
+    by : (z : Bool) → (if z then LookOwn else LookInj (plan_pool n)) ≡ FifoOut k i → ⊥
+    by true d = cc
+    by false d = cc
+out_place (Worker a b) _ k i e = absurd (cc)
+out_place (Caller c) _ k i e = absurd (cc)
+
+pub redeems : (w : World) → StocksHold w → IsRedeemed w
+redeems w h q k i e empty =
+    let at : (w.stack q).top ≡ BeginTask (Token k i) = out_place q ((w.stack q).top) k i e in
+    let a : live (own_pool q) i (w.job k) ≡ 1 = token_live w q k i ((w.stack q).below) (whole (w.stack q) at) (once w ((h.calls).jobs)) (subst (Says w q) at (((h.calls).says q).top)) in
+    let b : sum_below (suc k) (λ t. live (own_pool q) i (w.job t)) + one (is_held (w.seat (own_pool q) i).feeder) ≤ length (w.seat (own_pool q) i).fifo = h.stocks (own_pool q) i (suc k) in
+    let c : live (own_pool q) i (w.job k) ≤ sum_below (suc k) (λ t. live (own_pool q) i (w.job t)) = sum_least (suc k) (λ t. live (own_pool q) i (w.job t)) k (omega arith) in
+    let d : length (w.seat (own_pool q) i).fifo ≡ 0 = ap length empty in omega (arith, a, b, c, d)
+  where
+    whole : (s : Stack) → s.top ≡ BeginTask (Token k i) → s ≡ record { top = BeginTask (Token k i); below = s.below }
+    whole s y = ap (λ x. record { top = x; below = s.below }) y

@@ -26,7 +26,7 @@ InJoin o (Stay (at.JoinTakeCast p)) = p ≡ o
 InJoin o (Stay y) = InWait (Answer o (Some Fine)) (Stay y)
 InJoin o m = Rejoined o m
 
-wait_joins : (o : OpenCall) (m : Move) → InWait (Answer o (Some Fine)) m → InJoin o m
+pub wait_joins : (o : OpenCall) (m : Move) → InWait (Answer o (Some Fine)) m → InJoin o m
 wait_joins o (Stay (at.JoinTakeCast p)) a = absurd a
 wait_joins o (Stay _) a = a
 wait_joins o (Enter f p) a = (inr a.0, a.1)
@@ -36,12 +36,12 @@ wait_joins o (HandBack n) a = absurd a
 wait_joins o (HandIn p n) a = absurd a
 wait_joins o (Discard n) a = absurd a
 
-join_on : (o : OpenCall) (h : PoolShape) (i : ℕ) (y : Place) (x : Seen) → InJoin o (Stay y) → InJoin o (next_of h (Worker 0 i) y x)
+pub join_on : (o : OpenCall) (h : PoolShape) (i : ℕ) (y : Place) (x : Seen) → InJoin o (Stay y) → InJoin o (next_of h (Worker 0 i) y x)
 join_on o h i (at.JoinTakeCast p) (Task t) a = (inl (ap at.JoinProbe a), tt)
 join_on o h i (at.JoinTakeCast p) _ a = ap (λ (z : OpenCall). Answer z (Some Fine)) a
 join_on o h i y x a = wait_joins o (next_of h (Worker 0 i) y x) (wait_on (Answer o (Some Fine)) h i y x a)
 
-join_stopped : (o : OpenCall) (m : Move) → InJoin o m → goes m ≡ false → Rejoined o m
+pub join_stopped : (o : OpenCall) (m : Move) → InJoin o m → goes m ≡ false → Rejoined o m
 join_stopped o (Stay (at.JoinTakeCast p)) a e = absurd (true≢false e)
 join_stopped o (Stay y) a e = absurd (stopped (Answer o (Some Fine)) (Stay y) a e)
 join_stopped o (Enter f p) a e = a

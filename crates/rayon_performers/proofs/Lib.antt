@@ -1,4 +1,5 @@
 pub mod Finds
+pub mod Holds
 pub mod Joins
 pub mod Offers
 pub mod Stretches

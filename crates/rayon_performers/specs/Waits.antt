@@ -1,6 +1,6 @@
 -- How a wait ends: with a task that begins above it, with its latch set, or with the result of the call that it waits for;
 -- and how a join's look for its own second side does.
-use Rattle.std.specs.Prelude.{◌≡◌, ◌⊎◌, Some}
+use Rattle.std.specs.Prelude.{◌≡◌, ◌⊎◌, ◌-◌, ℕ, Some}
 use Rattle.rayon_machine_places.specs.declared.place.Ending.TheVariants.{Fine}
 use Rattle.rayon_machine_places.specs.declared.place.OpenCall.{OpenCall}
 use Rattle.rayon_machine_places.specs.declared.place.Target.{Target}
@@ -10,6 +10,7 @@ use Rattle.rayon_machine_places.specs.declared.place.Place.TheVariants as at
 use Rattle.rayon_machine_places.specs.declared.place.Move.{Move}
 use Rattle.rayon_machine_places.specs.declared.place.Move.TheVariants.{Stay, Enter, Back}
 use Rattle.rayon_machine_places.specs.Places.{fresh}
+use Rattle.rayon_performers.specs.Hands.{Hands}
 
 -- a task that was in a queue begins
 abbrev pub IsTaken : Place → Type 0
@@ -30,3 +31,14 @@ abbrev pub Rejoined : OpenCall → Move → Type 0
 Rejoined o (Enter f p) = ((f ≡ at.JoinProbe o) ⊎ (f ≡ at.ProbeWorking (fresh (Answer o (Some Fine))))) × IsTaken p
 Rejoined o Back = Unit {0}
 Rejoined o m = ⊥
+
+-- the units of the terminate count that the worker's calls hold where a wait, or a join's look, has moved so: a call that
+-- has its result has given its unit back
+abbrev pub units_after : Move → ℕ → ℕ
+units_after Back n = n - 1
+units_after m n = n
+
+module _ {X G O F : Type 0} where
+  -- what one worker of one pool has at hand, before and after
+  abbrev pub SameSeat : Hands X G O F → Hands X G O F → Type 0
+  SameSeat s t = (t.index ≡ s.index) × (t.shape ≡ s.shape)

@@ -17,7 +17,7 @@ ghost use Rattle.rayon_performers.specs.Finds.{StandsLast};
 ghost use Rattle.rayon_performers.specs.Hands.{Does, HasResult, HasTask, HasTicket, Same, kind_of};
 ghost use Rattle.rayon_performers.specs.Stands.{Stands, call_to};
 ghost use Rattle.rayon_performers.specs.Tails.{IsLast, IsTail};
-ghost use Rattle.rayon_performers.specs.Waits.{Rejoined, Waited};
+ghost use Rattle.rayon_performers.specs.Waits.{Rejoined, SameSeat, Waited, units_after};
 ghost use Rattle.rayon_queues.specs.Deques.{SameDeque, Unmoved};
 
 use crate::bench::Bench;
@@ -53,6 +53,8 @@ impl<J: JobKind> Bench<J> {
         ensures path { Driven (λ s a x t. Does a x s t) (λ s. s.trace) self.old.shape (Worker 0 self.old.index) (Stay (at.ProbeWorking (fresh target))) self.old self.new result }
         ensures stands { Stands self.new result }
         ensures ends { Waited target result }
+        ensures units { self.new.holds ≡ units_after result self.old.holds }
+        ensures seat { SameSeat self.old self.new }
     {
         self.drive(rt, Place::ProbeWorking(target.wait()))
     }
@@ -257,6 +259,8 @@ impl<J: JobKind> Bench<J> {
             (λ m. Driven (λ s a x t. Does a x s t) (λ s. s.trace) self.old.shape (Worker 0 self.old.index) (Stay (at.JoinProbe call)) self.old self.new m) }
         ensures own { MatchResult result (λ _. HasTask self.new.task (Some (Plain call.job))) (λ m. Stands self.new m × (goes m ≡ false)) }
         ensures rejoins { IfErr result (λ m. Rejoined call m) }
+        ensures units { MatchResult result (λ _. self.new.holds ≡ self.old.holds) (λ m. self.new.holds ≡ units_after m self.old.holds) }
+        ensures seat { SameSeat self.old self.new }
     {
         let shape = self.shape;
         let index = self.index;

@@ -9,7 +9,7 @@ ghost use Rattle.rayon_machine_places.specs.declared.place.Target.TheVariants.{T
 ghost use Rattle.rayon_performers.specs.Hands.{Does, Needs};
 ghost use Rattle.rayon_performers.specs.Keeps.{bench_needs, bench_on};
 ghost use Rattle.rayon_performers.specs.Stands.{IsWorker, Stands};
-ghost use Rattle.rayon_performers.specs.Waits.{Waited};
+ghost use Rattle.rayon_performers.specs.Waits.{SameSeat, Waited};
 
 use crate::acts::done;
 use crate::bench::Bench;
@@ -95,6 +95,8 @@ impl<J: JobKind> Bench<J> {
         ensures path { Driven (λ s a x t. Does a x s t) (λ s. s.trace) self.old.shape (Worker 0 self.old.index) (Stay (at.ProbeWorking (fresh Termination))) self.old self.new result }
         ensures stands { Stands self.new result }
         ensures ends { Waited Termination result }
+        ensures units { self.new.holds ≡ self.old.holds }
+        ensures seat { SameSeat self.old self.new }
     {
         let shape = self.shape;
         let party = self.party();

@@ -2,8 +2,11 @@ use Rattle.std.proofs.Common.{false, true, refl, sym, subst, true≢false}
 use Rattle.rayon_machine_places.specs.declared.place.Move.TheVariants.{Stay}
 use Rattle.rayon_machine_places.specs.declared.place.Party.TheVariants.{Worker}
 use Rattle.rayon_machine_places.specs.declared.place.Place.TheVariants as at
-use Rattle.rayon_machine_places.specs.declared.act.Seen.TheVariants.{Yes}
+use Rattle.rayon_machine_places.specs.declared.place.Latch.TheVariants.{OfCall}
+use Rattle.rayon_machine_places.specs.declared.act.Act.TheVariants as acts
+use Rattle.rayon_machine_places.specs.declared.act.Seen.TheVariants.{Yes, No}
 use Rattle.rayon_machine_places.specs.Places.{next_of}
+use Rattle.rayon_performers.proofs.Holds.{chain, does_holds, does_stays, drive_stays, join_holds, popped_closes, seat_then}
 use Rattle.rayon_performers.proofs.Joins.{join_ends, popped_joins}
 use Rattle.rayon_performers.proofs.Offers.{join_probed, join_popped, own_popped}
 use Rattle.rayon_performers.proofs.Stretches.{So, and_then}
@@ -60,3 +63,55 @@ returns-clause-rejoins g c =
     (popped_joins h i o c.pop_own-popped.result (λ e. true≢false (sym (c.if-is_task.ensures.1 e))))
     (subst (λ v. So v.shape v.index (next_of v.shape (Worker 0 v.index) (at.JoinPop o) c.pop_own-popped.result) c.pop_own-popped.new.self c.go_on_from-2.result c.go_on_from-2.new.self) c.self.view_is c.go_on_from-2.ensures.path)
     c.go_on_from-2.ensures.stops
+
+pub returns-then-probe-clause-units : goal.returns-then-probe-clause-units
+returns-then-probe-clause-units g c =
+    let h = c.args.self.now.shape in
+    let i = c.args.self.now.index in
+    let o = c.args.call in
+    let s = c.args.self.now in
+    join_holds h i o s.holds (next_of h (Worker 0 i) (at.JoinProbe o) Yes) c.probe.new.self c.go_on_from.new.self c.go_on_from.result tt tt
+    (does_holds (acts.Probe (OfCall o.number)) Yes s c.probe.new.self refl c.if-probe.ensures.does)
+    (subst (λ v. So v.shape v.index (next_of v.shape (Worker 0 v.index) (at.JoinProbe o) Yes) c.probe.new.self c.go_on_from.result c.go_on_from.new.self) c.self.view_is c.go_on_from.ensures.path)
+    c.go_on_from.ensures.stops
+
+pub returns-then-probe-clause-seat : goal.returns-then-probe-clause-seat
+returns-then-probe-clause-seat g c =
+    let h = c.args.self.now.shape in
+    let i = c.args.self.now.index in
+    let o = c.args.call in
+    let s = c.args.self.now in
+    seat_then s c.probe.new.self c.go_on_from.new.self
+    (does_stays (acts.Probe (OfCall o.number)) Yes s c.probe.new.self c.if-probe.ensures.does)
+    (drive_stays h i (next_of h (Worker 0 i) (at.JoinProbe o) Yes) c.probe.new.self c.go_on_from.new.self c.go_on_from.result
+    (subst (λ v. So v.shape v.index (next_of v.shape (Worker 0 v.index) (at.JoinProbe o) Yes) c.probe.new.self c.go_on_from.result c.go_on_from.new.self) c.self.view_is c.go_on_from.ensures.path))
+
+pub returns-clause-units : goal.returns-clause-units
+returns-clause-units g c =
+    let h = c.args.self.now.shape in
+    let i = c.args.self.now.index in
+    let o = c.args.call in
+    let s = c.args.self.now in
+    let x = c.pop_own-popped.result in
+    let even = popped_closes h i o x s.holds in
+    join_holds h i o s.holds (next_of h (Worker 0 i) (at.JoinPop o) x) c.pop_own-popped.new.self c.go_on_from-2.new.self c.go_on_from-2.result
+    (popped_joins h i o x (λ e. true≢false (sym (c.if-is_task.ensures.1 e))))
+    even.0
+    (chain (does_holds acts.PopOwn x c.probe.new.self c.pop_own-popped.new.self refl c.pop_own-popped.ensures.does)
+    (chain (does_holds (acts.Probe (OfCall o.number)) No s c.probe.new.self refl c.if-probe.ensures.does) (sym even.1)))
+    (subst (λ v. So v.shape v.index (next_of v.shape (Worker 0 v.index) (at.JoinPop o) x) c.pop_own-popped.new.self c.go_on_from-2.result c.go_on_from-2.new.self) c.self.view_is c.go_on_from-2.ensures.path)
+    c.go_on_from-2.ensures.stops
+
+pub returns-clause-seat : goal.returns-clause-seat
+returns-clause-seat g c =
+    let h = c.args.self.now.shape in
+    let i = c.args.self.now.index in
+    let o = c.args.call in
+    let s = c.args.self.now in
+    let x = c.pop_own-popped.result in
+    seat_then s c.pop_own-popped.new.self c.go_on_from-2.new.self
+    (seat_then s c.probe.new.self c.pop_own-popped.new.self
+    (does_stays (acts.Probe (OfCall o.number)) No s c.probe.new.self c.if-probe.ensures.does)
+    (does_stays acts.PopOwn x c.probe.new.self c.pop_own-popped.new.self c.pop_own-popped.ensures.does))
+    (drive_stays h i (next_of h (Worker 0 i) (at.JoinPop o) x) c.pop_own-popped.new.self c.go_on_from-2.new.self c.go_on_from-2.result
+    (subst (λ v. So v.shape v.index (next_of v.shape (Worker 0 v.index) (at.JoinPop o) x) c.pop_own-popped.new.self c.go_on_from-2.result c.go_on_from-2.new.self) c.self.view_is c.go_on_from-2.ensures.path))

@@ -11,6 +11,7 @@ use Rattle.rayon_machine_places.specs.Places.{fresh}
 use Rattle.rayon_drive.specs.Paths.{Driven}
 use Rattle.rayon_performers.specs.Hands.{Hands, Does}
 use Rattle.rayon_performers.specs.Stands.{Stands}
+use Rattle.rayon_performers.proofs.Holds.{chain, drive_stays, stops_even, wait_holds}
 use Rattle.rayon_performers.proofs.Stretches.{So}
 use Rattle.rayon_performers.proofs.Waits.{wait_ends}
 use Rattle.rayon_performers.proofs.bench.Bench.wait_on.Goals as goal
@@ -40,3 +41,20 @@ returns-clause-ends g c =
     let t = c.drive.new.self.bench.now in
     let waited = of_wait c.self.inside.shape c.party-party.result s.index c.wait.result c.new-waiter.result.bench.now s t c.drive.result c.party-party.ensures c.wait.ensures c.new-waiter.ensures.bench c.drive.ensures.path in
     wait_ends c.self.inside.shape s.index Termination s t c.drive.result waited c.drive.ensures.stops
+
+pub returns-clause-units : goal.returns-clause-units
+returns-clause-units g c =
+    let s = c.args.self.now in
+    let t = c.drive.new.self.bench.now in
+    let waited = of_wait c.self.inside.shape c.party-party.result s.index c.wait.result c.new-waiter.result.bench.now s t c.drive.result c.party-party.ensures c.wait.ensures c.new-waiter.ensures.bench c.drive.ensures.path in
+    let ends = wait_ends c.self.inside.shape s.index Termination s t c.drive.result waited c.drive.ensures.stops in
+    let holds = chain (wait_holds c.self.inside.shape s.index Termination s t c.drive.result waited c.drive.ensures.stops) (stops_even s.holds c.drive.result ends) in
+    search rules
+
+pub returns-clause-seat : goal.returns-clause-seat
+returns-clause-seat g c =
+    let s = c.args.self.now in
+    let t = c.drive.new.self.bench.now in
+    let waited = of_wait c.self.inside.shape c.party-party.result s.index c.wait.result c.new-waiter.result.bench.now s t c.drive.result c.party-party.ensures c.wait.ensures c.new-waiter.ensures.bench c.drive.ensures.path in
+    let seat = drive_stays c.self.inside.shape s.index (Stay (at.ProbeWorking (fresh Termination))) s t c.drive.result waited in
+    (search rules, search rules)

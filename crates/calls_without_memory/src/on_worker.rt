@@ -1,4 +1,5 @@
 //! The calls that a job makes on its worker, and what they give.
+ghost use Rattle.rayon_core.specs.Worker.{SameWorker};
 ghost use Rattle.std.specs.Prelude.{◌≡◌, ℕ, ◌≤◌};
 
 use crate::outcome::{Outcome, Report};
@@ -38,8 +39,7 @@ pub fn make_on_worker<R: Waits<Work>>(
     call: WorkerCall,
 ) -> Result<Report, Refusal>
     requires { w.old.levels ≤ R.levels rt.now }
-    ensures id { w.new.id ≡ w.old.id }
-    ensures level { w.new.levels ≡ w.old.levels }
+    ensures same { SameWorker w.old w.new }
 {
     if call == WorkerCall::Deep {
         return deep(rt, alloc, w, runs, DEPTH);
@@ -61,8 +61,7 @@ fn make_once<R: Waits<Work>>(
     call: WorkerCall,
 ) -> Result<Outcome, Refusal>
     requires { w.old.levels ≤ R.levels rt.now }
-    ensures id { w.new.id ≡ w.old.id }
-    ensures level { w.new.levels ≡ w.old.levels }
+    ensures same { SameWorker w.old w.new }
 {
     match call {
         WorkerCall::Join => join(rt, alloc, w, runs, Deed::Number(20)),
@@ -83,8 +82,7 @@ fn join<R: Waits<Work>>(
     deed: Deed,
 ) -> Result<Outcome, Refusal>
     requires { w.old.levels ≤ R.levels rt.now }
-    ensures id { w.new.id ≡ w.old.id }
-    ensures level { w.new.levels ≡ w.old.levels }
+    ensures same { SameWorker w.old w.new }
 {
     let first = Work::new(Name::First, runs, deed)?;
     let second = Work::new(Name::Second, runs, Deed::Number(3))?;
@@ -100,8 +98,7 @@ fn install<R: Waits<Work>>(
     runs: &Arc<AtomicU64>,
 ) -> Result<Outcome, Refusal>
     requires { w.old.levels ≤ R.levels rt.now }
-    ensures id { w.new.id ≡ w.old.id }
-    ensures level { w.new.levels ≡ w.old.levels }
+    ensures same { SameWorker w.old w.new }
 {
     let job = Work::new(Name::First, runs, Deed::Number(7))?;
     Ok(match w.install(rt, alloc, job) {
@@ -118,8 +115,7 @@ fn install<R: Waits<Work>>(
 // Waits until a latch is set that is set.
 fn wait_until<R: Waits<Work>>(rt: &R, alloc: Global, w: &mut WorkerThread<Work>) -> Outcome
     requires { w.old.levels ≤ R.levels rt.now }
-    ensures id { w.new.id ≡ w.old.id }
-    ensures level { w.new.levels ≡ w.old.levels }
+    ensures same { SameWorker w.old w.new }
 {
     let latch = CoreLatch::new();
     latch.set(rt);
@@ -144,8 +140,7 @@ fn owner(w: &WorkerThread<Work>, runs: &Arc<AtomicU64>) -> Outcome {
 /// Takes the newest task out of the worker's own deque and pushes it again, and once more where that is refused: then
 /// it answers one less than 20.
 pub fn push_again<R: Wait>(rt: &R, w: &mut WorkerThread<Work>) -> Result<Answer, Refusal>
-    ensures id { w.new.id ≡ w.old.id }
-    ensures level { w.new.levels ≡ w.old.levels }
+    ensures same { SameWorker w.old w.new }
 {
     let Some(task) = w.take_local_job(rt) else {
         return Ok(Answer::Number(0));
@@ -169,8 +164,7 @@ pub fn deep<R: Waits<Work>>(
     depth: u32,
 ) -> Result<Report, Refusal>
     requires { w.old.levels ≤ R.levels rt.now }
-    ensures id { w.new.id ≡ w.old.id }
-    ensures level { w.new.levels ≡ w.old.levels }
+    ensures same { SameWorker w.old w.new }
 {
     let report = join_below(rt, alloc, w, runs, depth)?;
     match report {
@@ -197,8 +191,7 @@ fn join_below<R: Waits<Work>>(
     depth: u32,
 ) -> Result<Report, Refusal>
     requires { w.old.levels ≤ R.levels rt.now }
-    ensures id { w.new.id ≡ w.old.id }
-    ensures level { w.new.levels ≡ w.old.levels }
+    ensures same { SameWorker w.old w.new }
 {
     let Some(below) = depth.checked_sub(1) else {
         return Ok(Report::of(Outcome::Answered(0)));

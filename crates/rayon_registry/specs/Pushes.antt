@@ -1,5 +1,5 @@
--- What a contract reads of a worker's own deque.
-use Rattle.std.specs.Prelude.{List, Bool}
+-- What a contract reads of what a worker has at hand.
+use Rattle.std.specs.Prelude.{List, Bool, ℕ}
 use Rattle.rayon_tasks.specs.Tasks.{TaskOf}
 use Rattle.rayon_performers.specs.Hands.{Hands}
 
@@ -14,3 +14,7 @@ left_to h = h.own.left
 -- whether it takes its oldest task first
 unfoldable pub takes_oldest : {X G O F : Type 0} → Hands X G O F → Bool
 takes_oldest h = h.own.oldest_first
+
+-- the units of the terminate count that its calls hold
+unfoldable pub units_of : {X G O F : Type 0} → Hands X G O F → ℕ
+units_of h = h.holds

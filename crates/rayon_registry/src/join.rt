@@ -1,8 +1,8 @@
 //! Two sides on one worker value.
 ghost use Rattle.rayon_registry.specs.Answers.{joined, JoinAnswers};
-ghost use Rattle.rayon_registry.specs.Worker.{SameWorker};
+ghost use Rattle.rayon_registry.specs.Worker.{EndedCall, SameWorker};
 ghost use Rattle.rayon_tasks.specs.Tasks.{OneJob};
-ghost use Rattle.std.specs.Prelude.{◌≡◌, ◌⊎◌, ℕ, ◌≤◌, ◌<◌, [], ◌∷◌, ◌++◌, ◌-◌, Bool, Result, Ok, Err, IfOk, IfErr, suc, true, false};
+ghost use Rattle.std.specs.Prelude.{◌≡◌, ◌⊎◌, ℕ, ◌≤◌, ◌<◌, [], ◌∷◌, ◌++◌, ◌+◌, ◌-◌, Bool, Result, Ok, Err, IfOk, IfErr, suc, true, false};
 
 use crate::answers::join_answer;
 use crate::context::{Context, FnContext, Scope};
@@ -10,7 +10,7 @@ use crate::job::Waits;
 use crate::worker_thread::WorkerThread;
 use rayon_jobs::{Done, JobKind, Lost, claimed};
 use rayon_machine_places::place::{Ending, Move, OpenCall, Place, Target, Then};
-use rayon_tasks::{Ticket, task_parts};
+use rayon_tasks::{Task, Ticket, task_parts};
 use rayon_words::{CallError, Refusal};
 use std::alloc::Global;
 use std::marker::Model;
@@ -71,7 +71,7 @@ impl<J: JobKind> WorkerThread<J> {
     // Takes a unit of the terminate count, makes the ticket, pushes the second side, and tells the others of it.
     // Refused as a join is.
     #[inline(always)]
-    #[tactic(auto, unfolding(crate::specs::Pushes::pushed_by, crate::specs::Pushes::left_to, crate::specs::Pushes::takes_oldest))]
+    #[tactic(auto, unfolding(crate::specs::Pushes::pushed_by, crate::specs::Pushes::left_to, crate::specs::Pushes::takes_oldest, crate::specs::Pushes::units_of))]
     fn fork<R: Wait>(
         &mut self,
         rt: &R,
@@ -80,7 +80,7 @@ impl<J: JobKind> WorkerThread<J> {
         injected: bool,
     ) -> Result<Fork<J>, (Refusal, J)>
         ensures forked { IfOk result (λ f. (f.tag ≡ J.tag_of b) × (f.levels ≡ self.old.levels) × (0 < self.old.levels)) }
-        ensures pushed { IfOk result (λ f. self.new ≡ record self.old { pushed = self.old.pushed ++ record { work = OneJob b; injected = injected; ticket = f.ticket } ∷ []; left = self.old.left ++ record { work = OneJob b; injected = injected; ticket = f.ticket } ∷ [] }) }
+        ensures pushed { IfOk result (λ f. self.new ≡ record self.old { pushed = self.old.pushed ++ record { work = OneJob b; injected = injected; ticket = f.ticket } ∷ []; left = self.old.left ++ record { work = OneJob b; injected = injected; ticket = f.ticket } ∷ []; units = self.old.units + 1 }) }
         ensures back { IfErr result (λ e. (e.1 ≡ b) × (self.new ≡ self.old)) }
         ensures deep { self.old.levels ≡ 0 → result ≡ Err (Refusal.TooDeep, b) }
         ensures shallow { IfErr result (λ e. e.0 ≡ Refusal.TooDeep → self.old.levels ≡ 0) }
@@ -113,7 +113,7 @@ impl<J: JobKind> WorkerThread<J> {
         requires some { 0 < self.old.levels }
         requires levels { self.old.levels ≤ R.levels rt.now }
         ensures tag { result.1 ≡ fork.tag }
-        ensures same { SameWorker self.old self.new }
+        ensures ended { EndedCall self.old self.new }
     {
         let Fork {
             ticket,
@@ -141,6 +141,7 @@ impl<J: JobKind> WorkerThread<J> {
     // Takes the own second side back and runs it, or runs what lies above it until it is met, or waits for the result
     // of the worker that stole it.
     #[inline(always)]
+    #[tactic(auto, unfolding(crate::specs::Pushes::units_of))]
     fn second_side<R: Waits<J>>(
         &mut self,
         rt: &R,
@@ -151,13 +152,18 @@ impl<J: JobKind> WorkerThread<J> {
         requires some { 0 < self.old.levels }
         requires levels { self.old.levels ≤ R.levels rt.now }
         requires ticket { ticket.number ≡ call.number }
-        ensures same { SameWorker self.old self.new }
+        ensures ended { EndedCall self.old self.new }
     {
         let mut ticket = Some(ticket);
         for _ in rt.forever() {
             self.bench.set_call(ticket);
             match self.bench.reclaim(rt, call) {
-                Ok(()) => return self.run_second(rt, alloc, call),
+                Ok(()) => {
+                    let Some(task) = self.bench.take_task() else {
+                        unreachable!()
+                    };
+                    return Some(self.run_second(rt, alloc, call, task));
+                }
                 Err(
                     Move::Enter {
                         frame,
@@ -182,14 +188,18 @@ impl<J: JobKind> WorkerThread<J> {
 
     // Runs the own second side, which was taken back, and gives the unit of the terminate count back.
     #[inline(always)]
-    fn run_second<R: Waits<J>>(&mut self, rt: &R, alloc: Global, call: OpenCall) -> Option<Done<J>>
+    #[tactic(auto, unfolding(crate::specs::Pushes::units_of))]
+    fn run_second<R: Waits<J>>(
+        &mut self,
+        rt: &R,
+        alloc: Global,
+        call: OpenCall,
+        task: Task<J>,
+    ) -> Done<J>
         requires some { 0 < self.old.levels }
         requires levels { self.old.levels ≤ R.levels rt.now }
-        ensures same { SameWorker self.old self.new }
+        ensures ended { EndedCall self.old self.new }
     {
-        let Some(task) = self.bench.take_task() else {
-            return None;
-        };
         let (work, injected, _ticket) = task_parts(task);
         self.bench.begin_here(call.job);
         let (done, first) = self.run_work(rt, alloc, work, injected);
@@ -202,7 +212,7 @@ impl<J: JobKind> WorkerThread<J> {
             last: done.ending(),
         };
         self.bench.lower_then(rt, call.job, then);
-        Some(done)
+        done
     }
 
     // Joins two sides that were sent to the pool; where the join is refused, they run one after the other.
@@ -268,6 +278,9 @@ pub trait Sides<J: JobKind> {
     /// The pool's number and the worker's index.
     ghost id: { Self → ℕ × ℕ };
 
+    /// The units of the terminate count that the worker's calls hold.
+    ghost units: { Self → ℕ };
+
     /// The tag of the job that was handed in as the second side.
     ghost fork_tag: { Self.Fork → J.Tag };
 
@@ -285,7 +298,8 @@ pub trait Sides<J: JobKind> {
         ensures back { IfErr result (λ e. (e.1 ≡ b) × (self.new ≡ self.old)) }
         ensures deep { height self.old ≡ 0 → result ≡ Err (Refusal.TooDeep, b) }
         ensures shallow { IfErr result (λ e. e.0 ≡ Refusal.TooDeep → height self.old ≡ 0) }
-        ensures id { id self.new ≡ id self.old };
+        ensures id { id self.new ≡ id self.old }
+        ensures units { IfOk result (λ f. units self.new ≡ units self.old + 1) };
 
     /// Takes the worker value back, waits for the second side, and claims its result.
     fn end_join<R: Waits<J>>(
@@ -299,7 +313,8 @@ pub trait Sides<J: JobKind> {
         requires levels { fork_levels fork ≤ R.levels rt.now }
         ensures ok { IfOk result (λ r. J.answers (fork_tag fork) r) }
         ensures height { height self.new ≡ fork_levels fork }
-        ensures id { id self.new ≡ id self.old };
+        ensures id { id self.new ≡ id self.old }
+        ensures units { units self.new ≡ units self.old - 1 };
 }
 
 impl<J: JobKind> Sides<J> for WorkerThread<J> {
@@ -310,6 +325,8 @@ impl<J: JobKind> Sides<J> for WorkerThread<J> {
     ghost height = { λ w. w.levels };
 
     ghost id = { λ w. (w.id.pool.number, w.id.index) };
+
+    ghost units = { λ w. w.units };
 
     ghost fork_tag = { λ f. f.tag };
 
@@ -357,7 +374,7 @@ pub trait ForkJoin<J: JobKind>: Sides<J> {
     ) -> Result<(RA, J::Output), CallError<J::Fault, (A, J)>>
         requires levels { Self.height self.old ≤ R.levels rt.now }
         requires callable { (w : _) (ctx : _) → ctx.now.migrated ≡ false → suc (Self.height w.now) ≡ Self.height self.old → Self.id w.now ≡ Self.id self.old → A.pre a w ctx }
-        requires keeps { (w : _) (ctx : _) (r : _) (v : _) (k : _) → A.post a w ctx r v k → (Self.height v.now ≡ Self.height w.now) × (Self.id v.now ≡ Self.id w.now) }
+        requires keeps { (w : _) (ctx : _) (r : _) (v : _) (k : _) → A.post a w ctx r v k → (Self.height v.now ≡ Self.height w.now) × (Self.id v.now ≡ Self.id w.now) × (Self.units v.now ≡ Self.units w.now) }
         ensures answers { JoinAnswers (λ r. (w : _) × (ctx : _) × (v : _) × (k : _) × A.post a w ctx r v k × (ctx.now.migrated ≡ false)) (λ r. J.answers (J.tag_of b) r) (a, b) result }
         ensures lost { (result ≡ Err CallError.Missing) ⊎ (result ≡ Err CallError.Foreign) → (x : _) × (w : _) × (ctx : _) × (v : _) × (k : _) × A.post a w ctx (Ok x) v k }
         ensures kept { (r : _) (sides : _) → result ≡ Err (CallError.Refused r sides) → self.new ≡ self.old }
@@ -365,6 +382,7 @@ pub trait ForkJoin<J: JobKind>: Sides<J> {
         ensures shallow { (sides : _) → result ≡ Err (CallError.Refused Refusal.TooDeep sides) → Self.height self.old ≡ 0 }
         ensures height { Self.height self.new ≡ Self.height self.old }
         ensures id { Self.id self.new ≡ Self.id self.old }
+        ensures units { Self.units self.new ≡ Self.units self.old }
     {
         let fork = match self.begin_join(rt, alloc, b) {
             Ok(fork) => fork,
@@ -389,7 +407,7 @@ pub trait ForkJoin<J: JobKind>: Sides<J> {
     ) -> Result<(RA, J::Output), CallError<J::Fault, (A, J)>>
         requires levels { Self.height self.old ≤ R.levels rt.now }
         requires callable { (w : _) (ctx : _) → ctx.now.migrated ≡ false → suc (Self.height w.now) ≡ Self.height self.old → Self.id w.now ≡ Self.id self.old → A.pre a w ctx }
-        requires keeps { (w : _) (ctx : _) (r : _) (v : _) (k : _) → A.post a w ctx r v k → (Self.height v.now ≡ Self.height w.now) × (Self.id v.now ≡ Self.id w.now) }
+        requires keeps { (w : _) (ctx : _) (r : _) (v : _) (k : _) → A.post a w ctx r v k → (Self.height v.now ≡ Self.height w.now) × (Self.id v.now ≡ Self.id w.now) × (Self.units v.now ≡ Self.units w.now) }
         ensures answers { JoinAnswers (λ r. (w : _) × (ctx : _) × (v : _) × (k : _) × A.post a w ctx r v k × (ctx.now.migrated ≡ false)) (λ r. J.answers (J.tag_of b) r) (a, b) result }
         ensures lost { (result ≡ Err CallError.Missing) ⊎ (result ≡ Err CallError.Foreign) → (x : _) × (w : _) × (ctx : _) × (v : _) × (k : _) × A.post a w ctx (Ok x) v k }
         ensures kept { (r : _) (sides : _) → result ≡ Err (CallError.Refused r sides) → self.new ≡ self.old }
@@ -397,6 +415,7 @@ pub trait ForkJoin<J: JobKind>: Sides<J> {
         ensures shallow { (sides : _) → result ≡ Err (CallError.Refused Refusal.TooDeep sides) → Self.height self.old ≡ 0 }
         ensures height { Self.height self.new ≡ Self.height self.old }
         ensures id { Self.id self.new ≡ Self.id self.old }
+        ensures units { Self.units self.new ≡ Self.units self.old }
     {
         self.join(rt, alloc, a, b)
     }

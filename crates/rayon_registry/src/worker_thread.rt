@@ -3,7 +3,7 @@ ghost use Rattle.rayon_performers.specs.Hands.{HasTicket};
 ghost use Rattle.rayon_performers.specs.Stands.{call_to};
 ghost use Rattle.rayon_queues.specs.Deques.{Leaves};
 ghost use Rattle.rayon_registry.specs.Answers.{InstallAnswers};
-ghost use Rattle.rayon_registry.specs.Worker.{SameWorker};
+ghost use Rattle.rayon_registry.specs.Worker.{AfterWait, SameWorker};
 ghost use Rattle.std.specs.Prelude.{◌≡◌, ◌⊎◌, ℕ, [], ◌∷◌, ◌++◌, ◌-◌, ◌<◌, ◌≤◌, ◌↔◌, IsTrue, List, Result, Ok, Err, IfOk, IfSome, IfNone, IfErr, MatchResult, None, true, false};
 
 use crate::context::FnContext;
@@ -24,7 +24,7 @@ use std::marker::Model;
 use std::sync::Wait;
 
 /// A worker of a pool, lent to each run. Contracts see whose it is, the levels that are left, the tasks that it pushed,
-/// and those of them that it did not take back.
+/// those of them that it did not take back, and the units of the terminate count that its calls hold.
 #[derive(Drop)]
 pub struct WorkerThread<J: JobKind> {
     pub(crate) id: WorkerId,
@@ -36,15 +36,16 @@ pub struct WorkerThread<J: JobKind> {
 impl<J: JobKind> Model for WorkerThread<J> {
     ghost use Rattle.rayon_registry.specs.Worker.{Worker};
     ghost use Rattle.rayon_tasks.specs.Tasks.{TaskOf};
-    ghost use Rattle.rayon_registry.specs.Pushes.{left_to, pushed_by, takes_oldest};
+    ghost use Rattle.rayon_registry.specs.Pushes.{left_to, pushed_by, takes_oldest, units_of};
 
     ghost Value = { Worker (TaskOf J) };
 
-    ghost view = { λ w. record { id = w.id; levels = w.levels; pushed = pushed_by w.bench; left = left_to w.bench; oldest_first = takes_oldest w.bench } };
+    ghost view = { λ w. record { id = w.id; levels = w.levels; pushed = pushed_by w.bench; left = left_to w.bench; oldest_first = takes_oldest w.bench; units = units_of w.bench } };
 }
 
 impl<J: JobKind> WorkerThread<J> {
     /// The worker with this index of the pool, whose own deque this is. There is one value for each.
+    #[tactic(auto, unfolding(crate::specs::Pushes::units_of))]
     pub(crate) fn new(
         registry: Registry<J>,
         index: usize,
@@ -54,6 +55,7 @@ impl<J: JobKind> WorkerThread<J> {
         ensures pool { result.id.pool ≡ registry.id }
         ensures index { result.id.index ≡ index }
         ensures levels { result.levels ≡ registry.depth_limit }
+        ensures units { result.units ≡ 0 }
     {
         let PoolShare { id, shared } = registry.pool;
         let levels = shared.depth_limit();
@@ -95,7 +97,7 @@ impl<J: JobKind> WorkerThread<J> {
 
     /// Runs a job at once, with exactly one level fewer. Refused `TooDeep` exactly where no level is left, `Ended`,
     /// `Full`, with the job back and the worker value unchanged. It is never `Foreign` or `Missing`.
-    #[tactic(auto, unfolding(crate::specs::Pushes::pushed_by, crate::specs::Pushes::left_to, crate::specs::Pushes::takes_oldest))]
+    #[tactic(auto, unfolding(crate::specs::Pushes::pushed_by, crate::specs::Pushes::left_to, crate::specs::Pushes::takes_oldest, crate::specs::Pushes::units_of))]
     pub fn install<R: Waits<J>>(
         &mut self,
         rt: &R,
@@ -133,7 +135,7 @@ impl<J: JobKind> WorkerThread<J> {
 
     /// Whether nothing lies in the worker's own deque. It is so where nothing that the worker pushed is left to it;
     /// else thieves may have taken that.
-    #[tactic(auto, unfolding(crate::specs::Pushes::pushed_by, crate::specs::Pushes::left_to, crate::specs::Pushes::takes_oldest))]
+    #[tactic(auto, unfolding(crate::specs::Pushes::pushed_by, crate::specs::Pushes::left_to, crate::specs::Pushes::takes_oldest, crate::specs::Pushes::units_of))]
     pub fn local_deque_is_empty(&mut self) -> bool
         ensures empty { self.old.left ≡ [] → result ≡ true }
         ensures same { self.new ≡ self.old }
@@ -143,7 +145,7 @@ impl<J: JobKind> WorkerThread<J> {
 
     /// Puts a task last into the worker's own deque, and wakes whom that owes a wake. Refused `NoRoom`, with the task
     /// back and nothing added. It raises no count.
-    #[tactic(auto, unfolding(crate::specs::Pushes::pushed_by, crate::specs::Pushes::left_to, crate::specs::Pushes::takes_oldest))]
+    #[tactic(auto, unfolding(crate::specs::Pushes::pushed_by, crate::specs::Pushes::left_to, crate::specs::Pushes::takes_oldest, crate::specs::Pushes::units_of))]
     pub fn push<R: Wait>(&mut self, rt: &R, task: Task<J>) -> Result<(), (Refusal, Task<J>)>
         ensures pushed { MatchResult result (λ _. self.new ≡ record self.old { pushed = self.old.pushed ++ task ∷ []; left = self.old.left ++ task ∷ [] }) (λ e. (e ≡ (Refusal.NoRoom, task)) × (self.new ≡ self.old)) }
     {
@@ -155,7 +157,7 @@ impl<J: JobKind> WorkerThread<J> {
 
     /// Takes the newest task of the worker's own deque, or the oldest where that is its order. None where nothing lies
     /// there.
-    #[tactic(auto, unfolding(crate::specs::Pushes::pushed_by, crate::specs::Pushes::left_to, crate::specs::Pushes::takes_oldest))]
+    #[tactic(auto, unfolding(crate::specs::Pushes::pushed_by, crate::specs::Pushes::left_to, crate::specs::Pushes::takes_oldest, crate::specs::Pushes::units_of))]
     pub fn take_local_job<R: Wait>(&mut self, rt: &R) -> Option<Task<J>>
         ensures some { IfSome result (λ t. Leaves self.old.oldest_first self.old.left t self.new.left) }
         ensures none { IfNone result (self.new.left ≡ self.old.left) }
@@ -166,7 +168,7 @@ impl<J: JobKind> WorkerThread<J> {
 
     /// Looks for a task: in the worker's own deque, in the other workers', from a chosen one on, each once, and last
     /// among the injected ones. None where each look missed.
-    #[tactic(auto, unfolding(crate::specs::Pushes::pushed_by, crate::specs::Pushes::left_to, crate::specs::Pushes::takes_oldest))]
+    #[tactic(auto, unfolding(crate::specs::Pushes::pushed_by, crate::specs::Pushes::left_to, crate::specs::Pushes::takes_oldest, crate::specs::Pushes::units_of))]
     pub fn find_work<R: Wait>(&mut self, rt: &R) -> Option<Task<J>>
         ensures some { IfSome result (λ t. Leaves self.old.oldest_first self.old.left t self.new.left ⊎ (self.new.left ≡ self.old.left)) }
         ensures none { IfNone result (self.new.left ≡ self.old.left) }
@@ -178,6 +180,7 @@ impl<J: JobKind> WorkerThread<J> {
     /// Runs queued tasks until the latch is set, and sleeps where nothing is queued: who sets the latch wakes the
     /// worker if it does so through its `owner`, as a `SpinLatch` does. Refused `TooDeep` exactly where no level is
     /// left.
+    #[tactic(auto, unfolding(crate::specs::Pushes::units_of))]
     pub fn wait_until<R: Waits<J>>(
         &mut self,
         rt: &R,
@@ -212,6 +215,7 @@ impl<J: JobKind> WorkerThread<J> {
     // The worker's loop: it works until the pool has ended.
     pub(crate) fn main_loop<R: Waits<J>>(&mut self, rt: &R, alloc: Global)
         requires levels { self.old.levels ≤ R.levels rt.now }
+        ensures same { SameWorker self.old self.new }
     {
         if self.levels > 0 {
             self.wait_for(rt, alloc, Target::Termination, None);
@@ -220,6 +224,7 @@ impl<J: JobKind> WorkerThread<J> {
 
     // Waits for this, with the ticket of the call if it is a call's result, and runs the tasks that it meets meanwhile.
     // Answers the result that was found.
+    #[tactic(auto, unfolding(crate::specs::Pushes::units_of))]
     pub(crate) fn wait_for<R: Waits<J>>(
         &mut self,
         rt: &R,
@@ -230,7 +235,7 @@ impl<J: JobKind> WorkerThread<J> {
         requires some { 0 < self.old.levels }
         requires levels { self.old.levels ≤ R.levels rt.now }
         requires ticket { HasTicket ticket (call_to target) }
-        ensures same { SameWorker self.old self.new }
+        ensures after { AfterWait target self.old self.new }
     {
         let mut ticket = ticket;
         for _ in rt.forever() {
@@ -254,6 +259,7 @@ impl<J: JobKind> WorkerThread<J> {
     }
 
     // Runs a task that was taken and has begun, and tells its call.
+    #[tactic(auto, unfolding(crate::specs::Pushes::units_of))]
     pub(crate) fn run_task<R: Waits<J>>(&mut self, rt: &R, alloc: Global, task: Task<J>)
         requires some { 0 < self.old.levels }
         requires levels { self.old.levels ≤ R.levels rt.now }

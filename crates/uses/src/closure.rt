@@ -1,4 +1,5 @@
 //! A closure as a join's first side, which is never queued; and jobs of two kinds.
+ghost use Rattle.rayon_core.specs.Worker.{SameWorker};
 ghost use Rattle.std.specs.Prelude.{◌≡◌, ℕ, ◌+◌, ◌≤◌, IfOk};
 ghost use Rattle.std.proofs.Common.{rules};
 
@@ -89,8 +90,8 @@ impl Job for Ask {
     }
 }
 
-// A helper that takes the worker value says what a run has to: that the handle has as many levels, and that id and
-// levels stay.
+// A helper that takes the worker value says what a run has to: that the handle has as many levels, and that id, levels
+// and units stay.
 fn triple<R: Waits<Ask>>(
     rt: &R,
     alloc: Global,
@@ -99,8 +100,7 @@ fn triple<R: Waits<Ask>>(
 ) -> Result<u32, AskFault>
     requires levels { w.old.levels ≤ R.levels rt.now }
     ensures triple { IfOk result (λ v. v ≡ n + n + n) }
-    ensures id { w.new.id ≡ w.old.id }
-    ensures level { w.new.levels ≡ w.old.levels }
+    ensures same { SameWorker w.old w.new }
 {
     let (once, twice) = w
         .join(rt, alloc, |_w, _ctx| Ok(n), Ask::Double(n))

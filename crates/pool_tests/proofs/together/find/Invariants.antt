@@ -6,3 +6,4 @@ invariant-loop g l =
     (goal.iterator-loop g).can_next l.iterator' × (goal.iterator-loop g).is_finite l.iterator'
     × (l.w.levels ≡ l.initial.w.levels)
     × (l.w.id ≡ l.initial.w.id)
+    × (l.w.units ≡ l.initial.w.units)

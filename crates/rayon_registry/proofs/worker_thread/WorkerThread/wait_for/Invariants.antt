@@ -8,4 +8,5 @@ invariant-loop g l =
     (goal.iterator-loop g).can_next l.iterator' × (goal.iterator-loop g).is_finite l.iterator'
     × (l.self.levels ≡ l.initial.self.levels)
     × (l.self.id ≡ l.initial.self.id)
+    × (l.self.units ≡ l.initial.self.units)
     × HasTicket l.ticket (call_to l.target)

@@ -1,5 +1,4 @@
 //! The calls that a job makes on its worker, and what they give.
-ghost use Rattle.rayon_core.specs.Worker.{SameWorker};
 ghost use Rattle.std.specs.Prelude.{◌≡◌, ℕ, ◌≤◌};
 
 use crate::outcome::{Outcome, Report};
@@ -39,7 +38,9 @@ pub fn make_on_worker<R: Waits<Work>>(
     call: WorkerCall,
 ) -> Result<Report, Refusal>
     requires { w.old.levels ≤ R.levels rt.now }
-    ensures same { SameWorker w.old w.new }
+    ensures id { w.new.id ≡ w.old.id }
+    ensures level { w.new.levels ≡ w.old.levels }
+    ensures units { w.new.units ≡ w.old.units }
 {
     if call == WorkerCall::Deep {
         return deep(rt, alloc, w, runs, DEPTH);
@@ -61,7 +62,9 @@ fn make_once<R: Waits<Work>>(
     call: WorkerCall,
 ) -> Result<Outcome, Refusal>
     requires { w.old.levels ≤ R.levels rt.now }
-    ensures same { SameWorker w.old w.new }
+    ensures id { w.new.id ≡ w.old.id }
+    ensures level { w.new.levels ≡ w.old.levels }
+    ensures units { w.new.units ≡ w.old.units }
 {
     match call {
         WorkerCall::Join => join(rt, alloc, w, runs, Deed::Number(20)),
@@ -82,7 +85,9 @@ fn join<R: Waits<Work>>(
     deed: Deed,
 ) -> Result<Outcome, Refusal>
     requires { w.old.levels ≤ R.levels rt.now }
-    ensures same { SameWorker w.old w.new }
+    ensures id { w.new.id ≡ w.old.id }
+    ensures level { w.new.levels ≡ w.old.levels }
+    ensures units { w.new.units ≡ w.old.units }
 {
     let first = Work::new(Name::First, runs, deed)?;
     let second = Work::new(Name::Second, runs, Deed::Number(3))?;
@@ -98,7 +103,9 @@ fn install<R: Waits<Work>>(
     runs: &Arc<AtomicU64>,
 ) -> Result<Outcome, Refusal>
     requires { w.old.levels ≤ R.levels rt.now }
-    ensures same { SameWorker w.old w.new }
+    ensures id { w.new.id ≡ w.old.id }
+    ensures level { w.new.levels ≡ w.old.levels }
+    ensures units { w.new.units ≡ w.old.units }
 {
     let job = Work::new(Name::First, runs, Deed::Number(7))?;
     Ok(match w.install(rt, alloc, job) {
@@ -115,7 +122,9 @@ fn install<R: Waits<Work>>(
 // Waits until a latch is set that is set.
 fn wait_until<R: Waits<Work>>(rt: &R, alloc: Global, w: &mut WorkerThread<Work>) -> Outcome
     requires { w.old.levels ≤ R.levels rt.now }
-    ensures same { SameWorker w.old w.new }
+    ensures id { w.new.id ≡ w.old.id }
+    ensures level { w.new.levels ≡ w.old.levels }
+    ensures units { w.new.units ≡ w.old.units }
 {
     let latch = CoreLatch::new();
     latch.set(rt);
@@ -140,7 +149,9 @@ fn owner(w: &WorkerThread<Work>, runs: &Arc<AtomicU64>) -> Outcome {
 /// Takes the newest task out of the worker's own deque and pushes it again, and once more where that is refused: then
 /// it answers one less than 20.
 pub fn push_again<R: Wait>(rt: &R, w: &mut WorkerThread<Work>) -> Result<Answer, Refusal>
-    ensures same { SameWorker w.old w.new }
+    ensures id { w.new.id ≡ w.old.id }
+    ensures level { w.new.levels ≡ w.old.levels }
+    ensures units { w.new.units ≡ w.old.units }
 {
     let Some(task) = w.take_local_job(rt) else {
         return Ok(Answer::Number(0));
@@ -164,7 +175,9 @@ pub fn deep<R: Waits<Work>>(
     depth: u32,
 ) -> Result<Report, Refusal>
     requires { w.old.levels ≤ R.levels rt.now }
-    ensures same { SameWorker w.old w.new }
+    ensures id { w.new.id ≡ w.old.id }
+    ensures level { w.new.levels ≡ w.old.levels }
+    ensures units { w.new.units ≡ w.old.units }
 {
     let report = join_below(rt, alloc, w, runs, depth)?;
     match report {
@@ -191,7 +204,9 @@ fn join_below<R: Waits<Work>>(
     depth: u32,
 ) -> Result<Report, Refusal>
     requires { w.old.levels ≤ R.levels rt.now }
-    ensures same { SameWorker w.old w.new }
+    ensures id { w.new.id ≡ w.old.id }
+    ensures level { w.new.levels ≡ w.old.levels }
+    ensures units { w.new.units ≡ w.old.units }
 {
     let Some(below) = depth.checked_sub(1) else {
         return Ok(Report::of(Outcome::Answered(0)));

@@ -40,7 +40,7 @@ pub trait Waits<J: JobKind>: Wait {
 }
 
 /// A job of a pool: what its runs do. Each implementation proves that they meet the job's relations for every worker
-/// value and context, and leave the worker value's id and levels.
+/// value and context, and leave the worker value's id, levels and units.
 pub trait Job: JobKind {
     /// Runs the job. The value is taken, so one job cannot run twice.
     fn run<R: Waits<Self>>(

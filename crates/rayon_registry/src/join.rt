@@ -1,6 +1,7 @@
 //! Two sides on one worker value.
+ghost use Rattle.rayon_machine_places.specs.declared.shape.PoolShape.{PoolShape};
 ghost use Rattle.rayon_registry.specs.Answers.{joined, JoinAnswers};
-ghost use Rattle.rayon_registry.specs.Worker.{EndedCall, SameWorker};
+ghost use Rattle.rayon_registry.specs.Worker.{EndedCall, Kept, SameWorker};
 ghost use Rattle.rayon_tasks.specs.Tasks.{OneJob};
 ghost use Rattle.std.specs.Prelude.{◌≡◌, ◌⊎◌, ℕ, ◌≤◌, ◌<◌, [], ◌∷◌, ◌++◌, ◌+◌, ◌-◌, Bool, Result, Ok, Err, IfOk, IfErr, suc, true, false};
 
@@ -52,7 +53,7 @@ impl<J: JobKind> WorkerThread<J> {
         requires levels { self.old.levels ≤ R.levels rt.now }
         ensures answers { JoinAnswers (λ r. J.answers (J.tag_of a) r × J.answers_at a (self.old.levels - 1) false r) (λ r. J.answers (J.tag_of b) r) (a, b) result }
         ensures lost { (result ≡ Err CallError.Missing) ⊎ (result ≡ Err CallError.Foreign) → (x : _) × J.answers (J.tag_of a) (Ok x) }
-        ensures kept { (r : _) (sides : _) → result ≡ Err (CallError.Refused r sides) → self.new ≡ self.old }
+        ensures kept { (r : _) (sides : _) → result ≡ Err (CallError.Refused r sides) → Kept self.old self.new }
         ensures deep { self.old.levels ≡ 0 → result ≡ Err (CallError.Refused Refusal.TooDeep (a, b)) }
         ensures shallow { (sides : _) → result ≡ Err (CallError.Refused Refusal.TooDeep sides) → self.old.levels ≡ 0 }
         ensures same { SameWorker self.old self.new }
@@ -71,7 +72,7 @@ impl<J: JobKind> WorkerThread<J> {
     // Takes a unit of the terminate count, makes the ticket, pushes the second side, and tells the others of it.
     // Refused as a join is.
     #[inline(always)]
-    #[tactic(auto, unfolding(crate::specs::Pushes::pushed_by, crate::specs::Pushes::left_to, crate::specs::Pushes::takes_oldest, crate::specs::Pushes::units_of))]
+    #[tactic(auto, unfolding(crate::specs::Pushes::pushed_by, crate::specs::Pushes::left_to, crate::specs::Pushes::takes_oldest, crate::specs::Pushes::units_of, crate::specs::Pushes::shape_at, crate::specs::Pushes::seat_of, crate::specs::Pushes::acts_of, crate::specs::Pushes::saw_set))]
     fn fork<R: Wait>(
         &mut self,
         rt: &R,
@@ -80,8 +81,8 @@ impl<J: JobKind> WorkerThread<J> {
         injected: bool,
     ) -> Result<Fork<J>, (Refusal, J)>
         ensures forked { IfOk result (λ f. (f.tag ≡ J.tag_of b) × (f.levels ≡ self.old.levels) × (0 < self.old.levels)) }
-        ensures pushed { IfOk result (λ f. self.new ≡ record self.old { pushed = self.old.pushed ++ record { work = OneJob b; injected = injected; ticket = f.ticket } ∷ []; left = self.old.left ++ record { work = OneJob b; injected = injected; ticket = f.ticket } ∷ []; units = self.old.units + 1 }) }
-        ensures back { IfErr result (λ e. (e.1 ≡ b) × (self.new ≡ self.old)) }
+        ensures pushed { IfOk result (λ f. self.new ≡ record self.old { pushed = self.old.pushed ++ record { work = OneJob b; injected = injected; ticket = f.ticket } ∷ []; left = self.old.left ++ record { work = OneJob b; injected = injected; ticket = f.ticket } ∷ []; units = self.old.units + 1; acts = self.new.acts }) }
+        ensures back { IfErr result (λ e. (e.1 ≡ b) × Kept self.old self.new) }
         ensures deep { self.old.levels ≡ 0 → result ≡ Err (Refusal.TooDeep, b) }
         ensures shallow { IfErr result (λ e. e.0 ≡ Refusal.TooDeep → self.old.levels ≡ 0) }
     {
@@ -141,7 +142,7 @@ impl<J: JobKind> WorkerThread<J> {
     // Takes the own second side back and runs it, or runs what lies above it until it is met, or waits for the result
     // of the worker that stole it.
     #[inline(always)]
-    #[tactic(auto, unfolding(crate::specs::Pushes::units_of))]
+    #[tactic(auto, unfolding(crate::specs::Pushes::units_of, crate::specs::Pushes::shape_at, crate::specs::Pushes::seat_of))]
     fn second_side<R: Waits<J>>(
         &mut self,
         rt: &R,
@@ -188,7 +189,7 @@ impl<J: JobKind> WorkerThread<J> {
 
     // Runs the own second side, which was taken back, and gives the unit of the terminate count back.
     #[inline(always)]
-    #[tactic(auto, unfolding(crate::specs::Pushes::units_of))]
+    #[tactic(auto, unfolding(crate::specs::Pushes::units_of, crate::specs::Pushes::shape_at, crate::specs::Pushes::seat_of))]
     fn run_second<R: Waits<J>>(
         &mut self,
         rt: &R,
@@ -275,11 +276,14 @@ pub trait Sides<J: JobKind> {
     /// The levels of the worker value.
     ghost height: { Self → ℕ };
 
-    /// The pool's number and the worker's index.
-    ghost id: { Self → ℕ × ℕ };
+    /// The pool's number and the worker's index, and by what its acts are told: its pool's shape and its index there.
+    ghost id: { Self → ℕ × ℕ × PoolShape × ℕ };
 
     /// The units of the terminate count that the worker's calls hold.
     ghost units: { Self → ℕ };
+
+    /// Whether the second is the first, but for the acts that the worker has made since.
+    ghost kept: { Self → Self → Type 0 };
 
     /// The tag of the job that was handed in as the second side.
     ghost fork_tag: { Self.Fork → J.Tag };
@@ -295,7 +299,7 @@ pub trait Sides<J: JobKind> {
         b: J,
     ) -> Result<Self::Fork, (Refusal, J)>
         ensures forked { IfOk result (λ f. (fork_tag f ≡ J.tag_of b) × (fork_levels f ≡ height self.old) × (suc (height self.new) ≡ height self.old)) }
-        ensures back { IfErr result (λ e. (e.1 ≡ b) × (self.new ≡ self.old)) }
+        ensures back { IfErr result (λ e. (e.1 ≡ b) × kept self.old self.new × (height self.new ≡ height self.old) × (units self.new ≡ units self.old)) }
         ensures deep { height self.old ≡ 0 → result ≡ Err (Refusal.TooDeep, b) }
         ensures shallow { IfErr result (λ e. e.0 ≡ Refusal.TooDeep → height self.old ≡ 0) }
         ensures id { id self.new ≡ id self.old }
@@ -324,9 +328,11 @@ impl<J: JobKind> Sides<J> for WorkerThread<J> {
 
     ghost height = { λ w. w.levels };
 
-    ghost id = { λ w. (w.id.pool.number, w.id.index) };
+    ghost id = { λ w. (w.id.pool.number, w.id.index, w.shape, w.seat) };
 
     ghost units = { λ w. w.units };
+
+    ghost kept = { λ v w. Kept v w };
 
     ghost fork_tag = { λ f. f.tag };
 
@@ -377,7 +383,7 @@ pub trait ForkJoin<J: JobKind>: Sides<J> {
         requires keeps { (w : _) (ctx : _) (r : _) (v : _) (k : _) → A.post a w ctx r v k → (Self.height v.now ≡ Self.height w.now) × (Self.id v.now ≡ Self.id w.now) × (Self.units v.now ≡ Self.units w.now) }
         ensures answers { JoinAnswers (λ r. (w : _) × (ctx : _) × (v : _) × (k : _) × A.post a w ctx r v k × (ctx.now.migrated ≡ false)) (λ r. J.answers (J.tag_of b) r) (a, b) result }
         ensures lost { (result ≡ Err CallError.Missing) ⊎ (result ≡ Err CallError.Foreign) → (x : _) × (w : _) × (ctx : _) × (v : _) × (k : _) × A.post a w ctx (Ok x) v k }
-        ensures kept { (r : _) (sides : _) → result ≡ Err (CallError.Refused r sides) → self.new ≡ self.old }
+        ensures kept { (r : _) (sides : _) → result ≡ Err (CallError.Refused r sides) → Self.kept self.old self.new }
         ensures deep { Self.height self.old ≡ 0 → result ≡ Err (CallError.Refused Refusal.TooDeep (a, b)) }
         ensures shallow { (sides : _) → result ≡ Err (CallError.Refused Refusal.TooDeep sides) → Self.height self.old ≡ 0 }
         ensures height { Self.height self.new ≡ Self.height self.old }
@@ -410,7 +416,7 @@ pub trait ForkJoin<J: JobKind>: Sides<J> {
         requires keeps { (w : _) (ctx : _) (r : _) (v : _) (k : _) → A.post a w ctx r v k → (Self.height v.now ≡ Self.height w.now) × (Self.id v.now ≡ Self.id w.now) × (Self.units v.now ≡ Self.units w.now) }
         ensures answers { JoinAnswers (λ r. (w : _) × (ctx : _) × (v : _) × (k : _) × A.post a w ctx r v k × (ctx.now.migrated ≡ false)) (λ r. J.answers (J.tag_of b) r) (a, b) result }
         ensures lost { (result ≡ Err CallError.Missing) ⊎ (result ≡ Err CallError.Foreign) → (x : _) × (w : _) × (ctx : _) × (v : _) × (k : _) × A.post a w ctx (Ok x) v k }
-        ensures kept { (r : _) (sides : _) → result ≡ Err (CallError.Refused r sides) → self.new ≡ self.old }
+        ensures kept { (r : _) (sides : _) → result ≡ Err (CallError.Refused r sides) → Self.kept self.old self.new }
         ensures deep { Self.height self.old ≡ 0 → result ≡ Err (CallError.Refused Refusal.TooDeep (a, b)) }
         ensures shallow { (sides : _) → result ≡ Err (CallError.Refused Refusal.TooDeep sides) → Self.height self.old ≡ 0 }
         ensures height { Self.height self.new ≡ Self.height self.old }

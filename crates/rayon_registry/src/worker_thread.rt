@@ -2,9 +2,18 @@
 ghost use Rattle.rayon_performers.specs.Hands.{HasTicket};
 ghost use Rattle.rayon_performers.specs.Stands.{call_to};
 ghost use Rattle.rayon_queues.specs.Deques.{Leaves};
+ghost use Rattle.rayon_machine_places.specs.Places.{fresh, undo};
+ghost use Rattle.rayon_machine_places.specs.declared.place.Move.TheVariants.{Back, Stay};
+ghost use Rattle.rayon_machine_places.specs.declared.place.Party.TheVariants.{Worker};
+ghost use Rattle.rayon_machine_places.specs.declared.place.Place.TheVariants as at;
+ghost use Rattle.rayon_machine_places.specs.declared.place.Plan.TheVariants.{Detach};
+ghost use Rattle.rayon_machine_places.specs.declared.place.Taken.TheVariants.{Plain};
+ghost use Rattle.rayon_machine_places.specs.declared.place.Target.TheVariants.{Termination};
+ghost use Rattle.rayon_drive.specs.declared.trace.Log.TheVariants.{Empty};
+ghost use Rattle.rayon_registry.specs.Acts.{Made, Worked};
 ghost use Rattle.rayon_registry.specs.Answers.{InstallAnswers};
-ghost use Rattle.rayon_registry.specs.Worker.{AfterWait, SameWorker};
-ghost use Rattle.std.specs.Prelude.{◌≡◌, ◌⊎◌, ℕ, [], ◌∷◌, ◌++◌, ◌-◌, ◌<◌, ◌≤◌, ◌↔◌, IsTrue, List, Result, Ok, Err, IfOk, IfSome, IfNone, IfErr, MatchResult, None, true, false};
+ghost use Rattle.rayon_registry.specs.Worker.{AfterWait, Kept, SameWorker};
+ghost use Rattle.std.specs.Prelude.{◌≡◌, ◌⊎◌, ℕ, [], ◌∷◌, ◌++◌, ◌-◌, ◌<◌, ◌≤◌, ◌↔◌, IsTrue, List, Result, Ok, Err, IfOk, IfSome, IfNone, IfErr, MatchOption, MatchResult, None, true, false};
 
 use crate::context::FnContext;
 use crate::ids::WorkerId;
@@ -24,7 +33,8 @@ use std::marker::Model;
 use std::sync::Wait;
 
 /// A worker of a pool, lent to each run. Contracts see whose it is, the levels that are left, the tasks that it pushed,
-/// those of them that it did not take back, and the units of the terminate count that its calls hold.
+/// those of them that it did not take back, the units of the terminate count that its calls hold, and the acts that it
+/// made.
 #[derive(Drop)]
 pub struct WorkerThread<J: JobKind> {
     pub(crate) id: WorkerId,
@@ -36,16 +46,20 @@ pub struct WorkerThread<J: JobKind> {
 impl<J: JobKind> Model for WorkerThread<J> {
     ghost use Rattle.rayon_registry.specs.Worker.{Worker};
     ghost use Rattle.rayon_tasks.specs.Tasks.{TaskOf};
-    ghost use Rattle.rayon_registry.specs.Pushes.{left_to, pushed_by, takes_oldest, units_of};
+    ghost use Rattle.std.specs.Coded.{codes};
+    ghost use Rattle.rayon_drive.specs.contracts.trace.Log as logs;
+    ghost use Rattle.rayon_registry.specs.Pushes.{acts_of, left_to, pushed_by, saw_set, seat_of, shape_at, takes_oldest, units_of};
 
     ghost Value = { Worker (TaskOf J) };
 
-    ghost view = { λ w. record { id = w.id; levels = w.levels; pushed = pushed_by w.bench; left = left_to w.bench; oldest_first = takes_oldest w.bench; units = units_of w.bench } };
+    ghost coded = { Prim.hlevel (codes, logs.the_row.coded) };
+
+    ghost view = { λ w. record { id = w.id; levels = w.levels; pushed = pushed_by w.bench; left = left_to w.bench; oldest_first = takes_oldest w.bench; units = units_of w.bench; shape = shape_at w.bench; seat = seat_of w.bench; acts = acts_of w.bench; probed = saw_set w.bench } };
 }
 
 impl<J: JobKind> WorkerThread<J> {
     /// The worker with this index of the pool, whose own deque this is. There is one value for each.
-    #[tactic(auto, unfolding(crate::specs::Pushes::units_of))]
+    #[tactic(auto, unfolding(crate::specs::Pushes::units_of, crate::specs::Pushes::shape_at, crate::specs::Pushes::seat_of, crate::specs::Pushes::acts_of))]
     pub(crate) fn new(
         registry: Registry<J>,
         index: usize,
@@ -56,6 +70,8 @@ impl<J: JobKind> WorkerThread<J> {
         ensures index { result.id.index ≡ index }
         ensures levels { result.levels ≡ registry.depth_limit }
         ensures units { result.units ≡ 0 }
+        ensures seat { result.seat ≡ index }
+        ensures acts { result.acts ≡ Empty }
     {
         let PoolShare { id, shared } = registry.pool;
         let levels = shared.depth_limit();
@@ -97,7 +113,7 @@ impl<J: JobKind> WorkerThread<J> {
 
     /// Runs a job at once, with exactly one level fewer. Refused `TooDeep` exactly where no level is left, `Ended`,
     /// `Full`, with the job back and the worker value unchanged. It is never `Foreign` or `Missing`.
-    #[tactic(auto, unfolding(crate::specs::Pushes::pushed_by, crate::specs::Pushes::left_to, crate::specs::Pushes::takes_oldest, crate::specs::Pushes::units_of))]
+    #[tactic(auto, unfolding(crate::specs::Pushes::pushed_by, crate::specs::Pushes::left_to, crate::specs::Pushes::takes_oldest, crate::specs::Pushes::units_of, crate::specs::Pushes::shape_at, crate::specs::Pushes::seat_of, crate::specs::Pushes::acts_of, crate::specs::Pushes::saw_set))]
     pub fn install<R: Waits<J>>(
         &mut self,
         rt: &R,
@@ -106,7 +122,7 @@ impl<J: JobKind> WorkerThread<J> {
     ) -> Result<J::Output, CallError<J::Fault, J>>
         requires levels { self.old.levels ≤ R.levels rt.now }
         ensures answers { InstallAnswers (λ r. J.answers (J.tag_of job) r × J.answers_at job (self.old.levels - 1) false r) job result }
-        ensures kept { (r : _) (j : _) → result ≡ Err (CallError.Refused r j) → self.new ≡ self.old }
+        ensures kept { (r : _) (j : _) → result ≡ Err (CallError.Refused r j) → Kept self.old self.new }
         ensures deep { self.old.levels ≡ 0 → result ≡ Err (CallError.Refused Refusal.TooDeep job) }
         ensures shallow { (j : _) → result ≡ Err (CallError.Refused Refusal.TooDeep j) → self.old.levels ≡ 0 }
         ensures room { (j : _) → result ≡ Err (CallError.Refused Refusal.NoRoom j) → ⊥ }
@@ -135,19 +151,22 @@ impl<J: JobKind> WorkerThread<J> {
 
     /// Whether nothing lies in the worker's own deque. It is so where nothing that the worker pushed is left to it;
     /// else thieves may have taken that.
-    #[tactic(auto, unfolding(crate::specs::Pushes::pushed_by, crate::specs::Pushes::left_to, crate::specs::Pushes::takes_oldest, crate::specs::Pushes::units_of))]
+    #[tactic(auto, unfolding(crate::specs::Pushes::pushed_by, crate::specs::Pushes::left_to, crate::specs::Pushes::takes_oldest, crate::specs::Pushes::units_of, crate::specs::Pushes::shape_at, crate::specs::Pushes::seat_of, crate::specs::Pushes::acts_of, crate::specs::Pushes::saw_set))]
     pub fn local_deque_is_empty(&mut self) -> bool
         ensures empty { self.old.left ≡ [] → result ≡ true }
-        ensures same { self.new ≡ self.old }
+        ensures same { Kept self.old self.new }
     {
         self.bench.look_own()
     }
 
     /// Puts a task last into the worker's own deque, and wakes whom that owes a wake. Refused `NoRoom`, with the task
     /// back and nothing added. It raises no count.
-    #[tactic(auto, unfolding(crate::specs::Pushes::pushed_by, crate::specs::Pushes::left_to, crate::specs::Pushes::takes_oldest, crate::specs::Pushes::units_of))]
+    #[tactic(auto, unfolding(crate::specs::Pushes::pushed_by, crate::specs::Pushes::left_to, crate::specs::Pushes::takes_oldest, crate::specs::Pushes::units_of, crate::specs::Pushes::shape_at, crate::specs::Pushes::seat_of, crate::specs::Pushes::acts_of, crate::specs::Pushes::saw_set))]
     pub fn push<R: Wait>(&mut self, rt: &R, task: Task<J>) -> Result<(), (Refusal, Task<J>)>
-        ensures pushed { MatchResult result (λ _. self.new ≡ record self.old { pushed = self.old.pushed ++ task ∷ []; left = self.old.left ++ task ∷ [] }) (λ e. (e ≡ (Refusal.NoRoom, task)) × (self.new ≡ self.old)) }
+        ensures pushed { MatchResult result (λ _. self.new ≡ record self.old { pushed = self.old.pushed ++ task ∷ []; left = self.old.left ++ task ∷ []; acts = self.new.acts }) (λ e. (e ≡ (Refusal.NoRoom, task)) × Kept self.old self.new) }
+        ensures path { MatchResult result
+            (λ _. Made self.old.shape (Worker 0 self.old.seat) (Stay (at.LookQueue (Detach 0 task.ticket.number))) self.old.acts self.new.acts Back)
+            (λ _. Made self.old.shape (Worker 0 self.old.seat) (Stay (at.LookQueue (Detach 0 task.ticket.number))) self.old.acts self.new.acts (Stay (undo (Detach 0 task.ticket.number)))) }
     {
         match self.bench.push(rt, task) {
             Ok(()) => Ok(()),
@@ -157,22 +176,28 @@ impl<J: JobKind> WorkerThread<J> {
 
     /// Takes the newest task of the worker's own deque, or the oldest where that is its order. None where nothing lies
     /// there.
-    #[tactic(auto, unfolding(crate::specs::Pushes::pushed_by, crate::specs::Pushes::left_to, crate::specs::Pushes::takes_oldest, crate::specs::Pushes::units_of))]
+    #[tactic(auto, unfolding(crate::specs::Pushes::pushed_by, crate::specs::Pushes::left_to, crate::specs::Pushes::takes_oldest, crate::specs::Pushes::units_of, crate::specs::Pushes::shape_at, crate::specs::Pushes::seat_of, crate::specs::Pushes::acts_of, crate::specs::Pushes::saw_set))]
     pub fn take_local_job<R: Wait>(&mut self, rt: &R) -> Option<Task<J>>
         ensures some { IfSome result (λ t. Leaves self.old.oldest_first self.old.left t self.new.left) }
         ensures none { IfNone result (self.new.left ≡ self.old.left) }
-        ensures kept { self.new ≡ record self.old { left = self.new.left } }
+        ensures kept { self.new ≡ record self.old { left = self.new.left; acts = self.new.acts } }
+        ensures path { MatchOption result
+            (Made self.old.shape (Worker 0 self.old.seat) (Stay at.LocalPop) self.old.acts self.new.acts Back)
+            (λ t. Made self.old.shape (Worker 0 self.old.seat) (Stay at.LocalPop) self.old.acts self.new.acts (Stay (at.BeginTask (Plain t.ticket.number)))) }
     {
         self.bench.take_local(rt)
     }
 
     /// Looks for a task: in the worker's own deque, in the other workers', from a chosen one on, each once, and last
     /// among the injected ones. None where each look missed.
-    #[tactic(auto, unfolding(crate::specs::Pushes::pushed_by, crate::specs::Pushes::left_to, crate::specs::Pushes::takes_oldest, crate::specs::Pushes::units_of))]
+    #[tactic(auto, unfolding(crate::specs::Pushes::pushed_by, crate::specs::Pushes::left_to, crate::specs::Pushes::takes_oldest, crate::specs::Pushes::units_of, crate::specs::Pushes::shape_at, crate::specs::Pushes::seat_of, crate::specs::Pushes::acts_of, crate::specs::Pushes::saw_set))]
     pub fn find_work<R: Wait>(&mut self, rt: &R) -> Option<Task<J>>
         ensures some { IfSome result (λ t. Leaves self.old.oldest_first self.old.left t self.new.left ⊎ (self.new.left ≡ self.old.left)) }
         ensures none { IfNone result (self.new.left ≡ self.old.left) }
-        ensures kept { self.new ≡ record self.old { left = self.new.left } }
+        ensures kept { self.new ≡ record self.old { left = self.new.left; acts = self.new.acts } }
+        ensures path { MatchOption result
+            (Made self.old.shape (Worker 0 self.old.seat) (Stay at.YieldPop) self.old.acts self.new.acts Back)
+            (λ t. Made self.old.shape (Worker 0 self.old.seat) (Stay at.YieldPop) self.old.acts self.new.acts (Stay (at.BeginTask (Plain t.ticket.number)))) }
     {
         self.bench.find_work(rt)
     }
@@ -180,7 +205,7 @@ impl<J: JobKind> WorkerThread<J> {
     /// Runs queued tasks until the latch is set, and sleeps where nothing is queued: who sets the latch wakes the
     /// worker if it does so through its `owner`, as a `SpinLatch` does. Refused `TooDeep` exactly where no level is
     /// left.
-    #[tactic(auto, unfolding(crate::specs::Pushes::units_of))]
+    #[tactic(auto, unfolding(crate::specs::Pushes::units_of, crate::specs::Pushes::shape_at, crate::specs::Pushes::seat_of))]
     pub fn wait_until<R: Waits<J>>(
         &mut self,
         rt: &R,
@@ -190,6 +215,8 @@ impl<J: JobKind> WorkerThread<J> {
         requires levels { self.old.levels ≤ R.levels rt.now }
         ensures refused { MatchResult result (λ _. 0 < self.old.levels) (λ r. (r ≡ Refusal.TooDeep) × (self.old.levels ≡ 0) × (self.new ≡ self.old)) }
         ensures same { SameWorker self.old self.new }
+        ensures path { IfOk result (λ _. Worked self.old.shape (Worker 0 self.old.seat) (Stay (at.ProbeWorking (fresh Termination))) self.old.acts self.new.acts (Stay at.Stopped)) }
+        ensures set { IfOk result (λ _. self.new.probed ≡ true) }
     {
         if self.levels == 0 {
             return Err(Refusal::TooDeep);
@@ -224,7 +251,7 @@ impl<J: JobKind> WorkerThread<J> {
 
     // Waits for this, with the ticket of the call if it is a call's result, and runs the tasks that it meets meanwhile.
     // Answers the result that was found.
-    #[tactic(auto, unfolding(crate::specs::Pushes::units_of))]
+    #[tactic(auto, unfolding(crate::specs::Pushes::units_of, crate::specs::Pushes::shape_at, crate::specs::Pushes::seat_of))]
     pub(crate) fn wait_for<R: Waits<J>>(
         &mut self,
         rt: &R,
@@ -259,7 +286,7 @@ impl<J: JobKind> WorkerThread<J> {
     }
 
     // Runs a task that was taken and has begun, and tells its call.
-    #[tactic(auto, unfolding(crate::specs::Pushes::units_of))]
+    #[tactic(auto, unfolding(crate::specs::Pushes::units_of, crate::specs::Pushes::shape_at, crate::specs::Pushes::seat_of))]
     pub(crate) fn run_task<R: Waits<J>>(&mut self, rt: &R, alloc: Global, task: Task<J>)
         requires some { 0 < self.old.levels }
         requires levels { self.old.levels ≤ R.levels rt.now }

@@ -9,4 +9,6 @@ invariant-loop g l =
     × (l.self.levels ≡ l.initial.self.levels)
     × (l.self.id ≡ l.initial.self.id)
     × (l.self.units ≡ l.initial.self.units)
+    × (l.self.seat ≡ l.initial.self.seat)
+    × (l.self.shape ≡ l.initial.self.shape)
     × HasTicket l.ticket (call_to l.target)

@@ -1,0 +1,71 @@
+use Rattle.std.proofs.Common.{◌≡◌, true, rules, subst, sym}
+use Rattle.rayon_machine_places.specs.declared.place.Move.TheVariants.{Enter, Stay}
+use Rattle.rayon_machine_places.specs.declared.place.Party.TheVariants.{Worker}
+use Rattle.rayon_machine_places.specs.declared.place.Place.TheVariants as at
+use Rattle.rayon_machine_places.specs.declared.place.Target.TheVariants.{Termination}
+use Rattle.rayon_machine_places.specs.Places.{fresh}
+use Rattle.rayon_registry.specs.Acts.{Made, Worked}
+use Rattle.rayon_registry.specs.Pushes.{acts_of, saw_set, seat_of, shape_at, units_of}
+use Rattle.rayon_registry.proofs.Made.{above, again, has_probed, last, made, made_as}
+use Rattle.rayon_registry.proofs.worker_thread.WorkerThread.wait_until.Goals as goal
+use Rattle.rayon_registry.proofs.worker_thread.WorkerThread.wait_until.Goals.{in_default-via-in-Enter+in_default, in_default-via-in_default}
+
+pub loop-preserved : goal.loop-preserved
+unfolding acts_of saw_set seat_of shape_at units_of
+loop-preserved g c =
+    let a = c.args.self.now in
+    let l = c.loop.self in
+    let b = c.self-in-loop.inside.bench in
+    let u = c.wait_on.new.self in
+    let r = c.wait_on.result in
+    let f = c.in-Enter-default-BeginTask.frame in
+    let p = c.in-Enter-default-BeginTask.place in
+    let first = Stay (at.ProbeWorking (fresh Termination)) in
+    let here = subst (λ v. Made v.shape (Worker 0 v.seat) first v.acts u.trace r) c.self-in-loop.view_is (made b.shape b.index first b u r c.wait_on.ensures.path) in
+    let found = made_as l.shape a.shape l.seat a.seat first l.acts u.trace r (Enter (at.ProbeWorking (fresh Termination)) p) c.loop.invariant.5 c.loop.invariant.6 (above Termination f p r c.in-Enter-default-BeginTask.is c.wait_on.ensures.ends) here in (
+      tt,
+      tt,
+      search rules,
+      search rules,
+      search rules,
+      search rules,
+      search rules,
+      λ w n k. c.loop.invariant.7 w n (again a.shape (Worker 0 a.seat) Termination p l.acts u.trace c.run_task.new.self.acts w n found k),
+    )
+
+pub returns-in_default-clause-path : goal.returns-in_default-clause-path
+unfolding acts_of saw_set seat_of shape_at units_of
+returns-in_default-clause-path g c =
+    let a = c.args.self.now in
+    let l = c.loop.self in
+    let b = c.self-in-loop.inside.bench in
+    let u = c.wait_on.new.self in
+    let r = c.wait_on.result in
+    let first = Stay (at.ProbeWorking (fresh Termination)) in
+    let here = subst (λ v. Made v.shape (Worker 0 v.seat) first v.acts u.trace r) c.self-in-loop.view_is (made b.shape b.index first b u r c.wait_on.ensures.path) in
+    elim c.in_default.branch [
+      | in_default-via-in-Enter+in_default w ↦
+          let stopped : r ≡ Stay at.Stopped = search rules in
+          let end = made_as l.shape a.shape l.seat a.seat first l.acts u.trace r (Stay at.Stopped) c.loop.invariant.5 c.loop.invariant.6 stopped here in
+          subst (λ z. Worked a.shape (Worker 0 a.seat) first a.acts z.acts (Stay at.Stopped)) (sym w.self-is)
+          (c.loop.invariant.7 u.trace (Stay at.Stopped) (last a.shape (Worker 0 a.seat) first l.acts u.trace (Stay at.Stopped) end))
+      | in_default-via-in_default w ↦
+          let stopped : r ≡ Stay at.Stopped = search rules in
+          let end = made_as l.shape a.shape l.seat a.seat first l.acts u.trace r (Stay at.Stopped) c.loop.invariant.5 c.loop.invariant.6 stopped here in
+          subst (λ z. Worked a.shape (Worker 0 a.seat) first a.acts z.acts (Stay at.Stopped)) (sym w.self-is)
+          (c.loop.invariant.7 u.trace (Stay at.Stopped) (last a.shape (Worker 0 a.seat) first l.acts u.trace (Stay at.Stopped) end))
+    ]
+
+pub returns-in_default-clause-set : goal.returns-in_default-clause-set
+unfolding acts_of saw_set seat_of shape_at units_of
+returns-in_default-clause-set g c =
+    let u = c.wait_on.new.self in
+    let r = c.wait_on.result in
+    elim c.in_default.branch [
+      | in_default-via-in-Enter+in_default w ↦
+          let stopped : r ≡ Stay at.Stopped = search rules in
+          subst (λ z. z.probed ≡ true) (sym w.self-is) (has_probed u r stopped c.wait_on.ensures.stands)
+      | in_default-via-in_default w ↦
+          let stopped : r ≡ Stay at.Stopped = search rules in
+          subst (λ z. z.probed ≡ true) (sym w.self-is) (has_probed u r stopped c.wait_on.ensures.stands)
+    ]

@@ -7,6 +7,8 @@ mod errand;
 #[cfg(test)]
 mod pool;
 #[cfg(test)]
+mod victims;
+#[cfg(test)]
 mod waits;
 #[cfg(test)]
 mod workers;

@@ -1,7 +1,7 @@
 //! What stands for a pool on other threads than the one that made it.
 ghost use Rattle.rayon_registry.specs.Answers.{InstallAnswers, JoinAnswers};
 ghost use Rattle.std.specs.Arc.{arc_value};
-ghost use Rattle.std.specs.Prelude.{◌≡◌, ◌<◌, ℕ, Result, Ok, Err, IfOk};
+ghost use Rattle.std.specs.Prelude.{◌≡◌, ◌<◌, ℕ, Result, Ok, Err, IfOk, IfErr};
 
 use rayon_jobs::JobKind;
 use rayon_registry::{PoolId, Registry};
@@ -28,7 +28,8 @@ impl<J: JobKind> Model for PoolRef<J> {
 impl<J: JobKind> PoolRef<J> {
     // One more share of what the pool's threads share. Refused `NoRoom`.
     pub(crate) fn new(registry: &Registry<J>) -> Result<PoolRef<J>, Refusal>
-        ensures { IfOk result (λ p. p ≡ record { id = registry.now.id; workers = registry.now.workers; depth_limit = registry.now.depth_limit }) }
+        ensures same { IfOk result (λ p. p ≡ record { id = registry.now.id; workers = registry.now.workers; depth_limit = registry.now.depth_limit }) }
+        ensures refused { IfErr result (λ r. r ≡ Refusal.NoRoom) }
     {
         let registry = registry.share()?;
         Ok(PoolRef { registry })
@@ -36,7 +37,8 @@ impl<J: JobKind> PoolRef<J> {
 
     /// A copy, for the same pool. Refused `NoRoom`.
     pub fn pool_ref(&self) -> Result<PoolRef<J>, Refusal>
-        ensures { IfOk result (λ p. p ≡ self.now) }
+        ensures same { IfOk result (λ p. p ≡ self.now) }
+        ensures refused { IfErr result (λ r. r ≡ Refusal.NoRoom) }
     {
         PoolRef::new(&self.registry)
     }

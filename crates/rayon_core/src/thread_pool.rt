@@ -1,7 +1,7 @@
 //! Pools.
 ghost use Rattle.rayon_registry.specs.Answers.{InstallAnswers, JoinAnswers};
 ghost use Rattle.std.specs.Arc.{arc_value};
-ghost use Rattle.std.specs.Prelude.{◌≡◌, ◌<◌, ℕ, length, Result, Ok, Err, IfOk};
+ghost use Rattle.std.specs.Prelude.{◌≡◌, ◌<◌, ℕ, length, Result, Ok, Err, IfOk, IfErr};
 
 use crate::pool_ref::PoolRef;
 use rayon_jobs::JobKind;
@@ -65,7 +65,8 @@ impl<J: JobKind> ThreadPool<J> {
 
     /// What stands for the pool on other threads. Refused `NoRoom`.
     pub fn pool_ref(&self) -> Result<PoolRef<J>, Refusal>
-        ensures { IfOk result (λ p. p ≡ self.now) }
+        ensures same { IfOk result (λ p. p ≡ self.now) }
+        ensures refused { IfErr result (λ r. r ≡ Refusal.NoRoom) }
     {
         PoolRef::new(&self.registry)
     }

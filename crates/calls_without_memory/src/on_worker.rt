@@ -41,6 +41,8 @@ pub fn make_on_worker<R: Waits<Work>>(
     ensures id { w.new.id ≡ w.old.id }
     ensures level { w.new.levels ≡ w.old.levels }
     ensures units { w.new.units ≡ w.old.units }
+    ensures seat { w.new.seat ≡ w.old.seat }
+    ensures shape { w.new.shape ≡ w.old.shape }
 {
     if call == WorkerCall::Deep {
         return deep(rt, alloc, w, runs, DEPTH);
@@ -65,6 +67,8 @@ fn make_once<R: Waits<Work>>(
     ensures id { w.new.id ≡ w.old.id }
     ensures level { w.new.levels ≡ w.old.levels }
     ensures units { w.new.units ≡ w.old.units }
+    ensures seat { w.new.seat ≡ w.old.seat }
+    ensures shape { w.new.shape ≡ w.old.shape }
 {
     match call {
         WorkerCall::Join => join(rt, alloc, w, runs, Deed::Number(20)),
@@ -88,6 +92,8 @@ fn join<R: Waits<Work>>(
     ensures id { w.new.id ≡ w.old.id }
     ensures level { w.new.levels ≡ w.old.levels }
     ensures units { w.new.units ≡ w.old.units }
+    ensures seat { w.new.seat ≡ w.old.seat }
+    ensures shape { w.new.shape ≡ w.old.shape }
 {
     let first = Work::new(Name::First, runs, deed)?;
     let second = Work::new(Name::Second, runs, Deed::Number(3))?;
@@ -106,6 +112,8 @@ fn install<R: Waits<Work>>(
     ensures id { w.new.id ≡ w.old.id }
     ensures level { w.new.levels ≡ w.old.levels }
     ensures units { w.new.units ≡ w.old.units }
+    ensures seat { w.new.seat ≡ w.old.seat }
+    ensures shape { w.new.shape ≡ w.old.shape }
 {
     let job = Work::new(Name::First, runs, Deed::Number(7))?;
     Ok(match w.install(rt, alloc, job) {
@@ -125,6 +133,8 @@ fn wait_until<R: Waits<Work>>(rt: &R, alloc: Global, w: &mut WorkerThread<Work>)
     ensures id { w.new.id ≡ w.old.id }
     ensures level { w.new.levels ≡ w.old.levels }
     ensures units { w.new.units ≡ w.old.units }
+    ensures seat { w.new.seat ≡ w.old.seat }
+    ensures shape { w.new.shape ≡ w.old.shape }
 {
     let latch = CoreLatch::new();
     latch.set(rt);
@@ -152,6 +162,8 @@ pub fn push_again<R: Wait>(rt: &R, w: &mut WorkerThread<Work>) -> Result<Answer,
     ensures id { w.new.id ≡ w.old.id }
     ensures level { w.new.levels ≡ w.old.levels }
     ensures units { w.new.units ≡ w.old.units }
+    ensures seat { w.new.seat ≡ w.old.seat }
+    ensures shape { w.new.shape ≡ w.old.shape }
 {
     let Some(task) = w.take_local_job(rt) else {
         return Ok(Answer::Number(0));
@@ -178,6 +190,8 @@ pub fn deep<R: Waits<Work>>(
     ensures id { w.new.id ≡ w.old.id }
     ensures level { w.new.levels ≡ w.old.levels }
     ensures units { w.new.units ≡ w.old.units }
+    ensures seat { w.new.seat ≡ w.old.seat }
+    ensures shape { w.new.shape ≡ w.old.shape }
 {
     let report = join_below(rt, alloc, w, runs, depth)?;
     match report {
@@ -207,6 +221,8 @@ fn join_below<R: Waits<Work>>(
     ensures id { w.new.id ≡ w.old.id }
     ensures level { w.new.levels ≡ w.old.levels }
     ensures units { w.new.units ≡ w.old.units }
+    ensures seat { w.new.seat ≡ w.old.seat }
+    ensures shape { w.new.shape ≡ w.old.shape }
 {
     let Some(below) = depth.checked_sub(1) else {
         return Ok(Report::of(Outcome::Answered(0)));

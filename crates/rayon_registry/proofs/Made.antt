@@ -1,25 +1,31 @@
 -- The acts of a performer's path are those of a path, whatever they did.
-use Rattle.std.proofs.Common.{◌≡◌, true, ℕ, [], ◌∷◌, Option, None, Some, Result, Ok, Err, MatchOption, MatchResult, refl, sym, subst}
+use Rattle.std.proofs.Common.{◌≡◌, inl, inr, Bool, true, false, true≢false, ℕ, [], ◌∷◌, Option, None, Some, Result, Ok, Err, MatchOption, MatchResult, refl, sym, subst, ap}
+use Rattle.rayon_machine_places.specs.declared.place.Ending.{Ending}
 use Rattle.rayon_machine_places.specs.declared.place.Ending.TheVariants.{Fine}
+use Rattle.rayon_machine_places.specs.declared.place.OpenCall.{OpenCall}
+use Rattle.rayon_machine_places.specs.declared.place.Share.TheVariants.{OfJob}
+use Rattle.rayon_machine_places.specs.declared.place.Then.TheVariants.{Answers}
+use Rattle.rayon_machine_places.specs.declared.place.Wait.{Wait}
 use Rattle.rayon_machine_places.specs.declared.place.Party.{Party}
 use Rattle.rayon_machine_places.specs.declared.place.Party.TheVariants.{Worker}
 use Rattle.rayon_machine_places.specs.declared.place.Place.{Place}
 use Rattle.rayon_machine_places.specs.declared.place.Place.TheVariants as at
 use Rattle.rayon_machine_places.specs.declared.place.Move.{Move}
 use Rattle.rayon_machine_places.specs.declared.place.Move.TheVariants.{Stay, Enter, StartRun, Back, HandBack, HandIn, Discard}
+use Rattle.rayon_machine_places.specs.declared.place.Taken.{Taken}
 use Rattle.rayon_machine_places.specs.declared.place.Taken.TheVariants.{Plain}
 use Rattle.rayon_machine_places.specs.declared.place.Target.{Target}
-use Rattle.rayon_machine_places.specs.declared.place.Target.TheVariants.{Termination}
+use Rattle.rayon_machine_places.specs.declared.place.Target.TheVariants.{Termination, Answer}
 use Rattle.rayon_machine_places.specs.declared.shape.PoolShape.{PoolShape}
-use Rattle.rayon_machine_places.specs.Places.{fresh}
+use Rattle.rayon_machine_places.specs.Places.{fresh, goes_on}
 use Rattle.rayon_drive.specs.declared.trace.Log.{Log}
 use Rattle.rayon_drive.specs.Paths.{Driven}
 use Rattle.rayon_drive.proofs.Paths.{driven_read}
 use Rattle.rayon_tasks.specs.Tasks.{TaskOf}
 use Rattle.rayon_performers.specs.Hands.{Hands, Does}
 use Rattle.rayon_performers.specs.Stands.{Stands}
-use Rattle.rayon_performers.specs.Waits.{Waited}
-use Rattle.rayon_registry.specs.Acts.{Made, Worked}
+use Rattle.rayon_performers.specs.Waits.{Rejoined, Waited}
+use Rattle.rayon_registry.specs.Acts.{Lowered, Made, Worked, wait_end}
 
 module _ {X G O F : Type 0} (h : PoolShape) (i : ℕ) (m : Move) (s t : Hands X G O F) where
   abbrev pub Goes : Hands X G O F → Move → Type 0
@@ -68,16 +74,18 @@ above g f p r e a =
     let w = subst (λ (z : Move). Waited g z) e a in
     subst (λ (z : Place). r ≡ Enter z p) w.0 e
 
--- a wait that has not found a task has stopped
-pub has_stopped : (m : Move) → Waited Termination m → ((f : Place) (k : _) → m ≡ Enter f (at.BeginTask k) → ⊥) → m ≡ Stay at.Stopped
-has_stopped (Stay p) a n = subst (λ (z : Place). Stay p ≡ Stay z) a refl
-has_stopped (Enter f (at.BeginTask k)) a n = absurd (n f k refl)
-has_stopped (Enter f _) a n = absurd a.1
-has_stopped Back a n = absurd a
-has_stopped (StartRun f k) a n = absurd a
-has_stopped (HandBack k) a n = absurd a
-has_stopped (HandIn p k) a n = absurd a
-has_stopped (Discard k) a n = absurd a
+-- a wait that has not found a task has ended
+pub has_ended : (g : Target) (m : Move) → Waited g m → ((f : Place) (k : Taken) → m ≡ Enter f (at.BeginTask k) → ⊥) → m ≡ wait_end g
+has_ended Termination (Stay p) a n = ap Stay a
+has_ended (Answer o f) (Stay p) a n = absurd a
+has_ended g (Enter f (at.BeginTask k)) a n = absurd (n f k refl)
+has_ended g (Enter f _) a n = absurd a.1
+has_ended (Answer o f) Back a n = refl
+has_ended Termination Back a n = absurd a
+has_ended g (StartRun f k) a n = absurd a
+has_ended g (HandBack k) a n = absurd a
+has_ended g (HandIn p k) a n = absurd a
+has_ended g (Discard k) a n = absurd a
 
 module _ {X G O F : Type 0} where
   -- a worker that has stopped has seen the latch set
@@ -85,3 +93,58 @@ module _ {X G O F : Type 0} where
   has_probed u m e a =
       let here = subst (λ (z : Move). Stands u z) e a in
       here.0.probed
+
+-- one more stretch, to a run that lies above a frame
+pub around : (h : PoolShape) (q : Party) (f p : Place) (e : Ending) (m : Move) (v u x w : Log) (n : Move) → Made h q m v u (Enter f p) → Worked h q (Stay (goes_on f e)) x w n → Worked h q m v w n
+around h q f p e m v u x w n a b = (record { begins = Enter f p; ended = e; before = u; after = x } ∷ b.0, (tt, a, b.1))
+
+-- acts with runs between, said of equals
+pub worked_as : (h k : PoolShape) (i j : ℕ) (m : Move) (v w : Log) (n : Move) → i ≡ j → h ≡ k → Worked h (Worker 0 i) m v w n → Worked k (Worker 0 j) m v w n
+worked_as h k i j m v w n e f a = subst (λ (z : PoolShape). Worked z (Worker 0 j) m v w n) f (subst (λ (z : ℕ). Worked h (Worker 0 z) m v w n) e a)
+
+-- the own second side has run, and the join ends
+pub runs_second : (h : PoolShape) (q : Party) (o : OpenCall) (v u w : Log) → o.pool ≡ 0 → Made h q (Stay (at.JoinProbe o)) v u (Enter (at.SecondSide o) (at.BeginHere o.job)) → Lowered h q o w → Worked h q (Stay (at.JoinProbe o)) v w Back
+runs_second h q o v u w e a l =
+    let first = Stay (at.LowerCount 0 (OfJob o.job) (Answers o (Some Fine) l.0)) in
+    let end = subst (λ (p : ℕ). Worked h q (Stay (at.LowerCount p (OfJob o.job) (Answers o (Some Fine) l.0))) l.1 w Back) (sym e) (last h q first l.1 w Back l.2) in
+    around h q (at.SecondSide o) (at.BeginHere o.job) l.0 (Stay (at.JoinProbe o)) v u l.1 w Back a end
+
+pub lowered_as : (h k : PoolShape) (i j : ℕ) (o : OpenCall) (w : Log) → i ≡ j → h ≡ k → Lowered h (Worker 0 i) o w → Lowered k (Worker 0 j) o w
+lowered_as h k i j o w e f a = subst (λ (z : PoolShape). Lowered z (Worker 0 j) o w) f (subst (λ (z : ℕ). Lowered h (Worker 0 z) o w) e a)
+
+-- what a wait at a place waits for
+abbrev pub target_at : Place → Target
+target_at (at.ProbeWorking k) = k.target
+target_at _ = Termination
+
+abbrev pub is_wait : Place → Bool
+is_wait (at.ProbeWorking k) = true
+is_wait _ = false
+
+-- a join that has met another task looks again, or waits for the thief's answer
+pub met_again : (o : OpenCall) (f p : Place) (m : Move) → m ≡ Enter f p → Rejoined o m → ((k : Wait) → f ≡ at.ProbeWorking k → ⊥) → m ≡ Enter (at.JoinProbe o) p
+met_again o f p m e a n =
+    let b = subst (λ (z : Move). Rejoined o z) e a in
+    elim b.0 [
+      | inl d ↦ subst (λ (z : Place). m ≡ Enter z p) d e
+      | inr d ↦ absurd (n (fresh (Answer o (Some Fine))) d)
+    ]
+
+pub met_waiting : (o : OpenCall) (f p : Place) (m : Move) (k : Wait) → m ≡ Enter f p → f ≡ at.ProbeWorking k → Rejoined o m → (m ≡ Enter (at.ProbeWorking (fresh (Answer o (Some Fine)))) p) × (k.target ≡ Answer o (Some Fine))
+met_waiting o f p m k e d a =
+    let b = subst (λ (z : Move). Rejoined o z) e a in
+    elim b.0 [
+      | inl c ↦ absurd (true≢false (subst (λ (z : Place). is_wait z ≡ false) d (subst (λ (z : Place). is_wait z ≡ false) (sym c) refl)))
+      | inr c ↦ (subst (λ (z : Place). m ≡ Enter z p) c e, subst (λ (z : Place). target_at z ≡ Answer o (Some Fine)) d (subst (λ (z : Place). target_at z ≡ Answer o (Some Fine)) (sym c) refl))
+    ]
+
+-- a join's look that has found no task has its result
+pub met_end : (o : OpenCall) (m : Move) → Rejoined o m → ((f : Place) (k : Taken) → m ≡ Enter f (at.BeginTask k) → ⊥) → m ≡ Back
+met_end o (Enter f (at.BeginTask k)) a n = absurd (n f k refl)
+met_end o (Enter f _) a n = absurd a.1
+met_end o Back a n = refl
+met_end o (Stay p) a n = absurd a
+met_end o (StartRun f k) a n = absurd a
+met_end o (HandBack k) a n = absurd a
+met_end o (HandIn p k) a n = absurd a
+met_end o (Discard k) a n = absurd a

@@ -1,10 +1,17 @@
 -- The acts that a worker made in a call, where runs of jobs lie between them.
-use Rattle.std.specs.Prelude.{List, [], ◌∷◌}
+use Rattle.std.specs.Prelude.{List, [], ◌∷◌, Bool, true, false, Some}
 use Rattle.rayon_machine_places.specs.declared.place.Ending.{Ending}
+use Rattle.rayon_machine_places.specs.declared.place.Ending.TheVariants.{Fine, Fault}
+use Rattle.rayon_machine_places.specs.declared.place.OpenCall.{OpenCall}
+use Rattle.rayon_machine_places.specs.declared.place.Share.TheVariants.{OfJob}
+use Rattle.rayon_machine_places.specs.declared.place.Then.TheVariants.{Answers}
 use Rattle.rayon_machine_places.specs.declared.place.Party.{Party}
 use Rattle.rayon_machine_places.specs.declared.place.Move.{Move}
-use Rattle.rayon_machine_places.specs.declared.place.Move.TheVariants.{Stay, Enter, StartRun}
+use Rattle.rayon_machine_places.specs.declared.place.Move.TheVariants.{Stay, Enter, StartRun, Back}
 use Rattle.rayon_machine_places.specs.declared.shape.PoolShape.{PoolShape}
+use Rattle.rayon_machine_places.specs.declared.place.Place.TheVariants.{LowerCount, Stopped}
+use Rattle.rayon_machine_places.specs.declared.place.Target.{Target}
+use Rattle.rayon_machine_places.specs.declared.place.Target.TheVariants.{Termination, Answer}
 use Rattle.rayon_machine_places.specs.Places.{goes_on}
 use Rattle.rayon_drive.specs.declared.trace.Log.{Log}
 use Rattle.rayon_drive.specs.Paths.{Driven}
@@ -40,7 +47,21 @@ abbrev pub WorkedAround : PoolShape → Party → Move → Log → List Lay → 
 WorkedAround h q m v [] w n = Made h q m v w n
 WorkedAround h q m v (r ∷ rs) w n = IsRunAbove r.begins × Made h q m v r.before r.begins × WorkedAround h q (below r.begins r.ended) r.after rs w n
 
+-- where a wait for this ends: the worker has stopped, or the call has its answer
+abbrev pub wait_end : Target → Move
+wait_end Termination = Stay Stopped
+wait_end (Answer o f) = Back
+
 -- the acts are those of a program of the table, from the first move to the last, but for what runs did that lay between
 -- its stretches
 abbrev pub Worked : PoolShape → Party → Move → Log → Log → Move → Type 0
 Worked h q m v w n = (runs : List Lay) × WorkedAround h q m v runs w n
+
+-- how a side ended that faulted, or did not
+abbrev pub ended_so : Bool → Ending
+ended_so true = Fault
+ended_so false = Fine
+
+-- the last acts are those by which a join ends whose own second side has run: its Lower, and what that sets going
+abbrev pub Lowered : PoolShape → Party → OpenCall → Log → Type 0
+Lowered h q o w = (e : Ending) × (x : Log) × Made h q (Stay (LowerCount 0 (OfJob o.job) (Answers o (Some Fine) e))) x w Back

@@ -1,5 +1,11 @@
 //! Two sides on one worker value.
 ghost use Rattle.rayon_machine_places.specs.declared.shape.PoolShape.{PoolShape};
+ghost use Rattle.rayon_machine_places.specs.Places.{goes_on};
+ghost use Rattle.rayon_machine_places.specs.declared.place.Move.TheVariants.{Back, Stay};
+ghost use Rattle.rayon_machine_places.specs.declared.place.Party.TheVariants.{Worker};
+ghost use Rattle.rayon_machine_places.specs.declared.place.Place.TheVariants as at;
+ghost use Rattle.rayon_performers.specs.Calls.{own_call};
+ghost use Rattle.rayon_registry.specs.Acts.{Lowered, Worked, ended_so};
 ghost use Rattle.rayon_registry.specs.Answers.{joined, JoinAnswers};
 ghost use Rattle.rayon_registry.specs.Worker.{EndedCall, Kept, SameWorker};
 ghost use Rattle.rayon_tasks.specs.Tasks.{OneJob};
@@ -115,6 +121,7 @@ impl<J: JobKind> WorkerThread<J> {
         requires levels { self.old.levels ≤ R.levels rt.now }
         ensures tag { result.1 ≡ fork.tag }
         ensures ended { EndedCall self.old self.new }
+        ensures path { Worked self.old.shape (Worker 0 self.old.seat) (Stay (goes_on (at.FirstSide (own_call fork.ticket.number) fork.ticket.number) (ended_so first_faulted))) self.old.acts self.new.acts Back }
     {
         let Fork {
             ticket,
@@ -142,7 +149,7 @@ impl<J: JobKind> WorkerThread<J> {
     // Takes the own second side back and runs it, or runs what lies above it until it is met, or waits for the result
     // of the worker that stole it.
     #[inline(always)]
-    #[tactic(auto, unfolding(crate::specs::Pushes::units_of, crate::specs::Pushes::shape_at, crate::specs::Pushes::seat_of))]
+    #[tactic(auto, unfolding(crate::specs::Pushes::units_of, crate::specs::Pushes::shape_at, crate::specs::Pushes::seat_of, crate::specs::Pushes::acts_of))]
     fn second_side<R: Waits<J>>(
         &mut self,
         rt: &R,
@@ -153,7 +160,9 @@ impl<J: JobKind> WorkerThread<J> {
         requires some { 0 < self.old.levels }
         requires levels { self.old.levels ≤ R.levels rt.now }
         requires ticket { ticket.number ≡ call.number }
+        requires pool { call.pool ≡ 0 }
         ensures ended { EndedCall self.old self.new }
+        ensures path { Worked self.old.shape (Worker 0 self.old.seat) (Stay (at.JoinProbe call)) self.old.acts self.new.acts Back }
     {
         let mut ticket = Some(ticket);
         for _ in rt.forever() {
@@ -189,7 +198,7 @@ impl<J: JobKind> WorkerThread<J> {
 
     // Runs the own second side, which was taken back, and gives the unit of the terminate count back.
     #[inline(always)]
-    #[tactic(auto, unfolding(crate::specs::Pushes::units_of, crate::specs::Pushes::shape_at, crate::specs::Pushes::seat_of))]
+    #[tactic(auto, unfolding(crate::specs::Pushes::units_of, crate::specs::Pushes::shape_at, crate::specs::Pushes::seat_of, crate::specs::Pushes::acts_of))]
     fn run_second<R: Waits<J>>(
         &mut self,
         rt: &R,
@@ -200,6 +209,7 @@ impl<J: JobKind> WorkerThread<J> {
         requires some { 0 < self.old.levels }
         requires levels { self.old.levels ≤ R.levels rt.now }
         ensures ended { EndedCall self.old self.new }
+        ensures path { Lowered self.old.shape (Worker 0 self.old.seat) call self.new.acts }
     {
         let (work, injected, _ticket) = task_parts(task);
         self.bench.begin_here(call.job);

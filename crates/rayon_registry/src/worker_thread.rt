@@ -10,7 +10,7 @@ ghost use Rattle.rayon_machine_places.specs.declared.place.Plan.TheVariants.{Det
 ghost use Rattle.rayon_machine_places.specs.declared.place.Taken.TheVariants.{Plain};
 ghost use Rattle.rayon_machine_places.specs.declared.place.Target.TheVariants.{Termination};
 ghost use Rattle.rayon_drive.specs.declared.trace.Log.TheVariants.{Empty};
-ghost use Rattle.rayon_registry.specs.Acts.{Made, Worked};
+ghost use Rattle.rayon_registry.specs.Acts.{Made, Worked, wait_end};
 ghost use Rattle.rayon_registry.specs.Answers.{InstallAnswers};
 ghost use Rattle.rayon_registry.specs.Worker.{AfterWait, Kept, SameWorker};
 ghost use Rattle.std.specs.Prelude.{◌≡◌, ◌⊎◌, ℕ, [], ◌∷◌, ◌++◌, ◌-◌, ◌<◌, ◌≤◌, ◌↔◌, IsTrue, List, Result, Ok, Err, IfOk, IfSome, IfNone, IfErr, MatchOption, MatchResult, None, true, false};
@@ -243,6 +243,7 @@ impl<J: JobKind> WorkerThread<J> {
     pub(crate) fn main_loop<R: Waits<J>>(&mut self, rt: &R, alloc: Global)
         requires levels { self.old.levels ≤ R.levels rt.now }
         ensures same { SameWorker self.old self.new }
+        ensures path { 0 < self.old.levels → Worked self.old.shape (Worker 0 self.old.seat) (Stay (at.ProbeWorking (fresh Termination))) self.old.acts self.new.acts (Stay at.Stopped) }
     {
         if self.levels > 0 {
             self.wait_for(rt, alloc, Target::Termination, None);
@@ -263,6 +264,7 @@ impl<J: JobKind> WorkerThread<J> {
         requires levels { self.old.levels ≤ R.levels rt.now }
         requires ticket { HasTicket ticket (call_to target) }
         ensures after { AfterWait target self.old self.new }
+        ensures path { Worked self.old.shape (Worker 0 self.old.seat) (Stay (at.ProbeWorking (fresh target))) self.old.acts self.new.acts (wait_end target) }
     {
         let mut ticket = ticket;
         for _ in rt.forever() {

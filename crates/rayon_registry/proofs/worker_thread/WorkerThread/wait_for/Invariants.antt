@@ -1,8 +1,16 @@
 use Rattle.std.proofs.Common.{◌≡◌}
+use Rattle.rayon_machine_places.specs.declared.place.Move.{Move}
+use Rattle.rayon_machine_places.specs.declared.place.Move.TheVariants.{Stay}
+use Rattle.rayon_machine_places.specs.declared.place.Party.TheVariants.{Worker}
+use Rattle.rayon_machine_places.specs.declared.place.Place.TheVariants as at
+use Rattle.rayon_machine_places.specs.Places.{fresh}
+use Rattle.rayon_drive.specs.declared.trace.Log.{Log}
 use Rattle.rayon_performers.specs.Hands.{HasTicket}
 use Rattle.rayon_performers.specs.Stands.{call_to}
+use Rattle.rayon_registry.specs.Acts.{Worked}
 use Rattle.rayon_registry.proofs.worker_thread.WorkerThread.wait_for.Given as goal
 
+-- what follows goes on from the acts so far
 abbrev pub invariant-loop : goal.invariant-loop
 invariant-loop g l =
     (goal.iterator-loop g).can_next l.iterator' × (goal.iterator-loop g).is_finite l.iterator'
@@ -12,3 +20,4 @@ invariant-loop g l =
     × (l.self.seat ≡ l.initial.self.seat)
     × (l.self.shape ≡ l.initial.self.shape)
     × HasTicket l.ticket (call_to l.target)
+    × ((w : Log) (n : Move) → Worked l.initial.self.shape (Worker 0 l.initial.self.seat) (Stay (at.ProbeWorking (fresh l.target))) l.self.acts w n → Worked l.initial.self.shape (Worker 0 l.initial.self.seat) (Stay (at.ProbeWorking (fresh l.target))) l.initial.self.acts w n)

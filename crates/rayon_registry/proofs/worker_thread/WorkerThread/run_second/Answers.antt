@@ -1,0 +1,24 @@
+use Rattle.std.proofs.Common.{◌≡◌, Some, refl, rules, subst}
+use Rattle.rayon_machine_places.specs.declared.place.Ending.TheVariants.{Fine}
+use Rattle.rayon_machine_places.specs.declared.place.Move.TheVariants.{Back, Stay}
+use Rattle.rayon_machine_places.specs.declared.place.Party.TheVariants.{Worker}
+use Rattle.rayon_machine_places.specs.declared.place.Place.TheVariants as at
+use Rattle.rayon_machine_places.specs.declared.place.Share.TheVariants.{OfJob}
+use Rattle.rayon_machine_places.specs.declared.place.Then.TheVariants.{Answers}
+use Rattle.rayon_registry.specs.Acts.{Made}
+use Rattle.rayon_registry.specs.Pushes.{acts_of, seat_of, shape_at, units_of}
+use Rattle.rayon_registry.proofs.Made.{made, made_as}
+use Rattle.rayon_registry.proofs.worker_thread.WorkerThread.run_second.Goals as goal
+
+pub returns-clause-path : goal.returns-clause-path
+unfolding acts_of seat_of shape_at units_of
+returns-clause-path g c =
+    let a = c.args.self.now in
+    let s = c.self-2.inside.bench in
+    let w = c.run_work-done.new.self in
+    let u = c.lower_then.new.self in
+    let first = Stay (at.LowerCount 0 (OfJob c.args.call.job) (Answers c.args.call (Some Fine) c.ending.result)) in
+    let here = subst (λ v. Made v.shape (Worker 0 v.seat) first v.acts u.trace Back) c.self-2.view_is (made s.shape s.index first s u Back c.lower_then.ensures.path) in
+    let seat : w.seat ≡ a.seat = search rules in
+    let shape : w.shape ≡ a.shape = search rules in
+    (c.ending.result, w.acts, made_as w.shape a.shape w.seat a.seat first w.acts u.trace Back Back seat shape refl here)

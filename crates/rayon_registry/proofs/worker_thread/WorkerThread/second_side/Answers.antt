@@ -1,0 +1,105 @@
+use Rattle.std.proofs.Common.{◌≡◌, Some, refl, rules, subst, sym}
+use Rattle.rayon_machine_places.specs.declared.place.Ending.TheVariants.{Fine}
+use Rattle.rayon_machine_places.specs.declared.place.Move.TheVariants.{Back, Enter, Stay}
+use Rattle.rayon_machine_places.specs.declared.place.Party.TheVariants.{Worker}
+use Rattle.rayon_machine_places.specs.declared.place.Place.TheVariants as at
+use Rattle.rayon_machine_places.specs.declared.place.Target.TheVariants.{Answer}
+use Rattle.rayon_machine_places.specs.Places.{fresh}
+use Rattle.rayon_registry.specs.Acts.{Made, Worked, wait_end}
+use Rattle.rayon_registry.specs.Pushes.{acts_of, seat_of, shape_at, units_of}
+use Rattle.rayon_registry.proofs.Made.{around, last, lowered_as, made, made_as, met_again, met_end, met_waiting, runs_second, worked_as}
+use Rattle.rayon_registry.proofs.worker_thread.WorkerThread.second_side.Goals as goal
+
+pub returns-in-Ok-clause-path : goal.returns-in-Ok-clause-path
+unfolding acts_of seat_of shape_at units_of
+returns-in-Ok-clause-path g c =
+    let a = c.args.self.now in
+    let l = c.loop.self in
+    let b = c.self.inside.bench in
+    let s = c.set_call.new.self in
+    let u = c.reclaim.new.self in
+    let o = c.args.call in
+    let first = Stay (at.JoinProbe o) in
+    let n = Enter (at.SecondSide o) (at.BeginHere o.job) in
+    let mine = subst (λ z. Made z.shape (Worker 0 z.index) first z.trace u.trace n) c.set_call.ensures (made s.shape s.index first s u n c.in-Ok.ensures.path) in
+    let here = subst (λ v. Made v.shape (Worker 0 v.seat) first v.acts u.trace n) c.self.view_is mine in
+    let found = made_as l.shape a.shape l.seat a.seat first l.acts u.trace n n c.loop.invariant.5 c.loop.invariant.6 refl here in
+    let t = c.take_task.new.self in
+    let seat : t.index ≡ a.seat = search rules in
+    let shape : t.shape ≡ a.shape = search rules in
+    let w = c.run_second.new.self.acts in
+    c.loop.invariant.8 w Back (runs_second a.shape (Worker 0 a.seat) o l.acts u.trace w c.requires.pool found (lowered_as t.shape a.shape t.index a.seat o w seat shape c.run_second.ensures.path))
+
+pub returns-in-ProbeWorking-clause-path : goal.returns-in-ProbeWorking-clause-path
+unfolding acts_of seat_of shape_at units_of
+returns-in-ProbeWorking-clause-path g c =
+    let p = c.in-Err-Enter-default-BeginTask.field-0-1 in
+    let f = c.in-Err-Enter-default-BeginTask.frame in
+    let k = c.in-ProbeWorking.wait in
+    let entered : c.in-Err-Enter-default-BeginTask.field-0 ≡ Enter f p = search rules in
+    let met = met_waiting c.args.call f p c.in-Err-Enter-default-BeginTask.field-0 k entered c.in-ProbeWorking.is c.in-Err-Enter-default-BeginTask.ensures.rejoins in
+    let a = c.args.self.now in
+    let l = c.loop.self in
+    let b = c.self.inside.bench in
+    let s = c.set_call.new.self in
+    let u = c.reclaim.new.self in
+    let o = c.args.call in
+    let first = Stay (at.JoinProbe o) in
+    let n = c.in-Err-Enter-default-BeginTask.field-0 in
+    let mine = subst (λ z. Made z.shape (Worker 0 z.index) first z.trace u.trace n) c.set_call.ensures (made s.shape s.index first s u n c.in-Err-Enter-default-BeginTask.ensures.path) in
+    let here = subst (λ v. Made v.shape (Worker 0 v.seat) first v.acts u.trace n) c.self.view_is mine in
+    let found = made_as l.shape a.shape l.seat a.seat first l.acts u.trace n (Enter (at.ProbeWorking (fresh (Answer o (Some Fine)))) p) c.loop.invariant.5 c.loop.invariant.6 met.0 here in
+    let x = c.run_task.new.self in
+    let w = c.wait_for.new.self.acts in
+    let seat : x.seat ≡ a.seat = search rules in
+    let shape : x.shape ≡ a.shape = search rules in
+    let waited = subst (λ t. Worked x.shape (Worker 0 x.seat) (Stay (at.ProbeWorking (fresh t))) x.acts w (wait_end t)) met.1 c.wait_for.ensures.path in
+    c.loop.invariant.8 w Back (around a.shape (Worker 0 a.seat) (at.ProbeWorking (fresh (Answer o (Some Fine)))) p Fine first l.acts u.trace x.acts w Back found
+    (worked_as x.shape a.shape x.seat a.seat (Stay (at.ProbeWorking (fresh (Answer o (Some Fine))))) x.acts w Back seat shape waited))
+
+pub loop-preserved : goal.loop-preserved
+unfolding acts_of seat_of shape_at units_of
+loop-preserved g c =
+    let p = c.in-Err-Enter-default-BeginTask.field-0-1 in
+    let f = c.in-Err-Enter-default-BeginTask.frame in
+    let entered : c.in-Err-Enter-default-BeginTask.field-0 ≡ Enter f p = search rules in
+    let met = met_again c.args.call f p c.in-Err-Enter-default-BeginTask.field-0 entered c.in-Err-Enter-default-BeginTask.ensures.rejoins c.in_default-frame.not-ProbeWorking in
+    let a = c.args.self.now in
+    let l = c.loop.self in
+    let b = c.self.inside.bench in
+    let s = c.set_call.new.self in
+    let u = c.reclaim.new.self in
+    let o = c.args.call in
+    let first = Stay (at.JoinProbe o) in
+    let n = c.in-Err-Enter-default-BeginTask.field-0 in
+    let mine = subst (λ z. Made z.shape (Worker 0 z.index) first z.trace u.trace n) c.set_call.ensures (made s.shape s.index first s u n c.in-Err-Enter-default-BeginTask.ensures.path) in
+    let here = subst (λ v. Made v.shape (Worker 0 v.seat) first v.acts u.trace n) c.self.view_is mine in
+    let found = made_as l.shape a.shape l.seat a.seat first l.acts u.trace n (Enter (at.JoinProbe o) p) c.loop.invariant.5 c.loop.invariant.6 met here in (
+      tt,
+      tt,
+      search rules,
+      search rules,
+      search rules,
+      search rules,
+      search rules,
+      search rules,
+      λ w m x. c.loop.invariant.8 w m (around a.shape (Worker 0 a.seat) (at.JoinProbe o) p Fine first l.acts u.trace c.run_task.new.self.acts w m found x),
+    )
+
+pub returns-in-Err-clause-path : goal.returns-in-Err-clause-path
+unfolding acts_of seat_of shape_at units_of
+returns-in-Err-clause-path g c =
+    let met = met_end c.args.call c.in-Err.field-0 c.in-Err.ensures.rejoins (λ f k e. search rules) in
+    let a = c.args.self.now in
+    let l = c.loop.self in
+    let b = c.self.inside.bench in
+    let s = c.set_call.new.self in
+    let u = c.reclaim.new.self in
+    let o = c.args.call in
+    let first = Stay (at.JoinProbe o) in
+    let n = c.in-Err.field-0 in
+    let mine = subst (λ z. Made z.shape (Worker 0 z.index) first z.trace u.trace n) c.set_call.ensures (made s.shape s.index first s u n c.in-Err.ensures.path) in
+    let here = subst (λ v. Made v.shape (Worker 0 v.seat) first v.acts u.trace n) c.self.view_is mine in
+    let found = made_as l.shape a.shape l.seat a.seat first l.acts u.trace n Back c.loop.invariant.5 c.loop.invariant.6 met here in
+    subst (λ z. Worked a.shape (Worker 0 a.seat) first a.acts z.trace Back) (sym c.take_done.ensures.left)
+    (c.loop.invariant.8 u.trace Back (last a.shape (Worker 0 a.seat) first l.acts u.trace Back found))

@@ -1,0 +1,62 @@
+use Rattle.std.proofs.Common.{rules, subst, sym}
+use Rattle.rayon_machine_places.specs.declared.place.Move.TheVariants.{Enter, Stay}
+use Rattle.rayon_machine_places.specs.declared.place.Party.TheVariants.{Worker}
+use Rattle.rayon_machine_places.specs.declared.place.Place.TheVariants as at
+use Rattle.rayon_machine_places.specs.Places.{fresh}
+use Rattle.rayon_registry.specs.Acts.{Made, Worked, wait_end}
+use Rattle.rayon_registry.specs.Pushes.{acts_of, seat_of, shape_at, units_of}
+use Rattle.rayon_registry.proofs.Made.{above, again, has_ended, last, made, made_as}
+use Rattle.rayon_registry.proofs.worker_thread.WorkerThread.wait_for.Goals as goal
+use Rattle.rayon_registry.proofs.worker_thread.WorkerThread.wait_for.Goals.{in_default-via-in-Enter+in_default, in_default-via-in_default}
+
+pub loop-preserved : goal.loop-preserved
+unfolding acts_of seat_of shape_at units_of
+loop-preserved g c =
+    let a = c.args.self.now in
+    let l = c.loop.self in
+    let b = c.self.inside.bench in
+    let s = c.set_call.new.self in
+    let u = c.wait.new.self in
+    let r = c.wait.result in
+    let k = c.args.target in
+    let p = c.in-Enter-default-BeginTask.place in
+    let first = Stay (at.ProbeWorking (fresh k)) in
+    let mine = subst (λ z. Made z.shape (Worker 0 z.index) first z.trace u.trace r) c.set_call.ensures (made s.shape s.index first s u r c.wait.ensures.path) in
+    let here = subst (λ v. Made v.shape (Worker 0 v.seat) first v.acts u.trace r) c.self.view_is mine in
+    let found = made_as l.shape a.shape l.seat a.seat first l.acts u.trace r (Enter (at.ProbeWorking (fresh k)) p) c.loop.invariant.5 c.loop.invariant.6 (above k c.in-Enter-default-BeginTask.frame p r c.in-Enter-default-BeginTask.is c.wait.ensures.ends) here in (
+      tt,
+      tt,
+      search rules,
+      search rules,
+      search rules,
+      search rules,
+      search rules,
+      search rules,
+      λ w n x. c.loop.invariant.8 w n (again a.shape (Worker 0 a.seat) k p l.acts u.trace c.run_task.new.self.acts w n found x),
+    )
+
+pub returns-in_default-clause-path : goal.returns-in_default-clause-path
+unfolding acts_of seat_of shape_at units_of
+returns-in_default-clause-path g c =
+    let a = c.args.self.now in
+    let l = c.loop.self in
+    let b = c.self.inside.bench in
+    let s = c.set_call.new.self in
+    let u = c.wait.new.self in
+    let r = c.wait.result in
+    let k = c.args.target in
+    let first = Stay (at.ProbeWorking (fresh k)) in
+    let mine = subst (λ z. Made z.shape (Worker 0 z.index) first z.trace u.trace r) c.set_call.ensures (made s.shape s.index first s u r c.wait.ensures.path) in
+    let here = subst (λ v. Made v.shape (Worker 0 v.seat) first v.acts u.trace r) c.self.view_is mine in
+    elim c.in_default.branch [
+      | in_default-via-in-Enter+in_default w ↦
+          let ended = has_ended k r c.wait.ensures.ends (λ f n e. search rules) in
+          let end = made_as l.shape a.shape l.seat a.seat first l.acts u.trace r (wait_end k) c.loop.invariant.5 c.loop.invariant.6 ended here in
+          subst (λ z. Worked a.shape (Worker 0 a.seat) first a.acts z.trace (wait_end k)) (sym c.take_done.ensures.left)
+          (c.loop.invariant.8 u.trace (wait_end k) (last a.shape (Worker 0 a.seat) first l.acts u.trace (wait_end k) end))
+      | in_default-via-in_default w ↦
+          let ended = has_ended k r c.wait.ensures.ends (λ f n e. search rules) in
+          let end = made_as l.shape a.shape l.seat a.seat first l.acts u.trace r (wait_end k) c.loop.invariant.5 c.loop.invariant.6 ended here in
+          subst (λ z. Worked a.shape (Worker 0 a.seat) first a.acts z.trace (wait_end k)) (sym c.take_done.ensures.left)
+          (c.loop.invariant.8 u.trace (wait_end k) (last a.shape (Worker 0 a.seat) first l.acts u.trace (wait_end k) end))
+    ]

@@ -125,10 +125,7 @@ impl Touched {
                     pool: party.pool(),
                     worker: party.index(),
                 };
-                Ok((
-                    Seen::Done,
-                    self.with_feeder(Some(party)).with_job_at(at),
-                ))
+                Ok((Seen::Done, self.with_feeder(Some(party)).with_job_at(at)))
             }
             Act::FifoUndo => Ok(self.take_back(party, found)),
             Act::FifoOut { .. } => self.hand_out(party, found),

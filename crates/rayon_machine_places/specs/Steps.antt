@@ -62,7 +62,6 @@ handed_back (Detach p t) f = put f t (at_job (f t) HandedBack)
 handed_back (Here p t) f = put f t (at_job (f t) HandedBack)
 handed_back (Send o) f = put f o.job (at_job (f o.job) HandedBack)
 handed_back (Fork o a) f = put (put f a (at_job (f a) HandedBack)) o.job (at_job (f o.job) HandedBack)
-
 handed_back (Feed d) f = put (put f d.job (at_job (f d.job) HandedBack)) d.token (at_job (f d.token) HandedBack)
 
 -- the jobs after a move: a run begins, a refused call's jobs are handed back, or a token is spent

@@ -82,7 +82,6 @@ impl Plan {
             _ => 0,
         }
     }
-
 }
 
 /// Looks at a pool's queue: its workers look at their own deques, others at the injector.

@@ -22,10 +22,19 @@ pub fn act_name(world: &World, party: usize) -> &'static str {
             crate::world::Phase::Wake => "Wake",
             crate::world::Phase::Unlock => "Unlock",
         },
-        Frame::Lower(_) => "Lower",
+        Frame::Lower(_) | Frame::LowerAll(_) => "Lower",
         Frame::Store { .. } => "Store",
         Frame::SetLock(_) => "LockSet",
         Frame::SetCall { .. } | Frame::SetTerminate { .. } => "Set",
+    }
+}
+
+/// The name that the machine's sources give the next act of a party.
+fn variant_name(world: &World, party: usize) -> &'static str {
+    match world.parties[party].stack.last() {
+        Some(Frame::Call(call)) if call.kind == CallKind::Cast && call.step == CallStep::Raise => "RaiseAll",
+        Some(Frame::LowerAll(_)) => "LowerAll",
+        _ => act_name(world, party),
     }
 }
 
@@ -41,6 +50,7 @@ fn call_act(own: bool, step: CallStep) -> &'static str {
         CallStep::LookForToken => "LookOwn",
         CallStep::PushToken => "PushOwn",
         CallStep::TakeBack => "FifoUndo",
+        CallStep::Deal => "PushCast",
         CallStep::News => "News",
         CallStep::WaitForLock => "LockWait",
         CallStep::Take => "Take",
@@ -94,6 +104,7 @@ fn wait_names(at: At) -> (&'static str, &'static str) {
 
 fn call_place(kind: CallKind, step: CallStep, above: Option<&Frame>) -> &'static str {
     match step {
+        CallStep::Raise if kind == CallKind::Cast => "RaiseForAll",
         CallStep::Raise => "RaiseCount",
         CallStep::Grow => "GrowCall",
         CallStep::Look => "LookQueue",
@@ -102,6 +113,7 @@ fn call_place(kind: CallKind, step: CallStep, above: Option<&Frame>) -> &'static
         CallStep::LookForToken => "LookForToken",
         CallStep::PushToken => "PushToken",
         CallStep::TakeBack => "TakeFromFifo",
+        CallStep::Deal => "PushForAll",
         CallStep::News => "TellNews",
         CallStep::WaitForLock => "WaitForLock",
         CallStep::Take => "TakeResult",
@@ -148,6 +160,7 @@ fn place(frame: &Frame, above: Option<&Frame>) -> &'static str {
         Frame::Settle { phase: Phase::Wake, .. } => "WakeSettled",
         Frame::Settle { phase: Phase::Unlock, .. } => "UnlockSettled",
         Frame::Lower(_) => "LowerCount",
+        Frame::LowerAll(_) => "LowerForAll",
         Frame::Store { .. } => "StoreResult",
         Frame::SetLock(_) => "SetLockLatch",
         Frame::SetCall { .. } | Frame::SetTerminate { .. } => "SetLatch",
@@ -180,7 +193,7 @@ impl Reached {
         let Event::Act { party, how } = event else {
             return;
         };
-        let name = act_name(world, party);
+        let name = variant_name(world, party);
         self.note(&format!("act {name}"));
         match how {
             How::Refuse => self.note(&format!("refused {name}")),
@@ -190,7 +203,7 @@ impl Reached {
         }
         if let Some(Frame::Call(call)) = world.parties[party].stack.last() {
             if call.step == CallStep::Raise && world.pools[call.pool as usize].count == 0 {
-                self.note("refused Raise");
+                self.note(&format!("refused {name}"));
             }
         }
     }

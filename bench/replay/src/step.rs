@@ -19,6 +19,7 @@ pub enum Event {
     End { party: usize, fault: bool },
     Spawn { party: usize, pool: usize },
     Fifo { party: usize, pool: usize },
+    Cast { party: usize, pool: usize },
     Install { party: usize, pool: usize },
     Join(usize),
     Yield { party: usize, local: bool },
@@ -38,6 +39,7 @@ impl World {
                 self.call(party, pool, CallKind::Fifo)
             }
             Event::Fifo { party, pool } => self.call(party, pool, CallKind::Spawn),
+            Event::Cast { party, pool } => self.call(party, pool, CallKind::Cast),
             Event::Install { party, pool } if self.own_pool(party) == Some(pool as u8) => {
                 self.call(party, pool, CallKind::Here)
             }
@@ -162,7 +164,7 @@ impl World {
     /// The call has queued its job and woken others.
     fn after_news(&mut self, party: usize, call: Call) {
         match call.kind {
-            CallKind::Spawn | CallKind::Fifo => self.done(party),
+            CallKind::Spawn | CallKind::Fifo | CallKind::Cast => self.done(party),
             CallKind::Join => {
                 self.go_on(party, call, CallStep::Above);
                 self.totals.running += 1;
@@ -192,7 +194,8 @@ impl World {
             }
             Frame::Redeem(worker) => self.redeem(party, worker),
             Frame::Wake { .. } | Frame::Settle { .. } => self.wake_act(party, frame),
-            Frame::Lower(_) | Frame::Store { .. } | Frame::SetLock(_) => self.end_act(party, frame),
+            Frame::Lower(_) | Frame::LowerAll(_) => self.lower(party, frame),
+            Frame::Store { .. } | Frame::SetLock(_) => self.end_act(party, frame),
             Frame::SetCall { .. } | Frame::SetTerminate { .. } => self.set_act(party, frame),
             Frame::Stopped | Frame::Run(_) => false,
         }
@@ -214,7 +217,7 @@ impl World {
             How::Refuse => match frame {
                 Frame::Call(call) => matches!(
                     call.step,
-                    CallStep::Grow | CallStep::Push | CallStep::Add | CallStep::PushToken
+                    CallStep::Grow | CallStep::Push | CallStep::Add | CallStep::PushToken | CallStep::Deal
                 ),
                 _ => false,
             },
@@ -296,17 +299,24 @@ impl World {
         }
     }
 
+    fn lower(&mut self, party: usize, frame: Frame) -> bool {
+        let (pool, shares) = match frame {
+            Frame::LowerAll(pool) => (pool, self.pools[pool as usize].shape.workers as u64),
+            Frame::Lower(pool) => (pool, 1),
+            _ => return false,
+        };
+        let count = &mut self.pools[pool as usize].count;
+        *count -= shares;
+        if *count == 0 {
+            self.set_top(party, Frame::SetTerminate { pool, worker: 0 });
+        } else {
+            self.done(party);
+        }
+        true
+    }
+
     fn end_act(&mut self, party: usize, frame: Frame) -> bool {
         match frame {
-            Frame::Lower(pool) => {
-                let count = &mut self.pools[pool as usize].count;
-                *count -= 1;
-                if *count == 0 {
-                    self.set_top(party, Frame::SetTerminate { pool, worker: 0 });
-                } else {
-                    self.done(party);
-                }
-            }
             Frame::Store { call, fault } => {
                 let record = &mut self.calls[call as usize];
                 record.cell = Some(fault);
@@ -390,10 +400,24 @@ impl World {
                 self.totals.queued += 1;
                 self.go_on(party, call, CallStep::News);
             }
+            CallStep::Deal if how == How::Refuse => self.set_top(party, Frame::LowerAll(call.pool)),
+            CallStep::Deal => self.deal(party, call),
             CallStep::News => self.news(party, call),
             _ => return self.later_act(party, call),
         }
         true
+    }
+
+    /// Each worker of the pool gets a piece, and all of them are called.
+    fn deal(&mut self, party: usize, call: Call) {
+        let pool = &self.pools[call.pool as usize];
+        let (first, workers) = (pool.first_seat, pool.shape.workers);
+        for seat in first..first + workers {
+            self.seats[seat].cast.push_back(Task::Detached(call.pool));
+        }
+        self.totals.queued += workers as u64;
+        self.go_on(party, call, CallStep::Woken);
+        self.wake(party, call.pool, workers as u32);
     }
 
     /// Whether no other party holds the FIFO list of this worker.
@@ -478,20 +502,29 @@ impl World {
                 self.go_on(party, call, if set { CallStep::Take } else { CallStep::Pop });
             }
             CallStep::Pop => self.join_pop(party, call),
-            CallStep::Cast => self.wait(party, call),
+            CallStep::Cast => match self.take_cast(party) {
+                Some(task) => {
+                    let again = Frame::Call(Call { step: CallStep::Probe, ..call });
+                    self.begin_over(party, again, task);
+                }
+                None => self.wait(party, call),
+            },
             _ => return false,
         }
         true
     }
 
     fn raise(&mut self, party: usize, call: Call) {
-        let count = &mut self.pools[call.pool as usize].count;
+        let pool = &mut self.pools[call.pool as usize];
+        let shares = if call.kind == CallKind::Cast { pool.shape.workers as u64 } else { 1 };
+        let count = &mut pool.count;
         if *count == 0 {
             self.done(party);
             return;
         }
-        *count += 1;
+        *count += shares;
         match call.kind {
+            CallKind::Cast => self.go_on(party, call, CallStep::Deal),
             CallKind::Spawn => self.go_on(party, call, CallStep::Look),
             CallKind::Fifo => self.go_on(party, call, CallStep::Add),
             CallKind::Here => {
@@ -566,6 +599,11 @@ impl World {
         self.taken(task)
     }
 
+    fn take_cast(&mut self, seat: usize) -> Found {
+        let task = self.seats[seat].cast.pop_front();
+        self.taken(task)
+    }
+
     fn pop_injected(&mut self, pool: u8) -> Found {
         let task = self.pools[pool as usize].injector.pop_front();
         self.taken(task)
@@ -596,8 +634,8 @@ impl World {
         let to = |look| Some(Frame::Yield { look, local, victim, left });
         let (task, next) = match look {
             Look::Pop => (self.pop_own(party), to(Look::Cast)),
-            Look::Cast if local => (None, None),
-            Look::Cast => (None, to(if one { Look::Injected } else { Look::Pick })),
+            Look::Cast if local => (self.take_cast(party), None),
+            Look::Cast => (self.take_cast(party), to(if one { Look::Injected } else { Look::Pick })),
             Look::Pick => {
                 let (victim, left) = self.first_victim(pool, index, how);
                 (None, Some(Frame::Yield { look: Look::Steal, local, victim, left }))
@@ -666,7 +704,13 @@ impl World {
                 }
                 None => self.stand(party, wait, At::CastWorking),
             },
-            At::CastWorking => self.stand(party, wait, At::BecomeInactive),
+            At::CastWorking => match self.take_cast(party) {
+                Some(task) => {
+                    self.begin_over(party, Frame::Wait(Wait::new(wait.call)), task);
+                    true
+                }
+                None => self.stand(party, wait, At::BecomeInactive),
+            },
             _ => {
                 let Some((pool, _)) = self.parties[party].worker else {
                     return false;
@@ -688,8 +732,8 @@ impl World {
             }
             At::ProbeIdle => (None, wait_at(wait, At::PopIdle)),
             At::PopIdle => (self.pop_own(party), wait_at(wait, At::CastIdle)),
-            At::CastIdle if shape.workers == 1 => (None, wait_at(wait, At::PopInjected)),
-            At::CastIdle => (None, wait_at(wait, At::Pick)),
+            At::CastIdle if shape.workers == 1 => (self.take_cast(party), wait_at(wait, At::PopInjected)),
+            At::CastIdle => (self.take_cast(party), wait_at(wait, At::Pick)),
             At::Pick => {
                 let (victim, left) = self.first_victim(pool, index, how);
                 (None, Wait { at: At::Steal, victim, left, ..wait })
@@ -777,7 +821,10 @@ impl World {
         let pool = &mut self.pools[own as usize];
         let fresh = Wait { rounds: 0, ..wait };
         match wait.at {
-            At::LookCast => self.stand(party, wait, At::LookInjector),
+            At::LookCast => {
+                let empty = self.seats[party].cast.is_empty();
+                self.stand(party, wait, if empty { At::LookInjector } else { At::SubSleeping })
+            }
             At::LookInjector => {
                 let at = if pool.injector.is_empty() { At::Block } else { At::SubSleeping };
                 self.stand(party, wait, at)

@@ -78,6 +78,7 @@ fn event(world: &World, line: &str) -> Option<(Event, u64)> {
         ("fault", None) => Event::End { party, fault: true },
         ("spawn", Some(pool)) => Event::Spawn { party, pool: index(pool)? },
         ("fifo", Some(pool)) => Event::Fifo { party, pool: index(pool)? },
+        ("cast", Some(pool)) => Event::Cast { party, pool: index(pool)? },
         ("install", Some(pool)) => Event::Install { party, pool: index(pool)? },
         ("join", None) => Event::Join(party),
         ("yield", None) => Event::Yield { party, local: false },
@@ -128,8 +129,9 @@ pub fn print(world: &World) -> String {
             let seat = &world.seats[pool.first_seat + index];
             let _ = writeln!(
                 text,
-                "{number}.{index} deque {} cast 0 blocked {} place {}",
+                "{number}.{index} deque {} cast {} blocked {} place {}",
                 seat.deque.len(),
+                seat.cast.len(),
                 seat.blocked as u8,
                 act_name(world, pool.first_seat + index)
             );

@@ -117,6 +117,8 @@ pub enum CallStep {
     LookForToken,
     PushToken,
     TakeBack,
+    /// A piece of a broadcast is put into each worker's broadcast list.
+    Deal,
     News,
     /// Others are being woken.
     Woken,
@@ -135,6 +137,8 @@ pub enum CallKind {
     Spawn,
     /// A spawn in order, by a worker of the pool.
     Fifo,
+    /// A detached broadcast.
+    Cast,
     Here,
     Send,
     Join,
@@ -170,6 +174,8 @@ pub enum Frame {
     Yield { look: Look, local: bool, victim: u8, left: u8 },
     Wake { pool: u8, worker: u8, owed: u8, phase: Phase },
     Lower(u8),
+    /// Gives back the shares of a refused broadcast's pieces.
+    LowerAll(u8),
     Store { call: u32, fault: bool },
     SetLock(u32),
     /// Sets the latch of a call of this worker.
@@ -195,6 +201,7 @@ pub struct Pool {
 #[derive(Clone)]
 pub struct Seat {
     pub deque: VecDeque<Task>,
+    pub cast: VecDeque<Task>,
     /// The jobs in the FIFO list, all detached at the worker's pool, and the party that holds the list.
     pub fifo: u64,
     pub feeder: Option<usize>,
@@ -279,6 +286,7 @@ impl World {
             self.parties.push(Party { worker: Some((number, index as u8)), stack });
             self.seats.push(Seat {
                 deque: VecDeque::new(),
+                cast: VecDeque::new(),
                 fifo: 0,
                 feeder: None,
                 blocked: false,

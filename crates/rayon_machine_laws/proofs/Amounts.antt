@@ -12,13 +12,13 @@ use Rattle.rayon_machine_places.specs.declared.place.Rounds.TheVariants.{Failed,
 use Rattle.rayon_machine_places.specs.declared.place.Plan.{Plan}
 use Rattle.rayon_machine_places.specs.declared.place.Plan.TheVariants.{Detach, Here, Send, Fork, Feed}
 use Rattle.rayon_machine_places.specs.declared.place.Then.{Then}
-use Rattle.rayon_machine_places.specs.declared.place.Then.TheVariants.{BeginFound, LeaveWait, Resume, Await, RunFirst, Answers, Missing, Ran, GiveBack}
+use Rattle.rayon_machine_places.specs.declared.place.Then.TheVariants.{BeginFound, LeaveWait, Resume, Await, RunFirst, Answers, Missing, Ran, GiveBack, Called}
 use Rattle.rayon_machine_places.specs.declared.place.Taken.{Taken}
 use Rattle.rayon_machine_places.specs.declared.place.Taken.TheVariants.{Plain, Token}
 use Rattle.rayon_machine_places.specs.declared.place.Place.{Place}
-use Rattle.rayon_machine_places.specs.declared.place.Place.TheVariants.{ProbeWorking, PopWorking, TakeCastWorking, ProbeIdle, PopIdle, TakeCastIdle, PickVictim, StealFrom, PopInjected, AnnounceSelf, GetSleepy, FallAsleep, LoadCounters, AddSleeping, LookAtCast, LookAtInjector, WakeUp, LeaveSearch, JoinProbe, JoinPop, JoinTakeCast, YieldPop, YieldTakeCast, YieldPick, YieldSteal, YieldPopInjected, LocalPop, LocalTakeCast, BeginTask, BeginHere, RaiseCount, GrowCall, LookQueue, PushJob, TellNews, LockToWake, WakeWorker, UnlockWoken, TakeResult, LowerCount, StoreResult, SetLatch, UnlockSettled, SecondSide, AddToFifo, LookForToken, PushToken, TakeFromFifo}
+use Rattle.rayon_machine_places.specs.declared.place.Place.TheVariants.{ProbeWorking, PopWorking, TakeCastWorking, ProbeIdle, PopIdle, TakeCastIdle, PickVictim, StealFrom, PopInjected, AnnounceSelf, GetSleepy, FallAsleep, LoadCounters, AddSleeping, LookAtCast, LookAtInjector, WakeUp, LeaveSearch, JoinProbe, JoinPop, JoinTakeCast, YieldPop, YieldTakeCast, YieldPick, YieldSteal, YieldPopInjected, LocalPop, LocalTakeCast, BeginTask, BeginHere, RaiseCount, GrowCall, LookQueue, PushJob, TellNews, LockToWake, WakeWorker, UnlockWoken, TakeResult, LowerCount, StoreResult, SetLatch, UnlockSettled, SecondSide, AddToFifo, LookForToken, PushToken, TakeFromFifo, RaiseForAll, PushForAll, LowerForAll}
 use Rattle.rayon_machine_places.specs.declared.place.Move.{Move}
-use Rattle.rayon_machine_places.specs.declared.place.Move.TheVariants.{Stay, Enter, StartRun, Back, HandBack, Discard, HandIn}
+use Rattle.rayon_machine_places.specs.declared.place.Move.TheVariants.{Stay, Enter, StartRun, Back, HandBack, Discard, HandIn, Mark, HandAllBack}
 use Rattle.rayon_machine_places.specs.declared.act.Seen.{Seen}
 use Rattle.rayon_machine_places.specs.declared.act.Seen.TheVariants.{Done, Yes, Task, Jec, Word, Start, Wakes, Begun, Found, Handed}
 use Rattle.rayon_machine_places.specs.declared.shape.PoolShape.{PoolShape}
@@ -27,7 +27,7 @@ use Rattle.rayon_machine_places.specs.declared.place.Wait.{Wait}
 use Rattle.rayon_machine_places.specs.declared.place.Settling.{Settling}
 use Rattle.rayon_machine_places.specs.Places.{own_pool, own_index, plan_pool, plan_job, after_wait, finish, walk, settle, after_set, after_found, after_news, after_raise, undo, set_call, next_victim, not_self, after_failure, next_steal, next_yield, next_of, is_taken, taken_number}
 use Rattle.rayon_machine_places.specs.World.{Stack}
-use Rattle.rayon_machine_places.specs.Steps.{after_move}
+use Rattle.rayon_machine_places.specs.Steps.{after_move, is_piece}
 use Rattle.rayon_machine_laws.specs.Once.{one}
 pub use Rattle.rayon_machine_laws.specs.Counted.{values, values_in, all_values}
 use Rattle.rayon_machine_laws.specs.Shares.{share_target, share_rest, share_then, share_of, share, shares_in, shares}
@@ -35,6 +35,7 @@ use Rattle.rayon_machine_laws.specs.Shares.{share_target, share_rest, share_then
 -- a place that raises the count for job t
 abbrev pub raises : ℕ → Place → ℕ
 raises t (RaiseCount n) = one (t == plan_job n)
+raises t (RaiseForAll c) = one (is_piece c t)
 raises t _ = 0
 
 abbrev pub raises_in : ℕ → List Place → ℕ
@@ -47,29 +48,35 @@ all_raises t k = raises t k.top + raises_in t k.below
 abbrev pub share_move : ℕ → Move → ℕ
 share_move t (Stay y) = share t y
 share_move t (HandIn y token) = share t y
+share_move t (Mark y b9 m9) = share t y
 share_move t (Enter f y) = share t y + share t f
 share_move t (StartRun f a) = share t f
 share_move t Back = 0
 share_move t (HandBack n) = 0
 share_move t (Discard n) = 0
+share_move t (HandAllBack b9) = 0
 
 abbrev pub raises_move : ℕ → Move → ℕ
 raises_move t (Stay y) = raises t y
 raises_move t (HandIn y token) = raises t y
+raises_move t (Mark y b9 m9) = raises t y
 raises_move t (Enter f y) = raises t y + raises t f
 raises_move t (StartRun f a) = raises t f
 raises_move t Back = 0
 raises_move t (HandBack n) = 0
 raises_move t (Discard n) = 0
+raises_move t (HandAllBack b9) = 0
 
 abbrev pub values_move : ℕ → Move → ℕ
 values_move p (Stay y) = values p y
 values_move p (HandIn y token) = values p y
+values_move p (Mark y b9 m9) = values p y
 values_move p (Enter f y) = values p y + values p f
 values_move p (StartRun f a) = values p f
 values_move p Back = 0
 values_move p (HandBack n) = 0
 values_move p (Discard n) = 0
+values_move p (HandAllBack b9) = 0
 
 abbrev pub begins_move : ℕ → ℕ → Move → ℕ
 begins_move t p g = raises_move t g + values_move p g
@@ -77,6 +84,7 @@ begins_move t p g = raises_move t g + values_move p g
 -- the share that a raise takes
 abbrev pub gained : ℕ → Place → Seen → ℕ
 gained t (RaiseCount n) Done = one (t == plan_job n)
+gained t (RaiseForAll c) Done = one (is_piece c t)
 gained t _ _ = 0
 
 -- the share that goes with a job that is pushed and that no call waits for: a detached one, since an install that is
@@ -86,6 +94,7 @@ pushed t (PushJob (Detach r j) v) Done = one (t == j)
 pushed t (PushJob (Here r j) v) Done = one (t == j)
 pushed t (PushJob (Feed f) v) Done = one (t == f.job)
 pushed t (AddToFifo f) Done = one (t == f.job)
+pushed t (PushForAll c) Done = one (is_piece c t)
 pushed t _ _ = 0
 
 -- the share that comes back to a call with the job that it takes back out of a FIFO list
@@ -96,6 +105,7 @@ regained t _ _ = 0
 -- the share that is given back
 abbrev pub paid : ℕ → Place → ℕ
 paid t (LowerCount r s n) = share_of t s
+paid t (LowerForAll c) = one (is_piece c t)
 paid t _ = 0
 
 -- what a move leads to
@@ -110,6 +120,7 @@ am_finish : (t p : ℕ) (q : Party) (n : Then) → Amount t p (finish q n) (shar
 am_finish t p q (BeginFound g u) = (omega arith, refl)
 am_finish t p q (LeaveWait g) = am_left t p g
 am_finish t p q Resume = (omega arith, refl)
+am_finish t p q Called = (omega arith, refl)
 am_finish t p (Worker a b) (Await o) = (omega arith, refl)
 am_finish t p (Caller c) (Await o) = (omega arith, refl)
 am_finish t p q (RunFirst o a) = (omega arith, refl)
@@ -288,6 +299,12 @@ amounts g q t p (TakeFromFifo f) (Task x) = (omega arith, refl)
 amounts g q t p (TakeFromFifo f) _ = (omega arith, refl)
 amounts g q t p (RaiseCount n) Done = (let a : Amount t p (after_raise n) (one (t == plan_job n)) = am_raised t p n in let b : share_move t (after_raise n) ≡ one (t == plan_job n) = a.0 in omega (arith, b), (let a : Amount t p (after_raise n) (one (t == plan_job n)) = am_raised t p n in a.1))
 amounts g q t p (RaiseCount n) _ = (omega arith, refl)
+amounts g q t p (RaiseForAll c) Done = (omega arith, refl)
+amounts g q t p (RaiseForAll c) _ = (omega arith, refl)
+amounts g q t p (PushForAll c) Done = (omega arith, refl)
+amounts g q t p (PushForAll c) _ = (omega arith, refl)
+amounts g q t p (LowerForAll c) Yes = (omega arith, refl)
+amounts g q t p (LowerForAll c) _ = (omega arith, refl)
 amounts g q t p (GrowCall n) Done = (omega arith, refl)
 amounts g q t p (GrowCall n) _ = (omega arith, refl)
 amounts g q t p (LookQueue n) Yes = (omega arith, refl)
@@ -313,35 +330,44 @@ amounts g q t p _ e = (omega arith, refl)
 pub land_shares : (t : ℕ) (g : Move) (fs : List Place) → shares t (after_move g fs) ≡ share_move t g + shares_in t fs
 land_shares t (Stay y) fs = omega arith
 land_shares t (HandIn y token) fs = omega arith
+land_shares t (Mark y b9 m9) fs = omega arith
 land_shares t (Enter f y) fs = omega arith
 land_shares t (StartRun f a) fs = omega arith
 land_shares t Back [] = omega arith
 land_shares t Back (f ∷ fs) = omega arith
 land_shares t (HandBack n) [] = omega arith
 land_shares t (Discard n) [] = omega arith
+land_shares t (HandAllBack b9) [] = omega arith
 land_shares t (HandBack n) (f ∷ fs) = omega arith
 land_shares t (Discard n) (f ∷ fs) = omega arith
+land_shares t (HandAllBack b9) (f ∷ fs) = omega arith
 
 pub land_raises : (t : ℕ) (g : Move) (fs : List Place) → all_raises t (after_move g fs) ≡ raises_move t g + raises_in t fs
 land_raises t (Stay y) fs = omega arith
 land_raises t (HandIn y token) fs = omega arith
+land_raises t (Mark y b9 m9) fs = omega arith
 land_raises t (Enter f y) fs = omega arith
 land_raises t (StartRun f a) fs = omega arith
 land_raises t Back [] = omega arith
 land_raises t Back (f ∷ fs) = omega arith
 land_raises t (HandBack n) [] = omega arith
 land_raises t (Discard n) [] = omega arith
+land_raises t (HandAllBack b9) [] = omega arith
 land_raises t (HandBack n) (f ∷ fs) = omega arith
 land_raises t (Discard n) (f ∷ fs) = omega arith
+land_raises t (HandAllBack b9) (f ∷ fs) = omega arith
 
 pub land_values : (t : ℕ) (g : Move) (fs : List Place) → all_values t (after_move g fs) ≡ values_move t g + values_in t fs
 land_values t (Stay y) fs = omega arith
 land_values t (HandIn y token) fs = omega arith
+land_values t (Mark y b9 m9) fs = omega arith
 land_values t (Enter f y) fs = omega arith
 land_values t (StartRun f a) fs = omega arith
 land_values t Back [] = omega arith
 land_values t Back (f ∷ fs) = omega arith
 land_values t (HandBack n) [] = omega arith
 land_values t (Discard n) [] = omega arith
+land_values t (HandAllBack b9) [] = omega arith
 land_values t (HandBack n) (f ∷ fs) = omega arith
 land_values t (Discard n) (f ∷ fs) = omega arith
+land_values t (HandAllBack b9) (f ∷ fs) = omega arith

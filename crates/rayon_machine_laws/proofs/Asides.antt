@@ -12,19 +12,19 @@ use Rattle.rayon_machine_places.specs.declared.place.Plan.TheVariants.{Detach, H
 use Rattle.rayon_machine_places.specs.declared.place.Share.TheVariants.{PoolValue}
 use Rattle.rayon_machine_places.specs.declared.place.Then.TheVariants.{Resume}
 use Rattle.rayon_machine_places.specs.declared.place.Place.{Place}
-use Rattle.rayon_machine_places.specs.declared.place.Place.TheVariants.{ProbeWorking, PickVictim, StealFrom, PopInjected, JoinProbe, YieldPop, YieldPick, YieldSteal, YieldPopInjected, LocalPop, Run, RaiseCount, GrowCall, PushJob, LowerCount, FirstSide, SecondSide, AtOnce, Free, Stopped, AddToFifo, PushToken, TakeFromFifo}
+use Rattle.rayon_machine_places.specs.declared.place.Place.TheVariants.{ProbeWorking, PickVictim, StealFrom, PopInjected, JoinProbe, YieldPop, YieldPick, YieldSteal, YieldPopInjected, LocalPop, Run, RaiseCount, GrowCall, PushJob, LowerCount, FirstSide, SecondSide, AtOnce, Free, Stopped, AddToFifo, PushToken, TakeFromFifo, RaiseForAll, PushForAll, LowerForAll}
 use Rattle.rayon_machine_places.specs.declared.event.Event.{Event}
-use Rattle.rayon_machine_places.specs.declared.event.Event.TheVariants.{Go, From, Refuse, Miss, End, Spawn, Fifo, Install, Join, Yield, YieldLocal, EndPool}
+use Rattle.rayon_machine_places.specs.declared.event.Event.TheVariants.{Go, From, Refuse, Miss, End, Spawn, Fifo, Install, Join, Yield, YieldLocal, EndPool, Cast}
 use Rattle.rayon_machine_places.specs.declared.shape.PoolShape.{PoolShape}
 use Rattle.rayon_machine_places.specs.declared.place.Wait.{Wait}
 use Rattle.rayon_machine_places.specs.declared.state.Call.{Call}
 use Rattle.rayon_machine_places.specs.Places.{own_pool, own_index, is_member, undo, next_victim, not_self, act_of, next_steal, next_yield, goes_on, is_free}
 use Rattle.rayon_machine_places.specs.World.{Pool, Stack, World, target_pool, target_worker, target_call}
-use Rattle.rayon_machine_places.specs.Steps.{put, put_stack, with_stack, after_choice, after_refusal, can_miss, after_miss, after_close, after_end, after_call, is_pool, new_call, after_spawn, after_fifo, after_send, after_install, after_join, after_yield, after_end_pool, step}
+use Rattle.rayon_machine_places.specs.Steps.{put, put_stack, with_stack, after_choice, after_refusal, can_miss, after_miss, after_close, after_end, after_call, is_pool, new_call, after_spawn, after_fifo, after_send, after_install, after_join, after_yield, after_end_pool, step, after_cast}
 use Rattle.rayon_machine_laws.proofs.Attend.{is_owing}
 use Rattle.rayon_machine_laws.proofs.Events.{free_frame}
 use Rattle.rayon_machine_laws.proofs.Frame.{fifo_cases, and_parts, if_some_map, if_cond, acted_keeps}
-use Rattle.rayon_machine_laws.proofs.Kept.{announced, KeepsOn, is_emptied}
+use Rattle.rayon_machine_laws.proofs.Kept.{announced, KeepsOn, is_emptied, sizes, SizedAs}
 use Rattle.rayon_machine_laws.proofs.Seats.{is_frame}
 use Rattle.rayon_machine_laws.proofs.Ties.{AllFrames, job_at, outcome, result}
 use Rattle.rayon_machine_laws.proofs.Tops.{FramesOk, is_light}
@@ -49,6 +49,7 @@ pub record Aside (w u : World) : Type 0 where
   pub frames : AllFrames (w.stack party).below → AllFrames to.below
   pub keeps : (n : ℕ) → AllFrames (w.stack party).below → KeepsOn n (w.stack party).top → KeepsOn n to.top
   pub emptied : AllFrames (w.stack party).below → is_emptied to.top ≡ true → is_emptied (w.stack party).top ≡ true
+  pub sized : SizedAs w.shape (sizes to.top)
 
 -- an event that leads its party to no place of a search
 abbrev pub Quietly : World → World → Type 0
@@ -67,8 +68,8 @@ same_below : (w : World) (q : Party) (x : Place) (fs : List Place) → w.stack q
 same_below w q x fs e a = subst (λ z. AllFrames (z.below)) e a
 
 -- from one place to another, in the same world
-aside_at : (w : World) (q : Party) (x y : Place) (fs : List Place) → w.stack q ≡ record { top = x; below = fs } → is_calm x ≡ true → is_calm y ≡ true → ((n : ℕ) → KeepsOn n x → KeepsOn n y) → (is_emptied y ≡ true → is_emptied x ≡ true) → Aside w (with_stack w q (record { top = y; below = fs }))
-aside_at w q x y fs e a b k m = record {
+aside_at : (w : World) (q : Party) (x y : Place) (fs : List Place) → w.stack q ≡ record { top = x; below = fs } → is_calm x ≡ true → is_calm y ≡ true → ((n : ℕ) → KeepsOn n x → KeepsOn n y) → (is_emptied y ≡ true → is_emptied x ≡ true) → sizes y ≡ None → Aside w (with_stack w q (record { top = y; below = fs }))
+aside_at w q x y fs e a b k m z = record {
   party = q;
   to = record { top = y; below = fs };
   shape = refl;
@@ -83,6 +84,7 @@ aside_at w q x y fs e a b k m = record {
   frames = same_below w q x fs e;
   keeps = λ n f h. k n (subst (λ z. KeepsOn n (z.top)) e h);
   emptied = λ f h. same_top w q x fs (λ z. is_emptied z ≡ true) e (m h);
+  sized = subst (SizedAs w.shape) (sym z) tt;
 }
 
 -- an own stack that has a call on top of a free place
@@ -98,6 +100,7 @@ record Begins (w u : World) (q : Party) (y : Place) : Type 0 where
   calm : is_calm y ≡ true
   keeps : announced y ≡ false
   emptied : is_emptied y ≡ false
+  sized : SizedAs w.shape (sizes y)
 
 begins_aside : (w u : World) (q : Party) (y : Place) → Begins w u q y → Quietly w u
 begins_aside w u q y b = (
@@ -116,28 +119,29 @@ begins_aside w u q y b = (
     frames = λ f. (free_frame (w.stack q).top b.free, f);
     keeps = λ n f h z. absurd (let k : announced y ≡ false = b.keeps in cc);
     emptied = λ f z. absurd (let k : is_emptied y ≡ false = b.emptied in cc);
+    sized = b.sized;
   },
   b.emptied,
 )
 
 pub from_aside : (w : World) (q : Party) (x : Place) (fs : List Place) (v : ℕ) → w.stack q ≡ record { top = x; below = fs } → IfSome (after_choice w q (record { top = x; below = fs }) x v) (Aside w)
-from_aside w q (PickVictim k) fs v e = if_cond (Aside w) (nat_lt v (w.shape.pool (own_pool q)).workers) _ (λ b. aside_at w q (PickVictim k) (StealFrom (record k { victim = not_self (w.shape.pool (own_pool q)).workers (own_index q) v }) ((w.shape.pool (own_pool q)).workers - 2)) fs e refl refl (λ n h. h) (λ h. refl))
-from_aside w q YieldPick fs v e = if_cond (Aside w) (nat_lt v (w.shape.pool (own_pool q)).workers) _ (λ b. aside_at w q YieldPick (YieldSteal (not_self (w.shape.pool (own_pool q)).workers (own_index q) v) ((w.shape.pool (own_pool q)).workers - 2)) fs e refl refl (λ n h z. absurd (cc)) (λ h. absurd (cc)))
+from_aside w q (PickVictim k) fs v e = if_cond (Aside w) (nat_lt v (w.shape.pool (own_pool q)).workers) _ (λ b. aside_at w q (PickVictim k) (StealFrom (record k { victim = not_self (w.shape.pool (own_pool q)).workers (own_index q) v }) ((w.shape.pool (own_pool q)).workers - 2)) fs e refl refl (λ n h. h) (λ h. refl) refl)
+from_aside w q YieldPick fs v e = if_cond (Aside w) (nat_lt v (w.shape.pool (own_pool q)).workers) _ (λ b. aside_at w q YieldPick (YieldSteal (not_self (w.shape.pool (own_pool q)).workers (own_index q) v) ((w.shape.pool (own_pool q)).workers - 2)) fs e refl refl (λ n h z. absurd (cc)) (λ h. absurd (cc)) refl)
 from_aside w q _ fs v e = tt
 
 steal_aside : (w : World) (q : Party) (k : Wait) (n : ℕ) (g : PoolShape) (fs : List Place) → w.stack q ≡ record { top = StealFrom k n; below = fs } → Aside w (with_stack w q (record { top = next_steal g q k n; below = fs }))
 steal_aside w q k n g fs e = at (n == 0)
   where
     at : (b : Bool) → Aside w (with_stack w q (record { top = (if b then PopInjected k else StealFrom (record k { victim = not_self g.workers (own_index q) (next_victim g.workers k.victim) }) (n - 1)); below = fs }))
-    at true = aside_at w q (StealFrom k n) (PopInjected k) fs e refl refl (λ m h. h) (λ h. refl)
-    at false = aside_at w q (StealFrom k n) (StealFrom (record k { victim = not_self g.workers (own_index q) (next_victim g.workers k.victim) }) (n - 1)) fs e refl refl (λ m h. h) (λ h. refl)
+    at true = aside_at w q (StealFrom k n) (PopInjected k) fs e refl refl (λ m h. h) (λ h. refl) refl
+    at false = aside_at w q (StealFrom k n) (StealFrom (record k { victim = not_self g.workers (own_index q) (next_victim g.workers k.victim) }) (n - 1)) fs e refl refl (λ m h. h) (λ h. refl) refl
 
 yield_aside : (w : World) (q : Party) (v n : ℕ) (g : PoolShape) (fs : List Place) → w.stack q ≡ record { top = YieldSteal v n; below = fs } → Aside w (with_stack w q (record { top = next_yield g q v n; below = fs }))
 yield_aside w q v n g fs e = at (n == 0)
   where
     at : (b : Bool) → Aside w (with_stack w q (record { top = (if b then YieldPopInjected else YieldSteal (not_self g.workers (own_index q) (next_victim g.workers v)) (n - 1)); below = fs }))
-    at true = aside_at w q (YieldSteal v n) YieldPopInjected fs e refl refl (λ m h z. absurd (cc)) (λ h. absurd (cc))
-    at false = aside_at w q (YieldSteal v n) (YieldSteal (not_self g.workers (own_index q) (next_victim g.workers v)) (n - 1)) fs e refl refl (λ m h z. absurd (cc)) (λ h. absurd (cc))
+    at true = aside_at w q (YieldSteal v n) YieldPopInjected fs e refl refl (λ m h z. absurd (cc)) (λ h. absurd (cc)) refl
+    at false = aside_at w q (YieldSteal v n) (YieldSteal (not_self g.workers (own_index q) (next_victim g.workers v)) (n - 1)) fs e refl refl (λ m h z. absurd (cc)) (λ h. absurd (cc)) refl
 
 pub miss_aside : (w : World) (q : Party) (x : Place) (fs : List Place) → w.stack q ≡ record { top = x; below = fs } → IfSome (after_miss w q (record { top = x; below = fs }) x) (Aside w)
 miss_aside w (Worker a b) (StealFrom k n) fs e = if_cond (Aside w) (can_miss w a k.victim) _ (λ z. steal_aside w (Worker a b) k n (w.shape.pool a) fs e)
@@ -147,10 +151,11 @@ miss_aside w (Caller n) _ fs e = tt
 
 refuse_aside : (w : World) (q : Party) (x : Place) (fs : List Place) → w.stack q ≡ record { top = x; below = fs } → IfSome (after_refusal w q (record { top = x; below = fs })) (Quietly w)
 unfolding aside_at
-refuse_aside w q (GrowCall n) fs e = (aside_at w q (GrowCall n) (undo n) fs e refl refl (λ m h z. absurd (cc)) (λ h. absurd (cc)), refl)
-refuse_aside w q (AddToFifo f) fs e = (aside_at w q (AddToFifo f) (undo (Feed f)) fs e refl refl (λ m h z. absurd (cc)) (λ h. absurd (cc)), refl)
-refuse_aside w q (PushToken f v) fs e = (aside_at w q (PushToken f v) (TakeFromFifo f) fs e refl refl (λ m h z. absurd (cc)) (λ h. absurd (cc)), refl)
-refuse_aside w q (PushJob n z) fs e = (aside_at w q (PushJob n z) (undo n) fs e refl refl (λ m h z. absurd (cc)) (λ h. absurd (cc)), refl)
+refuse_aside w q (GrowCall n) fs e = (aside_at w q (GrowCall n) (undo n) fs e refl refl (λ m h z. absurd (cc)) (λ h. absurd (cc)) refl, refl)
+refuse_aside w q (AddToFifo f) fs e = (aside_at w q (AddToFifo f) (undo (Feed f)) fs e refl refl (λ m h z. absurd (cc)) (λ h. absurd (cc)) refl, refl)
+refuse_aside w q (PushToken f v) fs e = (aside_at w q (PushToken f v) (TakeFromFifo f) fs e refl refl (λ m h z. absurd (cc)) (λ h. absurd (cc)) refl, refl)
+refuse_aside w q (PushForAll c) fs e = (aside_at w q (PushForAll c) (LowerForAll c) fs e refl refl (λ m h z. absurd (cc)) (λ h. absurd (cc)) refl, refl)
+refuse_aside w q (PushJob n z) fs e = (aside_at w q (PushJob n z) (undo n) fs e refl refl (λ m h z. absurd (cc)) (λ h. absurd (cc)) refl, refl)
 refuse_aside w q _ fs e = tt
 
 -- what follows the end of a run says nothing of a search
@@ -159,24 +164,25 @@ record Ended (k : Stack) : Type 0 where
   frames : AllFrames k.below
   keeps : announced k.top ≡ false
   emptied : is_emptied k.top ≡ false
+  sized : sizes k.top ≡ None
 
 goes_on_calm : (f : Place) (e : Ending) (fs : List Place) → is_frame f ≡ true → AllFrames fs → Ended (record { top = goes_on f e; below = fs })
-goes_on_calm (FirstSide o a) Fine fs m f = record { calm = refl; frames = f; keeps = refl; emptied = refl }
-goes_on_calm (FirstSide o a) Fault fs m f = record { calm = refl; frames = f; keeps = refl; emptied = refl }
-goes_on_calm (ProbeWorking k) e fs m f = record { calm = refl; frames = f; keeps = refl; emptied = refl }
-goes_on_calm (JoinProbe o) e fs m f = record { calm = refl; frames = f; keeps = refl; emptied = refl }
-goes_on_calm (SecondSide o) e fs m f = record { calm = refl; frames = f; keeps = refl; emptied = refl }
-goes_on_calm (AtOnce p t) e fs m f = record { calm = refl; frames = f; keeps = refl; emptied = refl }
-goes_on_calm (Run t k) e fs m f = record { calm = refl; frames = f; keeps = refl; emptied = refl }
-goes_on_calm Free e fs m f = record { calm = refl; frames = f; keeps = refl; emptied = refl }
-goes_on_calm Stopped e fs m f = record { calm = refl; frames = f; keeps = refl; emptied = refl }
+goes_on_calm (FirstSide o a) Fine fs m f = record { calm = refl; frames = f; keeps = refl; emptied = refl; sized = refl }
+goes_on_calm (FirstSide o a) Fault fs m f = record { calm = refl; frames = f; keeps = refl; emptied = refl; sized = refl }
+goes_on_calm (ProbeWorking k) e fs m f = record { calm = refl; frames = f; keeps = refl; emptied = refl; sized = refl }
+goes_on_calm (JoinProbe o) e fs m f = record { calm = refl; frames = f; keeps = refl; emptied = refl; sized = refl }
+goes_on_calm (SecondSide o) e fs m f = record { calm = refl; frames = f; keeps = refl; emptied = refl; sized = refl }
+goes_on_calm (AtOnce p t) e fs m f = record { calm = refl; frames = f; keeps = refl; emptied = refl; sized = refl }
+goes_on_calm (Run t k) e fs m f = record { calm = refl; frames = f; keeps = refl; emptied = refl; sized = refl }
+goes_on_calm Free e fs m f = record { calm = refl; frames = f; keeps = refl; emptied = refl; sized = refl }
+goes_on_calm Stopped e fs m f = record { calm = refl; frames = f; keeps = refl; emptied = refl; sized = refl }
 goes_on_calm _ e fs m f = cc
 
 closed_calm : (t : ℕ) (k : JobKind) (d : Ending) (fs : List Place) → AllFrames fs → Ended (after_close t k d fs)
-closed_calm t (Detached p) d fs a = record { calm = refl; frames = a; keeps = refl; emptied = refl }
-closed_calm t (Stored c o) d fs a = record { calm = refl; frames = a; keeps = refl; emptied = refl }
-closed_calm t Direct d [] a = record { calm = refl; frames = tt; keeps = refl; emptied = refl }
-closed_calm t (TokenOf i9) d [] a = record { calm = refl; frames = tt; keeps = refl; emptied = refl }
+closed_calm t (Detached p) d fs a = record { calm = refl; frames = a; keeps = refl; emptied = refl; sized = refl }
+closed_calm t (Stored c o) d fs a = record { calm = refl; frames = a; keeps = refl; emptied = refl; sized = refl }
+closed_calm t Direct d [] a = record { calm = refl; frames = tt; keeps = refl; emptied = refl; sized = refl }
+closed_calm t (TokenOf i9) d [] a = record { calm = refl; frames = tt; keeps = refl; emptied = refl; sized = refl }
 closed_calm t Direct d (f ∷ fs) a = goes_on_calm f d fs (a.0) (a.1)
 closed_calm t (TokenOf i9) d (f ∷ fs) a = goes_on_calm f d fs (a.0) (a.1)
 
@@ -198,16 +204,20 @@ end_aside w q d (Run t k) fs e a =
         frames = λ f. z.frames;
         keeps = λ n f h y. absurd (let k : announced ((after_close t k d fs).top) ≡ false = z.keeps in cc);
         emptied = λ f y. absurd (let k : is_emptied ((after_close t k d fs).top) ≡ false = z.emptied in cc);
+        sized = subst (SizedAs w.shape) (sym z.sized) tt;
       },
       z.emptied,
     )
 end_aside w q d _ fs e a = tt
 
 spawn_aside : (w : World) (q : Party) (p : ℕ) → IfSome (after_spawn w q p (w.stack q)) (Quietly w)
-spawn_aside w q p = if_cond (Quietly w) (is_free ((w.stack q).top) && is_pool w.shape p) _ (λ b. begins_aside w _ q (RaiseCount (Detach p w.jobs)) (record { shape = refl; stack = λ r. refl; seat = λ p i. refl; injector = λ p. refl; casts = λ p i. refl; turn = λ p. refl; letters = λ c l. refl; free = (and_parts (is_free ((w.stack q).top)) (is_pool w.shape p) b).0; calm = refl; keeps = refl; emptied = refl }))
+spawn_aside w q p = if_cond (Quietly w) (is_free ((w.stack q).top) && is_pool w.shape p) _ (λ b. begins_aside w _ q (RaiseCount (Detach p w.jobs)) (record { shape = refl; stack = λ r. refl; seat = λ p i. refl; injector = λ p. refl; casts = λ p i. refl; turn = λ p. refl; letters = λ c l. refl; free = (and_parts (is_free ((w.stack q).top)) (is_pool w.shape p) b).0; calm = refl; keeps = refl; emptied = refl; sized = tt }))
 
 fifo_aside : (w : World) (q : Party) (p : ℕ) → IfSome (after_fifo w q p (w.stack q)) (Quietly w)
-fifo_aside w q p = fifo_cases (Quietly w) w q p (spawn_aside w q p) (λ i free. begins_aside w _ (Worker p i) (RaiseCount (Feed (record { pool = p; job = w.jobs; token = w.jobs + 1 }))) (record { shape = refl; stack = λ r. refl; seat = λ p i. refl; injector = λ p. refl; casts = λ p i. refl; turn = λ p. refl; letters = λ c l. refl; free = free; calm = refl; keeps = refl; emptied = refl }))
+fifo_aside w q p = fifo_cases (Quietly w) w q p (spawn_aside w q p) (λ i free. begins_aside w _ (Worker p i) (RaiseCount (Feed (record { pool = p; job = w.jobs; token = w.jobs + 1 }))) (record { shape = refl; stack = λ r. refl; seat = λ p i. refl; injector = λ p. refl; casts = λ p i. refl; turn = λ p. refl; letters = λ c l. refl; free = free; calm = refl; keeps = refl; emptied = refl; sized = tt }))
+
+cast_aside : (w : World) (q : Party) (p : ℕ) → IfSome (after_cast w q p (w.stack q)) (Quietly w)
+cast_aside w q p = if_cond (Quietly w) (is_free ((w.stack q).top) && is_pool w.shape p) _ (λ b. begins_aside w _ q (RaiseForAll (record { pool = p; first = w.jobs; workers = (w.shape.pool p).workers })) (record { shape = refl; stack = λ r. refl; seat = λ p i. refl; injector = λ p. refl; casts = λ p i. refl; turn = λ p. refl; letters = λ c l. refl; free = (and_parts (is_free ((w.stack q).top)) (is_pool w.shape p) b).0; calm = refl; keeps = refl; emptied = refl; sized = refl }))
 
 -- the calls that were there are as they were
 old_letter : (w : World) (v : Call) (c : ℕ) → c < w.calls → (put w.call w.calls v c).latch ≡ (w.call c).latch
@@ -218,19 +228,19 @@ old_letter w v c l = at (c == w.calls) refl
     at false z = refl
 
 sent_aside : (w : World) (q : Party) (p : ℕ) (b : Bool) → is_free ((w.stack q).top) ≡ true → Quietly w (after_send w q p (w.stack q) b)
-sent_aside w q p true e = begins_aside w _ q (RaiseCount (Here p w.jobs)) (record { shape = refl; stack = λ r. refl; seat = λ p i. refl; injector = λ p. refl; casts = λ p i. refl; turn = λ p. refl; letters = λ c l. refl; free = e; calm = refl; keeps = refl; emptied = refl })
-sent_aside w q p false e = begins_aside w _ q (RaiseCount (Send (record { number = w.calls; pool = p; job = w.jobs }))) (record { shape = refl; stack = λ r. refl; seat = λ p i. refl; injector = λ p. refl; casts = λ p i. refl; turn = λ p. refl; letters = λ c l. old_letter w (new_call None w.jobs) c l; free = e; calm = refl; keeps = refl; emptied = refl })
+sent_aside w q p true e = begins_aside w _ q (RaiseCount (Here p w.jobs)) (record { shape = refl; stack = λ r. refl; seat = λ p i. refl; injector = λ p. refl; casts = λ p i. refl; turn = λ p. refl; letters = λ c l. refl; free = e; calm = refl; keeps = refl; emptied = refl; sized = tt })
+sent_aside w q p false e = begins_aside w _ q (RaiseCount (Send (record { number = w.calls; pool = p; job = w.jobs }))) (record { shape = refl; stack = λ r. refl; seat = λ p i. refl; injector = λ p. refl; casts = λ p i. refl; turn = λ p. refl; letters = λ c l. old_letter w (new_call None w.jobs) c l; free = e; calm = refl; keeps = refl; emptied = refl; sized = tt })
 
 install_aside : (w : World) (q : Party) (p : ℕ) → IfSome (after_install w q p (w.stack q)) (Quietly w)
 install_aside w q p = if_cond (Quietly w) (is_free ((w.stack q).top) && is_pool w.shape p) _ (λ e. sent_aside w q p (is_member q p) ((and_parts (is_free ((w.stack q).top)) (is_pool w.shape p) e).0))
 
 join_aside : (w : World) (q : Party) → IfSome (after_join w q (w.stack q)) (Quietly w)
-join_aside w (Worker a b) = if_cond (Quietly w) (is_free ((w.stack (Worker a b)).top)) _ (λ z. begins_aside w _ (Worker a b) (RaiseCount (Fork (record { number = w.calls; pool = a; job = w.jobs + 1 }) w.jobs)) (record { shape = refl; stack = λ r. refl; seat = λ p i. refl; injector = λ p. refl; casts = λ p i. refl; turn = λ p. refl; letters = λ c l. old_letter w (new_call (Some w.jobs) (w.jobs + 1)) c l; free = z; calm = refl; keeps = refl; emptied = refl }))
+join_aside w (Worker a b) = if_cond (Quietly w) (is_free ((w.stack (Worker a b)).top)) _ (λ z. begins_aside w _ (Worker a b) (RaiseCount (Fork (record { number = w.calls; pool = a; job = w.jobs + 1 }) w.jobs)) (record { shape = refl; stack = λ r. refl; seat = λ p i. refl; injector = λ p. refl; casts = λ p i. refl; turn = λ p. refl; letters = λ c l. old_letter w (new_call (Some w.jobs) (w.jobs + 1)) c l; free = z; calm = refl; keeps = refl; emptied = refl; sized = tt }))
 join_aside w (Caller n) = tt
 
-begin_yield : (w : World) (q : Party) (x : Place) → is_calm x ≡ true → announced x ≡ false → is_emptied x ≡ false → IfSome (after_yield w q (w.stack q) x) (Quietly w)
-begin_yield w (Worker a b) x m n o = if_cond (Quietly w) (is_free ((w.stack (Worker a b)).top)) _ (λ z. begins_aside w _ (Worker a b) x (record { shape = refl; stack = λ r. refl; seat = λ p i. refl; injector = λ p. refl; casts = λ p i. refl; turn = λ p. refl; letters = λ c l. refl; free = z; calm = m; keeps = n; emptied = o }))
-begin_yield w (Caller n) x m o z = tt
+begin_yield : (w : World) (q : Party) (x : Place) → is_calm x ≡ true → announced x ≡ false → is_emptied x ≡ false → sizes x ≡ None → IfSome (after_yield w q (w.stack q) x) (Quietly w)
+begin_yield w (Worker a b) x m n o u = if_cond (Quietly w) (is_free ((w.stack (Worker a b)).top)) _ (λ z. begins_aside w _ (Worker a b) x (record { shape = refl; stack = λ r. refl; seat = λ p i. refl; injector = λ p. refl; casts = λ p i. refl; turn = λ p. refl; letters = λ c l. refl; free = z; calm = m; keeps = n; emptied = o; sized = subst (SizedAs w.shape) (sym u) tt }))
+begin_yield w (Caller n) x m o z u = tt
 
 -- what is the same in a pool's record with its value given up
 given : {A : Type 0} (w : World) (p : ℕ) (f : Pool → A) → f (record (w.pool p) { held = false }) ≡ f (w.pool p) → (r : ℕ) → f (put w.pool p (record (w.pool p) { held = false }) r) ≡ f (w.pool r)
@@ -253,6 +263,7 @@ give_aside w q p = if_cond (Quietly w) (is_free ((w.stack q).top) && (is_pool w.
   calm = refl;
   keeps = refl;
   emptied = refl;
+  sized = tt;
 }))
 
 -- the event is a thief's choice or a steal that misses
@@ -271,10 +282,11 @@ calm_step P w fr (Refuse q) z go move = if_some_map (Quietly w) P move _ (refuse
 calm_step P w fr (End q d) z go move = if_some_map (Quietly w) P move _ (end_aside w q d ((w.stack q).top) ((w.stack q).below) refl (fr q))
 calm_step P w fr (Spawn q p) z go move = if_some_map (Quietly w) P move _ (spawn_aside w q p)
 calm_step P w fr (Fifo q p) z go move = if_some_map (Quietly w) P move _ (fifo_aside w q p)
+calm_step P w fr (Cast q p) z go move = if_some_map (Quietly w) P move _ (cast_aside w q p)
 calm_step P w fr (Install q p) z go move = if_some_map (Quietly w) P move _ (install_aside w q p)
 calm_step P w fr (Join q) z go move = if_some_map (Quietly w) P move _ (join_aside w q)
-calm_step P w fr (Yield q) z go move = if_some_map (Quietly w) P move _ (begin_yield w q YieldPop refl refl refl)
-calm_step P w fr (YieldLocal q) z go move = if_some_map (Quietly w) P move _ (begin_yield w q LocalPop refl refl refl)
+calm_step P w fr (Yield q) z go move = if_some_map (Quietly w) P move _ (begin_yield w q YieldPop refl refl refl refl)
+calm_step P w fr (YieldLocal q) z go move = if_some_map (Quietly w) P move _ (begin_yield w q LocalPop refl refl refl refl)
 calm_step P w fr (EndPool q p) z go move = if_some_map (Quietly w) P move _ (give_aside w q p)
 
 -- a property holds after a step, if after the act that the event may be and after each event that moves a party aside

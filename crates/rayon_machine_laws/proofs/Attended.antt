@@ -60,7 +60,7 @@ go_awake w h q =
     (four (λ r. SeatsOk (result w q k r)) (λ r. FramesOk (result w q k r)) (λ r. LocksOk (result w q k r)) (λ r. Attended (result w q k r)) (outcome w q k)
     (go_seats w q k refl h.seats) (go_frames w q k refl h.frames) (go_locks w q k refl h.seats h.frames h.locks) (go_attends w q k.top k.below refl h.seats h.frames h.locks h.attended))
 
-calm_parts : (x : Place) → is_calm x ≡ true → (is_light x ≡ true) × (is_owing x ≡ false)
+pub calm_parts : (x : Place) → is_calm x ≡ true → (is_light x ≡ true) × (is_owing x ≡ false)
 calm_parts x e = looks_parts (is_light x) (is_owing x) e
 
 pub aside_frames : (w u : World) → Aside w u → FramesOk w → FramesOk u

@@ -1,6 +1,9 @@
 -- how often a stack holds a job that has no share: before its Raise and after its Lower
-use Rattle.std.proofs.Common.{arith}
-use Rattle.std.specs.Prelude.{ℕ, Bool, true, false, ◌&&◌, ◌+◌, ◌-◌, ◌==◌, ◌≤◌, nat_lt, if◌then◌else◌, Option, Some, None, List, [], ◌∷◌}
+use Rattle.rayon_machine_places.specs.declared.place.Mark.{Mark as Marking}
+use Rattle.rayon_machine_places.specs.declared.place.Mark.TheVariants.{Counted, Queued, Returned}
+use Rattle.rayon_machine_places.specs.declared.place.Pieces.{Pieces}
+use Rattle.std.proofs.Common.{arith, refl, ap}
+use Rattle.std.specs.Prelude.{ℕ, Bool, true, false, ◌&&◌, ◌+◌, ◌-◌, ◌==◌, ◌≤◌, nat_lt, if◌then◌else◌, Option, Some, None, List, [], ◌∷◌, ◌≡◌}
 use Rattle.rayon_machine_places.specs.declared.place.Party.{Party}
 use Rattle.rayon_machine_places.specs.declared.place.Party.TheVariants.{Worker, Caller}
 use Rattle.rayon_machine_places.specs.declared.place.Ending.{Ending}
@@ -16,13 +19,13 @@ use Rattle.rayon_machine_places.specs.declared.place.Rounds.TheVariants.{Failed,
 use Rattle.rayon_machine_places.specs.declared.place.Plan.{Plan}
 use Rattle.rayon_machine_places.specs.declared.place.Plan.TheVariants.{Detach, Here, Send, Fork, Feed}
 use Rattle.rayon_machine_places.specs.declared.place.Then.{Then}
-use Rattle.rayon_machine_places.specs.declared.place.Then.TheVariants.{BeginFound, LeaveWait, Resume, Await, RunFirst, Answers, Missing, Ran, GiveBack}
+use Rattle.rayon_machine_places.specs.declared.place.Then.TheVariants.{BeginFound, LeaveWait, Resume, Await, RunFirst, Answers, Missing, Ran, GiveBack, Called}
 use Rattle.rayon_machine_places.specs.declared.place.Taken.{Taken}
 use Rattle.rayon_machine_places.specs.declared.place.Taken.TheVariants.{Plain, Token}
 use Rattle.rayon_machine_places.specs.declared.place.Place.{Place}
-use Rattle.rayon_machine_places.specs.declared.place.Place.TheVariants.{ProbeWorking, PopWorking, TakeCastWorking, ProbeIdle, PopIdle, TakeCastIdle, PickVictim, StealFrom, PopInjected, AnnounceSelf, GetSleepy, FallAsleep, LoadCounters, AddSleeping, LookAtCast, LookAtInjector, WakeUp, LeaveSearch, JoinProbe, JoinPop, JoinTakeCast, YieldPop, YieldTakeCast, YieldPick, YieldSteal, YieldPopInjected, LocalPop, LocalTakeCast, BeginTask, BeginHere, RaiseCount, GrowCall, LookQueue, PushJob, TellNews, LockToWake, WakeWorker, UnlockWoken, TakeResult, LowerCount, StoreResult, SetLatch, LockToSettle, WakeSettled, UnlockSettled, FirstSide, SecondSide, AtOnce, AddToFifo, LookForToken, PushToken, TakeFromFifo}
+use Rattle.rayon_machine_places.specs.declared.place.Place.TheVariants.{ProbeWorking, PopWorking, TakeCastWorking, ProbeIdle, PopIdle, TakeCastIdle, PickVictim, StealFrom, PopInjected, AnnounceSelf, GetSleepy, FallAsleep, LoadCounters, AddSleeping, LookAtCast, LookAtInjector, WakeUp, LeaveSearch, JoinProbe, JoinPop, JoinTakeCast, YieldPop, YieldTakeCast, YieldPick, YieldSteal, YieldPopInjected, LocalPop, LocalTakeCast, BeginTask, BeginHere, RaiseCount, GrowCall, LookQueue, PushJob, TellNews, LockToWake, WakeWorker, UnlockWoken, TakeResult, LowerCount, StoreResult, SetLatch, LockToSettle, WakeSettled, UnlockSettled, FirstSide, SecondSide, AtOnce, AddToFifo, LookForToken, PushToken, TakeFromFifo, RaiseForAll, PushForAll, LowerForAll}
 use Rattle.rayon_machine_places.specs.declared.place.Move.{Move}
-use Rattle.rayon_machine_places.specs.declared.place.Move.TheVariants.{Stay, Enter, StartRun, Back, HandBack, Discard, HandIn}
+use Rattle.rayon_machine_places.specs.declared.place.Move.TheVariants.{Stay, Enter, StartRun, Back, HandBack, Discard, HandIn, Mark, HandAllBack}
 use Rattle.rayon_machine_places.specs.declared.act.Seen.{Seen}
 use Rattle.rayon_machine_places.specs.declared.act.Seen.TheVariants.{Done, Yes, Task, Jec, Word, Start, Wakes, Begun, Found, Handed}
 use Rattle.rayon_machine_places.specs.declared.state.Whereabouts.{Whereabouts}
@@ -33,7 +36,7 @@ use Rattle.rayon_machine_places.specs.declared.place.Wait.{Wait}
 use Rattle.rayon_machine_places.specs.declared.place.Settling.{Settling}
 use Rattle.rayon_machine_places.specs.Places.{own_pool, own_index, plan_pool, plan_job, after_wait, finish, walk, settle, after_set, after_found, after_news, goes_on, after_raise, set_call, next_victim, not_self, after_failure, next_steal, next_yield, next_of, is_taken}
 use Rattle.rayon_machine_places.specs.World.{Stack, at_job, begun}
-use Rattle.rayon_machine_places.specs.Steps.{put, after_move, jobs_after, after_close}
+use Rattle.rayon_machine_places.specs.Steps.{put, after_move, jobs_after, after_close, is_piece, mark_pieces, marked}
 use Rattle.rayon_machine_laws.specs.Once.{one}
 use Rattle.rayon_machine_laws.specs.Shares.{share_of}
 use Rattle.rayon_machine_laws.proofs.Hands.{hand_plan, hand_rest, hand_then, hand, held_in, held}
@@ -53,6 +56,7 @@ bare_rest t _ = 0
 -- and in between a join's first side
 abbrev pub bare : ℕ → Place → ℕ
 bare t (RaiseCount n) = hand_plan t n
+bare t (RaiseForAll c) = one (is_piece c t)
 bare t (GrowCall n) = hand_plan t n - one (t == plan_job n)
 bare t (LookQueue n) = hand_plan t n - one (t == plan_job n)
 bare t (PushJob n e) = hand_plan t n - one (t == plan_job n)
@@ -81,11 +85,13 @@ all_bare t k = bare t k.top + bare_in t k.below
 abbrev pub bare_move : ℕ → Move → ℕ
 bare_move t (Stay y) = bare t y
 bare_move t (HandIn y token) = bare t y
+bare_move t (Mark y b9 m9) = bare t y
 bare_move t (Enter f y) = bare t y + bare t f
 bare_move t (StartRun f a) = bare t f
 bare_move t Back = 0
 bare_move t (HandBack n) = hand_plan t n
 bare_move t (Discard token) = 0
+bare_move t (HandAllBack c) = one (is_piece c t)
 
 -- 1 for a job that is handed back
 abbrev pub backs : Whereabouts → ℕ
@@ -135,6 +141,7 @@ bare_finish : (t : ℕ) (q : Party) (n : Then) → bare_move t (finish q n) ≤ 
 bare_finish t q (BeginFound g u) = omega arith
 bare_finish t q (LeaveWait g) = bare_left t g
 bare_finish t q Resume = omega arith
+bare_finish t q Called = omega arith
 bare_finish t (Worker a b) (Await o) = omega arith
 bare_finish t (Caller c) (Await o) = omega arith
 bare_finish t q (RunFirst o a) = omega arith
@@ -272,6 +279,12 @@ bares g q t (TakeFromFifo f) (Task x) = omega arith
 bares g q t (TakeFromFifo f) _ = omega arith
 bares g q t (RaiseCount n) Done = let a : bare_move t (after_raise n) + one (t == plan_job n) ≤ hand_plan t n = bare_raised t n in omega (arith, a)
 bares g q t (RaiseCount n) _ = omega arith
+bares g q t (RaiseForAll c) Done = omega arith
+bares g q t (RaiseForAll c) _ = omega arith
+bares g q t (PushForAll c) Done = omega arith
+bares g q t (PushForAll c) _ = omega arith
+bares g q t (LowerForAll c) Yes = omega arith
+bares g q t (LowerForAll c) _ = omega arith
 bares g q t (GrowCall n) Done = omega arith
 bares g q t (GrowCall n) _ = omega arith
 bares g q t (LookQueue n) Yes = omega arith
@@ -311,25 +324,50 @@ put_back J a t = by (t == a)
 pub land_only : (t : ℕ) (g : Move) (fs : List Place) → all_bare t (after_move g fs) ≤ bare_move t g + bare_in t fs
 land_only t (Stay y) fs = omega arith
 land_only t (HandIn y token) fs = omega arith
+land_only t (Mark y b9 m9) fs = omega arith
 land_only t (Enter f y) fs = omega arith
 land_only t (StartRun f a) fs = omega arith
 land_only t Back [] = omega arith
 land_only t Back (f ∷ fs) = omega arith
 land_only t (HandBack n) [] = omega arith
 land_only t (Discard n) [] = omega arith
+land_only t (HandAllBack b9) [] = omega arith
 land_only t (HandBack n) (f ∷ fs) = omega arith
 land_only t (Discard n) (f ∷ fs) = omega arith
+land_only t (HandAllBack b9) (f ∷ fs) = omega arith
+
+-- the pieces that a move gives back where others are to be told
+abbrev pub handed : ℕ → Move → ℕ
+handed t (Mark y c Returned) = one (is_piece c t)
+handed t _ = 0
+
+pieces_back : (c : Pieces) (k : Marking) (J : ℕ → Job) (t n : ℕ) → (k ≡ Returned → one (is_piece c t) ≤ n) → backs (mark_pieces c k J t).at ≤ n + backs (J t).at
+pieces_back c k J t n d = by (is_piece c t) refl
+  where
+    each : (k : Marking) → (k ≡ Returned → 1 ≤ n) → backs (marked k c.pool (t - c.first) (J t)).at ≤ n + backs (J t).at
+    each Counted d = omega arith
+    each Queued d = omega arith
+    each Returned d = let a : 1 ≤ n = d refl in omega (arith, a)
+
+    by : (b : Bool) → is_piece c t ≡ b → backs (if b then marked k c.pool (t - c.first) (J t) else J t).at ≤ n + backs (J t).at
+    by true e = each k (λ z. (let a : one (is_piece c t) ≤ n = d z in let b : one (is_piece c t) ≡ 1 = ap one e in omega (arith, a, b)))
+    by false e = omega arith
 
 -- a move hands back no more than it held
-pub land_bare : (q : Party) (t : ℕ) (g : Move) (fs : List Place) (J : ℕ → Job) → all_bare t (after_move g fs) + backs (jobs_after q g J t).at ≤ bare_move t g + bare_in t fs + backs (J t).at
+pub land_bare : (q : Party) (t : ℕ) (g : Move) (fs : List Place) (J : ℕ → Job) → all_bare t (after_move g fs) + backs (jobs_after q g J t).at ≤ bare_move t g + handed t g + bare_in t fs + backs (J t).at
 land_bare q t (Stay y) fs J = omega arith
 land_bare q t (HandIn y k) fs J = let a : backs (put J k (at_job (J k) Spent) t).at ≤ backs (J t).at = spent_back J k t in omega (arith, a)
 land_bare q t (Enter f y) fs J = omega arith
 land_bare q t (StartRun f a) fs J = by (t == a)
   where
-    by : (z : Bool) → all_bare t (after_move (StartRun f a) fs) + backs (if z then begun q (J a) else J t).at ≤ bare t f + bare_in t fs + backs (J t).at
+    by : (z : Bool) → all_bare t (after_move (StartRun f a) fs) + backs (if z then begun q (J a) else J t).at ≤ bare t f + 0 + bare_in t fs + backs (J t).at
     by true = omega arith
     by false = omega arith
+land_bare q t (Mark y c Counted) fs J = let a : backs (mark_pieces c Counted J t).at ≤ 0 + backs (J t).at = pieces_back c Counted J t 0 (λ e. absurd (cc)) in omega (arith, a)
+land_bare q t (Mark y c Queued) fs J = let a : backs (mark_pieces c Queued J t).at ≤ 0 + backs (J t).at = pieces_back c Queued J t 0 (λ e. absurd (cc)) in omega (arith, a)
+land_bare q t (Mark y c Returned) fs J = let a : backs (mark_pieces c Returned J t).at ≤ one (is_piece c t) + backs (J t).at = pieces_back c Returned J t (one (is_piece c t)) (λ e. omega arith) in omega (arith, a)
+land_bare q t (HandAllBack c) [] J = let a : backs (mark_pieces c Returned J t).at ≤ one (is_piece c t) + backs (J t).at = pieces_back c Returned J t (one (is_piece c t)) (λ e. omega arith) in omega (arith, a)
+land_bare q t (HandAllBack c) (f ∷ fs) J = let a : backs (mark_pieces c Returned J t).at ≤ one (is_piece c t) + backs (J t).at = pieces_back c Returned J t (one (is_piece c t)) (λ e. omega arith) in omega (arith, a)
 land_bare q t Back [] J = omega arith
 land_bare q t Back (f ∷ fs) J = omega arith
 land_bare q t (HandBack n) fs J = let a : backs (jobs_after q (HandBack n) J t).at ≤ hand_plan t n + backs (J t).at = plan n in let b : all_bare t (after_move (HandBack n) fs) ≤ bare_in t fs = frames fs in omega (arith, a, b)

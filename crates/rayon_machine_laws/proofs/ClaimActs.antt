@@ -1,4 +1,5 @@
 -- each act keeps what the places say, and what cells and latches hold
+use Rattle.rayon_machine_places.specs.declared.place.Pieces.{Pieces}
 use Rattle.std.proofs.Common.{rules, arith, refl, sym, ◌∙◌, ap, subst, inl, inr}
 use Rattle.std.specs.Prelude.{ℕ, Bool, true, false, not, ◌+◌, ◌-◌, ◌==◌, ◌≤◌, ◌<◌, if◌then◌else◌, Option, Some, None, List, [], ◌∷◌, ◌≡◌, IfSome, ◌⊎◌, ⊤, ◌++◌}
 use Rattle.std.proofs.lemmas.Bool.{eqb-true, ltb-true, ltb-false, eq-eqb}
@@ -14,7 +15,7 @@ use Rattle.rayon_machine_places.specs.declared.place.Then.{Then}
 use Rattle.rayon_machine_places.specs.declared.place.Taken.TheVariants.{Plain, Token}
 use Rattle.rayon_machine_places.specs.declared.act.Act.TheVariants.{FifoOut, FifoUndo, PushOwn, PushInj}
 use Rattle.rayon_machine_places.specs.declared.place.Place.{Place}
-use Rattle.rayon_machine_places.specs.declared.place.Place.TheVariants.{ProbeWorking, PopWorking, TakeCastWorking, PopIdle, TakeCastIdle, StealFrom, PopInjected, GetSleepy, FallAsleep, WakeUp, JoinPop, JoinTakeCast, YieldPop, YieldTakeCast, YieldSteal, YieldPopInjected, LocalPop, LocalTakeCast, BeginTask, GrowCall, TakeResult, LowerCount, StoreResult, SetLatch, SetLockLatch, TakeFromFifo, AddToFifo, PushToken, PushJob, BeginHere}
+use Rattle.rayon_machine_places.specs.declared.place.Place.TheVariants.{ProbeWorking, PopWorking, TakeCastWorking, PopIdle, TakeCastIdle, StealFrom, PopInjected, GetSleepy, FallAsleep, WakeUp, JoinPop, JoinTakeCast, YieldPop, YieldTakeCast, YieldSteal, YieldPopInjected, LocalPop, LocalTakeCast, BeginTask, GrowCall, TakeResult, LowerCount, StoreResult, SetLatch, SetLockLatch, TakeFromFifo, AddToFifo, PushToken, PushJob, BeginHere, PushForAll, LowerForAll}
 use Rattle.rayon_machine_places.specs.declared.act.Seen.{Seen}
 use Rattle.rayon_machine_places.specs.declared.act.Seen.TheVariants.{Yes, No, Task, Missing, Begun, Found, Handed}
 use Rattle.rayon_machine_places.specs.declared.state.Letter.{Letter}
@@ -24,7 +25,7 @@ use Rattle.rayon_machine_places.specs.declared.place.Settling.{Settling}
 use Rattle.rayon_machine_places.specs.Places.{latch_of, act_of, next_of, taken_number, plan_job, plan_pool, is_member}
 use Rattle.rayon_machine_places.specs.World.{Shape, Stack, World, Counts, Part, head_of, own_of, or_none, target_job, Outcome, letter, with_letter, set_latch, found, popped, take_cast, pop_injector, lowered, effect, is_open, but_last, at_job, taken_as}
 use Rattle.rayon_machine_places.specs.Steps.{put, part_of, after}
-use Rattle.rayon_machine_laws.proofs.Frame.{either, if_some_all, if_some_map, put_same, after_kind, after_pool, out_sees, undo_sees, if_cond}
+use Rattle.rayon_machine_laws.proofs.Frame.{either, if_some_all, if_some_map, put_same, after_kind, after_pool, out_sees, undo_sees, if_cond, after_bound}
 use Rattle.rayon_machine_laws.proofs.Hands.{held}
 use Rattle.rayon_machine_laws.specs.Once.{one, times}
 use Rattle.rayon_machine_laws.proofs.Lists.{SameJobs, quiet_same, times_push, times_drop}
@@ -54,6 +55,7 @@ lasting w q k p i c n r s o = record {
     left = λ t z. onward_left ((w.job t).at) (((after w q k p i c n r).job t).at) (o.onward t) z;
     kind = λ t b. kinds t;
     pool = λ t b. after_pool q (next_of (w.shape.pool p) q k.top (r.0)) (put w.job n (r.1.job)) t ∙ put_same (λ j. j.pool) w.job n (r.1.job) t (s.pool);
+    bound = λ t b. after_bound q (next_of (w.shape.pool p) q k.top (r.0)) (put w.job n (r.1.job)) t ∙ put_same (λ j. j.bound) w.job n (r.1.job) t (s.bound);
     target = λ d b. targets d;
     side = λ d b. put_same (λ j. j.first) w.call c (r.1.call) d (s.side);
     ended = λ a z. ends a (a == p) refl z;
@@ -103,6 +105,7 @@ Learned h q m LocalPop (Task t, n) = Took h q m LocalPop t n
 Learned h q m LocalTakeCast (Task t, n) = Took h q m LocalTakeCast t n
 Learned h q m (TakeResult o f) (Found e, n) = m.call.cell ≡ Some e
 Learned h q m (LowerCount p s k) (Yes, n) = n.pool.count ≡ 0
+Learned h q m (LowerForAll b) (Yes, n) = n.pool.count ≡ 0
 Learned h q m (BeginTask (Plain t)) (Begun k, n) = m.job.kind ≡ k
 Learned h q m (BeginTask (Token k i)) (Handed t d, n) = (target_job h q (FifoOut k i) m.pool m.seat ≡ t) × (1 ≤ times t m.seat.fifo) × (m.job.kind ≡ d)
 Learned h q m (TakeFromFifo f) (Task x, n) = (target_job h q FifoUndo m.pool m.seat ≡ taken_number x) × (1 ≤ times (taken_number x) m.seat.fifo)
@@ -121,6 +124,13 @@ lower_learned h q m p s k = by (m.pool.count == 1) refl
 
     by : (z : Bool) → (m.pool.count == 1) ≡ z → Learned h q m (LowerCount p s k) ((if z then Yes else No), lowered m s)
     by true e = zero_left s (eqb-true (m.pool.count) 1 e)
+    by false e = tt
+
+lower_all_learned : (h : Shape) (q : Party) (m : Part) (b : Pieces) → Learned h q m (LowerForAll b) ((if m.pool.count == b.workers then Yes else No), record m { pool = record (m.pool) { count = m.pool.count - b.workers } })
+lower_all_learned h q m b = by (m.pool.count == b.workers) refl
+  where
+    by : (z : Bool) → (m.pool.count == b.workers) ≡ z → Learned h q m (LowerForAll b) ((if z then Yes else No), record m { pool = record (m.pool) { count = m.pool.count - b.workers } })
+    by true e = let n : m.pool.count ≡ b.workers = eqb-true (m.pool.count) b.workers e in (let g : m.pool.count - b.workers ≡ 0 = omega (arith, n) in g)
     by false e = tt
 
 -- what the three kinds of takes tell
@@ -206,12 +216,14 @@ act_learned h (Worker a b) c m YieldTakeCast = if_some_map (TookIt (or_none (hea
 act_learned h (Worker a b) c m LocalTakeCast = if_some_map (TookIt (or_none (head_of (m.pool.casts b)))) (Learned h (Worker a b) m LocalTakeCast) (λ r tk. as_learned h (Worker a b) m LocalTakeCast (or_none (head_of (m.pool.casts b))) refl refl r tk) _ (cast_took (Worker a b) m (m.pool.casts b))
 act_learned h (Worker a b) c m (TakeResult o f) = take_learned h (Worker a b) m o f m.call.cell refl
 act_learned h (Worker a b) c m (LowerCount p s k) = lower_learned h (Worker a b) m p s k
+act_learned h (Worker a b) c m (LowerForAll n) = lower_all_learned h (Worker a b) m n
 act_learned h (Worker a b) c m (BeginTask (Plain t)) = refl
 act_learned h (Worker a b) c m (BeginTask (Token k i)) = out_sees (Learned h (Worker a b) m (BeginTask (Token k i))) (Worker a b) m tt (λ u us e. (ap (λ l. or_none (head_of l)) e, (let a : times u m.seat.fifo ≡ (one (u == u) + times u us) = ap (times u) e in let b : one (u == u) ≡ 1 = ap one (eq-eqb u u refl) in omega (arith, a, b)), refl))
 act_learned h (Worker a b) c m (TakeFromFifo f) = undo_sees (Learned h (Worker a b) m (TakeFromFifo f)) (Worker a b) m tt (λ u e. (ap or_none e, (let a : times u m.seat.fifo ≡ (one (u == u) + times u (but_last m.seat.fifo)) = times_drop m.seat.fifo u u e in let b : one (u == u) ≡ 1 = ap one (eq-eqb u u refl) in omega (arith, a, b))))
 act_learned h (Worker a b) c m x = if_some_all (Learned h (Worker a b) m x) (λ r. tt) (effect (act_of (Worker a b) x) h (Worker a b) c m)
 act_learned h (Caller g) c m (TakeResult o f) = take_learned h (Caller g) m o f m.call.cell refl
 act_learned h (Caller g) c m (LowerCount p s k) = lower_learned h (Caller g) m p s k
+act_learned h (Caller g) c m (LowerForAll n) = lower_all_learned h (Caller g) m n
 act_learned h (Caller g) c m (BeginTask (Plain t)) = refl
 act_learned h (Caller g) c m (BeginTask (Token k i)) = out_sees (Learned h (Caller g) m (BeginTask (Token k i))) (Caller g) m tt (λ u us e. (ap (λ l. or_none (head_of l)) e, (let a : times u m.seat.fifo ≡ (one (u == u) + times u us) = ap (times u) e in let b : one (u == u) ≡ 1 = ap one (eq-eqb u u refl) in omega (arith, a, b)), refl))
 act_learned h (Caller g) c m (PopWorking w) = tt
@@ -304,6 +316,7 @@ line_table h (Caller g) c m t (TakeFromFifo f) = tt
 line_table h q c m t (BeginTask (Plain u)) = omega arith
 line_table h q c m t (BeginTask (Token k i)) = out_sees (Lines m t (BeginTask (Token k i))) q m (omega arith) (λ u us e. let k : times t m.seat.fifo ≡ (one (t == u) + times t us) = ap (times t) e in omega (arith, k))
 line_table h q c m t (BeginHere u) = omega arith
+line_table h q c m t (PushForAll b) = omega arith
 line_table h q c m t x = if_some_map (SameJobs m) (Lines m t x) (λ r s. let k : times t (r.1.seat.fifo) ≡ times t m.seat.fifo = ap (times t) (s.fifo) in omega (arith, k)) (effect (act_of q x) h q c m) (quiet_same h q c m x refl)
 
 -- a job in a FIFO list was made

@@ -10,7 +10,7 @@ use Rattle.rayon_machine_places.specs.declared.place.JobKind.TheVariants.{Detach
 use Rattle.rayon_machine_places.specs.declared.place.Share.TheVariants.{PoolValue, OfJob}
 use Rattle.rayon_machine_places.specs.declared.place.Then.TheVariants.{Resume}
 use Rattle.rayon_machine_places.specs.declared.place.Place.{Place}
-use Rattle.rayon_machine_places.specs.declared.place.Place.TheVariants.{PickVictim, StealFrom, YieldPick, YieldSteal, Run, GrowCall, PushJob, LowerCount, StoreResult, FirstSide, SecondSide, AtOnce, Free, AddToFifo, PushToken}
+use Rattle.rayon_machine_places.specs.declared.place.Place.TheVariants.{PickVictim, StealFrom, YieldPick, YieldSteal, Run, GrowCall, PushJob, LowerCount, StoreResult, FirstSide, SecondSide, AtOnce, Free, AddToFifo, PushToken, PushForAll}
 use Rattle.rayon_machine_places.specs.declared.act.Seen.{Seen}
 use Rattle.rayon_machine_places.specs.declared.act.Seen.TheVariants.{Refused, Missing, Start}
 use Rattle.rayon_machine_places.specs.declared.state.Whereabouts.TheVariants.{Over}
@@ -41,7 +41,7 @@ restacked w q k P counts held s h a = record {
 }
   where
     later : Later w (record w { stack = put_stack w.stack q k; pool = P })
-    later = record { jobs = omega arith; calls = omega arith; over = λ t e z. z; left = λ t z. z; kind = λ t b. refl; pool = λ t b. refl; target = λ c b. refl; side = λ c b. refl; ended = λ p z. counts p ∙ z; given = held }
+    later = record { jobs = omega arith; calls = omega arith; over = λ t e z. z; left = λ t z. z; kind = λ t b. refl; pool = λ t b. refl; bound = λ t b. refl; target = λ c b. refl; side = λ c b. refl; ended = λ p z. counts p ∙ z; given = held }
 
 -- a party goes on as if its act had seen this
 seeing_calls : (w : World) (q : Party) (g : PoolShape) (x : Place) (fs : List Place) (e : Seen) → w.stack q ≡ record { top = x; below = fs } → Learns (record w { stack = put_stack w.stack q (after_move (next_of g q x e) fs) }) x e → CallsHold w → Advance w (record w { stack = put_stack w.stack q (after_move (next_of g q x e) fs) }) → CallsHold (record w { stack = put_stack w.stack q (after_move (next_of g q x e) fs) })
@@ -62,6 +62,7 @@ pub refuse_calls : (w : World) (q : Party) (x : Place) (fs : List Place) → w.s
 refuse_calls w q (GrowCall n) fs z h = λ a. seeing_calls w q (w.shape.pool (own_pool q)) (GrowCall n) fs Refused z tt h a
 refuse_calls w q (AddToFifo f) fs z h = λ a. seeing_calls w q (w.shape.pool (own_pool q)) (AddToFifo f) fs Refused z tt h a
 refuse_calls w q (PushToken f v) fs z h = λ a. seeing_calls w q (w.shape.pool (own_pool q)) (PushToken f v) fs Refused z tt h a
+refuse_calls w q (PushForAll c) fs z h = λ a. seeing_calls w q (w.shape.pool (own_pool q)) (PushForAll c) fs Refused z tt h a
 refuse_calls w q (PushJob n v) fs z h = λ a. seeing_calls w q (w.shape.pool (own_pool q)) (PushJob n v) fs Refused z tt h a
 refuse_calls w q _ fs z h = tt
 

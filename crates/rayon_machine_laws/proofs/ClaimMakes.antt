@@ -1,6 +1,7 @@
 -- the end of a run and the making of calls keep what the places say; and so does each step
+use Rattle.rayon_machine_places.specs.declared.place.Pieces.{Pieces}
 use Rattle.std.proofs.Common.{arith, refl, sym, ◌∙◌, ap, subst, inl, inr}
-use Rattle.std.specs.Prelude.{ℕ, Bool, true, false, ◌&&◌, ◌+◌, ◌==◌, ◌≤◌, ◌<◌, nat_lt, if◌then◌else◌, Option, Some, None, List, [], ◌≡◌, IfSome}
+use Rattle.std.specs.Prelude.{ℕ, Bool, true, false, ◌&&◌, ◌+◌, ◌==◌, ◌≤◌, ◌<◌, nat_lt, if◌then◌else◌, Option, Some, None, List, [], ◌≡◌, IfSome, ◌-◌}
 use Rattle.std.proofs.lemmas.Bool.{eqb-true, eq-eqb, ltb-true, ltb-false}
 use Rattle.std.proofs.Math.Dec.{ltb}
 use Rattle.rayon_machine_places.specs.declared.place.Party.{Party}
@@ -12,24 +13,24 @@ use Rattle.rayon_machine_places.specs.declared.place.Target.TheVariants.{Termina
 use Rattle.rayon_machine_places.specs.declared.place.Plan.{Plan}
 use Rattle.rayon_machine_places.specs.declared.place.Plan.TheVariants.{Detach, Here, Send, Fork, Feed}
 use Rattle.rayon_machine_places.specs.declared.place.Place.{Place}
-use Rattle.rayon_machine_places.specs.declared.place.Place.TheVariants.{ProbeWorking, YieldPop, LocalPop, Run, RaiseCount, Free, Stopped}
+use Rattle.rayon_machine_places.specs.declared.place.Place.TheVariants.{ProbeWorking, YieldPop, LocalPop, Run, RaiseCount, Free, Stopped, RaiseForAll}
 use Rattle.rayon_machine_places.specs.declared.event.Event.{Event}
-use Rattle.rayon_machine_places.specs.declared.event.Event.TheVariants.{Go, From, Refuse, Miss, End, Spawn, Fifo, Install, Join, Yield, YieldLocal, EndPool}
+use Rattle.rayon_machine_places.specs.declared.event.Event.TheVariants.{Go, From, Refuse, Miss, End, Spawn, Fifo, Install, Join, Yield, YieldLocal, EndPool, Cast}
 use Rattle.rayon_machine_places.specs.declared.state.Letter.TheVariants.{Set as IsSet}
 use Rattle.rayon_machine_places.specs.declared.state.Whereabouts.TheVariants.{Over}
 use Rattle.rayon_machine_places.specs.declared.state.Job.{Job}
 use Rattle.rayon_machine_places.specs.declared.state.Call.{Call}
 use Rattle.rayon_machine_places.specs.Places.{is_member, fresh, act_of, is_free}
 use Rattle.rayon_machine_places.specs.World.{Shape, World, target_pool, target_worker, target_call, at_job}
-use Rattle.rayon_machine_places.specs.Steps.{put, put_stack, after_close, after_end, after_call, is_pool, new_job, new_call, after_spawn, after_send, after_install, after_join, step, after_feed, after_fifo}
+use Rattle.rayon_machine_places.specs.Steps.{put, put_stack, after_close, after_end, after_call, is_pool, new_job, new_call, after_spawn, after_send, after_install, after_join, step, after_feed, after_fifo, after_cast, put_pieces, new_piece, is_piece}
 use Rattle.rayon_machine_places.specs.Runs.{start, IsRun}
 use Rattle.rayon_machine_places.specs.Readers.{is_done}
-use Rattle.rayon_machine_laws.proofs.Frame.{either, and_parts, if_cond, acted_keeps, put_same, put_new, put_old, fifo_cases}
+use Rattle.rayon_machine_laws.proofs.Frame.{either, and_parts, if_cond, acted_keeps, put_same, put_new, put_old, fifo_cases, piece_new, piece_old, piece_range, piece_in, piece_out}
 use Rattle.rayon_machine_laws.proofs.Ties.{job_at, outcome}
 use Rattle.rayon_machine_laws.proofs.Events.{run_keeps}
 use Rattle.rayon_machine_laws.proofs.PlacedEvents.{IsFinal, final_left, Advance}
 use Rattle.rayon_machine_laws.proofs.PlacedRuns.{jobs_advance, step_advance, first_jobs}
-use Rattle.rayon_machine_laws.proofs.Claims.{MadeAs, is_detached, SaysPlan, SaysRun, StackSays}
+use Rattle.rayon_machine_laws.proofs.Claims.{MadeAs, is_detached, SaysPlan, SaysRun, StackSays, SaysPieces}
 use Rattle.rayon_machine_laws.proofs.Later.{Later, later_done, later_says, later_all, later_made}
 use Rattle.rayon_machine_laws.proofs.ClaimRuns.{CallsHold, all_says, go_calls}
 use Rattle.rayon_machine_laws.proofs.ClaimEvents.{both, from_calls, refuse_calls, miss_calls, called_says, yield_calls, give_calls, ended_world, says_closed}
@@ -50,7 +51,7 @@ end_calls w q d (Run t k) fs z h = λ a. done a
     old = subst (λ s. StackSays w q s) z (h.says q)
 
     later : Advance w (ended_world w q d t k fs) → Later w (ended_world w q d t k fs)
-    later a = record { jobs = omega arith; calls = omega arith; over = final_over w (ended_world w q d t k fs) a; left = λ s z. final_left ((w.job s).at) (((ended_world w q d t k fs).job s).at) (a.final s) z; kind = λ s b. put_same (λ j. j.kind) w.job t (at_job (w.job t) (Over d)) s refl; pool = λ s b. put_same (λ j. j.pool) w.job t (at_job (w.job t) (Over d)) s refl; target = λ c b. refl; side = λ c b. refl; ended = λ p y. y; given = λ p y. y }
+    later a = record { jobs = omega arith; calls = omega arith; over = final_over w (ended_world w q d t k fs) a; left = λ s z. final_left ((w.job s).at) (((ended_world w q d t k fs).job s).at) (a.final s) z; kind = λ s b. put_same (λ j. j.kind) w.job t (at_job (w.job t) (Over d)) s refl; pool = λ s b. put_same (λ j. j.pool) w.job t (at_job (w.job t) (Over d)) s refl; bound = λ s b. put_same (λ j. j.bound) w.job t (at_job (w.job t) (Over d)) s refl; target = λ c b. refl; side = λ c b. refl; ended = λ p y. y; given = λ p y. y }
 
     detached : (p : ℕ) → k ≡ Detached p → (w.job t).pool ≡ p
     detached p e = let s : SaysRun w t (Detached p) = subst (λ k. SaysRun w t k) e (old.top) in h.pools t (s.0) p (s.1)
@@ -105,7 +106,7 @@ below_or t n e b = elim (either (ltb t n)) [ inl y ↦ (let z : t < n = ltb-true
 plain_makes : (w : World) (q : Party) (n : Plan) (p : ℕ) (k : JobKind) → ((c : ℕ) (o : Party) → k ≡ Stored c o → ⊥) → ((r : ℕ) → k ≡ Detached r → p ≡ r) → ((u : World) → MadeAs u w.jobs p k → SaysPlan u q n) → CallsHold w → Advance w (calling w q n w.call (put w.job w.jobs (new_job q p k)) w.calls (w.jobs + 1)) → Makes w (calling w q n w.call (put w.job w.jobs (new_job q p k)) w.calls (w.jobs + 1)) q n
 plain_makes w q n p k ns dp sp h a = record {
   later = later;
-  says = sp (calling w q n w.call (put w.job w.jobs (new_job q p k)) w.calls (w.jobs + 1)) (record { made = omega arith; kind = ap (λ j. j.kind) (put_new w.job w.jobs (new_job q p k)); pool = ap (λ j. j.pool) (put_new w.job w.jobs (new_job q p k)) });
+  says = sp (calling w q n w.call (put w.job w.jobs (new_job q p k)) w.calls (w.jobs + 1)) (record { made = omega arith; kind = ap (λ j. j.kind) (put_new w.job w.jobs (new_job q p k)); pool = ap (λ j. j.pool) (put_new w.job w.jobs (new_job q p k)); bound = ap (λ j. j.bound) (put_new w.job w.jobs (new_job q p k)) });
   ties = λ t b c o z. ties t b c o (t == w.jobs) refl z;
   pools = λ t b r z. pools t b r (t == w.jobs) refl z;
   cells = λ c e z. later.over ((w.call c).job) e (h.cells c e z);
@@ -113,7 +114,7 @@ plain_makes w q n p k ns dp sp h a = record {
 }
   where
     later : Later w (calling w q n w.call (put w.job w.jobs (new_job q p k)) w.calls (w.jobs + 1))
-    later = record { jobs = omega arith; calls = omega arith; over = final_over w (calling w q n w.call (put w.job w.jobs (new_job q p k)) w.calls (w.jobs + 1)) a; left = λ t z. final_left ((w.job t).at) ((((calling w q n w.call (put w.job w.jobs (new_job q p k)) w.calls (w.jobs + 1))).job t).at) (a.final t) z; kind = λ t b. ap (λ j. j.kind) (put_old w.job w.jobs (new_job q p k) t (below_new t w.jobs b)); pool = λ t b. ap (λ j. j.pool) (put_old w.job w.jobs (new_job q p k) t (below_new t w.jobs b)); target = λ c b. refl; side = λ c b. refl; ended = λ r z. z; given = λ r z. z }
+    later = record { jobs = omega arith; calls = omega arith; over = final_over w (calling w q n w.call (put w.job w.jobs (new_job q p k)) w.calls (w.jobs + 1)) a; left = λ t z. final_left ((w.job t).at) ((((calling w q n w.call (put w.job w.jobs (new_job q p k)) w.calls (w.jobs + 1))).job t).at) (a.final t) z; kind = λ t b. ap (λ j. j.kind) (put_old w.job w.jobs (new_job q p k) t (below_new t w.jobs b)); pool = λ t b. ap (λ j. j.pool) (put_old w.job w.jobs (new_job q p k) t (below_new t w.jobs b)); bound = λ t b. ap (λ j. j.bound) (put_old w.job w.jobs (new_job q p k) t (below_new t w.jobs b)); target = λ c b. refl; side = λ c b. refl; ended = λ r z. z; given = λ r z. z }
 
     ties : (t : ℕ) → t + 1 ≤ w.jobs + 1 → (c : ℕ) (o : Party) (z : Bool) → (t == w.jobs) ≡ z → (if z then new_job q p k else w.job t).kind ≡ Stored c o → (c + 1 ≤ w.calls) × ((w.call c).job ≡ t)
     ties t b c o true e y = absurd (ns c o y)
@@ -150,7 +151,7 @@ send_makes w q p h a = record {
 }
   where
     later : Later w (after_send w q p (w.stack q) false)
-    later = record { jobs = omega arith; calls = omega arith; over = final_over w (after_send w q p (w.stack q) false) a; left = λ t z. final_left ((w.job t).at) ((((after_send w q p (w.stack q) false)).job t).at) (a.final t) z; kind = λ t b. ap (λ j. j.kind) (put_old w.job w.jobs (new_job q p (Stored w.calls q)) t (below_new t w.jobs b)); pool = λ t b. ap (λ j. j.pool) (put_old w.job w.jobs (new_job q p (Stored w.calls q)) t (below_new t w.jobs b)); target = λ c b. ap (λ i. i.job) (put_old w.call w.calls (new_call None w.jobs) c (below_new c w.calls b)); side = λ c b. ap (λ i. i.first) (put_old w.call w.calls (new_call None w.jobs) c (below_new c w.calls b)); ended = λ r z. z; given = λ r z. z }
+    later = record { jobs = omega arith; calls = omega arith; over = final_over w (after_send w q p (w.stack q) false) a; left = λ t z. final_left ((w.job t).at) ((((after_send w q p (w.stack q) false)).job t).at) (a.final t) z; kind = λ t b. ap (λ j. j.kind) (put_old w.job w.jobs (new_job q p (Stored w.calls q)) t (below_new t w.jobs b)); pool = λ t b. ap (λ j. j.pool) (put_old w.job w.jobs (new_job q p (Stored w.calls q)) t (below_new t w.jobs b)); bound = λ t b. ap (λ j. j.bound) (put_old w.job w.jobs (new_job q p (Stored w.calls q)) t (below_new t w.jobs b)); target = λ c b. ap (λ i. i.job) (put_old w.call w.calls (new_call None w.jobs) c (below_new c w.calls b)); side = λ c b. ap (λ i. i.first) (put_old w.call w.calls (new_call None w.jobs) c (below_new c w.calls b)); ended = λ r z. z; given = λ r z. z }
 
     ties : (t : ℕ) → t + 1 ≤ w.jobs + 1 → (c : ℕ) (o : Party) (z : Bool) → (t == w.jobs) ≡ z → (if z then new_job q p (Stored w.calls q) else w.job t).kind ≡ Stored c o → (c + 1 ≤ w.calls + 1) × ((put w.call w.calls (new_call None w.jobs) c).job ≡ t)
     ties t b c o true e y = let k : w.calls ≡ c = cc in ((let g : c + 1 ≤ w.calls + 1 = omega (arith, k) in g), ap (λ n. (put w.call w.calls (new_call None w.jobs) n).job) (sym k) ∙ ap (λ i. i.job) (put_new w.call w.calls (new_call None w.jobs)) ∙ sym (eqb-true t w.jobs e))
@@ -190,7 +191,7 @@ fork_makes w p i h a = record {
     old t b = put_old (put w.job w.jobs (new_job (Worker p i) p Direct)) (w.jobs + 1) (new_job (Worker p i) p (Stored w.calls (Worker p i))) t (below_new t (w.jobs + 1) (omega (arith, b))) ∙ put_old w.job w.jobs (new_job (Worker p i) p Direct) t (below_new t w.jobs b)
 
     later : Later w (after_fork w p i)
-    later = record { jobs = omega arith; calls = omega arith; over = final_over w (after_fork w p i) a; left = λ t z. final_left ((w.job t).at) ((((after_fork w p i)).job t).at) (a.final t) z; kind = λ t b. ap (λ j. j.kind) (old t b); pool = λ t b. ap (λ j. j.pool) (old t b); target = λ c b. ap (λ i. i.job) (put_old w.call w.calls (new_call (Some w.jobs) (w.jobs + 1)) c (below_new c w.calls b)); side = λ c b. ap (λ i. i.first) (put_old w.call w.calls (new_call (Some w.jobs) (w.jobs + 1)) c (below_new c w.calls b)); ended = λ r z. z; given = λ r z. z }
+    later = record { jobs = omega arith; calls = omega arith; over = final_over w (after_fork w p i) a; left = λ t z. final_left ((w.job t).at) ((((after_fork w p i)).job t).at) (a.final t) z; kind = λ t b. ap (λ j. j.kind) (old t b); pool = λ t b. ap (λ j. j.pool) (old t b); bound = λ t b. ap (λ j. j.bound) (old t b); target = λ c b. ap (λ i. i.job) (put_old w.call w.calls (new_call (Some w.jobs) (w.jobs + 1)) c (below_new c w.calls b)); side = λ c b. ap (λ i. i.first) (put_old w.call w.calls (new_call (Some w.jobs) (w.jobs + 1)) c (below_new c w.calls b)); ended = λ r z. z; given = λ r z. z }
 
     ties : (t : ℕ) → t + 1 ≤ w.jobs + 2 → (c : ℕ) (o : Party) (z v : Bool) → (t == (w.jobs + 1)) ≡ z → (t == w.jobs) ≡ v → (if z then new_job (Worker p i) p (Stored w.calls (Worker p i)) else (if v then new_job (Worker p i) p Direct else w.job t)).kind ≡ Stored c o → (c + 1 ≤ w.calls + 1) × ((put w.call w.calls (new_call (Some w.jobs) (w.jobs + 1)) c).job ≡ t)
     ties t b c o true v e d y = let k : w.calls ≡ c = cc in ((let g : c + 1 ≤ w.calls + 1 = omega (arith, k) in g), ap (λ n. (put w.call w.calls (new_call (Some w.jobs) (w.jobs + 1)) n).job) (sym k) ∙ ap (λ i. i.job) (put_new w.call w.calls (new_call (Some w.jobs) (w.jobs + 1))) ∙ sym (eqb-true t (w.jobs + 1) e))
@@ -205,6 +206,52 @@ fork_makes w p i h a = record {
 spawn_calls : (w : World) (q : Party) (p : ℕ) → CallsHold w → IfSome (after_spawn w q p (w.stack q)) (λ u. Advance w u → CallsHold u)
 spawn_calls w q p h = if_cond (λ u. Advance w u → CallsHold u) (is_free ((w.stack q).top) && is_pool w.shape p) _ (λ f a. made_calls w q (Detach p w.jobs) w.call (put w.job w.jobs (new_job q p (Detached p))) w.calls (w.jobs + 1) ((and_parts (is_free ((w.stack q).top)) (is_pool w.shape p) f).0) h
     (plain_makes w q (Detach p w.jobs) p (Detached p) (λ c o z. cc) (λ r z. (let k : p ≡ r = cc in k)) (λ u s. s) h a) a)
+
+-- a call that makes a piece for each worker of a pool
+cast_calls : (w : World) (q : Party) (p : ℕ) → CallsHold w → IfSome (after_cast w q p (w.stack q)) (λ u. Advance w u → CallsHold u)
+cast_calls w q p h = if_cond (λ u. Advance w u → CallsHold u) (is_free ((w.stack q).top) && is_pool w.shape p) _ (λ f a. made ((and_parts (is_free ((w.stack q).top)) (is_pool w.shape p) f).0) a)
+  where
+    c : Pieces
+    c = record { pool = p; first = w.jobs; workers = (w.shape.pool p).workers }
+
+    J : ℕ → Job
+    J = put_pieces c (λ i j. new_piece q p i) w.job
+
+    u : World
+    u = record w { stack = put_stack w.stack q (after_call (w.stack q) (RaiseForAll c)); job = J; jobs = w.jobs + c.workers }
+
+    same : (t : ℕ) → t + 1 ≤ w.jobs → J t ≡ w.job t
+    same t b = piece_old c (λ i j. new_piece q p i) w.job t (piece_out c t (omega (arith, b)))
+
+    later : Advance w u → Later w u
+    later a = record { jobs = omega arith; calls = omega arith; over = final_over w u a; left = λ t z. final_left ((w.job t).at) ((u.job t).at) (a.final t) z; kind = λ t b. ap (λ j. j.kind) (same t b); pool = λ t b. ap (λ j. j.pool) (same t b); bound = λ t b. ap (λ j. j.bound) (same t b); target = λ c b. refl; side = λ c b. refl; ended = λ r z. z; given = λ r z. z }
+
+    told : SaysPieces u c
+    told t e = let a : (c.first ≤ t) × (t < c.first + c.workers) = piece_range c t e in let b : t < c.first + c.workers = a.1 in let g : u.job t ≡ new_piece q p (t - c.first) = piece_new c (λ i j. new_piece q p i) w.job t e in
+        record { made = (let k : t + 1 ≤ w.jobs + c.workers = omega (arith, b) in k); kind = ap (λ j. j.kind) g; pool = ap (λ j. j.pool) g; bound = ap (λ j. j.bound) g }
+
+    old : (t : ℕ) → t + 1 ≤ w.jobs + c.workers → is_piece c t ≡ false → t + 1 ≤ w.jobs
+    old t b e = elim (either (ltb t w.jobs)) [ inl y ↦ (let z : t < w.jobs = ltb-true t w.jobs y in omega (arith, z)) | inr y ↦ absurd (let z : w.jobs ≤ t = ltb-false t w.jobs y in let v : is_piece c t ≡ true = piece_in c t z (omega (arith, b)) in cc) ]
+
+    ties : (t : ℕ) → t + 1 ≤ w.jobs + c.workers → (i : ℕ) (o : Party) (z : Bool) → is_piece c t ≡ z → (if z then new_piece q p (t - c.first) else w.job t).kind ≡ Stored i o → (i + 1 ≤ w.calls) × ((w.call i).job ≡ t)
+    ties t b i o true e y = absurd (cc)
+    ties t b i o false e y = h.ties t (old t b e) i o y
+
+    pools : (t : ℕ) → t + 1 ≤ w.jobs + c.workers → (r : ℕ) (z : Bool) → is_piece c t ≡ z → (if z then new_piece q p (t - c.first) else w.job t).kind ≡ Detached r → (if z then new_piece q p (t - c.first) else w.job t).pool ≡ r
+    pools t b r true e y = (let k : p ≡ r = cc in k)
+    pools t b r false e y = h.pools t (old t b e) r y
+
+    made : is_free ((w.stack q).top) ≡ true → Advance w u → CallsHold u
+    made f a = record {
+      jobs = jobs_advance w u (h.jobs) a;
+      says = all_says w u (later a) q (after_call (w.stack q) (RaiseForAll c)) (called_says w u (later a) q (RaiseForAll c) f told h) (h.says);
+      ties = λ t b i o z. ties t b i o (is_piece c t) refl z;
+      pools = λ t b r z. pools t b r (is_piece c t) refl z;
+      cells = λ i e z. (later a).over ((w.call i).job) e (h.cells i e z);
+      latches = λ i z. later_done w u (later a) ((w.call i).job) (h.latches i z);
+      ends = h.ends;
+      lines = λ r i t b. later_made w u (later a) t r (Detached r) (h.lines r i t b);
+    }
 
 -- a call that makes a job for a FIFO list, and a token of it
 feed_calls : (w : World) (p i : ℕ) → is_free (w.stack (Worker p i)).top ≡ true → CallsHold w → Advance w (after_feed w p i (w.stack (Worker p i))) → CallsHold (after_feed w p i (w.stack (Worker p i)))
@@ -235,7 +282,7 @@ feed_calls w p i free h a = made_calls w q n w.call J w.calls (w.jobs + 2) free 
     token = put_new first (w.jobs + 1) (new_job q p (TokenOf i))
 
     later : Later w u
-    later = record { jobs = omega arith; calls = omega arith; over = final_over w u a; left = λ t z. final_left ((w.job t).at) ((u.job t).at) (a.final t) z; kind = λ t b. ap (λ j. j.kind) (same t b); pool = λ t b. ap (λ j. j.pool) (same t b); target = λ c b. refl; side = λ c b. refl; given = λ r e. e; ended = λ r e. e }
+    later = record { jobs = omega arith; calls = omega arith; over = final_over w u a; left = λ t z. final_left ((w.job t).at) ((u.job t).at) (a.final t) z; kind = λ t b. ap (λ j. j.kind) (same t b); pool = λ t b. ap (λ j. j.pool) (same t b); bound = λ t b. ap (λ j. j.bound) (same t b); target = λ c b. refl; side = λ c b. refl; given = λ r e. e; ended = λ r e. e }
 
     ties : (t : ℕ) (c : ℕ) (o : Party) (y z : Bool) → (t == (w.jobs + 1)) ≡ y → (t == w.jobs) ≡ z → t + 1 ≤ w.jobs + 2 → (if y then new_job q p (TokenOf i) else (if z then new_job q p (Detached p) else w.job t)).kind ≡ Stored c o → (c + 1 ≤ w.calls) × ((w.call c).job ≡ t)
     ties t c o true z e f b k = absurd (cc)
@@ -250,7 +297,7 @@ feed_calls w p i free h a = made_calls w q n w.call J w.calls (w.jobs + 2) free 
     makes : Makes w u q n
     makes = record {
       later = later;
-      says = (record { made = omega arith; kind = ap (λ j. j.kind) mine; pool = ap (λ j. j.pool) mine }, record { made = omega arith; kind = ap (λ j. j.kind) token; pool = ap (λ j. j.pool) token }, refl);
+      says = (record { made = omega arith; kind = ap (λ j. j.kind) mine; pool = ap (λ j. j.pool) mine; bound = ap (λ j. j.bound) mine }, record { made = omega arith; kind = ap (λ j. j.kind) token; pool = ap (λ j. j.pool) token; bound = ap (λ j. j.bound) token }, refl);
       ties = λ t b c o k. ties t c o (t == (w.jobs + 1)) (t == w.jobs) refl refl b k;
       pools = λ t b r k. pools t r (t == (w.jobs + 1)) (t == w.jobs) refl refl b k;
       cells = λ c e z. later.over ((w.call c).job) e (h.cells c e z);
@@ -280,6 +327,7 @@ step_calls w (Miss q) h = both w (step w (Miss q)) (step_advance w (Miss q) ((h.
 step_calls w (End q d) h = both w (step w (End q d)) (step_advance w (End q d) ((h.jobs).feeds) ((h.jobs).ok) ((h.jobs).unmade)) (end_calls w q d ((w.stack q).top) ((w.stack q).below) refl h)
 step_calls w (Spawn q p) h = both w (step w (Spawn q p)) (step_advance w (Spawn q p) ((h.jobs).feeds) ((h.jobs).ok) ((h.jobs).unmade)) (spawn_calls w q p h)
 step_calls w (Fifo q p) h = both w (step w (Fifo q p)) (step_advance w (Fifo q p) ((h.jobs).feeds) ((h.jobs).ok) ((h.jobs).unmade)) (fifo_calls w q p h)
+step_calls w (Cast q p) h = both w (step w (Cast q p)) (step_advance w (Cast q p) ((h.jobs).feeds) ((h.jobs).ok) ((h.jobs).unmade)) (cast_calls w q p h)
 step_calls w (Install q p) h = both w (step w (Install q p)) (step_advance w (Install q p) ((h.jobs).feeds) ((h.jobs).ok) ((h.jobs).unmade)) (install_calls w q p h)
 step_calls w (Join q) h = both w (step w (Join q)) (step_advance w (Join q) ((h.jobs).feeds) ((h.jobs).ok) ((h.jobs).unmade)) (join_calls w q h)
 step_calls w (Yield q) h = both w (step w (Yield q)) (step_advance w (Yield q) ((h.jobs).feeds) ((h.jobs).ok) ((h.jobs).unmade)) (yield_calls w q YieldPop (λ u r. tt) h)

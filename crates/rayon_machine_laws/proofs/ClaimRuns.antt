@@ -1,6 +1,9 @@
 -- what places, cells and latches say holds in every world of every run
+use Rattle.rayon_machine_places.specs.declared.place.Mark.TheVariants.{Counted, Queued, Returned}
+use Rattle.rayon_machine_places.specs.declared.place.Mark.{Mark as Marking}
+use Rattle.rayon_machine_places.specs.declared.place.Pieces.{Pieces}
 use Rattle.std.proofs.Common.{arith, refl, sym, ◌∙◌, ap, subst, inl, inr}
-use Rattle.std.specs.Prelude.{ℕ, Bool, true, false, not, ◌&&◌, ◌+◌, ◌==◌, ◌≤◌, ◌<◌, if◌then◌else◌, Option, Some, List, ◌≡◌, IfSome, zero, suc}
+use Rattle.std.specs.Prelude.{ℕ, Bool, true, false, not, ◌&&◌, ◌+◌, ◌==◌, ◌≤◌, ◌<◌, if◌then◌else◌, Option, Some, List, ◌≡◌, IfSome, zero, suc, ◌-◌}
 use Rattle.std.proofs.lemmas.Bool.{eqb-true, eq-eqb, ltb-true, ltb-false}
 use Rattle.std.proofs.Math.Dec.{ltb}
 use Rattle.rayon_machine_places.specs.declared.place.Party.{Party}
@@ -12,9 +15,9 @@ use Rattle.rayon_machine_places.specs.declared.place.Latch.TheVariants.{Terminat
 use Rattle.rayon_machine_places.specs.declared.place.Plan.TheVariants.{Detach, Here, Send, Fork, Feed}
 use Rattle.rayon_machine_places.specs.declared.place.Taken.TheVariants.{Plain, Token}
 use Rattle.rayon_machine_places.specs.declared.place.Place.{Place}
-use Rattle.rayon_machine_places.specs.declared.place.Place.TheVariants.{PopWorking, TakeCastWorking, PopIdle, TakeCastIdle, StealFrom, PopInjected, JoinPop, JoinTakeCast, YieldPop, YieldTakeCast, YieldSteal, YieldPopInjected, LocalPop, LocalTakeCast, BeginTask, BeginHere, Run, TakeResult, LowerCount, StoreResult, SetLatch, SetLockLatch, AddToFifo, TakeFromFifo}
+use Rattle.rayon_machine_places.specs.declared.place.Place.TheVariants.{PopWorking, TakeCastWorking, PopIdle, TakeCastIdle, StealFrom, PopInjected, JoinPop, JoinTakeCast, YieldPop, YieldTakeCast, YieldSteal, YieldPopInjected, LocalPop, LocalTakeCast, BeginTask, BeginHere, Run, TakeResult, LowerCount, StoreResult, SetLatch, SetLockLatch, AddToFifo, TakeFromFifo, LowerForAll}
 use Rattle.rayon_machine_places.specs.declared.place.Move.{Move}
-use Rattle.rayon_machine_places.specs.declared.place.Move.TheVariants.{Stay, Enter, StartRun, Back, HandBack, Discard, HandIn}
+use Rattle.rayon_machine_places.specs.declared.place.Move.TheVariants.{Stay, Enter, StartRun, Back, HandBack, Discard, HandIn, Mark, HandAllBack}
 use Rattle.rayon_machine_places.specs.declared.act.Seen.{Seen}
 use Rattle.rayon_machine_places.specs.declared.act.Seen.TheVariants.{Yes, Task, Begun, Found, Handed}
 use Rattle.rayon_machine_places.specs.declared.state.Letter.TheVariants.{Set as IsSet}
@@ -24,7 +27,7 @@ use Rattle.rayon_machine_places.specs.declared.place.OpenCall.{OpenCall}
 use Rattle.rayon_machine_places.specs.declared.state.Job.{Job}
 use Rattle.rayon_machine_places.specs.Places.{same_party, act_of, next_of, taken_number}
 use Rattle.rayon_machine_places.specs.World.{Stack, World, counts_at, Part, target_pool, target_worker, call_of, target_call, at_job, begun}
-use Rattle.rayon_machine_places.specs.Steps.{put, put_stack, part_of, after_move, jobs_after, after}
+use Rattle.rayon_machine_places.specs.Steps.{put, put_stack, part_of, after_move, jobs_after, after, is_piece, mark_pieces, marked}
 use Rattle.rayon_machine_places.specs.Readers.{is_done}
 use Rattle.rayon_machine_laws.specs.Once.{one, times}
 use Rattle.rayon_machine_laws.proofs.Frame.{either, after_kind, same_index, same_party_true, if_some_and, if_some_map, put_new, if_some_each}
@@ -93,6 +96,18 @@ put_left J a j t y z = by (t == a)
     by true = y
     by false = z
 
+marks_left : (c : Pieces) (k : Marking) (J : ℕ → Job) (t : ℕ) → is_left (J t).at ≡ true → is_left (mark_pieces c k J t).at ≡ true
+marks_left c k J t z = by (is_piece c t)
+  where
+    mark : (k : Marking) → is_left (marked k c.pool (t - c.first) (J t)).at ≡ true
+    mark Counted = z
+    mark Queued = refl
+    mark Returned = refl
+
+    by : (b : Bool) → is_left (if b then marked k c.pool (t - c.first) (J t) else J t).at ≡ true
+    by true = mark k
+    by false = z
+
 after_left : (q : Party) (g : Move) (J : ℕ → Job) (t : ℕ) → is_left (J t).at ≡ true → is_left (jobs_after q g J t).at ≡ true
 after_left q (Stay y) J t z = z
 after_left q (HandIn y k) J t z = put_left J k (at_job (J k) Spent) t refl z
@@ -105,6 +120,8 @@ after_left q (HandBack (Detach p a)) J t z = put_left J a (at_job (J a) HandedBa
 after_left q (HandBack (Here p a)) J t z = put_left J a (at_job (J a) HandedBack) t refl z
 after_left q (HandBack (Send o)) J t z = put_left J (o.job) (at_job (J (o.job)) HandedBack) t refl z
 after_left q (HandBack (Fork o a)) J t z = put_left (put J a (at_job (J a) HandedBack)) (o.job) (at_job (J (o.job)) HandedBack) t refl (put_left J a (at_job (J a) HandedBack) t refl z)
+after_left q (Mark y c k) J t z = marks_left c k J t z
+after_left q (HandAllBack c) J t z = marks_left c Returned J t z
 
 left_now : (w : World) (q : Party) (x : Place) (fs : List Place) (t : Taken) (e : Seen) (m : Part) → Took w.shape q (place_part w q x) x t m → Left (world_after w q x fs (e, m)) (taken_number t)
 left_now w q x fs t e m k = after_left q (next_of (w.shape.pool (target_pool q (act_of q x))) q x e) (put w.job (job_at w q (act_of q x)) (m.job)) (taken_number t) (subst (λ n. is_left (put w.job (job_at w q (act_of q x)) (m.job) n).at ≡ true) (k.0) (ap (λ j. is_left (j.at)) (put_new w.job (job_at w q (act_of q x)) (m.job)) ∙ k.1))
@@ -148,11 +165,13 @@ learns w (Caller c) LocalPop fs (Task t, m) h z o l y = taking_now w (Caller c) 
 learns w (Caller c) LocalTakeCast fs (Task t, m) h z o l y = taking_now w (Caller c) LocalTakeCast fs t (Task t) m (h.jobs) o y
 learns w (Worker a b) (TakeResult o f) fs (Found d, m) h z k l y = took w (world_after w (Worker a b) (TakeResult o f) fs (Found d, m)) (Worker a b) o f d h l ((top_says w (Worker a b) (TakeResult o f) fs h z).0) y
 learns w (Worker a b) (LowerCount p s k) fs (Yes, m) h z o l y = ap (λ v. v.count) (put_new w.pool p (m.pool)) ∙ y
+learns w (Worker a b) (LowerForAll n) fs (Yes, m) h z o l y = ap (λ v. v.count) (put_new w.pool n.pool (m.pool)) ∙ y
 learns w (Worker a b) (TakeFromFifo f) fs (Task x, m) h z o l y = later_made w (world_after w (Worker a b) (TakeFromFifo f) fs (Task x, m)) (l.later) (taken_number x) f.pool (Detached f.pool) (subst (λ p. MadeAs w (taken_number x) p (Detached p)) (sym ((top_says w (Worker a b) (TakeFromFifo f) fs h z).2)) (h.lines a b (taken_number x) (y.1)))
 learns w (Worker a b) (BeginTask (Plain t)) fs (Begun d, m) h z o l y = (begun_held w (h.jobs) (Worker a b) t fs z, l.kinds t ∙ y)
 learns w (Worker a b) (BeginTask (Token k i)) fs (Handed t d, m) h z o l y = (made_lined w (h.jobs) a i t (y.1), l.kinds t ∙ ap (λ n. (w.job n).kind) (sym (y.0)) ∙ y.2)
 learns w (Caller v) (TakeResult o f) fs (Found d, m) h z k l y = took w (world_after w (Caller v) (TakeResult o f) fs (Found d, m)) (Caller v) o f d h l ((top_says w (Caller v) (TakeResult o f) fs h z).0) y
 learns w (Caller v) (LowerCount p s k) fs (Yes, m) h z o l y = ap (λ v. v.count) (put_new w.pool p (m.pool)) ∙ y
+learns w (Caller v) (LowerForAll n) fs (Yes, m) h z o l y = ap (λ v. v.count) (put_new w.pool n.pool (m.pool)) ∙ y
 learns w (Caller v) (TakeFromFifo f) fs (Task x, m) h z o l y = later_made w (world_after w (Caller v) (TakeFromFifo f) fs (Task x, m)) (l.later) (taken_number x) f.pool (Detached f.pool) (subst (λ p. MadeAs w (taken_number x) p (Detached p)) (sym ((top_says w (Caller v) (TakeFromFifo f) fs h z).2)) (h.lines 0 0 (taken_number x) (y.1)))
 learns w (Caller v) (BeginTask (Plain t)) fs (Begun d, m) h z o l y = (begun_held w (h.jobs) (Caller v) t fs z, l.kinds t ∙ y)
 learns w (Caller v) (BeginTask (Token k i)) fs (Handed t d, m) h z o l y = (made_lined w (h.jobs) 0 i t (y.1), l.kinds t ∙ ap (λ n. (w.job n).kind) (sym (y.0)) ∙ y.2)

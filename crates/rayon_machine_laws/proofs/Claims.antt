@@ -1,4 +1,5 @@
 -- what a place says of the world: of its party's calls, of their jobs, and of ended pools
+use Rattle.rayon_machine_places.specs.declared.place.Pieces.{Pieces}
 use Rattle.std.proofs.Common.{refl, sym, ap, subst}
 use Rattle.std.specs.Prelude.{ℕ, Bool, true, false, ◌&&◌, ◌+◌, ◌-◌, ◌==◌, ◌≤◌, nat_lt, if◌then◌else◌, Option, Some, None, List, [], ◌∷◌, ◌≡◌, ⊤}
 use Rattle.rayon_machine_places.specs.declared.place.Party.{Party}
@@ -18,13 +19,13 @@ use Rattle.rayon_machine_places.specs.declared.place.Plan.TheVariants.{Detach, H
 use Rattle.rayon_machine_places.specs.declared.place.Share.{Share}
 use Rattle.rayon_machine_places.specs.declared.place.Share.TheVariants.{PoolValue, OfJob}
 use Rattle.rayon_machine_places.specs.declared.place.Then.{Then}
-use Rattle.rayon_machine_places.specs.declared.place.Then.TheVariants.{BeginFound, LeaveWait, Resume, Await, RunFirst, Answers, Missing, Ran, GiveBack}
+use Rattle.rayon_machine_places.specs.declared.place.Then.TheVariants.{BeginFound, LeaveWait, Resume, Await, RunFirst, Answers, Missing, Ran, GiveBack, Called}
 use Rattle.rayon_machine_places.specs.declared.place.Taken.{Taken}
 use Rattle.rayon_machine_places.specs.declared.place.Taken.TheVariants.{Plain, Token}
 use Rattle.rayon_machine_places.specs.declared.place.Place.{Place}
-use Rattle.rayon_machine_places.specs.declared.place.Place.TheVariants.{ProbeWorking, PopWorking, TakeCastWorking, BecomeInactive, ProbeIdle, PopIdle, TakeCastIdle, PickVictim, StealFrom, PopInjected, AnnounceSelf, GetSleepy, LockOwn, FallAsleep, LoadCounters, AddSleeping, LookAtCast, LookAtInjector, BlockSelf, RelockOwn, UndoSleeping, WakeUp, UnlockOwn, LeaveSearch, JoinProbe, JoinPop, JoinTakeCast, YieldPop, YieldTakeCast, YieldPick, YieldSteal, YieldPopInjected, LocalPop, LocalTakeCast, BeginTask, BeginHere, Run, RaiseCount, GrowCall, LookQueue, PushJob, TellNews, LockToWake, WakeWorker, UnlockWoken, WaitForLock, TakeResult, LowerCount, StoreResult, SetLatch, LockToSettle, WakeSettled, UnlockSettled, SetLockLatch, FirstSide, SecondSide, AtOnce, AddToFifo, LookForToken, PushToken, TakeFromFifo}
+use Rattle.rayon_machine_places.specs.declared.place.Place.TheVariants.{ProbeWorking, PopWorking, TakeCastWorking, BecomeInactive, ProbeIdle, PopIdle, TakeCastIdle, PickVictim, StealFrom, PopInjected, AnnounceSelf, GetSleepy, LockOwn, FallAsleep, LoadCounters, AddSleeping, LookAtCast, LookAtInjector, BlockSelf, RelockOwn, UndoSleeping, WakeUp, UnlockOwn, LeaveSearch, JoinProbe, JoinPop, JoinTakeCast, YieldPop, YieldTakeCast, YieldPick, YieldSteal, YieldPopInjected, LocalPop, LocalTakeCast, BeginTask, BeginHere, Run, RaiseCount, GrowCall, LookQueue, PushJob, TellNews, LockToWake, WakeWorker, UnlockWoken, WaitForLock, TakeResult, LowerCount, StoreResult, SetLatch, LockToSettle, WakeSettled, UnlockSettled, SetLockLatch, FirstSide, SecondSide, AtOnce, AddToFifo, LookForToken, PushToken, TakeFromFifo, RaiseForAll, PushForAll, LowerForAll}
 use Rattle.rayon_machine_places.specs.declared.place.Move.{Move}
-use Rattle.rayon_machine_places.specs.declared.place.Move.TheVariants.{Stay, Enter, StartRun, Back, HandBack, Discard, HandIn}
+use Rattle.rayon_machine_places.specs.declared.place.Move.TheVariants.{Stay, Enter, StartRun, Back, HandBack, Discard, HandIn, Mark, HandAllBack}
 use Rattle.rayon_machine_places.specs.declared.act.Seen.{Seen}
 use Rattle.rayon_machine_places.specs.declared.act.Seen.TheVariants.{Done, Yes, Task, Jec, Word, Start, Wakes, Begun, Found, Handed}
 use Rattle.rayon_machine_places.specs.declared.state.Whereabouts.TheVariants.{Over}
@@ -34,7 +35,7 @@ use Rattle.rayon_machine_places.specs.declared.place.Wait.{Wait}
 use Rattle.rayon_machine_places.specs.declared.place.Settling.{Settling}
 use Rattle.rayon_machine_places.specs.Places.{own_pool, own_index, plan_pool, plan_job, after_wait, finish, walk, settle, after_set, after_found, after_news, after_raise, undo, set_call, next_victim, not_self, after_failure, next_steal, next_yield, next_of, is_taken, taken_number}
 use Rattle.rayon_machine_places.specs.World.{Stack, World}
-use Rattle.rayon_machine_places.specs.Steps.{after_move}
+use Rattle.rayon_machine_places.specs.Steps.{after_move, is_piece}
 use Rattle.rayon_machine_places.specs.Readers.{is_done}
 pub use Rattle.rayon_machine_laws.specs.Counted.{is_detached}
 use Rattle.rayon_machine_laws.proofs.Located.{is_left}
@@ -52,6 +53,18 @@ pub record MadeAs (w : World) (t p : ℕ) (k : JobKind) : Type 0 where
   pub made : t + 1 ≤ w.jobs
   pub kind : (w.job t).kind ≡ k
   pub pool : (w.job t).pool ≡ p
+  pub bound : (w.job t).bound ≡ None
+
+-- a piece of a broadcast: a detached job of the pool that is bound to one of its workers
+pub record PieceAs (w : World) (t p i : ℕ) : Type 0 where
+  pub made : t + 1 ≤ w.jobs
+  pub kind : (w.job t).kind ≡ Detached p
+  pub pool : (w.job t).pool ≡ p
+  pub bound : (w.job t).bound ≡ Some i
+
+-- the pieces of a broadcast, all made by a call at its pool
+abbrev pub SaysPieces : World → Pieces → Type 0
+SaysPieces w c = (t : ℕ) → is_piece c t ≡ true → PieceAs w t c.pool (t - c.first)
 
 -- how the first side of a join ended; a call without a first side says nothing of one
 abbrev pub FirstEnds : World → Option ℕ → Option Ending → Type 0
@@ -116,6 +129,7 @@ abbrev pub SaysThen : World → Party → Then → Type 0
 SaysThen w q (BeginFound g x) = SaysTarget w q g × Taking w x
 SaysThen w q (LeaveWait g) = SaysTarget w q g
 SaysThen w q Resume = ⊤
+SaysThen w q Called = ⊤
 SaysThen w q (Await o) = SaysTarget w q (Answer o None)
 SaysThen w q (RunFirst o a) = SaysPlan w q (Fork o a)
 SaysThen w q (Answers o f e) = Opened w q o × FirstEnds w (w.call o.number).first f × ((w.job o.job).at ≡ Over e)
@@ -126,6 +140,7 @@ SaysThen w q (GiveBack n) = SaysPlan w q n
 -- whose share is lowered, by what follows
 abbrev pub SaysOwner : World → ℕ → ℕ → Then → Type 0
 SaysOwner w t p Resume = ((w.job t).kind ≡ Detached p) × (is_done (w.job t).at ≡ true)
+SaysOwner w t p Called = ((w.job t).kind ≡ Detached p) × (is_done (w.job t).at ≡ true)
 SaysOwner w t p (Answers o f e) = o.job ≡ t
 SaysOwner w t p (Missing o f) = o.job ≡ t
 SaysOwner w t p (Ran u e) = (u ≡ t) × ((w.job t).kind ≡ Direct)
@@ -186,6 +201,9 @@ Says w q (AddToFifo f) = SaysPlan w q (Feed f)
 Says w q (LookForToken f) = SaysPlan w q (Feed f)
 Says w q (PushToken f e) = SaysPlan w q (Feed f)
 Says w q (TakeFromFifo f) = SaysPlan w q (Feed f)
+Says w q (RaiseForAll c) = SaysPieces w c
+Says w q (PushForAll c) = SaysPieces w c
+Says w q (LowerForAll c) = SaysPieces w c
 Says w q (TellNews n e) = SaysTold w q n
 Says w q (LockToWake k) = SaysThen w q k.then
 Says w q (WakeWorker k) = SaysThen w q k.then
@@ -255,11 +273,14 @@ SaysMove w q (StartRun f a) = Says w q f × Link f (Run a Direct) × Awaited w a
 SaysMove w q Back = ⊤
 SaysMove w q (HandBack n) = SaysBack w n
 SaysMove w q (Discard k) = Spendable w k
+SaysMove w q (Mark y c k) = Says w q y × SaysPieces w c
+SaysMove w q (HandAllBack c) = SaysPieces w c
 
 -- what was run for a frame below is still so
 abbrev pub PassMove : Place → Move → Type 0
 PassMove x (Stay y) = (t : ℕ) → here x ≡ Some t → here y ≡ Some t
 PassMove x (HandIn y token) = (t : ℕ) → here x ≡ Some t → here y ≡ Some t
+PassMove x (Mark y b9 m9) = (t : ℕ) → here x ≡ Some t → here y ≡ Some t
 PassMove x (Enter f y) = (t : ℕ) → here x ≡ Some t → here f ≡ Some t
 PassMove x (StartRun f a) = (t : ℕ) → here x ≡ Some t → here f ≡ Some t
 PassMove x _ = ⊤
@@ -267,11 +288,13 @@ PassMove x _ = ⊤
 pub none_passes : (x : Place) (g : Move) → here x ≡ None → PassMove x g
 none_passes x (Stay y) e = λ t z. cc
 none_passes x (HandIn y token) e = λ t z. cc
+none_passes x (Mark y b9 m9) e = λ t z. cc
 none_passes x (Enter f y) e = λ t z. cc
 none_passes x (StartRun f a) e = λ t z. cc
 none_passes x Back e = tt
 none_passes x (HandBack n) e = tt
 none_passes x (Discard n) e = tt
+none_passes x (HandAllBack b9) e = tt
 
 pub relink : (x y : Place) (fs : List Place) → ((t : ℕ) → here x ≡ Some t → here y ≡ Some t) → Linked x fs → Linked y fs
 relink x y [] h k = tt
@@ -280,14 +303,17 @@ relink x y (f ∷ fs) h k = (λ t z. h t (k.0 t z), k.1)
 pub land_says : (w : World) (q : Party) (x : Place) (g : Move) (fs : List Place) → SaysMove w q g → PassMove x g → AllSay w q fs → Linked x fs → StackSays w q (after_move g fs)
 land_says w q x (Stay y) fs s p a k = record { top = s; below = a; links = relink x y fs p k }
 land_says w q x (HandIn y token) fs s p a k = record { top = s.0; below = a; links = relink x y fs p k }
+land_says w q x (Mark y b9 m9) fs s p a k = record { top = s.0; below = a; links = relink x y fs p k }
 land_says w q x (Enter f y) fs s p a k = record { top = s.1; below = (s.0, a); links = (s.2, relink x f fs p k) }
 land_says w q x (StartRun f u) fs s p a k = record { top = s.2; below = (s.0, a); links = (s.1, relink x f fs p k) }
 land_says w q x Back [] s p a k = record { top = tt; below = tt; links = tt }
 land_says w q x Back (f ∷ fs) s p a k = record { top = a.0; below = a.1; links = k.1 }
 land_says w q x (HandBack n) [] s p a k = record { top = tt; below = tt; links = tt }
 land_says w q x (Discard n) [] s p a k = record { top = tt; below = tt; links = tt }
+land_says w q x (HandAllBack b9) [] s p a k = record { top = tt; below = tt; links = tt }
 land_says w q x (HandBack n) (f ∷ fs) s p a k = record { top = a.0; below = a.1; links = k.1 }
 land_says w q x (Discard n) (f ∷ fs) s p a k = record { top = a.0; below = a.1; links = k.1 }
+land_says w q x (HandAllBack b9) (f ∷ fs) s p a k = record { top = a.0; below = a.1; links = k.1 }
 
 -- what an act's answer tells of the world after it
 abbrev pub Learns : World → Place → Seen → Type 0
@@ -307,6 +333,7 @@ Learns w LocalPop (Task t) = Taking w t
 Learns w LocalTakeCast (Task t) = Taking w t
 Learns w (TakeResult o f) (Found e) = (w.job o.job).at ≡ Over e
 Learns w (LowerCount p s n) Yes = (w.pool p).count ≡ 0
+Learns w (LowerForAll c) Yes = (w.pool c.pool).count ≡ 0
 Learns w (BeginTask (Plain t)) (Begun k) = (t + 1 ≤ w.jobs) × ((w.job t).kind ≡ k)
 Learns w (BeginTask (Token k i)) (Handed t d) = (t + 1 ≤ w.jobs) × ((w.job t).kind ≡ d)
 Learns w (TakeFromFifo f) (Task x) = MadeAs w (taken_number x) f.pool (Detached f.pool)
@@ -320,6 +347,7 @@ says_finish : (w : World) (q : Party) (n : Then) → SaysThen w q n → SaysMove
 says_finish w q (BeginFound g t) s = (s.0, s.1, λ u z. cc)
 says_finish w q (LeaveWait g) s = says_left w q g s
 says_finish w q Resume s = tt
+says_finish w q Called s = tt
 says_finish w (Worker p i) (Await o) s = s
 says_finish w (Caller c) (Await o) s = s
 says_finish w q (RunFirst o a) s = (s, (λ u z. z), s.2)
@@ -489,6 +517,12 @@ says_next w g q (PushToken f v) Done l s = ((s.1).made, (s.1).pool)
 says_next w g q (PushToken f v) _ l s = s
 says_next w g q (TakeFromFifo f) (Task x) l s = ((l, s.1, s.2), (l.made, l.pool, refl))
 says_next w g q (TakeFromFifo f) _ l s = tt
+says_next w g q (RaiseForAll c) Done l s = (s, s)
+says_next w g q (RaiseForAll c) _ l s = s
+says_next w g q (PushForAll c) Done l s = (tt, s)
+says_next w g q (PushForAll c) _ l s = s
+says_next w g q (LowerForAll c) Yes l s = ((l, tt), s)
+says_next w g q (LowerForAll c) _ l s = s
 says_next w g q (BeginHere t) e l s = s
 says_next w g q (RaiseCount n) Done l s = says_raised w q n s
 says_next w g q (RaiseCount n) _ l s = says_back w q n s

@@ -1,4 +1,4 @@
--- from its last look on a waiting worker's own deque stays empty, and the broadcast lists always are
+-- from its last look on a waiting worker's own deque stays empty
 use Rattle.std.proofs.Common.{rules, arith, refl, sym, ◌∙◌, ap, subst, inl, inr}
 use Rattle.std.specs.Prelude.{ℕ, Bool, true, false, ◌&&◌, ◌+◌, ◌==◌, nat_lt, if◌then◌else◌, Option, Some, None, List, [], ◌∷◌, ◌≡◌, ◌⊎◌, IfSome}
 use Rattle.std.proofs.lemmas.Bool.{eq-eqb}
@@ -12,13 +12,13 @@ use Rattle.rayon_machine_places.specs.declared.place.Latch.{Latch}
 use Rattle.rayon_machine_places.specs.declared.place.Latch.TheVariants.{Terminate, OfCall}
 use Rattle.rayon_machine_places.specs.declared.place.Plan.{Plan}
 use Rattle.rayon_machine_places.specs.declared.place.Then.{Then}
-use Rattle.rayon_machine_places.specs.declared.place.Then.TheVariants.{BeginFound, LeaveWait, Resume, Await, RunFirst, Answers, Missing, Ran, GiveBack}
+use Rattle.rayon_machine_places.specs.declared.place.Then.TheVariants.{BeginFound, LeaveWait, Resume, Await, RunFirst, Answers, Missing, Ran, GiveBack, Called}
 use Rattle.rayon_machine_places.specs.declared.place.Feeding.{Feeding}
 use Rattle.rayon_machine_places.specs.declared.place.Taken.TheVariants.{Plain, Token}
 use Rattle.rayon_machine_places.specs.declared.place.Place.{Place}
-use Rattle.rayon_machine_places.specs.declared.place.Place.TheVariants.{ProbeWorking, PopWorking, TakeCastWorking, PopIdle, TakeCastIdle, StealFrom, RelockOwn, JoinPop, JoinTakeCast, YieldPop, YieldTakeCast, YieldSteal, LocalPop, LocalTakeCast, Run, PushJob, SetLatch, UnlockSettled, Free, Stopped, PushToken, BeginTask, TakeFromFifo}
+use Rattle.rayon_machine_places.specs.declared.place.Place.TheVariants.{ProbeWorking, PopWorking, PopIdle, StealFrom, RelockOwn, JoinPop, YieldPop, YieldSteal, LocalPop, Run, PushJob, SetLatch, UnlockSettled, Free, Stopped, PushToken, BeginTask, TakeFromFifo}
 use Rattle.rayon_machine_places.specs.declared.place.Move.{Move}
-use Rattle.rayon_machine_places.specs.declared.place.Move.TheVariants.{Stay, Enter, StartRun, Back, HandBack, Discard, HandIn}
+use Rattle.rayon_machine_places.specs.declared.place.Move.TheVariants.{Stay, Enter, StartRun, Back, HandBack, Discard, HandIn, Mark, HandAllBack}
 use Rattle.rayon_machine_places.specs.declared.act.Act.{Act}
 use Rattle.rayon_machine_places.specs.declared.act.Act.TheVariants.{PushInj, PushOwn, Set}
 use Rattle.rayon_machine_places.specs.declared.act.Seen.{Seen}
@@ -28,10 +28,10 @@ use Rattle.rayon_machine_places.specs.declared.shape.PoolShape.{PoolShape}
 use Rattle.rayon_machine_places.specs.declared.place.Wait.{Wait}
 use Rattle.rayon_machine_places.specs.declared.place.Settling.{Settling}
 use Rattle.rayon_machine_places.specs.Places.{same_party, own_pool, own_index, is_member, plan_pool, plan_job, fresh, awaits, finish, after_set, act_of, next_of}
-use Rattle.rayon_machine_places.specs.World.{Shape, Stack, World, Counts, Part, target_pool, target_worker, head_of, last_of, but_first, own_of, own_left, popped, take_cast, effect, fifo_out, fifo_undo}
+use Rattle.rayon_machine_places.specs.World.{Shape, Stack, World, Counts, Part, target_pool, target_worker, head_of, last_of, but_first, own_of, own_left, popped, effect, fifo_out, fifo_undo}
 use Rattle.rayon_machine_places.specs.Steps.{after_move, step}
 use Rattle.rayon_machine_places.specs.Runs.{first_place, start, IsRun}
-use Rattle.rayon_machine_laws.specs.Attended.{is_filled, IsCastAttended, IsEmptyHanded}
+use Rattle.rayon_machine_laws.specs.Attended.{IsEmptyHanded}
 use Rattle.rayon_machine_laws.proofs.Asides.{Aside, steps_aside}
 use Rattle.rayon_machine_laws.proofs.Attended.{aside_frames}
 use Rattle.rayon_machine_laws.proofs.Calm.{part_at, counts_seen, next_at, top_then}
@@ -134,6 +134,7 @@ settled_busy h q s = by_latch s.latch
         awaiting (Caller c) = refl
     finish_busy (RunFirst o a) = refl
     finish_busy Resume = tt
+    finish_busy Called = tt
     finish_busy (Answers o f e) = tt
     finish_busy (Missing o f) = tt
     finish_busy (Ran t e) = tt
@@ -183,11 +184,13 @@ own_left_empty h g p i c m x z f = elim (either (is_emptied x)) [
     every : (R : Place → Type 0) (g : Move) → ((y : Place) → R y) → Tops R g
     every R (Stay y) a = a y
     every R (HandIn y token) a = a y
+    every R (Mark y b9 m9) a = a y
     every R (Enter x y) a = a y
     every R (StartRun x n) a = a (Run n Direct)
     every R Back a = tt
     every R (HandBack n) a = tt
     every R (Discard n) a = tt
+    every R (HandAllBack b9) a = tt
 
 push_busy : (h : Shape) (g : PoolShape) (q : Party) (c : Counts) (m : Part) (n : Plan) (v : Bool) → IfSome (effect (act_of q (PushJob n v)) h q c m) (λ r. Tops (λ y. is_emptied y ≡ false) (next_of g q (PushJob n v) (r.0)))
 push_busy h g (Worker a b) c m n v = at (is_member (Worker a b) (plan_pool n))
@@ -315,54 +318,19 @@ aside_emptied w u m fr ok p i h = ap (λ s. s.own) (m.seat p i) ∙ at (same_par
     at true e h = ok p i (ap (λ z. is_emptied ((w.stack z).top)) (same_party_true (Worker p i) (m.party) e) ∙ m.emptied (fr (m.party)) h)
     at false e h = ok p i h
 
--- every broadcast list is empty
-abbrev pub CastsEmpty : World → Type 0
-CastsEmpty w = (p i : ℕ) → (w.pool p).casts i ≡ []
-
-abbrev NoCasts : Part → Type 0
-NoCasts m = (j : ℕ) → m.pool.casts j ≡ []
-
-take_none : (q : Party) (m : Part) (l : List ℕ) → l ≡ [] → NoCasts m → IfSome (take_cast q m l) (λ r. NoCasts (r.1))
-take_none q m [] e f = f
-take_none q m (t ∷ ts) e f = absurd (cc)
-
-set_casts : (l : Latch) (r j : ℕ) (h : Shape) (q : Party) (c : Counts) (m : Part) → NoCasts m → IfSome (effect (Set l r j) h q c m) (λ r. NoCasts (r.1))
-set_casts Terminate r j h q c m e = search (rules, arith)
-set_casts (OfCall n) r j h q c m e = search (rules, arith)
-
-casts_stay : (h : Shape) (q : Party) (c : Counts) (m : Part) (x : Place) → NoCasts m → IfSome (effect (act_of q x) h q c m) (λ r. NoCasts (r.1))
-casts_stay h (Worker a b) c m (ProbeWorking k) e = search (rules, arith)
-casts_stay h (Worker a b) c m (TakeCastWorking k) e = take_none (Worker a b) m (m.pool.casts b) (e b) e
-casts_stay h (Worker a b) c m (TakeCastIdle k) e = take_none (Worker a b) m (m.pool.casts b) (e b) e
-casts_stay h (Worker a b) c m (JoinTakeCast k) e = take_none (Worker a b) m (m.pool.casts b) (e b) e
-casts_stay h (Worker a b) c m YieldTakeCast e = take_none (Worker a b) m (m.pool.casts b) (e b) e
-casts_stay h (Worker a b) c m LocalTakeCast e = take_none (Worker a b) m (m.pool.casts b) (e b) e
-casts_stay h q c m (SetLatch s) e = set_casts s.latch s.pool s.worker h q c m e
-casts_stay h (Worker a b) c m _ e = search (rules, arith)
-casts_stay h (Caller n) c m _ e = search (rules, arith)
-
-pub go_casts : (w : World) (q : Party) (k : Stack) → CastsEmpty w → IfSome (outcome w q k) (λ r. CastsEmpty (result w q k r))
-go_casts w q k ok = if_some_map {A = Seen × Part} (λ r. NoCasts (r.1)) (λ r. CastsEmpty (result w q k r)) (λ r f p i. at r f p i (p == target_pool q (act_of q k.top))) (outcome w q k) (casts_stay w.shape q (counts_seen w q k) (part_at w q k) k.top (λ j. ok (target_pool q (act_of q k.top)) j))
-  where
-    at : (r : Seen × Part) → NoCasts (r.1) → (p i : ℕ) (b : Bool) → (if b then r.1.pool else w.pool p).casts i ≡ []
-    at r f p i true = f i
-    at r f p i false = ok p i
-
 -- what holds of the lists in each world
 pub record ListsOk (w : World) : Type 0 where
   pub frames : FramesOk w
   pub emptied : EmptiedOk w
-  pub casts : CastsEmpty w
 
 go_lists : (w : World) → ListsOk w → (q : Party) → IfSome (outcome w q (w.stack q)) (λ r. ListsOk (result w q (w.stack q) r))
 go_lists w h q =
     let k : Stack = w.stack q in
-    if_some_map (λ r. FramesOk (result w q k r) × (EmptiedOk (result w q k r) × CastsEmpty (result w q k r))) (λ r. ListsOk (result w q k r)) (λ r a. record { frames = a.0; emptied = (a.1).0; casts = (a.1).1 }) (outcome w q k)
-    (if_some_and (λ r. FramesOk (result w q k r)) (λ r. EmptiedOk (result w q k r) × CastsEmpty (result w q k r)) (outcome w q k) (go_frames w q k refl h.frames)
-    (if_some_and (λ r. EmptiedOk (result w q k r)) (λ r. CastsEmpty (result w q k r)) (outcome w q k) (go_emptied w q k refl h.frames h.emptied) (go_casts w q k h.casts)))
+    if_some_map (λ r. FramesOk (result w q k r) × EmptiedOk (result w q k r)) (λ r. ListsOk (result w q k r)) (λ r a. record { frames = a.0; emptied = a.1 }) (outcome w q k)
+    (if_some_and (λ r. FramesOk (result w q k r)) (λ r. EmptiedOk (result w q k r)) (outcome w q k) (go_frames w q k refl h.frames) (go_emptied w q k refl h.frames h.emptied))
 
 step_lists : (w : World) (e : Event) → ListsOk w → IfSome (step w e) ListsOk
-step_lists w e h = steps_aside ListsOk w h.frames (go_lists w h) (λ u m. record { frames = aside_frames w u m h.frames; emptied = aside_emptied w u m h.frames h.emptied; casts = λ p i. m.casts p i ∙ h.casts p i }) e
+step_lists w e h = steps_aside ListsOk w h.frames (go_lists w h) (λ u m. record { frames = aside_frames w u m h.frames; emptied = aside_emptied w u m h.frames h.emptied }) e
 
 first_busy : (h : Shape) (p i : ℕ) → is_emptied (first_place h (Worker p i)) ≡ false
 first_busy h p i = at (nat_lt i (h.pool p).workers) ((h.pool p).callers_own && (i == 0))
@@ -373,7 +341,7 @@ first_busy h p i = at (nat_lt i (h.pool p).workers) ((h.pool p).callers_own && (
     at false d = refl
 
 pub always_lists : (h : Shape) (es : List Event) (w : World) → IsRun (start h) es w → ListsOk w
-always_lists h es w r = run_keeps ListsOk step_lists (start h) w es (record { frames = λ q. tt; emptied = λ p i z. absurd (let k : is_emptied (first_place h (Worker p i)) ≡ false = first_busy h p i in cc); casts = λ p i. refl }) r
+always_lists h es w r = run_keeps ListsOk step_lists (start h) w es (record { frames = λ q. tt; emptied = λ p i z. absurd (let k : is_emptied (first_place h (Worker p i)) ≡ false = first_busy h p i in cc) }) r
 
 lies_emptied : (x : Place) → lies_in (mode x) ≡ true → is_emptied x ≡ true
 lies_emptied (RelockOwn k) e = refl
@@ -381,6 +349,3 @@ lies_emptied _ e = cc
 
 pub empty_handed : (w : World) → SeatsOk w → ListsOk w → IsEmptyHanded w
 empty_handed w ok l p i b = l.emptied p i (lies_emptied (w.stack (Worker p i)).top (((ok p i).top).blocked b))
-
-pub cast_attended : (w : World) → ListsOk w → IsCastAttended w
-cast_attended w l p i f has = absurd (let n : is_filled ((w.pool p).casts i) ≡ false = ap is_filled (l.casts p i) in cc)

@@ -1,4 +1,5 @@
 -- from what holds of the calls and jobs of each world to the laws of latches and ends
+use Rattle.rayon_machine_places.specs.Steps.{is_piece}
 use Rattle.std.proofs.Common.{arith, refl, ap, subst}
 use Rattle.std.specs.Prelude.{ℕ, ◌+◌, ◌==◌, ◌≤◌, Option, Some, None, ◌≡◌}
 use Rattle.std.proofs.lemmas.Bool.{eq-eqb}
@@ -18,7 +19,7 @@ use Rattle.rayon_machine_laws.specs.Once.{one, times}
 use Rattle.rayon_machine_laws.specs.Latch.{IsLatched}
 use Rattle.rayon_machine_laws.specs.End.{HasEnded, SideEnded, SideFine, answered, IsVerdict, follows, IsEnd, IsUntouched, AllJobs, IsRefused}
 use Rattle.rayon_machine_laws.proofs.Hands.{hand_plan, hand_then, hand, held}
-use Rattle.rayon_machine_laws.proofs.Located.{loc_of, loc_at, is_loc, where_is, fits, unbegun, Hand, Deck, Inj, Line}
+use Rattle.rayon_machine_laws.proofs.Located.{loc_of, loc_at, is_loc, where_is, fits, unbegun, Hand, Deck, Inj, Line, Cast}
 use Rattle.rayon_machine_laws.proofs.PlacedRuns.{JobsHold, once}
 use Rattle.rayon_machine_laws.proofs.Claims.{Opened, FirstEnds, SaysThen, Says}
 use Rattle.rayon_machine_laws.proofs.ClaimRuns.{CallsHold}
@@ -79,19 +80,19 @@ ends_so w h filled missing = record {
 }
 
 -- a job whose record names no list, and that was not begun, is untouched
-untouched : (w : World) → JobsHold w → (t : ℕ) → (w.job t).runs ≡ 0 → ((p i : ℕ) → is_loc (Deck p i) (loc_at (w.job t)) ≡ 0) → ((p : ℕ) → is_loc (Inj p) (loc_at (w.job t)) ≡ 0) → ((p i : ℕ) → is_loc (Line p i) (loc_at (w.job t)) ≡ 0) → IsUntouched w t
-untouched w h t r d i l = record {
+untouched : (w : World) → JobsHold w → (t : ℕ) → (w.job t).runs ≡ 0 → ((p i : ℕ) → is_loc (Deck p i) (loc_at (w.job t)) ≡ 0) → ((p : ℕ) → is_loc (Inj p) (loc_at (w.job t)) ≡ 0) → ((p i : ℕ) → is_loc (Line p i) (loc_at (w.job t)) ≡ 0) → ((p i : ℕ) → is_loc (Cast p i) (loc_at (w.job t)) ≡ 0) → IsUntouched w t
+untouched w h t r d i l k = record {
   runs = r;
   deque = λ p j. (let a : times t ((w.seat p j).own) ≡ is_loc (Deck p j) (loc_at (w.job t)) = ((h.ok).placed) (Deck p j) t in let b : is_loc (Deck p j) (loc_at (w.job t)) ≡ 0 = d p j in omega (arith, a, b));
   fifo = λ p j. (let a : times t ((w.seat p j).fifo) ≡ is_loc (Line p j) (loc_at (w.job t)) = ((h.ok).placed) (Line p j) t in let b : is_loc (Line p j) (loc_at (w.job t)) ≡ 0 = l p j in omega (arith, a, b));
-  cast = λ p j. (once w h).cast p j t;
+  cast = λ p j. (let a : times t ((w.pool p).casts j) ≡ is_loc (Cast p j) (loc_at (w.job t)) = ((h.ok).placed) (Cast p j) t in let b : is_loc (Cast p j) (loc_at (w.job t)) ≡ 0 = k p j in omega (arith, a, b));
   injector = λ p. (let a : times t ((w.pool p).injector) ≡ is_loc (Inj p) (loc_at (w.job t)) = ((h.ok).placed) (Inj p) t in let b : is_loc (Inj p) (loc_at (w.job t)) ≡ 0 = i p in omega (arith, a, b));
 }
 
 held_untouched : (w : World) → JobsHold w → (q : Party) (t : ℕ) → 1 ≤ held t (w.stack q) → IsUntouched w t
 held_untouched w h q t b = let a : held t (w.stack q) ≡ is_loc (Hand q) (loc_at (w.job t)) = ((h.ok).placed) (Hand q) t in
     let z : loc_at (w.job t) ≡ Some (Hand q) = where_is (Hand q) (loc_at (w.job t)) (omega (arith, a, b)) in
-    untouched w h t (unbegun ((w.job t).at) ((w.job t).runs) (Hand q) refl z) (λ p i. ap (is_loc (Deck p i)) z) (λ p. ap (is_loc (Inj p)) z) (λ p i. ap (is_loc (Line p i)) z)
+    untouched w h t (unbegun ((w.job t).at) ((w.job t).runs) (Hand q) refl z) (λ p i. ap (is_loc (Deck p i)) z) (λ p. ap (is_loc (Inj p)) z) (λ p i. ap (is_loc (Line p i)) z) (λ p i. ap (is_loc (Cast p i)) z)
 
 one_self : (t : ℕ) → one (t == t) ≡ 1
 one_self t = ap one (eq-eqb t t refl)
@@ -112,5 +113,6 @@ given_back w h q (Fork o s) f = (
 pub refused_so : (w : World) → JobsHold w → IsRefused w
 refused_so w h = record {
   going = λ q n z. given_back w h q n (λ t. (let a : hand t ((w.stack q).top) ≡ hand_plan t n = follows_hand t ((w.stack q).top) (GiveBack n) z in omega (arith, a)));
-  gone = λ t z. untouched w h t (subst (λ v. fits v ((w.job t).runs)) z (((h.ok).fit) t)) (λ p i. ap (λ v. is_loc (Deck p i) (loc_of v ((w.job t).runs))) z) (λ p. ap (λ v. is_loc (Inj p) (loc_of v ((w.job t).runs))) z) (λ p i. ap (λ v. is_loc (Line p i) (loc_of v ((w.job t).runs))) z);
+  gone = λ t z. untouched w h t (subst (λ v. fits v ((w.job t).runs)) z (((h.ok).fit) t)) (λ p i. ap (λ v. is_loc (Deck p i) (loc_of v ((w.job t).runs))) z) (λ p. ap (λ v. is_loc (Inj p) (loc_of v ((w.job t).runs))) z) (λ p i. ap (λ v. is_loc (Line p i) (loc_of v ((w.job t).runs))) z) (λ p i. ap (λ v. is_loc (Cast p i) (loc_of v ((w.job t).runs))) z);
+  cast = λ q c z t e. held_untouched w h q t (let a : hand t ((w.stack q).top) ≡ one (is_piece c t) = ap (hand t) z in let b : one (is_piece c t) ≡ 1 = ap one e in omega (arith, a, b));
 }

@@ -9,9 +9,9 @@ use Rattle.rayon_machine_places.specs.declared.place.JobKind.{JobKind}
 use Rattle.rayon_machine_places.specs.declared.place.JobKind.TheVariants.{Detached, Stored, Direct, TokenOf}
 use Rattle.rayon_machine_places.specs.declared.place.Target.TheVariants.{Termination}
 use Rattle.rayon_machine_places.specs.declared.place.Place.{Place}
-use Rattle.rayon_machine_places.specs.declared.place.Place.TheVariants.{ProbeWorking, PickVictim, StealFrom, PopInjected, YieldPop, YieldPick, YieldSteal, YieldPopInjected, LocalPop, Run, GrowCall, PushJob, FirstSide, Free, Stopped, PushToken, AddToFifo}
+use Rattle.rayon_machine_places.specs.declared.place.Place.TheVariants.{ProbeWorking, PickVictim, StealFrom, PopInjected, YieldPop, YieldPick, YieldSteal, YieldPopInjected, LocalPop, Run, GrowCall, PushJob, FirstSide, Free, Stopped, PushToken, AddToFifo, PushForAll}
 use Rattle.rayon_machine_places.specs.declared.event.Event.{Event}
-use Rattle.rayon_machine_places.specs.declared.event.Event.TheVariants.{Go, From, Refuse, Miss, End, Spawn, Fifo, Install, Join, Yield, YieldLocal, EndPool}
+use Rattle.rayon_machine_places.specs.declared.event.Event.TheVariants.{Go, From, Refuse, Miss, End, Spawn, Fifo, Install, Join, Yield, YieldLocal, EndPool, Cast}
 use Rattle.rayon_machine_places.specs.declared.shape.PoolShape.{PoolShape}
 use Rattle.rayon_machine_places.specs.declared.place.Wait.{Wait}
 use Rattle.rayon_machine_laws.proofs.Frame.{fifo_cases, and_parts, if_cond, if_some_map, same_party_true}
@@ -19,7 +19,7 @@ use Rattle.rayon_machine_laws.proofs.Seats.{Out, SeatOk, Seeks, frame_out, is_fr
 use Rattle.rayon_machine_laws.proofs.Ties.{AllFrames, SeatsOk, StackOk, go_seats, job_at, outcome, result}
 use Rattle.rayon_machine_places.specs.Places.{act_of, fresh, goes_on, is_free, is_member, next_steal, next_victim, next_yield, not_self, own_index, own_pool, same_party}
 use Rattle.rayon_machine_places.specs.Runs.{IsRun, start}
-use Rattle.rayon_machine_places.specs.Steps.{after_outcome, after_call, can_miss, after_choice, after_close, after_end, after_end_pool, after_install, is_pool, after_join, after_miss, put_stack, after_refusal, after_resume, after_send, after_spawn, after_fifo, step, after_yield}
+use Rattle.rayon_machine_places.specs.Steps.{after_outcome, after_call, can_miss, after_choice, after_close, after_end, after_end_pool, after_install, is_pool, after_join, after_miss, put_stack, after_refusal, after_resume, after_send, after_spawn, after_fifo, step, after_yield, after_cast}
 use Rattle.rayon_machine_places.specs.World.{Outcome, Seat, Shape, Stack, World, target_call, target_pool, target_worker}
 
 --
@@ -94,6 +94,7 @@ miss_moves w (Caller n) _ fs e = tt
 refuse_moves : (w : World) (q : Party) (x : Place) (fs : List Place) → w.stack q ≡ record { top = x; below = fs } → IfSome (after_refusal w q (record { top = x; below = fs })) (Moved w)
 refuse_moves w q (GrowCall n) fs e = record { party = q; to = _; shape = refl; stack = λ r. refl; seat = λ p i. refl; fits = λ p i s ok. same_mode p i (GrowCall n) _ fs (w.stack q) s e refl ok }
 refuse_moves w q (PushToken f v) fs e = record { party = q; to = _; shape = refl; stack = λ r. refl; seat = λ p i. refl; fits = λ p i s ok. same_mode p i (PushToken f v) _ fs (w.stack q) s e refl ok }
+refuse_moves w q (PushForAll c) fs e = record { party = q; to = _; shape = refl; stack = λ r. refl; seat = λ p i. refl; fits = λ p i s ok. same_mode p i (PushForAll c) _ fs (w.stack q) s e refl ok }
 refuse_moves w q (AddToFifo f) fs e = record { party = q; to = _; shape = refl; stack = λ r. refl; seat = λ p i. refl; fits = λ p i s ok. same_mode p i (AddToFifo f) _ fs (w.stack q) s e refl ok }
 refuse_moves w q (PushJob n z) fs e = record { party = q; to = _; shape = refl; stack = λ r. refl; seat = λ p i. refl; fits = λ p i s ok. same_mode p i (PushJob n z) _ fs (w.stack q) s e refl ok }
 refuse_moves w q _ fs e = tt
@@ -107,6 +108,9 @@ spawn_moves w q p = if_cond (Moved w) (is_free ((w.stack q).top) && is_pool w.sh
 
 fifo_moves : (w : World) (q : Party) (p : ℕ) → IfSome (after_fifo w q p (w.stack q)) (Moved w)
 fifo_moves w q p = fifo_cases (Moved w) w q p (spawn_moves w q p) (λ i free. record { party = Worker p i; to = _; shape = refl; stack = λ r. refl; seat = λ p i. refl; fits = λ a j s ok. fits_called a j (w.stack (Worker p i)) _ s free refl ok })
+
+cast_moves : (w : World) (q : Party) (p : ℕ) → IfSome (after_cast w q p (w.stack q)) (Moved w)
+cast_moves w q p = if_cond (Moved w) (is_free ((w.stack q).top) && is_pool w.shape p) _ (λ b. record { party = q; to = _; shape = refl; stack = λ r. refl; seat = λ p i. refl; fits = λ a i s ok. fits_called a i (w.stack q) _ s ((and_parts (is_free ((w.stack q).top)) (is_pool w.shape p) b).0) refl ok })
 
 sent_moves : (w : World) (q : Party) (p : ℕ) (b : Bool) → is_free ((w.stack q).top) ≡ true → Moved w (after_send w q p (w.stack q) b)
 sent_moves w q p true e = record { party = q; to = _; shape = refl; stack = λ r. refl; seat = λ p i. refl; fits = λ p i s ok. fits_called p i (w.stack q) _ s e refl ok }
@@ -139,6 +143,7 @@ each_step P w go move (Miss q) = if_some_map (Moved w) P move _ (miss_moves w q 
 each_step P w go move (End q d) = if_some_map (Moved w) P move _ (end_moves w q d ((w.stack q).top) ((w.stack q).below) refl)
 each_step P w go move (Spawn q p) = if_some_map (Moved w) P move _ (spawn_moves w q p)
 each_step P w go move (Fifo q p) = if_some_map (Moved w) P move _ (fifo_moves w q p)
+each_step P w go move (Cast q p) = if_some_map (Moved w) P move _ (cast_moves w q p)
 each_step P w go move (Install q p) = if_some_map (Moved w) P move _ (install_moves w q p)
 each_step P w go move (Join q) = if_some_map (Moved w) P move _ (join_moves w q)
 each_step P w go move (Yield q) = if_some_map (Moved w) P move _ (yield_moves w q YieldPop refl)

@@ -2,14 +2,14 @@
 -- job is the last there
 use Rattle.std.proofs.Common.{rules, arith, refl, sym, ◌∙◌, ap, subst, inl, inr, nat_lt}
 use Rattle.std.specs.Prelude.{ℕ, Bool, true, false, ◌&&◌, ◌||◌, ◌+◌, ◌-◌, ◌==◌, if◌then◌else◌, Option, Some, None, List, [], ◌∷◌, ◌++◌, ◌≡◌, IfSome, ◌⊎◌}
-use Rattle.rayon_machine_places.specs.declared.place.Then.TheVariants.{BeginFound, LeaveWait, Resume, Await, RunFirst, Answers, Missing as NoResult, Ran, GiveBack}
+use Rattle.rayon_machine_places.specs.declared.place.Then.TheVariants.{BeginFound, LeaveWait, Resume, Await, RunFirst, Answers, Missing as NoResult, Ran, GiveBack, Called}
 use Rattle.rayon_machine_places.specs.declared.act.Seen.TheVariants.{Missing, Begun, Done, Handed, Yes}
 use Rattle.rayon_machine_places.specs.declared.place.Feeding.{Feeding}
 use Rattle.rayon_machine_places.specs.declared.place.Place.{Place}
 use Rattle.rayon_machine_laws.proofs.Tops.{FramesOk, Tops, top_after}
 use Rattle.rayon_machine_laws.proofs.ClaimRuns.{place_part, world_after}
 use Rattle.rayon_machine_laws.proofs.Ties.{AllFrames, outcome, result, job_at}
-use Rattle.rayon_machine_places.specs.declared.place.Place.TheVariants.{AddToFifo, LookForToken, RaiseCount, ProbeWorking, PushToken, Run, YieldSteal, FirstSide, Free, GrowCall, JoinProbe, PickVictim, StealFrom, TakeFromFifo, SecondSide, SetLatch, YieldPopInjected, AtOnce, BeginHere, BeginTask, JoinPop, JoinTakeCast, LocalPop, LocalTakeCast, LookQueue, LowerCount, PopIdle, PopInjected, PopWorking, PushJob, Stopped, TakeCastIdle, TakeCastWorking, UnlockSettled, YieldPick, YieldPop, YieldTakeCast}
+use Rattle.rayon_machine_places.specs.declared.place.Place.TheVariants.{AddToFifo, LookForToken, RaiseCount, ProbeWorking, PushToken, Run, YieldSteal, FirstSide, Free, GrowCall, JoinProbe, PickVictim, StealFrom, TakeFromFifo, SecondSide, SetLatch, YieldPopInjected, AtOnce, BeginHere, BeginTask, JoinPop, JoinTakeCast, LocalPop, LocalTakeCast, LookQueue, LowerCount, PopIdle, PopInjected, PopWorking, PushJob, Stopped, TakeCastIdle, TakeCastWorking, UnlockSettled, YieldPick, YieldPop, YieldTakeCast, RaiseForAll, PushForAll, LowerForAll}
 use Rattle.rayon_machine_places.specs.declared.place.Ending.{Ending}
 use Rattle.rayon_machine_places.specs.declared.place.JobKind.{JobKind}
 use Rattle.rayon_machine_places.specs.declared.place.Move.{Move}
@@ -27,13 +27,13 @@ use Rattle.rayon_machine_places.specs.declared.place.Settling.{Settling}
 use Rattle.rayon_machine_places.specs.declared.place.Then.{Then}
 use Rattle.rayon_machine_places.specs.declared.place.Wait.{Wait}
 use Rattle.rayon_machine_places.specs.declared.place.Party.TheVariants.{Worker, Caller}
-use Rattle.rayon_machine_places.specs.Steps.{after_choice, after_close, after_end, after_end_pool, after_fifo, after_install, after_join, after_miss, after_refusal, after_send, after_spawn, after_yield, put_stack, with_stack, after_call, after_move, step, can_miss, is_pool, part_of}
+use Rattle.rayon_machine_places.specs.Steps.{after_choice, after_close, after_end, after_end_pool, after_fifo, after_install, after_join, after_miss, after_refusal, after_send, after_spawn, after_yield, put_stack, with_stack, after_call, after_move, step, can_miss, is_pool, part_of, after_cast}
 use Rattle.rayon_machine_places.specs.Runs.{first_place, start, IsRun}
 use Rattle.rayon_machine_places.specs.declared.place.JobKind.TheVariants.{Detached, Stored, Direct, TokenOf}
 use Rattle.rayon_machine_places.specs.declared.place.Latch.{Latch}
 use Rattle.rayon_machine_laws.proofs.Frame.{fifo_cases, if_cond, same_party_true, if_some_all, if_some_map, acted_keeps, and_parts, either, if_some_and, not_same, same_index, same_party_refl, stack_mine, stack_other}
 use Rattle.rayon_machine_places.specs.declared.place.Target.TheVariants.{Answer, Termination}
-use Rattle.rayon_machine_places.specs.declared.event.Event.TheVariants.{Go, End, EndPool, Fifo, From, Install, Join, Miss, Refuse, Spawn, Yield, YieldLocal}
+use Rattle.rayon_machine_places.specs.declared.event.Event.TheVariants.{Go, End, EndPool, Fifo, From, Install, Join, Miss, Refuse, Spawn, Yield, YieldLocal, Cast}
 use Rattle.rayon_machine_places.specs.declared.place.Latch.TheVariants.{OfCall, Terminate}
 use Rattle.rayon_machine_places.specs.declared.place.Taken.TheVariants.{Plain, Token}
 use Rattle.rayon_machine_places.specs.declared.act.Act.TheVariants.{PushOwn, PushInj}
@@ -96,6 +96,7 @@ finish_free (Worker i j) (Await o) = refl
 finish_free (Caller n) (Await o) = refl
 finish_free q (RunFirst o a) = refl
 finish_free q Resume = tt
+finish_free q Called = tt
 finish_free q (Answers o f e) = tt
 finish_free q (NoResult o f) = tt
 finish_free q (Ran t e) = tt
@@ -230,6 +231,7 @@ feeder_table h (Caller g) c m (TakeFromFifo f) = tt
 feeder_table h q c m (BeginTask (Plain u)) = (λ z. (refl, refl), λ n z. z)
 feeder_table h q c m (BeginTask (Token k i)) = out_feeder q (BeginTask (Token k i)) m m.seat.fifo
 feeder_table h q c m (BeginHere u) = (λ z. (refl, refl), λ n z. z)
+feeder_table h q c m (PushForAll b) = (λ z. (refl, refl), λ n z. z)
 feeder_table h q c m x = if_some_map (SameJobs m) (FeederKept q x m) (λ r s. (λ z. (s.feeder, s.fifo), λ n z. s.feeder ∙ z)) (effect (act_of q x) h q c m) (quiet_same h q c m x refl)
 
 pub last_push : (l : List ℕ) (t : ℕ) → last_of (l ++ t ∷ []) ≡ Some t
@@ -474,6 +476,7 @@ from_shifts w q _ fs v z = tt
 refuse_shifts : (w : World) (q : Party) (x : Place) (fs : List Place) → w.stack q ≡ record { top = x; below = fs } → IfSome (after_refusal w q (record { top = x; below = fs })) (Shifts w)
 refuse_shifts w q (GrowCall n) fs z = shift_at w q (GrowCall n) (undo n) fs z refl refl
 refuse_shifts w q (AddToFifo f) fs z = shift_at w q (AddToFifo f) (undo (Feed f)) fs z refl refl
+refuse_shifts w q (PushForAll c) fs z = shift_at w q (PushForAll c) (LowerForAll c) fs z refl refl
 refuse_shifts w q (PushJob n v) fs z = shift_at w q (PushJob n v) (undo n) fs z refl refl
 refuse_shifts w q (PushToken f v) fs z = record {
   party = q;
@@ -558,6 +561,9 @@ begin_shifts w u q y f s c n e = record {
 spawn_shifts : (w : World) (q : Party) (p : ℕ) → IfSome (after_spawn w q p (w.stack q)) (Shifts w)
 spawn_shifts w q p = if_cond (Shifts w) (is_free ((w.stack q).top) && is_pool w.shape p) _ (λ b. begin_shifts w _ q (RaiseCount (Detach p w.jobs)) ((and_parts (is_free ((w.stack q).top)) (is_pool w.shape p) b).0) (λ r. refl) (λ p i. refl) refl (λ f e. absurd (cc)))
 
+cast_shifts : (w : World) (q : Party) (p : ℕ) → IfSome (after_cast w q p (w.stack q)) (Shifts w)
+cast_shifts w q p = if_cond (Shifts w) (is_free ((w.stack q).top) && is_pool w.shape p) _ (λ b. begin_shifts w _ q (RaiseForAll (record { pool = p; first = w.jobs; workers = (w.shape.pool p).workers })) ((and_parts (is_free ((w.stack q).top)) (is_pool w.shape p) b).0) (λ r. refl) (λ p i. refl) refl (λ f e. absurd (cc)))
+
 fifo_shifts : (w : World) (q : Party) (p : ℕ) → IfSome (after_fifo w q p (w.stack q)) (Shifts w)
 fifo_shifts w q p = fifo_cases (Shifts w) w q p (spawn_shifts w q p) (λ i free. begin_shifts w _ (Worker p i) (RaiseCount (Feed (record { pool = p; job = w.jobs; token = w.jobs + 1 }))) free (λ r. refl) (λ p i. refl) refl (λ f e. subst (λ g. g.token ≡ g.job + 1) (some_feeding (record { pool = p; job = w.jobs; token = w.jobs + 1 }) f e) refl))
 
@@ -591,6 +597,7 @@ step_feeders w (Miss q) h = step_shift w (Miss q) h (miss_shifts w q ((w.stack q
 step_feeders w (End q d) h = step_shift w (End q d) h (end_shifts w q d ((w.stack q).top) ((w.stack q).below) refl (h.frames q))
 step_feeders w (Spawn q p) h = step_shift w (Spawn q p) h (spawn_shifts w q p)
 step_feeders w (Fifo q p) h = step_shift w (Fifo q p) h (fifo_shifts w q p)
+step_feeders w (Cast q p) h = step_shift w (Cast q p) h (cast_shifts w q p)
 step_feeders w (Install q p) h = step_shift w (Install q p) h (install_shifts w q p)
 step_feeders w (Join q) h = step_shift w (Join q) h (join_shifts w q)
 step_feeders w (Yield q) h = step_shift w (Yield q) h (yield_shifts w q YieldPop refl refl)

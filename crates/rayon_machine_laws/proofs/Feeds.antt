@@ -11,12 +11,12 @@ use Rattle.rayon_machine_places.specs.declared.place.Rounds.{Rounds}
 use Rattle.rayon_machine_places.specs.declared.place.Rounds.TheVariants.{Failed, Announced}
 use Rattle.rayon_machine_places.specs.declared.place.Plan.TheVariants.{Detach, Here, Send, Fork, Feed}
 use Rattle.rayon_machine_places.specs.declared.place.Then.{Then}
-use Rattle.rayon_machine_places.specs.declared.place.Then.TheVariants.{BeginFound, LeaveWait, Resume, Await, RunFirst, Answers, Missing, Ran, GiveBack}
+use Rattle.rayon_machine_places.specs.declared.place.Then.TheVariants.{BeginFound, LeaveWait, Resume, Await, RunFirst, Answers, Missing, Ran, GiveBack, Called}
 use Rattle.rayon_machine_places.specs.declared.place.Taken.TheVariants.{Plain, Token}
 use Rattle.rayon_machine_places.specs.declared.place.Place.{Place}
-use Rattle.rayon_machine_places.specs.declared.place.Place.TheVariants.{ProbeWorking, PopWorking, TakeCastWorking, ProbeIdle, PopIdle, TakeCastIdle, PickVictim, StealFrom, PopInjected, AnnounceSelf, GetSleepy, FallAsleep, LoadCounters, AddSleeping, LookAtCast, LookAtInjector, WakeUp, LeaveSearch, JoinProbe, JoinPop, JoinTakeCast, YieldPop, YieldTakeCast, YieldPick, YieldSteal, YieldPopInjected, LocalPop, LocalTakeCast, BeginTask, BeginHere, RaiseCount, GrowCall, LookQueue, PushJob, TellNews, LockToWake, WakeWorker, UnlockWoken, TakeResult, LowerCount, StoreResult, SetLatch, UnlockSettled, SecondSide, AddToFifo, LookForToken, PushToken, TakeFromFifo, LockToSettle, WakeSettled}
+use Rattle.rayon_machine_places.specs.declared.place.Place.TheVariants.{ProbeWorking, PopWorking, TakeCastWorking, ProbeIdle, PopIdle, TakeCastIdle, PickVictim, StealFrom, PopInjected, AnnounceSelf, GetSleepy, FallAsleep, LoadCounters, AddSleeping, LookAtCast, LookAtInjector, WakeUp, LeaveSearch, JoinProbe, JoinPop, JoinTakeCast, YieldPop, YieldTakeCast, YieldPick, YieldSteal, YieldPopInjected, LocalPop, LocalTakeCast, BeginTask, BeginHere, RaiseCount, GrowCall, LookQueue, PushJob, TellNews, LockToWake, WakeWorker, UnlockWoken, TakeResult, LowerCount, StoreResult, SetLatch, UnlockSettled, SecondSide, AddToFifo, LookForToken, PushToken, TakeFromFifo, LockToSettle, WakeSettled, RaiseForAll, PushForAll, LowerForAll}
 use Rattle.rayon_machine_places.specs.declared.place.Move.{Move}
-use Rattle.rayon_machine_places.specs.declared.place.Move.TheVariants.{Stay, Enter, StartRun, Back, HandBack, Discard, HandIn}
+use Rattle.rayon_machine_places.specs.declared.place.Move.TheVariants.{Stay, Enter, StartRun, Back, HandBack, Discard, HandIn, Mark, HandAllBack}
 use Rattle.rayon_machine_places.specs.declared.act.Seen.{Seen}
 use Rattle.rayon_machine_places.specs.declared.act.Seen.TheVariants.{Done, Yes, Task, Jec, Word, Start, Wakes, Begun, Found, Handed}
 use Rattle.rayon_machine_places.specs.declared.shape.PoolShape.{PoolShape}
@@ -24,7 +24,7 @@ use Rattle.rayon_machine_places.specs.declared.place.Wait.{Wait}
 use Rattle.rayon_machine_places.specs.declared.place.Settling.{Settling}
 use Rattle.rayon_machine_places.specs.Places.{same_party, own_pool, own_index, plan_pool, after_wait, finish, walk, settle, after_set, after_found, after_news, set_call, next_victim, not_self, after_failure, next_steal, next_yield, next_of, is_taken, after_raise}
 use Rattle.rayon_machine_places.specs.World.{Stack, World}
-use Rattle.rayon_machine_places.specs.Steps.{put_stack, after_move}
+use Rattle.rayon_machine_places.specs.Steps.{put_stack, after_move, is_piece}
 use Rattle.rayon_machine_laws.specs.Once.{one, hand_rest, hand_then}
 use Rattle.rayon_machine_laws.proofs.Frame.{same_party_true}
 use Rattle.rayon_machine_laws.proofs.Hands.{hand, held_in, held, hand_plan}
@@ -51,6 +51,9 @@ fed t (AddToFifo f) = one (t == f.job) + one (t == f.token)
 fed t (LookForToken f) = one (t == f.token)
 fed t (PushToken f e) = one (t == f.token)
 fed t (TakeFromFifo f) = one (t == f.token)
+fed t (RaiseForAll c) = one (is_piece c t)
+fed t (PushForAll c) = one (is_piece c t)
+fed t (LowerForAll c) = one (is_piece c t)
 fed t (TellNews n e) = hand_rest t n
 fed t (LockToWake k) = fed_then t k.then
 fed t (WakeWorker k) = fed_then t k.then
@@ -72,11 +75,13 @@ all_fed t k = fed t k.top + fed_in t k.below
 abbrev pub fed_move : ℕ → Move → ℕ
 fed_move t (Stay y) = fed t y
 fed_move t (HandIn y token) = fed t y
+fed_move t (Mark y b9 m9) = fed t y
 fed_move t (Enter f y) = fed t y + fed t f
 fed_move t (StartRun f a) = fed t f
 fed_move t Back = 0
 fed_move t (HandBack n) = fed_back t n
 fed_move t (Discard n) = 0
+fed_move t (HandAllBack b9) = 0
 
 fed_back_most : (t : ℕ) (n : Plan) → fed_back t n ≤ hand_plan t n
 fed_back_most t (Feed f) = omega arith
@@ -125,6 +130,7 @@ fed_finish : (t : ℕ) (q : Party) (n : Then) → fed_move t (finish q n) ≤ fe
 fed_finish t q (BeginFound g u) = omega arith
 fed_finish t q (LeaveWait g) = fed_left t g
 fed_finish t q Resume = omega arith
+fed_finish t q Called = omega arith
 fed_finish t (Worker a b) (Await o) = omega arith
 fed_finish t (Caller c) (Await o) = omega arith
 fed_finish t q (RunFirst o a) = omega arith
@@ -260,6 +266,12 @@ feds g q t (PushToken f v) Done = omega arith
 feds g q t (PushToken f v) _ = omega arith
 feds g q t (TakeFromFifo f) (Task x) = omega arith
 feds g q t (TakeFromFifo f) _ = omega arith
+feds g q t (RaiseForAll c) Done = omega arith
+feds g q t (RaiseForAll c) _ = omega arith
+feds g q t (PushForAll c) Done = omega arith
+feds g q t (PushForAll c) _ = omega arith
+feds g q t (LowerForAll c) Yes = omega arith
+feds g q t (LowerForAll c) _ = omega arith
 feds g q t (RaiseCount n) Done = fed_raised t n
 feds g q t (RaiseCount n) _ = fed_back_most t n
 feds g q t (GrowCall n) Done = omega arith
@@ -286,14 +298,17 @@ feds g q t _ e = omega arith
 land_fed : (t : ℕ) (g : Move) (fs : List Place) → all_fed t (after_move g fs) ≤ fed_move t g + fed_in t fs
 land_fed t (Stay y) fs = omega arith
 land_fed t (HandIn y token) fs = omega arith
+land_fed t (Mark y b9 m9) fs = omega arith
 land_fed t (Enter f y) fs = omega arith
 land_fed t (StartRun f a) fs = omega arith
 land_fed t Back [] = omega arith
 land_fed t Back (f ∷ fs) = omega arith
 land_fed t (HandBack n) [] = omega arith
 land_fed t (Discard n) [] = omega arith
+land_fed t (HandAllBack b9) [] = omega arith
 land_fed t (HandBack n) (f ∷ fs) = omega arith
 land_fed t (Discard n) (f ∷ fs) = omega arith
+land_fed t (HandAllBack b9) (f ∷ fs) = omega arith
 
 -- no stack has more of them after a move
 pub fed_after : (g : PoolShape) (q : Party) (t : ℕ) (x : Place) (fs : List Place) (e : Seen) → all_fed t (after_move (next_of g q x e) fs) ≤ fed t x + fed_in t fs

@@ -1,20 +1,23 @@
 -- how a step changes the world: tests on parties and indices, and what holds of an act that may not be enabled
-use Rattle.std.proofs.Common.{refl, sym, ◌∙◌, ap, subst, inl, inr}
-use Rattle.std.specs.Prelude.{ℕ, Bool, true, false, ◌&&◌, ◌||◌, ◌==◌, if◌then◌else◌, Option, Some, None, ◌≡◌, IfSome, ◌⊎◌, List, [], ◌∷◌}
-use Rattle.std.proofs.lemmas.Bool.{eqb-true, eq-eqb}
+use Rattle.std.proofs.Common.{refl, sym, ◌∙◌, ap, subst, inl, inr, arith}
+use Rattle.std.specs.Prelude.{ℕ, Bool, true, false, ◌&&◌, ◌||◌, ◌-◌, ◌==◌, if◌then◌else◌, Option, Some, None, ◌≡◌, IfSome, ◌⊎◌, List, [], ◌∷◌, ⊤, ◌+◌, ◌<◌, ◌≤◌, nat_le, nat_lt}
+use Rattle.std.proofs.lemmas.Bool.{eqb-true, eq-eqb, leb-true, ltb-true, le-leb, lt-ltb}
 use Rattle.rayon_machine_places.specs.declared.place.Party.{Party}
 use Rattle.rayon_machine_places.specs.declared.place.Party.TheVariants.{Worker, Caller}
+use Rattle.rayon_machine_places.specs.declared.place.Pieces.{Pieces}
+use Rattle.rayon_machine_places.specs.declared.place.Mark.{Mark as Marking}
+use Rattle.rayon_machine_places.specs.declared.place.Mark.TheVariants.{Counted, Queued, Returned}
 use Rattle.rayon_machine_places.specs.declared.place.Plan.TheVariants.{Detach, Here, Send, Fork, Feed}
 use Rattle.rayon_machine_places.specs.declared.place.Taken.TheVariants.{Plain}
 use Rattle.rayon_machine_places.specs.declared.place.Move.{Move}
-use Rattle.rayon_machine_places.specs.declared.place.Move.TheVariants.{Stay, Enter, StartRun, Back, HandBack, Discard, HandIn}
+use Rattle.rayon_machine_places.specs.declared.place.Move.TheVariants.{Stay, Enter, StartRun, Back, HandBack, Discard, HandIn, Mark, HandAllBack}
 use Rattle.rayon_machine_places.specs.declared.act.Seen.{Seen}
 use Rattle.rayon_machine_places.specs.declared.act.Seen.TheVariants.{Task, Missing, Handed}
 use Rattle.rayon_machine_places.specs.declared.state.Job.{Job}
 use Rattle.rayon_machine_places.specs.declared.state.Whereabouts.{Whereabouts}
 use Rattle.rayon_machine_places.specs.declared.state.Whereabouts.TheVariants.{HandedBack, Spent, Retaken}
 use Rattle.rayon_machine_places.specs.Places.{is_free, same_party}
-use Rattle.rayon_machine_places.specs.Steps.{after_feed, after_fifo, after_outcome, after_spawn, after, is_pool, put, put_stack, jobs_after}
+use Rattle.rayon_machine_places.specs.Steps.{after_feed, after_fifo, after_outcome, after_spawn, after, is_pool, is_piece, marked, put, put_pieces, put_stack, jobs_after}
 use Rattle.rayon_machine_places.specs.World.{Outcome, Stack, World, at_job, begun, Part, is_open, fifo_back, fifo_first, fifo_out, fifo_undo, but_last, last_of}
 
 -- a test gives one of its two answers
@@ -103,32 +106,102 @@ stack_mine f q x = let e : same_party q q ≡ true = same_party_refl q in rw e
 pub stack_other : (f : Party → Stack) (q : Party) (x : Stack) (g : Party) → same_party g q ≡ false → put_stack f q x g ≡ f g
 stack_other f q x g e = rw e
 
--- what neither a beginning nor other whereabouts change of a job, no move changes of any
-pub after_part : {B : Type 0} (P : Job → B) → ((q : Party) (j : Job) → P (begun q j) ≡ P j) → ((j : Job) (x : Whereabouts) → P (at_job j x) ≡ P j) → (q : Party) (g : Move) (f : ℕ → Job) (t : ℕ) → P (jobs_after q g f t) ≡ P (f t)
-after_part P b a q (Stay y) f t = refl
-after_part P b a q (HandIn y k) f t = put_same P f k (at_job (f k) Spent) t (a (f k) Spent)
-after_part P b a q (Discard k) f t = put_same P f k (at_job (f k) Spent) t (a (f k) Spent)
-after_part P b a q (HandBack (Feed d)) f t =
+-- where each piece of a broadcast is another that agrees on something with what it was, all jobs do
+pub pieces_same : {B : Type 0} (P : Job → B) (c : Pieces) (m : ℕ → Job → Job) (f : ℕ → Job) (t : ℕ) → ((i : ℕ) (j : Job) → P (m i j) ≡ P j) → P (put_pieces c m f t) ≡ P (f t)
+pieces_same P c m f t e = by (is_piece c t)
+  where
+    by : (z : Bool) → P (if z then m (t - c.first) (f t) else f t) ≡ P (f t)
+    by true = e (t - c.first) (f t)
+    by false = refl
+
+pub piece_new : (c : Pieces) (m : ℕ → Job → Job) (f : ℕ → Job) (t : ℕ) → is_piece c t ≡ true → put_pieces c m f t ≡ m (t - c.first) (f t)
+piece_new c m f t e = rw e
+
+pub piece_old : (c : Pieces) (m : ℕ → Job → Job) (f : ℕ → Job) (t : ℕ) → is_piece c t ≡ false → put_pieces c m f t ≡ f t
+piece_old c m f t e = rw e
+
+-- the numbers of the pieces
+pub piece_range : (c : Pieces) (t : ℕ) → is_piece c t ≡ true → (c.first ≤ t) × (t < c.first + c.workers)
+piece_range c t e = let a : (nat_le c.first t ≡ true) × (nat_lt t (c.first + c.workers) ≡ true) = and_parts (nat_le c.first t) (nat_lt t (c.first + c.workers)) e in (leb-true c.first t (a.0), ltb-true t (c.first + c.workers) (a.1))
+
+pub piece_in : (c : Pieces) (t : ℕ) → c.first ≤ t → t < c.first + c.workers → is_piece c t ≡ true
+piece_in c t a b = let x : nat_le c.first t ≡ true = le-leb c.first t a in let y : nat_lt t (c.first + c.workers) ≡ true = lt-ltb t (c.first + c.workers) b in rw (x, y) refl
+
+pub piece_out : (c : Pieces) (t : ℕ) → t < c.first → is_piece c t ≡ false
+piece_out c t l = elim (either (is_piece c t)) [ inl y ↦ absurd (let a : (c.first ≤ t) × (t < c.first + c.workers) = piece_range c t y in let b : c.first ≤ t = a.0 in omega (arith, l, b)) | inr y ↦ y ]
+
+-- what a move makes of the pieces of a broadcast, if it makes something of them, leaves this of each
+abbrev pub MarksKeep : {B : Type 0} → (Job → B) → Move → Type 0
+MarksKeep P (Mark y c k) = (i : ℕ) (j : Job) → P (marked k c.pool i j) ≡ P j
+MarksKeep P (HandAllBack c) = (i : ℕ) (j : Job) → P (marked Returned c.pool i j) ≡ P j
+MarksKeep P _ = ⊤
+
+-- what neither a beginning nor other whereabouts nor what is made of all pieces of a broadcast change of a job, no move
+-- changes of any
+pub after_part : {B : Type 0} (P : Job → B) → ((q : Party) (j : Job) → P (begun q j) ≡ P j) → ((j : Job) (x : Whereabouts) → P (at_job j x) ≡ P j) → (q : Party) (g : Move) (f : ℕ → Job) (t : ℕ) → MarksKeep P g → P (jobs_after q g f t) ≡ P (f t)
+after_part P b a q (Stay y) f t m = refl
+after_part P b a q (HandIn y k) f t m = put_same P f k (at_job (f k) Spent) t (a (f k) Spent)
+after_part P b a q (Discard k) f t m = put_same P f k (at_job (f k) Spent) t (a (f k) Spent)
+after_part P b a q (Mark y c k) f t m = pieces_same P c (marked k c.pool) f t m
+after_part P b a q (HandAllBack c) f t m = pieces_same P c (marked Returned c.pool) f t m
+after_part P b a q (HandBack (Feed d)) f t m =
     let same : (n : ℕ) → P (put f d.job (at_job (f d.job) HandedBack) n) ≡ P (f n) = λ n. put_same P f d.job (at_job (f d.job) HandedBack) n (a (f d.job) HandedBack) in
     put_same P (put f d.job (at_job (f d.job) HandedBack)) d.token (at_job (f d.token) HandedBack) t (a (f d.token) HandedBack ∙ sym (same d.token)) ∙ same t
-after_part P b a q (Enter x y) f t = refl
-after_part P b a q Back f t = refl
-after_part P b a q (StartRun x u) f t = put_same P f u (begun q (f u)) t (b q (f u))
-after_part P b a q (HandBack (Detach p u)) f t = put_same P f u (at_job (f u) HandedBack) t (a (f u) HandedBack)
-after_part P b a q (HandBack (Here p u)) f t = put_same P f u (at_job (f u) HandedBack) t (a (f u) HandedBack)
-after_part P b a q (HandBack (Send o)) f t = put_same P f o.job (at_job (f o.job) HandedBack) t (a (f o.job) HandedBack)
-after_part P b a q (HandBack (Fork o u)) f t =
+after_part P b a q (Enter x y) f t m = refl
+after_part P b a q Back f t m = refl
+after_part P b a q (StartRun x u) f t m = put_same P f u (begun q (f u)) t (b q (f u))
+after_part P b a q (HandBack (Detach p u)) f t m = put_same P f u (at_job (f u) HandedBack) t (a (f u) HandedBack)
+after_part P b a q (HandBack (Here p u)) f t m = put_same P f u (at_job (f u) HandedBack) t (a (f u) HandedBack)
+after_part P b a q (HandBack (Send o)) f t m = put_same P f o.job (at_job (f o.job) HandedBack) t (a (f o.job) HandedBack)
+after_part P b a q (HandBack (Fork o u)) f t m =
     let same : (n : ℕ) → P (put f u (at_job (f u) HandedBack) n) ≡ P (f n) = λ n. put_same P f u (at_job (f u) HandedBack) n (a (f u) HandedBack) in
     put_same P (put f u (at_job (f u) HandedBack)) o.job (at_job (f o.job) HandedBack) t (a (f o.job) HandedBack ∙ sym (same o.job)) ∙ same t
 
+marked_kind : (k : Marking) (p i : ℕ) (j : Job) → (marked k p i j).kind ≡ j.kind
+marked_kind Counted p i j = refl
+marked_kind Queued p i j = refl
+marked_kind Returned p i j = refl
+
+marked_pool : (k : Marking) (p i : ℕ) (j : Job) → (marked k p i j).pool ≡ j.pool
+marked_pool Counted p i j = refl
+marked_pool Queued p i j = refl
+marked_pool Returned p i j = refl
+
+marked_bound : (k : Marking) (p i : ℕ) (j : Job) → (marked k p i j).bound ≡ j.bound
+marked_bound Counted p i j = refl
+marked_bound Queued p i j = refl
+marked_bound Returned p i j = refl
+
+all_keep : {B : Type 0} (P : Job → B) → ((k : Marking) (p i : ℕ) (j : Job) → P (marked k p i j) ≡ P j) → (g : Move) → MarksKeep P g
+all_keep P e (Mark y c k) = e k c.pool
+all_keep P e (HandAllBack c) = e Returned c.pool
+all_keep P e _ = tt
+
 pub after_kind : (q : Party) (g : Move) (f : ℕ → Job) (t : ℕ) → (jobs_after q g f t).kind ≡ (f t).kind
-after_kind q g f t = after_part (λ j. j.kind) (λ r j. refl) (λ j x. refl) q g f t
+after_kind q g f t = after_part (λ j. j.kind) (λ r j. refl) (λ j x. refl) q g f t (all_keep (λ j. j.kind) marked_kind g)
 
 pub after_pool : (q : Party) (g : Move) (f : ℕ → Job) (t : ℕ) → (jobs_after q g f t).pool ≡ (f t).pool
-after_pool q g f t = after_part (λ j. j.pool) (λ r j. refl) (λ j x. refl) q g f t
+after_pool q g f t = after_part (λ j. j.pool) (λ r j. refl) (λ j x. refl) q g f t (all_keep (λ j. j.pool) marked_pool g)
 
-pub after_counted : (q : Party) (g : Move) (f : ℕ → Job) (t : ℕ) → (jobs_after q g f t).counted ≡ (f t).counted
-after_counted q g f t = after_part (λ j. j.counted) (λ r j. refl) (λ j x. refl) q g f t
+pub after_bound : (q : Party) (g : Move) (f : ℕ → Job) (t : ℕ) → (jobs_after q g f t).bound ≡ (f t).bound
+after_bound q g f t = after_part (λ j. j.bound) (λ r j. refl) (λ j x. refl) q g f t (all_keep (λ j. j.bound) marked_bound g)
+
+-- a move gives shares to the pieces of a broadcast, or takes them
+abbrev pub is_sharing : Move → Bool
+is_sharing (Mark y c Counted) = true
+is_sharing (Mark y c Returned) = true
+is_sharing (HandAllBack c) = true
+is_sharing _ = false
+
+counts_keep : (g : Move) → is_sharing g ≡ false → MarksKeep (λ (j : Job). j.counted) g
+counts_keep (Mark y c Counted) e = cc
+counts_keep (Mark y c Queued) e = λ i j. refl
+counts_keep (Mark y c Returned) e = cc
+counts_keep (HandAllBack c) e = cc
+counts_keep _ e = tt
+
+pub after_counted : (q : Party) (g : Move) (f : ℕ → Job) (t : ℕ) → is_sharing g ≡ false → (jobs_after q g f t).counted ≡ (f t).counted
+after_counted q g f t e = after_part (λ j. j.counted) (λ r j. refl) (λ j x. refl) q g f t (counts_keep g e)
 
 -- a FIFO spawn is that of a worker of the pool, or a spawn
 pub fifo_cases : (P : World → Type 0) (w : World) (q : Party) (p : ℕ) → IfSome (after_spawn w q p (w.stack q)) P → ((i : ℕ) → is_free ((w.stack (Worker p i)).top) ≡ true → P (after_feed w p i (w.stack (Worker p i)))) → IfSome (after_fifo w q p (w.stack q)) P

@@ -1,4 +1,5 @@
 -- which jobs a party has in hand or runs, by its places
+use Rattle.rayon_machine_places.specs.declared.place.Mark.TheVariants.{Counted, Queued, Returned}
 use Rattle.std.proofs.Common.{rules, arith, refl}
 use Rattle.std.specs.Prelude.{ℕ, Bool, true, false, ◌+◌, ◌==◌, nat_lt, if◌then◌else◌, List, [], ◌∷◌, ◌≡◌, IfSome}
 use Rattle.rayon_machine_places.specs.declared.place.Party.{Party}
@@ -9,9 +10,9 @@ use Rattle.rayon_machine_places.specs.declared.place.Taken.TheVariants.{Plain, T
 use Rattle.rayon_machine_places.specs.declared.place.Then.{Then}
 use Rattle.rayon_machine_places.specs.declared.place.Then.TheVariants.{BeginFound}
 use Rattle.rayon_machine_places.specs.declared.place.Place.{Place}
-use Rattle.rayon_machine_places.specs.declared.place.Place.TheVariants.{ProbeWorking, BeginTask, BeginHere, RaiseCount, PushJob, AddToFifo, PushToken, SetLatch, UnlockSettled}
+use Rattle.rayon_machine_places.specs.declared.place.Place.TheVariants.{ProbeWorking, BeginTask, BeginHere, RaiseCount, PushJob, AddToFifo, PushToken, SetLatch, UnlockSettled, RaiseForAll}
 use Rattle.rayon_machine_places.specs.declared.place.Move.{Move}
-use Rattle.rayon_machine_places.specs.declared.place.Move.TheVariants.{Stay, Enter, StartRun, Back, HandBack, Discard, HandIn}
+use Rattle.rayon_machine_places.specs.declared.place.Move.TheVariants.{Stay, Enter, StartRun, Back, HandBack, Discard, HandIn, Mark, HandAllBack}
 use Rattle.rayon_machine_places.specs.declared.act.Seen.{Seen}
 use Rattle.rayon_machine_places.specs.declared.act.Seen.TheVariants.{Yes, No, Task, Handed}
 use Rattle.rayon_machine_places.specs.declared.state.Letter.{Letter}
@@ -20,7 +21,7 @@ use Rattle.rayon_machine_places.specs.declared.shape.PoolShape.{PoolShape}
 use Rattle.rayon_machine_places.specs.declared.place.Settling.{Settling}
 use Rattle.rayon_machine_places.specs.Places.{plan_job, finish, settle, after_begin, after_set, act_of, next_of, taken_number}
 use Rattle.rayon_machine_places.specs.World.{Shape, Stack, Counts, Part, is_held_by, letter, set_latch, effect}
-use Rattle.rayon_machine_places.specs.Steps.{back}
+use Rattle.rayon_machine_places.specs.Steps.{back, is_piece}
 use Rattle.rayon_machine_laws.specs.Once.{one, run_of, runs_in}
 pub use Rattle.rayon_machine_laws.specs.Once.{hand_plan, hand_rest, hand_then, hand_found, hand, held_in, held, worked}
 use Rattle.rayon_machine_laws.proofs.Frame.{if_cond, out_sees}
@@ -30,48 +31,64 @@ use Rattle.rayon_machine_laws.proofs.Frame.{if_cond, out_sees}
 abbrev pub paused : Move → List Place → Stack
 paused (Stay y) fs = record { top = y; below = fs }
 paused (HandIn y k) fs = record { top = y; below = BeginHere k ∷ fs }
+paused (Mark y c Counted) fs = record { top = y; below = fs }
+paused (Mark y c k) fs = record { top = y; below = RaiseForAll c ∷ fs }
 paused (Enter f y) fs = record { top = y; below = f ∷ fs }
 paused (StartRun f a) fs = record { top = BeginHere a; below = f ∷ fs }
 paused Back fs = back fs
 paused (HandBack n) fs = record { top = RaiseCount n; below = fs }
 paused (Discard k) fs = record { top = BeginHere k; below = fs }
+paused (HandAllBack c) fs = record { top = RaiseForAll c; below = fs }
 
 abbrev pub hand_move : ℕ → Move → ℕ
 hand_move t (Stay y) = hand t y
 hand_move t (HandIn y k) = hand t y + one (t == k)
+hand_move t (Mark y c Counted) = hand t y
+hand_move t (Mark y c k) = hand t y + one (is_piece c t)
 hand_move t (Enter f y) = hand t y + hand t f
 hand_move t (StartRun f a) = one (t == a) + hand t f
 hand_move t Back = 0
 hand_move t (HandBack n) = hand_plan t n
 hand_move t (Discard k) = one (t == k)
+hand_move t (HandAllBack c) = one (is_piece c t)
 
 abbrev pub run_move : ℕ → Move → ℕ
 run_move t (Stay y) = run_of t y
 run_move t (HandIn y k) = run_of t y
+run_move t (Mark y b9 m9) = run_of t y
 run_move t (Enter f y) = run_of t y + run_of t f
 run_move t (StartRun f a) = run_of t f
 run_move t Back = 0
 run_move t (HandBack n) = 0
 run_move t (Discard n) = 0
+run_move t (HandAllBack b9) = 0
 
 -- a move holds what its places and the frames below them do
 pub land_held : (t : ℕ) (g : Move) (fs : List Place) → held t (paused g fs) ≡ (hand_move t g + held_in t fs)
 land_held t (Stay y) fs = refl
 land_held t (HandIn y k) fs = omega arith
+land_held t (Mark y b9 Counted) fs = omega arith
+land_held t (Mark y b9 Queued) fs = omega arith
+land_held t (Mark y b9 Returned) fs = omega arith
 land_held t (Enter f y) fs = omega arith
 land_held t (StartRun f a) fs = omega arith
 land_held t (HandBack n) fs = refl
 land_held t (Discard n) fs = refl
+land_held t (HandAllBack b9) fs = refl
 land_held t Back [] = refl
 land_held t Back (f ∷ fs) = omega arith
 
 pub land_worked : (t : ℕ) (g : Move) (fs : List Place) → worked t (paused g fs) ≡ (run_move t g + runs_in t fs)
 land_worked t (Stay y) fs = refl
 land_worked t (HandIn y k) fs = omega arith
+land_worked t (Mark y b9 Counted) fs = omega arith
+land_worked t (Mark y b9 Queued) fs = omega arith
+land_worked t (Mark y b9 Returned) fs = omega arith
 land_worked t (Enter f y) fs = omega arith
 land_worked t (StartRun f a) fs = omega arith
 land_worked t (HandBack n) fs = omega arith
 land_worked t (Discard n) fs = omega arith
+land_worked t (HandAllBack b9) fs = omega arith
 land_worked t Back [] = refl
 land_worked t Back (f ∷ fs) = omega arith
 

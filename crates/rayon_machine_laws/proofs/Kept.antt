@@ -1,10 +1,12 @@
 -- what a wait says of its last announcement, and of its own deque
+use Rattle.rayon_machine_places.specs.World.{Shape}
+use Rattle.rayon_machine_places.specs.declared.place.Pieces.{Pieces}
 use Rattle.std.proofs.Common.{refl}
-use Rattle.std.specs.Prelude.{ℕ, Bool, true, false, ◌≡◌}
+use Rattle.std.specs.Prelude.{ℕ, Bool, true, false, ◌≡◌, Option, Some, None, ⊤}
 use Rattle.rayon_machine_places.specs.declared.place.Rounds.{Rounds}
 use Rattle.rayon_machine_places.specs.declared.place.Rounds.TheVariants.{Failed, Announced}
 use Rattle.rayon_machine_places.specs.declared.place.Place.{Place}
-use Rattle.rayon_machine_places.specs.declared.place.Place.TheVariants.{ProbeWorking, TakeCastWorking, BecomeInactive, ProbeIdle, PopIdle, TakeCastIdle, PickVictim, StealFrom, PopInjected, AnnounceSelf, GetSleepy, LockOwn, FallAsleep, LoadCounters, AddSleeping, LookAtCast, LookAtInjector, BlockSelf, RelockOwn, UndoSleeping, WakeUp, UnlockOwn}
+use Rattle.rayon_machine_places.specs.declared.place.Place.TheVariants.{ProbeWorking, TakeCastWorking, BecomeInactive, ProbeIdle, PopIdle, TakeCastIdle, PickVictim, StealFrom, PopInjected, AnnounceSelf, GetSleepy, LockOwn, FallAsleep, LoadCounters, AddSleeping, LookAtCast, LookAtInjector, BlockSelf, RelockOwn, UndoSleeping, WakeUp, UnlockOwn, RaiseForAll, PushForAll}
 use Rattle.rayon_machine_laws.proofs.Seats.{is_frame}
 
 -- the worker has announced itself since it last was busy
@@ -81,3 +83,18 @@ frame_unannounced _ e = cc
 pub frame_not_emptied : (f : Place) → is_frame f ≡ true → is_emptied f ≡ false
 frame_not_emptied (ProbeWorking k) e = refl
 frame_not_emptied _ e = cc
+
+-- the pieces of a broadcast that a party is about to take shares for, or to deal
+abbrev pub sizes : Place → Option Pieces
+sizes (RaiseForAll c) = Some c
+sizes (PushForAll c) = Some c
+sizes _ = None
+
+-- they are as many as their pool has workers
+abbrev pub SizedAs : Shape → Option Pieces → Type 0
+SizedAs h None = ⊤
+SizedAs h (Some c) = c.workers ≡ (h.pool c.pool).workers
+
+pub frame_unsized : (f : Place) → is_frame f ≡ true → sizes f ≡ None
+frame_unsized (ProbeWorking k) e = refl
+frame_unsized _ e = cc

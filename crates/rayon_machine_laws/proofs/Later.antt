@@ -1,4 +1,5 @@
 -- what no step takes back, so that what a place says stays true while others move
+use Rattle.rayon_machine_places.specs.declared.place.Pieces.{Pieces}
 use Rattle.std.proofs.Common.{rules, arith, refl, sym, ◌∙◌, ap, subst}
 use Rattle.std.specs.Prelude.{ℕ, Bool, true, false, ◌+◌, ◌-◌, ◌==◌, ◌≤◌, if◌then◌else◌, Option, Some, None, List, [], ◌∷◌, ◌≡◌, IfSome}
 use Rattle.std.proofs.lemmas.Bool.{eq-eqb}
@@ -17,21 +18,21 @@ use Rattle.rayon_machine_places.specs.declared.place.Plan.TheVariants.{Detach, H
 use Rattle.rayon_machine_places.specs.declared.place.Share.{Share}
 use Rattle.rayon_machine_places.specs.declared.place.Share.TheVariants.{PoolValue, OfJob}
 use Rattle.rayon_machine_places.specs.declared.place.Then.{Then}
-use Rattle.rayon_machine_places.specs.declared.place.Then.TheVariants.{BeginFound, LeaveWait, Resume, Await, RunFirst, Answers, Missing, Ran, GiveBack}
+use Rattle.rayon_machine_places.specs.declared.place.Then.TheVariants.{BeginFound, LeaveWait, Resume, Await, RunFirst, Answers, Missing, Ran, GiveBack, Called}
 use Rattle.rayon_machine_places.specs.declared.place.Taken.{Taken}
 use Rattle.rayon_machine_places.specs.declared.place.Place.{Place}
-use Rattle.rayon_machine_places.specs.declared.place.Place.TheVariants.{ProbeWorking, PopWorking, TakeCastWorking, BecomeInactive, ProbeIdle, PopIdle, TakeCastIdle, PickVictim, StealFrom, PopInjected, AnnounceSelf, GetSleepy, LockOwn, FallAsleep, LoadCounters, AddSleeping, LookAtCast, LookAtInjector, BlockSelf, RelockOwn, UndoSleeping, WakeUp, UnlockOwn, LeaveSearch, JoinProbe, JoinPop, JoinTakeCast, BeginTask, BeginHere, Run, RaiseCount, GrowCall, LookQueue, PushJob, TellNews, LockToWake, WakeWorker, UnlockWoken, WaitForLock, TakeResult, LowerCount, StoreResult, SetLatch, LockToSettle, WakeSettled, UnlockSettled, SetLockLatch, FirstSide, SecondSide, AtOnce, AddToFifo, LookForToken, PushToken, TakeFromFifo}
+use Rattle.rayon_machine_places.specs.declared.place.Place.TheVariants.{ProbeWorking, PopWorking, TakeCastWorking, BecomeInactive, ProbeIdle, PopIdle, TakeCastIdle, PickVictim, StealFrom, PopInjected, AnnounceSelf, GetSleepy, LockOwn, FallAsleep, LoadCounters, AddSleeping, LookAtCast, LookAtInjector, BlockSelf, RelockOwn, UndoSleeping, WakeUp, UnlockOwn, LeaveSearch, JoinProbe, JoinPop, JoinTakeCast, BeginTask, BeginHere, Run, RaiseCount, GrowCall, LookQueue, PushJob, TellNews, LockToWake, WakeWorker, UnlockWoken, WaitForLock, TakeResult, LowerCount, StoreResult, SetLatch, LockToSettle, WakeSettled, UnlockSettled, SetLockLatch, FirstSide, SecondSide, AtOnce, AddToFifo, LookForToken, PushToken, TakeFromFifo, RaiseForAll, PushForAll, LowerForAll}
 use Rattle.rayon_machine_places.specs.declared.act.Seen.{Seen}
 use Rattle.rayon_machine_places.specs.declared.act.Seen.TheVariants.{Done, Refused}
 use Rattle.rayon_machine_places.specs.declared.state.Letter.{Letter}
 use Rattle.rayon_machine_places.specs.declared.state.Letter.TheVariants.{Set as IsSet}
 use Rattle.rayon_machine_places.specs.declared.state.Whereabouts.{Whereabouts}
-use Rattle.rayon_machine_places.specs.declared.state.Whereabouts.TheVariants.{Nowhere, Made, InDeque, Injected, InFifo, Running, Over, HandedBack, Spent, Retaken}
+use Rattle.rayon_machine_places.specs.declared.state.Whereabouts.TheVariants.{Nowhere, Made, InDeque, Injected, InFifo, Running, Over, HandedBack, Spent, Retaken, InCast}
 use Rattle.rayon_machine_places.specs.declared.place.OpenCall.{OpenCall}
 use Rattle.rayon_machine_places.specs.Places.{latch_of, act_of, own_index}
 use Rattle.rayon_machine_places.specs.World.{Shape, Stack, World, Counts, Part, letter, with_letter, lowered, effect}
 use Rattle.rayon_machine_places.specs.Readers.{is_done}
-use Rattle.rayon_machine_laws.proofs.Claims.{Opened, MadeAs, FirstEnds, SaysTarget, Left, Taking, is_detached, Awaited, SaysFound, SaysPlan, SaysQueue, SaysThen, SaysOwner, SaysShare, SaysLatch, SaysRun, Says, AllSay, StackSays, SaysTold}
+use Rattle.rayon_machine_laws.proofs.Claims.{Opened, MadeAs, FirstEnds, SaysTarget, Left, Taking, is_detached, Awaited, SaysFound, SaysPlan, SaysQueue, SaysThen, SaysOwner, SaysShare, SaysLatch, SaysRun, Says, AllSay, StackSays, SaysTold, SaysPieces}
 use Rattle.rayon_machine_laws.proofs.Letters.{sleepy_keeps, asleep_keeps, wake_keeps, set_keeps}
 use Rattle.rayon_machine_places.specs.declared.place.Taken.TheVariants.{Plain, Token}
 
@@ -42,6 +43,7 @@ pub record Later (w u : World) : Type 0 where
   pub left : (t : ℕ) → Left w t → Left u t
   pub kind : (t : ℕ) → t + 1 ≤ w.jobs → (u.job t).kind ≡ (w.job t).kind
   pub pool : (t : ℕ) → t + 1 ≤ w.jobs → (u.job t).pool ≡ (w.job t).pool
+  pub bound : (t : ℕ) → t + 1 ≤ w.jobs → (u.job t).bound ≡ (w.job t).bound
   pub target : (c : ℕ) → c + 1 ≤ w.calls → (u.call c).job ≡ (w.call c).job
   pub side : (c : ℕ) → c + 1 ≤ w.calls → (u.call c).first ≡ (w.call c).first
   pub ended : (p : ℕ) → (w.pool p).count ≡ 0 → (u.pool p).count ≡ 0
@@ -70,7 +72,10 @@ later_target w u l q Termination s = tt
 later_target w u l q (Answer o f) s = (later_opened w u l q o (s.0), later_first w u l (o.number) f ((s.0).number) (s.1))
 
 pub later_made : (w u : World) → Later w u → (t p : ℕ) (k : JobKind) → MadeAs w t p k → MadeAs u t p k
-later_made w u l t p k s = record { made = (let a : t + 1 ≤ w.jobs = s.made in let b : w.jobs ≤ u.jobs = l.jobs in omega (arith, a, b)); kind = l.kind t (s.made) ∙ s.kind; pool = l.pool t (s.made) ∙ s.pool }
+later_made w u l t p k s = record { made = (let a : t + 1 ≤ w.jobs = s.made in let b : w.jobs ≤ u.jobs = l.jobs in omega (arith, a, b)); kind = l.kind t (s.made) ∙ s.kind; pool = l.pool t (s.made) ∙ s.pool; bound = l.bound t (s.made) ∙ s.bound }
+
+pub later_pieces : (w u : World) → Later w u → (c : Pieces) → SaysPieces w c → SaysPieces u c
+later_pieces w u l c s t z = record { made = (let a : t + 1 ≤ w.jobs = (s t z).made in let b : w.jobs ≤ u.jobs = l.jobs in omega (arith, a, b)); kind = l.kind t ((s t z).made) ∙ (s t z).kind; pool = l.pool t ((s t z).made) ∙ (s t z).pool; bound = l.bound t ((s t z).made) ∙ (s t z).bound }
 
 later_awaited : (w u : World) → Later w u → (t : ℕ) → Awaited w t → Awaited u t
 later_awaited w u l t s = record { made = (let a : t + 1 ≤ w.jobs = s.made in let b : w.jobs ≤ u.jobs = l.jobs in omega (arith, a, b)); kind = ap is_detached (l.kind t (s.made)) ∙ s.kind }
@@ -101,6 +106,7 @@ later_then : (w u : World) → Later w u → (q : Party) (n : Then) → SaysThen
 later_then w u l q (BeginFound g x) s = (later_target w u l q g (s.0), later_taking w u l x (s.1))
 later_then w u l q (LeaveWait g) s = later_target w u l q g s
 later_then w u l q Resume s = tt
+later_then w u l q Called s = tt
 later_then w u l q (Await o) s = later_target w u l q (Answer o None) s
 later_then w u l q (RunFirst o a) s = later_plan w u l q (Fork o a) s
 later_then w u l q (Answers o f e) s = (later_opened w u l q o (s.0), later_first w u l (o.number) f ((s.0).number) (s.1), l.over (o.job) e (s.2))
@@ -118,6 +124,7 @@ later_done w u l t s = by ((w.job t).at) refl s
     by (InDeque p i) z d = cc
     by (Injected p) z d = cc
     by (InFifo p i) z d = cc
+    by (InCast p i) z d = cc
     by (Retaken r) z d = cc
     by HandedBack z d = cc
     by Spent z d = cc
@@ -125,6 +132,7 @@ later_done w u l t s = by ((w.job t).at) refl s
 
 later_owner : (w u : World) → Later w u → (t p : ℕ) (n : Then) → t + 1 ≤ w.jobs → SaysOwner w t p n → SaysOwner u t p n
 later_owner w u l t p Resume b s = (l.kind t b ∙ s.0, later_done w u l t (s.1))
+later_owner w u l t p Called b s = (l.kind t b ∙ s.0, later_done w u l t (s.1))
 later_owner w u l t p (Answers o f e) b s = s
 later_owner w u l t p (Missing o f) b s = s
 later_owner w u l t p (Ran v e) b s = (s.0, l.kind t b ∙ s.1)
@@ -194,6 +202,9 @@ later_says w u l q (AddToFifo f) s = later_plan w u l q (Feed f) s
 later_says w u l q (LookForToken f) s = later_plan w u l q (Feed f) s
 later_says w u l q (PushToken f e) s = later_plan w u l q (Feed f) s
 later_says w u l q (TakeFromFifo f) s = later_plan w u l q (Feed f) s
+later_says w u l q (RaiseForAll c) s = later_pieces w u l c s
+later_says w u l q (PushForAll c) s = later_pieces w u l c s
+later_says w u l q (LowerForAll c) s = later_pieces w u l c s
 later_says w u l q (BeginTask x) s = later_taking w u l x s
 later_says w u l q (TellNews n e) s = later_told w u l q n s
 later_says w u l q (LockToWake k) s = later_then w u l q k.then s
@@ -224,28 +235,39 @@ later_stack w u l q k s = record { top = later_says w u l q k.top (s.top); below
 pub record Static (m : Part) (r : Seen × Part) : Type 0 where
   pub kind : r.1.job.kind ≡ m.job.kind
   pub pool : r.1.job.pool ≡ m.job.pool
+  pub bound : r.1.job.bound ≡ m.job.bound
   pub target : r.1.call.job ≡ m.call.job
   pub side : r.1.call.first ≡ m.call.first
   pub held : r.1.pool.held ≡ m.pool.held
   pub ended : m.pool.count ≡ 0 → r.1.pool.count ≡ 0
 
 letter_static : (l : Latch) (m : Part) (e : Seen) (y : Letter) → Static m (e, with_letter l m y)
-letter_static Terminate m e y = record { kind = refl; pool = refl; target = refl; side = refl; held = refl; ended = λ z. z }
-letter_static (OfCall c) m e y = record { kind = refl; pool = refl; target = refl; side = refl; held = refl; ended = λ z. z }
+letter_static Terminate m e y = record { kind = refl; pool = refl; bound = refl; target = refl; side = refl; held = refl; ended = λ z. z }
+letter_static (OfCall c) m e y = record { kind = refl; pool = refl; bound = refl; target = refl; side = refl; held = refl; ended = λ z. z }
 
 same_static : (m : Part) (e : Seen) → Static m (e, m)
-same_static m e = record { kind = refl; pool = refl; target = refl; side = refl; held = refl; ended = λ z. z }
+same_static m e = record { kind = refl; pool = refl; bound = refl; target = refl; side = refl; held = refl; ended = λ z. z }
 
 raise_static : (m : Part) → IfSome (if m.pool.count == 0 then Some (Refused, m) else Some (Done, record m { pool = record (m.pool) { count = m.pool.count + 1 }; job = record (m.job) { counted = true } })) (Static m)
 raise_static m = by (m.pool.count == 0) refl
   where
     by : (z : Bool) → (m.pool.count == 0) ≡ z → IfSome (if z then Some (Refused, m) else Some (Done, record m { pool = record (m.pool) { count = m.pool.count + 1 }; job = record (m.job) { counted = true } })) (Static m)
     by true e = same_static m Refused
-    by false e = record { kind = refl; pool = refl; target = refl; side = refl; held = refl; ended = λ z. absurd (let a : (m.pool.count == 0) ≡ true = eq-eqb (m.pool.count) 0 z in cc) }
+    by false e = record { kind = refl; pool = refl; bound = refl; target = refl; side = refl; held = refl; ended = λ z. absurd (let a : (m.pool.count == 0) ≡ true = eq-eqb (m.pool.count) 0 z in cc) }
+
+raise_all_static : (m : Part) (b : Pieces) → IfSome (if m.pool.count == 0 then Some (Refused, m) else Some (Done, record m { pool = record (m.pool) { count = m.pool.count + b.workers } })) (Static m)
+raise_all_static m b = by (m.pool.count == 0) refl
+  where
+    by : (z : Bool) → (m.pool.count == 0) ≡ z → IfSome (if z then Some (Refused, m) else Some (Done, record m { pool = record (m.pool) { count = m.pool.count + b.workers } })) (Static m)
+    by true e = same_static m Refused
+    by false e = record { kind = refl; pool = refl; bound = refl; target = refl; side = refl; held = refl; ended = λ z. absurd (let a : (m.pool.count == 0) ≡ true = eq-eqb (m.pool.count) 0 z in cc) }
+
+lower_all_static : (m : Part) (b : Pieces) (e : Seen) → Static m (e, record m { pool = record (m.pool) { count = m.pool.count - b.workers } })
+lower_all_static m b e = record { kind = refl; pool = refl; bound = refl; target = refl; side = refl; held = refl; ended = λ z. (let n : m.pool.count ≡ 0 = z in let goal : m.pool.count - b.workers ≡ 0 = omega (arith, n) in goal) }
 
 lower_static : (m : Part) (s : Share) (e : Seen) → Static m (e, lowered m s)
-lower_static m PoolValue e = record { kind = refl; pool = refl; target = refl; side = refl; held = refl; ended = λ z. (let n : m.pool.count ≡ 0 = z in let goal : m.pool.count - 1 ≡ 0 = omega (arith, n) in goal) }
-lower_static m (OfJob t) e = record { kind = refl; pool = refl; target = refl; side = refl; held = refl; ended = λ z. (let n : m.pool.count ≡ 0 = z in let goal : m.pool.count - 1 ≡ 0 = omega (arith, n) in goal) }
+lower_static m PoolValue e = record { kind = refl; pool = refl; bound = refl; target = refl; side = refl; held = refl; ended = λ z. (let n : m.pool.count ≡ 0 = z in let goal : m.pool.count - 1 ≡ 0 = omega (arith, n) in goal) }
+lower_static m (OfJob t) e = record { kind = refl; pool = refl; bound = refl; target = refl; side = refl; held = refl; ended = λ z. (let n : m.pool.count ≡ 0 = z in let goal : m.pool.count - 1 ≡ 0 = omega (arith, n) in goal) }
 
 pub act_static : (h : Shape) (q : Party) (c : Counts) (m : Part) (x : Place) → IfSome (effect (act_of q x) h q c m) (Static m)
 act_static h (Worker a b) c m (ProbeWorking k) = search (rules, arith)
@@ -255,8 +277,12 @@ act_static h (Worker a b) c m (WakeUp k) = wake_keeps (latch_of k.target) Static
 act_static h (Worker a b) c m (SetLatch k) = set_keeps k.latch Static (λ v e. letter_static k.latch v e IsSet) m (letter k.latch m)
 act_static h (Worker a b) c m (RaiseCount n) = raise_static m
 act_static h (Worker a b) c m (LowerCount p s n) = lower_static m s _
+act_static h (Worker a b) c m (RaiseForAll n) = raise_all_static m n
+act_static h (Worker a b) c m (LowerForAll n) = lower_all_static m n _
 act_static h (Worker a b) c m _ = search (rules, arith)
 act_static h (Caller n) c m (SetLatch k) = set_keeps k.latch Static (λ v e. letter_static k.latch v e IsSet) m (letter k.latch m)
 act_static h (Caller n) c m (RaiseCount g) = raise_static m
+act_static h (Caller n) c m (RaiseForAll g) = raise_all_static m g
+act_static h (Caller n) c m (LowerForAll g) = lower_all_static m g _
 act_static h (Caller n) c m (LowerCount p s g) = lower_static m s _
 act_static h (Caller n) c m _ = search (rules, arith)

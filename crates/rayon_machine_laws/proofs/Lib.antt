@@ -49,7 +49,9 @@ pub mod ShareLowers
 pub mod ShareEvents
 pub mod ShareEnds
 pub mod Bares
+pub mod Bounds
 pub mod Returns
 pub mod Feeders
 pub mod Stocked
 pub mod Redeems
+pub mod Called

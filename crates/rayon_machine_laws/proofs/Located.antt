@@ -4,7 +4,7 @@ use Rattle.std.specs.Prelude.{ℕ, Bool, true, false, ◌&&◌, ◌+◌, ◌==�
 use Rattle.std.proofs.lemmas.Bool.{eqb-true, eq-eqb}
 use Rattle.rayon_machine_places.specs.declared.place.Party.{Party}
 use Rattle.rayon_machine_places.specs.declared.state.Whereabouts.{Whereabouts}
-use Rattle.rayon_machine_places.specs.declared.state.Whereabouts.TheVariants.{Nowhere, Made, InDeque, Injected, InFifo, Retaken, Running, Over, HandedBack, Spent}
+use Rattle.rayon_machine_places.specs.declared.state.Whereabouts.TheVariants.{Nowhere, Made, InDeque, Injected, InFifo, Retaken, Running, Over, HandedBack, Spent, InCast}
 use Rattle.rayon_machine_places.specs.declared.state.Job.{Job}
 use Rattle.rayon_machine_places.specs.Places.{same_party}
 use Rattle.rayon_machine_places.specs.World.{World}
@@ -39,6 +39,7 @@ loc_of (InDeque p i) n = if n == 0 then Some (Deck p i) else None
 loc_of (Injected p) n = if n == 0 then Some (Inj p) else None
 loc_of (Retaken q) n = if n == 0 then Some (Hand q) else None
 loc_of (InFifo p i) n = if n == 0 then Some (Line p i) else None
+loc_of (InCast p i) n = if n == 0 then Some (Cast p i) else None
 loc_of _ n = None
 
 abbrev pub loc_at : Job → Option Loc
@@ -106,7 +107,7 @@ same_loc_true (Inj p) (Work r) e = cc
 same_loc_true (Inj p) (Deck r j) e = cc
 same_loc_true (Inj p) (Cast r j) e = cc
 
-same_loc_refl : (a : Loc) → same_loc a a ≡ true
+pub same_loc_refl : (a : Loc) → same_loc a a ≡ true
 same_loc_refl (Hand q) = same_party_refl q
 same_loc_refl (Work q) = same_party_refl q
 same_loc_refl (Deck p i) = same_refl p i
@@ -146,11 +147,11 @@ pub and_false : (z : Bool) → (z && false) ≡ false
 and_false true = refl
 and_false false = refl
 
-comes_true : (l : Loc) (b : Option Loc) → comes l b true ≡ is_loc l b
+pub comes_true : (l : Loc) (b : Option Loc) → comes l b true ≡ is_loc l b
 comes_true l None = refl
 comes_true l (Some m) = ap one (and_true (same_loc l m))
 
-comes_false : (l : Loc) (b : Option Loc) → comes l b false ≡ 0
+pub comes_false : (l : Loc) (b : Option Loc) → comes l b false ≡ 0
 comes_false l None = refl
 comes_false l (Some m) = ap one (and_false (same_loc l m))
 
@@ -243,6 +244,7 @@ onward_same (Running q) b e = ap is_left e
 onward_same (InDeque p i) b e = ap is_left e
 onward_same (Injected p) b e = ap is_left e
 onward_same (InFifo p i) b e = ap is_past e
+onward_same (InCast p i) b e = ap is_left e
 onward_same (Retaken q) b e = ap is_past e
 onward_same (Over d) b e = e
 onward_same HandedBack b e = e
@@ -270,6 +272,7 @@ onward_loc (Running q) b n l e z = z
 onward_loc (InDeque p i) b n l e z = z
 onward_loc (Injected p) b n l e z = z
 onward_loc (InFifo p i) b n l e z = left_past b z
+onward_loc (InCast p i) b n l e z = z
 onward_loc (Retaken q) b n l e z = left_past b z
 onward_loc (Over d) b n l e z = cc
 onward_loc HandedBack b n l e z = cc
@@ -287,6 +290,7 @@ onward_left (Running q) b h z = h
 onward_left (InDeque p i) b h z = h
 onward_left (Injected p) b h z = h
 onward_left (InFifo p i) b h z = cc
+onward_left (InCast p i) b h z = h
 onward_left (Retaken q) b h z = cc
 
 -- what is no longer as its call has made it does not become so again
@@ -300,6 +304,7 @@ onward_past (Running q) b h z = left_past b h
 onward_past (InDeque p i) b h z = left_past b h
 onward_past (Injected p) b h z = left_past b h
 onward_past (InFifo p i) b h z = h
+onward_past (InCast p i) b h z = left_past b h
 onward_past (Retaken q) b h z = h
 
 -- nor is what was made lost later
@@ -313,6 +318,7 @@ onward_known (Running q) b h z = left_known b h
 onward_known (InDeque p i) b h z = left_known b h
 onward_known (Injected p) b h z = left_known b h
 onward_known (InFifo p i) b h z = past_known b h
+onward_known (InCast p i) b h z = left_known b h
 onward_known (Retaken q) b h z = past_known b h
 
 -- a party's hand
@@ -352,6 +358,11 @@ at_line (Retaken q) n p i e = by (n == 0) e
 at_line (InDeque r j) n p i e = by (n == 0) e
   where
     by : (b : Bool) → (if b then Some (Deck r j) else None) ≡ Some (Line p i) → InDeque r j ≡ InFifo p i
+    by true g = cc
+    by false g = cc
+at_line (InCast r j) n p i e = by (n == 0) e
+  where
+    by : (b : Bool) → (if b then Some (Cast r j) else None) ≡ Some (Line p i) → InCast r j ≡ InFifo p i
     by true g = cc
     by false g = cc
 at_line (Injected r) n p i e = by (n == 0) e
@@ -401,6 +412,11 @@ unbegun (InFifo p i) n l z e = by (n == 0) refl e
     by : (b : Bool) → (n == 0) ≡ b → (if b then Some (Line p i) else None) ≡ Some l → n ≡ 0
     by true f g = eqb-true n 0 f
     by false f g = cc
+unbegun (InCast p i) n l z e = by (n == 0) refl e
+  where
+    by : (b : Bool) → (n == 0) ≡ b → (if b then Some (Cast p i) else None) ≡ Some l → n ≡ 0
+    by true f g = eqb-true n 0 f
+    by false f g = cc
 unbegun (Running q) n l z e = by (n == 0) (n == 1) refl e
   where
     by : (b d : Bool) → (n == 0) ≡ b → (if b then Some (Hand q) else (if d then Some (Work q) else None)) ≡ Some l → n ≡ 0
@@ -439,6 +455,11 @@ at_work (InFifo p i) n q e = by (n == 0) e
     by : (b : Bool) → (if b then Some (Line p i) else None) ≡ Some (Work q) → (n ≡ 1) × (InFifo p i ≡ Running q)
     by true g = cc
     by false g = cc
+at_work (InCast p i) n q e = by (n == 0) e
+  where
+    by : (b : Bool) → (if b then Some (Cast p i) else None) ≡ Some (Work q) → (n ≡ 1) × (InCast p i ≡ Running q)
+    by true g = cc
+    by false g = cc
 at_work (Running r) n q e = by (n == 0) (n == 1) refl e
   where
     by : (b d : Bool) → (n == 1) ≡ d → (if b then Some (Hand r) else (if d then Some (Work r) else None)) ≡ Some (Work q) → (n ≡ 1) × (Running r ≡ Running q)
@@ -449,38 +470,3 @@ at_work (Over d) n q e = cc
 at_work HandedBack n q e = cc
 at_work Spent n q e = cc
 at_work Nowhere n q e = cc
-
--- no record names a broadcast list
-pub no_cast : (p i : ℕ) (v : Whereabouts) (n : ℕ) → is_loc (Cast p i) (loc_of v n) ≡ 0
-no_cast p i (Made q) n = by (n == 0)
-  where
-    by : (b : Bool) → is_loc (Cast p i) (if b then Some (Hand q) else None) ≡ 0
-    by true = refl
-    by false = refl
-no_cast p i (Running q) n = by (n == 0) (n == 1)
-  where
-    by : (b d : Bool) → is_loc (Cast p i) (if b then Some (Hand q) else (if d then Some (Work q) else None)) ≡ 0
-    by true d = refl
-    by false true = refl
-    by false false = refl
-no_cast p i (Retaken q) n = by (n == 0)
-  where
-    by : (b : Bool) → is_loc (Cast p i) (if b then Some (Hand q) else None) ≡ 0
-    by true = refl
-    by false = refl
-no_cast p i (InDeque r j) n = by (n == 0)
-  where
-    by : (b : Bool) → is_loc (Cast p i) (if b then Some (Deck r j) else None) ≡ 0
-    by true = refl
-    by false = refl
-no_cast p i (Injected r) n = by (n == 0)
-  where
-    by : (b : Bool) → is_loc (Cast p i) (if b then Some (Inj r) else None) ≡ 0
-    by true = refl
-    by false = refl
-no_cast p i (InFifo r j) n = by (n == 0)
-  where
-    by : (b : Bool) → is_loc (Cast p i) (if b then Some (Line r j) else None) ≡ 0
-    by true = refl
-    by false = refl
-no_cast p i _ n = refl

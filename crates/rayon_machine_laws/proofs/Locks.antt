@@ -9,7 +9,7 @@ use Rattle.rayon_machine_places.specs.declared.place.Latch.TheVariants.{Terminat
 use Rattle.rayon_machine_places.specs.declared.place.Place.{Place}
 use Rattle.rayon_machine_places.specs.declared.place.Place.TheVariants.{ProbeWorking, GetSleepy, LockOwn, FallAsleep, BlockSelf, RelockOwn, WakeUp, UnlockOwn, Run, LockToWake, WakeWorker, UnlockWoken, SetLatch, LockToSettle, WakeSettled, UnlockSettled}
 use Rattle.rayon_machine_places.specs.declared.place.Move.{Move}
-use Rattle.rayon_machine_places.specs.declared.place.Move.TheVariants.{Stay, Enter, StartRun, Back, HandBack, Discard, HandIn}
+use Rattle.rayon_machine_places.specs.declared.place.Move.TheVariants.{Stay, Enter, StartRun, Back, HandBack, Discard, HandIn, Mark, HandAllBack}
 use Rattle.rayon_machine_places.specs.declared.act.Act.{Act}
 use Rattle.rayon_machine_places.specs.declared.act.Act.TheVariants.{Lock, Unlock, Wake, Set}
 use Rattle.rayon_machine_places.specs.declared.act.Seen.{Seen}
@@ -100,7 +100,7 @@ if_taken : {A : Type 0} (b : Bool) (P : A → Type 0) {v : A} → P v → IfSome
 if_taken true P h = h
 if_taken false P h = tt
 
-if_both : {A : Type 0} (b : Bool) (P : A → Type 0) {v u : A} → P v → P u → IfSome (if b then Some v else Some u) P
+pub if_both : {A : Type 0} (b : Bool) (P : A → Type 0) {v u : A} → P v → P u → IfSome (if b then Some v else Some u) P
 if_both true P h k = h
 if_both false P h k = k
 
@@ -108,11 +108,13 @@ if_both false P h k = k
 pub tops_map : (P Q : Place → Type 0) → ((y : Place) → P y → Q y) → (g : Move) → Tops P g → Tops Q g
 tops_map P Q f (Stay y) t = f y t
 tops_map P Q f (HandIn y token) t = f y t
+tops_map P Q f (Mark y b9 m9) t = f y t
 tops_map P Q f (Enter x y) t = f y t
 tops_map P Q f (StartRun x n) t = f (Run n Direct) t
 tops_map P Q f Back t = tt
 tops_map P Q f (HandBack n) t = tt
 tops_map P Q f (Discard n) t = tt
+tops_map P Q f (HandAllBack b9) t = tt
 
 abbrev is_locking : Place → Bool
 is_locking (LockToWake k) = true

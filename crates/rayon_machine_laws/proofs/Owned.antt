@@ -1,5 +1,6 @@
 -- in every world of every run what a party's places name are its own calls, and who sets a call's latch sets it for its
 -- owner
+use Rattle.rayon_machine_places.specs.declared.place.Pieces.{Pieces}
 use Rattle.std.proofs.Common.{rules, arith, refl, sym, ◌∙◌, ap, subst, inl, inr}
 use Rattle.std.specs.Prelude.{ℕ, Bool, true, false, ◌&&◌, ◌+◌, ◌-◌, ◌==◌, ◌<◌, ◌≤◌, nat_lt, if◌then◌else◌, Option, Some, None, List, [], ◌∷◌, ◌≡◌, ◌⊎◌, IfSome, ⊤}
 use Rattle.std.proofs.lemmas.Bool.{eqb-true, ltb-true, ltb-false}
@@ -18,23 +19,23 @@ use Rattle.rayon_machine_places.specs.declared.place.Then.TheVariants.{Resume}
 use Rattle.rayon_machine_places.specs.declared.place.Taken.{Taken}
 use Rattle.rayon_machine_places.specs.declared.place.Taken.TheVariants.{Plain, Token}
 use Rattle.rayon_machine_places.specs.declared.place.Place.{Place}
-use Rattle.rayon_machine_places.specs.declared.place.Place.TheVariants.{ProbeWorking, PickVictim, StealFrom, PopInjected, YieldPop, YieldPick, YieldSteal, YieldPopInjected, LocalPop, BeginTask, Run, RaiseCount, GrowCall, PushJob, LowerCount, SetLatch, FirstSide, SecondSide, AtOnce, Free, Stopped, AddToFifo, PushToken, TakeFromFifo}
+use Rattle.rayon_machine_places.specs.declared.place.Place.TheVariants.{ProbeWorking, PickVictim, StealFrom, PopInjected, YieldPop, YieldPick, YieldSteal, YieldPopInjected, LocalPop, BeginTask, Run, RaiseCount, GrowCall, PushJob, LowerCount, SetLatch, FirstSide, SecondSide, AtOnce, Free, Stopped, AddToFifo, PushToken, TakeFromFifo, RaiseForAll, PushForAll, LowerForAll}
 use Rattle.rayon_machine_places.specs.declared.place.Move.{Move}
-use Rattle.rayon_machine_places.specs.declared.place.Move.TheVariants.{Stay, Enter, StartRun, Back, HandBack, Discard, HandIn}
+use Rattle.rayon_machine_places.specs.declared.place.Move.TheVariants.{Stay, Enter, StartRun, Back, HandBack, Discard, HandIn, Mark, HandAllBack}
 use Rattle.rayon_machine_places.specs.declared.act.Act.TheVariants.{Set}
 use Rattle.rayon_machine_places.specs.declared.act.Seen.{Seen}
 use Rattle.rayon_machine_places.specs.declared.event.Event.{Event}
-use Rattle.rayon_machine_places.specs.declared.event.Event.TheVariants.{Go, From, Refuse, Miss, End, Spawn, Fifo, Install, Join, Yield, YieldLocal, EndPool}
+use Rattle.rayon_machine_places.specs.declared.event.Event.TheVariants.{Go, From, Refuse, Miss, End, Spawn, Fifo, Install, Join, Yield, YieldLocal, EndPool, Cast}
 use Rattle.rayon_machine_places.specs.declared.state.Whereabouts.TheVariants.{Over}
 use Rattle.rayon_machine_places.specs.declared.shape.PoolShape.{PoolShape}
 use Rattle.rayon_machine_places.specs.declared.place.Wait.{Wait}
 use Rattle.rayon_machine_places.specs.declared.state.Job.{Job}
 use Rattle.rayon_machine_places.specs.Places.{same_party, own_pool, own_index, is_member, fresh, undo, next_victim, not_self, act_of, next_steal, next_yield, goes_on, is_free, after_begin}
 use Rattle.rayon_machine_places.specs.World.{Shape, Stack, World, Counts, Part, target_pool, target_worker, target_call, at_job, effect, or_none, head_of}
-use Rattle.rayon_machine_places.specs.Steps.{put, put_stack, after_move, with_stack, after_choice, after_refusal, can_miss, after_miss, after_close, after_end, after_call, is_pool, new_job, new_call, after_spawn, after_send, after_install, after_join, after_yield, after_end_pool, step, part_of, after_feed, after_fifo}
+use Rattle.rayon_machine_places.specs.Steps.{put, put_stack, after_move, with_stack, after_choice, after_refusal, can_miss, after_miss, after_close, after_end, after_call, is_pool, new_job, new_call, after_spawn, after_send, after_install, after_join, after_yield, after_end_pool, step, part_of, after_feed, after_fifo, after_cast, is_piece, new_piece, put_pieces}
 use Rattle.rayon_machine_places.specs.Runs.{first_place, start}
 use Rattle.rayon_machine_laws.proofs.Calm.{part_at, counts_seen, next_at}
-use Rattle.rayon_machine_laws.proofs.Frame.{same_party_true, if_some_and, if_some_map, if_cond, acted_keeps, either, put_same, put_new, put_old, after_kind, out_sees, fifo_cases}
+use Rattle.rayon_machine_laws.proofs.Frame.{same_party_true, if_some_and, if_some_map, if_cond, acted_keeps, either, put_same, put_new, put_old, after_kind, out_sees, fifo_cases, piece_old, piece_out}
 use Rattle.rayon_machine_laws.proofs.Owners.{own_call, kind_call, sets_for, Both, NamesFrom, plan_is, names_on}
 use Rattle.rayon_machine_laws.proofs.Ties.{job_at, shape_at, outcome, result}
 
@@ -92,11 +93,13 @@ from_names w q x y f n = record { own = λ c e. n.own c (f.0 c e); sets = λ c p
 both_map : (P Q : Place → Type 0) → ((y : Place) → P y → Q y) → (g : Move) → Both P g → Both Q g
 both_map P Q f (Stay y) t = f y t
 both_map P Q f (HandIn y token) t = f y t
+both_map P Q f (Mark y b9 m9) t = f y t
 both_map P Q f (Enter x y) t = (f x (t.0), f y (t.1))
 both_map P Q f (StartRun x n) t = (f x (t.0), f (Run n Direct) (t.1))
 both_map P Q f Back t = tt
 both_map P Q f (HandBack n) t = tt
 both_map P Q f (Discard n) t = tt
+both_map P Q f (HandAllBack b9) t = tt
 
 nameless : (w : World) (q : Party) (x : Place) → own_call x ≡ None → sets_for x ≡ None → Names w q x
 nameless w q x a b = record { own = λ c e. absurd (cc); sets = λ c p e. absurd (cc) }
@@ -104,14 +107,17 @@ nameless w q x a b = record { own = λ c e. absurd (cc); sets = λ c p e. absurd
 land_names : (w : World) (q : Party) (g : Move) (fs : List Place) → Both (Names w q) g → AllNames w q fs → StackNames w q (after_move g fs)
 land_names w q (Stay y) fs t a = record { top = t; below = a }
 land_names w q (HandIn y token) fs t a = record { top = t; below = a }
+land_names w q (Mark y b9 m9) fs t a = record { top = t; below = a }
 land_names w q (Enter f y) fs t a = record { top = t.1; below = (t.0, a) }
 land_names w q (StartRun f n) fs t a = record { top = t.1; below = (t.0, a) }
 land_names w q Back [] t a = record { top = nameless w q Stopped refl refl; below = tt }
 land_names w q Back (f ∷ fs) t a = record { top = a.0; below = a.1 }
 land_names w q (HandBack n) [] t a = record { top = nameless w q Stopped refl refl; below = tt }
 land_names w q (Discard n) [] t a = record { top = nameless w q Stopped refl refl; below = tt }
+land_names w q (HandAllBack b9) [] t a = record { top = nameless w q Stopped refl refl; below = tt }
 land_names w q (HandBack n) (f ∷ fs) t a = record { top = a.0; below = a.1 }
 land_names w q (Discard n) (f ∷ fs) t a = record { top = a.0; below = a.1 }
+land_names w q (HandAllBack b9) (f ∷ fs) t a = record { top = a.0; below = a.1 }
 
 -- an act leaves a call's job and a job's kind
 abbrev Fixed : Part → Seen × Part → Type 0
@@ -259,6 +265,7 @@ refuse_bears : (w : World) (q : Party) (x : Place) (fs : List Place) → Owned w
 refuse_bears w q (GrowCall n) fs ow e = turn_bears w q (GrowCall n) (undo n) fs ow e (λ c z. plan_is n c z, λ c p z. z)
 refuse_bears w q (AddToFifo f) fs ow e = turn_bears w q (AddToFifo f) (undo (Feed f)) fs ow e (λ c z. z, λ c p z. z)
 refuse_bears w q (PushToken f v) fs ow e = turn_bears w q (PushToken f v) (TakeFromFifo f) fs ow e (λ c z. z, λ c p z. z)
+refuse_bears w q (PushForAll b) fs ow e = turn_bears w q (PushForAll b) (LowerForAll b) fs ow e (λ c z. z, λ c p z. z)
 refuse_bears w q (PushJob n z) fs ow e = turn_bears w q (PushJob n z) (undo n) fs ow e (λ c z. z, λ c p z. z)
 refuse_bears w q _ fs ow e = tt
 
@@ -372,6 +379,35 @@ feed_bears w p i ow = record {
 
 fifo_bears : (w : World) (q : Party) (p : ℕ) → Owned w → IfSome (after_fifo w q p (w.stack q)) (Bears w)
 fifo_bears w q p ow = fifo_cases (Bears w) w q p (spawn_bears w q p ow) (λ i free. feed_bears w p i ow)
+
+cast_bears : (w : World) (q : Party) (p : ℕ) → Owned w → IfSome (after_cast w q p (w.stack q)) (Bears w)
+cast_bears w q p ow = if_cond (Bears w) (is_free ((w.stack q).top) && is_pool w.shape p) _ (λ f.
+    let y : Place = RaiseForAll b in
+    record {
+      party = q;
+      to = after_call (w.stack q) y;
+      stack = λ r. refl;
+      grown = g;
+      kinds = kinds;
+      called = λ c l. (let z : (w.call c).job < w.jobs = ow.called c l in omega (arith, z));
+      named = called_names w u q y ow g (nameless u q y refl refl);
+    })
+  where
+    b : Pieces
+    b = record { pool = p; first = w.jobs; workers = (w.shape.pool p).workers }
+
+    u : World
+    u = record w { stack = put_stack w.stack q (after_call (w.stack q) (RaiseForAll b)); job = put_pieces b (λ i j. new_piece q p i) w.job; jobs = w.jobs + b.workers }
+
+    g : Grown w u
+    g = record { calls = omega arith; call = λ c l. refl; kind = λ m l. ap (λ j. j.kind) (piece_old b (λ i j. new_piece q p i) w.job m (piece_out b m l)) }
+
+    kinds : (m c : ℕ) (o : Party) → (u.job m).kind ≡ Stored c o → Mine u o c
+    kinds m c o = at (is_piece b m)
+      where
+        at : (z : Bool) → (if z then new_piece q p (m - b.first) else w.job m).kind ≡ Stored c o → Mine u o c
+        at true h = absurd (cc)
+        at false h = grown_mine w u ow g o c (ow.kinds m c o h)
 
 here_bears : (w : World) (q : Party) (p : ℕ) → Owned w → Bears w (after_send w q p (w.stack q) true)
 here_bears w q p ow =
@@ -535,6 +571,7 @@ step_owned w (Miss q) ow = if_some_map (Bears w) Owned (λ u m. bears_owned w u 
 step_owned w (End q d) ow = if_some_map (Bears w) Owned (λ u m. bears_owned w u ow m) _ (end_bears w q d ((w.stack q).top) ((w.stack q).below) ow refl)
 step_owned w (Spawn q p) ow = if_some_map (Bears w) Owned (λ u m. bears_owned w u ow m) _ (spawn_bears w q p ow)
 step_owned w (Fifo q p) ow = if_some_map (Bears w) Owned (λ u m. bears_owned w u ow m) _ (fifo_bears w q p ow)
+step_owned w (Cast q p) ow = if_some_map (Bears w) Owned (λ u m. bears_owned w u ow m) _ (cast_bears w q p ow)
 step_owned w (Install q p) ow = if_some_map (Bears w) Owned (λ u m. bears_owned w u ow m) _ (install_bears w q p ow)
 step_owned w (Join q) ow = if_some_map (Bears w) Owned (λ u m. bears_owned w u ow m) _ (join_bears w q ow)
 step_owned w (Yield q) ow = if_some_map (Bears w) Owned (λ u m. bears_owned w u ow m) _ (yield_bears w q YieldPop ow refl refl)

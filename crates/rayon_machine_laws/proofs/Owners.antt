@@ -16,13 +16,13 @@ use Rattle.rayon_machine_places.specs.declared.place.Plan.{Plan}
 use Rattle.rayon_machine_places.specs.declared.place.Plan.TheVariants.{Detach, Here, Send, Fork, Feed}
 use Rattle.rayon_machine_places.specs.declared.place.Share.{Share}
 use Rattle.rayon_machine_places.specs.declared.place.Then.{Then}
-use Rattle.rayon_machine_places.specs.declared.place.Then.TheVariants.{BeginFound, LeaveWait, Resume, Await, RunFirst, Answers, Missing, Ran, GiveBack}
+use Rattle.rayon_machine_places.specs.declared.place.Then.TheVariants.{BeginFound, LeaveWait, Resume, Await, RunFirst, Answers, Missing, Ran, GiveBack, Called}
 use Rattle.rayon_machine_places.specs.declared.place.Feeding.{Feeding}
 use Rattle.rayon_machine_places.specs.declared.place.Taken.{Taken}
 use Rattle.rayon_machine_places.specs.declared.place.Place.{Place}
 use Rattle.rayon_machine_places.specs.declared.place.Place.TheVariants.{ProbeWorking, PopWorking, TakeCastWorking, BecomeInactive, ProbeIdle, PopIdle, TakeCastIdle, PickVictim, StealFrom, PopInjected, AnnounceSelf, GetSleepy, LockOwn, FallAsleep, LoadCounters, AddSleeping, LookAtCast, LookAtInjector, BlockSelf, RelockOwn, UndoSleeping, WakeUp, UnlockOwn, LeaveSearch, JoinProbe, JoinPop, JoinTakeCast, BeginTask, Run, RaiseCount, GrowCall, LookQueue, PushJob, TellNews, LockToWake, WakeWorker, UnlockWoken, WaitForLock, TakeResult, LowerCount, StoreResult, SetLatch, LockToSettle, WakeSettled, UnlockSettled, SetLockLatch, FirstSide, SecondSide, AddToFifo, TakeFromFifo}
 use Rattle.rayon_machine_places.specs.declared.place.Move.{Move}
-use Rattle.rayon_machine_places.specs.declared.place.Move.TheVariants.{Stay, Enter, StartRun, Back, HandBack, Discard, HandIn}
+use Rattle.rayon_machine_places.specs.declared.place.Move.TheVariants.{Stay, Enter, StartRun, Back, HandBack, Discard, HandIn, Mark, HandAllBack}
 use Rattle.rayon_machine_places.specs.declared.act.Seen.{Seen}
 use Rattle.rayon_machine_places.specs.declared.act.Seen.TheVariants.{Done, Yes, Task, Wakes}
 use Rattle.rayon_machine_places.specs.declared.shape.PoolShape.{PoolShape}
@@ -48,6 +48,7 @@ abbrev pub then_number : Then → Option ℕ
 then_number (BeginFound g t) = target_number g
 then_number (LeaveWait g) = target_number g
 then_number Resume = None
+then_number Called = None
 then_number (Await o) = Some o.number
 then_number (RunFirst o a) = Some o.number
 then_number (Answers o f e) = Some o.number
@@ -131,11 +132,13 @@ sets_for _ = None
 abbrev pub Both : (Place → Type 0) → Move → Type 0
 Both R (Stay y) = R y
 Both R (HandIn y token) = R y
+Both R (Mark y b9 m9) = R y
 Both R (Enter f y) = R f × R y
 Both R (StartRun f t) = R f × R (Run t Direct)
 Both R Back = ⊤
 Both R (HandBack n) = ⊤
 Both R (Discard n) = ⊤
+Both R (HandAllBack b9) = ⊤
 
 -- a place names no call but those that another names
 abbrev pub OwnFrom : Option ℕ → Place → Type 0
@@ -162,6 +165,7 @@ finish_names o (Worker i j) (Await n) = (λ c e. e, λ c p e. absurd (cc))
 finish_names o (Caller m) (Await n) = (λ c e. e, λ c p e. absurd (cc))
 finish_names o q (RunFirst n a) = ((λ c e. e, λ c p e. absurd (cc)), (λ c e. absurd (cc), λ c p e. absurd (cc)))
 finish_names o q Resume = tt
+finish_names o q Called = tt
 finish_names o q (Answers n f e) = tt
 finish_names o q (Missing n f) = tt
 finish_names o q (Ran t e) = tt

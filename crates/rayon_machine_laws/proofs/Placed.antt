@@ -12,7 +12,7 @@ use Rattle.rayon_machine_places.specs.declared.place.Feeding.{Feeding}
 use Rattle.rayon_machine_places.specs.declared.place.Taken.{Taken}
 use Rattle.rayon_machine_places.specs.declared.place.Taken.TheVariants.{Plain, Token}
 use Rattle.rayon_machine_places.specs.declared.place.Place.{Place}
-use Rattle.rayon_machine_places.specs.declared.place.Place.TheVariants.{PopWorking, TakeCastWorking, PopIdle, TakeCastIdle, StealFrom, PopInjected, JoinPop, JoinTakeCast, YieldPop, YieldTakeCast, YieldSteal, YieldPopInjected, LocalPop, LocalTakeCast, BeginTask, BeginHere, Run, PushJob, AddToFifo, LookForToken, PushToken, TakeFromFifo, TellNews}
+use Rattle.rayon_machine_places.specs.declared.place.Place.TheVariants.{PopWorking, TakeCastWorking, PopIdle, TakeCastIdle, StealFrom, PopInjected, JoinPop, JoinTakeCast, YieldPop, YieldTakeCast, YieldSteal, YieldPopInjected, LocalPop, LocalTakeCast, BeginTask, BeginHere, Run, PushJob, AddToFifo, LookForToken, PushToken, TakeFromFifo, TellNews, PushForAll}
 use Rattle.rayon_machine_places.specs.declared.place.Move.{Move}
 use Rattle.rayon_machine_places.specs.declared.place.Move.TheVariants.{Stay}
 use Rattle.rayon_machine_places.specs.declared.act.Act.{Act}
@@ -31,7 +31,7 @@ use Rattle.rayon_machine_laws.proofs.Ties.{job_at, shape_at, outcome}
 use Rattle.rayon_machine_laws.proofs.Hands.{hand, held_in, held, worked, paused, hand_move, run_move, land_held, land_worked, got, outs, starts, given, table, run_table}
 use Rattle.rayon_machine_laws.proofs.Feeds.{fed_in, all_fed}
 use Rattle.rayon_machine_laws.proofs.Lists.{moves_no_job, SameJobs, quiet_same, times_first, times_own, times_push, times_drop}
-use Rattle.rayon_machine_laws.proofs.Located.{Loc, same_loc, loc_of, loc_at, is_loc, weight, JobsPlaced, comes, Shifts, was_at, shift_ok, fits, JobsFit, IsOnward, onward_same, onward_loc, is_hand, in_hand, made_hand, at_line, is_work, unbegun, no_cast, Hand, Work, Deck, Cast, Inj, Line}
+use Rattle.rayon_machine_laws.proofs.Located.{Loc, same_loc, loc_of, loc_at, is_loc, weight, JobsPlaced, comes, Shifts, was_at, shift_ok, fits, JobsFit, IsOnward, onward_same, onward_loc, is_hand, in_hand, made_hand, at_line, is_work, unbegun, Hand, Work, Deck, Cast, Inj, Line, where_is, and_true, and_false, comes_true, comes_false, same_loc_refl}
 
 -- what a step keeps of the jobs: each in its one place, begun as often as fits there, none gone back; and what is as
 -- its call has made it stays so while it is in hand
@@ -61,7 +61,7 @@ midway w q s p i c n r = record w {
 }
 
 -- the weights halfway through an act, from those of the party's own stack and of the part that it touched
-weights_mid : (w : World) (q : Party) (k : Stack) (p0 i0 c0 n0 : ℕ) (r : Seen × Part) (A B : Loc → ℕ → ℕ) → w.stack q ≡ k → ((t : ℕ) → held t (paused (next_of (w.shape.pool p0) q (k.top) (r.0)) k.below) + A (Hand q) t ≡ held t k + B (Hand q) t) → ((t : ℕ) → worked t (paused (next_of (w.shape.pool p0) q (k.top) (r.0)) k.below) + A (Work q) t ≡ worked t k + B (Work q) t) → ((t : ℕ) → times t (r.1.seat.own) + A (Deck p0 i0) t ≡ times t ((w.seat p0 i0).own) + B (Deck p0 i0) t) → ((t : ℕ) → times t (r.1.seat.fifo) + A (Line p0 i0) t ≡ times t ((w.seat p0 i0).fifo) + B (Line p0 i0) t) → ((t : ℕ) → times t (r.1.pool.injector) + A (Inj p0) t ≡ times t ((w.pool p0).injector) + B (Inj p0) t) → ((i t : ℕ) → times t (r.1.pool.casts i) ≡ times t ((w.pool p0).casts i)) → ((g : Party) (t : ℕ) → same_party g q ≡ false → A (Hand g) t ≡ B (Hand g) t) → ((g : Party) (t : ℕ) → same_party g q ≡ false → A (Work g) t ≡ B (Work g) t) → ((p i t : ℕ) → ((p == p0) && (i == i0)) ≡ false → A (Deck p i) t ≡ B (Deck p i) t) → ((p i t : ℕ) → ((p == p0) && (i == i0)) ≡ false → A (Line p i) t ≡ B (Line p i) t) → ((p t : ℕ) → (p == p0) ≡ false → A (Inj p) t ≡ B (Inj p) t) → ((p i t : ℕ) → A (Cast p i) t ≡ B (Cast p i) t) → (l : Loc) (t : ℕ) → weight (midway w q k p0 i0 c0 n0 r) l t + A l t ≡ weight w l t + B l t
+weights_mid : (w : World) (q : Party) (k : Stack) (p0 i0 c0 n0 : ℕ) (r : Seen × Part) (A B : Loc → ℕ → ℕ) → w.stack q ≡ k → ((t : ℕ) → held t (paused (next_of (w.shape.pool p0) q (k.top) (r.0)) k.below) + A (Hand q) t ≡ held t k + B (Hand q) t) → ((t : ℕ) → worked t (paused (next_of (w.shape.pool p0) q (k.top) (r.0)) k.below) + A (Work q) t ≡ worked t k + B (Work q) t) → ((t : ℕ) → times t (r.1.seat.own) + A (Deck p0 i0) t ≡ times t ((w.seat p0 i0).own) + B (Deck p0 i0) t) → ((t : ℕ) → times t (r.1.seat.fifo) + A (Line p0 i0) t ≡ times t ((w.seat p0 i0).fifo) + B (Line p0 i0) t) → ((t : ℕ) → times t (r.1.pool.injector) + A (Inj p0) t ≡ times t ((w.pool p0).injector) + B (Inj p0) t) → ((i t : ℕ) → times t (r.1.pool.casts i) + A (Cast p0 i) t ≡ times t ((w.pool p0).casts i) + B (Cast p0 i) t) → ((g : Party) (t : ℕ) → same_party g q ≡ false → A (Hand g) t ≡ B (Hand g) t) → ((g : Party) (t : ℕ) → same_party g q ≡ false → A (Work g) t ≡ B (Work g) t) → ((p i t : ℕ) → ((p == p0) && (i == i0)) ≡ false → A (Deck p i) t ≡ B (Deck p i) t) → ((p i t : ℕ) → ((p == p0) && (i == i0)) ≡ false → A (Line p i) t ≡ B (Line p i) t) → ((p t : ℕ) → (p == p0) ≡ false → A (Inj p) t ≡ B (Inj p) t) → ((p i t : ℕ) → (p == p0) ≡ false → A (Cast p i) t ≡ B (Cast p i) t) → (l : Loc) (t : ℕ) → weight (midway w q k p0 i0 c0 n0 r) l t + A l t ≡ weight w l t + B l t
 weights_mid w q k p0 i0 c0 n0 r A B e hq hw hs hf hp hc oq ow os of op oc (Hand g) t = by (same_party g q) refl
   where
     by : (z : Bool) → same_party g q ≡ z → held t (if z then paused (next_of (w.shape.pool p0) q (k.top) (r.0)) k.below else w.stack g) + A (Hand g) t ≡ held t (w.stack g) + B (Hand g) t
@@ -91,11 +91,11 @@ weights_mid w q k p0 i0 c0 n0 r A B e hq hw hs hf hp hc oq ow os of op oc (Inj p
     by : (z : Bool) → (p == p0) ≡ z → times t ((if z then r.1.pool else w.pool p).injector) + A (Inj p) t ≡ times t ((w.pool p).injector) + B (Inj p) t
     by true z = subst (λ p. times t (r.1.pool.injector) + A (Inj p) t ≡ times t ((w.pool p).injector) + B (Inj p) t) (sym (eqb-true p p0 z)) (hp t)
     by false z = let o : A (Inj p) t ≡ B (Inj p) t = op p t z in omega (arith, o)
-weights_mid w q k p0 i0 c0 n0 r A B e hq hw hs hf hp hc oq ow os of op oc (Cast p i) t = let o : A (Cast p i) t ≡ B (Cast p i) t = oc p i t in let m : times t ((if p == p0 then r.1.pool else w.pool p).casts i) ≡ times t ((w.pool p).casts i) = by (p == p0) refl in omega (arith, o, m)
+weights_mid w q k p0 i0 c0 n0 r A B e hq hw hs hf hp hc oq ow os of op oc (Cast p i) t = by (p == p0) refl
   where
-    by : (z : Bool) → (p == p0) ≡ z → times t ((if z then r.1.pool else w.pool p).casts i) ≡ times t ((w.pool p).casts i)
-    by true z = subst (λ p. times t (r.1.pool.casts i) ≡ times t ((w.pool p).casts i)) (sym (eqb-true p p0 z)) (hc i t)
-    by false z = omega arith
+    by : (z : Bool) → (p == p0) ≡ z → times t ((if z then r.1.pool else w.pool p).casts i) + A (Cast p i) t ≡ times t ((w.pool p).casts i) + B (Cast p i) t
+    by true z = subst (λ p. times t (r.1.pool.casts i) + A (Cast p i) t ≡ times t ((w.pool p).casts i) + B (Cast p i) t) (sym (eqb-true p p0 z)) (hc i t)
+    by false z = let o : A (Cast p i) t ≡ B (Cast p i) t = oc p i t z in omega (arith, o)
 
 -- the record of a job where one is put anew
 pub job_new : (w : World) (u : ℕ) (j : Job) → put w.job u j u ≡ j
@@ -123,7 +123,7 @@ same_ok w q k p0 i0 c0 n0 r e own fifo casts inj at runs less run ok = record {
       (λ t. let a : times t (r.1.seat.fifo) ≡ times t ((w.seat p0 i0).fifo) = ap (times t) fifo in omega (arith, a))
       (λ t. let a : times t (r.1.pool.injector) ≡ times t ((w.pool p0).injector) = ap (times t) inj in omega (arith, a))
       (λ i t. let a : times t (r.1.pool.casts i) ≡ times t ((w.pool p0).casts i) = ap (λ f. times t (f i)) casts in omega (arith, a))
-      (λ g t z. omega arith) (λ g t z. omega arith) (λ p i t z. omega arith) (λ p i t z. omega arith) (λ p t z. omega arith) (λ p i t. omega arith) l t in
+      (λ g t z. omega arith) (λ g t z. omega arith) (λ p i t z. omega arith) (λ p i t z. omega arith) (λ p t z. omega arith) (λ p i t z. omega arith) l t in
       let o : weight w l t ≡ is_loc l (loc_at (w.job t)) = (ok.placed) l t in
       let v : is_loc l (loc_of ((put w.job n0 (r.1.job) t).at) ((put w.job n0 (r.1.job) t).runs)) ≡ is_loc l (loc_at (w.job t)) = ap (λ x. is_loc l (loc_of x ((put w.job n0 (r.1.job) t).runs))) (where_at t) ∙ ap (λ x. is_loc l (loc_of ((w.job t).at) x)) (how_often t) in
       omega (arith, f, o, v);
@@ -178,6 +178,56 @@ gone_ok w u n j a b d s now rest one_hand step ok = record {
     made_by : (t : ℕ) (q : Party) → (w.job t).at ≡ Made q → in_hand (loc_at (u.job t)) ≡ true → (z : Bool) → (t == n) ≡ z → (u.job t).at ≡ (w.job t).at
     made_by t q m y false z = ap (λ x. x.at) (rest t z)
     made_by t q m y true z = absurd (let i : t ≡ n = eqb-true t n z in let f : in_hand b ≡ false = not_hand (from_hand q (ap (λ m. (w.job m).at) (sym i) ∙ m)) in let g : in_hand (loc_at (u.job t)) ≡ in_hand b = ap (λ m. in_hand (loc_at (u.job m))) i ∙ ap (λ x. in_hand (loc_at x)) now ∙ ap in_hand (good.0) in cc)
+
+-- jobs that go together from one place to others, if to any: what their new records say fits
+pub group_ok : (w u : World) (S : ℕ → Bool) (a : Loc) (b : ℕ → Option Loc) → ((t : ℕ) → comes a (b t) true ≡ 0) → ((l : Loc) (t : ℕ) → weight u l t + one (same_loc l a && S t) ≡ weight w l t + comes l (b t) (S t)) → ((t : ℕ) → S t ≡ false → (loc_at (u.job t) ≡ loc_at (w.job t)) × ((u.job t).at ≡ (w.job t).at) × ((u.job t).runs ≡ (w.job t).runs)) → ((t : ℕ) → (is_hand a && in_hand (b t)) ≡ false) → ((t : ℕ) → S t ≡ true → loc_at (w.job t) ≡ Some a → (loc_at (u.job t) ≡ b t) × fits ((u.job t).at) ((u.job t).runs) × IsOnward (w.job t).at (u.job t).at) → JobsOk w → Kept w u
+group_ok w u S a b d s rest one_hand step ok = record {
+  placed = λ l t. placed l t (S t) refl;
+  fit = λ t. fit t (S t) refl;
+  onward = λ t. onward t (S t) refl;
+  made = λ t q m y. made t q m y (S t) refl;
+}
+  where
+    was : (t : ℕ) → S t ≡ true → loc_at (w.job t) ≡ Some a
+    was t z = where_is a (loc_at (w.job t)) (
+        let k : weight u a t + one (same_loc a a && S t) ≡ weight w a t + comes a (b t) (S t) = s a t in
+        let k2 : weight u a t + one (same_loc a a && true) ≡ weight w a t + comes a (b t) true = subst (λ y. weight u a t + one (same_loc a a && y) ≡ weight w a t + comes a (b t) y) z k in
+        let x : one (same_loc a a && true) ≡ 1 = ap one (and_true (same_loc a a) ∙ same_loc_refl a) in
+        let c : comes a (b t) true ≡ 0 = d t in
+        let o : weight w a t ≡ is_loc a (loc_at (w.job t)) = (ok.placed) a t in omega (arith, k2, x, c, o))
+
+    good : (t : ℕ) → S t ≡ true → (loc_at (u.job t) ≡ b t) × fits ((u.job t).at) ((u.job t).runs) × IsOnward (w.job t).at (u.job t).at
+    good t z = step t z (was t z)
+
+    placed : (l : Loc) (t : ℕ) (z : Bool) → S t ≡ z → weight u l t ≡ is_loc l (loc_at (u.job t))
+    placed l t true z =
+        let k : weight u l t + one (same_loc l a && true) ≡ weight w l t + comes l (b t) true = subst (λ y. weight u l t + one (same_loc l a && y) ≡ weight w l t + comes l (b t) y) z (s l t) in
+        let x : one (same_loc l a && true) ≡ one (same_loc l a) = ap one (and_true (same_loc l a)) in
+        let y : comes l (b t) true ≡ is_loc l (b t) = comes_true l (b t) in
+        let o : weight w l t ≡ is_loc l (loc_at (w.job t)) = (ok.placed) l t in
+        let o2 : is_loc l (loc_at (w.job t)) ≡ one (same_loc l a) = ap (is_loc l) (was t z) in
+        let n : is_loc l (loc_at (u.job t)) ≡ is_loc l (b t) = ap (is_loc l) ((good t z).0) in omega (arith, k, x, y, o, o2, n)
+    placed l t false z =
+        let k : weight u l t + one (same_loc l a && false) ≡ weight w l t + comes l (b t) false = subst (λ y. weight u l t + one (same_loc l a && y) ≡ weight w l t + comes l (b t) y) z (s l t) in
+        let x : one (same_loc l a && false) ≡ 0 = ap one (and_false (same_loc l a)) in
+        let y : comes l (b t) false ≡ 0 = comes_false l (b t) in
+        let o : weight w l t ≡ is_loc l (loc_at (w.job t)) = (ok.placed) l t in
+        let n : is_loc l (loc_at (u.job t)) ≡ is_loc l (loc_at (w.job t)) = ap (is_loc l) ((rest t z).0) in omega (arith, k, x, y, o, n)
+
+    fit : (t : ℕ) (z : Bool) → S t ≡ z → fits ((u.job t).at) ((u.job t).runs)
+    fit t true z = (good t z).1
+    fit t false z = subst (λ x. fits x ((u.job t).runs)) (sym ((rest t z).1)) (subst (λ n. fits ((w.job t).at) n) (sym ((rest t z).2)) ((ok.fit) t))
+
+    onward : (t : ℕ) (z : Bool) → S t ≡ z → IsOnward ((w.job t).at) ((u.job t).at)
+    onward t true z = (good t z).2
+    onward t false z = onward_same ((w.job t).at) ((u.job t).at) ((rest t z).1)
+
+    made : (t : ℕ) (q : Party) → (w.job t).at ≡ Made q → in_hand (loc_at (u.job t)) ≡ true → (z : Bool) → S t ≡ z → (u.job t).at ≡ (w.job t).at
+    made t q m y false z = (rest t z).1
+    made t q m y true z = absurd (
+        let h : is_hand a ≡ true = made_hand q ((w.job t).runs) a (subst (λ v. loc_of v ((w.job t).runs) ≡ Some a) m (was t z)) in
+        let f : in_hand (b t) ≡ false = subst (λ c. (c && in_hand (b t)) ≡ false) h (one_hand t) in
+        let g : in_hand (loc_at (u.job t)) ≡ in_hand (b t) = ap in_hand ((good t z).0) in cc)
 
 -- a job that is taken from a list, pushed, begun or handed back was not begun before
 pub taken_step : (j : Job) (q : Party) (a : Loc) → is_work a ≡ false → loc_at j ≡ Some a → (loc_at (at_job j (Running q)) ≡ Some (Hand q)) × fits (Running q) (j.runs) × IsOnward (j.at) (Running q)
@@ -280,7 +330,7 @@ pop_mid w q k p0 i0 rest (Some u) e none less tab ok =
     (λ p i t z. let c : one (false && (t == u)) ≡ 0 = omega arith in subst (λ z. one (z && (t == u)) ≡ 0) (sym z) c)
     (λ p i t z. omega arith)
     (λ p t z. omega arith)
-    (λ p i t. omega arith))
+    (λ p i t z. omega arith))
     (job_new w u (at_job (w.job u) (Running q))) (job_old w u (at_job (w.job u) (Running q))) refl (taken_step (w.job u) q (Deck p0 i0) refl) ok
 
 inj_mid : (w : World) (q : Party) (k : Stack) (p0 i0 : ℕ) (l : List ℕ) → w.stack q ≡ k → ((t : ℕ) → (given t (k.top) ≡ 0) × (starts t (k.top) ≡ 0)) → (w.pool p0).injector ≡ l → IfSome (pop_injector q (part_of w p0 i0 0 (or_none (head_of l))) l) (Tabled w q k (w.shape.pool p0)) → JobsOk w → IfSome (pop_injector q (part_of w p0 i0 0 (or_none (head_of l))) l) (λ r. Kept w (midway w q k p0 i0 0 (or_none (head_of l)) r))
@@ -310,18 +360,48 @@ inj_mid w q k p0 i0 (u ∷ rest) e none is tab ok =
     (λ p i t z. omega arith)
     (λ p i t z. omega arith)
     (λ p t z. let c : one (false && (t == u)) ≡ 0 = omega arith in subst (λ z. one (z && (t == u)) ≡ 0) (sym z) c)
-    (λ p i t. omega arith))
+    (λ p i t z. omega arith))
     (job_new w u (at_job (w.job u) (Running q))) (job_old w u (at_job (w.job u) (Running q))) refl (taken_step (w.job u) q (Inj p0) refl) ok
 
--- a broadcast list is empty: no job's record names it
-cast_mid : (w : World) (q : Party) (k : Stack) (p0 i0 i : ℕ) (l : List ℕ) → w.stack q ≡ k → ((t : ℕ) → (given t (k.top) ≡ 0) × (starts t (k.top) ≡ 0)) → (w.pool p0).casts i ≡ l → IfSome (take_cast q (part_of w p0 i0 0 (or_none (head_of l))) l) (Tabled w q k (w.shape.pool p0)) → JobsOk w → IfSome (take_cast q (part_of w p0 i0 0 (or_none (head_of l))) l) (λ r. Kept w (midway w q k p0 i0 0 (or_none (head_of l)) r))
-cast_mid w q k p0 i0 i [] e none is tab ok = missing_ok w q k p0 i0 e none tab ok
-cast_mid w q k p0 i0 i (u ∷ us) e none is tab ok =
-    let a : times u ((w.pool p0).casts i) ≡ is_loc (Cast p0 i) (loc_at (w.job u)) = (ok.placed) (Cast p0 i) u in
-    let b : times u ((w.pool p0).casts i) ≡ (one (u == u) + times u us) = ap (times u) is in
-    let d : one (u == u) ≡ 1 = ap one (eq-eqb u u refl) in
-    let c : is_loc (Cast p0 i) (loc_at (w.job u)) ≡ 0 = no_cast p0 i ((w.job u).at) ((w.job u).runs) in
-    absurd (omega (arith, a, b, c, d))
+-- a task is taken from a broadcast list
+cast_mid : (w : World) (q : Party) (k : Stack) (p0 i0 : ℕ) (l : List ℕ) → w.stack q ≡ k → own_index q ≡ i0 → ((t : ℕ) → (given t (k.top) ≡ 0) × (starts t (k.top) ≡ 0)) → (w.pool p0).casts i0 ≡ l → IfSome (take_cast q (part_of w p0 i0 0 (or_none (head_of l))) l) (Tabled w q k (w.shape.pool p0)) → JobsOk w → IfSome (take_cast q (part_of w p0 i0 0 (or_none (head_of l))) l) (λ r. Kept w (midway w q k p0 i0 0 (or_none (head_of l)) r))
+cast_mid w q k p0 i0 [] e own none is tab ok = missing_ok w q k p0 i0 e none tab ok
+cast_mid w q k p0 i0 (u ∷ rest) e own none is tab ok =
+    let m : Part = part_of w p0 i0 0 u in
+    let v : Taken = taken_as u ((w.job u).kind) in
+    let r : Seen × Part = (Task v, record m { pool = record (m.pool) { casts = λ i. if i == own_index q then rest else (w.pool p0).casts i }; job = at_job (m.job) (Running q) }) in
+    let g : Move = next_of (w.shape.pool p0) q (k.top) (Task v) in
+    gone_ok w (midway w q k p0 i0 0 u r) u (at_job (w.job u) (Running q)) (Cast p0 i0) (Some (Hand q)) refl
+    (weights_mid w q k p0 i0 0 u r (λ l t. one (same_loc l (Cast p0 i0) && (t == u))) (λ l t. one (same_loc l (Hand q) && (t == u))) e
+    (λ t. let a : hand_move t g + given t (k.top) ≡ hand t (k.top) + one (t == u) = (tab t).0 ∙ ap (λ n. hand t (k.top) + one (t == n)) (same_number u ((w.job u).kind)) in
+    let b : held t (paused g k.below) ≡ (hand_move t g + held_in t k.below) = land_held t g k.below in
+    let d : given t (k.top) ≡ 0 = (none t).0 in
+    let c : held t (paused g k.below) + 0 ≡ held t k + one (true && (t == u)) = omega (arith, a, b, d) in
+    subst (λ z. held t (paused g k.below) + 0 ≡ held t k + one (z && (t == u))) (sym (same_party_refl q)) c)
+    (λ t. let a : run_move t g ≡ run_of t (k.top) + (starts t (k.top) + 0) = (tab t).1 in let d : starts t (k.top) ≡ 0 = (none t).1 in
+    let b : worked t (paused g k.below) ≡ (run_move t g + runs_in t k.below) = land_worked t g k.below in omega (arith, a, b, d))
+    (λ t. omega arith)
+    (λ t. omega arith)
+    (λ t. omega arith)
+    (λ i t. cast_left i t (i == i0) refl)
+    (λ g t z. let c : 0 ≡ one (false && (t == u)) = omega arith in subst (λ z. 0 ≡ one (z && (t == u))) (sym z) c)
+    (λ g t z. omega arith)
+    (λ p i t z. omega arith)
+    (λ p i t z. omega arith)
+    (λ p t z. omega arith)
+    (λ p i t z. let c : one ((false && (i == i0)) && (t == u)) ≡ 0 = omega arith in subst (λ z. one ((z && (i == i0)) && (t == u)) ≡ 0) (sym z) c))
+    (job_new w u (at_job (w.job u) (Running q))) (job_old w u (at_job (w.job u) (Running q))) refl (taken_step (w.job u) q (Cast p0 i0) refl) ok
+  where
+    cast_left : (i t : ℕ) (z : Bool) → (i == i0) ≡ z → times t (if i == own_index q then rest else (w.pool p0).casts i) + one (((p0 == p0) && (i == i0)) && (t == u)) ≡ times t ((w.pool p0).casts i) + 0
+    cast_left i t true z =
+        let a : times t ((w.pool p0).casts i) ≡ (one (t == u) + times t rest) = ap (λ n. times t ((w.pool p0).casts n)) (eqb-true i i0 z) ∙ ap (times t) is in
+        let y : (i == own_index q) ≡ true = ap (λ n. i == n) own ∙ z in
+        let s : (p0 == p0) ≡ true = eq-eqb p0 p0 refl in
+        rw (y, s, z) (let g : times t rest + one (t == u) ≡ times t ((w.pool p0).casts i) + 0 = omega (arith, a) in g)
+    cast_left i t false z =
+        let y : (i == own_index q) ≡ false = ap (λ n. i == n) own ∙ z in
+        let s : (p0 == p0) ≡ true = eq-eqb p0 p0 refl in
+        rw (y, s, z) (omega arith)
 
 -- a push, onto the own deque or into an injector
 abbrev pub outcome_of : World → Party → Act → Outcome
@@ -350,7 +430,7 @@ push_mid w q n v fs true e tab ok =
     (λ p i t z. let c : 0 ≡ one (false && (t == u)) = omega arith in subst (λ z. 0 ≡ one (z && (t == u))) (sym z) c)
     (λ p i t z. omega arith)
     (λ p t z. omega arith)
-    (λ p i t. omega arith))
+    (λ p i t z. omega arith))
     (job_new w u (at_job (w.job u) (InDeque p0 i0))) (job_old w u (at_job (w.job u) (InDeque p0 i0))) refl (own_step (w.job u) q p0 i0) ok
 push_mid w q n v fs false e tab ok =
     let u = plan_job n in let p0 = plan_pool n in let i0 = own_index q in
@@ -374,7 +454,7 @@ push_mid w q n v fs false e tab ok =
     (λ p i t z. omega arith)
     (λ p i t z. omega arith)
     (λ p t z. let c : 0 ≡ one (false && (t == u)) = omega arith in subst (λ z. 0 ≡ one (z && (t == u))) (sym z) c)
-    (λ p i t. omega arith))
+    (λ p i t z. omega arith))
     (job_new w u (at_job (w.job u) (Injected p0))) (job_old w u (at_job (w.job u) (Injected p0))) refl (inject_step (w.job u) q p0) ok
 
 -- a token is pushed onto the own deque
@@ -400,7 +480,7 @@ token_mid w q f v fs e ok =
     (λ p i t z. let c : 0 ≡ one (false && (t == u)) = omega arith in subst (λ z. 0 ≡ one (z && (t == u))) (sym z) c)
     (λ p i t z. omega arith)
     (λ p t z. omega arith)
-    (λ p i t. omega arith))
+    (λ p i t z. omega arith))
     (job_new w u (at_job (w.job u) (InDeque p0 i0))) (job_old w u (at_job (w.job u) (InDeque p0 i0))) refl (own_step (w.job u) q p0 i0) ok
 
 -- a job is added to the own FIFO list
@@ -439,7 +519,7 @@ in_mid w q f fs e made ok = by (is_open q ((w.seat (own_pool q) (own_index q)).f
         (λ p i t z. omega arith)
         (λ p i t z. let c : 0 ≡ one (false && (t == u)) = omega arith in subst (λ z. 0 ≡ one (z && (t == u))) (sym z) c)
         (λ p t z. omega arith)
-        (λ p i t. omega arith))
+        (λ p i t z. omega arith))
         (job_new w u (at_job (w.job u) (InFifo p0 i0))) (job_old w u (at_job (w.job u) (InFifo p0 i0))) refl (line_step (w.job u) q p0 i0 made) ok
 
     by : (z : Bool) → IfSome (if z then Some r else None) (λ r. Kept w (midway w q k p0 i0 0 u r))
@@ -470,7 +550,7 @@ back_mid w q f fs (Some u) e is ok =
     (λ p i t z. omega arith)
     (λ p i t z. let c : one (false && (t == u)) ≡ 0 = omega arith in subst (λ z. one (z && (t == u)) ≡ 0) (sym z) c)
     (λ p t z. omega arith)
-    (λ p i t. omega arith))
+    (λ p i t z. omega arith))
     (job_new w u (at_job (w.job u) (Retaken q))) (job_old w u (at_job (w.job u) (Retaken q))) refl (retaken_step (w.job u) q p0 i0) ok
 
 undo_mid : (w : World) (q : Party) (f : Feeding) (fs : List Place) → w.stack q ≡ record { top = TakeFromFifo f; below = fs } → JobsOk w → IfSome (outcome_of w q FifoUndo) (λ r. Kept w (midway w q (record { top = TakeFromFifo f; below = fs }) (own_pool q) (own_index q) 0 (or_none (last_of ((w.seat (own_pool q) (own_index q)).fifo))) r))
@@ -506,7 +586,7 @@ first_mid w q n i fs (u ∷ rest) e is ok =
     (λ p i t z. omega arith)
     (λ p j t z. let c : one (false && (t == u)) ≡ 0 = omega arith in subst (λ z. one (z && (t == u)) ≡ 0) (sym z) c)
     (λ p t z. omega arith)
-    (λ p i t. omega arith))
+    (λ p i t z. omega arith))
     (job_new w u (begun q (w.job u))) (job_old w u (begun q (w.job u))) refl (handed_step (w.job u) q p0 i) ok
 
 out_mid : (w : World) (q : Party) (n i : ℕ) (fs : List Place) → w.stack q ≡ record { top = BeginTask (Token n i); below = fs } → JobsOk w → IfSome (outcome_of w q (FifoOut n i)) (λ r. Kept w (midway w q (record { top = BeginTask (Token n i); below = fs }) (own_pool q) i 0 (or_none (head_of ((w.seat (own_pool q) i).fifo))) r))
@@ -546,47 +626,53 @@ begin_mid w q x u y fs e had ran runs has to ok =
     (λ p i t z. omega arith)
     (λ p i t z. omega arith)
     (λ p t z. omega arith)
-    (λ p i t. omega arith))
+    (λ p i t z. omega arith))
     (job_new w u (begun q (w.job u))) (job_old w u (begun q (w.job u))) refl (begun_step (w.job u) q) ok
 
--- halfway through each act each job is in its one place
-pub go_mid : (w : World) (q : Party) (x : Place) (fs : List Place) → w.stack q ≡ record { top = x; below = fs } → Feeds w → JobsOk w → Mid w q (record { top = x; below = fs })
-go_mid w (Worker a b) (PopWorking k) fs e fe ok = pop_mid w (Worker a b) (record { top = PopWorking k; below = fs }) a b _ _ e (λ t. (refl, refl)) (λ u t. times_own ((w.shape.pool a).order) ((w.seat a b).own) t u) (all_tables w (Worker a b) (record { top = PopWorking k; below = fs })) ok
-go_mid w (Caller c) (PopWorking k) fs e fe ok = tt
-go_mid w (Worker a b) (PopIdle k) fs e fe ok = pop_mid w (Worker a b) (record { top = PopIdle k; below = fs }) a b _ _ e (λ t. (refl, refl)) (λ u t. times_own ((w.shape.pool a).order) ((w.seat a b).own) t u) (all_tables w (Worker a b) (record { top = PopIdle k; below = fs })) ok
-go_mid w (Caller c) (PopIdle k) fs e fe ok = tt
-go_mid w (Worker a b) (JoinPop o) fs e fe ok = pop_mid w (Worker a b) (record { top = JoinPop o; below = fs }) a b _ _ e (λ t. (refl, refl)) (λ u t. times_own ((w.shape.pool a).order) ((w.seat a b).own) t u) (all_tables w (Worker a b) (record { top = JoinPop o; below = fs })) ok
-go_mid w (Caller c) (JoinPop o) fs e fe ok = tt
-go_mid w (Worker a b) YieldPop fs e fe ok = pop_mid w (Worker a b) (record { top = YieldPop; below = fs }) a b _ _ e (λ t. (refl, refl)) (λ u t. times_own ((w.shape.pool a).order) ((w.seat a b).own) t u) (all_tables w (Worker a b) (record { top = YieldPop; below = fs })) ok
-go_mid w (Caller c) YieldPop fs e fe ok = tt
-go_mid w (Worker a b) LocalPop fs e fe ok = pop_mid w (Worker a b) (record { top = LocalPop; below = fs }) a b _ _ e (λ t. (refl, refl)) (λ u t. times_own ((w.shape.pool a).order) ((w.seat a b).own) t u) (all_tables w (Worker a b) (record { top = LocalPop; below = fs })) ok
-go_mid w (Caller c) LocalPop fs e fe ok = tt
-go_mid w (Worker a b) (StealFrom k n) fs e fe ok = pop_mid w (Worker a b) (record { top = StealFrom k n; below = fs }) a (k.victim) _ _ e (λ t. (refl, refl)) (λ u t. times_first ((w.seat a (k.victim)).own) t u) (all_tables w (Worker a b) (record { top = StealFrom k n; below = fs })) ok
-go_mid w (Caller c) (StealFrom k n) fs e fe ok = tt
-go_mid w (Worker a b) (YieldSteal v n) fs e fe ok = pop_mid w (Worker a b) (record { top = YieldSteal v n; below = fs }) a (v) _ _ e (λ t. (refl, refl)) (λ u t. times_first ((w.seat a (v)).own) t u) (all_tables w (Worker a b) (record { top = YieldSteal v n; below = fs })) ok
-go_mid w (Caller c) (YieldSteal v n) fs e fe ok = tt
-go_mid w (Worker a b) (PopInjected k) fs e fe ok = inj_mid w (Worker a b) (record { top = PopInjected k; below = fs }) a b ((w.pool a).injector) e (λ t. (refl, refl)) refl (all_tables w (Worker a b) (record { top = PopInjected k; below = fs })) ok
-go_mid w (Caller c) (PopInjected k) fs e fe ok = tt
-go_mid w (Worker a b) YieldPopInjected fs e fe ok = inj_mid w (Worker a b) (record { top = YieldPopInjected; below = fs }) a b ((w.pool a).injector) e (λ t. (refl, refl)) refl (all_tables w (Worker a b) (record { top = YieldPopInjected; below = fs })) ok
-go_mid w (Caller c) YieldPopInjected fs e fe ok = tt
-go_mid w (Worker a b) (TakeCastWorking k) fs e fe ok = cast_mid w (Worker a b) (record { top = TakeCastWorking k; below = fs }) a b b ((w.pool a).casts b) e (λ t. (refl, refl)) refl (all_tables w (Worker a b) (record { top = TakeCastWorking k; below = fs })) ok
-go_mid w (Caller c) (TakeCastWorking k) fs e fe ok = tt
-go_mid w (Worker a b) (TakeCastIdle k) fs e fe ok = cast_mid w (Worker a b) (record { top = TakeCastIdle k; below = fs }) a b b ((w.pool a).casts b) e (λ t. (refl, refl)) refl (all_tables w (Worker a b) (record { top = TakeCastIdle k; below = fs })) ok
-go_mid w (Caller c) (TakeCastIdle k) fs e fe ok = tt
-go_mid w (Worker a b) (JoinTakeCast o) fs e fe ok = cast_mid w (Worker a b) (record { top = JoinTakeCast o; below = fs }) a b b ((w.pool a).casts b) e (λ t. (refl, refl)) refl (all_tables w (Worker a b) (record { top = JoinTakeCast o; below = fs })) ok
-go_mid w (Caller c) (JoinTakeCast o) fs e fe ok = tt
-go_mid w (Worker a b) YieldTakeCast fs e fe ok = cast_mid w (Worker a b) (record { top = YieldTakeCast; below = fs }) a b b ((w.pool a).casts b) e (λ t. (refl, refl)) refl (all_tables w (Worker a b) (record { top = YieldTakeCast; below = fs })) ok
-go_mid w (Caller c) YieldTakeCast fs e fe ok = tt
-go_mid w (Worker a b) LocalTakeCast fs e fe ok = cast_mid w (Worker a b) (record { top = LocalTakeCast; below = fs }) a b b ((w.pool a).casts b) e (λ t. (refl, refl)) refl (all_tables w (Worker a b) (record { top = LocalTakeCast; below = fs })) ok
-go_mid w (Caller c) LocalTakeCast fs e fe ok = tt
-go_mid w q (BeginTask (Token n i)) fs e fe ok = out_mid w q n i fs e ok
-go_mid w q (BeginTask (Plain u)) fs e fe ok = begin_mid w q (BeginTask (Plain u)) u (λ k. Run u k) fs e (λ t. refl) (λ t. refl) (λ k t. refl) (λ k t. refl) refl ok
-go_mid w q (BeginHere u) fs e fe ok = begin_mid w q (BeginHere u) u (λ k. Run u Direct) fs e (λ t. refl) (λ t. refl) (λ k t. refl) (λ k t. refl) refl ok
-go_mid w q (PushJob n v) fs e fe ok = push_mid w q n v fs (is_member q (plan_pool n)) e (all_tables w q (record { top = PushJob n v; below = fs })) ok
-go_mid w (Worker a b) (PushToken f v) fs e fe ok = token_mid w (Worker a b) f v fs e ok
-go_mid w (Caller c) (PushToken f v) fs e fe ok = tt
-go_mid w (Worker a b) (AddToFifo f) fs e fe ok = in_mid w (Worker a b) f fs e (fe (Worker a b) f.job (let a : all_fed f.job (w.stack (Worker a b)) ≡ ((one (f.job == f.job) + one (f.job == f.token)) + fed_in f.job fs) = ap (all_fed f.job) e in let o : one (f.job == f.job) ≡ 1 = ap one (eq-eqb f.job f.job refl) in omega (arith, a, o))) ok
-go_mid w (Caller c) (AddToFifo f) fs e fe ok = tt
-go_mid w (Worker a b) (TakeFromFifo f) fs e fe ok = undo_mid w (Worker a b) f fs e ok
-go_mid w (Caller c) (TakeFromFifo f) fs e fe ok = tt
-go_mid w q x fs e fe ok = quiet_mid w q (record { top = x; below = fs }) e refl ok
+-- places whose acts deal pieces
+abbrev pub is_dealer : Place → Bool
+is_dealer (PushForAll c) = true
+is_dealer _ = false
+
+-- halfway through each other act each job is in its one place
+pub go_mid : (w : World) (q : Party) (x : Place) (fs : List Place) → w.stack q ≡ record { top = x; below = fs } → is_dealer x ≡ false → Feeds w → JobsOk w → Mid w q (record { top = x; below = fs })
+go_mid w (Worker a b) (PopWorking k) fs e z fe ok = pop_mid w (Worker a b) (record { top = PopWorking k; below = fs }) a b _ _ e (λ t. (refl, refl)) (λ u t. times_own ((w.shape.pool a).order) ((w.seat a b).own) t u) (all_tables w (Worker a b) (record { top = PopWorking k; below = fs })) ok
+go_mid w (Caller c) (PopWorking k) fs e z fe ok = tt
+go_mid w (Worker a b) (PopIdle k) fs e z fe ok = pop_mid w (Worker a b) (record { top = PopIdle k; below = fs }) a b _ _ e (λ t. (refl, refl)) (λ u t. times_own ((w.shape.pool a).order) ((w.seat a b).own) t u) (all_tables w (Worker a b) (record { top = PopIdle k; below = fs })) ok
+go_mid w (Caller c) (PopIdle k) fs e z fe ok = tt
+go_mid w (Worker a b) (JoinPop o) fs e z fe ok = pop_mid w (Worker a b) (record { top = JoinPop o; below = fs }) a b _ _ e (λ t. (refl, refl)) (λ u t. times_own ((w.shape.pool a).order) ((w.seat a b).own) t u) (all_tables w (Worker a b) (record { top = JoinPop o; below = fs })) ok
+go_mid w (Caller c) (JoinPop o) fs e z fe ok = tt
+go_mid w (Worker a b) YieldPop fs e z fe ok = pop_mid w (Worker a b) (record { top = YieldPop; below = fs }) a b _ _ e (λ t. (refl, refl)) (λ u t. times_own ((w.shape.pool a).order) ((w.seat a b).own) t u) (all_tables w (Worker a b) (record { top = YieldPop; below = fs })) ok
+go_mid w (Caller c) YieldPop fs e z fe ok = tt
+go_mid w (Worker a b) LocalPop fs e z fe ok = pop_mid w (Worker a b) (record { top = LocalPop; below = fs }) a b _ _ e (λ t. (refl, refl)) (λ u t. times_own ((w.shape.pool a).order) ((w.seat a b).own) t u) (all_tables w (Worker a b) (record { top = LocalPop; below = fs })) ok
+go_mid w (Caller c) LocalPop fs e z fe ok = tt
+go_mid w (Worker a b) (StealFrom k n) fs e z fe ok = pop_mid w (Worker a b) (record { top = StealFrom k n; below = fs }) a (k.victim) _ _ e (λ t. (refl, refl)) (λ u t. times_first ((w.seat a (k.victim)).own) t u) (all_tables w (Worker a b) (record { top = StealFrom k n; below = fs })) ok
+go_mid w (Caller c) (StealFrom k n) fs e z fe ok = tt
+go_mid w (Worker a b) (YieldSteal v n) fs e z fe ok = pop_mid w (Worker a b) (record { top = YieldSteal v n; below = fs }) a (v) _ _ e (λ t. (refl, refl)) (λ u t. times_first ((w.seat a (v)).own) t u) (all_tables w (Worker a b) (record { top = YieldSteal v n; below = fs })) ok
+go_mid w (Caller c) (YieldSteal v n) fs e z fe ok = tt
+go_mid w (Worker a b) (PopInjected k) fs e z fe ok = inj_mid w (Worker a b) (record { top = PopInjected k; below = fs }) a b ((w.pool a).injector) e (λ t. (refl, refl)) refl (all_tables w (Worker a b) (record { top = PopInjected k; below = fs })) ok
+go_mid w (Caller c) (PopInjected k) fs e z fe ok = tt
+go_mid w (Worker a b) YieldPopInjected fs e z fe ok = inj_mid w (Worker a b) (record { top = YieldPopInjected; below = fs }) a b ((w.pool a).injector) e (λ t. (refl, refl)) refl (all_tables w (Worker a b) (record { top = YieldPopInjected; below = fs })) ok
+go_mid w (Caller c) YieldPopInjected fs e z fe ok = tt
+go_mid w (Worker a b) (TakeCastWorking k) fs e z fe ok = cast_mid w (Worker a b) (record { top = TakeCastWorking k; below = fs }) a b ((w.pool a).casts b) e refl (λ t. (refl, refl)) refl (all_tables w (Worker a b) (record { top = TakeCastWorking k; below = fs })) ok
+go_mid w (Caller c) (TakeCastWorking k) fs e z fe ok = tt
+go_mid w (Worker a b) (TakeCastIdle k) fs e z fe ok = cast_mid w (Worker a b) (record { top = TakeCastIdle k; below = fs }) a b ((w.pool a).casts b) e refl (λ t. (refl, refl)) refl (all_tables w (Worker a b) (record { top = TakeCastIdle k; below = fs })) ok
+go_mid w (Caller c) (TakeCastIdle k) fs e z fe ok = tt
+go_mid w (Worker a b) (JoinTakeCast o) fs e z fe ok = cast_mid w (Worker a b) (record { top = JoinTakeCast o; below = fs }) a b ((w.pool a).casts b) e refl (λ t. (refl, refl)) refl (all_tables w (Worker a b) (record { top = JoinTakeCast o; below = fs })) ok
+go_mid w (Caller c) (JoinTakeCast o) fs e z fe ok = tt
+go_mid w (Worker a b) YieldTakeCast fs e z fe ok = cast_mid w (Worker a b) (record { top = YieldTakeCast; below = fs }) a b ((w.pool a).casts b) e refl (λ t. (refl, refl)) refl (all_tables w (Worker a b) (record { top = YieldTakeCast; below = fs })) ok
+go_mid w (Caller c) YieldTakeCast fs e z fe ok = tt
+go_mid w (Worker a b) LocalTakeCast fs e z fe ok = cast_mid w (Worker a b) (record { top = LocalTakeCast; below = fs }) a b ((w.pool a).casts b) e refl (λ t. (refl, refl)) refl (all_tables w (Worker a b) (record { top = LocalTakeCast; below = fs })) ok
+go_mid w (Caller c) LocalTakeCast fs e z fe ok = tt
+go_mid w q (BeginTask (Token n i)) fs e z fe ok = out_mid w q n i fs e ok
+go_mid w q (BeginTask (Plain u)) fs e z fe ok = begin_mid w q (BeginTask (Plain u)) u (λ k. Run u k) fs e (λ t. refl) (λ t. refl) (λ k t. refl) (λ k t. refl) refl ok
+go_mid w q (BeginHere u) fs e z fe ok = begin_mid w q (BeginHere u) u (λ k. Run u Direct) fs e (λ t. refl) (λ t. refl) (λ k t. refl) (λ k t. refl) refl ok
+go_mid w q (PushJob n v) fs e z fe ok = push_mid w q n v fs (is_member q (plan_pool n)) e (all_tables w q (record { top = PushJob n v; below = fs })) ok
+go_mid w (Worker a b) (PushToken f v) fs e z fe ok = token_mid w (Worker a b) f v fs e ok
+go_mid w (Caller c) (PushToken f v) fs e z fe ok = tt
+go_mid w (Worker a b) (AddToFifo f) fs e z fe ok = in_mid w (Worker a b) f fs e (fe (Worker a b) f.job (let a : all_fed f.job (w.stack (Worker a b)) ≡ ((one (f.job == f.job) + one (f.job == f.token)) + fed_in f.job fs) = ap (all_fed f.job) e in let o : one (f.job == f.job) ≡ 1 = ap one (eq-eqb f.job f.job refl) in omega (arith, a, o))) ok
+go_mid w (Caller c) (AddToFifo f) fs e z fe ok = tt
+go_mid w (Worker a b) (TakeFromFifo f) fs e z fe ok = undo_mid w (Worker a b) f fs e ok
+go_mid w (Caller c) (TakeFromFifo f) fs e z fe ok = tt
+go_mid w q (PushForAll c) fs e z fe ok = cc
+go_mid w q x fs e z fe ok = quiet_mid w q (record { top = x; below = fs }) e refl ok

@@ -1,6 +1,7 @@
 -- each job is in its one place, once, in every world of every run
+use Rattle.rayon_machine_places.specs.declared.place.Pieces.{Pieces}
 use Rattle.std.proofs.Common.{arith, refl, sym, ◌∙◌, ap, subst, inl, inr}
-use Rattle.std.specs.Prelude.{ℕ, Bool, true, false, ◌&&◌, ◌+◌, ◌==◌, ◌≤◌, ◌<◌, nat_lt, if◌then◌else◌, Some, None, List, [], ◌∷◌, ◌≡◌, IfSome, suc, zero}
+use Rattle.std.specs.Prelude.{ℕ, Bool, true, false, ◌&&◌, ◌+◌, ◌==◌, ◌≤◌, ◌<◌, nat_lt, if◌then◌else◌, Some, None, List, [], ◌∷◌, ◌≡◌, IfSome, suc, zero, ◌-◌}
 use Rattle.std.proofs.lemmas.Bool.{eqb-true, eq-eqb, ltb-true, ltb-false}
 use Rattle.std.proofs.Math.Dec.{ltb}
 use Rattle.rayon_machine_places.specs.declared.place.Party.{Party}
@@ -13,25 +14,25 @@ use Rattle.rayon_machine_places.specs.declared.place.Target.TheVariants.{Termina
 use Rattle.rayon_machine_places.specs.declared.place.Plan.{Plan}
 use Rattle.rayon_machine_places.specs.declared.place.Plan.TheVariants.{Detach, Here, Send, Fork, Feed}
 use Rattle.rayon_machine_places.specs.declared.place.Place.{Place}
-use Rattle.rayon_machine_places.specs.declared.place.Place.TheVariants.{ProbeWorking, YieldPop, LocalPop, Run, RaiseCount, FirstSide, Free, Stopped}
+use Rattle.rayon_machine_places.specs.declared.place.Place.TheVariants.{ProbeWorking, YieldPop, LocalPop, Run, RaiseCount, FirstSide, Free, Stopped, RaiseForAll}
 use Rattle.rayon_machine_places.specs.declared.act.Seen.{Seen}
 use Rattle.rayon_machine_places.specs.declared.event.Event.{Event}
-use Rattle.rayon_machine_places.specs.declared.event.Event.TheVariants.{Go, From, Refuse, Miss, End, Spawn, Fifo, Install, Join, Yield, YieldLocal, EndPool}
+use Rattle.rayon_machine_places.specs.declared.event.Event.TheVariants.{Go, From, Refuse, Miss, End, Spawn, Fifo, Install, Join, Yield, YieldLocal, EndPool, Cast as CastEvent}
 use Rattle.rayon_machine_places.specs.declared.state.Whereabouts.{Whereabouts}
-use Rattle.rayon_machine_places.specs.declared.state.Whereabouts.TheVariants.{Nowhere, Made, InDeque, Injected, InFifo, Retaken, Running, Over, HandedBack, Spent}
+use Rattle.rayon_machine_places.specs.declared.state.Whereabouts.TheVariants.{Nowhere, Made, InDeque, Injected, InFifo, Retaken, Running, Over, HandedBack, Spent, InCast}
 use Rattle.rayon_machine_places.specs.declared.state.Job.{Job}
 use Rattle.rayon_machine_places.specs.declared.state.Call.{Call}
 use Rattle.rayon_machine_places.specs.Places.{same_party, is_member, fresh, act_of, next_of, goes_on, is_free}
 use Rattle.rayon_machine_places.specs.World.{Shape, World, Part, target_pool, target_worker, target_call, at_job}
-use Rattle.rayon_machine_places.specs.Steps.{put, put_stack, after_move, after_close, after_end, after_call, is_pool, new_job, new_call, after_spawn, after_fifo, after_send, after_install, after_join, step}
+use Rattle.rayon_machine_places.specs.Steps.{put, put_stack, after_move, after_close, after_end, after_call, is_pool, new_job, new_call, after_spawn, after_fifo, after_send, after_install, after_join, step, after_cast, is_piece, new_piece, put_pieces}
 use Rattle.rayon_machine_places.specs.Runs.{first_place, start, IsRun}
-use Rattle.rayon_machine_laws.specs.Once.{one, in_deque, in_fifo, in_injector, runs_with, is_with, is_known, may_begin, run_of, runs_in, IsOnce}
-use Rattle.rayon_machine_laws.proofs.Frame.{either, fifo_cases, same_party_true, if_some_map, if_cond, acted_keeps}
+use Rattle.rayon_machine_laws.specs.Once.{one, in_deque, in_fifo, in_injector, runs_with, is_with, is_known, may_begin, run_of, runs_in, IsOnce, in_cast}
+use Rattle.rayon_machine_laws.proofs.Frame.{either, fifo_cases, same_party_true, if_some_map, if_cond, acted_keeps, piece_in, piece_new, piece_range}
 use Rattle.rayon_machine_laws.proofs.Ties.{job_at, shape_at, outcome, result}
 use Rattle.rayon_machine_laws.proofs.Events.{run_keeps}
 use Rattle.rayon_machine_laws.proofs.Hands.{hand_plan, hand, held_in, held, worked}
 use Rattle.rayon_machine_laws.proofs.Feeds.{fed, fed_in, all_fed, fed_held, fed_after, fed_stacks}
-use Rattle.rayon_machine_laws.proofs.Located.{Loc, same_loc, loc_of, loc_at, is_loc, weight, IsPlaced, JobsPlaced, and_true, and_false, make_ok, fits, onward_loc, at_work, no_cast, Hand, Work, Deck, Cast, Inj, Line}
+use Rattle.rayon_machine_laws.proofs.Located.{Loc, same_loc, loc_of, loc_at, is_loc, weight, IsPlaced, JobsPlaced, and_true, and_false, make_ok, fits, onward_loc, at_work, Hand, Work, Deck, Cast, Inj, Line}
 use Rattle.rayon_machine_laws.proofs.Placed.{Kept, JobsOk, Feeds, job_new, job_old, gone_ok}
 use Rattle.rayon_machine_laws.proofs.PlacedEvents.{go_kept, Unmade, Known, IsFinal, Advance, FedLess, kept_advance, from_kept, refuse_kept, miss_kept, yield_kept, give_kept}
 
@@ -261,6 +262,95 @@ join_kept w (Worker p i) ok un = if_cond (Advance w) (is_free ((w.stack (Worker 
 fifo_kept : (w : World) (q : Party) (p : ℕ) → JobsOk w → Unmade w → IfSome (after_fifo w q p (w.stack q)) (Advance w)
 fifo_kept w q p ok un = fifo_cases (Advance w) w q p (spawn_kept w q p ok un) (λ i free. make_two w (Worker p i) (Feed (record { pool = p; job = w.jobs; token = w.jobs + 1 })) p (Detached p) (TokenOf i) w.call w.calls (λ t. refl) ok un)
 
+-- a call that makes a piece for each worker of a pool
+cast_kept : (w : World) (q : Party) (p : ℕ) → JobsOk w → Unmade w → IfSome (after_cast w q p (w.stack q)) (Advance w)
+cast_kept w q p ok un = if_cond (Advance w) (is_free ((w.stack q).top) && is_pool w.shape p) _ (λ z. record {
+  feeds = feeds;
+  placed = placed;
+  fit = λ t. fit_by t (is_piece c t);
+  final = λ t. fin_by t (is_piece c t) refl;
+  unmade = λ t b. (let off : is_piece c t ≡ false = beyond t b in rw off (un t (omega (arith, b))));
+  known = λ f t b. known_by f t b (is_piece c t) refl;
+})
+  where
+    c : Pieces
+    c = record { pool = p; first = w.jobs; workers = (w.shape.pool p).workers }
+
+    J : ℕ → Job
+    J = put_pieces c (λ i j. new_piece q p i) w.job
+
+    u : World
+    u = record w { stack = put_stack w.stack q (after_call (w.stack q) (RaiseForAll c)); job = J; jobs = w.jobs + c.workers }
+
+    beyond : (t : ℕ) → w.jobs + c.workers ≤ t → is_piece c t ≡ false
+    beyond t b = elim (either (is_piece c t)) [ inl y ↦ absurd (let r : (w.jobs ≤ t) × (t < w.jobs + c.workers) = piece_range c t y in let l : t < w.jobs + c.workers = r.1 in omega (arith, l, b)) | inr y ↦ y ]
+
+    made : (t : ℕ) → is_piece c t ≡ true → (w.job t).at ≡ Nowhere
+    made t y = let r : (w.jobs ≤ t) × (t < w.jobs + c.workers) = piece_range c t y in un t (r.0)
+
+    fit_by : (t : ℕ) (z : Bool) → fits ((if z then new_piece q p (t - w.jobs) else w.job t).at) ((if z then new_piece q p (t - w.jobs) else w.job t).runs)
+    fit_by t true = refl
+    fit_by t false = (ok.fit) t
+
+    fin_by : (t : ℕ) (z : Bool) → is_piece c t ≡ z → IsFinal ((w.job t).at) ((if z then new_piece q p (t - w.jobs) else w.job t).at)
+    fin_by t true z = subst (λ v. IsFinal v (Made q)) (sym (made t z)) tt
+    fin_by t false z = final_same ((w.job t).at)
+
+    known_by : Known w → (t : ℕ) → t + 1 ≤ w.jobs + c.workers → (z : Bool) → is_piece c t ≡ z → is_known ((if z then new_piece q p (t - w.jobs) else w.job t).at) ≡ true
+    known_by f t b true z = refl
+    known_by f t b false z = f t (elim (either (ltb t w.jobs)) [ inl y ↦ (let l : t < w.jobs = ltb-true t w.jobs y in omega (arith, l)) | inr y ↦ absurd (let l : w.jobs ≤ t = ltb-false t w.jobs y in let in_it : is_piece c t ≡ true = piece_in c t l (omega (arith, b)) in cc) ])
+
+    weights : (l : Loc) (t : ℕ) → weight u l t ≡ weight w l t + one (same_loc l (Hand q) && is_piece c t)
+    weights (Hand g) t = by (same_party g q) refl
+      where
+        by : (z : Bool) → same_party g q ≡ z → held t (if z then after_call (w.stack q) (RaiseForAll c) else w.stack g) ≡ held t (w.stack g) + one (z && is_piece c t)
+        by true z = subst (λ g. held t (after_call (w.stack q) (RaiseForAll c)) ≡ held t (w.stack g) + one (is_piece c t)) (sym (same_party_true g q z)) (omega arith)
+        by false z = omega arith
+    weights (Work g) t = by (same_party g q) refl
+      where
+        by : (z : Bool) → same_party g q ≡ z → worked t (if z then after_call (w.stack q) (RaiseForAll c) else w.stack g) ≡ worked t (w.stack g) + 0
+        by true z = subst (λ g. worked t (after_call (w.stack q) (RaiseForAll c)) ≡ worked t (w.stack g) + 0) (sym (same_party_true g q z)) (omega arith)
+        by false z = omega arith
+    weights (Deck p i) t = omega arith
+    weights (Cast p i) t = omega arith
+    weights (Inj p) t = omega arith
+    weights (Line p i) t = omega arith
+
+    placed : (l : Loc) (t : ℕ) → weight u l t ≡ is_loc l (loc_at (J t))
+    placed l t = by (is_piece c t) refl
+      where
+        by : (z : Bool) → is_piece c t ≡ z → weight u l t ≡ is_loc l (loc_at (if z then new_piece q p (t - w.jobs) else w.job t))
+        by true z =
+            let a : weight u l t ≡ weight w l t + one (same_loc l (Hand q) && true) = subst (λ b. weight u l t ≡ weight w l t + one (same_loc l (Hand q) && b)) z (weights l t) in
+            let x : one (same_loc l (Hand q) && true) ≡ one (same_loc l (Hand q)) = ap one (and_true (same_loc l (Hand q))) in
+            let o : weight w l t ≡ is_loc l (loc_at (w.job t)) = (ok.placed) l t in
+            let n : is_loc l (loc_at (w.job t)) ≡ 0 = ap (λ v. is_loc l (loc_of v ((w.job t).runs))) (made t z) in omega (arith, a, x, o, n)
+        by false z =
+            let a : weight u l t ≡ weight w l t + one (same_loc l (Hand q) && false) = subst (λ b. weight u l t ≡ weight w l t + one (same_loc l (Hand q) && b)) z (weights l t) in
+            let x : one (same_loc l (Hand q) && false) ≡ 0 = ap one (and_false (same_loc l (Hand q))) in
+            let o : weight w l t ≡ is_loc l (loc_at (w.job t)) = (ok.placed) l t in omega (arith, a, x, o)
+
+    feeds : Feeds w → Feeds u
+    feeds fe r t h = by (same_party r q) refl h
+      where
+        before : (s : Party) → 1 ≤ all_fed t (w.stack s) → (J t).at ≡ Made s
+        before s f = at (is_piece c t) refl
+          where
+            a : (w.job t).at ≡ Made s
+            a = fe s t f
+
+            at : (z : Bool) → is_piece c t ≡ z → (if z then new_piece q p (t - w.jobs) else w.job t).at ≡ Made s
+            at true z = absurd (let n : (w.job t).at ≡ Nowhere = made t z in let k : Made s ≡ Nowhere = sym a ∙ n in cc)
+            at false z = a
+
+        mine : (z : Bool) → is_piece c t ≡ z → 1 ≤ one z + all_fed t (w.stack q) → (J t).at ≡ Made q
+        mine true z f = ap (λ j. j.at) (piece_new c (λ i j. new_piece q p i) w.job t z)
+        mine false z f = before q (omega (arith, f))
+
+        by : (z : Bool) → same_party r q ≡ z → 1 ≤ all_fed t (if z then after_call (w.stack q) (RaiseForAll c) else w.stack r) → (J t).at ≡ Made r
+        by true z f = mine (is_piece c t) refl f ∙ ap Made (sym (same_party_true r q z))
+        by false z f = before r f
+
 pub go_fed : (w : World) (q : Party) (r : Seen × Part) → FedLess w (result w q (w.stack q) r)
 go_fed w q r = fed_stacks w q (after_move (next_of (shape_at w q (w.stack q)) q ((w.stack q).top) (r.0)) ((w.stack q).below)) (λ t. fed_after (shape_at w q (w.stack q)) q t ((w.stack q).top) ((w.stack q).below) (r.0))
 
@@ -274,6 +364,7 @@ step_advance w (Miss q) fe ok un = miss_kept w q ((w.stack q).top) ((w.stack q).
 step_advance w (End q d) fe ok un = end_kept w q d ((w.stack q).top) ((w.stack q).below) refl ok un
 step_advance w (Spawn q p) fe ok un = spawn_kept w q p ok un
 step_advance w (Fifo q p) fe ok un = fifo_kept w q p ok un
+step_advance w (CastEvent q p) fe ok un = cast_kept w q p ok un
 step_advance w (Install q p) fe ok un = install_kept w q p ok un
 step_advance w (Join q) fe ok un = join_kept w q ok un
 step_advance w (Yield q) fe ok un = yield_kept w q YieldPop (λ t. refl) (λ t. refl) (λ t. refl) ok un
@@ -325,6 +416,7 @@ begun_once (Made q) n f = omega (arith, f)
 begun_once (InDeque p i) n f = omega (arith, f)
 begun_once (Injected p) n f = omega (arith, f)
 begun_once (InFifo p i) n f = omega (arith, f)
+begun_once (InCast p i) n f = omega (arith, f)
 begun_once (Retaken q) n f = omega (arith, f)
 begun_once HandedBack n f = omega (arith, f)
 begun_once Spent n f = omega (arith, f)
@@ -337,6 +429,7 @@ not_begun (Made q) n z f = f
 not_begun (InDeque p i) n z f = f
 not_begun (Injected p) n z f = f
 not_begun (InFifo p i) n z f = f
+not_begun (InCast p i) n z f = f
 not_begun (Retaken q) n z f = f
 not_begun HandedBack n z f = f
 not_begun Spent n z f = f
@@ -373,6 +466,7 @@ deck_in p i (InDeque r j) n f = loc_fits (Deck p i) (Deck r j) n f
 deck_in p i (Made q) n f = loc_none (Deck p i) (Hand q) n refl
 deck_in p i (Injected r) n f = loc_none (Deck p i) (Inj r) n refl
 deck_in p i (InFifo r j) n f = loc_none (Deck p i) (Line r j) n refl
+deck_in p i (InCast r j) n f = loc_none (Deck p i) (Cast r j) n refl
 deck_in p i (Retaken q) n f = loc_none (Deck p i) (Hand q) n refl
 deck_in p i (Running q) n f = loc_run (Deck p i) (Hand q) (Work q) n
 deck_in p i _ n f = refl
@@ -380,6 +474,7 @@ deck_in p i _ n f = refl
 inj_in : (p : ℕ) (v : Whereabouts) (n : ℕ) → fits v n → is_loc (Inj p) (loc_of v n) ≡ one (in_injector p v)
 inj_in p (Injected r) n f = loc_fits (Inj p) (Inj r) n f
 inj_in p (InFifo r j) n f = loc_none (Inj p) (Line r j) n refl
+inj_in p (InCast r j) n f = loc_none (Inj p) (Cast r j) n refl
 inj_in p (Retaken q) n f = loc_none (Inj p) (Hand q) n refl
 inj_in p (Made q) n f = loc_none (Inj p) (Hand q) n refl
 inj_in p (InDeque r j) n f = loc_none (Inj p) (Deck r j) n refl
@@ -388,6 +483,7 @@ inj_in p _ n f = refl
 
 line_in : (p i : ℕ) (v : Whereabouts) (n : ℕ) → fits v n → is_loc (Line p i) (loc_of v n) ≡ one (in_fifo p i v)
 line_in p i (InFifo r j) n f = loc_fits (Line p i) (Line r j) n f
+line_in p i (InCast r j) n f = loc_none (Line p i) (Cast r j) n refl
 line_in p i (InDeque r j) n f = loc_none (Line p i) (Deck r j) n refl
 line_in p i (Made q) n f = loc_none (Line p i) (Hand q) n refl
 line_in p i (Retaken q) n f = loc_none (Line p i) (Hand q) n refl
@@ -395,11 +491,22 @@ line_in p i (Injected r) n f = loc_none (Line p i) (Inj r) n refl
 line_in p i (Running q) n f = loc_run (Line p i) (Hand q) (Work q) n
 line_in p i _ n f = refl
 
+cast_in : (p i : ℕ) (v : Whereabouts) (n : ℕ) → fits v n → is_loc (Cast p i) (loc_of v n) ≡ one (in_cast p i v)
+cast_in p i (InCast r j) n f = loc_fits (Cast p i) (Cast r j) n f
+cast_in p i (InFifo r j) n f = loc_none (Cast p i) (Line r j) n refl
+cast_in p i (InDeque r j) n f = loc_none (Cast p i) (Deck r j) n refl
+cast_in p i (Made q) n f = loc_none (Cast p i) (Hand q) n refl
+cast_in p i (Retaken q) n f = loc_none (Cast p i) (Hand q) n refl
+cast_in p i (Injected r) n f = loc_none (Cast p i) (Inj r) n refl
+cast_in p i (Running q) n f = loc_run (Cast p i) (Hand q) (Work q) n
+cast_in p i _ n f = refl
+
 hand_in : (q : Party) (v : Whereabouts) (n : ℕ) → is_loc (Hand q) (loc_of v n) ≡ one (is_with q v && (n == 0))
 hand_in q (Made r) n = loc_if (Hand q) (Hand r) n
 hand_in q (Running r) n = let a : is_loc (Hand q) (loc_of (Running r) n) ≡ (one (same_party q r && (n == 0)) + one (false && (n == 1))) = loc_run (Hand q) (Hand r) (Work r) n in omega (arith, a)
 hand_in q (InDeque r j) n = loc_none (Hand q) (Deck r j) n refl
 hand_in q (Injected r) n = loc_none (Hand q) (Inj r) n refl
+hand_in q (InCast r j) n = loc_none (Hand q) (Cast r j) n refl
 hand_in q (InFifo r j) n = loc_none (Hand q) (Line r j) n refl
 hand_in q (Retaken r) n = loc_if (Hand q) (Hand r) n
 hand_in q _ n = refl
@@ -409,6 +516,7 @@ work_in q (Running r) n = let a : is_loc (Work q) (loc_of (Running r) n) ≡ (on
 work_in q (Made r) n = loc_none (Work q) (Hand r) n refl
 work_in q (InDeque r j) n = loc_none (Work q) (Deck r j) n refl
 work_in q (Injected r) n = loc_none (Work q) (Inj r) n refl
+work_in q (InCast r j) n = loc_none (Work q) (Cast r j) n refl
 work_in q (InFifo r j) n = loc_none (Work q) (Line r j) n refl
 work_in q (Retaken r) n = loc_none (Work q) (Hand r) n refl
 work_in q _ n = refl
@@ -423,7 +531,7 @@ once w h = record {
   deque = λ p i t. ((h.ok).placed) (Deck p i) t ∙ deck_in p i ((w.job t).at) ((w.job t).runs) (((h.ok).fit) t);
   injector = λ p t. ((h.ok).placed) (Inj p) t ∙ inj_in p ((w.job t).at) ((w.job t).runs) (((h.ok).fit) t);
   fifo = λ p i t. ((h.ok).placed) (Line p i) t ∙ line_in p i ((w.job t).at) ((w.job t).runs) (((h.ok).fit) t);
-  cast = λ p i t. ((h.ok).placed) (Cast p i) t ∙ no_cast p i ((w.job t).at) ((w.job t).runs);
+  cast = λ p i t. ((h.ok).placed) (Cast p i) t ∙ cast_in p i ((w.job t).at) ((w.job t).runs) (((h.ok).fit) t);
   hand = λ q t. ((h.ok).placed) (Hand q) t ∙ hand_in q ((w.job t).at) ((w.job t).runs);
   running = λ q t. ((h.ok).placed) (Work q) t ∙ work_in q ((w.job t).at) ((w.job t).runs);
 }

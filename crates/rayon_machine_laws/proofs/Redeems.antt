@@ -1,38 +1,43 @@
 -- a token that is to be redeemed finds a job in its FIFO list: the tokens that are queued or in hand, and the list's
 -- holder, are no more than its jobs
+use Rattle.rayon_machine_places.specs.declared.place.Mark.{Mark as Marking}
+use Rattle.rayon_machine_places.specs.declared.place.Mark.TheVariants.{Counted, Queued, Returned}
+use Rattle.rayon_machine_laws.proofs.PlacedEvents.{is_dealing, no_deals}
+use Rattle.rayon_machine_laws.proofs.Later.{Static, act_static}
+use Rattle.rayon_machine_places.specs.declared.place.Pieces.{Pieces}
 use Rattle.std.proofs.Common.{arith, refl, sym, ◌∙◌, ap, subst, inl, inr}
-use Rattle.std.specs.Prelude.{ℕ, zero, suc, Bool, true, false, ◌&&◌, ◌+◌, ◌==◌, ◌≤◌, ◌<◌, if◌then◌else◌, Some, List, ◌≡◌, IfSome, length, nat_lt}
+use Rattle.std.specs.Prelude.{ℕ, zero, suc, Bool, true, false, ◌&&◌, ◌+◌, ◌==◌, ◌≤◌, ◌<◌, if◌then◌else◌, Some, List, ◌≡◌, IfSome, length, nat_lt, ◌-◌, ⊤}
 use Rattle.std.proofs.lemmas.Bool.{eqb-true, eq-eqb, ltb-true, ltb-false}
-use Rattle.rayon_machine_places.specs.declared.place.Move.TheVariants.{Back, Discard, Enter, HandBack, HandIn, StartRun, Stay}
-use Rattle.rayon_machine_places.specs.declared.place.Place.TheVariants.{BeginTask, LocalPop, LookForToken, LookQueue, PickVictim, PushJob, PushToken, Run, StealFrom, TakeFromFifo, YieldPick, YieldPop, YieldSteal}
+use Rattle.rayon_machine_places.specs.declared.place.Move.TheVariants.{Back, Discard, Enter, HandBack, HandIn, StartRun, Stay, Mark, HandAllBack}
+use Rattle.rayon_machine_places.specs.declared.place.Place.TheVariants.{BeginTask, LocalPop, LookForToken, LookQueue, PickVictim, PushJob, PushToken, Run, StealFrom, TakeFromFifo, YieldPick, YieldPop, YieldSteal, PushForAll}
 use Rattle.rayon_machine_places.specs.declared.place.Party.TheVariants.{Caller, Worker}
 use Rattle.rayon_machine_laws.proofs.ClaimRuns.{CallsHold, place_part, top_says, world_after}
 use Rattle.rayon_machine_places.specs.declared.place.Plan.TheVariants.{Detach, Feed, Fork, Here, Send}
 use Rattle.rayon_machine_places.specs.declared.place.JobKind.TheVariants.{Detached, Direct, Stored, TokenOf}
-use Rattle.rayon_machine_places.specs.declared.event.Event.TheVariants.{End, EndPool, Fifo, From, Go, Install, Join, Miss, Refuse, Spawn, Yield, YieldLocal}
+use Rattle.rayon_machine_places.specs.declared.event.Event.TheVariants.{End, EndPool, Fifo, From, Go, Install, Join, Miss, Refuse, Spawn, Yield, YieldLocal, Cast}
 use Rattle.rayon_machine_places.specs.declared.place.Ending.{Ending}
 use Rattle.rayon_machine_places.specs.declared.event.Event.{Event}
-use Rattle.rayon_machine_laws.proofs.Stocked.{Fair, act_fair, at_pool, begun_off, draws, is_held, is_pushing, live, live_off, one_set, token_of, up}
+use Rattle.rayon_machine_laws.proofs.Stocked.{Fair, act_fair, at_pool, begun_off, draws, is_held, is_pushing, live, live_off, one_set, token_of, up, live_none}
 use Rattle.rayon_machine_laws.proofs.Feeders.{FeedersHold, first_feeders, is_waiting, step_feeders, waits}
 use Rattle.rayon_machine_places.specs.declared.act.Act.TheVariants.{FifoOut, LookInj, LookOwn, PushInj, PushOwn}
-use Rattle.rayon_machine_places.specs.declared.act.Seen.TheVariants.{Handed}
+use Rattle.rayon_machine_places.specs.declared.act.Seen.TheVariants.{Handed, Done}
 use Rattle.rayon_machine_places.specs.declared.state.Whereabouts.TheVariants.{HandedBack, Made, Over, Retaken, Running, Spent}
 use Rattle.rayon_machine_laws.specs.Once.{IsOnce, IsRedeemed, is_with, one}
 use Rattle.rayon_machine_places.specs.Runs.{IsRun, start}
 use Rattle.rayon_machine_places.specs.declared.state.Job.{Job}
 use Rattle.rayon_machine_places.specs.declared.place.JobKind.{JobKind}
 use Rattle.rayon_machine_places.specs.declared.place.Move.{Move}
-use Rattle.rayon_machine_places.specs.World.{Part, Shape, Stack, World, at_job, begun, target_call, target_pool, target_worker}
+use Rattle.rayon_machine_places.specs.World.{Part, Shape, Stack, World, at_job, begun, target_call, target_pool, target_worker, effect, counts_at}
 use Rattle.rayon_machine_places.specs.declared.place.Party.{Party}
 use Rattle.rayon_machine_places.specs.declared.place.Place.{Place}
 use Rattle.rayon_machine_places.specs.declared.place.Plan.{Plan}
-use Rattle.rayon_machine_laws.proofs.Claims.{Says, Taking}
+use Rattle.rayon_machine_laws.proofs.Claims.{Says, Taking, SaysPieces}
 use Rattle.rayon_machine_places.specs.declared.act.Seen.{Seen}
 use Rattle.rayon_machine_places.specs.declared.place.Taken.TheVariants.{Token}
 use Rattle.rayon_machine_places.specs.declared.state.Whereabouts.{Whereabouts}
 use Rattle.rayon_machine_places.specs.Places.{act_of, after_begin, is_free, is_member, is_refusable, look_act, next_of, own_index, own_pool, plan_job, plan_pool, push_act, same_party}
-use Rattle.rayon_machine_laws.proofs.Frame.{acted_keeps, and_parts, either, fifo_cases, if_cond, if_some_and, if_some_map, put_new, put_old, same_index, same_party_true}
-use Rattle.rayon_machine_places.specs.Steps.{after_choice, after_end, after_end_pool, after_fifo, after_install, after_join, after_miss, after_send, after_spawn, after_yield, blank_job, can_miss, handed_back, is_pool, jobs_after, new_job, put, step}
+use Rattle.rayon_machine_laws.proofs.Frame.{acted_keeps, and_parts, either, fifo_cases, if_cond, if_some_and, if_some_map, put_new, put_old, same_index, same_party_true, put_same}
+use Rattle.rayon_machine_places.specs.Steps.{after_choice, after_end, after_end_pool, after_fifo, after_install, after_join, after_miss, after_send, after_spawn, after_yield, blank_job, can_miss, handed_back, is_pool, jobs_after, new_job, put, step, after_cast, new_piece, is_piece, mark_pieces, marked}
 use Rattle.rayon_machine_laws.proofs.ClaimMakes.{first_calls, step_calls}
 use Rattle.rayon_machine_laws.proofs.Hands.{held, held_in}
 use Rattle.rayon_machine_laws.proofs.Located.{is_left}
@@ -97,14 +102,46 @@ back_less p j (Feed d) f t =
     let a : live p j (g t) ≤ live p j (f t) = put_less p j f d.job (at_job (f d.job) HandedBack) t (off_less p j (at_job (f d.job) HandedBack) (live p j (f d.job)) refl) in
     let b : live p j (put g d.token (at_job (f d.token) HandedBack) t) ≤ live p j (g t) = put_less p j g d.token (at_job (f d.token) HandedBack) t (off_less p j (at_job (f d.token) HandedBack) (live p j (g d.token)) refl) in omega (arith, a, b)
 
-after_less : (p j : ℕ) (q : Party) (g : Move) (f : ℕ → Job) (t : ℕ) → live p j (jobs_after q g f t) ≤ live p j (f t)
-after_less p j q (Stay y) f t = omega arith
-after_less p j q (Enter x y) f t = omega arith
-after_less p j q Back f t = omega arith
-after_less p j q (StartRun x u) f t = put_less p j f u (begun q (f u)) t (let a : live p j (begun q (f u)) ≡ 0 = begun_off p j q (f u) in omega (arith, a))
-after_less p j q (HandIn y k) f t = put_less p j f k (at_job (f k) Spent) t (off_less p j (at_job (f k) Spent) (live p j (f k)) refl)
-after_less p j q (Discard k) f t = put_less p j f k (at_job (f k) Spent) t (off_less p j (at_job (f k) Spent) (live p j (f k)) refl)
-after_less p j q (HandBack n) f t = back_less p j n f t
+abbrev is_queued : Marking → Bool
+is_queued Queued = true
+is_queued _ = false
+
+-- pieces that are dealt are no tokens
+abbrev Deals : (ℕ → Job) → Move → Type 0
+Deals f (Mark y c Queued) = (t : ℕ) → is_piece c t ≡ true → (f t).kind ≡ Detached c.pool
+Deals f _ = ⊤
+
+quiet_deals : (f : ℕ → Job) (g : Move) → is_dealing g ≡ false → Deals f g
+quiet_deals f (Mark y c Queued) e = absurd (cc)
+quiet_deals f _ e = tt
+
+marked_less : (p j : ℕ) (c : Pieces) (k : Marking) (f : ℕ → Job) (t : ℕ) → (is_queued k ≡ true → is_piece c t ≡ true → (f t).kind ≡ Detached c.pool) → live p j (mark_pieces c k f t) ≤ live p j (f t)
+marked_less p j c k f t d = by (is_piece c t) refl
+  where
+    less : (k : Marking) (i : ℕ) (v : Job) → (is_queued k ≡ true → v.kind ≡ Detached c.pool) → live p j (marked k c.pool i v) ≤ live p j v
+    less Counted i v d = omega arith
+    less Queued i v d = let a : live p j (marked Queued c.pool i v) ≡ 0 = live_none p j (marked Queued c.pool i v) (ap (token_of j) (d refl)) in omega (arith, a)
+    less Returned i v d = off_less p j (marked Returned c.pool i v) (live p j v) refl
+
+    by : (b : Bool) → is_piece c t ≡ b → live p j (if b then marked k c.pool (t - c.first) (f t) else f t) ≤ live p j (f t)
+    by true e = less k (t - c.first) (f t) (λ z. d z e)
+    by false e = omega arith
+
+after_less : (p j : ℕ) (q : Party) (g : Move) (f : ℕ → Job) (t : ℕ) → Deals f g → live p j (jobs_after q g f t) ≤ live p j (f t)
+after_less p j q (Stay y) f t d = omega arith
+after_less p j q (Enter x y) f t d = omega arith
+after_less p j q Back f t d = omega arith
+after_less p j q (StartRun x u) f t d = put_less p j f u (begun q (f u)) t (let a : live p j (begun q (f u)) ≡ 0 = begun_off p j q (f u) in omega (arith, a))
+after_less p j q (HandIn y k) f t d = put_less p j f k (at_job (f k) Spent) t (off_less p j (at_job (f k) Spent) (live p j (f k)) refl)
+after_less p j q (Discard k) f t d = put_less p j f k (at_job (f k) Spent) t (off_less p j (at_job (f k) Spent) (live p j (f k)) refl)
+after_less p j q (HandBack n) f t d = back_less p j n f t
+after_less p j q (Mark y c k) f t d = marked_less p j c k f t (λ z. deals y c k f t z d)
+  where
+    deals : (y : Place) (c : Pieces) (k : Marking) (f : ℕ → Job) (t : ℕ) → is_queued k ≡ true → Deals f (Mark y c k) → is_piece c t ≡ true → (f t).kind ≡ Detached c.pool
+    deals y c Queued f t z d = d t
+    deals y c Counted f t z d = absurd (cc)
+    deals y c Returned f t z d = absurd (cc)
+after_less p j q (HandAllBack c) f t d = marked_less p j c Returned f t (λ z. absurd (cc))
 
 -- the token that a party redeems is none any more
 spent : (p j : ℕ) (f : ℕ → Job) (k : ℕ) → live p j (put f k (at_job (f k) Spent) k) ≡ 0
@@ -139,24 +176,36 @@ pub record StocksHold (w : World) : Type 0 where
   pub feeders : FeedersHold w
   pub stocks : Stocks w
 
+-- a fair act whose pieces, if it deals some, are no tokens
+abbrev Fairly : World → Party → Place → Seen × Part → Type 0
+Fairly w q x r = Fair q x (place_part w q x) r × Deals (put w.job (job_at w q (act_of q x)) (r.1.job)) (next_of (w.shape.pool (target_pool q (act_of q x))) q x (r.0))
+
+push_deals : (w : World) (q : Party) (c : Pieces) (r : Seen × Part) → SaysPieces w c → Static (place_part w q (PushForAll c)) r → (e : Seen) → Deals (put w.job (job_at w q (act_of q (PushForAll c))) (r.1.job)) (next_of (w.shape.pool (target_pool q (act_of q (PushForAll c)))) q (PushForAll c) e)
+push_deals w q c r s st Done = λ t z. put_same (λ j. j.kind) w.job (job_at w q (act_of q (PushForAll c))) (r.1.job) t st.kind ∙ (s t z).kind
+push_deals w q c r s st _ = tt
+
+go_deals : (w : World) (q : Party) (x : Place) → Says w q x → IfSome (effect (act_of q x) w.shape q (counts_at w (target_pool q (act_of q x))) (place_part w q x)) (λ r. Deals (put w.job (job_at w q (act_of q x)) (r.1.job)) (next_of (w.shape.pool (target_pool q (act_of q x))) q x (r.0)))
+go_deals w q (PushForAll c) s = if_some_map (Static (place_part w q (PushForAll c))) (λ r. Deals (put w.job (job_at w q (act_of q (PushForAll c))) (r.1.job)) (next_of (w.shape.pool (target_pool q (act_of q (PushForAll c)))) q (PushForAll c) (r.0))) (λ r st. push_deals w q c r s st (r.0)) _ (act_static w.shape q (counts_at w (target_pool q (act_of q (PushForAll c)))) (place_part w q (PushForAll c)) (PushForAll c))
+go_deals w q x s = if_some_map (λ r. is_dealing (next_of (w.shape.pool (target_pool q (act_of q x))) q x (r.0)) ≡ false) (λ r. Deals (put w.job (job_at w q (act_of q x)) (r.1.job)) (next_of (w.shape.pool (target_pool q (act_of q x))) q x (r.0))) (λ r z. quiet_deals (put w.job (job_at w q (act_of q x)) (r.1.job)) (next_of (w.shape.pool (target_pool q (act_of q x))) q x (r.0)) z) _ (no_deals w.shape (w.shape.pool (target_pool q (act_of q x))) q (counts_at w (target_pool q (act_of q x))) (place_part w q x) x refl)
+
 -- an act, for each job
-old_less : (w : World) (q : Party) (x : Place) (fs : List Place) (r : Seen × Part) (p j t : ℕ) → (t == job_at w q (act_of q x)) ≡ false → live p j ((world_after w q x fs r).job t) ≤ live p j (w.job t)
-old_less w q x fs r p j t e =
+old_less : (w : World) (q : Party) (x : Place) (fs : List Place) (r : Seen × Part) → Fairly w q x r → (p j t : ℕ) → (t == job_at w q (act_of q x)) ≡ false → live p j ((world_after w q x fs r).job t) ≤ live p j (w.job t)
+old_less w q x fs r f p j t e =
     let g : Move = next_of (w.shape.pool (target_pool q (act_of q x))) q x (r.0) in
-    let a : live p j ((world_after w q x fs r).job t) ≤ live p j (put w.job (job_at w q (act_of q x)) (r.1.job) t) = after_less p j q g (put w.job (job_at w q (act_of q x)) (r.1.job)) t in
+    let a : live p j ((world_after w q x fs r).job t) ≤ live p j (put w.job (job_at w q (act_of q x)) (r.1.job) t) = after_less p j q g (put w.job (job_at w q (act_of q x)) (r.1.job)) t (f.1) in
     let b : live p j (put w.job (job_at w q (act_of q x)) (r.1.job) t) ≡ live p j (w.job t) = ap (live p j) (put_old w.job (job_at w q (act_of q x)) (r.1.job) t e) in omega (arith, a, b)
 
-new_less : (w : World) (q : Party) (x : Place) (fs : List Place) (r : Seen × Part) → Fair q x (place_part w q x) r → (p j : ℕ) → live p j ((world_after w q x fs r).job (job_at w q (act_of q x))) ≤ live p j (w.job (job_at w q (act_of q x))) + up q x p j
+new_less : (w : World) (q : Party) (x : Place) (fs : List Place) (r : Seen × Part) → Fairly w q x r → (p j : ℕ) → live p j ((world_after w q x fs r).job (job_at w q (act_of q x))) ≤ live p j (w.job (job_at w q (act_of q x))) + up q x p j
 new_less w q x fs r f p j =
     let g : Move = next_of (w.shape.pool (target_pool q (act_of q x))) q x (r.0) in
     let n : ℕ = job_at w q (act_of q x) in
-    let a : live p j ((world_after w q x fs r).job n) ≤ live p j (put w.job n (r.1.job) n) = after_less p j q g (put w.job n (r.1.job)) n in
+    let a : live p j ((world_after w q x fs r).job n) ≤ live p j (put w.job n (r.1.job) n) = after_less p j q g (put w.job n (r.1.job)) n (f.1) in
     let b : live p j (put w.job n (r.1.job) n) ≡ live p j (r.1.job) = ap (live p j) (put_new w.job n (r.1.job)) in
-    let c : live p j (r.1.job) ≤ live p j (w.job n) + up q x p j = f.job p j in omega (arith, a, b, c)
+    let c : live p j (r.1.job) ≤ live p j (w.job n) + up q x p j = (f.0).job p j in omega (arith, a, b, c)
 
 -- and for their sum
-act_sum : (w : World) (q : Party) (x : Place) (fs : List Place) (r : Seen × Part) → Fair q x (place_part w q x) r → (p j n : ℕ) → sum_below n (λ t. live p j ((world_after w q x fs r).job t)) ≤ sum_below n (λ t. live p j (w.job t)) + up q x p j
-act_sum w q x fs r f p j n = sum_put n (λ t. live p j (w.job t)) (λ t. live p j ((world_after w q x fs r).job t)) (job_at w q (act_of q x)) (up q x p j) (λ t e. old_less w q x fs r p j t e) (new_less w q x fs r f p j)
+act_sum : (w : World) (q : Party) (x : Place) (fs : List Place) (r : Seen × Part) → Fairly w q x r → (p j n : ℕ) → sum_below n (λ t. live p j ((world_after w q x fs r).job t)) ≤ sum_below n (λ t. live p j (w.job t)) + up q x p j
+act_sum w q x fs r f p j n = sum_put n (λ t. live p j (w.job t)) (λ t. live p j ((world_after w q x fs r).job t)) (job_at w q (act_of q x)) (up q x p j) (λ t e. old_less w q x fs r f p j t e) (new_less w q x fs r f p j)
 
 up_most : (q : Party) (x : Place) (p j : ℕ) → up q x p j ≤ one (is_pushing x)
 up_most q x p j = by (is_pushing x) ((p == own_pool q) && (j == own_index q))
@@ -172,26 +221,26 @@ up_other (Caller c) (PushToken f v) p j e = ap one e
 up_other q _ p j e = refl
 
 -- the list that an act touches
-plain_stocks : (w : World) (q : Party) (x : Place) (fs : List Place) (r : Seen × Part) → StocksHold w → Fair q x (place_part w q x) r → draws x ≡ 0 → (n : ℕ) → sum_below n (λ t. live (target_pool q (act_of q x)) (target_worker q (act_of q x)) ((world_after w q x fs r).job t)) + one (is_held r.1.seat.feeder) ≤ length r.1.seat.fifo
+plain_stocks : (w : World) (q : Party) (x : Place) (fs : List Place) (r : Seen × Part) → StocksHold w → Fairly w q x r → draws x ≡ 0 → (n : ℕ) → sum_below n (λ t. live (target_pool q (act_of q x)) (target_worker q (act_of q x)) ((world_after w q x fs r).job t)) + one (is_held r.1.seat.feeder) ≤ length r.1.seat.fifo
 plain_stocks w q x fs r h f z n =
     let p : ℕ = target_pool q (act_of q x) in let j : ℕ = target_worker q (act_of q x) in
     let a : sum_below n (λ t. live p j ((world_after w q x fs r).job t)) ≤ sum_below n (λ t. live p j (w.job t)) + up q x p j = act_sum w q x fs r f p j n in
     let b : sum_below n (λ t. live p j (w.job t)) + one (is_held (w.seat p j).feeder) ≤ length (w.seat p j).fifo = h.stocks p j n in
-    let c : (one (is_held r.1.seat.feeder) + length (w.seat p j).fifo) + one (is_pushing x) ≤ (one (is_held (w.seat p j).feeder) + length r.1.seat.fifo) + draws x = f.list in
+    let c : (one (is_held r.1.seat.feeder) + length (w.seat p j).fifo) + one (is_pushing x) ≤ (one (is_held (w.seat p j).feeder) + length r.1.seat.fifo) + draws x = (f.0).list in
     let d : up q x p j ≤ one (is_pushing x) = up_most q x p j in omega (arith, a, b, c, d, z)
 
 token_at : (q : Party) (k i : ℕ) → (target_pool q (act_of q (BeginTask (Token k i))) ≡ own_pool q) × (target_worker q (act_of q (BeginTask (Token k i))) ≡ i)
 token_at (Worker a b) k i = (refl, refl)
 token_at (Caller c) k i = (refl, refl)
 
-drawn_less : (w : World) (q : Party) (k i : ℕ) (fs : List Place) (r : Seen × Part) → Fair q (BeginTask (Token k i)) (place_part w q (BeginTask (Token k i))) r → (p j t : ℕ) → live p j ((world_after w q (BeginTask (Token k i)) fs r).job t) ≤ live p j (w.job t)
+drawn_less : (w : World) (q : Party) (k i : ℕ) (fs : List Place) (r : Seen × Part) → Fairly w q (BeginTask (Token k i)) r → (p j t : ℕ) → live p j ((world_after w q (BeginTask (Token k i)) fs r).job t) ≤ live p j (w.job t)
 drawn_less w q k i fs r f p j t = elim (either (t == job_at w q (act_of q (BeginTask (Token k i))))) [
   | inl y ↦ subst (λ n. live p j ((world_after w q (BeginTask (Token k i)) fs r).job n) ≤ live p j (w.job n)) (sym (eqb-true t (job_at w q (act_of q (BeginTask (Token k i)))) y))
       (let a : live p j ((world_after w q (BeginTask (Token k i)) fs r).job (job_at w q (act_of q (BeginTask (Token k i))))) ≤ live p j (w.job (job_at w q (act_of q (BeginTask (Token k i))))) + 0 = new_less w q (BeginTask (Token k i)) fs r f p j in omega (arith, a))
-  | inr y ↦ old_less w q (BeginTask (Token k i)) fs r p j t y
+  | inr y ↦ old_less w q (BeginTask (Token k i)) fs r f p j t y
 ]
 
-drawn_stocks : (w : World) (q : Party) (k i : ℕ) (fs : List Place) (r : Seen × Part) → w.stack q ≡ record { top = BeginTask (Token k i); below = fs } → StocksHold w → Fair q (BeginTask (Token k i)) (place_part w q (BeginTask (Token k i))) r → (n : ℕ) → sum_below n (λ t. live (target_pool q (act_of q (BeginTask (Token k i)))) (target_worker q (act_of q (BeginTask (Token k i)))) ((world_after w q (BeginTask (Token k i)) fs r).job t)) + one (is_held r.1.seat.feeder) ≤ length r.1.seat.fifo
+drawn_stocks : (w : World) (q : Party) (k i : ℕ) (fs : List Place) (r : Seen × Part) → w.stack q ≡ record { top = BeginTask (Token k i); below = fs } → StocksHold w → Fairly w q (BeginTask (Token k i)) r → (n : ℕ) → sum_below n (λ t. live (target_pool q (act_of q (BeginTask (Token k i)))) (target_worker q (act_of q (BeginTask (Token k i)))) ((world_after w q (BeginTask (Token k i)) fs r).job t)) + one (is_held r.1.seat.feeder) ≤ length r.1.seat.fifo
 drawn_stocks w q k i fs r e h f n =
     let p : ℕ = target_pool q (act_of q (BeginTask (Token k i))) in let j : ℕ = target_worker q (act_of q (BeginTask (Token k i))) in
     let was : live p j (w.job k) ≡ 1 = subst (λ a. live a j (w.job k) ≡ 1) (sym ((token_at q k i).0)) (subst (λ b. live (own_pool q) b (w.job k) ≡ 1) (sym ((token_at q k i).1)) (token_live w q k i fs e (once w ((h.calls).jobs)) (top_says w q (BeginTask (Token k i)) fs h.calls e))) in
@@ -199,13 +248,13 @@ drawn_stocks w q k i fs r e h f n =
     let a : sum_below n (λ t. live p j ((world_after w q (BeginTask (Token k i)) fs r).job t)) ≤ sum_below (suc k + n) (λ t. live p j ((world_after w q (BeginTask (Token k i)) fs r).job t)) = sum_up (suc k) n (λ t. live p j ((world_after w q (BeginTask (Token k i)) fs r).job t)) in
     let b : sum_below (suc k + n) (λ t. live p j ((world_after w q (BeginTask (Token k i)) fs r).job t)) + 1 ≤ sum_below (suc k + n) (λ t. live p j (w.job t)) = sum_less (suc k + n) (λ t. live p j (w.job t)) (λ t. live p j ((world_after w q (BeginTask (Token k i)) fs r).job t)) k (omega arith) (λ t. drawn_less w q k i fs r f p j t) (omega (arith, was, now)) in
     let c : sum_below (suc k + n) (λ t. live p j (w.job t)) + one (is_held (w.seat p j).feeder) ≤ length (w.seat p j).fifo = h.stocks p j (suc k + n) in
-    let d : (one (is_held r.1.seat.feeder) + length (w.seat p j).fifo) + 0 ≤ (one (is_held (w.seat p j).feeder) + length r.1.seat.fifo) + 1 = f.list in omega (arith, a, b, c, d)
+    let d : (one (is_held r.1.seat.feeder) + length (w.seat p j).fifo) + 0 ≤ (one (is_held (w.seat p j).feeder) + length r.1.seat.fifo) + 1 = (f.0).list in omega (arith, a, b, c, d)
 
-own_stocks : (w : World) (q : Party) (x : Place) (fs : List Place) (r : Seen × Part) → w.stack q ≡ record { top = x; below = fs } → StocksHold w → Fair q x (place_part w q x) r → (n : ℕ) → sum_below n (λ t. live (target_pool q (act_of q x)) (target_worker q (act_of q x)) ((world_after w q x fs r).job t)) + one (is_held r.1.seat.feeder) ≤ length r.1.seat.fifo
+own_stocks : (w : World) (q : Party) (x : Place) (fs : List Place) (r : Seen × Part) → w.stack q ≡ record { top = x; below = fs } → StocksHold w → Fairly w q x r → (n : ℕ) → sum_below n (λ t. live (target_pool q (act_of q x)) (target_worker q (act_of q x)) ((world_after w q x fs r).job t)) + one (is_held r.1.seat.feeder) ≤ length r.1.seat.fifo
 own_stocks w q (BeginTask (Token k i)) fs r e h f n = drawn_stocks w q k i fs r e h f n
 own_stocks w q x fs r e h f n = plain_stocks w q x fs r h f refl n
 
-act_stocks : (w : World) (q : Party) (x : Place) (fs : List Place) (r : Seen × Part) → w.stack q ≡ record { top = x; below = fs } → StocksHold w → Fair q x (place_part w q x) r → Stocks (world_after w q x fs r)
+act_stocks : (w : World) (q : Party) (x : Place) (fs : List Place) (r : Seen × Part) → w.stack q ≡ record { top = x; below = fs } → StocksHold w → Fairly w q x r → Stocks (world_after w q x fs r)
 act_stocks w q x fs r e h f p j n = by ((p == p0) && (j == i0)) refl
   where
     p0 : ℕ
@@ -223,8 +272,8 @@ act_stocks w q x fs r e h f p j n = by ((p == p0) && (j == i0)) refl
         let c : up q x p j ≡ 0 = up_other q x p j y in omega (arith, a, b, c)
 
 go_stocks : (w : World) (q : Party) → StocksHold w → IfSome (outcome w q (w.stack q)) (λ r. Stocks (result w q (w.stack q) r))
-go_stocks w q h = if_some_map (Fair q ((w.stack q).top) (place_part w q ((w.stack q).top))) (λ r. Stocks (result w q (w.stack q) r)) (λ r f. act_stocks w q ((w.stack q).top) ((w.stack q).below) r refl h f) (outcome w q (w.stack q))
-    (act_fair w q ((w.stack q).top) (once w ((h.calls).jobs)) (((h.calls).says q).top) (λ p i e z. held p i e z))
+go_stocks w q h = if_some_map (Fairly w q ((w.stack q).top)) (λ r. Stocks (result w q (w.stack q) r)) (λ r f. act_stocks w q ((w.stack q).top) ((w.stack q).below) r refl h f) (outcome w q (w.stack q))
+    (if_some_and (Fair q ((w.stack q).top) (place_part w q ((w.stack q).top))) (λ r. Deals (put w.job (job_at w q (act_of q ((w.stack q).top))) (r.1.job)) (next_of (w.shape.pool (target_pool q (act_of q ((w.stack q).top)))) q ((w.stack q).top) (r.0))) (outcome w q (w.stack q)) (act_fair w q ((w.stack q).top) (once w ((h.calls).jobs)) (((h.calls).says q).top) (λ p i e z. held p i e z)) (go_deals w q ((w.stack q).top) (((h.calls).says q).top)))
   where
     held : (p i : ℕ) → q ≡ Worker p i → is_waiting ((w.stack q).top) ≡ true → (w.seat p i).feeder ≡ Some (Worker p i)
     held p i e z = some ((w.stack (Worker p i)).top) refl (ap (λ g. is_waiting ((w.stack g).top)) (sym e) ∙ z)
@@ -271,6 +320,16 @@ two_less_jobs p j f n q a k l t =
 spawn_fades : (w : World) (q : Party) (r : ℕ) → IfSome (after_spawn w q r (w.stack q)) (Fades w)
 spawn_fades w q r = if_cond (Fades w) (is_free ((w.stack q).top) && is_pool w.shape r) _ (λ b. (λ p j t. new_less_job p j w.job w.jobs q r (Detached r) t, λ p j. refl))
 
+cast_fades : (w : World) (q : Party) (r : ℕ) → IfSome (after_cast w q r (w.stack q)) (Fades w)
+cast_fades w q r = if_cond (Fades w) (is_free ((w.stack q).top) && is_pool w.shape r) _ (λ b. (λ p j t. new p j t (is_piece c t), λ p j. refl))
+  where
+    c : Pieces
+    c = record { pool = r; first = w.jobs; workers = (w.shape.pool r).workers }
+
+    new : (p j t : ℕ) (b : Bool) → live p j (if b then new_piece q r (t - c.first) else w.job t) ≤ live p j (w.job t)
+    new p j t true = off_less p j (new_piece q r (t - c.first)) (live p j (w.job t)) refl
+    new p j t false = omega arith
+
 fifo_fades : (w : World) (q : Party) (r : ℕ) → IfSome (after_fifo w q r (w.stack q)) (Fades w)
 fifo_fades w q r = fifo_cases (Fades w) w q r (spawn_fades w q r) (λ i free. (λ p j t. two_less_jobs p j w.job w.jobs (Worker r i) r (Detached r) (TokenOf i) t, λ p j. refl))
 
@@ -307,6 +366,7 @@ event_fades w (Miss q) e = miss_fades w q (w.stack q) ((w.stack q).top)
 event_fades w (End q d) e = end_fades w q d (w.stack q) ((w.stack q).top)
 event_fades w (Spawn q p) e = spawn_fades w q p
 event_fades w (Fifo q p) e = fifo_fades w q p
+event_fades w (Cast q p) e = cast_fades w q p
 event_fades w (Install q p) e = install_fades w q p
 event_fades w (Join q) e = join_fades w q
 event_fades w (Yield q) e = yield_fades w q YieldPop
@@ -321,6 +381,7 @@ step_sums w (Miss q) h = step_fade w (Miss q) h (event_fades w (Miss q) refl)
 step_sums w (End q d) h = step_fade w (End q d) h (event_fades w (End q d) refl)
 step_sums w (Spawn q p) h = step_fade w (Spawn q p) h (event_fades w (Spawn q p) refl)
 step_sums w (Fifo q p) h = step_fade w (Fifo q p) h (event_fades w (Fifo q p) refl)
+step_sums w (Cast q p) h = step_fade w (Cast q p) h (event_fades w (Cast q p) refl)
 step_sums w (Install q p) h = step_fade w (Install q p) h (event_fades w (Install q p) refl)
 step_sums w (Join q) h = step_fade w (Join q) h (event_fades w (Join q) refl)
 step_sums w (Yield q) h = step_fade w (Yield q) h (event_fades w (Yield q) refl)

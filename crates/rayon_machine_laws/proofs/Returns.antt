@@ -1,6 +1,10 @@
 -- a refused call's share is given back: in every world its jobs are not in the count, from the act after its Lower on
+use Rattle.rayon_machine_places.specs.declared.place.Mark.TheVariants.{Counted, Returned}
+use Rattle.rayon_machine_places.specs.declared.place.Move.TheVariants.{Mark}
+use Rattle.rayon_machine_places.specs.declared.place.Move.{Move}
+use Rattle.rayon_machine_places.specs.declared.place.Pieces.{Pieces}
 use Rattle.std.proofs.Common.{rules, arith, refl, sym, ◌∙◌, ap, subst, inl, inr}
-use Rattle.std.specs.Prelude.{ℕ, Bool, true, false, ◌&&◌, ◌+◌, ◌==◌, ◌≤◌, ◌<◌, nat_lt, if◌then◌else◌, Some, None, List, ◌≡◌, IfSome}
+use Rattle.std.specs.Prelude.{ℕ, Bool, true, false, ◌&&◌, ◌+◌, ◌==◌, ◌≤◌, ◌<◌, nat_lt, if◌then◌else◌, Some, None, List, ◌≡◌, IfSome, ◌-◌}
 use Rattle.std.proofs.lemmas.Bool.{eqb-true, ltb-true, ltb-false}
 use Rattle.std.proofs.Math.Dec.{ltb}
 use Rattle.rayon_machine_places.specs.declared.place.Party.{Party}
@@ -16,11 +20,11 @@ use Rattle.rayon_machine_places.specs.declared.place.Share.TheVariants.{PoolValu
 use Rattle.rayon_machine_places.specs.declared.place.Then.{Then}
 use Rattle.rayon_machine_places.specs.declared.place.Then.TheVariants.{Resume, GiveBack}
 use Rattle.rayon_machine_places.specs.declared.place.Place.{Place}
-use Rattle.rayon_machine_places.specs.declared.place.Place.TheVariants.{ProbeWorking, PickVictim, StealFrom, GetSleepy, FallAsleep, WakeUp, YieldPop, YieldPick, YieldSteal, LocalPop, Run, RaiseCount, GrowCall, PushJob, LowerCount, SetLatch, LockToSettle, WakeSettled, UnlockSettled, AddToFifo, PushToken}
+use Rattle.rayon_machine_places.specs.declared.place.Place.TheVariants.{ProbeWorking, PickVictim, StealFrom, GetSleepy, FallAsleep, WakeUp, YieldPop, YieldPick, YieldSteal, LocalPop, Run, RaiseCount, GrowCall, PushJob, LowerCount, SetLatch, LockToSettle, WakeSettled, UnlockSettled, AddToFifo, PushToken, RaiseForAll, PushForAll, LowerForAll}
 use Rattle.rayon_machine_places.specs.declared.act.Seen.{Seen}
 use Rattle.rayon_machine_places.specs.declared.act.Seen.TheVariants.{Done, Refused, Yes, No, Missing, Start}
 use Rattle.rayon_machine_places.specs.declared.event.Event.{Event}
-use Rattle.rayon_machine_places.specs.declared.event.Event.TheVariants.{Go, From, Refuse, Miss, End, Spawn, Fifo, Install, Join, Yield, YieldLocal, EndPool}
+use Rattle.rayon_machine_places.specs.declared.event.Event.TheVariants.{Go, From, Refuse, Miss, End, Spawn, Fifo, Install, Join, Yield, YieldLocal, EndPool, Cast}
 use Rattle.rayon_machine_places.specs.declared.state.Letter.{Letter}
 use Rattle.rayon_machine_places.specs.declared.state.Letter.TheVariants.{Set as IsSet}
 use Rattle.rayon_machine_places.specs.declared.state.Whereabouts.{Whereabouts}
@@ -30,11 +34,11 @@ use Rattle.rayon_machine_places.specs.declared.state.Call.{Call}
 use Rattle.rayon_machine_places.specs.declared.shape.PoolShape.{PoolShape}
 use Rattle.rayon_machine_places.specs.Places.{same_party, own_pool, is_member, latch_of, plan_pool, plan_job, after_raise, act_of, next_of, is_free}
 use Rattle.rayon_machine_places.specs.World.{Shape, Stack, World, Counts, counts_at, Part, target_pool, target_worker, target_call, letter, with_letter, at_job, effect}
-use Rattle.rayon_machine_places.specs.Steps.{put, put_stack, after_move, jobs_after, after_choice, after_refusal, can_miss, after_miss, after_close, after_end, after_call, is_pool, new_job, new_call, after_spawn, after_send, after_install, after_join, after_yield, after_end_pool, step, after_feed}
+use Rattle.rayon_machine_places.specs.Steps.{put, put_stack, after_move, jobs_after, after_choice, after_refusal, can_miss, after_miss, after_close, after_end, after_call, is_pool, new_job, new_call, after_spawn, after_send, after_install, after_join, after_yield, after_end_pool, step, after_feed, after_cast, put_pieces, new_piece, is_piece, mark_pieces, marked}
 use Rattle.rayon_machine_places.specs.Runs.{start, IsRun}
 use Rattle.rayon_machine_laws.specs.Once.{one}
 use Rattle.rayon_machine_laws.specs.End.{AllJobs, after_settling, IsReturned}
-use Rattle.rayon_machine_laws.proofs.Frame.{either, same_party_true, if_some_and, if_some_map, if_cond, acted_keeps, put_same, put_new, put_old, stack_mine, stack_other, after_counted, fifo_cases}
+use Rattle.rayon_machine_laws.proofs.Frame.{either, same_party_true, if_some_and, if_some_map, if_cond, acted_keeps, put_same, put_new, put_old, stack_mine, stack_other, after_counted, fifo_cases, is_sharing, piece_new, piece_old}
 use Rattle.rayon_machine_laws.proofs.Ties.{job_at, outcome}
 use Rattle.rayon_machine_laws.proofs.Events.{run_keeps}
 use Rattle.rayon_machine_laws.proofs.Hands.{hand_plan, held}
@@ -44,10 +48,10 @@ use Rattle.rayon_machine_laws.proofs.ClaimEvents.{ended_world}
 use Rattle.rayon_machine_laws.proofs.ClaimMakes.{calling, below_new}
 use Rattle.rayon_machine_laws.proofs.Amounts.{paid}
 use Rattle.rayon_machine_laws.proofs.ShareActs.{SharesHold, is_tally, Untallied, same_untallied, act_untallied}
-use Rattle.rayon_machine_laws.proofs.ShareSteps.{self_one, raised_world}
-use Rattle.rayon_machine_laws.proofs.ShareLowers.{lowered_world}
+use Rattle.rayon_machine_laws.proofs.ShareSteps.{self_one, raised_world, no_steady, lower_steady, raise_steady, all_raised}
+use Rattle.rayon_machine_laws.proofs.ShareLowers.{lowered_world, all_lowered, returned_jobs}
 use Rattle.rayon_machine_laws.proofs.ShareEnds.{step_shares, first_shares}
-use Rattle.rayon_machine_laws.proofs.Bares.{bare_then, bare, bare_in, all_bare, bare_move, backs, bare_held, bare_raised, bares, land_only, land_bare, closed_bare}
+use Rattle.rayon_machine_laws.proofs.Bares.{bare_then, bare, bare_in, all_bare, bare_move, backs, bare_held, bare_raised, bares, land_only, land_bare, closed_bare, handed}
 use Rattle.rayon_machine_laws.proofs.Letters.{sleepy_keeps, asleep_keeps, wake_keeps, set_keeps}
 
 -- a job with a share is not handed back, and no party has it in hand without one
@@ -95,10 +99,10 @@ put_backs J n j t a = by (t == n) refl
     by false e = omega arith
 
 -- what a party has after an act, and what its move hands back
-line : (w : World) (q : Party) (x : Place) (fs : List Place) (r : Seen × Part) (t : ℕ) → w.stack q ≡ record { top = x; below = fs } → Unbacked (place_part w q x) r → (all_bare t (after_move (next_of (w.shape.pool (target_pool q (act_of q x))) q x (r.0)) fs) + backs ((world_after w q x fs r).job t).at ≤ bare_move t (next_of (w.shape.pool (target_pool q (act_of q x))) q x (r.0)) + bare_in t fs + backs (w.job t).at) × (all_bare t (after_move (next_of (w.shape.pool (target_pool q (act_of q x))) q x (r.0)) fs) + backs ((world_after w q x fs r).job t).at ≤ all_bare t (w.stack q) + paid t x + backs (w.job t).at)
+line : (w : World) (q : Party) (x : Place) (fs : List Place) (r : Seen × Part) (t : ℕ) → w.stack q ≡ record { top = x; below = fs } → Unbacked (place_part w q x) r → (all_bare t (after_move (next_of (w.shape.pool (target_pool q (act_of q x))) q x (r.0)) fs) + backs ((world_after w q x fs r).job t).at ≤ bare_move t (next_of (w.shape.pool (target_pool q (act_of q x))) q x (r.0)) + handed t (next_of (w.shape.pool (target_pool q (act_of q x))) q x (r.0)) + bare_in t fs + backs (w.job t).at) × (all_bare t (after_move (next_of (w.shape.pool (target_pool q (act_of q x))) q x (r.0)) fs) + backs ((world_after w q x fs r).job t).at ≤ all_bare t (w.stack q) + paid t x + handed t (next_of (w.shape.pool (target_pool q (act_of q x))) q x (r.0)) + backs (w.job t).at)
 line w q x fs r t z un = (omega (arith, one_part, two), omega (arith, one_part, two, three, four))
   where
-    one_part : all_bare t (after_move (next_of (w.shape.pool (target_pool q (act_of q x))) q x (r.0)) fs) + backs ((world_after w q x fs r).job t).at ≤ bare_move t (next_of (w.shape.pool (target_pool q (act_of q x))) q x (r.0)) + bare_in t fs + backs (put w.job (job_at w q (act_of q x)) (r.1.job) t).at
+    one_part : all_bare t (after_move (next_of (w.shape.pool (target_pool q (act_of q x))) q x (r.0)) fs) + backs ((world_after w q x fs r).job t).at ≤ bare_move t (next_of (w.shape.pool (target_pool q (act_of q x))) q x (r.0)) + handed t (next_of (w.shape.pool (target_pool q (act_of q x))) q x (r.0)) + bare_in t fs + backs (put w.job (job_at w q (act_of q x)) (r.1.job) t).at
     one_part = land_bare q t (next_of (w.shape.pool (target_pool q (act_of q x))) q x (r.0)) fs (put w.job (job_at w q (act_of q x)) (r.1.job))
 
     two : backs (put w.job (job_at w q (act_of q x)) (r.1.job) t).at ≤ backs (w.job t).at
@@ -111,12 +115,19 @@ line w q x fs r t z un = (omega (arith, one_part, two), omega (arith, one_part, 
     four = ap (all_bare t) z
 
 -- an act that neither takes a share nor gives a job's back
-plain_returns : (w : World) (q : Party) (x : Place) (fs : List Place) (r : Seen × Part) → w.stack q ≡ record { top = x; below = fs } → Untallied (place_part w q x) r → Unbacked (place_part w q x) r → ((t : ℕ) → paid t x ≡ 0) → ReturnsHold w → SharesHold (world_after w q x fs r) → ReturnsHold (world_after w q x fs r)
-plain_returns w q x fs r z ut un none h s = returns_keep w (world_after w q x fs r) q (after_move (next_of (w.shape.pool (target_pool q (act_of q x))) q x (r.0)) fs) (λ i. refl)
-    (λ t c. (sym (counted t) ∙ c, (let a : all_bare t (after_move (next_of (w.shape.pool (target_pool q (act_of q x))) q x (r.0)) fs) + backs ((world_after w q x fs r).job t).at ≤ all_bare t (w.stack q) + paid t x + backs (w.job t).at = (line w q x fs r t z un).1 in let b : paid t x ≡ 0 = none t in omega (arith, a, b)))) h s
+steady_returns : (w : World) (q : Party) (x : Place) (fs : List Place) (r : Seen × Part) → w.stack q ≡ record { top = x; below = fs } → ((t : ℕ) → ((world_after w q x fs r).job t).counted ≡ true → ((w.job t).counted ≡ true) × (handed t (next_of (w.shape.pool (target_pool q (act_of q x))) q x (r.0)) ≡ 0)) → Unbacked (place_part w q x) r → ((t : ℕ) → ((world_after w q x fs r).job t).counted ≡ true → paid t x ≡ 0) → ReturnsHold w → SharesHold (world_after w q x fs r) → ReturnsHold (world_after w q x fs r)
+steady_returns w q x fs r z ut un none h s = returns_keep w (world_after w q x fs r) q (after_move (next_of (w.shape.pool (target_pool q (act_of q x))) q x (r.0)) fs) (λ i. refl)
+    (λ t c. ((ut t c).0, (let a : all_bare t (after_move (next_of (w.shape.pool (target_pool q (act_of q x))) q x (r.0)) fs) + backs ((world_after w q x fs r).job t).at ≤ all_bare t (w.stack q) + paid t x + handed t (next_of (w.shape.pool (target_pool q (act_of q x))) q x (r.0)) + backs (w.job t).at = (line w q x fs r t z un).1 in let b : paid t x ≡ 0 = none t c in let d : handed t (next_of (w.shape.pool (target_pool q (act_of q x))) q x (r.0)) ≡ 0 = (ut t c).1 in omega (arith, a, b, d)))) h s
+
+none_handed : (t : ℕ) (g : Move) → is_sharing g ≡ false → handed t g ≡ 0
+none_handed t (Mark y c Returned) e = absurd (cc)
+none_handed t _ e = refl
+
+plain_returns : (w : World) (q : Party) (x : Place) (fs : List Place) (r : Seen × Part) → w.stack q ≡ record { top = x; below = fs } → Untallied (place_part w q x) r → Unbacked (place_part w q x) r → is_sharing (next_of (w.shape.pool (target_pool q (act_of q x))) q x (r.0)) ≡ false → ((t : ℕ) → paid t x ≡ 0) → ReturnsHold w → SharesHold (world_after w q x fs r) → ReturnsHold (world_after w q x fs r)
+plain_returns w q x fs r z ut un st none h s = steady_returns w q x fs r z (λ t c. (sym (counted t) ∙ c, none_handed t (next_of (w.shape.pool (target_pool q (act_of q x))) q x (r.0)) st)) un (λ t c. none t) h s
   where
     counted : (t : ℕ) → ((world_after w q x fs r).job t).counted ≡ (w.job t).counted
-    counted t = after_counted q (next_of (w.shape.pool (target_pool q (act_of q x))) q x (r.0)) (put w.job (job_at w q (act_of q x)) (r.1.job)) t ∙ put_same (λ j. j.counted) w.job (job_at w q (act_of q x)) (r.1.job) t (ut.job)
+    counted t = after_counted q (next_of (w.shape.pool (target_pool q (act_of q x))) q x (r.0)) (put w.job (job_at w q (act_of q x)) (r.1.job)) t st ∙ put_same (λ j. j.counted) w.job (job_at w q (act_of q x)) (r.1.job) t (ut.job)
 
 -- a job's share is given back
 lower_returns : (w : World) (q : Party) (p u : ℕ) (n : Then) (fs : List Place) (e : Seen) → w.stack q ≡ record { top = LowerCount p (OfJob u) n; below = fs } → ReturnsHold w → SharesHold (lowered_world w q p (OfJob u) n fs e) → ReturnsHold (lowered_world w q p (OfJob u) n fs e)
@@ -126,16 +137,17 @@ lower_returns w q p u n fs e z h s = returns_keep w v q (after_move (next_of (w.
     v = lowered_world w q p (OfJob u) n fs e
 
     counted : (t : ℕ) → (v.job t).counted ≡ (put w.job u (record (w.job u) { counted = false }) t).counted
-    counted t = after_counted q (next_of (w.shape.pool p) q (LowerCount p (OfJob u) n) e) (put w.job u (record (w.job u) { counted = false })) t
+    counted t = after_counted q (next_of (w.shape.pool p) q (LowerCount p (OfJob u) n) e) (put w.job u (record (w.job u) { counted = false })) t (lower_steady (w.shape.pool p) q p (OfJob u) n e)
 
     now : (v.job u).counted ≡ false
     now = counted u ∙ ap (λ j. j.counted) (put_new w.job u (record (w.job u) { counted = false }))
 
     bound : (t : ℕ) → all_bare t (after_move (next_of (w.shape.pool p) q (LowerCount p (OfJob u) n) e) fs) + backs (v.job t).at ≤ all_bare t (w.stack q) + one (t == u) + backs (w.job t).at
-    bound t = let a : all_bare t (after_move (next_of (w.shape.pool p) q (LowerCount p (OfJob u) n) e) fs) + backs (v.job t).at ≤ bare_move t (next_of (w.shape.pool p) q (LowerCount p (OfJob u) n) e) + bare_in t fs + backs (put w.job u (record (w.job u) { counted = false }) t).at = land_bare q t (next_of (w.shape.pool p) q (LowerCount p (OfJob u) n) e) fs (put w.job u (record (w.job u) { counted = false })) in
+    bound t = let a : all_bare t (after_move (next_of (w.shape.pool p) q (LowerCount p (OfJob u) n) e) fs) + backs (v.job t).at ≤ bare_move t (next_of (w.shape.pool p) q (LowerCount p (OfJob u) n) e) + handed t (next_of (w.shape.pool p) q (LowerCount p (OfJob u) n) e) + bare_in t fs + backs (put w.job u (record (w.job u) { counted = false }) t).at = land_bare q t (next_of (w.shape.pool p) q (LowerCount p (OfJob u) n) e) fs (put w.job u (record (w.job u) { counted = false })) in
         let b : backs (put w.job u (record (w.job u) { counted = false }) t).at ≤ backs (w.job t).at = put_backs w.job u (record (w.job u) { counted = false }) t (omega arith) in
         let c : bare_move t (next_of (w.shape.pool p) q (LowerCount p (OfJob u) n) e) ≤ bare t (LowerCount p (OfJob u) n) + one (t == u) = bares (w.shape.pool p) q t (LowerCount p (OfJob u) n) e in
-        let d : all_bare t (w.stack q) ≡ (bare t (LowerCount p (OfJob u) n) + bare_in t fs) = ap (all_bare t) z in omega (arith, a, b, c, d)
+        let d : all_bare t (w.stack q) ≡ (bare t (LowerCount p (OfJob u) n) + bare_in t fs) = ap (all_bare t) z in
+        let f : handed t (next_of (w.shape.pool p) q (LowerCount p (OfJob u) n) e) ≡ 0 = none_handed t (next_of (w.shape.pool p) q (LowerCount p (OfJob u) n) e) (lower_steady (w.shape.pool p) q p (OfJob u) n e) in omega (arith, a, b, c, d, f)
 
     by : (t : ℕ) → (v.job t).counted ≡ true → (b : Bool) → (t == u) ≡ b → ((w.job t).counted ≡ true) × (all_bare t (after_move (next_of (w.shape.pool p) q (LowerCount p (OfJob u) n) e) fs) + backs (v.job t).at ≤ all_bare t (w.stack q) + backs (w.job t).at)
     by t c true y = absurd (let a : (v.job t).counted ≡ false = ap (λ i. (v.job i).counted) (eqb-true t u y) ∙ now in cc)
@@ -152,15 +164,16 @@ raise_returns w q n fs z h s = returns_by w v q k (λ i. refl) (λ t c. by t c (
     k = after_move (next_of (w.shape.pool (plan_pool n)) q (RaiseCount n) Done) fs
 
     bound : (t : ℕ) → all_bare t (after_move (next_of (w.shape.pool (plan_pool n)) q (RaiseCount n) Done) fs) + backs ((raised_world w q n fs).job t).at + one (t == plan_job n) ≤ hand_plan t n + bare_in t fs + backs (w.job t).at
-    bound t = let a : all_bare t (after_move (after_raise n) fs) + backs (jobs_after q (after_raise n) (put w.job (plan_job n) (record (w.job (plan_job n)) { counted = true })) t).at ≤ bare_move t (after_raise n) + bare_in t fs + backs (put w.job (plan_job n) (record (w.job (plan_job n)) { counted = true }) t).at = land_bare q t (after_raise n) fs (put w.job (plan_job n) (record (w.job (plan_job n)) { counted = true })) in
+    bound t = let a : all_bare t (after_move (after_raise n) fs) + backs (jobs_after q (after_raise n) (put w.job (plan_job n) (record (w.job (plan_job n)) { counted = true })) t).at ≤ bare_move t (after_raise n) + handed t (after_raise n) + bare_in t fs + backs (put w.job (plan_job n) (record (w.job (plan_job n)) { counted = true }) t).at = land_bare q t (after_raise n) fs (put w.job (plan_job n) (record (w.job (plan_job n)) { counted = true })) in
         let b : backs (put w.job (plan_job n) (record (w.job (plan_job n)) { counted = true }) t).at ≤ backs (w.job t).at = put_backs w.job (plan_job n) (record (w.job (plan_job n)) { counted = true }) t (omega arith) in
-        let c : bare_move t (after_raise n) + one (t == plan_job n) ≤ hand_plan t n = bare_raised t n in omega (arith, a, b, c)
+        let c : bare_move t (after_raise n) + one (t == plan_job n) ≤ hand_plan t n = bare_raised t n in
+        let d : handed t (after_raise n) ≡ 0 = none_handed t (after_raise n) (raise_steady n) in omega (arith, a, b, c, d)
 
     stack : (t : ℕ) → all_bare t (w.stack q) ≡ (hand_plan t n + bare_in t fs)
     stack t = ap (all_bare t) z
 
     same : (t : ℕ) → (t == plan_job n) ≡ false → (v.job t).counted ≡ (w.job t).counted
-    same t e = after_counted q (next_of (w.shape.pool (plan_pool n)) q (RaiseCount n) Done) (put w.job (plan_job n) (record (w.job (plan_job n)) { counted = true })) t ∙ ap (λ j. j.counted) (put_old w.job (plan_job n) (record (w.job (plan_job n)) { counted = true }) t e)
+    same t e = after_counted q (next_of (w.shape.pool (plan_pool n)) q (RaiseCount n) Done) (put w.job (plan_job n) (record (w.job (plan_job n)) { counted = true })) t (raise_steady n) ∙ ap (λ j. j.counted) (put_old w.job (plan_job n) (record (w.job (plan_job n)) { counted = true }) t e)
 
     in_hand : all_bare (plan_job n) (w.stack q) ≤ is_loc (Hand q) (loc_at (w.job (plan_job n)))
     in_hand = let a : all_bare (plan_job n) (w.stack q) ≤ held (plan_job n) (w.stack q) = bare_held (plan_job n) (w.stack q) in let b : held (plan_job n) (w.stack q) ≡ is_loc (Hand q) (loc_at (w.job (plan_job n))) = ((((h.shares).calls).jobs).ok).placed (Hand q) (plan_job n) in omega (arith, a, b)
@@ -203,26 +216,132 @@ raise_returns w q n fs z h s = returns_by w v q k (λ i. refl) (λ t c. by t c (
 
 pub unpaid : (t : ℕ) (x : Place) → is_tally x ≡ false → paid t x ≡ 0
 unpaid t (LowerCount p s n) z = cc
+unpaid t (LowerForAll c) z = cc
 unpaid t _ z = refl
 
 -- each act
 raise_either : (w : World) (q : Party) (n : Plan) (fs : List Place) → w.stack q ≡ record { top = RaiseCount n; below = fs } → ReturnsHold w → (done : Seen × Part) → (SharesHold (world_after w q (RaiseCount n) fs done) → ReturnsHold (world_after w q (RaiseCount n) fs done)) → (b : Bool) → IfSome (if b then Some (Refused, place_part w q (RaiseCount n)) else Some done) (λ r. SharesHold (world_after w q (RaiseCount n) fs r) → ReturnsHold (world_after w q (RaiseCount n) fs r))
-raise_either w q n fs z h done f true = plain_returns w q (RaiseCount n) fs (Refused, place_part w q (RaiseCount n)) z (same_untallied (place_part w q (RaiseCount n)) Refused) (omega arith) (λ t. refl) h
+raise_either w q n fs z h done f true = plain_returns w q (RaiseCount n) fs (Refused, place_part w q (RaiseCount n)) z (same_untallied (place_part w q (RaiseCount n)) Refused) (omega arith) refl (λ t. refl) h
 raise_either w q n fs z h done f false = f
 
 value_returns : (w : World) (q : Party) (p : ℕ) (n : Then) (fs : List Place) (e : Seen) → w.stack q ≡ record { top = LowerCount p PoolValue n; below = fs } → ReturnsHold w → SharesHold (lowered_world w q p PoolValue n fs e) → ReturnsHold (lowered_world w q p PoolValue n fs e)
 value_returns w q p n fs e z h s = returns_keep w (lowered_world w q p PoolValue n fs e) q (after_move (next_of (w.shape.pool p) q (LowerCount p PoolValue n) e) fs) (λ i. refl)
     (λ t c. (
-      sym (after_counted q (next_of (w.shape.pool p) q (LowerCount p PoolValue n) e) (put w.job 0 (w.job 0)) t ∙ put_same (λ j. j.counted) w.job 0 (w.job 0) t refl) ∙ c,
-      (let a : all_bare t (after_move (next_of (w.shape.pool p) q (LowerCount p PoolValue n) e) fs) + backs ((lowered_world w q p PoolValue n fs e).job t).at ≤ bare_move t (next_of (w.shape.pool p) q (LowerCount p PoolValue n) e) + bare_in t fs + backs (put w.job 0 (w.job 0) t).at = land_bare q t (next_of (w.shape.pool p) q (LowerCount p PoolValue n) e) fs (put w.job 0 (w.job 0)) in
+      sym (after_counted q (next_of (w.shape.pool p) q (LowerCount p PoolValue n) e) (put w.job 0 (w.job 0)) t (lower_steady (w.shape.pool p) q p PoolValue n e) ∙ put_same (λ j. j.counted) w.job 0 (w.job 0) t refl) ∙ c,
+      (let a : all_bare t (after_move (next_of (w.shape.pool p) q (LowerCount p PoolValue n) e) fs) + backs ((lowered_world w q p PoolValue n fs e).job t).at ≤ bare_move t (next_of (w.shape.pool p) q (LowerCount p PoolValue n) e) + handed t (next_of (w.shape.pool p) q (LowerCount p PoolValue n) e) + bare_in t fs + backs (put w.job 0 (w.job 0) t).at = land_bare q t (next_of (w.shape.pool p) q (LowerCount p PoolValue n) e) fs (put w.job 0 (w.job 0)) in
           let b : backs (put w.job 0 (w.job 0) t).at ≤ backs (w.job t).at = put_backs w.job 0 (w.job 0) t (omega arith) in
           let d : bare_move t (next_of (w.shape.pool p) q (LowerCount p PoolValue n) e) ≤ bare t (LowerCount p PoolValue n) + 0 = bares (w.shape.pool p) q t (LowerCount p PoolValue n) e in
-          let f : all_bare t (w.stack q) ≡ (bare t (LowerCount p PoolValue n) + bare_in t fs) = ap (all_bare t) z in omega (arith, a, b, d, f)),
+          let f : all_bare t (w.stack q) ≡ (bare t (LowerCount p PoolValue n) + bare_in t fs) = ap (all_bare t) z in
+          let g : handed t (next_of (w.shape.pool p) q (LowerCount p PoolValue n) e) ≡ 0 = none_handed t (next_of (w.shape.pool p) q (LowerCount p PoolValue n) e) (lower_steady (w.shape.pool p) q p PoolValue n e) in omega (arith, a, b, d, f, g)),
     )) h s
 
 plain_act : (w : World) (q : Party) (x : Place) (fs : List Place) → w.stack q ≡ record { top = x; below = fs } → is_tally x ≡ false → ReturnsHold w → IfSome (outcome w q (record { top = x; below = fs })) (λ r. SharesHold (world_after w q x fs r) → ReturnsHold (world_after w q x fs r))
-plain_act w q x fs z y h = if_some_map (λ r. Untallied (place_part w q x) r × Unbacked (place_part w q x) r) (λ r. SharesHold (world_after w q x fs r) → ReturnsHold (world_after w q x fs r)) (λ r f. plain_returns w q x fs r z (f.0) (f.1) (λ t. unpaid t x y) h) (outcome w q (record { top = x; below = fs }))
-    (if_some_and (Untallied (place_part w q x)) (Unbacked (place_part w q x)) (outcome w q (record { top = x; below = fs })) (act_untallied w.shape q (counts_at w (target_pool q (act_of q x))) (place_part w q x) x y) (act_unbacked w.shape q (counts_at w (target_pool q (act_of q x))) (place_part w q x) x y))
+plain_act w q x fs z y h = if_some_map (λ r. Untallied (place_part w q x) r × (Unbacked (place_part w q x) r × (is_sharing (next_of (w.shape.pool (target_pool q (act_of q x))) q x (r.0)) ≡ false))) (λ r. SharesHold (world_after w q x fs r) → ReturnsHold (world_after w q x fs r)) (λ r f. plain_returns w q x fs r z (f.0) ((f.1).0) ((f.1).1) (λ t. unpaid t x y) h) (outcome w q (record { top = x; below = fs }))
+    (if_some_and (Untallied (place_part w q x)) (λ r. Unbacked (place_part w q x) r × (is_sharing (next_of (w.shape.pool (target_pool q (act_of q x))) q x (r.0)) ≡ false)) (outcome w q (record { top = x; below = fs })) (act_untallied w.shape q (counts_at w (target_pool q (act_of q x))) (place_part w q x) x y)
+    (if_some_and (Unbacked (place_part w q x)) (λ r. is_sharing (next_of (w.shape.pool (target_pool q (act_of q x))) q x (r.0)) ≡ false) (outcome w q (record { top = x; below = fs })) (act_unbacked w.shape q (counts_at w (target_pool q (act_of q x))) (place_part w q x) x y) (no_steady w.shape (w.shape.pool (target_pool q (act_of q x))) q (counts_at w (target_pool q (act_of q x))) (place_part w q x) x y)))
+
+-- the pieces of a broadcast: once their shares are taken no party has one without; and where they are handed back none
+-- has a share
+raised_returns : (w : World) (q : Party) (c : Pieces) (fs : List Place) → w.stack q ≡ record { top = RaiseForAll c; below = fs } → ReturnsHold w → SharesHold (all_raised w q c fs) → ReturnsHold (all_raised w q c fs)
+raised_returns w q c fs z h s = returns_by w v q k (λ i. refl) (λ t d. by t d (is_piece c t) refl) s
+  where
+    v : World
+    v = all_raised w q c fs
+
+    k : Stack
+    k = record { top = PushForAll c; below = fs }
+
+    same : (t : ℕ) → is_piece c t ≡ false → v.job t ≡ w.job t
+    same t e = piece_old c (marked Counted c.pool) (put w.job 0 (w.job 0)) t e ∙ put_same (λ j. j) w.job 0 (w.job 0) t refl
+
+    stack : (t : ℕ) → all_bare t (w.stack q) ≡ (one (is_piece c t) + bare_in t fs)
+    stack t = ap (all_bare t) z
+
+    in_hand : (t : ℕ) → held t (w.stack q) ≡ is_loc (Hand q) (loc_at (w.job t))
+    in_hand t = ((((h.shares).calls).jobs).ok).placed (Hand q) t
+
+    mine : (t : ℕ) → is_piece c t ≡ true → loc_at (w.job t) ≡ Some (Hand q)
+    mine t e = where_is (Hand q) (loc_at (w.job t)) (let a : all_bare t (w.stack q) ≤ held t (w.stack q) = bare_held t (w.stack q) in let b : held t (w.stack q) ≡ is_loc (Hand q) (loc_at (w.job t)) = in_hand t in let d : all_bare t (w.stack q) ≡ (one (is_piece c t) + bare_in t fs) = stack t in let f : one (is_piece c t) ≡ 1 = ap one e in omega (arith, a, b, d, f))
+
+    not_back : (x : Whereabouts) (m : ℕ) → loc_of x m ≡ Some (Hand q) → backs x ≤ 0
+    not_back HandedBack m e = cc
+    not_back Spent m e = cc
+    not_back _ m e = omega arith
+
+    one_bound : (b : Bool) → one b ≤ 1
+    one_bound true = omega arith
+    one_bound false = omega arith
+
+    own : (t : ℕ) → is_piece c t ≡ true → all_bare t k + backs (v.job t).at ≤ 0
+    own t e =
+        let a : all_bare t (w.stack q) ≡ (one (is_piece c t) + bare_in t fs) = stack t in
+        let b : one (is_piece c t) ≡ 1 = ap one e in
+        let d : all_bare t (w.stack q) ≤ held t (w.stack q) = bare_held t (w.stack q) in
+        let f : held t (w.stack q) ≡ is_loc (Hand q) (loc_at (w.job t)) = in_hand t in
+        let g : is_loc (Hand q) (loc_at (w.job t)) ≡ one (same_party q q) = ap (is_loc (Hand q)) (mine t e) in
+        let i : one (same_party q q) ≤ 1 = one_bound (same_party q q) in
+        let j : backs (w.job t).at ≤ 0 = not_back ((w.job t).at) ((w.job t).runs) (mine t e) in
+        let l : backs (v.job t).at ≡ backs (w.job t).at = ap (λ j. backs (j.at)) (piece_new c (marked Counted c.pool) (put w.job 0 (w.job 0)) t e) ∙ ap (λ j. backs (j.at)) (put_same (λ j. j) w.job 0 (w.job 0) t refl) in omega (arith, a, b, d, f, g, i, j, l)
+
+    others : (t : ℕ) → is_piece c t ≡ true → (r : Party) → same_party r q ≡ false → all_bare t (w.stack r) ≤ 0
+    others t e r y = let a : all_bare t (w.stack r) ≤ held t (w.stack r) = bare_held t (w.stack r) in
+        let b : held t (w.stack r) ≡ is_loc (Hand r) (loc_at (w.job t)) = ((((h.shares).calls).jobs).ok).placed (Hand r) t in
+        let d : is_loc (Hand r) (loc_at (w.job t)) ≡ one (same_party r q) = ap (is_loc (Hand r)) (mine t e) in
+        let f : one (same_party r q) ≡ 0 = ap one y in omega (arith, a, b, d, f)
+
+    by : (t : ℕ) → (v.job t).counted ≡ true → (b : Bool) → is_piece c t ≡ b → (all_bare t k + backs (v.job t).at ≤ 0) × ((r : Party) → same_party r q ≡ false → all_bare t (w.stack r) ≤ 0)
+    by t d true e = (own t e, others t e)
+    by t d false e = (
+      (let a : all_bare t (w.stack q) ≡ (one (is_piece c t) + bare_in t fs) = stack t in
+          let b : backs (v.job t).at ≡ backs (w.job t).at = ap (λ j. backs (j.at)) (same t e) in
+          let f : all_bare t (w.stack q) + backs (w.job t).at ≤ 0 = h.bare q t (sym (ap (λ j. j.counted) (same t e)) ∙ d) in omega (arith, a, b, f)),
+      λ r y. (let f : all_bare t (w.stack r) + backs (w.job t).at ≤ 0 = h.bare r t (sym (ap (λ j. j.counted) (same t e)) ∙ d) in omega (arith, f)),
+    )
+
+-- what is handed back of a broadcast has no share
+pub returned_none : (w : World) (c : Pieces) (n0 : ℕ) (j0 : Job) → j0 ≡ w.job n0 → (t : ℕ) → (mark_pieces c Returned (put w.job n0 j0) t).counted ≡ true → (is_piece c t ≡ false) × ((w.job t).counted ≡ true)
+returned_none w c n0 j0 y t d = by (is_piece c t) refl d
+  where
+    by : (b : Bool) → is_piece c t ≡ b → (if b then marked Returned c.pool (t - c.first) (put w.job n0 j0 t) else put w.job n0 j0 t).counted ≡ true → (b ≡ false) × ((w.job t).counted ≡ true)
+    by true e d = absurd (cc)
+    by false e d = (refl, sym (put_same (λ j. j.counted) w.job n0 j0 t (ap (λ j. j.counted) y)) ∙ d)
+
+handed_none : (g : PoolShape) (q : Party) (c : Pieces) (t : ℕ) (e : Seen) → is_piece c t ≡ false → handed t (next_of g q (LowerForAll c) e) ≡ 0
+handed_none g q c t Yes z = ap one z
+handed_none g q c t _ z = refl
+
+lowered_returns : (w : World) (q : Party) (c : Pieces) (fs : List Place) (e : Seen) → w.stack q ≡ record { top = LowerForAll c; below = fs } → ReturnsHold w → SharesHold (all_lowered w q c fs e) → ReturnsHold (all_lowered w q c fs e)
+lowered_returns w q c fs e z h s = returns_keep w v q k (λ i. refl) (λ t d. each t (returned_none w c 0 (w.job 0) refl t (ap (λ g. (g t).counted) (sym (returned_jobs (w.shape.pool c.pool) q c e J)) ∙ d))) h s
+  where
+    v : World
+    v = all_lowered w q c fs e
+
+    J : ℕ → Job
+    J = put w.job 0 (w.job 0)
+
+    g : Move
+    g = next_of (w.shape.pool c.pool) q (LowerForAll c) e
+
+    k : Stack
+    k = after_move (next_of (w.shape.pool c.pool) q (LowerForAll c) e) fs
+
+    each : (t : ℕ) → (is_piece c t ≡ false) × ((w.job t).counted ≡ true) → ((w.job t).counted ≡ true) × (all_bare t k + backs (v.job t).at ≤ all_bare t (w.stack q) + backs (w.job t).at)
+    each t p = (
+      p.1,
+      (let a : all_bare t k + backs (v.job t).at ≤ bare_move t g + handed t g + bare_in t fs + backs (J t).at = land_bare q t g fs J in
+          let b : bare_move t g ≤ 0 + one (is_piece c t) = bares (w.shape.pool c.pool) q t (LowerForAll c) e in
+          let d : handed t g ≡ 0 = handed_none (w.shape.pool c.pool) q c t e (p.0) in
+          let f : one (is_piece c t) ≡ 0 = ap one (p.0) in
+          let i : all_bare t (w.stack q) ≡ (0 + bare_in t fs) = ap (all_bare t) z in
+          let j : backs (J t).at ≡ backs (w.job t).at = put_same (λ j. backs (j.at)) w.job 0 (w.job 0) t refl in omega (arith, a, b, d, f, i, j)),
+    )
+
+back_returns : (w : World) (q : Party) (c : Pieces) (fs : List Place) → w.stack q ≡ record { top = RaiseForAll c; below = fs } → ReturnsHold w → SharesHold (world_after w q (RaiseForAll c) fs (Refused, place_part w q (RaiseForAll c))) → (world_after w q (RaiseForAll c) fs (Refused, place_part w q (RaiseForAll c))).job ≡ mark_pieces c Returned (put w.job 0 (w.job 0)) → ReturnsHold (world_after w q (RaiseForAll c) fs (Refused, place_part w q (RaiseForAll c)))
+back_returns w q c fs z h s jo = steady_returns w q (RaiseForAll c) fs (Refused, place_part w q (RaiseForAll c)) z (λ t d. ((returned_none w c 0 (w.job 0) refl t (ap (λ g. (g t).counted) (sym jo) ∙ d)).1, refl)) (omega arith) (λ t d. refl) h s
+
+all_either : (w : World) (q : Party) (c : Pieces) (fs : List Place) → (SharesHold (world_after w q (RaiseForAll c) fs (Refused, place_part w q (RaiseForAll c))) → ReturnsHold (world_after w q (RaiseForAll c) fs (Refused, place_part w q (RaiseForAll c)))) → (done : Seen × Part) → (SharesHold (world_after w q (RaiseForAll c) fs done) → ReturnsHold (world_after w q (RaiseForAll c) fs done)) → (b : Bool) → IfSome (if b then Some (Refused, place_part w q (RaiseForAll c)) else Some done) (λ r. SharesHold (world_after w q (RaiseForAll c) fs r) → ReturnsHold (world_after w q (RaiseForAll c) fs r))
+all_either w q c fs none done f true = none
+all_either w q c fs none done f false = f
 
 go_by : (w : World) (q : Party) (x : Place) (fs : List Place) → w.stack q ≡ record { top = x; below = fs } → ReturnsHold w → IfSome (outcome w q (record { top = x; below = fs })) (λ r. SharesHold (world_after w q x fs r) → ReturnsHold (world_after w q x fs r))
 go_by w (Worker a b) (RaiseCount n) fs z h = raise_either w (Worker a b) n fs z h _ (raise_returns w (Worker a b) n fs z h) ((w.pool (plan_pool n)).count == 0)
@@ -231,6 +350,10 @@ go_by w (Worker a b) (LowerCount p PoolValue n) fs z h = value_returns w (Worker
 go_by w (Caller c) (RaiseCount n) fs z h = raise_either w (Caller c) n fs z h _ (raise_returns w (Caller c) n fs z h) ((w.pool (plan_pool n)).count == 0)
 go_by w (Caller c) (LowerCount p (OfJob u) n) fs z h = lower_returns w (Caller c) p u n fs (if (w.pool p).count == 1 then Yes else No) z h
 go_by w (Caller c) (LowerCount p PoolValue n) fs z h = value_returns w (Caller c) p n fs (if (w.pool p).count == 1 then Yes else No) z h
+go_by w (Worker a b) (RaiseForAll c) fs z h = all_either w (Worker a b) c fs (λ s. back_returns w (Worker a b) c fs z h s refl) _ (raised_returns w (Worker a b) c fs z h) ((w.pool c.pool).count == 0)
+go_by w (Worker a b) (LowerForAll c) fs z h = lowered_returns w (Worker a b) c fs (if (w.pool c.pool).count == c.workers then Yes else No) z h
+go_by w (Caller g) (RaiseForAll c) fs z h = all_either w (Caller g) c fs (λ s. back_returns w (Caller g) c fs z h s refl) _ (raised_returns w (Caller g) c fs z h) ((w.pool c.pool).count == 0)
+go_by w (Caller g) (LowerForAll c) fs z h = lowered_returns w (Caller g) c fs (if (w.pool c.pool).count == c.workers then Yes else No) z h
 go_by w q x fs z h = plain_act w q x fs z refl h
 
 -- a party goes on, and no job is touched
@@ -251,6 +374,7 @@ refuse_returns : (w : World) (q : Party) (x : Place) (fs : List Place) → w.sta
 refuse_returns w q (GrowCall n) fs z h = λ a. seen_returns w q (w.shape.pool (own_pool q)) (GrowCall n) fs Refused z refl h a
 refuse_returns w q (AddToFifo f) fs z h = λ a. seen_returns w q (w.shape.pool (own_pool q)) (AddToFifo f) fs Refused z refl h a
 refuse_returns w q (PushToken f v) fs z h = λ a. seen_returns w q (w.shape.pool (own_pool q)) (PushToken f v) fs Refused z refl h a
+refuse_returns w q (PushForAll c) fs z h = λ a. seen_returns w q (w.shape.pool (own_pool q)) (PushForAll c) fs Refused z refl h a
 refuse_returns w q (PushJob n v) fs z h = λ a. seen_returns w q (w.shape.pool (own_pool q)) (PushJob n v) fs Refused z refl h a
 refuse_returns w q _ fs z h = tt
 
@@ -304,6 +428,19 @@ join_returns w (Worker p i) h = if_cond (λ u. SharesHold u → ReturnsHold u) (
     back : (t : ℕ) → backs (put J1 (w.jobs + 1) (new_job (Worker p i) p (Stored w.calls (Worker p i))) t).at ≤ backs (w.job t).at
     back t = let a : backs (put J1 (w.jobs + 1) (new_job (Worker p i) p (Stored w.calls (Worker p i))) t).at ≤ backs (J1 t).at = put_backs J1 (w.jobs + 1) (new_job (Worker p i) p (Stored w.calls (Worker p i))) t (omega arith) in let b : backs (J1 t).at ≤ backs (w.job t).at = put_backs w.job w.jobs (new_job (Worker p i) p Direct) t (omega arith) in omega (arith, a, b)
 
+cast_returns : (w : World) (q : Party) (p : ℕ) → ReturnsHold w → IfSome (after_cast w q p (w.stack q)) (λ u. SharesHold u → ReturnsHold u)
+cast_returns w q p h = if_cond (λ u. SharesHold u → ReturnsHold u) (is_free ((w.stack q).top) && is_pool w.shape p) _ (λ f s. returns_keep w u q (after_call (w.stack q) (RaiseForAll c)) (λ r. refl) (λ t d. each t (is_piece c t) refl d) h s)
+  where
+    c : Pieces
+    c = record { pool = p; first = w.jobs; workers = (w.shape.pool p).workers }
+
+    u : World
+    u = record w { stack = put_stack w.stack q (after_call (w.stack q) (RaiseForAll c)); job = put_pieces c (λ i j. new_piece q p i) w.job; jobs = w.jobs + c.workers }
+
+    each : (t : ℕ) (b : Bool) → is_piece c t ≡ b → (if b then new_piece q p (t - c.first) else w.job t).counted ≡ true → ((w.job t).counted ≡ true) × (all_bare t (after_call (w.stack q) (RaiseForAll c)) + backs (if b then new_piece q p (t - c.first) else w.job t).at ≤ all_bare t (w.stack q) + backs (w.job t).at)
+    each t true e d = absurd (cc)
+    each t false e d = (d, (let a : one (is_piece c t) ≡ 0 = ap one e in omega (arith, a)))
+
 feed_returns : (w : World) (p i : ℕ) → ReturnsHold w → SharesHold (after_feed w p i (w.stack (Worker p i))) → ReturnsHold (after_feed w p i (w.stack (Worker p i)))
 feed_returns w p i h s = made_returns w (Worker p i) (Feed (record { pool = p; job = w.jobs; token = w.jobs + 1 })) w.call (put J1 (w.jobs + 1) (new_job (Worker p i) p (TokenOf i))) w.calls (w.jobs + 2) new counted back h s
   where
@@ -337,6 +474,7 @@ each_returns w (Miss q) h = miss_returns w q ((w.stack q).top) ((w.stack q).belo
 each_returns w (End q d) h = end_returns w q d ((w.stack q).top) ((w.stack q).below) refl h
 each_returns w (Spawn q p) h = spawn_returns w q p h
 each_returns w (Fifo q p) h = fifo_cases (λ u. SharesHold u → ReturnsHold u) w q p (spawn_returns w q p h) (λ i free s. feed_returns w p i h s)
+each_returns w (Cast q p) h = cast_returns w q p h
 each_returns w (Install q p) h = install_returns w q p h
 each_returns w (Join q) h = join_returns w q h
 each_returns w (Yield q) h = yield_returns w q YieldPop (λ t. refl) h

@@ -14,7 +14,7 @@ use Rattle.rayon_machine_places.specs.declared.place.Taken.TheVariants.{Plain, T
 use Rattle.rayon_machine_places.specs.declared.place.Place.{Place}
 use Rattle.rayon_machine_places.specs.declared.place.Place.TheVariants.{ProbeWorking, PopWorking, TakeCastWorking, BecomeInactive, ProbeIdle, PopIdle, TakeCastIdle, PickVictim, StealFrom, PopInjected, AnnounceSelf, GetSleepy, LockOwn, FallAsleep, LoadCounters, AddSleeping, LookAtCast, LookAtInjector, BlockSelf, RelockOwn, UndoSleeping, WakeUp, UnlockOwn, LeaveSearch, JoinProbe, Run, LockToWake, WakeWorker, UnlockWoken, SetLatch, LockToSettle, WakeSettled, UnlockSettled, FirstSide, SecondSide, AtOnce, Free, Stopped, BeginTask, AddToFifo, TakeFromFifo}
 use Rattle.rayon_machine_places.specs.declared.place.Move.{Move}
-use Rattle.rayon_machine_places.specs.declared.place.Move.TheVariants.{Stay, Enter, StartRun, Back, HandBack, Discard, HandIn}
+use Rattle.rayon_machine_places.specs.declared.place.Move.TheVariants.{Stay, Enter, StartRun, Back, HandBack, Discard, HandIn, Mark, HandAllBack}
 use Rattle.rayon_machine_places.specs.declared.act.Act.{Act}
 use Rattle.rayon_machine_places.specs.declared.act.Act.TheVariants.{Lock, Unlock, Wake, Set, FifoIn, FifoUndo}
 use Rattle.rayon_machine_places.specs.declared.act.Seen.{Seen}
@@ -104,11 +104,13 @@ frame_out _ e = cc
 abbrev pub Goes : (Place → Type 0) → Move → Type 0
 Goes R (Stay y) = R y
 Goes R (HandIn y token) = R y
+Goes R (Mark y b9 m9) = R y
 Goes R (Enter f y) = (is_frame f ≡ true) × R y
 Goes R (StartRun f t) = (is_frame f ≡ true) × R (Run t Direct)
 Goes R Back = (f : Place) → is_frame f ≡ true → mode f ≡ Out → R f
 Goes R (HandBack n) = (f : Place) → is_frame f ≡ true → mode f ≡ Out → R f
 Goes R (Discard n) = (f : Place) → is_frame f ≡ true → mode f ≡ Out → R f
+Goes R (HandAllBack b9) = (f : Place) → is_frame f ≡ true → mode f ≡ Out → R f
 
 -- the places of a worker's wait, whose acts touch its own seat
 abbrev pub at_home : Place → Bool
@@ -161,11 +163,13 @@ wake_keeps r j h q c m p i _ ok = search (rules, arith)
 pub out_goes : (p i : ℕ) (s : Seat) (g : Move) → Goes (λ y. mode y ≡ Out) g → SeatOk p i Out s → Goes (OkAt p i s) g
 out_goes p i s (Stay y) e ok = subst (λ x. SeatOk p i x s) (sym e) ok
 out_goes p i s (HandIn y token) e ok = subst (λ x. SeatOk p i x s) (sym e) ok
+out_goes p i s (Mark y b9 m9) e ok = subst (λ x. SeatOk p i x s) (sym e) ok
 out_goes p i s (Enter f y) e ok = (e.0, subst (λ x. SeatOk p i x s) (sym (e.1)) ok)
 out_goes p i s (StartRun f t) e ok = (e.0, ok)
 out_goes p i s Back e ok = λ f k o. subst (λ x. SeatOk p i x s) (sym o) ok
 out_goes p i s (HandBack n) e ok = λ f k o. subst (λ x. SeatOk p i x s) (sym o) ok
 out_goes p i s (Discard n) e ok = λ f k o. subst (λ x. SeatOk p i x s) (sym o) ok
+out_goes p i s (HandAllBack b9) e ok = λ f k o. subst (λ x. SeatOk p i x s) (sym o) ok
 
 -- what follows a walk or the setting of a latch is outside of any search
 pub finish_out : (q : Party) (t : Then) → Goes (λ y. mode y ≡ Out) (finish q t)

@@ -11,19 +11,19 @@ use Rattle.rayon_machine_places.specs.declared.place.Plan.{Plan}
 use Rattle.rayon_machine_places.specs.declared.place.Plan.TheVariants.{Detach, Here, Send, Fork, Feed}
 use Rattle.rayon_machine_places.specs.declared.place.Taken.TheVariants.{Plain, Token}
 use Rattle.rayon_machine_places.specs.declared.place.Place.{Place}
-use Rattle.rayon_machine_places.specs.declared.place.Place.TheVariants.{ProbeWorking, PopWorking, TakeCastWorking, PopIdle, TakeCastIdle, StealFrom, PopInjected, GetSleepy, FallAsleep, WakeUp, JoinPop, JoinTakeCast, YieldPop, YieldTakeCast, YieldSteal, YieldPopInjected, LocalPop, LocalTakeCast, BeginTask, BeginHere, RaiseCount, PushJob, LowerCount, SetLatch, PushToken, AddToFifo, TakeFromFifo}
+use Rattle.rayon_machine_places.specs.declared.place.Place.TheVariants.{ProbeWorking, PopWorking, TakeCastWorking, PopIdle, TakeCastIdle, StealFrom, PopInjected, GetSleepy, FallAsleep, WakeUp, JoinPop, JoinTakeCast, YieldPop, YieldTakeCast, YieldSteal, YieldPopInjected, LocalPop, LocalTakeCast, BeginTask, BeginHere, RaiseCount, PushJob, LowerCount, SetLatch, PushToken, AddToFifo, TakeFromFifo, RaiseForAll, PushForAll, LowerForAll}
 use Rattle.rayon_machine_places.specs.declared.act.Act.TheVariants.{PushInj, PushOwn, FifoOut, FifoUndo}
 use Rattle.rayon_machine_places.specs.declared.act.Seen.{Seen}
 use Rattle.rayon_machine_places.specs.declared.act.Seen.TheVariants.{Done, Missing, Task}
 use Rattle.rayon_machine_places.specs.declared.state.Letter.{Letter}
 use Rattle.rayon_machine_places.specs.declared.state.Letter.TheVariants.{Set as IsSet}
 use Rattle.rayon_machine_places.specs.declared.state.Whereabouts.{Whereabouts}
-use Rattle.rayon_machine_places.specs.declared.state.Whereabouts.TheVariants.{Nowhere, Made, InDeque, Injected, InFifo, Retaken}
+use Rattle.rayon_machine_places.specs.declared.state.Whereabouts.TheVariants.{Nowhere, Made, InDeque, Injected, InFifo, Retaken, InCast}
 use Rattle.rayon_machine_places.specs.declared.state.Job.{Job}
 use Rattle.rayon_machine_places.specs.Places.{own_pool, own_index, is_member, latch_of, plan_pool, plan_job, act_of, taken_number}
 use Rattle.rayon_machine_places.specs.World.{Shape, World, Counts, counts_at, Part, target_pool, target_worker, target_call, head_of, but_first, own_of, own_left, or_none, but_last, letter, with_letter, at_job, popped, take_cast, pop_injector, effect, is_open}
 use Rattle.rayon_machine_places.specs.Steps.{part_of}
-use Rattle.rayon_machine_laws.specs.Once.{one, times, in_deque, in_injector, IsOnce, in_fifo}
+use Rattle.rayon_machine_laws.specs.Once.{one, times, in_deque, in_injector, IsOnce, in_fifo, in_cast}
 use Rattle.rayon_machine_laws.specs.Counted.{keeps_own, has_share}
 use Rattle.rayon_machine_laws.specs.Shares.{shares, is_busy}
 use Rattle.rayon_machine_laws.proofs.Frame.{if_some_all, if_some_map, out_sees, undo_sees, if_cond}
@@ -70,6 +70,8 @@ one_not false h = refl
 abbrev pub is_tally : Place → Bool
 is_tally (RaiseCount n) = true
 is_tally (LowerCount p s n) = true
+is_tally (RaiseForAll c) = true
+is_tally (LowerForAll c) = true
 is_tally _ = false
 
 pub record Untallied (m : Part) (r : Seen × Part) : Type 0 where
@@ -153,7 +155,11 @@ line_busy w h p i t e = subst (λ o. is_busy (w.job (or_none o)).at ≡ true) (s
     by _ z = absurd (omega (arith, z))
 
 cast_taken : (w : World) → IsOnce w → (p i t : ℕ) → head_of ((w.pool p).casts i) ≡ Some t → is_left (w.job (or_none (head_of ((w.pool p).casts i)))).at ≡ true
-cast_taken w h p i t e = absurd (let a : times t ((w.pool p).casts i) ≡ 0 = h.cast p i t in let b : times t ((w.pool p).casts i) ≡ (one (t == t) + times t (but_first ((w.pool p).casts i))) = times_first ((w.pool p).casts i) t t e in let c : one (t == t) ≡ 1 = ap one (eq-eqb t t refl) in omega (arith, a, b, c))
+cast_taken w h p i t e = subst (λ o. is_left (w.job (or_none o)).at ≡ true) (sym e) (by ((w.job t).at) (let a : times t ((w.pool p).casts i) ≡ one (in_cast p i (w.job t).at) = h.cast p i t in let b : times t ((w.pool p).casts i) ≡ (one (t == t) + times t (but_first ((w.pool p).casts i))) = times_first ((w.pool p).casts i) t t e in let c : one (t == t) ≡ 1 = ap one (eq-eqb t t refl) in omega (arith, a, b, c)))
+  where
+    by : (v : Whereabouts) → 1 ≤ one (in_cast p i v) → is_left v ≡ true
+    by (InCast r j) z = refl
+    by _ z = absurd (omega (arith, z))
 
 push_stays : (w : World) (q : Party) (n : Plan) (v : Bool) (m m' : Part) → SaysPlan w q n → m.job ≡ w.job (plan_job n) → Stays m (PushJob n v) (plan_job n) (Done, m')
 push_stays w q (Detach p t) v m m' s e y z = let a : one (t == t) ≡ 1 = ap one (eq-eqb t t refl) in let b : one (is_busy m'.job.at) ≤ 1 = one_most (is_busy m'.job.at) in omega (arith, a, b)
@@ -208,6 +214,7 @@ act_stays w (Caller c) (AddToFifo f) h s = tt
 act_stays w (Worker a b) (TakeFromFifo f) h s = undo_sees (Stays (place_part w (Worker a b) (TakeFromFifo f)) (TakeFromFifo f) (job_at w (Worker a b) FifoUndo)) (Worker a b) (place_part w (Worker a b) (TakeFromFifo f)) (same_stays (place_part w (Worker a b) (TakeFromFifo f)) (TakeFromFifo f) (job_at w (Worker a b) FifoUndo) (Missing, place_part w (Worker a b) (TakeFromFifo f)) refl) (λ u e y z. omega arith)
 act_stays w (Caller c) (TakeFromFifo f) h s = tt
 act_stays w q (BeginHere t) h s = λ y z. absurd (let a : is_detached (w.job t).kind ≡ false = s.kind in cc)
+act_stays w q (PushForAll c) h s = λ y z. omega arith
 act_stays w q (PushJob n v) h s = push_act_stays w q n v (is_member q (plan_pool n)) (queue_plan w q n s)
 act_stays w q x h s = quiet_stays w.shape q (counts_at w (target_pool q (act_of q x))) (place_part w q x) x (job_at w q (act_of q x)) refl
 

@@ -1,6 +1,7 @@
 -- the end of a run and the making of calls keep the shares; each step does; and so no pool ends early
+use Rattle.rayon_machine_places.specs.declared.place.Pieces.{Pieces}
 use Rattle.std.proofs.Common.{arith, refl, sym, ◌∙◌, ap, subst, inl, inr}
-use Rattle.std.specs.Prelude.{ℕ, Bool, true, false, ◌&&◌, ◌+◌, ◌==◌, ◌≤◌, ◌<◌, nat_lt, if◌then◌else◌, Some, None, List, [], ◌∷◌, ◌≡◌, IfSome}
+use Rattle.std.specs.Prelude.{ℕ, Bool, true, false, ◌&&◌, ◌+◌, ◌==◌, ◌≤◌, ◌<◌, nat_lt, if◌then◌else◌, Some, None, List, [], ◌∷◌, ◌≡◌, IfSome, ◌-◌}
 use Rattle.std.proofs.lemmas.Bool.{eqb-true, eq-eqb, ltb-true, ltb-false}
 use Rattle.std.proofs.Math.Dec.{ltb}
 use Rattle.rayon_machine_places.specs.declared.place.Party.{Party}
@@ -13,19 +14,19 @@ use Rattle.rayon_machine_places.specs.declared.place.Target.TheVariants.{Termina
 use Rattle.rayon_machine_places.specs.declared.place.Plan.{Plan}
 use Rattle.rayon_machine_places.specs.declared.place.Plan.TheVariants.{Detach, Here, Send, Fork, Feed}
 use Rattle.rayon_machine_places.specs.declared.place.Place.{Place}
-use Rattle.rayon_machine_places.specs.declared.place.Place.TheVariants.{ProbeWorking, YieldPop, LocalPop, Run, RaiseCount, FirstSide, SecondSide, AtOnce, Free, Stopped}
+use Rattle.rayon_machine_places.specs.declared.place.Place.TheVariants.{ProbeWorking, YieldPop, LocalPop, Run, RaiseCount, FirstSide, SecondSide, AtOnce, Free, Stopped, RaiseForAll}
 use Rattle.rayon_machine_places.specs.declared.event.Event.{Event}
-use Rattle.rayon_machine_places.specs.declared.event.Event.TheVariants.{Go, From, Refuse, Miss, End, Spawn, Fifo, Install, Join, Yield, YieldLocal, EndPool}
+use Rattle.rayon_machine_places.specs.declared.event.Event.TheVariants.{Go, From, Refuse, Miss, End, Spawn, Fifo, Install, Join, Yield, YieldLocal, EndPool, Cast}
 use Rattle.rayon_machine_places.specs.declared.state.Whereabouts.TheVariants.{Nowhere, Running, Over}
 use Rattle.rayon_machine_places.specs.declared.state.Job.{Job}
 use Rattle.rayon_machine_places.specs.declared.state.Call.{Call}
 use Rattle.rayon_machine_places.specs.Places.{same_party, is_member, plan_job, fresh, act_of, goes_on, is_free}
 use Rattle.rayon_machine_places.specs.World.{Shape, World, target_pool, target_worker, target_call, at_job}
-use Rattle.rayon_machine_places.specs.Steps.{put, put_stack, after_close, after_end, after_call, is_pool, new_job, new_call, after_spawn, after_fifo, after_send, after_install, after_join, step}
+use Rattle.rayon_machine_places.specs.Steps.{put, put_stack, after_close, after_end, after_call, is_pool, new_job, new_call, after_spawn, after_fifo, after_send, after_install, after_join, step, after_cast, put_pieces, new_piece, is_piece}
 use Rattle.rayon_machine_places.specs.Runs.{first_place, start, IsRun}
 use Rattle.rayon_machine_laws.specs.Once.{one, runs_in}
 use Rattle.rayon_machine_laws.specs.Shares.{share, shares_in, shares, is_busy, IsGone, NoEarlyEnd}
-use Rattle.rayon_machine_laws.proofs.Frame.{either, fifo_cases, same_party_true, if_cond, acted_keeps, put_same, put_new, put_old, stack_mine}
+use Rattle.rayon_machine_laws.proofs.Frame.{either, fifo_cases, same_party_true, if_cond, acted_keeps, put_same, put_new, put_old, stack_mine, piece_range, piece_old, piece_out}
 use Rattle.rayon_machine_laws.proofs.Ties.{job_at, outcome}
 use Rattle.rayon_machine_laws.proofs.Events.{run_keeps}
 use Rattle.rayon_machine_laws.proofs.Hands.{held, worked}
@@ -35,7 +36,7 @@ use Rattle.rayon_machine_laws.proofs.ClaimRuns.{CallsHold, top_says}
 use Rattle.rayon_machine_laws.proofs.ClaimEvents.{ended_world}
 use Rattle.rayon_machine_laws.proofs.ClaimMakes.{calling, below_new, step_calls, first_calls}
 use Rattle.rayon_machine_laws.proofs.Amounts.{raises, values, raises_in, values_in, all_raises, all_values}
-use Rattle.rayon_machine_laws.proofs.Tokens.{sum_below, sum_same, sum_least, sum_more}
+use Rattle.rayon_machine_laws.proofs.Tokens.{sum_below, sum_same, sum_least, sum_more, sum_tail}
 use Rattle.rayon_machine_laws.proofs.ShareActs.{with_job, tally, SharesHold, one_most, one_not}
 use Rattle.rayon_machine_laws.proofs.ShareRuns.{other_le, still_hold}
 use Rattle.rayon_machine_laws.proofs.ShareSteps.{tally_same, all_held, self_one}
@@ -183,6 +184,51 @@ join_shares w (Worker p i) h = if_cond (λ u. CallsHold u → SharesHold u) (is_
 fifo_shares : (w : World) (q : Party) (p : ℕ) → SharesHold w → IfSome (after_fifo w q p (w.stack q)) (λ u. CallsHold u → SharesHold u)
 fifo_shares w q p h = fifo_cases (λ u. CallsHold u → SharesHold u) w q p (spawn_shares w q p h) (λ i free ch. (let m = two_made w (Worker p i) p (Detached p) (TokenOf i) h in made_shares w (Worker p i) (Feed (record { pool = p; job = w.jobs; token = w.jobs + 1 })) w.call (put (put w.job w.jobs (new_job (Worker p i) p (Detached p))) (w.jobs + 1) (new_job (Worker p i) p (TokenOf i))) w.calls (w.jobs + 2) (omega arith) (omega arith) (m.0) (m.2) (m.1) h ch))
 
+-- a broadcast begins: its pieces are new, and have no shares yet
+cast_shares : (w : World) (q : Party) (p : ℕ) → SharesHold w → IfSome (after_cast w q p (w.stack q)) (λ u. CallsHold u → SharesHold u)
+cast_shares w q p h = if_cond (λ u. CallsHold u → SharesHold u) (is_free ((w.stack q).top) && is_pool w.shape p) _ (λ f ch. still_hold w u q (after_call (w.stack q) (RaiseForAll c)) ch (λ s. refl) (omega arith) (λ t. counted t (is_piece c t) refl) (λ r. refl) sums (λ r. refl)
+    (λ t. (let a : shares t (put_stack w.stack q (after_call (w.stack q) (RaiseForAll c)) q) ≡ (0 + shares t (w.stack q)) = above (share t) (shares_in t) (shares t) w q (RaiseForAll c) (λ k. refl) (λ y ys. refl) in let b : with_job (J t) ≤ with_job (w.job t) = withs t (is_piece c t) in omega (arith, a, b)))
+    (λ r. (let a : all_values r (put_stack w.stack q (after_call (w.stack q) (RaiseForAll c)) q) ≡ (0 + all_values r (w.stack q)) = above (values r) (values_in r) (all_values r) w q (RaiseForAll c) (λ k. refl) (λ y ys. refl) in omega (arith, a)))
+    (λ t s. raised t s (is_piece c t) refl) h)
+  where
+    c : Pieces
+    c = record { pool = p; first = w.jobs; workers = (w.shape.pool p).workers }
+
+    J : ℕ → Job
+    J = put_pieces c (λ i j. new_piece q p i) w.job
+
+    u : World
+    u = record w { stack = put_stack w.stack q (after_call (w.stack q) (RaiseForAll c)); job = J; jobs = w.jobs + c.workers }
+
+    new : (t : ℕ) → is_piece c t ≡ true → w.jobs ≤ t
+    new t e = (piece_range c t e).0
+
+    counted : (t : ℕ) (b : Bool) → is_piece c t ≡ b → (if b then new_piece q p (t - c.first) else w.job t).counted ≡ (w.job t).counted
+    counted t true e = sym (h.unmade t (new t e))
+    counted t false e = refl
+
+    withs : (t : ℕ) (b : Bool) → with_job (if b then new_piece q p (t - c.first) else w.job t) ≤ with_job (w.job t)
+    withs t true = omega arith
+    withs t false = omega arith
+
+    none : (r t : ℕ) (b : Bool) → is_piece c t ≡ b → w.jobs ≤ t → tally r (if b then new_piece q p (t - c.first) else w.job t) ≡ 0
+    none r t true e y = refl
+    none r t false e y = ap (λ d. one (d && (r == (w.job t).pool))) (h.unmade t y)
+
+    sums : (r : ℕ) → sum_below (w.jobs + c.workers) (λ t. tally r (J t)) ≡ sum_below w.jobs (λ t. tally r (w.job t))
+    sums r = sum_tail w.jobs c.workers (λ t. tally r (J t)) (λ t y. none r t (is_piece c t) refl y) ∙ sum_same w.jobs (λ t. tally r (J t)) (λ t. tally r (w.job t)) (λ t y. ap (tally r) (piece_old c (λ i j. new_piece q p i) w.job t (piece_out c t (omega (arith, y)))))
+
+    raised : (t : ℕ) (s : Party) (b : Bool) → is_piece c t ≡ b → all_raises t (put_stack w.stack q (after_call (w.stack q) (RaiseForAll c)) s) + one (w.job t).counted ≤ 1
+    raised t s true e = let b : w.jobs ≤ t = new t e in
+        let a : all_raises t (put_stack w.stack q (after_call (w.stack q) (RaiseForAll c)) s) ≤ one (is_piece c t) + all_raises t (w.stack s) = raises_called w q (RaiseForAll c) t s in
+        let d : one (is_piece c t) ≤ 1 = one_most (is_piece c t) in
+        let f : all_raises t (w.stack s) ≤ held t (w.stack s) = all_held t (w.stack s) in
+        let g : held t (w.stack s) ≡ is_loc (Hand s) (loc_at (w.job t)) = (((h.calls).jobs).ok).placed (Hand s) t in
+        let k : is_loc (Hand s) (loc_at (w.job t)) ≡ 0 = ap (λ v. is_loc (Hand s) (loc_of v ((w.job t).runs))) (((h.calls).jobs).unmade t b) in
+        let l : one (w.job t).counted ≡ 0 = ap one (h.unmade t b) in omega (arith, a, d, f, g, k, l)
+    raised t s false e = let a : all_raises t (put_stack w.stack q (after_call (w.stack q) (RaiseForAll c)) s) ≤ one (is_piece c t) + all_raises t (w.stack s) = raises_called w q (RaiseForAll c) t s in
+        let d : one (is_piece c t) ≡ 0 = ap one e in let f : all_raises t (w.stack s) + one (w.job t).counted ≤ 1 = h.unraised s t in omega (arith, a, d, f)
+
 -- each step keeps the shares
 pub step_shares : (w : World) (e : Event) → SharesHold w → IfSome (step w e) SharesHold
 step_shares w (Go q) h = acted_keeps w q (w.stack q) (target_pool q (act_of q ((w.stack q).top))) (target_worker q (act_of q ((w.stack q).top))) (target_call (act_of q ((w.stack q).top))) (job_at w q (act_of q ((w.stack q).top))) (outcome w q (w.stack q)) SharesHold (go_shares w q h)
@@ -192,6 +238,7 @@ step_shares w (Miss q) h = with_calls w (step w (Miss q)) (step_calls w (Miss q)
 step_shares w (End q d) h = with_calls w (step w (End q d)) (step_calls w (End q d) (h.calls)) (end_shares w q d ((w.stack q).top) ((w.stack q).below) refl h)
 step_shares w (Spawn q p) h = with_calls w (step w (Spawn q p)) (step_calls w (Spawn q p) (h.calls)) (spawn_shares w q p h)
 step_shares w (Fifo q p) h = with_calls w (step w (Fifo q p)) (step_calls w (Fifo q p) (h.calls)) (fifo_shares w q p h)
+step_shares w (Cast q p) h = with_calls w (step w (Cast q p)) (step_calls w (Cast q p) (h.calls)) (cast_shares w q p h)
 step_shares w (Install q p) h = with_calls w (step w (Install q p)) (step_calls w (Install q p) (h.calls)) (install_shares w q p h)
 step_shares w (Join q) h = with_calls w (step w (Join q)) (step_calls w (Join q) (h.calls)) (join_shares w q h)
 step_shares w (Yield q) h = with_calls w (step w (Yield q)) (step_calls w (Yield q) (h.calls)) (yield_shares w q YieldPop (λ t. (refl, refl)) (λ p. refl) h)

@@ -1,4 +1,6 @@
 -- each step keeps the shares, and a pool whose terminate latch is set has none left
+use Rattle.rayon_machine_places.specs.declared.place.Mark.TheVariants.{Queued}
+use Rattle.rayon_machine_places.specs.declared.place.Pieces.{Pieces}
 use Rattle.std.proofs.Common.{arith, refl, sym, ◌∙◌, ap, subst}
 use Rattle.std.specs.Prelude.{ℕ, Bool, true, false, ◌&&◌, ◌+◌, ◌==◌, ◌≤◌, nat_lt, if◌then◌else◌, Option, Some, None, List, ◌∷◌, ◌≡◌, IfSome}
 use Rattle.std.proofs.lemmas.Bool.{eqb-true}
@@ -9,21 +11,21 @@ use Rattle.rayon_machine_places.specs.declared.place.Plan.TheVariants.{Detach, H
 use Rattle.rayon_machine_places.specs.declared.place.Share.TheVariants.{PoolValue, OfJob}
 use Rattle.rayon_machine_places.specs.declared.place.Then.TheVariants.{Resume}
 use Rattle.rayon_machine_places.specs.declared.place.Place.{Place}
-use Rattle.rayon_machine_places.specs.declared.place.Place.TheVariants.{PickVictim, StealFrom, YieldPick, YieldSteal, RaiseCount, GrowCall, PushJob, LowerCount, AddToFifo, PushToken, TakeFromFifo}
+use Rattle.rayon_machine_places.specs.declared.place.Place.TheVariants.{PickVictim, StealFrom, YieldPick, YieldSteal, RaiseCount, GrowCall, PushJob, LowerCount, AddToFifo, PushToken, TakeFromFifo, RaiseForAll, PushForAll, LowerForAll}
 use Rattle.rayon_machine_places.specs.declared.place.Move.{Move}
-use Rattle.rayon_machine_places.specs.declared.place.Move.TheVariants.{Stay, Enter, StartRun, Back, HandBack, Discard, HandIn}
+use Rattle.rayon_machine_places.specs.declared.place.Move.TheVariants.{Stay, Enter, StartRun, Back, HandBack, Discard, HandIn, Mark, HandAllBack}
 use Rattle.rayon_machine_places.specs.declared.act.Seen.{Seen}
-use Rattle.rayon_machine_places.specs.declared.act.Seen.TheVariants.{Refused, Yes, No, Missing, Start, Task}
+use Rattle.rayon_machine_places.specs.declared.act.Seen.TheVariants.{Refused, Yes, No, Missing, Start, Task, Done}
 use Rattle.rayon_machine_places.specs.declared.shape.PoolShape.{PoolShape}
 use Rattle.rayon_machine_places.specs.Places.{same_party, own_pool, plan_pool, act_of, next_of, is_free, taken_number}
-use Rattle.rayon_machine_places.specs.World.{Stack, World, counts_at, Part, target_pool, target_worker, target_call}
+use Rattle.rayon_machine_places.specs.World.{Stack, World, counts_at, Part, target_pool, target_worker, target_call, effect}
 use Rattle.rayon_machine_places.specs.Steps.{put, put_stack, after_move, after_choice, after_refusal, can_miss, after_miss, after_call, is_pool, after_yield, after_end_pool}
 use Rattle.rayon_machine_laws.specs.Once.{one}
 use Rattle.rayon_machine_laws.specs.Shares.{share, shares_in, shares}
-use Rattle.rayon_machine_laws.proofs.Frame.{and_parts, same_party_true, if_some_and, if_some_map, if_cond, put_same, put_new, after_pool, stack_mine, if_some_each}
+use Rattle.rayon_machine_laws.proofs.Frame.{and_parts, same_party_true, if_some_and, if_some_map, if_cond, put_same, put_new, after_pool, stack_mine, if_some_each, is_sharing, if_some_all}
 use Rattle.rayon_machine_laws.proofs.Ties.{job_at, outcome, result}
 use Rattle.rayon_machine_laws.proofs.Placed.{Kept}
-use Rattle.rayon_machine_laws.proofs.PlacedEvents.{go_kept}
+use Rattle.rayon_machine_laws.proofs.PlacedEvents.{go_kept, no_deals, is_dealing}
 use Rattle.rayon_machine_laws.proofs.PlacedRuns.{once}
 use Rattle.rayon_machine_laws.proofs.Claims.{is_detached, SaysMove, says_next}
 use Rattle.rayon_machine_laws.proofs.Later.{later_says, Static, act_static}
@@ -31,9 +33,9 @@ use Rattle.rayon_machine_laws.proofs.ClaimActs.{Lasting, lasting, Learned, act_l
 use Rattle.rayon_machine_laws.proofs.ClaimRuns.{CallsHold, world_after, place_part, learns, act_calls}
 use Rattle.rayon_machine_laws.proofs.Amounts.{regained, raises, values, raises_in, values_in, all_raises, all_values, gained, pushed, paid}
 use Rattle.rayon_machine_laws.proofs.ShareActs.{with_job, SharesHold, Regains, act_regains, is_tally, Untallied, same_untallied, act_untallied, Stays, act_stays}
-use Rattle.rayon_machine_laws.proofs.ShareRuns.{StartsAwaited, says_starts, busy_step, shares_mine, other_le, values_mine, raises_all, still_hold}
-use Rattle.rayon_machine_laws.proofs.ShareSteps.{Ready, plain_hold, raised_world, raise_hold}
-use Rattle.rayon_machine_laws.proofs.ShareLowers.{lowered_world, lower_job, lower_value}
+use Rattle.rayon_machine_laws.proofs.ShareRuns.{StartsAwaited, says_starts, busy_step, shares_mine, other_le, values_mine, raises_all, still_hold, dealt}
+use Rattle.rayon_machine_laws.proofs.ShareSteps.{Ready, plain_hold, raised_world, raise_hold, no_steady, refused_hold, raise_all_hold, all_raised}
+use Rattle.rayon_machine_laws.proofs.ShareLowers.{lowered_world, lower_job, lower_value, lower_all_hold, all_lowered}
 
 -- the share that comes back to a call was the job's own
 regain : (w : World) (q : Party) (x : Place) (fs : List Place) (r : Seen × Part) → Regains w q x r → (t : ℕ) → with_job ((world_after w q x fs r).job t) ≤ with_job (w.job t) + pushed t x (r.0) → with_job ((world_after w q x fs r).job t) + regained t x (r.0) ≤ with_job (w.job t) + pushed t x (r.0)
@@ -57,15 +59,28 @@ regain w q (TakeFromFifo f) fs (Task y, m) g t b = by (t == taken_number y) refl
     by false e = let d : one (t == taken_number y) ≡ 0 = ap one e in omega (arith, b, d)
 regain w q x fs r g t b = omega (arith, b)
 
+-- what a move deals, the act has pushed
+none_dealt : (t : ℕ) (g : Move) → is_dealing g ≡ false → dealt t g ≡ 0
+none_dealt t (Mark y c Queued) e = absurd (cc)
+none_dealt t _ e = refl
+
+push_dealt : (t : ℕ) (g : PoolShape) (q : Party) (c : Pieces) (e : Seen) → dealt t (next_of g q (PushForAll c) e) ≤ pushed t (PushForAll c) e
+push_dealt t g q c Done = omega arith
+push_dealt t g q c _ = omega arith
+
+act_deals : (w : World) (q : Party) (x : Place) → IfSome (effect (act_of q x) w.shape q (counts_at w (target_pool q (act_of q x))) (place_part w q x)) (λ r. (t : ℕ) → dealt t (next_of (w.shape.pool (target_pool q (act_of q x))) q x (r.0)) ≤ pushed t x (r.0))
+act_deals w q (PushForAll c) = if_some_all {A = Seen × Part} (λ r. (t : ℕ) → dealt t (next_of (w.shape.pool (target_pool q (act_of q (PushForAll c)))) q (PushForAll c) (r.0)) ≤ pushed t (PushForAll c) (r.0)) (λ r t. push_dealt t (w.shape.pool (target_pool q (act_of q (PushForAll c)))) q c (r.0)) (effect (act_of q (PushForAll c)) w.shape q (counts_at w (target_pool q (act_of q (PushForAll c)))) (place_part w q (PushForAll c)))
+act_deals w q x = if_some_map (λ r. is_dealing (next_of (w.shape.pool (target_pool q (act_of q x))) q x (r.0)) ≡ false) (λ r. (t : ℕ) → dealt t (next_of (w.shape.pool (target_pool q (act_of q x))) q x (r.0)) ≤ pushed t x (r.0)) (λ r z t. (let a : dealt t (next_of (w.shape.pool (target_pool q (act_of q x))) q x (r.0)) ≡ 0 = none_dealt t (next_of (w.shape.pool (target_pool q (act_of q x))) q x (r.0)) z in omega (arith, a))) _ (no_deals w.shape (w.shape.pool (target_pool q (act_of q x))) q (counts_at w (target_pool q (act_of q x))) (place_part w q x) x refl)
+
 pub ready : (w : World) (q : Party) → SharesHold w → IfSome (outcome w q (w.stack q)) (λ r. Ready w q ((w.stack q).top) ((w.stack q).below) r)
 ready w q h =
     let k = w.stack q in let x = k.top in
-    if_some_map (λ r. (((Static (place_part w q x) r × Learned w.shape q (place_part w q x) x r) × (Written (place_part w q x) x r × Kept w (result w q k r))) × Stays (place_part w q x) x (job_at w q (act_of q x)) r) × (((t : ℕ) → Lines (place_part w q x) t x r) × Regains w q x r)) (λ r. Ready w q x (k.below) r)
-    (λ r g. (let f : ((Static (place_part w q x) r × Learned w.shape q (place_part w q x) x r) × (Written (place_part w q x) x r × Kept w (result w q k r))) × Stays (place_part w q x) x (job_at w q (act_of q x)) r = g.0 in let ch : CallsHold (world_after w q x (k.below) r) = act_calls w q x (k.below) r (h.calls) refl (((f.0).0).0) (((f.0).1).1) (((f.0).0).1) (((f.0).1).0) ((g.1).0) in
+    if_some_map (λ r. (((Static (place_part w q x) r × Learned w.shape q (place_part w q x) x r) × (Written (place_part w q x) x r × Kept w (result w q k r))) × Stays (place_part w q x) x (job_at w q (act_of q x)) r) × ((((t : ℕ) → Lines (place_part w q x) t x r) × Regains w q x r) × ((t : ℕ) → dealt t (next_of (w.shape.pool (target_pool q (act_of q x))) q x (r.0)) ≤ pushed t x (r.0)))) (λ r. Ready w q x (k.below) r)
+    (λ r g. (let f : ((Static (place_part w q x) r × Learned w.shape q (place_part w q x) x r) × (Written (place_part w q x) x r × Kept w (result w q k r))) × Stays (place_part w q x) x (job_at w q (act_of q x)) r = g.0 in let ch : CallsHold (world_after w q x (k.below) r) = act_calls w q x (k.below) r (h.calls) refl (((f.0).0).0) (((f.0).1).1) (((f.0).0).1) (((f.0).1).0) (((g.1).0).0) in
     let la : Lasting w (world_after w q x (k.below) r) = lasting w q k (target_pool q (act_of q x)) (target_worker q (act_of q x)) (target_call (act_of q x)) (job_at w q (act_of q x)) r (((f.0).0).0) (((f.0).1).1) in
     let sm : SaysMove (world_after w q x (k.below) r) q (next_of (w.shape.pool (target_pool q (act_of q x))) q x (r.0)) = says_next (world_after w q x (k.below) r) (w.shape.pool (target_pool q (act_of q x))) q x (r.0) (learns w q x (k.below) r (h.calls) refl (((f.0).1).1) la (((f.0).0).1)) (later_says w (world_after w q x (k.below) r) (la.later) q x (((h.calls).says q).top)) in
     let starts : StartsAwaited w (next_of (w.shape.pool (target_pool q (act_of q x))) q x (r.0)) = starts_back w (world_after w q x (k.below) r) la (next_of (w.shape.pool (target_pool q (act_of q x))) q x (r.0)) (says_starts (world_after w q x (k.below) r) q (next_of (w.shape.pool (target_pool q (act_of q x))) q x (r.0)) sm) in
-    let busy : (t : ℕ) → with_job ((world_after w q x (k.below) r).job t) ≤ with_job (w.job t) + pushed t x (r.0) = busy_step w q x (k.below) r (((f.0).1).1) la starts (f.1) in
+    let busy : (t : ℕ) → with_job ((world_after w q x (k.below) r).job t) ≤ with_job (w.job t) + pushed t x (r.0) = busy_step w q x (k.below) r (((f.0).1).1) la starts (f.1) ((g.1).1) in
     record {
       hold = h;
       stack = refl;
@@ -73,26 +88,30 @@ ready w q h =
       calls = ch;
       starts = starts;
       busy = busy;
-      regains = λ t. regain w q x (k.below) r ((g.1).1) t (busy t);
+      regains = λ t. regain w q x (k.below) r (((g.1).0).1) t (busy t);
       pools = λ t. after_pool q (next_of (w.shape.pool (target_pool q (act_of q x))) q x (r.0)) (put w.job (job_at w q (act_of q x)) (r.1.job)) t ∙ put_same (λ j. j.pool) w.job (job_at w q (act_of q x)) (r.1.job) t ((((f.0).0).0).pool);
       held = λ p. put_same (λ v. v.held) w.pool (target_pool q (act_of q x)) (r.1.pool) p ((((f.0).0).0).held);
     }))
     (outcome w q k)
-    (if_some_and (λ r. ((Static (place_part w q x) r × Learned w.shape q (place_part w q x) x r) × (Written (place_part w q x) x r × Kept w (result w q k r))) × Stays (place_part w q x) x (job_at w q (act_of q x)) r) (λ r. ((t : ℕ) → Lines (place_part w q x) t x r) × Regains w q x r) (outcome w q k)
+    (if_some_and (λ r. ((Static (place_part w q x) r × Learned w.shape q (place_part w q x) x r) × (Written (place_part w q x) x r × Kept w (result w q k r))) × Stays (place_part w q x) x (job_at w q (act_of q x)) r) (λ r. (((t : ℕ) → Lines (place_part w q x) t x r) × Regains w q x r) × ((t : ℕ) → dealt t (next_of (w.shape.pool (target_pool q (act_of q x))) q x (r.0)) ≤ pushed t x (r.0))) (outcome w q k)
     (if_some_and (λ r. (Static (place_part w q x) r × Learned w.shape q (place_part w q x) x r) × (Written (place_part w q x) x r × Kept w (result w q k r))) (Stays (place_part w q x) x (job_at w q (act_of q x))) (outcome w q k)
     (if_some_and (λ r. Static (place_part w q x) r × Learned w.shape q (place_part w q x) x r) (λ r. Written (place_part w q x) x r × Kept w (result w q k r)) (outcome w q k)
     (if_some_and (Static (place_part w q x)) (Learned w.shape q (place_part w q x) x) (outcome w q k) (act_static w.shape q (counts_at w (target_pool q (act_of q x))) (place_part w q x) x) (act_learned w.shape q (counts_at w (target_pool q (act_of q x))) (place_part w q x) x))
     (if_some_and (Written (place_part w q x) x) (λ r. Kept w (result w q k r)) (outcome w q k) (act_written w.shape q (counts_at w (target_pool q (act_of q x))) (place_part w q x) x) (go_kept w q (((h.calls).jobs).feeds) (((h.calls).jobs).ok))))
     (act_stays w q x (once w ((h.calls).jobs)) (((h.calls).says q).top)))
+    (if_some_and (λ r. ((t : ℕ) → Lines (place_part w q x) t x r) × Regains w q x r) (λ r. (t : ℕ) → dealt t (next_of (w.shape.pool (target_pool q (act_of q x))) q x (r.0)) ≤ pushed t x (r.0)) (outcome w q k)
     (if_some_and (λ r. (t : ℕ) → Lines (place_part w q x) t x r) (Regains w q x) (outcome w q k)
     (if_some_each {I = ℕ} (λ t r. Lines (place_part w q x) t x r) (outcome w q k) (λ t. line_table w.shape q (counts_at w (target_pool q (act_of q x))) (place_part w q x) t x))
-    (act_regains w q x (h.calls) (once w ((h.calls).jobs)))))
+    (act_regains w q x (h.calls) (once w ((h.calls).jobs))))
+    (act_deals w q x)))
   where
     starts_back : (w u : World) → Lasting w u → (g : Move) → StartsAwaited u g → StartsAwaited w g
     starts_back w u l (StartRun f a) s = ap is_detached (sym (l.kinds a)) ∙ s
     starts_back w u l (Stay y) s = tt
     starts_back w u l (HandIn y k) s = ap is_detached (sym (l.kinds k)) ∙ s
     starts_back w u l (Enter f y) s = tt
+    starts_back w u l (Mark y c m) s = λ t e. ap is_detached (sym (l.kinds t)) ∙ s t e
+    starts_back w u l (HandAllBack c) s = λ t e. ap is_detached (sym (l.kinds t)) ∙ s t e
     starts_back w u l Back s = tt
     starts_back w u l (HandBack (Feed d)) s = ap is_detached (sym (l.kinds d.job)) ∙ s
     starts_back w u l (HandBack (Detach p t)) s = tt
@@ -102,25 +121,36 @@ ready w q h =
     starts_back w u l (Discard k) s = ap is_detached (sym (l.kinds k)) ∙ s
 
 -- the acts that raise a count, done or refused
-raise_go : (w : World) (q : Party) (n : Plan) (fs : List Place) → ((r : Seen × Part) → Ready w q (RaiseCount n) fs r → Untallied (place_part w q (RaiseCount n)) r → ((t : ℕ) → gained t (RaiseCount n) (r.0) ≡ 0) → SharesHold (world_after w q (RaiseCount n) fs r)) → (done : Seen × Part) → (Ready w q (RaiseCount n) fs done → SharesHold (world_after w q (RaiseCount n) fs done)) → (b : Bool) → IfSome (if b then Some (Refused, place_part w q (RaiseCount n)) else Some done) (Ready w q (RaiseCount n) fs) → IfSome (if b then Some (Refused, place_part w q (RaiseCount n)) else Some done) (λ r. SharesHold (world_after w q (RaiseCount n) fs r))
-raise_go w q n fs plain done f true d = plain (Refused, place_part w q (RaiseCount n)) d (same_untallied (place_part w q (RaiseCount n)) Refused) (λ t. refl)
+raise_go : (w : World) (q : Party) (n : Plan) (fs : List Place) → ((r : Seen × Part) → Ready w q (RaiseCount n) fs r → Untallied (place_part w q (RaiseCount n)) r → is_sharing (next_of (w.shape.pool (target_pool q (act_of q (RaiseCount n)))) q (RaiseCount n) (r.0)) ≡ false → ((t : ℕ) → gained t (RaiseCount n) (r.0) ≡ 0) → SharesHold (world_after w q (RaiseCount n) fs r)) → (done : Seen × Part) → (Ready w q (RaiseCount n) fs done → SharesHold (world_after w q (RaiseCount n) fs done)) → (b : Bool) → IfSome (if b then Some (Refused, place_part w q (RaiseCount n)) else Some done) (Ready w q (RaiseCount n) fs) → IfSome (if b then Some (Refused, place_part w q (RaiseCount n)) else Some done) (λ r. SharesHold (world_after w q (RaiseCount n) fs r))
+raise_go w q n fs plain done f true d = plain (Refused, place_part w q (RaiseCount n)) d (same_untallied (place_part w q (RaiseCount n)) Refused) refl (λ t. refl)
 raise_go w q n fs plain done f false d = f d
 
 pub ungained : (t : ℕ) (x : Place) (e : Seen) → is_tally x ≡ false → gained t x e ≡ 0
 ungained t (RaiseCount n) e z = cc
+ungained t (RaiseForAll c) e z = cc
 ungained t _ e z = refl
 
 plain_go : (w : World) (q : Party) (x : Place) (fs : List Place) → is_tally x ≡ false → IfSome (outcome w q (record { top = x; below = fs })) (Ready w q x fs) → IfSome (outcome w q (record { top = x; below = fs })) (λ r. SharesHold (world_after w q x fs r))
-plain_go w q x fs z d = if_some_map (λ r. Ready w q x fs r × Untallied (place_part w q x) r) (λ r. SharesHold (world_after w q x fs r)) (λ r f. plain_hold w q x fs r (f.0) (f.1) (λ t. ungained t x (r.0) z)) (outcome w q (record { top = x; below = fs }))
-    (if_some_and (Ready w q x fs) (Untallied (place_part w q x)) (outcome w q (record { top = x; below = fs })) d (act_untallied w.shape q (counts_at w (target_pool q (act_of q x))) (place_part w q x) x z))
+plain_go w q x fs z d = if_some_map (λ r. Ready w q x fs r × (Untallied (place_part w q x) r × (is_sharing (next_of (w.shape.pool (target_pool q (act_of q x))) q x (r.0)) ≡ false))) (λ r. SharesHold (world_after w q x fs r)) (λ r f. plain_hold w q x fs r (f.0) ((f.1).0) ((f.1).1) (λ t. ungained t x (r.0) z)) (outcome w q (record { top = x; below = fs }))
+    (if_some_and (Ready w q x fs) (λ r. Untallied (place_part w q x) r × (is_sharing (next_of (w.shape.pool (target_pool q (act_of q x))) q x (r.0)) ≡ false)) (outcome w q (record { top = x; below = fs })) d
+    (if_some_and (Untallied (place_part w q x)) (λ r. is_sharing (next_of (w.shape.pool (target_pool q (act_of q x))) q x (r.0)) ≡ false) (outcome w q (record { top = x; below = fs })) (act_untallied w.shape q (counts_at w (target_pool q (act_of q x))) (place_part w q x) x z) (no_steady w.shape (w.shape.pool (target_pool q (act_of q x))) q (counts_at w (target_pool q (act_of q x))) (place_part w q x) x z)))
+
+-- the acts of a broadcast on the count
+raise_all_go : (w : World) (q : Party) (c : Pieces) (fs : List Place) → (Ready w q (RaiseForAll c) fs (Refused, place_part w q (RaiseForAll c)) → SharesHold (world_after w q (RaiseForAll c) fs (Refused, place_part w q (RaiseForAll c)))) → (done : Seen × Part) → (Ready w q (RaiseForAll c) fs done → SharesHold (world_after w q (RaiseForAll c) fs done)) → (b : Bool) → IfSome (if b then Some (Refused, place_part w q (RaiseForAll c)) else Some done) (Ready w q (RaiseForAll c) fs) → IfSome (if b then Some (Refused, place_part w q (RaiseForAll c)) else Some done) (λ r. SharesHold (world_after w q (RaiseForAll c) fs r))
+raise_all_go w q c fs none done f true d = none d
+raise_all_go w q c fs none done f false d = f d
 
 go_by : (w : World) (q : Party) (x : Place) (fs : List Place) → w.stack q ≡ record { top = x; below = fs } → SharesHold w → IfSome (outcome w q (record { top = x; below = fs })) (Ready w q x fs) → IfSome (outcome w q (record { top = x; below = fs })) (λ r. SharesHold (world_after w q x fs r))
-go_by w (Worker a b) (RaiseCount n) fs z h d = raise_go w (Worker a b) n fs (λ r y un none. plain_hold w (Worker a b) (RaiseCount n) fs r y un none) _ (λ y. raise_hold w (Worker a b) n fs h z (y.calls) (λ t. (let e : with_job ((raised_world w (Worker a b) n fs).job t) ≤ with_job (w.job t) + 0 = y.busy t in omega (arith, e))) (y.pools) (y.held)) ((w.pool (plan_pool n)).count == 0) d
+go_by w (Worker a b) (RaiseCount n) fs z h d = raise_go w (Worker a b) n fs (λ r y un st none. plain_hold w (Worker a b) (RaiseCount n) fs r y un st none) _ (λ y. raise_hold w (Worker a b) n fs h z (y.calls) (λ t. (let e : with_job ((raised_world w (Worker a b) n fs).job t) ≤ with_job (w.job t) + 0 = y.busy t in omega (arith, e))) (y.pools) (y.held)) ((w.pool (plan_pool n)).count == 0) d
 go_by w (Worker a b) (LowerCount p (OfJob u) n) fs z h d = lower_job w (Worker a b) p u n fs (if (w.pool p).count == 1 then Yes else No) h z (d.calls) (λ t. (let e : with_job ((lowered_world w (Worker a b) p (OfJob u) n fs (if (w.pool p).count == 1 then Yes else No)).job t) ≤ with_job (w.job t) + 0 = d.busy t in omega (arith, e))) (d.pools) (d.held)
 go_by w (Worker a b) (LowerCount p PoolValue n) fs z h d = lower_value w (Worker a b) p n fs (if (w.pool p).count == 1 then Yes else No) h z (d.calls) (λ t. (let e : with_job ((lowered_world w (Worker a b) p PoolValue n fs (if (w.pool p).count == 1 then Yes else No)).job t) ≤ with_job (w.job t) + 0 = d.busy t in omega (arith, e))) (d.pools) (d.held)
-go_by w (Caller c) (RaiseCount n) fs z h d = raise_go w (Caller c) n fs (λ r y un none. plain_hold w (Caller c) (RaiseCount n) fs r y un none) _ (λ y. raise_hold w (Caller c) n fs h z (y.calls) (λ t. (let e : with_job ((raised_world w (Caller c) n fs).job t) ≤ with_job (w.job t) + 0 = y.busy t in omega (arith, e))) (y.pools) (y.held)) ((w.pool (plan_pool n)).count == 0) d
+go_by w (Caller c) (RaiseCount n) fs z h d = raise_go w (Caller c) n fs (λ r y un st none. plain_hold w (Caller c) (RaiseCount n) fs r y un st none) _ (λ y. raise_hold w (Caller c) n fs h z (y.calls) (λ t. (let e : with_job ((raised_world w (Caller c) n fs).job t) ≤ with_job (w.job t) + 0 = y.busy t in omega (arith, e))) (y.pools) (y.held)) ((w.pool (plan_pool n)).count == 0) d
 go_by w (Caller c) (LowerCount p (OfJob u) n) fs z h d = lower_job w (Caller c) p u n fs (if (w.pool p).count == 1 then Yes else No) h z (d.calls) (λ t. (let e : with_job ((lowered_world w (Caller c) p (OfJob u) n fs (if (w.pool p).count == 1 then Yes else No)).job t) ≤ with_job (w.job t) + 0 = d.busy t in omega (arith, e))) (d.pools) (d.held)
 go_by w (Caller c) (LowerCount p PoolValue n) fs z h d = lower_value w (Caller c) p n fs (if (w.pool p).count == 1 then Yes else No) h z (d.calls) (λ t. (let e : with_job ((lowered_world w (Caller c) p PoolValue n fs (if (w.pool p).count == 1 then Yes else No)).job t) ≤ with_job (w.job t) + 0 = d.busy t in omega (arith, e))) (d.pools) (d.held)
+go_by w (Worker a b) (RaiseForAll c) fs z h d = raise_all_go w (Worker a b) c fs (λ y. refused_hold w (Worker a b) c fs y refl) _ (λ y. raise_all_hold w (Worker a b) c fs h z (y.calls) (λ t. (let e : with_job ((all_raised w (Worker a b) c fs).job t) ≤ with_job (w.job t) + 0 = y.busy t in omega (arith, e))) (y.pools) (y.held)) ((w.pool c.pool).count == 0) d
+go_by w (Worker a b) (LowerForAll c) fs z h d = lower_all_hold w (Worker a b) c fs (if (w.pool c.pool).count == c.workers then Yes else No) h z (d.calls) (λ t. (let e : with_job ((all_lowered w (Worker a b) c fs (if (w.pool c.pool).count == c.workers then Yes else No)).job t) ≤ with_job (w.job t) + 0 = d.busy t in omega (arith, e))) (d.pools) (d.held)
+go_by w (Caller g) (RaiseForAll c) fs z h d = raise_all_go w (Caller g) c fs (λ y. refused_hold w (Caller g) c fs y refl) _ (λ y. raise_all_hold w (Caller g) c fs h z (y.calls) (λ t. (let e : with_job ((all_raised w (Caller g) c fs).job t) ≤ with_job (w.job t) + 0 = y.busy t in omega (arith, e))) (y.pools) (y.held)) ((w.pool c.pool).count == 0) d
+go_by w (Caller g) (LowerForAll c) fs z h d = lower_all_hold w (Caller g) c fs (if (w.pool c.pool).count == c.workers then Yes else No) h z (d.calls) (λ t. (let e : with_job ((all_lowered w (Caller g) c fs (if (w.pool c.pool).count == c.workers then Yes else No)).job t) ≤ with_job (w.job t) + 0 = d.busy t in omega (arith, e))) (d.pools) (d.held)
 go_by w q x fs z h d = plain_go w q x fs refl d
 
 pub go_shares : (w : World) (q : Party) → SharesHold w → IfSome (outcome w q (w.stack q)) (λ r. SharesHold (result w q (w.stack q) r))
@@ -147,6 +177,7 @@ pub refuse_shares : (w : World) (q : Party) (x : Place) (fs : List Place) → w.
 refuse_shares w q (GrowCall n) fs z h = λ a. seen_shares w q (w.shape.pool (own_pool q)) (GrowCall n) fs Refused z (λ t. refl) h a
 refuse_shares w q (AddToFifo f) fs z h = λ a. seen_shares w q (w.shape.pool (own_pool q)) (AddToFifo f) fs Refused z (λ t. refl) h a
 refuse_shares w q (PushToken f v) fs z h = λ a. seen_shares w q (w.shape.pool (own_pool q)) (PushToken f v) fs Refused z (λ t. refl) h a
+refuse_shares w q (PushForAll c) fs z h = λ a. seen_shares w q (w.shape.pool (own_pool q)) (PushForAll c) fs Refused z (λ t. refl) h a
 refuse_shares w q (PushJob n v) fs z h = λ a. seen_shares w q (w.shape.pool (own_pool q)) (PushJob n v) fs Refused z (λ t. refl) h a
 refuse_shares w q _ fs z h = tt
 

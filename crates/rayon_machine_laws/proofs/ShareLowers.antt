@@ -1,4 +1,9 @@
 -- the acts that give a share back
+use Rattle.rayon_machine_places.specs.declared.place.Mark.TheVariants.{Returned}
+use Rattle.rayon_machine_places.specs.declared.act.Seen.TheVariants.{Yes}
+use Rattle.rayon_machine_places.specs.declared.shape.PoolShape.{PoolShape}
+use Rattle.rayon_machine_places.specs.declared.state.Job.{Job}
+use Rattle.rayon_machine_places.specs.declared.place.Pieces.{Pieces}
 use Rattle.std.proofs.Common.{arith, refl, sym, ◌∙◌, ap, subst}
 use Rattle.std.specs.Prelude.{ℕ, Bool, true, false, ◌&&◌, ◌+◌, ◌-◌, ◌==◌, ◌≤◌, if◌then◌else◌, List, ◌≡◌}
 use Rattle.std.proofs.lemmas.Bool.{eqb-true}
@@ -7,21 +12,21 @@ use Rattle.rayon_machine_places.specs.declared.place.Share.{Share}
 use Rattle.rayon_machine_places.specs.declared.place.Share.TheVariants.{PoolValue, OfJob}
 use Rattle.rayon_machine_places.specs.declared.place.Then.{Then}
 use Rattle.rayon_machine_places.specs.declared.place.Place.{Place}
-use Rattle.rayon_machine_places.specs.declared.place.Place.TheVariants.{LowerCount}
+use Rattle.rayon_machine_places.specs.declared.place.Place.TheVariants.{LowerCount, LowerForAll}
 use Rattle.rayon_machine_places.specs.declared.act.Seen.{Seen}
 use Rattle.rayon_machine_places.specs.Places.{own_index, next_of}
 use Rattle.rayon_machine_places.specs.World.{Pool, Stack, World, share_job, lowered}
-use Rattle.rayon_machine_places.specs.Steps.{put, put_stack, part_of, after_move, after}
+use Rattle.rayon_machine_places.specs.Steps.{put, put_stack, part_of, after_move, after, is_piece, mark_pieces, marked, jobs_after}
 use Rattle.rayon_machine_laws.specs.Once.{one}
 use Rattle.rayon_machine_laws.specs.Shares.{shares}
-use Rattle.rayon_machine_laws.proofs.Claims.{SaysOwner}
+use Rattle.rayon_machine_laws.proofs.Claims.{SaysOwner, SaysPieces}
 use Rattle.rayon_machine_laws.proofs.ClaimRuns.{CallsHold, top_says}
 use Rattle.rayon_machine_laws.proofs.Amounts.{all_raises, all_values}
-use Rattle.rayon_machine_laws.proofs.Tokens.{Tokens, tokens_keep, tokens_pay, sum_below, sum_same, sum_change}
+use Rattle.rayon_machine_laws.proofs.Tokens.{Tokens, tokens_keep, tokens_pay, sum_below, sum_same, sum_change, sum_both, pieces_below}
 use Rattle.rayon_machine_laws.proofs.ShareActs.{with_job, tally, SharesHold, one_most, one_is, one_not}
 use Rattle.rayon_machine_laws.proofs.ShareRuns.{shares_mine, other_le, values_mine, raises_all}
-use Rattle.rayon_machine_laws.proofs.ShareSteps.{tally_same, self_one}
-use Rattle.rayon_machine_laws.proofs.Frame.{put_same, put_new, put_old, after_counted}
+use Rattle.rayon_machine_laws.proofs.ShareSteps.{tally_same, self_one, lower_steady, pieces_made}
+use Rattle.rayon_machine_laws.proofs.Frame.{put_same, put_new, put_old, after_counted, piece_new, piece_old}
 
 abbrev pub lowered_world : World → Party → ℕ → Share → Then → List Place → Seen → World
 lowered_world w q p s n fs e = after w q (record { top = LowerCount p s n; below = fs }) p (own_index q) 0 (share_job s) (e, lowered (part_of w p (own_index q) 0 (share_job s)) s)
@@ -49,7 +54,7 @@ lower_job w q p0 u n fs e h z ch busy pools keeps = record {
     said = (top_says w q (LowerCount p0 (OfJob u) n) fs (h.calls) z).1
 
     counted : (t : ℕ) → (v.job t).counted ≡ (put w.job u (record (w.job u) { counted = false }) t).counted
-    counted t = after_counted q (next_of (w.shape.pool p0) q (LowerCount p0 (OfJob u) n) e) (put w.job u (record (w.job u) { counted = false })) t
+    counted t = after_counted q (next_of (w.shape.pool p0) q (LowerCount p0 (OfJob u) n) e) (put w.job u (record (w.job u) { counted = false })) t (lower_steady (w.shape.pool p0) q p0 (OfJob u) n e)
 
     now : (v.job u).counted ≡ false
     now = counted u ∙ ap (λ j. j.counted) (put_new w.job u (record (w.job u) { counted = false }))
@@ -109,7 +114,7 @@ lower_value w q p0 n fs e h z ch busy pools keeps = record {
     k = after_move (next_of (w.shape.pool p0) q (LowerCount p0 PoolValue n) e) fs
 
     same : (t : ℕ) → (v.job t).counted ≡ (w.job t).counted
-    same t = after_counted q (next_of (w.shape.pool p0) q (LowerCount p0 PoolValue n) e) (put w.job 0 (w.job 0)) t ∙ put_same (λ j. j.counted) w.job 0 (w.job 0) t refl
+    same t = after_counted q (next_of (w.shape.pool p0) q (LowerCount p0 PoolValue n) e) (put w.job 0 (w.job 0)) t (lower_steady (w.shape.pool p0) q p0 PoolValue n e) ∙ put_same (λ j. j.counted) w.job 0 (w.job 0) t refl
 
     line : (p : ℕ) → all_values p (put_stack w.stack q k q) + one (p == p0) ≡ all_values p (w.stack q)
     line p = values_mine w q (LowerCount p0 PoolValue n) fs (w.shape.pool p0) e p z
@@ -135,3 +140,80 @@ lower_value w q p0 n fs e h z ch busy pools keeps = record {
         let g : (w.pool p0).count ≡ (w.pool p).count = ap (λ m. (w.pool m).count) (sym i) in omega (arith, a, b, c, g)
     sums p false y = let a : sum_below w.jobs (λ t. tally p (w.job t)) + one (w.pool p).counted ≡ (w.pool p).count = h.sums p in
         let b : sum_below w.jobs (λ t. tally p (v.job t)) ≡ sum_below w.jobs (λ t. tally p (w.job t)) = sum_same w.jobs (λ t. tally p (v.job t)) (λ t. tally p (w.job t)) (λ t d. tally_same p (v.job t) (w.job t) (same t) (pools t)) in omega (arith, a, b)
+
+-- the shares of a broadcast
+abbrev pub all_lowered : World → Party → Pieces → List Place → Seen → World
+all_lowered w q c fs e = after w q (record { top = LowerForAll c; below = fs }) c.pool (own_index q) 0 0 (e, record (part_of w c.pool (own_index q) 0 0) { pool = record (w.pool c.pool) { count = (w.pool c.pool).count - c.workers } })
+
+pub returned_jobs : (g : PoolShape) (q : Party) (c : Pieces) (e : Seen) (J : ℕ → Job) → jobs_after q (next_of g q (LowerForAll c) e) J ≡ mark_pieces c Returned J
+returned_jobs g q c Yes J = refl
+returned_jobs g q c _ J = refl
+
+pub lower_all_hold : (w : World) (q : Party) (c : Pieces) (fs : List Place) (e : Seen) → SharesHold w → w.stack q ≡ record { top = LowerForAll c; below = fs } → CallsHold (all_lowered w q c fs e) → ((t : ℕ) → with_job ((all_lowered w q c fs e).job t) ≤ with_job (w.job t)) → ((t : ℕ) → ((all_lowered w q c fs e).job t).pool ≡ (w.job t).pool) → ((p : ℕ) → ((all_lowered w q c fs e).pool p).held ≡ (w.pool p).held) → SharesHold (all_lowered w q c fs e)
+lower_all_hold w q c fs e h z ch busy pools keeps = record {
+  calls = ch;
+  jobs = λ t. jobs t (is_piece c t) refl;
+  values = λ p. subst (λ d. Tokens (λ s. all_values p (v.stack s)) (one (v.pool p).held) (one d)) (sym (put_same (λ a. a.counted) w.pool c.pool (record (w.pool c.pool) { count = (w.pool c.pool).count - c.workers }) p refl))
+      (tokens_keep (λ s. all_values p (w.stack s)) (λ s. all_values p (v.stack s)) (one (w.pool p).held) (one (v.pool p).held) (one (w.pool p).counted) q (one_most ((w.pool p).counted)) (λ s y. other_le (all_values p) w q k s y)
+      (let a : all_values p (put_stack w.stack q k q) + 0 ≡ all_values p (w.stack q) = values_mine w q (LowerForAll c) fs (w.shape.pool c.pool) e p z in let b : one (v.pool p).held ≡ one (w.pool p).held = ap one (keeps p) in omega (arith, a, b)) (h.values p));
+  unraised = λ s t. (let a : all_raises t (put_stack w.stack q k s) ≤ all_raises t (w.stack s) = raises_all w q (LowerForAll c) fs (w.shape.pool c.pool) e t z s in let b : all_raises t (w.stack s) + one (w.job t).counted ≤ 1 = h.unraised s t in let d : one (v.job t).counted ≤ one (w.job t).counted = less t (is_piece c t) refl in omega (arith, a, b, d));
+  unmade = λ t b. one_not ((v.job t).counted) (let a : one (v.job t).counted ≤ one (w.job t).counted = less t (is_piece c t) refl in let d : one (w.job t).counted ≡ 0 = ap one (h.unmade t b) in omega (arith, a, d));
+  sums = λ p. sums p (p == c.pool) refl;
+}
+  where
+    v : World
+    v = all_lowered w q c fs e
+
+    k : Stack
+    k = after_move (next_of (w.shape.pool c.pool) q (LowerForAll c) e) fs
+
+    said : SaysPieces w c
+    said = top_says w q (LowerForAll c) fs (h.calls) z
+
+    J : ℕ → Job
+    J = put w.job 0 (w.job 0)
+
+    become : (t : ℕ) → v.job t ≡ mark_pieces c Returned J t
+    become t = ap (λ g. g t) (returned_jobs (w.shape.pool c.pool) q c e J)
+
+    now : (t : ℕ) → is_piece c t ≡ true → (v.job t).counted ≡ false
+    now t y = ap (λ j. j.counted) (become t ∙ piece_new c (marked Returned c.pool) J t y)
+
+    same : (t : ℕ) → is_piece c t ≡ false → (v.job t).counted ≡ (w.job t).counted
+    same t y = ap (λ j. j.counted) (become t ∙ piece_old c (marked Returned c.pool) J t y) ∙ put_same (λ j. j.counted) w.job 0 (w.job 0) t refl
+
+    less : (t : ℕ) (b : Bool) → is_piece c t ≡ b → one (v.job t).counted ≤ one (w.job t).counted
+    less t true y = let a : one (v.job t).counted ≡ 0 = ap one (now t y) in omega (arith, a)
+    less t false y = let a : one (v.job t).counted ≡ one (w.job t).counted = ap one (same t y) in omega (arith, a)
+
+    line : (t : ℕ) → shares t (put_stack w.stack q k q) + one (is_piece c t) ≤ shares t (w.stack q)
+    line t = let a : shares t (put_stack w.stack q k q) + (0 + one (is_piece c t)) ≡ shares t (w.stack q) + 0 = shares_mine w q (LowerForAll c) fs (w.shape.pool c.pool) e t z in omega (arith, a)
+
+    had : (t : ℕ) → is_piece c t ≡ true → (w.job t).counted ≡ true
+    had t y = one_is ((w.job t).counted) (let a : shares t (put_stack w.stack q k q) + one (is_piece c t) ≤ shares t (w.stack q) = line t in let b : one (is_piece c t) ≡ 1 = ap one y in let d : shares t (w.stack q) + with_job (w.job t) ≤ one (w.job t).counted = (h.jobs t).alone q in omega (arith, a, b, d))
+
+    jobs : (t : ℕ) (b : Bool) → is_piece c t ≡ b → Tokens (λ s. shares t (v.stack s)) (with_job (v.job t)) (one (v.job t).counted)
+    jobs t true y = subst (λ d. Tokens (λ s. shares t (v.stack s)) (with_job (v.job t)) (one d)) (sym (now t y))
+        (tokens_pay (λ s. shares t (w.stack s)) (λ s. shares t (v.stack s)) (with_job (w.job t)) (with_job (v.job t)) (one (w.job t).counted) q (one_most ((w.job t).counted)) (λ s d. other_le (shares t) w q k s d)
+        (let a : shares t (put_stack w.stack q k q) + one (is_piece c t) ≤ shares t (w.stack q) = line t in let b : one (is_piece c t) ≡ 1 = ap one y in omega (arith, a, b)) (busy t) (h.jobs t))
+    jobs t false y = subst (λ d. Tokens (λ s. shares t (v.stack s)) (with_job (v.job t)) (one d)) (sym (same t y))
+        (tokens_keep (λ s. shares t (w.stack s)) (λ s. shares t (v.stack s)) (with_job (w.job t)) (with_job (v.job t)) (one (w.job t).counted) q (one_most ((w.job t).counted)) (λ s d. other_le (shares t) w q k s d)
+        (let a : shares t (put_stack w.stack q k q) + one (is_piece c t) ≤ shares t (w.stack q) = line t in let b : with_job (v.job t) ≤ with_job (w.job t) = busy t in omega (arith, a, b)) (h.jobs t))
+
+    pays : (p t : ℕ) (b : Bool) → is_piece c t ≡ b → (p == c.pool) ≡ true → tally p (w.job t) ≡ tally p (v.job t) + one (is_piece c t)
+    pays p t true y x = let a : tally p (v.job t) ≡ 0 = ap (λ d. one (d && (p == (v.job t).pool))) (now t y) in let b : tally p (w.job t) ≡ 1 = ap (λ d. one (d && (p == (w.job t).pool))) (had t y) ∙ ap (λ m. one (p == m)) ((said t y).pool) ∙ ap one x in let d : one (is_piece c t) ≡ 1 = ap one y in omega (arith, a, b, d)
+    pays p t false y x = let a : tally p (v.job t) ≡ tally p (w.job t) = tally_same p (v.job t) (w.job t) (same t y) (pools t) in let d : one (is_piece c t) ≡ 0 = ap one y in omega (arith, a, d)
+
+    stays : (p t : ℕ) (b : Bool) → is_piece c t ≡ b → (p == c.pool) ≡ false → tally p (v.job t) ≡ tally p (w.job t)
+    stays p t true y x = let a : tally p (v.job t) ≡ 0 = ap (λ d. one (d && (p == (v.job t).pool))) (now t y) in let b : tally p (w.job t) ≡ 0 = ap (λ d. one (d && (p == (w.job t).pool))) (had t y) ∙ ap (λ m. one (p == m)) ((said t y).pool) ∙ ap one x in omega (arith, a, b)
+    stays p t false y x = tally_same p (v.job t) (w.job t) (same t y) (pools t)
+
+    sums : (p : ℕ) (b : Bool) → (p == c.pool) ≡ b → sum_below w.jobs (λ t. tally p (v.job t)) + one (if b then record (w.pool c.pool) { count = (w.pool c.pool).count - c.workers } else w.pool p).counted ≡ (if b then record (w.pool c.pool) { count = (w.pool c.pool).count - c.workers } else w.pool p).count
+    sums p true y = let i : p ≡ c.pool = eqb-true p c.pool y in
+        let a : sum_below w.jobs (λ t. tally p (w.job t)) + one (w.pool p).counted ≡ (w.pool p).count = h.sums p in
+        let b : sum_below w.jobs (λ t. tally p (w.job t)) ≡ sum_below w.jobs (λ t. tally p (v.job t)) + sum_below w.jobs (λ t. one (is_piece c t)) = sum_both w.jobs (λ t. tally p (v.job t)) (λ t. tally p (w.job t)) (λ t. one (is_piece c t)) (λ t l. pays p t (is_piece c t) refl y) in
+        let d : sum_below w.jobs (λ t. one (is_piece c t)) ≡ c.workers = pieces_below w.jobs c (pieces_made w c said) in
+        let f : one (w.pool c.pool).counted ≡ one (w.pool p).counted = ap (λ m. one (w.pool m).counted) (sym i) in
+        let g : (w.pool c.pool).count ≡ (w.pool p).count = ap (λ m. (w.pool m).count) (sym i) in omega (arith, a, b, d, f, g)
+    sums p false y = let a : sum_below w.jobs (λ t. tally p (w.job t)) + one (w.pool p).counted ≡ (w.pool p).count = h.sums p in
+        let b : sum_below w.jobs (λ t. tally p (v.job t)) ≡ sum_below w.jobs (λ t. tally p (w.job t)) = sum_same w.jobs (λ t. tally p (v.job t)) (λ t. tally p (w.job t)) (λ t l. stays p t (is_piece c t) refl y) in omega (arith, a, b)

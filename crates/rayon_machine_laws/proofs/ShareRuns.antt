@@ -1,20 +1,23 @@
 -- each act keeps the shares, and a pool whose terminate latch is set has none left
+use Rattle.rayon_machine_places.specs.declared.place.Mark.{Mark as Marking}
+use Rattle.rayon_machine_places.specs.declared.place.Pieces.{Pieces}
+use Rattle.rayon_machine_places.specs.declared.place.Mark.TheVariants.{Counted, Queued, Returned}
 use Rattle.std.proofs.Common.{arith, refl, sym, ◌∙◌, ap, subst}
-use Rattle.std.specs.Prelude.{ℕ, Bool, true, false, ◌&&◌, ◌+◌, ◌==◌, ◌≤◌, if◌then◌else◌, List, ◌≡◌, ⊤}
+use Rattle.std.specs.Prelude.{ℕ, Bool, true, false, ◌&&◌, ◌+◌, ◌==◌, ◌≤◌, if◌then◌else◌, List, ◌≡◌, ⊤, ◌-◌}
 use Rattle.std.proofs.lemmas.Bool.{eqb-true}
 use Rattle.rayon_machine_places.specs.declared.place.Party.{Party}
 use Rattle.rayon_machine_places.specs.declared.place.Plan.TheVariants.{Detach, Here, Send, Fork, Feed}
 use Rattle.rayon_machine_places.specs.declared.place.Place.{Place}
 use Rattle.rayon_machine_places.specs.declared.place.Move.{Move}
-use Rattle.rayon_machine_places.specs.declared.place.Move.TheVariants.{Stay, Enter, StartRun, Back, HandBack, Discard, HandIn}
+use Rattle.rayon_machine_places.specs.declared.place.Move.TheVariants.{Stay, Enter, StartRun, Back, HandBack, Discard, HandIn, Mark, HandAllBack}
 use Rattle.rayon_machine_places.specs.declared.act.Seen.{Seen}
 use Rattle.rayon_machine_places.specs.declared.state.Whereabouts.{Whereabouts}
-use Rattle.rayon_machine_places.specs.declared.state.Whereabouts.TheVariants.{Nowhere, Made, InDeque, Injected, InFifo, Retaken, Running, Over, HandedBack, Spent}
+use Rattle.rayon_machine_places.specs.declared.state.Whereabouts.TheVariants.{Nowhere, Made, InDeque, Injected, InFifo, Retaken, Running, Over, HandedBack, Spent, InCast}
 use Rattle.rayon_machine_places.specs.declared.shape.PoolShape.{PoolShape}
 use Rattle.rayon_machine_places.specs.declared.state.Job.{Job}
 use Rattle.rayon_machine_places.specs.Places.{same_party, act_of, next_of}
 use Rattle.rayon_machine_places.specs.World.{Stack, World, Part, target_pool, at_job, begun}
-use Rattle.rayon_machine_places.specs.Steps.{put, put_stack, after_move, jobs_after}
+use Rattle.rayon_machine_places.specs.Steps.{put, put_stack, after_move, jobs_after, is_piece, mark_pieces, marked}
 use Rattle.rayon_machine_laws.specs.Once.{one}
 use Rattle.rayon_machine_laws.specs.Shares.{share, shares_in, shares, is_busy}
 use Rattle.rayon_machine_laws.proofs.Frame.{same_party_true, stack_mine, stack_other}
@@ -29,22 +32,26 @@ use Rattle.rayon_machine_laws.proofs.Tokens.{Tokens, tokens_keep, sum_below}
 use Rattle.rayon_machine_laws.proofs.ShareActs.{with_job, tally, SharesHold, one_most, Stays}
 
 -- a run that a move starts is not of a detached job, nor is a token that it spends one; but what comes back from a call
--- for a FIFO list is, beside its token
+-- for a FIFO list is, beside its token, and so is each piece of a broadcast
 abbrev pub StartsAwaited : World → Move → Type 0
 StartsAwaited w (StartRun f a) = is_detached (w.job a).kind ≡ false
 StartsAwaited w (HandIn y k) = is_detached (w.job k).kind ≡ false
 StartsAwaited w (Discard k) = is_detached (w.job k).kind ≡ false
 StartsAwaited w (HandBack n) = SaysBack w n
+StartsAwaited w (Mark y c m) = (t : ℕ) → is_piece c t ≡ true → is_detached (w.job t).kind ≡ true
+StartsAwaited w (HandAllBack c) = (t : ℕ) → is_piece c t ≡ true → is_detached (w.job t).kind ≡ true
 StartsAwaited w _ = ⊤
 
 pub says_starts : (w : World) (q : Party) (g : Move) → SaysMove w q g → StartsAwaited w g
 says_starts w q (StartRun f a) s = (s.2).kind
 says_starts w q (Stay y) s = tt
 says_starts w q (HandIn y k) s = s.1
+says_starts w q (Mark y c m) s = λ t e. ap is_detached ((s.1 t e).kind)
 says_starts w q (Enter f y) s = tt
 says_starts w q Back s = tt
 says_starts w q (HandBack n) s = s
 says_starts w q (Discard k) s = s
+says_starts w q (HandAllBack c) s = λ t e. ap is_detached ((s t e).kind)
 
 pub one_le : (b d : Bool) → (b ≡ true → d ≡ true) → one b ≤ one d
 one_le true d f = let e : one d ≡ 1 = ap one (f refl) in omega (arith, e)
@@ -64,35 +71,56 @@ spent_busy J a t = by (t == a)
     by true = omega arith
     by false = omega arith
 
--- a move makes no detached job busy
-after_busy : (w : World) (q : Party) (g : Move) (J : ℕ → Job) (t : ℕ) → StartsAwaited w g → is_detached (w.job t).kind ≡ true → one (is_busy (jobs_after q g J t).at) ≤ one (is_busy (J t).at)
+-- the pieces that a move deals
+abbrev pub dealt : ℕ → Move → ℕ
+dealt t (Mark y c Queued) = one (is_piece c t)
+dealt t _ = 0
+
+marked_busy : (c : Pieces) (k : Marking) (J : ℕ → Job) (t n : ℕ) → (k ≡ Queued → one (is_piece c t) ≤ n) → one (is_busy (mark_pieces c k J t).at) ≤ one (is_busy (J t).at) + n
+marked_busy c k J t n d = by (is_piece c t) refl
+  where
+    each : (k : Marking) → (k ≡ Queued → 1 ≤ n) → one (is_busy (marked k c.pool (t - c.first) (J t)).at) ≤ one (is_busy (J t).at) + n
+    each Counted d = omega arith
+    each Returned d = omega arith
+    each Queued d = let a : 1 ≤ n = d refl in omega (arith, a)
+
+    by : (b : Bool) → is_piece c t ≡ b → one (is_busy (if b then marked k c.pool (t - c.first) (J t) else J t).at) ≤ one (is_busy (J t).at) + n
+    by true e = each k (λ z. (let a : one (is_piece c t) ≤ n = d z in let b : one (is_piece c t) ≡ 1 = ap one e in omega (arith, a, b)))
+    by false e = omega arith
+
+-- a move makes no detached job busy, but the pieces that it deals
+after_busy : (w : World) (q : Party) (g : Move) (J : ℕ → Job) (t : ℕ) → StartsAwaited w g → is_detached (w.job t).kind ≡ true → one (is_busy (jobs_after q g J t).at) ≤ one (is_busy (J t).at) + dealt t g
 after_busy w q (Stay y) J t s z = omega arith
-after_busy w q (HandIn y k) J t s z = spent_busy J k t
-after_busy w q (Discard k) J t s z = spent_busy J k t
+after_busy w q (HandIn y k) J t s z = let a : one (is_busy (put J k (at_job (J k) Spent) t).at) ≤ one (is_busy (J t).at) = spent_busy J k t in omega (arith, a)
+after_busy w q (Discard k) J t s z = let a : one (is_busy (put J k (at_job (J k) Spent) t).at) ≤ one (is_busy (J t).at) = spent_busy J k t in omega (arith, a)
 after_busy w q (HandBack (Feed d)) J t s z = by (t == d.token)
   where
-    by : (b : Bool) → one (is_busy (if b then at_job (J (d.token)) HandedBack else put J (d.job) (at_job (J (d.job)) HandedBack) t).at) ≤ one (is_busy (J t).at)
+    by : (b : Bool) → one (is_busy (if b then at_job (J (d.token)) HandedBack else put J (d.job) (at_job (J (d.job)) HandedBack) t).at) ≤ one (is_busy (J t).at) + 0
     by true = omega arith
-    by false = gone_busy J (d.job) t
+    by false = let a : one (is_busy (put J (d.job) (at_job (J (d.job)) HandedBack) t).at) ≤ one (is_busy (J t).at) = gone_busy J (d.job) t in omega (arith, a)
 after_busy w q (Enter f y) J t s z = omega arith
 after_busy w q Back J t s z = omega arith
 after_busy w q (StartRun f a) J t s z = by (t == a) refl
   where
-    by : (b : Bool) → (t == a) ≡ b → one (is_busy (if b then begun q (J a) else J t).at) ≤ one (is_busy (J t).at)
+    by : (b : Bool) → (t == a) ≡ b → one (is_busy (if b then begun q (J a) else J t).at) ≤ one (is_busy (J t).at) + 0
     by true e = absurd (let i : t ≡ a = eqb-true t a e in let k : is_detached (w.job t).kind ≡ false = ap (λ n. is_detached (w.job n).kind) i ∙ s in cc)
     by false e = omega arith
-after_busy w q (HandBack (Detach p a)) J t s z = gone_busy J a t
-after_busy w q (HandBack (Here p a)) J t s z = gone_busy J a t
-after_busy w q (HandBack (Send o)) J t s z = gone_busy J (o.job) t
+after_busy w q (HandBack (Detach p a)) J t s z = let b : one (is_busy (put J a (at_job (J a) HandedBack) t).at) ≤ one (is_busy (J t).at) = gone_busy J a t in omega (arith, b)
+after_busy w q (HandBack (Here p a)) J t s z = let b : one (is_busy (put J a (at_job (J a) HandedBack) t).at) ≤ one (is_busy (J t).at) = gone_busy J a t in omega (arith, b)
+after_busy w q (HandBack (Send o)) J t s z = let b : one (is_busy (put J (o.job) (at_job (J (o.job)) HandedBack) t).at) ≤ one (is_busy (J t).at) = gone_busy J (o.job) t in omega (arith, b)
 after_busy w q (HandBack (Fork o a)) J t s z = by (t == o.job)
   where
-    by : (b : Bool) → one (is_busy (if b then at_job (J (o.job)) HandedBack else put J a (at_job (J a) HandedBack) t).at) ≤ one (is_busy (J t).at)
+    by : (b : Bool) → one (is_busy (if b then at_job (J (o.job)) HandedBack else put J a (at_job (J a) HandedBack) t).at) ≤ one (is_busy (J t).at) + 0
     by true = omega arith
-    by false = gone_busy J a t
+    by false = let b : one (is_busy (put J a (at_job (J a) HandedBack) t).at) ≤ one (is_busy (J t).at) = gone_busy J a t in omega (arith, b)
+after_busy w q (Mark y c Counted) J t s z = marked_busy c Counted J t 0 (λ e. absurd (cc))
+after_busy w q (Mark y c Returned) J t s z = marked_busy c Returned J t 0 (λ e. absurd (cc))
+after_busy w q (Mark y c Queued) J t s z = marked_busy c Queued J t (one (is_piece c t)) (λ e. omega arith)
+after_busy w q (HandAllBack c) J t s z = marked_busy c Returned J t 0 (λ e. absurd (cc))
 
 -- a detached job has its share itself from its push on
-pub busy_step : (w : World) (q : Party) (x : Place) (fs : List Place) (r : Seen × Part) → Kept w (world_after w q x fs r) → Lasting w (world_after w q x fs r) → StartsAwaited w (next_of (w.shape.pool (target_pool q (act_of q x))) q x (r.0)) → Stays (place_part w q x) x (job_at w q (act_of q x)) r → (t : ℕ) → with_job ((world_after w q x fs r).job t) ≤ with_job (w.job t) + pushed t x (r.0)
-busy_step w q x fs r ke l sa st t = by (is_detached (w.job t).kind) refl
+pub busy_step : (w : World) (q : Party) (x : Place) (fs : List Place) (r : Seen × Part) → Kept w (world_after w q x fs r) → Lasting w (world_after w q x fs r) → StartsAwaited w (next_of (w.shape.pool (target_pool q (act_of q x))) q x (r.0)) → Stays (place_part w q x) x (job_at w q (act_of q x)) r → ((t : ℕ) → dealt t (next_of (w.shape.pool (target_pool q (act_of q x))) q x (r.0)) ≤ pushed t x (r.0)) → (t : ℕ) → with_job ((world_after w q x fs r).job t) ≤ with_job (w.job t) + pushed t x (r.0)
+busy_step w q x fs r ke l sa st de t = by (is_detached (w.job t).kind) refl
   where
     u : World
     u = world_after w q x fs r
@@ -110,14 +138,17 @@ busy_step w q x fs r ke l sa st t = by (is_detached (w.job t).kind) refl
         left_busy Spent v2 z o = let a : one (is_busy v2) ≡ 0 = ap (λ v. one (is_busy v)) o in omega (arith, a)
         left_busy (InDeque p i) v2 z o = one_most (is_busy v2)
         left_busy (Injected p) v2 z o = one_most (is_busy v2)
+        left_busy (InCast p i) v2 z o = one_most (is_busy v2)
         left_busy (InFifo p i) v2 z o = cc
         left_busy (Retaken s) v2 z o = cc
         left_busy (Running s) v2 z o = one_most (is_busy v2)
 
         busy : (b : Bool) → is_left (w.job t).at ≡ b → one (is_busy ((world_after w q x fs r).job t).at) ≤ one (is_busy (w.job t).at) + pushed t x (r.0)
         busy true z = let a : one (is_busy ((world_after w q x fs r).job t).at) ≤ one (is_busy (w.job t).at) = left_busy ((w.job t).at) (((world_after w q x fs r).job t).at) z (ke.onward t) in omega (arith, a)
-        busy false z = let a : one (is_busy ((world_after w q x fs r).job t).at) ≤ one (is_busy (put w.job (job_at w q (act_of q x)) (r.1.job) t).at) = after_busy w q (next_of (w.shape.pool (target_pool q (act_of q x))) q x (r.0)) (put w.job (job_at w q (act_of q x)) (r.1.job)) t sa e in
-            let b : one (is_busy (put w.job (job_at w q (act_of q x)) (r.1.job) t).at) ≤ one (is_busy (w.job t).at) + pushed t x (r.0) = touched (t == job_at w q (act_of q x)) refl in omega (arith, a, b)
+        busy false z = let a : one (is_busy ((world_after w q x fs r).job t).at) ≤ one (is_busy (put w.job (job_at w q (act_of q x)) (r.1.job) t).at) + dealt t (next_of (w.shape.pool (target_pool q (act_of q x))) q x (r.0)) = after_busy w q (next_of (w.shape.pool (target_pool q (act_of q x))) q x (r.0)) (put w.job (job_at w q (act_of q x)) (r.1.job)) t sa e in
+            let b : one (is_busy (put w.job (job_at w q (act_of q x)) (r.1.job) t).at) ≤ one (is_busy (w.job t).at) + pushed t x (r.0) = touched (t == job_at w q (act_of q x)) refl in
+            let c : dealt t (next_of (w.shape.pool (target_pool q (act_of q x))) q x (r.0)) ≤ pushed t x (r.0) = de t in
+            let d : one (is_busy ((world_after w q x fs r).job t).at) ≤ 1 = one_most (is_busy ((world_after w q x fs r).job t).at) in omega (arith, a, b, c, d)
           where
             touched : (b : Bool) → (t == job_at w q (act_of q x)) ≡ b → one (is_busy (if b then r.1.job else w.job t).at) ≤ one (is_busy (w.job t).at) + pushed t x (r.0)
             touched false y = omega arith

@@ -1,30 +1,41 @@
 -- the acts that take a share or give it back, and those that do neither
-use Rattle.std.proofs.Common.{arith, refl, sym, ◌∙◌, ap, subst}
-use Rattle.std.specs.Prelude.{ℕ, Bool, true, false, ◌&&◌, ◌+◌, ◌==◌, ◌≤◌, if◌then◌else◌, Some, List, [], ◌∷◌, ◌≡◌}
+use Rattle.rayon_machine_places.specs.declared.place.Party.TheVariants.{Worker, Caller}
+use Rattle.rayon_machine_places.specs.declared.place.Then.TheVariants.{Resume, BeginFound, LeaveWait, Await, RunFirst, Answers, Missing as NoAnswer, Ran, GiveBack, Called}
+use Rattle.rayon_machine_places.specs.declared.place.Mark.TheVariants.{Counted, Returned}
+use Rattle.rayon_machine_places.specs.declared.place.Move.TheVariants.{Stay}
+use Rattle.rayon_machine_places.specs.declared.shape.PoolShape.{PoolShape}
+use Rattle.rayon_machine_places.specs.declared.place.Latch.TheVariants.{Terminate, OfCall}
+use Rattle.rayon_machine_places.specs.declared.place.Latch.{Latch}
+use Rattle.rayon_machine_places.specs.declared.place.Settling.{Settling}
+use Rattle.rayon_machine_places.specs.declared.place.Share.{Share}
+use Rattle.rayon_machine_places.specs.declared.place.Then.{Then}
+use Rattle.rayon_machine_places.specs.declared.place.Pieces.{Pieces}
+use Rattle.std.proofs.Common.{arith, refl, sym, ◌∙◌, ap, subst, rules}
+use Rattle.std.specs.Prelude.{ℕ, Bool, true, false, ◌&&◌, ◌+◌, ◌==◌, ◌≤◌, if◌then◌else◌, Some, List, [], ◌∷◌, ◌≡◌, ◌-◌, IfSome, nat_lt}
 use Rattle.std.proofs.lemmas.Bool.{eqb-true, eq-eqb}
 use Rattle.rayon_machine_places.specs.declared.place.Party.{Party}
 use Rattle.rayon_machine_places.specs.declared.place.Plan.{Plan}
 use Rattle.rayon_machine_places.specs.declared.place.Plan.TheVariants.{Detach, Here, Send, Fork, Feed}
 use Rattle.rayon_machine_places.specs.declared.place.Place.{Place}
-use Rattle.rayon_machine_places.specs.declared.place.Place.TheVariants.{RaiseCount}
+use Rattle.rayon_machine_places.specs.declared.place.Place.TheVariants.{RaiseCount, RaiseForAll, LowerForAll, LowerCount, SetLatch, UnlockSettled, ProbeWorking}
 use Rattle.rayon_machine_places.specs.declared.act.Seen.{Seen}
-use Rattle.rayon_machine_places.specs.declared.act.Seen.TheVariants.{Done}
+use Rattle.rayon_machine_places.specs.declared.act.Seen.TheVariants.{Done, Refused, Yes}
 use Rattle.rayon_machine_places.specs.declared.state.Job.{Job}
-use Rattle.rayon_machine_places.specs.Places.{same_party, own_index, plan_pool, plan_job, act_of, next_of}
-use Rattle.rayon_machine_places.specs.World.{Stack, World, Part, target_pool}
-use Rattle.rayon_machine_places.specs.Steps.{put, put_stack, part_of, after_move, after}
+use Rattle.rayon_machine_places.specs.Places.{same_party, own_index, plan_pool, plan_job, act_of, next_of, finish, after_set, after_raise}
+use Rattle.rayon_machine_places.specs.World.{Stack, World, Part, target_pool, Shape, Counts, effect}
+use Rattle.rayon_machine_places.specs.Steps.{put, put_stack, part_of, after_move, after, is_piece, mark_pieces, marked}
 use Rattle.rayon_machine_laws.specs.Once.{one}
 use Rattle.rayon_machine_laws.specs.Shares.{shares}
-use Rattle.rayon_machine_laws.proofs.Frame.{same_party_true, put_same, put_new, put_old, after_counted}
+use Rattle.rayon_machine_laws.proofs.Frame.{same_party_true, put_same, put_new, put_old, after_counted, is_sharing, if_some_all, piece_new, piece_old}
 use Rattle.rayon_machine_laws.proofs.Ties.{job_at}
 use Rattle.rayon_machine_laws.proofs.Hands.{hand, held_in, held}
 use Rattle.rayon_machine_laws.proofs.Located.{loc_at, is_loc, where_is, Hand}
-use Rattle.rayon_machine_laws.proofs.Claims.{SaysPlan}
+use Rattle.rayon_machine_laws.proofs.Claims.{SaysPlan, SaysPieces}
 use Rattle.rayon_machine_laws.proofs.ClaimActs.{Lasting}
 use Rattle.rayon_machine_laws.proofs.ClaimRuns.{CallsHold, top_says, world_after, place_part}
 use Rattle.rayon_machine_laws.proofs.Amounts.{raises, values, raises_in, all_raises, all_values, gained, pushed, paid, regained}
-use Rattle.rayon_machine_laws.proofs.Tokens.{Tokens, tokens_keep, tokens_gain, sum_below, sum_same, sum_change}
-use Rattle.rayon_machine_laws.proofs.ShareActs.{with_job, tally, SharesHold, one_most, one_not, Untallied}
+use Rattle.rayon_machine_laws.proofs.Tokens.{Tokens, tokens_keep, tokens_gain, sum_below, sum_same, sum_change, sum_both, pieces_below}
+use Rattle.rayon_machine_laws.proofs.ShareActs.{with_job, tally, SharesHold, one_most, one_not, Untallied, is_tally}
 use Rattle.rayon_machine_laws.proofs.ShareRuns.{StartsAwaited, shares_mine, other_le, values_mine, raises_mine, raises_all, still_hold}
 
 -- an act, with what is known of it
@@ -45,22 +56,77 @@ stack_after w q x fs e = after_move (next_of (w.shape.pool (target_pool q (act_o
 pub tally_same : (p : ℕ) (j i : Job) → j.counted ≡ i.counted → j.pool ≡ i.pool → tally p j ≡ tally p i
 tally_same p j i a b = ap (λ c. one (c && (p == j.pool))) a ∙ ap (λ n. one (i.counted && (p == n))) b
 
-pub counted_now : (w : World) (q : Party) (x : Place) (fs : List Place) (r : Seen × Part) (t : ℕ) → ((world_after w q x fs r).job t).counted ≡ (put w.job (job_at w q (act_of q x)) (r.1.job) t).counted
-counted_now w q x fs r t = after_counted q (next_of (w.shape.pool (target_pool q (act_of q x))) q x (r.0)) (put w.job (job_at w q (act_of q x)) (r.1.job)) t
+pub counted_now : (w : World) (q : Party) (x : Place) (fs : List Place) (r : Seen × Part) → is_sharing (next_of (w.shape.pool (target_pool q (act_of q x))) q x (r.0)) ≡ false → (t : ℕ) → ((world_after w q x fs r).job t).counted ≡ (put w.job (job_at w q (act_of q x)) (r.1.job) t).counted
+counted_now w q x fs r st t = after_counted q (next_of (w.shape.pool (target_pool q (act_of q x))) q x (r.0)) (put w.job (job_at w q (act_of q x)) (r.1.job)) t st
+
+-- what a party does after its last acts gives no shares and takes none
+pub finish_steady : (q : Party) (t : Then) → is_sharing (finish q t) ≡ false
+finish_steady q (BeginFound g t) = refl
+finish_steady q (LeaveWait g) = refl
+finish_steady q Resume = refl
+finish_steady q Called = refl
+finish_steady q (Await o) = refl
+finish_steady q (RunFirst o a) = refl
+finish_steady q (Answers o f e) = refl
+finish_steady q (NoAnswer o f) = refl
+finish_steady q (Ran t e) = refl
+finish_steady q (GiveBack n) = refl
+
+settled_steady : (h : PoolShape) (q : Party) (s : Settling) (l : Latch) → is_sharing (after_set h q s l) ≡ false
+settled_steady h q s Terminate = by (nat_lt (s.worker + 1) h.workers)
+  where
+    by : (b : Bool) → is_sharing (if b then Stay (SetLatch (record { latch = Terminate; pool = s.pool; worker = s.worker + 1; then = s.then })) else finish q s.then) ≡ false
+    by true = refl
+    by false = finish_steady q s.then
+settled_steady h q s (OfCall c) = finish_steady q s.then
+
+-- no act but those on the count gives shares or takes them
+set_steady : (h : PoolShape) (q : Party) (s : Settling) (e : Seen) → is_sharing (next_of h q (SetLatch s) e) ≡ false
+set_steady h q s Yes = refl
+set_steady h q s _ = settled_steady h q s s.latch
+
+pub no_steady : (h : Shape) (g : PoolShape) (q : Party) (c : Counts) (m : Part) (x : Place) → is_tally x ≡ false → IfSome (effect (act_of q x) h q c m) (λ r. is_sharing (next_of g q x (r.0)) ≡ false)
+no_steady h g (Worker i j) c m (ProbeWorking k) z = search (rules, arith)
+no_steady h g q c m (RaiseCount n) z = cc
+no_steady h g q c m (LowerCount p s n) z = cc
+no_steady h g q c m (RaiseForAll b) z = cc
+no_steady h g q c m (LowerForAll b) z = cc
+no_steady h g q c m (SetLatch s) z = if_some_all {A = Seen × Part} (λ r. is_sharing (next_of g q (SetLatch s) (r.0)) ≡ false) (λ r. set_steady g q s (r.0)) (effect (act_of q (SetLatch s)) h q c m)
+no_steady h g q c m (UnlockSettled s) z = if_some_all {A = Seen × Part} (λ r. is_sharing (next_of g q (UnlockSettled s) (r.0)) ≡ false) (λ r. settled_steady g q s s.latch) (effect (act_of q (UnlockSettled s)) h q c m)
+no_steady h g (Worker i j) c m _ z = search (rules, arith)
+no_steady h g (Caller n) c m _ z = search (rules, arith)
+
+pub raise_steady : (n : Plan) → is_sharing (after_raise n) ≡ false
+raise_steady (Detach p t) = refl
+raise_steady (Here p t) = refl
+raise_steady (Send o) = refl
+raise_steady (Fork o a) = refl
+raise_steady (Feed f) = refl
+
+pub lower_steady : (g : PoolShape) (q : Party) (p : ℕ) (s : Share) (n : Then) (e : Seen) → is_sharing (next_of g q (LowerCount p s n) e) ≡ false
+lower_steady g q p s n Yes = by (nat_lt 0 g.workers)
+  where
+    by : (b : Bool) → is_sharing (if b then Stay (SetLatch (record { latch = Terminate; pool = p; worker = 0; then = n })) else finish q n) ≡ false
+    by true = refl
+    by false = finish_steady q n
+lower_steady g q p s n _ = finish_steady q n
 
 -- an act that takes no share and gives none back
-pub plain_hold : (w : World) (q : Party) (x : Place) (fs : List Place) (r : Seen × Part) → Ready w q x fs r → Untallied (place_part w q x) r → ((t : ℕ) → gained t x (r.0) ≡ 0) → SharesHold (world_after w q x fs r)
-plain_hold w q x fs r d un none = still_hold w (world_after w q x fs r) q (stack_after w q x fs (r.0)) (d.calls) (λ s. refl) (omega arith) counted
-    (λ p. put_same (λ v. v.counted) w.pool (target_pool q (act_of q x)) (r.1.pool) p (un.pool))
+pub steady_hold : (w : World) (q : Party) (x : Place) (fs : List Place) (r : Seen × Part) → Ready w q x fs r → ((p : ℕ) → ((world_after w q x fs r).pool p).counted ≡ (w.pool p).counted) → ((p : ℕ) → ((world_after w q x fs r).pool p).count ≡ (w.pool p).count) → ((t : ℕ) → ((world_after w q x fs r).job t).counted ≡ (w.job t).counted) → ((t : ℕ) → gained t x (r.0) ≡ 0) → SharesHold (world_after w q x fs r)
+steady_hold w q x fs r d pc pn counted none = still_hold w (world_after w q x fs r) q (stack_after w q x fs (r.0)) (d.calls) (λ s. refl) (omega arith) counted
+    pc
     (λ p. (let a : sum_below w.jobs (λ t. tally p ((world_after w q x fs r).job t)) ≡ sum_below w.jobs (λ t. tally p (w.job t)) = sum_same w.jobs (λ t. tally p ((world_after w q x fs r).job t)) (λ t. tally p (w.job t)) (λ t b. tally_same p ((world_after w q x fs r).job t) (w.job t) (counted t) (d.pools t)) in omega (arith, a)))
-    (λ p. put_same (λ v. v.count) w.pool (target_pool q (act_of q x)) (r.1.pool) p (un.count))
+    pn
     (λ t. (let a : shares t (put_stack w.stack q (stack_after w q x fs (r.0)) q) + (pushed t x (r.0) + paid t x) ≡ shares t (w.stack q) + (gained t x (r.0) + regained t x (r.0)) = shares_mine w q x fs (w.shape.pool (target_pool q (act_of q x))) (r.0) t (d.stack) in let b : with_job ((world_after w q x fs r).job t) + regained t x (r.0) ≤ with_job (w.job t) + pushed t x (r.0) = d.regains t in let c : gained t x (r.0) ≡ 0 = none t in omega (arith, a, b, c)))
     (λ p. (let a : all_values p (put_stack w.stack q (stack_after w q x fs (r.0)) q) + values p x ≡ all_values p (w.stack q) = values_mine w q x fs (w.shape.pool (target_pool q (act_of q x))) (r.0) p (d.stack) in let b : one ((world_after w q x fs r).pool p).held ≡ one (w.pool p).held = ap one (d.held p) in omega (arith, a, b)))
     (λ t s. (let a : all_raises t (put_stack w.stack q (stack_after w q x fs (r.0)) s) ≤ all_raises t (w.stack s) = raises_all w q x fs (w.shape.pool (target_pool q (act_of q x))) (r.0) t (d.stack) s in let b : all_raises t (w.stack s) + one (w.job t).counted ≤ 1 = ((d.hold).unraised) s t in omega (arith, a, b)))
     (d.hold)
+
+pub plain_hold : (w : World) (q : Party) (x : Place) (fs : List Place) (r : Seen × Part) → Ready w q x fs r → Untallied (place_part w q x) r → is_sharing (next_of (w.shape.pool (target_pool q (act_of q x))) q x (r.0)) ≡ false → ((t : ℕ) → gained t x (r.0) ≡ 0) → SharesHold (world_after w q x fs r)
+plain_hold w q x fs r d un st none = steady_hold w q x fs r d (λ p. put_same (λ v. v.counted) w.pool (target_pool q (act_of q x)) (r.1.pool) p (un.pool)) (λ p. put_same (λ v. v.count) w.pool (target_pool q (act_of q x)) (r.1.pool) p (un.count)) counted none
   where
     counted : (t : ℕ) → ((world_after w q x fs r).job t).counted ≡ (w.job t).counted
-    counted t = counted_now w q x fs r t ∙ put_same (λ j. j.counted) w.job (job_at w q (act_of q x)) (r.1.job) t (un.job)
+    counted t = counted_now w q x fs r st t ∙ put_same (λ j. j.counted) w.job (job_at w q (act_of q x)) (r.1.job) t (un.job)
 
 -- who raises the count for a job has it in hand
 raises_hand : (t : ℕ) (x : Place) → raises t x ≤ hand t x
@@ -111,7 +177,7 @@ raise_hold w q n fs h z ch busy pools keeps = record {
     said = plan_made w q n (top_says w q (RaiseCount n) fs (h.calls) z)
 
     counted : (t : ℕ) → ((raised_world w q n fs).job t).counted ≡ (put w.job (plan_job n) (record (w.job (plan_job n)) { counted = true }) t).counted
-    counted t = after_counted q (next_of (w.shape.pool (plan_pool n)) q (RaiseCount n) Done) (put w.job (plan_job n) (record (w.job (plan_job n)) { counted = true })) t
+    counted t = after_counted q (next_of (w.shape.pool (plan_pool n)) q (RaiseCount n) Done) (put w.job (plan_job n) (record (w.job (plan_job n)) { counted = true })) t (raise_steady n)
 
     now : ((raised_world w q n fs).job (plan_job n)).counted ≡ true
     now = counted (plan_job n) ∙ ap (λ j. j.counted) (put_new w.job (plan_job n) (record (w.job (plan_job n)) { counted = true }))
@@ -177,3 +243,107 @@ raise_hold w q n fs h z ch busy pools keeps = record {
         let c : tally p ((raised_world w q n fs).job (plan_job n)) ≡ one (p == plan_pool n) = new_tally p in
         let d : one (p == plan_pool n) ≡ 0 = ap one e in
         let old : tally p (w.job (plan_job n)) ≡ 0 = ap (λ c. one (c && (p == (w.job (plan_job n)).pool))) before in omega (arith, a, b, c, d, old)
+
+-- what a broadcast says of its pieces
+pub pieces_made : (w : World) (c : Pieces) → SaysPieces w c → (t : ℕ) → is_piece c t ≡ true → t + 1 ≤ w.jobs
+pieces_made w c s t e = (s t e).made
+
+-- a broadcast that finds its pool ended has taken no share
+back_counted : (w : World) (q : Party) (c : Pieces) (fs : List Place) → SharesHold w → w.stack q ≡ record { top = RaiseForAll c; below = fs } → (t : ℕ) → (mark_pieces c Returned (put w.job 0 (w.job 0)) t).counted ≡ (w.job t).counted
+back_counted w q c fs h z t = by (is_piece c t) refl
+  where
+    by : (b : Bool) → is_piece c t ≡ b → (if b then marked Returned c.pool (t - c.first) (put w.job 0 (w.job 0) t) else put w.job 0 (w.job 0) t).counted ≡ (w.job t).counted
+    by true e = sym (one_not ((w.job t).counted) (let a : all_raises t (w.stack q) ≡ (one (is_piece c t) + raises_in t fs) = ap (all_raises t) z in let b : one (is_piece c t) ≡ 1 = ap one e in let d : all_raises t (w.stack q) + one (w.job t).counted ≤ 1 = h.unraised q t in omega (arith, a, b, d)))
+    by false e = put_same (λ j. j.counted) w.job 0 (w.job 0) t refl
+
+pub refused_hold : (w : World) (q : Party) (c : Pieces) (fs : List Place) → Ready w q (RaiseForAll c) fs (Refused, place_part w q (RaiseForAll c)) → (world_after w q (RaiseForAll c) fs (Refused, place_part w q (RaiseForAll c))).job ≡ mark_pieces c Returned (put w.job 0 (w.job 0)) → SharesHold (world_after w q (RaiseForAll c) fs (Refused, place_part w q (RaiseForAll c)))
+refused_hold w q c fs d jo = steady_hold w q (RaiseForAll c) fs (Refused, place_part w q (RaiseForAll c)) d
+    (λ p. put_same (λ v. v.counted) w.pool (target_pool q (act_of q (RaiseForAll c))) (w.pool (target_pool q (act_of q (RaiseForAll c)))) p refl)
+    (λ p. put_same (λ v. v.count) w.pool (target_pool q (act_of q (RaiseForAll c))) (w.pool (target_pool q (act_of q (RaiseForAll c)))) p refl)
+    (λ t. ap (λ J. (J t).counted) jo ∙ back_counted w q c fs d.hold d.stack t) (λ t. refl)
+
+-- the world after a broadcast has taken its shares
+abbrev pub all_raised : World → Party → Pieces → List Place → World
+all_raised w q c fs = after w q (record { top = RaiseForAll c; below = fs }) c.pool (own_index q) 0 0 (Done, record (part_of w c.pool (own_index q) 0 0) { pool = record (w.pool c.pool) { count = (w.pool c.pool).count + c.workers } })
+
+pub raise_all_hold : (w : World) (q : Party) (c : Pieces) (fs : List Place) → SharesHold w → w.stack q ≡ record { top = RaiseForAll c; below = fs } → CallsHold (all_raised w q c fs) → ((t : ℕ) → with_job ((all_raised w q c fs).job t) ≤ with_job (w.job t)) → ((t : ℕ) → ((all_raised w q c fs).job t).pool ≡ (w.job t).pool) → ((p : ℕ) → ((all_raised w q c fs).pool p).held ≡ (w.pool p).held) → SharesHold (all_raised w q c fs)
+raise_all_hold w q c fs h z ch busy pools keeps = record {
+  calls = ch;
+  jobs = λ t. jobs t (is_piece c t) refl;
+  values = λ p. subst (λ d. Tokens (λ s. all_values p (v.stack s)) (one (v.pool p).held) (one d)) (sym (put_same (λ a. a.counted) w.pool c.pool (record (w.pool c.pool) { count = (w.pool c.pool).count + c.workers }) p refl))
+      (tokens_keep (λ s. all_values p (w.stack s)) (λ s. all_values p (v.stack s)) (one (w.pool p).held) (one (v.pool p).held) (one (w.pool p).counted) q (one_most ((w.pool p).counted)) (λ s e. other_le (all_values p) w q k s e)
+      (let a : all_values p (put_stack w.stack q k q) + 0 ≡ all_values p (w.stack q) = values_mine w q (RaiseForAll c) fs (w.shape.pool c.pool) Done p z in let b : one (v.pool p).held ≡ one (w.pool p).held = ap one (keeps p) in omega (arith, a, b)) (h.values p));
+  unraised = λ s t. unraised s t (is_piece c t) refl;
+  unmade = λ t b. unmade t b (is_piece c t) refl;
+  sums = λ p. sums p (p == c.pool) refl;
+}
+  where
+    v : World
+    v = all_raised w q c fs
+
+    k : Stack
+    k = after_move (next_of (w.shape.pool c.pool) q (RaiseForAll c) Done) fs
+
+    said : SaysPieces w c
+    said = top_says w q (RaiseForAll c) fs (h.calls) z
+
+    now : (t : ℕ) → is_piece c t ≡ true → (v.job t).counted ≡ true
+    now t e = ap (λ j. j.counted) (piece_new c (marked Counted c.pool) (put w.job 0 (w.job 0)) t e)
+
+    same : (t : ℕ) → is_piece c t ≡ false → (v.job t).counted ≡ (w.job t).counted
+    same t e = ap (λ j. j.counted) (piece_old c (marked Counted c.pool) (put w.job 0 (w.job 0)) t e) ∙ put_same (λ j. j.counted) w.job 0 (w.job 0) t refl
+
+    mine_raises : (t : ℕ) → all_raises t (w.stack q) ≡ (one (is_piece c t) + raises_in t fs)
+    mine_raises t = ap (all_raises t) z
+
+    before : (t : ℕ) → is_piece c t ≡ true → (w.job t).counted ≡ false
+    before t e = one_not ((w.job t).counted) (let a : all_raises t (w.stack q) + one (w.job t).counted ≤ 1 = h.unraised q t in let b : one (is_piece c t) ≡ 1 = ap one e in let d : all_raises t (w.stack q) ≡ (one (is_piece c t) + raises_in t fs) = mine_raises t in omega (arith, a, b, d))
+
+    line : (t : ℕ) → shares t (put_stack w.stack q k q) ≤ shares t (w.stack q) + one (is_piece c t)
+    line t = let a : shares t (put_stack w.stack q k q) + (0 + 0) ≡ shares t (w.stack q) + (one (is_piece c t) + 0) = shares_mine w q (RaiseForAll c) fs (w.shape.pool c.pool) Done t z in omega (arith, a)
+
+    jobs : (t : ℕ) (b : Bool) → is_piece c t ≡ b → Tokens (λ s. shares t (v.stack s)) (with_job (v.job t)) (one (v.job t).counted)
+    jobs t true e = subst (λ d. Tokens (λ s. shares t (v.stack s)) (with_job (v.job t)) (one d)) (sym (now t e))
+        (tokens_gain (λ s. shares t (w.stack s)) (λ s. shares t (v.stack s)) (with_job (w.job t)) (with_job (v.job t)) q (λ s y. other_le (shares t) w q k s y)
+        (let a : shares t (put_stack w.stack q k q) ≤ shares t (w.stack q) + one (is_piece c t) = line t in let b : one (is_piece c t) ≡ 1 = ap one e in omega (arith, a, b))
+        (busy t) (subst (λ d. Tokens (λ s. shares t (w.stack s)) (with_job (w.job t)) (one d)) (before t e) (h.jobs t)))
+    jobs t false e = subst (λ d. Tokens (λ s. shares t (v.stack s)) (with_job (v.job t)) (one d)) (sym (same t e))
+        (tokens_keep (λ s. shares t (w.stack s)) (λ s. shares t (v.stack s)) (with_job (w.job t)) (with_job (v.job t)) (one (w.job t).counted) q (one_most ((w.job t).counted)) (λ s y. other_le (shares t) w q k s y)
+        (let a : shares t (put_stack w.stack q k q) ≤ shares t (w.stack q) + one (is_piece c t) = line t in let b : with_job (v.job t) ≤ with_job (w.job t) = busy t in let d : one (is_piece c t) ≡ 0 = ap one e in omega (arith, a, b, d)) (h.jobs t))
+
+    none_raises : (s : Party) (t : ℕ) → is_piece c t ≡ true → (b : Bool) → same_party s q ≡ b → all_raises t (v.stack s) ≤ 0
+    none_raises s t y true e = subst (λ s. all_raises t (v.stack s) ≤ 0) (sym (same_party_true s q e)) (let a : all_raises t (put_stack w.stack q k q) + one (is_piece c t) ≡ all_raises t (w.stack q) = raises_mine w q (RaiseForAll c) fs (w.shape.pool c.pool) Done t z in let b : one (is_piece c t) ≡ 1 = ap one y in let d : all_raises t (w.stack q) + one (w.job t).counted ≤ 1 = h.unraised q t in omega (arith, a, b, d))
+    none_raises s t y false e = let a : all_raises t (put_stack w.stack q k s) ≤ all_raises t (w.stack s) = other_le (all_raises t) w q k s e in
+        let b : all_raises t (w.stack s) ≤ held t (w.stack s) = all_held t (w.stack s) in
+        let d : held t (w.stack s) ≡ is_loc (Hand s) (loc_at (w.job t)) = (((h.calls).jobs).ok).placed (Hand s) t in
+        let f : is_loc (Hand s) (loc_at (w.job t)) ≡ one (same_party s q) = ap (is_loc (Hand s)) mine in
+        let g : one (same_party s q) ≡ 0 = ap one e in omega (arith, a, b, d, f, g)
+      where
+        mine : loc_at (w.job t) ≡ Some (Hand q)
+        mine = where_is (Hand q) (loc_at (w.job t)) (let a : all_raises t (w.stack q) ≤ held t (w.stack q) = all_held t (w.stack q) in let b : held t (w.stack q) ≡ is_loc (Hand q) (loc_at (w.job t)) = (((h.calls).jobs).ok).placed (Hand q) t in let d : all_raises t (w.stack q) ≡ (one (is_piece c t) + raises_in t fs) = mine_raises t in let f : one (is_piece c t) ≡ 1 = ap one y in omega (arith, a, b, d, f))
+
+    unraised : (s : Party) (t : ℕ) (b : Bool) → is_piece c t ≡ b → all_raises t (v.stack s) + one (v.job t).counted ≤ 1
+    unraised s t true e = let a : all_raises t (v.stack s) ≤ 0 = none_raises s t e (same_party s q) refl in let b : one (v.job t).counted ≤ 1 = one_most ((v.job t).counted) in omega (arith, a, b)
+    unraised s t false e = let a : all_raises t (put_stack w.stack q k s) ≤ all_raises t (w.stack s) = raises_all w q (RaiseForAll c) fs (w.shape.pool c.pool) Done t z s in let b : all_raises t (w.stack s) + one (w.job t).counted ≤ 1 = h.unraised s t in let d : one (v.job t).counted ≡ one (w.job t).counted = ap one (same t e) in omega (arith, a, b, d)
+
+    unmade : (t : ℕ) → w.jobs ≤ t → (b : Bool) → is_piece c t ≡ b → (v.job t).counted ≡ false
+    unmade t y true e = absurd (let m : t + 1 ≤ w.jobs = pieces_made w c said t e in omega (arith, m, y))
+    unmade t y false e = same t e ∙ h.unmade t y
+
+    gains : (p t : ℕ) (b : Bool) → is_piece c t ≡ b → (p == c.pool) ≡ true → tally p (v.job t) ≡ tally p (w.job t) + one (is_piece c t)
+    gains p t true e y = let a : tally p (v.job t) ≡ 1 = ap (λ d. one (d && (p == (v.job t).pool))) (now t e) ∙ ap (λ m. one (p == m)) (pools t ∙ (said t e).pool) ∙ ap one y in let b : tally p (w.job t) ≡ 0 = ap (λ d. one (d && (p == (w.job t).pool))) (before t e) in let d : one (is_piece c t) ≡ 1 = ap one e in omega (arith, a, b, d)
+    gains p t false e y = let a : tally p (v.job t) ≡ tally p (w.job t) = tally_same p (v.job t) (w.job t) (same t e) (pools t) in let d : one (is_piece c t) ≡ 0 = ap one e in omega (arith, a, d)
+
+    stays : (p t : ℕ) (b : Bool) → is_piece c t ≡ b → (p == c.pool) ≡ false → tally p (v.job t) ≡ tally p (w.job t)
+    stays p t true e y = let a : tally p (v.job t) ≡ 0 = ap (λ d. one (d && (p == (v.job t).pool))) (now t e) ∙ ap (λ m. one (p == m)) (pools t ∙ (said t e).pool) ∙ ap one y in let b : tally p (w.job t) ≡ 0 = ap (λ d. one (d && (p == (w.job t).pool))) (before t e) in omega (arith, a, b)
+    stays p t false e y = tally_same p (v.job t) (w.job t) (same t e) (pools t)
+
+    sums : (p : ℕ) (b : Bool) → (p == c.pool) ≡ b → sum_below w.jobs (λ t. tally p (v.job t)) + one (if b then record (w.pool c.pool) { count = (w.pool c.pool).count + c.workers } else w.pool p).counted ≡ (if b then record (w.pool c.pool) { count = (w.pool c.pool).count + c.workers } else w.pool p).count
+    sums p true e = let i : p ≡ c.pool = eqb-true p c.pool e in
+        let a : sum_below w.jobs (λ t. tally p (w.job t)) + one (w.pool p).counted ≡ (w.pool p).count = h.sums p in
+        let b : sum_below w.jobs (λ t. tally p (v.job t)) ≡ sum_below w.jobs (λ t. tally p (w.job t)) + sum_below w.jobs (λ t. one (is_piece c t)) = sum_both w.jobs (λ t. tally p (w.job t)) (λ t. tally p (v.job t)) (λ t. one (is_piece c t)) (λ t l. gains p t (is_piece c t) refl e) in
+        let d : sum_below w.jobs (λ t. one (is_piece c t)) ≡ c.workers = pieces_below w.jobs c (pieces_made w c said) in
+        let f : one (w.pool c.pool).counted ≡ one (w.pool p).counted = ap (λ m. one (w.pool m).counted) (sym i) in
+        let g : (w.pool c.pool).count ≡ (w.pool p).count = ap (λ m. (w.pool m).count) (sym i) in omega (arith, a, b, d, f, g)
+    sums p false e = let a : sum_below w.jobs (λ t. tally p (w.job t)) + one (w.pool p).counted ≡ (w.pool p).count = h.sums p in
+        let b : sum_below w.jobs (λ t. tally p (v.job t)) ≡ sum_below w.jobs (λ t. tally p (w.job t)) = sum_same w.jobs (λ t. tally p (v.job t)) (λ t. tally p (w.job t)) (λ t l. stays p t (is_piece c t) refl e) in omega (arith, a, b)

@@ -3,13 +3,13 @@ use Rattle.std.proofs.Common.{arith, refl, sym, ◌∙◌, ap, subst, inl, inr}
 use Rattle.std.specs.Prelude.{ℕ, Bool, true, false, ◌&&◌, ◌+◌, ◌==◌, ◌≤◌, if◌then◌else◌, Option, Some, None, List, [], ◌∷◌, ◌++◌, ◌≡◌, IfSome, length}
 use Rattle.std.proofs.lemmas.Bool.{eqb-true, eq-eqb}
 use Rattle.std.proofs.lemmas.List.{length-append}
-use Rattle.rayon_machine_places.specs.declared.place.Place.TheVariants.{AddToFifo, BeginHere, BeginTask, JoinPop, JoinTakeCast, LocalPop, LocalTakeCast, PopIdle, PopInjected, PopWorking, PushJob, PushToken, StealFrom, TakeCastIdle, TakeCastWorking, TakeFromFifo, YieldPop, YieldPopInjected, YieldSteal, YieldTakeCast}
+use Rattle.rayon_machine_places.specs.declared.place.Place.TheVariants.{AddToFifo, BeginHere, BeginTask, JoinPop, JoinTakeCast, LocalPop, LocalTakeCast, PopIdle, PopInjected, PopWorking, PushJob, PushToken, StealFrom, TakeCastIdle, TakeCastWorking, TakeFromFifo, YieldPop, YieldPopInjected, YieldSteal, YieldTakeCast, PushForAll}
 use Rattle.rayon_machine_places.specs.declared.place.Party.TheVariants.{Caller, Worker}
 use Rattle.rayon_machine_places.specs.World.{Counts, Part, Shape, World, at_job, begun, but_first, but_last, counts_at, effect, fifo_out, head_of, is_open, last_of, left_by, or_none, own_left, own_of, pop_injector, popped, take_cast, target_call, target_pool, target_worker}
 use Rattle.rayon_machine_places.specs.declared.place.Plan.TheVariants.{Detach, Feed, Fork, Here, Send}
 use Rattle.rayon_machine_places.specs.declared.place.Feeding.{Feeding}
-use Rattle.rayon_machine_places.specs.declared.state.Whereabouts.TheVariants.{InDeque, InFifo, Injected, Retaken, Running}
-use Rattle.rayon_machine_laws.specs.Once.{IsOnce, in_deque, in_injector, one, times}
+use Rattle.rayon_machine_places.specs.declared.state.Whereabouts.TheVariants.{InDeque, InFifo, Injected, Retaken, Running, InCast}
+use Rattle.rayon_machine_laws.specs.Once.{IsOnce, in_deque, in_injector, one, times, in_cast}
 use Rattle.rayon_machine_places.specs.declared.state.Job.{Job}
 use Rattle.rayon_machine_places.specs.declared.place.JobKind.{JobKind}
 use Rattle.rayon_machine_places.specs.declared.act.Seen.TheVariants.{Missing}
@@ -43,6 +43,7 @@ token_of j _ = false
 abbrev pub at_pool : ℕ → Whereabouts → ℕ → Bool
 at_pool p (InDeque r i) n = p == r
 at_pool p (Injected r) n = p == r
+at_pool p (InCast r i) n = p == r
 at_pool p (Running q) n = (p == own_pool q) && (n == 0)
 at_pool p _ n = false
 
@@ -74,7 +75,7 @@ pub record Fair (q : Party) (x : Place) (m : Part) (r : Seen × Part) : Type 0 w
 pub live_off : (p j : ℕ) (t : Job) → at_pool p t.at t.runs ≡ false → live p j t ≡ 0
 live_off p j t e = ap (λ b. one (token_of j t.kind && b)) e ∙ ap one (and_false (token_of j t.kind))
 
-live_none : (p j : ℕ) (t : Job) → token_of j t.kind ≡ false → live p j t ≡ 0
+pub live_none : (p j : ℕ) (t : Job) → token_of j t.kind ≡ false → live p j t ≡ 0
 live_none p j t e = ap (λ b. one (b && at_pool p t.at t.runs)) e
 
 not_zero : (n : ℕ) → ((n + 1) == 0) ≡ false
@@ -111,9 +112,9 @@ inj_fair : (q : Party) (m : Part) (x : Place) (l : List ℕ) → is_pushing x �
 inj_fair q m x [] n f = still_fair q x m Missing n
 inj_fair q m x (t ∷ ts) n f = plain_fair q x m _ n (λ p j. taken_less p j q m.job (f t refl p)) (omega arith)
 
-cast_fair : (q : Party) (m : Part) (x : Place) (l : List ℕ) → is_pushing x ≡ false → ((t : ℕ) → times t l ≡ 0) → IfSome (take_cast q m l) (Fair q x m)
+cast_fair : (q : Party) (m : Part) (x : Place) (l : List ℕ) → is_pushing x ≡ false → ((t : ℕ) → head_of l ≡ Some t → (p : ℕ) → at_pool p m.job.at m.job.runs ≡ (p == own_pool q)) → IfSome (take_cast q m l) (Fair q x m)
 cast_fair q m x [] n f = still_fair q x m Missing n
-cast_fair q m x (t ∷ ts) n f = absurd (let a : times t (t ∷ ts) ≡ 0 = f t in let b : one (t == t) ≡ 1 = ap one (eq-eqb t t refl) in omega (arith, a, b))
+cast_fair q m x (t ∷ ts) n f = plain_fair q x m _ n (λ p j. taken_less p j q m.job (f t refl p)) (omega arith)
 
 pub one_set : (b : Bool) → 1 ≤ one b → b ≡ true
 one_set true k = refl
@@ -127,6 +128,10 @@ inj_pool : (p r : ℕ) (v : Whereabouts) (n : ℕ) → in_injector r v ≡ true 
 inj_pool p r (Injected s) n e = ap (λ z. p == z) (sym (eqb-true r s e))
 inj_pool p r _ n e = absurd (cc)
 
+cast_pool : (p r i : ℕ) (v : Whereabouts) (n : ℕ) → in_cast r i v ≡ true → at_pool p v n ≡ (p == r)
+cast_pool p r i (InCast s j) n e = let a : (r == s) && (i == j) ≡ true = e in let b : r ≡ s = (same_index r i s j a).0 in ap (λ z. p == z) (sym b)
+cast_pool p r i _ n e = absurd (cc)
+
 own_spot : (w : World) → IsOnce w → (b : Order) (a i t : ℕ) → own_of b (w.seat a i).own ≡ Some t → (p : ℕ) → at_pool p (w.job (or_none (own_of b (w.seat a i).own))).at (w.job (or_none (own_of b (w.seat a i).own))).runs ≡ (p == a)
 own_spot w h b a i t e p = subst (λ o. at_pool p (w.job (or_none o)).at (w.job (or_none o)).runs ≡ (p == a)) (sym e) (deck_pool p a i (w.job t).at (w.job t).runs (one_set (in_deque a i (w.job t).at)
     (let d : times t (w.seat a i).own ≡ one (in_deque a i (w.job t).at) = h.deque a i t in let k : times t (w.seat a i).own ≡ (one (t == t) + times t (own_left b (w.seat a i).own)) = times_own b ((w.seat a i).own) t t e in let c : one (t == t) ≡ 1 = ap one (eq-eqb t t refl) in omega (arith, d, k, c))))
@@ -138,6 +143,10 @@ head_spot w h a i t e p = subst (λ o. at_pool p (w.job (or_none o)).at (w.job (
 inj_spot : (w : World) → IsOnce w → (a t : ℕ) → head_of (w.pool a).injector ≡ Some t → (p : ℕ) → at_pool p (w.job (or_none (head_of (w.pool a).injector))).at (w.job (or_none (head_of (w.pool a).injector))).runs ≡ (p == a)
 inj_spot w h a t e p = subst (λ o. at_pool p (w.job (or_none o)).at (w.job (or_none o)).runs ≡ (p == a)) (sym e) (inj_pool p a (w.job t).at (w.job t).runs (one_set (in_injector a (w.job t).at)
     (let d : times t (w.pool a).injector ≡ one (in_injector a (w.job t).at) = h.injector a t in let k : times t (w.pool a).injector ≡ (one (t == t) + times t (but_first (w.pool a).injector)) = times_first ((w.pool a).injector) t t e in let c : one (t == t) ≡ 1 = ap one (eq-eqb t t refl) in omega (arith, d, k, c))))
+
+cast_spot : (w : World) → IsOnce w → (a i t : ℕ) → head_of ((w.pool a).casts i) ≡ Some t → (p : ℕ) → at_pool p (w.job (or_none (head_of ((w.pool a).casts i)))).at (w.job (or_none (head_of ((w.pool a).casts i)))).runs ≡ (p == a)
+cast_spot w h a i t e p = subst (λ o. at_pool p (w.job (or_none o)).at (w.job (or_none o)).runs ≡ (p == a)) (sym e) (cast_pool p a i (w.job t).at (w.job t).runs (one_set (in_cast a i (w.job t).at)
+    (let d : times t ((w.pool a).casts i) ≡ one (in_cast a i (w.job t).at) = h.cast a i t in let k : times t ((w.pool a).casts i) ≡ (one (t == t) + times t (but_first ((w.pool a).casts i))) = times_first ((w.pool a).casts i) t t e in let c : one (t == t) ≡ 1 = ap one (eq-eqb t t refl) in omega (arith, d, k, c))))
 
 -- a push takes no list's holder away but the party itself
 left_less : (q : Party) (o : Option Party) → one (is_held (left_by q o)) ≤ one (is_held o)
@@ -220,15 +229,15 @@ act_fair w (Worker a b) (PopInjected k) h s f = inj_fair (Worker a b) (place_par
 act_fair w (Caller c) (PopInjected k) h s f = tt
 act_fair w (Worker a b) YieldPopInjected h s f = inj_fair (Worker a b) (place_part w (Worker a b) YieldPopInjected) YieldPopInjected _ refl (λ t e. inj_spot w h a t e)
 act_fair w (Caller c) YieldPopInjected h s f = tt
-act_fair w (Worker a b) (TakeCastWorking k) h s f = cast_fair (Worker a b) (place_part w (Worker a b) (TakeCastWorking k)) (TakeCastWorking k) _ refl (λ t. h.cast a b t)
+act_fair w (Worker a b) (TakeCastWorking k) h s f = cast_fair (Worker a b) (place_part w (Worker a b) (TakeCastWorking k)) (TakeCastWorking k) _ refl (λ t e. cast_spot w h a b t e)
 act_fair w (Caller c) (TakeCastWorking k) h s f = tt
-act_fair w (Worker a b) (TakeCastIdle k) h s f = cast_fair (Worker a b) (place_part w (Worker a b) (TakeCastIdle k)) (TakeCastIdle k) _ refl (λ t. h.cast a b t)
+act_fair w (Worker a b) (TakeCastIdle k) h s f = cast_fair (Worker a b) (place_part w (Worker a b) (TakeCastIdle k)) (TakeCastIdle k) _ refl (λ t e. cast_spot w h a b t e)
 act_fair w (Caller c) (TakeCastIdle k) h s f = tt
-act_fair w (Worker a b) (JoinTakeCast o) h s f = cast_fair (Worker a b) (place_part w (Worker a b) (JoinTakeCast o)) (JoinTakeCast o) _ refl (λ t. h.cast a b t)
+act_fair w (Worker a b) (JoinTakeCast o) h s f = cast_fair (Worker a b) (place_part w (Worker a b) (JoinTakeCast o)) (JoinTakeCast o) _ refl (λ t e. cast_spot w h a b t e)
 act_fair w (Caller c) (JoinTakeCast o) h s f = tt
-act_fair w (Worker a b) YieldTakeCast h s f = cast_fair (Worker a b) (place_part w (Worker a b) YieldTakeCast) YieldTakeCast _ refl (λ t. h.cast a b t)
+act_fair w (Worker a b) YieldTakeCast h s f = cast_fair (Worker a b) (place_part w (Worker a b) YieldTakeCast) YieldTakeCast _ refl (λ t e. cast_spot w h a b t e)
 act_fair w (Caller c) YieldTakeCast h s f = tt
-act_fair w (Worker a b) LocalTakeCast h s f = cast_fair (Worker a b) (place_part w (Worker a b) LocalTakeCast) LocalTakeCast _ refl (λ t. h.cast a b t)
+act_fair w (Worker a b) LocalTakeCast h s f = cast_fair (Worker a b) (place_part w (Worker a b) LocalTakeCast) LocalTakeCast _ refl (λ t e. cast_spot w h a b t e)
 act_fair w (Caller c) LocalTakeCast h s f = tt
 act_fair w q (BeginTask (Plain t)) h s f = begin_fair q (BeginTask (Plain t)) (place_part w q (BeginTask (Plain t))) _ refl
 act_fair w (Worker a b) (BeginTask (Token k i)) h s f = out_fair (Worker a b) k i (place_part w (Worker a b) (BeginTask (Token k i)))
@@ -246,5 +255,6 @@ act_fair w (Worker a b) (TakeFromFifo g) h s f = undo_sees (Fair (Worker a b) (T
     (let k : one (is_held ((w.seat a b).feeder)) ≡ 1 = ap (λ o. one (is_held o)) (f a b refl refl) in let d : length ((w.seat a b).fifo) ≤ length (but_last ((w.seat a b).fifo)) + 1 = drop_length ((w.seat a b).fifo) in omega (arith, k, d)))
 act_fair w (Caller c) (TakeFromFifo g) h s f = tt
 act_fair w q (BeginHere t) h s f = begin_fair q (BeginHere t) (place_part w q (BeginHere t)) _ refl
+act_fair w q (PushForAll c) h s f = plain_fair q (PushForAll c) (place_part w q (PushForAll c)) _ refl (λ p j. omega arith) (omega arith)
 act_fair w q (PushJob n v) h s f = push_fair w q n v (is_member q (plan_pool n)) (queue_plan w q n s)
 act_fair w q x h s f = quiet_fair w.shape q (counts_at w (target_pool q (act_of q x))) (place_part w q x) x refl refl

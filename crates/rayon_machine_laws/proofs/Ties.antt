@@ -6,7 +6,7 @@ use Rattle.rayon_machine_places.specs.declared.place.Party.TheVariants.{Worker, 
 use Rattle.rayon_machine_places.specs.declared.place.Place.{Place}
 use Rattle.rayon_machine_places.specs.declared.place.Place.TheVariants.{StealFrom, SetLatch, UnlockSettled, Stopped}
 use Rattle.rayon_machine_places.specs.declared.place.Move.{Move}
-use Rattle.rayon_machine_places.specs.declared.place.Move.TheVariants.{Stay, Enter, StartRun, Back, HandBack, Discard, HandIn}
+use Rattle.rayon_machine_places.specs.declared.place.Move.TheVariants.{Stay, Enter, StartRun, Back, HandBack, Discard, HandIn, Mark, HandAllBack}
 use Rattle.rayon_machine_places.specs.declared.act.Act.{Act}
 use Rattle.rayon_machine_places.specs.declared.act.Act.TheVariants.{Idle}
 use Rattle.rayon_machine_places.specs.declared.act.Seen.{Seen}
@@ -73,14 +73,17 @@ home_caller n _ e = cc
 pub land : (R : Place → Type 0) (g : Move) (fs : List Place) → Goes R g → AllFrames fs → R ((after_move g fs).top) × AllFrames ((after_move g fs).below)
 land R (Stay y) fs g a = (g, a)
 land R (HandIn y token) fs g a = (g, a)
+land R (Mark y b9 m9) fs g a = (g, a)
 land R (Enter f y) fs g a = (g.1, (g.0, a))
 land R (StartRun f t) fs g a = (g.1, (g.0, a))
 land R Back [] g a = (g Stopped refl refl, tt)
 land R Back (f ∷ fs) g a = (g f (a.0) (frame_out f (a.0)), a.1)
 land R (HandBack n) [] g a = (g Stopped refl refl, tt)
 land R (Discard n) [] g a = (g Stopped refl refl, tt)
+land R (HandAllBack b9) [] g a = (g Stopped refl refl, tt)
 land R (HandBack n) (f ∷ fs) g a = (g f (a.0) (frame_out f (a.0)), a.1)
 land R (Discard n) (f ∷ fs) g a = (g f (a.0) (frame_out f (a.0)), a.1)
+land R (HandAllBack b9) (f ∷ fs) g a = (g f (a.0) (frame_out f (a.0)), a.1)
 
 at_tie : (R : Tie) (w : World) (sh : PoolShape) (q : Party) (k : Stack) (c : Counts) (p0 i0 c0 n0 p i : ℕ) (b d : Bool) → OwnTie R w.shape sh q (k.top) → AwayTie R w.shape sh (k.top) → OtherTie R w.shape (k.top) → NoTie R → w.stack q ≡ k → StackOk p i (w.stack (Worker p i)) (w.seat p i) → (at_home (k.top) ≡ true → q ≡ Worker p0 i0) → same_party (Worker p i) q ≡ b → ((p == p0) && (i == i0)) ≡ d → IfSome (effect (act_of q (k.top)) w.shape q c (part_of w p0 i0 c0 n0)) (λ r. R (w.pool p0) p i ((w.stack (Worker p i)).top) (w.seat p i) ((if b then after_move (next_of sh q (k.top) (r.0)) k.below else w.stack (Worker p i)).top) (if d then r.1.seat else w.seat p i) × AllFrames ((if b then after_move (next_of sh q (k.top) (r.0)) k.below else w.stack (Worker p i)).below))
 at_tie R w sh q k c p0 i0 c0 n0 p i true true own away' other none e ok home eb ed =

@@ -1,11 +1,14 @@
 -- a share is in at most one place: with one party, or with its owner
+use Rattle.rayon_machine_laws.specs.Once.{one}
+use Rattle.rayon_machine_places.specs.Steps.{is_piece}
+use Rattle.rayon_machine_places.specs.declared.place.Pieces.{Pieces}
 use Rattle.std.proofs.Common.{arith, refl, sym, ◌∙◌, ap, subst, inl, inr}
-use Rattle.std.specs.Prelude.{ℕ, zero, suc, Bool, true, false, ◌+◌, ◌==◌, ◌≤◌, ◌<◌, ◌≡◌}
+use Rattle.std.specs.Prelude.{ℕ, zero, suc, Bool, true, false, ◌+◌, ◌==◌, ◌≤◌, ◌<◌, ◌≡◌, ◌-◌}
 use Rattle.std.proofs.lemmas.Bool.{eqb-true, eq-eqb, ltb-true, ltb-false}
 use Rattle.std.proofs.Math.Dec.{ltb}
 use Rattle.rayon_machine_places.specs.declared.place.Party.{Party}
 use Rattle.rayon_machine_places.specs.Places.{same_party}
-use Rattle.rayon_machine_laws.proofs.Frame.{either, same_party_true, same_party_refl}
+use Rattle.rayon_machine_laws.proofs.Frame.{either, same_party_true, same_party_refl, piece_range, piece_in}
 
 pub record Tokens (f : Party → ℕ) (own cap : ℕ) : Type 0 where
   pub alone : (q : Party) → f q + own ≤ cap
@@ -86,3 +89,36 @@ sum_least (suc n) f k b = by (λ d. sum_least n f k d) (n == k) refl
 -- more numbers, whose summands are 0
 pub sum_more : (n : ℕ) (f : ℕ → ℕ) → f n ≡ 0 → sum_below (n + 1) f ≡ sum_below n f
 sum_more n f e = subst (λ m. sum_below m f ≡ sum_below n f) (let k : suc n ≡ n + 1 = omega arith in k) (let g : (f n + sum_below n f) ≡ sum_below n f = omega (arith, e) in g)
+
+-- where each summand has another beside it, so has the sum
+pub sum_both : (n : ℕ) (f g k : ℕ → ℕ) → ((i : ℕ) → i + 1 ≤ n → g i ≡ f i + k i) → sum_below n g ≡ sum_below n f + sum_below n k
+sum_both zero f g k e = refl
+sum_both (suc n) f g k e = let a : g n ≡ f n + k n = e n (omega arith) in let b : sum_below n g ≡ sum_below n f + sum_below n k = sum_both n f g k (λ i z. e i (omega (arith, z))) in omega (arith, a, b)
+
+-- any number of summands more that are 0
+pub sum_tail : (n m : ℕ) (f : ℕ → ℕ) → ((i : ℕ) → n ≤ i → f i ≡ 0) → sum_below (n + m) f ≡ sum_below n f
+sum_tail n zero f e = ap (λ k. sum_below k f) (let k : n + 0 ≡ n = omega arith in k)
+sum_tail n (suc m) f e = ap (λ k. sum_below k f) (let k : n + suc m ≡ suc (n + m) = omega arith in k) ∙ (let a : f (n + m) ≡ 0 = e (n + m) (omega arith) in let b : sum_below (n + m) f ≡ sum_below n f = sum_tail n m f e in let g : (f (n + m) + sum_below (n + m) f) ≡ sum_below n f = omega (arith, a, b) in g)
+
+-- how many numbers below n are pieces
+pieces_sum : (n : ℕ) (c : Pieces) → sum_below n (λ t. one (is_piece c t)) ≡ (n - c.first) - (n - (c.first + c.workers))
+pieces_sum zero c = omega arith
+pieces_sum (suc n) c = by (pieces_sum n c) (is_piece c n) refl
+  where
+    by : sum_below n (λ t. one (is_piece c t)) ≡ (n - c.first) - (n - (c.first + c.workers)) → (b : Bool) → is_piece c n ≡ b → (one (is_piece c n) + sum_below n (λ t. one (is_piece c t))) ≡ (suc n - c.first) - (suc n - (c.first + c.workers))
+    by rec true e = let a : (c.first ≤ n) × (n < c.first + c.workers) = piece_range c n e in let x : c.first ≤ n = a.0 in let y : n < c.first + c.workers = a.1 in let o : one (is_piece c n) ≡ 1 = ap one e in omega (arith, rec, x, y, o)
+    by rec false e = let o : one (is_piece c n) ≡ 0 = ap one e in elim (either (ltb n c.first)) [
+      | inl y ↦ (let a : n < c.first = ltb-true n c.first y in let g : (one (is_piece c n) + sum_below n (λ t. one (is_piece c t))) ≡ (suc n - c.first) - (suc n - (c.first + c.workers)) = omega (arith, rec, a, o) in g)
+      | inr y ↦ let a : c.first ≤ n = ltb-false n c.first y in elim (either (ltb n (c.first + c.workers))) [
+        | inl z ↦ absurd (let b : n < c.first + c.workers = ltb-true n (c.first + c.workers) z in let k : is_piece c n ≡ true = piece_in c n a b in cc)
+        | inr z ↦ (let b : c.first + c.workers ≤ n = ltb-false n (c.first + c.workers) z in let g : (one (is_piece c n) + sum_below n (λ t. one (is_piece c t))) ≡ (suc n - c.first) - (suc n - (c.first + c.workers)) = omega (arith, rec, a, b, o) in g)
+      ]
+    ]
+
+-- all pieces are below n: their number
+pub pieces_below : (n : ℕ) (c : Pieces) → ((t : ℕ) → is_piece c t ≡ true → t + 1 ≤ n) → sum_below n (λ t. one (is_piece c t)) ≡ c.workers
+pieces_below n c m = by c.workers refl
+  where
+    by : (k : ℕ) → c.workers ≡ k → sum_below n (λ t. one (is_piece c t)) ≡ c.workers
+    by zero e = let a : sum_below n (λ t. one (is_piece c t)) ≡ (n - c.first) - (n - (c.first + c.workers)) = pieces_sum n c in omega (arith, a, e)
+    by (suc k) e = let a : sum_below n (λ t. one (is_piece c t)) ≡ (n - c.first) - (n - (c.first + c.workers)) = pieces_sum n c in let b : (c.first + k) + 1 ≤ n = m (c.first + k) (piece_in c (c.first + k) (omega arith) (omega (arith, e))) in omega (arith, a, b, e)

@@ -8,14 +8,14 @@ use Rattle.rayon_machine_places.specs.declared.place.Target.TheVariants.{Termina
 use Rattle.rayon_machine_places.specs.declared.place.Latch.{Latch}
 use Rattle.rayon_machine_places.specs.declared.place.Latch.TheVariants.{Terminate, OfCall}
 use Rattle.rayon_machine_places.specs.declared.place.Then.{Then}
-use Rattle.rayon_machine_places.specs.declared.place.Then.TheVariants.{BeginFound, LeaveWait, Resume, Await, RunFirst, Answers, Missing, Ran, GiveBack}
+use Rattle.rayon_machine_places.specs.declared.place.Then.TheVariants.{BeginFound, LeaveWait, Resume, Await, RunFirst, Answers, Missing, Ran, GiveBack, Called}
 use Rattle.rayon_machine_places.specs.declared.place.Feeding.{Feeding}
 use Rattle.rayon_machine_places.specs.declared.place.Taken.{Taken}
 use Rattle.rayon_machine_places.specs.declared.place.Taken.TheVariants.{Plain, Token}
 use Rattle.rayon_machine_places.specs.declared.place.Place.{Place}
 use Rattle.rayon_machine_places.specs.declared.place.Place.TheVariants.{ProbeWorking, LockOwn, FallAsleep, LoadCounters, AddSleeping, LookAtCast, LookAtInjector, BlockSelf, RelockOwn, UndoSleeping, WakeUp, UnlockOwn, Run, LockToWake, WakeWorker, UnlockWoken, SetLatch, LockToSettle, WakeSettled, UnlockSettled, Stopped, BeginTask, AddToFifo, TakeFromFifo}
 use Rattle.rayon_machine_places.specs.declared.place.Move.{Move}
-use Rattle.rayon_machine_places.specs.declared.place.Move.TheVariants.{Stay, Enter, StartRun, Back, HandBack, Discard, HandIn}
+use Rattle.rayon_machine_places.specs.declared.place.Move.TheVariants.{Stay, Enter, StartRun, Back, HandBack, Discard, HandIn, Mark, HandAllBack}
 use Rattle.rayon_machine_places.specs.declared.act.Seen.{Seen}
 use Rattle.rayon_machine_places.specs.declared.act.Seen.TheVariants.{Yes, Done, Task, Begun, Handed}
 use Rattle.rayon_machine_places.specs.declared.shape.PoolShape.{PoolShape}
@@ -31,46 +31,56 @@ use Rattle.rayon_machine_laws.proofs.Ties.{AllFrames}
 abbrev pub Tops : (Place → Type 0) → Move → Type 0
 Tops R (Stay y) = R y
 Tops R (HandIn y token) = R y
+Tops R (Mark y b9 m9) = R y
 Tops R (Enter f y) = R y
 Tops R (StartRun f t) = R (Run t Direct)
 Tops R Back = ⊤
 Tops R (HandBack n) = ⊤
 Tops R (Discard n) = ⊤
+Tops R (HandAllBack b9) = ⊤
 
 -- a move leaves frames below
 abbrev pub Lowered : Move → Type 0
 Lowered (Stay y) = ⊤
 Lowered (HandIn y token) = ⊤
+Lowered (Mark y b9 m9) = ⊤
 Lowered (Enter f y) = is_frame f ≡ true
 Lowered (StartRun f t) = is_frame f ≡ true
 Lowered Back = ⊤
 Lowered (HandBack n) = ⊤
 Lowered (Discard n) = ⊤
+Lowered (HandAllBack b9) = ⊤
 
 -- the top after a move, where the relation holds of each frame
 pub top_after : (R : Place → Type 0) (g : Move) (fs : List Place) → Tops R g → ((f : Place) → is_frame f ≡ true → R f) → AllFrames fs → R ((after_move g fs).top)
 top_after R (Stay y) fs t k a = t
 top_after R (HandIn y token) fs t k a = t
+top_after R (Mark y b9 m9) fs t k a = t
 top_after R (Enter f y) fs t k a = t
 top_after R (StartRun f n) fs t k a = t
 top_after R Back [] t k a = k Stopped refl
 top_after R Back (f ∷ fs) t k a = k f (a.0)
 top_after R (HandBack n) [] t k a = k Stopped refl
 top_after R (Discard n) [] t k a = k Stopped refl
+top_after R (HandAllBack b9) [] t k a = k Stopped refl
 top_after R (HandBack n) (f ∷ fs) t k a = k f (a.0)
 top_after R (Discard n) (f ∷ fs) t k a = k f (a.0)
+top_after R (HandAllBack b9) (f ∷ fs) t k a = k f (a.0)
 
 pub below_after : (g : Move) (fs : List Place) → Lowered g → AllFrames fs → AllFrames ((after_move g fs).below)
 below_after (Stay y) fs l a = a
 below_after (HandIn y token) fs l a = a
+below_after (Mark y b9 m9) fs l a = a
 below_after (Enter f y) fs l a = (l, a)
 below_after (StartRun f n) fs l a = (l, a)
 below_after Back [] l a = tt
 below_after Back (f ∷ fs) l a = a.1
 below_after (HandBack n) [] l a = tt
 below_after (Discard n) [] l a = tt
+below_after (HandAllBack b9) [] l a = tt
 below_after (HandBack n) (f ∷ fs) l a = a.1
 below_after (Discard n) (f ∷ fs) l a = a.1
+below_after (HandAllBack b9) (f ∷ fs) l a = a.1
 
 -- every party's frames
 abbrev pub FramesOk : World → Type 0
@@ -123,11 +133,13 @@ frame_light _ e = cc
 abbrev pub Leads : Bool → Move → Type 0
 Leads b (Stay y) = (b || is_light y) ≡ true
 Leads b (HandIn y token) = (b || is_light y) ≡ true
+Leads b (Mark y b9 m9) = (b || is_light y) ≡ true
 Leads b (Enter f y) = (is_frame f ≡ true) × ((b || is_light y) ≡ true)
 Leads b (StartRun f t) = is_frame f ≡ true
 Leads b Back = ⊤
 Leads b (HandBack n) = ⊤
 Leads b (Discard n) = ⊤
+Leads b (HandAllBack b9) = ⊤
 
 or_true : (b : Bool) → (b || true) ≡ true
 or_true true = refl
@@ -142,6 +154,7 @@ finish_leads b (Worker i j) (Await o) = or_true b
 finish_leads b (Caller n) (Await o) = or_true b
 finish_leads b q (RunFirst o a) = refl
 finish_leads b q Resume = tt
+finish_leads b q Called = tt
 finish_leads b q (Answers o f e) = tt
 finish_leads b q (Missing o f) = tt
 finish_leads b q (Ran t e) = tt
@@ -192,17 +205,21 @@ leads h g (Caller n) c m _ = search (rules, arith)
 pub leads_lowered : (b : Bool) (g : Move) → Leads b g → Lowered g
 leads_lowered b (Stay y) l = tt
 leads_lowered b (HandIn y token) l = tt
+leads_lowered b (Mark y b9 m9) l = tt
 leads_lowered b (Enter f y) l = l.0
 leads_lowered b (StartRun f t) l = l
 leads_lowered b Back l = tt
 leads_lowered b (HandBack n) l = tt
 leads_lowered b (Discard n) l = tt
+leads_lowered b (HandAllBack b9) l = tt
 
 pub leads_tops : (g : Move) → Leads false g → Tops (λ y. is_light y ≡ true) g
 leads_tops (Stay y) l = l
 leads_tops (HandIn y token) l = l
+leads_tops (Mark y b9 m9) l = l
 leads_tops (Enter f y) l = l.1
 leads_tops (StartRun f t) l = refl
 leads_tops Back l = tt
 leads_tops (HandBack n) l = tt
 leads_tops (Discard n) l = tt
+leads_tops (HandAllBack b9) l = tt

@@ -1,9 +1,11 @@
 -- attended pools: where work waits, no committed worker is left alone with it
-use Rattle.std.specs.Prelude.{ℕ, Bool, true, false, not, ◌&&◌, ◌==◌, ◌<◌, nat_lt, nat_le, List, [], ◌∷◌, ◌≡◌, ◌⊎◌}
+use Rattle.std.specs.Prelude.{ℕ, Bool, true, false, not, ◌&&◌, ◌+◌, ◌==◌, ◌<◌, nat_lt, nat_le, List, [], ◌∷◌, ◌≡◌, ◌⊎◌}
 use Rattle.rayon_machine_places.specs.declared.place.Party.{Party}
 use Rattle.rayon_machine_places.specs.declared.place.Party.TheVariants.{Worker}
 use Rattle.rayon_machine_places.specs.declared.place.Latch.{Latch}
 use Rattle.rayon_machine_places.specs.declared.place.Latch.TheVariants.{Terminate, OfCall}
+use Rattle.rayon_machine_places.specs.declared.place.Then.{Then}
+use Rattle.rayon_machine_places.specs.declared.place.Then.TheVariants.{Called}
 use Rattle.rayon_machine_places.specs.declared.place.Place.{Place}
 use Rattle.rayon_machine_places.specs.declared.place.Place.TheVariants.{RelockOwn, TellNews, LockToWake, WakeWorker, UnlockWoken, LockToSettle, WakeSettled}
 use Rattle.rayon_machine_places.specs.declared.place.Wait.{Wait}
@@ -56,14 +58,23 @@ IsInjectorAttended w = (p i : ℕ) → i < (w.shape.pool p).workers → is_fille
 abbrev pub IsEmptyHanded : World → Type 0
 IsEmptyHanded w = (p i : ℕ) → (w.seat p i).blocked ≡ true → (w.seat p i).own ≡ []
 
--- the party has put tasks into the pool's broadcast lists and has not passed this worker: it has not yet made the Wake there. No place of this machine does so
-abbrev pub owes_cast : Place → ℕ → ℕ → Bool
-owes_cast _ p i = false
+-- what follows a walk says that its party has put tasks into the broadcast lists of the pool, and calls all workers
+abbrev pub is_calling : Then → Bool
+is_calling Called = true
+is_calling _ = false
+
+-- the party has put tasks into the broadcast lists of the pool, which has so many workers, and has not passed this
+-- worker: its walk has not yet made the Wake there, and owes enough wakes not to stop before
+abbrev pub owes_cast : Place → ℕ → ℕ → ℕ → Bool
+owes_cast (LockToWake k) n p i = (is_calling k.then && (k.pool == p)) && (nat_le n (k.owed + k.worker) && nat_le k.worker i)
+owes_cast (WakeWorker k) n p i = (is_calling k.then && (k.pool == p)) && (nat_le n (k.owed + k.worker) && nat_le k.worker i)
+owes_cast (UnlockWoken k) n p i = (is_calling k.then && (k.pool == p)) && (nat_le n (k.owed + k.worker + 1) && nat_lt k.worker i)
+owes_cast _ n p i = false
 
 -- a party owes the worker the wake for its broadcast list
 pub record HasCaster (w : World) (p i : ℕ) : Type 0 where
   pub party : Party
-  pub casts : owes_cast (w.stack party).top p i ≡ true
+  pub casts : owes_cast (w.stack party).top (w.shape.pool p).workers p i ≡ true
 
 -- where a committed worker's broadcast list is filled, some party has put tasks there and has not passed that worker
 abbrev pub IsCastAttended : World → Type 0

@@ -1,5 +1,7 @@
 -- how calls end
-use Rattle.std.specs.Prelude.{ℕ, false, Option, Some, None, ◌≡◌, ⊤}
+use Rattle.rayon_machine_places.specs.Steps.{is_piece}
+use Rattle.rayon_machine_places.specs.declared.place.Pieces.{Pieces}
+use Rattle.std.specs.Prelude.{ℕ, false, Option, Some, None, ◌≡◌, ⊤, true}
 use Rattle.rayon_machine_places.specs.declared.place.Party.{Party}
 use Rattle.rayon_machine_places.specs.declared.place.Ending.{Ending}
 use Rattle.rayon_machine_places.specs.declared.place.Ending.TheVariants.{Fine, Fault}
@@ -8,7 +10,7 @@ use Rattle.rayon_machine_places.specs.declared.place.Plan.TheVariants.{Detach, H
 use Rattle.rayon_machine_places.specs.declared.place.Then.{Then}
 use Rattle.rayon_machine_places.specs.declared.place.Then.TheVariants.{Answers, Missing, Ran, GiveBack}
 use Rattle.rayon_machine_places.specs.declared.place.Place.{Place}
-use Rattle.rayon_machine_places.specs.declared.place.Place.TheVariants.{TakeResult, LowerCount, SetLatch, LockToSettle, WakeSettled, UnlockSettled}
+use Rattle.rayon_machine_places.specs.declared.place.Place.TheVariants.{TakeResult, LowerCount, SetLatch, LockToSettle, WakeSettled, UnlockSettled, LowerForAll}
 use Rattle.rayon_machine_places.specs.declared.state.Whereabouts.TheVariants.{Over, HandedBack}
 use Rattle.rayon_machine_places.specs.declared.place.OpenCall.{OpenCall}
 use Rattle.rayon_machine_places.specs.World.{World}
@@ -90,9 +92,11 @@ AllJobs P (Fork o a) = P a × P o.job
 AllJobs P (Feed f) = P f.job × P f.token
 
 -- a refused call: until its last step its jobs stand in no list and have never run, and once they are handed back that
--- stays so
+-- stays so. So it is of the pieces of a refused broadcast, up to the act that gives back their shares and hands them
+-- back
 pub record IsRefused (w : World) : Type 0 where
   pub going : (q : Party) (n : Plan) → follows (w.stack q).top ≡ Some (GiveBack n) → AllJobs (IsUntouched w) n
+  pub cast : (q : Party) (c : Pieces) → (w.stack q).top ≡ LowerForAll c → (t : ℕ) → is_piece c t ≡ true → IsUntouched w t
   pub gone : (t : ℕ) → (w.job t).at ≡ HandedBack → IsUntouched w t
 
 -- what a party does once it has set the latches after a Lower

@@ -1,4 +1,5 @@
 -- each job runs at most once, and stands exactly once where its record says, and so does each token
+use Rattle.rayon_machine_places.specs.declared.place.Party.TheVariants.{Worker}
 use Rattle.std.specs.Prelude.{ℕ, Bool, true, false, ◌&&◌, ◌+◌, ◌==◌, ◌≤◌, ◌<◌, Option, Some, None, List, [], ◌∷◌, ◌≡◌}
 use Rattle.rayon_machine_places.specs.declared.place.Party.{Party}
 use Rattle.rayon_machine_places.specs.declared.place.Ending.{Ending}
@@ -8,12 +9,13 @@ use Rattle.rayon_machine_places.specs.declared.place.Taken.{Taken}
 use Rattle.rayon_machine_places.specs.declared.place.Then.{Then}
 use Rattle.rayon_machine_places.specs.declared.place.Then.TheVariants.{BeginFound, RunFirst, GiveBack}
 use Rattle.rayon_machine_places.specs.declared.place.Place.{Place}
-use Rattle.rayon_machine_places.specs.declared.place.Place.TheVariants.{LeaveSearch, BeginTask, BeginHere, Run, RaiseCount, GrowCall, LookQueue, PushJob, AddToFifo, LookForToken, PushToken, TakeFromFifo, TellNews, LockToWake, WakeWorker, UnlockWoken, LowerCount, SetLatch, LockToSettle, WakeSettled, UnlockSettled}
+use Rattle.rayon_machine_places.specs.declared.place.Place.TheVariants.{LeaveSearch, BeginTask, BeginHere, Run, RaiseCount, GrowCall, LookQueue, PushJob, AddToFifo, LookForToken, PushToken, TakeFromFifo, RaiseForAll, PushForAll, LowerForAll, TellNews, LockToWake, WakeWorker, UnlockWoken, LowerCount, SetLatch, LockToSettle, WakeSettled, UnlockSettled}
 use Rattle.rayon_machine_places.specs.declared.state.Whereabouts.{Whereabouts}
-use Rattle.rayon_machine_places.specs.declared.state.Whereabouts.TheVariants.{Nowhere, Made, InDeque, Injected, InFifo, Retaken, Running, Over}
+use Rattle.rayon_machine_places.specs.declared.state.Whereabouts.TheVariants.{Nowhere, Made, InDeque, Injected, InFifo, InCast, Retaken, Running, Over}
 use Rattle.rayon_machine_places.specs.declared.act.Act.TheVariants.{FifoOut}
 use Rattle.rayon_machine_places.specs.Places.{same_party, taken_number, act_of, own_pool}
 use Rattle.rayon_machine_places.specs.World.{Stack, World}
+use Rattle.rayon_machine_places.specs.Steps.{is_piece}
 
 -- 1 where the test holds, else 0
 abbrev pub one : Bool → ℕ
@@ -39,6 +41,11 @@ in_injector p _ = false
 abbrev pub in_fifo : ℕ → ℕ → Whereabouts → Bool
 in_fifo p i (InFifo q j) = (p == q) && (i == j)
 in_fifo p i _ = false
+
+-- a job's record says that it is in this worker's broadcast list
+abbrev pub in_cast : ℕ → ℕ → Whereabouts → Bool
+in_cast p i (InCast q j) = (p == q) && (i == j)
+in_cast p i _ = false
 
 -- a job's record says that this party has taken it or runs it
 abbrev pub runs_with : Party → Whereabouts → Bool
@@ -116,6 +123,9 @@ hand t (AddToFifo f) = one (t == f.job) + one (t == f.token)
 hand t (LookForToken f) = one (t == f.token)
 hand t (PushToken f e) = one (t == f.token)
 hand t (TakeFromFifo f) = one (t == f.token)
+hand t (RaiseForAll c) = one (is_piece c t)
+hand t (PushForAll c) = one (is_piece c t)
+hand t (LowerForAll c) = one (is_piece c t)
 hand t (TellNews n e) = hand_rest t n
 hand t (LockToWake k) = hand_then t k.then
 hand t (WakeWorker k) = hand_then t k.then
@@ -138,8 +148,8 @@ held t k = hand t k.top + held_in t k.below
 
 -- each number that is given out is a job or a token that is somewhere, and no other is. A job's run begins at most
 -- once: a job that is over has run once, and one that was made, queued or handed back has not begun. A job stands in a
--- deque, in an injector, in a FIFO list, in hand or under a run once where its record says, and nowhere else: in hand
--- while its run has not begun, under the run from then on
+-- deque, in an injector, in a FIFO list, in a broadcast list, in hand or under a run once where its record says, and
+-- nowhere else: in hand while its run has not begun, under the run from then on
 pub record IsOnce (w : World) : Type 0 where
   pub known : (t : ℕ) → t < w.jobs → is_known (w.job t).at ≡ true
   pub unknown : (t : ℕ) → w.jobs ≤ t → (w.job t).at ≡ Nowhere
@@ -149,10 +159,25 @@ pub record IsOnce (w : World) : Type 0 where
   pub deque : (p i t : ℕ) → times t (w.seat p i).own ≡ one (in_deque p i (w.job t).at)
   pub injector : (p t : ℕ) → times t (w.pool p).injector ≡ one (in_injector p (w.job t).at)
   pub fifo : (p i t : ℕ) → times t (w.seat p i).fifo ≡ one (in_fifo p i (w.job t).at)
-  pub cast : (p i t : ℕ) → times t ((w.pool p).casts i) ≡ 0
+  pub cast : (p i t : ℕ) → times t ((w.pool p).casts i) ≡ one (in_cast p i (w.job t).at)
   pub hand : (q : Party) (t : ℕ) → held t (w.stack q) ≡ one (is_with q (w.job t).at && ((w.job t).runs == 0))
   pub running : (q : Party) (t : ℕ) → worked t (w.stack q) ≡ one (runs_with q (w.job t).at && ((w.job t).runs == 1))
 
 -- no party that is to redeem a token finds the FIFO list of the token's worker empty
 abbrev pub IsRedeemed : World → Type 0
 IsRedeemed w = (q : Party) (token worker : ℕ) → act_of q (w.stack q).top ≡ FifoOut token worker → (w.seat (own_pool q) worker).fifo ≡ [] → ⊥
+
+-- where a piece of a broadcast may be that is bound to worker i of pool p: in that worker's broadcast list, with that
+-- worker once it is taken, or in no list and under no run
+abbrev pub is_own_place : ℕ → ℕ → Whereabouts → Bool
+is_own_place p i (InDeque q j) = false
+is_own_place p i (Injected q) = false
+is_own_place p i (InFifo q j) = false
+is_own_place p i (Retaken q) = false
+is_own_place p i (InCast q j) = (p == q) && (i == j)
+is_own_place p i (Running q) = same_party (Worker p i) q
+is_own_place p i _ = true
+
+-- each piece of a broadcast is queued for its own worker alone, and no other worker takes or runs it
+abbrev pub IsBound : World → Type 0
+IsBound w = (t i : ℕ) → (w.job t).bound ≡ Some i → is_own_place (w.job t).pool i (w.job t).at ≡ true

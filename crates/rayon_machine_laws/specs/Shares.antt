@@ -1,4 +1,5 @@
 -- who keeps a pool from ending
+use Rattle.rayon_machine_places.specs.Steps.{is_piece}
 use Rattle.std.specs.Prelude.{ℕ, Bool, true, false, ◌+◌, ◌==◌, List, [], ◌∷◌, ◌≡◌}
 use Rattle.rayon_machine_places.specs.declared.place.Party.{Party}
 use Rattle.rayon_machine_places.specs.declared.place.JobKind.TheVariants.{Detached}
@@ -11,10 +12,10 @@ use Rattle.rayon_machine_places.specs.declared.place.Share.TheVariants.{PoolValu
 use Rattle.rayon_machine_places.specs.declared.place.Then.{Then}
 use Rattle.rayon_machine_places.specs.declared.place.Then.TheVariants.{BeginFound, LeaveWait, Await, RunFirst}
 use Rattle.rayon_machine_places.specs.declared.place.Place.{Place}
-use Rattle.rayon_machine_places.specs.declared.place.Place.TheVariants.{ProbeWorking, PopWorking, TakeCastWorking, BecomeInactive, ProbeIdle, PopIdle, TakeCastIdle, PickVictim, StealFrom, PopInjected, AnnounceSelf, GetSleepy, LockOwn, FallAsleep, LoadCounters, AddSleeping, LookAtCast, LookAtInjector, BlockSelf, RelockOwn, UndoSleeping, WakeUp, UnlockOwn, LeaveSearch, JoinProbe, JoinPop, JoinTakeCast, GrowCall, LookQueue, PushJob, AddToFifo, TellNews, LockToWake, WakeWorker, UnlockWoken, WaitForLock, TakeResult, LowerCount, SetLatch, LockToSettle, WakeSettled, UnlockSettled, FirstSide, SecondSide, AtOnce}
+use Rattle.rayon_machine_places.specs.declared.place.Place.TheVariants.{ProbeWorking, PopWorking, TakeCastWorking, BecomeInactive, ProbeIdle, PopIdle, TakeCastIdle, PickVictim, StealFrom, PopInjected, AnnounceSelf, GetSleepy, LockOwn, FallAsleep, LoadCounters, AddSleeping, LookAtCast, LookAtInjector, BlockSelf, RelockOwn, UndoSleeping, WakeUp, UnlockOwn, LeaveSearch, JoinProbe, JoinPop, JoinTakeCast, GrowCall, LookQueue, PushJob, AddToFifo, TellNews, LockToWake, WakeWorker, UnlockWoken, WaitForLock, TakeResult, LowerCount, SetLatch, LockToSettle, WakeSettled, UnlockSettled, FirstSide, SecondSide, AtOnce, PushForAll, LowerForAll}
 use Rattle.rayon_machine_places.specs.declared.state.Letter.TheVariants.{Set as IsSet}
 use Rattle.rayon_machine_places.specs.declared.state.Whereabouts.{Whereabouts}
-use Rattle.rayon_machine_places.specs.declared.state.Whereabouts.TheVariants.{InDeque, Injected, InFifo, Running}
+use Rattle.rayon_machine_places.specs.declared.state.Whereabouts.TheVariants.{InDeque, Injected, InFifo, Running, InCast}
 use Rattle.rayon_machine_places.specs.Places.{plan_job}
 use Rattle.rayon_machine_places.specs.World.{Stack, World}
 use Rattle.rayon_machine_laws.specs.Once.{one}
@@ -81,6 +82,8 @@ share t (GrowCall n) = one (t == plan_job n)
 share t (LookQueue n) = one (t == plan_job n)
 share t (PushJob n e) = one (t == plan_job n)
 share t (AddToFifo f) = one (t == f.job)
+share t (PushForAll c) = one (is_piece c t)
+share t (LowerForAll c) = one (is_piece c t)
 share t (TellNews n e) = share_rest t n
 share t (LockToWake k) = share_then t k.then
 share t (WakeWorker k) = share_then t k.then
@@ -106,6 +109,7 @@ abbrev pub is_busy : Whereabouts → Bool
 is_busy (InDeque p i) = true
 is_busy (Injected p) = true
 is_busy (InFifo p i) = true
+is_busy (InCast p i) = true
 is_busy (Running q) = true
 is_busy _ = false
 

@@ -2,20 +2,23 @@
 ghost use Rattle.rayon_machine_places.specs.Runs.{Always};
 ghost use Rattle.rayon_machine_laws.specs.Committed.{CommittedHold, CommittedSleep, SleepersAreInactive};
 ghost use Rattle.rayon_machine_laws.specs.Latch.{IsLatched};
-ghost use Rattle.rayon_machine_laws.specs.Once.{IsOnce, IsRedeemed};
+ghost use Rattle.rayon_machine_laws.specs.Once.{IsBound, IsOnce, IsRedeemed};
 
 /// In every world of every run each number that was given out is a job or a token, and its record says where it is. Its
 /// run has begun at most once: a job that is over has run once, and one that was made, queued or handed back has not
 /// begun. A job or token that is not over, spent or handed back stands exactly once where its record says, and nowhere
-/// else: in that worker's deque, in that worker's FIFO list, in that pool's injector, or with that party, in its hand
-/// until its run begins and under its run from then on. One that is over, spent or handed back stands nowhere. So no
+/// else: in that worker's deque, in that worker's FIFO list, in that worker's broadcast list, in that pool's injector, or
+/// with that party, in its hand until its run begins and under its run from then on. One that is over, spent or handed back stands nowhere. So no
 /// job and no token is lost and none is doubled.
 /// No party that is to redeem a token finds the token's FIFO list empty (`redeemed`): the tokens of a list that are
 /// queued or in a hand are no more than the jobs that stand in it.
+/// Each piece of a broadcast is bound to one worker (`bound`): it stands in no list but that worker's broadcast list, and
+/// once it is taken with no party but that worker, in its hand or under its run.
 /// It does not say that a job ever runs.
 pub fn law_once()
     ensures once { Always IsOnce }
     ensures redeemed { Always IsRedeemed }
+    ensures bound { Always IsBound }
 {}
 
 /// In every world of every run the latch of a call is set only when the job that the call waits for is over, and the

@@ -1,6 +1,9 @@
 -- a job that has begun stays so: no step takes a begin back
+use Rattle.rayon_machine_places.specs.declared.place.Pieces.{Pieces}
+use Rattle.rayon_machine_places.specs.declared.place.Mark.{Mark as Marking}
+use Rattle.rayon_machine_places.specs.declared.place.Mark.TheVariants.{Counted, Queued, Returned}
 use Rattle.std.proofs.Common.{rules, arith, refl, ap, subst}
-use Rattle.std.specs.Prelude.{ℕ, Bool, true, false, ◌+◌, ◌==◌, ◌≤◌, if◌then◌else◌, ◌≡◌, IfSome}
+use Rattle.std.specs.Prelude.{ℕ, Bool, true, false, ◌+◌, ◌==◌, ◌≤◌, if◌then◌else◌, ◌≡◌, IfSome, ◌-◌, ◌&&◌}
 use Rattle.std.proofs.lemmas.Bool.{eqb-true}
 use Rattle.rayon_machine_places.specs.declared.place.Party.{Party}
 use Rattle.rayon_machine_places.specs.declared.place.Party.TheVariants.{Worker, Caller}
@@ -11,17 +14,17 @@ use Rattle.rayon_machine_places.specs.declared.place.Plan.TheVariants.{Detach, H
 use Rattle.rayon_machine_places.specs.declared.place.Place.{Place}
 use Rattle.rayon_machine_places.specs.declared.place.Place.TheVariants.{ProbeWorking, PickVictim, StealFrom, YieldPop, YieldPick, YieldSteal, LocalPop, Run, SetLatch}
 use Rattle.rayon_machine_places.specs.declared.place.Move.{Move}
-use Rattle.rayon_machine_places.specs.declared.place.Move.TheVariants.{Stay, Enter, StartRun, Back, HandBack, Discard, HandIn}
+use Rattle.rayon_machine_places.specs.declared.place.Move.TheVariants.{Stay, Enter, StartRun, Back, HandBack, Discard, HandIn, Mark, HandAllBack}
 use Rattle.rayon_machine_places.specs.declared.act.Act.TheVariants.{Set}
 use Rattle.rayon_machine_places.specs.declared.event.Event.{Event}
-use Rattle.rayon_machine_places.specs.declared.event.Event.TheVariants.{Go, From, Refuse, Miss, End, Spawn, Fifo, Install, Join, Yield, YieldLocal, EndPool}
+use Rattle.rayon_machine_places.specs.declared.event.Event.TheVariants.{Go, From, Refuse, Miss, End, Spawn, Fifo, Install, Join, Yield, YieldLocal, EndPool, Cast}
 use Rattle.rayon_machine_places.specs.declared.state.Whereabouts.TheVariants.{HandedBack, Spent, Over}
 use Rattle.rayon_machine_places.specs.declared.state.Job.{Job}
 use Rattle.rayon_machine_places.specs.Places.{act_of, is_free, is_member}
 use Rattle.rayon_machine_places.specs.World.{Shape, Stack, World, Counts, Part, at_job, begun, effect, target_pool, target_worker, target_call}
-use Rattle.rayon_machine_places.specs.Steps.{put, jobs_after, after_choice, after_miss, after_end, after_send, after_join, after_yield, step}
+use Rattle.rayon_machine_places.specs.Steps.{put, jobs_after, after_choice, after_miss, after_end, after_send, after_join, after_yield, step, mark_pieces, marked, after_cast, new_piece, is_piece, is_pool}
 use Rattle.rayon_machine_laws.proofs.Calm.{part_at, counts_seen, next_at}
-use Rattle.rayon_machine_laws.proofs.Frame.{if_some_map, if_cond, acted_keeps, fifo_cases}
+use Rattle.rayon_machine_laws.proofs.Frame.{if_some_map, if_cond, acted_keeps, fifo_cases, pieces_same, piece_range}
 use Rattle.rayon_machine_laws.proofs.Located.{fits}
 use Rattle.rayon_machine_laws.proofs.PlacedRuns.{JobsHold}
 use Rattle.rayon_machine_laws.proofs.Ties.{job_at, outcome, result}
@@ -54,11 +57,18 @@ two_back f u v t = second (t == v) refl
     second true e = let k : (f t).runs ≡ (f v).runs = ap (λ n. (f n).runs) (eqb-true t v e) in omega (arith, k)
     second false e = put_runs f u (at_job (f u) HandedBack) (omega arith) t
 
+marked_runs : (k : Marking) (p i : ℕ) (j : Job) → (marked k p i j).runs ≡ j.runs
+marked_runs Counted p i j = refl
+marked_runs Queued p i j = refl
+marked_runs Returned p i j = refl
+
 after_runs : (q : Party) (g : Move) (f : ℕ → Job) (t : ℕ) → (f t).runs ≤ (jobs_after q g f t).runs
 after_runs q (Stay y) f t = omega arith
 after_runs q (HandIn y k) f t = put_runs f k (at_job (f k) Spent) (omega arith) t
 after_runs q (Discard k) f t = put_runs f k (at_job (f k) Spent) (omega arith) t
 after_runs q (HandBack (Feed d)) f t = two_back f d.job d.token t
+after_runs q (Mark y c k) f t = let a : (mark_pieces c k f t).runs ≡ (f t).runs = pieces_same (λ j. j.runs) c (marked k c.pool) f t (marked_runs k c.pool) in omega (arith, a)
+after_runs q (HandAllBack c) f t = let a : (mark_pieces c Returned f t).runs ≡ (f t).runs = pieces_same (λ j. j.runs) c (marked Returned c.pool) f t (marked_runs Returned c.pool) in omega (arith, a)
 after_runs q (Enter x y) f t = omega arith
 after_runs q Back f t = omega arith
 after_runs q (StartRun x u) f t = put_runs f u (begun q (f u)) (omega arith) t
@@ -116,6 +126,16 @@ yield_runs : (w : World) (q : Party) (x : Place) → IfSome (after_yield w q (w.
 yield_runs w (Worker a b) x = if_cond (BeginsOn w) _ _ (λ b t. omega arith)
 yield_runs w (Caller n) x = tt
 
+cast_runs : (w : World) (q : Party) (p : ℕ) → JobsHold w → IfSome (after_cast w q p (w.stack q)) (BeginsOn w)
+cast_runs w q p h = if_cond (BeginsOn w) (is_free ((w.stack q).top) && is_pool w.shape p) _ (λ b t. at t (is_piece c t) refl)
+  where
+    c : Pieces
+    c = record { pool = p; first = w.jobs; workers = (w.shape.pool p).workers }
+
+    at : (t : ℕ) (b : Bool) → is_piece c t ≡ b → (w.job t).runs ≤ (if b then new_piece q p (t - c.first) else w.job t).runs
+    at t true e = let z : (w.job t).runs ≡ 0 = unmade_runs w h t ((piece_range c t e).0) in omega (arith, z)
+    at t false e = omega arith
+
 pub step_runs : (w : World) (e : Event) → JobsHold w → IfSome (step w e) (BeginsOn w)
 step_runs w (Go q) h = acted_keeps w q (w.stack q) (target_pool q (act_of q (w.stack q).top)) (target_worker q (act_of q (w.stack q).top)) (target_call (act_of q (w.stack q).top)) (job_at w q (act_of q (w.stack q).top)) (outcome w q (w.stack q)) (BeginsOn w) (go_runs w q)
 step_runs w (From q v) h = from_runs w q (w.stack q) (w.stack q).top v
@@ -124,6 +144,7 @@ step_runs w (Miss q) h = miss_runs w q (w.stack q) (w.stack q).top
 step_runs w (End q d) h = end_runs w q d (w.stack q) (w.stack q).top
 step_runs w (Spawn q p) h = if_cond (BeginsOn w) _ _ (λ b t. make_runs w h w.jobs _ (omega arith) t)
 step_runs w (Fifo q p) h = fifo_cases (BeginsOn w) w q p (if_cond (BeginsOn w) _ _ (λ b t. make_runs w h w.jobs _ (omega arith) t)) (λ i free t. two_runs w h _ _ t)
+step_runs w (Cast q p) h = cast_runs w q p h
 step_runs w (Install q p) h = if_cond (BeginsOn w) _ _ (λ b. sent_runs w q p (is_member q p) h)
 step_runs w (Join q) h = join_runs w q h
 step_runs w (Yield q) h = yield_runs w q YieldPop

@@ -10,7 +10,7 @@ use Rattle.rayon_machine_places.specs.declared.place.Plan.TheVariants.{Detach, H
 use Rattle.rayon_machine_places.specs.declared.place.Share.{Share}
 use Rattle.rayon_machine_places.specs.declared.place.Share.TheVariants.{OfJob}
 use Rattle.rayon_machine_places.specs.declared.place.Then.{Then}
-use Rattle.rayon_machine_places.specs.declared.place.Then.TheVariants.{BeginFound, LeaveWait, Resume, Await, RunFirst, Answers, Missing, Ran, GiveBack}
+use Rattle.rayon_machine_places.specs.declared.place.Then.TheVariants.{BeginFound, LeaveWait, Resume, Await, RunFirst, Answers, Missing, Ran, GiveBack, Called}
 use Rattle.rayon_machine_places.specs.declared.place.Latch.TheVariants.{Terminate}
 use Rattle.rayon_machine_places.specs.declared.place.Place.{Place}
 use Rattle.rayon_machine_places.specs.declared.place.Place.TheVariants.{RaiseCount, GrowCall, PushJob, TakeResult, LowerCount, SetLatch, AddToFifo, BeginTask, PushToken, TakeFromFifo}
@@ -214,6 +214,7 @@ lower_went w q n s p (GiveBack m) fs e k z y = record { stage = s; leads = lower
 lower_went w q n s p (BeginFound g t) fs e k z y = absurd y
 lower_went w q n s p (LeaveWait g) fs e k z y = absurd y
 lower_went w q n s p Resume fs e k z y = absurd y
+lower_went w q n s p Called fs e k z y = absurd y
 lower_went w q n s p (Await o) fs e k z y = absurd y
 lower_went w q n s p (RunFirst o a) fs e k z y = absurd y
 lower_went w q n s p (Missing o f) fs e k z y = absurd y

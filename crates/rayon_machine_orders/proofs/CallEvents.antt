@@ -1,4 +1,5 @@
 -- what the events that are no acts leave of a call's place in its party's stack
+use Rattle.rayon_machine_places.specs.declared.place.Pieces.{Pieces}
 use Rattle.std.proofs.Common.{arith, refl, sym, ◌∙◌, ap, subst, inl, inr}
 use Rattle.std.specs.Prelude.{ℕ, Bool, true, false, ◌&&◌, ◌||◌, ◌+◌, ◌==◌, ◌≤◌, nat_lt, Some, None, List, [], ◌∷◌, ◌++◌, ◌≡◌, IfSome, length, ◌⊎◌, if◌then◌else◌}
 use Rattle.std.proofs.lemmas.Bool.{eqb-true, eq-eqb}
@@ -14,15 +15,15 @@ use Rattle.rayon_machine_places.specs.declared.place.Plan.TheVariants.{Detach, H
 use Rattle.rayon_machine_places.specs.declared.place.Share.TheVariants.{PoolValue, OfJob}
 use Rattle.rayon_machine_places.specs.declared.place.Then.TheVariants.{Resume}
 use Rattle.rayon_machine_places.specs.declared.place.Place.{Place}
-use Rattle.rayon_machine_places.specs.declared.place.Place.TheVariants.{PickVictim, StealFrom, YieldPick, YieldSteal, Run, RaiseCount, GrowCall, PushJob, LowerCount, StoreResult, FirstSide, SecondSide, AtOnce, AddToFifo, PushToken, TakeFromFifo}
+use Rattle.rayon_machine_places.specs.declared.place.Place.TheVariants.{PickVictim, StealFrom, YieldPick, YieldSteal, Run, RaiseCount, GrowCall, PushJob, LowerCount, StoreResult, FirstSide, SecondSide, AtOnce, AddToFifo, PushToken, TakeFromFifo, RaiseForAll, PushForAll, LowerForAll}
 use Rattle.rayon_machine_places.specs.declared.event.Event.{Event}
-use Rattle.rayon_machine_places.specs.declared.event.Event.TheVariants.{From, Refuse, Miss, End, Spawn, Fifo, Install, Join, EndPool}
+use Rattle.rayon_machine_places.specs.declared.event.Event.TheVariants.{From, Refuse, Miss, End, Spawn, Fifo, Install, Join, EndPool, Cast}
 use Rattle.rayon_machine_places.specs.declared.state.Whereabouts.TheVariants.{Over}
 use Rattle.rayon_machine_places.specs.Places.{own_pool, plan_job, is_member, undo, next_steal, next_yield, goes_on, is_free, same_party}
 use Rattle.rayon_machine_places.specs.World.{Stack, World, at_job}
-use Rattle.rayon_machine_places.specs.Steps.{put, put_stack, with_stack, after_choice, after_refusal, can_miss, after_miss, after_resume, after_close, after_end, after_call, is_pool, new_job, new_call, after_spawn, after_send, after_install, after_join, after_yield, after_end_pool, after_feed, after_fifo}
+use Rattle.rayon_machine_places.specs.Steps.{put, put_stack, with_stack, after_choice, after_refusal, can_miss, after_miss, after_resume, after_close, after_end, after_call, is_pool, new_job, new_call, after_spawn, after_send, after_install, after_join, after_yield, after_end_pool, after_feed, after_fifo, after_cast, new_piece, put_pieces}
 use Rattle.rayon_machine_orders.specs.Calls.{is_at_call, is_refusal}
-use Rattle.rayon_machine_laws.proofs.Frame.{if_cond, put_same, put_old, same_party_refl}
+use Rattle.rayon_machine_laws.proofs.Frame.{if_cond, put_same, put_old, same_party_refl, piece_old, piece_out}
 use Rattle.rayon_machine_orders.proofs.CallPlaces.{Stage, Undone, is_undone, Part, plan_open, plan_here, steal_part, open_job, here_job, Withdrawing}
 use Rattle.rayon_machine_orders.proofs.CallActs.{Sofar, or_false, or_true}
 use Rattle.rayon_machine_places.specs.declared.place.Feeding.{Feeding}
@@ -133,11 +134,22 @@ withdrawn w u q f v fs n r s (a ∷ gs) place z e p = record {
   flag = or_false (is_undone r) ∙ ap (λ v. is_undone r || v) (sym (let a : same_party q q ≡ true = same_party_refl q in let b : fs ≡ gs ++ (place ∷ whole s) = cc in let d : is_at_call s (w.stack q) ≡ false = at_call_no s (w.stack q) gs place (ap (λ k. k.below) z ∙ b) in rw a d));
 }
 
+-- the refused push of a broadcast, which is no step of such a call
+kept_above : (w u : World) (q : Party) (c : Pieces) (fs : List Place) (n : Plan) (r : Stage) (s : Stack) (above : List Place) (place : Place) → w.stack q ≡ record { top = PushForAll c; below = fs } → PushForAll c ∷ fs ≡ above ++ (place ∷ whole s) → Part n r place → Stood u n r s (record { top = LowerForAll c; below = fs }) (same_party q q && is_at_call s (w.stack q))
+kept_above w u q c fs n r s [] place z e p = absurd (let a : PushForAll c ≡ place = cc in subst (λ v. Part n r v) (sym a) p)
+kept_above w u q c fs n r s (a ∷ gs) place z e p = record {
+  stage = r;
+  stands = record { above = LowerForAll c ∷ gs; place = place; is = (let b : fs ≡ gs ++ (place ∷ whole s) = cc in ap (λ v. LowerForAll c ∷ v) b); part = p };
+  sofar = λ y. y;
+  flag = or_false (is_undone r) ∙ ap (λ v. is_undone r || v) (sym (let a : same_party q q ≡ true = same_party_refl q in let b : fs ≡ gs ++ (place ∷ whole s) = cc in let d : is_at_call s (w.stack q) ≡ false = at_call_no s (w.stack q) gs place (ap (λ k. k.below) z ∙ b) in rw a d));
+}
+
 pub refuse_turned : (w : World) (q : Party) (x : Place) (fs : List Place) → w.stack q ≡ record { top = x; below = fs } → IfSome (after_refusal w q (record { top = x; below = fs })) (λ u. Turned w u q (Refuse q))
 refuse_turned w q (GrowCall m) fs z = record { to = _; stack = λ r. refl; sides = λ c l. (l, refl); made = λ t l. (l, (refl, refl)); ats = λ t l. inl refl; stood = λ n r s h. undone w (with_stack w q (record { top = undo m; below = fs })) q (GrowCall m) fs n m r s h.above h.place z (λ y. (y.0, ap is_undone (y.1))) (ap whole (sym z) ∙ h.is) h.part; quiet = λ r s d. ap (λ v. v && is_at_call s (w.stack r)) d }
 refuse_turned w q (PushJob m v) fs z = record { to = _; stack = λ r. refl; sides = λ c l. (l, refl); made = λ t l. (l, (refl, refl)); ats = λ t l. inl refl; stood = λ n r s h. undone w (with_stack w q (record { top = undo m; below = fs })) q (PushJob m v) fs n m r s h.above h.place z (λ y. (y.0, ap is_undone (y.1))) (ap whole (sym z) ∙ h.is) h.part; quiet = λ r s d. ap (λ v. v && is_at_call s (w.stack r)) d }
 refuse_turned w q (AddToFifo f) fs z = record { to = _; stack = λ r. refl; sides = λ c l. (l, refl); made = λ t l. (l, (refl, refl)); ats = λ t l. inl refl; stood = λ n r s h. undone w (with_stack w q (record { top = undo (Feed f); below = fs })) q (AddToFifo f) fs n (Feed f) r s h.above h.place z (λ y. (sym (y.0), ap is_undone (y.1))) (ap whole (sym z) ∙ h.is) h.part; quiet = λ r s d. ap (λ v. v && is_at_call s (w.stack r)) d }
 refuse_turned w q (PushToken f v) fs z = record { to = _; stack = λ r. refl; sides = λ c l. (l, refl); made = λ t l. (l, (refl, refl)); ats = λ t l. inl refl; stood = λ n r s h. withdrawn w (with_stack w q (record { top = TakeFromFifo f; below = fs })) q f v fs n r s h.above h.place z (ap whole (sym z) ∙ h.is) h.part; quiet = λ r s d. ap (λ v. v && is_at_call s (w.stack r)) d }
+refuse_turned w q (PushForAll c) fs z = record { to = _; stack = λ r. refl; sides = λ c l. (l, refl); made = λ t l. (l, (refl, refl)); ats = λ t l. inl refl; stood = λ n r s h. kept_above w (with_stack w q (record { top = LowerForAll c; below = fs })) q c fs n r s h.above h.place z (ap whole (sym z) ∙ h.is) h.part; quiet = λ r s d. ap (λ v. v && is_at_call s (w.stack r)) d }
 refuse_turned w q _ fs z = tt
 
 -- the end of a run
@@ -200,6 +212,23 @@ spawned w q p e f = if_cond (λ u. Turned w u q e) (is_free ((w.stack q).top) &&
 
 pub spawn_turned : (w : World) (q : Party) (p : ℕ) → IfSome (after_spawn w q p (w.stack q)) (λ u. Turned w u q (Spawn q p))
 spawn_turned w q p = spawned w q p (Spawn q p) (λ r s. refl)
+
+pub cast_turned : (w : World) (q : Party) (p : ℕ) → IfSome (after_cast w q p (w.stack q)) (λ u. Turned w u q (Cast q p))
+cast_turned w q p = if_cond (λ u. Turned w u q (Cast q p)) (is_free ((w.stack q).top) && is_pool w.shape p) _ (λ b. record {
+  to = _;
+  stack = λ r. refl;
+  sides = λ c l. (l, refl);
+  made = λ t l. ((omega (arith, l)), (ap (λ j. j.kind) (same t l), ap (λ j. j.counted) (same t l)));
+  ats = λ t l. inl (ap (λ j. j.at) (same t l));
+  stood = λ n r s h. same_stood _ n r s _ (called n r s (w.stack q) (RaiseForAll c) h);
+  quiet = λ r s d. refl;
+})
+  where
+    c : Pieces
+    c = record { pool = p; first = w.jobs; workers = (w.shape.pool p).workers }
+
+    same : (t : ℕ) → t + 1 ≤ w.jobs → put_pieces c (λ i j. new_piece q p i) w.job t ≡ w.job t
+    same t l = piece_old c (λ i j. new_piece q p i) w.job t (piece_out c t (omega (arith, l)))
 
 -- two jobs are new
 two_at : (w : World) (j k : Job) (t : ℕ) → t + 1 ≤ w.jobs → put (put w.job w.jobs j) (w.jobs + 1) k t ≡ w.job t

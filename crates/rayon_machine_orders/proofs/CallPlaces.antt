@@ -15,11 +15,11 @@ use Rattle.rayon_machine_places.specs.declared.place.Plan.TheVariants.{Detach, H
 use Rattle.rayon_machine_places.specs.declared.place.Share.{Share}
 use Rattle.rayon_machine_places.specs.declared.place.Share.TheVariants.{OfJob}
 use Rattle.rayon_machine_places.specs.declared.place.Then.{Then}
-use Rattle.rayon_machine_places.specs.declared.place.Then.TheVariants.{BeginFound, LeaveWait, Resume, Await, RunFirst, Answers, Missing, Ran, GiveBack}
+use Rattle.rayon_machine_places.specs.declared.place.Then.TheVariants.{BeginFound, LeaveWait, Resume, Await, RunFirst, Answers, Missing, Ran, GiveBack, Called}
 use Rattle.rayon_machine_places.specs.declared.place.Place.{Place}
-use Rattle.rayon_machine_places.specs.declared.place.Place.TheVariants.{ProbeWorking, PopWorking, TakeCastWorking, BecomeInactive, ProbeIdle, PopIdle, TakeCastIdle, PickVictim, StealFrom, PopInjected, AnnounceSelf, GetSleepy, LockOwn, FallAsleep, LoadCounters, AddSleeping, LookAtCast, LookAtInjector, BlockSelf, RelockOwn, UndoSleeping, WakeUp, UnlockOwn, LeaveSearch, JoinProbe, JoinPop, JoinTakeCast, YieldPop, YieldTakeCast, YieldPick, YieldSteal, YieldPopInjected, LocalPop, LocalTakeCast, BeginTask, BeginHere, Run, RaiseCount, GrowCall, LookQueue, PushJob, TellNews, LockToWake, WakeWorker, UnlockWoken, WaitForLock, TakeResult, LowerCount, StoreResult, SetLatch, LockToSettle, WakeSettled, UnlockSettled, SetLockLatch, FirstSide, SecondSide, AtOnce, Free, Stopped, AddToFifo, LookForToken, PushToken, TakeFromFifo}
+use Rattle.rayon_machine_places.specs.declared.place.Place.TheVariants.{ProbeWorking, PopWorking, TakeCastWorking, BecomeInactive, ProbeIdle, PopIdle, TakeCastIdle, PickVictim, StealFrom, PopInjected, AnnounceSelf, GetSleepy, LockOwn, FallAsleep, LoadCounters, AddSleeping, LookAtCast, LookAtInjector, BlockSelf, RelockOwn, UndoSleeping, WakeUp, UnlockOwn, LeaveSearch, JoinProbe, JoinPop, JoinTakeCast, YieldPop, YieldTakeCast, YieldPick, YieldSteal, YieldPopInjected, LocalPop, LocalTakeCast, BeginTask, BeginHere, Run, RaiseCount, GrowCall, LookQueue, PushJob, TellNews, LockToWake, WakeWorker, UnlockWoken, WaitForLock, TakeResult, LowerCount, StoreResult, SetLatch, LockToSettle, WakeSettled, UnlockSettled, SetLockLatch, FirstSide, SecondSide, AtOnce, Free, Stopped, AddToFifo, LookForToken, PushToken, TakeFromFifo, RaiseForAll, PushForAll, LowerForAll}
 use Rattle.rayon_machine_places.specs.declared.place.Move.{Move}
-use Rattle.rayon_machine_places.specs.declared.place.Move.TheVariants.{Stay, Enter, StartRun, Back, HandBack, Discard, HandIn}
+use Rattle.rayon_machine_places.specs.declared.place.Move.TheVariants.{Stay, Enter, StartRun, Back, HandBack, Discard, HandIn, Mark, HandAllBack}
 use Rattle.rayon_machine_places.specs.declared.act.Seen.{Seen}
 use Rattle.rayon_machine_places.specs.declared.act.Seen.TheVariants.{Done, Yes, Task, Jec, Word, Start, Wakes}
 use Rattle.rayon_machine_places.specs.declared.state.Whereabouts.TheVariants.{Over}
@@ -90,6 +90,7 @@ abbrev pub PartThen : Plan → Stage → Then → Type 0
 PartThen n s (BeginFound g t) = PartTarget n s g
 PartThen n s (LeaveWait g) = PartTarget n s g
 PartThen n s Resume = (is_detach n ≡ true) × (s ≡ Gone)
+PartThen n s Called = ⊥
 PartThen n s (Await o) = PartOpen n s o
 PartThen n s (RunFirst o a) = (n ≡ Fork o a) × (s ≡ Gone)
 PartThen n s _ = ⊥
@@ -184,11 +185,13 @@ Known w _ = ⊤
 abbrev pub Leads : World → Plan → Stage → Move → Type 0
 Leads w n s (Stay y) = Part n s y
 Leads w n s (HandIn y k) = ⊥
+Leads w n s (Mark y b9 m9) = ⊥
 Leads w n s (Enter f y) = Part n s f
 Leads w n s (StartRun f t) = Part n s f
 Leads w n s Back = Returns w n s
 Leads w n s (HandBack m) = (m ≡ n) × (s ≡ Undone)
 Leads w n s (Discard k) = ⊥
+Leads w n s (HandAllBack b9) = ⊥
 
 first_ended : (w : World) (a : ℕ) (f : Option Ending) → FirstEnds w (Some a) f → Ended w a
 first_ended w a (Some e) z = ap is_done z
@@ -226,6 +229,7 @@ finish_leads w q n s (BeginFound g t) y = y
 finish_leads w q n s (LeaveWait Termination) y = absurd y
 finish_leads w q n s (LeaveWait (Answer o f)) y = y
 finish_leads w q n s Resume y = detach_returns w n s y
+finish_leads w q n s Called y = absurd y
 finish_leads w (Worker p i) n s (Await o) y = y
 finish_leads w (Caller c) n s (Await o) y = y
 finish_leads w q n s (RunFirst o a) y = y
@@ -241,6 +245,7 @@ paid_leads w q n s (GiveBack m) k z y = y
 paid_leads w q n s (BeginFound g t) k z y = absurd y
 paid_leads w q n s (LeaveWait g) k z y = absurd y
 paid_leads w q n s Resume k z y = absurd y
+paid_leads w q n s Called k z y = absurd y
 paid_leads w q n s (Await o) k z y = absurd y
 paid_leads w q n s (RunFirst o a) k z y = absurd y
 paid_leads w q n s (Missing o f) k z y = absurd y
@@ -415,6 +420,9 @@ part_leads w g q n s (PushToken f v) e d h z y = absurd (let a : true ≡ false 
 part_leads w g q n s (TakeFromFifo f) e d h z y = absurd (let a : true ≡ false = d in cc)
 part_leads w g q n s (LookForToken f) Yes d h z y = y
 part_leads w g q n s (LookForToken f) _ d h z y = y
+part_leads w g q n s (RaiseForAll c) e d h z y = absurd y
+part_leads w g q n s (PushForAll c) e d h z y = absurd y
+part_leads w g q n s (LowerForAll c) e d h z y = absurd y
 part_leads w g q n s (TakeResult o f) e d h z y = absurd (let a : true ≡ false = d in cc)
 part_leads w g q n s (LookQueue m) Yes d h z y = y
 part_leads w g q n s (LookQueue m) _ d h z y = y

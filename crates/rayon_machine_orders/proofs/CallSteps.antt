@@ -1,6 +1,10 @@
 -- what a step keeps of the calls and jobs that a call names
+use Rattle.rayon_machine_laws.proofs.ShareLowers.{returned_jobs}
+use Rattle.rayon_machine_places.specs.declared.place.Mark.TheVariants.{Counted, Returned}
+use Rattle.rayon_machine_places.specs.declared.place.Pieces.{Pieces}
+use Rattle.rayon_machine_places.specs.declared.place.Mark.{Mark as Marking}
 use Rattle.std.proofs.Common.{arith, refl, ◌∙◌, ap, subst, inl, inr, sym}
-use Rattle.std.specs.Prelude.{ℕ, Bool, true, false, ◌&&◌, ◌||◌, ◌+◌, ◌==◌, ◌≤◌, if◌then◌else◌, Some, List, ◌≡◌, IfSome, ◌⊎◌, zero, suc}
+use Rattle.std.specs.Prelude.{ℕ, Bool, true, false, ◌&&◌, ◌||◌, ◌+◌, ◌==◌, ◌≤◌, if◌then◌else◌, Some, List, ◌≡◌, IfSome, ◌⊎◌, zero, suc, ◌-◌}
 use Rattle.std.proofs.lemmas.Bool.{eqb-true, eq-eqb}
 use Rattle.rayon_machine_places.specs.declared.place.Party.{Party}
 use Rattle.rayon_machine_places.specs.declared.place.Party.TheVariants.{Worker, Caller}
@@ -9,20 +13,20 @@ use Rattle.rayon_machine_places.specs.declared.place.Plan.TheVariants.{Detach, H
 use Rattle.rayon_machine_places.specs.declared.place.Share.TheVariants.{PoolValue, OfJob}
 use Rattle.rayon_machine_places.specs.declared.place.Then.{Then}
 use Rattle.rayon_machine_places.specs.declared.place.Place.{Place}
-use Rattle.rayon_machine_places.specs.declared.place.Place.TheVariants.{YieldPop, LocalPop, RaiseCount, LowerCount, TakeFromFifo}
+use Rattle.rayon_machine_places.specs.declared.place.Place.TheVariants.{YieldPop, LocalPop, RaiseCount, LowerCount, TakeFromFifo, RaiseForAll, LowerForAll}
 use Rattle.rayon_machine_places.specs.declared.act.Seen.{Seen}
-use Rattle.rayon_machine_places.specs.declared.act.Seen.TheVariants.{Done, Refused, Task}
+use Rattle.rayon_machine_places.specs.declared.act.Seen.TheVariants.{Done, Refused, Task, Yes, No}
 use Rattle.rayon_machine_places.specs.declared.event.Event.{Event}
-use Rattle.rayon_machine_places.specs.declared.event.Event.TheVariants.{Go, From, Refuse, Miss, End, Spawn, Fifo, Install, Join, Yield, YieldLocal, EndPool}
+use Rattle.rayon_machine_places.specs.declared.event.Event.TheVariants.{Go, From, Refuse, Miss, End, Spawn, Fifo, Install, Join, Yield, YieldLocal, EndPool, Cast}
 use Rattle.rayon_machine_places.specs.declared.state.Whereabouts.{Whereabouts}
-use Rattle.rayon_machine_places.specs.declared.state.Whereabouts.TheVariants.{Nowhere, Made, InDeque, Injected, InFifo, Running, Over, HandedBack, Spent, Retaken}
+use Rattle.rayon_machine_places.specs.declared.state.Whereabouts.TheVariants.{Nowhere, Made, InDeque, Injected, InFifo, Running, Over, HandedBack, Spent, Retaken, InCast}
 use Rattle.rayon_machine_places.specs.Places.{plan_job, plan_pool, act_of, next_of, taken_number}
-use Rattle.rayon_machine_places.specs.World.{World, Part, counts_at, target_pool, target_worker, target_call, at_job, begun, is_token, last_of, or_none}
-use Rattle.rayon_machine_places.specs.Steps.{put, step, jobs_after}
+use Rattle.rayon_machine_places.specs.World.{World, Part, counts_at, target_pool, target_worker, target_call, at_job, begun, is_token, last_of, or_none, effect}
+use Rattle.rayon_machine_places.specs.Steps.{put, step, jobs_after, is_piece, mark_pieces, marked}
 use Rattle.rayon_machine_places.specs.Readers.{is_queued, is_running, is_done}
 use Rattle.rayon_machine_laws.specs.Once.{one, in_fifo, times}
 use Rattle.rayon_machine_laws.specs.Shares.{is_busy, share, shares_in, shares}
-use Rattle.rayon_machine_laws.proofs.Frame.{if_some_map, acted_keeps, put_same, after_kind, after_counted, and_parts, either, if_some_all, if_some_and}
+use Rattle.rayon_machine_laws.proofs.Frame.{if_some_map, acted_keeps, put_same, after_kind, after_counted, and_parts, either, if_some_all, if_some_and, is_sharing, piece_old}
 use Rattle.rayon_machine_laws.proofs.Ties.{job_at, outcome, result}
 use Rattle.rayon_machine_laws.proofs.Hands.{hand_plan, held_in, held}
 use Rattle.rayon_machine_laws.proofs.Located.{Loc, Hand, loc_of, loc_at, is_loc, is_left}
@@ -36,8 +40,8 @@ use Rattle.rayon_machine_laws.proofs.ShareActs.{SharesHold, with_job, Untallied,
 use Rattle.rayon_machine_laws.proofs.Returns.{ReturnsHold, Unbacked, act_unbacked, put_backs}
 use Rattle.rayon_machine_orders.proofs.CallPlaces.{Stage, Going, Gone, Paid, Undone, Ended, Known, Added, Withdrawing}
 use Rattle.rayon_machine_orders.proofs.CallActs.{Queued, Sofar, HandedOn, TokenOn}
-use Rattle.rayon_machine_orders.proofs.CallEvents.{Turned, from_turned, refuse_turned, miss_turned, end_turned, spawn_turned, install_turned, join_turned, yield_turned, give_turned, fifo_turned}
-use Rattle.rayon_machine_places.specs.declared.place.Move.TheVariants.{Back, Discard, Enter, HandBack, HandIn, StartRun, Stay}
+use Rattle.rayon_machine_orders.proofs.CallEvents.{Turned, from_turned, refuse_turned, miss_turned, end_turned, spawn_turned, install_turned, join_turned, yield_turned, give_turned, fifo_turned, cast_turned}
+use Rattle.rayon_machine_places.specs.declared.place.Move.TheVariants.{Back, Discard, Enter, HandBack, HandIn, StartRun, Stay, Mark, HandAllBack}
 use Rattle.rayon_machine_orders.proofs.Keeping.{BusyAfter, all_busy}
 use Rattle.rayon_machine_places.specs.declared.place.JobKind.TheVariants.{Detached, Direct, Stored, TokenOf}
 use Rattle.rayon_machine_laws.proofs.Feeders.{FeedersHold, feeds_now, waits}
@@ -46,12 +50,12 @@ use Rattle.rayon_machine_places.specs.declared.state.Job.{Job}
 use Rattle.rayon_machine_places.specs.declared.place.JobKind.{JobKind}
 use Rattle.rayon_machine_laws.proofs.ClaimActs.{Learned, act_learned}
 use Rattle.rayon_machine_places.specs.declared.place.Move.{Move}
-use Rattle.rayon_machine_laws.proofs.ShareSteps.{Ready}
+use Rattle.rayon_machine_laws.proofs.ShareSteps.{Ready, no_steady, raise_steady, lower_steady}
 use Rattle.rayon_machine_laws.proofs.ShareRuns.{StartsAwaited}
 use Rattle.rayon_machine_places.specs.declared.place.Taken.{Taken}
 use Rattle.rayon_machine_laws.proofs.Feeds.{all_fed, fed, fed_in, fed_move, feds}
 use Rattle.rayon_machine_laws.proofs.ShareEvents.{ready}
-use Rattle.rayon_machine_laws.proofs.Amounts.{regained, pushed}
+use Rattle.rayon_machine_laws.proofs.Amounts.{regained, pushed, all_raises, raises_in}
 
 -- calls keep their first side, and jobs their kind
 pub record Carries (w u : World) : Type 0 where
@@ -76,6 +80,7 @@ mover (Miss q) = q
 mover (End q d) = q
 mover (Spawn q p) = q
 mover (Fifo q p) = q
+mover (Cast q p) = q
 mover (Install q p) = q
 mover (Join q) = q
 mover (Yield q) = q
@@ -94,6 +99,7 @@ turns w (Miss q) z = miss_turned w q ((w.stack q).top) ((w.stack q).below) refl
 turns w (End q d) z = end_turned w q d ((w.stack q).top) ((w.stack q).below) refl
 turns w (Spawn q p) z = spawn_turned w q p
 turns w (Fifo q p) z = fifo_turned w q p
+turns w (Cast q p) z = cast_turned w q p
 turns w (Install q p) z = install_turned w q p
 turns w (Join q) z = join_turned w q
 turns w (Yield q) z = yield_turned w q YieldPop (Yield q) (λ r s. refl)
@@ -112,6 +118,7 @@ by_act P w (Miss q) go turn true z = absurd (let a : false ≡ true = z in cc)
 by_act P w (End q d) go turn true z = absurd (let a : false ≡ true = z in cc)
 by_act P w (Spawn q p) go turn true z = absurd (let a : false ≡ true = z in cc)
 by_act P w (Fifo q p) go turn true z = absurd (let a : false ≡ true = z in cc)
+by_act P w (Cast q p) go turn true z = absurd (let a : false ≡ true = z in cc)
 by_act P w (Install q p) go turn true z = absurd (let a : false ≡ true = z in cc)
 by_act P w (Join q) go turn true z = absurd (let a : false ≡ true = z in cc)
 by_act P w (Yield q) go turn true z = absurd (let a : false ≡ true = z in cc)
@@ -147,20 +154,79 @@ lower_counts w q p u n fs t z none c = by (t == u) refl
     by true e = absurd (let a : shares t (w.stack q) ≡ (share t (LowerCount p (OfJob u) n) + shares_in t fs) = ap (shares t) z in let b : one (t == u) ≡ 1 = ap one e in omega (arith, a, b, none))
     by false e = c
 
-counts_on : (w : World) (q : Party) (x : Place) (fs : List Place) (r : Seen × Part) (t : ℕ) → (put w.job (job_at w q (act_of q x)) (r.1.job) t).counted ≡ true → ((world_after w q x fs r).job t).counted ≡ true
-counts_on w q x fs r t c = after_counted q (next_of (w.shape.pool (target_pool q (act_of q x))) q x (r.0)) (put w.job (job_at w q (act_of q x)) (r.1.job)) t ∙ c
+counts_on : (w : World) (q : Party) (x : Place) (fs : List Place) (r : Seen × Part) (t : ℕ) → is_sharing (next_of (w.shape.pool (target_pool q (act_of q x))) q x (r.0)) ≡ false → (put w.job (job_at w q (act_of q x)) (r.1.job) t).counted ≡ true → ((world_after w q x fs r).job t).counted ≡ true
+counts_on w q x fs r t st c = after_counted q (next_of (w.shape.pool (target_pool q (act_of q x))) q x (r.0)) (put w.job (job_at w q (act_of q x)) (r.1.job)) t st ∙ c
 
-put_counts : (w : World) (q : Party) (x : Place) (fs : List Place) (t : ℕ) → w.stack q ≡ record { top = x; below = fs } → shares t (w.stack q) ≡ 0 → (w.job t).counted ≡ true → IfSome (outcome w q (record { top = x; below = fs })) (λ r. (put w.job (job_at w q (act_of q x)) (r.1.job) t).counted ≡ true)
-put_counts w (Worker a b) (RaiseCount n) fs t z none c = raise_counts w n t _ _ refl refl c ((w.pool (plan_pool n)).count == 0)
-put_counts w (Caller i) (RaiseCount n) fs t z none c = raise_counts w n t _ _ refl refl c ((w.pool (plan_pool n)).count == 0)
-put_counts w (Worker a b) (LowerCount p (OfJob u) n) fs t z none c = lower_counts w (Worker a b) p u n fs t z none c
-put_counts w (Caller i) (LowerCount p (OfJob u) n) fs t z none c = lower_counts w (Caller i) p u n fs t z none c
-put_counts w (Worker a b) (LowerCount p PoolValue n) fs t z none c = put_same (λ j. j.counted) w.job 0 (w.job 0) t refl ∙ c
-put_counts w (Caller i) (LowerCount p PoolValue n) fs t z none c = put_same (λ j. j.counted) w.job 0 (w.job 0) t refl ∙ c
-put_counts w q x fs t z none c = if_some_map (Untallied (place_part w q x)) (λ r. (put w.job (job_at w q (act_of q x)) (r.1.job) t).counted ≡ true) (λ r k. put_same (λ j. j.counted) w.job (job_at w q (act_of q x)) (r.1.job) t k.job ∙ c) (outcome w q (record { top = x; below = fs })) (act_untallied w.shape q (counts_at w (target_pool q (act_of q x))) (place_part w q x) x refl)
+-- places whose acts are on the count for all pieces of a broadcast
+abbrev is_all : Place → Bool
+is_all (RaiseForAll c) = true
+is_all (LowerForAll c) = true
+is_all _ = false
 
-pub step_counts : (w : World) (e : Event) (t : ℕ) → t + 1 ≤ w.jobs → ((q : Party) → shares t (w.stack q) ≡ 0) → (w.job t).counted ≡ true → IfSome (step w e) (λ u. (u.job t).counted ≡ true)
-step_counts w e t l none c = by_act (λ u. (u.job t).counted ≡ true) w e (λ q. if_some_map (λ r. (put w.job (job_at w q (act_of q ((w.stack q).top))) (r.1.job) t).counted ≡ true) (λ r. ((result w q (w.stack q) r).job t).counted ≡ true) (λ r. counts_on w q ((w.stack q).top) ((w.stack q).below) r t) (outcome w q (w.stack q)) (put_counts w q ((w.stack q).top) ((w.stack q).below) t refl (none q) c)) (λ u m. ((m.made t l).1).1 ∙ c) (is_act e) refl
+put_counts : (w : World) (q : Party) (x : Place) (fs : List Place) (t : ℕ) → is_all x ≡ false → w.stack q ≡ record { top = x; below = fs } → shares t (w.stack q) ≡ 0 → (w.job t).counted ≡ true → IfSome (outcome w q (record { top = x; below = fs })) (λ r. (put w.job (job_at w q (act_of q x)) (r.1.job) t).counted ≡ true)
+put_counts w (Worker a b) (RaiseCount n) fs t y z none c = raise_counts w n t _ _ refl refl c ((w.pool (plan_pool n)).count == 0)
+put_counts w (Caller i) (RaiseCount n) fs t y z none c = raise_counts w n t _ _ refl refl c ((w.pool (plan_pool n)).count == 0)
+put_counts w (Worker a b) (LowerCount p (OfJob u) n) fs t y z none c = lower_counts w (Worker a b) p u n fs t z none c
+put_counts w (Caller i) (LowerCount p (OfJob u) n) fs t y z none c = lower_counts w (Caller i) p u n fs t z none c
+put_counts w (Worker a b) (LowerCount p PoolValue n) fs t y z none c = put_same (λ j. j.counted) w.job 0 (w.job 0) t refl ∙ c
+put_counts w (Caller i) (LowerCount p PoolValue n) fs t y z none c = put_same (λ j. j.counted) w.job 0 (w.job 0) t refl ∙ c
+put_counts w q (RaiseForAll b) fs t y z none c = cc
+put_counts w q (LowerForAll b) fs t y z none c = cc
+put_counts w q x fs t y z none c = if_some_map (Untallied (place_part w q x)) (λ r. (put w.job (job_at w q (act_of q x)) (r.1.job) t).counted ≡ true) (λ r k. put_same (λ j. j.counted) w.job (job_at w q (act_of q x)) (r.1.job) t k.job ∙ c) (outcome w q (record { top = x; below = fs })) (act_untallied w.shape q (counts_at w (target_pool q (act_of q x))) (place_part w q x) x refl)
+
+-- an act that is not leaves who has a share as the act has it
+all_steady : (w : World) (q : Party) (x : Place) → is_all x ≡ false → IfSome (effect (act_of q x) w.shape q (counts_at w (target_pool q (act_of q x))) (place_part w q x)) (λ r. is_sharing (next_of (w.shape.pool (target_pool q (act_of q x))) q x (r.0)) ≡ false)
+all_steady w q (RaiseCount n) y = if_some_all {A = Seen × Part} (λ r. is_sharing (next_of (w.shape.pool (target_pool q (act_of q (RaiseCount n)))) q (RaiseCount n) (r.0)) ≡ false) (λ r. by (r.0)) (effect (act_of q (RaiseCount n)) w.shape q (counts_at w (target_pool q (act_of q (RaiseCount n)))) (place_part w q (RaiseCount n)))
+  where
+    by : (e : Seen) → is_sharing (next_of (w.shape.pool (target_pool q (act_of q (RaiseCount n)))) q (RaiseCount n) e) ≡ false
+    by Done = raise_steady n
+    by _ = refl
+all_steady w q (LowerCount p s n) y = if_some_all {A = Seen × Part} (λ r. is_sharing (next_of (w.shape.pool (target_pool q (act_of q (LowerCount p s n)))) q (LowerCount p s n) (r.0)) ≡ false) (λ r. lower_steady (w.shape.pool (target_pool q (act_of q (LowerCount p s n)))) q p s n (r.0)) (effect (act_of q (LowerCount p s n)) w.shape q (counts_at w (target_pool q (act_of q (LowerCount p s n)))) (place_part w q (LowerCount p s n)))
+all_steady w q (RaiseForAll c) y = cc
+all_steady w q (LowerForAll c) y = cc
+all_steady w q x y = no_steady w.shape (w.shape.pool (target_pool q (act_of q x))) q (counts_at w (target_pool q (act_of q x))) (place_part w q x) x refl
+
+-- a broadcast gives its pieces shares, and takes back those that it gave
+not_piece : (c : Pieces) (t n : ℕ) → one (is_piece c t) + n ≤ 0 → is_piece c t ≡ false
+not_piece c t n l = by (is_piece c t) l
+  where
+    by : (b : Bool) → one b + n ≤ 0 → b ≡ false
+    by true l = absurd (omega (arith, l))
+    by false l = refl
+
+all_cases : (P : Seen × Part → Type 0) (none done : Seen × Part) → P none → P done → (b : Bool) → IfSome (if b then Some none else Some done) P
+all_cases P none done x y true = x
+all_cases P none done x y false = y
+
+back_counts : (w : World) (q : Party) (c : Pieces) (fs : List Place) (t : ℕ) → w.stack q ≡ record { top = RaiseForAll c; below = fs } → (w.job t).counted ≡ true → all_raises t (w.stack q) + one (w.job t).counted ≤ 1 → (mark_pieces c Returned (put w.job 0 (w.job 0)) t).counted ≡ true
+back_counts w q c fs t z k l = ap (λ j. j.counted) (piece_old c (marked Returned c.pool) (put w.job 0 (w.job 0)) t none) ∙ put_same (λ j. j.counted) w.job 0 (w.job 0) t refl ∙ k
+  where
+    none : is_piece c t ≡ false
+    none = not_piece c t (raises_in t fs) (let a : all_raises t (w.stack q) ≡ (one (is_piece c t) + raises_in t fs) = ap (all_raises t) z in let b : one (w.job t).counted ≡ 1 = ap one k in omega (arith, a, b, l))
+
+done_counts : (w : World) (c : Pieces) (t : ℕ) → (w.job t).counted ≡ true → (mark_pieces c Counted (put w.job 0 (w.job 0)) t).counted ≡ true
+done_counts w c t k = by (is_piece c t)
+  where
+    by : (b : Bool) → (if b then marked Counted c.pool (t - c.first) (put w.job 0 (w.job 0) t) else put w.job 0 (w.job 0) t).counted ≡ true
+    by true = refl
+    by false = put_same (λ j. j.counted) w.job 0 (w.job 0) t refl ∙ k
+
+lowered_counts : (w : World) (q : Party) (c : Pieces) (fs : List Place) (t : ℕ) (e : Seen) → w.stack q ≡ record { top = LowerForAll c; below = fs } → shares t (w.stack q) ≡ 0 → (w.job t).counted ≡ true → (jobs_after q (next_of (w.shape.pool c.pool) q (LowerForAll c) e) (put w.job 0 (w.job 0)) t).counted ≡ true
+lowered_counts w q c fs t e z n k = ap (λ g. (g t).counted) (returned_jobs (w.shape.pool c.pool) q c e (put w.job 0 (w.job 0))) ∙ ap (λ j. j.counted) (piece_old c (marked Returned c.pool) (put w.job 0 (w.job 0)) t none) ∙ put_same (λ j. j.counted) w.job 0 (w.job 0) t refl ∙ k
+  where
+    none : is_piece c t ≡ false
+    none = not_piece c t (shares_in t fs) (let a : shares t (w.stack q) ≡ (one (is_piece c t) + shares_in t fs) = ap (shares t) z in omega (arith, a, n))
+
+act_counts : (w : World) (q : Party) (x : Place) (fs : List Place) (t : ℕ) → w.stack q ≡ record { top = x; below = fs } → shares t (w.stack q) ≡ 0 → (w.job t).counted ≡ true → all_raises t (w.stack q) + one (w.job t).counted ≤ 1 → IfSome (outcome w q (record { top = x; below = fs })) (λ r. ((world_after w q x fs r).job t).counted ≡ true)
+act_counts w (Worker a b) (RaiseForAll c) fs t z n k l = all_cases (λ r. ((world_after w (Worker a b) (RaiseForAll c) fs r).job t).counted ≡ true) (Refused, place_part w (Worker a b) (RaiseForAll c)) _ (back_counts w (Worker a b) c fs t z k l) (done_counts w c t k) ((w.pool c.pool).count == 0)
+act_counts w (Caller g) (RaiseForAll c) fs t z n k l = all_cases (λ r. ((world_after w (Caller g) (RaiseForAll c) fs r).job t).counted ≡ true) (Refused, place_part w (Caller g) (RaiseForAll c)) _ (back_counts w (Caller g) c fs t z k l) (done_counts w c t k) ((w.pool c.pool).count == 0)
+act_counts w (Worker a b) (LowerForAll c) fs t z n k l = lowered_counts w (Worker a b) c fs t (if (w.pool c.pool).count == c.workers then Yes else No) z n k
+act_counts w (Caller g) (LowerForAll c) fs t z n k l = lowered_counts w (Caller g) c fs t (if (w.pool c.pool).count == c.workers then Yes else No) z n k
+act_counts w q x fs t z n k l = if_some_map (λ r. ((put w.job (job_at w q (act_of q x)) (r.1.job) t).counted ≡ true) × (is_sharing (next_of (w.shape.pool (target_pool q (act_of q x))) q x (r.0)) ≡ false)) (λ r. ((world_after w q x fs r).job t).counted ≡ true) (λ r f. counts_on w q x fs r t (f.1) (f.0)) (outcome w q (record { top = x; below = fs }))
+    (if_some_and (λ r. (put w.job (job_at w q (act_of q x)) (r.1.job) t).counted ≡ true) (λ r. is_sharing (next_of (w.shape.pool (target_pool q (act_of q x))) q x (r.0)) ≡ false) (outcome w q (record { top = x; below = fs })) (put_counts w q x fs t refl z n k) (all_steady w q x refl))
+
+pub step_counts : (w : World) (e : Event) (t : ℕ) → t + 1 ≤ w.jobs → ((q : Party) → all_raises t (w.stack q) + one (w.job t).counted ≤ 1) → ((q : Party) → shares t (w.stack q) ≡ 0) → (w.job t).counted ≡ true → IfSome (step w e) (λ u. (u.job t).counted ≡ true)
+step_counts w e t l ra none c = by_act (λ u. (u.job t).counted ≡ true) w e (λ q. act_counts w q ((w.stack q).top) ((w.stack q).below) t refl (none q) c (ra q)) (λ u m. ((m.made t l).1).1 ∙ c) (is_act e) refl
 
 -- a job that is over stays over, and one that is handed back stays handed back
 pub ended_on : (w u : World) → Advance w u → (t : ℕ) → Ended w t → Ended u t
@@ -173,6 +239,7 @@ ended_on w u a t z = by ((w.job t).at) (a.final t) z
     by (InDeque p i) f d = cc
     by (Injected p) f d = cc
     by (InFifo p i) f d = cc
+    by (InCast p i) f d = cc
     by HandedBack f d = cc
     by (Retaken q) f d = cc
     by Spent f d = cc
@@ -204,7 +271,7 @@ untaken w t g q = by q ((w.stack q).top) ((w.stack q).below) refl
     by q x fs z = if_some_all {A = Seen × Part} (λ r. regained t x (r.0) ≡ 0) (λ r. refl) (outcome w q (record { top = x; below = fs }))
 
 -- who has left its call is in no FIFO list
-left_untaken : (w : World) → JobsHold w → (t : ℕ) → is_left (w.job t).at ≡ true → Untaken w t
+pub left_untaken : (w : World) → JobsHold w → (t : ℕ) → is_left (w.job t).at ≡ true → Untaken w t
 left_untaken w h t l = untaken w t (λ a b f fs y m z k. elim (either (t == taken_number y)) [ inl e ↦ absurd (lined_apart w h a b (taken_number y) (k.1) (ap (λ n. is_left (w.job n).at) (sym (eqb-true t (taken_number y) e)) ∙ l)) | inr e ↦ e ])
 
 -- and a call takes its own job back, whose token it still has
@@ -229,6 +296,7 @@ busy_on : (v : Whereabouts) → is_busy v ≡ true → (is_queued v || (is_runni
 busy_on (InDeque p i) e = refl
 busy_on (Injected p) e = refl
 busy_on (InFifo p i) e = refl
+busy_on (InCast p i) e = refl
 busy_on (Running q) e = refl
 busy_on _ e = cc
 
@@ -245,7 +313,7 @@ busy_act w t h own un q =
     (outcome w q (w.stack q)) (if_some_and (BusyAfter w q x fs) (λ r. regained t x (r.0) ≡ 0) (outcome w q (w.stack q)) (all_busy w q x fs refl h (ready w q h)) (un q))
 
 -- a detached job that is queued, in a hand or running has its share, so it is not handed back
-handed_on : (w u : World) (e : Event) → step w e ≡ Some u → SharesHold w → ReturnsHold u → Advance w u → (t : ℕ) → t + 1 ≤ w.jobs → is_detached (w.job t).kind ≡ true → Untaken w t → HandedOn (w.job t) → HandedOn (u.job t)
+pub handed_on : (w u : World) (e : Event) → step w e ≡ Some u → SharesHold w → ReturnsHold u → Advance w u → (t : ℕ) → t + 1 ≤ w.jobs → is_detached (w.job t).kind ≡ true → Untaken w t → HandedOn (w.job t) → HandedOn (u.job t)
 handed_on w u e made h r a t l k un z = by ((w.job t).at) refl z (a.final t)
   where
     busy : is_busy (w.job t).at ≡ true → HandedOn (u.job t)
@@ -253,7 +321,7 @@ handed_on w u e made h r a t l k un z = by ((w.job t).at) refl z (a.final t)
         let own : with_job (w.job t) ≡ 1 = ap (λ b. one (b && is_busy (w.job t).at)) k ∙ ap one y in
         let counted : (w.job t).counted ≡ true = one_is ((w.job t).counted) (let b : shares t (w.stack (mover e)) + with_job (w.job t) ≤ one (w.job t).counted = (h.jobs t).alone (mover e) in omega (arith, b, own)) in
         let none : (q : Party) → shares t (w.stack q) ≡ 0 = λ q. (let b : shares t (w.stack q) + with_job (w.job t) ≤ one (w.job t).counted = (h.jobs t).alone q in let d : one (w.job t).counted ≤ 1 = one_most ((w.job t).counted) in omega (arith, b, d, own)) in
-        let now : (u.job t).counted ≡ true = (let f : IfSome (Some u) (λ v. (v.job t).counted ≡ true) = subst (λ o. IfSome o (λ v. (v.job t).counted ≡ true)) made (step_counts w e t l none counted) in f) in
+        let now : (u.job t).counted ≡ true = (let f : IfSome (Some u) (λ v. (v.job t).counted ≡ true) = subst (λ o. IfSome o (λ v. (v.job t).counted ≡ true)) made (step_counts w e t l (λ q. h.unraised q t) none counted) in f) in
         let kept : KeptOn u t = (let f : IfSome (Some u) (λ v. KeptOn v t) = subst (λ o. IfSome o (λ v. KeptOn v t)) made (by_act (λ v. KeptOn v t) w e (busy_act w t h own un) (λ v m. turned v m) (is_act e) refl) in f) in
         kept (let b : all_bare t (u.stack (mover e)) + backs (u.job t).at ≤ 0 = r.bare (mover e) t now in omega (arith, b))
       where
@@ -265,6 +333,7 @@ handed_on w u e made h r a t l k un z = by ((w.job t).at) refl z (a.final t)
     by (InDeque p j) i y f = busy (ap is_busy i)
     by (Injected p) i y f = busy (ap is_busy i)
     by (InFifo p j) i y f = busy (ap is_busy i)
+    by (InCast p j) i y f = busy (ap is_busy i)
     by (Running q) i y f = busy (ap is_busy i)
     by (Made q) i y f = cc
     by (Retaken q) i y f = cc
@@ -293,11 +362,20 @@ put_other J a k j n b = by (k == a)
     by true = n
     by false = b
 
+pieces_kept : (w : World) (c : Pieces) (m : Marking) (J : ℕ → Job) (k : ℕ) → ((t : ℕ) → is_piece c t ≡ true → is_detached (w.job t).kind ≡ true) → is_token (w.job k).kind ≡ true → backs (J k).at ≤ 0 → backs (mark_pieces c m J k).at ≤ 0
+pieces_kept w c m J k s t b = by (is_piece c k) refl
+  where
+    by : (z : Bool) → is_piece c k ≡ z → backs (if z then marked m c.pool (k - c.first) (J k) else J k).at ≤ 0
+    by true e = absurd (token_kinds ((w.job k).kind) (s k e) t)
+    by false e = b
+
 land_kept : (w : World) (q : Party) (g : Move) (J : ℕ → Job) (k : ℕ) → StartsAwaited w g → is_token (w.job k).kind ≡ true → fed_move k g ≤ 0 → backs (J k).at ≤ 0 → backs (jobs_after q g J k).at ≤ 0
 land_kept w q (Stay y) J k s t f b = b
 land_kept w q (HandIn y m) J k s t f b = put_other J m k (at_job (J m) Spent) (omega arith) b
 land_kept w q (Discard m) J k s t f b = put_other J m k (at_job (J m) Spent) (omega arith) b
 land_kept w q (Enter x y) J k s t f b = b
+land_kept w q (Mark y c m) J k s t f b = pieces_kept w c m J k s t b
+land_kept w q (HandAllBack c) J k s t f b = pieces_kept w c Returned J k s t b
 land_kept w q Back J k s t f b = b
 land_kept w q (StartRun x m) J k s t f b = put_other J m k (begun q (J m)) (omega arith) b
 land_kept w q (HandBack (Detach p a)) J k s t f b = put_handed J a k f b
@@ -333,6 +411,18 @@ all_unbacked w (Worker a b) (LowerCount p PoolValue n) fs = omega arith
 all_unbacked w (Worker a b) (LowerCount p (OfJob u) n) fs = omega arith
 all_unbacked w (Caller c) (LowerCount p PoolValue n) fs = omega arith
 all_unbacked w (Caller c) (LowerCount p (OfJob u) n) fs = omega arith
+all_unbacked w (Worker a b) (RaiseForAll c) fs = by ((w.pool c.pool).count == 0)
+  where
+    by : (z : Bool) → IfSome {T = Seen × Part} (if z then Some (Refused, place_part w (Worker a b) (RaiseForAll c)) else Some (Done, record (place_part w (Worker a b) (RaiseForAll c)) { pool = record (w.pool c.pool) { count = (w.pool c.pool).count + c.workers } })) (Unbacked (place_part w (Worker a b) (RaiseForAll c)))
+    by true = omega arith
+    by false = omega arith
+all_unbacked w (Worker a b) (LowerForAll c) fs = omega arith
+all_unbacked w (Caller g) (RaiseForAll c) fs = by ((w.pool c.pool).count == 0)
+  where
+    by : (z : Bool) → IfSome {T = Seen × Part} (if z then Some (Refused, place_part w (Caller g) (RaiseForAll c)) else Some (Done, record (place_part w (Caller g) (RaiseForAll c)) { pool = record (w.pool c.pool) { count = (w.pool c.pool).count + c.workers } })) (Unbacked (place_part w (Caller g) (RaiseForAll c)))
+    by true = omega arith
+    by false = omega arith
+all_unbacked w (Caller g) (LowerForAll c) fs = omega arith
 all_unbacked w q x fs = act_unbacked w.shape q (counts_at w (target_pool q (act_of q x))) (place_part w q x) x refl
 
 token_act : (w : World) (k : ℕ) → SharesHold w → is_token (w.job k).kind ≡ true → is_left (w.job k).at ≡ true → backs (w.job k).at ≤ 0 → (q : Party) → IfSome (outcome w q (w.stack q)) (λ r. backs ((result w q (w.stack q) r).job k).at ≤ 0)
@@ -381,6 +471,7 @@ token_on w u e made h a k l t z = (left, by ((u.job k).at) left unbacked)
     by (Retaken q) y b = cc
     by HandedBack y b = absurd (omega (arith, b))
     by (InDeque p i) y b = inl refl
+    by (InCast p i) y b = inl refl
     by (Injected p) y b = inl refl
     by (Running q) y b = inl refl
     by (Over d) y b = inl refl
@@ -409,6 +500,7 @@ over_nowhere (Running q) n l d = cc
 over_nowhere (InDeque p i) n l d = cc
 over_nowhere (Injected p) n l d = cc
 over_nowhere (InFifo p i) n l d = cc
+over_nowhere (InCast p i) n l d = cc
 over_nowhere HandedBack n l d = cc
 over_nowhere (Retaken q) n l d = cc
 over_nowhere Spent n l d = cc
@@ -437,17 +529,44 @@ lower_uncounts w u t c = by (t == u)
     by true = refl
     by false = c
 
-put_uncounts : (w : World) (q : Party) (x : Place) (fs : List Place) (t : ℕ) → w.stack q ≡ record { top = x; below = fs } → JobsHold w → is_done (w.job t).at ≡ true → (w.job t).counted ≡ false → IfSome (outcome w q (record { top = x; below = fs })) (λ r. (put w.job (job_at w q (act_of q x)) (r.1.job) t).counted ≡ false)
-put_uncounts w (Worker a b) (RaiseCount n) fs t z h d c = raise_uncounts w n t _ _ refl (raise_apart w h (Worker a b) n fs t z d) c ((w.pool (plan_pool n)).count == 0)
-put_uncounts w (Caller i) (RaiseCount n) fs t z h d c = raise_uncounts w n t _ _ refl (raise_apart w h (Caller i) n fs t z d) c ((w.pool (plan_pool n)).count == 0)
-put_uncounts w (Worker a b) (LowerCount p (OfJob u) n) fs t z h d c = lower_uncounts w u t c
-put_uncounts w (Caller i) (LowerCount p (OfJob u) n) fs t z h d c = lower_uncounts w u t c
-put_uncounts w (Worker a b) (LowerCount p PoolValue n) fs t z h d c = put_same (λ j. j.counted) w.job 0 (w.job 0) t refl ∙ c
-put_uncounts w (Caller i) (LowerCount p PoolValue n) fs t z h d c = put_same (λ j. j.counted) w.job 0 (w.job 0) t refl ∙ c
-put_uncounts w q x fs t z h d c = if_some_map (Untallied (place_part w q x)) (λ r. (put w.job (job_at w q (act_of q x)) (r.1.job) t).counted ≡ false) (λ r k. put_same (λ j. j.counted) w.job (job_at w q (act_of q x)) (r.1.job) t k.job ∙ c) (outcome w q (record { top = x; below = fs })) (act_untallied w.shape q (counts_at w (target_pool q (act_of q x))) (place_part w q x) x refl)
+put_uncounts : (w : World) (q : Party) (x : Place) (fs : List Place) (t : ℕ) → is_all x ≡ false → w.stack q ≡ record { top = x; below = fs } → JobsHold w → is_done (w.job t).at ≡ true → (w.job t).counted ≡ false → IfSome (outcome w q (record { top = x; below = fs })) (λ r. (put w.job (job_at w q (act_of q x)) (r.1.job) t).counted ≡ false)
+put_uncounts w (Worker a b) (RaiseCount n) fs t y z h d c = raise_uncounts w n t _ _ refl (raise_apart w h (Worker a b) n fs t z d) c ((w.pool (plan_pool n)).count == 0)
+put_uncounts w (Caller i) (RaiseCount n) fs t y z h d c = raise_uncounts w n t _ _ refl (raise_apart w h (Caller i) n fs t z d) c ((w.pool (plan_pool n)).count == 0)
+put_uncounts w (Worker a b) (LowerCount p (OfJob u) n) fs t y z h d c = lower_uncounts w u t c
+put_uncounts w (Caller i) (LowerCount p (OfJob u) n) fs t y z h d c = lower_uncounts w u t c
+put_uncounts w (Worker a b) (LowerCount p PoolValue n) fs t y z h d c = put_same (λ j. j.counted) w.job 0 (w.job 0) t refl ∙ c
+put_uncounts w (Caller i) (LowerCount p PoolValue n) fs t y z h d c = put_same (λ j. j.counted) w.job 0 (w.job 0) t refl ∙ c
+put_uncounts w q (RaiseForAll b) fs t y z h d c = cc
+put_uncounts w q (LowerForAll b) fs t y z h d c = cc
+put_uncounts w q x fs t y z h d c = if_some_map (Untallied (place_part w q x)) (λ r. (put w.job (job_at w q (act_of q x)) (r.1.job) t).counted ≡ false) (λ r k. put_same (λ j. j.counted) w.job (job_at w q (act_of q x)) (r.1.job) t k.job ∙ c) (outcome w q (record { top = x; below = fs })) (act_untallied w.shape q (counts_at w (target_pool q (act_of q x))) (place_part w q x) x refl)
+
+-- a job that is over is no piece in a hand
+over_piece : (w : World) → JobsHold w → (q : Party) (c : Pieces) (fs : List Place) (t : ℕ) → w.stack q ≡ record { top = RaiseForAll c; below = fs } → is_done (w.job t).at ≡ true → is_piece c t ≡ false
+over_piece w h q c fs t z d = not_piece c t (held_in t fs) (let a : held t (w.stack q) ≡ is_loc (Hand q) (loc_at (w.job t)) = ((h.ok).placed) (Hand q) t in let b : is_loc (Hand q) (loc_at (w.job t)) ≡ 0 = over_nowhere ((w.job t).at) ((w.job t).runs) (Hand q) d in let e : held t (w.stack q) ≡ (one (is_piece c t) + held_in t fs) = ap (held t) z in omega (arith, a, b, e))
+
+mark_uncounts : (w : World) (c : Pieces) (k : Marking) (t : ℕ) → ((p i : ℕ) (j : Job) → j.counted ≡ false → (marked k p i j).counted ≡ false) → (w.job t).counted ≡ false → (mark_pieces c k (put w.job 0 (w.job 0)) t).counted ≡ false
+mark_uncounts w c k t f n = by (is_piece c t)
+  where
+    was : (put w.job 0 (w.job 0) t).counted ≡ false
+    was = put_same (λ j. j.counted) w.job 0 (w.job 0) t refl ∙ n
+
+    by : (b : Bool) → (if b then marked k c.pool (t - c.first) (put w.job 0 (w.job 0) t) else put w.job 0 (w.job 0) t).counted ≡ false
+    by true = f c.pool (t - c.first) (put w.job 0 (w.job 0) t) was
+    by false = was
+
+done_uncounts : (w : World) (q : Party) (c : Pieces) (fs : List Place) (t : ℕ) → w.stack q ≡ record { top = RaiseForAll c; below = fs } → JobsHold w → is_done (w.job t).at ≡ true → (w.job t).counted ≡ false → (mark_pieces c Counted (put w.job 0 (w.job 0)) t).counted ≡ false
+done_uncounts w q c fs t z h d n = ap (λ j. j.counted) (piece_old c (marked Counted c.pool) (put w.job 0 (w.job 0)) t (over_piece w h q c fs t z d)) ∙ put_same (λ j. j.counted) w.job 0 (w.job 0) t refl ∙ n
+
+act_uncounts : (w : World) (q : Party) (x : Place) (fs : List Place) (t : ℕ) → w.stack q ≡ record { top = x; below = fs } → JobsHold w → is_done (w.job t).at ≡ true → (w.job t).counted ≡ false → IfSome (outcome w q (record { top = x; below = fs })) (λ r. ((world_after w q x fs r).job t).counted ≡ false)
+act_uncounts w (Worker a b) (RaiseForAll c) fs t z h d n = all_cases (λ r. ((world_after w (Worker a b) (RaiseForAll c) fs r).job t).counted ≡ false) (Refused, place_part w (Worker a b) (RaiseForAll c)) _ (mark_uncounts w c Returned t (λ p i j e. refl) n) (done_uncounts w (Worker a b) c fs t z h d n) ((w.pool c.pool).count == 0)
+act_uncounts w (Caller g) (RaiseForAll c) fs t z h d n = all_cases (λ r. ((world_after w (Caller g) (RaiseForAll c) fs r).job t).counted ≡ false) (Refused, place_part w (Caller g) (RaiseForAll c)) _ (mark_uncounts w c Returned t (λ p i j e. refl) n) (done_uncounts w (Caller g) c fs t z h d n) ((w.pool c.pool).count == 0)
+act_uncounts w (Worker a b) (LowerForAll c) fs t z h d n = ap (λ g. (g t).counted) (returned_jobs (w.shape.pool c.pool) (Worker a b) c (if (w.pool c.pool).count == c.workers then Yes else No) (put w.job 0 (w.job 0))) ∙ mark_uncounts w c Returned t (λ p i j e. refl) n
+act_uncounts w (Caller g) (LowerForAll c) fs t z h d n = ap (λ g. (g t).counted) (returned_jobs (w.shape.pool c.pool) (Caller g) c (if (w.pool c.pool).count == c.workers then Yes else No) (put w.job 0 (w.job 0))) ∙ mark_uncounts w c Returned t (λ p i j e. refl) n
+act_uncounts w q x fs t z h d n = if_some_map (λ r. ((put w.job (job_at w q (act_of q x)) (r.1.job) t).counted ≡ false) × (is_sharing (next_of (w.shape.pool (target_pool q (act_of q x))) q x (r.0)) ≡ false)) (λ r. ((world_after w q x fs r).job t).counted ≡ false) (λ r f. after_counted q (next_of (w.shape.pool (target_pool q (act_of q x))) q x (r.0)) (put w.job (job_at w q (act_of q x)) (r.1.job)) t (f.1) ∙ f.0) (outcome w q (record { top = x; below = fs }))
+    (if_some_and (λ r. (put w.job (job_at w q (act_of q x)) (r.1.job) t).counted ≡ false) (λ r. is_sharing (next_of (w.shape.pool (target_pool q (act_of q x))) q x (r.0)) ≡ false) (outcome w q (record { top = x; below = fs })) (put_uncounts w q x fs t refl z h d n) (all_steady w q x refl))
 
 step_uncounts : (w : World) (e : Event) (t : ℕ) → t + 1 ≤ w.jobs → JobsHold w → is_done (w.job t).at ≡ true → (w.job t).counted ≡ false → IfSome (step w e) (λ u. (u.job t).counted ≡ false)
-step_uncounts w e t l h d c = by_act (λ u. (u.job t).counted ≡ false) w e (λ q. if_some_map (λ r. (put w.job (job_at w q (act_of q ((w.stack q).top))) (r.1.job) t).counted ≡ false) (λ r. ((result w q (w.stack q) r).job t).counted ≡ false) (λ r k. after_counted q (next_of (w.shape.pool (target_pool q (act_of q ((w.stack q).top)))) q ((w.stack q).top) (r.0)) (put w.job (job_at w q (act_of q ((w.stack q).top))) (r.1.job)) t ∙ k) (outcome w q (w.stack q)) (put_uncounts w q ((w.stack q).top) ((w.stack q).below) t refl h d c)) (λ u m. ((m.made t l).1).1 ∙ c) (is_act e) refl
+step_uncounts w e t l h d c = by_act (λ u. (u.job t).counted ≡ false) w e (λ q. act_uncounts w q ((w.stack q).top) ((w.stack q).below) t refl h d c) (λ u m. ((m.made t l).1).1 ∙ c) (is_act e) refl
 
 paid_on : (w u : World) (e : Event) → step w e ≡ Some u → JobsHold w → Advance w u → (n : Plan) → Sofar w Paid n → Sofar u Paid n
 paid_on w u e made h a n z = (

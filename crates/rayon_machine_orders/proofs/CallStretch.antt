@@ -8,7 +8,7 @@ use Rattle.rayon_machine_places.specs.declared.place.Plan.TheVariants.{Detach, H
 use Rattle.rayon_machine_places.specs.declared.place.Place.{Place}
 use Rattle.rayon_machine_places.specs.declared.place.Place.TheVariants.{Run}
 use Rattle.rayon_machine_places.specs.declared.place.Move.{Move}
-use Rattle.rayon_machine_places.specs.declared.place.Move.TheVariants.{Stay, Enter, StartRun, Back, HandBack, Discard, HandIn}
+use Rattle.rayon_machine_places.specs.declared.place.Move.TheVariants.{Stay, Enter, StartRun, Back, HandBack, Discard, HandIn, Mark, HandAllBack}
 use Rattle.rayon_machine_places.specs.declared.act.Seen.{Seen}
 use Rattle.rayon_machine_places.specs.declared.event.Event.{Event}
 use Rattle.rayon_machine_places.specs.declared.event.Event.TheVariants.{Go}
@@ -105,6 +105,8 @@ handed_all f (Feed d) = two_handed f d.job d.token
 landed : (w u : World) (q : Party) (s : Stack) (n : Plan) (st : Stage) (b : Bool) (g : Move) (f : ℕ → Job) → u.stack q ≡ after_move g (whole s) → u.job ≡ jobs_after q g f → Went w u n st b g → Sofar u st n → Known u n → Advance w u → After u q s n (is_undone st || b)
 landed w u q s n st b (Stay y) f z j h so k a = inl (record { stage = h.stage; stands = record { above = []; place = y; is = ap whole z; part = h.leads }; sofar = h.sofar so; known = k; flag = h.flag })
 landed w u q s n st b (HandIn y t) f z j h so k a = absurd h.leads
+landed w u q s n st b (Mark y c m) f z j h so k a = absurd h.leads
+landed w u q s n st b (HandAllBack c) f z j h so k a = absurd h.leads
 landed w u q s n st b (Enter x y) f z j h so k a = inl (record { stage = h.stage; stands = record { above = y ∷ []; place = x; is = ap whole z; part = h.leads }; sofar = h.sofar so; known = k; flag = h.flag })
 landed w u q s n st b (StartRun x t) f z j h so k a = inl (record { stage = h.stage; stands = record { above = Run t Direct ∷ []; place = x; is = ap whole z; part = h.leads }; sofar = h.sofar so; known = k; flag = h.flag })
 landed w u q s n st b Back f z j h so k a = inr (record { back = z; ends = λ e. left_so w u a n h.stage k h.leads (h.sofar so); paid = λ e d. paid_so w u n h.stage h.leads d (h.sofar so); refused = λ e. absurd (let c : is_undone h.stage ≡ false = not_undone w n h.stage h.leads in let d : is_undone h.stage ≡ true = h.flag ∙ e in cc) })
@@ -115,10 +117,13 @@ landed w u q s n st b (Discard t) f z j h so k a = absurd h.leads
 climbs : (n : Plan) (st : Stage) (s : Stack) (g : Move) (gs : List Place) (p : Place) → Part n st p → CallStands n st s (after_move g (gs ++ (p ∷ whole s)))
 climbs n st s (Stay y) gs p h = record { above = y ∷ gs; place = p; is = refl; part = h }
 climbs n st s (HandIn y token) gs p h = record { above = y ∷ gs; place = p; is = refl; part = h }
+climbs n st s (Mark y b9 m9) gs p h = record { above = y ∷ gs; place = p; is = refl; part = h }
 climbs n st s (Enter x y) gs p h = record { above = y ∷ (x ∷ gs); place = p; is = refl; part = h }
 climbs n st s (StartRun x t) gs p h = record { above = Run t Direct ∷ (x ∷ gs); place = p; is = refl; part = h }
 climbs n st s Back [] p h = record { above = []; place = p; is = refl; part = h }
 climbs n st s Back (b ∷ bs) p h = record { above = b ∷ bs; place = p; is = refl; part = h }
+climbs n st s (HandAllBack c) [] p h = record { above = []; place = p; is = refl; part = h }
+climbs n st s (HandAllBack c) (b ∷ bs) p h = record { above = b ∷ bs; place = p; is = refl; part = h }
 climbs n st s (HandBack m) [] p h = record { above = []; place = p; is = refl; part = h }
 climbs n st s (Discard m) [] p h = record { above = []; place = p; is = refl; part = h }
 climbs n st s (HandBack m) (b ∷ bs) p h = record { above = b ∷ bs; place = p; is = refl; part = h }

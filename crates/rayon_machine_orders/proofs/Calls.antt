@@ -12,14 +12,14 @@ use Rattle.rayon_machine_places.specs.declared.place.Plan.TheVariants.{Detach, H
 use Rattle.rayon_machine_places.specs.declared.place.Ending.TheVariants.{Fine, Fault}
 use Rattle.rayon_machine_places.specs.declared.place.Share.{Share}
 use Rattle.rayon_machine_places.specs.declared.place.Then.{Then}
-use Rattle.rayon_machine_places.specs.declared.place.Then.TheVariants.{BeginFound, LeaveWait, Resume, Await, RunFirst, Answers, Missing, Ran, GiveBack}
+use Rattle.rayon_machine_places.specs.declared.place.Then.TheVariants.{BeginFound, LeaveWait, Resume, Await, RunFirst, Answers, Missing, Ran, GiveBack, Called}
 use Rattle.rayon_machine_places.specs.declared.place.Place.{Place}
 use Rattle.rayon_machine_places.specs.declared.place.Place.TheVariants.{RaiseCount, LookQueue, PushJob, TakeResult, LowerCount, BeginTask}
 use Rattle.rayon_machine_places.specs.declared.act.Act.TheVariants.{LookOwn, LookInj, PushOwn, PushInj, Take, Lower}
 use Rattle.rayon_machine_places.specs.declared.event.Event.{Event}
 use Rattle.rayon_machine_places.specs.declared.event.Event.TheVariants.{Spawn, Fifo, Install, Join}
 use Rattle.rayon_machine_places.specs.declared.state.Whereabouts.{Whereabouts}
-use Rattle.rayon_machine_places.specs.declared.state.Whereabouts.TheVariants.{Nowhere, Made, InDeque, Injected, InFifo, Running, Over, HandedBack, Spent, Retaken}
+use Rattle.rayon_machine_places.specs.declared.state.Whereabouts.TheVariants.{Nowhere, Made, InDeque, Injected, InFifo, Running, Over, HandedBack, Spent, Retaken, InCast}
 use Rattle.rayon_machine_places.specs.declared.place.OpenCall.{OpenCall}
 use Rattle.rayon_machine_places.specs.Places.{is_member, plan_pool, plan_job, act_of, is_free}
 use Rattle.rayon_machine_places.specs.World.{Shape, Stack, World, is_token}
@@ -43,14 +43,14 @@ use Rattle.rayon_machine_orders.proofs.CallStretch.{Ground, Inside, Unrefused, R
 use Rattle.rayon_machine_places.specs.declared.place.Taken.TheVariants.{Plain, Token}
 use Rattle.rayon_machine_laws.proofs.Feeders.{always_feeders}
 
-run_more : (w v u : World) (es : List Event) (e : Event) → IsRun w es v → step v e ≡ Some u → IsRun w (es ++ (e ∷ [])) u
+pub run_more : (w v u : World) (es : List Event) (e : Event) → IsRun w es v → step v e ≡ Some u → IsRun w (es ++ (e ∷ [])) u
 run_more w v u [] e r one = (u, subst (λ x. step x e ≡ Some u) r one, refl)
 run_more w v u (a ∷ es) e (x, two, rest) one = (x, two, run_more x v u es e rest one)
 
-ground_of : (h : Shape) (es : List Event) (w : World) → IsRun (start h) es w → Ground w
+pub ground_of : (h : Shape) (es : List Event) (w : World) → IsRun (start h) es w → Ground w
 ground_of h es w r = record { calls = always_calls h es w r; filled = always_filled h es w r; returns = always_returns h es w r; feeders = always_feeders h es w r }
 
-or_assoc : (a b c : Bool) → ((a || b) || c) ≡ (a || (b || c))
+pub or_assoc : (a b c : Bool) → ((a || b) || c) ≡ (a || (b || c))
 or_assoc true b c = refl
 or_assoc false b c = refl
 
@@ -99,6 +99,7 @@ has_run u h t z = record { over = z; runs = by ((u.job t).at) refl z }
     by (InDeque p j) i d = cc
     by (Injected p) i d = cc
     by (InFifo p j) i d = cc
+    by (InCast p j) i d = cc
     by (Retaken q) i d = cc
     by HandedBack i d = cc
     by Spent i d = cc
@@ -415,6 +416,7 @@ then_answers u h q n r (GiveBack m) P g k s d y = absurd (let a : is_undone r �
 then_answers u h q n r (BeginFound x t) P g k s d y = absurd y
 then_answers u h q n r (LeaveWait x) P g k s d y = absurd y
 then_answers u h q n r Resume P g k s d y = absurd y
+then_answers u h q n r Called P g k s d y = absurd y
 then_answers u h q n r (Await o) P g k s d y = absurd y
 then_answers u h q n r (RunFirst o a) P g k s d y = absurd y
 then_answers u h q n r (Missing o f) P g k s d y = absurd y
@@ -446,7 +448,7 @@ is_returned : (u : World) (q : Party) (s : Stack) (n : Plan) (r : Bool) → Afte
 is_returned u q s n r (inl i) z = absurd (stands_apart n i.stage s (u.stack q) i.stands z)
 is_returned u q s n r (inr k) z = k
 
-run_on : (h : Shape) (before : List Event) (w : World) (q : Party) (s : Stack) (u : World) (es : List Event) → IsRun (start h) before w → IsRunUntil q s w es u → Ground u
+pub run_on : (h : Shape) (before : List Event) (w : World) (q : Party) (s : Stack) (u : World) (es : List Event) → IsRun (start h) before w → IsRunUntil q s w es u → Ground u
 run_on h before w q s u [] run same = subst Ground (sym same) (ground_of h before w run)
 run_on h before w q s u (e ∷ es) run (v, opened, one, rest) = run_on h (before ++ (e ∷ [])) v q s u es (run_more (start h) w v before e run one) rest
 

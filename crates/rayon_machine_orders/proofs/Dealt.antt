@@ -13,11 +13,11 @@ use Rattle.rayon_machine_places.specs.declared.place.Latch.TheVariants.{Terminat
 use Rattle.rayon_machine_places.specs.declared.place.Plan.{Plan}
 use Rattle.rayon_machine_places.specs.declared.place.Plan.TheVariants.{Detach, Here, Send, Fork, Feed}
 use Rattle.rayon_machine_places.specs.declared.place.Then.{Then}
-use Rattle.rayon_machine_places.specs.declared.place.Then.TheVariants.{BeginFound, LeaveWait, Resume, Await, RunFirst, Answers, Missing as Lacks, Ran, GiveBack}
+use Rattle.rayon_machine_places.specs.declared.place.Then.TheVariants.{BeginFound, LeaveWait, Resume, Await, RunFirst, Answers, Missing as Lacks, Ran, GiveBack, Called}
 use Rattle.rayon_machine_places.specs.declared.place.Place.{Place}
 use Rattle.rayon_machine_places.specs.declared.place.Place.TheVariants.{ProbeWorking, PopWorking, TakeCastWorking, PopIdle, TakeCastIdle, StealFrom, PopInjected, LeaveSearch, JoinPop, JoinTakeCast, YieldPop, YieldTakeCast, YieldSteal, YieldPopInjected, LocalPop, LocalTakeCast, PickVictim, YieldPick, BeginTask, BeginHere, RaiseCount, LookQueue, PushJob, TellNews, LockToWake, WakeWorker, UnlockWoken, LowerCount, SetLatch, LockToSettle, WakeSettled, UnlockSettled, AddToFifo, PushToken, TakeFromFifo}
 use Rattle.rayon_machine_places.specs.declared.place.Move.{Move}
-use Rattle.rayon_machine_places.specs.declared.place.Move.TheVariants.{Stay, Enter, StartRun, Back, HandBack, Discard, HandIn}
+use Rattle.rayon_machine_places.specs.declared.place.Move.TheVariants.{Stay, Enter, StartRun, Back, HandBack, Discard, HandIn, Mark, HandAllBack}
 use Rattle.rayon_machine_places.specs.declared.act.Act.TheVariants.{LookOwn, LookInj, PushOwn, PushInj, Set}
 use Rattle.rayon_machine_places.specs.declared.act.Seen.{Seen}
 use Rattle.rayon_machine_places.specs.declared.act.Seen.TheVariants.{Yes, Done, Task}
@@ -106,20 +106,24 @@ own_hands OldestFirst (u ∷ l) t e = let k : u ≡ t = cc in ap (λ z. z ∷ l)
 abbrev Lands : (Place → Type 0) → Move → Type 0
 Lands R (Stay y) = R y
 Lands R (HandIn y token) = R y
+Lands R (Mark y b9 m9) = R y
 Lands R (Enter f y) = R y
 Lands R (StartRun f t) = ⊥
 Lands R Back = ⊥
 Lands R (HandBack n) = ⊥
 Lands R (Discard n) = ⊥
+Lands R (HandAllBack b9) = ⊥
 
 lands_top : (R : Place → Type 0) (g : Move) (fs : List Place) → Lands R g → R ((after_move g fs).top)
 lands_top R (Stay y) fs l = l
 lands_top R (HandIn y token) fs l = l
+lands_top R (Mark y b9 m9) fs l = l
 lands_top R (Enter f y) fs l = l
 lands_top R (StartRun f t) fs l = absurd l
 lands_top R Back fs l = absurd l
 lands_top R (HandBack n) fs l = absurd l
 lands_top R (Discard n) fs l = absurd l
+lands_top R (HandAllBack b9) fs l = absurd l
 
 frame_empty : (f : Place) → is_frame f ≡ true → taken f ≡ None
 frame_empty (ProbeWorking k) e = refl
@@ -143,6 +147,7 @@ finish_free (Worker a b) (Await o) e = refl
 finish_free (Caller c) (Await o) e = refl
 finish_free q (RunFirst o a) e = refl
 finish_free q Resume e = tt
+finish_free q Called e = tt
 finish_free q (Answers o f d) e = tt
 finish_free q (Lacks o f) e = tt
 finish_free q (Ran t d) e = tt
@@ -154,6 +159,7 @@ finish_has q (LeaveWait g) t e = absurd (cc)
 finish_has q (Await o) t e = absurd (cc)
 finish_has q (RunFirst o a) t e = absurd (cc)
 finish_has q Resume t e = absurd (cc)
+finish_has q Called t e = absurd (cc)
 finish_has q (Answers o f d) t e = absurd (cc)
 finish_has q (Lacks o f) t e = absurd (cc)
 finish_has q (Ran u d) t e = absurd (cc)

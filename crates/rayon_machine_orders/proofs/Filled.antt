@@ -18,21 +18,21 @@ use Rattle.rayon_machine_places.specs.declared.place.Share.TheVariants.{PoolValu
 use Rattle.rayon_machine_places.specs.declared.place.Then.{Then}
 use Rattle.rayon_machine_places.specs.declared.place.Then.TheVariants.{LeaveWait, Resume, Missing}
 use Rattle.rayon_machine_places.specs.declared.place.Place.{Place}
-use Rattle.rayon_machine_places.specs.declared.place.Place.TheVariants.{ProbeWorking, PickVictim, StealFrom, PopInjected, LeaveSearch, JoinProbe, YieldPop, YieldPick, YieldSteal, YieldPopInjected, LocalPop, Run, RaiseCount, GrowCall, PushJob, LockToWake, WakeWorker, UnlockWoken, TakeResult, LowerCount, StoreResult, SetLatch, LockToSettle, WakeSettled, UnlockSettled, SetLockLatch, FirstSide, SecondSide, AtOnce, Free, Stopped, AddToFifo, PushToken, TakeFromFifo}
+use Rattle.rayon_machine_places.specs.declared.place.Place.TheVariants.{ProbeWorking, PickVictim, StealFrom, PopInjected, LeaveSearch, JoinProbe, YieldPop, YieldPick, YieldSteal, YieldPopInjected, LocalPop, Run, RaiseCount, GrowCall, PushJob, LockToWake, WakeWorker, UnlockWoken, TakeResult, LowerCount, StoreResult, SetLatch, LockToSettle, WakeSettled, UnlockSettled, SetLockLatch, FirstSide, SecondSide, AtOnce, Free, Stopped, AddToFifo, PushToken, TakeFromFifo, RaiseForAll, PushForAll, LowerForAll}
 use Rattle.rayon_machine_places.specs.declared.act.Seen.{Seen}
 use Rattle.rayon_machine_places.specs.declared.act.Seen.TheVariants.{Done, Found, Task}
 use Rattle.rayon_machine_places.specs.declared.event.Event.{Event}
-use Rattle.rayon_machine_places.specs.declared.event.Event.TheVariants.{Go, From, Refuse, Miss, End, Spawn, Fifo, Install, Join, Yield, YieldLocal, EndPool}
+use Rattle.rayon_machine_places.specs.declared.event.Event.TheVariants.{Go, From, Refuse, Miss, End, Spawn, Fifo, Install, Join, Yield, YieldLocal, EndPool, Cast}
 use Rattle.rayon_machine_places.specs.declared.state.Letter.TheVariants.{Unset, Set as IsSet}
 use Rattle.rayon_machine_places.specs.declared.state.Whereabouts.{Whereabouts}
-use Rattle.rayon_machine_places.specs.declared.state.Whereabouts.TheVariants.{Nowhere, Made, InDeque, Injected, InFifo, Running, Over, HandedBack, Spent, Retaken}
+use Rattle.rayon_machine_places.specs.declared.state.Whereabouts.TheVariants.{Nowhere, Made, InDeque, Injected, InFifo, Running, Over, HandedBack, Spent, Retaken, InCast}
 use Rattle.rayon_machine_places.specs.declared.shape.PoolShape.{PoolShape}
 use Rattle.rayon_machine_places.specs.declared.place.OpenCall.{OpenCall}
 use Rattle.rayon_machine_places.specs.declared.place.Wait.{Wait}
 use Rattle.rayon_machine_places.specs.declared.state.Call.{Call}
 use Rattle.rayon_machine_places.specs.Places.{same_party, own_pool, own_index, is_member, fresh, plan_call, undo, next_victim, not_self, act_of, next_steal, next_yield, next_of, goes_on, is_free, taken_number}
 use Rattle.rayon_machine_places.specs.World.{Shape, Stack, World, Counts, counts_at, Part, target_pool, target_worker, target_call, Outcome, effect}
-use Rattle.rayon_machine_places.specs.Steps.{put, put_stack, after_move, with_stack, after_choice, after_refusal, can_miss, after_miss, after_close, after_end, after_call, is_pool, new_call, after_spawn, after_send, after_install, after_join, after_yield, after_end_pool, step, after_fifo}
+use Rattle.rayon_machine_places.specs.Steps.{put, put_stack, after_move, with_stack, after_choice, after_refusal, can_miss, after_miss, after_close, after_end, after_call, is_pool, new_call, after_spawn, after_send, after_install, after_join, after_yield, after_end_pool, step, after_fifo, after_cast}
 use Rattle.rayon_machine_places.specs.Runs.{first_place, start, IsRun}
 use Rattle.rayon_machine_laws.specs.End.{follows}
 use Rattle.rayon_machine_places.specs.Readers.{is_done}
@@ -103,6 +103,7 @@ hand_undone (Made q) n l e z = cc
 hand_undone (InDeque p i) n l e z = cc
 hand_undone (Injected p) n l e z = cc
 hand_undone (InFifo p i) n l e z = cc
+hand_undone (InCast p i) n l e z = cc
 hand_undone (Running q) n l e z = cc
 hand_undone HandedBack n l e z = cc
 hand_undone Spent n l e z = cc
@@ -119,6 +120,8 @@ gained_hand t (RaiseCount (Send o)) Done = omega arith
 gained_hand t (RaiseCount (Fork o a)) Done = omega arith
 gained_hand t (RaiseCount (Feed f)) Done = omega arith
 gained_hand t (RaiseCount n) _ = omega arith
+gained_hand t (RaiseForAll c) Done = omega arith
+gained_hand t (RaiseForAll c) _ = omega arith
 gained_hand t _ e = omega arith
 
 -- while a call is made, its latch is not set and nobody is about to set it
@@ -235,6 +238,7 @@ regained_none w q (TakeFromFifo f) (Task y, m) g t e = by (t == taken_number y) 
     idle (InDeque p i) z = cc
     idle (Injected p) z = cc
     idle (InFifo p i) z = cc
+    idle (InCast p i) z = cc
     idle (Running q) z = cc
     idle (Retaken q) z = cc
     idle HandedBack z = cc
@@ -468,6 +472,7 @@ refuse_beside : (w : World) (q : Party) (x : Place) (fs : List Place) → w.stac
 refuse_beside w q (GrowCall n) fs z = turn_beside w q (GrowCall n) (undo n) fs z (refl, refl, refl, refl) (λ t. (refl, omega arith))
 refuse_beside w q (AddToFifo f) fs z = turn_beside w q (AddToFifo f) (undo (Feed f)) fs z (refl, refl, refl, refl) (λ t. (refl, omega arith))
 refuse_beside w q (PushToken f v) fs z = turn_beside w q (PushToken f v) (TakeFromFifo f) fs z (refl, refl, refl, refl) (λ t. (refl, omega arith))
+refuse_beside w q (PushForAll c) fs z = turn_beside w q (PushForAll c) (LowerForAll c) fs z (refl, refl, refl, refl) (λ t. (refl, omega arith))
 refuse_beside w q (PushJob n v) fs z = turn_beside w q (PushJob n v) (undo n) fs z (refl, refl, refl, refl) (λ t. (refl, omega arith))
 refuse_beside w q _ fs z = tt
 
@@ -533,6 +538,7 @@ end_beside w q d _ fs z a = tt
 -- a call begins above a free place
 free_unpaid : (x : Place) (t : ℕ) → is_free x ≡ true → paid t x ≡ 0
 free_unpaid (LowerCount p s n) t e = cc
+free_unpaid (LowerForAll c) t e = cc
 free_unpaid _ t e = refl
 
 begin_beside : (w u : World) (q : Party) (y : Place) → is_free (w.stack q).top ≡ true → ((r : Party) → u.stack r ≡ put_stack w.stack q (after_call (w.stack q) y) r) → ((c : ℕ) → IsOldCall w u c) → IsPlain y → ((t : ℕ) → share t y ≡ 0) → Beside w u
@@ -548,6 +554,9 @@ begin_beside w u q y f s c p n = record {
 
 spawn_beside : (w : World) (q : Party) (p : ℕ) → IfSome (after_spawn w q p (w.stack q)) (Beside w)
 spawn_beside w q p = if_cond (Beside w) (is_free ((w.stack q).top) && is_pool w.shape p) _ (λ b. begin_beside w _ q (RaiseCount (Detach p w.jobs)) ((and_parts (is_free ((w.stack q).top)) (is_pool w.shape p) b).0) (λ r. refl) (λ c. inl refl) (refl, refl, refl, refl) (λ t. refl))
+
+cast_beside : (w : World) (q : Party) (p : ℕ) → IfSome (after_cast w q p (w.stack q)) (Beside w)
+cast_beside w q p = if_cond (Beside w) (is_free ((w.stack q).top) && is_pool w.shape p) _ (λ b. begin_beside w _ q (RaiseForAll (record { pool = p; first = w.jobs; workers = (w.shape.pool p).workers })) ((and_parts (is_free ((w.stack q).top)) (is_pool w.shape p) b).0) (λ r. refl) (λ c. inl refl) (refl, refl, refl, refl) (λ t. refl))
 
 fifo_beside : (w : World) (q : Party) (p : ℕ) → IfSome (after_fifo w q p (w.stack q)) (Beside w)
 fifo_beside w q p = fifo_cases (Beside w) w q p (spawn_beside w q p) (λ i f. begin_beside w _ (Worker p i) (RaiseCount (Feed (record { pool = p; job = w.jobs; token = w.jobs + 1 }))) f (λ r. refl) (λ c. inl refl) (refl, refl, refl, refl) (λ t. refl))
@@ -592,6 +601,7 @@ step_fills w (Miss q) h = step_beside w (Miss q) h (miss_beside w q ((w.stack q)
 step_fills w (End q d) h = step_beside w (End q d) h (end_beside w q d ((w.stack q).top) ((w.stack q).below) refl (h.frames q))
 step_fills w (Spawn q p) h = step_beside w (Spawn q p) h (spawn_beside w q p)
 step_fills w (Fifo q p) h = step_beside w (Fifo q p) h (fifo_beside w q p)
+step_fills w (Cast q p) h = step_beside w (Cast q p) h (cast_beside w q p)
 step_fills w (Install q p) h = step_beside w (Install q p) h (install_beside w q p)
 step_fills w (Join q) h = step_beside w (Join q) h (join_beside w q)
 step_fills w (Yield q) h = step_beside w (Yield q) h (yield_beside w q YieldPop (refl, refl, refl, refl) (λ t. refl))

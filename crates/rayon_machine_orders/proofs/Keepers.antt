@@ -1,22 +1,25 @@
 -- each share that is in the count has a keeper: what a party or the share's owner keeps, no act loses
+use Rattle.rayon_machine_places.specs.declared.place.Mark.{Mark as Marking}
+use Rattle.rayon_machine_places.specs.declared.place.Mark.TheVariants.{Counted, Queued, Returned}
+use Rattle.rayon_machine_places.specs.declared.place.Pieces.{Pieces}
 use Rattle.std.proofs.Common.{arith, refl, sym, ◌∙◌, ap, subst, inl, inr}
-use Rattle.std.specs.Prelude.{ℕ, zero, suc, Bool, true, false, ◌&&◌, ◌+◌, ◌==◌, ◌≤◌, if◌then◌else◌, Option, Some, None, List, [], ◌∷◌, ◌≡◌, IfSome, ⊤}
+use Rattle.std.specs.Prelude.{ℕ, zero, suc, Bool, true, false, ◌&&◌, ◌+◌, ◌==◌, ◌≤◌, if◌then◌else◌, Option, Some, None, List, [], ◌∷◌, ◌≡◌, IfSome, ⊤, ◌-◌}
 use Rattle.std.proofs.lemmas.Bool.{eqb-true}
 use Rattle.rayon_machine_places.specs.declared.place.Party.{Party}
 use Rattle.rayon_machine_places.specs.declared.place.Party.TheVariants.{Worker, Caller}
 use Rattle.rayon_machine_places.specs.declared.place.Plan.{Plan}
 use Rattle.rayon_machine_places.specs.declared.place.Plan.TheVariants.{Detach, Here, Send, Fork, Feed}
 use Rattle.rayon_machine_places.specs.declared.place.Place.{Place}
-use Rattle.rayon_machine_places.specs.declared.place.Place.TheVariants.{PopWorking, TakeCastWorking, PopIdle, TakeCastIdle, StealFrom, PopInjected, JoinPop, JoinTakeCast, YieldPop, YieldTakeCast, YieldSteal, YieldPopInjected, LocalPop, LocalTakeCast, BeginTask, BeginHere, PushJob, TakeFromFifo, AddToFifo, PushToken}
+use Rattle.rayon_machine_places.specs.declared.place.Place.TheVariants.{PopWorking, TakeCastWorking, PopIdle, TakeCastIdle, StealFrom, PopInjected, JoinPop, JoinTakeCast, YieldPop, YieldTakeCast, YieldSteal, YieldPopInjected, LocalPop, LocalTakeCast, BeginTask, BeginHere, PushJob, TakeFromFifo, AddToFifo, PushToken, PushForAll}
 use Rattle.rayon_machine_places.specs.declared.place.Move.{Move}
-use Rattle.rayon_machine_places.specs.declared.place.Move.TheVariants.{Stay, Enter, StartRun, Back, HandBack, Discard, HandIn}
+use Rattle.rayon_machine_places.specs.declared.place.Move.TheVariants.{Stay, Enter, StartRun, Back, HandBack, Discard, HandIn, Mark, HandAllBack}
 use Rattle.rayon_machine_places.specs.declared.act.Act.TheVariants.{PushInj, PushOwn}
 use Rattle.rayon_machine_places.specs.declared.act.Seen.{Seen}
 use Rattle.rayon_machine_places.specs.declared.state.Whereabouts.TheVariants.{HandedBack, Spent}
 use Rattle.rayon_machine_places.specs.declared.state.Job.{Job}
 use Rattle.rayon_machine_places.specs.Places.{same_party, is_member, plan_pool, plan_job, act_of, next_of}
 use Rattle.rayon_machine_places.specs.World.{Shape, Stack, World, Counts, Part, target_pool, at_job, begun, popped, take_cast, pop_injector, effect, is_open}
-use Rattle.rayon_machine_places.specs.Steps.{put, put_stack, jobs_after}
+use Rattle.rayon_machine_places.specs.Steps.{put, put_stack, jobs_after, mark_pieces, marked, is_piece}
 use Rattle.rayon_machine_laws.specs.Once.{one}
 use Rattle.rayon_machine_laws.specs.Counted.{is_detached, all_values}
 use Rattle.rayon_machine_laws.specs.Shares.{shares, is_busy}
@@ -160,6 +163,7 @@ act_busies h (Worker a b) c m (PushToken f v) z = one_most (is_busy m.job.at)
 act_busies h (Caller n) c m (PushToken f v) z = tt
 act_busies h q c m (TakeFromFifo f) z = cc
 act_busies h q c m (BeginHere t) z = one_most (is_busy m.job.at)
+act_busies h q c m (PushForAll b) z = omega arith
 act_busies h q c m (PushJob n v) z = if_some_map (λ r. is_busy r.1.job.at ≡ true) (StaysBusy m) (λ r e. (let a : one (is_busy m.job.at) ≤ 1 = one_most (is_busy m.job.at) in let b : one (is_busy r.1.job.at) ≡ 1 = ap one e in omega (arith, a, b))) (effect (act_of q (PushJob n v)) h q c m) (act_pushes h q c m n v)
 act_busies h q c m x z = if_some_map (SameJobs m) (StaysBusy m) (λ r s. (let a : one (is_busy r.1.job.at) ≡ one (is_busy m.job.at) = ap (λ v. one (is_busy v)) (s.at) in omega (arith, a))) (effect (act_of q x) h q c m) (quiet_same h q c m x refl)
 
@@ -201,11 +205,25 @@ spends_other w t (HandIn y k) s e = other w t k s e
 spends_other w t (Discard k) s e = other w t k s e
 spends_other w t _ s e = tt
 
+marked_stays : (c : Pieces) (k : Marking) (J : ℕ → Job) (t : ℕ) → backs (mark_pieces c k J t).at ≤ 0 → one (is_busy (J t).at) ≤ one (is_busy (mark_pieces c k J t).at)
+marked_stays c k J t = by (is_piece c t)
+  where
+    each : (k : Marking) → backs (marked k c.pool (t - c.first) (J t)).at ≤ 0 → one (is_busy (J t).at) ≤ one (is_busy (marked k c.pool (t - c.first) (J t)).at)
+    each Counted h = omega arith
+    each Queued h = one_most (is_busy (J t).at)
+    each Returned h = absurd (omega (arith, h))
+
+    by : (z : Bool) → backs (if z then marked k c.pool (t - c.first) (J t) else J t).at ≤ 0 → one (is_busy (J t).at) ≤ one (is_busy (if z then marked k c.pool (t - c.first) (J t) else J t).at)
+    by true h = each k h
+    by false h = omega arith
+
 pub moved_stays : (q : Party) (g : Move) (J : ℕ → Job) (t : ℕ) → SpendsOther t g → backs (jobs_after q g J t).at ≤ 0 → one (is_busy (J t).at) ≤ one (is_busy (jobs_after q g J t).at)
 moved_stays q (Stay y) J t n h = omega arith
 moved_stays q (HandIn y k) J t n h = spent_stays J k t n
 moved_stays q (Discard k) J t n h = spent_stays J k t n
 moved_stays q (Enter f y) J t n h = omega arith
+moved_stays q (Mark y c k) J t n h = marked_stays c k J t h
+moved_stays q (HandAllBack c) J t n h = marked_stays c Returned J t h
 moved_stays q Back J t n h = omega arith
 moved_stays q (StartRun f n) J t e h = by (t == n)
   where

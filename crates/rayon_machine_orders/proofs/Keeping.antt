@@ -1,5 +1,7 @@
 -- each step leaves each share that is in the count with a keeper; so a pool's terminate count is the number of its
 -- shares, and each is kept once
+use Rattle.rayon_machine_places.specs.declared.place.Mark.TheVariants.{Counted, Queued, Returned}
+use Rattle.rayon_machine_places.specs.declared.place.Pieces.{Pieces}
 use Rattle.std.proofs.Common.{arith, refl, sym, ◌∙◌, ap, inl, inr}
 use Rattle.std.specs.Prelude.{ℕ, zero, suc, Bool, true, false, ◌&&◌, ◌+◌, ◌-◌, ◌==◌, ◌≤◌, ◌<◌, nat_lt, if◌then◌else◌, Some, None, List, ◌≡◌, IfSome}
 use Rattle.std.proofs.lemmas.Bool.{eqb-true, ltb-true, ltb-false}
@@ -15,24 +17,24 @@ use Rattle.rayon_machine_places.specs.declared.place.Share.TheVariants.{PoolValu
 use Rattle.rayon_machine_places.specs.declared.place.Then.{Then}
 use Rattle.rayon_machine_places.specs.declared.place.Then.TheVariants.{Resume}
 use Rattle.rayon_machine_places.specs.declared.place.Place.{Place}
-use Rattle.rayon_machine_places.specs.declared.place.Place.TheVariants.{PickVictim, StealFrom, YieldPop, YieldPick, YieldSteal, LocalPop, Run, RaiseCount, GrowCall, PushJob, LowerCount, AddToFifo, PushToken, TakeFromFifo}
+use Rattle.rayon_machine_places.specs.declared.place.Place.TheVariants.{PickVictim, StealFrom, YieldPop, YieldPick, YieldSteal, LocalPop, Run, RaiseCount, GrowCall, PushJob, LowerCount, AddToFifo, PushToken, TakeFromFifo, RaiseForAll, PushForAll, LowerForAll}
 use Rattle.rayon_machine_places.specs.declared.act.Act.TheVariants.{PushInj, PushOwn}
 use Rattle.rayon_machine_places.specs.declared.act.Seen.{Seen}
 use Rattle.rayon_machine_places.specs.declared.act.Seen.TheVariants.{Done, Refused, Yes, No, Missing, Start, Task}
 use Rattle.rayon_machine_places.specs.declared.event.Event.{Event}
-use Rattle.rayon_machine_places.specs.declared.event.Event.TheVariants.{Go, From, Refuse, Miss, End, Spawn, Fifo, Install, Join, Yield, YieldLocal, EndPool}
+use Rattle.rayon_machine_places.specs.declared.event.Event.TheVariants.{Go, From, Refuse, Miss, End, Spawn, Fifo, Install, Join, Yield, YieldLocal, EndPool, Cast}
 use Rattle.rayon_machine_places.specs.declared.state.Whereabouts.TheVariants.{Over}
 use Rattle.rayon_machine_places.specs.declared.shape.PoolShape.{PoolShape}
 use Rattle.rayon_machine_places.specs.declared.state.Job.{Job}
 use Rattle.rayon_machine_places.specs.declared.state.Call.{Call}
 use Rattle.rayon_machine_places.specs.Places.{same_party, own_pool, is_member, plan_pool, plan_job, act_of, next_of, is_free, taken_number}
 use Rattle.rayon_machine_places.specs.World.{Shape, World, count_below, counts_at, Part, target_pool, target_worker, target_call, at_job, is_open}
-use Rattle.rayon_machine_places.specs.Steps.{put, put_stack, after_move, after_choice, after_refusal, can_miss, after_miss, after_close, after_end, after_call, is_pool, new_job, new_call, after_spawn, after_send, after_install, after_join, after_yield, after_end_pool, step, after_fifo}
+use Rattle.rayon_machine_places.specs.Steps.{put, put_stack, after_move, after_choice, after_refusal, can_miss, after_miss, after_close, after_end, after_call, is_pool, new_job, new_call, after_spawn, after_send, after_install, after_join, after_yield, after_end_pool, step, after_fifo, after_cast, put_pieces, new_piece, is_piece, mark_pieces, marked}
 use Rattle.rayon_machine_places.specs.Runs.{start, IsRun}
 use Rattle.rayon_machine_laws.specs.Once.{one}
 use Rattle.rayon_machine_laws.specs.Counted.{is_detached, keeps_own, has_share, values, values_in, all_values, KeptOnce, IsCounted}
 use Rattle.rayon_machine_laws.specs.Shares.{share, shares_in, shares, is_busy}
-use Rattle.rayon_machine_laws.proofs.Frame.{either, same_party_true, if_some_and, if_some_map, if_cond, acted_keeps, put_same, put_old, stack_mine, after_counted, fifo_cases}
+use Rattle.rayon_machine_laws.proofs.Frame.{either, same_party_true, if_some_and, if_some_map, if_cond, acted_keeps, put_same, put_old, stack_mine, after_counted, fifo_cases, is_sharing, piece_new}
 use Rattle.rayon_machine_laws.proofs.Ties.{job_at, outcome}
 use Rattle.rayon_machine_laws.proofs.Events.{run_keeps}
 use Rattle.rayon_machine_laws.proofs.Claims.{SaysQueue, SaysRun, MadeAs}
@@ -44,12 +46,12 @@ use Rattle.rayon_machine_laws.proofs.Amounts.{all_raises, raises_in, gained, pus
 use Rattle.rayon_machine_laws.proofs.Tokens.{Tokens, sum_below}
 use Rattle.rayon_machine_laws.proofs.ShareActs.{with_job, tally, SharesHold, one_most, one_is, one_not, is_tally, Untallied, same_untallied, act_untallied, Regains, act_regains}
 use Rattle.rayon_machine_laws.proofs.ShareRuns.{shares_mine, values_mine, StartsAwaited}
-use Rattle.rayon_machine_laws.proofs.ShareSteps.{Ready, stack_after, counted_now, raised_world}
-use Rattle.rayon_machine_laws.proofs.ShareLowers.{lowered_world}
+use Rattle.rayon_machine_laws.proofs.ShareSteps.{Ready, stack_after, counted_now, raised_world, no_steady, raise_steady, lower_steady, all_raised}
+use Rattle.rayon_machine_laws.proofs.ShareLowers.{lowered_world, all_lowered, returned_jobs}
 use Rattle.rayon_machine_laws.proofs.ShareEvents.{ready, ungained}
 use Rattle.rayon_machine_laws.proofs.ShareEnds.{freed, closed_shares}
 use Rattle.rayon_machine_laws.proofs.Bares.{all_bare, backs}
-use Rattle.rayon_machine_laws.proofs.Returns.{ReturnsHold, unpaid, step_returns, first_returns}
+use Rattle.rayon_machine_laws.proofs.Returns.{ReturnsHold, unpaid, step_returns, first_returns, returned_none}
 use Rattle.rayon_machine_orders.proofs.Keepers.{HasKeeper, KeepersHold, keepers_by, StaysBusy, act_pushes, act_busies, moved_stays, busy_kept, is_retake, StaysUntaken, spends_other, retake_busies}
 use Rattle.rayon_machine_places.specs.declared.place.Feeding.{Feeding}
 use Rattle.rayon_machine_laws.proofs.PlacedRuns.{once}
@@ -154,11 +156,13 @@ abbrev is_push : Place → Bool
 is_push (PushJob n v) = true
 is_push (AddToFifo f) = true
 is_push (TakeFromFifo f) = true
+is_push (PushForAll c) = true
 is_push _ = false
 
 unpushed : (t : ℕ) (x : Place) (e : Seen) → is_push x ≡ false → pushed t x e ≡ 0
 unpushed t (PushJob n v) e z = cc
 unpushed t (AddToFifo f) e z = cc
+unpushed t (PushForAll c) e z = cc
 unpushed t _ e z = refl
 
 push_retakes : (x : Place) → is_push x ≡ false → is_retake x ≡ false
@@ -169,6 +173,28 @@ plain_busy : (w : World) (q : Party) (x : Place) (fs : List Place) → is_push x
 plain_busy w q x fs y d = if_some_map (λ r. Ready w q x fs r × StaysBusy (place_part w q x) r) (BusyAfter w q x fs)
     (λ r f t b. (let a : with_job (w.job t) ≤ with_job ((world_after w q x fs r).job t) = busy_kept w q x fs r ((f.0).last) ((f.0).starts) (f.1) t b in let c : pushed t x (r.0) ≡ 0 = unpushed t x (r.0) y in omega (arith, a, c)))
     (outcome w q (record { top = x; below = fs })) (if_some_and (Ready w q x fs) (StaysBusy (place_part w q x)) (outcome w q (record { top = x; below = fs })) d (act_busies w.shape q (counts_at w (target_pool q (act_of q x))) (place_part w q x) x (push_retakes x y)))
+
+-- the pieces of a broadcast keep their shares from their push on
+cast_busy : (w : World) (q : Party) (c : Pieces) (fs : List Place) (r : Seen × Part) → SharesHold w → w.stack q ≡ record { top = PushForAll c; below = fs } → Ready w q (PushForAll c) fs r → StaysBusy (place_part w q (PushForAll c)) r → BusyAfter w q (PushForAll c) fs r
+cast_busy w q c fs (Done, m) h z d st t b = by (is_piece c t) refl
+  where
+    n0 : ℕ
+    n0 = job_at w q (act_of q (PushForAll c))
+
+    v : World
+    v = world_after w q (PushForAll c) fs (Done, m)
+
+    still : with_job (w.job t) ≤ with_job (v.job t)
+    still = busy_kept w q (PushForAll c) fs (Done, m) (d.last) (d.starts) st t b
+
+    by : (y : Bool) → is_piece c t ≡ y → with_job (w.job t) + one (is_piece c t) ≤ with_job (v.job t) + 0
+    by false y = let a : with_job (w.job t) ≤ with_job (v.job t) = still in let e : one (is_piece c t) ≡ 0 = ap one y in omega (arith, a, e)
+    by true y = let a : shares t (w.stack q) + with_job (w.job t) ≤ one (w.job t).counted = (h.jobs t).alone q in
+        let e : one (w.job t).counted ≤ 1 = one_most ((w.job t).counted) in
+        let g : shares t (w.stack q) ≡ (one (is_piece c t) + shares_in t fs) = ap (shares t) z in
+        let i : one (is_piece c t) ≡ 1 = ap one y in
+        let k : with_job (v.job t) ≡ 1 = ap (λ k. one (is_detached k && is_busy (v.job t).at)) ((d.last).kinds t ∙ ((top_says w q (PushForAll c) fs (h.calls) z) t y).kind) ∙ ap (λ j. one (is_busy (j.at))) (piece_new c (marked Queued c.pool) (put w.job n0 (m.job)) t y) in omega (arith, a, e, g, i, k)
+cast_busy w q c fs (e, m) h z d st t b = let a : with_job (w.job t) ≤ with_job ((world_after w q (PushForAll c) fs (e, m)).job t) = busy_kept w q (PushForAll c) fs (e, m) (d.last) (d.starts) st t b in omega (arith, a)
 
 pub all_busy : (w : World) (q : Party) (x : Place) (fs : List Place) → w.stack q ≡ record { top = x; below = fs } → SharesHold w → IfSome (outcome w q (record { top = x; below = fs })) (Ready w q x fs) → IfSome (outcome w q (record { top = x; below = fs })) (BusyAfter w q x fs)
 all_busy w q (PushJob n v) fs z h d = if_some_map (λ r. Ready w q (PushJob n v) fs r × (StaysBusy (place_part w q (PushJob n v)) r × (is_busy r.1.job.at ≡ true))) (BusyAfter w q (PushJob n v) fs)
@@ -188,6 +214,8 @@ all_busy w (Worker a b) (TakeFromFifo f) fs z h d = if_some_map (λ r. Ready w (
     (if_some_and (Ready w (Worker a b) (TakeFromFifo f) fs) (λ r. Regains w (Worker a b) (TakeFromFifo f) r × StaysUntaken (place_part w (Worker a b) (TakeFromFifo f)) r) (outcome w (Worker a b) (record { top = TakeFromFifo f; below = fs })) d
     (if_some_and (Regains w (Worker a b) (TakeFromFifo f)) (StaysUntaken (place_part w (Worker a b) (TakeFromFifo f))) (outcome w (Worker a b) (record { top = TakeFromFifo f; below = fs })) (act_regains w (Worker a b) (TakeFromFifo f) (h.calls) (once w ((h.calls).jobs))) (retake_busies w.shape a b (counts_at w a) (place_part w (Worker a b) (TakeFromFifo f)) f)))
 all_busy w (Caller c) (TakeFromFifo f) fs z h d = tt
+all_busy w q (PushForAll c) fs z h d = if_some_map (λ r. Ready w q (PushForAll c) fs r × StaysBusy (place_part w q (PushForAll c)) r) (BusyAfter w q (PushForAll c) fs) (λ r f. cast_busy w q c fs r h z (f.0) (f.1)) (outcome w q (record { top = PushForAll c; below = fs }))
+    (if_some_and (Ready w q (PushForAll c) fs) (StaysBusy (place_part w q (PushForAll c))) (outcome w q (record { top = PushForAll c; below = fs })) d (act_busies w.shape q (counts_at w (target_pool q (act_of q (PushForAll c)))) (place_part w q (PushForAll c)) (PushForAll c) refl))
 all_busy w q x fs z h d = plain_busy w q x fs refl d
 
 -- an act, by what it says of the shares that are in the count after it
@@ -210,13 +238,13 @@ act_keepers w q x fs r d bu fj fp h s = keepers_by w (world_after w q x fs r) q 
     )) h s
 
 -- an act that neither takes a share nor gives one back
-plain_keepers : (w : World) (q : Party) (x : Place) (fs : List Place) (r : Seen × Part) → Ready w q x fs r → BusyAfter w q x fs r → Untallied (place_part w q x) r → ((t : ℕ) → (paid t x ≡ 0) × (gained t x (r.0) ≡ 0)) → ((p : ℕ) → values p x ≡ 0) → KeepersHold w → ReturnsHold (world_after w q x fs r) → KeepersHold (world_after w q x fs r)
-plain_keepers w q x fs r d bu un none still h s = act_keepers w q x fs r d bu
+plain_keepers : (w : World) (q : Party) (x : Place) (fs : List Place) (r : Seen × Part) → Ready w q x fs r → BusyAfter w q x fs r → Untallied (place_part w q x) r → is_sharing (next_of (w.shape.pool (target_pool q (act_of q x))) q x (r.0)) ≡ false → ((t : ℕ) → (paid t x ≡ 0) × (gained t x (r.0) ≡ 0)) → ((p : ℕ) → values p x ≡ 0) → KeepersHold w → ReturnsHold (world_after w q x fs r) → KeepersHold (world_after w q x fs r)
+plain_keepers w q x fs r d bu un st none still h s = act_keepers w q x fs r d bu
     (λ t c. ((none t).0, (let a : one (w.job t).counted ≡ 1 = ap one (sym (counted t) ∙ c) in let b : gained t x (r.0) ≡ 0 = (none t).1 in omega (arith, a, b))))
     (λ p c. (sym (put_same (λ v. v.counted) w.pool (target_pool q (act_of q x)) (r.1.pool) p (un.pool)) ∙ c, still p)) h s
   where
     counted : (t : ℕ) → ((world_after w q x fs r).job t).counted ≡ (w.job t).counted
-    counted t = counted_now w q x fs r t ∙ put_same (λ j. j.counted) w.job (job_at w q (act_of q x)) (r.1.job) t (un.job)
+    counted t = counted_now w q x fs r st t ∙ put_same (λ j. j.counted) w.job (job_at w q (act_of q x)) (r.1.job) t (un.job)
 
 -- who has a share after one is taken, and after one is given back
 raise_jobs : (w : World) (q : Party) (n : Plan) (fs : List Place) → SharesHold w → w.stack q ≡ record { top = RaiseCount n; below = fs } → (t : ℕ) → ((raised_world w q n fs).job t).counted ≡ true → (one (w.job t).counted + one (t == plan_job n)) ≡ 1
@@ -224,7 +252,7 @@ raise_jobs w q n fs h z t c = by (t == plan_job n) refl
   where
     by : (b : Bool) → (t == plan_job n) ≡ b → (one (w.job t).counted + one b) ≡ 1
     by true e = let a : all_raises t (w.stack q) + one (w.job t).counted ≤ 1 = h.unraised q t in let b : all_raises t (w.stack q) ≡ (one (t == plan_job n) + raises_in t fs) = ap (all_raises t) z in let d : one (t == plan_job n) ≡ 1 = ap one e in omega (arith, a, b, d)
-    by false e = let a : one (w.job t).counted ≡ 1 = ap one (sym (after_counted q (next_of (w.shape.pool (plan_pool n)) q (RaiseCount n) Done) (put w.job (plan_job n) (record (w.job (plan_job n)) { counted = true })) t ∙ ap (λ j. j.counted) (put_old w.job (plan_job n) (record (w.job (plan_job n)) { counted = true }) t e)) ∙ c) in omega (arith, a)
+    by false e = let a : one (w.job t).counted ≡ 1 = ap one (sym (after_counted q (next_of (w.shape.pool (plan_pool n)) q (RaiseCount n) Done) (put w.job (plan_job n) (record (w.job (plan_job n)) { counted = true })) t (raise_steady n) ∙ ap (λ j. j.counted) (put_old w.job (plan_job n) (record (w.job (plan_job n)) { counted = true }) t e)) ∙ c) in omega (arith, a)
 
 raise_pools : (w : World) (q : Party) (n : Plan) (fs : List Place) (p : ℕ) → ((raised_world w q n fs).pool p).counted ≡ true → (w.pool p).counted ≡ true
 raise_pools w q n fs p c = sym (put_same (λ v. v.counted) w.pool (plan_pool n) (record (w.pool (plan_pool n)) { count = (w.pool (plan_pool n)).count + 1 }) p refl) ∙ c
@@ -233,7 +261,7 @@ lower_jobs : (w : World) (q : Party) (p u : ℕ) (n : Then) (fs : List Place) (e
 lower_jobs w q p u n fs e t c = by (t == u) refl
   where
     counted : ((lowered_world w q p (OfJob u) n fs e).job t).counted ≡ (put w.job u (record (w.job u) { counted = false }) t).counted
-    counted = after_counted q (next_of (w.shape.pool p) q (LowerCount p (OfJob u) n) e) (put w.job u (record (w.job u) { counted = false })) t
+    counted = after_counted q (next_of (w.shape.pool p) q (LowerCount p (OfJob u) n) e) (put w.job u (record (w.job u) { counted = false })) t (lower_steady (w.shape.pool p) q p (OfJob u) n e)
 
     by : (b : Bool) → (t == u) ≡ b → (one b ≡ 0) × ((one (w.job t).counted + 0) ≡ 1)
     by true y = absurd (let a : (put w.job u (record (w.job u) { counted = false }) t).counted ≡ false = ap (λ b. (if b then record (w.job u) { counted = false } else w.job t).counted) y in let b : (put w.job u (record (w.job u) { counted = false }) t).counted ≡ true = sym counted ∙ c in let d : false ≡ true = sym a ∙ b in cc)
@@ -243,7 +271,7 @@ lower_pools : (w : World) (q : Party) (p u : ℕ) (n : Then) (fs : List Place) (
 lower_pools w q p u n fs e r c = sym (put_same (λ v. v.counted) w.pool p (record (w.pool p) { count = (w.pool p).count - 1 }) r refl) ∙ c
 
 value_jobs : (w : World) (q : Party) (p : ℕ) (n : Then) (fs : List Place) (e : Seen) (t : ℕ) → ((lowered_world w q p PoolValue n fs e).job t).counted ≡ true → (one (w.job t).counted + 0) ≡ 1
-value_jobs w q p n fs e t c = let a : one (w.job t).counted ≡ 1 = ap one (sym (after_counted q (next_of (w.shape.pool p) q (LowerCount p PoolValue n) e) (put w.job 0 (w.job 0)) t ∙ put_same (λ j. j.counted) w.job 0 (w.job 0) t refl) ∙ c) in omega (arith, a)
+value_jobs w q p n fs e t c = let a : one (w.job t).counted ≡ 1 = ap one (sym (after_counted q (next_of (w.shape.pool p) q (LowerCount p PoolValue n) e) (put w.job 0 (w.job 0)) t (lower_steady (w.shape.pool p) q p PoolValue n e) ∙ put_same (λ j. j.counted) w.job 0 (w.job 0) t refl) ∙ c) in omega (arith, a)
 
 value_pools : (w : World) (q : Party) (p : ℕ) (n : Then) (fs : List Place) (e : Seen) (r : ℕ) → ((lowered_world w q p PoolValue n fs e).pool r).counted ≡ true → ((w.pool r).counted ≡ true) × (one (r == p) ≡ 0)
 value_pools w q p n fs e r c = by (r == p) refl c
@@ -254,7 +282,7 @@ value_pools w q p n fs e r c = by (r == p) refl c
 
 -- each act
 raise_by : (w : World) (q : Party) (n : Plan) (fs : List Place) → KeepersHold w → (done : Seen × Part) → (Ready w q (RaiseCount n) fs done × BusyAfter w q (RaiseCount n) fs done → ReturnsHold (world_after w q (RaiseCount n) fs done) → KeepersHold (world_after w q (RaiseCount n) fs done)) → (b : Bool) → IfSome (if b then Some (Refused, place_part w q (RaiseCount n)) else Some done) (λ r. Ready w q (RaiseCount n) fs r × BusyAfter w q (RaiseCount n) fs r) → IfSome (if b then Some (Refused, place_part w q (RaiseCount n)) else Some done) (λ r. ReturnsHold (world_after w q (RaiseCount n) fs r) → KeepersHold (world_after w q (RaiseCount n) fs r))
-raise_by w q n fs h done f true d = plain_keepers w q (RaiseCount n) fs (Refused, place_part w q (RaiseCount n)) (d.0) (d.1) (same_untallied (place_part w q (RaiseCount n)) Refused) (λ t. (refl, refl)) (λ p. refl) h
+raise_by w q n fs h done f true d = plain_keepers w q (RaiseCount n) fs (Refused, place_part w q (RaiseCount n)) (d.0) (d.1) (same_untallied (place_part w q (RaiseCount n)) Refused) refl (λ t. (refl, refl)) (λ p. refl) h
 raise_by w q n fs h done f false d = f d
 
 unvalued : (p : ℕ) (x : Place) → is_tally x ≡ false → values p x ≡ 0
@@ -262,8 +290,38 @@ unvalued p (LowerCount r s n) z = cc
 unvalued p _ z = refl
 
 plain_by : (w : World) (q : Party) (x : Place) (fs : List Place) → is_tally x ≡ false → KeepersHold w → IfSome (outcome w q (record { top = x; below = fs })) (λ r. Ready w q x fs r × BusyAfter w q x fs r) → IfSome (outcome w q (record { top = x; below = fs })) (λ r. ReturnsHold (world_after w q x fs r) → KeepersHold (world_after w q x fs r))
-plain_by w q x fs y h d = if_some_map (λ r. (Ready w q x fs r × BusyAfter w q x fs r) × Untallied (place_part w q x) r) (λ r. ReturnsHold (world_after w q x fs r) → KeepersHold (world_after w q x fs r)) (λ r f. plain_keepers w q x fs r ((f.0).0) ((f.0).1) (f.1) (λ t. (unpaid t x y, ungained t x (r.0) y)) (λ p. unvalued p x y) h) (outcome w q (record { top = x; below = fs }))
-    (if_some_and (λ r. Ready w q x fs r × BusyAfter w q x fs r) (Untallied (place_part w q x)) (outcome w q (record { top = x; below = fs })) d (act_untallied w.shape q (counts_at w (target_pool q (act_of q x))) (place_part w q x) x y))
+plain_by w q x fs y h d = if_some_map (λ r. (Ready w q x fs r × BusyAfter w q x fs r) × (Untallied (place_part w q x) r × (is_sharing (next_of (w.shape.pool (target_pool q (act_of q x))) q x (r.0)) ≡ false))) (λ r. ReturnsHold (world_after w q x fs r) → KeepersHold (world_after w q x fs r)) (λ r f. plain_keepers w q x fs r ((f.0).0) ((f.0).1) ((f.1).0) ((f.1).1) (λ t. (unpaid t x y, ungained t x (r.0) y)) (λ p. unvalued p x y) h) (outcome w q (record { top = x; below = fs }))
+    (if_some_and (λ r. Ready w q x fs r × BusyAfter w q x fs r) (λ r. Untallied (place_part w q x) r × (is_sharing (next_of (w.shape.pool (target_pool q (act_of q x))) q x (r.0)) ≡ false)) (outcome w q (record { top = x; below = fs })) d
+    (if_some_and (Untallied (place_part w q x)) (λ r. is_sharing (next_of (w.shape.pool (target_pool q (act_of q x))) q x (r.0)) ≡ false) (outcome w q (record { top = x; below = fs })) (act_untallied w.shape q (counts_at w (target_pool q (act_of q x))) (place_part w q x) x y) (no_steady w.shape (w.shape.pool (target_pool q (act_of q x))) q (counts_at w (target_pool q (act_of q x))) (place_part w q x) x y)))
+
+-- the acts of a broadcast on the count
+all_jobs : (w : World) (q : Party) (c : Pieces) (fs : List Place) → SharesHold w → w.stack q ≡ record { top = RaiseForAll c; below = fs } → (t : ℕ) → ((all_raised w q c fs).job t).counted ≡ true → (one (w.job t).counted + one (is_piece c t)) ≡ 1
+all_jobs w q c fs h z t d = by (is_piece c t) refl d
+  where
+    by : (b : Bool) → is_piece c t ≡ b → (if b then marked Counted c.pool (t - c.first) (put w.job 0 (w.job 0) t) else put w.job 0 (w.job 0) t).counted ≡ true → (one (w.job t).counted + one b) ≡ 1
+    by true e d = let a : all_raises t (w.stack q) + one (w.job t).counted ≤ 1 = h.unraised q t in let b : all_raises t (w.stack q) ≡ (one (is_piece c t) + raises_in t fs) = ap (all_raises t) z in let f : one (is_piece c t) ≡ 1 = ap one e in omega (arith, a, b, f)
+    by false e d = let a : one (w.job t).counted ≡ 1 = ap one (sym (put_same (λ j. j.counted) w.job 0 (w.job 0) t refl) ∙ d) in omega (arith, a)
+
+all_pools : (w : World) (q : Party) (c : Pieces) (fs : List Place) (p : ℕ) → ((all_raised w q c fs).pool p).counted ≡ true → (w.pool p).counted ≡ true
+all_pools w q c fs p d = sym (put_same (λ v. v.counted) w.pool c.pool (record (w.pool c.pool) { count = (w.pool c.pool).count + c.workers }) p refl) ∙ d
+
+less_jobs : (w : World) (q : Party) (c : Pieces) (fs : List Place) (e : Seen) (t : ℕ) → ((all_lowered w q c fs e).job t).counted ≡ true → (one (is_piece c t) ≡ 0) × ((one (w.job t).counted + 0) ≡ 1)
+less_jobs w q c fs e t d = both (returned_none w c 0 (w.job 0) refl t (ap (λ g. (g t).counted) (sym (returned_jobs (w.shape.pool c.pool) q c e (put w.job 0 (w.job 0)))) ∙ d))
+  where
+    both : (is_piece c t ≡ false) × ((w.job t).counted ≡ true) → (one (is_piece c t) ≡ 0) × ((one (w.job t).counted + 0) ≡ 1)
+    both p = (ap one (p.0), (let a : one (w.job t).counted ≡ 1 = ap one (p.1) in omega (arith, a)))
+
+less_pools : (w : World) (q : Party) (c : Pieces) (fs : List Place) (e : Seen) (p : ℕ) → ((all_lowered w q c fs e).pool p).counted ≡ true → (w.pool p).counted ≡ true
+less_pools w q c fs e p d = sym (put_same (λ v. v.counted) w.pool c.pool (record (w.pool c.pool) { count = (w.pool c.pool).count - c.workers }) p refl) ∙ d
+
+back_keepers : (w : World) (q : Party) (c : Pieces) (fs : List Place) → KeepersHold w → (Ready w q (RaiseForAll c) fs (Refused, place_part w q (RaiseForAll c))) → BusyAfter w q (RaiseForAll c) fs (Refused, place_part w q (RaiseForAll c)) → (world_after w q (RaiseForAll c) fs (Refused, place_part w q (RaiseForAll c))).job ≡ mark_pieces c Returned (put w.job 0 (w.job 0)) → ReturnsHold (world_after w q (RaiseForAll c) fs (Refused, place_part w q (RaiseForAll c))) → KeepersHold (world_after w q (RaiseForAll c) fs (Refused, place_part w q (RaiseForAll c)))
+back_keepers w q c fs h d bu jo s = act_keepers w q (RaiseForAll c) fs (Refused, place_part w q (RaiseForAll c)) d bu
+    (λ t k. (refl, (let a : one (w.job t).counted ≡ 1 = ap one ((returned_none w c 0 (w.job 0) refl t (ap (λ g. (g t).counted) (sym jo) ∙ k)).1) in omega (arith, a))))
+    (λ p k. (sym (put_same (λ v. v.counted) w.pool (target_pool q (act_of q (RaiseForAll c))) (w.pool (target_pool q (act_of q (RaiseForAll c)))) p refl) ∙ k, refl)) h s
+
+all_by : (w : World) (q : Party) (c : Pieces) (fs : List Place) → (Ready w q (RaiseForAll c) fs (Refused, place_part w q (RaiseForAll c)) × BusyAfter w q (RaiseForAll c) fs (Refused, place_part w q (RaiseForAll c)) → ReturnsHold (world_after w q (RaiseForAll c) fs (Refused, place_part w q (RaiseForAll c))) → KeepersHold (world_after w q (RaiseForAll c) fs (Refused, place_part w q (RaiseForAll c)))) → (done : Seen × Part) → (Ready w q (RaiseForAll c) fs done × BusyAfter w q (RaiseForAll c) fs done → ReturnsHold (world_after w q (RaiseForAll c) fs done) → KeepersHold (world_after w q (RaiseForAll c) fs done)) → (b : Bool) → IfSome (if b then Some (Refused, place_part w q (RaiseForAll c)) else Some done) (λ r. Ready w q (RaiseForAll c) fs r × BusyAfter w q (RaiseForAll c) fs r) → IfSome (if b then Some (Refused, place_part w q (RaiseForAll c)) else Some done) (λ r. ReturnsHold (world_after w q (RaiseForAll c) fs r) → KeepersHold (world_after w q (RaiseForAll c) fs r))
+all_by w q c fs none done f true d = none d
+all_by w q c fs none done f false d = f d
 
 go_by : (w : World) (q : Party) (x : Place) (fs : List Place) → w.stack q ≡ record { top = x; below = fs } → KeepersHold w → IfSome (outcome w q (record { top = x; below = fs })) (λ r. Ready w q x fs r × BusyAfter w q x fs r) → IfSome (outcome w q (record { top = x; below = fs })) (λ r. ReturnsHold (world_after w q x fs r) → KeepersHold (world_after w q x fs r))
 go_by w (Worker a b) (RaiseCount n) fs z h d = raise_by w (Worker a b) n fs h _ (λ f. act_keepers w (Worker a b) (RaiseCount n) fs _ (f.0) (f.1) (λ t c. (refl, raise_jobs w (Worker a b) n fs ((h.returns).shares) z t c)) (λ p c. (raise_pools w (Worker a b) n fs p c, refl)) h) ((w.pool (plan_pool n)).count == 0) d
@@ -272,6 +330,10 @@ go_by w (Worker a b) (LowerCount p (OfJob u) n) fs z h d = act_keepers w (Worker
 go_by w (Caller e) (LowerCount p (OfJob u) n) fs z h d = act_keepers w (Caller e) (LowerCount p (OfJob u) n) fs _ (d.0) (d.1) (λ t c. lower_jobs w (Caller e) p u n fs (if (w.pool p).count == 1 then Yes else No) t c) (λ r c. (lower_pools w (Caller e) p u n fs (if (w.pool p).count == 1 then Yes else No) r c, refl)) h
 go_by w (Worker a b) (LowerCount p PoolValue n) fs z h d = act_keepers w (Worker a b) (LowerCount p PoolValue n) fs _ (d.0) (d.1) (λ t c. (refl, value_jobs w (Worker a b) p n fs (if (w.pool p).count == 1 then Yes else No) t c)) (λ r c. value_pools w (Worker a b) p n fs (if (w.pool p).count == 1 then Yes else No) r c) h
 go_by w (Caller e) (LowerCount p PoolValue n) fs z h d = act_keepers w (Caller e) (LowerCount p PoolValue n) fs _ (d.0) (d.1) (λ t c. (refl, value_jobs w (Caller e) p n fs (if (w.pool p).count == 1 then Yes else No) t c)) (λ r c. value_pools w (Caller e) p n fs (if (w.pool p).count == 1 then Yes else No) r c) h
+go_by w (Worker a b) (RaiseForAll c) fs z h d = all_by w (Worker a b) c fs (λ f. back_keepers w (Worker a b) c fs h (f.0) (f.1) refl) _ (λ f. act_keepers w (Worker a b) (RaiseForAll c) fs _ (f.0) (f.1) (λ t k. (refl, all_jobs w (Worker a b) c fs ((h.returns).shares) z t k)) (λ p k. (all_pools w (Worker a b) c fs p k, refl)) h) ((w.pool c.pool).count == 0) d
+go_by w (Worker a b) (LowerForAll c) fs z h d = act_keepers w (Worker a b) (LowerForAll c) fs _ (d.0) (d.1) (λ t k. less_jobs w (Worker a b) c fs (if (w.pool c.pool).count == c.workers then Yes else No) t k) (λ r k. (less_pools w (Worker a b) c fs (if (w.pool c.pool).count == c.workers then Yes else No) r k, refl)) h
+go_by w (Caller g) (RaiseForAll c) fs z h d = all_by w (Caller g) c fs (λ f. back_keepers w (Caller g) c fs h (f.0) (f.1) refl) _ (λ f. act_keepers w (Caller g) (RaiseForAll c) fs _ (f.0) (f.1) (λ t k. (refl, all_jobs w (Caller g) c fs ((h.returns).shares) z t k)) (λ p k. (all_pools w (Caller g) c fs p k, refl)) h) ((w.pool c.pool).count == 0) d
+go_by w (Caller g) (LowerForAll c) fs z h d = act_keepers w (Caller g) (LowerForAll c) fs _ (d.0) (d.1) (λ t k. less_jobs w (Caller g) c fs (if (w.pool c.pool).count == c.workers then Yes else No) t k) (λ r k. (less_pools w (Caller g) c fs (if (w.pool c.pool).count == c.workers then Yes else No) r k, refl)) h
 go_by w q x fs z h d = plain_by w q x fs refl h d
 
 go_keepers : (w : World) (q : Party) → KeepersHold w → IfSome (step w (Go q)) (λ u. ReturnsHold u → KeepersHold u)
@@ -306,6 +368,7 @@ refuse_keepers : (w : World) (q : Party) (x : Place) (fs : List Place) → w.sta
 refuse_keepers w q (GrowCall n) fs z h = λ s. seen_keepers w q (w.shape.pool (own_pool q)) (GrowCall n) fs Refused z refl (λ t. refl) h s
 refuse_keepers w q (AddToFifo f) fs z h = λ s. seen_keepers w q (w.shape.pool (own_pool q)) (AddToFifo f) fs Refused z refl (λ t. refl) h s
 refuse_keepers w q (PushToken f v) fs z h = λ s. seen_keepers w q (w.shape.pool (own_pool q)) (PushToken f v) fs Refused z refl (λ t. refl) h s
+refuse_keepers w q (PushForAll c) fs z h = λ s. seen_keepers w q (w.shape.pool (own_pool q)) (PushForAll c) fs Refused z refl (λ t. refl) h s
 refuse_keepers w q (PushJob n v) fs z h = λ s. seen_keepers w q (w.shape.pool (own_pool q)) (PushJob n v) fs Refused z refl (λ t. not_pushed t n v Refused refl) h s
 refuse_keepers w q _ fs z h = tt
 
@@ -371,6 +434,20 @@ join_keepers w (Worker p i) h = if_cond (λ u. ReturnsHold u → KeepersHold u) 
 fifo_keepers : (w : World) (q : Party) (p : ℕ) → KeepersHold w → IfSome (after_fifo w q p (w.stack q)) (λ u. ReturnsHold u → KeepersHold u)
 fifo_keepers w q p h = fifo_cases (λ u. ReturnsHold u → KeepersHold u) w q p (spawn_keepers w q p h) (λ i free s. (let m = two_put w (Worker p i) p (Detached p) (TokenOf i) h in made_keepers w (Worker p i) (Feed (record { pool = p; job = w.jobs; token = w.jobs + 1 })) w.call (put (put w.job w.jobs (new_job (Worker p i) p (Detached p))) (w.jobs + 1) (new_job (Worker p i) p (TokenOf i))) w.calls (w.jobs + 2) (m.0) (m.1) h s))
 
+cast_keepers : (w : World) (q : Party) (p : ℕ) → KeepersHold w → IfSome (after_cast w q p (w.stack q)) (λ u. ReturnsHold u → KeepersHold u)
+cast_keepers w q p h = if_cond (λ u. ReturnsHold u → KeepersHold u) (is_free ((w.stack q).top) && is_pool w.shape p) _ (λ f s. keepers_by w u q (after_call (w.stack q) (RaiseForAll c)) (λ i. refl)
+    (λ t e. each t (is_piece c t) refl e) (λ r e. (e, omega arith)) h s)
+  where
+    c : Pieces
+    c = record { pool = p; first = w.jobs; workers = (w.shape.pool p).workers }
+
+    u : World
+    u = record w { stack = put_stack w.stack q (after_call (w.stack q) (RaiseForAll c)); job = put_pieces c (λ i j. new_piece q p i) w.job; jobs = w.jobs + c.workers }
+
+    each : (t : ℕ) (b : Bool) → is_piece c t ≡ b → (if b then new_piece q p (t - c.first) else w.job t).counted ≡ true → (g : ℕ) × ((one (w.job t).counted + g) ≡ 1) × (shares t (w.stack q) + with_job (w.job t) + g ≤ shares t (after_call (w.stack q) (RaiseForAll c)) + with_job (if b then new_piece q p (t - c.first) else w.job t))
+    each t true e d = absurd (cc)
+    each t false e d = (0, (let a : one (w.job t).counted ≡ 1 = ap one d in omega (arith, a)), omega arith)
+
 yield_keepers : (w : World) (q : Party) (x : Place) → ((t : ℕ) → share t x ≡ 0) → ((p : ℕ) → values p x ≡ 0) → KeepersHold w → IfSome (after_yield w q (w.stack q) x) (λ u. ReturnsHold u → KeepersHold u)
 yield_keepers w (Worker a b) x sx vx h = if_cond (λ u. ReturnsHold u → KeepersHold u) (is_free ((w.stack (Worker a b)).top)) _ (λ f s. keepers_by w (record w { stack = put_stack w.stack (Worker a b) (after_call (w.stack (Worker a b)) x) }) (Worker a b) (after_call (w.stack (Worker a b)) x) (λ i. refl)
     (λ t c. (0, (let d : one (w.job t).counted ≡ 1 = ap one c in omega (arith, d)), (let d : share t x ≡ 0 = sx t in omega (arith, d))))
@@ -395,6 +472,7 @@ each_keepers w (Miss q) h = miss_keepers w q ((w.stack q).top) ((w.stack q).belo
 each_keepers w (End q d) h = end_keepers w q d ((w.stack q).top) ((w.stack q).below) refl h
 each_keepers w (Spawn q p) h = spawn_keepers w q p h
 each_keepers w (Fifo q p) h = fifo_keepers w q p h
+each_keepers w (Cast q p) h = cast_keepers w q p h
 each_keepers w (Install q p) h = install_keepers w q p h
 each_keepers w (Join q) h = join_keepers w q h
 each_keepers w (Yield q) h = yield_keepers w q YieldPop (λ t. refl) (λ p. refl) h

@@ -9,8 +9,10 @@ pub mod CallEvents
 pub mod CallSteps
 pub mod CallStretch
 pub mod Calls
+pub mod Casts
 pub mod CallTeeth
 pub mod FifoTeeth
+pub mod CastTeeth
 pub mod Walks
 pub mod Lone
 pub mod Dealt

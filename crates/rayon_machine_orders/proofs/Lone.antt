@@ -12,21 +12,21 @@ use Rattle.rayon_machine_places.specs.declared.place.Target.TheVariants.{Termina
 use Rattle.rayon_machine_places.specs.declared.place.Latch.{Latch}
 use Rattle.rayon_machine_places.specs.declared.place.Latch.TheVariants.{Terminate, OfCall}
 use Rattle.rayon_machine_places.specs.declared.place.Then.{Then}
-use Rattle.rayon_machine_places.specs.declared.place.Then.TheVariants.{BeginFound, LeaveWait, Resume, Await, RunFirst, Answers, Missing, Ran, GiveBack}
+use Rattle.rayon_machine_places.specs.declared.place.Then.TheVariants.{BeginFound, LeaveWait, Resume, Await, RunFirst, Answers, Missing, Ran, GiveBack, Called}
 use Rattle.rayon_machine_places.specs.declared.place.Place.{Place}
-use Rattle.rayon_machine_places.specs.declared.place.Place.TheVariants.{ProbeWorking, TakeCastIdle, PickVictim, StealFrom, LeaveSearch, YieldPop, YieldTakeCast, YieldPick, YieldSteal, LocalPop, BeginTask, BeginHere, Run, GrowCall, PushJob, LockToWake, WakeWorker, UnlockWoken, LowerCount, SetLatch, LockToSettle, WakeSettled, UnlockSettled, FirstSide, Free, Stopped, AddToFifo, PushToken, TakeFromFifo}
+use Rattle.rayon_machine_places.specs.declared.place.Place.TheVariants.{ProbeWorking, TakeCastIdle, PickVictim, StealFrom, LeaveSearch, YieldPop, YieldTakeCast, YieldPick, YieldSteal, LocalPop, BeginTask, BeginHere, Run, GrowCall, PushJob, LockToWake, WakeWorker, UnlockWoken, LowerCount, SetLatch, LockToSettle, WakeSettled, UnlockSettled, FirstSide, Free, Stopped, AddToFifo, PushToken, TakeFromFifo, PushForAll}
 use Rattle.rayon_machine_places.specs.declared.place.Move.{Move}
 use Rattle.rayon_machine_places.specs.declared.place.Move.TheVariants.{Stay}
 use Rattle.rayon_machine_places.specs.declared.act.Seen.{Seen}
 use Rattle.rayon_machine_places.specs.declared.act.Seen.TheVariants.{Yes, Begun, Done, Handed, Task}
 use Rattle.rayon_machine_places.specs.declared.event.Event.{Event}
-use Rattle.rayon_machine_places.specs.declared.event.Event.TheVariants.{Go, From, Refuse, Miss, End, Spawn, Fifo, Install, Join, Yield, YieldLocal, EndPool}
+use Rattle.rayon_machine_places.specs.declared.event.Event.TheVariants.{Go, From, Refuse, Miss, End, Spawn, Fifo, Install, Join, Yield, YieldLocal, EndPool, Cast}
 use Rattle.rayon_machine_places.specs.declared.shape.PoolShape.{PoolShape}
 use Rattle.rayon_machine_places.specs.declared.place.Walk.{Walk}
 use Rattle.rayon_machine_places.specs.declared.place.Settling.{Settling}
 use Rattle.rayon_machine_places.specs.Places.{same_party, own_pool, is_member, finish, walk, settle, after_set, act_of, next_of, goes_on, is_free, fresh, after_begin, taken_back, taken_number}
 use Rattle.rayon_machine_places.specs.World.{Shape, Stack, World, Counts, Part, target_pool, target_worker, target_call, effect}
-use Rattle.rayon_machine_places.specs.Steps.{put_stack, after_choice, after_refusal, can_miss, after_miss, after_close, after_end, is_pool, after_spawn, after_send, after_install, after_join, after_yield, after_end_pool, after_move, step, after_fifo}
+use Rattle.rayon_machine_places.specs.Steps.{put_stack, after_choice, after_refusal, can_miss, after_miss, after_close, after_end, is_pool, after_spawn, after_send, after_install, after_join, after_yield, after_end_pool, after_move, step, after_fifo, after_cast}
 use Rattle.rayon_machine_places.specs.Runs.{IsRun, start}
 use Rattle.rayon_machine_laws.proofs.Attended.{aside_frames, step_shape}
 use Rattle.rayon_machine_laws.proofs.Asides.{steps_aside}
@@ -105,6 +105,7 @@ finish_honest (Worker a b) (Await o) = refl
 finish_honest (Caller c) (Await o) = refl
 finish_honest q (RunFirst o a) = refl
 finish_honest q Resume = tt
+finish_honest q Called = tt
 finish_honest q (Answers o f e) = tt
 finish_honest q (Missing o f) = tt
 finish_honest q (Ran t e) = tt
@@ -199,6 +200,7 @@ refuse_turn w q (GrowCall n) fs e = record { party = q; to = _; stack = λ r. re
 refuse_turn w q (PushJob n v) fs e = record { party = q; to = _; stack = λ r. refl; seat = λ p i. refl; empty = at_place w q (PushJob n v) fs (λ y. taken y ≡ None) e refl; honest = λ h. (refl, refl) }
 refuse_turn w q (AddToFifo f) fs e = record { party = q; to = _; stack = λ r. refl; seat = λ p i. refl; empty = at_place w q (AddToFifo f) fs (λ y. taken y ≡ None) e refl; honest = λ h. (refl, refl) }
 refuse_turn w q (PushToken f v) fs e = record { party = q; to = _; stack = λ r. refl; seat = λ p i. refl; empty = at_place w q (PushToken f v) fs (λ y. taken y ≡ None) e refl; honest = λ h. (refl, refl) }
+refuse_turn w q (PushForAll c) fs e = record { party = q; to = _; stack = λ r. refl; seat = λ p i. refl; empty = at_place w q (PushForAll c) fs (λ y. taken y ≡ None) e refl; honest = λ h. (refl, refl) }
 refuse_turn w q _ fs e = tt
 
 goes_honest : (f : Place) (e : Ending) → is_frame f ≡ true → (is_thief (goes_on f e) ≡ false) × (taken (goes_on f e) ≡ None)
@@ -221,6 +223,9 @@ end_turn w q d _ fs e a = tt
 
 spawn_turn : (w : World) (q : Party) (p : ℕ) → IfSome (after_spawn w q p (w.stack q)) (Turns w)
 spawn_turn w q p = if_cond (Turns w) (is_free ((w.stack q).top) && is_pool w.shape p) _ (λ b. record { party = q; to = _; stack = λ r. refl; seat = λ p i. refl; empty = free_empty (w.stack q).top ((and_parts (is_free ((w.stack q).top)) (is_pool w.shape p) b).0); honest = λ h. (refl, refl) })
+
+cast_turn : (w : World) (q : Party) (p : ℕ) → IfSome (after_cast w q p (w.stack q)) (Turns w)
+cast_turn w q p = if_cond (Turns w) (is_free ((w.stack q).top) && is_pool w.shape p) _ (λ b. record { party = q; to = _; stack = λ r. refl; seat = λ p i. refl; empty = free_empty (w.stack q).top ((and_parts (is_free ((w.stack q).top)) (is_pool w.shape p) b).0); honest = λ h. (refl, refl) })
 
 fifo_turn : (w : World) (q : Party) (p : ℕ) → IfSome (after_fifo w q p (w.stack q)) (Turns w)
 fifo_turn w q p = fifo_cases (Turns w) w q p (spawn_turn w q p) (λ i f. record { party = Worker p i; to = _; stack = λ r. refl; seat = λ p i. refl; empty = free_empty (w.stack (Worker p i)).top f; honest = λ h. (refl, refl) })
@@ -251,6 +256,7 @@ turns w fr (Miss q) z = miss_turn w q ((w.stack q).top) ((w.stack q).below) refl
 turns w fr (End q d) z = end_turn w q d ((w.stack q).top) ((w.stack q).below) refl (fr q)
 turns w fr (Spawn q p) z = spawn_turn w q p
 turns w fr (Fifo q p) z = fifo_turn w q p
+turns w fr (Cast q p) z = cast_turn w q p
 turns w fr (Install q p) z = install_turn w q p
 turns w fr (Join q) z = join_turn w q
 turns w fr (Yield q) z = yield_turn w q YieldPop (refl, refl)

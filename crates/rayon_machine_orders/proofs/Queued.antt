@@ -1,11 +1,11 @@
 -- each step changes each worker's FIFO list as a queue
 use Rattle.std.proofs.Common.{refl, sym, ◌∙◌, ap, subst}
 use Rattle.std.specs.Prelude.{ℕ, Bool, true, false, ◌&&◌, ◌==◌, if◌then◌else◌, Option, Some, None, List, [], ◌∷◌, ◌++◌, ◌≡◌, IfSome}
-use Rattle.rayon_machine_places.specs.declared.place.Place.TheVariants.{AddToFifo, BeginHere, BeginTask, JoinPop, JoinTakeCast, LocalPop, LocalTakeCast, LookQueue, PopIdle, PopInjected, PopWorking, PushJob, PushToken, StealFrom, TakeCastIdle, TakeCastWorking, TakeFromFifo, YieldPop, YieldPopInjected, YieldSteal, YieldTakeCast}
+use Rattle.rayon_machine_places.specs.declared.place.Place.TheVariants.{AddToFifo, BeginHere, BeginTask, JoinPop, JoinTakeCast, LocalPop, LocalTakeCast, LookQueue, PopIdle, PopInjected, PopWorking, PushJob, PushToken, StealFrom, TakeCastIdle, TakeCastWorking, TakeFromFifo, YieldPop, YieldPopInjected, YieldSteal, YieldTakeCast, PushForAll}
 use Rattle.rayon_machine_places.specs.declared.place.Party.TheVariants.{Caller, Worker}
 use Rattle.rayon_machine_orders.specs.Queue.{Change, Changes, QueueLaw, change, change_of, run_at, Comes, Joins, Leaves}
 use Rattle.rayon_machine_places.specs.World.{Counts, Part, Seat, Shape, World, but_last, counts_at, effect, fifo_back, fifo_first, fifo_out, head_of, is_open, last_of, or_none, pop_injector, popped, take_cast, target_call, target_pool, target_worker}
-use Rattle.rayon_machine_places.specs.declared.event.Event.TheVariants.{End, EndPool, Fifo, From, Go, Install, Join, Miss, Refuse, Spawn, Yield, YieldLocal}
+use Rattle.rayon_machine_places.specs.declared.event.Event.TheVariants.{End, EndPool, Fifo, From, Go, Install, Join, Miss, Refuse, Spawn, Yield, YieldLocal, Cast}
 use Rattle.rayon_machine_places.specs.declared.event.Event.{Event}
 use Rattle.rayon_machine_laws.proofs.Redeems.{Fades, StocksHold, always_stocks, event_fades, redeems}
 use Rattle.rayon_machine_places.specs.declared.place.Feeding.{Feeding}
@@ -89,6 +89,7 @@ list_table h (Caller g) c m (TakeFromFifo f) z = tt
 list_table h q c m (BeginTask (Plain u)) z = refl
 list_table h q c m (BeginTask (Token k i)) z = absurd (cc)
 list_table h q c m (BeginHere u) z = refl
+list_table h q c m (PushForAll b) z = refl
 list_table h q c m x z = if_some_map (SameJobs m) (Leaving m) (λ r s. s.fifo) (effect (act_of q x) h q c m) (quiet_same h q c m x refl)
 
 -- and are none of a list's
@@ -199,6 +200,7 @@ step_queued w (Miss q) h = fades_queued w (step w (Miss q)) (event_fades w (Miss
 step_queued w (End q d) h = fades_queued w (step w (End q d)) (event_fades w (End q d) refl)
 step_queued w (Spawn q p) h = fades_queued w (step w (Spawn q p)) (event_fades w (Spawn q p) refl)
 step_queued w (Fifo q p) h = fades_queued w (step w (Fifo q p)) (event_fades w (Fifo q p) refl)
+step_queued w (Cast q p) h = fades_queued w (step w (Cast q p)) (event_fades w (Cast q p) refl)
 step_queued w (Install q p) h = fades_queued w (step w (Install q p)) (event_fades w (Install q p) refl)
 step_queued w (Join q) h = fades_queued w (step w (Join q)) (event_fades w (Join q) refl)
 step_queued w (Yield q) h = fades_queued w (step w (Yield q)) (event_fades w (Yield q) refl)

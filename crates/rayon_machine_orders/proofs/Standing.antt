@@ -14,7 +14,7 @@ use Rattle.rayon_machine_places.specs.declared.place.Rounds.TheVariants.{Failed,
 use Rattle.rayon_machine_places.specs.declared.place.Plan.{Plan}
 use Rattle.rayon_machine_places.specs.declared.place.Plan.TheVariants.{Detach, Here, Send, Fork, Feed}
 use Rattle.rayon_machine_places.specs.declared.place.Then.{Then}
-use Rattle.rayon_machine_places.specs.declared.place.Then.TheVariants.{BeginFound, LeaveWait, Resume, GiveBack}
+use Rattle.rayon_machine_places.specs.declared.place.Then.TheVariants.{BeginFound, LeaveWait, Resume, GiveBack, Called}
 use Rattle.rayon_machine_places.specs.declared.place.Place.{Place}
 use Rattle.rayon_machine_places.specs.declared.place.Place.TheVariants.{ProbeWorking, PopWorking, TakeCastWorking, BecomeInactive, ProbeIdle, PopIdle, TakeCastIdle, PickVictim, PopInjected, AnnounceSelf, GetSleepy, LockOwn, FallAsleep, LoadCounters, AddSleeping, LookAtCast, LookAtInjector, BlockSelf, RelockOwn, UndoSleeping, WakeUp, UnlockOwn, LeaveSearch, BeginTask, Run, RaiseCount, LookQueue, PushJob, TellNews, LockToWake, WakeWorker, UnlockWoken, LowerCount, StoreResult, SetLatch, LockToSettle, WakeSettled, UnlockSettled, SetLockLatch, Stopped}
 use Rattle.rayon_machine_places.specs.declared.place.Move.{Move}
@@ -56,11 +56,13 @@ abbrev pub WakesAbove : Option ℕ → Then → List Place → Type 0
 WakesAbove r (BeginFound g t) fs = (g ≡ Termination) × AllBase fs
 WakesAbove r (LeaveWait g) fs = (g ≡ Termination) × AllBase fs
 WakesAbove r Resume fs = Above r fs
+WakesAbove r Called fs = Above r fs
 WakesAbove r _ fs = ⊥
 
 -- above what a party stands that gives a share back or sets latches, by what follows
 abbrev pub EndsAbove : Option ℕ → Then → List Place → Type 0
 EndsAbove r Resume fs = AllBase fs
+EndsAbove r Called fs = AllBase fs
 EndsAbove r (GiveBack n) fs = IsDetach n × Above r fs
 EndsAbove r _ fs = ⊥
 
@@ -132,10 +134,12 @@ finish_wait : (r : Option ℕ) (q : Party) (n : Then) (fs : List Place) → Wake
 finish_wait r q (BeginFound g t) fs a = a
 finish_wait r q (LeaveWait g) fs a = leaves r g fs a
 finish_wait r q Resume fs a = back_above r fs a
+finish_wait r q Called fs a = back_above r fs a
 finish_wait r q _ fs a = absurd a
 
 finish_end : (r : Option ℕ) (q : Party) (n : Then) (fs : List Place) → EndsAbove r n fs → Leads r fs (finish q n)
 finish_end r q Resume fs a = back_base r fs a
+finish_end r q Called fs a = back_base r fs a
 finish_end r q (GiveBack n) fs a = back_above r fs (a.1)
 finish_end r q _ fs a = absurd a
 

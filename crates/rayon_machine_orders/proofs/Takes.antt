@@ -15,7 +15,7 @@ use Rattle.rayon_machine_places.specs.declared.place.Plan.{Plan}
 use Rattle.rayon_machine_places.specs.declared.place.Plan.TheVariants.{Detach, Here, Send, Fork, Feed}
 use Rattle.rayon_machine_places.specs.declared.place.Share.{Share}
 use Rattle.rayon_machine_places.specs.declared.place.Then.{Then}
-use Rattle.rayon_machine_places.specs.declared.place.Then.TheVariants.{BeginFound, LeaveWait, Resume, Await, RunFirst, Answers, Missing as NoResult, Ran, GiveBack}
+use Rattle.rayon_machine_places.specs.declared.place.Then.TheVariants.{BeginFound, LeaveWait, Resume, Await, RunFirst, Answers, Missing as NoResult, Ran, GiveBack, Called}
 use Rattle.rayon_machine_places.specs.declared.place.Place.{Place}
 use Rattle.rayon_machine_places.specs.declared.place.Place.TheVariants.{ProbeWorking, ProbeIdle, PopInjected, AnnounceSelf, GetSleepy, FallAsleep, WakeUp, LeaveSearch, JoinProbe, Run, RaiseCount, GrowCall, TellNews, LockToWake, WakeWorker, UnlockWoken, WaitForLock, TakeResult, LowerCount, StoreResult, SetLatch, LockToSettle, WakeSettled, UnlockSettled, SetLockLatch, FirstSide, SecondSide, AtOnce, Free, Stopped}
 use Rattle.rayon_machine_places.specs.declared.place.Move.{Move}
@@ -146,6 +146,7 @@ finish_on s (Worker i j) (Await o) = (λ c e. absurd (cc), λ c e. absurd (cc), 
 finish_on s (Caller n) (Await o) = (λ c e. absurd (cc), λ c e. absurd (cc), refl, λ e. absurd (cc))
 finish_on s q (RunFirst o a) = (λ c e. absurd (cc), λ c e. absurd (cc), refl, λ e. absurd (cc))
 finish_on s q Resume = tt
+finish_on s q Called = tt
 finish_on s q (Answers o f e) = tt
 finish_on s q (NoResult o f) = tt
 finish_on s q (Ran t e) = tt

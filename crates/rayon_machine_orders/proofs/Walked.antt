@@ -8,12 +8,12 @@ use Rattle.rayon_machine_places.specs.declared.place.Ending.{Ending}
 use Rattle.rayon_machine_places.specs.declared.place.Plan.{Plan}
 use Rattle.rayon_machine_places.specs.declared.place.Plan.TheVariants.{Detach, Here, Send, Fork, Feed}
 use Rattle.rayon_machine_places.specs.declared.place.Place.{Place}
-use Rattle.rayon_machine_places.specs.declared.place.Place.TheVariants.{PickVictim, StealFrom, YieldPick, YieldSteal, BeginTask, BeginHere, Run, GrowCall, PushJob, Free, AddToFifo, PushToken}
+use Rattle.rayon_machine_places.specs.declared.place.Place.TheVariants.{PickVictim, StealFrom, YieldPick, YieldSteal, BeginTask, BeginHere, Run, GrowCall, PushJob, Free, AddToFifo, PushToken, PushForAll}
 use Rattle.rayon_machine_places.specs.declared.act.Act.TheVariants.{PushOwn, PushInj}
 use Rattle.rayon_machine_places.specs.declared.act.Seen.{Seen}
 use Rattle.rayon_machine_places.specs.declared.act.Seen.TheVariants.{Refused}
 use Rattle.rayon_machine_places.specs.declared.event.Event.{Event}
-use Rattle.rayon_machine_places.specs.declared.event.Event.TheVariants.{Go, From, Refuse, Miss, End, Spawn, Fifo, Install, Join, Yield, YieldLocal, EndPool}
+use Rattle.rayon_machine_places.specs.declared.event.Event.TheVariants.{Go, From, Refuse, Miss, End, Spawn, Fifo, Install, Join, Yield, YieldLocal, EndPool, Cast}
 use Rattle.rayon_machine_places.specs.Places.{same_party, own_pool, is_member, plan_pool, plan_job, act_of, is_free, is_refusable}
 use Rattle.rayon_machine_places.specs.World.{Stack, World, Part, target_pool, target_worker, target_call}
 use Rattle.rayon_machine_places.specs.Steps.{put_stack, after_move, after_choice, after_refusal, after_miss, after_end, after_send, is_pool, can_miss, step, after_feed, after_spawn}
@@ -124,6 +124,7 @@ refusable_calm (GrowCall n) e = (refl, refl)
 refusable_calm (PushJob n v) e = (refl, refl)
 refusable_calm (AddToFifo f) e = (refl, refl)
 refusable_calm (PushToken f v) e = (refl, refl)
+refusable_calm (PushForAll c) e = (refl, refl)
 refusable_calm _ e = absurd (cc)
 
 refuse_stands : (w : World) (p : ℕ) (r : Option ℕ) (q : Party) → StandsAt r (w.stack (Worker p 0)) → (same_party (Worker p 0) q ≡ true → StandsAt r (w.stack q)) → IfSome (after_refusal w q (w.stack q)) (Stood w p r)
@@ -153,6 +154,9 @@ never false e f = cc
 sent_stands : (w : World) (p : ℕ) (r : Option ℕ) (q : Party) (n : ℕ) (b : Bool) → StandsAt r (w.stack (Worker p 0)) → same_party (Worker p 0) q ≡ false → Stood w p r (after_send w q n (w.stack q) b)
 sent_stands w p r q n true s c = turned w p r q _ s (λ z. absurd (never (same_party (Worker p 0) q) c z))
 sent_stands w p r q n false s c = turned w p r q _ s (λ z. absurd (never (same_party (Worker p 0) q) c z))
+
+cast_stands : (w : World) (p : ℕ) (r : Option ℕ) (q : Party) (n : ℕ) → StandsAt r (w.stack (Worker p 0)) → same_party (Worker p 0) q ≡ false → IfSome (step w (Cast q n)) (Stood w p r)
+cast_stands w p r q n s c = if_cond (Stood w p r) (is_free ((w.stack q).top) && is_pool w.shape n) _ (λ b. turned w p r q _ s (λ z. absurd (never (same_party (Worker p 0) q) c z)))
 
 join_stands : (w : World) (p : ℕ) (r : Option ℕ) (q : Party) → StandsAt r (w.stack (Worker p 0)) → same_party (Worker p 0) q ≡ false → IfSome (step w (Join q)) (Stood w p r)
 join_stands w p r (Worker a b) s c = if_cond (Stood w p r) (is_free (w.stack (Worker a b)).top) _ (λ y. turned w p r (Worker a b) _ s (λ z. absurd (never (same_party (Worker p 0) (Worker a b)) c z)))
@@ -221,6 +225,7 @@ step_stands w (Miss q) p r one calm s = miss_stands w p r q (w.stack q).top (w.s
 step_stands w (End q d) p r one calm s = end_stands w p r q d (w.stack q).top (w.stack q).below s (λ z. subst (λ y. StandsAt r (w.stack y)) (same_party_true (Worker p 0) q z) s)
 step_stands w (Spawn q n) p r one calm s = spawn_stands w p r q n s (λ z. subst (λ y. StandsAt r (w.stack y)) (same_party_true (Worker p 0) q z) s)
 step_stands w (Fifo q n) p r one calm s = fifo_stands w p r q n s calm
+step_stands w (Cast q n) p r one calm s = cast_stands w p r q n s calm
 step_stands w (Install q n) p r one calm s = if_cond (Stood w p r) (is_free ((w.stack q).top) && is_pool w.shape n) _ (λ b. sent_stands w p r q n (is_member q n) s calm)
 step_stands w (Join q) p r one calm s = join_stands w p r q s calm
 step_stands w (Yield q) p r one calm s = (yield_stands w p r q s calm).0

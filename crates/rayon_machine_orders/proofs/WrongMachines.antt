@@ -13,7 +13,7 @@ use Rattle.rayon_machine_places.specs.declared.place.Then.TheVariants.{Missing}
 use Rattle.rayon_machine_places.specs.declared.place.Place.{Place}
 use Rattle.rayon_machine_places.specs.declared.place.Place.TheVariants.{LoadCounters, AddSleeping, LookAtCast, LookAtInjector, BlockSelf, WakeUp, GrowCall, PushJob, LockToWake, UnlockWoken, SetLatch, UnlockSettled, SetLockLatch}
 use Rattle.rayon_machine_places.specs.declared.place.Move.{Move}
-use Rattle.rayon_machine_places.specs.declared.place.Move.TheVariants.{Stay, Back, HandBack, Discard}
+use Rattle.rayon_machine_places.specs.declared.place.Move.TheVariants.{Stay, Back, HandBack, Discard, HandAllBack}
 use Rattle.rayon_machine_places.specs.declared.act.Act.{Act}
 use Rattle.rayon_machine_places.specs.declared.act.Act.TheVariants.{PopOwn, Announce, Lock, SubInactive, PushInj, News, Set, LockWait, Lower}
 use Rattle.rayon_machine_places.specs.declared.act.Seen.{Seen}
@@ -311,6 +311,7 @@ push_drops_its_job = record { says = refl; stands = refl }
 abbrev gives_none : Move → Move
 gives_none (HandBack n) = Back
 gives_none (Discard n) = Back
+gives_none (HandAllBack b9) = Back
 gives_none g = g
 
 abbrev loses_jobs : PoolShape → Party → Place → Seen → Move

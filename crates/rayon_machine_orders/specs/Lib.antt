@@ -1,4 +1,5 @@
 pub mod Calls
+pub mod Casts
 pub mod Order
 pub mod Queue
 pub use Rattle.rayon_machine_places.specs.Places

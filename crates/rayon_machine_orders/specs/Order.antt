@@ -9,7 +9,7 @@ use Rattle.rayon_machine_places.specs.declared.place.Target.TheVariants.{Termina
 use Rattle.rayon_machine_places.specs.declared.act.Act.{Act}
 use Rattle.rayon_machine_places.specs.declared.act.Act.TheVariants.{Begin, PushOwn, FifoOut}
 use Rattle.rayon_machine_places.specs.declared.event.Event.{Event}
-use Rattle.rayon_machine_places.specs.declared.event.Event.TheVariants.{Go, Fifo, Install, Join, Yield, YieldLocal, EndPool}
+use Rattle.rayon_machine_places.specs.declared.event.Event.TheVariants.{Go, Fifo, Install, Join, Yield, YieldLocal, EndPool, Cast}
 use Rattle.rayon_machine_places.specs.Places.{act_of, fresh, same_party}
 use Rattle.rayon_machine_places.specs.World.{Shape, World}
 use Rattle.rayon_machine_places.specs.Steps.{step}
@@ -178,6 +178,7 @@ is_redeem _ = false
 abbrev pub is_other : ℕ → World → Event → Bool
 is_other p w (Go q) = same_party (Worker p 0) q && is_redeem (act_of q (w.stack q).top)
 is_other p w (Fifo q r) = same_party (Worker p 0) q
+is_other p w (Cast q r) = same_party (Worker p 0) q
 is_other p w (Install q r) = same_party (Worker p 0) q
 is_other p w (Join q) = same_party (Worker p 0) q
 is_other p w (Yield q) = same_party (Worker p 0) q

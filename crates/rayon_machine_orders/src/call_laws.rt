@@ -5,13 +5,15 @@ ghost use Rattle.rayon_machine_laws.specs.Counted.{IsCounted};
 ghost use Rattle.rayon_machine_laws.specs.End.{IsEnd, IsRefused, IsReturned};
 ghost use Rattle.rayon_machine_laws.specs.Shares.{NoEarlyEnd};
 ghost use Rattle.rayon_machine_orders.specs.Calls.{CallLaw};
+ghost use Rattle.rayon_machine_orders.specs.Casts.{CastLaw};
 
 /// In every world of every run a pool's terminate count is the number of the shares in it: one for the pool's value
 /// until its Lower, and one for each job at the pool that has a share. Each of them is kept exactly once, and no other
 /// is kept. The value's share is kept by the held value, or by the one Lower that gives it back. A job's share is kept
 /// by the one call that waits for it, from its Raise to its Lower; where no call waits for the job, by its call before
-/// it is queued or stands in a FIFO list, and again once the call has taken it back from there; then by the job itself
-/// while it is queued, in a FIFO list, in a hand or running, and last by the Lower that follows its run. A token has no
+/// it is queued or stands in a FIFO list or in a broadcast list, and again once the call has taken it back from there;
+/// then by the job itself while it is queued, in one of these lists, in a hand or running, and last by the Lower that
+/// follows its run, or the one act by which a refused broadcast gives back the shares of all its pieces. A token has no
 /// share. So no share is lost, and none stays in the count that nobody keeps.
 /// It does not say that a share is ever given back.
 pub fn law_count()
@@ -33,6 +35,9 @@ pub fn law_count()
 /// a step of the call itself was refused, each is handed back and has never run. What the call takes from a cell is how
 /// the last of its jobs ended. An install or a join that nothing refused has its answer where it is to lower the
 /// terminate count, and the fault is the one that comes first. Once it is over, its share is given back.
+/// And so it is of broadcasts (`casts`): the event gives out a piece for each worker of the pool. Once the party's stack
+/// is again what it was, each piece is queued, in a hand, running or over; but if a step of the broadcast itself was
+/// refused, each is handed back, has never run, and has no share of the terminate count.
 /// It does not say that a call ever comes to its last step, nor that a pool ever ends.
 pub fn law_end()
     ensures ends { Always IsEnd }
@@ -40,4 +45,5 @@ pub fn law_end()
     ensures returned { Always IsReturned }
     ensures early { Always NoEarlyEnd }
     ensures calls { CallLaw }
+    ensures casts { CastLaw }
 {}

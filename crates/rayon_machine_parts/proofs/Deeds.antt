@@ -4,7 +4,7 @@ use Rattle.std.specs.Prelude.{Option, Some, None, if◌then◌else◌, ◌==◌}
 use Rattle.std.proofs.lemmas.Bool.{eqb-true}
 use Rattle.rayon_machine_places.specs.declared.place.Party.{Party}
 use Rattle.rayon_machine_places.specs.declared.act.Act.{Act}
-use Rattle.rayon_machine_places.specs.declared.act.Act.TheVariants.{PopOwn, TakeCast, Pick, Steal, PopInj, Load, TryAdd, LookCast, LookInj, LookOwn, SubInactive, Begin, PushInj, PushOwn, FifoUndo, News, Lower, Raise, Idle}
+use Rattle.rayon_machine_places.specs.declared.act.Act.TheVariants.{PopOwn, TakeCast, Pick, Steal, PopInj, Load, TryAdd, LookCast, LookInj, LookOwn, SubInactive, Begin, PushInj, PushOwn, PushCast, FifoUndo, News, Lower, Raise, LowerAll, RaiseAll, Idle}
 use Rattle.rayon_machine_places.specs.declared.act.Seen.{Seen}
 use Rattle.rayon_machine_places.specs.declared.act.Seen.TheVariants.{Missing, Task}
 use Rattle.rayon_machine_places.specs.declared.place.Taken.TheVariants.{Plain}
@@ -66,6 +66,7 @@ handles o (LookInj p) q c t h own fifo injector casts k e = ap (λ s. Some (s, f
 handles o LookOwn q c t h own fifo injector casts k e = ap (λ s. Some (s, full t own fifo injector casts)) (look own)
 handles o (PushInj p n) q c t h own fifo injector casts k e = refl
 handles o (PushOwn n) q c t h own fifo injector casts k e = refl
+handles o (PushCast b) q c t h own fifo injector casts k e = refl
 handles o _ q c t h own fifo injector casts k e = cc
 
 -- an act on a queue
@@ -84,6 +85,8 @@ pub sharing-acts : (o : Order) (a : Act) (q : Party) (c : Counts) (b : ℕ) (fou
 sharing-acts o (Begin n) q c b found t seen u k d = λ h own fifo injector casts eb eo ef. d h own fifo injector casts eb
 sharing-acts o (Lower p n) q c b found t seen u k d = λ h own fifo injector casts eb eo ef. d h own fifo injector casts eb
 sharing-acts o (Raise p n) q c b found t seen u k d = λ h own fifo injector casts eb eo ef. d h own fifo injector casts eb
+sharing-acts o (LowerAll b9) q c b found t seen u k d = λ h own fifo injector casts eb eo ef. d h own fifo injector casts eb
+sharing-acts o (RaiseAll b9) q c b found t seen u k d = λ h own fifo injector casts eb eo ef. d h own fifo injector casts eb
 sharing-acts o Pick q c b found t seen u k d = λ h own fifo injector casts eb eo ef. d h own fifo injector casts eb
 sharing-acts o Idle q c b found t seen u k d = λ h own fifo injector casts eb eo ef. d h own fifo injector casts eb
 sharing-acts o _ q c b found t seen u k d = cc

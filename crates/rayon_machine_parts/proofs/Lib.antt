@@ -2,3 +2,4 @@ pub mod AfterWrites
 pub mod Stored
 pub mod Ends
 pub mod Deeds
+pub mod Dealt

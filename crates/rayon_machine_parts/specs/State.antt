@@ -1,8 +1,8 @@
 -- what the stored parts of a world stand for, and what an act leaves of them
-use Rattle.std.specs.Prelude.{ℕ, Bool, true, false, ◌<◌, ◌==◌, if◌then◌else◌, Option, Some, None, List, [], ◌∷◌, ◌++◌, ◌≡◌, slice_get, reverse, IsSomeAnd, vec_len, vec_capacity}
+use Rattle.std.specs.Prelude.{ℕ, Bool, true, false, ◌+◌, ◌≤◌, ◌<◌, ◌==◌, if◌then◌else◌, Option, Some, None, List, [], ◌∷◌, ◌++◌, ◌≡◌, slice_get, reverse, length, IsSomeAnd, vec_len, vec_capacity}
 use Rattle.rayon_machine_places.specs.declared.place.Party.{Party}
 use Rattle.rayon_machine_places.specs.declared.act.Act.{Act}
-use Rattle.rayon_machine_places.specs.declared.act.Act.TheVariants.{Probe, PopOwn, TakeCast, AddInactive, Pick, Steal, PopInj, Announce, Sleepy, Lock, Asleep, Load, TryAdd, LookCast, LookInj, LookOwn, Block, SubSleeping, Wakeup, Unlock, SubInactive, Wake, Begin, PushInj, PushOwn, FifoIn, FifoUndo, FifoOut, News, Set, LockSet, LockWait, Lower, Raise, Grow, Store, Take, Idle}
+use Rattle.rayon_machine_places.specs.declared.act.Act.TheVariants.{Probe, PopOwn, TakeCast, AddInactive, Pick, Steal, PopInj, Announce, Sleepy, Lock, Asleep, Load, TryAdd, LookCast, LookInj, LookOwn, Block, SubSleeping, Wakeup, Unlock, SubInactive, Wake, Begin, PushInj, PushOwn, FifoIn, FifoUndo, FifoOut, PushCast, RaiseAll, LowerAll, News, Set, LockSet, LockWait, Lower, Raise, Grow, Store, Take, Idle}
 use Rattle.rayon_machine_places.specs.declared.act.Seen.{Seen}
 use Rattle.rayon_machine_places.specs.declared.act.Seen.TheVariants.{Done, Yes, No, Task, Missing}
 use Rattle.rayon_machine_parts.specs.declared.numbers.Touched.{Touched}
@@ -15,9 +15,10 @@ use Rattle.rayon_machine_parts.specs.declared.deed.Deed.{Deed}
 use Rattle.rayon_machine_parts.specs.declared.kind.Kind.TheVariants.{Queueing, Feeding, Counting, Latching, Locking, Sharing}
 use Rattle.rayon_machine_places.specs.declared.place.Party.TheVariants.{Worker, Caller}
 use Rattle.rayon_machine_places.specs.declared.place.Move.{Move}
+use Rattle.rayon_machine_places.specs.declared.place.Pieces.{Pieces}
 use Rattle.rayon_machine_places.specs.declared.place.Plan.{Plan}
 use Rattle.rayon_machine_places.specs.declared.place.Plan.TheVariants.{Detach, Here, Send, Fork, Feed}
-use Rattle.rayon_machine_places.specs.declared.place.Move.TheVariants.{StartRun, HandBack, HandIn, Discard}
+use Rattle.rayon_machine_places.specs.declared.place.Move.TheVariants.{StartRun, HandBack, HandIn, Discard, Mark, HandAllBack}
 use Rattle.rayon_machine_places.specs.declared.shape.Order.{Order}
 use Rattle.rayon_machine_places.specs.declared.shape.Order.TheVariants.{NewestFirst}
 use Rattle.rayon_machine_places.specs.declared.shape.PoolShape.{PoolShape}
@@ -30,6 +31,7 @@ use Rattle.rayon_machine_parts.specs.declared.parties.Stack.{Stack as StoredStac
 use Rattle.rayon_machine_parts.specs.declared.parties.Crew.{Crew}
 use Rattle.rayon_machine_parts.specs.declared.parties.Parties.{Parties}
 use Rattle.rayon_machine_parts.specs.declared.parts.Pool.{Pool as StoredPool}
+use Rattle.rayon_machine_parts.specs.declared.parts.CastList.{CastList}
 use Rattle.rayon_machine_parts.specs.declared.parts.Seat.{Seat as StoredSeat}
 use Rattle.rayon_machine_parts.specs.declared.parts.Bench.{Bench}
 use Rattle.rayon_machine_parts.specs.declared.parts.Parts.{Parts}
@@ -38,7 +40,7 @@ use Rattle.rayon_machine_places.specs.Runs.{first_place}
 use Rattle.rayon_machine_places.specs.Steps.{blank_job, new_call}
 use Rattle.std.specs.Option.{option_map_or}
 use Rattle.std.specs.VecDeque.{deque_capacity, deque_len}
-use Rattle.rayon_machine_places.specs.World.{Shape, Seat, Pool, Stack, Counts, Part, at_job, head_of, last_of, own_of, own_left, but_first, but_last, count_below, taken_as, left_by, target_pool, target_worker, target_call, target_job, effect}
+use Rattle.rayon_machine_places.specs.World.{Shape, Seat, Pool, Stack, Counts, Part, at_job, head_of, last_of, own_of, own_left, but_first, but_last, casts_with, count_below, taken_as, left_by, target_pool, target_worker, target_call, target_job, effect}
 
 -- the numbers of a census
 abbrev pub census_counts : Census → Counts
@@ -98,11 +100,13 @@ is_locking (Unlock p i) = true
 is_locking (Wake p i) = true
 is_locking _ = false
 
--- an act on a share of a terminate count, the begin of a run, the choice of a victim, or none
+-- an act on shares of a terminate count, the begin of a run, the choice of a victim, or none
 abbrev pub is_sharing : Act → Bool
 is_sharing (Begin t) = true
 is_sharing (Lower p s) = true
 is_sharing (Raise p t) = true
+is_sharing (LowerAll b) = true
+is_sharing (RaiseAll b) = true
 is_sharing Pick = true
 is_sharing Idle = true
 is_sharing _ = false
@@ -118,6 +122,7 @@ is_queueing (LookInj p) = true
 is_queueing LookOwn = true
 is_queueing (PushInj p t) = true
 is_queueing (PushOwn t) = true
+is_queueing (PushCast b) = true
 is_queueing _ = false
 
 -- an act on a FIFO list
@@ -145,6 +150,7 @@ abbrev pub pool_queued : Act → ℕ → Pool → Pool
 pool_queued PopInj k v = record v { injector = but_first v.injector }
 pool_queued TakeCast k v = record v { casts = λ i. if i == k then but_first (v.casts k) else v.casts i }
 pool_queued (PushInj p t) k v = record v { injector = v.injector ++ t ∷ [] }
+pool_queued (PushCast b) k v = record v { casts = casts_with b v.casts }
 pool_queued _ k v = v
 
 -- a worker's seat after an act on its deque or its FIFO list
@@ -250,9 +256,13 @@ abbrev pub stack_in : Shape → Parties → Party → Stack
 stack_in h w (Worker p i) = worker_in h w.crews.items p i
 stack_in h w (Caller c) = caller_in h w.callers.items c
 
+-- the broadcast list of this worker; one that is not there is empty
+abbrev pub cast_at : List CastList → ℕ → List ℕ
+cast_at casts i = option_map_or (λ (c : CastList). c.tasks.items) (slice_get casts i) []
+
 -- a stored pool's lists and numbers
 abbrev pub pool_of : StoredPool → Pool
-pool_of v = record { injector = v.injector.items; casts = λ i. option_map_or (λ l. l.items) (slice_get v.casts.items i) []; turn = v.numbers.turn; count = v.numbers.count; held = v.numbers.held; counted = v.numbers.counted }
+pool_of v = record { injector = v.injector.items; casts = cast_at v.casts.items; turn = v.numbers.turn; count = v.numbers.count; held = v.numbers.held; counted = v.numbers.counted }
 
 -- a stored seat's deque, FIFO list and flags
 abbrev pub seat_of : StoredSeat → Seat
@@ -319,6 +329,19 @@ abbrev pub FifoFits : Act → ℕ → ℕ → Type 0
 FifoFits (FifoIn t) len capacity = len < capacity
 FifoFits _ len capacity = Unit {0}
 
+-- the lists of so many workers are stored, with room for one more task in those from this one upward
+abbrev pub CastsFrom : ℕ → ℕ → List CastList → Type 0
+CastsFrom i n casts = (n ≤ length casts) × ((k : ℕ) → i ≤ k → k < n → IsSomeAnd (slice_get casts k) (λ c. deque_len c.tasks < deque_capacity c.tasks))
+
+-- the numbers of the pieces of a broadcast are none too large
+abbrev pub NumbersFit : Pieces → Type 0
+NumbersFit b = b.first + b.workers ≤ 18446744073709551615
+
+-- the pieces of a broadcast that is pushed find room, and their numbers are none too large
+abbrev pub CastsFit : Act → List CastList → Type 0
+CastsFit (PushCast b) casts = NumbersFit b × CastsFrom 0 b.workers casts
+CastsFit _ casts = Unit {0}
+
 -- the numbers of a pool, and the flags of a seat
 abbrev pub numbers_of : Pool → PoolNumbers
 numbers_of v = record { turn = v.turn; count = v.count; held = v.held; counted = v.counted }
@@ -331,9 +354,9 @@ flags_of s = record { feeder = s.feeder; inactive = s.inactive; asleep = s.aslee
 abbrev pub touched_at : Parts → Spot → Touched
 touched_at w s = record { pool = numbers_of (pool_at w.pools.items s.pool); worker = flags_of (seat_at w.benches.items s.pool s.worker); call = call_at w.calls.items s.call; job = job_at w.jobs.items s.job }
 
--- a pool of this index is stored, with room for what the act injects
+-- a pool of this index is stored, with room for what the act injects or puts into broadcast lists
 abbrev pub HasPool : Act → List StoredPool → ℕ → Type 0
-HasPool a pools p = IsSomeAnd (slice_get pools p) (λ v. InjectorFits a (deque_len v.injector) (deque_capacity v.injector))
+HasPool a pools p = IsSomeAnd (slice_get pools p) (λ v. InjectorFits a (deque_len v.injector) (deque_capacity v.injector) × CastsFit a v.casts.items)
 
 -- a seat of this index is stored, with room for what the act pushes
 abbrev pub SeatFits : Act → List StoredSeat → ℕ → Type 0
@@ -394,13 +417,22 @@ PlanWithin (Send o) n = o.job < n
 PlanWithin (Fork o a) n = (a < n) × (o.job < n)
 PlanWithin (Feed f) n = (f.job < n) × (f.token < n)
 
--- the jobs that a move begins or hands back, and the tokens that it spends, have numbers below this
+-- the jobs that a move begins or hands back, the tokens that it spends, and the pieces of a broadcast of which it makes
+-- something, have numbers below this
 abbrev pub MoveWithin : Move → ℕ → Type 0
 MoveWithin (StartRun f t) n = t < n
 MoveWithin (HandBack plan) n = PlanWithin plan n
 MoveWithin (HandIn y k) n = k < n
 MoveWithin (Discard k) n = k < n
+MoveWithin (Mark y c k) n = c.first + c.workers ≤ n
+MoveWithin (HandAllBack c) n = c.first + c.workers ≤ n
 MoveWithin _ n = Unit {0}
+
+-- the numbers of the pieces of which a move makes something are none too large
+abbrev pub PiecesFit : Move → Type 0
+PiecesFit (Mark y c k) = NumbersFit c
+PiecesFit (HandAllBack c) = NumbersFit c
+PiecesFit _ = Unit {0}
 
 -- the number of runs of the job that a move begins can grow
 abbrev pub RunsFit : Move → (ℕ → Job) → Type 0

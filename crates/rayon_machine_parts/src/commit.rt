@@ -1,17 +1,17 @@
 //! How a deed and a move change the parts of the world.
 ghost use Rattle.std.specs.Prelude.{◌≡◌, ℕ, OnOk, ◌<◌, vec_len, true, ◌≤◌};
 ghost use Rattle.rayon_machine_places.specs.Steps.{put, put_seat, handed_back, jobs_after};
-ghost use Rattle.rayon_machine_parts.specs.State.{HasPool, HasSeat, call_at, job_at, pool_at, pool_queued, seat_at, seat_queued, with_flags, with_numbers, MoveWithin, PlanWithin, RunsFit};
+ghost use Rattle.rayon_machine_parts.specs.State.{HasPool, HasSeat, call_at, job_at, pool_at, pool_queued, seat_at, seat_queued, with_flags, with_numbers, MoveWithin, PiecesFit, PlanWithin, RunsFit};
 ghost use Rattle.rayon_machine_places.specs.World.{at_job};
 ghost use Rattle.rayon_machine_places.specs.declared.state.Whereabouts.TheVariants.{HandedBack};
 
 use crate::deed::Deed;
-use crate::growth::{grow_calls, grow_jobs, pool_room, seat_room};
+use crate::growth::{grow_calls, grow_jobs, numbers_fit, pool_room, seat_room};
 use crate::parts::Parts;
 use crate::spot::Spot;
-use crate::writes::{write_call, write_job, write_pool, write_seat};
+use crate::writes::{write_call, write_job, write_marks, write_pool, write_seat};
 use rayon_machine_places::act::Act;
-use rayon_machine_places::place::{Move, Party, Plan};
+use rayon_machine_places::place::{Mark, Move, Party, Plan};
 use rayon_machine_places::state::{Job, Whereabouts};
 use std::alloc::{AllocError, Global};
 
@@ -35,15 +35,29 @@ fn last_of_call(plan: Plan) -> u64
     }
 }
 
-/// The last number of the jobs that a move begins or hands back or of the token that it spends, and 0 if it does none
-/// of these.
+/// Whether the numbers of the pieces of which a move makes something are none too large.
+pub fn pieces_fit(step: Move) -> bool
+    ensures { result ≡ true → PiecesFit step }
+{
+    match step {
+        Move::Mark { pieces, .. } | Move::HandAllBack(pieces) => numbers_fit(pieces),
+        _ => true,
+    }
+}
+
+/// The last number of the jobs that a move begins or hands back or of the token that it spends, a number after those of
+/// the pieces of which it makes something, and 0 if it does none of these.
 pub fn last_job(step: Move) -> u64
+    requires { PiecesFit step }
     ensures { (n : ℕ) → result < n → MoveWithin step n }
 {
     match step {
         Move::StartRun { job, .. } => job,
         Move::HandBack(plan) => last_of_call(plan),
         Move::HandIn { token, .. } | Move::Discard(token) => token,
+        Move::Mark { pieces, .. } | Move::HandAllBack(pieces) => {
+            pieces.first + pieces.workers as u64
+        }
         _ => 0,
     }
 }
@@ -91,7 +105,8 @@ fn hand_both(jobs: &mut Vec<Job>, first: u64, second: u64)
     jobs[second as usize] = back;
 }
 
-/// The run of a job begins, a refused call's jobs are handed back, or a token is spent.
+/// The run of a job begins, a refused call's jobs are handed back, a token is spent, or something is made of each piece
+/// of a broadcast.
 pub fn move_jobs(jobs: &mut Vec<Job>, party: Party, step: Move)
     requires within { MoveWithin step (vec_len jobs.old) }
     requires runs { RunsFit step (job_at jobs.old.items) }
@@ -106,6 +121,8 @@ pub fn move_jobs(jobs: &mut Vec<Job>, party: Party, step: Move)
         Move::HandIn { token, .. } | Move::Discard(token) => {
             move_job(jobs, token, Whereabouts::Spent)
         }
+        Move::Mark { pieces, mark, .. } => write_marks(jobs, pieces, mark),
+        Move::HandAllBack(pieces) => write_marks(jobs, pieces, Mark::Returned),
         _ => {}
     }
 }

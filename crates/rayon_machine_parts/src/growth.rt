@@ -1,15 +1,16 @@
 //! Room for what a step touches: a table is filled up to a number with what stands there at the start.
-ghost use Rattle.std.specs.Prelude.{◌≡◌, ℕ, OnOk, ◌<◌, vec_len};
+ghost use Rattle.std.specs.Prelude.{◌≡◌, ℕ, OnOk, ◌≤◌, ◌<◌, vec_len, true};
 ghost use Rattle.std.specs.VecDeque.{deque_capacity, deque_len};
-ghost use Rattle.rayon_machine_parts.specs.State.{DequeFits, FifoFits, HasPool, HasSeat, InjectorFits, SeatFits, call_at, job_at, pool_at, pool_of, seat_of, seat_at, seat_in, shape_of, stack_of, blank_pool, blank_seat, first_stack, caller_in, stack_at, worker_in};
+ghost use Rattle.rayon_machine_parts.specs.State.{CastsFit, CastsFrom, DequeFits, NumbersFit, FifoFits, HasPool, HasSeat, InjectorFits, SeatFits, call_at, cast_at, job_at, pool_at, pool_of, seat_of, seat_at, seat_in, shape_of, stack_of, blank_pool, blank_seat, first_stack, caller_in, stack_at, worker_in};
 ghost use Rattle.rayon_machine_places.specs.World.{Shape};
+ghost use Rattle.rayon_machine_places.specs.declared.act.Act.TheVariants.{PushCast};
 
 use crate::numbers::{PoolNumbers, WorkerFlags};
 use crate::parties::{Crew, Stack};
-use crate::parts::{Bench, Pool, Seat};
+use crate::parts::{Bench, CastList, Pool, Seat};
 use crate::shapes::Shapes;
 use rayon_machine_places::act::Act;
-use rayon_machine_places::place::Party;
+use rayon_machine_places::place::{Party, Pieces};
 use rayon_machine_places::state::{Call, Job, Letter};
 use std::alloc::{AllocError, Global};
 use std::collections::VecDeque;
@@ -62,6 +63,50 @@ pub(crate) fn grow_benches(
         })?;
     }
     Ok(())
+}
+
+/// Whether the numbers of the pieces of a broadcast are none too large.
+pub(crate) fn numbers_fit(pieces: Pieces) -> bool
+    ensures { result ≡ true → NumbersFit pieces }
+{
+    pieces.first <= u64::MAX - pieces.workers as u64
+}
+
+/// Broadcast lists for so many workers.
+fn grow_casts(alloc: Global, casts: &mut Vec<CastList>, workers: usize) -> Result<(), AllocError>
+    ensures same { (i : ℕ) → cast_at casts.new.items i ≡ cast_at casts.old.items i }
+    ensures room { OnOk result (workers ≤ vec_len casts.new) }
+{
+    'fill: while casts.len() < workers {
+        casts.push(CastList {
+            tasks: VecDeque::new(alloc),
+        })?;
+    }
+    Ok(())
+}
+
+/// Room for one more task in each of so many broadcast lists.
+fn reserve_casts(casts: &mut Vec<CastList>, workers: usize) -> Result<(), AllocError>
+    requires { workers ≤ vec_len casts.old }
+    ensures same { (i : ℕ) → cast_at casts.new.items i ≡ cast_at casts.old.items i }
+    ensures room { OnOk result (CastsFrom 0 workers casts.new.items) }
+{
+    for index in 0..workers {
+        casts[index].tasks.try_reserve(1)?;
+    }
+    Ok(())
+}
+
+/// Room for the pieces of a broadcast.
+fn casts_room(alloc: Global, casts: &mut Vec<CastList>, pieces: Pieces) -> Result<(), AllocError>
+    ensures same { (i : ℕ) → cast_at casts.new.items i ≡ cast_at casts.old.items i }
+    ensures room { OnOk result (CastsFit (PushCast pieces) casts.new.items) }
+{
+    if !numbers_fit(pieces) {
+        return Err(AllocError);
+    }
+    grow_casts(alloc, casts, pieces.workers)?;
+    reserve_casts(casts, pieces.workers)
 }
 
 /// Room for the seat of this index.
@@ -146,7 +191,7 @@ impl Stack {
     }
 }
 
-/// Room for a pool, and for what an act injects.
+/// Room for a pool, and for what an act injects or puts into broadcast lists.
 pub(crate) fn pool_room(
     alloc: Global,
     pools: &mut Vec<Pool>,
@@ -157,16 +202,16 @@ pub(crate) fn pool_room(
     ensures room { OnOk result (HasPool act pools.new.items pool) }
 {
     grow_pools(alloc, pools, pool)?;
-    pool_fits(pools, pool, act)
+    pool_fits(alloc, pools, pool, act)
 }
 
-/// Room in a stored pool for what an act injects.
-fn pool_fits(pools: &mut Vec<Pool>, pool: usize, act: Act) -> Result<(), AllocError>
+/// Room in a stored pool for what an act injects or puts into broadcast lists.
+fn pool_fits(alloc: Global, pools: &mut Vec<Pool>, pool: usize, act: Act) -> Result<(), AllocError>
     requires { pool < vec_len pools.old }
     ensures same { (p : ℕ) → pool_at pools.new.items p ≡ pool_at pools.old.items p }
     ensures room { OnOk result (HasPool act pools.new.items pool) }
 {
-    pools[pool].make_room(act)
+    pools[pool].make_room(alloc, act)
 }
 
 /// Room for a seat, and for what an act pushes.
@@ -212,13 +257,15 @@ impl Pool {
         }
     }
 
-    /// Room for what an act injects.
-    fn make_room(&mut self, act: Act) -> Result<(), AllocError>
+    /// Room for what an act injects or puts into broadcast lists.
+    fn make_room(&mut self, alloc: Global, act: Act) -> Result<(), AllocError>
         ensures same { pool_of self.new ≡ pool_of self.old }
+        ensures casts { OnOk result (CastsFit act self.new.casts.items) }
         ensures room { OnOk result (InjectorFits act (deque_len self.new.injector) (deque_capacity self.new.injector)) }
     {
         match act {
             Act::PushInj { .. } => self.injector.try_reserve(1),
+            Act::PushCast(pieces) => casts_room(alloc, &mut self.casts, pieces),
             _ => Ok(()),
         }
     }

@@ -16,7 +16,7 @@ pub(crate) enum Kind {
     Latching,
     /// A sleep lock.
     Locking,
-    /// A share of a terminate count, the run of a job, or nothing.
+    /// Shares of a terminate count, the run of a job, or nothing.
     Sharing,
 }
 
@@ -34,7 +34,8 @@ impl Kind {
             | Act::LookInj(_)
             | Act::LookOwn
             | Act::PushInj { .. }
-            | Act::PushOwn(_) => Kind::Queueing,
+            | Act::PushOwn(_)
+            | Act::PushCast(_) => Kind::Queueing,
             Act::FifoIn(_) | Act::FifoUndo | Act::FifoOut { .. } => Kind::Feeding,
             Act::AddInactive
             | Act::Announce
@@ -54,9 +55,13 @@ impl Kind {
             | Act::Store { .. }
             | Act::Take(_) => Kind::Latching,
             Act::Lock { .. } | Act::Block | Act::Unlock { .. } | Act::Wake { .. } => Kind::Locking,
-            Act::Begin(_) | Act::Lower { .. } | Act::Raise { .. } | Act::Pick | Act::Idle => {
-                Kind::Sharing
-            }
+            Act::Begin(_)
+            | Act::Lower { .. }
+            | Act::Raise { .. }
+            | Act::LowerAll(_)
+            | Act::RaiseAll(_)
+            | Act::Pick
+            | Act::Idle => Kind::Sharing,
         }
     }
 }

@@ -5,11 +5,11 @@ ghost use Rattle.rayon_machine_places.specs.declared.place.Party.{Party as AnyPa
 ghost use Rattle.rayon_machine_places.specs.World.{at_job, is_set as set_seen, letter as letter_of, wakes_for_one as wakes_of, with_letter as with_letter_of, Counts};
 ghost use Rattle.rayon_machine_parts.specs.State.{Can, Does, DoesNot, census_counts, full, is_counting, is_latching, is_locking, is_sharing};
 ghost use Rattle.rayon_machine_places.specs.declared.act.Seen.TheVariants.{Word};
-ghost use Rattle.rayon_machine_places.specs.declared.act.Act.TheVariants.{Announce, Asleep, Begin, Lock, Lower, News, Raise, Set, Sleepy, Take, TryAdd, Unlock, Wake, Wakeup};
+ghost use Rattle.rayon_machine_places.specs.declared.act.Act.TheVariants.{Announce, Asleep, Begin, Lock, Lower, LowerAll, News, Raise, RaiseAll, Set, Sleepy, Take, TryAdd, Unlock, Wake, Wakeup};
 
 use rayon_machine_places::act::{Act, Seen};
 use rayon_machine_places::error::StepError;
-use rayon_machine_places::place::{Latch, Party, Share};
+use rayon_machine_places::place::{Latch, Party, Pieces, Share};
 use rayon_machine_places::state::{Call, Job, Letter, Whereabouts};
 
 /// The numbers of a pool.
@@ -511,6 +511,43 @@ impl Touched {
         Ok((Seen::Done, Touched { pool, job, ..self }))
     }
 
+    /// Gives the shares of the pieces of a broadcast back, and sees whether they were the last.
+    fn lower_all(self, pieces: Pieces) -> (Seen, Touched)
+        ensures { (q : AnyParty) (c : Counts) (jec_bits : ℕ) → Does (LowerAll pieces) q c jec_bits self (result.0) (result.1) }
+    {
+        let shares = pieces.workers as u64;
+        let seen = if self.pool.count == shares {
+            Seen::Yes
+        } else {
+            Seen::No
+        };
+        let pool = PoolNumbers {
+            count: self.pool.count.saturating_sub(shares),
+            ..self.pool
+        };
+        (seen, Touched { pool, ..self })
+    }
+
+    /// Takes a share of a terminate count for each piece of a broadcast, unless the pool has ended.
+    fn raise_all(self, pieces: Pieces) -> Outcome
+        ensures ok { IfOk result (λ r. (q : AnyParty) (c : Counts) (jec_bits : ℕ) → Does (RaiseAll pieces) q c jec_bits self (r.0) (r.1)) }
+        ensures no_room { IfErr result (λ e. e ≡ StepError.NoRoom) }
+        ensures enabled { IfErr result (λ e. (q : AnyParty) (c : Counts) → Can (RaiseAll pieces) q c self) }
+    {
+        if self.pool.count == 0 {
+            return Ok((Seen::Refused, self));
+        }
+        let shares = pieces.workers as u64;
+        if self.pool.count > u64::MAX - shares {
+            return Err(StepError::NoRoom);
+        }
+        let pool = PoolNumbers {
+            count: self.pool.count + shares,
+            ..self.pool
+        };
+        Ok((Seen::Done, Touched { pool, ..self }))
+    }
+
     /// Begins the run of the job.
     fn begin(self, party: Party) -> Outcome
         ensures ok { IfOk result (λ r. (c : Counts) (jec_bits job : ℕ) → Does (Begin job) party c jec_bits self (r.0) (r.1)) }
@@ -534,6 +571,8 @@ impl Touched {
             Act::Begin(_) => self.begin(party),
             Act::Lower { share, .. } => Ok(self.lower(share)),
             Act::Raise { .. } => self.raise(),
+            Act::LowerAll(pieces) => Ok(self.lower_all(pieces)),
+            Act::RaiseAll(pieces) => self.raise_all(pieces),
             Act::Pick => Ok((Seen::Start(0), self)),
             _ => Err(StepError::NotEnabled),
         }

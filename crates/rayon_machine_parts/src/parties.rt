@@ -162,7 +162,9 @@ impl Stack {
         ensures { stack_of self.new ≡ after_move step (reverse self.old.below.items) }
     {
         match step {
-            Move::Stay(place) | Move::HandIn { place, .. } => self.top = place,
+            Move::Stay(place) | Move::HandIn { place, .. } | Move::Mark { place, .. } => {
+                self.top = place
+            }
             Move::Enter { frame, place } => self.enter(frame, place),
             Move::StartRun { frame, job } => self.enter(
                 frame,
@@ -171,7 +173,9 @@ impl Stack {
                     kind: JobKind::Direct,
                 },
             ),
-            Move::Back | Move::HandBack(_) | Move::Discard(_) => self.back(),
+            Move::Back | Move::HandBack(_) | Move::Discard(_) | Move::HandAllBack(_) => {
+                self.back()
+            }
         }
     }
 

@@ -9,6 +9,14 @@ use crate::numbers::{PoolNumbers, WorkerFlags};
 use rayon_machine_places::state::{Call, Job};
 use std::collections::VecDeque;
 
+/// The broadcast list of a worker, the oldest task first.
+/// It is the running world's own part, and not for users.
+#[derive(Drop)]
+pub struct CastList {
+    /// Its tasks.
+    pub tasks: VecDeque<u64>,
+}
+
 /// A pool's injector and its workers' broadcast lists, the oldest task first, and its numbers.
 /// It is the running world's own part, and not for users.
 #[derive(Drop)]
@@ -16,7 +24,7 @@ pub struct Pool {
     /// The tasks of its injector.
     pub injector: VecDeque<u64>,
     /// Its workers' broadcast lists, by index.
-    pub casts: Vec<VecDeque<u64>>,
+    pub casts: Vec<CastList>,
     /// Its numbers.
     pub numbers: PoolNumbers,
 }
@@ -58,7 +66,7 @@ pub struct Parts {
 /// How many jobs of a world stand in a queue, run, and are done. Tokens do not count.
 #[derive(Clone, Copy)]
 pub struct JobTotals {
-    /// In a deque, an injector or a FIFO list.
+    /// In a deque, an injector, a FIFO list or a broadcast list.
     pub queued: u64,
     /// Taken or begun, and not ended.
     pub running: u64,
@@ -111,7 +119,7 @@ impl Parts {
     {
         match self.pools.get(pool) {
             Some(pool) => match pool.casts.get(index) {
-                Some(cast) => cast.len(),
+                Some(cast) => cast.tasks.len(),
                 None => 0,
             },
             None => 0,

@@ -76,7 +76,7 @@ impl Parts {
     {
         match self.pools.get(pool) {
             Some(pool) => match pool.casts.get(worker) {
-                Some(list) => oldest(list),
+                Some(list) => oldest(&list.tasks),
                 None => None,
             },
             None => None,

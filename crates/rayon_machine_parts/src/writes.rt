@@ -1,20 +1,24 @@
 //! Writes to the parts of a world: a pool, a seat, a call or a job is changed, and all else stays as it was.
-ghost use Rattle.std.specs.Prelude.{◌≡◌, ℕ, ◌<◌, vec_len, false, ◌+◌};
+ghost use Rattle.std.specs.Prelude.{◌≡◌, ℕ, ◌<◌, vec_len, false, ◌+◌, ◌≤◌, ◌++◌, ◌∷◌, []};
 ghost use Rattle.std.specs.VecDeque.{deque_capacity, deque_len};
-ghost use Rattle.rayon_machine_places.specs.Steps.{put, put_seat};
-ghost use Rattle.rayon_machine_parts.specs.State.{DequeFits, FifoFits, HasPool, HasSeat, InjectorFits, SeatFits, call_at, job_at, pool_at, pool_of, seat_of, pool_queued, seat_at, seat_in, seat_queued, with_flags, with_numbers};
+ghost use Rattle.rayon_machine_places.specs.Steps.{put, put_seat, put_pieces, mark_pieces, new_piece};
+ghost use Rattle.rayon_machine_places.specs.World.{casts_with};
+ghost use Rattle.rayon_machine_places.specs.declared.act.Act.TheVariants.{PushCast};
+ghost use Rattle.rayon_machine_parts.specs.State.{CastsFit, DequeFits, FifoFits, HasPool, HasSeat, InjectorFits, SeatFits, call_at, cast_at, job_at, pool_at, pool_of, seat_of, pool_queued, seat_at, seat_in, seat_queued, with_flags, with_numbers};
 
 use crate::numbers::{PoolNumbers, WorkerFlags};
-use crate::parts::{Bench, Pool, Seat};
+use crate::parts::{Bench, CastList, Pool, Seat};
 use crate::queues::{drop_newest, drop_oldest};
 use rayon_machine_places::act::Act;
+use rayon_machine_places::place::{Mark, Party, Pieces};
 use rayon_machine_places::shape::Order;
 use rayon_machine_places::state::{Call, Job};
 
 impl Pool {
     /// The pool with these numbers, after an act on its queues by the worker of this index.
     fn write(&mut self, numbers: PoolNumbers, act: Act, index: usize)
-        requires { InjectorFits act (deque_len self.old.injector) (deque_capacity self.old.injector) }
+        requires injector { InjectorFits act (deque_len self.old.injector) (deque_capacity self.old.injector) }
+        requires casts { CastsFit act self.old.casts.items }
         ensures { pool_of self.new ≡ pool_queued act index (with_numbers (pool_of self.old) numbers) }
     {
         self.numbers = numbers;
@@ -25,10 +29,53 @@ impl Pool {
                 prove!(pushed.is_ok());
             }
             Act::TakeCast => if index < self.casts.len() {
-                drop_oldest(&mut self.casts[index]);
+                drop_oldest(&mut self.casts[index].tasks);
             },
+            Act::PushCast(pieces) => push_pieces(&mut self.casts, pieces),
             _ => {}
         }
+    }
+}
+
+impl CastList {
+    /// A task is added last.
+    fn push(&mut self, task: u64)
+        requires { deque_len self.old.tasks < deque_capacity self.old.tasks }
+        ensures { self.new.tasks.items ≡ self.old.tasks.items ++ task ∷ [] }
+    {
+        let pushed = self.tasks.push_back(task);
+        prove!(pushed.is_ok());
+    }
+}
+
+/// Each piece of a broadcast is added to its worker's broadcast list.
+fn push_pieces(casts: &mut Vec<CastList>, pieces: Pieces)
+    requires { CastsFit (PushCast pieces) casts.old.items }
+    ensures { (i : ℕ) → cast_at casts.new.items i ≡ casts_with pieces (cast_at casts.old.items) i }
+{
+    for index in 0..pieces.workers {
+        casts[index].push(pieces.first + index as u64);
+    }
+}
+
+/// Each piece of a broadcast is as a party's call has made it.
+pub fn write_pieces(jobs: &mut Vec<Job>, party: Party, pieces: Pieces)
+    requires { pieces.first + pieces.workers ≤ vec_len jobs.old }
+    ensures { (t : ℕ) → job_at jobs.new.items t ≡ put_pieces pieces (λ i j. new_piece party pieces.pool i) (job_at jobs.old.items) t }
+{
+    for index in 0..pieces.workers {
+        jobs[pieces.first as usize + index] = Job::piece(party, pieces.pool, index);
+    }
+}
+
+/// This is made of each piece of a broadcast.
+pub(crate) fn write_marks(jobs: &mut Vec<Job>, pieces: Pieces, mark: Mark)
+    requires { pieces.first + pieces.workers ≤ vec_len jobs.old }
+    ensures { (t : ℕ) → job_at jobs.new.items t ≡ mark_pieces pieces mark (job_at jobs.old.items) t }
+{
+    for index in 0..pieces.workers {
+        let number = pieces.first as usize + index;
+        jobs[number] = jobs[number].marked(mark, pieces.pool, index);
     }
 }
 

@@ -16,15 +16,17 @@ use Rattle.rayon_machine_places.specs.declared.place.Rounds.{Rounds}
 use Rattle.rayon_machine_places.specs.declared.place.Rounds.TheVariants.{Failed, Announced}
 use Rattle.rayon_machine_places.specs.declared.place.Plan.{Plan}
 use Rattle.rayon_machine_places.specs.declared.place.Plan.TheVariants.{Detach, Here, Send, Fork, Feed}
+use Rattle.rayon_machine_places.specs.declared.place.Pieces.{Pieces}
+use Rattle.rayon_machine_places.specs.declared.place.Mark.TheVariants.{Counted, Queued, Returned}
 use Rattle.rayon_machine_places.specs.declared.place.Share.TheVariants.{OfJob}
 use Rattle.rayon_machine_places.specs.declared.place.Then.{Then}
-use Rattle.rayon_machine_places.specs.declared.place.Then.TheVariants.{BeginFound, LeaveWait, Resume, Await, RunFirst, Answers, Missing, Ran, GiveBack}
+use Rattle.rayon_machine_places.specs.declared.place.Then.TheVariants.{BeginFound, LeaveWait, Resume, Await, RunFirst, Answers, Missing, Ran, GiveBack, Called}
 use Rattle.rayon_machine_places.specs.declared.place.Place.{Place}
-use Rattle.rayon_machine_places.specs.declared.place.Place.TheVariants.{ProbeWorking, PopWorking, TakeCastWorking, BecomeInactive, ProbeIdle, PopIdle, TakeCastIdle, PickVictim, StealFrom, PopInjected, AnnounceSelf, GetSleepy, LockOwn, FallAsleep, LoadCounters, AddSleeping, LookAtCast, LookAtInjector, BlockSelf, RelockOwn, UndoSleeping, WakeUp, UnlockOwn, LeaveSearch, JoinProbe, JoinPop, JoinTakeCast, YieldPop, YieldTakeCast, YieldPick, YieldSteal, YieldPopInjected, LocalPop, LocalTakeCast, BeginTask, BeginHere, Run, RaiseCount, GrowCall, LookQueue, PushJob, AddToFifo, LookForToken, PushToken, TakeFromFifo, TellNews, LockToWake, WakeWorker, UnlockWoken, WaitForLock, TakeResult, LowerCount, StoreResult, SetLatch, LockToSettle, WakeSettled, UnlockSettled, SetLockLatch, FirstSide, SecondSide, AtOnce, Free, Stopped}
+use Rattle.rayon_machine_places.specs.declared.place.Place.TheVariants.{ProbeWorking, PopWorking, TakeCastWorking, BecomeInactive, ProbeIdle, PopIdle, TakeCastIdle, PickVictim, StealFrom, PopInjected, AnnounceSelf, GetSleepy, LockOwn, FallAsleep, LoadCounters, AddSleeping, LookAtCast, LookAtInjector, BlockSelf, RelockOwn, UndoSleeping, WakeUp, UnlockOwn, LeaveSearch, JoinProbe, JoinPop, JoinTakeCast, YieldPop, YieldTakeCast, YieldPick, YieldSteal, YieldPopInjected, LocalPop, LocalTakeCast, BeginTask, BeginHere, Run, RaiseCount, GrowCall, LookQueue, PushJob, AddToFifo, LookForToken, PushToken, TakeFromFifo, RaiseForAll, PushForAll, LowerForAll, TellNews, LockToWake, WakeWorker, UnlockWoken, WaitForLock, TakeResult, LowerCount, StoreResult, SetLatch, LockToSettle, WakeSettled, UnlockSettled, SetLockLatch, FirstSide, SecondSide, AtOnce, Free, Stopped}
 use Rattle.rayon_machine_places.specs.declared.place.Move.{Move}
-use Rattle.rayon_machine_places.specs.declared.place.Move.TheVariants.{Stay, Enter, StartRun, Back, HandBack, HandIn, Discard}
+use Rattle.rayon_machine_places.specs.declared.place.Move.TheVariants.{Stay, Enter, StartRun, Back, HandBack, HandIn, Discard, Mark, HandAllBack}
 use Rattle.rayon_machine_places.specs.declared.act.Act.{Act}
-use Rattle.rayon_machine_places.specs.declared.act.Act.TheVariants.{Probe, PopOwn, TakeCast, AddInactive, Pick, Steal, PopInj, Announce, Sleepy, Lock, Asleep, Load, TryAdd, LookCast, LookInj, LookOwn, Block, SubSleeping, Wakeup, Unlock, SubInactive, Wake, Begin, PushInj, PushOwn, FifoIn, FifoUndo, FifoOut, News, Set, LockSet, LockWait, Lower, Raise, Grow, Store, Take, Idle}
+use Rattle.rayon_machine_places.specs.declared.act.Act.TheVariants.{Probe, PopOwn, TakeCast, AddInactive, Pick, Steal, PopInj, Announce, Sleepy, Lock, Asleep, Load, TryAdd, LookCast, LookInj, LookOwn, Block, SubSleeping, Wakeup, Unlock, SubInactive, Wake, Begin, PushInj, PushOwn, FifoIn, FifoUndo, FifoOut, PushCast, RaiseAll, LowerAll, News, Set, LockSet, LockWait, Lower, Raise, Grow, Store, Take, Idle}
 use Rattle.rayon_machine_places.specs.declared.act.Seen.{Seen}
 use Rattle.rayon_machine_places.specs.declared.act.Seen.TheVariants.{Done, Yes, Task, Jec, Word, Start, Wakes, Begun, Found, Handed}
 use Rattle.rayon_machine_places.specs.declared.shape.PoolShape.{PoolShape}
@@ -107,6 +109,7 @@ finish q (Answers o f e) = Back
 finish q (Missing o f) = Back
 finish q (Ran t e) = Back
 finish q (GiveBack n) = HandBack n
+finish q Called = Back
 
 -- to wake so many of the workers from this one upward
 abbrev pub walk : PoolShape → Party → ℕ → ℕ → ℕ → Then → Move
@@ -173,6 +176,15 @@ after_begin (Plain t) _ = Stay (BeginTask (Plain t))
 after_begin (Token k i) (Handed t d) = HandIn (Run t d) k
 after_begin (Token k i) _ = Discard k
 
+-- a broadcast calls all workers of its pool, from the first one upward: a walk that owes a wake to as many as there are
+abbrev pub call_all : PoolShape → Pieces → Place
+call_all h c = LockToWake (record { pool = c.pool; owed = h.workers; worker = 0; then = Called })
+
+-- the pieces of a refused broadcast had the last shares: the pool's terminate latches are set, from the first worker's
+-- upward
+abbrev pub ends_pool : Pieces → Place
+ends_pool c = SetLatch (record { latch = Terminate; pool = c.pool; worker = 0; then = Resume })
+
 -- the latch of a call is set for its owner: a worker's core latch, or an outside caller's lock latch
 abbrev pub set_call : ℕ → Party → Place
 set_call c (Worker p i) = SetLatch (record { latch = OfCall c; pool = p; worker = i; then = Resume })
@@ -202,6 +214,9 @@ call_act q (RaiseCount n) = Raise (plan_pool n) (plan_job n)
 call_act q (GrowCall n) = Grow (plan_call n)
 call_act q (LookQueue n) = look_act q (plan_pool n)
 call_act q (PushJob n e) = push_act q (plan_pool n) (plan_job n)
+call_act q (RaiseForAll c) = RaiseAll c
+call_act q (PushForAll c) = PushCast c
+call_act q (LowerForAll c) = LowerAll c
 call_act q (TellNews n e) = News (plan_pool n) e
 call_act q (LockToWake k) = Lock k.pool k.worker
 call_act q (WakeWorker k) = Wake k.pool k.worker
@@ -353,6 +368,12 @@ next_of h q (LookForToken f) _ = Stay (PushToken f false)
 next_of h q (PushToken f e) Done = Stay (TellNews (Detach f.pool f.token) e)
 next_of h q (PushToken f e) _ = Stay (TakeFromFifo f)
 next_of h q (TakeFromFifo f) e = taken_back f e
+next_of h q (RaiseForAll c) Done = Mark (PushForAll c) c Counted
+next_of h q (RaiseForAll c) _ = HandAllBack c
+next_of h q (PushForAll c) Done = Mark (call_all h c) c Queued
+next_of h q (PushForAll c) _ = Stay (LowerForAll c)
+next_of h q (LowerForAll c) Yes = Mark (ends_pool c) c Returned
+next_of h q (LowerForAll c) _ = HandAllBack c
 next_of h q (TellNews n e) (Wakes k) = walk h q (plan_pool n) k 0 (after_news n)
 next_of h q (TellNews n e) _ = Stay (TellNews n e)
 next_of h q (LockToWake k) _ = Stay (WakeWorker k)
@@ -392,6 +413,7 @@ is_refusable (GrowCall n) = true
 is_refusable (PushJob n e) = true
 is_refusable (AddToFifo f) = true
 is_refusable (PushToken f e) = true
+is_refusable (PushForAll c) = true
 is_refusable _ = false
 
 -- where a party chooses a victim

@@ -1,7 +1,7 @@
 -- what a reader counts in a world
 use Rattle.std.specs.Prelude.{ℕ, Bool, true, false, if◌then◌else◌}
 use Rattle.rayon_machine_places.specs.declared.state.Whereabouts.{Whereabouts}
-use Rattle.rayon_machine_places.specs.declared.state.Whereabouts.TheVariants.{InDeque, Injected, InFifo, Running, Over}
+use Rattle.rayon_machine_places.specs.declared.state.Whereabouts.TheVariants.{InDeque, Injected, InFifo, InCast, Running, Over}
 use Rattle.rayon_machine_places.specs.declared.place.Party.{Party}
 use Rattle.rayon_machine_places.specs.declared.place.Place.{Place}
 use Rattle.rayon_machine_places.specs.declared.place.Place.TheVariants.{Run, Free, Stopped}
@@ -11,11 +11,12 @@ use Rattle.rayon_machine_places.specs.Places.{act_of}
 use Rattle.rayon_machine_places.specs.declared.state.Job.{Job}
 use Rattle.rayon_machine_places.specs.World.{World, count_below, is_token}
 
--- a job in a deque, in an injector or in a FIFO list is queued
+-- a job in a deque, in an injector, in a FIFO list or in a broadcast list is queued
 abbrev pub is_queued : Whereabouts → Bool
 is_queued (InDeque p i) = true
 is_queued (Injected p) = true
 is_queued (InFifo p i) = true
+is_queued (InCast p i) = true
 is_queued _ = false
 
 -- a job that is taken or begun, and not ended, is running

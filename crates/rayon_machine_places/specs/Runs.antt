@@ -31,7 +31,7 @@ start h = record {
   seat = λ p i. record { own = []; fifo = []; feeder = None; inactive = false; asleep = false; blocked = false; latch = Unset; lock = None };
   pool = λ p. record { injector = []; casts = λ i. []; turn = 0; count = 1; held = true; counted = true };
   call = λ c. new_call None 0;
-  job = λ t. record { kind = Direct; pool = 0; at = Nowhere; runs = 0; counted = false };
+  job = λ t. record { kind = Direct; pool = 0; at = Nowhere; runs = 0; counted = false; bound = None };
   calls = 0;
   jobs = 0;
 }

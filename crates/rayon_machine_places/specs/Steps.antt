@@ -1,5 +1,5 @@
 -- one step: the relation between two worlds, as a function that answers None where the event is not enabled
-use Rattle.std.specs.Prelude.{ℕ, Bool, true, false, ◌&&◌, ◌+◌, ◌==◌, nat_lt, if◌then◌else◌, Option, Some, None, List, [], ◌∷◌}
+use Rattle.std.specs.Prelude.{ℕ, Bool, true, false, ◌&&◌, ◌+◌, ◌-◌, ◌==◌, nat_lt, nat_le, if◌then◌else◌, Option, Some, None, List, [], ◌∷◌}
 use Rattle.rayon_machine_places.specs.declared.shape.Order.{Order}
 use Rattle.rayon_machine_places.specs.declared.shape.Order.TheVariants.{NewestFirst, OldestFirst}
 use Rattle.rayon_machine_places.specs.declared.place.Party.{Party}
@@ -7,21 +7,24 @@ use Rattle.rayon_machine_places.specs.declared.place.Party.TheVariants.{Worker, 
 use Rattle.rayon_machine_places.specs.declared.place.Ending.{Ending}
 use Rattle.rayon_machine_places.specs.declared.place.JobKind.{JobKind}
 use Rattle.rayon_machine_places.specs.declared.place.JobKind.TheVariants.{Detached, Stored, Direct, TokenOf}
+use Rattle.rayon_machine_places.specs.declared.place.Pieces.{Pieces}
+use Rattle.rayon_machine_places.specs.declared.place.Mark.{Mark as Marking}
+use Rattle.rayon_machine_places.specs.declared.place.Mark.TheVariants.{Counted, Queued, Returned}
 use Rattle.rayon_machine_places.specs.declared.place.Plan.{Plan}
 use Rattle.rayon_machine_places.specs.declared.place.Plan.TheVariants.{Detach, Here, Send, Fork, Feed}
 use Rattle.rayon_machine_places.specs.declared.place.Share.TheVariants.{PoolValue, OfJob}
 use Rattle.rayon_machine_places.specs.declared.place.Then.TheVariants.{Resume}
 use Rattle.rayon_machine_places.specs.declared.place.Place.{Place}
-use Rattle.rayon_machine_places.specs.declared.place.Place.TheVariants.{PickVictim, StealFrom, YieldPop, YieldPick, YieldSteal, LocalPop, Run, RaiseCount, LowerCount, StoreResult, Stopped}
+use Rattle.rayon_machine_places.specs.declared.place.Place.TheVariants.{PickVictim, StealFrom, YieldPop, YieldPick, YieldSteal, LocalPop, Run, RaiseCount, RaiseForAll, LowerCount, StoreResult, Stopped}
 use Rattle.rayon_machine_places.specs.declared.place.Move.{Move}
-use Rattle.rayon_machine_places.specs.declared.place.Move.TheVariants.{Stay, Enter, StartRun, Back, HandBack, HandIn, Discard}
+use Rattle.rayon_machine_places.specs.declared.place.Move.TheVariants.{Stay, Enter, StartRun, Back, HandBack, HandIn, Discard, Mark, HandAllBack}
 use Rattle.rayon_machine_places.specs.declared.act.Act.{Act}
 use Rattle.rayon_machine_places.specs.declared.act.Seen.{Seen}
 use Rattle.rayon_machine_places.specs.declared.act.Seen.TheVariants.{Refused, Missing, Start}
 use Rattle.rayon_machine_places.specs.declared.event.Event.{Event}
-use Rattle.rayon_machine_places.specs.declared.event.Event.TheVariants.{Go, From, Refuse, Miss, End, Spawn, Fifo, Install, Join, Yield, YieldLocal, EndPool}
+use Rattle.rayon_machine_places.specs.declared.event.Event.TheVariants.{Go, From, Refuse, Miss, End, Spawn, Fifo, Cast, Install, Join, Yield, YieldLocal, EndPool}
 use Rattle.rayon_machine_places.specs.declared.state.Letter.TheVariants.{Unset}
-use Rattle.rayon_machine_places.specs.declared.state.Whereabouts.TheVariants.{Nowhere, Made, Over, HandedBack, Spent}
+use Rattle.rayon_machine_places.specs.declared.state.Whereabouts.TheVariants.{Nowhere, Made, InCast, Over, HandedBack, Spent}
 use Rattle.rayon_machine_places.specs.declared.state.Job.{Job}
 use Rattle.rayon_machine_places.specs.declared.state.Call.{Call}
 use Rattle.rayon_machine_places.specs.Places.{same_party, own_pool, is_member, act_of, next_of, goes_on, is_refusable, is_free}
@@ -55,6 +58,8 @@ after_move Back fs = back fs
 after_move (HandBack n) fs = back fs
 after_move (HandIn y k) fs = record { top = y; below = fs }
 after_move (Discard k) fs = back fs
+after_move (Mark y c k) fs = record { top = y; below = fs }
+after_move (HandAllBack c) fs = back fs
 
 -- the jobs of a refused call are handed back
 abbrev pub handed_back : Plan → (ℕ → Job) → ℕ → Job
@@ -64,12 +69,33 @@ handed_back (Send o) f = put f o.job (at_job (f o.job) HandedBack)
 handed_back (Fork o a) f = put (put f a (at_job (f a) HandedBack)) o.job (at_job (f o.job) HandedBack)
 handed_back (Feed d) f = put (put f d.job (at_job (f d.job) HandedBack)) d.token (at_job (f d.token) HandedBack)
 
--- the jobs after a move: a run begins, a refused call's jobs are handed back, or a token is spent
+-- a number is that of a piece of a broadcast
+abbrev pub is_piece : Pieces → ℕ → Bool
+is_piece c t = nat_le c.first t && nat_lt t (c.first + c.workers)
+
+-- the jobs where each piece of a broadcast is another, by its worker and what it was
+abbrev pub put_pieces : Pieces → (ℕ → Job → Job) → (ℕ → Job) → ℕ → Job
+put_pieces c f g t = if is_piece c t then f (t - c.first) (g t) else g t
+
+-- what becomes of a piece of a broadcast, which is for this worker of a pool
+abbrev pub marked : Marking → ℕ → ℕ → Job → Job
+marked Counted p i j = record j { counted = true }
+marked Queued p i j = record j { at = InCast p i }
+marked Returned p i j = record j { at = HandedBack; counted = false }
+
+-- what becomes of each piece of a broadcast
+abbrev pub mark_pieces : Pieces → Marking → (ℕ → Job) → ℕ → Job
+mark_pieces c k g = put_pieces c (marked k c.pool) g
+
+-- the jobs after a move: a run begins, a refused call's jobs are handed back, a token is spent, or something becomes of
+-- all pieces of a broadcast
 abbrev pub jobs_after : Party → Move → (ℕ → Job) → ℕ → Job
 jobs_after q (StartRun f t) g = put g t (begun q (g t))
 jobs_after q (HandBack n) g = handed_back n g
 jobs_after q (HandIn y k) g = put g k (at_job (g k) Spent)
 jobs_after q (Discard k) g = put g k (at_job (g k) Spent)
+jobs_after q (Mark y c k) g = mark_pieces c k g
+jobs_after q (HandAllBack c) g = mark_pieces c Returned g
 jobs_after q _ g = g
 
 -- the world after an act: the part that it touches, the party's stack, and the jobs that its move begins or hands back
@@ -156,11 +182,15 @@ is_pool h p = nat_lt 0 (h.pool p).workers
 
 -- a job that a party's call has made at a pool
 abbrev pub new_job : Party → ℕ → JobKind → Job
-new_job q p k = record { kind = k; pool = p; at = Made q; runs = 0; counted = false }
+new_job q p k = record { kind = k; pool = p; at = Made q; runs = 0; counted = false; bound = None }
+
+-- the piece of a broadcast for a worker
+abbrev pub new_piece : Party → ℕ → ℕ → Job
+new_piece q p i = record { kind = Detached p; pool = p; at = Made q; runs = 0; counted = false; bound = Some i }
 
 -- a job whose number is not given out
 abbrev pub blank_job : Job
-blank_job = record { kind = Direct; pool = 0; at = Nowhere; runs = 0; counted = false }
+blank_job = record { kind = Direct; pool = 0; at = Nowhere; runs = 0; counted = false; bound = None }
 
 -- a call that waits for a job
 abbrev pub new_call : Option ℕ → ℕ → Call
@@ -191,6 +221,18 @@ after_fifo w (Worker r i) p s =
     then (if is_free s.top && is_pool w.shape p then Some (after_feed w p i s) else None)
     else after_spawn w (Worker r i) p s
 after_fifo w (Caller c) p s = after_spawn w (Caller c) p s
+
+-- a detached broadcast makes a piece for each worker of the pool
+abbrev pub after_cast : World → Party → ℕ → Stack → Option World
+after_cast w q p s =
+    let c : Pieces = record { pool = p; first = w.jobs; workers = (w.shape.pool p).workers } in
+    if is_free s.top && is_pool w.shape p
+    then Some (record w {
+      stack = put_stack w.stack q (after_call s (RaiseForAll c));
+      job = put_pieces c (λ i j. new_piece q p i) w.job;
+      jobs = w.jobs + c.workers;
+    })
+    else None
 
 -- an install by a worker of the pool, and by others
 abbrev pub after_send : World → Party → ℕ → Stack → Bool → World
@@ -245,6 +287,7 @@ step w (Miss q) = after_miss w q (w.stack q) (w.stack q).top
 step w (End q e) = after_end w q e (w.stack q) (w.stack q).top
 step w (Spawn q p) = after_spawn w q p (w.stack q)
 step w (Fifo q p) = after_fifo w q p (w.stack q)
+step w (Cast q p) = after_cast w q p (w.stack q)
 step w (Install q p) = after_install w q p (w.stack q)
 step w (Join q) = after_join w q (w.stack q)
 step w (Yield q) = after_yield w q (w.stack q) YieldPop

@@ -11,11 +11,12 @@ use Rattle.rayon_machine_places.specs.declared.place.Taken.{Taken}
 use Rattle.rayon_machine_places.specs.declared.place.Taken.TheVariants.{Plain, Token}
 use Rattle.rayon_machine_places.specs.declared.place.Latch.{Latch}
 use Rattle.rayon_machine_places.specs.declared.place.Latch.TheVariants.{Terminate, OfCall}
+use Rattle.rayon_machine_places.specs.declared.place.Pieces.{Pieces}
 use Rattle.rayon_machine_places.specs.declared.place.Share.{Share}
 use Rattle.rayon_machine_places.specs.declared.place.Share.TheVariants.{PoolValue, OfJob}
 use Rattle.rayon_machine_places.specs.declared.place.Place.{Place}
 use Rattle.rayon_machine_places.specs.declared.act.Act.{Act}
-use Rattle.rayon_machine_places.specs.declared.act.Act.TheVariants.{Probe, PopOwn, TakeCast, AddInactive, Pick, Steal, PopInj, Announce, Sleepy, Lock, Asleep, Load, TryAdd, LookCast, LookInj, LookOwn, Block, SubSleeping, Wakeup, Unlock, SubInactive, Wake, Begin, PushInj, PushOwn, FifoIn, FifoUndo, FifoOut, News, Set, LockSet, LockWait, Lower, Raise, Grow, Store, Take, Idle}
+use Rattle.rayon_machine_places.specs.declared.act.Act.TheVariants.{Probe, PopOwn, TakeCast, AddInactive, Pick, Steal, PopInj, Announce, Sleepy, Lock, Asleep, Load, TryAdd, LookCast, LookInj, LookOwn, Block, SubSleeping, Wakeup, Unlock, SubInactive, Wake, Begin, PushInj, PushOwn, FifoIn, FifoUndo, FifoOut, PushCast, RaiseAll, LowerAll, News, Set, LockSet, LockWait, Lower, Raise, Grow, Store, Take, Idle}
 use Rattle.rayon_machine_places.specs.declared.act.Seen.{Seen}
 use Rattle.rayon_machine_places.specs.declared.act.Seen.TheVariants.{Done, Refused, Yes, No, Task, Missing, Jec, Word, Start, Wakes, Begun, Found, Handed}
 use Rattle.rayon_machine_places.specs.declared.state.Letter.{Letter}
@@ -122,6 +123,9 @@ target_pool q (PushInj p t) = p
 target_pool q (News p e) = p
 target_pool q (Lower p s) = p
 target_pool q (Raise p t) = p
+target_pool q (PushCast c) = c.pool
+target_pool q (LowerAll c) = c.pool
+target_pool q (RaiseAll c) = c.pool
 target_pool q _ = own_pool q
 
 -- the worker that an act touches: the one that it names, else the party itself
@@ -351,7 +355,12 @@ abbrev pub lowered : Part → Share → Part
 lowered m PoolValue = record m { pool = record (m.pool) { count = m.pool.count - 1; counted = false } }
 lowered m (OfJob t) = record m { pool = record (m.pool) { count = m.pool.count - 1 }; job = record (m.job) { counted = false } }
 
--- what an act does, in one step, to the part of the world that it touches
+-- each piece of a broadcast is added last to its worker's broadcast list
+abbrev pub casts_with : Pieces → (ℕ → List ℕ) → ℕ → List ℕ
+casts_with c f i = if nat_lt i c.workers then f i ++ (c.first + i) ∷ [] else f i
+
+-- what an act does, in one step, to the part of the world that it touches. What becomes of the pieces of a broadcast
+-- the party's move says (`Mark`, `HandAllBack`)
 abbrev pub effect : Act → Shape → Party → Counts → Part → Outcome
 effect (Probe l) h q c m = Some (is_set (letter l m), m)
 effect PopOwn h q c m = popped q m (own_left (h.pool (own_pool q)).order m.seat.own) (own_of (h.pool (own_pool q)).order m.seat.own)
@@ -402,6 +411,11 @@ effect (Lower p s) h q c m = Some ((if m.pool.count == 1 then Yes else No), lowe
 effect (Raise p t) h q c m =
     if m.pool.count == 0 then Some (Refused, m)
     else Some (Done, record m { pool = record (m.pool) { count = m.pool.count + 1 }; job = record (m.job) { counted = true } })
+effect (PushCast b) h q c m = Some (Done, record m { pool = record (m.pool) { casts = casts_with b m.pool.casts } })
+effect (LowerAll b) h q c m = Some ((if m.pool.count == b.workers then Yes else No), record m { pool = record (m.pool) { count = m.pool.count - b.workers } })
+effect (RaiseAll b) h q c m =
+    if m.pool.count == 0 then Some (Refused, m)
+    else Some (Done, record m { pool = record (m.pool) { count = m.pool.count + b.workers } })
 effect (Grow k) h q c m = Some (Done, record m { call = record (m.call) { latch = Unset; cell = None } })
 effect (Store k e) h q c m = Some (Done, record m { call = record (m.call) { cell = Some e } })
 effect (Take k) h q c m = found m m.call.cell

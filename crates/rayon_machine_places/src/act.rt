@@ -2,7 +2,7 @@
 ghost use Rattle.std.specs.Prelude.{◌≡◌};
 ghost use Rattle.rayon_machine_places.specs.World.{target_call, target_pool, target_worker, aimed_job};
 
-use crate::place::{Ending, JobKind, Latch, Party, Share, Taken};
+use crate::place::{Ending, JobKind, Latch, Party, Pieces, Share, Taken};
 
 /// What a party does in one step. Pools and workers are named by index, jobs and calls by number.
 #[derive(Clone, Copy)]
@@ -85,6 +85,8 @@ pub enum Act {
         token: u64,
         worker: usize,
     },
+    /// Adds each piece of a broadcast last to its worker's broadcast list.
+    PushCast(Pieces),
     /// Raises the turn if it is even, and sees how many to wake.
     News {
         pool: usize,
@@ -110,6 +112,11 @@ pub enum Act {
         pool: usize,
         job: u64,
     },
+    /// Gives back the shares that the pieces of a broadcast have of their pool's terminate count, and sees whether they
+    /// were the last.
+    LowerAll(Pieces),
+    /// Takes a share of a pool's terminate count for each piece of a broadcast, unless the pool has ended.
+    RaiseAll(Pieces),
     /// Makes the latch and the cell of a call.
     Grow(u64),
     /// Puts the ending of its job into the cell of a call.
@@ -189,6 +196,7 @@ impl Act {
             | Act::News { pool, .. }
             | Act::Lower { pool, .. }
             | Act::Raise { pool, .. } => pool,
+            Act::PushCast(pieces) | Act::LowerAll(pieces) | Act::RaiseAll(pieces) => pieces.pool,
             _ => party.pool(),
         }
     }

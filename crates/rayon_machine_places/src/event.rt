@@ -19,6 +19,8 @@ pub enum Event {
     Spawn { party: Party, pool: usize },
     /// The party spawns a detached job at a pool: a worker of the pool adds it to its own FIFO list.
     Fifo { party: Party, pool: usize },
+    /// The party broadcasts a detached job to a pool: each worker gets a piece.
+    Cast { party: Party, pool: usize },
     /// The party installs a job at a pool, and waits for it.
     Install { party: Party, pool: usize },
     /// A worker joins two sides.

@@ -6,6 +6,7 @@
 #![tactic(auto)]
 
 pub mod act;
+mod casts;
 pub mod error;
 pub mod event;
 pub mod moves;

@@ -223,6 +223,7 @@ impl Then {
             Then::LeaveWait(target) => Move::Stay(target.after_wait()),
             Then::Resume | Then::Answers { .. } | Then::Missing { .. } | Then::Ran { .. } =>
                 Move::Back,
+            Then::Called => Move::Back,
             Then::Await(call) => Move::Stay(party.awaiting(call)),
             Then::RunFirst { call, first } => Move::StartRun {
                 frame: Place::FirstSide { call, first },
@@ -482,6 +483,7 @@ impl Place {
             Group::Yielding => self.next_yielding(party, shape, seen),
             Group::Calling => self.next_calling(party, shape, seen),
             Group::InOrder => self.next_feeding(seen),
+            Group::Casting => self.next_casting(shape, seen),
             Group::Waking => self.next_waking(party, shape, seen),
             Group::Closing => self.next_closing(party, shape, seen),
             Group::Resting => Move::Stay(self),

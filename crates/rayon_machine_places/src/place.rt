@@ -129,6 +129,28 @@ pub struct Feeding {
     pub token: u64,
 }
 
+/// The pieces of a broadcast, one for each worker of a pool: the piece for worker i has the number `first` + i.
+#[derive(Clone, Copy)]
+pub struct Pieces {
+    /// The pool.
+    pub pool: usize,
+    /// The number of the piece for worker 0.
+    pub first: u64,
+    /// How many workers the pool has.
+    pub workers: usize,
+}
+
+/// What becomes of each piece of a broadcast at once.
+#[derive(Clone, Copy)]
+pub enum Mark {
+    /// It has a share of its pool's terminate count.
+    Counted,
+    /// It stands in its worker's broadcast list.
+    Queued,
+    /// It is handed back, and has no share.
+    Returned,
+}
+
 /// A share of a terminate count.
 #[derive(Clone, Copy)]
 pub enum Share {
@@ -176,6 +198,8 @@ pub enum Then {
     },
     /// The refused call hands its jobs back.
     GiveBack(Plan),
+    /// The call, which has put a piece into each worker's broadcast list and called all of them, is over.
+    Called,
 }
 
 /// A walk over a pool's workers that wakes some of them.
@@ -312,6 +336,12 @@ pub enum Place {
     },
     /// A refused call takes its job back out of the FIFO list.
     TakeFromFifo(Feeding),
+    /// A broadcast raises its pool's terminate count for each of its pieces.
+    RaiseForAll(Pieces),
+    /// Puts each piece into its worker's broadcast list.
+    PushForAll(Pieces),
+    /// A refused broadcast gives back the shares of its pieces.
+    LowerForAll(Pieces),
     /// Tells the sleepers' counters of it.
     TellNews {
         plan: Plan,
@@ -376,17 +406,34 @@ pub enum Move {
     /// To a place.
     Stay(Place),
     /// To a place above a frame that stays below it.
-    Enter { frame: Place, place: Place },
+    Enter {
+        frame: Place,
+        place: Place,
+    },
     /// The frame stays below, and the run of a job that was in no queue begins.
-    StartRun { frame: Place, job: u64 },
+    StartRun {
+        frame: Place,
+        job: u64,
+    },
     /// Back to the frame below.
     Back,
     /// Back to the frame below, with the jobs of the refused call handed back.
     HandBack(Plan),
     /// To a place, with this token spent.
-    HandIn { place: Place, token: u64 },
+    HandIn {
+        place: Place,
+        token: u64,
+    },
     /// Back to the frame below, with this token spent on nothing.
     Discard(u64),
+    /// To a place, with this made of each piece of a broadcast.
+    Mark {
+        place: Place,
+        pieces: Pieces,
+        mark: Mark,
+    },
+    /// Back to the frame below, with the pieces of the refused broadcast handed back.
+    HandAllBack(Pieces),
 }
 
 impl Taken {

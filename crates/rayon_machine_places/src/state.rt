@@ -2,9 +2,9 @@
 ghost use Rattle.std.specs.Prelude.{◌≡◌, ◌<◌};
 ghost use Rattle.rayon_machine_places.specs.World.{begun as begun_by};
 ghost use Rattle.rayon_machine_places.specs.Readers.{is_done, is_job_that, is_queued, is_running};
-ghost use Rattle.rayon_machine_places.specs.Steps.{new_call, blank_job, new_job};
+ghost use Rattle.rayon_machine_places.specs.Steps.{new_call, blank_job, marked, new_job, new_piece};
 
-use crate::place::{Ending, JobKind, Party};
+use crate::place::{Ending, JobKind, Mark, Party};
 
 /// The state of a core latch.
 #[derive(Clone, Copy, Debug, PartialEq, Eq)]
@@ -32,6 +32,8 @@ pub enum Whereabouts {
     Injected(usize),
     /// In this worker's FIFO list.
     InFifo { pool: usize, worker: usize },
+    /// In this worker's broadcast list.
+    InCast { pool: usize, worker: usize },
     /// Taken or begun by this party, and not ended.
     Running(Party),
     /// Its run has ended.
@@ -57,6 +59,8 @@ pub struct Job {
     pub runs: u64,
     /// Whether its pool's terminate count has a share for the call that made it.
     pub counted: bool,
+    /// Of a piece of a broadcast: the worker of its pool, by its index, that alone runs it.
+    pub bound: Option<usize>,
 }
 
 /// A call that waits.
@@ -73,13 +77,13 @@ pub struct Call {
 }
 
 impl Whereabouts {
-    /// Whether the job stands in a deque, in an injector or in a FIFO list.
+    /// Whether the job stands in a deque, in an injector, in a FIFO list or in a broadcast list.
     pub fn queues(self) -> bool
         ensures { result ≡ is_queued self }
     {
         match self {
             Whereabouts::InDeque { .. } | Whereabouts::Injected(_) => true,
-            Whereabouts::InFifo { .. } => true,
+            Whereabouts::InFifo { .. } | Whereabouts::InCast { .. } => true,
             _ => false,
         }
     }
@@ -116,6 +120,7 @@ impl Job {
             at: Whereabouts::Nowhere,
             runs: 0,
             counted: false,
+            bound: None,
         }
     }
 
@@ -129,10 +134,46 @@ impl Job {
             at: Whereabouts::Made(party),
             runs: 0,
             counted: false,
+            bound: None,
         }
     }
 
-    /// Whether it is a job in a deque, an injector or a FIFO list.
+    /// The piece of a broadcast for this worker, as a party's call has made it at a pool.
+    pub fn piece(party: Party, pool: usize, worker: usize) -> Job
+        ensures { result ≡ new_piece party pool worker }
+    {
+        Job {
+            kind: JobKind::Detached(pool),
+            pool,
+            at: Whereabouts::Made(party),
+            runs: 0,
+            counted: false,
+            bound: Some(worker),
+        }
+    }
+
+    /// The job in this state, which is a piece for this worker of a pool.
+    pub fn marked(self, mark: Mark, pool: usize, worker: usize) -> Job
+        ensures { result ≡ marked mark pool worker self }
+    {
+        match mark {
+            Mark::Counted => Job {
+                counted: true,
+                ..self
+            },
+            Mark::Queued => Job {
+                at: Whereabouts::InCast { pool, worker },
+                ..self
+            },
+            Mark::Returned => Job {
+                at: Whereabouts::HandedBack,
+                counted: false,
+                ..self
+            },
+        }
+    }
+
+    /// Whether it is a job in a deque, an injector, a FIFO list or a broadcast list.
     #[tactic(auto, unfolding(crate::specs::Readers::is_job_that))]
     pub fn is_queued(self) -> bool
         ensures { result ≡ is_job_that is_queued self }

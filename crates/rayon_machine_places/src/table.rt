@@ -30,6 +30,8 @@ pub(crate) enum Group {
     Calling,
     /// A call with a FIFO list.
     InOrder,
+    /// A broadcast.
+    Casting,
     /// Waking workers.
     Waking,
     /// The end of a run or of a call.
@@ -146,6 +148,7 @@ impl Place {
                 Group::Calling,
             Place::AddToFifo(_) | Place::TakeFromFifo(_) => Group::InOrder,
             Place::LookForToken(_) | Place::PushToken { .. } => Group::InOrder,
+            Place::RaiseForAll(_) | Place::PushForAll(_) | Place::LowerForAll(_) => Group::Casting,
             Place::LookQueue(_) | Place::PushJob { .. } | Place::TellNews { .. } => Group::Calling,
             Place::LockToWake(_) | Place::WakeWorker(_) | Place::UnlockWoken(_) => Group::Waking,
             Place::WaitForLock(_) | Place::TakeResult { .. } | Place::LowerCount { .. } =>
@@ -189,6 +192,7 @@ impl Place {
             ),
             (Group::Calling, _) => self.calling_act(party),
             (Group::InOrder, Party::Worker { .. }) => self.feeding_act(),
+            (Group::Casting, _) => self.casting_act(),
             (Group::Waking, _) => self.waking_act(),
             (Group::Closing, _) => self.closing_act(),
             _ => Act::Idle,
@@ -363,14 +367,14 @@ impl Place {
         }
     }
 
-    /// Whether the next act can be refused for want of room: where a call grows, where a job is pushed, and where
-    /// one is added to a FIFO list.
+    /// Whether the next act can be refused for want of room: where a call grows, where a job is pushed, where one is
+    /// added to a FIFO list, and where the pieces of a broadcast are put into the broadcast lists.
     pub fn refusable(self) -> bool
         ensures { result ≡ is_refusable self }
     {
         match self {
             Place::GrowCall(_) | Place::PushJob { .. } => true,
-            Place::AddToFifo(_) | Place::PushToken { .. } => true,
+            Place::AddToFifo(_) | Place::PushToken { .. } | Place::PushForAll(_) => true,
             _ => false,
         }
     }

@@ -10,6 +10,7 @@ use Rattle.rayon_machine_places.specs.declared.place.JobKind.TheVariants.{Detach
 use Rattle.rayon_machine_places.specs.declared.place.Place.{Place}
 use Rattle.rayon_machine_places.specs.declared.place.Place.TheVariants.{LowerCount, Run}
 use Rattle.rayon_machine_places.specs.declared.place.Move.TheVariants.{Enter}
+use Rattle.rayon_machine_places.specs.declared.place.Pieces.{Pieces}
 use Rattle.rayon_machine_places.specs.declared.place.Plan.TheVariants.{Detach, Feed, Fork, Here, Send}
 use Rattle.rayon_machine_places.specs.declared.place.Share.TheVariants.{PoolValue}
 use Rattle.rayon_machine_places.specs.declared.place.Then.TheVariants.{Resume}
@@ -17,8 +18,8 @@ use Rattle.rayon_machine_places.specs.declared.state.Job.{Job}
 use Rattle.rayon_machine_places.specs.declared.state.Whereabouts.TheVariants.{Over}
 use Rattle.rayon_machine_places.specs.Places.{is_free, is_member}
 use Rattle.rayon_machine_places.specs.World.{World, at_job}
-use Rattle.rayon_machine_places.specs.Steps.{after_close, after_end, after_end_pool, after_feed, after_fifo, after_install, is_pool, after_join, new_job, put, put_stack, after_spawn, after_move}
-use Rattle.rayon_machine_world.specs.Running.{after_open_feed, after_open_join, after_open_job, after_open_call, after_own_fifo}
+use Rattle.rayon_machine_places.specs.Steps.{after_cast, after_close, after_end, after_end_pool, after_feed, after_fifo, after_install, is_pool, after_join, new_job, put, put_stack, after_spawn, after_move}
+use Rattle.rayon_machine_world.specs.Running.{after_open_cast, after_open_feed, after_open_join, after_open_job, after_open_call, after_own_fifo}
 
 pub spawned-is : (w : World) (q : Party) (p : ℕ) (x : Place) (job : Job) → x ≡ (w.stack q).top → is_free x ≡ true → is_pool w.shape p ≡ true → job ≡ new_job q p (Detached p) → after_spawn w q p (w.stack q) ≡ Some (after_open_job w q x (Detach p w.jobs) job)
 spawned-is w q p x job ex f k ej =
@@ -49,6 +50,14 @@ joined-is w p i x first second ex f ea eb =
     let with_first : Job → Option World = λ j. Some (after_open_join w (Worker p i) x plan j (new_job (Worker p i) p (Stored w.calls (Worker p i)))) in
     let with_second : Job → Option World = λ j. Some (after_open_join w (Worker p i) x plan first j) in
     rw free (ap to (sym ex) ∙ ap with_first (sym ea) ∙ ap with_second (sym eb))
+
+pub cast-is : (w : World) (q : Party) (p : ℕ) (x : Place) (c : Pieces) → x ≡ (w.stack q).top → is_free x ≡ true → is_pool w.shape p ≡ true → c ≡ record { pool = p; first = w.jobs; workers = (w.shape.pool p).workers } → after_cast w q p (w.stack q) ≡ Some (after_open_cast w q x c)
+cast-is w q p x c ex f k ec =
+    let free : is_free (w.stack q).top ≡ true = ap is_free (sym ex) ∙ f in
+    let all : Pieces = record { pool = p; first = w.jobs; workers = (w.shape.pool p).workers } in
+    let to : Place → Option World = λ y. Some (after_open_cast w q y all) in
+    let with : Pieces → Option World = λ b. Some (after_open_cast w q x b) in
+    rw (free, k) (ap to (sym ex) ∙ ap with (sym ec))
 
 pub fed-is : (w : World) (p i : ℕ) (x : Place) (job token : Job) → x ≡ (w.stack (Worker p i)).top → is_free x ≡ true → is_pool w.shape p ≡ true → job ≡ new_job (Worker p i) p (Detached p) → token ≡ new_job (Worker p i) p (TokenOf i) → after_own_fifo w p i ≡ Some (after_open_feed w (Worker p i) x (Feed (record { pool = p; job = w.jobs; token = w.jobs + 1 })) job token)
 fed-is w p i x job token ex f k ea eb =

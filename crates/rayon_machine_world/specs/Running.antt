@@ -5,15 +5,16 @@ use Rattle.rayon_machine_places.specs.declared.error.StepError.TheVariants.{NotE
 use Rattle.rayon_machine_places.specs.declared.place.Party.{Party}
 use Rattle.rayon_machine_places.specs.declared.place.Party.TheVariants.{Worker}
 use Rattle.rayon_machine_places.specs.declared.place.Place.{Place}
-use Rattle.rayon_machine_places.specs.declared.place.Place.TheVariants.{RaiseCount}
+use Rattle.rayon_machine_places.specs.declared.place.Place.TheVariants.{RaiseCount, RaiseForAll}
 use Rattle.rayon_machine_places.specs.declared.place.Move.{Move}
 use Rattle.rayon_machine_places.specs.declared.place.Move.TheVariants.{Enter}
+use Rattle.rayon_machine_places.specs.declared.place.Pieces.{Pieces}
 use Rattle.rayon_machine_places.specs.declared.place.Plan.{Plan}
 use Rattle.rayon_machine_places.specs.declared.state.Job.{Job}
 use Rattle.rayon_machine_parts.specs.declared.deed.Deed.{Deed}
 use Rattle.rayon_machine_world.specs.declared.world.World.{World as StoredWorld}
 use Rattle.rayon_machine_places.specs.Places.{is_free, own_index}
-use Rattle.rayon_machine_places.specs.Steps.{after_feed, is_pool, jobs_after, new_call, put, put_seat, put_stack, after_move}
+use Rattle.rayon_machine_places.specs.Steps.{after_feed, is_pool, jobs_after, new_call, new_piece, put, put_pieces, put_seat, put_stack, after_move}
 use Rattle.rayon_machine_places.specs.World.{World}
 use Rattle.rayon_machine_parts.specs.State.{call_at, job_at, pool_at, pool_queued, seat_at, seat_queued, shape_of, stack_in, with_flags, with_numbers}
 
@@ -72,6 +73,14 @@ after_open_feed w q frame plan job token = record w {
   stack = put_stack w.stack q (after_move (Enter frame (RaiseCount plan)) (w.stack q).below);
   job = put (put w.job w.jobs job) (w.jobs + 1) token;
   jobs = w.jobs + 2;
+}
+
+-- a broadcast of these pieces has begun, above this frame
+abbrev pub after_open_cast : World → Party → Place → Pieces → World
+after_open_cast w q frame c = record w {
+  stack = put_stack w.stack q (after_move (Enter frame (RaiseForAll c)) (w.stack q).below);
+  job = put_pieces c (λ i j. new_piece q c.pool i) w.job;
+  jobs = w.jobs + c.workers;
 }
 
 -- the world after a worker has begun a call for its own FIFO list

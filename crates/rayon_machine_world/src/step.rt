@@ -6,7 +6,7 @@ ghost use Rattle.rayon_machine_places.specs.declared.event.Event.TheVariants.{Fr
 ghost use Rattle.rayon_machine_parts.specs.State.{stack_in, shape_of};
 
 use crate::world::World;
-use rayon_machine_parts::commit::{last_job, move_jobs};
+use rayon_machine_parts::commit::{last_job, move_jobs, pieces_fit};
 use rayon_machine_parts::deed::Deed;
 use rayon_machine_places::act::Seen;
 use rayon_machine_places::error::StepError;
@@ -28,6 +28,7 @@ impl World {
             Event::End { party, ending } => self.end(party, ending),
             Event::Spawn { party, pool } => self.spawn(party, pool),
             Event::Fifo { party, pool } => self.fifo(party, pool),
+            Event::Cast { party, pool } => self.cast(party, pool),
             Event::Install { party, pool } => self.install(party, pool),
             Event::Join(party) => self.join(party),
             Event::Yield(party) => self.give_way(party, Place::YieldPop),
@@ -55,7 +56,7 @@ impl World {
         ensures no_room { IfErr result (λ e. e ≡ StepError.NoRoom) }
         ensures err { OnErr result (world_of self.new ≡ world_of self.old) }
     {
-        if !self.parts.can_begin(deed.spot.job, deed.after.job, step) {
+        if !pieces_fit(step) || !self.parts.can_begin(deed.spot.job, deed.after.job, step) {
             return Err(StepError::NoRoom);
         }
         self.parts

@@ -20,7 +20,7 @@ use Rattle.rayon_drive.specs.Paths.{goes}
 use Rattle.rayon_drive.specs.Traces.{Adds}
 use Rattle.rayon_queues.specs.Deques.{Deque, DequeId, Leaves, Popped, SameDeque, Thief, Unmoved, Visitor}
 use Rattle.rayon_tasks.specs.Tasks.{TaskOf}
-use Rattle.rayon_performers.specs.Hands.{Hands, HasTask, Does, Same, Looks, PoppedFrom, StolenBy, TakenBy, answer}
+use Rattle.rayon_performers.specs.Hands.{Hands, HasTask, Needs, Does, Same, Looks, PoppedFrom, StolenBy, TakenBy, answer}
 use Rattle.rayon_performers.specs.Finds.{Found, Kept}
 use Rattle.rayon_performers.proofs.Stretches.{So, so_far, by_act}
 
@@ -207,6 +207,20 @@ module _ {X G O F : Type 0} where
   ended s u _ k a = absurd a
 
   -- one look more: where the table leads, and what was found
+  -- no look of a yield asks anything
+  look_needs : (i : ℕ) (y : Place) (u : Hands X G O F) → IsYield y → Needs (act_of (Worker 0 i) y) u
+  look_needs i at.YieldPop u l = tt
+  look_needs i at.YieldTakeCast u l = tt
+  look_needs i at.YieldPick u l = tt
+  look_needs i (at.YieldSteal v n) u l = tt
+  look_needs i at.YieldPopInjected u l = tt
+  look_needs i _ u l = absurd l
+
+  pub yield_needs : (i : ℕ) (q : Party) (y : Place) (b : Act) (u : Hands X G O F) → q ≡ Worker 0 i → b ≡ act_of q y → IsYield y → Needs b u
+  yield_needs i q y b u r e l =
+      let act : b ≡ act_of (Worker 0 i) y = subst (λ (z : Party). b ≡ act_of z y) r e in
+      subst (λ (z : Act). Needs z u) (sym act) (look_needs i y u l)
+
   pub one_more : (h : PoolShape) (i : ℕ) (q : Party) (m : Move) (s u v : Hands X G O F) (y : Place) (x : Seen) (b : Act) (n : Move) → q ≡ Worker 0 i → b ≡ act_of q y → n ≡ next_of h q y x → So h i m s (Stay y) u → Missed s u → IsYield y → Does b x u v → Adds b x u.trace v.trace → So h i m s n v × Looking s v n
   one_more h i q m s u v y x b n r e f p a l d c =
       let act : b ≡ act_of (Worker 0 i) y = subst (λ (z : Party). b ≡ act_of z y) r e in

@@ -18,7 +18,7 @@ use Rattle.rayon_machine_places.specs.declared.place.Settling.{Settling}
 use Rattle.rayon_machine_places.specs.declared.place.Place.{Place}
 use Rattle.rayon_machine_places.specs.declared.place.Place.TheVariants as at
 use Rattle.rayon_machine_places.specs.declared.place.Move.{Move}
-use Rattle.rayon_machine_places.specs.declared.place.Move.TheVariants.{Stay, Enter, StartRun, Back, HandBack, HandIn, Discard}
+use Rattle.rayon_machine_places.specs.declared.place.Move.TheVariants.{Stay, Enter, StartRun, Back, HandBack, HandIn, Discard, Mark, HandAllBack}
 use Rattle.rayon_machine_places.specs.declared.act.Act.{Act}
 use Rattle.rayon_machine_places.specs.declared.act.Act.TheVariants as acts
 use Rattle.rayon_machine_places.specs.declared.act.Seen.{Seen}
@@ -276,6 +276,8 @@ end_units h g (StartRun f n) a = refl
 end_units h g (HandBack n) a = refl
 end_units h g (HandIn p n) a = refl
 end_units h g (Discard n) a = refl
+end_units h g (Mark p c m) a = refl
+end_units h g (HandAllBack c) a = refl
 
 module _ {X G O F : Type 0} where
   -- what stands at a move of a wait that began with so many units
@@ -316,6 +318,8 @@ module _ {X G O F : Type 0} where
       keeps v w (HandBack y) x go b e = absurd (true≢false (sym go))
       keeps v w (HandIn p y) x go b e = absurd (true≢false (sym go))
       keeps v w (Discard y) x go b e = absurd (true≢false (sym go))
+      keeps v w (Mark p c m) x go b e = absurd (true≢false (sym go))
+      keeps v w (HandAllBack c) x go b e = absurd (true≢false (sym go))
 
   -- whose bench it is after any drive
   pub drive_stays : (k : PoolShape) (i : ℕ) (m : Move) (s u : Hands X G O F) (n : Move) → Driven (λ (a : Hands X G O F) x y b. Does x y a b) (λ (a : Hands X G O F). a.trace) k (Worker 0 i) m s u n → SameSeat s u
@@ -335,6 +339,8 @@ stops_even h Back a = absurd a
 stops_even h (HandBack n) a = refl
 stops_even h (HandIn p n) a = refl
 stops_even h (Discard n) a = refl
+stops_even h (Mark p c m) a = refl
+stops_even h (HandAllBack c) a = refl
 
 -- a join that is at another look than the wait's has as many
 join_even : (h : ℕ) (k : PoolShape) (i : ℕ) (p : OpenCall) (x : Seen) → Even h false (next_of k (Worker 0 i) (at.JoinTakeCast p) x)
@@ -349,6 +355,8 @@ join_end h o (StartRun f n) a = refl
 join_end h o (HandBack n) a = refl
 join_end h o (HandIn p n) a = refl
 join_end h o (Discard n) a = refl
+join_end h o (Mark p c m) a = refl
+join_end h o (HandAllBack c) a = refl
 
 module _ {X G O F : Type 0} where
   abbrev pub Rejoins : ℕ → OpenCall → Hands X G O F → Move → Type 0
@@ -376,6 +384,8 @@ module _ {X G O F : Type 0} where
       keeps v w (HandBack y) x go b e = absurd (true≢false (sym go))
       keeps v w (HandIn p y) x go b e = absurd (true≢false (sym go))
       keeps v w (Discard y) x go b e = absurd (true≢false (sym go))
+      keeps v w (Mark p c m) x go b e = absurd (true≢false (sym go))
+      keeps v w (HandAllBack c) x go b e = absurd (true≢false (sym go))
 
 -- what a pop that was not the own second side leads to gives no unit back
 pub popped_closes : (k : PoolShape) (i : ℕ) (o : OpenCall) (x : Seen) (h : ℕ) → Even h false (next_of k (Worker 0 i) (at.JoinPop o) x)

@@ -9,7 +9,7 @@ use Rattle.rayon_machine_places.specs.declared.place.OpenCall.{OpenCall}
 use Rattle.rayon_machine_places.specs.declared.place.Place.{Place}
 use Rattle.rayon_machine_places.specs.declared.place.Place.TheVariants as at
 use Rattle.rayon_machine_places.specs.declared.place.Move.{Move}
-use Rattle.rayon_machine_places.specs.declared.place.Move.TheVariants.{Stay, Enter, StartRun, Back, HandBack, HandIn, Discard}
+use Rattle.rayon_machine_places.specs.declared.place.Move.TheVariants.{Stay, Enter, StartRun, Back, HandBack, HandIn, Discard, Mark, HandAllBack}
 use Rattle.rayon_machine_places.specs.declared.act.Seen.{Seen}
 use Rattle.rayon_machine_places.specs.declared.act.Seen.TheVariants.{Task}
 use Rattle.rayon_machine_places.specs.declared.shape.PoolShape.{PoolShape}
@@ -35,6 +35,8 @@ wait_joins o (StartRun f n) a = absurd a
 wait_joins o (HandBack n) a = absurd a
 wait_joins o (HandIn p n) a = absurd a
 wait_joins o (Discard n) a = absurd a
+wait_joins o (Mark p c m) a = absurd a
+wait_joins o (HandAllBack c) a = absurd a
 
 pub join_on : (o : OpenCall) (h : PoolShape) (i : ℕ) (y : Place) (x : Seen) → InJoin o (Stay y) → InJoin o (next_of h (Worker 0 i) y x)
 join_on o h i (at.JoinTakeCast p) (Task t) a = (inl (ap at.JoinProbe a), tt)
@@ -50,6 +52,8 @@ join_stopped o (StartRun f n) a e = absurd a
 join_stopped o (HandBack n) a e = absurd a
 join_stopped o (HandIn p n) a e = absurd a
 join_stopped o (Discard n) a e = absurd a
+join_stopped o (Mark p c m) a e = absurd a
+join_stopped o (HandAllBack c) a e = absurd a
 
 module _ {X G O F : Type 0} where
   -- a drive from there ends so
@@ -64,6 +68,8 @@ module _ {X G O F : Type 0} where
       keeps v w (HandBack y) x go b e = absurd (true≢false (sym go))
       keeps v w (HandIn p y) x go b e = absurd (true≢false (sym go))
       keeps v w (Discard y) x go b e = absurd (true≢false (sym go))
+      keeps v w (Mark p c m) x go b e = absurd (true≢false (sym go))
+      keeps v w (HandAllBack c) x go b e = absurd (true≢false (sym go))
 
 -- what a pop that was not the own second side leads to
 pub popped_joins : (h : PoolShape) (i : ℕ) (o : OpenCall) (x : Seen) → (x ≡ Task (Plain o.job) → ⊥) → InJoin o (next_of h (Worker 0 i) (at.JoinPop o) x)

@@ -10,7 +10,7 @@ use Rattle.rayon_machine_places.specs.declared.place.Settling.{Settling}
 use Rattle.rayon_machine_places.specs.declared.place.Place.{Place}
 use Rattle.rayon_machine_places.specs.declared.place.Place.TheVariants as at
 use Rattle.rayon_machine_places.specs.declared.place.Move.{Move}
-use Rattle.rayon_machine_places.specs.declared.place.Move.TheVariants.{Stay, Enter, StartRun, Back, HandBack, HandIn, Discard}
+use Rattle.rayon_machine_places.specs.declared.place.Move.TheVariants.{Stay, Enter, StartRun, Back, HandBack, HandIn, Discard, Mark, HandAllBack}
 use Rattle.rayon_machine_places.specs.declared.act.Seen.{Seen}
 use Rattle.rayon_machine_places.specs.declared.act.Seen.TheVariants.{Yes}
 use Rattle.rayon_machine_places.specs.declared.shape.PoolShape.{PoolShape}
@@ -77,6 +77,8 @@ stopped q t Back a g = a
 stopped q t (HandBack n) a g = a
 stopped q t (HandIn p n) a g = a
 stopped q t (Discard n) a g = a
+stopped q t (Mark p c m) a g = a
+stopped q t (HandAllBack c) a g = a
 
 module _ {X G O F : Type 0} where
   same_as : (s u v : Hands X G O F) → Same s u → Same u v → Same s v
@@ -108,3 +110,5 @@ module _ {X G O F : Type 0} where
       keeps v w (HandBack y) x go b e = absurd (true≢false (sym go))
       keeps v w (HandIn p y) x go b e = absurd (true≢false (sym go))
       keeps v w (Discard y) x go b e = absurd (true≢false (sym go))
+      keeps v w (Mark p c m) x go b e = absurd (true≢false (sym go))
+      keeps v w (HandAllBack c) x go b e = absurd (true≢false (sym go))

@@ -10,7 +10,7 @@ use Rattle.rayon_machine_places.specs.declared.place.Then.TheVariants.{Resume, A
 use Rattle.rayon_machine_places.specs.declared.place.Place.{Place}
 use Rattle.rayon_machine_places.specs.declared.place.Place.TheVariants as at
 use Rattle.rayon_machine_places.specs.declared.place.Move.{Move}
-use Rattle.rayon_machine_places.specs.declared.place.Move.TheVariants.{Stay, Enter, StartRun, Back, HandBack, HandIn, Discard}
+use Rattle.rayon_machine_places.specs.declared.place.Move.TheVariants.{Stay, Enter, StartRun, Back, HandBack, HandIn, Discard, Mark, HandAllBack}
 use Rattle.rayon_machine_places.specs.declared.act.Seen.{Seen}
 use Rattle.rayon_machine_places.specs.declared.act.Seen.TheVariants.{Done, Yes, Missing, Wakes, Found}
 use Rattle.rayon_machine_places.specs.declared.shape.PoolShape.{PoolShape}
@@ -119,6 +119,8 @@ module _ {X G O F : Type 0} where
   stopped u (HandBack n) a g = (refl, a)
   stopped u (HandIn p n) a g = absurd a
   stopped u (Discard n) a g = absurd a
+  stopped u (Mark p c m) a g = absurd a
+  stopped u (HandAllBack c) a g = absurd a
   stopped u (Enter f p) a g = absurd a
   stopped u (StartRun f n) a g = absurd a
   stopped u (Stay (at.TellNews n e)) a g = absurd (true≢false g)
@@ -150,6 +152,8 @@ module _ {X G O F : Type 0} where
       keeps v w (HandBack z) x go b e = absurd (true≢false (sym go))
       keeps v w (HandIn p z) x go b e = absurd (true≢false (sym go))
       keeps v w (Discard z) x go b e = absurd (true≢false (sym go))
+      keeps v w (Mark p c m) x go b e = absurd (true≢false (sym go))
+      keeps v w (HandAllBack c) x go b e = absurd (true≢false (sym go))
 
   -- the tickets of a call are made, of one job or of two sides
   pub grown_one : (n : ℕ) (u v : Visit X G O F) → v ≡ record u { call = Some (ticket_of n); first = None; trace = v.trace } → Grows n Done u v

@@ -15,7 +15,7 @@ use Rattle.rayon_machine_places.specs.declared.place.Settling.{Settling}
 use Rattle.rayon_machine_places.specs.declared.place.Place.{Place}
 use Rattle.rayon_machine_places.specs.declared.place.Place.TheVariants as at
 use Rattle.rayon_machine_places.specs.declared.place.Move.{Move}
-use Rattle.rayon_machine_places.specs.declared.place.Move.TheVariants.{Stay, Enter, StartRun, Back, HandBack, HandIn, Discard}
+use Rattle.rayon_machine_places.specs.declared.place.Move.TheVariants.{Stay, Enter, StartRun, Back, HandBack, HandIn, Discard, Mark, HandAllBack}
 use Rattle.rayon_machine_places.specs.declared.act.Seen.{Seen}
 use Rattle.rayon_machine_places.specs.declared.act.Seen.TheVariants.{Done, Yes, Task, Jec, Word, Start, Wakes, Found}
 use Rattle.rayon_machine_places.specs.declared.shape.PoolShape.{PoolShape}
@@ -236,6 +236,8 @@ stopped g (StartRun f n) a e = absurd a
 stopped g (HandBack n) a e = absurd a
 stopped g (HandIn p n) a e = absurd a
 stopped g (Discard n) a e = absurd a
+stopped g (Mark p c m) a e = absurd a
+stopped g (HandAllBack c) a e = absurd a
 
 module _ {X G O F : Type 0} where
   -- a drive that begins a wait ends as waits do
@@ -250,3 +252,5 @@ module _ {X G O F : Type 0} where
       keeps v w (HandBack y) x go b e = absurd (true≢false (sym go))
       keeps v w (HandIn p y) x go b e = absurd (true≢false (sym go))
       keeps v w (Discard y) x go b e = absurd (true≢false (sym go))
+      keeps v w (Mark p c m) x go b e = absurd (true≢false (sym go))
+      keeps v w (HandAllBack c) x go b e = absurd (true≢false (sym go))

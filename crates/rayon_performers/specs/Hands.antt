@@ -105,6 +105,9 @@ module _ {X G O F : Type 0} where
   Needs (acts.FifoIn n) s = ⊥
   Needs acts.FifoUndo s = ⊥
   Needs (acts.FifoOut n i) s = ⊥
+  Needs (acts.RaiseAll c) s = ⊥
+  Needs (acts.PushCast c) s = ⊥
+  Needs (acts.LowerAll c) s = ⊥
   Needs (acts.PushOwn n) s = ⊥
   Needs (acts.PushInj p n) s = ⊥
   Needs (acts.Grow c) s = ⊥

@@ -13,7 +13,7 @@ use Rattle.rayon_machine_places.specs.declared.place.OpenCall.{OpenCall}
 use Rattle.rayon_machine_places.specs.declared.place.Rounds.{Rounds}
 use Rattle.rayon_machine_places.specs.declared.place.Rounds.TheVariants.{Failed, Announced}
 use Rattle.rayon_machine_places.specs.declared.place.Then.{Then}
-use Rattle.rayon_machine_places.specs.declared.place.Then.TheVariants.{BeginFound, LeaveWait, Resume, Await, RunFirst, Answers, Missing as AnswersMissing, Ran, GiveBack}
+use Rattle.rayon_machine_places.specs.declared.place.Then.TheVariants.{BeginFound, LeaveWait, Resume, Await, RunFirst, Answers, Missing as AnswersMissing, Ran, GiveBack, Called}
 use Rattle.rayon_machine_places.specs.declared.place.Wait.{Wait}
 use Rattle.rayon_machine_places.specs.declared.place.Settling.{Settling}
 use Rattle.rayon_machine_places.specs.declared.place.Place.{Place}
@@ -90,6 +90,7 @@ module _ {X G O F : Type 0} where
   finish_stands u p i (BeginFound g n) a = (a, tt)
   finish_stands u p i (LeaveWait g) a = left_stands u g a.call a.probed
   finish_stands u p i Resume a = tt
+  finish_stands u p i Called a = tt
   finish_stands u p i (Await o) a = (a, tt)
   finish_stands u p i (RunFirst o b) a = (a, tt)
   finish_stands u p i (Answers o f e) a = tt
@@ -179,6 +180,9 @@ module _ {X G O F : Type 0} where
   stands_needs u p i (at.LookForToken f) r a = absurd a.1
   stands_needs u p i (at.PushToken f e) r a = absurd a.1
   stands_needs u p i (at.TakeFromFifo f) r a = absurd a.1
+  stands_needs u p i (at.RaiseForAll c) r a = absurd a.1
+  stands_needs u p i (at.PushForAll c) r a = absurd a.1
+  stands_needs u p i (at.LowerForAll c) r a = absurd a.1
   stands_needs u p i (at.TellNews n e) r a = absurd a.1
   stands_needs u p i (at.WaitForLock o) r a = absurd a.1
   stands_needs u p i (at.Run t k) r a = absurd (true≢false r)
@@ -281,6 +285,9 @@ module _ {X G O F : Type 0} where
   stands_on u v h p i (at.LookForToken f) _ r a d = absurd a.1
   stands_on u v h p i (at.PushToken f e) _ r a d = absurd a.1
   stands_on u v h p i (at.TakeFromFifo f) _ r a d = absurd a.1
+  stands_on u v h p i (at.RaiseForAll c) _ r a d = absurd a.1
+  stands_on u v h p i (at.PushForAll c) _ r a d = absurd a.1
+  stands_on u v h p i (at.LowerForAll c) _ r a d = absurd a.1
   stands_on u v h p i (at.TellNews n e) _ r a d = absurd a.1
   stands_on u v h p i (at.WaitForLock o) _ r a d = absurd a.1
   stands_on u v h p i _ _ r a d = absurd (true≢false r)

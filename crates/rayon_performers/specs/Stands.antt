@@ -12,7 +12,7 @@ use Rattle.rayon_machine_places.specs.declared.place.Taken.TheVariants.{Plain}
 use Rattle.rayon_machine_places.specs.declared.place.Place.{Place}
 use Rattle.rayon_machine_places.specs.declared.place.Place.TheVariants as at
 use Rattle.rayon_machine_places.specs.declared.place.Move.{Move}
-use Rattle.rayon_machine_places.specs.declared.place.Move.TheVariants.{Stay, Enter, StartRun, Back, HandBack, HandIn, Discard}
+use Rattle.rayon_machine_places.specs.declared.place.Move.TheVariants.{Stay, Enter, StartRun, Back, HandBack, HandIn, Discard, Mark, HandAllBack}
 use Rattle.rayon_performers.specs.Hands.{Hands, HasTask, HasTicket, HasResult, call_latch}
 
 -- the call that a wait waits for
@@ -132,6 +132,9 @@ IsDriven (at.AddToFifo f) = ⊥
 IsDriven (at.LookForToken f) = ⊥
 IsDriven (at.PushToken f e) = ⊥
 IsDriven (at.TakeFromFifo f) = ⊥
+IsDriven (at.RaiseForAll c) = ⊥
+IsDriven (at.PushForAll c) = ⊥
+IsDriven (at.LowerForAll c) = ⊥
 IsDriven (at.TellNews n e) = ⊥
 IsDriven (at.WaitForLock o) = ⊥
 IsDriven _ = Unit {0}
@@ -192,3 +195,5 @@ module _ {X G O F : Type 0} where
   Stands s (HandBack n) = Unit {0}
   Stands s (HandIn p n) = ⊥
   Stands s (Discard n) = ⊥
+  Stands s (Mark p c m) = ⊥
+  Stands s (HandAllBack c) = ⊥

@@ -6,7 +6,7 @@ use Rattle.rayon_machine_places.specs.declared.place.Then.TheVariants.{Resume, R
 use Rattle.rayon_machine_places.specs.declared.place.Place.{Place}
 use Rattle.rayon_machine_places.specs.declared.place.Place.TheVariants as at
 use Rattle.rayon_machine_places.specs.declared.place.Move.{Move}
-use Rattle.rayon_machine_places.specs.declared.place.Move.TheVariants.{Stay, Enter, StartRun, Back, HandBack, HandIn, Discard}
+use Rattle.rayon_machine_places.specs.declared.place.Move.TheVariants.{Stay, Enter, StartRun, Back, HandBack, HandIn, Discard, Mark, HandAllBack}
 use Rattle.rayon_machine_places.specs.Places.{finish}
 
 -- what follows is the end of a drive, and asks for nothing at hand
@@ -40,3 +40,5 @@ IsTail q t Back = finish q t ≡ Back
 IsTail q t (HandBack n) = finish q t ≡ HandBack n
 IsTail q t (HandIn p n) = finish q t ≡ HandIn p n
 IsTail q t (Discard n) = finish q t ≡ Discard n
+IsTail q t (Mark p c m) = finish q t ≡ Mark p c m
+IsTail q t (HandAllBack c) = finish q t ≡ HandAllBack c

@@ -51,6 +51,9 @@ impl<J: JobKind> Perform for Bench<J> {
             | Act::FifoIn(_)
             | Act::FifoUndo
             | Act::FifoOut { .. }
+            | Act::RaiseAll(_)
+            | Act::PushCast(_)
+            | Act::LowerAll(_)
             | Act::Grow(_)
             | Act::LockWait(_)
             | Act::Raise { .. }

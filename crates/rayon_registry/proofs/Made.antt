@@ -11,7 +11,7 @@ use Rattle.rayon_machine_places.specs.declared.place.Party.TheVariants.{Worker}
 use Rattle.rayon_machine_places.specs.declared.place.Place.{Place}
 use Rattle.rayon_machine_places.specs.declared.place.Place.TheVariants as at
 use Rattle.rayon_machine_places.specs.declared.place.Move.{Move}
-use Rattle.rayon_machine_places.specs.declared.place.Move.TheVariants.{Stay, Enter, StartRun, Back, HandBack, HandIn, Discard}
+use Rattle.rayon_machine_places.specs.declared.place.Move.TheVariants.{Stay, Enter, StartRun, Back, HandBack, HandIn, Discard, Mark, HandAllBack}
 use Rattle.rayon_machine_places.specs.declared.place.Taken.{Taken}
 use Rattle.rayon_machine_places.specs.declared.place.Taken.TheVariants.{Plain}
 use Rattle.rayon_machine_places.specs.declared.place.Target.{Target}
@@ -86,6 +86,8 @@ has_ended g (StartRun f k) a n = absurd a
 has_ended g (HandBack k) a n = absurd a
 has_ended g (HandIn p k) a n = absurd a
 has_ended g (Discard k) a n = absurd a
+has_ended g (Mark p c m) a n = absurd a
+has_ended g (HandAllBack c) a n = absurd a
 
 module _ {X G O F : Type 0} where
   -- a worker that has stopped has seen the latch set
@@ -148,3 +150,5 @@ met_end o (StartRun f k) a n = absurd a
 met_end o (HandBack k) a n = absurd a
 met_end o (HandIn p k) a n = absurd a
 met_end o (Discard k) a n = absurd a
+met_end o (Mark p c m) a n = absurd a
+met_end o (HandAllBack c) a n = absurd a

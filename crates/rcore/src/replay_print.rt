@@ -96,14 +96,15 @@ fn act_name(act: Act) -> &'static str {
     }
 }
 
-// The name of an act of a call or on a FIFO list.
+// The name of an act of a call, or on a FIFO list or all broadcast lists.
 fn rare_act_name(act: Act) -> &'static str {
     match act {
         Act::FifoIn(_) => "FifoIn",
         Act::FifoUndo => "FifoUndo",
         Act::FifoOut { .. } => "FifoOut",
-        Act::Lower { .. } => "Lower",
-        Act::Raise { .. } => "Raise",
+        Act::PushCast(_) => "PushCast",
+        Act::Lower { .. } | Act::LowerAll(_) => "Lower",
+        Act::Raise { .. } | Act::RaiseAll(_) => "Raise",
         Act::Grow(_) => "Grow",
         Act::Store { .. } => "Store",
         Act::Take(_) => "Take",

@@ -112,6 +112,10 @@ fn event(party: Party, word: &str, argument: &str) -> Option<Event> {
             party,
             pool: index(argument)?,
         }),
+        "cast" => Some(Event::Cast {
+            party,
+            pool: index(argument)?,
+        }),
         "install" => Some(Event::Install {
             party,
             pool: index(argument)?,

@@ -1,3 +1,4 @@
+use Rattle.rayon_machine_laws.proofs.Bounds.{always_bound}
 use Rattle.rayon_machine_laws.proofs.PlacedRuns.{always_once}
 use Rattle.rayon_machine_laws.proofs.Redeems.{always_stocks, redeems}
 use Rattle.rayon_machine_laws.proofs.laws.law_once.Goals as goal
@@ -7,3 +8,6 @@ returns-clause-once c h es w r = always_once h es w r
 
 pub returns-clause-redeemed : goal.returns-clause-redeemed
 returns-clause-redeemed c h es w r = redeems w (always_stocks h es w r)
+
+pub returns-clause-bound : goal.returns-clause-bound
+returns-clause-bound c h es w r = always_bound h es w r

@@ -1,6 +1,7 @@
 use Rattle.rayon_machine_laws.proofs.Attend.{attended_injectors}
 use Rattle.rayon_machine_laws.proofs.Attended.{always_awake}
-use Rattle.rayon_machine_laws.proofs.Emptied.{always_lists, cast_attended, empty_handed}
+use Rattle.rayon_machine_laws.proofs.Called.{always_hears, cast_attended}
+use Rattle.rayon_machine_laws.proofs.Emptied.{always_lists, empty_handed}
 use Rattle.rayon_machine_laws.proofs.Events.{always_seats}
 use Rattle.rayon_machine_laws.proofs.Searching.{search_law}
 use Rattle.rayon_machine_laws.proofs.Settled.{always_watched, latch_attended}
@@ -13,7 +14,7 @@ pub returns-clause-latch : goal.returns-clause-latch
 returns-clause-latch c h es w r = latch_attended w (always_watched h es w r)
 
 pub returns-clause-cast : goal.returns-clause-cast
-returns-clause-cast c h es w r = cast_attended w (always_lists h es w r)
+returns-clause-cast c h es w r = cast_attended w ((always_hears h es w r).casts)
 
 pub returns-clause-own : goal.returns-clause-own
 returns-clause-own c h es w r = empty_handed w (always_seats h es w r) (always_lists h es w r)

@@ -4,6 +4,7 @@ use Rattle.rayon_machine_laws.proofs.ShareEnds.{always_shares, no_early_end}
 use Rattle.rayon_machine_orders.proofs.Filled.{FilledHold, always_filled, takes_filled, none_missing}
 use Rattle.rayon_machine_laws.proofs.Returns.{always_returns, returned_so}
 use Rattle.rayon_machine_orders.proofs.Calls.{call_law}
+use Rattle.rayon_machine_orders.proofs.Casts.{cast_law}
 use Rattle.rayon_machine_orders.proofs.call_laws.law_end.Goals as goal
 
 pub returns-clause-ends : goal.returns-clause-ends
@@ -20,3 +21,6 @@ returns-clause-early c h es w r = no_early_end w (always_shares h es w r)
 
 pub returns-clause-calls : goal.returns-clause-calls
 returns-clause-calls c = call_law
+
+pub returns-clause-casts : goal.returns-clause-casts
+returns-clause-casts c = cast_law

@@ -4,9 +4,12 @@ use Rattle.rayon_machine_places.specs.declared.place.Move.TheVariants.{Stay}
 use Rattle.rayon_machine_places.specs.declared.place.Place.{Place}
 use Rattle.rayon_machine_places.specs.declared.place.Place.TheVariants as at
 use Rattle.rayon_machine_places.specs.Places.{next_of}
-use Rattle.rayon_performers.proofs.Finds.{Looking, ended, given, given_found, given_left, one_more, still_looks}
+use Rattle.rayon_performers.proofs.Finds.{Looking, ended, given, given_found, given_left, one_more, still_looks, yield_needs}
 use Rattle.rayon_performers.proofs.Stretches.{So}
 use Rattle.rayon_performers.proofs.bench.Bench.find_work.Goals as goal
+
+pub perform-seen-requires : goal.perform-seen-requires
+perform-seen-requires g c = yield_needs c.args.self.now.index c.party-party.result c.loop.place c.act.result c.loop.self c.party-party.ensures c.act.ensures c.loop.invariant.4
 
 pub returns-in-BeginTask-clause-path : goal.returns-in-BeginTask-clause-path
 returns-in-BeginTask-clause-path g c =

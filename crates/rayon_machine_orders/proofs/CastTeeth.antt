@@ -1,0 +1,67 @@
+-- wrong machines of broadcasts: replays, computed by the kernel, in which a changed table or act breaks the clause of a
+-- law that forbids it
+use Rattle.std.proofs.Common.{refl}
+use Rattle.std.specs.Prelude.{ℕ, Bool, true, false, ◌&&◌, ◌||◌, ◌+◌, ◌-◌, ◌==◌, Option, Some, List, [], ◌∷◌, ◌++◌, ◌≡◌, IfSome}
+use Rattle.rayon_machine_places.specs.declared.place.Party.{Party}
+use Rattle.rayon_machine_places.specs.declared.place.Mark.TheVariants.{Queued}
+use Rattle.rayon_machine_places.specs.declared.place.Then.TheVariants.{Called}
+use Rattle.rayon_machine_places.specs.declared.place.Place.{Place}
+use Rattle.rayon_machine_places.specs.declared.place.Place.TheVariants.{PushForAll, LockToWake}
+use Rattle.rayon_machine_places.specs.declared.place.Move.{Move}
+use Rattle.rayon_machine_places.specs.declared.place.Move.TheVariants.{Mark, HandAllBack}
+use Rattle.rayon_machine_places.specs.declared.act.Act.{Act}
+use Rattle.rayon_machine_places.specs.declared.act.Act.TheVariants.{PushCast}
+use Rattle.rayon_machine_places.specs.declared.act.Seen.{Seen}
+use Rattle.rayon_machine_places.specs.declared.act.Seen.TheVariants.{Done}
+use Rattle.rayon_machine_places.specs.declared.event.Event.{Event}
+use Rattle.rayon_machine_places.specs.declared.event.Event.TheVariants.{Cast, Refuse}
+use Rattle.rayon_machine_places.specs.declared.shape.PoolShape.{PoolShape}
+use Rattle.rayon_machine_places.specs.Places.{next_of}
+use Rattle.rayon_machine_places.specs.World.{Shape, World, Counts, Part, Outcome, count_below, effect}
+use Rattle.rayon_machine_laws.specs.Once.{one, times, in_cast}
+use Rattle.rayon_machine_laws.specs.Counted.{has_share}
+use Rattle.rayon_machine_laws.specs.Committed.{is_committed}
+use Rattle.rayon_machine_laws.specs.Attended.{is_filled, owes_cast}
+use Rattle.rayon_machine_orders.proofs.WrongMachines.{Machine, run_by, times_go, two, a, b, c, right}
+
+-- whoever has put tasks into all broadcast lists begins its calls at worker 1
+abbrev skips_first : PoolShape → Party → Place → Seen → Move
+skips_first h q (PushForAll p) Done = Mark (LockToWake (record { pool = p.pool; owed = h.workers; worker = 1; then = Called })) p Queued
+skips_first h q x e = next_of h q x e
+
+-- a worker blocks itself, and a caller broadcasts
+abbrev asleep_run : List Event
+asleep_run = times_go a 25 ++ Cast c 0 ∷ times_go c 2
+
+-- the clause of broadcast lists is broken: worker 0 is committed, its list is filled, and nobody that ever moved is to
+-- wake it
+record Uncalled (w : World) : Type 0 where
+  filled : is_filled ((w.pool 0).casts 0) ≡ true
+  committed : is_committed w 0 0 ≡ true
+  callers : (owes_cast (w.stack c).top 2 0 0 || (owes_cast (w.stack a).top 2 0 0 || owes_cast (w.stack b).top 2 0 0)) ≡ false
+
+call_of_all_skips_a_worker : IfSome (run_by (record { does = effect; next = skips_first }) (two 32) asleep_run) Uncalled
+call_of_all_skips_a_worker = record { filled = refl; committed = refl; callers = refl }
+
+-- in the machine as it is the caller is to wake it
+call_of_all_begins_at_the_first : IfSome (run_by right (two 32) asleep_run) (λ w. (is_filled ((w.pool 0).casts 0) ≡ true) × (is_committed w 0 0 ≡ true) × (owes_cast (w.stack c).top 2 0 0 ≡ true))
+call_of_all_begins_at_the_first = (refl, refl, refl)
+
+-- the push gives the last worker nothing
+abbrev skips_last : Act → Shape → Party → Counts → Part → Outcome
+skips_last (PushCast p) h q n m = effect (PushCast (record p { workers = p.workers - 1 })) h q n m
+skips_last act h q n m = effect act h q n m
+
+-- the law of places is broken: the last piece's record says that it is queued, and it does not stand there
+broadcast_skips_its_last_worker : IfSome (run_by (record { does = skips_last; next = next_of }) (two 32) (Cast c 0 ∷ times_go c 2)) (λ w. (in_cast 0 1 (w.job 1).at ≡ true) × (times 1 ((w.pool 0).casts 1) ≡ 0))
+broadcast_skips_its_last_worker = (refl, refl)
+
+-- a refused push hands the pieces back at once
+abbrev keeps_shares : PoolShape → Party → Place → Seen → Move
+keeps_shares h q (PushForAll p) Done = next_of h q (PushForAll p) Done
+keeps_shares h q (PushForAll p) e = HandAllBack p
+keeps_shares h q x e = next_of h q x e
+
+-- the law of the count is broken: the number is two more than the shares, so this pool will never end
+refused_broadcast_keeps_its_shares : IfSome (run_by (record { does = effect; next = keeps_shares }) (two 32) (Cast c 0 ∷ times_go c 1 ++ Refuse c ∷ [])) (λ w. ((w.pool 0).count ≡ 3) × ((one (w.pool 0).counted + count_below w.jobs (λ t. has_share 0 (w.job t))) ≡ 1))
+refused_broadcast_keeps_its_shares = (refl, refl)

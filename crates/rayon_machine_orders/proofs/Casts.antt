@@ -1,0 +1,454 @@
+-- the law of broadcasts: from the event that begins one to the world in which its party is back
+use Rattle.std.proofs.Common.{arith, refl, sym, ◌∙◌, ap, subst, inl, inr}
+use Rattle.std.specs.Prelude.{ℕ, Bool, true, false, ◌&&◌, ◌||◌, ◌+◌, ◌-◌, ◌==◌, ◌≤◌, ◌<◌, nat_lt, if◌then◌else◌, Some, None, List, [], ◌∷◌, ◌++◌, ◌≡◌, IfSome, ◌⊎◌, ⊤, length}
+use Rattle.rayon_machine_places.specs.declared.place.Party.{Party}
+use Rattle.rayon_machine_places.specs.declared.place.Party.TheVariants.{Worker, Caller}
+use Rattle.rayon_machine_places.specs.declared.place.Pieces.{Pieces}
+use Rattle.rayon_machine_places.specs.declared.place.Ending.{Ending}
+use Rattle.rayon_machine_places.specs.declared.place.Latch.TheVariants.{Terminate}
+use Rattle.rayon_machine_places.specs.declared.place.Mark.TheVariants.{Queued, Returned}
+use Rattle.rayon_machine_places.specs.declared.place.Then.{Then}
+use Rattle.rayon_machine_places.specs.declared.place.Then.TheVariants.{Resume, Called}
+use Rattle.rayon_machine_places.specs.declared.place.Settling.{Settling as Setting}
+use Rattle.rayon_machine_places.specs.declared.place.Place.{Place}
+use Rattle.rayon_machine_places.specs.declared.place.Place.TheVariants.{RaiseForAll, PushForAll, LowerForAll, LockToWake, WakeWorker, UnlockWoken, SetLatch, LockToSettle, WakeSettled, UnlockSettled, PickVictim, StealFrom, YieldPick, YieldSteal, YieldPop, LocalPop, Run, Free}
+use Rattle.rayon_machine_places.specs.declared.place.Move.{Move}
+use Rattle.rayon_machine_places.specs.declared.place.Move.TheVariants.{Stay, Back}
+use Rattle.rayon_machine_places.specs.declared.act.Seen.{Seen}
+use Rattle.rayon_machine_places.specs.declared.act.Seen.TheVariants.{Refused, Yes, No}
+use Rattle.rayon_machine_places.specs.declared.event.Event.{Event}
+use Rattle.rayon_machine_places.specs.declared.event.Event.TheVariants.{Go, From, Refuse, Miss, End, Spawn, Fifo, Cast, Install, Join, Yield, YieldLocal, EndPool}
+use Rattle.rayon_machine_places.specs.declared.state.Whereabouts.TheVariants.{HandedBack}
+use Rattle.rayon_machine_places.specs.declared.state.Job.{Job}
+use Rattle.rayon_machine_places.specs.declared.shape.PoolShape.{PoolShape}
+use Rattle.rayon_machine_places.specs.Places.{same_party, act_of, next_of, is_free, walk, after_set, finish}
+use Rattle.rayon_machine_places.specs.World.{Shape, Stack, World, Part, target_pool}
+use Rattle.rayon_machine_places.specs.Steps.{put, after_move, after_choice, after_refusal, after_miss, after_end, after_call, after_spawn, after_feed, after_yield, is_pool, is_piece, mark_pieces, marked, put_pieces, new_piece, after_cast, jobs_after, step, with_stack}
+use Rattle.rayon_machine_places.specs.Readers.{is_queued, is_running, is_done}
+use Rattle.rayon_machine_places.specs.Runs.{IsRun, start}
+use Rattle.rayon_machine_orders.specs.Calls.{IsRunUntil, is_at_call, is_any, IsHandedOn, StandsOn}
+use Rattle.rayon_machine_orders.specs.Casts.{is_cast_refused, is_cast_refusal, CastLaw}
+use Rattle.rayon_machine_laws.proofs.Frame.{and_parts, if_cond, if_some_all, if_some_map, same_party_true, same_party_refl, stack_mine, stack_other, piece_new, piece_range, piece_in}
+use Rattle.rayon_machine_laws.proofs.Ties.{outcome, result}
+use Rattle.rayon_machine_laws.proofs.Located.{is_left}
+use Rattle.rayon_machine_laws.proofs.PlacedEvents.{Advance, final_left, IsFinal}
+use Rattle.rayon_machine_laws.proofs.PlacedRuns.{step_advance}
+use Rattle.rayon_machine_laws.proofs.Claims.{is_detached}
+use Rattle.rayon_machine_laws.proofs.ClaimRuns.{world_after, place_part}
+use Rattle.rayon_machine_laws.proofs.Endings.{refused_so}
+use Rattle.rayon_machine_laws.proofs.Returns.{returned_so}
+use Rattle.rayon_machine_orders.proofs.CallActs.{or_false}
+use Rattle.rayon_machine_orders.proofs.CallEvents.{whole, Turned, at_call_yes}
+use Rattle.rayon_machine_orders.proofs.CallSteps.{Carries, mover, turns, go_all, is_act, step_carries, handed_on, left_untaken}
+use Rattle.rayon_machine_orders.proofs.CallStretch.{Ground}
+use Rattle.rayon_machine_orders.proofs.Calls.{ground_of, run_more, or_assoc, run_on}
+
+-- how far a broadcast is: before its push, after a refused push, calling all, and setting the latches of a pool that a
+-- refused one has ended
+data Stage : Type 0 where
+  Before : Stage
+  Undoing : Stage
+  Calling : Stage
+  Emptying : Stage
+
+abbrev is_undone : Stage → Bool
+is_undone Before = false
+is_undone Undoing = true
+is_undone Calling = false
+is_undone Emptying = true
+
+-- where its party stands then
+abbrev Spot : Pieces → Stage → Place → Type 0
+Spot c Before (RaiseForAll d) = d ≡ c
+Spot c Before (PushForAll d) = d ≡ c
+Spot c Undoing (LowerForAll d) = d ≡ c
+Spot c Calling (LockToWake k) = k.then ≡ Called
+Spot c Calling (WakeWorker k) = k.then ≡ Called
+Spot c Calling (UnlockWoken k) = k.then ≡ Called
+Spot c Emptying (SetLatch k) = (k.then ≡ Resume) × (k.latch ≡ Terminate)
+Spot c Emptying (LockToSettle k) = (k.then ≡ Resume) × (k.latch ≡ Terminate)
+Spot c Emptying (WakeSettled k) = (k.then ≡ Resume) × (k.latch ≡ Terminate)
+Spot c Emptying (UnlockSettled k) = (k.then ≡ Resume) × (k.latch ≡ Terminate)
+Spot c _ _ = ⊥
+
+-- what has become of the pieces by then
+abbrev AllOn : World → Pieces → Type 0
+AllOn u c = (t : ℕ) → is_piece c t ≡ true → (is_left (u.job t).at ≡ true) × IsHandedOn u t
+
+abbrev AllBack : World → Pieces → Type 0
+AllBack u c = (t : ℕ) → is_piece c t ≡ true → (u.job t).at ≡ HandedBack
+
+abbrev Sofar : World → Pieces → Stage → Type 0
+Sofar u c Before = ⊤
+Sofar u c Undoing = ⊤
+Sofar u c Calling = AllOn u c
+Sofar u c Emptying = AllBack u c
+
+-- the pieces are jobs that were made, and detached
+abbrev AllMade : World → Pieces → Type 0
+AllMade u c = (t : ℕ) → is_piece c t ≡ true → (t + 1 ≤ u.jobs) × (is_detached (u.job t).kind ≡ true)
+
+-- the broadcast goes on
+record Inside (u : World) (q : Party) (s : Stack) (c : Pieces) (r : Bool) : Type 0 where
+  stage : Stage
+  top : Place
+  is : u.stack q ≡ record { top = top; below = whole s }
+  spot : Spot c stage top
+  sofar : Sofar u c stage
+  known : AllMade u c
+  flag : is_undone stage ≡ r
+
+-- the broadcast is over
+record Over (u : World) (q : Party) (s : Stack) (c : Pieces) (r : Bool) : Type 0 where
+  back : u.stack q ≡ s
+  on : r ≡ false → AllOn u c
+  backs : r ≡ true → AllBack u c
+
+abbrev After : World → Party → Stack → Pieces → Bool → Type 0
+After u q s c r = Inside u q s c r ⊎ Over u q s c r
+
+-- what each step leaves of it
+abbrev Keeps : World → Event → Party → Stack → Pieces → Bool → World → Type 0
+Keeps w e q s c r u = step w e ≡ Some u → Ground u → Advance w u → After u q s c (r || is_cast_refusal q s w e)
+
+made_on : (w u : World) (e : Event) → step w e ≡ Some u → (c : Pieces) → AllMade w c → AllMade u c
+made_on w u e made c k t y =
+    let f : Carries w u = (let g : IfSome (Some u) (λ v. Carries w v) = subst (λ o. IfSome o (λ v. Carries w v)) made (step_carries w e) in g) in
+    ((f.made t ((k t y).0)).0, ap is_detached ((f.made t ((k t y).0)).1) ∙ (k t y).1)
+
+on_kept : (w u : World) (e : Event) → step w e ≡ Some u → Ground w → Ground u → Advance w u → (c : Pieces) → AllMade w c → AllOn w c → AllOn u c
+on_kept w u e made g h a c k o t y = (final_left ((w.job t).at) ((u.job t).at) (a.final t) ((o t y).0), handed_on w u e made (g.returns.shares) h.returns a t ((k t y).0) ((k t y).1) (left_untaken w (g.calls.jobs) t ((o t y).0)) ((o t y).1))
+
+back_kept : (w u : World) → Advance w u → (c : Pieces) → AllBack w c → AllBack u c
+back_kept w u a c o t y = subst (λ v. IsFinal v ((u.job t).at)) (o t y) (a.final t)
+
+sofar_kept : (w u : World) (e : Event) → step w e ≡ Some u → Ground w → Ground u → Advance w u → (c : Pieces) → AllMade w c → (st : Stage) → Sofar w c st → Sofar u c st
+sofar_kept w u e made g h a c k Before o = tt
+sofar_kept w u e made g h a c k Undoing o = tt
+sofar_kept w u e made g h a c k Calling o = on_kept w u e made g h a c k o
+sofar_kept w u e made g h a c k Emptying o = back_kept w u a c o
+
+-- another party's event
+idle : (w u : World) (e : Event) (q : Party) (s : Stack) (c : Pieces) (r : Bool) → Ground w → Inside w q s c r → u.stack q ≡ w.stack q → is_cast_refusal q s w e ≡ false → Keeps w e q s c r u
+idle w u e q s c r g i z f made h a = inl (record {
+  stage = i.stage;
+  top = i.top;
+  is = z ∙ i.is;
+  spot = i.spot;
+  sofar = sofar_kept w u e made g h a c i.known i.stage i.sofar;
+  known = made_on w u e made c i.known;
+  flag = i.flag ∙ or_false r ∙ ap (λ v. r || v) (sym f);
+})
+
+-- the two stages in which the broadcast goes on by waking and settling alone
+abbrev is_going : Stage → Bool
+is_going Calling = true
+is_going Emptying = true
+is_going _ = false
+
+abbrev Leads : Pieces → Stage → Move → Type 0
+Leads c st (Stay y) = Spot c st y
+Leads c st Back = ⊤
+Leads c st _ = ⊥
+
+called_leads : (c : Pieces) (g : PoolShape) (q : Party) (p n i : ℕ) (t : Then) → t ≡ Called → Leads c Calling (walk g q p n i t)
+called_leads c g q p n i t e = subst (λ t. Leads c Calling (walk g q p n i t)) (sym e) (by (nat_lt 0 n && nat_lt i g.workers))
+  where
+    by : (b : Bool) → Leads c Calling (if b then Stay (LockToWake (record { pool = p; owed = n; worker = i; then = Called })) else Back)
+    by true = refl
+    by false = tt
+
+set_leads : (c : Pieces) (g : PoolShape) (q : Party) (k : Setting) → k.then ≡ Resume → k.latch ≡ Terminate → Leads c Emptying (after_set g q k k.latch)
+set_leads c g q k e l = subst (λ l. Leads c Emptying (after_set g q k l)) (sym l) (by (nat_lt (k.worker + 1) g.workers))
+  where
+    by : (b : Bool) → Leads c Emptying (if b then Stay (SetLatch (record { latch = Terminate; pool = k.pool; worker = k.worker + 1; then = k.then })) else finish q k.then)
+    by true = (e, refl)
+    by false = subst (λ t. Leads c Emptying (finish q t)) (sym e) tt
+
+leads : (c : Pieces) (g : PoolShape) (q : Party) (st : Stage) (x : Place) (e : Seen) → is_going st ≡ true → Spot c st x → Leads c st (next_of g q x e)
+leads c g q Calling (LockToWake k) e y p = p
+leads c g q Calling (WakeWorker k) Yes y p = p
+leads c g q Calling (WakeWorker k) _ y p = p
+leads c g q Calling (UnlockWoken k) e y p = called_leads c g q k.pool k.owed (k.worker + 1) k.then p
+leads c g q Emptying (SetLatch k) Yes y p = p
+leads c g q Emptying (SetLatch k) _ y p = set_leads c g q k (p.0) (p.1)
+leads c g q Emptying (LockToSettle k) e y p = p
+leads c g q Emptying (WakeSettled k) e y p = p
+leads c g q Emptying (UnlockSettled k) e y p = set_leads c g q k (p.0) (p.1)
+leads c g q Before x e y p = cc
+leads c g q Undoing x e y p = cc
+leads c g q st _ e y p = absurd p
+
+calm : (w : World) (q : Party) (c : Pieces) (st : Stage) (x : Place) → is_going st ≡ true → Spot c st x → is_cast_refused w (act_of q x) ≡ false
+calm w (Worker a b) c Calling (LockToWake k) y p = refl
+calm w (Caller g) c Calling (LockToWake k) y p = refl
+calm w (Worker a b) c Calling (WakeWorker k) y p = refl
+calm w (Caller g) c Calling (WakeWorker k) y p = refl
+calm w (Worker a b) c Calling (UnlockWoken k) y p = refl
+calm w (Caller g) c Calling (UnlockWoken k) y p = refl
+calm w (Worker a b) c Emptying (SetLatch k) y p = refl
+calm w (Caller g) c Emptying (SetLatch k) y p = refl
+calm w (Worker a b) c Emptying (LockToSettle k) y p = refl
+calm w (Caller g) c Emptying (LockToSettle k) y p = refl
+calm w (Worker a b) c Emptying (WakeSettled k) y p = refl
+calm w (Caller g) c Emptying (WakeSettled k) y p = refl
+calm w (Worker a b) c Emptying (UnlockSettled k) y p = refl
+calm w (Caller g) c Emptying (UnlockSettled k) y p = refl
+calm w q c Before x y p = cc
+calm w q c Undoing x y p = cc
+calm w q c st _ y p = absurd p
+
+-- its own act is refused or not
+own_flag : (w : World) (q : Party) (s : Stack) (x : Place) (b : Bool) → w.stack q ≡ record { top = x; below = whole s } → is_cast_refused w (act_of q x) ≡ b → is_cast_refusal q s w (Go q) ≡ b
+own_flag w q s x b z e = let a : same_party q q ≡ true = same_party_refl q in let d : is_at_call s (w.stack q) ≡ true = at_call_yes s (w.stack q) (ap (λ v. v.below) z) in rw a (rw d (ap (λ v. is_cast_refused w (act_of q v.top)) z ∙ e))
+
+landed : (u : World) (q : Party) (s : Stack) (c : Pieces) (st : Stage) (m : Move) → Leads c st m → u.stack q ≡ after_move m (whole s) → Sofar u c st → AllMade u c → is_going st ≡ true → After u q s c (is_undone st)
+landed u q s c st (Stay y) l z o k g = inl (record { stage = st; top = y; is = z; spot = l; sofar = o; known = k; flag = refl })
+landed u q s c Calling Back l z o k g = inr (record { back = z; on = λ e. o; backs = λ e. cc })
+landed u q s c Emptying Back l z o k g = inr (record { back = z; on = λ e. cc; backs = λ e. o })
+landed u q s c Before Back l z o k g = cc
+landed u q s c Undoing Back l z o k g = cc
+landed u q s c st _ l z o k g = absurd l
+
+going_act : (w : World) (q : Party) (s : Stack) (c : Pieces) (r : Bool) (st : Stage) (x : Place) → w.stack q ≡ record { top = x; below = whole s } → Ground w → is_going st ≡ true → Spot c st x → Sofar w c st → AllMade w c → is_undone st ≡ r → (v : Seen × Part) → Keeps w (Go q) q s c r (world_after w q x (whole s) v)
+going_act w q s c r st x z g y p o k f v made h a =
+    let m : Move = next_of (w.shape.pool (target_pool q (act_of q x))) q x (v.0) in
+    let u : World = world_after w q x (whole s) v in
+    subst (λ b. After u q s c b) (f ∙ or_false r ∙ ap (λ b. r || b) (sym (own_flag w q s x false z (calm w q c st x y p))))
+    (landed u q s c st m (leads c (w.shape.pool (target_pool q (act_of q x))) q st x (v.0) y p) (stack_mine w.stack q (after_move m (whole s))) (sofar_kept w u (Go q) made g h a c k st o) (made_on w u (Go q) made c k) y)
+
+all_with : (P : Seen × Part → Type 0) (none done : Seen × Part) (b : Bool) → (b ≡ true → P none) → (b ≡ false → P done) → IfSome (if b then Some none else Some done) P
+all_with P none done true x y = x refl
+all_with P none done false x y = y refl
+
+given_back : (J : ℕ → Job) (c : Pieces) (t : ℕ) → is_piece c t ≡ true → (mark_pieces c Returned J t).at ≡ HandedBack
+given_back J c t e = ap (λ j. j.at) (piece_new c (marked Returned c.pool) J t e)
+
+raise_none : (w : World) (q : Party) (s : Stack) (c : Pieces) → w.stack q ≡ record { top = RaiseForAll c; below = whole s } → is_cast_refused w (act_of q (RaiseForAll c)) ≡ true → (u : World) → u.stack q ≡ s → ((t : ℕ) → u.job t ≡ mark_pieces c Returned (put w.job 0 (w.job 0)) t) → Keeps w (Go q) q s c false u
+raise_none w q s c z e u b j made h a = subst (λ f. After u q s c f) (sym (own_flag w q s (RaiseForAll c) true z e)) (inr (record { back = b; on = λ d. cc; backs = λ d t y. ap (λ v. v.at) (j t) ∙ given_back (put w.job 0 (w.job 0)) c t y }))
+
+raise_done : (w : World) (q : Party) (s : Stack) (c : Pieces) → w.stack q ≡ record { top = RaiseForAll c; below = whole s } → is_cast_refused w (act_of q (RaiseForAll c)) ≡ false → AllMade w c → (u : World) → u.stack q ≡ record { top = PushForAll c; below = whole s } → Keeps w (Go q) q s c false u
+raise_done w q s c z e k u b made h a = subst (λ f. After u q s c f) (sym (own_flag w q s (RaiseForAll c) false z e)) (inl (record { stage = Before; top = PushForAll c; is = b; spot = refl; sofar = tt; known = made_on w u (Go q) made c k; flag = refl }))
+
+push_done : (w : World) (q : Party) (s : Stack) (c : Pieces) → w.stack q ≡ record { top = PushForAll c; below = whole s } → is_cast_refused w (act_of q (PushForAll c)) ≡ false → AllMade w c → (n n0 : ℕ) (j0 : Job) (u : World) → u.stack q ≡ record { top = LockToWake (record { pool = c.pool; owed = n; worker = 0; then = Called }); below = whole s } → ((t : ℕ) → u.job t ≡ mark_pieces c Queued (put w.job n0 j0) t) → Keeps w (Go q) q s c false u
+push_done w q s c z e k n n0 j0 u b j made h a = subst (λ f. After u q s c f) (sym (own_flag w q s (PushForAll c) false z e)) (inl (record { stage = Calling; top = LockToWake (record { pool = c.pool; owed = n; worker = 0; then = Called }); is = b; spot = refl; sofar = on; known = made_on w u (Go q) made c k; flag = refl }))
+  where
+    on : AllOn u c
+    on t y = let i : u.job t ≡ marked Queued c.pool (t - c.first) (put w.job n0 j0 t) = j t ∙ piece_new c (marked Queued c.pool) (put w.job n0 j0) t y in (ap (λ v. is_left (v.at)) i, subst (λ v. (is_queued v.at || (is_running v.at || is_done v.at)) ≡ true) (sym i) refl)
+
+lower_on : (w : World) (q : Party) (s : Stack) (c : Pieces) (r : Bool) → r ≡ true → AllMade w c → (g : PoolShape) (e : Seen) (u : World) → u.stack q ≡ after_move (next_of g q (LowerForAll c) e) (whole s) → ((t : ℕ) → u.job t ≡ jobs_after q (next_of g q (LowerForAll c) e) (put w.job 0 (w.job 0)) t) → Keeps w (Go q) q s c r u
+lower_on w q s c r f k g e u b j made h a = subst (λ v. After u q s c (v || is_cast_refusal q s w (Go q))) (sym f) (by e b j)
+  where
+    by : (e : Seen) → u.stack q ≡ after_move (next_of g q (LowerForAll c) e) (whole s) → ((t : ℕ) → u.job t ≡ jobs_after q (next_of g q (LowerForAll c) e) (put w.job 0 (w.job 0)) t) → After u q s c true
+    by Yes b j = inl (record { stage = Emptying; top = SetLatch (record { latch = Terminate; pool = c.pool; worker = 0; then = Resume }); is = b; spot = (refl, refl); sofar = λ t y. ap (λ v. v.at) (j t) ∙ given_back (put w.job 0 (w.job 0)) c t y; known = made_on w u (Go q) made c k; flag = refl })
+    by _ b j = inr (record { back = b; on = λ d. cc; backs = λ d t y. ap (λ v. v.at) (j t) ∙ given_back (put w.job 0 (w.job 0)) c t y })
+
+abbrev Keepers : World → Party → Stack → Pieces → Bool → Place → Seen × Part → Type 0
+Keepers w q s c r x v = Keeps w (Go q) q s c r (world_after w q x (whole s) v)
+
+own_act : (w : World) (q : Party) (s : Stack) (c : Pieces) (r : Bool) (st : Stage) (x : Place) → w.stack q ≡ record { top = x; below = whole s } → Ground w → Spot c st x → Sofar w c st → AllMade w c → is_undone st ≡ r → IfSome (outcome w q (record { top = x; below = whole s })) (Keepers w q s c r x)
+own_act w q s c r Before (RaiseForAll d) z g p o k f = subst (λ b. IfSome (outcome w q (record { top = RaiseForAll d; below = whole s })) (Keepers w q s c b (RaiseForAll d))) f
+    (subst (λ c. AllMade w c → IfSome (outcome w q (record { top = RaiseForAll d; below = whole s })) (Keepers w q s c false (RaiseForAll d))) p (raised q z) k)
+  where
+    raised : (q : Party) → w.stack q ≡ record { top = RaiseForAll d; below = whole s } → AllMade w d → IfSome (outcome w q (record { top = RaiseForAll d; below = whole s })) (Keepers w q s d false (RaiseForAll d))
+    raised (Worker a b) z k = all_with (Keepers w (Worker a b) s d false (RaiseForAll d)) (Refused, place_part w (Worker a b) (RaiseForAll d)) _ ((w.pool d.pool).count == 0) (λ e. raise_none w (Worker a b) s d z e (world_after w (Worker a b) (RaiseForAll d) (whole s) (Refused, place_part w (Worker a b) (RaiseForAll d))) (stack_mine w.stack (Worker a b) s) (λ t. refl)) (λ e. raise_done w (Worker a b) s d z e k _ (stack_mine w.stack (Worker a b) (record { top = PushForAll d; below = whole s })))
+    raised (Caller n) z k = all_with (Keepers w (Caller n) s d false (RaiseForAll d)) (Refused, place_part w (Caller n) (RaiseForAll d)) _ ((w.pool d.pool).count == 0) (λ e. raise_none w (Caller n) s d z e (world_after w (Caller n) (RaiseForAll d) (whole s) (Refused, place_part w (Caller n) (RaiseForAll d))) (stack_mine w.stack (Caller n) s) (λ t. refl)) (λ e. raise_done w (Caller n) s d z e k _ (stack_mine w.stack (Caller n) (record { top = PushForAll d; below = whole s })))
+own_act w q s c r Before (PushForAll d) z g p o k f = subst (λ b. IfSome (outcome w q (record { top = PushForAll d; below = whole s })) (Keepers w q s c b (PushForAll d))) f
+    (subst (λ c. AllMade w c → IfSome (outcome w q (record { top = PushForAll d; below = whole s })) (Keepers w q s c false (PushForAll d))) p (pushed q z) k)
+  where
+    pushed : (q : Party) → w.stack q ≡ record { top = PushForAll d; below = whole s } → AllMade w d → IfSome (outcome w q (record { top = PushForAll d; below = whole s })) (Keepers w q s d false (PushForAll d))
+    pushed (Worker a b) z k = push_done w (Worker a b) s d z refl k (w.shape.pool d.pool).workers 0 (w.job 0) _ (stack_mine w.stack (Worker a b) _) (λ t. refl)
+    pushed (Caller n) z k = push_done w (Caller n) s d z refl k (w.shape.pool d.pool).workers 0 (w.job 0) _ (stack_mine w.stack (Caller n) _) (λ t. refl)
+own_act w q s c r Undoing (LowerForAll d) z g p o k f = subst (λ c. AllMade w c → IfSome (outcome w q (record { top = LowerForAll d; below = whole s })) (Keepers w q s c r (LowerForAll d))) p (lowered q z) k
+  where
+    lowered : (q : Party) → w.stack q ≡ record { top = LowerForAll d; below = whole s } → AllMade w d → IfSome (outcome w q (record { top = LowerForAll d; below = whole s })) (Keepers w q s d r (LowerForAll d))
+    lowered (Worker a b) z k = lower_on w (Worker a b) s d r (sym f) k (w.shape.pool d.pool) (if (w.pool d.pool).count == d.workers then Yes else No) _ (stack_mine w.stack (Worker a b) _) (λ t. refl)
+    lowered (Caller n) z k = lower_on w (Caller n) s d r (sym f) k (w.shape.pool d.pool) (if (w.pool d.pool).count == d.workers then Yes else No) _ (stack_mine w.stack (Caller n) _) (λ t. refl)
+own_act w q s c r Calling x z g p o k f = if_some_all (Keepers w q s c r x) (going_act w q s c r Calling x z g refl p o k f) (outcome w q (record { top = x; below = whole s }))
+own_act w q s c r Emptying x z g p o k f = if_some_all (Keepers w q s c r x) (going_act w q s c r Emptying x z g refl p o k f) (outcome w q (record { top = x; below = whole s }))
+own_act w q s c r st _ z g p o k f = absurd p
+
+-- a refusal: only the push of the pieces is refused
+refuse_act : (w : World) (q : Party) (s : Stack) (c : Pieces) (r : Bool) (st : Stage) (x : Place) (fs : List Place) → w.stack q ≡ record { top = x; below = fs } → fs ≡ whole s → Spot c st x → AllMade w c → IfSome (after_refusal w q (record { top = x; below = fs })) (Keeps w (Refuse q) q s c r)
+refuse_act w q s c r Before (PushForAll d) fs z e p k = λ made h a. subst (λ b. After (with_stack w q (record { top = LowerForAll d; below = fs })) q s c b) (or_true r ∙ ap (λ v. r || v) (sym (let b : same_party q q ≡ true = same_party_refl q in let d : is_at_call s (w.stack q) ≡ true = at_call_yes s (w.stack q) (ap (λ v. v.below) z ∙ e) in rw b d)))
+    (inl (record { stage = Undoing; top = LowerForAll d; is = stack_mine w.stack q (record { top = LowerForAll d; below = fs }) ∙ ap (λ l. record { top = LowerForAll d; below = l }) e; spot = p; sofar = tt; known = made_on w (with_stack w q (record { top = LowerForAll d; below = fs })) (Refuse q) made c k; flag = refl }))
+  where
+    or_true : (b : Bool) → true ≡ (b || true)
+    or_true true = refl
+    or_true false = refl
+refuse_act w q s c r Before (RaiseForAll d) fs z e p k = tt
+refuse_act w q s c r Undoing (LowerForAll d) fs z e p k = tt
+refuse_act w q s c r Calling (LockToWake d) fs z e p k = tt
+refuse_act w q s c r Calling (WakeWorker d) fs z e p k = tt
+refuse_act w q s c r Calling (UnlockWoken d) fs z e p k = tt
+refuse_act w q s c r Emptying (SetLatch d) fs z e p k = tt
+refuse_act w q s c r Emptying (LockToSettle d) fs z e p k = tt
+refuse_act w q s c r Emptying (WakeSettled d) fs z e p k = tt
+refuse_act w q s c r Emptying (UnlockSettled d) fs z e p k = tt
+refuse_act w q s c r st _ fs z e p k = absurd p
+
+-- where a broadcast stands no other event of its party is possible
+abbrev is_spot : Place → Bool
+is_spot (RaiseForAll c) = true
+is_spot (PushForAll c) = true
+is_spot (LowerForAll c) = true
+is_spot (LockToWake k) = true
+is_spot (WakeWorker k) = true
+is_spot (UnlockWoken k) = true
+is_spot (SetLatch k) = true
+is_spot (LockToSettle k) = true
+is_spot (WakeSettled k) = true
+is_spot (UnlockSettled k) = true
+is_spot _ = false
+
+spot_is : (c : Pieces) (st : Stage) (x : Place) → Spot c st x → is_spot x ≡ true
+spot_is c Before (RaiseForAll d) p = refl
+spot_is c Before (PushForAll d) p = refl
+spot_is c Undoing (LowerForAll d) p = refl
+spot_is c Calling (LockToWake d) p = refl
+spot_is c Calling (WakeWorker d) p = refl
+spot_is c Calling (UnlockWoken d) p = refl
+spot_is c Emptying (SetLatch d) p = refl
+spot_is c Emptying (LockToSettle d) p = refl
+spot_is c Emptying (WakeSettled d) p = refl
+spot_is c Emptying (UnlockSettled d) p = refl
+spot_is c st _ p = absurd p
+
+not_free : (x : Place) → is_spot x ≡ true → is_free x ≡ true → ⊥
+not_free (Run t k) y e = cc
+not_free Free y e = cc
+not_free _ y e = cc
+
+from_none : (P : World → Type 0) (w : World) (q : Party) (k : Stack) (x : Place) (v : ℕ) → is_spot x ≡ true → IfSome (after_choice w q k x v) P
+from_none P w q k (PickVictim c) v y = cc
+from_none P w q k YieldPick v y = cc
+from_none P w q k _ v y = tt
+
+miss_none : (P : World → Type 0) (w : World) (q : Party) (k : Stack) (x : Place) → is_spot x ≡ true → IfSome (after_miss w q k x) P
+miss_none P w (Worker a b) k (StealFrom c n) y = cc
+miss_none P w (Worker a b) k (YieldSteal v n) y = cc
+miss_none P w (Worker a b) k _ y = tt
+miss_none P w (Caller n) k _ y = tt
+
+end_none : (P : World → Type 0) (w : World) (q : Party) (d : Ending) (k : Stack) (x : Place) → is_spot x ≡ true → IfSome (after_end w q d k x) P
+end_none P w q d k (Run t j) y = cc
+end_none P w q d k _ y = tt
+
+gate : (P : World → Type 0) (w u : World) (x : Place) (b : Bool) → (is_free x ≡ true → ⊥) → IfSome (if is_free x && b then Some u else None) P
+gate P w u x b n = if_cond P (is_free x && b) u (λ e. absurd (n ((and_parts (is_free x) b e).0)))
+
+fifo_none : (P : World → Type 0) (w : World) (q : Party) (p : ℕ) → (is_free ((w.stack q).top) ≡ true → ⊥) → IfSome (step w (Fifo q p)) P
+fifo_none P w (Caller c) p n = gate P w _ ((w.stack (Caller c)).top) (is_pool w.shape p) n
+fifo_none P w (Worker r i) p n = by (r == p)
+  where
+    by : (z : Bool) → IfSome (if z then (if is_free ((w.stack (Worker r i)).top) && is_pool w.shape p then Some (after_feed w p i (w.stack (Worker r i))) else None) else after_spawn w (Worker r i) p (w.stack (Worker r i))) P
+    by true = gate P w _ ((w.stack (Worker r i)).top) (is_pool w.shape p) n
+    by false = gate P w _ ((w.stack (Worker r i)).top) (is_pool w.shape p) n
+
+join_none : (P : World → Type 0) (w : World) (q : Party) → (is_free ((w.stack q).top) ≡ true → ⊥) → IfSome (step w (Join q)) P
+join_none P w (Worker a b) n = if_cond P (is_free ((w.stack (Worker a b)).top)) _ (λ e. absurd (n e))
+join_none P w (Caller c) n = tt
+
+yield_none : (P : World → Type 0) (w : World) (q : Party) (x : Place) → (is_free ((w.stack q).top) ≡ true → ⊥) → IfSome (after_yield w q (w.stack q) x) P
+yield_none P w (Worker a b) x n = if_cond P (is_free ((w.stack (Worker a b)).top)) _ (λ e. absurd (n e))
+yield_none P w (Caller c) x n = tt
+
+-- the party's own events
+own_event : (w : World) (e : Event) (s : Stack) (c : Pieces) (r : Bool) → Ground w → Inside w (mover e) s c r → IfSome (step w e) (Keeps w e (mover e) s c r)
+own_event w (Go q) s c r g i = go_all (Keeps w (Go q) q s c r) w q (subst (λ k. IfSome (outcome w q k) (λ v. Keeps w (Go q) q s c r (result w q k v))) (sym i.is) (own_act w q s c r i.stage i.top i.is g i.spot i.sofar i.known i.flag))
+own_event w (Refuse q) s c r g i = subst (λ k. IfSome (after_refusal w q k) (Keeps w (Refuse q) q s c r)) (sym i.is) (refuse_act w q s c r i.stage i.top (whole s) i.is refl i.spot i.known)
+own_event w (From q v) s c r g i = from_none (Keeps w (From q v) q s c r) w q (w.stack q) ((w.stack q).top) v (ap (λ k. is_spot (k.top)) i.is ∙ spot_is c i.stage i.top i.spot)
+own_event w (Miss q) s c r g i = miss_none (Keeps w (Miss q) q s c r) w q (w.stack q) ((w.stack q).top) (ap (λ k. is_spot (k.top)) i.is ∙ spot_is c i.stage i.top i.spot)
+own_event w (End q d) s c r g i = end_none (Keeps w (End q d) q s c r) w q d (w.stack q) ((w.stack q).top) (ap (λ k. is_spot (k.top)) i.is ∙ spot_is c i.stage i.top i.spot)
+own_event w (Spawn q p) s c r g i = gate (Keeps w (Spawn q p) q s c r) w _ ((w.stack q).top) (is_pool w.shape p) (not_free ((w.stack q).top) (ap (λ k. is_spot (k.top)) i.is ∙ spot_is c i.stage i.top i.spot))
+own_event w (Fifo q p) s c r g i = fifo_none (Keeps w (Fifo q p) q s c r) w q p (not_free ((w.stack q).top) (ap (λ k. is_spot (k.top)) i.is ∙ spot_is c i.stage i.top i.spot))
+own_event w (Cast q p) s c r g i = gate (Keeps w (Cast q p) q s c r) w _ ((w.stack q).top) (is_pool w.shape p) (not_free ((w.stack q).top) (ap (λ k. is_spot (k.top)) i.is ∙ spot_is c i.stage i.top i.spot))
+own_event w (Install q p) s c r g i = gate (Keeps w (Install q p) q s c r) w _ ((w.stack q).top) (is_pool w.shape p) (not_free ((w.stack q).top) (ap (λ k. is_spot (k.top)) i.is ∙ spot_is c i.stage i.top i.spot))
+own_event w (Join q) s c r g i = join_none (Keeps w (Join q) q s c r) w q (not_free ((w.stack q).top) (ap (λ k. is_spot (k.top)) i.is ∙ spot_is c i.stage i.top i.spot))
+own_event w (Yield q) s c r g i = yield_none (Keeps w (Yield q) q s c r) w q YieldPop (not_free ((w.stack q).top) (ap (λ k. is_spot (k.top)) i.is ∙ spot_is c i.stage i.top i.spot))
+own_event w (YieldLocal q) s c r g i = yield_none (Keeps w (YieldLocal q) q s c r) w q LocalPop (not_free ((w.stack q).top) (ap (λ k. is_spot (k.top)) i.is ∙ spot_is c i.stage i.top i.spot))
+own_event w (EndPool q p) s c r g i = gate (Keeps w (EndPool q p) q s c r) w _ ((w.stack q).top) (is_pool w.shape p && (w.pool p).held) (not_free ((w.stack q).top) (ap (λ k. is_spot (k.top)) i.is ∙ spot_is c i.stage i.top i.spot))
+
+-- other parties' events
+quiet : (w : World) (q : Party) (s : Stack) (e : Event) → same_party q (mover e) ≡ false → is_cast_refusal q s w e ≡ false
+quiet w q s (Go r) d = ap (λ b. b && (is_at_call s (w.stack q) && is_cast_refused w (act_of q (w.stack q).top))) d
+quiet w q s (Refuse r) d = ap (λ b. b && is_at_call s (w.stack q)) d
+quiet w q s _ d = refl
+
+apart : (w : World) (e : Event) (q : Party) → same_party q (mover e) ≡ false → (b : Bool) → is_act e ≡ b → IfSome (step w e) (λ u. u.stack q ≡ w.stack q)
+apart w e q d false z = if_some_map (λ u. Turned w u (mover e) e) (λ u. u.stack q ≡ w.stack q) (λ u m. m.stack q ∙ stack_other w.stack (mover e) m.to q d) (step w e) (turns w e z)
+apart w (Go r) q d true z = go_all (λ u. u.stack q ≡ w.stack q) w r (if_some_all {A = Seen × Part} (λ v. (result w r (w.stack r) v).stack q ≡ w.stack q) (λ v. stack_other w.stack r (after_move (next_of (w.shape.pool (target_pool r (act_of r ((w.stack r).top)))) r ((w.stack r).top) (v.0)) ((w.stack r).below)) q d) (outcome w r (w.stack r)))
+apart w _ q d true z = cc
+
+step_keeps : (w : World) (e : Event) (q : Party) (s : Stack) (c : Pieces) (r : Bool) → Ground w → Inside w q s c r → IfSome (step w e) (Keeps w e q s c r)
+step_keeps w e q s c r g i = by (same_party q (mover e)) refl
+  where
+    by : (b : Bool) → same_party q (mover e) ≡ b → IfSome (step w e) (Keeps w e q s c r)
+    by true y = subst (λ p. Inside w p s c r → IfSome (step w e) (Keeps w e p s c r)) (sym (same_party_true q (mover e) y)) (own_event w e s c r g) i
+    by false y = if_some_map (λ u. u.stack q ≡ w.stack q) (Keeps w e q s c r) (λ u z. idle w u e q s c r g i z (quiet w q s e y)) (step w e) (apart w e q y (is_act e) refl)
+
+-- from the event to any world up to its end
+stretch : (h : Shape) (before : List Event) (w : World) (q : Party) (s : Stack) (c : Pieces) (u : World) (es : List Event) (r : Bool) → IsRun (start h) before w → Inside w q s c r → IsRunUntil q s w es u → After u q s c (r || is_any (is_cast_refusal q s) (Some w) es)
+stretch h before w q s c u [] r run i same = subst (λ v. After v q s c (r || false)) (sym same) (subst (λ b. After w q s c b) (or_false r) (inl i))
+stretch h before w q s c u (e ∷ es) r run i (v, opened, one, rest) =
+    let next : IsRun (start h) (before ++ (e ∷ [])) v = run_more (start h) w v before e run one in
+    let d : Ground w = ground_of h before w run in
+    let adv : Advance w v = (let f : IfSome (Some v) (Advance w) = subst (λ o. IfSome o (Advance w)) one (step_advance w e ((d.calls.jobs).feeds) ((d.calls.jobs).ok) ((d.calls.jobs).unmade)) in f) in
+    let st : Keeps w e q s c r v = (let f : IfSome (Some v) (Keeps w e q s c r) = subst (λ o. IfSome o (Keeps w e q s c r)) one (step_keeps w e q s c r d i) in f) in
+    let b : Bool = is_cast_refusal q s w e in
+    elim (st one (ground_of h (before ++ (e ∷ [])) v next) adv) [
+      | inl k ↦ subst (λ d. After u q s c d) (or_assoc r b (is_any (is_cast_refusal q s) (Some v) es) ∙ ap (λ o. r || (b || is_any (is_cast_refusal q s) o es)) (sym one)) (stretch h (before ++ (e ∷ [])) v q s c u es (r || b) next k rest)
+      | inr k ↦ over v b k one es rest
+    ]
+  where
+    over : (v : World) (b : Bool) → Over v q s c (r || b) → step w e ≡ Some v → (es : List Event) → IsRunUntil q s v es u → After u q s c (r || (b || is_any (is_cast_refusal q s) (step w e) es))
+    over v b k one [] same = subst (λ x. After x q s c (r || (b || is_any (is_cast_refusal q s) (step w e) []))) (sym same) (subst (λ d. After v q s c d) (ap (λ d. r || d) (or_false b) ∙ ap (λ o. r || (b || is_any (is_cast_refusal q s) o [])) (sym one)) (inr k))
+    over v b k one (a ∷ gs) (x, still, two, rest) = absurd (still k.back)
+
+-- its event
+record Begun (w v : World) (q : Party) (p : ℕ) : Type 0 where
+  pieces : Pieces
+  made : v.jobs ≡ w.jobs + (w.shape.pool p).workers
+  inside : Inside v q (w.stack q) pieces false
+  mine : (t : ℕ) → w.jobs ≤ t → t < v.jobs → is_piece pieces t ≡ true
+
+cast_begun : (w : World) (q : Party) (p : ℕ) → IfSome (after_cast w q p (w.stack q)) (λ v. Begun w v q p)
+cast_begun w q p = if_cond (λ v. Begun w v q p) (is_free ((w.stack q).top) && is_pool w.shape p) _ (λ b. record {
+  pieces = c;
+  made = refl;
+  inside = record { stage = Before; top = RaiseForAll c; is = stack_mine w.stack q (after_call (w.stack q) (RaiseForAll c)); spot = refl; sofar = tt; known = known; flag = refl };
+  mine = λ t l m. piece_in c t l m;
+})
+  where
+    c : Pieces
+    c = record { pool = p; first = w.jobs; workers = (w.shape.pool p).workers }
+
+    known : (t : ℕ) → is_piece c t ≡ true → (t + 1 ≤ w.jobs + c.workers) × (is_detached (put_pieces c (λ i j. new_piece q p i) w.job t).kind ≡ true)
+    known t e = let a : (c.first ≤ t) × (t < c.first + c.workers) = piece_range c t e in let b : t < c.first + c.workers = a.1 in ((let g : t + 1 ≤ w.jobs + c.workers = omega (arith, b) in g), ap (λ j. is_detached (j.kind)) (piece_new c (λ i j. new_piece q p i) w.job t e))
+
+still_apart : (u : World) (q : Party) (s : Stack) (c : Pieces) (r : Bool) → Inside u q s c r → u.stack q ≡ s → ⊥
+still_apart u q s c r i z = let a : length ((u.stack q).below) ≡ length (whole s) = ap (λ k. length (k.below)) i.is in let b : length ((u.stack q).below) ≡ length (s.below) = ap (λ k. length (k.below)) z in omega (arith, a, b)
+
+is_over : (u : World) (q : Party) (s : Stack) (c : Pieces) (r : Bool) → After u q s c r → u.stack q ≡ s → Over u q s c r
+is_over u q s c r (inl i) z = absurd (still_apart u q s c r i z)
+is_over u q s c r (inr k) z = k
+
+cast_stands : (u : World) (q : Party) (s : Stack) (c : Pieces) (r : Bool) → After u q s c r → StandsOn s (u.stack q) ⊎ (u.stack q ≡ s)
+cast_stands u q s c r (inl i) = inl (record { more = []; is = ap (λ k. k.below) i.is })
+cast_stands u q s c r (inr k) = inr k.back
+
+pub cast_law : CastLaw
+cast_law h before q p w v u between b run =
+    let begun : Begun w v q p = (let f : IfSome (Some v) (λ x. Begun w x q p) = subst (λ o. IfSome o (λ x. Begun w x q p)) b.made (cast_begun w q p) in f) in
+    let s : Stack = w.stack q in
+    let next : IsRun (start h) (before ++ (Cast q p ∷ [])) v = run_more (start h) w v before (Cast q p) b.reached b.made in
+    let g : Ground u = run_on h (before ++ (Cast q p ∷ [])) v q s u between next run in
+    let c : Pieces = begun.pieces in
+    let r : Bool = is_any (is_cast_refusal q s) (Some v) between in
+    let a : After u q s c r = stretch h (before ++ (Cast q p ∷ [])) v q s c u between false next begun.inside run in
+    record {
+      made = begun.made;
+      stands = cast_stands u q s c r a;
+      ends = λ z y t l m. ((is_over u q s c r a z).on y t (begun.mine t l m)).1;
+      refused = λ z y t l m. (let k : (u.job t).at ≡ HandedBack = (is_over u q s c r a z).backs y t (begun.mine t l m) in record { at = k; untouched = (refused_so u (g.calls.jobs)).gone t k; share = (returned_so u g.returns).gone t k });
+    }

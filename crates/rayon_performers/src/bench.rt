@@ -1,6 +1,7 @@
 //! What a worker performs its acts with.
-ghost use Rattle.std.specs.Prelude.{◌≡◌, [], None, Some, IfOk};
+ghost use Rattle.std.specs.Prelude.{◌≡◌, [], None, Some, IfErr, IfOk};
 ghost use Rattle.std.specs.Arc.{arc_value};
+ghost use Rattle.rayon_drive.specs.Traces.{AddsRun};
 ghost use Rattle.rayon_drive.specs.declared.trace.Log.TheVariants.{Empty};
 ghost use Rattle.rayon_performers.specs.Hands.{Hands};
 ghost use Rattle.rayon_performers.specs.Pools.{shape_of};
@@ -16,10 +17,12 @@ use rayon_tasks::{Task, Ticket};
 use rayon_words::Refusal;
 use std::alloc::Global;
 use std::marker::Model;
+use std::mem;
 use std::sync::Arc;
 
 /// What a worker performs its acts with: its own deque and its passes of the other queues, and what the program at hand
-/// has. Each act of it adds one entry to its trace, and nothing else does.
+/// has. Each act of it adds one entry to its trace, and so does a run that the worker was lent to; meanwhile the trace is set
+/// aside.
 #[derive(Drop)]
 pub struct Bench<J: JobKind> {
     pub(crate) registry: Arc<Registry<Task<J>>, Global>,
@@ -105,9 +108,29 @@ impl<J: JobKind> Bench<J> {
 
     /// What stands for the worker where a latch is set that it may sleep on. Refused `NoRoom`.
     pub fn owner(&self) -> Result<Owner, Refusal>
-        ensures { IfOk result (λ o. o ≡ self.now.index) }
+        ensures owner { IfOk result (λ o. o ≡ self.now.index) }
+        ensures refused { IfErr result (λ r. r ≡ Refusal.NoRoom) }
     {
         self.registry.owner(self.index)
+    }
+
+    /// Takes the trace out, and begins a new one: for a run that the worker is lent to.
+    #[inline(always)]
+    pub fn set_aside(&mut self) -> Trace
+        ensures given { result ≡ self.old.trace }
+        ensures left { self.new ≡ record self.old { trace = Empty } }
+    {
+        mem::replace(&mut self.trace, Trace::new())
+    }
+
+    /// Goes on with a trace that was set aside, after the run.
+    #[inline(always)]
+    pub fn put_back(&mut self, trace: Trace)
+        ensures run { AddsRun trace self.new.trace }
+        ensures left { self.new ≡ record self.old { trace = self.new.trace } }
+    {
+        self.trace = trace;
+        self.trace.add_run();
     }
 
     /// The ticket of the call that is waited for next.

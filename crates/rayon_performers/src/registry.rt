@@ -135,7 +135,8 @@ impl<T: Drop> Registry<T> {
 
     /// What stands for a worker where a latch is set that the worker may sleep on. Refused `NoRoom`.
     pub fn owner(&self, worker: usize) -> Result<Owner, Refusal>
-        ensures { IfOk result (λ o. o ≡ worker) }
+        ensures owner { IfOk result (λ o. o ≡ worker) }
+        ensures refused { IfErr result (λ r. r ≡ Refusal.NoRoom) }
     {
         match Arc::try_clone(&self.sleep) {
             Ok(sleep) => Ok(Owner::new(sleep, worker)),

@@ -1,7 +1,10 @@
 -- The acts of a performer's path are those of a path, whatever they did.
 use Rattle.std.proofs.Common.{◌≡◌, inl, inr, Bool, true, false, true≢false, ℕ, [], ◌∷◌, Option, None, Some, Result, Ok, Err, MatchOption, MatchResult, refl, sym, subst, ap}
+use Rattle.std.specs.Result.{IsErr}
+use Rattle.rayon_words.specs.declared.refusal.CallError.{CallError}
 use Rattle.rayon_machine_places.specs.declared.place.Ending.{Ending}
 use Rattle.rayon_machine_places.specs.declared.place.Ending.TheVariants.{Fine}
+use Rattle.rayon_machine_places.specs.declared.place.JobKind.TheVariants.{Direct, Stored}
 use Rattle.rayon_machine_places.specs.declared.place.OpenCall.{OpenCall}
 use Rattle.rayon_machine_places.specs.declared.place.Share.TheVariants.{OfJob}
 use Rattle.rayon_machine_places.specs.declared.place.Then.TheVariants.{Answers}
@@ -17,15 +20,16 @@ use Rattle.rayon_machine_places.specs.declared.place.Taken.TheVariants.{Plain}
 use Rattle.rayon_machine_places.specs.declared.place.Target.{Target}
 use Rattle.rayon_machine_places.specs.declared.place.Target.TheVariants.{Termination, Answer}
 use Rattle.rayon_machine_places.specs.declared.shape.PoolShape.{PoolShape}
-use Rattle.rayon_machine_places.specs.Places.{fresh, goes_on}
+use Rattle.rayon_machine_places.specs.Places.{fresh, goes_on, taken_number}
 use Rattle.rayon_drive.specs.declared.trace.Log.{Log}
 use Rattle.rayon_drive.specs.Paths.{Driven}
+use Rattle.rayon_drive.specs.Traces.{AddsRun}
 use Rattle.rayon_drive.proofs.Paths.{driven_read}
 use Rattle.rayon_tasks.specs.Tasks.{TaskOf}
-use Rattle.rayon_performers.specs.Hands.{Hands, Does}
+use Rattle.rayon_performers.specs.Hands.{Hands, Does, kind_of}
 use Rattle.rayon_performers.specs.Stands.{Stands}
 use Rattle.rayon_performers.specs.Waits.{Rejoined, Waited}
-use Rattle.rayon_registry.specs.Acts.{Lowered, Made, Worked, wait_end}
+use Rattle.rayon_registry.specs.Acts.{CallMade, Lowered, Made, Worked, wait_end}
 
 module _ {X G O F : Type 0} (h : PoolShape) (i : ℕ) (m : Move) (s t : Hands X G O F) where
   abbrev pub Goes : Hands X G O F → Move → Type 0
@@ -39,10 +43,26 @@ module _ {X G O F : Type 0} (h : PoolShape) (i : ℕ) (m : Move) (s t : Hands X 
   made_found None d = made Back d
   made_found (Some x) d = driven_read (λ (a : Hands X G O F) x y b. Does x y a b) (λ (a : Hands X G O F). a.trace) (λ (v : Log) a x (w : Log). Unit {0}) (λ (v : Log). v) (λ (a : Hands X G O F). a.trace) (λ a. refl) (λ a x y b d. tt) h (Worker 0 i) m s (record t { task = Some x }) (Stay (at.BeginTask (Plain x.ticket.number))) d
 
+  -- the beginning of a task's run
+  pub made_begun : (k : Taken) (x : TaskOf X) → s.task ≡ Some x → Goes t (Stay (at.Run (taken_number k) (kind_of s.task))) → Made h (Worker 0 i) m s.trace t.trace (Stay (at.Run (taken_number k) (Stored x.ticket.number x.ticket.owner)))
+  made_begun k x f d = subst (λ (z : Option (TaskOf X)). Made h (Worker 0 i) m s.trace t.trace (Stay (at.Run (taken_number k) (kind_of z)))) f (made (Stay (at.Run (taken_number k) (kind_of s.task))) d)
+
   -- a push
   pub made_pushed : (n : Move) {A B : Type 0} (r : Result A B) → MatchResult r (λ _. Goes t Back) (λ _. Goes t n) → MatchResult r (λ _. Made h (Worker 0 i) m s.trace t.trace Back) (λ _. Made h (Worker 0 i) m s.trace t.trace n)
   made_pushed n (Ok x) d = made Back d
   made_pushed n (Err e) d = made n d
+
+-- what holds after a refusal holds of an answer that is one
+pub on_err : {A B : Type 0} (P : A → Type 0) (Q : Type 0) (r : Result A B) → IsErr r → Q → MatchResult r P (λ _. Q)
+on_err P Q (Err e) i q = q
+on_err P Q (Ok x) i q = absurd (true≢false (sym i))
+
+-- what a call has made, by what it answers
+pub made_fine : {O F B : Type 0} (P Q R : Type 0) (r : Result O (CallError F B)) (x : O) → r ≡ Ok x → P → CallMade P Q R r
+made_fine {O} {F} {B} P Q R r x e p = subst (λ (z : Result O (CallError F B)). CallMade P Q R z) (sym e) p
+
+pub made_fault : {O F B : Type 0} (P Q R : Type 0) (r : Result O (CallError F B)) (f : F) → r ≡ Err (CallError.Fault f) → Q → CallMade P Q R r
+made_fault {O} {F} {B} P Q R r f e q = subst (λ (z : Result O (CallError F B)). CallMade P Q R z) (sym e) q
 
 -- what holds of either answer holds of another answer of the same kind
 pub matched_ok : {A B C D : Type 0} (P Q : Type 0) (r : Result A B) (q : Result C D) (x : A) (y : C) → r ≡ Ok x → q ≡ Ok y → MatchResult r (λ _. P) (λ _. Q) → MatchResult q (λ _. P) (λ _. Q)
@@ -52,10 +72,6 @@ matched_ok {A} {B} {C} {D} P Q r q x y e f d =
 pub matched_err : {A B C D : Type 0} (P Q : Type 0) (r : Result A B) (q : Result C D) (x : B) (y : D) → r ≡ Err x → q ≡ Err y → MatchResult r (λ _. P) (λ _. Q) → MatchResult q (λ _. P) (λ _. Q)
 matched_err {A} {B} {C} {D} P Q r q x y e f d =
     subst (λ (z : Result C D). MatchResult z (λ _. P) (λ _. Q)) (sym f) (subst (λ (z : Result A B). MatchResult z (λ _. P) (λ _. Q)) e d)
-
--- one more stretch of a wait, to a run that lies above it
-pub again : (h : PoolShape) (q : Party) (g : Target) (p : Place) (v u x w : Log) (n : Move) → Made h q (Stay (at.ProbeWorking (fresh g))) v u (Enter (at.ProbeWorking (fresh g)) p) → Worked h q (Stay (at.ProbeWorking (fresh g))) x w n → Worked h q (Stay (at.ProbeWorking (fresh g))) v w n
-again h q g p v u x w n a b = (record { begins = Enter (at.ProbeWorking (fresh g)) p; ended = Fine; before = u; after = x } ∷ b.0, (tt, a, b.1))
 
 -- the last stretch
 pub last : (h : PoolShape) (q : Party) (m : Move) (v w : Log) (n : Move) → Made h q m v w n → Worked h q m v w n
@@ -96,23 +112,44 @@ module _ {X G O F : Type 0} where
       let here = subst (λ (z : Move). Stands u z) e a in
       here.0.probed
 
--- one more stretch, to a run that lies above a frame
-pub around : (h : PoolShape) (q : Party) (f p : Place) (e : Ending) (m : Move) (v u x w : Log) (n : Move) → Made h q m v u (Enter f p) → Worked h q (Stay (goes_on f e)) x w n → Worked h q m v w n
-around h q f p e m v u x w n a b = (record { begins = Enter f p; ended = e; before = u; after = x } ∷ b.0, (tt, a, b.1))
+-- one more stretch, to a run of a task that was taken, and what it adds
+pub around : (h : PoolShape) (q : Party) (f : Place) (k : Taken) (t c : ℕ) (o : Party) (e : Ending) (m : Move) (v u y z x w : Log) (n : Move) → Made h q m v u (Enter f (at.BeginTask k)) → Made h q (Stay (at.BeginTask k)) u y (Stay (at.Run t (Stored c o))) → AddsRun y z → Made h q (Stay (at.StoreResult c o e)) z x Back → Worked h q (Stay (goes_on f e)) x w n → Worked h q m v w n
+around h q f k t c o e m v u y z x w n a b l d r = (record { begins = Enter f (at.BeginTask k); job = t; kind = Stored c o; ended = e; lent = y; over = z } ∷ r.0, (u, x, a, (b, l, d), r.1))
+
+-- one more stretch of a worker's, to a run of the task that it has at hand, and what the worker adds: of what it has before
+-- the run begins, once it has begun, and once the task is out of its hand
+module _ {X G O F : Type 0} (h : PoolShape) (i : ℕ) (f : Place) (k : Taken) (x : TaskOf X) (s t r : Hands X G O F) where
+  abbrev pub Told : Log → Type 0
+  Told z = (e : Ending) × (o : Log) × AddsRun r.trace o × Made r.shape (Worker 0 r.index) (Stay (at.StoreResult x.ticket.number x.ticket.owner e)) o z Back
+
+  pub around_task : (p : Place) (m : Move) (v u z w : Log) (n : Move) → p ≡ at.BeginTask k → s.index ≡ i → s.shape ≡ h → s.task ≡ Some x → s.trace ≡ u → t.trace ≡ r.trace → r.index ≡ i → r.shape ≡ h
+      → Made h (Worker 0 i) m v u (Enter f p)
+      → Driven (λ (a : Hands X G O F) x y b. Does x y a b) (λ (a : Hands X G O F). a.trace) s.shape (Worker 0 s.index) (Stay (at.BeginTask k)) s t (Stay (at.Run (taken_number k) (kind_of s.task)))
+      → (told : Told z)
+      → Worked h (Worker 0 i) (Stay (goes_on f told.0)) z w n → Worked h (Worker 0 i) m v w n
+  around_task p m v u z w n taken seat shape hand before after seat2 shape2 a d told rest =
+      let run = Stay (at.Run (taken_number k) (Stored x.ticket.number x.ticket.owner)) in
+      let tells = Stay (at.StoreResult x.ticket.number x.ticket.owner told.0) in
+      let begun = made_as s.shape h s.index i (Stay (at.BeginTask k)) s.trace t.trace run run seat shape refl (made_begun s.shape s.index (Stay (at.BeginTask k)) s t k x hand d) in
+      let begun2 = subst (λ (l : Log). Made h (Worker 0 i) (Stay (at.BeginTask k)) l r.trace run) before (subst (λ (l : Log). Made h (Worker 0 i) (Stay (at.BeginTask k)) s.trace l run) after begun) in
+      let entered = subst (λ (l : Place). Made h (Worker 0 i) m v u (Enter f l)) taken a in
+      around h (Worker 0 i) f k (taken_number k) x.ticket.number x.ticket.owner told.0 m v u r.trace told.1 z w n entered begun2 told.2 (made_as r.shape h r.index i tells told.1 z Back Back seat2 shape2 refl told.3) rest
 
 -- acts with runs between, said of equals
 pub worked_as : (h k : PoolShape) (i j : ℕ) (m : Move) (v w : Log) (n : Move) → i ≡ j → h ≡ k → Worked h (Worker 0 i) m v w n → Worked k (Worker 0 j) m v w n
 worked_as h k i j m v w n e f a = subst (λ (z : PoolShape). Worked z (Worker 0 j) m v w n) f (subst (λ (z : ℕ). Worked h (Worker 0 z) m v w n) e a)
 
 -- the own second side has run, and the join ends
-pub runs_second : (h : PoolShape) (q : Party) (o : OpenCall) (v u w : Log) → o.pool ≡ 0 → Made h q (Stay (at.JoinProbe o)) v u (Enter (at.SecondSide o) (at.BeginHere o.job)) → Lowered h q o w → Worked h q (Stay (at.JoinProbe o)) v w Back
+pub runs_second : (h : PoolShape) (q : Party) (o : OpenCall) (v u w : Log) → o.pool ≡ 0 → Made h q (Stay (at.JoinProbe o)) v u (Enter (at.SecondSide o) (at.BeginHere o.job)) → Lowered h q o u w → Worked h q (Stay (at.JoinProbe o)) v w Back
 runs_second h q o v u w e a l =
     let first = Stay (at.LowerCount 0 (OfJob o.job) (Answers o (Some Fine) l.0)) in
-    let end = subst (λ (p : ℕ). Worked h q (Stay (at.LowerCount p (OfJob o.job) (Answers o (Some Fine) l.0))) l.1 w Back) (sym e) (last h q first l.1 w Back l.2) in
-    around h q (at.SecondSide o) (at.BeginHere o.job) l.0 (Stay (at.JoinProbe o)) v u l.1 w Back a end
+    let x = l.1 in
+    let y = l.2 in
+    let end = subst (λ (p : ℕ). Worked h q (Stay (at.LowerCount p (OfJob o.job) (Answers o (Some Fine) l.0))) y w Back) (sym e) (last h q first y w Back l.5) in
+    (record { begins = Enter (at.SecondSide o) (at.BeginHere o.job); job = o.job; kind = Direct; ended = l.0; lent = x; over = y } ∷ end.0, (u, y, a, (l.3, l.4, refl), end.1))
 
-pub lowered_as : (h k : PoolShape) (i j : ℕ) (o : OpenCall) (w : Log) → i ≡ j → h ≡ k → Lowered h (Worker 0 i) o w → Lowered k (Worker 0 j) o w
-lowered_as h k i j o w e f a = subst (λ (z : PoolShape). Lowered z (Worker 0 j) o w) f (subst (λ (z : ℕ). Lowered h (Worker 0 z) o w) e a)
+pub lowered_as : (h k : PoolShape) (i j : ℕ) (o : OpenCall) (v w : Log) → i ≡ j → h ≡ k → Lowered h (Worker 0 i) o v w → Lowered k (Worker 0 j) o v w
+lowered_as h k i j o v w e f a = subst (λ (z : PoolShape). Lowered z (Worker 0 j) o v w) f (subst (λ (z : ℕ). Lowered h (Worker 0 z) o v w) e a)
 
 -- what a wait at a place waits for
 abbrev pub target_at : Place → Target

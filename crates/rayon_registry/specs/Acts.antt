@@ -1,33 +1,43 @@
 -- The acts that a worker made in a call, where runs of jobs lie between them.
-use Rattle.std.specs.Prelude.{List, [], ◌∷◌, Bool, true, false, Some}
+use Rattle.std.specs.Prelude.{ℕ, List, [], ◌∷◌, Bool, true, false, Some, Result, Ok, Err, ◌≡◌, ◌⊎◌}
+use Rattle.rayon_words.specs.declared.refusal.CallError.{CallError}
 use Rattle.rayon_machine_places.specs.declared.place.Ending.{Ending}
 use Rattle.rayon_machine_places.specs.declared.place.Ending.TheVariants.{Fine, Fault}
+use Rattle.rayon_machine_places.specs.declared.place.JobKind.{JobKind}
+use Rattle.rayon_machine_places.specs.declared.place.JobKind.TheVariants.{Detached, Stored, Direct, TokenOf}
 use Rattle.rayon_machine_places.specs.declared.place.OpenCall.{OpenCall}
+use Rattle.rayon_machine_places.specs.declared.place.Plan.{Plan}
+use Rattle.rayon_machine_places.specs.declared.place.Plan.TheVariants.{Here}
 use Rattle.rayon_machine_places.specs.declared.place.Share.TheVariants.{OfJob}
-use Rattle.rayon_machine_places.specs.declared.place.Then.TheVariants.{Answers}
+use Rattle.rayon_machine_places.specs.declared.place.Then.TheVariants.{Answers, Ran, Resume}
 use Rattle.rayon_machine_places.specs.declared.place.Party.{Party}
 use Rattle.rayon_machine_places.specs.declared.place.Move.{Move}
-use Rattle.rayon_machine_places.specs.declared.place.Move.TheVariants.{Stay, Enter, StartRun, Back}
+use Rattle.rayon_machine_places.specs.declared.place.Move.TheVariants.{Stay, Enter, StartRun, Back, HandBack}
 use Rattle.rayon_machine_places.specs.declared.shape.PoolShape.{PoolShape}
-use Rattle.rayon_machine_places.specs.declared.place.Place.TheVariants.{LowerCount, Stopped}
+use Rattle.rayon_machine_places.specs.declared.place.Place.TheVariants.{AtOnce, BeginHere, FirstSide, LowerCount, RaiseCount, Run, Stopped, StoreResult}
 use Rattle.rayon_machine_places.specs.declared.place.Target.{Target}
 use Rattle.rayon_machine_places.specs.declared.place.Target.TheVariants.{Termination, Answer}
 use Rattle.rayon_machine_places.specs.Places.{goes_on}
 use Rattle.rayon_drive.specs.declared.trace.Log.{Log}
 use Rattle.rayon_drive.specs.Paths.{Driven}
+use Rattle.rayon_drive.specs.Traces.{AddsRun}
+use Rattle.rayon_performers.specs.Calls.{own_call, own_join}
 
 -- the entries that the later acts have more than the earlier ones are those of a path of the table, from the first move to
 -- the last
 abbrev pub Made : PoolShape → Party → Move → Log → Log → Move → Type 0
 Made h q m v w n = Driven (λ (s : Log) a x (t : Log). Unit {0}) (λ (s : Log). s) h q m v w n
 
--- a run that lay above a frame of a program: the move by which it began, how it ended, and the acts before it and after it.
--- What it did itself is left open
+-- a run that lay above a frame of a program: the move by which it began; its job, and what the end of its run set going; how
+-- it ended; and the worker's acts when the job was lent the worker, and when it ended. What the job itself does with the
+-- worker stands apart from these acts, and each call that it makes says its own
 pub record Lay : Type 0 where
   pub begins : Move
+  pub job : ℕ
+  pub kind : JobKind
   pub ended : Ending
-  pub before : Log
-  pub after : Log
+  pub lent : Log
+  pub over : Log
 
 -- where the program below a run goes on: at the frame above which the run began
 abbrev pub below : Move → Ending → Move
@@ -35,25 +45,34 @@ below (Enter f p) e = Stay (goes_on f e)
 below (StartRun f t) e = Stay (goes_on f e)
 below m e = m
 
--- a run begins
-abbrev pub IsRunAbove : Move → Type 0
-IsRunAbove (Enter f p) = Unit {0}
-IsRunAbove (StartRun f t) = Unit {0}
-IsRunAbove m = ⊥
+-- the acts that the end of a run of this job adds: a share of the count is given back, or its ending is stored for the call
+-- that waits for it, or none, where the call below goes on. A token has no run
+abbrev pub Closes : PoolShape → Party → ℕ → JobKind → Ending → Log → Log → Type 0
+Closes h q t (Detached p) e v w = Made h q (Stay (LowerCount p (OfJob t) Resume)) v w Back
+Closes h q t (Stored c o) e v w = Made h q (Stay (StoreResult c o e)) v w Back
+Closes h q t Direct e v w = w ≡ v
+Closes h q t (TokenOf i) e v w = ⊥
+
+-- what a run adds: the acts by which it begins, the entry of the run itself, and the acts of its end. The run of a first
+-- side begins and ends with none
+abbrev pub RunAdds : PoolShape → Party → Move → Lay → Log → Log → Type 0
+RunAdds h q (Enter f p) r v w = Made h q (Stay p) v r.lent (Stay (Run r.job r.kind)) × AddsRun r.lent r.over × Closes h q r.job r.kind r.ended r.over w
+RunAdds h q (StartRun f t) r v w = AddsRun v w
+RunAdds h q m r v w = ⊥
 
 -- a stretch of the table leads to each of these runs, from where the program goes on after the one before it, and one
 -- leads from the last of them to the last move
 abbrev pub WorkedAround : PoolShape → Party → Move → Log → List Lay → Log → Move → Type 0
 WorkedAround h q m v [] w n = Made h q m v w n
-WorkedAround h q m v (r ∷ rs) w n = IsRunAbove r.begins × Made h q m v r.before r.begins × WorkedAround h q (below r.begins r.ended) r.after rs w n
+WorkedAround h q m v (r ∷ rs) w n = (x : Log) × (y : Log) × Made h q m v x r.begins × RunAdds h q r.begins r x y × WorkedAround h q (below r.begins r.ended) y rs w n
 
 -- where a wait for this ends: the worker has stopped, or the call has its answer
 abbrev pub wait_end : Target → Move
 wait_end Termination = Stay Stopped
 wait_end (Answer o f) = Back
 
--- the acts are those of a program of the table, from the first move to the last, but for what runs did that lay between
--- its stretches
+-- the acts are those of a program of the table, from the first move to the last, with those of the runs that lay between
+-- its stretches, and no other
 abbrev pub Worked : PoolShape → Party → Move → Log → Log → Move → Type 0
 Worked h q m v w n = (runs : List Lay) × WorkedAround h q m v runs w n
 
@@ -62,6 +81,37 @@ abbrev pub ended_so : Bool → Ending
 ended_so true = Fault
 ended_so false = Fine
 
--- the last acts are those by which a join ends whose own second side has run: its Lower, and what that sets going
-abbrev pub Lowered : PoolShape → Party → OpenCall → Log → Type 0
-Lowered h q o w = (e : Ending) × (x : Log) × Made h q (Stay (LowerCount 0 (OfJob o.job) (Answers o (Some Fine) e))) x w Back
+-- the acts of a join's own second side that was taken back: its run begins, and after it the join's Lower, and what that sets
+-- going
+abbrev pub Lowered : PoolShape → Party → OpenCall → Log → Log → Type 0
+Lowered h q o v w = (e : Ending) × (x : Log) × (y : Log) × Made h q (Stay (BeginHere o.job)) v x (Stay (Run o.job Direct)) × AddsRun x y × Made h q (Stay (LowerCount 0 (OfJob o.job) (Answers o (Some Fine) e))) y w Back
+
+-- the acts by which a join of this name offers its second side, from its Raise to the run of its first side
+abbrev pub Offered : PoolShape → Party → ℕ → Log → Log → Type 0
+Offered h q n v w = Made h q (Stay (RaiseCount (own_join n))) v w (StartRun (FirstSide (own_call n) n) n)
+
+-- the acts by which it goes on where its first side ended so, to its end
+abbrev pub Met : PoolShape → Party → ℕ → Ending → Log → Log → Type 0
+Met h q n e v w = Worked h q (Stay (goes_on (FirstSide (own_call n) n) e)) v w Back
+
+-- the acts of a join whose first side ended so
+abbrev pub Joined : PoolShape → Party → Ending → Log → Log → Type 0
+Joined h q e v w = (n : ℕ) × (x : Log) × (y : Log) × Offered h q n v x × AddsRun x y × Met h q n e y w
+
+-- the acts of an install by a worker of the pool, from its Raise to its end, whose job ended so: as far as the run, the run's
+-- beginning, the run, and on from its end
+abbrev pub Installed : PoolShape → Party → Ending → Log → Log → Type 0
+Installed h q e v w = (n : ℕ) × (x : Log) × (y : Log) × (z : Log) × Made h q (Stay (RaiseCount (Here 0 n))) v x (Enter (AtOnce 0 n) (BeginHere n)) × Made h q (Stay (BeginHere n)) x y (Stay (Run n Direct)) × AddsRun y z × Made h q (Stay (LowerCount 0 (OfJob n) (Ran n e))) z w Back
+
+-- the acts of a refused call: none, or those of its plan from its Raise to where it hands its jobs back
+abbrev pub HandedBack : PoolShape → Party → (ℕ → Plan) → Log → Log → Type 0
+HandedBack h q plan v w = (w ≡ v) ⊎ ((n : ℕ) × Made h q (Stay (RaiseCount (plan n))) v w (HandBack (plan n)))
+
+-- a call has made these acts where it answers anything but a fault, these where it answers a fault, and these where it is
+-- refused
+abbrev pub CallMade : {O F B : Type 0} → Type 0 → Type 0 → Type 0 → Result O (CallError F B) → Type 0
+CallMade fine fault refused (Ok x) = fine
+CallMade fine fault refused (Err (CallError.Fault f)) = fault
+CallMade fine fault refused (Err (CallError.Refused r b)) = refused
+CallMade fine fault refused (Err CallError.Foreign) = fine
+CallMade fine fault refused (Err CallError.Missing) = fine

@@ -1,4 +1,5 @@
 pub mod Acts
 pub mod Answers
+pub mod Joins
 pub mod Pushes
 pub mod Worker

@@ -1,20 +1,24 @@
 //! Two sides on one worker value.
+ghost use Rattle.rayon_drive.specs.Traces.{AddsRun};
+ghost use Rattle.rayon_drive.specs.declared.trace.Log.{Log};
 ghost use Rattle.rayon_machine_places.specs.declared.shape.PoolShape.{PoolShape};
-ghost use Rattle.rayon_machine_places.specs.Places.{goes_on};
+ghost use Rattle.rayon_machine_places.specs.declared.place.Ending.{Ending};
+ghost use Rattle.rayon_machine_places.specs.declared.place.Ending.TheVariants.{Fine};
 ghost use Rattle.rayon_machine_places.specs.declared.place.Move.TheVariants.{Back, Stay};
 ghost use Rattle.rayon_machine_places.specs.declared.place.Party.TheVariants.{Worker};
 ghost use Rattle.rayon_machine_places.specs.declared.place.Place.TheVariants as at;
-ghost use Rattle.rayon_performers.specs.Calls.{own_call};
-ghost use Rattle.rayon_registry.specs.Acts.{Lowered, Worked, ended_so};
+ghost use Rattle.rayon_performers.specs.Calls.{own_join};
+ghost use Rattle.rayon_registry.specs.Acts.{CallMade, HandedBack, Joined, Lowered, Met, Offered, Worked, ended_so};
+ghost use Rattle.rayon_registry.specs.Joins.{joins_by};
 ghost use Rattle.rayon_registry.specs.Answers.{joined, JoinAnswers};
 ghost use Rattle.rayon_registry.specs.Worker.{EndedCall, Kept, SameWorker};
 ghost use Rattle.rayon_tasks.specs.Tasks.{OneJob};
-ghost use Rattle.std.specs.Prelude.{◌≡◌, ◌⊎◌, ℕ, ◌≤◌, ◌<◌, [], ◌∷◌, ◌++◌, ◌+◌, ◌-◌, Bool, Result, Ok, Err, IfOk, IfErr, suc, true, false};
+ghost use Rattle.std.specs.Prelude.{◌≡◌, ◌⊎◌, ℕ, ◌≤◌, ◌<◌, [], ◌∷◌, ◌++◌, ◌+◌, ◌-◌, Bool, Result, Ok, Err, IfOk, IfErr, MatchResult, suc, true, false};
 
 use crate::answers::join_answer;
 use crate::context::{Context, FnContext, Scope};
 use crate::job::Waits;
-use crate::worker_thread::WorkerThread;
+use crate::worker_thread::{Lent, WorkerThread};
 use rayon_jobs::{Done, JobKind, Lost, claimed};
 use rayon_machine_places::place::{Ending, Move, OpenCall, Place, Target, Then};
 use rayon_tasks::{Task, Ticket, task_parts};
@@ -42,7 +46,13 @@ impl<J: JobKind> Model for PairRun<J> {
 pub struct Fork<J: JobKind> {
     ticket: Ticket<J>,
     tag: J::Tag,
-    levels: usize,
+}
+
+/// A second side that was pushed, and what the worker value had before it was lent to the first side, a closure. It has no
+/// `Drop` either.
+pub struct ClosureFork<J: JobKind> {
+    fork: Fork<J>,
+    lent: Lent,
 }
 
 impl<J: JobKind> WorkerThread<J> {
@@ -63,6 +73,11 @@ impl<J: JobKind> WorkerThread<J> {
         ensures deep { self.old.levels ≡ 0 → result ≡ Err (CallError.Refused Refusal.TooDeep (a, b)) }
         ensures shallow { (sides : _) → result ≡ Err (CallError.Refused Refusal.TooDeep sides) → self.old.levels ≡ 0 }
         ensures same { SameWorker self.old self.new }
+        ensures path { CallMade
+            (Joined self.old.shape (Worker 0 self.old.seat) Fine self.old.acts self.new.acts)
+            ((e : Ending) × Joined self.old.shape (Worker 0 self.old.seat) e self.old.acts self.new.acts)
+            (HandedBack self.old.shape (Worker 0 self.old.seat) own_join self.old.acts self.new.acts)
+            result }
     {
         let fork = match self.fork(rt, alloc, b, false) {
             Ok(fork) => fork,
@@ -86,11 +101,14 @@ impl<J: JobKind> WorkerThread<J> {
         b: J,
         injected: bool,
     ) -> Result<Fork<J>, (Refusal, J)>
-        ensures forked { IfOk result (λ f. (f.tag ≡ J.tag_of b) × (f.levels ≡ self.old.levels) × (0 < self.old.levels)) }
+        ensures forked { IfOk result (λ f. (f.tag ≡ J.tag_of b) × (0 < self.old.levels)) }
         ensures pushed { IfOk result (λ f. self.new ≡ record self.old { pushed = self.old.pushed ++ record { work = OneJob b; injected = injected; ticket = f.ticket } ∷ []; left = self.old.left ++ record { work = OneJob b; injected = injected; ticket = f.ticket } ∷ []; units = self.old.units + 1; acts = self.new.acts }) }
         ensures back { IfErr result (λ e. (e.1 ≡ b) × Kept self.old self.new) }
         ensures deep { self.old.levels ≡ 0 → result ≡ Err (Refusal.TooDeep, b) }
         ensures shallow { IfErr result (λ e. e.0 ≡ Refusal.TooDeep → self.old.levels ≡ 0) }
+        ensures path { MatchResult result
+            (λ f. Offered self.old.shape (Worker 0 self.old.seat) f.ticket.number self.old.acts self.new.acts)
+            (λ _. HandedBack self.old.shape (Worker 0 self.old.seat) own_join self.old.acts self.new.acts) }
     {
         if self.levels == 0 {
             return Err((Refusal::TooDeep, b));
@@ -99,13 +117,8 @@ impl<J: JobKind> WorkerThread<J> {
             return Err((Refusal::Full, b));
         };
         let tag = b.tag();
-        let levels = self.levels;
         let ticket = self.bench.offer(rt, alloc, name, b, injected)?;
-        Ok(Fork {
-            ticket,
-            tag,
-            levels,
-        })
+        Ok(Fork { ticket, tag })
     }
 
     // Waits for the second side, takes its result beside the tag that was handed in, and gives the count back.
@@ -121,13 +134,9 @@ impl<J: JobKind> WorkerThread<J> {
         requires levels { self.old.levels ≤ R.levels rt.now }
         ensures tag { result.1 ≡ fork.tag }
         ensures ended { EndedCall self.old self.new }
-        ensures path { Worked self.old.shape (Worker 0 self.old.seat) (Stay (goes_on (at.FirstSide (own_call fork.ticket.number) fork.ticket.number) (ended_so first_faulted))) self.old.acts self.new.acts Back }
+        ensures path { Met self.old.shape (Worker 0 self.old.seat) fork.ticket.number (ended_so first_faulted) self.old.acts self.new.acts }
     {
-        let Fork {
-            ticket,
-            tag,
-            levels: _,
-        } = fork;
+        let Fork { ticket, tag } = fork;
         let name = ticket.number();
         let call = OpenCall {
             number: name,
@@ -209,7 +218,7 @@ impl<J: JobKind> WorkerThread<J> {
         requires some { 0 < self.old.levels }
         requires levels { self.old.levels ≤ R.levels rt.now }
         ensures ended { EndedCall self.old self.new }
-        ensures path { Lowered self.old.shape (Worker 0 self.old.seat) call self.new.acts }
+        ensures path { Lowered self.old.shape (Worker 0 self.old.seat) call self.old.acts self.new.acts }
     {
         let (work, injected, _ticket) = task_parts(task);
         self.bench.begin_here(call.job);
@@ -295,6 +304,21 @@ pub trait Sides<J: JobKind> {
     /// Whether the second is the first, but for the acts that the worker has made since.
     ghost kept: { Self → Self → Type 0 };
 
+    /// Whether the acts that the second has more are those of a refused join.
+    ghost handed_back: { Self → Self → Type 0 };
+
+    /// Whether the acts that the second has more are those of a join whose first side ended so.
+    ghost joined: { Ending → Self → Self → Type 0 };
+
+    /// Whether the acts from this worker value on lead to where this second side was pushed and the first side runs.
+    ghost offered: { Self → Self.Fork → Type 0 };
+
+    /// Whether the run of the first side, which ended so, and the acts after it lead to the end of the join.
+    ghost met: { Ending → Self.Fork → Self → Type 0 };
+
+    /// Both together are the acts of the join.
+    ghost joins: { (e : Ending) (v w : Self) (f : Self.Fork) → id w ≡ id v → offered v f → met e f w → joined e v w };
+
     /// The tag of the job that was handed in as the second side.
     ghost fork_tag: { Self.Fork → J.Tag };
 
@@ -313,7 +337,8 @@ pub trait Sides<J: JobKind> {
         ensures deep { height self.old ≡ 0 → result ≡ Err (Refusal.TooDeep, b) }
         ensures shallow { IfErr result (λ e. e.0 ≡ Refusal.TooDeep → height self.old ≡ 0) }
         ensures id { id self.new ≡ id self.old }
-        ensures units { IfOk result (λ f. units self.new ≡ units self.old + 1) };
+        ensures units { IfOk result (λ f. units self.new ≡ units self.old + 1) }
+        ensures path { MatchResult result (λ f. offered self.old f) (λ _. handed_back self.old self.new) };
 
     /// Takes the worker value back, waits for the second side, and claims its result.
     fn end_join<R: Waits<J>>(
@@ -328,11 +353,12 @@ pub trait Sides<J: JobKind> {
         ensures ok { IfOk result (λ r. J.answers (fork_tag fork) r) }
         ensures height { height self.new ≡ fork_levels fork }
         ensures id { id self.new ≡ id self.old }
-        ensures units { units self.new ≡ units self.old - 1 };
+        ensures units { units self.new ≡ units self.old - 1 }
+        ensures path { met (ended_so first_faulted) fork self.new };
 }
 
 impl<J: JobKind> Sides<J> for WorkerThread<J> {
-    type Fork = Fork<J>;
+    type Fork = ClosureFork<J>;
 
     type Scope = Scope<J>;
 
@@ -344,29 +370,40 @@ impl<J: JobKind> Sides<J> for WorkerThread<J> {
 
     ghost kept = { λ v w. Kept v w };
 
-    ghost fork_tag = { λ f. f.tag };
+    ghost handed_back = { λ v w. HandedBack v.shape (Worker 0 v.seat) own_join v.acts w.acts };
 
-    ghost fork_levels = { λ f. f.levels };
+    ghost joined = { λ e v w. Joined v.shape (Worker 0 v.seat) e v.acts w.acts };
+
+    ghost offered = { λ v f. Offered v.shape (Worker 0 v.seat) f.fork.ticket.number v.acts f.lent.acts };
+
+    ghost met = { λ e f w. (x : Log) × AddsRun f.lent.acts x × Met w.shape (Worker 0 w.seat) f.fork.ticket.number e x w.acts };
+
+    ghost joins = { λ e v w f same a b. joins_by e v w f.fork.ticket.number f.lent.acts same a b };
+
+    ghost fork_tag = { λ f. f.fork.tag };
+
+    ghost fork_levels = { λ f. f.lent.levels };
 
     fn begin_join<R: Wait>(
         &mut self,
         rt: &R,
         alloc: Global,
         b: J,
-    ) -> Result<Fork<J>, (Refusal, J)> {
+    ) -> Result<ClosureFork<J>, (Refusal, J)> {
         let fork = self.fork(rt, alloc, b, false)?;
-        self.levels -= 1;
-        Ok(fork)
+        let lent = self.lend();
+        Ok(ClosureFork { fork, lent })
     }
 
     fn end_join<R: Waits<J>>(
         &mut self,
         rt: &R,
         alloc: Global,
-        fork: Fork<J>,
+        fork: ClosureFork<J>,
         first_faulted: bool,
     ) -> Result<Result<J::Output, J::Fault>, Lost> {
-        self.levels = fork.levels;
+        let ClosureFork { fork, lent } = fork;
+        self.take_back(lent);
         let (found, tag) = self.meet(rt, alloc, fork, first_faulted);
         claimed(found, &tag)
     }
@@ -399,6 +436,7 @@ pub trait ForkJoin<J: JobKind>: Sides<J> {
         ensures height { Self.height self.new ≡ Self.height self.old }
         ensures id { Self.id self.new ≡ Self.id self.old }
         ensures units { Self.units self.new ≡ Self.units self.old }
+        ensures path { CallMade (Self.joined Fine self.old self.new) ((e : Ending) × Self.joined e self.old self.new) (Self.handed_back self.old self.new) result }
     {
         let fork = match self.begin_join(rt, alloc, b) {
             Ok(fork) => fork,
@@ -432,6 +470,7 @@ pub trait ForkJoin<J: JobKind>: Sides<J> {
         ensures height { Self.height self.new ≡ Self.height self.old }
         ensures id { Self.id self.new ≡ Self.id self.old }
         ensures units { Self.units self.new ≡ Self.units self.old }
+        ensures path { CallMade (Self.joined Fine self.old self.new) ((e : Ending) × Self.joined e self.old self.new) (Self.handed_back self.old self.new) result }
     {
         self.join(rt, alloc, a, b)
     }

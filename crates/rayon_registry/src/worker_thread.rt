@@ -6,11 +6,16 @@ ghost use Rattle.rayon_machine_places.specs.Places.{fresh, undo};
 ghost use Rattle.rayon_machine_places.specs.declared.place.Move.TheVariants.{Back, Stay};
 ghost use Rattle.rayon_machine_places.specs.declared.place.Party.TheVariants.{Worker};
 ghost use Rattle.rayon_machine_places.specs.declared.place.Place.TheVariants as at;
-ghost use Rattle.rayon_machine_places.specs.declared.place.Plan.TheVariants.{Detach};
+ghost use Rattle.rayon_machine_places.specs.declared.place.Ending.{Ending};
+ghost use Rattle.rayon_machine_places.specs.declared.place.Ending.TheVariants.{Fault, Fine};
+ghost use Rattle.rayon_machine_places.specs.declared.place.Plan.TheVariants.{Detach, Here};
 ghost use Rattle.rayon_machine_places.specs.declared.place.Taken.TheVariants.{Plain};
 ghost use Rattle.rayon_machine_places.specs.declared.place.Target.TheVariants.{Termination};
+ghost use Rattle.rayon_jobs.specs.Endings.{ending_of as ended};
+ghost use Rattle.rayon_drive.specs.Traces.{AddsRun};
+ghost use Rattle.rayon_drive.specs.declared.trace.Log.{Log};
 ghost use Rattle.rayon_drive.specs.declared.trace.Log.TheVariants.{Empty};
-ghost use Rattle.rayon_registry.specs.Acts.{Made, Worked, wait_end};
+ghost use Rattle.rayon_registry.specs.Acts.{CallMade, HandedBack, Installed, Made, Worked, wait_end};
 ghost use Rattle.rayon_registry.specs.Answers.{InstallAnswers};
 ghost use Rattle.rayon_registry.specs.Worker.{AfterWait, Kept, SameWorker};
 ghost use Rattle.std.specs.Prelude.{◌≡◌, ◌⊎◌, ℕ, [], ◌∷◌, ◌++◌, ◌-◌, ◌<◌, ◌≤◌, ◌↔◌, IsTrue, List, Result, Ok, Err, IfOk, IfSome, IfNone, IfErr, MatchOption, MatchResult, None, true, false};
@@ -20,6 +25,7 @@ use crate::ids::WorkerId;
 use crate::job::Waits;
 use crate::join::PairRun;
 use crate::registry::{PoolShare, Registry};
+use rayon_drive::trace::Trace;
 use rayon_jobs::{Done, JobKind};
 use rayon_machine_places::place::{Ending, Move, Place, Target, Then};
 use rayon_performers::Bench;
@@ -34,7 +40,7 @@ use std::sync::Wait;
 
 /// A worker of a pool, lent to each run. Contracts see whose it is, the levels that are left, the tasks that it pushed,
 /// those of them that it did not take back, the units of the terminate count that its calls hold, and the acts that it
-/// made.
+/// made since it was lent.
 #[derive(Drop)]
 pub struct WorkerThread<J: JobKind> {
     pub(crate) id: WorkerId,
@@ -55,6 +61,13 @@ impl<J: JobKind> Model for WorkerThread<J> {
     ghost coded = { Prim.hlevel (codes, logs.the_row.coded) };
 
     ghost view = { λ w. record { id = w.id; levels = w.levels; pushed = pushed_by w.bench; left = left_to w.bench; oldest_first = takes_oldest w.bench; units = units_of w.bench; shape = shape_at w.bench; seat = seat_of w.bench; acts = acts_of w.bench; probed = saw_set w.bench } };
+}
+
+// What a worker value had before it was lent to a run: its levels, and the acts of the program below the run. It has no
+// `Drop`: the worker value has to be taken back.
+pub(crate) struct Lent {
+    levels: usize,
+    acts: Trace,
 }
 
 impl<J: JobKind> WorkerThread<J> {
@@ -84,6 +97,34 @@ impl<J: JobKind> WorkerThread<J> {
         }
     }
 
+    // Lends the worker value to a run: it has one level fewer, and the run's acts stand apart from those before it.
+    #[inline(always)]
+    #[tactic(auto, unfolding(crate::specs::Pushes::pushed_by, crate::specs::Pushes::left_to, crate::specs::Pushes::takes_oldest, crate::specs::Pushes::units_of, crate::specs::Pushes::shape_at, crate::specs::Pushes::seat_of, crate::specs::Pushes::acts_of, crate::specs::Pushes::saw_set))]
+    pub(crate) fn lend(&mut self) -> Lent
+        requires { 0 < self.old.levels }
+        ensures given { (result.levels ≡ self.old.levels) × (result.acts ≡ self.old.acts) }
+        ensures left { self.new ≡ record self.old { levels = self.old.levels - 1; acts = Empty } }
+    {
+        let lent = Lent {
+            levels: self.levels,
+            acts: self.bench.set_aside(),
+        };
+        self.levels -= 1;
+        lent
+    }
+
+    // Takes the worker value back from a run, as it was lent.
+    #[inline(always)]
+    #[tactic(auto, unfolding(crate::specs::Pushes::pushed_by, crate::specs::Pushes::left_to, crate::specs::Pushes::takes_oldest, crate::specs::Pushes::units_of, crate::specs::Pushes::shape_at, crate::specs::Pushes::seat_of, crate::specs::Pushes::acts_of, crate::specs::Pushes::saw_set))]
+    pub(crate) fn take_back(&mut self, lent: Lent)
+        ensures run { AddsRun lent.acts self.new.acts }
+        ensures left { self.new ≡ record self.old { levels = lent.levels; acts = self.new.acts } }
+    {
+        let Lent { levels, acts } = lent;
+        self.levels = levels;
+        self.bench.put_back(acts);
+    }
+
     /// The worker's index in its pool, from 0.
     pub fn index(&self) -> usize
         ensures { result ≡ self.now.id.index }
@@ -107,7 +148,11 @@ impl<J: JobKind> WorkerThread<J> {
 
     /// What stands for the worker where a latch is set that it may sleep on, as another thread does: a `SpinLatch` of
     /// this owner wakes the worker. Refused `NoRoom`.
-    pub fn owner(&self) -> Result<Owner, Refusal> {
+    #[tactic(auto, unfolding(crate::specs::Pushes::seat_of))]
+    pub fn owner(&self) -> Result<Owner, Refusal>
+        ensures seat { IfOk result (λ o. o ≡ self.now.seat) }
+        ensures refused { IfErr result (λ r. r ≡ Refusal.NoRoom) }
+    {
         self.bench.owner()
     }
 
@@ -128,6 +173,11 @@ impl<J: JobKind> WorkerThread<J> {
         ensures room { (j : _) → result ≡ Err (CallError.Refused Refusal.NoRoom j) → ⊥ }
         ensures found { (result ≡ Err CallError.Foreign → ⊥) × (result ≡ Err CallError.Missing → ⊥) }
         ensures same { SameWorker self.old self.new }
+        ensures path { CallMade
+            (Installed self.old.shape (Worker 0 self.old.seat) Fine self.old.acts self.new.acts)
+            (Installed self.old.shape (Worker 0 self.old.seat) Fault self.old.acts self.new.acts)
+            (HandedBack self.old.shape (Worker 0 self.old.seat) (Here 0) self.old.acts self.new.acts)
+            result }
     {
         if self.levels == 0 {
             return Err(CallError::Refused(Refusal::TooDeep, job));
@@ -293,6 +343,7 @@ impl<J: JobKind> WorkerThread<J> {
         requires some { 0 < self.old.levels }
         requires levels { self.old.levels ≤ R.levels rt.now }
         ensures same { SameWorker self.old self.new }
+        ensures path { (e : Ending) × (x : Log) × AddsRun self.old.acts x × Made self.old.shape (Worker 0 self.old.seat) (Stay (at.StoreResult task.ticket.number task.ticket.owner e)) x self.new.acts Back }
     {
         let (call, owner) = (task.number(), task.owner());
         let migrated = task.injected() || !owner.is_worker(0, self.id.index);
@@ -315,6 +366,7 @@ impl<J: JobKind> WorkerThread<J> {
         requires some { 0 < self.old.levels }
         requires levels { self.old.levels ≤ R.levels rt.now }
         ensures same { SameWorker self.old self.new }
+        ensures acts { AddsRun self.old.acts self.new.acts }
     {
         match work {
             Work::Job(job) => (self.run_to_done(rt, alloc, job, migrated), None),
@@ -322,10 +374,11 @@ impl<J: JobKind> WorkerThread<J> {
         }
     }
 
-    // Joins two sides that were sent to the pool. Where no result of the second was found there is none for the first
-    // one's cell: the caller finds that result missing.
+    // Joins two sides that were sent to the pool, as one run. Where no result of the second was found there is none for
+    // the first one's cell: the caller finds that result missing.
     #[cold]
     #[inline(never)]
+    #[tactic(auto, unfolding(crate::specs::Pushes::units_of, crate::specs::Pushes::shape_at, crate::specs::Pushes::seat_of, crate::specs::Pushes::acts_of))]
     fn run_sides<R: Waits<J>>(
         &mut self,
         rt: &R,
@@ -335,17 +388,20 @@ impl<J: JobKind> WorkerThread<J> {
         requires some { 0 < self.old.levels }
         requires levels { self.old.levels ≤ R.levels rt.now }
         ensures same { SameWorker self.old self.new }
+        ensures acts { AddsRun self.old.acts self.new.acts }
     {
         let Pair {
             first,
             second,
             first_result,
         } = pair;
+        let before = self.bench.set_aside();
         let PairRun { first, second } = if self.levels > 1 {
             rt.run_pair(alloc, self, first, second)
         } else {
             self.one_after_the_other(rt, alloc, first, second)
         };
+        self.bench.put_back(before);
         match second {
             Some(second) => (second, Some((first_result, first))),
             None => (first, None),
@@ -367,6 +423,7 @@ impl<J: JobKind> WorkerThread<J> {
         ensures place { result.place ≡ None }
         ensures lent { J.answers_at job (self.old.levels - 1) migrated result.answer }
         ensures same { SameWorker self.old self.new }
+        ensures acts { AddsRun self.old.acts self.new.acts }
     {
         let tag = job.tag();
         let answer = rt.run_job(alloc, self, job, &mut FnContext::new(migrated));
@@ -376,7 +433,9 @@ impl<J: JobKind> WorkerThread<J> {
 
 // How a run with this answer ended.
 #[inline(always)]
-pub(crate) fn ending_of<O, F>(answer: &Result<O, F>) -> Ending {
+pub(crate) fn ending_of<O, F>(answer: &Result<O, F>) -> Ending
+    ensures { result ≡ ended answer.now }
+{
     match answer {
         Ok(_) => Ending::Fine,
         Err(_) => Ending::Fault,

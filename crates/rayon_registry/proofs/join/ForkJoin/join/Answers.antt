@@ -1,6 +1,8 @@
-use Rattle.std.proofs.Common.{◌≡◌, inl, inr, false}
+use Rattle.std.proofs.Common.{◌≡◌, inl, inr, Bool, false, rules, subst}
 use Rattle.std.proofs.lemmas.Result.{IfOk-weaker}
-use Rattle.rayon_registry.proofs.Joins.{closure_join_answers}
+use Rattle.std.specs.Result.{is_err}
+use Rattle.rayon_registry.specs.Acts.{ended_so}
+use Rattle.rayon_registry.proofs.Joins.{closure_join_answers, closure_join_made}
 use Rattle.rayon_registry.specs.contracts.join.ForkJoin.join.A-FnOnce.{words}
 use Rattle.rayon_registry.proofs.join.ForkJoin.join.Goals as goal
 
@@ -20,3 +22,13 @@ pub returns-clause-lost : goal.returns-clause-lost
 returns-clause-lost g c e =
     let p = c.join_answer.ensures.lost e in
     (p.0, _, _, _, _, rw p.1 at c.a-first.ensures)
+
+pub returns-clause-path : goal.returns-clause-path
+returns-clause-path g c =
+    let v = c.args.self.now in
+    let w = c.end_join-second.new.self in
+    let e = ended_so (is_err c.a-first.result) in
+    let same : g.Self.Sides.id w ≡ g.Self.Sides.id v = search rules in
+    let met = subst (λ (b : Bool). g.Self.Sides.met (ended_so b) c.in-Ok.fork w) c.is_err.ensures.value c.end_join-second.ensures.path in
+    closure_join_made (λ e. g.Self.Sides.joined e v w) (g.Self.Sides.handed_back v w) c.a-first.result c.end_join-second.result c.join_answer.result c.join_answer.ensures.same
+    (g.Self.Sides.joins e v w c.in-Ok.fork same c.in-Ok.ensures.path met)

@@ -5,9 +5,10 @@ use Rattle.rayon_machine_places.specs.declared.place.Party.TheVariants.{Worker}
 use Rattle.rayon_machine_places.specs.declared.place.Place.TheVariants as at
 use Rattle.rayon_machine_places.specs.declared.place.Target.TheVariants.{Answer}
 use Rattle.rayon_machine_places.specs.Places.{fresh}
-use Rattle.rayon_registry.specs.Acts.{Made, Worked, wait_end}
+use Rattle.rayon_drive.specs.declared.trace.Log.{Log}
+use Rattle.rayon_registry.specs.Acts.{Lowered, Made, Worked, wait_end}
 use Rattle.rayon_registry.specs.Pushes.{acts_of, seat_of, shape_at, units_of}
-use Rattle.rayon_registry.proofs.Made.{around, last, lowered_as, made, made_as, met_again, met_end, met_waiting, runs_second, worked_as}
+use Rattle.rayon_registry.proofs.Made.{around_task, last, lowered_as, made, made_as, met_again, met_end, met_waiting, runs_second, worked_as}
 use Rattle.rayon_registry.proofs.worker_thread.WorkerThread.second_side.Goals as goal
 
 pub returns-in-Ok-clause-path : goal.returns-in-Ok-clause-path
@@ -28,7 +29,9 @@ returns-in-Ok-clause-path g c =
     let seat : t.index ≡ a.seat = search rules in
     let shape : t.shape ≡ a.shape = search rules in
     let w = c.run_second.new.self.acts in
-    c.loop.invariant.8 w Back (runs_second a.shape (Worker 0 a.seat) o l.acts u.trace w c.requires.pool found (lowered_as t.shape a.shape t.index a.seat o w seat shape c.run_second.ensures.path))
+    let same : t.trace ≡ u.trace = search rules in
+    let lowered = subst (λ (v : Log). Lowered a.shape (Worker 0 a.seat) o v w) same (lowered_as t.shape a.shape t.index a.seat o t.trace w seat shape c.run_second.ensures.path) in
+    c.loop.invariant.8 w Back (runs_second a.shape (Worker 0 a.seat) o l.acts u.trace w c.requires.pool found lowered)
 
 pub returns-in-ProbeWorking-clause-path : goal.returns-in-ProbeWorking-clause-path
 unfolding acts_of seat_of shape_at units_of
@@ -54,7 +57,9 @@ returns-in-ProbeWorking-clause-path g c =
     let seat : x.seat ≡ a.seat = search rules in
     let shape : x.shape ≡ a.shape = search rules in
     let waited = subst (λ t. Worked x.shape (Worker 0 x.seat) (Stay (at.ProbeWorking (fresh t))) x.acts w (wait_end t)) met.1 c.wait_for.ensures.path in
-    c.loop.invariant.8 w Back (around a.shape (Worker 0 a.seat) (at.ProbeWorking (fresh (Answer o (Some Fine)))) p Fine first l.acts u.trace x.acts w Back found
+    let t = c.take_call-ticket.new.self in
+    let y = c.begin_task.new.self in
+    c.loop.invariant.8 w Back (around_task a.shape a.seat (at.ProbeWorking (fresh (Answer o (Some Fine)))) c.in-Err-Enter-default-BeginTask.name c.in-Some-take_task-2.task t y c.take_task-in-Err-Enter-default-BeginTask.new.self p first l.acts u.trace x.acts w Back (search rules) (search rules) (search rules) (search rules) (search rules) (search rules) (search rules) (search rules) found c.begin_task.ensures.path c.run_task.ensures.path
     (worked_as x.shape a.shape x.seat a.seat (Stay (at.ProbeWorking (fresh (Answer o (Some Fine))))) x.acts w Back seat shape waited))
 
 pub loop-preserved : goal.loop-preserved
@@ -74,7 +79,9 @@ loop-preserved g c =
     let n = c.in-Err-Enter-default-BeginTask.field-0 in
     let mine = subst (λ z. Made z.shape (Worker 0 z.index) first z.trace u.trace n) c.set_call.ensures (made s.shape s.index first s u n c.in-Err-Enter-default-BeginTask.ensures.path) in
     let here = subst (λ v. Made v.shape (Worker 0 v.seat) first v.acts u.trace n) c.self.view_is mine in
-    let found = made_as l.shape a.shape l.seat a.seat first l.acts u.trace n (Enter (at.JoinProbe o) p) c.loop.invariant.5 c.loop.invariant.6 met here in (
+    let found = made_as l.shape a.shape l.seat a.seat first l.acts u.trace n (Enter (at.JoinProbe o) p) c.loop.invariant.5 c.loop.invariant.6 met here in
+    let t = c.take_call-ticket.new.self in
+    let y = c.begin_task.new.self in (
       tt,
       tt,
       search rules,
@@ -83,7 +90,7 @@ loop-preserved g c =
       search rules,
       search rules,
       search rules,
-      λ w m x. c.loop.invariant.8 w m (around a.shape (Worker 0 a.seat) (at.JoinProbe o) p Fine first l.acts u.trace c.run_task.new.self.acts w m found x),
+      λ w m x. c.loop.invariant.8 w m (around_task a.shape a.seat (at.JoinProbe o) c.in-Err-Enter-default-BeginTask.name c.in-Some-take_task-2.task t y c.take_task-in-Err-Enter-default-BeginTask.new.self p first l.acts u.trace c.run_task.new.self.acts w m (search rules) (search rules) (search rules) (search rules) (search rules) (search rules) (search rules) (search rules) found c.begin_task.ensures.path c.run_task.ensures.path x),
     )
 
 pub returns-in-Err-clause-path : goal.returns-in-Err-clause-path

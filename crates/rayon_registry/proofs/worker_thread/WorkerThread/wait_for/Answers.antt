@@ -1,11 +1,11 @@
-use Rattle.std.proofs.Common.{rules, subst, sym}
+use Rattle.std.proofs.Common.{refl, rules, subst, sym}
 use Rattle.rayon_machine_places.specs.declared.place.Move.TheVariants.{Enter, Stay}
 use Rattle.rayon_machine_places.specs.declared.place.Party.TheVariants.{Worker}
 use Rattle.rayon_machine_places.specs.declared.place.Place.TheVariants as at
 use Rattle.rayon_machine_places.specs.Places.{fresh}
 use Rattle.rayon_registry.specs.Acts.{Made, Worked, wait_end}
 use Rattle.rayon_registry.specs.Pushes.{acts_of, seat_of, shape_at, units_of}
-use Rattle.rayon_registry.proofs.Made.{above, again, has_ended, last, made, made_as}
+use Rattle.rayon_registry.proofs.Made.{above, around_task, has_ended, last, made, made_as}
 use Rattle.rayon_registry.proofs.worker_thread.WorkerThread.wait_for.Goals as goal
 use Rattle.rayon_registry.proofs.worker_thread.WorkerThread.wait_for.Goals.{in_default-via-in-Enter+in_default, in_default-via-in_default}
 
@@ -23,7 +23,9 @@ loop-preserved g c =
     let first = Stay (at.ProbeWorking (fresh k)) in
     let mine = subst (λ z. Made z.shape (Worker 0 z.index) first z.trace u.trace r) c.set_call.ensures (made s.shape s.index first s u r c.wait.ensures.path) in
     let here = subst (λ v. Made v.shape (Worker 0 v.seat) first v.acts u.trace r) c.self.view_is mine in
-    let found = made_as l.shape a.shape l.seat a.seat first l.acts u.trace r (Enter (at.ProbeWorking (fresh k)) p) c.loop.invariant.5 c.loop.invariant.6 (above k c.in-Enter-default-BeginTask.frame p r c.in-Enter-default-BeginTask.is c.wait.ensures.ends) here in (
+    let found = made_as l.shape a.shape l.seat a.seat first l.acts u.trace r (Enter (at.ProbeWorking (fresh k)) p) c.loop.invariant.5 c.loop.invariant.6 (above k c.in-Enter-default-BeginTask.frame p r c.in-Enter-default-BeginTask.is c.wait.ensures.ends) here in
+    let t = c.take_call-ticket.new.self in
+    let y = c.begin_task.new.self in (
       tt,
       tt,
       search rules,
@@ -32,7 +34,7 @@ loop-preserved g c =
       search rules,
       search rules,
       search rules,
-      λ w n x. c.loop.invariant.8 w n (again a.shape (Worker 0 a.seat) k p l.acts u.trace c.run_task.new.self.acts w n found x),
+      λ w n x. c.loop.invariant.8 w n (around_task a.shape a.seat (at.ProbeWorking (fresh k)) c.in-Enter-default-BeginTask.name c.in-Some-take_task.task t y c.take_task.new.self p first l.acts u.trace c.run_task.new.self.acts w n (search rules) (search rules) (search rules) (search rules) (search rules) (search rules) (search rules) (search rules) found c.begin_task.ensures.path c.run_task.ensures.path x),
     )
 
 pub returns-in_default-clause-path : goal.returns-in_default-clause-path

@@ -1,4 +1,4 @@
-use Rattle.std.proofs.Common.{◌≡◌, true, rules, subst, sym}
+use Rattle.std.proofs.Common.{◌≡◌, true, refl, rules, subst, sym}
 use Rattle.rayon_machine_places.specs.declared.place.Move.TheVariants.{Enter, Stay}
 use Rattle.rayon_machine_places.specs.declared.place.Party.TheVariants.{Worker}
 use Rattle.rayon_machine_places.specs.declared.place.Place.TheVariants as at
@@ -6,7 +6,7 @@ use Rattle.rayon_machine_places.specs.declared.place.Target.TheVariants.{Termina
 use Rattle.rayon_machine_places.specs.Places.{fresh}
 use Rattle.rayon_registry.specs.Acts.{Made, Worked}
 use Rattle.rayon_registry.specs.Pushes.{acts_of, saw_set, seat_of, shape_at, units_of}
-use Rattle.rayon_registry.proofs.Made.{above, again, has_probed, last, made, made_as}
+use Rattle.rayon_registry.proofs.Made.{above, around_task, has_probed, last, made, made_as}
 use Rattle.rayon_registry.proofs.worker_thread.WorkerThread.wait_until.Goals as goal
 use Rattle.rayon_registry.proofs.worker_thread.WorkerThread.wait_until.Goals.{in_default-via-in-Enter+in_default, in_default-via-in_default}
 
@@ -22,7 +22,8 @@ loop-preserved g c =
     let p = c.in-Enter-default-BeginTask.place in
     let first = Stay (at.ProbeWorking (fresh Termination)) in
     let here = subst (λ v. Made v.shape (Worker 0 v.seat) first v.acts u.trace r) c.self-in-loop.view_is (made b.shape b.index first b u r c.wait_on.ensures.path) in
-    let found = made_as l.shape a.shape l.seat a.seat first l.acts u.trace r (Enter (at.ProbeWorking (fresh Termination)) p) c.loop.invariant.5 c.loop.invariant.6 (above Termination f p r c.in-Enter-default-BeginTask.is c.wait_on.ensures.ends) here in (
+    let found = made_as l.shape a.shape l.seat a.seat first l.acts u.trace r (Enter (at.ProbeWorking (fresh Termination)) p) c.loop.invariant.5 c.loop.invariant.6 (above Termination f p r c.in-Enter-default-BeginTask.is c.wait_on.ensures.ends) here in
+    let y = c.begin_task.new.self in (
       tt,
       tt,
       search rules,
@@ -30,7 +31,7 @@ loop-preserved g c =
       search rules,
       search rules,
       search rules,
-      λ w n k. c.loop.invariant.7 w n (again a.shape (Worker 0 a.seat) Termination p l.acts u.trace c.run_task.new.self.acts w n found k),
+      λ w n k. c.loop.invariant.7 w n (around_task a.shape a.seat (at.ProbeWorking (fresh Termination)) c.in-Enter-default-BeginTask.name c.in-Some-take_task.task u y c.take_task.new.self p first l.acts u.trace c.run_task.new.self.acts w n (search rules) (search rules) (search rules) (search rules) refl (search rules) (search rules) (search rules) found c.begin_task.ensures.path c.run_task.ensures.path k),
     )
 
 pub returns-in_default-clause-path : goal.returns-in_default-clause-path

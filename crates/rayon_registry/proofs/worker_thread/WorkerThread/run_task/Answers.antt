@@ -1,0 +1,32 @@
+use Rattle.std.proofs.Common.{◌≡◌, ℕ, refl, rules, subst}
+use Rattle.rayon_machine_places.specs.declared.place.Move.TheVariants.{Back, Stay}
+use Rattle.rayon_machine_places.specs.declared.place.Party.{Party}
+use Rattle.rayon_machine_places.specs.declared.place.Party.TheVariants.{Worker}
+use Rattle.rayon_machine_places.specs.declared.place.Place.TheVariants as at
+use Rattle.rayon_drive.specs.declared.trace.Log.{Log}
+use Rattle.rayon_registry.specs.Acts.{Made}
+use Rattle.rayon_registry.specs.Pushes.{acts_of, seat_of, shape_at, units_of}
+use Rattle.rayon_registry.proofs.Made.{made, made_as}
+use Rattle.rayon_registry.proofs.worker_thread.WorkerThread.run_task.Goals as goal
+
+pub returns-clause-path : goal.returns-clause-path
+unfolding acts_of seat_of shape_at units_of
+returns-clause-path g c =
+    let a = c.args.self.now in
+    let w = c.run_work-done.new.self in
+    let t = c.set_reply.new.self in
+    let u = c.tell.new.self in
+    let k = c.args.task.ticket in
+    let e = c.ending-ending.result in
+    let n = c.number-call.result in
+    let o = c.owner-owner.result in
+    let tells = Stay (at.StoreResult n o e) in
+    let seat : t.index ≡ a.seat = search rules in
+    let shape : t.shape ≡ a.shape = search rules in
+    let acts : t.trace ≡ w.acts = search rules in
+    let told = made_as t.shape a.shape t.index a.seat tells t.trace u.trace Back Back seat shape refl (made t.shape t.index tells t u Back c.tell.ensures.path) in
+    let after = subst (λ (l : Log). Made a.shape (Worker 0 a.seat) tells l u.trace Back) acts told in
+    let numbered : n ≡ k.number = search rules in
+    let owned : o ≡ k.owner = search rules in
+    let of_call = subst (λ (z : ℕ). Made a.shape (Worker 0 a.seat) (Stay (at.StoreResult z o e)) w.acts u.trace Back) numbered after in
+    (e, w.acts, c.run_work-done.ensures.acts, subst (λ (z : Party). Made a.shape (Worker 0 a.seat) (Stay (at.StoreResult k.number z e)) w.acts u.trace Back) owned of_call)

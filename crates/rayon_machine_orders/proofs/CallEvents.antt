@@ -53,7 +53,7 @@ pub record Turned (w u : World) (q : Party) (e : Event) : Type 0 where
   pub to : Stack
   pub stack : (r : Party) → u.stack r ≡ put_stack w.stack q to r
   pub sides : (c : ℕ) → c + 1 ≤ w.calls → (c + 1 ≤ u.calls) × ((u.call c).first ≡ (w.call c).first)
-  pub made : (t : ℕ) → t + 1 ≤ w.jobs → (t + 1 ≤ u.jobs) × (((u.job t).kind ≡ (w.job t).kind) × ((u.job t).counted ≡ (w.job t).counted))
+  pub made : (t : ℕ) → t + 1 ≤ w.jobs → (t + 1 ≤ u.jobs) × (((u.job t).kind ≡ (w.job t).kind) × ((u.job t).counted ≡ (w.job t).counted) × ((u.job t).bound ≡ (w.job t).bound))
   pub ats : (t : ℕ) → t + 1 ≤ w.jobs → ((u.job t).at ≡ (w.job t).at) ⊎ (is_done (u.job t).at ≡ true)
   pub stood : (n : Plan) (r : Stage) (s : Stack) → CallStands n r s (w.stack q) → Stood u n r s to (is_refusal q s w e)
   pub quiet : (r : Party) (s : Stack) → same_party r q ≡ false → is_refusal r s w e ≡ false
@@ -83,13 +83,13 @@ old_at f k v c l = put_old f k v c (apart (c == k) refl)
     apart false e = e
 
 pub from_turned : (w : World) (q : Party) (x : Place) (fs : List Place) (v : ℕ) → w.stack q ≡ record { top = x; below = fs } → IfSome (after_choice w q (record { top = x; below = fs }) x v) (λ u. Turned w u q (From q v))
-from_turned w q (PickVictim k) fs v z = if_cond (λ u. Turned w u q (From q v)) (nat_lt v (w.shape.pool (own_pool q)).workers) _ (λ b. record { to = _; stack = λ r. refl; sides = λ c l. (l, refl); made = λ t l. (l, (refl, refl)); ats = λ t l. inl refl; stood = λ n r s h. same_stood _ n r s _ (topped n r s (w.stack q) (PickVictim k) _ fs z (λ y. y) h); quiet = λ r s d. refl })
-from_turned w q YieldPick fs v z = if_cond (λ u. Turned w u q (From q v)) (nat_lt v (w.shape.pool (own_pool q)).workers) _ (λ b. record { to = _; stack = λ r. refl; sides = λ c l. (l, refl); made = λ t l. (l, (refl, refl)); ats = λ t l. inl refl; stood = λ n r s h. same_stood _ n r s _ (topped n r s (w.stack q) YieldPick _ fs z (λ y. absurd y) h); quiet = λ r s d. refl })
+from_turned w q (PickVictim k) fs v z = if_cond (λ u. Turned w u q (From q v)) (nat_lt v (w.shape.pool (own_pool q)).workers) _ (λ b. record { to = _; stack = λ r. refl; sides = λ c l. (l, refl); made = λ t l. (l, (refl, refl, refl)); ats = λ t l. inl refl; stood = λ n r s h. same_stood _ n r s _ (topped n r s (w.stack q) (PickVictim k) _ fs z (λ y. y) h); quiet = λ r s d. refl })
+from_turned w q YieldPick fs v z = if_cond (λ u. Turned w u q (From q v)) (nat_lt v (w.shape.pool (own_pool q)).workers) _ (λ b. record { to = _; stack = λ r. refl; sides = λ c l. (l, refl); made = λ t l. (l, (refl, refl, refl)); ats = λ t l. inl refl; stood = λ n r s h. same_stood _ n r s _ (topped n r s (w.stack q) YieldPick _ fs z (λ y. absurd y) h); quiet = λ r s d. refl })
 from_turned w q _ fs v z = tt
 
 pub miss_turned : (w : World) (q : Party) (x : Place) (fs : List Place) → w.stack q ≡ record { top = x; below = fs } → IfSome (after_miss w q (record { top = x; below = fs }) x) (λ u. Turned w u q (Miss q))
-miss_turned w (Worker a b) (StealFrom k m) fs z = if_cond (λ u. Turned w u (Worker a b) (Miss (Worker a b))) (can_miss w a k.victim) _ (λ y. record { to = _; stack = λ r. refl; sides = λ c l. (l, refl); made = λ t l. (l, (refl, refl)); ats = λ t l. inl refl; stood = λ n r s h. same_stood _ n r s _ (topped n r s (w.stack (Worker a b)) (StealFrom k m) (next_steal (w.shape.pool a) (Worker a b) k m) fs z (λ y. steal_part n r (w.shape.pool a) (Worker a b) k m y) h); quiet = λ r s d. refl })
-miss_turned w (Worker a b) (YieldSteal v m) fs z = if_cond (λ u. Turned w u (Worker a b) (Miss (Worker a b))) (can_miss w a v) _ (λ y. record { to = _; stack = λ r. refl; sides = λ c l. (l, refl); made = λ t l. (l, (refl, refl)); ats = λ t l. inl refl; stood = λ n r s h. same_stood _ n r s _ (topped n r s (w.stack (Worker a b)) (YieldSteal v m) (next_yield (w.shape.pool a) (Worker a b) v m) fs z (λ y. absurd y) h); quiet = λ r s d. refl })
+miss_turned w (Worker a b) (StealFrom k m) fs z = if_cond (λ u. Turned w u (Worker a b) (Miss (Worker a b))) (can_miss w a k.victim) _ (λ y. record { to = _; stack = λ r. refl; sides = λ c l. (l, refl); made = λ t l. (l, (refl, refl, refl)); ats = λ t l. inl refl; stood = λ n r s h. same_stood _ n r s _ (topped n r s (w.stack (Worker a b)) (StealFrom k m) (next_steal (w.shape.pool a) (Worker a b) k m) fs z (λ y. steal_part n r (w.shape.pool a) (Worker a b) k m y) h); quiet = λ r s d. refl })
+miss_turned w (Worker a b) (YieldSteal v m) fs z = if_cond (λ u. Turned w u (Worker a b) (Miss (Worker a b))) (can_miss w a v) _ (λ y. record { to = _; stack = λ r. refl; sides = λ c l. (l, refl); made = λ t l. (l, (refl, refl, refl)); ats = λ t l. inl refl; stood = λ n r s h. same_stood _ n r s _ (topped n r s (w.stack (Worker a b)) (YieldSteal v m) (next_yield (w.shape.pool a) (Worker a b) v m) fs z (λ y. absurd y) h); quiet = λ r s d. refl })
 miss_turned w (Worker a b) _ fs z = tt
 miss_turned w (Caller n) _ fs z = tt
 
@@ -145,11 +145,11 @@ kept_above w u q c fs n r s (a ∷ gs) place z e p = record {
 }
 
 pub refuse_turned : (w : World) (q : Party) (x : Place) (fs : List Place) → w.stack q ≡ record { top = x; below = fs } → IfSome (after_refusal w q (record { top = x; below = fs })) (λ u. Turned w u q (Refuse q))
-refuse_turned w q (GrowCall m) fs z = record { to = _; stack = λ r. refl; sides = λ c l. (l, refl); made = λ t l. (l, (refl, refl)); ats = λ t l. inl refl; stood = λ n r s h. undone w (with_stack w q (record { top = undo m; below = fs })) q (GrowCall m) fs n m r s h.above h.place z (λ y. (y.0, ap is_undone (y.1))) (ap whole (sym z) ∙ h.is) h.part; quiet = λ r s d. ap (λ v. v && is_at_call s (w.stack r)) d }
-refuse_turned w q (PushJob m v) fs z = record { to = _; stack = λ r. refl; sides = λ c l. (l, refl); made = λ t l. (l, (refl, refl)); ats = λ t l. inl refl; stood = λ n r s h. undone w (with_stack w q (record { top = undo m; below = fs })) q (PushJob m v) fs n m r s h.above h.place z (λ y. (y.0, ap is_undone (y.1))) (ap whole (sym z) ∙ h.is) h.part; quiet = λ r s d. ap (λ v. v && is_at_call s (w.stack r)) d }
-refuse_turned w q (AddToFifo f) fs z = record { to = _; stack = λ r. refl; sides = λ c l. (l, refl); made = λ t l. (l, (refl, refl)); ats = λ t l. inl refl; stood = λ n r s h. undone w (with_stack w q (record { top = undo (Feed f); below = fs })) q (AddToFifo f) fs n (Feed f) r s h.above h.place z (λ y. (sym (y.0), ap is_undone (y.1))) (ap whole (sym z) ∙ h.is) h.part; quiet = λ r s d. ap (λ v. v && is_at_call s (w.stack r)) d }
-refuse_turned w q (PushToken f v) fs z = record { to = _; stack = λ r. refl; sides = λ c l. (l, refl); made = λ t l. (l, (refl, refl)); ats = λ t l. inl refl; stood = λ n r s h. withdrawn w (with_stack w q (record { top = TakeFromFifo f; below = fs })) q f v fs n r s h.above h.place z (ap whole (sym z) ∙ h.is) h.part; quiet = λ r s d. ap (λ v. v && is_at_call s (w.stack r)) d }
-refuse_turned w q (PushForAll c) fs z = record { to = _; stack = λ r. refl; sides = λ c l. (l, refl); made = λ t l. (l, (refl, refl)); ats = λ t l. inl refl; stood = λ n r s h. kept_above w (with_stack w q (record { top = LowerForAll c; below = fs })) q c fs n r s h.above h.place z (ap whole (sym z) ∙ h.is) h.part; quiet = λ r s d. ap (λ v. v && is_at_call s (w.stack r)) d }
+refuse_turned w q (GrowCall m) fs z = record { to = _; stack = λ r. refl; sides = λ c l. (l, refl); made = λ t l. (l, (refl, refl, refl)); ats = λ t l. inl refl; stood = λ n r s h. undone w (with_stack w q (record { top = undo m; below = fs })) q (GrowCall m) fs n m r s h.above h.place z (λ y. (y.0, ap is_undone (y.1))) (ap whole (sym z) ∙ h.is) h.part; quiet = λ r s d. ap (λ v. v && is_at_call s (w.stack r)) d }
+refuse_turned w q (PushJob m v) fs z = record { to = _; stack = λ r. refl; sides = λ c l. (l, refl); made = λ t l. (l, (refl, refl, refl)); ats = λ t l. inl refl; stood = λ n r s h. undone w (with_stack w q (record { top = undo m; below = fs })) q (PushJob m v) fs n m r s h.above h.place z (λ y. (y.0, ap is_undone (y.1))) (ap whole (sym z) ∙ h.is) h.part; quiet = λ r s d. ap (λ v. v && is_at_call s (w.stack r)) d }
+refuse_turned w q (AddToFifo f) fs z = record { to = _; stack = λ r. refl; sides = λ c l. (l, refl); made = λ t l. (l, (refl, refl, refl)); ats = λ t l. inl refl; stood = λ n r s h. undone w (with_stack w q (record { top = undo (Feed f); below = fs })) q (AddToFifo f) fs n (Feed f) r s h.above h.place z (λ y. (sym (y.0), ap is_undone (y.1))) (ap whole (sym z) ∙ h.is) h.part; quiet = λ r s d. ap (λ v. v && is_at_call s (w.stack r)) d }
+refuse_turned w q (PushToken f v) fs z = record { to = _; stack = λ r. refl; sides = λ c l. (l, refl); made = λ t l. (l, (refl, refl, refl)); ats = λ t l. inl refl; stood = λ n r s h. withdrawn w (with_stack w q (record { top = TakeFromFifo f; below = fs })) q f v fs n r s h.above h.place z (ap whole (sym z) ∙ h.is) h.part; quiet = λ r s d. ap (λ v. v && is_at_call s (w.stack r)) d }
+refuse_turned w q (PushForAll c) fs z = record { to = _; stack = λ r. refl; sides = λ c l. (l, refl); made = λ t l. (l, (refl, refl, refl)); ats = λ t l. inl refl; stood = λ n r s h. kept_above w (with_stack w q (record { top = LowerForAll c; below = fs })) q c fs n r s h.above h.place z (ap whole (sym z) ∙ h.is) h.part; quiet = λ r s d. ap (λ v. v && is_at_call s (w.stack r)) d }
 refuse_turned w q _ fs z = tt
 
 -- the end of a run
@@ -181,7 +181,7 @@ end_turned w q d (Run t k) fs z = record {
   to = after_close t k d fs;
   stack = λ r. refl;
   sides = λ c l. (l, refl);
-  made = λ i l. (l, (put_same (λ j. j.kind) w.job t (at_job (w.job t) (Over d)) i refl, put_same (λ j. j.counted) w.job t (at_job (w.job t) (Over d)) i refl));
+  made = λ i l. (l, (put_same (λ j. j.kind) w.job t (at_job (w.job t) (Over d)) i refl, put_same (λ j. j.counted) w.job t (at_job (w.job t) (Over d)) i refl, put_same (λ j. j.bound) w.job t (at_job (w.job t) (Over d)) i refl));
   ats = λ i l. by i (i == t);
   stood = λ n r s h. same_stood _ n r s (after_close t k d fs) (ended n r s t k d fs h.above h.place (ap whole (sym z) ∙ h.is) h.part);
   quiet = λ r s e. refl;
@@ -204,7 +204,7 @@ spawned w q p e f = if_cond (λ u. Turned w u q e) (is_free ((w.stack q).top) &&
   to = _;
   stack = λ r. refl;
   sides = λ c l. (l, refl);
-  made = λ t l. ((omega (arith, l)), (ap (λ j. j.kind) (old_at w.job w.jobs (new_job q p (Detached p)) t l), ap (λ j. j.counted) (old_at w.job w.jobs (new_job q p (Detached p)) t l)));
+  made = λ t l. ((omega (arith, l)), (ap (λ j. j.kind) (old_at w.job w.jobs (new_job q p (Detached p)) t l), ap (λ j. j.counted) (old_at w.job w.jobs (new_job q p (Detached p)) t l), ap (λ j. j.bound) (old_at w.job w.jobs (new_job q p (Detached p)) t l)));
   ats = λ t l. inl (ap (λ j. j.at) (old_at w.job w.jobs (new_job q p (Detached p)) t l));
   stood = λ n r s h. subst (λ v. Stood (spawned_world w q p) n r s (after_call (w.stack q) (RaiseCount (Detach p w.jobs))) v) (sym (f q s)) (same_stood (spawned_world w q p) n r s (after_call (w.stack q) (RaiseCount (Detach p w.jobs))) (called n r s (w.stack q) (RaiseCount (Detach p w.jobs)) h));
   quiet = λ r s d. f r s;
@@ -218,7 +218,7 @@ cast_turned w q p = if_cond (λ u. Turned w u q (Cast q p)) (is_free ((w.stack q
   to = _;
   stack = λ r. refl;
   sides = λ c l. (l, refl);
-  made = λ t l. ((omega (arith, l)), (ap (λ j. j.kind) (same t l), ap (λ j. j.counted) (same t l)));
+  made = λ t l. ((omega (arith, l)), (ap (λ j. j.kind) (same t l), ap (λ j. j.counted) (same t l), ap (λ j. j.bound) (same t l)));
   ats = λ t l. inl (ap (λ j. j.at) (same t l));
   stood = λ n r s h. same_stood _ n r s _ (called n r s (w.stack q) (RaiseForAll c) h);
   quiet = λ r s d. refl;
@@ -239,7 +239,7 @@ fed_turned w p i r = record {
   to = _;
   stack = λ s. refl;
   sides = λ c l. (l, refl);
-  made = λ t l. ((omega (arith, l)), (ap (λ j. j.kind) (two_at w (new_job (Worker p i) p (Detached p)) (new_job (Worker p i) p (TokenOf i)) t l), ap (λ j. j.counted) (two_at w (new_job (Worker p i) p (Detached p)) (new_job (Worker p i) p (TokenOf i)) t l)));
+  made = λ t l. ((omega (arith, l)), (ap (λ j. j.kind) (two_at w (new_job (Worker p i) p (Detached p)) (new_job (Worker p i) p (TokenOf i)) t l), ap (λ j. j.counted) (two_at w (new_job (Worker p i) p (Detached p)) (new_job (Worker p i) p (TokenOf i)) t l), ap (λ j. j.bound) (two_at w (new_job (Worker p i) p (Detached p)) (new_job (Worker p i) p (TokenOf i)) t l)));
   ats = λ t l. inl (ap (λ j. j.at) (two_at w (new_job (Worker p i) p (Detached p)) (new_job (Worker p i) p (TokenOf i)) t l));
   stood = λ n s k h. same_stood _ n s k _ (called n s k (w.stack (Worker p i)) (RaiseCount (Feed (record { pool = p; job = w.jobs; token = w.jobs + 1 }))) h);
   quiet = λ s k d. refl;
@@ -258,7 +258,7 @@ sent_turned w q p true = record {
   to = _;
   stack = λ r. refl;
   sides = λ c l. (l, refl);
-  made = λ t l. ((omega (arith, l)), (ap (λ j. j.kind) (old_at w.job w.jobs (new_job q p Direct) t l), ap (λ j. j.counted) (old_at w.job w.jobs (new_job q p Direct) t l)));
+  made = λ t l. ((omega (arith, l)), (ap (λ j. j.kind) (old_at w.job w.jobs (new_job q p Direct) t l), ap (λ j. j.counted) (old_at w.job w.jobs (new_job q p Direct) t l), ap (λ j. j.bound) (old_at w.job w.jobs (new_job q p Direct) t l)));
   ats = λ t l. inl (ap (λ j. j.at) (old_at w.job w.jobs (new_job q p Direct) t l));
   stood = λ n r s h. same_stood _ n r s _ (called n r s (w.stack q) (RaiseCount (Here p w.jobs)) h);
   quiet = λ r s d. refl;
@@ -267,7 +267,7 @@ sent_turned w q p false = record {
   to = _;
   stack = λ r. refl;
   sides = λ c l. ((omega (arith, l)), ap (λ k. k.first) (old_at w.call w.calls (new_call None w.jobs) c l));
-  made = λ t l. ((omega (arith, l)), (ap (λ j. j.kind) (old_at w.job w.jobs (new_job q p (Stored w.calls q)) t l), ap (λ j. j.counted) (old_at w.job w.jobs (new_job q p (Stored w.calls q)) t l)));
+  made = λ t l. ((omega (arith, l)), (ap (λ j. j.kind) (old_at w.job w.jobs (new_job q p (Stored w.calls q)) t l), ap (λ j. j.counted) (old_at w.job w.jobs (new_job q p (Stored w.calls q)) t l), ap (λ j. j.bound) (old_at w.job w.jobs (new_job q p (Stored w.calls q)) t l)));
   ats = λ t l. inl (ap (λ j. j.at) (old_at w.job w.jobs (new_job q p (Stored w.calls q)) t l));
   stood = λ n r s h. same_stood _ n r s _ (called n r s (w.stack q) (RaiseCount (Send (record { number = w.calls; pool = p; job = w.jobs }))) h);
   quiet = λ r s d. refl;
@@ -281,7 +281,7 @@ join_turned w (Worker p i) = if_cond (λ u. Turned w u (Worker p i) (Join (Worke
   to = _;
   stack = λ r. refl;
   sides = λ c l. ((omega (arith, l)), ap (λ k. k.first) (old_at w.call w.calls (new_call (Some w.jobs) (w.jobs + 1)) c l));
-  made = λ t l. ((omega (arith, l)), (ap (λ j. j.kind) (two t l), ap (λ j. j.counted) (two t l)));
+  made = λ t l. ((omega (arith, l)), (ap (λ j. j.kind) (two t l), ap (λ j. j.counted) (two t l), ap (λ j. j.bound) (two t l)));
   ats = λ t l. inl (ap (λ j. j.at) (two t l));
   stood = λ n r s h. same_stood _ n r s _ (called n r s (w.stack (Worker p i)) (RaiseCount (Fork (record { number = w.calls; pool = p; job = w.jobs + 1 }) w.jobs)) h);
   quiet = λ r s d. refl;
@@ -296,7 +296,7 @@ yield_turned w (Worker a b) x e f = if_cond (λ u. Turned w u (Worker a b) e) (i
   to = _;
   stack = λ r. refl;
   sides = λ c l. (l, refl);
-  made = λ t l. (l, (refl, refl));
+  made = λ t l. (l, (refl, refl, refl));
   ats = λ t l. inl refl;
   stood = λ n r s h. subst (λ v. Stood (with_stack w (Worker a b) (after_call (w.stack (Worker a b)) x)) n r s (after_call (w.stack (Worker a b)) x) v) (sym (f (Worker a b) s)) (same_stood (with_stack w (Worker a b) (after_call (w.stack (Worker a b)) x)) n r s (after_call (w.stack (Worker a b)) x) (called n r s (w.stack (Worker a b)) x h));
   quiet = λ r s d. f r s;
@@ -308,7 +308,7 @@ give_turned w q p = if_cond (λ u. Turned w u q (EndPool q p)) (is_free ((w.stac
   to = _;
   stack = λ r. refl;
   sides = λ c l. (l, refl);
-  made = λ t l. (l, (refl, refl));
+  made = λ t l. (l, (refl, refl, refl));
   ats = λ t l. inl refl;
   stood = λ n r s h. same_stood _ n r s _ (called n r s (w.stack q) (LowerCount p PoolValue Resume) h);
   quiet = λ r s d. refl;

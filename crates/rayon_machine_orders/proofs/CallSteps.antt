@@ -26,7 +26,7 @@ use Rattle.rayon_machine_places.specs.Steps.{put, step, jobs_after, is_piece, ma
 use Rattle.rayon_machine_places.specs.Readers.{is_queued, is_running, is_done}
 use Rattle.rayon_machine_laws.specs.Once.{one, in_fifo, times}
 use Rattle.rayon_machine_laws.specs.Shares.{is_busy, share, shares_in, shares}
-use Rattle.rayon_machine_laws.proofs.Frame.{if_some_map, acted_keeps, put_same, after_kind, after_counted, and_parts, either, if_some_all, if_some_and, is_sharing, piece_old}
+use Rattle.rayon_machine_laws.proofs.Frame.{if_some_map, acted_keeps, put_same, after_kind, after_bound, after_counted, and_parts, either, if_some_all, if_some_and, is_sharing, piece_old}
 use Rattle.rayon_machine_laws.proofs.Ties.{job_at, outcome, result}
 use Rattle.rayon_machine_laws.proofs.Hands.{hand_plan, held_in, held}
 use Rattle.rayon_machine_laws.proofs.Located.{Loc, Hand, loc_of, loc_at, is_loc, is_left}
@@ -61,15 +61,17 @@ use Rattle.rayon_machine_laws.proofs.Amounts.{regained, pushed, all_raises, rais
 pub record Carries (w u : World) : Type 0 where
   pub sides : (c : ℕ) → c + 1 ≤ w.calls → (c + 1 ≤ u.calls) × ((u.call c).first ≡ (w.call c).first)
   pub made : (t : ℕ) → t + 1 ≤ w.jobs → (t + 1 ≤ u.jobs) × ((u.job t).kind ≡ (w.job t).kind)
+  pub bound : (t : ℕ) → t + 1 ≤ w.jobs → (u.job t).bound ≡ (w.job t).bound
 
 act_carries : (w : World) (q : Party) (x : Place) (fs : List Place) (r : Seen × Part) → Static (place_part w q x) r → Carries w (world_after w q x fs r)
 act_carries w q x fs r s = record {
   sides = λ c l. (l, put_same (λ k. k.first) w.call (target_call (act_of q x)) (r.1.call) c s.side);
   made = λ t l. (l, after_kind q (next_of (w.shape.pool (target_pool q (act_of q x))) q x (r.0)) (put w.job (job_at w q (act_of q x)) (r.1.job)) t ∙ put_same (λ j. j.kind) w.job (job_at w q (act_of q x)) (r.1.job) t s.kind);
+  bound = λ t l. after_bound q (next_of (w.shape.pool (target_pool q (act_of q x))) q x (r.0)) (put w.job (job_at w q (act_of q x)) (r.1.job)) t ∙ put_same (λ j. j.bound) w.job (job_at w q (act_of q x)) (r.1.job) t s.bound;
 }
 
 turned_carries : (w u : World) (q : Party) (e : Event) → Turned w u q e → Carries w u
-turned_carries w u q e t = record { sides = t.sides; made = λ n l. ((t.made n l).0, ((t.made n l).1).0) }
+turned_carries w u q e t = record { sides = t.sides; made = λ n l. ((t.made n l).0, ((t.made n l).1).0); bound = λ n l. ((t.made n l).1).2 }
 
 -- the party that an event moves
 abbrev pub mover : Event → Party

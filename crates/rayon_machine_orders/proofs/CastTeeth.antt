@@ -1,7 +1,7 @@
 -- wrong machines of broadcasts: replays, computed by the kernel, in which a changed table or act breaks the clause of a
 -- law that forbids it
 use Rattle.std.proofs.Common.{refl}
-use Rattle.std.specs.Prelude.{ℕ, Bool, true, false, ◌&&◌, ◌||◌, ◌+◌, ◌-◌, ◌==◌, Option, Some, List, [], ◌∷◌, ◌++◌, ◌≡◌, IfSome}
+use Rattle.std.specs.Prelude.{true, false, ◌||◌, ◌+◌, ◌-◌, Some, List, [], ◌∷◌, ◌++◌, ◌≡◌, IfSome}
 use Rattle.rayon_machine_places.specs.declared.place.Party.{Party}
 use Rattle.rayon_machine_places.specs.declared.place.Mark.TheVariants.{Queued}
 use Rattle.rayon_machine_places.specs.declared.place.Then.TheVariants.{Called}
@@ -22,7 +22,7 @@ use Rattle.rayon_machine_laws.specs.Once.{one, times, in_cast}
 use Rattle.rayon_machine_laws.specs.Counted.{has_share}
 use Rattle.rayon_machine_laws.specs.Committed.{is_committed}
 use Rattle.rayon_machine_laws.specs.Attended.{is_filled, owes_cast}
-use Rattle.rayon_machine_orders.proofs.WrongMachines.{Machine, run_by, times_go, two, a, b, c, right}
+use Rattle.rayon_machine_orders.proofs.WrongMachines.{run_by, times_go, two, a, b, c, right}
 
 -- whoever has put tasks into all broadcast lists begins its calls at worker 1
 abbrev skips_first : PoolShape → Party → Place → Seen → Move
@@ -55,6 +55,10 @@ skips_last act h q n m = effect act h q n m
 -- the law of places is broken: the last piece's record says that it is queued, and it does not stand there
 broadcast_skips_its_last_worker : IfSome (run_by (record { does = skips_last; next = next_of }) (two 32) (Cast c 0 ∷ times_go c 2)) (λ w. (in_cast 0 1 (w.job 1).at ≡ true) × (times 1 ((w.pool 0).casts 1) ≡ 0))
 broadcast_skips_its_last_worker = (refl, refl)
+
+-- in the machine as it is each piece is bound to its own worker from the event on, and may stand in no other's list
+each_piece_has_its_worker : IfSome (run_by right (two 32) (Cast c 0 ∷ times_go c 2)) (λ w. ((w.job 0).bound ≡ Some 0) × ((w.job 1).bound ≡ Some 1))
+each_piece_has_its_worker = (refl, refl)
 
 -- a refused push hands the pieces back at once
 abbrev keeps_shares : PoolShape → Party → Place → Seen → Move

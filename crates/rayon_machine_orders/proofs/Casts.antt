@@ -405,12 +405,18 @@ stretch h before w q s c u (e ∷ es) r run i (v, opened, one, rest) =
     over v b k one [] same = subst (λ x. After x q s c (r || (b || is_any (is_cast_refusal q s) (step w e) []))) (sym same) (subst (λ d. After v q s c d) (ap (λ d. r || d) (or_false b) ∙ ap (λ o. r || (b || is_any (is_cast_refusal q s) o [])) (sym one)) (inr k))
     over v b k one (a ∷ gs) (x, still, two, rest) = absurd (still k.back)
 
+-- what a piece is bound to stays
+until_bound : (w : World) (q : Party) (s : Stack) (es : List Event) (u : World) → IsRunUntil q s w es u → (t : ℕ) → t + 1 ≤ w.jobs → (u.job t).bound ≡ (w.job t).bound
+until_bound w q s [] u same t l = subst (λ v. (v.job t).bound ≡ (w.job t).bound) (sym same) refl
+until_bound w q s (e ∷ es) u (v, opened, one, rest) t l = let f : Carries w v = (let g : IfSome (Some v) (Carries w) = subst (λ o. IfSome o (Carries w)) one (step_carries w e) in g) in until_bound v q s es u rest t ((f.made t l).0) ∙ f.bound t l
+
 -- its event
 record Begun (w v : World) (q : Party) (p : ℕ) : Type 0 where
   pieces : Pieces
   made : v.jobs ≡ w.jobs + (w.shape.pool p).workers
   inside : Inside v q (w.stack q) pieces false
   mine : (t : ℕ) → w.jobs ≤ t → t < v.jobs → is_piece pieces t ≡ true
+  bound : (t : ℕ) → w.jobs ≤ t → t < v.jobs → (v.job t).bound ≡ Some (t - w.jobs)
 
 cast_begun : (w : World) (q : Party) (p : ℕ) → IfSome (after_cast w q p (w.stack q)) (λ v. Begun w v q p)
 cast_begun w q p = if_cond (λ v. Begun w v q p) (is_free ((w.stack q).top) && is_pool w.shape p) _ (λ b. record {
@@ -418,6 +424,7 @@ cast_begun w q p = if_cond (λ v. Begun w v q p) (is_free ((w.stack q).top) && i
   made = refl;
   inside = record { stage = Before; top = RaiseForAll c; is = stack_mine w.stack q (after_call (w.stack q) (RaiseForAll c)); spot = refl; sofar = tt; known = known; flag = refl };
   mine = λ t l m. piece_in c t l m;
+  bound = λ t l m. ap (λ j. j.bound) (piece_new c (λ i j. new_piece q p i) w.job t (piece_in c t l m));
 })
   where
     c : Pieces
@@ -448,6 +455,7 @@ cast_law h before q p w v u between b run =
     let a : After u q s c r = stretch h (before ++ (Cast q p ∷ [])) v q s c u between false next begun.inside run in
     record {
       made = begun.made;
+      bound = λ t l m. until_bound v q s between u run t (omega (arith, m)) ∙ begun.bound t l m;
       stands = cast_stands u q s c r a;
       ends = λ z y t l m. ((is_over u q s c r a z).on y t (begun.mine t l m)).1;
       refused = λ z y t l m. (let k : (u.job t).at ≡ HandedBack = (is_over u q s c r a z).backs y t (begun.mine t l m) in record { at = k; untouched = (refused_so u (g.calls.jobs)).gone t k; share = (returned_so u g.returns).gone t k });

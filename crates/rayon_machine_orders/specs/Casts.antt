@@ -1,5 +1,5 @@
 -- broadcasts, each from the event that begins it to the world in which its party's stack is again what it was
-use Rattle.std.specs.Prelude.{ℕ, Bool, true, false, ◌&&◌, ◌+◌, ◌==◌, ◌≤◌, ◌<◌, Some, List, ◌≡◌, ◌⊎◌}
+use Rattle.std.specs.Prelude.{ℕ, Bool, true, false, ◌&&◌, ◌+◌, ◌-◌, ◌==◌, ◌≤◌, ◌<◌, Some, List, ◌≡◌, ◌⊎◌}
 use Rattle.rayon_machine_places.specs.declared.place.Party.{Party}
 use Rattle.rayon_machine_places.specs.declared.act.Act.{Act}
 use Rattle.rayon_machine_places.specs.declared.act.Act.TheVariants.{RaiseAll}
@@ -28,11 +28,13 @@ is_cast_refusal q s w (Go r) = same_party q r && (is_at_call s (w.stack q) && is
 is_cast_refusal q s w _ = false
 
 -- a broadcast that the party q began at pool p (from w to v), in a world u that the events between lead to; its pieces
--- are the numbers that the event gave out, one for each worker of the pool. Until it is over the party's stack stands
--- on what it was. Once it is over, either nothing refused it and each piece is queued, in a hand, running or over, or a
--- step of it was refused and each piece is given back
+-- are the numbers that the event gave out, one for each worker of the pool, and each is bound to its own: the first to
+-- the first worker, and so on. Until it is over the party's stack stands on what it was. Once it is over, either
+-- nothing refused it and each piece is queued, in a hand, running or over, or a step of it was refused and each piece
+-- is given back
 pub record CastGoes (q : Party) (p : ℕ) (w v u : World) (between : List Event) : Type 0 where
   pub made : v.jobs ≡ w.jobs + (w.shape.pool p).workers
+  pub bound : (t : ℕ) → w.jobs ≤ t → t < v.jobs → (u.job t).bound ≡ Some (t - w.jobs)
   pub stands : StandsOn (w.stack q) (u.stack q) ⊎ (u.stack q ≡ w.stack q)
   pub ends : u.stack q ≡ w.stack q → is_any (is_cast_refusal q (w.stack q)) (Some v) between ≡ false → (t : ℕ) → w.jobs ≤ t → t < v.jobs → IsHandedOn u t
   pub refused : u.stack q ≡ w.stack q → is_any (is_cast_refusal q (w.stack q)) (Some v) between ≡ true → (t : ℕ) → w.jobs ≤ t → t < v.jobs → IsGivenBack u t

@@ -35,9 +35,9 @@ pub fn law_count()
 /// a step of the call itself was refused, each is handed back and has never run. What the call takes from a cell is how
 /// the last of its jobs ended. An install or a join that nothing refused has its answer where it is to lower the
 /// terminate count, and the fault is the one that comes first. Once it is over, its share is given back.
-/// And so it is of broadcasts (`casts`): the event gives out a piece for each worker of the pool. Once the party's stack
-/// is again what it was, each piece is queued, in a hand, running or over; but if a step of the broadcast itself was
-/// refused, each is handed back, has never run, and has no share of the terminate count.
+/// And so it is of broadcasts (`casts`): the event gives out a piece for each worker of the pool, bound to that worker.
+/// Once the party's stack is again what it was, each piece is queued, in a hand, running or over; but if a step of the
+/// broadcast itself was refused, each is handed back, has never run, and has no share of the terminate count.
 /// It does not say that a call ever comes to its last step, nor that a pool ever ends.
 pub fn law_end()
     ensures ends { Always IsEnd }

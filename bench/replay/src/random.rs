@@ -60,7 +60,12 @@ fn draw(world: &World, numbers: &mut Numbers) -> (Event, usize) {
         14..=16 if free => (Event::Fifo { party, pool }, 1),
         17 if free => (Event::Cast { party, pool }, 1),
         18..=21 if free => (Event::Install { party, pool }, 1),
-        22..=27 if free => (Event::Join(party), 1),
+        22..=25 if free => (Event::Join(party), 1),
+        26 if free => (Event::Scope { party, pool }, 1),
+        27 if free && !world.scopes.is_empty() => {
+            let scope = numbers.below(world.scopes.len());
+            (Event::IntoSpawn { party, scope }, 1)
+        }
         28..=31 if free => (Event::Yield { party, local: false }, 1),
         32..=33 if free => (Event::Yield { party, local: true }, 1),
         34 if free && numbers.below(50) == 0 => (Event::EndPool { party, pool }, 1),
@@ -90,6 +95,8 @@ fn words(world: &World, event: Event, times: usize) -> String {
         Event::Cast { party, pool } => format!("{} cast {pool}", name(party)),
         Event::Install { party, pool } => format!("{} install {pool}", name(party)),
         Event::Join(party) => format!("{} join", name(party)),
+        Event::Scope { party, pool } => format!("{} scope {pool}", name(party)),
+        Event::IntoSpawn { party, scope } => format!("{} into {scope} spawn", name(party)),
         Event::Yield { party, local: false } => format!("{} yield", name(party)),
         Event::Yield { party, local: true } => format!("{} yield local", name(party)),
         Event::EndPool { party, pool } => format!("{} end {pool}", name(party)),

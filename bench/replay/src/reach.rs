@@ -22,8 +22,8 @@ pub fn act_name(world: &World, party: usize) -> &'static str {
             crate::world::Phase::Wake => "Wake",
             crate::world::Phase::Unlock => "Unlock",
         },
-        Frame::Lower(_) | Frame::LowerAll(_) => "Lower",
-        Frame::Store { .. } => "Store",
+        Frame::Lower(_) | Frame::LowerAll(_) | Frame::LowerScope(_) => "Lower",
+        Frame::Store { .. } | Frame::StoreSlot(_) => "Store",
         Frame::SetLock(_) => "LockSet",
         Frame::SetCall { .. } | Frame::SetTerminate { .. } => "Set",
     }
@@ -51,13 +51,17 @@ fn call_act(own: bool, step: CallStep) -> &'static str {
         CallStep::PushToken => "PushOwn",
         CallStep::TakeBack => "FifoUndo",
         CallStep::Deal => "PushCast",
+        CallStep::OpenSlot => "Slot",
+        CallStep::CloseSlot => "SlotUndo",
+        CallStep::StoreBody => "Store",
+        CallStep::LowerBody => "Lower",
         CallStep::News => "News",
         CallStep::WaitForLock => "LockWait",
         CallStep::Take => "Take",
         CallStep::Probe => "Probe",
         CallStep::Pop => "PopOwn",
         CallStep::Cast => "TakeCast",
-        CallStep::Woken | CallStep::Above | CallStep::Second => "none",
+        CallStep::Woken | CallStep::Above | CallStep::Body | CallStep::Second => "none",
     }
 }
 
@@ -106,6 +110,7 @@ fn call_place(kind: CallKind, step: CallStep, above: Option<&Frame>) -> &'static
     match step {
         CallStep::Raise if kind == CallKind::Cast => "RaiseForAll",
         CallStep::Raise => "RaiseCount",
+        CallStep::Grow if kind == CallKind::Scope => "GrowScope",
         CallStep::Grow => "GrowCall",
         CallStep::Look => "LookQueue",
         CallStep::Push => "PushJob",
@@ -114,6 +119,11 @@ fn call_place(kind: CallKind, step: CallStep, above: Option<&Frame>) -> &'static
         CallStep::PushToken => "PushToken",
         CallStep::TakeBack => "TakeFromFifo",
         CallStep::Deal => "PushForAll",
+        CallStep::OpenSlot => "OpenSlot",
+        CallStep::CloseSlot => "CloseSlot",
+        CallStep::Body => "ScopeBody",
+        CallStep::StoreBody => "StoreBody",
+        CallStep::LowerBody => "LowerCount",
         CallStep::News => "TellNews",
         CallStep::WaitForLock => "WaitForLock",
         CallStep::Take => "TakeResult",
@@ -159,9 +169,10 @@ fn place(frame: &Frame, above: Option<&Frame>) -> &'static str {
         Frame::Settle { phase: Phase::Lock, .. } => "LockToSettle",
         Frame::Settle { phase: Phase::Wake, .. } => "WakeSettled",
         Frame::Settle { phase: Phase::Unlock, .. } => "UnlockSettled",
-        Frame::Lower(_) => "LowerCount",
+        Frame::Lower(_) | Frame::LowerScope(_) => "LowerCount",
         Frame::LowerAll(_) => "LowerForAll",
         Frame::Store { .. } => "StoreResult",
+        Frame::StoreSlot(_) => "StoreSlot",
         Frame::SetLock(_) => "SetLockLatch",
         Frame::SetCall { .. } | Frame::SetTerminate { .. } => "SetLatch",
     }
@@ -202,7 +213,8 @@ impl Reached {
             How::Go => {}
         }
         if let Some(Frame::Call(call)) = world.parties[party].stack.last() {
-            if call.step == CallStep::Raise && world.pools[call.pool as usize].count == 0 {
+            let of_pool = call.kind != CallKind::Enter;
+            if of_pool && call.step == CallStep::Raise && world.pools[call.pool as usize].count == 0 {
                 self.note(&format!("refused {name}"));
             }
         }

@@ -1,7 +1,7 @@
 //! Acts and events. Each function answers whether the event was enabled, and changes nothing where it was not.
 
 use crate::world::{
-    At, Call, CallKind, CallStep, Frame, Letter, Look, Phase, Run, Task, Wait, World,
+    At, Call, CallKind, CallStep, Frame, Letter, Look, Phase, Run, Scope, Task, Wait, World,
 };
 
 /// How a party makes its next act.
@@ -22,6 +22,8 @@ pub enum Event {
     Cast { party: usize, pool: usize },
     Install { party: usize, pool: usize },
     Join(usize),
+    Scope { party: usize, pool: usize },
+    IntoSpawn { party: usize, scope: usize },
     Yield { party: usize, local: bool },
     EndPool { party: usize, pool: usize },
 }
@@ -48,6 +50,21 @@ impl World {
                 Some(pool) => self.call(party, pool as usize, CallKind::Join),
                 None => false,
             },
+            Event::Scope { party, pool } => {
+                let number = self.scopes.len() as u32;
+                let enabled = self.scoped_call(party, pool, CallKind::Scope, number);
+                if enabled {
+                    let pool = pool as u8;
+                    self.scopes.push(Scope { call: u32::MAX, pool, count: 0, writer: None });
+                }
+                enabled
+            }
+            Event::IntoSpawn { party, scope } => match self.scopes.get(scope).copied() {
+                Some(found) if self.holds(party, scope as u32) => {
+                    self.scoped_call(party, found.pool as usize, CallKind::Enter, scope as u32)
+                }
+                _ => false,
+            },
             Event::Yield { party, local } => {
                 let enabled = self.own_pool(party).is_some() && self.is_free(party);
                 if enabled {
@@ -67,11 +84,15 @@ impl World {
     }
 
     fn call(&mut self, party: usize, pool: usize, kind: CallKind) -> bool {
+        self.scoped_call(party, pool, kind, 0)
+    }
+
+    fn scoped_call(&mut self, party: usize, pool: usize, kind: CallKind, scope: u32) -> bool {
         if pool >= self.pools.len() || !self.is_free(party) {
             return false;
         }
         let step = CallStep::Raise;
-        let call = Call { kind, step, pool: pool as u8, was_empty: false, number: 0 };
+        let call = Call { kind, step, pool: pool as u8, was_empty: false, number: 0, scope };
         self.push(party, Frame::Call(call));
         true
     }
@@ -86,6 +107,7 @@ impl World {
         match run {
             Run::Detached(pool) => self.set_top(party, Frame::Lower(pool)),
             Run::Answer(call) => self.set_top(party, Frame::Store { call, fault }),
+            Run::Scoped(scope) => self.set_top(party, Frame::StoreSlot(scope)),
             Run::Direct => {
                 self.parties[party].stack.pop();
                 self.call_after_run(party, fault);
@@ -103,6 +125,7 @@ impl World {
             (CallKind::Join, CallStep::Above) if fault => self.wait(party, call),
             (CallKind::Join, CallStep::Above) => self.go_on(party, call, CallStep::Probe),
             (CallKind::Join, _) => self.close(party, call),
+            (CallKind::Scope, _) => self.go_on(party, call, CallStep::StoreBody),
             _ => self.set_top(party, Frame::Lower(call.pool)),
         }
     }
@@ -164,7 +187,7 @@ impl World {
     /// The call has queued its job and woken others.
     fn after_news(&mut self, party: usize, call: Call) {
         match call.kind {
-            CallKind::Spawn | CallKind::Fifo | CallKind::Cast => self.done(party),
+            CallKind::Spawn | CallKind::Fifo | CallKind::Cast | CallKind::Enter => self.done(party),
             CallKind::Join => {
                 self.go_on(party, call, CallStep::Above);
                 self.totals.running += 1;
@@ -194,6 +217,8 @@ impl World {
             }
             Frame::Redeem(worker) => self.redeem(party, worker),
             Frame::Wake { .. } | Frame::Settle { .. } => self.wake_act(party, frame),
+            Frame::StoreSlot(scope) => self.store_slot(party, scope),
+            Frame::LowerScope(scope) => self.lower_scope(party, scope),
             Frame::Lower(_) | Frame::LowerAll(_) => self.lower(party, frame),
             Frame::Store { .. } | Frame::SetLock(_) => self.end_act(party, frame),
             Frame::SetCall { .. } | Frame::SetTerminate { .. } => self.set_act(party, frame),
@@ -217,7 +242,11 @@ impl World {
             How::Refuse => match frame {
                 Frame::Call(call) => matches!(
                     call.step,
-                    CallStep::Grow | CallStep::Push | CallStep::Add | CallStep::PushToken | CallStep::Deal
+                    CallStep::Grow
+                        | CallStep::Push
+                        | CallStep::Add
+                        | CallStep::PushToken | CallStep::Deal
+                        | CallStep::OpenSlot
                 ),
                 _ => false,
             },
@@ -320,12 +349,7 @@ impl World {
             Frame::Store { call, fault } => {
                 let record = &mut self.calls[call as usize];
                 record.cell = Some(fault);
-                let seat = record.owner;
-                let next = if (seat as usize) < self.seats.len() {
-                    Frame::SetCall { seat, call }
-                } else {
-                    Frame::SetLock(call)
-                };
+                let next = self.set_latch_of(call);
                 self.set_top(party, next);
             }
             Frame::SetLock(call) => {
@@ -333,6 +357,73 @@ impl World {
                 self.done(party);
             }
             _ => return false,
+        }
+        true
+    }
+
+    /// The frame that sets the latch of a call.
+    fn set_latch_of(&self, call: u32) -> Frame {
+        let seat = self.calls[call as usize].owner;
+        if (seat as usize) < self.seats.len() {
+            Frame::SetCall { seat, call }
+        } else {
+            Frame::SetLock(call)
+        }
+    }
+
+    /// Whether no other party holds the book of this scope.
+    fn is_book_open(&self, party: usize, scope: u32) -> bool {
+        self.scopes[scope as usize].writer.is_none_or(|holder| holder == party)
+    }
+
+    fn store_slot(&mut self, party: usize, scope: u32) -> bool {
+        let enabled = self.is_book_open(party, scope);
+        if enabled {
+            self.set_top(party, Frame::LowerScope(scope));
+        }
+        enabled
+    }
+
+    fn lower_scope(&mut self, party: usize, scope: u32) -> bool {
+        let record = &mut self.scopes[scope as usize];
+        record.count -= 1;
+        let (call, last) = (record.call, record.count == 0);
+        if last {
+            let next = self.set_latch_of(call);
+            self.set_top(party, next);
+        } else {
+            self.done(party);
+        }
+        true
+    }
+
+    /// An act of a scope, or of a spawn into one.
+    fn scope_act(&mut self, party: usize, call: Call, how: How) -> bool {
+        let held = !self.is_book_open(party, call.scope);
+        let record = &mut self.scopes[call.scope as usize];
+        match call.step {
+            CallStep::OpenSlot if how == How::Refuse => {
+                self.set_top(party, Frame::LowerScope(call.scope));
+            }
+            CallStep::LowerBody => {
+                record.count -= 1;
+                if record.count == 0 {
+                    self.go_on(party, call, CallStep::Woken);
+                    self.push(party, self.set_latch_of(call.number));
+                } else {
+                    self.wait(party, call);
+                }
+            }
+            _ if held => return false,
+            CallStep::OpenSlot => {
+                record.writer = Some(party);
+                self.go_on(party, call, CallStep::Look);
+            }
+            CallStep::CloseSlot => {
+                record.writer = None;
+                self.set_top(party, Frame::LowerScope(call.scope));
+            }
+            _ => self.go_on(party, call, CallStep::LowerBody),
         }
         true
     }
@@ -377,8 +468,29 @@ impl World {
             CallStep::Add | CallStep::LookForToken | CallStep::PushToken | CallStep::TakeBack => {
                 return self.fifo_act(party, call, how);
             }
+            CallStep::OpenSlot | CallStep::CloseSlot | CallStep::StoreBody | CallStep::LowerBody => {
+                return self.scope_act(party, call, how);
+            }
+            CallStep::Raise if call.kind == CallKind::Enter => {
+                let record = &mut self.scopes[call.scope as usize];
+                if record.count == 0 {
+                    self.done(party);
+                } else {
+                    record.count += 1;
+                    self.go_on(party, call, CallStep::OpenSlot);
+                }
+            }
             CallStep::Raise => self.raise(party, call),
             CallStep::Grow if how == How::Refuse => self.set_top(party, Frame::Lower(call.pool)),
+            CallStep::Grow if call.kind == CallKind::Scope => {
+                let number = self.open_call(party);
+                let record = &mut self.scopes[call.scope as usize];
+                record.call = number;
+                record.count = 1;
+                self.go_on(party, Call { number, ..call }, CallStep::Body);
+                self.totals.running += 1;
+                self.push(party, Frame::Run(Run::Direct));
+            }
             CallStep::Grow => {
                 let number = self.open_call(party);
                 self.go_on(party, Call { number, ..call }, CallStep::Look);
@@ -389,11 +501,16 @@ impl World {
             }
             CallStep::Push if how == How::Refuse => match call.kind {
                 CallKind::Spawn => self.set_top(party, Frame::Lower(call.pool)),
+                CallKind::Enter => self.go_on(party, call, CallStep::CloseSlot),
                 _ => self.close(party, call),
             },
             CallStep::Push => {
                 let task = match call.kind {
                     CallKind::Spawn => Task::Detached(call.pool),
+                    CallKind::Enter => {
+                        self.scopes[call.scope as usize].writer = None;
+                        Task::Scoped(call.scope)
+                    }
                     _ => Task::Answer(call.number),
                 };
                 self.queue(party, call.pool).push_back(task);
@@ -874,6 +991,7 @@ fn begin_of(task: Task) -> Frame {
     match task {
         Task::Detached(pool) => Frame::Begin(Run::Detached(pool)),
         Task::Answer(call) => Frame::Begin(Run::Answer(call)),
+        Task::Scoped(scope) => Frame::Begin(Run::Scoped(scope)),
         Task::Token(worker) => Frame::Redeem(worker),
     }
 }

@@ -81,6 +81,13 @@ fn event(world: &World, line: &str) -> Option<(Event, u64)> {
         ("cast", Some(pool)) => Event::Cast { party, pool: index(pool)? },
         ("install", Some(pool)) => Event::Install { party, pool: index(pool)? },
         ("join", None) => Event::Join(party),
+        ("scope", Some(pool)) => Event::Scope { party, pool: index(pool)? },
+        ("into", Some(words)) => {
+            let (scope, "spawn") = words.split_once(' ')? else {
+                return None;
+            };
+            Event::IntoSpawn { party, scope: index(scope)? }
+        }
         ("yield", None) => Event::Yield { party, local: false },
         ("yield", Some("local")) => Event::Yield { party, local: true },
         ("end", Some(pool)) => Event::EndPool { party, pool: index(pool)? },

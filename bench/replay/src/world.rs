@@ -14,11 +14,13 @@ pub struct Shape {
     pub callers_own: bool,
 }
 
-/// A queued job: detached at a pool, or the one that an open call waits for; or a token for the FIFO list of a worker.
+/// A queued job: detached at a pool, the one that an open call waits for, or one of a scope; or a token for the FIFO list
+/// of a worker.
 #[derive(Clone, Copy, PartialEq, Eq)]
 pub enum Task {
     Detached(u8),
     Answer(u32),
+    Scoped(u32),
     Token(u8),
 }
 
@@ -27,6 +29,7 @@ pub enum Task {
 pub enum Run {
     Detached(u8),
     Answer(u32),
+    Scoped(u32),
     /// The call below goes on.
     Direct,
 }
@@ -119,6 +122,13 @@ pub enum CallStep {
     TakeBack,
     /// A piece of a broadcast is put into each worker's broadcast list.
     Deal,
+    /// A number of a scope's book is opened, or taken back.
+    OpenSlot,
+    CloseSlot,
+    /// The body of a scope runs above; its ending is stored; its share of the scope's count is given back.
+    Body,
+    StoreBody,
+    LowerBody,
     News,
     /// Others are being woken.
     Woken,
@@ -142,6 +152,9 @@ pub enum CallKind {
     Here,
     Send,
     Join,
+    Scope,
+    /// A spawn into a scope.
+    Enter,
 }
 
 #[derive(Clone, Copy)]
@@ -151,6 +164,8 @@ pub struct Call {
     pub pool: u8,
     pub was_empty: bool,
     pub number: u32,
+    /// The scope that is opened or spawned into.
+    pub scope: u32,
 }
 
 #[derive(Clone, Copy, PartialEq, Eq)]
@@ -177,6 +192,9 @@ pub enum Frame {
     /// Gives back the shares of a refused broadcast's pieces.
     LowerAll(u8),
     Store { call: u32, fault: bool },
+    /// A job of this scope is over: its ending is stored, and then its share of the scope's count is given back.
+    StoreSlot(u32),
+    LowerScope(u32),
     SetLock(u32),
     /// Sets the latch of a call of this worker.
     SetCall { seat: u16, call: u32 },
@@ -225,6 +243,15 @@ pub struct OpenCall {
     pub cell: Option<bool>,
 }
 
+/// A scope: its call, its pool, its count, and who holds its book.
+#[derive(Clone, Copy)]
+pub struct Scope {
+    pub call: u32,
+    pub pool: u8,
+    pub count: u64,
+    pub writer: Option<usize>,
+}
+
 #[derive(Clone, Default)]
 pub struct Totals {
     pub queued: u64,
@@ -241,6 +268,7 @@ pub struct World {
     pub parties: Vec<Party>,
     pub calls: Vec<OpenCall>,
     pub free_calls: Vec<u32>,
+    pub scopes: Vec<Scope>,
     pub totals: Totals,
 }
 
@@ -258,6 +286,7 @@ impl World {
             parties: Vec::new(),
             calls: Vec::new(),
             free_calls: Vec::new(),
+            scopes: Vec::new(),
             totals: Totals::default(),
         };
         for (number, shape) in shapes.iter().enumerate() {
@@ -305,6 +334,15 @@ impl World {
             None => true,
             Some(frame) => matches!(frame, Frame::Run(_)),
         }
+    }
+
+    /// Whether the party's stack holds the body of this scope, or a job of it.
+    pub fn holds(&self, party: usize, scope: u32) -> bool {
+        self.parties[party].stack.iter().any(|frame| match frame {
+            Frame::Call(call) => call.step == CallStep::Body && call.scope == scope,
+            Frame::Run(Run::Scoped(number)) => *number == scope,
+            _ => false,
+        })
     }
 
     /// The pool of a worker.

@@ -5,7 +5,7 @@
 mod tests {
     use rayon_machine::act::{Act, Seen};
     use rayon_machine::event::Event;
-    use rayon_machine::place::{Ending, Move, OpenCall, Party, Place, Share, Then};
+    use rayon_machine::place::{Count, Ending, Move, OpenCall, Party, Place, Share, Then};
     use rayon_machine::shape::{Order, PoolShape};
     use rayon_machine::world::World;
     use std::alloc::{AllocError, Global};
@@ -201,10 +201,10 @@ mod tests {
         let Move::Stay(next) = place.next(C, pool_of(2), Seen::Missing) else {
             return assert!(rt; false);
         };
-        let Place::LowerCount { pool, share, then } = next else {
+        let Place::LowerCount { count, share, then } = next else {
             return assert!(rt; false);
         };
-        assert_eq!(rt; pool, 1);
+        assert!(rt; matches!(count, Count::OfPool(1)));
         assert!(rt; matches!(share, Share::OfJob(5)));
         let Then::Missing { call, first } = then else {
             return assert!(rt; false);

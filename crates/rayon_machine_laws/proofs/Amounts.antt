@@ -1,4 +1,6 @@
 -- how each move changes the shares that a stack keeps, and that no move leads to a raise or to the giving up of a value
+use Rattle.rayon_machine_places.specs.declared.place.Count.TheVariants.{OfPool, OfScope}
+use Rattle.rayon_machine_places.specs.declared.place.Count.{Count}
 use Rattle.std.proofs.Common.{arith, refl}
 use Rattle.std.specs.Prelude.{ℕ, Bool, true, false, ◌&&◌, ◌+◌, ◌-◌, ◌==◌, nat_lt, if◌then◌else◌, Option, Some, None, List, [], ◌∷◌, ◌≡◌}
 use Rattle.rayon_machine_places.specs.declared.place.Party.{Party}
@@ -10,13 +12,13 @@ use Rattle.rayon_machine_places.specs.declared.place.Latch.TheVariants.{Terminat
 use Rattle.rayon_machine_places.specs.declared.place.Rounds.{Rounds}
 use Rattle.rayon_machine_places.specs.declared.place.Rounds.TheVariants.{Failed, Announced}
 use Rattle.rayon_machine_places.specs.declared.place.Plan.{Plan}
-use Rattle.rayon_machine_places.specs.declared.place.Plan.TheVariants.{Detach, Here, Send, Fork, Feed}
+use Rattle.rayon_machine_places.specs.declared.place.Plan.TheVariants.{Detach, Here, Send, Fork, Feed, Open, Enter}
 use Rattle.rayon_machine_places.specs.declared.place.Then.{Then}
 use Rattle.rayon_machine_places.specs.declared.place.Then.TheVariants.{BeginFound, LeaveWait, Resume, Await, RunFirst, Answers, Missing, Ran, GiveBack, Called}
 use Rattle.rayon_machine_places.specs.declared.place.Taken.{Taken}
 use Rattle.rayon_machine_places.specs.declared.place.Taken.TheVariants.{Plain, Token}
 use Rattle.rayon_machine_places.specs.declared.place.Place.{Place}
-use Rattle.rayon_machine_places.specs.declared.place.Place.TheVariants.{ProbeWorking, PopWorking, TakeCastWorking, ProbeIdle, PopIdle, TakeCastIdle, PickVictim, StealFrom, PopInjected, AnnounceSelf, GetSleepy, FallAsleep, LoadCounters, AddSleeping, LookAtCast, LookAtInjector, WakeUp, LeaveSearch, JoinProbe, JoinPop, JoinTakeCast, YieldPop, YieldTakeCast, YieldPick, YieldSteal, YieldPopInjected, LocalPop, LocalTakeCast, BeginTask, BeginHere, RaiseCount, GrowCall, LookQueue, PushJob, TellNews, LockToWake, WakeWorker, UnlockWoken, TakeResult, LowerCount, StoreResult, SetLatch, UnlockSettled, SecondSide, AddToFifo, LookForToken, PushToken, TakeFromFifo, RaiseForAll, PushForAll, LowerForAll}
+use Rattle.rayon_machine_places.specs.declared.place.Place.TheVariants.{ProbeWorking, PopWorking, TakeCastWorking, ProbeIdle, PopIdle, TakeCastIdle, PickVictim, StealFrom, PopInjected, AnnounceSelf, GetSleepy, FallAsleep, LoadCounters, AddSleeping, LookAtCast, LookAtInjector, WakeUp, LeaveSearch, JoinProbe, JoinPop, JoinTakeCast, YieldPop, YieldTakeCast, YieldPick, YieldSteal, YieldPopInjected, LocalPop, LocalTakeCast, BeginTask, BeginHere, RaiseCount, GrowCall, LookQueue, PushJob, TellNews, LockToWake, WakeWorker, UnlockWoken, TakeResult, LowerCount, StoreResult, SetLatch, UnlockSettled, SecondSide, AddToFifo, LookForToken, PushToken, TakeFromFifo, RaiseForAll, PushForAll, LowerForAll, GrowScope, OpenSlot, SetLockLatch}
 use Rattle.rayon_machine_places.specs.declared.place.Move.{Move}
 use Rattle.rayon_machine_places.specs.declared.place.Move.TheVariants.{Stay, Enter, StartRun, Back, HandBack, Discard, HandIn, Mark, HandAllBack}
 use Rattle.rayon_machine_places.specs.declared.act.Seen.{Seen}
@@ -25,7 +27,7 @@ use Rattle.rayon_machine_places.specs.declared.shape.PoolShape.{PoolShape}
 use Rattle.rayon_machine_places.specs.declared.place.OpenCall.{OpenCall}
 use Rattle.rayon_machine_places.specs.declared.place.Wait.{Wait}
 use Rattle.rayon_machine_places.specs.declared.place.Settling.{Settling}
-use Rattle.rayon_machine_places.specs.Places.{own_pool, own_index, plan_pool, plan_job, after_wait, finish, walk, settle, after_set, after_found, after_news, after_raise, undo, set_call, next_victim, not_self, after_failure, next_steal, next_yield, next_of, is_taken, taken_number}
+use Rattle.rayon_machine_places.specs.Places.{own_pool, own_index, plan_pool, plan_job, after_wait, finish, walk, settle, after_set, after_found, after_news, after_raise, set_call, next_victim, not_self, after_failure, next_steal, next_yield, next_of, is_taken, taken_number, settle_count, after_push}
 use Rattle.rayon_machine_places.specs.World.{Stack}
 use Rattle.rayon_machine_places.specs.Steps.{after_move, is_piece}
 use Rattle.rayon_machine_laws.specs.Once.{one}
@@ -93,6 +95,8 @@ abbrev pub pushed : ℕ → Place → Seen → ℕ
 pushed t (PushJob (Detach r j) v) Done = one (t == j)
 pushed t (PushJob (Here r j) v) Done = one (t == j)
 pushed t (PushJob (Feed f) v) Done = one (t == f.job)
+pushed t (PushJob (Open o) v) Done = one (t == o.job)
+pushed t (PushJob (Enter e) v) Done = one (t == e.job)
 pushed t (AddToFifo f) Done = one (t == f.job)
 pushed t (PushForAll c) Done = one (is_piece c t)
 pushed t _ _ = 0
@@ -179,6 +183,8 @@ am_raised t p (Here r u) = (omega arith, refl)
 am_raised t p (Send o) = (omega arith, refl)
 am_raised t p (Fork o a) = (omega arith, refl)
 am_raised t p (Feed f) = (omega arith, refl)
+am_raised t p (Open o) = (omega arith, refl)
+am_raised t p (Enter e) = (omega arith, refl)
 
 am_goes : (t : ℕ) (n : Plan) → share_then t (after_news n) ≡ share_rest t n
 am_goes t (Detach r u) = omega arith
@@ -186,6 +192,8 @@ am_goes t (Here r u) = omega arith
 am_goes t (Send o) = omega arith
 am_goes t (Fork o a) = omega arith
 am_goes t (Feed f) = omega arith
+am_goes t (Open o) = omega arith
+am_goes t (Enter e) = omega arith
 
 am_after : (t : ℕ) (g : Target) (o : Option Taken) → share_then t (after_found g o) ≡ share_target t g
 am_after t g None = omega arith
@@ -198,9 +206,13 @@ am_pop t p o u = by (is_taken u o.job)
     by true = (omega arith, refl)
     by false = (omega arith, refl)
 
-am_set : (t p : ℕ) (c : ℕ) (o : Party) → Amount t p (Stay (set_call c o)) 0
-am_set t p c (Worker a b) = (omega arith, refl)
-am_set t p c (Caller n) = (omega arith, refl)
+am_set : (t p : ℕ) (c : ℕ) (o : Party) (n : Then) → Amount t p (Stay (set_call c o n)) (share_then t n)
+am_set t p c (Worker a b) n = (omega arith, refl)
+am_set t p c (Caller m) n = (omega arith, refl)
+
+am_count : (t p : ℕ) (g : PoolShape) (q : Party) (c : Count) (n : Then) → Amount t p (settle_count g q c n) (share_then t n)
+am_count t p g q (OfPool r) n = am_settle t p g q r 0 n
+am_count t p g q (OfScope c o) n = am_set t p c o n
 
 am_push : (t : ℕ) (n : Plan) (v : Bool) → share t (TellNews n v) + pushed t (PushJob n v) Done ≡ one (t == plan_job n)
 am_push t (Detach r u) v = omega arith
@@ -208,13 +220,21 @@ am_push t (Here r u) v = omega arith
 am_push t (Send o) v = omega arith
 am_push t (Fork o a) v = omega arith
 am_push t (Feed f) v = omega arith
+am_push t (Open o) v = omega arith
+am_push t (Enter e) v = omega arith
 
 abbrev pub is_done_seen : Seen → Bool
 is_done_seen Done = true
 is_done_seen _ = false
 
-am_back : (t p : ℕ) (n : Plan) (v : Bool) (e : Seen) → Amount t p (Stay (undo n)) (one (t == plan_job n))
-am_back t p n v e = (omega arith, refl)
+am_back : (t p : ℕ) (n : Plan) → Amount t p (Stay (after_push n)) (one (t == plan_job n))
+am_back t p (Detach r u) = (omega arith, refl)
+am_back t p (Here r u) = (omega arith, refl)
+am_back t p (Send o) = (omega arith, refl)
+am_back t p (Fork o a) = (omega arith, refl)
+am_back t p (Feed f) = (omega arith, refl)
+am_back t p (Open o) = (omega arith, refl)
+am_back t p (Enter e) = (omega arith, refl)
 
 pub not_pushed : (t : ℕ) (n : Plan) (v : Bool) (e : Seen) → is_done_seen e ≡ false → pushed t (PushJob n v) e ≡ 0
 not_pushed t (Detach r u) v Done z = cc
@@ -222,11 +242,15 @@ not_pushed t (Here r u) v Done z = cc
 not_pushed t (Send o) v Done z = cc
 not_pushed t (Fork o a) v Done z = cc
 not_pushed t (Feed f) v Done z = cc
+not_pushed t (Open o) v Done z = cc
+not_pushed t (Enter x) v Done z = cc
 not_pushed t (Detach r u) v _ z = refl
 not_pushed t (Here r u) v _ z = refl
 not_pushed t (Send o) v _ z = refl
 not_pushed t (Fork o a) v _ z = refl
 not_pushed t (Feed f) v _ z = refl
+not_pushed t (Open o) v _ z = refl
+not_pushed t (Enter x) v _ z = refl
 
 -- over the whole table: what a stack keeps after a move is what it kept, with what was raised, less what went with a
 -- job or was given back
@@ -310,7 +334,11 @@ amounts g q t p (GrowCall n) _ = (omega arith, refl)
 amounts g q t p (LookQueue n) Yes = (omega arith, refl)
 amounts g q t p (LookQueue n) _ = (omega arith, refl)
 amounts g q t p (PushJob n v) Done = (let b : share t (TellNews n v) + pushed t (PushJob n v) Done ≡ one (t == plan_job n) = am_push t n v in omega (arith, b), refl)
-amounts g q t p (PushJob n v) e = (let b : pushed t (PushJob n v) e ≡ 0 = not_pushed t n v e refl in omega (arith, b), refl)
+amounts g q t p (PushJob n v) e = (let a : Amount t p (Stay (after_push n)) (one (t == plan_job n)) = am_back t p n in let c : share t (after_push n) ≡ one (t == plan_job n) = a.0 in let b : pushed t (PushJob n v) e ≡ 0 = not_pushed t n v e refl in omega (arith, b, c), (let a : Amount t p (Stay (after_push n)) (one (t == plan_job n)) = am_back t p n in a.1))
+amounts g q t p (GrowScope o) Done = (omega arith, refl)
+amounts g q t p (GrowScope o) _ = (omega arith, refl)
+amounts g q t p (OpenSlot x) Done = (omega arith, refl)
+amounts g q t p (OpenSlot x) _ = (omega arith, refl)
 amounts g q t p (TellNews n v) (Wakes k) = (let a : Amount t p (walk g q (plan_pool n) k 0 (after_news n)) (share_then t (after_news n)) = am_walk t p g q (plan_pool n) k 0 (after_news n) in let b : share_move t (walk g q (plan_pool n) k 0 (after_news n)) ≡ share_then t (after_news n) = a.0 in let c : share_then t (after_news n) ≡ share_rest t n = am_goes t n in omega (arith, b, c), (let a : Amount t p (walk g q (plan_pool n) k 0 (after_news n)) (share_then t (after_news n)) = am_walk t p g q (plan_pool n) k 0 (after_news n) in a.1))
 amounts g q t p (TellNews n v) _ = (omega arith, refl)
 amounts g q t p (WakeWorker k) Yes = (omega arith, refl)
@@ -318,12 +346,13 @@ amounts g q t p (WakeWorker k) _ = (omega arith, refl)
 amounts g q t p (UnlockWoken k) e = (let a : Amount t p (walk g q k.pool k.owed (k.worker + 1) k.then) (share_then t k.then) = am_walk t p g q k.pool k.owed (k.worker + 1) k.then in let b : share_move t (walk g q k.pool k.owed (k.worker + 1) k.then) ≡ share_then t k.then = a.0 in omega (arith, b), (let a : Amount t p (walk g q k.pool k.owed (k.worker + 1) k.then) (share_then t k.then) = am_walk t p g q k.pool k.owed (k.worker + 1) k.then in a.1))
 amounts g q t p (TakeResult o f) (Found d) = (omega arith, refl)
 amounts g q t p (TakeResult o f) _ = (omega arith, refl)
-amounts g q t p (LowerCount r s n) Yes = (let a : Amount t p (settle g q r 0 n) (share_then t n) = am_settle t p g q r 0 n in let b : share_move t (settle g q r 0 n) ≡ share_then t n = a.0 in omega (arith, b), (let a : Amount t p (settle g q r 0 n) (share_then t n) = am_settle t p g q r 0 n in a.1))
+amounts g q t p (LowerCount r s n) Yes = (let a : Amount t p (settle_count g q r n) (share_then t n) = am_count t p g q r n in let b : share_move t (settle_count g q r n) ≡ share_then t n = a.0 in omega (arith, b), (let a : Amount t p (settle_count g q r n) (share_then t n) = am_count t p g q r n in a.1))
 amounts g q t p (LowerCount r s n) _ = (let a : Amount t p (finish q n) (share_then t n) = am_finish t p q n in let b : share_move t (finish q n) ≡ share_then t n = a.0 in omega (arith, b), (let a : Amount t p (finish q n) (share_then t n) = am_finish t p q n in a.1))
-amounts g q t p (StoreResult i o d) e = (let a : Amount t p (Stay (set_call i o)) (0) = am_set t p i o in let b : share_move t (Stay (set_call i o)) ≡ 0 = a.0 in omega (arith, b), (let a : Amount t p (Stay (set_call i o)) (0) = am_set t p i o in a.1))
+amounts g q t p (StoreResult i o d) e = (let a : Amount t p (Stay (set_call i o Resume)) (0) = am_set t p i o Resume in let b : share_move t (Stay (set_call i o Resume)) ≡ 0 = a.0 in omega (arith, b), (let a : Amount t p (Stay (set_call i o Resume)) (0) = am_set t p i o Resume in a.1))
 amounts g q t p (SetLatch k) Yes = (omega arith, refl)
 amounts g q t p (SetLatch k) _ = (let a : Amount t p (after_set g q k k.latch) (share_then t k.then) = am_settled t p g q k k.latch in let b : share_move t (after_set g q k k.latch) ≡ share_then t k.then = a.0 in omega (arith, b), (let a : Amount t p (after_set g q k k.latch) (share_then t k.then) = am_settled t p g q k k.latch in a.1))
 amounts g q t p (UnlockSettled k) e = (let a : Amount t p (after_set g q k k.latch) (share_then t k.then) = am_settled t p g q k k.latch in let b : share_move t (after_set g q k k.latch) ≡ share_then t k.then = a.0 in omega (arith, b), (let a : Amount t p (after_set g q k k.latch) (share_then t k.then) = am_settled t p g q k k.latch in a.1))
+amounts g q t p (SetLockLatch c n) e = (let a : Amount t p (finish q n) (share_then t n) = am_finish t p q n in let b : share_move t (finish q n) ≡ share_then t n = a.0 in omega (arith, b), (let a : Amount t p (finish q n) (share_then t n) = am_finish t p q n in a.1))
 amounts g q t p _ e = (omega arith, refl)
 
 -- a move keeps what its places and the frames below them do

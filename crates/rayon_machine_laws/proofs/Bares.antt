@@ -1,4 +1,6 @@
 -- how often a stack holds a job that has no share: before its Raise and after its Lower
+use Rattle.rayon_machine_places.specs.declared.place.Count.TheVariants.{OfPool, OfScope}
+use Rattle.rayon_machine_places.specs.declared.place.Count.{Count}
 use Rattle.rayon_machine_places.specs.declared.place.Mark.{Mark as Marking}
 use Rattle.rayon_machine_places.specs.declared.place.Mark.TheVariants.{Counted, Queued, Returned}
 use Rattle.rayon_machine_places.specs.declared.place.Pieces.{Pieces}
@@ -9,7 +11,7 @@ use Rattle.rayon_machine_places.specs.declared.place.Party.TheVariants.{Worker, 
 use Rattle.rayon_machine_places.specs.declared.place.Ending.{Ending}
 use Rattle.rayon_machine_places.specs.declared.place.Ending.TheVariants.{Fine, Fault}
 use Rattle.rayon_machine_places.specs.declared.place.JobKind.{JobKind}
-use Rattle.rayon_machine_places.specs.declared.place.JobKind.TheVariants.{Detached, Stored, Direct, TokenOf}
+use Rattle.rayon_machine_places.specs.declared.place.JobKind.TheVariants.{Detached, Stored, Direct, TokenOf, Scoped, BodyOf}
 use Rattle.rayon_machine_places.specs.declared.place.Target.{Target}
 use Rattle.rayon_machine_places.specs.declared.place.Target.TheVariants.{Termination, Answer}
 use Rattle.rayon_machine_places.specs.declared.place.Latch.{Latch}
@@ -17,13 +19,13 @@ use Rattle.rayon_machine_places.specs.declared.place.Latch.TheVariants.{Terminat
 use Rattle.rayon_machine_places.specs.declared.place.Rounds.{Rounds}
 use Rattle.rayon_machine_places.specs.declared.place.Rounds.TheVariants.{Failed, Announced}
 use Rattle.rayon_machine_places.specs.declared.place.Plan.{Plan}
-use Rattle.rayon_machine_places.specs.declared.place.Plan.TheVariants.{Detach, Here, Send, Fork, Feed}
+use Rattle.rayon_machine_places.specs.declared.place.Plan.TheVariants.{Detach, Here, Send, Fork, Feed, Open, Enter}
 use Rattle.rayon_machine_places.specs.declared.place.Then.{Then}
 use Rattle.rayon_machine_places.specs.declared.place.Then.TheVariants.{BeginFound, LeaveWait, Resume, Await, RunFirst, Answers, Missing, Ran, GiveBack, Called}
 use Rattle.rayon_machine_places.specs.declared.place.Taken.{Taken}
 use Rattle.rayon_machine_places.specs.declared.place.Taken.TheVariants.{Plain, Token}
 use Rattle.rayon_machine_places.specs.declared.place.Place.{Place}
-use Rattle.rayon_machine_places.specs.declared.place.Place.TheVariants.{ProbeWorking, PopWorking, TakeCastWorking, ProbeIdle, PopIdle, TakeCastIdle, PickVictim, StealFrom, PopInjected, AnnounceSelf, GetSleepy, FallAsleep, LoadCounters, AddSleeping, LookAtCast, LookAtInjector, WakeUp, LeaveSearch, JoinProbe, JoinPop, JoinTakeCast, YieldPop, YieldTakeCast, YieldPick, YieldSteal, YieldPopInjected, LocalPop, LocalTakeCast, BeginTask, BeginHere, RaiseCount, GrowCall, LookQueue, PushJob, TellNews, LockToWake, WakeWorker, UnlockWoken, TakeResult, LowerCount, StoreResult, SetLatch, LockToSettle, WakeSettled, UnlockSettled, FirstSide, SecondSide, AtOnce, AddToFifo, LookForToken, PushToken, TakeFromFifo, RaiseForAll, PushForAll, LowerForAll}
+use Rattle.rayon_machine_places.specs.declared.place.Place.TheVariants.{ProbeWorking, PopWorking, TakeCastWorking, ProbeIdle, PopIdle, TakeCastIdle, PickVictim, StealFrom, PopInjected, AnnounceSelf, GetSleepy, FallAsleep, LoadCounters, AddSleeping, LookAtCast, LookAtInjector, WakeUp, LeaveSearch, JoinProbe, JoinPop, JoinTakeCast, YieldPop, YieldTakeCast, YieldPick, YieldSteal, YieldPopInjected, LocalPop, LocalTakeCast, BeginTask, BeginHere, RaiseCount, GrowCall, LookQueue, PushJob, TellNews, LockToWake, WakeWorker, UnlockWoken, TakeResult, LowerCount, StoreResult, SetLatch, LockToSettle, WakeSettled, UnlockSettled, FirstSide, SecondSide, AtOnce, AddToFifo, LookForToken, PushToken, TakeFromFifo, RaiseForAll, PushForAll, LowerForAll, GrowScope, OpenSlot, SetLockLatch, ScopeBody}
 use Rattle.rayon_machine_places.specs.declared.place.Move.{Move}
 use Rattle.rayon_machine_places.specs.declared.place.Move.TheVariants.{Stay, Enter, StartRun, Back, HandBack, Discard, HandIn, Mark, HandAllBack}
 use Rattle.rayon_machine_places.specs.declared.act.Seen.{Seen}
@@ -34,7 +36,7 @@ use Rattle.rayon_machine_places.specs.declared.state.Job.{Job}
 use Rattle.rayon_machine_places.specs.declared.shape.PoolShape.{PoolShape}
 use Rattle.rayon_machine_places.specs.declared.place.Wait.{Wait}
 use Rattle.rayon_machine_places.specs.declared.place.Settling.{Settling}
-use Rattle.rayon_machine_places.specs.Places.{own_pool, own_index, plan_pool, plan_job, after_wait, finish, walk, settle, after_set, after_found, after_news, goes_on, after_raise, set_call, next_victim, not_self, after_failure, next_steal, next_yield, next_of, is_taken}
+use Rattle.rayon_machine_places.specs.Places.{own_pool, own_index, plan_pool, plan_job, after_wait, finish, walk, settle, after_set, after_found, after_news, goes_on, after_raise, set_call, next_victim, not_self, after_failure, next_steal, next_yield, next_of, is_taken, settle_count, after_push}
 use Rattle.rayon_machine_places.specs.World.{Stack, at_job, begun}
 use Rattle.rayon_machine_places.specs.Steps.{put, after_move, jobs_after, after_close, is_piece, mark_pieces, marked}
 use Rattle.rayon_machine_laws.specs.Once.{one}
@@ -70,6 +72,7 @@ bare t (WakeWorker k) = bare_then t k.then
 bare t (UnlockWoken k) = bare_then t k.then
 bare t (LowerCount p s n) = bare_then t n - share_of t s
 bare t (SetLatch k) = bare_then t k.then
+bare t (SetLockLatch c n) = bare_then t n
 bare t (LockToSettle k) = bare_then t k.then
 bare t (WakeSettled k) = bare_then t k.then
 bare t (UnlockSettled k) = bare_then t k.then
@@ -114,6 +117,7 @@ bare_hand t (WakeWorker k) = bare_hand_then t k.then
 bare_hand t (UnlockWoken k) = bare_hand_then t k.then
 bare_hand t (LowerCount p s n) = let a : bare_then t n ≤ hand_then t n = bare_hand_then t n in omega (arith, a)
 bare_hand t (SetLatch k) = bare_hand_then t k.then
+bare_hand t (SetLockLatch c n) = bare_hand_then t n
 bare_hand t (LockToSettle k) = bare_hand_then t k.then
 bare_hand t (WakeSettled k) = bare_hand_then t k.then
 bare_hand t (UnlockSettled k) = bare_hand_then t k.then
@@ -132,6 +136,8 @@ bare_raised t (Here r u) = omega arith
 bare_raised t (Send o) = omega arith
 bare_raised t (Fork o a) = omega arith
 bare_raised t (Feed f) = omega arith
+bare_raised t (Open o) = omega arith
+bare_raised t (Enter e) = omega arith
 
 bare_left : (t : ℕ) (g : Target) → bare_move t (Stay (after_wait g)) ≤ 0
 bare_left t Termination = omega arith
@@ -200,14 +206,29 @@ bare_goes t (Here r u) = omega arith
 bare_goes t (Send o) = omega arith
 bare_goes t (Fork o a) = omega arith
 bare_goes t (Feed f) = omega arith
+bare_goes t (Open o) = omega arith
+bare_goes t (Enter e) = omega arith
 
 bare_after : (t : ℕ) (g : Target) (o : Option Taken) → bare_then t (after_found g o) ≤ 0
 bare_after t g None = omega arith
 bare_after t g (Some u) = omega arith
 
-bare_set : (t : ℕ) (c : ℕ) (o : Party) → bare_move t (Stay (set_call c o)) ≤ 0
-bare_set t c (Worker a b) = omega arith
-bare_set t c (Caller n) = omega arith
+bare_set : (t : ℕ) (c : ℕ) (o : Party) (n : Then) → bare_move t (Stay (set_call c o n)) ≤ bare_then t n
+bare_set t c (Worker a b) n = omega arith
+bare_set t c (Caller m) n = omega arith
+
+bare_count : (t : ℕ) (g : PoolShape) (q : Party) (k : Count) (n : Then) → bare_move t (settle_count g q k n) ≤ bare_then t n
+bare_count t g q (OfPool r) n = bare_settle t g q r 0 n
+bare_count t g q (OfScope c o) n = bare_set t c o n
+
+bare_unpushed : (t : ℕ) (n : Plan) → bare t (after_push n) ≤ hand_plan t n - one (t == plan_job n)
+bare_unpushed t (Detach r u) = omega arith
+bare_unpushed t (Here r u) = omega arith
+bare_unpushed t (Send o) = omega arith
+bare_unpushed t (Fork o a) = omega arith
+bare_unpushed t (Feed f) = omega arith
+bare_unpushed t (Open o) = omega arith
+bare_unpushed t (Enter e) = omega arith
 
 -- over the whole table: no move leads to more of them, but for the share that is given back
 pub bares : (g : PoolShape) (q : Party) (t : ℕ) (x : Place) (e : Seen) → bare_move t (next_of g q x e) ≤ bare t x + paid t x
@@ -291,7 +312,7 @@ bares g q t (LookQueue n) Yes = omega arith
 bares g q t (LookQueue n) _ = omega arith
 bares g q t (PushJob (Feed f) v) Done = omega arith
 bares g q t (PushJob n v) Done = omega arith
-bares g q t (PushJob n v) e = omega arith
+bares g q t (PushJob n v) e = let a : bare t (after_push n) ≤ hand_plan t n - one (t == plan_job n) = bare_unpushed t n in omega (arith, a)
 bares g q t (TellNews n v) (Wakes k) = let a : bare_move t (walk g q (plan_pool n) k 0 (after_news n)) ≤ bare_then t (after_news n) = bare_walk t g q (plan_pool n) k 0 (after_news n) in let b : bare_then t (after_news n) ≤ bare_rest t n = bare_goes t n in omega (arith, a, b)
 bares g q t (TellNews n v) _ = omega arith
 bares g q t (WakeWorker k) Yes = omega arith
@@ -299,12 +320,17 @@ bares g q t (WakeWorker k) _ = omega arith
 bares g q t (UnlockWoken k) e = let a : bare_move t (walk g q k.pool k.owed (k.worker + 1) k.then) ≤ bare_then t k.then = bare_walk t g q k.pool k.owed (k.worker + 1) k.then in omega (arith, a)
 bares g q t (TakeResult o f) (Found d) = omega arith
 bares g q t (TakeResult o f) _ = omega arith
-bares g q t (LowerCount r s n) Yes = let a : bare_move t (settle g q r 0 n) ≤ bare_then t n = bare_settle t g q r 0 n in omega (arith, a)
+bares g q t (LowerCount r s n) Yes = let a : bare_move t (settle_count g q r n) ≤ bare_then t n = bare_count t g q r n in omega (arith, a)
 bares g q t (LowerCount r s n) _ = let a : bare_move t (finish q n) ≤ bare_then t n = bare_finish t q n in omega (arith, a)
-bares g q t (StoreResult i o d) e = let a : bare_move t (Stay (set_call i o)) ≤ 0 = bare_set t i o in omega (arith, a)
+bares g q t (StoreResult i o d) e = let a : bare_move t (Stay (set_call i o Resume)) ≤ 0 = bare_set t i o Resume in omega (arith, a)
 bares g q t (SetLatch k) Yes = omega arith
 bares g q t (SetLatch k) _ = let a : bare_move t (after_set g q k k.latch) ≤ bare_then t k.then = bare_settled t g q k k.latch in omega (arith, a)
 bares g q t (UnlockSettled k) e = let a : bare_move t (after_set g q k k.latch) ≤ bare_then t k.then = bare_settled t g q k k.latch in omega (arith, a)
+bares g q t (SetLockLatch c n) e = let a : bare_move t (finish q n) ≤ bare_then t n = bare_finish t q n in omega (arith, a)
+bares g q t (GrowScope o) Done = omega arith
+bares g q t (GrowScope o) _ = omega arith
+bares g q t (OpenSlot x) Done = omega arith
+bares g q t (OpenSlot x) _ = omega arith
 bares g q t _ e = omega arith
 
 spent_back : (J : ℕ → Job) (k t : ℕ) → backs (put J k (at_job (J k) Spent) t).at ≤ backs (J t).at
@@ -380,6 +406,8 @@ land_bare q t (HandBack n) fs J = let a : backs (jobs_after q (HandBack n) J t).
     plan (Detach p a) = put_back J a t
     plan (Here p a) = put_back J a t
     plan (Send o) = put_back J (o.job) t
+    plan (Open o) = put_back J (o.job) t
+    plan (Enter e) = put_back J (e.job) t
     plan (Feed d) = let b : backs (put J (d.job) (at_job (J (d.job)) HandedBack) t).at ≤ one (t == d.job) + backs (J t).at = put_back J (d.job) t in by (t == d.token) b
       where
         by : (z : Bool) → backs (put J (d.job) (at_job (J (d.job)) HandedBack) t).at ≤ one (t == d.job) + backs (J t).at → backs (if z then at_job (J (d.token)) HandedBack else put J (d.job) (at_job (J (d.job)) HandedBack) t).at ≤ one (t == d.job) + one z + backs (J t).at
@@ -398,13 +426,17 @@ bare_on : (s : ℕ) (f : Place) (e : Ending) → bare s (goes_on f e) ≤ bare s
 bare_on s (FirstSide o a) Fine = omega arith
 bare_on s (FirstSide o a) Fault = omega arith
 bare_on s (SecondSide o) e = omega arith
+bare_on s (ScopeBody o) e = omega arith
 bare_on s (AtOnce p t) e = omega arith
 bare_on s f e = omega arith
 
 pub closed_bare : (s t : ℕ) (k : JobKind) (e : Ending) (fs : List Place) → all_bare s (after_close t k e fs) ≤ bare_in s fs
 closed_bare s t (Detached p) e fs = omega arith
 closed_bare s t (Stored c o) e fs = omega arith
+closed_bare s t (Scoped c o) e fs = omega arith
 closed_bare s t Direct e [] = omega arith
 closed_bare s t (TokenOf i9) e [] = omega arith
+closed_bare s t (BodyOf c9 o9) e [] = omega arith
 closed_bare s t Direct e (f ∷ fs) = let a : bare s (goes_on f e) ≤ bare s f = bare_on s f e in omega (arith, a)
 closed_bare s t (TokenOf i9) e (f ∷ fs) = let a : bare s (goes_on f e) ≤ bare s f = bare_on s f e in omega (arith, a)
+closed_bare s t (BodyOf c9 o9) e (f ∷ fs) = let a : bare s (goes_on f e) ≤ bare s f = bare_on s f e in omega (arith, a)

@@ -7,11 +7,11 @@ use Rattle.rayon_machine_places.specs.declared.place.Party.{Party}
 use Rattle.rayon_machine_places.specs.declared.place.Party.TheVariants.{Worker, Caller}
 use Rattle.rayon_machine_places.specs.declared.place.Pieces.{Pieces}
 use Rattle.rayon_machine_places.specs.declared.place.Ending.{Ending}
-use Rattle.rayon_machine_places.specs.declared.place.JobKind.TheVariants.{Detached, Stored, Direct, TokenOf}
+use Rattle.rayon_machine_places.specs.declared.place.JobKind.TheVariants.{Detached, Stored, Direct, Scoped, TokenOf, BodyOf}
 use Rattle.rayon_machine_places.specs.declared.place.Mark.TheVariants.{Counted, Queued, Returned}
 use Rattle.rayon_machine_places.specs.declared.place.Mark.{Mark as Marking}
 use Rattle.rayon_machine_places.specs.declared.place.Plan.{Plan}
-use Rattle.rayon_machine_places.specs.declared.place.Plan.TheVariants.{Detach, Here, Send, Fork, Feed}
+use Rattle.rayon_machine_places.specs.declared.place.Plan.TheVariants.{Detach, Here, Send, Fork, Feed, Open, Enter}
 use Rattle.rayon_machine_places.specs.declared.place.Taken.TheVariants.{Plain, Token}
 use Rattle.rayon_machine_places.specs.declared.place.Place.{Place}
 use Rattle.rayon_machine_places.specs.declared.place.Place.TheVariants.{PopWorking, TakeCastWorking, PopIdle, TakeCastIdle, StealFrom, PopInjected, JoinPop, JoinTakeCast, YieldPop, YieldTakeCast, YieldSteal, YieldPopInjected, LocalPop, LocalTakeCast, BeginTask, BeginHere, PushJob, PushToken, AddToFifo, TakeFromFifo, PushForAll, PickVictim, YieldPick, Run}
@@ -21,16 +21,16 @@ use Rattle.rayon_machine_places.specs.declared.act.Act.TheVariants.{PushInj, Pus
 use Rattle.rayon_machine_places.specs.declared.act.Seen.{Seen}
 use Rattle.rayon_machine_places.specs.declared.act.Seen.TheVariants.{Done, Missing}
 use Rattle.rayon_machine_places.specs.declared.event.Event.{Event}
-use Rattle.rayon_machine_places.specs.declared.event.Event.TheVariants.{Go, From, Refuse, Miss, End, Spawn, Fifo, Cast, Install, Join, Yield, YieldLocal, EndPool}
+use Rattle.rayon_machine_places.specs.declared.event.Event.TheVariants.{Go, From, Refuse, Miss, End, Spawn, Fifo, Cast, Install, Join, Scope as OpenScope, IntoSpawn, Yield, YieldLocal, EndPool}
 use Rattle.rayon_machine_places.specs.declared.state.Whereabouts.{Whereabouts}
 use Rattle.rayon_machine_places.specs.declared.state.Whereabouts.TheVariants.{Made, InDeque, Injected, InFifo, InCast, Retaken, Running, Over, HandedBack, Spent}
 use Rattle.rayon_machine_places.specs.declared.state.Job.{Job}
-use Rattle.rayon_machine_places.specs.Places.{same_party, is_member, is_free, is_refusable, plan_job, plan_pool, act_of, next_of, own_pool, own_index}
+use Rattle.rayon_machine_places.specs.Places.{same_party, is_member, is_free, is_refusable, plan_book, plan_job, plan_pool, act_of, next_of, own_pool, own_index}
 use Rattle.rayon_machine_places.specs.World.{Shape, Stack, World, Part, Counts, counts_at, effect, target_pool, target_worker, target_call, at_job, begun, popped, take_cast, pop_injector, own_of, own_left, head_of, last_of, but_first, but_last, or_none, is_open}
-use Rattle.rayon_machine_places.specs.Steps.{put, part_of, jobs_after, is_piece, mark_pieces, marked, put_pieces, new_piece, new_job, after_choice, after_miss, after_end, after_spawn, after_cast, after_send, after_install, after_join, after_yield, can_miss, is_pool, step}
+use Rattle.rayon_machine_places.specs.Steps.{put, part_of, jobs_after, is_piece, mark_pieces, marked, put_pieces, new_piece, new_job, after_choice, after_miss, after_end, after_spawn, after_cast, after_send, after_install, after_join, after_scope, after_into, after_yield, can_miss, holds, is_pool, step}
 use Rattle.rayon_machine_places.specs.Runs.{IsRun, start}
 use Rattle.rayon_machine_laws.specs.Once.{IsOnce, IsBound, is_own_place, in_deque, in_injector, in_fifo, in_cast, is_with, one, times, held, held_in}
-use Rattle.rayon_machine_laws.proofs.Frame.{and_parts, fifo_cases, if_cond, if_some_and, if_some_map, acted_keeps, out_sees, undo_sees, put_same, same_index, same_party_true, after_kind, after_bound}
+use Rattle.rayon_machine_laws.proofs.Frame.{and_parts, fifo_cases, into_cases, if_cond, if_some_and, if_some_map, acted_keeps, out_sees, undo_sees, put_same, same_index, same_party_true, after_kind, after_bound}
 use Rattle.rayon_machine_laws.proofs.Ties.{job_at, outcome, result}
 use Rattle.rayon_machine_laws.proofs.Events.{run_keeps}
 use Rattle.rayon_machine_laws.proofs.Lists.{SameJobs, moves_no_job, quiet_same, times_first, times_own, times_drop}
@@ -139,11 +139,13 @@ plan_none w q (Detach p t) m e s i b k = free_none m (ap (λ j. j.bound) e ∙ s
 plan_none w q (Here p t) m e s i b k = free_none m (ap (λ j. j.bound) e ∙ s.bound) i b
 plan_none w q (Feed f) m e s i b k = free_none m (ap (λ j. j.bound) e ∙ (s.0).bound) i b
 plan_none w q (Send o) m e s i b k = other_none m (ap (λ j. is_detached (j.kind)) e ∙ ap is_detached ((s.0).kind)) k
+plan_none w q (Open o) m e s i b k = other_none m (ap (λ j. is_detached (j.kind)) e ∙ ap is_detached ((s.0).kind)) k
+plan_none w q (Enter x) m e s i b k = free_none m (ap (λ j. j.bound) e ∙ (s.0).bound) i b
 plan_none w q (Fork o a) m e s i b k = other_none m (ap (λ j. is_detached (j.kind)) e ∙ ap is_detached ((s.0).kind)) k
 
-push_moves : (w : World) (q : Party) (n : Plan) (z : Bool) → SaysPlan w q n → IfSome (outcome_of w q (if z then PushOwn (plan_job n) else PushInj (plan_pool n) (plan_job n))) (Moves (part_of w (target_pool q (if z then PushOwn (plan_job n) else PushInj (plan_pool n) (plan_job n))) (target_worker q (if z then PushOwn (plan_job n) else PushInj (plan_pool n) (plan_job n))) (target_call (if z then PushOwn (plan_job n) else PushInj (plan_pool n) (plan_job n))) (job_at w q (if z then PushOwn (plan_job n) else PushInj (plan_pool n) (plan_job n)))))
-push_moves w q n true s = λ i b k y. plan_none w q n (part_of w (own_pool q) (own_index q) 0 (plan_job n)) refl s i b k
-push_moves w q n false s = λ i b k y. plan_none w q n (part_of w (plan_pool n) (own_index q) 0 (plan_job n)) refl s i b k
+push_moves : (w : World) (q : Party) (n : Plan) (z : Bool) → SaysPlan w q n → IfSome (outcome_of w q (if z then PushOwn (plan_job n) (plan_book n) else PushInj (plan_pool n) (plan_job n) (plan_book n))) (Moves (part_of w (target_pool q (if z then PushOwn (plan_job n) (plan_book n) else PushInj (plan_pool n) (plan_job n) (plan_book n))) (target_worker q (if z then PushOwn (plan_job n) (plan_book n) else PushInj (plan_pool n) (plan_job n) (plan_book n))) (target_call (if z then PushOwn (plan_job n) (plan_book n) else PushInj (plan_pool n) (plan_job n) (plan_book n))) (job_at w q (if z then PushOwn (plan_job n) (plan_book n) else PushInj (plan_pool n) (plan_job n) (plan_book n)))))
+push_moves w q n true s = λ i b k y. plan_none w q n (part_of w (own_pool q) (own_index q) (or_none (plan_book n)) (plan_job n)) refl s i b k
+push_moves w q n false s = λ i b k y. plan_none w q n (part_of w (plan_pool n) (own_index q) (or_none (plan_book n)) (plan_job n)) refl s i b k
 
 quiet_moves : (h : Shape) (q : Party) (c : Counts) (m : Part) (x : Place) → moves_no_job x ≡ true → IfSome (effect (act_of q x) h q c m) (Moves m)
 quiet_moves h q c m x z = if_some_map (SameJobs m) (Moves m) (λ r s. same_moves m r (s.at)) (effect (act_of q x) h q c m) (quiet_same h q c m x z)
@@ -256,6 +258,8 @@ after_own q (StartRun f a) J t i g b k o = by (t == a) refl
 after_own q (HandBack (Detach p a)) J t i g b k o = back_own J a t i o
 after_own q (HandBack (Here p a)) J t i g b k o = back_own J a t i o
 after_own q (HandBack (Send a)) J t i g b k o = back_own J a.job t i o
+after_own q (HandBack (Open a)) J t i g b k o = back_own J a.job t i o
+after_own q (HandBack (Enter a)) J t i g b k o = back_own J a.job t i o
 after_own q (HandBack (Feed d)) J t i g b k o = two_own J d.job d.token t i o
 after_own q (HandBack (Fork d a)) J t i g b k o = two_own J a d.job t i o
 after_own q (Mark y c Counted) J t i g b k o = pieces_own c Counted J t i (λ z. absurd (cc)) b o
@@ -385,6 +389,12 @@ join_kept : (w : World) (q : Party) → BoundsHold w → IfSome (after_join w q 
 join_kept w (Worker a b) h = if_cond Kept (is_free ((w.stack (Worker a b)).top)) _ (λ z. both_kept w w.jobs (w.jobs + 1) (new_job (Worker a b) a Direct) (new_job (Worker a b) a (Stored w.calls (Worker a b))) h refl refl)
 join_kept w (Caller n) h = tt
 
+scope_kept : (w : World) (q : Party) (r : ℕ) → BoundsHold w → IfSome (after_scope w q r (w.stack q)) Kept
+scope_kept w q r h = if_cond Kept (is_free ((w.stack q).top) && is_pool w.shape r) _ (λ b. put_kept w w.jobs (new_job q r (BodyOf w.calls q)) h refl)
+
+into_kept : (w : World) (q : Party) (n : ℕ) → BoundsHold w → IfSome (after_into w q n (w.stack q)) Kept
+into_kept w q n h = into_cases Kept w q n (λ z e free held. if_cond Kept (is_free ((w.stack q).top) && holds z.call (w.stack q)) _ (λ b. put_kept w w.jobs (new_job q z.pool (Scoped z.call z.owner)) h refl))
+
 yield_kept : (w : World) (q : Party) (x : Place) → BoundsHold w → IfSome (after_yield w q (w.stack q) x) Kept
 yield_kept w (Worker a b) x h = if_cond Kept (is_free ((w.stack (Worker a b)).top)) _ (λ z. same_kept w h)
 yield_kept w (Caller c) x h = tt
@@ -400,6 +410,8 @@ each_kept w (Fifo q p) h = fifo_cases Kept w q p (spawn_kept w q p h) (λ i free
 each_kept w (Cast q p) h = cast_kept w q p h
 each_kept w (Install q p) h = install_kept w q p h
 each_kept w (Join q) h = join_kept w q h
+each_kept w (OpenScope q p) h = scope_kept w q p h
+each_kept w (IntoSpawn q n) h = into_kept w q n h
 each_kept w (Yield q) h = yield_kept w q YieldPop h
 each_kept w (YieldLocal q) h = yield_kept w q LocalPop h
 each_kept w (EndPool q p) h = if_cond Kept (is_free ((w.stack q).top) && (is_pool w.shape p && (w.pool p).held)) _ (λ b. same_kept w h)

@@ -1,5 +1,7 @@
 -- each act keeps what the places say, and what cells and latches hold
 use Rattle.rayon_machine_places.specs.declared.place.Pieces.{Pieces}
+use Rattle.rayon_machine_places.specs.declared.place.Count.TheVariants.{OfPool, OfScope}
+use Rattle.rayon_machine_places.specs.declared.place.Count.{Count}
 use Rattle.std.proofs.Common.{rules, arith, refl, sym, ◌∙◌, ap, subst, inl, inr}
 use Rattle.std.specs.Prelude.{ℕ, Bool, true, false, not, ◌+◌, ◌-◌, ◌==◌, ◌≤◌, ◌<◌, if◌then◌else◌, Option, Some, None, List, [], ◌∷◌, ◌≡◌, IfSome, ◌⊎◌, ⊤, ◌++◌}
 use Rattle.std.proofs.lemmas.Bool.{eqb-true, ltb-true, ltb-false, eq-eqb}
@@ -15,17 +17,17 @@ use Rattle.rayon_machine_places.specs.declared.place.Then.{Then}
 use Rattle.rayon_machine_places.specs.declared.place.Taken.TheVariants.{Plain, Token}
 use Rattle.rayon_machine_places.specs.declared.act.Act.TheVariants.{FifoOut, FifoUndo, PushOwn, PushInj}
 use Rattle.rayon_machine_places.specs.declared.place.Place.{Place}
-use Rattle.rayon_machine_places.specs.declared.place.Place.TheVariants.{ProbeWorking, PopWorking, TakeCastWorking, PopIdle, TakeCastIdle, StealFrom, PopInjected, GetSleepy, FallAsleep, WakeUp, JoinPop, JoinTakeCast, YieldPop, YieldTakeCast, YieldSteal, YieldPopInjected, LocalPop, LocalTakeCast, BeginTask, GrowCall, TakeResult, LowerCount, StoreResult, SetLatch, SetLockLatch, TakeFromFifo, AddToFifo, PushToken, PushJob, BeginHere, PushForAll, LowerForAll}
+use Rattle.rayon_machine_places.specs.declared.place.Place.TheVariants.{ProbeWorking, PopWorking, TakeCastWorking, PopIdle, TakeCastIdle, StealFrom, PopInjected, GetSleepy, FallAsleep, WakeUp, JoinPop, JoinTakeCast, YieldPop, YieldTakeCast, YieldSteal, YieldPopInjected, LocalPop, LocalTakeCast, BeginTask, GrowCall, TakeResult, LowerCount, StoreResult, SetLatch, SetLockLatch, TakeFromFifo, AddToFifo, PushToken, PushJob, BeginHere, PushForAll, LowerForAll, GrowScope, StoreBody}
 use Rattle.rayon_machine_places.specs.declared.act.Seen.{Seen}
 use Rattle.rayon_machine_places.specs.declared.act.Seen.TheVariants.{Yes, No, Task, Missing, Begun, Found, Handed}
 use Rattle.rayon_machine_places.specs.declared.state.Letter.{Letter}
 use Rattle.rayon_machine_places.specs.declared.state.Letter.TheVariants.{Sleeping, Set as IsSet}
 use Rattle.rayon_machine_places.specs.declared.place.OpenCall.{OpenCall}
 use Rattle.rayon_machine_places.specs.declared.place.Settling.{Settling}
-use Rattle.rayon_machine_places.specs.Places.{latch_of, act_of, next_of, taken_number, plan_job, plan_pool, is_member}
-use Rattle.rayon_machine_places.specs.World.{Shape, Stack, World, Counts, Part, head_of, own_of, or_none, target_job, Outcome, letter, with_letter, set_latch, found, popped, take_cast, pop_injector, lowered, effect, is_open, but_last, at_job, taken_as}
+use Rattle.rayon_machine_places.specs.Places.{latch_of, act_of, next_of, taken_number, plan_job, plan_pool, is_member, plan_book}
+use Rattle.rayon_machine_places.specs.World.{Shape, Stack, World, Counts, Part, head_of, own_of, or_none, target_job, Outcome, letter, with_letter, set_latch, found, popped, take_cast, pop_injector, lowered, effect, is_open, but_last, at_job, taken_as, count_in, put_body}
 use Rattle.rayon_machine_places.specs.Steps.{put, part_of, after}
-use Rattle.rayon_machine_laws.proofs.Frame.{either, if_some_all, if_some_map, put_same, after_kind, after_pool, out_sees, undo_sees, if_cond, after_bound}
+use Rattle.rayon_machine_laws.proofs.Frame.{either, if_some_all, if_some_map, put_same, after_kind, after_pool, out_sees, undo_sees, if_cond, after_bound, book_sees}
 use Rattle.rayon_machine_laws.proofs.Hands.{held}
 use Rattle.rayon_machine_laws.specs.Once.{one, times}
 use Rattle.rayon_machine_laws.proofs.Lists.{SameJobs, quiet_same, times_push, times_drop}
@@ -59,6 +61,7 @@ lasting w q k p i c n r s o = record {
     target = λ d b. targets d;
     side = λ d b. put_same (λ j. j.first) w.call c (r.1.call) d (s.side);
     ended = λ a z. ends a (a == p) refl z;
+    spent = λ d b z. spents d (d == c) refl z;
     given = λ a z. put_same (λ j. j.held) w.pool p (r.1.pool) a (s.held) ∙ z;
   };
   kinds = kinds;
@@ -70,6 +73,10 @@ lasting w q k p i c n r s o = record {
 
     targets : (d : ℕ) → ((after w q k p i c n r).call d).job ≡ (w.call d).job
     targets d = put_same (λ j. j.job) w.call c (r.1.call) d (s.target)
+
+    spents : (d : ℕ) (z : Bool) → (d == c) ≡ z → (w.call d).count ≡ 0 → (if z then r.1.call else w.call d).count ≡ 0
+    spents d true z e = s.spent (ap (λ b. (w.call b).count) (sym (eqb-true d c z)) ∙ e)
+    spents d false z e = e
 
     ends : (a : ℕ) (z : Bool) → (a == p) ≡ z → (w.pool a).count ≡ 0 → (if z then r.1.pool else w.pool a).count ≡ 0
     ends a true z e = s.ended (ap (λ b. (w.pool b).count) (sym (eqb-true a p z)) ∙ e)
@@ -104,7 +111,7 @@ Learned h q m YieldPopInjected (Task t, n) = Took h q m YieldPopInjected t n
 Learned h q m LocalPop (Task t, n) = Took h q m LocalPop t n
 Learned h q m LocalTakeCast (Task t, n) = Took h q m LocalTakeCast t n
 Learned h q m (TakeResult o f) (Found e, n) = m.call.cell ≡ Some e
-Learned h q m (LowerCount p s k) (Yes, n) = n.pool.count ≡ 0
+Learned h q m (LowerCount p s k) (Yes, n) = count_in n p ≡ 0
 Learned h q m (LowerForAll b) (Yes, n) = n.pool.count ≡ 0
 Learned h q m (BeginTask (Plain t)) (Begun k, n) = m.job.kind ≡ k
 Learned h q m (BeginTask (Token k i)) (Handed t d, n) = (target_job h q (FifoOut k i) m.pool m.seat ≡ t) × (1 ≤ times t m.seat.fifo) × (m.job.kind ≡ d)
@@ -115,16 +122,16 @@ take_learned : (h : Shape) (q : Party) (m : Part) (o : OpenCall) (f : Option End
 take_learned h q m o f None e = tt
 take_learned h q m o f (Some d) e = e
 
-lower_learned : (h : Shape) (q : Party) (m : Part) (p : ℕ) (s : Share) (k : Then) → Learned h q m (LowerCount p s k) ((if m.pool.count == 1 then Yes else No), lowered m s)
-lower_learned h q m p s k = by (m.pool.count == 1) refl
+lower_learned : (h : Shape) (q : Party) (m : Part) (p : Count) (s : Share) (k : Then) → Learned h q m (LowerCount p s k) ((if count_in m p == 1 then Yes else No), lowered m p s)
+lower_learned h q m p s k = by p (count_in m p == 1) refl
   where
-    zero_left : (a : Share) → m.pool.count ≡ 1 → (lowered m a).pool.count ≡ 0
-    zero_left PoolValue e = let g : m.pool.count - 1 ≡ 0 = omega (arith, e) in g
-    zero_left (OfJob t) e = let g : m.pool.count - 1 ≡ 0 = omega (arith, e) in g
+    zero_left : (j : Count) → count_in m j ≡ 1 → count_in (lowered m j s) j ≡ 0
+    zero_left (OfPool r) e = let n : m.pool.count ≡ 1 = e in let g : m.pool.count - 1 ≡ 0 = omega (arith, n) in g
+    zero_left (OfScope c o) e = let n : m.call.count ≡ 1 = e in let g : m.call.count - 1 ≡ 0 = omega (arith, n) in g
 
-    by : (z : Bool) → (m.pool.count == 1) ≡ z → Learned h q m (LowerCount p s k) ((if z then Yes else No), lowered m s)
-    by true e = zero_left s (eqb-true (m.pool.count) 1 e)
-    by false e = tt
+    by : (j : Count) (z : Bool) → (count_in m j == 1) ≡ z → Learned h q m (LowerCount j s k) ((if z then Yes else No), lowered m j s)
+    by j true e = zero_left j (eqb-true (count_in m j) 1 e)
+    by j false e = tt
 
 lower_all_learned : (h : Shape) (q : Party) (m : Part) (b : Pieces) → Learned h q m (LowerForAll b) ((if m.pool.count == b.workers then Yes else No), record m { pool = record (m.pool) { count = m.pool.count - b.workers } })
 lower_all_learned h q m b = by (m.pool.count == b.workers) refl
@@ -272,9 +279,9 @@ cast_lined : (q : Party) (m : Part) (t : ℕ) (l : List ℕ) → IfSome (take_ca
 cast_lined q m t [] = omega arith
 cast_lined q m t (u ∷ us) = omega arith
 
-push_lined : (h : Shape) (q : Party) (c : Counts) (m : Part) (t u p : ℕ) (z : Bool) → IfSome (effect (if z then PushOwn u else PushInj p u) h q c m) (λ r. times t (r.1.seat.fifo) ≤ times t m.seat.fifo + 0)
-push_lined h q c m t u p true = omega arith
-push_lined h q c m t u p false = omega arith
+push_lined : (h : Shape) (q : Party) (c : Counts) (m : Part) (t u p : ℕ) (k : Option ℕ) (z : Bool) → IfSome (effect (if z then PushOwn u k else PushInj p u k) h q c m) (λ r. times t (r.1.seat.fifo) ≤ times t m.seat.fifo + 0)
+push_lined h q c m t u p k true = omega arith
+push_lined h q c m t u p k false = omega arith
 
 pub line_table : (h : Shape) (q : Party) (c : Counts) (m : Part) (t : ℕ) (x : Place) → IfSome (effect (act_of q x) h q c m) (Lines m t x)
 line_table h (Worker a b) c m t (PopWorking k) = pop_lined (Worker a b) m t _ _
@@ -305,8 +312,8 @@ line_table h (Worker a b) c m t YieldTakeCast = cast_lined (Worker a b) m t (m.p
 line_table h (Caller n) c m t YieldTakeCast = tt
 line_table h (Worker a b) c m t LocalTakeCast = cast_lined (Worker a b) m t (m.pool.casts b)
 line_table h (Caller n) c m t LocalTakeCast = tt
-line_table h (Worker a b) c m t (PushJob n v) = push_lined h (Worker a b) c m t (plan_job n) (plan_pool n) (is_member (Worker a b) (plan_pool n))
-line_table h (Caller g) c m t (PushJob n v) = push_lined h (Caller g) c m t (plan_job n) (plan_pool n) (is_member (Caller g) (plan_pool n))
+line_table h (Worker a b) c m t (PushJob n v) = push_lined h (Worker a b) c m t (plan_job n) (plan_pool n) (plan_book n) (is_member (Worker a b) (plan_pool n))
+line_table h (Caller g) c m t (PushJob n v) = push_lined h (Caller g) c m t (plan_job n) (plan_pool n) (plan_book n) (is_member (Caller g) (plan_pool n))
 line_table h (Worker a b) c m t (PushToken f v) = omega arith
 line_table h (Caller g) c m t (PushToken f v) = tt
 line_table h (Worker a b) c m t (AddToFifo f) = if_cond (Lines m t (AddToFifo f)) (is_open (Worker a b) m.seat.feeder) _ (λ z. let k : times t (m.seat.fifo ++ f.job ∷ []) ≡ (times t m.seat.fifo + one (t == f.job)) = times_push m.seat.fifo t f.job in omega (arith, k))
@@ -330,6 +337,7 @@ made_lined w h p i t b = elim (either (ltb t w.jobs)) [ inl y ↦ (let z : t < w
 -- the acts that write a cell or set a latch
 abbrev pub stores : Place → Option Ending
 stores (StoreResult c o e) = Some e
+stores (StoreBody o e) = Some e
 stores _ = None
 
 abbrev pub is_call : Latch → Bool
@@ -338,7 +346,7 @@ is_call Terminate = false
 
 abbrev pub sets_call : Place → Bool
 sets_call (SetLatch k) = is_call k.latch
-sets_call (SetLockLatch c) = true
+sets_call (SetLockLatch c n) = true
 sets_call _ = false
 
 abbrev pub sets_seat : Place → Bool
@@ -381,9 +389,11 @@ found_written : (m : Part) (p : Place) (x : Option Ending) → IfSome (found m x
 found_written m p None = same_written m p Missing
 found_written m p (Some d) = record { cell = λ e z. cc; call = λ z. inl z; seat = λ z. inl z }
 
-lower_unwritten : (m : Part) (s : Share) (e : Seen) → Unwritten m (e, lowered m s)
-lower_unwritten m PoolValue e = record { cell = refl; call = refl; seat = refl }
-lower_unwritten m (OfJob t) e = record { cell = refl; call = refl; seat = refl }
+lower_unwritten : (m : Part) (k : Count) (s : Share) (e : Seen) → Unwritten m (e, lowered m k s)
+lower_unwritten m k s e = record { cell = refl; call = refl; seat = refl }
+
+body_written : (q : Party) (m : Part) (o : OpenCall) (d : Ending) → IfSome (put_body q m d) (Written m (StoreBody o d))
+body_written q m o d = book_sees (Written m (StoreBody o d)) q m _ (record { cell = λ e z. inr z; call = λ z. inl z; seat = λ z. inl z })
 
 pub act_written : (h : Shape) (q : Party) (c : Counts) (m : Part) (x : Place) → IfSome (effect (act_of q x) h q c m) (Written m x)
 act_written h (Worker a b) c m (ProbeWorking k) = same_written m (ProbeWorking k) _
@@ -391,16 +401,20 @@ act_written h (Worker a b) c m (GetSleepy k) = sleepy_keeps (latch_of k.target) 
 act_written h (Worker a b) c m (FallAsleep k) = asleep_keeps (latch_of k.target) (λ v r. Written v (FallAsleep k) r) (λ v e. same_written v (FallAsleep k) e) (λ v e y n. unset_written v (FallAsleep k) (latch_of k.target) e y n) m (letter (latch_of k.target) m)
 act_written h (Worker a b) c m (WakeUp k) = wake_keeps (latch_of k.target) (λ v r. Written v (WakeUp k) r) (λ v e. same_written v (WakeUp k) e) (λ v e y n. unset_written v (WakeUp k) (latch_of k.target) e y n) m (letter (latch_of k.target) m)
 act_written h (Worker a b) c m (SetLatch k) = set_written m k
-act_written h (Worker a b) c m (SetLockLatch i) = record { cell = λ e z. inl z; call = λ z. inr refl; seat = λ z. inl z }
+act_written h (Worker a b) c m (SetLockLatch i n) = record { cell = λ e z. inl z; call = λ z. inr refl; seat = λ z. inl z }
 act_written h (Worker a b) c m (StoreResult i o e) = record { cell = λ d z. inr z; call = λ z. inl z; seat = λ z. inl z }
 act_written h (Worker a b) c m (TakeResult o f) = found_written m (TakeResult o f) m.call.cell
 act_written h (Worker a b) c m (GrowCall n) = record { cell = λ e z. cc; call = λ z. cc; seat = λ z. inl z }
-act_written h (Worker a b) c m (LowerCount p s n) = written m (LowerCount p s n) (effect (act_of (Worker a b) (LowerCount p s n)) h (Worker a b) c m) (lower_unwritten m s _)
+act_written h (Worker a b) c m (GrowScope n) = record { cell = λ e z. cc; call = λ z. cc; seat = λ z. inl z }
+act_written h (Worker a b) c m (StoreBody o d) = body_written (Worker a b) m o d
+act_written h (Worker a b) c m (LowerCount p s n) = written m (LowerCount p s n) (effect (act_of (Worker a b) (LowerCount p s n)) h (Worker a b) c m) (lower_unwritten m p s _)
 act_written h (Worker a b) c m x = written m x (effect (act_of (Worker a b) x) h (Worker a b) c m) (search (rules, arith))
 act_written h (Caller v) c m (SetLatch k) = set_written m k
-act_written h (Caller v) c m (SetLockLatch i) = record { cell = λ e z. inl z; call = λ z. inr refl; seat = λ z. inl z }
+act_written h (Caller v) c m (SetLockLatch i n) = record { cell = λ e z. inl z; call = λ z. inr refl; seat = λ z. inl z }
 act_written h (Caller v) c m (StoreResult i o e) = record { cell = λ d z. inr z; call = λ z. inl z; seat = λ z. inl z }
 act_written h (Caller v) c m (TakeResult o f) = found_written m (TakeResult o f) m.call.cell
 act_written h (Caller v) c m (GrowCall n) = record { cell = λ e z. cc; call = λ z. cc; seat = λ z. inl z }
-act_written h (Caller v) c m (LowerCount p s n) = written m (LowerCount p s n) (effect (act_of (Caller v) (LowerCount p s n)) h (Caller v) c m) (lower_unwritten m s _)
+act_written h (Caller v) c m (GrowScope n) = record { cell = λ e z. cc; call = λ z. cc; seat = λ z. inl z }
+act_written h (Caller v) c m (StoreBody o d) = body_written (Caller v) m o d
+act_written h (Caller v) c m (LowerCount p s n) = written m (LowerCount p s n) (effect (act_of (Caller v) (LowerCount p s n)) h (Caller v) c m) (lower_unwritten m p s _)
 act_written h (Caller v) c m x = written m x (effect (act_of (Caller v) x) h (Caller v) c m) (search (rules, arith))

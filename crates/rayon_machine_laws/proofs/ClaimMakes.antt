@@ -1,37 +1,40 @@
 -- the end of a run and the making of calls keep what the places say; and so does each step
 use Rattle.rayon_machine_places.specs.declared.place.Pieces.{Pieces}
+use Rattle.rayon_machine_laws.proofs.Owned.{added}
+use Rattle.rayon_machine_places.specs.declared.place.Latch.TheVariants.{OfCall}
+use Rattle.rayon_machine_places.specs.declared.state.Scope.{Scope}
 use Rattle.std.proofs.Common.{arith, refl, sym, ◌∙◌, ap, subst, inl, inr}
-use Rattle.std.specs.Prelude.{ℕ, Bool, true, false, ◌&&◌, ◌+◌, ◌==◌, ◌≤◌, ◌<◌, nat_lt, if◌then◌else◌, Option, Some, None, List, [], ◌≡◌, IfSome, ◌-◌}
+use Rattle.std.specs.Prelude.{ℕ, Bool, true, false, ◌&&◌, ◌+◌, ◌==◌, ◌≤◌, ◌<◌, nat_lt, if◌then◌else◌, Option, Some, None, List, [], ◌≡◌, IfSome, ◌-◌, slice_get, ◌++◌, ◌∷◌}
 use Rattle.std.proofs.lemmas.Bool.{eqb-true, eq-eqb, ltb-true, ltb-false}
 use Rattle.std.proofs.Math.Dec.{ltb}
 use Rattle.rayon_machine_places.specs.declared.place.Party.{Party}
 use Rattle.rayon_machine_places.specs.declared.place.Party.TheVariants.{Worker, Caller}
 use Rattle.rayon_machine_places.specs.declared.place.Ending.{Ending}
 use Rattle.rayon_machine_places.specs.declared.place.JobKind.{JobKind}
-use Rattle.rayon_machine_places.specs.declared.place.JobKind.TheVariants.{Detached, Stored, Direct, TokenOf}
+use Rattle.rayon_machine_places.specs.declared.place.JobKind.TheVariants.{Detached, Stored, Direct, TokenOf, Scoped, BodyOf}
 use Rattle.rayon_machine_places.specs.declared.place.Target.TheVariants.{Termination}
 use Rattle.rayon_machine_places.specs.declared.place.Plan.{Plan}
-use Rattle.rayon_machine_places.specs.declared.place.Plan.TheVariants.{Detach, Here, Send, Fork, Feed}
+use Rattle.rayon_machine_places.specs.declared.place.Plan.TheVariants.{Detach, Here, Send, Fork, Feed, Open, Enter}
 use Rattle.rayon_machine_places.specs.declared.place.Place.{Place}
 use Rattle.rayon_machine_places.specs.declared.place.Place.TheVariants.{ProbeWorking, YieldPop, LocalPop, Run, RaiseCount, Free, Stopped, RaiseForAll}
 use Rattle.rayon_machine_places.specs.declared.event.Event.{Event}
-use Rattle.rayon_machine_places.specs.declared.event.Event.TheVariants.{Go, From, Refuse, Miss, End, Spawn, Fifo, Install, Join, Yield, YieldLocal, EndPool, Cast}
+use Rattle.rayon_machine_places.specs.declared.event.Event.TheVariants.{Go, From, Refuse, Miss, End, Spawn, Fifo, Install, Join, Yield, YieldLocal, EndPool, Cast, Scope as OpenScope, IntoSpawn}
 use Rattle.rayon_machine_places.specs.declared.state.Letter.TheVariants.{Set as IsSet}
 use Rattle.rayon_machine_places.specs.declared.state.Whereabouts.TheVariants.{Over}
 use Rattle.rayon_machine_places.specs.declared.state.Job.{Job}
 use Rattle.rayon_machine_places.specs.declared.state.Call.{Call}
 use Rattle.rayon_machine_places.specs.Places.{is_member, fresh, act_of, is_free}
 use Rattle.rayon_machine_places.specs.World.{Shape, World, target_pool, target_worker, target_call, at_job}
-use Rattle.rayon_machine_places.specs.Steps.{put, put_stack, after_close, after_end, after_call, is_pool, new_job, new_call, after_spawn, after_send, after_install, after_join, step, after_feed, after_fifo, after_cast, put_pieces, new_piece, is_piece}
+use Rattle.rayon_machine_places.specs.Steps.{put, put_stack, after_close, after_end, after_call, is_pool, new_job, new_call, after_spawn, after_send, after_install, after_join, step, after_feed, after_fifo, after_cast, put_pieces, new_piece, is_piece, after_scope, after_into, holds}
 use Rattle.rayon_machine_places.specs.Runs.{start, IsRun}
 use Rattle.rayon_machine_places.specs.Readers.{is_done}
-use Rattle.rayon_machine_laws.proofs.Frame.{either, and_parts, if_cond, acted_keeps, put_same, put_new, put_old, fifo_cases, piece_new, piece_old, piece_range, piece_in, piece_out}
+use Rattle.rayon_machine_laws.proofs.Frame.{either, and_parts, if_cond, acted_keeps, put_same, put_new, put_old, fifo_cases, piece_new, piece_old, piece_range, piece_in, piece_out, into_cases}
 use Rattle.rayon_machine_laws.proofs.Ties.{job_at, outcome}
 use Rattle.rayon_machine_laws.proofs.Events.{run_keeps}
 use Rattle.rayon_machine_laws.proofs.PlacedEvents.{IsFinal, final_left, Advance}
 use Rattle.rayon_machine_laws.proofs.PlacedRuns.{jobs_advance, step_advance, first_jobs}
-use Rattle.rayon_machine_laws.proofs.Claims.{MadeAs, is_detached, SaysPlan, SaysRun, StackSays, SaysPieces}
-use Rattle.rayon_machine_laws.proofs.Later.{Later, later_done, later_says, later_all, later_made}
+use Rattle.rayon_machine_laws.proofs.Claims.{call_kind, is_scoped, MadeAs, is_detached, SaysPlan, SaysRun, StackSays, SaysPieces, SaysLatch, Opened}
+use Rattle.rayon_machine_laws.proofs.Later.{Later, later_done, later_says, later_all, later_made, later_latch, later_stack}
 use Rattle.rayon_machine_laws.proofs.ClaimRuns.{CallsHold, all_says, go_calls}
 use Rattle.rayon_machine_laws.proofs.ClaimEvents.{both, from_calls, refuse_calls, miss_calls, called_says, yield_calls, give_calls, ended_world, says_closed}
 
@@ -51,7 +54,7 @@ end_calls w q d (Run t k) fs z h = λ a. done a
     old = subst (λ s. StackSays w q s) z (h.says q)
 
     later : Advance w (ended_world w q d t k fs) → Later w (ended_world w q d t k fs)
-    later a = record { jobs = omega arith; calls = omega arith; over = final_over w (ended_world w q d t k fs) a; left = λ s z. final_left ((w.job s).at) (((ended_world w q d t k fs).job s).at) (a.final s) z; kind = λ s b. put_same (λ j. j.kind) w.job t (at_job (w.job t) (Over d)) s refl; pool = λ s b. put_same (λ j. j.pool) w.job t (at_job (w.job t) (Over d)) s refl; bound = λ s b. put_same (λ j. j.bound) w.job t (at_job (w.job t) (Over d)) s refl; target = λ c b. refl; side = λ c b. refl; ended = λ p y. y; given = λ p y. y }
+    later a = record { jobs = omega arith; calls = omega arith; over = final_over w (ended_world w q d t k fs) a; left = λ s z. final_left ((w.job s).at) (((ended_world w q d t k fs).job s).at) (a.final s) z; kind = λ s b. put_same (λ j. j.kind) w.job t (at_job (w.job t) (Over d)) s refl; pool = λ s b. put_same (λ j. j.pool) w.job t (at_job (w.job t) (Over d)) s refl; bound = λ s b. put_same (λ j. j.bound) w.job t (at_job (w.job t) (Over d)) s refl; target = λ c b. refl; side = λ c b. refl; ended = λ p y. y; spent = λ c b y. y; given = λ p y. y }
 
     detached : (p : ℕ) → k ≡ Detached p → (w.job t).pool ≡ p
     detached p e = let s : SaysRun w t (Detached p) = subst (λ k. SaysRun w t k) e (old.top) in h.pools t (s.0) p (s.1)
@@ -64,7 +67,9 @@ end_calls w q d (Run t k) fs z h = λ a. done a
       ties = λ s b c o y. h.ties s b c o (sym (put_same (λ j. j.kind) w.job t (at_job (w.job t) (Over d)) s refl) ∙ y);
       pools = λ s b p y. put_same (λ j. j.pool) w.job t (at_job (w.job t) (Over d)) s refl ∙ h.pools s b p (sym (put_same (λ j. j.kind) w.job t (at_job (w.job t) (Over d)) s refl) ∙ y);
       cells = λ c e y. (later a).over ((w.call c).job) e (h.cells c e y);
-      latches = λ c y. later_done w (ended_world w q d t k fs) (later a) ((w.call c).job) (h.latches c y);
+      latches = λ c y. later_latch w (ended_world w q d t k fs) (later a) 0 (OfCall c) (h.latches c y);
+      entries = λ s b c o y. h.entries s b c o (sym (put_same (λ j. j.kind) w.job t (at_job (w.job t) (Over d)) s refl) ∙ y);
+      scopes = h.scopes;
       ends = h.ends;
       lines = λ p i s b. later_made w (ended_world w q d t k fs) (later a) s p (Detached p) (h.lines p i s b);
     }
@@ -81,7 +86,8 @@ pub record Makes (w u : World) (q : Party) (n : Plan) : Type 0 where
   pub ties : (t : ℕ) → t + 1 ≤ u.jobs → (c : ℕ) (o : Party) → (u.job t).kind ≡ Stored c o → (c + 1 ≤ u.calls) × ((u.call c).job ≡ t)
   pub pools : (t : ℕ) → t + 1 ≤ u.jobs → (p : ℕ) → (u.job t).kind ≡ Detached p → (u.job t).pool ≡ p
   pub cells : (c : ℕ) (e : Ending) → (u.call c).cell ≡ Some e → (u.job (u.call c).job).at ≡ Over e
-  pub latches : (c : ℕ) → (u.call c).latch ≡ IsSet → is_done (u.job (u.call c).job).at ≡ true
+  pub latches : (c : ℕ) → (u.call c).latch ≡ IsSet → SaysLatch u 0 (OfCall c)
+  pub entries : (t : ℕ) → t + 1 ≤ u.jobs → (c : ℕ) (o : Party) → (u.job t).kind ≡ Scoped c o → c + 1 ≤ u.calls
 
 made_calls : (w : World) (q : Party) (n : Plan) (C : ℕ → Call) (J : ℕ → Job) (c j : ℕ) → is_free (w.stack q).top ≡ true → CallsHold w → Makes w (calling w q n C J c j) q n → Advance w (calling w q n C J c j) → CallsHold (calling w q n C J c j)
 made_calls w q n C J c j f h m a = record {
@@ -91,6 +97,8 @@ made_calls w q n C J c j f h m a = record {
   pools = m.pools;
   cells = m.cells;
   latches = m.latches;
+  entries = m.entries;
+  scopes = λ n z e. (let b : z.call + 1 ≤ w.calls = h.scopes n z e in let l : w.calls ≤ c = (m.later).calls in omega (arith, b, l));
   ends = h.ends;
   lines = λ p i t b. later_made w (calling w q n C J c j) (m.later) t p (Detached p) (h.lines p i t b);
 }
@@ -103,22 +111,27 @@ below_or : (t n : ℕ) → (t == n) ≡ false → t + 1 ≤ n + 1 → t + 1 ≤ 
 below_or t n e b = elim (either (ltb t n)) [ inl y ↦ (let z : t < n = ltb-true t n y in omega (arith, z)) | inr y ↦ absurd (let z : n ≤ t = ltb-false t n y in let k : t ≡ n = omega (arith, z, b) in let g : (t == n) ≡ true = eq-eqb t n k in cc) ]
 
 -- a call that makes one job and waits for nobody
-plain_makes : (w : World) (q : Party) (n : Plan) (p : ℕ) (k : JobKind) → ((c : ℕ) (o : Party) → k ≡ Stored c o → ⊥) → ((r : ℕ) → k ≡ Detached r → p ≡ r) → ((u : World) → MadeAs u w.jobs p k → SaysPlan u q n) → CallsHold w → Advance w (calling w q n w.call (put w.job w.jobs (new_job q p k)) w.calls (w.jobs + 1)) → Makes w (calling w q n w.call (put w.job w.jobs (new_job q p k)) w.calls (w.jobs + 1)) q n
-plain_makes w q n p k ns dp sp h a = record {
+plain_makes : (w : World) (q : Party) (n : Plan) (p : ℕ) (k : JobKind) → ((c : ℕ) (o : Party) → k ≡ Stored c o → ⊥) → ((r : ℕ) → k ≡ Detached r → p ≡ r) → ((c : ℕ) (o : Party) → k ≡ Scoped c o → c + 1 ≤ w.calls) → ((u : World) → u.calls ≡ w.calls → MadeAs u w.jobs p k → SaysPlan u q n) → CallsHold w → Advance w (calling w q n w.call (put w.job w.jobs (new_job q p k)) w.calls (w.jobs + 1)) → Makes w (calling w q n w.call (put w.job w.jobs (new_job q p k)) w.calls (w.jobs + 1)) q n
+plain_makes w q n p k ns dp en sp h a = record {
   later = later;
-  says = sp (calling w q n w.call (put w.job w.jobs (new_job q p k)) w.calls (w.jobs + 1)) (record { made = omega arith; kind = ap (λ j. j.kind) (put_new w.job w.jobs (new_job q p k)); pool = ap (λ j. j.pool) (put_new w.job w.jobs (new_job q p k)); bound = ap (λ j. j.bound) (put_new w.job w.jobs (new_job q p k)) });
+  says = sp (calling w q n w.call (put w.job w.jobs (new_job q p k)) w.calls (w.jobs + 1)) refl (record { made = omega arith; kind = ap (λ j. j.kind) (put_new w.job w.jobs (new_job q p k)); pool = ap (λ j. j.pool) (put_new w.job w.jobs (new_job q p k)); bound = ap (λ j. j.bound) (put_new w.job w.jobs (new_job q p k)) });
   ties = λ t b c o z. ties t b c o (t == w.jobs) refl z;
   pools = λ t b r z. pools t b r (t == w.jobs) refl z;
   cells = λ c e z. later.over ((w.call c).job) e (h.cells c e z);
-  latches = λ c z. later_done w (calling w q n w.call (put w.job w.jobs (new_job q p k)) w.calls (w.jobs + 1)) later ((w.call c).job) (h.latches c z);
+  latches = λ c z. later_latch w (calling w q n w.call (put w.job w.jobs (new_job q p k)) w.calls (w.jobs + 1)) later 0 (OfCall c) (h.latches c z);
+  entries = λ t b c o z. entries t b c o (t == w.jobs) refl z;
 }
   where
     later : Later w (calling w q n w.call (put w.job w.jobs (new_job q p k)) w.calls (w.jobs + 1))
-    later = record { jobs = omega arith; calls = omega arith; over = final_over w (calling w q n w.call (put w.job w.jobs (new_job q p k)) w.calls (w.jobs + 1)) a; left = λ t z. final_left ((w.job t).at) ((((calling w q n w.call (put w.job w.jobs (new_job q p k)) w.calls (w.jobs + 1))).job t).at) (a.final t) z; kind = λ t b. ap (λ j. j.kind) (put_old w.job w.jobs (new_job q p k) t (below_new t w.jobs b)); pool = λ t b. ap (λ j. j.pool) (put_old w.job w.jobs (new_job q p k) t (below_new t w.jobs b)); bound = λ t b. ap (λ j. j.bound) (put_old w.job w.jobs (new_job q p k) t (below_new t w.jobs b)); target = λ c b. refl; side = λ c b. refl; ended = λ r z. z; given = λ r z. z }
+    later = record { jobs = omega arith; calls = omega arith; over = final_over w (calling w q n w.call (put w.job w.jobs (new_job q p k)) w.calls (w.jobs + 1)) a; left = λ t z. final_left ((w.job t).at) ((((calling w q n w.call (put w.job w.jobs (new_job q p k)) w.calls (w.jobs + 1))).job t).at) (a.final t) z; kind = λ t b. ap (λ j. j.kind) (put_old w.job w.jobs (new_job q p k) t (below_new t w.jobs b)); pool = λ t b. ap (λ j. j.pool) (put_old w.job w.jobs (new_job q p k) t (below_new t w.jobs b)); bound = λ t b. ap (λ j. j.bound) (put_old w.job w.jobs (new_job q p k) t (below_new t w.jobs b)); target = λ c b. refl; side = λ c b. refl; ended = λ r z. z; spent = λ c b z. z; given = λ r z. z }
 
     ties : (t : ℕ) → t + 1 ≤ w.jobs + 1 → (c : ℕ) (o : Party) (z : Bool) → (t == w.jobs) ≡ z → (if z then new_job q p k else w.job t).kind ≡ Stored c o → (c + 1 ≤ w.calls) × ((w.call c).job ≡ t)
     ties t b c o true e y = absurd (ns c o y)
     ties t b c o false e y = h.ties t (below_or t w.jobs e b) c o y
+
+    entries : (t : ℕ) → t + 1 ≤ w.jobs + 1 → (c : ℕ) (o : Party) (z : Bool) → (t == w.jobs) ≡ z → (if z then new_job q p k else w.job t).kind ≡ Scoped c o → c + 1 ≤ w.calls
+    entries t b c o true e y = en c o y
+    entries t b c o false e y = h.entries t (below_or t w.jobs e b) c o y
 
     pools : (t : ℕ) → t + 1 ≤ w.jobs + 1 → (r : ℕ) (z : Bool) → (t == w.jobs) ≡ z → (if z then new_job q p k else w.job t).kind ≡ Detached r → (if z then new_job q p k else w.job t).pool ≡ r
     pools t b r true e y = dp r y
@@ -132,33 +145,38 @@ new_cells w u f s h l c e = by (c == w.calls)
     by true y = cc
     by false y = l.over ((w.call c).job) e (h.cells c e y)
 
-new_latches : (w u : World) (f : Option ℕ) (s : ℕ) → CallsHold w → Later w u → (c : ℕ) → (put w.call w.calls (new_call f s) c).latch ≡ IsSet → is_done (u.job (put w.call w.calls (new_call f s) c).job).at ≡ true
+new_latches : (w u : World) (f : Option ℕ) (s : ℕ) → CallsHold w → Later w u → (c : ℕ) → (put w.call w.calls (new_call f s) c).latch ≡ IsSet → SaysLatch u 0 (OfCall c)
 new_latches w u f s h l c = by (c == w.calls)
   where
-    by : (z : Bool) → (if z then new_call f s else w.call c).latch ≡ IsSet → is_done (u.job (if z then new_call f s else w.call c).job).at ≡ true
+    by : (z : Bool) → (if z then new_call f s else w.call c).latch ≡ IsSet → SaysLatch u 0 (OfCall c)
     by true y = cc
-    by false y = later_done w u l ((w.call c).job) (h.latches c y)
+    by false y = later_latch w u l 0 (OfCall c) (h.latches c y)
 
 -- a call that makes one job and waits for it
-send_makes : (w : World) (q : Party) (p : ℕ) → CallsHold w → Advance w (after_send w q p (w.stack q) false) → Makes w (after_send w q p (w.stack q) false) q (Send (record { number = w.calls; pool = p; job = w.jobs }))
-send_makes w q p h a = record {
+send_makes : (w : World) (q : Party) (p : ℕ) (n : Plan) (d : JobKind) → call_kind d ≡ Some (w.calls, q) → ((c : ℕ) (o : Party) → d ≡ Stored c o → w.calls ≡ c) → is_detached d ≡ false → is_scoped d ≡ false → ((u : World) → Opened u q (record { number = w.calls; pool = p; job = w.jobs }) × ((u.call w.calls).first ≡ None) → SaysPlan u q n) → CallsHold w → Advance w (calling w q n (put w.call w.calls (new_call None w.jobs)) (put w.job w.jobs (new_job q p d)) (w.calls + 1) (w.jobs + 1)) → Makes w (calling w q n (put w.call w.calls (new_call None w.jobs)) (put w.job w.jobs (new_job q p d)) (w.calls + 1) (w.jobs + 1)) q n
+send_makes w q p n d dk dt dd ds sp h a = record {
   later = later;
-  says = (record { number = omega arith; made = omega arith; target = ap (λ c. c.job) (put_new w.call w.calls (new_call None w.jobs)); kind = ap (λ j. j.kind) (put_new w.job w.jobs (new_job q p (Stored w.calls q))); pool = ap (λ j. j.pool) (put_new w.job w.jobs (new_job q p (Stored w.calls q))) }, ap (λ c. c.first) (put_new w.call w.calls (new_call None w.jobs)));
+  says = sp (calling w q n (put w.call w.calls (new_call None w.jobs)) (put w.job w.jobs (new_job q p d)) (w.calls + 1) (w.jobs + 1)) (record { number = omega arith; made = omega arith; target = ap (λ c. c.job) (put_new w.call w.calls (new_call None w.jobs)); kind = ap (λ j. call_kind j.kind) (put_new w.job w.jobs (new_job q p d)) ∙ dk; pool = ap (λ j. j.pool) (put_new w.job w.jobs (new_job q p d)) }, ap (λ c. c.first) (put_new w.call w.calls (new_call None w.jobs)));
   ties = λ t b c o z. ties t b c o (t == w.jobs) refl z;
   pools = λ t b r z. pools t b r (t == w.jobs) refl z;
-  cells = new_cells w (after_send w q p (w.stack q) false) None w.jobs h later;
-  latches = new_latches w (after_send w q p (w.stack q) false) None w.jobs h later;
+  cells = new_cells w (calling w q n (put w.call w.calls (new_call None w.jobs)) (put w.job w.jobs (new_job q p d)) (w.calls + 1) (w.jobs + 1)) None w.jobs h later;
+  latches = new_latches w (calling w q n (put w.call w.calls (new_call None w.jobs)) (put w.job w.jobs (new_job q p d)) (w.calls + 1) (w.jobs + 1)) None w.jobs h later;
+  entries = λ t b c o z. entries t b c o (t == w.jobs) refl z;
 }
   where
-    later : Later w (after_send w q p (w.stack q) false)
-    later = record { jobs = omega arith; calls = omega arith; over = final_over w (after_send w q p (w.stack q) false) a; left = λ t z. final_left ((w.job t).at) ((((after_send w q p (w.stack q) false)).job t).at) (a.final t) z; kind = λ t b. ap (λ j. j.kind) (put_old w.job w.jobs (new_job q p (Stored w.calls q)) t (below_new t w.jobs b)); pool = λ t b. ap (λ j. j.pool) (put_old w.job w.jobs (new_job q p (Stored w.calls q)) t (below_new t w.jobs b)); bound = λ t b. ap (λ j. j.bound) (put_old w.job w.jobs (new_job q p (Stored w.calls q)) t (below_new t w.jobs b)); target = λ c b. ap (λ i. i.job) (put_old w.call w.calls (new_call None w.jobs) c (below_new c w.calls b)); side = λ c b. ap (λ i. i.first) (put_old w.call w.calls (new_call None w.jobs) c (below_new c w.calls b)); ended = λ r z. z; given = λ r z. z }
+    later : Later w (calling w q n (put w.call w.calls (new_call None w.jobs)) (put w.job w.jobs (new_job q p d)) (w.calls + 1) (w.jobs + 1))
+    later = record { jobs = omega arith; calls = omega arith; over = final_over w (calling w q n (put w.call w.calls (new_call None w.jobs)) (put w.job w.jobs (new_job q p d)) (w.calls + 1) (w.jobs + 1)) a; left = λ t z. final_left ((w.job t).at) ((((calling w q n (put w.call w.calls (new_call None w.jobs)) (put w.job w.jobs (new_job q p d)) (w.calls + 1) (w.jobs + 1))).job t).at) (a.final t) z; kind = λ t b. ap (λ j. j.kind) (put_old w.job w.jobs (new_job q p d) t (below_new t w.jobs b)); pool = λ t b. ap (λ j. j.pool) (put_old w.job w.jobs (new_job q p d) t (below_new t w.jobs b)); bound = λ t b. ap (λ j. j.bound) (put_old w.job w.jobs (new_job q p d) t (below_new t w.jobs b)); target = λ c b. ap (λ i. i.job) (put_old w.call w.calls (new_call None w.jobs) c (below_new c w.calls b)); side = λ c b. ap (λ i. i.first) (put_old w.call w.calls (new_call None w.jobs) c (below_new c w.calls b)); ended = λ r z. z; spent = λ c b z. ap (λ i. i.count) (put_old w.call w.calls (new_call None w.jobs) c (below_new c w.calls b)) ∙ z; given = λ r z. z }
 
-    ties : (t : ℕ) → t + 1 ≤ w.jobs + 1 → (c : ℕ) (o : Party) (z : Bool) → (t == w.jobs) ≡ z → (if z then new_job q p (Stored w.calls q) else w.job t).kind ≡ Stored c o → (c + 1 ≤ w.calls + 1) × ((put w.call w.calls (new_call None w.jobs) c).job ≡ t)
-    ties t b c o true e y = let k : w.calls ≡ c = cc in ((let g : c + 1 ≤ w.calls + 1 = omega (arith, k) in g), ap (λ n. (put w.call w.calls (new_call None w.jobs) n).job) (sym k) ∙ ap (λ i. i.job) (put_new w.call w.calls (new_call None w.jobs)) ∙ sym (eqb-true t w.jobs e))
+    ties : (t : ℕ) → t + 1 ≤ w.jobs + 1 → (c : ℕ) (o : Party) (z : Bool) → (t == w.jobs) ≡ z → (if z then new_job q p d else w.job t).kind ≡ Stored c o → (c + 1 ≤ w.calls + 1) × ((put w.call w.calls (new_call None w.jobs) c).job ≡ t)
+    ties t b c o true e y = let k : w.calls ≡ c = dt c o y in ((let g : c + 1 ≤ w.calls + 1 = omega (arith, k) in g), ap (λ n. (put w.call w.calls (new_call None w.jobs) n).job) (sym k) ∙ ap (λ i. i.job) (put_new w.call w.calls (new_call None w.jobs)) ∙ sym (eqb-true t w.jobs e))
     ties t b c o false e y = let g : (c + 1 ≤ w.calls) × ((w.call c).job ≡ t) = h.ties t (below_or t w.jobs e b) c o y in let k : c + 1 ≤ w.calls = g.0 in ((let m : c + 1 ≤ w.calls + 1 = omega (arith, k) in m), ap (λ i. i.job) (put_old w.call w.calls (new_call None w.jobs) c (below_new c w.calls k)) ∙ g.1)
 
-    pools : (t : ℕ) → t + 1 ≤ w.jobs + 1 → (r : ℕ) (z : Bool) → (t == w.jobs) ≡ z → (if z then new_job q p (Stored w.calls q) else w.job t).kind ≡ Detached r → (if z then new_job q p (Stored w.calls q) else w.job t).pool ≡ r
-    pools t b r true e y = cc
+    entries : (t : ℕ) → t + 1 ≤ w.jobs + 1 → (c : ℕ) (o : Party) (z : Bool) → (t == w.jobs) ≡ z → (if z then new_job q p d else w.job t).kind ≡ Scoped c o → c + 1 ≤ w.calls + 1
+    entries t b c o true e y = absurd (let f : true ≡ false = sym (ap is_scoped y) ∙ ds in cc)
+    entries t b c o false e y = let g : c + 1 ≤ w.calls = h.entries t (below_or t w.jobs e b) c o y in omega (arith, g)
+
+    pools : (t : ℕ) → t + 1 ≤ w.jobs + 1 → (r : ℕ) (z : Bool) → (t == w.jobs) ≡ z → (if z then new_job q p d else w.job t).kind ≡ Detached r → (if z then new_job q p d else w.job t).pool ≡ r
+    pools t b r true e y = absurd (let f : true ≡ false = sym (ap is_detached y) ∙ dd in cc)
     pools t b r false e y = h.pools t (below_or t w.jobs e b) r y
 
 -- a join makes its two sides, and waits for the second
@@ -174,11 +192,12 @@ after_fork w p i = record w {
 fork_makes : (w : World) (p i : ℕ) → CallsHold w → Advance w (after_fork w p i) → Makes w (after_fork w p i) (Worker p i) (Fork (record { number = w.calls; pool = p; job = w.jobs + 1 }) w.jobs)
 fork_makes w p i h a = record {
   later = later;
-  says = (record { number = omega arith; made = omega arith; target = ap (λ c. c.job) (put_new w.call w.calls (new_call (Some w.jobs) (w.jobs + 1))); kind = ap (λ j. j.kind) second; pool = ap (λ j. j.pool) second }, ap (λ c. c.first) (put_new w.call w.calls (new_call (Some w.jobs) (w.jobs + 1))), record { made = omega arith; kind = ap (λ j. is_detached (j.kind)) first });
+  says = (record { number = omega arith; made = omega arith; target = ap (λ c. c.job) (put_new w.call w.calls (new_call (Some w.jobs) (w.jobs + 1))); kind = ap (λ j. call_kind j.kind) second; pool = ap (λ j. j.pool) second }, ap (λ c. c.first) (put_new w.call w.calls (new_call (Some w.jobs) (w.jobs + 1))), record { made = omega arith; kind = ap (λ j. is_detached (j.kind)) first });
   ties = λ t b c o z. ties t b c o (t == (w.jobs + 1)) (t == w.jobs) refl refl z;
   pools = λ t b r z. pools t b r (t == (w.jobs + 1)) (t == w.jobs) refl refl z;
   cells = new_cells w (after_fork w p i) (Some w.jobs) (w.jobs + 1) h later;
   latches = new_latches w (after_fork w p i) (Some w.jobs) (w.jobs + 1) h later;
+  entries = λ t b c o z. entries t b c o (t == (w.jobs + 1)) (t == w.jobs) refl refl z;
 }
   where
     second : (after_fork w p i).job (w.jobs + 1) ≡ new_job (Worker p i) p (Stored w.calls (Worker p i))
@@ -191,12 +210,17 @@ fork_makes w p i h a = record {
     old t b = put_old (put w.job w.jobs (new_job (Worker p i) p Direct)) (w.jobs + 1) (new_job (Worker p i) p (Stored w.calls (Worker p i))) t (below_new t (w.jobs + 1) (omega (arith, b))) ∙ put_old w.job w.jobs (new_job (Worker p i) p Direct) t (below_new t w.jobs b)
 
     later : Later w (after_fork w p i)
-    later = record { jobs = omega arith; calls = omega arith; over = final_over w (after_fork w p i) a; left = λ t z. final_left ((w.job t).at) ((((after_fork w p i)).job t).at) (a.final t) z; kind = λ t b. ap (λ j. j.kind) (old t b); pool = λ t b. ap (λ j. j.pool) (old t b); bound = λ t b. ap (λ j. j.bound) (old t b); target = λ c b. ap (λ i. i.job) (put_old w.call w.calls (new_call (Some w.jobs) (w.jobs + 1)) c (below_new c w.calls b)); side = λ c b. ap (λ i. i.first) (put_old w.call w.calls (new_call (Some w.jobs) (w.jobs + 1)) c (below_new c w.calls b)); ended = λ r z. z; given = λ r z. z }
+    later = record { jobs = omega arith; calls = omega arith; over = final_over w (after_fork w p i) a; left = λ t z. final_left ((w.job t).at) ((((after_fork w p i)).job t).at) (a.final t) z; kind = λ t b. ap (λ j. j.kind) (old t b); pool = λ t b. ap (λ j. j.pool) (old t b); bound = λ t b. ap (λ j. j.bound) (old t b); target = λ c b. ap (λ i. i.job) (put_old w.call w.calls (new_call (Some w.jobs) (w.jobs + 1)) c (below_new c w.calls b)); side = λ c b. ap (λ i. i.first) (put_old w.call w.calls (new_call (Some w.jobs) (w.jobs + 1)) c (below_new c w.calls b)); ended = λ r z. z; spent = λ c b z. ap (λ i. i.count) (put_old w.call w.calls (new_call (Some w.jobs) (w.jobs + 1)) c (below_new c w.calls b)) ∙ z; given = λ r z. z }
 
     ties : (t : ℕ) → t + 1 ≤ w.jobs + 2 → (c : ℕ) (o : Party) (z v : Bool) → (t == (w.jobs + 1)) ≡ z → (t == w.jobs) ≡ v → (if z then new_job (Worker p i) p (Stored w.calls (Worker p i)) else (if v then new_job (Worker p i) p Direct else w.job t)).kind ≡ Stored c o → (c + 1 ≤ w.calls + 1) × ((put w.call w.calls (new_call (Some w.jobs) (w.jobs + 1)) c).job ≡ t)
     ties t b c o true v e d y = let k : w.calls ≡ c = cc in ((let g : c + 1 ≤ w.calls + 1 = omega (arith, k) in g), ap (λ n. (put w.call w.calls (new_call (Some w.jobs) (w.jobs + 1)) n).job) (sym k) ∙ ap (λ i. i.job) (put_new w.call w.calls (new_call (Some w.jobs) (w.jobs + 1))) ∙ sym (eqb-true t (w.jobs + 1) e))
     ties t b c o false true e d y = cc
     ties t b c o false false e d y = let g : (c + 1 ≤ w.calls) × ((w.call c).job ≡ t) = h.ties t (below_or t w.jobs d (below_or t (w.jobs + 1) e (omega (arith, b)))) c o y in let k : c + 1 ≤ w.calls = g.0 in ((let m : c + 1 ≤ w.calls + 1 = omega (arith, k) in m), ap (λ i. i.job) (put_old w.call w.calls (new_call (Some w.jobs) (w.jobs + 1)) c (below_new c w.calls k)) ∙ g.1)
+
+    entries : (t : ℕ) → t + 1 ≤ w.jobs + 2 → (c : ℕ) (o : Party) (z v : Bool) → (t == (w.jobs + 1)) ≡ z → (t == w.jobs) ≡ v → (if z then new_job (Worker p i) p (Stored w.calls (Worker p i)) else (if v then new_job (Worker p i) p Direct else w.job t)).kind ≡ Scoped c o → c + 1 ≤ w.calls + 1
+    entries t b c o true v e d y = absurd (cc)
+    entries t b c o false true e d y = absurd (cc)
+    entries t b c o false false e d y = let g : c + 1 ≤ w.calls = h.entries t (below_or t w.jobs d (below_or t (w.jobs + 1) e (omega (arith, b)))) c o y in omega (arith, g)
 
     pools : (t : ℕ) → t + 1 ≤ w.jobs + 2 → (r : ℕ) (z v : Bool) → (t == (w.jobs + 1)) ≡ z → (t == w.jobs) ≡ v → (if z then new_job (Worker p i) p (Stored w.calls (Worker p i)) else (if v then new_job (Worker p i) p Direct else w.job t)).kind ≡ Detached r → (if z then new_job (Worker p i) p (Stored w.calls (Worker p i)) else (if v then new_job (Worker p i) p Direct else w.job t)).pool ≡ r
     pools t b r true v e d y = cc
@@ -205,7 +229,7 @@ fork_makes w p i h a = record {
 
 spawn_calls : (w : World) (q : Party) (p : ℕ) → CallsHold w → IfSome (after_spawn w q p (w.stack q)) (λ u. Advance w u → CallsHold u)
 spawn_calls w q p h = if_cond (λ u. Advance w u → CallsHold u) (is_free ((w.stack q).top) && is_pool w.shape p) _ (λ f a. made_calls w q (Detach p w.jobs) w.call (put w.job w.jobs (new_job q p (Detached p))) w.calls (w.jobs + 1) ((and_parts (is_free ((w.stack q).top)) (is_pool w.shape p) f).0) h
-    (plain_makes w q (Detach p w.jobs) p (Detached p) (λ c o z. cc) (λ r z. (let k : p ≡ r = cc in k)) (λ u s. s) h a) a)
+    (plain_makes w q (Detach p w.jobs) p (Detached p) (λ c o z. cc) (λ r z. (let k : p ≡ r = cc in k)) (λ c o z. absurd (cc)) (λ u l s. s) h a) a)
 
 -- a call that makes a piece for each worker of a pool
 cast_calls : (w : World) (q : Party) (p : ℕ) → CallsHold w → IfSome (after_cast w q p (w.stack q)) (λ u. Advance w u → CallsHold u)
@@ -224,7 +248,7 @@ cast_calls w q p h = if_cond (λ u. Advance w u → CallsHold u) (is_free ((w.st
     same t b = piece_old c (λ i j. new_piece q p i) w.job t (piece_out c t (omega (arith, b)))
 
     later : Advance w u → Later w u
-    later a = record { jobs = omega arith; calls = omega arith; over = final_over w u a; left = λ t z. final_left ((w.job t).at) ((u.job t).at) (a.final t) z; kind = λ t b. ap (λ j. j.kind) (same t b); pool = λ t b. ap (λ j. j.pool) (same t b); bound = λ t b. ap (λ j. j.bound) (same t b); target = λ c b. refl; side = λ c b. refl; ended = λ r z. z; given = λ r z. z }
+    later a = record { jobs = omega arith; calls = omega arith; over = final_over w u a; left = λ t z. final_left ((w.job t).at) ((u.job t).at) (a.final t) z; kind = λ t b. ap (λ j. j.kind) (same t b); pool = λ t b. ap (λ j. j.pool) (same t b); bound = λ t b. ap (λ j. j.bound) (same t b); target = λ c b. refl; side = λ c b. refl; ended = λ r z. z; spent = λ c b z. z; given = λ r z. z }
 
     told : SaysPieces u c
     told t e = let a : (c.first ≤ t) × (t < c.first + c.workers) = piece_range c t e in let b : t < c.first + c.workers = a.1 in let g : u.job t ≡ new_piece q p (t - c.first) = piece_new c (λ i j. new_piece q p i) w.job t e in
@@ -241,6 +265,10 @@ cast_calls w q p h = if_cond (λ u. Advance w u → CallsHold u) (is_free ((w.st
     pools t b r true e y = (let k : p ≡ r = cc in k)
     pools t b r false e y = h.pools t (old t b e) r y
 
+    entries : (t : ℕ) → t + 1 ≤ w.jobs + c.workers → (i : ℕ) (o : Party) (z : Bool) → is_piece c t ≡ z → (if z then new_piece q p (t - c.first) else w.job t).kind ≡ Scoped i o → i + 1 ≤ w.calls
+    entries t b i o true e y = absurd (cc)
+    entries t b i o false e y = h.entries t (old t b e) i o y
+
     made : is_free ((w.stack q).top) ≡ true → Advance w u → CallsHold u
     made f a = record {
       jobs = jobs_advance w u (h.jobs) a;
@@ -248,7 +276,9 @@ cast_calls w q p h = if_cond (λ u. Advance w u → CallsHold u) (is_free ((w.st
       ties = λ t b i o z. ties t b i o (is_piece c t) refl z;
       pools = λ t b r z. pools t b r (is_piece c t) refl z;
       cells = λ i e z. (later a).over ((w.call i).job) e (h.cells i e z);
-      latches = λ i z. later_done w u (later a) ((w.call i).job) (h.latches i z);
+      latches = λ i z. later_latch w u (later a) 0 (OfCall i) (h.latches i z);
+      entries = λ t b i o z. entries t b i o (is_piece c t) refl z;
+      scopes = h.scopes;
       ends = h.ends;
       lines = λ r i t b. later_made w u (later a) t r (Detached r) (h.lines r i t b);
     }
@@ -282,7 +312,7 @@ feed_calls w p i free h a = made_calls w q n w.call J w.calls (w.jobs + 2) free 
     token = put_new first (w.jobs + 1) (new_job q p (TokenOf i))
 
     later : Later w u
-    later = record { jobs = omega arith; calls = omega arith; over = final_over w u a; left = λ t z. final_left ((w.job t).at) ((u.job t).at) (a.final t) z; kind = λ t b. ap (λ j. j.kind) (same t b); pool = λ t b. ap (λ j. j.pool) (same t b); bound = λ t b. ap (λ j. j.bound) (same t b); target = λ c b. refl; side = λ c b. refl; given = λ r e. e; ended = λ r e. e }
+    later = record { jobs = omega arith; calls = omega arith; over = final_over w u a; left = λ t z. final_left ((w.job t).at) ((u.job t).at) (a.final t) z; kind = λ t b. ap (λ j. j.kind) (same t b); pool = λ t b. ap (λ j. j.pool) (same t b); bound = λ t b. ap (λ j. j.bound) (same t b); target = λ c b. refl; side = λ c b. refl; given = λ r e. e; spent = λ c b z. z; ended = λ r e. e }
 
     ties : (t : ℕ) (c : ℕ) (o : Party) (y z : Bool) → (t == (w.jobs + 1)) ≡ y → (t == w.jobs) ≡ z → t + 1 ≤ w.jobs + 2 → (if y then new_job q p (TokenOf i) else (if z then new_job q p (Detached p) else w.job t)).kind ≡ Stored c o → (c + 1 ≤ w.calls) × ((w.call c).job ≡ t)
     ties t c o true z e f b k = absurd (cc)
@@ -294,6 +324,11 @@ feed_calls w p i free h a = made_calls w q n w.call J w.calls (w.jobs + 2) free 
     pools t r false true e f b k = (let g : p ≡ r = cc in g)
     pools t r false false e f b k = h.pools t (below_or t w.jobs f (below_or t (w.jobs + 1) e (omega (arith, b)))) r k
 
+    entries : (t : ℕ) (c : ℕ) (o : Party) (y z : Bool) → (t == (w.jobs + 1)) ≡ y → (t == w.jobs) ≡ z → t + 1 ≤ w.jobs + 2 → (if y then new_job q p (TokenOf i) else (if z then new_job q p (Detached p) else w.job t)).kind ≡ Scoped c o → c + 1 ≤ w.calls
+    entries t c o true z e f b k = absurd (cc)
+    entries t c o false true e f b k = absurd (cc)
+    entries t c o false false e f b k = h.entries t (below_or t w.jobs f (below_or t (w.jobs + 1) e (omega (arith, b)))) c o k
+
     makes : Makes w u q n
     makes = record {
       later = later;
@@ -301,18 +336,66 @@ feed_calls w p i free h a = made_calls w q n w.call J w.calls (w.jobs + 2) free 
       ties = λ t b c o k. ties t c o (t == (w.jobs + 1)) (t == w.jobs) refl refl b k;
       pools = λ t b r k. pools t r (t == (w.jobs + 1)) (t == w.jobs) refl refl b k;
       cells = λ c e z. later.over ((w.call c).job) e (h.cells c e z);
-      latches = λ c z. later_done w u later ((w.call c).job) (h.latches c z);
+      latches = λ c z. later_latch w u later 0 (OfCall c) (h.latches c z);
+      entries = λ t b c o k. entries t c o (t == (w.jobs + 1)) (t == w.jobs) refl refl b k;
     }
 
 fifo_calls : (w : World) (q : Party) (p : ℕ) → CallsHold w → IfSome (after_fifo w q p (w.stack q)) (λ u. Advance w u → CallsHold u)
 fifo_calls w q p h = fifo_cases (λ u. Advance w u → CallsHold u) w q p (spawn_calls w q p h) (λ i free a. feed_calls w p i free h a)
 
 sent_calls : (w : World) (q : Party) (p : ℕ) (b : Bool) → is_free (w.stack q).top ≡ true → CallsHold w → Advance w (after_send w q p (w.stack q) b) → CallsHold (after_send w q p (w.stack q) b)
-sent_calls w q p true f h a = made_calls w q (Here p w.jobs) w.call (put w.job w.jobs (new_job q p Direct)) w.calls (w.jobs + 1) f h (plain_makes w q (Here p w.jobs) p Direct (λ c o z. cc) (λ r z. cc) (λ u s. s) h a) a
-sent_calls w q p false f h a = made_calls w q (Send (record { number = w.calls; pool = p; job = w.jobs })) (put w.call w.calls (new_call None w.jobs)) (put w.job w.jobs (new_job q p (Stored w.calls q))) (w.calls + 1) (w.jobs + 1) f h (send_makes w q p h a) a
+sent_calls w q p true f h a = made_calls w q (Here p w.jobs) w.call (put w.job w.jobs (new_job q p Direct)) w.calls (w.jobs + 1) f h (plain_makes w q (Here p w.jobs) p Direct (λ c o z. cc) (λ r z. cc) (λ c o z. absurd (cc)) (λ u l s. s) h a) a
+sent_calls w q p false f h a = made_calls w q (Send (record { number = w.calls; pool = p; job = w.jobs })) (put w.call w.calls (new_call None w.jobs)) (put w.job w.jobs (new_job q p (Stored w.calls q))) (w.calls + 1) (w.jobs + 1) f h (send_makes w q p (Send (record { number = w.calls; pool = p; job = w.jobs })) (Stored w.calls q) refl (λ c o z. cc) refl refl (λ u s. s) h a) a
 
 install_calls : (w : World) (q : Party) (p : ℕ) → CallsHold w → IfSome (after_install w q p (w.stack q)) (λ u. Advance w u → CallsHold u)
 install_calls w q p h = if_cond (λ u. Advance w u → CallsHold u) (is_free ((w.stack q).top) && is_pool w.shape p) _ (λ f a. sent_calls w q p (is_member q p) ((and_parts (is_free ((w.stack q).top)) (is_pool w.shape p) f).0) h a)
+
+-- a list of scopes with more of them
+rescoped_calls : (u : World) (l : List Scope) → ((n : ℕ) (z : Scope) → slice_get l n ≡ Some z → z.call + 1 ≤ u.calls) → CallsHold u → CallsHold (record u { scopes = l })
+rescoped_calls u l b h = record {
+  jobs = record { ok = record { placed = (h.jobs).ok.placed; fit = (h.jobs).ok.fit }; unmade = (h.jobs).unmade; known = (h.jobs).known; feeds = (h.jobs).feeds };
+  says = λ q. later_stack u (record u { scopes = l }) same q (u.stack q) (h.says q);
+  ties = h.ties;
+  pools = h.pools;
+  cells = h.cells;
+  latches = λ c z. later_latch u (record u { scopes = l }) same 0 (OfCall c) (h.latches c z);
+  entries = h.entries;
+  scopes = b;
+  ends = h.ends;
+  lines = λ p i t z. later_made u (record u { scopes = l }) same t p (Detached p) (h.lines p i t z);
+}
+  where
+    same : Later u (record u { scopes = l })
+    same = record { jobs = omega arith; calls = omega arith; over = λ t e z. z; left = λ t z. z; kind = λ t z. refl; pool = λ t z. refl; bound = λ t z. refl; target = λ c z. refl; side = λ c z. refl; ended = λ p z. z; spent = λ c z y. y; given = λ p z. z }
+
+-- a scope is opened: its call is as one that waits for its body
+scope_calls : (w : World) (q : Party) (p : ℕ) → CallsHold w → IfSome (after_scope w q p (w.stack q)) (λ u. Advance w u → CallsHold u)
+scope_calls w q p h = if_cond (λ u. Advance w u → CallsHold u) (is_free ((w.stack q).top) && is_pool w.shape p) _ (λ f a. rescoped_calls v l more (made_calls w q n (put w.call w.calls (new_call None w.jobs)) (put w.job w.jobs (new_job q p (BodyOf w.calls q))) (w.calls + 1) (w.jobs + 1) ((and_parts (is_free ((w.stack q).top)) (is_pool w.shape p) f).0) h (send_makes w q p n (BodyOf w.calls q) refl (λ c o z. absurd (cc)) refl refl (λ u s. s) h (plain a)) (plain a)))
+  where
+    n : Plan
+    n = Open (record { number = w.calls; pool = p; job = w.jobs })
+
+    v : World
+    v = calling w q n (put w.call w.calls (new_call None w.jobs)) (put w.job w.jobs (new_job q p (BodyOf w.calls q))) (w.calls + 1) (w.jobs + 1)
+
+    s : Scope
+    s = record { call = w.calls; pool = p; owner = q }
+
+    l : List Scope
+    l = w.scopes ++ s ∷ []
+
+    plain : Advance w (record v { scopes = l }) → Advance w v
+    plain a = record { feeds = a.feeds; placed = a.placed; fit = a.fit; final = a.final; unmade = a.unmade; known = a.known }
+
+    more : (m : ℕ) (z : Scope) → slice_get l m ≡ Some z → z.call + 1 ≤ w.calls + 1
+    more m z e = elim (added w.scopes s m z e) [ inl old ↦ (let b : z.call + 1 ≤ w.calls = h.scopes m z old in omega (arith, b)) | inr now ↦ (let b : w.calls ≡ z.call = ap (λ (y : Scope). y.call) now in omega (arith, b)) ]
+
+into_calls : (w : World) (q : Party) (n : ℕ) → CallsHold w → IfSome (after_into w q n (w.stack q)) (λ u. Advance w u → CallsHold u)
+into_calls w q n h = into_cases (λ u. Advance w u → CallsHold u) w q n (λ z e free held. if_cond (λ u. Advance w u → CallsHold u) (is_free ((w.stack q).top) && holds z.call (w.stack q)) _ (λ f a.
+    let d : z.call + 1 ≤ w.calls = h.scopes n z e in
+    let m : Plan = Enter (record { call = z.call; owner = z.owner; pool = z.pool; job = w.jobs }) in
+    made_calls w q m w.call (put w.job w.jobs (new_job q z.pool (Scoped z.call z.owner))) w.calls (w.jobs + 1) free h
+    (plain_makes w q m z.pool (Scoped z.call z.owner) (λ c o y. absurd (cc)) (λ r y. absurd (cc)) (λ c o y. (let k : z.call ≡ c = cc in omega (arith, d, k))) (λ u l s. (s, omega (arith, d, l))) h a) a))
 
 join_calls : (w : World) (q : Party) → CallsHold w → IfSome (after_join w q (w.stack q)) (λ u. Advance w u → CallsHold u)
 join_calls w (Caller n) h = tt
@@ -330,6 +413,8 @@ step_calls w (Fifo q p) h = both w (step w (Fifo q p)) (step_advance w (Fifo q p
 step_calls w (Cast q p) h = both w (step w (Cast q p)) (step_advance w (Cast q p) ((h.jobs).feeds) ((h.jobs).ok) ((h.jobs).unmade)) (cast_calls w q p h)
 step_calls w (Install q p) h = both w (step w (Install q p)) (step_advance w (Install q p) ((h.jobs).feeds) ((h.jobs).ok) ((h.jobs).unmade)) (install_calls w q p h)
 step_calls w (Join q) h = both w (step w (Join q)) (step_advance w (Join q) ((h.jobs).feeds) ((h.jobs).ok) ((h.jobs).unmade)) (join_calls w q h)
+step_calls w (OpenScope q p) h = both w (step w (OpenScope q p)) (step_advance w (OpenScope q p) ((h.jobs).feeds) ((h.jobs).ok) ((h.jobs).unmade)) (scope_calls w q p h)
+step_calls w (IntoSpawn q n) h = both w (step w (IntoSpawn q n)) (step_advance w (IntoSpawn q n) ((h.jobs).feeds) ((h.jobs).ok) ((h.jobs).unmade)) (into_calls w q n h)
 step_calls w (Yield q) h = both w (step w (Yield q)) (step_advance w (Yield q) ((h.jobs).feeds) ((h.jobs).ok) ((h.jobs).unmade)) (yield_calls w q YieldPop (λ u r. tt) h)
 step_calls w (YieldLocal q) h = both w (step w (YieldLocal q)) (step_advance w (YieldLocal q) ((h.jobs).feeds) ((h.jobs).ok) ((h.jobs).unmade)) (yield_calls w q LocalPop (λ u r. tt) h)
 step_calls w (EndPool q p) h = both w (step w (EndPool q p)) (step_advance w (EndPool q p) ((h.jobs).feeds) ((h.jobs).ok) ((h.jobs).unmade)) (give_calls w q p h)
@@ -348,7 +433,7 @@ first_says h (Worker p i) = at (nat_lt i (h.pool p).workers) ((h.pool p).callers
     at false z = record { top = tt; below = tt; links = tt }
 
 pub first_calls : (h : Shape) → CallsHold (start h)
-first_calls h = record { jobs = first_jobs h; says = first_says h; ties = λ t b c o z. cc; pools = λ t b p z. cc; cells = λ c e z. cc; latches = λ c z. cc; ends = λ p i z. cc; lines = λ p i t b. absurd (omega (arith, b)) }
+first_calls h = record { jobs = first_jobs h; says = first_says h; ties = λ t b c o z. cc; pools = λ t b p z. cc; cells = λ c e z. cc; latches = λ c z. absurd (cc); entries = λ t b c o z. absurd (cc); scopes = λ n z e. absurd (cc); ends = λ p i z. cc; lines = λ p i t b. absurd (omega (arith, b)) }
 
 pub always_calls : (h : Shape) (es : List Event) (w : World) → IsRun (start h) es w → CallsHold w
 always_calls h es w r = run_keeps CallsHold step_calls (start h) w es (first_calls h) r

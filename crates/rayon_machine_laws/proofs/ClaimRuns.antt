@@ -2,20 +2,22 @@
 use Rattle.rayon_machine_places.specs.declared.place.Mark.TheVariants.{Counted, Queued, Returned}
 use Rattle.rayon_machine_places.specs.declared.place.Mark.{Mark as Marking}
 use Rattle.rayon_machine_places.specs.declared.place.Pieces.{Pieces}
+use Rattle.rayon_machine_places.specs.declared.state.Scope.{Scope}
+use Rattle.rayon_machine_places.specs.declared.place.Count.TheVariants.{OfPool, OfScope}
 use Rattle.std.proofs.Common.{arith, refl, sym, ◌∙◌, ap, subst, inl, inr}
-use Rattle.std.specs.Prelude.{ℕ, Bool, true, false, not, ◌&&◌, ◌+◌, ◌==◌, ◌≤◌, ◌<◌, if◌then◌else◌, Option, Some, List, ◌≡◌, IfSome, zero, suc, ◌-◌}
+use Rattle.std.specs.Prelude.{ℕ, Bool, true, false, not, ◌&&◌, ◌+◌, ◌==◌, ◌≤◌, ◌<◌, if◌then◌else◌, Option, Some, List, ◌≡◌, IfSome, zero, suc, ◌-◌, slice_get}
 use Rattle.std.proofs.lemmas.Bool.{eqb-true, eq-eqb, ltb-true, ltb-false}
 use Rattle.std.proofs.Math.Dec.{ltb}
 use Rattle.rayon_machine_places.specs.declared.place.Party.{Party}
 use Rattle.rayon_machine_places.specs.declared.place.Party.TheVariants.{Worker, Caller}
 use Rattle.rayon_machine_places.specs.declared.place.Ending.{Ending}
-use Rattle.rayon_machine_places.specs.declared.place.JobKind.TheVariants.{Detached, Stored, TokenOf}
+use Rattle.rayon_machine_places.specs.declared.place.JobKind.TheVariants.{Detached, Stored, TokenOf, Scoped}
 use Rattle.rayon_machine_places.specs.declared.place.Latch.{Latch}
 use Rattle.rayon_machine_places.specs.declared.place.Latch.TheVariants.{Terminate, OfCall}
-use Rattle.rayon_machine_places.specs.declared.place.Plan.TheVariants.{Detach, Here, Send, Fork, Feed}
+use Rattle.rayon_machine_places.specs.declared.place.Plan.TheVariants.{Detach, Here, Send, Fork, Feed, Open, Enter}
 use Rattle.rayon_machine_places.specs.declared.place.Taken.TheVariants.{Plain, Token}
 use Rattle.rayon_machine_places.specs.declared.place.Place.{Place}
-use Rattle.rayon_machine_places.specs.declared.place.Place.TheVariants.{PopWorking, TakeCastWorking, PopIdle, TakeCastIdle, StealFrom, PopInjected, JoinPop, JoinTakeCast, YieldPop, YieldTakeCast, YieldSteal, YieldPopInjected, LocalPop, LocalTakeCast, BeginTask, BeginHere, Run, TakeResult, LowerCount, StoreResult, SetLatch, SetLockLatch, AddToFifo, TakeFromFifo, LowerForAll}
+use Rattle.rayon_machine_places.specs.declared.place.Place.TheVariants.{PopWorking, TakeCastWorking, PopIdle, TakeCastIdle, StealFrom, PopInjected, JoinPop, JoinTakeCast, YieldPop, YieldTakeCast, YieldSteal, YieldPopInjected, LocalPop, LocalTakeCast, BeginTask, BeginHere, Run, TakeResult, LowerCount, StoreResult, SetLatch, SetLockLatch, AddToFifo, TakeFromFifo, LowerForAll, StoreBody}
 use Rattle.rayon_machine_places.specs.declared.place.Move.{Move}
 use Rattle.rayon_machine_places.specs.declared.place.Move.TheVariants.{Stay, Enter, StartRun, Back, HandBack, Discard, HandIn, Mark, HandAllBack}
 use Rattle.rayon_machine_places.specs.declared.act.Seen.{Seen}
@@ -38,8 +40,8 @@ use Rattle.rayon_machine_laws.proofs.Located.{is_left, IsOnward}
 use Rattle.rayon_machine_laws.proofs.Placed.{Kept}
 use Rattle.rayon_machine_laws.proofs.PlacedEvents.{go_kept, Advance, kept_advance}
 use Rattle.rayon_machine_laws.proofs.PlacedRuns.{JobsHold, jobs_advance}
-use Rattle.rayon_machine_laws.proofs.Claims.{Opened, Left, Taking, SaysLatch, Says, StackSays, PassMove, none_passes, land_says, Learns, says_next, MadeAs}
-use Rattle.rayon_machine_laws.proofs.Later.{Later, later_done, later_says, later_all, later_stack, Static, act_static, later_made}
+use Rattle.rayon_machine_laws.proofs.Claims.{Opened, Left, Taking, SaysLatch, Says, StackSays, PassMove, none_passes, land_says, Learns, says_next, MadeAs, IsReady}
+use Rattle.rayon_machine_laws.proofs.Later.{Later, later_done, later_says, later_all, later_stack, Static, act_static, later_made, later_latch}
 use Rattle.rayon_machine_laws.proofs.ClaimActs.{Lasting, lasting, Took, Learned, act_learned, made_held, stores, is_call, sets_call, sets_seat, Written, act_written, made_lined, lined, Lines, line_table}
 use Rattle.rayon_machine_places.specs.declared.place.Taken.{Taken}
 
@@ -50,7 +52,9 @@ pub record CallsHold (w : World) : Type 0 where
   pub ties : (t : ℕ) → t + 1 ≤ w.jobs → (c : ℕ) (o : Party) → (w.job t).kind ≡ Stored c o → (c + 1 ≤ w.calls) × ((w.call c).job ≡ t)
   pub pools : (t : ℕ) → t + 1 ≤ w.jobs → (p : ℕ) → (w.job t).kind ≡ Detached p → (w.job t).pool ≡ p
   pub cells : (c : ℕ) (e : Ending) → (w.call c).cell ≡ Some e → (w.job (w.call c).job).at ≡ Over e
-  pub latches : (c : ℕ) → (w.call c).latch ≡ IsSet → is_done (w.job (w.call c).job).at ≡ true
+  pub latches : (c : ℕ) → (w.call c).latch ≡ IsSet → SaysLatch w 0 (OfCall c)
+  pub entries : (t : ℕ) → t + 1 ≤ w.jobs → (c : ℕ) (o : Party) → (w.job t).kind ≡ Scoped c o → c + 1 ≤ w.calls
+  pub scopes : (n : ℕ) (z : Scope) → slice_get w.scopes n ≡ Some z → z.call + 1 ≤ w.calls
   pub ends : (p i : ℕ) → (w.seat p i).latch ≡ IsSet → (w.pool p).count ≡ 0
   pub lines : (p i t : ℕ) → 1 ≤ times t (w.seat p i).fifo → MadeAs w t p (Detached p)
 
@@ -119,6 +123,8 @@ after_left q (StartRun f a) J t z = put_left J a (begun q (J a)) t refl z
 after_left q (HandBack (Detach p a)) J t z = put_left J a (at_job (J a) HandedBack) t refl z
 after_left q (HandBack (Here p a)) J t z = put_left J a (at_job (J a) HandedBack) t refl z
 after_left q (HandBack (Send o)) J t z = put_left J (o.job) (at_job (J (o.job)) HandedBack) t refl z
+after_left q (HandBack (Open o)) J t z = put_left J (o.job) (at_job (J (o.job)) HandedBack) t refl z
+after_left q (HandBack (Enter o)) J t z = put_left J (o.job) (at_job (J (o.job)) HandedBack) t refl z
 after_left q (HandBack (Fork o a)) J t z = put_left (put J a (at_job (J a) HandedBack)) (o.job) (at_job (J (o.job)) HandedBack) t refl (put_left J a (at_job (J a) HandedBack) t refl z)
 after_left q (Mark y c k) J t z = marks_left c k J t z
 after_left q (HandAllBack c) J t z = marks_left c Returned J t z
@@ -164,13 +170,15 @@ learns w (Caller c) YieldPopInjected fs (Task t, m) h z o l y = taking_now w (Ca
 learns w (Caller c) LocalPop fs (Task t, m) h z o l y = taking_now w (Caller c) LocalPop fs t (Task t) m (h.jobs) o y
 learns w (Caller c) LocalTakeCast fs (Task t, m) h z o l y = taking_now w (Caller c) LocalTakeCast fs t (Task t) m (h.jobs) o y
 learns w (Worker a b) (TakeResult o f) fs (Found d, m) h z k l y = took w (world_after w (Worker a b) (TakeResult o f) fs (Found d, m)) (Worker a b) o f d h l ((top_says w (Worker a b) (TakeResult o f) fs h z).0) y
-learns w (Worker a b) (LowerCount p s k) fs (Yes, m) h z o l y = ap (λ v. v.count) (put_new w.pool p (m.pool)) ∙ y
+learns w (Worker a b) (LowerCount (OfPool p) s k) fs (Yes, m) h z o l y = ap (λ v. v.count) (put_new w.pool p (m.pool)) ∙ y
+learns w (Worker a b) (LowerCount (OfScope c g) s k) fs (Yes, m) h z o l y = ap (λ v. v.count) (put_new w.call c (m.call)) ∙ y
 learns w (Worker a b) (LowerForAll n) fs (Yes, m) h z o l y = ap (λ v. v.count) (put_new w.pool n.pool (m.pool)) ∙ y
 learns w (Worker a b) (TakeFromFifo f) fs (Task x, m) h z o l y = later_made w (world_after w (Worker a b) (TakeFromFifo f) fs (Task x, m)) (l.later) (taken_number x) f.pool (Detached f.pool) (subst (λ p. MadeAs w (taken_number x) p (Detached p)) (sym ((top_says w (Worker a b) (TakeFromFifo f) fs h z).2)) (h.lines a b (taken_number x) (y.1)))
 learns w (Worker a b) (BeginTask (Plain t)) fs (Begun d, m) h z o l y = (begun_held w (h.jobs) (Worker a b) t fs z, l.kinds t ∙ y)
 learns w (Worker a b) (BeginTask (Token k i)) fs (Handed t d, m) h z o l y = (made_lined w (h.jobs) a i t (y.1), l.kinds t ∙ ap (λ n. (w.job n).kind) (sym (y.0)) ∙ y.2)
 learns w (Caller v) (TakeResult o f) fs (Found d, m) h z k l y = took w (world_after w (Caller v) (TakeResult o f) fs (Found d, m)) (Caller v) o f d h l ((top_says w (Caller v) (TakeResult o f) fs h z).0) y
-learns w (Caller v) (LowerCount p s k) fs (Yes, m) h z o l y = ap (λ v. v.count) (put_new w.pool p (m.pool)) ∙ y
+learns w (Caller v) (LowerCount (OfPool p) s k) fs (Yes, m) h z o l y = ap (λ v. v.count) (put_new w.pool p (m.pool)) ∙ y
+learns w (Caller v) (LowerCount (OfScope c g) s k) fs (Yes, m) h z o l y = ap (λ v. v.count) (put_new w.call c (m.call)) ∙ y
 learns w (Caller v) (LowerForAll n) fs (Yes, m) h z o l y = ap (λ v. v.count) (put_new w.pool n.pool (m.pool)) ∙ y
 learns w (Caller v) (TakeFromFifo f) fs (Task x, m) h z o l y = later_made w (world_after w (Caller v) (TakeFromFifo f) fs (Task x, m)) (l.later) (taken_number x) f.pool (Detached f.pool) (subst (λ p. MadeAs w (taken_number x) p (Detached p)) (sym ((top_says w (Caller v) (TakeFromFifo f) fs h z).2)) (h.lines 0 0 (taken_number x) (y.1)))
 learns w (Caller v) (BeginTask (Plain t)) fs (Begun d, m) h z o l y = (begun_held w (h.jobs) (Caller v) t fs z, l.kinds t ∙ y)
@@ -181,21 +189,23 @@ learns w q x fs (e, m) h z o l y = tt
 store_says : (w : World) (q : Party) (x : Place) (e : Ending) → stores x ≡ Some e → Says w q x → (w.job (w.call (target_call (act_of q x))).job).at ≡ Over e
 store_says w (Worker a b) (StoreResult c o d) e z s = let k : d ≡ e = cc in s.1 ∙ ap Over k
 store_says w (Caller v) (StoreResult c o d) e z s = let k : d ≡ e = cc in s.1 ∙ ap Over k
+store_says w (Worker a b) (StoreBody o d) e z s = let k : d ≡ e = cc in ap (λ t. (w.job t).at) (((s.0).0).target) ∙ s.1 ∙ ap Over k
+store_says w (Caller v) (StoreBody o d) e z s = let k : d ≡ e = cc in ap (λ t. (w.job t).at) (((s.0).0).target) ∙ s.1 ∙ ap Over k
 store_says w q _ e z s = cc
 
-call_latch_says : (w : World) (p : ℕ) (l : Latch) → is_call l ≡ true → SaysLatch w p l → is_done (w.job (w.call (call_of l)).job).at ≡ true
+call_latch_says : (w : World) (p : ℕ) (l : Latch) → is_call l ≡ true → SaysLatch w p l → SaysLatch w 0 (OfCall (call_of l))
 call_latch_says w p Terminate z s = cc
-call_latch_says w p (OfCall c) z s = s.1
+call_latch_says w p (OfCall c) z s = s
 
 seat_latch_says : (w : World) (p : ℕ) (l : Latch) → not (is_call l) ≡ true → SaysLatch w p l → (w.pool p).count ≡ 0
 seat_latch_says w p Terminate z s = s
 seat_latch_says w p (OfCall c) z s = cc
 
-set_call_says : (w : World) (q : Party) (x : Place) → sets_call x ≡ true → Says w q x → is_done (w.job (w.call (target_call (act_of q x))).job).at ≡ true
+set_call_says : (w : World) (q : Party) (x : Place) → sets_call x ≡ true → Says w q x → SaysLatch w 0 (OfCall (target_call (act_of q x)))
 set_call_says w (Worker a b) (SetLatch k) z s = call_latch_says w k.pool k.latch z (s.0)
 set_call_says w (Caller v) (SetLatch k) z s = call_latch_says w k.pool k.latch z (s.0)
-set_call_says w (Worker a b) (SetLockLatch c) z s = s.1
-set_call_says w (Caller v) (SetLockLatch c) z s = s.1
+set_call_says w (Worker a b) (SetLockLatch c n) z s = s.0
+set_call_says w (Caller v) (SetLockLatch c n) z s = s.0
 set_call_says w q _ z s = cc
 
 set_seat_says : (w : World) (q : Party) (x : Place) → sets_seat x ≡ true → Says w q x → (w.pool (target_pool q (act_of q x))).count ≡ 0
@@ -225,6 +235,8 @@ act_calls w q x fs r h z st ke le wr li = record {
   pools = λ t b p k. (l.later).pool t b ∙ h.pools t b p (sym (l.kinds t) ∙ k);
   cells = λ c e k. cells c e (c == target_call (act_of q x)) refl k;
   latches = λ c k. latches c (c == target_call (act_of q x)) refl k;
+  entries = λ t b c o k. h.entries t b c o (sym (l.kinds t) ∙ k);
+  scopes = h.scopes;
   ends = λ p i k. ends p i ((p == target_pool q (act_of q x)) && (i == target_worker q (act_of q x))) refl k;
   lines = λ p i t b. later_made w u (l.later) t p (Detached p) (lines p i t ((p == target_pool q (act_of q x)) && (i == target_worker q (act_of q x))) refl b);
 }
@@ -241,17 +253,14 @@ act_calls w q x fs r h z st ke le wr li = record {
     over_now : (c : ℕ) (e : Ending) → (w.job (w.call c).job).at ≡ Over e → ((world_after w q x fs r).job ((world_after w q x fs r).call c).job).at ≡ Over e
     over_now c e k = ap (λ t. ((world_after w q x fs r).job t).at) (l.targets c) ∙ (l.later).over ((w.call c).job) e k
 
-    done_now : (c : ℕ) → is_done (w.job (w.call c).job).at ≡ true → is_done ((world_after w q x fs r).job ((world_after w q x fs r).call c).job).at ≡ true
-    done_now c k = ap (λ t. is_done ((world_after w q x fs r).job t).at) (l.targets c) ∙ later_done w (world_after w q x fs r) (l.later) ((w.call c).job) k
-
     cells : (c : ℕ) (e : Ending) (b : Bool) → (c == target_call (act_of q x)) ≡ b → (if b then r.1.call else w.call c).cell ≡ Some e → ((world_after w q x fs r).job ((world_after w q x fs r).call c).job).at ≡ Over e
     cells c e false y k = over_now c e (h.cells c e k)
     cells c e true y k = over_now c e (subst (λ d. (w.job (w.call d).job).at ≡ Over e) (sym (eqb-true c (target_call (act_of q x)) y))
         (elim (wr.cell e k) [ inl a ↦ h.cells (target_call (act_of q x)) e a | inr a ↦ store_says w q x e a (top_says w q x fs h z) ]))
 
-    latches : (c : ℕ) (b : Bool) → (c == target_call (act_of q x)) ≡ b → (if b then r.1.call else w.call c).latch ≡ IsSet → is_done ((world_after w q x fs r).job ((world_after w q x fs r).call c).job).at ≡ true
-    latches c false y k = done_now c (h.latches c k)
-    latches c true y k = done_now c (subst (λ d. is_done (w.job (w.call d).job).at ≡ true) (sym (eqb-true c (target_call (act_of q x)) y))
+    latches : (c : ℕ) (b : Bool) → (c == target_call (act_of q x)) ≡ b → (if b then r.1.call else w.call c).latch ≡ IsSet → SaysLatch (world_after w q x fs r) 0 (OfCall c)
+    latches c false y k = later_latch w (world_after w q x fs r) (l.later) 0 (OfCall c) (h.latches c k)
+    latches c true y k = later_latch w (world_after w q x fs r) (l.later) 0 (OfCall c) (subst (λ d. SaysLatch w 0 (OfCall d)) (sym (eqb-true c (target_call (act_of q x)) y))
         (elim (wr.call k) [ inl a ↦ h.latches (target_call (act_of q x)) a | inr a ↦ set_call_says w q x a (top_says w q x fs h z) ]))
 
     lines : (p i t : ℕ) (b : Bool) → ((p == target_pool q (act_of q x)) && (i == target_worker q (act_of q x))) ≡ b → 1 ≤ times t ((if b then r.1.seat else w.seat p i).fifo) → MadeAs w t p (Detached p)

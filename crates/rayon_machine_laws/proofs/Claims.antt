@@ -1,13 +1,15 @@
 -- what a place says of the world: of its party's calls, of their jobs, and of ended pools
 use Rattle.rayon_machine_places.specs.declared.place.Pieces.{Pieces}
-use Rattle.std.proofs.Common.{refl, sym, ap, subst}
-use Rattle.std.specs.Prelude.{ℕ, Bool, true, false, ◌&&◌, ◌+◌, ◌-◌, ◌==◌, ◌≤◌, nat_lt, if◌then◌else◌, Option, Some, None, List, [], ◌∷◌, ◌≡◌, ⊤}
+use Rattle.rayon_machine_places.specs.declared.place.Count.TheVariants.{OfPool, OfScope}
+use Rattle.rayon_machine_places.specs.declared.place.Count.{Count}
+use Rattle.std.proofs.Common.{refl, sym, ap, subst, inl, inr, ◌∙◌}
+use Rattle.std.specs.Prelude.{ℕ, Bool, true, false, ◌&&◌, ◌+◌, ◌-◌, ◌==◌, ◌≤◌, nat_lt, if◌then◌else◌, Option, Some, None, List, [], ◌∷◌, ◌≡◌, ⊤, ◌⊎◌}
 use Rattle.rayon_machine_places.specs.declared.place.Party.{Party}
 use Rattle.rayon_machine_places.specs.declared.place.Party.TheVariants.{Worker, Caller}
 use Rattle.rayon_machine_places.specs.declared.place.Ending.{Ending}
 use Rattle.rayon_machine_places.specs.declared.place.Ending.TheVariants.{Fine}
 use Rattle.rayon_machine_places.specs.declared.place.JobKind.{JobKind}
-use Rattle.rayon_machine_places.specs.declared.place.JobKind.TheVariants.{Detached, Stored, Direct, TokenOf}
+use Rattle.rayon_machine_places.specs.declared.place.JobKind.TheVariants.{Detached, Stored, Direct, TokenOf, Scoped, BodyOf}
 use Rattle.rayon_machine_places.specs.declared.place.Target.{Target}
 use Rattle.rayon_machine_places.specs.declared.place.Target.TheVariants.{Termination, Answer}
 use Rattle.rayon_machine_places.specs.declared.place.Latch.{Latch}
@@ -15,15 +17,15 @@ use Rattle.rayon_machine_places.specs.declared.place.Latch.TheVariants.{Terminat
 use Rattle.rayon_machine_places.specs.declared.place.Rounds.{Rounds}
 use Rattle.rayon_machine_places.specs.declared.place.Rounds.TheVariants.{Failed, Announced}
 use Rattle.rayon_machine_places.specs.declared.place.Plan.{Plan}
-use Rattle.rayon_machine_places.specs.declared.place.Plan.TheVariants.{Detach, Here, Send, Fork, Feed}
+use Rattle.rayon_machine_places.specs.declared.place.Plan.TheVariants.{Detach, Here, Send, Fork, Feed, Open, Enter}
 use Rattle.rayon_machine_places.specs.declared.place.Share.{Share}
-use Rattle.rayon_machine_places.specs.declared.place.Share.TheVariants.{PoolValue, OfJob}
+use Rattle.rayon_machine_places.specs.declared.place.Share.TheVariants.{PoolValue, OfJob, Body}
 use Rattle.rayon_machine_places.specs.declared.place.Then.{Then}
 use Rattle.rayon_machine_places.specs.declared.place.Then.TheVariants.{BeginFound, LeaveWait, Resume, Await, RunFirst, Answers, Missing, Ran, GiveBack, Called}
 use Rattle.rayon_machine_places.specs.declared.place.Taken.{Taken}
 use Rattle.rayon_machine_places.specs.declared.place.Taken.TheVariants.{Plain, Token}
 use Rattle.rayon_machine_places.specs.declared.place.Place.{Place}
-use Rattle.rayon_machine_places.specs.declared.place.Place.TheVariants.{ProbeWorking, PopWorking, TakeCastWorking, BecomeInactive, ProbeIdle, PopIdle, TakeCastIdle, PickVictim, StealFrom, PopInjected, AnnounceSelf, GetSleepy, LockOwn, FallAsleep, LoadCounters, AddSleeping, LookAtCast, LookAtInjector, BlockSelf, RelockOwn, UndoSleeping, WakeUp, UnlockOwn, LeaveSearch, JoinProbe, JoinPop, JoinTakeCast, YieldPop, YieldTakeCast, YieldPick, YieldSteal, YieldPopInjected, LocalPop, LocalTakeCast, BeginTask, BeginHere, Run, RaiseCount, GrowCall, LookQueue, PushJob, TellNews, LockToWake, WakeWorker, UnlockWoken, WaitForLock, TakeResult, LowerCount, StoreResult, SetLatch, LockToSettle, WakeSettled, UnlockSettled, SetLockLatch, FirstSide, SecondSide, AtOnce, AddToFifo, LookForToken, PushToken, TakeFromFifo, RaiseForAll, PushForAll, LowerForAll}
+use Rattle.rayon_machine_places.specs.declared.place.Place.TheVariants.{ProbeWorking, PopWorking, TakeCastWorking, BecomeInactive, ProbeIdle, PopIdle, TakeCastIdle, PickVictim, StealFrom, PopInjected, AnnounceSelf, GetSleepy, LockOwn, FallAsleep, LoadCounters, AddSleeping, LookAtCast, LookAtInjector, BlockSelf, RelockOwn, UndoSleeping, WakeUp, UnlockOwn, LeaveSearch, JoinProbe, JoinPop, JoinTakeCast, YieldPop, YieldTakeCast, YieldPick, YieldSteal, YieldPopInjected, LocalPop, LocalTakeCast, BeginTask, BeginHere, Run, RaiseCount, GrowCall, LookQueue, PushJob, TellNews, LockToWake, WakeWorker, UnlockWoken, WaitForLock, TakeResult, LowerCount, StoreResult, SetLatch, LockToSettle, WakeSettled, UnlockSettled, SetLockLatch, FirstSide, SecondSide, AtOnce, AddToFifo, LookForToken, PushToken, TakeFromFifo, RaiseForAll, PushForAll, LowerForAll, GrowScope, OpenSlot, CloseSlot, StoreBody, StoreSlot, ScopeBody}
 use Rattle.rayon_machine_places.specs.declared.place.Move.{Move}
 use Rattle.rayon_machine_places.specs.declared.place.Move.TheVariants.{Stay, Enter, StartRun, Back, HandBack, Discard, HandIn, Mark, HandAllBack}
 use Rattle.rayon_machine_places.specs.declared.act.Seen.{Seen}
@@ -33,19 +35,44 @@ use Rattle.rayon_machine_places.specs.declared.shape.PoolShape.{PoolShape}
 use Rattle.rayon_machine_places.specs.declared.place.OpenCall.{OpenCall}
 use Rattle.rayon_machine_places.specs.declared.place.Wait.{Wait}
 use Rattle.rayon_machine_places.specs.declared.place.Settling.{Settling}
-use Rattle.rayon_machine_places.specs.Places.{own_pool, own_index, plan_pool, plan_job, after_wait, finish, walk, settle, after_set, after_found, after_news, after_raise, undo, set_call, next_victim, not_self, after_failure, next_steal, next_yield, next_of, is_taken, taken_number}
+use Rattle.rayon_machine_places.specs.Places.{own_pool, own_index, plan_pool, plan_job, after_wait, finish, walk, settle, after_set, after_found, after_news, after_raise, undo, set_call, next_victim, not_self, after_failure, next_steal, next_yield, next_of, is_taken, taken_number, after_push, settle_count, plan_count}
 use Rattle.rayon_machine_places.specs.World.{Stack, World}
 use Rattle.rayon_machine_places.specs.Steps.{after_move, is_piece}
 use Rattle.rayon_machine_places.specs.Readers.{is_done}
-pub use Rattle.rayon_machine_laws.specs.Counted.{is_detached}
+pub use Rattle.rayon_machine_laws.specs.Counted.{is_detached, is_scoped}
 use Rattle.rayon_machine_laws.proofs.Located.{is_left}
+
+-- the call that waits for a job of this kind, and its owner
+abbrev pub call_kind : JobKind → Option (ℕ × Party)
+call_kind (Stored c o) = Some (c, o)
+call_kind (BodyOf c o) = Some (c, o)
+call_kind _ = None
+
+-- the body of a scope
+abbrev pub is_body : JobKind → Bool
+is_body (BodyOf c o) = true
+is_body _ = false
+
+pub call_undetached : (k : JobKind) (n : ℕ × Party) → call_kind k ≡ Some n → is_detached k ≡ false
+call_undetached (Stored c o) n e = refl
+call_undetached (BodyOf c o) n e = refl
+call_undetached _ n e = cc
+
+pub call_unscoped : (k : JobKind) (n : ℕ × Party) → call_kind k ≡ Some n → is_scoped k ≡ false
+call_unscoped (Stored c o) n e = refl
+call_unscoped (BodyOf c o) n e = refl
+call_unscoped _ n e = cc
+
+pub body_unscoped : (k : JobKind) → is_body k ≡ true → is_scoped k ≡ false
+body_unscoped (BodyOf c o) e = refl
+body_unscoped _ e = cc
 
 -- an open call's numbers are given out, and its job is the one whose ending comes into the call's cell
 pub record Opened (w : World) (q : Party) (o : OpenCall) : Type 0 where
   pub number : o.number + 1 ≤ w.calls
   pub made : o.job + 1 ≤ w.jobs
   pub target : (w.call o.number).job ≡ o.job
-  pub kind : (w.job o.job).kind ≡ Stored o.number q
+  pub kind : call_kind (w.job o.job).kind ≡ Some (o.number, q)
   pub pool : (w.job o.job).pool ≡ o.pool
 
 -- a job of this kind, made by a call at this pool
@@ -103,6 +130,8 @@ SaysPlan w q (Detach p t) = MadeAs w t p (Detached p)
 SaysPlan w q (Here p t) = MadeAs w t p Direct
 SaysPlan w q (Feed f) = MadeAs w f.job f.pool (Detached f.pool) × MadeAs w f.token f.pool (TokenOf (own_index q)) × (f.pool ≡ own_pool q)
 SaysPlan w q (Send o) = Opened w q o × ((w.call o.number).first ≡ None)
+SaysPlan w q (Open o) = Opened w q o × ((w.call o.number).first ≡ None)
+SaysPlan w q (Enter e) = MadeAs w e.job e.pool (Scoped e.call e.owner) × (e.call + 1 ≤ w.calls)
 SaysPlan w q (Fork o a) = Opened w q o × ((w.call o.number).first ≡ Some a) × Awaited w a
 
 -- a call that queues a job; an install that runs its job at once queues none, and a call for a FIFO list queues a token
@@ -110,17 +139,21 @@ SaysPlan w q (Fork o a) = Opened w q o × ((w.call o.number).first ≡ Some a) �
 abbrev pub SaysQueue : World → Party → Plan → Type 0
 SaysQueue w q (Here p t) = ⊥
 SaysQueue w q (Feed f) = ⊥
+SaysQueue w q (Open o) = ⊥
 SaysQueue w q n = SaysPlan w q n
 
 -- a call that has queued a job or a token
 abbrev pub SaysTold : World → Party → Plan → Type 0
 SaysTold w q (Detach p t) = (t + 1 ≤ w.jobs) × ((w.job t).pool ≡ p)
 SaysTold w q (Feed f) = ⊥
+SaysTold w q (Open o) = ⊥
 SaysTold w q n = SaysPlan w q n
 
 pub queue_plan : (w : World) (q : Party) (n : Plan) → SaysQueue w q n → SaysPlan w q n
 queue_plan w q (Here p t) s = absurd s
 queue_plan w q (Feed f) s = absurd s
+queue_plan w q (Open o) s = absurd s
+queue_plan w q (Enter e) s = s
 queue_plan w q (Detach p t) s = s
 queue_plan w q (Send o) s = s
 queue_plan w q (Fork o a) s = s
@@ -144,21 +177,50 @@ SaysOwner w t p Called = ((w.job t).kind ≡ Detached p) × (is_done (w.job t).a
 SaysOwner w t p (Answers o f e) = o.job ≡ t
 SaysOwner w t p (Missing o f) = o.job ≡ t
 SaysOwner w t p (Ran u e) = (u ≡ t) × ((w.job t).kind ≡ Direct)
-SaysOwner w t p (GiveBack n) = plan_job n ≡ t
+SaysOwner w t p (GiveBack n) = (plan_job n ≡ t) × (plan_count n ≡ OfPool p)
 SaysOwner w t p _ = ⊥
 
-abbrev pub SaysShare : World → ℕ → Share → Then → Type 0
-SaysShare w p PoolValue n = ((w.pool p).held ≡ false) × (n ≡ Resume)
-SaysShare w p (OfJob t) n = (t + 1 ≤ w.jobs) × ((w.job t).pool ≡ p) × SaysOwner w t p n
+-- of a scope: a job that is over, and one of a refused spawn
+abbrev pub SaysEntry : World → ℕ → Then → Type 0
+SaysEntry w t Resume = is_done (w.job t).at ≡ true
+SaysEntry w t (GiveBack n) = plan_job n ≡ t
+SaysEntry w t _ = ⊥
 
--- the job that a call's latch counts is over; a pool whose terminate latches are set has ended
+-- and the body, whose call waits next
+abbrev pub SaysBody : ℕ → Then → Type 0
+SaysBody c (Await o) = o.number ≡ c
+SaysBody c _ = ⊥
+
+abbrev pub SaysShare : World → Count → Share → Then → Type 0
+SaysShare w (OfPool p) PoolValue n = ((w.pool p).held ≡ false) × (n ≡ Resume)
+SaysShare w (OfPool p) (OfJob t) n = (t + 1 ≤ w.jobs) × ((w.job t).pool ≡ p) × SaysOwner w t p n
+SaysShare w (OfPool p) Body n = ⊥
+SaysShare w (OfScope c o) PoolValue n = ⊥
+SaysShare w (OfScope c o) (OfJob t) n = (t + 1 ≤ w.jobs) × ((w.job t).kind ≡ Scoped c o) × (c + 1 ≤ w.calls) × SaysEntry w t n
+SaysShare w (OfScope c o) Body n = (c + 1 ≤ w.calls) × (is_done (w.job (w.call c).job).at ≡ true) × SaysBody c n
+
+-- a call is no scope: its job was made, and is no body
+abbrev pub IsStored : World → ℕ → Type 0
+IsStored w c = ((w.call c).job + 1 ≤ w.jobs) × (is_body (w.job (w.call c).job).kind ≡ false)
+
+-- a call's latch can be set: its count is 0, or, of one that is no scope, the job that it waits for is over
+abbrev pub IsReady : World → ℕ → Type 0
+IsReady w c = (IsStored w c × (is_done (w.job (w.call c).job).at ≡ true)) ⊎ ((w.call c).count ≡ 0)
+
+-- who sets a call's latch can; a pool whose terminate latches are set has ended
 abbrev pub SaysLatch : World → ℕ → Latch → Type 0
 SaysLatch w p Terminate = (w.pool p).count ≡ 0
-SaysLatch w p (OfCall c) = (c + 1 ≤ w.calls) × (is_done (w.job (w.call c).job).at ≡ true)
+SaysLatch w p (OfCall c) = (c + 1 ≤ w.calls) × IsReady w c
+
+-- the count is 0
+abbrev pub IsZero : World → Count → Type 0
+IsZero w (OfPool p) = (w.pool p).count ≡ 0
+IsZero w (OfScope c o) = (w.call c).count ≡ 0
 
 abbrev pub SaysRun : World → ℕ → JobKind → Type 0
 SaysRun w t Direct = Awaited w t
 SaysRun w t (TokenOf i) = Awaited w t
+SaysRun w t (BodyOf c9 o9) = Awaited w t
 SaysRun w t k = (t + 1 ≤ w.jobs) × ((w.job t).kind ≡ k)
 
 abbrev pub Says : World → Party → Place → Type 0
@@ -195,6 +257,9 @@ Says w q (BeginHere t) = Awaited w t
 Says w q (Run t k) = SaysRun w t k
 Says w q (RaiseCount n) = SaysPlan w q n
 Says w q (GrowCall n) = SaysQueue w q n
+Says w q (GrowScope o) = SaysPlan w q (Open o)
+Says w q (OpenSlot e) = SaysPlan w q (Enter e)
+Says w q (CloseSlot e) = SaysPlan w q (Enter e)
 Says w q (LookQueue n) = SaysQueue w q n
 Says w q (PushJob n e) = SaysQueue w q n
 Says w q (AddToFifo f) = SaysPlan w q (Feed f)
@@ -211,13 +276,16 @@ Says w q (UnlockWoken k) = SaysThen w q k.then
 Says w q (WaitForLock o) = SaysTarget w q (Answer o None)
 Says w q (TakeResult o f) = SaysTarget w q (Answer o f)
 Says w q (LowerCount p s n) = SaysThen w q n × SaysShare w p s n
-Says w q (StoreResult c o e) = (c + 1 ≤ w.calls) × ((w.job (w.call c).job).at ≡ Over e)
+Says w q (StoreResult c o e) = (c + 1 ≤ w.calls) × ((w.job (w.call c).job).at ≡ Over e) × IsStored w c
+Says w q (StoreBody o e) = SaysTarget w q (Answer o None) × ((w.job o.job).at ≡ Over e)
+Says w q (StoreSlot c o t e) = (t + 1 ≤ w.jobs) × ((w.job t).kind ≡ Scoped c o) × (c + 1 ≤ w.calls) × ((w.job t).at ≡ Over e)
 Says w q (SetLatch s) = SaysLatch w s.pool s.latch × SaysThen w q s.then
 Says w q (LockToSettle s) = SaysLatch w s.pool s.latch × SaysThen w q s.then
 Says w q (WakeSettled s) = SaysLatch w s.pool s.latch × SaysThen w q s.then
 Says w q (UnlockSettled s) = SaysLatch w s.pool s.latch × SaysThen w q s.then
-Says w q (SetLockLatch c) = SaysLatch w 0 (OfCall c)
+Says w q (SetLockLatch c n) = SaysLatch w 0 (OfCall c) × SaysThen w q n
 Says w q (FirstSide o a) = SaysPlan w q (Fork o a)
+Says w q (ScopeBody o) = SaysTarget w q (Answer o None)
 Says w q (AtOnce p t) = SaysPlan w q (Here p t)
 Says w q _ = ⊤
 
@@ -225,6 +293,7 @@ Says w q _ = ⊤
 abbrev pub wants : Place → Option ℕ
 wants (FirstSide o a) = Some a
 wants (SecondSide o) = Some o.job
+wants (ScopeBody o) = Some o.job
 wants (AtOnce p t) = Some t
 wants _ = None
 
@@ -232,6 +301,7 @@ abbrev pub here : Place → Option ℕ
 here (BeginHere t) = Some t
 here (Run t Direct) = Some t
 here (Run t (TokenOf i)) = Some t
+here (Run t (BodyOf c9 o9)) = Some t
 here _ = None
 
 -- above a frame stands what it goes on from
@@ -262,6 +332,8 @@ says_back w q (Feed f) s = ap is_detached ((s.0).kind)
 says_back w q (Detach p t) s = tt
 says_back w q (Here p t) s = tt
 says_back w q (Send o) s = tt
+says_back w q (Open o) s = tt
+says_back w q (Enter e) s = tt
 says_back w q (Fork o a) s = tt
 
 -- what is said of where a move leads
@@ -332,7 +404,7 @@ Learns w YieldPopInjected (Task t) = Taking w t
 Learns w LocalPop (Task t) = Taking w t
 Learns w LocalTakeCast (Task t) = Taking w t
 Learns w (TakeResult o f) (Found e) = (w.job o.job).at ≡ Over e
-Learns w (LowerCount p s n) Yes = (w.pool p).count ≡ 0
+Learns w (LowerCount k s n) Yes = IsZero w k
 Learns w (LowerForAll c) Yes = (w.pool c.pool).count ≡ 0
 Learns w (BeginTask (Plain t)) (Begun k) = (t + 1 ≤ w.jobs) × ((w.job t).kind ≡ k)
 Learns w (BeginTask (Token k i)) (Handed t d) = (t + 1 ≤ w.jobs) × ((w.job t).kind ≡ d)
@@ -410,13 +482,17 @@ says_raised w q (Here p t) s = (s, record { made = s.made; kind = ap is_detached
 says_raised w q (Send o) s = s
 says_raised w q (Fork o a) s = s
 says_raised w q (Feed f) s = s
+says_raised w q (Open o) s = s
+says_raised w q (Enter e) s = s
 
 says_undone : (w : World) (q : Party) (n : Plan) → SaysPlan w q n → Says w q (undo n)
-says_undone w q (Detach p t) s = (s, (s.made, s.pool, refl))
-says_undone w q (Here p t) s = (s, (s.made, s.pool, refl))
-says_undone w q (Send o) s = (s, ((s.0).made, (s.0).pool, refl))
-says_undone w q (Feed f) s = (s, ((s.0).made, (s.0).pool, refl))
-says_undone w q (Fork o a) s = (s, ((s.0).made, (s.0).pool, refl))
+says_undone w q (Detach p t) s = (s, (s.made, s.pool, (refl, refl)))
+says_undone w q (Here p t) s = (s, (s.made, s.pool, (refl, refl)))
+says_undone w q (Open o) s = (s, ((s.0).made, (s.0).pool, (refl, refl)))
+says_undone w q (Enter e) s = (s, ((s.0).made, (s.0).kind, s.1, refl))
+says_undone w q (Send o) s = (s, ((s.0).made, (s.0).pool, (refl, refl)))
+says_undone w q (Feed f) s = (s, ((s.0).made, (s.0).pool, (refl, refl)))
+says_undone w q (Fork o a) s = (s, ((s.0).made, (s.0).pool, (refl, refl)))
 
 says_goes : (w : World) (q : Party) (n : Plan) → SaysTold w q n → SaysThen w q (after_news n)
 says_goes w q (Detach p t) s = tt
@@ -424,11 +500,15 @@ says_goes w q (Here p t) s = tt
 says_goes w q (Send o) s = (s.0, subst (λ x. FirstEnds w x None) (sym (s.1)) tt)
 says_goes w q (Fork o a) s = s
 says_goes w q (Feed f) s = absurd s
+says_goes w q (Open o) s = absurd s
+says_goes w q (Enter e) s = tt
 
 says_told : (w : World) (q : Party) (n : Plan) → SaysQueue w q n → SaysTold w q n
 says_told w q (Detach p t) s = (s.made, s.pool)
 says_told w q (Here p t) s = absurd s
 says_told w q (Feed f) s = absurd s
+says_told w q (Open o) s = absurd s
+says_told w q (Enter e) s = s
 says_told w q (Send o) s = s
 says_told w q (Fork o a) s = s
 
@@ -436,12 +516,29 @@ says_pop : (w : World) (q : Party) (o : OpenCall) (x : Taken) → Taking w x →
 says_pop w q o x l s = by (is_taken x o.job)
   where
     by : (z : Bool) → SaysMove w q (if z then Enter (SecondSide o) (BeginHere o.job) else Enter (JoinProbe o) (BeginTask x))
-    by true = (s, record { made = (s.0).made; kind = ap is_detached ((s.0).kind) }, λ u z. z)
+    by true = (s, record { made = (s.0).made; kind = call_undetached ((w.job o.job).kind) (o.number, q) ((s.0).kind) }, λ u z. z)
     by false = (s, l, λ u z. cc)
 
-says_set : (w : World) (q o : Party) (c : ℕ) (e : Ending) → (c + 1 ≤ w.calls) × ((w.job (w.call c).job).at ≡ Over e) → Says w q (set_call c o)
-says_set w q (Worker p i) c e s = ((s.0, ap is_done (s.1)), tt)
-says_set w q (Caller n) c e s = (s.0, ap is_done (s.1))
+says_set : (w : World) (q o : Party) (c : ℕ) (n : Then) → (c + 1 ≤ w.calls) × IsReady w c → SaysThen w q n → Says w q (set_call c o n)
+says_set w q (Worker p i) c n s y = (s, y)
+says_set w q (Caller i) c n s y = (s, y)
+
+-- what follows once a count is 0
+says_zero : (w : World) (g : PoolShape) (q : Party) (k : Count) (a : Share) (n : Then) → IsZero w k → SaysThen w q n → SaysShare w k a n → SaysMove w q (settle_count g q k n)
+says_zero w g q (OfPool p) a n z s h = says_settle w g q p 0 n z s
+says_zero w g q (OfScope c o) (OfJob t) n z s h = says_set w q o c n (h.2, inr z) s
+says_zero w g q (OfScope c o) Body n z s h = says_set w q o c n (h.0, inr z) s
+says_zero w g q (OfScope c o) PoolValue n z s h = absurd h
+
+-- where a call goes whose push was refused
+says_unpushed : (w : World) (q : Party) (n : Plan) → SaysQueue w q n → Says w q (after_push n)
+says_unpushed w q (Detach p t) s = says_undone w q (Detach p t) s
+says_unpushed w q (Here p t) s = absurd s
+says_unpushed w q (Send o) s = says_undone w q (Send o) s
+says_unpushed w q (Fork o a) s = says_undone w q (Fork o a) s
+says_unpushed w q (Feed f) s = absurd s
+says_unpushed w q (Open o) s = absurd s
+says_unpushed w q (Enter e) s = s
 
 -- what a place says, and what its act's answer tells, gives what is said of the next place
 pub says_next : (w : World) (g : PoolShape) (q : Party) (x : Place) (e : Seen) → Learns w x e → Says w q x → SaysMove w q (next_of g q x e)
@@ -501,13 +598,17 @@ says_next w g q LocalTakeCast (Task t) l s = l
 says_next w g q LocalTakeCast _ l s = tt
 says_next w g q (BeginTask (Plain t)) (Begun Direct) l s = record { made = l.0; kind = ap is_detached (l.1) }
 says_next w g q (BeginTask (Plain t)) (Begun (TokenOf i)) l s = record { made = l.0; kind = ap is_detached (l.1) }
+says_next w g q (BeginTask (Plain t)) (Begun (BodyOf c9 o9)) l s = record { made = l.0; kind = ap is_detached (l.1) }
 says_next w g q (BeginTask (Plain t)) (Begun (Detached p)) l s = l
 says_next w g q (BeginTask (Plain t)) (Begun (Stored c o)) l s = l
+says_next w g q (BeginTask (Plain t)) (Begun (Scoped c o)) l s = l
 says_next w g q (BeginTask (Plain t)) _ l s = s
 says_next w g q (BeginTask (Token k i)) (Handed t Direct) l s = (record { made = l.0; kind = ap is_detached (l.1) }, ap is_detached (s.2))
 says_next w g q (BeginTask (Token k i)) (Handed t (TokenOf j)) l s = (record { made = l.0; kind = ap is_detached (l.1) }, ap is_detached (s.2))
+says_next w g q (BeginTask (Token k i)) (Handed t (BodyOf c9 o9)) l s = (record { made = l.0; kind = ap is_detached (l.1) }, ap is_detached (s.2))
 says_next w g q (BeginTask (Token k i)) (Handed t (Detached p)) l s = (l, ap is_detached (s.2))
 says_next w g q (BeginTask (Token k i)) (Handed t (Stored c o)) l s = (l, ap is_detached (s.2))
+says_next w g q (BeginTask (Token k i)) (Handed t (Scoped c o)) l s = (l, ap is_detached (s.2))
 says_next w g q (BeginTask (Token k i)) _ l s = ap is_detached (s.2)
 says_next w g q (AddToFifo f) Done l s = s
 says_next w g q (AddToFifo f) _ l s = says_undone w q (Feed f) s
@@ -515,7 +616,7 @@ says_next w g q (LookForToken f) Yes l s = s
 says_next w g q (LookForToken f) _ l s = s
 says_next w g q (PushToken f v) Done l s = ((s.1).made, (s.1).pool)
 says_next w g q (PushToken f v) _ l s = s
-says_next w g q (TakeFromFifo f) (Task x) l s = ((l, s.1, s.2), (l.made, l.pool, refl))
+says_next w g q (TakeFromFifo f) (Task x) l s = ((l, s.1, s.2), (l.made, l.pool, (refl, refl)))
 says_next w g q (TakeFromFifo f) _ l s = tt
 says_next w g q (RaiseForAll c) Done l s = (s, s)
 says_next w g q (RaiseForAll c) _ l s = s
@@ -531,7 +632,7 @@ says_next w g q (GrowCall n) _ l s = says_undone w q n (queue_plan w q n s)
 says_next w g q (LookQueue n) Yes l s = s
 says_next w g q (LookQueue n) _ l s = s
 says_next w g q (PushJob n v) Done l s = says_told w q n s
-says_next w g q (PushJob n v) _ l s = says_undone w q n (queue_plan w q n s)
+says_next w g q (PushJob n v) _ l s = says_unpushed w q n s
 says_next w g q (TellNews n v) (Wakes k) l s = says_walk w g q (plan_pool n) k 0 (after_news n) (says_goes w q n s)
 says_next w g q (TellNews n v) _ l s = s
 says_next w g q (WakeWorker k) Yes l s = s
@@ -539,11 +640,18 @@ says_next w g q (WakeWorker k) _ l s = s
 says_next w g q (UnlockWoken k) e l s = says_walk w g q k.pool k.owed (k.worker + 1) k.then s
 says_next w g q (TakeResult o f) (Found e) l s = ((s.0, s.1, l), ((s.0).made, (s.0).pool, refl))
 says_next w g q (TakeResult o f) _ l s = (s, ((s.0).made, (s.0).pool, refl))
-says_next w g q (LowerCount p a n) Yes l s = says_settle w g q p 0 n l (s.0)
-says_next w g q (LowerCount p a n) _ l s = says_finish w q n (s.0)
-says_next w g q (StoreResult c o e) _ l s = says_set w q o c e s
+says_next w g q (LowerCount k a n) Yes l s = says_zero w g q k a n l (s.0) (s.1)
+says_next w g q (LowerCount k a n) _ l s = says_finish w q n (s.0)
+says_next w g q (StoreResult c o e) _ l s = says_set w q o c Resume (s.0, inl (s.2, ap is_done (s.1))) tt
+says_next w g q (StoreBody o e) _ l s = (s.0, (((s.0).0).number, ap (λ t. is_done (w.job t).at) (((s.0).0).target) ∙ ap is_done (s.1), refl))
+says_next w g q (StoreSlot c o t e) _ l s = (tt, (s.0, s.1, s.2, ap is_done (s.3)))
+says_next w g q (GrowScope o) Done l s = (((s.0), subst (λ x. FirstEnds w x None) (sym (s.1)) tt), (λ u z. z), record { made = (s.0).made; kind = call_undetached ((w.job o.job).kind) (o.number, q) ((s.0).kind) })
+says_next w g q (GrowScope o) _ l s = says_undone w q (Open o) s
+says_next w g q (OpenSlot n) Done l s = s
+says_next w g q (OpenSlot n) _ l s = says_undone w q (Enter n) s
+says_next w g q (CloseSlot n) _ l s = says_undone w q (Enter n) s
 says_next w g q (SetLatch k) Yes l s = s
 says_next w g q (SetLatch k) _ l s = says_settled w g q k k.latch (s.0) (s.1)
 says_next w g q (UnlockSettled k) e l s = says_settled w g q k k.latch (s.0) (s.1)
-says_next w g q (SetLockLatch c) e l s = tt
+says_next w g q (SetLockLatch c n) e l s = says_finish w q n (s.1)
 says_next w g q _ e l s = s

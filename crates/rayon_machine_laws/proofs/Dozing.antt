@@ -1,17 +1,18 @@
 -- where the latch of a worker that falls asleep is set, its setter is on its way to wake it
+use Rattle.rayon_machine_places.specs.declared.place.Then.{Then}
+use Rattle.rayon_machine_places.specs.declared.place.OpenCall.{OpenCall}
 use Rattle.std.proofs.Common.{refl, sym, ◌∙◌, ap, subst, inl, inr}
 use Rattle.std.specs.Prelude.{ℕ, Bool, true, false, ◌&&◌, ◌==◌, if◌then◌else◌, Option, Some, None, List, ◌≡◌, ◌⊎◌, IfSome}
 use Rattle.std.proofs.lemmas.Bool.{eqb-true, eq-eqb}
 use Rattle.rayon_machine_places.specs.declared.place.Party.{Party}
 use Rattle.rayon_machine_places.specs.declared.place.Party.TheVariants.{Worker, Caller}
-use Rattle.rayon_machine_places.specs.declared.place.JobKind.TheVariants.{Stored}
 use Rattle.rayon_machine_places.specs.declared.place.Target.{Target}
 use Rattle.rayon_machine_places.specs.declared.place.Target.TheVariants.{Termination, Answer}
 use Rattle.rayon_machine_places.specs.declared.place.Latch.{Latch}
 use Rattle.rayon_machine_places.specs.declared.place.Latch.TheVariants.{Terminate, OfCall}
 use Rattle.rayon_machine_places.specs.declared.place.Plan.{Plan}
 use Rattle.rayon_machine_places.specs.declared.place.Place.{Place}
-use Rattle.rayon_machine_places.specs.declared.place.Place.TheVariants.{GetSleepy, FallAsleep, LoadCounters, AddSleeping, LookAtCast, LookAtInjector, BlockSelf, RelockOwn, WakeUp, GrowCall, SetLatch, LockToSettle, WakeSettled, SetLockLatch}
+use Rattle.rayon_machine_places.specs.declared.place.Place.TheVariants.{GetSleepy, FallAsleep, LoadCounters, AddSleeping, LookAtCast, LookAtInjector, BlockSelf, RelockOwn, WakeUp, GrowCall, SetLatch, LockToSettle, WakeSettled, SetLockLatch, GrowScope}
 use Rattle.rayon_machine_places.specs.declared.act.Seen.{Seen}
 use Rattle.rayon_machine_places.specs.declared.act.Seen.TheVariants.{Yes}
 use Rattle.rayon_machine_places.specs.declared.state.Letter.{Letter}
@@ -24,10 +25,10 @@ use Rattle.rayon_machine_laws.specs.Attended.{letter_at, same_latch, settles, Ha
 use Rattle.rayon_machine_laws.proofs.Calm.{part_at, counts_seen, next_at}
 use Rattle.rayon_machine_laws.proofs.Frame.{either, and_parts, same_index, same_refl, same_party_true, if_some_map, stack_other}
 use Rattle.rayon_machine_laws.proofs.Holding.{LocksOk, hold_target}
-use Rattle.rayon_machine_laws.proofs.Latches.{SameLatches, is_latching, latches_same, OneLatch, writes, or_terminate, writes_one, grow_one, lock_one, Sets, set_one}
+use Rattle.rayon_machine_laws.proofs.Latches.{SameLatches, is_latching, latches_same, OneLatch, writes, or_terminate, writes_one, grow_one, lock_one, Sets, set_one, scope_one}
 use Rattle.rayon_machine_laws.proofs.Locks.{holds}
-use Rattle.rayon_machine_laws.proofs.Owned.{Mine, SetsFor, Names, Owned, setter_of, stored_owner}
-use Rattle.rayon_machine_laws.proofs.Owners.{target_number, own_call, kind_call, latch_call}
+use Rattle.rayon_machine_laws.proofs.Owned.{Mine, SetsFor, Names, Owned, setter_of, owner_calls}
+use Rattle.rayon_machine_laws.proofs.Owners.{target_number, own_call, latch_call}
 use Rattle.rayon_machine_laws.proofs.Pushing.{top_is}
 use Rattle.rayon_machine_laws.proofs.Seats.{mode, owns_in}
 use Rattle.rayon_machine_laws.proofs.Ties.{SeatsOk, shape_at, outcome, result}
@@ -160,10 +161,10 @@ abbrev pub LetterChange : World → Party → Stack → ℕ → ℕ → Latch �
 LetterChange w q k p i l r = (letter_at (result w q k r) p i l ≡ letter_at w p i l) ⊎ SetNow w q k r p i l
 
 clash : (w : World) (q : Party) (p i c : ℕ) → same_party (Worker p i) q ≡ false → Mine w q c → Mine w (Worker p i) c → ⊥
-clash w q p i c d a b = let k : Stored c (Worker p i) ≡ Stored c q = sym (b.1) ∙ a.1 in let s : Worker p i ≡ q = ap stored_owner k in let l : same_party (Worker p i) q ≡ true = ap (same_party (Worker p i)) (sym s) ∙ same_refl p i in cc
+clash w q p i c d a b = let k : Some (c, Worker p i) ≡ Some (c, q) = sym (b.1) ∙ a.1 in let s : Worker p i ≡ q = ap setter_of k in let l : same_party (Worker p i) q ≡ true = ap (same_party (Worker p i)) (sym s) ∙ same_refl p i in cc
 
 set_clash : (w : World) (p i c : ℕ) (o : Party) → SetsFor w c o → Mine w (Worker p i) c → Worker p i ≡ o
-set_clash w p i c o a b = ap setter_of (sym (ap kind_call (b.1)) ∙ a.1)
+set_clash w p i c o a b = ap setter_of (sym (owner_calls (w.job (w.call c).job).kind c (Worker p i) (b.1)) ∙ a.1)
 
 same_latch_refl : (l : Latch) → same_latch l l ≡ true
 same_latch_refl Terminate = refl
@@ -199,9 +200,13 @@ target_grow : (q : Party) (n : Plan) → target_call (act_of q (GrowCall n)) ≡
 target_grow (Worker a b) n = refl
 target_grow (Caller o) n = refl
 
-target_lock : (q : Party) (c : ℕ) → target_call (act_of q (SetLockLatch c)) ≡ c
-target_lock (Worker a b) n = refl
-target_lock (Caller o) n = refl
+target_scope : (q : Party) (n : OpenCall) → target_call (act_of q (GrowScope n)) ≡ n.number
+target_scope (Worker a b) n = refl
+target_scope (Caller o) n = refl
+
+target_lock : (q : Party) (c : ℕ) (t : Then) → target_call (act_of q (SetLockLatch c t)) ≡ c
+target_lock (Worker a b) n t = refl
+target_lock (Caller o) n t = refl
 
 set_changes : (w : World) (q : Party) (s : Settling) (fs : List Place) (p i : ℕ) (l : Latch) → w.stack q ≡ record { top = SetLatch s; below = fs } → Owned w → ((c : ℕ) → l ≡ OfCall c → Mine w (Worker p i) c) → IfSome (outcome w q (record { top = SetLatch s; below = fs })) (LetterChange w q (record { top = SetLatch s; below = fs }) p i l)
 set_changes w q s fs p i l e ow mine = if_some_map {A = Seen × Part} (Sets s.latch (part_at w q k)) (LetterChange w q k p i l) (λ r z. by_latches s.latch l refl refl r z) (outcome w q k) (set_one w.shape q (counts_seen w q k) (part_at w q k) s)
@@ -248,9 +253,12 @@ letters w q (SetLatch s) fs p i l e d ow mine = set_changes w q s fs p i l e ow 
 letters w q (GrowCall n) fs p i l e d ow mine = if_some_map {A = Seen × Part} (λ r. r.1.seat.latch ≡ (part_at w q (record { top = GrowCall n; below = fs })).seat.latch) (LetterChange w q (record { top = GrowCall n; below = fs }) p i l)
     (λ r s. inl (letter_kept w q (record { top = GrowCall n; below = fs }) r p i l (λ lt ep ei. s) (λ c lc ec. absurd (clash w q p i c d (subst (Mine w q) (sym (ec ∙ target_grow q n)) ((subst (λ z. Names w q (z.top)) e ((ow.named q).top)).own (plan_call n) refl)) (mine c lc)))))
     (outcome w q (record { top = GrowCall n; below = fs })) (grow_one w.shape q (counts_seen w q (record { top = GrowCall n; below = fs })) (part_at w q (record { top = GrowCall n; below = fs })) n)
-letters w q (SetLockLatch n) fs p i l e d ow mine = if_some_map {A = Seen × Part} (λ r. r.1.seat.latch ≡ (part_at w q (record { top = SetLockLatch n; below = fs })).seat.latch) (LetterChange w q (record { top = SetLockLatch n; below = fs }) p i l)
-    (λ r s. inl (letter_kept w q (record { top = SetLockLatch n; below = fs }) r p i l (λ lt ep ei. s) (λ c lc ec. absurd (let v : Worker p i ≡ Caller 0 = set_clash w p i c (Caller 0) (subst (λ z. SetsFor w z (Caller 0)) (sym (ec ∙ target_lock q n)) ((subst (λ z. Names w q (z.top)) e ((ow.named q).top)).sets n (Caller 0) refl)) (mine c lc) in cc))))
-    (outcome w q (record { top = SetLockLatch n; below = fs })) (lock_one w.shape q (counts_seen w q (record { top = SetLockLatch n; below = fs })) (part_at w q (record { top = SetLockLatch n; below = fs })) n)
+letters w q (GrowScope n) fs p i l e d ow mine = if_some_map {A = Seen × Part} (λ r. r.1.seat.latch ≡ (part_at w q (record { top = GrowScope n; below = fs })).seat.latch) (LetterChange w q (record { top = GrowScope n; below = fs }) p i l)
+    (λ r s. inl (letter_kept w q (record { top = GrowScope n; below = fs }) r p i l (λ lt ep ei. s) (λ c lc ec. absurd (clash w q p i c d (subst (Mine w q) (sym (ec ∙ target_scope q n)) ((subst (λ z. Names w q (z.top)) e ((ow.named q).top)).own n.number refl)) (mine c lc)))))
+    (outcome w q (record { top = GrowScope n; below = fs })) (scope_one w.shape q (counts_seen w q (record { top = GrowScope n; below = fs })) (part_at w q (record { top = GrowScope n; below = fs })) n)
+letters w q (SetLockLatch n t) fs p i l e d ow mine = if_some_map {A = Seen × Part} (λ r. r.1.seat.latch ≡ (part_at w q (record { top = SetLockLatch n t; below = fs })).seat.latch) (LetterChange w q (record { top = SetLockLatch n t; below = fs }) p i l)
+    (λ r s. inl (letter_kept w q (record { top = SetLockLatch n t; below = fs }) r p i l (λ lt ep ei. s) (λ c lc ec. absurd (let v : Worker p i ≡ Caller 0 = set_clash w p i c (Caller 0) (subst (λ z. SetsFor w z (Caller 0)) (sym (ec ∙ target_lock q n t)) ((subst (λ z. Names w q (z.top)) e ((ow.named q).top)).sets n (Caller 0) refl)) (mine c lc) in cc))))
+    (outcome w q (record { top = SetLockLatch n t; below = fs })) (lock_one w.shape q (counts_seen w q (record { top = SetLockLatch n t; below = fs })) (part_at w q (record { top = SetLockLatch n t; below = fs })) n t)
 letters w q x fs p i l e d ow mine = plain_changes w q x fs p i l refl
 
 -- a party that settles a latch goes on settling it until it has made its wake

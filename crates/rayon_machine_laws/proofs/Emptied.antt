@@ -27,7 +27,7 @@ use Rattle.rayon_machine_places.specs.declared.event.Event.{Event}
 use Rattle.rayon_machine_places.specs.declared.shape.PoolShape.{PoolShape}
 use Rattle.rayon_machine_places.specs.declared.place.Wait.{Wait}
 use Rattle.rayon_machine_places.specs.declared.place.Settling.{Settling}
-use Rattle.rayon_machine_places.specs.Places.{same_party, own_pool, own_index, is_member, plan_pool, plan_job, fresh, awaits, finish, after_set, act_of, next_of}
+use Rattle.rayon_machine_places.specs.Places.{same_party, own_pool, own_index, is_member, plan_pool, plan_job, fresh, awaits, finish, after_set, act_of, next_of, plan_book}
 use Rattle.rayon_machine_places.specs.World.{Shape, Stack, World, Counts, Part, target_pool, target_worker, head_of, last_of, but_first, own_of, own_left, popped, effect, fifo_out, fifo_undo}
 use Rattle.rayon_machine_places.specs.Steps.{after_move, step}
 use Rattle.rayon_machine_places.specs.Runs.{first_place, start, IsRun}
@@ -195,7 +195,7 @@ own_left_empty h g p i c m x z f = elim (either (is_emptied x)) [
 push_busy : (h : Shape) (g : PoolShape) (q : Party) (c : Counts) (m : Part) (n : Plan) (v : Bool) → IfSome (effect (act_of q (PushJob n v)) h q c m) (λ r. Tops (λ y. is_emptied y ≡ false) (next_of g q (PushJob n v) (r.0)))
 push_busy h g (Worker a b) c m n v = at (is_member (Worker a b) (plan_pool n))
   where
-    at : (z : Bool) → IfSome (effect (if z then PushOwn (plan_job n) else PushInj (plan_pool n) (plan_job n)) h (Worker a b) c m) (λ r. Tops (λ y. is_emptied y ≡ false) (next_of g (Worker a b) (PushJob n v) (r.0)))
+    at : (z : Bool) → IfSome (effect (if z then PushOwn (plan_job n) (plan_book n) else PushInj (plan_pool n) (plan_job n) (plan_book n)) h (Worker a b) c m) (λ r. Tops (λ y. is_emptied y ≡ false) (next_of g (Worker a b) (PushJob n v) (r.0)))
     at true = refl
     at false = refl
 push_busy h g (Caller o) c m n v = refl
@@ -207,7 +207,7 @@ token_busy h g (Caller o) c m f v = tt
 push_other : (h : Shape) (q : Party) (c : Counts) (m : Part) (n : Plan) (v : Bool) → is_member q (plan_pool n) ≡ false → IfSome (effect (act_of q (PushJob n v)) h q c m) (λ r. r.1.seat.own ≡ m.seat.own)
 push_other h (Worker a b) c m n v e = at (is_member (Worker a b) (plan_pool n)) e
   where
-    at : (z : Bool) → z ≡ false → IfSome (effect (if z then PushOwn (plan_job n) else PushInj (plan_pool n) (plan_job n)) h (Worker a b) c m) (λ r. r.1.seat.own ≡ m.seat.own)
+    at : (z : Bool) → z ≡ false → IfSome (effect (if z then PushOwn (plan_job n) (plan_book n) else PushInj (plan_pool n) (plan_job n) (plan_book n)) h (Worker a b) c m) (λ r. r.1.seat.own ≡ m.seat.own)
     at true f = cc
     at false f = refl
 push_other h (Caller o) c m n v e = refl
@@ -216,7 +216,7 @@ push_other h (Caller o) c m n v e = refl
 push_target : (q : Party) (n : Plan) (v : Bool) → is_member q (plan_pool n) ≡ true → (target_pool q (act_of q (PushJob n v)) ≡ own_pool q) × (target_worker q (act_of q (PushJob n v)) ≡ own_index q)
 push_target (Worker a b) n v e = at (is_member (Worker a b) (plan_pool n)) e
   where
-    at : (z : Bool) → z ≡ true → (target_pool (Worker a b) (if z then PushOwn (plan_job n) else PushInj (plan_pool n) (plan_job n)) ≡ a) × (target_worker (Worker a b) (if z then PushOwn (plan_job n) else PushInj (plan_pool n) (plan_job n)) ≡ b)
+    at : (z : Bool) → z ≡ true → (target_pool (Worker a b) (if z then PushOwn (plan_job n) (plan_book n) else PushInj (plan_pool n) (plan_job n) (plan_book n)) ≡ a) × (target_worker (Worker a b) (if z then PushOwn (plan_job n) (plan_book n) else PushInj (plan_pool n) (plan_job n) (plan_book n)) ≡ b)
     at true f = (refl, refl)
     at false f = cc
 push_target (Caller o) n v e = cc

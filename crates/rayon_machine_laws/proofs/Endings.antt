@@ -1,17 +1,19 @@
 -- from what holds of the calls and jobs of each world to the laws of latches and ends
 use Rattle.rayon_machine_places.specs.Steps.{is_piece}
-use Rattle.std.proofs.Common.{arith, refl, ap, subst}
-use Rattle.std.specs.Prelude.{ℕ, ◌+◌, ◌==◌, ◌≤◌, Option, Some, None, ◌≡◌}
+use Rattle.rayon_machine_places.specs.Readers.{is_done}
+use Rattle.rayon_machine_laws.proofs.Scoping.{ScopesHold, scope_over}
+use Rattle.std.proofs.Common.{arith, refl, ap, subst, inl, inr}
+use Rattle.std.specs.Prelude.{ℕ, ◌+◌, ◌==◌, ◌≤◌, Option, Some, None, ◌≡◌, true}
 use Rattle.std.proofs.lemmas.Bool.{eq-eqb}
 use Rattle.rayon_machine_places.specs.declared.place.Party.{Party}
 use Rattle.rayon_machine_places.specs.declared.place.Ending.{Ending}
 use Rattle.rayon_machine_places.specs.declared.place.Ending.TheVariants.{Fine, Fault}
 use Rattle.rayon_machine_places.specs.declared.place.Plan.{Plan}
-use Rattle.rayon_machine_places.specs.declared.place.Plan.TheVariants.{Detach, Here, Send, Fork, Feed}
+use Rattle.rayon_machine_places.specs.declared.place.Plan.TheVariants.{Detach, Here, Send, Fork, Feed, Open, Enter}
 use Rattle.rayon_machine_places.specs.declared.place.Then.{Then}
 use Rattle.rayon_machine_places.specs.declared.place.Then.TheVariants.{Answers, Missing, Ran, GiveBack}
 use Rattle.rayon_machine_places.specs.declared.place.Place.{Place}
-use Rattle.rayon_machine_places.specs.declared.place.Place.TheVariants.{TakeResult, LowerCount, SetLatch, LockToSettle, WakeSettled, UnlockSettled}
+use Rattle.rayon_machine_places.specs.declared.place.Place.TheVariants.{TakeResult, LowerCount, SetLatch, LockToSettle, WakeSettled, UnlockSettled, SetLockLatch}
 use Rattle.rayon_machine_places.specs.declared.state.Whereabouts.TheVariants.{Over}
 use Rattle.rayon_machine_places.specs.declared.place.OpenCall.{OpenCall}
 use Rattle.rayon_machine_places.specs.World.{World}
@@ -21,11 +23,16 @@ use Rattle.rayon_machine_laws.specs.End.{HasEnded, SideEnded, SideFine, answered
 use Rattle.rayon_machine_laws.proofs.Hands.{hand_plan, hand_then, hand, held}
 use Rattle.rayon_machine_laws.proofs.Located.{loc_of, loc_at, is_loc, where_is, fits, unbegun, Hand, Deck, Inj, Line, Cast}
 use Rattle.rayon_machine_laws.proofs.PlacedRuns.{JobsHold, once}
-use Rattle.rayon_machine_laws.proofs.Claims.{Opened, FirstEnds, SaysThen, Says}
+use Rattle.rayon_machine_laws.proofs.Claims.{Opened, FirstEnds, SaysThen, Says, IsReady}
 use Rattle.rayon_machine_laws.proofs.ClaimRuns.{CallsHold}
 
-pub latched : (w : World) → CallsHold w → IsLatched w
-latched w h = record { latch = h.latches; cell = h.cells }
+-- whose latch can be set has its job over
+pub ready_over : (w : World) → ScopesHold w → (c : ℕ) → c + 1 ≤ w.calls → IsReady w c → is_done (w.job (w.call c).job).at ≡ true
+ready_over w h c b (inl d) = d.1
+ready_over w h c b (inr z) = scope_over w h c b z
+
+pub latched : (w : World) → ScopesHold w → IsLatched w
+latched w h = record { latch = λ c z. (let s : (c + 1 ≤ w.calls) × IsReady w c = ((h.shares).calls).latches c z in ready_over w h c (s.0) (s.1)); cell = ((h.shares).calls).cells }
 
 pub has_ended : (w : World) → JobsHold w → (t : ℕ) (e : Ending) → (w.job t).at ≡ Over e → HasEnded w t e
 has_ended w h t e z = record { at = z; runs = (once w h).over t e z }
@@ -59,6 +66,7 @@ follows_says w q (SetLatch k) n z y = subst (λ v. SaysThen w q v) (let e : k.th
 follows_says w q (LockToSettle k) n z y = subst (λ v. SaysThen w q v) (let e : k.then ≡ n = some_same z in e) (y.1)
 follows_says w q (WakeSettled k) n z y = subst (λ v. SaysThen w q v) (let e : k.then ≡ n = some_same z in e) (y.1)
 follows_says w q (UnlockSettled k) n z y = subst (λ v. SaysThen w q v) (let e : k.then ≡ n = some_same z in e) (y.1)
+follows_says w q (SetLockLatch c k) n z y = subst (λ v. SaysThen w q v) (let e : k ≡ n = some_same z in e) (y.1)
 follows_says w q _ n z y = cc
 
 -- and what it has in hand
@@ -68,6 +76,7 @@ follows_hand t (SetLatch k) n z = ap (hand_then t) (some_same z)
 follows_hand t (LockToSettle k) n z = ap (hand_then t) (some_same z)
 follows_hand t (WakeSettled k) n z = ap (hand_then t) (some_same z)
 follows_hand t (UnlockSettled k) n z = ap (hand_then t) (some_same z)
+follows_hand t (SetLockLatch c k) n z = ap (hand_then t) (some_same z)
 follows_hand t _ n z = cc
 
 pub ends_so : (w : World) → CallsHold w → ((q : Party) (o : OpenCall) (f : Option Ending) → (w.stack q).top ≡ TakeResult o f → (w.call o.number).cell ≡ None → ⊥) → ((q : Party) (o : OpenCall) (f : Option Ending) → follows (w.stack q).top ≡ Some (Missing o f) → ⊥) → IsEnd w
@@ -101,6 +110,8 @@ given_back : (w : World) → JobsHold w → (q : Party) (n : Plan) → ((t : ℕ
 given_back w h q (Detach p t) f = held_untouched w h q t (let a : one (t == t) ≤ held t (w.stack q) = f t in let b : one (t == t) ≡ 1 = one_self t in omega (arith, a, b))
 given_back w h q (Here p t) f = held_untouched w h q t (let a : one (t == t) ≤ held t (w.stack q) = f t in let b : one (t == t) ≡ 1 = one_self t in omega (arith, a, b))
 given_back w h q (Send o) f = held_untouched w h q (o.job) (let a : one (o.job == o.job) ≤ held (o.job) (w.stack q) = f (o.job) in let b : one (o.job == o.job) ≡ 1 = one_self (o.job) in omega (arith, a, b))
+given_back w h q (Open o) f = held_untouched w h q (o.job) (let a : one (o.job == o.job) ≤ held (o.job) (w.stack q) = f (o.job) in let b : one (o.job == o.job) ≡ 1 = one_self (o.job) in omega (arith, a, b))
+given_back w h q (Enter o) f = held_untouched w h q (o.job) (let a : one (o.job == o.job) ≤ held (o.job) (w.stack q) = f (o.job) in let b : one (o.job == o.job) ≡ 1 = one_self (o.job) in omega (arith, a, b))
 given_back w h q (Feed d) f = (
   held_untouched w h q (d.job) (let a : one (d.job == d.job) + one (d.job == d.token) ≤ held (d.job) (w.stack q) = f (d.job) in let b : one (d.job == d.job) ≡ 1 = one_self (d.job) in omega (arith, a, b)),
   held_untouched w h q (d.token) (let a : one (d.token == d.job) + one (d.token == d.token) ≤ held (d.token) (w.stack q) = f (d.token) in let b : one (d.token == d.token) ≡ 1 = one_self (d.token) in omega (arith, a, b)),

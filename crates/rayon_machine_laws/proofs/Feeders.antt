@@ -1,5 +1,6 @@
 -- who has added a job to its FIFO list, and neither pushed a token for it nor taken it back, holds the list, and its
 -- job is the last there
+use Rattle.rayon_machine_places.specs.declared.place.Count.TheVariants.{OfPool}
 use Rattle.std.proofs.Common.{rules, arith, refl, sym, ◌∙◌, ap, subst, inl, inr, nat_lt}
 use Rattle.std.specs.Prelude.{ℕ, Bool, true, false, ◌&&◌, ◌||◌, ◌+◌, ◌-◌, ◌==◌, if◌then◌else◌, Option, Some, None, List, [], ◌∷◌, ◌++◌, ◌≡◌, IfSome, ◌⊎◌}
 use Rattle.rayon_machine_places.specs.declared.place.Then.TheVariants.{BeginFound, LeaveWait, Resume, Await, RunFirst, Answers, Missing as NoResult, Ran, GiveBack, Called}
@@ -9,7 +10,7 @@ use Rattle.rayon_machine_places.specs.declared.place.Place.{Place}
 use Rattle.rayon_machine_laws.proofs.Tops.{FramesOk, Tops, top_after}
 use Rattle.rayon_machine_laws.proofs.ClaimRuns.{place_part, world_after}
 use Rattle.rayon_machine_laws.proofs.Ties.{AllFrames, outcome, result, job_at}
-use Rattle.rayon_machine_places.specs.declared.place.Place.TheVariants.{AddToFifo, LookForToken, RaiseCount, ProbeWorking, PushToken, Run, YieldSteal, FirstSide, Free, GrowCall, JoinProbe, PickVictim, StealFrom, TakeFromFifo, SecondSide, SetLatch, YieldPopInjected, AtOnce, BeginHere, BeginTask, JoinPop, JoinTakeCast, LocalPop, LocalTakeCast, LookQueue, LowerCount, PopIdle, PopInjected, PopWorking, PushJob, Stopped, TakeCastIdle, TakeCastWorking, UnlockSettled, YieldPick, YieldPop, YieldTakeCast, RaiseForAll, PushForAll, LowerForAll}
+use Rattle.rayon_machine_places.specs.declared.place.Place.TheVariants.{AddToFifo, LookForToken, RaiseCount, ProbeWorking, PushToken, Run, YieldSteal, FirstSide, Free, GrowCall, JoinProbe, PickVictim, StealFrom, TakeFromFifo, SecondSide, SetLatch, YieldPopInjected, AtOnce, BeginHere, BeginTask, JoinPop, JoinTakeCast, LocalPop, LocalTakeCast, LookQueue, LowerCount, PopIdle, PopInjected, PopWorking, PushJob, Stopped, TakeCastIdle, TakeCastWorking, UnlockSettled, YieldPick, YieldPop, YieldTakeCast, RaiseForAll, PushForAll, LowerForAll, GrowScope, OpenSlot, CloseSlot, ScopeBody}
 use Rattle.rayon_machine_places.specs.declared.place.Ending.{Ending}
 use Rattle.rayon_machine_places.specs.declared.place.JobKind.{JobKind}
 use Rattle.rayon_machine_places.specs.declared.place.Move.{Move}
@@ -18,22 +19,22 @@ use Rattle.rayon_machine_places.specs.declared.shape.PoolShape.{PoolShape}
 use Rattle.rayon_machine_places.specs.World.{Shape, World, last_of, Counts, Part, Stack, is_open, left_by, Outcome, effect, fifo_back, fifo_first, pop_injector, popped, take_cast, target_pool, counts_at, empty_seen, or_none, target_call, target_worker}
 use Rattle.rayon_machine_places.specs.declared.place.Taken.{Taken}
 use Rattle.rayon_machine_laws.proofs.Seats.{is_frame}
-use Rattle.rayon_machine_places.specs.Places.{is_free, after_set, goes_on, same_party, after_begin, finish, next_of, next_yield, settle, act_of, fresh, next_steal, undo, is_member, next_victim, not_self, own_index, own_pool, plan_job, plan_pool}
+use Rattle.rayon_machine_places.specs.Places.{is_free, after_set, goes_on, same_party, after_begin, finish, next_of, next_yield, settle, act_of, fresh, next_steal, undo, is_member, next_victim, not_self, own_index, own_pool, plan_job, plan_pool, plan_book, after_push}
 use Rattle.rayon_machine_places.specs.declared.event.Event.{Event}
-use Rattle.rayon_machine_places.specs.declared.place.Plan.TheVariants.{Feed, Here, Fork, Send, Detach}
+use Rattle.rayon_machine_places.specs.declared.place.Plan.TheVariants.{Feed, Here, Fork, Send, Detach, Open, Enter}
 use Rattle.rayon_machine_places.specs.declared.place.Plan.{Plan}
 use Rattle.rayon_machine_places.specs.declared.act.Seen.{Seen}
 use Rattle.rayon_machine_places.specs.declared.place.Settling.{Settling}
 use Rattle.rayon_machine_places.specs.declared.place.Then.{Then}
 use Rattle.rayon_machine_places.specs.declared.place.Wait.{Wait}
 use Rattle.rayon_machine_places.specs.declared.place.Party.TheVariants.{Worker, Caller}
-use Rattle.rayon_machine_places.specs.Steps.{after_choice, after_close, after_end, after_end_pool, after_fifo, after_install, after_join, after_miss, after_refusal, after_send, after_spawn, after_yield, put_stack, with_stack, after_call, after_move, step, can_miss, is_pool, part_of, after_cast}
+use Rattle.rayon_machine_places.specs.Steps.{after_choice, after_close, after_end, after_end_pool, after_fifo, after_install, after_join, after_miss, after_refusal, after_send, after_spawn, after_yield, put_stack, with_stack, after_call, after_move, step, can_miss, is_pool, part_of, after_cast, after_scope, after_into, holds}
 use Rattle.rayon_machine_places.specs.Runs.{first_place, start, IsRun}
-use Rattle.rayon_machine_places.specs.declared.place.JobKind.TheVariants.{Detached, Stored, Direct, TokenOf}
+use Rattle.rayon_machine_places.specs.declared.place.JobKind.TheVariants.{Detached, Stored, Direct, TokenOf, Scoped, BodyOf}
 use Rattle.rayon_machine_places.specs.declared.place.Latch.{Latch}
-use Rattle.rayon_machine_laws.proofs.Frame.{fifo_cases, if_cond, same_party_true, if_some_all, if_some_map, acted_keeps, and_parts, either, if_some_and, not_same, same_index, same_party_refl, stack_mine, stack_other}
+use Rattle.rayon_machine_laws.proofs.Frame.{fifo_cases, if_cond, same_party_true, if_some_all, if_some_map, acted_keeps, and_parts, either, if_some_and, not_same, same_index, same_party_refl, stack_mine, stack_other, into_cases}
 use Rattle.rayon_machine_places.specs.declared.place.Target.TheVariants.{Answer, Termination}
-use Rattle.rayon_machine_places.specs.declared.event.Event.TheVariants.{Go, End, EndPool, Fifo, From, Install, Join, Miss, Refuse, Spawn, Yield, YieldLocal, Cast}
+use Rattle.rayon_machine_places.specs.declared.event.Event.TheVariants.{Go, End, EndPool, Fifo, From, Install, Join, Miss, Refuse, Spawn, Yield, YieldLocal, Cast, Scope as OpenScope, IntoSpawn}
 use Rattle.rayon_machine_places.specs.declared.place.Latch.TheVariants.{OfCall, Terminate}
 use Rattle.rayon_machine_places.specs.declared.place.Taken.TheVariants.{Plain, Token}
 use Rattle.rayon_machine_places.specs.declared.act.Act.TheVariants.{PushOwn, PushInj}
@@ -164,9 +165,9 @@ left_none : (q : Party) (o : Option Party) → o ≡ None → left_by q o ≡ No
 left_none q None z = refl
 left_none q (Some r) z = cc
 
-push_feeder : (h : Shape) (q : Party) (c : Counts) (m : Part) (x : Place) (t p : ℕ) (b : Bool) → IfSome (effect (if b then PushOwn t else PushInj p t) h q c m) (FeederKept q x m)
-push_feeder h q c m x t p true = (λ z. (left_closed q m.seat.feeder z, refl), λ n z. left_none q m.seat.feeder z)
-push_feeder h q c m x t p false = (λ z. (refl, refl), λ n z. z)
+push_feeder : (h : Shape) (q : Party) (c : Counts) (m : Part) (x : Place) (t p : ℕ) (k : Option ℕ) (b : Bool) → IfSome (effect (if b then PushOwn t k else PushInj p t k) h q c m) (FeederKept q x m)
+push_feeder h q c m x t p k true = (λ z. (left_closed q m.seat.feeder z, refl), λ n z. left_none q m.seat.feeder z)
+push_feeder h q c m x t p k false = (λ z. (refl, refl), λ n z. z)
 
 -- an act on a list that is open
 under_open : (q : Party) (x : Place) (m : Part) (o : Outcome) → ((r : Seen × Part) → is_adding x ≡ false → m.seat.feeder ≡ None → r.1.seat.feeder ≡ None) → IfSome (if is_open q m.seat.feeder then o else None) (FeederKept q x m)
@@ -220,8 +221,8 @@ feeder_table h (Worker a b) c m YieldTakeCast = cast_feeder (Worker a b) YieldTa
 feeder_table h (Caller n) c m YieldTakeCast = tt
 feeder_table h (Worker a b) c m LocalTakeCast = cast_feeder (Worker a b) LocalTakeCast m (m.pool.casts b)
 feeder_table h (Caller n) c m LocalTakeCast = tt
-feeder_table h (Worker a b) c m (PushJob n v) = push_feeder h (Worker a b) c m (PushJob n v) (plan_job n) (plan_pool n) (is_member (Worker a b) (plan_pool n))
-feeder_table h (Caller g) c m (PushJob n v) = push_feeder h (Caller g) c m (PushJob n v) (plan_job n) (plan_pool n) (is_member (Caller g) (plan_pool n))
+feeder_table h (Worker a b) c m (PushJob n v) = push_feeder h (Worker a b) c m (PushJob n v) (plan_job n) (plan_pool n) (plan_book n) (is_member (Worker a b) (plan_pool n))
+feeder_table h (Caller g) c m (PushJob n v) = push_feeder h (Caller g) c m (PushJob n v) (plan_job n) (plan_pool n) (plan_book n) (is_member (Caller g) (plan_pool n))
 feeder_table h (Worker a b) c m (PushToken f v) = (λ z. (left_closed (Worker a b) m.seat.feeder z, refl), λ n z. left_none (Worker a b) m.seat.feeder z)
 feeder_table h (Caller g) c m (PushToken f v) = tt
 feeder_table h (Worker a b) c m (AddToFifo f) = under_open (Worker a b) (AddToFifo f) m _ (λ r y z. absurd (let a : true ≡ false = y in cc))
@@ -300,6 +301,8 @@ raise_fed w q n fs a = if_some_all {A = Seen × Part} (λ r. Fed w q (RaiseCount
     by (Here p t) Done r = free_fed w q (RaiseCount (Here p t)) r (BeginHere t) refl refl
     by (Send o) Done r = free_fed w q (RaiseCount (Send o)) r (GrowCall (Send o)) refl refl
     by (Fork o b) Done r = free_fed w q (RaiseCount (Fork o b)) r (GrowCall (Fork o b)) refl refl
+    by (Open o) Done r = free_fed w q (RaiseCount (Open o)) r (GrowScope o) refl refl
+    by (Enter o) Done r = free_fed w q (RaiseCount (Enter o)) r (OpenSlot o) refl refl
     by n _ r = free_fed w q (RaiseCount n) r ((after_move (HandBack n) fs).top) refl (back_free (HandBack n) fs a tt)
 
 own_fed : (w : World) (q : Party) (x : Place) (fs : List Place) → w.stack q ≡ record { top = x; below = fs } → FeedersHold w → Feds w q x fs
@@ -477,7 +480,10 @@ refuse_shifts : (w : World) (q : Party) (x : Place) (fs : List Place) → w.stac
 refuse_shifts w q (GrowCall n) fs z = shift_at w q (GrowCall n) (undo n) fs z refl refl
 refuse_shifts w q (AddToFifo f) fs z = shift_at w q (AddToFifo f) (undo (Feed f)) fs z refl refl
 refuse_shifts w q (PushForAll c) fs z = shift_at w q (PushForAll c) (LowerForAll c) fs z refl refl
-refuse_shifts w q (PushJob n v) fs z = shift_at w q (PushJob n v) (undo n) fs z refl refl
+refuse_shifts w q (GrowScope o) fs z = shift_at w q (GrowScope o) (undo (Open o)) fs z refl refl
+refuse_shifts w q (OpenSlot o) fs z = shift_at w q (OpenSlot o) (undo (Enter o)) fs z refl refl
+refuse_shifts w q (PushJob (Enter o) v) fs z = shift_at w q (PushJob (Enter o) v) (CloseSlot o) fs z refl refl
+refuse_shifts w q (PushJob n v) fs z = shift_at w q (PushJob n v) (after_push n) fs z refl refl
 refuse_shifts w q (PushToken f v) fs z = record {
   party = q;
   to = record { top = TakeFromFifo f; below = fs };
@@ -515,6 +521,7 @@ goes_on_free (FirstSide o a) Fault m = refl
 goes_on_free (ProbeWorking k) e m = refl
 goes_on_free (JoinProbe o) e m = refl
 goes_on_free (SecondSide o) e m = refl
+goes_on_free (ScopeBody o) e m = refl
 goes_on_free (AtOnce p t) e m = refl
 goes_on_free (Run t k) e m = refl
 goes_on_free Free e m = refl
@@ -524,10 +531,13 @@ goes_on_free _ e m = cc
 closed_free : (t : ℕ) (k : JobKind) (d : Ending) (fs : List Place) → AllFrames fs → feeds_now ((after_close t k d fs).top) ≡ None
 closed_free t (Detached p) d fs a = refl
 closed_free t (Stored c o) d fs a = refl
+closed_free t (Scoped c o) d fs a = refl
 closed_free t Direct d [] a = refl
 closed_free t (TokenOf i) d [] a = refl
+closed_free t (BodyOf c9 o9) d [] a = refl
 closed_free t Direct d (f ∷ fs) a = goes_on_free f d (a.0)
 closed_free t (TokenOf i) d (f ∷ fs) a = goes_on_free f d (a.0)
+closed_free t (BodyOf c9 o9) d (f ∷ fs) a = goes_on_free f d (a.0)
 
 end_shifts : (w : World) (q : Party) (d : Ending) (x : Place) (fs : List Place) → w.stack q ≡ record { top = x; below = fs } → AllFrames fs → IfSome (after_end w q d (record { top = x; below = fs }) x) (Shifts w)
 end_shifts w q d (Run t k) fs z a = record {
@@ -574,6 +584,12 @@ sent_shifts w q p false e = begin_shifts w _ q (RaiseCount (Send (record { numbe
 install_shifts : (w : World) (q : Party) (p : ℕ) → IfSome (after_install w q p (w.stack q)) (Shifts w)
 install_shifts w q p = if_cond (Shifts w) (is_free ((w.stack q).top) && is_pool w.shape p) _ (λ e. sent_shifts w q p (is_member q p) ((and_parts (is_free ((w.stack q).top)) (is_pool w.shape p) e).0))
 
+scope_shifts : (w : World) (q : Party) (p : ℕ) → IfSome (after_scope w q p (w.stack q)) (Shifts w)
+scope_shifts w q p = if_cond (Shifts w) (is_free ((w.stack q).top) && is_pool w.shape p) _ (λ b. begin_shifts w _ q (RaiseCount (Open (record { number = w.calls; pool = p; job = w.jobs }))) ((and_parts (is_free ((w.stack q).top)) (is_pool w.shape p) b).0) (λ r. refl) (λ p i. refl) refl (λ f e. absurd (cc)))
+
+into_shifts : (w : World) (q : Party) (n : ℕ) → IfSome (after_into w q n (w.stack q)) (Shifts w)
+into_shifts w q n = into_cases (Shifts w) w q n (λ z e free held. if_cond (Shifts w) (is_free ((w.stack q).top) && holds z.call (w.stack q)) _ (λ b. begin_shifts w _ q (RaiseCount (Enter (record { call = z.call; owner = z.owner; pool = z.pool; job = w.jobs }))) free (λ r. refl) (λ p i. refl) refl (λ f e. absurd (cc))))
+
 join_shifts : (w : World) (q : Party) → IfSome (after_join w q (w.stack q)) (Shifts w)
 join_shifts w (Worker a b) = if_cond (Shifts w) (is_free ((w.stack (Worker a b)).top)) _ (λ z. begin_shifts w _ (Worker a b) (RaiseCount (Fork (record { number = w.calls; pool = a; job = w.jobs + 1 }) w.jobs)) z (λ r. refl) (λ p i. refl) refl (λ f e. absurd (cc)))
 join_shifts w (Caller n) = tt
@@ -583,7 +599,7 @@ yield_shifts w (Worker a b) x n m = if_cond (Shifts w) (is_free ((w.stack (Worke
 yield_shifts w (Caller c) x n m = tt
 
 give_shifts : (w : World) (q : Party) (p : ℕ) → IfSome (after_end_pool w q p (w.stack q)) (Shifts w)
-give_shifts w q p = if_cond (Shifts w) (is_free ((w.stack q).top) && (is_pool w.shape p && (w.pool p).held)) _ (λ b. begin_shifts w _ q (LowerCount p PoolValue Resume) ((and_parts (is_free ((w.stack q).top)) (is_pool w.shape p && (w.pool p).held) b).0) (λ r. refl) (λ p i. refl) refl (λ f e. absurd (cc)))
+give_shifts w q p = if_cond (Shifts w) (is_free ((w.stack q).top) && (is_pool w.shape p && (w.pool p).held)) _ (λ b. begin_shifts w _ q (LowerCount (OfPool p) PoolValue Resume) ((and_parts (is_free ((w.stack q).top)) (is_pool w.shape p && (w.pool p).held) b).0) (λ r. refl) (λ p i. refl) refl (λ f e. absurd (cc)))
 
 step_shift : (w : World) (e : Event) → FeedersHold w → IfSome (step w e) (Shifts w) → IfSome (step w e) FeedersHold
 step_shift w e h b = if_some_map (λ u. FramesOk u × Shifts w u) FeedersHold (λ u f. shift_feeders w u h (f.0) (f.1)) (step w e)
@@ -600,6 +616,8 @@ step_feeders w (Fifo q p) h = step_shift w (Fifo q p) h (fifo_shifts w q p)
 step_feeders w (Cast q p) h = step_shift w (Cast q p) h (cast_shifts w q p)
 step_feeders w (Install q p) h = step_shift w (Install q p) h (install_shifts w q p)
 step_feeders w (Join q) h = step_shift w (Join q) h (join_shifts w q)
+step_feeders w (OpenScope q p) h = step_shift w (OpenScope q p) h (scope_shifts w q p)
+step_feeders w (IntoSpawn q n) h = step_shift w (IntoSpawn q n) h (into_shifts w q n)
 step_feeders w (Yield q) h = step_shift w (Yield q) h (yield_shifts w q YieldPop refl refl)
 step_feeders w (YieldLocal q) h = step_shift w (YieldLocal q) h (yield_shifts w q LocalPop refl refl)
 step_feeders w (EndPool q p) h = step_shift w (EndPool q p) h (give_shifts w q p)

@@ -1,4 +1,6 @@
 -- how often a stack has in hand what its calls have made and not queued: that is still as they made it
+use Rattle.rayon_machine_places.specs.declared.place.Count.TheVariants.{OfPool, OfScope}
+use Rattle.rayon_machine_places.specs.declared.place.Count.{Count}
 use Rattle.std.proofs.Common.{arith, refl, sym, subst}
 use Rattle.std.specs.Prelude.{ℕ, Bool, true, false, ◌&&◌, ◌+◌, ◌-◌, ◌==◌, ◌≤◌, nat_lt, if◌then◌else◌, List, [], ◌∷◌, ◌≡◌, None, Option, Some}
 use Rattle.rayon_machine_places.specs.declared.place.Party.{Party}
@@ -9,12 +11,12 @@ use Rattle.rayon_machine_places.specs.declared.place.Latch.{Latch}
 use Rattle.rayon_machine_places.specs.declared.place.Latch.TheVariants.{Terminate, OfCall}
 use Rattle.rayon_machine_places.specs.declared.place.Rounds.{Rounds}
 use Rattle.rayon_machine_places.specs.declared.place.Rounds.TheVariants.{Failed, Announced}
-use Rattle.rayon_machine_places.specs.declared.place.Plan.TheVariants.{Detach, Here, Send, Fork, Feed}
+use Rattle.rayon_machine_places.specs.declared.place.Plan.TheVariants.{Detach, Here, Send, Fork, Feed, Open, Enter}
 use Rattle.rayon_machine_places.specs.declared.place.Then.{Then}
 use Rattle.rayon_machine_places.specs.declared.place.Then.TheVariants.{BeginFound, LeaveWait, Resume, Await, RunFirst, Answers, Missing, Ran, GiveBack, Called}
 use Rattle.rayon_machine_places.specs.declared.place.Taken.TheVariants.{Plain, Token}
 use Rattle.rayon_machine_places.specs.declared.place.Place.{Place}
-use Rattle.rayon_machine_places.specs.declared.place.Place.TheVariants.{ProbeWorking, PopWorking, TakeCastWorking, ProbeIdle, PopIdle, TakeCastIdle, PickVictim, StealFrom, PopInjected, AnnounceSelf, GetSleepy, FallAsleep, LoadCounters, AddSleeping, LookAtCast, LookAtInjector, WakeUp, LeaveSearch, JoinProbe, JoinPop, JoinTakeCast, YieldPop, YieldTakeCast, YieldPick, YieldSteal, YieldPopInjected, LocalPop, LocalTakeCast, BeginTask, BeginHere, RaiseCount, GrowCall, LookQueue, PushJob, TellNews, LockToWake, WakeWorker, UnlockWoken, TakeResult, LowerCount, StoreResult, SetLatch, UnlockSettled, SecondSide, AddToFifo, LookForToken, PushToken, TakeFromFifo, LockToSettle, WakeSettled, RaiseForAll, PushForAll, LowerForAll}
+use Rattle.rayon_machine_places.specs.declared.place.Place.TheVariants.{ProbeWorking, PopWorking, TakeCastWorking, ProbeIdle, PopIdle, TakeCastIdle, PickVictim, StealFrom, PopInjected, AnnounceSelf, GetSleepy, FallAsleep, LoadCounters, AddSleeping, LookAtCast, LookAtInjector, WakeUp, LeaveSearch, JoinProbe, JoinPop, JoinTakeCast, YieldPop, YieldTakeCast, YieldPick, YieldSteal, YieldPopInjected, LocalPop, LocalTakeCast, BeginTask, BeginHere, RaiseCount, GrowCall, LookQueue, PushJob, TellNews, LockToWake, WakeWorker, UnlockWoken, TakeResult, LowerCount, StoreResult, SetLatch, UnlockSettled, SecondSide, AddToFifo, LookForToken, PushToken, TakeFromFifo, LockToSettle, WakeSettled, RaiseForAll, PushForAll, LowerForAll, GrowScope, OpenSlot, CloseSlot, StoreBody, StoreSlot, SetLockLatch}
 use Rattle.rayon_machine_places.specs.declared.place.Move.{Move}
 use Rattle.rayon_machine_places.specs.declared.place.Move.TheVariants.{Stay, Enter, StartRun, Back, HandBack, Discard, HandIn, Mark, HandAllBack}
 use Rattle.rayon_machine_places.specs.declared.act.Seen.{Seen}
@@ -22,7 +24,7 @@ use Rattle.rayon_machine_places.specs.declared.act.Seen.TheVariants.{Done, Yes, 
 use Rattle.rayon_machine_places.specs.declared.shape.PoolShape.{PoolShape}
 use Rattle.rayon_machine_places.specs.declared.place.Wait.{Wait}
 use Rattle.rayon_machine_places.specs.declared.place.Settling.{Settling}
-use Rattle.rayon_machine_places.specs.Places.{same_party, own_pool, own_index, plan_pool, after_wait, finish, walk, settle, after_set, after_found, after_news, set_call, next_victim, not_self, after_failure, next_steal, next_yield, next_of, is_taken, after_raise}
+use Rattle.rayon_machine_places.specs.Places.{same_party, own_pool, own_index, plan_pool, after_wait, finish, walk, settle, after_set, after_found, after_news, set_call, next_victim, not_self, after_failure, next_steal, next_yield, next_of, is_taken, after_raise, after_push, settle_count}
 use Rattle.rayon_machine_places.specs.World.{Stack, World}
 use Rattle.rayon_machine_places.specs.Steps.{put_stack, after_move, is_piece}
 use Rattle.rayon_machine_laws.specs.Once.{one, hand_rest, hand_then}
@@ -45,6 +47,9 @@ fed_then t _ = 0
 abbrev pub fed : ℕ → Place → ℕ
 fed t (RaiseCount n) = hand_plan t n
 fed t (GrowCall n) = hand_plan t n
+fed t (GrowScope o) = one (t == o.job)
+fed t (OpenSlot e) = one (t == e.job)
+fed t (CloseSlot e) = one (t == e.job)
 fed t (LookQueue n) = hand_plan t n
 fed t (PushJob n e) = hand_plan t n
 fed t (AddToFifo f) = one (t == f.job) + one (t == f.token)
@@ -63,6 +68,7 @@ fed t (SetLatch k) = fed_then t k.then
 fed t (LockToSettle k) = fed_then t k.then
 fed t (WakeSettled k) = fed_then t k.then
 fed t (UnlockSettled k) = fed_then t k.then
+fed t (SetLockLatch c n) = fed_then t n
 fed t _ = 0
 
 abbrev pub fed_in : ℕ → List Place → ℕ
@@ -106,6 +112,7 @@ fed_hand t (SetLatch k) = fed_hand_then t k.then
 fed_hand t (LockToSettle k) = fed_hand_then t k.then
 fed_hand t (WakeSettled k) = fed_hand_then t k.then
 fed_hand t (UnlockSettled k) = fed_hand_then t k.then
+fed_hand t (SetLockLatch c n) = fed_hand_then t n
 fed_hand t _ = omega arith
 
 fed_held_in : (t : ℕ) (fs : List Place) → fed_in t fs ≤ held_in t fs
@@ -121,6 +128,8 @@ fed_raised t (Here r u) = omega arith
 fed_raised t (Send o) = omega arith
 fed_raised t (Fork o a) = omega arith
 fed_raised t (Feed f) = omega arith
+fed_raised t (Open o) = omega arith
+fed_raised t (Enter e) = omega arith
 
 fed_left : (t : ℕ) (g : Target) → fed_move t (Stay (after_wait g)) ≤ 0
 fed_left t Termination = omega arith
@@ -189,14 +198,24 @@ fed_goes t (Here r u) = omega arith
 fed_goes t (Send o) = omega arith
 fed_goes t (Fork o a) = omega arith
 fed_goes t (Feed f) = omega arith
+fed_goes t (Open o) = omega arith
+fed_goes t (Enter e) = omega arith
 
 fed_found : (t : ℕ) (g : Target) (o : Option Taken) → fed_then t (after_found g o) ≤ 0
 fed_found t g None = omega arith
 fed_found t g (Some u) = omega arith
 
-fed_set : (t : ℕ) (c : ℕ) (o : Party) → fed_move t (Stay (set_call c o)) ≤ 0
-fed_set t c (Worker a b) = omega arith
-fed_set t c (Caller n) = omega arith
+fed_set : (t : ℕ) (c : ℕ) (o : Party) (n : Then) → fed_move t (Stay (set_call c o n)) ≤ fed_then t n
+fed_set t c (Worker a b) n = omega arith
+fed_set t c (Caller i) n = omega arith
+
+fed_zero : (t : ℕ) (g : PoolShape) (q : Party) (k : Count) (n : Then) → fed_move t (settle_count g q k n) ≤ fed_then t n
+fed_zero t g q (OfPool p) n = fed_settle t g q p 0 n
+fed_zero t g q (OfScope c o) n = fed_set t c o n
+
+fed_pushed : (t : ℕ) (n : Plan) → fed_move t (Stay (after_push n)) ≤ hand_plan t n
+fed_pushed t (Feed f) = omega arith
+fed_pushed t _ = omega arith
 
 -- over the whole table: no move leads to more of them
 pub feds : (g : PoolShape) (q : Party) (t : ℕ) (x : Place) (e : Seen) → fed_move t (next_of g q x e) ≤ fed t x
@@ -279,7 +298,7 @@ feds g q t (GrowCall n) _ = fed_back_most t n
 feds g q t (LookQueue n) Yes = omega arith
 feds g q t (LookQueue n) _ = omega arith
 feds g q t (PushJob n v) Done = fed_rest_most t n
-feds g q t (PushJob n v) e = fed_back_most t n
+feds g q t (PushJob n v) e = fed_pushed t n
 feds g q t (TellNews n v) (Wakes k) = let a : fed_move t (walk g q (plan_pool n) k 0 (after_news n)) ≤ fed_then t (after_news n) = fed_walk t g q (plan_pool n) k 0 (after_news n) in let b : fed_then t (after_news n) ≤ hand_rest t n = fed_goes t n in omega (arith, a, b)
 feds g q t (TellNews n v) _ = omega arith
 feds g q t (WakeWorker k) Yes = omega arith
@@ -287,9 +306,14 @@ feds g q t (WakeWorker k) _ = omega arith
 feds g q t (UnlockWoken k) e = let a : fed_move t (walk g q k.pool k.owed (k.worker + 1) k.then) ≤ fed_then t k.then = fed_walk t g q k.pool k.owed (k.worker + 1) k.then in omega (arith, a)
 feds g q t (TakeResult o f) (Found d) = omega arith
 feds g q t (TakeResult o f) _ = omega arith
-feds g q t (LowerCount r s n) Yes = fed_settle t g q r 0 n
+feds g q t (LowerCount k s n) Yes = fed_zero t g q k n
 feds g q t (LowerCount r s n) _ = fed_finish t q n
-feds g q t (StoreResult i o d) e = let a : fed_move t (Stay (set_call i o)) ≤ 0 = fed_set t i o in omega (arith, a)
+feds g q t (StoreResult i o d) e = let a : fed_move t (Stay (set_call i o Resume)) ≤ 0 = fed_set t i o Resume in omega (arith, a)
+feds g q t (GrowScope o) Done = omega arith
+feds g q t (GrowScope o) _ = omega arith
+feds g q t (OpenSlot n) Done = omega arith
+feds g q t (OpenSlot n) _ = omega arith
+feds g q t (SetLockLatch c n) e = fed_finish t q n
 feds g q t (SetLatch k) Yes = omega arith
 feds g q t (SetLatch k) _ = let a : fed_move t (after_set g q k k.latch) ≤ fed_then t k.then = fed_settled t g q k k.latch in omega (arith, a)
 feds g q t (UnlockSettled k) e = let a : fed_move t (after_set g q k k.latch) ≤ fed_then t k.then = fed_settled t g q k k.latch in omega (arith, a)

@@ -1,13 +1,13 @@
 -- how a step changes the world: tests on parties and indices, and what holds of an act that may not be enabled
 use Rattle.std.proofs.Common.{refl, sym, ◌∙◌, ap, subst, inl, inr, arith}
-use Rattle.std.specs.Prelude.{ℕ, Bool, true, false, ◌&&◌, ◌||◌, ◌-◌, ◌==◌, if◌then◌else◌, Option, Some, None, ◌≡◌, IfSome, ◌⊎◌, List, [], ◌∷◌, ⊤, ◌+◌, ◌<◌, ◌≤◌, nat_le, nat_lt}
+use Rattle.std.specs.Prelude.{ℕ, Bool, true, false, ◌&&◌, ◌||◌, ◌-◌, ◌==◌, if◌then◌else◌, Option, Some, None, ◌≡◌, IfSome, ◌⊎◌, List, [], ◌∷◌, ⊤, ◌+◌, ◌<◌, ◌≤◌, nat_le, nat_lt, slice_get}
 use Rattle.std.proofs.lemmas.Bool.{eqb-true, eq-eqb, leb-true, ltb-true, le-leb, lt-ltb}
 use Rattle.rayon_machine_places.specs.declared.place.Party.{Party}
 use Rattle.rayon_machine_places.specs.declared.place.Party.TheVariants.{Worker, Caller}
 use Rattle.rayon_machine_places.specs.declared.place.Pieces.{Pieces}
 use Rattle.rayon_machine_places.specs.declared.place.Mark.{Mark as Marking}
 use Rattle.rayon_machine_places.specs.declared.place.Mark.TheVariants.{Counted, Queued, Returned}
-use Rattle.rayon_machine_places.specs.declared.place.Plan.TheVariants.{Detach, Here, Send, Fork, Feed}
+use Rattle.rayon_machine_places.specs.declared.place.Plan.TheVariants.{Detach, Here, Send, Fork, Feed, Open, Enter}
 use Rattle.rayon_machine_places.specs.declared.place.Taken.TheVariants.{Plain}
 use Rattle.rayon_machine_places.specs.declared.place.Move.{Move}
 use Rattle.rayon_machine_places.specs.declared.place.Move.TheVariants.{Stay, Enter, StartRun, Back, HandBack, Discard, HandIn, Mark, HandAllBack}
@@ -16,8 +16,9 @@ use Rattle.rayon_machine_places.specs.declared.act.Seen.TheVariants.{Task, Missi
 use Rattle.rayon_machine_places.specs.declared.state.Job.{Job}
 use Rattle.rayon_machine_places.specs.declared.state.Whereabouts.{Whereabouts}
 use Rattle.rayon_machine_places.specs.declared.state.Whereabouts.TheVariants.{HandedBack, Spent, Retaken}
+use Rattle.rayon_machine_places.specs.declared.state.Scope.{Scope}
 use Rattle.rayon_machine_places.specs.Places.{is_free, same_party}
-use Rattle.rayon_machine_places.specs.Steps.{after_feed, after_fifo, after_outcome, after_spawn, after, is_pool, is_piece, marked, put, put_pieces, put_stack, jobs_after}
+use Rattle.rayon_machine_places.specs.Steps.{after_feed, after_fifo, after_outcome, after_spawn, after, is_pool, is_piece, marked, put, put_pieces, put_stack, jobs_after, after_enter, after_into, holds}
 use Rattle.rayon_machine_places.specs.World.{Outcome, Stack, World, at_job, begun, Part, is_open, fifo_back, fifo_first, fifo_out, fifo_undo, but_last, last_of}
 
 -- a test gives one of its two answers
@@ -152,6 +153,8 @@ after_part P b a q Back f t m = refl
 after_part P b a q (StartRun x u) f t m = put_same P f u (begun q (f u)) t (b q (f u))
 after_part P b a q (HandBack (Detach p u)) f t m = put_same P f u (at_job (f u) HandedBack) t (a (f u) HandedBack)
 after_part P b a q (HandBack (Here p u)) f t m = put_same P f u (at_job (f u) HandedBack) t (a (f u) HandedBack)
+after_part P b a q (HandBack (Open o)) f t m = put_same P f o.job (at_job (f o.job) HandedBack) t (a (f o.job) HandedBack)
+after_part P b a q (HandBack (Enter e)) f t m = put_same P f e.job (at_job (f e.job) HandedBack) t (a (f e.job) HandedBack)
 after_part P b a q (HandBack (Send o)) f t m = put_same P f o.job (at_job (f o.job) HandedBack) t (a (f o.job) HandedBack)
 after_part P b a q (HandBack (Fork o u)) f t m =
     let same : (n : ℕ) → P (put f u (at_job (f u) HandedBack) n) ≡ P (f n) = λ n. put_same P f u (at_job (f u) HandedBack) n (a (f u) HandedBack) in
@@ -241,3 +244,19 @@ undo_sees P q m none some = by (is_open q m.seat.feeder)
     by : (z : Bool) → IfSome (if z then fifo_back q m (last_of m.seat.fifo) else None) P
     by true = back (last_of m.seat.fifo) refl
     by false = tt
+
+-- a job is spawned into a scope that is there, by a free party that holds it
+pub into_cases : (P : World → Type 0) (w : World) (q : Party) (n : ℕ) → ((z : Scope) → slice_get w.scopes n ≡ Some z → is_free ((w.stack q).top) ≡ true → holds z.call (w.stack q) ≡ true → IfSome (after_enter w q (w.stack q) (Some z)) P) → IfSome (after_into w q n (w.stack q)) P
+into_cases P w q n f = by (slice_get w.scopes n) refl
+  where
+    at : (z : Scope) → slice_get w.scopes n ≡ Some z → (b : Bool) → (is_free ((w.stack q).top) && holds z.call (w.stack q)) ≡ b → IfSome (after_enter w q (w.stack q) (Some z)) P
+    at z e true t = let a : (is_free ((w.stack q).top) ≡ true) × (holds z.call (w.stack q) ≡ true) = and_parts (is_free ((w.stack q).top)) (holds z.call (w.stack q)) t in f z e (a.0) (a.1)
+    at z e false t = rw t tt
+
+    by : (o : Option Scope) → slice_get w.scopes n ≡ o → IfSome (after_enter w q (w.stack q) o) P
+    by None e = tt
+    by (Some z) e = at z e (is_free ((w.stack q).top) && holds z.call (w.stack q)) refl
+
+-- an act on a book is not enabled while another party holds it
+pub book_sees : (P : Seen × Part → Type 0) (q : Party) (m : Part) (r : Seen × Part) → P r → IfSome (if is_open q m.call.writer then Some r else None) P
+book_sees P q m r h = if_cond P (is_open q m.call.writer) r (λ z. h)

@@ -1,5 +1,8 @@
 -- which jobs a party has in hand or runs, by its places
 use Rattle.rayon_machine_places.specs.declared.place.Mark.TheVariants.{Counted, Queued, Returned}
+use Rattle.rayon_machine_places.specs.declared.place.Share.{Share}
+use Rattle.rayon_machine_places.specs.declared.place.Count.TheVariants.{OfPool, OfScope}
+use Rattle.rayon_machine_places.specs.declared.place.Count.{Count}
 use Rattle.std.proofs.Common.{rules, arith, refl}
 use Rattle.std.specs.Prelude.{ℕ, Bool, true, false, ◌+◌, ◌==◌, nat_lt, if◌then◌else◌, List, [], ◌∷◌, ◌≡◌, IfSome}
 use Rattle.rayon_machine_places.specs.declared.place.Party.{Party}
@@ -10,7 +13,7 @@ use Rattle.rayon_machine_places.specs.declared.place.Taken.TheVariants.{Plain, T
 use Rattle.rayon_machine_places.specs.declared.place.Then.{Then}
 use Rattle.rayon_machine_places.specs.declared.place.Then.TheVariants.{BeginFound}
 use Rattle.rayon_machine_places.specs.declared.place.Place.{Place}
-use Rattle.rayon_machine_places.specs.declared.place.Place.TheVariants.{ProbeWorking, BeginTask, BeginHere, RaiseCount, PushJob, AddToFifo, PushToken, SetLatch, UnlockSettled, RaiseForAll}
+use Rattle.rayon_machine_places.specs.declared.place.Place.TheVariants.{ProbeWorking, BeginTask, BeginHere, RaiseCount, PushJob, AddToFifo, PushToken, SetLatch, UnlockSettled, RaiseForAll, LowerCount, SetLockLatch}
 use Rattle.rayon_machine_places.specs.declared.place.Move.{Move}
 use Rattle.rayon_machine_places.specs.declared.place.Move.TheVariants.{Stay, Enter, StartRun, Back, HandBack, Discard, HandIn, Mark, HandAllBack}
 use Rattle.rayon_machine_places.specs.declared.act.Seen.{Seen}
@@ -19,8 +22,8 @@ use Rattle.rayon_machine_places.specs.declared.state.Letter.{Letter}
 use Rattle.rayon_machine_places.specs.declared.state.Letter.TheVariants.{Unset, Sleepy as IsSleepy, Sleeping, Set as IsSet}
 use Rattle.rayon_machine_places.specs.declared.shape.PoolShape.{PoolShape}
 use Rattle.rayon_machine_places.specs.declared.place.Settling.{Settling}
-use Rattle.rayon_machine_places.specs.Places.{plan_job, finish, settle, after_begin, after_set, act_of, next_of, taken_number}
-use Rattle.rayon_machine_places.specs.World.{Shape, Stack, Counts, Part, is_held_by, letter, set_latch, effect}
+use Rattle.rayon_machine_places.specs.Places.{plan_job, finish, settle, after_begin, after_set, act_of, next_of, taken_number, settle_count, set_call}
+use Rattle.rayon_machine_places.specs.World.{Shape, Stack, Counts, Part, is_held_by, letter, set_latch, effect, count_in}
 use Rattle.rayon_machine_places.specs.Steps.{back, is_piece}
 use Rattle.rayon_machine_laws.specs.Once.{one, run_of, runs_in}
 pub use Rattle.rayon_machine_laws.specs.Once.{hand_plan, hand_rest, hand_then, hand_found, hand, held_in, held, worked}
@@ -143,6 +146,19 @@ set_hand : (t : ℕ) (g : PoolShape) (q : Party) (k : Settling) (e : Seen) → (
 set_hand t g q k Yes = (omega arith, omega arith)
 set_hand t g q k _ = settled_hand t g q k k.latch
 
+-- whatever count is 0 now
+zero_hand : (t : ℕ) (g : PoolShape) (q : Party) (k : Count) (n : Then) → (hand_move t (settle_count g q k n) ≡ hand_then t n) × (run_move t (settle_count g q k n) ≡ 0)
+zero_hand t g q (OfPool p) n = settle_hand t g q p 0 n
+zero_hand t g q (OfScope c (Worker a b)) n = (omega arith, omega arith)
+zero_hand t g q (OfScope c (Caller i)) n = (omega arith, omega arith)
+
+lower_hand : (t : ℕ) (g : PoolShape) (q : Party) (k : Count) (u : Share) (n : Then) (z : Bool) → (hand_move t (next_of g q (LowerCount k u n) (if z then Yes else No)) + 0 ≡ hand_then t n + got t (if z then Yes else No)) × (run_move t (next_of g q (LowerCount k u n) (if z then Yes else No)) ≡ 0 + (0 + outs t (if z then Yes else No)))
+lower_hand t g q k u n true = let a : (hand_move t (settle_count g q k n) ≡ hand_then t n) × (run_move t (settle_count g q k n) ≡ 0) = zero_hand t g q k n in let b : hand_move t (settle_count g q k n) ≡ hand_then t n = a.0 in let c : run_move t (settle_count g q k n) ≡ 0 = a.1 in (omega (arith, b), omega (arith, c))
+lower_hand t g q k u n false = let a : (hand_move t (finish q n) ≡ hand_then t n) × (run_move t (finish q n) ≡ 0) = finish_hand t q n in let b : hand_move t (finish q n) ≡ hand_then t n = a.0 in let c : run_move t (finish q n) ≡ 0 = a.1 in (omega (arith, b), omega (arith, c))
+
+after_hand : (t : ℕ) (q : Party) (n : Then) → (hand_move t (finish q n) + 0 ≡ hand_then t n + 0) × (run_move t (finish q n) ≡ 0 + (0 + 0))
+after_hand t q n = let a : (hand_move t (finish q n) ≡ hand_then t n) × (run_move t (finish q n) ≡ 0) = finish_hand t q n in let b : hand_move t (finish q n) ≡ hand_then t n = a.0 in let c : run_move t (finish q n) ≡ 0 = a.1 in (omega (arith, b), omega (arith, c))
+
 -- over the whole table: what a party has in hand after an act is what it had, with what it took, less what it gave
 pub table : (h : Shape) (s : PoolShape) (q : Party) (c : Counts) (m : Part) (t : ℕ) (x : Place) → IfSome (effect (act_of q x) h q c m) (λ r. (hand_move t (next_of s q x (r.0)) + given t x) ≡ (hand t x + got t (r.0)))
 table h s (Worker a b) c m t (ProbeWorking k) = search (rules, arith)
@@ -150,12 +166,16 @@ table h s (Worker a b) c m t (SetLatch k) = set_sees (λ e. hand_move t (next_of
 table h s (Worker a b) c m t (UnlockSettled k) = if_cond (λ r. hand_move t (next_of s (Worker a b) (UnlockSettled k) (r.0)) + 0 ≡ hand t (UnlockSettled k) + got t (r.0)) (is_held_by (Worker a b) m.seat.lock) _ (λ z. let both : (hand_move t (after_set s (Worker a b) k k.latch) ≡ hand_then t k.then) × (run_move t (after_set s (Worker a b) k k.latch) ≡ 0) = settled_hand t s (Worker a b) k k.latch in let b : hand_move t (after_set s (Worker a b) k k.latch) ≡ hand_then t k.then = both.0 in omega (arith, b))
 table h s (Worker a b) c m t (BeginTask (Plain u)) = search (rules, arith)
 table h s (Worker a b) c m t (BeginTask (Token k i)) = out_sees (λ r. hand_move t (after_begin (Token k i) (r.0)) + 0 ≡ one (t == k) + got t (r.0)) (Worker a b) m (omega arith) (λ u us e. omega arith)
+table h s (Worker a b) c m t (LowerCount k u j) = (lower_hand t s (Worker a b) k u j (count_in m k == 1)).0
+table h s (Worker a b) c m t (SetLockLatch i j) = (after_hand t (Worker a b) j).0
 table h s (Worker a b) c m t _ = search (rules, arith)
 table h s (Caller n) c m t (ProbeWorking k) = search (rules, arith)
 table h s (Caller n) c m t (SetLatch k) = set_sees (λ e. hand_move t (next_of s (Caller n) (SetLatch k) e) + 0 ≡ hand t (SetLatch k) + got t e) k.latch m (letter k.latch m) (λ e none. let both : (hand_move t (next_of s (Caller n) (SetLatch k) e) ≡ hand_then t k.then) × (run_move t (next_of s (Caller n) (SetLatch k) e) ≡ 0) = set_hand t s (Caller n) k e in let b : hand_move t (next_of s (Caller n) (SetLatch k) e) ≡ hand_then t k.then = both.0 in let z : got t e ≡ 0 = (none t).0 in omega (arith, b, z))
 table h s (Caller n) c m t (UnlockSettled k) = if_cond (λ r. hand_move t (next_of s (Caller n) (UnlockSettled k) (r.0)) + 0 ≡ hand t (UnlockSettled k) + got t (r.0)) (is_held_by (Caller n) m.seat.lock) _ (λ z. let both : (hand_move t (after_set s (Caller n) k k.latch) ≡ hand_then t k.then) × (run_move t (after_set s (Caller n) k k.latch) ≡ 0) = settled_hand t s (Caller n) k k.latch in let b : hand_move t (after_set s (Caller n) k k.latch) ≡ hand_then t k.then = both.0 in omega (arith, b))
 table h s (Caller n) c m t (BeginTask (Plain u)) = search (rules, arith)
 table h s (Caller n) c m t (BeginTask (Token k i)) = out_sees (λ r. hand_move t (after_begin (Token k i) (r.0)) + 0 ≡ one (t == k) + got t (r.0)) (Caller n) m (omega arith) (λ u us e. omega arith)
+table h s (Caller n) c m t (LowerCount k u j) = (lower_hand t s (Caller n) k u j (count_in m k == 1)).0
+table h s (Caller n) c m t (SetLockLatch i j) = (after_hand t (Caller n) j).0
 table h s (Caller n) c m t _ = search (rules, arith)
 
 -- and what it runs is what it ran, with what it began, of what it had or for a token
@@ -165,10 +185,14 @@ run_table h s (Worker a b) c m t (SetLatch k) = set_sees (λ e. run_move t (next
 run_table h s (Worker a b) c m t (UnlockSettled k) = if_cond (λ r. run_move t (next_of s (Worker a b) (UnlockSettled k) (r.0)) ≡ run_of t (UnlockSettled k) + (starts t (UnlockSettled k) + outs t (r.0))) (is_held_by (Worker a b) m.seat.lock) _ (λ z. let both : (hand_move t (after_set s (Worker a b) k k.latch) ≡ hand_then t k.then) × (run_move t (after_set s (Worker a b) k k.latch) ≡ 0) = settled_hand t s (Worker a b) k k.latch in let b : run_move t (after_set s (Worker a b) k k.latch) ≡ 0 = both.1 in omega (arith, b))
 run_table h s (Worker a b) c m t (BeginTask (Plain u)) = search (rules, arith)
 run_table h s (Worker a b) c m t (BeginTask (Token k i)) = out_sees (λ r. run_move t (after_begin (Token k i) (r.0)) ≡ 0 + (0 + outs t (r.0))) (Worker a b) m (omega arith) (λ u us e. omega arith)
+run_table h s (Worker a b) c m t (LowerCount k u j) = (lower_hand t s (Worker a b) k u j (count_in m k == 1)).1
+run_table h s (Worker a b) c m t (SetLockLatch i j) = (after_hand t (Worker a b) j).1
 run_table h s (Worker a b) c m t _ = search (rules, arith)
 run_table h s (Caller n) c m t (ProbeWorking k) = search (rules, arith)
 run_table h s (Caller n) c m t (SetLatch k) = set_sees (λ e. run_move t (next_of s (Caller n) (SetLatch k) e) ≡ run_of t (SetLatch k) + (starts t (SetLatch k) + outs t e)) k.latch m (letter k.latch m) (λ e none. let both : (hand_move t (next_of s (Caller n) (SetLatch k) e) ≡ hand_then t k.then) × (run_move t (next_of s (Caller n) (SetLatch k) e) ≡ 0) = set_hand t s (Caller n) k e in let b : run_move t (next_of s (Caller n) (SetLatch k) e) ≡ 0 = both.1 in let z : outs t e ≡ 0 = (none t).1 in omega (arith, b, z))
 run_table h s (Caller n) c m t (UnlockSettled k) = if_cond (λ r. run_move t (next_of s (Caller n) (UnlockSettled k) (r.0)) ≡ run_of t (UnlockSettled k) + (starts t (UnlockSettled k) + outs t (r.0))) (is_held_by (Caller n) m.seat.lock) _ (λ z. let both : (hand_move t (after_set s (Caller n) k k.latch) ≡ hand_then t k.then) × (run_move t (after_set s (Caller n) k k.latch) ≡ 0) = settled_hand t s (Caller n) k k.latch in let b : run_move t (after_set s (Caller n) k k.latch) ≡ 0 = both.1 in omega (arith, b))
 run_table h s (Caller n) c m t (BeginTask (Plain u)) = search (rules, arith)
 run_table h s (Caller n) c m t (BeginTask (Token k i)) = out_sees (λ r. run_move t (after_begin (Token k i) (r.0)) ≡ 0 + (0 + outs t (r.0))) (Caller n) m (omega arith) (λ u us e. omega arith)
+run_table h s (Caller n) c m t (LowerCount k u j) = (lower_hand t s (Caller n) k u j (count_in m k == 1)).1
+run_table h s (Caller n) c m t (SetLockLatch i j) = (after_hand t (Caller n) j).1
 run_table h s (Caller n) c m t _ = search (rules, arith)

@@ -1,4 +1,6 @@
 -- what each act leaves of the latches
+use Rattle.rayon_machine_places.specs.declared.place.Then.{Then}
+use Rattle.rayon_machine_places.specs.declared.place.OpenCall.{OpenCall}
 use Rattle.std.proofs.Common.{rules, arith, refl, ap, subst}
 use Rattle.std.specs.Prelude.{ℕ, Bool, true, false, Option, Some, None, ◌≡◌, IfSome}
 use Rattle.rayon_machine_places.specs.declared.place.Party.{Party}
@@ -7,7 +9,7 @@ use Rattle.rayon_machine_places.specs.declared.place.Latch.{Latch}
 use Rattle.rayon_machine_places.specs.declared.place.Latch.TheVariants.{Terminate, OfCall}
 use Rattle.rayon_machine_places.specs.declared.place.Plan.{Plan}
 use Rattle.rayon_machine_places.specs.declared.place.Place.{Place}
-use Rattle.rayon_machine_places.specs.declared.place.Place.TheVariants.{ProbeWorking, GetSleepy, FallAsleep, BlockSelf, WakeUp, GrowCall, SetLatch, SetLockLatch}
+use Rattle.rayon_machine_places.specs.declared.place.Place.TheVariants.{ProbeWorking, GetSleepy, FallAsleep, BlockSelf, WakeUp, GrowCall, SetLatch, SetLockLatch, GrowScope}
 use Rattle.rayon_machine_places.specs.declared.act.Act.TheVariants.{Sleepy, Asleep, Wakeup, Set}
 use Rattle.rayon_machine_places.specs.declared.act.Seen.{Seen}
 use Rattle.rayon_machine_places.specs.declared.act.Seen.TheVariants.{Yes}
@@ -30,8 +32,9 @@ is_latching (GetSleepy k) = true
 is_latching (FallAsleep k) = true
 is_latching (WakeUp k) = true
 is_latching (GrowCall n) = true
+is_latching (GrowScope o) = true
 is_latching (SetLatch s) = true
-is_latching (SetLockLatch c) = true
+is_latching (SetLockLatch c t) = true
 is_latching _ = false
 
 pub latches_same : (h : Shape) (q : Party) (c : Counts) (m : Part) (x : Place) → is_latching x ≡ false → IfSome (effect (act_of q x) h q c m) (SameLatches m)
@@ -40,8 +43,9 @@ latches_same h q c m (GetSleepy k) z = cc
 latches_same h q c m (FallAsleep k) z = cc
 latches_same h q c m (WakeUp k) z = cc
 latches_same h q c m (GrowCall n) z = cc
+latches_same h q c m (GrowScope o) z = cc
 latches_same h q c m (SetLatch s) z = cc
-latches_same h q c m (SetLockLatch d) z = cc
+latches_same h q c m (SetLockLatch d t) z = cc
 latches_same h (Worker a b) c m _ z = search (rules, arith)
 latches_same h (Caller n) c m _ z = search (rules, arith)
 
@@ -82,9 +86,13 @@ pub grow_one : (h : Shape) (q : Party) (c : Counts) (m : Part) (n : Plan) → If
 grow_one h (Worker a b) c m n = refl
 grow_one h (Caller o) c m n = refl
 
-pub lock_one : (h : Shape) (q : Party) (c : Counts) (m : Part) (d : ℕ) → IfSome (effect (act_of q (SetLockLatch d)) h q c m) (λ r. r.1.seat.latch ≡ m.seat.latch)
-lock_one h (Worker a b) c m d = refl
-lock_one h (Caller o) c m d = refl
+pub scope_one : (h : Shape) (q : Party) (c : Counts) (m : Part) (n : OpenCall) → IfSome (effect (act_of q (GrowScope n)) h q c m) (λ r. r.1.seat.latch ≡ m.seat.latch)
+scope_one h (Worker a b) c m n = refl
+scope_one h (Caller o) c m n = refl
+
+pub lock_one : (h : Shape) (q : Party) (c : Counts) (m : Part) (d : ℕ) (t : Then) → IfSome (effect (act_of q (SetLockLatch d t)) h q c m) (λ r. r.1.seat.latch ≡ m.seat.latch)
+lock_one h (Worker a b) c m d t = refl
+lock_one h (Caller o) c m d t = refl
 
 -- who sets a latch finds out whether its worker slept
 pub record Sets (l : Latch) (m : Part) (r : Seen × Part) : Type 0 where

@@ -1,6 +1,8 @@
 -- what no step takes back, so that what a place says stays true while others move
 use Rattle.rayon_machine_places.specs.declared.place.Pieces.{Pieces}
-use Rattle.std.proofs.Common.{rules, arith, refl, sym, ◌∙◌, ap, subst}
+use Rattle.rayon_machine_places.specs.declared.place.Count.TheVariants.{OfPool, OfScope}
+use Rattle.rayon_machine_places.specs.declared.place.Count.{Count}
+use Rattle.std.proofs.Common.{rules, arith, refl, sym, ◌∙◌, ap, subst, inl, inr}
 use Rattle.std.specs.Prelude.{ℕ, Bool, true, false, ◌+◌, ◌-◌, ◌==◌, ◌≤◌, if◌then◌else◌, Option, Some, None, List, [], ◌∷◌, ◌≡◌, IfSome}
 use Rattle.std.proofs.lemmas.Bool.{eq-eqb}
 use Rattle.rayon_machine_places.specs.declared.place.Party.{Party}
@@ -8,20 +10,20 @@ use Rattle.rayon_machine_places.specs.declared.place.Party.TheVariants.{Worker, 
 use Rattle.rayon_machine_places.specs.declared.place.Ending.{Ending}
 use Rattle.rayon_machine_places.specs.declared.place.Ending.TheVariants.{Fine}
 use Rattle.rayon_machine_places.specs.declared.place.JobKind.{JobKind}
-use Rattle.rayon_machine_places.specs.declared.place.JobKind.TheVariants.{Detached, Stored, Direct, TokenOf}
+use Rattle.rayon_machine_places.specs.declared.place.JobKind.TheVariants.{Detached, Stored, Direct, TokenOf, Scoped, BodyOf}
 use Rattle.rayon_machine_places.specs.declared.place.Target.{Target}
 use Rattle.rayon_machine_places.specs.declared.place.Target.TheVariants.{Termination, Answer}
 use Rattle.rayon_machine_places.specs.declared.place.Latch.{Latch}
 use Rattle.rayon_machine_places.specs.declared.place.Latch.TheVariants.{Terminate, OfCall}
 use Rattle.rayon_machine_places.specs.declared.place.Plan.{Plan}
-use Rattle.rayon_machine_places.specs.declared.place.Plan.TheVariants.{Detach, Here, Send, Fork, Feed}
+use Rattle.rayon_machine_places.specs.declared.place.Plan.TheVariants.{Detach, Here, Send, Fork, Feed, Open, Enter}
 use Rattle.rayon_machine_places.specs.declared.place.Share.{Share}
-use Rattle.rayon_machine_places.specs.declared.place.Share.TheVariants.{PoolValue, OfJob}
+use Rattle.rayon_machine_places.specs.declared.place.Share.TheVariants.{PoolValue, OfJob, Body}
 use Rattle.rayon_machine_places.specs.declared.place.Then.{Then}
 use Rattle.rayon_machine_places.specs.declared.place.Then.TheVariants.{BeginFound, LeaveWait, Resume, Await, RunFirst, Answers, Missing, Ran, GiveBack, Called}
 use Rattle.rayon_machine_places.specs.declared.place.Taken.{Taken}
 use Rattle.rayon_machine_places.specs.declared.place.Place.{Place}
-use Rattle.rayon_machine_places.specs.declared.place.Place.TheVariants.{ProbeWorking, PopWorking, TakeCastWorking, BecomeInactive, ProbeIdle, PopIdle, TakeCastIdle, PickVictim, StealFrom, PopInjected, AnnounceSelf, GetSleepy, LockOwn, FallAsleep, LoadCounters, AddSleeping, LookAtCast, LookAtInjector, BlockSelf, RelockOwn, UndoSleeping, WakeUp, UnlockOwn, LeaveSearch, JoinProbe, JoinPop, JoinTakeCast, BeginTask, BeginHere, Run, RaiseCount, GrowCall, LookQueue, PushJob, TellNews, LockToWake, WakeWorker, UnlockWoken, WaitForLock, TakeResult, LowerCount, StoreResult, SetLatch, LockToSettle, WakeSettled, UnlockSettled, SetLockLatch, FirstSide, SecondSide, AtOnce, AddToFifo, LookForToken, PushToken, TakeFromFifo, RaiseForAll, PushForAll, LowerForAll}
+use Rattle.rayon_machine_places.specs.declared.place.Place.TheVariants.{ProbeWorking, PopWorking, TakeCastWorking, BecomeInactive, ProbeIdle, PopIdle, TakeCastIdle, PickVictim, StealFrom, PopInjected, AnnounceSelf, GetSleepy, LockOwn, FallAsleep, LoadCounters, AddSleeping, LookAtCast, LookAtInjector, BlockSelf, RelockOwn, UndoSleeping, WakeUp, UnlockOwn, LeaveSearch, JoinProbe, JoinPop, JoinTakeCast, BeginTask, BeginHere, Run, RaiseCount, GrowCall, LookQueue, PushJob, TellNews, LockToWake, WakeWorker, UnlockWoken, WaitForLock, TakeResult, LowerCount, StoreResult, SetLatch, LockToSettle, WakeSettled, UnlockSettled, SetLockLatch, FirstSide, SecondSide, AtOnce, AddToFifo, LookForToken, PushToken, TakeFromFifo, RaiseForAll, PushForAll, LowerForAll, GrowScope, OpenSlot, CloseSlot, StoreBody, StoreSlot, ScopeBody}
 use Rattle.rayon_machine_places.specs.declared.act.Seen.{Seen}
 use Rattle.rayon_machine_places.specs.declared.act.Seen.TheVariants.{Done, Refused}
 use Rattle.rayon_machine_places.specs.declared.state.Letter.{Letter}
@@ -29,10 +31,10 @@ use Rattle.rayon_machine_places.specs.declared.state.Letter.TheVariants.{Set as 
 use Rattle.rayon_machine_places.specs.declared.state.Whereabouts.{Whereabouts}
 use Rattle.rayon_machine_places.specs.declared.state.Whereabouts.TheVariants.{Nowhere, Made, InDeque, Injected, InFifo, Running, Over, HandedBack, Spent, Retaken, InCast}
 use Rattle.rayon_machine_places.specs.declared.place.OpenCall.{OpenCall}
-use Rattle.rayon_machine_places.specs.Places.{latch_of, act_of, own_index}
-use Rattle.rayon_machine_places.specs.World.{Shape, Stack, World, Counts, Part, letter, with_letter, lowered, effect}
+use Rattle.rayon_machine_places.specs.Places.{latch_of, act_of, own_index, plan_count}
+use Rattle.rayon_machine_places.specs.World.{Shape, Stack, World, Counts, Part, letter, with_letter, lowered, effect, count_in, raised}
 use Rattle.rayon_machine_places.specs.Readers.{is_done}
-use Rattle.rayon_machine_laws.proofs.Claims.{Opened, MadeAs, FirstEnds, SaysTarget, Left, Taking, is_detached, Awaited, SaysFound, SaysPlan, SaysQueue, SaysThen, SaysOwner, SaysShare, SaysLatch, SaysRun, Says, AllSay, StackSays, SaysTold, SaysPieces}
+use Rattle.rayon_machine_laws.proofs.Claims.{Opened, IsStored, call_kind, is_body, MadeAs, FirstEnds, SaysTarget, Left, Taking, is_detached, Awaited, SaysFound, SaysPlan, SaysQueue, SaysThen, SaysOwner, SaysShare, SaysLatch, SaysRun, Says, AllSay, StackSays, SaysTold, SaysPieces, SaysEntry, IsReady}
 use Rattle.rayon_machine_laws.proofs.Letters.{sleepy_keeps, asleep_keeps, wake_keeps, set_keeps}
 use Rattle.rayon_machine_places.specs.declared.place.Taken.TheVariants.{Plain, Token}
 
@@ -47,6 +49,7 @@ pub record Later (w u : World) : Type 0 where
   pub target : (c : ℕ) → c + 1 ≤ w.calls → (u.call c).job ≡ (w.call c).job
   pub side : (c : ℕ) → c + 1 ≤ w.calls → (u.call c).first ≡ (w.call c).first
   pub ended : (p : ℕ) → (w.pool p).count ≡ 0 → (u.pool p).count ≡ 0
+  pub spent : (c : ℕ) → c + 1 ≤ w.calls → (w.call c).count ≡ 0 → (u.call c).count ≡ 0
   pub given : (p : ℕ) → (w.pool p).held ≡ false → (u.pool p).held ≡ false
 
 later_opened : (w u : World) → Later w u → (q : Party) (o : OpenCall) → Opened w q o → Opened u q o
@@ -54,7 +57,7 @@ later_opened w u l q o s = record {
   number = (let a : o.number + 1 ≤ w.calls = s.number in let b : w.calls ≤ u.calls = l.calls in omega (arith, a, b));
   made = (let a : o.job + 1 ≤ w.jobs = s.made in let b : w.jobs ≤ u.jobs = l.jobs in omega (arith, a, b));
   target = l.target (o.number) (s.number) ∙ s.target;
-  kind = l.kind (o.job) (s.made) ∙ s.kind;
+  kind = ap call_kind (l.kind (o.job) (s.made)) ∙ s.kind;
   pool = l.pool (o.job) (s.made) ∙ s.pool;
 }
 
@@ -93,11 +96,15 @@ later_plan w u l q (Detach p t) s = later_made w u l t p (Detached p) s
 later_plan w u l q (Here p t) s = later_made w u l t p Direct s
 later_plan w u l q (Feed f) s = (later_made w u l f.job f.pool (Detached f.pool) (s.0), later_made w u l f.token f.pool (TokenOf (own_index q)) (s.1), s.2)
 later_plan w u l q (Send o) s = (later_opened w u l q o (s.0), l.side (o.number) ((s.0).number) ∙ s.1)
+later_plan w u l q (Open o) s = (later_opened w u l q o (s.0), l.side (o.number) ((s.0).number) ∙ s.1)
+later_plan w u l q (Enter e) s = (later_made w u l e.job e.pool (Scoped e.call e.owner) (s.0), (let a : e.call + 1 ≤ w.calls = s.1 in let b : w.calls ≤ u.calls = l.calls in omega (arith, a, b)))
 later_plan w u l q (Fork o a) s = (later_opened w u l q o (s.0), l.side (o.number) ((s.0).number) ∙ s.1, later_awaited w u l a (s.2))
 
 later_told : (w u : World) → Later w u → (q : Party) (n : Plan) → SaysTold w q n → SaysTold u q n
 later_told w u l q (Detach p t) s = ((let a : t + 1 ≤ w.jobs = s.0 in let b : w.jobs ≤ u.jobs = l.jobs in omega (arith, a, b)), l.pool t (s.0) ∙ s.1)
 later_told w u l q (Feed f) s = absurd s
+later_told w u l q (Open o) s = absurd s
+later_told w u l q (Enter e) s = later_plan w u l q (Enter e) s
 later_told w u l q (Here p t) s = later_plan w u l q (Here p t) s
 later_told w u l q (Send o) s = later_plan w u l q (Send o) s
 later_told w u l q (Fork o a) s = later_plan w u l q (Fork o a) s
@@ -145,22 +152,56 @@ later_owner w u l t p (RunFirst o a) b s = s
 later_queue : (w u : World) → Later w u → (q : Party) (n : Plan) → SaysQueue w q n → SaysQueue u q n
 later_queue w u l q (Here p t) s = s
 later_queue w u l q (Feed f) s = s
+later_queue w u l q (Open o) s = s
+later_queue w u l q (Enter e) s = later_plan w u l q (Enter e) s
 later_queue w u l q (Detach p t) s = later_plan w u l q (Detach p t) s
 later_queue w u l q (Send o) s = later_plan w u l q (Send o) s
 later_queue w u l q (Fork o a) s = later_plan w u l q (Fork o a) s
 
-later_share : (w u : World) → Later w u → (p : ℕ) (a : Share) (n : Then) → SaysShare w p a n → SaysShare u p a n
-later_share w u l p PoolValue n s = (l.given p (s.0), s.1)
-later_share w u l p (OfJob t) n s = ((let a : t + 1 ≤ w.jobs = s.0 in let b : w.jobs ≤ u.jobs = l.jobs in omega (arith, a, b)), l.pool t (s.0) ∙ s.1, later_owner w u l t p n (s.0) (s.2))
+later_entry : (w u : World) → Later w u → (t : ℕ) (n : Then) → SaysEntry w t n → SaysEntry u t n
+later_entry w u l t Resume s = later_done w u l t s
+later_entry w u l t Called s = s
+later_entry w u l t (GiveBack n) s = s
+later_entry w u l t (BeginFound g v) s = s
+later_entry w u l t (LeaveWait g) s = s
+later_entry w u l t (Await o) s = s
+later_entry w u l t (RunFirst o a) s = s
+later_entry w u l t (Answers o f e) s = s
+later_entry w u l t (Missing o f) s = s
+later_entry w u l t (Ran v e) s = s
 
-later_latch : (w u : World) → Later w u → (p : ℕ) (a : Latch) → SaysLatch w p a → SaysLatch u p a
+-- the body of a call that is over
+pub later_body : (w u : World) → Later w u → (c : ℕ) → c + 1 ≤ w.calls → is_done (w.job (w.call c).job).at ≡ true → is_done (u.job (u.call c).job).at ≡ true
+later_body w u l c b s = ap (λ t. is_done (u.job t).at) (l.target c b) ∙ later_done w u l ((w.call c).job) s
+
+later_share : (w u : World) → Later w u → (k : Count) (a : Share) (n : Then) → SaysShare w k a n → SaysShare u k a n
+later_share w u l (OfPool p) PoolValue n s = (l.given p (s.0), s.1)
+later_share w u l (OfPool p) (OfJob t) n s = ((let a : t + 1 ≤ w.jobs = s.0 in let b : w.jobs ≤ u.jobs = l.jobs in omega (arith, a, b)), l.pool t (s.0) ∙ s.1, later_owner w u l t p n (s.0) (s.2))
+later_share w u l (OfPool p) Body n s = s
+later_share w u l (OfScope c o) PoolValue n s = s
+later_share w u l (OfScope c o) (OfJob t) n s = ((let a : t + 1 ≤ w.jobs = s.0 in let b : w.jobs ≤ u.jobs = l.jobs in omega (arith, a, b)), l.kind t (s.0) ∙ s.1, (let a : c + 1 ≤ w.calls = s.2 in let b : w.calls ≤ u.calls = l.calls in omega (arith, a, b)), later_entry w u l t n (s.3))
+later_share w u l (OfScope c o) Body n s = ((let a : c + 1 ≤ w.calls = s.0 in let b : w.calls ≤ u.calls = l.calls in omega (arith, a, b)), later_body w u l c (s.0) (s.1), s.2)
+
+later_stored : (w u : World) → Later w u → (c : ℕ) → c + 1 ≤ w.calls → IsStored w c → IsStored u c
+later_stored w u l c b s = (
+  (let a : (w.call c).job + 1 ≤ w.jobs = s.0 in let d : w.jobs ≤ u.jobs = l.jobs in let e : (u.call c).job ≡ (w.call c).job = l.target c b in omega (arith, a, d, e)),
+  ap (λ t. is_body (u.job t).kind) (l.target c b) ∙ ap is_body (l.kind ((w.call c).job) (s.0)) ∙ s.1,
+)
+
+pub later_ready : (w u : World) → Later w u → (c : ℕ) → c + 1 ≤ w.calls → IsReady w c → IsReady u c
+later_ready w u l c b (inl s) = inl (later_stored w u l c b (s.0), later_body w u l c b (s.1))
+later_ready w u l c b (inr s) = inr (l.spent c b s)
+
+pub later_latch : (w u : World) → Later w u → (p : ℕ) (a : Latch) → SaysLatch w p a → SaysLatch u p a
 later_latch w u l p Terminate s = l.ended p s
-later_latch w u l p (OfCall c) s = ((let a : c + 1 ≤ w.calls = s.0 in let b : w.calls ≤ u.calls = l.calls in omega (arith, a, b)), ap (λ t. is_done (u.job t).at) (l.target c (s.0)) ∙ later_done w u l ((w.call c).job) (s.1))
+later_latch w u l p (OfCall c) s = ((let a : c + 1 ≤ w.calls = s.0 in let b : w.calls ≤ u.calls = l.calls in omega (arith, a, b)), later_ready w u l c (s.0) (s.1))
 
 later_run : (w u : World) → Later w u → (t : ℕ) (k : JobKind) → SaysRun w t k → SaysRun u t k
 later_run w u l t Direct s = later_awaited w u l t s
 later_run w u l t (TokenOf i) s = later_awaited w u l t s
+later_run w u l t (BodyOf c9 o9) s = later_awaited w u l t s
 later_run w u l t (Detached p) s = ((let a : t + 1 ≤ w.jobs = s.0 in let b : w.jobs ≤ u.jobs = l.jobs in omega (arith, a, b)), l.kind t (s.0) ∙ s.1)
+later_run w u l t (Scoped c o) s = ((let a : t + 1 ≤ w.jobs = s.0 in let b : w.jobs ≤ u.jobs = l.jobs in omega (arith, a, b)), l.kind t (s.0) ∙ s.1)
 later_run w u l t (Stored c o) s = ((let a : t + 1 ≤ w.jobs = s.0 in let b : w.jobs ≤ u.jobs = l.jobs in omega (arith, a, b)), l.kind t (s.0) ∙ s.1)
 
 -- what a place says stays true
@@ -196,6 +237,12 @@ later_says w u l q (SecondSide o) s = later_target w u l q (Answer o (Some Fine)
 later_says w u l q (Run t k) s = later_run w u l t k s
 later_says w u l q (RaiseCount n) s = later_plan w u l q n s
 later_says w u l q (GrowCall n) s = later_queue w u l q n s
+later_says w u l q (GrowScope o) s = later_plan w u l q (Open o) s
+later_says w u l q (OpenSlot e) s = later_plan w u l q (Enter e) s
+later_says w u l q (CloseSlot e) s = later_plan w u l q (Enter e) s
+later_says w u l q (ScopeBody o) s = later_target w u l q (Answer o None) s
+later_says w u l q (StoreBody o e) s = (later_target w u l q (Answer o None) (s.0), l.over (o.job) e (s.1))
+later_says w u l q (StoreSlot c o t e) s = ((let a : t + 1 ≤ w.jobs = s.0 in let b : w.jobs ≤ u.jobs = l.jobs in omega (arith, a, b)), l.kind t (s.0) ∙ s.1, (let a : c + 1 ≤ w.calls = s.2 in let b : w.calls ≤ u.calls = l.calls in omega (arith, a, b)), l.over t e (s.3))
 later_says w u l q (LookQueue n) s = later_queue w u l q n s
 later_says w u l q (PushJob n e) s = later_queue w u l q n s
 later_says w u l q (AddToFifo f) s = later_plan w u l q (Feed f) s
@@ -213,12 +260,12 @@ later_says w u l q (UnlockWoken k) s = later_then w u l q k.then s
 later_says w u l q (WaitForLock o) s = later_target w u l q (Answer o None) s
 later_says w u l q (TakeResult o f) s = later_target w u l q (Answer o f) s
 later_says w u l q (LowerCount p a n) s = (later_then w u l q n (s.0), later_share w u l p a n (s.1))
-later_says w u l q (StoreResult c o e) s = ((let a : c + 1 ≤ w.calls = s.0 in let b : w.calls ≤ u.calls = l.calls in omega (arith, a, b)), ap (λ t. (u.job t).at) (l.target c (s.0)) ∙ l.over ((w.call c).job) e (s.1))
+later_says w u l q (StoreResult c o e) s = ((let a : c + 1 ≤ w.calls = s.0 in let b : w.calls ≤ u.calls = l.calls in omega (arith, a, b)), ap (λ t. (u.job t).at) (l.target c (s.0)) ∙ l.over ((w.call c).job) e (s.1), later_stored w u l c (s.0) (s.2))
 later_says w u l q (SetLatch k) s = (later_latch w u l k.pool k.latch (s.0), later_then w u l q k.then (s.1))
 later_says w u l q (LockToSettle k) s = (later_latch w u l k.pool k.latch (s.0), later_then w u l q k.then (s.1))
 later_says w u l q (WakeSettled k) s = (later_latch w u l k.pool k.latch (s.0), later_then w u l q k.then (s.1))
 later_says w u l q (UnlockSettled k) s = (later_latch w u l k.pool k.latch (s.0), later_then w u l q k.then (s.1))
-later_says w u l q (SetLockLatch c) s = later_latch w u l 0 (OfCall c) s
+later_says w u l q (SetLockLatch c n) s = (later_latch w u l 0 (OfCall c) (s.0), later_then w u l q n (s.1))
 later_says w u l q (FirstSide o a) s = later_plan w u l q (Fork o a) s
 later_says w u l q (AtOnce p t) s = later_plan w u l q (Here p t) s
 later_says w u l q (BeginHere t) s = later_awaited w u l t s
@@ -240,34 +287,39 @@ pub record Static (m : Part) (r : Seen × Part) : Type 0 where
   pub side : r.1.call.first ≡ m.call.first
   pub held : r.1.pool.held ≡ m.pool.held
   pub ended : m.pool.count ≡ 0 → r.1.pool.count ≡ 0
+  pub spent : m.call.count ≡ 0 → r.1.call.count ≡ 0
 
 letter_static : (l : Latch) (m : Part) (e : Seen) (y : Letter) → Static m (e, with_letter l m y)
-letter_static Terminate m e y = record { kind = refl; pool = refl; bound = refl; target = refl; side = refl; held = refl; ended = λ z. z }
-letter_static (OfCall c) m e y = record { kind = refl; pool = refl; bound = refl; target = refl; side = refl; held = refl; ended = λ z. z }
+letter_static Terminate m e y = record { kind = refl; pool = refl; bound = refl; target = refl; side = refl; held = refl; ended = λ z. z; spent = λ z. z }
+letter_static (OfCall c) m e y = record { kind = refl; pool = refl; bound = refl; target = refl; side = refl; held = refl; ended = λ z. z; spent = λ z. z }
 
 same_static : (m : Part) (e : Seen) → Static m (e, m)
-same_static m e = record { kind = refl; pool = refl; bound = refl; target = refl; side = refl; held = refl; ended = λ z. z }
+same_static m e = record { kind = refl; pool = refl; bound = refl; target = refl; side = refl; held = refl; ended = λ z. z; spent = λ z. z }
 
-raise_static : (m : Part) → IfSome (if m.pool.count == 0 then Some (Refused, m) else Some (Done, record m { pool = record (m.pool) { count = m.pool.count + 1 }; job = record (m.job) { counted = true } })) (Static m)
-raise_static m = by (m.pool.count == 0) refl
+raise_static : (m : Part) (k : Count) → IfSome (if count_in m k == 0 then Some (Refused, m) else Some (Done, raised m k)) (Static m)
+raise_static m k = by k (count_in m k == 0) refl
   where
-    by : (z : Bool) → (m.pool.count == 0) ≡ z → IfSome (if z then Some (Refused, m) else Some (Done, record m { pool = record (m.pool) { count = m.pool.count + 1 }; job = record (m.job) { counted = true } })) (Static m)
-    by true e = same_static m Refused
-    by false e = record { kind = refl; pool = refl; bound = refl; target = refl; side = refl; held = refl; ended = λ z. absurd (let a : (m.pool.count == 0) ≡ true = eq-eqb (m.pool.count) 0 z in cc) }
+    more : (j : Count) → (count_in m j == 0) ≡ false → Static m (Done, raised m j)
+    more (OfPool p) e = record { kind = refl; pool = refl; bound = refl; target = refl; side = refl; held = refl; ended = λ z. absurd (let a : (m.pool.count == 0) ≡ true = eq-eqb (m.pool.count) 0 z in cc); spent = λ z. z }
+    more (OfScope c o) e = record { kind = refl; pool = refl; bound = refl; target = refl; side = refl; held = refl; ended = λ z. z; spent = λ z. absurd (let a : (m.call.count == 0) ≡ true = eq-eqb (m.call.count) 0 z in cc) }
+
+    by : (j : Count) (z : Bool) → (count_in m j == 0) ≡ z → IfSome (if z then Some (Refused, m) else Some (Done, raised m j)) (Static m)
+    by j true e = same_static m Refused
+    by j false e = more j e
 
 raise_all_static : (m : Part) (b : Pieces) → IfSome (if m.pool.count == 0 then Some (Refused, m) else Some (Done, record m { pool = record (m.pool) { count = m.pool.count + b.workers } })) (Static m)
 raise_all_static m b = by (m.pool.count == 0) refl
   where
     by : (z : Bool) → (m.pool.count == 0) ≡ z → IfSome (if z then Some (Refused, m) else Some (Done, record m { pool = record (m.pool) { count = m.pool.count + b.workers } })) (Static m)
     by true e = same_static m Refused
-    by false e = record { kind = refl; pool = refl; bound = refl; target = refl; side = refl; held = refl; ended = λ z. absurd (let a : (m.pool.count == 0) ≡ true = eq-eqb (m.pool.count) 0 z in cc) }
+    by false e = record { kind = refl; pool = refl; bound = refl; target = refl; side = refl; held = refl; ended = λ z. absurd (let a : (m.pool.count == 0) ≡ true = eq-eqb (m.pool.count) 0 z in cc); spent = λ z. z }
 
 lower_all_static : (m : Part) (b : Pieces) (e : Seen) → Static m (e, record m { pool = record (m.pool) { count = m.pool.count - b.workers } })
-lower_all_static m b e = record { kind = refl; pool = refl; bound = refl; target = refl; side = refl; held = refl; ended = λ z. (let n : m.pool.count ≡ 0 = z in let goal : m.pool.count - b.workers ≡ 0 = omega (arith, n) in goal) }
+lower_all_static m b e = record { kind = refl; pool = refl; bound = refl; target = refl; side = refl; held = refl; ended = λ z. (let n : m.pool.count ≡ 0 = z in let goal : m.pool.count - b.workers ≡ 0 = omega (arith, n) in goal); spent = λ z. z }
 
-lower_static : (m : Part) (s : Share) (e : Seen) → Static m (e, lowered m s)
-lower_static m PoolValue e = record { kind = refl; pool = refl; bound = refl; target = refl; side = refl; held = refl; ended = λ z. (let n : m.pool.count ≡ 0 = z in let goal : m.pool.count - 1 ≡ 0 = omega (arith, n) in goal) }
-lower_static m (OfJob t) e = record { kind = refl; pool = refl; bound = refl; target = refl; side = refl; held = refl; ended = λ z. (let n : m.pool.count ≡ 0 = z in let goal : m.pool.count - 1 ≡ 0 = omega (arith, n) in goal) }
+lower_static : (m : Part) (k : Count) (s : Share) (e : Seen) → Static m (e, lowered m k s)
+lower_static m (OfPool p) s e = record { kind = refl; pool = refl; bound = refl; target = refl; side = refl; held = refl; ended = λ z. (let n : m.pool.count ≡ 0 = z in let goal : m.pool.count - 1 ≡ 0 = omega (arith, n) in goal); spent = λ z. z }
+lower_static m (OfScope c o) s e = record { kind = refl; pool = refl; bound = refl; target = refl; side = refl; held = refl; ended = λ z. z; spent = λ z. (let n : m.call.count ≡ 0 = z in let goal : m.call.count - 1 ≡ 0 = omega (arith, n) in goal) }
 
 pub act_static : (h : Shape) (q : Party) (c : Counts) (m : Part) (x : Place) → IfSome (effect (act_of q x) h q c m) (Static m)
 act_static h (Worker a b) c m (ProbeWorking k) = search (rules, arith)
@@ -275,14 +327,14 @@ act_static h (Worker a b) c m (GetSleepy k) = sleepy_keeps (latch_of k.target) S
 act_static h (Worker a b) c m (FallAsleep k) = asleep_keeps (latch_of k.target) Static same_static (λ v e y n. letter_static (latch_of k.target) v e y) m (letter (latch_of k.target) m)
 act_static h (Worker a b) c m (WakeUp k) = wake_keeps (latch_of k.target) Static same_static (λ v e y n. letter_static (latch_of k.target) v e y) m (letter (latch_of k.target) m)
 act_static h (Worker a b) c m (SetLatch k) = set_keeps k.latch Static (λ v e. letter_static k.latch v e IsSet) m (letter k.latch m)
-act_static h (Worker a b) c m (RaiseCount n) = raise_static m
-act_static h (Worker a b) c m (LowerCount p s n) = lower_static m s _
+act_static h (Worker a b) c m (RaiseCount n) = raise_static m (plan_count n)
+act_static h (Worker a b) c m (LowerCount p s n) = lower_static m p s _
 act_static h (Worker a b) c m (RaiseForAll n) = raise_all_static m n
 act_static h (Worker a b) c m (LowerForAll n) = lower_all_static m n _
 act_static h (Worker a b) c m _ = search (rules, arith)
 act_static h (Caller n) c m (SetLatch k) = set_keeps k.latch Static (λ v e. letter_static k.latch v e IsSet) m (letter k.latch m)
-act_static h (Caller n) c m (RaiseCount g) = raise_static m
+act_static h (Caller n) c m (RaiseCount g) = raise_static m (plan_count g)
 act_static h (Caller n) c m (RaiseForAll g) = raise_all_static m g
 act_static h (Caller n) c m (LowerForAll g) = lower_all_static m g _
-act_static h (Caller n) c m (LowerCount p s g) = lower_static m s _
+act_static h (Caller n) c m (LowerCount p s g) = lower_static m p s _
 act_static h (Caller n) c m _ = search (rules, arith)

@@ -48,6 +48,8 @@ pub mod ShareSteps
 pub mod ShareLowers
 pub mod ShareEvents
 pub mod ShareEnds
+pub mod Bodies
+pub mod Scoping
 pub mod Bares
 pub mod Bounds
 pub mod Returns

@@ -1,11 +1,15 @@
 -- whose call is whose: what a place names of calls, and what each act and move leaves of it
+use Rattle.rayon_machine_places.specs.declared.place.Entry.{Entry}
+use Rattle.rayon_machine_places.specs.declared.place.OpenCall.{OpenCall}
+use Rattle.rayon_machine_places.specs.declared.place.Count.TheVariants.{OfPool, OfScope}
+use Rattle.rayon_machine_places.specs.declared.place.Count.{Count}
 use Rattle.std.proofs.Common.{rules, arith, refl, sym, ◌∙◌, subst}
 use Rattle.std.specs.Prelude.{ℕ, Bool, true, false, ◌&&◌, ◌+◌, nat_lt, if◌then◌else◌, Option, Some, None, ◌≡◌, IfSome, ⊤}
 use Rattle.rayon_machine_places.specs.declared.place.Party.{Party}
 use Rattle.rayon_machine_places.specs.declared.place.Party.TheVariants.{Worker, Caller}
 use Rattle.rayon_machine_places.specs.declared.place.Ending.{Ending}
 use Rattle.rayon_machine_places.specs.declared.place.JobKind.{JobKind}
-use Rattle.rayon_machine_places.specs.declared.place.JobKind.TheVariants.{Stored, Direct}
+use Rattle.rayon_machine_places.specs.declared.place.JobKind.TheVariants.{Stored, Direct, Scoped, BodyOf}
 use Rattle.rayon_machine_places.specs.declared.place.Target.{Target}
 use Rattle.rayon_machine_places.specs.declared.place.Target.TheVariants.{Termination, Answer}
 use Rattle.rayon_machine_places.specs.declared.place.Latch.{Latch}
@@ -13,14 +17,14 @@ use Rattle.rayon_machine_places.specs.declared.place.Latch.TheVariants.{Terminat
 use Rattle.rayon_machine_places.specs.declared.place.Rounds.{Rounds}
 use Rattle.rayon_machine_places.specs.declared.place.Rounds.TheVariants.{Failed, Announced}
 use Rattle.rayon_machine_places.specs.declared.place.Plan.{Plan}
-use Rattle.rayon_machine_places.specs.declared.place.Plan.TheVariants.{Detach, Here, Send, Fork, Feed}
+use Rattle.rayon_machine_places.specs.declared.place.Plan.TheVariants.{Detach, Here, Send, Fork, Feed, Open, Enter}
 use Rattle.rayon_machine_places.specs.declared.place.Share.{Share}
 use Rattle.rayon_machine_places.specs.declared.place.Then.{Then}
 use Rattle.rayon_machine_places.specs.declared.place.Then.TheVariants.{BeginFound, LeaveWait, Resume, Await, RunFirst, Answers, Missing, Ran, GiveBack, Called}
 use Rattle.rayon_machine_places.specs.declared.place.Feeding.{Feeding}
 use Rattle.rayon_machine_places.specs.declared.place.Taken.{Taken}
 use Rattle.rayon_machine_places.specs.declared.place.Place.{Place}
-use Rattle.rayon_machine_places.specs.declared.place.Place.TheVariants.{ProbeWorking, PopWorking, TakeCastWorking, BecomeInactive, ProbeIdle, PopIdle, TakeCastIdle, PickVictim, StealFrom, PopInjected, AnnounceSelf, GetSleepy, LockOwn, FallAsleep, LoadCounters, AddSleeping, LookAtCast, LookAtInjector, BlockSelf, RelockOwn, UndoSleeping, WakeUp, UnlockOwn, LeaveSearch, JoinProbe, JoinPop, JoinTakeCast, BeginTask, Run, RaiseCount, GrowCall, LookQueue, PushJob, TellNews, LockToWake, WakeWorker, UnlockWoken, WaitForLock, TakeResult, LowerCount, StoreResult, SetLatch, LockToSettle, WakeSettled, UnlockSettled, SetLockLatch, FirstSide, SecondSide, AddToFifo, TakeFromFifo}
+use Rattle.rayon_machine_places.specs.declared.place.Place.TheVariants.{ProbeWorking, PopWorking, TakeCastWorking, BecomeInactive, ProbeIdle, PopIdle, TakeCastIdle, PickVictim, StealFrom, PopInjected, AnnounceSelf, GetSleepy, LockOwn, FallAsleep, LoadCounters, AddSleeping, LookAtCast, LookAtInjector, BlockSelf, RelockOwn, UndoSleeping, WakeUp, UnlockOwn, LeaveSearch, JoinProbe, JoinPop, JoinTakeCast, BeginTask, Run, RaiseCount, GrowCall, LookQueue, PushJob, TellNews, LockToWake, WakeWorker, UnlockWoken, WaitForLock, TakeResult, LowerCount, StoreResult, SetLatch, LockToSettle, WakeSettled, UnlockSettled, SetLockLatch, FirstSide, SecondSide, AddToFifo, TakeFromFifo, GrowScope, OpenSlot, CloseSlot, StoreBody, StoreSlot, ScopeBody}
 use Rattle.rayon_machine_places.specs.declared.place.Move.{Move}
 use Rattle.rayon_machine_places.specs.declared.place.Move.TheVariants.{Stay, Enter, StartRun, Back, HandBack, Discard, HandIn, Mark, HandAllBack}
 use Rattle.rayon_machine_places.specs.declared.act.Seen.{Seen}
@@ -28,7 +32,7 @@ use Rattle.rayon_machine_places.specs.declared.act.Seen.TheVariants.{Done, Yes, 
 use Rattle.rayon_machine_places.specs.declared.shape.PoolShape.{PoolShape}
 use Rattle.rayon_machine_places.specs.declared.place.Wait.{Wait}
 use Rattle.rayon_machine_places.specs.declared.place.Settling.{Settling}
-use Rattle.rayon_machine_places.specs.Places.{own_pool, plan_pool, plan_call, after_wait, finish, walk, settle, after_set, after_found, after_news, undo, act_of, after_failure, next_of}
+use Rattle.rayon_machine_places.specs.Places.{own_pool, plan_pool, plan_call, after_wait, finish, walk, settle, after_set, after_found, after_news, undo, act_of, after_failure, next_of, plan_count, settle_count, set_call, after_push}
 use Rattle.rayon_machine_places.specs.World.{Shape, Counts, Part, effect}
 use Rattle.rayon_machine_laws.proofs.Frame.{if_some_all}
 
@@ -41,6 +45,8 @@ abbrev pub plan_number : Plan → Option ℕ
 plan_number (Detach p t) = None
 plan_number (Here p t) = None
 plan_number (Feed f) = None
+plan_number (Open o) = Some o.number
+plan_number (Enter e) = None
 plan_number (Send o) = Some o.number
 plan_number (Fork o a) = Some o.number
 
@@ -87,6 +93,9 @@ own_call (JoinPop o) = Some o.number
 own_call (JoinTakeCast o) = Some o.number
 own_call (RaiseCount n) = plan_number n
 own_call (GrowCall n) = Some (plan_call n)
+own_call (GrowScope o) = Some o.number
+own_call (ScopeBody o) = Some o.number
+own_call (StoreBody o e) = Some o.number
 own_call (LookQueue n) = plan_number n
 own_call (PushJob n e) = plan_number n
 own_call (TellNews n e) = plan_number n
@@ -100,6 +109,7 @@ own_call (SetLatch s) = then_number s.then
 own_call (LockToSettle s) = then_number s.then
 own_call (WakeSettled s) = then_number s.then
 own_call (UnlockSettled s) = then_number s.then
+own_call (SetLockLatch c n) = then_number n
 own_call (FirstSide o a) = Some o.number
 own_call (SecondSide o) = Some o.number
 own_call _ = None
@@ -112,20 +122,35 @@ shown (Caller n) = Caller 0
 -- the call whose latch the end of a run sets, and for whom
 abbrev pub kind_call : JobKind → Option (ℕ × Party)
 kind_call (Stored c o) = Some (c, shown o)
+kind_call (Scoped c o) = Some (c, shown o)
+kind_call (BodyOf c o) = Some (c, shown o)
 kind_call _ = None
 
 abbrev pub latch_call : ℕ → ℕ → Latch → Option (ℕ × Party)
 latch_call p i Terminate = None
 latch_call p i (OfCall c) = Some (c, Worker p i)
 
+-- the call whose latch is set by who lowers a count to 0, and for whom
+abbrev pub count_sets : Count → Option (ℕ × Party)
+count_sets (OfPool p) = None
+count_sets (OfScope c o) = Some (c, shown o)
+
 abbrev pub sets_for : Place → Option (ℕ × Party)
 sets_for (Run t k) = kind_call k
+sets_for (RaiseCount n) = count_sets (plan_count n)
+sets_for (GrowCall n) = count_sets (plan_count n)
+sets_for (LookQueue n) = count_sets (plan_count n)
+sets_for (PushJob n e) = count_sets (plan_count n)
+sets_for (OpenSlot e) = Some (e.call, shown e.owner)
+sets_for (CloseSlot e) = Some (e.call, shown e.owner)
+sets_for (LowerCount k s t) = count_sets k
+sets_for (StoreSlot c o t e) = Some (c, shown o)
 sets_for (StoreResult c o e) = Some (c, shown o)
 sets_for (SetLatch s) = latch_call s.pool s.worker s.latch
 sets_for (LockToSettle s) = latch_call s.pool s.worker s.latch
 sets_for (WakeSettled s) = latch_call s.pool s.worker s.latch
 sets_for (UnlockSettled s) = latch_call s.pool s.worker s.latch
-sets_for (SetLockLatch c) = Some (c, Caller 0)
+sets_for (SetLockLatch c n) = Some (c, Caller 0)
 sets_for _ = None
 
 -- what a relation on places says of a move, of the frame that it leaves too
@@ -193,13 +218,6 @@ found_number : (g : Target) (o : Option Taken) → then_number (after_found g o)
 found_number g None = refl
 found_number g (Some t) = refl
 
-goes_number : (n : Plan) → then_number (after_news n) ≡ plan_number n
-goes_number (Detach p t) = refl
-goes_number (Here p t) = refl
-goes_number (Send o) = refl
-goes_number (Fork o a) = refl
-goes_number (Feed f) = refl
-
 walk_from : (n : Option ℕ) (x : Place) (h : PoolShape) (q : Party) (p k i : ℕ) (t : Then) → own_call x ≡ n → then_number t ≡ n → Both (NamesFrom x) (walk h q p k i t)
 walk_from n x h q p k i t a b = subst (λ z. Both (λ y. OwnFrom z y × SetFrom (sets_for x) y) (walk h q p k i t)) (b ∙ sym a) (walk_names (sets_for x) h q p k i t)
 
@@ -207,8 +225,26 @@ leave_names : (h : PoolShape) (q : Party) (k : Wait) (e : Seen) → Both (NamesF
 leave_names h q k (Wakes n) = walk_from (target_number k.target) (LeaveSearch k) h q (own_pool q) n 0 (after_found k.target k.found) refl (found_number k.target k.found)
 leave_names h q k _ = (λ c e. e, λ c p e. e)
 
+-- what holds of a move's places
+both_weak : (P Q : Place → Type 0) → ((y : Place) → P y → Q y) → (g : Move) → Both P g → Both Q g
+both_weak P Q f (Stay y) t = f y t
+both_weak P Q f (HandIn y token) t = f y t
+both_weak P Q f (Enter x y) t = (f x (t.0), f y (t.1))
+both_weak P Q f (StartRun x n) t = (f x (t.0), f (Run n Direct) (t.1))
+both_weak P Q f (Mark y c k) t = f y t
+both_weak P Q f (HandAllBack c) t = tt
+both_weak P Q f Back t = tt
+both_weak P Q f (HandBack n) t = tt
+both_weak P Q f (Discard n) t = tt
+
 tell_names : (h : PoolShape) (q : Party) (n : Plan) (v : Bool) (e : Seen) → Both (NamesFrom (TellNews n v)) (next_of h q (TellNews n v) e)
-tell_names h q n v (Wakes m) = walk_from (plan_number n) (TellNews n v) h q (plan_pool n) m 0 (after_news n) refl (goes_number n)
+tell_names h q (Detach p t) v (Wakes m) = walk_from None (TellNews (Detach p t) v) h q p m 0 Resume refl refl
+tell_names h q (Here p t) v (Wakes m) = walk_from None (TellNews (Here p t) v) h q p m 0 Resume refl refl
+tell_names h q (Send o) v (Wakes m) = walk_from (Some o.number) (TellNews (Send o) v) h q o.pool m 0 (Await o) refl refl
+tell_names h q (Fork o a) v (Wakes m) = walk_from (Some o.number) (TellNews (Fork o a) v) h q o.pool m 0 (RunFirst o a) refl refl
+tell_names h q (Feed f) v (Wakes m) = walk_from None (TellNews (Feed f) v) h q f.pool m 0 (GiveBack (Detach f.pool f.token)) refl refl
+tell_names h q (Enter n) v (Wakes m) = walk_from None (TellNews (Enter n) v) h q n.pool m 0 Resume refl refl
+tell_names h q (Open o) v (Wakes m) = both_weak (λ y. OwnFrom None y × SetFrom None y) (NamesFrom (TellNews (Open o) v)) (λ y n. (λ c e. absurd (let a : None ≡ Some c = n.0 c e in cc), n.1)) (walk h q o.pool m 0 Resume) (walk_names None h q o.pool m 0 Resume)
 tell_names h q n v _ = (λ c e. e, λ c p e. e)
 
 raise_names : (h : PoolShape) (q : Party) (n : Plan) (e : Seen) → Both (NamesFrom (RaiseCount n)) (next_of h q (RaiseCount n) e)
@@ -217,6 +253,8 @@ raise_names h q (Here p t) Done = ((λ c e. e, λ c p e. e), (λ c e. e, λ c p 
 raise_names h q (Send o) Done = (λ c e. e, λ c p e. e)
 raise_names h q (Fork o a) Done = (λ c e. e, λ c p e. e)
 raise_names h q (Feed f) Done = (λ c e. e, λ c p e. e)
+raise_names h q (Open o) Done = (λ c e. e, λ c p e. e)
+raise_names h q (Enter n) Done = (λ c e. e, λ c p e. e)
 raise_names h q n _ = tt
 
 undone_own : (n : Plan) → OwnFrom (plan_number n) (undo n)
@@ -228,14 +266,31 @@ plan_is (Here p t) c e = cc
 plan_is (Send o) c e = e
 plan_is (Fork o a) c e = e
 plan_is (Feed f) c e = cc
+plan_is (Open o) c e = e
+plan_is (Enter n) c e = cc
 
 grow_names : (h : PoolShape) (q : Party) (n : Plan) (e : Seen) → Both (NamesFrom (GrowCall n)) (next_of h q (GrowCall n) e)
 grow_names h q n Done = (λ c e. plan_is n c e, λ c p e. e)
 grow_names h q n _ = (λ c e. plan_is n c e, λ c p e. e)
 
+-- who sets the latch of a call sets it for its owner, and goes on as it would have
+set_owns : (c : ℕ) (o : Party) (t : Then) → OwnFrom (then_number t) (set_call c o t) × SetFrom (Some (c, shown o)) (set_call c o t)
+set_owns c (Worker p i) t = (λ c e. e, λ c p e. e)
+set_owns c (Caller n) t = (λ c e. e, λ c p e. e)
+
 store_names : (h : PoolShape) (q : Party) (c : ℕ) (o : Party) (d : Ending) (e : Seen) → Both (NamesFrom (StoreResult c o d)) (next_of h q (StoreResult c o d) e)
-store_names h q c (Worker p i) d e = (λ c e. e, λ c p e. e)
-store_names h q c (Caller n) d e = (λ c e. e, λ c p e. e)
+store_names h q c o d e = set_owns c o Resume
+
+slot_names : (h : PoolShape) (q : Party) (c : ℕ) (o : Party) (t : ℕ) (d : Ending) (e : Seen) → Both (NamesFrom (StoreSlot c o t d)) (next_of h q (StoreSlot c o t d) e)
+slot_names h q c o t d e = (λ c e. e, λ c p e. e)
+
+scope_names : (h : PoolShape) (q : Party) (o : OpenCall) (e : Seen) → Both (NamesFrom (GrowScope o)) (next_of h q (GrowScope o) e)
+scope_names h q o Done = ((λ c e. e, λ c p e. absurd (cc)), (λ c e. absurd (cc), λ c p e. absurd (cc)))
+scope_names h q o _ = (λ c e. e, λ c p e. absurd (cc))
+
+slot_opens : (h : PoolShape) (q : Party) (n : Entry) (e : Seen) → Both (NamesFrom (OpenSlot n)) (next_of h q (OpenSlot n) e)
+slot_opens h q n Done = (λ c e. e, λ c p e. e)
+slot_opens h q n _ = (λ c e. e, λ c p e. e)
 
 probe_names : (h : PoolShape) (q : Party) (k : Wait) (e : Seen) → Both (NamesFrom (ProbeWorking k)) (next_of h q (ProbeWorking k) e)
 probe_names h q k Yes = (left_own k.target, left_set None k.target)
@@ -253,9 +308,10 @@ inject_names : (h : PoolShape) (q : Party) (k : Wait) (e : Seen) → Both (Names
 inject_names h q k (Task t) = (λ c e. e, λ c p e. e)
 inject_names h q k _ = search_names h k k.rounds
 
-lower_names : (h : PoolShape) (q : Party) (p : ℕ) (s : Share) (t : Then) (e : Seen) → Both (NamesFrom (LowerCount p s t)) (next_of h q (LowerCount p s t) e)
-lower_names h q p s t Yes = settle_names None h q p 0 t
-lower_names h q p s t _ = finish_names None q t
+lower_names : (h : PoolShape) (q : Party) (p : Count) (s : Share) (t : Then) (e : Seen) → Both (NamesFrom (LowerCount p s t)) (next_of h q (LowerCount p s t) e)
+lower_names h q (OfPool p) s t Yes = settle_names None h q p 0 t
+lower_names h q (OfScope c o) s t Yes = set_owns c o t
+lower_names h q p s t _ = finish_names (count_sets p) q t
 
 add_names : (h : PoolShape) (q : Party) (f : Feeding) (e : Seen) → Both (NamesFrom (AddToFifo f)) (next_of h q (AddToFifo f) e)
 add_names h q f Done = (λ c e. e, λ c p e. e)
@@ -267,6 +323,7 @@ back_names h q f _ = tt
 
 abbrev pub begins : Place → Bool
 begins (BeginTask t) = true
+begins (StoreBody o e) = true
 begins _ = false
 
 of_every : (h : Shape) (g : PoolShape) (q : Party) (c : Counts) (m : Part) (x : Place) → ((e : Seen) → Both (NamesFrom x) (next_of g q x e)) → IfSome (effect (act_of q x) h q c m) (λ r. Both (NamesFrom x) (next_of g q x (r.0)))
@@ -275,6 +332,12 @@ of_every h g q c m x f = if_some_all {A = Seen × Part} (λ r. Both (NamesFrom x
 -- a move leads only to places that name what the one before did
 pub names_on : (h : Shape) (g : PoolShape) (q : Party) (c : Counts) (m : Part) (x : Place) → begins x ≡ false → IfSome (effect (act_of q x) h q c m) (λ r. Both (NamesFrom x) (next_of g q x (r.0)))
 names_on h g q c m (BeginTask t) z = cc
+names_on h g q c m (StoreBody o e) z = cc
+names_on h g q c m (StoreSlot d o t e) z = of_every h g q c m (StoreSlot d o t e) (slot_names g q d o t e)
+names_on h g q c m (GrowScope o) z = of_every h g q c m (GrowScope o) (scope_names g q o)
+names_on h g q c m (OpenSlot n) z = of_every h g q c m (OpenSlot n) (slot_opens g q n)
+names_on h g q c m (CloseSlot n) z = of_every h g q c m (CloseSlot n) (λ e. (λ c e. e, λ c p e. e))
+names_on h g q c m (SetLockLatch d t) z = of_every h g q c m (SetLockLatch d t) (λ e. finish_names (Some (d, Caller 0)) q t)
 names_on h g q c m (AddToFifo f) z = of_every h g q c m (AddToFifo f) (add_names g q f)
 names_on h g q c m (TakeFromFifo f) z = of_every h g q c m (TakeFromFifo f) (back_names g q f)
 names_on h g q c m (ProbeWorking k) z = of_every h g q c m (ProbeWorking k) (probe_names g q k)

@@ -22,8 +22,8 @@ use Rattle.rayon_machine_places.specs.declared.act.Seen.TheVariants.{Done, Task,
 use Rattle.rayon_machine_places.specs.declared.state.Whereabouts.TheVariants.{Made, InDeque, Injected, InFifo, Retaken, Running, HandedBack, Spent}
 use Rattle.rayon_machine_places.specs.declared.shape.PoolShape.{PoolShape}
 use Rattle.rayon_machine_places.specs.declared.state.Job.{Job}
-use Rattle.rayon_machine_places.specs.Places.{same_party, own_pool, own_index, is_member, plan_pool, plan_job, act_of, next_of, taken_number}
-use Rattle.rayon_machine_places.specs.World.{Stack, World, counts_at, Part, target_pool, target_worker, target_call, head_of, last_of, but_last, or_none, is_open, left_by, taken_as, fifo_back, fifo_first, Outcome, at_job, begun, popped, take_cast, pop_injector, effect}
+use Rattle.rayon_machine_places.specs.Places.{same_party, own_pool, own_index, is_member, plan_pool, plan_job, act_of, next_of, taken_number, plan_book}
+use Rattle.rayon_machine_places.specs.World.{Stack, World, counts_at, Part, target_pool, target_worker, target_call, head_of, last_of, but_last, or_none, is_open, left_by, taken_as, fifo_back, fifo_first, Outcome, at_job, begun, popped, take_cast, pop_injector, effect, left_book}
 use Rattle.rayon_machine_places.specs.Steps.{put, put_stack, put_seat, part_of, step}
 use Rattle.rayon_machine_laws.specs.Once.{one, times, run_of, runs_in}
 use Rattle.rayon_machine_laws.proofs.Frame.{same_index, same_refl, same_party_true, same_party_refl, if_some_each, if_some_and, if_some_map}
@@ -407,14 +407,15 @@ cast_mid w q k p0 i0 (u ∷ rest) e own none is tab ok =
 abbrev pub outcome_of : World → Party → Act → Outcome
 outcome_of w q a = effect a w.shape q (counts_at w (target_pool q a)) (part_of w (target_pool q a) (target_worker q a) (target_call a) (job_at w q a))
 
-push_mid : (w : World) (q : Party) (n : Plan) (v : Bool) (fs : List Place) (z : Bool) → w.stack q ≡ record { top = PushJob n v; below = fs } → IfSome (outcome_of w q (if z then PushOwn (plan_job n) else PushInj (plan_pool n) (plan_job n))) (Tabled w q (record { top = PushJob n v; below = fs }) (w.shape.pool (target_pool q (if z then PushOwn (plan_job n) else PushInj (plan_pool n) (plan_job n))))) → JobsOk w → IfSome (outcome_of w q (if z then PushOwn (plan_job n) else PushInj (plan_pool n) (plan_job n))) (λ r. Kept w (midway w q (record { top = PushJob n v; below = fs }) (target_pool q (if z then PushOwn (plan_job n) else PushInj (plan_pool n) (plan_job n))) (target_worker q (if z then PushOwn (plan_job n) else PushInj (plan_pool n) (plan_job n))) (target_call (if z then PushOwn (plan_job n) else PushInj (plan_pool n) (plan_job n))) (job_at w q (if z then PushOwn (plan_job n) else PushInj (plan_pool n) (plan_job n))) r))
+push_mid : (w : World) (q : Party) (n : Plan) (v : Bool) (fs : List Place) (z : Bool) → w.stack q ≡ record { top = PushJob n v; below = fs } → IfSome (outcome_of w q (if z then PushOwn (plan_job n) (plan_book n) else PushInj (plan_pool n) (plan_job n) (plan_book n))) (Tabled w q (record { top = PushJob n v; below = fs }) (w.shape.pool (target_pool q (if z then PushOwn (plan_job n) (plan_book n) else PushInj (plan_pool n) (plan_job n) (plan_book n))))) → JobsOk w → IfSome (outcome_of w q (if z then PushOwn (plan_job n) (plan_book n) else PushInj (plan_pool n) (plan_job n) (plan_book n))) (λ r. Kept w (midway w q (record { top = PushJob n v; below = fs }) (target_pool q (if z then PushOwn (plan_job n) (plan_book n) else PushInj (plan_pool n) (plan_job n) (plan_book n))) (target_worker q (if z then PushOwn (plan_job n) (plan_book n) else PushInj (plan_pool n) (plan_job n) (plan_book n))) (target_call (if z then PushOwn (plan_job n) (plan_book n) else PushInj (plan_pool n) (plan_job n) (plan_book n))) (job_at w q (if z then PushOwn (plan_job n) (plan_book n) else PushInj (plan_pool n) (plan_job n) (plan_book n))) r))
 push_mid w q n v fs true e tab ok =
     let u = plan_job n in let p0 = own_pool q in let i0 = own_index q in
+    let c0 = or_none (plan_book n) in
     let k : Stack = record { top = PushJob n v; below = fs } in
-    let m : Part = part_of w p0 i0 0 u in
-    let r : Seen × Part = (Done, record m { seat = record (m.seat) { own = m.seat.own ++ u ∷ []; feeder = left_by q m.seat.feeder }; job = at_job (m.job) (InDeque p0 i0) }) in
-    gone_ok w (midway w q k p0 i0 0 u r) u (at_job (w.job u) (InDeque p0 i0)) (Hand q) (Some (Deck p0 i0)) refl
-    (weights_mid w q k p0 i0 0 u r (λ l t. one (same_loc l (Hand q) && (t == u))) (λ l t. one (same_loc l (Deck p0 i0) && (t == u))) e
+    let m : Part = part_of w p0 i0 c0 u in
+    let r : Seen × Part = (Done, record m { seat = record (m.seat) { own = m.seat.own ++ u ∷ []; feeder = left_by q m.seat.feeder }; call = record (m.call) { writer = left_book q (plan_book n) m.call.writer }; job = at_job (m.job) (InDeque p0 i0) }) in
+    gone_ok w (midway w q k p0 i0 c0 u r) u (at_job (w.job u) (InDeque p0 i0)) (Hand q) (Some (Deck p0 i0)) refl
+    (weights_mid w q k p0 i0 c0 u r (λ l t. one (same_loc l (Hand q) && (t == u))) (λ l t. one (same_loc l (Deck p0 i0) && (t == u))) e
     (λ t. let a : hand t (TellNews n v) + one (t == u) ≡ hand t (PushJob n v) + 0 = (tab t).0 in
     let c : (hand t (TellNews n v) + held_in t fs) + one (true && (t == u)) ≡ (hand t (PushJob n v) + held_in t fs) + 0 = omega (arith, a) in
     subst (λ z. (hand t (TellNews n v) + held_in t fs) + one (z && (t == u)) ≡ (hand t (PushJob n v) + held_in t fs) + 0) (sym (same_party_refl q)) c)
@@ -434,11 +435,12 @@ push_mid w q n v fs true e tab ok =
     (job_new w u (at_job (w.job u) (InDeque p0 i0))) (job_old w u (at_job (w.job u) (InDeque p0 i0))) refl (own_step (w.job u) q p0 i0) ok
 push_mid w q n v fs false e tab ok =
     let u = plan_job n in let p0 = plan_pool n in let i0 = own_index q in
+    let c0 = or_none (plan_book n) in
     let k : Stack = record { top = PushJob n v; below = fs } in
-    let m : Part = part_of w p0 i0 0 u in
-    let r : Seen × Part = (Done, record m { pool = record (m.pool) { injector = m.pool.injector ++ u ∷ [] }; job = at_job (m.job) (Injected p0) }) in
-    gone_ok w (midway w q k p0 i0 0 u r) u (at_job (w.job u) (Injected p0)) (Hand q) (Some (Inj p0)) refl
-    (weights_mid w q k p0 i0 0 u r (λ l t. one (same_loc l (Hand q) && (t == u))) (λ l t. one (same_loc l (Inj p0) && (t == u))) e
+    let m : Part = part_of w p0 i0 c0 u in
+    let r : Seen × Part = (Done, record m { pool = record (m.pool) { injector = m.pool.injector ++ u ∷ [] }; call = record (m.call) { writer = left_book q (plan_book n) m.call.writer }; job = at_job (m.job) (Injected p0) }) in
+    gone_ok w (midway w q k p0 i0 c0 u r) u (at_job (w.job u) (Injected p0)) (Hand q) (Some (Inj p0)) refl
+    (weights_mid w q k p0 i0 c0 u r (λ l t. one (same_loc l (Hand q) && (t == u))) (λ l t. one (same_loc l (Inj p0) && (t == u))) e
     (λ t. let a : hand t (TellNews n v) + one (t == u) ≡ hand t (PushJob n v) + 0 = (tab t).0 in
     let c : (hand t (TellNews n v) + held_in t fs) + one (true && (t == u)) ≡ (hand t (PushJob n v) + held_in t fs) + 0 = omega (arith, a) in
     subst (λ z. (hand t (TellNews n v) + held_in t fs) + one (z && (t == u)) ≡ (hand t (PushJob n v) + held_in t fs) + 0) (sym (same_party_refl q)) c)
@@ -458,7 +460,7 @@ push_mid w q n v fs false e tab ok =
     (job_new w u (at_job (w.job u) (Injected p0))) (job_old w u (at_job (w.job u) (Injected p0))) refl (inject_step (w.job u) q p0) ok
 
 -- a token is pushed onto the own deque
-token_mid : (w : World) (q : Party) (f : Feeding) (v : Bool) (fs : List Place) → w.stack q ≡ record { top = PushToken f v; below = fs } → JobsOk w → IfSome (outcome_of w q (PushOwn f.token)) (λ r. Kept w (midway w q (record { top = PushToken f v; below = fs }) (own_pool q) (own_index q) 0 f.token r))
+token_mid : (w : World) (q : Party) (f : Feeding) (v : Bool) (fs : List Place) → w.stack q ≡ record { top = PushToken f v; below = fs } → JobsOk w → IfSome (outcome_of w q (PushOwn f.token None)) (λ r. Kept w (midway w q (record { top = PushToken f v; below = fs }) (own_pool q) (own_index q) 0 f.token r))
 token_mid w q f v fs e ok =
     let u = f.token in let p0 = own_pool q in let i0 = own_index q in
     let k : Stack = record { top = PushToken f v; below = fs } in

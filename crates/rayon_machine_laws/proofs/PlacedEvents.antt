@@ -1,4 +1,5 @@
 -- each step keeps each job in its one place
+use Rattle.rayon_machine_places.specs.declared.place.Count.TheVariants.{OfPool}
 use Rattle.rayon_machine_laws.proofs.Lists.{times_push}
 use Rattle.rayon_machine_places.specs.declared.act.Seen.{Seen}
 use Rattle.rayon_machine_places.specs.declared.place.Then.{Then}
@@ -15,11 +16,11 @@ use Rattle.rayon_machine_places.specs.declared.place.Party.{Party}
 use Rattle.rayon_machine_places.specs.declared.place.Party.TheVariants.{Worker, Caller}
 use Rattle.rayon_machine_places.specs.declared.place.JobKind.TheVariants.{Direct}
 use Rattle.rayon_machine_places.specs.declared.place.Plan.{Plan}
-use Rattle.rayon_machine_places.specs.declared.place.Plan.TheVariants.{Detach, Here, Send, Fork, Feed}
+use Rattle.rayon_machine_places.specs.declared.place.Plan.TheVariants.{Detach, Here, Send, Fork, Feed, Open, Enter}
 use Rattle.rayon_machine_places.specs.declared.place.Share.TheVariants.{PoolValue}
 use Rattle.rayon_machine_places.specs.declared.place.Then.TheVariants.{Resume, BeginFound, LeaveWait, Await, RunFirst, Answers, Missing as NoAnswer, Ran, GiveBack, Called}
 use Rattle.rayon_machine_places.specs.declared.place.Place.{Place}
-use Rattle.rayon_machine_places.specs.declared.place.Place.TheVariants.{PickVictim, StealFrom, PopInjected, YieldPick, YieldSteal, YieldPopInjected, BeginHere, Run, RaiseCount, GrowCall, PushJob, AddToFifo, PushToken, LowerCount, ProbeWorking, RaiseForAll, PushForAll, SetLatch, UnlockSettled}
+use Rattle.rayon_machine_places.specs.declared.place.Place.TheVariants.{PickVictim, StealFrom, PopInjected, YieldPick, YieldSteal, YieldPopInjected, BeginHere, Run, RaiseCount, GrowCall, PushJob, AddToFifo, PushToken, LowerCount, ProbeWorking, RaiseForAll, PushForAll, SetLatch, UnlockSettled, GrowScope, OpenSlot}
 use Rattle.rayon_machine_places.specs.declared.place.Move.{Move}
 use Rattle.rayon_machine_places.specs.declared.place.Move.TheVariants.{Stay, Enter, StartRun, Back, HandBack, Discard, HandIn, Mark, HandAllBack}
 use Rattle.rayon_machine_places.specs.declared.act.Seen.TheVariants.{Refused, Missing, Start, Done, Yes}
@@ -29,7 +30,7 @@ use Rattle.rayon_machine_places.specs.declared.shape.PoolShape.{PoolShape}
 use Rattle.rayon_machine_places.specs.declared.place.Wait.{Wait}
 use Rattle.rayon_machine_places.specs.declared.state.Job.{Job}
 use Rattle.rayon_machine_places.specs.declared.state.Call.{Call}
-use Rattle.rayon_machine_places.specs.Places.{same_party, own_pool, own_index, next_victim, not_self, act_of, next_steal, next_yield, next_of, is_free, finish, after_set, call_all}
+use Rattle.rayon_machine_places.specs.Places.{same_party, own_pool, own_index, next_victim, not_self, act_of, next_steal, next_yield, next_of, is_free, finish, after_set, call_all, after_push}
 use Rattle.rayon_machine_places.specs.World.{Seat, Pool, Stack, World, target_pool, target_worker, target_call, at_job, begun, Shape, Counts, Part, counts_at, casts_with, effect}
 use Rattle.rayon_machine_places.specs.Steps.{put, put_stack, put_seat, back, after_move, handed_back, jobs_after, after_choice, after_refusal, can_miss, after_miss, after_call, is_pool, after_yield, after_end_pool, step, after, is_piece, mark_pieces, marked, part_of, put_pieces}
 use Rattle.rayon_machine_laws.specs.Once.{one, times, is_known, run_of, runs_in}
@@ -144,6 +145,8 @@ hand_back : (w : World) (q : Party) (n : Plan) (fs : List Place) (S : ℕ → �
 hand_back w q (Detach p u) fs S P C J ok = give_one w q (Detach p u) u fs S P C J (at_job (J u) HandedBack) (λ t. refl) (back_step (J u) q) ok
 hand_back w q (Here p u) fs S P C J ok = give_one w q (Here p u) u fs S P C J (at_job (J u) HandedBack) (λ t. refl) (back_step (J u) q) ok
 hand_back w q (Send o) fs S P C J ok = give_one w q (Send o) (o.job) fs S P C J (at_job (J (o.job)) HandedBack) (λ t. refl) (back_step (J (o.job)) q) ok
+hand_back w q (Open o) fs S P C J ok = give_one w q (Open o) (o.job) fs S P C J (at_job (J (o.job)) HandedBack) (λ t. refl) (back_step (J (o.job)) q) ok
+hand_back w q (Enter o) fs S P C J ok = give_one w q (Enter o) (o.job) fs S P C J (at_job (J (o.job)) HandedBack) (λ t. refl) (back_step (J (o.job)) q) ok
 hand_back w q (Feed d) fs S P C J ok = kept_then w1 w2 (with_parts w q (back fs) S P C (handed_back (Feed d) J)) (put_calm (put J (d.job) (at_job (J (d.job)) HandedBack)) (d.token) (at_job (J (d.token)) HandedBack) refl) one_gone
     (give_one w q (Detach 0 (d.token)) (d.token) fs S P C (put J (d.job) (at_job (J (d.job)) HandedBack)) (at_job (J (d.token)) HandedBack) (λ t. refl) (put_back_step J (d.job) (d.token) q) (record { placed = one_gone.placed; fit = one_gone.fit }))
   where
@@ -248,6 +251,8 @@ land_calm q (StartRun f a) J = put_calm J a (begun q (J a)) (begun_calm q ((J a)
 land_calm q (HandBack (Detach p a)) J = put_calm J a (at_job (J a) HandedBack) refl
 land_calm q (HandBack (Here p a)) J = put_calm J a (at_job (J a) HandedBack) refl
 land_calm q (HandBack (Send o)) J = put_calm J (o.job) (at_job (J (o.job)) HandedBack) refl
+land_calm q (HandBack (Open o)) J = put_calm J (o.job) (at_job (J (o.job)) HandedBack) refl
+land_calm q (HandBack (Enter o)) J = put_calm J (o.job) (at_job (J (o.job)) HandedBack) refl
 land_calm q (HandBack (Feed d)) J = two_calm J (d.job) (d.token)
 land_calm q (HandBack (Fork o a)) J = two_calm J a (o.job)
 land_calm q (Discard k) J = put_calm J k (at_job (J k) Spent) refl
@@ -475,12 +480,22 @@ from_kept w q (PickVictim k) fs v e ok un = if_cond (Advance w) (nat_lt v (w.sha
 from_kept w q YieldPick fs v e ok un = if_cond (Advance w) (nat_lt v (w.shape.pool (own_pool q)).workers) _ (λ z. retop_ok w q YieldPick fs _ e (λ t. omega arith) (λ t. omega arith) (λ t. fed_after (w.shape.pool (own_pool q)) q t YieldPick fs (Start v)) ok un)
 from_kept w q _ fs v e ok un = tt
 
+pub hand_push : (t : ℕ) (n : Plan) → hand t (after_push n) ≡ hand_plan t n
+hand_push t (Enter e) = refl
+hand_push t _ = refl
+
+run_push : (t : ℕ) (n : Plan) → run_of t (after_push n) ≡ 0
+run_push t (Enter e) = refl
+run_push t _ = refl
+
 pub refuse_kept : (w : World) (q : Party) (x : Place) (fs : List Place) → w.stack q ≡ record { top = x; below = fs } → JobsOk w → Unmade w → IfSome (after_refusal w q (record { top = x; below = fs })) (Advance w)
 refuse_kept w q (GrowCall n) fs e ok un = retop_ok w q (GrowCall n) fs _ e (λ t. omega arith) (λ t. omega arith) (λ t. fed_after (w.shape.pool (own_pool q)) q t (GrowCall n) fs Refused) ok un
+refuse_kept w q (GrowScope n) fs e ok un = retop_ok w q (GrowScope n) fs _ e (λ t. omega arith) (λ t. omega arith) (λ t. fed_after (w.shape.pool (own_pool q)) q t (GrowScope n) fs Refused) ok un
+refuse_kept w q (OpenSlot n) fs e ok un = retop_ok w q (OpenSlot n) fs _ e (λ t. omega arith) (λ t. omega arith) (λ t. fed_after (w.shape.pool (own_pool q)) q t (OpenSlot n) fs Refused) ok un
 refuse_kept w q (AddToFifo f) fs e ok un = retop_ok w q (AddToFifo f) fs _ e (λ t. omega arith) (λ t. omega arith) (λ t. fed_after (w.shape.pool (own_pool q)) q t (AddToFifo f) fs Refused) ok un
 refuse_kept w q (PushToken f v) fs e ok un = retop_ok w q (PushToken f v) fs _ e (λ t. omega arith) (λ t. omega arith) (λ t. fed_after (w.shape.pool (own_pool q)) q t (PushToken f v) fs Refused) ok un
 refuse_kept w q (PushForAll c) fs e ok un = retop_ok w q (PushForAll c) fs _ e (λ t. omega arith) (λ t. omega arith) (λ t. fed_after (w.shape.pool (own_pool q)) q t (PushForAll c) fs Refused) ok un
-refuse_kept w q (PushJob n v) fs e ok un = retop_ok w q (PushJob n v) fs _ e (λ t. omega arith) (λ t. omega arith) (λ t. fed_after (w.shape.pool (own_pool q)) q t (PushJob n v) fs Refused) ok un
+refuse_kept w q (PushJob n v) fs e ok un = retop_ok w q (PushJob n v) fs _ e (λ t. ap (λ z. z + held_in t fs) (hand_push t n)) (λ t. ap (λ z. z + runs_in t fs) (run_push t n)) (λ t. fed_after (w.shape.pool (own_pool q)) q t (PushJob n v) fs Refused) ok un
 refuse_kept w q _ fs e ok un = tt
 
 next_steal_none : (g : PoolShape) (q : Party) (k : Wait) (n t : ℕ) → (hand t (next_steal g q k n) ≡ 0) × (run_of t (next_steal g q k n) ≡ 0)
@@ -513,7 +528,7 @@ yield_kept w (Worker a b) x h r n ok un = if_cond (Advance w) (is_free ((w.stack
 yield_kept w (Caller m) x h r n ok un = tt
 
 pub give_kept : (w : World) (q : Party) (p : ℕ) → JobsOk w → Unmade w → IfSome (after_end_pool w q p (w.stack q)) (Advance w)
-give_kept w q p ok un = if_cond (Advance w) (is_free ((w.stack q).top) && (is_pool w.shape p && (w.pool p).held)) _ (λ z. restack_ok w q (after_call (w.stack q) (LowerCount p PoolValue Resume)) (put w.pool p (record (w.pool p) { held = false })) (λ t. omega arith) (λ t. omega arith) (λ r. inj r (r == p) refl) (λ r. casts r (r == p) refl) (λ t. omega arith) ok un)
+give_kept w q p ok un = if_cond (Advance w) (is_free ((w.stack q).top) && (is_pool w.shape p && (w.pool p).held)) _ (λ z. restack_ok w q (after_call (w.stack q) (LowerCount (OfPool p) PoolValue Resume)) (put w.pool p (record (w.pool p) { held = false })) (λ t. omega arith) (λ t. omega arith) (λ r. inj r (r == p) refl) (λ r. casts r (r == p) refl) (λ t. omega arith) ok un)
   where
     inj : (r : ℕ) (z : Bool) → (r == p) ≡ z → (if z then record (w.pool p) { held = false } else w.pool r).injector ≡ (w.pool r).injector
     inj r true z = ap (λ n. (w.pool n).injector) (sym (eqb-true r p z))

@@ -1,7 +1,8 @@
 -- each job is in its one place, once, in every world of every run
 use Rattle.rayon_machine_places.specs.declared.place.Pieces.{Pieces}
+use Rattle.rayon_machine_places.specs.declared.state.Scope.{Scope}
 use Rattle.std.proofs.Common.{arith, refl, sym, ◌∙◌, ap, subst, inl, inr}
-use Rattle.std.specs.Prelude.{ℕ, Bool, true, false, ◌&&◌, ◌+◌, ◌==◌, ◌≤◌, ◌<◌, nat_lt, if◌then◌else◌, Some, None, List, [], ◌∷◌, ◌≡◌, IfSome, suc, zero, ◌-◌}
+use Rattle.std.specs.Prelude.{ℕ, Bool, true, false, ◌&&◌, ◌+◌, ◌==◌, ◌≤◌, ◌<◌, nat_lt, if◌then◌else◌, Some, None, List, [], ◌∷◌, ◌≡◌, IfSome, suc, zero, ◌-◌, ◌++◌}
 use Rattle.std.proofs.lemmas.Bool.{eqb-true, eq-eqb, ltb-true, ltb-false}
 use Rattle.std.proofs.Math.Dec.{ltb}
 use Rattle.rayon_machine_places.specs.declared.place.Party.{Party}
@@ -9,25 +10,25 @@ use Rattle.rayon_machine_places.specs.declared.place.Party.TheVariants.{Worker, 
 use Rattle.rayon_machine_places.specs.declared.place.Ending.{Ending}
 use Rattle.rayon_machine_places.specs.declared.place.Ending.TheVariants.{Fine, Fault}
 use Rattle.rayon_machine_places.specs.declared.place.JobKind.{JobKind}
-use Rattle.rayon_machine_places.specs.declared.place.JobKind.TheVariants.{Detached, Stored, Direct, TokenOf}
+use Rattle.rayon_machine_places.specs.declared.place.JobKind.TheVariants.{Detached, Stored, Direct, TokenOf, Scoped, BodyOf}
 use Rattle.rayon_machine_places.specs.declared.place.Target.TheVariants.{Termination}
 use Rattle.rayon_machine_places.specs.declared.place.Plan.{Plan}
-use Rattle.rayon_machine_places.specs.declared.place.Plan.TheVariants.{Detach, Here, Send, Fork, Feed}
+use Rattle.rayon_machine_places.specs.declared.place.Plan.TheVariants.{Detach, Here, Send, Fork, Feed, Open, Enter}
 use Rattle.rayon_machine_places.specs.declared.place.Place.{Place}
-use Rattle.rayon_machine_places.specs.declared.place.Place.TheVariants.{ProbeWorking, YieldPop, LocalPop, Run, RaiseCount, FirstSide, Free, Stopped, RaiseForAll}
+use Rattle.rayon_machine_places.specs.declared.place.Place.TheVariants.{ProbeWorking, YieldPop, LocalPop, Run, RaiseCount, FirstSide, Free, Stopped, RaiseForAll, ScopeBody}
 use Rattle.rayon_machine_places.specs.declared.act.Seen.{Seen}
 use Rattle.rayon_machine_places.specs.declared.event.Event.{Event}
-use Rattle.rayon_machine_places.specs.declared.event.Event.TheVariants.{Go, From, Refuse, Miss, End, Spawn, Fifo, Install, Join, Yield, YieldLocal, EndPool, Cast as CastEvent}
+use Rattle.rayon_machine_places.specs.declared.event.Event.TheVariants.{Go, From, Refuse, Miss, End, Spawn, Fifo, Install, Join, Yield, YieldLocal, EndPool, Cast as CastEvent, Scope as OpenScope, IntoSpawn}
 use Rattle.rayon_machine_places.specs.declared.state.Whereabouts.{Whereabouts}
 use Rattle.rayon_machine_places.specs.declared.state.Whereabouts.TheVariants.{Nowhere, Made, InDeque, Injected, InFifo, Retaken, Running, Over, HandedBack, Spent, InCast}
 use Rattle.rayon_machine_places.specs.declared.state.Job.{Job}
 use Rattle.rayon_machine_places.specs.declared.state.Call.{Call}
 use Rattle.rayon_machine_places.specs.Places.{same_party, is_member, fresh, act_of, next_of, goes_on, is_free}
 use Rattle.rayon_machine_places.specs.World.{Shape, World, Part, target_pool, target_worker, target_call, at_job}
-use Rattle.rayon_machine_places.specs.Steps.{put, put_stack, after_move, after_close, after_end, after_call, is_pool, new_job, new_call, after_spawn, after_fifo, after_send, after_install, after_join, step, after_cast, is_piece, new_piece, put_pieces}
+use Rattle.rayon_machine_places.specs.Steps.{put, put_stack, after_move, after_close, after_end, after_call, is_pool, new_job, new_call, after_spawn, after_fifo, after_send, after_install, after_join, step, after_cast, is_piece, new_piece, put_pieces, after_scope, after_into, holds}
 use Rattle.rayon_machine_places.specs.Runs.{first_place, start, IsRun}
 use Rattle.rayon_machine_laws.specs.Once.{one, in_deque, in_fifo, in_injector, runs_with, is_with, is_known, may_begin, run_of, runs_in, IsOnce, in_cast}
-use Rattle.rayon_machine_laws.proofs.Frame.{either, fifo_cases, same_party_true, if_some_map, if_cond, acted_keeps, piece_in, piece_new, piece_range}
+use Rattle.rayon_machine_laws.proofs.Frame.{either, fifo_cases, same_party_true, if_some_map, if_cond, acted_keeps, piece_in, piece_new, piece_range, into_cases}
 use Rattle.rayon_machine_laws.proofs.Ties.{job_at, shape_at, outcome, result}
 use Rattle.rayon_machine_laws.proofs.Events.{run_keeps}
 use Rattle.rayon_machine_laws.proofs.Hands.{hand_plan, hand, held_in, held, worked}
@@ -44,10 +45,13 @@ hand_goes_on t f e = (refl, refl)
 closed_none : (t u : ℕ) (k : JobKind) (e : Ending) (fs : List Place) → (held t (after_close u k e fs) ≡ held_in t fs) × (worked t (after_close u k e fs) ≡ runs_in t fs)
 closed_none t u (Detached p) e fs = (omega arith, omega arith)
 closed_none t u (Stored c o) e fs = (omega arith, omega arith)
+closed_none t u (Scoped c o) e fs = (omega arith, omega arith)
 closed_none t u Direct e [] = (refl, refl)
 closed_none t u (TokenOf i) e [] = (refl, refl)
+closed_none t u (BodyOf c9 o9) e [] = (refl, refl)
 closed_none t u Direct e (f ∷ fs) = (ap (λ z. z + held_in t fs) ((hand_goes_on t f e).0), ap (λ z. z + runs_in t fs) ((hand_goes_on t f e).1))
 closed_none t u (TokenOf i) e (f ∷ fs) = (ap (λ z. z + held_in t fs) ((hand_goes_on t f e).0), ap (λ z. z + runs_in t fs) ((hand_goes_on t f e).1))
+closed_none t u (BodyOf c9 o9) e (f ∷ fs) = (ap (λ z. z + held_in t fs) ((hand_goes_on t f e).0), ap (λ z. z + runs_in t fs) ((hand_goes_on t f e).1))
 
 fed_goes_on : (t : ℕ) (f : Place) (e : Ending) → fed t (goes_on f e) ≤ fed t f
 fed_goes_on t (FirstSide o a) Fine = omega arith
@@ -57,10 +61,13 @@ fed_goes_on t f e = omega arith
 fed_closed : (t u : ℕ) (k : JobKind) (e : Ending) (fs : List Place) → all_fed t (after_close u k e fs) ≤ fed_in t fs
 fed_closed t u (Detached p) e fs = omega arith
 fed_closed t u (Stored c o) e fs = omega arith
+fed_closed t u (Scoped c o) e fs = omega arith
 fed_closed t u Direct e [] = omega arith
 fed_closed t u (TokenOf i) e [] = omega arith
+fed_closed t u (BodyOf c9 o9) e [] = omega arith
 fed_closed t u Direct e (f ∷ fs) = let a : fed t (goes_on f e) ≤ fed t f = fed_goes_on t f e in omega (arith, a)
 fed_closed t u (TokenOf i) e (f ∷ fs) = let a : fed t (goes_on f e) ≤ fed t f = fed_goes_on t f e in omega (arith, a)
+fed_closed t u (BodyOf c9 o9) e (f ∷ fs) = let a : fed t (goes_on f e) ≤ fed t f = fed_goes_on t f e in omega (arith, a)
 
 -- a run's end: the job is over, and in no place
 end_kept : (w : World) (q : Party) (d : Ending) (x : Place) (fs : List Place) → w.stack q ≡ record { top = x; below = fs } → JobsOk w → Unmade w → IfSome (after_end w q d (record { top = x; below = fs }) x) (Advance w)
@@ -255,6 +262,16 @@ make_two w q n p d k C c is ok un = record {
     fin_by t false true d e = subst (λ v. IsFinal v (Made q)) (sym (un t (let f : t ≡ w.jobs = eqb-true t w.jobs e in omega (arith, f)))) tt
     fin_by t false false d e = final_same ((w.job t).at)
 
+-- a list of scopes that is another changes no job
+rescoped : (w u : World) (l : List Scope) → Advance w u → Advance w (record u { scopes = l })
+rescoped w u l a = record { feeds = a.feeds; placed = a.placed; fit = a.fit; final = a.final; unmade = a.unmade; known = a.known }
+
+scope_kept : (w : World) (q : Party) (p : ℕ) → JobsOk w → Unmade w → IfSome (after_scope w q p (w.stack q)) (Advance w)
+scope_kept w q p ok un = if_cond (Advance w) (is_free ((w.stack q).top) && is_pool w.shape p) _ (λ z. rescoped w _ (w.scopes ++ record { call = w.calls; pool = p; owner = q } ∷ []) (make_one w q (Open (record { number = w.calls; pool = p; job = w.jobs })) p (BodyOf w.calls q) (put w.call w.calls (new_call None w.jobs)) (w.calls + 1) (λ t. refl) ok un))
+
+into_kept : (w : World) (q : Party) (n : ℕ) → JobsOk w → Unmade w → IfSome (after_into w q n (w.stack q)) (Advance w)
+into_kept w q n ok un = into_cases (Advance w) w q n (λ s e free held. if_cond (Advance w) (is_free ((w.stack q).top) && holds s.call (w.stack q)) _ (λ z. make_one w q (Enter (record { call = s.call; owner = s.owner; pool = s.pool; job = w.jobs })) s.pool (Scoped s.call s.owner) w.call w.calls (λ t. refl) ok un))
+
 join_kept : (w : World) (q : Party) → JobsOk w → Unmade w → IfSome (after_join w q (w.stack q)) (Advance w)
 join_kept w (Caller n) ok un = tt
 join_kept w (Worker p i) ok un = if_cond (Advance w) (is_free ((w.stack (Worker p i)).top)) _ (λ z. make_two w (Worker p i) (Fork (record { number = w.calls; pool = p; job = w.jobs + 1 }) w.jobs) p Direct (Stored w.calls (Worker p i)) (put w.call w.calls (new_call (Some w.jobs) (w.jobs + 1))) (w.calls + 1) (λ t. refl) ok un)
@@ -367,6 +384,8 @@ step_advance w (Fifo q p) fe ok un = fifo_kept w q p ok un
 step_advance w (CastEvent q p) fe ok un = cast_kept w q p ok un
 step_advance w (Install q p) fe ok un = install_kept w q p ok un
 step_advance w (Join q) fe ok un = join_kept w q ok un
+step_advance w (OpenScope q p) fe ok un = scope_kept w q p ok un
+step_advance w (IntoSpawn q n) fe ok un = into_kept w q n ok un
 step_advance w (Yield q) fe ok un = yield_kept w q YieldPop (λ t. refl) (λ t. refl) (λ t. refl) ok un
 step_advance w (YieldLocal q) fe ok un = yield_kept w q LocalPop (λ t. refl) (λ t. refl) (λ t. refl) ok un
 step_advance w (EndPool q p) fe ok un = give_kept w q p ok un

@@ -1,6 +1,6 @@
 -- a push makes its party a waker, and who tells the news wakes one where nobody looks
 use Rattle.std.proofs.Common.{arith, refl, sym, ◌∙◌, ap, subst, inl, inr}
-use Rattle.std.specs.Prelude.{ℕ, Bool, true, false, ◌==◌, ◌<◌, nat_lt, if◌then◌else◌, List, ◌≡◌, IfSome}
+use Rattle.std.specs.Prelude.{ℕ, Bool, true, false, ◌==◌, ◌<◌, nat_lt, if◌then◌else◌, List, ◌≡◌, IfSome, Option}
 use Rattle.std.proofs.lemmas.Bool.{eqb-true, eq-eqb}
 use Rattle.rayon_machine_places.specs.declared.place.Party.{Party}
 use Rattle.rayon_machine_places.specs.declared.place.Party.TheVariants.{Worker, Caller}
@@ -11,7 +11,7 @@ use Rattle.rayon_machine_places.specs.declared.act.Act.{Act}
 use Rattle.rayon_machine_places.specs.declared.act.Act.TheVariants.{PushInj, PushOwn}
 use Rattle.rayon_machine_places.specs.declared.act.Seen.{Seen}
 use Rattle.rayon_machine_places.specs.declared.act.Seen.TheVariants.{Done, Wakes}
-use Rattle.rayon_machine_places.specs.Places.{is_member, plan_pool, plan_job, walk, after_news, act_of}
+use Rattle.rayon_machine_places.specs.Places.{is_member, plan_pool, plan_job, walk, after_news, act_of, plan_book}
 use Rattle.rayon_machine_places.specs.World.{Shape, Stack, World, count_below, Counts, counts_at, wakes_for_one, Part, target_pool, effect}
 use Rattle.rayon_machine_places.specs.Steps.{after_move}
 use Rattle.rayon_machine_laws.specs.Committed.{is_committed}
@@ -36,21 +36,21 @@ top_is w q k r = ap (λ z. z.top) (stack_mine w.stack q (after_move (next_at w q
 abbrev Pushed : Act → Shape → Party → Counts → Part → Bool → Type 0
 Pushed a h q c m b = IfSome (effect a h q c m) (λ r. (r.0 ≡ Done) × (b ≡ true → is_filled (r.1.pool.injector) ≡ true → is_filled m.pool.injector ≡ true))
 
-push_if : (h : Shape) (q : Party) (c : Counts) (m : Part) (p t : ℕ) (b : Bool) → Pushed (if b then PushOwn t else PushInj p t) h q c m b
-push_if h q c m p t true = (refl, λ z f. f)
-push_if h q c m p t false = (refl, λ z f. absurd (let k : false ≡ true = z in cc))
+push_if : (h : Shape) (q : Party) (c : Counts) (m : Part) (p t : ℕ) (k : Option ℕ) (b : Bool) → Pushed (if b then PushOwn t k else PushInj p t k) h q c m b
+push_if h q c m p t k true = (refl, λ z f. f)
+push_if h q c m p t k false = (refl, λ z f. absurd (let k : false ≡ true = z in cc))
 
 push_seen : (h : Shape) (q : Party) (c : Counts) (m : Part) (n : Plan) (v : Bool) → Pushed (act_of q (PushJob n v)) h q c m (is_member q (plan_pool n))
-push_seen h (Worker i j) c m n v = push_if h (Worker i j) c m (plan_pool n) (plan_job n) (is_member (Worker i j) (plan_pool n))
-push_seen h (Caller o) c m n v = push_if h (Caller o) c m (plan_pool n) (plan_job n) (is_member (Caller o) (plan_pool n))
+push_seen h (Worker i j) c m n v = push_if h (Worker i j) c m (plan_pool n) (plan_job n) (plan_book n) (is_member (Worker i j) (plan_pool n))
+push_seen h (Caller o) c m n v = push_if h (Caller o) c m (plan_pool n) (plan_job n) (plan_book n) (is_member (Caller o) (plan_pool n))
 
-push_at : (q : Party) (p t : ℕ) (b : Bool) → b ≡ false → target_pool q (if b then PushOwn t else PushInj p t) ≡ p
-push_at q p t true e = cc
-push_at q p t false e = refl
+push_at : (q : Party) (p t : ℕ) (k : Option ℕ) (b : Bool) → b ≡ false → target_pool q (if b then PushOwn t k else PushInj p t k) ≡ p
+push_at q p t k true e = cc
+push_at q p t k false e = refl
 
 push_pool : (q : Party) (n : Plan) (v : Bool) → is_member q (plan_pool n) ≡ false → target_pool q (act_of q (PushJob n v)) ≡ plan_pool n
-push_pool (Worker i j) n v e = push_at (Worker i j) (plan_pool n) (plan_job n) (is_member (Worker i j) (plan_pool n)) e
-push_pool (Caller o) n v e = push_at (Caller o) (plan_pool n) (plan_job n) (is_member (Caller o) (plan_pool n)) e
+push_pool (Worker i j) n v e = push_at (Worker i j) (plan_pool n) (plan_job n) (plan_book n) (is_member (Worker i j) (plan_pool n)) e
+push_pool (Caller o) n v e = push_at (Caller o) (plan_pool n) (plan_job n) (plan_book n) (is_member (Caller o) (plan_pool n)) e
 
 pushing_owes : (q : Party) (n : Plan) (v : Bool) (p i : ℕ) → (plan_pool n == p) ≡ true → is_member q (plan_pool n) ≡ false → owes q (TellNews n v) p i ≡ true
 pushing_owes q n v p i b d = let is : is_member q p ≡ false = ap (is_member q) (sym (eqb-true (plan_pool n) p b)) ∙ d in rw (b, is)

@@ -12,9 +12,9 @@ use Rattle.rayon_machine_places.specs.declared.place.Move.TheVariants.{Back, Dis
 use Rattle.rayon_machine_places.specs.declared.place.Place.TheVariants.{BeginTask, LocalPop, LookForToken, LookQueue, PickVictim, PushJob, PushToken, Run, StealFrom, TakeFromFifo, YieldPick, YieldPop, YieldSteal, PushForAll}
 use Rattle.rayon_machine_places.specs.declared.place.Party.TheVariants.{Caller, Worker}
 use Rattle.rayon_machine_laws.proofs.ClaimRuns.{CallsHold, place_part, top_says, world_after}
-use Rattle.rayon_machine_places.specs.declared.place.Plan.TheVariants.{Detach, Feed, Fork, Here, Send}
-use Rattle.rayon_machine_places.specs.declared.place.JobKind.TheVariants.{Detached, Direct, Stored, TokenOf}
-use Rattle.rayon_machine_places.specs.declared.event.Event.TheVariants.{End, EndPool, Fifo, From, Go, Install, Join, Miss, Refuse, Spawn, Yield, YieldLocal, Cast}
+use Rattle.rayon_machine_places.specs.declared.place.Plan.TheVariants.{Detach, Feed, Fork, Here, Send, Open, Enter}
+use Rattle.rayon_machine_places.specs.declared.place.JobKind.TheVariants.{Detached, Direct, Stored, TokenOf, Scoped, BodyOf}
+use Rattle.rayon_machine_places.specs.declared.event.Event.TheVariants.{End, EndPool, Fifo, From, Go, Install, Join, Miss, Refuse, Spawn, Yield, YieldLocal, Cast, Scope as OpenScope, IntoSpawn}
 use Rattle.rayon_machine_places.specs.declared.place.Ending.{Ending}
 use Rattle.rayon_machine_places.specs.declared.event.Event.{Event}
 use Rattle.rayon_machine_laws.proofs.Stocked.{Fair, act_fair, at_pool, begun_off, draws, is_held, is_pushing, live, live_off, one_set, token_of, up, live_none}
@@ -35,9 +35,9 @@ use Rattle.rayon_machine_laws.proofs.Claims.{Says, Taking, SaysPieces}
 use Rattle.rayon_machine_places.specs.declared.act.Seen.{Seen}
 use Rattle.rayon_machine_places.specs.declared.place.Taken.TheVariants.{Token}
 use Rattle.rayon_machine_places.specs.declared.state.Whereabouts.{Whereabouts}
-use Rattle.rayon_machine_places.specs.Places.{act_of, after_begin, is_free, is_member, is_refusable, look_act, next_of, own_index, own_pool, plan_job, plan_pool, push_act, same_party}
-use Rattle.rayon_machine_laws.proofs.Frame.{acted_keeps, and_parts, either, fifo_cases, if_cond, if_some_and, if_some_map, put_new, put_old, same_index, same_party_true, put_same}
-use Rattle.rayon_machine_places.specs.Steps.{after_choice, after_end, after_end_pool, after_fifo, after_install, after_join, after_miss, after_send, after_spawn, after_yield, blank_job, can_miss, handed_back, is_pool, jobs_after, new_job, put, step, after_cast, new_piece, is_piece, mark_pieces, marked}
+use Rattle.rayon_machine_places.specs.Places.{act_of, after_begin, is_free, is_member, is_refusable, look_act, next_of, own_index, own_pool, plan_job, plan_pool, push_act, same_party, plan_book}
+use Rattle.rayon_machine_laws.proofs.Frame.{acted_keeps, and_parts, either, fifo_cases, if_cond, if_some_and, if_some_map, put_new, put_old, same_index, same_party_true, put_same, into_cases}
+use Rattle.rayon_machine_places.specs.Steps.{after_choice, after_end, after_end_pool, after_fifo, after_install, after_join, after_miss, after_send, after_spawn, after_yield, blank_job, can_miss, handed_back, is_pool, jobs_after, new_job, put, step, after_cast, new_piece, is_piece, mark_pieces, marked, after_scope, after_into, holds}
 use Rattle.rayon_machine_laws.proofs.ClaimMakes.{first_calls, step_calls}
 use Rattle.rayon_machine_laws.proofs.Hands.{held, held_in}
 use Rattle.rayon_machine_laws.proofs.Located.{is_left}
@@ -93,6 +93,8 @@ back_less : (p j : ℕ) (n : Plan) (f : ℕ → Job) (t : ℕ) → live p j (han
 back_less p j (Detach r u) f t = put_less p j f u (at_job (f u) HandedBack) t (off_less p j (at_job (f u) HandedBack) (live p j (f u)) refl)
 back_less p j (Here r u) f t = put_less p j f u (at_job (f u) HandedBack) t (off_less p j (at_job (f u) HandedBack) (live p j (f u)) refl)
 back_less p j (Send o) f t = put_less p j f o.job (at_job (f o.job) HandedBack) t (off_less p j (at_job (f o.job) HandedBack) (live p j (f o.job)) refl)
+back_less p j (Open o) f t = put_less p j f o.job (at_job (f o.job) HandedBack) t (off_less p j (at_job (f o.job) HandedBack) (live p j (f o.job)) refl)
+back_less p j (Enter o) f t = put_less p j f o.job (at_job (f o.job) HandedBack) t (off_less p j (at_job (f o.job) HandedBack) (live p j (f o.job)) refl)
 back_less p j (Fork o u) f t =
     let g : ℕ → Job = put f u (at_job (f u) HandedBack) in
     let a : live p j (g t) ≤ live p j (f t) = put_less p j f u (at_job (f u) HandedBack) t (off_less p j (at_job (f u) HandedBack) (live p j (f u)) refl) in
@@ -340,6 +342,12 @@ sent_fades w q r false = (λ p j t. new_less_job p j w.job w.jobs q r (Stored w.
 install_fades : (w : World) (q : Party) (r : ℕ) → IfSome (after_install w q r (w.stack q)) (Fades w)
 install_fades w q r = if_cond (Fades w) (is_free ((w.stack q).top) && is_pool w.shape r) _ (λ e. sent_fades w q r (is_member q r))
 
+scope_fades : (w : World) (q : Party) (r : ℕ) → IfSome (after_scope w q r (w.stack q)) (Fades w)
+scope_fades w q r = if_cond (Fades w) (is_free ((w.stack q).top) && is_pool w.shape r) _ (λ b. (λ p j t. new_less_job p j w.job w.jobs q r (BodyOf w.calls q) t, λ p j. refl))
+
+into_fades : (w : World) (q : Party) (n : ℕ) → IfSome (after_into w q n (w.stack q)) (Fades w)
+into_fades w q n = into_cases (Fades w) w q n (λ z e free held. if_cond (Fades w) (is_free ((w.stack q).top) && holds z.call (w.stack q)) _ (λ b. (λ p j t. new_less_job p j w.job w.jobs q z.pool (Scoped z.call z.owner) t, λ p j. refl)))
+
 join_fades : (w : World) (q : Party) → IfSome (after_join w q (w.stack q)) (Fades w)
 join_fades w (Worker a b) = if_cond (Fades w) (is_free ((w.stack (Worker a b)).top)) _ (λ z. (λ p j t. two_less_jobs p j w.job w.jobs (Worker a b) a Direct (Stored w.calls (Worker a b)) t, λ p j. refl))
 join_fades w (Caller n) = tt
@@ -369,6 +377,8 @@ event_fades w (Fifo q p) e = fifo_fades w q p
 event_fades w (Cast q p) e = cast_fades w q p
 event_fades w (Install q p) e = install_fades w q p
 event_fades w (Join q) e = join_fades w q
+event_fades w (OpenScope q p) e = scope_fades w q p
+event_fades w (IntoSpawn q n) e = into_fades w q n
 event_fades w (Yield q) e = yield_fades w q YieldPop
 event_fades w (YieldLocal q) e = yield_fades w q LocalPop
 event_fades w (EndPool q p) e = give_fades w q p
@@ -384,6 +394,8 @@ step_sums w (Fifo q p) h = step_fade w (Fifo q p) h (event_fades w (Fifo q p) re
 step_sums w (Cast q p) h = step_fade w (Cast q p) h (event_fades w (Cast q p) refl)
 step_sums w (Install q p) h = step_fade w (Install q p) h (event_fades w (Install q p) refl)
 step_sums w (Join q) h = step_fade w (Join q) h (event_fades w (Join q) refl)
+step_sums w (OpenScope q p) h = step_fade w (OpenScope q p) h (event_fades w (OpenScope q p) refl)
+step_sums w (IntoSpawn q n) h = step_fade w (IntoSpawn q n) h (event_fades w (IntoSpawn q n) refl)
 step_sums w (Yield q) h = step_fade w (Yield q) h (event_fades w (Yield q) refl)
 step_sums w (YieldLocal q) h = step_fade w (YieldLocal q) h (event_fades w (YieldLocal q) refl)
 step_sums w (EndPool q p) h = step_fade w (EndPool q p) h (event_fades w (EndPool q p) refl)
@@ -409,11 +421,11 @@ out_place (Worker a b) (BeginTask (Token m j)) k i e = cc
 out_place (Caller c) (BeginTask (Token m j)) k i e = cc
 out_place q (PushJob n v) k i e = absurd (by (is_member q (plan_pool n)) (pushed q e))
   where
-    pushed : (q : Party) → act_of q (PushJob n v) ≡ FifoOut k i → push_act q (plan_pool n) (plan_job n) ≡ FifoOut k i
+    pushed : (q : Party) → act_of q (PushJob n v) ≡ FifoOut k i → push_act q (plan_pool n) (plan_job n) (plan_book n) ≡ FifoOut k i
     pushed (Worker a b) d = d
     pushed (Caller c) d = d
 
-    by : (z : Bool) → (if z then PushOwn (plan_job n) else PushInj (plan_pool n) (plan_job n)) ≡ FifoOut k i → ⊥
+    by : (z : Bool) → (if z then PushOwn (plan_job n) (plan_book n) else PushInj (plan_pool n) (plan_job n) (plan_book n)) ≡ FifoOut k i → ⊥
     by true d = cc
     by false d = cc
 out_place q (LookQueue n) k i e = absurd (by (is_member q (plan_pool n)) (looked q e))

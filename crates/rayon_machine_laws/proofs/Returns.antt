@@ -3,28 +3,32 @@ use Rattle.rayon_machine_places.specs.declared.place.Mark.TheVariants.{Counted, 
 use Rattle.rayon_machine_places.specs.declared.place.Move.TheVariants.{Mark}
 use Rattle.rayon_machine_places.specs.declared.place.Move.{Move}
 use Rattle.rayon_machine_places.specs.declared.place.Pieces.{Pieces}
+use Rattle.rayon_machine_laws.proofs.Claims.{SaysThen, SaysShare}
+use Rattle.rayon_machine_places.specs.declared.state.Scope.{Scope}
+use Rattle.rayon_machine_places.specs.declared.place.Count.TheVariants.{OfPool, OfScope}
+use Rattle.rayon_machine_places.specs.declared.place.Count.{Count}
 use Rattle.std.proofs.Common.{rules, arith, refl, sym, ◌∙◌, ap, subst, inl, inr}
-use Rattle.std.specs.Prelude.{ℕ, Bool, true, false, ◌&&◌, ◌+◌, ◌==◌, ◌≤◌, ◌<◌, nat_lt, if◌then◌else◌, Some, None, List, ◌≡◌, IfSome, ◌-◌}
+use Rattle.std.specs.Prelude.{ℕ, Bool, true, false, ◌&&◌, ◌+◌, ◌==◌, ◌≤◌, ◌<◌, nat_lt, if◌then◌else◌, Some, None, List, ◌≡◌, IfSome, ◌-◌, ◌++◌, [], ◌∷◌}
 use Rattle.std.proofs.lemmas.Bool.{eqb-true, ltb-true, ltb-false}
 use Rattle.std.proofs.Math.Dec.{ltb}
 use Rattle.rayon_machine_places.specs.declared.place.Party.{Party}
 use Rattle.rayon_machine_places.specs.declared.place.Party.TheVariants.{Worker, Caller}
 use Rattle.rayon_machine_places.specs.declared.place.Ending.{Ending}
 use Rattle.rayon_machine_places.specs.declared.place.JobKind.{JobKind}
-use Rattle.rayon_machine_places.specs.declared.place.JobKind.TheVariants.{Detached, Stored, Direct, TokenOf}
+use Rattle.rayon_machine_places.specs.declared.place.JobKind.TheVariants.{Detached, Stored, Direct, TokenOf, Scoped, BodyOf}
 use Rattle.rayon_machine_places.specs.declared.place.Latch.{Latch}
 use Rattle.rayon_machine_places.specs.declared.place.Latch.TheVariants.{Terminate, OfCall}
 use Rattle.rayon_machine_places.specs.declared.place.Plan.{Plan}
-use Rattle.rayon_machine_places.specs.declared.place.Plan.TheVariants.{Detach, Here, Send, Fork, Feed}
-use Rattle.rayon_machine_places.specs.declared.place.Share.TheVariants.{PoolValue, OfJob}
+use Rattle.rayon_machine_places.specs.declared.place.Plan.TheVariants.{Detach, Here, Send, Fork, Feed, Open, Enter}
+use Rattle.rayon_machine_places.specs.declared.place.Share.TheVariants.{PoolValue, OfJob, Body}
 use Rattle.rayon_machine_places.specs.declared.place.Then.{Then}
 use Rattle.rayon_machine_places.specs.declared.place.Then.TheVariants.{Resume, GiveBack}
 use Rattle.rayon_machine_places.specs.declared.place.Place.{Place}
-use Rattle.rayon_machine_places.specs.declared.place.Place.TheVariants.{ProbeWorking, PickVictim, StealFrom, GetSleepy, FallAsleep, WakeUp, YieldPop, YieldPick, YieldSteal, LocalPop, Run, RaiseCount, GrowCall, PushJob, LowerCount, SetLatch, LockToSettle, WakeSettled, UnlockSettled, AddToFifo, PushToken, RaiseForAll, PushForAll, LowerForAll}
+use Rattle.rayon_machine_places.specs.declared.place.Place.TheVariants.{ProbeWorking, PickVictim, StealFrom, GetSleepy, FallAsleep, WakeUp, YieldPop, YieldPick, YieldSteal, LocalPop, Run, RaiseCount, GrowCall, PushJob, LowerCount, SetLatch, LockToSettle, WakeSettled, UnlockSettled, AddToFifo, PushToken, RaiseForAll, PushForAll, LowerForAll, GrowScope, OpenSlot, SetLockLatch}
 use Rattle.rayon_machine_places.specs.declared.act.Seen.{Seen}
 use Rattle.rayon_machine_places.specs.declared.act.Seen.TheVariants.{Done, Refused, Yes, No, Missing, Start}
 use Rattle.rayon_machine_places.specs.declared.event.Event.{Event}
-use Rattle.rayon_machine_places.specs.declared.event.Event.TheVariants.{Go, From, Refuse, Miss, End, Spawn, Fifo, Install, Join, Yield, YieldLocal, EndPool, Cast}
+use Rattle.rayon_machine_places.specs.declared.event.Event.TheVariants.{Go, From, Refuse, Miss, End, Spawn, Fifo, Install, Join, Yield, YieldLocal, EndPool, Cast, Scope as OpenScope, IntoSpawn}
 use Rattle.rayon_machine_places.specs.declared.state.Letter.{Letter}
 use Rattle.rayon_machine_places.specs.declared.state.Letter.TheVariants.{Set as IsSet}
 use Rattle.rayon_machine_places.specs.declared.state.Whereabouts.{Whereabouts}
@@ -32,18 +36,18 @@ use Rattle.rayon_machine_places.specs.declared.state.Whereabouts.TheVariants.{Ov
 use Rattle.rayon_machine_places.specs.declared.state.Job.{Job}
 use Rattle.rayon_machine_places.specs.declared.state.Call.{Call}
 use Rattle.rayon_machine_places.specs.declared.shape.PoolShape.{PoolShape}
-use Rattle.rayon_machine_places.specs.Places.{same_party, own_pool, is_member, latch_of, plan_pool, plan_job, after_raise, act_of, next_of, is_free}
-use Rattle.rayon_machine_places.specs.World.{Shape, Stack, World, Counts, counts_at, Part, target_pool, target_worker, target_call, letter, with_letter, at_job, effect}
-use Rattle.rayon_machine_places.specs.Steps.{put, put_stack, after_move, jobs_after, after_choice, after_refusal, can_miss, after_miss, after_close, after_end, after_call, is_pool, new_job, new_call, after_spawn, after_send, after_install, after_join, after_yield, after_end_pool, step, after_feed, after_cast, put_pieces, new_piece, is_piece, mark_pieces, marked}
+use Rattle.rayon_machine_places.specs.Places.{same_party, own_pool, is_member, latch_of, plan_job, after_raise, act_of, next_of, is_free, plan_count}
+use Rattle.rayon_machine_places.specs.World.{Shape, Stack, World, Counts, counts_at, Part, target_pool, target_worker, target_call, letter, with_letter, at_job, effect, count_in, count_pool}
+use Rattle.rayon_machine_places.specs.Steps.{put, put_stack, after_move, jobs_after, after_choice, after_refusal, can_miss, after_miss, after_close, after_end, after_call, is_pool, new_job, new_call, after_spawn, after_send, after_install, after_join, after_yield, after_end_pool, step, after_feed, after_cast, put_pieces, new_piece, is_piece, mark_pieces, marked, after_scope, after_into, holds}
 use Rattle.rayon_machine_places.specs.Runs.{start, IsRun}
 use Rattle.rayon_machine_laws.specs.Once.{one}
 use Rattle.rayon_machine_laws.specs.End.{AllJobs, after_settling, IsReturned}
-use Rattle.rayon_machine_laws.proofs.Frame.{either, same_party_true, if_some_and, if_some_map, if_cond, acted_keeps, put_same, put_new, put_old, stack_mine, stack_other, after_counted, fifo_cases, is_sharing, piece_new, piece_old}
+use Rattle.rayon_machine_laws.proofs.Frame.{either, same_party_true, if_some_and, if_some_map, if_cond, acted_keeps, put_same, put_new, put_old, stack_mine, stack_other, after_counted, fifo_cases, is_sharing, piece_new, piece_old, into_cases}
 use Rattle.rayon_machine_laws.proofs.Ties.{job_at, outcome}
 use Rattle.rayon_machine_laws.proofs.Events.{run_keeps}
 use Rattle.rayon_machine_laws.proofs.Hands.{hand_plan, held}
 use Rattle.rayon_machine_laws.proofs.Located.{loc_of, loc_at, is_loc, where_is, Hand}
-use Rattle.rayon_machine_laws.proofs.ClaimRuns.{world_after, place_part}
+use Rattle.rayon_machine_laws.proofs.ClaimRuns.{world_after, place_part, top_says}
 use Rattle.rayon_machine_laws.proofs.ClaimEvents.{ended_world}
 use Rattle.rayon_machine_laws.proofs.ClaimMakes.{calling, below_new}
 use Rattle.rayon_machine_laws.proofs.Amounts.{paid}
@@ -87,8 +91,10 @@ act_unbacked h (Worker a b) c m (GetSleepy k) z = sleepy_keeps (latch_of k.targe
 act_unbacked h (Worker a b) c m (FallAsleep k) z = asleep_keeps (latch_of k.target) Unbacked (λ v e. omega arith) (λ v e y n. letter_unbacked (latch_of k.target) v e y) m (letter (latch_of k.target) m)
 act_unbacked h (Worker a b) c m (WakeUp k) z = wake_keeps (latch_of k.target) Unbacked (λ v e. omega arith) (λ v e y n. letter_unbacked (latch_of k.target) v e y) m (letter (latch_of k.target) m)
 act_unbacked h (Worker a b) c m (SetLatch k) z = set_keeps k.latch Unbacked (λ v e. letter_unbacked k.latch v e IsSet) m (letter k.latch m)
+act_unbacked h (Worker a b) c m (LowerCount k s n) z = omega arith
 act_unbacked h (Worker a b) c m _ z = first_of (cc, search (rules, arith))
 act_unbacked h (Caller n) c m (SetLatch k) z = set_keeps k.latch Unbacked (λ v e. letter_unbacked k.latch v e IsSet) m (letter k.latch m)
+act_unbacked h (Caller n) c m (LowerCount k s y) z = omega arith
 act_unbacked h (Caller n) c m _ z = first_of (cc, search (rules, arith))
 
 pub put_backs : (J : ℕ → Job) (n : ℕ) (j : Job) (t : ℕ) → backs j.at ≤ backs (J n).at → backs (put J n j t).at ≤ backs (J t).at
@@ -130,28 +136,28 @@ plain_returns w q x fs r z ut un st none h s = steady_returns w q x fs r z (λ t
     counted t = after_counted q (next_of (w.shape.pool (target_pool q (act_of q x))) q x (r.0)) (put w.job (job_at w q (act_of q x)) (r.1.job)) t st ∙ put_same (λ j. j.counted) w.job (job_at w q (act_of q x)) (r.1.job) t (ut.job)
 
 -- a job's share is given back
-lower_returns : (w : World) (q : Party) (p u : ℕ) (n : Then) (fs : List Place) (e : Seen) → w.stack q ≡ record { top = LowerCount p (OfJob u) n; below = fs } → ReturnsHold w → SharesHold (lowered_world w q p (OfJob u) n fs e) → ReturnsHold (lowered_world w q p (OfJob u) n fs e)
-lower_returns w q p u n fs e z h s = returns_keep w v q (after_move (next_of (w.shape.pool p) q (LowerCount p (OfJob u) n) e) fs) (λ i. refl) (λ t c. by t c (t == u) refl) h s
+lower_returns : (w : World) (q : Party) (p : Count) (u : ℕ) (n : Then) (fs : List Place) (e : Seen) → w.stack q ≡ record { top = LowerCount p (OfJob u) n; below = fs } → ReturnsHold w → SharesHold (lowered_world w q p (OfJob u) n fs e) → ReturnsHold (lowered_world w q p (OfJob u) n fs e)
+lower_returns w q p u n fs e z h s = returns_keep w v q (after_move (next_of (w.shape.pool (count_pool q p)) q (LowerCount p (OfJob u) n) e) fs) (λ i. refl) (λ t c. by t c (t == u) refl) h s
   where
     v : World
     v = lowered_world w q p (OfJob u) n fs e
 
     counted : (t : ℕ) → (v.job t).counted ≡ (put w.job u (record (w.job u) { counted = false }) t).counted
-    counted t = after_counted q (next_of (w.shape.pool p) q (LowerCount p (OfJob u) n) e) (put w.job u (record (w.job u) { counted = false })) t (lower_steady (w.shape.pool p) q p (OfJob u) n e)
+    counted t = after_counted q (next_of (w.shape.pool (count_pool q p)) q (LowerCount p (OfJob u) n) e) (put w.job u (record (w.job u) { counted = false })) t (lower_steady (w.shape.pool (count_pool q p)) q p (OfJob u) n e)
 
     now : (v.job u).counted ≡ false
     now = counted u ∙ ap (λ j. j.counted) (put_new w.job u (record (w.job u) { counted = false }))
 
-    bound : (t : ℕ) → all_bare t (after_move (next_of (w.shape.pool p) q (LowerCount p (OfJob u) n) e) fs) + backs (v.job t).at ≤ all_bare t (w.stack q) + one (t == u) + backs (w.job t).at
-    bound t = let a : all_bare t (after_move (next_of (w.shape.pool p) q (LowerCount p (OfJob u) n) e) fs) + backs (v.job t).at ≤ bare_move t (next_of (w.shape.pool p) q (LowerCount p (OfJob u) n) e) + handed t (next_of (w.shape.pool p) q (LowerCount p (OfJob u) n) e) + bare_in t fs + backs (put w.job u (record (w.job u) { counted = false }) t).at = land_bare q t (next_of (w.shape.pool p) q (LowerCount p (OfJob u) n) e) fs (put w.job u (record (w.job u) { counted = false })) in
+    bound : (t : ℕ) → all_bare t (after_move (next_of (w.shape.pool (count_pool q p)) q (LowerCount p (OfJob u) n) e) fs) + backs (v.job t).at ≤ all_bare t (w.stack q) + one (t == u) + backs (w.job t).at
+    bound t = let a : all_bare t (after_move (next_of (w.shape.pool (count_pool q p)) q (LowerCount p (OfJob u) n) e) fs) + backs (v.job t).at ≤ bare_move t (next_of (w.shape.pool (count_pool q p)) q (LowerCount p (OfJob u) n) e) + handed t (next_of (w.shape.pool (count_pool q p)) q (LowerCount p (OfJob u) n) e) + bare_in t fs + backs (put w.job u (record (w.job u) { counted = false }) t).at = land_bare q t (next_of (w.shape.pool (count_pool q p)) q (LowerCount p (OfJob u) n) e) fs (put w.job u (record (w.job u) { counted = false })) in
         let b : backs (put w.job u (record (w.job u) { counted = false }) t).at ≤ backs (w.job t).at = put_backs w.job u (record (w.job u) { counted = false }) t (omega arith) in
-        let c : bare_move t (next_of (w.shape.pool p) q (LowerCount p (OfJob u) n) e) ≤ bare t (LowerCount p (OfJob u) n) + one (t == u) = bares (w.shape.pool p) q t (LowerCount p (OfJob u) n) e in
+        let c : bare_move t (next_of (w.shape.pool (count_pool q p)) q (LowerCount p (OfJob u) n) e) ≤ bare t (LowerCount p (OfJob u) n) + one (t == u) = bares (w.shape.pool (count_pool q p)) q t (LowerCount p (OfJob u) n) e in
         let d : all_bare t (w.stack q) ≡ (bare t (LowerCount p (OfJob u) n) + bare_in t fs) = ap (all_bare t) z in
-        let f : handed t (next_of (w.shape.pool p) q (LowerCount p (OfJob u) n) e) ≡ 0 = none_handed t (next_of (w.shape.pool p) q (LowerCount p (OfJob u) n) e) (lower_steady (w.shape.pool p) q p (OfJob u) n e) in omega (arith, a, b, c, d, f)
+        let f : handed t (next_of (w.shape.pool (count_pool q p)) q (LowerCount p (OfJob u) n) e) ≡ 0 = none_handed t (next_of (w.shape.pool (count_pool q p)) q (LowerCount p (OfJob u) n) e) (lower_steady (w.shape.pool (count_pool q p)) q p (OfJob u) n e) in omega (arith, a, b, c, d, f)
 
-    by : (t : ℕ) → (v.job t).counted ≡ true → (b : Bool) → (t == u) ≡ b → ((w.job t).counted ≡ true) × (all_bare t (after_move (next_of (w.shape.pool p) q (LowerCount p (OfJob u) n) e) fs) + backs (v.job t).at ≤ all_bare t (w.stack q) + backs (w.job t).at)
+    by : (t : ℕ) → (v.job t).counted ≡ true → (b : Bool) → (t == u) ≡ b → ((w.job t).counted ≡ true) × (all_bare t (after_move (next_of (w.shape.pool (count_pool q p)) q (LowerCount p (OfJob u) n) e) fs) + backs (v.job t).at ≤ all_bare t (w.stack q) + backs (w.job t).at)
     by t c true y = absurd (let a : (v.job t).counted ≡ false = ap (λ i. (v.job i).counted) (eqb-true t u y) ∙ now in cc)
-    by t c false y = (sym (counted t ∙ ap (λ j. j.counted) (put_old w.job u (record (w.job u) { counted = false }) t y)) ∙ c, (let a : all_bare t (after_move (next_of (w.shape.pool p) q (LowerCount p (OfJob u) n) e) fs) + backs (v.job t).at ≤ all_bare t (w.stack q) + one (t == u) + backs (w.job t).at = bound t in let b : one (t == u) ≡ 0 = ap one y in omega (arith, a, b)))
+    by t c false y = (sym (counted t ∙ ap (λ j. j.counted) (put_old w.job u (record (w.job u) { counted = false }) t y)) ∙ c, (let a : all_bare t (after_move (next_of (w.shape.pool (count_pool q p)) q (LowerCount p (OfJob u) n) e) fs) + backs (v.job t).at ≤ all_bare t (w.stack q) + one (t == u) + backs (w.job t).at = bound t in let b : one (t == u) ≡ 0 = ap one y in omega (arith, a, b)))
 
 -- a share is taken: the job is in this party's hand alone
 raise_returns : (w : World) (q : Party) (n : Plan) (fs : List Place) → w.stack q ≡ record { top = RaiseCount n; below = fs } → ReturnsHold w → SharesHold (raised_world w q n fs) → ReturnsHold (raised_world w q n fs)
@@ -161,9 +167,9 @@ raise_returns w q n fs z h s = returns_by w v q k (λ i. refl) (λ t c. by t c (
     v = raised_world w q n fs
 
     k : Stack
-    k = after_move (next_of (w.shape.pool (plan_pool n)) q (RaiseCount n) Done) fs
+    k = after_move (next_of (w.shape.pool (count_pool q (plan_count n))) q (RaiseCount n) Done) fs
 
-    bound : (t : ℕ) → all_bare t (after_move (next_of (w.shape.pool (plan_pool n)) q (RaiseCount n) Done) fs) + backs ((raised_world w q n fs).job t).at + one (t == plan_job n) ≤ hand_plan t n + bare_in t fs + backs (w.job t).at
+    bound : (t : ℕ) → all_bare t (after_move (next_of (w.shape.pool (count_pool q (plan_count n))) q (RaiseCount n) Done) fs) + backs ((raised_world w q n fs).job t).at + one (t == plan_job n) ≤ hand_plan t n + bare_in t fs + backs (w.job t).at
     bound t = let a : all_bare t (after_move (after_raise n) fs) + backs (jobs_after q (after_raise n) (put w.job (plan_job n) (record (w.job (plan_job n)) { counted = true })) t).at ≤ bare_move t (after_raise n) + handed t (after_raise n) + bare_in t fs + backs (put w.job (plan_job n) (record (w.job (plan_job n)) { counted = true }) t).at = land_bare q t (after_raise n) fs (put w.job (plan_job n) (record (w.job (plan_job n)) { counted = true })) in
         let b : backs (put w.job (plan_job n) (record (w.job (plan_job n)) { counted = true }) t).at ≤ backs (w.job t).at = put_backs w.job (plan_job n) (record (w.job (plan_job n)) { counted = true }) t (omega arith) in
         let c : bare_move t (after_raise n) + one (t == plan_job n) ≤ hand_plan t n = bare_raised t n in
@@ -173,7 +179,7 @@ raise_returns w q n fs z h s = returns_by w v q k (λ i. refl) (λ t c. by t c (
     stack t = ap (all_bare t) z
 
     same : (t : ℕ) → (t == plan_job n) ≡ false → (v.job t).counted ≡ (w.job t).counted
-    same t e = after_counted q (next_of (w.shape.pool (plan_pool n)) q (RaiseCount n) Done) (put w.job (plan_job n) (record (w.job (plan_job n)) { counted = true })) t (raise_steady n) ∙ ap (λ j. j.counted) (put_old w.job (plan_job n) (record (w.job (plan_job n)) { counted = true }) t e)
+    same t e = after_counted q (next_of (w.shape.pool (count_pool q (plan_count n))) q (RaiseCount n) Done) (put w.job (plan_job n) (record (w.job (plan_job n)) { counted = true })) t (raise_steady n) ∙ ap (λ j. j.counted) (put_old w.job (plan_job n) (record (w.job (plan_job n)) { counted = true }) t e)
 
     in_hand : all_bare (plan_job n) (w.stack q) ≤ is_loc (Hand q) (loc_at (w.job (plan_job n)))
     in_hand = let a : all_bare (plan_job n) (w.stack q) ≤ held (plan_job n) (w.stack q) = bare_held (plan_job n) (w.stack q) in let b : held (plan_job n) (w.stack q) ≡ is_loc (Hand q) (loc_at (w.job (plan_job n))) = ((((h.shares).calls).jobs).ok).placed (Hand q) (plan_job n) in omega (arith, a, b)
@@ -192,8 +198,8 @@ raise_returns w q n fs z h s = returns_by w v q k (λ i. refl) (λ t c. by t c (
         let c : is_loc (Hand r) (loc_at (w.job (plan_job n))) ≡ one (same_party r q) = ap (is_loc (Hand r)) mine in
         let d : one (same_party r q) ≡ 0 = ap one e in omega (arith, a, b, c, d)
 
-    own : all_bare (plan_job n) (after_move (next_of (w.shape.pool (plan_pool n)) q (RaiseCount n) Done) fs) + backs ((raised_world w q n fs).job (plan_job n)).at ≤ 0
-    own = let a : all_bare (plan_job n) (after_move (next_of (w.shape.pool (plan_pool n)) q (RaiseCount n) Done) fs) + backs ((raised_world w q n fs).job (plan_job n)).at + one (plan_job n == plan_job n) ≤ hand_plan (plan_job n) n + bare_in (plan_job n) fs + backs (w.job (plan_job n)).at = bound (plan_job n) in
+    own : all_bare (plan_job n) (after_move (next_of (w.shape.pool (count_pool q (plan_count n))) q (RaiseCount n) Done) fs) + backs ((raised_world w q n fs).job (plan_job n)).at ≤ 0
+    own = let a : all_bare (plan_job n) (after_move (next_of (w.shape.pool (count_pool q (plan_count n))) q (RaiseCount n) Done) fs) + backs ((raised_world w q n fs).job (plan_job n)).at + one (plan_job n == plan_job n) ≤ hand_plan (plan_job n) n + bare_in (plan_job n) fs + backs (w.job (plan_job n)).at = bound (plan_job n) in
         let b : one (plan_job n == plan_job n) ≡ 1 = self_one (plan_job n) in
         let c : all_bare (plan_job n) (w.stack q) ≡ (hand_plan (plan_job n) n + bare_in (plan_job n) fs) = stack (plan_job n) in
         let d : all_bare (plan_job n) (w.stack q) ≤ is_loc (Hand q) (loc_at (w.job (plan_job n))) = in_hand in
@@ -208,14 +214,17 @@ raise_returns w q n fs z h s = returns_by w v q k (λ i. refl) (λ t c. by t c (
     by : (t : ℕ) → (v.job t).counted ≡ true → (b : Bool) → (t == plan_job n) ≡ b → (all_bare t k + backs (v.job t).at ≤ 0) × ((r : Party) → same_party r q ≡ false → all_bare t (w.stack r) ≤ 0)
     by t c true e = subst (λ t. (all_bare t k + backs (v.job t).at ≤ 0) × ((r : Party) → same_party r q ≡ false → all_bare t (w.stack r) ≤ 0)) (sym (eqb-true t (plan_job n) e)) (own, others)
     by t c false e = (
-      (let a : all_bare t (after_move (next_of (w.shape.pool (plan_pool n)) q (RaiseCount n) Done) fs) + backs ((raised_world w q n fs).job t).at + one (t == plan_job n) ≤ hand_plan t n + bare_in t fs + backs (w.job t).at = bound t in
+      (let a : all_bare t (after_move (next_of (w.shape.pool (count_pool q (plan_count n))) q (RaiseCount n) Done) fs) + backs ((raised_world w q n fs).job t).at + one (t == plan_job n) ≤ hand_plan t n + bare_in t fs + backs (w.job t).at = bound t in
           let b : all_bare t (w.stack q) ≡ (hand_plan t n + bare_in t fs) = stack t in
           let d : all_bare t (w.stack q) + backs (w.job t).at ≤ 0 = h.bare q t (sym (same t e) ∙ c) in omega (arith, a, b, d)),
       λ r y. (let d : all_bare t (w.stack r) + backs (w.job t).at ≤ 0 = h.bare r t (sym (same t e) ∙ c) in omega (arith, d)),
     )
 
 pub unpaid : (t : ℕ) (x : Place) → is_tally x ≡ false → paid t x ≡ 0
-unpaid t (LowerCount p s n) z = cc
+unpaid t (LowerCount (OfPool p) s n) z = cc
+unpaid t (LowerCount (OfScope c o) Body n) z = refl
+unpaid t (LowerCount (OfScope c o) PoolValue n) z = cc
+unpaid t (LowerCount (OfScope c o) (OfJob u) n) z = cc
 unpaid t (LowerForAll c) z = cc
 unpaid t _ z = refl
 
@@ -224,15 +233,15 @@ raise_either : (w : World) (q : Party) (n : Plan) (fs : List Place) → w.stack 
 raise_either w q n fs z h done f true = plain_returns w q (RaiseCount n) fs (Refused, place_part w q (RaiseCount n)) z (same_untallied (place_part w q (RaiseCount n)) Refused) (omega arith) refl (λ t. refl) h
 raise_either w q n fs z h done f false = f
 
-value_returns : (w : World) (q : Party) (p : ℕ) (n : Then) (fs : List Place) (e : Seen) → w.stack q ≡ record { top = LowerCount p PoolValue n; below = fs } → ReturnsHold w → SharesHold (lowered_world w q p PoolValue n fs e) → ReturnsHold (lowered_world w q p PoolValue n fs e)
-value_returns w q p n fs e z h s = returns_keep w (lowered_world w q p PoolValue n fs e) q (after_move (next_of (w.shape.pool p) q (LowerCount p PoolValue n) e) fs) (λ i. refl)
+value_returns : (w : World) (q : Party) (p : ℕ) (n : Then) (fs : List Place) (e : Seen) → w.stack q ≡ record { top = LowerCount (OfPool p) PoolValue n; below = fs } → ReturnsHold w → SharesHold (lowered_world w q (OfPool p) PoolValue n fs e) → ReturnsHold (lowered_world w q (OfPool p) PoolValue n fs e)
+value_returns w q p n fs e z h s = returns_keep w (lowered_world w q (OfPool p) PoolValue n fs e) q (after_move (next_of (w.shape.pool p) q (LowerCount (OfPool p) PoolValue n) e) fs) (λ i. refl)
     (λ t c. (
-      sym (after_counted q (next_of (w.shape.pool p) q (LowerCount p PoolValue n) e) (put w.job 0 (w.job 0)) t (lower_steady (w.shape.pool p) q p PoolValue n e) ∙ put_same (λ j. j.counted) w.job 0 (w.job 0) t refl) ∙ c,
-      (let a : all_bare t (after_move (next_of (w.shape.pool p) q (LowerCount p PoolValue n) e) fs) + backs ((lowered_world w q p PoolValue n fs e).job t).at ≤ bare_move t (next_of (w.shape.pool p) q (LowerCount p PoolValue n) e) + handed t (next_of (w.shape.pool p) q (LowerCount p PoolValue n) e) + bare_in t fs + backs (put w.job 0 (w.job 0) t).at = land_bare q t (next_of (w.shape.pool p) q (LowerCount p PoolValue n) e) fs (put w.job 0 (w.job 0)) in
+      sym (after_counted q (next_of (w.shape.pool p) q (LowerCount (OfPool p) PoolValue n) e) (put w.job 0 (w.job 0)) t (lower_steady (w.shape.pool p) q (OfPool p) PoolValue n e) ∙ put_same (λ j. j.counted) w.job 0 (w.job 0) t refl) ∙ c,
+      (let a : all_bare t (after_move (next_of (w.shape.pool p) q (LowerCount (OfPool p) PoolValue n) e) fs) + backs ((lowered_world w q (OfPool p) PoolValue n fs e).job t).at ≤ bare_move t (next_of (w.shape.pool p) q (LowerCount (OfPool p) PoolValue n) e) + handed t (next_of (w.shape.pool p) q (LowerCount (OfPool p) PoolValue n) e) + bare_in t fs + backs (put w.job 0 (w.job 0) t).at = land_bare q t (next_of (w.shape.pool p) q (LowerCount (OfPool p) PoolValue n) e) fs (put w.job 0 (w.job 0)) in
           let b : backs (put w.job 0 (w.job 0) t).at ≤ backs (w.job t).at = put_backs w.job 0 (w.job 0) t (omega arith) in
-          let d : bare_move t (next_of (w.shape.pool p) q (LowerCount p PoolValue n) e) ≤ bare t (LowerCount p PoolValue n) + 0 = bares (w.shape.pool p) q t (LowerCount p PoolValue n) e in
-          let f : all_bare t (w.stack q) ≡ (bare t (LowerCount p PoolValue n) + bare_in t fs) = ap (all_bare t) z in
-          let g : handed t (next_of (w.shape.pool p) q (LowerCount p PoolValue n) e) ≡ 0 = none_handed t (next_of (w.shape.pool p) q (LowerCount p PoolValue n) e) (lower_steady (w.shape.pool p) q p PoolValue n e) in omega (arith, a, b, d, f, g)),
+          let d : bare_move t (next_of (w.shape.pool p) q (LowerCount (OfPool p) PoolValue n) e) ≤ bare t (LowerCount (OfPool p) PoolValue n) + 0 = bares (w.shape.pool p) q t (LowerCount (OfPool p) PoolValue n) e in
+          let f : all_bare t (w.stack q) ≡ (bare t (LowerCount (OfPool p) PoolValue n) + bare_in t fs) = ap (all_bare t) z in
+          let g : handed t (next_of (w.shape.pool p) q (LowerCount (OfPool p) PoolValue n) e) ≡ 0 = none_handed t (next_of (w.shape.pool p) q (LowerCount (OfPool p) PoolValue n) e) (lower_steady (w.shape.pool p) q (OfPool p) PoolValue n e) in omega (arith, a, b, d, f, g)),
     )) h s
 
 plain_act : (w : World) (q : Party) (x : Place) (fs : List Place) → w.stack q ≡ record { top = x; below = fs } → is_tally x ≡ false → ReturnsHold w → IfSome (outcome w q (record { top = x; below = fs })) (λ r. SharesHold (world_after w q x fs r) → ReturnsHold (world_after w q x fs r))
@@ -344,12 +353,20 @@ all_either w q c fs none done f true = none
 all_either w q c fs none done f false = f
 
 go_by : (w : World) (q : Party) (x : Place) (fs : List Place) → w.stack q ≡ record { top = x; below = fs } → ReturnsHold w → IfSome (outcome w q (record { top = x; below = fs })) (λ r. SharesHold (world_after w q x fs r) → ReturnsHold (world_after w q x fs r))
-go_by w (Worker a b) (RaiseCount n) fs z h = raise_either w (Worker a b) n fs z h _ (raise_returns w (Worker a b) n fs z h) ((w.pool (plan_pool n)).count == 0)
-go_by w (Worker a b) (LowerCount p (OfJob u) n) fs z h = lower_returns w (Worker a b) p u n fs (if (w.pool p).count == 1 then Yes else No) z h
-go_by w (Worker a b) (LowerCount p PoolValue n) fs z h = value_returns w (Worker a b) p n fs (if (w.pool p).count == 1 then Yes else No) z h
-go_by w (Caller c) (RaiseCount n) fs z h = raise_either w (Caller c) n fs z h _ (raise_returns w (Caller c) n fs z h) ((w.pool (plan_pool n)).count == 0)
-go_by w (Caller c) (LowerCount p (OfJob u) n) fs z h = lower_returns w (Caller c) p u n fs (if (w.pool p).count == 1 then Yes else No) z h
-go_by w (Caller c) (LowerCount p PoolValue n) fs z h = value_returns w (Caller c) p n fs (if (w.pool p).count == 1 then Yes else No) z h
+go_by w (Worker a b) (RaiseCount n) fs z h = raise_either w (Worker a b) n fs z h _ (raise_returns w (Worker a b) n fs z h) (count_in (place_part w (Worker a b) (RaiseCount n)) (plan_count n) == 0)
+go_by w (Worker a b) (LowerCount (OfPool r) (OfJob u) n) fs z h = lower_returns w (Worker a b) (OfPool r) u n fs (if count_in (place_part w (Worker a b) (LowerCount (OfPool r) (OfJob u) n)) (OfPool r) == 1 then Yes else No) z h
+go_by w (Worker a b) (LowerCount (OfScope x o) (OfJob u) n) fs z h = lower_returns w (Worker a b) (OfScope x o) u n fs (if count_in (place_part w (Worker a b) (LowerCount (OfScope x o) (OfJob u) n)) (OfScope x o) == 1 then Yes else No) z h
+go_by w (Worker a b) (LowerCount (OfPool r) PoolValue n) fs z h = value_returns w (Worker a b) r n fs (if count_in (place_part w (Worker a b) (LowerCount (OfPool r) PoolValue n)) (OfPool r) == 1 then Yes else No) z h
+go_by w (Worker a b) (LowerCount (OfPool r) Body n) fs z h = absurd (let s : SaysThen w (Worker a b) n × SaysShare w (OfPool r) Body n = top_says w (Worker a b) (LowerCount (OfPool r) Body n) fs ((h.shares).calls) z in s.1)
+go_by w (Worker a b) (LowerCount (OfScope x o) PoolValue n) fs z h = absurd (let s : SaysThen w (Worker a b) n × SaysShare w (OfScope x o) PoolValue n = top_says w (Worker a b) (LowerCount (OfScope x o) PoolValue n) fs ((h.shares).calls) z in s.1)
+go_by w (Worker a b) (LowerCount (OfScope x o) Body n) fs z h = plain_act w (Worker a b) (LowerCount (OfScope x o) Body n) fs z refl h
+go_by w (Caller c) (RaiseCount n) fs z h = raise_either w (Caller c) n fs z h _ (raise_returns w (Caller c) n fs z h) (count_in (place_part w (Caller c) (RaiseCount n)) (plan_count n) == 0)
+go_by w (Caller c) (LowerCount (OfPool r) (OfJob u) n) fs z h = lower_returns w (Caller c) (OfPool r) u n fs (if count_in (place_part w (Caller c) (LowerCount (OfPool r) (OfJob u) n)) (OfPool r) == 1 then Yes else No) z h
+go_by w (Caller c) (LowerCount (OfScope x o) (OfJob u) n) fs z h = lower_returns w (Caller c) (OfScope x o) u n fs (if count_in (place_part w (Caller c) (LowerCount (OfScope x o) (OfJob u) n)) (OfScope x o) == 1 then Yes else No) z h
+go_by w (Caller c) (LowerCount (OfPool r) PoolValue n) fs z h = value_returns w (Caller c) r n fs (if count_in (place_part w (Caller c) (LowerCount (OfPool r) PoolValue n)) (OfPool r) == 1 then Yes else No) z h
+go_by w (Caller c) (LowerCount (OfPool r) Body n) fs z h = absurd (let s : SaysThen w (Caller c) n × SaysShare w (OfPool r) Body n = top_says w (Caller c) (LowerCount (OfPool r) Body n) fs ((h.shares).calls) z in s.1)
+go_by w (Caller c) (LowerCount (OfScope x o) PoolValue n) fs z h = absurd (let s : SaysThen w (Caller c) n × SaysShare w (OfScope x o) PoolValue n = top_says w (Caller c) (LowerCount (OfScope x o) PoolValue n) fs ((h.shares).calls) z in s.1)
+go_by w (Caller c) (LowerCount (OfScope x o) Body n) fs z h = plain_act w (Caller c) (LowerCount (OfScope x o) Body n) fs z refl h
 go_by w (Worker a b) (RaiseForAll c) fs z h = all_either w (Worker a b) c fs (λ s. back_returns w (Worker a b) c fs z h s refl) _ (raised_returns w (Worker a b) c fs z h) ((w.pool c.pool).count == 0)
 go_by w (Worker a b) (LowerForAll c) fs z h = lowered_returns w (Worker a b) c fs (if (w.pool c.pool).count == c.workers then Yes else No) z h
 go_by w (Caller g) (RaiseForAll c) fs z h = all_either w (Caller g) c fs (λ s. back_returns w (Caller g) c fs z h s refl) _ (raised_returns w (Caller g) c fs z h) ((w.pool c.pool).count == 0)
@@ -372,6 +389,8 @@ from_returns w q _ fs v z h = tt
 
 refuse_returns : (w : World) (q : Party) (x : Place) (fs : List Place) → w.stack q ≡ record { top = x; below = fs } → ReturnsHold w → IfSome (after_refusal w q (record { top = x; below = fs })) (λ u. SharesHold u → ReturnsHold u)
 refuse_returns w q (GrowCall n) fs z h = λ a. seen_returns w q (w.shape.pool (own_pool q)) (GrowCall n) fs Refused z refl h a
+refuse_returns w q (GrowScope o) fs z h = λ a. seen_returns w q (w.shape.pool (own_pool q)) (GrowScope o) fs Refused z refl h a
+refuse_returns w q (OpenSlot o) fs z h = λ a. seen_returns w q (w.shape.pool (own_pool q)) (OpenSlot o) fs Refused z refl h a
 refuse_returns w q (AddToFifo f) fs z h = λ a. seen_returns w q (w.shape.pool (own_pool q)) (AddToFifo f) fs Refused z refl h a
 refuse_returns w q (PushToken f v) fs z h = λ a. seen_returns w q (w.shape.pool (own_pool q)) (PushToken f v) fs Refused z refl h a
 refuse_returns w q (PushForAll c) fs z h = λ a. seen_returns w q (w.shape.pool (own_pool q)) (PushForAll c) fs Refused z refl h a
@@ -390,8 +409,8 @@ end_returns w q d (Run t k) fs z h = λ s. returns_keep w (ended_world w q d t k
 end_returns w q d _ fs z h = tt
 
 -- a call begins: its jobs are new, and have no share yet
-made_returns : (w : World) (q : Party) (n : Plan) (C : ℕ → Call) (J : ℕ → Job) (c j : ℕ) → ((t : ℕ) → t + 1 ≤ w.jobs → hand_plan t n ≤ 0) → ((t : ℕ) → (J t).counted ≡ (w.job t).counted) → ((t : ℕ) → backs (J t).at ≤ backs (w.job t).at) → ReturnsHold w → SharesHold (calling w q n C J c j) → ReturnsHold (calling w q n C J c j)
-made_returns w q n C J c j new co ba h s = returns_keep w (calling w q n C J c j) q (after_call (w.stack q) (RaiseCount n)) (λ r. refl) (λ t e. (sym (co t) ∙ e, (let a : hand_plan t n ≤ 0 = new t (old t (sym (co t) ∙ e)) in let b : backs (J t).at ≤ backs (w.job t).at = ba t in omega (arith, a, b)))) h s
+made_returns : (w : World) (q : Party) (n : Plan) (C : ℕ → Call) (J : ℕ → Job) (c j : ℕ) (l : List Scope) → ((t : ℕ) → t + 1 ≤ w.jobs → hand_plan t n ≤ 0) → ((t : ℕ) → (J t).counted ≡ (w.job t).counted) → ((t : ℕ) → backs (J t).at ≤ backs (w.job t).at) → ReturnsHold w → SharesHold (record (calling w q n C J c j) { scopes = l }) → ReturnsHold (record (calling w q n C J c j) { scopes = l })
+made_returns w q n C J c j l new co ba h s = returns_keep w (record (calling w q n C J c j) { scopes = l }) q (after_call (w.stack q) (RaiseCount n)) (λ r. refl) (λ t e. (sym (co t) ∙ e, (let a : hand_plan t n ≤ 0 = new t (old t (sym (co t) ∙ e)) in let b : backs (J t).at ≤ backs (w.job t).at = ba t in omega (arith, a, b)))) h s
   where
     old : (t : ℕ) → (w.job t).counted ≡ true → t + 1 ≤ w.jobs
     old t e = elim (either (ltb t w.jobs)) [ inl y ↦ (let b : t < w.jobs = ltb-true t w.jobs y in omega (arith, b)) | inr y ↦ absurd (let b : (w.job t).counted ≡ false = (h.shares).unmade t (ltb-false t w.jobs y) in cc) ]
@@ -403,18 +422,24 @@ new_counted : (w : World) (q : Party) (p : ℕ) (k : JobKind) → ReturnsHold w 
 new_counted w q p k h t = put_same (λ j. j.counted) w.job w.jobs (new_job q p k) t (sym ((h.shares).unmade w.jobs (omega arith)))
 
 spawn_returns : (w : World) (q : Party) (p : ℕ) → ReturnsHold w → IfSome (after_spawn w q p (w.stack q)) (λ u. SharesHold u → ReturnsHold u)
-spawn_returns w q p h = if_cond (λ u. SharesHold u → ReturnsHold u) (is_free ((w.stack q).top) && is_pool w.shape p) _ (λ f s. made_returns w q (Detach p w.jobs) w.call (put w.job w.jobs (new_job q p (Detached p))) w.calls (w.jobs + 1) (λ t b. new_hand t w.jobs b) (new_counted w q p (Detached p) h) (λ t. put_backs w.job w.jobs (new_job q p (Detached p)) t (omega arith)) h s)
+spawn_returns w q p h = if_cond (λ u. SharesHold u → ReturnsHold u) (is_free ((w.stack q).top) && is_pool w.shape p) _ (λ f s. made_returns w q (Detach p w.jobs) w.call (put w.job w.jobs (new_job q p (Detached p))) w.calls (w.jobs + 1) w.scopes (λ t b. new_hand t w.jobs b) (new_counted w q p (Detached p) h) (λ t. put_backs w.job w.jobs (new_job q p (Detached p)) t (omega arith)) h s)
 
 sent_returns : (w : World) (q : Party) (p : ℕ) (b : Bool) → ReturnsHold w → SharesHold (after_send w q p (w.stack q) b) → ReturnsHold (after_send w q p (w.stack q) b)
-sent_returns w q p true h s = made_returns w q (Here p w.jobs) w.call (put w.job w.jobs (new_job q p Direct)) w.calls (w.jobs + 1) (λ t b. new_hand t w.jobs b) (new_counted w q p Direct h) (λ t. put_backs w.job w.jobs (new_job q p Direct) t (omega arith)) h s
-sent_returns w q p false h s = made_returns w q (Send (record { number = w.calls; pool = p; job = w.jobs })) (put w.call w.calls (new_call None w.jobs)) (put w.job w.jobs (new_job q p (Stored w.calls q))) (w.calls + 1) (w.jobs + 1) (λ t b. new_hand t w.jobs b) (new_counted w q p (Stored w.calls q) h) (λ t. put_backs w.job w.jobs (new_job q p (Stored w.calls q)) t (omega arith)) h s
+sent_returns w q p true h s = made_returns w q (Here p w.jobs) w.call (put w.job w.jobs (new_job q p Direct)) w.calls (w.jobs + 1) w.scopes (λ t b. new_hand t w.jobs b) (new_counted w q p Direct h) (λ t. put_backs w.job w.jobs (new_job q p Direct) t (omega arith)) h s
+sent_returns w q p false h s = made_returns w q (Send (record { number = w.calls; pool = p; job = w.jobs })) (put w.call w.calls (new_call None w.jobs)) (put w.job w.jobs (new_job q p (Stored w.calls q))) (w.calls + 1) (w.jobs + 1) w.scopes (λ t b. new_hand t w.jobs b) (new_counted w q p (Stored w.calls q) h) (λ t. put_backs w.job w.jobs (new_job q p (Stored w.calls q)) t (omega arith)) h s
+
+scope_returns : (w : World) (q : Party) (p : ℕ) → ReturnsHold w → IfSome (after_scope w q p (w.stack q)) (λ u. SharesHold u → ReturnsHold u)
+scope_returns w q p h = if_cond (λ u. SharesHold u → ReturnsHold u) (is_free ((w.stack q).top) && is_pool w.shape p) _ (λ f s. made_returns w q (Open (record { number = w.calls; pool = p; job = w.jobs })) (put w.call w.calls (new_call None w.jobs)) (put w.job w.jobs (new_job q p (BodyOf w.calls q))) (w.calls + 1) (w.jobs + 1) (w.scopes ++ record { call = w.calls; pool = p; owner = q } ∷ []) (λ t b. new_hand t w.jobs b) (new_counted w q p (BodyOf w.calls q) h) (λ t. put_backs w.job w.jobs (new_job q p (BodyOf w.calls q)) t (omega arith)) h s)
+
+into_returns : (w : World) (q : Party) (n : ℕ) → ReturnsHold w → IfSome (after_into w q n (w.stack q)) (λ u. SharesHold u → ReturnsHold u)
+into_returns w q n h = into_cases (λ u. SharesHold u → ReturnsHold u) w q n (λ z e free held. if_cond (λ u. SharesHold u → ReturnsHold u) (is_free ((w.stack q).top) && holds z.call (w.stack q)) _ (λ f s. made_returns w q (Enter (record { call = z.call; owner = z.owner; pool = z.pool; job = w.jobs })) w.call (put w.job w.jobs (new_job q z.pool (Scoped z.call z.owner))) w.calls (w.jobs + 1) w.scopes (λ t b. new_hand t w.jobs b) (new_counted w q (z.pool) (Scoped z.call z.owner) h) (λ t. put_backs w.job w.jobs (new_job q z.pool (Scoped z.call z.owner)) t (omega arith)) h s))
 
 install_returns : (w : World) (q : Party) (p : ℕ) → ReturnsHold w → IfSome (after_install w q p (w.stack q)) (λ u. SharesHold u → ReturnsHold u)
 install_returns w q p h = if_cond (λ u. SharesHold u → ReturnsHold u) (is_free ((w.stack q).top) && is_pool w.shape p) _ (λ f s. sent_returns w q p (is_member q p) h s)
 
 join_returns : (w : World) (q : Party) → ReturnsHold w → IfSome (after_join w q (w.stack q)) (λ u. SharesHold u → ReturnsHold u)
 join_returns w (Caller n) h = tt
-join_returns w (Worker p i) h = if_cond (λ u. SharesHold u → ReturnsHold u) (is_free ((w.stack (Worker p i)).top)) _ (λ f s. made_returns w (Worker p i) (Fork (record { number = w.calls; pool = p; job = w.jobs + 1 }) w.jobs) (put w.call w.calls (new_call (Some w.jobs) (w.jobs + 1))) (put (put w.job w.jobs (new_job (Worker p i) p Direct)) (w.jobs + 1) (new_job (Worker p i) p (Stored w.calls (Worker p i)))) (w.calls + 1) (w.jobs + 2) new counted back h s)
+join_returns w (Worker p i) h = if_cond (λ u. SharesHold u → ReturnsHold u) (is_free ((w.stack (Worker p i)).top)) _ (λ f s. made_returns w (Worker p i) (Fork (record { number = w.calls; pool = p; job = w.jobs + 1 }) w.jobs) (put w.call w.calls (new_call (Some w.jobs) (w.jobs + 1))) (put (put w.job w.jobs (new_job (Worker p i) p Direct)) (w.jobs + 1) (new_job (Worker p i) p (Stored w.calls (Worker p i)))) (w.calls + 1) (w.jobs + 2) w.scopes new counted back h s)
   where
     J1 : ℕ → Job
     J1 = put w.job w.jobs (new_job (Worker p i) p Direct)
@@ -442,7 +467,7 @@ cast_returns w q p h = if_cond (λ u. SharesHold u → ReturnsHold u) (is_free (
     each t false e d = (d, (let a : one (is_piece c t) ≡ 0 = ap one e in omega (arith, a)))
 
 feed_returns : (w : World) (p i : ℕ) → ReturnsHold w → SharesHold (after_feed w p i (w.stack (Worker p i))) → ReturnsHold (after_feed w p i (w.stack (Worker p i)))
-feed_returns w p i h s = made_returns w (Worker p i) (Feed (record { pool = p; job = w.jobs; token = w.jobs + 1 })) w.call (put J1 (w.jobs + 1) (new_job (Worker p i) p (TokenOf i))) w.calls (w.jobs + 2) new counted back h s
+feed_returns w p i h s = made_returns w (Worker p i) (Feed (record { pool = p; job = w.jobs; token = w.jobs + 1 })) w.call (put J1 (w.jobs + 1) (new_job (Worker p i) p (TokenOf i))) w.calls (w.jobs + 2) w.scopes new counted back h s
   where
     J1 : ℕ → Job
     J1 = put w.job w.jobs (new_job (Worker p i) p (Detached p))
@@ -461,7 +486,7 @@ yield_returns w (Worker a b) x n h = if_cond (λ u. SharesHold u → ReturnsHold
 yield_returns w (Caller c) x n h = tt
 
 give_returns : (w : World) (q : Party) (p : ℕ) → ReturnsHold w → IfSome (after_end_pool w q p (w.stack q)) (λ u. SharesHold u → ReturnsHold u)
-give_returns w q p h = if_cond (λ u. SharesHold u → ReturnsHold u) (is_free ((w.stack q).top) && (is_pool w.shape p && (w.pool p).held)) _ (λ f s. moved_returns w (record w { stack = put_stack w.stack q (after_call (w.stack q) (LowerCount p PoolValue Resume)); pool = put w.pool p (record (w.pool p) { held = false }) }) q (after_call (w.stack q) (LowerCount p PoolValue Resume)) (λ r. refl) (λ t. refl) (λ t. omega arith) h s)
+give_returns w q p h = if_cond (λ u. SharesHold u → ReturnsHold u) (is_free ((w.stack q).top) && (is_pool w.shape p && (w.pool p).held)) _ (λ f s. moved_returns w (record w { stack = put_stack w.stack q (after_call (w.stack q) (LowerCount (OfPool p) PoolValue Resume)); pool = put w.pool p (record (w.pool p) { held = false }) }) q (after_call (w.stack q) (LowerCount (OfPool p) PoolValue Resume)) (λ r. refl) (λ t. refl) (λ t. omega arith) h s)
 
 go_returns : (w : World) (q : Party) → ReturnsHold w → IfSome (step w (Go q)) (λ u. SharesHold u → ReturnsHold u)
 go_returns w q h = acted_keeps w q (w.stack q) (target_pool q (act_of q ((w.stack q).top))) (target_worker q (act_of q ((w.stack q).top))) (target_call (act_of q ((w.stack q).top))) (job_at w q (act_of q ((w.stack q).top))) (outcome w q (w.stack q)) (λ u. SharesHold u → ReturnsHold u) (go_by w q ((w.stack q).top) ((w.stack q).below) refl h)
@@ -477,6 +502,8 @@ each_returns w (Fifo q p) h = fifo_cases (λ u. SharesHold u → ReturnsHold u) 
 each_returns w (Cast q p) h = cast_returns w q p h
 each_returns w (Install q p) h = install_returns w q p h
 each_returns w (Join q) h = join_returns w q h
+each_returns w (OpenScope q p) h = scope_returns w q p h
+each_returns w (IntoSpawn q n) h = into_returns w q n h
 each_returns w (Yield q) h = yield_returns w q YieldPop (λ t. refl) h
 each_returns w (YieldLocal q) h = yield_returns w q LocalPop (λ t. refl) h
 each_returns w (EndPool q p) h = give_returns w q p h
@@ -500,6 +527,7 @@ some_then e = cc
 
 settles_bare : (t : ℕ) (x : Place) (n : Then) → after_settling x ≡ Some n → bare t x ≡ bare_then t n
 settles_bare t (SetLatch k) n z = ap (bare_then t) (some_then z)
+settles_bare t (SetLockLatch c k) n z = ap (bare_then t) (some_then z)
 settles_bare t (LockToSettle k) n z = ap (bare_then t) (some_then z)
 settles_bare t (WakeSettled k) n z = ap (bare_then t) (some_then z)
 settles_bare t (UnlockSettled k) n z = ap (bare_then t) (some_then z)
@@ -515,6 +543,8 @@ going w h q n f = each n f
     each (Detach p t) f = job t (let a : one (t == t) ≤ all_bare t (w.stack q) = f t in let b : one (t == t) ≡ 1 = self_one t in omega (arith, a, b))
     each (Here p t) f = job t (let a : one (t == t) ≤ all_bare t (w.stack q) = f t in let b : one (t == t) ≡ 1 = self_one t in omega (arith, a, b))
     each (Send o) f = job (o.job) (let a : one (o.job == o.job) ≤ all_bare (o.job) (w.stack q) = f (o.job) in let b : one (o.job == o.job) ≡ 1 = self_one (o.job) in omega (arith, a, b))
+    each (Open o) f = job (o.job) (let a : one (o.job == o.job) ≤ all_bare (o.job) (w.stack q) = f (o.job) in let b : one (o.job == o.job) ≡ 1 = self_one (o.job) in omega (arith, a, b))
+    each (Enter o) f = job (o.job) (let a : one (o.job == o.job) ≤ all_bare (o.job) (w.stack q) = f (o.job) in let b : one (o.job == o.job) ≡ 1 = self_one (o.job) in omega (arith, a, b))
     each (Feed d) f = (
       job (d.job) (let a : one (d.job == d.job) + one (d.job == d.token) ≤ all_bare (d.job) (w.stack q) = f (d.job) in let b : one (d.job == d.job) ≡ 1 = self_one (d.job) in omega (arith, a, b)),
       job (d.token) (let a : one (d.token == d.job) + one (d.token == d.token) ≤ all_bare (d.token) (w.stack q) = f (d.token) in let b : one (d.token == d.token) ≡ 1 = self_one (d.token) in omega (arith, a, b)),

@@ -1,4 +1,6 @@
 -- each act keeps the shares and their sum
+use Rattle.rayon_machine_places.specs.declared.place.Share.TheVariants.{PoolValue, OfJob, Body}
+use Rattle.rayon_machine_places.specs.declared.place.Count.TheVariants.{OfPool, OfScope}
 use Rattle.std.proofs.Common.{rules, arith, refl, sym, ◌∙◌, ap, subst}
 use Rattle.std.specs.Prelude.{ℕ, Bool, true, false, ◌+◌, ◌==◌, ◌≤◌, if◌then◌else◌, Option, Some, None, List, [], ◌∷◌, ◌++◌, ◌≡◌, IfSome, ◌&&◌, ⊤}
 use Rattle.std.proofs.lemmas.Bool.{eq-eqb}
@@ -8,7 +10,7 @@ use Rattle.rayon_machine_places.specs.declared.place.Party.TheVariants.{Worker, 
 use Rattle.rayon_machine_places.specs.declared.place.Latch.{Latch}
 use Rattle.rayon_machine_places.specs.declared.place.Latch.TheVariants.{Terminate, OfCall}
 use Rattle.rayon_machine_places.specs.declared.place.Plan.{Plan}
-use Rattle.rayon_machine_places.specs.declared.place.Plan.TheVariants.{Detach, Here, Send, Fork, Feed}
+use Rattle.rayon_machine_places.specs.declared.place.Plan.TheVariants.{Detach, Here, Send, Fork, Feed, Open, Enter}
 use Rattle.rayon_machine_places.specs.declared.place.Taken.TheVariants.{Plain, Token}
 use Rattle.rayon_machine_places.specs.declared.place.Place.{Place}
 use Rattle.rayon_machine_places.specs.declared.place.Place.TheVariants.{ProbeWorking, PopWorking, TakeCastWorking, PopIdle, TakeCastIdle, StealFrom, PopInjected, GetSleepy, FallAsleep, WakeUp, JoinPop, JoinTakeCast, YieldPop, YieldTakeCast, YieldSteal, YieldPopInjected, LocalPop, LocalTakeCast, BeginTask, BeginHere, RaiseCount, PushJob, LowerCount, SetLatch, PushToken, AddToFifo, TakeFromFifo, RaiseForAll, PushForAll, LowerForAll}
@@ -20,7 +22,7 @@ use Rattle.rayon_machine_places.specs.declared.state.Letter.TheVariants.{Set as 
 use Rattle.rayon_machine_places.specs.declared.state.Whereabouts.{Whereabouts}
 use Rattle.rayon_machine_places.specs.declared.state.Whereabouts.TheVariants.{Nowhere, Made, InDeque, Injected, InFifo, Retaken, InCast}
 use Rattle.rayon_machine_places.specs.declared.state.Job.{Job}
-use Rattle.rayon_machine_places.specs.Places.{own_pool, own_index, is_member, latch_of, plan_pool, plan_job, act_of, taken_number}
+use Rattle.rayon_machine_places.specs.Places.{own_pool, own_index, is_member, latch_of, plan_pool, plan_job, act_of, taken_number, plan_book}
 use Rattle.rayon_machine_places.specs.World.{Shape, World, Counts, counts_at, Part, target_pool, target_worker, target_call, head_of, but_first, own_of, own_left, or_none, but_last, letter, with_letter, at_job, popped, take_cast, pop_injector, effect, is_open}
 use Rattle.rayon_machine_places.specs.Steps.{part_of}
 use Rattle.rayon_machine_laws.specs.Once.{one, times, in_deque, in_injector, IsOnce, in_fifo, in_cast}
@@ -66,10 +68,11 @@ pub one_not : (b : Bool) → one b ≤ 0 → b ≡ false
 one_not true h = absurd (omega arith)
 one_not false h = refl
 
--- places whose acts change the count
+-- places whose acts change a pool's count, or take or give back a job's share
 abbrev pub is_tally : Place → Bool
 is_tally (RaiseCount n) = true
-is_tally (LowerCount p s n) = true
+is_tally (LowerCount (OfScope c o) Body n) = false
+is_tally (LowerCount k s n) = true
 is_tally (RaiseForAll c) = true
 is_tally (LowerForAll c) = true
 is_tally _ = false
@@ -92,8 +95,16 @@ act_untallied h (Worker a b) c m (GetSleepy k) z = sleepy_keeps (latch_of k.targ
 act_untallied h (Worker a b) c m (FallAsleep k) z = asleep_keeps (latch_of k.target) Untallied same_untallied (λ v e y n. letter_untallied (latch_of k.target) v e y) m (letter (latch_of k.target) m)
 act_untallied h (Worker a b) c m (WakeUp k) z = wake_keeps (latch_of k.target) Untallied same_untallied (λ v e y n. letter_untallied (latch_of k.target) v e y) m (letter (latch_of k.target) m)
 act_untallied h (Worker a b) c m (SetLatch k) z = set_keeps k.latch Untallied (λ v e. letter_untallied k.latch v e IsSet) m (letter k.latch m)
+act_untallied h (Worker a b) c m (LowerCount (OfPool p) s n) z = cc
+act_untallied h (Worker a b) c m (LowerCount (OfScope d o) PoolValue n) z = cc
+act_untallied h (Worker a b) c m (LowerCount (OfScope d o) (OfJob t) n) z = cc
+act_untallied h (Worker a b) c m (LowerCount (OfScope d o) Body n) z = record { job = refl; pool = refl; count = refl }
 act_untallied h (Worker a b) c m _ z = first_of (cc, search (rules, arith))
 act_untallied h (Caller n) c m (SetLatch k) z = set_keeps k.latch Untallied (λ v e. letter_untallied k.latch v e IsSet) m (letter k.latch m)
+act_untallied h (Caller n) c m (LowerCount (OfPool p) s y) z = cc
+act_untallied h (Caller n) c m (LowerCount (OfScope d o) PoolValue y) z = cc
+act_untallied h (Caller n) c m (LowerCount (OfScope d o) (OfJob t) y) z = cc
+act_untallied h (Caller n) c m (LowerCount (OfScope d o) Body y) z = record { job = refl; pool = refl; count = refl }
 act_untallied h (Caller n) c m _ z = first_of (cc, search (rules, arith))
 
 -- a take is of a job that its list had
@@ -163,14 +174,16 @@ cast_taken w h p i t e = subst (λ o. is_left (w.job (or_none o)).at ≡ true) (
 
 push_stays : (w : World) (q : Party) (n : Plan) (v : Bool) (m m' : Part) → SaysPlan w q n → m.job ≡ w.job (plan_job n) → Stays m (PushJob n v) (plan_job n) (Done, m')
 push_stays w q (Detach p t) v m m' s e y z = let a : one (t == t) ≡ 1 = ap one (eq-eqb t t refl) in let b : one (is_busy m'.job.at) ≤ 1 = one_most (is_busy m'.job.at) in omega (arith, a, b)
+push_stays w q (Enter x) v m m' s e y z = let a : one (x.job == x.job) ≡ 1 = ap one (eq-eqb x.job x.job refl) in let b : one (is_busy m'.job.at) ≤ 1 = one_most (is_busy m'.job.at) in omega (arith, a, b)
+push_stays w q (Open o) v m m' s e y z = absurd (let a : is_detached m.job.kind ≡ false = ap (λ j. is_detached (j.kind)) e ∙ ap is_detached ((s.0).kind) in cc)
 push_stays w q (Feed f) v m m' s e y z = let a : one (f.job == f.job) ≡ 1 = ap one (eq-eqb f.job f.job refl) in let b : one (is_busy m'.job.at) ≤ 1 = one_most (is_busy m'.job.at) in omega (arith, a, b)
 push_stays w q (Here p t) v m m' s e y z = absurd (let a : is_detached m.job.kind ≡ false = ap (λ j. is_detached (j.kind)) e ∙ ap is_detached (s.kind) in cc)
 push_stays w q (Send o) v m m' s e y z = absurd (let a : is_detached m.job.kind ≡ false = ap (λ j. is_detached (j.kind)) e ∙ ap is_detached ((s.0).kind) in cc)
 push_stays w q (Fork o f) v m m' s e y z = absurd (let a : is_detached m.job.kind ≡ false = ap (λ j. is_detached (j.kind)) e ∙ ap is_detached ((s.0).kind) in cc)
 
-push_act_stays : (w : World) (q : Party) (n : Plan) (v z : Bool) → SaysPlan w q n → IfSome (outcome_of w q (if z then PushOwn (plan_job n) else PushInj (plan_pool n) (plan_job n))) (Stays (part_of w (target_pool q (if z then PushOwn (plan_job n) else PushInj (plan_pool n) (plan_job n))) (target_worker q (if z then PushOwn (plan_job n) else PushInj (plan_pool n) (plan_job n))) (target_call (if z then PushOwn (plan_job n) else PushInj (plan_pool n) (plan_job n))) (job_at w q (if z then PushOwn (plan_job n) else PushInj (plan_pool n) (plan_job n)))) (PushJob n v) (job_at w q (if z then PushOwn (plan_job n) else PushInj (plan_pool n) (plan_job n))))
-push_act_stays w q n v true s = let m : Part = part_of w (own_pool q) (own_index q) 0 (plan_job n) in push_stays w q n v m (record m { seat = record (m.seat) { own = m.seat.own ++ plan_job n ∷ [] }; job = at_job (m.job) (InDeque (own_pool q) (own_index q)) }) s refl
-push_act_stays w q n v false s = let m : Part = part_of w (plan_pool n) (own_index q) 0 (plan_job n) in push_stays w q n v m (record m { pool = record (m.pool) { injector = m.pool.injector ++ plan_job n ∷ [] }; job = at_job (m.job) (Injected (plan_pool n)) }) s refl
+push_act_stays : (w : World) (q : Party) (n : Plan) (v z : Bool) → SaysPlan w q n → IfSome (outcome_of w q (if z then PushOwn (plan_job n) (plan_book n) else PushInj (plan_pool n) (plan_job n) (plan_book n))) (Stays (part_of w (target_pool q (if z then PushOwn (plan_job n) (plan_book n) else PushInj (plan_pool n) (plan_job n) (plan_book n))) (target_worker q (if z then PushOwn (plan_job n) (plan_book n) else PushInj (plan_pool n) (plan_job n) (plan_book n))) (target_call (if z then PushOwn (plan_job n) (plan_book n) else PushInj (plan_pool n) (plan_job n) (plan_book n))) (job_at w q (if z then PushOwn (plan_job n) (plan_book n) else PushInj (plan_pool n) (plan_job n) (plan_book n)))) (PushJob n v) (job_at w q (if z then PushOwn (plan_job n) (plan_book n) else PushInj (plan_pool n) (plan_job n) (plan_book n))))
+push_act_stays w q n v true s = let m : Part = part_of w (own_pool q) (own_index q) (or_none (plan_book n)) (plan_job n) in push_stays w q n v m (record m { seat = record (m.seat) { own = m.seat.own ++ plan_job n ∷ [] }; job = at_job (m.job) (InDeque (own_pool q) (own_index q)) }) s refl
+push_act_stays w q n v false s = let m : Part = part_of w (plan_pool n) (own_index q) (or_none (plan_book n)) (plan_job n) in push_stays w q n v m (record m { pool = record (m.pool) { injector = m.pool.injector ++ plan_job n ∷ [] }; job = at_job (m.job) (Injected (plan_pool n)) }) s refl
 
 quiet_stays : (h : Shape) (q : Party) (c : Counts) (m : Part) (x : Place) (n : ℕ) → moves_no_job x ≡ true → IfSome (effect (act_of q x) h q c m) (Stays m x n)
 quiet_stays h q c m x n z = if_some_map (SameJobs m) (Stays m x n) (λ r s. same_stays m x n r (s.at)) (effect (act_of q x) h q c m) (quiet_same h q c m x z)

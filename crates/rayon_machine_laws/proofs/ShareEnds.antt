@@ -1,32 +1,33 @@
 -- the end of a run and the making of calls keep the shares; each step does; and so no pool ends early
 use Rattle.rayon_machine_places.specs.declared.place.Pieces.{Pieces}
+use Rattle.rayon_machine_places.specs.declared.state.Scope.{Scope}
 use Rattle.std.proofs.Common.{arith, refl, sym, ◌∙◌, ap, subst, inl, inr}
-use Rattle.std.specs.Prelude.{ℕ, Bool, true, false, ◌&&◌, ◌+◌, ◌==◌, ◌≤◌, ◌<◌, nat_lt, if◌then◌else◌, Some, None, List, [], ◌∷◌, ◌≡◌, IfSome, ◌-◌}
-use Rattle.std.proofs.lemmas.Bool.{eqb-true, eq-eqb, ltb-true, ltb-false}
+use Rattle.std.specs.Prelude.{ℕ, Bool, true, false, ◌&&◌, ◌+◌, ◌==◌, ◌≤◌, ◌<◌, nat_lt, if◌then◌else◌, Some, None, List, [], ◌∷◌, ◌≡◌, IfSome, ◌-◌, ◌++◌}
+use Rattle.std.proofs.lemmas.Bool.{eqb-true, ltb-true, ltb-false}
 use Rattle.std.proofs.Math.Dec.{ltb}
 use Rattle.rayon_machine_places.specs.declared.place.Party.{Party}
 use Rattle.rayon_machine_places.specs.declared.place.Party.TheVariants.{Worker, Caller}
 use Rattle.rayon_machine_places.specs.declared.place.Ending.{Ending}
 use Rattle.rayon_machine_places.specs.declared.place.Ending.TheVariants.{Fine, Fault}
 use Rattle.rayon_machine_places.specs.declared.place.JobKind.{JobKind}
-use Rattle.rayon_machine_places.specs.declared.place.JobKind.TheVariants.{Detached, Stored, Direct, TokenOf}
+use Rattle.rayon_machine_places.specs.declared.place.JobKind.TheVariants.{Detached, Stored, Direct, TokenOf, Scoped, BodyOf}
 use Rattle.rayon_machine_places.specs.declared.place.Target.TheVariants.{Termination}
 use Rattle.rayon_machine_places.specs.declared.place.Plan.{Plan}
-use Rattle.rayon_machine_places.specs.declared.place.Plan.TheVariants.{Detach, Here, Send, Fork, Feed}
+use Rattle.rayon_machine_places.specs.declared.place.Plan.TheVariants.{Detach, Here, Send, Fork, Feed, Open, Enter}
 use Rattle.rayon_machine_places.specs.declared.place.Place.{Place}
 use Rattle.rayon_machine_places.specs.declared.place.Place.TheVariants.{ProbeWorking, YieldPop, LocalPop, Run, RaiseCount, FirstSide, SecondSide, AtOnce, Free, Stopped, RaiseForAll}
 use Rattle.rayon_machine_places.specs.declared.event.Event.{Event}
-use Rattle.rayon_machine_places.specs.declared.event.Event.TheVariants.{Go, From, Refuse, Miss, End, Spawn, Fifo, Install, Join, Yield, YieldLocal, EndPool, Cast}
+use Rattle.rayon_machine_places.specs.declared.event.Event.TheVariants.{Go, From, Refuse, Miss, End, Spawn, Fifo, Install, Join, Yield, YieldLocal, EndPool, Cast, Scope as OpenScope, IntoSpawn}
 use Rattle.rayon_machine_places.specs.declared.state.Whereabouts.TheVariants.{Nowhere, Running, Over}
 use Rattle.rayon_machine_places.specs.declared.state.Job.{Job}
 use Rattle.rayon_machine_places.specs.declared.state.Call.{Call}
 use Rattle.rayon_machine_places.specs.Places.{same_party, is_member, plan_job, fresh, act_of, goes_on, is_free}
 use Rattle.rayon_machine_places.specs.World.{Shape, World, target_pool, target_worker, target_call, at_job}
-use Rattle.rayon_machine_places.specs.Steps.{put, put_stack, after_close, after_end, after_call, is_pool, new_job, new_call, after_spawn, after_fifo, after_send, after_install, after_join, step, after_cast, put_pieces, new_piece, is_piece}
+use Rattle.rayon_machine_places.specs.Steps.{put, put_stack, after_close, after_end, after_call, is_pool, new_job, new_call, after_spawn, after_fifo, after_send, after_install, after_join, step, after_cast, put_pieces, new_piece, is_piece, after_scope, after_into, holds}
 use Rattle.rayon_machine_places.specs.Runs.{first_place, start, IsRun}
 use Rattle.rayon_machine_laws.specs.Once.{one, runs_in}
-use Rattle.rayon_machine_laws.specs.Shares.{share, shares_in, shares, is_busy, IsGone, NoEarlyEnd}
-use Rattle.rayon_machine_laws.proofs.Frame.{either, fifo_cases, same_party_true, if_cond, acted_keeps, put_same, put_new, put_old, stack_mine, piece_range, piece_old, piece_out}
+use Rattle.rayon_machine_laws.specs.Shares.{share, shares_in, shares, is_busy, IsGone, is_scoped}
+use Rattle.rayon_machine_laws.proofs.Frame.{either, fifo_cases, same_party_true, if_cond, acted_keeps, put_same, put_new, put_old, stack_mine, piece_range, piece_old, piece_out, into_cases}
 use Rattle.rayon_machine_laws.proofs.Ties.{job_at, outcome}
 use Rattle.rayon_machine_laws.proofs.Events.{run_keeps}
 use Rattle.rayon_machine_laws.proofs.Hands.{held, worked}
@@ -39,12 +40,13 @@ use Rattle.rayon_machine_laws.proofs.Amounts.{raises, values, raises_in, values_
 use Rattle.rayon_machine_laws.proofs.Tokens.{sum_below, sum_same, sum_least, sum_more, sum_tail}
 use Rattle.rayon_machine_laws.proofs.ShareActs.{with_job, tally, SharesHold, one_most, one_not}
 use Rattle.rayon_machine_laws.proofs.ShareRuns.{other_le, still_hold}
-use Rattle.rayon_machine_laws.proofs.ShareSteps.{tally_same, all_held, self_one}
+use Rattle.rayon_machine_laws.proofs.ShareSteps.{tally_same, all_held, self_one, tally_off, tally_on}
 use Rattle.rayon_machine_laws.proofs.ShareEvents.{go_shares, with_calls, from_shares, refuse_shares, miss_shares, above, raises_called, yield_shares, give_shares}
 
--- the share that the end of a detached job's run brings to the stack
+-- the share that the end of a run of a detached job, or of one of a scope, brings to the stack
 abbrev pub freed : ℕ → ℕ → JobKind → ℕ
 freed s t (Detached p) = one (s == t)
+freed s t (Scoped c o) = one (s == t)
 freed s t _ = 0
 
 goes_on_shares : (s : ℕ) (f : Place) (e : Ending) → (share s (goes_on f e) ≡ share s f) × (values s (goes_on f e) ≡ values s f) × (raises s (goes_on f e) ≡ raises s f)
@@ -57,10 +59,13 @@ goes_on_shares s f e = (omega arith, omega arith, omega arith)
 pub closed_shares : (s t : ℕ) (k : JobKind) (e : Ending) (fs : List Place) → (shares s (after_close t k e fs) ≡ freed s t k + shares_in s fs) × (all_values s (after_close t k e fs) ≡ values_in s fs) × (all_raises s (after_close t k e fs) ≡ raises_in s fs)
 closed_shares s t (Detached p) e fs = (omega arith, omega arith, omega arith)
 closed_shares s t (Stored c o) e fs = (omega arith, omega arith, omega arith)
+closed_shares s t (Scoped c o) e fs = (omega arith, omega arith, omega arith)
 closed_shares s t Direct e [] = (omega arith, omega arith, omega arith)
 closed_shares s t (TokenOf i9) e [] = (omega arith, omega arith, omega arith)
+closed_shares s t (BodyOf c9 o9) e [] = (omega arith, omega arith, omega arith)
 closed_shares s t Direct e (f ∷ fs) = ((let a : share s (goes_on f e) ≡ share s f = (goes_on_shares s f e).0 in omega (arith, a)), (let a : values s (goes_on f e) ≡ values s f = (goes_on_shares s f e).1 in omega (arith, a)), (let a : raises s (goes_on f e) ≡ raises s f = (goes_on_shares s f e).2 in omega (arith, a)))
 closed_shares s t (TokenOf i9) e (f ∷ fs) = ((let a : share s (goes_on f e) ≡ share s f = (goes_on_shares s f e).0 in omega (arith, a)), (let a : values s (goes_on f e) ≡ values s f = (goes_on_shares s f e).1 in omega (arith, a)), (let a : raises s (goes_on f e) ≡ raises s f = (goes_on_shares s f e).2 in omega (arith, a)))
+closed_shares s t (BodyOf c9 o9) e (f ∷ fs) = ((let a : share s (goes_on f e) ≡ share s f = (goes_on_shares s f e).0 in omega (arith, a)), (let a : values s (goes_on f e) ≡ values s f = (goes_on_shares s f e).1 in omega (arith, a)), (let a : raises s (goes_on f e) ≡ raises s f = (goes_on_shares s f e).2 in omega (arith, a)))
 
 and_none : (b : Bool) → one (b && false) ≡ 0
 and_none true = refl
@@ -69,19 +74,24 @@ and_none false = refl
 freed_had : (w : World) (q : Party) (s t : ℕ) (k : JobKind) → (s == t) ≡ true → SaysRun w t k → (w.job t).at ≡ Running q → freed s t k ≤ with_job (w.job s)
 freed_had w q s t (Detached p) e r a = let i : s ≡ t = eqb-true s t e in let b : one (s == t) ≡ 1 = ap one e in let c : with_job (w.job s) ≡ with_job (w.job t) = ap (λ n. with_job (w.job n)) i in
     let d : with_job (w.job t) ≡ 1 = ap (λ k. one (is_detached k && is_busy (w.job t).at)) (r.1) ∙ ap (λ v. one (is_busy v)) a in omega (arith, b, c, d)
+freed_had w q s t (Scoped c o) e r a = let i : s ≡ t = eqb-true s t e in let b : one (s == t) ≡ 1 = ap one e in let c : with_job (w.job s) ≡ with_job (w.job t) = ap (λ n. with_job (w.job n)) i in
+    let d : with_job (w.job t) ≡ 1 = ap (λ k. one (is_detached k && is_busy (w.job t).at)) (r.1) ∙ ap (λ v. one (is_busy v)) a in omega (arith, b, c, d)
 freed_had w q s t (Stored c o) e r a = omega arith
 freed_had w q s t Direct e r a = omega arith
 freed_had w q s t (TokenOf i9) e r a = omega arith
+freed_had w q s t (BodyOf c9 o9) e r a = omega arith
 
 pub freed_none : (s t : ℕ) (k : JobKind) → (s == t) ≡ false → freed s t k ≡ 0
 freed_none s t (Detached p) e = ap one e
+freed_none s t (Scoped c o) e = ap one e
 freed_none s t (Stored c o) e = refl
 freed_none s t Direct e = refl
 freed_none s t (TokenOf i9) e = refl
+freed_none s t (BodyOf c9 o9) e = refl
 
 end_shares : (w : World) (q : Party) (d : Ending) (x : Place) (fs : List Place) → w.stack q ≡ record { top = x; below = fs } → SharesHold w → IfSome (after_end w q d (record { top = x; below = fs }) x) (λ u. CallsHold u → SharesHold u)
 end_shares w q d (Run t k) fs z h = λ ch. still_hold w (ended_world w q d t k fs) q (after_close t k d fs) ch (λ s. refl) (omega arith) counted (λ p. refl)
-    (λ p. (let a : sum_below w.jobs (λ s. tally p ((ended_world w q d t k fs).job s)) ≡ sum_below w.jobs (λ s. tally p (w.job s)) = sum_same w.jobs (λ s. tally p ((ended_world w q d t k fs).job s)) (λ s. tally p (w.job s)) (λ s b. tally_same p ((ended_world w q d t k fs).job s) (w.job s) (counted s) (put_same (λ j. j.pool) w.job t (at_job (w.job t) (Over d)) s refl)) in omega (arith, a)))
+    (λ p. (let a : sum_below w.jobs (λ s. tally p ((ended_world w q d t k fs).job s)) ≡ sum_below w.jobs (λ s. tally p (w.job s)) = sum_same w.jobs (λ s. tally p ((ended_world w q d t k fs).job s)) (λ s. tally p (w.job s)) (λ s b. tally_same p ((ended_world w q d t k fs).job s) (w.job s) (counted s) (put_same (λ j. j.kind) w.job t (at_job (w.job t) (Over d)) s refl) (put_same (λ j. j.pool) w.job t (at_job (w.job t) (Over d)) s refl)) in omega (arith, a)))
     (λ p. refl) (λ s. line s (s == t) refl)
     (λ p. (let a : all_values p (put_stack w.stack q (after_close t k d fs) q) ≡ all_values p (after_close t k d fs) = ap (all_values p) (stack_mine w.stack q (after_close t k d fs)) in let b : all_values p (after_close t k d fs) ≡ values_in p fs = (closed_shares p t k d fs).1 in let c : all_values p (w.stack q) ≡ (0 + values_in p fs) = ap (all_values p) z in omega (arith, a, b, c)))
     (λ s r. raised s r (same_party r q) refl) h
@@ -105,8 +115,8 @@ end_shares w q d (Run t k) fs z h = λ ch. still_hold w (ended_world w q d t k f
 end_shares w q d _ fs z h = tt
 
 -- a call begins: its jobs are new, and have no share yet
-made_shares : (w : World) (q : Party) (n : Plan) (C : ℕ → Call) (J : ℕ → Job) (c j : ℕ) → w.jobs ≤ plan_job n → w.jobs ≤ j → ((t : ℕ) → (J t).counted ≡ (w.job t).counted) → ((p : ℕ) → sum_below j (λ t. tally p (J t)) ≡ sum_below w.jobs (λ t. tally p (w.job t))) → ((t : ℕ) → with_job (J t) ≤ with_job (w.job t)) → SharesHold w → CallsHold (calling w q n C J c j) → SharesHold (calling w q n C J c j)
-made_shares w q n C J c j new more co su wi h ch = still_hold w (calling w q n C J c j) q (after_call (w.stack q) (RaiseCount n)) ch (λ s. refl) more co (λ p. refl) su (λ p. refl)
+made_shares : (w : World) (q : Party) (n : Plan) (C : ℕ → Call) (J : ℕ → Job) (c j : ℕ) (l : List Scope) → w.jobs ≤ plan_job n → w.jobs ≤ j → ((t : ℕ) → (J t).counted ≡ (w.job t).counted) → ((p : ℕ) → sum_below j (λ t. tally p (J t)) ≡ sum_below w.jobs (λ t. tally p (w.job t))) → ((t : ℕ) → with_job (J t) ≤ with_job (w.job t)) → SharesHold w → CallsHold (record (calling w q n C J c j) { scopes = l }) → SharesHold (record (calling w q n C J c j) { scopes = l })
+made_shares w q n C J c j l new more co su wi h ch = still_hold w (record (calling w q n C J c j) { scopes = l }) q (after_call (w.stack q) (RaiseCount n)) ch (λ s. refl) more co (λ p. refl) su (λ p. refl)
     (λ t. (let a : shares t (put_stack w.stack q (after_call (w.stack q) (RaiseCount n)) q) ≡ (0 + shares t (w.stack q)) = above (share t) (shares_in t) (shares t) w q (RaiseCount n) (λ k. refl) (λ y ys. refl) in let b : with_job (J t) ≤ with_job (w.job t) = wi t in omega (arith, a, b)))
     (λ p. (let a : all_values p (put_stack w.stack q (after_call (w.stack q) (RaiseCount n)) q) ≡ (0 + all_values p (w.stack q)) = above (values p) (values_in p) (all_values p) w q (RaiseCount n) (λ k. refl) (λ y ys. refl) in omega (arith, a)))
     (λ t s. raised t s (t == plan_job n) refl) h
@@ -139,11 +149,17 @@ one_made w q p k h = (
     with_it t false = omega arith
 
 spawn_shares : (w : World) (q : Party) (p : ℕ) → SharesHold w → IfSome (after_spawn w q p (w.stack q)) (λ u. CallsHold u → SharesHold u)
-spawn_shares w q p h = if_cond (λ u. CallsHold u → SharesHold u) (is_free ((w.stack q).top) && is_pool w.shape p) _ (λ f ch. (let m = one_made w q p (Detached p) h in made_shares w q (Detach p w.jobs) w.call (put w.job w.jobs (new_job q p (Detached p))) w.calls (w.jobs + 1) (omega arith) (omega arith) (m.0) (m.2) (m.1) h ch))
+spawn_shares w q p h = if_cond (λ u. CallsHold u → SharesHold u) (is_free ((w.stack q).top) && is_pool w.shape p) _ (λ f ch. (let m = one_made w q p (Detached p) h in made_shares w q (Detach p w.jobs) w.call (put w.job w.jobs (new_job q p (Detached p))) w.calls (w.jobs + 1) w.scopes (omega arith) (omega arith) (m.0) (m.2) (m.1) h ch))
 
 sent_shares : (w : World) (q : Party) (p : ℕ) (b : Bool) → SharesHold w → CallsHold (after_send w q p (w.stack q) b) → SharesHold (after_send w q p (w.stack q) b)
-sent_shares w q p true h ch = let m = one_made w q p Direct h in made_shares w q (Here p w.jobs) w.call (put w.job w.jobs (new_job q p Direct)) w.calls (w.jobs + 1) (omega arith) (omega arith) (m.0) (m.2) (m.1) h ch
-sent_shares w q p false h ch = let m = one_made w q p (Stored w.calls q) h in made_shares w q (Send (record { number = w.calls; pool = p; job = w.jobs })) (put w.call w.calls (new_call None w.jobs)) (put w.job w.jobs (new_job q p (Stored w.calls q))) (w.calls + 1) (w.jobs + 1) (omega arith) (omega arith) (m.0) (m.2) (m.1) h ch
+sent_shares w q p true h ch = let m = one_made w q p Direct h in made_shares w q (Here p w.jobs) w.call (put w.job w.jobs (new_job q p Direct)) w.calls (w.jobs + 1) w.scopes (omega arith) (omega arith) (m.0) (m.2) (m.1) h ch
+sent_shares w q p false h ch = let m = one_made w q p (Stored w.calls q) h in made_shares w q (Send (record { number = w.calls; pool = p; job = w.jobs })) (put w.call w.calls (new_call None w.jobs)) (put w.job w.jobs (new_job q p (Stored w.calls q))) (w.calls + 1) (w.jobs + 1) w.scopes (omega arith) (omega arith) (m.0) (m.2) (m.1) h ch
+
+scope_shares : (w : World) (q : Party) (p : ℕ) → SharesHold w → IfSome (after_scope w q p (w.stack q)) (λ u. CallsHold u → SharesHold u)
+scope_shares w q p h = if_cond (λ u. CallsHold u → SharesHold u) (is_free ((w.stack q).top) && is_pool w.shape p) _ (λ f ch. (let m = one_made w q p (BodyOf w.calls q) h in made_shares w q (Open (record { number = w.calls; pool = p; job = w.jobs })) (put w.call w.calls (new_call None w.jobs)) (put w.job w.jobs (new_job q p (BodyOf w.calls q))) (w.calls + 1) (w.jobs + 1) (w.scopes ++ record { call = w.calls; pool = p; owner = q } ∷ []) (omega arith) (omega arith) (m.0) (m.2) (m.1) h ch))
+
+into_shares : (w : World) (q : Party) (n : ℕ) → SharesHold w → IfSome (after_into w q n (w.stack q)) (λ u. CallsHold u → SharesHold u)
+into_shares w q n h = into_cases (λ u. CallsHold u → SharesHold u) w q n (λ z e free held. if_cond (λ u. CallsHold u → SharesHold u) (is_free ((w.stack q).top) && holds z.call (w.stack q)) _ (λ f ch. (let m = one_made w q (z.pool) (Scoped z.call z.owner) h in made_shares w q (Enter (record { call = z.call; owner = z.owner; pool = z.pool; job = w.jobs })) w.call (put w.job w.jobs (new_job q z.pool (Scoped z.call z.owner))) w.calls (w.jobs + 1) w.scopes (omega arith) (omega arith) (m.0) (m.2) (m.1) h ch)))
 
 install_shares : (w : World) (q : Party) (p : ℕ) → SharesHold w → IfSome (after_install w q p (w.stack q)) (λ u. CallsHold u → SharesHold u)
 install_shares w q p h = if_cond (λ u. CallsHold u → SharesHold u) (is_free ((w.stack q).top) && is_pool w.shape p) _ (λ f ch. sent_shares w q p (is_member q p) h ch)
@@ -179,10 +195,10 @@ two_made w q p d k h = (counted, withs, sums)
 
 join_shares : (w : World) (q : Party) → SharesHold w → IfSome (after_join w q (w.stack q)) (λ u. CallsHold u → SharesHold u)
 join_shares w (Caller n) h = tt
-join_shares w (Worker p i) h = if_cond (λ u. CallsHold u → SharesHold u) (is_free ((w.stack (Worker p i)).top)) _ (λ f ch. (let m = two_made w (Worker p i) p Direct (Stored w.calls (Worker p i)) h in made_shares w (Worker p i) (Fork (record { number = w.calls; pool = p; job = w.jobs + 1 }) w.jobs) (put w.call w.calls (new_call (Some w.jobs) (w.jobs + 1))) (put (put w.job w.jobs (new_job (Worker p i) p Direct)) (w.jobs + 1) (new_job (Worker p i) p (Stored w.calls (Worker p i)))) (w.calls + 1) (w.jobs + 2) (omega arith) (omega arith) (m.0) (m.2) (m.1) h ch))
+join_shares w (Worker p i) h = if_cond (λ u. CallsHold u → SharesHold u) (is_free ((w.stack (Worker p i)).top)) _ (λ f ch. (let m = two_made w (Worker p i) p Direct (Stored w.calls (Worker p i)) h in made_shares w (Worker p i) (Fork (record { number = w.calls; pool = p; job = w.jobs + 1 }) w.jobs) (put w.call w.calls (new_call (Some w.jobs) (w.jobs + 1))) (put (put w.job w.jobs (new_job (Worker p i) p Direct)) (w.jobs + 1) (new_job (Worker p i) p (Stored w.calls (Worker p i)))) (w.calls + 1) (w.jobs + 2) w.scopes (omega arith) (omega arith) (m.0) (m.2) (m.1) h ch))
 
 fifo_shares : (w : World) (q : Party) (p : ℕ) → SharesHold w → IfSome (after_fifo w q p (w.stack q)) (λ u. CallsHold u → SharesHold u)
-fifo_shares w q p h = fifo_cases (λ u. CallsHold u → SharesHold u) w q p (spawn_shares w q p h) (λ i free ch. (let m = two_made w (Worker p i) p (Detached p) (TokenOf i) h in made_shares w (Worker p i) (Feed (record { pool = p; job = w.jobs; token = w.jobs + 1 })) w.call (put (put w.job w.jobs (new_job (Worker p i) p (Detached p))) (w.jobs + 1) (new_job (Worker p i) p (TokenOf i))) w.calls (w.jobs + 2) (omega arith) (omega arith) (m.0) (m.2) (m.1) h ch))
+fifo_shares w q p h = fifo_cases (λ u. CallsHold u → SharesHold u) w q p (spawn_shares w q p h) (λ i free ch. (let m = two_made w (Worker p i) p (Detached p) (TokenOf i) h in made_shares w (Worker p i) (Feed (record { pool = p; job = w.jobs; token = w.jobs + 1 })) w.call (put (put w.job w.jobs (new_job (Worker p i) p (Detached p))) (w.jobs + 1) (new_job (Worker p i) p (TokenOf i))) w.calls (w.jobs + 2) w.scopes (omega arith) (omega arith) (m.0) (m.2) (m.1) h ch))
 
 -- a broadcast begins: its pieces are new, and have no shares yet
 cast_shares : (w : World) (q : Party) (p : ℕ) → SharesHold w → IfSome (after_cast w q p (w.stack q)) (λ u. CallsHold u → SharesHold u)
@@ -213,7 +229,7 @@ cast_shares w q p h = if_cond (λ u. CallsHold u → SharesHold u) (is_free ((w.
 
     none : (r t : ℕ) (b : Bool) → is_piece c t ≡ b → w.jobs ≤ t → tally r (if b then new_piece q p (t - c.first) else w.job t) ≡ 0
     none r t true e y = refl
-    none r t false e y = ap (λ d. one (d && (r == (w.job t).pool))) (h.unmade t y)
+    none r t false e y = tally_off r (w.job t) (h.unmade t y)
 
     sums : (r : ℕ) → sum_below (w.jobs + c.workers) (λ t. tally r (J t)) ≡ sum_below w.jobs (λ t. tally r (w.job t))
     sums r = sum_tail w.jobs c.workers (λ t. tally r (J t)) (λ t y. none r t (is_piece c t) refl y) ∙ sum_same w.jobs (λ t. tally r (J t)) (λ t. tally r (w.job t)) (λ t y. ap (tally r) (piece_old c (λ i j. new_piece q p i) w.job t (piece_out c t (omega (arith, y)))))
@@ -241,6 +257,8 @@ step_shares w (Fifo q p) h = with_calls w (step w (Fifo q p)) (step_calls w (Fif
 step_shares w (Cast q p) h = with_calls w (step w (Cast q p)) (step_calls w (Cast q p) (h.calls)) (cast_shares w q p h)
 step_shares w (Install q p) h = with_calls w (step w (Install q p)) (step_calls w (Install q p) (h.calls)) (install_shares w q p h)
 step_shares w (Join q) h = with_calls w (step w (Join q)) (step_calls w (Join q) (h.calls)) (join_shares w q h)
+step_shares w (OpenScope q p) h = with_calls w (step w (OpenScope q p)) (step_calls w (OpenScope q p) (h.calls)) (scope_shares w q p h)
+step_shares w (IntoSpawn q n) h = with_calls w (step w (IntoSpawn q n)) (step_calls w (IntoSpawn q n) (h.calls)) (into_shares w q n h)
 step_shares w (Yield q) h = with_calls w (step w (Yield q)) (step_calls w (Yield q) (h.calls)) (yield_shares w q YieldPop (λ t. (refl, refl)) (λ p. refl) h)
 step_shares w (YieldLocal q) h = with_calls w (step w (YieldLocal q)) (step_calls w (YieldLocal q) (h.calls)) (yield_shares w q LocalPop (λ t. (refl, refl)) (λ p. refl) h)
 step_shares w (EndPool q p) h = with_calls w (step w (EndPool q p)) (step_calls w (EndPool q p) (h.calls)) (give_shares w q p h)
@@ -271,30 +289,35 @@ first_shares h = record {
 pub always_shares : (h : Shape) (es : List Event) (w : World) → IsRun (start h) es w → SharesHold w
 always_shares h es w r = run_keeps SharesHold step_shares (start h) w es (first_shares h) r
 
--- a pool whose count is 0 has ended
-gone : (w : World) (p : ℕ) → SharesHold w → (w.pool p).count ≡ 0 → IsGone w p
-gone w p h z = record {
-  held = one_not ((w.pool p).held) (let a : all_values p (w.stack (Caller 0)) + one (w.pool p).held ≤ one (w.pool p).counted = (h.values p).alone (Caller 0) in let b : one (w.pool p).counted ≤ 0 = value in omega (arith, a, b));
-  counted = one_not ((w.pool p).counted) value;
+-- a pool whose count is 0 has no share: neither its value nor a job of no scope has one
+pub value_uncounted : (w : World) (p : ℕ) → SharesHold w → (w.pool p).count ≡ 0 → one (w.pool p).counted ≤ 0
+value_uncounted w p h z = let a : sum_below w.jobs (λ t. tally p (w.job t)) + one (w.pool p).counted ≡ (w.pool p).count = h.sums p in omega (arith, a, z)
+
+pub job_uncounted : (w : World) (p : ℕ) → SharesHold w → (w.pool p).count ≡ 0 → (t : ℕ) → (w.job t).pool ≡ p → is_scoped (w.job t).kind ≡ false → (w.job t).counted ≡ false
+job_uncounted w p h z t e k = elim (either (ltb t w.jobs)) [ inl y ↦ (let b : t < w.jobs = ltb-true t w.jobs y in below (let c : t + 1 ≤ w.jobs = omega (arith, b) in c)) | inr y ↦ h.unmade t (ltb-false t w.jobs y) ]
+  where
+    below : t + 1 ≤ w.jobs → (w.job t).counted ≡ false
+    below b = by ((w.job t).counted) refl
+      where
+        by : (c : Bool) → (w.job t).counted ≡ c → c ≡ false
+        by false y = refl
+        by true y = absurd (let a : sum_below w.jobs (λ t. tally p (w.job t)) + one (w.pool p).counted ≡ (w.pool p).count = h.sums p in
+            let c : tally p (w.job t) ≤ sum_below w.jobs (λ t. tally p (w.job t)) = sum_least w.jobs (λ t. tally p (w.job t)) t b in
+            let d : tally p (w.job t) ≡ one (p == p) = tally_on p p (w.job t) y k e in
+            let f : one (p == p) ≡ 1 = self_one p in omega (arith, a, c, d, f, z))
+
+-- it has ended, if no job of a scope has a share either
+pub gone : (w : World) (p : ℕ) → SharesHold w → (w.pool p).count ≡ 0 → ((t : ℕ) → (w.job t).pool ≡ p → is_scoped (w.job t).kind ≡ true → (w.job t).counted ≡ false) → IsGone w p
+gone w p h z scoped = record {
+  held = one_not ((w.pool p).held) (let a : all_values p (w.stack (Caller 0)) + one (w.pool p).held ≤ one (w.pool p).counted = (h.values p).alone (Caller 0) in let b : one (w.pool p).counted ≤ 0 = value_uncounted w p h z in omega (arith, a, b));
+  counted = one_not ((w.pool p).counted) (value_uncounted w p h z);
   calls = λ q t e. (let a : shares t (w.stack q) + with_job (w.job t) ≤ one (w.job t).counted = (h.jobs t).alone q in let b : one (w.job t).counted ≡ 0 = ap one (job t e) in omega (arith, a, b));
-  jobs = λ t e. job t e;
+  jobs = job;
   detached = λ t e. idle t e (is_busy (w.job t).at) refl;
 }
   where
-    value : one (w.pool p).counted ≤ 0
-    value = let a : sum_below w.jobs (λ t. tally p (w.job t)) + one (w.pool p).counted ≡ (w.pool p).count = h.sums p in omega (arith, a, z)
-
     job : (t : ℕ) → (w.job t).pool ≡ p → (w.job t).counted ≡ false
-    job t e = elim (either (ltb t w.jobs)) [ inl y ↦ (let b : t < w.jobs = ltb-true t w.jobs y in below (let c : t + 1 ≤ w.jobs = omega (arith, b) in c)) | inr y ↦ h.unmade t (ltb-false t w.jobs y) ]
-      where
-        below : t + 1 ≤ w.jobs → (w.job t).counted ≡ false
-        below b = one_not ((w.job t).counted) (let a : sum_below w.jobs (λ t. tally p (w.job t)) + one (w.pool p).counted ≡ (w.pool p).count = h.sums p in
-            let c : tally p (w.job t) ≤ sum_below w.jobs (λ t. tally p (w.job t)) = sum_least w.jobs (λ t. tally p (w.job t)) t b in
-            let d : tally p (w.job t) ≡ one (w.job t).counted = ap (λ x. one ((w.job t).counted && x)) (ap (λ m. p == m) e ∙ eq-eqb p p refl) ∙ ap one (and_all ((w.job t).counted)) in omega (arith, a, c, d, z))
-          where
-            and_all : (b : Bool) → (b && true) ≡ b
-            and_all true = refl
-            and_all false = refl
+    job t e = elim (either (is_scoped (w.job t).kind)) [ inl y ↦ scoped t e y | inr y ↦ job_uncounted w p h z t e y ]
 
     idle : (t : ℕ) → (w.job t).kind ≡ Detached p → (b : Bool) → is_busy (w.job t).at ≡ b → b ≡ false
     idle t e false y = refl
@@ -303,6 +326,3 @@ gone w p h z = record {
         let a : shares t (w.stack (Caller 0)) + with_job (w.job t) ≤ one (w.job t).counted = (h.jobs t).alone (Caller 0) in
         let b : with_job (w.job t) ≡ 1 = ap (λ k. one (is_detached k && is_busy (w.job t).at)) e ∙ ap one y in
         let d : one (w.job t).counted ≡ 0 = ap one c in omega (arith, a, b, d))
-
-pub no_early_end : (w : World) → SharesHold w → NoEarlyEnd w
-no_early_end w h p i z = gone w p h ((h.calls).ends p i z)

@@ -1,24 +1,25 @@
 -- each step keeps the shares, and a pool whose terminate latch is set has none left
 use Rattle.rayon_machine_places.specs.declared.place.Mark.TheVariants.{Queued}
 use Rattle.rayon_machine_places.specs.declared.place.Pieces.{Pieces}
+use Rattle.rayon_machine_places.specs.declared.place.Count.TheVariants.{OfPool, OfScope}
 use Rattle.std.proofs.Common.{arith, refl, sym, ◌∙◌, ap, subst}
 use Rattle.std.specs.Prelude.{ℕ, Bool, true, false, ◌&&◌, ◌+◌, ◌==◌, ◌≤◌, nat_lt, if◌then◌else◌, Option, Some, None, List, ◌∷◌, ◌≡◌, IfSome}
 use Rattle.std.proofs.lemmas.Bool.{eqb-true}
 use Rattle.rayon_machine_places.specs.declared.place.Party.{Party}
 use Rattle.rayon_machine_places.specs.declared.place.Party.TheVariants.{Worker, Caller}
 use Rattle.rayon_machine_places.specs.declared.place.Plan.{Plan}
-use Rattle.rayon_machine_places.specs.declared.place.Plan.TheVariants.{Detach, Here, Send, Fork, Feed}
-use Rattle.rayon_machine_places.specs.declared.place.Share.TheVariants.{PoolValue, OfJob}
+use Rattle.rayon_machine_places.specs.declared.place.Plan.TheVariants.{Detach, Here, Send, Fork, Feed, Open, Enter}
+use Rattle.rayon_machine_places.specs.declared.place.Share.TheVariants.{PoolValue, OfJob, Body}
 use Rattle.rayon_machine_places.specs.declared.place.Then.TheVariants.{Resume}
 use Rattle.rayon_machine_places.specs.declared.place.Place.{Place}
-use Rattle.rayon_machine_places.specs.declared.place.Place.TheVariants.{PickVictim, StealFrom, YieldPick, YieldSteal, RaiseCount, GrowCall, PushJob, LowerCount, AddToFifo, PushToken, TakeFromFifo, RaiseForAll, PushForAll, LowerForAll}
+use Rattle.rayon_machine_places.specs.declared.place.Place.TheVariants.{PickVictim, StealFrom, YieldPick, YieldSteal, RaiseCount, GrowCall, PushJob, LowerCount, AddToFifo, PushToken, TakeFromFifo, RaiseForAll, PushForAll, LowerForAll, GrowScope, OpenSlot}
 use Rattle.rayon_machine_places.specs.declared.place.Move.{Move}
 use Rattle.rayon_machine_places.specs.declared.place.Move.TheVariants.{Stay, Enter, StartRun, Back, HandBack, Discard, HandIn, Mark, HandAllBack}
 use Rattle.rayon_machine_places.specs.declared.act.Seen.{Seen}
 use Rattle.rayon_machine_places.specs.declared.act.Seen.TheVariants.{Refused, Yes, No, Missing, Start, Task, Done}
 use Rattle.rayon_machine_places.specs.declared.shape.PoolShape.{PoolShape}
-use Rattle.rayon_machine_places.specs.Places.{same_party, own_pool, plan_pool, act_of, next_of, is_free, taken_number}
-use Rattle.rayon_machine_places.specs.World.{Stack, World, counts_at, Part, target_pool, target_worker, target_call, effect}
+use Rattle.rayon_machine_places.specs.Places.{same_party, own_pool, act_of, next_of, is_free, taken_number, plan_count}
+use Rattle.rayon_machine_places.specs.World.{Stack, World, counts_at, Part, target_pool, target_worker, target_call, effect, count_in}
 use Rattle.rayon_machine_places.specs.Steps.{put, put_stack, after_move, after_choice, after_refusal, can_miss, after_miss, after_call, is_pool, after_yield, after_end_pool}
 use Rattle.rayon_machine_laws.specs.Once.{one}
 use Rattle.rayon_machine_laws.specs.Shares.{share, shares_in, shares}
@@ -27,10 +28,10 @@ use Rattle.rayon_machine_laws.proofs.Ties.{job_at, outcome, result}
 use Rattle.rayon_machine_laws.proofs.Placed.{Kept}
 use Rattle.rayon_machine_laws.proofs.PlacedEvents.{go_kept, no_deals, is_dealing}
 use Rattle.rayon_machine_laws.proofs.PlacedRuns.{once}
-use Rattle.rayon_machine_laws.proofs.Claims.{is_detached, SaysMove, says_next}
+use Rattle.rayon_machine_laws.proofs.Claims.{is_detached, SaysMove, says_next, SaysThen, SaysShare}
 use Rattle.rayon_machine_laws.proofs.Later.{later_says, Static, act_static}
 use Rattle.rayon_machine_laws.proofs.ClaimActs.{Lasting, lasting, Learned, act_learned, Written, act_written, Lines, line_table}
-use Rattle.rayon_machine_laws.proofs.ClaimRuns.{CallsHold, world_after, place_part, learns, act_calls}
+use Rattle.rayon_machine_laws.proofs.ClaimRuns.{CallsHold, world_after, place_part, learns, act_calls, top_says}
 use Rattle.rayon_machine_laws.proofs.Amounts.{regained, raises, values, raises_in, values_in, all_raises, all_values, gained, pushed, paid}
 use Rattle.rayon_machine_laws.proofs.ShareActs.{with_job, SharesHold, Regains, act_regains, is_tally, Untallied, same_untallied, act_untallied, Stays, act_stays}
 use Rattle.rayon_machine_laws.proofs.ShareRuns.{StartsAwaited, says_starts, busy_step, shares_mine, other_le, values_mine, raises_all, still_hold, dealt}
@@ -117,6 +118,8 @@ ready w q h =
     starts_back w u l (HandBack (Detach p t)) s = tt
     starts_back w u l (HandBack (Here p t)) s = tt
     starts_back w u l (HandBack (Send o)) s = tt
+    starts_back w u l (HandBack (Open o)) s = tt
+    starts_back w u l (HandBack (Enter e)) s = tt
     starts_back w u l (HandBack (Fork o a)) s = tt
     starts_back w u l (Discard k) s = ap is_detached (sym (l.kinds k)) ∙ s
 
@@ -141,16 +144,24 @@ raise_all_go w q c fs none done f true d = none d
 raise_all_go w q c fs none done f false d = f d
 
 go_by : (w : World) (q : Party) (x : Place) (fs : List Place) → w.stack q ≡ record { top = x; below = fs } → SharesHold w → IfSome (outcome w q (record { top = x; below = fs })) (Ready w q x fs) → IfSome (outcome w q (record { top = x; below = fs })) (λ r. SharesHold (world_after w q x fs r))
-go_by w (Worker a b) (RaiseCount n) fs z h d = raise_go w (Worker a b) n fs (λ r y un st none. plain_hold w (Worker a b) (RaiseCount n) fs r y un st none) _ (λ y. raise_hold w (Worker a b) n fs h z (y.calls) (λ t. (let e : with_job ((raised_world w (Worker a b) n fs).job t) ≤ with_job (w.job t) + 0 = y.busy t in omega (arith, e))) (y.pools) (y.held)) ((w.pool (plan_pool n)).count == 0) d
-go_by w (Worker a b) (LowerCount p (OfJob u) n) fs z h d = lower_job w (Worker a b) p u n fs (if (w.pool p).count == 1 then Yes else No) h z (d.calls) (λ t. (let e : with_job ((lowered_world w (Worker a b) p (OfJob u) n fs (if (w.pool p).count == 1 then Yes else No)).job t) ≤ with_job (w.job t) + 0 = d.busy t in omega (arith, e))) (d.pools) (d.held)
-go_by w (Worker a b) (LowerCount p PoolValue n) fs z h d = lower_value w (Worker a b) p n fs (if (w.pool p).count == 1 then Yes else No) h z (d.calls) (λ t. (let e : with_job ((lowered_world w (Worker a b) p PoolValue n fs (if (w.pool p).count == 1 then Yes else No)).job t) ≤ with_job (w.job t) + 0 = d.busy t in omega (arith, e))) (d.pools) (d.held)
-go_by w (Caller c) (RaiseCount n) fs z h d = raise_go w (Caller c) n fs (λ r y un st none. plain_hold w (Caller c) (RaiseCount n) fs r y un st none) _ (λ y. raise_hold w (Caller c) n fs h z (y.calls) (λ t. (let e : with_job ((raised_world w (Caller c) n fs).job t) ≤ with_job (w.job t) + 0 = y.busy t in omega (arith, e))) (y.pools) (y.held)) ((w.pool (plan_pool n)).count == 0) d
-go_by w (Caller c) (LowerCount p (OfJob u) n) fs z h d = lower_job w (Caller c) p u n fs (if (w.pool p).count == 1 then Yes else No) h z (d.calls) (λ t. (let e : with_job ((lowered_world w (Caller c) p (OfJob u) n fs (if (w.pool p).count == 1 then Yes else No)).job t) ≤ with_job (w.job t) + 0 = d.busy t in omega (arith, e))) (d.pools) (d.held)
-go_by w (Caller c) (LowerCount p PoolValue n) fs z h d = lower_value w (Caller c) p n fs (if (w.pool p).count == 1 then Yes else No) h z (d.calls) (λ t. (let e : with_job ((lowered_world w (Caller c) p PoolValue n fs (if (w.pool p).count == 1 then Yes else No)).job t) ≤ with_job (w.job t) + 0 = d.busy t in omega (arith, e))) (d.pools) (d.held)
-go_by w (Worker a b) (RaiseForAll c) fs z h d = raise_all_go w (Worker a b) c fs (λ y. refused_hold w (Worker a b) c fs y refl) _ (λ y. raise_all_hold w (Worker a b) c fs h z (y.calls) (λ t. (let e : with_job ((all_raised w (Worker a b) c fs).job t) ≤ with_job (w.job t) + 0 = y.busy t in omega (arith, e))) (y.pools) (y.held)) ((w.pool c.pool).count == 0) d
-go_by w (Worker a b) (LowerForAll c) fs z h d = lower_all_hold w (Worker a b) c fs (if (w.pool c.pool).count == c.workers then Yes else No) h z (d.calls) (λ t. (let e : with_job ((all_lowered w (Worker a b) c fs (if (w.pool c.pool).count == c.workers then Yes else No)).job t) ≤ with_job (w.job t) + 0 = d.busy t in omega (arith, e))) (d.pools) (d.held)
-go_by w (Caller g) (RaiseForAll c) fs z h d = raise_all_go w (Caller g) c fs (λ y. refused_hold w (Caller g) c fs y refl) _ (λ y. raise_all_hold w (Caller g) c fs h z (y.calls) (λ t. (let e : with_job ((all_raised w (Caller g) c fs).job t) ≤ with_job (w.job t) + 0 = y.busy t in omega (arith, e))) (y.pools) (y.held)) ((w.pool c.pool).count == 0) d
-go_by w (Caller g) (LowerForAll c) fs z h d = lower_all_hold w (Caller g) c fs (if (w.pool c.pool).count == c.workers then Yes else No) h z (d.calls) (λ t. (let e : with_job ((all_lowered w (Caller g) c fs (if (w.pool c.pool).count == c.workers then Yes else No)).job t) ≤ with_job (w.job t) + 0 = d.busy t in omega (arith, e))) (d.pools) (d.held)
+go_by w (Worker a b) (RaiseCount n) fs z h d = raise_go w (Worker a b) n fs (λ r y un st none. plain_hold w (Worker a b) (RaiseCount n) fs r y un st none) _ (λ y. raise_hold w (Worker a b) n fs h z (y.calls) (λ t. (let e : with_job ((raised_world w (Worker a b) n fs).job t) ≤ with_job (w.job t) + 0 = y.busy t in omega (arith, e))) ((y.last).kinds) (y.pools) (y.held)) (count_in (place_part w (Worker a b) (RaiseCount n)) (plan_count n) == 0) d
+go_by w (Worker a b) (LowerCount (OfPool r) (OfJob u) n) fs z h d = lower_job w (Worker a b) (OfPool r) u n fs (if count_in (place_part w (Worker a b) (LowerCount (OfPool r) (OfJob u) n)) (OfPool r) == 1 then Yes else No) h z (d.calls) (λ t. (let e : with_job ((lowered_world w (Worker a b) (OfPool r) (OfJob u) n fs (if count_in (place_part w (Worker a b) (LowerCount (OfPool r) (OfJob u) n)) (OfPool r) == 1 then Yes else No)).job t) ≤ with_job (w.job t) + 0 = d.busy t in omega (arith, e))) ((d.last).kinds) (d.pools) (d.held)
+go_by w (Worker a b) (LowerCount (OfScope x o) (OfJob u) n) fs z h d = lower_job w (Worker a b) (OfScope x o) u n fs (if count_in (place_part w (Worker a b) (LowerCount (OfScope x o) (OfJob u) n)) (OfScope x o) == 1 then Yes else No) h z (d.calls) (λ t. (let e : with_job ((lowered_world w (Worker a b) (OfScope x o) (OfJob u) n fs (if count_in (place_part w (Worker a b) (LowerCount (OfScope x o) (OfJob u) n)) (OfScope x o) == 1 then Yes else No)).job t) ≤ with_job (w.job t) + 0 = d.busy t in omega (arith, e))) ((d.last).kinds) (d.pools) (d.held)
+go_by w (Worker a b) (LowerCount (OfPool r) PoolValue n) fs z h d = lower_value w (Worker a b) r n fs (if count_in (place_part w (Worker a b) (LowerCount (OfPool r) PoolValue n)) (OfPool r) == 1 then Yes else No) h z (d.calls) (λ t. (let e : with_job ((lowered_world w (Worker a b) (OfPool r) PoolValue n fs (if count_in (place_part w (Worker a b) (LowerCount (OfPool r) PoolValue n)) (OfPool r) == 1 then Yes else No)).job t) ≤ with_job (w.job t) + 0 = d.busy t in omega (arith, e))) ((d.last).kinds) (d.pools) (d.held)
+go_by w (Worker a b) (LowerCount (OfPool r) Body n) fs z h d = absurd (let s : SaysThen w (Worker a b) n × SaysShare w (OfPool r) Body n = top_says w (Worker a b) (LowerCount (OfPool r) Body n) fs (h.calls) z in s.1)
+go_by w (Worker a b) (LowerCount (OfScope x o) PoolValue n) fs z h d = absurd (let s : SaysThen w (Worker a b) n × SaysShare w (OfScope x o) PoolValue n = top_says w (Worker a b) (LowerCount (OfScope x o) PoolValue n) fs (h.calls) z in s.1)
+go_by w (Worker a b) (LowerCount (OfScope x o) Body n) fs z h d = plain_go w (Worker a b) (LowerCount (OfScope x o) Body n) fs refl d
+go_by w (Caller c) (RaiseCount n) fs z h d = raise_go w (Caller c) n fs (λ r y un st none. plain_hold w (Caller c) (RaiseCount n) fs r y un st none) _ (λ y. raise_hold w (Caller c) n fs h z (y.calls) (λ t. (let e : with_job ((raised_world w (Caller c) n fs).job t) ≤ with_job (w.job t) + 0 = y.busy t in omega (arith, e))) ((y.last).kinds) (y.pools) (y.held)) (count_in (place_part w (Caller c) (RaiseCount n)) (plan_count n) == 0) d
+go_by w (Caller c) (LowerCount (OfPool r) (OfJob u) n) fs z h d = lower_job w (Caller c) (OfPool r) u n fs (if count_in (place_part w (Caller c) (LowerCount (OfPool r) (OfJob u) n)) (OfPool r) == 1 then Yes else No) h z (d.calls) (λ t. (let e : with_job ((lowered_world w (Caller c) (OfPool r) (OfJob u) n fs (if count_in (place_part w (Caller c) (LowerCount (OfPool r) (OfJob u) n)) (OfPool r) == 1 then Yes else No)).job t) ≤ with_job (w.job t) + 0 = d.busy t in omega (arith, e))) ((d.last).kinds) (d.pools) (d.held)
+go_by w (Caller c) (LowerCount (OfScope x o) (OfJob u) n) fs z h d = lower_job w (Caller c) (OfScope x o) u n fs (if count_in (place_part w (Caller c) (LowerCount (OfScope x o) (OfJob u) n)) (OfScope x o) == 1 then Yes else No) h z (d.calls) (λ t. (let e : with_job ((lowered_world w (Caller c) (OfScope x o) (OfJob u) n fs (if count_in (place_part w (Caller c) (LowerCount (OfScope x o) (OfJob u) n)) (OfScope x o) == 1 then Yes else No)).job t) ≤ with_job (w.job t) + 0 = d.busy t in omega (arith, e))) ((d.last).kinds) (d.pools) (d.held)
+go_by w (Worker a b) (RaiseForAll c) fs z h d = raise_all_go w (Worker a b) c fs (λ y. refused_hold w (Worker a b) c fs y refl) _ (λ y. raise_all_hold w (Worker a b) c fs h z (y.calls) (λ t. (let e : with_job ((all_raised w (Worker a b) c fs).job t) ≤ with_job (w.job t) + 0 = y.busy t in omega (arith, e))) ((y.last).kinds) (y.pools) (y.held)) ((w.pool c.pool).count == 0) d
+go_by w (Worker a b) (LowerForAll c) fs z h d = lower_all_hold w (Worker a b) c fs (if (w.pool c.pool).count == c.workers then Yes else No) h z (d.calls) (λ t. (let e : with_job ((all_lowered w (Worker a b) c fs (if (w.pool c.pool).count == c.workers then Yes else No)).job t) ≤ with_job (w.job t) + 0 = d.busy t in omega (arith, e))) ((d.last).kinds) (d.pools) (d.held)
+go_by w (Caller g) (RaiseForAll c) fs z h d = raise_all_go w (Caller g) c fs (λ y. refused_hold w (Caller g) c fs y refl) _ (λ y. raise_all_hold w (Caller g) c fs h z (y.calls) (λ t. (let e : with_job ((all_raised w (Caller g) c fs).job t) ≤ with_job (w.job t) + 0 = y.busy t in omega (arith, e))) ((y.last).kinds) (y.pools) (y.held)) ((w.pool c.pool).count == 0) d
+go_by w (Caller g) (LowerForAll c) fs z h d = lower_all_hold w (Caller g) c fs (if (w.pool c.pool).count == c.workers then Yes else No) h z (d.calls) (λ t. (let e : with_job ((all_lowered w (Caller g) c fs (if (w.pool c.pool).count == c.workers then Yes else No)).job t) ≤ with_job (w.job t) + 0 = d.busy t in omega (arith, e))) ((d.last).kinds) (d.pools) (d.held)
+go_by w (Caller c) (LowerCount (OfPool r) PoolValue n) fs z h d = lower_value w (Caller c) r n fs (if count_in (place_part w (Caller c) (LowerCount (OfPool r) PoolValue n)) (OfPool r) == 1 then Yes else No) h z (d.calls) (λ t. (let e : with_job ((lowered_world w (Caller c) (OfPool r) PoolValue n fs (if count_in (place_part w (Caller c) (LowerCount (OfPool r) PoolValue n)) (OfPool r) == 1 then Yes else No)).job t) ≤ with_job (w.job t) + 0 = d.busy t in omega (arith, e))) ((d.last).kinds) (d.pools) (d.held)
+go_by w (Caller c) (LowerCount (OfPool r) Body n) fs z h d = absurd (let s : SaysThen w (Caller c) n × SaysShare w (OfPool r) Body n = top_says w (Caller c) (LowerCount (OfPool r) Body n) fs (h.calls) z in s.1)
+go_by w (Caller c) (LowerCount (OfScope x o) PoolValue n) fs z h d = absurd (let s : SaysThen w (Caller c) n × SaysShare w (OfScope x o) PoolValue n = top_says w (Caller c) (LowerCount (OfScope x o) PoolValue n) fs (h.calls) z in s.1)
+go_by w (Caller c) (LowerCount (OfScope x o) Body n) fs z h d = plain_go w (Caller c) (LowerCount (OfScope x o) Body n) fs refl d
 go_by w q x fs z h d = plain_go w q x fs refl d
 
 pub go_shares : (w : World) (q : Party) → SharesHold w → IfSome (outcome w q (w.stack q)) (λ r. SharesHold (result w q (w.stack q) r))
@@ -175,6 +186,8 @@ from_shares w q _ fs v z h = tt
 
 pub refuse_shares : (w : World) (q : Party) (x : Place) (fs : List Place) → w.stack q ≡ record { top = x; below = fs } → SharesHold w → IfSome (after_refusal w q (record { top = x; below = fs })) (λ u. CallsHold u → SharesHold u)
 refuse_shares w q (GrowCall n) fs z h = λ a. seen_shares w q (w.shape.pool (own_pool q)) (GrowCall n) fs Refused z (λ t. refl) h a
+refuse_shares w q (GrowScope o) fs z h = λ a. seen_shares w q (w.shape.pool (own_pool q)) (GrowScope o) fs Refused z (λ t. refl) h a
+refuse_shares w q (OpenSlot o) fs z h = λ a. seen_shares w q (w.shape.pool (own_pool q)) (OpenSlot o) fs Refused z (λ t. refl) h a
 refuse_shares w q (AddToFifo f) fs z h = λ a. seen_shares w q (w.shape.pool (own_pool q)) (AddToFifo f) fs Refused z (λ t. refl) h a
 refuse_shares w q (PushToken f v) fs z h = λ a. seen_shares w q (w.shape.pool (own_pool q)) (PushToken f v) fs Refused z (λ t. refl) h a
 refuse_shares w q (PushForAll c) fs z h = λ a. seen_shares w q (w.shape.pool (own_pool q)) (PushForAll c) fs Refused z (λ t. refl) h a
@@ -206,12 +219,12 @@ yield_shares w (Worker a b) x sx vx h = if_cond (λ u. CallsHold u → SharesHol
 yield_shares w (Caller n) x sx vx h = tt
 
 pub give_shares : (w : World) (q : Party) (p : ℕ) → SharesHold w → IfSome (after_end_pool w q p (w.stack q)) (λ u. CallsHold u → SharesHold u)
-give_shares w q p h = if_cond (λ u. CallsHold u → SharesHold u) (is_free ((w.stack q).top) && (is_pool w.shape p && (w.pool p).held)) _ (λ f ch. still_hold w (record w { stack = put_stack w.stack q (after_call (w.stack q) (LowerCount p PoolValue Resume)); pool = put w.pool p (record (w.pool p) { held = false }) }) q (after_call (w.stack q) (LowerCount p PoolValue Resume)) ch (λ s. refl) (omega arith) (λ t. refl)
+give_shares w q p h = if_cond (λ u. CallsHold u → SharesHold u) (is_free ((w.stack q).top) && (is_pool w.shape p && (w.pool p).held)) _ (λ f ch. still_hold w (record w { stack = put_stack w.stack q (after_call (w.stack q) (LowerCount (OfPool p) PoolValue Resume)); pool = put w.pool p (record (w.pool p) { held = false }) }) q (after_call (w.stack q) (LowerCount (OfPool p) PoolValue Resume)) ch (λ s. refl) (omega arith) (λ t. refl)
     (λ r. put_same (λ v. v.counted) w.pool p (record (w.pool p) { held = false }) r refl) (λ r. omega arith) (λ r. put_same (λ v. v.count) w.pool p (record (w.pool p) { held = false }) r refl)
-    (λ t. (let c : shares t (put_stack w.stack q (after_call (w.stack q) (LowerCount p PoolValue Resume)) q) ≡ (0 + shares t (w.stack q)) = above (share t) (shares_in t) (shares t) w q (LowerCount p PoolValue Resume) (λ k. refl) (λ y ys. refl) in omega (arith, c)))
-    (λ r. (let c : all_values r (put_stack w.stack q (after_call (w.stack q) (LowerCount p PoolValue Resume)) q) ≡ (one (r == p) + all_values r (w.stack q)) = above (values r) (values_in r) (all_values r) w q (LowerCount p PoolValue Resume) (λ k. refl) (λ y ys. refl) in
+    (λ t. (let c : shares t (put_stack w.stack q (after_call (w.stack q) (LowerCount (OfPool p) PoolValue Resume)) q) ≡ (0 + shares t (w.stack q)) = above (share t) (shares_in t) (shares t) w q (LowerCount (OfPool p) PoolValue Resume) (λ k. refl) (λ y ys. refl) in omega (arith, c)))
+    (λ r. (let c : all_values r (put_stack w.stack q (after_call (w.stack q) (LowerCount (OfPool p) PoolValue Resume)) q) ≡ (one (r == p) + all_values r (w.stack q)) = above (values r) (values_in r) (all_values r) w q (LowerCount (OfPool p) PoolValue Resume) (λ k. refl) (λ y ys. refl) in
     let d : one (r == p) + one (put w.pool p (record (w.pool p) { held = false }) r).held ≤ one (w.pool r).held = given r (r == p) refl (and_held f) in omega (arith, c, d)))
-    (λ t s. (let c : all_raises t (put_stack w.stack q (after_call (w.stack q) (LowerCount p PoolValue Resume)) s) ≤ 0 + all_raises t (w.stack s) = raises_called w q (LowerCount p PoolValue Resume) t s in let e : all_raises t (w.stack s) + one (w.job t).counted ≤ 1 = h.unraised s t in omega (arith, c, e))) h)
+    (λ t s. (let c : all_raises t (put_stack w.stack q (after_call (w.stack q) (LowerCount (OfPool p) PoolValue Resume)) s) ≤ 0 + all_raises t (w.stack s) = raises_called w q (LowerCount (OfPool p) PoolValue Resume) t s in let e : all_raises t (w.stack s) + one (w.job t).counted ≤ 1 = h.unraised s t in omega (arith, c, e))) h)
   where
     and_held : (is_free ((w.stack q).top) && (is_pool w.shape p && (w.pool p).held)) ≡ true → (w.pool p).held ≡ true
     and_held f = (and_parts (is_pool w.shape p) ((w.pool p).held) ((and_parts (is_free ((w.stack q).top)) (is_pool w.shape p && (w.pool p).held) f).1)).1

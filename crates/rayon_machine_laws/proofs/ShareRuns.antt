@@ -6,7 +6,7 @@ use Rattle.std.proofs.Common.{arith, refl, sym, ◌∙◌, ap, subst}
 use Rattle.std.specs.Prelude.{ℕ, Bool, true, false, ◌&&◌, ◌+◌, ◌==◌, ◌≤◌, if◌then◌else◌, List, ◌≡◌, ⊤, ◌-◌}
 use Rattle.std.proofs.lemmas.Bool.{eqb-true}
 use Rattle.rayon_machine_places.specs.declared.place.Party.{Party}
-use Rattle.rayon_machine_places.specs.declared.place.Plan.TheVariants.{Detach, Here, Send, Fork, Feed}
+use Rattle.rayon_machine_places.specs.declared.place.Plan.TheVariants.{Detach, Here, Send, Fork, Feed, Open, Enter}
 use Rattle.rayon_machine_places.specs.declared.place.Place.{Place}
 use Rattle.rayon_machine_places.specs.declared.place.Move.{Move}
 use Rattle.rayon_machine_places.specs.declared.place.Move.TheVariants.{Stay, Enter, StartRun, Back, HandBack, Discard, HandIn, Mark, HandAllBack}
@@ -108,6 +108,8 @@ after_busy w q (StartRun f a) J t s z = by (t == a) refl
 after_busy w q (HandBack (Detach p a)) J t s z = let b : one (is_busy (put J a (at_job (J a) HandedBack) t).at) ≤ one (is_busy (J t).at) = gone_busy J a t in omega (arith, b)
 after_busy w q (HandBack (Here p a)) J t s z = let b : one (is_busy (put J a (at_job (J a) HandedBack) t).at) ≤ one (is_busy (J t).at) = gone_busy J a t in omega (arith, b)
 after_busy w q (HandBack (Send o)) J t s z = let b : one (is_busy (put J (o.job) (at_job (J (o.job)) HandedBack) t).at) ≤ one (is_busy (J t).at) = gone_busy J (o.job) t in omega (arith, b)
+after_busy w q (HandBack (Open o)) J t s z = let b : one (is_busy (put J (o.job) (at_job (J (o.job)) HandedBack) t).at) ≤ one (is_busy (J t).at) = gone_busy J (o.job) t in omega (arith, b)
+after_busy w q (HandBack (Enter e)) J t s z = let b : one (is_busy (put J (e.job) (at_job (J (e.job)) HandedBack) t).at) ≤ one (is_busy (J t).at) = gone_busy J (e.job) t in omega (arith, b)
 after_busy w q (HandBack (Fork o a)) J t s z = by (t == o.job)
   where
     by : (b : Bool) → one (is_busy (if b then at_job (J (o.job)) HandedBack else put J a (at_job (J a) HandedBack) t).at) ≤ one (is_busy (J t).at) + 0

@@ -8,21 +8,25 @@ use Rattle.rayon_machine_places.specs.declared.place.Latch.TheVariants.{Terminat
 use Rattle.rayon_machine_places.specs.declared.place.Latch.{Latch}
 use Rattle.rayon_machine_places.specs.declared.place.Settling.{Settling}
 use Rattle.rayon_machine_places.specs.declared.place.Share.{Share}
+use Rattle.rayon_machine_places.specs.declared.place.Share.TheVariants.{PoolValue, OfJob, Body}
 use Rattle.rayon_machine_places.specs.declared.place.Then.{Then}
 use Rattle.rayon_machine_places.specs.declared.place.Pieces.{Pieces}
+use Rattle.rayon_machine_laws.specs.Counted.{is_scoped}
+use Rattle.rayon_machine_places.specs.declared.place.Count.TheVariants.{OfPool, OfScope}
+use Rattle.rayon_machine_places.specs.declared.place.Count.{Count}
 use Rattle.std.proofs.Common.{arith, refl, sym, ◌∙◌, ap, subst, rules}
-use Rattle.std.specs.Prelude.{ℕ, Bool, true, false, ◌&&◌, ◌+◌, ◌==◌, ◌≤◌, if◌then◌else◌, Some, List, [], ◌∷◌, ◌≡◌, ◌-◌, IfSome, nat_lt}
+use Rattle.std.specs.Prelude.{ℕ, Bool, true, false, ◌&&◌, ◌+◌, ◌==◌, ◌≤◌, if◌then◌else◌, Some, List, [], ◌∷◌, ◌≡◌, ◌-◌, IfSome, nat_lt, not}
 use Rattle.std.proofs.lemmas.Bool.{eqb-true, eq-eqb}
 use Rattle.rayon_machine_places.specs.declared.place.Party.{Party}
 use Rattle.rayon_machine_places.specs.declared.place.Plan.{Plan}
-use Rattle.rayon_machine_places.specs.declared.place.Plan.TheVariants.{Detach, Here, Send, Fork, Feed}
+use Rattle.rayon_machine_places.specs.declared.place.Plan.TheVariants.{Detach, Here, Send, Fork, Feed, Open, Enter}
 use Rattle.rayon_machine_places.specs.declared.place.Place.{Place}
-use Rattle.rayon_machine_places.specs.declared.place.Place.TheVariants.{RaiseCount, RaiseForAll, LowerForAll, LowerCount, SetLatch, UnlockSettled, ProbeWorking}
+use Rattle.rayon_machine_places.specs.declared.place.Place.TheVariants.{RaiseCount, RaiseForAll, LowerForAll, LowerCount, SetLatch, UnlockSettled, SetLockLatch, ProbeWorking}
 use Rattle.rayon_machine_places.specs.declared.act.Seen.{Seen}
 use Rattle.rayon_machine_places.specs.declared.act.Seen.TheVariants.{Done, Refused, Yes}
 use Rattle.rayon_machine_places.specs.declared.state.Job.{Job}
-use Rattle.rayon_machine_places.specs.Places.{same_party, own_index, plan_pool, plan_job, act_of, next_of, finish, after_set, after_raise}
-use Rattle.rayon_machine_places.specs.World.{Stack, World, Part, target_pool, Shape, Counts, effect}
+use Rattle.rayon_machine_places.specs.Places.{same_party, own_index, plan_pool, plan_job, act_of, next_of, finish, after_set, after_raise, plan_count}
+use Rattle.rayon_machine_places.specs.World.{Stack, World, Part, target_pool, Shape, Counts, effect, raised, count_pool, count_call, pool_more, Pool}
 use Rattle.rayon_machine_places.specs.Steps.{put, put_stack, part_of, after_move, after, is_piece, mark_pieces, marked}
 use Rattle.rayon_machine_laws.specs.Once.{one}
 use Rattle.rayon_machine_laws.specs.Shares.{shares}
@@ -30,7 +34,7 @@ use Rattle.rayon_machine_laws.proofs.Frame.{same_party_true, put_same, put_new, 
 use Rattle.rayon_machine_laws.proofs.Ties.{job_at}
 use Rattle.rayon_machine_laws.proofs.Hands.{hand, held_in, held}
 use Rattle.rayon_machine_laws.proofs.Located.{loc_at, is_loc, where_is, Hand}
-use Rattle.rayon_machine_laws.proofs.Claims.{SaysPlan, SaysPieces}
+use Rattle.rayon_machine_laws.proofs.Claims.{call_unscoped, SaysPlan, SaysPieces}
 use Rattle.rayon_machine_laws.proofs.ClaimActs.{Lasting}
 use Rattle.rayon_machine_laws.proofs.ClaimRuns.{CallsHold, top_says, world_after, place_part}
 use Rattle.rayon_machine_laws.proofs.Amounts.{raises, values, raises_in, all_raises, all_values, gained, pushed, paid, regained}
@@ -53,8 +57,45 @@ pub record Ready (w : World) (q : Party) (x : Place) (fs : List Place) (r : Seen
 abbrev pub stack_after : World → Party → Place → List Place → Seen → Stack
 stack_after w q x fs e = after_move (next_of (w.shape.pool (target_pool q (act_of q x))) q x e) fs
 
-pub tally_same : (p : ℕ) (j i : Job) → j.counted ≡ i.counted → j.pool ≡ i.pool → tally p j ≡ tally p i
-tally_same p j i a b = ap (λ c. one (c && (p == j.pool))) a ∙ ap (λ n. one (i.counted && (p == n))) b
+pub tally_same : (p : ℕ) (j i : Job) → j.counted ≡ i.counted → j.kind ≡ i.kind → j.pool ≡ i.pool → tally p j ≡ tally p i
+tally_same p j i a k b = ap (λ c. one (c && (not (is_scoped j.kind) && (p == j.pool)))) a ∙ ap (λ v. one (i.counted && (not (is_scoped v) && (p == j.pool)))) k ∙ ap (λ n. one (i.counted && (not (is_scoped i.kind) && (p == n)))) b
+
+-- a job without a share, one of no scope, and one of a scope
+pub tally_off : (p : ℕ) (j : Job) → j.counted ≡ false → tally p j ≡ 0
+tally_off p j a = ap (λ c. one (c && (not (is_scoped j.kind) && (p == j.pool)))) a
+
+pub tally_on : (p r : ℕ) (j : Job) → j.counted ≡ true → is_scoped j.kind ≡ false → j.pool ≡ r → tally p j ≡ one (p == r)
+tally_on p r j a k b = ap (λ c. one (c && (not (is_scoped j.kind) && (p == j.pool)))) a ∙ ap (λ v. one (not v && (p == j.pool))) k ∙ ap (λ n. one (p == n)) b
+
+pub tally_scoped : (p : ℕ) (j : Job) → is_scoped j.kind ≡ true → tally p j ≡ 0
+tally_scoped p j k = ap (λ v. one (j.counted && (not v && (p == j.pool)))) k ∙ none j.counted
+  where
+    none : (b : Bool) → one (b && false) ≡ 0
+    none true = refl
+    none false = refl
+
+-- what a share of a count is of this pool's
+abbrev pub weigh : Count → Bool → ℕ
+weigh (OfPool r) b = one b
+weigh (OfScope c o) b = 0
+
+-- what the job of a plan has in a pool's count, once its share is taken
+pub plan_tally : (w : World) (q : Party) (n : Plan) (p : ℕ) (j : Job) → SaysPlan w q n → j.counted ≡ true → j.kind ≡ (w.job (plan_job n)).kind → j.pool ≡ (w.job (plan_job n)).pool → tally p j ≡ weigh (plan_count n) (p == count_pool q (plan_count n))
+plan_tally w q (Detach r t) p j s a k b = tally_on p r j a (ap is_scoped k ∙ ap is_scoped (s.kind)) (b ∙ s.pool)
+plan_tally w q (Here r t) p j s a k b = tally_on p r j a (ap is_scoped k ∙ ap is_scoped (s.kind)) (b ∙ s.pool)
+plan_tally w q (Send o) p j s a k b = tally_on p (o.pool) j a (ap is_scoped k ∙ call_unscoped ((w.job o.job).kind) (o.number, q) ((s.0).kind)) (b ∙ (s.0).pool)
+plan_tally w q (Open o) p j s a k b = tally_on p (o.pool) j a (ap is_scoped k ∙ call_unscoped ((w.job o.job).kind) (o.number, q) ((s.0).kind)) (b ∙ (s.0).pool)
+plan_tally w q (Fork o x) p j s a k b = tally_on p (o.pool) j a (ap is_scoped k ∙ call_unscoped ((w.job o.job).kind) (o.number, q) ((s.0).kind)) (b ∙ (s.0).pool)
+plan_tally w q (Feed f) p j s a k b = tally_on p (f.pool) j a (ap is_scoped k ∙ ap is_scoped ((s.0).kind)) (b ∙ (s.0).pool)
+plan_tally w q (Enter e) p j s a k b = tally_scoped p j (ap is_scoped k ∙ ap is_scoped ((s.0).kind))
+
+pub more_by : (k : Count) (n : ℕ) → pool_more k n ≡ n + weigh k true
+more_by (OfPool r) n = refl
+more_by (OfScope c o) n = omega arith
+
+pub weigh_none : (k : Count) (b : Bool) → b ≡ false → weigh k b ≡ 0
+weigh_none (OfPool r) b e = ap one e
+weigh_none (OfScope c o) b e = refl
 
 pub counted_now : (w : World) (q : Party) (x : Place) (fs : List Place) (r : Seen × Part) → is_sharing (next_of (w.shape.pool (target_pool q (act_of q x))) q x (r.0)) ≡ false → (t : ℕ) → ((world_after w q x fs r).job t).counted ≡ (put w.job (job_at w q (act_of q x)) (r.1.job) t).counted
 counted_now w q x fs r st t = after_counted q (next_of (w.shape.pool (target_pool q (act_of q x))) q x (r.0)) (put w.job (job_at w q (act_of q x)) (r.1.job)) t st
@@ -80,6 +121,15 @@ settled_steady h q s Terminate = by (nat_lt (s.worker + 1) h.workers)
     by false = finish_steady q s.then
 settled_steady h q s (OfCall c) = finish_steady q s.then
 
+pub lower_steady : (g : PoolShape) (q : Party) (k : Count) (s : Share) (n : Then) (e : Seen) → is_sharing (next_of g q (LowerCount k s n) e) ≡ false
+lower_steady g q (OfPool p) s n Yes = by (nat_lt 0 g.workers)
+  where
+    by : (b : Bool) → is_sharing (if b then Stay (SetLatch (record { latch = Terminate; pool = p; worker = 0; then = n })) else finish q n) ≡ false
+    by true = refl
+    by false = finish_steady q n
+lower_steady g q (OfScope c o) s n Yes = refl
+lower_steady g q k s n _ = finish_steady q n
+
 -- no act but those on the count gives shares or takes them
 set_steady : (h : PoolShape) (q : Party) (s : Settling) (e : Seen) → is_sharing (next_of h q (SetLatch s) e) ≡ false
 set_steady h q s Yes = refl
@@ -88,11 +138,15 @@ set_steady h q s _ = settled_steady h q s s.latch
 pub no_steady : (h : Shape) (g : PoolShape) (q : Party) (c : Counts) (m : Part) (x : Place) → is_tally x ≡ false → IfSome (effect (act_of q x) h q c m) (λ r. is_sharing (next_of g q x (r.0)) ≡ false)
 no_steady h g (Worker i j) c m (ProbeWorking k) z = search (rules, arith)
 no_steady h g q c m (RaiseCount n) z = cc
-no_steady h g q c m (LowerCount p s n) z = cc
+no_steady h g q c m (LowerCount (OfPool p) s n) z = cc
+no_steady h g q c m (LowerCount (OfScope d o) PoolValue n) z = cc
+no_steady h g q c m (LowerCount (OfScope d o) (OfJob t) n) z = cc
+no_steady h g q c m (LowerCount (OfScope d o) Body n) z = if_some_all {A = Seen × Part} (λ r. is_sharing (next_of g q (LowerCount (OfScope d o) Body n) (r.0)) ≡ false) (λ r. lower_steady g q (OfScope d o) Body n (r.0)) (effect (act_of q (LowerCount (OfScope d o) Body n)) h q c m)
 no_steady h g q c m (RaiseForAll b) z = cc
 no_steady h g q c m (LowerForAll b) z = cc
 no_steady h g q c m (SetLatch s) z = if_some_all {A = Seen × Part} (λ r. is_sharing (next_of g q (SetLatch s) (r.0)) ≡ false) (λ r. set_steady g q s (r.0)) (effect (act_of q (SetLatch s)) h q c m)
 no_steady h g q c m (UnlockSettled s) z = if_some_all {A = Seen × Part} (λ r. is_sharing (next_of g q (UnlockSettled s) (r.0)) ≡ false) (λ r. settled_steady g q s s.latch) (effect (act_of q (UnlockSettled s)) h q c m)
+no_steady h g q c m (SetLockLatch d n) z = if_some_all {A = Seen × Part} (λ r. is_sharing (next_of g q (SetLockLatch d n) (r.0)) ≡ false) (λ r. finish_steady q n) (effect (act_of q (SetLockLatch d n)) h q c m)
 no_steady h g (Worker i j) c m _ z = search (rules, arith)
 no_steady h g (Caller n) c m _ z = search (rules, arith)
 
@@ -102,20 +156,14 @@ raise_steady (Here p t) = refl
 raise_steady (Send o) = refl
 raise_steady (Fork o a) = refl
 raise_steady (Feed f) = refl
-
-pub lower_steady : (g : PoolShape) (q : Party) (p : ℕ) (s : Share) (n : Then) (e : Seen) → is_sharing (next_of g q (LowerCount p s n) e) ≡ false
-lower_steady g q p s n Yes = by (nat_lt 0 g.workers)
-  where
-    by : (b : Bool) → is_sharing (if b then Stay (SetLatch (record { latch = Terminate; pool = p; worker = 0; then = n })) else finish q n) ≡ false
-    by true = refl
-    by false = finish_steady q n
-lower_steady g q p s n _ = finish_steady q n
+raise_steady (Open o) = refl
+raise_steady (Enter e) = refl
 
 -- an act that takes no share and gives none back
 pub steady_hold : (w : World) (q : Party) (x : Place) (fs : List Place) (r : Seen × Part) → Ready w q x fs r → ((p : ℕ) → ((world_after w q x fs r).pool p).counted ≡ (w.pool p).counted) → ((p : ℕ) → ((world_after w q x fs r).pool p).count ≡ (w.pool p).count) → ((t : ℕ) → ((world_after w q x fs r).job t).counted ≡ (w.job t).counted) → ((t : ℕ) → gained t x (r.0) ≡ 0) → SharesHold (world_after w q x fs r)
 steady_hold w q x fs r d pc pn counted none = still_hold w (world_after w q x fs r) q (stack_after w q x fs (r.0)) (d.calls) (λ s. refl) (omega arith) counted
     pc
-    (λ p. (let a : sum_below w.jobs (λ t. tally p ((world_after w q x fs r).job t)) ≡ sum_below w.jobs (λ t. tally p (w.job t)) = sum_same w.jobs (λ t. tally p ((world_after w q x fs r).job t)) (λ t. tally p (w.job t)) (λ t b. tally_same p ((world_after w q x fs r).job t) (w.job t) (counted t) (d.pools t)) in omega (arith, a)))
+    (λ p. (let a : sum_below w.jobs (λ t. tally p ((world_after w q x fs r).job t)) ≡ sum_below w.jobs (λ t. tally p (w.job t)) = sum_same w.jobs (λ t. tally p ((world_after w q x fs r).job t)) (λ t. tally p (w.job t)) (λ t b. tally_same p ((world_after w q x fs r).job t) (w.job t) (counted t) ((d.last).kinds t) (d.pools t)) in omega (arith, a)))
     pn
     (λ t. (let a : shares t (put_stack w.stack q (stack_after w q x fs (r.0)) q) + (pushed t x (r.0) + paid t x) ≡ shares t (w.stack q) + (gained t x (r.0) + regained t x (r.0)) = shares_mine w q x fs (w.shape.pool (target_pool q (act_of q x))) (r.0) t (d.stack) in let b : with_job ((world_after w q x fs r).job t) + regained t x (r.0) ≤ with_job (w.job t) + pushed t x (r.0) = d.regains t in let c : gained t x (r.0) ≡ 0 = none t in omega (arith, a, b, c)))
     (λ p. (let a : all_values p (put_stack w.stack q (stack_after w q x fs (r.0)) q) + values p x ≡ all_values p (w.stack q) = values_mine w q x fs (w.shape.pool (target_pool q (act_of q x))) (r.0) p (d.stack) in let b : one ((world_after w q x fs r).pool p).held ≡ one (w.pool p).held = ap one (d.held p) in omega (arith, a, b)))
@@ -134,6 +182,8 @@ raises_hand t (RaiseCount (Detach p u)) = omega arith
 raises_hand t (RaiseCount (Here p u)) = omega arith
 raises_hand t (RaiseCount (Send o)) = omega arith
 raises_hand t (RaiseCount (Fork o a)) = omega arith
+raises_hand t (RaiseCount (Open o)) = omega arith
+raises_hand t (RaiseCount (Enter e)) = omega arith
 raises_hand t _ = omega arith
 
 raises_held : (t : ℕ) (fs : List Place) → raises_in t fs ≤ held_in t fs
@@ -144,40 +194,48 @@ pub all_held : (t : ℕ) (k : Stack) → all_raises t k ≤ held t k
 all_held t k = let a : raises t k.top ≤ hand t k.top = raises_hand t k.top in let b : raises_in t k.below ≤ held_in t k.below = raises_held t k.below in omega (arith, a, b)
 
 -- what is known of the job that a plan makes
-plan_made : (w : World) (q : Party) (n : Plan) → SaysPlan w q n → (plan_job n + 1 ≤ w.jobs) × ((w.job (plan_job n)).pool ≡ plan_pool n)
+pub plan_made : (w : World) (q : Party) (n : Plan) → SaysPlan w q n → (plan_job n + 1 ≤ w.jobs) × ((w.job (plan_job n)).pool ≡ plan_pool n)
 plan_made w q (Detach p t) s = (s.made, s.pool)
 plan_made w q (Here p t) s = (s.made, s.pool)
 plan_made w q (Send o) s = ((s.0).made, (s.0).pool)
 plan_made w q (Feed f) s = ((s.0).made, (s.0).pool)
 plan_made w q (Fork o a) s = ((s.0).made, (s.0).pool)
+plan_made w q (Open o) s = ((s.0).made, (s.0).pool)
+plan_made w q (Enter e) s = ((s.0).made, (s.0).pool)
 
 pub self_one : (t : ℕ) → one (t == t) ≡ 1
 self_one t = ap one (eq-eqb t t refl)
 
 -- the world after a share is taken
 abbrev pub raised_world : World → Party → Plan → List Place → World
-raised_world w q n fs = after w q (record { top = RaiseCount n; below = fs }) (plan_pool n) (own_index q) 0 (plan_job n) (Done, record (part_of w (plan_pool n) (own_index q) 0 (plan_job n)) { pool = record (w.pool (plan_pool n)) { count = (w.pool (plan_pool n)).count + 1 }; job = record (w.job (plan_job n)) { counted = true } })
+raised_world w q n fs = after w q (record { top = RaiseCount n; below = fs }) (count_pool q (plan_count n)) (own_index q) (count_call (plan_count n)) (plan_job n) (Done, raised (part_of w (count_pool q (plan_count n)) (own_index q) (count_call (plan_count n)) (plan_job n)) (plan_count n))
 
-pub raise_hold : (w : World) (q : Party) (n : Plan) (fs : List Place) → SharesHold w → w.stack q ≡ record { top = RaiseCount n; below = fs } → CallsHold (raised_world w q n fs) → ((t : ℕ) → with_job ((raised_world w q n fs).job t) ≤ with_job (w.job t)) → ((t : ℕ) → ((raised_world w q n fs).job t).pool ≡ (w.job t).pool) → ((p : ℕ) → ((raised_world w q n fs).pool p).held ≡ (w.pool p).held) → SharesHold (raised_world w q n fs)
-raise_hold w q n fs h z ch busy pools keeps = record {
+pub raise_hold : (w : World) (q : Party) (n : Plan) (fs : List Place) → SharesHold w → w.stack q ≡ record { top = RaiseCount n; below = fs } → CallsHold (raised_world w q n fs) → ((t : ℕ) → with_job ((raised_world w q n fs).job t) ≤ with_job (w.job t)) → ((t : ℕ) → ((raised_world w q n fs).job t).kind ≡ (w.job t).kind) → ((t : ℕ) → ((raised_world w q n fs).job t).pool ≡ (w.job t).pool) → ((p : ℕ) → ((raised_world w q n fs).pool p).held ≡ (w.pool p).held) → SharesHold (raised_world w q n fs)
+raise_hold w q n fs h z ch busy kinds pools keeps = record {
   calls = ch;
   jobs = λ t. jobs t (t == plan_job n) refl;
-  values = λ p. subst (λ c. Tokens (λ s. all_values p ((raised_world w q n fs).stack s)) (one ((raised_world w q n fs).pool p).held) (one c)) (sym (put_same (λ v. v.counted) w.pool (plan_pool n) (record (w.pool (plan_pool n)) { count = (w.pool (plan_pool n)).count + 1 }) p refl))
+  values = λ p. subst (λ c. Tokens (λ s. all_values p ((raised_world w q n fs).stack s)) (one ((raised_world w q n fs).pool p).held) (one c)) (sym (put_same (λ v. v.counted) w.pool p0 more p refl))
       (tokens_keep (λ s. all_values p (w.stack s)) (λ s. all_values p ((raised_world w q n fs).stack s)) (one (w.pool p).held) (one ((raised_world w q n fs).pool p).held) (one (w.pool p).counted) q (one_most ((w.pool p).counted)) (λ s e. other_le (all_values p) w q k s e)
-      (let a : all_values p (put_stack w.stack q k q) + values p (RaiseCount n) ≡ all_values p (w.stack q) = values_mine w q (RaiseCount n) fs (w.shape.pool (plan_pool n)) Done p z in let b : one ((raised_world w q n fs).pool p).held ≡ one (w.pool p).held = ap one (keeps p) in omega (arith, a, b)) (h.values p));
+      (let a : all_values p (put_stack w.stack q k q) + values p (RaiseCount n) ≡ all_values p (w.stack q) = values_mine w q (RaiseCount n) fs (w.shape.pool p0) Done p z in let b : one ((raised_world w q n fs).pool p).held ≡ one (w.pool p).held = ap one (keeps p) in omega (arith, a, b)) (h.values p));
   unraised = λ s t. unraised s t (t == plan_job n) refl;
   unmade = λ t b. unmade t b (t == plan_job n) refl;
-  sums = λ p. sums p (p == plan_pool n) refl;
+  sums = λ p. sums p (p == p0) refl;
 }
   where
+    p0 : ℕ
+    p0 = count_pool q (plan_count n)
+
+    more : Pool
+    more = record (w.pool p0) { count = pool_more (plan_count n) (w.pool p0).count }
+
     k : Stack
-    k = after_move (next_of (w.shape.pool (plan_pool n)) q (RaiseCount n) Done) fs
+    k = after_move (next_of (w.shape.pool p0) q (RaiseCount n) Done) fs
 
     said : (plan_job n + 1 ≤ w.jobs) × ((w.job (plan_job n)).pool ≡ plan_pool n)
     said = plan_made w q n (top_says w q (RaiseCount n) fs (h.calls) z)
 
     counted : (t : ℕ) → ((raised_world w q n fs).job t).counted ≡ (put w.job (plan_job n) (record (w.job (plan_job n)) { counted = true }) t).counted
-    counted t = after_counted q (next_of (w.shape.pool (plan_pool n)) q (RaiseCount n) Done) (put w.job (plan_job n) (record (w.job (plan_job n)) { counted = true })) t (raise_steady n)
+    counted t = after_counted q (next_of (w.shape.pool p0) q (RaiseCount n) Done) (put w.job (plan_job n) (record (w.job (plan_job n)) { counted = true })) t (raise_steady n)
 
     now : ((raised_world w q n fs).job (plan_job n)).counted ≡ true
     now = counted (plan_job n) ∙ ap (λ j. j.counted) (put_new w.job (plan_job n) (record (w.job (plan_job n)) { counted = true }))
@@ -192,7 +250,7 @@ raise_hold w q n fs h z ch busy pools keeps = record {
     before = one_not ((w.job (plan_job n)).counted) (let a : all_raises (plan_job n) (w.stack q) + one (w.job (plan_job n)).counted ≤ 1 = h.unraised q (plan_job n) in let b : one (plan_job n == plan_job n) ≡ 1 = self_one (plan_job n) in let c : all_raises (plan_job n) (w.stack q) ≡ (one (plan_job n == plan_job n) + raises_in (plan_job n) fs) = mine_raises in omega (arith, a, b, c))
 
     line : (t : ℕ) → shares t (put_stack w.stack q k q) ≤ shares t (w.stack q) + one (t == plan_job n)
-    line t = let a : shares t (put_stack w.stack q k q) + (0 + 0) ≡ shares t (w.stack q) + (one (t == plan_job n) + 0) = shares_mine w q (RaiseCount n) fs (w.shape.pool (plan_pool n)) Done t z in omega (arith, a)
+    line t = let a : shares t (put_stack w.stack q k q) + (0 + 0) ≡ shares t (w.stack q) + (one (t == plan_job n) + 0) = shares_mine w q (RaiseCount n) fs (w.shape.pool p0) Done t z in omega (arith, a)
 
     jobs : (t : ℕ) (b : Bool) → (t == plan_job n) ≡ b → Tokens (λ s. shares t ((raised_world w q n fs).stack s)) (with_job ((raised_world w q n fs).job t)) (one ((raised_world w q n fs).job t).counted)
     jobs t true e = subst (λ t. Tokens (λ s. shares t ((raised_world w q n fs).stack s)) (with_job ((raised_world w q n fs).job t)) (one ((raised_world w q n fs).job t).counted)) (sym (eqb-true t (plan_job n) e))
@@ -205,7 +263,7 @@ raise_hold w q n fs h z ch busy pools keeps = record {
         (let a : shares t (put_stack w.stack q k q) ≤ shares t (w.stack q) + one (t == plan_job n) = line t in let b : with_job ((raised_world w q n fs).job t) ≤ with_job (w.job t) = busy t in let c : one (t == plan_job n) ≡ 0 = ap one e in omega (arith, a, b, c)) (h.jobs t))
 
     none_raises : (s : Party) (b : Bool) → same_party s q ≡ b → all_raises (plan_job n) ((raised_world w q n fs).stack s) ≤ 0
-    none_raises s true e = subst (λ s. all_raises (plan_job n) ((raised_world w q n fs).stack s) ≤ 0) (sym (same_party_true s q e)) (let a : all_raises (plan_job n) (put_stack w.stack q k q) + one (plan_job n == plan_job n) ≡ all_raises (plan_job n) (w.stack q) = raises_mine w q (RaiseCount n) fs (w.shape.pool (plan_pool n)) Done (plan_job n) z in let b : one (plan_job n == plan_job n) ≡ 1 = self_one (plan_job n) in let c : all_raises (plan_job n) (w.stack q) + one (w.job (plan_job n)).counted ≤ 1 = h.unraised q (plan_job n) in omega (arith, a, b, c))
+    none_raises s true e = subst (λ s. all_raises (plan_job n) ((raised_world w q n fs).stack s) ≤ 0) (sym (same_party_true s q e)) (let a : all_raises (plan_job n) (put_stack w.stack q k q) + one (plan_job n == plan_job n) ≡ all_raises (plan_job n) (w.stack q) = raises_mine w q (RaiseCount n) fs (w.shape.pool p0) Done (plan_job n) z in let b : one (plan_job n == plan_job n) ≡ 1 = self_one (plan_job n) in let c : all_raises (plan_job n) (w.stack q) + one (w.job (plan_job n)).counted ≤ 1 = h.unraised q (plan_job n) in omega (arith, a, b, c))
     none_raises s false e = let a : all_raises (plan_job n) (put_stack w.stack q k s) ≤ all_raises (plan_job n) (w.stack s) = other_le (all_raises (plan_job n)) w q k s e in
         let b : all_raises (plan_job n) (w.stack s) ≤ held (plan_job n) (w.stack s) = all_held (plan_job n) (w.stack s) in
         let c : held (plan_job n) (w.stack s) ≡ is_loc (Hand s) (loc_at (w.job (plan_job n))) = (((h.calls).jobs).ok).placed (Hand s) (plan_job n) in
@@ -217,32 +275,32 @@ raise_hold w q n fs h z ch busy pools keeps = record {
 
     unraised : (s : Party) (t : ℕ) (b : Bool) → (t == plan_job n) ≡ b → all_raises t ((raised_world w q n fs).stack s) + one ((raised_world w q n fs).job t).counted ≤ 1
     unraised s t true e = subst (λ t. all_raises t ((raised_world w q n fs).stack s) + one ((raised_world w q n fs).job t).counted ≤ 1) (sym (eqb-true t (plan_job n) e)) (let a : all_raises (plan_job n) ((raised_world w q n fs).stack s) ≤ 0 = none_raises s (same_party s q) refl in let b : one ((raised_world w q n fs).job (plan_job n)).counted ≤ 1 = one_most (((raised_world w q n fs).job (plan_job n)).counted) in omega (arith, a, b))
-    unraised s t false e = let a : all_raises t (put_stack w.stack q k s) ≤ all_raises t (w.stack s) = raises_all w q (RaiseCount n) fs (w.shape.pool (plan_pool n)) Done t z s in let b : all_raises t (w.stack s) + one (w.job t).counted ≤ 1 = h.unraised s t in let c : one ((raised_world w q n fs).job t).counted ≡ one (w.job t).counted = ap one (same t e) in omega (arith, a, b, c)
+    unraised s t false e = let a : all_raises t (put_stack w.stack q k s) ≤ all_raises t (w.stack s) = raises_all w q (RaiseCount n) fs (w.shape.pool p0) Done t z s in let b : all_raises t (w.stack s) + one (w.job t).counted ≤ 1 = h.unraised s t in let c : one ((raised_world w q n fs).job t).counted ≡ one (w.job t).counted = ap one (same t e) in omega (arith, a, b, c)
 
     unmade : (t : ℕ) → w.jobs ≤ t → (b : Bool) → (t == plan_job n) ≡ b → ((raised_world w q n fs).job t).counted ≡ false
     unmade t y true e = absurd (let i : t ≡ plan_job n = eqb-true t (plan_job n) e in let m : plan_job n + 1 ≤ w.jobs = said.0 in omega (arith, i, m, y))
     unmade t y false e = same t e ∙ h.unmade t y
 
     change : (p : ℕ) → (sum_below w.jobs (λ t. tally p ((raised_world w q n fs).job t)) + tally p (w.job (plan_job n))) ≡ (sum_below w.jobs (λ t. tally p (w.job t)) + tally p ((raised_world w q n fs).job (plan_job n)))
-    change p = sum_change w.jobs (λ t. tally p (w.job t)) (λ t. tally p ((raised_world w q n fs).job t)) (plan_job n) (said.0) (λ t e. sym (tally_same p ((raised_world w q n fs).job t) (w.job t) (same t e) (pools t)))
+    change p = sum_change w.jobs (λ t. tally p (w.job t)) (λ t. tally p ((raised_world w q n fs).job t)) (plan_job n) (said.0) (λ t e. sym (tally_same p ((raised_world w q n fs).job t) (w.job t) (same t e) (kinds t) (pools t)))
 
-    new_tally : (p : ℕ) → tally p ((raised_world w q n fs).job (plan_job n)) ≡ one (p == plan_pool n)
-    new_tally p = ap (λ c. one (c && (p == ((raised_world w q n fs).job (plan_job n)).pool))) now ∙ ap (λ m. one (p == m)) (pools (plan_job n) ∙ said.1)
+    new_tally : (p : ℕ) → tally p ((raised_world w q n fs).job (plan_job n)) ≡ weigh (plan_count n) (p == p0)
+    new_tally p = plan_tally w q n p ((raised_world w q n fs).job (plan_job n)) (top_says w q (RaiseCount n) fs (h.calls) z) now (kinds (plan_job n)) (pools (plan_job n))
 
-    sums : (p : ℕ) (b : Bool) → (p == plan_pool n) ≡ b → sum_below w.jobs (λ t. tally p ((raised_world w q n fs).job t)) + one (if b then record (w.pool (plan_pool n)) { count = (w.pool (plan_pool n)).count + 1 } else w.pool p).counted ≡ (if b then record (w.pool (plan_pool n)) { count = (w.pool (plan_pool n)).count + 1 } else w.pool p).count
-    sums p true e = let i : p ≡ plan_pool n = eqb-true p (plan_pool n) e in
+    sums : (p : ℕ) (b : Bool) → (p == p0) ≡ b → sum_below w.jobs (λ t. tally p ((raised_world w q n fs).job t)) + one (if b then more else w.pool p).counted ≡ (if b then more else w.pool p).count
+    sums p true e = let i : p ≡ p0 = eqb-true p p0 e in
         let a : sum_below w.jobs (λ t. tally p (w.job t)) + one (w.pool p).counted ≡ (w.pool p).count = h.sums p in
         let b : (sum_below w.jobs (λ t. tally p ((raised_world w q n fs).job t)) + tally p (w.job (plan_job n))) ≡ (sum_below w.jobs (λ t. tally p (w.job t)) + tally p ((raised_world w q n fs).job (plan_job n))) = change p in
-        let c : tally p ((raised_world w q n fs).job (plan_job n)) ≡ one (p == plan_pool n) = new_tally p in
-        let d : one (p == plan_pool n) ≡ 1 = ap one e in
-        let f : one (w.pool (plan_pool n)).counted ≡ one (w.pool p).counted = ap (λ m. one (w.pool m).counted) (sym i) in
-        let g : (w.pool (plan_pool n)).count ≡ (w.pool p).count = ap (λ m. (w.pool m).count) (sym i) in
-        let old : tally p (w.job (plan_job n)) ≡ 0 = ap (λ c. one (c && (p == (w.job (plan_job n)).pool))) before in omega (arith, a, b, c, d, f, g, old)
+        let c : tally p ((raised_world w q n fs).job (plan_job n)) ≡ weigh (plan_count n) true = new_tally p ∙ ap (weigh (plan_count n)) e in
+        let d : pool_more (plan_count n) (w.pool p0).count ≡ (w.pool p0).count + weigh (plan_count n) true = more_by (plan_count n) ((w.pool p0).count) in
+        let f : one (w.pool p0).counted ≡ one (w.pool p).counted = ap (λ m. one (w.pool m).counted) (sym i) in
+        let g : (w.pool p0).count ≡ (w.pool p).count = ap (λ m. (w.pool m).count) (sym i) in
+        let old : tally p (w.job (plan_job n)) ≡ 0 = tally_off p (w.job (plan_job n)) before in omega (arith, a, b, c, d, f, g, old)
     sums p false e = let a : sum_below w.jobs (λ t. tally p (w.job t)) + one (w.pool p).counted ≡ (w.pool p).count = h.sums p in
         let b : (sum_below w.jobs (λ t. tally p ((raised_world w q n fs).job t)) + tally p (w.job (plan_job n))) ≡ (sum_below w.jobs (λ t. tally p (w.job t)) + tally p ((raised_world w q n fs).job (plan_job n))) = change p in
-        let c : tally p ((raised_world w q n fs).job (plan_job n)) ≡ one (p == plan_pool n) = new_tally p in
-        let d : one (p == plan_pool n) ≡ 0 = ap one e in
-        let old : tally p (w.job (plan_job n)) ≡ 0 = ap (λ c. one (c && (p == (w.job (plan_job n)).pool))) before in omega (arith, a, b, c, d, old)
+        let c : tally p ((raised_world w q n fs).job (plan_job n)) ≡ weigh (plan_count n) (p == p0) = new_tally p in
+        let d : weigh (plan_count n) (p == p0) ≡ 0 = weigh_none (plan_count n) (p == p0) e in
+        let old : tally p (w.job (plan_job n)) ≡ 0 = tally_off p (w.job (plan_job n)) before in omega (arith, a, b, c, d, old)
 
 -- what a broadcast says of its pieces
 pub pieces_made : (w : World) (c : Pieces) → SaysPieces w c → (t : ℕ) → is_piece c t ≡ true → t + 1 ≤ w.jobs
@@ -266,8 +324,8 @@ refused_hold w q c fs d jo = steady_hold w q (RaiseForAll c) fs (Refused, place_
 abbrev pub all_raised : World → Party → Pieces → List Place → World
 all_raised w q c fs = after w q (record { top = RaiseForAll c; below = fs }) c.pool (own_index q) 0 0 (Done, record (part_of w c.pool (own_index q) 0 0) { pool = record (w.pool c.pool) { count = (w.pool c.pool).count + c.workers } })
 
-pub raise_all_hold : (w : World) (q : Party) (c : Pieces) (fs : List Place) → SharesHold w → w.stack q ≡ record { top = RaiseForAll c; below = fs } → CallsHold (all_raised w q c fs) → ((t : ℕ) → with_job ((all_raised w q c fs).job t) ≤ with_job (w.job t)) → ((t : ℕ) → ((all_raised w q c fs).job t).pool ≡ (w.job t).pool) → ((p : ℕ) → ((all_raised w q c fs).pool p).held ≡ (w.pool p).held) → SharesHold (all_raised w q c fs)
-raise_all_hold w q c fs h z ch busy pools keeps = record {
+pub raise_all_hold : (w : World) (q : Party) (c : Pieces) (fs : List Place) → SharesHold w → w.stack q ≡ record { top = RaiseForAll c; below = fs } → CallsHold (all_raised w q c fs) → ((t : ℕ) → with_job ((all_raised w q c fs).job t) ≤ with_job (w.job t)) → ((t : ℕ) → ((all_raised w q c fs).job t).kind ≡ (w.job t).kind) → ((t : ℕ) → ((all_raised w q c fs).job t).pool ≡ (w.job t).pool) → ((p : ℕ) → ((all_raised w q c fs).pool p).held ≡ (w.pool p).held) → SharesHold (all_raised w q c fs)
+raise_all_hold w q c fs h z ch busy kinds pools keeps = record {
   calls = ch;
   jobs = λ t. jobs t (is_piece c t) refl;
   values = λ p. subst (λ d. Tokens (λ s. all_values p (v.stack s)) (one (v.pool p).held) (one d)) (sym (put_same (λ a. a.counted) w.pool c.pool (record (w.pool c.pool) { count = (w.pool c.pool).count + c.workers }) p refl))
@@ -331,12 +389,12 @@ raise_all_hold w q c fs h z ch busy pools keeps = record {
     unmade t y false e = same t e ∙ h.unmade t y
 
     gains : (p t : ℕ) (b : Bool) → is_piece c t ≡ b → (p == c.pool) ≡ true → tally p (v.job t) ≡ tally p (w.job t) + one (is_piece c t)
-    gains p t true e y = let a : tally p (v.job t) ≡ 1 = ap (λ d. one (d && (p == (v.job t).pool))) (now t e) ∙ ap (λ m. one (p == m)) (pools t ∙ (said t e).pool) ∙ ap one y in let b : tally p (w.job t) ≡ 0 = ap (λ d. one (d && (p == (w.job t).pool))) (before t e) in let d : one (is_piece c t) ≡ 1 = ap one e in omega (arith, a, b, d)
-    gains p t false e y = let a : tally p (v.job t) ≡ tally p (w.job t) = tally_same p (v.job t) (w.job t) (same t e) (pools t) in let d : one (is_piece c t) ≡ 0 = ap one e in omega (arith, a, d)
+    gains p t true e y = let a : tally p (v.job t) ≡ 1 = tally_on p c.pool (v.job t) (now t e) (ap is_scoped (kinds t ∙ (said t e).kind)) (pools t ∙ (said t e).pool) ∙ ap one y in let b : tally p (w.job t) ≡ 0 = tally_off p (w.job t) (before t e) in let d : one (is_piece c t) ≡ 1 = ap one e in omega (arith, a, b, d)
+    gains p t false e y = let a : tally p (v.job t) ≡ tally p (w.job t) = tally_same p (v.job t) (w.job t) (same t e) (kinds t) (pools t) in let d : one (is_piece c t) ≡ 0 = ap one e in omega (arith, a, d)
 
     stays : (p t : ℕ) (b : Bool) → is_piece c t ≡ b → (p == c.pool) ≡ false → tally p (v.job t) ≡ tally p (w.job t)
-    stays p t true e y = let a : tally p (v.job t) ≡ 0 = ap (λ d. one (d && (p == (v.job t).pool))) (now t e) ∙ ap (λ m. one (p == m)) (pools t ∙ (said t e).pool) ∙ ap one y in let b : tally p (w.job t) ≡ 0 = ap (λ d. one (d && (p == (w.job t).pool))) (before t e) in omega (arith, a, b)
-    stays p t false e y = tally_same p (v.job t) (w.job t) (same t e) (pools t)
+    stays p t true e y = let a : tally p (v.job t) ≡ 0 = tally_on p c.pool (v.job t) (now t e) (ap is_scoped (kinds t ∙ (said t e).kind)) (pools t ∙ (said t e).pool) ∙ ap one y in let b : tally p (w.job t) ≡ 0 = tally_off p (w.job t) (before t e) in omega (arith, a, b)
+    stays p t false e y = tally_same p (v.job t) (w.job t) (same t e) (kinds t) (pools t)
 
     sums : (p : ℕ) (b : Bool) → (p == c.pool) ≡ b → sum_below w.jobs (λ t. tally p (v.job t)) + one (if b then record (w.pool c.pool) { count = (w.pool c.pool).count + c.workers } else w.pool p).counted ≡ (if b then record (w.pool c.pool) { count = (w.pool c.pool).count + c.workers } else w.pool p).count
     sums p true e = let i : p ≡ c.pool = eqb-true p c.pool e in

@@ -6,7 +6,7 @@ use Rattle.std.proofs.lemmas.List.{length-append}
 use Rattle.rayon_machine_places.specs.declared.place.Place.TheVariants.{AddToFifo, BeginHere, BeginTask, JoinPop, JoinTakeCast, LocalPop, LocalTakeCast, PopIdle, PopInjected, PopWorking, PushJob, PushToken, StealFrom, TakeCastIdle, TakeCastWorking, TakeFromFifo, YieldPop, YieldPopInjected, YieldSteal, YieldTakeCast, PushForAll}
 use Rattle.rayon_machine_places.specs.declared.place.Party.TheVariants.{Caller, Worker}
 use Rattle.rayon_machine_places.specs.World.{Counts, Part, Shape, World, at_job, begun, but_first, but_last, counts_at, effect, fifo_out, head_of, is_open, last_of, left_by, or_none, own_left, own_of, pop_injector, popped, take_cast, target_call, target_pool, target_worker}
-use Rattle.rayon_machine_places.specs.declared.place.Plan.TheVariants.{Detach, Feed, Fork, Here, Send}
+use Rattle.rayon_machine_places.specs.declared.place.Plan.TheVariants.{Detach, Feed, Fork, Here, Send, Open, Enter}
 use Rattle.rayon_machine_places.specs.declared.place.Feeding.{Feeding}
 use Rattle.rayon_machine_places.specs.declared.state.Whereabouts.TheVariants.{InDeque, InFifo, Injected, Retaken, Running, InCast}
 use Rattle.rayon_machine_laws.specs.Once.{IsOnce, in_deque, in_injector, one, times, in_cast}
@@ -20,12 +20,12 @@ use Rattle.rayon_machine_places.specs.declared.place.Taken.TheVariants.{Plain, T
 use Rattle.rayon_machine_places.specs.declared.place.Plan.{Plan}
 use Rattle.rayon_machine_places.specs.declared.act.Act.TheVariants.{PushInj, PushOwn}
 use Rattle.rayon_machine_laws.proofs.Lists.{SameJobs, moves_no_job, quiet_same, times_first, times_own}
-use Rattle.rayon_machine_laws.proofs.Claims.{Says, SaysPlan, queue_plan}
+use Rattle.rayon_machine_laws.proofs.Claims.{call_kind, Says, SaysPlan, queue_plan}
 use Rattle.rayon_machine_places.specs.declared.act.Seen.{Seen}
 use Rattle.rayon_machine_laws.proofs.Later.{Static, act_static}
 use Rattle.rayon_machine_places.specs.declared.place.JobKind.TheVariants.{TokenOf}
 use Rattle.rayon_machine_places.specs.declared.state.Whereabouts.{Whereabouts}
-use Rattle.rayon_machine_places.specs.Places.{act_of, is_member, own_index, own_pool, plan_job, plan_pool, same_party}
+use Rattle.rayon_machine_places.specs.Places.{act_of, is_member, own_index, own_pool, plan_job, plan_pool, same_party, plan_book}
 use Rattle.rayon_machine_laws.proofs.Located.{and_false}
 use Rattle.rayon_machine_laws.proofs.Frame.{either, if_cond, if_some_and, if_some_map, out_sees, same_index, same_party_refl, undo_sees}
 use Rattle.rayon_machine_laws.proofs.Feeders.{is_waiting}
@@ -157,18 +157,24 @@ left_less q (Some r) = by (same_party q r)
     by true = omega arith
     by false = omega arith
 
+call_no_token : (j : ℕ) (k : JobKind) (n : ℕ × Party) → call_kind k ≡ Some n → token_of j k ≡ false
+call_no_token j (TokenOf i) n e = cc
+call_no_token j _ n e = refl
+
 plan_no_token : (w : World) (q : Party) (n : Plan) (j : ℕ) → SaysPlan w q n → token_of j (w.job (plan_job n)).kind ≡ false
 plan_no_token w q (Detach p t) j s = ap (token_of j) (s.kind)
 plan_no_token w q (Here p t) j s = ap (token_of j) (s.kind)
 plan_no_token w q (Feed f) j s = ap (token_of j) ((s.0).kind)
-plan_no_token w q (Send o) j s = ap (token_of j) ((s.0).kind)
-plan_no_token w q (Fork o a) j s = ap (token_of j) ((s.0).kind)
+plan_no_token w q (Send o) j s = call_no_token j ((w.job o.job).kind) (o.number, q) ((s.0).kind)
+plan_no_token w q (Open o) j s = call_no_token j ((w.job o.job).kind) (o.number, q) ((s.0).kind)
+plan_no_token w q (Enter e) j s = ap (token_of j) ((s.0).kind)
+plan_no_token w q (Fork o a) j s = call_no_token j ((w.job o.job).kind) (o.number, q) ((s.0).kind)
 
-push_fair : (w : World) (q : Party) (n : Plan) (v z : Bool) → SaysPlan w q n → IfSome (outcome_of w q (if z then PushOwn (plan_job n) else PushInj (plan_pool n) (plan_job n))) (Fair q (PushJob n v) (part_of w (target_pool q (if z then PushOwn (plan_job n) else PushInj (plan_pool n) (plan_job n))) (target_worker q (if z then PushOwn (plan_job n) else PushInj (plan_pool n) (plan_job n))) (target_call (if z then PushOwn (plan_job n) else PushInj (plan_pool n) (plan_job n))) (job_at w q (if z then PushOwn (plan_job n) else PushInj (plan_pool n) (plan_job n)))))
-push_fair w q n v true s = plain_fair q (PushJob n v) (part_of w (own_pool q) (own_index q) 0 (plan_job n)) _ refl
+push_fair : (w : World) (q : Party) (n : Plan) (v z : Bool) → SaysPlan w q n → IfSome (outcome_of w q (if z then PushOwn (plan_job n) (plan_book n) else PushInj (plan_pool n) (plan_job n) (plan_book n))) (Fair q (PushJob n v) (part_of w (target_pool q (if z then PushOwn (plan_job n) (plan_book n) else PushInj (plan_pool n) (plan_job n) (plan_book n))) (target_worker q (if z then PushOwn (plan_job n) (plan_book n) else PushInj (plan_pool n) (plan_job n) (plan_book n))) (target_call (if z then PushOwn (plan_job n) (plan_book n) else PushInj (plan_pool n) (plan_job n) (plan_book n))) (job_at w q (if z then PushOwn (plan_job n) (plan_book n) else PushInj (plan_pool n) (plan_job n) (plan_book n)))))
+push_fair w q n v true s = plain_fair q (PushJob n v) (part_of w (own_pool q) (own_index q) (or_none (plan_book n)) (plan_job n)) _ refl
     (λ p j. let a : live p j (at_job (w.job (plan_job n)) (InDeque (own_pool q) (own_index q))) ≡ 0 = live_none p j (at_job (w.job (plan_job n)) (InDeque (own_pool q) (own_index q))) (plan_no_token w q n j s) in omega (arith, a))
     (let a : one (is_held (left_by q ((w.seat (own_pool q) (own_index q)).feeder))) ≤ one (is_held ((w.seat (own_pool q) (own_index q)).feeder)) = left_less q ((w.seat (own_pool q) (own_index q)).feeder) in omega (arith, a))
-push_fair w q n v false s = plain_fair q (PushJob n v) (part_of w (plan_pool n) (own_index q) 0 (plan_job n)) _ refl
+push_fair w q n v false s = plain_fair q (PushJob n v) (part_of w (plan_pool n) (own_index q) (or_none (plan_book n)) (plan_job n)) _ refl
     (λ p j. let a : live p j (at_job (w.job (plan_job n)) (Injected (plan_pool n))) ≡ 0 = live_none p j (at_job (w.job (plan_job n)) (Injected (plan_pool n))) (plan_no_token w q n j s) in omega (arith, a))
     (omega arith)
 
@@ -178,7 +184,7 @@ both true false = omega arith
 both false b = omega arith
 
 -- a token is pushed, and its pusher leaves the list
-token_fair : (w : World) (a b : ℕ) (f : Feeding) (v : Bool) → (w.job f.token).kind ≡ TokenOf b → (w.seat a b).feeder ≡ Some (Worker a b) → IfSome (outcome_of w (Worker a b) (PushOwn f.token)) (Fair (Worker a b) (PushToken f v) (part_of w a b 0 f.token))
+token_fair : (w : World) (a b : ℕ) (f : Feeding) (v : Bool) → (w.job f.token).kind ≡ TokenOf b → (w.seat a b).feeder ≡ Some (Worker a b) → IfSome (outcome_of w (Worker a b) (PushOwn f.token None)) (Fair (Worker a b) (PushToken f v) (part_of w a b 0 f.token))
 token_fair w a b f v k s = record {
   job = λ p j. (let c : one (token_of j (w.job f.token).kind && (p == a)) ≤ one ((p == a) && (j == b)) = subst (λ d. one (token_of j d && (p == a)) ≤ one ((p == a) && (j == b))) (sym k) (both (j == b) (p == a)) in omega (arith, c));
   list = let c : one (is_held (left_by (Worker a b) ((w.seat a b).feeder))) ≡ 0 = ap (λ o. one (is_held (left_by (Worker a b) o))) s ∙ gone in let d : one (is_held ((w.seat a b).feeder)) ≡ 1 = ap (λ o. one (is_held o)) s in omega (arith, c, d);

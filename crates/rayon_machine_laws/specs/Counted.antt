@@ -1,8 +1,11 @@
 -- a pool's terminate count is the number of its shares, and each share is kept once
-use Rattle.std.specs.Prelude.{ℕ, Bool, true, false, ◌&&◌, ◌+◌, ◌==◌, ◌≤◌, Option, Some, None, List, [], ◌∷◌, ◌≡◌}
+use Rattle.rayon_machine_places.specs.Readers.{is_done}
+use Rattle.rayon_machine_places.specs.declared.place.Count.{Count}
+use Rattle.rayon_machine_places.specs.declared.place.Count.TheVariants.{OfPool, OfScope}
+use Rattle.std.specs.Prelude.{ℕ, Bool, true, false, not, ◌&&◌, ◌+◌, ◌==◌, ◌≤◌, Option, Some, None, List, [], ◌∷◌, ◌≡◌}
 use Rattle.rayon_machine_places.specs.declared.place.Party.{Party}
 use Rattle.rayon_machine_places.specs.declared.place.JobKind.{JobKind}
-use Rattle.rayon_machine_places.specs.declared.place.JobKind.TheVariants.{Detached}
+use Rattle.rayon_machine_places.specs.declared.place.JobKind.TheVariants.{Detached, Scoped}
 use Rattle.rayon_machine_places.specs.declared.place.Share.TheVariants.{PoolValue}
 use Rattle.rayon_machine_places.specs.declared.place.Place.{Place}
 use Rattle.rayon_machine_places.specs.declared.place.Place.TheVariants.{LowerCount}
@@ -11,10 +14,12 @@ use Rattle.rayon_machine_places.specs.Places.{same_party}
 use Rattle.rayon_machine_places.specs.World.{Stack, World, count_below}
 use Rattle.rayon_machine_laws.specs.Once.{one}
 use Rattle.rayon_machine_laws.specs.Shares.{shares, is_busy}
+pub use Rattle.rayon_machine_laws.specs.Shares.{is_scoped}
 
--- no call waits for a job of this kind
+-- no call waits for a job of this kind alone: it is detached, or of a scope
 abbrev pub is_detached : JobKind → Bool
 is_detached (Detached p) = true
+is_detached (Scoped c o) = true
 is_detached _ = false
 
 -- a job keeps its share itself: a detached one that is queued, in a hand or running. Its call keeps the share before,
@@ -22,13 +27,27 @@ is_detached _ = false
 abbrev pub keeps_own : Job → Bool
 keeps_own j = is_detached j.kind && is_busy j.at
 
--- a job has a share of this pool's terminate count
+-- a job of this kind is of this call's scope
+abbrev pub is_of_scope : ℕ → JobKind → Bool
+is_of_scope n (Scoped c o) = n == c
+is_of_scope n k = false
+
+-- a job has a share of this pool's terminate count: one that is of no scope
 abbrev pub has_share : ℕ → Job → Bool
-has_share p j = j.counted && (p == j.pool)
+has_share p j = j.counted && (not (is_scoped j.kind) && (p == j.pool))
+
+-- a job has a share of the count of this call's scope
+abbrev pub has_entry : ℕ → Job → Bool
+has_entry c j = j.counted && is_of_scope c j.kind
+
+-- the share of a pool's value is one of this pool's count
+abbrev pub value_in : ℕ → Count → ℕ
+value_in p (OfPool r) = one (p == r)
+value_in p (OfScope c o) = 0
 
 -- how often a place is the Lower that gives back the share of pool p's value
 abbrev pub values : ℕ → Place → ℕ
-values p (LowerCount r PoolValue n) = one (p == r)
+values p (LowerCount k PoolValue n) = value_in p k
 values p _ = 0
 
 -- how often these places are
@@ -63,3 +82,17 @@ pub record IsCounted (w : World) : Type 0 where
   pub made : (t : ℕ) → w.jobs ≤ t → (w.job t).counted ≡ false
   pub value : (p : ℕ) → KeptOnce (λ q. all_values p (w.stack q)) (w.pool p).held (w.pool p).counted
   pub jobs : (t : ℕ) → KeptOnce (λ q. shares t (w.stack q)) (keeps_own (w.job t)) (w.job t).counted
+
+-- a scope whose count is 0 has ended: its body is over, and no job of it has a share of the count, is queued or runs
+pub record ScopeEnded (w : World) (c : ℕ) : Type 0 where
+  pub body : is_done (w.job (w.call c).job).at ≡ true
+  pub jobs : (t : ℕ) (o : Party) → (w.job t).kind ≡ Scoped c o → (w.job t).counted ≡ false
+  pub idle : (t : ℕ) (o : Party) → (w.job t).kind ≡ Scoped c o → is_busy (w.job t).at ≡ false
+
+-- each scope's count is 1 while its body's share is in it, and 1 more for each job with a share of it; the body's share
+-- is in it until the body is over, and a job's while the job is queued or runs
+pub record ScopesCounted (w : World) : Type 0 where
+  pub count : (c : ℕ) → (w.call c).count ≡ one (w.call c).counted + count_below w.jobs (λ t. has_entry c (w.job t))
+  pub body : (c : ℕ) → c + 1 ≤ w.calls → (w.call c).counted ≡ false → is_done (w.job (w.call c).job).at ≡ true
+  pub kept : (t c : ℕ) (o : Party) → (w.job t).kind ≡ Scoped c o → is_busy (w.job t).at ≡ true → (w.job t).counted ≡ true
+  pub ended : (c : ℕ) → c + 1 ≤ w.calls → (w.call c).count ≡ 0 → ScopeEnded w c

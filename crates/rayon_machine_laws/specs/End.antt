@@ -6,11 +6,11 @@ use Rattle.rayon_machine_places.specs.declared.place.Party.{Party}
 use Rattle.rayon_machine_places.specs.declared.place.Ending.{Ending}
 use Rattle.rayon_machine_places.specs.declared.place.Ending.TheVariants.{Fine, Fault}
 use Rattle.rayon_machine_places.specs.declared.place.Plan.{Plan}
-use Rattle.rayon_machine_places.specs.declared.place.Plan.TheVariants.{Detach, Here, Send, Fork, Feed}
+use Rattle.rayon_machine_places.specs.declared.place.Plan.TheVariants.{Detach, Here, Send, Fork, Feed, Open, Enter}
 use Rattle.rayon_machine_places.specs.declared.place.Then.{Then}
 use Rattle.rayon_machine_places.specs.declared.place.Then.TheVariants.{Answers, Missing, Ran, GiveBack}
 use Rattle.rayon_machine_places.specs.declared.place.Place.{Place}
-use Rattle.rayon_machine_places.specs.declared.place.Place.TheVariants.{TakeResult, LowerCount, SetLatch, LockToSettle, WakeSettled, UnlockSettled, LowerForAll}
+use Rattle.rayon_machine_places.specs.declared.place.Place.TheVariants.{TakeResult, LowerCount, SetLatch, LockToSettle, WakeSettled, UnlockSettled, LowerForAll, SetLockLatch}
 use Rattle.rayon_machine_places.specs.declared.state.Whereabouts.TheVariants.{Over, HandedBack}
 use Rattle.rayon_machine_places.specs.declared.place.OpenCall.{OpenCall}
 use Rattle.rayon_machine_places.specs.World.{World}
@@ -65,6 +65,7 @@ follows (SetLatch s) = Some s.then
 follows (LockToSettle s) = Some s.then
 follows (WakeSettled s) = Some s.then
 follows (UnlockSettled s) = Some s.then
+follows (SetLockLatch c n) = Some n
 follows _ = None
 
 -- the last steps of a call that was not refused: of one that waited, and of an install that ran its job at once. A call
@@ -90,6 +91,8 @@ AllJobs P (Here p t) = P t
 AllJobs P (Send o) = P o.job
 AllJobs P (Fork o a) = P a × P o.job
 AllJobs P (Feed f) = P f.job × P f.token
+AllJobs P (Open o) = P o.job
+AllJobs P (Enter e) = P e.job
 
 -- a refused call: until its last step its jobs stand in no list and have never run, and once they are handed back that
 -- stays so. So it is of the pieces of a refused broadcast, up to the act that gives back their shares and hands them
@@ -105,6 +108,7 @@ after_settling (SetLatch s) = Some s.then
 after_settling (LockToSettle s) = Some s.then
 after_settling (WakeSettled s) = Some s.then
 after_settling (UnlockSettled s) = Some s.then
+after_settling (SetLockLatch c n) = Some n
 after_settling _ = None
 
 -- the share that a refused call took is given back: no job of it has a share of the terminate count from the act after

@@ -4,12 +4,12 @@ use Rattle.std.specs.Prelude.{ℕ, Bool, true, false, ◌&&◌, ◌+◌, ◌==�
 use Rattle.rayon_machine_places.specs.declared.place.Party.{Party}
 use Rattle.rayon_machine_places.specs.declared.place.Ending.{Ending}
 use Rattle.rayon_machine_places.specs.declared.place.Plan.{Plan}
-use Rattle.rayon_machine_places.specs.declared.place.Plan.TheVariants.{Detach, Here, Send, Fork, Feed}
+use Rattle.rayon_machine_places.specs.declared.place.Plan.TheVariants.{Detach, Here, Send, Fork, Feed, Open, Enter}
 use Rattle.rayon_machine_places.specs.declared.place.Taken.{Taken}
 use Rattle.rayon_machine_places.specs.declared.place.Then.{Then}
 use Rattle.rayon_machine_places.specs.declared.place.Then.TheVariants.{BeginFound, RunFirst, GiveBack}
 use Rattle.rayon_machine_places.specs.declared.place.Place.{Place}
-use Rattle.rayon_machine_places.specs.declared.place.Place.TheVariants.{LeaveSearch, BeginTask, BeginHere, Run, RaiseCount, GrowCall, LookQueue, PushJob, AddToFifo, LookForToken, PushToken, TakeFromFifo, RaiseForAll, PushForAll, LowerForAll, TellNews, LockToWake, WakeWorker, UnlockWoken, LowerCount, SetLatch, LockToSettle, WakeSettled, UnlockSettled}
+use Rattle.rayon_machine_places.specs.declared.place.Place.TheVariants.{LeaveSearch, BeginTask, BeginHere, Run, RaiseCount, GrowCall, LookQueue, PushJob, AddToFifo, LookForToken, PushToken, TakeFromFifo, RaiseForAll, PushForAll, LowerForAll, TellNews, LockToWake, WakeWorker, UnlockWoken, LowerCount, SetLatch, LockToSettle, WakeSettled, UnlockSettled, GrowScope, OpenSlot, CloseSlot, SetLockLatch}
 use Rattle.rayon_machine_places.specs.declared.state.Whereabouts.{Whereabouts}
 use Rattle.rayon_machine_places.specs.declared.state.Whereabouts.TheVariants.{Nowhere, Made, InDeque, Injected, InFifo, InCast, Retaken, Running, Over}
 use Rattle.rayon_machine_places.specs.declared.act.Act.TheVariants.{FifoOut}
@@ -91,6 +91,8 @@ hand_plan t (Here p j) = one (t == j)
 hand_plan t (Send o) = one (t == o.job)
 hand_plan t (Fork o a) = one (t == a) + one (t == o.job)
 hand_plan t (Feed f) = one (t == f.job) + one (t == f.token)
+hand_plan t (Open o) = one (t == o.job)
+hand_plan t (Enter e) = one (t == e.job)
 
 -- after the push a join still has its first side in hand, and a call for a FIFO list its token
 abbrev pub hand_rest : ℕ → Plan → ℕ
@@ -117,6 +119,9 @@ hand t (BeginTask x) = one (t == taken_number x)
 hand t (BeginHere u) = one (t == u)
 hand t (RaiseCount n) = hand_plan t n
 hand t (GrowCall n) = hand_plan t n
+hand t (GrowScope o) = one (t == o.job)
+hand t (OpenSlot e) = one (t == e.job)
+hand t (CloseSlot e) = one (t == e.job)
 hand t (LookQueue n) = hand_plan t n
 hand t (PushJob n e) = hand_plan t n
 hand t (AddToFifo f) = one (t == f.job) + one (t == f.token)
@@ -135,6 +140,7 @@ hand t (SetLatch s) = hand_then t s.then
 hand t (LockToSettle s) = hand_then t s.then
 hand t (WakeSettled s) = hand_then t s.then
 hand t (UnlockSettled s) = hand_then t s.then
+hand t (SetLockLatch c n) = hand_then t n
 hand t _ = 0
 
 -- how often these places have it in hand

@@ -1,18 +1,19 @@
 -- who keeps a pool from ending
 use Rattle.rayon_machine_places.specs.Steps.{is_piece}
+use Rattle.rayon_machine_places.specs.declared.place.JobKind.{JobKind}
 use Rattle.std.specs.Prelude.{ℕ, Bool, true, false, ◌+◌, ◌==◌, List, [], ◌∷◌, ◌≡◌}
 use Rattle.rayon_machine_places.specs.declared.place.Party.{Party}
-use Rattle.rayon_machine_places.specs.declared.place.JobKind.TheVariants.{Detached}
+use Rattle.rayon_machine_places.specs.declared.place.JobKind.TheVariants.{Detached, Scoped}
 use Rattle.rayon_machine_places.specs.declared.place.Target.{Target}
 use Rattle.rayon_machine_places.specs.declared.place.Target.TheVariants.{Termination, Answer}
 use Rattle.rayon_machine_places.specs.declared.place.Plan.{Plan}
 use Rattle.rayon_machine_places.specs.declared.place.Plan.TheVariants.{Send, Fork}
 use Rattle.rayon_machine_places.specs.declared.place.Share.{Share}
-use Rattle.rayon_machine_places.specs.declared.place.Share.TheVariants.{PoolValue, OfJob}
+use Rattle.rayon_machine_places.specs.declared.place.Share.TheVariants.{PoolValue, OfJob, Body}
 use Rattle.rayon_machine_places.specs.declared.place.Then.{Then}
 use Rattle.rayon_machine_places.specs.declared.place.Then.TheVariants.{BeginFound, LeaveWait, Await, RunFirst}
 use Rattle.rayon_machine_places.specs.declared.place.Place.{Place}
-use Rattle.rayon_machine_places.specs.declared.place.Place.TheVariants.{ProbeWorking, PopWorking, TakeCastWorking, BecomeInactive, ProbeIdle, PopIdle, TakeCastIdle, PickVictim, StealFrom, PopInjected, AnnounceSelf, GetSleepy, LockOwn, FallAsleep, LoadCounters, AddSleeping, LookAtCast, LookAtInjector, BlockSelf, RelockOwn, UndoSleeping, WakeUp, UnlockOwn, LeaveSearch, JoinProbe, JoinPop, JoinTakeCast, GrowCall, LookQueue, PushJob, AddToFifo, TellNews, LockToWake, WakeWorker, UnlockWoken, WaitForLock, TakeResult, LowerCount, SetLatch, LockToSettle, WakeSettled, UnlockSettled, FirstSide, SecondSide, AtOnce, PushForAll, LowerForAll}
+use Rattle.rayon_machine_places.specs.declared.place.Place.TheVariants.{ProbeWorking, PopWorking, TakeCastWorking, BecomeInactive, ProbeIdle, PopIdle, TakeCastIdle, PickVictim, StealFrom, PopInjected, AnnounceSelf, GetSleepy, LockOwn, FallAsleep, LoadCounters, AddSleeping, LookAtCast, LookAtInjector, BlockSelf, RelockOwn, UndoSleeping, WakeUp, UnlockOwn, LeaveSearch, JoinProbe, JoinPop, JoinTakeCast, GrowCall, LookQueue, PushJob, AddToFifo, TellNews, LockToWake, WakeWorker, UnlockWoken, WaitForLock, TakeResult, LowerCount, SetLatch, LockToSettle, WakeSettled, UnlockSettled, FirstSide, SecondSide, AtOnce, PushForAll, LowerForAll, GrowScope, OpenSlot, CloseSlot, StoreBody, StoreSlot, SetLockLatch, ScopeBody}
 use Rattle.rayon_machine_places.specs.declared.state.Letter.TheVariants.{Set as IsSet}
 use Rattle.rayon_machine_places.specs.declared.state.Whereabouts.{Whereabouts}
 use Rattle.rayon_machine_places.specs.declared.state.Whereabouts.TheVariants.{InDeque, Injected, InFifo, Running, InCast}
@@ -20,12 +21,12 @@ use Rattle.rayon_machine_places.specs.Places.{plan_job}
 use Rattle.rayon_machine_places.specs.World.{Stack, World}
 use Rattle.rayon_machine_laws.specs.Once.{one}
 
--- a call keeps its pool's terminate count up for its job: one that waits, by what it waits for
+-- a call keeps a count up for its job: one that waits, by what it waits for
 abbrev pub share_target : ℕ → Target → ℕ
 share_target t Termination = 0
 share_target t (Answer o f) = one (t == o.job)
 
--- after its push a detached job has the share, and a call that waits keeps it
+-- after its push a detached job and a job of a scope have the share, and a call that waits keeps it
 abbrev pub share_rest : ℕ → Plan → ℕ
 share_rest t (Send o) = one (t == o.job)
 share_rest t (Fork o a) = one (t == o.job)
@@ -42,6 +43,7 @@ share_then t _ = 0
 -- the share that is about to be given back
 abbrev pub share_of : ℕ → Share → ℕ
 share_of t PoolValue = 0
+share_of t Body = 0
 share_of t (OfJob u) = one (t == u)
 
 -- how often a place keeps a share for job t: from its call's Raise to its Lower
@@ -75,10 +77,16 @@ share t (JoinPop o) = one (t == o.job)
 share t (JoinTakeCast o) = one (t == o.job)
 share t (FirstSide o a) = one (t == o.job)
 share t (SecondSide o) = one (t == o.job)
+share t (ScopeBody o) = one (t == o.job)
 share t (AtOnce p u) = one (t == u)
 share t (WaitForLock o) = one (t == o.job)
 share t (TakeResult o f) = one (t == o.job)
 share t (GrowCall n) = one (t == plan_job n)
+share t (GrowScope o) = one (t == o.job)
+share t (OpenSlot e) = one (t == e.job)
+share t (CloseSlot e) = one (t == e.job)
+share t (StoreBody o e) = one (t == o.job)
+share t (StoreSlot c o u e) = one (t == u)
 share t (LookQueue n) = one (t == plan_job n)
 share t (PushJob n e) = one (t == plan_job n)
 share t (AddToFifo f) = one (t == f.job)
@@ -93,6 +101,7 @@ share t (SetLatch k) = share_then t k.then
 share t (LockToSettle k) = share_then t k.then
 share t (WakeSettled k) = share_then t k.then
 share t (UnlockSettled k) = share_then t k.then
+share t (SetLockLatch c n) = share_then t n
 share t _ = 0
 
 -- how often these frames do
@@ -113,8 +122,14 @@ is_busy (InCast p i) = true
 is_busy (Running q) = true
 is_busy _ = false
 
+-- a job of this kind is of a scope
+abbrev pub is_scoped : JobKind → Bool
+is_scoped (Scoped c o) = true
+is_scoped k = false
+
 -- a pool that has ended: its value is given up, and so is the value's share of the count; no call made at the pool
--- keeps a share, and no detached job of it is queued, in a FIFO list or running
+-- keeps a share of a count, no job made at it has one, those of scopes neither, and no detached job of it is queued, in
+-- a FIFO list or running
 pub record IsGone (w : World) (p : ℕ) : Type 0 where
   pub held : (w.pool p).held ≡ false
   pub counted : (w.pool p).counted ≡ false

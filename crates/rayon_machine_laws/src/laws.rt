@@ -1,19 +1,20 @@
 //! The laws of the machine, each the contract of a call without arguments: it holds in every world of every run.
 ghost use Rattle.rayon_machine_places.specs.Runs.{Always};
 ghost use Rattle.rayon_machine_laws.specs.Committed.{CommittedHold, CommittedSleep, SleepersAreInactive};
+ghost use Rattle.rayon_machine_laws.specs.Counted.{ScopesCounted};
 ghost use Rattle.rayon_machine_laws.specs.Latch.{IsLatched};
 ghost use Rattle.rayon_machine_laws.specs.Once.{IsBound, IsOnce, IsRedeemed};
 
 /// In every world of every run each number that was given out is a job or a token, and its record says where it is. Its
 /// run has begun at most once: a job that is over has run once, and one that was made, queued or handed back has not
 /// begun. A job or token that is not over, spent or handed back stands exactly once where its record says, and nowhere
-/// else: in that worker's deque, in that worker's FIFO list, in that worker's broadcast list, in that pool's injector, or
-/// with that party, in its hand until its run begins and under its run from then on. One that is over, spent or handed back stands nowhere. So no
-/// job and no token is lost and none is doubled.
+/// else: in that worker's deque, in that worker's FIFO list, in that worker's broadcast list, in that pool's injector,
+/// or with that party, in its hand until its run begins and under its run from then on. One that is over, spent or
+/// handed back stands nowhere. So no job and no token is lost and none is doubled.
 /// No party that is to redeem a token finds the token's FIFO list empty (`redeemed`): the tokens of a list that are
 /// queued or in a hand are no more than the jobs that stand in it.
-/// Each piece of a broadcast is bound to one worker (`bound`): it stands in no list but that worker's broadcast list, and
-/// once it is taken with no party but that worker, in its hand or under its run.
+/// Each piece of a broadcast is bound to one worker (`bound`): it stands in no list but that worker's broadcast list,
+/// and once it is taken with no party but that worker, in its hand or under its run.
 /// It does not say that a job ever runs.
 pub fn law_once()
     ensures once { Always IsOnce }
@@ -26,6 +27,14 @@ pub fn law_once()
 /// It does not say that a latch is ever set.
 pub fn law_latch()
     ensures { Always IsLatched }
+{}
+
+/// In every world of every run each scope's count is the number of its shares: 1 for its body, until the body is over,
+/// and 1 for each job of the scope with a share, which each has that is queued or runs. So a scope whose count is 0 has
+/// ended: its body is over, and no job of it is queued or runs.
+/// It does not say that a scope ever ends.
+pub fn law_scope()
+    ensures { Always ScopesCounted }
 {}
 
 /// In every world of every run each sleeping worker is inactive, and each worker that is about to block itself or is

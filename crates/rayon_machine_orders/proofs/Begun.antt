@@ -10,21 +10,21 @@ use Rattle.rayon_machine_places.specs.declared.place.Party.TheVariants.{Worker, 
 use Rattle.rayon_machine_places.specs.declared.place.Ending.{Ending}
 use Rattle.rayon_machine_places.specs.declared.place.Latch.{Latch}
 use Rattle.rayon_machine_places.specs.declared.place.Latch.TheVariants.{Terminate, OfCall}
-use Rattle.rayon_machine_places.specs.declared.place.Plan.TheVariants.{Detach, Here, Send, Fork, Feed}
+use Rattle.rayon_machine_places.specs.declared.place.Plan.TheVariants.{Detach, Here, Send, Fork, Feed, Open, Enter}
 use Rattle.rayon_machine_places.specs.declared.place.Place.{Place}
 use Rattle.rayon_machine_places.specs.declared.place.Place.TheVariants.{ProbeWorking, PickVictim, StealFrom, YieldPop, YieldPick, YieldSteal, LocalPop, Run, SetLatch}
 use Rattle.rayon_machine_places.specs.declared.place.Move.{Move}
 use Rattle.rayon_machine_places.specs.declared.place.Move.TheVariants.{Stay, Enter, StartRun, Back, HandBack, Discard, HandIn, Mark, HandAllBack}
 use Rattle.rayon_machine_places.specs.declared.act.Act.TheVariants.{Set}
 use Rattle.rayon_machine_places.specs.declared.event.Event.{Event}
-use Rattle.rayon_machine_places.specs.declared.event.Event.TheVariants.{Go, From, Refuse, Miss, End, Spawn, Fifo, Install, Join, Yield, YieldLocal, EndPool, Cast}
+use Rattle.rayon_machine_places.specs.declared.event.Event.TheVariants.{Go, From, Refuse, Miss, End, Spawn, Fifo, Install, Join, Yield, YieldLocal, EndPool, Cast, Scope as OpenScope, IntoSpawn}
 use Rattle.rayon_machine_places.specs.declared.state.Whereabouts.TheVariants.{HandedBack, Spent, Over}
 use Rattle.rayon_machine_places.specs.declared.state.Job.{Job}
 use Rattle.rayon_machine_places.specs.Places.{act_of, is_free, is_member}
 use Rattle.rayon_machine_places.specs.World.{Shape, Stack, World, Counts, Part, at_job, begun, effect, target_pool, target_worker, target_call}
 use Rattle.rayon_machine_places.specs.Steps.{put, jobs_after, after_choice, after_miss, after_end, after_send, after_join, after_yield, step, mark_pieces, marked, after_cast, new_piece, is_piece, is_pool}
 use Rattle.rayon_machine_laws.proofs.Calm.{part_at, counts_seen, next_at}
-use Rattle.rayon_machine_laws.proofs.Frame.{if_some_map, if_cond, acted_keeps, fifo_cases, pieces_same, piece_range}
+use Rattle.rayon_machine_laws.proofs.Frame.{if_some_map, if_cond, acted_keeps, fifo_cases, pieces_same, piece_range, into_cases}
 use Rattle.rayon_machine_laws.proofs.Located.{fits}
 use Rattle.rayon_machine_laws.proofs.PlacedRuns.{JobsHold}
 use Rattle.rayon_machine_laws.proofs.Ties.{job_at, outcome, result}
@@ -75,6 +75,8 @@ after_runs q (StartRun x u) f t = put_runs f u (begun q (f u)) (omega arith) t
 after_runs q (HandBack (Detach p u)) f t = put_runs f u (at_job (f u) HandedBack) (omega arith) t
 after_runs q (HandBack (Here p u)) f t = put_runs f u (at_job (f u) HandedBack) (omega arith) t
 after_runs q (HandBack (Send o)) f t = put_runs f o.job (at_job (f o.job) HandedBack) (omega arith) t
+after_runs q (HandBack (Open o)) f t = put_runs f o.job (at_job (f o.job) HandedBack) (omega arith) t
+after_runs q (HandBack (Enter o)) f t = put_runs f o.job (at_job (f o.job) HandedBack) (omega arith) t
 after_runs q (HandBack (Fork o u)) f t = two_back f u o.job t
 
 go_runs : (w : World) (q : Party) → IfSome (outcome w q (w.stack q)) (λ r. BeginsOn w (result w q (w.stack q) r))
@@ -147,6 +149,8 @@ step_runs w (Fifo q p) h = fifo_cases (BeginsOn w) w q p (if_cond (BeginsOn w) _
 step_runs w (Cast q p) h = cast_runs w q p h
 step_runs w (Install q p) h = if_cond (BeginsOn w) _ _ (λ b. sent_runs w q p (is_member q p) h)
 step_runs w (Join q) h = join_runs w q h
+step_runs w (OpenScope q p) h = if_cond (BeginsOn w) _ _ (λ b t. make_runs w h w.jobs _ (omega arith) t)
+step_runs w (IntoSpawn q n) h = into_cases (BeginsOn w) w q n (λ z e free held. if_cond (BeginsOn w) _ _ (λ b t. make_runs w h w.jobs _ (omega arith) t))
 step_runs w (Yield q) h = yield_runs w q YieldPop
 step_runs w (YieldLocal q) h = yield_runs w q LocalPop
 step_runs w (EndPool q p) h = if_cond (BeginsOn w) _ _ (λ b t. omega arith)

@@ -6,7 +6,9 @@ use Rattle.rayon_machine_places.specs.declared.place.Party.{Party}
 use Rattle.rayon_machine_places.specs.declared.place.Party.TheVariants.{Worker, Caller}
 use Rattle.rayon_machine_places.specs.declared.place.Ending.{Ending}
 use Rattle.rayon_machine_places.specs.declared.place.Plan.{Plan}
-use Rattle.rayon_machine_places.specs.declared.place.Plan.TheVariants.{Detach, Here, Send, Fork, Feed}
+use Rattle.rayon_machine_places.specs.declared.place.Plan.TheVariants.{Detach, Here, Send, Fork, Feed, Open, Enter}
+use Rattle.rayon_machine_places.specs.declared.place.Count.{Count}
+use Rattle.rayon_machine_places.specs.declared.place.Count.TheVariants.{OfPool, OfScope}
 use Rattle.rayon_machine_places.specs.declared.place.Share.{Share}
 use Rattle.rayon_machine_places.specs.declared.place.Share.TheVariants.{OfJob}
 use Rattle.rayon_machine_places.specs.declared.place.Then.{Then}
@@ -25,16 +27,16 @@ use Rattle.rayon_machine_places.specs.declared.state.Whereabouts.{Whereabouts}
 use Rattle.rayon_machine_places.specs.declared.state.Whereabouts.TheVariants.{InDeque, Injected, InFifo, Spent}
 use Rattle.rayon_machine_places.specs.declared.place.OpenCall.{OpenCall}
 use Rattle.rayon_machine_places.specs.declared.state.Job.{Job}
-use Rattle.rayon_machine_places.specs.Places.{own_pool, own_index, is_member, plan_pool, plan_job, finish, settle, act_of, next_of}
-use Rattle.rayon_machine_places.specs.World.{World, Part as Piece, target_pool, target_worker, target_call, counts_at, at_job, found, effect, but_last, fifo_back, is_open, last_of, or_none}
+use Rattle.rayon_machine_places.specs.Places.{own_pool, own_index, is_member, plan_pool, plan_job, plan_count, plan_book, finish, settle, act_of, next_of}
+use Rattle.rayon_machine_places.specs.World.{World, Part as Piece, count_in, count_pool, count_call, target_pool, target_worker, target_call, counts_at, at_job, found, effect, but_last, fifo_back, is_open, last_of, or_none}
 use Rattle.rayon_machine_places.specs.Steps.{put, part_of, jobs_after, after}
 use Rattle.rayon_machine_places.specs.Readers.{is_queued, is_running, is_done}
-use Rattle.rayon_machine_orders.specs.Calls.{is_raise_refused}
+use Rattle.rayon_machine_orders.specs.Calls.{count_of, is_raise_refused}
 use Rattle.rayon_machine_laws.proofs.Frame.{if_some_all, put_new, either, if_cond, put_old}
 use Rattle.rayon_machine_laws.proofs.Ties.{job_at, outcome}
 use Rattle.rayon_machine_laws.proofs.Claims.{Says}
 use Rattle.rayon_machine_laws.proofs.ClaimRuns.{place_part, world_after}
-use Rattle.rayon_machine_laws.proofs.ShareLowers.{lowered_world}
+use Rattle.rayon_machine_laws.proofs.ShareLowers.{lowered_world, share_made}
 use Rattle.rayon_machine_orders.proofs.CallPlaces.{Stage, Going, Gone, Paid, Undone, is_undone, Part, PartOwed, Known, Leads, raised_leads, lower_leads, is_decisive, part_leads, open_job, here_job, is_sent, told, Added, Withdrawing}
 use Rattle.rayon_machine_laws.proofs.Feeders.{FeedersHold, feeds_now, waits}
 use Rattle.rayon_machine_places.specs.declared.place.Feeding.{Feeding}
@@ -100,9 +102,22 @@ or_true false = refl
 abbrev pub Goes : World → Party → Plan → Stage → Place → List Place → Type 0
 Goes w q n s x fs = IfSome (outcome w q (record { top = x; below = fs })) (λ r. Went w (world_after w q x fs r) n s (is_raise_refused w (act_of q x)) (next_of (w.shape.pool (target_pool q (act_of q x))) q x (r.0)))
 
-raise_goes : (w : World) (q : Party) (n : Plan) (s : Stage) (m : Plan) (fs : List Place) (h : Piece) → (m ≡ n) × (s ≡ Going) → (b : Bool) → ((w.pool (plan_pool m)).count == 0) ≡ b → IfSome (if b then Some (Refused, place_part w q (RaiseCount m)) else Some (Done, h)) (λ r. Went w (world_after w q (RaiseCount m) fs r) n s ((w.pool (plan_pool m)).count == 0) (next_of (w.shape.pool (target_pool q (act_of q (RaiseCount m)))) q (RaiseCount m) (r.0)))
-raise_goes w q n s m fs h y true e = record { stage = Undone; leads = (y.0, refl); sofar = λ z. tt; flag = or_true (is_undone s) ∙ ap (λ v. is_undone s || v) (sym e) }
-raise_goes w q n s m fs h y false e = record { stage = s; leads = raised_leads w n s m y; sofar = λ z. z; flag = or_false (is_undone s) ∙ ap (λ v. is_undone s || v) (sym e) }
+-- the count that a call raises is that of its part
+raise_count : (w : World) (q : Party) (m : Plan) → count_in (place_part w q (RaiseCount m)) (plan_count m) ≡ count_of w (plan_count m)
+raise_count w (Worker a b) m = by (plan_count m) (plan_job m)
+  where
+    by : (k : Count) (t : ℕ) → count_in (part_of w (count_pool (Worker a b) k) b (count_call k) t) k ≡ count_of w k
+    by (OfPool p) t = refl
+    by (OfScope c o) t = refl
+raise_count w (Caller n) m = by (plan_count m) (plan_job m)
+  where
+    by : (k : Count) (t : ℕ) → count_in (part_of w (count_pool (Caller n) k) 0 (count_call k) t) k ≡ count_of w k
+    by (OfPool p) t = refl
+    by (OfScope c o) t = refl
+
+raise_goes : (w : World) (q : Party) (n : Plan) (s : Stage) (m : Plan) (fs : List Place) (h : Piece) → Known w n → (m ≡ n) × (s ≡ Going) → (b : Bool) → (count_of w (plan_count m) == 0) ≡ b → IfSome (if b then Some (Refused, place_part w q (RaiseCount m)) else Some (Done, h)) (λ r. Went w (world_after w q (RaiseCount m) fs r) n s (count_of w (plan_count m) == 0) (next_of (w.shape.pool (target_pool q (act_of q (RaiseCount m)))) q (RaiseCount m) (r.0)))
+raise_goes w q n s m fs h k y true e = record { stage = Undone; leads = (y.0, refl); sofar = λ z. tt; flag = or_true (is_undone s) ∙ ap (λ v. is_undone s || v) (sym e) }
+raise_goes w q n s m fs h k y false e = record { stage = s; leads = raised_leads w n s m k y; sofar = λ z. z; flag = or_false (is_undone s) ∙ ap (λ v. is_undone s || v) (sym e) }
 
 -- a spawn's job is queued by its push
 queued_now : (f g : ℕ → Job) (n m : Plan) (a : Whereabouts) → m ≡ n → is_sent m ≡ true → is_left a ≡ true → (is_queued a || (is_running a || is_done a)) ≡ true → g (plan_job m) ≡ at_job (f (plan_job m)) a → Queued g n
@@ -110,16 +125,20 @@ queued_now f g n (Detach p t) a e s l z i = subst (λ v. Queued g v) e (ap (λ j
 queued_now f g n (Here p t) a e s l z i = subst (λ v. Queued g v) e tt
 queued_now f g n (Feed d) a e s l z i = absurd (let b : false ≡ true = s in cc)
 queued_now f g n (Send o) a e s l z i = subst (λ v. Queued g v) e tt
+queued_now f g n (Open o) a e s l z i = subst (λ v. Queued g v) e tt
+queued_now f g n (Enter x) a e s l z i = subst (λ v. Queued g v) e tt
 queued_now f g n (Fork o b) a e s l z i = subst (λ v. Queued g v) e tt
 
 sent_told : (n m : Plan) → m ≡ n → is_sent m ≡ true → n ≡ told n
 sent_told (Detach p t) m e s = refl
 sent_told (Here p t) m e s = refl
 sent_told (Send o) m e s = refl
+sent_told (Open o) m e s = refl
+sent_told (Enter x) m e s = refl
 sent_told (Fork o a) m e s = refl
 sent_told (Feed f) m e s = absurd (let a : is_sent m ≡ false = ap is_sent e in let b : true ≡ false = sym s ∙ a in cc)
 
-push_goes : (w : World) (q : Party) (n : Plan) (s : Stage) (m : Plan) (v : Bool) (fs : List Place) → Part n s (PushJob m v) → (b : Bool) → (λ (a : Act). IfSome (effect a w.shape q (counts_at w (target_pool q a)) (part_of w (target_pool q a) (target_worker q a) (target_call a) (job_at w q a))) (λ r. Went w (after w q (record { top = PushJob m v; below = fs }) (target_pool q a) (target_worker q a) (target_call a) (job_at w q a) r) n s (is_raise_refused w a) (next_of (w.shape.pool (target_pool q a)) q (PushJob m v) (r.0)))) (if b then PushOwn (plan_job m) else PushInj (plan_pool m) (plan_job m))
+push_goes : (w : World) (q : Party) (n : Plan) (s : Stage) (m : Plan) (v : Bool) (fs : List Place) → Part n s (PushJob m v) → (b : Bool) → (λ (a : Act). IfSome (effect a w.shape q (counts_at w (target_pool q a)) (part_of w (target_pool q a) (target_worker q a) (target_call a) (job_at w q a))) (λ r. Went w (after w q (record { top = PushJob m v; below = fs }) (target_pool q a) (target_worker q a) (target_call a) (job_at w q a) r) n s (is_raise_refused w a) (next_of (w.shape.pool (target_pool q a)) q (PushJob m v) (r.0)))) (if b then PushOwn (plan_job m) (plan_book m) else PushInj (plan_pool m) (plan_job m) (plan_book m))
 push_goes w q n s m v fs y true = record { stage = Gone; leads = (y.0 ∙ sent_told n m (y.0) (y.2), refl, y.2); sofar = λ z. queued_now w.job (put w.job (plan_job m) (at_job (w.job (plan_job m)) (InDeque (own_pool q) (own_index q)))) n m (InDeque (own_pool q) (own_index q)) (y.0) (y.2) refl refl (put_new w.job (plan_job m) (at_job (w.job (plan_job m)) (InDeque (own_pool q) (own_index q)))); flag = ap is_undone (sym (y.1)) ∙ or_false (is_undone s) }
 push_goes w q n s m v fs y false = record { stage = Gone; leads = (y.0 ∙ sent_told n m (y.0) (y.2), refl, y.2); sofar = λ z. queued_now w.job (put w.job (plan_job m) (at_job (w.job (plan_job m)) (Injected (plan_pool m)))) n m (Injected (plan_pool m)) (y.0) (y.2) refl refl (put_new w.job (plan_job m) (at_job (w.job (plan_job m)) (Injected (plan_pool m)))); flag = ap is_undone (sym (y.1)) ∙ or_false (is_undone s) }
 
@@ -186,31 +205,32 @@ settle_jobs g q p i t f z = by (nat_lt i g.workers)
     by true = refl
     by false = ap (λ m. jobs_after q m f) z
 
-lower_jobs : (g : PoolShape) (q : Party) (p : ℕ) (h : Share) (t : Then) (e : Seen) (f : ℕ → Job) → finish q t ≡ Back → jobs_after q (next_of g q (LowerCount p h t) e) f ≡ f
-lower_jobs g q p h t Yes f z = settle_jobs g q p 0 t f z
+lower_jobs : (g : PoolShape) (q : Party) (p : Count) (h : Share) (t : Then) (e : Seen) (f : ℕ → Job) → finish q t ≡ Back → jobs_after q (next_of g q (LowerCount p h t) e) f ≡ f
+lower_jobs g q (OfPool p) h t Yes f z = settle_jobs g q p 0 t f z
+lower_jobs g q (OfScope c o) h t Yes f z = refl
 lower_jobs g q p h t _ f z = ap (λ m. jobs_after q m f) z
 
-lowered_so : (w : World) (q : Party) (n : Plan) (p : ℕ) (t : Then) (fs : List Place) (e : Seen) → finish q t ≡ Back → plan_job n + 1 ≤ w.jobs → is_done (w.job (plan_job n)).at ≡ true → Sofar (lowered_world w q p (OfJob (plan_job n)) t fs e) Paid n
+lowered_so : (w : World) (q : Party) (n : Plan) (p : Count) (t : Then) (fs : List Place) (e : Seen) → finish q t ≡ Back → plan_job n + 1 ≤ w.jobs → is_done (w.job (plan_job n)).at ≡ true → Sofar (lowered_world w q p (OfJob (plan_job n)) t fs e) Paid n
 lowered_so w q n p t fs e z m d =
     let j : Job = record (w.job (plan_job n)) { counted = false } in
-    let same : jobs_after q (next_of (w.shape.pool p) q (LowerCount p (OfJob (plan_job n)) t) e) (put w.job (plan_job n) j) ≡ put w.job (plan_job n) j = lower_jobs (w.shape.pool p) q p (OfJob (plan_job n)) t e (put w.job (plan_job n) j) z in
+    let same : jobs_after q (next_of (w.shape.pool (count_pool q p)) q (LowerCount p (OfJob (plan_job n)) t) e) (put w.job (plan_job n) j) ≡ put w.job (plan_job n) j = lower_jobs (w.shape.pool (count_pool q p)) q p (OfJob (plan_job n)) t e (put w.job (plan_job n) j) z in
     let new : put w.job (plan_job n) j (plan_job n) ≡ j = put_new w.job (plan_job n) j in
     (m, (ap (λ v. is_done (v (plan_job n)).at) same ∙ ap (λ v. is_done v.at) new ∙ d, ap (λ v. (v (plan_job n)).counted) same ∙ ap (λ v. v.counted) new))
 
-lower_went : (w : World) (q : Party) (n : Plan) (s : Stage) (p : ℕ) (t : Then) (fs : List Place) (e : Seen) → Known w n → Says w q (LowerCount p (OfJob (plan_job n)) t) → PartOwed n s t → Went w (lowered_world w q p (OfJob (plan_job n)) t fs e) n s false (next_of (w.shape.pool p) q (LowerCount p (OfJob (plan_job n)) t) e)
+lower_went : (w : World) (q : Party) (n : Plan) (s : Stage) (p : Count) (t : Then) (fs : List Place) (e : Seen) → Known w n → Says w q (LowerCount p (OfJob (plan_job n)) t) → PartOwed n s t → Went w (lowered_world w q p (OfJob (plan_job n)) t fs e) n s false (next_of (w.shape.pool (count_pool q p)) q (LowerCount p (OfJob (plan_job n)) t) e)
 lower_went w q n s p (Answers o f d) fs e k z y = record {
   stage = Paid;
-  leads = lower_leads w (w.shape.pool p) q n Paid p (OfJob (plan_job n)) (Answers o f d) e k (z.0) (y.0, refl);
-  sofar = λ v. lowered_so w q n p (Answers o f d) fs e refl ((z.1).0) (subst (λ t. is_done (w.job t).at ≡ true) (open_job n o (y.0)) (ap is_done ((z.0).2)));
+  leads = lower_leads w (w.shape.pool (count_pool q p)) q n Paid p (OfJob (plan_job n)) (Answers o f d) e k (z.0) (y.0, refl);
+  sofar = λ v. lowered_so w q n p (Answers o f d) fs e refl (share_made w p (plan_job n) (Answers o f d) (z.1)) (subst (λ t. is_done (w.job t).at ≡ true) (open_job n o (y.0)) (ap is_done ((z.0).2)));
   flag = ap is_undone (sym (y.1)) ∙ or_false (is_undone s);
 }
 lower_went w q n s p (Ran t d) fs e k z y = record {
   stage = Paid;
-  leads = lower_leads w (w.shape.pool p) q n Paid p (OfJob (plan_job n)) (Ran t d) e k (z.0) (y.0, refl);
-  sofar = λ v. lowered_so w q n p (Ran t d) fs e refl ((z.1).0) (subst (λ t. is_done (w.job t).at ≡ true) (here_job n t (y.0)) (ap is_done (z.0)));
+  leads = lower_leads w (w.shape.pool (count_pool q p)) q n Paid p (OfJob (plan_job n)) (Ran t d) e k (z.0) (y.0, refl);
+  sofar = λ v. lowered_so w q n p (Ran t d) fs e refl (share_made w p (plan_job n) (Ran t d) (z.1)) (subst (λ t. is_done (w.job t).at ≡ true) (here_job n t (y.0)) (ap is_done (z.0)));
   flag = ap is_undone (sym (y.1)) ∙ or_false (is_undone s);
 }
-lower_went w q n s p (GiveBack m) fs e k z y = record { stage = s; leads = lower_leads w (w.shape.pool p) q n s p (OfJob (plan_job n)) (GiveBack m) e k (z.0) y; sofar = λ v. v; flag = or_false (is_undone s) }
+lower_went w q n s p (GiveBack m) fs e k z y = record { stage = s; leads = lower_leads w (w.shape.pool (count_pool q p)) q n s p (OfJob (plan_job n)) (GiveBack m) e k (z.0) y; sofar = λ v. v; flag = or_false (is_undone s) }
 lower_went w q n s p (BeginFound g t) fs e k z y = absurd y
 lower_went w q n s p (LeaveWait g) fs e k z y = absurd y
 lower_went w q n s p Resume fs e k z y = absurd y
@@ -223,16 +243,16 @@ plain_goes : (w : World) (q : Party) (n : Plan) (s : Stage) (x : Place) (fs : Li
 plain_goes w q n s x fs d k z y = if_some_all (λ r. Went w (world_after w q x fs r) n s (is_raise_refused w (act_of q x)) (next_of (w.shape.pool (target_pool q (act_of q x))) q x (r.0))) (λ r. record { stage = s; leads = part_leads w (w.shape.pool (target_pool q (act_of q x))) q n s x (r.0) d k z y; sofar = λ v. v; flag = or_false (is_undone s) ∙ ap (λ v. is_undone s || v) (sym (not_raised w q x d)) }) (outcome w q (record { top = x; below = fs }))
 
 pub call_goes : (w : World) (q : Party) (n : Plan) (s : Stage) (x : Place) (fs : List Place) → ((o : OpenCall) (f : Option Ending) → x ≡ TakeResult o f → (w.call o.number).cell ≡ None → ⊥) → w.stack q ≡ record { top = x; below = fs } → FeedersHold w → JobsHold w → Known w n → Says w q x → Part n s x → Goes w q n s x fs
-call_goes w (Worker a b) n s (RaiseCount m) fs g st fe h k z y = raise_goes w (Worker a b) n s m fs _ y ((w.pool (plan_pool m)).count == 0) refl
-call_goes w (Caller c) n s (RaiseCount m) fs g st fe h k z y = raise_goes w (Caller c) n s m fs _ y ((w.pool (plan_pool m)).count == 0) refl
+call_goes w (Worker a b) n s (RaiseCount m) fs g st fe h k z y = raise_goes w (Worker a b) n s m fs _ k y (count_in (place_part w (Worker a b) (RaiseCount m)) (plan_count m) == 0) (ap (λ v. v == 0) (sym (raise_count w (Worker a b) m)))
+call_goes w (Caller c) n s (RaiseCount m) fs g st fe h k z y = raise_goes w (Caller c) n s m fs _ k y (count_in (place_part w (Caller c) (RaiseCount m)) (plan_count m) == 0) (ap (λ v. v == 0) (sym (raise_count w (Caller c) m)))
 call_goes w (Worker a b) n s (GrowCall m) fs g st fe h k z y = record { stage = s; leads = y; sofar = λ v. v; flag = or_false (is_undone s) }
 call_goes w (Caller c) n s (GrowCall m) fs g st fe h k z y = record { stage = s; leads = y; sofar = λ v. v; flag = or_false (is_undone s) }
 call_goes w (Worker a b) n s (PushJob m v) fs g st fe h k z y = push_goes w (Worker a b) n s m v fs y (is_member (Worker a b) (plan_pool m))
 call_goes w (Caller c) n s (PushJob m v) fs g st fe h k z y = push_goes w (Caller c) n s m v fs y false
 call_goes w (Worker a b) n s (TakeResult o f) fs g st fe h k z y = take_goes w (Worker a b) n s o f fs y ((w.call o.number).cell) (g o f refl)
 call_goes w (Caller c) n s (TakeResult o f) fs g st fe h k z y = take_goes w (Caller c) n s o f fs y ((w.call o.number).cell) (g o f refl)
-call_goes w (Worker a b) n s (LowerCount p d t) fs g st fe h k z y = subst (λ i. Says w (Worker a b) (LowerCount p i t) → Goes w (Worker a b) n s (LowerCount p i t) fs) (sym (y.0)) (λ v. lower_went w (Worker a b) n s p t fs (if (w.pool p).count == 1 then Yes else No) k v (y.1)) z
-call_goes w (Caller c) n s (LowerCount p d t) fs g st fe h k z y = subst (λ i. Says w (Caller c) (LowerCount p i t) → Goes w (Caller c) n s (LowerCount p i t) fs) (sym (y.0)) (λ v. lower_went w (Caller c) n s p t fs (if (w.pool p).count == 1 then Yes else No) k v (y.1)) z
+call_goes w (Worker a b) n s (LowerCount p d t) fs g st fe h k z y = subst (λ i. Says w (Worker a b) (LowerCount p i t) → Goes w (Worker a b) n s (LowerCount p i t) fs) (sym (y.0)) (λ v. lower_went w (Worker a b) n s p t fs (if count_in (place_part w (Worker a b) (LowerCount p (OfJob (plan_job n)) t)) p == 1 then Yes else No) k v (y.1)) z
+call_goes w (Caller c) n s (LowerCount p d t) fs g st fe h k z y = subst (λ i. Says w (Caller c) (LowerCount p i t) → Goes w (Caller c) n s (LowerCount p i t) fs) (sym (y.0)) (λ v. lower_went w (Caller c) n s p t fs (if count_in (place_part w (Caller c) (LowerCount p (OfJob (plan_job n)) t)) p == 1 then Yes else No) k v (y.1)) z
 call_goes w (Worker a b) n s (AddToFifo f) fs g st fe h k z y = add_goes w a b n s f fs y
 call_goes w (Caller c) n s (AddToFifo f) fs g st fe h k z y = tt
 call_goes w (Worker a b) n s (PushToken f v) fs g st fe h k z y = token_goes w a b n s f v fs st fe h y

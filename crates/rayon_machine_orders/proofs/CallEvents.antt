@@ -9,21 +9,22 @@ use Rattle.rayon_machine_places.specs.declared.place.Party.TheVariants.{Worker, 
 use Rattle.rayon_machine_places.specs.declared.place.Ending.{Ending}
 use Rattle.rayon_machine_places.specs.declared.place.Ending.TheVariants.{Fine, Fault}
 use Rattle.rayon_machine_places.specs.declared.place.JobKind.{JobKind}
-use Rattle.rayon_machine_places.specs.declared.place.JobKind.TheVariants.{Detached, Stored, Direct, TokenOf}
+use Rattle.rayon_machine_places.specs.declared.place.JobKind.TheVariants.{Detached, Stored, Direct, Scoped, TokenOf, BodyOf}
 use Rattle.rayon_machine_places.specs.declared.place.Plan.{Plan}
-use Rattle.rayon_machine_places.specs.declared.place.Plan.TheVariants.{Detach, Here, Send, Fork, Feed}
+use Rattle.rayon_machine_places.specs.declared.place.Plan.TheVariants.{Detach, Here, Send, Fork, Feed, Open, Enter}
+use Rattle.rayon_machine_places.specs.declared.place.Count.TheVariants.{OfPool}
 use Rattle.rayon_machine_places.specs.declared.place.Share.TheVariants.{PoolValue, OfJob}
 use Rattle.rayon_machine_places.specs.declared.place.Then.TheVariants.{Resume}
 use Rattle.rayon_machine_places.specs.declared.place.Place.{Place}
-use Rattle.rayon_machine_places.specs.declared.place.Place.TheVariants.{PickVictim, StealFrom, YieldPick, YieldSteal, Run, RaiseCount, GrowCall, PushJob, LowerCount, StoreResult, FirstSide, SecondSide, AtOnce, AddToFifo, PushToken, TakeFromFifo, RaiseForAll, PushForAll, LowerForAll}
+use Rattle.rayon_machine_places.specs.declared.place.Place.TheVariants.{PickVictim, StealFrom, YieldPick, YieldSteal, Run, RaiseCount, GrowCall, PushJob, LowerCount, StoreResult, FirstSide, SecondSide, AtOnce, AddToFifo, PushToken, TakeFromFifo, RaiseForAll, PushForAll, LowerForAll, GrowScope, OpenSlot, CloseSlot, StoreSlot}
 use Rattle.rayon_machine_places.specs.declared.event.Event.{Event}
-use Rattle.rayon_machine_places.specs.declared.event.Event.TheVariants.{From, Refuse, Miss, End, Spawn, Fifo, Install, Join, EndPool, Cast}
+use Rattle.rayon_machine_places.specs.declared.event.Event.TheVariants.{From, Refuse, Miss, End, Spawn, Fifo, Install, Join, Scope as OpenScope, IntoSpawn, EndPool, Cast}
 use Rattle.rayon_machine_places.specs.declared.state.Whereabouts.TheVariants.{Over}
 use Rattle.rayon_machine_places.specs.Places.{own_pool, plan_job, is_member, undo, next_steal, next_yield, goes_on, is_free, same_party}
 use Rattle.rayon_machine_places.specs.World.{Stack, World, at_job}
-use Rattle.rayon_machine_places.specs.Steps.{put, put_stack, with_stack, after_choice, after_refusal, can_miss, after_miss, after_resume, after_close, after_end, after_call, is_pool, new_job, new_call, after_spawn, after_send, after_install, after_join, after_yield, after_end_pool, after_feed, after_fifo, after_cast, new_piece, put_pieces}
+use Rattle.rayon_machine_places.specs.Steps.{put, put_stack, with_stack, after_choice, after_refusal, can_miss, after_miss, after_resume, after_close, after_end, after_call, is_pool, new_job, new_call, after_spawn, after_send, after_install, after_join, after_yield, after_end_pool, after_feed, after_fifo, after_cast, after_scope, after_into, holds, new_piece, put_pieces}
 use Rattle.rayon_machine_orders.specs.Calls.{is_at_call, is_refusal}
-use Rattle.rayon_machine_laws.proofs.Frame.{if_cond, put_same, put_old, same_party_refl, piece_old, piece_out}
+use Rattle.rayon_machine_laws.proofs.Frame.{if_cond, into_cases, put_same, put_old, same_party_refl, piece_old, piece_out}
 use Rattle.rayon_machine_orders.proofs.CallPlaces.{Stage, Undone, is_undone, Part, plan_open, plan_here, steal_part, open_job, here_job, Withdrawing}
 use Rattle.rayon_machine_orders.proofs.CallActs.{Sofar, or_false, or_true}
 use Rattle.rayon_machine_places.specs.declared.place.Feeding.{Feeding}
@@ -134,22 +135,25 @@ withdrawn w u q f v fs n r s (a ∷ gs) place z e p = record {
   flag = or_false (is_undone r) ∙ ap (λ v. is_undone r || v) (sym (let a : same_party q q ≡ true = same_party_refl q in let b : fs ≡ gs ++ (place ∷ whole s) = cc in let d : is_at_call s (w.stack q) ≡ false = at_call_no s (w.stack q) gs place (ap (λ k. k.below) z ∙ b) in rw a d));
 }
 
--- the refused push of a broadcast, which is no step of such a call
-kept_above : (w u : World) (q : Party) (c : Pieces) (fs : List Place) (n : Plan) (r : Stage) (s : Stack) (above : List Place) (place : Place) → w.stack q ≡ record { top = PushForAll c; below = fs } → PushForAll c ∷ fs ≡ above ++ (place ∷ whole s) → Part n r place → Stood u n r s (record { top = LowerForAll c; below = fs }) (same_party q q && is_at_call s (w.stack q))
-kept_above w u q c fs n r s [] place z e p = absurd (let a : PushForAll c ≡ place = cc in subst (λ v. Part n r v) (sym a) p)
-kept_above w u q c fs n r s (a ∷ gs) place z e p = record {
+-- a refused act that is no step of such a call: of a broadcast, or of a scope's call
+kept_above : (w u : World) (q : Party) (x y : Place) (fs : List Place) (n : Plan) (r : Stage) (s : Stack) (above : List Place) (place : Place) → w.stack q ≡ record { top = x; below = fs } → (Part n r x → ⊥) → x ∷ fs ≡ above ++ (place ∷ whole s) → Part n r place → Stood u n r s (record { top = y; below = fs }) (same_party q q && is_at_call s (w.stack q))
+kept_above w u q x y fs n r s [] place z f e p = absurd (f (let a : x ≡ place = cc in subst (λ v. Part n r v) (sym a) p))
+kept_above w u q x y fs n r s (a ∷ gs) place z f e p = record {
   stage = r;
-  stands = record { above = LowerForAll c ∷ gs; place = place; is = (let b : fs ≡ gs ++ (place ∷ whole s) = cc in ap (λ v. LowerForAll c ∷ v) b); part = p };
+  stands = record { above = y ∷ gs; place = place; is = (let b : fs ≡ gs ++ (place ∷ whole s) = cc in ap (λ v. y ∷ v) b); part = p };
   sofar = λ y. y;
   flag = or_false (is_undone r) ∙ ap (λ v. is_undone r || v) (sym (let a : same_party q q ≡ true = same_party_refl q in let b : fs ≡ gs ++ (place ∷ whole s) = cc in let d : is_at_call s (w.stack q) ≡ false = at_call_no s (w.stack q) gs place (ap (λ k. k.below) z ∙ b) in rw a d));
 }
 
 pub refuse_turned : (w : World) (q : Party) (x : Place) (fs : List Place) → w.stack q ≡ record { top = x; below = fs } → IfSome (after_refusal w q (record { top = x; below = fs })) (λ u. Turned w u q (Refuse q))
 refuse_turned w q (GrowCall m) fs z = record { to = _; stack = λ r. refl; sides = λ c l. (l, refl); made = λ t l. (l, (refl, refl, refl)); ats = λ t l. inl refl; stood = λ n r s h. undone w (with_stack w q (record { top = undo m; below = fs })) q (GrowCall m) fs n m r s h.above h.place z (λ y. (y.0, ap is_undone (y.1))) (ap whole (sym z) ∙ h.is) h.part; quiet = λ r s d. ap (λ v. v && is_at_call s (w.stack r)) d }
+refuse_turned w q (GrowScope o) fs z = record { to = _; stack = λ r. refl; sides = λ c l. (l, refl); made = λ t l. (l, (refl, refl, refl)); ats = λ t l. inl refl; stood = λ n r s h. kept_above w (with_stack w q (record { top = undo (Open o); below = fs })) q (GrowScope o) (undo (Open o)) fs n r s h.above h.place z (λ y. y) (ap whole (sym z) ∙ h.is) h.part; quiet = λ r s d. ap (λ v. v && is_at_call s (w.stack r)) d }
+refuse_turned w q (OpenSlot o) fs z = record { to = _; stack = λ r. refl; sides = λ c l. (l, refl); made = λ t l. (l, (refl, refl, refl)); ats = λ t l. inl refl; stood = λ n r s h. kept_above w (with_stack w q (record { top = undo (Enter o); below = fs })) q (OpenSlot o) (undo (Enter o)) fs n r s h.above h.place z (λ y. y) (ap whole (sym z) ∙ h.is) h.part; quiet = λ r s d. ap (λ v. v && is_at_call s (w.stack r)) d }
+refuse_turned w q (PushJob (Enter o) v) fs z = record { to = _; stack = λ r. refl; sides = λ c l. (l, refl); made = λ t l. (l, (refl, refl, refl)); ats = λ t l. inl refl; stood = λ n r s h. kept_above w (with_stack w q (record { top = CloseSlot o; below = fs })) q (PushJob (Enter o) v) (CloseSlot o) fs n r s h.above h.place z (λ y. (let a : false ≡ true = y.2 in cc)) (ap whole (sym z) ∙ h.is) h.part; quiet = λ r s d. ap (λ v. v && is_at_call s (w.stack r)) d }
 refuse_turned w q (PushJob m v) fs z = record { to = _; stack = λ r. refl; sides = λ c l. (l, refl); made = λ t l. (l, (refl, refl, refl)); ats = λ t l. inl refl; stood = λ n r s h. undone w (with_stack w q (record { top = undo m; below = fs })) q (PushJob m v) fs n m r s h.above h.place z (λ y. (y.0, ap is_undone (y.1))) (ap whole (sym z) ∙ h.is) h.part; quiet = λ r s d. ap (λ v. v && is_at_call s (w.stack r)) d }
 refuse_turned w q (AddToFifo f) fs z = record { to = _; stack = λ r. refl; sides = λ c l. (l, refl); made = λ t l. (l, (refl, refl, refl)); ats = λ t l. inl refl; stood = λ n r s h. undone w (with_stack w q (record { top = undo (Feed f); below = fs })) q (AddToFifo f) fs n (Feed f) r s h.above h.place z (λ y. (sym (y.0), ap is_undone (y.1))) (ap whole (sym z) ∙ h.is) h.part; quiet = λ r s d. ap (λ v. v && is_at_call s (w.stack r)) d }
 refuse_turned w q (PushToken f v) fs z = record { to = _; stack = λ r. refl; sides = λ c l. (l, refl); made = λ t l. (l, (refl, refl, refl)); ats = λ t l. inl refl; stood = λ n r s h. withdrawn w (with_stack w q (record { top = TakeFromFifo f; below = fs })) q f v fs n r s h.above h.place z (ap whole (sym z) ∙ h.is) h.part; quiet = λ r s d. ap (λ v. v && is_at_call s (w.stack r)) d }
-refuse_turned w q (PushForAll c) fs z = record { to = _; stack = λ r. refl; sides = λ c l. (l, refl); made = λ t l. (l, (refl, refl, refl)); ats = λ t l. inl refl; stood = λ n r s h. kept_above w (with_stack w q (record { top = LowerForAll c; below = fs })) q c fs n r s h.above h.place z (ap whole (sym z) ∙ h.is) h.part; quiet = λ r s d. ap (λ v. v && is_at_call s (w.stack r)) d }
+refuse_turned w q (PushForAll c) fs z = record { to = _; stack = λ r. refl; sides = λ c l. (l, refl); made = λ t l. (l, (refl, refl, refl)); ats = λ t l. inl refl; stood = λ n r s h. kept_above w (with_stack w q (record { top = LowerForAll c; below = fs })) q (PushForAll c) (LowerForAll c) fs n r s h.above h.place z (λ y. y) (ap whole (sym z) ∙ h.is) h.part; quiet = λ r s d. ap (λ v. v && is_at_call s (w.stack r)) d }
 refuse_turned w q _ fs z = tt
 
 -- the end of a run
@@ -167,10 +171,12 @@ resumed n r s e (f ∷ fs) [] place z p = record { above = []; place = goes_on f
 resumed n r s e (f ∷ fs) (a ∷ gs) place z p = record { above = goes_on f e ∷ gs; place = place; is = (let b : fs ≡ gs ++ (place ∷ whole s) = cc in ap (λ v. goes_on f e ∷ v) b); part = p }
 
 closed : (n : Plan) (r : Stage) (s : Stack) (t : ℕ) (k : JobKind) (e : Ending) (fs gs : List Place) (place : Place) → fs ≡ gs ++ (place ∷ whole s) → Part n r place → CallStands n r s (after_close t k e fs)
-closed n r s t (Detached p) e fs gs place z y = record { above = LowerCount p (OfJob t) Resume ∷ gs; place = place; is = ap (λ v. LowerCount p (OfJob t) Resume ∷ v) z; part = y }
+closed n r s t (Detached p) e fs gs place z y = record { above = LowerCount (OfPool p) (OfJob t) Resume ∷ gs; place = place; is = ap (λ v. LowerCount (OfPool p) (OfJob t) Resume ∷ v) z; part = y }
+closed n r s t (Scoped c o) e fs gs place z y = record { above = StoreSlot c o t e ∷ gs; place = place; is = ap (λ v. StoreSlot c o t e ∷ v) z; part = y }
 closed n r s t (Stored c o) e fs gs place z y = record { above = StoreResult c o e ∷ gs; place = place; is = ap (λ v. StoreResult c o e ∷ v) z; part = y }
 closed n r s t Direct e fs gs place z y = resumed n r s e fs gs place z y
 closed n r s t (TokenOf i) e fs gs place z y = resumed n r s e fs gs place z y
+closed n r s t (BodyOf c9 o9) e fs gs place z y = resumed n r s e fs gs place z y
 
 ended : (n : Plan) (r : Stage) (s : Stack) (t : ℕ) (k : JobKind) (e : Ending) (fs above : List Place) (place : Place) → Run t k ∷ fs ≡ above ++ (place ∷ whole s) → Part n r place → CallStands n r s (after_close t k e fs)
 ended n r s t k e fs [] place z y = absurd (let a : Run t k ≡ place = cc in let b : Part n r (Run t k) = subst (λ v. Part n r v) (sym a) y in b)
@@ -276,6 +282,28 @@ sent_turned w q p false = record {
 pub install_turned : (w : World) (q : Party) (p : ℕ) → IfSome (after_install w q p (w.stack q)) (λ u. Turned w u q (Install q p))
 install_turned w q p = if_cond (λ u. Turned w u q (Install q p)) (is_free ((w.stack q).top) && is_pool w.shape p) _ (λ b. sent_turned w q p (is_member q p))
 
+pub scope_turned : (w : World) (q : Party) (p : ℕ) → IfSome (after_scope w q p (w.stack q)) (λ u. Turned w u q (OpenScope q p))
+scope_turned w q p = if_cond (λ u. Turned w u q (OpenScope q p)) (is_free ((w.stack q).top) && is_pool w.shape p) _ (λ b. record {
+  to = _;
+  stack = λ r. refl;
+  sides = λ c l. ((omega (arith, l)), ap (λ k. k.first) (old_at w.call w.calls (new_call None w.jobs) c l));
+  made = λ t l. ((omega (arith, l)), (ap (λ j. j.kind) (old_at w.job w.jobs (new_job q p (BodyOf w.calls q)) t l), ap (λ j. j.counted) (old_at w.job w.jobs (new_job q p (BodyOf w.calls q)) t l), ap (λ j. j.bound) (old_at w.job w.jobs (new_job q p (BodyOf w.calls q)) t l)));
+  ats = λ t l. inl (ap (λ j. j.at) (old_at w.job w.jobs (new_job q p (BodyOf w.calls q)) t l));
+  stood = λ n r s h. same_stood _ n r s _ (called n r s (w.stack q) (RaiseCount (Open (record { number = w.calls; pool = p; job = w.jobs }))) h);
+  quiet = λ r s d. refl;
+})
+
+pub into_turned : (w : World) (q : Party) (i : ℕ) → IfSome (after_into w q i (w.stack q)) (λ u. Turned w u q (IntoSpawn q i))
+into_turned w q i = into_cases (λ u. Turned w u q (IntoSpawn q i)) w q i (λ z e free held. if_cond (λ u. Turned w u q (IntoSpawn q i)) (is_free ((w.stack q).top) && holds z.call (w.stack q)) _ (λ b. record {
+  to = _;
+  stack = λ r. refl;
+  sides = λ c l. (l, refl);
+  made = λ t l. ((omega (arith, l)), (ap (λ j. j.kind) (old_at w.job w.jobs (new_job q z.pool (Scoped z.call z.owner)) t l), ap (λ j. j.counted) (old_at w.job w.jobs (new_job q z.pool (Scoped z.call z.owner)) t l), ap (λ j. j.bound) (old_at w.job w.jobs (new_job q z.pool (Scoped z.call z.owner)) t l)));
+  ats = λ t l. inl (ap (λ j. j.at) (old_at w.job w.jobs (new_job q z.pool (Scoped z.call z.owner)) t l));
+  stood = λ n r s h. same_stood _ n r s _ (called n r s (w.stack q) (RaiseCount (Enter (record { call = z.call; owner = z.owner; pool = z.pool; job = w.jobs }))) h);
+  quiet = λ r s d. refl;
+}))
+
 pub join_turned : (w : World) (q : Party) → IfSome (after_join w q (w.stack q)) (λ u. Turned w u q (Join q))
 join_turned w (Worker p i) = if_cond (λ u. Turned w u (Worker p i) (Join (Worker p i))) (is_free ((w.stack (Worker p i)).top)) _ (λ b. record {
   to = _;
@@ -310,6 +338,6 @@ give_turned w q p = if_cond (λ u. Turned w u q (EndPool q p)) (is_free ((w.stac
   sides = λ c l. (l, refl);
   made = λ t l. (l, (refl, refl, refl));
   ats = λ t l. inl refl;
-  stood = λ n r s h. same_stood _ n r s _ (called n r s (w.stack q) (LowerCount p PoolValue Resume) h);
+  stood = λ n r s h. same_stood _ n r s _ (called n r s (w.stack q) (LowerCount (OfPool p) PoolValue Resume) h);
   quiet = λ r s d. refl;
 })

@@ -11,13 +11,15 @@ use Rattle.rayon_machine_places.specs.declared.place.Latch.TheVariants.{Terminat
 use Rattle.rayon_machine_places.specs.declared.place.Rounds.{Rounds}
 use Rattle.rayon_machine_places.specs.declared.place.Rounds.TheVariants.{Failed, Announced}
 use Rattle.rayon_machine_places.specs.declared.place.Plan.{Plan}
-use Rattle.rayon_machine_places.specs.declared.place.Plan.TheVariants.{Detach, Here, Send, Fork, Feed}
+use Rattle.rayon_machine_places.specs.declared.place.Plan.TheVariants.{Detach, Here, Send, Fork, Feed, Open, Enter}
+use Rattle.rayon_machine_places.specs.declared.place.Count.{Count}
+use Rattle.rayon_machine_places.specs.declared.place.Count.TheVariants.{OfPool, OfScope}
 use Rattle.rayon_machine_places.specs.declared.place.Share.{Share}
 use Rattle.rayon_machine_places.specs.declared.place.Share.TheVariants.{OfJob}
 use Rattle.rayon_machine_places.specs.declared.place.Then.{Then}
 use Rattle.rayon_machine_places.specs.declared.place.Then.TheVariants.{BeginFound, LeaveWait, Resume, Await, RunFirst, Answers, Missing, Ran, GiveBack, Called}
 use Rattle.rayon_machine_places.specs.declared.place.Place.{Place}
-use Rattle.rayon_machine_places.specs.declared.place.Place.TheVariants.{ProbeWorking, PopWorking, TakeCastWorking, BecomeInactive, ProbeIdle, PopIdle, TakeCastIdle, PickVictim, StealFrom, PopInjected, AnnounceSelf, GetSleepy, LockOwn, FallAsleep, LoadCounters, AddSleeping, LookAtCast, LookAtInjector, BlockSelf, RelockOwn, UndoSleeping, WakeUp, UnlockOwn, LeaveSearch, JoinProbe, JoinPop, JoinTakeCast, YieldPop, YieldTakeCast, YieldPick, YieldSteal, YieldPopInjected, LocalPop, LocalTakeCast, BeginTask, BeginHere, Run, RaiseCount, GrowCall, LookQueue, PushJob, TellNews, LockToWake, WakeWorker, UnlockWoken, WaitForLock, TakeResult, LowerCount, StoreResult, SetLatch, LockToSettle, WakeSettled, UnlockSettled, SetLockLatch, FirstSide, SecondSide, AtOnce, Free, Stopped, AddToFifo, LookForToken, PushToken, TakeFromFifo, RaiseForAll, PushForAll, LowerForAll}
+use Rattle.rayon_machine_places.specs.declared.place.Place.TheVariants.{ProbeWorking, PopWorking, TakeCastWorking, BecomeInactive, ProbeIdle, PopIdle, TakeCastIdle, PickVictim, StealFrom, PopInjected, AnnounceSelf, GetSleepy, LockOwn, FallAsleep, LoadCounters, AddSleeping, LookAtCast, LookAtInjector, BlockSelf, RelockOwn, UndoSleeping, WakeUp, UnlockOwn, LeaveSearch, JoinProbe, JoinPop, JoinTakeCast, YieldPop, YieldTakeCast, YieldPick, YieldSteal, YieldPopInjected, LocalPop, LocalTakeCast, BeginTask, BeginHere, Run, RaiseCount, GrowCall, LookQueue, PushJob, TellNews, LockToWake, WakeWorker, UnlockWoken, WaitForLock, TakeResult, LowerCount, StoreResult, SetLatch, LockToSettle, WakeSettled, UnlockSettled, SetLockLatch, FirstSide, SecondSide, AtOnce, Free, Stopped, AddToFifo, LookForToken, PushToken, TakeFromFifo, RaiseForAll, PushForAll, LowerForAll, GrowScope, OpenSlot, CloseSlot, StoreBody, StoreSlot, ScopeBody}
 use Rattle.rayon_machine_places.specs.declared.place.Move.{Move}
 use Rattle.rayon_machine_places.specs.declared.place.Move.TheVariants.{Stay, Enter, StartRun, Back, HandBack, Discard, HandIn, Mark, HandAllBack}
 use Rattle.rayon_machine_places.specs.declared.act.Seen.{Seen}
@@ -27,7 +29,7 @@ use Rattle.rayon_machine_places.specs.declared.shape.PoolShape.{PoolShape}
 use Rattle.rayon_machine_places.specs.declared.place.OpenCall.{OpenCall}
 use Rattle.rayon_machine_places.specs.declared.place.Wait.{Wait}
 use Rattle.rayon_machine_places.specs.declared.place.Settling.{Settling}
-use Rattle.rayon_machine_places.specs.Places.{own_pool, own_index, plan_pool, plan_job, after_wait, finish, walk, settle, after_set, after_found, after_news, after_raise, next_victim, not_self, after_failure, next_steal, next_of, is_taken}
+use Rattle.rayon_machine_places.specs.Places.{own_pool, own_index, plan_pool, plan_job, after_wait, finish, walk, settle, after_set, after_found, after_news, after_raise, next_victim, not_self, after_failure, next_steal, next_of, is_taken, set_call, settle_count}
 use Rattle.rayon_machine_places.specs.World.{World, is_token}
 use Rattle.rayon_machine_places.specs.Readers.{is_done}
 use Rattle.rayon_machine_laws.proofs.Claims.{FirstEnds, is_detached, SaysThen, Says}
@@ -67,6 +69,8 @@ is_detach _ = false
 abbrev pub is_sent : Plan → Bool
 is_sent (Here p t) = false
 is_sent (Feed f) = false
+is_sent (Open o) = false
+is_sent (Enter e) = false
 is_sent _ = true
 
 -- of which plan a call tells the news: one for a FIFO list, of its token
@@ -157,6 +161,7 @@ Part n s (SetLatch k) = PartPaid n s k.then
 Part n s (LockToSettle k) = PartPaid n s k.then
 Part n s (WakeSettled k) = PartPaid n s k.then
 Part n s (UnlockSettled k) = PartPaid n s k.then
+Part n s (SetLockLatch c t) = PartPaid n s t
 Part n s (FirstSide o a) = (n ≡ Fork o a) × (s ≡ Gone)
 Part n s (AtOnce p t) = (n ≡ Here p t) × (s ≡ Going)
 Part n s _ = ⊥
@@ -170,13 +175,18 @@ abbrev pub Returns : World → Plan → Stage → Type 0
 Returns w (Detach p t) s = s ≡ Gone
 Returns w (Feed f) s = s ≡ Gone
 Returns w (Here p t) s = (s ≡ Paid) × Ended w t
+Returns w (Open o) s = ⊥
+Returns w (Enter e) s = ⊥
 Returns w (Send o) s = (s ≡ Paid) × Ended w o.job
 Returns w (Fork o a) s = (s ≡ Paid) × (Ended w a × Ended w o.job)
 
--- what the world tells of a plan: a spawn's job is detached, a call that waits knows its first side, if it is a join
+-- what the world tells of a plan: a spawn's job is detached, a call that waits knows its first side, if it is a join.
+-- The calls of scopes are not followed here
 abbrev pub Known : World → Plan → Type 0
 Known w (Detach p t) = (t + 1 ≤ w.jobs) × (is_detached (w.job t).kind ≡ true)
 Known w (Feed f) = ((f.job + 1 ≤ w.jobs) × (is_detached (w.job f.job).kind ≡ true)) × ((f.token + 1 ≤ w.jobs) × (is_token (w.job f.token).kind ≡ true))
+Known w (Open o) = ⊥
+Known w (Enter e) = ⊥
 Known w (Send o) = (o.number + 1 ≤ w.calls) × ((w.call o.number).first ≡ None)
 Known w (Fork o a) = (o.number + 1 ≤ w.calls) × ((w.call o.number).first ≡ Some a)
 Known w _ = ⊤
@@ -204,6 +214,8 @@ open_returns : (w : World) (q : Party) (n : Plan) (s : Stage) (o : OpenCall) (f 
 open_returns w q (Detach p t) s o f e k z y = absurd (let a : None ≡ Some o = y.0 in cc)
 open_returns w q (Here p t) s o f e k z y = absurd (let a : None ≡ Some o = y.0 in cc)
 open_returns w q (Feed d) s o f e k z y = absurd (let a : None ≡ Some o = y.0 in cc)
+open_returns w q (Open p) s o f e k z y = absurd k
+open_returns w q (Enter x) s o f e k z y = absurd k
 open_returns w q (Send p) s o f e k z y = (y.1, subst (λ v. Ended w v.job) (sym (some_open (y.0))) (ap is_done (z.2)))
 open_returns w q (Fork p a) s o f e k z y =
     let same : p ≡ o = some_open (y.0) in
@@ -215,6 +227,8 @@ detach_returns w (Detach p t) s y = y.1
 detach_returns w (Feed f) s y = y.1
 detach_returns w (Here p t) s y = absurd (let a : false ≡ true = y.0 in cc)
 detach_returns w (Send o) s y = absurd (let a : false ≡ true = y.0 in cc)
+detach_returns w (Open o) s y = absurd (let a : false ≡ true = y.0 in cc)
+detach_returns w (Enter e) s y = absurd (let a : false ≡ true = y.0 in cc)
 detach_returns w (Fork o a) s y = absurd (let b : false ≡ true = y.0 in cc)
 
 here_returns : (w : World) (n : Plan) (s : Stage) (t : ℕ) (e : Ending) → (w.job t).at ≡ Over e → (plan_here n ≡ Some t) × (s ≡ Paid) → Returns w n s
@@ -222,6 +236,8 @@ here_returns w (Here p u) s t e z y = (y.1, (let a : Some u ≡ Some t = y.0 in 
 here_returns w (Feed f) s t e z y = absurd (let a : None ≡ Some t = y.0 in cc)
 here_returns w (Detach p u) s t e z y = absurd (let a : None ≡ Some t = y.0 in cc)
 here_returns w (Send o) s t e z y = absurd (let a : None ≡ Some t = y.0 in cc)
+here_returns w (Open o) s t e z y = absurd (let a : None ≡ Some t = y.0 in cc)
+here_returns w (Enter x) s t e z y = absurd (let a : None ≡ Some t = y.0 in cc)
 here_returns w (Fork o b) s t e z y = absurd (let a : None ≡ Some t = y.0 in cc)
 
 finish_leads : (w : World) (q : Party) (n : Plan) (s : Stage) (t : Then) → PartThen n s t → Leads w n s (finish q t)
@@ -268,9 +284,17 @@ settled_leads : (w : World) (g : PoolShape) (q : Party) (n : Plan) (s : Stage) (
 settled_leads w g q n s h Terminate k z y = settle_leads w g q n s h.pool (h.worker + 1) h.then k z y
 settled_leads w g q n s h (OfCall c) k z y = paid_leads w q n s h.then k z y
 
+set_part : (n : Plan) (s : Stage) (c : ℕ) (o : Party) (t : Then) → PartPaid n s t → Part n s (set_call c o t)
+set_part n s c (Worker p i) t y = y
+set_part n s c (Caller m) t y = y
+
+zero_leads : (w : World) (g : PoolShape) (q : Party) (n : Plan) (s : Stage) (p : Count) (t : Then) → Known w n → SaysThen w q t → PartPaid n s t → Leads w n s (settle_count g q p t)
+zero_leads w g q n s (OfPool p) t k z y = settle_leads w g q n s p 0 t k z y
+zero_leads w g q n s (OfScope c o) t k z y = set_part n s c o t y
+
 -- a Lower of the call leads on as it has been paid
-pub lower_leads : (w : World) (g : PoolShape) (q : Party) (n : Plan) (s : Stage) (p : ℕ) (h : Share) (t : Then) (e : Seen) → Known w n → SaysThen w q t → PartPaid n s t → Leads w n s (next_of g q (LowerCount p h t) e)
-lower_leads w g q n s p h t Yes k z y = settle_leads w g q n s p 0 t k z y
+pub lower_leads : (w : World) (g : PoolShape) (q : Party) (n : Plan) (s : Stage) (p : Count) (h : Share) (t : Then) (e : Seen) → Known w n → SaysThen w q t → PartPaid n s t → Leads w n s (next_of g q (LowerCount p h t) e)
+lower_leads w g q n s p h t Yes k z y = zero_leads w g q n s p t k z y
 lower_leads w g q n s p h t _ k z y = paid_leads w q n s t k z y
 
 leads_if : (w : World) (n : Plan) (s : Stage) (x y : Place) (b : Bool) → Part n s x → Part n s y → Leads w n s (if b then Stay x else Stay y)
@@ -313,6 +337,8 @@ told_detach (Feed f) = refl
 told_detach (Detach p t) = refl
 told_detach (Here p t) = refl
 told_detach (Send o) = refl
+told_detach (Open o) = refl
+told_detach (Enter e) = refl
 told_detach (Fork o a) = refl
 
 told_open : (n : Plan) → plan_open (told n) ≡ plan_open n
@@ -320,6 +346,8 @@ told_open (Feed f) = refl
 told_open (Detach p t) = refl
 told_open (Here p t) = refl
 told_open (Send o) = refl
+told_open (Open o) = refl
+told_open (Enter e) = refl
 told_open (Fork o a) = refl
 
 told_fork : (n : Plan) (o : OpenCall) (a : ℕ) → Fork o a ≡ told n → n ≡ Fork o a
@@ -327,22 +355,28 @@ told_fork (Feed f) o a e = cc
 told_fork (Detach p t) o a e = sym e
 told_fork (Here p t) o a e = sym e
 told_fork (Send m) o a e = sym e
+told_fork (Open m) o a e = sym e
+told_fork (Enter m) o a e = sym e
 told_fork (Fork m b) o a e = sym e
 
 news_part : (n : Plan) (s : Stage) (m : Plan) → PartPlan (told n) s Gone m → PartThen n s (after_news m)
 news_part n s (Detach p t) y = (sym (told_detach n) ∙ ap is_detach (sym (y.0)), y.1)
 news_part n s (Here p t) y = absurd (let a : false ≡ true = y.2 in cc)
 news_part n s (Feed f) y = absurd (let a : false ≡ true = y.2 in cc)
+news_part n s (Open o) y = absurd (let a : false ≡ true = y.2 in cc)
+news_part n s (Enter e) y = absurd (let a : false ≡ true = y.2 in cc)
 news_part n s (Send o) y = (sym (told_open n) ∙ ap plan_open (sym (y.0)), y.1)
 news_part n s (Fork o a) y = (told_fork n o a (y.0), y.1)
 
 -- once its pool's count is raised for it
-pub raised_leads : (w : World) (n : Plan) (s : Stage) (m : Plan) → (m ≡ n) × (s ≡ Going) → Leads w n s (after_raise m)
-raised_leads w n s (Detach p t) y = (y.0, y.1, refl)
-raised_leads w n s (Feed f) y = (sym (y.0), y.1)
-raised_leads w n s (Here p t) y = (sym (y.0), y.1)
-raised_leads w n s (Send o) y = (y.0, y.1, refl)
-raised_leads w n s (Fork o a) y = (y.0, y.1, refl)
+pub raised_leads : (w : World) (n : Plan) (s : Stage) (m : Plan) → Known w n → (m ≡ n) × (s ≡ Going) → Leads w n s (after_raise m)
+raised_leads w n s (Detach p t) k y = (y.0, y.1, refl)
+raised_leads w n s (Feed f) k y = (sym (y.0), y.1)
+raised_leads w n s (Here p t) k y = (sym (y.0), y.1)
+raised_leads w n s (Send o) k y = (y.0, y.1, refl)
+raised_leads w n s (Open o) k y = absurd (subst (Known w) (sym (y.0)) k)
+raised_leads w n s (Enter e) k y = absurd (subst (Known w) (sym (y.0)) k)
+raised_leads w n s (Fork o a) k y = (y.0, y.1, refl)
 
 -- the acts whose answer decides more than the place
 abbrev pub is_decisive : Place → Bool
@@ -409,7 +443,13 @@ part_leads w g q n s (BeginTask t) e d h z y = absurd y
 part_leads w g q n s (BeginHere t) e d h z y = absurd y
 part_leads w g q n s (Run t k) e d h z y = absurd y
 part_leads w g q n s (StoreResult c o f) e d h z y = absurd y
-part_leads w g q n s (SetLockLatch c) e d h z y = absurd y
+part_leads w g q n s (SetLockLatch c t) e d h z y = paid_leads w q n s t h (z.1) y
+part_leads w g q n s (GrowScope o) e d h z y = absurd y
+part_leads w g q n s (OpenSlot o) e d h z y = absurd y
+part_leads w g q n s (CloseSlot o) e d h z y = absurd y
+part_leads w g q n s (StoreBody o f) e d h z y = absurd y
+part_leads w g q n s (StoreSlot c o t f) e d h z y = absurd y
+part_leads w g q n s (ScopeBody o) e d h z y = absurd y
 part_leads w g q n s Free e d h z y = absurd y
 part_leads w g q n s Stopped e d h z y = absurd y
 part_leads w g q n s (RaiseCount m) e d h z y = absurd (let a : true ≡ false = d in cc)
@@ -442,12 +482,16 @@ pub open_job : (n : Plan) (o : OpenCall) → plan_open n ≡ Some o → o.job �
 open_job (Detach p t) o e = absurd (cc)
 open_job (Here p t) o e = absurd (cc)
 open_job (Feed f) o e = absurd (cc)
+open_job (Open m) o e = absurd (cc)
+open_job (Enter m) o e = absurd (cc)
 open_job (Send m) o e = let a : m ≡ o = cc in ap (λ x. x.job) (sym a)
 open_job (Fork m a) o e = let b : m ≡ o = cc in ap (λ x. x.job) (sym b)
 
 pub here_job : (n : Plan) (t : ℕ) → plan_here n ≡ Some t → t ≡ plan_job n
 here_job (Detach p u) t e = absurd (cc)
 here_job (Feed f) t e = absurd (cc)
+here_job (Open m) t e = absurd (cc)
+here_job (Enter m) t e = absurd (cc)
 here_job (Here p u) t e = (let a : u ≡ t = cc in sym a)
 here_job (Send m) t e = absurd (cc)
 here_job (Fork m a) t e = absurd (cc)

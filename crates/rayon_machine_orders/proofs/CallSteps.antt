@@ -9,19 +9,20 @@ use Rattle.std.proofs.lemmas.Bool.{eqb-true, eq-eqb}
 use Rattle.rayon_machine_places.specs.declared.place.Party.{Party}
 use Rattle.rayon_machine_places.specs.declared.place.Party.TheVariants.{Worker, Caller}
 use Rattle.rayon_machine_places.specs.declared.place.Plan.{Plan}
-use Rattle.rayon_machine_places.specs.declared.place.Plan.TheVariants.{Detach, Here, Send, Fork, Feed}
-use Rattle.rayon_machine_places.specs.declared.place.Share.TheVariants.{PoolValue, OfJob}
+use Rattle.rayon_machine_places.specs.declared.place.Plan.TheVariants.{Detach, Here, Send, Fork, Feed, Open, Enter}
+use Rattle.rayon_machine_places.specs.declared.place.Count.{Count}
+use Rattle.rayon_machine_places.specs.declared.place.Share.TheVariants.{PoolValue, OfJob, Body}
 use Rattle.rayon_machine_places.specs.declared.place.Then.{Then}
 use Rattle.rayon_machine_places.specs.declared.place.Place.{Place}
 use Rattle.rayon_machine_places.specs.declared.place.Place.TheVariants.{YieldPop, LocalPop, RaiseCount, LowerCount, TakeFromFifo, RaiseForAll, LowerForAll}
 use Rattle.rayon_machine_places.specs.declared.act.Seen.{Seen}
 use Rattle.rayon_machine_places.specs.declared.act.Seen.TheVariants.{Done, Refused, Task, Yes, No}
 use Rattle.rayon_machine_places.specs.declared.event.Event.{Event}
-use Rattle.rayon_machine_places.specs.declared.event.Event.TheVariants.{Go, From, Refuse, Miss, End, Spawn, Fifo, Install, Join, Yield, YieldLocal, EndPool, Cast}
+use Rattle.rayon_machine_places.specs.declared.event.Event.TheVariants.{Go, From, Refuse, Miss, End, Spawn, Fifo, Install, Join, Scope as OpenScope, IntoSpawn, Yield, YieldLocal, EndPool, Cast}
 use Rattle.rayon_machine_places.specs.declared.state.Whereabouts.{Whereabouts}
 use Rattle.rayon_machine_places.specs.declared.state.Whereabouts.TheVariants.{Nowhere, Made, InDeque, Injected, InFifo, Running, Over, HandedBack, Spent, Retaken, InCast}
-use Rattle.rayon_machine_places.specs.Places.{plan_job, plan_pool, act_of, next_of, taken_number}
-use Rattle.rayon_machine_places.specs.World.{World, Part, counts_at, target_pool, target_worker, target_call, at_job, begun, is_token, last_of, or_none, effect}
+use Rattle.rayon_machine_places.specs.Places.{plan_job, plan_count, act_of, next_of, taken_number}
+use Rattle.rayon_machine_places.specs.World.{World, Part, count_in, raised, counts_at, target_pool, target_worker, target_call, at_job, begun, is_token, last_of, or_none, effect}
 use Rattle.rayon_machine_places.specs.Steps.{put, step, jobs_after, is_piece, mark_pieces, marked}
 use Rattle.rayon_machine_places.specs.Readers.{is_queued, is_running, is_done}
 use Rattle.rayon_machine_laws.specs.Once.{one, in_fifo, times}
@@ -40,10 +41,10 @@ use Rattle.rayon_machine_laws.proofs.ShareActs.{SharesHold, with_job, Untallied,
 use Rattle.rayon_machine_laws.proofs.Returns.{ReturnsHold, Unbacked, act_unbacked, put_backs}
 use Rattle.rayon_machine_orders.proofs.CallPlaces.{Stage, Going, Gone, Paid, Undone, Ended, Known, Added, Withdrawing}
 use Rattle.rayon_machine_orders.proofs.CallActs.{Queued, Sofar, HandedOn, TokenOn}
-use Rattle.rayon_machine_orders.proofs.CallEvents.{Turned, from_turned, refuse_turned, miss_turned, end_turned, spawn_turned, install_turned, join_turned, yield_turned, give_turned, fifo_turned, cast_turned}
+use Rattle.rayon_machine_orders.proofs.CallEvents.{Turned, from_turned, refuse_turned, miss_turned, end_turned, spawn_turned, install_turned, join_turned, scope_turned, into_turned, yield_turned, give_turned, fifo_turned, cast_turned}
 use Rattle.rayon_machine_places.specs.declared.place.Move.TheVariants.{Back, Discard, Enter, HandBack, HandIn, StartRun, Stay, Mark, HandAllBack}
 use Rattle.rayon_machine_orders.proofs.Keeping.{BusyAfter, all_busy}
-use Rattle.rayon_machine_places.specs.declared.place.JobKind.TheVariants.{Detached, Direct, Stored, TokenOf}
+use Rattle.rayon_machine_places.specs.declared.place.JobKind.TheVariants.{Detached, Direct, Scoped, Stored, TokenOf, BodyOf}
 use Rattle.rayon_machine_laws.proofs.Feeders.{FeedersHold, feeds_now, waits}
 use Rattle.rayon_machine_places.specs.declared.place.Feeding.{Feeding}
 use Rattle.rayon_machine_places.specs.declared.state.Job.{Job}
@@ -85,6 +86,8 @@ mover (Fifo q p) = q
 mover (Cast q p) = q
 mover (Install q p) = q
 mover (Join q) = q
+mover (OpenScope q p) = q
+mover (IntoSpawn q n) = q
 mover (Yield q) = q
 mover (YieldLocal q) = q
 mover (EndPool q p) = q
@@ -104,6 +107,8 @@ turns w (Fifo q p) z = fifo_turned w q p
 turns w (Cast q p) z = cast_turned w q p
 turns w (Install q p) z = install_turned w q p
 turns w (Join q) z = join_turned w q
+turns w (OpenScope q p) z = scope_turned w q p
+turns w (IntoSpawn q n) z = into_turned w q n
 turns w (Yield q) z = yield_turned w q YieldPop (Yield q) (λ r s. refl)
 turns w (YieldLocal q) z = yield_turned w q LocalPop (YieldLocal q) (λ r s. refl)
 turns w (EndPool q p) z = give_turned w q p
@@ -123,6 +128,8 @@ by_act P w (Fifo q p) go turn true z = absurd (let a : false ≡ true = z in cc)
 by_act P w (Cast q p) go turn true z = absurd (let a : false ≡ true = z in cc)
 by_act P w (Install q p) go turn true z = absurd (let a : false ≡ true = z in cc)
 by_act P w (Join q) go turn true z = absurd (let a : false ≡ true = z in cc)
+by_act P w (OpenScope q p) go turn true z = absurd (let a : false ≡ true = z in cc)
+by_act P w (IntoSpawn q n) go turn true z = absurd (let a : false ≡ true = z in cc)
 by_act P w (Yield q) go turn true z = absurd (let a : false ≡ true = z in cc)
 by_act P w (YieldLocal q) go turn true z = absurd (let a : false ≡ true = z in cc)
 by_act P w (EndPool q p) go turn true z = absurd (let a : false ≡ true = z in cc)
@@ -134,6 +141,8 @@ pub known_on : (w u : World) → Carries w u → (n : Plan) → Known w n → Kn
 known_on w u c (Detach p t) k = ((c.made t (k.0)).0, ap is_detached ((c.made t (k.0)).1) ∙ k.1)
 known_on w u c (Feed f) k = (((c.made f.job ((k.0).0)).0, ap is_detached ((c.made f.job ((k.0).0)).1) ∙ (k.0).1), ((c.made f.token ((k.1).0)).0, ap is_token ((c.made f.token ((k.1).0)).1) ∙ (k.1).1))
 known_on w u c (Here p t) k = tt
+known_on w u c (Open o) k = absurd k
+known_on w u c (Enter e) k = absurd k
 known_on w u c (Send o) k = ((c.sides (o.number) (k.0)).0, (c.sides (o.number) (k.0)).1 ∙ k.1)
 known_on w u c (Fork o a) k = ((c.sides (o.number) (k.0)).0, (c.sides (o.number) (k.0)).1 ∙ k.1)
 
@@ -141,7 +150,7 @@ known_on w u c (Fork o a) k = ((c.sides (o.number) (k.0)).0, (c.sides (o.number)
 self : (t : ℕ) → one (t == t) ≡ 1
 self t = ap one (eq-eqb t t refl)
 
-raise_counts : (w : World) (n : Plan) (t : ℕ) (g h : Part) → g.job.counted ≡ (w.job (plan_job n)).counted → h.job.counted ≡ true → (w.job t).counted ≡ true → (b : Bool) → IfSome {T = Seen × Part} (if b then Some (Refused, g) else Some (Done, h)) (λ r. (put w.job (plan_job n) (r.1.job) t).counted ≡ true)
+pub raise_counts : (w : World) (n : Plan) (t : ℕ) (g h : Part) → g.job.counted ≡ (w.job (plan_job n)).counted → h.job.counted ≡ true → (w.job t).counted ≡ true → (b : Bool) → IfSome {T = Seen × Part} (if b then Some (Refused, g) else Some (Done, h)) (λ r. (put w.job (plan_job n) (r.1.job) t).counted ≡ true)
 raise_counts w n t g h i k c true = put_same (λ j. j.counted) w.job (plan_job n) g.job t i ∙ c
 raise_counts w n t g h i k c false = by (t == plan_job n)
   where
@@ -149,35 +158,37 @@ raise_counts w n t g h i k c false = by (t == plan_job n)
     by true = k
     by false = c
 
-lower_counts : (w : World) (q : Party) (p u : ℕ) (n : Then) (fs : List Place) (t : ℕ) → w.stack q ≡ record { top = LowerCount p (OfJob u) n; below = fs } → shares t (w.stack q) ≡ 0 → (w.job t).counted ≡ true → (put w.job u (record (w.job u) { counted = false }) t).counted ≡ true
+lower_counts : (w : World) (q : Party) (p : Count) (u : ℕ) (n : Then) (fs : List Place) (t : ℕ) → w.stack q ≡ record { top = LowerCount p (OfJob u) n; below = fs } → shares t (w.stack q) ≡ 0 → (w.job t).counted ≡ true → (put w.job u (record (w.job u) { counted = false }) t).counted ≡ true
 lower_counts w q p u n fs t z none c = by (t == u) refl
   where
     by : (b : Bool) → (t == u) ≡ b → (if b then record (w.job u) { counted = false } else w.job t).counted ≡ true
     by true e = absurd (let a : shares t (w.stack q) ≡ (share t (LowerCount p (OfJob u) n) + shares_in t fs) = ap (shares t) z in let b : one (t == u) ≡ 1 = ap one e in omega (arith, a, b, none))
     by false e = c
 
-counts_on : (w : World) (q : Party) (x : Place) (fs : List Place) (r : Seen × Part) (t : ℕ) → is_sharing (next_of (w.shape.pool (target_pool q (act_of q x))) q x (r.0)) ≡ false → (put w.job (job_at w q (act_of q x)) (r.1.job) t).counted ≡ true → ((world_after w q x fs r).job t).counted ≡ true
+pub counts_on : (w : World) (q : Party) (x : Place) (fs : List Place) (r : Seen × Part) (t : ℕ) → is_sharing (next_of (w.shape.pool (target_pool q (act_of q x))) q x (r.0)) ≡ false → (put w.job (job_at w q (act_of q x)) (r.1.job) t).counted ≡ true → ((world_after w q x fs r).job t).counted ≡ true
 counts_on w q x fs r t st c = after_counted q (next_of (w.shape.pool (target_pool q (act_of q x))) q x (r.0)) (put w.job (job_at w q (act_of q x)) (r.1.job)) t st ∙ c
 
 -- places whose acts are on the count for all pieces of a broadcast
-abbrev is_all : Place → Bool
+abbrev pub is_all : Place → Bool
 is_all (RaiseForAll c) = true
 is_all (LowerForAll c) = true
 is_all _ = false
 
 put_counts : (w : World) (q : Party) (x : Place) (fs : List Place) (t : ℕ) → is_all x ≡ false → w.stack q ≡ record { top = x; below = fs } → shares t (w.stack q) ≡ 0 → (w.job t).counted ≡ true → IfSome (outcome w q (record { top = x; below = fs })) (λ r. (put w.job (job_at w q (act_of q x)) (r.1.job) t).counted ≡ true)
-put_counts w (Worker a b) (RaiseCount n) fs t y z none c = raise_counts w n t _ _ refl refl c ((w.pool (plan_pool n)).count == 0)
-put_counts w (Caller i) (RaiseCount n) fs t y z none c = raise_counts w n t _ _ refl refl c ((w.pool (plan_pool n)).count == 0)
+put_counts w (Worker a b) (RaiseCount n) fs t y z none c = raise_counts w n t _ _ refl refl c (count_in (place_part w (Worker a b) (RaiseCount n)) (plan_count n) == 0)
+put_counts w (Caller i) (RaiseCount n) fs t y z none c = raise_counts w n t _ _ refl refl c (count_in (place_part w (Caller i) (RaiseCount n)) (plan_count n) == 0)
 put_counts w (Worker a b) (LowerCount p (OfJob u) n) fs t y z none c = lower_counts w (Worker a b) p u n fs t z none c
 put_counts w (Caller i) (LowerCount p (OfJob u) n) fs t y z none c = lower_counts w (Caller i) p u n fs t z none c
 put_counts w (Worker a b) (LowerCount p PoolValue n) fs t y z none c = put_same (λ j. j.counted) w.job 0 (w.job 0) t refl ∙ c
 put_counts w (Caller i) (LowerCount p PoolValue n) fs t y z none c = put_same (λ j. j.counted) w.job 0 (w.job 0) t refl ∙ c
+put_counts w (Worker a b) (LowerCount p Body n) fs t y z none c = put_same (λ j. j.counted) w.job 0 (w.job 0) t refl ∙ c
+put_counts w (Caller i) (LowerCount p Body n) fs t y z none c = put_same (λ j. j.counted) w.job 0 (w.job 0) t refl ∙ c
 put_counts w q (RaiseForAll b) fs t y z none c = cc
 put_counts w q (LowerForAll b) fs t y z none c = cc
 put_counts w q x fs t y z none c = if_some_map (Untallied (place_part w q x)) (λ r. (put w.job (job_at w q (act_of q x)) (r.1.job) t).counted ≡ true) (λ r k. put_same (λ j. j.counted) w.job (job_at w q (act_of q x)) (r.1.job) t k.job ∙ c) (outcome w q (record { top = x; below = fs })) (act_untallied w.shape q (counts_at w (target_pool q (act_of q x))) (place_part w q x) x refl)
 
 -- an act that is not leaves who has a share as the act has it
-all_steady : (w : World) (q : Party) (x : Place) → is_all x ≡ false → IfSome (effect (act_of q x) w.shape q (counts_at w (target_pool q (act_of q x))) (place_part w q x)) (λ r. is_sharing (next_of (w.shape.pool (target_pool q (act_of q x))) q x (r.0)) ≡ false)
+pub all_steady : (w : World) (q : Party) (x : Place) → is_all x ≡ false → IfSome (effect (act_of q x) w.shape q (counts_at w (target_pool q (act_of q x))) (place_part w q x)) (λ r. is_sharing (next_of (w.shape.pool (target_pool q (act_of q x))) q x (r.0)) ≡ false)
 all_steady w q (RaiseCount n) y = if_some_all {A = Seen × Part} (λ r. is_sharing (next_of (w.shape.pool (target_pool q (act_of q (RaiseCount n)))) q (RaiseCount n) (r.0)) ≡ false) (λ r. by (r.0)) (effect (act_of q (RaiseCount n)) w.shape q (counts_at w (target_pool q (act_of q (RaiseCount n)))) (place_part w q (RaiseCount n)))
   where
     by : (e : Seen) → is_sharing (next_of (w.shape.pool (target_pool q (act_of q (RaiseCount n)))) q (RaiseCount n) e) ≡ false
@@ -196,7 +207,7 @@ not_piece c t n l = by (is_piece c t) l
     by true l = absurd (omega (arith, l))
     by false l = refl
 
-all_cases : (P : Seen × Part → Type 0) (none done : Seen × Part) → P none → P done → (b : Bool) → IfSome (if b then Some none else Some done) P
+pub all_cases : (P : Seen × Part → Type 0) (none done : Seen × Part) → P none → P done → (b : Bool) → IfSome (if b then Some none else Some done) P
 all_cases P none done x y true = x
 all_cases P none done x y false = y
 
@@ -347,7 +358,9 @@ handed_on w u e made h r a t l k un z = by ((w.job t).at) refl z (a.final t)
 token_kinds : (k : JobKind) → is_detached k ≡ true → is_token k ≡ true → ⊥
 token_kinds (Detached p) d e = cc
 token_kinds (TokenOf i) d e = cc
+token_kinds (BodyOf c9 o9) d e = cc
 token_kinds (Stored c o) d e = cc
+token_kinds (Scoped c o) d e = cc
 token_kinds Direct d e = cc
 
 put_handed : (J : ℕ → Job) (a k : ℕ) → one (k == a) ≤ 0 → backs (J k).at ≤ 0 → backs (put J a (at_job (J a) HandedBack) k).at ≤ 0
@@ -383,6 +396,8 @@ land_kept w q (StartRun x m) J k s t f b = put_other J m k (begun q (J m)) (omeg
 land_kept w q (HandBack (Detach p a)) J k s t f b = put_handed J a k f b
 land_kept w q (HandBack (Here p a)) J k s t f b = put_handed J a k f b
 land_kept w q (HandBack (Send o)) J k s t f b = put_handed J (o.job) k f b
+land_kept w q (HandBack (Open o)) J k s t f b = put_handed J (o.job) k f b
+land_kept w q (HandBack (Enter o)) J k s t f b = put_handed J (o.job) k f b
 land_kept w q (HandBack (Fork o a)) J k s t f b = by (k == o.job) refl
   where
     by : (z : Bool) → (k == o.job) ≡ z → backs (if z then at_job (J o.job) HandedBack else put J a (at_job (J a) HandedBack) k).at ≤ 0
@@ -399,19 +414,21 @@ land_kept w q (HandBack (Feed d)) J k s t f b = by (k == d.token) refl
     by false e = apart (k == d.job) refl
 
 all_unbacked : (w : World) (q : Party) (x : Place) (fs : List Place) → IfSome (outcome w q (record { top = x; below = fs })) (Unbacked (place_part w q x))
-all_unbacked w (Worker a b) (RaiseCount n) fs = by ((w.pool (plan_pool n)).count == 0)
+all_unbacked w (Worker a b) (RaiseCount n) fs = by (count_in (place_part w (Worker a b) (RaiseCount n)) (plan_count n) == 0)
   where
-    by : (z : Bool) → IfSome {T = Seen × Part} (if z then Some (Refused, place_part w (Worker a b) (RaiseCount n)) else Some (Done, record (place_part w (Worker a b) (RaiseCount n)) { pool = record (w.pool (plan_pool n)) { count = (w.pool (plan_pool n)).count + 1 }; job = record (w.job (plan_job n)) { counted = true } })) (Unbacked (place_part w (Worker a b) (RaiseCount n)))
+    by : (z : Bool) → IfSome {T = Seen × Part} (if z then Some (Refused, place_part w (Worker a b) (RaiseCount n)) else Some (Done, raised (place_part w (Worker a b) (RaiseCount n)) (plan_count n))) (Unbacked (place_part w (Worker a b) (RaiseCount n)))
     by true = omega arith
     by false = omega arith
-all_unbacked w (Caller c) (RaiseCount n) fs = by ((w.pool (plan_pool n)).count == 0)
+all_unbacked w (Caller c) (RaiseCount n) fs = by (count_in (place_part w (Caller c) (RaiseCount n)) (plan_count n) == 0)
   where
-    by : (z : Bool) → IfSome {T = Seen × Part} (if z then Some (Refused, place_part w (Caller c) (RaiseCount n)) else Some (Done, record (place_part w (Caller c) (RaiseCount n)) { pool = record (w.pool (plan_pool n)) { count = (w.pool (plan_pool n)).count + 1 }; job = record (w.job (plan_job n)) { counted = true } })) (Unbacked (place_part w (Caller c) (RaiseCount n)))
+    by : (z : Bool) → IfSome {T = Seen × Part} (if z then Some (Refused, place_part w (Caller c) (RaiseCount n)) else Some (Done, raised (place_part w (Caller c) (RaiseCount n)) (plan_count n))) (Unbacked (place_part w (Caller c) (RaiseCount n)))
     by true = omega arith
     by false = omega arith
 all_unbacked w (Worker a b) (LowerCount p PoolValue n) fs = omega arith
 all_unbacked w (Worker a b) (LowerCount p (OfJob u) n) fs = omega arith
 all_unbacked w (Caller c) (LowerCount p PoolValue n) fs = omega arith
+all_unbacked w (Worker a b) (LowerCount p Body n) fs = omega arith
+all_unbacked w (Caller c) (LowerCount p Body n) fs = omega arith
 all_unbacked w (Caller c) (LowerCount p (OfJob u) n) fs = omega arith
 all_unbacked w (Worker a b) (RaiseForAll c) fs = by ((w.pool c.pool).count == 0)
   where
@@ -483,6 +500,8 @@ token_on w u e made h a k l t z = (left, by ((u.job k).at) left unbacked)
 pub queued_on : (w u : World) (e : Event) → step w e ≡ Some u → SharesHold w → FeedersHold w → ReturnsHold u → Advance w u → (n : Plan) → Known w n → Queued w.job n → Queued u.job n
 queued_on w u e made h fe r a (Here p t) k z = tt
 queued_on w u e made h fe r a (Send o) k z = tt
+queued_on w u e made h fe r a (Open o) k z = tt
+queued_on w u e made h fe r a (Enter x) k z = tt
 queued_on w u e made h fe r a (Fork o b) k z = tt
 queued_on w u e made h fe r a (Detach p t) k z = (final_left ((w.job t).at) ((u.job t).at) (a.final t) (z.0), handed_on w u e made h r a t (k.0) (k.1) (left_untaken w ((h.calls).jobs) t (z.0)) (z.1))
 queued_on w u e made h fe r a (Feed d) k z = (handed_on w u e made h r a d.job ((k.0).0) ((k.0).1) (paired_untaken w ((h.calls).jobs) fe d.job d.token (z.2) ((z.1).0)) (z.0), token_on w u e made h a d.token ((k.1).0) ((k.1).1) (z.1), z.2)
@@ -492,6 +511,8 @@ plan_hand : (t : ℕ) (n : Plan) → one (t == plan_job n) ≤ hand_plan t n
 plan_hand t (Detach p u) = omega arith
 plan_hand t (Here p u) = omega arith
 plan_hand t (Send o) = omega arith
+plan_hand t (Open o) = omega arith
+plan_hand t (Enter x) = omega arith
 plan_hand t (Feed f) = omega arith
 plan_hand t (Fork o a) = omega arith
 
@@ -532,12 +553,14 @@ lower_uncounts w u t c = by (t == u)
     by false = c
 
 put_uncounts : (w : World) (q : Party) (x : Place) (fs : List Place) (t : ℕ) → is_all x ≡ false → w.stack q ≡ record { top = x; below = fs } → JobsHold w → is_done (w.job t).at ≡ true → (w.job t).counted ≡ false → IfSome (outcome w q (record { top = x; below = fs })) (λ r. (put w.job (job_at w q (act_of q x)) (r.1.job) t).counted ≡ false)
-put_uncounts w (Worker a b) (RaiseCount n) fs t y z h d c = raise_uncounts w n t _ _ refl (raise_apart w h (Worker a b) n fs t z d) c ((w.pool (plan_pool n)).count == 0)
-put_uncounts w (Caller i) (RaiseCount n) fs t y z h d c = raise_uncounts w n t _ _ refl (raise_apart w h (Caller i) n fs t z d) c ((w.pool (plan_pool n)).count == 0)
+put_uncounts w (Worker a b) (RaiseCount n) fs t y z h d c = raise_uncounts w n t _ _ refl (raise_apart w h (Worker a b) n fs t z d) c (count_in (place_part w (Worker a b) (RaiseCount n)) (plan_count n) == 0)
+put_uncounts w (Caller i) (RaiseCount n) fs t y z h d c = raise_uncounts w n t _ _ refl (raise_apart w h (Caller i) n fs t z d) c (count_in (place_part w (Caller i) (RaiseCount n)) (plan_count n) == 0)
 put_uncounts w (Worker a b) (LowerCount p (OfJob u) n) fs t y z h d c = lower_uncounts w u t c
 put_uncounts w (Caller i) (LowerCount p (OfJob u) n) fs t y z h d c = lower_uncounts w u t c
 put_uncounts w (Worker a b) (LowerCount p PoolValue n) fs t y z h d c = put_same (λ j. j.counted) w.job 0 (w.job 0) t refl ∙ c
 put_uncounts w (Caller i) (LowerCount p PoolValue n) fs t y z h d c = put_same (λ j. j.counted) w.job 0 (w.job 0) t refl ∙ c
+put_uncounts w (Worker a b) (LowerCount p Body n) fs t y z h d c = put_same (λ j. j.counted) w.job 0 (w.job 0) t refl ∙ c
+put_uncounts w (Caller i) (LowerCount p Body n) fs t y z h d c = put_same (λ j. j.counted) w.job 0 (w.job 0) t refl ∙ c
 put_uncounts w q (RaiseForAll b) fs t y z h d c = cc
 put_uncounts w q (LowerForAll b) fs t y z h d c = cc
 put_uncounts w q x fs t y z h d c = if_some_map (Untallied (place_part w q x)) (λ r. (put w.job (job_at w q (act_of q x)) (r.1.job) t).counted ≡ false) (λ r k. put_same (λ j. j.counted) w.job (job_at w q (act_of q x)) (r.1.job) t k.job ∙ c) (outcome w q (record { top = x; below = fs })) (act_untallied w.shape q (counts_at w (target_pool q (act_of q x))) (place_part w q x) x refl)

@@ -4,7 +4,7 @@ use Rattle.std.specs.Prelude.{ℕ, Bool, true, false, ◌&&◌, ◌||◌, ◌==�
 use Rattle.rayon_machine_places.specs.declared.place.Party.{Party}
 use Rattle.rayon_machine_places.specs.declared.place.JobKind.TheVariants.{Direct}
 use Rattle.rayon_machine_places.specs.declared.place.Plan.{Plan}
-use Rattle.rayon_machine_places.specs.declared.place.Plan.TheVariants.{Detach, Here, Send, Fork, Feed}
+use Rattle.rayon_machine_places.specs.declared.place.Plan.TheVariants.{Detach, Here, Send, Fork, Feed, Open, Enter}
 use Rattle.rayon_machine_places.specs.declared.place.Place.{Place}
 use Rattle.rayon_machine_places.specs.declared.place.Place.TheVariants.{Run}
 use Rattle.rayon_machine_places.specs.declared.place.Move.{Move}
@@ -51,6 +51,8 @@ pub record Inside (u : World) (q : Party) (s : Stack) (n : Plan) (r : Bool) : Ty
 abbrev pub Unrefused : World → Plan → Type 0
 Unrefused u (Detach p t) = IsHandedOn u t
 Unrefused u (Feed f) = IsHandedOn u f.job × (IsHandedOn u f.token ⊎ IsSpent u f.token)
+Unrefused u (Open o) = ⊥
+Unrefused u (Enter e) = ⊥
 Unrefused u (Here p t) = Ended u t
 Unrefused u (Send o) = Ended u o.job
 Unrefused u (Fork o a) = Ended u a × Ended u o.job
@@ -69,6 +71,8 @@ After u q s n r = Inside u q s n r ⊎ Returned u q s n r
 left_so : (w u : World) → Advance w u → (n : Plan) (s : Stage) → Known u n → Returns w n s → Sofar u s n → Unrefused u n
 left_so w u a (Detach p t) s k y z = (let b : Sofar u Gone (Detach p t) = subst (λ v. Sofar u v (Detach p t)) y z in b.1)
 left_so w u a (Feed f) s k y z = (let b : Sofar u Gone (Feed f) = subst (λ v. Sofar u v (Feed f)) y z in (b.0, elim ((b.1).1) [ inl c ↦ inl c | inr c ↦ inr (record { token = (k.1).1; at = c }) ]))
+left_so w u a (Open o) s k y z = absurd y
+left_so w u a (Enter e) s k y z = absurd y
 left_so w u a (Here p t) s k y z = ended_on w u a t (y.1)
 left_so w u a (Send o) s k y z = ended_on w u a (o.job) (y.1)
 left_so w u a (Fork o b) s k y z = (ended_on w u a b ((y.1).0), ended_on w u a (o.job) ((y.1).1))
@@ -76,6 +80,8 @@ left_so w u a (Fork o b) s k y z = (ended_on w u a b ((y.1).0), ended_on w u a (
 paid_so : (w u : World) (n : Plan) (s : Stage) → Returns w n s → is_detach n ≡ false → Sofar u s n → (u.job (plan_job n)).counted ≡ false
 paid_so w u (Feed f) s y d z = absurd (let a : true ≡ false = d in cc)
 paid_so w u (Detach p t) s y d z = absurd (let a : true ≡ false = d in cc)
+paid_so w u (Open o) s y d z = absurd y
+paid_so w u (Enter e) s y d z = absurd y
 paid_so w u (Here p t) s y d z = (let k : Sofar u Paid (Here p t) = subst (λ v. Sofar u v (Here p t)) (y.0) z in (k.1).1)
 paid_so w u (Send o) s y d z = (let k : Sofar u Paid (Send o) = subst (λ v. Sofar u v (Send o)) (y.0) z in (k.1).1)
 paid_so w u (Fork o b) s y d z = (let k : Sofar u Paid (Fork o b) = subst (λ v. Sofar u v (Fork o b)) (y.0) z in (k.1).1)
@@ -83,6 +89,8 @@ paid_so w u (Fork o b) s y d z = (let k : Sofar u Paid (Fork o b) = subst (λ v.
 not_undone : (w : World) (n : Plan) (s : Stage) → Returns w n s → is_undone s ≡ false
 not_undone w (Detach p t) s y = ap is_undone y
 not_undone w (Feed f) s y = ap is_undone y
+not_undone w (Open o) s y = absurd y
+not_undone w (Enter e) s y = absurd y
 not_undone w (Here p t) s y = ap is_undone (y.0)
 not_undone w (Send o) s y = ap is_undone (y.0)
 not_undone w (Fork o b) s y = ap is_undone (y.0)
@@ -98,6 +106,8 @@ handed_all : (f : ℕ → Job) (m : Plan) → AllJobs (λ t. (handed_back m f t)
 handed_all f (Detach p t) = ap (λ j. j.at) (put_new f t (at_job (f t) HandedBack))
 handed_all f (Here p t) = ap (λ j. j.at) (put_new f t (at_job (f t) HandedBack))
 handed_all f (Send o) = ap (λ j. j.at) (put_new f (o.job) (at_job (f (o.job)) HandedBack))
+handed_all f (Open o) = ap (λ j. j.at) (put_new f (o.job) (at_job (f (o.job)) HandedBack))
+handed_all f (Enter e) = ap (λ j. j.at) (put_new f (e.job) (at_job (f (e.job)) HandedBack))
 handed_all f (Fork o a) = two_handed f a o.job
 handed_all f (Feed d) = two_handed f d.job d.token
 

@@ -1,5 +1,6 @@
 -- the law of calls has teeth: replays, computed by the kernel, in which a changed table or act breaks it, and that its
 -- premises are met in the machine as it is
+use Rattle.rayon_machine_places.specs.declared.place.Count.TheVariants.{OfPool}
 use Rattle.std.proofs.Common.{refl}
 use Rattle.std.specs.Prelude.{ℕ, Bool, true, false, ◌&&◌, ◌||◌, ◌-◌, ◌==◌, nat_lt, nat_le, Option, Some, None, List, [], ◌∷◌, ◌++◌, ◌≡◌, IfSome, length}
 use Rattle.rayon_machine_places.specs.declared.place.Party.{Party}
@@ -79,7 +80,7 @@ spawn_refused = record { caller = refl; back = refl; until = refl; refused = ref
 
 -- a join abandons its second side when its first faults, and goes on to its Lower as a spawn's end does
 abbrev abandons : PoolShape → Party → Wait → Seen → Target → Move
-abandons h q k e (Answer o (Some Fault)) = Stay (LowerCount o.pool (OfJob o.job) Resume)
+abandons h q k e (Answer o (Some Fault)) = Stay (LowerCount (OfPool o.pool) (OfJob o.job) Resume)
 abandons h q k e g = next_of h q (ProbeWorking k) e
 
 abbrev one_sided : PoolShape → Party → Place → Seen → Move
@@ -152,7 +153,7 @@ call_lowers = (refl, refl)
 
 -- a call that has taken goes on to its Lower as a spawned job's end does, without an answer
 abbrev unanswering : PoolShape → Party → Place → Seen → Move
-unanswering h q (TakeResult o f) (Found e) = Stay (LowerCount o.pool (OfJob o.job) Resume)
+unanswering h q (TakeResult o f) (Found e) = Stay (LowerCount (OfPool o.pool) (OfJob o.job) Resume)
 unanswering h q x e = next_of h q x e
 
 -- an install of the party, begun in w and not refused, whose own next act is its Lower, and it has no answer
@@ -162,7 +163,7 @@ record LowersUnanswered (m : Machine) (q : Party) (e : Event) (between : List Ev
   until : any_by m (is_back q w) (Some v) between ≡ false
   refused : any_by m (is_refusal q (w.stack q)) (Some v) between ≡ false
   own : is_at_call (w.stack q) (u.stack q) ≡ true
-  act : act_of q (u.stack q).top ≡ Lower 0 (OfJob 0)
+  act : act_of q (u.stack q).top ≡ Lower (OfPool 0) (OfJob 0)
   answer : verdict_of (follows (u.stack q).top) ≡ None
 
 call_lowers_without_an_answer : IfSome (two 32) (λ w. IfSome (step_by (record { does = effect; next = unanswering }) w (Install c 0)) (λ v. IfSome (run_by (record { does = effect; next = unanswering }) (Some v) installed) (LowersUnanswered (record { does = effect; next = unanswering }) c (Install c 0) installed w v)))

@@ -8,8 +8,9 @@ use Rattle.rayon_machine_places.specs.declared.place.Party.TheVariants.{Worker, 
 use Rattle.rayon_machine_places.specs.declared.place.Ending.{Ending}
 use Rattle.rayon_machine_places.specs.declared.place.JobKind.TheVariants.{Detached, TokenOf}
 use Rattle.rayon_machine_places.specs.declared.place.Plan.{Plan}
-use Rattle.rayon_machine_places.specs.declared.place.Plan.TheVariants.{Detach, Here, Send, Fork, Feed}
+use Rattle.rayon_machine_places.specs.declared.place.Plan.TheVariants.{Detach, Here, Send, Fork, Feed, Open, Enter}
 use Rattle.rayon_machine_places.specs.declared.place.Ending.TheVariants.{Fine, Fault}
+use Rattle.rayon_machine_places.specs.declared.place.Count.{Count}
 use Rattle.rayon_machine_places.specs.declared.place.Share.{Share}
 use Rattle.rayon_machine_places.specs.declared.place.Then.{Then}
 use Rattle.rayon_machine_places.specs.declared.place.Then.TheVariants.{BeginFound, LeaveWait, Resume, Await, RunFirst, Answers, Missing, Ran, GiveBack, Called}
@@ -21,7 +22,7 @@ use Rattle.rayon_machine_places.specs.declared.event.Event.TheVariants.{Spawn, F
 use Rattle.rayon_machine_places.specs.declared.state.Whereabouts.{Whereabouts}
 use Rattle.rayon_machine_places.specs.declared.state.Whereabouts.TheVariants.{Nowhere, Made, InDeque, Injected, InFifo, Running, Over, HandedBack, Spent, Retaken, InCast}
 use Rattle.rayon_machine_places.specs.declared.place.OpenCall.{OpenCall}
-use Rattle.rayon_machine_places.specs.Places.{is_member, plan_pool, plan_job, act_of, is_free}
+use Rattle.rayon_machine_places.specs.Places.{is_member, plan_pool, plan_job, plan_book, act_of, is_free}
 use Rattle.rayon_machine_places.specs.World.{Shape, Stack, World, is_token}
 use Rattle.rayon_machine_places.specs.Steps.{after_call, is_pool, new_job, new_call, after_spawn, after_send, after_install, after_join, step, after_feed, after_fifo, put}
 use Rattle.rayon_machine_places.specs.Runs.{IsRun, start}
@@ -78,6 +79,8 @@ IsOf t (Detach p a) = t ≡ a
 IsOf t (Here p a) = t ≡ a
 IsOf t (Feed f) = (t ≡ f.job) ⊎ (t ≡ f.token)
 IsOf t (Send o) = t ≡ o.job
+IsOf t (Open o) = t ≡ o.job
+IsOf t (Enter e) = t ≡ e.job
 IsOf t (Fork o a) = (t ≡ a) ⊎ (t ≡ o.job)
 
 all_of : (P : ℕ → Type 0) (t : ℕ) (n : Plan) → IsOf t n → AllJobs P n → P t
@@ -86,6 +89,8 @@ all_of P t (Here p a) e z = subst P (sym e) z
 all_of P t (Feed f) (inl e) z = subst P (sym e) (z.0)
 all_of P t (Feed f) (inr e) z = subst P (sym e) (z.1)
 all_of P t (Send o) e z = subst P (sym e) z
+all_of P t (Open o) e z = subst P (sym e) z
+all_of P t (Enter x) e z = subst P (sym e) z
 all_of P t (Fork o a) (inl e) z = subst P (sym e) (z.0)
 all_of P t (Fork o a) (inr e) z = subst P (sym e) (z.1)
 
@@ -109,6 +114,8 @@ has_run u h t z = record { over = z; runs = by ((u.job t).at) refl z }
 abbrev PlanAnswers : World → Plan → Verdict → Type 0
 PlanAnswers u (Detach p t) x = ⊥
 PlanAnswers u (Feed f) x = ⊥
+PlanAnswers u (Open o) x = ⊥
+PlanAnswers u (Enter e) x = ⊥
 PlanAnswers u (Here p t) FirstFault = ⊥
 PlanAnswers u (Here p t) LastFault = HasEnded u t Fault
 PlanAnswers u (Here p t) AllFine = HasEnded u t Fine
@@ -254,6 +261,8 @@ open_awaited (Detach p t) o e = cc
 open_awaited (Feed f) o e = cc
 open_awaited (Here p t) o e = refl
 open_awaited (Send p) o e = refl
+open_awaited (Open p) o e = refl
+open_awaited (Enter x) o e = refl
 open_awaited (Fork p a) o e = refl
 
 some_party : {q r : Party} → Some q ≡ Some r → q ≡ r
@@ -286,7 +295,7 @@ taker (Worker i j) (LookQueue n) c e = absurd (by (is_member (Worker i j) (plan_
     by false z = cc
 taker (Worker i j) (PushJob n v) c e = absurd (by (is_member (Worker i j) (plan_pool n)) e)
   where
-    by : (b : Bool) → (if b then PushOwn (plan_job n) else PushInj (plan_pool n) (plan_job n)) ≡ Take c → ⊥
+    by : (b : Bool) → (if b then PushOwn (plan_job n) (plan_book n) else PushInj (plan_pool n) (plan_job n) (plan_book n)) ≡ Take c → ⊥
     by true z = cc
     by false z = cc
 taker q (BeginTask (Plain t)) c e = absurd (begun q e)
@@ -341,13 +350,13 @@ finds u g q n r c t last p k = by ((u.call c).cell) refl
     by (Some e) z = record { ending = e; cell = z; job = subst (λ x. HasEnded u x e) is (has_ended u (g.calls.jobs) ((u.call c).job) e (g.calls.cells c e z)) }
 
 -- only one place lowers a count
-record Lowers (x : Place) (p : ℕ) (h : Share) : Type 0 where
-  pool : ℕ
+record Lowers (x : Place) (p : Count) (h : Share) : Type 0 where
+  pool : Count
   share : Share
   after : Then
   is : x ≡ LowerCount pool share after
 
-lowerer : (q : Party) (x : Place) (p : ℕ) (h : Share) → act_of q x ≡ Lower p h → Lowers x p h
+lowerer : (q : Party) (x : Place) (p : Count) (h : Share) → act_of q x ≡ Lower p h → Lowers x p h
 lowerer (Worker i j) (LowerCount r s t) p h e = record { pool = r; share = s; after = t; is = refl }
 lowerer (Caller i) (LowerCount r s t) p h e = record { pool = r; share = s; after = t; is = refl }
 lowerer (Worker i j) (LookQueue n) p h e = absurd (by (is_member (Worker i j) (plan_pool n)) e)
@@ -357,7 +366,7 @@ lowerer (Worker i j) (LookQueue n) p h e = absurd (by (is_member (Worker i j) (p
     by false z = cc
 lowerer (Worker i j) (PushJob n v) p h e = absurd (by (is_member (Worker i j) (plan_pool n)) e)
   where
-    by : (b : Bool) → (if b then PushOwn (plan_job n) else PushInj (plan_pool n) (plan_job n)) ≡ Lower p h → ⊥
+    by : (b : Bool) → (if b then PushOwn (plan_job n) (plan_book n) else PushInj (plan_pool n) (plan_job n) (plan_book n)) ≡ Lower p h → ⊥
     by true z = cc
     by false z = cc
 lowerer q (BeginTask (Plain t)) p h e = absurd (begun q e)
@@ -377,6 +386,8 @@ lowerer (Caller i) _ p h e = absurd (cc)
 open_answers : (u : World) → JobsHold u → (n : Plan) (o : OpenCall) (f : Option Ending) (d : Ending) → Known u n → FirstEnds u (u.call o.number).first f → (u.job o.job).at ≡ Over d → plan_open n ≡ Some o → PlanAnswers u n (answered f d)
 open_answers u h (Detach p t) o f d k s z e = absurd (cc)
 open_answers u h (Feed g) o f d k s z e = absurd (cc)
+open_answers u h (Open m) o f d k s z e = absurd k
+open_answers u h (Enter m) o f d k s z e = absurd k
 open_answers u h (Here p t) o f d k s z e = absurd (cc)
 open_answers u h (Send m) o f d k s z e = by f d (subst (λ x. FirstEnds u x f) (ap (λ x. (u.call x.number).first) (sym same) ∙ k.1) s) (subst (λ x. (u.job x.job).at ≡ Over d) (sym same) z)
   where
@@ -402,6 +413,8 @@ here_answers : (u : World) → JobsHold u → (n : Plan) (t : ℕ) (d : Ending) 
 here_answers u h (Detach p i) t d z e = absurd (cc)
 here_answers u h (Feed f) t d z e = absurd (cc)
 here_answers u h (Send o) t d z e = absurd (cc)
+here_answers u h (Open o) t d z e = absurd (cc)
+here_answers u h (Enter o) t d z e = absurd (cc)
 here_answers u h (Fork o a) t d z e = absurd (cc)
 here_answers u h (Here p i) t d z e = by d (let a : i ≡ t = cc in subst (λ x. (u.job x).at ≡ Over d) (sym a) z)
   where
@@ -421,7 +434,7 @@ then_answers u h q n r (Await o) P g k s d y = absurd y
 then_answers u h q n r (RunFirst o a) P g k s d y = absurd y
 then_answers u h q n r (Missing o f) P g k s d y = absurd y
 
-call_answers : (u : World) → Ground u → (q : Party) (s : Stack) (n : Plan) (r : Bool) (p : ℕ) (h : Share) (P : Option Verdict → Type 0) → ((x : Verdict) → PlanAnswers u n x → P (Some x)) → After u q s n r → is_at_call s (u.stack q) ≡ true → act_of q (u.stack q).top ≡ Lower p h → r ≡ false → P (verdict_of (follows (u.stack q).top))
+call_answers : (u : World) → Ground u → (q : Party) (s : Stack) (n : Plan) (r : Bool) (p : Count) (h : Share) (P : Option Verdict → Type 0) → ((x : Verdict) → PlanAnswers u n x → P (Some x)) → After u q s n r → is_at_call s (u.stack q) ≡ true → act_of q (u.stack q).top ≡ Lower p h → r ≡ false → P (verdict_of (follows (u.stack q).top))
 call_answers u g q s n r p h P f (inr k) z a d = absurd (not_at_itself s (subst (λ x. is_at_call s x ≡ true) k.back z))
 call_answers u g q s n r p h P f (inl i) z a d =
     let l : Lowers (u.stack q).top p h = lowerer q ((u.stack q).top) p h a in
@@ -438,6 +451,8 @@ is_own (Detach p t) = refl
 is_own (Here p t) = refl
 is_own (Feed f) = inl refl
 is_own (Send o) = refl
+is_own (Open o) = refl
+is_own (Enter e) = refl
 is_own (Fork o a) = inr refl
 
 by_refusal : (u : World) → Ground u → (q : Party) (s : Stack) (n : Plan) (r : Bool) → Returned u q s n r → is_detach n ≡ false → (r ≡ true) ⊎ (r ≡ false) → (u.job (plan_job n)).counted ≡ false

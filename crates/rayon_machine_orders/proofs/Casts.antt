@@ -17,18 +17,18 @@ use Rattle.rayon_machine_places.specs.declared.place.Move.TheVariants.{Stay, Bac
 use Rattle.rayon_machine_places.specs.declared.act.Seen.{Seen}
 use Rattle.rayon_machine_places.specs.declared.act.Seen.TheVariants.{Refused, Yes, No}
 use Rattle.rayon_machine_places.specs.declared.event.Event.{Event}
-use Rattle.rayon_machine_places.specs.declared.event.Event.TheVariants.{Go, From, Refuse, Miss, End, Spawn, Fifo, Cast, Install, Join, Yield, YieldLocal, EndPool}
+use Rattle.rayon_machine_places.specs.declared.event.Event.TheVariants.{Go, From, Refuse, Miss, End, Spawn, Fifo, Cast, Scope as OpenScope, IntoSpawn, Install, Join, Yield, YieldLocal, EndPool}
 use Rattle.rayon_machine_places.specs.declared.state.Whereabouts.TheVariants.{HandedBack}
 use Rattle.rayon_machine_places.specs.declared.state.Job.{Job}
 use Rattle.rayon_machine_places.specs.declared.shape.PoolShape.{PoolShape}
 use Rattle.rayon_machine_places.specs.Places.{same_party, act_of, next_of, is_free, walk, after_set, finish}
 use Rattle.rayon_machine_places.specs.World.{Shape, Stack, World, Part, target_pool}
-use Rattle.rayon_machine_places.specs.Steps.{put, after_move, after_choice, after_refusal, after_miss, after_end, after_call, after_spawn, after_feed, after_yield, is_pool, is_piece, mark_pieces, marked, put_pieces, new_piece, after_cast, jobs_after, step, with_stack}
+use Rattle.rayon_machine_places.specs.Steps.{put, after_move, after_choice, after_refusal, after_miss, after_end, after_call, after_spawn, after_feed, after_yield, after_into, is_pool, is_piece, mark_pieces, marked, put_pieces, new_piece, after_cast, jobs_after, step, with_stack}
 use Rattle.rayon_machine_places.specs.Readers.{is_queued, is_running, is_done}
 use Rattle.rayon_machine_places.specs.Runs.{IsRun, start}
 use Rattle.rayon_machine_orders.specs.Calls.{IsRunUntil, is_at_call, is_any, IsHandedOn, StandsOn}
 use Rattle.rayon_machine_orders.specs.Casts.{is_cast_refused, is_cast_refusal, CastLaw}
-use Rattle.rayon_machine_laws.proofs.Frame.{and_parts, if_cond, if_some_all, if_some_map, same_party_true, same_party_refl, stack_mine, stack_other, piece_new, piece_range, piece_in}
+use Rattle.rayon_machine_laws.proofs.Frame.{and_parts, into_cases, if_cond, if_some_all, if_some_map, same_party_true, same_party_refl, stack_mine, stack_other, piece_new, piece_range, piece_in}
 use Rattle.rayon_machine_laws.proofs.Ties.{outcome, result}
 use Rattle.rayon_machine_laws.proofs.Located.{is_left}
 use Rattle.rayon_machine_laws.proofs.PlacedEvents.{Advance, final_left, IsFinal}
@@ -353,6 +353,9 @@ yield_none : (P : World → Type 0) (w : World) (q : Party) (x : Place) → (is_
 yield_none P w (Worker a b) x n = if_cond P (is_free ((w.stack (Worker a b)).top)) _ (λ e. absurd (n e))
 yield_none P w (Caller c) x n = tt
 
+into_none : (P : World → Type 0) (w : World) (q : Party) (n : ℕ) → (is_free ((w.stack q).top) ≡ true → ⊥) → IfSome (after_into w q n (w.stack q)) P
+into_none P w q n f = into_cases P w q n (λ z e free held. absurd (f free))
+
 -- the party's own events
 own_event : (w : World) (e : Event) (s : Stack) (c : Pieces) (r : Bool) → Ground w → Inside w (mover e) s c r → IfSome (step w e) (Keeps w e (mover e) s c r)
 own_event w (Go q) s c r g i = go_all (Keeps w (Go q) q s c r) w q (subst (λ k. IfSome (outcome w q k) (λ v. Keeps w (Go q) q s c r (result w q k v))) (sym i.is) (own_act w q s c r i.stage i.top i.is g i.spot i.sofar i.known i.flag))
@@ -363,6 +366,8 @@ own_event w (End q d) s c r g i = end_none (Keeps w (End q d) q s c r) w q d (w.
 own_event w (Spawn q p) s c r g i = gate (Keeps w (Spawn q p) q s c r) w _ ((w.stack q).top) (is_pool w.shape p) (not_free ((w.stack q).top) (ap (λ k. is_spot (k.top)) i.is ∙ spot_is c i.stage i.top i.spot))
 own_event w (Fifo q p) s c r g i = fifo_none (Keeps w (Fifo q p) q s c r) w q p (not_free ((w.stack q).top) (ap (λ k. is_spot (k.top)) i.is ∙ spot_is c i.stage i.top i.spot))
 own_event w (Cast q p) s c r g i = gate (Keeps w (Cast q p) q s c r) w _ ((w.stack q).top) (is_pool w.shape p) (not_free ((w.stack q).top) (ap (λ k. is_spot (k.top)) i.is ∙ spot_is c i.stage i.top i.spot))
+own_event w (OpenScope q p) s c r g i = gate (Keeps w (OpenScope q p) q s c r) w _ ((w.stack q).top) (is_pool w.shape p) (not_free ((w.stack q).top) (ap (λ k. is_spot (k.top)) i.is ∙ spot_is c i.stage i.top i.spot))
+own_event w (IntoSpawn q n) s c r g i = into_none (Keeps w (IntoSpawn q n) q s c r) w q n (not_free ((w.stack q).top) (ap (λ k. is_spot (k.top)) i.is ∙ spot_is c i.stage i.top i.spot))
 own_event w (Install q p) s c r g i = gate (Keeps w (Install q p) q s c r) w _ ((w.stack q).top) (is_pool w.shape p) (not_free ((w.stack q).top) (ap (λ k. is_spot (k.top)) i.is ∙ spot_is c i.stage i.top i.spot))
 own_event w (Join q) s c r g i = join_none (Keeps w (Join q) q s c r) w q (not_free ((w.stack q).top) (ap (λ k. is_spot (k.top)) i.is ∙ spot_is c i.stage i.top i.spot))
 own_event w (Yield q) s c r g i = yield_none (Keeps w (Yield q) q s c r) w q YieldPop (not_free ((w.stack q).top) (ap (λ k. is_spot (k.top)) i.is ∙ spot_is c i.stage i.top i.spot))

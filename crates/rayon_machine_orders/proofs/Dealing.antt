@@ -15,7 +15,7 @@ use Rattle.rayon_machine_places.specs.declared.act.Seen.{Seen}
 use Rattle.rayon_machine_places.specs.declared.act.Seen.TheVariants.{Task, Missing}
 use Rattle.rayon_machine_places.specs.declared.shape.PoolShape.{PoolShape}
 use Rattle.rayon_machine_places.specs.declared.place.OpenCall.{OpenCall}
-use Rattle.rayon_machine_places.specs.Places.{same_party, plan_pool, plan_job, act_of, next_of, after_begin, is_taken, taken_number}
+use Rattle.rayon_machine_places.specs.Places.{same_party, plan_pool, plan_job, act_of, next_of, after_begin, is_taken, taken_number, plan_book}
 use Rattle.rayon_machine_places.specs.World.{Stack, World, counts_at, Part, own_of, own_left, popped, target_pool, target_worker, target_call, effect, fifo_first, head_of, is_open, left_by, or_none, taken_as}
 use Rattle.rayon_machine_places.specs.Steps.{put_seat, part_of, after_move, step}
 use Rattle.rayon_machine_orders.specs.Order.{Happening, act_happens, happening, Hands}
@@ -98,7 +98,7 @@ push_deals w p i n v fs = at (p == plan_pool n)
     ByAct : Act → Type 0
     ByAct a = IfSome (effect a w.shape me (counts_at w (target_pool me a)) (part_of w (target_pool me a) (target_worker me a) (target_call a) (job_at w me a))) (λ r. Dealt (w.shape.pool p).order (PushJob n v) (w.seat p i).own (put_seat w.seat (target_pool me a) (target_worker me a) (r.1.seat) p i).own (after_move (next_of (w.shape.pool (target_pool me a)) me (PushJob n v) (r.0)) fs).top (act_happens a fs))
 
-    at : (z : Bool) → ByAct (if z then PushOwn (plan_job n) else PushInj (plan_pool n) (plan_job n))
+    at : (z : Bool) → ByAct (if z then PushOwn (plan_job n) (plan_book n) else PushInj (plan_pool n) (plan_job n) (plan_book n))
     at true = (ap (λ s. s.own) (seat_mine w.seat p i (record (w.seat p i) { own = (w.seat p i).own ++ plan_job n ∷ []; feeder = left_by (Worker p i) ((w.seat p i).feeder) })), refl, refl)
     at false = inl (seat_own w.seat (plan_pool n) i p i (w.seat (plan_pool n) i) refl, inl (refl, inl refl))
 

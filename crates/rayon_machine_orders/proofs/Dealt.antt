@@ -1,4 +1,6 @@
 -- what each step does to the own deque of a worker that is alone in its pool
+use Rattle.rayon_machine_places.specs.declared.place.Count.TheVariants.{OfPool, OfScope}
+use Rattle.rayon_machine_places.specs.declared.place.Count.{Count}
 use Rattle.std.proofs.Common.{rules, arith, refl, sym, ◌∙◌, ap, inl, inr}
 use Rattle.std.specs.Prelude.{ℕ, Bool, true, false, ◌&&◌, ◌==◌, if◌then◌else◌, Option, Some, None, List, [], ◌∷◌, ◌++◌, ◌≡◌, ◌⊎◌, IfSome}
 use Rattle.std.proofs.lemmas.Bool.{eqb-true}
@@ -11,11 +13,11 @@ use Rattle.rayon_machine_places.specs.declared.place.Target.TheVariants.{Termina
 use Rattle.rayon_machine_places.specs.declared.place.Latch.{Latch}
 use Rattle.rayon_machine_places.specs.declared.place.Latch.TheVariants.{Terminate, OfCall}
 use Rattle.rayon_machine_places.specs.declared.place.Plan.{Plan}
-use Rattle.rayon_machine_places.specs.declared.place.Plan.TheVariants.{Detach, Here, Send, Fork, Feed}
+use Rattle.rayon_machine_places.specs.declared.place.Plan.TheVariants.{Detach, Here, Send, Fork, Feed, Open, Enter}
 use Rattle.rayon_machine_places.specs.declared.place.Then.{Then}
 use Rattle.rayon_machine_places.specs.declared.place.Then.TheVariants.{BeginFound, LeaveWait, Resume, Await, RunFirst, Answers, Missing as Lacks, Ran, GiveBack, Called}
 use Rattle.rayon_machine_places.specs.declared.place.Place.{Place}
-use Rattle.rayon_machine_places.specs.declared.place.Place.TheVariants.{ProbeWorking, PopWorking, TakeCastWorking, PopIdle, TakeCastIdle, StealFrom, PopInjected, LeaveSearch, JoinPop, JoinTakeCast, YieldPop, YieldTakeCast, YieldSteal, YieldPopInjected, LocalPop, LocalTakeCast, PickVictim, YieldPick, BeginTask, BeginHere, RaiseCount, LookQueue, PushJob, TellNews, LockToWake, WakeWorker, UnlockWoken, LowerCount, SetLatch, LockToSettle, WakeSettled, UnlockSettled, AddToFifo, PushToken, TakeFromFifo}
+use Rattle.rayon_machine_places.specs.declared.place.Place.TheVariants.{ProbeWorking, PopWorking, TakeCastWorking, PopIdle, TakeCastIdle, StealFrom, PopInjected, LeaveSearch, JoinPop, JoinTakeCast, YieldPop, YieldTakeCast, YieldSteal, YieldPopInjected, LocalPop, LocalTakeCast, PickVictim, YieldPick, BeginTask, BeginHere, RaiseCount, LookQueue, PushJob, TellNews, LockToWake, WakeWorker, UnlockWoken, LowerCount, SetLatch, LockToSettle, WakeSettled, UnlockSettled, AddToFifo, PushToken, TakeFromFifo, SetLockLatch}
 use Rattle.rayon_machine_places.specs.declared.place.Move.{Move}
 use Rattle.rayon_machine_places.specs.declared.place.Move.TheVariants.{Stay, Enter, StartRun, Back, HandBack, Discard, HandIn, Mark, HandAllBack}
 use Rattle.rayon_machine_places.specs.declared.act.Act.TheVariants.{LookOwn, LookInj, PushOwn, PushInj, Set}
@@ -23,7 +25,7 @@ use Rattle.rayon_machine_places.specs.declared.act.Seen.{Seen}
 use Rattle.rayon_machine_places.specs.declared.act.Seen.TheVariants.{Yes, Done, Task}
 use Rattle.rayon_machine_places.specs.declared.shape.PoolShape.{PoolShape}
 use Rattle.rayon_machine_places.specs.declared.place.Settling.{Settling}
-use Rattle.rayon_machine_places.specs.Places.{same_party, is_member, plan_pool, plan_job, finish, walk, settle, after_set, after_found, after_news, act_of, next_of, taken_back}
+use Rattle.rayon_machine_places.specs.Places.{same_party, is_member, plan_pool, plan_job, finish, walk, settle, after_set, after_found, after_news, act_of, next_of, taken_back, settle_count, plan_book}
 use Rattle.rayon_machine_places.specs.World.{Shape, Seat, Stack, World, Counts, Part, last_of, but_last, own_of, own_left, target_pool, target_worker, effect, is_open}
 use Rattle.rayon_machine_places.specs.Steps.{put_seat, after_move}
 use Rattle.rayon_machine_orders.specs.Order.{Happening, Adds, Begins, Redeems, act_happens, Hands}
@@ -193,6 +195,18 @@ news_taken (Here p t) = refl
 news_taken (Send o) = refl
 news_taken (Fork o a) = refl
 news_taken (Feed f) = refl
+news_taken (Open o) = refl
+news_taken (Enter e) = refl
+
+count_free : (g : PoolShape) (q : Party) (k : Count) (n : Then) → taken_then n ≡ None → FreeOf (settle_count g q k n)
+count_free g q (OfPool p) n e = settle_free g q p 0 n e
+count_free g q (OfScope c (Worker a b)) n e = e
+count_free g q (OfScope c (Caller m)) n e = e
+
+count_has : (g : PoolShape) (q : Party) (k : Count) (n : Then) (t : ℕ) → taken_then n ≡ Some t → Has t (settle_count g q k n)
+count_has g q (OfPool p) n t e = settle_has g q p 0 n t e
+count_has g q (OfScope c (Worker a b)) n t e = e
+count_has g q (OfScope c (Caller m)) n t e = e
 
 set_free : (g : PoolShape) (q : Party) (s : Settling) (e : Seen) → taken_then s.then ≡ None → FreeOf (next_of g q (SetLatch s) e)
 set_free g q s Yes z = z
@@ -211,8 +225,9 @@ stays_free h g q c m (UnlockWoken k) y z s e = if_some_all {A = Seen × Part} (�
 stays_free h g q c m (LowerCount p v n) y z s e = if_some_all {A = Seen × Part} (λ r. FreeOf (next_of g q (LowerCount p v n) (r.0))) (λ r. lowers (r.0)) (effect (act_of q (LowerCount p v n)) h q c m)
   where
     lowers : (d : Seen) → FreeOf (next_of g q (LowerCount p v n) d)
-    lowers Yes = settle_free g q p 0 n e
+    lowers Yes = count_free g q p n e
     lowers _ = finish_free q n e
+stays_free h g q c m (SetLockLatch i n) y z s e = if_some_all {A = Seen × Part} (λ r. FreeOf (next_of g q (SetLockLatch i n) (r.0))) (λ r. finish_free q n e) (effect (act_of q (SetLockLatch i n)) h q c m)
 stays_free h g q c m (SetLatch k) y z s e = if_some_all {A = Seen × Part} (λ r. FreeOf (next_of g q (SetLatch k) (r.0))) (λ r. set_free g q k (r.0) e) (effect (act_of q (SetLatch k)) h q c m)
 stays_free h g q c m (UnlockSettled k) y z s e = if_some_all {A = Seen × Part} (λ r. FreeOf (next_of g q (UnlockSettled k) (r.0))) (λ r. settled_free g q k e) (effect (act_of q (UnlockSettled k)) h q c m)
 stays_free h g q c m (AddToFifo f) y z s e = if_some_all {A = Seen × Part} (λ r. FreeOf (next_of g q (AddToFifo f) (r.0))) (λ r. adds (r.0)) (effect (act_of q (AddToFifo f)) h q c m)
@@ -242,8 +257,9 @@ keeps_task h g q c m (UnlockWoken k) t s e = if_some_all {A = Seen × Part} (λ 
 keeps_task h g q c m (LowerCount p v n) t s e = if_some_all {A = Seen × Part} (λ r. Has t (next_of g q (LowerCount p v n) (r.0))) (λ r. lowers (r.0)) (effect (act_of q (LowerCount p v n)) h q c m)
   where
     lowers : (d : Seen) → Has t (next_of g q (LowerCount p v n) d)
-    lowers Yes = settle_has g q p 0 n t e
+    lowers Yes = count_has g q p n t e
     lowers _ = finish_has q n t e
+keeps_task h g q c m (SetLockLatch i n) t s e = if_some_all {A = Seen × Part} (λ r. Has t (next_of g q (SetLockLatch i n) (r.0))) (λ r. finish_has q n t e) (effect (act_of q (SetLockLatch i n)) h q c m)
 keeps_task h g q c m (SetLatch k) t s e = if_some_all {A = Seen × Part} (λ r. Has t (next_of g q (SetLatch k) (r.0))) (λ r. set_has g q k (r.0) t e) (effect (act_of q (SetLatch k)) h q c m)
 keeps_task h g q c m (LockToSettle k) t s e = if_some_all {A = Seen × Part} (λ r. Has t (next_of g q (LockToSettle k) (r.0))) (λ r. e) (effect (act_of q (LockToSettle k)) h q c m)
 keeps_task h g q c m (WakeSettled k) t s e = if_some_all {A = Seen × Part} (λ r. Has t (next_of g q (WakeSettled k) (r.0))) (λ r. e) (effect (act_of q (WakeSettled k)) h q c m)
@@ -288,7 +304,7 @@ own_same h (Caller n) c m _ y z s = first_of (cc, search (rules, arith))
 push_away : (h : Shape) (q : Party) (c : Counts) (m : Part) (n : Plan) (v : Bool) → is_member q (plan_pool n) ≡ false → IfSome (effect (act_of q (PushJob n v)) h q c m) (λ r. r.1.seat.own ≡ m.seat.own)
 push_away h (Worker a b) c m n v e = at (is_member (Worker a b) (plan_pool n)) e
   where
-    at : (z : Bool) → z ≡ false → IfSome (effect (if z then PushOwn (plan_job n) else PushInj (plan_pool n) (plan_job n)) h (Worker a b) c m) (λ r. r.1.seat.own ≡ m.seat.own)
+    at : (z : Bool) → z ≡ false → IfSome (effect (if z then PushOwn (plan_job n) (plan_book n) else PushInj (plan_pool n) (plan_job n) (plan_book n)) h (Worker a b) c m) (λ r. r.1.seat.own ≡ m.seat.own)
     at true f = cc
     at false f = refl
 push_away h (Caller o) c m n v e = refl
@@ -374,7 +390,7 @@ push_other w q n v fs p i d = elim (either (is_member q (plan_pool n))) [
 ]
   where
     mine : (q : Party) → same_party (Worker p i) q ≡ false → is_member q (plan_pool n) ≡ true → Spared w q (record { top = PushJob n v; below = fs }) p i
-    mine (Worker a b) d e = away w a b p i (record { top = PushJob n v; below = fs }) d (ap (λ z. target_pool (Worker a b) (if z then PushOwn (plan_job n) else PushInj (plan_pool n) (plan_job n))) e) (ap (λ z. target_worker (Worker a b) (if z then PushOwn (plan_job n) else PushInj (plan_pool n) (plan_job n))) e)
+    mine (Worker a b) d e = away w a b p i (record { top = PushJob n v; below = fs }) d (ap (λ z. target_pool (Worker a b) (if z then PushOwn (plan_job n) (plan_book n) else PushInj (plan_pool n) (plan_job n) (plan_book n))) e) (ap (λ z. target_worker (Worker a b) (if z then PushOwn (plan_job n) (plan_book n) else PushInj (plan_pool n) (plan_job n) (plan_book n))) e)
     mine (Caller m) d e = cc
 
 other_push : (w : World) (q : Party) (x : Place) (fs : List Place) (p i : ℕ) → is_push x ≡ true → same_party (Worker p i) q ≡ false → Spared w q (record { top = x; below = fs }) p i

@@ -8,7 +8,7 @@ use Rattle.rayon_machine_places.specs.declared.place.Party.TheVariants.{Worker}
 use Rattle.rayon_machine_places.specs.declared.place.Then.{Then}
 use Rattle.rayon_machine_places.specs.declared.place.Then.TheVariants.{BeginFound}
 use Rattle.rayon_machine_places.specs.declared.place.Place.{Place}
-use Rattle.rayon_machine_places.specs.declared.place.Place.TheVariants.{LeaveSearch, BeginTask, BeginHere, LockToWake, WakeWorker, UnlockWoken, LowerCount, SetLatch, LockToSettle, WakeSettled, UnlockSettled}
+use Rattle.rayon_machine_places.specs.declared.place.Place.TheVariants.{LeaveSearch, BeginTask, BeginHere, LockToWake, WakeWorker, UnlockWoken, LowerCount, SetLatch, LockToSettle, WakeSettled, UnlockSettled, SetLockLatch}
 use Rattle.rayon_machine_places.specs.declared.event.Event.{Event}
 use Rattle.rayon_machine_places.specs.Runs.{IsRun, start}
 use Rattle.rayon_machine_places.specs.Steps.{step}
@@ -66,6 +66,7 @@ taken_hand (WakeWorker k) t e = then_hand k.then t e
 taken_hand (UnlockWoken k) t e = then_hand k.then t e
 taken_hand (LowerCount p s n) t e = then_hand n t e
 taken_hand (SetLatch s) t e = then_hand s.then t e
+taken_hand (SetLockLatch c n) t e = then_hand n t e
 taken_hand (LockToSettle s) t e = then_hand s.then t e
 taken_hand (WakeSettled s) t e = then_hand s.then t e
 taken_hand (UnlockSettled s) t e = then_hand s.then t e

@@ -8,7 +8,7 @@ use Rattle.std.proofs.lemmas.Bool.{eqb-true}
 use Rattle.rayon_machine_places.specs.declared.place.Party.{Party}
 use Rattle.rayon_machine_places.specs.declared.place.Party.TheVariants.{Worker, Caller}
 use Rattle.rayon_machine_places.specs.declared.place.Plan.{Plan}
-use Rattle.rayon_machine_places.specs.declared.place.Plan.TheVariants.{Detach, Here, Send, Fork, Feed}
+use Rattle.rayon_machine_places.specs.declared.place.Plan.TheVariants.{Detach, Here, Send, Fork, Feed, Open, Enter}
 use Rattle.rayon_machine_places.specs.declared.place.Place.{Place}
 use Rattle.rayon_machine_places.specs.declared.place.Place.TheVariants.{PopWorking, TakeCastWorking, PopIdle, TakeCastIdle, StealFrom, PopInjected, JoinPop, JoinTakeCast, YieldPop, YieldTakeCast, YieldSteal, YieldPopInjected, LocalPop, LocalTakeCast, BeginTask, BeginHere, PushJob, TakeFromFifo, AddToFifo, PushToken, PushForAll}
 use Rattle.rayon_machine_places.specs.declared.place.Move.{Move}
@@ -17,7 +17,7 @@ use Rattle.rayon_machine_places.specs.declared.act.Act.TheVariants.{PushInj, Pus
 use Rattle.rayon_machine_places.specs.declared.act.Seen.{Seen}
 use Rattle.rayon_machine_places.specs.declared.state.Whereabouts.TheVariants.{HandedBack, Spent}
 use Rattle.rayon_machine_places.specs.declared.state.Job.{Job}
-use Rattle.rayon_machine_places.specs.Places.{same_party, is_member, plan_pool, plan_job, act_of, next_of}
+use Rattle.rayon_machine_places.specs.Places.{same_party, is_member, plan_pool, plan_job, act_of, next_of, plan_book}
 use Rattle.rayon_machine_places.specs.World.{Shape, Stack, World, Counts, Part, target_pool, at_job, begun, popped, take_cast, pop_injector, effect, is_open}
 use Rattle.rayon_machine_places.specs.Steps.{put, put_stack, jobs_after, mark_pieces, marked, is_piece}
 use Rattle.rayon_machine_laws.specs.Once.{one}
@@ -113,13 +113,13 @@ inj_busies : (q : Party) (m : Part) (l : List ℕ) → IfSome (pop_injector q m 
 inj_busies q m [] = omega arith
 inj_busies q m (t ∷ ts) = one_most (is_busy m.job.at)
 
-push_busies : (h : Shape) (q : Party) (c : Counts) (m : Part) (p t : ℕ) (z : Bool) → IfSome (effect (if z then PushOwn t else PushInj p t) h q c m) (λ r. is_busy r.1.job.at ≡ true)
-push_busies h q c m p t true = refl
-push_busies h q c m p t false = refl
+push_busies : (h : Shape) (q : Party) (c : Counts) (m : Part) (p t : ℕ) (b : Option ℕ) (z : Bool) → IfSome (effect (if z then PushOwn t b else PushInj p t b) h q c m) (λ r. is_busy r.1.job.at ≡ true)
+push_busies h q c m p t b true = refl
+push_busies h q c m p t b false = refl
 
 pub act_pushes : (h : Shape) (q : Party) (c : Counts) (m : Part) (n : Plan) (v : Bool) → IfSome (effect (act_of q (PushJob n v)) h q c m) (λ r. is_busy r.1.job.at ≡ true)
 act_pushes h (Caller e) c m n v = refl
-act_pushes h (Worker a b) c m n v = push_busies h (Worker a b) c m (plan_pool n) (plan_job n) (is_member (Worker a b) (plan_pool n))
+act_pushes h (Worker a b) c m n v = push_busies h (Worker a b) c m (plan_pool n) (plan_job n) (plan_book n) (is_member (Worker a b) (plan_pool n))
 
 -- a place whose act takes a job back out of a FIFO list
 abbrev pub is_retake : Place → Bool
@@ -233,6 +233,8 @@ moved_stays q (StartRun f n) J t e h = by (t == n)
 moved_stays q (HandBack (Detach p n)) J t e h = back_stays J n t h
 moved_stays q (HandBack (Here p n)) J t e h = back_stays J n t h
 moved_stays q (HandBack (Send o)) J t n h = back_stays J (o.job) t h
+moved_stays q (HandBack (Open o)) J t n h = back_stays J (o.job) t h
+moved_stays q (HandBack (Enter x)) J t n h = back_stays J (x.job) t h
 moved_stays q (HandBack (Feed d)) J t e h = by (t == d.token) h
   where
     by : (z : Bool) → backs (if z then at_job (J (d.token)) HandedBack else put J (d.job) (at_job (J (d.job)) HandedBack) t).at ≤ 0 → one (is_busy (J t).at) ≤ one (is_busy (if z then at_job (J (d.token)) HandedBack else put J (d.job) (at_job (J (d.job)) HandedBack) t).at)

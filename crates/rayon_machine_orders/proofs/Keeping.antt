@@ -2,42 +2,45 @@
 -- shares, and each is kept once
 use Rattle.rayon_machine_places.specs.declared.place.Mark.TheVariants.{Counted, Queued, Returned}
 use Rattle.rayon_machine_places.specs.declared.place.Pieces.{Pieces}
+use Rattle.rayon_machine_places.specs.declared.state.Scope.{Scope}
+use Rattle.rayon_machine_places.specs.declared.place.Count.TheVariants.{OfPool, OfScope}
+use Rattle.rayon_machine_places.specs.declared.place.Count.{Count}
 use Rattle.std.proofs.Common.{arith, refl, sym, ◌∙◌, ap, inl, inr}
-use Rattle.std.specs.Prelude.{ℕ, zero, suc, Bool, true, false, ◌&&◌, ◌+◌, ◌-◌, ◌==◌, ◌≤◌, ◌<◌, nat_lt, if◌then◌else◌, Some, None, List, ◌≡◌, IfSome}
+use Rattle.std.specs.Prelude.{ℕ, zero, suc, Bool, true, false, ◌&&◌, ◌+◌, ◌-◌, ◌==◌, ◌≤◌, ◌<◌, nat_lt, if◌then◌else◌, Some, None, List, ◌≡◌, IfSome, ◌++◌, [], ◌∷◌}
 use Rattle.std.proofs.lemmas.Bool.{eqb-true, ltb-true, ltb-false}
 use Rattle.std.proofs.Math.Dec.{ltb}
 use Rattle.rayon_machine_places.specs.declared.place.Party.{Party}
 use Rattle.rayon_machine_places.specs.declared.place.Party.TheVariants.{Worker, Caller}
 use Rattle.rayon_machine_places.specs.declared.place.Ending.{Ending}
 use Rattle.rayon_machine_places.specs.declared.place.JobKind.{JobKind}
-use Rattle.rayon_machine_places.specs.declared.place.JobKind.TheVariants.{Detached, Stored, Direct, TokenOf}
+use Rattle.rayon_machine_places.specs.declared.place.JobKind.TheVariants.{Detached, Stored, Direct, TokenOf, Scoped, BodyOf}
 use Rattle.rayon_machine_places.specs.declared.place.Plan.{Plan}
-use Rattle.rayon_machine_places.specs.declared.place.Plan.TheVariants.{Detach, Here, Send, Fork, Feed}
-use Rattle.rayon_machine_places.specs.declared.place.Share.TheVariants.{PoolValue, OfJob}
+use Rattle.rayon_machine_places.specs.declared.place.Plan.TheVariants.{Detach, Here, Send, Fork, Feed, Open, Enter}
+use Rattle.rayon_machine_places.specs.declared.place.Share.TheVariants.{PoolValue, OfJob, Body}
 use Rattle.rayon_machine_places.specs.declared.place.Then.{Then}
 use Rattle.rayon_machine_places.specs.declared.place.Then.TheVariants.{Resume}
 use Rattle.rayon_machine_places.specs.declared.place.Place.{Place}
-use Rattle.rayon_machine_places.specs.declared.place.Place.TheVariants.{PickVictim, StealFrom, YieldPop, YieldPick, YieldSteal, LocalPop, Run, RaiseCount, GrowCall, PushJob, LowerCount, AddToFifo, PushToken, TakeFromFifo, RaiseForAll, PushForAll, LowerForAll}
+use Rattle.rayon_machine_places.specs.declared.place.Place.TheVariants.{PickVictim, StealFrom, YieldPop, YieldPick, YieldSteal, LocalPop, Run, RaiseCount, GrowCall, PushJob, LowerCount, AddToFifo, PushToken, TakeFromFifo, RaiseForAll, PushForAll, LowerForAll, GrowScope, OpenSlot}
 use Rattle.rayon_machine_places.specs.declared.act.Act.TheVariants.{PushInj, PushOwn}
 use Rattle.rayon_machine_places.specs.declared.act.Seen.{Seen}
 use Rattle.rayon_machine_places.specs.declared.act.Seen.TheVariants.{Done, Refused, Yes, No, Missing, Start, Task}
 use Rattle.rayon_machine_places.specs.declared.event.Event.{Event}
-use Rattle.rayon_machine_places.specs.declared.event.Event.TheVariants.{Go, From, Refuse, Miss, End, Spawn, Fifo, Install, Join, Yield, YieldLocal, EndPool, Cast}
+use Rattle.rayon_machine_places.specs.declared.event.Event.TheVariants.{Go, From, Refuse, Miss, End, Spawn, Fifo, Install, Join, Yield, YieldLocal, EndPool, Cast, Scope as OpenScope, IntoSpawn}
 use Rattle.rayon_machine_places.specs.declared.state.Whereabouts.TheVariants.{Over}
 use Rattle.rayon_machine_places.specs.declared.shape.PoolShape.{PoolShape}
 use Rattle.rayon_machine_places.specs.declared.state.Job.{Job}
 use Rattle.rayon_machine_places.specs.declared.state.Call.{Call}
-use Rattle.rayon_machine_places.specs.Places.{same_party, own_pool, is_member, plan_pool, plan_job, act_of, next_of, is_free, taken_number}
-use Rattle.rayon_machine_places.specs.World.{Shape, World, count_below, counts_at, Part, target_pool, target_worker, target_call, at_job, is_open}
-use Rattle.rayon_machine_places.specs.Steps.{put, put_stack, after_move, after_choice, after_refusal, can_miss, after_miss, after_close, after_end, after_call, is_pool, new_job, new_call, after_spawn, after_send, after_install, after_join, after_yield, after_end_pool, step, after_fifo, after_cast, put_pieces, new_piece, is_piece, mark_pieces, marked}
+use Rattle.rayon_machine_places.specs.Places.{same_party, own_pool, is_member, plan_pool, plan_job, act_of, next_of, is_free, taken_number, plan_count, plan_book}
+use Rattle.rayon_machine_places.specs.World.{Shape, World, count_below, counts_at, Part, target_pool, target_worker, target_call, at_job, is_open, count_in, count_pool, pool_more, pool_less}
+use Rattle.rayon_machine_places.specs.Steps.{put, put_stack, after_move, after_choice, after_refusal, can_miss, after_miss, after_close, after_end, after_call, is_pool, new_job, new_call, after_spawn, after_send, after_install, after_join, after_yield, after_end_pool, step, after_fifo, after_cast, put_pieces, new_piece, is_piece, mark_pieces, marked, after_scope, after_into, holds}
 use Rattle.rayon_machine_places.specs.Runs.{start, IsRun}
 use Rattle.rayon_machine_laws.specs.Once.{one}
 use Rattle.rayon_machine_laws.specs.Counted.{is_detached, keeps_own, has_share, values, values_in, all_values, KeptOnce, IsCounted}
 use Rattle.rayon_machine_laws.specs.Shares.{share, shares_in, shares, is_busy}
-use Rattle.rayon_machine_laws.proofs.Frame.{either, same_party_true, if_some_and, if_some_map, if_cond, acted_keeps, put_same, put_old, stack_mine, after_counted, fifo_cases, is_sharing, piece_new}
+use Rattle.rayon_machine_laws.proofs.Frame.{either, same_party_true, if_some_and, if_some_map, if_cond, acted_keeps, put_same, put_old, stack_mine, after_counted, fifo_cases, is_sharing, piece_new, into_cases}
 use Rattle.rayon_machine_laws.proofs.Ties.{job_at, outcome}
 use Rattle.rayon_machine_laws.proofs.Events.{run_keeps}
-use Rattle.rayon_machine_laws.proofs.Claims.{SaysQueue, SaysRun, MadeAs}
+use Rattle.rayon_machine_laws.proofs.Claims.{SaysQueue, SaysRun, MadeAs, SaysThen, SaysShare}
 use Rattle.rayon_machine_laws.proofs.ClaimActs.{Lasting}
 use Rattle.rayon_machine_laws.proofs.ClaimRuns.{top_says, world_after, place_part}
 use Rattle.rayon_machine_laws.proofs.ClaimEvents.{ended_world}
@@ -62,6 +65,10 @@ pushed_most t (Detach p j) v Done = omega arith
 pushed_most t (Detach p j) v _ = omega arith
 pushed_most t (Here p j) v Done = omega arith
 pushed_most t (Here p j) v _ = omega arith
+pushed_most t (Open o) v Done = omega arith
+pushed_most t (Open o) v _ = omega arith
+pushed_most t (Enter x) v Done = omega arith
+pushed_most t (Enter x) v _ = omega arith
 pushed_most t (Send o) v e = omega arith
 pushed_most t (Fork o a) v e = omega arith
 pushed_most t (Feed f) v Done = omega arith
@@ -71,6 +78,9 @@ plan_pushed : (w : World) (q : Party) (n : Plan) (v : Bool) (e : Seen) (t : ℕ)
 plan_pushed w q (Detach p j) v e t s y = let a : pushed t (PushJob (Detach p j) v) e ≤ one (t == j) = pushed_most t (Detach p j) v e in let b : one (t == j) ≤ 1 = one_most (t == j) in
     let c : one (is_detached (w.job t).kind) ≡ 1 = ap (λ i. one (is_detached (w.job i).kind)) (eqb-true t j y) ∙ ap (λ k. one (is_detached k)) (s.kind) in omega (arith, a, b, c)
 plan_pushed w q (Here p j) v e t s y = absurd s
+plan_pushed w q (Open o) v e t s y = absurd s
+plan_pushed w q (Enter x) v e t s y = let a : pushed t (PushJob (Enter x) v) e ≤ one (t == x.job) = pushed_most t (Enter x) v e in let b : one (t == x.job) ≤ 1 = one_most (t == x.job) in
+    let c : one (is_detached (w.job t).kind) ≡ 1 = ap (λ i. one (is_detached (w.job i).kind)) (eqb-true t x.job y) ∙ ap (λ k. one (is_detached k)) ((s.0).kind) in omega (arith, a, b, c)
 plan_pushed w q (Send o) v e t s y = omega arith
 plan_pushed w q (Fork o a) v e t s y = omega arith
 plan_pushed w q (Feed f) v e t s y = absurd s
@@ -93,7 +103,7 @@ push_job : (w : World) (q : Party) (n : Plan) (v : Bool) → job_at w q (act_of 
 push_job w (Caller c) n v = refl
 push_job w (Worker a b) n v = by (is_member (Worker a b) (plan_pool n))
   where
-    by : (z : Bool) → job_at w (Worker a b) (if z then PushOwn (plan_job n) else PushInj (plan_pool n) (plan_job n)) ≡ plan_job n
+    by : (z : Bool) → job_at w (Worker a b) (if z then PushOwn (plan_job n) (plan_book n) else PushInj (plan_pool n) (plan_job n) (plan_book n)) ≡ plan_job n
     by true = refl
     by false = refl
 
@@ -252,28 +262,28 @@ raise_jobs w q n fs h z t c = by (t == plan_job n) refl
   where
     by : (b : Bool) → (t == plan_job n) ≡ b → (one (w.job t).counted + one b) ≡ 1
     by true e = let a : all_raises t (w.stack q) + one (w.job t).counted ≤ 1 = h.unraised q t in let b : all_raises t (w.stack q) ≡ (one (t == plan_job n) + raises_in t fs) = ap (all_raises t) z in let d : one (t == plan_job n) ≡ 1 = ap one e in omega (arith, a, b, d)
-    by false e = let a : one (w.job t).counted ≡ 1 = ap one (sym (after_counted q (next_of (w.shape.pool (plan_pool n)) q (RaiseCount n) Done) (put w.job (plan_job n) (record (w.job (plan_job n)) { counted = true })) t (raise_steady n) ∙ ap (λ j. j.counted) (put_old w.job (plan_job n) (record (w.job (plan_job n)) { counted = true }) t e)) ∙ c) in omega (arith, a)
+    by false e = let a : one (w.job t).counted ≡ 1 = ap one (sym (after_counted q (next_of (w.shape.pool (count_pool q (plan_count n))) q (RaiseCount n) Done) (put w.job (plan_job n) (record (w.job (plan_job n)) { counted = true })) t (raise_steady n) ∙ ap (λ j. j.counted) (put_old w.job (plan_job n) (record (w.job (plan_job n)) { counted = true }) t e)) ∙ c) in omega (arith, a)
 
 raise_pools : (w : World) (q : Party) (n : Plan) (fs : List Place) (p : ℕ) → ((raised_world w q n fs).pool p).counted ≡ true → (w.pool p).counted ≡ true
-raise_pools w q n fs p c = sym (put_same (λ v. v.counted) w.pool (plan_pool n) (record (w.pool (plan_pool n)) { count = (w.pool (plan_pool n)).count + 1 }) p refl) ∙ c
+raise_pools w q n fs p c = sym (put_same (λ v. v.counted) w.pool (count_pool q (plan_count n)) (record (w.pool (count_pool q (plan_count n))) { count = pool_more (plan_count n) (w.pool (count_pool q (plan_count n))).count }) p refl) ∙ c
 
-lower_jobs : (w : World) (q : Party) (p u : ℕ) (n : Then) (fs : List Place) (e : Seen) (t : ℕ) → ((lowered_world w q p (OfJob u) n fs e).job t).counted ≡ true → (one (t == u) ≡ 0) × ((one (w.job t).counted + 0) ≡ 1)
+lower_jobs : (w : World) (q : Party) (p : Count) (u : ℕ) (n : Then) (fs : List Place) (e : Seen) (t : ℕ) → ((lowered_world w q p (OfJob u) n fs e).job t).counted ≡ true → (one (t == u) ≡ 0) × ((one (w.job t).counted + 0) ≡ 1)
 lower_jobs w q p u n fs e t c = by (t == u) refl
   where
     counted : ((lowered_world w q p (OfJob u) n fs e).job t).counted ≡ (put w.job u (record (w.job u) { counted = false }) t).counted
-    counted = after_counted q (next_of (w.shape.pool p) q (LowerCount p (OfJob u) n) e) (put w.job u (record (w.job u) { counted = false })) t (lower_steady (w.shape.pool p) q p (OfJob u) n e)
+    counted = after_counted q (next_of (w.shape.pool (count_pool q p)) q (LowerCount p (OfJob u) n) e) (put w.job u (record (w.job u) { counted = false })) t (lower_steady (w.shape.pool (count_pool q p)) q p (OfJob u) n e)
 
     by : (b : Bool) → (t == u) ≡ b → (one b ≡ 0) × ((one (w.job t).counted + 0) ≡ 1)
     by true y = absurd (let a : (put w.job u (record (w.job u) { counted = false }) t).counted ≡ false = ap (λ b. (if b then record (w.job u) { counted = false } else w.job t).counted) y in let b : (put w.job u (record (w.job u) { counted = false }) t).counted ≡ true = sym counted ∙ c in let d : false ≡ true = sym a ∙ b in cc)
     by false y = (refl, (let a : one (w.job t).counted ≡ 1 = ap one (sym (counted ∙ ap (λ j. j.counted) (put_old w.job u (record (w.job u) { counted = false }) t y)) ∙ c) in omega (arith, a)))
 
-lower_pools : (w : World) (q : Party) (p u : ℕ) (n : Then) (fs : List Place) (e : Seen) (r : ℕ) → ((lowered_world w q p (OfJob u) n fs e).pool r).counted ≡ true → (w.pool r).counted ≡ true
-lower_pools w q p u n fs e r c = sym (put_same (λ v. v.counted) w.pool p (record (w.pool p) { count = (w.pool p).count - 1 }) r refl) ∙ c
+lower_pools : (w : World) (q : Party) (p : Count) (u : ℕ) (n : Then) (fs : List Place) (e : Seen) (r : ℕ) → ((lowered_world w q p (OfJob u) n fs e).pool r).counted ≡ true → (w.pool r).counted ≡ true
+lower_pools w q p u n fs e r c = sym (put_same (λ v. v.counted) w.pool (count_pool q p) (record (w.pool (count_pool q p)) { count = pool_less p (w.pool (count_pool q p)).count }) r refl) ∙ c
 
-value_jobs : (w : World) (q : Party) (p : ℕ) (n : Then) (fs : List Place) (e : Seen) (t : ℕ) → ((lowered_world w q p PoolValue n fs e).job t).counted ≡ true → (one (w.job t).counted + 0) ≡ 1
-value_jobs w q p n fs e t c = let a : one (w.job t).counted ≡ 1 = ap one (sym (after_counted q (next_of (w.shape.pool p) q (LowerCount p PoolValue n) e) (put w.job 0 (w.job 0)) t (lower_steady (w.shape.pool p) q p PoolValue n e) ∙ put_same (λ j. j.counted) w.job 0 (w.job 0) t refl) ∙ c) in omega (arith, a)
+value_jobs : (w : World) (q : Party) (p : ℕ) (n : Then) (fs : List Place) (e : Seen) (t : ℕ) → ((lowered_world w q (OfPool p) PoolValue n fs e).job t).counted ≡ true → (one (w.job t).counted + 0) ≡ 1
+value_jobs w q p n fs e t c = let a : one (w.job t).counted ≡ 1 = ap one (sym (after_counted q (next_of (w.shape.pool p) q (LowerCount (OfPool p) PoolValue n) e) (put w.job 0 (w.job 0)) t (lower_steady (w.shape.pool p) q (OfPool p) PoolValue n e) ∙ put_same (λ j. j.counted) w.job 0 (w.job 0) t refl) ∙ c) in omega (arith, a)
 
-value_pools : (w : World) (q : Party) (p : ℕ) (n : Then) (fs : List Place) (e : Seen) (r : ℕ) → ((lowered_world w q p PoolValue n fs e).pool r).counted ≡ true → ((w.pool r).counted ≡ true) × (one (r == p) ≡ 0)
+value_pools : (w : World) (q : Party) (p : ℕ) (n : Then) (fs : List Place) (e : Seen) (r : ℕ) → ((lowered_world w q (OfPool p) PoolValue n fs e).pool r).counted ≡ true → ((w.pool r).counted ≡ true) × (one (r == p) ≡ 0)
 value_pools w q p n fs e r c = by (r == p) refl c
   where
     by : (b : Bool) → (r == p) ≡ b → (if b then record (w.pool p) { count = (w.pool p).count - 1; counted = false } else w.pool r).counted ≡ true → ((w.pool r).counted ≡ true) × (one b ≡ 0)
@@ -286,7 +296,10 @@ raise_by w q n fs h done f true d = plain_keepers w q (RaiseCount n) fs (Refused
 raise_by w q n fs h done f false d = f d
 
 unvalued : (p : ℕ) (x : Place) → is_tally x ≡ false → values p x ≡ 0
-unvalued p (LowerCount r s n) z = cc
+unvalued p (LowerCount (OfPool r) s n) z = cc
+unvalued p (LowerCount (OfScope c o) Body n) z = refl
+unvalued p (LowerCount (OfScope c o) PoolValue n) z = cc
+unvalued p (LowerCount (OfScope c o) (OfJob u) n) z = cc
 unvalued p _ z = refl
 
 plain_by : (w : World) (q : Party) (x : Place) (fs : List Place) → is_tally x ≡ false → KeepersHold w → IfSome (outcome w q (record { top = x; below = fs })) (λ r. Ready w q x fs r × BusyAfter w q x fs r) → IfSome (outcome w q (record { top = x; below = fs })) (λ r. ReturnsHold (world_after w q x fs r) → KeepersHold (world_after w q x fs r))
@@ -324,12 +337,18 @@ all_by w q c fs none done f true d = none d
 all_by w q c fs none done f false d = f d
 
 go_by : (w : World) (q : Party) (x : Place) (fs : List Place) → w.stack q ≡ record { top = x; below = fs } → KeepersHold w → IfSome (outcome w q (record { top = x; below = fs })) (λ r. Ready w q x fs r × BusyAfter w q x fs r) → IfSome (outcome w q (record { top = x; below = fs })) (λ r. ReturnsHold (world_after w q x fs r) → KeepersHold (world_after w q x fs r))
-go_by w (Worker a b) (RaiseCount n) fs z h d = raise_by w (Worker a b) n fs h _ (λ f. act_keepers w (Worker a b) (RaiseCount n) fs _ (f.0) (f.1) (λ t c. (refl, raise_jobs w (Worker a b) n fs ((h.returns).shares) z t c)) (λ p c. (raise_pools w (Worker a b) n fs p c, refl)) h) ((w.pool (plan_pool n)).count == 0) d
-go_by w (Caller e) (RaiseCount n) fs z h d = raise_by w (Caller e) n fs h _ (λ f. act_keepers w (Caller e) (RaiseCount n) fs _ (f.0) (f.1) (λ t c. (refl, raise_jobs w (Caller e) n fs ((h.returns).shares) z t c)) (λ p c. (raise_pools w (Caller e) n fs p c, refl)) h) ((w.pool (plan_pool n)).count == 0) d
-go_by w (Worker a b) (LowerCount p (OfJob u) n) fs z h d = act_keepers w (Worker a b) (LowerCount p (OfJob u) n) fs _ (d.0) (d.1) (λ t c. lower_jobs w (Worker a b) p u n fs (if (w.pool p).count == 1 then Yes else No) t c) (λ r c. (lower_pools w (Worker a b) p u n fs (if (w.pool p).count == 1 then Yes else No) r c, refl)) h
-go_by w (Caller e) (LowerCount p (OfJob u) n) fs z h d = act_keepers w (Caller e) (LowerCount p (OfJob u) n) fs _ (d.0) (d.1) (λ t c. lower_jobs w (Caller e) p u n fs (if (w.pool p).count == 1 then Yes else No) t c) (λ r c. (lower_pools w (Caller e) p u n fs (if (w.pool p).count == 1 then Yes else No) r c, refl)) h
-go_by w (Worker a b) (LowerCount p PoolValue n) fs z h d = act_keepers w (Worker a b) (LowerCount p PoolValue n) fs _ (d.0) (d.1) (λ t c. (refl, value_jobs w (Worker a b) p n fs (if (w.pool p).count == 1 then Yes else No) t c)) (λ r c. value_pools w (Worker a b) p n fs (if (w.pool p).count == 1 then Yes else No) r c) h
-go_by w (Caller e) (LowerCount p PoolValue n) fs z h d = act_keepers w (Caller e) (LowerCount p PoolValue n) fs _ (d.0) (d.1) (λ t c. (refl, value_jobs w (Caller e) p n fs (if (w.pool p).count == 1 then Yes else No) t c)) (λ r c. value_pools w (Caller e) p n fs (if (w.pool p).count == 1 then Yes else No) r c) h
+go_by w (Worker a b) (RaiseCount n) fs z h d = raise_by w (Worker a b) n fs h _ (λ f. act_keepers w (Worker a b) (RaiseCount n) fs _ (f.0) (f.1) (λ t c. (refl, raise_jobs w (Worker a b) n fs ((h.returns).shares) z t c)) (λ p c. (raise_pools w (Worker a b) n fs p c, refl)) h) (count_in (place_part w (Worker a b) (RaiseCount n)) (plan_count n) == 0) d
+go_by w (Worker a b) (LowerCount k (OfJob u) n) fs z h d = act_keepers w (Worker a b) (LowerCount k (OfJob u) n) fs _ (d.0) (d.1) (λ t c. lower_jobs w (Worker a b) k u n fs (if count_in (place_part w (Worker a b) (LowerCount k (OfJob u) n)) k == 1 then Yes else No) t c) (λ r c. (lower_pools w (Worker a b) k u n fs (if count_in (place_part w (Worker a b) (LowerCount k (OfJob u) n)) k == 1 then Yes else No) r c, refl)) h
+go_by w (Worker a b) (LowerCount (OfPool p) PoolValue n) fs z h d = act_keepers w (Worker a b) (LowerCount (OfPool p) PoolValue n) fs _ (d.0) (d.1) (λ t c. (refl, value_jobs w (Worker a b) p n fs (if count_in (place_part w (Worker a b) (LowerCount (OfPool p) PoolValue n)) (OfPool p) == 1 then Yes else No) t c)) (λ r c. value_pools w (Worker a b) p n fs (if count_in (place_part w (Worker a b) (LowerCount (OfPool p) PoolValue n)) (OfPool p) == 1 then Yes else No) r c) h
+go_by w (Worker a b) (LowerCount (OfPool p) Body n) fs z h d = absurd (let s : SaysThen w (Worker a b) n × SaysShare w (OfPool p) Body n = top_says w (Worker a b) (LowerCount (OfPool p) Body n) fs (((h.returns).shares).calls) z in s.1)
+go_by w (Worker a b) (LowerCount (OfScope x o) PoolValue n) fs z h d = absurd (let s : SaysThen w (Worker a b) n × SaysShare w (OfScope x o) PoolValue n = top_says w (Worker a b) (LowerCount (OfScope x o) PoolValue n) fs (((h.returns).shares).calls) z in s.1)
+go_by w (Worker a b) (LowerCount (OfScope x o) Body n) fs z h d = plain_by w (Worker a b) (LowerCount (OfScope x o) Body n) fs refl h d
+go_by w (Caller e) (RaiseCount n) fs z h d = raise_by w (Caller e) n fs h _ (λ f. act_keepers w (Caller e) (RaiseCount n) fs _ (f.0) (f.1) (λ t c. (refl, raise_jobs w (Caller e) n fs ((h.returns).shares) z t c)) (λ p c. (raise_pools w (Caller e) n fs p c, refl)) h) (count_in (place_part w (Caller e) (RaiseCount n)) (plan_count n) == 0) d
+go_by w (Caller e) (LowerCount k (OfJob u) n) fs z h d = act_keepers w (Caller e) (LowerCount k (OfJob u) n) fs _ (d.0) (d.1) (λ t c. lower_jobs w (Caller e) k u n fs (if count_in (place_part w (Caller e) (LowerCount k (OfJob u) n)) k == 1 then Yes else No) t c) (λ r c. (lower_pools w (Caller e) k u n fs (if count_in (place_part w (Caller e) (LowerCount k (OfJob u) n)) k == 1 then Yes else No) r c, refl)) h
+go_by w (Caller e) (LowerCount (OfPool p) PoolValue n) fs z h d = act_keepers w (Caller e) (LowerCount (OfPool p) PoolValue n) fs _ (d.0) (d.1) (λ t c. (refl, value_jobs w (Caller e) p n fs (if count_in (place_part w (Caller e) (LowerCount (OfPool p) PoolValue n)) (OfPool p) == 1 then Yes else No) t c)) (λ r c. value_pools w (Caller e) p n fs (if count_in (place_part w (Caller e) (LowerCount (OfPool p) PoolValue n)) (OfPool p) == 1 then Yes else No) r c) h
+go_by w (Caller e) (LowerCount (OfPool p) Body n) fs z h d = absurd (let s : SaysThen w (Caller e) n × SaysShare w (OfPool p) Body n = top_says w (Caller e) (LowerCount (OfPool p) Body n) fs (((h.returns).shares).calls) z in s.1)
+go_by w (Caller e) (LowerCount (OfScope x o) PoolValue n) fs z h d = absurd (let s : SaysThen w (Caller e) n × SaysShare w (OfScope x o) PoolValue n = top_says w (Caller e) (LowerCount (OfScope x o) PoolValue n) fs (((h.returns).shares).calls) z in s.1)
+go_by w (Caller e) (LowerCount (OfScope x o) Body n) fs z h d = plain_by w (Caller e) (LowerCount (OfScope x o) Body n) fs refl h d
 go_by w (Worker a b) (RaiseForAll c) fs z h d = all_by w (Worker a b) c fs (λ f. back_keepers w (Worker a b) c fs h (f.0) (f.1) refl) _ (λ f. act_keepers w (Worker a b) (RaiseForAll c) fs _ (f.0) (f.1) (λ t k. (refl, all_jobs w (Worker a b) c fs ((h.returns).shares) z t k)) (λ p k. (all_pools w (Worker a b) c fs p k, refl)) h) ((w.pool c.pool).count == 0) d
 go_by w (Worker a b) (LowerForAll c) fs z h d = act_keepers w (Worker a b) (LowerForAll c) fs _ (d.0) (d.1) (λ t k. less_jobs w (Worker a b) c fs (if (w.pool c.pool).count == c.workers then Yes else No) t k) (λ r k. (less_pools w (Worker a b) c fs (if (w.pool c.pool).count == c.workers then Yes else No) r k, refl)) h
 go_by w (Caller g) (RaiseForAll c) fs z h d = all_by w (Caller g) c fs (λ f. back_keepers w (Caller g) c fs h (f.0) (f.1) refl) _ (λ f. act_keepers w (Caller g) (RaiseForAll c) fs _ (f.0) (f.1) (λ t k. (refl, all_jobs w (Caller g) c fs ((h.returns).shares) z t k)) (λ p k. (all_pools w (Caller g) c fs p k, refl)) h) ((w.pool c.pool).count == 0) d
@@ -366,6 +385,8 @@ from_keepers w q _ fs v z h = tt
 
 refuse_keepers : (w : World) (q : Party) (x : Place) (fs : List Place) → w.stack q ≡ record { top = x; below = fs } → KeepersHold w → IfSome (after_refusal w q (record { top = x; below = fs })) (λ u. ReturnsHold u → KeepersHold u)
 refuse_keepers w q (GrowCall n) fs z h = λ s. seen_keepers w q (w.shape.pool (own_pool q)) (GrowCall n) fs Refused z refl (λ t. refl) h s
+refuse_keepers w q (GrowScope o) fs z h = λ s. seen_keepers w q (w.shape.pool (own_pool q)) (GrowScope o) fs Refused z refl (λ t. refl) h s
+refuse_keepers w q (OpenSlot o) fs z h = λ s. seen_keepers w q (w.shape.pool (own_pool q)) (OpenSlot o) fs Refused z refl (λ t. refl) h s
 refuse_keepers w q (AddToFifo f) fs z h = λ s. seen_keepers w q (w.shape.pool (own_pool q)) (AddToFifo f) fs Refused z refl (λ t. refl) h s
 refuse_keepers w q (PushToken f v) fs z h = λ s. seen_keepers w q (w.shape.pool (own_pool q)) (PushToken f v) fs Refused z refl (λ t. refl) h s
 refuse_keepers w q (PushForAll c) fs z h = λ s. seen_keepers w q (w.shape.pool (own_pool q)) (PushForAll c) fs Refused z refl (λ t. refl) h s
@@ -381,9 +402,11 @@ miss_keepers w (Caller n) _ fs z h = tt
 -- the end of a run: a detached job's share comes to the party that ran it
 freed_all : (w : World) (s t : ℕ) (k : JobKind) → (s == t) ≡ true → SaysRun w t k → with_job (w.job s) ≤ freed s t k
 freed_all w s t (Detached p) e r = let a : freed s t (Detached p) ≡ 1 = ap one e in let b : with_job (w.job s) ≤ 1 = one_most (keeps_own (w.job s)) in omega (arith, a, b)
+freed_all w s t (Scoped c o) e r = let a : freed s t (Scoped c o) ≡ 1 = ap one e in let b : with_job (w.job s) ≤ 1 = one_most (keeps_own (w.job s)) in omega (arith, a, b)
 freed_all w s t (Stored c o) e r = let a : with_job (w.job s) ≡ 0 = ap (λ n. with_job (w.job n)) (eqb-true s t e) ∙ ap (λ k. one (is_detached k && is_busy (w.job t).at)) (r.1) in omega (arith, a)
 freed_all w s t Direct e r = let a : with_job (w.job s) ≡ 0 = ap (λ n. with_job (w.job n)) (eqb-true s t e) ∙ ap (λ b. one (b && is_busy (w.job t).at)) (r.kind) in omega (arith, a)
 freed_all w s t (TokenOf i) e r = let a : with_job (w.job s) ≡ 0 = ap (λ n. with_job (w.job n)) (eqb-true s t e) ∙ ap (λ b. one (b && is_busy (w.job t).at)) (r.kind) in omega (arith, a)
+freed_all w s t (BodyOf c9 o9) e r = let a : with_job (w.job s) ≡ 0 = ap (λ n. with_job (w.job n)) (eqb-true s t e) ∙ ap (λ b. one (b && is_busy (w.job t).at)) (r.kind) in omega (arith, a)
 
 end_keepers : (w : World) (q : Party) (d : Ending) (x : Place) (fs : List Place) → w.stack q ≡ record { top = x; below = fs } → KeepersHold w → IfSome (after_end w q d (record { top = x; below = fs }) x) (λ u. ReturnsHold u → KeepersHold u)
 end_keepers w q d (Run t k) fs z h = λ s. keepers_by w (ended_world w q d t k fs) q (after_close t k d fs) (λ i. refl)
@@ -396,8 +419,8 @@ end_keepers w q d (Run t k) fs z h = λ s. keepers_by w (ended_world w q d t k f
 end_keepers w q d _ fs z h = tt
 
 -- a call begins: the jobs that were are as they were, and its own have no share yet
-made_keepers : (w : World) (q : Party) (n : Plan) (C : ℕ → Call) (J : ℕ → Job) (c j : ℕ) → ((t : ℕ) → t + 1 ≤ w.jobs → J t ≡ w.job t) → ((t : ℕ) → w.jobs ≤ t → (J t).counted ≡ false) → KeepersHold w → ReturnsHold (calling w q n C J c j) → KeepersHold (calling w q n C J c j)
-made_keepers w q n C J c j same new h s = keepers_by w (calling w q n C J c j) q (after_call (w.stack q) (RaiseCount n)) (λ i. refl)
+made_keepers : (w : World) (q : Party) (n : Plan) (C : ℕ → Call) (J : ℕ → Job) (c j : ℕ) (l : List Scope) → ((t : ℕ) → t + 1 ≤ w.jobs → J t ≡ w.job t) → ((t : ℕ) → w.jobs ≤ t → (J t).counted ≡ false) → KeepersHold w → ReturnsHold (record (calling w q n C J c j) { scopes = l }) → KeepersHold (record (calling w q n C J c j) { scopes = l })
+made_keepers w q n C J c j l same new h s = keepers_by w (record (calling w q n C J c j) { scopes = l }) q (after_call (w.stack q) (RaiseCount n)) (λ i. refl)
     (λ t e. (0, (let a : one (w.job t).counted ≡ 1 = ap one (ap (λ i. i.counted) (sym (was t e)) ∙ e) in omega (arith, a)), (let a : with_job (J t) ≡ with_job (w.job t) = ap (λ i. with_job i) (was t e) in omega (arith, a))))
     (λ p e. (e, omega arith)) h s
   where
@@ -411,11 +434,17 @@ put_made w q p k h = (
 )
 
 spawn_keepers : (w : World) (q : Party) (p : ℕ) → KeepersHold w → IfSome (after_spawn w q p (w.stack q)) (λ u. ReturnsHold u → KeepersHold u)
-spawn_keepers w q p h = if_cond (λ u. ReturnsHold u → KeepersHold u) (is_free ((w.stack q).top) && is_pool w.shape p) _ (λ f s. made_keepers w q (Detach p w.jobs) w.call (put w.job w.jobs (new_job q p (Detached p))) w.calls (w.jobs + 1) ((put_made w q p (Detached p) h).0) ((put_made w q p (Detached p) h).1) h s)
+spawn_keepers w q p h = if_cond (λ u. ReturnsHold u → KeepersHold u) (is_free ((w.stack q).top) && is_pool w.shape p) _ (λ f s. made_keepers w q (Detach p w.jobs) w.call (put w.job w.jobs (new_job q p (Detached p))) w.calls (w.jobs + 1) w.scopes ((put_made w q p (Detached p) h).0) ((put_made w q p (Detached p) h).1) h s)
 
 sent_keepers : (w : World) (q : Party) (p : ℕ) (b : Bool) → KeepersHold w → ReturnsHold (after_send w q p (w.stack q) b) → KeepersHold (after_send w q p (w.stack q) b)
-sent_keepers w q p true h s = made_keepers w q (Here p w.jobs) w.call (put w.job w.jobs (new_job q p Direct)) w.calls (w.jobs + 1) ((put_made w q p Direct h).0) ((put_made w q p Direct h).1) h s
-sent_keepers w q p false h s = made_keepers w q (Send (record { number = w.calls; pool = p; job = w.jobs })) (put w.call w.calls (new_call None w.jobs)) (put w.job w.jobs (new_job q p (Stored w.calls q))) (w.calls + 1) (w.jobs + 1) ((put_made w q p (Stored w.calls q) h).0) ((put_made w q p (Stored w.calls q) h).1) h s
+sent_keepers w q p true h s = made_keepers w q (Here p w.jobs) w.call (put w.job w.jobs (new_job q p Direct)) w.calls (w.jobs + 1) w.scopes ((put_made w q p Direct h).0) ((put_made w q p Direct h).1) h s
+sent_keepers w q p false h s = made_keepers w q (Send (record { number = w.calls; pool = p; job = w.jobs })) (put w.call w.calls (new_call None w.jobs)) (put w.job w.jobs (new_job q p (Stored w.calls q))) (w.calls + 1) (w.jobs + 1) w.scopes ((put_made w q p (Stored w.calls q) h).0) ((put_made w q p (Stored w.calls q) h).1) h s
+
+scope_keepers : (w : World) (q : Party) (p : ℕ) → KeepersHold w → IfSome (after_scope w q p (w.stack q)) (λ u. ReturnsHold u → KeepersHold u)
+scope_keepers w q p h = if_cond (λ u. ReturnsHold u → KeepersHold u) (is_free ((w.stack q).top) && is_pool w.shape p) _ (λ f s. made_keepers w q (Open (record { number = w.calls; pool = p; job = w.jobs })) (put w.call w.calls (new_call None w.jobs)) (put w.job w.jobs (new_job q p (BodyOf w.calls q))) (w.calls + 1) (w.jobs + 1) (w.scopes ++ record { call = w.calls; pool = p; owner = q } ∷ []) ((put_made w q p (BodyOf w.calls q) h).0) ((put_made w q p (BodyOf w.calls q) h).1) h s)
+
+into_keepers : (w : World) (q : Party) (n : ℕ) → KeepersHold w → IfSome (after_into w q n (w.stack q)) (λ u. ReturnsHold u → KeepersHold u)
+into_keepers w q n h = into_cases (λ u. ReturnsHold u → KeepersHold u) w q n (λ z e free held. if_cond (λ u. ReturnsHold u → KeepersHold u) (is_free ((w.stack q).top) && holds z.call (w.stack q)) _ (λ f s. made_keepers w q (Enter (record { call = z.call; owner = z.owner; pool = z.pool; job = w.jobs })) w.call (put w.job w.jobs (new_job q z.pool (Scoped z.call z.owner))) w.calls (w.jobs + 1) w.scopes ((put_made w q (z.pool) (Scoped z.call z.owner) h).0) ((put_made w q (z.pool) (Scoped z.call z.owner) h).1) h s))
 
 install_keepers : (w : World) (q : Party) (p : ℕ) → KeepersHold w → IfSome (after_install w q p (w.stack q)) (λ u. ReturnsHold u → KeepersHold u)
 install_keepers w q p h = if_cond (λ u. ReturnsHold u → KeepersHold u) (is_free ((w.stack q).top) && is_pool w.shape p) _ (λ f s. sent_keepers w q p (is_member q p) h s)
@@ -429,10 +458,10 @@ two_put w q p d k h = (
 
 join_keepers : (w : World) (q : Party) → KeepersHold w → IfSome (after_join w q (w.stack q)) (λ u. ReturnsHold u → KeepersHold u)
 join_keepers w (Caller n) h = tt
-join_keepers w (Worker p i) h = if_cond (λ u. ReturnsHold u → KeepersHold u) (is_free ((w.stack (Worker p i)).top)) _ (λ f s. (let m = two_put w (Worker p i) p Direct (Stored w.calls (Worker p i)) h in made_keepers w (Worker p i) (Fork (record { number = w.calls; pool = p; job = w.jobs + 1 }) w.jobs) (put w.call w.calls (new_call (Some w.jobs) (w.jobs + 1))) (put (put w.job w.jobs (new_job (Worker p i) p Direct)) (w.jobs + 1) (new_job (Worker p i) p (Stored w.calls (Worker p i)))) (w.calls + 1) (w.jobs + 2) (m.0) (m.1) h s))
+join_keepers w (Worker p i) h = if_cond (λ u. ReturnsHold u → KeepersHold u) (is_free ((w.stack (Worker p i)).top)) _ (λ f s. (let m = two_put w (Worker p i) p Direct (Stored w.calls (Worker p i)) h in made_keepers w (Worker p i) (Fork (record { number = w.calls; pool = p; job = w.jobs + 1 }) w.jobs) (put w.call w.calls (new_call (Some w.jobs) (w.jobs + 1))) (put (put w.job w.jobs (new_job (Worker p i) p Direct)) (w.jobs + 1) (new_job (Worker p i) p (Stored w.calls (Worker p i)))) (w.calls + 1) (w.jobs + 2) w.scopes (m.0) (m.1) h s))
 
 fifo_keepers : (w : World) (q : Party) (p : ℕ) → KeepersHold w → IfSome (after_fifo w q p (w.stack q)) (λ u. ReturnsHold u → KeepersHold u)
-fifo_keepers w q p h = fifo_cases (λ u. ReturnsHold u → KeepersHold u) w q p (spawn_keepers w q p h) (λ i free s. (let m = two_put w (Worker p i) p (Detached p) (TokenOf i) h in made_keepers w (Worker p i) (Feed (record { pool = p; job = w.jobs; token = w.jobs + 1 })) w.call (put (put w.job w.jobs (new_job (Worker p i) p (Detached p))) (w.jobs + 1) (new_job (Worker p i) p (TokenOf i))) w.calls (w.jobs + 2) (m.0) (m.1) h s))
+fifo_keepers w q p h = fifo_cases (λ u. ReturnsHold u → KeepersHold u) w q p (spawn_keepers w q p h) (λ i free s. (let m = two_put w (Worker p i) p (Detached p) (TokenOf i) h in made_keepers w (Worker p i) (Feed (record { pool = p; job = w.jobs; token = w.jobs + 1 })) w.call (put (put w.job w.jobs (new_job (Worker p i) p (Detached p))) (w.jobs + 1) (new_job (Worker p i) p (TokenOf i))) w.calls (w.jobs + 2) w.scopes (m.0) (m.1) h s))
 
 cast_keepers : (w : World) (q : Party) (p : ℕ) → KeepersHold w → IfSome (after_cast w q p (w.stack q)) (λ u. ReturnsHold u → KeepersHold u)
 cast_keepers w q p h = if_cond (λ u. ReturnsHold u → KeepersHold u) (is_free ((w.stack q).top) && is_pool w.shape p) _ (λ f s. keepers_by w u q (after_call (w.stack q) (RaiseForAll c)) (λ i. refl)
@@ -456,7 +485,7 @@ yield_keepers w (Caller n) x sx vx h = tt
 
 -- a pool's value is given up: its share comes to the Lower that follows
 give_keepers : (w : World) (q : Party) (p : ℕ) → KeepersHold w → IfSome (after_end_pool w q p (w.stack q)) (λ u. ReturnsHold u → KeepersHold u)
-give_keepers w q p h = if_cond (λ u. ReturnsHold u → KeepersHold u) (is_free ((w.stack q).top) && (is_pool w.shape p && (w.pool p).held)) _ (λ f s. keepers_by w (record w { stack = put_stack w.stack q (after_call (w.stack q) (LowerCount p PoolValue Resume)); pool = put w.pool p (record (w.pool p) { held = false }) }) q (after_call (w.stack q) (LowerCount p PoolValue Resume)) (λ i. refl)
+give_keepers w q p h = if_cond (λ u. ReturnsHold u → KeepersHold u) (is_free ((w.stack q).top) && (is_pool w.shape p && (w.pool p).held)) _ (λ f s. keepers_by w (record w { stack = put_stack w.stack q (after_call (w.stack q) (LowerCount (OfPool p) PoolValue Resume)); pool = put w.pool p (record (w.pool p) { held = false }) }) q (after_call (w.stack q) (LowerCount (OfPool p) PoolValue Resume)) (λ i. refl)
     (λ t c. (0, (let d : one (w.job t).counted ≡ 1 = ap one c in omega (arith, d)), omega arith))
     (λ r c. (sym (put_same (λ v. v.counted) w.pool p (record (w.pool p) { held = false }) r refl) ∙ c, given r (r == p) refl)) h s)
   where
@@ -475,6 +504,8 @@ each_keepers w (Fifo q p) h = fifo_keepers w q p h
 each_keepers w (Cast q p) h = cast_keepers w q p h
 each_keepers w (Install q p) h = install_keepers w q p h
 each_keepers w (Join q) h = join_keepers w q h
+each_keepers w (OpenScope q p) h = scope_keepers w q p h
+each_keepers w (IntoSpawn q n) h = into_keepers w q n h
 each_keepers w (Yield q) h = yield_keepers w q YieldPop (λ t. refl) (λ p. refl) h
 each_keepers w (YieldLocal q) h = yield_keepers w q LocalPop (λ t. refl) (λ p. refl) h
 each_keepers w (EndPool q p) h = give_keepers w q p h

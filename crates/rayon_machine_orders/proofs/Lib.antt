@@ -3,6 +3,7 @@ pub mod Keepers
 pub mod Keeping
 pub mod Takes
 pub mod Filled
+pub mod Early
 pub mod CallPlaces
 pub mod CallActs
 pub mod CallEvents
@@ -13,6 +14,7 @@ pub mod Casts
 pub mod CallTeeth
 pub mod FifoTeeth
 pub mod CastTeeth
+pub mod ScopeTeeth
 pub mod Walks
 pub mod Lone
 pub mod Dealt

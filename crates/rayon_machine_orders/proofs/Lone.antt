@@ -1,4 +1,6 @@
 -- in a pool of one worker nobody steals; what the events that are no acts do to the party that makes them
+use Rattle.rayon_machine_places.specs.declared.place.Plan.TheVariants.{Detach, Here, Send, Fork, Feed, Open, Enter}
+use Rattle.rayon_machine_places.specs.declared.place.Plan.{Plan}
 use Rattle.std.proofs.Common.{rules, arith, refl, sym, ◌∙◌, ap, subst}
 use Rattle.std.specs.Prelude.{ℕ, Bool, true, false, ◌&&◌, ◌+◌, ◌==◌, nat_lt, if◌then◌else◌, Option, Some, None, List, [], ◌∷◌, ◌≡◌, IfSome}
 use Rattle.std.proofs.lemmas.Bool.{eq-eqb}
@@ -7,32 +9,32 @@ use Rattle.rayon_machine_places.specs.declared.place.Party.TheVariants.{Worker, 
 use Rattle.rayon_machine_places.specs.declared.place.Ending.{Ending}
 use Rattle.rayon_machine_places.specs.declared.place.Ending.TheVariants.{Fine, Fault}
 use Rattle.rayon_machine_places.specs.declared.place.JobKind.{JobKind}
-use Rattle.rayon_machine_places.specs.declared.place.JobKind.TheVariants.{Detached, Stored, Direct, TokenOf}
+use Rattle.rayon_machine_places.specs.declared.place.JobKind.TheVariants.{Detached, Stored, Direct, TokenOf, Scoped, BodyOf}
 use Rattle.rayon_machine_places.specs.declared.place.Target.TheVariants.{Termination, Answer}
 use Rattle.rayon_machine_places.specs.declared.place.Latch.{Latch}
 use Rattle.rayon_machine_places.specs.declared.place.Latch.TheVariants.{Terminate, OfCall}
 use Rattle.rayon_machine_places.specs.declared.place.Then.{Then}
 use Rattle.rayon_machine_places.specs.declared.place.Then.TheVariants.{BeginFound, LeaveWait, Resume, Await, RunFirst, Answers, Missing, Ran, GiveBack, Called}
 use Rattle.rayon_machine_places.specs.declared.place.Place.{Place}
-use Rattle.rayon_machine_places.specs.declared.place.Place.TheVariants.{ProbeWorking, TakeCastIdle, PickVictim, StealFrom, LeaveSearch, YieldPop, YieldTakeCast, YieldPick, YieldSteal, LocalPop, BeginTask, BeginHere, Run, GrowCall, PushJob, LockToWake, WakeWorker, UnlockWoken, LowerCount, SetLatch, LockToSettle, WakeSettled, UnlockSettled, FirstSide, Free, Stopped, AddToFifo, PushToken, TakeFromFifo, PushForAll}
+use Rattle.rayon_machine_places.specs.declared.place.Place.TheVariants.{ProbeWorking, TakeCastIdle, PickVictim, StealFrom, LeaveSearch, YieldPop, YieldTakeCast, YieldPick, YieldSteal, LocalPop, BeginTask, BeginHere, Run, GrowCall, PushJob, LockToWake, WakeWorker, UnlockWoken, LowerCount, SetLatch, LockToSettle, WakeSettled, UnlockSettled, FirstSide, Free, Stopped, AddToFifo, PushToken, TakeFromFifo, PushForAll, GrowScope, OpenSlot, SetLockLatch}
 use Rattle.rayon_machine_places.specs.declared.place.Move.{Move}
 use Rattle.rayon_machine_places.specs.declared.place.Move.TheVariants.{Stay}
 use Rattle.rayon_machine_places.specs.declared.act.Seen.{Seen}
 use Rattle.rayon_machine_places.specs.declared.act.Seen.TheVariants.{Yes, Begun, Done, Handed, Task}
 use Rattle.rayon_machine_places.specs.declared.event.Event.{Event}
-use Rattle.rayon_machine_places.specs.declared.event.Event.TheVariants.{Go, From, Refuse, Miss, End, Spawn, Fifo, Install, Join, Yield, YieldLocal, EndPool, Cast}
+use Rattle.rayon_machine_places.specs.declared.event.Event.TheVariants.{Go, From, Refuse, Miss, End, Spawn, Fifo, Install, Join, Yield, YieldLocal, EndPool, Cast, Scope as OpenScope, IntoSpawn}
 use Rattle.rayon_machine_places.specs.declared.shape.PoolShape.{PoolShape}
 use Rattle.rayon_machine_places.specs.declared.place.Walk.{Walk}
 use Rattle.rayon_machine_places.specs.declared.place.Settling.{Settling}
-use Rattle.rayon_machine_places.specs.Places.{same_party, own_pool, is_member, finish, walk, settle, after_set, act_of, next_of, goes_on, is_free, fresh, after_begin, taken_back, taken_number}
+use Rattle.rayon_machine_places.specs.Places.{same_party, own_pool, is_member, finish, walk, settle, after_set, act_of, next_of, goes_on, is_free, fresh, after_begin, taken_back, taken_number, after_push}
 use Rattle.rayon_machine_places.specs.World.{Shape, Stack, World, Counts, Part, target_pool, target_worker, target_call, effect}
-use Rattle.rayon_machine_places.specs.Steps.{put_stack, after_choice, after_refusal, can_miss, after_miss, after_close, after_end, is_pool, after_spawn, after_send, after_install, after_join, after_yield, after_end_pool, after_move, step, after_fifo, after_cast}
+use Rattle.rayon_machine_places.specs.Steps.{put_stack, after_choice, after_refusal, can_miss, after_miss, after_close, after_end, is_pool, after_spawn, after_send, after_install, after_join, after_yield, after_end_pool, after_move, step, after_fifo, after_cast, after_scope, after_into, holds}
 use Rattle.rayon_machine_places.specs.Runs.{IsRun, start}
 use Rattle.rayon_machine_laws.proofs.Attended.{aside_frames, step_shape}
 use Rattle.rayon_machine_laws.proofs.Asides.{steps_aside}
 use Rattle.rayon_machine_laws.proofs.Calm.{part_at, counts_seen, next_at, top_then}
 use Rattle.rayon_machine_laws.proofs.Events.{run_keeps}
-use Rattle.rayon_machine_laws.proofs.Frame.{and_parts, if_some_all, if_some_and, if_some_each, if_some_map, if_cond, same_party_true, acted_keeps, fifo_cases}
+use Rattle.rayon_machine_laws.proofs.Frame.{and_parts, if_some_all, if_some_and, if_some_each, if_some_map, if_cond, same_party_true, acted_keeps, fifo_cases, into_cases}
 use Rattle.rayon_machine_laws.proofs.Holding.{go_frames}
 use Rattle.rayon_machine_laws.proofs.Seats.{is_frame}
 use Rattle.rayon_machine_laws.proofs.Ties.{AllFrames, job_at, shape_at, outcome, result}
@@ -67,6 +69,7 @@ taken (WakeWorker k) = taken_then k.then
 taken (UnlockWoken k) = taken_then k.then
 taken (LowerCount p s n) = taken_then n
 taken (SetLatch s) = taken_then s.then
+taken (SetLockLatch c n) = taken_then n
 taken (LockToSettle s) = taken_then s.then
 taken (WakeSettled s) = taken_then s.then
 taken (UnlockSettled s) = taken_then s.then
@@ -195,9 +198,21 @@ miss_turn w (Worker a b) (YieldSteal v n) fs e = if_cond (Turns w) (can_miss w a
 miss_turn w (Worker a b) _ fs e = tt
 miss_turn w (Caller n) _ fs e = tt
 
+-- where a call goes whose push was refused
+unpushed_honest : (n : Plan) → (is_thief (after_push n) ≡ false) × (taken (after_push n) ≡ None)
+unpushed_honest (Detach p t) = (refl, refl)
+unpushed_honest (Here p t) = (refl, refl)
+unpushed_honest (Send o) = (refl, refl)
+unpushed_honest (Fork o a) = (refl, refl)
+unpushed_honest (Feed f) = (refl, refl)
+unpushed_honest (Open o) = (refl, refl)
+unpushed_honest (Enter e) = (refl, refl)
+
 refuse_turn : (w : World) (q : Party) (x : Place) (fs : List Place) → w.stack q ≡ record { top = x; below = fs } → IfSome (after_refusal w q (record { top = x; below = fs })) (Turns w)
 refuse_turn w q (GrowCall n) fs e = record { party = q; to = _; stack = λ r. refl; seat = λ p i. refl; empty = at_place w q (GrowCall n) fs (λ y. taken y ≡ None) e refl; honest = λ h. (refl, refl) }
-refuse_turn w q (PushJob n v) fs e = record { party = q; to = _; stack = λ r. refl; seat = λ p i. refl; empty = at_place w q (PushJob n v) fs (λ y. taken y ≡ None) e refl; honest = λ h. (refl, refl) }
+refuse_turn w q (GrowScope n) fs e = record { party = q; to = _; stack = λ r. refl; seat = λ p i. refl; empty = at_place w q (GrowScope n) fs (λ y. taken y ≡ None) e refl; honest = λ h. (refl, refl) }
+refuse_turn w q (OpenSlot n) fs e = record { party = q; to = _; stack = λ r. refl; seat = λ p i. refl; empty = at_place w q (OpenSlot n) fs (λ y. taken y ≡ None) e refl; honest = λ h. (refl, refl) }
+refuse_turn w q (PushJob n v) fs e = record { party = q; to = _; stack = λ r. refl; seat = λ p i. refl; empty = at_place w q (PushJob n v) fs (λ y. taken y ≡ None) e refl; honest = λ h. unpushed_honest n }
 refuse_turn w q (AddToFifo f) fs e = record { party = q; to = _; stack = λ r. refl; seat = λ p i. refl; empty = at_place w q (AddToFifo f) fs (λ y. taken y ≡ None) e refl; honest = λ h. (refl, refl) }
 refuse_turn w q (PushToken f v) fs e = record { party = q; to = _; stack = λ r. refl; seat = λ p i. refl; empty = at_place w q (PushToken f v) fs (λ y. taken y ≡ None) e refl; honest = λ h. (refl, refl) }
 refuse_turn w q (PushForAll c) fs e = record { party = q; to = _; stack = λ r. refl; seat = λ p i. refl; empty = at_place w q (PushForAll c) fs (λ y. taken y ≡ None) e refl; honest = λ h. (refl, refl) }
@@ -212,10 +227,13 @@ goes_honest _ e m = (cc, cc)
 close_honest : (t : ℕ) (k : JobKind) (d : Ending) (fs : List Place) → AllFrames fs → (is_thief (after_close t k d fs).top ≡ false) × (taken (after_close t k d fs).top ≡ None)
 close_honest t (Detached p) d fs a = (refl, refl)
 close_honest t (Stored c o) d fs a = (refl, refl)
+close_honest t (Scoped c o) d fs a = (refl, refl)
 close_honest t Direct d [] a = (refl, refl)
 close_honest t (TokenOf i) d [] a = (refl, refl)
+close_honest t (BodyOf c9 o9) d [] a = (refl, refl)
 close_honest t Direct d (f ∷ fs) a = goes_honest f d (a.0)
 close_honest t (TokenOf i) d (f ∷ fs) a = goes_honest f d (a.0)
+close_honest t (BodyOf c9 o9) d (f ∷ fs) a = goes_honest f d (a.0)
 
 end_turn : (w : World) (q : Party) (d : Ending) (x : Place) (fs : List Place) → w.stack q ≡ record { top = x; below = fs } → AllFrames fs → IfSome (after_end w q d (record { top = x; below = fs }) x) (Turns w)
 end_turn w q d (Run t k) fs e a = record { party = q; to = after_close t k d fs; stack = λ r. refl; seat = λ p i. refl; empty = at_place w q (Run t k) fs (λ y. taken y ≡ None) e refl; honest = λ h. close_honest t k d fs a }
@@ -236,6 +254,12 @@ sent_turn w q p false e = record { party = q; to = _; stack = λ r. refl; seat =
 
 install_turn : (w : World) (q : Party) (p : ℕ) → IfSome (after_install w q p (w.stack q)) (Turns w)
 install_turn w q p = if_cond (Turns w) (is_free ((w.stack q).top) && is_pool w.shape p) _ (λ e. sent_turn w q p (is_member q p) ((and_parts (is_free ((w.stack q).top)) (is_pool w.shape p) e).0))
+
+scope_turn : (w : World) (q : Party) (p : ℕ) → IfSome (after_scope w q p (w.stack q)) (Turns w)
+scope_turn w q p = if_cond (Turns w) (is_free ((w.stack q).top) && is_pool w.shape p) _ (λ b. record { party = q; to = _; stack = λ r. refl; seat = λ p i. refl; empty = free_empty (w.stack q).top ((and_parts (is_free ((w.stack q).top)) (is_pool w.shape p) b).0); honest = λ h. (refl, refl) })
+
+into_turn : (w : World) (q : Party) (n : ℕ) → IfSome (after_into w q n (w.stack q)) (Turns w)
+into_turn w q n = into_cases (Turns w) w q n (λ z e free held. if_cond (Turns w) (is_free ((w.stack q).top) && holds z.call (w.stack q)) _ (λ b. record { party = q; to = _; stack = λ r. refl; seat = λ p i. refl; empty = free_empty (w.stack q).top free; honest = λ h. (refl, refl) }))
 
 join_turn : (w : World) (q : Party) → IfSome (after_join w q (w.stack q)) (Turns w)
 join_turn w (Worker a b) = if_cond (Turns w) (is_free ((w.stack (Worker a b)).top)) _ (λ z. record { party = Worker a b; to = _; stack = λ r. refl; seat = λ p i. refl; empty = free_empty (w.stack (Worker a b)).top z; honest = λ h. (refl, refl) })
@@ -259,6 +283,8 @@ turns w fr (Fifo q p) z = fifo_turn w q p
 turns w fr (Cast q p) z = cast_turn w q p
 turns w fr (Install q p) z = install_turn w q p
 turns w fr (Join q) z = join_turn w q
+turns w fr (OpenScope q p) z = scope_turn w q p
+turns w fr (IntoSpawn q n) z = into_turn w q n
 turns w fr (Yield q) z = yield_turn w q YieldPop (refl, refl)
 turns w fr (YieldLocal q) z = yield_turn w q LocalPop (refl, refl)
 turns w fr (EndPool q p) z = give_turn w q p

@@ -5,7 +5,7 @@ use Rattle.rayon_machine_places.specs.declared.place.Place.TheVariants.{AddToFif
 use Rattle.rayon_machine_places.specs.declared.place.Party.TheVariants.{Caller, Worker}
 use Rattle.rayon_machine_orders.specs.Queue.{Change, Changes, QueueLaw, change, change_of, run_at, Comes, Joins, Leaves}
 use Rattle.rayon_machine_places.specs.World.{Counts, Part, Seat, Shape, World, but_last, counts_at, effect, fifo_back, fifo_first, fifo_out, head_of, is_open, last_of, or_none, pop_injector, popped, take_cast, target_call, target_pool, target_worker}
-use Rattle.rayon_machine_places.specs.declared.event.Event.TheVariants.{End, EndPool, Fifo, From, Go, Install, Join, Miss, Refuse, Spawn, Yield, YieldLocal, Cast}
+use Rattle.rayon_machine_places.specs.declared.event.Event.TheVariants.{End, EndPool, Fifo, From, Go, Install, Join, Miss, Refuse, Spawn, Yield, YieldLocal, Cast, Scope as OpenScope, IntoSpawn}
 use Rattle.rayon_machine_places.specs.declared.event.Event.{Event}
 use Rattle.rayon_machine_laws.proofs.Redeems.{Fades, StocksHold, always_stocks, event_fades, redeems}
 use Rattle.rayon_machine_places.specs.declared.place.Feeding.{Feeding}
@@ -15,7 +15,7 @@ use Rattle.rayon_machine_places.specs.declared.place.Place.{Place}
 use Rattle.rayon_machine_places.specs.declared.place.Taken.TheVariants.{Plain, Token}
 use Rattle.rayon_machine_laws.proofs.Lists.{SameJobs, quiet_same}
 use Rattle.rayon_machine_places.specs.declared.act.Seen.{Seen}
-use Rattle.rayon_machine_places.specs.Places.{act_of, after_begin, is_member, next_of, own_pool, plan_job, plan_pool}
+use Rattle.rayon_machine_places.specs.Places.{act_of, after_begin, is_member, next_of, own_pool, plan_job, plan_pool, plan_book}
 use Rattle.rayon_machine_laws.proofs.Frame.{acted_keeps, if_cond, if_some_map, same_index, stack_mine}
 use Rattle.rayon_machine_places.specs.Steps.{after_move, part_of, put_seat, step}
 use Rattle.rayon_machine_laws.proofs.Ties.{job_at, outcome, result}
@@ -45,9 +45,9 @@ cast_list : (q : Party) (m : Part) (l : List ℕ) → IfSome (take_cast q m l) (
 cast_list q m [] = refl
 cast_list q m (t ∷ ts) = refl
 
-push_list : (h : Shape) (q : Party) (c : Counts) (m : Part) (t p : ℕ) (b : Bool) → IfSome (effect (if b then PushOwn t else PushInj p t) h q c m) (Leaving m)
-push_list h q c m t p true = refl
-push_list h q c m t p false = refl
+push_list : (h : Shape) (q : Party) (c : Counts) (m : Part) (t p : ℕ) (k : Option ℕ) (b : Bool) → IfSome (effect (if b then PushOwn t k else PushInj p t k) h q c m) (Leaving m)
+push_list h q c m t p k true = refl
+push_list h q c m t p k false = refl
 
 list_table : (h : Shape) (q : Party) (c : Counts) (m : Part) (x : Place) → is_listing x ≡ false → IfSome (effect (act_of q x) h q c m) (Leaving m)
 list_table h (Worker a b) c m (PopWorking k) z = pop_list (Worker a b) m _ _
@@ -78,8 +78,8 @@ list_table h (Worker a b) c m YieldTakeCast z = cast_list (Worker a b) m (m.pool
 list_table h (Caller n) c m YieldTakeCast z = tt
 list_table h (Worker a b) c m LocalTakeCast z = cast_list (Worker a b) m (m.pool.casts b)
 list_table h (Caller n) c m LocalTakeCast z = tt
-list_table h (Worker a b) c m (PushJob n v) z = push_list h (Worker a b) c m (plan_job n) (plan_pool n) (is_member (Worker a b) (plan_pool n))
-list_table h (Caller g) c m (PushJob n v) z = push_list h (Caller g) c m (plan_job n) (plan_pool n) (is_member (Caller g) (plan_pool n))
+list_table h (Worker a b) c m (PushJob n v) z = push_list h (Worker a b) c m (plan_job n) (plan_pool n) (plan_book n) (is_member (Worker a b) (plan_pool n))
+list_table h (Caller g) c m (PushJob n v) z = push_list h (Caller g) c m (plan_job n) (plan_pool n) (plan_book n) (is_member (Caller g) (plan_pool n))
 list_table h (Worker a b) c m (PushToken f v) z = refl
 list_table h (Caller g) c m (PushToken f v) z = tt
 list_table h (Worker a b) c m (AddToFifo f) z = absurd (cc)
@@ -96,7 +96,7 @@ list_table h q c m x z = if_some_map (SameJobs m) (Leaving m) (λ r s. s.fifo) (
 none_change : (p i : ℕ) (q : Party) (x y : Place) → is_listing x ≡ false → change_of p i q (act_of q x) y ≡ None
 none_change p i q (PushJob n v) y z = by q (is_member q (plan_pool n)) refl
   where
-    at : (q : Party) (b : Bool) → change_of p i q (if b then PushOwn (plan_job n) else PushInj (plan_pool n) (plan_job n)) y ≡ None
+    at : (q : Party) (b : Bool) → change_of p i q (if b then PushOwn (plan_job n) (plan_book n) else PushInj (plan_pool n) (plan_job n) (plan_book n)) y ≡ None
     at q true = refl
     at q false = refl
 
@@ -203,6 +203,8 @@ step_queued w (Fifo q p) h = fades_queued w (step w (Fifo q p)) (event_fades w (
 step_queued w (Cast q p) h = fades_queued w (step w (Cast q p)) (event_fades w (Cast q p) refl)
 step_queued w (Install q p) h = fades_queued w (step w (Install q p)) (event_fades w (Install q p) refl)
 step_queued w (Join q) h = fades_queued w (step w (Join q)) (event_fades w (Join q) refl)
+step_queued w (OpenScope q p) h = fades_queued w (step w (OpenScope q p)) (event_fades w (OpenScope q p) refl)
+step_queued w (IntoSpawn q n) h = fades_queued w (step w (IntoSpawn q n)) (event_fades w (IntoSpawn q n) refl)
 step_queued w (Yield q) h = fades_queued w (step w (Yield q)) (event_fades w (Yield q) refl)
 step_queued w (YieldLocal q) h = fades_queued w (step w (YieldLocal q)) (event_fades w (YieldLocal q) refl)
 step_queued w (EndPool q p) h = fades_queued w (step w (EndPool q p)) (event_fades w (EndPool q p) refl)

@@ -1,4 +1,6 @@
 -- where a worker stands that waits for the end of its pool, runs jobs and spawns
+use Rattle.rayon_machine_places.specs.declared.place.Count.TheVariants.{OfPool, OfScope}
+use Rattle.rayon_machine_places.specs.declared.place.Count.{Count}
 use Rattle.std.proofs.Common.{rules, arith, refl, sym, subst}
 use Rattle.std.specs.Prelude.{ℕ, Bool, true, false, ◌+◌, ◌==◌, nat_lt, if◌then◌else◌, Option, Some, None, List, [], ◌∷◌, ◌≡◌, ⊤}
 use Rattle.std.proofs.lemmas.Bool.{eq-eqb}
@@ -6,24 +8,24 @@ use Rattle.rayon_machine_places.specs.declared.place.Party.{Party}
 use Rattle.rayon_machine_places.specs.declared.place.Party.TheVariants.{Worker, Caller}
 use Rattle.rayon_machine_places.specs.declared.place.Ending.{Ending}
 use Rattle.rayon_machine_places.specs.declared.place.JobKind.{JobKind}
-use Rattle.rayon_machine_places.specs.declared.place.JobKind.TheVariants.{Detached, Stored, Direct, TokenOf}
+use Rattle.rayon_machine_places.specs.declared.place.JobKind.TheVariants.{Detached, Stored, Direct, TokenOf, Scoped, BodyOf}
 use Rattle.rayon_machine_places.specs.declared.place.Target.{Target}
 use Rattle.rayon_machine_places.specs.declared.place.Target.TheVariants.{Termination, Answer}
 use Rattle.rayon_machine_places.specs.declared.place.Rounds.{Rounds}
 use Rattle.rayon_machine_places.specs.declared.place.Rounds.TheVariants.{Failed, Announced}
 use Rattle.rayon_machine_places.specs.declared.place.Plan.{Plan}
-use Rattle.rayon_machine_places.specs.declared.place.Plan.TheVariants.{Detach, Here, Send, Fork, Feed}
+use Rattle.rayon_machine_places.specs.declared.place.Plan.TheVariants.{Detach, Here, Send, Fork, Feed, Open, Enter}
 use Rattle.rayon_machine_places.specs.declared.place.Then.{Then}
 use Rattle.rayon_machine_places.specs.declared.place.Then.TheVariants.{BeginFound, LeaveWait, Resume, GiveBack, Called}
 use Rattle.rayon_machine_places.specs.declared.place.Place.{Place}
-use Rattle.rayon_machine_places.specs.declared.place.Place.TheVariants.{ProbeWorking, PopWorking, TakeCastWorking, BecomeInactive, ProbeIdle, PopIdle, TakeCastIdle, PickVictim, PopInjected, AnnounceSelf, GetSleepy, LockOwn, FallAsleep, LoadCounters, AddSleeping, LookAtCast, LookAtInjector, BlockSelf, RelockOwn, UndoSleeping, WakeUp, UnlockOwn, LeaveSearch, BeginTask, Run, RaiseCount, LookQueue, PushJob, TellNews, LockToWake, WakeWorker, UnlockWoken, LowerCount, StoreResult, SetLatch, LockToSettle, WakeSettled, UnlockSettled, SetLockLatch, Stopped}
+use Rattle.rayon_machine_places.specs.declared.place.Place.TheVariants.{ProbeWorking, PopWorking, TakeCastWorking, BecomeInactive, ProbeIdle, PopIdle, TakeCastIdle, PickVictim, PopInjected, AnnounceSelf, GetSleepy, LockOwn, FallAsleep, LoadCounters, AddSleeping, LookAtCast, LookAtInjector, BlockSelf, RelockOwn, UndoSleeping, WakeUp, UnlockOwn, LeaveSearch, BeginTask, Run, RaiseCount, LookQueue, PushJob, TellNews, LockToWake, WakeWorker, UnlockWoken, LowerCount, StoreResult, SetLatch, LockToSettle, WakeSettled, UnlockSettled, SetLockLatch, Stopped, OpenSlot, CloseSlot, StoreSlot}
 use Rattle.rayon_machine_places.specs.declared.place.Move.{Move}
 use Rattle.rayon_machine_places.specs.declared.place.Move.TheVariants.{Stay}
 use Rattle.rayon_machine_places.specs.declared.act.Seen.{Seen}
 use Rattle.rayon_machine_places.specs.declared.act.Seen.TheVariants.{Done, Yes, Task, Jec, Word, Wakes, Begun}
 use Rattle.rayon_machine_places.specs.declared.shape.PoolShape.{PoolShape}
 use Rattle.rayon_machine_places.specs.declared.place.Settling.{Settling}
-use Rattle.rayon_machine_places.specs.Places.{own_pool, after_wait, finish, walk, settle, after_set, after_found, after_news, plan_pool, next_of, after_failure}
+use Rattle.rayon_machine_places.specs.Places.{own_pool, after_wait, finish, walk, settle, after_set, after_found, after_news, plan_pool, next_of, after_failure, settle_count, after_push}
 use Rattle.rayon_machine_places.specs.World.{Stack}
 use Rattle.rayon_machine_places.specs.Steps.{back, after_move, after_close}
 use Rattle.rayon_machine_orders.specs.Order.{caller_of}
@@ -49,6 +51,7 @@ Above r _ = ⊥
 
 abbrev pub IsDetach : Plan → Type 0
 IsDetach (Detach p t) = ⊤
+IsDetach (Enter e) = ⊤
 IsDetach _ = ⊥
 
 -- above what a waker stands, by what follows
@@ -93,6 +96,8 @@ Stands r (LeaveSearch k) fs = (k.target ≡ Termination) × AllBase fs
 Stands r (BeginTask t) fs = AllBase fs
 Stands r (Run t k) fs = (r ≡ Some t) × AllBase fs
 Stands r (RaiseCount n) fs = IsDetach n × Above r fs
+Stands r (OpenSlot e) fs = Above r fs
+Stands r (CloseSlot e) fs = Above r fs
 Stands r (LookQueue n) fs = IsDetach n × Above r fs
 Stands r (PushJob n e) fs = IsDetach n × Above r fs
 Stands r (TellNews n e) fs = IsDetach n × Above r fs
@@ -101,11 +106,12 @@ Stands r (WakeWorker k) fs = WakesAbove r k.then fs
 Stands r (UnlockWoken k) fs = WakesAbove r k.then fs
 Stands r (LowerCount p s n) fs = EndsAbove r n fs
 Stands r (StoreResult c o e) fs = AllBase fs
+Stands r (StoreSlot c o t e) fs = AllBase fs
 Stands r (SetLatch s) fs = EndsAbove r s.then fs
 Stands r (LockToSettle s) fs = EndsAbove r s.then fs
 Stands r (WakeSettled s) fs = EndsAbove r s.then fs
 Stands r (UnlockSettled s) fs = EndsAbove r s.then fs
-Stands r (SetLockLatch c) fs = AllBase fs
+Stands r (SetLockLatch c n) fs = EndsAbove r n fs
 Stands r Stopped fs = AllBase fs
 Stands r _ fs = ⊥
 
@@ -161,7 +167,24 @@ news_above r (Detach p t) fs a = a.1
 news_above r (Here p t) fs a = absurd (a.0)
 news_above r (Send o) fs a = absurd (a.0)
 news_above r (Feed f) fs a = absurd (a.0)
+news_above r (Open o) fs a = absurd (a.0)
+news_above r (Enter e) fs a = a.1
 news_above r (Fork o b) fs a = absurd (a.0)
+
+-- where a spawn goes whose push was refused
+unpushed_above : (r : Option ℕ) (n : Plan) (fs : List Place) → IsDetach n × Above r fs → Stands r (after_push n) fs
+unpushed_above r (Detach p t) fs a = a
+unpushed_above r (Enter e) fs a = a.1
+unpushed_above r (Here p t) fs a = absurd (a.0)
+unpushed_above r (Send o) fs a = absurd (a.0)
+unpushed_above r (Feed f) fs a = absurd (a.0)
+unpushed_above r (Open o) fs a = absurd (a.0)
+unpushed_above r (Fork o b) fs a = absurd (a.0)
+
+counts_on : (r : Option ℕ) (g : PoolShape) (q : Party) (k : Count) (t : Then) (fs : List Place) → EndsAbove r t fs → Leads r fs (settle_count g q k t)
+counts_on r g q (OfPool p) t fs a = settles_on r g q p 0 t fs a
+counts_on r g q (OfScope c (Worker i j)) t fs a = a
+counts_on r g q (OfScope c (Caller m)) t fs a = a
 
 -- from each such place an act leads to such a place
 pub stands_next : (g : PoolShape) (q : Party) (x : Place) (e : Seen) (r : Option ℕ) (fs : List Place) → Stands r x fs → is_start x ≡ false → (turns_thief x ≡ true → g.workers ≡ 1) → Leads r fs (next_of g q x e)
@@ -223,19 +246,25 @@ stands_next g q (RaiseCount n) Done r fs s z f = raised n s
     raised (Here p t) a = absurd (a.0)
     raised (Send o) a = absurd (a.0)
     raised (Feed f) a = absurd (a.0)
+    raised (Open o) a = absurd (a.0)
+    raised (Enter e) a = a.1
     raised (Fork o b) a = absurd (a.0)
 stands_next g q (RaiseCount n) _ r fs s z f = back_above r fs (s.1)
 stands_next g q (LookQueue n) Yes r fs s z f = s
 stands_next g q (LookQueue n) _ r fs s z f = s
 stands_next g q (PushJob n v) Done r fs s z f = s
-stands_next g q (PushJob n v) _ r fs s z f = s
+stands_next g q (PushJob n v) _ r fs s z f = unpushed_above r n fs s
+stands_next g q (OpenSlot x) Done r fs s z f = (tt, s)
+stands_next g q (OpenSlot x) _ r fs s z f = (tt, s)
+stands_next g q (CloseSlot x) _ r fs s z f = (tt, s)
+stands_next g q (StoreSlot c o t d) _ r fs s z f = s
 stands_next g q (TellNews n v) (Wakes k) r fs s z f = walks r g q (plan_pool n) k 0 (after_news n) fs (news_above r n fs s)
 stands_next g q (TellNews n v) _ r fs s z f = s
 stands_next g q (LockToWake k) _ r fs s z f = s
 stands_next g q (WakeWorker k) Yes r fs s z f = s
 stands_next g q (WakeWorker k) _ r fs s z f = s
 stands_next g q (UnlockWoken k) _ r fs s z f = walks r g q k.pool k.owed (k.worker + 1) k.then fs s
-stands_next g q (LowerCount p v n) Yes r fs s z f = settles_on r g q p 0 n fs s
+stands_next g q (LowerCount p v n) Yes r fs s z f = counts_on r g q p n fs s
 stands_next g q (LowerCount p v n) _ r fs s z f = finish_end r q n fs s
 stands_next g q (StoreResult c (Worker a b) d) _ r fs s z f = s
 stands_next g q (StoreResult c (Caller a) d) _ r fs s z f = s
@@ -244,7 +273,7 @@ stands_next g q (SetLatch k) _ r fs s z f = settled_on r g q k fs s
 stands_next g q (LockToSettle k) _ r fs s z f = s
 stands_next g q (WakeSettled k) _ r fs s z f = s
 stands_next g q (UnlockSettled k) _ r fs s z f = settled_on r g q k fs s
-stands_next g q (SetLockLatch c) _ r fs s z f = back_base r fs s
+stands_next g q (SetLockLatch c n) _ r fs s z f = finish_end r q n fs s
 stands_next g q Stopped _ r fs s z f = s
 stands_next g q _ e r fs s z f = absurd s
 
@@ -256,12 +285,16 @@ stands_begun g q t k r fs s = (refl, s)
 pub stands_closed : (r : Option ℕ) (t : ℕ) (k : JobKind) (e : Ending) (fs : List Place) → AllBase fs → StandsAt r (after_close t k e fs)
 stands_closed r t (Detached p) e fs a = a
 stands_closed r t (Stored c o) e fs a = a
+stands_closed r t (Scoped c o) e fs a = a
 stands_closed r t Direct e [] a = tt
 stands_closed r t (TokenOf i) e [] a = tt
+stands_closed r t (BodyOf c9 o9) e [] a = tt
 stands_closed r t Direct e (ProbeWorking k ∷ fs) a = a
 stands_closed r t (TokenOf i) e (ProbeWorking k ∷ fs) a = a
+stands_closed r t (BodyOf c9 o9) e (ProbeWorking k ∷ fs) a = a
 stands_closed r t Direct e (_ ∷ fs) a = absurd (a.0)
 stands_closed r t (TokenOf i) e (_ ∷ fs) a = absurd (a.0)
+stands_closed r t (BodyOf c9 o9) e (_ ∷ fs) a = absurd (a.0)
 
 -- what such a worker comes by elsewhere it finds where its deque is known to be empty
 pub stands_emptied : (r : Option ℕ) (x : Place) (fs : List Place) → Stands r x fs → elsewhere x ≡ true → is_emptied x ≡ true
@@ -272,6 +305,8 @@ stands_emptied r (RaiseCount (Detach p t)) fs s e = cc
 stands_emptied r (RaiseCount (Here p t)) fs s e = absurd (s.0)
 stands_emptied r (RaiseCount (Send o)) fs s e = absurd (s.0)
 stands_emptied r (RaiseCount (Feed f)) fs s e = absurd (s.0)
+stands_emptied r (RaiseCount (Open o)) fs s e = absurd (s.0)
+stands_emptied r (RaiseCount (Enter x)) fs s e = cc
 stands_emptied r (RaiseCount (Fork o a)) fs s e = absurd (s.0)
 stands_emptied r _ fs s e = first_of (cc, search (rules, arith))
 

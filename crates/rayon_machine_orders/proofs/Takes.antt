@@ -1,5 +1,8 @@
 -- what a place has seen of its call's latch, whose latch it is about to set, and what it answers, over each act and
 -- move
+use Rattle.rayon_machine_places.specs.declared.place.Share.TheVariants.{Body}
+use Rattle.rayon_machine_places.specs.declared.place.Count.TheVariants.{OfPool, OfScope}
+use Rattle.rayon_machine_places.specs.declared.place.Count.{Count}
 use Rattle.std.proofs.Common.{rules, arith, refl, sym, ◌∙◌, inl, inr}
 use Rattle.std.specs.Prelude.{ℕ, Bool, true, false, ◌&&◌, ◌+◌, nat_lt, if◌then◌else◌, Option, Some, None, ◌≡◌, ◌⊎◌, IfSome}
 use Rattle.rayon_machine_places.specs.declared.place.Party.{Party}
@@ -12,12 +15,12 @@ use Rattle.rayon_machine_places.specs.declared.place.Latch.TheVariants.{Terminat
 use Rattle.rayon_machine_places.specs.declared.place.Rounds.{Rounds}
 use Rattle.rayon_machine_places.specs.declared.place.Rounds.TheVariants.{Failed, Announced}
 use Rattle.rayon_machine_places.specs.declared.place.Plan.{Plan}
-use Rattle.rayon_machine_places.specs.declared.place.Plan.TheVariants.{Detach, Here, Send, Fork, Feed}
+use Rattle.rayon_machine_places.specs.declared.place.Plan.TheVariants.{Detach, Here, Send, Fork, Feed, Open, Enter}
 use Rattle.rayon_machine_places.specs.declared.place.Share.{Share}
 use Rattle.rayon_machine_places.specs.declared.place.Then.{Then}
 use Rattle.rayon_machine_places.specs.declared.place.Then.TheVariants.{BeginFound, LeaveWait, Resume, Await, RunFirst, Answers, Missing as NoResult, Ran, GiveBack, Called}
 use Rattle.rayon_machine_places.specs.declared.place.Place.{Place}
-use Rattle.rayon_machine_places.specs.declared.place.Place.TheVariants.{ProbeWorking, ProbeIdle, PopInjected, AnnounceSelf, GetSleepy, FallAsleep, WakeUp, LeaveSearch, JoinProbe, Run, RaiseCount, GrowCall, TellNews, LockToWake, WakeWorker, UnlockWoken, WaitForLock, TakeResult, LowerCount, StoreResult, SetLatch, LockToSettle, WakeSettled, UnlockSettled, SetLockLatch, FirstSide, SecondSide, AtOnce, Free, Stopped}
+use Rattle.rayon_machine_places.specs.declared.place.Place.TheVariants.{ProbeWorking, ProbeIdle, PopInjected, AnnounceSelf, GetSleepy, FallAsleep, WakeUp, LeaveSearch, JoinProbe, Run, RaiseCount, GrowCall, TellNews, LockToWake, WakeWorker, UnlockWoken, WaitForLock, TakeResult, LowerCount, StoreResult, SetLatch, LockToSettle, WakeSettled, UnlockSettled, SetLockLatch, FirstSide, SecondSide, AtOnce, Free, Stopped, GrowScope, StoreBody, StoreSlot, ScopeBody, PushJob}
 use Rattle.rayon_machine_places.specs.declared.place.Move.{Move}
 use Rattle.rayon_machine_places.specs.declared.place.Move.TheVariants.{Stay}
 use Rattle.rayon_machine_places.specs.declared.act.Act.TheVariants.{Set}
@@ -29,11 +32,12 @@ use Rattle.rayon_machine_places.specs.declared.shape.PoolShape.{PoolShape}
 use Rattle.rayon_machine_places.specs.declared.place.OpenCall.{OpenCall}
 use Rattle.rayon_machine_places.specs.declared.place.Wait.{Wait}
 use Rattle.rayon_machine_places.specs.declared.place.Settling.{Settling}
-use Rattle.rayon_machine_places.specs.Places.{own_pool, after_wait, latch_of, finish, walk, settle, after_set, after_found, act_of, after_failure, next_of}
+use Rattle.rayon_machine_places.specs.Places.{own_pool, after_wait, latch_of, finish, walk, settle, after_set, after_found, act_of, after_failure, next_of, settle_count}
 use Rattle.rayon_machine_places.specs.World.{Shape, Counts, Part, call_of, target_call, is_set, letter, lock_wait, sleepy, fall_asleep, wake_up, set_latch, found, effect}
 use Rattle.rayon_machine_laws.proofs.ClaimActs.{is_call, sets_call}
 use Rattle.rayon_machine_laws.proofs.Frame.{if_some_all, if_some_map}
 use Rattle.rayon_machine_laws.proofs.Latches.{SameLatches, latches_same}
+use Rattle.rayon_machine_laws.proofs.Locks.{tops_map}
 use Rattle.rayon_machine_laws.proofs.Owners.{target_number}
 use Rattle.rayon_machine_laws.proofs.Seats.{is_frame}
 use Rattle.rayon_machine_laws.proofs.Tops.{Tops}
@@ -48,14 +52,20 @@ abbrev pub set_then : Then → Option ℕ
 set_then (LeaveWait g) = target_number g
 set_then _ = None
 
+-- the same where a share is given back, which a call without a first side does once it has taken
+abbrev pub set_lower : Then → Option ℕ
+set_lower (Answers o None e) = Some o.number
+set_lower t = set_then t
+
 abbrev pub seen_set : Place → Option ℕ
 seen_set (LeaveSearch k) = set_found k.target k.found
 seen_set (LockToWake k) = set_then k.then
 seen_set (WakeWorker k) = set_then k.then
 seen_set (UnlockWoken k) = set_then k.then
 seen_set (TakeResult o f) = Some o.number
-seen_set (LowerCount p s t) = set_then t
+seen_set (LowerCount p s t) = set_lower t
 seen_set (SetLatch s) = set_then s.then
+seen_set (SetLockLatch c t) = set_then t
 seen_set (LockToSettle s) = set_then s.then
 seen_set (WakeSettled s) = set_then s.then
 seen_set (UnlockSettled s) = set_then s.then
@@ -69,19 +79,31 @@ sees_set (JoinProbe o) Yes = Some o.number
 sees_set (WaitForLock o) e = Some o.number
 sees_set x e = seen_set x
 
--- the call whose latch a place is about to set, and the one whose cell it stores into
+-- the call whose latch a place is about to set, or whose body's share of its scope's count it is about to give back;
+-- and the one whose cell it stores into
 abbrev pub latch_number : Latch → Option ℕ
 latch_number Terminate = None
 latch_number (OfCall c) = Some c
 
+abbrev pub count_number : Count → Option ℕ
+count_number (OfPool p) = None
+count_number (OfScope c o) = Some c
+
 abbrev pub sets_now : Place → Option ℕ
 sets_now (SetLatch s) = latch_number s.latch
-sets_now (SetLockLatch c) = Some c
+sets_now (SetLockLatch c t) = Some c
+sets_now (LowerCount k Body t) = count_number k
 sets_now _ = None
 
 abbrev pub stores_now : Place → Option ℕ
 stores_now (StoreResult c o e) = Some c
+stores_now (StoreBody o e) = Some o.number
 stores_now _ = None
+
+-- the call whose latch is set next, or whose body's share is given back next, once an act has seen this
+abbrev pub sets_next : Place → Seen → Option ℕ
+sets_next (LowerCount k s t) Yes = count_number k
+sets_next x e = stores_now x
 
 -- only a call that waits makes a cell
 abbrev pub is_waiting_plan : Plan → Bool
@@ -90,6 +112,8 @@ is_waiting_plan (Here p t) = false
 is_waiting_plan (Send o) = true
 is_waiting_plan (Fork o a) = true
 is_waiting_plan (Feed f) = false
+is_waiting_plan (Open o) = false
+is_waiting_plan (Enter e) = false
 
 abbrev pub is_grown_well : Place → Bool
 is_grown_well (GrowCall n) = is_waiting_plan n
@@ -106,6 +130,7 @@ says_missing (WakeWorker k) = then_missing k.then
 says_missing (UnlockWoken k) = then_missing k.then
 says_missing (LowerCount p s t) = then_missing t
 says_missing (SetLatch s) = then_missing s.then
+says_missing (SetLockLatch c t) = then_missing t
 says_missing (LockToSettle s) = then_missing s.then
 says_missing (WakeSettled s) = then_missing s.then
 says_missing (UnlockSettled s) = then_missing s.then
@@ -122,13 +147,14 @@ abbrev pub Onward : Option ℕ → Option ℕ → Bool → Place → Type 0
 Onward seen stored missing y = ((c : ℕ) → seen_set y ≡ Some c → seen ≡ Some c) × ((c : ℕ) → sets_now y ≡ Some c → stored ≡ Some c) × (is_grown_well y ≡ true) × (says_missing y ≡ true → missing ≡ true)
 
 abbrev pub Follows : Place → Seen → Place → Type 0
-Follows x e y = Onward (sees_set x e) (stores_now x) (finds_missing x e) y
+Follows x e y = Onward (sees_set x e) (sets_next x e) (finds_missing x e) y
 
 pub frame_says : (seen stored : Option ℕ) (missing : Bool) (f : Place) → is_frame f ≡ true → Onward seen stored missing f
 frame_says n s b (ProbeWorking k) z = (λ c e. absurd (cc), λ c e. absurd (cc), refl, λ e. absurd (cc))
 frame_says n s b (JoinProbe o) z = (λ c e. absurd (cc), λ c e. absurd (cc), refl, λ e. absurd (cc))
 frame_says n s b (FirstSide o a) z = (λ c e. absurd (cc), λ c e. absurd (cc), refl, λ e. absurd (cc))
 frame_says n s b (SecondSide o) z = (λ c e. absurd (cc), λ c e. absurd (cc), refl, λ e. absurd (cc))
+frame_says n s b (ScopeBody o) z = (λ c e. absurd (cc), λ c e. absurd (cc), refl, λ e. absurd (cc))
 frame_says n s b (AtOnce p t) z = (λ c e. absurd (cc), λ c e. absurd (cc), refl, λ e. absurd (cc))
 frame_says n s b (Run t k) z = (λ c e. absurd (cc), λ c e. absurd (cc), refl, λ e. absurd (cc))
 frame_says n s b Free z = (λ c e. absurd (cc), λ c e. absurd (cc), refl, λ e. absurd (cc))
@@ -184,6 +210,8 @@ tell_on h q (Here p t) v (Wakes m) = walk_on None h q p m 0 Resume
 tell_on h q (Send o) v (Wakes m) = walk_on None h q o.pool m 0 (Await o)
 tell_on h q (Fork o a) v (Wakes m) = walk_on None h q o.pool m 0 (RunFirst o a)
 tell_on h q (Feed f) v (Wakes m) = walk_on None h q f.pool m 0 (GiveBack (Detach f.pool f.token))
+tell_on h q (Open o) v (Wakes m) = walk_on None h q o.pool m 0 Resume
+tell_on h q (Enter x) v (Wakes m) = walk_on None h q x.pool m 0 Resume
 tell_on h q n v _ = (λ c e. absurd (cc), λ c e. absurd (cc), refl, λ e. absurd (cc))
 
 raise_on : (h : PoolShape) (q : Party) (n : Plan) (e : Seen) → Tops (Follows (RaiseCount n) e) (next_of h q (RaiseCount n) e)
@@ -192,6 +220,8 @@ raise_on h q (Here p t) Done = (λ c e. absurd (cc), λ c e. absurd (cc), refl, 
 raise_on h q (Send o) Done = (λ c e. absurd (cc), λ c e. absurd (cc), refl, λ e. absurd (cc))
 raise_on h q (Fork o a) Done = (λ c e. absurd (cc), λ c e. absurd (cc), refl, λ e. absurd (cc))
 raise_on h q (Feed f) Done = (λ c e. absurd (cc), λ c e. absurd (cc), refl, λ e. absurd (cc))
+raise_on h q (Open f) Done = (λ c e. absurd (cc), λ c e. absurd (cc), refl, λ e. absurd (cc))
+raise_on h q (Enter x) Done = (λ c e. absurd (cc), λ c e. absurd (cc), refl, λ e. absurd (cc))
 raise_on h q n _ = tt
 
 store_on : (h : PoolShape) (q : Party) (c : ℕ) (o : Party) (d : Ending) (e : Seen) → Tops (Follows (StoreResult c o d) e) (next_of h q (StoreResult c o d) e)
@@ -202,9 +232,37 @@ probe_on : (h : PoolShape) (q : Party) (k : Wait) (e : Seen) → Tops (Follows (
 probe_on h q k Yes = left_on None false k.target
 probe_on h q k _ = (λ c e. absurd (cc), λ c e. absurd (cc), refl, λ e. absurd (cc))
 
-lower_on : (h : PoolShape) (q : Party) (p : ℕ) (s : Share) (t : Then) (e : Seen) → Tops (Follows (LowerCount p s t) e) (next_of h q (LowerCount p s t) e)
-lower_on h q p s t Yes = settle_on None h q p 0 t
-lower_on h q p s t _ = finish_on None q t
+count_on : (h : PoolShape) (q : Party) (k : Count) (t : Then) → Tops (Onward (set_then t) (count_number k) (then_missing t)) (settle_count h q k t)
+count_on h q (OfPool p) t = settle_on None h q p 0 t
+count_on h q (OfScope c (Worker i j)) t = (λ c e. e, λ c e. e, refl, λ e. e)
+count_on h q (OfScope c (Caller n)) t = (λ c e. e, λ c e. e, refl, λ e. e)
+
+lower_wide : (t : Then) (c : ℕ) → set_then t ≡ Some c → set_lower t ≡ Some c
+lower_wide (LeaveWait g) c e = e
+lower_wide _ c e = absurd (cc)
+
+widened : (s : Option ℕ) (b : Bool) (t : Then) (g : Move) → Tops (Onward (set_then t) s b) g → Tops (Onward (set_lower t) s b) g
+widened s b t g = tops_map (Onward (set_then t) s b) (Onward (set_lower t) s b) (λ y n. (λ c e. lower_wide t c (n.0 c e), n.1, n.2, n.3)) g
+
+lower_on : (h : PoolShape) (q : Party) (k : Count) (s : Share) (t : Then) (e : Seen) → Tops (Follows (LowerCount k s t) e) (next_of h q (LowerCount k s t) e)
+lower_on h q k s t Yes = widened (count_number k) (then_missing t) t (settle_count h q k t) (count_on h q k t)
+lower_on h q k s t _ = widened None (then_missing t) t (finish q t) (finish_on None q t)
+
+push_on : (h : PoolShape) (q : Party) (n : Plan) (v : Bool) (e : Seen) → Tops (Follows (PushJob n v) e) (next_of h q (PushJob n v) e)
+push_on h q n v Done = (λ c e. absurd (cc), λ c e. absurd (cc), refl, λ e. absurd (cc))
+push_on h q (Detach p t) v _ = (λ c e. absurd (cc), λ c e. absurd (cc), refl, λ e. absurd (cc))
+push_on h q (Here p t) v _ = (λ c e. absurd (cc), λ c e. absurd (cc), refl, λ e. absurd (cc))
+push_on h q (Send o) v _ = (λ c e. absurd (cc), λ c e. absurd (cc), refl, λ e. absurd (cc))
+push_on h q (Fork o a) v _ = (λ c e. absurd (cc), λ c e. absurd (cc), refl, λ e. absurd (cc))
+push_on h q (Feed f) v _ = (λ c e. absurd (cc), λ c e. absurd (cc), refl, λ e. absurd (cc))
+push_on h q (Open o) v _ = (λ c e. absurd (cc), λ c e. absurd (cc), refl, λ e. absurd (cc))
+push_on h q (Enter x) v _ = (λ c e. absurd (cc), λ c e. absurd (cc), refl, λ e. absurd (cc))
+
+body_on : (h : PoolShape) (q : Party) (o : OpenCall) (d : Ending) (e : Seen) → Tops (Follows (StoreBody o d) e) (next_of h q (StoreBody o d) e)
+body_on h q o d e = (λ c e. absurd (cc), λ c e. e, refl, λ e. absurd (cc))
+
+slot_on : (h : PoolShape) (q : Party) (c : ℕ) (o : Party) (t : ℕ) (d : Ending) (e : Seen) → Tops (Follows (StoreSlot c o t d) e) (next_of h q (StoreSlot c o t d) e)
+slot_on h q c o t d e = (λ c e. absurd (cc), λ c e. absurd (cc), refl, λ e. absurd (cc))
 
 search_on : (h : PoolShape) (k : Wait) (r : Rounds) → Onward None None false (after_failure h k r)
 search_on h k (Failed m) = at (nat_lt m h.limit)
@@ -219,7 +277,8 @@ inject_on h q k (Task t) = (λ c e. absurd (cc), λ c e. absurd (cc), refl, λ e
 inject_on h q k _ = search_on h k k.rounds
 
 take_on : (h : PoolShape) (q : Party) (o : OpenCall) (f : Option Ending) (e : Seen) → Tops (Follows (TakeResult o f) e) (next_of h q (TakeResult o f) e)
-take_on h q o f (Found d) = (λ c e. absurd (cc), λ c e. absurd (cc), refl, λ e. absurd (cc))
+take_on h q o None (Found d) = (λ c e. e, λ c e. absurd (cc), refl, λ e. absurd (cc))
+take_on h q o (Some a) (Found d) = (λ c e. absurd (cc), λ c e. absurd (cc), refl, λ e. absurd (cc))
 take_on h q o f _ = (λ c e. absurd (cc), λ c e. absurd (cc), refl, λ e. refl)
 
 of_every : (h : Shape) (g : PoolShape) (q : Party) (c : Counts) (m : Part) (x : Place) → ((e : Seen) → Tops (Follows x e) (next_of g q x e)) → IfSome (effect (act_of q x) h q c m) (λ r. Tops (Follows x (r.0)) (next_of g q x (r.0)))
@@ -234,6 +293,10 @@ follows_on h g q c m (TellNews n v) = of_every h g q c m (TellNews n v) (tell_on
 follows_on h g q c m (RaiseCount n) = of_every h g q c m (RaiseCount n) (raise_on g q n)
 follows_on h g q c m (StoreResult d o e) = of_every h g q c m (StoreResult d o e) (store_on g q d o e)
 follows_on h g q c m (LowerCount p s t) = of_every h g q c m (LowerCount p s t) (lower_on g q p s t)
+follows_on h g q c m (PushJob n v) = of_every h g q c m (PushJob n v) (push_on g q n v)
+follows_on h g q c m (StoreBody o e) = of_every h g q c m (StoreBody o e) (body_on g q o e)
+follows_on h g q c m (StoreSlot d o t e) = of_every h g q c m (StoreSlot d o t e) (slot_on g q d o t e)
+follows_on h g q c m (SetLockLatch d t) = of_every h g q c m (SetLockLatch d t) (λ e. finish_on None q t)
 follows_on h g q c m (UnlockWoken k) = of_every h g q c m (UnlockWoken k) (λ e. walk_on None g q k.pool k.owed (k.worker + 1) k.then)
 follows_on h g q c m (SetLatch s) = of_every h g q c m (SetLatch s) (set_on g q s)
 follows_on h g q c m (UnlockSettled s) = of_every h g q c m (UnlockSettled s) (λ e. settled_on None g q s s.latch)
@@ -244,10 +307,13 @@ follows_on h g (Caller n) c m _ = search (rules, arith)
 -- places whose acts make a cell, and those whose acts write one
 abbrev pub is_growing : Place → Bool
 is_growing (GrowCall n) = true
+is_growing (GrowScope o) = true
 is_growing _ = false
 
 abbrev pub writes_cell : Place → Bool
 writes_cell (GrowCall n) = true
+writes_cell (GrowScope o) = true
+writes_cell (StoreBody o e) = true
 writes_cell (TakeResult o f) = true
 writes_cell (StoreResult c o e) = true
 writes_cell _ = false
@@ -341,15 +407,17 @@ act_stays_set h (Worker a b) c m (GetSleepy k) z = sleepy_stays (latch_of k.targ
 act_stays_set h (Worker a b) c m (FallAsleep k) z = asleep_stays (latch_of k.target) m (letter (latch_of k.target) m) refl
 act_stays_set h (Worker a b) c m (WakeUp k) z = wake_stays (latch_of k.target) m (letter (latch_of k.target) m) refl
 act_stays_set h (Worker a b) c m (SetLatch s) z = set_stays s.latch m (letter s.latch m)
-act_stays_set h (Worker a b) c m (SetLockLatch d) z = λ s. refl
+act_stays_set h (Worker a b) c m (SetLockLatch d t) z = λ s. refl
 act_stays_set h (Worker a b) c m (GrowCall n) z = cc
+act_stays_set h (Worker a b) c m (GrowScope o) z = cc
 act_stays_set h (Worker a b) c m x z = if_some_map (SameLatches m) (StaysSet m) (λ r s e. s.call ∙ e) (effect (act_of (Worker a b) x) h (Worker a b) c m) (latches_same h (Worker a b) c m x refl)
 act_stays_set h (Caller n) c m (GetSleepy k) z = tt
 act_stays_set h (Caller n) c m (FallAsleep k) z = tt
 act_stays_set h (Caller n) c m (WakeUp k) z = tt
 act_stays_set h (Caller n) c m (SetLatch s) z = set_stays s.latch m (letter s.latch m)
-act_stays_set h (Caller n) c m (SetLockLatch d) z = λ s. refl
+act_stays_set h (Caller n) c m (SetLockLatch d t) z = λ s. refl
 act_stays_set h (Caller n) c m (GrowCall e) z = cc
+act_stays_set h (Caller n) c m (GrowScope o) z = cc
 act_stays_set h (Caller n) c m x z = if_some_map (SameLatches m) (StaysSet m) (λ r s e. s.call ∙ e) (effect (act_of (Caller n) x) h (Caller n) c m) (latches_same h (Caller n) c m x refl)
 
 -- a cell is as it was, but where it is made, stored into or taken from
@@ -364,6 +432,8 @@ pub act_cell : (h : Shape) (q : Party) (c : Counts) (m : Part) (x : Place) → w
 act_cell h (Worker a b) c m (ProbeWorking k) z = search (rules, arith)
 act_cell h q c m (SetLatch s) z = set_cell s.latch s.pool s.worker h q c m
 act_cell h q c m (GrowCall n) z = cc
+act_cell h q c m (GrowScope o) z = cc
+act_cell h q c m (StoreBody o e) z = cc
 act_cell h q c m (TakeResult o f) z = cc
 act_cell h q c m (StoreResult d o e) z = cc
 act_cell h (Worker a b) c m _ z = search (rules, arith)
@@ -391,6 +461,6 @@ latch_sets Terminate e = cc
 pub sets_touched : (q : Party) (x : Place) → sets_call x ≡ true → sets_now x ≡ Some (target_call (act_of q x))
 sets_touched (Worker a b) (SetLatch s) e = latch_sets s.latch e
 sets_touched (Caller n) (SetLatch s) e = latch_sets s.latch e
-sets_touched (Worker a b) (SetLockLatch c) e = refl
-sets_touched (Caller n) (SetLockLatch c) e = refl
+sets_touched (Worker a b) (SetLockLatch c t) e = refl
+sets_touched (Caller n) (SetLockLatch c t) e = refl
 sets_touched q _ e = cc

@@ -6,22 +6,22 @@ use Rattle.rayon_machine_places.specs.declared.place.Party.{Party}
 use Rattle.rayon_machine_places.specs.declared.place.Party.TheVariants.{Worker, Caller}
 use Rattle.rayon_machine_places.specs.declared.place.Ending.{Ending}
 use Rattle.rayon_machine_places.specs.declared.place.Plan.{Plan}
-use Rattle.rayon_machine_places.specs.declared.place.Plan.TheVariants.{Detach, Here, Send, Fork, Feed}
+use Rattle.rayon_machine_places.specs.declared.place.Plan.TheVariants.{Detach, Here, Send, Fork, Feed, Open, Enter}
 use Rattle.rayon_machine_places.specs.declared.place.Place.{Place}
-use Rattle.rayon_machine_places.specs.declared.place.Place.TheVariants.{PickVictim, StealFrom, YieldPick, YieldSteal, BeginTask, BeginHere, Run, GrowCall, PushJob, Free, AddToFifo, PushToken, PushForAll}
+use Rattle.rayon_machine_places.specs.declared.place.Place.TheVariants.{PickVictim, StealFrom, YieldPick, YieldSteal, BeginTask, BeginHere, Run, GrowCall, PushJob, Free, AddToFifo, PushToken, PushForAll, GrowScope, OpenSlot}
 use Rattle.rayon_machine_places.specs.declared.act.Act.TheVariants.{PushOwn, PushInj}
 use Rattle.rayon_machine_places.specs.declared.act.Seen.{Seen}
 use Rattle.rayon_machine_places.specs.declared.act.Seen.TheVariants.{Refused}
 use Rattle.rayon_machine_places.specs.declared.event.Event.{Event}
-use Rattle.rayon_machine_places.specs.declared.event.Event.TheVariants.{Go, From, Refuse, Miss, End, Spawn, Fifo, Install, Join, Yield, YieldLocal, EndPool, Cast}
-use Rattle.rayon_machine_places.specs.Places.{same_party, own_pool, is_member, plan_pool, plan_job, act_of, is_free, is_refusable}
+use Rattle.rayon_machine_places.specs.declared.event.Event.TheVariants.{Go, From, Refuse, Miss, End, Spawn, Fifo, Install, Join, Yield, YieldLocal, EndPool, Cast, Scope as OpenScope, IntoSpawn}
+use Rattle.rayon_machine_places.specs.Places.{same_party, own_pool, is_member, plan_pool, plan_job, act_of, is_free, is_refusable, plan_book}
 use Rattle.rayon_machine_places.specs.World.{Stack, World, Part, target_pool, target_worker, target_call}
-use Rattle.rayon_machine_places.specs.Steps.{put_stack, after_move, after_choice, after_refusal, after_miss, after_end, after_send, is_pool, can_miss, step, after_feed, after_spawn}
+use Rattle.rayon_machine_places.specs.Steps.{put_stack, after_move, after_choice, after_refusal, after_miss, after_end, after_send, is_pool, can_miss, step, after_feed, after_spawn, holds}
 use Rattle.rayon_machine_laws.specs.Once.{one}
 use Rattle.rayon_machine_orders.specs.Order.{Happening, Adds, Begins, caller_of, act_happens, happening, is_other, is_redeem}
 use Rattle.rayon_machine_laws.proofs.Calm.{next_at}
 use Rattle.rayon_machine_orders.proofs.Dealt.{is_push, is_start, silent}
-use Rattle.rayon_machine_laws.proofs.Frame.{either, if_some_all, if_cond, same_party_true, acted_keeps}
+use Rattle.rayon_machine_laws.proofs.Frame.{either, if_some_all, if_cond, same_party_true, acted_keeps, into_cases}
 use Rattle.rayon_machine_laws.proofs.Hands.{hand, hand_plan}
 use Rattle.rayon_machine_orders.proofs.Lone.{turn_target, turns_thief}
 use Rattle.rayon_machine_orders.proofs.Standing.{Above, Stands, StandsAt, stands_next, stands_begun, stands_closed, stands_caller}
@@ -39,6 +39,8 @@ plan_hand (Detach p t) = let e : one (t == t) ≡ 1 = ap one (eq-eqb t t refl) i
 plan_hand (Here p t) = let e : one (t == t) ≡ 1 = ap one (eq-eqb t t refl) in omega (arith, e)
 plan_hand (Feed f) = let e : one (f.job == f.job) ≡ 1 = ap one (eq-eqb f.job f.job refl) in omega (arith, e)
 plan_hand (Send o) = let e : one (o.job == o.job) ≡ 1 = ap one (eq-eqb o.job o.job refl) in omega (arith, e)
+plan_hand (Open o) = let e : one (o.job == o.job) ≡ 1 = ap one (eq-eqb o.job o.job refl) in omega (arith, e)
+plan_hand (Enter o) = let e : one (o.job == o.job) ≡ 1 = ap one (eq-eqb o.job o.job refl) in omega (arith, e)
 plan_hand (Fork o a) = let e : one (o.job == o.job) ≡ 1 = ap one (eq-eqb o.job o.job refl) in omega (arith, e)
 
 start_adds : (q : Party) (x : Place) (fs : List Place) (by : Option ℕ) (s : ℕ) → is_start x ≡ true → act_happens (act_of q x) fs ≡ Some (Adds by s) → ⊥
@@ -63,7 +65,7 @@ adds_push q x fs by s e = elim (either (is_push x)) [
 push_adds : (q : Party) (n : Plan) (v : Bool) (fs : List Place) (by : Option ℕ) (s : ℕ) → act_happens (act_of q (PushJob n v)) fs ≡ Some (Adds by s) → (by ≡ caller_of fs) × (s ≡ plan_job n)
 push_adds (Worker a b) n v fs by s e = at (a == plan_pool n) e
   where
-    at : (z : Bool) → act_happens (if z then PushOwn (plan_job n) else PushInj (plan_pool n) (plan_job n)) fs ≡ Some (Adds by s) → (by ≡ caller_of fs) × (s ≡ plan_job n)
+    at : (z : Bool) → act_happens (if z then PushOwn (plan_job n) (plan_book n) else PushInj (plan_pool n) (plan_job n) (plan_book n)) fs ≡ Some (Adds by s) → (by ≡ caller_of fs) × (s ≡ plan_job n)
     at true d = (cc, cc)
     at false d = absurd (cc)
 push_adds (Caller c) n v fs by s e = absurd (cc)
@@ -123,6 +125,8 @@ refusable_calm : (x : Place) → is_refusable x ≡ true → (is_start x ≡ fal
 refusable_calm (GrowCall n) e = (refl, refl)
 refusable_calm (PushJob n v) e = (refl, refl)
 refusable_calm (AddToFifo f) e = (refl, refl)
+refusable_calm (GrowScope o) e = (refl, refl)
+refusable_calm (OpenSlot x) e = (refl, refl)
 refusable_calm (PushToken f v) e = (refl, refl)
 refusable_calm (PushForAll c) e = (refl, refl)
 refusable_calm _ e = absurd (cc)
@@ -145,6 +149,9 @@ and_left false b e = cc
 
 spawn_stands : (w : World) (p : ℕ) (r : Option ℕ) (q : Party) (n : ℕ) → StandsAt r (w.stack (Worker p 0)) → (same_party (Worker p 0) q ≡ true → StandsAt r (w.stack q)) → IfSome (step w (Spawn q n)) (Stood w p r)
 spawn_stands w p r q n s f = if_cond (Stood w p r) (is_free ((w.stack q).top) && is_pool w.shape n) _ (λ b. turned w p r q _ s (λ z. (tt, free_above r (w.stack q).top (w.stack q).below (and_left (is_free ((w.stack q).top)) (is_pool w.shape n) b) (f z))))
+
+into_stands : (w : World) (p : ℕ) (r : Option ℕ) (q : Party) (n : ℕ) → StandsAt r (w.stack (Worker p 0)) → (same_party (Worker p 0) q ≡ true → StandsAt r (w.stack q)) → IfSome (step w (IntoSpawn q n)) (Stood w p r)
+into_stands w p r q n s f = into_cases (Stood w p r) w q n (λ i e free held. if_cond (Stood w p r) (is_free ((w.stack q).top) && holds i.call (w.stack q)) _ (λ b. turned w p r q _ s (λ z. (tt, free_above r (w.stack q).top (w.stack q).below free (f z)))))
 
 -- an event of another party
 never : (b : Bool) → b ≡ false → b ≡ true → ⊥
@@ -180,7 +187,7 @@ run_same q x fs r z = elim (either (is_push x)) [
   | inr y ↦ ap (next_run r) (silent q x fs y z)
 ]
   where
-    by_act : (a : ℕ) (n : Plan) (b : Bool) → next_run r (act_happens (if b then PushOwn (plan_job n) else PushInj (plan_pool n) (plan_job n)) fs) ≡ r
+    by_act : (a : ℕ) (n : Plan) (b : Bool) → next_run r (act_happens (if b then PushOwn (plan_job n) (plan_book n) else PushInj (plan_pool n) (plan_job n) (plan_book n)) fs) ≡ r
     by_act a n true = refl
     by_act a n false = refl
 
@@ -228,6 +235,8 @@ step_stands w (Fifo q n) p r one calm s = fifo_stands w p r q n s calm
 step_stands w (Cast q n) p r one calm s = cast_stands w p r q n s calm
 step_stands w (Install q n) p r one calm s = if_cond (Stood w p r) (is_free ((w.stack q).top) && is_pool w.shape n) _ (λ b. sent_stands w p r q n (is_member q n) s calm)
 step_stands w (Join q) p r one calm s = join_stands w p r q s calm
+step_stands w (OpenScope q n) p r one calm s = if_cond (Stood w p r) (is_free ((w.stack q).top) && is_pool w.shape n) _ (λ b. turned w p r q _ s (λ z. absurd (never (same_party (Worker p 0) q) calm z)))
+step_stands w (IntoSpawn q n) p r one calm s = into_stands w p r q n s (λ z. subst (λ y. StandsAt r (w.stack y)) (same_party_true (Worker p 0) q z) s)
 step_stands w (Yield q) p r one calm s = (yield_stands w p r q s calm).0
 step_stands w (YieldLocal q) p r one calm s = (yield_stands w p r q s calm).1
 step_stands w (EndPool q n) p r one calm s = if_cond (Stood w p r) (is_free ((w.stack q).top) && (is_pool w.shape n && (w.pool n).held)) _ (λ b. turned w p r q _ s (λ z. absurd (never (same_party (Worker p 0) q) calm z)))

@@ -10,7 +10,7 @@ use Rattle.rayon_machine_places.specs.declared.place.Place.TheVariants.{BeginTas
 use Rattle.rayon_machine_places.specs.declared.act.Act.TheVariants.{PushOwn, PushInj, Begin, FifoOut}
 use Rattle.rayon_machine_places.specs.declared.event.Event.{Event}
 use Rattle.rayon_machine_places.specs.declared.event.Event.TheVariants.{Go}
-use Rattle.rayon_machine_places.specs.Places.{same_party, plan_pool, plan_job, act_of}
+use Rattle.rayon_machine_places.specs.Places.{same_party, plan_pool, plan_job, act_of, plan_book}
 use Rattle.rayon_machine_places.specs.World.{Shape, World, begun, target_pool, target_worker, target_call}
 use Rattle.rayon_machine_places.specs.Steps.{put, step}
 use Rattle.rayon_machine_laws.specs.Once.{times}
@@ -92,7 +92,7 @@ stocked_left h p w l r (inr (t, a, e)) = left_of h p w l r (inr (t, a, e))
 push_begins : (q : Party) (x : Place) (fs : List Place) (t : ℕ) → is_push x ≡ true → act_happens (act_of q x) fs ≡ Some (Begins t) → ⊥
 push_begins (Worker a b) (PushJob n v) fs t z e = at (a == plan_pool n) e
   where
-    at : (y : Bool) → act_happens (if y then PushOwn (plan_job n) else PushInj (plan_pool n) (plan_job n)) fs ≡ Some (Begins t) → ⊥
+    at : (y : Bool) → act_happens (if y then PushOwn (plan_job n) (plan_book n) else PushInj (plan_pool n) (plan_job n) (plan_book n)) fs ≡ Some (Begins t) → ⊥
     at true d = cc
     at false d = cc
 push_begins (Caller c) (PushJob n v) fs t z e = cc
@@ -140,7 +140,7 @@ redeems_not p w (Go q) t calm e = by (same_party (Worker p 0) q) calm e
   where
     act : (a : Act) (fs : List Place) → is_redeem a ≡ false → act_happens a fs ≡ Some (Redeems t) → ⊥
     act (FifoOut k i) fs c d = cc
-    act (PushOwn k) fs c d = cc
+    act (PushOwn k b) fs c d = cc
     act (Begin k) fs c d = cc
     act _ fs c d = cc
 

@@ -26,7 +26,7 @@ use Rattle.rayon_machine_places.specs.declared.state.Whereabouts.TheVariants.{In
 use Rattle.rayon_machine_places.specs.declared.shape.PoolShape.{PoolShape}
 use Rattle.rayon_machine_places.specs.declared.place.Settling.{Settling}
 use Rattle.rayon_machine_places.specs.Places.{own_pool, finish, act_of, next_of, is_refusable}
-use Rattle.rayon_machine_places.specs.World.{Shape, Stack, World, count_below, Counts, counts_at, is_even, jec, head_of, last_of, but_first, popped, Part, target_pool, target_worker, target_call, target_job, Outcome, at_job, lowered, effect}
+use Rattle.rayon_machine_places.specs.World.{Shape, Stack, World, count_below, Counts, counts_at, is_even, jec, head_of, last_of, but_first, popped, Part, target_pool, target_worker, target_call, target_job, Outcome, at_job, lowered, effect, count_in}
 use Rattle.rayon_machine_places.specs.Steps.{put, put_stack, put_seat, part_of, after_move, jobs_after, step}
 use Rattle.rayon_machine_places.specs.Runs.{start}
 use Rattle.rayon_machine_laws.specs.Once.{one, times, in_injector, is_with, held}
@@ -189,7 +189,7 @@ loads act h q k m = effect act h q k m
 
 abbrev stores_after : Settling → Latch → Move
 stores_after s Terminate = Stay (UnlockSettled s)
-stores_after s (OfCall n) = Stay (SetLockLatch n)
+stores_after s (OfCall n) = Stay (SetLockLatch n s.then)
 
 abbrev load_and_store : PoolShape → Party → Place → Seen → Move
 load_and_store h q (SetLatch s) No = stores_after s s.latch
@@ -281,9 +281,9 @@ refused_push_keeps_its_share = record { counted = refl; parties = refl; owner = 
 
 -- a Lower clears the record of its share, and leaves the number
 abbrev leaves_number : Act → Shape → Party → Counts → Part → Outcome
-leaves_number (Lower p s) h q n m =
-    let v : Part = lowered m s in
-    Some ((if m.pool.count == 1 then Yes else No), record v { pool = record (v.pool) { count = m.pool.count } })
+leaves_number (Lower k s) h q n m =
+    let v : Part = lowered m k s in
+    Some ((if count_in m k == 1 then Yes else No), record v { pool = record (v.pool) { count = m.pool.count }; call = record (v.call) { count = m.call.count } })
 leaves_number act h q n m = effect act h q n m
 
 -- the law of the count is broken: the number is one more than the shares, so this pool will never end
@@ -296,7 +296,7 @@ lower_lowers_nothing = record { number = refl; shares = refl }
 
 -- a push into an injector drops its job
 abbrev drops_job : Act → Shape → Party → Counts → Part → Outcome
-drops_job (PushInj p t) h q n m = Some (Done, record m { job = at_job (m.job) (Injected p) })
+drops_job (PushInj p t b) h q n m = Some (Done, record m { job = at_job (m.job) (Injected p) })
 drops_job act h q n m = effect act h q n m
 
 -- the law of places is broken: a job's record says that it is injected, and it does not stand there

@@ -1,4 +1,6 @@
 -- calls, each from the event that begins it to the world in which its party's stack is again what it was
+use Rattle.rayon_machine_places.specs.declared.place.Count.TheVariants.{OfPool, OfScope}
+use Rattle.rayon_machine_places.specs.declared.place.Count.{Count}
 use Rattle.std.specs.Prelude.{ℕ, Bool, true, false, ◌&&◌, ◌||◌, ◌+◌, ◌-◌, ◌==◌, ◌≤◌, ◌<◌, if◌then◌else◌, Option, Some, None, List, [], ◌∷◌, ◌++◌, ◌≡◌, ◌⊎◌, length}
 use Rattle.rayon_machine_places.specs.declared.place.Party.{Party}
 use Rattle.rayon_machine_places.specs.declared.place.Ending.{Ending}
@@ -61,9 +63,14 @@ IsRunUntil q s w (e ∷ es) u = (v : World) × (w.stack q ≡ s → ⊥) × (ste
 abbrev pub is_at_call : Stack → Stack → Bool
 is_at_call s k = length k.below == length s.below + 1
 
--- an act that is to raise a terminate count of 0 is refused
+-- a count of the world
+abbrev pub count_of : World → Count → ℕ
+count_of w (OfPool p) = (w.pool p).count
+count_of w (OfScope c o) = (w.call c).count
+
+-- an act that is to raise a count of 0 is refused
 abbrev pub is_raise_refused : World → Act → Bool
-is_raise_refused w (Raise p t) = (w.pool p).count == 0
+is_raise_refused w (Raise k t) = count_of w k == 0
 is_raise_refused w _ = false
 
 -- the event is a refusal of the call's own step
@@ -144,7 +151,7 @@ pub record CallGoes (q : Party) (e : Event) (w v u : World) (between : List Even
   pub made : v.jobs ≡ w.jobs + jobs_of e
   pub stands : StandsOn (w.stack q) (u.stack q) ⊎ (u.stack q ≡ w.stack q)
   pub takes : (c : ℕ) → is_at_call (w.stack q) (u.stack q) ≡ true → act_of q (u.stack q).top ≡ Take c → HoldsEnding u c (v.jobs - 1)
-  pub answers : is_awaited e ≡ true → (p : ℕ) (h : Share) → is_at_call (w.stack q) (u.stack q) ≡ true → act_of q (u.stack q).top ≡ Lower p h → is_any (is_refusal q (w.stack q)) (Some v) between ≡ false → IsPrecedent e u w.jobs (v.jobs - 1) (verdict_of (follows (u.stack q).top))
+  pub answers : is_awaited e ≡ true → (k : Count) (h : Share) → is_at_call (w.stack q) (u.stack q) ≡ true → act_of q (u.stack q).top ≡ Lower k h → is_any (is_refusal q (w.stack q)) (Some v) between ≡ false → IsPrecedent e u w.jobs (v.jobs - 1) (verdict_of (follows (u.stack q).top))
   pub pays : u.stack q ≡ w.stack q → is_awaited e ≡ true → (u.job (v.jobs - 1)).counted ≡ false
   pub ends : u.stack q ≡ w.stack q → is_any (is_refusal q (w.stack q)) (Some v) between ≡ false → (t : ℕ) → w.jobs ≤ t → t < v.jobs → LeavesJob e u t
   pub refused : u.stack q ≡ w.stack q → is_any (is_refusal q (w.stack q)) (Some v) between ≡ true → (t : ℕ) → w.jobs ≤ t → t < v.jobs → IsGivenBack u t

@@ -9,7 +9,7 @@ use Rattle.rayon_machine_places.specs.declared.place.Target.TheVariants.{Termina
 use Rattle.rayon_machine_places.specs.declared.act.Act.{Act}
 use Rattle.rayon_machine_places.specs.declared.act.Act.TheVariants.{Begin, PushOwn, FifoOut}
 use Rattle.rayon_machine_places.specs.declared.event.Event.{Event}
-use Rattle.rayon_machine_places.specs.declared.event.Event.TheVariants.{Go, Fifo, Install, Join, Yield, YieldLocal, EndPool, Cast}
+use Rattle.rayon_machine_places.specs.declared.event.Event.TheVariants.{Go, Fifo, Install, Join, Yield, YieldLocal, EndPool, Cast, Scope as OpenScope}
 use Rattle.rayon_machine_places.specs.Places.{act_of, fresh, same_party}
 use Rattle.rayon_machine_places.specs.World.{Shape, World}
 use Rattle.rayon_machine_places.specs.Steps.{step}
@@ -31,7 +31,7 @@ caller_of _ = None
 
 -- what an act above these frames is
 abbrev pub act_happens : Act → List Place → Option Happening
-act_happens (PushOwn t) fs = Some (Adds (caller_of fs) t)
+act_happens (PushOwn t b) fs = Some (Adds (caller_of fs) t)
 act_happens (Begin t) fs = Some (Begins t)
 act_happens (FifoOut k i) fs = Some (Redeems k)
 act_happens _ fs = None
@@ -181,6 +181,7 @@ is_other p w (Fifo q r) = same_party (Worker p 0) q
 is_other p w (Cast q r) = same_party (Worker p 0) q
 is_other p w (Install q r) = same_party (Worker p 0) q
 is_other p w (Join q) = same_party (Worker p 0) q
+is_other p w (OpenScope q r) = same_party (Worker p 0) q
 is_other p w (Yield q) = same_party (Worker p 0) q
 is_other p w (YieldLocal q) = same_party (Worker p 0) q
 is_other p w (EndPool q r) = same_party (Worker p 0) q

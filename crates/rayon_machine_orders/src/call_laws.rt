@@ -8,13 +8,14 @@ ghost use Rattle.rayon_machine_orders.specs.Calls.{CallLaw};
 ghost use Rattle.rayon_machine_orders.specs.Casts.{CastLaw};
 
 /// In every world of every run a pool's terminate count is the number of the shares in it: one for the pool's value
-/// until its Lower, and one for each job at the pool that has a share. Each of them is kept exactly once, and no other
-/// is kept. The value's share is kept by the held value, or by the one Lower that gives it back. A job's share is kept
-/// by the one call that waits for it, from its Raise to its Lower; where no call waits for the job, by its call before
-/// it is queued or stands in a FIFO list or in a broadcast list, and again once the call has taken it back from there;
-/// then by the job itself while it is queued, in one of these lists, in a hand or running, and last by the Lower that
-/// follows its run, or the one act by which a refused broadcast gives back the shares of all its pieces. A token has no
-/// share. So no share is lost, and none stays in the count that nobody keeps.
+/// until its Lower, and one for each job at the pool that has a share, but the jobs of scopes, whose shares are in
+/// their scope's count. Each share is kept exactly once, and no other is kept. The value's share is kept by the held
+/// value, or by the one Lower that gives it back. A job's share is kept by the one call that waits for it, from its
+/// Raise to its Lower; where no call waits for the job, or it is of a scope, by its call before it is queued or stands
+/// in a FIFO list or in a broadcast list, and again once the call has taken it back from there; then by the job itself
+/// while it is queued, in one of these lists, in a hand or running, and last by the Lower that follows its run, or the
+/// one act by which a refused broadcast gives back the shares of all its pieces. A token has no share. So no share is
+/// lost, and none stays in the count that nobody keeps.
 /// It does not say that a share is ever given back.
 pub fn law_count()
     ensures { Always IsCounted }

@@ -4,7 +4,7 @@ use Rattle.std.specs.Prelude.{Option, Some, None, if◌then◌else◌, ◌==◌}
 use Rattle.std.proofs.lemmas.Bool.{eqb-true}
 use Rattle.rayon_machine_places.specs.declared.place.Party.{Party}
 use Rattle.rayon_machine_places.specs.declared.act.Act.{Act}
-use Rattle.rayon_machine_places.specs.declared.act.Act.TheVariants.{PopOwn, TakeCast, Pick, Steal, PopInj, Load, TryAdd, LookCast, LookInj, LookOwn, SubInactive, Begin, PushInj, PushOwn, PushCast, FifoUndo, News, Lower, Raise, LowerAll, RaiseAll, Idle}
+use Rattle.rayon_machine_places.specs.declared.act.Act.TheVariants.{PopOwn, TakeCast, Pick, Steal, PopInj, Load, TryAdd, LookCast, LookInj, LookOwn, SubInactive, Begin, PushInj, PushOwn, PushCast, FifoUndo, News, Lower, Raise, LowerAll, RaiseAll, Slot, SlotUndo, StoreBody as PutBody, StoreSlot as PutSlot, Idle}
 use Rattle.rayon_machine_places.specs.declared.act.Seen.{Seen}
 use Rattle.rayon_machine_places.specs.declared.act.Seen.TheVariants.{Missing, Task}
 use Rattle.rayon_machine_places.specs.declared.place.Taken.TheVariants.{Plain}
@@ -17,7 +17,7 @@ use Rattle.rayon_machine_parts.specs.declared.spot.Spot.{Spot}
 use Rattle.rayon_machine_parts.specs.declared.deed.Deed.{Deed}
 use Rattle.rayon_machine_places.specs.Places.{own_pool, own_index}
 use Rattle.rayon_machine_places.specs.World.{Shape, Pool, Seat, Counts, Outcome, Part, but_first, effect, empty_seen, head_of, last_of, own_left, own_of, at_job, is_open, popped, take_cast, taken_as, target_call, target_job, target_pool, target_worker, aimed_job}
-use Rattle.rayon_machine_parts.specs.State.{Acts, Can, Does, DoesNot, IsDeed, IsNoDeed, counts_in, full, part_at_spot, pool_at, seat_at, spot_of, touched_at, after_handle, is_census, is_queueing, is_sharing, look_sees, end_task, part_queued, after_take, with_job}
+use Rattle.rayon_machine_parts.specs.State.{Acts, Can, Does, DoesNot, IsDeed, IsNoDeed, counts_in, full, part_at_spot, pool_at, seat_at, spot_of, touched_at, after_handle, is_booking, is_census, is_queueing, is_sharing, look_sees, end_task, part_queued, after_take, with_job}
 
 last-there : (y : ℕ) (ys : List ℕ) → last_of (y ∷ ys) ≡ None → ⊥
 last-there y [] e = cc
@@ -64,8 +64,8 @@ handles o PopInj q c t h own fifo (x ∷ xs) casts k e = refl
 handles o LookCast q c t h own fifo injector casts k e = ap (λ s. Some (s, full t own fifo injector casts)) (look (casts (own_index q)))
 handles o (LookInj p) q c t h own fifo injector casts k e = ap (λ s. Some (s, full t own fifo injector casts)) (look injector)
 handles o LookOwn q c t h own fifo injector casts k e = ap (λ s. Some (s, full t own fifo injector casts)) (look own)
-handles o (PushInj p n) q c t h own fifo injector casts k e = refl
-handles o (PushOwn n) q c t h own fifo injector casts k e = refl
+handles o (PushInj p n b) q c t h own fifo injector casts k e = refl
+handles o (PushOwn n b) q c t h own fifo injector casts k e = refl
 handles o (PushCast b) q c t h own fifo injector casts k e = refl
 handles o _ q c t h own fifo injector casts k e = cc
 
@@ -90,6 +90,14 @@ sharing-acts o (RaiseAll b9) q c b found t seen u k d = λ h own fifo injector c
 sharing-acts o Pick q c b found t seen u k d = λ h own fifo injector casts eb eo ef. d h own fifo injector casts eb
 sharing-acts o Idle q c b found t seen u k d = λ h own fifo injector casts eb eo ef. d h own fifo injector casts eb
 sharing-acts o _ q c b found t seen u k d = cc
+
+-- an act on a book leaves the queues
+pub booking-acts : (o : Order) (a : Act) (q : Party) (c : Counts) (b : ℕ) (found : Option ℕ) (t : Touched) (seen : Seen) (u : Touched) → is_booking a ≡ true → Does a q c b t seen u → Acts o a q c b found t seen u
+booking-acts o (Slot n k) q c b found t seen u z d = λ h own fifo injector casts eb eo ef. d h own fifo injector casts eb
+booking-acts o (SlotUndo n k) q c b found t seen u z d = λ h own fifo injector casts eb eo ef. d h own fifo injector casts eb
+booking-acts o (PutBody n e) q c b found t seen u z d = λ h own fifo injector casts eb eo ef. d h own fifo injector casts eb
+booking-acts o (PutSlot n k e) q c b found t seen u z d = λ h own fifo injector casts eb eo ef. d h own fifo injector casts eb
+booking-acts o _ q c b found t seen u z d = cc
 
 -- an act that does not look at the counts does the same whatever they are
 pub counts-free : (a : Act) (h : Shape) (q : Party) (c k : Counts) (m : Part) → is_census a ≡ false → effect a h q c m ≡ effect a h q k m

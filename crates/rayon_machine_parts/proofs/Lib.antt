@@ -3,3 +3,4 @@ pub mod Stored
 pub mod Ends
 pub mod Deeds
 pub mod Dealt
+pub mod Holding

@@ -2,7 +2,7 @@
 use Rattle.std.specs.Prelude.{ℕ, Bool, true, false, ◌+◌, ◌≤◌, ◌<◌, ◌==◌, if◌then◌else◌, Option, Some, None, List, [], ◌∷◌, ◌++◌, ◌≡◌, slice_get, reverse, length, IsSomeAnd, vec_len, vec_capacity}
 use Rattle.rayon_machine_places.specs.declared.place.Party.{Party}
 use Rattle.rayon_machine_places.specs.declared.act.Act.{Act}
-use Rattle.rayon_machine_places.specs.declared.act.Act.TheVariants.{Probe, PopOwn, TakeCast, AddInactive, Pick, Steal, PopInj, Announce, Sleepy, Lock, Asleep, Load, TryAdd, LookCast, LookInj, LookOwn, Block, SubSleeping, Wakeup, Unlock, SubInactive, Wake, Begin, PushInj, PushOwn, FifoIn, FifoUndo, FifoOut, PushCast, RaiseAll, LowerAll, News, Set, LockSet, LockWait, Lower, Raise, Grow, Store, Take, Idle}
+use Rattle.rayon_machine_places.specs.declared.act.Act.TheVariants.{Probe, PopOwn, TakeCast, AddInactive, Pick, Steal, PopInj, Announce, Sleepy, Lock, Asleep, Load, TryAdd, LookCast, LookInj, LookOwn, Block, SubSleeping, Wakeup, Unlock, SubInactive, Wake, Begin, PushInj, PushOwn, FifoIn, FifoUndo, FifoOut, PushCast, RaiseAll, LowerAll, News, Set, LockSet, LockWait, Lower, Raise, Grow, Store, Take, Slot, SlotUndo, StoreBody as PutBody, StoreSlot as PutSlot, Idle}
 use Rattle.rayon_machine_places.specs.declared.act.Seen.{Seen}
 use Rattle.rayon_machine_places.specs.declared.act.Seen.TheVariants.{Done, Yes, No, Task, Missing}
 use Rattle.rayon_machine_parts.specs.declared.numbers.Touched.{Touched}
@@ -12,12 +12,12 @@ use Rattle.rayon_machine_parts.specs.declared.numbers.WorkerFlags.{WorkerFlags}
 use Rattle.rayon_machine_parts.specs.declared.kind.Kind.{Kind}
 use Rattle.rayon_machine_parts.specs.declared.spot.Spot.{Spot}
 use Rattle.rayon_machine_parts.specs.declared.deed.Deed.{Deed}
-use Rattle.rayon_machine_parts.specs.declared.kind.Kind.TheVariants.{Queueing, Feeding, Counting, Latching, Locking, Sharing}
+use Rattle.rayon_machine_parts.specs.declared.kind.Kind.TheVariants.{Queueing, Feeding, Booking, Counting, Latching, Locking, Sharing}
 use Rattle.rayon_machine_places.specs.declared.place.Party.TheVariants.{Worker, Caller}
 use Rattle.rayon_machine_places.specs.declared.place.Move.{Move}
 use Rattle.rayon_machine_places.specs.declared.place.Pieces.{Pieces}
 use Rattle.rayon_machine_places.specs.declared.place.Plan.{Plan}
-use Rattle.rayon_machine_places.specs.declared.place.Plan.TheVariants.{Detach, Here, Send, Fork, Feed}
+use Rattle.rayon_machine_places.specs.declared.place.Plan.TheVariants.{Detach, Here, Send, Fork, Feed, Open, Enter}
 use Rattle.rayon_machine_places.specs.declared.place.Move.TheVariants.{StartRun, HandBack, HandIn, Discard, Mark, HandAllBack}
 use Rattle.rayon_machine_places.specs.declared.shape.Order.{Order}
 use Rattle.rayon_machine_places.specs.declared.shape.Order.TheVariants.{NewestFirst}
@@ -40,7 +40,7 @@ use Rattle.rayon_machine_places.specs.Runs.{first_place}
 use Rattle.rayon_machine_places.specs.Steps.{blank_job, new_call}
 use Rattle.std.specs.Option.{option_map_or}
 use Rattle.std.specs.VecDeque.{deque_capacity, deque_len}
-use Rattle.rayon_machine_places.specs.World.{Shape, Seat, Pool, Stack, Counts, Part, at_job, head_of, last_of, own_of, own_left, but_first, but_last, casts_with, count_below, taken_as, left_by, target_pool, target_worker, target_call, target_job, effect}
+use Rattle.rayon_machine_places.specs.World.{Shape, Seat, Pool, Stack, Counts, Part, at_job, head_of, last_of, own_of, own_left, but_first, but_last, casts_with, count_below, taken_as, left_book, left_by, target_pool, target_worker, target_call, target_job, effect}
 
 -- the numbers of a census
 abbrev pub census_counts : Census → Counts
@@ -100,11 +100,11 @@ is_locking (Unlock p i) = true
 is_locking (Wake p i) = true
 is_locking _ = false
 
--- an act on shares of a terminate count, the begin of a run, the choice of a victim, or none
+-- an act on shares of a count, the begin of a run, the choice of a victim, or none
 abbrev pub is_sharing : Act → Bool
 is_sharing (Begin t) = true
-is_sharing (Lower p s) = true
-is_sharing (Raise p t) = true
+is_sharing (Lower k s) = true
+is_sharing (Raise k t) = true
 is_sharing (LowerAll b) = true
 is_sharing (RaiseAll b) = true
 is_sharing Pick = true
@@ -120,8 +120,8 @@ is_queueing PopInj = true
 is_queueing LookCast = true
 is_queueing (LookInj p) = true
 is_queueing LookOwn = true
-is_queueing (PushInj p t) = true
-is_queueing (PushOwn t) = true
+is_queueing (PushInj p t b) = true
+is_queueing (PushOwn t b) = true
 is_queueing (PushCast b) = true
 is_queueing _ = false
 
@@ -131,6 +131,14 @@ is_feeding (FifoIn t) = true
 is_feeding FifoUndo = true
 is_feeding (FifoOut k i) = true
 is_feeding _ = false
+
+-- an act on the book of a scope
+abbrev pub is_booking : Act → Bool
+is_booking (Slot c t) = true
+is_booking (SlotUndo c t) = true
+is_booking (PutBody c e) = true
+is_booking (PutSlot c t e) = true
+is_booking _ = false
 
 -- the task at the end of the queue that an act takes from or looks at
 abbrev pub end_task : Order → Act → Party → List ℕ → List ℕ → List ℕ → (ℕ → List ℕ) → Option ℕ
@@ -149,7 +157,7 @@ end_task o _ q own fifo injector casts = None
 abbrev pub pool_queued : Act → ℕ → Pool → Pool
 pool_queued PopInj k v = record v { injector = but_first v.injector }
 pool_queued TakeCast k v = record v { casts = λ i. if i == k then but_first (v.casts k) else v.casts i }
-pool_queued (PushInj p t) k v = record v { injector = v.injector ++ t ∷ [] }
+pool_queued (PushInj p t b) k v = record v { injector = v.injector ++ t ∷ [] }
 pool_queued (PushCast b) k v = record v { casts = casts_with b v.casts }
 pool_queued _ k v = v
 
@@ -157,7 +165,7 @@ pool_queued _ k v = v
 abbrev pub seat_queued : Act → Order → Seat → Seat
 seat_queued PopOwn o s = record s { own = own_left o s.own }
 seat_queued (Steal p i) o s = record s { own = but_first s.own }
-seat_queued (PushOwn t) o s = record s { own = s.own ++ t ∷ [] }
+seat_queued (PushOwn t b) o s = record s { own = s.own ++ t ∷ [] }
 seat_queued (FifoIn t) o s = record s { fifo = s.fifo ++ t ∷ [] }
 seat_queued FifoUndo o s = record s { fifo = but_last s.fifo }
 seat_queued (FifoOut k i) o s = record s { fifo = but_first s.fifo }
@@ -185,6 +193,10 @@ look_sees (Some t) = No
 abbrev pub with_left : Party → Touched → Touched
 with_left q t = record t { worker = record (t.worker) { feeder = left_by q t.worker.feeder } }
 
+-- the numbers with the book of this scope left by this party
+abbrev pub with_left_book : Party → Option ℕ → Touched → Touched
+with_left_book q b t = record t { call = record (t.call) { writer = left_book q b t.call.writer } }
+
 -- what an act on a queue sees, and the numbers after it, where this task stands at the queue's end
 abbrev pub after_handle : Act → Party → Touched → Option ℕ → Seen × Touched
 after_handle PopOwn q t found = after_take q t found
@@ -194,8 +206,8 @@ after_handle PopInj q t found = after_take q t found
 after_handle LookCast q t found = (look_sees found, t)
 after_handle (LookInj p) q t found = (look_sees found, t)
 after_handle LookOwn q t found = (look_sees found, t)
-after_handle (PushInj p n) q t found = (Done, with_job t (at_job (t.job) (Injected p)))
-after_handle (PushOwn n) q t found = (Done, with_job (with_left q t) (at_job (t.job) (InDeque (own_pool q) (own_index q))))
+after_handle (PushInj p n b) q t found = (Done, with_job (with_left_book q b t) (at_job (t.job) (Injected p)))
+after_handle (PushOwn n b) q t found = (Done, with_job (with_left_book q b (with_left q t)) (at_job (t.job) (InDeque (own_pool q) (own_index q))))
 after_handle _ q t found = (Done, t)
 
 -- the act sees this and leaves these numbers and queues, where this task stands at the end of the queue that it looks
@@ -301,6 +313,7 @@ HasRoom w (Caller c) = RoomAt w.callers.items c
 abbrev pub kind_holds : Kind → Act → Type 0
 kind_holds Queueing a = is_queueing a ≡ true
 kind_holds Feeding a = is_feeding a ≡ true
+kind_holds Booking a = is_booking a ≡ true
 kind_holds Counting a = is_counting a ≡ true
 kind_holds Latching a = is_latching a ≡ true
 kind_holds Locking a = is_locking a ≡ true
@@ -316,12 +329,12 @@ with_flags s f = record s { feeder = f.feeder; inactive = f.inactive; asleep = f
 
 -- a task that is injected, or pushed on a deque, finds room
 abbrev pub InjectorFits : Act → ℕ → ℕ → Type 0
-InjectorFits (PushInj p t) len capacity = len < capacity
+InjectorFits (PushInj p t b) len capacity = len < capacity
 InjectorFits _ len capacity = Unit {0}
 
 -- a task that is pushed on a deque finds room
 abbrev pub DequeFits : Act → ℕ → ℕ → Type 0
-DequeFits (PushOwn t) len capacity = len < capacity
+DequeFits (PushOwn t b) len capacity = len < capacity
 DequeFits _ len capacity = Unit {0}
 
 -- a job that is added to a FIFO list finds room
@@ -416,6 +429,8 @@ PlanWithin (Here p t) n = t < n
 PlanWithin (Send o) n = o.job < n
 PlanWithin (Fork o a) n = (a < n) × (o.job < n)
 PlanWithin (Feed f) n = (f.job < n) × (f.token < n)
+PlanWithin (Open o) n = o.job < n
+PlanWithin (Enter e) n = e.job < n
 
 -- the jobs that a move begins or hands back, the tokens that it spends, and the pieces of a broadcast of which it makes
 -- something, have numbers below this

@@ -32,6 +32,8 @@ fn last_of_call(plan: Plan) -> u64
         Plan::Send(call) => call.job,
         Plan::Fork { call, first } => larger(call.job, first),
         Plan::Feed(feeding) => larger(feeding.job, feeding.token),
+        Plan::Open(call) => call.job,
+        Plan::Enter(entry) => entry.job,
     }
 }
 
@@ -83,6 +85,8 @@ fn hand_back(jobs: &mut Vec<Job>, plan: Plan)
         Plan::Send(call) => move_job(jobs, call.job, Whereabouts::HandedBack),
         Plan::Fork { call, first } => hand_both(jobs, first, call.job),
         Plan::Feed(feeding) => hand_both(jobs, feeding.job, feeding.token),
+        Plan::Open(call) => move_job(jobs, call.job, Whereabouts::HandedBack),
+        Plan::Enter(entry) => move_job(jobs, entry.job, Whereabouts::HandedBack),
     }
 }
 

@@ -58,6 +58,7 @@ impl Touched {
         match Kind::of(act) {
             Kind::Queueing => Ok(self.handle(act, party, found)),
             Kind::Feeding => self.feeds(act, party, found),
+            Kind::Booking => self.books(act, party),
             Kind::Counting => self.counters(act, census, jec_bits),
             Kind::Latching => self.latches(act),
             Kind::Locking => self.locks(act, party),

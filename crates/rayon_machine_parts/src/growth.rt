@@ -297,7 +297,7 @@ impl Seat {
         ensures fifo { OnOk result (FifoFits act (deque_len self.new.fifo) (deque_capacity self.new.fifo)) }
     {
         match act {
-            Act::PushOwn(_) => self.own.try_reserve(1),
+            Act::PushOwn { .. } => self.own.try_reserve(1),
             Act::FifoIn(_) => self.fifo.try_reserve(1),
             _ => Ok(()),
         }

@@ -10,13 +10,15 @@ pub(crate) enum Kind {
     Queueing,
     /// A FIFO list.
     Feeding,
+    /// The book of a scope.
+    Booking,
     /// The counters of inactive and sleeping workers, or the turn.
     Counting,
     /// A latch or a cell.
     Latching,
     /// A sleep lock.
     Locking,
-    /// Shares of a terminate count, the run of a job, or nothing.
+    /// Shares of a count, the run of a job, or nothing.
     Sharing,
 }
 
@@ -34,9 +36,11 @@ impl Kind {
             | Act::LookInj(_)
             | Act::LookOwn
             | Act::PushInj { .. }
-            | Act::PushOwn(_)
+            | Act::PushOwn { .. }
             | Act::PushCast(_) => Kind::Queueing,
             Act::FifoIn(_) | Act::FifoUndo | Act::FifoOut { .. } => Kind::Feeding,
+            Act::Slot { .. } | Act::SlotUndo { .. } => Kind::Booking,
+            Act::StoreBody { .. } | Act::StoreSlot { .. } => Kind::Booking,
             Act::AddInactive
             | Act::Announce
             | Act::Load

@@ -6,6 +6,7 @@
 //! public for the crate `rayon_machine_world` alone.
 #![tactic(auto)]
 
+mod books;
 pub mod commit;
 pub mod deed;
 pub mod growth;

@@ -2,14 +2,14 @@
 //! one call and one job.
 ghost use Rattle.std.specs.Prelude.{◌≡◌, ℕ, true, IfErr, IfOk, min, List, ◌%◌, ◌^◌};
 ghost use Rattle.rayon_machine_places.specs.declared.place.Party.{Party as AnyParty};
-ghost use Rattle.rayon_machine_places.specs.World.{at_job, is_set as set_seen, letter as letter_of, wakes_for_one as wakes_of, with_letter as with_letter_of, Counts};
+ghost use Rattle.rayon_machine_places.specs.World.{at_job, count_in, is_set as set_seen, body_stays as body_stays_of, call_less as call_less_of, job_stays as job_stays_of, lowered as lowered_of, pool_less as pool_less_of, value_stays as value_stays_of, letter as letter_of, wakes_for_one as wakes_of, with_letter as with_letter_of, Counts};
 ghost use Rattle.rayon_machine_parts.specs.State.{Can, Does, DoesNot, census_counts, full, is_counting, is_latching, is_locking, is_sharing};
 ghost use Rattle.rayon_machine_places.specs.declared.act.Seen.TheVariants.{Word};
 ghost use Rattle.rayon_machine_places.specs.declared.act.Act.TheVariants.{Announce, Asleep, Begin, Lock, Lower, LowerAll, News, Raise, RaiseAll, Set, Sleepy, Take, TryAdd, Unlock, Wake, Wakeup};
 
 use rayon_machine_places::act::{Act, Seen};
 use rayon_machine_places::error::StepError;
-use rayon_machine_places::place::{Latch, Party, Pieces, Share};
+use rayon_machine_places::place::{Count, Latch, Party, Pieces, Share};
 use rayon_machine_places::state::{Call, Job, Letter, Whereabouts};
 
 /// The numbers of a pool.
@@ -166,6 +166,56 @@ impl Touched {
     }
 }
 
+/// The number of a pool's count once a share of this count is less.
+fn pool_less(count: Count, number: u64) -> u64
+    ensures { result ≡ pool_less_of count number }
+{
+    match count {
+        Count::OfPool(_) => number.saturating_sub(1),
+        Count::OfScope { .. } => number,
+    }
+}
+
+/// The number of a call's count once a share of this count is less.
+fn call_less(count: Count, number: u64) -> u64
+    ensures { result ≡ call_less_of count number }
+{
+    match count {
+        Count::OfPool(_) => number,
+        Count::OfScope { .. } => number.saturating_sub(1),
+    }
+}
+
+/// Whether the share of a pool's value is in its count once this one is not.
+fn value_stays(share: Share, counted: bool) -> bool
+    ensures { result ≡ value_stays_of share counted }
+{
+    match share {
+        Share::PoolValue => false,
+        _ => counted,
+    }
+}
+
+/// Whether the share of a scope's body is in its count once this one is not.
+fn body_stays(share: Share, counted: bool) -> bool
+    ensures { result ≡ body_stays_of share counted }
+{
+    match share {
+        Share::Body => false,
+        _ => counted,
+    }
+}
+
+/// Whether the share of a job is in its count once this one is not.
+fn job_stays(share: Share, counted: bool) -> bool
+    ensures { result ≡ job_stays_of share counted }
+{
+    match share {
+        Share::OfJob(_) => false,
+        _ => counted,
+    }
+}
+
 /// What an act saw, and the numbers after it.
 pub(crate) type Outcome = Result<(Seen, Touched), StepError>;
 
@@ -316,7 +366,7 @@ impl Touched {
     }
 
     /// The same with another call.
-    fn with_call(self, call: Call) -> Touched
+    pub(crate) fn with_call(self, call: Call) -> Touched
         ensures { result ≡ record self { call = call } }
     {
         Touched { call, ..self }
@@ -458,57 +508,87 @@ impl Touched {
         }
     }
 
-    /// Gives a share of a terminate count back, and sees whether it was the last.
-    fn lower(self, share: Share) -> (Seen, Touched)
-        ensures { (q : AnyParty) (c : Counts) (jec_bits pool : ℕ) → Does (Lower pool share) q c jec_bits self (result.0) (result.1) }
+    /// The number of a count.
+    fn count(self, count: Count) -> u64
+        ensures { (own fifo injector : List ℕ) (casts : ℕ → List ℕ) → count_in (full self own fifo injector casts) count ≡ result }
     {
-        let seen = if self.pool.count == 1 {
-            Seen::Yes
-        } else {
-            Seen::No
-        };
-        let count = self.pool.count.saturating_sub(1);
-        match share {
-            Share::PoolValue => {
-                let pool = PoolNumbers {
-                    count,
-                    counted: false,
-                    ..self.pool
-                };
-                (seen, Touched { pool, ..self })
-            }
-            Share::OfJob(_) => {
-                let pool = PoolNumbers { count, ..self.pool };
-                let job = Job {
-                    counted: false,
-                    ..self.job
-                };
-                (seen, Touched { pool, job, ..self })
-            }
+        match count {
+            Count::OfPool(_) => self.pool.count,
+            Count::OfScope { .. } => self.call.count,
         }
     }
 
-    /// Takes a share of a terminate count for a job, unless the pool has ended.
-    fn raise(self) -> Outcome
-        ensures ok { IfOk result (λ r. (q : AnyParty) (c : Counts) (jec_bits pool job : ℕ) → Does (Raise pool job) q c jec_bits self (r.0) (r.1)) }
-        ensures no_room { IfErr result (λ e. e ≡ StepError.NoRoom) }
-        ensures enabled { IfErr result (λ e. (q : AnyParty) (c : Counts) (pool job : ℕ) → Can (Raise pool job) q c self) }
+    /// Gives a share of a count back, and sees whether it was the last.
+    fn lower(self, count: Count, share: Share) -> (Seen, Touched)
+        ensures { (q : AnyParty) (c : Counts) (jec_bits : ℕ) → Does (Lower count share) q c jec_bits self (result.0) (result.1) }
     {
-        if self.pool.count == 0 {
-            return Ok((Seen::Refused, self));
+        let after = self.lowered(count, share);
+        if self.count(count) == 1 {
+            (Seen::Yes, after)
+        } else {
+            (Seen::No, after)
         }
-        if self.pool.count == u64::MAX {
-            return Err(StepError::NoRoom);
-        }
+    }
+
+    /// The same with a share less in a count.
+    fn lowered(self, count: Count, share: Share) -> Touched
+        ensures { (own fifo injector : List ℕ) (casts : ℕ → List ℕ) → lowered_of (full self own fifo injector casts) count share ≡ full result own fifo injector casts }
+    {
         let pool = PoolNumbers {
-            count: self.pool.count + 1,
+            count: pool_less(count, self.pool.count),
+            counted: value_stays(share, self.pool.counted),
             ..self.pool
         };
+        let call = Call {
+            count: call_less(count, self.call.count),
+            counted: body_stays(share, self.call.counted),
+            ..self.call
+        };
+        let job = Job {
+            counted: job_stays(share, self.job.counted),
+            ..self.job
+        };
+        Touched {
+            pool,
+            call,
+            job,
+            ..self
+        }
+    }
+
+    /// Takes a share of a count for a job, unless the count is 0.
+    fn raise(self, count: Count) -> Outcome
+        ensures ok { IfOk result (λ r. (q : AnyParty) (c : Counts) (jec_bits job : ℕ) → Does (Raise count job) q c jec_bits self (r.0) (r.1)) }
+        ensures no_room { IfErr result (λ e. e ≡ StepError.NoRoom) }
+        ensures enabled { IfErr result (λ e. (q : AnyParty) (c : Counts) (job : ℕ) → Can (Raise count job) q c self) }
+    {
+        let number = self.count(count);
+        if number == 0 {
+            return Ok((Seen::Refused, self));
+        }
+        if number == u64::MAX {
+            return Err(StepError::NoRoom);
+        }
         let job = Job {
             counted: true,
             ..self.job
         };
-        Ok((Seen::Done, Touched { pool, job, ..self }))
+        match count {
+            Count::OfPool(_) => {
+                let pool = PoolNumbers {
+                    count: number + 1,
+                    ..self.pool
+                };
+                Ok((Seen::Done, Touched { pool, job, ..self }))
+            }
+            Count::OfScope { .. } => {
+                let call = Call {
+                    count: number + 1,
+                    ..self.call
+                };
+                Ok((Seen::Done, Touched { call, job, ..self }))
+            }
+        }
     }
 
     /// Gives the shares of the pieces of a broadcast back, and sees whether they were the last.
@@ -561,7 +641,7 @@ impl Touched {
         Ok((Seen::Begun(self.job.kind), Touched { job, ..self }))
     }
 
-    /// The acts on shares of a terminate count, the begin of a run, and the choice of a victim.
+    /// The acts on shares of a count, the begin of a run, and the choice of a victim.
     pub(crate) fn shares(self, act: Act, party: Party) -> Outcome
         ensures ok { IfOk result (λ r. is_sharing act ≡ true → (c : Counts) (jec_bits : ℕ) → Does act party c jec_bits self (r.0) (r.1)) }
         ensures not_enabled { IfErr result (λ e. is_sharing act ≡ true → e ≡ StepError.NotEnabled → (c : Counts) → DoesNot act party c self) }
@@ -569,8 +649,8 @@ impl Touched {
     {
         match act {
             Act::Begin(_) => self.begin(party),
-            Act::Lower { share, .. } => Ok(self.lower(share)),
-            Act::Raise { .. } => self.raise(),
+            Act::Lower { count, share } => Ok(self.lower(count, share)),
+            Act::Raise { count, .. } => self.raise(count),
             Act::LowerAll(pieces) => Ok(self.lower_all(pieces)),
             Act::RaiseAll(pieces) => self.raise_all(pieces),
             Act::Pick => Ok((Seen::Start(0), self)),

@@ -1,13 +1,15 @@
 //! The parties' stacks: where each party stands, and its moves.
 ghost use Rattle.std.specs.Prelude.{◌≡◌, ℕ, OnOk, if◌then◌else◌, ◌==◌, ◌<◌, vec_len, reverse, vec_capacity, ◌∷◌};
+ghost use Rattle.std.specs.List.{list_any};
 ghost use Rattle.rayon_machine_places.specs.declared.place.Party.{Party as AnyParty};
-ghost use Rattle.rayon_machine_places.specs.Steps.{after_move, put_stack, after_resume, back as back_to, after_close};
+ghost use Rattle.rayon_machine_places.specs.Steps.{after_move, put_stack, after_resume, back as back_to, after_close, holds};
+ghost use Rattle.rayon_machine_places.specs.Places.{holds_scope};
 ghost use Rattle.rayon_machine_parts.specs.State.{stack_in, shape_of, HasRoom, RoomAt, stack_of, stack_or};
 ghost use Rattle.rayon_machine_places.specs.World.{Shape, Stack as AnyStack};
 
 use crate::growth::{grow_callers, grow_crews, grow_stacks};
 use crate::shapes::Shapes;
-use rayon_machine_places::place::{Ending, JobKind, Move, Party, Place, Share, Then};
+use rayon_machine_places::place::{Count, Ending, JobKind, Move, Party, Place, Share, Then};
 use std::alloc::{AllocError, Global};
 
 /// Where a party stands, and the frames that it goes back to, the one that it entered last at the
@@ -55,6 +57,25 @@ impl Parties {
             Party::Caller(number) => match self.callers.get(number) {
                 Some(stack) => stack.top,
                 None => shapes.first_place(party),
+            },
+        }
+    }
+
+    /// Whether a party's stack holds the body of the scope of this call, or a job of the scope.
+    pub fn holds(&self, shapes: &Shapes, party: Party, call: u64) -> bool
+        ensures { result ≡ holds call (stack_in (shape_of shapes.now) self.now party) }
+    {
+        match party {
+            Party::Worker { pool, index } => match self.crews.get(pool) {
+                Some(crew) => match crew.stacks.get(index) {
+                    Some(stack) => stack.holds(call),
+                    None => shapes.first_place(party).holds_scope(call),
+                },
+                None => shapes.first_place(party).holds_scope(call),
+            },
+            Party::Caller(number) => match self.callers.get(number) {
+                Some(stack) => stack.holds(call),
+                None => shapes.first_place(party).holds_scope(call),
             },
         }
     }
@@ -120,7 +141,7 @@ impl Parties {
             JobKind::Detached(pool) => self.turn(
                 party,
                 Move::Stay(Place::LowerCount {
-                    pool,
+                    count: Count::OfPool(pool),
                     share: Share::OfJob(job),
                     then: Then::Resume,
                 }),
@@ -133,12 +154,37 @@ impl Parties {
                     ending,
                 }),
             ),
-            JobKind::Direct | JobKind::TokenOf(_) => self.resume(party, ending),
+            JobKind::Scoped { call, owner } => self.turn(
+                party,
+                Move::Stay(Place::StoreSlot {
+                    call,
+                    owner,
+                    job,
+                    ending,
+                }),
+            ),
+            JobKind::Direct | JobKind::BodyOf { .. } | JobKind::TokenOf(_) => self.resume(
+                party, ending,
+            ),
         }
     }
 }
 
+/// Whether the body of the scope of this call, or a job of the scope, runs at one of these frames.
+fn any_holds(frames: &[Place], call: u64) -> bool
+    ensures { result ≡ list_any (holds_scope call) frames.now }
+{
+    frames.iter().any(|frame| frame.holds_scope(call))
+}
+
 impl Stack {
+    /// Whether the stack holds the body of the scope of this call, or a job of the scope.
+    fn holds(&self, call: u64) -> bool
+        ensures { result ≡ holds call (stack_of self.now) }
+    {
+        self.top.holds_scope(call) || any_holds(&self.below, call)
+    }
+
     /// Goes to a place above a frame.
     fn enter(&mut self, frame: Place, place: Place)
         requires { vec_len self.old.below < vec_capacity self.old.below }

@@ -3,7 +3,7 @@ ghost use Rattle.std.specs.Prelude.{◌≡◌, ℕ, true, IfErr, IfOk};
 ghost use Rattle.rayon_machine_places.specs.declared.shape.Order.{Order as AnyOrder};
 ghost use Rattle.rayon_machine_places.specs.declared.act.Act.TheVariants.{FifoOut, FifoUndo};
 ghost use Rattle.rayon_machine_places.specs.World.{but_first, but_last, head_of, last_of, is_open, Counts};
-ghost use Rattle.rayon_machine_parts.specs.State.{Acts, Can, DoesNot, after_handle, after_take, is_feeding, with_left};
+ghost use Rattle.rayon_machine_parts.specs.State.{Acts, Can, DoesNot, after_handle, after_take, is_feeding, with_left, with_left_book};
 
 use crate::numbers::{Outcome, Touched, WorkerFlags};
 use rayon_machine_places::act::{Act, Seen};
@@ -146,16 +146,18 @@ impl Touched {
                 let seen = if found.is_none() { Seen::Yes } else { Seen::No };
                 (seen, self)
             }
-            Act::PushInj { pool, .. } => (
+            Act::PushInj { pool, book, .. } => (
                 Seen::Done,
-                self.with_job_at(Whereabouts::Injected(pool)),
+                self.leaving_book(party, book)
+                    .with_job_at(Whereabouts::Injected(pool)),
             ),
-            Act::PushOwn(_) => {
+            Act::PushOwn { book, .. } => {
                 let at = Whereabouts::InDeque {
                     pool: party.pool(),
                     worker: party.index(),
                 };
-                (Seen::Done, self.leaving_fifo(party).with_job_at(at))
+                let left = self.leaving_fifo(party).leaving_book(party, book);
+                (Seen::Done, left.with_job_at(at))
             }
             _ => (Seen::Done, self),
         }

@@ -93,7 +93,7 @@ impl Seat {
                 Order::OldestFirst => drop_oldest(&mut self.own),
             },
             Act::Steal { .. } => drop_oldest(&mut self.own),
-            Act::PushOwn(job) => {
+            Act::PushOwn { job, .. } => {
                 let pushed = self.own.push_back(job);
                 prove!(pushed.is_ok());
             }

@@ -1,8 +1,8 @@
 -- the parts of the table of places, each of which has a function of its own in the code
 use Rattle.rayon_machine_places.specs.declared.place.Place.{Place}
-use Rattle.rayon_machine_places.specs.declared.place.Place.TheVariants.{ProbeWorking, PopWorking, TakeCastWorking, BecomeInactive, ProbeIdle, PopIdle, TakeCastIdle, PickVictim, StealFrom, PopInjected, AnnounceSelf, GetSleepy, LockOwn, FallAsleep, LoadCounters, AddSleeping, LookAtCast, LookAtInjector, BlockSelf, RelockOwn, UndoSleeping, WakeUp, UnlockOwn, LeaveSearch, JoinProbe, JoinPop, JoinTakeCast, YieldPop, YieldTakeCast, YieldPick, YieldSteal, YieldPopInjected, LocalPop, LocalTakeCast, BeginTask, BeginHere, RaiseCount, GrowCall, LookQueue, PushJob, AddToFifo, LookForToken, PushToken, TakeFromFifo, RaiseForAll, PushForAll, LowerForAll, TellNews, LockToWake, WakeWorker, UnlockWoken, WaitForLock, TakeResult, LowerCount, StoreResult, SetLatch, LockToSettle, WakeSettled, UnlockSettled, SetLockLatch}
+use Rattle.rayon_machine_places.specs.declared.place.Place.TheVariants.{ProbeWorking, PopWorking, TakeCastWorking, BecomeInactive, ProbeIdle, PopIdle, TakeCastIdle, PickVictim, StealFrom, PopInjected, AnnounceSelf, GetSleepy, LockOwn, FallAsleep, LoadCounters, AddSleeping, LookAtCast, LookAtInjector, BlockSelf, RelockOwn, UndoSleeping, WakeUp, UnlockOwn, LeaveSearch, JoinProbe, JoinPop, JoinTakeCast, YieldPop, YieldTakeCast, YieldPick, YieldSteal, YieldPopInjected, LocalPop, LocalTakeCast, BeginTask, BeginHere, RaiseCount, GrowCall, GrowScope, OpenSlot, CloseSlot, LookQueue, PushJob, AddToFifo, LookForToken, PushToken, TakeFromFifo, RaiseForAll, PushForAll, LowerForAll, TellNews, LockToWake, WakeWorker, UnlockWoken, WaitForLock, TakeResult, LowerCount, StoreResult, StoreBody, StoreSlot, SetLatch, LockToSettle, WakeSettled, UnlockSettled, SetLockLatch}
 use Rattle.rayon_machine_places.specs.declared.table.Group.{Group}
-use Rattle.rayon_machine_places.specs.declared.table.Group.TheVariants.{Busy, Searching, Dozing, Rising, Joining, Yielding, Calling, InOrder, Casting, Waking, Closing, Resting}
+use Rattle.rayon_machine_places.specs.declared.table.Group.TheVariants.{Busy, Searching, Dozing, Rising, Joining, Yielding, Calling, InOrder, Casting, Scoping, Waking, Closing, Resting}
 
 -- the part of the table that a place stands in
 abbrev pub group_of : Place → Group
@@ -53,17 +53,22 @@ group_of (TakeFromFifo f) = InOrder
 group_of (RaiseForAll c) = Casting
 group_of (PushForAll c) = Casting
 group_of (LowerForAll c) = Casting
+group_of (GrowScope o) = Scoping
+group_of (OpenSlot e) = Scoping
+group_of (CloseSlot e) = Scoping
 group_of (TellNews n e) = Calling
 group_of (LockToWake k) = Waking
 group_of (WakeWorker k) = Waking
 group_of (UnlockWoken k) = Waking
 group_of (WaitForLock o) = Closing
 group_of (TakeResult o f) = Closing
-group_of (LowerCount p s t) = Closing
+group_of (LowerCount k s t) = Closing
 group_of (StoreResult c o e) = Closing
+group_of (StoreBody o e) = Scoping
+group_of (StoreSlot c o t e) = Scoping
 group_of (SetLatch s) = Closing
 group_of (LockToSettle s) = Closing
 group_of (WakeSettled s) = Closing
 group_of (UnlockSettled s) = Closing
-group_of (SetLockLatch c) = Closing
+group_of (SetLockLatch c t) = Closing
 group_of _ = Resting

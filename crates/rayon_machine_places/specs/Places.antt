@@ -4,7 +4,7 @@ use Rattle.rayon_machine_places.specs.declared.place.Party.{Party}
 use Rattle.rayon_machine_places.specs.declared.place.Party.TheVariants.{Worker, Caller}
 use Rattle.rayon_machine_places.specs.declared.place.Ending.{Ending}
 use Rattle.rayon_machine_places.specs.declared.place.Ending.TheVariants.{Fine, Fault}
-use Rattle.rayon_machine_places.specs.declared.place.JobKind.TheVariants.{Direct}
+use Rattle.rayon_machine_places.specs.declared.place.JobKind.TheVariants.{Direct, Scoped}
 use Rattle.rayon_machine_places.specs.declared.place.Feeding.{Feeding}
 use Rattle.rayon_machine_places.specs.declared.place.Taken.{Taken}
 use Rattle.rayon_machine_places.specs.declared.place.Taken.TheVariants.{Plain, Token}
@@ -15,18 +15,20 @@ use Rattle.rayon_machine_places.specs.declared.place.Latch.TheVariants.{Terminat
 use Rattle.rayon_machine_places.specs.declared.place.Rounds.{Rounds}
 use Rattle.rayon_machine_places.specs.declared.place.Rounds.TheVariants.{Failed, Announced}
 use Rattle.rayon_machine_places.specs.declared.place.Plan.{Plan}
-use Rattle.rayon_machine_places.specs.declared.place.Plan.TheVariants.{Detach, Here, Send, Fork, Feed}
+use Rattle.rayon_machine_places.specs.declared.place.Plan.TheVariants.{Detach, Here, Send, Fork, Feed, Open, Enter}
+use Rattle.rayon_machine_places.specs.declared.place.Count.{Count}
+use Rattle.rayon_machine_places.specs.declared.place.Count.TheVariants.{OfPool, OfScope}
 use Rattle.rayon_machine_places.specs.declared.place.Pieces.{Pieces}
 use Rattle.rayon_machine_places.specs.declared.place.Mark.TheVariants.{Counted, Queued, Returned}
-use Rattle.rayon_machine_places.specs.declared.place.Share.TheVariants.{OfJob}
+use Rattle.rayon_machine_places.specs.declared.place.Share.TheVariants.{Body, OfJob}
 use Rattle.rayon_machine_places.specs.declared.place.Then.{Then}
 use Rattle.rayon_machine_places.specs.declared.place.Then.TheVariants.{BeginFound, LeaveWait, Resume, Await, RunFirst, Answers, Missing, Ran, GiveBack, Called}
 use Rattle.rayon_machine_places.specs.declared.place.Place.{Place}
-use Rattle.rayon_machine_places.specs.declared.place.Place.TheVariants.{ProbeWorking, PopWorking, TakeCastWorking, BecomeInactive, ProbeIdle, PopIdle, TakeCastIdle, PickVictim, StealFrom, PopInjected, AnnounceSelf, GetSleepy, LockOwn, FallAsleep, LoadCounters, AddSleeping, LookAtCast, LookAtInjector, BlockSelf, RelockOwn, UndoSleeping, WakeUp, UnlockOwn, LeaveSearch, JoinProbe, JoinPop, JoinTakeCast, YieldPop, YieldTakeCast, YieldPick, YieldSteal, YieldPopInjected, LocalPop, LocalTakeCast, BeginTask, BeginHere, Run, RaiseCount, GrowCall, LookQueue, PushJob, AddToFifo, LookForToken, PushToken, TakeFromFifo, RaiseForAll, PushForAll, LowerForAll, TellNews, LockToWake, WakeWorker, UnlockWoken, WaitForLock, TakeResult, LowerCount, StoreResult, SetLatch, LockToSettle, WakeSettled, UnlockSettled, SetLockLatch, FirstSide, SecondSide, AtOnce, Free, Stopped}
+use Rattle.rayon_machine_places.specs.declared.place.Place.TheVariants.{ProbeWorking, PopWorking, TakeCastWorking, BecomeInactive, ProbeIdle, PopIdle, TakeCastIdle, PickVictim, StealFrom, PopInjected, AnnounceSelf, GetSleepy, LockOwn, FallAsleep, LoadCounters, AddSleeping, LookAtCast, LookAtInjector, BlockSelf, RelockOwn, UndoSleeping, WakeUp, UnlockOwn, LeaveSearch, JoinProbe, JoinPop, JoinTakeCast, YieldPop, YieldTakeCast, YieldPick, YieldSteal, YieldPopInjected, LocalPop, LocalTakeCast, BeginTask, BeginHere, Run, RaiseCount, GrowCall, GrowScope, OpenSlot, CloseSlot, LookQueue, PushJob, AddToFifo, LookForToken, PushToken, TakeFromFifo, RaiseForAll, PushForAll, LowerForAll, TellNews, LockToWake, WakeWorker, UnlockWoken, WaitForLock, TakeResult, LowerCount, StoreResult, StoreBody, StoreSlot, SetLatch, LockToSettle, WakeSettled, UnlockSettled, SetLockLatch, FirstSide, SecondSide, ScopeBody, AtOnce, Free, Stopped}
 use Rattle.rayon_machine_places.specs.declared.place.Move.{Move}
 use Rattle.rayon_machine_places.specs.declared.place.Move.TheVariants.{Stay, Enter, StartRun, Back, HandBack, HandIn, Discard, Mark, HandAllBack}
 use Rattle.rayon_machine_places.specs.declared.act.Act.{Act}
-use Rattle.rayon_machine_places.specs.declared.act.Act.TheVariants.{Probe, PopOwn, TakeCast, AddInactive, Pick, Steal, PopInj, Announce, Sleepy, Lock, Asleep, Load, TryAdd, LookCast, LookInj, LookOwn, Block, SubSleeping, Wakeup, Unlock, SubInactive, Wake, Begin, PushInj, PushOwn, FifoIn, FifoUndo, FifoOut, PushCast, RaiseAll, LowerAll, News, Set, LockSet, LockWait, Lower, Raise, Grow, Store, Take, Idle}
+use Rattle.rayon_machine_places.specs.declared.act.Act.TheVariants.{Probe, PopOwn, TakeCast, AddInactive, Pick, Steal, PopInj, Announce, Sleepy, Lock, Asleep, Load, TryAdd, LookCast, LookInj, LookOwn, Block, SubSleeping, Wakeup, Unlock, SubInactive, Wake, Begin, PushInj, PushOwn, FifoIn, FifoUndo, FifoOut, PushCast, RaiseAll, LowerAll, News, Set, LockSet, LockWait, Lower, Raise, Grow, Store, Take, Slot, SlotUndo, StoreBody as PutBody, StoreSlot as PutSlot, Idle}
 use Rattle.rayon_machine_places.specs.declared.act.Seen.{Seen}
 use Rattle.rayon_machine_places.specs.declared.act.Seen.TheVariants.{Done, Yes, Task, Jec, Word, Start, Wakes, Begun, Found, Handed}
 use Rattle.rayon_machine_places.specs.declared.shape.PoolShape.{PoolShape}
@@ -67,14 +69,18 @@ plan_pool (Here p t) = p
 plan_pool (Send o) = o.pool
 plan_pool (Fork o a) = o.pool
 plan_pool (Feed f) = f.pool
+plan_pool (Open o) = o.pool
+plan_pool (Enter e) = e.pool
 
--- the job that a call queues or runs at once: a join's second side
+-- the job that a call queues or runs at once: a join's second side, a scope's body
 abbrev pub plan_job : Plan → ℕ
 plan_job (Detach p t) = t
 plan_job (Here p t) = t
 plan_job (Send o) = o.job
 plan_job (Fork o a) = o.job
 plan_job (Feed f) = f.job
+plan_job (Open o) = o.job
+plan_job (Enter e) = e.job
 
 -- the number of a call that waits
 abbrev pub plan_call : Plan → ℕ
@@ -83,6 +89,28 @@ plan_call (Here p t) = 0
 plan_call (Send o) = o.number
 plan_call (Fork o a) = o.number
 plan_call (Feed f) = 0
+plan_call (Open o) = o.number
+plan_call (Enter e) = 0
+
+-- the count that a call takes a share of: a spawn into a scope that of the scope, others their pool's
+abbrev pub plan_count : Plan → Count
+plan_count (Detach p t) = OfPool p
+plan_count (Here p t) = OfPool p
+plan_count (Send o) = OfPool o.pool
+plan_count (Fork o a) = OfPool o.pool
+plan_count (Feed f) = OfPool f.pool
+plan_count (Open o) = OfPool o.pool
+plan_count (Enter e) = OfScope e.call e.owner
+
+-- the scope whose book a call holds when it queues its job
+abbrev pub plan_book : Plan → Option ℕ
+plan_book (Detach p t) = None
+plan_book (Here p t) = None
+plan_book (Send o) = None
+plan_book (Fork o a) = None
+plan_book (Feed f) = None
+plan_book (Open o) = None
+plan_book (Enter e) = Some e.call
 
 -- a wait at its beginning
 abbrev pub fresh : Target → Wait
@@ -136,18 +164,32 @@ after_news (Here p t) = Resume
 after_news (Send o) = Await o
 after_news (Fork o a) = RunFirst o a
 after_news (Feed f) = GiveBack (Detach f.pool f.token)
+after_news (Open o) = Resume
+after_news (Enter e) = Resume
 
--- what a call does once its pool's terminate count is raised for it
+-- what a call does once it has its share of a count
 abbrev pub after_raise : Plan → Move
 after_raise (Detach p t) = Stay (LookQueue (Detach p t))
 after_raise (Here p t) = Enter (AtOnce p t) (BeginHere t)
 after_raise (Send o) = Stay (GrowCall (Send o))
 after_raise (Fork o a) = Stay (GrowCall (Fork o a))
 after_raise (Feed f) = Stay (AddToFifo f)
+after_raise (Open o) = Stay (GrowScope o)
+after_raise (Enter e) = Stay (OpenSlot e)
 
--- a refused call gives its share of the terminate count back, and then its jobs
+-- a refused call gives its share of a count back, and then its jobs
 abbrev pub undo : Plan → Place
-undo n = LowerCount (plan_pool n) (OfJob (plan_job n)) (GiveBack n)
+undo n = LowerCount (plan_count n) (OfJob (plan_job n)) (GiveBack n)
+
+-- where a call goes whose push was refused: a spawn into a scope has its number to take back first
+abbrev pub after_push : Plan → Place
+after_push (Detach p t) = undo (Detach p t)
+after_push (Here p t) = undo (Here p t)
+after_push (Send o) = undo (Send o)
+after_push (Fork o a) = undo (Fork o a)
+after_push (Feed f) = undo (Feed f)
+after_push (Open o) = undo (Open o)
+after_push (Enter e) = CloseSlot e
 
 -- the number of what is taken
 abbrev pub taken_number : Taken → ℕ
@@ -186,9 +228,14 @@ abbrev pub ends_pool : Pieces → Place
 ends_pool c = SetLatch (record { latch = Terminate; pool = c.pool; worker = 0; then = Resume })
 
 -- the latch of a call is set for its owner: a worker's core latch, or an outside caller's lock latch
-abbrev pub set_call : ℕ → Party → Place
-set_call c (Worker p i) = SetLatch (record { latch = OfCall c; pool = p; worker = i; then = Resume })
-set_call c (Caller n) = SetLockLatch c
+abbrev pub set_call : ℕ → Party → Then → Place
+set_call c (Worker p i) t = SetLatch (record { latch = OfCall c; pool = p; worker = i; then = t })
+set_call c (Caller n) t = SetLockLatch c t
+
+-- the latches are set that wait for a count that is 0 now
+abbrev pub settle_count : PoolShape → Party → Count → Then → Move
+settle_count h q (OfPool p) t = settle h q p 0 t
+settle_count h q (OfScope c o) t = Stay (set_call c o t)
 
 -- the worker after this one, round
 abbrev pub next_victim : ℕ → ℕ → ℕ
@@ -202,18 +249,21 @@ not_self n own v = if v == own then next_victim n v else v
 abbrev pub look_act : Party → ℕ → Act
 look_act q p = if is_member q p then LookOwn else LookInj p
 
--- the act by which a party queues a job at a pool
-abbrev pub push_act : Party → ℕ → ℕ → Act
-push_act q p t = if is_member q p then PushOwn t else PushInj p t
+-- the act by which a party queues a job at a pool, and leaves the book of a scope
+abbrev pub push_act : Party → ℕ → ℕ → Option ℕ → Act
+push_act q p t b = if is_member q p then PushOwn t b else PushInj p t b
 
 -- the act at a place of a call, of the end of a run, or of a wake: any party's
 abbrev pub call_act : Party → Place → Act
 call_act q (BeginTask x) = begin_act x
 call_act q (BeginHere t) = Begin t
-call_act q (RaiseCount n) = Raise (plan_pool n) (plan_job n)
+call_act q (RaiseCount n) = Raise (plan_count n) (plan_job n)
 call_act q (GrowCall n) = Grow (plan_call n)
+call_act q (GrowScope o) = Grow o.number
+call_act q (OpenSlot e) = Slot e.call e.job
+call_act q (CloseSlot e) = SlotUndo e.call e.job
 call_act q (LookQueue n) = look_act q (plan_pool n)
-call_act q (PushJob n e) = push_act q (plan_pool n) (plan_job n)
+call_act q (PushJob n e) = push_act q (plan_pool n) (plan_job n) (plan_book n)
 call_act q (RaiseForAll c) = RaiseAll c
 call_act q (PushForAll c) = PushCast c
 call_act q (LowerForAll c) = LowerAll c
@@ -223,13 +273,15 @@ call_act q (WakeWorker k) = Wake k.pool k.worker
 call_act q (UnlockWoken k) = Unlock k.pool k.worker
 call_act q (WaitForLock o) = LockWait o.number
 call_act q (TakeResult o f) = Take o.number
-call_act q (LowerCount p s t) = Lower p s
+call_act q (LowerCount k s t) = Lower k s
 call_act q (StoreResult c o e) = Store c e
+call_act q (StoreBody o e) = PutBody o.number e
+call_act q (StoreSlot c o t e) = PutSlot c t e
 call_act q (SetLatch s) = Set s.latch s.pool s.worker
 call_act q (LockToSettle s) = Lock s.pool s.worker
 call_act q (WakeSettled s) = Wake s.pool s.worker
 call_act q (UnlockSettled s) = Unlock s.pool s.worker
-call_act q (SetLockLatch c) = LockSet c
+call_act q (SetLockLatch c t) = LockSet c
 call_act q _ = Idle
 
 -- the act at a place. Only workers stand in waits, joins and yields, and have FIFO lists
@@ -270,7 +322,7 @@ act_of (Worker p i) LocalPop = PopOwn
 act_of (Worker p i) LocalTakeCast = TakeCast
 act_of (Worker p i) (AddToFifo f) = FifoIn f.job
 act_of (Worker p i) (LookForToken f) = LookOwn
-act_of (Worker p i) (PushToken f e) = PushOwn f.token
+act_of (Worker p i) (PushToken f e) = PushOwn f.token None
 act_of (Worker p i) (TakeFromFifo f) = FifoUndo
 act_of q x = call_act q x
 
@@ -357,10 +409,15 @@ next_of h q (RaiseCount n) Done = after_raise n
 next_of h q (RaiseCount n) _ = HandBack n
 next_of h q (GrowCall n) Done = Stay (LookQueue n)
 next_of h q (GrowCall n) _ = Stay (undo n)
+next_of h q (GrowScope o) Done = StartRun (ScopeBody o) o.job
+next_of h q (GrowScope o) _ = Stay (undo (Open o))
+next_of h q (OpenSlot e) Done = Stay (LookQueue (Enter e))
+next_of h q (OpenSlot e) _ = Stay (undo (Enter e))
+next_of h q (CloseSlot e) _ = Stay (undo (Enter e))
 next_of h q (LookQueue n) Yes = Stay (PushJob n true)
 next_of h q (LookQueue n) _ = Stay (PushJob n false)
 next_of h q (PushJob n e) Done = Stay (TellNews n e)
-next_of h q (PushJob n e) _ = Stay (undo n)
+next_of h q (PushJob n e) _ = Stay (after_push n)
 next_of h q (AddToFifo f) Done = Stay (LookForToken f)
 next_of h q (AddToFifo f) _ = Stay (undo (Feed f))
 next_of h q (LookForToken f) Yes = Stay (PushToken f true)
@@ -381,20 +438,23 @@ next_of h q (WakeWorker k) Yes = Stay (UnlockWoken (record k { owed = k.owed - 1
 next_of h q (WakeWorker k) _ = Stay (UnlockWoken k)
 next_of h q (UnlockWoken k) _ = walk h q k.pool k.owed (k.worker + 1) k.then
 next_of h q (WaitForLock o) _ = Stay (TakeResult o None)
-next_of h q (TakeResult o f) (Found e) = Stay (LowerCount o.pool (OfJob o.job) (Answers o f e))
-next_of h q (TakeResult o f) _ = Stay (LowerCount o.pool (OfJob o.job) (Missing o f))
-next_of h q (LowerCount p s t) Yes = settle h q p 0 t
-next_of h q (LowerCount p s t) _ = finish q t
-next_of h q (StoreResult c o e) _ = Stay (set_call c o)
+next_of h q (TakeResult o f) (Found e) = Stay (LowerCount (OfPool o.pool) (OfJob o.job) (Answers o f e))
+next_of h q (TakeResult o f) _ = Stay (LowerCount (OfPool o.pool) (OfJob o.job) (Missing o f))
+next_of h q (LowerCount k s t) Yes = settle_count h q k t
+next_of h q (LowerCount k s t) _ = finish q t
+next_of h q (StoreResult c o e) _ = Stay (set_call c o Resume)
+next_of h q (StoreBody o e) _ = Stay (LowerCount (OfScope o.number q) Body (Await o))
+next_of h q (StoreSlot c o t e) _ = Stay (LowerCount (OfScope c o) (OfJob t) Resume)
 next_of h q (SetLatch s) Yes = Stay (LockToSettle s)
 next_of h q (SetLatch s) _ = after_set h q s s.latch
 next_of h q (LockToSettle s) _ = Stay (WakeSettled s)
 next_of h q (WakeSettled s) _ = Stay (UnlockSettled s)
 next_of h q (UnlockSettled s) _ = after_set h q s s.latch
-next_of h q (SetLockLatch c) _ = Back
+next_of h q (SetLockLatch c t) _ = finish q t
 next_of h q (Run t k) _ = Stay (Run t k)
 next_of h q (FirstSide o a) _ = Stay (FirstSide o a)
 next_of h q (SecondSide o) _ = Stay (SecondSide o)
+next_of h q (ScopeBody o) _ = Stay (ScopeBody o)
 next_of h q (AtOnce p t) _ = Stay (AtOnce p t)
 next_of h q Free _ = Stay Free
 next_of h q Stopped _ = Stay Stopped
@@ -403,8 +463,9 @@ next_of h q Stopped _ = Stay Stopped
 abbrev pub goes_on : Place → Ending → Place
 goes_on (FirstSide o a) Fine = JoinProbe o
 goes_on (FirstSide o a) Fault = ProbeWorking (fresh (Answer o (Some Fault)))
-goes_on (SecondSide o) e = LowerCount o.pool (OfJob o.job) (Answers o (Some Fine) e)
-goes_on (AtOnce p t) e = LowerCount p (OfJob t) (Ran t e)
+goes_on (SecondSide o) e = LowerCount (OfPool o.pool) (OfJob o.job) (Answers o (Some Fine) e)
+goes_on (ScopeBody o) e = StoreBody o e
+goes_on (AtOnce p t) e = LowerCount (OfPool p) (OfJob t) (Ran t e)
 goes_on x e = x
 
 -- where the next act can be refused for want of room
@@ -414,6 +475,8 @@ is_refusable (PushJob n e) = true
 is_refusable (AddToFifo f) = true
 is_refusable (PushToken f e) = true
 is_refusable (PushForAll c) = true
+is_refusable (GrowScope o) = true
+is_refusable (OpenSlot e) = true
 is_refusable _ = false
 
 -- where a party chooses a victim
@@ -433,6 +496,7 @@ abbrev pub is_rest : Place → Bool
 is_rest (Run t k) = true
 is_rest (FirstSide o a) = true
 is_rest (SecondSide o) = true
+is_rest (ScopeBody o) = true
 is_rest (AtOnce p t) = true
 is_rest Free = true
 is_rest Stopped = true
@@ -443,3 +507,9 @@ abbrev pub is_free : Place → Bool
 is_free (Run t k) = true
 is_free Free = true
 is_free _ = false
+
+-- where the body of the scope of this call, or a job of the scope, runs
+abbrev pub holds_scope : ℕ → Place → Bool
+holds_scope c (ScopeBody o) = o.number == c
+holds_scope c (Run t (Scoped d o)) = d == c
+holds_scope c _ = false

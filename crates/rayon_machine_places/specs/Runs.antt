@@ -2,16 +2,14 @@
 use Rattle.std.specs.Prelude.{true, false, ◌&&◌, ◌==◌, nat_lt, if◌then◌else◌, Some, None, List, [], ◌∷◌, ◌≡◌}
 use Rattle.rayon_machine_places.specs.declared.place.Party.{Party}
 use Rattle.rayon_machine_places.specs.declared.place.Party.TheVariants.{Worker, Caller}
-use Rattle.rayon_machine_places.specs.declared.place.JobKind.TheVariants.{Direct}
 use Rattle.rayon_machine_places.specs.declared.place.Target.TheVariants.{Termination}
 use Rattle.rayon_machine_places.specs.declared.place.Place.{Place}
 use Rattle.rayon_machine_places.specs.declared.place.Place.TheVariants.{ProbeWorking, Free, Stopped}
 use Rattle.rayon_machine_places.specs.declared.event.Event.{Event}
 use Rattle.rayon_machine_places.specs.declared.state.Letter.TheVariants.{Unset}
-use Rattle.rayon_machine_places.specs.declared.state.Whereabouts.TheVariants.{Nowhere}
 use Rattle.rayon_machine_places.specs.Places.{fresh}
 use Rattle.rayon_machine_places.specs.World.{Shape, World}
-use Rattle.rayon_machine_places.specs.Steps.{new_call, step}
+use Rattle.rayon_machine_places.specs.Steps.{blank_job, new_call, step}
 
 -- where a party stands at the start: a worker waits for the end of its pool; the caller's own worker and the outside
 -- callers are free
@@ -31,9 +29,10 @@ start h = record {
   seat = λ p i. record { own = []; fifo = []; feeder = None; inactive = false; asleep = false; blocked = false; latch = Unset; lock = None };
   pool = λ p. record { injector = []; casts = λ i. []; turn = 0; count = 1; held = true; counted = true };
   call = λ c. new_call None 0;
-  job = λ t. record { kind = Direct; pool = 0; at = Nowhere; runs = 0; counted = false; bound = None };
+  job = λ t. blank_job;
   calls = 0;
   jobs = 0;
+  scopes = [];
 }
 
 -- a run: the events lead, step by step, from the first world to the last

@@ -1,33 +1,36 @@
 -- one step: the relation between two worlds, as a function that answers None where the event is not enabled
-use Rattle.std.specs.Prelude.{ℕ, Bool, true, false, ◌&&◌, ◌+◌, ◌-◌, ◌==◌, nat_lt, nat_le, if◌then◌else◌, Option, Some, None, List, [], ◌∷◌}
+use Rattle.std.specs.Prelude.{ℕ, Bool, true, false, ◌&&◌, ◌||◌, ◌+◌, ◌-◌, ◌==◌, nat_lt, nat_le, if◌then◌else◌, Option, Some, None, List, [], ◌∷◌, ◌++◌, slice_get}
 use Rattle.rayon_machine_places.specs.declared.shape.Order.{Order}
 use Rattle.rayon_machine_places.specs.declared.shape.Order.TheVariants.{NewestFirst, OldestFirst}
 use Rattle.rayon_machine_places.specs.declared.place.Party.{Party}
 use Rattle.rayon_machine_places.specs.declared.place.Party.TheVariants.{Worker, Caller}
 use Rattle.rayon_machine_places.specs.declared.place.Ending.{Ending}
 use Rattle.rayon_machine_places.specs.declared.place.JobKind.{JobKind}
-use Rattle.rayon_machine_places.specs.declared.place.JobKind.TheVariants.{Detached, Stored, Direct, TokenOf}
+use Rattle.rayon_machine_places.specs.declared.place.JobKind.TheVariants.{Detached, Stored, Direct, Scoped, BodyOf, TokenOf}
 use Rattle.rayon_machine_places.specs.declared.place.Pieces.{Pieces}
 use Rattle.rayon_machine_places.specs.declared.place.Mark.{Mark as Marking}
 use Rattle.rayon_machine_places.specs.declared.place.Mark.TheVariants.{Counted, Queued, Returned}
 use Rattle.rayon_machine_places.specs.declared.place.Plan.{Plan}
-use Rattle.rayon_machine_places.specs.declared.place.Plan.TheVariants.{Detach, Here, Send, Fork, Feed}
+use Rattle.rayon_machine_places.specs.declared.place.Plan.TheVariants.{Detach, Here, Send, Fork, Feed, Open, Enter}
+use Rattle.rayon_machine_places.specs.declared.place.Count.TheVariants.{OfPool}
 use Rattle.rayon_machine_places.specs.declared.place.Share.TheVariants.{PoolValue, OfJob}
 use Rattle.rayon_machine_places.specs.declared.place.Then.TheVariants.{Resume}
 use Rattle.rayon_machine_places.specs.declared.place.Place.{Place}
-use Rattle.rayon_machine_places.specs.declared.place.Place.TheVariants.{PickVictim, StealFrom, YieldPop, YieldPick, YieldSteal, LocalPop, Run, RaiseCount, RaiseForAll, LowerCount, StoreResult, Stopped}
+use Rattle.rayon_machine_places.specs.declared.place.Place.TheVariants.{PickVictim, StealFrom, YieldPop, YieldPick, YieldSteal, LocalPop, Run, RaiseCount, RaiseForAll, LowerCount, StoreResult, StoreSlot, Stopped}
 use Rattle.rayon_machine_places.specs.declared.place.Move.{Move}
 use Rattle.rayon_machine_places.specs.declared.place.Move.TheVariants.{Stay, Enter, StartRun, Back, HandBack, HandIn, Discard, Mark, HandAllBack}
 use Rattle.rayon_machine_places.specs.declared.act.Act.{Act}
 use Rattle.rayon_machine_places.specs.declared.act.Seen.{Seen}
 use Rattle.rayon_machine_places.specs.declared.act.Seen.TheVariants.{Refused, Missing, Start}
 use Rattle.rayon_machine_places.specs.declared.event.Event.{Event}
-use Rattle.rayon_machine_places.specs.declared.event.Event.TheVariants.{Go, From, Refuse, Miss, End, Spawn, Fifo, Cast, Install, Join, Yield, YieldLocal, EndPool}
+use Rattle.rayon_machine_places.specs.declared.event.Event.TheVariants.{Go, From, Refuse, Miss, End, Spawn, Fifo, Cast, Install, Join, Scope as OpenScope, IntoSpawn, Yield, YieldLocal, EndPool}
 use Rattle.rayon_machine_places.specs.declared.state.Letter.TheVariants.{Unset}
 use Rattle.rayon_machine_places.specs.declared.state.Whereabouts.TheVariants.{Nowhere, Made, InCast, Over, HandedBack, Spent}
 use Rattle.rayon_machine_places.specs.declared.state.Job.{Job}
 use Rattle.rayon_machine_places.specs.declared.state.Call.{Call}
-use Rattle.rayon_machine_places.specs.Places.{same_party, own_pool, is_member, act_of, next_of, goes_on, is_refusable, is_free}
+use Rattle.rayon_machine_places.specs.declared.state.Scope.{Scope}
+use Rattle.rayon_machine_places.specs.declared.state.Slot.TheVariants.{Closed}
+use Rattle.rayon_machine_places.specs.Places.{same_party, own_pool, is_member, act_of, next_of, goes_on, is_refusable, is_free, holds_scope}
 use Rattle.rayon_machine_places.specs.World.{Shape, Seat, Stack, World, counts_at, Part, target_pool, target_worker, target_call, target_job, Outcome, at_job, begun, effect}
 
 -- a function that is another at one argument
@@ -68,6 +71,8 @@ handed_back (Here p t) f = put f t (at_job (f t) HandedBack)
 handed_back (Send o) f = put f o.job (at_job (f o.job) HandedBack)
 handed_back (Fork o a) f = put (put f a (at_job (f a) HandedBack)) o.job (at_job (f o.job) HandedBack)
 handed_back (Feed d) f = put (put f d.job (at_job (f d.job) HandedBack)) d.token (at_job (f d.token) HandedBack)
+handed_back (Open o) f = put f o.job (at_job (f o.job) HandedBack)
+handed_back (Enter e) f = put f e.job (at_job (f e.job) HandedBack)
 
 -- a number is that of a piece of a broadcast
 abbrev pub is_piece : Pieces → ℕ → Bool
@@ -163,9 +168,11 @@ after_resume (f ∷ fs) e = record { top = goes_on f e; below = fs }
 
 -- what the end of a run sets going
 abbrev pub after_close : ℕ → JobKind → Ending → List Place → Stack
-after_close t (Detached p) e fs = record { top = LowerCount p (OfJob t) Resume; below = fs }
+after_close t (Detached p) e fs = record { top = LowerCount (OfPool p) (OfJob t) Resume; below = fs }
 after_close t (Stored c o) e fs = record { top = StoreResult c o e; below = fs }
+after_close t (Scoped c o) e fs = record { top = StoreSlot c o t e; below = fs }
 after_close t Direct e fs = after_resume fs e
+after_close t (BodyOf c o) e fs = after_resume fs e
 after_close t (TokenOf i) e fs = after_resume fs e
 
 -- the run on top ends
@@ -182,19 +189,19 @@ is_pool h p = nat_lt 0 (h.pool p).workers
 
 -- a job that a party's call has made at a pool
 abbrev pub new_job : Party → ℕ → JobKind → Job
-new_job q p k = record { kind = k; pool = p; at = Made q; runs = 0; counted = false; bound = None }
+new_job q p k = record { kind = k; pool = p; at = Made q; runs = 0; counted = false; bound = None; slot = Closed }
 
 -- the piece of a broadcast for a worker
 abbrev pub new_piece : Party → ℕ → ℕ → Job
-new_piece q p i = record { kind = Detached p; pool = p; at = Made q; runs = 0; counted = false; bound = Some i }
+new_piece q p i = record { kind = Detached p; pool = p; at = Made q; runs = 0; counted = false; bound = Some i; slot = Closed }
 
 -- a job whose number is not given out
 abbrev pub blank_job : Job
-blank_job = record { kind = Direct; pool = 0; at = Nowhere; runs = 0; counted = false; bound = None }
+blank_job = record { kind = Direct; pool = 0; at = Nowhere; runs = 0; counted = false; bound = None; slot = Closed }
 
--- a call that waits for a job
+-- a call that waits for a job; if it is a scope, its count is 1, for its body, and its book is empty
 abbrev pub new_call : Option ℕ → ℕ → Call
-new_call first t = record { latch = Unset; cell = None; first = first; job = t }
+new_call first t = record { latch = Unset; cell = None; first = first; job = t; count = 1; counted = true; slots = 0; writer = None; fault = None }
 
 abbrev pub after_spawn : World → Party → ℕ → Stack → Option World
 after_spawn w q p s =
@@ -266,6 +273,43 @@ after_join w (Worker p i) s =
     else None
 after_join w (Caller c) s = None
 
+-- a scope is opened: its body is the job that the call waits for. Its number is the next one
+abbrev pub after_scope : World → Party → ℕ → Stack → Option World
+after_scope w q p s =
+    if is_free s.top && is_pool w.shape p
+    then Some (record w {
+      stack = put_stack w.stack q (after_call s (RaiseCount (Open (record { number = w.calls; pool = p; job = w.jobs }))));
+      job = put w.job w.jobs (new_job q p (BodyOf w.calls q));
+      call = put w.call w.calls (new_call None w.jobs);
+      jobs = w.jobs + 1;
+      calls = w.calls + 1;
+      scopes = w.scopes ++ record { call = w.calls; pool = p; owner = q } ∷ [];
+    })
+    else None
+
+-- a party's stack holds the body of a scope, or a job of it
+abbrev pub holds_in : ℕ → List Place → Bool
+holds_in c [] = false
+holds_in c (f ∷ fs) = holds_scope c f || holds_in c fs
+
+abbrev pub holds : ℕ → Stack → Bool
+holds c s = holds_scope c s.top || holds_in c s.below
+
+-- a job is spawned into a scope by a party that holds it
+abbrev pub after_enter : World → Party → Stack → Option Scope → Option World
+after_enter w q s None = None
+after_enter w q s (Some z) =
+    if is_free s.top && holds z.call s
+    then Some (record w {
+      stack = put_stack w.stack q (after_call s (RaiseCount (Enter (record { call = z.call; owner = z.owner; pool = z.pool; job = w.jobs }))));
+      job = put w.job w.jobs (new_job q z.pool (Scoped z.call z.owner));
+      jobs = w.jobs + 1;
+    })
+    else None
+
+abbrev pub after_into : World → Party → ℕ → Stack → Option World
+after_into w q n s = after_enter w q s (slice_get w.scopes n)
+
 -- a worker yields, beginning at this place
 abbrev pub after_yield : World → Party → Stack → Place → Option World
 after_yield w (Worker p i) s x = if is_free s.top then Some (with_stack w (Worker p i) (after_call s x)) else None
@@ -275,7 +319,7 @@ after_yield w (Caller c) s x = None
 abbrev pub after_end_pool : World → Party → ℕ → Stack → Option World
 after_end_pool w q p s =
     if is_free s.top && (is_pool w.shape p && (w.pool p).held)
-    then Some (record w { stack = put_stack w.stack q (after_call s (LowerCount p PoolValue Resume)); pool = put w.pool p (record (w.pool p) { held = false }) })
+    then Some (record w { stack = put_stack w.stack q (after_call s (LowerCount (OfPool p) PoolValue Resume)); pool = put w.pool p (record (w.pool p) { held = false }) })
     else None
 
 -- one step: the world after an event, or None where the event is not enabled
@@ -290,6 +334,8 @@ step w (Fifo q p) = after_fifo w q p (w.stack q)
 step w (Cast q p) = after_cast w q p (w.stack q)
 step w (Install q p) = after_install w q p (w.stack q)
 step w (Join q) = after_join w q (w.stack q)
+step w (OpenScope q p) = after_scope w q p (w.stack q)
+step w (IntoSpawn q n) = after_into w q n (w.stack q)
 step w (Yield q) = after_yield w q (w.stack q) YieldPop
 step w (YieldLocal q) = after_yield w q (w.stack q) LocalPop
 step w (EndPool q p) = after_end_pool w q p (w.stack q)

@@ -5,18 +5,21 @@ use Rattle.rayon_machine_places.specs.declared.shape.Order.TheVariants.{NewestFi
 use Rattle.rayon_machine_places.specs.declared.place.Party.{Party}
 use Rattle.rayon_machine_places.specs.declared.place.Party.TheVariants.{Worker}
 use Rattle.rayon_machine_places.specs.declared.place.Ending.{Ending}
+use Rattle.rayon_machine_places.specs.declared.place.Ending.TheVariants.{Fine, Fault}
 use Rattle.rayon_machine_places.specs.declared.place.JobKind.{JobKind}
 use Rattle.rayon_machine_places.specs.declared.place.JobKind.TheVariants.{TokenOf}
+use Rattle.rayon_machine_places.specs.declared.place.Count.{Count}
+use Rattle.rayon_machine_places.specs.declared.place.Count.TheVariants.{OfPool, OfScope}
 use Rattle.rayon_machine_places.specs.declared.place.Taken.{Taken}
 use Rattle.rayon_machine_places.specs.declared.place.Taken.TheVariants.{Plain, Token}
 use Rattle.rayon_machine_places.specs.declared.place.Latch.{Latch}
 use Rattle.rayon_machine_places.specs.declared.place.Latch.TheVariants.{Terminate, OfCall}
 use Rattle.rayon_machine_places.specs.declared.place.Pieces.{Pieces}
 use Rattle.rayon_machine_places.specs.declared.place.Share.{Share}
-use Rattle.rayon_machine_places.specs.declared.place.Share.TheVariants.{PoolValue, OfJob}
+use Rattle.rayon_machine_places.specs.declared.place.Share.TheVariants.{PoolValue, Body, OfJob}
 use Rattle.rayon_machine_places.specs.declared.place.Place.{Place}
 use Rattle.rayon_machine_places.specs.declared.act.Act.{Act}
-use Rattle.rayon_machine_places.specs.declared.act.Act.TheVariants.{Probe, PopOwn, TakeCast, AddInactive, Pick, Steal, PopInj, Announce, Sleepy, Lock, Asleep, Load, TryAdd, LookCast, LookInj, LookOwn, Block, SubSleeping, Wakeup, Unlock, SubInactive, Wake, Begin, PushInj, PushOwn, FifoIn, FifoUndo, FifoOut, PushCast, RaiseAll, LowerAll, News, Set, LockSet, LockWait, Lower, Raise, Grow, Store, Take, Idle}
+use Rattle.rayon_machine_places.specs.declared.act.Act.TheVariants.{Probe, PopOwn, TakeCast, AddInactive, Pick, Steal, PopInj, Announce, Sleepy, Lock, Asleep, Load, TryAdd, LookCast, LookInj, LookOwn, Block, SubSleeping, Wakeup, Unlock, SubInactive, Wake, Begin, PushInj, PushOwn, FifoIn, FifoUndo, FifoOut, PushCast, RaiseAll, LowerAll, News, Set, LockSet, LockWait, Lower, Raise, Grow, Store, Take, Slot, SlotUndo, StoreBody as PutBody, StoreSlot as PutSlot, Idle}
 use Rattle.rayon_machine_places.specs.declared.act.Seen.{Seen}
 use Rattle.rayon_machine_places.specs.declared.act.Seen.TheVariants.{Done, Refused, Yes, No, Task, Missing, Jec, Word, Start, Wakes, Begun, Found, Handed}
 use Rattle.rayon_machine_places.specs.declared.state.Letter.{Letter}
@@ -26,6 +29,9 @@ use Rattle.rayon_machine_places.specs.declared.state.Whereabouts.TheVariants.{In
 use Rattle.rayon_machine_places.specs.declared.shape.PoolShape.{PoolShape}
 use Rattle.rayon_machine_places.specs.declared.state.Job.{Job}
 use Rattle.rayon_machine_places.specs.declared.state.Call.{Call}
+use Rattle.rayon_machine_places.specs.declared.state.Scope.{Scope}
+use Rattle.rayon_machine_places.specs.declared.state.Slot.{Slot as SlotState}
+use Rattle.rayon_machine_places.specs.declared.state.Slot.TheVariants.{Closed, Open as IsOpen, Filled}
 use Rattle.rayon_machine_places.specs.Places.{same_party, own_pool, own_index}
 
 -- what is the same in every world of a run: the pools (one without workers is none), the outside callers, and the bits
@@ -62,7 +68,8 @@ pub record Stack : Type 0 where
   pub top : Place
   pub below : List Place
 
--- every party's stack, every worker's seat, every pool; calls and jobs by number, with how many numbers are given out
+-- every party's stack, every worker's seat, every pool; calls and jobs by number, with how many numbers are given out;
+-- the scopes by number, refused ones among them
 pub record World : Type 0 where
   pub shape : Shape
   pub stack : Party → Stack
@@ -72,6 +79,7 @@ pub record World : Type 0 where
   pub job : ℕ → Job
   pub calls : ℕ
   pub jobs : ℕ
+  pub scopes : List Scope
 
 -- how many numbers below n pass a test
 abbrev pub count_below : ℕ → (ℕ → Bool) → ℕ
@@ -111,6 +119,15 @@ pub record Part : Type 0 where
   pub call : Call
   pub job : Job
 
+-- the pool of a count, and a scope's call; where a count has none, the party's own pool and 0
+abbrev pub count_pool : Party → Count → ℕ
+count_pool q (OfPool p) = p
+count_pool q (OfScope c o) = own_pool q
+
+abbrev pub count_call : Count → ℕ
+count_call (OfPool p) = 0
+count_call (OfScope c o) = c
+
 -- the pool that an act touches: the one that it names, else the party's own
 abbrev pub target_pool : Party → Act → ℕ
 target_pool q (Lock p i) = p
@@ -119,10 +136,10 @@ target_pool q (Wake p i) = p
 target_pool q (Set l p i) = p
 target_pool q (Steal p i) = p
 target_pool q (LookInj p) = p
-target_pool q (PushInj p t) = p
+target_pool q (PushInj p t b) = p
 target_pool q (News p e) = p
-target_pool q (Lower p s) = p
-target_pool q (Raise p t) = p
+target_pool q (Lower k s) = count_pool q k
+target_pool q (Raise k t) = count_pool q k
 target_pool q (PushCast c) = c.pool
 target_pool q (LowerAll c) = c.pool
 target_pool q (RaiseAll c) = c.pool
@@ -143,6 +160,10 @@ abbrev pub call_of : Latch → ℕ
 call_of Terminate = 0
 call_of (OfCall c) = c
 
+abbrev pub or_none : Option ℕ → ℕ
+or_none None = 0
+or_none (Some t) = t
+
 -- the call that an act touches, if it touches one
 abbrev pub target_call : Act → ℕ
 target_call (Probe l) = call_of l
@@ -155,6 +176,14 @@ target_call (LockWait c) = c
 target_call (Grow c) = c
 target_call (Store c e) = c
 target_call (Take c) = c
+target_call (Slot c t) = c
+target_call (SlotUndo c t) = c
+target_call (PutBody c e) = c
+target_call (PutSlot c t e) = c
+target_call (Lower k s) = count_call k
+target_call (Raise k t) = count_call k
+target_call (PushOwn t b) = or_none b
+target_call (PushInj p t b) = or_none b
 target_call _ = 0
 
 -- the first and the last of a list, and what is left without it
@@ -185,25 +214,25 @@ abbrev pub own_left : Order → List ℕ → List ℕ
 own_left NewestFirst l = but_last l
 own_left OldestFirst l = but_first l
 
-abbrev pub or_none : Option ℕ → ℕ
-or_none None = 0
-or_none (Some t) = t
-
 -- the job of a share
 abbrev pub share_job : Share → ℕ
 share_job PoolValue = 0
+share_job Body = 0
 share_job (OfJob t) = t
 
 -- the job that an act touches: the one that it names, or that it finds in its list
 abbrev pub target_job : Shape → Party → Act → Pool → Seat → ℕ
 target_job h q (Begin t) v s = t
-target_job h q (PushInj p t) v s = t
-target_job h q (PushOwn t) v s = t
+target_job h q (PushInj p t b) v s = t
+target_job h q (PushOwn t b) v s = t
+target_job h q (Slot c t) v s = t
+target_job h q (SlotUndo c t) v s = t
+target_job h q (PutSlot c t e) v s = t
 target_job h q (FifoIn t) v s = t
 target_job h q FifoUndo v s = or_none (last_of s.fifo)
 target_job h q (FifoOut k i) v s = or_none (head_of s.fifo)
-target_job h q (Raise p t) v s = t
-target_job h q (Lower p b) v s = share_job b
+target_job h q (Raise k t) v s = t
+target_job h q (Lower k b) v s = share_job b
 target_job h q PopOwn v s = or_none (own_of (h.pool (own_pool q)).order s.own)
 target_job h q TakeCast v s = or_none (head_of (v.casts (own_index q)))
 target_job h q (Steal p i) v s = or_none (head_of s.own)
@@ -213,13 +242,16 @@ target_job h q _ v s = 0
 -- the job that an act touches, where this task stands at the end of its queue
 abbrev pub aimed_job : Act → Option ℕ → ℕ
 aimed_job (Begin t) found = t
-aimed_job (PushInj p t) found = t
-aimed_job (PushOwn t) found = t
+aimed_job (PushInj p t b) found = t
+aimed_job (PushOwn t b) found = t
+aimed_job (Slot c t) found = t
+aimed_job (SlotUndo c t) found = t
+aimed_job (PutSlot c t e) found = t
 aimed_job (FifoIn t) found = t
 aimed_job FifoUndo found = or_none found
 aimed_job (FifoOut k i) found = or_none found
-aimed_job (Raise p t) found = t
-aimed_job (Lower p b) found = share_job b
+aimed_job (Raise k t) found = t
+aimed_job (Lower k b) found = share_job b
 aimed_job PopOwn found = or_none found
 aimed_job TakeCast found = or_none found
 aimed_job (Steal p i) found = or_none found
@@ -304,12 +336,12 @@ abbrev pub is_token : JobKind → Bool
 is_token (TokenOf i) = true
 is_token _ = false
 
--- a FIFO list is held by no other party
+-- a FIFO list, or a book, is held by no other party
 abbrev pub is_open : Party → Option Party → Bool
 is_open q None = true
 is_open q (Some r) = same_party q r
 
--- who holds a FIFO list once this party has left it
+-- who holds a FIFO list, or a book, once this party has left it
 abbrev pub left_by : Party → Option Party → Option Party
 left_by q None = None
 left_by q (Some r) = if same_party q r then None else Some r
@@ -350,10 +382,102 @@ abbrev pub pop_injector : Party → Part → List ℕ → Outcome
 pop_injector q m [] = Some (Missing, m)
 pop_injector q m (t ∷ ts) = Some (Task (taken_as t m.job.kind), record m { pool = record (m.pool) { injector = ts }; job = at_job (m.job) (Running q) })
 
--- a share is no longer in the count
-abbrev pub lowered : Part → Share → Part
-lowered m PoolValue = record m { pool = record (m.pool) { count = m.pool.count - 1; counted = false } }
-lowered m (OfJob t) = record m { pool = record (m.pool) { count = m.pool.count - 1 }; job = record (m.job) { counted = false } }
+-- who holds a book once this party has pushed a job of the scope; a push of no scope's job leaves none
+abbrev pub left_book : Party → Option ℕ → Option Party → Option Party
+left_book q None r = r
+left_book q (Some c) r = left_by q r
+
+-- the number of a count
+abbrev pub count_in : Part → Count → ℕ
+count_in m (OfPool p) = m.pool.count
+count_in m (OfScope c o) = m.call.count
+
+-- the numbers of a pool's and of a call's count once one share of a count is less, and once one is more
+abbrev pub pool_less : Count → ℕ → ℕ
+pool_less (OfPool p) n = n - 1
+pool_less (OfScope c o) n = n
+
+abbrev pub call_less : Count → ℕ → ℕ
+call_less (OfPool p) n = n
+call_less (OfScope c o) n = n - 1
+
+abbrev pub pool_more : Count → ℕ → ℕ
+pool_more (OfPool p) n = n + 1
+pool_more (OfScope c o) n = n
+
+abbrev pub call_more : Count → ℕ → ℕ
+call_more (OfPool p) n = n
+call_more (OfScope c o) n = n + 1
+
+-- whether the share of a pool's value, of a scope's body, and of a job is in its count once this one is not
+abbrev pub value_stays : Share → Bool → Bool
+value_stays PoolValue b = false
+value_stays Body b = b
+value_stays (OfJob t) b = b
+
+abbrev pub body_stays : Share → Bool → Bool
+body_stays PoolValue b = b
+body_stays Body b = false
+body_stays (OfJob t) b = b
+
+abbrev pub job_stays : Share → Bool → Bool
+job_stays PoolValue b = b
+job_stays Body b = b
+job_stays (OfJob t) b = false
+
+-- a share is no longer in its count
+abbrev pub lowered : Part → Count → Share → Part
+lowered m k s = record m {
+  pool = record (m.pool) { count = pool_less k m.pool.count; counted = value_stays s m.pool.counted };
+  call = record (m.call) { count = call_less k m.call.count; counted = body_stays s m.call.counted };
+  job = record (m.job) { counted = job_stays s m.job.counted };
+}
+
+-- a job has a share of a count
+abbrev pub raised : Part → Count → Part
+raised m k = record m {
+  pool = record (m.pool) { count = pool_more k m.pool.count };
+  call = record (m.call) { count = call_more k m.call.count };
+  job = record (m.job) { counted = true };
+}
+
+-- the next number of a book is opened for a job, and the book is held by the party then
+abbrev pub slot_in : Party → Part → Outcome
+slot_in q m =
+    if is_open q m.call.writer
+    then Some (Done, record m { call = record (m.call) { slots = m.call.slots + 1; writer = Some q }; job = record (m.job) { slot = IsOpen m.call.slots } })
+    else None
+
+-- the number is taken back, and the book is left
+abbrev pub slot_undo : Party → Part → Outcome
+slot_undo q m =
+    if is_open q m.call.writer
+    then Some (Done, record m { call = record (m.call) { slots = m.call.slots - 1; writer = None }; job = record (m.job) { slot = Closed } })
+    else None
+
+-- the job's number is filled
+abbrev pub filled : SlotState → SlotState
+filled (IsOpen n) = Filled n
+filled s = s
+
+-- the job whose fault a book keeps, once this job has ended so: the first that faulted
+abbrev pub first_fault : Option ℕ → ℕ → Ending → Option ℕ
+first_fault None t Fault = Some t
+first_fault None t Fine = None
+first_fault (Some u) t e = Some u
+
+-- how a body ended is stored, and how a job of a scope did
+abbrev pub put_body : Party → Part → Ending → Outcome
+put_body q m e =
+    if is_open q m.call.writer
+    then Some (Done, record m { call = record (m.call) { cell = Some e; fault = first_fault m.call.fault m.call.job e } })
+    else None
+
+abbrev pub put_slot : Party → Part → ℕ → Ending → Outcome
+put_slot q m t e =
+    if is_open q m.call.writer
+    then Some (Done, record m { call = record (m.call) { fault = first_fault m.call.fault t e }; job = record (m.job) { slot = filled m.job.slot } })
+    else None
 
 -- each piece of a broadcast is added last to its worker's broadcast list
 abbrev pub casts_with : Pieces → (ℕ → List ℕ) → ℕ → List ℕ
@@ -397,20 +521,22 @@ effect (Wake p i) h q c m =
     then Some (Yes, record m { seat = record (m.seat) { blocked = false; asleep = false } })
     else Some (No, m)
 effect (Begin t) h q c m = Some (Begun (m.job.kind), record m { job = begun q m.job })
-effect (PushInj p t) h q c m = Some (Done, record m { pool = record (m.pool) { injector = m.pool.injector ++ t ∷ [] }; job = at_job (m.job) (Injected p) })
+effect (PushInj p t b) h q c m = Some (Done, record m { pool = record (m.pool) { injector = m.pool.injector ++ t ∷ [] }; call = record (m.call) { writer = left_book q b m.call.writer }; job = at_job (m.job) (Injected p) })
 effect (FifoIn t) h q c m = fifo_in q m t
 effect FifoUndo h q c m = fifo_undo q m
 effect (FifoOut k i) h q c m = fifo_out q m
-effect (PushOwn t) h q c m = Some (Done, record m { seat = record (m.seat) { own = m.seat.own ++ t ∷ []; feeder = left_by q m.seat.feeder }; job = at_job (m.job) (InDeque (own_pool q) (own_index q)) })
+effect (PushOwn t b) h q c m = Some (Done, record m { seat = record (m.seat) { own = m.seat.own ++ t ∷ []; feeder = left_by q m.seat.feeder }; call = record (m.call) { writer = left_book q b m.call.writer }; job = at_job (m.job) (InDeque (own_pool q) (own_index q)) })
 effect (News p e) h q c m =
     Some (Wakes (wakes_for_one e c), record m { pool = record (m.pool) { turn = if is_even m.pool.turn then m.pool.turn + 1 else m.pool.turn } })
 effect (Set l p i) h q c m = set_latch l m (letter l m)
 effect (LockSet k) h q c m = Some (Done, record m { call = record (m.call) { latch = IsSet } })
 effect (LockWait k) h q c m = lock_wait m m.call.latch
-effect (Lower p s) h q c m = Some ((if m.pool.count == 1 then Yes else No), lowered m s)
-effect (Raise p t) h q c m =
-    if m.pool.count == 0 then Some (Refused, m)
-    else Some (Done, record m { pool = record (m.pool) { count = m.pool.count + 1 }; job = record (m.job) { counted = true } })
+effect (Lower k s) h q c m = Some ((if count_in m k == 1 then Yes else No), lowered m k s)
+effect (Raise k t) h q c m = if count_in m k == 0 then Some (Refused, m) else Some (Done, raised m k)
+effect (Slot k t) h q c m = slot_in q m
+effect (SlotUndo k t) h q c m = slot_undo q m
+effect (PutBody k e) h q c m = put_body q m e
+effect (PutSlot k t e) h q c m = put_slot q m t e
 effect (PushCast b) h q c m = Some (Done, record m { pool = record (m.pool) { casts = casts_with b m.pool.casts } })
 effect (LowerAll b) h q c m = Some ((if m.pool.count == b.workers then Yes else No), record m { pool = record (m.pool) { count = m.pool.count - b.workers } })
 effect (RaiseAll b) h q c m =

@@ -2,7 +2,7 @@
 ghost use Rattle.std.specs.Prelude.{◌≡◌};
 ghost use Rattle.rayon_machine_places.specs.World.{target_call, target_pool, target_worker, aimed_job};
 
-use crate::place::{Ending, JobKind, Latch, Party, Pieces, Share, Taken};
+use crate::place::{Count, Ending, JobKind, Latch, Party, Pieces, Share, Taken};
 
 /// What a party does in one step. Pools and workers are named by index, jobs and calls by number.
 #[derive(Clone, Copy)]
@@ -69,13 +69,18 @@ pub enum Act {
     },
     /// Begins the run of a job.
     Begin(u64),
-    /// Adds a job last to a pool's injector.
+    /// Adds a job last to a pool's injector, and leaves the book of the scope that it names.
     PushInj {
         pool: usize,
         job: u64,
+        book: Option<u64>,
     },
-    /// Adds a job or a token last to the own deque, and leaves the own FIFO list.
-    PushOwn(u64),
+    /// Adds a job or a token last to the own deque, and leaves the own FIFO list and the book of the scope that it
+    /// names.
+    PushOwn {
+        job: u64,
+        book: Option<u64>,
+    },
     /// Adds a job last to the own FIFO list, and holds the list until the party's next push or undo.
     FifoIn(u64),
     /// Takes the job that was added last back out of the own FIFO list, and leaves the list.
@@ -102,14 +107,14 @@ pub enum Act {
     LockSet(u64),
     /// Passes the lock latch of a call, once it is set.
     LockWait(u64),
-    /// Gives a share of a pool's terminate count back, and sees whether it was the last.
+    /// Gives a share of a count back, and sees whether it was the last.
     Lower {
-        pool: usize,
+        count: Count,
         share: Share,
     },
-    /// Takes a share of a pool's terminate count for a job, unless the pool has ended.
+    /// Takes a share of a count for a job, unless the count is 0.
     Raise {
-        pool: usize,
+        count: Count,
         job: u64,
     },
     /// Gives back the shares that the pieces of a broadcast have of their pool's terminate count, and sees whether they
@@ -126,6 +131,27 @@ pub enum Act {
     },
     /// Takes what the cell of a call holds.
     Take(u64),
+    /// Opens the next number of a scope's book for a job, and holds the book until the party's next push or undo.
+    Slot {
+        call: u64,
+        job: u64,
+    },
+    /// Takes the job's number back, the last of the scope's book, and leaves the book.
+    SlotUndo {
+        call: u64,
+        job: u64,
+    },
+    /// Puts the ending of its body into the cell of a scope. Its book keeps the first fault.
+    StoreBody {
+        call: u64,
+        ending: Ending,
+    },
+    /// Puts the ending of a job into the book of a scope, at the job's number. The book keeps the first fault.
+    StoreSlot {
+        call: u64,
+        job: u64,
+        ending: Ending,
+    },
     /// Does nothing: no act is enabled here.
     Idle,
 }
@@ -193,9 +219,8 @@ impl Act {
             | Act::Steal { pool, .. }
             | Act::LookInj(pool)
             | Act::PushInj { pool, .. }
-            | Act::News { pool, .. }
-            | Act::Lower { pool, .. }
-            | Act::Raise { pool, .. } => pool,
+            | Act::News { pool, .. } => pool,
+            Act::Lower { count, .. } | Act::Raise { count, .. } => count.pool(party),
             Act::PushCast(pieces) | Act::LowerAll(pieces) | Act::RaiseAll(pieces) => pieces.pool,
             _ => party.pool(),
         }
@@ -217,8 +242,8 @@ impl Act {
         }
     }
 
-    /// The number of the call that an act touches: the one that it or its latch names, and 0 where it
-    /// touches none.
+    /// The number of the call that an act touches: the one that it, its latch, its count or its book names, and 0 where
+    /// it touches none.
     pub fn call(self) -> u64
         ensures { result ≡ target_call self }
     {
@@ -228,7 +253,13 @@ impl Act {
             }
             Act::Set { latch, .. } => latch.call(),
             Act::LockSet(call) | Act::LockWait(call) | Act::Grow(call) | Act::Take(call) => call,
-            Act::Store { call, .. } => call,
+            Act::Store { call, .. } | Act::Slot { call, .. } | Act::SlotUndo { call, .. } => call,
+            Act::StoreBody { call, .. } | Act::StoreSlot { call, .. } => call,
+            Act::Lower { count, .. } | Act::Raise { count, .. } => count.call(),
+            Act::PushOwn { book, .. } | Act::PushInj { book, .. } => match book {
+                Some(call) => call,
+                None => 0,
+            },
             _ => 0,
         }
     }
@@ -239,8 +270,9 @@ impl Act {
         ensures { result ≡ aimed_job self found }
     {
         match self {
-            Act::Begin(job) | Act::PushOwn(job) | Act::FifoIn(job) => job,
+            Act::Begin(job) | Act::PushOwn { job, .. } | Act::FifoIn(job) => job,
             Act::PushInj { job, .. } | Act::Raise { job, .. } => job,
+            Act::Slot { job, .. } | Act::SlotUndo { job, .. } | Act::StoreSlot { job, .. } => job,
             Act::Lower { share, .. } => share.job(),
             Act::PopOwn
             | Act::TakeCast

@@ -25,6 +25,10 @@ pub enum Event {
     Install { party: Party, pool: usize },
     /// A worker joins two sides.
     Join(Party),
+    /// The party opens a scope at a pool, and runs its body.
+    Scope { party: Party, pool: usize },
+    /// The party spawns a job into the scope of this number.
+    IntoSpawn { party: Party, scope: usize },
     /// A worker looks for one task in all queues, and runs it.
     Yield(Party),
     /// A worker looks for one task in its own queues, and runs it.

@@ -2,8 +2,8 @@
 ghost use Rattle.std.specs.Prelude.{◌≡◌, Some, ◌+◌};
 ghost use Rattle.rayon_machine_places.specs.Groups.{group_of};
 ghost use Rattle.rayon_machine_places.specs.declared.place.Party.{Party as AnyParty};
-ghost use Rattle.rayon_machine_places.specs.declared.table.Group.TheVariants.{Busy, Searching, Dozing, Rising, Joining, Yielding, Calling, InOrder, Waking, Closing};
-ghost use Rattle.rayon_machine_places.specs.Places.{own_index, own_pool, after_begin, after_found, awaits, after_failure, finish, fresh, after_news, goes_on, after_wait, next_of, next_steal, next_victim, next_yield, not_self, after_raise, set_call, settle, after_set, taken_back, undo, walk};
+ghost use Rattle.rayon_machine_places.specs.declared.table.Group.TheVariants.{Busy, Searching, Dozing, Rising, Joining, Yielding, Calling, InOrder, Scoping, Waking, Closing};
+ghost use Rattle.rayon_machine_places.specs.Places.{own_index, own_pool, after_begin, after_found, awaits, after_failure, finish, fresh, after_news, goes_on, after_wait, next_of, next_steal, next_victim, next_yield, not_self, after_raise, settle, after_set, taken_back, undo, walk};
 ghost use Rattle.rayon_machine_places.specs.declared.shape.PoolShape.{PoolShape as AnyShape};
 ghost use Rattle.rayon_machine_places.specs.declared.place.Move.TheVariants.{Stay, Enter};
 ghost use Rattle.rayon_machine_places.specs.declared.place.Plan.TheVariants.{Detach};
@@ -13,12 +13,13 @@ ghost use Rattle.rayon_machine_places.specs.declared.act.Seen.TheVariants.{Task,
 ghost use Rattle.rayon_machine_places.specs.declared.place.Place.TheVariants.{ProbeWorking, BeginTask, LowerCount, LeaveSearch, JoinProbe, SecondSide, BeginHere, PickVictim, YieldPick};
 ghost use Rattle.rayon_machine_places.specs.declared.place.Rounds.TheVariants.{Announced, Failed};
 ghost use Rattle.rayon_machine_places.specs.declared.place.Share.TheVariants.{OfJob};
+ghost use Rattle.rayon_machine_places.specs.declared.place.Count.TheVariants.{OfPool};
 ghost use Rattle.rayon_machine_places.specs.declared.place.Then.TheVariants.{Answers, Missing};
 
 use crate::act::Seen;
 use crate::place::{
-    Ending, Feeding, JobKind, Latch, Move, OpenCall, Party, Place, Plan, Rounds, Settling, Share,
-    Taken, Target, Then, Wait, Walk,
+    Count, Ending, Feeding, JobKind, Latch, Move, OpenCall, Party, Place, Plan, Rounds, Settling,
+    Share, Taken, Target, Then, Wait, Walk,
 };
 use crate::shape::PoolShape;
 use crate::table::Group;
@@ -133,7 +134,7 @@ impl OpenCall {
 
     /// The call has its result: it gives its share of the terminate count back, and answers.
     fn answered(self, first: Option<Ending>, last: Ending) -> Place
-        ensures { result ≡ LowerCount self.pool (OfJob self.job) (Answers self first last) }
+        ensures { result ≡ LowerCount (OfPool self.pool) (OfJob self.job) (Answers self first last) }
     {
         let then = Then::Answers {
             call: self,
@@ -141,7 +142,7 @@ impl OpenCall {
             last,
         };
         Place::LowerCount {
-            pool: self.pool,
+            count: Count::OfPool(self.pool),
             share: Share::OfJob(self.job),
             then,
         }
@@ -149,11 +150,11 @@ impl OpenCall {
 
     /// The call's cell was empty: it gives its share of the terminate count back, and answers that.
     fn unanswered(self, first: Option<Ending>) -> Place
-        ensures { result ≡ LowerCount self.pool (OfJob self.job) (Missing self first) }
+        ensures { result ≡ LowerCount (OfPool self.pool) (OfJob self.job) (Missing self first) }
     {
         let then = Then::Missing { call: self, first };
         Place::LowerCount {
-            pool: self.pool,
+            count: Count::OfPool(self.pool),
             share: Share::OfJob(self.job),
             then,
         }
@@ -171,24 +172,6 @@ impl Party {
                 first: None,
             }.wait()),
             Party::Caller(_) => Place::WaitForLock(call),
-        }
-    }
-
-    /// Sets the latch of this party's call.
-    fn latch_set(self, call: u64) -> Place
-        ensures { result ≡ set_call call self }
-    {
-        match self {
-            Party::Worker { pool, index } => {
-                let latch = Latch::OfCall(call);
-                Place::SetLatch(Settling {
-                    latch,
-                    pool,
-                    worker: index,
-                    then: Then::Resume,
-                })
-            }
-            Party::Caller(_) => Place::SetLockLatch(call),
         }
     }
 
@@ -285,13 +268,14 @@ impl Plan {
     {
         match self {
             Plan::Detach { .. } | Plan::Here { .. } => Then::Resume,
+            Plan::Open(_) | Plan::Enter(_) => Then::Resume,
             Plan::Send(call) => Then::Await(call),
             Plan::Fork { call, first } => Then::RunFirst { call, first },
             Plan::Feed(feeding) => Then::GiveBack(feeding.only_token()),
         }
     }
 
-    /// What the call does once its pool's terminate count is raised for it.
+    /// What the call does once it has its share of a count.
     fn after_raise(self) -> Move
         ensures { result ≡ after_raise self }
     {
@@ -303,15 +287,17 @@ impl Plan {
             },
             Plan::Send(_) | Plan::Fork { .. } => Move::Stay(Place::GrowCall(self)),
             Plan::Feed(feeding) => Move::Stay(Place::AddToFifo(feeding)),
+            Plan::Open(call) => Move::Stay(Place::GrowScope(call)),
+            Plan::Enter(entry) => Move::Stay(Place::OpenSlot(entry)),
         }
     }
 
-    /// The refused call gives its share of the terminate count back, and then its jobs.
-    fn undo(self) -> Place
+    /// The refused call gives its share of a count back, and then its jobs.
+    pub(crate) fn undo(self) -> Place
         ensures { result ≡ undo self }
     {
         Place::LowerCount {
-            pool: self.pool(),
+            count: self.count(),
             share: Share::OfJob(self.job()),
             then: Then::GiveBack(self),
         }
@@ -372,7 +358,7 @@ impl PoolShape {
     }
 
     /// Sets the terminate latches, from the first worker's upward.
-    fn terminate(self, party: Party, pool: usize, then: Then) -> Move
+    pub(crate) fn terminate(self, party: Party, pool: usize, then: Then) -> Move
         ensures { result ≡ settle self party pool 0 then }
     {
         if self.workers > 0 {
@@ -484,6 +470,7 @@ impl Place {
             Group::Calling => self.next_calling(party, shape, seen),
             Group::InOrder => self.next_feeding(seen),
             Group::Casting => self.next_casting(shape, seen),
+            Group::Scoping => self.next_scoping(party, seen),
             Group::Waking => self.next_waking(party, shape, seen),
             Group::Closing => self.next_closing(party, shape, seen),
             Group::Resting => Move::Stay(self),
@@ -690,7 +677,8 @@ impl Place {
                 plan,
                 was_empty,
             }),
-            (Place::GrowCall(plan) | Place::PushJob { plan, .. }, _) => Move::Stay(plan.undo()),
+            (Place::GrowCall(plan), _) => Move::Stay(plan.undo()),
+            (Place::PushJob { plan, .. }, _) => Move::Stay(plan.after_push()),
             (Place::TellNews { plan, .. }, Seen::Wakes(owed)) => shape.wake(
                 party,
                 plan.pool(),
@@ -752,14 +740,19 @@ impl Place {
                 first, last,
             )),
             (Place::TakeResult { call, first }, _) => Move::Stay(call.unanswered(first)),
-            (Place::LowerCount { pool, then, .. }, Seen::Yes) => shape.terminate(party, pool, then),
+            (Place::LowerCount { count, then, .. }, Seen::Yes) => shape.settle_count(
+                party, count, then,
+            ),
             (Place::LowerCount { then, .. }, _) => then.follow(party),
-            (Place::StoreResult { call, owner, .. }, _) => Move::Stay(owner.latch_set(call)),
+            (Place::StoreResult { call, owner, .. }, _) => Move::Stay(owner.latch_set(
+                call,
+                Then::Resume,
+            )),
             (Place::SetLatch(set), Seen::Yes) => Move::Stay(Place::LockToSettle(set)),
             (Place::LockToSettle(set), _) => Move::Stay(Place::WakeSettled(set)),
             (Place::WakeSettled(set), _) => Move::Stay(Place::UnlockSettled(set)),
             (Place::SetLatch(set) | Place::UnlockSettled(set), _) => shape.after_set(party, set),
-            (Place::SetLockLatch(_), _) => Move::Back,
+            (Place::SetLockLatch { then, .. }, _) => then.follow(party),
             _ => Move::Stay(self),
         }
     }
@@ -781,11 +774,12 @@ impl Place {
             (Place::AtOnce { pool, job }, _) => {
                 let then = Then::Ran { job, ending };
                 Place::LowerCount {
-                    pool,
+                    count: Count::OfPool(pool),
                     share: Share::OfJob(job),
                     then,
                 }
             }
+            (Place::ScopeBody(call), _) => Place::StoreBody { call, ending },
             _ => self,
         }
     }

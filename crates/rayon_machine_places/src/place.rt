@@ -1,6 +1,6 @@
 //! Places: where a party stands, which is what it does next and what it keeps until then.
 ghost use Rattle.std.specs.Prelude.{◌≡◌};
-ghost use Rattle.rayon_machine_places.specs.World.{is_own, call_of, share_job, taken_as, is_token};
+ghost use Rattle.rayon_machine_places.specs.World.{is_own, call_of, count_call, count_pool, share_job, taken_as, is_token};
 ghost use Rattle.rayon_machine_places.specs.Places.{same_party, is_member, is_taken, taken_number};
 
 /// A worker of a pool, or an outside caller.
@@ -30,6 +30,12 @@ pub enum JobKind {
     Stored { call: u64, owner: Party },
     /// The call below it on the stack goes on.
     Direct,
+    /// Its ending is stored in the book of a scope, the call of this number, and its share of the scope's count is
+    /// given back. Who gives back the last one sets the scope's latch for this owner.
+    Scoped { call: u64, owner: Party },
+    /// It is the body of a scope, the call of this number and of this owner: it stands in no list, and the call below
+    /// it on the stack goes on.
+    BodyOf { call: u64, owner: Party },
     /// It has no run: it is a token of this worker's FIFO list, in its pool.
     TokenOf(usize),
 }
@@ -116,6 +122,23 @@ pub enum Plan {
     Fork { call: OpenCall, first: u64 },
     /// A detached job is added to the party's own FIFO list, and then a token of it is queued.
     Feed(Feeding),
+    /// A scope is opened: its job is the body, which the party runs at once.
+    Open(OpenCall),
+    /// A job is spawned into a scope.
+    Enter(Entry),
+}
+
+/// A job that is spawned into a scope.
+#[derive(Clone, Copy)]
+pub struct Entry {
+    /// The number of the scope's call.
+    pub call: u64,
+    /// Whose call it is: the scope's latch is set for it.
+    pub owner: Party,
+    /// The pool that the job is queued at.
+    pub pool: usize,
+    /// The number of the job.
+    pub job: u64,
 }
 
 /// A detached job for a FIFO list, and the token that is queued for it.
@@ -151,11 +174,22 @@ pub enum Mark {
     Returned,
 }
 
-/// A share of a terminate count.
+/// A count: who lowers it to 0 sets the latches that wait for it.
+#[derive(Clone, Copy)]
+pub enum Count {
+    /// The terminate count of a pool.
+    OfPool(usize),
+    /// The count of a scope, the call of this number, whose latch is set for this owner.
+    OfScope { call: u64, owner: Party },
+}
+
+/// A share of a count.
 #[derive(Clone, Copy)]
 pub enum Share {
-    /// The share of the pool's value.
+    /// The share of the pool's value, of its terminate count.
     PoolValue,
+    /// The share of a scope's body, of the scope's count.
+    Body,
     /// The share taken for the call that made this job.
     OfJob(u64),
 }
@@ -314,10 +348,16 @@ pub enum Place {
         job: u64,
         kind: JobKind,
     },
-    /// A call raises its pool's terminate count.
+    /// A call raises the count that it takes a share of.
     RaiseCount(Plan),
     /// Makes its cell and latch.
     GrowCall(Plan),
+    /// A scope makes its book and latch.
+    GrowScope(OpenCall),
+    /// A spawn into a scope opens the next number of the scope's book.
+    OpenSlot(Entry),
+    /// A refused one takes its number back.
+    CloseSlot(Entry),
     /// Looks whether the queue is empty.
     LookQueue(Plan),
     /// Queues its job.
@@ -360,9 +400,9 @@ pub enum Place {
         call: OpenCall,
         first: Option<Ending>,
     },
-    /// Gives a share of a terminate count back.
+    /// Gives a share of a count back.
     LowerCount {
-        pool: usize,
+        count: Count,
         share: Share,
         then: Then,
     },
@@ -370,6 +410,18 @@ pub enum Place {
     StoreResult {
         call: u64,
         owner: Party,
+        ending: Ending,
+    },
+    /// The end of a scope's body: stores its ending.
+    StoreBody {
+        call: OpenCall,
+        ending: Ending,
+    },
+    /// The end of a job of a scope: stores its ending in the scope's book.
+    StoreSlot {
+        call: u64,
+        owner: Party,
+        job: u64,
         ending: Ending,
     },
     /// Sets a core latch of this worker.
@@ -381,7 +433,10 @@ pub enum Place {
     /// Leaves its lock.
     UnlockSettled(Settling),
     /// Sets the lock latch of an outside caller's call.
-    SetLockLatch(u64),
+    SetLockLatch {
+        call: u64,
+        then: Then,
+    },
     /// A frame: a join below the run of its first side.
     FirstSide {
         call: OpenCall,
@@ -389,6 +444,8 @@ pub enum Place {
     },
     /// A frame: a join below the run of its own second side.
     SecondSide(OpenCall),
+    /// A frame: a scope below the run of its body.
+    ScopeBody(OpenCall),
     /// A frame: an install below the run of its job.
     AtOnce {
         pool: usize,
@@ -528,13 +585,35 @@ impl Latch {
     }
 }
 
+impl Count {
+    /// The pool whose count this is; of a scope's count the own pool of a party.
+    pub fn pool(self, party: Party) -> usize
+        ensures { result ≡ count_pool party self }
+    {
+        match self {
+            Count::OfPool(pool) => pool,
+            Count::OfScope { .. } => party.pool(),
+        }
+    }
+
+    /// The number of the scope's call, and 0 of a terminate count.
+    pub fn call(self) -> u64
+        ensures { result ≡ count_call self }
+    {
+        match self {
+            Count::OfPool(_) => 0,
+            Count::OfScope { call, .. } => call,
+        }
+    }
+}
+
 impl Share {
-    /// The number of the job whose share this is, and 0 of the share of a pool's value.
+    /// The number of the job whose share this is, and 0 of the share of a pool's value or of a scope's body.
     pub fn job(self) -> u64
         ensures { result ≡ share_job self }
     {
         match self {
-            Share::PoolValue => 0,
+            Share::PoolValue | Share::Body => 0,
             Share::OfJob(job) => job,
         }
     }

@@ -46,6 +46,17 @@ pub enum Whereabouts {
     Spent,
 }
 
+/// A job's number in the book of its scope.
+#[derive(Clone, Copy)]
+pub enum Slot {
+    /// It has none.
+    Closed,
+    /// Its ending is not yet stored.
+    Open(u64),
+    /// Its ending is stored.
+    Filled(u64),
+}
+
 /// A job, or a token.
 #[derive(Clone, Copy)]
 pub struct Job {
@@ -57,10 +68,13 @@ pub struct Job {
     pub at: Whereabouts,
     /// How often its run was begun.
     pub runs: u64,
-    /// Whether its pool's terminate count has a share for the call that made it.
+    /// Whether a count has a share for the call that made it: the count of its scope, if it is a job of one, and else
+    /// its pool's terminate count.
     pub counted: bool,
     /// Of a piece of a broadcast: the worker of its pool, by its index, that alone runs it.
     pub bound: Option<usize>,
+    /// Its number in the book of its scope.
+    pub slot: Slot,
 }
 
 /// A call that waits.
@@ -72,8 +86,29 @@ pub struct Call {
     pub cell: Option<Ending>,
     /// The first side, of a join.
     pub first: Option<u64>,
-    /// The job whose ending comes into the cell.
+    /// The job whose ending comes into the cell: of a scope, its body.
     pub job: u64,
+    /// Of a scope: how many shares its count has.
+    pub count: u64,
+    /// Whether one of them is the body's.
+    pub counted: bool,
+    /// How many numbers its book has opened.
+    pub slots: u64,
+    /// Who holds its book.
+    pub writer: Option<Party>,
+    /// The job whose fault its book keeps: the first that was stored.
+    pub fault: Option<u64>,
+}
+
+/// A scope, by its number.
+#[derive(Clone, Copy)]
+pub struct Scope {
+    /// The number of its call.
+    pub call: u64,
+    /// The pool that its jobs are queued at.
+    pub pool: usize,
+    /// Whose call it is.
+    pub owner: Party,
 }
 
 impl Whereabouts {
@@ -121,6 +156,7 @@ impl Job {
             runs: 0,
             counted: false,
             bound: None,
+            slot: Slot::Closed,
         }
     }
 
@@ -135,6 +171,7 @@ impl Job {
             runs: 0,
             counted: false,
             bound: None,
+            slot: Slot::Closed,
         }
     }
 
@@ -149,6 +186,7 @@ impl Job {
             runs: 0,
             counted: false,
             bound: Some(worker),
+            slot: Slot::Closed,
         }
     }
 
@@ -220,6 +258,11 @@ impl Call {
             cell: None,
             first,
             job,
+            count: 1,
+            counted: true,
+            slots: 0,
+            writer: None,
+            fault: None,
         }
     }
 }

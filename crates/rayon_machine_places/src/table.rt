@@ -5,7 +5,7 @@ ghost use Rattle.rayon_machine_places.specs.Groups.{group_of};
 ghost use Rattle.rayon_machine_places.specs.declared.place.Party.{Party as AnyParty};
 ghost use Rattle.rayon_machine_places.specs.declared.place.Party.TheVariants.{Worker};
 ghost use Rattle.rayon_machine_places.specs.declared.act.Act.TheVariants.{Idle};
-ghost use Rattle.rayon_machine_places.specs.declared.table.Group.TheVariants.{Busy, Searching, Dozing, Rising, Joining, Yielding, Calling, InOrder, Waking, Closing};
+ghost use Rattle.rayon_machine_places.specs.declared.table.Group.TheVariants.{Busy, Searching, Dozing, Rising, Joining, Yielding, Calling, InOrder, Scoping, Waking, Closing};
 ghost use Rattle.rayon_machine_places.specs.Readers.{next_at};
 
 use crate::act::{Act, Next};
@@ -32,6 +32,8 @@ pub(crate) enum Group {
     InOrder,
     /// A broadcast.
     Casting,
+    /// A scope, and what is spawned into it.
+    Scoping,
     /// Waking workers.
     Waking,
     /// The end of a run or of a call.
@@ -60,18 +62,20 @@ impl Plan {
         match self {
             Plan::Detach { pool, .. } | Plan::Here { pool, .. } => pool,
             Plan::Feed(feeding) => feeding.pool,
-            Plan::Send(call) | Plan::Fork { call, .. } => call.pool,
+            Plan::Enter(entry) => entry.pool,
+            Plan::Send(call) | Plan::Fork { call, .. } | Plan::Open(call) => call.pool,
         }
     }
 
-    /// The job that a call queues or runs at once: of a join, its second side.
+    /// The job that a call queues or runs at once: of a join its second side, of a scope its body.
     pub fn job(self) -> u64
         ensures { result ≡ plan_job self }
     {
         match self {
             Plan::Detach { job, .. } | Plan::Here { job, .. } => job,
             Plan::Feed(feeding) => feeding.job,
-            Plan::Send(call) | Plan::Fork { call, .. } => call.job,
+            Plan::Enter(entry) => entry.job,
+            Plan::Send(call) | Plan::Fork { call, .. } | Plan::Open(call) => call.job,
         }
     }
 
@@ -80,7 +84,7 @@ impl Plan {
         ensures { result ≡ plan_call self }
     {
         match self {
-            Plan::Send(call) | Plan::Fork { call, .. } => call.number,
+            Plan::Send(call) | Plan::Fork { call, .. } | Plan::Open(call) => call.number,
             _ => 0,
         }
     }
@@ -96,13 +100,13 @@ fn look(party: Party, pool: usize) -> Act
     }
 }
 
-/// Queues a job at a pool.
-fn push(party: Party, pool: usize, job: u64) -> Act
-    ensures { result ≡ push_act party pool job }
+/// Queues a job at a pool, and leaves the book of this scope.
+fn push(party: Party, pool: usize, job: u64, book: Option<u64>) -> Act
+    ensures { result ≡ push_act party pool job book }
 {
     match party {
-        Party::Worker { pool: own, .. } if own == pool => Act::PushOwn(job),
-        _ => Act::PushInj { pool, job },
+        Party::Worker { pool: own, .. } if own == pool => Act::PushOwn { job, book },
+        _ => Act::PushInj { pool, job, book },
     }
 }
 
@@ -149,15 +153,19 @@ impl Place {
             Place::AddToFifo(_) | Place::TakeFromFifo(_) => Group::InOrder,
             Place::LookForToken(_) | Place::PushToken { .. } => Group::InOrder,
             Place::RaiseForAll(_) | Place::PushForAll(_) | Place::LowerForAll(_) => Group::Casting,
+            Place::GrowScope(_) | Place::OpenSlot(_) | Place::CloseSlot(_) => Group::Scoping,
+            Place::StoreBody { .. } | Place::StoreSlot { .. } => Group::Scoping,
             Place::LookQueue(_) | Place::PushJob { .. } | Place::TellNews { .. } => Group::Calling,
             Place::LockToWake(_) | Place::WakeWorker(_) | Place::UnlockWoken(_) => Group::Waking,
             Place::WaitForLock(_) | Place::TakeResult { .. } | Place::LowerCount { .. } =>
                 Group::Closing,
             Place::StoreResult { .. } | Place::SetLatch(_) | Place::LockToSettle(_) =>
                 Group::Closing,
-            Place::WakeSettled(_) | Place::UnlockSettled(_) | Place::SetLockLatch(_) =>
+            Place::WakeSettled(_) | Place::UnlockSettled(_) | Place::SetLockLatch { .. } =>
                 Group::Closing,
-            _ => Group::Resting,
+            Place::Run { .. } | Place::Free | Place::Stopped => Group::Resting,
+            Place::FirstSide { .. } | Place::SecondSide(_) => Group::Resting,
+            Place::ScopeBody(_) | Place::AtOnce { .. } => Group::Resting,
         }
     }
 
@@ -193,6 +201,7 @@ impl Place {
             (Group::Calling, _) => self.calling_act(party),
             (Group::InOrder, Party::Worker { .. }) => self.feeding_act(),
             (Group::Casting, _) => self.casting_act(),
+            (Group::Scoping, _) => self.scoping_act(),
             (Group::Waking, _) => self.waking_act(),
             (Group::Closing, _) => self.closing_act(),
             _ => Act::Idle,
@@ -276,12 +285,12 @@ impl Place {
             Place::BeginTask(task) => begin(task),
             Place::BeginHere(job) => Act::Begin(job),
             Place::RaiseCount(plan) => Act::Raise {
-                pool: plan.pool(),
+                count: plan.count(),
                 job: plan.job(),
             },
             Place::GrowCall(plan) => Act::Grow(plan.call()),
             Place::LookQueue(plan) => look(party, plan.pool()),
-            Place::PushJob { plan, .. } => push(party, plan.pool(), plan.job()),
+            Place::PushJob { plan, .. } => push(party, plan.pool(), plan.job(), plan.book()),
             Place::TellNews { plan, was_empty } => Act::News {
                 pool: plan.pool(),
                 was_empty,
@@ -297,7 +306,10 @@ impl Place {
         match self {
             Place::AddToFifo(feeding) => Act::FifoIn(feeding.job),
             Place::LookForToken(_) => Act::LookOwn,
-            Place::PushToken { feeding, .. } => Act::PushOwn(feeding.token),
+            Place::PushToken { feeding, .. } => Act::PushOwn {
+                job: feeding.token,
+                book: None,
+            },
             Place::TakeFromFifo(_) => Act::FifoUndo,
             _ => Act::Idle,
         }
@@ -331,7 +343,7 @@ impl Place {
         match self {
             Place::WaitForLock(call) => Act::LockWait(call.number),
             Place::TakeResult { call, .. } => Act::Take(call.number),
-            Place::LowerCount { pool, share, .. } => Act::Lower { pool, share },
+            Place::LowerCount { count, share, .. } => Act::Lower { count, share },
             Place::StoreResult { call, ending, .. } => Act::Store { call, ending },
             Place::SetLatch(set) => Act::Set {
                 latch: set.latch,
@@ -350,7 +362,7 @@ impl Place {
                 pool: set.pool,
                 worker: set.worker,
             },
-            Place::SetLockLatch(call) => Act::LockSet(call),
+            Place::SetLockLatch { call, .. } => Act::LockSet(call),
             _ => Act::Idle,
         }
     }
@@ -367,14 +379,15 @@ impl Place {
         }
     }
 
-    /// Whether the next act can be refused for want of room: where a call grows, where a job is pushed, where one is
-    /// added to a FIFO list, and where the pieces of a broadcast are put into the broadcast lists.
+    /// Whether the next act can be refused for want of room: where a call or a book grows, where a job is pushed, where
+    /// one is added to a FIFO list, and where the pieces of a broadcast are put into the broadcast lists.
     pub fn refusable(self) -> bool
         ensures { result ≡ is_refusable self }
     {
         match self {
             Place::GrowCall(_) | Place::PushJob { .. } => true,
             Place::AddToFifo(_) | Place::PushToken { .. } | Place::PushForAll(_) => true,
+            Place::GrowScope(_) | Place::OpenSlot(_) => true,
             _ => false,
         }
     }

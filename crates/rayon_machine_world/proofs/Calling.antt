@@ -1,25 +1,28 @@
 -- the steps in which a call begins or a run ends
 use Rattle.std.proofs.Common.{◌≡◌, ℕ, true, false, sym, ◌∙◌, ap}
-use Rattle.std.specs.Prelude.{Option, Some, None, ◌&&◌, ◌+◌, ◌==◌, if◌then◌else◌}
+use Rattle.std.specs.Prelude.{Option, Some, None, slice_get, ◌&&◌, ◌+◌, ◌==◌, if◌then◌else◌}
 use Rattle.std.proofs.lemmas.Bool.{eqb-true}
 use Rattle.rayon_machine_places.specs.declared.place.Party.{Party}
 use Rattle.rayon_machine_places.specs.declared.place.Party.TheVariants.{Worker}
 use Rattle.rayon_machine_places.specs.declared.place.Ending.{Ending}
 use Rattle.rayon_machine_places.specs.declared.place.JobKind.{JobKind}
-use Rattle.rayon_machine_places.specs.declared.place.JobKind.TheVariants.{Detached, Direct, Stored, TokenOf}
+use Rattle.rayon_machine_places.specs.declared.place.JobKind.TheVariants.{Detached, Direct, Scoped, Stored, TokenOf, BodyOf}
 use Rattle.rayon_machine_places.specs.declared.place.Place.{Place}
 use Rattle.rayon_machine_places.specs.declared.place.Place.TheVariants.{LowerCount, Run}
 use Rattle.rayon_machine_places.specs.declared.place.Move.TheVariants.{Enter}
 use Rattle.rayon_machine_places.specs.declared.place.Pieces.{Pieces}
-use Rattle.rayon_machine_places.specs.declared.place.Plan.TheVariants.{Detach, Feed, Fork, Here, Send}
+use Rattle.rayon_machine_places.specs.declared.place.Plan.{Plan}
+use Rattle.rayon_machine_places.specs.declared.place.Plan.TheVariants.{Detach, Enter, Feed, Fork, Here, Open, Send}
 use Rattle.rayon_machine_places.specs.declared.place.Share.TheVariants.{PoolValue}
+use Rattle.rayon_machine_places.specs.declared.place.Count.TheVariants.{OfPool}
 use Rattle.rayon_machine_places.specs.declared.place.Then.TheVariants.{Resume}
 use Rattle.rayon_machine_places.specs.declared.state.Job.{Job}
+use Rattle.rayon_machine_places.specs.declared.state.Scope.{Scope}
 use Rattle.rayon_machine_places.specs.declared.state.Whereabouts.TheVariants.{Over}
 use Rattle.rayon_machine_places.specs.Places.{is_free, is_member}
 use Rattle.rayon_machine_places.specs.World.{World, at_job}
-use Rattle.rayon_machine_places.specs.Steps.{after_cast, after_close, after_end, after_end_pool, after_feed, after_fifo, after_install, is_pool, after_join, new_job, put, put_stack, after_spawn, after_move}
-use Rattle.rayon_machine_world.specs.Running.{after_open_cast, after_open_feed, after_open_join, after_open_job, after_open_call, after_own_fifo}
+use Rattle.rayon_machine_places.specs.Steps.{after_cast, after_close, after_end, after_end_pool, after_feed, after_fifo, after_install, holds, is_pool, after_into, after_join, after_scope, new_job, put, put_stack, after_spawn, after_move}
+use Rattle.rayon_machine_world.specs.Running.{after_open_cast, after_open_feed, after_open_join, after_open_job, after_open_call, after_open_scope, after_own_fifo}
 
 pub spawned-is : (w : World) (q : Party) (p : ℕ) (x : Place) (job : Job) → x ≡ (w.stack q).top → is_free x ≡ true → is_pool w.shape p ≡ true → job ≡ new_job q p (Detached p) → after_spawn w q p (w.stack q) ≡ Some (after_open_job w q x (Detach p w.jobs) job)
 spawned-is w q p x job ex f k ej =
@@ -74,13 +77,29 @@ own-fifo-is w q p r i e z =
     let same : r ≡ p = eqb-true r p z in
     ap (λ n. after_fifo w n p (w.stack n)) e ∙ rw z (ap (λ n. if is_free (w.stack (Worker n i)).top && is_pool w.shape p then Some (after_feed w p i (w.stack (Worker n i))) else None) same)
 
-pub given-is : (w : World) (q : Party) (p : ℕ) (x : Place) → x ≡ (w.stack q).top → is_free x ≡ true → is_pool w.shape p ≡ true → (w.pool p).held ≡ true → after_end_pool w q p (w.stack q) ≡ Some (record w { stack = put_stack w.stack q (after_move (Enter x (LowerCount p PoolValue Resume)) (w.stack q).below); pool = put w.pool p (record (w.pool p) { held = false }) })
+pub given-is : (w : World) (q : Party) (p : ℕ) (x : Place) → x ≡ (w.stack q).top → is_free x ≡ true → is_pool w.shape p ≡ true → (w.pool p).held ≡ true → after_end_pool w q p (w.stack q) ≡ Some (record w { stack = put_stack w.stack q (after_move (Enter x (LowerCount (OfPool p) PoolValue Resume)) (w.stack q).below); pool = put w.pool p (record (w.pool p) { held = false }) })
 given-is w q p x ex f k h =
     let free : is_free (w.stack q).top ≡ true = ap is_free (sym ex) ∙ f in
-    let to : Place → Option World = λ y. Some (record w { stack = put_stack w.stack q (after_move (Enter y (LowerCount p PoolValue Resume)) (w.stack q).below); pool = put w.pool p (record (w.pool p) { held = false }) }) in
+    let to : Place → Option World = λ y. Some (record w { stack = put_stack w.stack q (after_move (Enter y (LowerCount (OfPool p) PoolValue Resume)) (w.stack q).below); pool = put w.pool p (record (w.pool p) { held = false }) }) in
     rw (free, k, h) (ap to (sym ex))
 
 pub ended-is : (w : World) (q : Party) (e : Ending) (t : ℕ) (k : JobKind) → Run t k ≡ (w.stack q).top → after_end w q e (w.stack q) (w.stack q).top ≡ Some (record w { stack = put_stack w.stack q (after_close t k e (w.stack q).below); job = put w.job t (at_job (w.job t) (Over e)) })
 ended-is w q e t k ex =
     let to : Place → Option World = λ y. after_end w q e (w.stack q) y in
     ap to (sym ex)
+
+pub scoped-is : (w : World) (q : Party) (p : ℕ) (x : Place) (body : Job) → x ≡ (w.stack q).top → is_free x ≡ true → is_pool w.shape p ≡ true → body ≡ new_job q p (BodyOf w.calls q) → after_scope w q p (w.stack q) ≡ Some (after_open_scope w q x (Open (record { number = w.calls; pool = p; job = w.jobs })) body (record { call = w.calls; pool = p; owner = q }))
+scoped-is w q p x body ex f k ej =
+    let free : is_free (w.stack q).top ≡ true = ap is_free (sym ex) ∙ f in
+    let scope : Scope = record { call = w.calls; pool = p; owner = q } in
+    let to : Place → Option World = λ y. Some (after_open_scope w q y (Open (record { number = w.calls; pool = p; job = w.jobs })) (new_job q p (BodyOf w.calls q)) scope) in
+    let with_body : Job → Option World = λ j. Some (after_open_scope w q x (Open (record { number = w.calls; pool = p; job = w.jobs })) j scope) in
+    rw (free, k) (ap to (sym ex) ∙ ap with_body (sym ej))
+
+pub entered-is : (w : World) (q : Party) (n : ℕ) (z : Scope) (x : Place) (job : Job) → slice_get w.scopes n ≡ Some z → x ≡ (w.stack q).top → is_free x ≡ true → holds z.call (w.stack q) ≡ true → job ≡ new_job q z.pool (Scoped z.call z.owner) → after_into w q n (w.stack q) ≡ Some (after_open_job w q x (Enter (record { call = z.call; owner = z.owner; pool = z.pool; job = w.jobs })) job)
+entered-is w q n z x job ez ex f k ej =
+    let free : is_free (w.stack q).top ≡ true = ap is_free (sym ex) ∙ f in
+    let plan : Plan = Enter (record { call = z.call; owner = z.owner; pool = z.pool; job = w.jobs }) in
+    let to : Place → Option World = λ y. Some (after_open_job w q y plan (new_job q z.pool (Scoped z.call z.owner))) in
+    let with_job : Job → Option World = λ j. Some (after_open_job w q x plan j) in
+    rw (ez, free, k) (ap to (sym ex) ∙ ap with_job (sym ej))

@@ -1,5 +1,5 @@
 -- what a running world stands for, and what its steps leave
-use Rattle.std.specs.Prelude.{ℕ, ◌&&◌, ◌+◌, if◌then◌else◌, Option, Some, None, Result, ◌≡◌, IfErr, OnErr, OnOk}
+use Rattle.std.specs.Prelude.{ℕ, ◌&&◌, ◌+◌, if◌then◌else◌, Option, Some, None, List, [], ◌∷◌, ◌++◌, Result, ◌≡◌, IfErr, OnErr, OnOk}
 use Rattle.rayon_machine_places.specs.declared.error.StepError.{StepError}
 use Rattle.rayon_machine_places.specs.declared.error.StepError.TheVariants.{NotEnabled, NoRoom}
 use Rattle.rayon_machine_places.specs.declared.place.Party.{Party}
@@ -11,6 +11,7 @@ use Rattle.rayon_machine_places.specs.declared.place.Move.TheVariants.{Enter}
 use Rattle.rayon_machine_places.specs.declared.place.Pieces.{Pieces}
 use Rattle.rayon_machine_places.specs.declared.place.Plan.{Plan}
 use Rattle.rayon_machine_places.specs.declared.state.Job.{Job}
+use Rattle.rayon_machine_places.specs.declared.state.Scope.{Scope}
 use Rattle.rayon_machine_parts.specs.declared.deed.Deed.{Deed}
 use Rattle.rayon_machine_world.specs.declared.world.World.{World as StoredWorld}
 use Rattle.rayon_machine_places.specs.Places.{is_free, own_index}
@@ -29,6 +30,7 @@ world_of w = record {
   job = job_at w.parts.jobs.items;
   calls = w.calls;
   jobs = w.jobs;
+  scopes = w.scopes.items;
 }
 
 -- what a step answers and leaves, where the relation says this of its event: the relation's next world; not enabled
@@ -56,6 +58,7 @@ pub record IsPerformed (w u : StoredWorld) (q : Party) (d : Deed) (m : Move) : T
   pub job : (n : ℕ) → job_at u.parts.jobs.items n ≡ jobs_after q m (put (job_at w.parts.jobs.items) d.spot.job d.after.job) n
   pub calls : u.calls ≡ w.calls
   pub jobs : u.jobs ≡ w.jobs
+  pub scopes : u.scopes.items ≡ w.scopes.items
 
 -- a join of two jobs has begun, above this frame
 abbrev pub after_open_join : World → Party → Place → Plan → Job → Job → World
@@ -103,4 +106,15 @@ after_open_call w q frame plan job = record w {
   call = put w.call w.calls (new_call None w.jobs);
   jobs = w.jobs + 1;
   calls = w.calls + 1;
+}
+
+-- a call that opens a scope has begun, above this frame
+abbrev pub after_open_scope : World → Party → Place → Plan → Job → Scope → World
+after_open_scope w q frame plan body scope = record w {
+  stack = put_stack w.stack q (after_move (Enter frame (RaiseCount plan)) (w.stack q).below);
+  job = put w.job w.jobs body;
+  call = put w.call w.calls (new_call None w.jobs);
+  jobs = w.jobs + 1;
+  calls = w.calls + 1;
+  scopes = w.scopes ++ scope ∷ [];
 }

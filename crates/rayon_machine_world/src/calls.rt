@@ -5,6 +5,7 @@ ghost use Rattle.rayon_machine_world.specs.Running.{IsMade, IsStepOf, world_of, 
 ghost use Rattle.rayon_machine_places.specs.World.{at_job};
 ghost use Rattle.rayon_machine_places.specs.declared.place.Move.TheVariants.{Enter};
 ghost use Rattle.rayon_machine_places.specs.declared.place.Place.TheVariants.{LowerCount};
+ghost use Rattle.rayon_machine_places.specs.declared.place.Count.TheVariants.{OfPool};
 ghost use Rattle.rayon_machine_places.specs.declared.place.Share.TheVariants.{PoolValue};
 ghost use Rattle.rayon_machine_places.specs.declared.place.Then.TheVariants.{Resume};
 ghost use Rattle.rayon_machine_places.specs.declared.state.Whereabouts.TheVariants.{Over};
@@ -15,13 +16,13 @@ use rayon_machine_parts::growth::{grow_calls, grow_jobs, grow_pools};
 use rayon_machine_parts::writes::{release, write_call, write_job, write_jobs, write_pieces};
 use rayon_machine_places::error::StepError;
 use rayon_machine_places::place::{
-    Ending, Feeding, JobKind, Move, OpenCall, Party, Pieces, Place, Plan, Share, Then,
+    Count, Ending, Feeding, JobKind, Move, OpenCall, Party, Pieces, Place, Plan, Share, Then,
 };
 use rayon_machine_places::state::{Call, Job, Whereabouts};
 
 impl World {
     /// A call of one job begins.
-    fn open_job(
+    pub(crate) fn open_job(
         &mut self,
         party: Party,
         frame: Place,
@@ -314,7 +315,7 @@ impl World {
     /// A pool's value is no longer held, and its share is to be given back.
     fn let_go(&mut self, party: Party, pool: usize, frame: Place) -> Result<(), StepError>
         ensures { IsMade (record (world_of self.old) {
-          stack = put_stack ((world_of self.old).stack) party (after_move (Enter frame (LowerCount pool PoolValue Resume)) ((world_of self.old).stack party).below);
+          stack = put_stack ((world_of self.old).stack) party (after_move (Enter frame (LowerCount (OfPool pool) PoolValue Resume)) ((world_of self.old).stack party).below);
           pool = put ((world_of self.old).pool) pool (record ((world_of self.old).pool pool) { held = false });
         }) result (world_of self.old) (world_of self.new) }
     {
@@ -322,7 +323,7 @@ impl World {
         self.parties.make_room(self.alloc, &self.shapes, party)?;
         release(&mut self.parts.pools, pool);
         let place = Place::LowerCount {
-            pool,
+            count: Count::OfPool(pool),
             share: Share::PoolValue,
             then: Then::Resume,
         };

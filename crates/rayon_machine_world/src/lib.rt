@@ -7,6 +7,7 @@
 mod calls;
 pub mod readers;
 mod replays;
+mod scopes;
 mod start;
 mod step;
 pub mod world;

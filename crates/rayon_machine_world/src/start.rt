@@ -48,6 +48,7 @@ impl World {
             },
             calls: 0,
             jobs: 0,
+            scopes: Vec::new(alloc),
         })
     }
 }

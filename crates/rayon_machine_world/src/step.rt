@@ -31,6 +31,8 @@ impl World {
             Event::Cast { party, pool } => self.cast(party, pool),
             Event::Install { party, pool } => self.install(party, pool),
             Event::Join(party) => self.join(party),
+            Event::Scope { party, pool } => self.scope(party, pool),
+            Event::IntoSpawn { party, scope } => self.spawn_into(party, scope),
             Event::Yield(party) => self.give_way(party, Place::YieldPop),
             Event::YieldLocal(party) => self.give_way(party, Place::LocalPop),
             Event::EndPool { party, pool } => self.end_pool(party, pool),

@@ -3,6 +3,7 @@
 use rayon_machine_parts::parties::Parties;
 use rayon_machine_parts::parts::Parts;
 use rayon_machine_parts::shapes::Shapes;
+use rayon_machine_places::state::Scope;
 use std::alloc::Global;
 
 /// A world of pools, workers and 16 outside callers.
@@ -14,4 +15,5 @@ pub struct World {
     pub(crate) parts: Parts,
     pub(crate) calls: u64,
     pub(crate) jobs: u64,
+    pub(crate) scopes: Vec<Scope>,
 }

@@ -1,6 +1,7 @@
 -- What a wait, and a join's look, leave of the worker's own: its index and its pool's shape, and its units but for the one
 -- that the end of the call gives back.
 use Rattle.std.proofs.Common.{◌≡◌, ℕ, ◌+◌, ◌-◌, Bool, true, false, nat_lt, ◌==◌, ◌&&◌, if◌then◌else◌, Option, None, Some, refl, sym, subst, ap, true≢false}
+use Rattle.rayon_machine_places.specs.declared.place.Count.TheVariants.{OfPool, OfScope}
 use Rattle.rayon_machine_places.specs.declared.place.Taken.{Taken}
 use Rattle.rayon_machine_places.specs.declared.place.Ending.TheVariants.{Fine}
 use Rattle.rayon_machine_places.specs.declared.place.Party.TheVariants.{Worker}
@@ -38,8 +39,8 @@ chain {A} {x} {y} {z} p q = subst (λ (v : A). x ≡ v) q p
 
 -- an act that takes a unit, or gives one back
 abbrev pub counts : Act → Bool
-counts (acts.Raise p n) = true
-counts (acts.Lower p b) = true
+counts (acts.Raise k n) = true
+counts (acts.Lower k b) = true
 counts _ = false
 
 module _ {X G O F : Type 0} where
@@ -58,16 +59,16 @@ module _ {X G O F : Type 0} where
   does_stays acts.LookOwn _ s t d = (ap (λ (z : Hands X G O F). z.index) d.2, ap (λ (z : Hands X G O F). z.shape) d.2)
   does_stays (acts.Begin n) (Begun k) s t d = (ap (λ (z : Hands X G O F). z.index) d.1, ap (λ (z : Hands X G O F). z.shape) d.1)
   does_stays (acts.Begin n) _ s t d = absurd d
-  does_stays (acts.PushOwn n) Done s t d = (ap (λ (z : Hands X G O F). z.index) d.3, ap (λ (z : Hands X G O F). z.shape) d.3)
-  does_stays (acts.PushOwn n) _ s t d = (ap (λ (z : Hands X G O F). z.index) d.2, ap (λ (z : Hands X G O F). z.shape) d.2)
-  does_stays (acts.PushInj p n) _ s t d = absurd d
+  does_stays (acts.PushOwn n b) Done s t d = (ap (λ (z : Hands X G O F). z.index) d.3, ap (λ (z : Hands X G O F). z.shape) d.3)
+  does_stays (acts.PushOwn n b) _ s t d = (ap (λ (z : Hands X G O F). z.index) d.2, ap (λ (z : Hands X G O F). z.shape) d.2)
+  does_stays (acts.PushInj p n b) _ s t d = absurd d
   does_stays (acts.Store c e) _ s t d = (ap (λ (z : Hands X G O F). z.index) d, ap (λ (z : Hands X G O F). z.shape) d)
   does_stays (acts.Take c) (Found e) s t d = (ap (λ (z : Hands X G O F). z.index) d.1, ap (λ (z : Hands X G O F). z.shape) d.1)
   does_stays (acts.Take c) saw.Missing s t d = (ap (λ (z : Hands X G O F). z.index) d, ap (λ (z : Hands X G O F). z.shape) d)
   does_stays (acts.Take c) _ s t d = absurd d
-  does_stays (acts.Raise p n) Done s t d = (ap (λ (z : Hands X G O F). z.index) d, ap (λ (z : Hands X G O F). z.shape) d)
-  does_stays (acts.Raise p n) _ s t d = (ap (λ (z : Hands X G O F). z.index) d, ap (λ (z : Hands X G O F). z.shape) d)
-  does_stays (acts.Lower p b) _ s t d = (ap (λ (z : Hands X G O F). z.index) d, ap (λ (z : Hands X G O F). z.shape) d)
+  does_stays (acts.Raise k n) Done s t d = (ap (λ (z : Hands X G O F). z.index) d, ap (λ (z : Hands X G O F). z.shape) d)
+  does_stays (acts.Raise k n) _ s t d = (ap (λ (z : Hands X G O F). z.index) d, ap (λ (z : Hands X G O F). z.shape) d)
+  does_stays (acts.Lower k b) _ s t d = (ap (λ (z : Hands X G O F). z.index) d, ap (λ (z : Hands X G O F). z.shape) d)
   does_stays _ x s t d = (ap (λ (z : Hands X G O F). z.index) d, ap (λ (z : Hands X G O F). z.shape) d)
 
   -- the units are as many after an act that counts none
@@ -85,15 +86,15 @@ module _ {X G O F : Type 0} where
   does_holds acts.LookOwn _ s t c d = ap (λ (z : Hands X G O F). z.holds) d.2
   does_holds (acts.Begin n) (Begun k) s t c d = ap (λ (z : Hands X G O F). z.holds) d.1
   does_holds (acts.Begin n) _ s t c d = absurd d
-  does_holds (acts.PushOwn n) Done s t c d = ap (λ (z : Hands X G O F). z.holds) d.3
-  does_holds (acts.PushOwn n) _ s t c d = ap (λ (z : Hands X G O F). z.holds) d.2
-  does_holds (acts.PushInj p n) _ s t c d = absurd d
+  does_holds (acts.PushOwn n b) Done s t c d = ap (λ (z : Hands X G O F). z.holds) d.3
+  does_holds (acts.PushOwn n b) _ s t c d = ap (λ (z : Hands X G O F). z.holds) d.2
+  does_holds (acts.PushInj p n b) _ s t c d = absurd d
   does_holds (acts.Store k e) _ s t c d = ap (λ (z : Hands X G O F). z.holds) d
   does_holds (acts.Take k) (Found e) s t c d = ap (λ (z : Hands X G O F). z.holds) d.1
   does_holds (acts.Take k) saw.Missing s t c d = ap (λ (z : Hands X G O F). z.holds) d
   does_holds (acts.Take k) _ s t c d = absurd d
-  does_holds (acts.Raise p n) x s t c d = absurd (true≢false c)
-  does_holds (acts.Lower p b) x s t c d = absurd (true≢false c)
+  does_holds (acts.Raise k n) x s t c d = absurd (true≢false c)
+  does_holds (acts.Lower k b) x s t c d = absurd (true≢false c)
   does_holds _ x s t c d = ap (λ (z : Hands X G O F). z.holds) d
 
   pub seat_then : (s t u : Hands X G O F) → SameSeat s t → SameSeat t u → SameSeat s u
@@ -296,12 +297,13 @@ module _ {X G O F : Type 0} where
       by true e = lowered y x e a d
         where
           lowered : (y : Place) (x : Seen) → lowers y ≡ true → Held h g v (Stay y) → Does (act_of (Worker 0 i) y) x v w → Closes (next_of k (Worker 0 i) y x) × (w.holds ≡ units_at (next_of k (Worker 0 i) y x) h)
-          lowered (at.LowerCount p s t) Yes l b c =
+          lowered (at.LowerCount (OfPool p) s t) Yes l b c =
               let even = settle_even h g k i p 0 t b.0 in
               (even.0, chain (ap (λ (z : Hands X G O F). z.holds) c) (chain (ap (λ n. n - 1) b.2) (sym (chain even.1 (ap (λ q. units_if q h) b.1)))))
-          lowered (at.LowerCount p s t) _ l b c =
+          lowered (at.LowerCount (OfPool p) s t) _ l b c =
               let even = finish_even h g i t b.0 in
               (even.0, chain (ap (λ (z : Hands X G O F). z.holds) c) (chain (ap (λ n. n - 1) b.2) (sym (chain even.1 (ap (λ q. units_if q h) b.1)))))
+          lowered (at.LowerCount (OfScope d o) s t) _ l b c = absurd b.0
           lowered _ x l b c = absurd (true≢false (sym l))
 
   -- the units after a wait

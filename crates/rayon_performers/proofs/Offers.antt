@@ -1,5 +1,6 @@
 -- The stretches of a join, of an install, and of the end of a run, act by act.
 use Rattle.std.proofs.Common.{◌≡◌, true, false, Bool, ℕ, ◌≤◌, ◌&&◌, ◌==◌, nat_lt, if◌then◌else◌, Result, Ok, Err, MatchResult, refl, sym, subst, arith, rules}
+use Rattle.rayon_machine_places.specs.declared.place.Count.TheVariants.{OfPool}
 use Rattle.rayon_machine_places.specs.declared.place.Taken.{Taken}
 use Rattle.rayon_machine_places.specs.declared.place.Taken.TheVariants.{Plain}
 use Rattle.rayon_machine_places.specs.declared.place.Party.{Party}
@@ -26,12 +27,12 @@ use Rattle.rayon_performers.proofs.Stretches.{So, so_far, by_act}
 
 module _ {X G O F : Type 0} (h : PoolShape) (i n : ℕ) (s t : Hands X G O F) where
   -- a join's unit of the count is taken, or refused
-  pub join_raised : {U E : Type 0} (r : Result U E) → MatchResult r (λ _. Does (acts.Raise 0 n) Done s t) (λ _. Does (acts.Raise 0 n) Refused s t) → MatchResult r (λ _. Adds (acts.Raise 0 n) Done s.trace t.trace) (λ _. Adds (acts.Raise 0 n) Refused s.trace t.trace) → MatchResult r (λ _. So h i (Stay (at.RaiseCount (own_join n))) s (Stay (at.GrowCall (own_join n))) t) (λ _. So h i (Stay (at.RaiseCount (own_join n))) s (HandBack (own_join n)) t)
+  pub join_raised : {U E : Type 0} (r : Result U E) → MatchResult r (λ _. Does (acts.Raise (OfPool 0) n) Done s t) (λ _. Does (acts.Raise (OfPool 0) n) Refused s t) → MatchResult r (λ _. Adds (acts.Raise (OfPool 0) n) Done s.trace t.trace) (λ _. Adds (acts.Raise (OfPool 0) n) Refused s.trace t.trace) → MatchResult r (λ _. So h i (Stay (at.RaiseCount (own_join n))) s (Stay (at.GrowCall (own_join n))) t) (λ _. So h i (Stay (at.RaiseCount (own_join n))) s (HandBack (own_join n)) t)
   join_raised (Ok u) d e = by_act h i (Stay (at.RaiseCount (own_join n))) s (Stay (at.RaiseCount (own_join n))) s t Done refl (so_far h i (Stay (at.RaiseCount (own_join n))) s) d e
   join_raised (Err u) d e = by_act h i (Stay (at.RaiseCount (own_join n))) s (Stay (at.RaiseCount (own_join n))) s t Refused refl (so_far h i (Stay (at.RaiseCount (own_join n))) s) d e
 
   -- and so of an install that runs its job at once
-  pub install_raised : {U E : Type 0} (r : Result U E) → MatchResult r (λ _. Does (acts.Raise 0 n) Done s t) (λ _. Does (acts.Raise 0 n) Refused s t) → MatchResult r (λ _. Adds (acts.Raise 0 n) Done s.trace t.trace) (λ _. Adds (acts.Raise 0 n) Refused s.trace t.trace) → MatchResult r (λ _. So h i (Stay (at.RaiseCount (Here 0 n))) s (Enter (at.AtOnce 0 n) (at.BeginHere n)) t) (λ _. So h i (Stay (at.RaiseCount (Here 0 n))) s (HandBack (Here 0 n)) t)
+  pub install_raised : {U E : Type 0} (r : Result U E) → MatchResult r (λ _. Does (acts.Raise (OfPool 0) n) Done s t) (λ _. Does (acts.Raise (OfPool 0) n) Refused s t) → MatchResult r (λ _. Adds (acts.Raise (OfPool 0) n) Done s.trace t.trace) (λ _. Adds (acts.Raise (OfPool 0) n) Refused s.trace t.trace) → MatchResult r (λ _. So h i (Stay (at.RaiseCount (Here 0 n))) s (Enter (at.AtOnce 0 n) (at.BeginHere n)) t) (λ _. So h i (Stay (at.RaiseCount (Here 0 n))) s (HandBack (Here 0 n)) t)
   install_raised (Ok u) d e = by_act h i (Stay (at.RaiseCount (Here 0 n))) s (Stay (at.RaiseCount (Here 0 n))) s t Done refl (so_far h i (Stay (at.RaiseCount (Here 0 n))) s) d e
   install_raised (Err u) d e = by_act h i (Stay (at.RaiseCount (Here 0 n))) s (Stay (at.RaiseCount (Here 0 n))) s t Refused refl (so_far h i (Stay (at.RaiseCount (Here 0 n))) s) d e
 
@@ -61,10 +62,10 @@ module _ {X G O F : Type 0} (h : PoolShape) (i n : ℕ) (m : Move) (s t u : Hand
   join_looked true a d e = by_act h i m s (Stay (at.LookQueue (own_join n))) t u Yes refl a d e
   join_looked false a d e = by_act h i m s (Stay (at.LookQueue (own_join n))) t u No refl a d e
 
-  pub join_pushed : (z : Bool) → So h i m s (Stay (at.PushJob (own_join n) z)) t → Does (acts.PushOwn n) Done t u → Adds (acts.PushOwn n) Done t.trace u.trace → So h i m s (Stay (at.TellNews (own_join n) z)) u
+  pub join_pushed : (z : Bool) → So h i m s (Stay (at.PushJob (own_join n) z)) t → Does (acts.PushOwn n None) Done t u → Adds (acts.PushOwn n None) Done t.trace u.trace → So h i m s (Stay (at.TellNews (own_join n) z)) u
   join_pushed z a d e = by_act h i m s (Stay (at.PushJob (own_join n) z)) t u Done refl a d e
 
-  pub join_not_pushed : (z : Bool) → So h i m s (Stay (at.PushJob (own_join n) z)) t → Does (acts.PushOwn n) Refused t u → Adds (acts.PushOwn n) Refused t.trace u.trace → So h i m s (Stay (undo (own_join n))) u
+  pub join_not_pushed : (z : Bool) → So h i m s (Stay (at.PushJob (own_join n) z)) t → Does (acts.PushOwn n None) Refused t u → Adds (acts.PushOwn n None) Refused t.trace u.trace → So h i m s (Stay (undo (own_join n))) u
   join_not_pushed z a d e = by_act h i m s (Stay (at.PushJob (own_join n) z)) t u Refused refl a d e
 
 none_owed : (k : ℕ) → k ≤ 0 → nat_lt 0 k ≡ false

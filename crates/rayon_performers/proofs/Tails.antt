@@ -57,7 +57,7 @@ tail_on h q t (at.SetLatch s) _ l a = set_tail h q s s.latch t a l
 tail_on h q t (at.LockToSettle s) _ l a = a
 tail_on h q t (at.WakeSettled s) _ l a = a
 tail_on h q t (at.UnlockSettled s) _ l a = set_tail h q s s.latch t a l
-tail_on h q t (at.SetLockLatch c) _ l a = subst (λ (z : Then). finish q z ≡ Back) (sym a) refl
+tail_on h q t (at.SetLockLatch c u) _ l a = subst (λ (z : Then). IsTail q t (finish q z)) (sym a) (last q t l)
 tail_on h q t _ _ l a = absurd a
 
 -- where it stops, what follows is reached
@@ -69,7 +69,7 @@ stopped q t (Stay (at.SetLatch s)) a g = absurd (true≢false g)
 stopped q t (Stay (at.LockToSettle s)) a g = absurd (true≢false g)
 stopped q t (Stay (at.WakeSettled s)) a g = absurd (true≢false g)
 stopped q t (Stay (at.UnlockSettled s)) a g = absurd (true≢false g)
-stopped q t (Stay (at.SetLockLatch c)) a g = absurd (true≢false g)
+stopped q t (Stay (at.SetLockLatch c u)) a g = absurd (true≢false g)
 stopped q t (Stay _) a g = absurd a
 stopped q t (Enter f p) a g = a
 stopped q t (StartRun f n) a g = a
@@ -93,7 +93,7 @@ module _ {X G O F : Type 0} where
   tail_same p i t (at.LockToSettle s) x u v a d = d
   tail_same p i t (at.WakeSettled s) x u v a d = d
   tail_same p i t (at.UnlockSettled s) x u v a d = d
-  tail_same p i t (at.SetLockLatch c) x u v a d = d
+  tail_same p i t (at.SetLockLatch c n) x u v a d = d
   tail_same p i t _ x u v a d = absurd a
 
   -- what a drive through such places leaves: what follows is reached, and nothing but the trace is another

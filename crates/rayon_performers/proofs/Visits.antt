@@ -1,5 +1,6 @@
 -- The calls of an outside caller go on by one act, and end where their place says.
 use Rattle.std.proofs.Common.{◌≡◌, ℕ, ◌+◌, Bool, true, false, nat_lt, ◌&&◌, if◌then◌else◌, None, Some, refl, sym, subst, ◌∙◌, true≢false}
+use Rattle.rayon_machine_places.specs.declared.place.Count.TheVariants.{OfPool}
 use Rattle.rayon_machine_places.specs.declared.place.Party.TheVariants.{Caller}
 use Rattle.rayon_machine_places.specs.declared.place.Latch.{Latch}
 use Rattle.rayon_machine_places.specs.declared.place.Latch.TheVariants.{Terminate, OfCall}
@@ -82,8 +83,8 @@ module _ {X G O F : Type 0} where
   end_on u h c (at.WaitForLock o) _ a = refl
   end_on u h c (at.TakeResult o f) (Found e) a = refl
   end_on u h c (at.TakeResult o f) _ a = refl
-  end_on u h c (at.LowerCount p b t) Yes a = settle_end h c p 0 t a.2
-  end_on u h c (at.LowerCount p b t) _ a = finish_end c t a.2
+  end_on u h c (at.LowerCount (OfPool p) b t) Yes a = settle_end h c p 0 t a.2
+  end_on u h c (at.LowerCount (OfPool p) b t) _ a = finish_end c t a.2
   end_on u h c (at.SetLatch s) Yes a = refl
   end_on u h c (at.SetLatch s) _ a = set_end h c s s.latch a.3
   end_on u h c (at.LockToSettle s) _ a = refl
@@ -106,7 +107,7 @@ module _ {X G O F : Type 0} where
   keeps_on u v c (at.TakeResult o f) (Found e) a d = subst (λ (z : Visit X G O F). z ≡ record u { done = z.done; first_done = z.first_done; holds = z.holds; trace = z.trace }) (sym d.2) refl
   keeps_on u v c (at.TakeResult o f) Missing a d = subst (λ (z : Visit X G O F). z ≡ record u { done = z.done; first_done = z.first_done; holds = z.holds; trace = z.trace }) (sym d.1) refl
   keeps_on u v c (at.TakeResult o f) _ a d = absurd d
-  keeps_on u v c (at.LowerCount p b t) x a d = subst (λ (z : Visit X G O F). z ≡ record u { done = z.done; first_done = z.first_done; holds = z.holds; trace = z.trace }) (sym d.1) refl
+  keeps_on u v c (at.LowerCount (OfPool p) b t) x a d = subst (λ (z : Visit X G O F). z ≡ record u { done = z.done; first_done = z.first_done; holds = z.holds; trace = z.trace }) (sym d.1) refl
   keeps_on u v c (at.SetLatch s) x a d = keeps_same u v d
   keeps_on u v c (at.LockToSettle s) x a d = keeps_same u v d
   keeps_on u v c (at.WakeSettled s) x a d = keeps_same u v d
@@ -129,7 +130,7 @@ module _ {X G O F : Type 0} where
   stopped u (Stay (at.UnlockWoken k)) a g = absurd (true≢false g)
   stopped u (Stay (at.WaitForLock o)) a g = absurd (true≢false g)
   stopped u (Stay (at.TakeResult o f)) a g = absurd (true≢false g)
-  stopped u (Stay (at.LowerCount p b t)) a g = absurd (true≢false g)
+  stopped u (Stay (at.LowerCount (OfPool p) b t)) a g = absurd (true≢false g)
   stopped u (Stay (at.SetLatch s)) a g = absurd (true≢false g)
   stopped u (Stay (at.LockToSettle s)) a g = absurd (true≢false g)
   stopped u (Stay (at.WakeSettled s)) a g = absurd (true≢false g)

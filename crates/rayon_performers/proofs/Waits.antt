@@ -1,5 +1,6 @@
 -- A wait ends with a task that begins above it, or with what it waits for.
 use Rattle.std.proofs.Common.{◌≡◌, ℕ, ◌+◌, ◌-◌, Bool, true, false, nat_lt, ◌==◌, ◌&&◌, if◌then◌else◌, Option, None, Some, refl, sym, subst, true≢false}
+use Rattle.rayon_machine_places.specs.declared.place.Count.TheVariants.{OfPool}
 use Rattle.rayon_machine_places.specs.declared.place.Taken.{Taken}
 use Rattle.rayon_machine_places.specs.declared.place.Party.TheVariants.{Worker}
 use Rattle.rayon_machine_places.specs.declared.place.Latch.{Latch}
@@ -63,7 +64,7 @@ WaitAt g (at.LockToWake k) = After g k.then
 WaitAt g (at.WakeWorker k) = After g k.then
 WaitAt g (at.UnlockWoken k) = After g k.then
 WaitAt (Answer o f) (at.TakeResult p s) = Unit {0}
-WaitAt g (at.LowerCount p s t) = After g t
+WaitAt g (at.LowerCount (OfPool p) s t) = After g t
 WaitAt g (at.SetLatch s) = After g s.then
 WaitAt g (at.LockToSettle s) = After g s.then
 WaitAt g (at.WakeSettled s) = After g s.then
@@ -183,8 +184,8 @@ wait_on g h i (at.UnlockWoken k) _ a = walk_in g h i k.pool k.owed (k.worker + 1
 wait_on (Answer o f) h i (at.TakeResult p s) (Found e) a = tt
 wait_on (Answer o f) h i (at.TakeResult p s) _ a = tt
 wait_on Termination h i (at.TakeResult p s) _ a = absurd a
-wait_on g h i (at.LowerCount p s t) Yes a = settle_in g h i p 0 t a
-wait_on g h i (at.LowerCount p s t) _ a = finish_in g i t a
+wait_on g h i (at.LowerCount (OfPool p) s t) Yes a = settle_in g h i p 0 t a
+wait_on g h i (at.LowerCount (OfPool p) s t) _ a = finish_in g i t a
 wait_on g h i (at.SetLatch s) Yes a = a
 wait_on g h i (at.SetLatch s) _ a = set_in g h i s s.latch a
 wait_on g h i (at.LockToSettle s) _ a = a
@@ -223,7 +224,7 @@ stopped g (Stay (at.LockToWake k)) a e = absurd (true≢false e)
 stopped g (Stay (at.WakeWorker k)) a e = absurd (true≢false e)
 stopped g (Stay (at.UnlockWoken k)) a e = absurd (true≢false e)
 stopped g (Stay (at.TakeResult p s)) a e = absurd (true≢false e)
-stopped g (Stay (at.LowerCount p s t)) a e = absurd (true≢false e)
+stopped g (Stay (at.LowerCount (OfPool p) s t)) a e = absurd (true≢false e)
 stopped g (Stay (at.SetLatch s)) a e = absurd (true≢false e)
 stopped g (Stay (at.LockToSettle s)) a e = absurd (true≢false e)
 stopped g (Stay (at.WakeSettled s)) a e = absurd (true≢false e)

@@ -1,5 +1,6 @@
 -- What a worker performs its acts with, and what each act does to it.
 use Rattle.std.specs.Prelude.{◌≡◌, ℕ, ◌+◌, ◌-◌, ◌++◌, [], ◌∷◌, List, Bool, true, false, Option, None, Some, slice_get}
+use Rattle.rayon_machine_places.specs.declared.place.Count.TheVariants.{OfScope}
 use Rattle.rayon_machine_places.specs.declared.place.Ending.{Ending}
 use Rattle.rayon_machine_places.specs.declared.place.JobKind.{JobKind}
 use Rattle.rayon_machine_places.specs.declared.place.JobKind.TheVariants.{Stored, Direct}
@@ -108,11 +109,16 @@ module _ {X G O F : Type 0} where
   Needs (acts.RaiseAll c) s = ⊥
   Needs (acts.PushCast c) s = ⊥
   Needs (acts.LowerAll c) s = ⊥
-  Needs (acts.PushOwn n) s = ⊥
-  Needs (acts.PushInj p n) s = ⊥
+  Needs (acts.PushOwn n b) s = ⊥
+  Needs (acts.PushInj p n b) s = ⊥
   Needs (acts.Grow c) s = ⊥
   Needs (acts.LockWait c) s = ⊥
-  Needs (acts.Raise p n) s = ⊥
+  Needs (acts.Raise k n) s = ⊥
+  Needs (acts.Lower (OfScope c o) b) s = ⊥
+  Needs (acts.Slot c n) s = ⊥
+  Needs (acts.SlotUndo c n) s = ⊥
+  Needs (acts.StoreBody c e) s = ⊥
+  Needs (acts.StoreSlot c n e) s = ⊥
   Needs acts.Idle s = ⊥
   Needs _ s = Unit {0}
 
@@ -188,10 +194,10 @@ module _ {X G O F : Type 0} where
   Does acts.TakeCast x s t = Casts x s t
   Does acts.LookOwn x s t = Looks s t
   Does (acts.Begin n) x s t = Begins x s t
-  Does (acts.PushOwn n) x s t = Queues n x s t
-  Does (acts.PushInj p n) x s t = ⊥
+  Does (acts.PushOwn n b) x s t = Queues n x s t
+  Does (acts.PushInj p n b) x s t = ⊥
   Does (acts.Store c e) x s t = Stores s t
   Does (acts.Take c) x s t = Takes x s t
-  Does (acts.Raise p n) x s t = Raises x s t
-  Does (acts.Lower p b) x s t = Lowers s t
+  Does (acts.Raise k n) x s t = Raises x s t
+  Does (acts.Lower k b) x s t = Lowers s t
   Does _ x s t = Same s t

@@ -2,6 +2,7 @@
 use Rattle.std.specs.Prelude.{◌≡◌, ℕ, ◌+◌, ◌-◌, ◌==◌, nat_lt, ◌&&◌, if◌then◌else◌, Bool, true, false, Option, None, Some}
 use Rattle.std.proofs.Common.{refl, sym, subst, ap, true≢false}
 use Rattle.std.proofs.lemmas.Bool.{eqb-true}
+use Rattle.rayon_machine_places.specs.declared.place.Count.TheVariants.{OfPool, OfScope}
 use Rattle.rayon_machine_places.specs.declared.place.Party.{Party}
 use Rattle.rayon_machine_places.specs.declared.place.Party.TheVariants.{Worker, Caller}
 use Rattle.rayon_machine_places.specs.declared.place.Ending.{Ending}
@@ -136,7 +137,7 @@ module _ {X G O F : Type 0} where
   either_place u true m n a b = a
   either_place u false m n a b = b
 
-  told : (u : Hands X G O F) (c : ℕ) (o : Party) → HasTicket u.reply (Some c) → Stands u (Stay (set_call c o))
+  told : (u : Hands X G O F) (c : ℕ) (o : Party) → HasTicket u.reply (Some c) → Stands u (Stay (set_call c o Resume))
   told u c (Worker p i) k = (record { task = tt; call = tt; reply = k; done = tt; probed = tt }, tt)
   told u c (Caller n) k = (record { task = tt; call = tt; reply = k; done = tt; probed = tt }, tt)
 
@@ -168,7 +169,7 @@ module _ {X G O F : Type 0} where
   stands_needs u p i (at.TakeResult o f) r a = a.0.call
   stands_needs u p i (at.StoreResult c o e) r a = (a.0.reply, a.0.done)
   stands_needs u p i (at.SetLatch s) r a = a.0.reply
-  stands_needs u p i (at.SetLockLatch c) r a = a.0.reply
+  stands_needs u p i (at.SetLockLatch c t) r a = a.0.reply
   stands_needs u p i (at.BeginTask (Plain t)) r a = a.0.task
   stands_needs u p i (at.BeginTask (Token t j)) r a = no_token u.task t j a.0.task
   stands_needs u p i (at.BeginHere t) r a = a.0.task
@@ -185,9 +186,16 @@ module _ {X G O F : Type 0} where
   stands_needs u p i (at.LowerForAll c) r a = absurd a.1
   stands_needs u p i (at.TellNews n e) r a = absurd a.1
   stands_needs u p i (at.WaitForLock o) r a = absurd a.1
+  stands_needs u p i (at.GrowScope o) r a = absurd a.1
+  stands_needs u p i (at.OpenSlot e) r a = absurd a.1
+  stands_needs u p i (at.CloseSlot e) r a = absurd a.1
+  stands_needs u p i (at.LowerCount (OfScope c o) s t) r a = absurd a.1
+  stands_needs u p i (at.StoreBody o e) r a = absurd a.1
+  stands_needs u p i (at.StoreSlot c o n e) r a = absurd a.1
   stands_needs u p i (at.Run t k) r a = absurd (true≢false r)
   stands_needs u p i (at.FirstSide o b) r a = absurd (true≢false r)
   stands_needs u p i (at.SecondSide o) r a = absurd (true≢false r)
+  stands_needs u p i (at.ScopeBody o) r a = absurd (true≢false r)
   stands_needs u p i (at.AtOnce m t) r a = absurd (true≢false r)
   stands_needs u p i at.Free r a = absurd (true≢false r)
   stands_needs u p i at.Stopped r a = absurd (true≢false r)
@@ -268,15 +276,15 @@ module _ {X G O F : Type 0} where
   stands_on u v h p i (at.TakeResult o f) (Found e) r a d = (via v _ _ _ _ _ _ d.1 (bare _ None tt), tt)
   stands_on u v h p i (at.TakeResult o f) Missing r a d = (via v _ _ _ _ _ _ d (bare _ None tt), tt)
   stands_on u v h p i (at.TakeResult o f) _ r a d = absurd d
-  stands_on u v h p i (at.LowerCount m s t) Yes r a d = settle_stands v h p i m 0 t (lowered u v _ _ _ _ _ d a.0)
-  stands_on u v h p i (at.LowerCount m s t) _ r a d = finish_stands v p i t (lowered u v _ _ _ _ _ d a.0)
+  stands_on u v h p i (at.LowerCount (OfPool m) s t) Yes r a d = settle_stands v h p i m 0 t (lowered u v _ _ _ _ _ d a.0)
+  stands_on u v h p i (at.LowerCount (OfPool m) s t) _ r a d = finish_stands v p i t (lowered u v _ _ _ _ _ d a.0)
   stands_on u v h p i (at.StoreResult c o e) _ r a d = told v c o (subst (λ (z : Hands X G O F). HasTicket z.reply (Some c)) (sym d) a.0.reply)
   stands_on u v h p i (at.SetLatch s) Yes r a d = (then_of v s.then (call_latch s.latch) (same u v _ _ _ _ _ d a.0), tt)
   stands_on u v h p i (at.SetLatch s) _ r a d = after_set_stands v h p i s s.latch (then_of v s.then (call_latch s.latch) (same u v _ _ _ _ _ d a.0))
   stands_on u v h p i (at.LockToSettle s) _ r a d = (same u v _ _ _ _ _ d a.0, tt)
   stands_on u v h p i (at.WakeSettled s) _ r a d = (same u v _ _ _ _ _ d a.0, tt)
   stands_on u v h p i (at.UnlockSettled s) _ r a d = after_set_stands v h p i s s.latch (same u v _ _ _ _ _ d a.0)
-  stands_on u v h p i (at.SetLockLatch c) _ r a d = tt
+  stands_on u v h p i (at.SetLockLatch c t) _ r a d = finish_stands v p i t (then_of v t (Some c) (same u v _ _ _ _ _ d a.0))
   stands_on u v h p i (at.RaiseCount n) _ r a d = absurd a.1
   stands_on u v h p i (at.GrowCall n) _ r a d = absurd a.1
   stands_on u v h p i (at.LookQueue n) _ r a d = absurd a.1
@@ -290,6 +298,12 @@ module _ {X G O F : Type 0} where
   stands_on u v h p i (at.LowerForAll c) _ r a d = absurd a.1
   stands_on u v h p i (at.TellNews n e) _ r a d = absurd a.1
   stands_on u v h p i (at.WaitForLock o) _ r a d = absurd a.1
+  stands_on u v h p i (at.GrowScope o) _ r a d = absurd a.1
+  stands_on u v h p i (at.OpenSlot e) _ r a d = absurd a.1
+  stands_on u v h p i (at.CloseSlot e) _ r a d = absurd a.1
+  stands_on u v h p i (at.LowerCount (OfScope c o) s t) _ r a d = absurd a.1
+  stands_on u v h p i (at.StoreBody o e) _ r a d = absurd a.1
+  stands_on u v h p i (at.StoreSlot c o n e) _ r a d = absurd a.1
   stands_on u v h p i _ _ r a d = absurd (true≢false r)
 
   -- the laws of the running performer, which is a worker

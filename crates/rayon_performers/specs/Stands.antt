@@ -1,5 +1,6 @@
 -- What a worker has at hand at each place of the table to which a drive leads it.
 use Rattle.std.specs.Prelude.{◌≡◌, ℕ, Bool, true, false, Option, None, Some}
+use Rattle.rayon_machine_places.specs.declared.place.Count.TheVariants.{OfScope}
 use Rattle.rayon_machine_places.specs.declared.place.Party.{Party}
 use Rattle.rayon_machine_places.specs.declared.place.Party.TheVariants.{Worker, Caller}
 use Rattle.rayon_machine_places.specs.declared.place.Ending.{Ending}
@@ -46,11 +47,12 @@ task_at (at.Run t k) = Some (Plain t)
 task_at (at.LockToWake k) = task_then k.then
 task_at (at.WakeWorker k) = task_then k.then
 task_at (at.UnlockWoken k) = task_then k.then
-task_at (at.LowerCount p s t) = task_then t
+task_at (at.LowerCount k s t) = task_then t
 task_at (at.SetLatch s) = task_then s.then
 task_at (at.LockToSettle s) = task_then s.then
 task_at (at.WakeSettled s) = task_then s.then
 task_at (at.UnlockSettled s) = task_then s.then
+task_at (at.SetLockLatch c t) = task_then t
 task_at _ = None
 
 -- the call whose ticket is in hand
@@ -86,11 +88,12 @@ call_at (at.LockToWake k) = call_then k.then
 call_at (at.WakeWorker k) = call_then k.then
 call_at (at.UnlockWoken k) = call_then k.then
 call_at (at.TakeResult o f) = Some o.number
-call_at (at.LowerCount p s t) = call_then t
+call_at (at.LowerCount k s t) = call_then t
 call_at (at.SetLatch s) = call_then s.then
 call_at (at.LockToSettle s) = call_then s.then
 call_at (at.WakeSettled s) = call_then s.then
 call_at (at.UnlockSettled s) = call_then s.then
+call_at (at.SetLockLatch c t) = call_then t
 call_at (at.FirstSide o a) = Some o.number
 call_at (at.SecondSide o) = Some o.number
 call_at _ = None
@@ -99,7 +102,7 @@ call_at _ = None
 abbrev pub reply_at : Place → Option ℕ
 reply_at (at.StoreResult c o e) = Some c
 reply_at (at.SetLatch s) = call_latch s.latch
-reply_at (at.SetLockLatch c) = Some c
+reply_at (at.SetLockLatch c t) = Some c
 reply_at _ = None
 
 -- how the run ended whose result is to be stored
@@ -113,16 +116,18 @@ probed_at (at.LeaveSearch w) = elim w.found [ None ↦ true | Some t ↦ false ]
 probed_at (at.LockToWake k) = leaves k.then
 probed_at (at.WakeWorker k) = leaves k.then
 probed_at (at.UnlockWoken k) = leaves k.then
-probed_at (at.LowerCount p s t) = leaves t
+probed_at (at.LowerCount k s t) = leaves t
 probed_at (at.SetLatch s) = leaves s.then
 probed_at (at.LockToSettle s) = leaves s.then
 probed_at (at.WakeSettled s) = leaves s.then
 probed_at (at.UnlockSettled s) = leaves s.then
+probed_at (at.SetLockLatch c t) = leaves t
 probed_at (at.TakeResult o f) = true
 probed_at at.Stopped = true
 probed_at _ = false
 
--- a place of a call before its wait. What it queues is its own affair: no drive stands there
+-- a place of a call before its wait. What it queues is its own affair: no drive stands there. And no worker here opens
+-- a scope yet, or spawns into one
 abbrev pub IsDriven : Place → Type 0
 IsDriven (at.RaiseCount n) = ⊥
 IsDriven (at.GrowCall n) = ⊥
@@ -137,6 +142,12 @@ IsDriven (at.PushForAll c) = ⊥
 IsDriven (at.LowerForAll c) = ⊥
 IsDriven (at.TellNews n e) = ⊥
 IsDriven (at.WaitForLock o) = ⊥
+IsDriven (at.GrowScope o) = ⊥
+IsDriven (at.OpenSlot x) = ⊥
+IsDriven (at.CloseSlot x) = ⊥
+IsDriven (at.LowerCount (OfScope c o) s t) = ⊥
+IsDriven (at.StoreBody o e) = ⊥
+IsDriven (at.StoreSlot c o n e) = ⊥
 IsDriven _ = Unit {0}
 
 -- the task that begins above a frame

@@ -28,7 +28,7 @@ TailAt t (at.SetLatch s) = s.then ≡ t
 TailAt t (at.LockToSettle s) = s.then ≡ t
 TailAt t (at.WakeSettled s) = s.then ≡ t
 TailAt t (at.UnlockSettled s) = s.then ≡ t
-TailAt t (at.SetLockLatch c) = t ≡ Resume
+TailAt t (at.SetLockLatch c u) = u ≡ t
 TailAt t _ = ⊥
 
 -- such a place, or what follows

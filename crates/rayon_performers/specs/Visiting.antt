@@ -1,6 +1,7 @@
 -- What an outside caller has at each place of its calls, and where they end.
 use Rattle.std.specs.Prelude.{◌≡◌, ℕ, ◌+◌, nat_lt, ◌&&◌, if◌then◌else◌, Bool, true, false, Some}
 use Rattle.std.proofs.Common.{sym, subst, ap}
+use Rattle.rayon_machine_places.specs.declared.place.Count.TheVariants.{OfPool}
 use Rattle.rayon_machine_places.specs.declared.place.Party.{Party}
 use Rattle.rayon_machine_places.specs.declared.place.Party.TheVariants.{Worker, Caller}
 use Rattle.rayon_machine_places.specs.declared.place.Latch.{Latch}
@@ -39,7 +40,7 @@ end_then _ = Back
 
 -- where a call ends that has moved so
 abbrev pub end_of : Move → Move
-end_of (Stay (at.LowerCount p b t)) = end_then t
+end_of (Stay (at.LowerCount (OfPool p) b t)) = end_then t
 end_of (Stay (at.SetLatch x)) = end_then x.then
 end_of (Stay (at.LockToSettle x)) = end_then x.then
 end_of (Stay (at.WakeSettled x)) = end_then x.then
@@ -70,7 +71,7 @@ module _ {X G O F : Type 0} where
   Stands s (Stay (at.UnlockWoken k)) = (k.pool ≡ 0) × StandsThen s k.then
   Stands s (Stay (at.WaitForLock o)) = InCall s o
   Stands s (Stay (at.TakeResult o f)) = InCall s o
-  Stands s (Stay (at.LowerCount p b t)) = (p ≡ 0) × (s.holds ≡ true) × IsEnd t
+  Stands s (Stay (at.LowerCount (OfPool p) b t)) = (p ≡ 0) × (s.holds ≡ true) × IsEnd t
   Stands s (Stay (at.SetLatch x)) = StandsSetting s x
   Stands s (Stay (at.LockToSettle x)) = StandsSetting s x
   Stands s (Stay (at.WakeSettled x)) = StandsSetting s x
@@ -133,7 +134,7 @@ module _ {X G O F : Type 0} where
   stands_needs u c (at.UnlockWoken k) a = a.0
   stands_needs u c (at.WaitForLock o) a = a.1
   stands_needs u c (at.TakeResult o f) a = a.1
-  stands_needs u c (at.LowerCount p b t) a = (a.0, a.1)
+  stands_needs u c (at.LowerCount (OfPool p) b t) a = (a.0, a.1)
   stands_needs u c (at.SetLatch x) a = (a.0, a.1)
   stands_needs u c (at.LockToSettle x) a = a.0
   stands_needs u c (at.WakeSettled x) a = a.0
@@ -152,8 +153,8 @@ module _ {X G O F : Type 0} where
   stands_on u v h c (at.TakeResult o f) (Found e) a d = (a.0, subst (λ (z : Visit X G O F). z.holds ≡ true) (sym d.2) a.2, tt)
   stands_on u v h c (at.TakeResult o f) Missing a d = (a.0, subst (λ (z : Visit X G O F). z.holds ≡ true) (sym d.1) a.2, tt)
   stands_on u v h c (at.TakeResult o f) _ a d = absurd d
-  stands_on u v h c (at.LowerCount p b t) Yes a d = settle_stands v h c p 0 t a.0 a.2 (ap (λ (z : Visit X G O F). z.holds) d.1)
-  stands_on u v h c (at.LowerCount p b t) _ a d = end_stands v c t a.2 (ap (λ (z : Visit X G O F). z.holds) d.1)
+  stands_on u v h c (at.LowerCount (OfPool p) b t) Yes a d = settle_stands v h c p 0 t a.0 a.2 (ap (λ (z : Visit X G O F). z.holds) d.1)
+  stands_on u v h c (at.LowerCount (OfPool p) b t) _ a d = end_stands v c t a.2 (ap (λ (z : Visit X G O F). z.holds) d.1)
   stands_on u v h c (at.SetLatch x) Yes a d = setting u v x d a
   stands_on u v h c (at.SetLatch x) _ a d = after_set_stands v h c x x.latch (setting u v x d a)
   stands_on u v h c (at.LockToSettle x) _ a d = setting u v x d a

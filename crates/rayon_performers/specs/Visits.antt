@@ -1,5 +1,6 @@
 -- What an outside caller has for the time of one call, and what each act of the call does to it.
 use Rattle.std.specs.Prelude.{◌≡◌, ℕ, ◌++◌, [], ◌∷◌, Bool, true, false, Option, None, Some}
+use Rattle.rayon_machine_places.specs.declared.place.Count.TheVariants.{OfPool}
 use Rattle.rayon_machine_places.specs.declared.place.Party.TheVariants.{Caller}
 use Rattle.rayon_machine_places.specs.declared.place.OpenCall.{OpenCall}
 use Rattle.rayon_machine_places.specs.declared.place.Plan.{Plan}
@@ -74,7 +75,7 @@ module _ {X G O F : Type 0} where
   Needs (acts.Unlock p i) s = p ≡ 0
   Needs (acts.LockWait c) s = s.call ≡ Some (ticket_of c)
   Needs (acts.Take c) s = s.call ≡ Some (ticket_of c)
-  Needs (acts.Lower p b) s = (p ≡ 0) × (s.holds ≡ true)
+  Needs (acts.Lower (OfPool p) b) s = (p ≡ 0) × (s.holds ≡ true)
   Needs (acts.Set l p i) s = (p ≡ 0) × IsTerminate l
   Needs _ s = ⊥
 
@@ -112,16 +113,16 @@ module _ {X G O F : Type 0} where
 
   -- what each act of a caller does. There is no other
   abbrev pub Does : Act → Seen → Visit X G O F → Visit X G O F → Type 0
-  Does (acts.Raise p n) x s t = Raises x s t
+  Does (acts.Raise (OfPool p) n) x s t = Raises x s t
   Does (acts.Grow c) x s t = Grows c x s t
   Does (acts.LookInj p) x s t = Same s t
-  Does (acts.PushInj p n) x s t = Sends n x s t
+  Does (acts.PushInj p n None) x s t = Sends n x s t
   Does (acts.News p e) x s t = Same s t
   Does (acts.Lock p i) x s t = Same s t
   Does (acts.Wake p i) x s t = Same s t
   Does (acts.Unlock p i) x s t = Same s t
   Does (acts.LockWait c) x s t = Same s t
   Does (acts.Take c) x s t = Takes x s t
-  Does (acts.Lower p b) x s t = Lowers s t
+  Does (acts.Lower (OfPool p) b) x s t = Lowers s t
   Does (acts.Set l p i) x s t = Same s t
   Does _ x s t = ⊥

@@ -3,6 +3,7 @@ ghost use Rattle.std.specs.Prelude.{◌≡◌, ◌⊎◌, ◌+◌, ℕ, [], true
 ghost use Rattle.rayon_drive.specs.Traces.{Adds};
 ghost use Rattle.rayon_machine_places.specs.declared.act.Act.TheVariants as acts;
 ghost use Rattle.rayon_machine_places.specs.declared.act.Seen.TheVariants as saw;
+ghost use Rattle.rayon_machine_places.specs.declared.place.Count.TheVariants.{OfPool};
 ghost use Rattle.rayon_machine_places.specs.declared.place.Party.TheVariants.{Worker};
 ghost use Rattle.rayon_machine_places.specs.declared.place.Taken.TheVariants.{Plain};
 ghost use Rattle.rayon_performers.specs.Hands.{Does, Looks, Lowers, Needs, Stores, answer};
@@ -14,7 +15,7 @@ use crate::bench::Bench;
 use rayon_drive::drive::Perform;
 use rayon_jobs::JobKind;
 use rayon_machine_places::act::{Act, Seen};
-use rayon_machine_places::place::{Ending, JobKind as Kind, Latch, Party, Share, Taken};
+use rayon_machine_places::place::{Count, Ending, JobKind as Kind, Latch, Party, Share, Taken};
 use rayon_sleep::counters::Counters;
 use rayon_tasks::{Task, Ticket};
 use rayon_words::Refusal;
@@ -45,8 +46,8 @@ impl<J: JobKind> Perform for Bench<J> {
                 Seen::Done
             }
             Act::Take(call) => self.take(rt, call),
-            Act::Lower { pool, share } => yes(self.lower(rt, pool, share)),
-            Act::PushOwn(_)
+            Act::Lower { count, share } => yes(self.lower(rt, count, share)),
+            Act::PushOwn { .. }
             | Act::PushInj { .. }
             | Act::FifoIn(_)
             | Act::FifoUndo
@@ -57,6 +58,10 @@ impl<J: JobKind> Perform for Bench<J> {
             | Act::Grow(_)
             | Act::LockWait(_)
             | Act::Raise { .. }
+            | Act::Slot { .. }
+            | Act::SlotUndo { .. }
+            | Act::StoreBody { .. }
+            | Act::StoreSlot { .. }
             | Act::Idle => unreachable!(),
             Act::Pick => self.pick(),
             Act::TakeCast => self.add(act, Seen::Missing),
@@ -301,11 +306,14 @@ impl<J: JobKind> Bench<J> {
     // cannot end.
     #[inline(always)]
     pub(crate) fn raise<R: Wait>(&mut self, rt: &R, job: u64) -> Result<(), Refusal>
-        ensures does { MatchResult result (λ _. Does (acts.Raise 0 job) saw.Done self.old self.new) (λ _. Does (acts.Raise 0 job) saw.Refused self.old self.new) }
-        ensures adds { MatchResult result (λ _. Adds (acts.Raise 0 job) saw.Done self.old.trace self.new.trace) (λ _. Adds (acts.Raise 0 job) saw.Refused self.old.trace self.new.trace) }
+        ensures does { MatchResult result (λ _. Does (acts.Raise (OfPool 0) job) saw.Done self.old self.new) (λ _. Does (acts.Raise (OfPool 0) job) saw.Refused self.old self.new) }
+        ensures adds { MatchResult result (λ _. Adds (acts.Raise (OfPool 0) job) saw.Done self.old.trace self.new.trace) (λ _. Adds (acts.Raise (OfPool 0) job) saw.Refused self.old.trace self.new.trace) }
         ensures refused { IfErr result (λ r. (r ≡ Refusal.Ended) ⊎ (r ≡ Refusal.Full)) }
     {
-        let act = Act::Raise { pool: 0, job };
+        let act = Act::Raise {
+            count: Count::OfPool(0),
+            job,
+        };
         match self.hold(rt) {
             Ok(()) => {
                 self.add(act, Seen::Done);
@@ -335,13 +343,13 @@ impl<J: JobKind> Bench<J> {
 
     // Gives a unit of the terminate count back.
     #[inline(always)]
-    pub(crate) fn lower<R: Wait>(&mut self, rt: &R, pool: usize, share: Share) -> bool
+    pub(crate) fn lower<R: Wait>(&mut self, rt: &R, count: Count, share: Share) -> bool
         ensures does { Lowers self.old self.new }
-        ensures adds { Adds (acts.Lower pool share) (answer result) self.old.trace self.new.trace }
+        ensures adds { Adds (acts.Lower count share) (answer result) self.old.trace self.new.trace }
     {
         let was_last = self.holds == 1 && self.registry.decrement_terminate_count(rt);
         self.holds = self.holds.saturating_sub(1);
-        self.add(Act::Lower { pool, share }, yes(was_last));
+        self.add(Act::Lower { count, share }, yes(was_last));
         was_last
     }
 
@@ -365,15 +373,15 @@ impl<J: JobKind> Bench<J> {
     #[inline(always)]
     pub(crate) fn push_own(&mut self, job: u64, task: Task<J>) -> Result<(), Task<J>>
         ensures same { SameDeque self.old.own self.new.own × (self.new ≡ record self.old { own = self.new.own; trace = self.new.trace }) }
-        ensures pushed { MatchResult result (λ _. Pushed self.old.own task self.new.own × Adds (acts.PushOwn job) saw.Done self.old.trace self.new.trace) (λ back. (back ≡ task) × Unmoved self.old.own self.new.own × Adds (acts.PushOwn job) saw.Refused self.old.trace self.new.trace) }
+        ensures pushed { MatchResult result (λ _. Pushed self.old.own task self.new.own × Adds (acts.PushOwn job None) saw.Done self.old.trace self.new.trace) (λ back. (back ≡ task) × Unmoved self.old.own self.new.own × Adds (acts.PushOwn job None) saw.Refused self.old.trace self.new.trace) }
     {
         match self.own.push(task) {
             Ok(()) => {
-                self.add(Act::PushOwn(job), Seen::Done);
+                self.add(Act::PushOwn { job, book: None }, Seen::Done);
                 Ok(())
             }
             Err(task) => {
-                self.add(Act::PushOwn(job), Seen::Refused);
+                self.add(Act::PushOwn { job, book: None }, Seen::Refused);
                 Err(task)
             }
         }

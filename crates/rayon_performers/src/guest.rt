@@ -6,6 +6,7 @@ ghost use Rattle.rayon_drive.specs.Traces.{Adds};
 ghost use Rattle.rayon_tasks.specs.Tasks.{OneJob, TwoSides};
 ghost use Rattle.rayon_machine_places.specs.declared.act.Act.TheVariants as acts;
 ghost use Rattle.rayon_machine_places.specs.declared.act.Seen.TheVariants as saw;
+ghost use Rattle.rayon_machine_places.specs.declared.place.Count.TheVariants.{OfPool};
 ghost use Rattle.rayon_machine_places.specs.declared.place.Move.TheVariants.{Stay, Back, HandBack};
 ghost use Rattle.rayon_machine_places.specs.declared.place.Party.TheVariants.{Caller};
 ghost use Rattle.rayon_machine_places.specs.declared.place.Place.TheVariants as at;
@@ -23,7 +24,7 @@ use rayon_drive::drive::{Perform, drive};
 use rayon_drive::trace::Trace;
 use rayon_jobs::{Done, JobKind};
 use rayon_machine_places::act::{Act, Seen};
-use rayon_machine_places::place::{Move, OpenCall, Party, Place, Plan, Share, Then};
+use rayon_machine_places::place::{Count, Move, OpenCall, Party, Place, Plan, Share, Then};
 use rayon_machine_places::shape::PoolShape;
 use rayon_queues::InjectorPass;
 use rayon_tasks::{Pair, Task, Ticket, Work, task_of_job, task_of_pair, task_parts};
@@ -98,7 +99,10 @@ impl<'a, J: JobKind> Perform for Guest<'a, J> {
             }
             Act::LockWait(_) => self.wait(rt),
             Act::Take(_) => self.take(rt),
-            Act::Lower { .. } => self.lower(rt),
+            Act::Lower {
+                count: Count::OfPool(_),
+                ..
+            } => self.lower(rt),
             Act::Set { worker, .. } => match self.registry.terminate(worker) {
                 Some(latch) => yes(latch.set(rt)),
                 None => Seen::No,
@@ -226,11 +230,14 @@ impl<'a, J: JobKind> Guest<'a, J> {
     // Takes a unit of the terminate count for the call. Refused `Ended`, `Full`.
     fn raise<R: Wait>(&mut self, rt: &R, job: u64) -> Result<(), Refusal>
         requires { self.old.holds ≡ false }
-        ensures does { MatchResult result (λ _. Does (acts.Raise 0 job) saw.Done self.old self.new) (λ _. Does (acts.Raise 0 job) saw.Refused self.old self.new) }
-        ensures adds { MatchResult result (λ _. Adds (acts.Raise 0 job) saw.Done self.old.trace self.new.trace) (λ _. Adds (acts.Raise 0 job) saw.Refused self.old.trace self.new.trace) }
+        ensures does { MatchResult result (λ _. Does (acts.Raise (OfPool 0) job) saw.Done self.old self.new) (λ _. Does (acts.Raise (OfPool 0) job) saw.Refused self.old self.new) }
+        ensures adds { MatchResult result (λ _. Adds (acts.Raise (OfPool 0) job) saw.Done self.old.trace self.new.trace) (λ _. Adds (acts.Raise (OfPool 0) job) saw.Refused self.old.trace self.new.trace) }
         ensures refused { IfErr result (λ r. (r ≡ Refusal.Ended) ⊎ (r ≡ Refusal.Full)) }
     {
-        let act = Act::Raise { pool: 0, job };
+        let act = Act::Raise {
+            count: Count::OfPool(0),
+            job,
+        };
         match self.registry.increment_terminate_count(rt) {
             Ok(()) => {
                 self.holds = true;
@@ -306,10 +313,14 @@ impl<'a, J: JobKind> Guest<'a, J> {
     // Puts a task last into the injector. Where there is no room the task comes back.
     fn push<R: Wait>(&mut self, rt: &R, job: u64, task: Task<J>) -> Result<(), Task<J>>
         ensures pushed { MatchResult result
-            (λ _. (self.new ≡ record self.old { inlet = with_pushed self.old.inlet task; trace = self.new.trace }) × Adds (acts.PushInj 0 job) saw.Done self.old.trace self.new.trace)
-            (λ back. (back ≡ task) × (self.new ≡ record self.old { trace = self.new.trace }) × Adds (acts.PushInj 0 job) saw.Refused self.old.trace self.new.trace) }
+            (λ _. (self.new ≡ record self.old { inlet = with_pushed self.old.inlet task; trace = self.new.trace }) × Adds (acts.PushInj 0 job None) saw.Done self.old.trace self.new.trace)
+            (λ back. (back ≡ task) × (self.new ≡ record self.old { trace = self.new.trace }) × Adds (acts.PushInj 0 job None) saw.Refused self.old.trace self.new.trace) }
     {
-        let act = Act::PushInj { pool: 0, job };
+        let act = Act::PushInj {
+            pool: 0,
+            job,
+            book: None,
+        };
         match self.registry.injector().push(rt, &mut self.inlet, task) {
             Ok(()) => {
                 self.add(act, Seen::Done);
@@ -325,12 +336,12 @@ impl<'a, J: JobKind> Guest<'a, J> {
     // Gives the unit of a refused call back.
     fn undo<R: Wait>(&mut self, rt: &R, shape: PoolShape, name: u64)
         requires { self.old.holds ≡ true }
-        ensures path { Driven (λ s a x t. Does a x s t) (λ s. s.trace) shape (Caller 0) (Stay (at.LowerCount 0 (OfJob name) (GiveBack (plan_of name)))) self.old self.new (HandBack (plan_of name)) }
+        ensures path { Driven (λ s a x t. Does a x s t) (λ s. s.trace) shape (Caller 0) (Stay (at.LowerCount (OfPool 0) (OfJob name) (GiveBack (plan_of name)))) self.old self.new (HandBack (plan_of name)) }
         ensures keeps { Keeps self.old self.new }
         ensures over { self.new.holds ≡ false }
     {
         let place = Place::LowerCount {
-            pool: 0,
+            count: Count::OfPool(0),
             share: Share::OfJob(name),
             then: Then::GiveBack(plan(name)),
         };
@@ -464,7 +475,7 @@ impl<'a, J: JobKind> Guest<'a, J> {
     /// worker's terminate latch is set.
     pub fn end<R: Wait>(&mut self, rt: &R, hold: PoolHold)
         requires { self.old.holds ≡ false }
-        ensures path { Driven (λ s a x t. Does a x s t) (λ s. s.trace) self.old.shape (Caller 0) (Stay (at.LowerCount 0 PoolValue Resume)) (record self.old { holds = true }) self.new Back }
+        ensures path { Driven (λ s a x t. Does a x s t) (λ s. s.trace) self.old.shape (Caller 0) (Stay (at.LowerCount (OfPool 0) PoolValue Resume)) (record self.old { holds = true }) self.new Back }
         ensures keeps { Keeps self.old self.new }
         ensures unit { self.new.holds ≡ false }
     {
@@ -472,7 +483,7 @@ impl<'a, J: JobKind> Guest<'a, J> {
         hold.spend();
         self.holds = true;
         let place = Place::LowerCount {
-            pool: 0,
+            count: Count::OfPool(0),
             share: Share::PoolValue,
             then: Then::Resume,
         };

@@ -5,6 +5,7 @@ ghost use Rattle.rayon_drive.specs.Paths.{Driven, goes};
 ghost use Rattle.rayon_machine_places.specs.Places.{finish, fresh, next_of, taken_number};
 ghost use Rattle.rayon_tasks.specs.Tasks.{OneJob};
 ghost use Rattle.rayon_machine_places.specs.declared.act.Seen.TheVariants as saw;
+ghost use Rattle.rayon_machine_places.specs.declared.place.Count.TheVariants.{OfPool};
 ghost use Rattle.rayon_machine_places.specs.declared.place.JobKind.TheVariants.{Direct};
 ghost use Rattle.rayon_machine_places.specs.declared.place.Move.TheVariants.{Back, Enter, HandBack, StartRun, Stay};
 ghost use Rattle.rayon_machine_places.specs.declared.place.Party.TheVariants.{Worker};
@@ -25,7 +26,7 @@ use rayon_drive::drive::drive;
 use rayon_jobs::JobKind;
 use rayon_machine_places::act::Seen;
 use rayon_machine_places::place::{
-    Ending, Latch, Move, OpenCall, Party, Place, Plan, Share, Taken, Target, Then,
+    Count, Ending, Latch, Move, OpenCall, Party, Place, Plan, Share, Taken, Target, Then,
 };
 use rayon_machine_places::shape::PoolShape;
 use rayon_tasks::{Task, Ticket, Work, task_of_job, task_parts};
@@ -108,15 +109,15 @@ impl<J: JobKind> Bench<J> {
     #[inline(always)]
     pub fn lower_then<R: Wait>(&mut self, rt: &R, job: u64, then: Then)
         requires { IsLast then }
-        ensures path { Driven (λ s a x t. Does a x s t) (λ s. s.trace) self.old.shape (Worker 0 self.old.index) (Stay (at.LowerCount 0 (OfJob job) then)) self.old self.new (finish (Worker 0 self.old.index) then) }
+        ensures path { Driven (λ s a x t. Does a x s t) (λ s. s.trace) self.old.shape (Worker 0 self.old.index) (Stay (at.LowerCount (OfPool 0) (OfJob job) then)) self.old self.new (finish (Worker 0 self.old.index) then) }
         ensures same { self.new ≡ record self.old { holds = self.old.holds - 1; trace = self.new.trace } }
     {
         let shape = self.shape;
         let index = self.index;
         let share = Share::OfJob(job);
-        if self.lower(rt, 0, share) {
+        if self.lower(rt, Count::OfPool(0), share) {
             let place = Place::LowerCount {
-                pool: 0,
+                count: Count::OfPool(0),
                 share,
                 then,
             };

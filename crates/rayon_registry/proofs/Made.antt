@@ -1,5 +1,6 @@
 -- The acts of a performer's path are those of a path, whatever they did.
 use Rattle.std.proofs.Common.{◌≡◌, inl, inr, Bool, true, false, true≢false, ℕ, [], ◌∷◌, Option, None, Some, Result, Ok, Err, MatchOption, MatchResult, refl, sym, subst, ap}
+use Rattle.rayon_machine_places.specs.declared.place.Count.TheVariants.{OfPool}
 use Rattle.std.specs.Result.{IsErr}
 use Rattle.rayon_words.specs.declared.refusal.CallError.{CallError}
 use Rattle.rayon_machine_places.specs.declared.place.Ending.{Ending}
@@ -142,10 +143,10 @@ worked_as h k i j m v w n e f a = subst (λ (z : PoolShape). Worked z (Worker 0 
 -- the own second side has run, and the join ends
 pub runs_second : (h : PoolShape) (q : Party) (o : OpenCall) (v u w : Log) → o.pool ≡ 0 → Made h q (Stay (at.JoinProbe o)) v u (Enter (at.SecondSide o) (at.BeginHere o.job)) → Lowered h q o u w → Worked h q (Stay (at.JoinProbe o)) v w Back
 runs_second h q o v u w e a l =
-    let first = Stay (at.LowerCount 0 (OfJob o.job) (Answers o (Some Fine) l.0)) in
+    let first = Stay (at.LowerCount (OfPool 0) (OfJob o.job) (Answers o (Some Fine) l.0)) in
     let x = l.1 in
     let y = l.2 in
-    let end = subst (λ (p : ℕ). Worked h q (Stay (at.LowerCount p (OfJob o.job) (Answers o (Some Fine) l.0))) y w Back) (sym e) (last h q first y w Back l.5) in
+    let end = subst (λ (p : ℕ). Worked h q (Stay (at.LowerCount (OfPool p) (OfJob o.job) (Answers o (Some Fine) l.0))) y w Back) (sym e) (last h q first y w Back l.5) in
     (record { begins = Enter (at.SecondSide o) (at.BeginHere o.job); job = o.job; kind = Direct; ended = l.0; lent = x; over = y } ∷ end.0, (u, y, a, (l.3, l.4, refl), end.1))
 
 pub lowered_as : (h k : PoolShape) (i j : ℕ) (o : OpenCall) (v w : Log) → i ≡ j → h ≡ k → Lowered h (Worker 0 i) o v w → Lowered k (Worker 0 j) o v w

@@ -1,10 +1,11 @@
 -- The acts that a worker made in a call, where runs of jobs lie between them.
+use Rattle.rayon_machine_places.specs.declared.place.Count.TheVariants.{OfPool}
 use Rattle.std.specs.Prelude.{ℕ, List, [], ◌∷◌, Bool, true, false, Some, Result, Ok, Err, ◌≡◌, ◌⊎◌}
 use Rattle.rayon_words.specs.declared.refusal.CallError.{CallError}
 use Rattle.rayon_machine_places.specs.declared.place.Ending.{Ending}
 use Rattle.rayon_machine_places.specs.declared.place.Ending.TheVariants.{Fine, Fault}
 use Rattle.rayon_machine_places.specs.declared.place.JobKind.{JobKind}
-use Rattle.rayon_machine_places.specs.declared.place.JobKind.TheVariants.{Detached, Stored, Direct, TokenOf}
+use Rattle.rayon_machine_places.specs.declared.place.JobKind.TheVariants.{BodyOf, Detached, Direct, Scoped, Stored, TokenOf}
 use Rattle.rayon_machine_places.specs.declared.place.OpenCall.{OpenCall}
 use Rattle.rayon_machine_places.specs.declared.place.Plan.{Plan}
 use Rattle.rayon_machine_places.specs.declared.place.Plan.TheVariants.{Here}
@@ -14,7 +15,7 @@ use Rattle.rayon_machine_places.specs.declared.place.Party.{Party}
 use Rattle.rayon_machine_places.specs.declared.place.Move.{Move}
 use Rattle.rayon_machine_places.specs.declared.place.Move.TheVariants.{Stay, Enter, StartRun, Back, HandBack}
 use Rattle.rayon_machine_places.specs.declared.shape.PoolShape.{PoolShape}
-use Rattle.rayon_machine_places.specs.declared.place.Place.TheVariants.{AtOnce, BeginHere, FirstSide, LowerCount, RaiseCount, Run, Stopped, StoreResult}
+use Rattle.rayon_machine_places.specs.declared.place.Place.TheVariants.{AtOnce, BeginHere, FirstSide, LowerCount, RaiseCount, Run, Stopped, StoreResult, StoreSlot}
 use Rattle.rayon_machine_places.specs.declared.place.Target.{Target}
 use Rattle.rayon_machine_places.specs.declared.place.Target.TheVariants.{Termination, Answer}
 use Rattle.rayon_machine_places.specs.Places.{goes_on}
@@ -46,11 +47,13 @@ below (StartRun f t) e = Stay (goes_on f e)
 below m e = m
 
 -- the acts that the end of a run of this job adds: a share of the count is given back, or its ending is stored for the call
--- that waits for it, or none, where the call below goes on. A token has no run
+-- that waits for it or in its scope's book, or none, where the call below goes on. A token has no run
 abbrev pub Closes : PoolShape → Party → ℕ → JobKind → Ending → Log → Log → Type 0
-Closes h q t (Detached p) e v w = Made h q (Stay (LowerCount p (OfJob t) Resume)) v w Back
+Closes h q t (Detached p) e v w = Made h q (Stay (LowerCount (OfPool p) (OfJob t) Resume)) v w Back
 Closes h q t (Stored c o) e v w = Made h q (Stay (StoreResult c o e)) v w Back
+Closes h q t (Scoped c o) e v w = Made h q (Stay (StoreSlot c o t e)) v w Back
 Closes h q t Direct e v w = w ≡ v
+Closes h q t (BodyOf c o) e v w = w ≡ v
 Closes h q t (TokenOf i) e v w = ⊥
 
 -- what a run adds: the acts by which it begins, the entry of the run itself, and the acts of its end. The run of a first
@@ -84,7 +87,7 @@ ended_so false = Fine
 -- the acts of a join's own second side that was taken back: its run begins, and after it the join's Lower, and what that sets
 -- going
 abbrev pub Lowered : PoolShape → Party → OpenCall → Log → Log → Type 0
-Lowered h q o v w = (e : Ending) × (x : Log) × (y : Log) × Made h q (Stay (BeginHere o.job)) v x (Stay (Run o.job Direct)) × AddsRun x y × Made h q (Stay (LowerCount 0 (OfJob o.job) (Answers o (Some Fine) e))) y w Back
+Lowered h q o v w = (e : Ending) × (x : Log) × (y : Log) × Made h q (Stay (BeginHere o.job)) v x (Stay (Run o.job Direct)) × AddsRun x y × Made h q (Stay (LowerCount (OfPool 0) (OfJob o.job) (Answers o (Some Fine) e))) y w Back
 
 -- the acts by which a join of this name offers its second side, from its Raise to the run of its first side
 abbrev pub Offered : PoolShape → Party → ℕ → Log → Log → Type 0
@@ -101,7 +104,7 @@ Joined h q e v w = (n : ℕ) × (x : Log) × (y : Log) × Offered h q n v x × A
 -- the acts of an install by a worker of the pool, from its Raise to its end, whose job ended so: as far as the run, the run's
 -- beginning, the run, and on from its end
 abbrev pub Installed : PoolShape → Party → Ending → Log → Log → Type 0
-Installed h q e v w = (n : ℕ) × (x : Log) × (y : Log) × (z : Log) × Made h q (Stay (RaiseCount (Here 0 n))) v x (Enter (AtOnce 0 n) (BeginHere n)) × Made h q (Stay (BeginHere n)) x y (Stay (Run n Direct)) × AddsRun y z × Made h q (Stay (LowerCount 0 (OfJob n) (Ran n e))) z w Back
+Installed h q e v w = (n : ℕ) × (x : Log) × (y : Log) × (z : Log) × Made h q (Stay (RaiseCount (Here 0 n))) v x (Enter (AtOnce 0 n) (BeginHere n)) × Made h q (Stay (BeginHere n)) x y (Stay (Run n Direct)) × AddsRun y z × Made h q (Stay (LowerCount (OfPool 0) (OfJob n) (Ran n e))) z w Back
 
 -- the acts of a refused call: none, or those of its plan from its Raise to where it hands its jobs back
 abbrev pub HandedBack : PoolShape → Party → (ℕ → Plan) → Log → Log → Type 0

@@ -87,7 +87,7 @@ fn act_name(act: Act) -> &'static str {
         Act::Wake { .. } => "Wake",
         Act::Begin(_) => "Begin",
         Act::PushInj { .. } => "PushInj",
-        Act::PushOwn(_) => "PushOwn",
+        Act::PushOwn { .. } => "PushOwn",
         Act::News { .. } => "News",
         Act::Set { .. } => "Set",
         Act::LockSet(_) => "LockSet",
@@ -96,7 +96,7 @@ fn act_name(act: Act) -> &'static str {
     }
 }
 
-// The name of an act of a call, or on a FIFO list or all broadcast lists.
+// The name of an act of a call, or on a FIFO list or all broadcast lists or a book.
 fn rare_act_name(act: Act) -> &'static str {
     match act {
         Act::FifoIn(_) => "FifoIn",
@@ -106,8 +106,10 @@ fn rare_act_name(act: Act) -> &'static str {
         Act::Lower { .. } | Act::LowerAll(_) => "Lower",
         Act::Raise { .. } | Act::RaiseAll(_) => "Raise",
         Act::Grow(_) => "Grow",
-        Act::Store { .. } => "Store",
+        Act::Store { .. } | Act::StoreBody { .. } | Act::StoreSlot { .. } => "Store",
         Act::Take(_) => "Take",
+        Act::Slot { .. } => "Slot",
+        Act::SlotUndo { .. } => "SlotUndo",
         _ => "Idle",
     }
 }

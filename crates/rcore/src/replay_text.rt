@@ -124,7 +124,23 @@ fn event(party: Party, word: &str, argument: &str) -> Option<Event> {
             party,
             pool: index(argument)?,
         }),
+        "scope" => Some(Event::Scope {
+            party,
+            pool: index(argument)?,
+        }),
+        "into" => event_into(party, argument),
         "yield" if argument == "local" => Some(Event::YieldLocal(party)),
+        _ => None,
+    }
+}
+
+// The event of a call into a scope.
+fn event_into(party: Party, words: &str) -> Option<Event> {
+    match words.split_once(' ') {
+        Some((scope, "spawn")) => Some(Event::IntoSpawn {
+            party,
+            scope: index(scope)?,
+        }),
         _ => None,
     }
 }

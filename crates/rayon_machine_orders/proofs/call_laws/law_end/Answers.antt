@@ -1,8 +1,8 @@
 use Rattle.rayon_machine_laws.proofs.ClaimMakes.{always_calls}
 use Rattle.rayon_machine_laws.proofs.Endings.{ends_so, refused_so}
-use Rattle.rayon_machine_laws.proofs.ShareEnds.{always_shares, no_early_end}
 use Rattle.rayon_machine_orders.proofs.Filled.{FilledHold, always_filled, takes_filled, none_missing}
 use Rattle.rayon_machine_laws.proofs.Returns.{always_returns, returned_so}
+use Rattle.rayon_machine_orders.proofs.Early.{always_early, no_early_end}
 use Rattle.rayon_machine_orders.proofs.Calls.{call_law}
 use Rattle.rayon_machine_orders.proofs.Casts.{cast_law}
 use Rattle.rayon_machine_orders.proofs.call_laws.law_end.Goals as goal
@@ -17,7 +17,7 @@ pub returns-clause-returned : goal.returns-clause-returned
 returns-clause-returned c h es w r = returned_so w (always_returns h es w r)
 
 pub returns-clause-early : goal.returns-clause-early
-returns-clause-early c h es w r = no_early_end w (always_shares h es w r)
+returns-clause-early c h es w r = no_early_end w (always_early h es w r)
 
 pub returns-clause-calls : goal.returns-clause-calls
 returns-clause-calls c = call_law

@@ -8,14 +8,14 @@ use Rattle.rayon_machine_places.specs.Places.{next_of}
 use Rattle.rayon_machine_places.specs.Steps.{step}
 use Rattle.rayon_machine_parts.specs.State.{IsDeed, shape_of}
 use Rattle.rayon_machine_world.specs.Running.{IsPerformed, world_of}
-use Rattle.rayon_machine_world.proofs.Acted.{can-go, went}
+use Rattle.rayon_machine_world.proofs.Acted.{can-go, cannot-go, went}
 use Rattle.rayon_machine_parts.proofs.Deeds.{deed-enabled}
 use Rattle.rayon_machine_world.proofs.world.World.go.Goals as goal
 
 pub returns-in-Err : goal.returns-in-Err
 returns-in-Err c = record {
   ok = search rules;
-  not_enabled = search (rules, c.in-Err.ensures.not_enabled);
+  not_enabled = λ refused. cannot-go c.args.self.now c.args.party c.act.result c.top-place.result c.act.ensures c.top-place.ensures (c.in-Err.ensures.not_enabled refused);
   enabled = λ refused. can-go c.args.self.now c.args.party c.act.result c.top-place.result c.act.ensures c.top-place.ensures (c.in-Err.ensures.enabled refused);
   err = search rules;
 }

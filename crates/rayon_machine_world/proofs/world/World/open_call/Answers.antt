@@ -29,7 +29,7 @@ returns c =
           (λ p. refl)
           (λ n. c.write_call.ensures n ∙ ap (λ (f : ℕ → Call). put f self.calls c.waiting.result n) calls ∙ ap (λ (k : Call). put (call_at self.parts.calls.items) self.calls k n) c.waiting.ensures)
           (λ n. c.write_job.ensures.values n ∙ ap (λ (f : ℕ → Job). put f self.jobs c.args.job n) jobs)
-          refl refl;
+          refl refl refl;
       no_room = search rules;
       err = search rules;
     }

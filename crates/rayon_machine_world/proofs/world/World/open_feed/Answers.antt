@@ -27,7 +27,7 @@ returns c =
           (λ p. refl)
           (λ n. refl)
           (λ n. c.write_jobs.ensures n ∙ ap (λ (f : ℕ → Job). put (put f self.jobs c.args.job) (self.jobs + 1) c.args.token n) jobs)
-          refl refl;
+          refl refl refl;
       no_room = search rules;
       err = search rules;
     }

@@ -29,7 +29,7 @@ returns c =
           (λ p. refl)
           (λ n. c.write_call.ensures n ∙ ap (λ (f : ℕ → Call). put f self.calls c.waiting.result n) calls ∙ ap (λ (k : Call). put (call_at self.parts.calls.items) self.calls k n) c.waiting.ensures)
           (λ n. c.write_jobs.ensures n ∙ ap (λ (f : ℕ → Job). put (put f self.jobs c.args.first) (self.jobs + 1) c.args.second n) jobs)
-          refl refl;
+          refl refl refl;
       no_room = search rules;
       err = search rules;
     }

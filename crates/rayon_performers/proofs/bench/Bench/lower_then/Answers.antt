@@ -1,4 +1,5 @@
 use Rattle.std.proofs.Common.{refl, subst}
+use Rattle.rayon_machine_places.specs.declared.place.Count.TheVariants.{OfPool}
 use Rattle.rayon_machine_places.specs.declared.place.Move.TheVariants.{Stay}
 use Rattle.rayon_machine_places.specs.declared.place.Party.TheVariants.{Worker}
 use Rattle.rayon_machine_places.specs.declared.place.Place.TheVariants as at
@@ -12,7 +13,7 @@ pub returns-then-lower-clause-path : goal.returns-then-lower-clause-path
 returns-then-lower-clause-path g c =
     let h = c.args.self.now.shape in
     let i = c.args.self.now.index in
-    let first = Stay (at.LowerCount 0 (OfJob c.args.job) c.args.then) in
+    let first = Stay (at.LowerCount (OfPool 0) (OfJob c.args.job) c.args.then) in
     let s = c.args.self.now in
     and_then h i first s (settle h (Worker 0 i) 0 0 c.args.then) (finish (Worker 0 i) c.args.then) c.lower.new.self c.finish_from.new.self
     (by_act h i first s first s c.lower.new.self Yes refl (so_far h i first s) c.if-lower.ensures.does c.if-lower.ensures.adds)
@@ -22,6 +23,6 @@ pub returns-else-lower-clause-path : goal.returns-else-lower-clause-path
 returns-else-lower-clause-path g c =
     let h = c.args.self.now.shape in
     let i = c.args.self.now.index in
-    let first = Stay (at.LowerCount 0 (OfJob c.args.job) c.args.then) in
+    let first = Stay (at.LowerCount (OfPool 0) (OfJob c.args.job) c.args.then) in
     let s = c.args.self.now in
     by_act h i first s first s c.lower.new.self No refl (so_far h i first s) c.if-lower.ensures.does c.if-lower.ensures.adds

@@ -1,4 +1,5 @@
 use Rattle.std.proofs.Common.{◌≡◌, inr, refl, rules, subst}
+use Rattle.rayon_machine_places.specs.declared.place.Count.TheVariants.{OfPool}
 use Rattle.rayon_machine_places.specs.declared.place.Ending.{Ending}
 use Rattle.rayon_jobs.specs.Endings.{ending_of}
 use Rattle.rayon_machine_places.specs.declared.place.JobKind.TheVariants.{Direct}
@@ -39,7 +40,7 @@ returns-clause-path g c =
     let entered = Enter (at.AtOnce 0 n) (at.BeginHere n) in
     let run = Stay (at.Run n Direct) in
     let begins = Stay (at.BeginHere n) in
-    let lowers = Stay (at.LowerCount 0 (OfJob n) (Ran n e)) in
+    let lowers = Stay (at.LowerCount (OfPool 0) (OfJob n) (Ran n e)) in
     let seat : w.seat ≡ a.seat = search rules in
     let shape : w.shape ≡ a.shape = search rules in
     let begun = made_as u.shape a.shape u.index a.seat begins u.trace x.trace run run (search rules) (search rules) refl (made u.shape u.index begins u x run c.begin_here.ensures.path) in

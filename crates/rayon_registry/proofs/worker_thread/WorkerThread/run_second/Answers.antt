@@ -1,4 +1,5 @@
 use Rattle.std.proofs.Common.{◌≡◌, Some, refl, rules, subst}
+use Rattle.rayon_machine_places.specs.declared.place.Count.TheVariants.{OfPool}
 use Rattle.rayon_machine_places.specs.declared.place.Ending.TheVariants.{Fine}
 use Rattle.rayon_machine_places.specs.declared.place.JobKind.TheVariants.{Direct}
 use Rattle.rayon_machine_places.specs.declared.place.Move.TheVariants.{Back, Stay}
@@ -23,7 +24,7 @@ returns-clause-path g c =
     let begins = Stay (at.BeginHere c.args.call.job) in
     let run = Stay (at.Run c.args.call.job Direct) in
     let begun = subst (λ v. Made v.shape (Worker 0 v.seat) begins v.acts x.trace run) c.self.view_is (made b.shape b.index begins b x run c.begin_here.ensures.path) in
-    let first = Stay (at.LowerCount 0 (OfJob c.args.call.job) (Answers c.args.call (Some Fine) c.ending.result)) in
+    let first = Stay (at.LowerCount (OfPool 0) (OfJob c.args.call.job) (Answers c.args.call (Some Fine) c.ending.result)) in
     let here = subst (λ v. Made v.shape (Worker 0 v.seat) first v.acts u.trace Back) c.self-2.view_is (made s.shape s.index first s u Back c.lower_then.ensures.path) in
     let seat : w.seat ≡ a.seat = search rules in
     let shape : w.shape ≡ a.shape = search rules in

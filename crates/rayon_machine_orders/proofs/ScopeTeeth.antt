@@ -1,0 +1,84 @@
+-- wrong machines of scopes: replays, computed by the kernel, in which a changed table or act breaks the clause of a law
+-- that forbids it
+use Rattle.std.proofs.Common.{refl}
+use Rattle.std.specs.Prelude.{ℕ, Bool, true, false, ◌+◌, ◌==◌, if◌then◌else◌, Some, List, [], ◌∷◌, ◌++◌, ◌≡◌, IfSome}
+use Rattle.rayon_machine_places.specs.declared.place.Party.{Party}
+use Rattle.rayon_machine_places.specs.declared.place.Ending.TheVariants.{Fine}
+use Rattle.rayon_machine_places.specs.declared.place.Plan.TheVariants.{Enter}
+use Rattle.rayon_machine_places.specs.declared.place.Count.TheVariants.{OfScope}
+use Rattle.rayon_machine_places.specs.declared.place.Share.TheVariants.{Body}
+use Rattle.rayon_machine_places.specs.declared.place.Place.{Place}
+use Rattle.rayon_machine_places.specs.declared.place.Place.TheVariants.{CloseSlot, LowerCount}
+use Rattle.rayon_machine_places.specs.declared.place.Move.{Move}
+use Rattle.rayon_machine_places.specs.declared.place.Move.TheVariants.{HandBack}
+use Rattle.rayon_machine_places.specs.declared.act.Act.{Act}
+use Rattle.rayon_machine_places.specs.declared.act.Act.TheVariants.{Lower}
+use Rattle.rayon_machine_places.specs.declared.act.Seen.{Seen}
+use Rattle.rayon_machine_places.specs.declared.act.Seen.TheVariants.{Yes, No}
+use Rattle.rayon_machine_places.specs.declared.event.Event.{Event}
+use Rattle.rayon_machine_places.specs.declared.event.Event.TheVariants.{Refuse, End, EndPool, Scope as OpenScope, IntoSpawn}
+use Rattle.rayon_machine_places.specs.declared.state.Letter.TheVariants.{Unset, Set as IsSet}
+use Rattle.rayon_machine_places.specs.declared.shape.PoolShape.{PoolShape}
+use Rattle.rayon_machine_places.specs.Places.{next_of}
+use Rattle.rayon_machine_places.specs.World.{Shape, World, Counts, Part, Outcome, count_in, count_below, lowered, effect}
+use Rattle.rayon_machine_laws.specs.Once.{one}
+use Rattle.rayon_machine_laws.specs.Shares.{shares}
+use Rattle.rayon_machine_laws.specs.Counted.{has_entry, keeps_own}
+use Rattle.rayon_machine_orders.proofs.WrongMachines.{Machine, run_by, times_go, two, c, right}
+
+-- the end of a scope's body sets the scope's latch, though a job of the scope is left
+abbrev sets_early : PoolShape → Party → Place → Seen → Move
+sets_early h q (LowerCount (OfScope n o) Body t) e = next_of h q (LowerCount (OfScope n o) Body t) Yes
+sets_early h q x e = next_of h q x e
+
+-- a caller opens a scope, gives its pool up, spawns a job into the scope, and ends the body
+abbrev left_run : List Event
+left_run = OpenScope c 0 ∷ times_go c 2 ++ EndPool c 0 ∷ times_go c 1 ++ IntoSpawn c 0 ∷ times_go c 5 ++ End c Fine ∷ []
+
+-- the law of the end is broken: a terminate latch of the pool is set, and a job at it has a share
+record EndsEarly (w : World) : Type 0 where
+  latch : (w.seat 0 0).latch ≡ IsSet
+  pool : (w.job 1).pool ≡ 0
+  counted : (w.job 1).counted ≡ true
+
+scope_leaves_its_job : IfSome (run_by (record { does = effect; next = sets_early }) (two 32) (left_run ++ times_go c 7)) EndsEarly
+scope_leaves_its_job = record { latch = refl; pool = refl; counted = refl }
+
+-- in the machine as it is the scope's latch is not set
+scope_waits_for_its_job : IfSome (run_by right (two 32) (left_run ++ times_go c 2)) (λ w. ((w.call 0).latch ≡ Unset) × ((w.call 0).count ≡ 1) × ((w.pool 0).count ≡ 1))
+scope_waits_for_its_job = (refl, refl, refl)
+
+-- a refused spawn into a scope takes its number back, and keeps its share of the scope's count
+abbrev keeps_entry : PoolShape → Party → Place → Seen → Move
+keeps_entry h q (CloseSlot x) e = HandBack (Enter x)
+keeps_entry h q x e = next_of h q x e
+
+abbrev refused_run : List Event
+refused_run = OpenScope c 0 ∷ times_go c 2 ++ IntoSpawn c 0 ∷ times_go c 3 ++ Refuse c ∷ times_go c 1
+
+-- the law of the count is broken: a share is in the scope's count that its party does not keep, nor its job, so the
+-- scope will never end
+record Unkept (w : World) : Type 0 where
+  counted : (w.job 1).counted ≡ true
+  party : shares 1 (w.stack c) ≡ 0
+  owner : keeps_own (w.job 1) ≡ false
+
+refused_spawn_keeps_its_share : IfSome (run_by (record { does = effect; next = keeps_entry }) (two 32) refused_run) Unkept
+refused_spawn_keeps_its_share = record { counted = refl; party = refl; owner = refl }
+
+-- the machine as it is gives it back
+refused_spawn_gives_it_back : IfSome (run_by right (two 32) (refused_run ++ times_go c 1)) (λ w. ((w.call 0).count ≡ 1) × ((w.job 1).counted ≡ false))
+refused_spawn_gives_it_back = (refl, refl)
+
+-- the Lower of a scope's count clears the record of its share, and leaves the number
+abbrev leaves_number : Act → Shape → Party → Counts → Part → Outcome
+leaves_number (Lower (OfScope n o) s) h q k m = Some ((if count_in m (OfScope n o) == 1 then Yes else No), record (lowered m (OfScope n o) s) { call = record ((lowered m (OfScope n o) s).call) { count = m.call.count } })
+leaves_number act h q k m = effect act h q k m
+
+-- the law of scopes is broken: the number is one more than the shares
+record Miscounted (w : World) : Type 0 where
+  number : (w.call 0).count ≡ 1
+  shares : (one (w.call 0).counted + count_below w.jobs (λ t. has_entry 0 (w.job t))) ≡ 0
+
+lower_lowers_no_scope : IfSome (run_by (record { does = leaves_number; next = next_of }) (two 32) (OpenScope c 0 ∷ times_go c 2 ++ End c Fine ∷ times_go c 2)) Miscounted
+lower_lowers_no_scope = record { number = refl; shares = refl }

@@ -38,7 +38,7 @@ use Rattle.rayon_machine_laws.proofs.Located.{is_left}
 use Rattle.rayon_machine_laws.proofs.Placed.{outcome_of}
 use Rattle.rayon_machine_laws.proofs.PlacedEvents.{is_dealing, no_deals}
 use Rattle.rayon_machine_laws.proofs.PlacedRuns.{once}
-use Rattle.rayon_machine_laws.proofs.Claims.{Says, SaysPlan, SaysPieces, queue_plan, is_detached}
+use Rattle.rayon_machine_laws.proofs.Claims.{call_undetached, Says, SaysPlan, SaysPieces, queue_plan, is_detached}
 use Rattle.rayon_machine_laws.proofs.Later.{Static, act_static}
 use Rattle.rayon_machine_laws.proofs.ClaimRuns.{world_after, place_part}
 use Rattle.rayon_machine_laws.proofs.Stocked.{one_set}
@@ -138,10 +138,10 @@ plan_none : {A : Type 0} (w : World) (q : Party) (n : Plan) (m : Part) → m.job
 plan_none w q (Detach p t) m e s i b k = free_none m (ap (λ j. j.bound) e ∙ s.bound) i b
 plan_none w q (Here p t) m e s i b k = free_none m (ap (λ j. j.bound) e ∙ s.bound) i b
 plan_none w q (Feed f) m e s i b k = free_none m (ap (λ j. j.bound) e ∙ (s.0).bound) i b
-plan_none w q (Send o) m e s i b k = other_none m (ap (λ j. is_detached (j.kind)) e ∙ ap is_detached ((s.0).kind)) k
-plan_none w q (Open o) m e s i b k = other_none m (ap (λ j. is_detached (j.kind)) e ∙ ap is_detached ((s.0).kind)) k
+plan_none w q (Send o) m e s i b k = other_none m (ap (λ j. is_detached (j.kind)) e ∙ call_undetached ((w.job o.job).kind) (o.number, q) ((s.0).kind)) k
+plan_none w q (Open o) m e s i b k = other_none m (ap (λ j. is_detached (j.kind)) e ∙ call_undetached ((w.job o.job).kind) (o.number, q) ((s.0).kind)) k
 plan_none w q (Enter x) m e s i b k = free_none m (ap (λ j. j.bound) e ∙ (s.0).bound) i b
-plan_none w q (Fork o a) m e s i b k = other_none m (ap (λ j. is_detached (j.kind)) e ∙ ap is_detached ((s.0).kind)) k
+plan_none w q (Fork o a) m e s i b k = other_none m (ap (λ j. is_detached (j.kind)) e ∙ call_undetached ((w.job o.job).kind) (o.number, q) ((s.0).kind)) k
 
 push_moves : (w : World) (q : Party) (n : Plan) (z : Bool) → SaysPlan w q n → IfSome (outcome_of w q (if z then PushOwn (plan_job n) (plan_book n) else PushInj (plan_pool n) (plan_job n) (plan_book n))) (Moves (part_of w (target_pool q (if z then PushOwn (plan_job n) (plan_book n) else PushInj (plan_pool n) (plan_job n) (plan_book n))) (target_worker q (if z then PushOwn (plan_job n) (plan_book n) else PushInj (plan_pool n) (plan_job n) (plan_book n))) (target_call (if z then PushOwn (plan_job n) (plan_book n) else PushInj (plan_pool n) (plan_job n) (plan_book n))) (job_at w q (if z then PushOwn (plan_job n) (plan_book n) else PushInj (plan_pool n) (plan_job n) (plan_book n)))))
 push_moves w q n true s = λ i b k y. plan_none w q n (part_of w (own_pool q) (own_index q) (or_none (plan_book n)) (plan_job n)) refl s i b k

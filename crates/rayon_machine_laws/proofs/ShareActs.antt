@@ -33,7 +33,7 @@ use Rattle.rayon_machine_laws.proofs.Ties.{job_at}
 use Rattle.rayon_machine_laws.proofs.Lists.{moves_no_job, SameJobs, quiet_same, times_first, times_own, times_drop}
 use Rattle.rayon_machine_laws.proofs.Located.{is_left}
 use Rattle.rayon_machine_laws.proofs.Placed.{outcome_of}
-use Rattle.rayon_machine_laws.proofs.Claims.{is_detached, SaysPlan, queue_plan, Says}
+use Rattle.rayon_machine_laws.proofs.Claims.{call_undetached, is_detached, SaysPlan, queue_plan, Says}
 use Rattle.rayon_machine_laws.proofs.ClaimRuns.{CallsHold, place_part}
 use Rattle.rayon_machine_laws.proofs.Amounts.{all_raises, all_values, pushed}
 use Rattle.rayon_machine_laws.proofs.Tokens.{Tokens, sum_below}
@@ -175,11 +175,11 @@ cast_taken w h p i t e = subst (λ o. is_left (w.job (or_none o)).at ≡ true) (
 push_stays : (w : World) (q : Party) (n : Plan) (v : Bool) (m m' : Part) → SaysPlan w q n → m.job ≡ w.job (plan_job n) → Stays m (PushJob n v) (plan_job n) (Done, m')
 push_stays w q (Detach p t) v m m' s e y z = let a : one (t == t) ≡ 1 = ap one (eq-eqb t t refl) in let b : one (is_busy m'.job.at) ≤ 1 = one_most (is_busy m'.job.at) in omega (arith, a, b)
 push_stays w q (Enter x) v m m' s e y z = let a : one (x.job == x.job) ≡ 1 = ap one (eq-eqb x.job x.job refl) in let b : one (is_busy m'.job.at) ≤ 1 = one_most (is_busy m'.job.at) in omega (arith, a, b)
-push_stays w q (Open o) v m m' s e y z = absurd (let a : is_detached m.job.kind ≡ false = ap (λ j. is_detached (j.kind)) e ∙ ap is_detached ((s.0).kind) in cc)
+push_stays w q (Open o) v m m' s e y z = absurd (let a : is_detached m.job.kind ≡ false = ap (λ j. is_detached (j.kind)) e ∙ call_undetached ((w.job o.job).kind) (o.number, q) ((s.0).kind) in cc)
 push_stays w q (Feed f) v m m' s e y z = let a : one (f.job == f.job) ≡ 1 = ap one (eq-eqb f.job f.job refl) in let b : one (is_busy m'.job.at) ≤ 1 = one_most (is_busy m'.job.at) in omega (arith, a, b)
 push_stays w q (Here p t) v m m' s e y z = absurd (let a : is_detached m.job.kind ≡ false = ap (λ j. is_detached (j.kind)) e ∙ ap is_detached (s.kind) in cc)
-push_stays w q (Send o) v m m' s e y z = absurd (let a : is_detached m.job.kind ≡ false = ap (λ j. is_detached (j.kind)) e ∙ ap is_detached ((s.0).kind) in cc)
-push_stays w q (Fork o f) v m m' s e y z = absurd (let a : is_detached m.job.kind ≡ false = ap (λ j. is_detached (j.kind)) e ∙ ap is_detached ((s.0).kind) in cc)
+push_stays w q (Send o) v m m' s e y z = absurd (let a : is_detached m.job.kind ≡ false = ap (λ j. is_detached (j.kind)) e ∙ call_undetached ((w.job o.job).kind) (o.number, q) ((s.0).kind) in cc)
+push_stays w q (Fork o f) v m m' s e y z = absurd (let a : is_detached m.job.kind ≡ false = ap (λ j. is_detached (j.kind)) e ∙ call_undetached ((w.job o.job).kind) (o.number, q) ((s.0).kind) in cc)
 
 push_act_stays : (w : World) (q : Party) (n : Plan) (v z : Bool) → SaysPlan w q n → IfSome (outcome_of w q (if z then PushOwn (plan_job n) (plan_book n) else PushInj (plan_pool n) (plan_job n) (plan_book n))) (Stays (part_of w (target_pool q (if z then PushOwn (plan_job n) (plan_book n) else PushInj (plan_pool n) (plan_job n) (plan_book n))) (target_worker q (if z then PushOwn (plan_job n) (plan_book n) else PushInj (plan_pool n) (plan_job n) (plan_book n))) (target_call (if z then PushOwn (plan_job n) (plan_book n) else PushInj (plan_pool n) (plan_job n) (plan_book n))) (job_at w q (if z then PushOwn (plan_job n) (plan_book n) else PushInj (plan_pool n) (plan_job n) (plan_book n)))) (PushJob n v) (job_at w q (if z then PushOwn (plan_job n) (plan_book n) else PushInj (plan_pool n) (plan_job n) (plan_book n))))
 push_act_stays w q n v true s = let m : Part = part_of w (own_pool q) (own_index q) (or_none (plan_book n)) (plan_job n) in push_stays w q n v m (record m { seat = record (m.seat) { own = m.seat.own ++ plan_job n ∷ [] }; job = at_job (m.job) (InDeque (own_pool q) (own_index q)) }) s refl

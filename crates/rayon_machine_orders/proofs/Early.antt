@@ -1,7 +1,7 @@
 -- a scope keeps its share of its pool's count while a job of it has one of the scope's: so no pool ends before the
 -- scopes at it
 use Rattle.std.proofs.Common.{arith, refl, sym, ◌∙◌, ap, subst, inl, inr}
-use Rattle.std.specs.Prelude.{ℕ, Bool, true, false, ◌&&◌, ◌||◌, ◌+◌, ◌-◌, ◌==◌, ◌≤◌, ◌<◌, nat_lt, if◌then◌else◌, Option, Some, None, List, [], ◌∷◌, ◌++◌, ◌≡◌, ◌⊎◌, IfSome}
+use Rattle.std.specs.Prelude.{ℕ, Bool, true, false, ◌&&◌, ◌||◌, ◌+◌, ◌-◌, ◌==◌, ◌≤◌, ◌<◌, nat_lt, if◌then◌else◌, Option, Some, None, List, [], ◌∷◌, ◌++◌, ◌≡◌, ◌⊎◌, IfSome, slice_get}
 use Rattle.std.proofs.lemmas.Bool.{eqb-true, eq-eqb, ltb-true, ltb-false}
 use Rattle.std.proofs.Math.Dec.{ltb}
 use Rattle.rayon_machine_places.specs.declared.place.Party.{Party}
@@ -130,15 +130,18 @@ held_at w q c x (ScopeBody o) up k s m z = inl (record {
 held_at w q c x (Run t (Scoped d o)) up k s m z = inr (record { job = t; owner = o; made = s.0; kind = s.1 ∙ ap (λ n. Scoped n o) (eqb-true d c z) })
 held_at w q c x _ up k s m z = cc
 
+-- of two, one holds
+held_or : (w : World) (q : Party) (c : ℕ) (f : Place) (fs : List Place) → (holds_scope c f ≡ true → Holder w q c) → (holds_in c fs ≡ true → Holder w q c) → (holds_scope c f || holds_in c fs) ≡ true → (b : Bool) → holds_scope c f ≡ b → Holder w q c
+held_or w q c f fs g h y true z = g z
+held_or w q c f fs g h y false z = h (ap (λ b. b || holds_in c fs) (sym z) ∙ y)
+
 held_below : (w : World) (q : Party) (c : ℕ) (x : Place) (fs : List Place) → JobsHold w → ((t : ℕ) → here x ≡ Some t → is_left (w.job t).at ≡ true) → Linked x fs → AllSay w q fs → AllFrames fs → ((t : ℕ) → shares_in t fs ≤ shares t (w.stack q)) → ((t : ℕ) → runs_in t fs ≤ worked t (w.stack q)) → holds_in c fs ≡ true → Holder w q c
 held_below w q c x [] j up k a fr s r y = cc
-held_below w q c x (f ∷ fs) j up k a fr s r y = by (holds_scope c f) refl
-  where
-    by : (b : Bool) → holds_scope c f ≡ b → Holder w q c
-    by true z = held_at w q c x f up (k.0) (a.0) (λ t. (let b : share t f + shares_in t fs ≤ shares t (w.stack q) = s t in omega (arith, b))) z
-    by false z = held_below w q c f fs j (frame_left w q f j (fr.0) (λ t. (let b : run_of t f + runs_in t fs ≤ worked t (w.stack q) = r t in omega (arith, b)))) (k.1) (a.1) (fr.1)
-        (λ t. (let b : share t f + shares_in t fs ≤ shares t (w.stack q) = s t in omega (arith, b))) (λ t. (let b : run_of t f + runs_in t fs ≤ worked t (w.stack q) = r t in omega (arith, b)))
-        (ap (λ b. b || holds_in c fs) (sym z) ∙ y)
+held_below w q c x (f ∷ fs) j up k a fr s r y = held_or w q c f fs
+    (λ z. held_at w q c x f up (k.0) (a.0) (λ t. (let b : share t f + shares_in t fs ≤ shares t (w.stack q) = s t in omega (arith, b))) z)
+    (λ z. held_below w q c f fs j (frame_left w q f j (fr.0) (λ t. (let b : run_of t f + runs_in t fs ≤ worked t (w.stack q) = r t in omega (arith, b)))) (k.1) (a.1) (fr.1)
+        (λ t. (let b : share t f + shares_in t fs ≤ shares t (w.stack q) = s t in omega (arith, b))) (λ t. (let b : run_of t f + runs_in t fs ≤ worked t (w.stack q) = r t in omega (arith, b))) z)
+    y (holds_scope c f) refl
 
 free_frame : (x : Place) → is_free x ≡ true → is_frame x ≡ true
 free_frame (Run t k) e = refl

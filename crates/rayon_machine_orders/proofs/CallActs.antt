@@ -10,14 +10,14 @@ use Rattle.rayon_machine_places.specs.declared.place.Plan.TheVariants.{Detach, H
 use Rattle.rayon_machine_places.specs.declared.place.Count.{Count}
 use Rattle.rayon_machine_places.specs.declared.place.Count.TheVariants.{OfPool, OfScope}
 use Rattle.rayon_machine_places.specs.declared.place.Share.{Share}
-use Rattle.rayon_machine_places.specs.declared.place.Share.TheVariants.{OfJob}
+use Rattle.rayon_machine_places.specs.declared.place.Share.TheVariants.{PoolValue, Body, OfJob}
 use Rattle.rayon_machine_places.specs.declared.place.Then.{Then}
 use Rattle.rayon_machine_places.specs.declared.place.Then.TheVariants.{BeginFound, LeaveWait, Resume, Await, RunFirst, Answers, Missing, Ran, GiveBack, Called}
 use Rattle.rayon_machine_places.specs.declared.place.Latch.TheVariants.{Terminate}
 use Rattle.rayon_machine_places.specs.declared.place.Place.{Place}
-use Rattle.rayon_machine_places.specs.declared.place.Place.TheVariants.{RaiseCount, GrowCall, PushJob, TakeResult, LowerCount, SetLatch, AddToFifo, BeginTask, PushToken, TakeFromFifo}
+use Rattle.rayon_machine_places.specs.declared.place.Place.TheVariants.{RaiseCount, GrowCall, PushJob, TakeResult, LowerCount, SetLatch, AddToFifo, BeginTask, PushToken, TakeFromFifo, GrowScope, OpenSlot, ScopeBody}
 use Rattle.rayon_machine_places.specs.declared.place.Move.{Move}
-use Rattle.rayon_machine_places.specs.declared.place.Move.TheVariants.{Stay, Back}
+use Rattle.rayon_machine_places.specs.declared.place.Move.TheVariants.{Stay, Back, StartRun}
 use Rattle.rayon_machine_places.specs.declared.act.Act.{Act}
 use Rattle.rayon_machine_places.specs.declared.act.Act.TheVariants.{PushInj, PushOwn}
 use Rattle.rayon_machine_places.specs.declared.act.Seen.{Seen}
@@ -26,6 +26,7 @@ use Rattle.rayon_machine_places.specs.declared.shape.PoolShape.{PoolShape}
 use Rattle.rayon_machine_places.specs.declared.state.Whereabouts.{Whereabouts}
 use Rattle.rayon_machine_places.specs.declared.state.Whereabouts.TheVariants.{InDeque, Injected, InFifo, Spent}
 use Rattle.rayon_machine_places.specs.declared.place.OpenCall.{OpenCall}
+use Rattle.rayon_machine_places.specs.declared.place.Entry.{Entry}
 use Rattle.rayon_machine_places.specs.declared.state.Job.{Job}
 use Rattle.rayon_machine_places.specs.Places.{own_pool, own_index, is_member, plan_pool, plan_job, plan_count, plan_book, finish, settle, act_of, next_of}
 use Rattle.rayon_machine_places.specs.World.{World, Part as Piece, count_in, count_pool, count_call, target_pool, target_worker, target_call, counts_at, at_job, found, effect, but_last, fifo_back, is_open, last_of, or_none}
@@ -34,10 +35,10 @@ use Rattle.rayon_machine_places.specs.Readers.{is_queued, is_running, is_done}
 use Rattle.rayon_machine_orders.specs.Calls.{count_of, is_raise_refused}
 use Rattle.rayon_machine_laws.proofs.Frame.{if_some_all, put_new, either, if_cond, put_old}
 use Rattle.rayon_machine_laws.proofs.Ties.{job_at, outcome}
-use Rattle.rayon_machine_laws.proofs.Claims.{Says}
+use Rattle.rayon_machine_laws.proofs.Claims.{Says, SaysThen}
 use Rattle.rayon_machine_laws.proofs.ClaimRuns.{place_part, world_after}
 use Rattle.rayon_machine_laws.proofs.ShareLowers.{lowered_world, share_made}
-use Rattle.rayon_machine_orders.proofs.CallPlaces.{Stage, Going, Gone, Paid, Undone, is_undone, Part, PartOwed, Known, Leads, raised_leads, lower_leads, is_decisive, part_leads, open_job, here_job, is_sent, told, Added, Withdrawing}
+use Rattle.rayon_machine_orders.proofs.CallPlaces.{Stage, Going, Gone, Paid, Undone, is_undone, Part, PartBody, PartOwed, Known, Leads, raised_leads, lower_leads, is_decisive, part_leads, plan_open, open_job, here_job, is_sent, told, Added, Withdrawing}
 use Rattle.rayon_machine_laws.proofs.Feeders.{FeedersHold, feeds_now, waits}
 use Rattle.rayon_machine_places.specs.declared.place.Feeding.{Feeding}
 use Rattle.rayon_machine_laws.proofs.PlacedRuns.{JobsHold, once}
@@ -57,6 +58,7 @@ TokenOn j = (is_left j.at ≡ true) × (HandedOn j ⊎ (j.at ≡ Spent))
 -- what is known of a spawned job once it is queued
 abbrev pub Queued : (ℕ → Job) → Plan → Type 0
 Queued f (Detach p t) = (is_left (f t).at ≡ true) × HandedOn (f t)
+Queued f (Enter e) = (is_left (f e.job).at ≡ true) × HandedOn (f e.job)
 Queued f (Feed d) = HandedOn (f d.job) × TokenOn (f d.token) × (d.token ≡ d.job + 1)
 Queued f _ = ⊤
 
@@ -91,6 +93,8 @@ not_raised w q (BeginTask (Plain t)) d = search (rules, arith)
 not_raised w q (BeginTask (Token k i)) d = search (rules, arith)
 not_raised w q (TakeResult o f) d = absurd (let a : true ≡ false = d in cc)
 not_raised w q (LowerCount p h t) d = absurd (let a : true ≡ false = d in cc)
+not_raised w q (GrowScope o) d = absurd (let a : true ≡ false = d in cc)
+not_raised w q (OpenSlot e) d = absurd (let a : true ≡ false = d in cc)
 not_raised w (Worker i j) x d = search (rules, arith)
 not_raised w (Caller c) x d = search (rules, arith)
 
@@ -126,7 +130,7 @@ queued_now f g n (Here p t) a e s l z i = subst (λ v. Queued g v) e tt
 queued_now f g n (Feed d) a e s l z i = absurd (let b : false ≡ true = s in cc)
 queued_now f g n (Send o) a e s l z i = subst (λ v. Queued g v) e tt
 queued_now f g n (Open o) a e s l z i = subst (λ v. Queued g v) e tt
-queued_now f g n (Enter x) a e s l z i = subst (λ v. Queued g v) e tt
+queued_now f g n (Enter x) a e s l z i = subst (λ v. Queued g v) e (ap (λ j. is_left j.at) i ∙ l, ap (λ j. is_queued j.at || (is_running j.at || is_done j.at)) i ∙ z)
 queued_now f g n (Fork o b) a e s l z i = subst (λ v. Queued g v) e tt
 
 sent_told : (n m : Plan) → m ≡ n → is_sent m ≡ true → n ≡ told n
@@ -141,6 +145,14 @@ sent_told (Feed f) m e s = absurd (let a : is_sent m ≡ false = ap is_sent e in
 push_goes : (w : World) (q : Party) (n : Plan) (s : Stage) (m : Plan) (v : Bool) (fs : List Place) → Part n s (PushJob m v) → (b : Bool) → (λ (a : Act). IfSome (effect a w.shape q (counts_at w (target_pool q a)) (part_of w (target_pool q a) (target_worker q a) (target_call a) (job_at w q a))) (λ r. Went w (after w q (record { top = PushJob m v; below = fs }) (target_pool q a) (target_worker q a) (target_call a) (job_at w q a) r) n s (is_raise_refused w a) (next_of (w.shape.pool (target_pool q a)) q (PushJob m v) (r.0)))) (if b then PushOwn (plan_job m) (plan_book m) else PushInj (plan_pool m) (plan_job m) (plan_book m))
 push_goes w q n s m v fs y true = record { stage = Gone; leads = (y.0 ∙ sent_told n m (y.0) (y.2), refl, y.2); sofar = λ z. queued_now w.job (put w.job (plan_job m) (at_job (w.job (plan_job m)) (InDeque (own_pool q) (own_index q)))) n m (InDeque (own_pool q) (own_index q)) (y.0) (y.2) refl refl (put_new w.job (plan_job m) (at_job (w.job (plan_job m)) (InDeque (own_pool q) (own_index q)))); flag = ap is_undone (sym (y.1)) ∙ or_false (is_undone s) }
 push_goes w q n s m v fs y false = record { stage = Gone; leads = (y.0 ∙ sent_told n m (y.0) (y.2), refl, y.2); sofar = λ z. queued_now w.job (put w.job (plan_job m) (at_job (w.job (plan_job m)) (Injected (plan_pool m)))) n m (Injected (plan_pool m)) (y.0) (y.2) refl refl (put_new w.job (plan_job m) (at_job (w.job (plan_job m)) (Injected (plan_pool m)))); flag = ap is_undone (sym (y.1)) ∙ or_false (is_undone s) }
+
+-- a scope's body begins
+grown_goes : (w : World) (q : Party) (n : Plan) (s : Stage) (o : OpenCall) (u : World) → Part n s (GrowScope o) → Went w u n s false (StartRun (ScopeBody o) o.job)
+grown_goes w q n s o u y = record { stage = Gone; leads = (y.0, refl); sofar = λ z. subst (λ m. Queued u.job m) (sym (y.0)) tt; flag = ap is_undone (sym (y.1)) ∙ or_false (is_undone s) }
+
+-- a spawn into a scope opens a number of the book
+slot_goes : (w : World) (q : Party) (n : Plan) (s : Stage) (e : Entry) (fs : List Place) → Part n s (OpenSlot e) → (b : Bool) (m : Piece) → IfSome (if b then Some (Done, m) else None) (λ r. Went w (world_after w q (OpenSlot e) fs r) n s false (next_of (w.shape.pool (target_pool q (act_of q (OpenSlot e)))) q (OpenSlot e) (r.0)))
+slot_goes w q n s e fs y b m = if_cond (λ r. Went w (world_after w q (OpenSlot e) fs r) n s false (next_of (w.shape.pool (target_pool q (act_of q (OpenSlot e)))) q (OpenSlot e) (r.0))) b (Done, m) (λ o. record { stage = s; leads = (sym (y.0), y.1, refl); sofar = λ z. z; flag = or_false (is_undone s) })
 
 -- the acts of a call for a FIFO list
 add_goes : (w : World) (a b : ℕ) (n : Plan) (s : Stage) (f : Feeding) (fs : List Place) → Part n s (AddToFifo f) → Goes w (Worker a b) n s (AddToFifo f) fs
@@ -187,7 +199,7 @@ back_goes w a b n s f fs z fe y = by (is_open (Worker a b) ((w.seat a b).feeder)
 
     taken : (o : Option ℕ) → last_of ((w.seat a b).fifo) ≡ o → IfSome (fifo_back (Worker a b) (part_of w a b 0 (or_none (last_of ((w.seat a b).fifo)))) o) P
     taken None e = absurd (let c : Some f.job ≡ None = sym last ∙ e in cc)
-    taken (Some u) e = record { stage = Undone; leads = (ap (λ m. OfJob (plan_job m)) (own u (sym e ∙ last)), (own u (sym e ∙ last), refl)); sofar = λ k. tt; flag = ap is_undone (sym (y.1)) ∙ or_false (is_undone s) }
+    taken (Some u) e = record { stage = Undone; leads = (ap plan_job (own u (sym e ∙ last)), (own u (sym e ∙ last), refl)); sofar = λ k. tt; flag = ap is_undone (sym (y.1)) ∙ or_false (is_undone s) }
 
     by : (c : Bool) → IfSome (if c then fifo_back (Worker a b) (part_of w a b 0 (or_none (last_of ((w.seat a b).fifo)))) (last_of ((w.seat a b).fifo)) else None) P
     by true = taken (last_of ((w.seat a b).fifo)) refl
@@ -195,7 +207,7 @@ back_goes w a b n s f fs z fe y = by (is_open (Worker a b) ((w.seat a b).feeder)
 
 take_goes : (w : World) (q : Party) (n : Plan) (s : Stage) (o : OpenCall) (f : Option Ending) (fs : List Place) → Part n s (TakeResult o f) → (c : Option Ending) → (c ≡ None → ⊥) → IfSome (found (place_part w q (TakeResult o f)) c) (λ r. Went w (world_after w q (TakeResult o f) fs r) n s false (next_of (w.shape.pool (target_pool q (act_of q (TakeResult o f)))) q (TakeResult o f) (r.0)))
 take_goes w q n s o f fs y None g = absurd (g refl)
-take_goes w q n s o f fs y (Some e) g = record { stage = s; leads = (ap OfJob (open_job n o (y.0)), y); sofar = λ z. z; flag = or_false (is_undone s) }
+take_goes w q n s o f fs y (Some e) g = record { stage = s; leads = (open_job n o (y.0), y); sofar = λ z. z; flag = or_false (is_undone s) }
 
 -- the call's own Lower gives its share back
 settle_jobs : (g : PoolShape) (q : Party) (p i : ℕ) (t : Then) (f : ℕ → Job) → finish q t ≡ Back → jobs_after q (settle g q p i t) f ≡ f
@@ -239,6 +251,19 @@ lower_went w q n s p (Await o) fs e k z y = absurd y
 lower_went w q n s p (RunFirst o a) fs e k z y = absurd y
 lower_went w q n s p (Missing o f) fs e k z y = absurd y
 
+-- a scope's own Lower gives its body's share back, and the call waits next
+body_went : (w : World) (q : Party) (n : Plan) (s : Stage) (p : Count) (t : Then) (fs : List Place) (e : Seen) (u : World) → Known w n → SaysThen w q t → PartBody n s t → Went w u n s false (next_of (w.shape.pool (count_pool q p)) q (LowerCount p Body t) e)
+body_went w q n s p (Await o) fs e u k z y = record { stage = s; leads = lower_leads w (w.shape.pool (count_pool q p)) q n s p Body (Await o) e k z (ap plan_open (y.0), y.1); sofar = λ v. v; flag = or_false (is_undone s) }
+body_went w q n s p (Answers o f d) fs e u k z y = absurd y
+body_went w q n s p (Ran t d) fs e u k z y = absurd y
+body_went w q n s p (GiveBack m) fs e u k z y = absurd y
+body_went w q n s p (BeginFound g t) fs e u k z y = absurd y
+body_went w q n s p (LeaveWait g) fs e u k z y = absurd y
+body_went w q n s p Resume fs e u k z y = absurd y
+body_went w q n s p Called fs e u k z y = absurd y
+body_went w q n s p (RunFirst o a) fs e u k z y = absurd y
+body_went w q n s p (Missing o f) fs e u k z y = absurd y
+
 plain_goes : (w : World) (q : Party) (n : Plan) (s : Stage) (x : Place) (fs : List Place) → is_decisive x ≡ false → Known w n → Says w q x → Part n s x → Goes w q n s x fs
 plain_goes w q n s x fs d k z y = if_some_all (λ r. Went w (world_after w q x fs r) n s (is_raise_refused w (act_of q x)) (next_of (w.shape.pool (target_pool q (act_of q x))) q x (r.0))) (λ r. record { stage = s; leads = part_leads w (w.shape.pool (target_pool q (act_of q x))) q n s x (r.0) d k z y; sofar = λ v. v; flag = or_false (is_undone s) ∙ ap (λ v. is_undone s || v) (sym (not_raised w q x d)) }) (outcome w q (record { top = x; below = fs }))
 
@@ -251,8 +276,16 @@ call_goes w (Worker a b) n s (PushJob m v) fs g st fe h k z y = push_goes w (Wor
 call_goes w (Caller c) n s (PushJob m v) fs g st fe h k z y = push_goes w (Caller c) n s m v fs y false
 call_goes w (Worker a b) n s (TakeResult o f) fs g st fe h k z y = take_goes w (Worker a b) n s o f fs y ((w.call o.number).cell) (g o f refl)
 call_goes w (Caller c) n s (TakeResult o f) fs g st fe h k z y = take_goes w (Caller c) n s o f fs y ((w.call o.number).cell) (g o f refl)
-call_goes w (Worker a b) n s (LowerCount p d t) fs g st fe h k z y = subst (λ i. Says w (Worker a b) (LowerCount p i t) → Goes w (Worker a b) n s (LowerCount p i t) fs) (sym (y.0)) (λ v. lower_went w (Worker a b) n s p t fs (if count_in (place_part w (Worker a b) (LowerCount p (OfJob (plan_job n)) t)) p == 1 then Yes else No) k v (y.1)) z
-call_goes w (Caller c) n s (LowerCount p d t) fs g st fe h k z y = subst (λ i. Says w (Caller c) (LowerCount p i t) → Goes w (Caller c) n s (LowerCount p i t) fs) (sym (y.0)) (λ v. lower_went w (Caller c) n s p t fs (if count_in (place_part w (Caller c) (LowerCount p (OfJob (plan_job n)) t)) p == 1 then Yes else No) k v (y.1)) z
+call_goes w (Worker a b) n s (LowerCount p PoolValue t) fs g st fe h k z y = absurd y
+call_goes w (Worker a b) n s (LowerCount p Body t) fs g st fe h k z y = body_went w (Worker a b) n s p t fs (if count_in (place_part w (Worker a b) (LowerCount p Body t)) p == 1 then Yes else No) _ k (z.0) y
+call_goes w (Worker a b) n s (LowerCount p (OfJob d) t) fs g st fe h k z y = subst (λ i. Says w (Worker a b) (LowerCount p (OfJob i) t) → Goes w (Worker a b) n s (LowerCount p (OfJob i) t) fs) (sym (y.0)) (λ v. lower_went w (Worker a b) n s p t fs (if count_in (place_part w (Worker a b) (LowerCount p (OfJob (plan_job n)) t)) p == 1 then Yes else No) k v (y.1)) z
+call_goes w (Caller c) n s (LowerCount p PoolValue t) fs g st fe h k z y = absurd y
+call_goes w (Caller c) n s (LowerCount p Body t) fs g st fe h k z y = body_went w (Caller c) n s p t fs (if count_in (place_part w (Caller c) (LowerCount p Body t)) p == 1 then Yes else No) _ k (z.0) y
+call_goes w (Caller c) n s (LowerCount p (OfJob d) t) fs g st fe h k z y = subst (λ i. Says w (Caller c) (LowerCount p (OfJob i) t) → Goes w (Caller c) n s (LowerCount p (OfJob i) t) fs) (sym (y.0)) (λ v. lower_went w (Caller c) n s p t fs (if count_in (place_part w (Caller c) (LowerCount p (OfJob (plan_job n)) t)) p == 1 then Yes else No) k v (y.1)) z
+call_goes w (Worker a b) n s (GrowScope o) fs g st fe h k z y = grown_goes w (Worker a b) n s o _ y
+call_goes w (Caller c) n s (GrowScope o) fs g st fe h k z y = grown_goes w (Caller c) n s o _ y
+call_goes w (Worker a b) n s (OpenSlot e) fs g st fe h k z y = slot_goes w (Worker a b) n s e fs y (is_open (Worker a b) ((w.call e.call).writer)) _
+call_goes w (Caller c) n s (OpenSlot e) fs g st fe h k z y = slot_goes w (Caller c) n s e fs y (is_open (Caller c) ((w.call e.call).writer)) _
 call_goes w (Worker a b) n s (AddToFifo f) fs g st fe h k z y = add_goes w a b n s f fs y
 call_goes w (Caller c) n s (AddToFifo f) fs g st fe h k z y = tt
 call_goes w (Worker a b) n s (PushToken f v) fs g st fe h k z y = token_goes w a b n s f v fs st fe h y

@@ -28,6 +28,7 @@ use Rattle.rayon_machine_laws.proofs.Frame.{if_cond, into_cases, put_same, put_o
 use Rattle.rayon_machine_orders.proofs.CallPlaces.{Stage, Undone, is_undone, Part, plan_open, plan_here, steal_part, open_job, here_job, Withdrawing}
 use Rattle.rayon_machine_orders.proofs.CallActs.{Sofar, or_false, or_true}
 use Rattle.rayon_machine_places.specs.declared.place.Feeding.{Feeding}
+use Rattle.rayon_machine_places.specs.declared.place.Entry.{Entry}
 use Rattle.rayon_machine_places.specs.declared.state.Job.{Job}
 use Rattle.rayon_machine_places.specs.Readers.{is_done}
 
@@ -53,7 +54,7 @@ pub record Stood (u : World) (n : Plan) (r : Stage) (s k : Stack) (b : Bool) : T
 pub record Turned (w u : World) (q : Party) (e : Event) : Type 0 where
   pub to : Stack
   pub stack : (r : Party) → u.stack r ≡ put_stack w.stack q to r
-  pub sides : (c : ℕ) → c + 1 ≤ w.calls → (c + 1 ≤ u.calls) × ((u.call c).first ≡ (w.call c).first)
+  pub sides : (c : ℕ) → c + 1 ≤ w.calls → (c + 1 ≤ u.calls) × ((u.call c).first ≡ (w.call c).first) × ((u.call c).job ≡ (w.call c).job)
   pub made : (t : ℕ) → t + 1 ≤ w.jobs → (t + 1 ≤ u.jobs) × (((u.job t).kind ≡ (w.job t).kind) × ((u.job t).counted ≡ (w.job t).counted) × ((u.job t).bound ≡ (w.job t).bound))
   pub ats : (t : ℕ) → t + 1 ≤ w.jobs → ((u.job t).at ≡ (w.job t).at) ⊎ (is_done (u.job t).at ≡ true)
   pub stood : (n : Plan) (r : Stage) (s : Stack) → CallStands n r s (w.stack q) → Stood u n r s to (is_refusal q s w e)
@@ -84,13 +85,13 @@ old_at f k v c l = put_old f k v c (apart (c == k) refl)
     apart false e = e
 
 pub from_turned : (w : World) (q : Party) (x : Place) (fs : List Place) (v : ℕ) → w.stack q ≡ record { top = x; below = fs } → IfSome (after_choice w q (record { top = x; below = fs }) x v) (λ u. Turned w u q (From q v))
-from_turned w q (PickVictim k) fs v z = if_cond (λ u. Turned w u q (From q v)) (nat_lt v (w.shape.pool (own_pool q)).workers) _ (λ b. record { to = _; stack = λ r. refl; sides = λ c l. (l, refl); made = λ t l. (l, (refl, refl, refl)); ats = λ t l. inl refl; stood = λ n r s h. same_stood _ n r s _ (topped n r s (w.stack q) (PickVictim k) _ fs z (λ y. y) h); quiet = λ r s d. refl })
-from_turned w q YieldPick fs v z = if_cond (λ u. Turned w u q (From q v)) (nat_lt v (w.shape.pool (own_pool q)).workers) _ (λ b. record { to = _; stack = λ r. refl; sides = λ c l. (l, refl); made = λ t l. (l, (refl, refl, refl)); ats = λ t l. inl refl; stood = λ n r s h. same_stood _ n r s _ (topped n r s (w.stack q) YieldPick _ fs z (λ y. absurd y) h); quiet = λ r s d. refl })
+from_turned w q (PickVictim k) fs v z = if_cond (λ u. Turned w u q (From q v)) (nat_lt v (w.shape.pool (own_pool q)).workers) _ (λ b. record { to = _; stack = λ r. refl; sides = λ c l. (l, refl, refl); made = λ t l. (l, (refl, refl, refl)); ats = λ t l. inl refl; stood = λ n r s h. same_stood _ n r s _ (topped n r s (w.stack q) (PickVictim k) _ fs z (λ y. y) h); quiet = λ r s d. refl })
+from_turned w q YieldPick fs v z = if_cond (λ u. Turned w u q (From q v)) (nat_lt v (w.shape.pool (own_pool q)).workers) _ (λ b. record { to = _; stack = λ r. refl; sides = λ c l. (l, refl, refl); made = λ t l. (l, (refl, refl, refl)); ats = λ t l. inl refl; stood = λ n r s h. same_stood _ n r s _ (topped n r s (w.stack q) YieldPick _ fs z (λ y. absurd y) h); quiet = λ r s d. refl })
 from_turned w q _ fs v z = tt
 
 pub miss_turned : (w : World) (q : Party) (x : Place) (fs : List Place) → w.stack q ≡ record { top = x; below = fs } → IfSome (after_miss w q (record { top = x; below = fs }) x) (λ u. Turned w u q (Miss q))
-miss_turned w (Worker a b) (StealFrom k m) fs z = if_cond (λ u. Turned w u (Worker a b) (Miss (Worker a b))) (can_miss w a k.victim) _ (λ y. record { to = _; stack = λ r. refl; sides = λ c l. (l, refl); made = λ t l. (l, (refl, refl, refl)); ats = λ t l. inl refl; stood = λ n r s h. same_stood _ n r s _ (topped n r s (w.stack (Worker a b)) (StealFrom k m) (next_steal (w.shape.pool a) (Worker a b) k m) fs z (λ y. steal_part n r (w.shape.pool a) (Worker a b) k m y) h); quiet = λ r s d. refl })
-miss_turned w (Worker a b) (YieldSteal v m) fs z = if_cond (λ u. Turned w u (Worker a b) (Miss (Worker a b))) (can_miss w a v) _ (λ y. record { to = _; stack = λ r. refl; sides = λ c l. (l, refl); made = λ t l. (l, (refl, refl, refl)); ats = λ t l. inl refl; stood = λ n r s h. same_stood _ n r s _ (topped n r s (w.stack (Worker a b)) (YieldSteal v m) (next_yield (w.shape.pool a) (Worker a b) v m) fs z (λ y. absurd y) h); quiet = λ r s d. refl })
+miss_turned w (Worker a b) (StealFrom k m) fs z = if_cond (λ u. Turned w u (Worker a b) (Miss (Worker a b))) (can_miss w a k.victim) _ (λ y. record { to = _; stack = λ r. refl; sides = λ c l. (l, refl, refl); made = λ t l. (l, (refl, refl, refl)); ats = λ t l. inl refl; stood = λ n r s h. same_stood _ n r s _ (topped n r s (w.stack (Worker a b)) (StealFrom k m) (next_steal (w.shape.pool a) (Worker a b) k m) fs z (λ y. steal_part n r (w.shape.pool a) (Worker a b) k m y) h); quiet = λ r s d. refl })
+miss_turned w (Worker a b) (YieldSteal v m) fs z = if_cond (λ u. Turned w u (Worker a b) (Miss (Worker a b))) (can_miss w a v) _ (λ y. record { to = _; stack = λ r. refl; sides = λ c l. (l, refl, refl); made = λ t l. (l, (refl, refl, refl)); ats = λ t l. inl refl; stood = λ n r s h. same_stood _ n r s _ (topped n r s (w.stack (Worker a b)) (YieldSteal v m) (next_yield (w.shape.pool a) (Worker a b) v m) fs z (λ y. absurd y) h); quiet = λ r s d. refl })
 miss_turned w (Worker a b) _ fs z = tt
 miss_turned w (Caller n) _ fs z = tt
 
@@ -109,7 +110,7 @@ at_call_no s k gs p e = apart (is_at_call s k) refl
 undone : (w u : World) (q : Party) (x : Place) (fs : List Place) (n m : Plan) (r : Stage) (s : Stack) (above : List Place) (place : Place) → w.stack q ≡ record { top = x; below = fs } → (Part n r x → (m ≡ n) × (is_undone r ≡ false)) → x ∷ fs ≡ above ++ (place ∷ whole s) → Part n r place → Stood u n r s (record { top = undo m; below = fs }) (same_party q q && is_at_call s (w.stack q))
 undone w u q x fs n m r s [] place z f e p = record {
   stage = Undone;
-  stands = record { above = []; place = undo m; is = (let a : fs ≡ whole s = cc in ap (λ v. undo m ∷ v) a); part = (let b : m ≡ n = (f (let a : x ≡ place = cc in subst (λ v. Part n r v) (sym a) p)).0 in (ap (λ v. OfJob (plan_job v)) b, (b, refl))) };
+  stands = record { above = []; place = undo m; is = (let a : fs ≡ whole s = cc in ap (λ v. undo m ∷ v) a); part = (let b : m ≡ n = (f (let a : x ≡ place = cc in subst (λ v. Part n r v) (sym a) p)).0 in (ap plan_job b, (b, refl))) };
   sofar = λ y. tt;
   flag = or_true (is_undone r) ∙ ap (λ v. is_undone r || v) (sym (let a : same_party q q ≡ true = same_party_refl q in let b : fs ≡ whole s = cc in let d : is_at_call s (w.stack q) ≡ true = at_call_yes s (w.stack q) (ap (λ k. k.below) z ∙ b) in rw a d));
 }
@@ -135,7 +136,22 @@ withdrawn w u q f v fs n r s (a ∷ gs) place z e p = record {
   flag = or_false (is_undone r) ∙ ap (λ v. is_undone r || v) (sym (let a : same_party q q ≡ true = same_party_refl q in let b : fs ≡ gs ++ (place ∷ whole s) = cc in let d : is_at_call s (w.stack q) ≡ false = at_call_no s (w.stack q) gs place (ap (λ k. k.below) z ∙ b) in rw a d));
 }
 
--- a refused act that is no step of such a call: of a broadcast, or of a scope's call
+-- a refused push of a spawn into a scope: its number is taken back next
+unslotted : (w u : World) (q : Party) (x : Entry) (v : Bool) (fs : List Place) (n : Plan) (r : Stage) (s : Stack) (above : List Place) (place : Place) → w.stack q ≡ record { top = PushJob (Enter x) v; below = fs } → PushJob (Enter x) v ∷ fs ≡ above ++ (place ∷ whole s) → Part n r place → Stood u n r s (record { top = CloseSlot x; below = fs }) (same_party q q && is_at_call s (w.stack q))
+unslotted w u q x v fs n r s [] place z e p = record {
+  stage = Undone;
+  stands = record { above = []; place = CloseSlot x; is = (let a : fs ≡ whole s = cc in ap (λ v. CloseSlot x ∷ v) a); part = ((let a : PushJob (Enter x) v ≡ place = cc in let b : Part n r (PushJob (Enter x) v) = subst (λ v. Part n r v) (sym a) p in sym (b.0)), refl) };
+  sofar = λ y. tt;
+  flag = or_true (is_undone r) ∙ ap (λ v. is_undone r || v) (sym (let a : same_party q q ≡ true = same_party_refl q in let b : fs ≡ whole s = cc in let d : is_at_call s (w.stack q) ≡ true = at_call_yes s (w.stack q) (ap (λ k. k.below) z ∙ b) in rw a d));
+}
+unslotted w u q x v fs n r s (a ∷ gs) place z e p = record {
+  stage = r;
+  stands = record { above = CloseSlot x ∷ gs; place = place; is = (let b : fs ≡ gs ++ (place ∷ whole s) = cc in ap (λ v. CloseSlot x ∷ v) b); part = p };
+  sofar = λ y. y;
+  flag = or_false (is_undone r) ∙ ap (λ v. is_undone r || v) (sym (let a : same_party q q ≡ true = same_party_refl q in let b : fs ≡ gs ++ (place ∷ whole s) = cc in let d : is_at_call s (w.stack q) ≡ false = at_call_no s (w.stack q) gs place (ap (λ k. k.below) z ∙ b) in rw a d));
+}
+
+-- a refused act that is no step of such a call: of a broadcast
 kept_above : (w u : World) (q : Party) (x y : Place) (fs : List Place) (n : Plan) (r : Stage) (s : Stack) (above : List Place) (place : Place) → w.stack q ≡ record { top = x; below = fs } → (Part n r x → ⊥) → x ∷ fs ≡ above ++ (place ∷ whole s) → Part n r place → Stood u n r s (record { top = y; below = fs }) (same_party q q && is_at_call s (w.stack q))
 kept_above w u q x y fs n r s [] place z f e p = absurd (f (let a : x ≡ place = cc in subst (λ v. Part n r v) (sym a) p))
 kept_above w u q x y fs n r s (a ∷ gs) place z f e p = record {
@@ -146,22 +162,22 @@ kept_above w u q x y fs n r s (a ∷ gs) place z f e p = record {
 }
 
 pub refuse_turned : (w : World) (q : Party) (x : Place) (fs : List Place) → w.stack q ≡ record { top = x; below = fs } → IfSome (after_refusal w q (record { top = x; below = fs })) (λ u. Turned w u q (Refuse q))
-refuse_turned w q (GrowCall m) fs z = record { to = _; stack = λ r. refl; sides = λ c l. (l, refl); made = λ t l. (l, (refl, refl, refl)); ats = λ t l. inl refl; stood = λ n r s h. undone w (with_stack w q (record { top = undo m; below = fs })) q (GrowCall m) fs n m r s h.above h.place z (λ y. (y.0, ap is_undone (y.1))) (ap whole (sym z) ∙ h.is) h.part; quiet = λ r s d. ap (λ v. v && is_at_call s (w.stack r)) d }
-refuse_turned w q (GrowScope o) fs z = record { to = _; stack = λ r. refl; sides = λ c l. (l, refl); made = λ t l. (l, (refl, refl, refl)); ats = λ t l. inl refl; stood = λ n r s h. kept_above w (with_stack w q (record { top = undo (Open o); below = fs })) q (GrowScope o) (undo (Open o)) fs n r s h.above h.place z (λ y. y) (ap whole (sym z) ∙ h.is) h.part; quiet = λ r s d. ap (λ v. v && is_at_call s (w.stack r)) d }
-refuse_turned w q (OpenSlot o) fs z = record { to = _; stack = λ r. refl; sides = λ c l. (l, refl); made = λ t l. (l, (refl, refl, refl)); ats = λ t l. inl refl; stood = λ n r s h. kept_above w (with_stack w q (record { top = undo (Enter o); below = fs })) q (OpenSlot o) (undo (Enter o)) fs n r s h.above h.place z (λ y. y) (ap whole (sym z) ∙ h.is) h.part; quiet = λ r s d. ap (λ v. v && is_at_call s (w.stack r)) d }
-refuse_turned w q (PushJob (Enter o) v) fs z = record { to = _; stack = λ r. refl; sides = λ c l. (l, refl); made = λ t l. (l, (refl, refl, refl)); ats = λ t l. inl refl; stood = λ n r s h. kept_above w (with_stack w q (record { top = CloseSlot o; below = fs })) q (PushJob (Enter o) v) (CloseSlot o) fs n r s h.above h.place z (λ y. (let a : false ≡ true = y.2 in cc)) (ap whole (sym z) ∙ h.is) h.part; quiet = λ r s d. ap (λ v. v && is_at_call s (w.stack r)) d }
-refuse_turned w q (PushJob m v) fs z = record { to = _; stack = λ r. refl; sides = λ c l. (l, refl); made = λ t l. (l, (refl, refl, refl)); ats = λ t l. inl refl; stood = λ n r s h. undone w (with_stack w q (record { top = undo m; below = fs })) q (PushJob m v) fs n m r s h.above h.place z (λ y. (y.0, ap is_undone (y.1))) (ap whole (sym z) ∙ h.is) h.part; quiet = λ r s d. ap (λ v. v && is_at_call s (w.stack r)) d }
-refuse_turned w q (AddToFifo f) fs z = record { to = _; stack = λ r. refl; sides = λ c l. (l, refl); made = λ t l. (l, (refl, refl, refl)); ats = λ t l. inl refl; stood = λ n r s h. undone w (with_stack w q (record { top = undo (Feed f); below = fs })) q (AddToFifo f) fs n (Feed f) r s h.above h.place z (λ y. (sym (y.0), ap is_undone (y.1))) (ap whole (sym z) ∙ h.is) h.part; quiet = λ r s d. ap (λ v. v && is_at_call s (w.stack r)) d }
-refuse_turned w q (PushToken f v) fs z = record { to = _; stack = λ r. refl; sides = λ c l. (l, refl); made = λ t l. (l, (refl, refl, refl)); ats = λ t l. inl refl; stood = λ n r s h. withdrawn w (with_stack w q (record { top = TakeFromFifo f; below = fs })) q f v fs n r s h.above h.place z (ap whole (sym z) ∙ h.is) h.part; quiet = λ r s d. ap (λ v. v && is_at_call s (w.stack r)) d }
-refuse_turned w q (PushForAll c) fs z = record { to = _; stack = λ r. refl; sides = λ c l. (l, refl); made = λ t l. (l, (refl, refl, refl)); ats = λ t l. inl refl; stood = λ n r s h. kept_above w (with_stack w q (record { top = LowerForAll c; below = fs })) q (PushForAll c) (LowerForAll c) fs n r s h.above h.place z (λ y. y) (ap whole (sym z) ∙ h.is) h.part; quiet = λ r s d. ap (λ v. v && is_at_call s (w.stack r)) d }
+refuse_turned w q (GrowCall m) fs z = record { to = _; stack = λ r. refl; sides = λ c l. (l, refl, refl); made = λ t l. (l, (refl, refl, refl)); ats = λ t l. inl refl; stood = λ n r s h. undone w (with_stack w q (record { top = undo m; below = fs })) q (GrowCall m) fs n m r s h.above h.place z (λ y. (y.0, ap is_undone (y.1))) (ap whole (sym z) ∙ h.is) h.part; quiet = λ r s d. ap (λ v. v && is_at_call s (w.stack r)) d }
+refuse_turned w q (GrowScope o) fs z = record { to = _; stack = λ r. refl; sides = λ c l. (l, refl, refl); made = λ t l. (l, (refl, refl, refl)); ats = λ t l. inl refl; stood = λ n r s h. undone w (with_stack w q (record { top = undo (Open o); below = fs })) q (GrowScope o) fs n (Open o) r s h.above h.place z (λ y. (sym (y.0), ap is_undone (y.1))) (ap whole (sym z) ∙ h.is) h.part; quiet = λ r s d. ap (λ v. v && is_at_call s (w.stack r)) d }
+refuse_turned w q (OpenSlot o) fs z = record { to = _; stack = λ r. refl; sides = λ c l. (l, refl, refl); made = λ t l. (l, (refl, refl, refl)); ats = λ t l. inl refl; stood = λ n r s h. undone w (with_stack w q (record { top = undo (Enter o); below = fs })) q (OpenSlot o) fs n (Enter o) r s h.above h.place z (λ y. (sym (y.0), ap is_undone (y.1))) (ap whole (sym z) ∙ h.is) h.part; quiet = λ r s d. ap (λ v. v && is_at_call s (w.stack r)) d }
+refuse_turned w q (PushJob (Enter o) v) fs z = record { to = _; stack = λ r. refl; sides = λ c l. (l, refl, refl); made = λ t l. (l, (refl, refl, refl)); ats = λ t l. inl refl; stood = λ n r s h. unslotted w (with_stack w q (record { top = CloseSlot o; below = fs })) q o v fs n r s h.above h.place z (ap whole (sym z) ∙ h.is) h.part; quiet = λ r s d. ap (λ v. v && is_at_call s (w.stack r)) d }
+refuse_turned w q (PushJob m v) fs z = record { to = _; stack = λ r. refl; sides = λ c l. (l, refl, refl); made = λ t l. (l, (refl, refl, refl)); ats = λ t l. inl refl; stood = λ n r s h. undone w (with_stack w q (record { top = undo m; below = fs })) q (PushJob m v) fs n m r s h.above h.place z (λ y. (y.0, ap is_undone (y.1))) (ap whole (sym z) ∙ h.is) h.part; quiet = λ r s d. ap (λ v. v && is_at_call s (w.stack r)) d }
+refuse_turned w q (AddToFifo f) fs z = record { to = _; stack = λ r. refl; sides = λ c l. (l, refl, refl); made = λ t l. (l, (refl, refl, refl)); ats = λ t l. inl refl; stood = λ n r s h. undone w (with_stack w q (record { top = undo (Feed f); below = fs })) q (AddToFifo f) fs n (Feed f) r s h.above h.place z (λ y. (sym (y.0), ap is_undone (y.1))) (ap whole (sym z) ∙ h.is) h.part; quiet = λ r s d. ap (λ v. v && is_at_call s (w.stack r)) d }
+refuse_turned w q (PushToken f v) fs z = record { to = _; stack = λ r. refl; sides = λ c l. (l, refl, refl); made = λ t l. (l, (refl, refl, refl)); ats = λ t l. inl refl; stood = λ n r s h. withdrawn w (with_stack w q (record { top = TakeFromFifo f; below = fs })) q f v fs n r s h.above h.place z (ap whole (sym z) ∙ h.is) h.part; quiet = λ r s d. ap (λ v. v && is_at_call s (w.stack r)) d }
+refuse_turned w q (PushForAll c) fs z = record { to = _; stack = λ r. refl; sides = λ c l. (l, refl, refl); made = λ t l. (l, (refl, refl, refl)); ats = λ t l. inl refl; stood = λ n r s h. kept_above w (with_stack w q (record { top = LowerForAll c; below = fs })) q (PushForAll c) (LowerForAll c) fs n r s h.above h.place z (λ y. y) (ap whole (sym z) ∙ h.is) h.part; quiet = λ r s d. ap (λ v. v && is_at_call s (w.stack r)) d }
 refuse_turned w q _ fs z = tt
 
 -- the end of a run
 goes_on_part : (n : Plan) (r : Stage) (f : Place) (e : Ending) → Part n r f → Part n r (goes_on f e)
 goes_on_part n r (FirstSide o a) Fine y = (ap plan_open (y.0), y.1)
 goes_on_part n r (FirstSide o a) Fault y = (ap plan_open (y.0), y.1)
-goes_on_part n r (SecondSide o) e y = (ap OfJob (open_job n o (y.0)), y)
-goes_on_part n r (AtOnce p t) e y = (ap OfJob (here_job n t (ap plan_here (y.0))), (ap plan_here (y.0), y.1))
+goes_on_part n r (SecondSide o) e y = (open_job n o (y.0), y)
+goes_on_part n r (AtOnce p t) e y = (here_job n t (ap plan_here (y.0)), (ap plan_here (y.0), y.1))
 goes_on_part n r f e y = y
 
 resumed : (n : Plan) (r : Stage) (s : Stack) (e : Ending) (fs gs : List Place) (place : Place) → fs ≡ gs ++ (place ∷ whole s) → Part n r place → CallStands n r s (after_resume fs e)
@@ -186,7 +202,7 @@ pub end_turned : (w : World) (q : Party) (d : Ending) (x : Place) (fs : List Pla
 end_turned w q d (Run t k) fs z = record {
   to = after_close t k d fs;
   stack = λ r. refl;
-  sides = λ c l. (l, refl);
+  sides = λ c l. (l, refl, refl);
   made = λ i l. (l, (put_same (λ j. j.kind) w.job t (at_job (w.job t) (Over d)) i refl, put_same (λ j. j.counted) w.job t (at_job (w.job t) (Over d)) i refl, put_same (λ j. j.bound) w.job t (at_job (w.job t) (Over d)) i refl));
   ats = λ i l. by i (i == t);
   stood = λ n r s h. same_stood _ n r s (after_close t k d fs) (ended n r s t k d fs h.above h.place (ap whole (sym z) ∙ h.is) h.part);
@@ -209,7 +225,7 @@ spawned : (w : World) (q : Party) (p : ℕ) (e : Event) → Refuses w e → IfSo
 spawned w q p e f = if_cond (λ u. Turned w u q e) (is_free ((w.stack q).top) && is_pool w.shape p) _ (λ b. record {
   to = _;
   stack = λ r. refl;
-  sides = λ c l. (l, refl);
+  sides = λ c l. (l, refl, refl);
   made = λ t l. ((omega (arith, l)), (ap (λ j. j.kind) (old_at w.job w.jobs (new_job q p (Detached p)) t l), ap (λ j. j.counted) (old_at w.job w.jobs (new_job q p (Detached p)) t l), ap (λ j. j.bound) (old_at w.job w.jobs (new_job q p (Detached p)) t l)));
   ats = λ t l. inl (ap (λ j. j.at) (old_at w.job w.jobs (new_job q p (Detached p)) t l));
   stood = λ n r s h. subst (λ v. Stood (spawned_world w q p) n r s (after_call (w.stack q) (RaiseCount (Detach p w.jobs))) v) (sym (f q s)) (same_stood (spawned_world w q p) n r s (after_call (w.stack q) (RaiseCount (Detach p w.jobs))) (called n r s (w.stack q) (RaiseCount (Detach p w.jobs)) h));
@@ -223,7 +239,7 @@ pub cast_turned : (w : World) (q : Party) (p : ℕ) → IfSome (after_cast w q p
 cast_turned w q p = if_cond (λ u. Turned w u q (Cast q p)) (is_free ((w.stack q).top) && is_pool w.shape p) _ (λ b. record {
   to = _;
   stack = λ r. refl;
-  sides = λ c l. (l, refl);
+  sides = λ c l. (l, refl, refl);
   made = λ t l. ((omega (arith, l)), (ap (λ j. j.kind) (same t l), ap (λ j. j.counted) (same t l), ap (λ j. j.bound) (same t l)));
   ats = λ t l. inl (ap (λ j. j.at) (same t l));
   stood = λ n r s h. same_stood _ n r s _ (called n r s (w.stack q) (RaiseForAll c) h);
@@ -244,7 +260,7 @@ fed_turned : (w : World) (p i r : ℕ) → Turned w (after_feed w p i (w.stack (
 fed_turned w p i r = record {
   to = _;
   stack = λ s. refl;
-  sides = λ c l. (l, refl);
+  sides = λ c l. (l, refl, refl);
   made = λ t l. ((omega (arith, l)), (ap (λ j. j.kind) (two_at w (new_job (Worker p i) p (Detached p)) (new_job (Worker p i) p (TokenOf i)) t l), ap (λ j. j.counted) (two_at w (new_job (Worker p i) p (Detached p)) (new_job (Worker p i) p (TokenOf i)) t l), ap (λ j. j.bound) (two_at w (new_job (Worker p i) p (Detached p)) (new_job (Worker p i) p (TokenOf i)) t l)));
   ats = λ t l. inl (ap (λ j. j.at) (two_at w (new_job (Worker p i) p (Detached p)) (new_job (Worker p i) p (TokenOf i)) t l));
   stood = λ n s k h. same_stood _ n s k _ (called n s k (w.stack (Worker p i)) (RaiseCount (Feed (record { pool = p; job = w.jobs; token = w.jobs + 1 }))) h);
@@ -263,7 +279,7 @@ sent_turned : (w : World) (q : Party) (p : ℕ) (b : Bool) → Turned w (after_s
 sent_turned w q p true = record {
   to = _;
   stack = λ r. refl;
-  sides = λ c l. (l, refl);
+  sides = λ c l. (l, refl, refl);
   made = λ t l. ((omega (arith, l)), (ap (λ j. j.kind) (old_at w.job w.jobs (new_job q p Direct) t l), ap (λ j. j.counted) (old_at w.job w.jobs (new_job q p Direct) t l), ap (λ j. j.bound) (old_at w.job w.jobs (new_job q p Direct) t l)));
   ats = λ t l. inl (ap (λ j. j.at) (old_at w.job w.jobs (new_job q p Direct) t l));
   stood = λ n r s h. same_stood _ n r s _ (called n r s (w.stack q) (RaiseCount (Here p w.jobs)) h);
@@ -272,7 +288,7 @@ sent_turned w q p true = record {
 sent_turned w q p false = record {
   to = _;
   stack = λ r. refl;
-  sides = λ c l. ((omega (arith, l)), ap (λ k. k.first) (old_at w.call w.calls (new_call None w.jobs) c l));
+  sides = λ c l. ((omega (arith, l)), ap (λ k. k.first) (old_at w.call w.calls (new_call None w.jobs) c l), ap (λ k. k.job) (old_at w.call w.calls (new_call None w.jobs) c l));
   made = λ t l. ((omega (arith, l)), (ap (λ j. j.kind) (old_at w.job w.jobs (new_job q p (Stored w.calls q)) t l), ap (λ j. j.counted) (old_at w.job w.jobs (new_job q p (Stored w.calls q)) t l), ap (λ j. j.bound) (old_at w.job w.jobs (new_job q p (Stored w.calls q)) t l)));
   ats = λ t l. inl (ap (λ j. j.at) (old_at w.job w.jobs (new_job q p (Stored w.calls q)) t l));
   stood = λ n r s h. same_stood _ n r s _ (called n r s (w.stack q) (RaiseCount (Send (record { number = w.calls; pool = p; job = w.jobs }))) h);
@@ -286,7 +302,7 @@ pub scope_turned : (w : World) (q : Party) (p : ℕ) → IfSome (after_scope w q
 scope_turned w q p = if_cond (λ u. Turned w u q (OpenScope q p)) (is_free ((w.stack q).top) && is_pool w.shape p) _ (λ b. record {
   to = _;
   stack = λ r. refl;
-  sides = λ c l. ((omega (arith, l)), ap (λ k. k.first) (old_at w.call w.calls (new_call None w.jobs) c l));
+  sides = λ c l. ((omega (arith, l)), ap (λ k. k.first) (old_at w.call w.calls (new_call None w.jobs) c l), ap (λ k. k.job) (old_at w.call w.calls (new_call None w.jobs) c l));
   made = λ t l. ((omega (arith, l)), (ap (λ j. j.kind) (old_at w.job w.jobs (new_job q p (BodyOf w.calls q)) t l), ap (λ j. j.counted) (old_at w.job w.jobs (new_job q p (BodyOf w.calls q)) t l), ap (λ j. j.bound) (old_at w.job w.jobs (new_job q p (BodyOf w.calls q)) t l)));
   ats = λ t l. inl (ap (λ j. j.at) (old_at w.job w.jobs (new_job q p (BodyOf w.calls q)) t l));
   stood = λ n r s h. same_stood _ n r s _ (called n r s (w.stack q) (RaiseCount (Open (record { number = w.calls; pool = p; job = w.jobs }))) h);
@@ -297,7 +313,7 @@ pub into_turned : (w : World) (q : Party) (i : ℕ) → IfSome (after_into w q i
 into_turned w q i = into_cases (λ u. Turned w u q (IntoSpawn q i)) w q i (λ z e free held. if_cond (λ u. Turned w u q (IntoSpawn q i)) (is_free ((w.stack q).top) && holds z.call (w.stack q)) _ (λ b. record {
   to = _;
   stack = λ r. refl;
-  sides = λ c l. (l, refl);
+  sides = λ c l. (l, refl, refl);
   made = λ t l. ((omega (arith, l)), (ap (λ j. j.kind) (old_at w.job w.jobs (new_job q z.pool (Scoped z.call z.owner)) t l), ap (λ j. j.counted) (old_at w.job w.jobs (new_job q z.pool (Scoped z.call z.owner)) t l), ap (λ j. j.bound) (old_at w.job w.jobs (new_job q z.pool (Scoped z.call z.owner)) t l)));
   ats = λ t l. inl (ap (λ j. j.at) (old_at w.job w.jobs (new_job q z.pool (Scoped z.call z.owner)) t l));
   stood = λ n r s h. same_stood _ n r s _ (called n r s (w.stack q) (RaiseCount (Enter (record { call = z.call; owner = z.owner; pool = z.pool; job = w.jobs }))) h);
@@ -308,7 +324,7 @@ pub join_turned : (w : World) (q : Party) → IfSome (after_join w q (w.stack q)
 join_turned w (Worker p i) = if_cond (λ u. Turned w u (Worker p i) (Join (Worker p i))) (is_free ((w.stack (Worker p i)).top)) _ (λ b. record {
   to = _;
   stack = λ r. refl;
-  sides = λ c l. ((omega (arith, l)), ap (λ k. k.first) (old_at w.call w.calls (new_call (Some w.jobs) (w.jobs + 1)) c l));
+  sides = λ c l. ((omega (arith, l)), ap (λ k. k.first) (old_at w.call w.calls (new_call (Some w.jobs) (w.jobs + 1)) c l), ap (λ k. k.job) (old_at w.call w.calls (new_call (Some w.jobs) (w.jobs + 1)) c l));
   made = λ t l. ((omega (arith, l)), (ap (λ j. j.kind) (two t l), ap (λ j. j.counted) (two t l), ap (λ j. j.bound) (two t l)));
   ats = λ t l. inl (ap (λ j. j.at) (two t l));
   stood = λ n r s h. same_stood _ n r s _ (called n r s (w.stack (Worker p i)) (RaiseCount (Fork (record { number = w.calls; pool = p; job = w.jobs + 1 }) w.jobs)) h);
@@ -323,7 +339,7 @@ pub yield_turned : (w : World) (q : Party) (x : Place) (e : Event) → ((r : Par
 yield_turned w (Worker a b) x e f = if_cond (λ u. Turned w u (Worker a b) e) (is_free ((w.stack (Worker a b)).top)) _ (λ z. record {
   to = _;
   stack = λ r. refl;
-  sides = λ c l. (l, refl);
+  sides = λ c l. (l, refl, refl);
   made = λ t l. (l, (refl, refl, refl));
   ats = λ t l. inl refl;
   stood = λ n r s h. subst (λ v. Stood (with_stack w (Worker a b) (after_call (w.stack (Worker a b)) x)) n r s (after_call (w.stack (Worker a b)) x) v) (sym (f (Worker a b) s)) (same_stood (with_stack w (Worker a b) (after_call (w.stack (Worker a b)) x)) n r s (after_call (w.stack (Worker a b)) x) (called n r s (w.stack (Worker a b)) x h));
@@ -335,7 +351,7 @@ pub give_turned : (w : World) (q : Party) (p : ℕ) → IfSome (after_end_pool w
 give_turned w q p = if_cond (λ u. Turned w u q (EndPool q p)) (is_free ((w.stack q).top) && (is_pool w.shape p && (w.pool p).held)) _ (λ b. record {
   to = _;
   stack = λ r. refl;
-  sides = λ c l. (l, refl);
+  sides = λ c l. (l, refl, refl);
   made = λ t l. (l, (refl, refl, refl));
   ats = λ t l. inl refl;
   stood = λ n r s h. same_stood _ n r s _ (called n r s (w.stack q) (LowerCount (OfPool p) PoolValue Resume) h);

@@ -15,7 +15,7 @@ use Rattle.rayon_machine_places.specs.declared.place.Plan.TheVariants.{Detach, H
 use Rattle.rayon_machine_places.specs.declared.place.Count.{Count}
 use Rattle.rayon_machine_places.specs.declared.place.Count.TheVariants.{OfPool, OfScope}
 use Rattle.rayon_machine_places.specs.declared.place.Share.{Share}
-use Rattle.rayon_machine_places.specs.declared.place.Share.TheVariants.{OfJob}
+use Rattle.rayon_machine_places.specs.declared.place.Share.TheVariants.{PoolValue, Body, OfJob}
 use Rattle.rayon_machine_places.specs.declared.place.Then.{Then}
 use Rattle.rayon_machine_places.specs.declared.place.Then.TheVariants.{BeginFound, LeaveWait, Resume, Await, RunFirst, Answers, Missing, Ran, GiveBack, Called}
 use Rattle.rayon_machine_places.specs.declared.place.Place.{Place}
@@ -35,7 +35,7 @@ use Rattle.rayon_machine_places.specs.Readers.{is_done}
 use Rattle.rayon_machine_laws.proofs.Claims.{FirstEnds, is_detached, SaysThen, Says}
 use Rattle.rayon_machine_places.specs.declared.place.Taken.{Taken}
 
--- how far a call has come: its job is not yet queued, or it is; its share is given back; or a step of the call was
+-- how far a call has come: its job is not yet queued, or it is, or a scope's body runs; its share is given back; or a step of the call was
 -- refused. In between the job of a call for a FIFO list is there without a token, and is taken back where that is
 -- refused
 pub data Stage : Type 0 where
@@ -55,6 +55,7 @@ is_undone _ = false
 abbrev pub plan_open : Plan → Option OpenCall
 plan_open (Send o) = Some o
 plan_open (Fork o a) = Some o
+plan_open (Open o) = Some o
 plan_open _ = None
 
 abbrev pub plan_here : Plan → Option ℕ
@@ -64,13 +65,13 @@ plan_here _ = None
 abbrev pub is_detach : Plan → Bool
 is_detach (Detach p t) = true
 is_detach (Feed f) = true
+is_detach (Enter e) = true
 is_detach _ = false
 
 abbrev pub is_sent : Plan → Bool
 is_sent (Here p t) = false
 is_sent (Feed f) = false
 is_sent (Open o) = false
-is_sent (Enter e) = false
 is_sent _ = true
 
 -- of which plan a call tells the news: one for a FIFO list, of its token
@@ -106,12 +107,23 @@ PartOwed n s (Ran t e) = (plan_here n ≡ Some t) × (s ≡ Going)
 PartOwed n s (GiveBack m) = (m ≡ n) × (s ≡ Undone)
 PartOwed n s _ = ⊥
 
--- and after that
+-- and after that, or once a scope's body has given back its own
 abbrev pub PartPaid : Plan → Stage → Then → Type 0
 PartPaid n s (Answers o f e) = (plan_open n ≡ Some o) × (s ≡ Paid)
 PartPaid n s (Ran t e) = (plan_here n ≡ Some t) × (s ≡ Paid)
 PartPaid n s (GiveBack m) = (m ≡ n) × (s ≡ Undone)
+PartPaid n s (Await o) = PartOpen n s o
 PartPaid n s _ = ⊥
+
+-- a call lowers its pool's count once, for its job; a scope its own for the body, and waits then
+abbrev pub PartBody : Plan → Stage → Then → Type 0
+PartBody n s (Await o) = (n ≡ Open o) × (s ≡ Gone)
+PartBody n s _ = ⊥
+
+abbrev pub PartLower : Plan → Stage → Share → Then → Type 0
+PartLower n s PoolValue t = ⊥
+PartLower n s Body t = PartBody n s t
+PartLower n s (OfJob u) t = (u ≡ plan_job n) × PartOwed n s t
 
 abbrev pub Part : Plan → Stage → Place → Type 0
 Part n s (ProbeWorking k) = PartTarget n s k.target
@@ -156,7 +168,7 @@ Part n s (TellNews m e) = PartPlan (told n) s Gone m
 Part n s (LockToWake k) = PartThen n s k.then
 Part n s (WakeWorker k) = PartThen n s k.then
 Part n s (UnlockWoken k) = PartThen n s k.then
-Part n s (LowerCount p h t) = (h ≡ OfJob (plan_job n)) × PartOwed n s t
+Part n s (LowerCount p h t) = PartLower n s h t
 Part n s (SetLatch k) = PartPaid n s k.then
 Part n s (LockToSettle k) = PartPaid n s k.then
 Part n s (WakeSettled k) = PartPaid n s k.then
@@ -164,6 +176,11 @@ Part n s (UnlockSettled k) = PartPaid n s k.then
 Part n s (SetLockLatch c t) = PartPaid n s t
 Part n s (FirstSide o a) = (n ≡ Fork o a) × (s ≡ Gone)
 Part n s (AtOnce p t) = (n ≡ Here p t) × (s ≡ Going)
+Part n s (GrowScope o) = (n ≡ Open o) × (s ≡ Going)
+Part n s (ScopeBody o) = (n ≡ Open o) × (s ≡ Gone)
+Part n s (StoreBody o e) = (n ≡ Open o) × (s ≡ Gone)
+Part n s (OpenSlot e) = (n ≡ Enter e) × (s ≡ Going)
+Part n s (CloseSlot e) = (n ≡ Enter e) × (s ≡ Undone)
 Part n s _ = ⊥
 
 abbrev pub Ended : World → ℕ → Type 0
@@ -175,18 +192,18 @@ abbrev pub Returns : World → Plan → Stage → Type 0
 Returns w (Detach p t) s = s ≡ Gone
 Returns w (Feed f) s = s ≡ Gone
 Returns w (Here p t) s = (s ≡ Paid) × Ended w t
-Returns w (Open o) s = ⊥
-Returns w (Enter e) s = ⊥
+Returns w (Open o) s = (s ≡ Paid) × Ended w o.job
+Returns w (Enter e) s = s ≡ Gone
 Returns w (Send o) s = (s ≡ Paid) × Ended w o.job
 Returns w (Fork o a) s = (s ≡ Paid) × (Ended w a × Ended w o.job)
 
--- what the world tells of a plan: a spawn's job is detached, a call that waits knows its first side, if it is a join.
--- The calls of scopes are not followed here
+-- what the world tells of a plan: no call waits for a spawn's job, a call that waits knows its first side, if it is a
+-- join
 abbrev pub Known : World → Plan → Type 0
 Known w (Detach p t) = (t + 1 ≤ w.jobs) × (is_detached (w.job t).kind ≡ true)
 Known w (Feed f) = ((f.job + 1 ≤ w.jobs) × (is_detached (w.job f.job).kind ≡ true)) × ((f.token + 1 ≤ w.jobs) × (is_token (w.job f.token).kind ≡ true))
-Known w (Open o) = ⊥
-Known w (Enter e) = ⊥
+Known w (Open o) = (o.number + 1 ≤ w.calls) × ((w.call o.number).first ≡ None)
+Known w (Enter e) = (e.job + 1 ≤ w.jobs) × (is_detached (w.job e.job).kind ≡ true)
 Known w (Send o) = (o.number + 1 ≤ w.calls) × ((w.call o.number).first ≡ None)
 Known w (Fork o a) = (o.number + 1 ≤ w.calls) × ((w.call o.number).first ≡ Some a)
 Known w _ = ⊤
@@ -214,8 +231,8 @@ open_returns : (w : World) (q : Party) (n : Plan) (s : Stage) (o : OpenCall) (f 
 open_returns w q (Detach p t) s o f e k z y = absurd (let a : None ≡ Some o = y.0 in cc)
 open_returns w q (Here p t) s o f e k z y = absurd (let a : None ≡ Some o = y.0 in cc)
 open_returns w q (Feed d) s o f e k z y = absurd (let a : None ≡ Some o = y.0 in cc)
-open_returns w q (Open p) s o f e k z y = absurd k
-open_returns w q (Enter x) s o f e k z y = absurd k
+open_returns w q (Open p) s o f e k z y = (y.1, subst (λ v. Ended w v.job) (sym (some_open (y.0))) (ap is_done (z.2)))
+open_returns w q (Enter x) s o f e k z y = absurd (let a : None ≡ Some o = y.0 in cc)
 open_returns w q (Send p) s o f e k z y = (y.1, subst (λ v. Ended w v.job) (sym (some_open (y.0))) (ap is_done (z.2)))
 open_returns w q (Fork p a) s o f e k z y =
     let same : p ≡ o = some_open (y.0) in
@@ -228,7 +245,7 @@ detach_returns w (Feed f) s y = y.1
 detach_returns w (Here p t) s y = absurd (let a : false ≡ true = y.0 in cc)
 detach_returns w (Send o) s y = absurd (let a : false ≡ true = y.0 in cc)
 detach_returns w (Open o) s y = absurd (let a : false ≡ true = y.0 in cc)
-detach_returns w (Enter e) s y = absurd (let a : false ≡ true = y.0 in cc)
+detach_returns w (Enter e) s y = y.1
 detach_returns w (Fork o a) s y = absurd (let b : false ≡ true = y.0 in cc)
 
 here_returns : (w : World) (n : Plan) (s : Stage) (t : ℕ) (e : Ending) → (w.job t).at ≡ Over e → (plan_here n ≡ Some t) × (s ≡ Paid) → Returns w n s
@@ -262,7 +279,8 @@ paid_leads w q n s (BeginFound g t) k z y = absurd y
 paid_leads w q n s (LeaveWait g) k z y = absurd y
 paid_leads w q n s Resume k z y = absurd y
 paid_leads w q n s Called k z y = absurd y
-paid_leads w q n s (Await o) k z y = absurd y
+paid_leads w (Worker p i) n s (Await o) k z y = y
+paid_leads w (Caller c) n s (Await o) k z y = y
 paid_leads w q n s (RunFirst o a) k z y = absurd y
 paid_leads w q n s (Missing o f) k z y = absurd y
 
@@ -364,7 +382,7 @@ news_part n s (Detach p t) y = (sym (told_detach n) ∙ ap is_detach (sym (y.0))
 news_part n s (Here p t) y = absurd (let a : false ≡ true = y.2 in cc)
 news_part n s (Feed f) y = absurd (let a : false ≡ true = y.2 in cc)
 news_part n s (Open o) y = absurd (let a : false ≡ true = y.2 in cc)
-news_part n s (Enter e) y = absurd (let a : false ≡ true = y.2 in cc)
+news_part n s (Enter e) y = (sym (told_detach n) ∙ ap is_detach (sym (y.0)), y.1)
 news_part n s (Send o) y = (sym (told_open n) ∙ ap plan_open (sym (y.0)), y.1)
 news_part n s (Fork o a) y = (told_fork n o a (y.0), y.1)
 
@@ -374,8 +392,8 @@ raised_leads w n s (Detach p t) k y = (y.0, y.1, refl)
 raised_leads w n s (Feed f) k y = (sym (y.0), y.1)
 raised_leads w n s (Here p t) k y = (sym (y.0), y.1)
 raised_leads w n s (Send o) k y = (y.0, y.1, refl)
-raised_leads w n s (Open o) k y = absurd (subst (Known w) (sym (y.0)) k)
-raised_leads w n s (Enter e) k y = absurd (subst (Known w) (sym (y.0)) k)
+raised_leads w n s (Open o) k y = (sym (y.0), y.1)
+raised_leads w n s (Enter e) k y = (sym (y.0), y.1)
 raised_leads w n s (Fork o a) k y = (y.0, y.1, refl)
 
 -- the acts whose answer decides more than the place
@@ -388,6 +406,8 @@ is_decisive (PushToken f e) = true
 is_decisive (TakeFromFifo f) = true
 is_decisive (TakeResult o f) = true
 is_decisive (LowerCount p h t) = true
+is_decisive (GrowScope o) = true
+is_decisive (OpenSlot e) = true
 is_decisive _ = false
 
 -- every other place of a call leads to another of it, or the call returns
@@ -444,12 +464,12 @@ part_leads w g q n s (BeginHere t) e d h z y = absurd y
 part_leads w g q n s (Run t k) e d h z y = absurd y
 part_leads w g q n s (StoreResult c o f) e d h z y = absurd y
 part_leads w g q n s (SetLockLatch c t) e d h z y = paid_leads w q n s t h (z.1) y
-part_leads w g q n s (GrowScope o) e d h z y = absurd y
-part_leads w g q n s (OpenSlot o) e d h z y = absurd y
-part_leads w g q n s (CloseSlot o) e d h z y = absurd y
-part_leads w g q n s (StoreBody o f) e d h z y = absurd y
+part_leads w g q n s (GrowScope o) e d h z y = absurd (let a : true ≡ false = d in cc)
+part_leads w g q n s (OpenSlot o) e d h z y = absurd (let a : true ≡ false = d in cc)
+part_leads w g q n s (CloseSlot o) e d h z y = (ap plan_job (sym (y.0)), (sym (y.0), y.1))
+part_leads w g q n s (StoreBody o f) e d h z y = y
 part_leads w g q n s (StoreSlot c o t f) e d h z y = absurd y
-part_leads w g q n s (ScopeBody o) e d h z y = absurd y
+part_leads w g q n s (ScopeBody o) e d h z y = y
 part_leads w g q n s Free e d h z y = absurd y
 part_leads w g q n s Stopped e d h z y = absurd y
 part_leads w g q n s (RaiseCount m) e d h z y = absurd (let a : true ≡ false = d in cc)
@@ -482,7 +502,7 @@ pub open_job : (n : Plan) (o : OpenCall) → plan_open n ≡ Some o → o.job �
 open_job (Detach p t) o e = absurd (cc)
 open_job (Here p t) o e = absurd (cc)
 open_job (Feed f) o e = absurd (cc)
-open_job (Open m) o e = absurd (cc)
+open_job (Open m) o e = let a : m ≡ o = cc in ap (λ x. x.job) (sym a)
 open_job (Enter m) o e = absurd (cc)
 open_job (Send m) o e = let a : m ≡ o = cc in ap (λ x. x.job) (sym a)
 open_job (Fork m a) o e = let b : m ≡ o = cc in ap (λ x. x.job) (sym b)

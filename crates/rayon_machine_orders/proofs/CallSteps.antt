@@ -58,15 +58,15 @@ use Rattle.rayon_machine_laws.proofs.Feeds.{all_fed, fed, fed_in, fed_move, feds
 use Rattle.rayon_machine_laws.proofs.ShareEvents.{ready}
 use Rattle.rayon_machine_laws.proofs.Amounts.{regained, pushed, all_raises, raises_in}
 
--- calls keep their first side, and jobs their kind
+-- calls keep their first side and the job that they wait for, and jobs their kind and what they are bound to
 pub record Carries (w u : World) : Type 0 where
-  pub sides : (c : ℕ) → c + 1 ≤ w.calls → (c + 1 ≤ u.calls) × ((u.call c).first ≡ (w.call c).first)
+  pub sides : (c : ℕ) → c + 1 ≤ w.calls → (c + 1 ≤ u.calls) × ((u.call c).first ≡ (w.call c).first) × ((u.call c).job ≡ (w.call c).job)
   pub made : (t : ℕ) → t + 1 ≤ w.jobs → (t + 1 ≤ u.jobs) × ((u.job t).kind ≡ (w.job t).kind)
   pub bound : (t : ℕ) → t + 1 ≤ w.jobs → (u.job t).bound ≡ (w.job t).bound
 
 act_carries : (w : World) (q : Party) (x : Place) (fs : List Place) (r : Seen × Part) → Static (place_part w q x) r → Carries w (world_after w q x fs r)
 act_carries w q x fs r s = record {
-  sides = λ c l. (l, put_same (λ k. k.first) w.call (target_call (act_of q x)) (r.1.call) c s.side);
+  sides = λ c l. (l, put_same (λ k. k.first) w.call (target_call (act_of q x)) (r.1.call) c s.side, put_same (λ k. k.job) w.call (target_call (act_of q x)) (r.1.call) c s.target);
   made = λ t l. (l, after_kind q (next_of (w.shape.pool (target_pool q (act_of q x))) q x (r.0)) (put w.job (job_at w q (act_of q x)) (r.1.job)) t ∙ put_same (λ j. j.kind) w.job (job_at w q (act_of q x)) (r.1.job) t s.kind);
   bound = λ t l. after_bound q (next_of (w.shape.pool (target_pool q (act_of q x))) q x (r.0)) (put w.job (job_at w q (act_of q x)) (r.1.job)) t ∙ put_same (λ j. j.bound) w.job (job_at w q (act_of q x)) (r.1.job) t s.bound;
 }
@@ -141,8 +141,8 @@ pub known_on : (w u : World) → Carries w u → (n : Plan) → Known w n → Kn
 known_on w u c (Detach p t) k = ((c.made t (k.0)).0, ap is_detached ((c.made t (k.0)).1) ∙ k.1)
 known_on w u c (Feed f) k = (((c.made f.job ((k.0).0)).0, ap is_detached ((c.made f.job ((k.0).0)).1) ∙ (k.0).1), ((c.made f.token ((k.1).0)).0, ap is_token ((c.made f.token ((k.1).0)).1) ∙ (k.1).1))
 known_on w u c (Here p t) k = tt
-known_on w u c (Open o) k = absurd k
-known_on w u c (Enter e) k = absurd k
+known_on w u c (Open o) k = ((c.sides (o.number) (k.0)).0, (c.sides (o.number) (k.0)).1 ∙ k.1)
+known_on w u c (Enter e) k = ((c.made e.job (k.0)).0, ap is_detached ((c.made e.job (k.0)).1) ∙ k.1)
 known_on w u c (Send o) k = ((c.sides (o.number) (k.0)).0, (c.sides (o.number) (k.0)).1 ∙ k.1)
 known_on w u c (Fork o a) k = ((c.sides (o.number) (k.0)).0, (c.sides (o.number) (k.0)).1 ∙ k.1)
 
@@ -501,7 +501,7 @@ pub queued_on : (w u : World) (e : Event) → step w e ≡ Some u → SharesHold
 queued_on w u e made h fe r a (Here p t) k z = tt
 queued_on w u e made h fe r a (Send o) k z = tt
 queued_on w u e made h fe r a (Open o) k z = tt
-queued_on w u e made h fe r a (Enter x) k z = tt
+queued_on w u e made h fe r a (Enter x) k z = (final_left ((w.job x.job).at) ((u.job x.job).at) (a.final x.job) (z.0), handed_on w u e made h r a x.job (k.0) (k.1) (left_untaken w ((h.calls).jobs) x.job (z.0)) (z.1))
 queued_on w u e made h fe r a (Fork o b) k z = tt
 queued_on w u e made h fe r a (Detach p t) k z = (final_left ((w.job t).at) ((u.job t).at) (a.final t) (z.0), handed_on w u e made h r a t (k.0) (k.1) (left_untaken w ((h.calls).jobs) t (z.0)) (z.1))
 queued_on w u e made h fe r a (Feed d) k z = (handed_on w u e made h r a d.job ((k.0).0) ((k.0).1) (paired_untaken w ((h.calls).jobs) fe d.job d.token (z.2) ((z.1).0)) (z.0), token_on w u e made h a d.token ((k.1).0) ((k.1).1) (z.1), z.2)

@@ -51,8 +51,8 @@ pub record Inside (u : World) (q : Party) (s : Stack) (n : Plan) (r : Bool) : Ty
 abbrev pub Unrefused : World → Plan → Type 0
 Unrefused u (Detach p t) = IsHandedOn u t
 Unrefused u (Feed f) = IsHandedOn u f.job × (IsHandedOn u f.token ⊎ IsSpent u f.token)
-Unrefused u (Open o) = ⊥
-Unrefused u (Enter e) = ⊥
+Unrefused u (Open o) = Ended u o.job
+Unrefused u (Enter e) = IsHandedOn u e.job
 Unrefused u (Here p t) = Ended u t
 Unrefused u (Send o) = Ended u o.job
 Unrefused u (Fork o a) = Ended u a × Ended u o.job
@@ -71,8 +71,8 @@ After u q s n r = Inside u q s n r ⊎ Returned u q s n r
 left_so : (w u : World) → Advance w u → (n : Plan) (s : Stage) → Known u n → Returns w n s → Sofar u s n → Unrefused u n
 left_so w u a (Detach p t) s k y z = (let b : Sofar u Gone (Detach p t) = subst (λ v. Sofar u v (Detach p t)) y z in b.1)
 left_so w u a (Feed f) s k y z = (let b : Sofar u Gone (Feed f) = subst (λ v. Sofar u v (Feed f)) y z in (b.0, elim ((b.1).1) [ inl c ↦ inl c | inr c ↦ inr (record { token = (k.1).1; at = c }) ]))
-left_so w u a (Open o) s k y z = absurd y
-left_so w u a (Enter e) s k y z = absurd y
+left_so w u a (Open o) s k y z = ended_on w u a (o.job) (y.1)
+left_so w u a (Enter e) s k y z = (let b : Sofar u Gone (Enter e) = subst (λ v. Sofar u v (Enter e)) y z in b.1)
 left_so w u a (Here p t) s k y z = ended_on w u a t (y.1)
 left_so w u a (Send o) s k y z = ended_on w u a (o.job) (y.1)
 left_so w u a (Fork o b) s k y z = (ended_on w u a b ((y.1).0), ended_on w u a (o.job) ((y.1).1))
@@ -80,8 +80,8 @@ left_so w u a (Fork o b) s k y z = (ended_on w u a b ((y.1).0), ended_on w u a (
 paid_so : (w u : World) (n : Plan) (s : Stage) → Returns w n s → is_detach n ≡ false → Sofar u s n → (u.job (plan_job n)).counted ≡ false
 paid_so w u (Feed f) s y d z = absurd (let a : true ≡ false = d in cc)
 paid_so w u (Detach p t) s y d z = absurd (let a : true ≡ false = d in cc)
-paid_so w u (Open o) s y d z = absurd y
-paid_so w u (Enter e) s y d z = absurd y
+paid_so w u (Open o) s y d z = (let k : Sofar u Paid (Open o) = subst (λ v. Sofar u v (Open o)) (y.0) z in (k.1).1)
+paid_so w u (Enter e) s y d z = absurd (let a : true ≡ false = d in cc)
 paid_so w u (Here p t) s y d z = (let k : Sofar u Paid (Here p t) = subst (λ v. Sofar u v (Here p t)) (y.0) z in (k.1).1)
 paid_so w u (Send o) s y d z = (let k : Sofar u Paid (Send o) = subst (λ v. Sofar u v (Send o)) (y.0) z in (k.1).1)
 paid_so w u (Fork o b) s y d z = (let k : Sofar u Paid (Fork o b) = subst (λ v. Sofar u v (Fork o b)) (y.0) z in (k.1).1)
@@ -89,8 +89,8 @@ paid_so w u (Fork o b) s y d z = (let k : Sofar u Paid (Fork o b) = subst (λ v.
 not_undone : (w : World) (n : Plan) (s : Stage) → Returns w n s → is_undone s ≡ false
 not_undone w (Detach p t) s y = ap is_undone y
 not_undone w (Feed f) s y = ap is_undone y
-not_undone w (Open o) s y = absurd y
-not_undone w (Enter e) s y = absurd y
+not_undone w (Open o) s y = ap is_undone (y.0)
+not_undone w (Enter e) s y = ap is_undone y
 not_undone w (Here p t) s y = ap is_undone (y.0)
 not_undone w (Send o) s y = ap is_undone (y.0)
 not_undone w (Fork o b) s y = ap is_undone (y.0)

@@ -31,27 +31,27 @@ use Rattle.rayon_machine_orders.specs.Calls.{caller_of, is_awaited, verdict_of, 
 use Rattle.rayon_machine_orders.proofs.WrongMachines.{Machine, step_by, run_by, times_go, two, b, c, right}
 
 -- some event of a machine's run passes the test
-abbrev any_by : Machine → (World → Event → Bool) → Option World → List Event → Bool
+abbrev pub any_by : Machine → (World → Event → Bool) → Option World → List Event → Bool
 any_by m test None es = false
 any_by m test (Some w) [] = false
 any_by m test (Some w) (e ∷ es) = test w e || any_by m test (step_by m w e) es
 
 -- the party has as many frames as before
-abbrev is_back : Party → World → World → Event → Bool
+abbrev pub is_back : Party → World → World → Event → Bool
 is_back q w x e = length (x.stack q).below == length (w.stack q).below
 
 -- a call of the party, begun by an event from w to v, is over in u, where its party is back for the first time; whether
 -- it was refused, and where a job of it is then
-record EndsSo (m : Machine) (q : Party) (e : Event) (between : List Event) (is_refused : Bool) (t : ℕ) (where_is : Whereabouts) (w v u : World) : Type 0 where
-  caller : caller_of e ≡ Some q
-  back : u.stack q ≡ w.stack q
-  until : any_by m (is_back q w) (Some v) between ≡ false
-  refused : any_by m (is_refusal q (w.stack q)) (Some v) between ≡ is_refused
-  mine : (nat_le w.jobs t && nat_lt t v.jobs) ≡ true
-  at : (u.job t).at ≡ where_is
+pub record EndsSo (m : Machine) (q : Party) (e : Event) (between : List Event) (is_refused : Bool) (t : ℕ) (where_is : Whereabouts) (w v u : World) : Type 0 where
+  pub caller : caller_of e ≡ Some q
+  pub back : u.stack q ≡ w.stack q
+  pub until : any_by m (is_back q w) (Some v) between ≡ false
+  pub refused : any_by m (is_refusal q (w.stack q)) (Some v) between ≡ is_refused
+  pub mine : (nat_le w.jobs t && nat_lt t v.jobs) ≡ true
+  pub at : (u.job t).at ≡ where_is
 
 -- so it is in a replay that leads to the event and past it
-abbrev Ends : Machine → List Event → Party → Event → List Event → Bool → ℕ → Whereabouts → Type 0
+abbrev pub Ends : Machine → List Event → Party → Event → List Event → Bool → ℕ → Whereabouts → Type 0
 Ends m before q e between r t x = IfSome (run_by m (two 32) before) (λ w. IfSome (step_by m w e) (λ v. IfSome (run_by m (Some v) between) (EndsSo m q e between r t x w v)))
 
 -- a worker runs an installed job

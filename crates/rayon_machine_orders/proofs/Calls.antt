@@ -6,39 +6,43 @@ use Rattle.std.proofs.lemmas.List.{append_assoc, length-append}
 use Rattle.rayon_machine_places.specs.declared.place.Party.{Party}
 use Rattle.rayon_machine_places.specs.declared.place.Party.TheVariants.{Worker, Caller}
 use Rattle.rayon_machine_places.specs.declared.place.Ending.{Ending}
-use Rattle.rayon_machine_places.specs.declared.place.JobKind.TheVariants.{Detached, TokenOf}
+use Rattle.rayon_machine_places.specs.declared.place.JobKind.TheVariants.{Detached, TokenOf, Scoped}
 use Rattle.rayon_machine_places.specs.declared.place.Plan.{Plan}
 use Rattle.rayon_machine_places.specs.declared.place.Plan.TheVariants.{Detach, Here, Send, Fork, Feed, Open, Enter}
 use Rattle.rayon_machine_places.specs.declared.place.Ending.TheVariants.{Fine, Fault}
 use Rattle.rayon_machine_places.specs.declared.place.Count.{Count}
+use Rattle.rayon_machine_places.specs.declared.place.Count.TheVariants.{OfPool, OfScope}
 use Rattle.rayon_machine_places.specs.declared.place.Share.{Share}
+use Rattle.rayon_machine_places.specs.declared.place.Share.TheVariants.{PoolValue, Body, OfJob}
 use Rattle.rayon_machine_places.specs.declared.place.Then.{Then}
 use Rattle.rayon_machine_places.specs.declared.place.Then.TheVariants.{BeginFound, LeaveWait, Resume, Await, RunFirst, Answers, Missing, Ran, GiveBack, Called}
 use Rattle.rayon_machine_places.specs.declared.place.Place.{Place}
 use Rattle.rayon_machine_places.specs.declared.place.Place.TheVariants.{RaiseCount, LookQueue, PushJob, TakeResult, LowerCount, BeginTask}
 use Rattle.rayon_machine_places.specs.declared.act.Act.TheVariants.{LookOwn, LookInj, PushOwn, PushInj, Take, Lower}
 use Rattle.rayon_machine_places.specs.declared.event.Event.{Event}
-use Rattle.rayon_machine_places.specs.declared.event.Event.TheVariants.{Spawn, Fifo, Install, Join}
+use Rattle.rayon_machine_places.specs.declared.event.Event.TheVariants.{Spawn, Fifo, Install, Join, Scope as OpenScope, IntoSpawn}
 use Rattle.rayon_machine_places.specs.declared.state.Whereabouts.{Whereabouts}
 use Rattle.rayon_machine_places.specs.declared.state.Whereabouts.TheVariants.{Nowhere, Made, InDeque, Injected, InFifo, Running, Over, HandedBack, Spent, Retaken, InCast}
 use Rattle.rayon_machine_places.specs.declared.place.OpenCall.{OpenCall}
 use Rattle.rayon_machine_places.specs.Places.{is_member, plan_pool, plan_job, plan_book, act_of, is_free}
 use Rattle.rayon_machine_places.specs.World.{Shape, Stack, World, is_token}
-use Rattle.rayon_machine_places.specs.Steps.{after_call, is_pool, new_job, new_call, after_spawn, after_send, after_install, after_join, step, after_feed, after_fifo, put}
+use Rattle.rayon_machine_places.specs.Steps.{after_call, is_pool, new_job, new_call, after_spawn, after_send, after_install, after_join, after_scope, after_into, holds, step, after_feed, after_fifo, put}
 use Rattle.rayon_machine_places.specs.Runs.{IsRun, start}
 use Rattle.rayon_machine_places.specs.Readers.{is_done}
 use Rattle.rayon_machine_laws.specs.End.{HasEnded, Verdict, AllFine, FirstFault, LastFault, answered, follows, AllJobs}
-use Rattle.rayon_machine_orders.specs.Calls.{caller_of, jobs_of, is_awaited, verdict_of, IsPrecedent, IsRunUntil, is_at_call, is_refusal, is_any, HasRun, LeavesJob, HoldsEnding, StandsOn, CallLaw, IsHandedOn, IsSpent}
-use Rattle.rayon_machine_laws.proofs.Frame.{either, if_cond, put_new, stack_mine, put_old}
+use Rattle.rayon_machine_orders.specs.Calls.{caller_of, jobs_of, is_awaited, is_join, is_scope, verdict_of, IsPrecedent, LowersSo, IsRunUntil, is_at_call, is_refusal, is_any, HasRun, LeavesJob, HoldsEnding, StandsOn, CallLaw, IsHandedOn, IsSpent}
+use Rattle.rayon_machine_laws.proofs.Frame.{either, if_cond, into_cases, put_new, stack_mine, put_old}
 use Rattle.rayon_machine_laws.proofs.PlacedEvents.{Advance}
 use Rattle.rayon_machine_laws.proofs.PlacedRuns.{JobsHold, step_advance, once}
-use Rattle.rayon_machine_laws.proofs.Claims.{Opened, FirstEnds, is_detached, SaysThen, Says}
+use Rattle.rayon_machine_laws.proofs.Claims.{Opened, FirstEnds, is_detached, SaysThen, SaysShare, Says}
 use Rattle.rayon_machine_laws.proofs.ClaimMakes.{always_calls}
 use Rattle.rayon_machine_laws.proofs.Endings.{has_ended, refused_so}
 use Rattle.rayon_machine_laws.proofs.Returns.{always_returns, returned_so}
 use Rattle.rayon_machine_orders.proofs.Filled.{always_filled, takes_filled}
-use Rattle.rayon_machine_orders.proofs.CallPlaces.{Stage, Going, is_undone, Part, PartOpen, PartOwed, plan_open, plan_here, is_detach, Ended, Known, open_job}
+use Rattle.rayon_machine_orders.proofs.CallPlaces.{Stage, Going, is_undone, Part, PartOpen, PartBody, PartOwed, plan_open, plan_here, is_detach, Ended, Known, open_job}
 use Rattle.rayon_machine_orders.proofs.CallActs.{or_false}
+use Rattle.rayon_machine_orders.proofs.CallSteps.{Carries, step_carries}
+use Rattle.rayon_machine_orders.proofs.Early.{EarlyHold, always_early, scope_ended}
 use Rattle.rayon_machine_orders.proofs.CallEvents.{whole, CallStands, at_call_no}
 use Rattle.rayon_machine_orders.proofs.CallStretch.{Ground, Inside, Unrefused, Returned, After, Stays, step_stays}
 use Rattle.rayon_machine_places.specs.declared.place.Taken.TheVariants.{Plain, Token}
@@ -114,7 +118,6 @@ has_run u h t z = record { over = z; runs = by ((u.job t).at) refl z }
 abbrev PlanAnswers : World → Plan → Verdict → Type 0
 PlanAnswers u (Detach p t) x = ⊥
 PlanAnswers u (Feed f) x = ⊥
-PlanAnswers u (Open o) x = ⊥
 PlanAnswers u (Enter e) x = ⊥
 PlanAnswers u (Here p t) FirstFault = ⊥
 PlanAnswers u (Here p t) LastFault = HasEnded u t Fault
@@ -122,24 +125,40 @@ PlanAnswers u (Here p t) AllFine = HasEnded u t Fine
 PlanAnswers u (Send o) FirstFault = ⊥
 PlanAnswers u (Send o) LastFault = HasEnded u o.job Fault
 PlanAnswers u (Send o) AllFine = HasEnded u o.job Fine
+PlanAnswers u (Open o) FirstFault = ⊥
+PlanAnswers u (Open o) LastFault = HasEnded u o.job Fault
+PlanAnswers u (Open o) AllFine = HasEnded u o.job Fine
 PlanAnswers u (Fork o a) FirstFault = HasEnded u a Fault
 PlanAnswers u (Fork o a) LastFault = HasEnded u o.job Fault × HasEnded u a Fine
 PlanAnswers u (Fork o a) AllFine = HasEnded u o.job Fine × HasEnded u a Fine
 
-one_answer : (w u : World) (q : Party) (p t l : ℕ) → t ≡ l → (x : Verdict) → PlanAnswers u (Here p t) x → IsPrecedent (Install q p) u w.jobs l (Some x)
-one_answer w u q p t l i FirstFault y = absurd y
-one_answer w u q p t l i LastFault y = (subst (λ v. HasEnded u v Fault) i y, λ z. absurd (cc))
-one_answer w u q p t l i AllFine y = (subst (λ v. HasEnded u v Fine) i y, λ z. absurd (cc))
+one_answer : (w u : World) (e : Event) (p t l : ℕ) → is_join e ≡ false → t ≡ l → (x : Verdict) → PlanAnswers u (Here p t) x → IsPrecedent e u w.jobs l (Some x)
+one_answer w u e p t l j i FirstFault y = absurd y
+one_answer w u e p t l j i LastFault y = (subst (λ v. HasEnded u v Fault) i y, λ z. absurd (let a : true ≡ false = sym z ∙ j in cc))
+one_answer w u e p t l j i AllFine y = (subst (λ v. HasEnded u v Fine) i y, λ z. absurd (let a : true ≡ false = sym z ∙ j in cc))
 
 sent_answer : (u : World) (o : OpenCall) (x : Verdict) → PlanAnswers u (Send o) x → PlanAnswers u (Here 0 o.job) x
 sent_answer u o FirstFault y = y
 sent_answer u o LastFault y = y
 sent_answer u o AllFine y = y
 
+open_answer : (u : World) (o : OpenCall) (x : Verdict) → PlanAnswers u (Open o) x → PlanAnswers u (Here 0 o.job) x
+open_answer u o FirstFault y = y
+open_answer u o LastFault y = y
+open_answer u o AllFine y = y
+
 two_answer : (u : World) (q : Party) (o : OpenCall) (a l : ℕ) → o.job ≡ l → (x : Verdict) → PlanAnswers u (Fork o a) x → IsPrecedent (Join q) u a l (Some x)
 two_answer u q o a l i FirstFault y = (refl, y)
 two_answer u q o a l i LastFault y = (subst (λ v. HasEnded u v Fault) i (y.0), λ z. y.1)
 two_answer u q o a l i AllFine y = (subst (λ v. HasEnded u v Fine) i (y.0), λ z. y.1)
+
+-- a call that opens a scope: it waits for its body
+record ScopeBegun (w v : World) (n : Plan) : Type 0 where
+  calls : w.calls + 1 ≤ v.calls
+  target : (v.call w.calls).job ≡ w.jobs
+  body : plan_job n ≡ w.jobs
+  awaited : is_detach n ≡ false
+  over : (u : World) → Unrefused u n → Ended u w.jobs
 
 -- a call has begun, with its plan
 record Begun (w v : World) (q : Party) (e : Event) : Type 0 where
@@ -149,7 +168,9 @@ record Begun (w v : World) (q : Party) (e : Event) : Type 0 where
   numbers : (t : ℕ) → w.jobs ≤ t → t < v.jobs → IsOf t plan
   last : is_detach plan ≡ false → plan_job plan ≡ v.jobs - 1
   awaited : is_awaited e ≡ true → is_detach plan ≡ false
-  answer : (u : World) (x : Verdict) → PlanAnswers u plan x → IsPrecedent e u w.jobs (v.jobs - 1) (Some x)
+  answer : (u : World) (p : ℕ) (x : Verdict) → PlanAnswers u plan x → LowersSo e (OfPool p) u w.jobs (v.jobs - 1) (Some x)
+  body : (u : World) → JobsHold u → (o : OpenCall) (c : ℕ) (r : Party) → plan ≡ Open o → Ended u o.job → LowersSo e (OfScope c r) u w.jobs (v.jobs - 1) None
+  scope : is_scope e ≡ true → ScopeBegun w v plan
   leaves : (u : World) → JobsHold u → (t : ℕ) → IsOf t plan → Unrefused u plan → LeavesJob e u t
 
 first_inside : (w v : World) (q : Party) (n : Plan) → v.stack q ≡ after_call (w.stack q) (RaiseCount n) → Known v n → Inside v q (w.stack q) n false
@@ -159,6 +180,7 @@ first_inside w v q n z k = record { stage = Going; stands = record { above = [];
 record OneSpawned (e : Event) : Type 0 where
   one : jobs_of e ≡ 1
   free : is_awaited e ≡ false
+  flat : is_scope e ≡ false
   leaves : (u : World) (t : ℕ) → IsHandedOn u t → LeavesJob e u t
 
 spawn_as : (w : World) (q : Party) (p : ℕ) (e : Event) → OneSpawned e → IfSome (after_spawn w q p (w.stack q)) (λ v. Begun w v q e)
@@ -169,12 +191,14 @@ spawn_as w q p e s = if_cond (λ v. Begun w v q e) (is_free ((w.stack q).top) &&
   numbers = λ t l m. omega (arith, l, m);
   last = λ z. omega arith;
   awaited = λ z. absurd (let a : true ≡ false = sym z ∙ s.free in cc);
-  answer = λ u x y. absurd y;
+  answer = λ u r x y. absurd y;
+  body = λ u h o c r k z. absurd (cc);
+  scope = λ z. absurd (let a : true ≡ false = sym z ∙ s.flat in cc);
   leaves = λ u h t i z. s.leaves u t (subst (λ x. IsHandedOn u x) (sym i) z);
 })
 
 spawn_begun : (w : World) (q : Party) (p : ℕ) → IfSome (after_spawn w q p (w.stack q)) (λ v. Begun w v q (Spawn q p))
-spawn_begun w q p = spawn_as w q p (Spawn q p) (record { one = refl; free = refl; leaves = λ u t z. z })
+spawn_begun w q p = spawn_as w q p (Spawn q p) (record { one = refl; free = refl; flat = refl; leaves = λ u t z. z })
 
 -- the numbers that a call with two gives out
 two_of : (n t : ℕ) → n ≤ t → t < n + 2 → (b : Bool) → (t == n) ≡ b → (t ≡ n) ⊎ (t ≡ n + 1)
@@ -198,7 +222,9 @@ feed_begun w p i same = record {
   numbers = λ t l m. two_of w.jobs t l m (t == w.jobs) refl;
   last = λ z. absurd (let a : true ≡ false = z in cc);
   awaited = λ z. absurd (let a : true ≡ false = sym z in cc);
-  answer = λ u x y. absurd y;
+  answer = λ u r x y. absurd y;
+  body = λ u h o c r k z. absurd (cc);
+  scope = λ z. absurd (cc);
   leaves = λ u h t j z. by u t j z;
 }
   where
@@ -207,12 +233,12 @@ feed_begun w p i same = record {
     by u t (inr e) z = subst (λ x. IsHandedOn u x ⊎ IsSpent u x) (sym e) (z.1)
 
 fifo_begun : (w : World) (q : Party) (p : ℕ) → IfSome (after_fifo w q p (w.stack q)) (λ v. Begun w v q (Fifo q p))
-fifo_begun w (Caller c) p = spawn_as w (Caller c) p (Fifo (Caller c) p) (record { one = refl; free = refl; leaves = λ u t z. inl z })
+fifo_begun w (Caller c) p = spawn_as w (Caller c) p (Fifo (Caller c) p) (record { one = refl; free = refl; flat = refl; leaves = λ u t z. inl z })
 fifo_begun w (Worker r i) p = by (r == p) refl
   where
     by : (z : Bool) → (r == p) ≡ z → IfSome (if z then (if is_free ((w.stack (Worker r i)).top) && is_pool w.shape p then Some (after_feed w p i (w.stack (Worker r i))) else None) else after_spawn w (Worker r i) p (w.stack (Worker r i))) (λ v. Begun w v (Worker r i) (Fifo (Worker r i) p))
     by true z = subst (λ n. IfSome (if is_free ((w.stack (Worker n i)).top) && is_pool w.shape p then Some (after_feed w p i (w.stack (Worker n i))) else None) (λ v. Begun w v (Worker n i) (Fifo (Worker n i) p))) (sym (eqb-true r p z)) (if_cond (λ v. Begun w v (Worker p i) (Fifo (Worker p i) p)) (is_free ((w.stack (Worker p i)).top) && is_pool w.shape p) _ (λ b. feed_begun w p i (eq-eqb p p refl)))
-    by false z = spawn_as w (Worker r i) p (Fifo (Worker r i) p) (record { one = ap (λ b. if b then 2 else 1) z; free = refl; leaves = λ u t y. inl y })
+    by false z = spawn_as w (Worker r i) p (Fifo (Worker r i) p) (record { one = ap (λ b. if b then 2 else 1) z; free = refl; flat = refl; leaves = λ u t y. inl y })
 
 sent_begun : (w : World) (q : Party) (p : ℕ) (b : Bool) → Begun w (after_send w q p (w.stack q) b) q (Install q p)
 sent_begun w q p true = record {
@@ -222,7 +248,9 @@ sent_begun w q p true = record {
   numbers = λ t l m. omega (arith, l, m);
   last = λ z. omega arith;
   awaited = λ z. refl;
-  answer = λ u x y. one_answer w u q p w.jobs (w.jobs + 1 - 1) (omega arith) x y;
+  answer = λ u r x y. one_answer w u (Install q p) p w.jobs (w.jobs + 1 - 1) refl (omega arith) x y;
+  body = λ u h o c r k z. absurd (cc);
+  scope = λ z. absurd (cc);
   leaves = λ u h t i z. has_run u h t (subst (λ x. Ended u x) (sym i) z);
 }
 sent_begun w q p false = record {
@@ -232,7 +260,9 @@ sent_begun w q p false = record {
   numbers = λ t l m. omega (arith, l, m);
   last = λ z. omega arith;
   awaited = λ z. refl;
-  answer = λ u x y. one_answer w u q 0 w.jobs (w.jobs + 1 - 1) (omega arith) x (sent_answer u (record { number = w.calls; pool = p; job = w.jobs }) x y);
+  answer = λ u r x y. one_answer w u (Install q p) 0 w.jobs (w.jobs + 1 - 1) refl (omega arith) x (sent_answer u (record { number = w.calls; pool = p; job = w.jobs }) x y);
+  body = λ u h o c r k z. absurd (cc);
+  scope = λ z. absurd (cc);
   leaves = λ u h t i z. has_run u h t (subst (λ x. Ended u x) (sym i) z);
 }
 
@@ -247,7 +277,9 @@ join_begun w (Worker p i) = if_cond (λ v. Begun w v (Worker p i) (Join (Worker 
   numbers = λ t l m. two t l m (t == w.jobs) refl;
   last = λ z. omega arith;
   awaited = λ z. refl;
-  answer = λ u x y. two_answer u (Worker p i) (record { number = w.calls; pool = p; job = w.jobs + 1 }) w.jobs (w.jobs + 2 - 1) (omega arith) x y;
+  answer = λ u r x y. two_answer u (Worker p i) (record { number = w.calls; pool = p; job = w.jobs + 1 }) w.jobs (w.jobs + 2 - 1) (omega arith) x y;
+  body = λ u h o c r k z. absurd (cc);
+  scope = λ z. absurd (cc);
   leaves = λ u h t i z. has_run u h t (all_of (Ended u) t (Fork (record { number = w.calls; pool = p; job = w.jobs + 1 }) w.jobs) i z);
 })
   where
@@ -256,13 +288,44 @@ join_begun w (Worker p i) = if_cond (λ v. Begun w v (Worker p i) (Join (Worker 
     two t l m false e = inr (let n : t ≡ w.jobs → ⊥ = λ z. (let k : (t == w.jobs) ≡ true = eq-eqb t w.jobs z in cc) in omega (arith, l, m, n))
 join_begun w (Caller c) = tt
 
+scope_begun : (w : World) (q : Party) (p : ℕ) → IfSome (after_scope w q p (w.stack q)) (λ v. Begun w v q (OpenScope q p))
+scope_begun w q p = if_cond (λ v. Begun w v q (OpenScope q p)) (is_free ((w.stack q).top) && is_pool w.shape p) _ (λ b. record {
+  plan = Open (record { number = w.calls; pool = p; job = w.jobs });
+  made = refl;
+  inside = first_inside w _ q (Open (record { number = w.calls; pool = p; job = w.jobs })) (stack_mine w.stack q (after_call (w.stack q) (RaiseCount (Open (record { number = w.calls; pool = p; job = w.jobs }))))) ((omega arith), ap (λ k. k.first) (put_new w.call w.calls (new_call None w.jobs)));
+  numbers = λ t l m. omega (arith, l, m);
+  last = λ z. omega arith;
+  awaited = λ z. refl;
+  answer = λ u r x y. one_answer w u (OpenScope q p) 0 w.jobs (w.jobs + 1 - 1) refl (omega arith) x (open_answer u (record { number = w.calls; pool = p; job = w.jobs }) x y);
+  body = λ u h o c r k z. subst (λ t. HasRun u t) (omega arith) (has_run u h w.jobs (subst (λ t. Ended u t) (own_job (record { number = w.calls; pool = p; job = w.jobs }) o k) z));
+  scope = λ z. record { calls = omega arith; target = ap (λ k. k.job) (put_new w.call w.calls (new_call None w.jobs)); body = refl; awaited = refl; over = λ u y. y };
+  leaves = λ u h t i z. has_run u h t (subst (λ x. Ended u x) (sym i) z);
+})
+  where
+    own_job : (a b : OpenCall) → Open a ≡ Open b → b.job ≡ a.job
+    own_job a b e = (let i : a ≡ b = cc in ap (λ o. o.job) (sym i))
+
+into_begun : (w : World) (q : Party) (i : ℕ) → IfSome (after_into w q i (w.stack q)) (λ v. Begun w v q (IntoSpawn q i))
+into_begun w q i = into_cases (λ v. Begun w v q (IntoSpawn q i)) w q i (λ z e free held. if_cond (λ v. Begun w v q (IntoSpawn q i)) (is_free ((w.stack q).top) && holds z.call (w.stack q)) _ (λ b. record {
+  plan = Enter (record { call = z.call; owner = z.owner; pool = z.pool; job = w.jobs });
+  made = refl;
+  inside = first_inside w _ q (Enter (record { call = z.call; owner = z.owner; pool = z.pool; job = w.jobs })) (stack_mine w.stack q (after_call (w.stack q) (RaiseCount (Enter (record { call = z.call; owner = z.owner; pool = z.pool; job = w.jobs }))))) ((omega arith), ap (λ j. is_detached j.kind) (put_new w.job w.jobs (new_job q z.pool (Scoped z.call z.owner))));
+  numbers = λ t l m. omega (arith, l, m);
+  last = λ y. omega arith;
+  awaited = λ y. absurd (let a : false ≡ true = y in cc);
+  answer = λ u r x y. absurd y;
+  body = λ u h o c r k y. absurd (cc);
+  scope = λ z. absurd (cc);
+  leaves = λ u h t j y. subst (λ x. IsHandedOn u x) (sym j) y;
+}))
+
 open_awaited : (n : Plan) (o : OpenCall) → plan_open n ≡ Some o → is_detach n ≡ false
 open_awaited (Detach p t) o e = cc
 open_awaited (Feed f) o e = cc
 open_awaited (Here p t) o e = refl
 open_awaited (Send p) o e = refl
 open_awaited (Open p) o e = refl
-open_awaited (Enter x) o e = refl
+open_awaited (Enter x) o e = cc
 open_awaited (Fork p a) o e = refl
 
 some_party : {q r : Party} → Some q ≡ Some r → q ≡ r
@@ -273,6 +336,8 @@ begun_by w q (Spawn r p) z = subst (λ x. IfSome (step w (Spawn r p)) (λ v. Beg
 begun_by w q (Fifo r p) z = subst (λ x. IfSome (step w (Fifo r p)) (λ v. Begun w v x (Fifo r p))) (some_party z) (fifo_begun w r p)
 begun_by w q (Install r p) z = subst (λ x. IfSome (step w (Install r p)) (λ v. Begun w v x (Install r p))) (some_party z) (install_begun w r p)
 begun_by w q (Join r) z = subst (λ x. IfSome (step w (Join r)) (λ v. Begun w v x (Join r))) (some_party z) (join_begun w r)
+begun_by w q (OpenScope r p) z = subst (λ x. IfSome (step w (OpenScope r p)) (λ v. Begun w v x (OpenScope r p))) (some_party z) (scope_begun w r p)
+begun_by w q (IntoSpawn r i) z = subst (λ x. IfSome (step w (IntoSpawn r i)) (λ v. Begun w v x (IntoSpawn r i))) (some_party z) (into_begun w r i)
 begun_by w q _ z = absurd (cc)
 
 -- only one place takes from a cell
@@ -355,10 +420,14 @@ record Lowers (x : Place) (p : Count) (h : Share) : Type 0 where
   share : Share
   after : Then
   is : x ≡ LowerCount pool share after
+  same : pool ≡ p
+
+lower_of : {a b : Count} {h g : Share} → Lower a h ≡ Lower b g → a ≡ b
+lower_of e = cc
 
 lowerer : (q : Party) (x : Place) (p : Count) (h : Share) → act_of q x ≡ Lower p h → Lowers x p h
-lowerer (Worker i j) (LowerCount r s t) p h e = record { pool = r; share = s; after = t; is = refl }
-lowerer (Caller i) (LowerCount r s t) p h e = record { pool = r; share = s; after = t; is = refl }
+lowerer (Worker i j) (LowerCount r s t) p h e = record { pool = r; share = s; after = t; is = refl; same = lower_of e }
+lowerer (Caller i) (LowerCount r s t) p h e = record { pool = r; share = s; after = t; is = refl; same = lower_of e }
 lowerer (Worker i j) (LookQueue n) p h e = absurd (by (is_member (Worker i j) (plan_pool n)) e)
   where
     by : (b : Bool) → (if b then LookOwn else LookInj (plan_pool n)) ≡ Lower p h → ⊥
@@ -382,12 +451,16 @@ lowerer q (BeginTask (Token k l)) p h e = absurd (begun q e)
 lowerer (Worker i j) _ p h e = absurd (cc)
 lowerer (Caller i) _ p h e = absurd (cc)
 
+-- a pool's count
+record PoolOf (k : Count) : Type 0 where
+  pool : ℕ
+  is : k ≡ OfPool pool
+
 -- what the call's own Lower says of its answer
 open_answers : (u : World) → JobsHold u → (n : Plan) (o : OpenCall) (f : Option Ending) (d : Ending) → Known u n → FirstEnds u (u.call o.number).first f → (u.job o.job).at ≡ Over d → plan_open n ≡ Some o → PlanAnswers u n (answered f d)
 open_answers u h (Detach p t) o f d k s z e = absurd (cc)
 open_answers u h (Feed g) o f d k s z e = absurd (cc)
-open_answers u h (Open m) o f d k s z e = absurd k
-open_answers u h (Enter m) o f d k s z e = absurd k
+open_answers u h (Enter m) o f d k s z e = absurd (cc)
 open_answers u h (Here p t) o f d k s z e = absurd (cc)
 open_answers u h (Send m) o f d k s z e = by f d (subst (λ x. FirstEnds u x f) (ap (λ x. (u.call x.number).first) (sym same) ∙ k.1) s) (subst (λ x. (u.job x.job).at ≡ Over d) (sym same) z)
   where
@@ -395,6 +468,15 @@ open_answers u h (Send m) o f d k s z e = by f d (subst (λ x. FirstEnds u x f) 
     same = cc
 
     by : (f : Option Ending) (d : Ending) → FirstEnds u None f → (u.job m.job).at ≡ Over d → PlanAnswers u (Send m) (answered f d)
+    by (Some g) d a b = absurd a
+    by None Fault a b = has_ended u h (m.job) Fault b
+    by None Fine a b = has_ended u h (m.job) Fine b
+open_answers u h (Open m) o f d k s z e = by f d (subst (λ x. FirstEnds u x f) (ap (λ x. (u.call x.number).first) (sym same) ∙ k.1) s) (subst (λ x. (u.job x.job).at ≡ Over d) (sym same) z)
+  where
+    same : m ≡ o
+    same = cc
+
+    by : (f : Option Ending) (d : Ending) → FirstEnds u None f → (u.job m.job).at ≡ Over d → PlanAnswers u (Open m) (answered f d)
     by (Some g) d a b = absurd a
     by None Fault a b = has_ended u h (m.job) Fault b
     by None Fine a b = has_ended u h (m.job) Fine b
@@ -434,13 +516,47 @@ then_answers u h q n r (Await o) P g k s d y = absurd y
 then_answers u h q n r (RunFirst o a) P g k s d y = absurd y
 then_answers u h q n r (Missing o f) P g k s d y = absurd y
 
-call_answers : (u : World) → Ground u → (q : Party) (s : Stack) (n : Plan) (r : Bool) (p : Count) (h : Share) (P : Option Verdict → Type 0) → ((x : Verdict) → PlanAnswers u n x → P (Some x)) → After u q s n r → is_at_call s (u.stack q) ≡ true → act_of q (u.stack q).top ≡ Lower p h → r ≡ false → P (verdict_of (follows (u.stack q).top))
-call_answers u g q s n r p h P f (inr k) z a d = absurd (not_at_itself s (subst (λ x. is_at_call s x ≡ true) k.back z))
-call_answers u g q s n r p h P f (inl i) z a d =
+-- and what a scope's own Lower says of its body
+body_over : (u : World) (q : Party) (n : Plan) (r : Stage) (k : Count) (t : Then) (P : Count → Option Verdict → Type 0) → ((o : OpenCall) (c : ℕ) (d : Party) → n ≡ Open o → Ended u o.job → P (OfScope c d) None) → SaysThen u q t → SaysShare u k Body t → PartBody n r t → P k (verdict_of (Some t))
+body_over u q n r (OfPool p) t P g s h y = absurd h
+body_over u q n r (OfScope c d) (Await o) P g s h y = g o c d (y.0) (let a : (u.call c).job ≡ o.job = ap (λ x. (u.call x).job) (sym (h.2)) ∙ (s.0).target in subst (Ended u) a (h.1))
+body_over u q n r (OfScope c d) (Answers o f e) P g s h y = absurd y
+body_over u q n r (OfScope c d) (Ran t e) P g s h y = absurd y
+body_over u q n r (OfScope c d) (GiveBack m) P g s h y = absurd y
+body_over u q n r (OfScope c d) (BeginFound x t) P g s h y = absurd y
+body_over u q n r (OfScope c d) (LeaveWait x) P g s h y = absurd y
+body_over u q n r (OfScope c d) Resume P g s h y = absurd y
+body_over u q n r (OfScope c d) Called P g s h y = absurd y
+body_over u q n r (OfScope c d) (RunFirst o a) P g s h y = absurd y
+body_over u q n r (OfScope c d) (Missing o f) P g s h y = absurd y
+
+-- a scope's count is lowered with no answer
+answers_pool : (u : World) (k : Count) (t : ℕ) (n : Plan) (r : Stage) (e : Then) → SaysShare u k (OfJob t) e → PartOwed n r e → is_undone r ≡ false → PoolOf k
+answers_pool u (OfPool p) t n r e s y d = record { pool = p; is = refl }
+answers_pool u (OfScope c o) t n r (Answers m f e) s y d = absurd (s.3)
+answers_pool u (OfScope c o) t n r (Ran m e) s y d = absurd (s.3)
+answers_pool u (OfScope c o) t n r (GiveBack m) s y d = absurd (let a : is_undone r ≡ true = ap is_undone (y.1) in cc)
+answers_pool u (OfScope c o) t n r (BeginFound x m) s y d = absurd y
+answers_pool u (OfScope c o) t n r (LeaveWait x) s y d = absurd y
+answers_pool u (OfScope c o) t n r Resume s y d = absurd y
+answers_pool u (OfScope c o) t n r Called s y d = absurd y
+answers_pool u (OfScope c o) t n r (Await m) s y d = absurd y
+answers_pool u (OfScope c o) t n r (RunFirst m a) s y d = absurd y
+answers_pool u (OfScope c o) t n r (Missing m f) s y d = absurd y
+
+-- what a call says at its own Lower, by whose share it gives back
+lower_answers : (u : World) → JobsHold u → (q : Party) (n : Plan) (r : Stage) (k : Count) (h : Share) (t : Then) (P : Count → Option Verdict → Type 0) → ((p : ℕ) (x : Verdict) → PlanAnswers u n x → P (OfPool p) (Some x)) → ((o : OpenCall) (c : ℕ) (d : Party) → n ≡ Open o → Ended u o.job → P (OfScope c d) None) → Known u n → Says u q (LowerCount k h t) → is_undone r ≡ false → Part n r (LowerCount k h t) → P k (verdict_of (Some t))
+lower_answers u j q n r k PoolValue t P f g l s d y = absurd y
+lower_answers u j q n r k Body t P f g l s d y = body_over u q n r k t P g (s.0) (s.1) y
+lower_answers u j q n r k (OfJob a) t P f g l s d y = let z : PoolOf k = answers_pool u k a n r t (s.1) (y.1) d in subst (λ v. P v (verdict_of (Some t))) (sym z.is) (then_answers u j q n r t (P (OfPool z.pool)) (f z.pool) l (s.0) d (y.1))
+
+call_answers : (u : World) → Ground u → (q : Party) (s : Stack) (n : Plan) (r : Bool) (p : Count) (h : Share) (P : Count → Option Verdict → Type 0) → ((c : ℕ) (x : Verdict) → PlanAnswers u n x → P (OfPool c) (Some x)) → ((o : OpenCall) (c : ℕ) (d : Party) → n ≡ Open o → Ended u o.job → P (OfScope c d) None) → After u q s n r → is_at_call s (u.stack q) ≡ true → act_of q (u.stack q).top ≡ Lower p h → r ≡ false → P p (verdict_of (follows (u.stack q).top))
+call_answers u g q s n r p h P f b (inr k) z a d = absurd (not_at_itself s (subst (λ x. is_at_call s x ≡ true) k.back z))
+call_answers u g q s n r p h P f b (inl i) z a d =
     let l : Lowers (u.stack q).top p h = lowerer q ((u.stack q).top) p h a in
     let y : Part n i.stage (LowerCount l.pool l.share l.after) = subst (λ x. Part n i.stage x) l.is (at_place n i.stage s (u.stack q) i.stands.above i.stands.place i.stands.is z i.stands.part) in
     let e : Says u q (LowerCount l.pool l.share l.after) = subst (λ x. Says u q x) l.is ((g.calls.says q).top) in
-    subst (λ x. P (verdict_of (follows x))) (sym l.is) (then_answers u (g.calls.jobs) q n i.stage l.after P f i.known (e.0) (i.flag ∙ d) (y.1))
+    subst (λ x. P p (verdict_of (follows x))) (sym l.is) (subst (λ x. P x (verdict_of (Some l.after))) l.same (lower_answers u (g.calls.jobs) q n i.stage l.pool l.share l.after P f b i.known e (i.flag ∙ d) y))
 
 call_takes : (u : World) → Ground u → (q : Party) (s : Stack) (n : Plan) (r : Bool) (c t : ℕ) → ((o : OpenCall) → plan_open n ≡ Some o → o.job ≡ t) → After u q s n r → is_at_call s (u.stack q) ≡ true → act_of q (u.stack q).top ≡ Take c → HoldsEnding u c t
 call_takes u g q s n r c t last (inl i) z a = finds u g q n i.stage c t last (at_place n i.stage s (u.stack q) i.stands.above i.stands.place i.stands.is z i.stands.part) (taker q ((u.stack q).top) c a)
@@ -467,6 +583,16 @@ pub run_on : (h : Shape) (before : List Event) (w : World) (q : Party) (s : Stac
 run_on h before w q s u [] run same = subst Ground (sym same) (ground_of h before w run)
 run_on h before w q s u (e ∷ es) run (v, opened, one, rest) = run_on h (before ++ (e ∷ [])) v q s u es (run_more (start h) w v before e run one) rest
 
+-- what holds of the scopes of the last world
+run_to : (h : Shape) (before : List Event) (w : World) (q : Party) (s : Stack) (u : World) (es : List Event) → IsRun (start h) before w → IsRunUntil q s w es u → EarlyHold u
+run_to h before w q s u [] run same = subst EarlyHold (sym same) (always_early h before w run)
+run_to h before w q s u (e ∷ es) run (v, opened, one, rest) = run_to h (before ++ (e ∷ [])) v q s u es (run_more (start h) w v before e run one) rest
+
+-- a call waits for the same job
+until_target : (w : World) (q : Party) (s : Stack) (es : List Event) (u : World) → IsRunUntil q s w es u → (c : ℕ) → c + 1 ≤ w.calls → (u.call c).job ≡ (w.call c).job
+until_target w q s [] u same c l = subst (λ v. (v.call c).job ≡ (w.call c).job) (sym same) refl
+until_target w q s (e ∷ es) u (v, opened, one, rest) c l = let f : Carries w v = (let g : IfSome (Some v) (Carries w) = subst (λ o. IfSome o (Carries w)) one (step_carries w e) in g) in until_target v q s es u rest c ((f.sides c l).0) ∙ (f.sides c l).2
+
 pub call_law : CallLaw
 call_law h before q e w v u between b run =
     let begun : Begun w v q e = (let f : IfSome (Some v) (λ x. Begun w x q e) = subst (λ o. IfSome o (λ x. Begun w x q e)) b.made (begun_by w q e b.caller) in f) in
@@ -480,8 +606,9 @@ call_law h before q e w v u between b run =
       made = begun.made;
       stands = call_stands u q s n r a;
       takes = λ c z y. call_takes u g q s n r c (v.jobs - 1) (λ o z. open_job n o z ∙ begun.last (open_awaited n o z)) a z y;
-      answers = λ y p h z x d. call_answers u g q s n r p h (IsPrecedent e u w.jobs (v.jobs - 1)) (begun.answer u) a z x d;
+      answers = λ y p h z x d. call_answers u g q s n r p h (λ k. LowersSo e k u w.jobs (v.jobs - 1)) (begun.answer u) (λ o c b i z. begun.body u (g.calls.jobs) o c b i z) a z x d;
       pays = λ z y. subst (λ t. (u.job t).counted ≡ false) (begun.last (begun.awaited y)) (by_refusal u g q s n r (is_returned u q s n r a z) (begun.awaited y) (either r));
       ends = λ z y t l m. begun.leaves u (g.calls.jobs) t (begun.numbers t l m) ((is_returned u q s n r a z).ends y);
+      empties = λ z i y. (let c : ScopeBegun w v n = begun.scope i in let k : Returned u q s n r = is_returned u q s n r a z in scope_ended u (run_to h (before ++ (e ∷ [])) v q s u between next run) w.calls w.jobs (until_target v q s between u run w.calls c.calls ∙ c.target) (c.over u (k.ends y)) (ap (λ t. (u.job t).counted) (sym c.body) ∙ k.paid y c.awaited));
       refused = λ z y t l m. (let i : (u.job t).at ≡ HandedBack = all_of (λ x. (u.job x).at ≡ HandedBack) t n (begun.numbers t l m) ((is_returned u q s n r a z).refused y) in record { at = i; untouched = (refused_so u (g.calls.jobs)).gone t i; share = (returned_so u g.returns).gone t i });
     }

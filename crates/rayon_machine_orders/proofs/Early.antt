@@ -35,7 +35,7 @@ use Rattle.rayon_machine_places.specs.World.{Shape, World, Part, counts_at, coun
 use Rattle.rayon_machine_places.specs.Steps.{put, put_stack, put_pieces, new_piece, is_piece, mark_pieces, marked, after_choice, after_refusal, can_miss, after_miss, after_end, after_call, is_pool, new_job, new_call, after_spawn, after_feed, after_fifo, after_cast, after_send, after_install, after_join, after_scope, after_into, holds, holds_in, after_yield, after_end_pool, step}
 use Rattle.rayon_machine_places.specs.Runs.{start, IsRun}
 use Rattle.rayon_machine_laws.specs.Once.{one, run_of, runs_in}
-use Rattle.rayon_machine_laws.specs.Shares.{share, shares_in, shares, is_scoped, NoEarlyEnd}
+use Rattle.rayon_machine_laws.specs.Shares.{share, shares_in, shares, is_busy, is_scoped, NoEarlyEnd}
 use Rattle.rayon_machine_laws.proofs.Frame.{either, is_sharing, if_some_and, if_some_map, if_cond, put_same, put_new, put_old, fifo_cases, into_cases, piece_new, piece_old, piece_out, piece_in}
 use Rattle.rayon_machine_laws.proofs.Ties.{AllFrames, job_at, outcome, result}
 use Rattle.rayon_machine_laws.proofs.Tops.{FramesOk}
@@ -58,7 +58,9 @@ use Rattle.rayon_machine_laws.proofs.ShareSteps.{Ready, self_one}
 use Rattle.rayon_machine_laws.proofs.ShareLowers.{returned_jobs}
 use Rattle.rayon_machine_laws.proofs.ShareEvents.{ready}
 use Rattle.rayon_machine_laws.proofs.ShareEnds.{gone, job_uncounted}
-use Rattle.rayon_machine_laws.proofs.Scoping.{entry, entry_on}
+use Rattle.rayon_machine_laws.proofs.Scoping.{ScopesHold, entry, entry_on, scopes_counted}
+use Rattle.rayon_machine_laws.specs.Counted.{ScopeEnded}
+use Rattle.rayon_machine_places.specs.Readers.{is_done}
 use Rattle.rayon_machine_orders.proofs.Takes.{seen_set, says_missing}
 use Rattle.rayon_machine_orders.proofs.Filled.{FilledHold, go_fills, step_fills, first_fills}
 use Rattle.rayon_machine_orders.proofs.CallSteps.{go_all, raise_counts, counts_on, is_all, all_steady, all_cases}
@@ -596,3 +598,29 @@ no_early_end w h p i z = gone w p hold none (λ t e k. scoped t e k ((w.job t).c
         let f : one (s.0 == s.0) ≡ 1 = self_one (s.0) in
         let v : (w.job (w.call (s.0)).job).counted ≡ true = h.kept t m (s.0) ((s.1).0) ((s.1).1) (omega (arith, a, d, g, f)) in
         let x : (w.job (w.call (s.0)).job).counted ≡ false = job_uncounted w p hold none ((w.call (s.0)).job) (sym (n.pool) ∙ e) (ap is_scoped (n.body)) in cc)
+
+-- a scope whose body is over and has given back its share of the pool's count has ended
+pub scope_ended : (w : World) → EarlyHold w → (c t : ℕ) → (w.call c).job ≡ t → is_done (w.job t).at ≡ true → (w.job t).counted ≡ false → ScopeEnded w c
+scope_ended w h c t i d n = record {
+  body = ap (λ j. is_done (w.job j).at) i ∙ d;
+  jobs = λ j o k. none j o k ((w.job j).counted) refl;
+  idle = λ j o k. idle j o k (is_busy (w.job j).at) refl;
+}
+  where
+    hold : ScopesHold w
+    hold = (h.fills).scopes
+
+    none : (j : ℕ) (o : Party) → (w.job j).kind ≡ Scoped c o → (b : Bool) → (w.job j).counted ≡ b → b ≡ false
+    none j o k false y = refl
+    none j o k true y = absurd (
+        let m : j + 1 ≤ w.jobs = elim (either (ltb j w.jobs)) [ inl g ↦ (let b : j < w.jobs = ltb-true j w.jobs g in omega (arith, b)) | inr g ↦ absurd (let z : (w.job j).counted ≡ false = (hold.shares).unmade j (ltb-false j w.jobs g) in cc) ] in
+        let a : sum_below w.jobs (λ t. entry c (w.job t)) + one (w.call c).counted ≡ (w.call c).count = hold.sums c in
+        let l : entry c (w.job j) ≤ sum_below w.jobs (λ t. entry c (w.job t)) = sum_least w.jobs (λ t. entry c (w.job t)) j m in
+        let g : entry c (w.job j) ≡ one (c == c) = entry_on c (w.job j) (Scoped c o) y k in
+        let f : one (c == c) ≡ 1 = self_one c in
+        let v : (w.job (w.call c).job).counted ≡ true = h.kept j m c o k (omega (arith, a, l, g, f)) in
+        let x : (w.job (w.call c).job).counted ≡ false = ap (λ v. (w.job v).counted) i ∙ n in cc)
+
+    idle : (j : ℕ) (o : Party) → (w.job j).kind ≡ Scoped c o → (b : Bool) → is_busy (w.job j).at ≡ b → b ≡ false
+    idle j o k false y = refl
+    idle j o k true y = sym ((scopes_counted w hold).kept j c o k y) ∙ none j o k ((w.job j).counted) refl

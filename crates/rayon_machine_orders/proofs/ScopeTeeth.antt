@@ -1,30 +1,35 @@
 -- wrong machines of scopes: replays, computed by the kernel, in which a changed table or act breaks the clause of a law
 -- that forbids it
 use Rattle.std.proofs.Common.{refl}
-use Rattle.std.specs.Prelude.{ℕ, Bool, true, false, ◌+◌, ◌==◌, if◌then◌else◌, Some, List, [], ◌∷◌, ◌++◌, ◌≡◌, IfSome}
+use Rattle.std.specs.Prelude.{ℕ, Bool, true, false, ◌+◌, ◌-◌, ◌==◌, if◌then◌else◌, Some, List, [], ◌∷◌, ◌++◌, ◌≡◌, IfSome}
 use Rattle.rayon_machine_places.specs.declared.place.Party.{Party}
-use Rattle.rayon_machine_places.specs.declared.place.Ending.TheVariants.{Fine}
+use Rattle.rayon_machine_places.specs.declared.place.Ending.TheVariants.{Fine, Fault}
 use Rattle.rayon_machine_places.specs.declared.place.Plan.TheVariants.{Enter}
 use Rattle.rayon_machine_places.specs.declared.place.Count.TheVariants.{OfScope}
 use Rattle.rayon_machine_places.specs.declared.place.Share.TheVariants.{Body}
 use Rattle.rayon_machine_places.specs.declared.place.Place.{Place}
-use Rattle.rayon_machine_places.specs.declared.place.Place.TheVariants.{CloseSlot, LowerCount}
+use Rattle.rayon_machine_places.specs.declared.place.Place.TheVariants.{CloseSlot, LowerCount, GrowScope}
 use Rattle.rayon_machine_places.specs.declared.place.Move.{Move}
-use Rattle.rayon_machine_places.specs.declared.place.Move.TheVariants.{HandBack}
+use Rattle.rayon_machine_places.specs.declared.place.Move.TheVariants.{HandBack, Stay, Back}
 use Rattle.rayon_machine_places.specs.declared.act.Act.{Act}
 use Rattle.rayon_machine_places.specs.declared.act.Act.TheVariants.{Lower}
 use Rattle.rayon_machine_places.specs.declared.act.Seen.{Seen}
-use Rattle.rayon_machine_places.specs.declared.act.Seen.TheVariants.{Yes, No}
+use Rattle.rayon_machine_places.specs.declared.act.Seen.TheVariants.{Yes, No, Done}
 use Rattle.rayon_machine_places.specs.declared.event.Event.{Event}
 use Rattle.rayon_machine_places.specs.declared.event.Event.TheVariants.{Refuse, End, EndPool, Scope as OpenScope, IntoSpawn}
 use Rattle.rayon_machine_places.specs.declared.state.Letter.TheVariants.{Unset, Set as IsSet}
 use Rattle.rayon_machine_places.specs.declared.shape.PoolShape.{PoolShape}
-use Rattle.rayon_machine_places.specs.Places.{next_of}
+use Rattle.rayon_machine_places.specs.declared.place.JobKind.TheVariants.{Scoped}
+use Rattle.rayon_machine_places.specs.declared.place.Then.TheVariants.{Await, GiveBack}
+use Rattle.rayon_machine_places.specs.declared.state.Whereabouts.TheVariants.{Made, Injected, Over, HandedBack}
+use Rattle.rayon_machine_places.specs.Places.{act_of, next_of}
 use Rattle.rayon_machine_places.specs.World.{Shape, World, Counts, Part, Outcome, count_in, count_below, lowered, effect}
 use Rattle.rayon_machine_laws.specs.Once.{one}
-use Rattle.rayon_machine_laws.specs.Shares.{shares}
+use Rattle.rayon_machine_laws.specs.Shares.{shares, is_busy}
 use Rattle.rayon_machine_laws.specs.Counted.{has_entry, keeps_own}
-use Rattle.rayon_machine_orders.proofs.WrongMachines.{Machine, run_by, times_go, two, c, right}
+use Rattle.rayon_machine_orders.proofs.WrongMachines.{Machine, step_by, run_by, times_go, two, c, right}
+use Rattle.rayon_machine_orders.proofs.CallTeeth.{any_by, is_back, Ends}
+use Rattle.rayon_machine_orders.specs.Calls.{caller_of, is_scope, is_at_call, is_refusal}
 
 -- the end of a scope's body sets the scope's latch, though a job of the scope is left
 abbrev sets_early : PoolShape → Party → Place → Seen → Move
@@ -82,3 +87,66 @@ record Miscounted (w : World) : Type 0 where
 
 lower_lowers_no_scope : IfSome (run_by (record { does = leaves_number; next = next_of }) (two 32) (OpenScope c 0 ∷ times_go c 2 ++ End c Fine ∷ times_go c 2)) Miscounted
 lower_lowers_no_scope = record { number = refl; shares = refl }
+
+-- the calls of scopes: in the machine as it is a scope's body faults, and the scope is over
+scope_ends : Ends right [] c (OpenScope c 0) (times_go c 2 ++ End c Fault ∷ times_go c 6) false 0 (Over Fault)
+scope_ends = record { caller = refl; back = refl; until = refl; refused = refl; mine = refl; at = refl }
+
+-- one whose cell is refused
+scope_refused : Ends right [] c (OpenScope c 0) (times_go c 1 ++ Refuse c ∷ times_go c 1) true 0 HandedBack
+scope_refused = record { caller = refl; back = refl; until = refl; refused = refl; mine = refl; at = refl }
+
+-- a spawn into a scope queues its job
+abbrev opened : List Event
+opened = OpenScope c 0 ∷ times_go c 2
+
+spawn_into_ends : Ends right opened c (IntoSpawn c 0) (times_go c 5) false 1 (Injected 0)
+spawn_into_ends = record { caller = refl; back = refl; until = refl; refused = refl; mine = refl; at = refl }
+
+-- or its push is refused
+spawn_into_refused : Ends right opened c (IntoSpawn c 0) (times_go c 3 ++ Refuse c ∷ times_go c 2) true 1 HandedBack
+spawn_into_refused = record { caller = refl; back = refl; until = refl; refused = refl; mine = refl; at = refl }
+
+-- a refused spawn into a scope goes back with its job
+abbrev keeps_job : PoolShape → Party → Place → Seen → Move
+keeps_job h q (LowerCount k s (GiveBack (Enter x))) No = Back
+keeps_job h q x e = next_of h q x e
+
+-- the clause of calls is broken: a step of the spawn was refused, it is over, and its job is not handed back
+refused_spawn_keeps_its_job : Ends (record { does = effect; next = keeps_job }) opened c (IntoSpawn c 0) (times_go c 3 ++ Refuse c ∷ times_go c 2) true 1 (Made c)
+refused_spawn_keeps_its_job = record { caller = refl; back = refl; until = refl; refused = refl; mine = refl; at = refl }
+
+-- a scope of the party that is over, begun in w and not refused, and a job of it is queued
+record LeavesJobs (m : Machine) (q : Party) (e : Event) (between : List Event) (t : ℕ) (w v u : World) : Type 0 where
+  caller : caller_of e ≡ Some q
+  scope : is_scope e ≡ true
+  back : u.stack q ≡ w.stack q
+  until : any_by m (is_back q w) (Some v) between ≡ false
+  refused : any_by m (is_refusal q (w.stack q)) (Some v) between ≡ false
+  kind : (u.job t).kind ≡ Scoped w.calls q
+  busy : is_busy (u.job t).at ≡ true
+
+-- the clause of calls is broken where the end of the body sets the scope's latch
+abbrev left_call : List Event
+left_call = times_go c 2 ++ IntoSpawn c 0 ∷ times_go c 5 ++ End c Fine ∷ times_go c 6
+
+scope_is_over_before_its_job : IfSome (two 32) (λ w. IfSome (step_by (record { does = effect; next = sets_early }) w (OpenScope c 0)) (λ v. IfSome (run_by (record { does = effect; next = sets_early }) (Some v) left_call) (LeavesJobs (record { does = effect; next = sets_early }) c (OpenScope c 0) left_call 1 w v)))
+scope_is_over_before_its_job = record { caller = refl; scope = refl; back = refl; until = refl; refused = refl; kind = refl; busy = refl }
+
+-- a scope gives its body's share back, and its body never runs
+abbrev runs_nothing : PoolShape → Party → Place → Seen → Move
+runs_nothing h q (GrowScope o) Done = Stay (LowerCount (OfScope o.number q) Body (Await o))
+runs_nothing h q x e = next_of h q x e
+
+-- a scope of the party, begun in w and not refused, whose own next act is to lower the scope's count, and its body has
+-- not run
+record LowersUnrun (m : Machine) (q : Party) (e : Event) (between : List Event) (w v u : World) : Type 0 where
+  caller : caller_of e ≡ Some q
+  until : any_by m (is_back q w) (Some v) between ≡ false
+  refused : any_by m (is_refusal q (w.stack q)) (Some v) between ≡ false
+  own : is_at_call (w.stack q) (u.stack q) ≡ true
+  act : act_of q (u.stack q).top ≡ Lower (OfScope 0 c) Body
+  runs : (u.job (v.jobs - 1)).runs ≡ 0
+
+scope_lowers_without_its_body : IfSome (two 32) (λ w. IfSome (step_by (record { does = effect; next = runs_nothing }) w (OpenScope c 0)) (λ v. IfSome (run_by (record { does = effect; next = runs_nothing }) (Some v) (times_go c 2)) (LowersUnrun (record { does = effect; next = runs_nothing }) c (OpenScope c 0) (times_go c 2) w v)))
+scope_lowers_without_its_body = record { caller = refl; until = refl; refused = refl; own = refl; act = refl; runs = refl }

@@ -12,13 +12,14 @@ use Rattle.rayon_machine_places.specs.declared.place.Place.{Place}
 use Rattle.rayon_machine_places.specs.declared.act.Act.{Act}
 use Rattle.rayon_machine_places.specs.declared.act.Act.TheVariants.{Raise, Take, Lower}
 use Rattle.rayon_machine_places.specs.declared.event.Event.{Event}
-use Rattle.rayon_machine_places.specs.declared.event.Event.TheVariants.{Go, Refuse, Spawn, Fifo, Install, Join}
+use Rattle.rayon_machine_places.specs.declared.event.Event.TheVariants.{Go, Refuse, Spawn, Fifo, Install, Join, Scope as OpenScope, IntoSpawn}
 use Rattle.rayon_machine_places.specs.declared.state.Whereabouts.TheVariants.{HandedBack, Spent}
 use Rattle.rayon_machine_places.specs.Places.{same_party, is_member, act_of}
 use Rattle.rayon_machine_places.specs.World.{Shape, Stack, World, is_token}
 use Rattle.rayon_machine_places.specs.Steps.{step}
 use Rattle.rayon_machine_places.specs.Runs.{IsRun, start}
 use Rattle.rayon_machine_places.specs.Readers.{is_queued, is_running, is_done}
+use Rattle.rayon_machine_laws.specs.Counted.{ScopeEnded}
 use Rattle.rayon_machine_laws.specs.End.{HasEnded, Verdict, AllFine, FirstFault, LastFault, answered, follows, IsUntouched}
 
 -- the party that begins a call by this event
@@ -27,6 +28,8 @@ caller_of (Spawn q p) = Some q
 caller_of (Fifo q p) = Some q
 caller_of (Install q p) = Some q
 caller_of (Join q) = Some q
+caller_of (OpenScope q p) = Some q
+caller_of (IntoSpawn q n) = Some q
 caller_of _ = None
 
 -- how many numbers a call gives out: a join has two sides, and a worker of the pool that spawns in order makes a token
@@ -41,10 +44,16 @@ abbrev pub is_join : Event → Bool
 is_join (Join q) = true
 is_join _ = false
 
--- a call that its party waits for: an install or a join
+-- a call that opens a scope
+abbrev pub is_scope : Event → Bool
+is_scope (OpenScope q p) = true
+is_scope _ = false
+
+-- a call that its party waits for: an install, a join or a scope
 abbrev pub is_awaited : Event → Bool
 is_awaited (Spawn q p) = false
 is_awaited (Fifo q p) = false
+is_awaited (IntoSpawn q n) = false
 is_awaited _ = true
 
 -- a party begins a call (from w to v), in some world of a run from a start
@@ -99,11 +108,12 @@ pub record IsSpent (w : World) (t : ℕ) : Type 0 where
   pub token : is_token (w.job t).kind ≡ true
   pub at : (w.job t).at ≡ Spent
 
--- what a call that nothing refused leaves of a job that it made: a spawn has handed it on, an install and a join have
--- seen it run. A token is handed on as a job is, and is spent in the end
+-- what a call that nothing refused leaves of a job that it made: a spawn has handed it on, also one into a scope; an
+-- install and a join have seen it run, and a scope its body. A token is handed on as a job is, and is spent in the end
 abbrev pub LeavesJob : Event → World → ℕ → Type 0
 LeavesJob (Spawn q p) w t = IsHandedOn w t
 LeavesJob (Fifo q p) w t = IsHandedOn w t ⊎ IsSpent w t
+LeavesJob (IntoSpawn q n) w t = IsHandedOn w t
 LeavesJob _ w t = HasRun w t
 
 -- a job is handed back, stands in no list, has never run, and has no share of the terminate count
@@ -136,6 +146,11 @@ IsPrecedent e w first last (Some FirstFault) = (is_join e ≡ true) × HasEnded 
 IsPrecedent e w first last (Some LastFault) = HasEnded w last Fault × FirstFine e w first
 IsPrecedent e w first last (Some AllFine) = HasEnded w last Fine × FirstFine e w first
 
+-- where a call is to lower a count it has its answer. A scope lowers its own count too, for its body: that is over then
+abbrev pub LowersSo : Event → Count → World → (first last : ℕ) → Option Verdict → Type 0
+LowersSo (OpenScope q p) (OfScope c o) w first last v = HasRun w last
+LowersSo e k w first last v = IsPrecedent e w first last v
+
 -- a stack stands on this one: it has all its frames below, and its top is another
 pub record StandsOn (s k : Stack) : Type 0 where
   pub more : List Place
@@ -146,14 +161,16 @@ pub record StandsOn (s k : Stack) : Type 0 where
 -- own next act is to take from a cell, that holds how the last of its jobs ended; where it is to lower the terminate
 -- count, and nothing refused it, it has the answer, and the fault is the one that takes precedence. Once it is over,
 -- either nothing refused it and it leaves each job as it should, or a step of it was refused and each job is given
--- back; and an install and a join have given back their share of the terminate count, which the last of the jobs has
+-- back; and an install, a join and a scope have given back their share of the terminate count, which the last of the
+-- jobs has. A scope that nothing refused has ended: no job of it has a share of its count, is queued or runs
 pub record CallGoes (q : Party) (e : Event) (w v u : World) (between : List Event) : Type 0 where
   pub made : v.jobs ≡ w.jobs + jobs_of e
   pub stands : StandsOn (w.stack q) (u.stack q) ⊎ (u.stack q ≡ w.stack q)
   pub takes : (c : ℕ) → is_at_call (w.stack q) (u.stack q) ≡ true → act_of q (u.stack q).top ≡ Take c → HoldsEnding u c (v.jobs - 1)
-  pub answers : is_awaited e ≡ true → (k : Count) (h : Share) → is_at_call (w.stack q) (u.stack q) ≡ true → act_of q (u.stack q).top ≡ Lower k h → is_any (is_refusal q (w.stack q)) (Some v) between ≡ false → IsPrecedent e u w.jobs (v.jobs - 1) (verdict_of (follows (u.stack q).top))
+  pub answers : is_awaited e ≡ true → (k : Count) (h : Share) → is_at_call (w.stack q) (u.stack q) ≡ true → act_of q (u.stack q).top ≡ Lower k h → is_any (is_refusal q (w.stack q)) (Some v) between ≡ false → LowersSo e k u w.jobs (v.jobs - 1) (verdict_of (follows (u.stack q).top))
   pub pays : u.stack q ≡ w.stack q → is_awaited e ≡ true → (u.job (v.jobs - 1)).counted ≡ false
   pub ends : u.stack q ≡ w.stack q → is_any (is_refusal q (w.stack q)) (Some v) between ≡ false → (t : ℕ) → w.jobs ≤ t → t < v.jobs → LeavesJob e u t
+  pub empties : u.stack q ≡ w.stack q → is_scope e ≡ true → is_any (is_refusal q (w.stack q)) (Some v) between ≡ false → ScopeEnded u w.calls
   pub refused : u.stack q ≡ w.stack q → is_any (is_refusal q (w.stack q)) (Some v) between ≡ true → (t : ℕ) → w.jobs ≤ t → t < v.jobs → IsGivenBack u t
 
 -- each call goes so, in every run from a start, up to the first world in which its party's stack is again what it was

@@ -168,8 +168,8 @@ record Begun (w v : World) (q : Party) (e : Event) : Type 0 where
   numbers : (t : ℕ) → w.jobs ≤ t → t < v.jobs → IsOf t plan
   last : is_detach plan ≡ false → plan_job plan ≡ v.jobs - 1
   awaited : is_awaited e ≡ true → is_detach plan ≡ false
-  answer : (u : World) (p : ℕ) (x : Verdict) → PlanAnswers u plan x → LowersSo e (OfPool p) u w.jobs (v.jobs - 1) (Some x)
-  body : (u : World) → JobsHold u → (o : OpenCall) (c : ℕ) (r : Party) → plan ≡ Open o → Ended u o.job → LowersSo e (OfScope c r) u w.jobs (v.jobs - 1) None
+  answer : (u : World) (p : ℕ) (x : Verdict) → PlanAnswers u plan x → LowersSo e (OfPool p) u w.calls w.jobs (v.jobs - 1) (Some x)
+  body : (u : World) → JobsHold u → (o : OpenCall) (c : ℕ) (r : Party) → plan ≡ Open o → o.number ≡ c → Ended u o.job → LowersSo e (OfScope c r) u w.calls w.jobs (v.jobs - 1) None
   scope : is_scope e ≡ true → ScopeBegun w v plan
   leaves : (u : World) → JobsHold u → (t : ℕ) → IsOf t plan → Unrefused u plan → LeavesJob e u t
 
@@ -192,7 +192,7 @@ spawn_as w q p e s = if_cond (λ v. Begun w v q e) (is_free ((w.stack q).top) &&
   last = λ z. omega arith;
   awaited = λ z. absurd (let a : true ≡ false = sym z ∙ s.free in cc);
   answer = λ u r x y. absurd y;
-  body = λ u h o c r k z. absurd (cc);
+  body = λ u h o c r k m z. absurd (cc);
   scope = λ z. absurd (let a : true ≡ false = sym z ∙ s.flat in cc);
   leaves = λ u h t i z. s.leaves u t (subst (λ x. IsHandedOn u x) (sym i) z);
 })
@@ -223,7 +223,7 @@ feed_begun w p i same = record {
   last = λ z. absurd (let a : true ≡ false = z in cc);
   awaited = λ z. absurd (let a : true ≡ false = sym z in cc);
   answer = λ u r x y. absurd y;
-  body = λ u h o c r k z. absurd (cc);
+  body = λ u h o c r k m z. absurd (cc);
   scope = λ z. absurd (cc);
   leaves = λ u h t j z. by u t j z;
 }
@@ -249,7 +249,7 @@ sent_begun w q p true = record {
   last = λ z. omega arith;
   awaited = λ z. refl;
   answer = λ u r x y. one_answer w u (Install q p) p w.jobs (w.jobs + 1 - 1) refl (omega arith) x y;
-  body = λ u h o c r k z. absurd (cc);
+  body = λ u h o c r k m z. absurd (cc);
   scope = λ z. absurd (cc);
   leaves = λ u h t i z. has_run u h t (subst (λ x. Ended u x) (sym i) z);
 }
@@ -261,7 +261,7 @@ sent_begun w q p false = record {
   last = λ z. omega arith;
   awaited = λ z. refl;
   answer = λ u r x y. one_answer w u (Install q p) 0 w.jobs (w.jobs + 1 - 1) refl (omega arith) x (sent_answer u (record { number = w.calls; pool = p; job = w.jobs }) x y);
-  body = λ u h o c r k z. absurd (cc);
+  body = λ u h o c r k m z. absurd (cc);
   scope = λ z. absurd (cc);
   leaves = λ u h t i z. has_run u h t (subst (λ x. Ended u x) (sym i) z);
 }
@@ -278,7 +278,7 @@ join_begun w (Worker p i) = if_cond (λ v. Begun w v (Worker p i) (Join (Worker 
   last = λ z. omega arith;
   awaited = λ z. refl;
   answer = λ u r x y. two_answer u (Worker p i) (record { number = w.calls; pool = p; job = w.jobs + 1 }) w.jobs (w.jobs + 2 - 1) (omega arith) x y;
-  body = λ u h o c r k z. absurd (cc);
+  body = λ u h o c r k m z. absurd (cc);
   scope = λ z. absurd (cc);
   leaves = λ u h t i z. has_run u h t (all_of (Ended u) t (Fork (record { number = w.calls; pool = p; job = w.jobs + 1 }) w.jobs) i z);
 })
@@ -297,13 +297,16 @@ scope_begun w q p = if_cond (λ v. Begun w v q (OpenScope q p)) (is_free ((w.sta
   last = λ z. omega arith;
   awaited = λ z. refl;
   answer = λ u r x y. one_answer w u (OpenScope q p) 0 w.jobs (w.jobs + 1 - 1) refl (omega arith) x (open_answer u (record { number = w.calls; pool = p; job = w.jobs }) x y);
-  body = λ u h o c r k z. subst (λ t. HasRun u t) (omega arith) (has_run u h w.jobs (subst (λ t. Ended u t) (own_job (record { number = w.calls; pool = p; job = w.jobs }) o k) z));
+  body = λ u h o c r k m z. (sym m ∙ own_number (record { number = w.calls; pool = p; job = w.jobs }) o k, subst (λ t. HasRun u t) (omega arith) (has_run u h w.jobs (subst (λ t. Ended u t) (own_job (record { number = w.calls; pool = p; job = w.jobs }) o k) z)));
   scope = λ z. record { calls = omega arith; target = ap (λ k. k.job) (put_new w.call w.calls (new_call None w.jobs)); body = refl; awaited = refl; over = λ u y. y };
   leaves = λ u h t i z. has_run u h t (subst (λ x. Ended u x) (sym i) z);
 })
   where
     own_job : (a b : OpenCall) → Open a ≡ Open b → b.job ≡ a.job
     own_job a b e = (let i : a ≡ b = cc in ap (λ o. o.job) (sym i))
+
+    own_number : (a b : OpenCall) → Open a ≡ Open b → b.number ≡ a.number
+    own_number a b e = (let i : a ≡ b = cc in ap (λ o. o.number) (sym i))
 
 into_begun : (w : World) (q : Party) (i : ℕ) → IfSome (after_into w q i (w.stack q)) (λ v. Begun w v q (IntoSpawn q i))
 into_begun w q i = into_cases (λ v. Begun w v q (IntoSpawn q i)) w q i (λ z e free held. if_cond (λ v. Begun w v q (IntoSpawn q i)) (is_free ((w.stack q).top) && holds z.call (w.stack q)) _ (λ b. record {
@@ -314,7 +317,7 @@ into_begun w q i = into_cases (λ v. Begun w v q (IntoSpawn q i)) w q i (λ z e 
   last = λ y. omega arith;
   awaited = λ y. absurd (let a : false ≡ true = y in cc);
   answer = λ u r x y. absurd y;
-  body = λ u h o c r k y. absurd (cc);
+  body = λ u h o c r k m y. absurd (cc);
   scope = λ z. absurd (cc);
   leaves = λ u h t j y. subst (λ x. IsHandedOn u x) (sym j) y;
 }))
@@ -517,9 +520,9 @@ then_answers u h q n r (RunFirst o a) P g k s d y = absurd y
 then_answers u h q n r (Missing o f) P g k s d y = absurd y
 
 -- and what a scope's own Lower says of its body
-body_over : (u : World) (q : Party) (n : Plan) (r : Stage) (k : Count) (t : Then) (P : Count → Option Verdict → Type 0) → ((o : OpenCall) (c : ℕ) (d : Party) → n ≡ Open o → Ended u o.job → P (OfScope c d) None) → SaysThen u q t → SaysShare u k Body t → PartBody n r t → P k (verdict_of (Some t))
+body_over : (u : World) (q : Party) (n : Plan) (r : Stage) (k : Count) (t : Then) (P : Count → Option Verdict → Type 0) → ((o : OpenCall) (c : ℕ) (d : Party) → n ≡ Open o → o.number ≡ c → Ended u o.job → P (OfScope c d) None) → SaysThen u q t → SaysShare u k Body t → PartBody n r t → P k (verdict_of (Some t))
 body_over u q n r (OfPool p) t P g s h y = absurd h
-body_over u q n r (OfScope c d) (Await o) P g s h y = g o c d (y.0) (let a : (u.call c).job ≡ o.job = ap (λ x. (u.call x).job) (sym (h.2)) ∙ (s.0).target in subst (Ended u) a (h.1))
+body_over u q n r (OfScope c d) (Await o) P g s h y = g o c d (y.0) (h.2) (let a : (u.call c).job ≡ o.job = ap (λ x. (u.call x).job) (sym (h.2)) ∙ (s.0).target in subst (Ended u) a (h.1))
 body_over u q n r (OfScope c d) (Answers o f e) P g s h y = absurd y
 body_over u q n r (OfScope c d) (Ran t e) P g s h y = absurd y
 body_over u q n r (OfScope c d) (GiveBack m) P g s h y = absurd y
@@ -545,12 +548,12 @@ answers_pool u (OfScope c o) t n r (RunFirst m a) s y d = absurd y
 answers_pool u (OfScope c o) t n r (Missing m f) s y d = absurd y
 
 -- what a call says at its own Lower, by whose share it gives back
-lower_answers : (u : World) → JobsHold u → (q : Party) (n : Plan) (r : Stage) (k : Count) (h : Share) (t : Then) (P : Count → Option Verdict → Type 0) → ((p : ℕ) (x : Verdict) → PlanAnswers u n x → P (OfPool p) (Some x)) → ((o : OpenCall) (c : ℕ) (d : Party) → n ≡ Open o → Ended u o.job → P (OfScope c d) None) → Known u n → Says u q (LowerCount k h t) → is_undone r ≡ false → Part n r (LowerCount k h t) → P k (verdict_of (Some t))
+lower_answers : (u : World) → JobsHold u → (q : Party) (n : Plan) (r : Stage) (k : Count) (h : Share) (t : Then) (P : Count → Option Verdict → Type 0) → ((p : ℕ) (x : Verdict) → PlanAnswers u n x → P (OfPool p) (Some x)) → ((o : OpenCall) (c : ℕ) (d : Party) → n ≡ Open o → o.number ≡ c → Ended u o.job → P (OfScope c d) None) → Known u n → Says u q (LowerCount k h t) → is_undone r ≡ false → Part n r (LowerCount k h t) → P k (verdict_of (Some t))
 lower_answers u j q n r k PoolValue t P f g l s d y = absurd y
 lower_answers u j q n r k Body t P f g l s d y = body_over u q n r k t P g (s.0) (s.1) y
 lower_answers u j q n r k (OfJob a) t P f g l s d y = let z : PoolOf k = answers_pool u k a n r t (s.1) (y.1) d in subst (λ v. P v (verdict_of (Some t))) (sym z.is) (then_answers u j q n r t (P (OfPool z.pool)) (f z.pool) l (s.0) d (y.1))
 
-call_answers : (u : World) → Ground u → (q : Party) (s : Stack) (n : Plan) (r : Bool) (p : Count) (h : Share) (P : Count → Option Verdict → Type 0) → ((c : ℕ) (x : Verdict) → PlanAnswers u n x → P (OfPool c) (Some x)) → ((o : OpenCall) (c : ℕ) (d : Party) → n ≡ Open o → Ended u o.job → P (OfScope c d) None) → After u q s n r → is_at_call s (u.stack q) ≡ true → act_of q (u.stack q).top ≡ Lower p h → r ≡ false → P p (verdict_of (follows (u.stack q).top))
+call_answers : (u : World) → Ground u → (q : Party) (s : Stack) (n : Plan) (r : Bool) (p : Count) (h : Share) (P : Count → Option Verdict → Type 0) → ((c : ℕ) (x : Verdict) → PlanAnswers u n x → P (OfPool c) (Some x)) → ((o : OpenCall) (c : ℕ) (d : Party) → n ≡ Open o → o.number ≡ c → Ended u o.job → P (OfScope c d) None) → After u q s n r → is_at_call s (u.stack q) ≡ true → act_of q (u.stack q).top ≡ Lower p h → r ≡ false → P p (verdict_of (follows (u.stack q).top))
 call_answers u g q s n r p h P f b (inr k) z a d = absurd (not_at_itself s (subst (λ x. is_at_call s x ≡ true) k.back z))
 call_answers u g q s n r p h P f b (inl i) z a d =
     let l : Lowers (u.stack q).top p h = lowerer q ((u.stack q).top) p h a in
@@ -606,7 +609,7 @@ call_law h before q e w v u between b run =
       made = begun.made;
       stands = call_stands u q s n r a;
       takes = λ c z y. call_takes u g q s n r c (v.jobs - 1) (λ o z. open_job n o z ∙ begun.last (open_awaited n o z)) a z y;
-      answers = λ y p h z x d. call_answers u g q s n r p h (λ k. LowersSo e k u w.jobs (v.jobs - 1)) (begun.answer u) (λ o c b i z. begun.body u (g.calls.jobs) o c b i z) a z x d;
+      answers = λ y p h z x d. call_answers u g q s n r p h (λ k. LowersSo e k u w.calls w.jobs (v.jobs - 1)) (begun.answer u) (λ o c b i m z. begun.body u (g.calls.jobs) o c b i m z) a z x d;
       pays = λ z y. subst (λ t. (u.job t).counted ≡ false) (begun.last (begun.awaited y)) (by_refusal u g q s n r (is_returned u q s n r a z) (begun.awaited y) (either r));
       ends = λ z y t l m. begun.leaves u (g.calls.jobs) t (begun.numbers t l m) ((is_returned u q s n r a z).ends y);
       empties = λ z i y. (let c : ScopeBegun w v n = begun.scope i in let k : Returned u q s n r = is_returned u q s n r a z in scope_ended u (run_to h (before ++ (e ∷ [])) v q s u between next run) w.calls w.jobs (until_target v q s between u run w.calls c.calls ∙ c.target) (c.over u (k.ends y)) (ap (λ t. (u.job t).counted) (sym c.body) ∙ k.paid y c.awaited));

@@ -142,7 +142,7 @@ held_below w q c x [] j up k a fr s r y = cc
 held_below w q c x (f ∷ fs) j up k a fr s r y = held_or w q c f fs
     (λ z. held_at w q c x f up (k.0) (a.0) (λ t. (let b : share t f + shares_in t fs ≤ shares t (w.stack q) = s t in omega (arith, b))) z)
     (λ z. held_below w q c f fs j (frame_left w q f j (fr.0) (λ t. (let b : run_of t f + runs_in t fs ≤ worked t (w.stack q) = r t in omega (arith, b)))) (k.1) (a.1) (fr.1)
-        (λ t. (let b : share t f + shares_in t fs ≤ shares t (w.stack q) = s t in omega (arith, b))) (λ t. (let b : run_of t f + runs_in t fs ≤ worked t (w.stack q) = r t in omega (arith, b))) z)
+    (λ t. (let b : share t f + shares_in t fs ≤ shares t (w.stack q) = s t in omega (arith, b))) (λ t. (let b : run_of t f + runs_in t fs ≤ worked t (w.stack q) = r t in omega (arith, b))) z)
     y (holds_scope c f) refl
 
 free_frame : (x : Place) → is_free x ≡ true → is_frame x ≡ true

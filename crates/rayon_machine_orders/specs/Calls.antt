@@ -146,10 +146,11 @@ IsPrecedent e w first last (Some FirstFault) = (is_join e ≡ true) × HasEnded 
 IsPrecedent e w first last (Some LastFault) = HasEnded w last Fault × FirstFine e w first
 IsPrecedent e w first last (Some AllFine) = HasEnded w last Fine × FirstFine e w first
 
--- where a call is to lower a count it has its answer. A scope lowers its own count too, for its body: that is over then
-abbrev pub LowersSo : Event → Count → World → (first last : ℕ) → Option Verdict → Type 0
-LowersSo (OpenScope q p) (OfScope c o) w first last v = HasRun w last
-LowersSo e k w first last v = IsPrecedent e w first last v
+-- where a call is to lower a count it has its answer. A scope, whose call has this number, lowers its own count too, for
+-- its body: that has run then
+abbrev pub LowersSo : Event → Count → World → (call first last : ℕ) → Option Verdict → Type 0
+LowersSo (OpenScope q p) (OfScope c o) w call first last v = (c ≡ call) × HasRun w last
+LowersSo e k w call first last v = IsPrecedent e w first last v
 
 -- a stack stands on this one: it has all its frames below, and its top is another
 pub record StandsOn (s k : Stack) : Type 0 where
@@ -159,15 +160,16 @@ pub record StandsOn (s k : Stack) : Type 0 where
 -- a call that the party q began by the event e (from w to v), in a world u that the events between lead to; its jobs
 -- are the numbers that the event gave out. Until it is over the party's stack stands on what it was. Where the call's
 -- own next act is to take from a cell, that holds how the last of its jobs ended; where it is to lower the terminate
--- count, and nothing refused it, it has the answer, and the fault is the one that takes precedence. Once it is over,
--- either nothing refused it and it leaves each job as it should, or a step of it was refused and each job is given
--- back; and an install, a join and a scope have given back their share of the terminate count, which the last of the
--- jobs has. A scope that nothing refused has ended: no job of it has a share of its count, is queued or runs
+-- count, and nothing refused it, it has the answer, and the fault is the one that takes precedence; where a scope is to
+-- lower its own count, its body has run. Once it is over, either nothing refused it and it leaves each job as it should,
+-- or a step of it was refused and each job is given back; and an install, a join and a scope have given back their share
+-- of the terminate count, which the last of the jobs has. A scope that nothing refused has ended: no job of it has a
+-- share of its count, is queued or runs
 pub record CallGoes (q : Party) (e : Event) (w v u : World) (between : List Event) : Type 0 where
   pub made : v.jobs ≡ w.jobs + jobs_of e
   pub stands : StandsOn (w.stack q) (u.stack q) ⊎ (u.stack q ≡ w.stack q)
   pub takes : (c : ℕ) → is_at_call (w.stack q) (u.stack q) ≡ true → act_of q (u.stack q).top ≡ Take c → HoldsEnding u c (v.jobs - 1)
-  pub answers : is_awaited e ≡ true → (k : Count) (h : Share) → is_at_call (w.stack q) (u.stack q) ≡ true → act_of q (u.stack q).top ≡ Lower k h → is_any (is_refusal q (w.stack q)) (Some v) between ≡ false → LowersSo e k u w.jobs (v.jobs - 1) (verdict_of (follows (u.stack q).top))
+  pub answers : is_awaited e ≡ true → (k : Count) (h : Share) → is_at_call (w.stack q) (u.stack q) ≡ true → act_of q (u.stack q).top ≡ Lower k h → is_any (is_refusal q (w.stack q)) (Some v) between ≡ false → LowersSo e k u w.calls w.jobs (v.jobs - 1) (verdict_of (follows (u.stack q).top))
   pub pays : u.stack q ≡ w.stack q → is_awaited e ≡ true → (u.job (v.jobs - 1)).counted ≡ false
   pub ends : u.stack q ≡ w.stack q → is_any (is_refusal q (w.stack q)) (Some v) between ≡ false → (t : ℕ) → w.jobs ≤ t → t < v.jobs → LeavesJob e u t
   pub empties : u.stack q ≡ w.stack q → is_scope e ≡ true → is_any (is_refusal q (w.stack q)) (Some v) between ≡ false → ScopeEnded u w.calls

@@ -27,15 +27,17 @@ pub fn law_count()
 /// missing. A call that is refused has jobs that stand in no list and have never run, before its last step and for ever
 /// after. The share of the terminate count that it took is given back: from the act after the one that does it, none of
 /// its jobs is in the count, and for ever after its last step. A pool's terminate latch is set only when the pool has
-/// ended: its value is given up, no call made at it keeps a share of its terminate count, and no detached job of it is
-/// queued, in a FIFO list or running.
+/// ended: its value is given up, no call made at it keeps a share of a count, no job made at it has one, those of scopes
+/// neither, and no detached job of it is queued, in a FIFO list or running.
 /// The same is said of calls, with places named by their acts alone (`calls`): from the event by which a party begins
-/// a spawn, a spawn in order, an install or a join, to the first world in which the party's stack is again what it was,
-/// the stack stands on what it was. There each job that the event made has run once and is over, or, of a spawn, is
-/// queued, in a FIFO list, in a hand, running or over, and of a spawn in order so is the token, or it is spent; but if
-/// a step of the call itself was refused, each is handed back and has never run. What the call takes from a cell is how
-/// the last of its jobs ended. An install or a join that nothing refused has its answer where it is to lower the
-/// terminate count, and the fault is the one that comes first. Once it is over, its share is given back.
+/// a spawn, a spawn in order or into a scope, an install, a join or a scope, to the first world in which the party's
+/// stack is again what it was, the stack stands on what it was. There each job that the event made has run once and is
+/// over, as has a scope's body, or, of a spawn, is queued, in a FIFO list, in a hand, running or over, and of a spawn in
+/// order so is the token, or it is spent; but if a step of the call itself was refused, each is handed back and has
+/// never run. What the call takes from a cell is how the last of its jobs ended. An install, a join or a scope that
+/// nothing refused has its answer where it is to lower the terminate count, and the fault is the one that comes first;
+/// where a scope is to lower its own count its body has run. Once it is over, its share is given back; and no job of a
+/// scope that nothing refused has a share of the scope's count then, is queued or runs.
 /// And so it is of broadcasts (`casts`): the event gives out a piece for each worker of the pool, bound to that worker.
 /// Once the party's stack is again what it was, each piece is queued, in a hand, running or over; but if a step of the
 /// broadcast itself was refused, each is handed back, has never run, and has no share of the terminate count.

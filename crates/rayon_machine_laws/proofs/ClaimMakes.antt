@@ -27,14 +27,13 @@ use Rattle.rayon_machine_places.specs.Places.{is_member, fresh, act_of, is_free}
 use Rattle.rayon_machine_places.specs.World.{Shape, World, target_pool, target_worker, target_call, at_job}
 use Rattle.rayon_machine_places.specs.Steps.{put, put_stack, after_close, after_end, after_call, is_pool, new_job, new_call, after_spawn, after_send, after_install, after_join, step, after_feed, after_fifo, after_cast, put_pieces, new_piece, is_piece, after_scope, after_into, holds}
 use Rattle.rayon_machine_places.specs.Runs.{start, IsRun}
-use Rattle.rayon_machine_places.specs.Readers.{is_done}
 use Rattle.rayon_machine_laws.proofs.Frame.{either, and_parts, if_cond, acted_keeps, put_same, put_new, put_old, fifo_cases, piece_new, piece_old, piece_range, piece_in, piece_out, into_cases}
 use Rattle.rayon_machine_laws.proofs.Ties.{job_at, outcome}
 use Rattle.rayon_machine_laws.proofs.Events.{run_keeps}
 use Rattle.rayon_machine_laws.proofs.PlacedEvents.{IsFinal, final_left, Advance}
 use Rattle.rayon_machine_laws.proofs.PlacedRuns.{jobs_advance, step_advance, first_jobs}
 use Rattle.rayon_machine_laws.proofs.Claims.{call_kind, is_scoped, MadeAs, is_detached, SaysPlan, SaysRun, StackSays, SaysPieces, SaysLatch, Opened}
-use Rattle.rayon_machine_laws.proofs.Later.{Later, later_done, later_says, later_all, later_made, later_latch, later_stack}
+use Rattle.rayon_machine_laws.proofs.Later.{Later, later_says, later_all, later_made, later_latch, later_stack}
 use Rattle.rayon_machine_laws.proofs.ClaimRuns.{CallsHold, all_says, go_calls}
 use Rattle.rayon_machine_laws.proofs.ClaimEvents.{both, from_calls, refuse_calls, miss_calls, called_says, yield_calls, give_calls, ended_world, says_closed}
 

@@ -30,7 +30,6 @@ use Rattle.rayon_machine_places.specs.declared.state.Job.{Job}
 use Rattle.rayon_machine_places.specs.Places.{same_party, act_of, next_of, taken_number}
 use Rattle.rayon_machine_places.specs.World.{Stack, World, counts_at, Part, target_pool, target_worker, call_of, target_call, at_job, begun}
 use Rattle.rayon_machine_places.specs.Steps.{put, put_stack, part_of, after_move, jobs_after, after, is_piece, mark_pieces, marked}
-use Rattle.rayon_machine_places.specs.Readers.{is_done}
 use Rattle.rayon_machine_laws.specs.Once.{one, times}
 use Rattle.rayon_machine_laws.proofs.Frame.{either, after_kind, same_index, same_party_true, if_some_and, if_some_map, put_new, if_some_each}
 use Rattle.rayon_machine_laws.proofs.Ties.{job_at, outcome, result}
@@ -40,8 +39,8 @@ use Rattle.rayon_machine_laws.proofs.Located.{is_left, IsOnward}
 use Rattle.rayon_machine_laws.proofs.Placed.{Kept}
 use Rattle.rayon_machine_laws.proofs.PlacedEvents.{go_kept, Advance, kept_advance}
 use Rattle.rayon_machine_laws.proofs.PlacedRuns.{JobsHold, jobs_advance}
-use Rattle.rayon_machine_laws.proofs.Claims.{Opened, Left, Taking, SaysLatch, Says, StackSays, PassMove, none_passes, land_says, Learns, says_next, MadeAs, IsReady}
-use Rattle.rayon_machine_laws.proofs.Later.{Later, later_done, later_says, later_all, later_stack, Static, act_static, later_made, later_latch}
+use Rattle.rayon_machine_laws.proofs.Claims.{Opened, Left, Taking, SaysLatch, Says, StackSays, PassMove, none_passes, land_says, Learns, says_next, MadeAs}
+use Rattle.rayon_machine_laws.proofs.Later.{Later, later_says, later_all, later_stack, Static, act_static, later_made, later_latch}
 use Rattle.rayon_machine_laws.proofs.ClaimActs.{Lasting, lasting, Took, Learned, act_learned, made_held, stores, is_call, sets_call, sets_seat, Written, act_written, made_lined, lined, Lines, line_table}
 use Rattle.rayon_machine_places.specs.declared.place.Taken.{Taken}
 

@@ -22,7 +22,7 @@ use Rattle.rayon_machine_places.specs.declared.state.Letter.{Letter}
 use Rattle.rayon_machine_places.specs.declared.state.Letter.TheVariants.{Unset, Sleepy as IsSleepy, Sleeping, Set as IsSet}
 use Rattle.rayon_machine_places.specs.declared.shape.PoolShape.{PoolShape}
 use Rattle.rayon_machine_places.specs.declared.place.Settling.{Settling}
-use Rattle.rayon_machine_places.specs.Places.{plan_job, finish, settle, after_begin, after_set, act_of, next_of, taken_number, settle_count, set_call}
+use Rattle.rayon_machine_places.specs.Places.{plan_job, finish, settle, after_begin, after_set, act_of, next_of, taken_number, settle_count}
 use Rattle.rayon_machine_places.specs.World.{Shape, Stack, Counts, Part, is_held_by, letter, set_latch, effect, count_in}
 use Rattle.rayon_machine_places.specs.Steps.{back, is_piece}
 use Rattle.rayon_machine_laws.specs.Once.{one, run_of, runs_in}

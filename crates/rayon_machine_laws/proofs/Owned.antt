@@ -2,10 +2,10 @@
 -- owner
 use Rattle.rayon_machine_places.specs.declared.place.Pieces.{Pieces}
 use Rattle.rayon_machine_places.specs.declared.state.Scope.{Scope}
-use Rattle.rayon_machine_places.specs.declared.place.Count.TheVariants.{OfPool, OfScope}
+use Rattle.rayon_machine_places.specs.declared.place.Count.TheVariants.{OfPool}
 use Rattle.rayon_machine_places.specs.declared.place.Plan.{Plan}
 use Rattle.std.proofs.Common.{rules, arith, refl, sym, ◌∙◌, ap, subst, inl, inr}
-use Rattle.std.specs.Prelude.{ℕ, Bool, true, false, ◌&&◌, ◌+◌, ◌-◌, ◌==◌, ◌<◌, ◌≤◌, nat_lt, if◌then◌else◌, Option, Some, None, List, [], ◌∷◌, ◌≡◌, ◌⊎◌, IfSome, ⊤, ◌++◌, slice_get, length, zero, suc}
+use Rattle.std.specs.Prelude.{ℕ, Bool, true, false, ◌&&◌, ◌+◌, ◌-◌, ◌==◌, ◌<◌, ◌≤◌, nat_lt, if◌then◌else◌, Option, Some, None, List, [], ◌∷◌, ◌≡◌, ◌⊎◌, IfSome, ⊤, ◌++◌, slice_get, zero, suc}
 use Rattle.std.proofs.lemmas.Bool.{eqb-true, ltb-true, ltb-false}
 use Rattle.rayon_machine_places.specs.declared.place.Party.{Party}
 use Rattle.rayon_machine_places.specs.declared.place.Party.TheVariants.{Worker, Caller}
@@ -38,8 +38,8 @@ use Rattle.rayon_machine_places.specs.World.{Shape, Stack, World, Counts, Part, 
 use Rattle.rayon_machine_places.specs.Steps.{put, put_stack, after_move, with_stack, after_choice, after_refusal, can_miss, after_miss, after_close, after_end, after_call, is_pool, new_job, new_call, after_spawn, after_send, after_install, after_join, after_yield, after_end_pool, step, part_of, after_feed, after_fifo, after_cast, is_piece, new_piece, put_pieces, after_scope, after_into, holds}
 use Rattle.rayon_machine_places.specs.Runs.{first_place, start}
 use Rattle.rayon_machine_laws.proofs.Calm.{part_at, counts_seen, next_at}
-use Rattle.rayon_machine_laws.proofs.Frame.{same_party_true, if_some_and, if_some_map, if_cond, acted_keeps, either, put_same, put_new, put_old, after_kind, out_sees, fifo_cases, piece_old, piece_out, into_cases, book_sees, if_some_all}
-use Rattle.rayon_machine_laws.proofs.Owners.{own_call, kind_call, sets_for, Both, NamesFrom, plan_is, names_on, shown, count_sets}
+use Rattle.rayon_machine_laws.proofs.Frame.{same_party_true, if_some_and, if_some_map, if_cond, acted_keeps, either, put_same, put_new, put_old, after_kind, out_sees, fifo_cases, piece_old, piece_out, into_cases, if_some_all}
+use Rattle.rayon_machine_laws.proofs.Owners.{own_call, kind_call, sets_for, Both, NamesFrom, plan_is, names_on, shown}
 use Rattle.rayon_machine_laws.proofs.Ties.{job_at, shape_at, outcome, result}
 
 -- the latch of the call of this number is set for this party

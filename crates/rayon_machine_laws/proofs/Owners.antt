@@ -32,7 +32,7 @@ use Rattle.rayon_machine_places.specs.declared.act.Seen.TheVariants.{Done, Yes, 
 use Rattle.rayon_machine_places.specs.declared.shape.PoolShape.{PoolShape}
 use Rattle.rayon_machine_places.specs.declared.place.Wait.{Wait}
 use Rattle.rayon_machine_places.specs.declared.place.Settling.{Settling}
-use Rattle.rayon_machine_places.specs.Places.{own_pool, plan_pool, plan_call, after_wait, finish, walk, settle, after_set, after_found, after_news, undo, act_of, after_failure, next_of, plan_count, settle_count, set_call, after_push}
+use Rattle.rayon_machine_places.specs.Places.{own_pool, plan_call, after_wait, finish, walk, settle, after_set, after_found, undo, act_of, after_failure, next_of, plan_count, set_call}
 use Rattle.rayon_machine_places.specs.World.{Shape, Counts, Part, effect}
 use Rattle.rayon_machine_laws.proofs.Frame.{if_some_all}
 

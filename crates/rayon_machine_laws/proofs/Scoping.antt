@@ -43,7 +43,7 @@ use Rattle.rayon_machine_places.specs.Runs.{first_place, start, IsRun}
 use Rattle.rayon_machine_laws.specs.Once.{one}
 use Rattle.rayon_machine_laws.specs.Shares.{shares, is_busy, share_then, shares_in}
 use Rattle.rayon_machine_laws.specs.Counted.{is_scoped, is_of_scope, has_entry, ScopesCounted, is_detached}
-use Rattle.rayon_machine_laws.proofs.Frame.{either, same_party_true, if_some_and, if_some_map, if_cond, acted_keeps, put_same, put_new, put_old, stack_mine, after_counted, is_sharing, piece_new, piece_old, piece_out, fifo_cases, into_cases}
+use Rattle.rayon_machine_laws.proofs.Frame.{either, same_party_true, if_some_and, if_some_map, if_cond, acted_keeps, put_same, put_new, put_old, stack_mine, after_counted, is_sharing, piece_old, piece_out, fifo_cases, into_cases}
 use Rattle.rayon_machine_laws.proofs.Ties.{job_at, outcome}
 use Rattle.rayon_machine_laws.proofs.Events.{run_keeps}
 use Rattle.rayon_machine_laws.proofs.PlacedEvents.{IsFinal, Advance}

@@ -29,8 +29,9 @@ use Rattle.rayon_drive.proofs.Paths.{driven_read}
 use Rattle.rayon_tasks.specs.Tasks.{TaskOf}
 use Rattle.rayon_performers.specs.Hands.{Hands, Does, kind_of}
 use Rattle.rayon_performers.specs.Stands.{Stands}
-use Rattle.rayon_performers.specs.Waits.{Rejoined, Waited}
+use Rattle.rayon_performers.specs.Waits.{Rejoined, Waited, units_after}
 use Rattle.rayon_registry.specs.Acts.{CallMade, Lowered, Made, Worked, wait_end}
+use Rattle.rayon_registry.specs.Worker.{AfterWait, Worker as WorkerValue}
 
 module _ {X G O F : Type 0} (h : PoolShape) (i : ℕ) (m : Move) (s t : Hands X G O F) where
   abbrev pub Goes : Hands X G O F → Move → Type 0
@@ -105,6 +106,11 @@ has_ended g (HandIn p k) a n = absurd a
 has_ended g (Discard k) a n = absurd a
 has_ended g (Mark p c m) a n = absurd a
 has_ended g (HandAllBack c) a n = absurd a
+
+-- what a wait leaves of the worker value where it has ended: the units are those after its last move
+pub after_wait : {T : Type 0} (k : Target) (m : Move) (v w : WorkerValue T) → m ≡ wait_end k → w.id ≡ v.id → w.levels ≡ v.levels → w.units ≡ units_after m v.units → w.seat ≡ v.seat → w.shape ≡ v.shape → AfterWait k v w
+after_wait {T} Termination m v w e i l u s h = (i, l, subst (λ (z : Move). w.units ≡ units_after z v.units) e u, s, h)
+after_wait {T} (Answer o f) m v w e i l u s h = (i, l, subst (λ (z : Move). w.units ≡ units_after z v.units) e u, s, h)
 
 module _ {X G O F : Type 0} where
   -- a worker that has stopped has seen the latch set

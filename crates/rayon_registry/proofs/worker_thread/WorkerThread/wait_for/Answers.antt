@@ -5,7 +5,7 @@ use Rattle.rayon_machine_places.specs.declared.place.Place.TheVariants as at
 use Rattle.rayon_machine_places.specs.Places.{fresh}
 use Rattle.rayon_registry.specs.Acts.{Made, Worked, wait_end}
 use Rattle.rayon_registry.specs.Pushes.{acts_of, seat_of, shape_at, units_of}
-use Rattle.rayon_registry.proofs.Made.{above, around_task, has_ended, last, made, made_as}
+use Rattle.rayon_registry.proofs.Made.{above, after_wait, around_task, has_ended, last, made, made_as}
 use Rattle.rayon_registry.proofs.worker_thread.WorkerThread.wait_for.Goals as goal
 use Rattle.rayon_registry.proofs.worker_thread.WorkerThread.wait_for.Goals.{in_default-via-in-Enter+in_default, in_default-via-in_default}
 
@@ -61,4 +61,18 @@ returns-in_default-clause-path g c =
           let end = made_as l.shape a.shape l.seat a.seat first l.acts u.trace r (wait_end k) c.loop.invariant.5 c.loop.invariant.6 ended here in
           subst (λ z. Worked a.shape (Worker 0 a.seat) first a.acts z.trace (wait_end k)) (sym c.take_done.ensures.left)
           (c.loop.invariant.8 u.trace (wait_end k) (last a.shape (Worker 0 a.seat) first l.acts u.trace (wait_end k) end))
+    ]
+
+pub returns-in_default-clause-after : goal.returns-in_default-clause-after
+unfolding acts_of seat_of shape_at units_of
+returns-in_default-clause-after g c =
+    let r = c.wait.result in
+    let k = c.args.target in
+    elim c.in_default.branch [
+      | in_default-via-in-Enter+in_default w ↦
+          let ended = has_ended k r c.wait.ensures.ends (λ f n e. search rules) in
+          after_wait k r c.args.self.now _ ended (search rules) (search rules) (search rules) (search rules) (search rules)
+      | in_default-via-in_default w ↦
+          let ended = has_ended k r c.wait.ensures.ends (λ f n e. search rules) in
+          after_wait k r c.args.self.now _ ended (search rules) (search rules) (search rules) (search rules) (search rules)
     ]

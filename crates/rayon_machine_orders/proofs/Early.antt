@@ -406,7 +406,7 @@ give_next : (w : World) (q : Party) (p : ℕ) → IfSome (after_end_pool w q p (
 give_next w q p = if_cond (Next w) (is_free ((w.stack q).top) && (is_pool w.shape p && (w.pool p).held)) _ (λ f. quiet_next w _ (omega arith) (omega arith) (omega arith) (λ t l. refl) (λ c l. refl) (λ n z e. inl e))
 
 -- a place does not give back, or take, the share of this job
-abbrev NotGiven : Place → ℕ → Type 0
+abbrev pub NotGiven : Place → ℕ → Type 0
 NotGiven x t = ((k : Count) (n : Then) → x ≡ LowerCount k (OfJob t) n → ⊥) × ((b : Pieces) → (x ≡ RaiseForAll b) ⊎ (x ≡ LowerForAll b) → is_piece b t ≡ false)
 
 lower_stays : (w : World) (k : Count) (u : ℕ) (n : Then) (t : ℕ) → NotGiven (LowerCount k (OfJob u) n) t → (w.job t).counted ≡ true → (put w.job u (record (w.job u) { counted = false }) t).counted ≡ true
@@ -505,7 +505,7 @@ body_stays w q t c o x fs h e m z = (
     piece b s true y = absurd (let a : Detached b.pool ≡ BodyOf c o = sym ((s ((w.call c).job) y).kind) ∙ e.body in cc)
 
 -- an act
-abbrev Stays : World → Party → Place → List Place → Seen × Part → Type 0
+abbrev pub Stays : World → Party → Place → List Place → Seen × Part → Type 0
 Stays w q x fs r = (t : ℕ) → NotGiven x t → (w.job t).counted ≡ true → ((world_after w q x fs r).job t).counted ≡ true
 
 early_act : (w : World) (q : Party) (x : Place) (fs : List Place) (r : Seen × Part) → EarlyHold w → w.stack q ≡ record { top = x; below = fs } → FilledHold (world_after w q x fs r) → Lasting w (world_after w q x fs r) → Stays w q x fs r → EarlyHold (world_after w q x fs r)
@@ -530,21 +530,24 @@ early_act w q x fs r h z f l k = record {
       | inr y ↦ absurd (let b : (w.call c).count ≤ 0 = ltb-false 0 (w.call c).count y in let d : (u.call c).count ≡ 0 = (l.later).spent c m (omega (arith, b)) in omega (arith, a, d))
     ]
 
-go_early : (w : World) (q : Party) → EarlyHold w → IfSome (outcome w q (w.stack q)) (λ r. EarlyHold (result w q (w.stack q) r))
-go_early w q h = if_some_map (λ r. (FilledHold (result w q (w.stack q) r) × Ready w q ((w.stack q).top) ((w.stack q).below) r) × Stays w q ((w.stack q).top) ((w.stack q).below) r) (λ r. EarlyHold (result w q (w.stack q) r)) (λ r d. early_act w q ((w.stack q).top) ((w.stack q).below) r h refl ((d.0).0) (((d.0).1).last) (d.1)) (outcome w q (w.stack q))
-    (if_some_and (λ r. FilledHold (result w q (w.stack q) r) × Ready w q ((w.stack q).top) ((w.stack q).below) r) (Stays w q ((w.stack q).top) ((w.stack q).below)) (outcome w q (w.stack q))
-    (if_some_and (λ r. FilledHold (result w q (w.stack q) r)) (Ready w q ((w.stack q).top) ((w.stack q).below)) (outcome w q (w.stack q)) (go_fills w q (h.fills)) (ready w q ((h.fills).hold)))
-    (stays (outcome w q (w.stack q)) (λ t g c. act_stays w q ((w.stack q).top) ((w.stack q).below) t g c)))
+pub all_stays : (w : World) (q : Party) → IfSome (outcome w q (w.stack q)) (Stays w q ((w.stack q).top) ((w.stack q).below))
+all_stays w q = stays (outcome w q (w.stack q)) (λ t g c. act_stays w q ((w.stack q).top) ((w.stack q).below) t g c)
   where
     stays : (o : Option (Seen × Part)) → ((t : ℕ) → NotGiven ((w.stack q).top) t → (w.job t).counted ≡ true → IfSome o (λ r. ((world_after w q ((w.stack q).top) ((w.stack q).below) r).job t).counted ≡ true)) → IfSome o (Stays w q ((w.stack q).top) ((w.stack q).below))
     stays None f = tt
     stays (Some r) f = f
 
+pub go_early : (w : World) (q : Party) → EarlyHold w → IfSome (outcome w q (w.stack q)) (λ r. EarlyHold (result w q (w.stack q) r))
+go_early w q h = if_some_map (λ r. (FilledHold (result w q (w.stack q) r) × Ready w q ((w.stack q).top) ((w.stack q).below) r) × Stays w q ((w.stack q).top) ((w.stack q).below) r) (λ r. EarlyHold (result w q (w.stack q) r)) (λ r d. early_act w q ((w.stack q).top) ((w.stack q).below) r h refl ((d.0).0) (((d.0).1).last) (d.1)) (outcome w q (w.stack q))
+    (if_some_and (λ r. FilledHold (result w q (w.stack q) r) × Ready w q ((w.stack q).top) ((w.stack q).below) r) (Stays w q ((w.stack q).top) ((w.stack q).below)) (outcome w q (w.stack q))
+    (if_some_and (λ r. FilledHold (result w q (w.stack q) r)) (Ready w q ((w.stack q).top) ((w.stack q).below)) (outcome w q (w.stack q)) (go_fills w q (h.fills)) (ready w q ((h.fills).hold)))
+    (all_stays w q))
+
 event_next : (w : World) (e : Event) → EarlyHold w → IfSome (step w e) (Next w) → IfSome (step w e) EarlyHold
 event_next w e h n = if_some_map (λ u. (FilledHold u × Advance w u) × Next w u) EarlyHold (λ u d. early_next w u h ((d.0).0) ((d.0).1) (d.1)) (step w e)
     (if_some_and (λ u. FilledHold u × Advance w u) (Next w) (step w e) (if_some_and FilledHold (Advance w) (step w e) (step_fills w e (h.fills)) (step_advance w e (((((h.fills).hold).calls).jobs).feeds) (((((h.fills).hold).calls).jobs).ok) (((((h.fills).hold).calls).jobs).unmade))) n)
 
-step_early : (w : World) (e : Event) → EarlyHold w → IfSome (step w e) EarlyHold
+pub step_early : (w : World) (e : Event) → EarlyHold w → IfSome (step w e) EarlyHold
 step_early w (Go q) h = go_all EarlyHold w q (go_early w q h)
 step_early w (From q v) h = event_next w (From q v) h (from_next w q ((w.stack q).top) ((w.stack q).below) v)
 step_early w (Refuse q) h = event_next w (Refuse q) h (refuse_next w q ((w.stack q).top) ((w.stack q).below))
@@ -561,7 +564,7 @@ step_early w (Yield q) h = event_next w (Yield q) h (yield_next w q YieldPop)
 step_early w (YieldLocal q) h = event_next w (YieldLocal q) h (yield_next w q LocalPop)
 step_early w (EndPool q p) h = event_next w (EndPool q p) h (give_next w q p)
 
-first_early : (h : Shape) → EarlyHold (start h)
+pub first_early : (h : Shape) → EarlyHold (start h)
 first_early h = record {
   fills = first_fills h;
   entered = λ t l c o k. absurd (omega (arith, l));

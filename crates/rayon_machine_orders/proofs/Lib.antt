@@ -4,6 +4,10 @@ pub mod Keeping
 pub mod Takes
 pub mod Filled
 pub mod Early
+pub mod Books
+pub mod BookActs
+pub mod BookTouches
+pub mod BookEvents
 pub mod CallPlaces
 pub mod CallActs
 pub mod CallEvents

@@ -3,6 +3,7 @@ use Rattle.rayon_machine_laws.proofs.Endings.{ends_so, refused_so}
 use Rattle.rayon_machine_orders.proofs.Filled.{FilledHold, always_filled, takes_filled, none_missing}
 use Rattle.rayon_machine_laws.proofs.Returns.{always_returns, returned_so}
 use Rattle.rayon_machine_orders.proofs.Early.{always_early, no_early_end}
+use Rattle.rayon_machine_orders.proofs.BookEvents.{always_books, is_booked}
 use Rattle.rayon_machine_orders.proofs.Calls.{call_law}
 use Rattle.rayon_machine_orders.proofs.Casts.{cast_law}
 use Rattle.rayon_machine_orders.proofs.call_laws.law_end.Goals as goal
@@ -24,3 +25,6 @@ returns-clause-calls c = call_law
 
 pub returns-clause-casts : goal.returns-clause-casts
 returns-clause-casts c = cast_law
+
+pub returns-clause-books : goal.returns-clause-books
+returns-clause-books c h es w r = is_booked w (always_books h es w r)

@@ -1,0 +1,406 @@
+-- the events that are no acts leave the books of scopes; and what holds of the books of every world
+use Rattle.std.proofs.Common.{arith, refl, sym, ◌∙◌, ap, subst, inl, inr}
+use Rattle.std.proofs.lemmas.Bool.{eqb-true, eq-eqb, ltb-true, ltb-false}
+use Rattle.std.proofs.Math.Dec.{ltb}
+use Rattle.std.specs.Prelude.{ℕ, Bool, true, false, ◌&&◌, ◌+◌, ◌-◌, ◌==◌, ◌≤◌, ◌<◌, nat_lt, if◌then◌else◌, Option, Some, None, List, [], ◌∷◌, ◌≡◌, IfSome}
+use Rattle.rayon_machine_places.specs.declared.place.Party.{Party}
+use Rattle.rayon_machine_places.specs.declared.place.Party.TheVariants.{Worker, Caller}
+use Rattle.rayon_machine_places.specs.declared.place.Ending.{Ending}
+use Rattle.rayon_machine_places.specs.declared.place.Ending.TheVariants.{Fine, Fault}
+use Rattle.rayon_machine_places.specs.declared.place.JobKind.{JobKind}
+use Rattle.rayon_machine_places.specs.declared.place.JobKind.TheVariants.{Detached, Stored, Direct, Scoped, BodyOf, TokenOf}
+use Rattle.rayon_machine_places.specs.declared.place.Target.TheVariants.{Termination}
+use Rattle.rayon_machine_places.specs.declared.place.Plan.{Plan}
+use Rattle.rayon_machine_places.specs.declared.place.Plan.TheVariants.{Detach, Here, Send, Fork, Feed, Open, Enter}
+use Rattle.rayon_machine_places.specs.declared.place.OpenCall.{OpenCall}
+use Rattle.rayon_machine_places.specs.declared.place.Pieces.{Pieces}
+use Rattle.rayon_machine_places.specs.declared.place.Count.TheVariants.{OfPool}
+use Rattle.rayon_machine_places.specs.declared.place.Share.TheVariants.{PoolValue}
+use Rattle.rayon_machine_places.specs.declared.place.Then.TheVariants.{Resume}
+use Rattle.rayon_machine_places.specs.declared.place.Place.{Place}
+use Rattle.rayon_machine_places.specs.declared.place.Place.TheVariants.{LowerCount, ProbeWorking, PickVictim, StealFrom, YieldPop, YieldPick, YieldSteal, LocalPop, Run, RaiseCount, GrowCall, GrowScope, OpenSlot, CloseSlot, LookQueue, PushJob, AddToFifo, PushToken, TakeFromFifo, RaiseForAll, PushForAll, LowerForAll, TakeResult, FirstSide, SecondSide, ScopeBody, AtOnce, JoinProbe, Free, Stopped}
+use Rattle.rayon_machine_places.specs.declared.event.Event.{Event}
+use Rattle.rayon_machine_places.specs.declared.event.Event.TheVariants.{Go, From, Refuse, Miss, End, Spawn, Fifo, Cast, Install, Join, Scope as OpenScope, IntoSpawn, Yield, YieldLocal, EndPool}
+use Rattle.rayon_machine_places.specs.declared.state.Whereabouts.TheVariants.{Over, Running}
+use Rattle.rayon_machine_places.specs.declared.state.Job.{Job}
+use Rattle.rayon_machine_places.specs.declared.state.Call.{Call}
+use Rattle.rayon_machine_places.specs.declared.state.Slot.{Slot}
+use Rattle.rayon_machine_places.specs.declared.state.Slot.TheVariants.{Closed, Open as IsOpen, Filled}
+use Rattle.rayon_machine_places.specs.Places.{own_pool, is_member, undo, after_push, next_steal, next_yield, goes_on, is_free, fresh}
+use Rattle.rayon_machine_places.specs.World.{Shape, Stack, World, at_job}
+use Rattle.rayon_machine_places.specs.Steps.{put, put_stack, put_pieces, is_piece, with_stack, after_choice, after_refusal, can_miss, after_miss, after_resume, after_close, after_end, after_call, is_pool, new_job, new_piece, new_call, after_spawn, after_feed, after_fifo, after_cast, after_send, after_install, after_join, after_scope, after_into, holds, after_yield, after_end_pool, step}
+use Rattle.rayon_machine_places.specs.Runs.{start, first_place, IsRun}
+use Rattle.rayon_machine_laws.specs.Once.{one, runs_in}
+use Rattle.rayon_machine_laws.specs.Counted.{ScopeEnded}
+use Rattle.rayon_machine_laws.specs.Shares.{is_busy}
+use Rattle.rayon_machine_laws.proofs.Frame.{either, if_some_and, if_some_map, if_cond, and_parts, put_same, put_new, put_old, stack_mine, stack_other, into_cases, piece_old, piece_out, piece_in}
+use Rattle.rayon_machine_laws.proofs.Ties.{AllFrames, outcome, result}
+use Rattle.rayon_machine_laws.proofs.Seats.{is_frame}
+use Rattle.rayon_machine_laws.proofs.Events.{run_keeps}
+use Rattle.rayon_machine_laws.proofs.Hands.{worked}
+use Rattle.rayon_machine_laws.proofs.Located.{loc_at, is_loc, where_is, at_work, Work}
+use Rattle.rayon_machine_laws.proofs.Claims.{Opened, FirstEnds, SaysRun, Says, is_body, IsReady}
+use Rattle.rayon_machine_laws.proofs.ClaimRuns.{CallsHold, top_says, world_after}
+use Rattle.rayon_machine_laws.proofs.ClaimMakes.{below_new}
+use Rattle.rayon_machine_laws.proofs.Scoping.{ScopesHold, scopes_counted}
+use Rattle.rayon_machine_laws.proofs.ShareSteps.{Ready, self_one}
+use Rattle.rayon_machine_laws.proofs.ShareEvents.{ready}
+use Rattle.rayon_machine_orders.specs.Books.{slot_number, Written, InBook, BookDone, IsBooked}
+use Rattle.rayon_machine_orders.proofs.Takes.{seen_set, number_is}
+use Rattle.rayon_machine_orders.proofs.CallSteps.{go_all}
+use Rattle.rayon_machine_orders.proofs.Early.{EarlyHold, Stays, all_stays, go_early, step_early, first_early}
+use Rattle.rayon_machine_orders.proofs.Books.{is_unfilled, writes, book_free, AtBook, free_at, free_writes, BooksHold, Quiet, quiet_books}
+use Rattle.rayon_machine_orders.proofs.BookActs.{steal_free, yield_free, undo_free, unpushed_free, Acts}
+use Rattle.rayon_machine_orders.proofs.BookTouches.{act_books}
+
+-- what an event that is no act leaves of the jobs that were there, and what a new one is
+pub record OldJob (j i : Job) : Type 0 where
+  pub slot : i.slot ≡ j.slot
+  pub kind : i.kind ≡ j.kind
+  pub counted : i.counted ≡ j.counted
+  pub busy : is_busy i.at ≡ true → is_busy j.at ≡ true
+
+same_job : (j i : Job) → i ≡ j → OldJob j i
+same_job j i e = record { slot = ap (λ v. v.slot) e; kind = ap (λ v. v.kind) e; counted = ap (λ v. v.counted) e; busy = λ b. ap (λ v. is_busy (v.at)) (sym e) ∙ b }
+
+abbrev NewJob : World → World → ℕ → Type 0
+NewJob w u t = ((u.job t).slot ≡ Closed) × (t + 1 ≤ u.jobs → is_busy (u.job t).at ≡ false)
+
+event_quiet : (w u : World) (q : Party) (k : Stack) → ((r : Party) → u.stack r ≡ put_stack w.stack q k r) → w.jobs ≤ u.jobs → w.calls ≤ u.calls → ((t : ℕ) → t + 1 ≤ w.jobs → OldJob (w.job t) (u.job t)) → ((t : ℕ) → w.jobs ≤ t → NewJob w u t) → ((c : ℕ) → c + 1 ≤ w.calls → u.call c ≡ w.call c) → ((c : ℕ) → w.calls ≤ c → (u.call c).writer ≡ None) → AtBook u q k.top → ((c : ℕ) → writes (w.stack q).top ≡ Some c → writes k.top ≡ Some c) → Quiet w u q
+event_quiet w u q k s a b old new same fresh top wrote = record {
+  jobs = a;
+  calls = b;
+  stack = λ r d. s r ∙ stack_other w.stack q k r d;
+  top = subst (λ v. AtBook u q v.top) (sym (s q ∙ stack_mine w.stack q k)) top;
+  wrote = λ c y. ap (λ v. writes (v.top)) (s q ∙ stack_mine w.stack q k) ∙ wrote c y;
+  slot = λ t l. (old t l).slot;
+  fresh = λ t l. (new t l).0;
+  call = λ c l. (ap (λ v. v.writer) (same c l), ap (λ v. v.slots) (same c l));
+  opened = fresh;
+  kind = λ t l. (old t l).kind;
+  busy = λ t l c o y z. (old t l).busy z;
+  idle = λ t l m. (new t l).1 m;
+  counted = λ t l c o y z n. (old t l).counted ∙ n;
+}
+
+-- where no job and no call is new
+stack_quiet : (w u : World) (q : Party) (k : Stack) → BooksHold w → ((r : Party) → u.stack r ≡ put_stack w.stack q k r) → u.jobs ≡ w.jobs → u.calls ≡ w.calls → ((t : ℕ) → OldJob (w.job t) (u.job t)) → ((c : ℕ) → u.call c ≡ w.call c) → AtBook u q k.top → ((c : ℕ) → writes (w.stack q).top ≡ Some c → writes k.top ≡ Some c) → Quiet w u q
+stack_quiet w u q k h s a b old same top wrote = event_quiet w u q k s (omega (arith, a)) (omega (arith, b)) (λ t l. old t)
+    (λ t l. ((old t).slot ∙ h.unmade t l, λ m. absurd (omega (arith, a, l, m)))) (λ c l. same c) (λ c l. ap (λ v. v.writer) (same c) ∙ h.uncalled c l) top wrote
+
+-- from a place that says nothing of a book to another
+turn_quiet : (w : World) (q : Party) (x y : Place) (fs : List Place) → w.stack q ≡ record { top = x; below = fs } → BooksHold w → book_free x ≡ true → book_free y ≡ true → Quiet w (with_stack w q (record { top = y; below = fs })) q
+turn_quiet w q x y fs z h f g = stack_quiet w (with_stack w q (record { top = y; below = fs })) q (record { top = y; below = fs }) h (λ r. refl) refl refl (λ t. same_job (w.job t) (w.job t) refl) (λ c. refl)
+    (free_at (with_stack w q (record { top = y; below = fs })) q y g) (λ c e. absurd (free_writes x c f (ap (λ s. writes (s.top)) (sym z) ∙ e)))
+
+from_book : (w : World) (q : Party) (x : Place) (fs : List Place) (v : ℕ) → w.stack q ≡ record { top = x; below = fs } → BooksHold w → IfSome (after_choice w q (record { top = x; below = fs }) x v) (λ u. Quiet w u q)
+from_book w q (PickVictim k) fs v z h = if_cond (λ u. Quiet w u q) (nat_lt v (w.shape.pool (own_pool q)).workers) _ (λ b. turn_quiet w q (PickVictim k) _ fs z h refl refl)
+from_book w q YieldPick fs v z h = if_cond (λ u. Quiet w u q) (nat_lt v (w.shape.pool (own_pool q)).workers) _ (λ b. turn_quiet w q YieldPick _ fs z h refl refl)
+from_book w q _ fs v z h = tt
+
+miss_book : (w : World) (q : Party) (x : Place) (fs : List Place) → w.stack q ≡ record { top = x; below = fs } → BooksHold w → IfSome (after_miss w q (record { top = x; below = fs }) x) (λ u. Quiet w u q)
+miss_book w (Worker a b) (StealFrom k n) fs z h = if_cond (λ u. Quiet w u (Worker a b)) (can_miss w a k.victim) _ (λ y. turn_quiet w (Worker a b) (StealFrom k n) (next_steal (w.shape.pool a) (Worker a b) k n) fs z h refl (steal_free (w.shape.pool a) (Worker a b) k n))
+miss_book w (Worker a b) (YieldSteal v n) fs z h = if_cond (λ u. Quiet w u (Worker a b)) (can_miss w a v) _ (λ y. turn_quiet w (Worker a b) (YieldSteal v n) (next_yield (w.shape.pool a) (Worker a b) v n) fs z h refl (yield_free (w.shape.pool a) (Worker a b) v n))
+miss_book w (Worker a b) _ fs z h = tt
+miss_book w (Caller n) _ fs z h = tt
+
+-- a refusal
+grow_at : (w : World) (q : Party) (n : Plan) → AtBook w q (GrowCall n) → book_free (GrowCall n) ≡ true
+grow_at w q (Detach p t) y = refl
+grow_at w q (Here p t) y = refl
+grow_at w q (Send o) y = refl
+grow_at w q (Fork o a) y = refl
+grow_at w q (Feed f) y = refl
+grow_at w q (Open o) y = refl
+grow_at w q (Enter e) y = absurd y
+
+here : (w : World) (q : Party) (x : Place) (fs : List Place) → w.stack q ≡ record { top = x; below = fs } → BooksHold w → AtBook w q x
+here w q x fs z h = subst (λ k. AtBook w q (k.top)) z (h.at q)
+
+refuse_book : (w : World) (q : Party) (x : Place) (fs : List Place) → w.stack q ≡ record { top = x; below = fs } → BooksHold w → IfSome (after_refusal w q (record { top = x; below = fs })) (λ u. Quiet w u q)
+refuse_book w q (GrowCall n) fs z h = turn_quiet w q (GrowCall n) (undo n) fs z h (grow_at w q n (here w q (GrowCall n) fs z h)) (undo_free n (grow_at w q n (here w q (GrowCall n) fs z h)))
+refuse_book w q (GrowScope o) fs z h = turn_quiet w q (GrowScope o) (undo (Open o)) fs z h refl refl
+refuse_book w q (OpenSlot e) fs z h = stack_quiet w (with_stack w q (record { top = undo (Enter e); below = fs })) q (record { top = undo (Enter e); below = fs }) h (λ r. refl) refl refl (λ t. same_job (w.job t) (w.job t) refl) (λ c. refl)
+    (ap is_unfilled (here w q (OpenSlot e) fs z h)) (λ c y. absurd (let a : writes (w.stack q).top ≡ None = ap (λ s. writes (s.top)) z in let b : Some c ≡ None = sym y ∙ a in cc))
+refuse_book w q (PushJob (Enter e) v) fs z h = stack_quiet w (with_stack w q (record { top = CloseSlot e; below = fs })) q (record { top = CloseSlot e; below = fs }) h (λ r. refl) refl refl (λ t. same_job (w.job t) (w.job t) refl) (λ c. refl)
+    (let a : Written w q e = here w q (PushJob (Enter e) v) fs z h in record { writer = a.writer; number = a.number; slot = a.slot; last = a.last }) (λ c y. ap (λ s. writes (s.top)) (sym z) ∙ y)
+refuse_book w q (PushJob n v) fs z h = turn_quiet w q (PushJob n v) (after_push n) fs z h refl (unpushed_free n v refl)
+refuse_book w q (AddToFifo f) fs z h = turn_quiet w q (AddToFifo f) (undo (Feed f)) fs z h refl refl
+refuse_book w q (PushToken f v) fs z h = turn_quiet w q (PushToken f v) (TakeFromFifo f) fs z h refl refl
+refuse_book w q (PushForAll c) fs z h = turn_quiet w q (PushForAll c) (LowerForAll c) fs z h refl refl
+refuse_book w q _ fs z h = tt
+
+-- the end of a run
+goes_on_clear : (f : Place) (e : Ending) → is_frame f ≡ true → book_free (goes_on f e) ≡ true
+goes_on_clear (FirstSide o a) Fine m = refl
+goes_on_clear (FirstSide o a) Fault m = refl
+goes_on_clear (ProbeWorking k) e m = refl
+goes_on_clear (JoinProbe o) e m = refl
+goes_on_clear (SecondSide o) e m = refl
+goes_on_clear (ScopeBody o) e m = refl
+goes_on_clear (AtOnce p t) e m = refl
+goes_on_clear (Run t k) e m = refl
+goes_on_clear Free e m = refl
+goes_on_clear Stopped e m = refl
+goes_on_clear _ e m = cc
+
+resumed_clear : (fs : List Place) (d : Ending) → AllFrames fs → book_free ((after_resume fs d).top) ≡ true
+resumed_clear [] d a = refl
+resumed_clear (f ∷ fs) d a = goes_on_clear f d (a.0)
+
+run_writes : (w : World) (q : Party) (t : ℕ) (k : JobKind) (fs : List Place) (c : ℕ) → w.stack q ≡ record { top = Run t k; below = fs } → writes (w.stack q).top ≡ Some c → ⊥
+run_writes w q t k fs c z y = let a : writes (w.stack q).top ≡ None = ap (λ s. writes (s.top)) z in let b : Some c ≡ None = sym y ∙ a in cc
+
+end_book : (w : World) (q : Party) (d : Ending) (x : Place) (fs : List Place) → w.stack q ≡ record { top = x; below = fs } → BooksHold w → AllFrames fs → IfSome (after_end w q d (record { top = x; below = fs }) x) (λ u. Quiet w u q)
+end_book w q d (Run t k) fs z h a = stack_quiet w (record w { stack = put_stack w.stack q (after_close t k d fs); job = put w.job t (at_job (w.job t) (Over d)) }) q (after_close t k d fs) h (λ r. refl) refl refl old (λ c. refl) (closed k (top_says w q (Run t k) fs calls z)) (λ c y. absurd (run_writes w q t k fs c z y))
+  where
+    calls : CallsHold w
+    calls = (((h.early).fills).hold).calls
+
+    J : ℕ → Job
+    J = put w.job t (at_job (w.job t) (Over d))
+
+    old : (s : ℕ) → OldJob (w.job s) (J s)
+    old s = record {
+      slot = put_same (λ j. j.slot) w.job t (at_job (w.job t) (Over d)) s refl;
+      kind = put_same (λ j. j.kind) w.job t (at_job (w.job t) (Over d)) s refl;
+      counted = put_same (λ j. j.counted) w.job t (at_job (w.job t) (Over d)) s refl;
+      busy = by (s == t);
+    }
+      where
+        by : (b : Bool) → is_busy (if b then at_job (w.job t) (Over d) else w.job s).at ≡ true → is_busy (w.job s).at ≡ true
+        by true e = cc
+        by false e = e
+
+    running : (w.job t).at ≡ Running q
+    running = (at_work ((w.job t).at) ((w.job t).runs) q (where_is (Work q) (loc_at (w.job t)) (let a : worked t (w.stack q) ≡ is_loc (Work q) (loc_at (w.job t)) = (((calls).jobs).ok).placed (Work q) t in let b : worked t (w.stack q) ≡ (one (t == t) + runs_in t fs) = ap (worked t) z in let c : one (t == t) ≡ 1 = self_one t in omega (arith, a, b, c)))).1
+
+    closed : (k : JobKind) → SaysRun w t k → AtBook (record w { stack = put_stack w.stack q (after_close t k d fs); job = J }) q ((after_close t k d fs).top)
+    closed (Detached p) s = tt
+    closed (Stored c o) s = tt
+    closed (Scoped c o) s = ap (λ j. is_unfilled (j.slot)) (put_new w.job t (at_job (w.job t) (Over d))) ∙ h.busy t (s.0) c o (s.1) (ap is_busy running)
+    closed Direct s = free_at _ q ((after_resume fs d).top) (resumed_clear fs d a)
+    closed (TokenOf i) s = free_at _ q ((after_resume fs d).top) (resumed_clear fs d a)
+    closed (BodyOf c o) s = free_at _ q ((after_resume fs d).top) (resumed_clear fs d a)
+end_book w q d _ fs z h a = tt
+
+-- a call that begins
+place_writes : (x : Place) (c : ℕ) → is_free x ≡ true → writes x ≡ Some c → ⊥
+place_writes (LookQueue n) c f y = cc
+place_writes (PushJob n v) c f y = cc
+place_writes (CloseSlot e) c f y = cc
+place_writes _ c f y = cc
+
+old_job : (w : World) (v : Job) (t : ℕ) → t + 1 ≤ w.jobs → put w.job w.jobs v t ≡ w.job t
+old_job w v t l = put_old w.job w.jobs v t (below_new t w.jobs l)
+
+old_call : (w : World) (v : Call) (c : ℕ) → c + 1 ≤ w.calls → put w.call w.calls v c ≡ w.call c
+old_call w v c l = put_old w.call w.calls v c (below_new c w.calls l)
+
+one_new : (w : World) → BooksHold w → (v : Job) → v.slot ≡ Closed → is_busy v.at ≡ false → (t : ℕ) → w.jobs ≤ t → ((put w.job w.jobs v t).slot ≡ Closed) × (t + 1 ≤ w.jobs + 1 → is_busy (put w.job w.jobs v t).at ≡ false)
+one_new w h v s b t l = by (t == w.jobs) refl
+  where
+    by : (z : Bool) → (t == w.jobs) ≡ z → ((if z then v else w.job t).slot ≡ Closed) × (t + 1 ≤ w.jobs + 1 → is_busy (if z then v else w.job t).at ≡ false)
+    by true e = (s, λ m. b)
+    by false e = (h.unmade t l, λ m. absurd (let i : (t == w.jobs) ≡ true = eq-eqb t w.jobs (omega (arith, l, m)) in cc))
+
+two_new : (w : World) → BooksHold w → (v x : Job) → v.slot ≡ Closed → is_busy v.at ≡ false → x.slot ≡ Closed → is_busy x.at ≡ false → (t : ℕ) → w.jobs ≤ t → ((put (put w.job w.jobs v) (w.jobs + 1) x t).slot ≡ Closed) × (t + 1 ≤ w.jobs + 2 → is_busy (put (put w.job w.jobs v) (w.jobs + 1) x t).at ≡ false)
+two_new w h v x s b r d t l = by (t == (w.jobs + 1)) (t == w.jobs) refl refl
+  where
+    by : (z y : Bool) → (t == (w.jobs + 1)) ≡ z → (t == w.jobs) ≡ y → ((if z then x else (if y then v else w.job t)).slot ≡ Closed) × (t + 1 ≤ w.jobs + 2 → is_busy (if z then x else (if y then v else w.job t)).at ≡ false)
+    by true y e f = (r, λ m. d)
+    by false true e f = (s, λ m. b)
+    by false false e f = (
+      h.unmade t l,
+      λ m. absurd (elim (either (ltb t (w.jobs + 1))) [
+        | inl g ↦ (let i : t < w.jobs + 1 = ltb-true t (w.jobs + 1) g in let k : (t == w.jobs) ≡ true = eq-eqb t w.jobs (omega (arith, i, l)) in cc)
+        | inr g ↦ (let i : w.jobs + 1 ≤ t = ltb-false t (w.jobs + 1) g in let k : (t == (w.jobs + 1)) ≡ true = eq-eqb t (w.jobs + 1) (omega (arith, i, m)) in cc)
+      ]),
+    )
+
+cast_new : (w : World) → BooksHold w → (q : Party) (p : ℕ) (b : Pieces) → b.first ≡ w.jobs → (t : ℕ) → w.jobs ≤ t → ((put_pieces b (λ i j. new_piece q p i) w.job t).slot ≡ Closed) × (t + 1 ≤ w.jobs + b.workers → is_busy (put_pieces b (λ i j. new_piece q p i) w.job t).at ≡ false)
+cast_new w h q p b f t l = by (is_piece b t) refl
+  where
+    by : (z : Bool) → is_piece b t ≡ z → ((if z then new_piece q p (t - b.first) else w.job t).slot ≡ Closed) × (t + 1 ≤ w.jobs + b.workers → is_busy (if z then new_piece q p (t - b.first) else w.job t).at ≡ false)
+    by true e = (refl, λ m. refl)
+    by false e = (h.unmade t l, λ m. absurd (let i : is_piece b t ≡ true = piece_in b t (omega (arith, f, l)) (omega (arith, f, m)) in cc))
+
+new_writer : (w : World) → BooksHold w → (f : Option ℕ) (n c : ℕ) → w.calls ≤ c → (put w.call w.calls (new_call f n) c).writer ≡ None
+new_writer w h f n c l = by (c == w.calls)
+  where
+    by : (z : Bool) → (if z then new_call f n else w.call c).writer ≡ None
+    by true = refl
+    by false = h.uncalled c l
+
+-- with no new call
+begin_quiet : (w u : World) (q : Party) (y : Place) → BooksHold w → is_free (w.stack q).top ≡ true → ((r : Party) → u.stack r ≡ put_stack w.stack q (after_call (w.stack q) y) r) → w.jobs ≤ u.jobs → u.calls ≡ w.calls → ((t : ℕ) → t + 1 ≤ w.jobs → u.job t ≡ w.job t) → ((t : ℕ) → w.jobs ≤ t → NewJob w u t) → ((c : ℕ) → u.call c ≡ w.call c) → AtBook u q y → Quiet w u q
+begin_quiet w u q y h f s a b old new same top = event_quiet w u q (after_call (w.stack q) y) s a (omega (arith, b)) (λ t l. same_job (w.job t) (u.job t) (old t l)) new (λ c l. same c) (λ c l. ap (λ v. v.writer) (same c) ∙ h.uncalled c l) top (λ c e. absurd (place_writes ((w.stack q).top) c f e))
+
+spawn_book : (w : World) (q : Party) (p : ℕ) → BooksHold w → IfSome (after_spawn w q p (w.stack q)) (λ u. Quiet w u q)
+spawn_book w q p h = if_cond (λ u. Quiet w u q) (is_free ((w.stack q).top) && is_pool w.shape p) _ (λ b. begin_quiet w _ q (RaiseCount (Detach p w.jobs)) h ((and_parts (is_free ((w.stack q).top)) (is_pool w.shape p) b).0) (λ r. refl) (omega arith) refl (old_job w (new_job q p (Detached p))) (one_new w h (new_job q p (Detached p)) refl refl) (λ c. refl) tt)
+
+fifo_book : (w : World) (q : Party) (p : ℕ) → BooksHold w → IfSome (after_fifo w q p (w.stack q)) (λ u. Quiet w u q)
+fifo_book w (Caller c) p h = spawn_book w (Caller c) p h
+fifo_book w (Worker r i) p h = by (r == p) refl
+  where
+    fed : IfSome (if is_free ((w.stack (Worker p i)).top) && is_pool w.shape p then Some (after_feed w p i (w.stack (Worker p i))) else None) (λ u. Quiet w u (Worker p i))
+    fed = if_cond (λ u. Quiet w u (Worker p i)) (is_free ((w.stack (Worker p i)).top) && is_pool w.shape p) _ (λ b. begin_quiet w _ (Worker p i) (RaiseCount (Feed (record { pool = p; job = w.jobs; token = w.jobs + 1 }))) h ((and_parts (is_free ((w.stack (Worker p i)).top)) (is_pool w.shape p) b).0) (λ r. refl) (omega arith) refl
+        (λ t l. put_old (put w.job w.jobs (new_job (Worker p i) p (Detached p))) (w.jobs + 1) (new_job (Worker p i) p (TokenOf i)) t (below_new t (w.jobs + 1) (omega (arith, l))) ∙ old_job w (new_job (Worker p i) p (Detached p)) t l)
+        (two_new w h (new_job (Worker p i) p (Detached p)) (new_job (Worker p i) p (TokenOf i)) refl refl refl refl) (λ c. refl) tt)
+
+    by : (z : Bool) → (r == p) ≡ z → IfSome (if z then (if is_free ((w.stack (Worker r i)).top) && is_pool w.shape p then Some (after_feed w p i (w.stack (Worker r i))) else None) else after_spawn w (Worker r i) p (w.stack (Worker r i))) (λ u. Quiet w u (Worker r i))
+    by true z = subst (λ n. IfSome (if is_free ((w.stack (Worker n i)).top) && is_pool w.shape p then Some (after_feed w p i (w.stack (Worker n i))) else None) (λ u. Quiet w u (Worker n i))) (sym (eqb-true r p z)) fed
+    by false z = spawn_book w (Worker r i) p h
+
+cast_book : (w : World) (q : Party) (p : ℕ) → BooksHold w → IfSome (after_cast w q p (w.stack q)) (λ u. Quiet w u q)
+cast_book w q p h = if_cond (λ u. Quiet w u q) (is_free ((w.stack q).top) && is_pool w.shape p) _ (λ f. begin_quiet w _ q (RaiseForAll b) h ((and_parts (is_free ((w.stack q).top)) (is_pool w.shape p) f).0) (λ r. refl) (omega arith) refl (λ t l. piece_old b (λ i j. new_piece q p i) w.job t (piece_out b t (omega (arith, l)))) (cast_new w h q p b refl) (λ c. refl) tt)
+  where
+    b : Pieces
+    b = record { pool = p; first = w.jobs; workers = (w.shape.pool p).workers }
+
+-- with one
+open_quiet : (w u : World) (q : Party) (y : Place) (f : Option ℕ) (n : ℕ) → BooksHold w → is_free (w.stack q).top ≡ true → ((r : Party) → u.stack r ≡ put_stack w.stack q (after_call (w.stack q) y) r) → w.jobs ≤ u.jobs → u.calls ≡ w.calls + 1 → ((t : ℕ) → t + 1 ≤ w.jobs → u.job t ≡ w.job t) → ((t : ℕ) → w.jobs ≤ t → NewJob w u t) → ((c : ℕ) → u.call c ≡ put w.call w.calls (new_call f n) c) → AtBook u q y → Quiet w u q
+open_quiet w u q y f n h e s a b old new same top = event_quiet w u q (after_call (w.stack q) y) s a (omega (arith, b)) (λ t l. same_job (w.job t) (u.job t) (old t l)) new (λ c l. same c ∙ old_call w (new_call f n) c l) (λ c l. ap (λ v. v.writer) (same c) ∙ new_writer w h f n c l) top (λ c i. absurd (place_writes ((w.stack q).top) c e i))
+
+sent_book : (w : World) (q : Party) (p : ℕ) (b : Bool) → BooksHold w → is_free ((w.stack q).top) ≡ true → Quiet w (after_send w q p (w.stack q) b) q
+sent_book w q p true h f = begin_quiet w _ q (RaiseCount (Here p w.jobs)) h f (λ r. refl) (omega arith) refl (old_job w (new_job q p Direct)) (one_new w h (new_job q p Direct) refl refl) (λ c. refl) tt
+sent_book w q p false h f = open_quiet w _ q (RaiseCount (Send (record { number = w.calls; pool = p; job = w.jobs }))) None w.jobs h f (λ r. refl) (omega arith) refl (old_job w (new_job q p (Stored w.calls q))) (one_new w h (new_job q p (Stored w.calls q)) refl refl) (λ c. refl) tt
+
+install_book : (w : World) (q : Party) (p : ℕ) → BooksHold w → IfSome (after_install w q p (w.stack q)) (λ u. Quiet w u q)
+install_book w q p h = if_cond (λ u. Quiet w u q) (is_free ((w.stack q).top) && is_pool w.shape p) _ (λ e. sent_book w q p (is_member q p) h ((and_parts (is_free ((w.stack q).top)) (is_pool w.shape p) e).0))
+
+join_book : (w : World) (q : Party) → BooksHold w → IfSome (after_join w q (w.stack q)) (λ u. Quiet w u q)
+join_book w (Worker p i) h = if_cond (λ u. Quiet w u (Worker p i)) (is_free ((w.stack (Worker p i)).top)) _ (λ f. open_quiet w _ (Worker p i) (RaiseCount (Fork (record { number = w.calls; pool = p; job = w.jobs + 1 }) w.jobs)) (Some w.jobs) (w.jobs + 1) h f (λ r. refl) (omega arith) refl
+    (λ t l. put_old (put w.job w.jobs (new_job (Worker p i) p Direct)) (w.jobs + 1) (new_job (Worker p i) p (Stored w.calls (Worker p i))) t (below_new t (w.jobs + 1) (omega (arith, l))) ∙ old_job w (new_job (Worker p i) p Direct) t l)
+    (two_new w h (new_job (Worker p i) p Direct) (new_job (Worker p i) p (Stored w.calls (Worker p i))) refl refl refl refl) (λ c. refl) tt)
+join_book w (Caller n) h = tt
+
+scope_book : (w : World) (q : Party) (p : ℕ) → BooksHold w → IfSome (after_scope w q p (w.stack q)) (λ u. Quiet w u q)
+scope_book w q p h = if_cond (λ u. Quiet w u q) (is_free ((w.stack q).top) && is_pool w.shape p) _ (λ b. open_quiet w _ q (RaiseCount (Open (record { number = w.calls; pool = p; job = w.jobs }))) None w.jobs h ((and_parts (is_free ((w.stack q).top)) (is_pool w.shape p) b).0) (λ r. refl) (omega arith) refl (old_job w (new_job q p (BodyOf w.calls q))) (one_new w h (new_job q p (BodyOf w.calls q)) refl refl) (λ c. refl) tt)
+
+into_book : (w : World) (q : Party) (n : ℕ) → BooksHold w → IfSome (after_into w q n (w.stack q)) (λ u. Quiet w u q)
+into_book w q n h = into_cases (λ u. Quiet w u q) w q n (λ z e free held. if_cond (λ u. Quiet w u q) (is_free ((w.stack q).top) && holds z.call (w.stack q)) _ (λ b. begin_quiet w _ q (RaiseCount (Enter (record { call = z.call; owner = z.owner; pool = z.pool; job = w.jobs }))) h free (λ r. refl) (omega arith) refl (old_job w (new_job q z.pool (Scoped z.call z.owner))) (one_new w h (new_job q z.pool (Scoped z.call z.owner)) refl refl) (λ c. refl) (ap (λ j. j.slot) (put_new w.job w.jobs (new_job q z.pool (Scoped z.call z.owner))))))
+
+yield_book : (w : World) (q : Party) (x : Place) → book_free x ≡ true → BooksHold w → IfSome (after_yield w q (w.stack q) x) (λ u. Quiet w u q)
+yield_book w (Worker a b) x e h = if_cond (λ u. Quiet w u (Worker a b)) (is_free ((w.stack (Worker a b)).top)) _ (λ f. stack_quiet w _ (Worker a b) (after_call (w.stack (Worker a b)) x) h (λ r. refl) refl refl (λ t. same_job (w.job t) (w.job t) refl) (λ c. refl) (free_at _ (Worker a b) x e) (λ c i. absurd (place_writes ((w.stack (Worker a b)).top) c f i)))
+yield_book w (Caller n) x e h = tt
+
+give_book : (w : World) (q : Party) (p : ℕ) → BooksHold w → IfSome (after_end_pool w q p (w.stack q)) (λ u. Quiet w u q)
+give_book w q p h = if_cond (λ u. Quiet w u q) (is_free ((w.stack q).top) && (is_pool w.shape p && (w.pool p).held)) _ (λ b. stack_quiet w _ q (after_call (w.stack q) (LowerCount (OfPool p) PoolValue Resume)) h (λ r. refl) refl refl (λ t. same_job (w.job t) (w.job t) refl) (λ c. refl) tt (λ c i. absurd (place_writes ((w.stack q).top) c ((and_parts (is_free ((w.stack q).top)) (is_pool w.shape p && (w.pool p).held) b).0) i)))
+
+-- each step keeps what holds of the books
+go_books : (w : World) (q : Party) → BooksHold w → IfSome (outcome w q (w.stack q)) (λ r. BooksHold (result w q (w.stack q) r))
+go_books w q h =
+    let x : Place = (w.stack q).top in let fs : List Place = (w.stack q).below in
+    if_some_map (λ r. (EarlyHold (world_after w q x fs r) × Ready w q x fs r) × (Stays w q x fs r × Acts w q x fs r)) (λ r. BooksHold (result w q (w.stack q) r)) (λ r d. (d.1).1 ((d.0).0) ((d.0).1) ((d.1).0)) (outcome w q (w.stack q))
+    (if_some_and (λ r. EarlyHold (world_after w q x fs r) × Ready w q x fs r) (λ r. Stays w q x fs r × Acts w q x fs r) (outcome w q (w.stack q))
+    (if_some_and (λ r. EarlyHold (world_after w q x fs r)) (Ready w q x fs) (outcome w q (w.stack q)) (go_early w q (h.early)) (ready w q (((h.early).fills).hold)))
+    (if_some_and (Stays w q x fs) (Acts w q x fs) (outcome w q (w.stack q)) (all_stays w q) (act_books w q x fs refl h)))
+
+quiet_step : (w : World) (e : Event) (q : Party) → BooksHold w → IfSome (step w e) (λ u. Quiet w u q) → IfSome (step w e) BooksHold
+quiet_step w e q h b = if_some_map (λ u. EarlyHold u × Quiet w u q) BooksHold (λ u d. quiet_books w u q h (d.0) (d.1)) (step w e) (if_some_and EarlyHold (λ u. Quiet w u q) (step w e) (step_early w e (h.early)) b)
+
+step_books : (w : World) (e : Event) → BooksHold w → IfSome (step w e) BooksHold
+step_books w (Go q) h = go_all BooksHold w q (go_books w q h)
+step_books w (From q v) h = quiet_step w (From q v) q h (from_book w q ((w.stack q).top) ((w.stack q).below) v refl h)
+step_books w (Refuse q) h = quiet_step w (Refuse q) q h (refuse_book w q ((w.stack q).top) ((w.stack q).below) refl h)
+step_books w (Miss q) h = quiet_step w (Miss q) q h (miss_book w q ((w.stack q).top) ((w.stack q).below) refl h)
+step_books w (End q d) h = quiet_step w (End q d) q h (end_book w q d ((w.stack q).top) ((w.stack q).below) refl h (((h.early).fills).frames q))
+step_books w (Spawn q p) h = quiet_step w (Spawn q p) q h (spawn_book w q p h)
+step_books w (Fifo q p) h = quiet_step w (Fifo q p) q h (fifo_book w q p h)
+step_books w (Cast q p) h = quiet_step w (Cast q p) q h (cast_book w q p h)
+step_books w (Install q p) h = quiet_step w (Install q p) q h (install_book w q p h)
+step_books w (Join q) h = quiet_step w (Join q) q h (join_book w q h)
+step_books w (OpenScope q p) h = quiet_step w (OpenScope q p) q h (scope_book w q p h)
+step_books w (IntoSpawn q n) h = quiet_step w (IntoSpawn q n) q h (into_book w q n h)
+step_books w (Yield q) h = quiet_step w (Yield q) q h (yield_book w q YieldPop refl h)
+step_books w (YieldLocal q) h = quiet_step w (YieldLocal q) q h (yield_book w q LocalPop refl h)
+step_books w (EndPool q p) h = quiet_step w (EndPool q p) q h (give_book w q p h)
+
+first_clear : (h : Shape) (q : Party) → book_free (first_place h q) ≡ true
+first_clear h (Worker p i) = at (nat_lt i (h.pool p).workers) ((h.pool p).callers_own && (i == 0))
+  where
+    at : (b d : Bool) → book_free (if b then (if d then Free else ProbeWorking (fresh Termination)) else Stopped) ≡ true
+    at true true = refl
+    at true false = refl
+    at false d = refl
+first_clear h (Caller c) = at (nat_lt c h.callers)
+  where
+    at : (b : Bool) → book_free (if b then Free else Stopped) ≡ true
+    at true = refl
+    at false = refl
+
+first_books : (h : Shape) → BooksHold (start h)
+first_books h = record {
+  early = first_early h;
+  at = λ q. free_at (start h) q (first_place h q) (first_clear h q);
+  held = λ c r z. absurd (cc);
+  busy = λ t l c o k b. absurd (omega (arith, l));
+  below = λ t l c o n k z. absurd (omega (arith, l));
+  apart = λ t s l m c o p n k j y z. absurd (omega (arith, l));
+  counted = λ t l c o k z. absurd (omega (arith, l));
+  unmade = λ t l. refl;
+  uncalled = λ c l. refl;
+}
+
+pub always_books : (h : Shape) (es : List Event) (w : World) → IsRun (start h) es w → BooksHold w
+always_books h es w r = run_keeps BooksHold step_books (start h) w es (first_books h) r
+
+-- what that says of the acts on a book
+made_job : (w : World) → BooksHold w → (t n : ℕ) → slot_number (w.job t).slot ≡ Some n → t + 1 ≤ w.jobs
+made_job w h t n z = elim (either (ltb t w.jobs)) [ inl g ↦ (let b : t < w.jobs = ltb-true t w.jobs g in omega (arith, b)) | inr g ↦ absurd (let a : slot_number (w.job t).slot ≡ None = ap slot_number (h.unmade t (ltb-false t w.jobs g)) in let b : Some n ≡ None = sym z ∙ a in cc) ]
+
+-- who holds a book has a job of the scope whose number is open
+record Writes (w : World) (c : ℕ) : Type 0 where
+  job : ℕ
+  owner : Party
+  made : job + 1 ≤ w.jobs
+  kind : (w.job job).kind ≡ Scoped c owner
+  slot : is_unfilled (w.job job).slot ≡ true
+
+writes_open : (w : World) (q : Party) (x : Place) (c : ℕ) → writes x ≡ Some c → Says w q x → AtBook w q x → Writes w c
+writes_open w q (LookQueue (Enter e)) c z s a = record { job = e.job; owner = e.owner; made = (s.0).made; kind = (s.0).kind ∙ ap (λ n. Scoped n e.owner) (number_is (e.call) c z); slot = ap is_unfilled a.slot }
+writes_open w q (PushJob (Enter e) v) c z s a = record { job = e.job; owner = e.owner; made = (s.0).made; kind = (s.0).kind ∙ ap (λ n. Scoped n e.owner) (number_is (e.call) c z); slot = ap is_unfilled a.slot }
+writes_open w q (CloseSlot e) c z s a = record { job = e.job; owner = e.owner; made = (s.0).made; kind = (s.0).kind ∙ ap (λ n. Scoped n e.owner) (number_is (e.call) c z); slot = ap is_unfilled a.slot }
+writes_open w q _ c z s a = absurd (cc)
+
+-- a book whose scope has the count 0
+done_book : (w : World) → BooksHold w → (c : ℕ) → c + 1 ≤ w.calls → (w.call c).count ≡ 0 → BookDone w c
+done_book w h c l z = record { count = z; writer = by ((w.call c).writer) refl; filled = λ t n o k e. shut t n o k e }
+  where
+    scopes : ScopesHold w
+    scopes = ((h.early).fills).scopes
+
+    ended : ScopeEnded w c
+    ended = (scopes_counted w scopes).ended c l z
+
+    shut : (t n : ℕ) (o : Party) → (w.job t).kind ≡ Scoped c o → (w.job t).slot ≡ IsOpen n → ⊥
+    shut t n o k e = let a : (w.job t).counted ≡ true = h.counted t (made_job w h t n (ap slot_number e)) c o k (ap is_unfilled e) in let b : true ≡ false = sym a ∙ ended.jobs t o k in cc
+
+    by : (o : Option Party) → (w.call c).writer ≡ o → o ≡ None
+    by None e = refl
+    by (Some r) e = absurd (let y : Writes w c = writes_open w r ((w.stack r).top) c (h.held c r e) ((((((h.early).fills).hold).calls).says r).top) (h.at r) in
+        let a : (w.job y.job).counted ≡ true = h.counted (y.job) (y.made) c (y.owner) (y.kind) (y.slot) in let b : true ≡ false = sym a ∙ ended.jobs (y.job) (y.owner) (y.kind) in cc)
+
+unfilled_book : (w : World) (c t : ℕ) → ((n : ℕ) → slot_number (w.job t).slot ≡ Some n → n + 1 ≤ (w.call c).slots) → (s : Slot) → (w.job t).slot ≡ s → is_unfilled s ≡ true → InBook w c t
+unfilled_book w c t f Closed e z = cc
+unfilled_book w c t f (IsOpen n) e z = record { number = n; slot = e; within = f n (ap slot_number e) }
+unfilled_book w c t f (Filled n) e z = cc
+
+pub is_booked : (w : World) → BooksHold w → IsBooked w
+is_booked w h = record {
+  apart = λ t s c n o p k j y z. h.apart t s (made_job w h t n y) (made_job w h s n z) c o p n k j y z;
+  undo = λ q e z. subst (AtBook w q) z (h.at q);
+  store = λ q c o t d z. (let s : (t + 1 ≤ w.jobs) × ((w.job t).kind ≡ Scoped c o) × (c + 1 ≤ w.calls) × ((w.job t).at ≡ Over d) = subst (Says w q) z ((calls.says q).top) in unfilled_book w c t (λ n y. h.below t (s.0) c o n (s.1) y) ((w.job t).slot) refl (subst (AtBook w q) z (h.at q)));
+  take = λ q o f z k. take q o f z k (subst (Says w q) z ((calls.says q).top));
+}
+  where
+    calls : CallsHold w
+    calls = (((h.early).fills).hold).calls
+
+    take : (q : Party) (o : OpenCall) (f : Option Ending) → (w.stack q).top ≡ TakeResult o f → (w.job o.job).kind ≡ BodyOf o.number q → Opened w q o × FirstEnds w (w.call o.number).first f → BookDone w o.number
+    take q o f z k s = by (calls.latches (o.number) (((h.early).fills).seen q (o.number) (ap seen_set z)))
+      where
+        by : (o.number + 1 ≤ w.calls) × IsReady w o.number → BookDone w o.number
+        by (l, inl a) = absurd (let b : is_body (w.job (w.call o.number).job).kind ≡ true = ap (λ n. is_body (w.job n).kind) ((s.0).target) ∙ ap is_body k in let c : true ≡ false = sym b ∙ (a.0).1 in cc)
+        by (l, inr a) = done_book w h (o.number) l a

@@ -58,7 +58,7 @@ use Rattle.rayon_machine_laws.specs.Counted.{is_scoped}
 use Rattle.rayon_machine_laws.proofs.ShareLowers.{owner_unscoped}
 use Rattle.rayon_machine_laws.proofs.ShareSteps.{Ready, stack_after}
 use Rattle.rayon_machine_orders.proofs.Early.{EarlyHold, NotGiven, Stays}
-use Rattle.rayon_machine_orders.proofs.Books.{is_unfilled, writes, book_free, Written, AtBook, free_at, free_writes, written_kept, BooksHold, quiet_books}
+use Rattle.rayon_machine_orders.proofs.Books.{is_unfilled, writes, book_free, Written, AtBook, free_at, free_writes, free_enters, written_kept, BooksHold, quiet_books}
 
 -- a move to places that say nothing of a book
 abbrev pub Clear : Move → Type 0
@@ -433,13 +433,14 @@ Acts w q x fs r = EarlyHold (world_after w q x fs r) → Ready w q x fs r → St
 -- an act on no book
 quiet_act : (w : World) (q : Party) (x : Place) (fs : List Place) (r : Seen × Part) → w.stack q ≡ record { top = x; below = fs } → BooksHold w → is_booking x ≡ false → Unbooked (place_part w q x) r →
     (((t : ℕ) → ((world_after w q x fs r).job t).slot ≡ (w.job t).slot) → ((c : ℕ) → (((world_after w q x fs r).call c).writer ≡ (w.call c).writer) × (((world_after w q x fs r).call c).slots ≡ (w.call c).slots)) → AtBook (world_after w q x fs r) q (stack_after w q x fs (r.0)).top) →
-    ((c : ℕ) → writes x ≡ Some c → writes (stack_after w q x fs (r.0)).top ≡ Some c) → Acts w q x fs r
-quiet_act w q x fs r z h b un top wrote e d st = quiet_books w u q h e (record {
+    ((c : ℕ) → writes x ≡ Some c → writes (stack_after w q x fs (r.0)).top ≡ Some c) → ((e : Entry) → (stack_after w q x fs (r.0)).top ≡ RaiseCount (Enter e) → ⊥) → Acts w q x fs r
+quiet_act w q x fs r z h b un top wrote raised e d st = quiet_books w u q h e (record {
   jobs = omega arith;
   calls = omega arith;
   stack = λ s y. stack_other w.stack q (stack_after w q x fs (r.0)) s y;
   top = subst (λ s. AtBook u q s.top) (sym mine) (top slot call);
   wrote = λ c y. ap (λ s. writes (s.top)) mine ∙ wrote c (ap (λ s. writes (s.top)) (sym z) ∙ y);
+  enters = λ y i. absurd (raised y (ap (λ s. s.top) (sym mine) ∙ i));
   slot = λ t l. slot t;
   fresh = λ t l. slot t ∙ h.unmade t l;
   call = λ c l. call c;
@@ -462,6 +463,9 @@ quiet_act w q x fs r z h b un top wrote e d st = quiet_books w u q h e (record {
     call : (c : ℕ) → ((u.call c).writer ≡ (w.call c).writer) × ((u.call c).slots ≡ (w.call c).slots)
     call c = (put_same (λ k. k.writer) w.call (target_call (act_of q x)) (r.1.call) c (un.writer), put_same (λ k. k.slots) w.call (target_call (act_of q x)) (r.1.call) c (un.slots))
 
+clear_enters : (g : Move) (fs : List Place) (e : Entry) → AllFrames fs → Clear g → (after_move g fs).top ≡ RaiseCount (Enter e) → ⊥
+clear_enters g fs e a t z = free_enters ((after_move g fs).top) e (top_after (λ y. book_free y ≡ true) g fs t frame_clear a) z
+
 pub clear_top : (u : World) (q : Party) (g : Move) (fs : List Place) → AllFrames fs → Clear g → AtBook u q ((after_move g fs).top)
 clear_top u q g fs a t = free_at u q ((after_move g fs).top) (top_after (λ y. book_free y ≡ true) g fs t frame_clear a)
 
@@ -472,17 +476,21 @@ below_frames w q x fs z h = subst (λ k. AllFrames (k.below)) z (((h.early).fill
 pub free_act : (w : World) (q : Party) (x : Place) (fs : List Place) → w.stack q ≡ record { top = x; below = fs } → BooksHold w → book_free x ≡ true → IfSome (outcome w q (record { top = x; below = fs })) (Acts w q x fs)
 free_act w q x fs z h f = if_some_map (Unbooked (place_part w q x)) (Acts w q x fs) (λ r un. quiet_act w q x fs r z h (free_booking x f) un
     (λ s c. clear_top (world_after w q x fs r) q (next_of (w.shape.pool (target_pool q (act_of q x))) q x (r.0)) fs (below_frames w q x fs z h) (book_next (w.shape.pool (target_pool q (act_of q x))) q x (r.0) f))
-    (λ c y. absurd (free_writes x c f y))) (outcome w q (record { top = x; below = fs })) (act_unbooked w.shape q (counts_at w (target_pool q (act_of q x))) (place_part w q x) x (free_booking x f))
+    (λ c y. absurd (free_writes x c f y)) (λ y i. clear_enters (next_of (w.shape.pool (target_pool q (act_of q x))) q x (r.0)) fs y (below_frames w q x fs z h) (book_next (w.shape.pool (target_pool q (act_of q x))) q x (r.0) f) i)) (outcome w q (record { top = x; below = fs })) (act_unbooked w.shape q (counts_at w (target_pool q (act_of q x))) (place_part w q x) x (free_booking x f))
 
 -- at a place of a spawn into a scope, or of the end of a job of one
 raised_top : (u : World) (q : Party) (e : Entry) (g : PoolShape) (fs : List Place) (s : Seen) → AllFrames fs → (u.job e.job).slot ≡ Closed → AtBook u q ((after_move (next_of g q (RaiseCount (Enter e)) s) fs).top)
 raised_top u q e g fs Done a y = y
 raised_top u q e g fs _ a y = clear_top u q (HandBack (Enter e)) fs a tt
 
+raised_enters : (q : Party) (e y : Entry) (g : PoolShape) (fs : List Place) (s : Seen) → AllFrames fs → (after_move (next_of g q (RaiseCount (Enter e)) s) fs).top ≡ RaiseCount (Enter y) → ⊥
+raised_enters q e y g fs Done a z = cc
+raised_enters q e y g fs _ a z = clear_enters (HandBack (Enter e)) fs y a tt z
+
 pub raise_act : (w : World) (q : Party) (e : Entry) (fs : List Place) → w.stack q ≡ record { top = RaiseCount (Enter e); below = fs } → BooksHold w → IfSome (outcome w q (record { top = RaiseCount (Enter e); below = fs })) (Acts w q (RaiseCount (Enter e)) fs)
 raise_act w q e fs z h = if_some_map (Unbooked (place_part w q (RaiseCount (Enter e)))) (Acts w q (RaiseCount (Enter e)) fs) (λ r un. quiet_act w q (RaiseCount (Enter e)) fs r z h refl un
     (λ s c. raised_top (world_after w q (RaiseCount (Enter e)) fs r) q e (w.shape.pool (target_pool q (act_of q (RaiseCount (Enter e))))) fs (r.0) (below_frames w q (RaiseCount (Enter e)) fs z h) (s (e.job) ∙ subst (λ k. AtBook w q (k.top)) z (h.at q)))
-    (λ c y. absurd (cc))) (outcome w q (record { top = RaiseCount (Enter e); below = fs })) (act_unbooked w.shape q (counts_at w (target_pool q (act_of q (RaiseCount (Enter e))))) (place_part w q (RaiseCount (Enter e))) (RaiseCount (Enter e)) refl)
+    (λ c y. absurd (cc)) (λ y i. raised_enters q e y (w.shape.pool (target_pool q (act_of q (RaiseCount (Enter e))))) fs (r.0) (below_frames w q (RaiseCount (Enter e)) fs z h) i)) (outcome w q (record { top = RaiseCount (Enter e); below = fs })) (act_unbooked w.shape q (counts_at w (target_pool q (act_of q (RaiseCount (Enter e))))) (place_part w q (RaiseCount (Enter e))) (RaiseCount (Enter e)) refl)
 
 looked_top : (u : World) (q : Party) (e : Entry) (g : PoolShape) (fs : List Place) (s : Seen) → Written u q e → AtBook u q ((after_move (next_of g q (LookQueue (Enter e)) s) fs).top)
 looked_top u q e g fs Yes y = y
@@ -492,12 +500,16 @@ looked_writes : (q : Party) (e : Entry) (g : PoolShape) (fs : List Place) (s : S
 looked_writes q e g fs Yes = refl
 looked_writes q e g fs _ = refl
 
+looked_enters : (q : Party) (e y : Entry) (g : PoolShape) (fs : List Place) (s : Seen) → (after_move (next_of g q (LookQueue (Enter e)) s) fs).top ≡ RaiseCount (Enter y) → ⊥
+looked_enters q e y g fs Yes z = cc
+looked_enters q e y g fs _ z = cc
+
 pub look_act : (w : World) (q : Party) (e : Entry) (fs : List Place) → w.stack q ≡ record { top = LookQueue (Enter e); below = fs } → BooksHold w → IfSome (outcome w q (record { top = LookQueue (Enter e); below = fs })) (Acts w q (LookQueue (Enter e)) fs)
 look_act w q e fs z h = if_some_map (Unbooked (place_part w q (LookQueue (Enter e)))) (Acts w q (LookQueue (Enter e)) fs) (λ r un. quiet_act w q (LookQueue (Enter e)) fs r z h refl un
     (λ s c. looked_top (world_after w q (LookQueue (Enter e)) fs r) q e (w.shape.pool (target_pool q (act_of q (LookQueue (Enter e))))) fs (r.0) (written_kept w (world_after w q (LookQueue (Enter e)) fs r) q e (s (e.job)) (c (e.call)) (subst (λ k. AtBook w q (k.top)) z (h.at q))))
-    (λ c y. looked_writes q e (w.shape.pool (target_pool q (act_of q (LookQueue (Enter e))))) fs (r.0) ∙ y)) (outcome w q (record { top = LookQueue (Enter e); below = fs })) (act_unbooked w.shape q (counts_at w (target_pool q (act_of q (LookQueue (Enter e))))) (place_part w q (LookQueue (Enter e))) (LookQueue (Enter e)) refl)
+    (λ c y. looked_writes q e (w.shape.pool (target_pool q (act_of q (LookQueue (Enter e))))) fs (r.0) ∙ y) (λ y i. looked_enters q e y (w.shape.pool (target_pool q (act_of q (LookQueue (Enter e))))) fs (r.0) i)) (outcome w q (record { top = LookQueue (Enter e); below = fs })) (act_unbooked w.shape q (counts_at w (target_pool q (act_of q (LookQueue (Enter e))))) (place_part w q (LookQueue (Enter e))) (LookQueue (Enter e)) refl)
 
 pub lower_act : (w : World) (q : Party) (c : ℕ) (o : Party) (t : ℕ) (n : Then) (fs : List Place) → w.stack q ≡ record { top = LowerCount (OfScope c o) (OfJob t) n; below = fs } → BooksHold w → IfSome (outcome w q (record { top = LowerCount (OfScope c o) (OfJob t) n; below = fs })) (Acts w q (LowerCount (OfScope c o) (OfJob t) n) fs)
 lower_act w q c o t n fs z h = if_some_map (Unbooked (place_part w q (LowerCount (OfScope c o) (OfJob t) n))) (Acts w q (LowerCount (OfScope c o) (OfJob t) n) fs) (λ r un. quiet_act w q (LowerCount (OfScope c o) (OfJob t) n) fs r z h refl un
     (λ s d. clear_top (world_after w q (LowerCount (OfScope c o) (OfJob t) n) fs r) q (next_of (w.shape.pool (target_pool q (act_of q (LowerCount (OfScope c o) (OfJob t) n)))) q (LowerCount (OfScope c o) (OfJob t) n) (r.0)) fs (below_frames w q (LowerCount (OfScope c o) (OfJob t) n) fs z h) (lower_clear (w.shape.pool (target_pool q (act_of q (LowerCount (OfScope c o) (OfJob t) n)))) q (OfScope c o) (OfJob t) n (r.0)))
-    (λ d y. absurd (cc))) (outcome w q (record { top = LowerCount (OfScope c o) (OfJob t) n; below = fs })) (act_unbooked w.shape q (counts_at w (target_pool q (act_of q (LowerCount (OfScope c o) (OfJob t) n)))) (place_part w q (LowerCount (OfScope c o) (OfJob t) n)) (LowerCount (OfScope c o) (OfJob t) n) refl)
+    (λ d y. absurd (cc)) (λ y i. clear_enters (next_of (w.shape.pool (target_pool q (act_of q (LowerCount (OfScope c o) (OfJob t) n)))) q (LowerCount (OfScope c o) (OfJob t) n) (r.0)) fs y (below_frames w q (LowerCount (OfScope c o) (OfJob t) n) fs z h) (lower_clear (w.shape.pool (target_pool q (act_of q (LowerCount (OfScope c o) (OfJob t) n)))) q (OfScope c o) (OfJob t) n (r.0)) i)) (outcome w q (record { top = LowerCount (OfScope c o) (OfJob t) n; below = fs })) (act_unbooked w.shape q (counts_at w (target_pool q (act_of q (LowerCount (OfScope c o) (OfJob t) n)))) (place_part w q (LowerCount (OfScope c o) (OfJob t) n)) (LowerCount (OfScope c o) (OfJob t) n) refl)

@@ -46,8 +46,8 @@ use Rattle.rayon_machine_orders.proofs.BookActs.{Acts, was_busy, with_one, free_
 touch : (w u : World) (q : Party) (t0 c0 : ℕ) (owner : Party) (x y : Place) (fs : List Place) (v : Job) (k : Call) → w.stack q ≡ record { top = x; below = fs } → t0 + 1 ≤ w.jobs → c0 + 1 ≤ w.calls → (w.job t0).kind ≡ Scoped c0 owner → u.jobs ≡ w.jobs → u.calls ≡ w.calls →
     ((r : Party) → u.stack r ≡ put_stack w.stack q (record { top = y; below = fs }) r) → ((t : ℕ) → u.job t ≡ put w.job t0 v t) → ((c : ℕ) → u.call c ≡ put w.call c0 k c) → v.kind ≡ (w.job t0).kind → v.counted ≡ (w.job t0).counted → 1 ≤ share t0 x → is_open q (w.call c0).writer ≡ true →
     AtBook u q y → ((r : Party) → k.writer ≡ Some r → (r ≡ q) × (writes y ≡ Some c0)) → ((c : ℕ) → (c == c0) ≡ false → writes x ≡ Some c → ⊥) → ((n : ℕ) → slot_number v.slot ≡ Some n → (n + 1 ≤ k.slots) × ((slot_number (w.job t0).slot ≡ Some n) ⊎ (n ≡ (w.call c0).slots))) →
-    (((w.call c0).slots ≤ k.slots) ⊎ ((slot_number (w.job t0).slot ≡ Some k.slots) × ((w.call c0).slots ≡ k.slots + 1))) → ((t : ℕ) → (t == t0) ≡ false → with_job (u.job t) ≤ with_job (w.job t)) → (is_busy v.at ≡ true → is_unfilled v.slot ≡ true) → Touched w u q t0 c0
-touch w u q t0 c0 owner x y fs v k z made known named ju cu S J C jk jc has able top holder wrote number room busy begun = record {
+    (((w.call c0).slots ≤ k.slots) ⊎ ((slot_number (w.job t0).slot ≡ Some k.slots) × ((w.call c0).slots ≡ k.slots + 1))) → ((t : ℕ) → (t == t0) ≡ false → with_job (u.job t) ≤ with_job (w.job t)) → (is_busy v.at ≡ true → is_unfilled v.slot ≡ true) → ((e : Entry) → y ≡ RaiseCount (Enter e) → ⊥) → Touched w u q t0 c0
+touch w u q t0 c0 owner x y fs v k z made known named ju cu S J C jk jc has able top holder wrote number room busy begun raised = record {
   owner = owner;
   made = made;
   known = known;
@@ -68,6 +68,7 @@ touch w u q t0 c0 owner x y fs v k z made known named ju cu S J C jk jc has able
   room = subst (λ i. ((w.call c0).slots ≤ i.slots) ⊎ ((slot_number (w.job t0).slot ≡ Some i.slots) × ((w.call c0).slots ≡ i.slots + 1))) (sym call) room;
   busy = λ t d c o kd b. was_busy (w.job t) (u.job t) c o kd (kind t) (busy t d) b;
   begun = λ b. ap (λ j. is_unfilled (j.slot)) job ∙ begun (ap (λ j. is_busy (j.at)) (sym job) ∙ b);
+  raised = λ e i. raised e (ap (λ s. s.top) (sym mine) ∙ i);
 }
   where
     mine : u.stack q ≡ record { top = y; below = fs }
@@ -111,6 +112,7 @@ opened w u q e fs z h able ju cu S J C busy = touch w u q (e.job) (e.call) (e.ow
     (inl (omega arith))
     (λ t d. (let a : with_job (u.job t) ≤ with_job (w.job t) + 0 = busy t in omega (arith, a)))
     (λ y. refl)
+    (λ x i. absurd (cc))
   where
     v : Job
     v = record (w.job e.job) { slot = IsOpen (w.call e.call).slots }
@@ -136,6 +138,7 @@ unopened w u q e fs z h able ju cu S J C busy = touch w u q (e.job) (e.call) (e.
     (inr (ap slot_number at.slot ∙ ap Some (let a : at.number + 1 ≡ (w.call e.call).slots = at.last in omega (arith, a)), (let a : at.number + 1 ≡ (w.call e.call).slots = at.last in omega (arith, a))))
     (λ t d. (let a : with_job (u.job t) ≤ with_job (w.job t) + 0 = busy t in omega (arith, a)))
     (λ y. absurd (unbusy w q (CloseSlot e) fs (e.job) (e.call) (e.owner) z h (own_share (e.job)) ((said.0).kind) y))
+    (λ x i. absurd (cc))
   where
     v : Job
     v = record (w.job e.job) { slot = Closed }
@@ -171,6 +174,7 @@ stored w u q c o t d fs z h able ju cu S J C busy = touch w u q t c o (StoreSlot
     (inl (omega arith))
     (λ n i. (let a : with_job (u.job n) ≤ with_job (w.job n) + 0 = busy n in omega (arith, a)))
     (λ y. absurd (unbusy w q (StoreSlot c o t d) fs t c o z h (own_share t) (said.1) y))
+    (λ x i. absurd (cc))
   where
     v : Job
     v = record (w.job t) { slot = filled (w.job t).slot }
@@ -203,6 +207,7 @@ pushed_on w u q e v fs at z h ju cu S J C busy = touch w u q (e.job) (e.call) (e
     (inl (omega arith))
     (λ t d. (let a : with_job (u.job t) ≤ with_job (w.job t) + one (t == e.job) = busy t in let b : one (t == e.job) ≡ 0 = ap one d in omega (arith, a, b)))
     (λ y. ap is_unfilled held.slot)
+    (λ x i. absurd (cc))
   where
     said : SaysPlan w q (Enter e)
     said = top_says w q (PushJob (Enter e) v) fs (calls_of w h) z

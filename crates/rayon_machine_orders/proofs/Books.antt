@@ -15,6 +15,7 @@ use Rattle.rayon_machine_places.specs.declared.state.Slot.{Slot}
 use Rattle.rayon_machine_places.specs.declared.state.Slot.TheVariants.{Closed, Open as IsOpen}
 use Rattle.rayon_machine_places.specs.Places.{same_party}
 use Rattle.rayon_machine_places.specs.World.{World, is_open}
+use Rattle.rayon_machine_places.specs.Steps.{holds_in}
 use Rattle.rayon_machine_laws.specs.Once.{one}
 use Rattle.rayon_machine_laws.specs.Shares.{share, shares_in, shares, is_busy}
 use Rattle.rayon_machine_laws.proofs.Frame.{either, same_party_true, same_party_refl}
@@ -84,6 +85,9 @@ free_at w q (CloseSlot e) z = cc
 free_at w q (StoreSlot c o t e) z = cc
 free_at w q (LowerCount (OfScope c o) (OfJob t) n) z = cc
 free_at w q _ z = tt
+
+pub free_enters : (x : Place) (e : Entry) → book_free x ≡ true → x ≡ RaiseCount (Enter e) → ⊥
+free_enters x e f z = let a : book_free x ≡ false = ap book_free z in let b : true ≡ false = sym f ∙ a in cc
 
 pub free_writes : (x : Place) (c : ℕ) → book_free x ≡ true → writes x ≡ Some c → ⊥
 free_writes (LookQueue (Enter e)) c z y = cc
@@ -164,6 +168,7 @@ pub record BooksHold (w : World) : Type 0 where
   pub counted : (t : ℕ) → t + 1 ≤ w.jobs → (c : ℕ) (o : Party) → (w.job t).kind ≡ Scoped c o → is_unfilled (w.job t).slot ≡ true → (w.job t).counted ≡ true
   pub unmade : (t : ℕ) → w.jobs ≤ t → (w.job t).slot ≡ Closed
   pub uncalled : (c : ℕ) → w.calls ≤ c → (w.call c).writer ≡ None
+  pub enters : (q : Party) (e : Entry) → (w.stack q).top ≡ RaiseCount (Enter e) → holds_in e.call (w.stack q).below ≡ true
 
 calls_of : (w : World) → BooksHold w → CallsHold w
 calls_of w h = (((h.early).fills).hold).calls
@@ -175,6 +180,7 @@ pub record Quiet (w u : World) (q : Party) : Type 0 where
   pub stack : (r : Party) → same_party r q ≡ false → u.stack r ≡ w.stack r
   pub top : AtBook u q (u.stack q).top
   pub wrote : (c : ℕ) → writes (w.stack q).top ≡ Some c → writes (u.stack q).top ≡ Some c
+  pub enters : (e : Entry) → (u.stack q).top ≡ RaiseCount (Enter e) → holds_in e.call (u.stack q).below ≡ true
   pub slot : (t : ℕ) → t + 1 ≤ w.jobs → (u.job t).slot ≡ (w.job t).slot
   pub fresh : (t : ℕ) → w.jobs ≤ t → (u.job t).slot ≡ Closed
   pub call : (c : ℕ) → c + 1 ≤ w.calls → ((u.call c).writer ≡ (w.call c).writer) × ((u.call c).slots ≡ (w.call c).slots)
@@ -195,10 +201,15 @@ quiet_books w u q h e k = record {
   counted = λ t l c o y z. counted t c o y z (ltb t w.jobs) refl;
   unmade = λ t l. k.fresh t (let a : w.jobs ≤ u.jobs = k.jobs in omega (arith, a, l));
   uncalled = λ c l. k.opened c (let a : w.calls ≤ u.calls = k.calls in omega (arith, a, l));
+  enters = λ r y z. enters r y (same_party r q) refl z;
 }
   where
     old : (t n : ℕ) → ltb t n ≡ true → t + 1 ≤ n
     old t n y = let i : t < n = ltb-true t n y in omega (arith, i)
+
+    enters : (r : Party) (y : Entry) (b : Bool) → same_party r q ≡ b → (u.stack r).top ≡ RaiseCount (Enter y) → holds_in y.call (u.stack r).below ≡ true
+    enters r y true d z = subst (λ s. holds_in y.call (u.stack s).below ≡ true) (sym (same_party_true r q d)) (k.enters y (ap (λ s. (u.stack s).top) (sym (same_party_true r q d)) ∙ z))
+    enters r y false d z = ap (λ s. holds_in y.call (s.below)) (k.stack r d) ∙ h.enters r y (ap (λ s. s.top) (sym (k.stack r d)) ∙ z)
 
     none : (t n : ℕ) → w.jobs ≤ t → slot_number (u.job t).slot ≡ Some n → ⊥
     none t n l z = let a : slot_number (u.job t).slot ≡ None = ap slot_number (k.fresh t l) in let b : Some n ≡ None = sym z ∙ a in cc
@@ -259,6 +270,7 @@ pub record Touched (w u : World) (q : Party) (t0 c0 : ℕ) : Type 0 where
   pub room : ((w.call c0).slots ≤ (u.call c0).slots) ⊎ ((slot_number (w.job t0).slot ≡ Some ((u.call c0).slots)) × ((w.call c0).slots ≡ (u.call c0).slots + 1))
   pub busy : (t : ℕ) → (t == t0) ≡ false → (c : ℕ) (o : Party) → (w.job t).kind ≡ Scoped c o → is_busy (u.job t).at ≡ true → is_busy (w.job t).at ≡ true
   pub begun : is_busy (u.job t0).at ≡ true → is_unfilled (u.job t0).slot ≡ true
+  pub raised : (e : Entry) → (u.stack q).top ≡ RaiseCount (Enter e) → ⊥
 
 pub touched_books : (w u : World) (q : Party) (t0 c0 : ℕ) → BooksHold w → EarlyHold u → Touched w u q t0 c0 → BooksHold u
 touched_books w u q t0 c0 h e k = record {
@@ -271,8 +283,13 @@ touched_books w u q t0 c0 h e k = record {
   counted = λ t l c o y z. counted t l c o y z (t == t0) refl;
   unmade = λ t l. k.slot t (new t l) ∙ h.unmade t (omega (arith, l, k.jobs));
   uncalled = λ c l. (k.call c (unknown c l)).0 ∙ h.uncalled c (omega (arith, l, k.calls));
+  enters = λ r y z. enters r y (same_party r q) refl z;
 }
   where
+    enters : (r : Party) (y : Entry) (b : Bool) → same_party r q ≡ b → (u.stack r).top ≡ RaiseCount (Enter y) → holds_in y.call (u.stack r).below ≡ true
+    enters r y true d z = absurd (k.raised y (ap (λ s. (u.stack s).top) (sym (same_party_true r q d)) ∙ z))
+    enters r y false d z = ap (λ s. holds_in y.call (s.below)) (k.stack r d) ∙ h.enters r y (ap (λ s. s.top) (sym (k.stack r d)) ∙ z)
+
     apart_from : (a b : ℕ) → (a ≡ b → ⊥) → (a == b) ≡ false
     apart_from a b f = elim (either (a == b)) [ inl y ↦ absurd (f (eqb-true a b y)) | inr y ↦ y ]
 

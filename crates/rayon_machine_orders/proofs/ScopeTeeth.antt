@@ -1,22 +1,23 @@
 -- wrong machines of scopes: replays, computed by the kernel, in which a changed table or act breaks the clause of a law
 -- that forbids it
 use Rattle.std.proofs.Common.{refl}
-use Rattle.std.specs.Prelude.{ℕ, true, false, ◌+◌, ◌-◌, ◌==◌, if◌then◌else◌, Some, List, [], ◌∷◌, ◌++◌, ◌≡◌, IfSome}
+use Rattle.std.specs.Prelude.{ℕ, true, false, ◌+◌, ◌-◌, ◌==◌, if◌then◌else◌, Some, None, List, [], ◌∷◌, ◌++◌, ◌≡◌, IfSome}
 use Rattle.rayon_machine_places.specs.declared.place.Party.{Party}
 use Rattle.rayon_machine_places.specs.declared.place.Ending.TheVariants.{Fine, Fault}
 use Rattle.rayon_machine_places.specs.declared.place.Plan.TheVariants.{Enter}
 use Rattle.rayon_machine_places.specs.declared.place.Count.TheVariants.{OfScope}
 use Rattle.rayon_machine_places.specs.declared.place.Share.TheVariants.{Body}
 use Rattle.rayon_machine_places.specs.declared.place.Place.{Place}
-use Rattle.rayon_machine_places.specs.declared.place.Place.TheVariants.{CloseSlot, LowerCount, GrowScope}
+use Rattle.rayon_machine_places.specs.declared.place.Place.TheVariants.{CloseSlot, LowerCount, GrowScope, OpenSlot, LookQueue, StoreSlot}
 use Rattle.rayon_machine_places.specs.declared.place.Move.{Move}
 use Rattle.rayon_machine_places.specs.declared.place.Move.TheVariants.{HandBack, Stay, Back}
 use Rattle.rayon_machine_places.specs.declared.act.Act.{Act}
-use Rattle.rayon_machine_places.specs.declared.act.Act.TheVariants.{Lower}
+use Rattle.rayon_machine_places.specs.declared.act.Act.TheVariants.{Lower, Take, Slot}
 use Rattle.rayon_machine_places.specs.declared.act.Seen.{Seen}
 use Rattle.rayon_machine_places.specs.declared.act.Seen.TheVariants.{Yes, No, Done}
 use Rattle.rayon_machine_places.specs.declared.event.Event.{Event}
 use Rattle.rayon_machine_places.specs.declared.event.Event.TheVariants.{Refuse, End, EndPool, Scope as OpenScope, IntoSpawn}
+use Rattle.rayon_machine_places.specs.declared.state.Slot.TheVariants.{Closed, Open as IsOpen}
 use Rattle.rayon_machine_places.specs.declared.state.Letter.TheVariants.{Unset, Set as IsSet}
 use Rattle.rayon_machine_places.specs.declared.shape.PoolShape.{PoolShape}
 use Rattle.rayon_machine_places.specs.declared.place.JobKind.TheVariants.{Scoped}
@@ -27,7 +28,7 @@ use Rattle.rayon_machine_places.specs.World.{Shape, World, Counts, Part, Outcome
 use Rattle.rayon_machine_laws.specs.Once.{one}
 use Rattle.rayon_machine_laws.specs.Shares.{shares, is_busy}
 use Rattle.rayon_machine_laws.specs.Counted.{has_entry, keeps_own}
-use Rattle.rayon_machine_orders.proofs.WrongMachines.{Machine, step_by, run_by, times_go, two, c, right}
+use Rattle.rayon_machine_orders.proofs.WrongMachines.{Machine, step_by, run_by, times_go, two, b, c, right}
 use Rattle.rayon_machine_orders.proofs.CallTeeth.{any_by, is_back, Ends}
 use Rattle.rayon_machine_orders.specs.Calls.{caller_of, is_scope, is_at_call, is_refusal}
 
@@ -150,3 +151,54 @@ record LowersUnrun (m : Machine) (q : Party) (e : Event) (between : List Event) 
 
 scope_lowers_without_its_body : IfSome (two 32) (λ w. IfSome (step_by (record { does = effect; next = runs_nothing }) w (OpenScope c 0)) (λ v. IfSome (run_by (record { does = effect; next = runs_nothing }) (Some v) (times_go c 2)) (LowersUnrun (record { does = effect; next = runs_nothing }) c (OpenScope c 0) (times_go c 2) w v)))
 scope_lowers_without_its_body = record { caller = refl; until = refl; refused = refl; own = refl; act = refl; runs = refl }
+
+-- the books of scopes: who opens a number does not hold the book
+abbrev holds_no_book : Act → Shape → Party → Counts → Part → Outcome
+holds_no_book (Slot n t) h q k m = Some (Done, record m { call = record (m.call) { slots = m.call.slots + 1 }; job = record (m.job) { slot = IsOpen m.call.slots } })
+holds_no_book act h q k m = effect act h q k m
+
+-- a worker runs a job of the scope; the caller and the worker each open a number for another, the caller first
+abbrev shared_run : List Event
+shared_run = opened ++ IntoSpawn c 0 ∷ times_go c 5 ++ times_go b 12 ++ IntoSpawn c 0 ∷ times_go c 2 ++ IntoSpawn b 0 ∷ times_go b 2
+
+-- the clause of books is broken where the caller's push is refused: its number is not the last
+record Misplaced (w : World) : Type 0 where
+  top : (w.stack c).top ≡ CloseSlot (record { call = 0; owner = c; pool = 0; job = 2 })
+  slot : (w.job 2).slot ≡ IsOpen 1
+  slots : (w.call 0).slots ≡ 3
+
+opener_leaves_the_book : IfSome (run_by (record { does = holds_no_book; next = next_of }) (two 32) (shared_run ++ times_go c 1 ++ Refuse c ∷ [])) Misplaced
+opener_leaves_the_book = record { top = refl; slot = refl; slots = refl }
+
+-- in the machine as it is the caller holds the book, and the worker's Slot is not enabled
+abbrev held_run : List Event
+held_run = opened ++ IntoSpawn c 0 ∷ times_go c 5 ++ times_go b 12 ++ IntoSpawn c 0 ∷ times_go c 2 ++ IntoSpawn b 0 ∷ times_go b 1
+
+book_has_its_holder : IfSome (run_by right (two 32) held_run) (λ w. ((w.call 0).writer ≡ Some c) × (act_of b (w.stack b).top ≡ Slot 0 3))
+book_has_its_holder = (refl, refl)
+
+book_is_held : run_by right (two 32) shared_run ≡ None
+book_is_held = refl
+
+-- a refused Slot goes on to the push
+abbrev pushes_unnumbered : PoolShape → Party → Place → Seen → Move
+pushes_unnumbered h q (OpenSlot x) e = Stay (LookQueue (Enter x))
+pushes_unnumbered h q x e = next_of h q x e
+
+-- the clause of books is broken: how the job ended is to be stored, and it has no number
+record Unnumbered (w : World) : Type 0 where
+  top : (w.stack b).top ≡ StoreSlot 0 c 1 Fine
+  slot : (w.job 1).slot ≡ Closed
+
+refused_slot_goes_on : IfSome (run_by (record { does = effect; next = pushes_unnumbered }) (two 32) (opened ++ IntoSpawn c 0 ∷ times_go c 1 ++ Refuse c ∷ times_go c 3 ++ times_go b 12 ++ End b Fine ∷ [])) Unnumbered
+refused_slot_goes_on = record { top = refl; slot = refl }
+
+-- the clause of books is broken where the end of the body sets the scope's latch: the scope is to take, and its count is
+-- not 0
+record TakesEarly (w : World) : Type 0 where
+  act : act_of c (w.stack c).top ≡ Take 0
+  count : (w.call 0).count ≡ 1
+  slot : (w.job 1).slot ≡ IsOpen 0
+
+scope_takes_early : IfSome (run_by (record { does = effect; next = sets_early }) (two 32) (opened ++ IntoSpawn c 0 ∷ times_go c 5 ++ End c Fine ∷ times_go c 4)) TakesEarly
+scope_takes_early = record { act = refl; count = refl; slot = refl }

@@ -42,9 +42,10 @@ pub fn law_count()
 /// And so it is of broadcasts (`casts`): the event gives out a piece for each worker of the pool, bound to that worker.
 /// Once the party's stack is again what it was, each piece is queued, in a hand, running or over; but if a step of the
 /// broadcast itself was refused, each is handed back, has never run, and has no share of the terminate count.
-/// Each number of a scope's book is that of one job (`books`). Who is to take a number back holds the book, and the number
-/// is its last; who stores how a job of a scope ended finds the job's number open; and where a scope is to take from its
-/// cell its count is 0, nobody holds its book, and no number of its jobs is open.
+/// Each number of a scope's book is that of one job (`books`). Who is to raise a scope's count for a job finds that it is
+/// not 0; who is to take a number back holds the book, and the number is its last; who stores how a job of a scope ended
+/// finds the job's number open; and where a scope is to take from its cell its count is 0, nobody holds its book, and no
+/// number of its jobs is open.
 /// It does not say that a call ever comes to its last step, nor that a pool ever ends.
 pub fn law_end()
     ensures ends { Always IsEnd }

@@ -2,7 +2,7 @@
 ghost use Rattle.std.specs.Prelude.{◌≡◌, ℕ, true, IfErr, IfOk, Some, None, ◌-◌};
 ghost use Rattle.rayon_machine_places.specs.declared.state.Slot.TheVariants.{Closed};
 ghost use Rattle.rayon_machine_places.specs.declared.act.Act.TheVariants.{Slot as OpenSlot};
-ghost use Rattle.rayon_machine_places.specs.World.{filled as filled_of, first_fault, is_open, Counts};
+ghost use Rattle.rayon_machine_places.specs.World.{filled as filled_of, first_fault, is_open, told as told_of, Counts};
 ghost use Rattle.rayon_machine_parts.specs.State.{Can, Does, DoesNot, is_booking, with_left_book};
 
 use crate::numbers::{Outcome, Touched};
@@ -18,6 +18,16 @@ fn kept_fault(kept: Option<u64>, job: u64, ending: Ending) -> Option<u64>
     match (kept, ending) {
         (None, Ending::Fault) => Some(job),
         _ => kept,
+    }
+}
+
+/// What a call takes whose cell holds this ending: a fault where its book keeps one.
+pub(crate) fn told(kept: Option<u64>, ending: Ending) -> Ending
+    ensures { result ≡ told_of kept ending }
+{
+    match kept {
+        Some(_) => Ending::Fault,
+        None => ending,
     }
 }
 

@@ -7,6 +7,7 @@ ghost use Rattle.rayon_machine_parts.specs.State.{Can, Does, DoesNot, census_cou
 ghost use Rattle.rayon_machine_places.specs.declared.act.Seen.TheVariants.{Word};
 ghost use Rattle.rayon_machine_places.specs.declared.act.Act.TheVariants.{Announce, Asleep, Begin, Lock, Lower, LowerAll, News, Raise, RaiseAll, Set, Sleepy, Take, TryAdd, Unlock, Wake, Wakeup};
 
+use crate::books::told;
 use rayon_machine_places::act::{Act, Seen};
 use rayon_machine_places::error::StepError;
 use rayon_machine_places::place::{Count, Latch, Party, Pieces, Share};
@@ -372,14 +373,14 @@ impl Touched {
         Touched { call, ..self }
     }
 
-    /// Takes what the call's cell holds.
+    /// Takes what the call's cell holds, and sees a fault where the call's book keeps one.
     fn take(self) -> (Seen, Touched)
         ensures { (q : AnyParty) (c : Counts) (jec_bits call : ℕ) → Does (Take call) q c jec_bits self (result.0) (result.1) }
     {
         match self.call.cell {
             None => (Seen::Missing, self),
             Some(ending) => (
-                Seen::Found(ending),
+                Seen::Found(told(self.call.fault, ending)),
                 self.with_call(Call {
                     cell: None,
                     ..self.call

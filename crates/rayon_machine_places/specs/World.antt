@@ -313,10 +313,15 @@ abbrev pub lock_wait : Part → Letter → Outcome
 lock_wait m IsSet = Some (Done, m)
 lock_wait m _ = None
 
+-- what a call takes whose cell holds this: a fault where its book keeps one
+abbrev pub told : Option ℕ → Ending → Ending
+told None e = e
+told (Some t) e = Fault
+
 -- what a cell holds is taken out
 abbrev pub found : Part → Option Ending → Outcome
 found m None = Some (Missing, m)
-found m (Some e) = Some (Found e, record m { call = record (m.call) { cell = None } })
+found m (Some e) = Some (Found (told m.call.fault e), record m { call = record (m.call) { cell = None } })
 
 -- a job that is somewhere else
 abbrev pub at_job : Job → Whereabouts → Job

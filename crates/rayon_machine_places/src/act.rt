@@ -129,7 +129,7 @@ pub enum Act {
         call: u64,
         ending: Ending,
     },
-    /// Takes what the cell of a call holds.
+    /// Takes what the cell of a call holds, and sees a fault where the call is a scope whose book keeps one.
     Take(u64),
     /// Opens the next number of a scope's book for a job, and holds the book until the party's next push or undo.
     Slot {
@@ -185,7 +185,7 @@ pub enum Seen {
     Wakes(u64),
     /// The kind of the job that was begun.
     Begun(JobKind),
-    /// The ending that the cell held.
+    /// The ending that the cell held, or the fault that the book of a scope keeps.
     Found(Ending),
     /// The job that was begun for a token, and its kind.
     Handed {

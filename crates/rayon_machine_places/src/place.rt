@@ -395,7 +395,7 @@ pub enum Place {
     UnlockWoken(Walk),
     /// An outside caller waits for its call's lock latch.
     WaitForLock(OpenCall),
-    /// Takes what the call's cell holds.
+    /// Takes what the call's cell holds, or the fault that a scope's book keeps.
     TakeResult {
         call: OpenCall,
         first: Option<Ending>,

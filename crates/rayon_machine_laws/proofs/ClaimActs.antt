@@ -24,7 +24,7 @@ use Rattle.rayon_machine_places.specs.declared.state.Letter.TheVariants.{Sleepin
 use Rattle.rayon_machine_places.specs.declared.place.OpenCall.{OpenCall}
 use Rattle.rayon_machine_places.specs.declared.place.Settling.{Settling}
 use Rattle.rayon_machine_places.specs.Places.{latch_of, act_of, next_of, taken_number, plan_job, plan_pool, is_member, plan_book}
-use Rattle.rayon_machine_places.specs.World.{Shape, Stack, World, Counts, Part, head_of, own_of, or_none, target_job, Outcome, letter, with_letter, set_latch, found, popped, take_cast, pop_injector, lowered, effect, is_open, but_last, at_job, taken_as, count_in, put_body}
+use Rattle.rayon_machine_places.specs.World.{Shape, Stack, World, Counts, Part, head_of, own_of, or_none, target_job, Outcome, letter, with_letter, set_latch, told, found, popped, take_cast, pop_injector, lowered, effect, is_open, but_last, at_job, taken_as, count_in, put_body}
 use Rattle.rayon_machine_places.specs.Steps.{put, part_of, after}
 use Rattle.rayon_machine_laws.proofs.Frame.{either, if_some_all, if_some_map, put_same, after_kind, after_pool, out_sees, undo_sees, if_cond, after_bound, book_sees}
 use Rattle.rayon_machine_laws.proofs.Hands.{held}
@@ -109,7 +109,7 @@ Learned h q m (YieldSteal v j) (Task t, n) = Took h q m (YieldSteal v j) t n
 Learned h q m YieldPopInjected (Task t, n) = Took h q m YieldPopInjected t n
 Learned h q m LocalPop (Task t, n) = Took h q m LocalPop t n
 Learned h q m LocalTakeCast (Task t, n) = Took h q m LocalTakeCast t n
-Learned h q m (TakeResult o f) (Found e, n) = m.call.cell ≡ Some e
+Learned h q m (TakeResult o f) (Found e, n) = (d : Ending) × ((m.call.cell ≡ Some d) × (e ≡ told m.call.fault d))
 Learned h q m (LowerCount p s k) (Yes, n) = count_in n p ≡ 0
 Learned h q m (LowerForAll b) (Yes, n) = n.pool.count ≡ 0
 Learned h q m (BeginTask (Plain t)) (Begun k, n) = m.job.kind ≡ k
@@ -119,7 +119,7 @@ Learned h q m _ _ = ⊤
 
 take_learned : (h : Shape) (q : Party) (m : Part) (o : OpenCall) (f : Option Ending) (x : Option Ending) → m.call.cell ≡ x → IfSome (found m x) (Learned h q m (TakeResult o f))
 take_learned h q m o f None e = tt
-take_learned h q m o f (Some d) e = e
+take_learned h q m o f (Some d) e = (d, (e, refl))
 
 lower_learned : (h : Shape) (q : Party) (m : Part) (p : Count) (s : Share) (k : Then) → Learned h q m (LowerCount p s k) ((if count_in m p == 1 then Yes else No), lowered m p s)
 lower_learned h q m p s k = by p (count_in m p == 1) refl

@@ -118,7 +118,7 @@ here_goes_on f e t z = z
 says_goes_on : (u : World) (q : Party) (f : Place) (d : Ending) (t : ℕ) → (u.job t).at ≡ Over d → Link f (Run t Direct) → Says u q f → Says u q (goes_on f d)
 says_goes_on u q (FirstSide o a) Fine t z k s = let is : Some t ≡ Some a = k a refl in let e : t ≡ a = cc in (s.0, subst (λ x. FirstEnds u x (Some Fine)) (sym (s.1)) (subst (λ n. (u.job n).at ≡ Over Fine) e z))
 says_goes_on u q (FirstSide o a) Fault t z k s = let is : Some t ≡ Some a = k a refl in let e : t ≡ a = cc in (s.0, subst (λ x. FirstEnds u x (Some Fault)) (sym (s.1)) (subst (λ n. (u.job n).at ≡ Over Fault) e z))
-says_goes_on u q (SecondSide o) d t z k s = let is : Some t ≡ Some (o.job) = k (o.job) refl in let e : t ≡ o.job = cc in ((s.0, s.1, subst (λ n. (u.job n).at ≡ Over d) e z), ((s.0).made, (s.0).pool, refl))
+says_goes_on u q (SecondSide o) d t z k s = let is : Some t ≡ Some (o.job) = k (o.job) refl in let e : t ≡ o.job = cc in ((s.0, s.1, inl (subst (λ n. (u.job n).at ≡ Over d) e z)), ((s.0).made, (s.0).pool, refl))
 says_goes_on u q (ScopeBody o) d t z k s = let is : Some t ≡ Some (o.job) = k (o.job) refl in let e : t ≡ o.job = cc in (s, subst (λ n. (u.job n).at ≡ Over d) e z)
 says_goes_on u q (AtOnce p a) d t z k s = let is : Some t ≡ Some a = k a refl in let e : t ≡ a = cc in (subst (λ n. (u.job n).at ≡ Over d) e z, (s.made, s.pool, (refl, s.kind)))
 says_goes_on u q _ d t z k s = s

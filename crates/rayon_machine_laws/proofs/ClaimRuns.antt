@@ -5,7 +5,7 @@ use Rattle.rayon_machine_places.specs.declared.place.Pieces.{Pieces}
 use Rattle.rayon_machine_places.specs.declared.state.Scope.{Scope}
 use Rattle.rayon_machine_places.specs.declared.place.Count.TheVariants.{OfPool, OfScope}
 use Rattle.std.proofs.Common.{arith, refl, sym, ◌∙◌, ap, subst, inl, inr}
-use Rattle.std.specs.Prelude.{ℕ, Bool, true, false, not, ◌&&◌, ◌+◌, ◌==◌, ◌≤◌, ◌<◌, if◌then◌else◌, Option, Some, List, ◌≡◌, IfSome, zero, suc, ◌-◌, slice_get}
+use Rattle.std.specs.Prelude.{ℕ, Bool, true, false, not, ◌&&◌, ◌+◌, ◌==◌, ◌≤◌, ◌<◌, if◌then◌else◌, Option, Some, None, List, ◌≡◌, IfSome, zero, suc, ◌-◌, slice_get}
 use Rattle.std.proofs.lemmas.Bool.{eqb-true, eq-eqb, ltb-true, ltb-false}
 use Rattle.std.proofs.Math.Dec.{ltb}
 use Rattle.rayon_machine_places.specs.declared.place.Party.{Party}
@@ -28,7 +28,8 @@ use Rattle.rayon_machine_places.specs.declared.shape.PoolShape.{PoolShape}
 use Rattle.rayon_machine_places.specs.declared.place.OpenCall.{OpenCall}
 use Rattle.rayon_machine_places.specs.declared.state.Job.{Job}
 use Rattle.rayon_machine_places.specs.Places.{same_party, act_of, next_of, taken_number}
-use Rattle.rayon_machine_places.specs.World.{Stack, World, counts_at, Part, target_pool, target_worker, call_of, target_call, at_job, begun}
+use Rattle.rayon_machine_places.specs.Readers.{is_done}
+use Rattle.rayon_machine_places.specs.World.{Stack, World, counts_at, told, Part, target_pool, target_worker, call_of, target_call, at_job, begun}
 use Rattle.rayon_machine_places.specs.Steps.{put, put_stack, part_of, after_move, jobs_after, after, is_piece, mark_pieces, marked}
 use Rattle.rayon_machine_laws.specs.Once.{one, times}
 use Rattle.rayon_machine_laws.proofs.Frame.{either, after_kind, same_index, same_party_true, if_some_and, if_some_map, put_new, if_some_each}
@@ -39,7 +40,7 @@ use Rattle.rayon_machine_laws.proofs.Located.{is_left, IsOnward}
 use Rattle.rayon_machine_laws.proofs.Placed.{Kept}
 use Rattle.rayon_machine_laws.proofs.PlacedEvents.{go_kept, Advance, kept_advance}
 use Rattle.rayon_machine_laws.proofs.PlacedRuns.{JobsHold, jobs_advance}
-use Rattle.rayon_machine_laws.proofs.Claims.{Opened, Left, Taking, SaysLatch, Says, StackSays, PassMove, none_passes, land_says, Learns, says_next, MadeAs}
+use Rattle.rayon_machine_laws.proofs.Claims.{Opened, SaysTaken, Left, Taking, SaysLatch, Says, StackSays, PassMove, none_passes, land_says, Learns, says_next, MadeAs}
 use Rattle.rayon_machine_laws.proofs.Later.{Later, later_says, later_all, later_stack, Static, act_static, later_made, later_latch}
 use Rattle.rayon_machine_laws.proofs.ClaimActs.{Lasting, lasting, Took, Learned, act_learned, made_held, stores, is_call, sets_call, sets_seat, Written, act_written, made_lined, lined, Lines, line_table}
 use Rattle.rayon_machine_places.specs.declared.place.Taken.{Taken}
@@ -89,8 +90,15 @@ place_part w q x = part_of w (target_pool q (act_of q x)) (target_worker q (act_
 begun_held : (w : World) → JobsHold w → (q : Party) (t : ℕ) (fs : List Place) → w.stack q ≡ record { top = BeginTask (Plain t); below = fs } → t + 1 ≤ w.jobs
 begun_held w h q t fs z = made_held w h q t (let a : held t (w.stack q) ≡ (one (t == t) + held_in t fs) = ap (held t) z in let b : one (t == t) ≡ 1 = ap one (eq-eqb t t refl) in omega (arith, a, b))
 
-took : (w u : World) (q : Party) (o : OpenCall) (f : Option Ending) (d : Ending) → CallsHold w → Lasting w u → Opened w q o → (w.call o.number).cell ≡ Some d → (u.job o.job).at ≡ Over d
-took w u q o f d h l s y = (l.later).over (o.job) d (subst (λ t. (w.job t).at ≡ Over d) (s.target) (h.cells (o.number) d y))
+took : (w u : World) (q : Party) (o : OpenCall) (f : Option Ending) (e : Ending) → CallsHold w → Lasting w u → Opened w q o → (d : Ending) × (((w.call o.number).cell ≡ Some d) × (e ≡ told (w.call o.number).fault d)) → SaysTaken u o.job e
+took w u q o f e h l s (d, (y, i)) = by ((w.call o.number).fault) refl
+  where
+    over : (u.job o.job).at ≡ Over d
+    over = (l.later).over (o.job) d (subst (λ t. (w.job t).at ≡ Over d) (s.target) (h.cells (o.number) d y))
+
+    by : (k : Option ℕ) → (w.call o.number).fault ≡ k → SaysTaken u o.job e
+    by None z = inl (over ∙ ap Over (sym (i ∙ ap (λ k. told k d) z)))
+    by (Some t) z = inr (ap is_done over, i ∙ ap (λ k. told k d) z)
 
 put_left : (J : ℕ → Job) (a : ℕ) (j : Job) (t : ℕ) → is_left (j.at) ≡ true → is_left (J t).at ≡ true → is_left (put J a j t).at ≡ true
 put_left J a j t y z = by (t == a)

@@ -7,7 +7,7 @@ use Rattle.std.specs.Prelude.{ℕ, Bool, true, false, ◌&&◌, ◌+◌, ◌-◌
 use Rattle.rayon_machine_places.specs.declared.place.Party.{Party}
 use Rattle.rayon_machine_places.specs.declared.place.Party.TheVariants.{Worker, Caller}
 use Rattle.rayon_machine_places.specs.declared.place.Ending.{Ending}
-use Rattle.rayon_machine_places.specs.declared.place.Ending.TheVariants.{Fine}
+use Rattle.rayon_machine_places.specs.declared.place.Ending.TheVariants.{Fine, Fault}
 use Rattle.rayon_machine_places.specs.declared.place.JobKind.{JobKind}
 use Rattle.rayon_machine_places.specs.declared.place.JobKind.TheVariants.{Detached, Stored, Direct, TokenOf, Scoped, BodyOf}
 use Rattle.rayon_machine_places.specs.declared.place.Target.{Target}
@@ -158,6 +158,14 @@ queue_plan w q (Detach p t) s = s
 queue_plan w q (Send o) s = s
 queue_plan w q (Fork o a) s = s
 
+-- what a call took: how its job ended, or, once that job is over, a fault that the book of its scope keeps
+abbrev pub SaysTaken : World → ℕ → Ending → Type 0
+SaysTaken w t e = ((w.job t).at ≡ Over e) ⊎ ((is_done (w.job t).at ≡ true) × (e ≡ Fault))
+
+pub taken_over : (w : World) (t : ℕ) (e : Ending) → SaysTaken w t e → is_done (w.job t).at ≡ true
+taken_over w t e (inl z) = ap is_done z
+taken_over w t e (inr z) = z.0
+
 abbrev pub SaysThen : World → Party → Then → Type 0
 SaysThen w q (BeginFound g x) = SaysTarget w q g × Taking w x
 SaysThen w q (LeaveWait g) = SaysTarget w q g
@@ -165,7 +173,7 @@ SaysThen w q Resume = ⊤
 SaysThen w q Called = ⊤
 SaysThen w q (Await o) = SaysTarget w q (Answer o None)
 SaysThen w q (RunFirst o a) = SaysPlan w q (Fork o a)
-SaysThen w q (Answers o f e) = Opened w q o × FirstEnds w (w.call o.number).first f × ((w.job o.job).at ≡ Over e)
+SaysThen w q (Answers o f e) = Opened w q o × FirstEnds w (w.call o.number).first f × SaysTaken w o.job e
 SaysThen w q (Missing o f) = SaysTarget w q (Answer o f)
 SaysThen w q (Ran t e) = (w.job t).at ≡ Over e
 SaysThen w q (GiveBack n) = SaysPlan w q n
@@ -403,7 +411,7 @@ Learns w (YieldSteal v n) (Task t) = Taking w t
 Learns w YieldPopInjected (Task t) = Taking w t
 Learns w LocalPop (Task t) = Taking w t
 Learns w LocalTakeCast (Task t) = Taking w t
-Learns w (TakeResult o f) (Found e) = (w.job o.job).at ≡ Over e
+Learns w (TakeResult o f) (Found e) = SaysTaken w o.job e
 Learns w (LowerCount k s n) Yes = IsZero w k
 Learns w (LowerForAll c) Yes = (w.pool c.pool).count ≡ 0
 Learns w (BeginTask (Plain t)) (Begun k) = (t + 1 ≤ w.jobs) × ((w.job t).kind ≡ k)

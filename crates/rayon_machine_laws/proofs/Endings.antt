@@ -19,11 +19,11 @@ use Rattle.rayon_machine_places.specs.declared.place.OpenCall.{OpenCall}
 use Rattle.rayon_machine_places.specs.World.{World}
 use Rattle.rayon_machine_laws.specs.Once.{one, times}
 use Rattle.rayon_machine_laws.specs.Latch.{IsLatched}
-use Rattle.rayon_machine_laws.specs.End.{HasEnded, SideEnded, SideFine, answered, IsVerdict, follows, IsEnd, IsUntouched, AllJobs, IsRefused}
+use Rattle.rayon_machine_laws.specs.End.{HasEnded, SideEnded, SideFine, answered, Takes, IsVerdict, follows, IsEnd, IsUntouched, AllJobs, IsRefused}
 use Rattle.rayon_machine_laws.proofs.Hands.{hand_plan, hand_then, hand, held}
 use Rattle.rayon_machine_laws.proofs.Located.{loc_of, loc_at, is_loc, where_is, fits, unbegun, Hand, Deck, Inj, Line, Cast}
 use Rattle.rayon_machine_laws.proofs.PlacedRuns.{JobsHold, once}
-use Rattle.rayon_machine_laws.proofs.Claims.{Opened, FirstEnds, SaysThen, Says, IsReady}
+use Rattle.rayon_machine_laws.proofs.Claims.{Opened, FirstEnds, SaysTaken, SaysThen, Says, IsReady}
 use Rattle.rayon_machine_laws.proofs.ClaimRuns.{CallsHold}
 
 -- whose latch can be set has its job over
@@ -49,18 +49,18 @@ side_fine w h (Some a) (Some Fine) n s = has_ended w h a Fine s
 side_fine w h (Some a) (Some Fault) n s = absurd (n refl)
 side_fine w h (Some a) None n s = absurd s
 
-verdict : (w : World) → JobsHold w → (o : OpenCall) (f : Option Ending) (e : Ending) → FirstEnds w (w.call o.number).first f → (w.job o.job).at ≡ Over e → IsVerdict w o (answered f e)
+verdict : (w : World) → JobsHold w → (o : OpenCall) (f : Option Ending) (e : Ending) → FirstEnds w (w.call o.number).first f → Takes w o (w.job o.job).kind e → IsVerdict w o (answered f e)
 verdict w h o (Some Fault) e s z = side_ended w h ((w.call o.number).first) (Some Fault) s
-verdict w h o (Some Fine) Fault s z = (has_ended w h (o.job) Fault z, side_fine w h ((w.call o.number).first) (Some Fine) (λ y. cc) s)
-verdict w h o (Some Fine) Fine s z = (has_ended w h (o.job) Fine z, side_fine w h ((w.call o.number).first) (Some Fine) (λ y. cc) s)
-verdict w h o None Fault s z = (has_ended w h (o.job) Fault z, side_fine w h ((w.call o.number).first) None (λ y. cc) s)
-verdict w h o None Fine s z = (has_ended w h (o.job) Fine z, side_fine w h ((w.call o.number).first) None (λ y. cc) s)
+verdict w h o (Some Fine) Fault s z = (z, side_fine w h ((w.call o.number).first) (Some Fine) (λ y. cc) s)
+verdict w h o (Some Fine) Fine s z = (z, side_fine w h ((w.call o.number).first) (Some Fine) (λ y. cc) s)
+verdict w h o None Fault s z = (z, side_fine w h ((w.call o.number).first) None (λ y. cc) s)
+verdict w h o None Fine s z = (z, side_fine w h ((w.call o.number).first) None (λ y. cc) s)
 
 some_same : {a b : Then} → Some a ≡ Some b → a ≡ b
 some_same e = cc
 
 -- what follows is what the place says of it
-follows_says : (w : World) (q : Party) (x : Place) (n : Then) → follows x ≡ Some n → Says w q x → SaysThen w q n
+pub follows_says : (w : World) (q : Party) (x : Place) (n : Then) → follows x ≡ Some n → Says w q x → SaysThen w q n
 follows_says w q (LowerCount p s k) n z y = subst (λ v. SaysThen w q v) (let e : k ≡ n = cc in e) (y.0)
 follows_says w q (SetLatch k) n z y = subst (λ v. SaysThen w q v) (let e : k.then ≡ n = some_same z in e) (y.1)
 follows_says w q (LockToSettle k) n z y = subst (λ v. SaysThen w q v) (let e : k.then ≡ n = some_same z in e) (y.1)
@@ -79,10 +79,10 @@ follows_hand t (UnlockSettled k) n z = ap (hand_then t) (some_same z)
 follows_hand t (SetLockLatch c k) n z = ap (hand_then t) (some_same z)
 follows_hand t _ n z = cc
 
-pub ends_so : (w : World) → CallsHold w → ((q : Party) (o : OpenCall) (f : Option Ending) → (w.stack q).top ≡ TakeResult o f → (w.call o.number).cell ≡ None → ⊥) → ((q : Party) (o : OpenCall) (f : Option Ending) → follows (w.stack q).top ≡ Some (Missing o f) → ⊥) → IsEnd w
-ends_so w h filled missing = record {
-  waited = λ q o f e z. (let s : Opened w q o × FirstEnds w (w.call o.number).first f × ((w.job o.job).at ≡ Over e) = follows_says w q ((w.stack q).top) (Answers o f e) z ((h.says q).top) in
-      record { own = (s.0).target; job = has_ended w (h.jobs) (o.job) e (s.2); side = side_ended w (h.jobs) ((w.call o.number).first) f (s.1); fault = verdict w (h.jobs) o f e (s.1) (s.2) });
+pub ends_so : (w : World) → CallsHold w → ((q : Party) (o : OpenCall) (f : Option Ending) (e : Ending) → follows (w.stack q).top ≡ Some (Answers o f e) → Takes w o (w.job o.job).kind e) → ((q : Party) (o : OpenCall) (f : Option Ending) → (w.stack q).top ≡ TakeResult o f → (w.call o.number).cell ≡ None → ⊥) → ((q : Party) (o : OpenCall) (f : Option Ending) → follows (w.stack q).top ≡ Some (Missing o f) → ⊥) → IsEnd w
+ends_so w h takes filled missing = record {
+  waited = λ q o f e z. (let s : Opened w q o × FirstEnds w (w.call o.number).first f × SaysTaken w o.job e = follows_says w q ((w.stack q).top) (Answers o f e) z ((h.says q).top) in
+      record { own = (s.0).target; job = takes q o f e z; side = side_ended w (h.jobs) ((w.call o.number).first) f (s.1); fault = verdict w (h.jobs) o f e (s.1) (takes q o f e z) });
   once = λ q t e z. has_ended w (h.jobs) t e (follows_says w q ((w.stack q).top) (Ran t e) z ((h.says q).top));
   filled = filled;
   missing = missing;

@@ -34,7 +34,7 @@ use Rattle.rayon_machine_places.specs.declared.place.OpenCall.{OpenCall}
 use Rattle.rayon_machine_places.specs.Places.{latch_of, act_of, own_index, plan_count}
 use Rattle.rayon_machine_places.specs.World.{Shape, Stack, World, Counts, Part, letter, with_letter, lowered, effect, count_in, raised}
 use Rattle.rayon_machine_places.specs.Readers.{is_done}
-use Rattle.rayon_machine_laws.proofs.Claims.{Opened, IsStored, call_kind, is_body, MadeAs, FirstEnds, SaysTarget, Left, Taking, is_detached, Awaited, SaysFound, SaysPlan, SaysQueue, SaysThen, SaysOwner, SaysShare, SaysLatch, SaysRun, Says, AllSay, StackSays, SaysTold, SaysPieces, SaysEntry, IsReady}
+use Rattle.rayon_machine_laws.proofs.Claims.{Opened, IsStored, call_kind, is_body, MadeAs, FirstEnds, SaysTarget, Left, Taking, is_detached, Awaited, SaysFound, SaysPlan, SaysQueue, SaysThen, SaysTaken, SaysOwner, SaysShare, SaysLatch, SaysRun, Says, AllSay, StackSays, SaysTold, SaysPieces, SaysEntry, IsReady}
 use Rattle.rayon_machine_laws.proofs.Letters.{sleepy_keeps, asleep_keeps, wake_keeps, set_keeps}
 use Rattle.rayon_machine_places.specs.declared.place.Taken.TheVariants.{Plain, Token}
 
@@ -109,18 +109,6 @@ later_told w u l q (Here p t) s = later_plan w u l q (Here p t) s
 later_told w u l q (Send o) s = later_plan w u l q (Send o) s
 later_told w u l q (Fork o a) s = later_plan w u l q (Fork o a) s
 
-later_then : (w u : World) → Later w u → (q : Party) (n : Then) → SaysThen w q n → SaysThen u q n
-later_then w u l q (BeginFound g x) s = (later_target w u l q g (s.0), later_taking w u l x (s.1))
-later_then w u l q (LeaveWait g) s = later_target w u l q g s
-later_then w u l q Resume s = tt
-later_then w u l q Called s = tt
-later_then w u l q (Await o) s = later_target w u l q (Answer o None) s
-later_then w u l q (RunFirst o a) s = later_plan w u l q (Fork o a) s
-later_then w u l q (Answers o f e) s = (later_opened w u l q o (s.0), later_first w u l (o.number) f ((s.0).number) (s.1), l.over (o.job) e (s.2))
-later_then w u l q (Missing o f) s = later_target w u l q (Answer o f) s
-later_then w u l q (Ran t e) s = l.over t e s
-later_then w u l q (GiveBack n) s = later_plan w u l q n s
-
 pub later_done : (w u : World) → Later w u → (t : ℕ) → is_done (w.job t).at ≡ true → is_done (u.job t).at ≡ true
 later_done w u l t s = by ((w.job t).at) refl s
   where
@@ -136,6 +124,23 @@ later_done w u l t s = by ((w.job t).at) refl s
     by HandedBack z d = cc
     by Spent z d = cc
     by Nowhere z d = cc
+
+-- what was taken
+later_taken : (w u : World) → Later w u → (t : ℕ) (e : Ending) → SaysTaken w t e → SaysTaken u t e
+later_taken w u l t e (inl z) = inl (l.over t e z)
+later_taken w u l t e (inr z) = inr (later_done w u l t (z.0), z.1)
+
+later_then : (w u : World) → Later w u → (q : Party) (n : Then) → SaysThen w q n → SaysThen u q n
+later_then w u l q (BeginFound g x) s = (later_target w u l q g (s.0), later_taking w u l x (s.1))
+later_then w u l q (LeaveWait g) s = later_target w u l q g s
+later_then w u l q Resume s = tt
+later_then w u l q Called s = tt
+later_then w u l q (Await o) s = later_target w u l q (Answer o None) s
+later_then w u l q (RunFirst o a) s = later_plan w u l q (Fork o a) s
+later_then w u l q (Answers o f e) s = (later_opened w u l q o (s.0), later_first w u l (o.number) f ((s.0).number) (s.1), later_taken w u l (o.job) e (s.2))
+later_then w u l q (Missing o f) s = later_target w u l q (Answer o f) s
+later_then w u l q (Ran t e) s = l.over t e s
+later_then w u l q (GiveBack n) s = later_plan w u l q n s
 
 later_owner : (w u : World) → Later w u → (t p : ℕ) (n : Then) → t + 1 ≤ w.jobs → SaysOwner w t p n → SaysOwner u t p n
 later_owner w u l t p Resume b s = (l.kind t b ∙ s.0, later_done w u l t (s.1))

@@ -1,10 +1,12 @@
 -- how calls end
 use Rattle.rayon_machine_places.specs.Steps.{is_piece}
 use Rattle.rayon_machine_places.specs.declared.place.Pieces.{Pieces}
-use Rattle.std.specs.Prelude.{ℕ, false, Option, Some, None, ◌≡◌, ⊤, true}
+use Rattle.std.specs.Prelude.{ℕ, false, Option, Some, None, ◌≡◌, ◌⊎◌, ⊤, true}
 use Rattle.rayon_machine_places.specs.declared.place.Party.{Party}
 use Rattle.rayon_machine_places.specs.declared.place.Ending.{Ending}
 use Rattle.rayon_machine_places.specs.declared.place.Ending.TheVariants.{Fine, Fault}
+use Rattle.rayon_machine_places.specs.declared.place.JobKind.{JobKind}
+use Rattle.rayon_machine_places.specs.declared.place.JobKind.TheVariants.{Scoped, BodyOf}
 use Rattle.rayon_machine_places.specs.declared.place.Plan.{Plan}
 use Rattle.rayon_machine_places.specs.declared.place.Plan.TheVariants.{Detach, Here, Send, Fork, Feed, Open, Enter}
 use Rattle.rayon_machine_places.specs.declared.place.Then.{Then}
@@ -44,17 +46,43 @@ answered (Some Fault) last = FirstFault
 answered first Fault = LastFault
 answered first Fine = AllFine
 
+-- the book of a scope, by its call, keeps no fault: its body has ended without one, and so has each job of it that is
+-- over
+pub record ScopeFine (w : World) (c : ℕ) : Type 0 where
+  pub kept : (w.call c).fault ≡ None
+  pub body : HasEnded w (w.call c).job Fine
+  pub jobs : (t : ℕ) (o : Party) (e : Ending) → (w.job t).kind ≡ Scoped c o → (w.job t).at ≡ Over e → e ≡ Fine
+
+-- it keeps the fault of the scope's body or of a job of it, which has ended so; and the body has ended
+pub record ScopeFaulted (w : World) (c : ℕ) : Type 0 where
+  pub job : ℕ
+  pub kept : (w.call c).fault ≡ Some job
+  pub ended : HasEnded w job Fault
+  pub inside : (job ≡ (w.call c).job) ⊎ ((o : Party) × ((w.job job).kind ≡ Scoped c o))
+  pub last : Ending
+  pub body : HasEnded w (w.call c).job last
+
+-- what a scope takes: a fault exactly where its book keeps one
+abbrev pub ScopeTakes : World → ℕ → Ending → Type 0
+ScopeTakes w c Fine = ScopeFine w c
+ScopeTakes w c Fault = ScopeFaulted w c
+
+-- what a call that waited for a job of this kind took: how that job ended, but of a scope, whose job is its body
+abbrev pub Takes : World → OpenCall → JobKind → Ending → Type 0
+Takes w o (BodyOf c q) e = ScopeTakes w o.number e
+Takes w o k e = HasEnded w o.job e
+
 -- what each answer tells of the call's jobs
 abbrev pub IsVerdict : World → OpenCall → Verdict → Type 0
 IsVerdict w o FirstFault = SideEnded w (w.call o.number).first (Some Fault)
-IsVerdict w o LastFault = HasEnded w o.job Fault × SideFine w (w.call o.number).first
-IsVerdict w o AllFine = HasEnded w o.job Fine × SideFine w (w.call o.number).first
+IsVerdict w o LastFault = Takes w o (w.job o.job).kind Fault × SideFine w (w.call o.number).first
+IsVerdict w o AllFine = Takes w o (w.job o.job).kind Fine × SideFine w (w.call o.number).first
 
--- a call that waited: its job has run once and ended as the call found it in its cell, and so has its first side, if it
--- is a join; the answer's fault is the one that comes first
+-- a call that waited: its job has run once and ended as the call took it, or, of a scope, the fault that it took is the
+-- one that its book keeps; its first side has run too, if it is a join; the answer's fault is the one that comes first
 pub record CallEnds (w : World) (o : OpenCall) (first : Option Ending) (last : Ending) : Type 0 where
   pub own : (w.call o.number).job ≡ o.job
-  pub job : HasEnded w o.job last
+  pub job : Takes w o (w.job o.job).kind last
   pub side : SideEnded w (w.call o.number).first first
   pub fault : IsVerdict w o (answered first last)
 

@@ -50,7 +50,7 @@ use Rattle.rayon_machine_laws.proofs.ShareSteps.{Ready, self_one}
 use Rattle.rayon_machine_laws.proofs.ShareEvents.{ready}
 use Rattle.rayon_machine_orders.specs.Books.{slot_number, Written, InBook, BookDone, IsBooked}
 use Rattle.rayon_machine_orders.proofs.Takes.{seen_set, number_is}
-use Rattle.rayon_machine_orders.proofs.CallSteps.{go_all}
+use Rattle.rayon_machine_orders.proofs.CallSteps.{mover, is_act, go_all}
 use Rattle.rayon_machine_orders.proofs.CallEvents.{whole}
 use Rattle.rayon_machine_orders.proofs.Early.{EarlyHold, Stays, all_stays, go_early, step_early, first_early}
 use Rattle.rayon_machine_orders.proofs.Books.{is_unfilled, writes, book_free, AtBook, free_at, free_writes, free_enters, BooksHold, Quiet, quiet_books}
@@ -305,7 +305,7 @@ give_book : (w : World) (q : Party) (p : ℕ) → BooksHold w → IfSome (after_
 give_book w q p h = if_cond (λ u. Quiet w u q) (is_free ((w.stack q).top) && (is_pool w.shape p && (w.pool p).held)) _ (λ b. stack_quiet w _ q (after_call (w.stack q) (LowerCount (OfPool p) PoolValue Resume)) h (λ r. refl) refl refl (λ t. same_job (w.job t) (w.job t) refl) (λ c. refl) tt (λ c i. absurd (place_writes ((w.stack q).top) c ((and_parts (is_free ((w.stack q).top)) (is_pool w.shape p && (w.pool p).held) b).0) i)) (λ x i. absurd (cc)))
 
 -- each step keeps what holds of the books
-go_books : (w : World) (q : Party) → BooksHold w → IfSome (outcome w q (w.stack q)) (λ r. BooksHold (result w q (w.stack q) r))
+pub go_books : (w : World) (q : Party) → BooksHold w → IfSome (outcome w q (w.stack q)) (λ r. BooksHold (result w q (w.stack q) r))
 go_books w q h =
     let x : Place = (w.stack q).top in let fs : List Place = (w.stack q).below in
     if_some_map (λ r. (EarlyHold (world_after w q x fs r) × Ready w q x fs r) × (Stays w q x fs r × Acts w q x fs r)) (λ r. BooksHold (result w q (w.stack q) r)) (λ r d. (d.1).1 ((d.0).0) ((d.0).1) ((d.1).0)) (outcome w q (w.stack q))
@@ -316,22 +316,26 @@ go_books w q h =
 quiet_step : (w : World) (e : Event) (q : Party) → BooksHold w → IfSome (step w e) (λ u. Quiet w u q) → IfSome (step w e) BooksHold
 quiet_step w e q h b = if_some_map (λ u. EarlyHold u × Quiet w u q) BooksHold (λ u d. quiet_books w u q h (d.0) (d.1)) (step w e) (if_some_and EarlyHold (λ u. Quiet w u q) (step w e) (step_early w e (h.early)) b)
 
-step_books : (w : World) (e : Event) → BooksHold w → IfSome (step w e) BooksHold
+pub event_books : (w : World) (e : Event) → is_act e ≡ false → BooksHold w → IfSome (step w e) (λ u. Quiet w u (mover e))
+event_books w (Go q) z h = absurd (let a : true ≡ false = z in cc)
+event_books w (From q v) z h = from_book w q ((w.stack q).top) ((w.stack q).below) v refl h
+event_books w (Refuse q) z h = refuse_book w q ((w.stack q).top) ((w.stack q).below) refl h
+event_books w (Miss q) z h = miss_book w q ((w.stack q).top) ((w.stack q).below) refl h
+event_books w (End q d) z h = end_book w q d ((w.stack q).top) ((w.stack q).below) refl h (((h.early).fills).frames q)
+event_books w (Spawn q p) z h = spawn_book w q p h
+event_books w (Fifo q p) z h = fifo_book w q p h
+event_books w (Cast q p) z h = cast_book w q p h
+event_books w (Install q p) z h = install_book w q p h
+event_books w (Join q) z h = join_book w q h
+event_books w (OpenScope q p) z h = scope_book w q p h
+event_books w (IntoSpawn q n) z h = into_book w q n h
+event_books w (Yield q) z h = yield_book w q YieldPop refl h
+event_books w (YieldLocal q) z h = yield_book w q LocalPop refl h
+event_books w (EndPool q p) z h = give_book w q p h
+
+pub step_books : (w : World) (e : Event) → BooksHold w → IfSome (step w e) BooksHold
 step_books w (Go q) h = go_all BooksHold w q (go_books w q h)
-step_books w (From q v) h = quiet_step w (From q v) q h (from_book w q ((w.stack q).top) ((w.stack q).below) v refl h)
-step_books w (Refuse q) h = quiet_step w (Refuse q) q h (refuse_book w q ((w.stack q).top) ((w.stack q).below) refl h)
-step_books w (Miss q) h = quiet_step w (Miss q) q h (miss_book w q ((w.stack q).top) ((w.stack q).below) refl h)
-step_books w (End q d) h = quiet_step w (End q d) q h (end_book w q d ((w.stack q).top) ((w.stack q).below) refl h (((h.early).fills).frames q))
-step_books w (Spawn q p) h = quiet_step w (Spawn q p) q h (spawn_book w q p h)
-step_books w (Fifo q p) h = quiet_step w (Fifo q p) q h (fifo_book w q p h)
-step_books w (Cast q p) h = quiet_step w (Cast q p) q h (cast_book w q p h)
-step_books w (Install q p) h = quiet_step w (Install q p) q h (install_book w q p h)
-step_books w (Join q) h = quiet_step w (Join q) q h (join_book w q h)
-step_books w (OpenScope q p) h = quiet_step w (OpenScope q p) q h (scope_book w q p h)
-step_books w (IntoSpawn q n) h = quiet_step w (IntoSpawn q n) q h (into_book w q n h)
-step_books w (Yield q) h = quiet_step w (Yield q) q h (yield_book w q YieldPop refl h)
-step_books w (YieldLocal q) h = quiet_step w (YieldLocal q) q h (yield_book w q LocalPop refl h)
-step_books w (EndPool q p) h = quiet_step w (EndPool q p) q h (give_book w q p h)
+step_books w e h = quiet_step w e (mover e) h (event_books w e refl h)
 
 first_clear : (h : Shape) (q : Party) → book_free (first_place h q) ≡ true
 first_clear h (Worker p i) = at (nat_lt i (h.pool p).workers) ((h.pool p).callers_own && (i == 0))
@@ -346,7 +350,7 @@ first_clear h (Caller c) = at (nat_lt c h.callers)
     at true = refl
     at false = refl
 
-first_books : (h : Shape) → BooksHold (start h)
+pub first_books : (h : Shape) → BooksHold (start h)
 first_books h = record {
   early = first_early h;
   at = λ q. free_at (start h) q (first_place h q) (first_clear h q);

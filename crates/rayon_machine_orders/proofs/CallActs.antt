@@ -35,7 +35,7 @@ use Rattle.rayon_machine_places.specs.Readers.{is_queued, is_running, is_done}
 use Rattle.rayon_machine_orders.specs.Calls.{count_of, is_raise_refused}
 use Rattle.rayon_machine_laws.proofs.Frame.{if_some_all, put_new, either, if_cond, put_old}
 use Rattle.rayon_machine_laws.proofs.Ties.{job_at, outcome}
-use Rattle.rayon_machine_laws.proofs.Claims.{Says, SaysThen}
+use Rattle.rayon_machine_laws.proofs.Claims.{Says, SaysThen, taken_over}
 use Rattle.rayon_machine_laws.proofs.ClaimRuns.{place_part, world_after}
 use Rattle.rayon_machine_laws.proofs.ShareLowers.{lowered_world, share_made}
 use Rattle.rayon_machine_orders.proofs.CallPlaces.{Stage, Going, Gone, Paid, Undone, is_undone, Part, PartBody, PartOwed, Known, Leads, raised_leads, lower_leads, is_decisive, part_leads, plan_open, open_job, here_job, is_sent, told, Added, Withdrawing}
@@ -233,7 +233,7 @@ lower_went : (w : World) (q : Party) (n : Plan) (s : Stage) (p : Count) (t : The
 lower_went w q n s p (Answers o f d) fs e k z y = record {
   stage = Paid;
   leads = lower_leads w (w.shape.pool (count_pool q p)) q n Paid p (OfJob (plan_job n)) (Answers o f d) e k (z.0) (y.0, refl);
-  sofar = λ v. lowered_so w q n p (Answers o f d) fs e refl (share_made w p (plan_job n) (Answers o f d) (z.1)) (subst (λ t. is_done (w.job t).at ≡ true) (open_job n o (y.0)) (ap is_done ((z.0).2)));
+  sofar = λ v. lowered_so w q n p (Answers o f d) fs e refl (share_made w p (plan_job n) (Answers o f d) (z.1)) (subst (λ t. is_done (w.job t).at ≡ true) (open_job n o (y.0)) (taken_over w o.job d ((z.0).2)));
   flag = ap is_undone (sym (y.1)) ∙ or_false (is_undone s);
 }
 lower_went w q n s p (Ran t d) fs e k z y = record {

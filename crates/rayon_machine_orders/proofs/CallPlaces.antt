@@ -32,7 +32,7 @@ use Rattle.rayon_machine_places.specs.declared.place.Settling.{Settling}
 use Rattle.rayon_machine_places.specs.Places.{own_pool, own_index, plan_pool, plan_job, after_wait, finish, walk, settle, after_set, after_found, after_news, after_raise, next_victim, not_self, after_failure, next_steal, next_of, is_taken, set_call, settle_count}
 use Rattle.rayon_machine_places.specs.World.{World, is_token}
 use Rattle.rayon_machine_places.specs.Readers.{is_done}
-use Rattle.rayon_machine_laws.proofs.Claims.{FirstEnds, is_detached, SaysThen, Says}
+use Rattle.rayon_machine_laws.proofs.Claims.{FirstEnds, is_detached, SaysThen, Says, taken_over}
 use Rattle.rayon_machine_places.specs.declared.place.Taken.{Taken}
 
 -- how far a call has come: its job is not yet queued, or it is, or a scope's body runs; its share is given back; or a step of the call was
@@ -231,13 +231,13 @@ open_returns : (w : World) (q : Party) (n : Plan) (s : Stage) (o : OpenCall) (f 
 open_returns w q (Detach p t) s o f e k z y = absurd (let a : None ≡ Some o = y.0 in cc)
 open_returns w q (Here p t) s o f e k z y = absurd (let a : None ≡ Some o = y.0 in cc)
 open_returns w q (Feed d) s o f e k z y = absurd (let a : None ≡ Some o = y.0 in cc)
-open_returns w q (Open p) s o f e k z y = (y.1, subst (λ v. Ended w v.job) (sym (some_open (y.0))) (ap is_done (z.2)))
+open_returns w q (Open p) s o f e k z y = (y.1, subst (λ v. Ended w v.job) (sym (some_open (y.0))) (taken_over w o.job e (z.2)))
 open_returns w q (Enter x) s o f e k z y = absurd (let a : None ≡ Some o = y.0 in cc)
-open_returns w q (Send p) s o f e k z y = (y.1, subst (λ v. Ended w v.job) (sym (some_open (y.0))) (ap is_done (z.2)))
+open_returns w q (Send p) s o f e k z y = (y.1, subst (λ v. Ended w v.job) (sym (some_open (y.0))) (taken_over w o.job e (z.2)))
 open_returns w q (Fork p a) s o f e k z y =
     let same : p ≡ o = some_open (y.0) in
     let side : FirstEnds w (w.call p.number).first f = subst (λ v. FirstEnds w (w.call v.number).first f) (sym same) (z.1) in
-    (y.1, (first_ended w a f (subst (λ v. FirstEnds w v f) (k.1) side), subst (λ v. Ended w v.job) (sym same) (ap is_done (z.2))))
+    (y.1, (first_ended w a f (subst (λ v. FirstEnds w v f) (k.1) side), subst (λ v. Ended w v.job) (sym same) (taken_over w o.job e (z.2))))
 
 detach_returns : (w : World) (n : Plan) (s : Stage) → (is_detach n ≡ true) × (s ≡ Gone) → Returns w n s
 detach_returns w (Detach p t) s y = y.1

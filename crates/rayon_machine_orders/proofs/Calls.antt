@@ -6,7 +6,8 @@ use Rattle.std.proofs.lemmas.List.{append_assoc, length-append}
 use Rattle.rayon_machine_places.specs.declared.place.Party.{Party}
 use Rattle.rayon_machine_places.specs.declared.place.Party.TheVariants.{Worker, Caller}
 use Rattle.rayon_machine_places.specs.declared.place.Ending.{Ending}
-use Rattle.rayon_machine_places.specs.declared.place.JobKind.TheVariants.{Detached, TokenOf, Scoped}
+use Rattle.rayon_machine_places.specs.declared.place.JobKind.{JobKind}
+use Rattle.rayon_machine_places.specs.declared.place.JobKind.TheVariants.{Detached, Stored, Direct, TokenOf, Scoped, BodyOf}
 use Rattle.rayon_machine_places.specs.declared.place.Plan.{Plan}
 use Rattle.rayon_machine_places.specs.declared.place.Plan.TheVariants.{Detach, Here, Send, Fork, Feed, Open, Enter}
 use Rattle.rayon_machine_places.specs.declared.place.Ending.TheVariants.{Fine, Fault}
@@ -29,12 +30,13 @@ use Rattle.rayon_machine_places.specs.World.{Shape, Stack, World, is_token}
 use Rattle.rayon_machine_places.specs.Steps.{after_call, is_pool, new_job, new_call, after_spawn, after_send, after_install, after_join, after_scope, after_into, holds, step, after_feed, after_fifo, put}
 use Rattle.rayon_machine_places.specs.Runs.{IsRun, start}
 use Rattle.rayon_machine_places.specs.Readers.{is_done}
-use Rattle.rayon_machine_laws.specs.End.{HasEnded, Verdict, AllFine, FirstFault, LastFault, answered, follows, AllJobs}
-use Rattle.rayon_machine_orders.specs.Calls.{caller_of, jobs_of, is_awaited, is_join, is_scope, verdict_of, IsPrecedent, LowersSo, IsRunUntil, is_at_call, is_refusal, is_any, HasRun, LeavesJob, HoldsEnding, StandsOn, CallLaw, IsHandedOn, IsSpent}
+use Rattle.rayon_machine_laws.specs.End.{HasEnded, Verdict, AllFine, FirstFault, LastFault, answered, follows, AllJobs, ScopeTakes, Takes as TakesAs}
+use Rattle.rayon_machine_orders.specs.Faults.{TakesFault}
+use Rattle.rayon_machine_orders.specs.Calls.{caller_of, jobs_of, is_awaited, is_join, is_scope, verdict_of, IsPrecedent, LowersSo, ScopeAnswers, TakesSo, IsRunUntil, is_at_call, is_refusal, is_any, HasRun, LeavesJob, HoldsEnding, StandsOn, CallLaw, IsHandedOn, IsSpent}
 use Rattle.rayon_machine_laws.proofs.Frame.{either, if_cond, into_cases, put_new, stack_mine, put_old}
 use Rattle.rayon_machine_laws.proofs.PlacedEvents.{Advance}
 use Rattle.rayon_machine_laws.proofs.PlacedRuns.{JobsHold, step_advance, once}
-use Rattle.rayon_machine_laws.proofs.Claims.{Opened, FirstEnds, is_detached, SaysThen, SaysShare, Says}
+use Rattle.rayon_machine_laws.proofs.Claims.{Opened, FirstEnds, is_detached, is_body, SaysThen, SaysShare, Says}
 use Rattle.rayon_machine_laws.proofs.ClaimMakes.{always_calls}
 use Rattle.rayon_machine_laws.proofs.Endings.{has_ended, refused_so}
 use Rattle.rayon_machine_laws.proofs.Returns.{always_returns, returned_so}
@@ -42,7 +44,9 @@ use Rattle.rayon_machine_orders.proofs.Filled.{always_filled, takes_filled}
 use Rattle.rayon_machine_orders.proofs.CallPlaces.{Stage, Going, is_undone, Part, PartOpen, PartBody, PartOwed, plan_open, plan_here, is_detach, Ended, Known, open_job}
 use Rattle.rayon_machine_orders.proofs.CallActs.{or_false}
 use Rattle.rayon_machine_orders.proofs.CallSteps.{Carries, step_carries}
-use Rattle.rayon_machine_orders.proofs.Early.{EarlyHold, always_early, scope_ended}
+use Rattle.rayon_machine_orders.proofs.Early.{scope_ended}
+use Rattle.rayon_machine_orders.proofs.Faults.{FaultsHold}
+use Rattle.rayon_machine_orders.proofs.FaultSteps.{always_faults, takes_so, takes_fault}
 use Rattle.rayon_machine_orders.proofs.CallEvents.{whole, CallStands, at_call_no}
 use Rattle.rayon_machine_orders.proofs.CallStretch.{Ground, Inside, Unrefused, Returned, After, Stays, step_stays}
 use Rattle.rayon_machine_places.specs.declared.place.Taken.TheVariants.{Plain, Token}
@@ -126,8 +130,8 @@ PlanAnswers u (Send o) FirstFault = ⊥
 PlanAnswers u (Send o) LastFault = HasEnded u o.job Fault
 PlanAnswers u (Send o) AllFine = HasEnded u o.job Fine
 PlanAnswers u (Open o) FirstFault = ⊥
-PlanAnswers u (Open o) LastFault = HasEnded u o.job Fault
-PlanAnswers u (Open o) AllFine = HasEnded u o.job Fine
+PlanAnswers u (Open o) LastFault = ((u.call o.number).job ≡ o.job) × ScopeTakes u o.number Fault
+PlanAnswers u (Open o) AllFine = ((u.call o.number).job ≡ o.job) × ScopeTakes u o.number Fine
 PlanAnswers u (Fork o a) FirstFault = HasEnded u a Fault
 PlanAnswers u (Fork o a) LastFault = HasEnded u o.job Fault × HasEnded u a Fine
 PlanAnswers u (Fork o a) AllFine = HasEnded u o.job Fine × HasEnded u a Fine
@@ -142,15 +146,38 @@ sent_answer u o FirstFault y = y
 sent_answer u o LastFault y = y
 sent_answer u o AllFine y = y
 
-open_answer : (u : World) (o : OpenCall) (x : Verdict) → PlanAnswers u (Open o) x → PlanAnswers u (Here 0 o.job) x
-open_answer u o FirstFault y = y
-open_answer u o LastFault y = y
-open_answer u o AllFine y = y
+open_answer : (u : World) (o : OpenCall) (l : ℕ) → o.job ≡ l → (x : Verdict) → PlanAnswers u (Open o) x → ScopeAnswers u o.number l (Some x)
+open_answer u o l i FirstFault y = absurd y
+open_answer u o l i LastFault y = (y.0 ∙ i, y.1)
+open_answer u o l i AllFine y = (y.0 ∙ i, y.1)
 
 two_answer : (u : World) (q : Party) (o : OpenCall) (a l : ℕ) → o.job ≡ l → (x : Verdict) → PlanAnswers u (Fork o a) x → IsPrecedent (Join q) u a l (Some x)
 two_answer u q o a l i FirstFault y = (refl, y)
 two_answer u q o a l i LastFault y = (subst (λ v. HasEnded u v Fault) i (y.0), λ z. y.1)
 two_answer u q o a l i AllFine y = (subst (λ v. HasEnded u v Fine) i (y.0), λ z. y.1)
+
+-- the job of a scope is its body, and that of another call is none
+abbrev PlanKind : World → Plan → Type 0
+PlanKind u (Send o) = is_body (u.job o.job).kind ≡ false
+PlanKind u (Fork o a) = is_body (u.job o.job).kind ≡ false
+PlanKind u (Open o) = is_body (u.job o.job).kind ≡ true
+PlanKind u n = ⊤
+
+abbrev is_open_plan : Plan → Bool
+is_open_plan (Open o) = true
+is_open_plan n = false
+
+plain_takes : (u : World) (o : OpenCall) (d : Ending) (k : JobKind) → is_body k ≡ false → TakesAs u o k d → HasEnded u o.job d
+plain_takes u o d (BodyOf c p) b y = cc
+plain_takes u o d (Detached p) b y = y
+plain_takes u o d (Stored c p) b y = y
+plain_takes u o d (Scoped c p) b y = y
+plain_takes u o d (TokenOf i) b y = y
+plain_takes u o d Direct b y = y
+
+body_takes : (u : World) (o : OpenCall) (d : Ending) (k : JobKind) → is_body k ≡ true → TakesAs u o k d → ScopeTakes u o.number d
+body_takes u o d (BodyOf c p) b y = y
+body_takes u o d _ b y = cc
 
 -- a call that opens a scope: it waits for its body
 record ScopeBegun (w v : World) (n : Plan) : Type 0 where
@@ -171,6 +198,8 @@ record Begun (w v : World) (q : Party) (e : Event) : Type 0 where
   answer : (u : World) (p : ℕ) (x : Verdict) → PlanAnswers u plan x → LowersSo e (OfPool p) u w.calls w.jobs (v.jobs - 1) (Some x)
   body : (u : World) → JobsHold u → (o : OpenCall) (c : ℕ) (r : Party) → plan ≡ Open o → o.number ≡ c → Ended u o.job → LowersSo e (OfScope c r) u w.calls w.jobs (v.jobs - 1) None
   scope : is_scope e ≡ true → ScopeBegun w v plan
+  sort : (u : World) → ((t : ℕ) → t + 1 ≤ v.jobs → (u.job t).kind ≡ (v.job t).kind) → PlanKind u plan
+  takes : (u : World) (c : ℕ) → HoldsEnding u c (v.jobs - 1) → (is_open_plan plan ≡ true → TakesFault u c) → TakesSo e u c (v.jobs - 1)
   leaves : (u : World) → JobsHold u → (t : ℕ) → IsOf t plan → Unrefused u plan → LeavesJob e u t
 
 first_inside : (w v : World) (q : Party) (n : Plan) → v.stack q ≡ after_call (w.stack q) (RaiseCount n) → Known v n → Inside v q (w.stack q) n false
@@ -181,6 +210,7 @@ record OneSpawned (e : Event) : Type 0 where
   one : jobs_of e ≡ 1
   free : is_awaited e ≡ false
   flat : is_scope e ≡ false
+  takes : (u : World) (c t : ℕ) → HoldsEnding u c t → TakesSo e u c t
   leaves : (u : World) (t : ℕ) → IsHandedOn u t → LeavesJob e u t
 
 spawn_as : (w : World) (q : Party) (p : ℕ) (e : Event) → OneSpawned e → IfSome (after_spawn w q p (w.stack q)) (λ v. Begun w v q e)
@@ -194,11 +224,13 @@ spawn_as w q p e s = if_cond (λ v. Begun w v q e) (is_free ((w.stack q).top) &&
   answer = λ u r x y. absurd y;
   body = λ u h o c r k m z. absurd (cc);
   scope = λ z. absurd (let a : true ≡ false = sym z ∙ s.flat in cc);
+  sort = λ u k. tt;
+  takes = λ u c y z. s.takes u c _ y;
   leaves = λ u h t i z. s.leaves u t (subst (λ x. IsHandedOn u x) (sym i) z);
 })
 
 spawn_begun : (w : World) (q : Party) (p : ℕ) → IfSome (after_spawn w q p (w.stack q)) (λ v. Begun w v q (Spawn q p))
-spawn_begun w q p = spawn_as w q p (Spawn q p) (record { one = refl; free = refl; flat = refl; leaves = λ u t z. z })
+spawn_begun w q p = spawn_as w q p (Spawn q p) (record { one = refl; free = refl; flat = refl; takes = λ u c t y. y; leaves = λ u t z. z })
 
 -- the numbers that a call with two gives out
 two_of : (n t : ℕ) → n ≤ t → t < n + 2 → (b : Bool) → (t == n) ≡ b → (t ≡ n) ⊎ (t ≡ n + 1)
@@ -225,6 +257,8 @@ feed_begun w p i same = record {
   answer = λ u r x y. absurd y;
   body = λ u h o c r k m z. absurd (cc);
   scope = λ z. absurd (cc);
+  sort = λ u k. tt;
+  takes = λ u c y z. y;
   leaves = λ u h t j z. by u t j z;
 }
   where
@@ -233,12 +267,12 @@ feed_begun w p i same = record {
     by u t (inr e) z = subst (λ x. IsHandedOn u x ⊎ IsSpent u x) (sym e) (z.1)
 
 fifo_begun : (w : World) (q : Party) (p : ℕ) → IfSome (after_fifo w q p (w.stack q)) (λ v. Begun w v q (Fifo q p))
-fifo_begun w (Caller c) p = spawn_as w (Caller c) p (Fifo (Caller c) p) (record { one = refl; free = refl; flat = refl; leaves = λ u t z. inl z })
+fifo_begun w (Caller c) p = spawn_as w (Caller c) p (Fifo (Caller c) p) (record { one = refl; free = refl; flat = refl; takes = λ u c t y. y; leaves = λ u t z. inl z })
 fifo_begun w (Worker r i) p = by (r == p) refl
   where
     by : (z : Bool) → (r == p) ≡ z → IfSome (if z then (if is_free ((w.stack (Worker r i)).top) && is_pool w.shape p then Some (after_feed w p i (w.stack (Worker r i))) else None) else after_spawn w (Worker r i) p (w.stack (Worker r i))) (λ v. Begun w v (Worker r i) (Fifo (Worker r i) p))
     by true z = subst (λ n. IfSome (if is_free ((w.stack (Worker n i)).top) && is_pool w.shape p then Some (after_feed w p i (w.stack (Worker n i))) else None) (λ v. Begun w v (Worker n i) (Fifo (Worker n i) p))) (sym (eqb-true r p z)) (if_cond (λ v. Begun w v (Worker p i) (Fifo (Worker p i) p)) (is_free ((w.stack (Worker p i)).top) && is_pool w.shape p) _ (λ b. feed_begun w p i (eq-eqb p p refl)))
-    by false z = spawn_as w (Worker r i) p (Fifo (Worker r i) p) (record { one = ap (λ b. if b then 2 else 1) z; free = refl; flat = refl; leaves = λ u t y. inl y })
+    by false z = spawn_as w (Worker r i) p (Fifo (Worker r i) p) (record { one = ap (λ b. if b then 2 else 1) z; free = refl; flat = refl; takes = λ u c t y. y; leaves = λ u t y. inl y })
 
 sent_begun : (w : World) (q : Party) (p : ℕ) (b : Bool) → Begun w (after_send w q p (w.stack q) b) q (Install q p)
 sent_begun w q p true = record {
@@ -251,6 +285,8 @@ sent_begun w q p true = record {
   answer = λ u r x y. one_answer w u (Install q p) p w.jobs (w.jobs + 1 - 1) refl (omega arith) x y;
   body = λ u h o c r k m z. absurd (cc);
   scope = λ z. absurd (cc);
+  sort = λ u k. tt;
+  takes = λ u c y z. y;
   leaves = λ u h t i z. has_run u h t (subst (λ x. Ended u x) (sym i) z);
 }
 sent_begun w q p false = record {
@@ -263,6 +299,8 @@ sent_begun w q p false = record {
   answer = λ u r x y. one_answer w u (Install q p) 0 w.jobs (w.jobs + 1 - 1) refl (omega arith) x (sent_answer u (record { number = w.calls; pool = p; job = w.jobs }) x y);
   body = λ u h o c r k m z. absurd (cc);
   scope = λ z. absurd (cc);
+  sort = λ u k. ap is_body (k w.jobs (omega arith) ∙ ap (λ j. j.kind) (put_new w.job w.jobs (new_job q p (Stored w.calls q))));
+  takes = λ u c y z. y;
   leaves = λ u h t i z. has_run u h t (subst (λ x. Ended u x) (sym i) z);
 }
 
@@ -280,6 +318,8 @@ join_begun w (Worker p i) = if_cond (λ v. Begun w v (Worker p i) (Join (Worker 
   answer = λ u r x y. two_answer u (Worker p i) (record { number = w.calls; pool = p; job = w.jobs + 1 }) w.jobs (w.jobs + 2 - 1) (omega arith) x y;
   body = λ u h o c r k m z. absurd (cc);
   scope = λ z. absurd (cc);
+  sort = λ u k. ap is_body (k (w.jobs + 1) (omega arith) ∙ ap (λ j. j.kind) (put_new (put w.job w.jobs (new_job (Worker p i) p Direct)) (w.jobs + 1) (new_job (Worker p i) p (Stored w.calls (Worker p i)))));
+  takes = λ u c y z. y;
   leaves = λ u h t i z. has_run u h t (all_of (Ended u) t (Fork (record { number = w.calls; pool = p; job = w.jobs + 1 }) w.jobs) i z);
 })
   where
@@ -296,9 +336,11 @@ scope_begun w q p = if_cond (λ v. Begun w v q (OpenScope q p)) (is_free ((w.sta
   numbers = λ t l m. omega (arith, l, m);
   last = λ z. omega arith;
   awaited = λ z. refl;
-  answer = λ u r x y. one_answer w u (OpenScope q p) 0 w.jobs (w.jobs + 1 - 1) refl (omega arith) x (open_answer u (record { number = w.calls; pool = p; job = w.jobs }) x y);
+  answer = λ u r x y. open_answer u (record { number = w.calls; pool = p; job = w.jobs }) (w.jobs + 1 - 1) (omega arith) x y;
   body = λ u h o c r k m z. (sym m ∙ own_number (record { number = w.calls; pool = p; job = w.jobs }) o k, subst (λ t. HasRun u t) (omega arith) (has_run u h w.jobs (subst (λ t. Ended u t) (own_job (record { number = w.calls; pool = p; job = w.jobs }) o k) z)));
   scope = λ z. record { calls = omega arith; target = ap (λ k. k.job) (put_new w.call w.calls (new_call None w.jobs)); body = refl; awaited = refl; over = λ u y. y };
+  sort = λ u k. ap is_body (k w.jobs (omega arith) ∙ ap (λ j. j.kind) (put_new w.job w.jobs (new_job q p (BodyOf w.calls q))));
+  takes = λ u c y z. (y, z refl);
   leaves = λ u h t i z. has_run u h t (subst (λ x. Ended u x) (sym i) z);
 })
   where
@@ -319,6 +361,8 @@ into_begun w q i = into_cases (λ v. Begun w v q (IntoSpawn q i)) w q i (λ z e 
   answer = λ u r x y. absurd y;
   body = λ u h o c r k m y. absurd (cc);
   scope = λ z. absurd (cc);
+  sort = λ u k. tt;
+  takes = λ u c y z. y;
   leaves = λ u h t j y. subst (λ x. IsHandedOn u x) (sym j) y;
 }))
 
@@ -349,6 +393,9 @@ record Takes (x : Place) (c : ℕ) : Type 0 where
   first : Option Ending
   is : x ≡ TakeResult opened first
   number : opened.number ≡ c
+
+some_opened : (m o : OpenCall) → Some m ≡ Some o → m ≡ o
+some_opened m o e = cc
 
 take_of : {a b : ℕ} → Take a ≡ Take b → a ≡ b
 take_of e = cc
@@ -460,39 +507,42 @@ record PoolOf (k : Count) : Type 0 where
   is : k ≡ OfPool pool
 
 -- what the call's own Lower says of its answer
-open_answers : (u : World) → JobsHold u → (n : Plan) (o : OpenCall) (f : Option Ending) (d : Ending) → Known u n → FirstEnds u (u.call o.number).first f → (u.job o.job).at ≡ Over d → plan_open n ≡ Some o → PlanAnswers u n (answered f d)
-open_answers u h (Detach p t) o f d k s z e = absurd (cc)
-open_answers u h (Feed g) o f d k s z e = absurd (cc)
-open_answers u h (Enter m) o f d k s z e = absurd (cc)
-open_answers u h (Here p t) o f d k s z e = absurd (cc)
-open_answers u h (Send m) o f d k s z e = by f d (subst (λ x. FirstEnds u x f) (ap (λ x. (u.call x.number).first) (sym same) ∙ k.1) s) (subst (λ x. (u.job x.job).at ≡ Over d) (sym same) z)
+open_answers : (u : World) → JobsHold u → (n : Plan) (o : OpenCall) (f : Option Ending) (d : Ending) → Known u n → PlanKind u n → (u.call o.number).job ≡ o.job → FirstEnds u (u.call o.number).first f → TakesAs u o (u.job o.job).kind d → plan_open n ≡ Some o → PlanAnswers u n (answered f d)
+open_answers u h (Detach p t) o f d k i m s z e = absurd (cc)
+open_answers u h (Feed g) o f d k i m s z e = absurd (cc)
+open_answers u h (Enter m) o f d k i j s z e = absurd (cc)
+open_answers u h (Here p t) o f d k i m s z e = absurd (cc)
+open_answers u h (Send m) o f d k i j s z e = by f d (subst (λ x. FirstEnds u x f) (ap (λ x. (u.call x.number).first) (sym same) ∙ k.1) s) (plain_takes u m d ((u.job m.job).kind) i (subst (λ x. TakesAs u x (u.job x.job).kind d) (sym same) z))
   where
     same : m ≡ o
     same = cc
 
-    by : (f : Option Ending) (d : Ending) → FirstEnds u None f → (u.job m.job).at ≡ Over d → PlanAnswers u (Send m) (answered f d)
+    by : (f : Option Ending) (d : Ending) → FirstEnds u None f → HasEnded u m.job d → PlanAnswers u (Send m) (answered f d)
     by (Some g) d a b = absurd a
-    by None Fault a b = has_ended u h (m.job) Fault b
-    by None Fine a b = has_ended u h (m.job) Fine b
-open_answers u h (Open m) o f d k s z e = by f d (subst (λ x. FirstEnds u x f) (ap (λ x. (u.call x.number).first) (sym same) ∙ k.1) s) (subst (λ x. (u.job x.job).at ≡ Over d) (sym same) z)
+    by None Fault a b = b
+    by None Fine a b = b
+open_answers u h (Open m) o f d k i j s z e = by f d (subst (λ x. FirstEnds u x f) (ap (λ x. (u.call x.number).first) (sym same) ∙ k.1) s) (body_takes u m d ((u.job m.job).kind) i (subst (λ x. TakesAs u x (u.job x.job).kind d) (sym same) z))
   where
     same : m ≡ o
     same = cc
 
-    by : (f : Option Ending) (d : Ending) → FirstEnds u None f → (u.job m.job).at ≡ Over d → PlanAnswers u (Open m) (answered f d)
+    own : (u.call m.number).job ≡ m.job
+    own = subst (λ x. (u.call x.number).job ≡ x.job) (sym same) j
+
+    by : (f : Option Ending) (d : Ending) → FirstEnds u None f → ScopeTakes u m.number d → PlanAnswers u (Open m) (answered f d)
     by (Some g) d a b = absurd a
-    by None Fault a b = has_ended u h (m.job) Fault b
-    by None Fine a b = has_ended u h (m.job) Fine b
-open_answers u h (Fork m t) o f d k s z e = by f d (subst (λ x. FirstEnds u x f) (ap (λ x. (u.call x.number).first) (sym same) ∙ k.1) s) (subst (λ x. (u.job x.job).at ≡ Over d) (sym same) z)
+    by None Fault a b = (own, b)
+    by None Fine a b = (own, b)
+open_answers u h (Fork m t) o f d k i j s z e = by f d (subst (λ x. FirstEnds u x f) (ap (λ x. (u.call x.number).first) (sym same) ∙ k.1) s) (plain_takes u m d ((u.job m.job).kind) i (subst (λ x. TakesAs u x (u.job x.job).kind d) (sym same) z))
   where
     same : m ≡ o
     same = cc
 
-    by : (f : Option Ending) (d : Ending) → FirstEnds u (Some t) f → (u.job m.job).at ≡ Over d → PlanAnswers u (Fork m t) (answered f d)
+    by : (f : Option Ending) (d : Ending) → FirstEnds u (Some t) f → HasEnded u m.job d → PlanAnswers u (Fork m t) (answered f d)
     by None d a b = absurd a
     by (Some Fault) d a b = has_ended u h t Fault a
-    by (Some Fine) Fault a b = (has_ended u h (m.job) Fault b, has_ended u h t Fine a)
-    by (Some Fine) Fine a b = (has_ended u h (m.job) Fine b, has_ended u h t Fine a)
+    by (Some Fine) Fault a b = (b, has_ended u h t Fine a)
+    by (Some Fine) Fine a b = (b, has_ended u h t Fine a)
 
 here_answers : (u : World) → JobsHold u → (n : Plan) (t : ℕ) (d : Ending) → (u.job t).at ≡ Over d → plan_here n ≡ Some t → PlanAnswers u n (answered None d)
 here_answers u h (Detach p i) t d z e = absurd (cc)
@@ -507,17 +557,17 @@ here_answers u h (Here p i) t d z e = by d (let a : i ≡ t = cc in subst (λ x.
     by Fault b = has_ended u h i Fault b
     by Fine b = has_ended u h i Fine b
 
-then_answers : (u : World) → JobsHold u → (q : Party) (n : Plan) (r : Stage) (t : Then) (P : Option Verdict → Type 0) → ((x : Verdict) → PlanAnswers u n x → P (Some x)) → Known u n → SaysThen u q t → is_undone r ≡ false → PartOwed n r t → P (verdict_of (Some t))
-then_answers u h q n r (Answers o f e) P g k s d y = g (answered f e) (open_answers u h n o f e k (s.1) (s.2) (y.0))
-then_answers u h q n r (Ran t e) P g k s d y = g (answered None e) (here_answers u h n t e s (y.0))
-then_answers u h q n r (GiveBack m) P g k s d y = absurd (let a : is_undone r ≡ true = ap is_undone (y.1) in cc)
-then_answers u h q n r (BeginFound x t) P g k s d y = absurd y
-then_answers u h q n r (LeaveWait x) P g k s d y = absurd y
-then_answers u h q n r Resume P g k s d y = absurd y
-then_answers u h q n r Called P g k s d y = absurd y
-then_answers u h q n r (Await o) P g k s d y = absurd y
-then_answers u h q n r (RunFirst o a) P g k s d y = absurd y
-then_answers u h q n r (Missing o f) P g k s d y = absurd y
+then_answers : (u : World) → JobsHold u → (q : Party) (n : Plan) (r : Stage) (t : Then) (P : Option Verdict → Type 0) → ((x : Verdict) → PlanAnswers u n x → P (Some x)) → Known u n → PlanKind u n → ((o : OpenCall) (f : Option Ending) (e : Ending) → t ≡ Answers o f e → TakesAs u o (u.job o.job).kind e) → SaysThen u q t → is_undone r ≡ false → PartOwed n r t → P (verdict_of (Some t))
+then_answers u h q n r (Answers o f e) P g k i a s d y = g (answered f e) (open_answers u h n o f e k i ((s.0).target) (s.1) (a o f e refl) (y.0))
+then_answers u h q n r (Ran t e) P g k i a s d y = g (answered None e) (here_answers u h n t e s (y.0))
+then_answers u h q n r (GiveBack m) P g k i a s d y = absurd (let b : is_undone r ≡ true = ap is_undone (y.1) in cc)
+then_answers u h q n r (BeginFound x t) P g k i a s d y = absurd y
+then_answers u h q n r (LeaveWait x) P g k i a s d y = absurd y
+then_answers u h q n r Resume P g k i a s d y = absurd y
+then_answers u h q n r Called P g k i a s d y = absurd y
+then_answers u h q n r (Await o) P g k i a s d y = absurd y
+then_answers u h q n r (RunFirst o a) P g k i a s d y = absurd y
+then_answers u h q n r (Missing o f) P g k i a s d y = absurd y
 
 -- and what a scope's own Lower says of its body
 body_over : (u : World) (q : Party) (n : Plan) (r : Stage) (k : Count) (t : Then) (P : Count → Option Verdict → Type 0) → ((o : OpenCall) (c : ℕ) (d : Party) → n ≡ Open o → o.number ≡ c → Ended u o.job → P (OfScope c d) None) → SaysThen u q t → SaysShare u k Body t → PartBody n r t → P k (verdict_of (Some t))
@@ -548,22 +598,37 @@ answers_pool u (OfScope c o) t n r (RunFirst m a) s y d = absurd y
 answers_pool u (OfScope c o) t n r (Missing m f) s y d = absurd y
 
 -- what a call says at its own Lower, by whose share it gives back
-lower_answers : (u : World) → JobsHold u → (q : Party) (n : Plan) (r : Stage) (k : Count) (h : Share) (t : Then) (P : Count → Option Verdict → Type 0) → ((p : ℕ) (x : Verdict) → PlanAnswers u n x → P (OfPool p) (Some x)) → ((o : OpenCall) (c : ℕ) (d : Party) → n ≡ Open o → o.number ≡ c → Ended u o.job → P (OfScope c d) None) → Known u n → Says u q (LowerCount k h t) → is_undone r ≡ false → Part n r (LowerCount k h t) → P k (verdict_of (Some t))
-lower_answers u j q n r k PoolValue t P f g l s d y = absurd y
-lower_answers u j q n r k Body t P f g l s d y = body_over u q n r k t P g (s.0) (s.1) y
-lower_answers u j q n r k (OfJob a) t P f g l s d y = let z : PoolOf k = answers_pool u k a n r t (s.1) (y.1) d in subst (λ v. P v (verdict_of (Some t))) (sym z.is) (then_answers u j q n r t (P (OfPool z.pool)) (f z.pool) l (s.0) d (y.1))
+lower_answers : (u : World) → JobsHold u → (q : Party) (n : Plan) (r : Stage) (k : Count) (h : Share) (t : Then) (P : Count → Option Verdict → Type 0) → ((p : ℕ) (x : Verdict) → PlanAnswers u n x → P (OfPool p) (Some x)) → ((o : OpenCall) (c : ℕ) (d : Party) → n ≡ Open o → o.number ≡ c → Ended u o.job → P (OfScope c d) None) → Known u n → PlanKind u n → ((o : OpenCall) (f : Option Ending) (e : Ending) → t ≡ Answers o f e → TakesAs u o (u.job o.job).kind e) → Says u q (LowerCount k h t) → is_undone r ≡ false → Part n r (LowerCount k h t) → P k (verdict_of (Some t))
+lower_answers u j q n r k PoolValue t P f g l i b s d y = absurd y
+lower_answers u j q n r k Body t P f g l i b s d y = body_over u q n r k t P g (s.0) (s.1) y
+lower_answers u j q n r k (OfJob a) t P f g l i b s d y = let z : PoolOf k = answers_pool u k a n r t (s.1) (y.1) d in subst (λ v. P v (verdict_of (Some t))) (sym z.is) (then_answers u j q n r t (P (OfPool z.pool)) (f z.pool) l i b (s.0) d (y.1))
 
-call_answers : (u : World) → Ground u → (q : Party) (s : Stack) (n : Plan) (r : Bool) (p : Count) (h : Share) (P : Count → Option Verdict → Type 0) → ((c : ℕ) (x : Verdict) → PlanAnswers u n x → P (OfPool c) (Some x)) → ((o : OpenCall) (c : ℕ) (d : Party) → n ≡ Open o → o.number ≡ c → Ended u o.job → P (OfScope c d) None) → After u q s n r → is_at_call s (u.stack q) ≡ true → act_of q (u.stack q).top ≡ Lower p h → r ≡ false → P p (verdict_of (follows (u.stack q).top))
-call_answers u g q s n r p h P f b (inr k) z a d = absurd (not_at_itself s (subst (λ x. is_at_call s x ≡ true) k.back z))
-call_answers u g q s n r p h P f b (inl i) z a d =
+call_answers : (u : World) → Ground u → FaultsHold u → (q : Party) (s : Stack) (n : Plan) (r : Bool) (p : Count) (h : Share) (P : Count → Option Verdict → Type 0) → ((c : ℕ) (x : Verdict) → PlanAnswers u n x → P (OfPool c) (Some x)) → ((o : OpenCall) (c : ℕ) (d : Party) → n ≡ Open o → o.number ≡ c → Ended u o.job → P (OfScope c d) None) → PlanKind u n → After u q s n r → is_at_call s (u.stack q) ≡ true → act_of q (u.stack q).top ≡ Lower p h → r ≡ false → P p (verdict_of (follows (u.stack q).top))
+call_answers u g fa q s n r p h P f b j (inr k) z a d = absurd (not_at_itself s (subst (λ x. is_at_call s x ≡ true) k.back z))
+call_answers u g fa q s n r p h P f b j (inl i) z a d =
     let l : Lowers (u.stack q).top p h = lowerer q ((u.stack q).top) p h a in
     let y : Part n i.stage (LowerCount l.pool l.share l.after) = subst (λ x. Part n i.stage x) l.is (at_place n i.stage s (u.stack q) i.stands.above i.stands.place i.stands.is z i.stands.part) in
     let e : Says u q (LowerCount l.pool l.share l.after) = subst (λ x. Says u q x) l.is ((g.calls.says q).top) in
-    subst (λ x. P p (verdict_of (follows x))) (sym l.is) (subst (λ x. P x (verdict_of (Some l.after))) l.same (lower_answers u (g.calls.jobs) q n i.stage l.pool l.share l.after P f b i.known e (i.flag ∙ d) y))
+    subst (λ x. P p (verdict_of (follows x))) (sym l.is) (subst (λ x. P x (verdict_of (Some l.after))) l.same (lower_answers u (g.calls.jobs) q n i.stage l.pool l.share l.after P f b i.known j (λ o v x m. takes_so u fa q o v x (ap follows l.is ∙ ap Some m)) e (i.flag ∙ d) y))
 
 call_takes : (u : World) → Ground u → (q : Party) (s : Stack) (n : Plan) (r : Bool) (c t : ℕ) → ((o : OpenCall) → plan_open n ≡ Some o → o.job ≡ t) → After u q s n r → is_at_call s (u.stack q) ≡ true → act_of q (u.stack q).top ≡ Take c → HoldsEnding u c t
 call_takes u g q s n r c t last (inl i) z a = finds u g q n i.stage c t last (at_place n i.stage s (u.stack q) i.stands.above i.stands.place i.stands.is z i.stands.part) (taker q ((u.stack q).top) c a)
 call_takes u g q s n r c t last (inr k) z a = absurd (not_at_itself s (subst (λ x. is_at_call s x ≡ true) k.back z))
+
+-- a scope that is to take
+scope_faults : (u : World) → FaultsHold u → (q : Party) (n : Plan) (r : Stage) (c : ℕ) → PlanKind u n → Part n r (u.stack q).top → Takes (u.stack q).top c → is_open_plan n ≡ true → TakesFault u c
+scope_faults u fa q (Open m) r c k p t z = subst (TakesFault u) t.number (takes_fault u fa q t.opened t.first t.is (ap (λ x. is_body (u.job x.job).kind) (sym same) ∙ k))
+  where
+    part : PartOpen (Open m) r t.opened
+    part = subst (λ x. Part (Open m) r x) t.is p
+
+    same : m ≡ t.opened
+    same = some_opened m t.opened (part.0)
+scope_faults u fa q _ r c k p t z = absurd (cc)
+
+call_faults : (u : World) → FaultsHold u → (q : Party) (s : Stack) (n : Plan) (r : Bool) (c : ℕ) → PlanKind u n → After u q s n r → is_at_call s (u.stack q) ≡ true → act_of q (u.stack q).top ≡ Take c → is_open_plan n ≡ true → TakesFault u c
+call_faults u fa q s n r c k (inl i) z a = scope_faults u fa q n i.stage c k (at_place n i.stage s (u.stack q) i.stands.above i.stands.place i.stands.is z i.stands.part) (taker q ((u.stack q).top) c a)
+call_faults u fa q s n r c k (inr j) z a = absurd (not_at_itself s (subst (λ x. is_at_call s x ≡ true) j.back z))
 
 is_own : (n : Plan) → IsOf (plan_job n) n
 is_own (Detach p t) = refl
@@ -586,15 +651,20 @@ pub run_on : (h : Shape) (before : List Event) (w : World) (q : Party) (s : Stac
 run_on h before w q s u [] run same = subst Ground (sym same) (ground_of h before w run)
 run_on h before w q s u (e ∷ es) run (v, opened, one, rest) = run_on h (before ++ (e ∷ [])) v q s u es (run_more (start h) w v before e run one) rest
 
--- what holds of the scopes of the last world
-run_to : (h : Shape) (before : List Event) (w : World) (q : Party) (s : Stack) (u : World) (es : List Event) → IsRun (start h) before w → IsRunUntil q s w es u → EarlyHold u
-run_to h before w q s u [] run same = subst EarlyHold (sym same) (always_early h before w run)
+-- what holds of the faults of the last world
+run_to : (h : Shape) (before : List Event) (w : World) (q : Party) (s : Stack) (u : World) (es : List Event) → IsRun (start h) before w → IsRunUntil q s w es u → FaultsHold u
+run_to h before w q s u [] run same = subst FaultsHold (sym same) (always_faults h before w run)
 run_to h before w q s u (e ∷ es) run (v, opened, one, rest) = run_to h (before ++ (e ∷ [])) v q s u es (run_more (start h) w v before e run one) rest
 
 -- a call waits for the same job
 until_target : (w : World) (q : Party) (s : Stack) (es : List Event) (u : World) → IsRunUntil q s w es u → (c : ℕ) → c + 1 ≤ w.calls → (u.call c).job ≡ (w.call c).job
 until_target w q s [] u same c l = subst (λ v. (v.call c).job ≡ (w.call c).job) (sym same) refl
 until_target w q s (e ∷ es) u (v, opened, one, rest) c l = let f : Carries w v = (let g : IfSome (Some v) (Carries w) = subst (λ o. IfSome o (Carries w)) one (step_carries w e) in g) in until_target v q s es u rest c ((f.sides c l).0) ∙ (f.sides c l).2
+
+-- and a job keeps its kind
+until_kind : (w : World) (q : Party) (s : Stack) (es : List Event) (u : World) → IsRunUntil q s w es u → (t : ℕ) → t + 1 ≤ w.jobs → (u.job t).kind ≡ (w.job t).kind
+until_kind w q s [] u same t l = subst (λ v. (v.job t).kind ≡ (w.job t).kind) (sym same) refl
+until_kind w q s (e ∷ es) u (v, opened, one, rest) t l = let f : Carries w v = (let g : IfSome (Some v) (Carries w) = subst (λ o. IfSome o (Carries w)) one (step_carries w e) in g) in until_kind v q s es u rest t ((f.made t l).0) ∙ (f.made t l).1
 
 pub call_law : CallLaw
 call_law h before q e w v u between b run =
@@ -603,15 +673,17 @@ call_law h before q e w v u between b run =
     let next : IsRun (start h) (before ++ (e ∷ [])) v = run_more (start h) w v before e b.reached b.made in
     let g : Ground u = run_on h (before ++ (e ∷ [])) v q s u between next run in
     let n : Plan = begun.plan in
+    let fa : FaultsHold u = run_to h (before ++ (e ∷ [])) v q s u between next run in
+    let kind : PlanKind u n = begun.sort u (until_kind v q s between u run) in
     let r : Bool = is_any (is_refusal q s) (Some v) between in
     let a : After u q s n r = stretch h (before ++ (e ∷ [])) v q s n u between false next begun.inside run in
     record {
       made = begun.made;
       stands = call_stands u q s n r a;
-      takes = λ c z y. call_takes u g q s n r c (v.jobs - 1) (λ o z. open_job n o z ∙ begun.last (open_awaited n o z)) a z y;
-      answers = λ y p h z x d. call_answers u g q s n r p h (λ k. LowersSo e k u w.calls w.jobs (v.jobs - 1)) (begun.answer u) (λ o c b i m z. begun.body u (g.calls.jobs) o c b i m z) a z x d;
+      takes = λ c z y. begun.takes u c (call_takes u g q s n r c (v.jobs - 1) (λ o z. open_job n o z ∙ begun.last (open_awaited n o z)) a z y) (call_faults u fa q s n r c kind a z y);
+      answers = λ y p h z x d. call_answers u g fa q s n r p h (λ k. LowersSo e k u w.calls w.jobs (v.jobs - 1)) (begun.answer u) (λ o c b i m z. begun.body u (g.calls.jobs) o c b i m z) kind a z x d;
       pays = λ z y. subst (λ t. (u.job t).counted ≡ false) (begun.last (begun.awaited y)) (by_refusal u g q s n r (is_returned u q s n r a z) (begun.awaited y) (either r));
       ends = λ z y t l m. begun.leaves u (g.calls.jobs) t (begun.numbers t l m) ((is_returned u q s n r a z).ends y);
-      empties = λ z i y. (let c : ScopeBegun w v n = begun.scope i in let k : Returned u q s n r = is_returned u q s n r a z in scope_ended u (run_to h (before ++ (e ∷ [])) v q s u between next run) w.calls w.jobs (until_target v q s between u run w.calls c.calls ∙ c.target) (c.over u (k.ends y)) (ap (λ t. (u.job t).counted) (sym c.body) ∙ k.paid y c.awaited));
+      empties = λ z i y. (let c : ScopeBegun w v n = begun.scope i in let k : Returned u q s n r = is_returned u q s n r a z in scope_ended u ((fa.books).early) w.calls w.jobs (until_target v q s between u run w.calls c.calls ∙ c.target) (c.over u (k.ends y)) (ap (λ t. (u.job t).counted) (sym c.body) ∙ k.paid y c.awaited));
       refused = λ z y t l m. (let i : (u.job t).at ≡ HandedBack = all_of (λ x. (u.job x).at ≡ HandedBack) t n (begun.numbers t l m) ((is_returned u q s n r a z).refused y) in record { at = i; untouched = (refused_so u (g.calls.jobs)).gone t i; share = (returned_so u g.returns).gone t i });
     }

@@ -13,6 +13,9 @@ pub mod CallActs
 pub mod CallEvents
 pub mod CallSteps
 pub mod CallStretch
+pub mod FaultPlaces
+pub mod Faults
+pub mod FaultSteps
 pub mod Calls
 pub mod Casts
 pub mod CallTeeth

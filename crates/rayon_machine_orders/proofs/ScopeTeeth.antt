@@ -1,20 +1,21 @@
 -- wrong machines of scopes: replays, computed by the kernel, in which a changed table or act breaks the clause of a law
 -- that forbids it
 use Rattle.std.proofs.Common.{refl}
-use Rattle.std.specs.Prelude.{ℕ, true, false, ◌+◌, ◌-◌, ◌==◌, if◌then◌else◌, Some, None, List, [], ◌∷◌, ◌++◌, ◌≡◌, IfSome}
+use Rattle.std.specs.Prelude.{ℕ, true, false, ◌+◌, ◌-◌, ◌==◌, if◌then◌else◌, Option, Some, None, List, [], ◌∷◌, ◌++◌, ◌≡◌, IfSome}
 use Rattle.rayon_machine_places.specs.declared.place.Party.{Party}
+use Rattle.rayon_machine_places.specs.declared.place.Ending.{Ending}
 use Rattle.rayon_machine_places.specs.declared.place.Ending.TheVariants.{Fine, Fault}
 use Rattle.rayon_machine_places.specs.declared.place.Plan.TheVariants.{Enter}
-use Rattle.rayon_machine_places.specs.declared.place.Count.TheVariants.{OfScope}
-use Rattle.rayon_machine_places.specs.declared.place.Share.TheVariants.{Body}
+use Rattle.rayon_machine_places.specs.declared.place.Count.TheVariants.{OfPool, OfScope}
+use Rattle.rayon_machine_places.specs.declared.place.Share.TheVariants.{Body, OfJob}
 use Rattle.rayon_machine_places.specs.declared.place.Place.{Place}
 use Rattle.rayon_machine_places.specs.declared.place.Place.TheVariants.{CloseSlot, LowerCount, GrowScope, OpenSlot, LookQueue, StoreSlot}
 use Rattle.rayon_machine_places.specs.declared.place.Move.{Move}
 use Rattle.rayon_machine_places.specs.declared.place.Move.TheVariants.{HandBack, Stay, Back}
 use Rattle.rayon_machine_places.specs.declared.act.Act.{Act}
-use Rattle.rayon_machine_places.specs.declared.act.Act.TheVariants.{Lower, Take, Slot}
+use Rattle.rayon_machine_places.specs.declared.act.Act.TheVariants.{Lower, Take, Slot, StoreBody as PutBody, StoreSlot as PutSlot}
 use Rattle.rayon_machine_places.specs.declared.act.Seen.{Seen}
-use Rattle.rayon_machine_places.specs.declared.act.Seen.TheVariants.{Yes, No, Done}
+use Rattle.rayon_machine_places.specs.declared.act.Seen.TheVariants.{Yes, No, Done, Missing, Found}
 use Rattle.rayon_machine_places.specs.declared.event.Event.{Event}
 use Rattle.rayon_machine_places.specs.declared.event.Event.TheVariants.{Refuse, End, EndPool, Scope as OpenScope, IntoSpawn}
 use Rattle.rayon_machine_places.specs.declared.state.Slot.TheVariants.{Closed, Open as IsOpen}
@@ -24,13 +25,14 @@ use Rattle.rayon_machine_places.specs.declared.place.JobKind.TheVariants.{Scoped
 use Rattle.rayon_machine_places.specs.declared.place.Then.TheVariants.{Await, GiveBack}
 use Rattle.rayon_machine_places.specs.declared.state.Whereabouts.TheVariants.{Made, Injected, Over, HandedBack}
 use Rattle.rayon_machine_places.specs.Places.{act_of, next_of}
-use Rattle.rayon_machine_places.specs.World.{Shape, World, Counts, Part, Outcome, count_in, count_below, lowered, effect}
+use Rattle.rayon_machine_places.specs.World.{Shape, World, Counts, Part, Outcome, count_in, count_below, lowered, filled, effect}
 use Rattle.rayon_machine_laws.specs.Once.{one}
 use Rattle.rayon_machine_laws.specs.Shares.{shares, is_busy}
 use Rattle.rayon_machine_laws.specs.Counted.{has_entry, keeps_own}
 use Rattle.rayon_machine_orders.proofs.WrongMachines.{Machine, step_by, run_by, times_go, two, b, c, right}
 use Rattle.rayon_machine_orders.proofs.CallTeeth.{any_by, is_back, Ends}
-use Rattle.rayon_machine_orders.specs.Calls.{caller_of, is_scope, is_at_call, is_refusal}
+use Rattle.rayon_machine_laws.specs.End.{Verdict, AllFine, LastFault, follows}
+use Rattle.rayon_machine_orders.specs.Calls.{caller_of, is_scope, is_at_call, is_refusal, verdict_of}
 
 -- the end of a scope's body sets the scope's latch, though a job of the scope is left
 abbrev sets_early : PoolShape → Party → Place → Seen → Move
@@ -202,3 +204,76 @@ record TakesEarly (w : World) : Type 0 where
 
 scope_takes_early : IfSome (run_by (record { does = effect; next = sets_early }) (two 32) (opened ++ IntoSpawn c 0 ∷ times_go c 5 ++ End c Fine ∷ times_go c 4)) TakesEarly
 scope_takes_early = record { act = refl; count = refl; slot = refl }
+
+-- the faults of scopes: a job of the scope faults, and then the body ends
+abbrev faulted_job : List Event
+faulted_job = IntoSpawn c 0 ∷ times_go c 5 ++ times_go b 12 ++ End b Fault ∷ times_go b 2
+
+-- a book keeps no fault of a job
+abbrev forgets_faults : Act → Shape → Party → Counts → Part → Outcome
+forgets_faults (PutSlot n t e) h q k m = Some (Done, record m { job = record (m.job) { slot = filled m.job.slot } })
+forgets_faults act h q k m = effect act h q k m
+
+-- the clause of faults is broken: the scope is to take, its book keeps none, and a job of it ended with a fault
+record Forgets (w : World) : Type 0 where
+  act : act_of c (w.stack c).top ≡ Take 0
+  kept : (w.call 0).fault ≡ None
+  kind : (w.job 1).kind ≡ Scoped 0 c
+  at : (w.job 1).at ≡ Over Fault
+
+book_forgets_a_fault : IfSome (run_by (record { does = forgets_faults; next = next_of }) (two 32) (opened ++ faulted_job ++ End c Fine ∷ times_go c 4)) Forgets
+book_forgets_a_fault = record { act = refl; kept = refl; kind = refl; at = refl }
+
+-- a book keeps the fault that was stored last
+abbrev last_fault : Option ℕ → ℕ → Ending → Option ℕ
+last_fault kept t Fault = Some t
+last_fault kept t Fine = kept
+
+abbrev keeps_last : Act → Shape → Party → Counts → Part → Outcome
+keeps_last (PutBody n e) h q k m = Some (Done, record m { call = record (m.call) { cell = Some e; fault = last_fault m.call.fault m.call.job e } })
+keeps_last act h q k m = effect act h q k m
+
+-- the clause of the first fault is broken by the step that stores the body's: the book kept another's
+record Replaces (m : Machine) (w : World) : Type 0 where
+  act : act_of c (w.stack c).top ≡ PutBody 0 Fault
+  kept : (w.call 0).fault ≡ Some 1
+  after : IfSome (run_by m (Some w) (times_go c 1)) (λ v. (v.call 0).fault ≡ Some 0)
+
+book_keeps_the_last_fault : IfSome (run_by (record { does = keeps_last; next = next_of }) (two 32) (opened ++ faulted_job ++ End c Fault ∷ [])) (Replaces (record { does = keeps_last; next = next_of }))
+book_keeps_the_last_fault = record { act = refl; kept = refl; after = refl }
+
+-- the machine as it is keeps the first
+book_keeps_the_first_fault : IfSome (run_by right (two 32) (opened ++ faulted_job ++ End c Fault ∷ times_go c 1)) (λ w. (w.call 0).fault ≡ Some 1)
+book_keeps_the_first_fault = refl
+
+-- a Take sees what the cell holds, which is how the body ended, and not what the book keeps
+abbrev in_cell : Part → Option Ending → Outcome
+in_cell m None = Some (Missing, m)
+in_cell m (Some e) = Some (Found e, record m { call = record (m.call) { cell = None } })
+
+abbrev sees_body : Act → Shape → Party → Counts → Part → Outcome
+sees_body (Take n) h q k m = in_cell m m.call.cell
+sees_body act h q k m = effect act h q k m
+
+-- a scope of the party, begun in w and not refused, that is to lower the terminate count and answers this, though its
+-- book keeps the fault of a job
+record AnswersSo (m : Machine) (q : Party) (e : Event) (between : List Event) (x : Verdict) (w v u : World) : Type 0 where
+  caller : caller_of e ≡ Some q
+  scope : is_scope e ≡ true
+  until : any_by m (is_back q w) (Some v) between ≡ false
+  refused : any_by m (is_refusal q (w.stack q)) (Some v) between ≡ false
+  own : is_at_call (w.stack q) (u.stack q) ≡ true
+  act : act_of q (u.stack q).top ≡ Lower (OfPool 0) (OfJob 0)
+  answer : verdict_of (follows (u.stack q).top) ≡ Some x
+  kept : (u.call w.calls).fault ≡ Some 1
+
+abbrev faulted_call : List Event
+faulted_call = times_go c 2 ++ faulted_job ++ End c Fine ∷ times_go c 5
+
+-- the clause of calls is broken: it answers no fault
+take_sees_the_body_alone : IfSome (two 32) (λ w. IfSome (step_by (record { does = sees_body; next = next_of }) w (OpenScope c 0)) (λ v. IfSome (run_by (record { does = sees_body; next = next_of }) (Some v) faulted_call) (AnswersSo (record { does = sees_body; next = next_of }) c (OpenScope c 0) faulted_call AllFine w v)))
+take_sees_the_body_alone = record { caller = refl; scope = refl; until = refl; refused = refl; own = refl; act = refl; answer = refl; kept = refl }
+
+-- the machine as it is answers one
+scope_answers_the_fault_of_its_job : IfSome (two 32) (λ w. IfSome (step_by right w (OpenScope c 0)) (λ v. IfSome (run_by right (Some v) faulted_call) (AnswersSo right c (OpenScope c 0) faulted_call LastFault w v)))
+scope_answers_the_fault_of_its_job = record { caller = refl; scope = refl; until = refl; refused = refl; own = refl; act = refl; answer = refl; kept = refl }

@@ -20,7 +20,8 @@ use Rattle.rayon_machine_places.specs.Steps.{step}
 use Rattle.rayon_machine_places.specs.Runs.{IsRun, start}
 use Rattle.rayon_machine_places.specs.Readers.{is_queued, is_running, is_done}
 use Rattle.rayon_machine_laws.specs.Counted.{ScopeEnded}
-use Rattle.rayon_machine_laws.specs.End.{HasEnded, Verdict, AllFine, FirstFault, LastFault, answered, follows, IsUntouched}
+use Rattle.rayon_machine_laws.specs.End.{HasEnded, Verdict, AllFine, FirstFault, LastFault, answered, follows, IsUntouched, ScopeTakes}
+use Rattle.rayon_machine_orders.specs.Faults.{TakesFault}
 
 -- the party that begins a call by this event
 abbrev pub caller_of : Event → Option Party
@@ -128,6 +129,12 @@ pub record HoldsEnding (w : World) (c t : ℕ) : Type 0 where
   pub cell : (w.call c).cell ≡ Some ending
   pub job : HasEnded w t ending
 
+-- where a call is to take, its cell holds how the last of its jobs ended, and it takes that; but a scope takes a fault
+-- where its book keeps one
+abbrev pub TakesSo : Event → World → (c last : ℕ) → Type 0
+TakesSo (OpenScope q p) w c last = HoldsEnding w c last × TakesFault w c
+TakesSo e w c last = HoldsEnding w c last
+
 -- what a party answers with its last acts of a call: the answers of calls that waited, and of an install that ran its
 -- job at once
 abbrev pub verdict_of : Option Then → Option Verdict
@@ -146,10 +153,18 @@ IsPrecedent e w first last (Some FirstFault) = (is_join e ≡ true) × HasEnded 
 IsPrecedent e w first last (Some LastFault) = HasEnded w last Fault × FirstFine e w first
 IsPrecedent e w first last (Some AllFine) = HasEnded w last Fine × FirstFine e w first
 
+-- a scope answers a fault exactly where its book keeps one
+abbrev pub ScopeAnswers : World → (call last : ℕ) → Option Verdict → Type 0
+ScopeAnswers w call last None = ⊥
+ScopeAnswers w call last (Some FirstFault) = ⊥
+ScopeAnswers w call last (Some LastFault) = ((w.call call).job ≡ last) × ScopeTakes w call Fault
+ScopeAnswers w call last (Some AllFine) = ((w.call call).job ≡ last) × ScopeTakes w call Fine
+
 -- where a call is to lower a count it has its answer. A scope, whose call has this number, lowers its own count too, for
 -- its body: that has run then
 abbrev pub LowersSo : Event → Count → World → (call first last : ℕ) → Option Verdict → Type 0
 LowersSo (OpenScope q p) (OfScope c o) w call first last v = (c ≡ call) × HasRun w last
+LowersSo (OpenScope q p) (OfPool r) w call first last v = ScopeAnswers w call last v
 LowersSo e k w call first last v = IsPrecedent e w first last v
 
 -- a stack stands on this one: it has all its frames below, and its top is another
@@ -160,15 +175,15 @@ pub record StandsOn (s k : Stack) : Type 0 where
 -- a call that the party q began by the event e (from w to v), in a world u that the events between lead to; its jobs
 -- are the numbers that the event gave out. Until it is over the party's stack stands on what it was. Where the call's
 -- own next act is to take from a cell, that holds how the last of its jobs ended; where it is to lower the terminate
--- count, and nothing refused it, it has the answer, and the fault is the one that takes precedence; where a scope is to
--- lower its own count, its body has run. Once it is over, either nothing refused it and it leaves each job as it should,
+-- count, and nothing refused it, it has the answer, and the fault is the one that takes precedence, but a scope's is the
+-- one that its book keeps; where a scope is to lower its own count, its body has run. Once it is over, either nothing refused it and it leaves each job as it should,
 -- or a step of it was refused and each job is given back; and an install, a join and a scope have given back their share
 -- of the terminate count, which the last of the jobs has. A scope that nothing refused has ended: no job of it has a
 -- share of its count, is queued or runs
 pub record CallGoes (q : Party) (e : Event) (w v u : World) (between : List Event) : Type 0 where
   pub made : v.jobs ≡ w.jobs + jobs_of e
   pub stands : StandsOn (w.stack q) (u.stack q) ⊎ (u.stack q ≡ w.stack q)
-  pub takes : (c : ℕ) → is_at_call (w.stack q) (u.stack q) ≡ true → act_of q (u.stack q).top ≡ Take c → HoldsEnding u c (v.jobs - 1)
+  pub takes : (c : ℕ) → is_at_call (w.stack q) (u.stack q) ≡ true → act_of q (u.stack q).top ≡ Take c → TakesSo e u c (v.jobs - 1)
   pub answers : is_awaited e ≡ true → (k : Count) (h : Share) → is_at_call (w.stack q) (u.stack q) ≡ true → act_of q (u.stack q).top ≡ Lower k h → is_any (is_refusal q (w.stack q)) (Some v) between ≡ false → LowersSo e k u w.calls w.jobs (v.jobs - 1) (verdict_of (follows (u.stack q).top))
   pub pays : u.stack q ≡ w.stack q → is_awaited e ≡ true → (u.job (v.jobs - 1)).counted ≡ false
   pub ends : u.stack q ≡ w.stack q → is_any (is_refusal q (w.stack q)) (Some v) between ≡ false → (t : ℕ) → w.jobs ≤ t → t < v.jobs → LeavesJob e u t

@@ -1,6 +1,7 @@
 pub mod Books
 pub mod Calls
 pub mod Casts
+pub mod Faults
 pub mod Order
 pub mod Queue
 pub use Rattle.rayon_machine_places.specs.Places

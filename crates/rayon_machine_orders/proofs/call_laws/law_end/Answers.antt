@@ -4,12 +4,13 @@ use Rattle.rayon_machine_orders.proofs.Filled.{FilledHold, always_filled, takes_
 use Rattle.rayon_machine_laws.proofs.Returns.{always_returns, returned_so}
 use Rattle.rayon_machine_orders.proofs.Early.{always_early, no_early_end}
 use Rattle.rayon_machine_orders.proofs.BookEvents.{always_books, is_booked}
+use Rattle.rayon_machine_orders.proofs.FaultSteps.{always_faults, takes_so, is_kept, fault_law}
 use Rattle.rayon_machine_orders.proofs.Calls.{call_law}
 use Rattle.rayon_machine_orders.proofs.Casts.{cast_law}
 use Rattle.rayon_machine_orders.proofs.call_laws.law_end.Goals as goal
 
 pub returns-clause-ends : goal.returns-clause-ends
-returns-clause-ends c h es w r = let f : FilledHold w = always_filled h es w r in ends_so w (always_calls h es w r) (takes_filled w f) (none_missing w f)
+returns-clause-ends c h es w r = let f : FilledHold w = always_filled h es w r in ends_so w (always_calls h es w r) (takes_so w (always_faults h es w r)) (takes_filled w f) (none_missing w f)
 
 pub returns-clause-refused : goal.returns-clause-refused
 returns-clause-refused c h es w r = refused_so w ((always_calls h es w r).jobs)
@@ -28,3 +29,9 @@ returns-clause-casts c = cast_law
 
 pub returns-clause-books : goal.returns-clause-books
 returns-clause-books c h es w r = is_booked w (always_books h es w r)
+
+pub returns-clause-faults : goal.returns-clause-faults
+returns-clause-faults c h es w r = is_kept w (always_faults h es w r)
+
+pub returns-clause-first : goal.returns-clause-first
+returns-clause-first c = fault_law

@@ -1,0 +1,352 @@
+-- what a place answers, and what acts leave of the faults and numbers of a book, over each act and move
+use Rattle.std.proofs.Common.{◌∙◌, arith, refl, rules, sym}
+use Rattle.std.specs.Prelude.{◌≡◌, ◌&&◌, ◌==◌, ◌+◌, ◌-◌, ◌∷◌, ℕ, [], if◌then◌else◌, Bool, IfSome, List, None, Option, Some, false, nat_lt, true}
+use Rattle.rayon_machine_laws.proofs.Frame.{if_cond, if_some_all, if_some_map, out_sees, undo_sees}
+use Rattle.rayon_machine_laws.proofs.Lists.{SameJobs, quiet_same}
+use Rattle.rayon_machine_laws.proofs.Seats.{is_frame}
+use Rattle.rayon_machine_laws.proofs.Tops.{Tops}
+use Rattle.rayon_machine_laws.specs.End.{follows}
+use Rattle.rayon_machine_orders.proofs.BookActs.{Unbooked, act_unbooked}
+use Rattle.rayon_machine_places.specs.Places.{act_of, after_failure, after_found, after_news, after_set, after_wait, finish, is_member, next_of, own_pool, plan_book, plan_job, plan_pool, settle, walk}
+use Rattle.rayon_machine_places.specs.Steps.{is_piece, jobs_after, mark_pieces, marked, put}
+use Rattle.rayon_machine_places.specs.World.{Counts, Part, Shape, at_job, begun, effect, found, is_open, pop_injector, popped, take_cast}
+use Rattle.rayon_machine_places.specs.declared.act.Act.TheVariants.{PushInj, PushOwn, Set}
+use Rattle.rayon_machine_places.specs.declared.act.Seen.{Seen}
+use Rattle.rayon_machine_places.specs.declared.act.Seen.TheVariants.{Done, Found, Task, Wakes, Yes}
+use Rattle.rayon_machine_places.specs.declared.place.Count.{Count}
+use Rattle.rayon_machine_places.specs.declared.place.Count.TheVariants.{OfPool, OfScope}
+use Rattle.rayon_machine_places.specs.declared.place.Ending.{Ending}
+use Rattle.rayon_machine_places.specs.declared.place.Entry.{Entry}
+use Rattle.rayon_machine_places.specs.declared.place.Latch.{Latch}
+use Rattle.rayon_machine_places.specs.declared.place.Latch.TheVariants.{OfCall, Terminate}
+use Rattle.rayon_machine_places.specs.declared.place.Mark.{Mark as Marking}
+use Rattle.rayon_machine_places.specs.declared.place.Mark.TheVariants.{Counted, Queued, Returned}
+use Rattle.rayon_machine_places.specs.declared.place.Move.{Move}
+use Rattle.rayon_machine_places.specs.declared.place.Move.TheVariants.{Back, Discard, HandAllBack, HandBack, HandIn, Enter as Into, Mark, StartRun, Stay}
+use Rattle.rayon_machine_places.specs.declared.place.OpenCall.{OpenCall}
+use Rattle.rayon_machine_places.specs.declared.place.Party.{Party}
+use Rattle.rayon_machine_places.specs.declared.place.Party.TheVariants.{Caller, Worker}
+use Rattle.rayon_machine_places.specs.declared.place.Pieces.{Pieces}
+use Rattle.rayon_machine_places.specs.declared.place.Place.{Place}
+use Rattle.rayon_machine_places.specs.declared.place.Place.TheVariants.{AddToFifo, AnnounceSelf, BeginHere, BeginTask, CloseSlot, JoinPop, JoinTakeCast, LeaveSearch, LocalPop, LocalTakeCast, LockToSettle, LockToWake, LowerCount, OpenSlot, PopIdle, PopInjected, PopWorking, ProbeIdle, ProbeWorking, PushForAll, PushJob, PushToken, RaiseCount, SetLatch, SetLockLatch, StealFrom, StoreBody, StoreResult, StoreSlot, TakeCastIdle, TakeCastWorking, TakeFromFifo, TakeResult, TellNews, UnlockSettled, UnlockWoken, WakeSettled, YieldPop, YieldPopInjected, YieldSteal, YieldTakeCast}
+use Rattle.rayon_machine_places.specs.declared.place.Plan.{Plan}
+use Rattle.rayon_machine_places.specs.declared.place.Plan.TheVariants.{Detach, Enter, Feed, Fork, Here, Open, Send}
+use Rattle.rayon_machine_places.specs.declared.place.Rounds.{Rounds}
+use Rattle.rayon_machine_places.specs.declared.place.Rounds.TheVariants.{Announced, Failed}
+use Rattle.rayon_machine_places.specs.declared.place.Settling.{Settling}
+use Rattle.rayon_machine_places.specs.declared.place.Share.{Share}
+use Rattle.rayon_machine_places.specs.declared.place.Taken.TheVariants.{Plain, Token}
+use Rattle.rayon_machine_places.specs.declared.place.Target.{Target}
+use Rattle.rayon_machine_places.specs.declared.place.Target.TheVariants.{Answer, Termination}
+use Rattle.rayon_machine_places.specs.declared.place.Then.{Then}
+use Rattle.rayon_machine_places.specs.declared.place.Then.TheVariants.{Answers, Await, BeginFound, Called, GiveBack, LeaveWait, Missing as NoResult, Ran, Resume, RunFirst}
+use Rattle.rayon_machine_places.specs.declared.place.Wait.{Wait}
+use Rattle.rayon_machine_places.specs.declared.shape.PoolShape.{PoolShape}
+use Rattle.rayon_machine_places.specs.declared.state.Job.{Job}
+use Rattle.rayon_machine_places.specs.declared.state.Whereabouts.TheVariants.{HandedBack, Over, Spent}
+
+-- what a call answers that a place goes on with, if the call waited
+abbrev pub Told : Type 0
+Told = OpenCall × (Option Ending × Ending)
+
+abbrev pub then_answer : Then → Option Told
+then_answer (Answers o f e) = Some (o, (f, e))
+then_answer _ = None
+
+abbrev pub told_of : Option Then → Option Told
+told_of None = None
+told_of (Some t) = then_answer t
+
+abbrev pub answer_of : Place → Option Told
+answer_of x = told_of (follows x)
+
+-- once its act has seen this
+abbrev pub sees_answer : Place → Seen → Option Told
+sees_answer (TakeResult o f) (Found d) = Some (o, (f, d))
+sees_answer x e = answer_of x
+
+-- the place after says no other answer
+abbrev pub On : Option Told → Place → Type 0
+On s y = (a : Told) → answer_of y ≡ Some a → s ≡ Some a
+
+abbrev Goes : Place → Seen → Place → Type 0
+Goes x e y = On (sees_answer x e) y
+
+pub frame_on : (s : Option Told) (f : Place) → is_frame f ≡ true → On s f
+frame_on s (LowerCount p h t) z = cc
+frame_on s (SetLatch k) z = cc
+frame_on s (SetLockLatch c t) z = cc
+frame_on s (LockToSettle k) z = cc
+frame_on s (WakeSettled k) z = cc
+frame_on s (UnlockSettled k) z = cc
+frame_on s _ z = λ a e. cc
+
+left_on : (s : Option Told) (g : Target) → On s (after_wait g)
+left_on s Termination = λ a e. cc
+left_on s (Answer o f) = λ a e. cc
+
+finish_on : (s : Option Told) (q : Party) (t : Then) → Tops (On s) (finish q t)
+finish_on s q (BeginFound g t) = λ a e. cc
+finish_on s q (LeaveWait g) = left_on s g
+finish_on s (Worker i j) (Await o) = λ a e. cc
+finish_on s (Caller n) (Await o) = λ a e. cc
+finish_on s q (RunFirst o f) = λ a e. cc
+finish_on s q Resume = tt
+finish_on s q Called = tt
+finish_on s q (Answers o f e) = tt
+finish_on s q (NoResult o f) = tt
+finish_on s q (Ran t e) = tt
+finish_on s q (GiveBack n) = tt
+
+on_if : (R : Place → Type 0) (b : Bool) (y : Place) (g : Move) → R y → Tops R g → Tops R (if b then Stay y else g)
+on_if R true y g a t = a
+on_if R false y g a t = t
+
+walk_on : (s : Option Told) (h : PoolShape) (q : Party) (p n i : ℕ) (t : Then) → Tops (On s) (walk h q p n i t)
+walk_on s h q p n i t = on_if (On s) (nat_lt 0 n && nat_lt i h.workers) (LockToWake (record { pool = p; owed = n; worker = i; then = t })) (finish q t) (λ a e. cc) (finish_on s q t)
+
+settle_on : (h : PoolShape) (q : Party) (p i : ℕ) (t : Then) → Tops (On (then_answer t)) (settle h q p i t)
+settle_on h q p i t = on_if (On (then_answer t)) (nat_lt i h.workers) (SetLatch (record { latch = Terminate; pool = p; worker = i; then = t })) (finish q t) (λ a e. e) (finish_on (then_answer t) q t)
+
+settled_on : (h : PoolShape) (q : Party) (s : Settling) (l : Latch) → Tops (On (then_answer s.then)) (after_set h q s l)
+settled_on h q s Terminate = settle_on h q s.pool (s.worker + 1) s.then
+settled_on h q s (OfCall c) = finish_on (then_answer s.then) q s.then
+
+set_on : (h : PoolShape) (q : Party) (s : Settling) (e : Seen) → Tops (Goes (SetLatch s) e) (next_of h q (SetLatch s) e)
+set_on h q s Yes = λ a e. e
+set_on h q s _ = settled_on h q s s.latch
+
+leave_on : (h : PoolShape) (q : Party) (k : Wait) (e : Seen) → Tops (Goes (LeaveSearch k) e) (next_of h q (LeaveSearch k) e)
+leave_on h q k (Wakes n) = walk_on None h q (own_pool q) n 0 (after_found k.target k.found)
+leave_on h q k _ = λ a e. cc
+
+tell_on : (h : PoolShape) (q : Party) (n : Plan) (v : Bool) (e : Seen) → Tops (Goes (TellNews n v) e) (next_of h q (TellNews n v) e)
+tell_on h q n v (Wakes m) = walk_on None h q (plan_pool n) m 0 (after_news n)
+tell_on h q n v _ = λ a e. cc
+
+raise_on : (h : PoolShape) (q : Party) (n : Plan) (e : Seen) → Tops (Goes (RaiseCount n) e) (next_of h q (RaiseCount n) e)
+raise_on h q (Detach p t) Done = λ a e. cc
+raise_on h q (Here p t) Done = λ a e. cc
+raise_on h q (Send o) Done = λ a e. cc
+raise_on h q (Fork o f) Done = λ a e. cc
+raise_on h q (Feed f) Done = λ a e. cc
+raise_on h q (Open f) Done = λ a e. cc
+raise_on h q (Enter x) Done = λ a e. cc
+raise_on h q n _ = tt
+
+store_on : (h : PoolShape) (q : Party) (c : ℕ) (o : Party) (d : Ending) (e : Seen) → Tops (Goes (StoreResult c o d) e) (next_of h q (StoreResult c o d) e)
+store_on h q c (Worker p i) d e = λ a z. cc
+store_on h q c (Caller n) d e = λ a z. cc
+
+probe_on : (h : PoolShape) (q : Party) (k : Wait) (e : Seen) → Tops (Goes (ProbeWorking k) e) (next_of h q (ProbeWorking k) e)
+probe_on h q k Yes = left_on None k.target
+probe_on h q k _ = λ a e. cc
+
+lower_on : (h : PoolShape) (q : Party) (k : Count) (s : Share) (t : Then) (e : Seen) → Tops (Goes (LowerCount k s t) e) (next_of h q (LowerCount k s t) e)
+lower_on h q (OfPool p) s t Yes = settle_on h q p 0 t
+lower_on h q (OfScope c (Worker i j)) s t Yes = λ a e. e
+lower_on h q (OfScope c (Caller n)) s t Yes = λ a e. e
+lower_on h q k s t _ = finish_on (then_answer t) q t
+
+push_on : (h : PoolShape) (q : Party) (n : Plan) (v : Bool) (e : Seen) → Tops (Goes (PushJob n v) e) (next_of h q (PushJob n v) e)
+push_on h q n v Done = λ a e. cc
+push_on h q (Detach p t) v _ = λ a e. cc
+push_on h q (Here p t) v _ = λ a e. cc
+push_on h q (Send o) v _ = λ a e. cc
+push_on h q (Fork o f) v _ = λ a e. cc
+push_on h q (Feed f) v _ = λ a e. cc
+push_on h q (Open o) v _ = λ a e. cc
+push_on h q (Enter x) v _ = λ a e. cc
+
+search_on : (h : PoolShape) (k : Wait) (r : Rounds) → On None (after_failure h k r)
+search_on h k (Failed m) = at (nat_lt m h.limit)
+  where
+    at : (b : Bool) → On None (if b then ProbeIdle (record k { rounds = Failed (m + 1) }) else AnnounceSelf k)
+    at true = λ a e. cc
+    at false = λ a e. cc
+search_on h k Announced = λ a e. cc
+
+inject_on : (h : PoolShape) (q : Party) (k : Wait) (e : Seen) → Tops (Goes (PopInjected k) e) (next_of h q (PopInjected k) e)
+inject_on h q k (Task t) = λ a e. cc
+inject_on h q k _ = search_on h k k.rounds
+
+take_on : (h : PoolShape) (q : Party) (o : OpenCall) (f : Option Ending) (e : Seen) → Tops (Goes (TakeResult o f) e) (next_of h q (TakeResult o f) e)
+take_on h q o f (Found d) = λ a e. e
+take_on h q o f _ = λ a e. cc
+
+of_every : (h : Shape) (g : PoolShape) (q : Party) (c : Counts) (m : Part) (x : Place) → ((e : Seen) → Tops (Goes x e) (next_of g q x e)) → IfSome (effect (act_of q x) h q c m) (λ r. Tops (Goes x (r.0)) (next_of g q x (r.0)))
+of_every h g q c m x f = if_some_all {A = Seen × Part} (λ r. Tops (Goes x (r.0)) (next_of g q x (r.0))) (λ r. f (r.0)) (effect (act_of q x) h q c m)
+
+-- the place after an act
+pub answers_on : (h : Shape) (g : PoolShape) (q : Party) (c : Counts) (m : Part) (x : Place) → IfSome (effect (act_of q x) h q c m) (λ r. Tops (Goes x (r.0)) (next_of g q x (r.0)))
+answers_on h g q c m (ProbeWorking k) = of_every h g q c m (ProbeWorking k) (probe_on g q k)
+answers_on h g q c m (PopInjected k) = of_every h g q c m (PopInjected k) (inject_on g q k)
+answers_on h g q c m (LeaveSearch k) = of_every h g q c m (LeaveSearch k) (leave_on g q k)
+answers_on h g q c m (TellNews n v) = of_every h g q c m (TellNews n v) (tell_on g q n v)
+answers_on h g q c m (RaiseCount n) = of_every h g q c m (RaiseCount n) (raise_on g q n)
+answers_on h g q c m (StoreResult d o e) = of_every h g q c m (StoreResult d o e) (store_on g q d o e)
+answers_on h g q c m (LowerCount p s t) = of_every h g q c m (LowerCount p s t) (lower_on g q p s t)
+answers_on h g q c m (PushJob n v) = of_every h g q c m (PushJob n v) (push_on g q n v)
+answers_on h g q c m (StoreBody o e) = of_every h g q c m (StoreBody o e) (λ s a z. cc)
+answers_on h g q c m (StoreSlot d o t e) = of_every h g q c m (StoreSlot d o t e) (λ s a z. cc)
+answers_on h g q c m (SetLockLatch d t) = of_every h g q c m (SetLockLatch d t) (λ e. finish_on (then_answer t) q t)
+answers_on h g q c m (UnlockWoken k) = of_every h g q c m (UnlockWoken k) (λ e. walk_on None g q k.pool k.owed (k.worker + 1) k.then)
+answers_on h g q c m (SetLatch s) = of_every h g q c m (SetLatch s) (set_on g q s)
+answers_on h g q c m (UnlockSettled s) = of_every h g q c m (UnlockSettled s) (λ e. settled_on g q s s.latch)
+answers_on h g q c m (TakeResult o f) = of_every h g q c m (TakeResult o f) (take_on g q o f)
+answers_on h g (Worker i j) c m _ = search (rules, arith)
+answers_on h g (Caller n) c m _ = search (rules, arith)
+
+-- places whose acts store into the book of a scope
+abbrev pub is_storing : Place → Bool
+is_storing (StoreBody o e) = true
+is_storing (StoreSlot c o t e) = true
+is_storing _ = false
+
+-- no other act changes which fault a book keeps
+abbrev pub SameFault : Part → Seen × Part → Type 0
+SameFault m r = r.1.call.fault ≡ m.call.fault
+
+set_fault : (l : Latch) (r j : ℕ) (h : Shape) (q : Party) (c : Counts) (m : Part) → IfSome (effect (Set l r j) h q c m) (SameFault m)
+set_fault Terminate r j h q c m = search (rules, arith)
+set_fault (OfCall n) r j h q c m = search (rules, arith)
+
+found_fault : (m : Part) (x : Option Ending) → IfSome (found m x) (SameFault m)
+found_fault m None = refl
+found_fault m (Some e) = refl
+
+pub act_fault : (h : Shape) (q : Party) (c : Counts) (m : Part) (x : Place) → is_storing x ≡ false → IfSome (effect (act_of q x) h q c m) (SameFault m)
+act_fault h (Worker a b) c m (ProbeWorking k) z = search (rules, arith)
+act_fault h q c m (SetLatch s) z = set_fault s.latch s.pool s.worker h q c m
+act_fault h q c m (StoreBody o e) z = cc
+act_fault h q c m (StoreSlot d o t e) z = cc
+act_fault h (Worker a b) c m (TakeResult o f) z = found_fault m m.call.cell
+act_fault h (Caller n) c m (TakeResult o f) z = found_fault m m.call.cell
+act_fault h (Worker a b) c m _ z = search (rules, arith)
+act_fault h (Caller n) c m _ z = search (rules, arith)
+
+-- places whose acts write the number that a job has of a book
+abbrev pub is_numbering : Place → Bool
+is_numbering (OpenSlot e) = true
+is_numbering (CloseSlot e) = true
+is_numbering (StoreSlot c o t e) = true
+is_numbering _ = false
+
+abbrev pub SameSlot : Part → Seen × Part → Type 0
+SameSlot m r = r.1.job.slot ≡ m.job.slot
+
+pushed_slot : (h : Shape) (q : Party) (c : Counts) (m : Part) (t p : ℕ) (k : Option ℕ) (z : Bool) → IfSome (effect (if z then PushOwn t k else PushInj p t k) h q c m) (SameSlot m)
+pushed_slot h q c m t p k true = refl
+pushed_slot h q c m t p k false = refl
+
+entered_slot : (h : Shape) (q : Party) (c : Counts) (m : Part) (e : Entry) (v : Bool) → IfSome (effect (act_of q (PushJob (Enter e) v)) h q c m) (SameSlot m)
+entered_slot h (Worker a b) c m e v = pushed_slot h (Worker a b) c m (e.job) (e.pool) (Some e.call) (is_member (Worker a b) (e.pool))
+entered_slot h (Caller n) c m e v = pushed_slot h (Caller n) c m (e.job) (e.pool) (Some e.call) (is_member (Caller n) (e.pool))
+
+pub act_slot : (h : Shape) (q : Party) (c : Counts) (m : Part) (x : Place) → is_numbering x ≡ false → IfSome (effect (act_of q x) h q c m) (SameSlot m)
+act_slot h q c m (OpenSlot e) z = cc
+act_slot h q c m (CloseSlot e) z = cc
+act_slot h q c m (StoreSlot d o t e) z = cc
+act_slot h q c m (PushJob (Enter e) v) z = entered_slot h q c m e v
+act_slot h q c m x z = if_some_map (Unbooked m) (SameSlot m) (λ r u. u.slot) (effect (act_of q x) h q c m) (act_unbooked h q c m x refl)
+
+-- no act ends a run
+abbrev pub NoEnd : Part → Seen × Part → Type 0
+NoEnd m r = (e : Ending) → r.1.job.at ≡ Over e → m.job.at ≡ Over e
+
+popped_end : (q : Party) (m : Part) (rest : List ℕ) (o : Option ℕ) → IfSome (popped q m rest o) (NoEnd m)
+popped_end q m rest None = λ e z. z
+popped_end q m rest (Some t) = λ e z. cc
+
+cast_end : (q : Party) (m : Part) (l : List ℕ) → IfSome (take_cast q m l) (NoEnd m)
+cast_end q m [] = λ e z. z
+cast_end q m (t ∷ ts) = λ e z. cc
+
+inject_end : (q : Party) (m : Part) (l : List ℕ) → IfSome (pop_injector q m l) (NoEnd m)
+inject_end q m [] = λ e z. z
+inject_end q m (t ∷ ts) = λ e z. cc
+
+push_end : (h : Shape) (q : Party) (c : Counts) (m : Part) (t p : ℕ) (k : Option ℕ) (z : Bool) → IfSome (effect (if z then PushOwn t k else PushInj p t k) h q c m) (NoEnd m)
+push_end h q c m t p k true = λ e z. cc
+push_end h q c m t p k false = λ e z. cc
+
+pub act_end : (h : Shape) (q : Party) (c : Counts) (m : Part) (x : Place) → IfSome (effect (act_of q x) h q c m) (NoEnd m)
+act_end h (Worker a b) c m (PopWorking k) = popped_end (Worker a b) m _ _
+act_end h (Caller n) c m (PopWorking k) = tt
+act_end h (Worker a b) c m (PopIdle k) = popped_end (Worker a b) m _ _
+act_end h (Caller n) c m (PopIdle k) = tt
+act_end h (Worker a b) c m (JoinPop o) = popped_end (Worker a b) m _ _
+act_end h (Caller n) c m (JoinPop o) = tt
+act_end h (Worker a b) c m YieldPop = popped_end (Worker a b) m _ _
+act_end h (Caller n) c m YieldPop = tt
+act_end h (Worker a b) c m LocalPop = popped_end (Worker a b) m _ _
+act_end h (Caller n) c m LocalPop = tt
+act_end h (Worker a b) c m (StealFrom k n) = popped_end (Worker a b) m _ _
+act_end h (Caller g) c m (StealFrom k n) = tt
+act_end h (Worker a b) c m (YieldSteal v n) = popped_end (Worker a b) m _ _
+act_end h (Caller g) c m (YieldSteal v n) = tt
+act_end h (Worker a b) c m (PopInjected k) = inject_end (Worker a b) m m.pool.injector
+act_end h (Caller n) c m (PopInjected k) = tt
+act_end h (Worker a b) c m YieldPopInjected = inject_end (Worker a b) m m.pool.injector
+act_end h (Caller n) c m YieldPopInjected = tt
+act_end h (Worker a b) c m (TakeCastWorking k) = cast_end (Worker a b) m (m.pool.casts b)
+act_end h (Caller n) c m (TakeCastWorking k) = tt
+act_end h (Worker a b) c m (TakeCastIdle k) = cast_end (Worker a b) m (m.pool.casts b)
+act_end h (Caller n) c m (TakeCastIdle k) = tt
+act_end h (Worker a b) c m (JoinTakeCast o) = cast_end (Worker a b) m (m.pool.casts b)
+act_end h (Caller n) c m (JoinTakeCast o) = tt
+act_end h (Worker a b) c m YieldTakeCast = cast_end (Worker a b) m (m.pool.casts b)
+act_end h (Caller n) c m YieldTakeCast = tt
+act_end h (Worker a b) c m LocalTakeCast = cast_end (Worker a b) m (m.pool.casts b)
+act_end h (Caller n) c m LocalTakeCast = tt
+act_end h (Worker a b) c m (PushJob n v) = push_end h (Worker a b) c m (plan_job n) (plan_pool n) (plan_book n) (is_member (Worker a b) (plan_pool n))
+act_end h (Caller g) c m (PushJob n v) = push_end h (Caller g) c m (plan_job n) (plan_pool n) (plan_book n) (is_member (Caller g) (plan_pool n))
+act_end h (Worker a b) c m (PushToken f v) = λ e z. cc
+act_end h (Caller g) c m (PushToken f v) = tt
+act_end h (Worker a b) c m (AddToFifo f) = if_cond (NoEnd m) (is_open (Worker a b) m.seat.feeder) _ (λ k e z. cc)
+act_end h (Caller g) c m (AddToFifo f) = tt
+act_end h (Worker a b) c m (TakeFromFifo f) = undo_sees (NoEnd m) (Worker a b) m (λ e z. z) (λ u i e z. cc)
+act_end h (Caller g) c m (TakeFromFifo f) = tt
+act_end h (Worker a b) c m (BeginTask (Plain u)) = λ e z. cc
+act_end h (Caller g) c m (BeginTask (Plain u)) = λ e z. cc
+act_end h (Worker a b) c m (BeginTask (Token k i)) = out_sees (NoEnd m) (Worker a b) m (λ e z. z) (λ u us y e z. cc)
+act_end h (Caller g) c m (BeginTask (Token k i)) = out_sees (NoEnd m) (Caller g) m (λ e z. z) (λ u us y e z. cc)
+act_end h (Worker a b) c m (BeginHere u) = λ e z. cc
+act_end h (Caller g) c m (BeginHere u) = λ e z. cc
+act_end h (Worker a b) c m (PushForAll v) = λ e z. z
+act_end h (Caller g) c m (PushForAll v) = λ e z. z
+act_end h q c m x = if_some_map (SameJobs m) (NoEnd m) (λ r s e z. sym s.at ∙ z) (effect (act_of q x) h q c m) (quiet_same h q c m x refl)
+
+-- and no move does
+put_end : (f : ℕ → Job) (a : ℕ) (j : Job) (t : ℕ) (e : Ending) → (j.at ≡ Over e → ⊥) → (put f a j t).at ≡ Over e → (f t).at ≡ Over e
+put_end f a j t e n = by (t == a)
+  where
+    by : (b : Bool) → (if b then j else f t).at ≡ Over e → (f t).at ≡ Over e
+    by true z = absurd (n z)
+    by false z = z
+
+marks_end : (c : Pieces) (k : Marking) (f : ℕ → Job) (t : ℕ) (e : Ending) → (mark_pieces c k f t).at ≡ Over e → (f t).at ≡ Over e
+marks_end c k f t e = by (is_piece c t) k
+  where
+    by : (b : Bool) (k : Marking) → (if b then marked k c.pool (t - c.first) (f t) else f t).at ≡ Over e → (f t).at ≡ Over e
+    by true Counted z = z
+    by true Queued z = cc
+    by true Returned z = cc
+    by false k z = z
+
+pub moved_end : (q : Party) (g : Move) (f : ℕ → Job) (t : ℕ) (e : Ending) → (jobs_after q g f t).at ≡ Over e → (f t).at ≡ Over e
+moved_end q (Stay y) f t e z = z
+moved_end q (HandIn y k) f t e z = put_end f k (at_job (f k) Spent) t e (λ y. cc) z
+moved_end q (Discard k) f t e z = put_end f k (at_job (f k) Spent) t e (λ y. cc) z
+moved_end q (Into a y) f t e z = z
+moved_end q Back f t e z = z
+moved_end q (StartRun a u) f t e z = put_end f u (begun q (f u)) t e (λ y. cc) z
+moved_end q (HandBack (Detach p a)) f t e z = put_end f a (at_job (f a) HandedBack) t e (λ y. cc) z
+moved_end q (HandBack (Here p a)) f t e z = put_end f a (at_job (f a) HandedBack) t e (λ y. cc) z
+moved_end q (HandBack (Send o)) f t e z = put_end f o.job (at_job (f o.job) HandedBack) t e (λ y. cc) z
+moved_end q (HandBack (Open o)) f t e z = put_end f o.job (at_job (f o.job) HandedBack) t e (λ y. cc) z
+moved_end q (HandBack (Enter o)) f t e z = put_end f o.job (at_job (f o.job) HandedBack) t e (λ y. cc) z
+moved_end q (HandBack (Fork o a)) f t e z = put_end f a (at_job (f a) HandedBack) t e (λ y. cc) (put_end (put f a (at_job (f a) HandedBack)) o.job (at_job (f o.job) HandedBack) t e (λ y. cc) z)
+moved_end q (HandBack (Feed d)) f t e z = put_end f d.job (at_job (f d.job) HandedBack) t e (λ y. cc) (put_end (put f d.job (at_job (f d.job) HandedBack)) d.token (at_job (f d.token) HandedBack) t e (λ y. cc) z)
+moved_end q (Mark y c k) f t e z = marks_end c k f t e z
+moved_end q (HandAllBack c) f t e z = marks_end c Returned f t e z

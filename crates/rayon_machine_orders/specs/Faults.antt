@@ -1,0 +1,58 @@
+-- which fault the book of a scope keeps
+use Rattle.std.specs.Prelude.{ℕ, ◌==◌, if◌then◌else◌, Option, Some, None, List, ◌≡◌, ◌⊎◌, IfSome}
+use Rattle.rayon_machine_places.specs.declared.place.Party.{Party}
+use Rattle.rayon_machine_places.specs.declared.place.Ending.{Ending}
+use Rattle.rayon_machine_places.specs.declared.place.Ending.TheVariants.{Fine, Fault}
+use Rattle.rayon_machine_places.specs.declared.place.JobKind.TheVariants.{Scoped, BodyOf}
+use Rattle.rayon_machine_places.specs.declared.place.OpenCall.{OpenCall}
+use Rattle.rayon_machine_places.specs.declared.place.Place.TheVariants.{TakeResult}
+use Rattle.rayon_machine_places.specs.declared.act.Act.{Act}
+use Rattle.rayon_machine_places.specs.declared.act.Act.TheVariants.{Take, StoreBody as PutBody, StoreSlot as PutSlot}
+use Rattle.rayon_machine_places.specs.declared.act.Seen.TheVariants.{Found}
+use Rattle.rayon_machine_places.specs.declared.event.Event.{Event}
+use Rattle.rayon_machine_places.specs.declared.event.Event.TheVariants.{Go}
+use Rattle.rayon_machine_places.specs.Places.{act_of}
+use Rattle.rayon_machine_places.specs.World.{Shape, World, counts_at, effect}
+use Rattle.rayon_machine_places.specs.Steps.{part_of, step}
+use Rattle.rayon_machine_places.specs.Runs.{IsRun, start}
+use Rattle.rayon_machine_laws.specs.End.{HasEnded, ScopeTakes}
+
+-- a scope that is to take: its book keeps no fault exactly where its body and each job of it ended without one, and the
+-- act sees a fault exactly where the book keeps one
+pub record TakesFault (w : World) (c : ℕ) : Type 0 where
+  pub ending : Ending
+  pub kept : ScopeTakes w c ending
+  pub sees : (q : Party) (p i n : ℕ) → IfSome (effect (Take c) w.shape q (counts_at w p) (part_of w p i c n)) (λ r. r.0 ≡ Found ending)
+
+pub record IsKept (w : World) : Type 0 where
+  pub take : (q : Party) (o : OpenCall) (f : Option Ending) → (w.stack q).top ≡ TakeResult o f → (w.job o.job).kind ≡ BodyOf o.number q → TakesFault w o.number
+
+-- the job whose ending an act stores in the book of this call, and how it ended
+abbrev pub stored_by : World → ℕ → Act → Option (ℕ × Ending)
+stored_by w c (PutBody d e) = if c == d then Some ((w.call d).job, e) else None
+stored_by w c (PutSlot d t e) = if c == d then Some (t, e) else None
+stored_by w c a = None
+
+abbrev pub stored_at : World → ℕ → Event → Option (ℕ × Ending)
+stored_at w c (Go q) = stored_by w c (act_of q (w.stack q).top)
+stored_at w c e = None
+
+-- what a book keeps after a step that has stored this: what it kept, and else the fault that is stored
+abbrev pub KeepsFirst : Option ℕ → Option (ℕ × Ending) → Option ℕ → Type 0
+KeepsFirst (Some t) s after = after ≡ Some t
+KeepsFirst None (Some (t, Fault)) after = after ≡ Some t
+KeepsFirst None s after = after ≡ None
+
+-- what is stored is how the scope's body ended, or a job of it
+pub record StoresOwn (w : World) (c t : ℕ) (e : Ending) : Type 0 where
+  pub ended : HasEnded w t e
+  pub inside : (t ≡ (w.call c).job) ⊎ ((o : Party) × ((w.job t).kind ≡ Scoped c o))
+
+-- a step, for the book of this call
+pub record KeepsFault (w v : World) (e : Event) (c : ℕ) : Type 0 where
+  pub kept : KeepsFirst (w.call c).fault (stored_at w c e) (v.call c).fault
+  pub own : (t : ℕ) (d : Ending) → stored_at w c e ≡ Some (t, d) → StoresOwn w c t d
+
+-- each step of each run: so a fault that is kept stays, and it is the first that was stored
+abbrev pub FaultLaw : Type 0
+FaultLaw = (shape : Shape) (before : List Event) (w v : World) (e : Event) (c : ℕ) → IsRun (start shape) before w → step w e ≡ Some v → KeepsFault w v e c

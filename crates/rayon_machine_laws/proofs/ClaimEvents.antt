@@ -1,7 +1,7 @@
 -- each event keeps what the places say
 use Rattle.rayon_machine_places.specs.declared.place.Latch.TheVariants.{OfCall}
 use Rattle.rayon_machine_places.specs.declared.place.Count.TheVariants.{OfPool}
-use Rattle.std.proofs.Common.{arith, refl, sym, ◌∙◌, ap, subst}
+use Rattle.std.proofs.Common.{arith, refl, sym, ◌∙◌, ap, subst, inl}
 use Rattle.std.specs.Prelude.{ℕ, Bool, true, false, ◌&&◌, ◌+◌, ◌==◌, ◌≤◌, nat_lt, if◌then◌else◌, Option, Some, None, List, [], ◌∷◌, ◌≡◌, IfSome}
 use Rattle.rayon_machine_places.specs.declared.place.Party.{Party}
 use Rattle.rayon_machine_places.specs.declared.place.Party.TheVariants.{Worker, Caller}

@@ -188,7 +188,7 @@ faults_act : (w : World) (q : Party) (x : Place) (fs : List Place) (r : Seen × 
 faults_act w q x fs r h z d = record {
   books = d.books;
   kept = λ c t e. kept c t (keeps_new (w.call c).fault (stored_by w c (act_of q x)) (u.call c).fault t (d.first c) e);
-  open = λ t c o l k a n. open t c o (ended t Fault a) (sym (lasts.kinds t) ∙ k) n (d.opens t c o (sym (lasts.kinds t) ∙ k) (ended t Fault a) (h.open t c o l (sym (lasts.kinds t) ∙ k) (ended t Fault a) (was_none c n)));
+  numbered = λ t c o l k a n. numbered t c o (ended t Fault a) (sym (lasts.kinds t) ∙ k) n (d.opens t c o (sym (lasts.kinds t) ∙ k) (ended t Fault a) (h.numbered t c o l (sym (lasts.kinds t) ∙ k) (ended t Fault a) (was_none c n)));
   body = λ c l b e n. body c l (sym (ap is_body (lasts.kinds ((u.call c).job) ∙ ap (λ m. (w.job m).kind) (lasts.targets c))) ∙ b) n (c == target_call (act_of q x)) refl e;
   first = λ c l. (subst (λ m. m + 1 ≤ w.jobs) (sym (lasts.targets c)) ((h.first c l).0), λ b. (lasts.later).side c l ∙ (h.first c l).1 (sym (ap is_body (lasts.kinds ((u.call c).job) ∙ ap (λ m. (w.job m).kind) (lasts.targets c))) ∙ b));
   answers = λ s o f e y. answers s o f e y (same_party s q) refl;
@@ -230,9 +230,9 @@ faults_act w q x fs r h z d = record {
     kept c t (inl e) = let a : FaultOf w c t = h.kept c t e in record { call = a.call; made = a.made; at = over t Fault a.at; inside = inside c t a.inside }
     kept c t (inr e) = let a : StoredSo w q x c t Fault = stored_so w q x c t Fault says e in record { call = a.call; made = a.made; at = over t Fault a.at; inside = inside c t a.inside }
 
-    open : (t c : ℕ) (o : Party) → (w.job t).at ≡ Over Fault → (w.job t).kind ≡ Scoped c o → (u.call c).fault ≡ None → (is_unfilled (put w.job (job_at w q (act_of q x)) (r.1.job) t).slot ≡ true) ⊎ (stored_by w c (act_of q x) ≡ Some (t, Fault)) → is_unfilled (u.job t).slot ≡ true
-    open t c o a k n (inl e) = ap is_unfilled (after_slot q (next_of (w.shape.pool (target_pool q (act_of q x))) q x (r.0)) (put w.job (job_at w q (act_of q x)) (r.1.job)) t) ∙ e
-    open t c o a k n (inr e) = absurd (keeps_fault (w.call c).fault (stored_by w c (act_of q x)) (u.call c).fault t e (d.first c) n)
+    numbered : (t c : ℕ) (o : Party) → (w.job t).at ≡ Over Fault → (w.job t).kind ≡ Scoped c o → (u.call c).fault ≡ None → (is_unfilled (put w.job (job_at w q (act_of q x)) (r.1.job) t).slot ≡ true) ⊎ (stored_by w c (act_of q x) ≡ Some (t, Fault)) → is_unfilled (u.job t).slot ≡ true
+    numbered t c o a k n (inl e) = ap is_unfilled (after_slot q (next_of (w.shape.pool (target_pool q (act_of q x))) q x (r.0)) (put w.job (job_at w q (act_of q x)) (r.1.job)) t) ∙ e
+    numbered t c o a k n (inr e) = absurd (keeps_fault (w.call c).fault (stored_by w c (act_of q x)) (u.call c).fault t e (d.first c) n)
 
     body : (c : ℕ) → c + 1 ≤ w.calls → is_body (w.job (w.call c).job).kind ≡ true → (u.call c).fault ≡ None → (b : Bool) → (c == target_call (act_of q x)) ≡ b → (if b then r.1.call else w.call c).cell ≡ Some Fault → ⊥
     body c l b n false y e = h.body c l b e (was_none c n)
@@ -324,7 +324,7 @@ still_faults : (w u : World) (q : Party) → FaultsHold w → BooksHold u → Qu
 still_faults w u q h b k ca ad st = record {
   books = b;
   kept = λ c t e. kept c t e (st.call c);
-  open = λ t c o l y a n. open t c o l y n (old t (st.ended t Fault a)) (st.ended t Fault a) (st.call c);
+  numbered = λ t c o l y a n. numbered t c o l y n (old t (st.ended t Fault a)) (st.ended t Fault a) (st.call c);
   body = λ c l i e n. body c i e n (st.call c) (st.known c l);
   first = λ c l. first c (st.known c l);
   answers = λ s o f e y. answers s o f e y (same_party s q) refl;
@@ -347,10 +347,10 @@ still_faults w u q h b k ca ad st = record {
     kept c t e (inl y) = let a : FaultOf w c t = h.kept c t (ap (λ v. v.fault) (sym y) ∙ e) in record { call = (ca.sides c a.call).0; made = (ca.made t a.made).0; at = over t Fault a.at; inside = inside c t a.call a.made a.inside }
     kept c t e (inr y) = absurd (let i : None ≡ Some t = sym y.fault ∙ e in cc)
 
-    open : (t c : ℕ) (o : Party) → t + 1 ≤ u.jobs → (u.job t).kind ≡ Scoped c o → (u.call c).fault ≡ None → t + 1 ≤ w.jobs → ((w.job t).at ≡ Over Fault) ⊎ (is_busy (w.job t).at ≡ true) → (u.call c ≡ w.call c) ⊎ NewCall w u c → is_unfilled (u.job t).slot ≡ true
-    open t c o l y n m (inl a) (inl i) = ap is_unfilled (k.slot t m) ∙ h.open t c o m (sym ((ca.made t m).1) ∙ y) a (ap (λ v. v.fault) (sym i) ∙ n)
-    open t c o l y n m (inr a) i = ap is_unfilled (k.slot t m) ∙ (h.books).busy t m c o (sym ((ca.made t m).1) ∙ y) a
-    open t c o l y n m (inl a) (inr i) = absurd (let j : c + 1 ≤ w.calls = (hold_of w h).entries t m c o (sym ((ca.made t m).1) ∙ y) in let g : w.calls ≤ c = i.new in omega (arith, j, g))
+    numbered : (t c : ℕ) (o : Party) → t + 1 ≤ u.jobs → (u.job t).kind ≡ Scoped c o → (u.call c).fault ≡ None → t + 1 ≤ w.jobs → ((w.job t).at ≡ Over Fault) ⊎ (is_busy (w.job t).at ≡ true) → (u.call c ≡ w.call c) ⊎ NewCall w u c → is_unfilled (u.job t).slot ≡ true
+    numbered t c o l y n m (inl a) (inl i) = ap is_unfilled (k.slot t m) ∙ h.numbered t c o m (sym ((ca.made t m).1) ∙ y) a (ap (λ v. v.fault) (sym i) ∙ n)
+    numbered t c o l y n m (inr a) i = ap is_unfilled (k.slot t m) ∙ (h.books).busy t m c o (sym ((ca.made t m).1) ∙ y) a
+    numbered t c o l y n m (inl a) (inr i) = absurd (let j : c + 1 ≤ w.calls = (hold_of w h).entries t m c o (sym ((ca.made t m).1) ∙ y) in let g : w.calls ≤ c = i.new in omega (arith, j, g))
 
     was_body : (c : ℕ) → c + 1 ≤ w.calls → is_body (u.job (u.call c).job).kind ≡ true → is_body (w.job (w.call c).job).kind ≡ true
     was_body c l i = sym (ap (λ n. is_body (u.job n).kind) ((ca.sides c l).2) ∙ ap is_body ((ca.made ((w.call c).job) ((h.first c l).0)).1)) ∙ i
@@ -664,7 +664,7 @@ first_faults : (h : Shape) → FaultsHold (start h)
 first_faults h = record {
   books = first_books h;
   kept = λ c t e. absurd (cc);
-  open = λ t c o l k a n. absurd (omega (arith, l));
+  numbered = λ t c o l k a n. absurd (omega (arith, l));
   body = λ c l b e n. absurd (omega (arith, l));
   first = λ c l. absurd (omega (arith, l));
   answers = λ q o f e z. absurd (let i : None ≡ Some (o, (f, e)) = sym (first_quiet h q) ∙ z in cc);
@@ -688,7 +688,7 @@ scope_takes w h c z own at fine = by ((w.call c).fault) refl
 
     job_fine : (w.call c).fault ≡ None → (t : ℕ) (o : Party) (e : Ending) → (w.job t).kind ≡ Scoped c o → (w.job t).at ≡ Over e → e ≡ Fine
     job_fine n t o Fine k a = refl
-    job_fine n t o Fault k a = absurd (open_counts w (h.books) t c o (made t Fault a) k (h.open t c o (made t Fault a) k a n) z)
+    job_fine n t o Fault k a = absurd (open_counts w (h.books) t c o (made t Fault a) k (h.numbered t c o (made t Fault a) k a n) z)
 
     by : (k : Option ℕ) → (w.call c).fault ≡ k → ScopeTakes w c (told k own)
     by None n = subst (ScopeTakes w c) (sym (fine n)) (record { kept = n; body = has_ended w jobs ((w.call c).job) Fine (at ∙ ap Over (fine n)); jobs = job_fine n })

@@ -54,7 +54,7 @@ pub record Answered (w : World) (o : OpenCall) (e : Ending) : Type 0 where
 pub record FaultsHold (w : World) : Type 0 where
   pub books : BooksHold w
   pub kept : (c t : ℕ) → (w.call c).fault ≡ Some t → FaultOf w c t
-  pub open : (t c : ℕ) (o : Party) → t + 1 ≤ w.jobs → (w.job t).kind ≡ Scoped c o → (w.job t).at ≡ Over Fault → (w.call c).fault ≡ None → is_unfilled (w.job t).slot ≡ true
+  pub numbered : (t c : ℕ) (o : Party) → t + 1 ≤ w.jobs → (w.job t).kind ≡ Scoped c o → (w.job t).at ≡ Over Fault → (w.call c).fault ≡ None → is_unfilled (w.job t).slot ≡ true
   pub body : (c : ℕ) → c + 1 ≤ w.calls → is_body (w.job (w.call c).job).kind ≡ true → (w.call c).cell ≡ Some Fault → (w.call c).fault ≡ None → ⊥
   pub first : (c : ℕ) → c + 1 ≤ w.calls → ((w.call c).job + 1 ≤ w.jobs) × (is_body (w.job (w.call c).job).kind ≡ true → (w.call c).first ≡ None)
   pub answers : (q : Party) (o : OpenCall) (f : Option Ending) (e : Ending) → answer_of (w.stack q).top ≡ Some (o, (f, e)) → Answered w o e

@@ -318,7 +318,7 @@ act_end h (Caller g) c m (PushForAll v) = λ e z. z
 act_end h q c m x = if_some_map (SameJobs m) (NoEnd m) (λ r s e z. sym s.at ∙ z) (effect (act_of q x) h q c m) (quiet_same h q c m x refl)
 
 -- and no move does
-put_end : (f : ℕ → Job) (a : ℕ) (j : Job) (t : ℕ) (e : Ending) → (j.at ≡ Over e → ⊥) → (put f a j t).at ≡ Over e → (f t).at ≡ Over e
+pub put_end : (f : ℕ → Job) (a : ℕ) (j : Job) (t : ℕ) (e : Ending) → (j.at ≡ Over e → ⊥) → (put f a j t).at ≡ Over e → (f t).at ≡ Over e
 put_end f a j t e n = by (t == a)
   where
     by : (b : Bool) → (if b then j else f t).at ≡ Over e → (f t).at ≡ Over e

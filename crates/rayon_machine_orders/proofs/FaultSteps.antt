@@ -1,11 +1,10 @@
 -- the faults that the books of scopes keep, over each step of each run; and what the laws say of them
 use Rattle.std.proofs.Common.{◌∙◌, ap, arith, inl, inr, refl, subst, sym}
 use Rattle.std.proofs.Math.Dec.{ltb}
-use Rattle.std.proofs.lemmas.Bool.{eqb-true, ltb-false, ltb-true}
+use Rattle.std.proofs.lemmas.Bool.{eq-eqb, eqb-true, ltb-false, ltb-true}
 use Rattle.std.specs.Prelude.{◌⊎◌, ◌≡◌, ◌&&◌, ◌==◌, ◌+◌, ◌-◌, ◌≤◌, ◌<◌, ◌∷◌, ℕ, [], if◌then◌else◌, Bool, IfSome, List, None, Option, Some, false, nat_lt, true}
 use Rattle.rayon_machine_laws.proofs.ClaimActs.{Lasting, Written, act_written, stores}
 use Rattle.rayon_machine_laws.proofs.ClaimEvents.{ended_world}
-use Rattle.rayon_machine_laws.proofs.ClaimMakes.{below_or}
 use Rattle.rayon_machine_laws.proofs.ClaimRuns.{CallsHold, place_part, top_says, world_after}
 use Rattle.rayon_machine_laws.proofs.Claims.{AllSay, FirstEnds, IsReady, Linked, Opened, Says, SaysTarget, SaysThen, call_kind, is_body, relink}
 use Rattle.rayon_machine_laws.proofs.Endings.{follows_says, has_ended}
@@ -86,7 +85,7 @@ answered_on w u o e over kind fault count a = record {
 }
 
 answer_then : (t : Then) (o : OpenCall) (f : Option Ending) (e : Ending) → then_answer t ≡ Some (o, (f, e)) → t ≡ Answers o f e
-answer_then (Answers a g d) o f e z = let i : (a, (g, d)) ≡ (o, (f, e)) = cc in ap (λ v. Answers (v.0) ((v.1).0) ((v.1).1)) i
+answer_then (Answers a g d) o f e z = let i : ◌≡◌ {A = Told} (a, (g, d)) (o, (f, e)) = cc in ap (λ v. Answers (v.0) ((v.1).0) ((v.1).1)) i
 answer_then (BeginFound a b) o f e z = cc
 answer_then (LeaveWait a) o f e z = cc
 answer_then Resume o f e z = cc
@@ -111,7 +110,7 @@ answer_quiet (StoreSlot c o t e) a z = cc
 answer_quiet _ a z = refl
 
 sees_cases : (x : Place) (s : Seen) (a : Told) → sees_answer x s ≡ Some a → (answer_of x ≡ Some a) ⊎ ((o : OpenCall) × ((f : Option Ending) × ((d : Ending) × ((x ≡ TakeResult o f) × ((s ≡ Found d) × ((o, (f, d)) ≡ a))))))
-sees_cases (TakeResult o f) (Found d) a z = inr (o, (f, (d, (refl, (refl, (let i : (o, (f, d)) ≡ a = cc in i))))))
+sees_cases (TakeResult o f) (Found d) a z = inr (o, (f, (d, (refl, (refl, (let i : ◌≡◌ {A = Told} (o, (f, d)) a = cc in i))))))
 sees_cases x s a z = inl z
 
 -- the count of a scope whose latch its call has seen set
@@ -137,7 +136,7 @@ open_counts w h t c o l k s z =
     absurd (let d : true ≡ false = sym a ∙ b in cc)
 
 party_is : (c d : ℕ) (q r : Party) → Some (c, q) ≡ Some (d, r) → q ≡ r
-party_is c d q r e = let i : (c, q) ≡ (d, r) = cc in ap (λ v. v.1) i
+party_is c d q r e = let i : ◌≡◌ {A = ℕ × Party} (c, q) (d, r) = cc in ap (λ v. v.1) i
 
 -- nobody stores into the book of a call that answers
 unstored : (w : World) (q r : Party) (o : OpenCall) (f : Option Ending) (e : Ending) → FaultsHold w → same_party r q ≡ false → answer_of (w.stack r).top ≡ Some (o, (f, e)) → stored_by w o.number (act_of q (w.stack q).top) ≡ None
@@ -388,6 +387,9 @@ calm w u q n c j a = record {
 }
 
 -- and where one is
+below_or : (t n : ℕ) → (t == n) ≡ false → t + 1 ≤ n + 1 → t + 1 ≤ n
+below_or t n e b = elim (either (ltb t n)) [ inl y ↦ (let z : t < n = ltb-true t n y in omega (arith, z)) | inr y ↦ absurd (let z : n ≤ t = ltb-false t n y in let g : (t == n) ≡ true = eq-eqb t n (omega (arith, z, b)) in cc) ]
+
 made_call : (w u : World) (q : Party) (f : Option ℕ) (t : ℕ) → u.calls ≡ w.calls + 1 → ((c : ℕ) → u.call c ≡ put w.call w.calls (new_call f t) c) → t + 1 ≤ u.jobs → (is_body (u.job t).kind ≡ true → f ≡ None) → ((t : ℕ) (e : Ending) → (u.job t).at ≡ Over e → (w.job t).at ≡ Over e) → ((a : Told) → answer_of (u.stack q).top ≡ Some a → ⊥) → Still w u q
 made_call w u q f t n c m b j a = record {
   call = λ i. by i (i == w.calls) refl;
@@ -554,9 +556,9 @@ sided w q o h s f b = subst (λ a. FirstEnds w a (Some Fine)) ((h.first o.number
 second_told : (w : World) (q : Party) (o : OpenCall) (d : Ending) → FaultsHold w → Opened w q o → FirstEnds w (w.call o.number).first (Some Fine) → (w.job o.job).at ≡ Running q → (k : Option ℕ) → (w.call o.number).fault ≡ k → d ≡ told k d
 second_told w q o d h s f r None z = refl
 second_told w q o d h s f r (Some t) z = absurd (elim a.inside [
-    | inl i ↦ (let j : Over Fault ≡ Running q = sym a.at ∙ ap (λ n. (w.job n).at) (i ∙ s.target) ∙ r in cc)
-    | inr i ↦ (let e : Entered w t o.number (i.0) = ((h.books).early).entered t a.made o.number (i.0) (i.1) in subst (λ n. FirstEnds w n (Some Fine)) e.first f)
-  ])
+  | inl i ↦ (let j : Over Fault ≡ Running q = sym a.at ∙ ap (λ n. (w.job n).at) (i ∙ s.target) ∙ r in cc)
+  | inr i ↦ (let e : Entered w t o.number (i.0) = ((h.books).early).entered t a.made o.number (i.0) (i.1) in subst (λ n. FirstEnds w n (Some Fine)) e.first f)
+])
   where
     a : FaultOf w o.number t
     a = h.kept o.number t z
@@ -577,7 +579,7 @@ some_number : (a b : ℕ) → Some a ≡ Some b → a ≡ b
 some_number a b e = cc
 
 told_is : (u : World) (p o : OpenCall) (g f : Option Ending) (d e : Ending) → Answered u p d → Some (p, (g, d)) ≡ Some (o, (f, e)) → Answered u o e
-told_is u p o g f d e a z = let i : (p, (g, d)) ≡ (o, (f, e)) = cc in subst (λ v. Answered u (v.0) ((v.1).1)) i a
+told_is u p o g f d e a z = let i : ◌≡◌ {A = Told} (p, (g, d)) (o, (f, e)) = cc in subst (λ v. Answered u (v.0) ((v.1).1)) i a
 
 resumed_answers : (w : World) (q : Party) (d : Ending) (t : ℕ) (k : JobKind) (gs fs : List Place) → FaultsHold w → (w.job t).at ≡ Running q → Linked (Run t Direct) fs → AllSay w q fs → AllFrames fs → (o : OpenCall) (f : Option Ending) (e : Ending) → answer_of ((after_resume fs d).top) ≡ Some (o, (f, e)) → Answered (ended_world w q d t k gs) o e
 resumed_answers w q d t k gs [] h r l s a o f e z = absurd (cc)
@@ -698,9 +700,9 @@ scope_takes w h c z own at fine = by ((w.call c).fault) refl
 plain_told : (w : World) (q : Party) (o : OpenCall) (e : Ending) → FaultsHold w → Opened w q o → is_body (w.job o.job).kind ≡ false → (a : Answered w o e) → (k : Option ℕ) → (w.call o.number).fault ≡ k → e ≡ a.own
 plain_told w q o e h s b a None n = a.is ∙ ap (λ k. told k a.own) n
 plain_told w q o e h s b a (Some t) n = elim f.inside [
-    | inl i ↦ a.is ∙ ap (λ k. told k a.own) n ∙ over_is Fault a.own (sym f.at ∙ ap (λ m. (w.job m).at) (i ∙ s.target) ∙ a.at)
-    | inr i ↦ absurd (let g : Entered w t o.number (i.0) = ((h.books).early).entered t f.made o.number (i.0) (i.1) in let j : is_body (w.job o.job).kind ≡ true = ap (λ m. is_body (w.job m).kind) (sym s.target) ∙ ap is_body g.body in let v : true ≡ false = sym j ∙ b in cc)
-  ]
+  | inl i ↦ a.is ∙ ap (λ k. told k a.own) n ∙ over_is Fault a.own (sym f.at ∙ ap (λ m. (w.job m).at) (i ∙ s.target) ∙ a.at)
+  | inr i ↦ absurd (let g : Entered w t o.number (i.0) = ((h.books).early).entered t f.made o.number (i.0) (i.1) in let j : is_body (w.job o.job).kind ≡ true = ap (λ m. is_body (w.job m).kind) (sym s.target) ∙ ap is_body g.body in let v : true ≡ false = sym j ∙ b in cc)
+]
   where
     f : FaultOf w o.number t
     f = h.kept o.number t n

@@ -82,11 +82,23 @@ pub keeps_same : (a b : Option ℕ) → b ≡ a → KeepsFirst a None b
 keeps_same None b e = e
 keeps_same (Some t) b e = e
 
+-- the parts of what is stored
+abbrev job_in : Option (ℕ × Ending) → ℕ
+job_in None = 0
+job_in (Some x) = x.0
+
+abbrev end_in : Option (ℕ × Ending) → Ending
+end_in None = Fine
+end_in (Some x) = x.1
+
+abbrev pub stored_if : Bool → ℕ → Ending → Option (ℕ × Ending)
+stored_if b t e = if b then Some (t, e) else None
+
 pub keeps_fault : (a : Option ℕ) (s : Option (ℕ × Ending)) (b : Option ℕ) (t : ℕ) → s ≡ Some (t, Fault) → KeepsFirst a s b → b ≡ None → ⊥
 keeps_fault (Some u) s b t i k e = absurd (let y : Some u ≡ None = sym k ∙ e in cc)
 keeps_fault None None b t i k e = absurd (cc)
 keeps_fault None (Some (u, Fault)) b t i k e = absurd (let y : Some u ≡ None = sym k ∙ e in cc)
-keeps_fault None (Some (u, Fine)) b t i k e = absurd (cc)
+keeps_fault None (Some (u, Fine)) b t i k e = absurd (let y : Fine ≡ Fault = ap end_in i in cc)
 
 first_keeps : (a : Option ℕ) (t : ℕ) (e : Ending) → KeepsFirst a (Some (t, e)) (first_fault a t e)
 first_keeps None t Fault = refl
@@ -130,9 +142,9 @@ pub record StoredSo (w : World) (q : Party) (x : Place) (c t : ℕ) (e : Ending)
   pub place : ((o : OpenCall) × ((x ≡ StoreBody o e) × (o.number ≡ c))) ⊎ ((o : Party) × (x ≡ StoreSlot c o t e))
 
 pair_is : (a b : ℕ) (d e : Ending) → Some (a, d) ≡ Some (b, e) → (a ≡ b) × (d ≡ e)
-pair_is a b d e z = let i : (a, d) ≡ (b, e) = cc in (ap (λ v. v.0) i, ap (λ v. v.1) i)
+pair_is a b d e z = (ap job_in z, ap end_in z)
 
-body_so : (w : World) (q : Party) (o : OpenCall) (d : Ending) (c t : ℕ) (e : Ending) → Says w q (StoreBody o d) → (b : Bool) → (c == o.number) ≡ b → (if b then Some ((w.call o.number).job, d) else None) ≡ Some (t, e) → StoredSo w q (StoreBody o d) c t e
+body_so : (w : World) (q : Party) (o : OpenCall) (d : Ending) (c t : ℕ) (e : Ending) → Says w q (StoreBody o d) → (b : Bool) → (c == o.number) ≡ b → stored_if b ((w.call o.number).job) d ≡ Some (t, e) → StoredSo w q (StoreBody o d) c t e
 body_so w q o d c t e s false y z = absurd (cc)
 body_so w q o d c t e s true y z =
     let n : c ≡ o.number = eqb-true c o.number y in
@@ -146,7 +158,7 @@ body_so w q o d c t e s true y z =
       place = inl (o, (ap (StoreBody o) (i.1), sym n));
     }
 
-slot_so : (w : World) (q : Party) (d : ℕ) (o : Party) (u : ℕ) (x : Ending) (c t : ℕ) (e : Ending) → Says w q (StoreSlot d o u x) → (b : Bool) → (c == d) ≡ b → (if b then Some (u, x) else None) ≡ Some (t, e) → StoredSo w q (StoreSlot d o u x) c t e
+slot_so : (w : World) (q : Party) (d : ℕ) (o : Party) (u : ℕ) (x : Ending) (c t : ℕ) (e : Ending) → Says w q (StoreSlot d o u x) → (b : Bool) → (c == d) ≡ b → stored_if b u x ≡ Some (t, e) → StoredSo w q (StoreSlot d o u x) c t e
 slot_so w q d o u x c t e s false y z = absurd (cc)
 slot_so w q d o u x c t e s true y z =
     let n : c ≡ d = eqb-true c d y in
@@ -215,10 +227,10 @@ put_opens w q x r t c u v y f = by (t == u) refl
     by true e = f (eqb-true t u e)
     by false e = inl y
 
-pub stored_now : (c d t u : ℕ) (e : Ending) → c ≡ d → t ≡ u → e ≡ Fault → (if c == d then Some (u, e) else None) ≡ Some (t, Fault)
+pub stored_now : (c d t u : ℕ) (e : Ending) → c ≡ d → t ≡ u → e ≡ Fault → stored_if (c == d) u e ≡ Some (t, Fault)
 stored_now c d t u e i j k = by (c == d) (eq-eqb c d i)
   where
-    by : (b : Bool) → b ≡ true → (if b then Some (u, e) else None) ≡ Some (t, Fault)
+    by : (b : Bool) → b ≡ true → stored_if b u e ≡ Some (t, Fault)
     by true y = ap (λ n. Some (n, e)) (sym j) ∙ ap (λ n. Some (t, n)) k
     by false y = cc
 
@@ -228,7 +240,7 @@ over_is a b e = cc
 scope_is : (c d : ℕ) (o p : Party) → Scoped c o ≡ Scoped d p → c ≡ d
 scope_is c d o p e = cc
 
-stores_open : (w : World) (q : Party) (d : ℕ) (p : Party) (u : ℕ) (e : Ending) → Says w q (StoreSlot d p u e) → (t c : ℕ) (o : Party) → (w.job t).kind ≡ Scoped c o → (w.job t).at ≡ Over Fault → t ≡ u → (if c == d then Some (u, e) else None) ≡ Some (t, Fault)
+stores_open : (w : World) (q : Party) (d : ℕ) (p : Party) (u : ℕ) (e : Ending) → Says w q (StoreSlot d p u e) → (t c : ℕ) (o : Party) → (w.job t).kind ≡ Scoped c o → (w.job t).at ≡ Over Fault → t ≡ u → stored_if (c == d) u e ≡ Some (t, Fault)
 stores_open w q d p u e s t c o k a i = stored_now c d t u e (scope_is c d o p (sym k ∙ ap (λ n. (w.job n).kind) i ∙ s.1)) i (over_is e Fault (sym (s.3) ∙ ap (λ n. (w.job n).at) (sym i) ∙ a))
 
 -- a number is taken back of a job that is as its call made it

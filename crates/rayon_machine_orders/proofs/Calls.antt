@@ -1,6 +1,6 @@
 -- the law of calls: from the event that begins a call to the world in which its party is back
 use Rattle.std.proofs.Common.{arith, refl, sym, ◌∙◌, ap, subst, inl, inr}
-use Rattle.std.specs.Prelude.{ℕ, Bool, true, false, ◌&&◌, ◌||◌, ◌+◌, ◌-◌, ◌==◌, ◌≤◌, ◌<◌, if◌then◌else◌, Option, Some, None, List, [], ◌∷◌, ◌++◌, ◌≡◌, IfSome, ◌⊎◌, length}
+use Rattle.std.specs.Prelude.{ℕ, Bool, true, false, ◌&&◌, ◌||◌, ◌+◌, ◌-◌, ◌==◌, ◌≤◌, ◌<◌, if◌then◌else◌, Option, Some, None, List, [], ◌∷◌, ◌++◌, ◌≡◌, IfSome, ◌⊎◌, length, ⊤}
 use Rattle.std.proofs.lemmas.Bool.{eqb-true, eq-eqb}
 use Rattle.std.proofs.lemmas.List.{append_assoc, length-append}
 use Rattle.rayon_machine_places.specs.declared.place.Party.{Party}
@@ -558,16 +558,16 @@ here_answers u h (Here p i) t d z e = by d (let a : i ≡ t = cc in subst (λ x.
     by Fine b = has_ended u h i Fine b
 
 then_answers : (u : World) → JobsHold u → (q : Party) (n : Plan) (r : Stage) (t : Then) (P : Option Verdict → Type 0) → ((x : Verdict) → PlanAnswers u n x → P (Some x)) → Known u n → PlanKind u n → ((o : OpenCall) (f : Option Ending) (e : Ending) → t ≡ Answers o f e → TakesAs u o (u.job o.job).kind e) → SaysThen u q t → is_undone r ≡ false → PartOwed n r t → P (verdict_of (Some t))
-then_answers u h q n r (Answers o f e) P g k i a s d y = g (answered f e) (open_answers u h n o f e k i ((s.0).target) (s.1) (a o f e refl) (y.0))
-then_answers u h q n r (Ran t e) P g k i a s d y = g (answered None e) (here_answers u h n t e s (y.0))
-then_answers u h q n r (GiveBack m) P g k i a s d y = absurd (let b : is_undone r ≡ true = ap is_undone (y.1) in cc)
-then_answers u h q n r (BeginFound x t) P g k i a s d y = absurd y
-then_answers u h q n r (LeaveWait x) P g k i a s d y = absurd y
-then_answers u h q n r Resume P g k i a s d y = absurd y
-then_answers u h q n r Called P g k i a s d y = absurd y
-then_answers u h q n r (Await o) P g k i a s d y = absurd y
-then_answers u h q n r (RunFirst o a) P g k i a s d y = absurd y
-then_answers u h q n r (Missing o f) P g k i a s d y = absurd y
+then_answers u h q n r (Answers o f e) P g k i v s d y = g (answered f e) (open_answers u h n o f e k i ((s.0).target) (s.1) (v o f e refl) (y.0))
+then_answers u h q n r (Ran t e) P g k i v s d y = g (answered None e) (here_answers u h n t e s (y.0))
+then_answers u h q n r (GiveBack m) P g k i v s d y = absurd (let b : is_undone r ≡ true = ap is_undone (y.1) in cc)
+then_answers u h q n r (BeginFound x t) P g k i v s d y = absurd y
+then_answers u h q n r (LeaveWait x) P g k i v s d y = absurd y
+then_answers u h q n r Resume P g k i v s d y = absurd y
+then_answers u h q n r Called P g k i v s d y = absurd y
+then_answers u h q n r (Await o) P g k i v s d y = absurd y
+then_answers u h q n r (RunFirst o a) P g k i v s d y = absurd y
+then_answers u h q n r (Missing o f) P g k i v s d y = absurd y
 
 -- and what a scope's own Lower says of its body
 body_over : (u : World) (q : Party) (n : Plan) (r : Stage) (k : Count) (t : Then) (P : Count → Option Verdict → Type 0) → ((o : OpenCall) (c : ℕ) (d : Party) → n ≡ Open o → o.number ≡ c → Ended u o.job → P (OfScope c d) None) → SaysThen u q t → SaysShare u k Body t → PartBody n r t → P k (verdict_of (Some t))

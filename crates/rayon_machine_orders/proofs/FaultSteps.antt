@@ -135,7 +135,7 @@ open_counts w h t c o l k s z =
     let b : (w.job t).counted ≡ false = ((scopes_counted w (((h.early).fills).scopes)).ended c (e.call) z).jobs t o k in
     absurd (let d : true ≡ false = sym a ∙ b in cc)
 
-party_is : (c d : ℕ) (q r : Party) → Some (c, q) ≡ Some (d, r) → q ≡ r
+party_is : (c d : ℕ) (q r : Party) → ◌≡◌ {A = Option (ℕ × Party)} (Some (c, q)) (Some (d, r)) → q ≡ r
 party_is c d q r e = let i : ◌≡◌ {A = ℕ × Party} (c, q) (d, r) = cc in ap (λ v. v.1) i
 
 -- nobody stores into the book of a call that answers
@@ -578,7 +578,7 @@ second_answers w q d t k fs o h r i s = record {
 some_number : (a b : ℕ) → Some a ≡ Some b → a ≡ b
 some_number a b e = cc
 
-told_is : (u : World) (p o : OpenCall) (g f : Option Ending) (d e : Ending) → Answered u p d → Some (p, (g, d)) ≡ Some (o, (f, e)) → Answered u o e
+told_is : (u : World) (p o : OpenCall) (g f : Option Ending) (d e : Ending) → Answered u p d → ◌≡◌ {A = Option Told} (Some (p, (g, d))) (Some (o, (f, e))) → Answered u o e
 told_is u p o g f d e a z = let i : ◌≡◌ {A = Told} (p, (g, d)) (o, (f, e)) = cc in subst (λ v. Answered u (v.0) ((v.1).1)) i a
 
 resumed_answers : (w : World) (q : Party) (d : Ending) (t : ℕ) (k : JobKind) (gs fs : List Place) → FaultsHold w → (w.job t).at ≡ Running q → Linked (Run t Direct) fs → AllSay w q fs → AllFrames fs → (o : OpenCall) (f : Option Ending) (e : Ending) → answer_of ((after_resume fs d).top) ≡ Some (o, (f, e)) → Answered (ended_world w q d t k gs) o e

@@ -141,7 +141,7 @@ pub record StoredSo (w : World) (q : Party) (x : Place) (c t : ℕ) (e : Ending)
   pub inside : (t ≡ (w.call c).job) ⊎ ((o : Party) × ((w.job t).kind ≡ Scoped c o))
   pub place : ((o : OpenCall) × ((x ≡ StoreBody o e) × (o.number ≡ c))) ⊎ ((o : Party) × (x ≡ StoreSlot c o t e))
 
-pair_is : (a b : ℕ) (d e : Ending) → Some (a, d) ≡ Some (b, e) → (a ≡ b) × (d ≡ e)
+pair_is : (a b : ℕ) (d e : Ending) → ◌≡◌ {A = Option (ℕ × Ending)} (Some (a, d)) (Some (b, e)) → (a ≡ b) × (d ≡ e)
 pair_is a b d e z = (ap job_in z, ap end_in z)
 
 body_so : (w : World) (q : Party) (o : OpenCall) (d : Ending) (c t : ℕ) (e : Ending) → Says w q (StoreBody o d) → (b : Bool) → (c == o.number) ≡ b → stored_if b ((w.call o.number).job) d ≡ Some (t, e) → StoredSo w q (StoreBody o d) c t e

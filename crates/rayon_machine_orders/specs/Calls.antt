@@ -175,11 +175,11 @@ pub record StandsOn (s k : Stack) : Type 0 where
 -- a call that the party q began by the event e (from w to v), in a world u that the events between lead to; its jobs
 -- are the numbers that the event gave out. Until it is over the party's stack stands on what it was. Where the call's
 -- own next act is to take from a cell, that holds how the last of its jobs ended; where it is to lower the terminate
--- count, and nothing refused it, it has the answer, and the fault is the one that takes precedence, but a scope's is the
--- one that its book keeps; where a scope is to lower its own count, its body has run. Once it is over, either nothing refused it and it leaves each job as it should,
--- or a step of it was refused and each job is given back; and an install, a join and a scope have given back their share
--- of the terminate count, which the last of the jobs has. A scope that nothing refused has ended: no job of it has a
--- share of its count, is queued or runs
+-- count, and nothing refused it, it has the answer, and the fault is the one that takes precedence, but a scope's is
+-- the one that its book keeps; where a scope is to lower its own count, its body has run. Once it is over, either
+-- nothing refused it and it leaves each job as it should, or a step of it was refused and each job is given back; and
+-- an install, a join and a scope have given back their share of the terminate count, which the last of the jobs has. A
+-- scope that nothing refused has ended: no job of it has a share of its count, is queued or runs
 pub record CallGoes (q : Party) (e : Event) (w v u : World) (between : List Event) : Type 0 where
   pub made : v.jobs ≡ w.jobs + jobs_of e
   pub stands : StandsOn (w.stack q) (u.stack q) ⊎ (u.stack q ≡ w.stack q)

@@ -25,32 +25,34 @@ pub fn law_count()
 
 /// In every world of every run, a call that was not refused and makes its last steps has run each of its jobs once:
 /// each is over, what the call took from its cell is how its own job ended, and the fault that it answers is its first
-/// side's, else its own job's; but a scope takes, and answers, a fault exactly where its book keeps one. No call finds its cell empty when it takes from it, and none answers that its result is
-/// missing. A call that is refused has jobs that stand in no list and have never run, before its last step and for ever
-/// after. The share of the terminate count that it took is given back: from the act after the one that does it, none of
-/// its jobs is in the count, and for ever after its last step. A pool's terminate latch is set only when the pool has
-/// ended: its value is given up, no call made at it keeps a share of a count, no job made at it has one, those of scopes
-/// neither, and no detached job of it is queued, in a FIFO list or running.
-/// The same is said of calls, with places named by their acts alone (`calls`): from the event by which a party begins
-/// a spawn, a spawn in order or into a scope, an install, a join or a scope, to the first world in which the party's
+/// side's, else its own job's; but a scope takes, and answers, a fault exactly where its book keeps one. No call finds
+/// its cell empty when it takes from it, and none answers that its result is missing. A call that is refused has jobs
+/// that stand in no list and have never run, before its last step and for ever after. The share of the terminate count
+/// that it took is given back: from the act after the one that does it, none of its jobs is in the count, and for ever
+/// after its last step. A pool's terminate latch is set only when the pool has ended: its value is given up, no call
+/// made at it keeps a share of a count, no job made at it has one, those of scopes neither, and no detached job of it
+/// is queued, in a FIFO list or running.
+/// The same is said of calls, with places named by their acts alone (`calls`): from the event by which a party begins a
+/// spawn, a spawn in order or into a scope, an install, a join or a scope, to the first world in which the party's
 /// stack is again what it was, the stack stands on what it was. There each job that the event made has run once and is
-/// over, as has a scope's body, or, of a spawn, is queued, in a FIFO list, in a hand, running or over, and of a spawn in
-/// order so is the token, or it is spent; but if a step of the call itself was refused, each is handed back and has
+/// over, as has a scope's body, or, of a spawn, is queued, in a FIFO list, in a hand, running or over, and of a spawn
+/// in order so is the token, or it is spent; but if a step of the call itself was refused, each is handed back and has
 /// never run. What the call takes from a cell is how the last of its jobs ended. An install, a join or a scope that
 /// nothing refused has its answer where it is to lower the terminate count, and the fault is the one that comes first,
-/// but a scope's is the one that its book keeps; where a scope is to lower its own count its body has run. Once it is over, its share is given back; and no job of a
-/// scope that nothing refused has a share of the scope's count then, is queued or runs.
+/// but a scope's is the one that its book keeps; where a scope is to lower its own count its body has run. Once it is
+/// over, its share is given back; and no job of a scope that nothing refused has a share of the scope's count then, is
+/// queued or runs.
 /// And so it is of broadcasts (`casts`): the event gives out a piece for each worker of the pool, bound to that worker.
 /// Once the party's stack is again what it was, each piece is queued, in a hand, running or over; but if a step of the
 /// broadcast itself was refused, each is handed back, has never run, and has no share of the terminate count.
-/// Each number of a scope's book is that of one job (`books`). Who is to raise a scope's count for a job finds that it is
-/// not 0; who is to take a number back holds the book, and the number is its last; who stores how a job of a scope ended
-/// finds the job's number open; and where a scope is to take from its cell its count is 0, nobody holds its book, and no
-/// number of its jobs is open.
+/// Each number of a scope's book is that of one job (`books`). Who is to raise a scope's count for a job finds that it
+/// is not 0; who is to take a number back holds the book, and the number is its last; who stores how a job of a scope
+/// ended finds the job's number open; and where a scope is to take from its cell its count is 0, nobody holds its book,
+/// and no number of its jobs is open.
 /// There the book keeps no fault exactly where the scope's body and each job of it that is over ended without one, and
 /// else that of the body or of a job that ended so; and the Take sees a fault exactly where one is kept (`faults`). The
-/// fault is the first that was stored (`first`): over each step a fault that is kept stays, and one comes to be kept only
-/// by the act that stores the fault of that very job, where none was kept.
+/// fault is the first that was stored (`first`): over each step a fault that is kept stays, and one comes to be kept
+/// only by the act that stores the fault of that very job, where none was kept.
 /// It does not say that a call ever comes to its last step, nor that a pool ever ends.
 pub fn law_end()
     ensures ends { Always IsEnd }

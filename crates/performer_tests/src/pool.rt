@@ -1,13 +1,14 @@
 //! The pool of the tests, and what its workers do in them.
 ghost use Rattle.rayon_performers.specs.Hands.{HasTicket};
 ghost use Rattle.rayon_performers.specs.Stands.{Stands};
-ghost use Rattle.std.specs.Prelude.{◌≡◌, Some};
+ghost use Rattle.std.specs.Arc.{arc_value};
+ghost use Rattle.rayon_performers.specs.Seats.{Resting};
+ghost use Rattle.std.specs.Prelude.{◌≡◌, ◌<◌, Some};
 
 use crate::errand::Errand;
 use rayon_jobs::{Done, JobKind};
 use rayon_machine_places::place::{Move, OpenCall, Place, Taken, Target};
-use rayon_performers::{Bench, Guest, PoolHold, Registry};
-use rayon_queues::WorkerDeque;
+use rayon_performers::{Bench, Guest, PoolHold, Registry, WorkerKit};
 use rayon_tasks::{Task, Work, task_parts};
 use std::alloc::Global;
 use std::process::Abort;
@@ -44,9 +45,10 @@ pub(crate) fn end<R: Wait>(rt: &R, registry: &Registry<Task<Errand>>, hold: Pool
 // A pool of two workers, their own deques, and the unit of the terminate count of its value.
 pub(crate) struct Two {
     pub(crate) registry: Arc<Registry<Task<Errand>>, Global>,
-    pub(crate) first: WorkerDeque<Task<Errand>>,
-    pub(crate) second: WorkerDeque<Task<Errand>>,
+    pub(crate) first: WorkerKit<Task<Errand>>,
+    pub(crate) second: WorkerKit<Task<Errand>>,
     pub(crate) hold: PoolHold,
+    ghost workers: { (arc_value registry).workers ≡ 2 },
 }
 
 impl Two {
@@ -65,14 +67,35 @@ impl Two {
     }
 
     // One more share of what the workers have in common.
-    pub(crate) fn share<R: Wait + Abort>(&self, rt: &R) -> Arc<Registry<Task<Errand>>, Global> {
-        Arc::try_clone(&self.registry).expect(rt, "room")
+    pub(crate) fn share<R: Wait + Abort>(&self, rt: &R) -> Share {
+        Share {
+            registry: Arc::try_clone(&self.registry).expect(rt, "room"),
+        }
+    }
+}
+
+// A share of what the workers of a pool of two have in common.
+#[derive(Drop)]
+pub(crate) struct Share {
+    registry: Arc<Registry<Task<Errand>>, Global>,
+    ghost workers: { (arc_value registry).workers ≡ 2 },
+}
+
+impl Share {
+    // The worker of this index, which begins with this.
+    pub(crate) fn worker(self, index: usize, kit: WorkerKit<Task<Errand>>) -> Bench<Errand>
+        requires { index < 2 }
+        ensures { Resting result.chair }
+    {
+        Bench::new(self.registry, index, kit)
     }
 }
 
 // The task of a worker whose wait has ended so, which it begins.
 pub(crate) fn begun(bench: &mut Bench<Errand>, found: Move) -> Option<Task<Errand>>
-    requires { Stands bench.old found }
+    requires hands { Stands bench.old found }
+    requires rests { Resting bench.old.chair }
+    ensures { Resting bench.new.chair }
 {
     let Move::Enter {
         place: Place::BeginTask(task),
@@ -93,7 +116,9 @@ pub(crate) fn tell<R: Wait>(
     found: Move,
     answer: u8,
 ) -> Option<u8>
-    requires { Stands bench.old found }
+    requires hands { Stands bench.old found }
+    requires rests { Resting bench.old.chair }
+    ensures { Resting bench.new.chair }
 {
     let (Work::Job(job), _, ticket) = task_parts(begun(bench, found)?) else {
         return None;
@@ -107,14 +132,19 @@ pub(crate) fn tell<R: Wait>(
 }
 
 // Waits as a worker's main loop does for a task, runs it to this answer, and tells its call. Answers the task's errand.
-pub(crate) fn work<R: Wait>(rt: &R, bench: &mut Bench<Errand>, answer: u8) -> Option<u8> {
+pub(crate) fn work<R: Wait>(rt: &R, bench: &mut Bench<Errand>, answer: u8) -> Option<u8>
+    requires { Resting bench.old.chair }
+    ensures { Resting bench.new.chair }
+{
     let found = bench.wait(rt, Target::Termination);
     tell(rt, bench, found, answer)
 }
 
 // The worker offers the errand 7 by this name, and has the ticket of its join in hand.
 pub(crate) fn offer<R: Wait + Abort>(rt: &R, alloc: Global, bench: &mut Bench<Errand>, name: u64)
-    ensures { HasTicket bench.new.call (Some name) }
+    requires { Resting bench.old.chair }
+    ensures ticket { HasTicket bench.new.call (Some name) }
+    ensures rests { Resting bench.new.chair }
 {
     match bench.offer(rt, alloc, name, Errand(7), false) {
         Ok(ticket) => bench.set_call(Some(ticket)),
@@ -123,7 +153,10 @@ pub(crate) fn offer<R: Wait + Abort>(rt: &R, alloc: Global, bench: &mut Bench<Er
 }
 
 // What a worker's call has found.
-pub(crate) fn found(bench: &mut Bench<Errand>) -> Option<Result<u8, u8>> {
+pub(crate) fn found(bench: &mut Bench<Errand>) -> Option<Result<u8, u8>>
+    requires { Resting bench.old.chair }
+    ensures { Resting bench.new.chair }
+{
     match bench.take_done() {
         Some(done) => Some(done.into_result()),
         None => None,

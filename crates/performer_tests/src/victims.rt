@@ -16,6 +16,9 @@ fn robbed<R: Wait + Abort>(rt: &R, alloc: Global, steal_seed: u64, thief: usize)
     let mut taker = None;
     for (index, deque) in deques.into_iter().enumerate() {
         let share = Arc::try_clone(&registry).expect(rt, "room");
+        if index >= share.num_threads() {
+            break;
+        }
         let mut bench = Bench::new(share, index, deque);
         if index == thief {
             taker = Some(bench);

@@ -1,4 +1,6 @@
 //! Tests of workers and callers that wait for one another.
+ghost use Rattle.rayon_performers.specs.Seats.{Resting};
+
 use crate::errand::Errand;
 use crate::pool::{Two, begun, call_of, end, found, offer, tell};
 use rayon_jobs::{Done, JobKind};
@@ -19,7 +21,9 @@ fn pause<R: Clock>(rt: &R) {
 
 // A worker takes two sides that were sent, lets time pass, runs the first to 1 and the second to 2, and tells their
 // call. Answers the numbers of the two.
-fn work_pair<R: Wait + Clock>(rt: &R, bench: &mut Bench<Errand>) -> Option<(u8, u8)> {
+fn work_pair<R: Wait + Clock>(rt: &R, bench: &mut Bench<Errand>) -> Option<(u8, u8)>
+    requires { Resting bench.old.chair }
+{
     let entered = bench.wait(rt, Target::Termination);
     let (work, _, ticket) = task_parts(begun(bench, entered)?);
     let Work::Pair(pair) = work else {
@@ -64,7 +68,7 @@ fn a_worker_waits_on_a_latch_that_another_sets(rt: HostRuntime) -> Result<(), Fa
     let ((stopped, is_set), ()) = thread::join(
         &rt,
         move || {
-            let mut worker = Bench::new(other, 1, second);
+            let mut worker = other.worker(1, second);
             let ended = worker.wait_on(handle, shared.core_latch());
             (
                 matches!(ended, Move::Stay(Place::Stopped)),
@@ -99,7 +103,7 @@ fn a_worker_works_while_it_waits_on_a_latch(rt: HostRuntime) -> Result<(), Fail>
     let ((number, stopped), answer) = thread::join(
         &rt,
         move || {
-            let mut worker = Bench::new(other, 1, second);
+            let mut worker = other.worker(1, second);
             let found = worker.wait_on(handle, shared.core_latch());
             let number = tell(handle, &mut worker, found, 9);
             let ended = worker.wait_on(handle, shared.core_latch());
@@ -137,7 +141,10 @@ fn a_sent_pair_is_answered_in_order(rt: HostRuntime) -> Result<(), Fail> {
     let (shared, handle) = (&registry, &rt);
     let (numbers, answers) = thread::join(
         &rt,
-        move || work_pair(handle, &mut Bench::new(other, 1, second)),
+        move || {
+            let mut worker = other.worker(1, second);
+            work_pair(handle, &mut worker)
+        },
         move || match Guest::new(shared).send_pair(handle, alloc, 5, Errand(7), Errand(8)) {
             Ok((first, second)) => Some((result_of(first), result_of(second))),
             Err(_) => None,
@@ -167,14 +174,14 @@ fn an_owner_waits_for_its_thief(rt: HostRuntime) -> Result<(), Fail> {
     let ((waited, answer), number) = thread::join(
         &rt,
         move || {
-            let mut owner = Bench::new(share, 0, first);
+            let mut owner = share.worker(0, first);
             offer(handle, alloc, &mut owner, 0);
             raised.wait(handle);
             let waited = matches!(owner.reclaim(handle, call_of(0)), Err(Move::Back));
             (waited, found(&mut owner))
         },
         move || {
-            let mut thief = Bench::new(other, 1, second);
+            let mut thief = other.worker(1, second);
             let task = thief.wait(handle, Target::Termination);
             raised.set(handle);
             pause(handle);

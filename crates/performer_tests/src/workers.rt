@@ -2,7 +2,7 @@
 use crate::errand::Errand;
 use crate::pool::{Two, call_of, end, found, number_of, offer, work};
 use rayon_machine_places::place::{Ending, Then};
-use rayon_performers::{Bench, Guest};
+use rayon_performers::Guest;
 use rayon_words::Refusal;
 use std::test::Fail;
 use std::thread;
@@ -19,7 +19,7 @@ fn a_second_side_is_taken_back(rt: HostRuntime) -> Result<(), Fail> {
         second: _,
         hold,
     } = two;
-    let mut first = Bench::new(share, 0, first);
+    let mut first = share.worker(0, first);
     offer(&rt, alloc, &mut first, 3);
     let taken = first.reclaim(&rt, call_of(3)).is_ok();
     let number = number_of(first.take_task());
@@ -47,8 +47,8 @@ fn a_thief_answers_the_join(rt: HostRuntime) -> Result<(), Fail> {
         second,
         hold,
     } = two;
-    let mut first = Bench::new(share, 0, first);
-    let mut second = Bench::new(other, 1, second);
+    let mut first = share.worker(0, first);
+    let mut second = other.worker(1, second);
     offer(&rt, alloc, &mut first, 0);
     let number = work(&rt, &mut second, 9);
     let stolen = first.reclaim(&rt, call_of(0)).is_err();
@@ -77,7 +77,7 @@ fn a_sent_job_is_run_and_a_waiting_worker_leaves(rt: HostRuntime) -> Result<(), 
     let ((number, left), answer) = thread::join(
         &rt,
         move || {
-            let mut worker = Bench::new(other, 1, second);
+            let mut worker = other.worker(1, second);
             let number = work(handle, &mut worker, 9);
             (number, worker.take_task().is_none())
         },
@@ -87,7 +87,7 @@ fn a_sent_job_is_run_and_a_waiting_worker_leaves(rt: HostRuntime) -> Result<(), 
         },
     );
     end(&rt, &registry, hold);
-    let mut first = Bench::new(share, 0, first);
+    let mut first = share.worker(0, first);
     let rest = work(&rt, &mut first, 9);
     assert_eq!(rt; number, Some(7));
     assert!(rt; left, "the task was taken out");
@@ -108,7 +108,7 @@ fn an_ended_pool_refuses(rt: HostRuntime) -> Result<(), Fail> {
         second: _,
         hold,
     } = two;
-    let mut first = Bench::new(share, 0, first);
+    let mut first = share.worker(0, first);
     assert_eq!(rt; first.open_install(&rt, 0), Ok(()));
     let then = Then::Ran {
         job: 0,
@@ -159,8 +159,8 @@ fn a_pushed_task_is_taken_and_found(rt: HostRuntime) -> Result<(), Fail> {
         second,
         hold,
     } = two;
-    let mut first = Bench::new(share, 0, first);
-    let mut second = Bench::new(other, 1, second);
+    let mut first = share.worker(0, first);
+    let mut second = other.worker(1, second);
     offer(&rt, alloc, &mut first, 3);
     let pushed = match first.take_local(&rt) {
         Some(task) => first.push(&rt, task).is_ok(),

@@ -3,7 +3,7 @@ ghost use Rattle.std.specs.Prelude.{◌≡◌, ℕ, ◌+◌, ◌-◌, ◌^◌, m
 
 use crate::thread_pool::{ThreadPool, end_workers};
 use rayon_jobs::JobKind;
-use rayon_queues::WorkerDeque;
+use rayon_performers::WorkerKit;
 use rayon_registry::{Ids, Job, Registry, ThreadBuilder};
 use rayon_tasks::Task;
 use std::alloc::{AllocFailed, Global};
@@ -164,20 +164,20 @@ fn start_with<
     started.map_err(ThreadPoolBuildError::IOError)
 }
 
-// A worker's own deque.
-trait OwnDeque<J: JobKind>: Drop {
-    // The deque itself.
-    fn into_deque(self) -> WorkerDeque<Task<J>>;
+// What a worker begins with.
+trait OwnKit<J: JobKind>: Drop {
+    // It itself.
+    fn into_kit(self) -> WorkerKit<Task<J>>;
 }
 
-impl<J: JobKind> OwnDeque<J> for WorkerDeque<Task<J>> {
-    fn into_deque(self) -> WorkerDeque<Task<J>> {
+impl<J: JobKind> OwnKit<J> for WorkerKit<Task<J>> {
+    fn into_kit(self) -> WorkerKit<Task<J>> {
         self
     }
 }
 
 // Starts a thread that begins with what the pool's threads share, and with this deque.
-fn start_sharing<J, D: OwnDeque<J> + Send + 'static, R: Threads + Wait + Copy + Send + 'static>(
+fn start_sharing<J, D: OwnKit<J> + Send + 'static, R: Threads + Wait + Copy + Send + 'static>(
     rt: &R,
     alloc: Global,
     registry: &Registry<J>,
@@ -195,7 +195,7 @@ where
         return Err(ThreadPoolBuildError::NoRoom);
     };
     start_with(rt, shared, deque, move |rt, shared, deque| {
-        if let Some(thread) = ThreadBuilder::new(id, index, shared, deque.into_deque()) {
+        if let Some(thread) = ThreadBuilder::new(id, index, shared, deque.into_kit()) {
             thread.run(rt, alloc);
         }
     })
@@ -207,7 +207,7 @@ fn start_worker<J, R: Threads + Wait + Copy + Send + 'static>(
     alloc: Global,
     registry: &Registry<J>,
     index: usize,
-    deque: WorkerDeque<Task<J>>,
+    deque: WorkerKit<Task<J>>,
 ) -> Result<JoinHandle<()>, ThreadPoolBuildError>
 where
     J: Job + Send + Sync + 'static,
@@ -240,7 +240,7 @@ fn start_workers<J, R: Threads + Wait + Copy + Send + 'static>(
     rt: &R,
     alloc: Global,
     registry: &Registry<J>,
-    deques: Vec<WorkerDeque<Task<J>>>,
+    deques: Vec<WorkerKit<Task<J>>>,
     workers: &mut Vec<JoinHandle<()>>,
 ) -> Result<(), Unstarted>
 where

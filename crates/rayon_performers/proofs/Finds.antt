@@ -78,7 +78,7 @@ module _ {X G O F : Type 0} (h : PoolShape) (i n : ℕ) (s t u : Hands X G O F) 
   push_looked false d a = by_act h i (Stay (at.LookQueue (Detach 0 n))) s (Stay (at.LookQueue (Detach 0 n))) s t No refl (so_far h i (Stay (at.LookQueue (Detach 0 n))) s) d a
 
   -- the news of a pushed task, and the walk that it owes
-  pub push_told : (z : Bool) (k : ℕ) → Same s t → Adds (acts.News 0 z) (Wakes k) s.trace t.trace → So h i (Stay (at.TellNews (Detach 0 n) z)) s (walk h (Worker 0 i) 0 k 0 Resume) t
+  pub push_told : (z : Bool) (k : ℕ) → Does (acts.News 0 z) (Wakes k) s t → Adds (acts.News 0 z) (Wakes k) s.trace t.trace → So h i (Stay (at.TellNews (Detach 0 n) z)) s (walk h (Worker 0 i) 0 k 0 Resume) t
   push_told z k d e = by_act h i (Stay (at.TellNews (Detach 0 n) z)) s (Stay (at.TellNews (Detach 0 n) z)) s t (Wakes k) refl (so_far h i (Stay (at.TellNews (Detach 0 n) z)) s) d e
 
 -- a place of a yield's look

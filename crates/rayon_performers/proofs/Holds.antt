@@ -69,6 +69,15 @@ module _ {X G O F : Type 0} where
   does_stays (acts.Raise k n) Done s t d = (ap (λ (z : Hands X G O F). z.index) d, ap (λ (z : Hands X G O F). z.shape) d)
   does_stays (acts.Raise k n) _ s t d = (ap (λ (z : Hands X G O F). z.index) d, ap (λ (z : Hands X G O F). z.shape) d)
   does_stays (acts.Lower k b) _ s t d = (ap (λ (z : Hands X G O F). z.index) d, ap (λ (z : Hands X G O F). z.shape) d)
+  does_stays acts.AddInactive _ s t d = (ap (λ (z : Hands X G O F). z.index) d.0, ap (λ (z : Hands X G O F). z.shape) d.0)
+  does_stays acts.SubInactive _ s t d = (ap (λ (z : Hands X G O F). z.index) d.0, ap (λ (z : Hands X G O F). z.shape) d.0)
+  does_stays acts.Announce _ s t d = (ap (λ (z : Hands X G O F). z.index) d.0, ap (λ (z : Hands X G O F). z.shape) d.0)
+  does_stays acts.Load _ s t d = (ap (λ (z : Hands X G O F). z.index) d.0, ap (λ (z : Hands X G O F). z.shape) d.0)
+  does_stays (acts.TryAdd a b j) _ s t d = (ap (λ (z : Hands X G O F). z.index) d.0, ap (λ (z : Hands X G O F). z.shape) d.0)
+  does_stays acts.SubSleeping _ s t d = (ap (λ (z : Hands X G O F). z.index) d.0, ap (λ (z : Hands X G O F). z.shape) d.0)
+  does_stays (acts.News p e) _ s t d = (ap (λ (z : Hands X G O F). z.index) d.0, ap (λ (z : Hands X G O F). z.shape) d.0)
+  does_stays acts.Block _ s t d = (ap (λ (z : Hands X G O F). z.index) d.0, ap (λ (z : Hands X G O F). z.shape) d.0)
+  does_stays (acts.Lock p i) _ s t d = (ap (λ (z : Hands X G O F). z.index) d.0, ap (λ (z : Hands X G O F). z.shape) d.0)
   does_stays _ x s t d = (ap (λ (z : Hands X G O F). z.index) d, ap (λ (z : Hands X G O F). z.shape) d)
 
   -- the units are as many after an act that counts none
@@ -95,6 +104,15 @@ module _ {X G O F : Type 0} where
   does_holds (acts.Take k) _ s t c d = absurd d
   does_holds (acts.Raise k n) x s t c d = absurd (true≢false c)
   does_holds (acts.Lower k b) x s t c d = absurd (true≢false c)
+  does_holds acts.AddInactive _ s t c d = ap (λ (z : Hands X G O F). z.holds) d.0
+  does_holds acts.SubInactive _ s t c d = ap (λ (z : Hands X G O F). z.holds) d.0
+  does_holds acts.Announce _ s t c d = ap (λ (z : Hands X G O F). z.holds) d.0
+  does_holds acts.Load _ s t c d = ap (λ (z : Hands X G O F). z.holds) d.0
+  does_holds (acts.TryAdd a b j) _ s t c d = ap (λ (z : Hands X G O F). z.holds) d.0
+  does_holds acts.SubSleeping _ s t c d = ap (λ (z : Hands X G O F). z.holds) d.0
+  does_holds (acts.News p e) _ s t c d = ap (λ (z : Hands X G O F). z.holds) d.0
+  does_holds acts.Block _ s t c d = ap (λ (z : Hands X G O F). z.holds) d.0
+  does_holds (acts.Lock p i) _ s t c d = ap (λ (z : Hands X G O F). z.holds) d.0
   does_holds _ x s t c d = ap (λ (z : Hands X G O F). z.holds) d
 
   pub seat_then : (s t u : Hands X G O F) → SameSeat s t → SameSeat t u → SameSeat s u

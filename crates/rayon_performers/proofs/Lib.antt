@@ -2,6 +2,7 @@ pub mod Finds
 pub mod Holds
 pub mod Joins
 pub mod Offers
+pub mod Seats
 pub mod Stretches
 pub mod Tails
 pub mod Visits

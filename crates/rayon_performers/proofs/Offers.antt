@@ -48,7 +48,7 @@ module _ {X G O F : Type 0} (h : PoolShape) (i n : ℕ) (s t : Hands X G O F) wh
   begun_taken k x e d a = subst (λ (z : Taken). So h i (Stay (at.BeginTask z)) s (Stay (at.Run (taken_number z) (kind_of s.task))) t) (sym e) (begun_task x d a)
 
   -- the news of a pushed second side, and the walk that it owes
-  pub told : (z : Bool) (k : ℕ) → Same s t → Adds (acts.News 0 z) (Wakes k) s.trace t.trace → So h i (Stay (at.TellNews (own_join n) z)) s (walk h (Worker 0 i) 0 k 0 (RunFirst (own_call n) n)) t
+  pub told : (z : Bool) (k : ℕ) → Does (acts.News 0 z) (Wakes k) s t → Adds (acts.News 0 z) (Wakes k) s.trace t.trace → So h i (Stay (at.TellNews (own_join n) z)) s (walk h (Worker 0 i) 0 k 0 (RunFirst (own_call n) n)) t
   told z k d e = by_act h i (Stay (at.TellNews (own_join n) z)) s (Stay (at.TellNews (own_join n) z)) s t (Wakes k) refl (so_far h i (Stay (at.TellNews (own_join n) z)) s) d e
 
 module _ {X G O F : Type 0} (h : PoolShape) (i n : ℕ) (m : Move) (s t u : Hands X G O F) where

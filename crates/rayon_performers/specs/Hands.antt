@@ -14,16 +14,19 @@ use Rattle.rayon_machine_places.specs.declared.act.Act.TheVariants as acts
 use Rattle.rayon_machine_places.specs.declared.act.Seen.{Seen}
 use Rattle.rayon_machine_places.specs.declared.act.Seen.TheVariants.{Done, Yes, No, Task, Missing, Begun, Found}
 use Rattle.rayon_drive.specs.declared.trace.Log.{Log}
+use Rattle.rayon_atomics.specs.declared.views.Watch.{Watch}
 use Rattle.rayon_queues.specs.Deques.{Deque, DequeId, Popped, Pushed, SameDeque, Thief, Unmoved, Visitor, thief, visitor}
 use Rattle.rayon_jobs.specs.Endings.{ending_of}
 use Rattle.rayon_tasks.specs.Tasks.{TaskOf}
 use Rattle.rayon_tasks.specs.Tickets.{TicketOf}
 use Rattle.rayon_jobs.specs.Within.{Run}
+use Rattle.rayon_performers.specs.Seats.{AddsInactive, Announces, Loads, Relocks, Resting, Searching, Sleeping, Steps, SubsInactive, SubsSleeping, Tells, Tries}
 
 -- what a worker has at hand: its index in the pool, the pool's shape and deques; its own deque, its pass of the
 -- injector and its last pass of another's deque; the task that was taken and is not begun; the ticket of its call, the
 -- one to answer, the result to store or that was found; whether the latch that it looked at last was set; the units of
--- the terminate count that its calls hold; and what it did
+-- the terminate count that its calls hold; its seat of the counters, where that is not under its sleep lock; and what it
+-- did
 pub record Hands (X G O F : Type 0) : Type 0 where
   pub index : ℕ
   pub shape : PoolShape
@@ -37,6 +40,7 @@ pub record Hands (X G O F : Type 0) : Type 0 where
   pub done : Option (Run G O F)
   pub probed : Bool
   pub holds : ℕ
+  pub chair : Option Watch
   pub trace : Log
 
 -- yes or no
@@ -103,6 +107,14 @@ module _ {X G O F : Type 0} where
   Needs (acts.Set l p i) s = HasTicket s.reply (call_latch l)
   Needs (acts.LockSet c) s = HasTicket s.reply (Some c)
   Needs (acts.Begin n) s = HasTask s.task (Some (Plain n))
+  Needs acts.AddInactive s = Resting s.chair
+  Needs acts.SubInactive s = Searching s.chair
+  Needs acts.Announce s = Searching s.chair
+  Needs acts.Load s = Searching s.chair
+  Needs (acts.TryAdd a b j) s = Searching s.chair
+  Needs acts.SubSleeping s = Sleeping s.chair
+  Needs acts.Block s = Sleeping s.chair
+  Needs (acts.News p e) s = Resting s.chair
   Needs (acts.FifoIn n) s = ⊥
   Needs acts.FifoUndo s = ⊥
   Needs (acts.FifoOut n i) s = ⊥
@@ -125,6 +137,18 @@ module _ {X G O F : Type 0} where
   -- nothing was done but that the trace is another
   abbrev pub Same : Hands X G O F → Hands X G O F → Type 0
   Same s t = t ≡ record s { trace = t.trace }
+
+  -- nothing was done but this step of the seat of the counters, and the trace is another
+  abbrev pub Counts : (Watch → Watch → Type 0) → Hands X G O F → Hands X G O F → Type 0
+  Counts R s t = (t ≡ record s { chair = t.chair; trace = t.trace }) × Steps R s.chair t.chair
+
+  -- the seat lies under the worker's sleep lock, where it was at hand
+  abbrev pub Blocks : Hands X G O F → Hands X G O F → Type 0
+  Blocks s t = (t ≡ record s { chair = None; trace = t.trace }) × Sleeping s.chair
+
+  -- a sleep lock is taken
+  abbrev pub Locks : Hands X G O F → Hands X G O F → Type 0
+  Locks s t = (t ≡ record s { chair = t.chair; trace = t.trace }) × Relocks s.chair t.chair
 
   -- a look at the latch
   abbrev pub Probes : Seen → Hands X G O F → Hands X G O F → Type 0
@@ -200,4 +224,13 @@ module _ {X G O F : Type 0} where
   Does (acts.Take c) x s t = Takes x s t
   Does (acts.Raise k n) x s t = Raises x s t
   Does (acts.Lower k b) x s t = Lowers s t
+  Does acts.AddInactive x s t = Counts AddsInactive s t
+  Does acts.SubInactive x s t = Counts (SubsInactive x) s t
+  Does acts.Announce x s t = Counts (Announces x) s t
+  Does acts.Load x s t = Counts (Loads x) s t
+  Does (acts.TryAdd a b j) x s t = Counts (Tries (record { sleeping = a; inactive = b; jec = j }) x) s t
+  Does acts.SubSleeping x s t = Counts SubsSleeping s t
+  Does (acts.News p e) x s t = Counts (Tells e x) s t
+  Does acts.Block x s t = Blocks s t
+  Does (acts.Lock p i) x s t = Locks s t
   Does _ x s t = Same s t

@@ -30,7 +30,8 @@ use Rattle.rayon_machine_places.specs.Places.{latch_of, act_of, next_of, after_w
 use Rattle.rayon_tasks.specs.Tasks.{TaskOf}
 use Rattle.rayon_tasks.specs.Tickets.{TicketOf}
 use Rattle.rayon_performers.specs.Hands.{Hands, HasTask, HasTicket, Needs, Does, Same, Looks, Pops, PopsInjected, Steals, call_latch}
-use Rattle.rayon_performers.specs.Stands.{IsWorker, StandsAt, Stands, call_to, call_then, task_then, leaves}
+use Rattle.rayon_performers.specs.Seating.{seat_on}
+use Rattle.rayon_performers.specs.Stands.{IsWorker, SeatAt, Seated, StandsAt, Stands, call_to, call_then, task_then, leaves}
 
 module _ {X : Type 0} where
   -- a token is no task that a worker has
@@ -45,6 +46,10 @@ module _ {X G O F : Type 0} where
 
   same : (u v : Hands X G O F) (t : Option Taken) (c r : Option ℕ) (e : Option Ending) (z : Bool) → Same u v → StandsAt u t c r e z → StandsAt v t c r e z
   same u v t c r e z d a = via v _ t c r e z d (record { task = a.task; call = a.call; reply = a.reply; done = a.done; probed = a.probed })
+
+  -- but that the seat made a step, or was given away or taken back
+  moved : (u v w : Hands X G O F) (t : Option Taken) (c r : Option ℕ) (e : Option Ending) (z : Bool) → v ≡ record u { chair = w.chair; trace = w.trace } → StandsAt u t c r e z → StandsAt v t c r e z
+  moved u v w t c r e z d a = via v _ t c r e z d (record { task = a.task; call = a.call; reply = a.reply; done = a.done; probed = a.probed })
 
   looked : (u v : Hands X G O F) (t : Option Taken) (c r : Option ℕ) (e : Option Ending) (z : Bool) → Looks u v → StandsAt u t c r e z → StandsAt v t c r e z
   looked u v t c r e z d a = via v _ t c r e z d.2 (record { task = a.task; call = a.call; reply = a.reply; done = a.done; probed = a.probed })
@@ -159,47 +164,54 @@ module _ {X G O F : Type 0} where
       by false e = (a, tt)
 
   -- what the act at a place asks is there
-  pub stands_needs : (u : Hands X G O F) (p i : ℕ) (y : Place) → is_rest y ≡ false → Stands u (Stay y) → Needs (act_of (Worker p i) y) u
-  stands_needs u p i (at.ProbeWorking k) r a = latch_needs u k.target a.0.call
-  stands_needs u p i (at.ProbeIdle k) r a = latch_needs u k.target a.0.call
-  stands_needs u p i (at.GetSleepy k) r a = latch_needs u k.target a.0.call
-  stands_needs u p i (at.FallAsleep k) r a = latch_needs u k.target a.0.call
-  stands_needs u p i (at.WakeUp k) r a = latch_needs u k.target a.0.call
-  stands_needs u p i (at.JoinProbe o) r a = a.0.call
-  stands_needs u p i (at.TakeResult o f) r a = a.0.call
-  stands_needs u p i (at.StoreResult c o e) r a = (a.0.reply, a.0.done)
-  stands_needs u p i (at.SetLatch s) r a = a.0.reply
-  stands_needs u p i (at.SetLockLatch c t) r a = a.0.reply
-  stands_needs u p i (at.BeginTask (Plain t)) r a = a.0.task
-  stands_needs u p i (at.BeginTask (Token t j)) r a = no_token u.task t j a.0.task
-  stands_needs u p i (at.BeginHere t) r a = a.0.task
-  stands_needs u p i (at.RaiseCount n) r a = absurd a.1
-  stands_needs u p i (at.GrowCall n) r a = absurd a.1
-  stands_needs u p i (at.LookQueue n) r a = absurd a.1
-  stands_needs u p i (at.PushJob n e) r a = absurd a.1
-  stands_needs u p i (at.AddToFifo f) r a = absurd a.1
-  stands_needs u p i (at.LookForToken f) r a = absurd a.1
-  stands_needs u p i (at.PushToken f e) r a = absurd a.1
-  stands_needs u p i (at.TakeFromFifo f) r a = absurd a.1
-  stands_needs u p i (at.RaiseForAll c) r a = absurd a.1
-  stands_needs u p i (at.PushForAll c) r a = absurd a.1
-  stands_needs u p i (at.LowerForAll c) r a = absurd a.1
-  stands_needs u p i (at.TellNews n e) r a = absurd a.1
-  stands_needs u p i (at.WaitForLock o) r a = absurd a.1
-  stands_needs u p i (at.GrowScope o) r a = absurd a.1
-  stands_needs u p i (at.OpenSlot e) r a = absurd a.1
-  stands_needs u p i (at.CloseSlot e) r a = absurd a.1
-  stands_needs u p i (at.LowerCount (OfScope c o) s t) r a = absurd a.1
-  stands_needs u p i (at.StoreBody o e) r a = absurd a.1
-  stands_needs u p i (at.StoreSlot c o n e) r a = absurd a.1
-  stands_needs u p i (at.Run t k) r a = absurd (true≢false r)
-  stands_needs u p i (at.FirstSide o b) r a = absurd (true≢false r)
-  stands_needs u p i (at.SecondSide o) r a = absurd (true≢false r)
-  stands_needs u p i (at.ScopeBody o) r a = absurd (true≢false r)
-  stands_needs u p i (at.AtOnce m t) r a = absurd (true≢false r)
-  stands_needs u p i at.Free r a = absurd (true≢false r)
-  stands_needs u p i at.Stopped r a = absurd (true≢false r)
-  stands_needs u p i _ r a = tt
+  pub stands_needs : (u : Hands X G O F) (p i : ℕ) (y : Place) → is_rest y ≡ false → Stands u (Stay y) → SeatAt y u.chair → Needs (act_of (Worker p i) y) u
+  stands_needs u p i (at.ProbeWorking k) r a e = latch_needs u k.target a.0.call
+  stands_needs u p i (at.ProbeIdle k) r a e = latch_needs u k.target a.0.call
+  stands_needs u p i (at.GetSleepy k) r a e = latch_needs u k.target a.0.call
+  stands_needs u p i (at.FallAsleep k) r a e = latch_needs u k.target a.0.call
+  stands_needs u p i (at.WakeUp k) r a e = latch_needs u k.target a.0.call
+  stands_needs u p i (at.BecomeInactive k) r a e = e
+  stands_needs u p i (at.AnnounceSelf k) r a e = e
+  stands_needs u p i (at.LoadCounters k) r a e = e
+  stands_needs u p i (at.AddSleeping k) r a e = e
+  stands_needs u p i (at.BlockSelf k) r a e = e
+  stands_needs u p i (at.UndoSleeping k) r a e = e
+  stands_needs u p i (at.LeaveSearch k) r a e = e
+  stands_needs u p i (at.JoinProbe o) r a e = a.0.call
+  stands_needs u p i (at.TakeResult o f) r a e = a.0.call
+  stands_needs u p i (at.StoreResult c o z) r a e = (a.0.reply, a.0.done)
+  stands_needs u p i (at.SetLatch s) r a e = a.0.reply
+  stands_needs u p i (at.SetLockLatch c t) r a e = a.0.reply
+  stands_needs u p i (at.BeginTask (Plain t)) r a e = a.0.task
+  stands_needs u p i (at.BeginTask (Token t j)) r a e = no_token u.task t j a.0.task
+  stands_needs u p i (at.BeginHere t) r a e = a.0.task
+  stands_needs u p i (at.RaiseCount n) r a e = absurd a.1
+  stands_needs u p i (at.GrowCall n) r a e = absurd a.1
+  stands_needs u p i (at.LookQueue n) r a e = absurd a.1
+  stands_needs u p i (at.PushJob n z) r a e = absurd a.1
+  stands_needs u p i (at.AddToFifo f) r a e = absurd a.1
+  stands_needs u p i (at.LookForToken f) r a e = absurd a.1
+  stands_needs u p i (at.PushToken f z) r a e = absurd a.1
+  stands_needs u p i (at.TakeFromFifo f) r a e = absurd a.1
+  stands_needs u p i (at.RaiseForAll c) r a e = absurd a.1
+  stands_needs u p i (at.PushForAll c) r a e = absurd a.1
+  stands_needs u p i (at.LowerForAll c) r a e = absurd a.1
+  stands_needs u p i (at.TellNews n z) r a e = absurd a.1
+  stands_needs u p i (at.WaitForLock o) r a e = absurd a.1
+  stands_needs u p i (at.GrowScope o) r a e = absurd a.1
+  stands_needs u p i (at.OpenSlot z) r a e = absurd a.1
+  stands_needs u p i (at.CloseSlot z) r a e = absurd a.1
+  stands_needs u p i (at.LowerCount (OfScope c o) s t) r a e = absurd a.1
+  stands_needs u p i (at.StoreBody o z) r a e = absurd a.1
+  stands_needs u p i (at.StoreSlot c o n z) r a e = absurd a.1
+  stands_needs u p i (at.Run t k) r a e = absurd (true≢false r)
+  stands_needs u p i (at.FirstSide o b) r a e = absurd (true≢false r)
+  stands_needs u p i (at.SecondSide o) r a e = absurd (true≢false r)
+  stands_needs u p i (at.ScopeBody o) r a e = absurd (true≢false r)
+  stands_needs u p i (at.AtOnce m t) r a e = absurd (true≢false r)
+  stands_needs u p i at.Free r a e = absurd (true≢false r)
+  stands_needs u p i at.Stopped r a e = absurd (true≢false r)
+  stands_needs u p i _ r a e = tt
 
   -- after the act there is what belongs to where the table leads
   pub stands_on : (u v : Hands X G O F) (h : PoolShape) (p i : ℕ) (y : Place) (x : Seen) → is_rest y ≡ false → Stands u (Stay y) → Does (act_of (Worker p i) y) x u v → Stands v (next_of h (Worker p i) y x)
@@ -209,7 +221,7 @@ module _ {X G O F : Type 0} where
   stands_on u v h p i (at.PopWorking k) _ r a d = (looked u v _ _ _ _ _ d a.0, tt)
   stands_on u v h p i (at.TakeCastWorking k) (Task n) r a d = absurd d
   stands_on u v h p i (at.TakeCastWorking k) _ r a d = (same u v _ _ _ _ _ d a.0, tt)
-  stands_on u v h p i (at.BecomeInactive k) _ r a d = (same u v _ _ _ _ _ d a.0, tt)
+  stands_on u v h p i (at.BecomeInactive k) _ r a d = (moved u v v _ _ _ _ _ d.0 a.0, tt)
   stands_on u v h p i (at.ProbeIdle k) Yes r a d = (set u v _ _ _ _ d a.0, tt)
   stands_on u v h p i (at.ProbeIdle k) _ r a d = (unset u v _ _ _ _ d a.0, tt)
   stands_on u v h p i (at.PopIdle k) (Task n) r a d = (popped u v (call_to k.target) n a.0.call d, tt)
@@ -222,28 +234,28 @@ module _ {X G O F : Type 0} where
   stands_on u v h p i (at.StealFrom k m) _ r a d = either_place v (m == 0) (at.PopInjected k) (at.StealFrom (record k { victim = not_self h.workers i (next_victim h.workers k.victim) }) (m - 1)) (missed u v _ _ _ _ _ d a.0, tt) (missed u v _ _ _ _ _ d a.0, tt)
   stands_on u v h p i (at.PopInjected k) (Task n) r a d = (popped_injected u v (call_to k.target) n a.0.call d, tt)
   stands_on u v h p i (at.PopInjected k) _ r a d = failed_stands v h k k.rounds (call_of u v (call_to k.target) (ap (λ (z : Hands X G O F). z.call) d) a.0.call)
-  stands_on u v h p i (at.AnnounceSelf k) (Jec j) r a d = (same u v _ _ _ _ _ d a.0, tt)
-  stands_on u v h p i (at.AnnounceSelf k) _ r a d = (same u v _ _ _ _ _ d a.0, tt)
+  stands_on u v h p i (at.AnnounceSelf k) (Jec j) r a d = (moved u v v _ _ _ _ _ d.0 a.0, tt)
+  stands_on u v h p i (at.AnnounceSelf k) _ r a d = (moved u v v _ _ _ _ _ d.0 a.0, tt)
   stands_on u v h p i (at.GetSleepy k) Done r a d = (same u v _ _ _ _ _ d a.0, tt)
   stands_on u v h p i (at.GetSleepy k) _ r a d = (same u v _ _ _ _ _ d a.0, tt)
-  stands_on u v h p i (at.LockOwn k) _ r a d = (same u v _ _ _ _ _ d a.0, tt)
+  stands_on u v h p i (at.LockOwn k) _ r a d = (moved u v v _ _ _ _ _ d.0 a.0, tt)
   stands_on u v h p i (at.FallAsleep k) Done r a d = (same u v _ _ _ _ _ d a.0, tt)
   stands_on u v h p i (at.FallAsleep k) _ r a d = (same u v _ _ _ _ _ d a.0, tt)
-  stands_on u v h p i (at.LoadCounters k) (Word s t j) r a d = either v (j == k.kept) (Stay (at.AddSleeping (record k { sleeping = s; inactive = t }))) (Stay (at.WakeUp (record k { rounds = Failed h.limit }))) (same u v _ _ _ _ _ d a.0, tt) (same u v _ _ _ _ _ d a.0, tt)
-  stands_on u v h p i (at.LoadCounters k) _ r a d = (same u v _ _ _ _ _ d a.0, tt)
-  stands_on u v h p i (at.AddSleeping k) Done r a d = (same u v _ _ _ _ _ d a.0, tt)
-  stands_on u v h p i (at.AddSleeping k) _ r a d = (same u v _ _ _ _ _ d a.0, tt)
+  stands_on u v h p i (at.LoadCounters k) (Word s t j) r a d = either v (j == k.kept) (Stay (at.AddSleeping (record k { sleeping = s; inactive = t }))) (Stay (at.WakeUp (record k { rounds = Failed h.limit }))) (moved u v v _ _ _ _ _ d.0 a.0, tt) (moved u v v _ _ _ _ _ d.0 a.0, tt)
+  stands_on u v h p i (at.LoadCounters k) _ r a d = (moved u v v _ _ _ _ _ d.0 a.0, tt)
+  stands_on u v h p i (at.AddSleeping k) Done r a d = (moved u v v _ _ _ _ _ d.0 a.0, tt)
+  stands_on u v h p i (at.AddSleeping k) _ r a d = (moved u v v _ _ _ _ _ d.0 a.0, tt)
   stands_on u v h p i (at.LookAtCast k) Yes r a d = (same u v _ _ _ _ _ d a.0, tt)
   stands_on u v h p i (at.LookAtCast k) _ r a d = (same u v _ _ _ _ _ d a.0, tt)
   stands_on u v h p i (at.LookAtInjector k) Yes r a d = (same u v _ _ _ _ _ d a.0, tt)
   stands_on u v h p i (at.LookAtInjector k) _ r a d = (same u v _ _ _ _ _ d a.0, tt)
-  stands_on u v h p i (at.BlockSelf k) _ r a d = (same u v _ _ _ _ _ d a.0, tt)
-  stands_on u v h p i (at.RelockOwn k) _ r a d = (same u v _ _ _ _ _ d a.0, tt)
-  stands_on u v h p i (at.UndoSleeping k) _ r a d = (same u v _ _ _ _ _ d a.0, tt)
+  stands_on u v h p i (at.BlockSelf k) _ r a d = (via v _ _ _ _ _ _ d.0 (record { task = a.0.task; call = a.0.call; reply = a.0.reply; done = a.0.done; probed = a.0.probed }), tt)
+  stands_on u v h p i (at.RelockOwn k) _ r a d = (moved u v v _ _ _ _ _ d.0 a.0, tt)
+  stands_on u v h p i (at.UndoSleeping k) _ r a d = (moved u v v _ _ _ _ _ d.0 a.0, tt)
   stands_on u v h p i (at.WakeUp k) _ r a d = (same u v _ _ _ _ _ d a.0, tt)
   stands_on u v h p i (at.UnlockOwn k) _ r a d = (same u v _ _ _ _ _ d a.0, tt)
-  stands_on u v h p i (at.LeaveSearch k) (Wakes n) r a d = walk_stands v h p i p n 0 (after_found k.target k.found) (found_stands v k.target k.found (same u v _ _ _ _ _ d a.0))
-  stands_on u v h p i (at.LeaveSearch k) _ r a d = (same u v _ _ _ _ _ d a.0, tt)
+  stands_on u v h p i (at.LeaveSearch k) (Wakes n) r a d = walk_stands v h p i p n 0 (after_found k.target k.found) (found_stands v k.target k.found (moved u v v _ _ _ _ _ d.0 a.0))
+  stands_on u v h p i (at.LeaveSearch k) _ r a d = (moved u v v _ _ _ _ _ d.0 a.0, tt)
   stands_on u v h p i (at.JoinProbe o) Yes r a d = (set u v _ _ _ _ d a.0, tt)
   stands_on u v h p i (at.JoinProbe o) _ r a d = (unset u v _ _ _ _ d a.0, tt)
   stands_on u v h p i (at.JoinPop o) (Task n) r a d = joined v o n (popped u v (Some o.number) n a.0.call d)
@@ -269,7 +281,7 @@ module _ {X G O F : Type 0} where
   stands_on u v h p i (at.BeginTask (Token t j)) _ r a d = absurd (no_token u.task t j a.0.task)
   stands_on u v h p i (at.BeginHere t) (Begun k) r a d = (same u v _ _ _ _ _ d.1 a.0, tt)
   stands_on u v h p i (at.BeginHere t) _ r a d = absurd d
-  stands_on u v h p i (at.LockToWake k) _ r a d = (same u v _ _ _ _ _ d a.0, tt)
+  stands_on u v h p i (at.LockToWake k) _ r a d = (moved u v v _ _ _ _ _ d.0 a.0, tt)
   stands_on u v h p i (at.WakeWorker k) Yes r a d = (same u v _ _ _ _ _ d a.0, tt)
   stands_on u v h p i (at.WakeWorker k) _ r a d = (same u v _ _ _ _ _ d a.0, tt)
   stands_on u v h p i (at.UnlockWoken k) _ r a d = walk_stands v h p i k.pool k.owed (k.worker + 1) k.then (same u v _ _ _ _ _ d a.0)
@@ -281,7 +293,7 @@ module _ {X G O F : Type 0} where
   stands_on u v h p i (at.StoreResult c o e) _ r a d = told v c o (subst (λ (z : Hands X G O F). HasTicket z.reply (Some c)) (sym d) a.0.reply)
   stands_on u v h p i (at.SetLatch s) Yes r a d = (then_of v s.then (call_latch s.latch) (same u v _ _ _ _ _ d a.0), tt)
   stands_on u v h p i (at.SetLatch s) _ r a d = after_set_stands v h p i s s.latch (then_of v s.then (call_latch s.latch) (same u v _ _ _ _ _ d a.0))
-  stands_on u v h p i (at.LockToSettle s) _ r a d = (same u v _ _ _ _ _ d a.0, tt)
+  stands_on u v h p i (at.LockToSettle s) _ r a d = (moved u v v _ _ _ _ _ d.0 a.0, tt)
   stands_on u v h p i (at.WakeSettled s) _ r a d = (same u v _ _ _ _ _ d a.0, tt)
   stands_on u v h p i (at.UnlockSettled s) _ r a d = after_set_stands v h p i s s.latch (same u v _ _ _ _ _ d a.0)
   stands_on u v h p i (at.SetLockLatch c t) _ r a d = finish_stands v p i t (then_of v t (Some c) (same u v _ _ _ _ _ d a.0))
@@ -307,10 +319,10 @@ module _ {X G O F : Type 0} where
   stands_on u v h p i _ _ r a d = absurd (true≢false r)
 
   -- the laws of the running performer, which is a worker
-  pub bench_needs : (u : Hands X G O F) (q : Party) (y : Place) → is_rest y ≡ false → IsWorker q × Stands u (Stay y) → Needs (act_of q y) u
-  bench_needs u (Worker p i) y r a = stands_needs u p i y r a.1
+  pub bench_needs : (u : Hands X G O F) (q : Party) (y : Place) → is_rest y ≡ false → IsWorker q × Stands u (Stay y) × Seated u.chair (Stay y) → Needs (act_of q y) u
+  bench_needs u (Worker p i) y r a = stands_needs u p i y r a.1 a.2
   bench_needs u (Caller c) y r a = absurd a.0
 
-  pub bench_on : (u v : Hands X G O F) (h : PoolShape) (q : Party) (y : Place) (x : Seen) → is_rest y ≡ false → IsWorker q × Stands u (Stay y) → Does (act_of q y) x u v → IsWorker q × Stands v (next_of h q y x)
-  bench_on u v h (Worker p i) y x r a d = (tt, stands_on u v h p i y x r a.1 d)
+  pub bench_on : (u v : Hands X G O F) (h : PoolShape) (q : Party) (y : Place) (x : Seen) → is_rest y ≡ false → IsWorker q × Stands u (Stay y) × Seated u.chair (Stay y) → Does (act_of q y) x u v → IsWorker q × Stands v (next_of h q y x) × Seated v.chair (next_of h q y x)
+  bench_on u v h (Worker p i) y x r a d = (tt, stands_on u v h p i y x r a.1 d, seat_on u v h p i y x r a.1.1 a.2 d)
   bench_on u v h (Caller c) y x r a d = absurd a.0

@@ -3,6 +3,8 @@ pub mod Finds
 pub mod Hands
 pub mod Keeps
 pub mod Pools
+pub mod Seating
+pub mod Seats
 pub mod Stands
 pub mod Tails
 pub mod Visiting

@@ -14,6 +14,8 @@ use Rattle.rayon_machine_places.specs.declared.place.Place.{Place}
 use Rattle.rayon_machine_places.specs.declared.place.Place.TheVariants as at
 use Rattle.rayon_machine_places.specs.declared.place.Move.{Move}
 use Rattle.rayon_machine_places.specs.declared.place.Move.TheVariants.{Stay, Enter, StartRun, Back, HandBack, HandIn, Discard, Mark, HandAllBack}
+use Rattle.rayon_atomics.specs.declared.views.Watch.{Watch}
+use Rattle.rayon_performers.specs.Seats.{Resting, Searching, Sleeping}
 use Rattle.rayon_performers.specs.Hands.{Hands, HasTask, HasTicket, HasResult, call_latch}
 
 -- the call that a wait waits for
@@ -125,6 +127,37 @@ probed_at (at.SetLockLatch c t) = leaves t
 probed_at (at.TakeResult o f) = true
 probed_at at.Stopped = true
 probed_at _ = false
+
+-- what the worker's seat of the counters holds: an inactive unit exactly from after AddInactive to SubInactive, and a
+-- sleeping one too where the worker is counted as sleeping. From Block until the own sleep lock is taken again the seat
+-- lies under that
+abbrev pub SeatAt : Place → Option Watch → Type 0
+SeatAt (at.ProbeIdle w) c = Searching c
+SeatAt (at.PopIdle w) c = Searching c
+SeatAt (at.TakeCastIdle w) c = Searching c
+SeatAt (at.PickVictim w) c = Searching c
+SeatAt (at.StealFrom w n) c = Searching c
+SeatAt (at.PopInjected w) c = Searching c
+SeatAt (at.AnnounceSelf w) c = Searching c
+SeatAt (at.GetSleepy w) c = Searching c
+SeatAt (at.LockOwn w) c = Searching c
+SeatAt (at.FallAsleep w) c = Searching c
+SeatAt (at.LoadCounters w) c = Searching c
+SeatAt (at.AddSleeping w) c = Searching c
+SeatAt (at.LookAtCast w) c = Sleeping c
+SeatAt (at.LookAtInjector w) c = Sleeping c
+SeatAt (at.BlockSelf w) c = Sleeping c
+SeatAt (at.RelockOwn w) c = c ≡ None
+SeatAt (at.UndoSleeping w) c = Sleeping c
+SeatAt (at.WakeUp w) c = Searching c
+SeatAt (at.UnlockOwn w) c = Searching c
+SeatAt (at.LeaveSearch w) c = Searching c
+SeatAt _ c = Resting c
+
+-- and where a program has moved so: it holds no unit at a run, and at the program's end
+abbrev pub Seated : Option Watch → Move → Type 0
+Seated c (Stay p) = SeatAt p c
+Seated c _ = Resting c
 
 -- a place of a call before its wait. What it queues is its own affair: no drive stands there. And no worker here opens
 -- a scope yet, or spawns into one

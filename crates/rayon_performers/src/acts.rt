@@ -8,7 +8,7 @@ ghost use Rattle.rayon_machine_places.specs.declared.place.Party.TheVariants.{Wo
 ghost use Rattle.rayon_machine_places.specs.declared.place.Taken.TheVariants.{Plain};
 ghost use Rattle.rayon_performers.specs.Hands.{Does, Looks, Lowers, Needs, Stores, answer};
 ghost use Rattle.rayon_performers.specs.Keeps.{bench_needs, bench_on};
-ghost use Rattle.rayon_performers.specs.Stands.{IsWorker, Stands};
+ghost use Rattle.rayon_performers.specs.Stands.{IsWorker, Seated, Stands};
 ghost use Rattle.rayon_queues.specs.Deques.{Pushed, SameDeque, Unmoved};
 
 use crate::bench::Bench;
@@ -16,7 +16,6 @@ use rayon_drive::drive::Perform;
 use rayon_jobs::JobKind;
 use rayon_machine_places::act::{Act, Seen};
 use rayon_machine_places::place::{Count, Ending, JobKind as Kind, Latch, Party, Share, Taken};
-use rayon_sleep::counters::Counters;
 use rayon_tasks::{Task, Ticket};
 use rayon_words::Refusal;
 use rayon_words::latch::CoreLatch;
@@ -31,7 +30,7 @@ impl<J: JobKind> Perform for Bench<J> {
 
     ghost trace = { λ s. s.trace };
 
-    ghost stands = { λ s q m. IsWorker q × Stands s m };
+    ghost stands = { λ s q m. IsWorker q × Stands s m × Seated s.chair m };
 
     fn perform<R: Wait>(&mut self, rt: &R, act: Act) -> Seen {
         match act {
@@ -70,20 +69,24 @@ impl<J: JobKind> Perform for Bench<J> {
                 let seen = yes(self.registry.injector().is_empty(&mut self.inlet));
                 self.add(act, seen)
             }
-            Act::AddInactive
-            | Act::Announce
-            | Act::Sleepy(_)
-            | Act::Lock { .. }
+            Act::AddInactive => self.add_inactive(),
+            Act::SubInactive => self.sub_inactive(),
+            Act::Announce => self.announce(rt),
+            Act::Load => self.load(),
+            Act::TryAdd {
+                sleeping,
+                inactive,
+                jec,
+            } => self.try_add(sleeping, inactive, jec),
+            Act::SubSleeping => self.sub_sleeping(),
+            Act::News { pool, was_empty } => Seen::Wakes(self.news(rt, pool, was_empty)),
+            Act::Block => self.block(rt),
+            Act::Lock { pool, worker } => self.lock(rt, pool, worker),
+            Act::Sleepy(_)
             | Act::Asleep(_)
-            | Act::Load
-            | Act::TryAdd { .. }
-            | Act::Block
-            | Act::SubSleeping
             | Act::Wakeup(_)
             | Act::Unlock { .. }
-            | Act::SubInactive
             | Act::Wake { .. }
-            | Act::News { .. }
             | Act::Set { .. }
             | Act::LockSet(_) => {
                 let seen = self.touch(rt, act);
@@ -387,65 +390,12 @@ impl<J: JobKind> Bench<J> {
         }
     }
 
-    // Tells that a task was pushed onto the own deque. Answers how many are to be woken.
-    #[inline(always)]
-    pub(crate) fn news<R: Wait>(&mut self, rt: &R, was_empty: bool) -> u64
-        ensures same { self.new ≡ record self.old { trace = self.new.trace } }
-        ensures adds { Adds (acts.News 0 was_empty) (saw.Wakes result) self.old.trace self.new.trace }
-    {
-        let owed = self.registry.sleep().counters().news(rt, was_empty);
-        self.add(Act::News { pool: 0, was_empty }, Seen::Wakes(owed));
-        owed
-    }
-
-    // An act that touches nothing of the worker's own: the counters, sleep locks, and latches.
+    // An act that touches nothing of the worker's own: sleep locks and latches.
     fn touch<R: Wait>(&self, rt: &R, act: Act) -> Seen {
         let sleep = self.registry.sleep();
         match act {
-            Act::AddInactive => {
-                sleep.counters().add_inactive_thread(rt);
-                Seen::Done
-            }
-            Act::SubInactive => Seen::Wakes(sleep.counters().sub_inactive_thread(rt)),
-            Act::Announce => Seen::Jec(u64::from(sleep.counters().announce(rt))),
-            Act::News { was_empty, .. } => Seen::Wakes(sleep.counters().news(rt, was_empty)),
-            Act::Load => {
-                let found = sleep.counters().load(rt);
-                Seen::Word {
-                    sleeping: found.sleeping,
-                    inactive: found.inactive,
-                    jec: u64::from(found.jec),
-                }
-            }
-            Act::TryAdd {
-                sleeping,
-                inactive,
-                jec,
-            } => match u32::try_from(jec) {
-                Ok(jec) => {
-                    let seen = Counters {
-                        sleeping,
-                        inactive,
-                        jec,
-                    };
-                    done(sleep.counters().try_add_sleeping_thread(rt, seen))
-                }
-                Err(_) => Seen::Refused,
-            },
-            Act::SubSleeping => {
-                sleep.counters().sub_sleeping_thread(rt);
-                Seen::Done
-            }
-            Act::Lock { worker, .. } => {
-                sleep.lock(rt, worker, worker == self.index);
-                Seen::Done
-            }
             Act::Unlock { worker, .. } => {
                 sleep.unlock(rt, worker);
-                Seen::Done
-            }
-            Act::Block => {
-                sleep.block(rt, self.index);
                 Seen::Done
             }
             Act::Wake { worker, .. } => yes(sleep.wake(rt, worker)),

@@ -1,17 +1,20 @@
 //! What a worker performs its acts with.
-ghost use Rattle.std.specs.Prelude.{◌≡◌, [], None, Some, IfErr, IfOk};
+ghost use Rattle.std.specs.Prelude.{◌≡◌, ◌<◌, [], None, Some, IfErr, IfOk};
 ghost use Rattle.std.specs.Arc.{arc_value};
 ghost use Rattle.rayon_drive.specs.Traces.{AddsRun};
 ghost use Rattle.rayon_drive.specs.declared.trace.Log.TheVariants.{Empty};
 ghost use Rattle.rayon_performers.specs.Hands.{Hands};
 ghost use Rattle.rayon_performers.specs.Pools.{shape_of};
+ghost use Rattle.rayon_performers.specs.Seats.{Resting};
 ghost use Rattle.rayon_queues.specs.Deques.{visitor};
 
+use crate::kit::WorkerKit;
 use crate::registry::Registry;
 use rayon_drive::trace::Trace;
 use rayon_jobs::{Done, JobKind};
 use rayon_machine_places::shape::PoolShape;
 use rayon_queues::{InjectorPass, StealPass, WorkerDeque, XorShift64Star};
+use rayon_sleep::counters::Chair;
 use rayon_sleep::latch::Owner;
 use rayon_tasks::{Task, Ticket};
 use rayon_words::Refusal;
@@ -40,12 +43,14 @@ pub struct Bench<J: JobKind> {
     pub(crate) first: Option<(Ticket<J>, Done<J>)>,
     pub(crate) probed: bool,
     pub(crate) holds: u64,
+    // the seat of the counters, but while it lies under the worker's sleep lock
+    pub(crate) chair: Option<Chair>,
     pub(crate) trace: Trace,
 }
 
 impl<J: JobKind> Model for Bench<J> {
     ghost use Rattle.std.specs.Arc.{arc_value};
-    ghost use Rattle.std.specs.Prelude.{◌≡◌};
+    ghost use Rattle.std.specs.Prelude.{◌≡◌, ◌<◌};
     ghost use Rattle.std.specs.Coded.{codes};
     ghost use Rattle.rayon_drive.specs.contracts.trace.Log as logs;
     ghost use Rattle.rayon_performers.specs.Hands.{Hands};
@@ -67,10 +72,11 @@ impl<J: JobKind> Model for Bench<J> {
       done = b.done;
       probed = b.probed;
       holds = b.holds;
+      chair = b.chair;
       trace = b.trace;
     } };
 
-    ghost invariant = { λ b. b.inlet.injector ≡ (arc_value b.registry).injector };
+    ghost invariant = { λ b. (b.inlet.injector ≡ (arc_value b.registry).injector) × (b.index < (arc_value b.registry).workers) };
 }
 
 impl<J: JobKind> Bench<J> {
@@ -79,14 +85,17 @@ impl<J: JobKind> Bench<J> {
     pub fn new(
         registry: Arc<Registry<Task<J>>, Global>,
         index: usize,
-        own: WorkerDeque<Task<J>>,
+        own: WorkerKit<Task<J>>,
     ) -> Bench<J>
+        requires { index < (arc_value registry).workers }
         ensures index { result.index ≡ index }
         ensures pool { (result.deques ≡ (arc_value registry).deques) × (result.shape ≡ shape_of (arc_value registry).workers) }
         ensures passes { (result.own ≡ own) × (result.inlet ≡ visitor (arc_value registry).injector [] []) }
+        ensures rests { Resting result.chair }
         ensures empty { (result.task ≡ None) × (result.holds ≡ 0) × (result.trace ≡ Empty) }
     {
         let inlet = registry.injector().pass();
+        let (own, chair) = own.into_parts();
         Bench {
             shape: registry.shape(),
             index,
@@ -101,6 +110,7 @@ impl<J: JobKind> Bench<J> {
             first: None,
             probed: false,
             holds: 0,
+            chair: Some(chair),
             trace: Trace::new(),
             registry,
         }

@@ -86,7 +86,7 @@ impl<'a, J: JobKind> Perform for Guest<'a, J> {
     fn perform<R: Wait>(&mut self, rt: &R, act: Act) -> Seen {
         let seen = match act {
             Act::News { was_empty, .. } => {
-                Seen::Wakes(self.registry.sleep().counters().news(rt, was_empty))
+                Seen::Wakes(self.registry.sleep().guest_news(rt, was_empty))
             }
             Act::Lock { worker, .. } => {
                 self.registry.sleep().lock(rt, worker, false);

@@ -3,7 +3,9 @@
 
 mod acts;
 mod bench;
+mod counting;
 mod guest;
+mod kit;
 mod looks;
 mod registry;
 mod stretch;
@@ -12,5 +14,6 @@ mod waiter;
 
 pub use bench::Bench;
 pub use guest::Guest;
+pub use kit::WorkerKit;
 pub use registry::Registry;
 pub use terminate::{PoolHold, TerminateCount};

@@ -8,8 +8,9 @@ ghost use Rattle.rayon_machine_places.specs.declared.place.Party.TheVariants.{Wo
 ghost use Rattle.rayon_machine_places.specs.declared.place.Taken.TheVariants.{Plain};
 ghost use Rattle.rayon_machine_places.specs.declared.place.Place.TheVariants as at;
 ghost use Rattle.rayon_machine_places.specs.declared.place.Plan.TheVariants.{Detach};
-ghost use Rattle.rayon_performers.specs.Hands.{Does, Same};
+ghost use Rattle.rayon_performers.specs.Hands.{Does};
 ghost use Rattle.rayon_performers.specs.Finds.{Found, Kept, StandsLast};
+ghost use Rattle.rayon_performers.specs.Seats.{Resting};
 ghost use Rattle.rayon_queues.specs.Deques.{Popped, SameDeque, Unmoved};
 
 use crate::bench::Bench;
@@ -81,11 +82,13 @@ impl<J: JobKind> Bench<J> {
     /// Lower is not performed here, since the Raise was not: whoever took a unit for the task still has it.
     #[inline(always)]
     pub fn push<R: Wait>(&mut self, rt: &R, task: Task<J>) -> Result<(), Task<J>>
+        requires { Resting self.old.chair }
         ensures path { MatchResult result
             (λ _. Driven (λ s a x t. Does a x s t) (λ s. s.trace) self.old.shape (Worker 0 self.old.index) (Stay (at.LookQueue (Detach 0 task.ticket.number))) self.old self.new Back)
             (λ _. Driven (λ s a x t. Does a x s t) (λ s. s.trace) self.old.shape (Worker 0 self.old.index) (Stay (at.LookQueue (Detach 0 task.ticket.number))) self.old self.new (Stay (undo (Detach 0 task.ticket.number)))) }
         ensures pushed { MatchResult result (λ _. StandsLast self.old.own task self.new.own) (λ back. (back ≡ task) × Unmoved self.old.own self.new.own) }
-        ensures left { SameDeque self.old.own self.new.own × (self.new ≡ record self.old { own = self.new.own; trace = self.new.trace }) }
+        ensures left { SameDeque self.old.own self.new.own × (self.new ≡ record self.old { own = self.new.own; chair = self.new.chair; trace = self.new.trace }) }
+        ensures rests { Resting self.new.chair }
     {
         let name = task.number();
         let was_empty = self.look_own();
@@ -97,12 +100,14 @@ impl<J: JobKind> Bench<J> {
     // Tells that the task of a call that does not wait was pushed, and wakes whom that owes a wake.
     #[inline(always)]
     fn tell_pushed<R: Wait>(&mut self, rt: &R, name: u64, was_empty: bool)
+        requires { Resting self.old.chair }
         ensures path { Driven (λ s a x t. Does a x s t) (λ s. s.trace) self.old.shape (Worker 0 self.old.index) (Stay (at.TellNews (Detach 0 name) was_empty)) self.old self.new Back }
-        ensures same { Same self.old self.new }
+        ensures same { self.new ≡ record self.old { chair = self.new.chair; trace = self.new.trace } }
+        ensures rests { Resting self.new.chair }
     {
         let shape = self.shape;
         let index = self.index;
-        let owed = self.news(rt, was_empty);
+        let owed = self.news(rt, 0, was_empty);
         if owed > 0 {
             let place = Place::TellNews {
                 plan: Plan::Detach { pool: 0, job: name },

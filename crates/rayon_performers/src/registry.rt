@@ -2,11 +2,14 @@
 ghost use Rattle.std.specs.Prelude.{◌≡◌, ◌⊎◌, ◌<◌, ◌++◌, [], ◌∷◌, All, false, map, max, length, IfOk, IfErr};
 ghost use Rattle.rayon_performers.specs.Pools.{shape_of};
 ghost use Rattle.rayon_queues.specs.Deques.{IsNew};
+ghost use Rattle.rayon_sleep.specs.Berths.{Rests};
 
+use crate::kit::WorkerKit;
 use crate::terminate::{PoolHold, TerminateCount};
 use crossbeam_utils::CachePadded;
 use rayon_machine_places::shape::{Order, PoolShape};
 use rayon_queues::{Injector, Stealers, WorkerDeque};
+use rayon_sleep::counters::Chair;
 use rayon_sleep::latch::Owner;
 use rayon_sleep::sleep::Sleep;
 use rayon_tasks::Names;
@@ -36,24 +39,25 @@ pub struct Registry<T> {
 
 impl<T> Model for Registry<T> {
     ghost use Rattle.rayon_performers.specs.Pools.{Shared};
+    ghost use Rattle.std.specs.Arc.{arc_value};
     ghost use Rattle.std.specs.Prelude.{◌≡◌, ◌<◌, length};
 
     ghost Value = { Shared };
 
     ghost view = { λ r. record { workers = r.num_threads; depth_limit = r.depth_limit; deques = r.stealers; injector = r.injector } };
 
-    ghost invariant = { λ r. (length r.stealers ≡ r.num_threads) × (0 < r.num_threads) × (r.num_threads < 65536) };
+    ghost invariant = { λ r. (length r.stealers ≡ r.num_threads) × (0 < r.num_threads) × (r.num_threads < 65536) × (arc_value r.sleep ≡ r.num_threads) };
 }
 
 impl<T: Drop> Registry<T> {
-    /// The shared part of a pool of so many workers, the workers' own deques by index, and the unit of the terminate
+    /// The shared part of a pool of so many workers, what each worker begins with by index, and the unit of the terminate
     /// count that the pool's value holds. A `depth_limit` of 0 counts as 1. Refused `NoRoom`.
     pub fn new(
         alloc: Global,
         num_threads: usize,
         depth_limit: usize,
         steal_seed: u64,
-    ) -> Result<(Registry<T>, Vec<WorkerDeque<T>>, PoolHold), Refusal>
+    ) -> Result<(Registry<T>, Vec<WorkerKit<T>>, PoolHold), Refusal>
         requires { (0 < num_threads) × (num_threads < 65536) }
         ensures workers { IfOk result (λ r. r.0.workers ≡ num_threads) }
         ensures depth { IfOk result (λ r. r.0.depth_limit ≡ max 1 depth_limit) }
@@ -62,9 +66,7 @@ impl<T: Drop> Registry<T> {
         ensures empty { IfOk result (λ r. All (IsNew false 32) r.1.items) }
         ensures refused { IfErr result (λ r. r ≡ Refusal.NoRoom) }
     {
-        let Ok(sleep) = Sleep::new(alloc, num_threads) else {
-            return Err(Refusal::NoRoom);
-        };
+        let (sleep, mut chairs) = Sleep::new(alloc, num_threads)?;
         let (Ok(sleep), Ok(injector)) = (Arc::new(alloc, sleep), Injector::new(alloc)) else {
             return Err(Refusal::NoRoom);
         };
@@ -72,10 +74,13 @@ impl<T: Drop> Registry<T> {
         let mut stealers = Stealers::new(alloc);
         let mut terminate = Vec::new(alloc);
         for _ in 0..num_threads {
-            let Ok(deque) = new_deque(alloc, &mut stealers) else {
+            let Some(chair) = chairs.pop() else {
+                unreachable!()
+            };
+            let Ok(kit) = new_kit(alloc, &mut stealers, chair) else {
                 return Err(Refusal::NoRoom);
             };
-            if deques.push(deque).is_err() {
+            if deques.push(kit).is_err() {
                 return Err(Refusal::NoRoom);
             }
             if terminate.push(CachePadded::new(CoreLatch::new())).is_err() {
@@ -129,7 +134,9 @@ impl<T: Drop> Registry<T> {
     }
 
     /// Where the pool's workers sleep.
-    pub(crate) fn sleep(&self) -> &Sleep {
+    pub(crate) fn sleep(&self) -> &Sleep
+        ensures { result.now ≡ self.now.workers }
+    {
         &self.sleep
     }
 
@@ -183,15 +190,17 @@ impl<T: Drop> Registry<T> {
     }
 }
 
-// One deque more, and the stealer of it.
-fn new_deque<T: Drop>(
+// What one worker more begins with: its own deque, and this seat; and the stealer of the deque.
+fn new_kit<T: Drop>(
     alloc: Global,
     stealers: &mut Stealers<T>,
-) -> Result<WorkerDeque<T>, AllocError>
+    chair: Chair,
+) -> Result<WorkerKit<T>, AllocError>
+    requires { Rests chair }
     ensures stealer { IfOk result (λ d. stealers.new ≡ stealers.old ++ d.id ∷ []) }
     ensures empty { IfOk result (λ d. IsNew false 32 d) }
 {
     let deque = WorkerDeque::new(alloc, false)?;
     stealers.add(&deque)?;
-    Ok(deque)
+    Ok(WorkerKit::new(deque, chair))
 }

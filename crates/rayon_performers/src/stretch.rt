@@ -16,7 +16,8 @@ ghost use Rattle.rayon_machine_places.specs.declared.place.Taken.TheVariants.{Pl
 ghost use Rattle.rayon_performers.specs.Calls.{IsJobOf, IsOneJob, own_call, own_join};
 ghost use Rattle.rayon_performers.specs.Finds.{StandsLast};
 ghost use Rattle.rayon_performers.specs.Hands.{Does, HasResult, HasTask, HasTicket, Same, kind_of};
-ghost use Rattle.rayon_performers.specs.Stands.{Stands, call_to};
+ghost use Rattle.rayon_performers.specs.Seats.{Resting};
+ghost use Rattle.rayon_performers.specs.Stands.{Seated, Stands, call_to};
 ghost use Rattle.rayon_performers.specs.Tails.{IsLast, IsTail};
 ghost use Rattle.rayon_performers.specs.Waits.{Rejoined, SameSeat, Waited, units_after};
 ghost use Rattle.rayon_queues.specs.Deques.{SameDeque, Unmoved};
@@ -37,9 +38,11 @@ use std::sync::Wait;
 impl<J: JobKind> Bench<J> {
     /// Performs the program from this place on, as far as the next run or its end.
     pub fn drive<R: Wait>(&mut self, rt: &R, place: Place) -> Move
-        requires { Stands self.old (Stay place) }
+        requires hands { Stands self.old (Stay place) }
+        requires seat { Seated self.old.chair (Stay place) }
         ensures path { Driven (λ s a x t. Does a x s t) (λ s. s.trace) self.old.shape (Worker 0 self.old.index) (Stay place) self.old self.new result }
         ensures stands { Stands self.new result }
+        ensures rests { Resting self.new.chair }
         ensures stops { goes result ≡ false }
     {
         let shape = self.shape;
@@ -50,9 +53,11 @@ impl<J: JobKind> Bench<J> {
     /// Waits for this, and works meanwhile: as far as a task that it has found, or to the end of the wait. Then the
     /// latch that it waits on was seen set.
     pub fn wait<R: Wait>(&mut self, rt: &R, target: Target) -> Move
-        requires { HasTicket self.old.call (call_to target) }
+        requires ticket { HasTicket self.old.call (call_to target) }
+        requires rests { Resting self.old.chair }
         ensures path { Driven (λ s a x t. Does a x s t) (λ s. s.trace) self.old.shape (Worker 0 self.old.index) (Stay (at.ProbeWorking (fresh target))) self.old self.new result }
         ensures stands { Stands self.new result }
+        ensures rests { Resting self.new.chair }
         ensures ends { Waited target result }
         ensures units { self.new.holds ≡ units_after result self.old.holds }
         ensures seat { SameSeat self.old self.new }
@@ -63,6 +68,7 @@ impl<J: JobKind> Bench<J> {
     // Goes on from what an act saw at this place, as this worker of a pool of this shape.
     #[cold]
     #[inline(never)]
+    #[tactic(auto, using(crate::proofs::Seats::rests_there))]
     pub(crate) fn go_on_from<R: Wait>(
         &mut self,
         rt: &R,
@@ -71,9 +77,11 @@ impl<J: JobKind> Bench<J> {
         place: Place,
         seen: Seen,
     ) -> Move
-        requires { Stands self.old (next_of shape (Worker 0 index) place seen) }
+        requires hands { Stands self.old (next_of shape (Worker 0 index) place seen) }
+        requires seat { Seated self.old.chair (next_of shape (Worker 0 index) place seen) }
         ensures path { Driven (λ s a x t. Does a x s t) (λ s. s.trace) shape (Worker 0 index) (next_of shape (Worker 0 index) place seen) self.old self.new result }
         ensures stands { Stands self.new result }
+        ensures rests { Resting self.new.chair }
         ensures stops { goes result ≡ false }
     {
         let party = Party::Worker { pool: 0, index };
@@ -96,10 +104,12 @@ impl<J: JobKind> Bench<J> {
         then: Then,
     )
         requires stands { Stands self.old (next_of shape (Worker 0 index) place seen) }
+        requires rests { Resting self.old.chair }
         requires last { IsLast then }
         requires tail { IsTail (Worker 0 index) then (next_of shape (Worker 0 index) place seen) }
         ensures path { Driven (λ s a x t. Does a x s t) (λ s. s.trace) shape (Worker 0 index) (next_of shape (Worker 0 index) place seen) self.old self.new (finish (Worker 0 index) then) }
         ensures same { Same self.old self.new }
+        ensures rests { Resting self.new.chair }
     {
         self.go_on_from(rt, shape, index, place, seen);
     }
@@ -108,9 +118,11 @@ impl<J: JobKind> Bench<J> {
     /// this follows.
     #[inline(always)]
     pub fn lower_then<R: Wait>(&mut self, rt: &R, job: u64, then: Then)
-        requires { IsLast then }
+        requires last { IsLast then }
+        requires rests { Resting self.old.chair }
         ensures path { Driven (λ s a x t. Does a x s t) (λ s. s.trace) self.old.shape (Worker 0 self.old.index) (Stay (at.LowerCount (OfPool 0) (OfJob job) then)) self.old self.new (finish (Worker 0 self.old.index) then) }
         ensures same { self.new ≡ record self.old { holds = self.old.holds - 1; trace = self.new.trace } }
+        ensures rests { Resting self.new.chair }
     {
         let shape = self.shape;
         let index = self.index;
@@ -137,6 +149,7 @@ impl<J: JobKind> Bench<J> {
         job: J,
         injected: bool,
     ) -> Result<Ticket<J>, (Refusal, J)>
+        requires { Resting self.old.chair }
         ensures path { MatchResult result
             (λ _. Driven (λ s a x t. Does a x s t) (λ s. s.trace) self.old.shape (Worker 0 self.old.index) (Stay (at.RaiseCount (own_join name))) self.old self.new (StartRun (at.FirstSide (own_call name) name) name))
             (λ _. Driven (λ s a x t. Does a x s t) (λ s. s.trace) self.old.shape (Worker 0 self.old.index) (Stay (at.RaiseCount (own_join name))) self.old self.new (HandBack (own_join name))) }
@@ -146,8 +159,9 @@ impl<J: JobKind> Bench<J> {
         ensures deque { SameDeque self.old.own self.new.own }
         ensures ticket { IfOk result (λ t. t ≡ record { owner = Worker 0 self.old.index; number = name }) }
         ensures left { MatchResult result
-            (λ _. self.new ≡ record self.old { own = self.new.own; holds = self.old.holds + 1; trace = self.new.trace })
+            (λ _. self.new ≡ record self.old { own = self.new.own; holds = self.old.holds + 1; chair = self.new.chair; trace = self.new.trace })
             (λ _. self.new ≡ record self.old { own = self.new.own; trace = self.new.trace }) }
+        ensures rests { Resting self.new.chair }
         ensures refused { IfErr result (λ e. (e.0 ≡ Refusal.Ended) ⊎ ((e.0 ≡ Refusal.Full) ⊎ (e.0 ≡ Refusal.NoRoom))) }
     {
         let call = OpenCall {
@@ -175,12 +189,14 @@ impl<J: JobKind> Bench<J> {
     // Tells that a join's second side was pushed, and wakes whom that owes a wake, before its first side runs.
     #[inline(always)]
     fn tell_news<R: Wait>(&mut self, rt: &R, name: u64, was_empty: bool)
+        requires { Resting self.old.chair }
         ensures path { Driven (λ s a x t. Does a x s t) (λ s. s.trace) self.old.shape (Worker 0 self.old.index) (Stay (at.TellNews (own_join name) was_empty)) self.old self.new (StartRun (at.FirstSide (own_call name) name) name) }
-        ensures same { Same self.old self.new }
+        ensures same { self.new ≡ record self.old { chair = self.new.chair; trace = self.new.trace } }
+        ensures rests { Resting self.new.chair }
     {
         let shape = self.shape;
         let index = self.index;
-        let owed = self.news(rt, was_empty);
+        let owed = self.news(rt, 0, was_empty);
         if owed > 0 {
             let call = OpenCall {
                 number: name,
@@ -236,8 +252,10 @@ impl<J: JobKind> Bench<J> {
     pub fn tell<R: Wait>(&mut self, rt: &R, call: u64, owner: Party, ending: Ending)
         requires reply { HasTicket self.old.reply (Some call) }
         requires done { HasResult self.old.done (Some ending) }
+        requires rests { Resting self.old.chair }
         ensures path { Driven (λ s a x t. Does a x s t) (λ s. s.trace) self.old.shape (Worker 0 self.old.index) (Stay (at.StoreResult call owner ending)) self.old self.new Back }
         ensures same { self.new ≡ record self.old { done = None; trace = self.new.trace } }
+        ensures rests { Resting self.new.chair }
     {
         let shape = self.shape;
         let index = self.index;
@@ -254,7 +272,8 @@ impl<J: JobKind> Bench<J> {
     /// that is the newest task of the own deque. Else it answers how far the program has gone from there.
     #[inline(always)]
     pub fn reclaim<R: Wait>(&mut self, rt: &R, call: OpenCall) -> Result<(), Move>
-        requires { HasTicket self.old.call (Some call.number) }
+        requires ticket { HasTicket self.old.call (Some call.number) }
+        requires rests { Resting self.old.chair }
         ensures path { MatchResult result
             (λ _. Driven (λ s a x t. Does a x s t) (λ s. s.trace) self.old.shape (Worker 0 self.old.index) (Stay (at.JoinProbe call)) self.old self.new (Enter (at.SecondSide call) (at.BeginHere call.job)))
             (λ m. Driven (λ s a x t. Does a x s t) (λ s. s.trace) self.old.shape (Worker 0 self.old.index) (Stay (at.JoinProbe call)) self.old self.new m) }
@@ -262,6 +281,7 @@ impl<J: JobKind> Bench<J> {
         ensures rejoins { IfErr result (λ m. Rejoined call m) }
         ensures units { MatchResult result (λ _. self.new.holds ≡ self.old.holds) (λ m. self.new.holds ≡ units_after m self.old.holds) }
         ensures seat { SameSeat self.old self.new }
+        ensures rests { Resting self.new.chair }
     {
         let shape = self.shape;
         let index = self.index;

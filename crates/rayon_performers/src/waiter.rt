@@ -8,7 +8,8 @@ ghost use Rattle.rayon_machine_places.specs.declared.place.Place.TheVariants as 
 ghost use Rattle.rayon_machine_places.specs.declared.place.Target.TheVariants.{Termination};
 ghost use Rattle.rayon_performers.specs.Hands.{Does, Needs};
 ghost use Rattle.rayon_performers.specs.Keeps.{bench_needs, bench_on};
-ghost use Rattle.rayon_performers.specs.Stands.{IsWorker, Stands};
+ghost use Rattle.rayon_performers.specs.Seats.{Resting};
+ghost use Rattle.rayon_performers.specs.Stands.{IsWorker, Seated, Stands};
 ghost use Rattle.rayon_performers.specs.Waits.{SameSeat, Waited};
 
 use crate::acts::done;
@@ -35,7 +36,7 @@ impl<'a, 'l, J: JobKind> Perform for Waiter<'a, 'l, J> {
 
     ghost trace = { λ w. w.bench.now.trace };
 
-    ghost stands = { λ w q m. IsWorker q × Stands w.bench.now m };
+    ghost stands = { λ w q m. IsWorker q × Stands w.bench.now m × Seated w.bench.now.chair m };
 
     fn perform<R: Wait>(&mut self, rt: &R, act: Act) -> Seen {
         match act {
@@ -74,11 +75,13 @@ impl<'a, 'l, J: JobKind> Waiter<'a, 'l, J> {
     }
 
     // Performs the program from this place on, as far as the next run or its end.
+    #[tactic(auto, using(crate::proofs::Seats::rests_there))]
     fn drive<R: Wait>(&mut self, rt: &R, shape: PoolShape, party: Party, place: Place) -> Move
-        requires { IsWorker party × Stands self.old.bench.now (Stay place) }
+        requires { IsWorker party × Stands self.old.bench.now (Stay place) × Seated self.old.bench.now.chair (Stay place) }
         ensures same_reference { self.new.bench.ghost_name ≡ self.old.bench.ghost_name }
         ensures path { Driven (λ s a x t. Does a x s t) (λ s. s.trace) shape party (Stay place) self.old.bench.now self.new.bench.now result }
         ensures stands { Stands self.new.bench.now result }
+        ensures rests { Resting self.new.bench.now.chair }
         ensures stops { goes result ≡ false }
     {
         drive(rt, shape, party, place, self)
@@ -92,8 +95,10 @@ impl<J: JobKind> Bench<J> {
     /// The table has one latch of a worker's that is no call's. So in the trace this latch stands under the name of the
     /// terminate latch, and the end of the wait is the place `Stopped`; the worker goes on after it.
     pub fn wait_on<R: Wait>(&mut self, rt: &R, latch: LatchRef<'_, CoreLatch>) -> Move
+        requires { Resting self.old.chair }
         ensures path { Driven (λ s a x t. Does a x s t) (λ s. s.trace) self.old.shape (Worker 0 self.old.index) (Stay (at.ProbeWorking (fresh Termination))) self.old self.new result }
         ensures stands { Stands self.new result }
+        ensures rests { Resting self.new.chair }
         ensures ends { Waited Termination result }
         ensures units { self.new.holds ≡ self.old.holds }
         ensures seat { SameSeat self.old self.new }

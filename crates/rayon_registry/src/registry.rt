@@ -9,8 +9,7 @@ use crate::job::Job;
 use crate::level::{Level, work_at};
 use crate::worker_thread::WorkerThread;
 use rayon_jobs::{JobKind, Lost, claimed};
-use rayon_performers::{Guest, PoolHold};
-use rayon_queues::WorkerDeque;
+use rayon_performers::{Guest, PoolHold, WorkerKit};
 use rayon_tasks::Task;
 use rayon_words::{CallError, Refusal};
 use std::alloc::{AllocFailed, Global};
@@ -42,7 +41,7 @@ impl<J: JobKind> Model for Registry<J> {
 }
 
 impl<J: JobKind> Registry<J> {
-    /// A pool of so many workers, none of which runs yet; the workers' own deques by index; and the unit of the
+    /// A pool of so many workers, none of which runs yet; what each worker begins with by index; and the unit of the
     /// terminate count that the pool's value holds. A `depth_limit` of 0 counts as 1; `steal_seed` is added to each
     /// worker's index for the seed of its choice of victims. Refused `NoRoom`.
     pub fn new<R: Wait>(
@@ -52,7 +51,7 @@ impl<J: JobKind> Registry<J> {
         num_threads: usize,
         depth_limit: usize,
         steal_seed: u64,
-    ) -> Result<(Registry<J>, Vec<WorkerDeque<Task<J>>>, PoolHold), Refusal>
+    ) -> Result<(Registry<J>, Vec<WorkerKit<Task<J>>>, PoolHold), Refusal>
         requires { (0 < num_threads) × (num_threads < 65536) }
         ensures made { IfOk result (λ r. r.0 ≡ record { id = id; workers = num_threads; depth_limit = max 1 depth_limit }) }
         ensures deques { IfOk result (λ r. length r.1.items ≡ num_threads) }
@@ -200,7 +199,7 @@ fn pair_answer<X: Drop, Y: Drop, F: Drop, B>(
 pub struct ThreadBuilder<J: JobKind> {
     registry: Registry<J>,
     index: usize,
-    deque: WorkerDeque<Task<J>>,
+    deque: WorkerKit<Task<J>>,
 }
 
 impl<J: JobKind> Model for ThreadBuilder<J> {
@@ -216,13 +215,13 @@ impl<J: JobKind> Model for ThreadBuilder<J> {
 
 impl<J: JobKind> ThreadBuilder<J> {
     /// The thread of the worker with this index of the pool with this number, by what the pool's threads share and by
-    /// the worker's own deque. It is made in the thread itself, of what was sent there. None where the pool has no
+    /// what the worker begins with. It is made in the thread itself, of what was sent there. None where the pool has no
     /// worker with this index.
     pub fn new(
         id: PoolId,
         index: usize,
         shared: Arc<rayon_performers::Registry<Task<J>>, Global>,
-        deque: WorkerDeque<Task<J>>,
+        deque: WorkerKit<Task<J>>,
     ) -> Option<ThreadBuilder<J>>
         ensures seat { IfSome result (λ t. t ≡ record { pool = record { id = id; workers = (arc_value shared).workers; depth_limit = (arc_value shared).depth_limit }; index = index }) }
         ensures none { IfNone result ((arc_value shared).workers ≤ index) }

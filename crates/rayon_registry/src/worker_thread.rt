@@ -28,8 +28,7 @@ use crate::registry::{PoolShare, Registry};
 use rayon_drive::trace::Trace;
 use rayon_jobs::{Done, JobKind};
 use rayon_machine_places::place::{Ending, Move, Place, Target, Then};
-use rayon_performers::Bench;
-use rayon_queues::WorkerDeque;
+use rayon_performers::{Bench, WorkerKit};
 use rayon_sleep::latch::Owner;
 use rayon_tasks::{Names, Pair, Task, Ticket, Work, task_parts};
 use rayon_words::latch::{CoreLatch, LatchRef};
@@ -54,13 +53,15 @@ impl<J: JobKind> Model for WorkerThread<J> {
     ghost use Rattle.rayon_tasks.specs.Tasks.{TaskOf};
     ghost use Rattle.std.specs.Coded.{codes};
     ghost use Rattle.rayon_drive.specs.contracts.trace.Log as logs;
-    ghost use Rattle.rayon_registry.specs.Pushes.{acts_of, left_to, pushed_by, saw_set, seat_of, shape_at, takes_oldest, units_of};
+    ghost use Rattle.rayon_registry.specs.Pushes.{acts_of, left_to, pushed_by, rests, saw_set, seat_of, shape_at, takes_oldest, units_of};
 
     ghost Value = { Worker (TaskOf J) };
 
     ghost coded = { Prim.hlevel (codes, logs.the_row.coded) };
 
     ghost view = { λ w. record { id = w.id; levels = w.levels; pushed = pushed_by w.bench; left = left_to w.bench; oldest_first = takes_oldest w.bench; units = units_of w.bench; shape = shape_at w.bench; seat = seat_of w.bench; acts = acts_of w.bench; probed = saw_set w.bench } };
+
+    ghost invariant = { λ w. rests w.bench };
 }
 
 // What a worker value had before it was lent to a run: its levels, and the acts of the program below the run. It has no
@@ -71,12 +72,12 @@ pub(crate) struct Lent {
 }
 
 impl<J: JobKind> WorkerThread<J> {
-    /// The worker with this index of the pool, whose own deque this is. There is one value for each.
+    /// The worker with this index of the pool, which begins with this. There is one value for each.
     #[tactic(auto, unfolding(crate::specs::Pushes::units_of, crate::specs::Pushes::shape_at, crate::specs::Pushes::seat_of, crate::specs::Pushes::acts_of))]
     pub(crate) fn new(
         registry: Registry<J>,
         index: usize,
-        deque: WorkerDeque<Task<J>>,
+        deque: WorkerKit<Task<J>>,
     ) -> WorkerThread<J>
         requires { index < registry.workers }
         ensures pool { result.id.pool ≡ registry.id }

@@ -1,6 +1,7 @@
 //! Where the workers of a pool sleep: the counters, and a sleep lock for each worker, which is held
 //! from one act to the next.
-ghost use Rattle.std.specs.Prelude.{ℕ, ◌≡◌, ◌+◌, ◌&&◌, not, true, false, IfOk};
+ghost use Rattle.std.specs.Prelude.{ℕ, ◌≡◌, ◌≤◌, ◌<◌, ◌+◌, length, All, IfOk, IfErr, MatchBool, MatchOption, MatchResult};
+ghost use Rattle.rayon_atomics.specs.Counted.{fresh, watch, Stays};
 ghost use Rattle.rayon_machine_places.specs.declared.place.Party.{Party as AnyParty};
 ghost use Rattle.rayon_machine_places.specs.declared.place.Party.TheVariants.{Worker};
 ghost use Rattle.rayon_machine_places.specs.declared.place.Plan.{Plan as AnyPlan};
@@ -12,101 +13,24 @@ ghost use Rattle.rayon_machine_places.specs.declared.place.Move.TheVariants.{Sta
 ghost use Rattle.rayon_machine_places.specs.declared.place.Place.TheVariants.{LockToWake, LockToSettle, TellNews, BecomeInactive, ProbeIdle, LeaveSearch, AnnounceSelf, GetSleepy, LoadCounters, LookAtCast, WakeUp, FallAsleep, UnlockOwn};
 ghost use Rattle.rayon_machine_places.specs.declared.shape.PoolShape.{PoolShape as AnyShape};
 ghost use Rattle.rayon_machine_places.specs.Places.{walk, finish, after_set, after_news, after_found, after_failure, plan_pool};
+ghost use Rattle.rayon_sleep.specs.Berths.{Rests, Searches, Sleeps};
 ghost use Rattle.rayon_sleep.specs.Stretches.{Made, Logged, wake_acts, still_owed, yes_or_no, counted};
 
-use crate::counters::{AtomicCounters, Counters};
+use crate::counters::{AtomicCounters, Chair, CounterSeat, Counters};
+use crate::state::WorkerSleepState;
 use crossbeam_utils::CachePadded;
 use rayon_drive::trace::Trace;
 use rayon_machine_places::act::{Act, Seen};
 use rayon_machine_places::place::{Rounds, Wait as Idle};
+use rayon_words::Refusal;
 use rayon_words::latch::CoreLatch;
 use std::alloc::{AllocError, Global};
 use std::marker::Model;
-use std::sync::{Condvar, Mutex, Wait};
+use std::sync::{Arc, Condvar, Mutex, Wait};
 use std::thread;
 
 /// The failed search after which a worker announces that it may sleep, counted from 0.
 const ROUNDS_UNTIL_SLEEPY: u64 = 32;
-
-/// What stands under a worker's sleep lock: whether somebody holds it, and whether its worker is
-/// blocked.
-#[derive(Drop)]
-pub struct WorkerSleepState {
-    berth: Berth,
-}
-
-/// A sleep lock as contracts see it.
-#[derive(Clone, Copy)]
-pub struct Berth {
-    /// Somebody holds it.
-    pub held: bool,
-    /// Its worker is blocked.
-    pub blocked: bool,
-}
-
-impl Model for WorkerSleepState {
-    ghost use Rattle.rayon_sleep.specs.declared.sleep.Berth.{Berth};
-
-    ghost Value = { Berth };
-
-    ghost view = { λ s. s.berth };
-}
-
-impl WorkerSleepState {
-    ghost use Rattle.rayon_sleep.specs.Berths.{no_berth};
-
-    /// Nobody holds it, and its worker is not blocked.
-    pub fn new() -> WorkerSleepState
-        ensures { result ≡ no_berth }
-    {
-        WorkerSleepState {
-            berth: Berth {
-                held: false,
-                blocked: false,
-            },
-        }
-    }
-
-    /// Whether it can be taken: nobody holds it, and where its own worker asks, that is not
-    /// blocked.
-    pub fn is_free(&self, own: bool) -> bool
-        ensures { result ≡ (not self.now.held && not (own && self.now.blocked)) }
-    {
-        !self.berth.held && !(own && self.berth.blocked)
-    }
-
-    /// It is taken.
-    pub fn take(&mut self)
-        ensures { self.new ≡ record (self.old) { held = true } }
-    {
-        self.berth.held = true;
-    }
-
-    /// It is left.
-    pub fn leave(&mut self)
-        ensures { self.new ≡ record (self.old) { held = false } }
-    {
-        self.berth.held = false;
-    }
-
-    /// Its worker is blocked, and leaves it.
-    pub fn block(&mut self)
-        ensures { self.new ≡ record (self.old) { held = false; blocked = true } }
-    {
-        self.berth.held = false;
-        self.berth.blocked = true;
-    }
-
-    /// Its worker is unblocked. True exactly if it was blocked.
-    pub fn wake(&mut self) -> bool
-        ensures answer { result ≡ self.old.blocked }
-        ensures state { self.new ≡ record (self.old) { blocked = false } }
-    {
-        let was_blocked = self.berth.blocked;
-        self.berth.blocked = false;
-        was_blocked
-    }
-}
 
 // A worker's sleep lock, and what a thread that cannot take it waits on.
 #[derive(Drop)]
@@ -118,7 +42,7 @@ struct SleepLock {
 /// Where the workers of a pool sleep. Contracts see how many workers there are.
 #[derive(Drop)]
 pub struct Sleep {
-    counters: AtomicCounters,
+    counters: Arc<AtomicCounters, Global>,
     locks: Vec<CachePadded<SleepLock>>,
 }
 
@@ -131,27 +55,38 @@ impl Model for Sleep {
 }
 
 impl Sleep {
-    /// The sleep of a pool of so many workers, all of them awake. An `Err` is want of memory.
-    pub fn new(alloc: Global, workers: usize) -> Result<Sleep, AllocError>
-        ensures { IfOk result (λ s. s ≡ workers) }
+    /// The sleep of a pool of so many workers, all of them awake, and each worker's seat of the counters. Refused
+    /// `NoRoom`.
+    pub fn new(alloc: Global, workers: usize) -> Result<(Sleep, Vec<Chair>), Refusal>
+        requires { workers ≤ 65535 }
+        ensures workers { IfOk result (λ r. r.0 ≡ workers) }
+        ensures chairs { IfOk result (λ r. (length r.1.items ≡ workers) × All (λ c. c ≡ fresh workers 1) r.1.items) }
+        ensures refused { IfErr result (λ r. r ≡ Refusal.NoRoom) }
     {
-        let mut locks = Vec::new(alloc);
-        for _ in 0..workers {
-            let lock = SleepLock {
-                state: Mutex::new(WorkerSleepState::new()),
-                changed: Condvar::new(),
-            };
-            locks.push(CachePadded::new(lock))?;
-        }
-        Ok(Sleep {
-            counters: AtomicCounters::new(),
-            locks,
-        })
+        let (counters, root) = AtomicCounters::new(alloc, workers)?;
+        let Ok(counters) = Arc::new(alloc, counters) else {
+            return Err(Refusal::NoRoom);
+        };
+        let Ok(locks) = new_locks(alloc, workers) else {
+            return Err(Refusal::NoRoom);
+        };
+        let Ok(chairs) = new_chairs(alloc, workers, &counters, root) else {
+            return Err(Refusal::NoRoom);
+        };
+        Ok((Sleep { counters, locks }, chairs))
     }
 
     /// The counters.
     pub fn counters(&self) -> &AtomicCounters {
         &self.counters
+    }
+
+    /// A party that is no worker tells that there is one new job, by a seat of its own. Answers how many to wake.
+    pub fn guest_news<R: Wait>(&self, rt: &R, queue_was_empty: bool) -> u64
+        ensures { result ≤ 1 }
+    {
+        let mut seat = self.counters.guest_seat();
+        self.counters.news(rt, &mut seat, queue_was_empty)
     }
 
     /// How many workers there are.
@@ -163,7 +98,7 @@ impl Sleep {
 
     /// Takes a worker's sleep lock, once nobody holds it. Its own worker, which says `own`, also
     /// waits until it is not blocked. A thread that waits sleeps. Of a worker that there is not
-    /// nothing is done, here and in the three calls below.
+    /// nothing is done, here and in `unlock` and `wake`.
     pub fn lock<R: Wait>(&self, rt: &R, worker: usize, own: bool) {
         if let Some(lock) = self.locks.get(worker) {
             let lock: &SleepLock = lock;
@@ -183,12 +118,38 @@ impl Sleep {
         }
     }
 
-    /// Blocks a worker, and leaves its sleep lock.
-    pub fn block<R: Wait>(&self, rt: &R, worker: usize) {
-        if let Some(lock) = self.locks.get(worker) {
-            let lock: &SleepLock = lock;
-            lock.state.lock(rt).block();
-            lock.changed.notify_all();
+    /// Blocks a worker, and leaves its sleep lock. The worker's seat lies under the lock from now on, with one unit of
+    /// each. Of a worker that there is not it comes back.
+    pub fn block<R: Wait>(&self, rt: &R, worker: usize, chair: Chair) -> Result<(), Chair>
+        requires { Sleeps chair }
+        ensures { MatchResult result (λ _. worker < self.now) (λ c. (c ≡ chair) × (self.now ≤ worker)) }
+    {
+        let Some(lock) = self.locks.get(worker) else {
+            return Err(chair);
+        };
+        let lock: &SleepLock = lock;
+        let mut state = lock
+            .changed
+            .wait_while(rt, lock.state.lock(rt), |state| !state.is_empty());
+        state.block(chair);
+        drop(state);
+        lock.changed.notify_all();
+        Ok(())
+    }
+
+    /// Takes the sleep lock of a worker that was blocked, once it was woken and nobody holds it, and the worker's seat
+    /// back, with its inactive unit. The worker sleeps meanwhile. None of a worker that there is not.
+    pub fn relock<R: Wait>(&self, rt: &R, worker: usize) -> Option<Chair>
+        ensures { MatchOption result (self.now ≤ worker) Searches }
+    {
+        let lock: &SleepLock = self.locks.get(worker)?;
+        let mut state = lock.changed.wait_while(rt, lock.state.lock(rt), |state| {
+            !state.is_free(true) || !state.is_woken()
+        });
+        state.take();
+        match state.get_up() {
+            Some(chair) => Some(chair),
+            None => unreachable!(),
         }
     }
 
@@ -199,12 +160,7 @@ impl Sleep {
             return false;
         };
         let lock: &SleepLock = lock;
-        let mut state = lock.state.lock(rt);
-        let was_blocked = state.wake();
-        if was_blocked {
-            self.counters.sub_sleeping_thread(rt);
-        }
-        was_blocked
+        lock.state.lock(rt).wake()
     }
 
     /// Wakes a worker if it is blocked, and then true.
@@ -262,35 +218,52 @@ impl Sleep {
     }
 
     /// A job was injected into the pool: wakes a worker for it where none is awake and idle.
-    pub fn new_injected_jobs<R: Wait>(&self, rt: &R, queue_was_empty: bool, trace: &mut Trace)
+    pub fn new_injected_jobs<R: Wait>(
+        &self,
+        rt: &R,
+        chair: &mut Chair,
+        queue_was_empty: bool,
+        trace: &mut Trace,
+    )
+        ensures units { Stays chair.old chair.new }
         ensures path { (h : AnyShape) (q : AnyParty) (plan : AnyPlan) → h.workers ≡ self.now → plan_pool plan ≡ 0 → Logged h q (Stay (TellNews plan queue_was_empty)) trace.old trace.new (finish q (after_news plan)) }
     {
-        self.new_job(rt, queue_was_empty, trace);
+        self.new_job(rt, chair, queue_was_empty, trace);
     }
 
     /// A worker pushed a job to its own deque: wakes another for it where none is awake and idle.
-    pub fn new_internal_jobs<R: Wait>(&self, rt: &R, queue_was_empty: bool, trace: &mut Trace)
+    pub fn new_internal_jobs<R: Wait>(
+        &self,
+        rt: &R,
+        chair: &mut Chair,
+        queue_was_empty: bool,
+        trace: &mut Trace,
+    )
+        ensures units { Stays chair.old chair.new }
         ensures path { (h : AnyShape) (q : AnyParty) (plan : AnyPlan) → h.workers ≡ self.now → plan_pool plan ≡ 0 → Logged h q (Stay (TellNews plan queue_was_empty)) trace.old trace.new (finish q (after_news plan)) }
     {
-        self.new_job(rt, queue_was_empty, trace);
+        self.new_job(rt, chair, queue_was_empty, trace);
     }
 
     // There is a new job in a queue, which was empty or not.
-    fn new_job<R: Wait>(&self, rt: &R, was_empty: bool, trace: &mut Trace)
+    fn new_job<R: Wait>(&self, rt: &R, chair: &mut Chair, was_empty: bool, trace: &mut Trace)
+        ensures units { Stays chair.old chair.new }
         ensures path { (h : AnyShape) (q : AnyParty) (plan : AnyPlan) → h.workers ≡ self.now → plan_pool plan ≡ 0 → Logged h q (Stay (TellNews plan was_empty)) trace.old trace.new (finish q (after_news plan)) }
     {
-        let owed = self.counters.news(rt, was_empty);
+        let owed = chair.news(rt, was_empty);
         trace.add(Act::News { pool: 0, was_empty }, Seen::Wakes(owed));
         self.wake_any_threads(rt, owed, trace);
     }
 
     /// A worker begins to search: it is inactive from now on. Answers its wait, with no search
     /// failed yet.
-    pub fn start_looking<R: Wait>(&self, rt: &R, wait: Idle, trace: &mut Trace) -> Idle
+    pub fn start_looking(&self, chair: &mut Chair, wait: Idle, trace: &mut Trace) -> Idle
+        requires { Rests chair.old }
+        ensures units { Searches chair.new }
         ensures wait { result ≡ record wait { rounds = Failed 0 } }
         ensures path { (h : AnyShape) (p i : ℕ) → Logged h (Worker p i) (Stay (BecomeInactive wait)) trace.old trace.new (Stay (ProbeIdle result)) }
     {
-        self.counters.add_inactive_thread(rt);
+        chair.add_inactive_thread();
         trace.add(Act::AddInactive, Seen::Done);
         Idle {
             rounds: Rounds::Failed(0),
@@ -305,12 +278,15 @@ impl Sleep {
         &self,
         rt: &R,
         worker: usize,
+        mut chair: Chair,
         wait: &mut Idle,
         latch: &CoreLatch,
         has_injected_jobs: F,
         trace: &mut Trace,
-    )
-        requires { F.IsAlwaysCallable has_injected_jobs }
+    ) -> Chair
+        requires callable { F.IsAlwaysCallable has_injected_jobs }
+        requires units { Searches chair }
+        ensures units { Searches result }
         ensures path { (h : AnyShape) → h.limit ≡ 32 → Logged h (Worker 0 worker) (Stay (after_failure h wait.old wait.old.rounds)) trace.old trace.new (Stay (ProbeIdle wait.new)) }
     {
         match wait.rounds {
@@ -318,19 +294,29 @@ impl Sleep {
                 if failed < ROUNDS_UNTIL_SLEEPY {
                     wait.rounds = Rounds::Failed(failed + 1);
                 } else {
-                    self.announce_sleepy(rt, wait, trace);
+                    self.announce_sleepy(rt, &mut chair, wait, trace);
                 }
                 thread::yield_now();
+                chair
             }
-            Rounds::Announced => self.sleep(rt, worker, wait, latch, has_injected_jobs, trace),
+            Rounds::Announced => {
+                self.sleep(rt, worker, chair, wait, latch, has_injected_jobs, trace)
+            }
         }
     }
 
     // A worker announces that it may sleep, and keeps the event counter.
-    fn announce_sleepy<R: Wait>(&self, rt: &R, wait: &mut Idle, trace: &mut Trace)
+    fn announce_sleepy<R: Wait>(
+        &self,
+        rt: &R,
+        chair: &mut Chair,
+        wait: &mut Idle,
+        trace: &mut Trace,
+    )
+        ensures units { Stays chair.old chair.new }
         ensures path { (h : AnyShape) (i : ℕ) → Logged h (Worker 0 i) (Stay (AnnounceSelf wait.old)) trace.old trace.new (Stay (ProbeIdle wait.new)) }
     {
-        let kept = u64::from(self.counters.announce(rt));
+        let kept = u64::from(chair.announce(rt));
         trace.add(Act::Announce, Seen::Jec(kept));
         wait.rounds = Rounds::Announced;
         wait.kept = kept;
@@ -342,25 +328,29 @@ impl Sleep {
         &self,
         rt: &R,
         worker: usize,
+        chair: Chair,
         wait: &mut Idle,
         latch: &CoreLatch,
         has_injected_jobs: F,
         trace: &mut Trace,
-    )
-        requires { F.IsAlwaysCallable has_injected_jobs }
+    ) -> Chair
+        requires callable { F.IsAlwaysCallable has_injected_jobs }
+        requires units { Searches chair }
+        ensures units { Searches result }
         ensures path { (h : AnyShape) → h.limit ≡ 32 → Logged h (Worker 0 worker) (Stay (GetSleepy wait.old)) trace.old trace.new (Stay (ProbeIdle wait.new)) }
     {
         let own = wait.target.latch();
         if !latch.get_sleepy(rt) {
             trace.add(Act::Sleepy(own), Seen::Refused);
-            return;
+            return chair;
         }
         trace.add(Act::Sleepy(own), Seen::Done);
         self.lock(rt, worker, true);
         trace.add(Act::Lock { pool: 0, worker }, Seen::Done);
-        self.doze(rt, worker, wait, latch, has_injected_jobs, trace);
+        let chair = self.doze(rt, worker, chair, wait, latch, has_injected_jobs, trace);
         self.unlock(rt, worker);
         trace.add(Act::Unlock { pool: 0, worker }, Seen::Done);
+        chair
     }
 
     // A worker that holds its sleep lock sleeps until it is woken, unless there was news or its
@@ -369,36 +359,48 @@ impl Sleep {
         &self,
         rt: &R,
         worker: usize,
+        mut chair: Chair,
         wait: &mut Idle,
         latch: &CoreLatch,
         has_injected_jobs: F,
         trace: &mut Trace,
-    )
-        requires { F.IsAlwaysCallable has_injected_jobs }
+    ) -> Chair
+        requires callable { F.IsAlwaysCallable has_injected_jobs }
+        requires units { Searches chair }
+        ensures units { Searches result }
         ensures path { (h : AnyShape) → h.limit ≡ 32 → Logged h (Worker 0 worker) (Stay (FallAsleep wait.old)) trace.old trace.new (Stay (UnlockOwn wait.new)) }
     {
         let own = wait.target.latch();
         if !latch.fall_asleep(rt) {
             trace.add(Act::Asleep(own), Seen::Refused);
             wait.rounds = Rounds::Failed(0);
-            return;
+            return chair;
         }
         trace.add(Act::Asleep(own), Seen::Done);
-        if self.count_asleep(rt, wait, trace) {
-            self.block_unless_injected(rt, worker, wait, has_injected_jobs, trace);
+        if self.count_asleep(rt, &mut chair, wait, trace) {
+            chair = self.block_unless_injected(rt, worker, chair, wait, has_injected_jobs, trace);
         }
         latch.wake_up(rt);
         trace.add(Act::Wakeup(own), Seen::Done);
+        chair
     }
 
     // Counts a worker among the sleeping ones, and then true, unless there was news since it
     // announced itself.
-    fn count_asleep<R: Wait>(&self, rt: &R, wait: &mut Idle, trace: &mut Trace) -> bool
+    fn count_asleep<R: Wait>(
+        &self,
+        rt: &R,
+        chair: &mut Chair,
+        wait: &mut Idle,
+        trace: &mut Trace,
+    ) -> bool
+        requires { Searches chair.old }
+        ensures units { MatchBool result (Sleeps chair.new) (Searches chair.new) }
         ensures target { wait.new.target ≡ wait.old.target }
         ensures path { (h : AnyShape) (i : ℕ) → h.limit ≡ 32 → Logged h (Worker 0 i) (Stay (LoadCounters wait.old)) trace.old trace.new (Stay (counted result wait.new)) }
     {
         for _ in rt.forever() {
-            let counters = self.counters.load(rt);
+            let counters = chair.load();
             let Counters {
                 sleeping,
                 inactive,
@@ -422,7 +424,7 @@ impl Sleep {
                 inactive,
                 jec,
             };
-            if self.counters.try_add_sleeping_thread(rt, counters) {
+            if chair.try_add_sleeping_thread(counters) {
                 trace.add(adds, Seen::Done);
                 return true;
             }
@@ -437,34 +439,58 @@ impl Sleep {
         &self,
         rt: &R,
         worker: usize,
+        mut chair: Chair,
         wait: &mut Idle,
         has_injected_jobs: F,
         trace: &mut Trace,
-    )
-        requires { F.IsAlwaysCallable has_injected_jobs }
+    ) -> Chair
+        requires callable { F.IsAlwaysCallable has_injected_jobs }
+        requires units { Sleeps chair }
+        ensures units { Searches result }
         ensures wait { wait.new ≡ record (wait.old) { rounds = Failed 0 } }
         ensures path { (h : AnyShape) → Logged h (Worker 0 worker) (Stay (LookAtCast wait.old)) trace.old trace.new (Stay (WakeUp wait.new)) }
     {
         trace.add(Act::LookCast, Seen::Yes);
         if has_injected_jobs() {
             trace.add(Act::LookInj(0), Seen::No);
-            self.counters.sub_sleeping_thread(rt);
+            chair.sub_sleeping_thread();
             trace.add(Act::SubSleeping, Seen::Done);
         } else {
             trace.add(Act::LookInj(0), Seen::Yes);
-            self.block(rt, worker);
+            let blocked = self.block(rt, worker, chair);
             trace.add(Act::Block, Seen::Done);
-            self.lock(rt, worker, true);
+            chair = self.rise(rt, worker, blocked);
             trace.add(Act::Lock { pool: 0, worker }, Seen::Done);
         }
         wait.rounds = Rounds::Failed(0);
+        chair
+    }
+
+    // A worker that was blocked takes its sleep lock again, once it was woken, and its seat back. One that there is not
+    // kept its seat, which spends its sleeping unit.
+    fn rise<R: Wait>(&self, rt: &R, worker: usize, blocked: Result<(), Chair>) -> Chair
+        requires { MatchResult blocked (λ _. worker < self.now) Sleeps }
+        ensures { Searches result }
+    {
+        match blocked {
+            Ok(()) => match self.relock(rt, worker) {
+                Some(chair) => chair,
+                None => unreachable!(),
+            },
+            Err(mut chair) => {
+                chair.sub_sleeping_thread();
+                chair
+            }
+        }
     }
 
     /// A worker leaves its search: it is active again, and wakes others where some sleep.
-    pub fn work_found<R: Wait>(&self, rt: &R, trace: &mut Trace)
+    pub fn work_found<R: Wait>(&self, rt: &R, chair: &mut Chair, trace: &mut Trace)
+        requires { Searches chair.old }
+        ensures units { Rests chair.new }
         ensures path { (h : AnyShape) (i : ℕ) (w : AnyWait) → h.workers ≡ self.now → Logged h (Worker 0 i) (Stay (LeaveSearch w)) trace.old trace.new (finish (Worker 0 i) (after_found w.target w.found)) }
     {
-        let owed = self.counters.sub_inactive_thread(rt);
+        let owed = chair.sub_inactive_thread();
         trace.add(Act::SubInactive, Seen::Wakes(owed));
         self.wake_any_threads(rt, owed, trace);
     }
@@ -475,4 +501,37 @@ fn yes_or_no(answer: bool) -> Seen
     ensures { result ≡ yes_or_no answer }
 {
     if answer { Seen::Yes } else { Seen::No }
+}
+
+// So many sleep locks, each of which nobody holds.
+fn new_locks(alloc: Global, count: usize) -> Result<Vec<CachePadded<SleepLock>>, AllocError>
+    ensures { IfOk result (λ locks. length locks.items ≡ count) }
+{
+    let mut locks = Vec::new(alloc);
+    for _ in 0..count {
+        let lock = SleepLock {
+            state: Mutex::new(WorkerSleepState::new()),
+            changed: Condvar::new(),
+        };
+        locks.push(CachePadded::new(lock))?;
+    }
+    Ok(locks)
+}
+
+// The seats of so many workers, one by one out of the first one's permits.
+fn new_chairs(
+    alloc: Global,
+    workers: usize,
+    counters: &Arc<AtomicCounters, Global>,
+    mut root: CounterSeat,
+) -> Result<Vec<Chair>, AllocError>
+    requires { (root.table_id ≡ counters.now.value.table) × (watch root ≡ fresh workers workers) }
+    ensures { IfOk result (λ chairs. (length chairs.items ≡ workers) × All (λ c. c ≡ fresh workers 1) chairs.items) }
+{
+    let mut chairs = Vec::new(alloc);
+    for _ in 0..workers {
+        let seat = counters.worker_seat(&mut root);
+        chairs.push(Chair::new(Arc::try_clone(counters)?, seat))?;
+    }
+    Ok(chairs)
 }

@@ -18,7 +18,7 @@ returns-then-owed-gt0-clause-path g c =
     let first = Stay (at.TellNews (own_join n) c.args.was_empty) in
     let s = c.args.self.now in
     and_then h i first s (walk h (Worker 0 i) 0 c.news-owed.result 0 (RunFirst (own_call n) n)) (StartRun (at.FirstSide (own_call n) n) n) c.news-owed.new.self c.finish_from.new.self
-    (told h i n s c.news-owed.new.self c.args.was_empty c.news-owed.result c.news-owed.ensures.same c.news-owed.ensures.adds)
+    (told h i n s c.news-owed.new.self c.args.was_empty c.news-owed.result c.news-owed.ensures.does c.news-owed.ensures.adds)
     (subst (λ v. So v.shape v.index (walk v.shape (Worker 0 v.index) 0 c.news-owed.result 0 (RunFirst (own_call n) n)) c.news-owed.new.self (StartRun (at.FirstSide (own_call n) n) n) c.finish_from.new.self) c.self.view_is c.finish_from.ensures.path)
 
 pub returns-else-owed-gt0-clause-path : goal.returns-else-owed-gt0-clause-path
@@ -28,4 +28,4 @@ returns-else-owed-gt0-clause-path g c =
     let n = c.args.name in
     subst (λ (m : Move). So h i (Stay (at.TellNews (own_join n) c.args.was_empty)) c.args.self.now m c.news-owed.new.self)
     (no_walk h (Worker 0 i) 0 c.news-owed.result 0 (RunFirst (own_call n) n) c.if-owed-gt0.false)
-    (told h i n c.args.self.now c.news-owed.new.self c.args.was_empty c.news-owed.result c.news-owed.ensures.same c.news-owed.ensures.adds)
+    (told h i n c.args.self.now c.news-owed.new.self c.args.was_empty c.news-owed.result c.news-owed.ensures.does c.news-owed.ensures.adds)

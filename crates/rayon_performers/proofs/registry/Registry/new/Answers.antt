@@ -1,7 +1,8 @@
-use Rattle.std.proofs.Common.{◌≡◌, ◌∙◌, ℕ, ◌+◌, ◌++◌, [], ◌∷◌, List, length, map, All, false, Result, Ok, Err, if◌then◌else◌, sym, subst, ap, true≢false}
+use Rattle.std.proofs.Common.{◌≡◌, ◌∙◌, ℕ, ◌+◌, ◌++◌, [], ◌∷◌, List, length, map, All, false, Option, Some, option_to_list, Result, Ok, Err, arith, if◌then◌else◌, sym, subst, ap, true≢false}
 use Rattle.std.specs.Result.{is_ok, is_err}
 use Rattle.std.proofs.lemmas.List.{map-append, length-append}
-use Rattle.std.proofs.lemmas.List.Elements.{All-append, All-nil, All-cons}
+use Rattle.std.proofs.lemmas.List.Elements.{All-append, All-nil, All-cons, All-pop}
+use Rattle.rayon_atomics.specs.Counted.{fresh}
 use Rattle.rayon_queues.specs.Deques.{Deque, DequeId, IsNew}
 use Rattle.rayon_performers.proofs.registry.Registry.new.Goals as goal
 
@@ -12,6 +13,11 @@ pushed (Err u) xs ys zs n e = absurd (true≢false n)
 
 more : {X : Type 0} (ids news : List X) (x : X) (k : ℕ) → news ≡ ids ++ x ∷ [] → length ids ≡ k → length news ≡ k + 1
 more ids news x k e n = ap length e ∙ length-append ids (x ∷ []) ∙ ap (λ (j : ℕ). j + 1) n
+
+fewer : {X : Type 0} (xs ys : List X) (r : Option X) (x : X) (k n : ℕ) → r ≡ Some x → xs ≡ ys ++ option_to_list r → length xs + k ≡ n → length ys + (k + 1) ≡ n
+fewer xs ys r x k n e f g =
+    let one : length xs ≡ length ys + 1 = ap length (f ∙ ap (λ q. ys ++ option_to_list q) e) ∙ length-append ys (x ∷ []) in
+    omega arith
 
 module _ {T : Type 0} where
   -- one deque more, and the stealer of it
@@ -25,9 +31,9 @@ pub loop-preserved : goal.loop-preserved
 loop-preserved g c =
     let xs = c.loop.deques.items in
     let zs = c.push.new.self.items in
-    let x = c.in-Ok-new_deque.deque in
+    let x = c.in-Ok.kit in
     let ids = c.loop.stealers in
-    let news = c.new_deque.new.stealers in
+    let news = c.new_kit.new.stealers in
     let e = pushed c.push.result xs (xs ++ x ∷ []) zs (sym c.is_err.ensures.value ∙ c.if-is_err.false) c.push.ensures.items in
-    let n = c.in-Ok-new_deque.ensures.stealer in
-    (more ids news x.id c.loop.counter n c.loop.invariant.0, tied xs zs x ids news e n c.loop.invariant.1, all_new xs zs x e c.loop.invariant.2 c.in-Ok-new_deque.ensures.empty, more xs zs x c.loop.counter e c.loop.invariant.3)
+    let n = c.in-Ok.ensures.stealer in
+    (more ids news x.id c.loop.counter n c.loop.invariant.0, tied xs zs x ids news e n c.loop.invariant.1, all_new xs zs x e c.loop.invariant.2 c.in-Ok.ensures.empty, more xs zs x c.loop.counter e c.loop.invariant.3, fewer c.loop.chairs.items c.pop.new.self.items c.pop.result c.in-Some.chair c.loop.counter c.args.num_threads c.in-Some.is c.pop.ensures.items c.loop.invariant.4, (All-pop (λ w. w ≡ fresh c.args.num_threads 1) c.loop.chairs.items c.pop.new.self.items c.pop.result c.pop.ensures.items c.loop.invariant.5).0)

@@ -1,29 +1,23 @@
 -- what the stored parts of a world stand for, and what an act leaves of them
-use Rattle.std.specs.Prelude.{ℕ, Bool, true, false, ◌+◌, ◌≤◌, ◌<◌, ◌==◌, if◌then◌else◌, Option, Some, None, List, [], ◌∷◌, ◌++◌, ◌≡◌, slice_get, reverse, length, IsSomeAnd, vec_len, vec_capacity}
+use Rattle.std.specs.Prelude.{ℕ, true, false, ◌+◌, ◌≤◌, ◌<◌, Option, Some, None, List, [], ◌≡◌, slice_get, reverse, length, IsSomeAnd, vec_len, vec_capacity}
 use Rattle.rayon_machine_places.specs.declared.place.Party.{Party}
 use Rattle.rayon_machine_places.specs.declared.act.Act.{Act}
-use Rattle.rayon_machine_places.specs.declared.act.Act.TheVariants.{Probe, PopOwn, TakeCast, AddInactive, Pick, Steal, PopInj, Announce, Sleepy, Lock, Asleep, Load, TryAdd, LookCast, LookInj, LookOwn, Block, SubSleeping, Wakeup, Unlock, SubInactive, Wake, Begin, PushInj, PushOwn, FifoIn, FifoUndo, FifoOut, PushCast, RaiseAll, LowerAll, News, Set, LockSet, LockWait, Lower, Raise, Grow, Store, Take, Slot, SlotUndo, StoreBody as PutBody, StoreSlot as PutSlot, Idle}
-use Rattle.rayon_machine_places.specs.declared.act.Seen.{Seen}
-use Rattle.rayon_machine_places.specs.declared.act.Seen.TheVariants.{Done, Yes, No, Task, Missing}
-use Rattle.rayon_machine_parts.specs.declared.numbers.Touched.{Touched}
-use Rattle.rayon_machine_parts.specs.declared.numbers.Census.{Census}
-use Rattle.rayon_machine_parts.specs.declared.numbers.PoolNumbers.{PoolNumbers}
-use Rattle.rayon_machine_parts.specs.declared.numbers.WorkerFlags.{WorkerFlags}
-use Rattle.rayon_machine_parts.specs.declared.kind.Kind.{Kind}
+use Rattle.rayon_machine_places.specs.declared.act.Act.TheVariants.{PushInj, PushOwn, FifoIn, PushCast}
+use Rattle.rayon_machine_numbers.specs.declared.numbers.Touched.{Touched}
+use Rattle.rayon_machine_numbers.specs.Numbers.{act_list, part_queued, numbers_of, flags_of, with_touched}
 use Rattle.rayon_machine_parts.specs.declared.spot.Spot.{Spot}
 use Rattle.rayon_machine_parts.specs.declared.deed.Deed.{Deed}
-use Rattle.rayon_machine_parts.specs.declared.kind.Kind.TheVariants.{Queueing, Feeding, Booking, Counting, Latching, Locking, Sharing}
 use Rattle.rayon_machine_places.specs.declared.place.Party.TheVariants.{Worker, Caller}
 use Rattle.rayon_machine_places.specs.declared.place.Move.{Move}
 use Rattle.rayon_machine_places.specs.declared.place.Pieces.{Pieces}
 use Rattle.rayon_machine_places.specs.declared.place.Plan.{Plan}
-use Rattle.rayon_machine_places.specs.declared.place.Plan.TheVariants.{Detach, Here, Send, Fork, Feed, Open, Enter}
+use Rattle.rayon_machine_places.specs.declared.place.Plan.TheVariants.{Detach, Here, Send, Fork, Feed, Open, Enter, Gather}
+use Rattle.rayon_machine_places.specs.declared.place.Mark.{Mark as Marking}
+use Rattle.rayon_machine_places.specs.declared.place.Mark.TheVariants.{Numbered}
 use Rattle.rayon_machine_places.specs.declared.place.Move.TheVariants.{StartRun, HandBack, HandIn, Discard, Mark, HandAllBack}
-use Rattle.rayon_machine_places.specs.declared.shape.Order.{Order}
 use Rattle.rayon_machine_places.specs.declared.shape.Order.TheVariants.{NewestFirst}
 use Rattle.rayon_machine_places.specs.declared.shape.PoolShape.{PoolShape}
 use Rattle.rayon_machine_places.specs.declared.state.Letter.TheVariants.{Unset}
-use Rattle.rayon_machine_places.specs.declared.state.Whereabouts.TheVariants.{InDeque, Injected, Running}
 use Rattle.rayon_machine_places.specs.declared.state.Job.{Job}
 use Rattle.rayon_machine_places.specs.declared.state.Call.{Call}
 use Rattle.rayon_machine_parts.specs.declared.shapes.Shapes.{Shapes}
@@ -32,192 +26,20 @@ use Rattle.rayon_machine_parts.specs.declared.parties.Crew.{Crew}
 use Rattle.rayon_machine_parts.specs.declared.parties.Parties.{Parties}
 use Rattle.rayon_machine_parts.specs.declared.parts.Pool.{Pool as StoredPool}
 use Rattle.rayon_machine_parts.specs.declared.parts.CastList.{CastList}
+use Rattle.rayon_machine_parts.specs.declared.parts.FifoList.{FifoList}
 use Rattle.rayon_machine_parts.specs.declared.parts.Seat.{Seat as StoredSeat}
 use Rattle.rayon_machine_parts.specs.declared.parts.Bench.{Bench}
 use Rattle.rayon_machine_parts.specs.declared.parts.Parts.{Parts}
-use Rattle.rayon_machine_places.specs.Places.{own_pool, own_index}
+use Rattle.rayon_machine_places.specs.Places.{own_pool}
 use Rattle.rayon_machine_places.specs.Runs.{first_place}
 use Rattle.rayon_machine_places.specs.Steps.{blank_job, new_call}
 use Rattle.std.specs.Option.{option_map_or}
 use Rattle.std.specs.VecDeque.{deque_capacity, deque_len}
-use Rattle.rayon_machine_places.specs.World.{Shape, Seat, Pool, Stack, Counts, Part, at_job, head_of, last_of, own_of, own_left, but_first, but_last, casts_with, count_below, taken_as, left_book, left_by, target_pool, target_worker, target_call, target_job, effect}
-
--- the numbers of a census
-abbrev pub census_counts : Census → Counts
-census_counts c = record { sleeping = c.sleeping; inactive = c.inactive }
-
--- the part of a world with these numbers and these lists
-abbrev pub full : Touched → List ℕ → List ℕ → List ℕ → (ℕ → List ℕ) → Part
-full t own fifo injector casts = record {
-  pool = record { injector = injector; casts = casts; turn = t.pool.turn; count = t.pool.count; held = t.pool.held; counted = t.pool.counted };
-  seat = record { own = own; fifo = fifo; feeder = t.worker.feeder; inactive = t.worker.inactive; asleep = t.worker.asleep; blocked = t.worker.blocked; latch = t.worker.latch; lock = t.worker.lock };
-  call = t.call;
-  job = t.job;
-}
-
--- the act sees this and leaves these numbers, whatever the lists hold
-abbrev pub Does : Act → Party → Counts → ℕ → Touched → Seen → Touched → Type 0
-Does a q c jec_bits t seen u = (h : Shape) (own fifo injector : List ℕ) (casts : ℕ → List ℕ) → h.jec_bits ≡ jec_bits → effect a h q c (full t own fifo injector casts) ≡ Some (seen, full u own fifo injector casts)
-
--- the act is not enabled, whatever the lists hold
-abbrev pub DoesNot : Act → Party → Counts → Touched → Type 0
-DoesNot a q c t = (h : Shape) (own fifo injector : List ℕ) (casts : ℕ → List ℕ) → effect a h q c (full t own fifo injector casts) ≡ None
-
--- the act is enabled, whatever the lists hold
-abbrev pub Can : Act → Party → Counts → Touched → Type 0
-Can a q c t = (h : Shape) (own fifo injector : List ℕ) (casts : ℕ → List ℕ) → ¬ (effect a h q c (full t own fifo injector casts) ≡ None)
-
--- an act on the counters of inactive and sleeping workers, or on the turn
-abbrev pub is_counting : Act → Bool
-is_counting AddInactive = true
-is_counting Announce = true
-is_counting Load = true
-is_counting (TryAdd a b j) = true
-is_counting SubSleeping = true
-is_counting SubInactive = true
-is_counting (News p e) = true
-is_counting _ = false
-
--- an act on a latch or a cell
-abbrev pub is_latching : Act → Bool
-is_latching (Probe l) = true
-is_latching (Sleepy l) = true
-is_latching (Asleep l) = true
-is_latching (Wakeup l) = true
-is_latching (Set l p i) = true
-is_latching (LockSet c) = true
-is_latching (LockWait c) = true
-is_latching (Grow c) = true
-is_latching (Store c e) = true
-is_latching (Take c) = true
-is_latching _ = false
-
--- an act on a sleep lock, or on whether a worker is blocked
-abbrev pub is_locking : Act → Bool
-is_locking (Lock p i) = true
-is_locking Block = true
-is_locking (Unlock p i) = true
-is_locking (Wake p i) = true
-is_locking _ = false
-
--- an act on shares of a count, the begin of a run, the choice of a victim, or none
-abbrev pub is_sharing : Act → Bool
-is_sharing (Begin t) = true
-is_sharing (Lower k s) = true
-is_sharing (Raise k t) = true
-is_sharing (LowerAll b) = true
-is_sharing (RaiseAll b) = true
-is_sharing Pick = true
-is_sharing Idle = true
-is_sharing _ = false
-
--- an act on a queue
-abbrev pub is_queueing : Act → Bool
-is_queueing PopOwn = true
-is_queueing TakeCast = true
-is_queueing (Steal p i) = true
-is_queueing PopInj = true
-is_queueing LookCast = true
-is_queueing (LookInj p) = true
-is_queueing LookOwn = true
-is_queueing (PushInj p t b) = true
-is_queueing (PushOwn t b) = true
-is_queueing (PushCast b) = true
-is_queueing _ = false
-
--- an act on a FIFO list
-abbrev pub is_feeding : Act → Bool
-is_feeding (FifoIn t) = true
-is_feeding FifoUndo = true
-is_feeding (FifoOut k i) = true
-is_feeding _ = false
-
--- an act on the book of a scope
-abbrev pub is_booking : Act → Bool
-is_booking (Slot c t) = true
-is_booking (SlotUndo c t) = true
-is_booking (PutBody c e) = true
-is_booking (PutSlot c t e) = true
-is_booking _ = false
-
--- the task at the end of the queue that an act takes from or looks at
-abbrev pub end_task : Order → Act → Party → List ℕ → List ℕ → List ℕ → (ℕ → List ℕ) → Option ℕ
-end_task o PopOwn q own fifo injector casts = own_of o own
-end_task o TakeCast q own fifo injector casts = head_of (casts (own_index q))
-end_task o (Steal p i) q own fifo injector casts = head_of own
-end_task o PopInj q own fifo injector casts = head_of injector
-end_task o LookCast q own fifo injector casts = head_of (casts (own_index q))
-end_task o (LookInj p) q own fifo injector casts = head_of injector
-end_task o LookOwn q own fifo injector casts = head_of own
-end_task o FifoUndo q own fifo injector casts = last_of fifo
-end_task o (FifoOut k i) q own fifo injector casts = head_of fifo
-end_task o _ q own fifo injector casts = None
-
--- a pool after an act on its queues, where the party is the worker of this index
-abbrev pub pool_queued : Act → ℕ → Pool → Pool
-pool_queued PopInj k v = record v { injector = but_first v.injector }
-pool_queued TakeCast k v = record v { casts = λ i. if i == k then but_first (v.casts k) else v.casts i }
-pool_queued (PushInj p t b) k v = record v { injector = v.injector ++ t ∷ [] }
-pool_queued (PushCast b) k v = record v { casts = casts_with b v.casts }
-pool_queued _ k v = v
-
--- a worker's seat after an act on its deque or its FIFO list
-abbrev pub seat_queued : Act → Order → Seat → Seat
-seat_queued PopOwn o s = record s { own = own_left o s.own }
-seat_queued (Steal p i) o s = record s { own = but_first s.own }
-seat_queued (PushOwn t b) o s = record s { own = s.own ++ t ∷ [] }
-seat_queued (FifoIn t) o s = record s { fifo = s.fifo ++ t ∷ [] }
-seat_queued FifoUndo o s = record s { fifo = but_last s.fifo }
-seat_queued (FifoOut k i) o s = record s { fifo = but_first s.fifo }
-seat_queued _ o s = s
-
--- a part after an act on its queues
-abbrev pub part_queued : Order → Act → Party → Part → Part
-part_queued o a q m = record m { pool = pool_queued a (own_index q) m.pool; seat = seat_queued a o m.seat }
-
--- the numbers with the job elsewhere
-abbrev pub with_job : Touched → Job → Touched
-with_job t j = record t { job = j }
-
--- what taking a task sees, and the numbers after it
-abbrev pub after_take : Party → Touched → Option ℕ → Seen × Touched
-after_take q t None = (Missing, t)
-after_take q t (Some n) = (Task (taken_as n t.job.kind), with_job t (at_job (t.job) (Running q)))
-
--- what a look at a queue sees
-abbrev pub look_sees : Option ℕ → Seen
-look_sees None = Yes
-look_sees (Some t) = No
-
--- the numbers with the FIFO list left by this party
-abbrev pub with_left : Party → Touched → Touched
-with_left q t = record t { worker = record (t.worker) { feeder = left_by q t.worker.feeder } }
-
--- the numbers with the book of this scope left by this party
-abbrev pub with_left_book : Party → Option ℕ → Touched → Touched
-with_left_book q b t = record t { call = record (t.call) { writer = left_book q b t.call.writer } }
-
--- what an act on a queue sees, and the numbers after it, where this task stands at the queue's end
-abbrev pub after_handle : Act → Party → Touched → Option ℕ → Seen × Touched
-after_handle PopOwn q t found = after_take q t found
-after_handle TakeCast q t found = after_take q t found
-after_handle (Steal p i) q t found = after_take q t found
-after_handle PopInj q t found = after_take q t found
-after_handle LookCast q t found = (look_sees found, t)
-after_handle (LookInj p) q t found = (look_sees found, t)
-after_handle LookOwn q t found = (look_sees found, t)
-after_handle (PushInj p n b) q t found = (Done, with_job (with_left_book q b t) (at_job (t.job) (Injected p)))
-after_handle (PushOwn n b) q t found = (Done, with_job (with_left_book q b (with_left q t)) (at_job (t.job) (InDeque (own_pool q) (own_index q))))
-after_handle _ q t found = (Done, t)
-
--- the act sees this and leaves these numbers and queues, where this task stands at the end of the queue that it looks
--- at
-abbrev pub Acts : Order → Act → Party → Counts → ℕ → Option ℕ → Touched → Seen → Touched → Type 0
-Acts o a q c jec_bits found t seen u = (h : Shape) (own fifo injector : List ℕ) (casts : ℕ → List ℕ) → h.jec_bits ≡ jec_bits → (h.pool (own_pool q)).order ≡ o → end_task o a q own fifo injector casts ≡ found → effect a h q c (full t own fifo injector casts) ≡ Some (seen, part_queued o a q (full u own fifo injector casts))
+use Rattle.rayon_machine_places.specs.World.{Shape, Seat, Pool, Stack, Counts, Part, count_below, target_pool, target_worker, target_call, target_job, effect}
 
 -- a seat that no step has touched
 abbrev pub blank_seat : Seat
-blank_seat = record { own = []; fifo = []; feeder = None; inactive = false; asleep = false; blocked = false; latch = Unset; lock = None }
+blank_seat = record { own = []; fifo = λ b. []; feeder = λ b. None; inactive = false; asleep = false; blocked = false; latch = Unset; lock = None }
 
 -- a pool that no step has touched
 abbrev pub blank_pool : Pool
@@ -276,9 +98,27 @@ cast_at casts i = option_map_or (λ (c : CastList). c.tasks.items) (slice_get ca
 abbrev pub pool_of : StoredPool → Pool
 pool_of v = record { injector = v.injector.items; casts = cast_at v.casts.items; turn = v.numbers.turn; count = v.numbers.count; held = v.numbers.held; counted = v.numbers.counted }
 
--- a stored seat's deque, FIFO list and flags
+-- the jobs of this one of some FIFO lists; one that is not there is empty
+abbrev pub jobs_in : List FifoList → ℕ → List ℕ
+jobs_in lists c = option_map_or (λ (l : FifoList). l.jobs.items) (slice_get lists c) []
+
+-- who holds it; one that is not there is held by nobody
+abbrev pub holder_in : List FifoList → ℕ → Option Party
+holder_in lists c = option_map_or (λ (l : FifoList). l.holder) (slice_get lists c) None
+
+-- the FIFO lists of a stored seat
+abbrev pub fifo_of : FifoList → List FifoList → Option ℕ → List ℕ
+fifo_of detached scoped None = detached.jobs.items
+fifo_of detached scoped (Some c) = jobs_in scoped c
+
+-- who holds each
+abbrev pub feeder_of : FifoList → List FifoList → Option ℕ → Option Party
+feeder_of detached scoped None = detached.holder
+feeder_of detached scoped (Some c) = holder_in scoped c
+
+-- a stored seat's deque, FIFO lists and flags
 abbrev pub seat_of : StoredSeat → Seat
-seat_of s = record { own = s.own.items; fifo = s.fifo.items; feeder = s.flags.feeder; inactive = s.flags.inactive; asleep = s.flags.asleep; blocked = s.flags.blocked; latch = s.flags.latch; lock = s.flags.lock }
+seat_of s = record { own = s.own.items; fifo = fifo_of s.detached s.scoped.items; feeder = feeder_of s.detached s.scoped.items; inactive = s.flags.inactive; asleep = s.flags.asleep; blocked = s.flags.blocked; latch = s.flags.latch; lock = s.flags.lock }
 
 -- the pool of a number; one that is not there is blank
 abbrev pub pool_at : List StoredPool → ℕ → Pool
@@ -309,24 +149,6 @@ abbrev pub HasRoom : Parties → Party → Type 0
 HasRoom w (Worker p i) = IsSomeAnd (slice_get w.crews.items p) (λ crew. RoomAt crew.stacks.items i)
 HasRoom w (Caller c) = RoomAt w.callers.items c
 
--- what the kind of an act says of it
-abbrev pub kind_holds : Kind → Act → Type 0
-kind_holds Queueing a = is_queueing a ≡ true
-kind_holds Feeding a = is_feeding a ≡ true
-kind_holds Booking a = is_booking a ≡ true
-kind_holds Counting a = is_counting a ≡ true
-kind_holds Latching a = is_latching a ≡ true
-kind_holds Locking a = is_locking a ≡ true
-kind_holds Sharing a = is_sharing a ≡ true
-
--- a pool with these numbers
-abbrev pub with_numbers : Pool → PoolNumbers → Pool
-with_numbers v n = record v { turn = n.turn; count = n.count; held = n.held; counted = n.counted }
-
--- a seat with these flags
-abbrev pub with_flags : Seat → WorkerFlags → Seat
-with_flags s f = record s { feeder = f.feeder; inactive = f.inactive; asleep = f.asleep; blocked = f.blocked; latch = f.latch; lock = f.lock }
-
 -- a task that is injected, or pushed on a deque, finds room
 abbrev pub InjectorFits : Act → ℕ → ℕ → Type 0
 InjectorFits (PushInj p t b) len capacity = len < capacity
@@ -338,9 +160,14 @@ DequeFits (PushOwn t b) len capacity = len < capacity
 DequeFits _ len capacity = Unit {0}
 
 -- a job that is added to a FIFO list finds room
-abbrev pub FifoFits : Act → ℕ → ℕ → Type 0
-FifoFits (FifoIn t) len capacity = len < capacity
-FifoFits _ len capacity = Unit {0}
+abbrev pub FifoFits : Act → FifoList → Type 0
+FifoFits (FifoIn t b) l = deque_len l.jobs < deque_capacity l.jobs
+FifoFits _ l = Unit {0}
+
+-- this one of a seat's FIFO lists is stored, with room for what the act adds to it
+abbrev pub ListFits : Act → FifoList → List FifoList → Option ℕ → Type 0
+ListFits a detached scoped None = FifoFits a detached
+ListFits a detached scoped (Some c) = IsSomeAnd (slice_get scoped c) (λ l. FifoFits a l)
 
 -- the lists of so many workers are stored, with room for one more task in those from this one upward
 abbrev pub CastsFrom : ℕ → ℕ → List CastList → Type 0
@@ -355,17 +182,9 @@ abbrev pub CastsFit : Act → List CastList → Type 0
 CastsFit (PushCast b) casts = NumbersFit b × CastsFrom 0 b.workers casts
 CastsFit _ casts = Unit {0}
 
--- the numbers of a pool, and the flags of a seat
-abbrev pub numbers_of : Pool → PoolNumbers
-numbers_of v = record { turn = v.turn; count = v.count; held = v.held; counted = v.counted }
-
--- the flags of a seat
-abbrev pub flags_of : Seat → WorkerFlags
-flags_of s = record { feeder = s.feeder; inactive = s.inactive; asleep = s.asleep; blocked = s.blocked; latch = s.latch; lock = s.lock }
-
 -- the numbers at a spot
 abbrev pub touched_at : Parts → Spot → Touched
-touched_at w s = record { pool = numbers_of (pool_at w.pools.items s.pool); worker = flags_of (seat_at w.benches.items s.pool s.worker); call = call_at w.calls.items s.call; job = job_at w.jobs.items s.job }
+touched_at w s = record { pool = numbers_of (pool_at w.pools.items s.pool); worker = flags_of (seat_at w.benches.items s.pool s.worker); call = call_at w.calls.items s.call; job = job_at w.jobs.items s.job; holder = (seat_at w.benches.items s.pool s.worker).feeder s.list }
 
 -- a pool of this index is stored, with room for what the act injects or puts into broadcast lists
 abbrev pub HasPool : Act → List StoredPool → ℕ → Type 0
@@ -373,19 +192,11 @@ HasPool a pools p = IsSomeAnd (slice_get pools p) (λ v. InjectorFits a (deque_l
 
 -- a seat of this index is stored, with room for what the act pushes
 abbrev pub SeatFits : Act → List StoredSeat → ℕ → Type 0
-SeatFits a seats i = IsSomeAnd (slice_get seats i) (λ s. DequeFits a (deque_len s.own) (deque_capacity s.own) × FifoFits a (deque_len s.fifo) (deque_capacity s.fifo))
+SeatFits a seats i = IsSomeAnd (slice_get seats i) (λ s. DequeFits a (deque_len s.own) (deque_capacity s.own) × ListFits a s.detached s.scoped.items (act_list a))
 
 -- a seat of this pool and index is stored, with room for what the act pushes
 abbrev pub HasSeat : Act → List Bench → ℕ → ℕ → Type 0
 HasSeat a benches p i = IsSomeAnd (slice_get benches p) (λ bench. SeatFits a bench.seats.items i)
-
--- an act that looks at the counts of sleeping and inactive workers
-abbrev pub is_census : Act → Bool
-is_census Load = true
-is_census (TryAdd a b j) = true
-is_census SubInactive = true
-is_census (News p e) = true
-is_census _ = false
 
 -- the counts of a pool
 abbrev pub counts_in : Shape → Parts → ℕ → Counts
@@ -398,16 +209,13 @@ counts_in h w p = record {
 abbrev pub part_at_spot : Parts → Spot → Part
 part_at_spot w s = record { pool = pool_at w.pools.items s.pool; seat = seat_at w.benches.items s.pool s.worker; call = call_at w.calls.items s.call; job = job_at w.jobs.items s.job }
 
--- a part with these numbers
-abbrev pub with_touched : Part → Touched → Part
-with_touched m t = full t m.seat.own m.seat.fifo m.pool.injector m.pool.casts
-
 -- the spot that a party's act touches
 abbrev pub spot_of : Shape → Parts → Party → Act → Spot
 spot_of h w q a = record {
   pool = target_pool q a;
   worker = target_worker q a;
   call = target_call a;
+  list = act_list a;
   job = target_job h q a (pool_at w.pools.items (target_pool q a)) (seat_at w.benches.items (target_pool q a) (target_worker q a));
 }
 
@@ -431,6 +239,7 @@ PlanWithin (Fork o a) n = (a < n) × (o.job < n)
 PlanWithin (Feed f) n = (f.job < n) × (f.token < n)
 PlanWithin (Open o) n = o.job < n
 PlanWithin (Enter e) n = e.job < n
+PlanWithin (Gather g) n = g.pieces.first + g.pieces.workers ≤ n
 
 -- the jobs that a move begins or hands back, the tokens that it spends, and the pieces of a broadcast of which it makes
 -- something, have numbers below this
@@ -443,9 +252,19 @@ MoveWithin (Mark y c k) n = c.first + c.workers ≤ n
 MoveWithin (HandAllBack c) n = c.first + c.workers ≤ n
 MoveWithin _ n = Unit {0}
 
--- the numbers of the pieces of which a move makes something are none too large
+-- the numbers of a book that pieces get are none too large
+abbrev pub MarkFits : Pieces → Marking → Type 0
+MarkFits c k = (n : ℕ) → k ≡ Numbered n → n + c.workers ≤ 18446744073709551615
+
+-- the numbers of the pieces that a refused call hands back are none too large
+abbrev pub PlanFits : Plan → Type 0
+PlanFits (Gather g) = NumbersFit g.pieces
+PlanFits _ = Unit {0}
+
+-- the numbers of the pieces of which a move makes something are none too large, and the numbers that they get
 abbrev pub PiecesFit : Move → Type 0
-PiecesFit (Mark y c k) = NumbersFit c
+PiecesFit (HandBack plan) = PlanFits plan
+PiecesFit (Mark y c k) = NumbersFit c × MarkFits c k
 PiecesFit (HandAllBack c) = NumbersFit c
 PiecesFit _ = Unit {0}
 

@@ -1,7 +1,9 @@
 //! How a deed and a move change the parts of the world.
 ghost use Rattle.std.specs.Prelude.{◌≡◌, ℕ, OnOk, ◌<◌, vec_len, true, ◌≤◌};
 ghost use Rattle.rayon_machine_places.specs.Steps.{put, put_seat, handed_back, jobs_after};
-ghost use Rattle.rayon_machine_parts.specs.State.{HasPool, HasSeat, call_at, job_at, pool_at, pool_queued, seat_at, seat_queued, with_flags, with_numbers, MoveWithin, PiecesFit, PlanWithin, RunsFit};
+ghost use Rattle.rayon_machine_numbers.specs.Numbers.{pool_queued, seat_queued, with_flags, with_numbers};
+ghost use Rattle.rayon_machine_parts.specs.State.{HasPool, HasSeat, call_at, job_at, pool_at, seat_at, MarkFits, MoveWithin, PiecesFit, PlanFits, PlanWithin, RunsFit};
+ghost use Rattle.rayon_machine_places.specs.Places.{own_index};
 ghost use Rattle.rayon_machine_places.specs.World.{at_job};
 ghost use Rattle.rayon_machine_places.specs.declared.state.Whereabouts.TheVariants.{HandedBack};
 
@@ -11,7 +13,7 @@ use crate::parts::Parts;
 use crate::spot::Spot;
 use crate::writes::{write_call, write_job, write_marks, write_pool, write_seat};
 use rayon_machine_places::act::Act;
-use rayon_machine_places::place::{Mark, Move, Party, Plan};
+use rayon_machine_places::place::{Mark, Move, Party, Pieces, Plan};
 use rayon_machine_places::state::{Job, Whereabouts};
 use std::alloc::{AllocError, Global};
 
@@ -23,8 +25,9 @@ fn larger(first: u64, second: u64) -> u64
     if first < second { second } else { first }
 }
 
-/// The last number of a call's jobs.
+/// The last number of a call's jobs. Of a broadcast it is one after those of its pieces.
 fn last_of_call(plan: Plan) -> u64
+    requires { PlanFits plan }
     ensures { (n : ℕ) → result < n → PlanWithin plan n }
 {
     match plan {
@@ -34,15 +37,38 @@ fn last_of_call(plan: Plan) -> u64
         Plan::Feed(feeding) => larger(feeding.job, feeding.token),
         Plan::Open(call) => call.job,
         Plan::Enter(entry) => entry.job,
+        Plan::Gather(gathering) => gathering.pieces.first + gathering.pieces.workers as u64,
     }
 }
 
-/// Whether the numbers of the pieces of which a move makes something are none too large.
+/// Whether the numbers of a book that pieces get are none too large.
+fn mark_fits(pieces: Pieces, mark: Mark) -> bool
+    ensures { result ≡ true → MarkFits pieces mark }
+{
+    match mark {
+        Mark::Numbered(first) => first <= u64::MAX - pieces.workers as u64,
+        _ => true,
+    }
+}
+
+/// Whether the numbers of the pieces that a refused call hands back are none too large.
+fn plan_fits(plan: Plan) -> bool
+    ensures { result ≡ true → PlanFits plan }
+{
+    match plan {
+        Plan::Gather(gathering) => numbers_fit(gathering.pieces),
+        _ => true,
+    }
+}
+
+/// Whether the numbers of the pieces of which a move makes something are none too large, and the numbers that they get.
 pub fn pieces_fit(step: Move) -> bool
     ensures { result ≡ true → PiecesFit step }
 {
     match step {
-        Move::Mark { pieces, .. } | Move::HandAllBack(pieces) => numbers_fit(pieces),
+        Move::Mark { pieces, mark, .. } => numbers_fit(pieces) && mark_fits(pieces, mark),
+        Move::HandAllBack(pieces) => numbers_fit(pieces),
+        Move::HandBack(plan) => plan_fits(plan),
         _ => true,
     }
 }
@@ -87,6 +113,7 @@ fn hand_back(jobs: &mut Vec<Job>, plan: Plan)
         Plan::Feed(feeding) => hand_both(jobs, feeding.job, feeding.token),
         Plan::Open(call) => move_job(jobs, call.job, Whereabouts::HandedBack),
         Plan::Enter(entry) => move_job(jobs, entry.job, Whereabouts::HandedBack),
+        Plan::Gather(gathering) => write_marks(jobs, gathering.pieces, Mark::Returned),
     }
 }
 
@@ -113,6 +140,7 @@ fn hand_both(jobs: &mut Vec<Job>, first: u64, second: u64)
 /// of a broadcast.
 pub fn move_jobs(jobs: &mut Vec<Job>, party: Party, step: Move)
     requires within { MoveWithin step (vec_len jobs.old) }
+    requires numbers { PiecesFit step }
     requires runs { RunsFit step (job_at jobs.old.items) }
     ensures { (t : ℕ) → job_at jobs.new.items t ≡ jobs_after party step (job_at jobs.old.items) t }
 {
@@ -173,19 +201,20 @@ impl Parts {
         grow_jobs(&mut self.jobs, larger(spot.job, last) as usize)
     }
 
-    /// A deed of the worker of this index is done.
-    pub fn commit(&mut self, deed: Deed, index: usize)
+    /// A deed of this party is done.
+    pub fn commit(&mut self, deed: Deed, party: Party)
         requires pool { HasPool deed.act self.old.pools.items deed.spot.pool }
         requires seat { HasSeat deed.act self.old.benches.items deed.spot.pool deed.spot.worker }
         requires call { deed.spot.call < vec_len self.old.calls }
         requires job { deed.spot.job < vec_len self.old.jobs }
-        ensures pools { (p : ℕ) → pool_at self.new.pools.items p ≡ put (pool_at self.old.pools.items) deed.spot.pool (pool_queued deed.act index (with_numbers (pool_at self.old.pools.items deed.spot.pool) deed.after.pool)) p }
-        ensures seats { (p i : ℕ) → seat_at self.new.benches.items p i ≡ put_seat (seat_at self.old.benches.items) deed.spot.pool deed.spot.worker (seat_queued deed.act deed.order (with_flags (seat_at self.old.benches.items deed.spot.pool deed.spot.worker) deed.after.worker)) p i }
+        ensures pools { (p : ℕ) → pool_at self.new.pools.items p ≡ put (pool_at self.old.pools.items) deed.spot.pool (pool_queued deed.act (own_index party) (with_numbers (pool_at self.old.pools.items deed.spot.pool) deed.after.pool)) p }
+        ensures seats { (p i : ℕ) → seat_at self.new.benches.items p i ≡ put_seat (seat_at self.old.benches.items) deed.spot.pool deed.spot.worker (seat_queued deed.act deed.order party (with_flags (seat_at self.old.benches.items deed.spot.pool deed.spot.worker) deed.after.worker)) p i }
         ensures calls { (n : ℕ) → call_at self.new.calls.items n ≡ put (call_at self.old.calls.items) deed.spot.call deed.after.call n }
         ensures jobs { (n : ℕ) → job_at self.new.jobs.items n ≡ put (job_at self.old.jobs.items) deed.spot.job deed.after.job n }
         ensures len { vec_len self.new.jobs ≡ vec_len self.old.jobs }
     {
         let spot = deed.spot;
+        let index = party.index();
         write_pool(&mut self.pools, spot.pool, deed.after.pool, deed.act, index);
         write_seat(
             &mut self.benches,
@@ -194,6 +223,7 @@ impl Parts {
             deed.after.worker,
             deed.act,
             deed.order,
+            party,
         );
         write_call(&mut self.calls, spot.call, deed.after.call);
         write_job(&mut self.jobs, spot.job, deed.after.job);

@@ -1,14 +1,14 @@
 //! What a party's next act sees, and what it leaves, before anything is changed.
 ghost use Rattle.std.specs.Prelude.{◌≡◌, true, IfErr, IfOk};
-ghost use Rattle.rayon_machine_parts.specs.State.{seat_at, shape_of, Can, DoesNot, census_counts, Acts, IsDeed, IsNoDeed, counts_in, is_census};
+ghost use Rattle.rayon_machine_numbers.specs.Numbers.{census_counts, is_census};
+ghost use Rattle.rayon_machine_parts.specs.State.{seat_at, shape_of, IsDeed, IsNoDeed, counts_in};
 ghost use Rattle.rayon_machine_places.specs.World.{count_below};
-ghost use Rattle.rayon_machine_places.specs.declared.shape.Order.{Order as AnyOrder};
 
-use crate::kind::Kind;
-use crate::numbers::{Census, Touched};
 use crate::parts::Parts;
 use crate::shapes::Shapes;
-use crate::spot::Spot;
+use crate::spot::{Spot, list_of};
+use rayon_machine_numbers::numbers::{Census, Touched};
+use rayon_machine_numbers::outcome::looks_at_counts;
 use rayon_machine_places::act::{Act, Seen};
 use rayon_machine_places::error::StepError;
 use rayon_machine_places::place::Party;
@@ -29,42 +29,6 @@ pub struct Deed {
     pub seen: Seen,
     /// The numbers after it.
     pub after: Touched,
-}
-
-/// Whether an act looks at the counts of sleeping and inactive workers.
-fn looks_at_counts(act: Act) -> bool
-    ensures { result ≡ is_census act }
-{
-    match act {
-        Act::Load | Act::TryAdd { .. } | Act::SubInactive | Act::News { .. } => true,
-        _ => false,
-    }
-}
-
-impl Touched {
-    /// What an act sees, and the numbers after it.
-    fn outcome(
-        self,
-        act: Act,
-        party: Party,
-        found: Option<u64>,
-        census: Census,
-        jec_bits: u32,
-    ) -> Result<(Seen, Touched), StepError>
-        ensures ok { IfOk result (λ r. (o : AnyOrder) → Acts o act party (census_counts census) jec_bits found self (r.0) (r.1)) }
-        ensures not_enabled { IfErr result (λ e. e ≡ StepError.NotEnabled → DoesNot act party (census_counts census) self) }
-        ensures enabled { IfErr result (λ e. e ≡ StepError.NoRoom → Can act party (census_counts census) self) }
-    {
-        match Kind::of(act) {
-            Kind::Queueing => Ok(self.handle(act, party, found)),
-            Kind::Feeding => self.feeds(act, party, found),
-            Kind::Booking => self.books(act, party),
-            Kind::Counting => self.counters(act, census, jec_bits),
-            Kind::Latching => self.latches(act),
-            Kind::Locking => self.locks(act, party),
-            Kind::Sharing => self.shares(act, party),
-        }
-    }
 }
 
 impl Parts {
@@ -114,6 +78,7 @@ impl Parts {
             worker: act.worker(party),
             call: act.call(),
             job: act.job(found),
+            list: list_of(act),
         };
         let census = self.census_for(shapes, act, spot.pool);
         let touched = self.touched(spot);

@@ -1,14 +1,16 @@
 //! Room for what a step touches: a table is filled up to a number with what stands there at the start.
-ghost use Rattle.std.specs.Prelude.{◌≡◌, ℕ, OnOk, ◌≤◌, ◌<◌, vec_len, true};
+ghost use Rattle.std.specs.Prelude.{◌≡◌, ℕ, None, IsSomeAnd, OnOk, ◌≤◌, ◌<◌, [], slice_get, vec_len, true};
 ghost use Rattle.std.specs.VecDeque.{deque_capacity, deque_len};
-ghost use Rattle.rayon_machine_parts.specs.State.{CastsFit, CastsFrom, DequeFits, NumbersFit, FifoFits, HasPool, HasSeat, InjectorFits, SeatFits, call_at, cast_at, job_at, pool_at, pool_of, seat_of, seat_at, seat_in, shape_of, stack_of, blank_pool, blank_seat, first_stack, caller_in, stack_at, worker_in};
+ghost use Rattle.rayon_machine_numbers.specs.Numbers.{act_list};
+ghost use Rattle.rayon_machine_parts.specs.State.{CastsFit, CastsFrom, DequeFits, NumbersFit, FifoFits, HasPool, HasSeat, InjectorFits, ListFits, SeatFits, call_at, holder_in, jobs_in, cast_at, job_at, pool_at, pool_of, seat_of, seat_at, seat_in, shape_of, stack_of, blank_pool, blank_seat, first_stack, caller_in, stack_at, worker_in};
 ghost use Rattle.rayon_machine_places.specs.World.{Shape};
 ghost use Rattle.rayon_machine_places.specs.declared.act.Act.TheVariants.{PushCast};
 
-use crate::numbers::{PoolNumbers, WorkerFlags};
 use crate::parties::{Crew, Stack};
-use crate::parts::{Bench, CastList, Pool, Seat};
+use crate::parts::{Bench, CastList, FifoList, Pool, Seat};
 use crate::shapes::Shapes;
+use crate::spot::list_of;
+use rayon_machine_numbers::numbers::{PoolNumbers, WorkerFlags};
 use rayon_machine_places::act::Act;
 use rayon_machine_places::place::{Party, Pieces};
 use rayon_machine_places::state::{Call, Job, Letter};
@@ -228,16 +230,21 @@ pub(crate) fn seat_room(
     grow_benches(alloc, benches, pool)?;
     let bench = &mut benches[pool];
     grow_seats(alloc, &mut bench.seats, worker)?;
-    seat_fits(&mut bench.seats, worker, act)
+    seat_fits(alloc, &mut bench.seats, worker, act)
 }
 
 /// Room in a stored seat for what an act pushes.
-fn seat_fits(seats: &mut Vec<Seat>, worker: usize, act: Act) -> Result<(), AllocError>
+fn seat_fits(
+    alloc: Global,
+    seats: &mut Vec<Seat>,
+    worker: usize,
+    act: Act,
+) -> Result<(), AllocError>
     requires { worker < vec_len seats.old }
     ensures same { (i : ℕ) → seat_in seats.new.items i ≡ seat_in seats.old.items i }
     ensures room { OnOk result (SeatFits act seats.new.items worker) }
 {
-    seats[worker].make_room(act)
+    seats[worker].make_room(alloc, act)
 }
 
 impl Pool {
@@ -278,28 +285,92 @@ impl Seat {
     {
         Seat {
             own: VecDeque::new(alloc),
-            fifo: VecDeque::new(alloc),
+            detached: FifoList::blank(alloc),
+            scoped: Vec::new(alloc),
             flags: WorkerFlags {
                 inactive: false,
                 asleep: false,
                 blocked: false,
                 latch: Letter::Unset,
                 lock: None,
-                feeder: None,
             },
         }
     }
 
-    /// Room for what an act pushes.
-    fn make_room(&mut self, act: Act) -> Result<(), AllocError>
+    /// Room for what an act pushes, and for the FIFO list that it touches.
+    fn make_room(&mut self, alloc: Global, act: Act) -> Result<(), AllocError>
         ensures same { seat_of self.new ≡ seat_of self.old }
         ensures deque { OnOk result (DequeFits act (deque_len self.new.own) (deque_capacity self.new.own)) }
-        ensures fifo { OnOk result (FifoFits act (deque_len self.new.fifo) (deque_capacity self.new.fifo)) }
+        ensures list { OnOk result (ListFits act self.new.detached self.new.scoped.items (act_list act)) }
+    {
+        if let Act::PushOwn { .. } = act {
+            self.own.try_reserve(1)?;
+        }
+        match list_of(act) {
+            None => self.detached.make_room(act),
+            Some(call) => list_room(alloc, &mut self.scoped, call as usize, act),
+        }
+    }
+}
+
+impl FifoList {
+    /// A list at the start.
+    fn blank(alloc: Global) -> FifoList
+        ensures jobs { result.jobs.items ≡ [] }
+        ensures holder { result.holder ≡ None }
+    {
+        FifoList {
+            jobs: VecDeque::new(alloc),
+            holder: None,
+        }
+    }
+
+    /// Room for what an act adds.
+    fn make_room(&mut self, act: Act) -> Result<(), AllocError>
+        ensures jobs { self.new.jobs.items ≡ self.old.jobs.items }
+        ensures holder { self.new.holder ≡ self.old.holder }
+        ensures room { OnOk result (FifoFits act self.new) }
     {
         match act {
-            Act::PushOwn { .. } => self.own.try_reserve(1),
-            Act::FifoIn(_) => self.fifo.try_reserve(1),
+            Act::FifoIn { .. } => self.jobs.try_reserve(1),
             _ => Ok(()),
         }
     }
+}
+
+/// Room for the FIFO list of this scope, and for what an act adds to it.
+fn list_room(
+    alloc: Global,
+    lists: &mut Vec<FifoList>,
+    call: usize,
+    act: Act,
+) -> Result<(), AllocError>
+    ensures jobs { (c : ℕ) → jobs_in lists.new.items c ≡ jobs_in lists.old.items c }
+    ensures holder { (c : ℕ) → holder_in lists.new.items c ≡ holder_in lists.old.items c }
+    ensures room { OnOk result (IsSomeAnd (slice_get lists.new.items call) (λ l. FifoFits act l)) }
+{
+    grow_lists(alloc, lists, call)?;
+    list_fits(lists, call, act)
+}
+
+/// FIFO lists up to the one of this scope.
+fn grow_lists(alloc: Global, lists: &mut Vec<FifoList>, call: usize) -> Result<(), AllocError>
+    ensures jobs { (c : ℕ) → jobs_in lists.new.items c ≡ jobs_in lists.old.items c }
+    ensures holder { (c : ℕ) → holder_in lists.new.items c ≡ holder_in lists.old.items c }
+    ensures room { OnOk result (call < vec_len lists.new) }
+{
+    'fill: while lists.len() <= call {
+        lists.push(FifoList::blank(alloc))?;
+    }
+    Ok(())
+}
+
+/// Room in a stored FIFO list for what an act adds to it.
+fn list_fits(lists: &mut Vec<FifoList>, call: usize, act: Act) -> Result<(), AllocError>
+    requires { call < vec_len lists.old }
+    ensures jobs { (c : ℕ) → jobs_in lists.new.items c ≡ jobs_in lists.old.items c }
+    ensures holder { (c : ℕ) → holder_in lists.new.items c ≡ holder_in lists.old.items c }
+    ensures room { OnOk result (IsSomeAnd (slice_get lists.new.items call) (λ l. FifoFits act l)) }
+{
+    lists[call].make_room(act)
 }

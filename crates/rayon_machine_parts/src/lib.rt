@@ -6,15 +6,11 @@
 //! public for the crate `rayon_machine_world` alone.
 #![tactic(auto)]
 
-mod books;
 pub mod commit;
 pub mod deed;
 pub mod growth;
-mod kind;
-pub mod numbers;
 pub mod parties;
 pub mod parts;
-mod queues;
 pub mod shapes;
 pub mod spot;
 pub mod writes;

@@ -163,9 +163,17 @@ impl Parties {
                     ending,
                 }),
             ),
-            JobKind::Direct | JobKind::BodyOf { .. } | JobKind::TokenOf(_) => self.resume(
-                party, ending,
+            JobKind::PieceOf { call, owner } => self.turn(
+                party,
+                Move::Stay(Place::StorePiece {
+                    call,
+                    owner,
+                    job,
+                    ending,
+                }),
             ),
+            JobKind::Direct | JobKind::BodyOf { .. } => self.resume(party, ending),
+            JobKind::WholeOf { .. } | JobKind::TokenOf { .. } => self.resume(party, ending),
         }
     }
 }

@@ -5,7 +5,8 @@ ghost use Rattle.rayon_machine_places.specs.Steps.{has_one as one_left};
 ghost use Rattle.rayon_machine_places.specs.Readers.{is_done, is_job_that, is_queued, is_running};
 ghost use Rattle.rayon_machine_places.specs.World.{count_below};
 
-use crate::numbers::{PoolNumbers, WorkerFlags};
+use rayon_machine_numbers::numbers::{PoolNumbers, WorkerFlags};
+use rayon_machine_places::place::Party;
 use rayon_machine_places::state::{Call, Job};
 use std::collections::VecDeque;
 
@@ -29,14 +30,26 @@ pub struct Pool {
     pub numbers: PoolNumbers,
 }
 
-/// A worker's deque and its FIFO list, the oldest task first, and its flags.
+/// A FIFO list of a worker, the oldest job first, and who holds it.
+/// It is the running world's own part, and not for users.
+#[derive(Drop)]
+pub struct FifoList {
+    /// Its jobs.
+    pub jobs: VecDeque<u64>,
+    /// Who holds it.
+    pub holder: Option<Party>,
+}
+
+/// A worker's deque, the oldest task first, its FIFO lists, and its flags.
 /// It is the running world's own part, and not for users.
 #[derive(Drop)]
 pub struct Seat {
     /// The tasks of its deque.
     pub own: VecDeque<u64>,
-    /// The jobs of its FIFO list.
-    pub fifo: VecDeque<u64>,
+    /// Its FIFO list of detached jobs.
+    pub detached: FifoList,
+    /// Its FIFO lists of scopes, by the numbers of their calls.
+    pub scoped: Vec<FifoList>,
     /// Its flags.
     pub flags: WorkerFlags,
 }

@@ -1,11 +1,12 @@
 //! The spot of the world that an act touches: one pool, one worker's seat in it, one call, one job.
 ghost use Rattle.std.specs.Prelude.{◌≡◌, if◌then◌else◌};
-ghost use Rattle.rayon_machine_parts.specs.State.{call_at, job_at, pool_at, seat_at, flags_of, numbers_of, end_task, touched_at};
+ghost use Rattle.rayon_machine_numbers.specs.Numbers.{act_list, flags_of, numbers_of, end_task};
+ghost use Rattle.rayon_machine_parts.specs.State.{call_at, feeder_of, fifo_of, job_at, pool_at, seat_at, touched_at};
 ghost use Rattle.rayon_machine_places.specs.World.{head_of, last_of, target_pool, target_worker};
 
-use crate::numbers::{PoolNumbers, Touched, WorkerFlags};
-use crate::parts::Parts;
-use crate::queues::{newest, oldest};
+use crate::parts::{FifoList, Parts, Seat};
+use rayon_machine_numbers::numbers::{PoolNumbers, Touched, WorkerFlags};
+use rayon_machine_numbers::queues::{newest, oldest};
 use rayon_machine_places::act::Act;
 use rayon_machine_places::place::Party;
 use rayon_machine_places::shape::Order;
@@ -23,6 +24,60 @@ pub struct Spot {
     pub call: u64,
     /// The job.
     pub job: u64,
+    /// The FIFO list of that worker: that of a scope, or that of detached jobs.
+    pub list: Option<u64>,
+}
+
+/// The FIFO list that an act touches: that of a scope, or that of detached jobs.
+pub(crate) fn list_of(act: Act) -> Option<u64>
+    ensures { result ≡ act_list act }
+{
+    match act {
+        Act::FifoIn { scope, .. } | Act::FifoUndo(scope) | Act::FifoOut { scope, .. } => scope,
+        Act::PushOwn { book, .. } => book,
+        _ => None,
+    }
+}
+
+impl FifoList {
+    /// The oldest job of the list, or the newest if that is wanted.
+    fn end(&self, newest_first: bool) -> Option<u64>
+        ensures { result ≡ (if newest_first then last_of self.now.jobs.items else head_of self.now.jobs.items) }
+    {
+        if newest_first {
+            newest(&self.jobs)
+        } else {
+            oldest(&self.jobs)
+        }
+    }
+}
+
+impl Seat {
+    /// The oldest job of the FIFO list of a scope, or of detached jobs, or the newest if that is wanted.
+    fn list_end(&self, scope: Option<u64>, newest_first: bool) -> Option<u64>
+        ensures { result ≡ (if newest_first then last_of (fifo_of self.now.detached self.now.scoped.items scope) else head_of (fifo_of self.now.detached self.now.scoped.items scope)) }
+    {
+        match scope {
+            None => self.detached.end(newest_first),
+            Some(call) => match self.scoped.get(call as usize) {
+                Some(list) => list.end(newest_first),
+                None => None,
+            },
+        }
+    }
+
+    /// Who holds the FIFO list of a scope, or of detached jobs.
+    fn list_holder(&self, scope: Option<u64>) -> Option<Party>
+        ensures { result ≡ feeder_of self.now.detached self.now.scoped.items scope }
+    {
+        match scope {
+            None => self.detached.holder,
+            Some(call) => match self.scoped.get(call as usize) {
+                Some(list) => list.holder,
+                None => None,
+            },
+        }
+    }
 }
 
 impl Parts {
@@ -43,17 +98,32 @@ impl Parts {
         }
     }
 
-    /// The oldest job of a worker's FIFO list, or the newest if that is wanted.
-    fn fifo_end(&self, pool: usize, worker: usize, newest_first: bool) -> Option<u64>
-        ensures { result ≡ (if newest_first then last_of (seat_at self.now.benches.items pool worker).fifo else head_of (seat_at self.now.benches.items pool worker).fifo) }
+    /// The oldest job of a worker's FIFO list of a scope, or of detached jobs, or the newest if that is wanted.
+    fn fifo_end(
+        &self,
+        pool: usize,
+        worker: usize,
+        scope: Option<u64>,
+        newest_first: bool,
+    ) -> Option<u64>
+        ensures { result ≡ (if newest_first then last_of ((seat_at self.now.benches.items pool worker).fifo scope) else head_of ((seat_at self.now.benches.items pool worker).fifo scope)) }
     {
         match self.benches.get(pool) {
             Some(bench) => match bench.seats.get(worker) {
-                Some(seat) => if newest_first {
-                    newest(&seat.fifo)
-                } else {
-                    oldest(&seat.fifo)
-                },
+                Some(seat) => seat.list_end(scope, newest_first),
+                None => None,
+            },
+            None => None,
+        }
+    }
+
+    /// Who holds a worker's FIFO list of a scope, or of detached jobs.
+    fn holder(&self, pool: usize, worker: usize, scope: Option<u64>) -> Option<Party>
+        ensures { result ≡ (seat_at self.now.benches.items pool worker).feeder scope }
+    {
+        match self.benches.get(pool) {
+            Some(bench) => match bench.seats.get(worker) {
+                Some(seat) => seat.list_holder(scope),
                 None => None,
             },
             None => None,
@@ -100,8 +170,10 @@ impl Parts {
             Act::TakeCast | Act::LookCast => self.cast(party.pool(), party.index()),
             Act::PopInj => self.injected(party.pool()),
             Act::LookInj(pool) => self.injected(pool),
-            Act::FifoUndo => self.fifo_end(party.pool(), party.index(), true),
-            Act::FifoOut { worker, .. } => self.fifo_end(party.pool(), worker, false),
+            Act::FifoUndo(scope) => self.fifo_end(party.pool(), party.index(), scope, true),
+            Act::FifoOut { worker, scope, .. } => {
+                self.fifo_end(party.pool(), worker, scope, false)
+            }
             _ => None,
         }
     }
@@ -131,7 +203,6 @@ impl Parts {
             blocked: false,
             latch: Letter::Unset,
             lock: None,
-            feeder: None,
         };
         match self.benches.get(pool) {
             Some(bench) => match bench.seats.get(worker) {
@@ -171,6 +242,7 @@ impl Parts {
             worker: self.flags(spot.pool, spot.worker),
             call: self.call(spot.call),
             job: self.job(spot.job),
+            holder: self.holder(spot.pool, spot.worker, spot.list),
         }
     }
 }

@@ -2,13 +2,15 @@
 ghost use Rattle.std.specs.Prelude.{◌≡◌, ℕ, ◌<◌, vec_len, false, ◌+◌, ◌≤◌, ◌++◌, ◌∷◌, []};
 ghost use Rattle.std.specs.VecDeque.{deque_capacity, deque_len};
 ghost use Rattle.rayon_machine_places.specs.Steps.{put, put_seat, put_pieces, mark_pieces, new_piece};
-ghost use Rattle.rayon_machine_places.specs.World.{casts_with};
+ghost use Rattle.rayon_machine_places.specs.World.{casts_with, left_by};
 ghost use Rattle.rayon_machine_places.specs.declared.act.Act.TheVariants.{PushCast};
-ghost use Rattle.rayon_machine_parts.specs.State.{CastsFit, DequeFits, FifoFits, HasPool, HasSeat, InjectorFits, SeatFits, call_at, cast_at, job_at, pool_at, pool_of, seat_of, pool_queued, seat_at, seat_in, seat_queued, with_flags, with_numbers};
+ghost use Rattle.rayon_machine_numbers.specs.Numbers.{act_list, is_listing, seat_pushed, pool_queued, list_held, list_queued, seat_listed, seat_queued, with_flags, with_numbers};
+ghost use Rattle.rayon_machine_parts.specs.State.{CastsFit, DequeFits, FifoFits, HasPool, HasSeat, InjectorFits, ListFits, MarkFits, SeatFits, call_at, cast_at, job_at, pool_at, pool_of, seat_of, seat_at, seat_in};
 
-use crate::numbers::{PoolNumbers, WorkerFlags};
-use crate::parts::{Bench, CastList, Pool, Seat};
-use crate::queues::{drop_newest, drop_oldest};
+use crate::parts::{Bench, CastList, FifoList, Pool, Seat};
+use crate::spot::list_of;
+use rayon_machine_numbers::numbers::{PoolNumbers, WorkerFlags};
+use rayon_machine_numbers::queues::{drop_newest, drop_oldest};
 use rayon_machine_places::act::Act;
 use rayon_machine_places::place::{Mark, Party, Pieces};
 use rayon_machine_places::shape::Order;
@@ -61,16 +63,18 @@ fn push_pieces(casts: &mut Vec<CastList>, pieces: Pieces)
 /// Each piece of a broadcast is as a party's call has made it.
 pub fn write_pieces(jobs: &mut Vec<Job>, party: Party, pieces: Pieces)
     requires { pieces.first + pieces.workers ≤ vec_len jobs.old }
-    ensures { (t : ℕ) → job_at jobs.new.items t ≡ put_pieces pieces (λ i j. new_piece party pieces.pool i) (job_at jobs.old.items) t }
+    ensures values { (t : ℕ) → job_at jobs.new.items t ≡ put_pieces pieces (λ i j. new_piece party pieces.count pieces.pool i) (job_at jobs.old.items) t }
+    ensures len { vec_len jobs.new ≡ vec_len jobs.old }
 {
     for index in 0..pieces.workers {
-        jobs[pieces.first as usize + index] = Job::piece(party, pieces.pool, index);
+        jobs[pieces.first as usize + index] = Job::piece(party, pieces.count, pieces.pool, index);
     }
 }
 
 /// This is made of each piece of a broadcast.
 pub(crate) fn write_marks(jobs: &mut Vec<Job>, pieces: Pieces, mark: Mark)
-    requires { pieces.first + pieces.workers ≤ vec_len jobs.old }
+    requires within { pieces.first + pieces.workers ≤ vec_len jobs.old }
+    requires numbers { MarkFits pieces mark }
     ensures { (t : ℕ) → job_at jobs.new.items t ≡ mark_pieces pieces mark (job_at jobs.old.items) t }
 {
     for index in 0..pieces.workers {
@@ -79,12 +83,60 @@ pub(crate) fn write_marks(jobs: &mut Vec<Job>, pieces: Pieces, mark: Mark)
     }
 }
 
+impl FifoList {
+    /// The list after a party's act on it.
+    fn write(&mut self, act: Act, party: Party)
+        requires { FifoFits act self.old }
+        ensures jobs { self.new.jobs.items ≡ list_queued act self.old.jobs.items }
+        ensures holder { self.new.holder ≡ list_held act party self.old.jobs.items self.old.holder }
+    {
+        match act {
+            Act::FifoIn { job, .. } => {
+                let added = self.jobs.push_back(job);
+                prove!(added.is_ok());
+                self.holder = Some(party);
+            }
+            Act::FifoUndo(_) => {
+                if !self.jobs.is_empty() {
+                    self.holder = None;
+                }
+                drop_newest(&mut self.jobs);
+            }
+            Act::FifoOut { .. } => drop_oldest(&mut self.jobs),
+            Act::PushOwn { .. } => self.holder = left(self.holder, party),
+            _ => {}
+        }
+    }
+}
+
+/// Who holds a FIFO list once this party has left it.
+fn left(holder: Option<Party>, party: Party) -> Option<Party>
+    ensures { result ≡ left_by party holder }
+{
+    match holder {
+        Some(other) if !party.is(other) => holder,
+        _ => None,
+    }
+}
+
 impl Seat {
-    /// The seat with these flags, after an act on its deque or its FIFO list.
-    fn write(&mut self, flags: WorkerFlags, act: Act, order: Order)
-        requires deque { DequeFits act (deque_len self.old.own) (deque_capacity self.old.own) }
-        requires fifo { FifoFits act (deque_len self.old.fifo) (deque_capacity self.old.fifo) }
-        ensures { seat_of self.new ≡ seat_queued act order (with_flags (seat_of self.old) flags) }
+    /// The seat after a party's act on its FIFO list of this scope, or of detached jobs.
+    fn write_list(&mut self, scope: Option<u64>, act: Act, party: Party)
+        requires { ListFits act self.old.detached self.old.scoped.items scope }
+        ensures { seat_of self.new ≡ seat_listed act party scope (seat_of self.old) }
+    {
+        match scope {
+            None => self.detached.write(act, party),
+            Some(call) => self.scoped[call as usize].write(act, party),
+        }
+    }
+
+    /// The seat with these flags, after an act on its deque.
+    fn write_own(&mut self, flags: WorkerFlags, act: Act, order: Order)
+        requires { DequeFits act (deque_len self.old.own) (deque_capacity self.old.own) }
+        ensures seat { seat_of self.new ≡ seat_pushed act order (with_flags (seat_of self.old) flags) }
+        ensures detached { self.new.detached ≡ self.old.detached }
+        ensures scoped { self.new.scoped ≡ self.old.scoped }
     {
         self.flags = flags;
         match act {
@@ -97,14 +149,30 @@ impl Seat {
                 let pushed = self.own.push_back(job);
                 prove!(pushed.is_ok());
             }
-            Act::FifoIn(job) => {
-                let added = self.fifo.push_back(job);
-                prove!(added.is_ok());
-            }
-            Act::FifoUndo => drop_newest(&mut self.fifo),
-            Act::FifoOut { .. } => drop_oldest(&mut self.fifo),
             _ => {}
         }
+    }
+
+    /// The seat with these flags, after a party's act on its deque or on a FIFO list of it.
+    fn write(&mut self, flags: WorkerFlags, act: Act, order: Order, party: Party)
+        requires deque { DequeFits act (deque_len self.old.own) (deque_capacity self.old.own) }
+        requires list { ListFits act self.old.detached self.old.scoped.items (act_list act) }
+        ensures { seat_of self.new ≡ seat_queued act order party (with_flags (seat_of self.old) flags) }
+    {
+        self.write_own(flags, act, order);
+        if touches_list(act) {
+            self.write_list(list_of(act), act, party);
+        }
+    }
+}
+
+/// Whether an act touches a FIFO list.
+fn touches_list(act: Act) -> bool
+    ensures { result ≡ is_listing act }
+{
+    match act {
+        Act::PushOwn { .. } | Act::FifoIn { .. } | Act::FifoUndo(_) | Act::FifoOut { .. } => true,
+        _ => false,
     }
 }
 
@@ -123,11 +191,18 @@ pub(crate) fn write_pool(
 }
 
 /// Writes a seat in the list of a pool's seats.
-fn write_in(seats: &mut Vec<Seat>, worker: usize, flags: WorkerFlags, act: Act, order: Order)
+fn write_in(
+    seats: &mut Vec<Seat>,
+    worker: usize,
+    flags: WorkerFlags,
+    act: Act,
+    order: Order,
+    party: Party,
+)
     requires { SeatFits act seats.old.items worker }
-    ensures { (i : ℕ) → seat_in seats.new.items i ≡ put (seat_in seats.old.items) worker (seat_queued act order (with_flags (seat_in seats.old.items worker) flags)) i }
+    ensures { (i : ℕ) → seat_in seats.new.items i ≡ put (seat_in seats.old.items) worker (seat_queued act order party (with_flags (seat_in seats.old.items worker) flags)) i }
 {
-    seats[worker].write(flags, act, order)
+    seats[worker].write(flags, act, order, party)
 }
 
 /// Writes a seat.
@@ -138,12 +213,13 @@ pub(crate) fn write_seat(
     flags: WorkerFlags,
     act: Act,
     order: Order,
+    party: Party,
 )
     requires { HasSeat act benches.old.items pool worker }
-    ensures { (p i : ℕ) → seat_at benches.new.items p i ≡ put_seat (seat_at benches.old.items) pool worker (seat_queued act order (with_flags (seat_at benches.old.items pool worker) flags)) p i }
+    ensures { (p i : ℕ) → seat_at benches.new.items p i ≡ put_seat (seat_at benches.old.items) pool worker (seat_queued act order party (with_flags (seat_at benches.old.items pool worker) flags)) p i }
 {
     let bench = &mut benches[pool];
-    write_in(&mut bench.seats, worker, flags, act, order)
+    write_in(&mut bench.seats, worker, flags, act, order, party)
 }
 
 /// Writes a call.

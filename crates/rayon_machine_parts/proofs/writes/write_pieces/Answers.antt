@@ -8,6 +8,6 @@ pub loop-index-preserved : goal.loop-index-preserved
 loop-index-preserved c =
     let b = c.args.pieces in
     record {
-      written = piece-more b c.loop-index.index (λ i j. new_piece c.args.party b.pool i) (job_at c.args.jobs.now.items) c.loop-index.jobs.items c.piece.result (search (arith)) c.loop-index.invariant.written c.piece.ensures;
+      written = piece-more b c.loop-index.index (λ i j. new_piece c.args.party b.count b.pool i) (job_at c.args.jobs.now.items) c.loop-index.jobs.items c.piece.result (search (arith)) c.loop-index.invariant.written c.piece.ensures;
       len = c.loop-index.invariant.len;
     }

@@ -5,6 +5,6 @@ use Rattle.rayon_machine_parts.proofs.writes.write_pieces.Given as goal
 
 abbrev pub invariant-loop-index : goal.invariant-loop-index
 invariant-loop-index l = record {
-  written : (t : ℕ) → job_at l.jobs.items t ≡ put_pieces (record l.pieces { workers = l.index }) (λ i j. new_piece l.party l.pieces.pool i) (job_at l.fn.jobs.items) t;
+  written : (t : ℕ) → job_at l.jobs.items t ≡ put_pieces (record l.pieces { workers = l.index }) (λ i j. new_piece l.party l.pieces.count l.pieces.pool i) (job_at l.fn.jobs.items) t;
   len : vec_len l.jobs ≡ vec_len l.fn.jobs;
 }

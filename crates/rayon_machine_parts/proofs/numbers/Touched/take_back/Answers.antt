@@ -1,9 +1,0 @@
-use Rattle.std.proofs.Common.{rules}
-use Rattle.rayon_machine_parts.proofs.Deeds.{none-back, some-back}
-use Rattle.rayon_machine_parts.proofs.numbers.Touched.take_back.Goals as goal
-
-pub returns-in-None : goal.returns-in-None
-returns-in-None c = λ k b o free. rw c.in-None.is (none-back o c.args.party k b c.args.self free)
-
-pub returns-in-Some : goal.returns-in-Some
-returns-in-Some c = λ k b o free. rw (c.in-Some.is, c.with_job_at.ensures, c.with_feeder.ensures) (some-back o c.in-Some.job c.args.party k b c.args.self free)

@@ -6,4 +6,5 @@ pub use Rattle.rayon_machine_places.specs.Runs
 pub use Rattle.rayon_machine_places.specs.Readers
 pub use Rattle.rayon_machine_places.specs.Groups
 pub use Rattle.rayon_machine_places.specs.Starts
+pub use Rattle.rayon_machine_numbers.specs.Numbers
 pub use Rattle.rayon_machine_parts.specs.State

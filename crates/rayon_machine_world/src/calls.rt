@@ -1,7 +1,7 @@
 //! The steps in which a call begins or a run ends.
 ghost use Rattle.std.specs.Prelude.{◌≡◌, OnOk, false, IfErr, None, OnErr, Some};
-ghost use Rattle.rayon_machine_places.specs.Steps.{put, after_move, put_stack, after_close, after_end, after_end_pool, after_cast, after_fifo, after_install, after_join, after_spawn};
-ghost use Rattle.rayon_machine_world.specs.Running.{IsMade, IsStepOf, world_of, after_open_feed, after_open_join, after_open_job, after_open_call, after_open_cast, after_own_fifo};
+ghost use Rattle.rayon_machine_places.specs.Steps.{put, after_move, put_stack, after_close, after_end, after_end_pool, after_fifo, after_install, after_join, after_spawn};
+ghost use Rattle.rayon_machine_world.specs.Running.{IsMade, IsStepOf, world_of, after_open_feed, after_open_join, after_open_job, after_open_call, after_own_fifo};
 ghost use Rattle.rayon_machine_places.specs.World.{at_job};
 ghost use Rattle.rayon_machine_places.specs.declared.place.Move.TheVariants.{Enter};
 ghost use Rattle.rayon_machine_places.specs.declared.place.Place.TheVariants.{LowerCount};
@@ -13,10 +13,10 @@ ghost use Rattle.rayon_machine_places.specs.declared.state.Whereabouts.TheVarian
 use crate::world::World;
 use rayon_machine_parts::commit::move_job;
 use rayon_machine_parts::growth::{grow_calls, grow_jobs, grow_pools};
-use rayon_machine_parts::writes::{release, write_call, write_job, write_jobs, write_pieces};
+use rayon_machine_parts::writes::{release, write_call, write_job, write_jobs};
 use rayon_machine_places::error::StepError;
 use rayon_machine_places::place::{
-    Count, Ending, Feeding, JobKind, Move, OpenCall, Party, Pieces, Place, Plan, Share, Then,
+    Count, Ending, Feeding, JobKind, Move, OpenCall, Party, Place, Plan, Share, Then,
 };
 use rayon_machine_places::state::{Call, Job, Whereabouts};
 
@@ -125,17 +125,25 @@ impl World {
             return Err(StepError::NoRoom);
         }
         let plan = Plan::Feed(Feeding {
+            count: Count::OfPool(pool),
             pool,
             job: self.jobs,
             token: self.jobs + 1,
         });
         let job = Job::made(party, pool, JobKind::Detached(pool));
-        let token = Job::made(party, pool, JobKind::TokenOf(index));
+        let token = Job::made(
+            party,
+            pool,
+            JobKind::TokenOf {
+                worker: index,
+                scope: None,
+            },
+        );
         self.open_feed(party, frame, plan, job, token)
     }
 
     /// A call of a job and its token begins.
-    fn open_feed(
+    pub(crate) fn open_feed(
         &mut self,
         party: Party,
         frame: Place,
@@ -159,45 +167,6 @@ impl World {
             },
         );
         self.jobs += 2;
-        Ok(())
-    }
-
-    /// A party makes a piece for each worker of a pool.
-    pub(crate) fn cast(&mut self, party: Party, pool: usize) -> Result<(), StepError>
-        ensures { IsStepOf (after_cast (world_of self.old) party pool ((world_of self.old).stack party)) result (world_of self.old) (world_of self.new) }
-    {
-        let frame = self.parties.top(&self.shapes, party);
-        if !frame.can_call() || !self.shapes.has_pool(pool) {
-            return Err(StepError::NotEnabled);
-        }
-        let pieces = Pieces {
-            pool,
-            first: self.jobs,
-            workers: self.shapes.pool(pool).workers,
-        };
-        self.open_cast(party, frame, pieces)
-    }
-
-    /// A broadcast begins.
-    fn open_cast(&mut self, party: Party, frame: Place, pieces: Pieces) -> Result<(), StepError>
-        requires { pieces.first ≡ self.old.jobs }
-        ensures { IsMade (after_open_cast (world_of self.old) party frame pieces) result (world_of self.old) (world_of self.new) }
-    {
-        let workers = pieces.workers as u64;
-        if self.jobs > u64::MAX - workers {
-            return Err(StepError::NoRoom);
-        }
-        grow_jobs(&mut self.parts.jobs, (self.jobs + workers) as usize)?;
-        self.parties.make_room(self.alloc, &self.shapes, party)?;
-        write_pieces(&mut self.parts.jobs, party, pieces);
-        self.parties.turn(
-            party,
-            Move::Enter {
-                frame,
-                place: Place::RaiseForAll(pieces),
-            },
-        );
-        self.jobs += workers;
         Ok(())
     }
 

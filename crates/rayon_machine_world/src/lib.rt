@@ -5,6 +5,7 @@
 #![tactic(auto)]
 
 mod calls;
+mod casts;
 pub mod readers;
 mod replays;
 mod scopes;

@@ -1,13 +1,15 @@
 //! The steps in which a scope is opened, or a job is spawned into one.
-ghost use Rattle.std.specs.Prelude.{◌≡◌, OnErr, OnOk, [], ◌∷◌, ◌++◌, slice_get};
-ghost use Rattle.rayon_machine_places.specs.Steps.{after_into, after_scope};
-ghost use Rattle.rayon_machine_world.specs.Running.{IsMade, IsStepOf, after_open_scope, world_of};
+ghost use Rattle.std.specs.Prelude.{◌≡◌, Some, OnErr, OnOk, [], ◌∷◌, ◌++◌, slice_get};
+ghost use Rattle.rayon_machine_places.specs.Steps.{after_enter, after_into, after_into_fifo, after_scope};
+ghost use Rattle.rayon_machine_world.specs.Running.{IsMade, IsStepOf, after_open_scope, after_own_enter, world_of};
 
 use crate::world::World;
 use rayon_machine_parts::growth::{grow_calls, grow_jobs};
 use rayon_machine_parts::writes::{write_call, write_job};
 use rayon_machine_places::error::StepError;
-use rayon_machine_places::place::{Entry, JobKind, Move, OpenCall, Party, Place, Plan};
+use rayon_machine_places::place::{
+    Count, Entry, Feeding, JobKind, Move, OpenCall, Party, Place, Plan,
+};
 use rayon_machine_places::state::{Call, Job, Scope};
 use std::alloc::AllocError;
 
@@ -84,7 +86,7 @@ impl World {
     }
 
     /// The scope of this number.
-    fn scope_of(&self, number: usize) -> Option<Scope>
+    pub(crate) fn scope_of(&self, number: usize) -> Option<Scope>
         ensures { result ≡ slice_get (world_of self.now).scopes number }
     {
         match self.scopes.get(number) {
@@ -100,6 +102,28 @@ impl World {
         let Some(scope) = self.scope_of(number) else {
             return Err(StepError::NotEnabled);
         };
+        self.enter(party, scope)
+    }
+
+    /// A party spawns a job into the scope of this number in order: a worker of the scope's pool adds it to its own
+    /// FIFO list.
+    pub(crate) fn fifo_into(&mut self, party: Party, number: usize) -> Result<(), StepError>
+        ensures { IsStepOf (after_into_fifo (world_of self.old) party number ((world_of self.old).stack party)) result (world_of self.old) (world_of self.new) }
+    {
+        let Some(scope) = self.scope_of(number) else {
+            return Err(StepError::NotEnabled);
+        };
+        if party.belongs_to(scope.pool) {
+            self.feed_into(scope, party.index())
+        } else {
+            self.enter(party, scope)
+        }
+    }
+
+    /// A party spawns a job into a scope.
+    fn enter(&mut self, party: Party, scope: Scope) -> Result<(), StepError>
+        ensures { IsStepOf (after_enter (world_of self.old) party ((world_of self.old).stack party) (Some scope)) result (world_of self.old) (world_of self.new) }
+    {
         let frame = self.parties.top(&self.shapes, party);
         if !frame.can_call() || !self.parties.holds(&self.shapes, party, scope.call) {
             return Err(StepError::NotEnabled);
@@ -115,5 +139,40 @@ impl World {
             owner: scope.owner,
         };
         self.open_job(party, frame, plan, Job::made(party, scope.pool, kind))
+    }
+
+    /// A worker of a scope's pool makes a job of the scope for its own FIFO list, and a token of it.
+    fn feed_into(&mut self, scope: Scope, index: usize) -> Result<(), StepError>
+        ensures { IsStepOf (after_own_enter (world_of self.old) scope index) result (world_of self.old) (world_of self.new) }
+    {
+        let pool = scope.pool;
+        let party = Party::Worker { pool, index };
+        let frame = self.parties.top(&self.shapes, party);
+        if !frame.can_call() || !self.parties.holds(&self.shapes, party, scope.call) {
+            return Err(StepError::NotEnabled);
+        }
+        if self.jobs == u64::MAX {
+            return Err(StepError::NoRoom);
+        }
+        let count = Count::OfScope {
+            call: scope.call,
+            owner: scope.owner,
+        };
+        let plan = Plan::Feed(Feeding {
+            count,
+            pool,
+            job: self.jobs,
+            token: self.jobs + 1,
+        });
+        let job = Job::made(party, pool, count.job_kind());
+        let token = Job::made(
+            party,
+            pool,
+            JobKind::TokenOf {
+                worker: index,
+                scope: count.book(),
+            },
+        );
+        self.open_feed(party, frame, plan, job, token)
     }
 }

@@ -33,6 +33,9 @@ impl World {
             Event::Join(party) => self.join(party),
             Event::Scope { party, pool } => self.scope(party, pool),
             Event::IntoSpawn { party, scope } => self.spawn_into(party, scope),
+            Event::IntoFifo { party, scope } => self.fifo_into(party, scope),
+            Event::IntoCast { party, scope } => self.cast_into(party, scope),
+            Event::Broadcast { party, pool } => self.broadcast(party, pool),
             Event::Yield(party) => self.give_way(party, Place::YieldPop),
             Event::YieldLocal(party) => self.give_way(party, Place::LocalPop),
             Event::EndPool { party, pool } => self.end_pool(party, pool),
@@ -64,7 +67,7 @@ impl World {
         self.parts
             .make_room(self.alloc, deed.spot, deed.act, last_job(step))?;
         self.parties.make_room(self.alloc, &self.shapes, party)?;
-        self.parts.commit(deed, party.index());
+        self.parts.commit(deed, party);
         move_jobs(&mut self.parts.jobs, party, step);
         self.parties.turn(party, step);
         Ok(())

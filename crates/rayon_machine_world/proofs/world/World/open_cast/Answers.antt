@@ -26,7 +26,7 @@ returns c =
           (λ p i. refl)
           (λ p. refl)
           (λ n. refl)
-          (λ n. c.write_pieces.ensures n ∙ ap (λ (f : ℕ → Job). put_pieces b (λ i j. new_piece q b.pool i) f n) jobs)
+          (λ n. c.write_pieces.ensures.values n ∙ ap (λ (f : ℕ → Job). put_pieces b (λ i j. new_piece q b.count b.pool i) f n) jobs)
           refl refl refl;
       no_room = search rules;
       err = search rules;

@@ -1,20 +1,13 @@
-use Rattle.std.proofs.Common.{rules, ◌≡◌, ◌∙◌, true, ap, sym}
-use Rattle.std.specs.Prelude.{Some, slice_get}
+use Rattle.std.proofs.Common.{◌≡◌, ◌∙◌, ap, sym, subst}
+use Rattle.std.specs.Prelude.{Option, Some, slice_get}
 use Rattle.rayon_machine_places.specs.declared.state.Scope.{Scope}
-use Rattle.rayon_machine_places.specs.Places.{is_free}
-use Rattle.rayon_machine_places.specs.Steps.{holds}
-use Rattle.rayon_machine_world.specs.Running.{world_of}
-use Rattle.rayon_machine_world.proofs.Made.{made-is}
-use Rattle.rayon_machine_world.proofs.Calling.{entered-is}
+use Rattle.rayon_machine_places.specs.Steps.{after_enter}
+use Rattle.rayon_machine_world.specs.Running.{IsStepOf, world_of}
 use Rattle.rayon_machine_world.proofs.world.World.spawn_into.Goals as goal
 
 pub returns : goal.returns
 returns c =
     let w = world_of c.args.self.now in
     let q = c.args.party in
-    let x = c.top-frame.result in
-    let z : Scope = c.in-Some.scope in
-    let there : slice_get w.scopes c.args.number ≡ Some z = sym c.scope_of.ensures ∙ c.in-Some.is in
-    let free : is_free x ≡ true = search (rules, c.can_call.ensures, c.if-not-can_call.false) in
-    let held : holds z.call (w.stack q) ≡ true = search (rules, c.holds.ensures, c.if-not-holds.false) in
-    made-is (entered-is w q c.args.number z x c.made.result there c.top-frame.ensures free held c.made.ensures) c.open_job.ensures
+    let there : slice_get w.scopes c.args.number ≡ Some c.in-Some.scope = sym c.scope_of.ensures ∙ c.in-Some.is in
+    subst (λ (o : Option Scope). IsStepOf (after_enter w q (w.stack q) o) c.enter.result w (world_of c.enter.new.self)) (sym there) c.enter.ensures

@@ -1,8 +1,10 @@
 -- how each move changes the shares that a stack keeps, and that no move leads to a raise or to the giving up of a value
-use Rattle.rayon_machine_places.specs.declared.place.Count.TheVariants.{OfPool, OfScope}
+use Rattle.rayon_machine_places.specs.declared.place.Pieces.{Pieces}
+use Rattle.rayon_machine_places.specs.declared.place.Feeding.{Feeding}
+use Rattle.rayon_machine_places.specs.declared.place.Count.TheVariants.{OfPool, OfScope, OfCast}
 use Rattle.rayon_machine_places.specs.declared.place.Count.{Count}
 use Rattle.std.proofs.Common.{arith, refl}
-use Rattle.std.specs.Prelude.{ℕ, Bool, true, false, ◌&&◌, ◌+◌, ◌-◌, ◌==◌, nat_lt, if◌then◌else◌, Option, Some, None, List, [], ◌∷◌, ◌≡◌}
+use Rattle.std.specs.Prelude.{ℕ, Bool, true, false, ◌&&◌, ◌+◌, ◌-◌, ◌==◌, nat_lt, if◌then◌else◌, Option, Some, None, List, [], ◌∷◌, ◌≡◌, ◌≤◌}
 use Rattle.rayon_machine_places.specs.declared.place.Party.{Party}
 use Rattle.rayon_machine_places.specs.declared.place.Party.TheVariants.{Worker, Caller}
 use Rattle.rayon_machine_places.specs.declared.place.Target.{Target}
@@ -12,31 +14,56 @@ use Rattle.rayon_machine_places.specs.declared.place.Latch.TheVariants.{Terminat
 use Rattle.rayon_machine_places.specs.declared.place.Rounds.{Rounds}
 use Rattle.rayon_machine_places.specs.declared.place.Rounds.TheVariants.{Failed, Announced}
 use Rattle.rayon_machine_places.specs.declared.place.Plan.{Plan}
-use Rattle.rayon_machine_places.specs.declared.place.Plan.TheVariants.{Detach, Here, Send, Fork, Feed, Open, Enter}
+use Rattle.rayon_machine_places.specs.declared.place.Plan.TheVariants.{Detach, Here, Send, Fork, Feed, Open, Enter, Gather}
 use Rattle.rayon_machine_places.specs.declared.place.Then.{Then}
-use Rattle.rayon_machine_places.specs.declared.place.Then.TheVariants.{BeginFound, LeaveWait, Resume, Await, RunFirst, Answers, Missing, Ran, GiveBack, Called}
+use Rattle.rayon_machine_places.specs.declared.place.Then.TheVariants.{BeginFound, LeaveWait, Resume, Await, RunFirst, Answers, Missing, Ran, GiveBack, Called, Gathers}
 use Rattle.rayon_machine_places.specs.declared.place.Taken.{Taken}
 use Rattle.rayon_machine_places.specs.declared.place.Taken.TheVariants.{Plain, Token}
 use Rattle.rayon_machine_places.specs.declared.place.Place.{Place}
-use Rattle.rayon_machine_places.specs.declared.place.Place.TheVariants.{ProbeWorking, PopWorking, TakeCastWorking, ProbeIdle, PopIdle, TakeCastIdle, PickVictim, StealFrom, PopInjected, AnnounceSelf, GetSleepy, FallAsleep, LoadCounters, AddSleeping, LookAtCast, LookAtInjector, WakeUp, LeaveSearch, JoinProbe, JoinPop, JoinTakeCast, YieldPop, YieldTakeCast, YieldPick, YieldSteal, YieldPopInjected, LocalPop, LocalTakeCast, BeginTask, BeginHere, RaiseCount, GrowCall, LookQueue, PushJob, TellNews, LockToWake, WakeWorker, UnlockWoken, TakeResult, LowerCount, StoreResult, SetLatch, UnlockSettled, SecondSide, AddToFifo, LookForToken, PushToken, TakeFromFifo, RaiseForAll, PushForAll, LowerForAll, GrowScope, OpenSlot, SetLockLatch}
+use Rattle.rayon_machine_places.specs.declared.place.Place.TheVariants.{ProbeWorking, PopWorking, TakeCastWorking, ProbeIdle, PopIdle, TakeCastIdle, PickVictim, StealFrom, PopInjected, AnnounceSelf, GetSleepy, FallAsleep, LoadCounters, AddSleeping, LookAtCast, LookAtInjector, WakeUp, LeaveSearch, JoinProbe, JoinPop, JoinTakeCast, YieldPop, YieldTakeCast, YieldPick, YieldSteal, YieldPopInjected, LocalPop, LocalTakeCast, BeginTask, BeginHere, RaiseCount, GrowCall, LookQueue, PushJob, TellNews, LockToWake, WakeWorker, UnlockWoken, TakeResult, LowerCount, StoreResult, SetLatch, UnlockSettled, SecondSide, AddToFifo, LookForToken, PushToken, TakeFromFifo, RaiseForAll, PushForAll, LowerForAll, GrowScope, OpenSlot, SetLockLatch, OpenForAll, GrowCast, DealPieces, CloseSlot, LockToSettle, WakeSettled}
 use Rattle.rayon_machine_places.specs.declared.place.Move.{Move}
 use Rattle.rayon_machine_places.specs.declared.place.Move.TheVariants.{Stay, Enter, StartRun, Back, HandBack, Discard, HandIn, Mark, HandAllBack}
 use Rattle.rayon_machine_places.specs.declared.act.Seen.{Seen}
-use Rattle.rayon_machine_places.specs.declared.act.Seen.TheVariants.{Done, Yes, Task, Jec, Word, Start, Wakes, Begun, Found, Handed}
+use Rattle.rayon_machine_places.specs.declared.act.Seen.TheVariants.{Done, Yes, Task, Jec, Word, Start, Wakes, Begun, Found, Handed, Opened}
 use Rattle.rayon_machine_places.specs.declared.shape.PoolShape.{PoolShape}
 use Rattle.rayon_machine_places.specs.declared.place.OpenCall.{OpenCall}
 use Rattle.rayon_machine_places.specs.declared.place.Wait.{Wait}
 use Rattle.rayon_machine_places.specs.declared.place.Settling.{Settling}
-use Rattle.rayon_machine_places.specs.Places.{own_pool, own_index, plan_pool, plan_job, after_wait, finish, walk, settle, after_set, after_found, after_news, after_raise, set_call, next_victim, not_self, after_failure, next_steal, next_yield, next_of, is_taken, taken_number, settle_count, after_push}
+use Rattle.rayon_machine_places.specs.Places.{own_pool, own_index, plan_pool, plan_job, after_wait, finish, walk, settle, after_set, after_found, after_news, after_raise, set_call, next_victim, not_self, after_failure, next_steal, next_yield, next_of, is_taken, taken_number, settle_count, after_push, begin_feed, withdraw, plan_book, begin_cast, end_cast, ends_count, after_slot}
 use Rattle.rayon_machine_places.specs.World.{Stack}
 use Rattle.rayon_machine_places.specs.Steps.{after_move, is_piece}
 use Rattle.rayon_machine_laws.specs.Once.{one}
 pub use Rattle.rayon_machine_laws.specs.Counted.{values, values_in, all_values}
 use Rattle.rayon_machine_laws.specs.Shares.{share_target, share_rest, share_then, share_of, share, shares_in, shares}
 
--- a place that raises the count for job t
+-- the pieces of a broadcast that waits, which have no share until they are dealt
+abbrev pub waiting : ℕ → Plan → ℕ
+waiting t (Gather g) = one (is_piece g.pieces t)
+waiting t _ = 0
+
+abbrev pub raise_then : ℕ → Then → ℕ
+raise_then t (GiveBack n) = waiting t n
+raise_then t _ = 0
+
+-- a place that raises the count for job t, or has a piece that has no share and is never to have one before it is dealt
 abbrev pub raises : ℕ → Place → ℕ
-raises t (RaiseCount n) = one (t == plan_job n)
+raises t (RaiseCount n) = one (t == plan_job n) + waiting t n
+raises t (GrowCall n) = waiting t n
+raises t (LookQueue n) = waiting t n
+raises t (PushJob n e) = waiting t n
+raises t (OpenSlot n) = waiting t n
+raises t (CloseSlot n) = waiting t n
+raises t (GrowCast g) = one (is_piece g.pieces t)
+raises t (DealPieces g) = one (is_piece g.pieces t)
+raises t (LockToWake k) = raise_then t k.then
+raises t (WakeWorker k) = raise_then t k.then
+raises t (UnlockWoken k) = raise_then t k.then
+raises t (LowerCount p s n) = raise_then t n
+raises t (SetLatch k) = raise_then t k.then
+raises t (LockToSettle k) = raise_then t k.then
+raises t (WakeSettled k) = raise_then t k.then
+raises t (UnlockSettled k) = raise_then t k.then
+raises t (SetLockLatch c n) = raise_then t n
 raises t (RaiseForAll c) = one (is_piece c t)
 raises t _ = 0
 
@@ -65,7 +92,7 @@ raises_move t (Mark y b9 m9) = raises t y
 raises_move t (Enter f y) = raises t y + raises t f
 raises_move t (StartRun f a) = raises t f
 raises_move t Back = 0
-raises_move t (HandBack n) = 0
+raises_move t (HandBack n) = waiting t n
 raises_move t (Discard n) = 0
 raises_move t (HandAllBack b9) = 0
 
@@ -80,13 +107,11 @@ values_move p (HandBack n) = 0
 values_move p (Discard n) = 0
 values_move p (HandAllBack b9) = 0
 
-abbrev pub begins_move : ℕ → ℕ → Move → ℕ
-begins_move t p g = raises_move t g + values_move p g
-
 -- the share that a raise takes
 abbrev pub gained : ℕ → Place → Seen → ℕ
 gained t (RaiseCount n) Done = one (t == plan_job n)
 gained t (RaiseForAll c) Done = one (is_piece c t)
+gained t (DealPieces g) Done = one (is_piece g.pieces t)
 gained t _ _ = 0
 
 -- the share that goes with a job that is pushed and that no call waits for: a detached one, since an install that is
@@ -99,6 +124,7 @@ pushed t (PushJob (Open o) v) Done = one (t == o.job)
 pushed t (PushJob (Enter e) v) Done = one (t == e.job)
 pushed t (AddToFifo f) Done = one (t == f.job)
 pushed t (PushForAll c) Done = one (is_piece c t)
+pushed t (DealPieces g) Done = one (is_piece g.pieces t)
 pushed t _ _ = 0
 
 -- the share that comes back to a call with the job that it takes back out of a FIFO list
@@ -114,7 +140,7 @@ paid t _ = 0
 
 -- what a move leads to
 abbrev pub Amount : ℕ → ℕ → Move → ℕ → Type 0
-Amount t p g n = (share_move t g ≡ n) × (begins_move t p g ≡ 0)
+Amount t p g n = (share_move t g ≡ n) × (values_move p g ≡ 0)
 
 am_left : (t p : ℕ) (g : Target) → Amount t p (Stay (after_wait g)) (share_target t g)
 am_left t p Termination = (omega arith, refl)
@@ -127,6 +153,8 @@ am_finish t p q Resume = (omega arith, refl)
 am_finish t p q Called = (omega arith, refl)
 am_finish t p (Worker a b) (Await o) = (omega arith, refl)
 am_finish t p (Caller c) (Await o) = (omega arith, refl)
+am_finish t p (Worker a b) (Gathers o) = (omega arith, refl)
+am_finish t p (Caller c) (Gathers o) = (omega arith, refl)
 am_finish t p q (RunFirst o a) = (omega arith, refl)
 am_finish t p q (Answers o f e) = (omega arith, refl)
 am_finish t p q (Missing o f) = (omega arith, refl)
@@ -177,12 +205,18 @@ am_failed t p g k (Failed n) = by (nat_lt n g.limit)
     by false = (omega arith, refl)
 am_failed t p g k Announced = (omega arith, refl)
 
+am_fed : (t p : ℕ) (f : Feeding) (k : Count) → Amount t p (Stay (begin_feed k f)) (one (t == f.job))
+am_fed t p f (OfPool r) = (omega arith, refl)
+am_fed t p f (OfScope c o) = (omega arith, refl)
+am_fed t p f (OfCast c o) = (omega arith, refl)
+
 am_raised : (t p : ℕ) (n : Plan) → Amount t p (after_raise n) (one (t == plan_job n))
 am_raised t p (Detach r u) = (omega arith, refl)
 am_raised t p (Here r u) = (omega arith, refl)
 am_raised t p (Send o) = (omega arith, refl)
 am_raised t p (Fork o a) = (omega arith, refl)
-am_raised t p (Feed f) = (omega arith, refl)
+am_raised t p (Feed f) = (let a : Amount t p (Stay (begin_feed f.count f)) (one (t == f.job)) = am_fed t p f f.count in let b : share t (begin_feed f.count f) ≡ one (t == f.job) = a.0 in omega (arith, b), (am_fed t p f f.count).1)
+am_raised t p (Gather g) = (omega arith, refl)
 am_raised t p (Open o) = (omega arith, refl)
 am_raised t p (Enter e) = (omega arith, refl)
 
@@ -194,6 +228,7 @@ am_goes t (Fork o a) = omega arith
 am_goes t (Feed f) = omega arith
 am_goes t (Open o) = omega arith
 am_goes t (Enter e) = omega arith
+am_goes t (Gather g) = omega arith
 
 am_after : (t : ℕ) (g : Target) (o : Option Taken) → share_then t (after_found g o) ≡ share_target t g
 am_after t g None = omega arith
@@ -213,6 +248,32 @@ am_set t p c (Caller m) n = (omega arith, refl)
 am_count : (t p : ℕ) (g : PoolShape) (q : Party) (c : Count) (n : Then) → Amount t p (settle_count g q c n) (share_then t n)
 am_count t p g q (OfPool r) n = am_settle t p g q r 0 n
 am_count t p g q (OfScope c o) n = am_set t p c o n
+am_count t p g q (OfCast c o) n = am_set t p c o n
+
+am_ends : (t p : ℕ) (k : Count) → Amount t p (Stay (ends_count k)) 0
+am_ends t p (OfPool r) = (omega arith, refl)
+am_ends t p (OfScope c o) = am_set t p c o Resume
+am_ends t p (OfCast c o) = am_set t p c o Resume
+
+am_begins : (t p : ℕ) (c : Pieces) (k : Count) → Amount t p (Stay (begin_cast k c)) (one (is_piece c t))
+am_begins t p c (OfPool r) = (omega arith, refl)
+am_begins t p c (OfScope n o) = (omega arith, refl)
+am_begins t p c (OfCast n o) = (omega arith, refl)
+
+am_undoes : (t p : ℕ) (c : Pieces) (k : Count) → Amount t p (Stay (end_cast k c)) (one (is_piece c t))
+am_undoes t p c (OfPool r) = (omega arith, refl)
+am_undoes t p c (OfScope n o) = (omega arith, refl)
+am_undoes t p c (OfCast n o) = (omega arith, refl)
+
+am_slot : (t p : ℕ) (n : Plan) → Amount t p (Stay (after_slot n)) (one (t == plan_job n))
+am_slot t p (Feed f) = (omega arith, refl)
+am_slot t p (Detach r u) = (omega arith, refl)
+am_slot t p (Here r u) = (omega arith, refl)
+am_slot t p (Send o) = (omega arith, refl)
+am_slot t p (Fork o a) = (omega arith, refl)
+am_slot t p (Open o) = (omega arith, refl)
+am_slot t p (Enter e) = (omega arith, refl)
+am_slot t p (Gather g) = (omega arith, refl)
 
 am_push : (t : ℕ) (n : Plan) (v : Bool) → share t (TellNews n v) + pushed t (PushJob n v) Done ≡ one (t == plan_job n)
 am_push t (Detach r u) v = omega arith
@@ -222,19 +283,18 @@ am_push t (Fork o a) v = omega arith
 am_push t (Feed f) v = omega arith
 am_push t (Open o) v = omega arith
 am_push t (Enter e) v = omega arith
+am_push t (Gather g) v = omega arith
 
 abbrev pub is_done_seen : Seen → Bool
 is_done_seen Done = true
 is_done_seen _ = false
 
 am_back : (t p : ℕ) (n : Plan) → Amount t p (Stay (after_push n)) (one (t == plan_job n))
-am_back t p (Detach r u) = (omega arith, refl)
-am_back t p (Here r u) = (omega arith, refl)
-am_back t p (Send o) = (omega arith, refl)
-am_back t p (Fork o a) = (omega arith, refl)
-am_back t p (Feed f) = (omega arith, refl)
-am_back t p (Open o) = (omega arith, refl)
-am_back t p (Enter e) = (omega arith, refl)
+am_back t p n = by (plan_book n)
+  where
+    by : (o : Option ℕ) → Amount t p (Stay (withdraw o n)) (one (t == plan_job n))
+    by None = (omega arith, refl)
+    by (Some c) = (omega arith, refl)
 
 pub not_pushed : (t : ℕ) (n : Plan) (v : Bool) (e : Seen) → is_done_seen e ≡ false → pushed t (PushJob n v) e ≡ 0
 not_pushed t (Detach r u) v Done z = cc
@@ -244,6 +304,7 @@ not_pushed t (Fork o a) v Done z = cc
 not_pushed t (Feed f) v Done z = cc
 not_pushed t (Open o) v Done z = cc
 not_pushed t (Enter x) v Done z = cc
+not_pushed t (Gather g) v Done z = cc
 not_pushed t (Detach r u) v _ z = refl
 not_pushed t (Here r u) v _ z = refl
 not_pushed t (Send o) v _ z = refl
@@ -251,10 +312,11 @@ not_pushed t (Fork o a) v _ z = refl
 not_pushed t (Feed f) v _ z = refl
 not_pushed t (Open o) v _ z = refl
 not_pushed t (Enter x) v _ z = refl
+not_pushed t (Gather g) v _ z = refl
 
 -- over the whole table: what a stack keeps after a move is what it kept, with what was raised, less what went with a
 -- job or was given back
-pub amounts : (g : PoolShape) (q : Party) (t p : ℕ) (x : Place) (e : Seen) → (share_move t (next_of g q x e) + (pushed t x e + paid t x) ≡ share t x + (gained t x e + regained t x e)) × (begins_move t p (next_of g q x e) ≡ 0)
+pub amounts : (g : PoolShape) (q : Party) (t p : ℕ) (x : Place) (e : Seen) → (share_move t (next_of g q x e) + (pushed t x e + paid t x) ≡ share t x + (gained t x e + regained t x e)) × (values_move p (next_of g q x e) ≡ 0)
 amounts g q t p (ProbeWorking k) Yes = (let a : Amount t p (Stay (after_wait k.target)) (share_target t k.target) = am_left t p k.target in let b : share_move t (Stay (after_wait k.target)) ≡ share_target t k.target = a.0 in omega (arith, b), (let a : Amount t p (Stay (after_wait k.target)) (share_target t k.target) = am_left t p k.target in a.1))
 amounts g q t p (ProbeWorking k) _ = (omega arith, refl)
 amounts g q t p (PopWorking k) (Task u) = (omega arith, refl)
@@ -311,23 +373,29 @@ amounts g q t p (YieldSteal v n) (Task u) = (omega arith, refl)
 amounts g q t p (YieldSteal v n) _ = (let a : Amount t p (Stay (next_yield g q v n)) (0) = am_yield t p g q v n in let b : share_move t (Stay (next_yield g q v n)) ≡ 0 = a.0 in omega (arith, b), (let a : Amount t p (Stay (next_yield g q v n)) (0) = am_yield t p g q v n in a.1))
 amounts g q t p (BeginTask (Plain u)) (Begun d) = (omega arith, refl)
 amounts g q t p (BeginTask (Plain u)) _ = (omega arith, refl)
-amounts g q t p (BeginTask (Token k i)) (Handed u d) = (omega arith, refl)
-amounts g q t p (BeginTask (Token k i)) _ = (omega arith, refl)
+amounts g q t p (BeginTask (Token k i b8)) (Handed u d) = (omega arith, refl)
+amounts g q t p (BeginTask (Token k i b8)) _ = (omega arith, refl)
 amounts g q t p (AddToFifo f) Done = (omega arith, refl)
-amounts g q t p (AddToFifo f) _ = (omega arith, refl)
+amounts g q t p (AddToFifo f) _ = (let a : Amount t p (Stay (after_push (Feed f))) (one (t == f.job)) = am_back t p (Feed f) in let b : share t (after_push (Feed f)) ≡ one (t == f.job) = a.0 in omega (arith, b), (am_back t p (Feed f)).1)
 amounts g q t p (LookForToken f) Yes = (omega arith, refl)
 amounts g q t p (LookForToken f) _ = (omega arith, refl)
 amounts g q t p (PushToken f v) Done = (omega arith, refl)
 amounts g q t p (PushToken f v) _ = (omega arith, refl)
-amounts g q t p (TakeFromFifo f) (Task x) = (omega arith, refl)
+amounts g q t p (TakeFromFifo f) (Task x) = (let a : Amount t p (Stay (after_push (Feed (record f { job = taken_number x })))) (one (t == taken_number x)) = am_back t p (Feed (record f { job = taken_number x })) in let b : share t (after_push (Feed (record f { job = taken_number x }))) ≡ one (t == taken_number x) = a.0 in omega (arith, b), (am_back t p (Feed (record f { job = taken_number x }))).1)
 amounts g q t p (TakeFromFifo f) _ = (omega arith, refl)
-amounts g q t p (RaiseCount n) Done = (let a : Amount t p (after_raise n) (one (t == plan_job n)) = am_raised t p n in let b : share_move t (after_raise n) ≡ one (t == plan_job n) = a.0 in omega (arith, b), (let a : Amount t p (after_raise n) (one (t == plan_job n)) = am_raised t p n in a.1))
+amounts g q t p (RaiseCount n) Done = (let b : share_move t (after_raise n) ≡ one (t == plan_job n) = (am_raised t p n).0 in omega (arith, b), (am_raised t p n).1)
 amounts g q t p (RaiseCount n) _ = (omega arith, refl)
-amounts g q t p (RaiseForAll c) Done = (omega arith, refl)
+amounts g q t p (RaiseForAll c) Done = (let a : Amount t p (Stay (begin_cast c.count c)) (one (is_piece c t)) = am_begins t p c c.count in let b : share t (begin_cast c.count c) ≡ one (is_piece c t) = a.0 in omega (arith, b), (am_begins t p c c.count).1)
+amounts g q t p (OpenForAll c) (Opened n) = (omega arith, refl)
+amounts g q t p (OpenForAll c) _ = (omega arith, refl)
+amounts g q t p (GrowCast d) Done = (omega arith, refl)
+amounts g q t p (GrowCast d) _ = (omega arith, refl)
+amounts g q t p (DealPieces d) Done = (omega arith, refl)
+amounts g q t p (DealPieces d) _ = (omega arith, refl)
 amounts g q t p (RaiseForAll c) _ = (omega arith, refl)
 amounts g q t p (PushForAll c) Done = (omega arith, refl)
-amounts g q t p (PushForAll c) _ = (omega arith, refl)
-amounts g q t p (LowerForAll c) Yes = (omega arith, refl)
+amounts g q t p (PushForAll c) _ = (let a : Amount t p (Stay (end_cast c.count c)) (one (is_piece c t)) = am_undoes t p c c.count in let b : share t (end_cast c.count c) ≡ one (is_piece c t) = a.0 in omega (arith, b), (am_undoes t p c c.count).1)
+amounts g q t p (LowerForAll c) Yes = (let a : Amount t p (Stay (ends_count c.count)) 0 = am_ends t p c.count in let b : share t (ends_count c.count) ≡ 0 = a.0 in omega (arith, b), (am_ends t p c.count).1)
 amounts g q t p (LowerForAll c) _ = (omega arith, refl)
 amounts g q t p (GrowCall n) Done = (omega arith, refl)
 amounts g q t p (GrowCall n) _ = (omega arith, refl)
@@ -337,7 +405,7 @@ amounts g q t p (PushJob n v) Done = (let b : share t (TellNews n v) + pushed t 
 amounts g q t p (PushJob n v) e = (let a : Amount t p (Stay (after_push n)) (one (t == plan_job n)) = am_back t p n in let c : share t (after_push n) ≡ one (t == plan_job n) = a.0 in let b : pushed t (PushJob n v) e ≡ 0 = not_pushed t n v e refl in omega (arith, b, c), (let a : Amount t p (Stay (after_push n)) (one (t == plan_job n)) = am_back t p n in a.1))
 amounts g q t p (GrowScope o) Done = (omega arith, refl)
 amounts g q t p (GrowScope o) _ = (omega arith, refl)
-amounts g q t p (OpenSlot x) Done = (omega arith, refl)
+amounts g q t p (OpenSlot x) Done = (let a : Amount t p (Stay (after_slot x)) (one (t == plan_job x)) = am_slot t p x in let b : share t (after_slot x) ≡ one (t == plan_job x) = a.0 in omega (arith, b), (am_slot t p x).1)
 amounts g q t p (OpenSlot x) _ = (omega arith, refl)
 amounts g q t p (TellNews n v) (Wakes k) = (let a : Amount t p (walk g q (plan_pool n) k 0 (after_news n)) (share_then t (after_news n)) = am_walk t p g q (plan_pool n) k 0 (after_news n) in let b : share_move t (walk g q (plan_pool n) k 0 (after_news n)) ≡ share_then t (after_news n) = a.0 in let c : share_then t (after_news n) ≡ share_rest t n = am_goes t n in omega (arith, b, c), (let a : Amount t p (walk g q (plan_pool n) k 0 (after_news n)) (share_then t (after_news n)) = am_walk t p g q (plan_pool n) k 0 (after_news n) in a.1))
 amounts g q t p (TellNews n v) _ = (omega arith, refl)
@@ -371,7 +439,7 @@ land_shares t (HandBack n) (f ∷ fs) = omega arith
 land_shares t (Discard n) (f ∷ fs) = omega arith
 land_shares t (HandAllBack b9) (f ∷ fs) = omega arith
 
-pub land_raises : (t : ℕ) (g : Move) (fs : List Place) → all_raises t (after_move g fs) ≡ raises_move t g + raises_in t fs
+pub land_raises : (t : ℕ) (g : Move) (fs : List Place) → all_raises t (after_move g fs) ≤ raises_move t g + raises_in t fs
 land_raises t (Stay y) fs = omega arith
 land_raises t (HandIn y token) fs = omega arith
 land_raises t (Mark y b9 m9) fs = omega arith

@@ -1,31 +1,33 @@
 -- the events that are no acts move one party between places that neither hold, owe nor commit
-use Rattle.rayon_machine_places.specs.declared.place.Count.TheVariants.{OfPool}
+use Rattle.rayon_machine_places.specs.declared.place.Pieces.{Pieces}
+use Rattle.rayon_machine_places.specs.declared.place.Count.{Count}
+use Rattle.rayon_machine_places.specs.declared.place.Count.TheVariants.{OfPool, OfScope, OfCast}
 use Rattle.rayon_machine_places.specs.declared.place.Plan.{Plan}
 use Rattle.std.proofs.Common.{arith, refl, sym, ◌∙◌, ap, subst}
-use Rattle.std.specs.Prelude.{ℕ, Bool, true, false, not, ◌&&◌, ◌+◌, ◌-◌, ◌==◌, ◌<◌, nat_lt, if◌then◌else◌, Some, None, List, [], ◌∷◌, ◌≡◌, IfSome}
+use Rattle.std.specs.Prelude.{ℕ, Bool, true, false, not, ◌&&◌, ◌+◌, ◌-◌, ◌==◌, ◌<◌, nat_lt, if◌then◌else◌, Some, None, List, [], ◌∷◌, ◌≡◌, IfSome, Option}
 use Rattle.std.proofs.lemmas.Bool.{eqb-true}
 use Rattle.rayon_machine_places.specs.declared.place.Party.{Party}
 use Rattle.rayon_machine_places.specs.declared.place.Party.TheVariants.{Worker, Caller}
 use Rattle.rayon_machine_places.specs.declared.place.Ending.{Ending}
 use Rattle.rayon_machine_places.specs.declared.place.Ending.TheVariants.{Fine, Fault}
 use Rattle.rayon_machine_places.specs.declared.place.JobKind.{JobKind}
-use Rattle.rayon_machine_places.specs.declared.place.JobKind.TheVariants.{Detached, Stored, Direct, TokenOf, Scoped, BodyOf}
-use Rattle.rayon_machine_places.specs.declared.place.Plan.TheVariants.{Detach, Here, Send, Fork, Feed, Open, Enter}
+use Rattle.rayon_machine_places.specs.declared.place.JobKind.TheVariants.{Detached, Stored, Direct, TokenOf, Scoped, BodyOf, PieceOf, WholeOf}
+use Rattle.rayon_machine_places.specs.declared.place.Plan.TheVariants.{Detach, Here, Send, Fork, Feed, Open, Enter, Gather}
 use Rattle.rayon_machine_places.specs.declared.place.Share.TheVariants.{PoolValue}
 use Rattle.rayon_machine_places.specs.declared.place.Then.TheVariants.{Resume}
 use Rattle.rayon_machine_places.specs.declared.place.Place.{Place}
-use Rattle.rayon_machine_places.specs.declared.place.Place.TheVariants.{ProbeWorking, PickVictim, StealFrom, PopInjected, JoinProbe, YieldPop, YieldPick, YieldSteal, YieldPopInjected, LocalPop, Run, RaiseCount, GrowCall, PushJob, LowerCount, FirstSide, SecondSide, AtOnce, Free, Stopped, AddToFifo, PushToken, TakeFromFifo, RaiseForAll, PushForAll, LowerForAll, GrowScope, OpenSlot, ScopeBody}
+use Rattle.rayon_machine_places.specs.declared.place.Place.TheVariants.{ProbeWorking, PickVictim, StealFrom, PopInjected, JoinProbe, YieldPop, YieldPick, YieldSteal, YieldPopInjected, LocalPop, Run, RaiseCount, GrowCall, PushJob, LowerCount, FirstSide, SecondSide, AtOnce, Free, Stopped, AddToFifo, PushToken, TakeFromFifo, RaiseForAll, PushForAll, LowerForAll, GrowScope, OpenSlot, ScopeBody, OpenForAll, CloseForAll, GrowCast, DealPieces}
 use Rattle.rayon_machine_places.specs.declared.event.Event.{Event}
-use Rattle.rayon_machine_places.specs.declared.event.Event.TheVariants.{Go, From, Refuse, Miss, End, Spawn, Fifo, Install, Join, Yield, YieldLocal, EndPool, Cast, Scope as OpenScope, IntoSpawn}
+use Rattle.rayon_machine_places.specs.declared.event.Event.TheVariants.{Go, From, Refuse, Miss, End, Spawn, Fifo, Install, Join, Yield, YieldLocal, EndPool, Cast, Scope as OpenScope, IntoSpawn, IntoFifo, IntoCast, Broadcast}
 use Rattle.rayon_machine_places.specs.declared.shape.PoolShape.{PoolShape}
 use Rattle.rayon_machine_places.specs.declared.place.Wait.{Wait}
 use Rattle.rayon_machine_places.specs.declared.state.Call.{Call}
-use Rattle.rayon_machine_places.specs.Places.{own_pool, own_index, is_member, undo, next_victim, not_self, act_of, next_steal, next_yield, goes_on, is_free, after_push}
+use Rattle.rayon_machine_places.specs.Places.{own_pool, own_index, is_member, undo, next_victim, not_self, act_of, next_steal, next_yield, goes_on, is_free, after_push, withdraw, end_cast, plan_book}
 use Rattle.rayon_machine_places.specs.World.{Pool, Stack, World, target_pool, target_worker, target_call}
-use Rattle.rayon_machine_places.specs.Steps.{put, put_stack, with_stack, after_choice, after_refusal, can_miss, after_miss, after_close, after_end, after_call, is_pool, new_call, after_spawn, after_fifo, after_send, after_install, after_join, after_yield, after_end_pool, step, after_cast, after_scope, after_into, holds}
+use Rattle.rayon_machine_places.specs.Steps.{put, put_stack, with_stack, after_choice, after_refusal, can_miss, after_miss, after_close, after_end, after_call, is_pool, new_call, after_spawn, after_fifo, after_send, after_install, after_join, after_yield, after_end_pool, step, after_cast, after_scope, after_into, holds, after_into_fifo, after_into_cast, after_broadcast, new_gathering}
 use Rattle.rayon_machine_laws.proofs.Attend.{is_owing}
 use Rattle.rayon_machine_laws.proofs.Events.{free_frame}
-use Rattle.rayon_machine_laws.proofs.Frame.{fifo_cases, and_parts, if_some_map, if_cond, acted_keeps, into_cases}
+use Rattle.rayon_machine_laws.proofs.Frame.{fifo_cases, and_parts, if_some_map, if_cond, acted_keeps, into_cases, into_fifo_cases, into_cast_cases}
 use Rattle.rayon_machine_laws.proofs.Kept.{announced, KeepsOn, is_emptied, sizes, SizedAs}
 use Rattle.rayon_machine_laws.proofs.Seats.{is_frame}
 use Rattle.rayon_machine_laws.proofs.Ties.{AllFrames, job_at, outcome, result}
@@ -151,35 +153,55 @@ miss_aside w (Worker a b) (YieldSteal v n) fs e = if_cond (Aside w) (can_miss w 
 miss_aside w (Worker a b) _ fs e = tt
 miss_aside w (Caller n) _ fs e = tt
 
--- a refused push leads to no place of a search
+-- a refused call leads to no place of a search
+withdraw_calm : (o : Option ℕ) (n : Plan) → is_calm (withdraw o n) ≡ true
+withdraw_calm None n = refl
+withdraw_calm (Some c) n = refl
+
+withdraw_quiet : (o : Option ℕ) (n : Plan) → announced (withdraw o n) ≡ false
+withdraw_quiet None n = refl
+withdraw_quiet (Some c) n = refl
+
+withdraw_full : (o : Option ℕ) (n : Plan) → is_emptied (withdraw o n) ≡ false
+withdraw_full None n = refl
+withdraw_full (Some c) n = refl
+
+withdraw_unsized : (o : Option ℕ) (n : Plan) → sizes (withdraw o n) ≡ None
+withdraw_unsized None n = refl
+withdraw_unsized (Some c) n = refl
+
 push_calm : (n : Plan) → is_calm (after_push n) ≡ true
-push_calm (Enter e) = refl
-push_calm _ = refl
+push_calm n = withdraw_calm (plan_book n) n
 
 push_quiet : (n : Plan) → announced (after_push n) ≡ false
-push_quiet (Enter e) = refl
-push_quiet _ = refl
+push_quiet n = withdraw_quiet (plan_book n) n
 
 push_full : (n : Plan) → is_emptied (after_push n) ≡ false
-push_full (Enter e) = refl
-push_full _ = refl
+push_full n = withdraw_full (plan_book n) n
 
 push_unsized : (n : Plan) → sizes (after_push n) ≡ None
-push_unsized (Enter e) = refl
-push_unsized _ = refl
+push_unsized n = withdraw_unsized (plan_book n) n
 
 push_keeps : (m : ℕ) (n : Plan) (z : Bool) → KeepsOn m (PushJob n z) → KeepsOn m (after_push n)
-push_keeps m (Enter e) z h y = absurd (cc)
-push_keeps m _ z h y = absurd (cc)
+push_keeps m n z h y = absurd (let k : announced (after_push n) ≡ false = push_quiet n in cc)
+
+uncast_aside : (w : World) (q : Party) (c : Pieces) (k : Count) (fs : List Place) → w.stack q ≡ record { top = PushForAll c; below = fs } → Quietly w (with_stack w q (record { top = end_cast k c; below = fs }))
+unfolding aside_at
+uncast_aside w q c (OfPool p) fs e = (aside_at w q (PushForAll c) (LowerForAll c) fs e refl refl (λ m h z. absurd (cc)) (λ h. absurd (cc)) refl, refl)
+uncast_aside w q c (OfScope n o) fs e = (aside_at w q (PushForAll c) (CloseForAll c) fs e refl refl (λ m h z. absurd (cc)) (λ h. absurd (cc)) refl, refl)
+uncast_aside w q c (OfCast n o) fs e = (aside_at w q (PushForAll c) (LowerForAll c) fs e refl refl (λ m h z. absurd (cc)) (λ h. absurd (cc)) refl, refl)
 
 refuse_aside : (w : World) (q : Party) (x : Place) (fs : List Place) → w.stack q ≡ record { top = x; below = fs } → IfSome (after_refusal w q (record { top = x; below = fs })) (Quietly w)
 unfolding aside_at
 refuse_aside w q (GrowCall n) fs e = (aside_at w q (GrowCall n) (undo n) fs e refl refl (λ m h z. absurd (cc)) (λ h. absurd (cc)) refl, refl)
-refuse_aside w q (AddToFifo f) fs e = (aside_at w q (AddToFifo f) (undo (Feed f)) fs e refl refl (λ m h z. absurd (cc)) (λ h. absurd (cc)) refl, refl)
+refuse_aside w q (AddToFifo f) fs e = (aside_at w q (AddToFifo f) (after_push (Feed f)) fs e refl (push_calm (Feed f)) (λ m h z. absurd (let k : announced (after_push (Feed f)) ≡ false = push_quiet (Feed f) in cc)) (λ h. absurd (let k : is_emptied (after_push (Feed f)) ≡ false = push_full (Feed f) in cc)) (push_unsized (Feed f)), push_full (Feed f))
 refuse_aside w q (PushToken f v) fs e = (aside_at w q (PushToken f v) (TakeFromFifo f) fs e refl refl (λ m h z. absurd (cc)) (λ h. absurd (cc)) refl, refl)
-refuse_aside w q (PushForAll c) fs e = (aside_at w q (PushForAll c) (LowerForAll c) fs e refl refl (λ m h z. absurd (cc)) (λ h. absurd (cc)) refl, refl)
+refuse_aside w q (PushForAll c) fs e = uncast_aside w q c c.count fs e
+refuse_aside w q (OpenForAll c) fs e = (aside_at w q (OpenForAll c) (LowerForAll c) fs e refl refl (λ m h z. absurd (cc)) (λ h. absurd (cc)) refl, refl)
+refuse_aside w q (GrowCast g) fs e = (aside_at w q (GrowCast g) (undo (Gather g)) fs e refl refl (λ m h z. absurd (cc)) (λ h. absurd (cc)) refl, refl)
+refuse_aside w q (DealPieces g) fs e = (aside_at w q (DealPieces g) (undo (Gather g)) fs e refl refl (λ m h z. absurd (cc)) (λ h. absurd (cc)) refl, refl)
 refuse_aside w q (GrowScope o) fs e = (aside_at w q (GrowScope o) (undo (Open o)) fs e refl refl (λ m h z. absurd (cc)) (λ h. absurd (cc)) refl, refl)
-refuse_aside w q (OpenSlot n) fs e = (aside_at w q (OpenSlot n) (undo (Enter n)) fs e refl refl (λ m h z. absurd (cc)) (λ h. absurd (cc)) refl, refl)
+refuse_aside w q (OpenSlot n) fs e = (aside_at w q (OpenSlot n) (undo n) fs e refl refl (λ m h z. absurd (cc)) (λ h. absurd (cc)) refl, refl)
 refuse_aside w q (PushJob n z) fs e = (aside_at w q (PushJob n z) (after_push n) fs e refl (push_calm n) (λ m h. push_keeps m n z h) (λ h. absurd (let k : is_emptied (after_push n) ≡ false = push_full n in cc)) (push_unsized n), push_full n)
 refuse_aside w q _ fs e = tt
 
@@ -208,12 +230,15 @@ closed_calm : (t : ℕ) (k : JobKind) (d : Ending) (fs : List Place) → AllFram
 closed_calm t (Detached p) d fs a = record { calm = refl; frames = a; keeps = refl; emptied = refl; sized = refl }
 closed_calm t (Stored c o) d fs a = record { calm = refl; frames = a; keeps = refl; emptied = refl; sized = refl }
 closed_calm t (Scoped c o) d fs a = record { calm = refl; frames = a; keeps = refl; emptied = refl; sized = refl }
+closed_calm t (PieceOf c o) d fs a = record { calm = refl; frames = a; keeps = refl; emptied = refl; sized = refl }
 closed_calm t Direct d [] a = record { calm = refl; frames = tt; keeps = refl; emptied = refl; sized = refl }
-closed_calm t (TokenOf i9) d [] a = record { calm = refl; frames = tt; keeps = refl; emptied = refl; sized = refl }
+closed_calm t (TokenOf i9 b8) d [] a = record { calm = refl; frames = tt; keeps = refl; emptied = refl; sized = refl }
 closed_calm t (BodyOf c9 o9) d [] a = record { calm = refl; frames = tt; keeps = refl; emptied = refl; sized = refl }
+closed_calm t (WholeOf c9 o9) d [] a = record { calm = refl; frames = tt; keeps = refl; emptied = refl; sized = refl }
 closed_calm t Direct d (f ∷ fs) a = goes_on_calm f d fs (a.0) (a.1)
-closed_calm t (TokenOf i9) d (f ∷ fs) a = goes_on_calm f d fs (a.0) (a.1)
+closed_calm t (TokenOf i9 b8) d (f ∷ fs) a = goes_on_calm f d fs (a.0) (a.1)
 closed_calm t (BodyOf c9 o9) d (f ∷ fs) a = goes_on_calm f d fs (a.0) (a.1)
+closed_calm t (WholeOf c9 o9) d (f ∷ fs) a = goes_on_calm f d fs (a.0) (a.1)
 
 end_aside : (w : World) (q : Party) (d : Ending) (x : Place) (fs : List Place) → w.stack q ≡ record { top = x; below = fs } → AllFrames fs → IfSome (after_end w q d (record { top = x; below = fs }) x) (Quietly w)
 end_aside w q d (Run t k) fs e a =
@@ -243,10 +268,10 @@ spawn_aside : (w : World) (q : Party) (p : ℕ) → IfSome (after_spawn w q p (w
 spawn_aside w q p = if_cond (Quietly w) (is_free ((w.stack q).top) && is_pool w.shape p) _ (λ b. begins_aside w _ q (RaiseCount (Detach p w.jobs)) (record { shape = refl; stack = λ r. refl; seat = λ p i. refl; injector = λ p. refl; casts = λ p i. refl; turn = λ p. refl; letters = λ c l. refl; free = (and_parts (is_free ((w.stack q).top)) (is_pool w.shape p) b).0; calm = refl; keeps = refl; emptied = refl; sized = tt }))
 
 fifo_aside : (w : World) (q : Party) (p : ℕ) → IfSome (after_fifo w q p (w.stack q)) (Quietly w)
-fifo_aside w q p = fifo_cases (Quietly w) w q p (spawn_aside w q p) (λ i free. begins_aside w _ (Worker p i) (RaiseCount (Feed (record { pool = p; job = w.jobs; token = w.jobs + 1 }))) (record { shape = refl; stack = λ r. refl; seat = λ p i. refl; injector = λ p. refl; casts = λ p i. refl; turn = λ p. refl; letters = λ c l. refl; free = free; calm = refl; keeps = refl; emptied = refl; sized = tt }))
+fifo_aside w q p = fifo_cases (Quietly w) w q p (spawn_aside w q p) (λ i free. begins_aside w _ (Worker p i) (RaiseCount (Feed (record { count = OfPool p; pool = p; job = w.jobs; token = w.jobs + 1 }))) (record { shape = refl; stack = λ r. refl; seat = λ p i. refl; injector = λ p. refl; casts = λ p i. refl; turn = λ p. refl; letters = λ c l. refl; free = free; calm = refl; keeps = refl; emptied = refl; sized = tt }))
 
 cast_aside : (w : World) (q : Party) (p : ℕ) → IfSome (after_cast w q p (w.stack q)) (Quietly w)
-cast_aside w q p = if_cond (Quietly w) (is_free ((w.stack q).top) && is_pool w.shape p) _ (λ b. begins_aside w _ q (RaiseForAll (record { pool = p; first = w.jobs; workers = (w.shape.pool p).workers })) (record { shape = refl; stack = λ r. refl; seat = λ p i. refl; injector = λ p. refl; casts = λ p i. refl; turn = λ p. refl; letters = λ c l. refl; free = (and_parts (is_free ((w.stack q).top)) (is_pool w.shape p) b).0; calm = refl; keeps = refl; emptied = refl; sized = refl }))
+cast_aside w q p = if_cond (Quietly w) (is_free ((w.stack q).top) && is_pool w.shape p) _ (λ b. begins_aside w _ q (RaiseForAll (record { count = OfPool p; pool = p; first = w.jobs; workers = (w.shape.pool p).workers })) (record { shape = refl; stack = λ r. refl; seat = λ p i. refl; injector = λ p. refl; casts = λ p i. refl; turn = λ p. refl; letters = λ c l. refl; free = (and_parts (is_free ((w.stack q).top)) (is_pool w.shape p) b).0; calm = refl; keeps = refl; emptied = refl; sized = (refl, refl) }))
 
 -- the calls that were there are as they were
 old_letter : (w : World) (v : Call) (c : ℕ) → c < w.calls → (put w.call w.calls v c).latch ≡ (w.call c).latch
@@ -268,6 +293,15 @@ scope_aside w q p = if_cond (Quietly w) (is_free ((w.stack q).top) && is_pool w.
 
 into_aside : (w : World) (q : Party) (n : ℕ) → IfSome (after_into w q n (w.stack q)) (Quietly w)
 into_aside w q n = into_cases (Quietly w) w q n (λ z e free held. if_cond (Quietly w) (is_free ((w.stack q).top) && holds z.call (w.stack q)) _ (λ b. begins_aside w _ q (RaiseCount (Enter (record { call = z.call; owner = z.owner; pool = z.pool; job = w.jobs }))) (record { shape = refl; stack = λ r. refl; seat = λ p i. refl; injector = λ p. refl; casts = λ p i. refl; turn = λ p. refl; letters = λ c l. refl; free = free; calm = refl; keeps = refl; emptied = refl; sized = tt })))
+
+into_fifo_aside : (w : World) (q : Party) (n : ℕ) → IfSome (after_into_fifo w q n (w.stack q)) (Quietly w)
+into_fifo_aside w q n = into_fifo_cases (Quietly w) w q n (λ z e free held. if_cond (Quietly w) (is_free ((w.stack q).top) && holds z.call (w.stack q)) _ (λ b. begins_aside w _ q (RaiseCount (Enter (record { call = z.call; owner = z.owner; pool = z.pool; job = w.jobs }))) (record { shape = refl; stack = λ r. refl; seat = λ p i. refl; injector = λ p. refl; casts = λ p i. refl; turn = λ p. refl; letters = λ c l. refl; free = free; calm = refl; keeps = refl; emptied = refl; sized = tt }))) (λ z i e free held. begins_aside w _ (Worker z.pool i) (RaiseCount (Feed (record { count = OfScope z.call z.owner; pool = z.pool; job = w.jobs; token = w.jobs + 1 }))) (record { shape = refl; stack = λ r. refl; seat = λ p i. refl; injector = λ p. refl; casts = λ p i. refl; turn = λ p. refl; letters = λ c l. refl; free = free; calm = refl; keeps = refl; emptied = refl; sized = tt }))
+
+into_cast_aside : (w : World) (q : Party) (n : ℕ) → IfSome (after_into_cast w q n (w.stack q)) (Quietly w)
+into_cast_aside w q n = into_cast_cases (Quietly w) w q n (λ z e free held. begins_aside w _ q (RaiseForAll (record { count = OfScope z.call z.owner; pool = z.pool; first = w.jobs; workers = (w.shape.pool z.pool).workers })) (record { shape = refl; stack = λ r. refl; seat = λ p i. refl; injector = λ p. refl; casts = λ p i. refl; turn = λ p. refl; letters = λ c l. refl; free = free; calm = refl; keeps = refl; emptied = refl; sized = (refl, refl) }))
+
+broadcast_aside : (w : World) (q : Party) (p : ℕ) → IfSome (after_broadcast w q p (w.stack q)) (Quietly w)
+broadcast_aside w q p = if_cond (Quietly w) (is_free ((w.stack q).top) && is_pool w.shape p) _ (λ b. begins_aside w _ q (RaiseCount (Gather (record { call = record { number = w.calls; pool = p; job = w.jobs + (w.shape.pool p).workers }; pieces = record { count = OfCast w.calls q; pool = p; first = w.jobs; workers = (w.shape.pool p).workers } }))) (record { shape = refl; stack = λ r. refl; seat = λ p i. refl; injector = λ p. refl; casts = λ p i. refl; turn = λ p. refl; letters = λ c l. old_letter w (new_gathering ((w.shape.pool p).workers) (w.jobs + (w.shape.pool p).workers)) c l; free = (and_parts (is_free ((w.stack q).top)) (is_pool w.shape p) b).0; calm = refl; keeps = refl; emptied = refl; sized = (refl, refl) }))
 
 join_aside : (w : World) (q : Party) → IfSome (after_join w q (w.stack q)) (Quietly w)
 join_aside w (Worker a b) = if_cond (Quietly w) (is_free ((w.stack (Worker a b)).top)) _ (λ z. begins_aside w _ (Worker a b) (RaiseCount (Fork (record { number = w.calls; pool = a; job = w.jobs + 1 }) w.jobs)) (record { shape = refl; stack = λ r. refl; seat = λ p i. refl; injector = λ p. refl; casts = λ p i. refl; turn = λ p. refl; letters = λ c l. old_letter w (new_call (Some w.jobs) (w.jobs + 1)) c l; free = z; calm = refl; keeps = refl; emptied = refl; sized = tt }))
@@ -322,6 +356,9 @@ calm_step P w fr (Install q p) z go move = if_some_map (Quietly w) P move _ (ins
 calm_step P w fr (Join q) z go move = if_some_map (Quietly w) P move _ (join_aside w q)
 calm_step P w fr (OpenScope q p) z go move = if_some_map (Quietly w) P move _ (scope_aside w q p)
 calm_step P w fr (IntoSpawn q n) z go move = if_some_map (Quietly w) P move _ (into_aside w q n)
+calm_step P w fr (IntoFifo q n) z go move = if_some_map (Quietly w) P move _ (into_fifo_aside w q n)
+calm_step P w fr (IntoCast q n) z go move = if_some_map (Quietly w) P move _ (into_cast_aside w q n)
+calm_step P w fr (Broadcast q p) z go move = if_some_map (Quietly w) P move _ (broadcast_aside w q p)
 calm_step P w fr (Yield q) z go move = if_some_map (Quietly w) P move _ (begin_yield w q YieldPop refl refl refl refl)
 calm_step P w fr (YieldLocal q) z go move = if_some_map (Quietly w) P move _ (begin_yield w q LocalPop refl refl refl refl)
 calm_step P w fr (EndPool q p) z go move = if_some_map (Quietly w) P move _ (give_aside w q p)

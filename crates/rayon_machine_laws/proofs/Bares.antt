@@ -1,9 +1,10 @@
 -- how often a stack holds a job that has no share: before its Raise and after its Lower
-use Rattle.rayon_machine_places.specs.declared.place.Count.TheVariants.{OfPool, OfScope}
+use Rattle.rayon_machine_places.specs.declared.place.Count.TheVariants.{OfPool, OfScope, OfCast}
 use Rattle.rayon_machine_places.specs.declared.place.Count.{Count}
 use Rattle.rayon_machine_places.specs.declared.place.Mark.{Mark as Marking}
-use Rattle.rayon_machine_places.specs.declared.place.Mark.TheVariants.{Counted, Queued, Returned}
+use Rattle.rayon_machine_places.specs.declared.place.Mark.TheVariants.{Counted, Queued, Returned, Numbered, Dealt, Unnumbered}
 use Rattle.rayon_machine_places.specs.declared.place.Pieces.{Pieces}
+use Rattle.rayon_machine_places.specs.declared.place.Feeding.{Feeding}
 use Rattle.std.proofs.Common.{arith, refl, ap}
 use Rattle.std.specs.Prelude.{ℕ, Bool, true, false, ◌&&◌, ◌+◌, ◌-◌, ◌==◌, ◌≤◌, nat_lt, if◌then◌else◌, Option, Some, None, List, [], ◌∷◌, ◌≡◌}
 use Rattle.rayon_machine_places.specs.declared.place.Party.{Party}
@@ -11,7 +12,7 @@ use Rattle.rayon_machine_places.specs.declared.place.Party.TheVariants.{Worker, 
 use Rattle.rayon_machine_places.specs.declared.place.Ending.{Ending}
 use Rattle.rayon_machine_places.specs.declared.place.Ending.TheVariants.{Fine, Fault}
 use Rattle.rayon_machine_places.specs.declared.place.JobKind.{JobKind}
-use Rattle.rayon_machine_places.specs.declared.place.JobKind.TheVariants.{Detached, Stored, Direct, TokenOf, Scoped, BodyOf}
+use Rattle.rayon_machine_places.specs.declared.place.JobKind.TheVariants.{Detached, Stored, Direct, TokenOf, Scoped, BodyOf, PieceOf, WholeOf}
 use Rattle.rayon_machine_places.specs.declared.place.Target.{Target}
 use Rattle.rayon_machine_places.specs.declared.place.Target.TheVariants.{Termination, Answer}
 use Rattle.rayon_machine_places.specs.declared.place.Latch.{Latch}
@@ -19,29 +20,29 @@ use Rattle.rayon_machine_places.specs.declared.place.Latch.TheVariants.{Terminat
 use Rattle.rayon_machine_places.specs.declared.place.Rounds.{Rounds}
 use Rattle.rayon_machine_places.specs.declared.place.Rounds.TheVariants.{Failed, Announced}
 use Rattle.rayon_machine_places.specs.declared.place.Plan.{Plan}
-use Rattle.rayon_machine_places.specs.declared.place.Plan.TheVariants.{Detach, Here, Send, Fork, Feed, Open, Enter}
+use Rattle.rayon_machine_places.specs.declared.place.Plan.TheVariants.{Detach, Here, Send, Fork, Feed, Open, Enter, Gather}
 use Rattle.rayon_machine_places.specs.declared.place.Then.{Then}
-use Rattle.rayon_machine_places.specs.declared.place.Then.TheVariants.{BeginFound, LeaveWait, Resume, Await, RunFirst, Answers, Missing, Ran, GiveBack, Called}
+use Rattle.rayon_machine_places.specs.declared.place.Then.TheVariants.{BeginFound, LeaveWait, Resume, Await, RunFirst, Answers, Missing, Ran, GiveBack, Called, Gathers}
 use Rattle.rayon_machine_places.specs.declared.place.Taken.{Taken}
 use Rattle.rayon_machine_places.specs.declared.place.Taken.TheVariants.{Plain, Token}
 use Rattle.rayon_machine_places.specs.declared.place.Place.{Place}
-use Rattle.rayon_machine_places.specs.declared.place.Place.TheVariants.{ProbeWorking, PopWorking, TakeCastWorking, ProbeIdle, PopIdle, TakeCastIdle, PickVictim, StealFrom, PopInjected, AnnounceSelf, GetSleepy, FallAsleep, LoadCounters, AddSleeping, LookAtCast, LookAtInjector, WakeUp, LeaveSearch, JoinProbe, JoinPop, JoinTakeCast, YieldPop, YieldTakeCast, YieldPick, YieldSteal, YieldPopInjected, LocalPop, LocalTakeCast, BeginTask, BeginHere, RaiseCount, GrowCall, LookQueue, PushJob, TellNews, LockToWake, WakeWorker, UnlockWoken, TakeResult, LowerCount, StoreResult, SetLatch, LockToSettle, WakeSettled, UnlockSettled, FirstSide, SecondSide, AtOnce, AddToFifo, LookForToken, PushToken, TakeFromFifo, RaiseForAll, PushForAll, LowerForAll, GrowScope, OpenSlot, SetLockLatch, ScopeBody}
+use Rattle.rayon_machine_places.specs.declared.place.Place.TheVariants.{ProbeWorking, PopWorking, TakeCastWorking, ProbeIdle, PopIdle, TakeCastIdle, PickVictim, StealFrom, PopInjected, AnnounceSelf, GetSleepy, FallAsleep, LoadCounters, AddSleeping, LookAtCast, LookAtInjector, WakeUp, LeaveSearch, JoinProbe, JoinPop, JoinTakeCast, YieldPop, YieldTakeCast, YieldPick, YieldSteal, YieldPopInjected, LocalPop, LocalTakeCast, BeginTask, BeginHere, RaiseCount, GrowCall, LookQueue, PushJob, TellNews, LockToWake, WakeWorker, UnlockWoken, TakeResult, LowerCount, StoreResult, SetLatch, LockToSettle, WakeSettled, UnlockSettled, FirstSide, SecondSide, AtOnce, AddToFifo, LookForToken, PushToken, TakeFromFifo, RaiseForAll, PushForAll, LowerForAll, GrowScope, OpenSlot, CloseSlot, SetLockLatch, ScopeBody, OpenForAll, GrowCast, DealPieces}
 use Rattle.rayon_machine_places.specs.declared.place.Move.{Move}
 use Rattle.rayon_machine_places.specs.declared.place.Move.TheVariants.{Stay, Enter, StartRun, Back, HandBack, Discard, HandIn, Mark, HandAllBack}
 use Rattle.rayon_machine_places.specs.declared.act.Seen.{Seen}
-use Rattle.rayon_machine_places.specs.declared.act.Seen.TheVariants.{Done, Yes, Task, Jec, Word, Start, Wakes, Begun, Found, Handed}
+use Rattle.rayon_machine_places.specs.declared.act.Seen.TheVariants.{Done, Yes, Task, Jec, Word, Start, Wakes, Begun, Found, Handed, Opened}
 use Rattle.rayon_machine_places.specs.declared.state.Whereabouts.{Whereabouts}
 use Rattle.rayon_machine_places.specs.declared.state.Whereabouts.TheVariants.{HandedBack, Spent}
 use Rattle.rayon_machine_places.specs.declared.state.Job.{Job}
 use Rattle.rayon_machine_places.specs.declared.shape.PoolShape.{PoolShape}
 use Rattle.rayon_machine_places.specs.declared.place.Wait.{Wait}
 use Rattle.rayon_machine_places.specs.declared.place.Settling.{Settling}
-use Rattle.rayon_machine_places.specs.Places.{own_pool, own_index, plan_pool, plan_job, after_wait, finish, walk, settle, after_set, after_found, after_news, goes_on, after_raise, set_call, next_victim, not_self, after_failure, next_steal, next_yield, next_of, is_taken, settle_count, after_push}
+use Rattle.rayon_machine_places.specs.Places.{own_pool, own_index, plan_pool, plan_job, after_wait, finish, walk, settle, after_set, after_found, after_news, goes_on, after_raise, set_call, next_victim, not_self, after_failure, next_steal, next_yield, next_of, is_taken, settle_count, after_push, begin_feed, ends_count, begin_cast, end_cast, after_slot, withdraw, count_book, plan_book, taken_number}
 use Rattle.rayon_machine_places.specs.World.{Stack, at_job, begun}
 use Rattle.rayon_machine_places.specs.Steps.{put, after_move, jobs_after, after_close, is_piece, mark_pieces, marked}
 use Rattle.rayon_machine_laws.specs.Once.{one}
 use Rattle.rayon_machine_laws.specs.Shares.{share_of}
-use Rattle.rayon_machine_laws.proofs.Hands.{hand_plan, hand_rest, hand_then, hand, held_in, held}
+use Rattle.rayon_machine_laws.proofs.Hands.{hand_plan, hand_rest, hand_then, hand, held_in, held, is_gather}
 use Rattle.rayon_machine_laws.proofs.Amounts.{paid}
 
 -- a refused call's jobs, once its share is given back
@@ -61,6 +62,10 @@ bare t (RaiseCount n) = hand_plan t n
 bare t (RaiseForAll c) = one (is_piece c t)
 bare t (GrowCall n) = hand_plan t n - one (t == plan_job n)
 bare t (LookQueue n) = hand_plan t n - one (t == plan_job n)
+bare t (OpenSlot n) = hand_plan t n - one (t == plan_job n)
+bare t (CloseSlot n) = hand_plan t n - one (t == plan_job n)
+bare t (GrowCast g) = one (is_piece g.pieces t)
+bare t (DealPieces g) = one (is_piece g.pieces t)
 bare t (PushJob n e) = hand_plan t n - one (t == plan_job n)
 bare t (AddToFifo f) = one (t == f.token)
 bare t (LookForToken f) = one (t == f.token)
@@ -130,14 +135,29 @@ bare_held_in t (f ∷ fs) = let a : bare t f ≤ hand t f = bare_hand t f in let
 pub bare_held : (t : ℕ) (k : Stack) → all_bare t k ≤ held t k
 bare_held t k = let a : bare t k.top ≤ hand t k.top = bare_hand t k.top in let b : bare_in t k.below ≤ held_in t k.below = bare_held_in t k.below in omega (arith, a, b)
 
-pub bare_raised : (t : ℕ) (n : Plan) → bare_move t (after_raise n) + one (t == plan_job n) ≤ hand_plan t n
+-- the job that a call has in hand and takes a share for; the number that stands for a broadcast is in no hand
+abbrev pub raised_hand : ℕ → Plan → ℕ
+raised_hand t (Gather g) = 0
+raised_hand t n = one (t == plan_job n)
+
+pub raised_own : (t : ℕ) (n : Plan) → is_gather n ≡ false → raised_hand t n ≡ one (t == plan_job n)
+raised_own t (Gather g) e = cc
+raised_own t _ e = refl
+
+bare_fed : (t : ℕ) (f : Feeding) (k : Count) → bare t (begin_feed k f) ≤ one (t == f.token)
+bare_fed t f (OfPool p) = omega arith
+bare_fed t f (OfScope c o) = omega arith
+bare_fed t f (OfCast c o) = omega arith
+
+pub bare_raised : (t : ℕ) (n : Plan) → bare_move t (after_raise n) + raised_hand t n ≤ hand_plan t n
 bare_raised t (Detach r u) = omega arith
 bare_raised t (Here r u) = omega arith
 bare_raised t (Send o) = omega arith
 bare_raised t (Fork o a) = omega arith
-bare_raised t (Feed f) = omega arith
+bare_raised t (Feed f) = let a : bare t (begin_feed f.count f) ≤ one (t == f.token) = bare_fed t f f.count in omega (arith, a)
 bare_raised t (Open o) = omega arith
 bare_raised t (Enter e) = omega arith
+bare_raised t (Gather g) = omega arith
 
 bare_left : (t : ℕ) (g : Target) → bare_move t (Stay (after_wait g)) ≤ 0
 bare_left t Termination = omega arith
@@ -150,6 +170,8 @@ bare_finish t q Resume = omega arith
 bare_finish t q Called = omega arith
 bare_finish t (Worker a b) (Await o) = omega arith
 bare_finish t (Caller c) (Await o) = omega arith
+bare_finish t (Worker a b) (Gathers o) = omega arith
+bare_finish t (Caller c) (Gathers o) = omega arith
 bare_finish t q (RunFirst o a) = omega arith
 bare_finish t q (Answers o f e) = omega arith
 bare_finish t q (Missing o f) = omega arith
@@ -208,6 +230,7 @@ bare_goes t (Fork o a) = omega arith
 bare_goes t (Feed f) = omega arith
 bare_goes t (Open o) = omega arith
 bare_goes t (Enter e) = omega arith
+bare_goes t (Gather g) = omega arith
 
 bare_after : (t : ℕ) (g : Target) (o : Option Taken) → bare_then t (after_found g o) ≤ 0
 bare_after t g None = omega arith
@@ -220,15 +243,39 @@ bare_set t c (Caller m) n = omega arith
 bare_count : (t : ℕ) (g : PoolShape) (q : Party) (k : Count) (n : Then) → bare_move t (settle_count g q k n) ≤ bare_then t n
 bare_count t g q (OfPool r) n = bare_settle t g q r 0 n
 bare_count t g q (OfScope c o) n = bare_set t c o n
+bare_count t g q (OfCast c o) n = bare_set t c o n
+
+bare_drawn : (t : ℕ) (o : Option ℕ) (n : Plan) → bare t (withdraw o n) ≤ hand_plan t n - one (t == plan_job n)
+bare_drawn t None n = omega arith
+bare_drawn t (Some c) n = omega arith
 
 bare_unpushed : (t : ℕ) (n : Plan) → bare t (after_push n) ≤ hand_plan t n - one (t == plan_job n)
-bare_unpushed t (Detach r u) = omega arith
-bare_unpushed t (Here r u) = omega arith
-bare_unpushed t (Send o) = omega arith
-bare_unpushed t (Fork o a) = omega arith
-bare_unpushed t (Feed f) = omega arith
-bare_unpushed t (Open o) = omega arith
-bare_unpushed t (Enter e) = omega arith
+bare_unpushed t n = bare_drawn t (plan_book n) n
+
+bare_slot : (t : ℕ) (n : Plan) → bare t (after_slot n) ≤ hand_plan t n - one (t == plan_job n)
+bare_slot t (Feed f) = omega arith
+bare_slot t (Detach r u) = omega arith
+bare_slot t (Here r u) = omega arith
+bare_slot t (Send o) = omega arith
+bare_slot t (Fork o a) = omega arith
+bare_slot t (Open o) = omega arith
+bare_slot t (Enter e) = omega arith
+bare_slot t (Gather g) = omega arith
+
+bare_ends : (t : ℕ) (k : Count) → bare t (ends_count k) ≤ 0
+bare_ends t (OfPool p) = omega arith
+bare_ends t (OfScope c o) = bare_set t c o Resume
+bare_ends t (OfCast c o) = bare_set t c o Resume
+
+pub bare_begins : (t : ℕ) (b : Pieces) (k : Count) → bare t (begin_cast k b) ≤ 0
+bare_begins t b (OfPool p) = omega arith
+bare_begins t b (OfScope c o) = omega arith
+bare_begins t b (OfCast c o) = omega arith
+
+bare_undoes : (t : ℕ) (b : Pieces) (k : Count) → bare t (end_cast k b) ≤ 0
+bare_undoes t b (OfPool p) = omega arith
+bare_undoes t b (OfScope c o) = omega arith
+bare_undoes t b (OfCast c o) = omega arith
 
 -- over the whole table: no move leads to more of them, but for the share that is given back
 pub bares : (g : PoolShape) (q : Party) (t : ℕ) (x : Place) (e : Seen) → bare_move t (next_of g q x e) ≤ bare t x + paid t x
@@ -288,24 +335,30 @@ bares g q t (YieldSteal v n) (Task u) = omega arith
 bares g q t (YieldSteal v n) _ = let a : bare_move t (Stay (next_yield g q v n)) ≤ 0 = bare_yield t g q v n in omega (arith, a)
 bares g q t (BeginTask (Plain u)) (Begun d) = omega arith
 bares g q t (BeginTask (Plain u)) _ = omega arith
-bares g q t (BeginTask (Token k i)) (Handed u d) = omega arith
-bares g q t (BeginTask (Token k i)) _ = omega arith
+bares g q t (BeginTask (Token k i b8)) (Handed u d) = omega arith
+bares g q t (BeginTask (Token k i b8)) _ = omega arith
 bares g q t (AddToFifo f) Done = omega arith
-bares g q t (AddToFifo f) _ = omega arith
+bares g q t (AddToFifo f) _ = let a : bare t (withdraw (count_book f.count) (Feed f)) ≤ hand_plan t (Feed f) - one (t == f.job) = bare_drawn t (count_book f.count) (Feed f) in omega (arith, a)
 bares g q t (LookForToken f) Yes = omega arith
 bares g q t (LookForToken f) _ = omega arith
 bares g q t (PushToken f v) Done = omega arith
 bares g q t (PushToken f v) _ = omega arith
-bares g q t (TakeFromFifo f) (Task x) = omega arith
+bares g q t (TakeFromFifo f) (Task x) = let a : bare t (withdraw (count_book f.count) (Feed (record f { job = taken_number x }))) ≤ hand_plan t (Feed (record f { job = taken_number x })) - one (t == taken_number x) = bare_drawn t (count_book f.count) (Feed (record f { job = taken_number x })) in omega (arith, a)
 bares g q t (TakeFromFifo f) _ = omega arith
-bares g q t (RaiseCount n) Done = let a : bare_move t (after_raise n) + one (t == plan_job n) ≤ hand_plan t n = bare_raised t n in omega (arith, a)
+bares g q t (RaiseCount n) Done = let a : bare_move t (after_raise n) + raised_hand t n ≤ hand_plan t n = bare_raised t n in omega (arith, a)
 bares g q t (RaiseCount n) _ = omega arith
-bares g q t (RaiseForAll c) Done = omega arith
-bares g q t (RaiseForAll c) _ = omega arith
-bares g q t (PushForAll c) Done = omega arith
-bares g q t (PushForAll c) _ = omega arith
-bares g q t (LowerForAll c) Yes = omega arith
-bares g q t (LowerForAll c) _ = omega arith
+bares g q t (RaiseForAll b) Done = let a : bare t (begin_cast b.count b) ≤ 0 = bare_begins t b b.count in omega (arith, a)
+bares g q t (RaiseForAll b) _ = omega arith
+bares g q t (PushForAll b) Done = omega arith
+bares g q t (PushForAll b) _ = let a : bare t (end_cast b.count b) ≤ 0 = bare_undoes t b b.count in omega (arith, a)
+bares g q t (OpenForAll b) (Opened n) = omega arith
+bares g q t (OpenForAll b) _ = omega arith
+bares g q t (GrowCast d) Done = omega arith
+bares g q t (GrowCast d) _ = omega arith
+bares g q t (DealPieces d) Done = omega arith
+bares g q t (DealPieces d) _ = omega arith
+bares g q t (LowerForAll b) Yes = let a : bare t (ends_count b.count) ≤ 0 = bare_ends t b.count in omega (arith, a)
+bares g q t (LowerForAll b) _ = omega arith
 bares g q t (GrowCall n) Done = omega arith
 bares g q t (GrowCall n) _ = omega arith
 bares g q t (LookQueue n) Yes = omega arith
@@ -329,7 +382,7 @@ bares g q t (UnlockSettled k) e = let a : bare_move t (after_set g q k k.latch) 
 bares g q t (SetLockLatch c n) e = let a : bare_move t (finish q n) ≤ bare_then t n = bare_finish t q n in omega (arith, a)
 bares g q t (GrowScope o) Done = omega arith
 bares g q t (GrowScope o) _ = omega arith
-bares g q t (OpenSlot x) Done = omega arith
+bares g q t (OpenSlot x) Done = let a : bare t (after_slot x) ≤ hand_plan t x - one (t == plan_job x) = bare_slot t x in omega (arith, a)
 bares g q t (OpenSlot x) _ = omega arith
 bares g q t _ e = omega arith
 
@@ -373,6 +426,9 @@ pieces_back c k J t n d = by (is_piece c t) refl
     each : (k : Marking) → (k ≡ Returned → 1 ≤ n) → backs (marked k c.pool (t - c.first) (J t)).at ≤ n + backs (J t).at
     each Counted d = omega arith
     each Queued d = omega arith
+    each (Numbered m) d = omega arith
+    each Dealt d = omega arith
+    each Unnumbered d = omega arith
     each Returned d = let a : 1 ≤ n = d refl in omega (arith, a)
 
     by : (b : Bool) → is_piece c t ≡ b → backs (if b then marked k c.pool (t - c.first) (J t) else J t).at ≤ n + backs (J t).at
@@ -391,6 +447,9 @@ land_bare q t (StartRun f a) fs J = by (t == a)
     by false = omega arith
 land_bare q t (Mark y c Counted) fs J = let a : backs (mark_pieces c Counted J t).at ≤ 0 + backs (J t).at = pieces_back c Counted J t 0 (λ e. absurd (cc)) in omega (arith, a)
 land_bare q t (Mark y c Queued) fs J = let a : backs (mark_pieces c Queued J t).at ≤ 0 + backs (J t).at = pieces_back c Queued J t 0 (λ e. absurd (cc)) in omega (arith, a)
+land_bare q t (Mark y c (Numbered m)) fs J = let a : backs (mark_pieces c (Numbered m) J t).at ≤ 0 + backs (J t).at = pieces_back c (Numbered m) J t 0 (λ e. absurd (cc)) in omega (arith, a)
+land_bare q t (Mark y c Dealt) fs J = let a : backs (mark_pieces c Dealt J t).at ≤ 0 + backs (J t).at = pieces_back c Dealt J t 0 (λ e. absurd (cc)) in omega (arith, a)
+land_bare q t (Mark y c Unnumbered) fs J = let a : backs (mark_pieces c Unnumbered J t).at ≤ 0 + backs (J t).at = pieces_back c Unnumbered J t 0 (λ e. absurd (cc)) in omega (arith, a)
 land_bare q t (Mark y c Returned) fs J = let a : backs (mark_pieces c Returned J t).at ≤ one (is_piece c t) + backs (J t).at = pieces_back c Returned J t (one (is_piece c t)) (λ e. omega arith) in omega (arith, a)
 land_bare q t (HandAllBack c) [] J = let a : backs (mark_pieces c Returned J t).at ≤ one (is_piece c t) + backs (J t).at = pieces_back c Returned J t (one (is_piece c t)) (λ e. omega arith) in omega (arith, a)
 land_bare q t (HandAllBack c) (f ∷ fs) J = let a : backs (mark_pieces c Returned J t).at ≤ one (is_piece c t) + backs (J t).at = pieces_back c Returned J t (one (is_piece c t)) (λ e. omega arith) in omega (arith, a)
@@ -408,6 +467,7 @@ land_bare q t (HandBack n) fs J = let a : backs (jobs_after q (HandBack n) J t).
     plan (Send o) = put_back J (o.job) t
     plan (Open o) = put_back J (o.job) t
     plan (Enter e) = put_back J (e.job) t
+    plan (Gather g) = pieces_back (g.pieces) Returned J t (one (is_piece g.pieces t)) (λ e. omega arith)
     plan (Feed d) = let b : backs (put J (d.job) (at_job (J (d.job)) HandedBack) t).at ≤ one (t == d.job) + backs (J t).at = put_back J (d.job) t in by (t == d.token) b
       where
         by : (z : Bool) → backs (put J (d.job) (at_job (J (d.job)) HandedBack) t).at ≤ one (t == d.job) + backs (J t).at → backs (if z then at_job (J (d.token)) HandedBack else put J (d.job) (at_job (J (d.job)) HandedBack) t).at ≤ one (t == d.job) + one z + backs (J t).at
@@ -434,9 +494,12 @@ pub closed_bare : (s t : ℕ) (k : JobKind) (e : Ending) (fs : List Place) → a
 closed_bare s t (Detached p) e fs = omega arith
 closed_bare s t (Stored c o) e fs = omega arith
 closed_bare s t (Scoped c o) e fs = omega arith
+closed_bare s t (PieceOf c o) e fs = omega arith
 closed_bare s t Direct e [] = omega arith
-closed_bare s t (TokenOf i9) e [] = omega arith
+closed_bare s t (TokenOf i9 b8) e [] = omega arith
 closed_bare s t (BodyOf c9 o9) e [] = omega arith
+closed_bare s t (WholeOf c9 o9) e [] = omega arith
 closed_bare s t Direct e (f ∷ fs) = let a : bare s (goes_on f e) ≤ bare s f = bare_on s f e in omega (arith, a)
-closed_bare s t (TokenOf i9) e (f ∷ fs) = let a : bare s (goes_on f e) ≤ bare s f = bare_on s f e in omega (arith, a)
+closed_bare s t (TokenOf i9 b8) e (f ∷ fs) = let a : bare s (goes_on f e) ≤ bare s f = bare_on s f e in omega (arith, a)
 closed_bare s t (BodyOf c9 o9) e (f ∷ fs) = let a : bare s (goes_on f e) ≤ bare s f = bare_on s f e in omega (arith, a)
+closed_bare s t (WholeOf c9 o9) e (f ∷ fs) = let a : bare s (goes_on f e) ≤ bare s f = bare_on s f e in omega (arith, a)

@@ -1,15 +1,17 @@
 -- how often a stack keeps the share that a scope's body has of the scope's count: from the scope's event to its Lower
+use Rattle.rayon_machine_places.specs.declared.place.Pieces.{Pieces}
+use Rattle.rayon_machine_places.specs.declared.place.Feeding.{Feeding}
 use Rattle.rayon_machine_places.specs.declared.place.Share.TheVariants.{Body, PoolValue, OfJob}
-use Rattle.rayon_machine_places.specs.declared.place.Count.TheVariants.{OfPool, OfScope}
+use Rattle.rayon_machine_places.specs.declared.place.Count.TheVariants.{OfPool, OfScope, OfCast}
 use Rattle.rayon_machine_places.specs.declared.place.Count.{Count}
 use Rattle.std.proofs.Common.{arith}
-use Rattle.std.specs.Prelude.{ℕ, Bool, true, false, ◌&&◌, ◌+◌, ◌-◌, ◌==◌, ◌≤◌, nat_lt, if◌then◌else◌, List, [], ◌∷◌}
+use Rattle.std.specs.Prelude.{ℕ, Bool, true, false, ◌&&◌, ◌+◌, ◌-◌, ◌==◌, ◌≤◌, nat_lt, if◌then◌else◌, List, [], ◌∷◌, Option, Some, None}
 use Rattle.rayon_machine_places.specs.declared.place.Party.{Party}
 use Rattle.rayon_machine_places.specs.declared.place.Party.TheVariants.{Worker, Caller}
 use Rattle.rayon_machine_places.specs.declared.place.Ending.{Ending}
 use Rattle.rayon_machine_places.specs.declared.place.Ending.TheVariants.{Fine, Fault}
 use Rattle.rayon_machine_places.specs.declared.place.JobKind.{JobKind}
-use Rattle.rayon_machine_places.specs.declared.place.JobKind.TheVariants.{Detached, Stored, Direct, TokenOf, Scoped, BodyOf}
+use Rattle.rayon_machine_places.specs.declared.place.JobKind.TheVariants.{Detached, Stored, Direct, TokenOf, Scoped, BodyOf, PieceOf, WholeOf}
 use Rattle.rayon_machine_places.specs.declared.place.Target.{Target}
 use Rattle.rayon_machine_places.specs.declared.place.Target.TheVariants.{Termination, Answer}
 use Rattle.rayon_machine_places.specs.declared.place.Latch.{Latch}
@@ -17,20 +19,20 @@ use Rattle.rayon_machine_places.specs.declared.place.Latch.TheVariants.{Terminat
 use Rattle.rayon_machine_places.specs.declared.place.Rounds.{Rounds}
 use Rattle.rayon_machine_places.specs.declared.place.Rounds.TheVariants.{Failed, Announced}
 use Rattle.rayon_machine_places.specs.declared.place.Plan.{Plan}
-use Rattle.rayon_machine_places.specs.declared.place.Plan.TheVariants.{Detach, Here, Send, Fork, Feed, Open, Enter}
+use Rattle.rayon_machine_places.specs.declared.place.Plan.TheVariants.{Detach, Here, Send, Fork, Feed, Open, Enter, Gather}
 use Rattle.rayon_machine_places.specs.declared.place.Then.{Then}
-use Rattle.rayon_machine_places.specs.declared.place.Then.TheVariants.{BeginFound, LeaveWait, Resume, Await, RunFirst, Answers, Missing, Ran, GiveBack, Called}
+use Rattle.rayon_machine_places.specs.declared.place.Then.TheVariants.{BeginFound, LeaveWait, Resume, Await, RunFirst, Answers, Missing, Ran, GiveBack, Called, Gathers}
 use Rattle.rayon_machine_places.specs.declared.place.Taken.TheVariants.{Plain, Token}
 use Rattle.rayon_machine_places.specs.declared.place.Place.{Place}
-use Rattle.rayon_machine_places.specs.declared.place.Place.TheVariants.{ProbeWorking, PopWorking, TakeCastWorking, ProbeIdle, PopIdle, TakeCastIdle, PickVictim, StealFrom, PopInjected, AnnounceSelf, GetSleepy, FallAsleep, LoadCounters, AddSleeping, LookAtCast, LookAtInjector, WakeUp, LeaveSearch, JoinProbe, JoinPop, JoinTakeCast, YieldPop, YieldTakeCast, YieldPick, YieldSteal, YieldPopInjected, LocalPop, LocalTakeCast, BeginTask, BeginHere, RaiseCount, GrowCall, LookQueue, PushJob, TellNews, LockToWake, WakeWorker, UnlockWoken, TakeResult, LowerCount, StoreResult, SetLatch, UnlockSettled, FirstSide, SecondSide, AtOnce, AddToFifo, LookForToken, PushToken, TakeFromFifo, RaiseForAll, PushForAll, LowerForAll, GrowScope, OpenSlot, SetLockLatch, ScopeBody, StoreBody}
+use Rattle.rayon_machine_places.specs.declared.place.Place.TheVariants.{ProbeWorking, PopWorking, TakeCastWorking, ProbeIdle, PopIdle, TakeCastIdle, PickVictim, StealFrom, PopInjected, AnnounceSelf, GetSleepy, FallAsleep, LoadCounters, AddSleeping, LookAtCast, LookAtInjector, WakeUp, LeaveSearch, JoinProbe, JoinPop, JoinTakeCast, YieldPop, YieldTakeCast, YieldPick, YieldSteal, YieldPopInjected, LocalPop, LocalTakeCast, BeginTask, BeginHere, RaiseCount, GrowCall, LookQueue, PushJob, TellNews, LockToWake, WakeWorker, UnlockWoken, TakeResult, LowerCount, StoreResult, SetLatch, UnlockSettled, FirstSide, SecondSide, AtOnce, AddToFifo, LookForToken, PushToken, TakeFromFifo, RaiseForAll, PushForAll, LowerForAll, GrowScope, OpenSlot, SetLockLatch, ScopeBody, StoreBody, OpenForAll, GrowCast, DealPieces}
 use Rattle.rayon_machine_places.specs.declared.place.Move.{Move}
 use Rattle.rayon_machine_places.specs.declared.place.Move.TheVariants.{Stay, Enter, StartRun, Back, HandBack, Discard, HandIn, Mark, HandAllBack}
 use Rattle.rayon_machine_places.specs.declared.act.Seen.{Seen}
-use Rattle.rayon_machine_places.specs.declared.act.Seen.TheVariants.{Done, Yes, Task, Jec, Word, Start, Wakes, Begun, Found, Handed}
+use Rattle.rayon_machine_places.specs.declared.act.Seen.TheVariants.{Done, Yes, Task, Jec, Word, Start, Wakes, Begun, Found, Handed, Opened}
 use Rattle.rayon_machine_places.specs.declared.shape.PoolShape.{PoolShape}
 use Rattle.rayon_machine_places.specs.declared.place.Wait.{Wait}
 use Rattle.rayon_machine_places.specs.declared.place.Settling.{Settling}
-use Rattle.rayon_machine_places.specs.Places.{own_pool, own_index, plan_pool, after_wait, finish, walk, settle, after_set, after_found, after_news, goes_on, after_raise, set_call, next_victim, not_self, after_failure, next_steal, next_yield, next_of, is_taken, settle_count, after_push}
+use Rattle.rayon_machine_places.specs.Places.{own_pool, own_index, plan_pool, after_wait, finish, walk, settle, after_set, after_found, after_news, goes_on, after_raise, set_call, next_victim, not_self, after_failure, next_steal, next_yield, next_of, is_taken, settle_count, after_push, begin_feed, ends_count, begin_cast, end_cast, after_slot, withdraw, count_book, plan_book, taken_number}
 use Rattle.rayon_machine_places.specs.World.{Stack}
 use Rattle.rayon_machine_places.specs.Steps.{after_move, after_close}
 use Rattle.rayon_machine_laws.specs.Once.{one}
@@ -39,6 +41,7 @@ use Rattle.rayon_machine_laws.specs.Once.{one}
 abbrev pub in_scope : ℕ → Count → ℕ
 in_scope c (OfPool p) = 0
 in_scope c (OfScope d o) = one (c == d)
+in_scope c (OfCast d o) = one (c == d)
 
 abbrev pub plan_body : ℕ → Plan → ℕ
 plan_body c (Open o) = one (c == o.number)
@@ -87,6 +90,8 @@ body_finish t q Resume = omega arith
 body_finish t q Called = omega arith
 body_finish t (Worker a b) (Await o) = omega arith
 body_finish t (Caller c) (Await o) = omega arith
+body_finish t (Worker a b) (Gathers o) = omega arith
+body_finish t (Caller c) (Gathers o) = omega arith
 body_finish t q (RunFirst o a) = omega arith
 body_finish t q (Answers o f e) = omega arith
 body_finish t q (Missing o f) = omega arith
@@ -144,24 +149,54 @@ body_set t c (Caller m) n = omega arith
 body_count : (t : ℕ) (g : PoolShape) (q : Party) (k : Count) (n : Then) → body_move t (settle_count g q k n) ≤ 0
 body_count t g q (OfPool r) n = body_settle t g q r 0 n
 body_count t g q (OfScope c o) n = body_set t c o n
+body_count t g q (OfCast c o) n = body_set t c o n
+
+body_fed : (t : ℕ) (f : Feeding) (k : Count) → body t (begin_feed k f) ≤ 0
+body_fed t f (OfPool p) = omega arith
+body_fed t f (OfScope c o) = omega arith
+body_fed t f (OfCast c o) = omega arith
+
+body_ends : (t : ℕ) (k : Count) → body t (ends_count k) ≤ 0
+body_ends t (OfPool p) = omega arith
+body_ends t (OfScope c o) = body_set t c o Resume
+body_ends t (OfCast c o) = body_set t c o Resume
+
+body_begins : (t : ℕ) (b : Pieces) (k : Count) → body t (begin_cast k b) ≤ 0
+body_begins t b (OfPool p) = omega arith
+body_begins t b (OfScope c o) = omega arith
+body_begins t b (OfCast c o) = omega arith
+
+body_undoes : (t : ℕ) (b : Pieces) (k : Count) → body t (end_cast k b) ≤ 0
+body_undoes t b (OfPool p) = omega arith
+body_undoes t b (OfScope c o) = omega arith
+body_undoes t b (OfCast c o) = omega arith
+
+body_slot : (t : ℕ) (n : Plan) → body t (after_slot n) ≤ 0
+body_slot t (Feed f) = omega arith
+body_slot t (Detach r u) = omega arith
+body_slot t (Here r u) = omega arith
+body_slot t (Send o) = omega arith
+body_slot t (Fork o a) = omega arith
+body_slot t (Open o) = omega arith
+body_slot t (Enter e) = omega arith
+body_slot t (Gather g) = omega arith
+
+body_drawn : (t : ℕ) (o : Option ℕ) (n : Plan) → body t (withdraw o n) ≤ 0
+body_drawn t None n = omega arith
+body_drawn t (Some c) n = omega arith
 
 body_raised : (t : ℕ) (n : Plan) → body_move t (after_raise n) + 0 ≤ plan_body t n
 body_raised t (Detach r u) = omega arith
 body_raised t (Here r u) = omega arith
 body_raised t (Send o) = omega arith
 body_raised t (Fork o a) = omega arith
-body_raised t (Feed f) = omega arith
+body_raised t (Feed f) = let a : body t (begin_feed f.count f) ≤ 0 = body_fed t f f.count in omega (arith, a)
+body_raised t (Gather g) = omega arith
 body_raised t (Open o) = omega arith
 body_raised t (Enter x) = omega arith
 
 body_unpushed : (t : ℕ) (n : Plan) → body t (after_push n) + 0 ≤ 0
-body_unpushed t (Detach r u) = omega arith
-body_unpushed t (Here r u) = omega arith
-body_unpushed t (Send o) = omega arith
-body_unpushed t (Fork o a) = omega arith
-body_unpushed t (Feed f) = omega arith
-body_unpushed t (Open o) = omega arith
-body_unpushed t (Enter x) = omega arith
+body_unpushed t n = let a : body t (withdraw (plan_book n) n) ≤ 0 = body_drawn t (plan_book n) n in omega (arith, a)
 
 -- over the whole table: no move leads to more of them, and the act that gives the share back leads to one less
 pub bodies : (g : PoolShape) (q : Party) (t : ℕ) (x : Place) (e : Seen) → body_move t (next_of g q x e) + spent t x ≤ body t x
@@ -221,21 +256,27 @@ bodies g q t (YieldSteal v n) (Task u) = omega arith
 bodies g q t (YieldSteal v n) _ = let a : body_move t (Stay (next_yield g q v n)) ≤ 0 = body_yield t g q v n in omega (arith, a)
 bodies g q t (BeginTask (Plain u)) (Begun d) = omega arith
 bodies g q t (BeginTask (Plain u)) _ = omega arith
-bodies g q t (BeginTask (Token k i)) (Handed u d) = omega arith
-bodies g q t (BeginTask (Token k i)) _ = omega arith
+bodies g q t (BeginTask (Token k i b8)) (Handed u d) = omega arith
+bodies g q t (BeginTask (Token k i b8)) _ = omega arith
 bodies g q t (AddToFifo f) Done = omega arith
-bodies g q t (AddToFifo f) _ = omega arith
+bodies g q t (AddToFifo f) _ = let a : body t (withdraw (count_book f.count) (Feed f)) ≤ 0 = body_drawn t (count_book f.count) (Feed f) in omega (arith, a)
 bodies g q t (LookForToken f) Yes = omega arith
 bodies g q t (LookForToken f) _ = omega arith
 bodies g q t (PushToken f v) Done = omega arith
 bodies g q t (PushToken f v) _ = omega arith
-bodies g q t (TakeFromFifo f) (Task x) = omega arith
+bodies g q t (TakeFromFifo f) (Task x) = let a : body t (withdraw (count_book f.count) (Feed (record f { job = taken_number x }))) ≤ 0 = body_drawn t (count_book f.count) (Feed (record f { job = taken_number x })) in omega (arith, a)
 bodies g q t (TakeFromFifo f) _ = omega arith
-bodies g q t (RaiseForAll b) Done = omega arith
+bodies g q t (RaiseForAll b) Done = let a : body t (begin_cast b.count b) ≤ 0 = body_begins t b b.count in omega (arith, a)
 bodies g q t (RaiseForAll b) _ = omega arith
 bodies g q t (PushForAll b) Done = omega arith
-bodies g q t (PushForAll b) _ = omega arith
-bodies g q t (LowerForAll b) Yes = omega arith
+bodies g q t (PushForAll b) _ = let a : body t (end_cast b.count b) ≤ 0 = body_undoes t b b.count in omega (arith, a)
+bodies g q t (OpenForAll b) (Opened n) = omega arith
+bodies g q t (OpenForAll b) _ = omega arith
+bodies g q t (GrowCast d) Done = omega arith
+bodies g q t (GrowCast d) _ = omega arith
+bodies g q t (DealPieces d) Done = omega arith
+bodies g q t (DealPieces d) _ = omega arith
+bodies g q t (LowerForAll b) Yes = let a : body t (ends_count b.count) ≤ 0 = body_ends t b.count in omega (arith, a)
 bodies g q t (LowerForAll b) _ = omega arith
 bodies g q t (RaiseCount n) Done = body_raised t n
 bodies g q t (RaiseCount n) _ = omega arith
@@ -265,7 +306,7 @@ bodies g q t (UnlockSettled k) e = let a : body_move t (after_set g q k k.latch)
 bodies g q t (SetLockLatch c n) e = let a : body_move t (finish q n) ≤ 0 = body_finish t q n in omega (arith, a)
 bodies g q t (GrowScope o) Done = omega arith
 bodies g q t (GrowScope o) _ = omega arith
-bodies g q t (OpenSlot x) Done = omega arith
+bodies g q t (OpenSlot x) Done = let a : body t (after_slot x) ≤ 0 = body_slot t x in omega (arith, a)
 bodies g q t (OpenSlot x) _ = omega arith
 bodies g q t _ e = omega arith
 
@@ -297,9 +338,12 @@ pub closed_body : (s t : ℕ) (k : JobKind) (e : Ending) (fs : List Place) → a
 closed_body s t (Detached p) e fs = omega arith
 closed_body s t (Stored c o) e fs = omega arith
 closed_body s t (Scoped c o) e fs = omega arith
+closed_body s t (PieceOf c o) e fs = omega arith
 closed_body s t Direct e [] = omega arith
-closed_body s t (TokenOf i9) e [] = omega arith
+closed_body s t (TokenOf i9 b8) e [] = omega arith
 closed_body s t (BodyOf c9 o9) e [] = omega arith
+closed_body s t (WholeOf c9 o9) e [] = omega arith
 closed_body s t Direct e (f ∷ fs) = let a : body s (goes_on f e) ≤ body s f = body_on s f e in omega (arith, a)
-closed_body s t (TokenOf i9) e (f ∷ fs) = let a : body s (goes_on f e) ≤ body s f = body_on s f e in omega (arith, a)
+closed_body s t (TokenOf i9 b8) e (f ∷ fs) = let a : body s (goes_on f e) ≤ body s f = body_on s f e in omega (arith, a)
 closed_body s t (BodyOf c9 o9) e (f ∷ fs) = let a : body s (goes_on f e) ≤ body s f = body_on s f e in omega (arith, a)
+closed_body s t (WholeOf c9 o9) e (f ∷ fs) = let a : body s (goes_on f e) ≤ body s f = body_on s f e in omega (arith, a)

@@ -1,4 +1,8 @@
 -- each piece of a broadcast stands for its own worker alone, and no other worker takes or runs it
+use Rattle.rayon_machine_places.specs.declared.state.Scope.{Scope}
+use Rattle.rayon_machine_places.specs.declared.place.Gathering.{Gathering}
+use Rattle.rayon_machine_places.specs.declared.place.Count.TheVariants.{OfPool, OfScope, OfCast}
+use Rattle.rayon_machine_places.specs.declared.place.Count.{Count}
 use Rattle.std.proofs.Common.{arith, refl, sym, ◌∙◌, ap, subst, inl, inr}
 use Rattle.std.specs.Prelude.{ℕ, Bool, true, false, ◌&&◌, ◌+◌, ◌-◌, ◌==◌, nat_lt, if◌then◌else◌, Option, Some, None, List, [], ◌∷◌, ◌≡◌, IfSome, ⊤, ◌⊎◌}
 use Rattle.std.proofs.lemmas.Bool.{eqb-true, eq-eqb}
@@ -8,29 +12,29 @@ use Rattle.rayon_machine_places.specs.declared.place.Party.TheVariants.{Worker, 
 use Rattle.rayon_machine_places.specs.declared.place.Pieces.{Pieces}
 use Rattle.rayon_machine_places.specs.declared.place.Ending.{Ending}
 use Rattle.rayon_machine_places.specs.declared.place.JobKind.TheVariants.{Detached, Stored, Direct, Scoped, TokenOf, BodyOf}
-use Rattle.rayon_machine_places.specs.declared.place.Mark.TheVariants.{Counted, Queued, Returned}
+use Rattle.rayon_machine_places.specs.declared.place.Mark.TheVariants.{Counted, Queued, Returned, Numbered, Dealt, Unnumbered}
 use Rattle.rayon_machine_places.specs.declared.place.Mark.{Mark as Marking}
 use Rattle.rayon_machine_places.specs.declared.place.Plan.{Plan}
-use Rattle.rayon_machine_places.specs.declared.place.Plan.TheVariants.{Detach, Here, Send, Fork, Feed, Open, Enter}
+use Rattle.rayon_machine_places.specs.declared.place.Plan.TheVariants.{Detach, Here, Send, Fork, Feed, Open, Enter, Gather}
 use Rattle.rayon_machine_places.specs.declared.place.Taken.TheVariants.{Plain, Token}
 use Rattle.rayon_machine_places.specs.declared.place.Place.{Place}
-use Rattle.rayon_machine_places.specs.declared.place.Place.TheVariants.{PopWorking, TakeCastWorking, PopIdle, TakeCastIdle, StealFrom, PopInjected, JoinPop, JoinTakeCast, YieldPop, YieldTakeCast, YieldSteal, YieldPopInjected, LocalPop, LocalTakeCast, BeginTask, BeginHere, PushJob, PushToken, AddToFifo, TakeFromFifo, PushForAll, PickVictim, YieldPick, Run}
+use Rattle.rayon_machine_places.specs.declared.place.Place.TheVariants.{PopWorking, TakeCastWorking, PopIdle, TakeCastIdle, StealFrom, PopInjected, JoinPop, JoinTakeCast, YieldPop, YieldTakeCast, YieldSteal, YieldPopInjected, LocalPop, LocalTakeCast, BeginTask, BeginHere, PushJob, PushToken, AddToFifo, TakeFromFifo, PushForAll, PickVictim, YieldPick, Run, DealPieces}
 use Rattle.rayon_machine_places.specs.declared.place.Move.{Move}
 use Rattle.rayon_machine_places.specs.declared.place.Move.TheVariants.{Stay, Enter, StartRun, Back, HandBack, Discard, HandIn, Mark, HandAllBack}
 use Rattle.rayon_machine_places.specs.declared.act.Act.TheVariants.{PushInj, PushOwn}
 use Rattle.rayon_machine_places.specs.declared.act.Seen.{Seen}
 use Rattle.rayon_machine_places.specs.declared.act.Seen.TheVariants.{Done, Missing}
 use Rattle.rayon_machine_places.specs.declared.event.Event.{Event}
-use Rattle.rayon_machine_places.specs.declared.event.Event.TheVariants.{Go, From, Refuse, Miss, End, Spawn, Fifo, Cast, Install, Join, Scope as OpenScope, IntoSpawn, Yield, YieldLocal, EndPool}
+use Rattle.rayon_machine_places.specs.declared.event.Event.TheVariants.{Go, From, Refuse, Miss, End, Spawn, Fifo, Cast, Install, Join, Scope as OpenScope, IntoSpawn, Yield, YieldLocal, EndPool, IntoFifo, IntoCast, Broadcast}
 use Rattle.rayon_machine_places.specs.declared.state.Whereabouts.{Whereabouts}
 use Rattle.rayon_machine_places.specs.declared.state.Whereabouts.TheVariants.{Made, InDeque, Injected, InFifo, InCast, Retaken, Running, Over, HandedBack, Spent}
 use Rattle.rayon_machine_places.specs.declared.state.Job.{Job}
-use Rattle.rayon_machine_places.specs.Places.{same_party, is_member, is_free, is_refusable, plan_book, plan_job, plan_pool, act_of, next_of, own_pool, own_index}
+use Rattle.rayon_machine_places.specs.Places.{same_party, is_member, is_free, is_refusable, plan_book, plan_job, plan_pool, act_of, next_of, own_pool, own_index, count_book, count_kind}
 use Rattle.rayon_machine_places.specs.World.{Shape, Stack, World, Part, Counts, counts_at, effect, target_pool, target_worker, target_call, at_job, begun, popped, take_cast, pop_injector, own_of, own_left, head_of, last_of, but_first, but_last, or_none, is_open}
-use Rattle.rayon_machine_places.specs.Steps.{put, part_of, jobs_after, is_piece, mark_pieces, marked, put_pieces, new_piece, new_job, after_choice, after_miss, after_end, after_spawn, after_cast, after_send, after_install, after_join, after_scope, after_into, after_yield, can_miss, holds, is_pool, step}
+use Rattle.rayon_machine_places.specs.Steps.{put, part_of, jobs_after, is_piece, mark_pieces, marked, put_pieces, new_piece, new_job, after_choice, after_miss, after_end, after_spawn, after_cast, after_send, after_install, after_join, after_scope, after_into, after_yield, can_miss, holds, is_pool, step, after_deal, after_feed, after_broadcast, after_into_fifo, after_into_cast, after_enter, new_whole}
 use Rattle.rayon_machine_places.specs.Runs.{IsRun, start}
 use Rattle.rayon_machine_laws.specs.Once.{IsOnce, IsBound, is_own_place, in_deque, in_injector, in_fifo, in_cast, is_with, one, times, held, held_in}
-use Rattle.rayon_machine_laws.proofs.Frame.{and_parts, fifo_cases, into_cases, if_cond, if_some_and, if_some_map, acted_keeps, out_sees, undo_sees, put_same, same_index, same_party_true, after_kind, after_bound}
+use Rattle.rayon_machine_laws.proofs.Frame.{and_parts, fifo_cases, into_cases, if_cond, if_some_and, if_some_map, acted_keeps, out_sees, undo_sees, put_same, same_index, same_party_true, after_kind, after_bound, into_fifo_cases, into_cast_cases}
 use Rattle.rayon_machine_laws.proofs.Ties.{job_at, outcome, result}
 use Rattle.rayon_machine_laws.proofs.Events.{run_keeps}
 use Rattle.rayon_machine_laws.proofs.Lists.{SameJobs, moves_no_job, quiet_same, times_first, times_own, times_drop}
@@ -38,7 +42,7 @@ use Rattle.rayon_machine_laws.proofs.Located.{is_left}
 use Rattle.rayon_machine_laws.proofs.Placed.{outcome_of}
 use Rattle.rayon_machine_laws.proofs.PlacedEvents.{is_dealing, no_deals}
 use Rattle.rayon_machine_laws.proofs.PlacedRuns.{once}
-use Rattle.rayon_machine_laws.proofs.Claims.{call_undetached, Says, SaysPlan, SaysPieces, queue_plan, is_detached}
+use Rattle.rayon_machine_laws.proofs.Claims.{call_undetached, Says, SaysPlan, SaysPieces, queue_plan, is_detached, counts_detached}
 use Rattle.rayon_machine_laws.proofs.Later.{Static, act_static}
 use Rattle.rayon_machine_laws.proofs.ClaimRuns.{world_after, place_part}
 use Rattle.rayon_machine_laws.proofs.Stocked.{one_set}
@@ -82,9 +86,9 @@ inj_shut : (r : ℕ) (v : Whereabouts) → in_injector r v ≡ true → Shut v
 inj_shut r (Injected a) e p i = refl
 inj_shut r _ e p i = absurd (cc)
 
-fifo_shut : (r j : ℕ) (v : Whereabouts) → in_fifo r j v ≡ true → Shut v
-fifo_shut r j (InFifo a b) e p i = refl
-fifo_shut r j _ e p i = absurd (cc)
+fifo_shut : (r j : ℕ) (b : Option ℕ) (v : Whereabouts) → in_fifo r j b v ≡ true → Shut v
+fifo_shut r j b (InFifo a k d) e p i = refl
+fifo_shut r j b _ e p i = absurd (cc)
 
 cast_own : (r j p i : ℕ) (v : Whereabouts) → in_cast r j v ≡ true → is_own_place p i v ≡ true → is_own_place p i (Running (Worker r j)) ≡ true
 cast_own r j p i (InCast a b) e y = let k : (r ≡ a) × (j ≡ b) = same_index r j a b e in ap (λ n. (p == n) && (i == j)) (k.0) ∙ ap (λ n. (p == a) && (i == n)) (k.1) ∙ y
@@ -103,13 +107,13 @@ inj_in : (w : World) → IsOnce w → (a t : ℕ) → head_of (w.pool a).injecto
 inj_in w h a t e = subst (λ o. Shut (w.job (or_none o)).at) (sym e) (inj_shut a (w.job t).at (one_set (in_injector a (w.job t).at)
     (let d : times t (w.pool a).injector ≡ one (in_injector a (w.job t).at) = h.injector a t in let k : times t (w.pool a).injector ≡ (one (t == t) + times t (but_first (w.pool a).injector)) = times_first ((w.pool a).injector) t t e in let c : one (t == t) ≡ 1 = ap one (eq-eqb t t refl) in omega (arith, d, k, c))))
 
-first_in : (w : World) → IsOnce w → (a i t : ℕ) → head_of (w.seat a i).fifo ≡ Some t → Shut (w.job (or_none (head_of (w.seat a i).fifo))).at
-first_in w h a i t e = subst (λ o. Shut (w.job (or_none o)).at) (sym e) (fifo_shut a i (w.job t).at (one_set (in_fifo a i (w.job t).at)
-    (let d : times t (w.seat a i).fifo ≡ one (in_fifo a i (w.job t).at) = h.fifo a i t in let k : times t (w.seat a i).fifo ≡ (one (t == t) + times t (but_first (w.seat a i).fifo)) = times_first ((w.seat a i).fifo) t t e in let c : one (t == t) ≡ 1 = ap one (eq-eqb t t refl) in omega (arith, d, k, c))))
+first_in : (w : World) → IsOnce w → (a i : ℕ) (b : Option ℕ) (t : ℕ) → head_of ((w.seat a i).fifo b) ≡ Some t → Shut (w.job (or_none (head_of ((w.seat a i).fifo b)))).at
+first_in w h a i b t e = subst (λ o. Shut (w.job (or_none o)).at) (sym e) (fifo_shut a i b (w.job t).at (one_set (in_fifo a i b (w.job t).at)
+    (let d : times t ((w.seat a i).fifo b) ≡ one (in_fifo a i b (w.job t).at) = h.fifo a i b t in let k : times t ((w.seat a i).fifo b) ≡ (one (t == t) + times t (but_first ((w.seat a i).fifo b))) = times_first ((w.seat a i).fifo b) t t e in let c : one (t == t) ≡ 1 = ap one (eq-eqb t t refl) in omega (arith, d, k, c))))
 
-last_in : (w : World) → IsOnce w → (a i t : ℕ) → last_of (w.seat a i).fifo ≡ Some t → Shut (w.job (or_none (last_of (w.seat a i).fifo))).at
-last_in w h a i t e = subst (λ o. Shut (w.job (or_none o)).at) (sym e) (fifo_shut a i (w.job t).at (one_set (in_fifo a i (w.job t).at)
-    (let d : times t (w.seat a i).fifo ≡ one (in_fifo a i (w.job t).at) = h.fifo a i t in let k : times t (w.seat a i).fifo ≡ (one (t == t) + times t (but_last (w.seat a i).fifo)) = times_drop ((w.seat a i).fifo) t t e in let c : one (t == t) ≡ 1 = ap one (eq-eqb t t refl) in omega (arith, d, k, c))))
+last_in : (w : World) → IsOnce w → (a i : ℕ) (b : Option ℕ) (t : ℕ) → last_of ((w.seat a i).fifo b) ≡ Some t → Shut (w.job (or_none (last_of ((w.seat a i).fifo b)))).at
+last_in w h a i b t e = subst (λ o. Shut (w.job (or_none o)).at) (sym e) (fifo_shut a i b (w.job t).at (one_set (in_fifo a i b (w.job t).at)
+    (let d : times t ((w.seat a i).fifo b) ≡ one (in_fifo a i b (w.job t).at) = h.fifo a i b t in let k : times t ((w.seat a i).fifo b) ≡ (one (t == t) + times t (but_last ((w.seat a i).fifo b))) = times_drop ((w.seat a i).fifo b) t t e in let c : one (t == t) ≡ 1 = ap one (eq-eqb t t refl) in omega (arith, d, k, c))))
 
 cast_in : (w : World) → IsOnce w → (a i t : ℕ) → head_of ((w.pool a).casts i) ≡ Some t → in_cast a i (w.job (or_none (head_of ((w.pool a).casts i)))).at ≡ true
 cast_in w h a i t e = subst (λ o. in_cast a i (w.job (or_none o)).at ≡ true) (sym e) (one_set (in_cast a i (w.job t).at)
@@ -141,6 +145,7 @@ plan_none w q (Feed f) m e s i b k = free_none m (ap (λ j. j.bound) e ∙ (s.0)
 plan_none w q (Send o) m e s i b k = other_none m (ap (λ j. is_detached (j.kind)) e ∙ call_undetached ((w.job o.job).kind) (o.number, q) ((s.0).kind)) k
 plan_none w q (Open o) m e s i b k = other_none m (ap (λ j. is_detached (j.kind)) e ∙ call_undetached ((w.job o.job).kind) (o.number, q) ((s.0).kind)) k
 plan_none w q (Enter x) m e s i b k = free_none m (ap (λ j. j.bound) e ∙ (s.0).bound) i b
+plan_none w q (Gather g) m e s i b k = other_none m (ap (λ j. is_detached (j.kind)) e ∙ ap is_detached (s.whole)) k
 plan_none w q (Fork o a) m e s i b k = other_none m (ap (λ j. is_detached (j.kind)) e ∙ call_undetached ((w.job o.job).kind) (o.number, q) ((s.0).kind)) k
 
 push_moves : (w : World) (q : Party) (n : Plan) (z : Bool) → SaysPlan w q n → IfSome (outcome_of w q (if z then PushOwn (plan_job n) (plan_book n) else PushInj (plan_pool n) (plan_job n) (plan_book n))) (Moves (part_of w (target_pool q (if z then PushOwn (plan_job n) (plan_book n) else PushInj (plan_pool n) (plan_job n) (plan_book n))) (target_worker q (if z then PushOwn (plan_job n) (plan_book n) else PushInj (plan_pool n) (plan_job n) (plan_book n))) (target_call (if z then PushOwn (plan_job n) (plan_book n) else PushInj (plan_pool n) (plan_job n) (plan_book n))) (job_at w q (if z then PushOwn (plan_job n) (plan_book n) else PushInj (plan_pool n) (plan_job n) (plan_book n)))))
@@ -180,16 +185,17 @@ act_moves w (Caller c) YieldTakeCast fs z h s = tt
 act_moves w (Worker a b) LocalTakeCast fs z h s = cast_moves a b (place_part w (Worker a b) LocalTakeCast) _ (λ t e. cast_in w h a b t e)
 act_moves w (Caller c) LocalTakeCast fs z h s = tt
 act_moves w q (BeginTask (Plain t)) fs z h s = λ i b k y. begin_own q (w.job t).pool i (w.job t).at (w.job t).runs s (one_set (is_with q (w.job t).at && ((w.job t).runs == 0)) (let a : held t (w.stack q) ≡ one (is_with q (w.job t).at && ((w.job t).runs == 0)) = h.hand q t in let c : held t (w.stack q) ≡ (one (t == t) + held_in t fs) = ap (held t) z in let d : one (t == t) ≡ 1 = ap one (eq-eqb t t refl) in omega (arith, a, c, d))) y
-act_moves w (Worker a b) (BeginTask (Token k i)) fs z h s = out_sees (Moves (place_part w (Worker a b) (BeginTask (Token k i)))) (Worker a b) (place_part w (Worker a b) (BeginTask (Token k i))) (λ i b k y. y) (λ u us e j c d y. shut_none (place_part w (Worker a b) (BeginTask (Token k i))) (first_in w h a i u (ap head_of e)) j y)
-act_moves w (Caller c) (BeginTask (Token k i)) fs z h s = out_sees (Moves (place_part w (Caller c) (BeginTask (Token k i)))) (Caller c) (place_part w (Caller c) (BeginTask (Token k i))) (λ i b k y. y) (λ u us e j d n y. shut_none (place_part w (Caller c) (BeginTask (Token k i))) (first_in w h 0 i u (ap head_of e)) j y)
+act_moves w (Worker a b) (BeginTask (Token k i b8)) fs z h s = out_sees (Moves (place_part w (Worker a b) (BeginTask (Token k i b8)))) (Worker a b) (place_part w (Worker a b) (BeginTask (Token k i b8))) b8 (λ i b k y. y) (λ u us e j c d y. shut_none (place_part w (Worker a b) (BeginTask (Token k i b8))) (first_in w h a i b8 u (ap head_of e)) j y)
+act_moves w (Caller c) (BeginTask (Token k i b8)) fs z h s = out_sees (Moves (place_part w (Caller c) (BeginTask (Token k i b8)))) (Caller c) (place_part w (Caller c) (BeginTask (Token k i b8))) b8 (λ i b k y. y) (λ u us e j d n y. shut_none (place_part w (Caller c) (BeginTask (Token k i b8))) (first_in w h 0 i b8 u (ap head_of e)) j y)
 act_moves w (Worker a b) (PushToken f v) fs z h s = λ i c d y. free_none (place_part w (Worker a b) (PushToken f v)) ((s.1).bound) i c
 act_moves w (Caller c) (PushToken f v) fs z h s = tt
-act_moves w (Worker a b) (AddToFifo f) fs z h s = if_cond (Moves (place_part w (Worker a b) (AddToFifo f))) (is_open (Worker a b) ((w.seat a b).feeder)) _ (λ o i c d y. free_none (place_part w (Worker a b) (AddToFifo f)) ((s.0).bound) i c)
+act_moves w (Worker a b) (AddToFifo f) fs z h s = if_cond (Moves (place_part w (Worker a b) (AddToFifo f))) (is_open (Worker a b) ((w.seat a b).feeder (count_book f.count))) _ (λ o i c d y. free_none (place_part w (Worker a b) (AddToFifo f)) ((s.0).bound) i c)
 act_moves w (Caller c) (AddToFifo f) fs z h s = tt
-act_moves w (Worker a b) (TakeFromFifo f) fs z h s = undo_sees (Moves (place_part w (Worker a b) (TakeFromFifo f))) (Worker a b) (place_part w (Worker a b) (TakeFromFifo f)) (λ i b k y. y) (λ u e j c d y. shut_none (place_part w (Worker a b) (TakeFromFifo f)) (last_in w h a b u e) j y)
+act_moves w (Worker a b) (TakeFromFifo f) fs z h s = undo_sees (Moves (place_part w (Worker a b) (TakeFromFifo f))) (Worker a b) (place_part w (Worker a b) (TakeFromFifo f)) (count_book f.count) (λ i b k y. y) (λ u e j c d y. shut_none (place_part w (Worker a b) (TakeFromFifo f)) (last_in w h a b (count_book f.count) u e) j y)
 act_moves w (Caller c) (TakeFromFifo f) fs z h s = tt
 act_moves w q (BeginHere t) fs z h s = λ i b k y. other_none (place_part w q (BeginHere t)) (s.kind) k
 act_moves w q (PushForAll c) fs z h s = λ i b k y. y
+act_moves w q (DealPieces g) fs z h s = λ i b k y. y
 act_moves w q (PushJob n v) fs z h s = push_moves w q n (is_member q (plan_pool n)) (queue_plan w q n s)
 act_moves w q x fs z h s = quiet_moves w.shape q (counts_at w (target_pool q (act_of q x))) (place_part w q x) x refl
 
@@ -197,11 +203,13 @@ act_moves w q x fs z h s = quiet_moves w.shape q (counts_at w (target_pool q (ac
 abbrev Good : (ℕ → Job) → Move → Type 0
 Good J (StartRun f a) = is_detached (J a).kind ≡ false
 Good J (Mark y c Queued) = (t : ℕ) → is_piece c t ≡ true → ((J t).pool ≡ c.pool) × ((J t).bound ≡ Some (t - c.first))
+Good J (Mark y c Dealt) = (t : ℕ) → is_piece c t ≡ true → ((J t).pool ≡ c.pool) × ((J t).bound ≡ Some (t - c.first))
 Good J _ = ⊤
 
 good_move : (w : World) (J : ℕ → Job) (g : Move) → ((t : ℕ) → (J t).kind ≡ (w.job t).kind) → StartsAwaited w g → is_dealing g ≡ false → Good J g
 good_move w J (StartRun f a) k s d = ap is_detached (k a) ∙ s
 good_move w J (Mark y c Queued) k s d = cc
+good_move w J (Mark y c Dealt) k s d = cc
 good_move w J _ k s d = tt
 
 -- a job's own place, by its record
@@ -229,16 +237,25 @@ two_own J n m t i y = by (t == m)
     by true = refl
     by false = back_own J n t i y
 
-pieces_own : (c : Pieces) (k : Marking) (J : ℕ → Job) (t i : ℕ) → (k ≡ Queued → is_piece c t ≡ true → ((J t).pool ≡ c.pool) × ((J t).bound ≡ Some (t - c.first))) → (J t).bound ≡ Some i → Own (J t) i → Own (mark_pieces c k J t) i
+-- pieces come into their lists
+abbrev deals : Marking → Bool
+deals Queued = true
+deals Dealt = true
+deals _ = false
+
+pieces_own : (c : Pieces) (k : Marking) (J : ℕ → Job) (t i : ℕ) → (deals k ≡ true → is_piece c t ≡ true → ((J t).pool ≡ c.pool) × ((J t).bound ≡ Some (t - c.first))) → (J t).bound ≡ Some i → Own (J t) i → Own (mark_pieces c k J t) i
 pieces_own c k J t i d b y = by (is_piece c t) refl
   where
-    dealt : ((J t).pool ≡ c.pool) × ((J t).bound ≡ Some (t - c.first)) → Own (marked Queued c.pool (t - c.first) (J t)) i
+    dealt : ((J t).pool ≡ c.pool) × ((J t).bound ≡ Some (t - c.first)) → is_own_place (J t).pool i (InCast c.pool (t - c.first)) ≡ true
     dealt p = let e : i ≡ t - c.first = (let f : Some i ≡ Some (t - c.first) = sym b ∙ p.1 in let g : i ≡ t - c.first = cc in g) in ap (λ n. ((J t).pool == c.pool) && n) (eq-eqb i (t - c.first) e) ∙ ap (λ n. n && true) (eq-eqb ((J t).pool) c.pool (p.0))
 
-    each : (k : Marking) → (k ≡ Queued → ((J t).pool ≡ c.pool) × ((J t).bound ≡ Some (t - c.first))) → Own (marked k c.pool (t - c.first) (J t)) i
+    each : (k : Marking) → (deals k ≡ true → ((J t).pool ≡ c.pool) × ((J t).bound ≡ Some (t - c.first))) → Own (marked k c.pool (t - c.first) (J t)) i
     each Counted d = y
+    each (Numbered n) d = y
+    each Unnumbered d = y
     each Returned d = refl
     each Queued d = dealt (d refl)
+    each Dealt d = dealt (d refl)
 
     by : (z : Bool) → is_piece c t ≡ z → Own (if z then marked k c.pool (t - c.first) (J t) else J t) i
     by true e = each k (λ z. d z e)
@@ -262,6 +279,10 @@ after_own q (HandBack (Open a)) J t i g b k o = back_own J a.job t i o
 after_own q (HandBack (Enter a)) J t i g b k o = back_own J a.job t i o
 after_own q (HandBack (Feed d)) J t i g b k o = two_own J d.job d.token t i o
 after_own q (HandBack (Fork d a)) J t i g b k o = two_own J a d.job t i o
+after_own q (HandBack (Gather d)) J t i g b k o = pieces_own d.pieces Returned J t i (λ z. absurd (cc)) b o
+after_own q (Mark y c (Numbered n)) J t i g b k o = pieces_own c (Numbered n) J t i (λ z. absurd (cc)) b o
+after_own q (Mark y c Unnumbered) J t i g b k o = pieces_own c Unnumbered J t i (λ z. absurd (cc)) b o
+after_own q (Mark y c Dealt) J t i g b k o = pieces_own c Dealt J t i (λ z e. g t e) b o
 after_own q (Mark y c Counted) J t i g b k o = pieces_own c Counted J t i (λ z. absurd (cc)) b o
 after_own q (Mark y c Returned) J t i g b k o = pieces_own c Returned J t i (λ z. absurd (cc)) b o
 after_own q (Mark y c Queued) J t i g b k o = pieces_own c Queued J t i (λ z e. g t e) b o
@@ -271,11 +292,16 @@ push_good : (w : World) (q : Party) (c : Pieces) (r : Seen × Part) → SaysPiec
 push_good w q c r s st Done = λ t z. (put_same (λ j. j.pool) w.job (job_at w q (act_of q (PushForAll c))) (r.1.job) t st.pool ∙ (s t z).pool, put_same (λ j. j.bound) w.job (job_at w q (act_of q (PushForAll c))) (r.1.job) t st.bound ∙ (s t z).bound)
 push_good w q c r s st _ = tt
 
+deal_good : (w : World) (q : Party) (c : Gathering) (r : Seen × Part) → SaysPieces w c.pieces → Static (place_part w q (DealPieces c)) r → (e : Seen) → Good (put w.job (job_at w q (act_of q (DealPieces c))) (r.1.job)) (next_of (w.shape.pool (target_pool q (act_of q (DealPieces c)))) q (DealPieces c) e)
+deal_good w q c r s st Done = λ t z. (put_same (λ j. j.pool) w.job (job_at w q (act_of q (DealPieces c))) (r.1.job) t st.pool ∙ (s t z).pool, put_same (λ j. j.bound) w.job (job_at w q (act_of q (DealPieces c))) (r.1.job) t st.bound ∙ (s t z).bound)
+deal_good w q c r s st _ = tt
+
 abbrev Known : World → Party → Place → List Place → Seen × Part → Type 0
 Known w q x fs r = Static (place_part w q x) r × StartsAwaited w (next_of (w.shape.pool (target_pool q (act_of q x))) q x (r.0))
 
 go_good : (w : World) (q : Party) (x : Place) (fs : List Place) → Says w q x → IfSome (outcome w q (record { top = x; below = fs })) (Known w q x fs) → IfSome (outcome w q (record { top = x; below = fs })) (λ r. Good (put w.job (job_at w q (act_of q x)) (r.1.job)) (next_of (w.shape.pool (target_pool q (act_of q x))) q x (r.0)))
-go_good w q (PushForAll c) fs s k = if_some_map (Known w q (PushForAll c) fs) (λ r. Good (put w.job (job_at w q (act_of q (PushForAll c))) (r.1.job)) (next_of (w.shape.pool (target_pool q (act_of q (PushForAll c)))) q (PushForAll c) (r.0))) (λ r f. push_good w q c r s (f.0) (r.0)) _ k
+go_good w q (PushForAll c) fs s k = if_some_map (Known w q (PushForAll c) fs) (λ r. Good (put w.job (job_at w q (act_of q (PushForAll c))) (r.1.job)) (next_of (w.shape.pool (target_pool q (act_of q (PushForAll c)))) q (PushForAll c) (r.0))) (λ r f. push_good w q c r (s.0) (f.0) (r.0)) _ k
+go_good w q (DealPieces c) fs s k = if_some_map (Known w q (DealPieces c) fs) (λ r. Good (put w.job (job_at w q (act_of q (DealPieces c))) (r.1.job)) (next_of (w.shape.pool (target_pool q (act_of q (DealPieces c)))) q (DealPieces c) (r.0))) (λ r f. deal_good w q c r (s.pieces) (f.0) (r.0)) _ k
 go_good w q x fs s k = if_some_map (λ r. Known w q x fs r × (is_dealing (next_of (w.shape.pool (target_pool q (act_of q x))) q x (r.0)) ≡ false)) (λ r. Good (put w.job (job_at w q (act_of q x)) (r.1.job)) (next_of (w.shape.pool (target_pool q (act_of q x))) q x (r.0))) (λ r f. good_move w (put w.job (job_at w q (act_of q x)) (r.1.job)) (next_of (w.shape.pool (target_pool q (act_of q x))) q x (r.0)) (λ t. put_same (λ j. j.kind) w.job (job_at w q (act_of q x)) (r.1.job) t (((f.0).0).kind)) ((f.0).1) (f.1)) _
     (if_some_and (Known w q x fs) (λ r. is_dealing (next_of (w.shape.pool (target_pool q (act_of q x))) q x (r.0)) ≡ false) (outcome w q (record { top = x; below = fs })) k (no_deals w.shape (w.shape.pool (target_pool q (act_of q x))) q (counts_at w (target_pool q (act_of q x))) (place_part w q x) x refl))
 
@@ -368,15 +394,29 @@ end_kept w q d k _ h = tt
 spawn_kept : (w : World) (q : Party) (r : ℕ) → BoundsHold w → IfSome (after_spawn w q r (w.stack q)) Kept
 spawn_kept w q r h = if_cond Kept (is_free ((w.stack q).top) && is_pool w.shape r) _ (λ b. put_kept w w.jobs (new_job q r (Detached r)) h refl)
 
-cast_kept : (w : World) (q : Party) (r : ℕ) → BoundsHold w → IfSome (after_cast w q r (w.stack q)) Kept
-cast_kept w q r h = if_cond Kept (is_free ((w.stack q).top) && is_pool w.shape r) _ (λ b. fresh_kept w (put_pieces c (λ i j. new_piece q r i) w.job) h (λ t i e. by t i (is_piece c t) e))
+deal_kept : (w : World) (q : Party) (d : Count) (r : ℕ) → BoundsHold w → Kept (after_deal w q d r (w.stack q))
+deal_kept w q d r h = fresh_kept w (put_pieces c (λ i j. new_piece q d r i) w.job) h (λ t i e. by t i (is_piece c t) e)
   where
     c : Pieces
-    c = record { pool = r; first = w.jobs; workers = (w.shape.pool r).workers }
+    c = record { count = d; pool = r; first = w.jobs; workers = (w.shape.pool r).workers }
 
-    by : (t i : ℕ) (z : Bool) → (if z then new_piece q r (t - c.first) else w.job t).bound ≡ Some i → ((if z then new_piece q r (t - c.first) else w.job t) ≡ w.job t) ⊎ ((is_detached (if z then new_piece q r (t - c.first) else w.job t).kind ≡ true) × Own (if z then new_piece q r (t - c.first) else w.job t) i)
-    by t i true e = inr (refl, refl)
+    by : (t i : ℕ) (z : Bool) → (if z then new_piece q d r (t - c.first) else w.job t).bound ≡ Some i → ((if z then new_piece q d r (t - c.first) else w.job t) ≡ w.job t) ⊎ ((is_detached (if z then new_piece q d r (t - c.first) else w.job t).kind ≡ true) × Own (if z then new_piece q d r (t - c.first) else w.job t) i)
+    by t i true e = inr (counts_detached d, refl)
     by t i false e = inl refl
+
+cast_kept : (w : World) (q : Party) (r : ℕ) → BoundsHold w → IfSome (after_cast w q r (w.stack q)) Kept
+cast_kept w q r h = if_cond Kept (is_free ((w.stack q).top) && is_pool w.shape r) _ (λ b. deal_kept w q (OfPool r) r h)
+
+gather_kept : (w : World) (q : Party) (r : ℕ) → BoundsHold w → IfSome (after_broadcast w q r (w.stack q)) Kept
+gather_kept w q r h = if_cond Kept (is_free ((w.stack q).top) && is_pool w.shape r) _ (λ b. fresh_kept w (put (put_pieces c (λ i j. new_piece q (OfCast w.calls q) r i) w.job) (w.jobs + c.workers) (new_whole q r w.calls)) h (λ t i e. by t i (t == (w.jobs + c.workers)) (is_piece c t) e))
+  where
+    c : Pieces
+    c = record { count = OfCast w.calls q; pool = r; first = w.jobs; workers = (w.shape.pool r).workers }
+
+    by : (t i : ℕ) (y z : Bool) → (if y then new_whole q r w.calls else (if z then new_piece q (OfCast w.calls q) r (t - c.first) else w.job t)).bound ≡ Some i → ((if y then new_whole q r w.calls else (if z then new_piece q (OfCast w.calls q) r (t - c.first) else w.job t)) ≡ w.job t) ⊎ ((is_detached (if y then new_whole q r w.calls else (if z then new_piece q (OfCast w.calls q) r (t - c.first) else w.job t)).kind ≡ true) × Own (if y then new_whole q r w.calls else (if z then new_piece q (OfCast w.calls q) r (t - c.first) else w.job t)) i)
+    by t i true z e = absurd (cc)
+    by t i false true e = inr (refl, refl)
+    by t i false false e = inl refl
 
 sent_kept : (w : World) (q : Party) (r : ℕ) (b : Bool) → BoundsHold w → Kept (after_send w q r (w.stack q) b)
 sent_kept w q r true h = put_kept w w.jobs (new_job q r Direct) h refl
@@ -392,8 +432,20 @@ join_kept w (Caller n) h = tt
 scope_kept : (w : World) (q : Party) (r : ℕ) → BoundsHold w → IfSome (after_scope w q r (w.stack q)) Kept
 scope_kept w q r h = if_cond Kept (is_free ((w.stack q).top) && is_pool w.shape r) _ (λ b. put_kept w w.jobs (new_job q r (BodyOf w.calls q)) h refl)
 
+enter_kept : (w : World) (q : Party) (z : Scope) → BoundsHold w → IfSome (after_enter w q (w.stack q) (Some z)) Kept
+enter_kept w q z h = if_cond Kept (is_free ((w.stack q).top) && holds z.call (w.stack q)) _ (λ b. put_kept w w.jobs (new_job q z.pool (Scoped z.call z.owner)) h refl)
+
+feed_kept : (w : World) (k : Count) (p i : ℕ) → BoundsHold w → Kept (after_feed w k p i (w.stack (Worker p i)))
+feed_kept w k p i h = both_kept w w.jobs (w.jobs + 1) (new_job (Worker p i) p (count_kind k)) (new_job (Worker p i) p (TokenOf i (count_book k))) h refl refl
+
 into_kept : (w : World) (q : Party) (n : ℕ) → BoundsHold w → IfSome (after_into w q n (w.stack q)) Kept
-into_kept w q n h = into_cases Kept w q n (λ z e free held. if_cond Kept (is_free ((w.stack q).top) && holds z.call (w.stack q)) _ (λ b. put_kept w w.jobs (new_job q z.pool (Scoped z.call z.owner)) h refl))
+into_kept w q n h = into_cases Kept w q n (λ z e free held. enter_kept w q z h)
+
+into_fifo_kept : (w : World) (q : Party) (n : ℕ) → BoundsHold w → IfSome (after_into_fifo w q n (w.stack q)) Kept
+into_fifo_kept w q n h = into_fifo_cases Kept w q n (λ z e free held. enter_kept w q z h) (λ z i e free held. feed_kept w (OfScope z.call z.owner) z.pool i h)
+
+into_cast_kept : (w : World) (q : Party) (n : ℕ) → BoundsHold w → IfSome (after_into_cast w q n (w.stack q)) Kept
+into_cast_kept w q n h = into_cast_cases Kept w q n (λ z e free held. deal_kept w q (OfScope z.call z.owner) z.pool h)
 
 yield_kept : (w : World) (q : Party) (x : Place) → BoundsHold w → IfSome (after_yield w q (w.stack q) x) Kept
 yield_kept w (Worker a b) x h = if_cond Kept (is_free ((w.stack (Worker a b)).top)) _ (λ z. same_kept w h)
@@ -406,12 +458,15 @@ each_kept w (Refuse q) h = if_cond Kept (is_refusable ((w.stack q).top)) _ (λ b
 each_kept w (Miss q) h = miss_kept w q (w.stack q) ((w.stack q).top) h
 each_kept w (End q d) h = end_kept w q d (w.stack q) ((w.stack q).top) h
 each_kept w (Spawn q p) h = spawn_kept w q p h
-each_kept w (Fifo q p) h = fifo_cases Kept w q p (spawn_kept w q p h) (λ i free. both_kept w w.jobs (w.jobs + 1) (new_job (Worker p i) p (Detached p)) (new_job (Worker p i) p (TokenOf i)) h refl refl)
+each_kept w (Fifo q p) h = fifo_cases Kept w q p (spawn_kept w q p h) (λ i free. feed_kept w (OfPool p) p i h)
 each_kept w (Cast q p) h = cast_kept w q p h
 each_kept w (Install q p) h = install_kept w q p h
 each_kept w (Join q) h = join_kept w q h
 each_kept w (OpenScope q p) h = scope_kept w q p h
 each_kept w (IntoSpawn q n) h = into_kept w q n h
+each_kept w (IntoFifo q n) h = into_fifo_kept w q n h
+each_kept w (IntoCast q n) h = into_cast_kept w q n h
+each_kept w (Broadcast q p) h = gather_kept w q p h
 each_kept w (Yield q) h = yield_kept w q YieldPop h
 each_kept w (YieldLocal q) h = yield_kept w q LocalPop h
 each_kept w (EndPool q p) h = if_cond Kept (is_free ((w.stack q).top) && (is_pool w.shape p && (w.pool p).held)) _ (λ b. same_kept w h)

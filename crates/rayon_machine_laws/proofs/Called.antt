@@ -1,8 +1,14 @@
 -- a worker that looks no more at its broadcast list, where that is filled, is called
+use Rattle.rayon_machine_places.specs.declared.place.Count.TheVariants.{OfPool, OfScope, OfCast}
+use Rattle.rayon_machine_places.specs.declared.place.Plan.TheVariants.{Detach, Here, Send, Fork, Feed, Open, Enter, Gather}
+use Rattle.rayon_machine_places.specs.declared.place.Count.{Count}
+use Rattle.rayon_machine_places.specs.declared.place.Plan.{Plan}
+use Rattle.rayon_machine_places.specs.declared.place.Feeding.{Feeding}
+use Rattle.rayon_machine_places.specs.declared.place.Gathering.{Gathering}
 use Rattle.rayon_machine_places.specs.declared.place.Wait.{Wait}
 use Rattle.rayon_machine_places.specs.declared.place.Move.TheVariants.{Stay}
 use Rattle.std.proofs.Common.{rules, arith, refl, sym, ◌∙◌, ap, subst, inl, inr, ◌≢◌}
-use Rattle.std.specs.Prelude.{ℕ, Bool, true, false, ◌&&◌, ◌||◌, ◌+◌, ◌-◌, ◌==◌, ◌<◌, ◌≤◌, nat_lt, nat_le, if◌then◌else◌, Some, None, List, [], ◌∷◌, ◌≡◌, ◌⊎◌, IfSome}
+use Rattle.std.specs.Prelude.{ℕ, Bool, true, false, ◌&&◌, ◌||◌, ◌+◌, ◌-◌, ◌==◌, ◌<◌, ◌≤◌, nat_lt, nat_le, if◌then◌else◌, Some, None, List, [], ◌∷◌, ◌≡◌, ◌⊎◌, IfSome, Option}
 use Rattle.std.proofs.lemmas.Bool.{eqb-true, eq-eqb, ltb-true, lt-ltb, leb-true, le-leb, ltb-false}
 use Rattle.rayon_machine_places.specs.declared.place.Party.{Party}
 use Rattle.rayon_machine_places.specs.declared.place.Party.TheVariants.{Worker, Caller}
@@ -11,18 +17,18 @@ use Rattle.rayon_machine_places.specs.declared.place.Latch.{Latch}
 use Rattle.rayon_machine_places.specs.declared.place.Latch.TheVariants.{Terminate, OfCall}
 use Rattle.rayon_machine_places.specs.declared.place.Pieces.{Pieces}
 use Rattle.rayon_machine_places.specs.declared.place.Then.{Then}
-use Rattle.rayon_machine_places.specs.declared.place.Then.TheVariants.{BeginFound, LeaveWait, Resume, Await, RunFirst, Answers, Missing, Ran, GiveBack, Called}
+use Rattle.rayon_machine_places.specs.declared.place.Then.TheVariants.{BeginFound, LeaveWait, Resume, Await, RunFirst, Answers, Missing, Ran, GiveBack, Called, Gathers}
 use Rattle.rayon_machine_places.specs.declared.place.Place.{Place}
-use Rattle.rayon_machine_places.specs.declared.place.Place.TheVariants.{ProbeWorking, TakeCastWorking, TakeCastIdle, JoinTakeCast, YieldTakeCast, LocalTakeCast, LookAtCast, LookAtInjector, BlockSelf, LeaveSearch, RaiseForAll, PushForAll, LockToWake, WakeWorker, UnlockWoken, SetLatch, WakeSettled, UnlockSettled, Free, Stopped}
+use Rattle.rayon_machine_places.specs.declared.place.Place.TheVariants.{ProbeWorking, TakeCastWorking, TakeCastIdle, JoinTakeCast, YieldTakeCast, LocalTakeCast, LookAtCast, LookAtInjector, BlockSelf, LeaveSearch, RaiseForAll, PushForAll, LockToWake, WakeWorker, UnlockWoken, SetLatch, WakeSettled, UnlockSettled, Free, Stopped, OpenForAll, GrowCast, DealPieces, RaiseCount, TakeFromFifo, LowerForAll}
 use Rattle.rayon_machine_places.specs.declared.act.Act.TheVariants.{Set}
 use Rattle.rayon_machine_places.specs.declared.act.Seen.{Seen}
-use Rattle.rayon_machine_places.specs.declared.act.Seen.TheVariants.{Yes, Done}
+use Rattle.rayon_machine_places.specs.declared.act.Seen.TheVariants.{Yes, Done, Opened, Task}
 use Rattle.rayon_machine_places.specs.declared.event.Event.{Event}
 use Rattle.rayon_machine_places.specs.declared.shape.PoolShape.{PoolShape}
 use Rattle.rayon_machine_places.specs.declared.place.Walk.{Walk}
 use Rattle.rayon_machine_places.specs.declared.place.Settling.{Settling}
-use Rattle.rayon_machine_places.specs.Places.{same_party, own_index, finish, walk, after_set, act_of, next_of, call_all, fresh}
-use Rattle.rayon_machine_places.specs.World.{Shape, Pool, Seat, Stack, World, Counts, Part, target_pool, target_worker, casts_with, empty_seen, take_cast, effect}
+use Rattle.rayon_machine_places.specs.Places.{same_party, own_index, finish, walk, after_set, act_of, next_of, call_all, fresh, withdraw, count_book, begin_cast, begin_feed, ends_count, gather_all, taken_number}
+use Rattle.rayon_machine_places.specs.World.{Shape, Pool, Seat, Stack, World, Counts, Part, target_pool, target_worker, casts_with, empty_seen, take_cast, effect, left_book, undealt_after}
 use Rattle.rayon_machine_places.specs.Steps.{after_move, step, put}
 use Rattle.rayon_machine_places.specs.Runs.{start, IsRun, first_place}
 use Rattle.rayon_machine_laws.specs.Committed.{is_blocking}
@@ -34,7 +40,7 @@ use Rattle.rayon_machine_laws.proofs.Calm.{SameSets, seat_same, part_at, counts_
 use Rattle.rayon_machine_laws.proofs.Events.{run_keeps}
 use Rattle.rayon_machine_laws.proofs.Frame.{either, and_parts, or_parts, same_index, same_refl, same_party_true, if_some_all, if_some_and, if_some_map, stack_mine, put_old}
 use Rattle.rayon_machine_laws.proofs.Holding.{LocksOk}
-use Rattle.rayon_machine_laws.proofs.Kept.{sizes, SizedAs, frame_unsized}
+use Rattle.rayon_machine_laws.proofs.Kept.{sizes, SizedAs, frame_unsized, plan_sizes}
 use Rattle.rayon_machine_laws.proofs.Locks.{tops_map, holds, if_both}
 use Rattle.rayon_machine_laws.proofs.Seats.{is_frame, mode, owns_in}
 use Rattle.rayon_machine_laws.proofs.Ties.{SeatsOk, shape_at, outcome, result}
@@ -126,11 +132,13 @@ takes _ = false
 
 abbrev deals : Place → Bool
 deals (PushForAll b) = true
+deals (DealPieces d) = true
 deals _ = false
 
 same_casts : (h : Shape) (q : Party) (c : Counts) (m : Part) (x : Place) → deals x ≡ false → takes x ≡ false → IfSome (effect (act_of q x) h q c m) (λ r. r.1.pool.casts ≡ m.pool.casts)
 same_casts h (Worker a b) c m (ProbeWorking k) e z = search (rules, arith)
 same_casts h q c m (PushForAll k) e z = cc
+same_casts h q c m (DealPieces k) e z = cc
 same_casts h q c m (TakeCastWorking k) e z = cc
 same_casts h q c m (TakeCastIdle k) e z = cc
 same_casts h q c m (JoinTakeCast k) e z = cc
@@ -152,6 +160,7 @@ casts_less h (Caller n) c m (JoinTakeCast k) e = tt
 casts_less h (Caller n) c m YieldTakeCast e = tt
 casts_less h (Caller n) c m LocalTakeCast e = tt
 casts_less h q c m (PushForAll k) e = cc
+casts_less h q c m (DealPieces k) e = cc
 casts_less h q c m x e = if_some_map {A = Seen × Part} (λ r. r.1.pool.casts ≡ m.pool.casts) (CastsLess m) (λ r s i f. ap (λ l. is_filled (l i)) (sym s) ∙ f) (effect (act_of q x) h q c m) (same_casts h q c m x refl refl)
 
 -- no move but that of the Raise leads to pieces that are about to be dealt
@@ -162,6 +171,8 @@ finish_unsized q (LeaveWait Termination) = refl
 finish_unsized q (LeaveWait (Answer o f)) = refl
 finish_unsized (Worker i j) (Await o) = refl
 finish_unsized (Caller c) (Await o) = refl
+finish_unsized (Worker i j) (Gathers o) = refl
+finish_unsized (Caller c) (Gathers o) = refl
 finish_unsized q (RunFirst o a) = refl
 finish_unsized q Resume = tt
 finish_unsized q Called = tt
@@ -184,22 +195,84 @@ set_unsized h q s _ = settled_unsized h q s s.latch
 
 abbrev raises_all : Place → Bool
 raises_all (RaiseForAll b) = true
+raises_all (OpenForAll b) = true
+raises_all (RaiseCount n) = true
+raises_all (GrowCast d) = true
 raises_all _ = false
+
+drawn_unsized : (o : Option ℕ) (n : Plan) → sizes (withdraw o n) ≡ None
+drawn_unsized None n = refl
+drawn_unsized (Some c) n = refl
+
+back_unsized : (h : PoolShape) (q : Party) (f : Feeding) (e : Seen) → Tops (λ y. sizes y ≡ None) (next_of h q (TakeFromFifo f) e)
+back_unsized h q f (Task x) = drawn_unsized (count_book f.count) (Feed (record f { job = taken_number x }))
+back_unsized h q f _ = tt
+
+ends_unsized : (k : Count) → sizes (ends_count k) ≡ None
+ends_unsized (OfPool p) = refl
+ends_unsized (OfScope c (Worker i j)) = refl
+ends_unsized (OfScope c (Caller n)) = refl
+ends_unsized (OfCast c (Worker i j)) = refl
+ends_unsized (OfCast c (Caller n)) = refl
+
+sunk_unsized : (h : PoolShape) (q : Party) (b : Pieces) (e : Seen) → Tops (λ y. sizes y ≡ None) (next_of h q (LowerForAll b) e)
+sunk_unsized h q b Yes = ends_unsized b.count
+sunk_unsized h q b _ = tt
 
 unsized : (h : Shape) (g : PoolShape) (q : Party) (c : Counts) (m : Part) (x : Place) → raises_all x ≡ false → IfSome (effect (act_of q x) h q c m) (λ r. Tops (λ y. sizes y ≡ None) (next_of g q x (r.0)))
 unsized h g (Worker i j) c m (ProbeWorking k) z = search (rules, arith)
 unsized h g q c m (RaiseForAll b) z = cc
+unsized h g q c m (OpenForAll b) z = cc
+unsized h g q c m (RaiseCount n) z = cc
+unsized h g q c m (GrowCast d) z = cc
+unsized h g q c m (TakeFromFifo f) z = if_some_all {A = Seen × Part} (λ r. Tops (λ y. sizes y ≡ None) (next_of g q (TakeFromFifo f) (r.0))) (λ r. back_unsized g q f (r.0)) (effect (act_of q (TakeFromFifo f)) h q c m)
+unsized h g q c m (LowerForAll b) z = if_some_all {A = Seen × Part} (λ r. Tops (λ y. sizes y ≡ None) (next_of g q (LowerForAll b) (r.0))) (λ r. sunk_unsized g q b (r.0)) (effect (act_of q (LowerForAll b)) h q c m)
 unsized h g q c m (SetLatch s) z = if_some_all {A = Seen × Part} (λ r. Tops (λ y. sizes y ≡ None) (next_of g q (SetLatch s) (r.0))) (λ r. set_unsized g q s (r.0)) (effect (act_of q (SetLatch s)) h q c m)
 unsized h g q c m (UnlockSettled s) z = if_some_all {A = Seen × Part} (λ r. Tops (λ y. sizes y ≡ None) (next_of g q (UnlockSettled s) (r.0))) (λ r. settled_unsized g q s s.latch) (effect (act_of q (UnlockSettled s)) h q c m)
 unsized h g (Worker i j) c m _ z = search (rules, arith)
 unsized h g (Caller n) c m _ z = search (rules, arith)
 
-raised_sized : (g : PoolShape) (q : Party) (b : Pieces) (h : Shape) (e : Seen) → b.workers ≡ (h.pool b.pool).workers → Tops (λ y. SizedAs h (sizes y)) (next_of g q (RaiseForAll b) e)
-raised_sized g q b h Done s = s
+abbrev Sized : Shape → Pieces → ℕ → Type 0
+Sized h b p = (b.workers ≡ (h.pool b.pool).workers) × (p ≡ b.pool)
+
+begun_sized : (h : Shape) (b : Pieces) (k : Count) → Sized h b b.pool → SizedAs h (sizes (begin_cast k b))
+begun_sized h b (OfPool p) s = s
+begun_sized h b (OfScope c o) s = s
+begun_sized h b (OfCast c o) s = s
+
+opened_sized : (g : PoolShape) (q : Party) (b : Pieces) (h : Shape) (e : Seen) → Sized h b b.pool → Tops (λ y. SizedAs h (sizes y)) (next_of g q (OpenForAll b) e)
+opened_sized g q b h (Opened n) s = s
+opened_sized g q b h _ s = tt
+
+fed_sized : (h : Shape) (f : Feeding) (k : Count) → SizedAs h (sizes (begin_feed k f))
+fed_sized h f (OfPool p) = tt
+fed_sized h f (OfScope c o) = tt
+fed_sized h f (OfCast c o) = tt
+
+plan_sized : (g : PoolShape) (q : Party) (n : Plan) (h : Shape) (e : Seen) → SizedAs h (plan_sizes n) → Tops (λ y. SizedAs h (sizes y)) (next_of g q (RaiseCount n) e)
+plan_sized g q (Gather d) h Done s = s
+plan_sized g q (Feed f) h Done s = fed_sized h f f.count
+plan_sized g q (Detach p t) h Done s = tt
+plan_sized g q (Here p t) h Done s = tt
+plan_sized g q (Send o) h Done s = tt
+plan_sized g q (Fork o a) h Done s = tt
+plan_sized g q (Open o) h Done s = tt
+plan_sized g q (Enter n) h Done s = tt
+plan_sized g q n h _ s = tt
+
+grown_sized : (g : PoolShape) (q : Party) (d : Gathering) (h : Shape) (e : Seen) → Sized h d.pieces d.call.pool → Tops (λ y. SizedAs h (sizes y)) (next_of g q (GrowCast d) e)
+grown_sized g q d h Done s = s
+grown_sized g q d h _ s = tt
+
+raised_sized : (g : PoolShape) (q : Party) (b : Pieces) (h : Shape) (e : Seen) → Sized h b b.pool → Tops (λ y. SizedAs h (sizes y)) (next_of g q (RaiseForAll b) e)
+raised_sized g q b h Done s = begun_sized h b b.count s
 raised_sized g q b h _ s = tt
 
 sized_tops : (w : World) (q : Party) (x : Place) (fs : List Place) → w.stack q ≡ record { top = x; below = fs } → CastsOk w → IfSome (outcome w q (record { top = x; below = fs })) (λ r. Tops (λ y. SizedAs w.shape (sizes y)) (next_at w q (record { top = x; below = fs }) (r.0)))
 sized_tops w q (RaiseForAll b) fs e ok = if_some_all {A = Seen × Part} (λ r. Tops (λ y. SizedAs w.shape (sizes y)) (next_at w q (record { top = RaiseForAll b; below = fs }) (r.0))) (λ r. raised_sized (shape_at w q (record { top = RaiseForAll b; below = fs })) q b w.shape (r.0) (subst (λ k. SizedAs w.shape (sizes (k.top))) e (ok.sized q))) (outcome w q (record { top = RaiseForAll b; below = fs }))
+sized_tops w q (OpenForAll b) fs e ok = if_some_all {A = Seen × Part} (λ r. Tops (λ y. SizedAs w.shape (sizes y)) (next_at w q (record { top = OpenForAll b; below = fs }) (r.0))) (λ r. opened_sized (shape_at w q (record { top = OpenForAll b; below = fs })) q b w.shape (r.0) (subst (λ k. SizedAs w.shape (sizes (k.top))) e (ok.sized q))) (outcome w q (record { top = OpenForAll b; below = fs }))
+sized_tops w q (RaiseCount n) fs e ok = if_some_all {A = Seen × Part} (λ r. Tops (λ y. SizedAs w.shape (sizes y)) (next_at w q (record { top = RaiseCount n; below = fs }) (r.0))) (λ r. plan_sized (shape_at w q (record { top = RaiseCount n; below = fs })) q n w.shape (r.0) (subst (λ k. SizedAs w.shape (sizes (k.top))) e (ok.sized q))) (outcome w q (record { top = RaiseCount n; below = fs }))
+sized_tops w q (GrowCast d) fs e ok = if_some_all {A = Seen × Part} (λ r. Tops (λ y. SizedAs w.shape (sizes y)) (next_at w q (record { top = GrowCast d; below = fs }) (r.0))) (λ r. grown_sized (shape_at w q (record { top = GrowCast d; below = fs })) q d w.shape (r.0) (subst (λ k. SizedAs w.shape (sizes (k.top))) e (ok.sized q))) (outcome w q (record { top = GrowCast d; below = fs }))
 sized_tops w q x fs e ok = let k : Stack = record { top = x; below = fs } in
     if_some_map {A = Seen × Part} (λ r. Tops (λ y. sizes y ≡ None) (next_at w q k (r.0))) (λ r. Tops (λ y. SizedAs w.shape (sizes y)) (next_at w q k (r.0))) (λ r t. tops_map (λ y. sizes y ≡ None) (λ y. SizedAs w.shape (sizes y)) (λ y n. subst (SizedAs w.shape) (sym n) tt) (next_at w q k (r.0)) t) (outcome w q k) (unsized w.shape (shape_at w q k) q (counts_seen w q k) (part_at w q k) x refl)
 
@@ -280,12 +353,14 @@ abbrev special : Place → Bool
 special (LookAtCast k) = true
 special (BlockSelf k) = true
 special (PushForAll b) = true
+special (DealPieces d) = true
 special _ = false
 
 plain_go : (w : World) (q : Party) (x : Place) (fs : List Place) → special x ≡ false → IfSome (outcome w q (record { top = x; below = fs })) (Plain w q (record { top = x; below = fs }))
 plain_go w q (LookAtCast j) fs z = cc
 plain_go w q (BlockSelf j) fs z = cc
 plain_go w q (PushForAll j) fs z = cc
+plain_go w q (DealPieces j) fs z = cc
 plain_go w q (LookAtInjector j) fs z =
     let k : Stack = record { top = LookAtInjector j; below = fs } in
     if_some_map {A = Seen × Part} (λ r. (r.1.seat.blocked ≡ true → (part_at w q k).seat.blocked ≡ true) × CastsLess (part_at w q k) r) (Plain w q k) (λ r s. (inr refl, s.0, s.1)) (outcome w q k)
@@ -333,7 +408,7 @@ deal_called w q b fs e fr ok = at q refl
     k = record { top = PushForAll b; below = fs }
 
     r : Party → Seen × Part
-    r g = (Done, record (part_at w g k) { pool = record ((part_at w g k).pool) { casts = casts_with b (part_at w g k).pool.casts } })
+    r g = (Done, record (part_at w g k) { pool = record ((part_at w g k).pool) { casts = casts_with b (part_at w g k).pool.casts }; call = record ((part_at w g k).call) { writer = left_book g (count_book b.count) (part_at w g k).call.writer; undealt = undealt_after b.count (part_at w g k).call.undealt } })
 
     there : (g : Party) → target_pool g (act_of g (PushForAll b)) ≡ b.pool
     there (Worker x y) = refl
@@ -358,6 +433,45 @@ deal_called w q b fs e fr ok = at q refl
         by false z =
             let other : (p == target_pool g (act_of g (PushForAll b))) ≡ false = ap (λ n. p == n) (there g) ∙ z in
             let was : is_filled ((w.pool p).casts i) ≡ true = ap (λ (v : Pool). is_filled (v.casts i)) (sym (put_old w.pool (target_pool g (act_of g (PushForAll b))) ((r g).1.pool) p other)) ∙ filled in
+            still_called w g k (r g) p i eg (ok.called p i was (deaf_back w g k (r g) p i eg fr (λ y late. absurd (cc)) (λ y bl. or_right (is_late (w.stack (Worker p i)).top) ((w.seat p i).blocked) (ap (λ n. n.blocked) (sym (touched w g k p i y)) ∙ bl)) deaf)) (λ o. absurd (cc))
+
+    at : (g : Party) → q ≡ g → IfSome (outcome w q k) (λ r. CalledIn (result w q k r))
+    at (Worker x y) is = subst (λ g. IfSome (outcome w g k) (λ r. CalledIn (result w g k r))) (sym is) (called (Worker x y) (ap w.stack (sym is) ∙ e))
+    at (Caller c) is = subst (λ g. IfSome (outcome w g k) (λ r. CalledIn (result w g k r))) (sym is) (called (Caller c) (ap w.stack (sym is) ∙ e))
+
+-- so it is where the party waits then
+gather_called : (w : World) (q : Party) (d : Gathering) (fs : List Place) → w.stack q ≡ record { top = DealPieces d; below = fs } → FramesOk w → CastsOk w → IfSome (outcome w q (record { top = DealPieces d; below = fs })) (λ r. CalledIn (result w q (record { top = DealPieces d; below = fs }) r))
+gather_called w q d fs e fr ok = at q refl
+  where
+    k : Stack
+    k = record { top = DealPieces d; below = fs }
+
+    r : Party → Seen × Part
+    r g = (Done, record (part_at w g k) { pool = record ((part_at w g k).pool) { casts = casts_with d.pieces (part_at w g k).pool.casts }; call = record ((part_at w g k).call) { writer = left_book g (count_book d.pieces.count) (part_at w g k).call.writer; undealt = undealt_after d.pieces.count (part_at w g k).call.undealt } })
+
+    there : (g : Party) → target_pool g (act_of g (DealPieces d)) ≡ d.pieces.pool
+    there (Worker x y) = refl
+    there (Caller c) = refl
+
+    all : (g : Party) (p i : ℕ) → p ≡ d.pieces.pool → owes_cast (gather_all (shape_at w g k) d.call) (w.shape.pool p).workers p i ≡ true
+    all g p i n =
+        let same : (d.call.pool == p) ≡ true = eq-eqb d.call.pool p ((subst (λ (s : Stack). SizedAs w.shape (sizes (s.top))) e (ok.sized q)).1 ∙ sym n) in
+        let shape : (w.shape.pool p).workers ≡ (shape_at w g k).workers = ap (λ j. (w.shape.pool j).workers) (n ∙ sym (there g)) in
+        let enough : nat_le (w.shape.pool p).workers ((shape_at w g k).workers + 0) ≡ true = le-leb (w.shape.pool p).workers ((shape_at w g k).workers + 0) (omega (arith, shape)) in
+        let first : nat_le 0 i ≡ true = le-leb 0 i (omega arith) in
+        rw (same, enough, first) refl
+
+    called : (g : Party) → w.stack g ≡ k → (p i : ℕ) → is_filled (((result w g k (r g)).pool p).casts i) ≡ true → is_deaf (result w g k (r g)) p i ≡ true → HasCaster (result w g k (r g)) p i
+    called g eg p i filled deaf = by (p == d.pieces.pool) refl
+      where
+        by : (z : Bool) → (p == d.pieces.pool) ≡ z → HasCaster (result w g k (r g)) p i
+        by true z = record { party = g; casts = ap (λ (s : Stack). owes_cast (s.top) (w.shape.pool p).workers p i) mine ∙ all g p i (eqb-true p d.pieces.pool z) }
+          where
+            mine : (result w g k (r g)).stack g ≡ after_move (next_at w g k Done) fs
+            mine = stack_mine w.stack g (after_move (next_at w g k Done) fs)
+        by false z =
+            let other : (p == target_pool g (act_of g (DealPieces d))) ≡ false = ap (λ n. p == n) (there g) ∙ z in
+            let was : is_filled ((w.pool p).casts i) ≡ true = ap (λ (v : Pool). is_filled (v.casts i)) (sym (put_old w.pool (target_pool g (act_of g (DealPieces d))) ((r g).1.pool) p other)) ∙ filled in
             still_called w g k (r g) p i eg (ok.called p i was (deaf_back w g k (r g) p i eg fr (λ y late. absurd (cc)) (λ y bl. or_right (is_late (w.stack (Worker p i)).top) ((w.seat p i).blocked) (ap (λ n. n.blocked) (sym (touched w g k p i y)) ∙ bl)) deaf)) (λ o. absurd (cc))
 
     at : (g : Party) → q ≡ g → IfSome (outcome w q k) (λ r. CalledIn (result w q k r))
@@ -492,6 +606,7 @@ go_called w (Caller c) (LookAtCast k) fs e ok fr locks h = tt
 go_called w (Worker a b) (BlockSelf k) fs e ok fr locks h = block_called w a b k fs e fr h
 go_called w (Caller c) (BlockSelf k) fs e ok fr locks h = tt
 go_called w q (PushForAll b) fs e ok fr locks h = deal_called w q b fs e fr h
+go_called w q (DealPieces d) fs e ok fr locks h = gather_called w q d fs e fr h
 go_called w q (WakeWorker n) fs e ok fr locks h = wake_called w q n fs e ok fr locks h
 go_called w q (LockToWake n) fs e ok fr locks h = plainly w q (LockToWake n) fs e fr h refl (λ s p i l o. o)
 go_called w q (UnlockWoken n) fs e ok fr locks h = plainly w q (UnlockWoken n) fs e fr h refl (λ s p i l o. unlock_called w q n fs p i l o)
@@ -505,7 +620,7 @@ dealt_beyond : (w : World) (g : Party) (b : Pieces) (fs : List Place) → w.stac
 dealt_beyond w g b fs e ok there p i l = by (p == target_pool g (act_of g (PushForAll b))) refl
   where
     size : b.workers ≡ (w.shape.pool b.pool).workers
-    size = subst (λ (s : Stack). SizedAs w.shape (sizes (s.top))) e (ok.sized g)
+    size = (subst (λ (s : Stack). SizedAs w.shape (sizes (s.top))) e (ok.sized g)).0
 
     by : (z : Bool) → (p == target_pool g (act_of g (PushForAll b))) ≡ z → is_filled ((if z then record (w.pool (target_pool g (act_of g (PushForAll b)))) { casts = casts_with b (w.pool (target_pool g (act_of g (PushForAll b)))).casts } else w.pool p).casts i) ≡ false
     by true z =
@@ -515,9 +630,25 @@ dealt_beyond w g b fs e ok there p i l = by (p == target_pool g (act_of g (PushF
         rw off (ap (λ j. is_filled ((w.pool j).casts i)) (sym n) ∙ ok.beyond p i l)
     by false z = ok.beyond p i l
 
+gathered_beyond : (w : World) (g : Party) (d : Gathering) (fs : List Place) → w.stack g ≡ record { top = DealPieces d; below = fs } → CastsOk w → target_pool g (act_of g (DealPieces d)) ≡ d.pieces.pool → (p i : ℕ) → (w.shape.pool p).workers ≤ i → is_filled ((put w.pool (target_pool g (act_of g (DealPieces d))) (record (w.pool (target_pool g (act_of g (DealPieces d)))) { casts = casts_with d.pieces (w.pool (target_pool g (act_of g (DealPieces d)))).casts }) p).casts i) ≡ false
+gathered_beyond w g d fs e ok there p i l = by (p == target_pool g (act_of g (DealPieces d))) refl
+  where
+    size : d.pieces.workers ≡ (w.shape.pool d.pieces.pool).workers
+    size = (subst (λ (s : Stack). SizedAs w.shape (sizes (s.top))) e (ok.sized g)).0
+
+    by : (z : Bool) → (p == target_pool g (act_of g (DealPieces d))) ≡ z → is_filled ((if z then record (w.pool (target_pool g (act_of g (DealPieces d)))) { casts = casts_with d.pieces (w.pool (target_pool g (act_of g (DealPieces d)))).casts } else w.pool p).casts i) ≡ false
+    by true z =
+        let n : p ≡ target_pool g (act_of g (DealPieces d)) = eqb-true p (target_pool g (act_of g (DealPieces d))) z in
+        let workers : (w.shape.pool p).workers ≡ d.pieces.workers = ap (λ j. (w.shape.pool j).workers) (n ∙ there) ∙ sym size in
+        let off : nat_lt i d.pieces.workers ≡ false = elim (either (nat_lt i d.pieces.workers)) [ inl y ↦ absurd (let m : i < d.pieces.workers = ltb-true i d.pieces.workers y in omega (arith, m, workers, l)) | inr y ↦ y ] in
+        rw off (ap (λ j. is_filled ((w.pool j).casts i)) (sym n) ∙ ok.beyond p i l)
+    by false z = ok.beyond p i l
+
 beyond_go : (w : World) (q : Party) (x : Place) (fs : List Place) → w.stack q ≡ record { top = x; below = fs } → CastsOk w → IfSome (outcome w q (record { top = x; below = fs })) (λ r. (p i : ℕ) → (w.shape.pool p).workers ≤ i → is_filled (((result w q (record { top = x; below = fs }) r).pool p).casts i) ≡ false)
 beyond_go w (Worker c d) (PushForAll b) fs e ok = dealt_beyond w (Worker c d) b fs e ok refl
 beyond_go w (Caller n) (PushForAll b) fs e ok = dealt_beyond w (Caller n) b fs e ok refl
+beyond_go w (Worker a b) (DealPieces d) fs e ok = gathered_beyond w (Worker a b) d fs e ok refl
+beyond_go w (Caller n) (DealPieces d) fs e ok = gathered_beyond w (Caller n) d fs e ok refl
 beyond_go w q x fs e ok = let k : Stack = record { top = x; below = fs } in
     if_some_map {A = Seen × Part} (CastsLess (part_at w q k)) (λ r. (p i : ℕ) → (w.shape.pool p).workers ≤ i → is_filled (((result w q k r).pool p).casts i) ≡ false) (λ r less. beyond_less w q k r less ok) (outcome w q k) (casts_less w.shape q (counts_seen w q k) (part_at w q k) x refl)
 

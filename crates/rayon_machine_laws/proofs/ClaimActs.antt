@@ -1,9 +1,10 @@
 -- each act keeps what the places say, and what cells and latches hold
+use Rattle.rayon_machine_places.specs.declared.place.Ending.TheVariants.{Fine, Fault}
 use Rattle.rayon_machine_places.specs.declared.place.Pieces.{Pieces}
-use Rattle.rayon_machine_places.specs.declared.place.Count.TheVariants.{OfPool, OfScope}
+use Rattle.rayon_machine_places.specs.declared.place.Count.TheVariants.{OfPool, OfScope, OfCast}
 use Rattle.rayon_machine_places.specs.declared.place.Count.{Count}
 use Rattle.std.proofs.Common.{rules, arith, refl, sym, ◌∙◌, ap, subst, inl, inr}
-use Rattle.std.specs.Prelude.{ℕ, Bool, true, false, not, ◌+◌, ◌-◌, ◌==◌, ◌≤◌, ◌<◌, if◌then◌else◌, Option, Some, None, List, [], ◌∷◌, ◌≡◌, IfSome, ◌⊎◌, ⊤, ◌++◌}
+use Rattle.std.specs.Prelude.{ℕ, Bool, true, false, not, ◌+◌, ◌-◌, ◌==◌, ◌≤◌, ◌<◌, if◌then◌else◌, Option, Some, None, List, [], ◌∷◌, ◌≡◌, IfSome, ◌⊎◌, ⊤, ◌++◌, ◌&&◌}
 use Rattle.std.proofs.lemmas.Bool.{eqb-true, ltb-true, ltb-false, eq-eqb}
 use Rattle.std.proofs.Math.Dec.{ltb}
 use Rattle.rayon_machine_places.specs.declared.place.Party.{Party}
@@ -16,17 +17,17 @@ use Rattle.rayon_machine_places.specs.declared.place.Then.{Then}
 use Rattle.rayon_machine_places.specs.declared.place.Taken.TheVariants.{Plain, Token}
 use Rattle.rayon_machine_places.specs.declared.act.Act.TheVariants.{FifoOut, FifoUndo, PushOwn, PushInj}
 use Rattle.rayon_machine_places.specs.declared.place.Place.{Place}
-use Rattle.rayon_machine_places.specs.declared.place.Place.TheVariants.{ProbeWorking, PopWorking, TakeCastWorking, PopIdle, TakeCastIdle, StealFrom, PopInjected, GetSleepy, FallAsleep, WakeUp, JoinPop, JoinTakeCast, YieldPop, YieldTakeCast, YieldSteal, YieldPopInjected, LocalPop, LocalTakeCast, BeginTask, GrowCall, TakeResult, LowerCount, StoreResult, SetLatch, SetLockLatch, TakeFromFifo, AddToFifo, PushToken, PushJob, BeginHere, PushForAll, LowerForAll, GrowScope, StoreBody}
+use Rattle.rayon_machine_places.specs.declared.place.Place.TheVariants.{ProbeWorking, PopWorking, TakeCastWorking, PopIdle, TakeCastIdle, StealFrom, PopInjected, GetSleepy, FallAsleep, WakeUp, JoinPop, JoinTakeCast, YieldPop, YieldTakeCast, YieldSteal, YieldPopInjected, LocalPop, LocalTakeCast, BeginTask, GrowCall, TakeResult, LowerCount, StoreResult, SetLatch, SetLockLatch, TakeFromFifo, AddToFifo, PushToken, PushJob, BeginHere, PushForAll, LowerForAll, GrowScope, StoreBody, GrowCast, DealPieces, StorePiece}
 use Rattle.rayon_machine_places.specs.declared.act.Seen.{Seen}
 use Rattle.rayon_machine_places.specs.declared.act.Seen.TheVariants.{Yes, No, Task, Missing, Begun, Found, Handed}
 use Rattle.rayon_machine_places.specs.declared.state.Letter.{Letter}
 use Rattle.rayon_machine_places.specs.declared.state.Letter.TheVariants.{Sleeping, Set as IsSet}
 use Rattle.rayon_machine_places.specs.declared.place.OpenCall.{OpenCall}
 use Rattle.rayon_machine_places.specs.declared.place.Settling.{Settling}
-use Rattle.rayon_machine_places.specs.Places.{latch_of, act_of, next_of, taken_number, plan_job, plan_pool, is_member, plan_book}
-use Rattle.rayon_machine_places.specs.World.{Shape, Stack, World, Counts, Part, head_of, own_of, or_none, target_job, Outcome, letter, with_letter, set_latch, told, found, popped, take_cast, pop_injector, lowered, effect, is_open, but_last, at_job, taken_as, count_in, put_body}
+use Rattle.rayon_machine_places.specs.Places.{latch_of, act_of, next_of, taken_number, plan_job, plan_pool, is_member, plan_book, count_book}
+use Rattle.rayon_machine_places.specs.World.{Shape, Stack, World, Counts, Part, head_of, own_of, or_none, target_job, Outcome, letter, with_letter, set_latch, found, popped, take_cast, pop_injector, lowered, effect, is_open, but_last, at_job, taken_as, count_in, put_body, same_list, put_list, all_lowered, pool_less, call_less, put_piece, with_piece, told}
 use Rattle.rayon_machine_places.specs.Steps.{put, part_of, after}
-use Rattle.rayon_machine_laws.proofs.Frame.{either, if_some_all, if_some_map, put_same, after_kind, after_pool, out_sees, undo_sees, if_cond, after_bound, book_sees}
+use Rattle.rayon_machine_laws.proofs.Frame.{either, if_some_all, if_some_map, put_same, after_kind, after_pool, out_sees, undo_sees, if_cond, after_bound, book_sees, same_list_true}
 use Rattle.rayon_machine_laws.proofs.Hands.{held}
 use Rattle.rayon_machine_laws.specs.Once.{one, times}
 use Rattle.rayon_machine_laws.proofs.Lists.{SameJobs, quiet_same, times_push, times_drop}
@@ -62,6 +63,8 @@ lasting w q k p i c n r s o = record {
     ended = λ a z. ends a (a == p) refl z;
     spent = λ d b z. spents d (d == c) refl z;
     given = λ a z. put_same (λ j. j.held) w.pool p (r.1.pool) a (s.held) ∙ z;
+    shape = refl;
+    gone = λ t z. subst (λ v. IsOnward v ((after w q k p i c n r).job t).at) z (o.onward t);
   };
   kinds = kinds;
   targets = targets;
@@ -85,10 +88,10 @@ lasting w q k p i c n r s o = record {
 -- a token's record says whose it is
 abbrev pub KindOf : Job → Taken → Type 0
 KindOf j (Plain t) = ⊤
-KindOf j (Token k i) = j.kind ≡ TokenOf i
+KindOf j (Token k i b8) = j.kind ≡ TokenOf i b8
 
 kind_of : (t : ℕ) (d : JobKind) (j : Job) → j.kind ≡ d → KindOf j (taken_as t d)
-kind_of t (TokenOf i) j e = e
+kind_of t (TokenOf i b8) j e = e
 kind_of t _ j e = tt
 
 abbrev pub Took : Shape → Party → Part → Place → Taken → Part → Type 0
@@ -111,10 +114,10 @@ Learned h q m LocalPop (Task t, n) = Took h q m LocalPop t n
 Learned h q m LocalTakeCast (Task t, n) = Took h q m LocalTakeCast t n
 Learned h q m (TakeResult o f) (Found e, n) = (d : Ending) × ((m.call.cell ≡ Some d) × (e ≡ told m.call.fault d))
 Learned h q m (LowerCount p s k) (Yes, n) = count_in n p ≡ 0
-Learned h q m (LowerForAll b) (Yes, n) = n.pool.count ≡ 0
+Learned h q m (LowerForAll b) (Yes, n) = count_in n b.count ≡ 0
 Learned h q m (BeginTask (Plain t)) (Begun k, n) = m.job.kind ≡ k
-Learned h q m (BeginTask (Token k i)) (Handed t d, n) = (target_job h q (FifoOut k i) m.pool m.seat ≡ t) × (1 ≤ times t m.seat.fifo) × (m.job.kind ≡ d)
-Learned h q m (TakeFromFifo f) (Task x, n) = (target_job h q FifoUndo m.pool m.seat ≡ taken_number x) × (1 ≤ times (taken_number x) m.seat.fifo)
+Learned h q m (BeginTask (Token k i b8)) (Handed t d, n) = (target_job h q (FifoOut k i b8) m.pool m.seat ≡ t) × (1 ≤ times t (m.seat.fifo b8)) × (m.job.kind ≡ d)
+Learned h q m (TakeFromFifo f) (Task x, n) = (target_job h q (FifoUndo (count_book f.count)) m.pool m.seat ≡ taken_number x) × (1 ≤ times (taken_number x) (m.seat.fifo (count_book f.count)))
 Learned h q m _ _ = ⊤
 
 take_learned : (h : Shape) (q : Party) (m : Part) (o : OpenCall) (f : Option Ending) (x : Option Ending) → m.call.cell ≡ x → IfSome (found m x) (Learned h q m (TakeResult o f))
@@ -126,17 +129,26 @@ lower_learned h q m p s k = by p (count_in m p == 1) refl
   where
     zero_left : (j : Count) → count_in m j ≡ 1 → count_in (lowered m j s) j ≡ 0
     zero_left (OfPool r) e = let n : m.pool.count ≡ 1 = e in let g : m.pool.count - 1 ≡ 0 = omega (arith, n) in g
+    zero_left (OfCast c o) e = let n : m.call.count ≡ 1 = e in let g : m.call.count - 1 ≡ 0 = omega (arith, n) in g
     zero_left (OfScope c o) e = let n : m.call.count ≡ 1 = e in let g : m.call.count - 1 ≡ 0 = omega (arith, n) in g
 
     by : (j : Count) (z : Bool) → (count_in m j == 1) ≡ z → Learned h q m (LowerCount j s k) ((if z then Yes else No), lowered m j s)
     by j true e = zero_left j (eqb-true (count_in m j) 1 e)
     by j false e = tt
 
-lower_all_learned : (h : Shape) (q : Party) (m : Part) (b : Pieces) → Learned h q m (LowerForAll b) ((if m.pool.count == b.workers then Yes else No), record m { pool = record (m.pool) { count = m.pool.count - b.workers } })
-lower_all_learned h q m b = by (m.pool.count == b.workers) refl
+lower_all_learned : (h : Shape) (q : Party) (m : Part) (b : Pieces) → Learned h q m (LowerForAll b) ((if count_in m b.count == b.workers then Yes else No), all_lowered m b)
+lower_all_learned h q m b = by (count_in m b.count == b.workers) refl
   where
-    by : (z : Bool) → (m.pool.count == b.workers) ≡ z → Learned h q m (LowerForAll b) ((if z then Yes else No), record m { pool = record (m.pool) { count = m.pool.count - b.workers } })
-    by true e = let n : m.pool.count ≡ b.workers = eqb-true (m.pool.count) b.workers e in (let g : m.pool.count - b.workers ≡ 0 = omega (arith, n) in g)
+    zero : (n k : ℕ) → n ≡ k → n - k ≡ 0
+    zero n k e = omega (arith, e)
+
+    left : (j : Count) → b.count ≡ j → count_in m j ≡ b.workers → count_in (all_lowered m b) j ≡ 0
+    left (OfPool p) k e = ap (λ v. pool_less v b.workers m.pool.count) k ∙ zero (m.pool.count) b.workers e
+    left (OfScope c o) k e = ap (λ v. call_less v b.workers m.call.count) k ∙ zero (m.call.count) b.workers e
+    left (OfCast c o) k e = ap (λ v. call_less v b.workers m.call.count) k ∙ zero (m.call.count) b.workers e
+
+    by : (z : Bool) → (count_in m b.count == b.workers) ≡ z → Learned h q m (LowerForAll b) ((if z then Yes else No), all_lowered m b)
+    by true e = left b.count refl (eqb-true (count_in m b.count) b.workers e)
     by false e = tt
 
 -- what the three kinds of takes tell
@@ -224,14 +236,14 @@ act_learned h (Worker a b) c m (TakeResult o f) = take_learned h (Worker a b) m 
 act_learned h (Worker a b) c m (LowerCount p s k) = lower_learned h (Worker a b) m p s k
 act_learned h (Worker a b) c m (LowerForAll n) = lower_all_learned h (Worker a b) m n
 act_learned h (Worker a b) c m (BeginTask (Plain t)) = refl
-act_learned h (Worker a b) c m (BeginTask (Token k i)) = out_sees (Learned h (Worker a b) m (BeginTask (Token k i))) (Worker a b) m tt (λ u us e. (ap (λ l. or_none (head_of l)) e, (let a : times u m.seat.fifo ≡ (one (u == u) + times u us) = ap (times u) e in let b : one (u == u) ≡ 1 = ap one (eq-eqb u u refl) in omega (arith, a, b)), refl))
-act_learned h (Worker a b) c m (TakeFromFifo f) = undo_sees (Learned h (Worker a b) m (TakeFromFifo f)) (Worker a b) m tt (λ u e. (ap or_none e, (let a : times u m.seat.fifo ≡ (one (u == u) + times u (but_last m.seat.fifo)) = times_drop m.seat.fifo u u e in let b : one (u == u) ≡ 1 = ap one (eq-eqb u u refl) in omega (arith, a, b))))
+act_learned h (Worker a b) c m (BeginTask (Token k i b8)) = out_sees (Learned h (Worker a b) m (BeginTask (Token k i b8))) (Worker a b) m b8 tt (λ u us e. (ap (λ l. or_none (head_of l)) e, (let a : times u (m.seat.fifo b8) ≡ (one (u == u) + times u us) = ap (times u) e in let b : one (u == u) ≡ 1 = ap one (eq-eqb u u refl) in omega (arith, a, b)), refl))
+act_learned h (Worker a b) c m (TakeFromFifo f) = undo_sees (Learned h (Worker a b) m (TakeFromFifo f)) (Worker a b) m (count_book f.count) tt (λ u e. (ap or_none e, (let a : times u (m.seat.fifo (count_book f.count)) ≡ (one (u == u) + times u (but_last (m.seat.fifo (count_book f.count)))) = times_drop (m.seat.fifo (count_book f.count)) u u e in let b : one (u == u) ≡ 1 = ap one (eq-eqb u u refl) in omega (arith, a, b))))
 act_learned h (Worker a b) c m x = if_some_all (Learned h (Worker a b) m x) (λ r. tt) (effect (act_of (Worker a b) x) h (Worker a b) c m)
 act_learned h (Caller g) c m (TakeResult o f) = take_learned h (Caller g) m o f m.call.cell refl
 act_learned h (Caller g) c m (LowerCount p s k) = lower_learned h (Caller g) m p s k
 act_learned h (Caller g) c m (LowerForAll n) = lower_all_learned h (Caller g) m n
 act_learned h (Caller g) c m (BeginTask (Plain t)) = refl
-act_learned h (Caller g) c m (BeginTask (Token k i)) = out_sees (Learned h (Caller g) m (BeginTask (Token k i))) (Caller g) m tt (λ u us e. (ap (λ l. or_none (head_of l)) e, (let a : times u m.seat.fifo ≡ (one (u == u) + times u us) = ap (times u) e in let b : one (u == u) ≡ 1 = ap one (eq-eqb u u refl) in omega (arith, a, b)), refl))
+act_learned h (Caller g) c m (BeginTask (Token k i b8)) = out_sees (Learned h (Caller g) m (BeginTask (Token k i b8))) (Caller g) m b8 tt (λ u us e. (ap (λ l. or_none (head_of l)) e, (let a : times u (m.seat.fifo b8) ≡ (one (u == u) + times u us) = ap (times u) e in let b : one (u == u) ≡ 1 = ap one (eq-eqb u u refl) in omega (arith, a, b)), refl))
 act_learned h (Caller g) c m (PopWorking w) = tt
 act_learned h (Caller g) c m (TakeCastWorking w) = tt
 act_learned h (Caller g) c m (PopIdle w) = tt
@@ -258,85 +270,101 @@ made_held w h q t b = elim (either (ltb t w.jobs)) [ inl y ↦ (let z : t < w.jo
         let e : is_loc (Hand q) (loc_at (w.job t)) ≡ 0 = ap (λ v. is_loc (Hand q) (loc_of v ((w.job t).runs))) ((h.unmade) t z) in omega (arith, a, e, b)
 
 -- what comes to a FIFO list
-abbrev pub lined : ℕ → Place → ℕ
-lined t (AddToFifo f) = one (t == f.job)
-lined t _ = 0
+abbrev pub lined : Option ℕ → ℕ → Place → ℕ
+lined b t (AddToFifo f) = one (same_list b (count_book f.count) && (t == f.job))
+lined b t _ = 0
 
 -- no act brings more to one
-abbrev pub Lines : Part → ℕ → Place → Seen × Part → Type 0
-Lines m t x r = times t (r.1.seat.fifo) ≤ times t m.seat.fifo + lined t x
+abbrev pub Lines : Part → Option ℕ → ℕ → Place → Seen × Part → Type 0
+Lines m b t x r = times t (r.1.seat.fifo b) ≤ times t (m.seat.fifo b) + lined b t x
 
-pop_lined : (q : Party) (m : Part) (t : ℕ) (rest : List ℕ) (o : Option ℕ) → IfSome (popped q m rest o) (λ r. times t (r.1.seat.fifo) ≤ times t m.seat.fifo + 0)
-pop_lined q m t rest None = omega arith
-pop_lined q m t rest (Some u) = omega arith
+pop_lined : (q : Party) (m : Part) (v : Option ℕ) (t : ℕ) (rest : List ℕ) (o : Option ℕ) → IfSome (popped q m rest o) (λ r. times t (r.1.seat.fifo v) ≤ times t (m.seat.fifo v) + 0)
+pop_lined q m v t rest None = omega arith
+pop_lined q m v t rest (Some u) = omega arith
 
-inj_lined : (q : Party) (m : Part) (t : ℕ) (l : List ℕ) → IfSome (pop_injector q m l) (λ r. times t (r.1.seat.fifo) ≤ times t m.seat.fifo + 0)
-inj_lined q m t [] = omega arith
-inj_lined q m t (u ∷ us) = omega arith
+inj_lined : (q : Party) (m : Part) (v : Option ℕ) (t : ℕ) (l : List ℕ) → IfSome (pop_injector q m l) (λ r. times t (r.1.seat.fifo v) ≤ times t (m.seat.fifo v) + 0)
+inj_lined q m v t [] = omega arith
+inj_lined q m v t (u ∷ us) = omega arith
 
-cast_lined : (q : Party) (m : Part) (t : ℕ) (l : List ℕ) → IfSome (take_cast q m l) (λ r. times t (r.1.seat.fifo) ≤ times t m.seat.fifo + 0)
-cast_lined q m t [] = omega arith
-cast_lined q m t (u ∷ us) = omega arith
+cast_lined : (q : Party) (m : Part) (v : Option ℕ) (t : ℕ) (l : List ℕ) → IfSome (take_cast q m l) (λ r. times t (r.1.seat.fifo v) ≤ times t (m.seat.fifo v) + 0)
+cast_lined q m v t [] = omega arith
+cast_lined q m v t (u ∷ us) = omega arith
 
-push_lined : (h : Shape) (q : Party) (c : Counts) (m : Part) (t u p : ℕ) (k : Option ℕ) (z : Bool) → IfSome (effect (if z then PushOwn u k else PushInj p u k) h q c m) (λ r. times t (r.1.seat.fifo) ≤ times t m.seat.fifo + 0)
-push_lined h q c m t u p k true = omega arith
-push_lined h q c m t u p k false = omega arith
+push_lined : (h : Shape) (q : Party) (c : Counts) (m : Part) (v : Option ℕ) (t u p : ℕ) (k : Option ℕ) (z : Bool) → IfSome (effect (if z then PushOwn u k else PushInj p u k) h q c m) (λ r. times t (r.1.seat.fifo v) ≤ times t (m.seat.fifo v) + 0)
+push_lined h q c m v t u p k true = omega arith
+push_lined h q c m v t u p k false = omega arith
 
-pub line_table : (h : Shape) (q : Party) (c : Counts) (m : Part) (t : ℕ) (x : Place) → IfSome (effect (act_of q x) h q c m) (Lines m t x)
-line_table h (Worker a b) c m t (PopWorking k) = pop_lined (Worker a b) m t _ _
-line_table h (Caller n) c m t (PopWorking k) = tt
-line_table h (Worker a b) c m t (PopIdle k) = pop_lined (Worker a b) m t _ _
-line_table h (Caller n) c m t (PopIdle k) = tt
-line_table h (Worker a b) c m t (JoinPop o) = pop_lined (Worker a b) m t _ _
-line_table h (Caller n) c m t (JoinPop o) = tt
-line_table h (Worker a b) c m t YieldPop = pop_lined (Worker a b) m t _ _
-line_table h (Caller n) c m t YieldPop = tt
-line_table h (Worker a b) c m t LocalPop = pop_lined (Worker a b) m t _ _
-line_table h (Caller n) c m t LocalPop = tt
-line_table h (Worker a b) c m t (StealFrom k n) = pop_lined (Worker a b) m t _ _
-line_table h (Caller g) c m t (StealFrom k n) = tt
-line_table h (Worker a b) c m t (YieldSteal v n) = pop_lined (Worker a b) m t _ _
-line_table h (Caller g) c m t (YieldSteal v n) = tt
-line_table h (Worker a b) c m t (PopInjected k) = inj_lined (Worker a b) m t m.pool.injector
-line_table h (Caller n) c m t (PopInjected k) = tt
-line_table h (Worker a b) c m t YieldPopInjected = inj_lined (Worker a b) m t m.pool.injector
-line_table h (Caller n) c m t YieldPopInjected = tt
-line_table h (Worker a b) c m t (TakeCastWorking k) = cast_lined (Worker a b) m t (m.pool.casts b)
-line_table h (Caller n) c m t (TakeCastWorking k) = tt
-line_table h (Worker a b) c m t (TakeCastIdle k) = cast_lined (Worker a b) m t (m.pool.casts b)
-line_table h (Caller n) c m t (TakeCastIdle k) = tt
-line_table h (Worker a b) c m t (JoinTakeCast o) = cast_lined (Worker a b) m t (m.pool.casts b)
-line_table h (Caller n) c m t (JoinTakeCast o) = tt
-line_table h (Worker a b) c m t YieldTakeCast = cast_lined (Worker a b) m t (m.pool.casts b)
-line_table h (Caller n) c m t YieldTakeCast = tt
-line_table h (Worker a b) c m t LocalTakeCast = cast_lined (Worker a b) m t (m.pool.casts b)
-line_table h (Caller n) c m t LocalTakeCast = tt
-line_table h (Worker a b) c m t (PushJob n v) = push_lined h (Worker a b) c m t (plan_job n) (plan_pool n) (plan_book n) (is_member (Worker a b) (plan_pool n))
-line_table h (Caller g) c m t (PushJob n v) = push_lined h (Caller g) c m t (plan_job n) (plan_pool n) (plan_book n) (is_member (Caller g) (plan_pool n))
-line_table h (Worker a b) c m t (PushToken f v) = omega arith
-line_table h (Caller g) c m t (PushToken f v) = tt
-line_table h (Worker a b) c m t (AddToFifo f) = if_cond (Lines m t (AddToFifo f)) (is_open (Worker a b) m.seat.feeder) _ (λ z. let k : times t (m.seat.fifo ++ f.job ∷ []) ≡ (times t m.seat.fifo + one (t == f.job)) = times_push m.seat.fifo t f.job in omega (arith, k))
-line_table h (Caller g) c m t (AddToFifo f) = tt
-line_table h (Worker a b) c m t (TakeFromFifo f) = undo_sees (Lines m t (TakeFromFifo f)) (Worker a b) m (omega arith) (λ u e. let k : times t m.seat.fifo ≡ (one (t == u) + times t (but_last m.seat.fifo)) = times_drop m.seat.fifo t u e in omega (arith, k))
-line_table h (Caller g) c m t (TakeFromFifo f) = tt
-line_table h q c m t (BeginTask (Plain u)) = omega arith
-line_table h q c m t (BeginTask (Token k i)) = out_sees (Lines m t (BeginTask (Token k i))) q m (omega arith) (λ u us e. let k : times t m.seat.fifo ≡ (one (t == u) + times t us) = ap (times t) e in omega (arith, k))
-line_table h q c m t (BeginHere u) = omega arith
-line_table h q c m t (PushForAll b) = omega arith
-line_table h q c m t x = if_some_map (SameJobs m) (Lines m t x) (λ r s. let k : times t (r.1.seat.fifo) ≡ times t m.seat.fifo = ap (times t) (s.fifo) in omega (arith, k)) (effect (act_of q x) h q c m) (quiet_same h q c m x refl)
+line_more : (f : Option ℕ → List ℕ) (b v : Option ℕ) (t u : ℕ) → times t (put_list f b (f b ++ u ∷ []) v) ≤ times t (f v) + one (same_list v b && (t == u))
+line_more f b v t u = by (same_list v b) refl
+  where
+    by : (z : Bool) → same_list v b ≡ z → times t (if z then f b ++ u ∷ [] else f v) ≤ times t (f v) + one (z && (t == u))
+    by true z = let a : times t (f v) ≡ times t (f b) = ap (λ l. times t (f l)) (same_list_true v b z) in let k : times t (f b ++ u ∷ []) ≡ (times t (f b) + one (t == u)) = times_push (f b) t u in omega (arith, a, k)
+    by false z = omega arith
+
+line_less : (f : Option ℕ → List ℕ) (b : Option ℕ) (l : List ℕ) (v : Option ℕ) (t : ℕ) → times t l ≤ times t (f b) → times t (put_list f b l v) ≤ times t (f v) + 0
+line_less f b l v t e = by (same_list v b) refl
+  where
+    by : (z : Bool) → same_list v b ≡ z → times t (if z then l else f v) ≤ times t (f v) + 0
+    by true z = let a : times t (f v) ≡ times t (f b) = ap (λ n. times t (f n)) (same_list_true v b z) in omega (arith, a, e)
+    by false z = omega arith
+
+pub line_table : (h : Shape) (q : Party) (c : Counts) (m : Part) (v : Option ℕ) (t : ℕ) (x : Place) → IfSome (effect (act_of q x) h q c m) (Lines m v t x)
+line_table h (Worker a b) c m v t (PopWorking k) = pop_lined (Worker a b) m v t _ _
+line_table h (Caller n) c m v t (PopWorking k) = tt
+line_table h (Worker a b) c m v t (PopIdle k) = pop_lined (Worker a b) m v t _ _
+line_table h (Caller n) c m v t (PopIdle k) = tt
+line_table h (Worker a b) c m v t (JoinPop o) = pop_lined (Worker a b) m v t _ _
+line_table h (Caller n) c m v t (JoinPop o) = tt
+line_table h (Worker a b) c m v t YieldPop = pop_lined (Worker a b) m v t _ _
+line_table h (Caller n) c m v t YieldPop = tt
+line_table h (Worker a b) c m v t LocalPop = pop_lined (Worker a b) m v t _ _
+line_table h (Caller n) c m v t LocalPop = tt
+line_table h (Worker a b) c m v t (StealFrom k n) = pop_lined (Worker a b) m v t _ _
+line_table h (Caller g) c m v t (StealFrom k n) = tt
+line_table h (Worker a b) c m v t (YieldSteal k n) = pop_lined (Worker a b) m v t _ _
+line_table h (Caller g) c m v t (YieldSteal k n) = tt
+line_table h (Worker a b) c m v t (PopInjected k) = inj_lined (Worker a b) m v t m.pool.injector
+line_table h (Caller n) c m v t (PopInjected k) = tt
+line_table h (Worker a b) c m v t YieldPopInjected = inj_lined (Worker a b) m v t m.pool.injector
+line_table h (Caller n) c m v t YieldPopInjected = tt
+line_table h (Worker a b) c m v t (TakeCastWorking k) = cast_lined (Worker a b) m v t (m.pool.casts b)
+line_table h (Caller n) c m v t (TakeCastWorking k) = tt
+line_table h (Worker a b) c m v t (TakeCastIdle k) = cast_lined (Worker a b) m v t (m.pool.casts b)
+line_table h (Caller n) c m v t (TakeCastIdle k) = tt
+line_table h (Worker a b) c m v t (JoinTakeCast o) = cast_lined (Worker a b) m v t (m.pool.casts b)
+line_table h (Caller n) c m v t (JoinTakeCast o) = tt
+line_table h (Worker a b) c m v t YieldTakeCast = cast_lined (Worker a b) m v t (m.pool.casts b)
+line_table h (Caller n) c m v t YieldTakeCast = tt
+line_table h (Worker a b) c m v t LocalTakeCast = cast_lined (Worker a b) m v t (m.pool.casts b)
+line_table h (Caller n) c m v t LocalTakeCast = tt
+line_table h (Worker a b) c m v t (PushJob n v9) = push_lined h (Worker a b) c m v t (plan_job n) (plan_pool n) (plan_book n) (is_member (Worker a b) (plan_pool n))
+line_table h (Caller g) c m v t (PushJob n v9) = push_lined h (Caller g) c m v t (plan_job n) (plan_pool n) (plan_book n) (is_member (Caller g) (plan_pool n))
+line_table h (Worker a b) c m v t (PushToken f v9) = omega arith
+line_table h (Caller g) c m v t (PushToken f v9) = tt
+line_table h (Worker a b) c m v t (AddToFifo f) = if_cond (Lines m v t (AddToFifo f)) (is_open (Worker a b) (m.seat.feeder (count_book f.count))) _ (λ z. line_more m.seat.fifo (count_book f.count) v t f.job)
+line_table h (Caller g) c m v t (AddToFifo f) = tt
+line_table h (Worker a b) c m v t (TakeFromFifo f) = undo_sees (Lines m v t (TakeFromFifo f)) (Worker a b) m (count_book f.count) (omega arith) (λ u e. let k : times t (m.seat.fifo (count_book f.count)) ≡ (one (t == u) + times t (but_last (m.seat.fifo (count_book f.count)))) = times_drop (m.seat.fifo (count_book f.count)) t u e in line_less m.seat.fifo (count_book f.count) (but_last (m.seat.fifo (count_book f.count))) v t (omega (arith, k)))
+line_table h (Caller g) c m v t (TakeFromFifo f) = tt
+line_table h q c m v t (BeginTask (Plain u)) = omega arith
+line_table h q c m v t (BeginTask (Token k i b8)) = out_sees (Lines m v t (BeginTask (Token k i b8))) q m b8 (omega arith) (λ u us e. let k : times t (m.seat.fifo b8) ≡ (one (t == u) + times t us) = ap (times t) e in line_less m.seat.fifo b8 us v t (omega (arith, k)))
+line_table h q c m v t (BeginHere u) = omega arith
+line_table h q c m v t (PushForAll b) = omega arith
+line_table h q c m v t (DealPieces b) = omega arith
+line_table h q c m v t x = if_some_map (SameJobs m) (Lines m v t x) (λ r s. let k : times t (r.1.seat.fifo v) ≡ times t (m.seat.fifo v) = ap (λ f. times t (f v)) (s.fifo) in omega (arith, k)) (effect (act_of q x) h q c m) (quiet_same h q c m x refl)
 
 -- a job in a FIFO list was made
-pub made_lined : (w : World) → JobsHold w → (p i t : ℕ) → 1 ≤ times t (w.seat p i).fifo → t + 1 ≤ w.jobs
-made_lined w h p i t b = elim (either (ltb t w.jobs)) [ inl y ↦ (let z : t < w.jobs = ltb-true t w.jobs y in omega (arith, z)) | inr n ↦ absurd (none (ltb-false t w.jobs n)) ]
+pub made_lined : (w : World) → JobsHold w → (p i : ℕ) (b7 : Option ℕ) (t : ℕ) → 1 ≤ times t ((w.seat p i).fifo b7) → t + 1 ≤ w.jobs
+made_lined w h p i b7 t b = elim (either (ltb t w.jobs)) [ inl y ↦ (let z : t < w.jobs = ltb-true t w.jobs y in omega (arith, z)) | inr n ↦ absurd (none (ltb-false t w.jobs n)) ]
   where
     none : w.jobs ≤ t → ⊥
-    none z = let a : times t (w.seat p i).fifo ≡ is_loc (Line p i) (loc_at (w.job t)) = ((h.ok).placed) (Line p i) t in
-        let e : is_loc (Line p i) (loc_at (w.job t)) ≡ 0 = ap (λ v. is_loc (Line p i) (loc_of v ((w.job t).runs))) ((h.unmade) t z) in omega (arith, a, e, b)
+    none z = let a : times t ((w.seat p i).fifo b7) ≡ is_loc (Line p i b7) (loc_at (w.job t)) = ((h.ok).placed) (Line p i b7) t in
+        let e : is_loc (Line p i b7) (loc_at (w.job t)) ≡ 0 = ap (λ v. is_loc (Line p i b7) (loc_of v ((w.job t).runs))) ((h.unmade) t z) in omega (arith, a, e, b)
 
 -- the acts that write a cell or set a latch
 abbrev pub stores : Place → Option Ending
 stores (StoreResult c o e) = Some e
 stores (StoreBody o e) = Some e
+stores (StorePiece c o t e) = Some e
 stores _ = None
 
 abbrev pub is_call : Latch → Bool
@@ -394,6 +422,14 @@ lower_unwritten m k s e = record { cell = refl; call = refl; seat = refl }
 body_written : (q : Party) (m : Part) (o : OpenCall) (d : Ending) → IfSome (put_body q m d) (Written m (StoreBody o d))
 body_written q m o d = book_sees (Written m (StoreBody o d)) q m _ (record { cell = λ e z. inr z; call = λ z. inl z; seat = λ z. inl z })
 
+piece_written : (m : Part) (c : ℕ) (o : Party) (t : ℕ) (d : Ending) (s : Seen) → Written m (StorePiece c o t d) (s, put_piece m t d)
+piece_written m c o t d s = record { cell = λ e z. by m.call.cell e refl z; call = λ z. inl z; seat = λ z. inl z }
+  where
+    by : (x : Option Ending) (e : Ending) → m.call.cell ≡ x → Some (with_piece x d) ≡ Some e → (m.call.cell ≡ Some e) ⊎ (Some d ≡ Some e)
+    by None e y z = inr z
+    by (Some Fine) e y z = inr z
+    by (Some Fault) e y z = inl (y ∙ z)
+
 pub act_written : (h : Shape) (q : Party) (c : Counts) (m : Part) (x : Place) → IfSome (effect (act_of q x) h q c m) (Written m x)
 act_written h (Worker a b) c m (ProbeWorking k) = same_written m (ProbeWorking k) _
 act_written h (Worker a b) c m (GetSleepy k) = sleepy_keeps (latch_of k.target) (λ v r. Written v (GetSleepy k) r) (λ v e. same_written v (GetSleepy k) e) (λ v e y n. unset_written v (GetSleepy k) (latch_of k.target) e y n) m (letter (latch_of k.target) m)
@@ -404,6 +440,8 @@ act_written h (Worker a b) c m (SetLockLatch i n) = record { cell = λ e z. inl 
 act_written h (Worker a b) c m (StoreResult i o e) = record { cell = λ d z. inr z; call = λ z. inl z; seat = λ z. inl z }
 act_written h (Worker a b) c m (TakeResult o f) = found_written m (TakeResult o f) m.call.cell
 act_written h (Worker a b) c m (GrowCall n) = record { cell = λ e z. cc; call = λ z. cc; seat = λ z. inl z }
+act_written h (Worker a b) c m (GrowCast n) = record { cell = λ e z. cc; call = λ z. cc; seat = λ z. inl z }
+act_written h (Worker a b) c m (StorePiece i o t d) = piece_written m i o t d _
 act_written h (Worker a b) c m (GrowScope n) = record { cell = λ e z. cc; call = λ z. cc; seat = λ z. inl z }
 act_written h (Worker a b) c m (StoreBody o d) = body_written (Worker a b) m o d
 act_written h (Worker a b) c m (LowerCount p s n) = written m (LowerCount p s n) (effect (act_of (Worker a b) (LowerCount p s n)) h (Worker a b) c m) (lower_unwritten m p s _)
@@ -413,6 +451,8 @@ act_written h (Caller v) c m (SetLockLatch i n) = record { cell = λ e z. inl z;
 act_written h (Caller v) c m (StoreResult i o e) = record { cell = λ d z. inr z; call = λ z. inl z; seat = λ z. inl z }
 act_written h (Caller v) c m (TakeResult o f) = found_written m (TakeResult o f) m.call.cell
 act_written h (Caller v) c m (GrowCall n) = record { cell = λ e z. cc; call = λ z. cc; seat = λ z. inl z }
+act_written h (Caller v) c m (GrowCast n) = record { cell = λ e z. cc; call = λ z. cc; seat = λ z. inl z }
+act_written h (Caller v) c m (StorePiece i o t d) = piece_written m i o t d _
 act_written h (Caller v) c m (GrowScope n) = record { cell = λ e z. cc; call = λ z. cc; seat = λ z. inl z }
 act_written h (Caller v) c m (StoreBody o d) = body_written (Caller v) m o d
 act_written h (Caller v) c m (LowerCount p s n) = written m (LowerCount p s n) (effect (act_of (Caller v) (LowerCount p s n)) h (Caller v) c m) (lower_unwritten m p s _)

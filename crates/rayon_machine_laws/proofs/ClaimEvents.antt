@@ -8,11 +8,11 @@ use Rattle.rayon_machine_places.specs.declared.place.Party.TheVariants.{Worker, 
 use Rattle.rayon_machine_places.specs.declared.place.Ending.{Ending}
 use Rattle.rayon_machine_places.specs.declared.place.Ending.TheVariants.{Fine, Fault}
 use Rattle.rayon_machine_places.specs.declared.place.JobKind.{JobKind}
-use Rattle.rayon_machine_places.specs.declared.place.JobKind.TheVariants.{Detached, Stored, Direct, TokenOf, Scoped, BodyOf}
+use Rattle.rayon_machine_places.specs.declared.place.JobKind.TheVariants.{Detached, Stored, Direct, TokenOf, Scoped, BodyOf, PieceOf, WholeOf}
 use Rattle.rayon_machine_places.specs.declared.place.Share.TheVariants.{PoolValue, OfJob}
 use Rattle.rayon_machine_places.specs.declared.place.Then.TheVariants.{Resume}
 use Rattle.rayon_machine_places.specs.declared.place.Place.{Place}
-use Rattle.rayon_machine_places.specs.declared.place.Place.TheVariants.{PickVictim, StealFrom, YieldPick, YieldSteal, Run, GrowCall, PushJob, LowerCount, StoreResult, FirstSide, SecondSide, AtOnce, Free, AddToFifo, PushToken, PushForAll, GrowScope, OpenSlot, StoreSlot, ScopeBody}
+use Rattle.rayon_machine_places.specs.declared.place.Place.TheVariants.{PickVictim, StealFrom, YieldPick, YieldSteal, Run, GrowCall, PushJob, LowerCount, StoreResult, FirstSide, SecondSide, AtOnce, Free, AddToFifo, PushToken, PushForAll, GrowScope, OpenSlot, StoreSlot, ScopeBody, OpenForAll, GrowCast, DealPieces, StorePiece}
 use Rattle.rayon_machine_places.specs.declared.act.Seen.{Seen}
 use Rattle.rayon_machine_places.specs.declared.act.Seen.TheVariants.{Refused, Missing, Start}
 use Rattle.rayon_machine_places.specs.declared.state.Whereabouts.TheVariants.{Over}
@@ -26,8 +26,8 @@ use Rattle.rayon_machine_laws.proofs.Hands.{held}
 use Rattle.rayon_machine_laws.proofs.PlacedEvents.{Advance}
 use Rattle.rayon_machine_laws.proofs.PlacedRuns.{jobs_advance}
 use Rattle.rayon_machine_laws.proofs.Claims.{is_body, FirstEnds, SaysRun, Says, wants, here, Link, Linked, AllSay, StackSays, relink, Learns}
-use Rattle.rayon_machine_laws.proofs.Later.{Later, later_says, later_all, later_made, later_latch}
-use Rattle.rayon_machine_laws.proofs.ClaimRuns.{CallsHold, all_says, moved_says}
+use Rattle.rayon_machine_laws.proofs.Later.{Later, later_says, later_all, later_latch, later_as, later_tied, later_part}
+use Rattle.rayon_machine_laws.proofs.ClaimRuns.{CallsHold, all_says, moved_says, later_lined}
 
 -- where one party has another stack, and pools keep what they said
 restacked : (w : World) (q : Party) (k : Stack) (P : ℕ → Pool) → ((p : ℕ) → (P p).count ≡ (w.pool p).count) → ((p : ℕ) → (w.pool p).held ≡ false → (P p).held ≡ false) → (Later w (record w { stack = put_stack w.stack q k; pool = P }) → StackSays (record w { stack = put_stack w.stack q k; pool = P }) q k) → CallsHold w → Advance w (record w { stack = put_stack w.stack q k; pool = P }) → CallsHold (record w { stack = put_stack w.stack q k; pool = P })
@@ -36,16 +36,17 @@ restacked w q k P counts held s h a = record {
   says = all_says w (record w { stack = put_stack w.stack q k; pool = P }) later q k (s later) (h.says);
   ties = h.ties;
   pools = h.pools;
-  cells = h.cells;
+  cells = λ c e z. later_as w (record w { stack = put_stack w.stack q k; pool = P }) later ((w.call c).job) c e (h.cells c e z);
   latches = λ c z. later_latch w (record w { stack = put_stack w.stack q k; pool = P }) later 0 (OfCall c) (h.latches c z);
-  entries = h.entries;
-  scopes = h.scopes;
+  entries = λ t b c o z. later_tied w (record w { stack = put_stack w.stack q k; pool = P }) later c o (h.entries t b c o z);
+  parts = λ t b c o z. later_part w (record w { stack = put_stack w.stack q k; pool = P }) later t c o (h.parts t b c o z);
+  scopes = λ n z e. later_tied w (record w { stack = put_stack w.stack q k; pool = P }) later z.call z.owner (h.scopes n z e);
   ends = λ p i z. counts p ∙ h.ends p i z;
-  lines = λ p i t b. later_made w (record w { stack = put_stack w.stack q k; pool = P }) later t p (Detached p) (h.lines p i t b);
+  lines = λ p i v t b. later_lined w (record w { stack = put_stack w.stack q k; pool = P }) later t p v (h.lines p i v t b);
 }
   where
     later : Later w (record w { stack = put_stack w.stack q k; pool = P })
-    later = record { jobs = omega arith; calls = omega arith; over = λ t e z. z; left = λ t z. z; kind = λ t b. refl; pool = λ t b. refl; bound = λ t b. refl; target = λ c b. refl; side = λ c b. refl; ended = λ p z. counts p ∙ z; spent = λ c b z. z; given = held }
+    later = record { jobs = omega arith; calls = omega arith; over = λ t e z. z; left = λ t z. z; kind = λ t b. refl; pool = λ t b. refl; bound = λ t b. refl; target = λ c b. refl; side = λ c b. refl; shape = refl; gone = λ t z. z; ended = λ p z. counts p ∙ z; spent = λ c b z. z; given = held }
 
 -- a party goes on as if its act had seen this
 seeing_calls : (w : World) (q : Party) (g : PoolShape) (x : Place) (fs : List Place) (e : Seen) → w.stack q ≡ record { top = x; below = fs } → Learns (record w { stack = put_stack w.stack q (after_move (next_of g q x e) fs) }) x e → CallsHold w → Advance w (record w { stack = put_stack w.stack q (after_move (next_of g q x e) fs) }) → CallsHold (record w { stack = put_stack w.stack q (after_move (next_of g q x e) fs) })
@@ -68,6 +69,9 @@ refuse_calls w q (GrowScope o) fs z h = λ a. seeing_calls w q (w.shape.pool (ow
 refuse_calls w q (OpenSlot n) fs z h = λ a. seeing_calls w q (w.shape.pool (own_pool q)) (OpenSlot n) fs Refused z tt h a
 refuse_calls w q (AddToFifo f) fs z h = λ a. seeing_calls w q (w.shape.pool (own_pool q)) (AddToFifo f) fs Refused z tt h a
 refuse_calls w q (PushToken f v) fs z h = λ a. seeing_calls w q (w.shape.pool (own_pool q)) (PushToken f v) fs Refused z tt h a
+refuse_calls w q (OpenForAll c) fs z h = λ a. seeing_calls w q (w.shape.pool (own_pool q)) (OpenForAll c) fs Refused z tt h a
+refuse_calls w q (GrowCast g) fs z h = λ a. seeing_calls w q (w.shape.pool (own_pool q)) (GrowCast g) fs Refused z tt h a
+refuse_calls w q (DealPieces g) fs z h = λ a. seeing_calls w q (w.shape.pool (own_pool q)) (DealPieces g) fs Refused z tt h a
 refuse_calls w q (PushForAll c) fs z h = λ a. seeing_calls w q (w.shape.pool (own_pool q)) (PushForAll c) fs Refused z tt h a
 refuse_calls w q (PushJob n v) fs z h = λ a. seeing_calls w q (w.shape.pool (own_pool q)) (PushJob n v) fs Refused z tt h a
 refuse_calls w q _ fs z h = tt
@@ -118,7 +122,7 @@ here_goes_on f e t z = z
 says_goes_on : (u : World) (q : Party) (f : Place) (d : Ending) (t : ℕ) → (u.job t).at ≡ Over d → Link f (Run t Direct) → Says u q f → Says u q (goes_on f d)
 says_goes_on u q (FirstSide o a) Fine t z k s = let is : Some t ≡ Some a = k a refl in let e : t ≡ a = cc in (s.0, subst (λ x. FirstEnds u x (Some Fine)) (sym (s.1)) (subst (λ n. (u.job n).at ≡ Over Fine) e z))
 says_goes_on u q (FirstSide o a) Fault t z k s = let is : Some t ≡ Some a = k a refl in let e : t ≡ a = cc in (s.0, subst (λ x. FirstEnds u x (Some Fault)) (sym (s.1)) (subst (λ n. (u.job n).at ≡ Over Fault) e z))
-says_goes_on u q (SecondSide o) d t z k s = let is : Some t ≡ Some (o.job) = k (o.job) refl in let e : t ≡ o.job = cc in ((s.0, s.1, inl (subst (λ n. (u.job n).at ≡ Over d) e z)), ((s.0).made, (s.0).pool, refl))
+says_goes_on u q (SecondSide o) d t z k s = let is : Some t ≡ Some (o.job) = k (o.job) refl in let e : t ≡ o.job = cc in ((s.0, s.1, inl (inl (subst (λ n. (u.job n).at ≡ Over d) e z))), ((s.0).made, (s.0).pool, refl))
 says_goes_on u q (ScopeBody o) d t z k s = let is : Some t ≡ Some (o.job) = k (o.job) refl in let e : t ≡ o.job = cc in (s, subst (λ n. (u.job n).at ≡ Over d) e z)
 says_goes_on u q (AtOnce p a) d t z k s = let is : Some t ≡ Some a = k a refl in let e : t ≡ a = cc in (subst (λ n. (u.job n).at ≡ Over d) e z, (s.made, s.pool, (refl, s.kind)))
 says_goes_on u q _ d t z k s = s
@@ -133,7 +137,9 @@ plain_links x y fs e k = relink x y fs (λ t z. cc) k
 pub says_closed : (w u : World) (q : Party) (d : Ending) (t : ℕ) (k : JobKind) (fs : List Place) → CallsHold w → Later w u → ((c : ℕ) → (u.call c).job ≡ (w.call c).job) → (u.job t).at ≡ Over d → (u.job t).pool ≡ (w.job t).pool → SaysRun u t k → SaysRun w t k → ((p : ℕ) → k ≡ Detached p → (w.job t).pool ≡ p) → AllSay u q fs → Linked (Run t k) fs → StackSays u q (after_close t k d fs)
 says_closed w u q d t (Detached p) fs h l c z y s s0 dp a k = record { top = (tt, (s.0, y ∙ dp p refl, (s.1, ap is_done z))); below = a; links = plain_links (Run t (Detached p)) (LowerCount (OfPool p) (OfJob t) Resume) fs refl k }
 says_closed w u q d t (Stored i o) fs h l c z y s s0 dp a k = record { top = (let b : (i + 1 ≤ w.calls) × ((w.call i).job ≡ t) = h.ties t (s0.0) i o (s0.1) in let m : w.calls ≤ u.calls = l.calls in let n : i + 1 ≤ w.calls = b.0 in ((let g : i + 1 ≤ u.calls = omega (arith, m, n) in g), ap (λ n. (u.job n).at) (c i ∙ b.1) ∙ z, (subst (λ n. n + 1 ≤ u.jobs) (sym (c i ∙ b.1)) (s.0), ap (λ n. is_body (u.job n).kind) (c i ∙ b.1) ∙ ap is_body (s.1)))); below = a; links = plain_links (Run t (Stored i o)) (StoreResult i o d) fs refl k }
-says_closed w u q d t (Scoped i o) fs h l c z y s s0 dp a k = record { top = (s.0, s.1, (let b : i + 1 ≤ w.calls = h.entries t (s0.0) i o (s0.1) in let m : w.calls ≤ u.calls = l.calls in omega (arith, m, b)), z); below = a; links = plain_links (Run t (Scoped i o)) (StoreSlot i o t d) fs refl k }
+says_closed w u q d t (Scoped i o) fs h l c z y s s0 dp a k = record { top = (s.0, s.1, (let b : i + 1 ≤ w.calls = (h.entries t (s0.0) i o (s0.1)).number in let m : w.calls ≤ u.calls = l.calls in omega (arith, m, b)), z); below = a; links = plain_links (Run t (Scoped i o)) (StoreSlot i o t d) fs refl k }
+says_closed w u q d t (PieceOf i o) fs h l c z y s s0 dp a k = record { top = (s.0, s.1, (let b : i + 1 ≤ w.calls = (h.parts t (s0.0) i o (s0.1)).number in let m : w.calls ≤ u.calls = l.calls in omega (arith, m, b)), z); below = a; links = plain_links (Run t (PieceOf i o)) (StorePiece i o t d) fs refl k }
+says_closed w u q d t (WholeOf c9 o9) fs h l c z y s s0 dp a k = says_resumed u q d t fs z a (relink (Run t (WholeOf c9 o9)) (Run t Direct) fs (λ v e. e) k)
 says_closed w u q d t Direct fs h l c z y s s0 dp a k = says_resumed u q d t fs z a k
-says_closed w u q d t (TokenOf i) fs h l c z y s s0 dp a k = says_resumed u q d t fs z a (relink (Run t (TokenOf i)) (Run t Direct) fs (λ v e. e) k)
+says_closed w u q d t (TokenOf i b8) fs h l c z y s s0 dp a k = says_resumed u q d t fs z a (relink (Run t (TokenOf i b8)) (Run t Direct) fs (λ v e. e) k)
 says_closed w u q d t (BodyOf c9 o9) fs h l c z y s s0 dp a k = says_resumed u q d t fs z a (relink (Run t (BodyOf c9 o9)) (Run t Direct) fs (λ v e. e) k)

@@ -1,15 +1,14 @@
--- what a place says of the world: of its party's calls, of their jobs, and of ended pools
+-- what a stack says of the world, and what acts and moves leave of it
+use Rattle.rayon_machine_places.specs.declared.place.Feeding.{Feeding}
 use Rattle.rayon_machine_places.specs.declared.place.Pieces.{Pieces}
-use Rattle.rayon_machine_places.specs.declared.place.Count.TheVariants.{OfPool, OfScope}
+use Rattle.rayon_machine_places.specs.declared.place.Count.TheVariants.{OfPool, OfScope, OfCast}
 use Rattle.rayon_machine_places.specs.declared.place.Count.{Count}
 use Rattle.std.proofs.Common.{refl, sym, ap, subst, inl, inr, ◌∙◌}
-use Rattle.std.specs.Prelude.{ℕ, Bool, true, false, ◌&&◌, ◌+◌, ◌-◌, ◌==◌, ◌≤◌, nat_lt, if◌then◌else◌, Option, Some, None, List, [], ◌∷◌, ◌≡◌, ⊤, ◌⊎◌}
+use Rattle.std.specs.Prelude.{ℕ, Bool, true, false, ◌&&◌, ◌+◌, ◌-◌, ◌==◌, ◌≤◌, nat_lt, if◌then◌else◌, Option, Some, None, List, [], ◌∷◌, ◌≡◌, ⊤}
 use Rattle.rayon_machine_places.specs.declared.place.Party.{Party}
 use Rattle.rayon_machine_places.specs.declared.place.Party.TheVariants.{Worker, Caller}
-use Rattle.rayon_machine_places.specs.declared.place.Ending.{Ending}
-use Rattle.rayon_machine_places.specs.declared.place.Ending.TheVariants.{Fine, Fault}
-use Rattle.rayon_machine_places.specs.declared.place.JobKind.{JobKind}
-use Rattle.rayon_machine_places.specs.declared.place.JobKind.TheVariants.{Detached, Stored, Direct, TokenOf, Scoped, BodyOf}
+use Rattle.rayon_machine_places.specs.declared.place.Ending.TheVariants.{Fine}
+use Rattle.rayon_machine_places.specs.declared.place.JobKind.TheVariants.{Detached, Stored, Direct, TokenOf, Scoped, BodyOf, PieceOf, WholeOf}
 use Rattle.rayon_machine_places.specs.declared.place.Target.{Target}
 use Rattle.rayon_machine_places.specs.declared.place.Target.TheVariants.{Termination, Answer}
 use Rattle.rayon_machine_places.specs.declared.place.Latch.{Latch}
@@ -17,285 +16,29 @@ use Rattle.rayon_machine_places.specs.declared.place.Latch.TheVariants.{Terminat
 use Rattle.rayon_machine_places.specs.declared.place.Rounds.{Rounds}
 use Rattle.rayon_machine_places.specs.declared.place.Rounds.TheVariants.{Failed, Announced}
 use Rattle.rayon_machine_places.specs.declared.place.Plan.{Plan}
-use Rattle.rayon_machine_places.specs.declared.place.Plan.TheVariants.{Detach, Here, Send, Fork, Feed, Open, Enter}
+use Rattle.rayon_machine_places.specs.declared.place.Plan.TheVariants.{Detach, Here, Send, Fork, Feed, Open, Enter, Gather}
 use Rattle.rayon_machine_places.specs.declared.place.Share.{Share}
 use Rattle.rayon_machine_places.specs.declared.place.Share.TheVariants.{PoolValue, OfJob, Body}
 use Rattle.rayon_machine_places.specs.declared.place.Then.{Then}
-use Rattle.rayon_machine_places.specs.declared.place.Then.TheVariants.{BeginFound, LeaveWait, Resume, Await, RunFirst, Answers, Missing, Ran, GiveBack, Called}
+use Rattle.rayon_machine_places.specs.declared.place.Then.TheVariants.{BeginFound, LeaveWait, Resume, Await, RunFirst, Answers, Missing, Ran, GiveBack, Called, Gathers}
 use Rattle.rayon_machine_places.specs.declared.place.Taken.{Taken}
 use Rattle.rayon_machine_places.specs.declared.place.Taken.TheVariants.{Plain, Token}
 use Rattle.rayon_machine_places.specs.declared.place.Place.{Place}
-use Rattle.rayon_machine_places.specs.declared.place.Place.TheVariants.{ProbeWorking, PopWorking, TakeCastWorking, BecomeInactive, ProbeIdle, PopIdle, TakeCastIdle, PickVictim, StealFrom, PopInjected, AnnounceSelf, GetSleepy, LockOwn, FallAsleep, LoadCounters, AddSleeping, LookAtCast, LookAtInjector, BlockSelf, RelockOwn, UndoSleeping, WakeUp, UnlockOwn, LeaveSearch, JoinProbe, JoinPop, JoinTakeCast, YieldPop, YieldTakeCast, YieldPick, YieldSteal, YieldPopInjected, LocalPop, LocalTakeCast, BeginTask, BeginHere, Run, RaiseCount, GrowCall, LookQueue, PushJob, TellNews, LockToWake, WakeWorker, UnlockWoken, WaitForLock, TakeResult, LowerCount, StoreResult, SetLatch, LockToSettle, WakeSettled, UnlockSettled, SetLockLatch, FirstSide, SecondSide, AtOnce, AddToFifo, LookForToken, PushToken, TakeFromFifo, RaiseForAll, PushForAll, LowerForAll, GrowScope, OpenSlot, CloseSlot, StoreBody, StoreSlot, ScopeBody}
+use Rattle.rayon_machine_places.specs.declared.place.Place.TheVariants.{ProbeWorking, PopWorking, TakeCastWorking, ProbeIdle, PopIdle, TakeCastIdle, PickVictim, StealFrom, PopInjected, AnnounceSelf, GetSleepy, FallAsleep, LoadCounters, AddSleeping, LookAtCast, LookAtInjector, WakeUp, LeaveSearch, JoinProbe, JoinPop, JoinTakeCast, YieldPop, YieldTakeCast, YieldPick, YieldSteal, YieldPopInjected, LocalPop, LocalTakeCast, BeginTask, BeginHere, Run, RaiseCount, GrowCall, LookQueue, PushJob, TellNews, LockToWake, WakeWorker, UnlockWoken, TakeResult, LowerCount, StoreResult, SetLatch, UnlockSettled, SetLockLatch, FirstSide, SecondSide, AtOnce, AddToFifo, LookForToken, PushToken, TakeFromFifo, RaiseForAll, PushForAll, LowerForAll, GrowScope, OpenSlot, CloseSlot, StoreBody, StoreSlot, ScopeBody, OpenForAll, CloseForAll, GrowCast, DealPieces, StorePiece}
 use Rattle.rayon_machine_places.specs.declared.place.Move.{Move}
 use Rattle.rayon_machine_places.specs.declared.place.Move.TheVariants.{Stay, Enter, StartRun, Back, HandBack, Discard, HandIn, Mark, HandAllBack}
 use Rattle.rayon_machine_places.specs.declared.act.Seen.{Seen}
-use Rattle.rayon_machine_places.specs.declared.act.Seen.TheVariants.{Done, Yes, Task, Jec, Word, Start, Wakes, Begun, Found, Handed}
-use Rattle.rayon_machine_places.specs.declared.state.Whereabouts.TheVariants.{Over}
+use Rattle.rayon_machine_places.specs.declared.act.Seen.TheVariants.{Done, Yes, Task, Jec, Word, Start, Wakes, Begun, Found, Handed, Opened as Slots}
 use Rattle.rayon_machine_places.specs.declared.shape.PoolShape.{PoolShape}
 use Rattle.rayon_machine_places.specs.declared.place.OpenCall.{OpenCall}
 use Rattle.rayon_machine_places.specs.declared.place.Wait.{Wait}
 use Rattle.rayon_machine_places.specs.declared.place.Settling.{Settling}
-use Rattle.rayon_machine_places.specs.Places.{own_pool, own_index, plan_pool, plan_job, after_wait, finish, walk, settle, after_set, after_found, after_news, after_raise, undo, set_call, next_victim, not_self, after_failure, next_steal, next_yield, next_of, is_taken, taken_number, after_push, settle_count, plan_count}
+use Rattle.rayon_machine_places.specs.Places.{own_pool, own_index, plan_pool, after_wait, finish, walk, settle, after_set, after_found, after_news, after_raise, undo, set_call, next_victim, not_self, after_failure, next_steal, next_yield, next_of, is_taken, taken_number, after_push, settle_count, count_kind, count_book, begin_feed, withdraw, after_slot, begin_cast, end_cast, ends_count}
 use Rattle.rayon_machine_places.specs.World.{Stack, World}
-use Rattle.rayon_machine_places.specs.Steps.{after_move, is_piece}
+use Rattle.rayon_machine_places.specs.Steps.{after_move}
 use Rattle.rayon_machine_places.specs.Readers.{is_done}
 pub use Rattle.rayon_machine_laws.specs.Counted.{is_detached, is_scoped}
-use Rattle.rayon_machine_laws.proofs.Located.{is_left}
-
--- the call that waits for a job of this kind, and its owner
-abbrev pub call_kind : JobKind → Option (ℕ × Party)
-call_kind (Stored c o) = Some (c, o)
-call_kind (BodyOf c o) = Some (c, o)
-call_kind _ = None
-
--- the body of a scope
-abbrev pub is_body : JobKind → Bool
-is_body (BodyOf c o) = true
-is_body _ = false
-
-pub call_undetached : (k : JobKind) (n : ℕ × Party) → call_kind k ≡ Some n → is_detached k ≡ false
-call_undetached (Stored c o) n e = refl
-call_undetached (BodyOf c o) n e = refl
-call_undetached _ n e = cc
-
-pub call_unscoped : (k : JobKind) (n : ℕ × Party) → call_kind k ≡ Some n → is_scoped k ≡ false
-call_unscoped (Stored c o) n e = refl
-call_unscoped (BodyOf c o) n e = refl
-call_unscoped _ n e = cc
-
-pub body_unscoped : (k : JobKind) → is_body k ≡ true → is_scoped k ≡ false
-body_unscoped (BodyOf c o) e = refl
-body_unscoped _ e = cc
-
--- an open call's numbers are given out, and its job is the one whose ending comes into the call's cell
-pub record Opened (w : World) (q : Party) (o : OpenCall) : Type 0 where
-  pub number : o.number + 1 ≤ w.calls
-  pub made : o.job + 1 ≤ w.jobs
-  pub target : (w.call o.number).job ≡ o.job
-  pub kind : call_kind (w.job o.job).kind ≡ Some (o.number, q)
-  pub pool : (w.job o.job).pool ≡ o.pool
-
--- a job of this kind, made by a call at this pool
-pub record MadeAs (w : World) (t p : ℕ) (k : JobKind) : Type 0 where
-  pub made : t + 1 ≤ w.jobs
-  pub kind : (w.job t).kind ≡ k
-  pub pool : (w.job t).pool ≡ p
-  pub bound : (w.job t).bound ≡ None
-
--- a piece of a broadcast: a detached job of the pool that is bound to one of its workers
-pub record PieceAs (w : World) (t p i : ℕ) : Type 0 where
-  pub made : t + 1 ≤ w.jobs
-  pub kind : (w.job t).kind ≡ Detached p
-  pub pool : (w.job t).pool ≡ p
-  pub bound : (w.job t).bound ≡ Some i
-
--- the pieces of a broadcast, all made by a call at its pool
-abbrev pub SaysPieces : World → Pieces → Type 0
-SaysPieces w c = (t : ℕ) → is_piece c t ≡ true → PieceAs w t c.pool (t - c.first)
-
--- how the first side of a join ended; a call without a first side says nothing of one
-abbrev pub FirstEnds : World → Option ℕ → Option Ending → Type 0
-FirstEnds w None None = ⊤
-FirstEnds w (Some a) (Some e) = (w.job a).at ≡ Over e
-FirstEnds w _ _ = ⊥
-
-abbrev pub SaysTarget : World → Party → Target → Type 0
-SaysTarget w q Termination = ⊤
-SaysTarget w q (Answer o f) = Opened w q o × FirstEnds w (w.call o.number).first f
-
--- a job that has left its call
-abbrev pub Left : World → ℕ → Type 0
-Left w t = is_left (w.job t).at ≡ true
-
--- what a party has taken: a job that has left its call, or a token
-abbrev pub Taking : World → Taken → Type 0
-Taking w (Plain t) = Left w t
-Taking w (Token k i) = Left w k × (k + 1 ≤ w.jobs) × ((w.job k).kind ≡ TokenOf i)
-
--- a token
-abbrev pub Spendable : World → ℕ → Type 0
-Spendable w k = is_detached (w.job k).kind ≡ false
-
--- a job whose call waits for it
-pub record Awaited (w : World) (t : ℕ) : Type 0 where
-  pub made : t + 1 ≤ w.jobs
-  pub kind : is_detached (w.job t).kind ≡ false
-
-abbrev pub SaysFound : World → Option Taken → Type 0
-SaysFound w None = ⊤
-SaysFound w (Some x) = Taking w x
-
-abbrev pub SaysPlan : World → Party → Plan → Type 0
-SaysPlan w q (Detach p t) = MadeAs w t p (Detached p)
-SaysPlan w q (Here p t) = MadeAs w t p Direct
-SaysPlan w q (Feed f) = MadeAs w f.job f.pool (Detached f.pool) × MadeAs w f.token f.pool (TokenOf (own_index q)) × (f.pool ≡ own_pool q)
-SaysPlan w q (Send o) = Opened w q o × ((w.call o.number).first ≡ None)
-SaysPlan w q (Open o) = Opened w q o × ((w.call o.number).first ≡ None)
-SaysPlan w q (Enter e) = MadeAs w e.job e.pool (Scoped e.call e.owner) × (e.call + 1 ≤ w.calls)
-SaysPlan w q (Fork o a) = Opened w q o × ((w.call o.number).first ≡ Some a) × Awaited w a
-
--- a call that queues a job; an install that runs its job at once queues none, and a call for a FIFO list queues a token
--- by places of its own
-abbrev pub SaysQueue : World → Party → Plan → Type 0
-SaysQueue w q (Here p t) = ⊥
-SaysQueue w q (Feed f) = ⊥
-SaysQueue w q (Open o) = ⊥
-SaysQueue w q n = SaysPlan w q n
-
--- a call that has queued a job or a token
-abbrev pub SaysTold : World → Party → Plan → Type 0
-SaysTold w q (Detach p t) = (t + 1 ≤ w.jobs) × ((w.job t).pool ≡ p)
-SaysTold w q (Feed f) = ⊥
-SaysTold w q (Open o) = ⊥
-SaysTold w q n = SaysPlan w q n
-
-pub queue_plan : (w : World) (q : Party) (n : Plan) → SaysQueue w q n → SaysPlan w q n
-queue_plan w q (Here p t) s = absurd s
-queue_plan w q (Feed f) s = absurd s
-queue_plan w q (Open o) s = absurd s
-queue_plan w q (Enter e) s = s
-queue_plan w q (Detach p t) s = s
-queue_plan w q (Send o) s = s
-queue_plan w q (Fork o a) s = s
-
--- what a call took: how its job ended, or, once that job is over, a fault that the book of its scope keeps
-abbrev pub SaysTaken : World → ℕ → Ending → Type 0
-SaysTaken w t e = ((w.job t).at ≡ Over e) ⊎ ((is_done (w.job t).at ≡ true) × (e ≡ Fault))
-
-pub taken_over : (w : World) (t : ℕ) (e : Ending) → SaysTaken w t e → is_done (w.job t).at ≡ true
-taken_over w t e (inl z) = ap is_done z
-taken_over w t e (inr z) = z.0
-
-abbrev pub SaysThen : World → Party → Then → Type 0
-SaysThen w q (BeginFound g x) = SaysTarget w q g × Taking w x
-SaysThen w q (LeaveWait g) = SaysTarget w q g
-SaysThen w q Resume = ⊤
-SaysThen w q Called = ⊤
-SaysThen w q (Await o) = SaysTarget w q (Answer o None)
-SaysThen w q (RunFirst o a) = SaysPlan w q (Fork o a)
-SaysThen w q (Answers o f e) = Opened w q o × FirstEnds w (w.call o.number).first f × SaysTaken w o.job e
-SaysThen w q (Missing o f) = SaysTarget w q (Answer o f)
-SaysThen w q (Ran t e) = (w.job t).at ≡ Over e
-SaysThen w q (GiveBack n) = SaysPlan w q n
-
--- whose share is lowered, by what follows
-abbrev pub SaysOwner : World → ℕ → ℕ → Then → Type 0
-SaysOwner w t p Resume = ((w.job t).kind ≡ Detached p) × (is_done (w.job t).at ≡ true)
-SaysOwner w t p Called = ((w.job t).kind ≡ Detached p) × (is_done (w.job t).at ≡ true)
-SaysOwner w t p (Answers o f e) = o.job ≡ t
-SaysOwner w t p (Missing o f) = o.job ≡ t
-SaysOwner w t p (Ran u e) = (u ≡ t) × ((w.job t).kind ≡ Direct)
-SaysOwner w t p (GiveBack n) = (plan_job n ≡ t) × (plan_count n ≡ OfPool p)
-SaysOwner w t p _ = ⊥
-
--- of a scope: a job that is over, and one of a refused spawn
-abbrev pub SaysEntry : World → ℕ → Then → Type 0
-SaysEntry w t Resume = is_done (w.job t).at ≡ true
-SaysEntry w t (GiveBack n) = plan_job n ≡ t
-SaysEntry w t _ = ⊥
-
--- and the body, whose call waits next
-abbrev pub SaysBody : ℕ → Then → Type 0
-SaysBody c (Await o) = o.number ≡ c
-SaysBody c _ = ⊥
-
-abbrev pub SaysShare : World → Count → Share → Then → Type 0
-SaysShare w (OfPool p) PoolValue n = ((w.pool p).held ≡ false) × (n ≡ Resume)
-SaysShare w (OfPool p) (OfJob t) n = (t + 1 ≤ w.jobs) × ((w.job t).pool ≡ p) × SaysOwner w t p n
-SaysShare w (OfPool p) Body n = ⊥
-SaysShare w (OfScope c o) PoolValue n = ⊥
-SaysShare w (OfScope c o) (OfJob t) n = (t + 1 ≤ w.jobs) × ((w.job t).kind ≡ Scoped c o) × (c + 1 ≤ w.calls) × SaysEntry w t n
-SaysShare w (OfScope c o) Body n = (c + 1 ≤ w.calls) × (is_done (w.job (w.call c).job).at ≡ true) × SaysBody c n
-
--- a call is no scope: its job was made, and is no body
-abbrev pub IsStored : World → ℕ → Type 0
-IsStored w c = ((w.call c).job + 1 ≤ w.jobs) × (is_body (w.job (w.call c).job).kind ≡ false)
-
--- a call's latch can be set: its count is 0, or, of one that is no scope, the job that it waits for is over
-abbrev pub IsReady : World → ℕ → Type 0
-IsReady w c = (IsStored w c × (is_done (w.job (w.call c).job).at ≡ true)) ⊎ ((w.call c).count ≡ 0)
-
--- who sets a call's latch can; a pool whose terminate latches are set has ended
-abbrev pub SaysLatch : World → ℕ → Latch → Type 0
-SaysLatch w p Terminate = (w.pool p).count ≡ 0
-SaysLatch w p (OfCall c) = (c + 1 ≤ w.calls) × IsReady w c
-
--- the count is 0
-abbrev pub IsZero : World → Count → Type 0
-IsZero w (OfPool p) = (w.pool p).count ≡ 0
-IsZero w (OfScope c o) = (w.call c).count ≡ 0
-
-abbrev pub SaysRun : World → ℕ → JobKind → Type 0
-SaysRun w t Direct = Awaited w t
-SaysRun w t (TokenOf i) = Awaited w t
-SaysRun w t (BodyOf c9 o9) = Awaited w t
-SaysRun w t k = (t + 1 ≤ w.jobs) × ((w.job t).kind ≡ k)
-
-abbrev pub Says : World → Party → Place → Type 0
-Says w q (ProbeWorking k) = SaysTarget w q k.target
-Says w q (PopWorking k) = SaysTarget w q k.target
-Says w q (TakeCastWorking k) = SaysTarget w q k.target
-Says w q (BecomeInactive k) = SaysTarget w q k.target
-Says w q (ProbeIdle k) = SaysTarget w q k.target
-Says w q (PopIdle k) = SaysTarget w q k.target
-Says w q (TakeCastIdle k) = SaysTarget w q k.target
-Says w q (PickVictim k) = SaysTarget w q k.target
-Says w q (PopInjected k) = SaysTarget w q k.target
-Says w q (AnnounceSelf k) = SaysTarget w q k.target
-Says w q (GetSleepy k) = SaysTarget w q k.target
-Says w q (LockOwn k) = SaysTarget w q k.target
-Says w q (FallAsleep k) = SaysTarget w q k.target
-Says w q (LoadCounters k) = SaysTarget w q k.target
-Says w q (AddSleeping k) = SaysTarget w q k.target
-Says w q (LookAtCast k) = SaysTarget w q k.target
-Says w q (LookAtInjector k) = SaysTarget w q k.target
-Says w q (BlockSelf k) = SaysTarget w q k.target
-Says w q (RelockOwn k) = SaysTarget w q k.target
-Says w q (UndoSleeping k) = SaysTarget w q k.target
-Says w q (WakeUp k) = SaysTarget w q k.target
-Says w q (UnlockOwn k) = SaysTarget w q k.target
-Says w q (LeaveSearch k) = SaysTarget w q k.target × SaysFound w k.found
-Says w q (StealFrom k n) = SaysTarget w q k.target
-Says w q (JoinProbe o) = SaysTarget w q (Answer o (Some Fine))
-Says w q (JoinPop o) = SaysTarget w q (Answer o (Some Fine))
-Says w q (JoinTakeCast o) = SaysTarget w q (Answer o (Some Fine))
-Says w q (SecondSide o) = SaysTarget w q (Answer o (Some Fine))
-Says w q (BeginTask x) = Taking w x
-Says w q (BeginHere t) = Awaited w t
-Says w q (Run t k) = SaysRun w t k
-Says w q (RaiseCount n) = SaysPlan w q n
-Says w q (GrowCall n) = SaysQueue w q n
-Says w q (GrowScope o) = SaysPlan w q (Open o)
-Says w q (OpenSlot e) = SaysPlan w q (Enter e)
-Says w q (CloseSlot e) = SaysPlan w q (Enter e)
-Says w q (LookQueue n) = SaysQueue w q n
-Says w q (PushJob n e) = SaysQueue w q n
-Says w q (AddToFifo f) = SaysPlan w q (Feed f)
-Says w q (LookForToken f) = SaysPlan w q (Feed f)
-Says w q (PushToken f e) = SaysPlan w q (Feed f)
-Says w q (TakeFromFifo f) = SaysPlan w q (Feed f)
-Says w q (RaiseForAll c) = SaysPieces w c
-Says w q (PushForAll c) = SaysPieces w c
-Says w q (LowerForAll c) = SaysPieces w c
-Says w q (TellNews n e) = SaysTold w q n
-Says w q (LockToWake k) = SaysThen w q k.then
-Says w q (WakeWorker k) = SaysThen w q k.then
-Says w q (UnlockWoken k) = SaysThen w q k.then
-Says w q (WaitForLock o) = SaysTarget w q (Answer o None)
-Says w q (TakeResult o f) = SaysTarget w q (Answer o f)
-Says w q (LowerCount p s n) = SaysThen w q n × SaysShare w p s n
-Says w q (StoreResult c o e) = (c + 1 ≤ w.calls) × ((w.job (w.call c).job).at ≡ Over e) × IsStored w c
-Says w q (StoreBody o e) = SaysTarget w q (Answer o None) × ((w.job o.job).at ≡ Over e)
-Says w q (StoreSlot c o t e) = (t + 1 ≤ w.jobs) × ((w.job t).kind ≡ Scoped c o) × (c + 1 ≤ w.calls) × ((w.job t).at ≡ Over e)
-Says w q (SetLatch s) = SaysLatch w s.pool s.latch × SaysThen w q s.then
-Says w q (LockToSettle s) = SaysLatch w s.pool s.latch × SaysThen w q s.then
-Says w q (WakeSettled s) = SaysLatch w s.pool s.latch × SaysThen w q s.then
-Says w q (UnlockSettled s) = SaysLatch w s.pool s.latch × SaysThen w q s.then
-Says w q (SetLockLatch c n) = SaysLatch w 0 (OfCall c) × SaysThen w q n
-Says w q (FirstSide o a) = SaysPlan w q (Fork o a)
-Says w q (ScopeBody o) = SaysTarget w q (Answer o None)
-Says w q (AtOnce p t) = SaysPlan w q (Here p t)
-Says w q _ = ⊤
+pub use Rattle.rayon_machine_laws.proofs.ClaimPlaces.{call_kind, is_body, call_undetached, call_unscoped, body_unscoped, is_part, counts_detached, Opened, MadeAs, Tied, PartOf, KnownCount, PieceAs, SaysPieces, SaysCast, SaysGather, PieceEnds, EndsAs, FirstEnds, SaysTarget, Left, Taking, Spendable, Awaited, SaysFound, SaysPlan, SaysQueue, SaysSlot, SaysTold, queue_plan, SaysTaken, SaysThen, SaysOwner, SaysEntry, SaysBody, SaysShare, IsStored, IsReady, SaysLatch, IsZero, SaysRun, Says}
 
 -- the job whose run a frame goes on from, and the job that a place begins or runs for its call
 abbrev pub wants : Place → Option ℕ
@@ -308,8 +51,9 @@ wants _ = None
 abbrev pub here : Place → Option ℕ
 here (BeginHere t) = Some t
 here (Run t Direct) = Some t
-here (Run t (TokenOf i)) = Some t
+here (Run t (TokenOf i b8)) = Some t
 here (Run t (BodyOf c9 o9)) = Some t
+here (Run t (WholeOf c9 o9)) = Some t
 here _ = None
 
 -- above a frame stands what it goes on from
@@ -330,13 +74,21 @@ pub record StackSays (w : World) (q : Party) (k : Stack) : Type 0 where
   pub below : AllSay w q k.below
   pub links : Linked k.top k.below
 
--- the job that a refused call has taken back, or never added to its FIFO list, is detached, and so no token
+-- the job that a refused call has taken back, or never added to its FIFO list, is detached, and so no token; nor is it
+-- a piece of a broadcast that waits
 abbrev pub SaysBack : World → Plan → Type 0
-SaysBack w (Feed f) = is_detached (w.job f.job).kind ≡ true
+SaysBack w (Feed f) = (is_detached (w.job f.job).kind ≡ true) × (is_part (w.job f.job).kind ≡ false)
+SaysBack w (Gather g) = SaysPieces w g.pieces
 SaysBack w _ = ⊤
 
+known_part : (w : World) (k : Count) (p : ℕ) → KnownCount w k p → is_part (count_kind k) ≡ false
+known_part w (OfPool r) p s = refl
+known_part w (OfScope c o) p s = refl
+known_part w (OfCast c o) p s = absurd s
+
 says_back : (w : World) (q : Party) (n : Plan) → SaysPlan w q n → SaysBack w n
-says_back w q (Feed f) s = ap is_detached ((s.0).kind)
+says_back w q (Feed f) s = (ap is_detached ((s.0).kind) ∙ counts_detached f.count, ap is_part ((s.0).kind) ∙ known_part w f.count f.pool (s.3))
+says_back w q (Gather g) s = s.pieces
 says_back w q (Detach p t) s = tt
 says_back w q (Here p t) s = tt
 says_back w q (Send o) s = tt
@@ -411,12 +163,12 @@ Learns w (YieldSteal v n) (Task t) = Taking w t
 Learns w YieldPopInjected (Task t) = Taking w t
 Learns w LocalPop (Task t) = Taking w t
 Learns w LocalTakeCast (Task t) = Taking w t
-Learns w (TakeResult o f) (Found e) = SaysTaken w o.job e
+Learns w (TakeResult o f) (Found e) = SaysTaken w o.job o.number e
 Learns w (LowerCount k s n) Yes = IsZero w k
-Learns w (LowerForAll c) Yes = (w.pool c.pool).count ≡ 0
+Learns w (LowerForAll c) Yes = IsZero w c.count
 Learns w (BeginTask (Plain t)) (Begun k) = (t + 1 ≤ w.jobs) × ((w.job t).kind ≡ k)
-Learns w (BeginTask (Token k i)) (Handed t d) = (t + 1 ≤ w.jobs) × ((w.job t).kind ≡ d)
-Learns w (TakeFromFifo f) (Task x) = MadeAs w (taken_number x) f.pool (Detached f.pool)
+Learns w (BeginTask (Token k i b8)) (Handed t d) = (t + 1 ≤ w.jobs) × ((w.job t).kind ≡ d)
+Learns w (TakeFromFifo f) (Task x) = MadeAs w (taken_number x) f.pool (count_kind f.count)
 Learns w _ _ = ⊤
 
 says_left : (w : World) (q : Party) (g : Target) → SaysTarget w q g → Says w q (after_wait g)
@@ -430,6 +182,8 @@ says_finish w q Resume s = tt
 says_finish w q Called s = tt
 says_finish w (Worker p i) (Await o) s = s
 says_finish w (Caller c) (Await o) s = s
+says_finish w (Worker p i) (Gathers o) s = s
+says_finish w (Caller c) (Gathers o) s = s
 says_finish w q (RunFirst o a) s = (s, (λ u z. z), s.2)
 says_finish w q (Answers o f e) s = tt
 says_finish w q (Missing o f) s = tt
@@ -484,22 +238,34 @@ says_after : (w : World) (q : Party) (g : Target) (o : Option Taken) → SaysTar
 says_after w q g None s = s.0
 says_after w q g (Some t) s = (s.0, s.1)
 
+says_fed : (w : World) (q : Party) (f : Feeding) (k : Count) → SaysPlan w q (Feed f) → Says w q (begin_feed k f)
+says_fed w q f (OfPool p) s = s
+says_fed w q f (OfScope c o) s = s
+says_fed w q f (OfCast c o) s = s
+
 says_raised : (w : World) (q : Party) (n : Plan) → SaysPlan w q n → SaysMove w q (after_raise n)
 says_raised w q (Detach p t) s = s
 says_raised w q (Here p t) s = (s, record { made = s.made; kind = ap is_detached (s.kind) }, λ u z. z)
 says_raised w q (Send o) s = s
 says_raised w q (Fork o a) s = s
-says_raised w q (Feed f) s = s
+says_raised w q (Feed f) s = says_fed w q f f.count s
+says_raised w q (Gather g) s = s
 says_raised w q (Open o) s = s
 says_raised w q (Enter e) s = s
+
+says_feed : (w : World) (q : Party) (f : Feeding) (k : Count) → f.count ≡ k → SaysPlan w q (Feed f) → SaysShare w k (OfJob f.job) (GiveBack (Feed f))
+says_feed w q f (OfPool r) e s = let p : r ≡ f.pool = subst (λ k. KnownCount w k f.pool) e (s.3) in ((s.0).made, (s.0).pool ∙ sym p, (refl, e))
+says_feed w q f (OfScope c o) e s = let t : Tied w c o = subst (λ k. KnownCount w k f.pool) e (s.3) in ((s.0).made, (s.0).kind ∙ ap count_kind e, t.number, refl)
+says_feed w q f (OfCast c o) e s = absurd (subst (λ k. KnownCount w k f.pool) e (s.3))
 
 says_undone : (w : World) (q : Party) (n : Plan) → SaysPlan w q n → Says w q (undo n)
 says_undone w q (Detach p t) s = (s, (s.made, s.pool, (refl, refl)))
 says_undone w q (Here p t) s = (s, (s.made, s.pool, (refl, refl)))
 says_undone w q (Open o) s = (s, ((s.0).made, (s.0).pool, (refl, refl)))
-says_undone w q (Enter e) s = (s, ((s.0).made, (s.0).kind, s.1, refl))
+says_undone w q (Enter e) s = (s, ((s.0).made, (s.0).kind, (s.1).number, refl))
+says_undone w q (Gather g) s = (s, ((s.call).made, (s.call).pool, (refl, refl)))
 says_undone w q (Send o) s = (s, ((s.0).made, (s.0).pool, (refl, refl)))
-says_undone w q (Feed f) s = (s, ((s.0).made, (s.0).pool, (refl, refl)))
+says_undone w q (Feed f) s = (s, says_feed w q f f.count refl s)
 says_undone w q (Fork o a) s = (s, ((s.0).made, (s.0).pool, (refl, refl)))
 
 says_goes : (w : World) (q : Party) (n : Plan) → SaysTold w q n → SaysThen w q (after_news n)
@@ -509,6 +275,7 @@ says_goes w q (Send o) s = (s.0, subst (λ x. FirstEnds w x None) (sym (s.1)) tt
 says_goes w q (Fork o a) s = s
 says_goes w q (Feed f) s = absurd s
 says_goes w q (Open o) s = absurd s
+says_goes w q (Gather g) s = absurd s
 says_goes w q (Enter e) s = tt
 
 says_told : (w : World) (q : Party) (n : Plan) → SaysQueue w q n → SaysTold w q n
@@ -516,6 +283,7 @@ says_told w q (Detach p t) s = (s.made, s.pool)
 says_told w q (Here p t) s = absurd s
 says_told w q (Feed f) s = absurd s
 says_told w q (Open o) s = absurd s
+says_told w q (Gather g) s = absurd s
 says_told w q (Enter e) s = s
 says_told w q (Send o) s = s
 says_told w q (Fork o a) s = s
@@ -537,6 +305,9 @@ says_zero w g q (OfPool p) a n z s h = says_settle w g q p 0 n z s
 says_zero w g q (OfScope c o) (OfJob t) n z s h = says_set w q o c n (h.2, inr z) s
 says_zero w g q (OfScope c o) Body n z s h = says_set w q o c n (h.0, inr z) s
 says_zero w g q (OfScope c o) PoolValue n z s h = absurd h
+says_zero w g q (OfCast c o) (OfJob t) n z s h = says_set w q o c n (h.2, inr z) s
+says_zero w g q (OfCast c o) Body n z s h = absurd h
+says_zero w g q (OfCast c o) PoolValue n z s h = absurd h
 
 -- where a call goes whose push was refused
 says_unpushed : (w : World) (q : Party) (n : Plan) → SaysQueue w q n → Says w q (after_push n)
@@ -546,7 +317,48 @@ says_unpushed w q (Send o) s = says_undone w q (Send o) s
 says_unpushed w q (Fork o a) s = says_undone w q (Fork o a) s
 says_unpushed w q (Feed f) s = absurd s
 says_unpushed w q (Open o) s = absurd s
+says_unpushed w q (Gather g) s = absurd s
 says_unpushed w q (Enter e) s = s
+
+says_drawn : (w : World) (q : Party) (f : Feeding) (o : Option ℕ) → SaysPlan w q (Feed f) → Says w q (withdraw o (Feed f))
+says_drawn w q f None s = says_undone w q (Feed f) s
+says_drawn w q f (Some c) s = s
+
+-- and a spawn into a scope that has no number of its book
+says_unslotted : (w : World) (q : Party) (n : Plan) → SaysSlot w q n → Says w q (undo n)
+says_unslotted w q (Enter e) s = says_undone w q (Enter e) s
+says_unslotted w q (Feed f) s = says_undone w q (Feed f) s
+says_unslotted w q (Detach p t) s = absurd s
+says_unslotted w q (Here p t) s = absurd s
+says_unslotted w q (Send o) s = absurd s
+says_unslotted w q (Fork o a) s = absurd s
+says_unslotted w q (Open o) s = absurd s
+says_unslotted w q (Gather g) s = absurd s
+
+says_slotted : (w : World) (q : Party) (n : Plan) → SaysSlot w q n → Says w q (after_slot n)
+says_slotted w q (Enter e) s = s
+says_slotted w q (Feed f) s = s
+says_slotted w q (Detach p t) s = absurd s
+says_slotted w q (Here p t) s = absurd s
+says_slotted w q (Send o) s = absurd s
+says_slotted w q (Fork o a) s = absurd s
+says_slotted w q (Open o) s = absurd s
+says_slotted w q (Gather g) s = absurd s
+
+says_begun : (w : World) (q : Party) (c : Pieces) (k : Count) → SaysCast w c → Says w q (begin_cast k c)
+says_begun w q c (OfPool p) s = s
+says_begun w q c (OfScope n o) s = s
+says_begun w q c (OfCast n o) s = s
+
+says_uncast : (w : World) (q : Party) (c : Pieces) (k : Count) → SaysCast w c → Says w q (end_cast k c)
+says_uncast w q c (OfPool p) s = s
+says_uncast w q c (OfScope n o) s = s
+says_uncast w q c (OfCast n o) s = s
+
+says_ends : (w : World) (q : Party) (p : ℕ) (k : Count) → KnownCount w k p → IsZero w k → Says w q (ends_count k)
+says_ends w q p (OfPool r) s z = (z, tt)
+says_ends w q p (OfScope c o) s z = says_set w q o c Resume (s.number, inr z) tt
+says_ends w q p (OfCast c o) s z = absurd s
 
 -- what a place says, and what its act's answer tells, gives what is said of the next place
 pub says_next : (w : World) (g : PoolShape) (q : Party) (x : Place) (e : Seen) → Learns w x e → Says w q x → SaysMove w q (next_of g q x e)
@@ -605,33 +417,45 @@ says_next w g q LocalPop _ l s = tt
 says_next w g q LocalTakeCast (Task t) l s = l
 says_next w g q LocalTakeCast _ l s = tt
 says_next w g q (BeginTask (Plain t)) (Begun Direct) l s = record { made = l.0; kind = ap is_detached (l.1) }
-says_next w g q (BeginTask (Plain t)) (Begun (TokenOf i)) l s = record { made = l.0; kind = ap is_detached (l.1) }
+says_next w g q (BeginTask (Plain t)) (Begun (TokenOf i b9)) l s = record { made = l.0; kind = ap is_detached (l.1) }
 says_next w g q (BeginTask (Plain t)) (Begun (BodyOf c9 o9)) l s = record { made = l.0; kind = ap is_detached (l.1) }
+says_next w g q (BeginTask (Plain t)) (Begun (WholeOf c9 o9)) l s = record { made = l.0; kind = ap is_detached (l.1) }
+says_next w g q (BeginTask (Plain t)) (Begun (PieceOf c o)) l s = l
 says_next w g q (BeginTask (Plain t)) (Begun (Detached p)) l s = l
 says_next w g q (BeginTask (Plain t)) (Begun (Stored c o)) l s = l
 says_next w g q (BeginTask (Plain t)) (Begun (Scoped c o)) l s = l
 says_next w g q (BeginTask (Plain t)) _ l s = s
-says_next w g q (BeginTask (Token k i)) (Handed t Direct) l s = (record { made = l.0; kind = ap is_detached (l.1) }, ap is_detached (s.2))
-says_next w g q (BeginTask (Token k i)) (Handed t (TokenOf j)) l s = (record { made = l.0; kind = ap is_detached (l.1) }, ap is_detached (s.2))
-says_next w g q (BeginTask (Token k i)) (Handed t (BodyOf c9 o9)) l s = (record { made = l.0; kind = ap is_detached (l.1) }, ap is_detached (s.2))
-says_next w g q (BeginTask (Token k i)) (Handed t (Detached p)) l s = (l, ap is_detached (s.2))
-says_next w g q (BeginTask (Token k i)) (Handed t (Stored c o)) l s = (l, ap is_detached (s.2))
-says_next w g q (BeginTask (Token k i)) (Handed t (Scoped c o)) l s = (l, ap is_detached (s.2))
-says_next w g q (BeginTask (Token k i)) _ l s = ap is_detached (s.2)
+says_next w g q (BeginTask (Token k i b8)) (Handed t Direct) l s = (record { made = l.0; kind = ap is_detached (l.1) }, ap is_detached (s.2))
+says_next w g q (BeginTask (Token k i b8)) (Handed t (TokenOf j b9)) l s = (record { made = l.0; kind = ap is_detached (l.1) }, ap is_detached (s.2))
+says_next w g q (BeginTask (Token k i b8)) (Handed t (BodyOf c9 o9)) l s = (record { made = l.0; kind = ap is_detached (l.1) }, ap is_detached (s.2))
+says_next w g q (BeginTask (Token k i b8)) (Handed t (WholeOf c9 o9)) l s = (record { made = l.0; kind = ap is_detached (l.1) }, ap is_detached (s.2))
+says_next w g q (BeginTask (Token k i b8)) (Handed t (PieceOf c o)) l s = (l, ap is_detached (s.2))
+says_next w g q (BeginTask (Token k i b8)) (Handed t (Detached p)) l s = (l, ap is_detached (s.2))
+says_next w g q (BeginTask (Token k i b8)) (Handed t (Stored c o)) l s = (l, ap is_detached (s.2))
+says_next w g q (BeginTask (Token k i b8)) (Handed t (Scoped c o)) l s = (l, ap is_detached (s.2))
+says_next w g q (BeginTask (Token k i b8)) _ l s = ap is_detached (s.2)
 says_next w g q (AddToFifo f) Done l s = s
-says_next w g q (AddToFifo f) _ l s = says_undone w q (Feed f) s
+says_next w g q (AddToFifo f) _ l s = says_drawn w q f (count_book f.count) s
 says_next w g q (LookForToken f) Yes l s = s
 says_next w g q (LookForToken f) _ l s = s
 says_next w g q (PushToken f v) Done l s = ((s.1).made, (s.1).pool)
 says_next w g q (PushToken f v) _ l s = s
-says_next w g q (TakeFromFifo f) (Task x) l s = ((l, s.1, s.2), (l.made, l.pool, (refl, refl)))
+says_next w g q (TakeFromFifo f) (Task x) l s = says_drawn w q (record f { job = taken_number x }) (count_book f.count) (l, s.1, s.2, s.3)
 says_next w g q (TakeFromFifo f) _ l s = tt
-says_next w g q (RaiseForAll c) Done l s = (s, s)
-says_next w g q (RaiseForAll c) _ l s = s
-says_next w g q (PushForAll c) Done l s = (tt, s)
-says_next w g q (PushForAll c) _ l s = s
-says_next w g q (LowerForAll c) Yes l s = ((l, tt), s)
-says_next w g q (LowerForAll c) _ l s = s
+says_next w g q (RaiseForAll c) Done l s = (says_begun w q c c.count s, s.0)
+says_next w g q (RaiseForAll c) _ l s = s.0
+says_next w g q (OpenForAll c) (Slots n) l s = (s, s.0)
+says_next w g q (OpenForAll c) _ l s = s
+says_next w g q (PushForAll c) Done l s = (tt, s.0)
+says_next w g q (PushForAll c) _ l s = says_uncast w q c c.count s
+says_next w g q (CloseForAll c) _ l s = (s, s.0)
+says_next w g q (LowerForAll c) Yes l s = (says_ends w q c.pool c.count (s.1) l, s.0)
+says_next w g q (LowerForAll c) _ l s = s.0
+says_next w g q (GrowCast b) Done l s = s
+says_next w g q (GrowCast b) _ l s = says_undone w q (Gather b) s
+says_next w g q (DealPieces b) Done l s = ((s.call, subst (λ x. FirstEnds w x None) (sym (s.alone)) tt), s.pieces)
+says_next w g q (DealPieces b) _ l s = says_undone w q (Gather b) s
+says_next w g q (StorePiece c o t e) _ l s = (tt, (s.0, s.1, s.2, ap is_done (s.3), refl))
 says_next w g q (BeginHere t) e l s = s
 says_next w g q (RaiseCount n) Done l s = says_raised w q n s
 says_next w g q (RaiseCount n) _ l s = says_back w q n s
@@ -655,9 +479,9 @@ says_next w g q (StoreBody o e) _ l s = (s.0, (((s.0).0).number, ap (λ t. is_do
 says_next w g q (StoreSlot c o t e) _ l s = (tt, (s.0, s.1, s.2, ap is_done (s.3)))
 says_next w g q (GrowScope o) Done l s = (((s.0), subst (λ x. FirstEnds w x None) (sym (s.1)) tt), (λ u z. z), record { made = (s.0).made; kind = call_undetached ((w.job o.job).kind) (o.number, q) ((s.0).kind) })
 says_next w g q (GrowScope o) _ l s = says_undone w q (Open o) s
-says_next w g q (OpenSlot n) Done l s = s
-says_next w g q (OpenSlot n) _ l s = says_undone w q (Enter n) s
-says_next w g q (CloseSlot n) _ l s = says_undone w q (Enter n) s
+says_next w g q (OpenSlot n) Done l s = says_slotted w q n s
+says_next w g q (OpenSlot n) _ l s = says_unslotted w q n s
+says_next w g q (CloseSlot n) _ l s = says_unslotted w q n s
 says_next w g q (SetLatch k) Yes l s = s
 says_next w g q (SetLatch k) _ l s = says_settled w g q k k.latch (s.0) (s.1)
 says_next w g q (UnlockSettled k) e l s = says_settled w g q k k.latch (s.0) (s.1)

@@ -1,4 +1,5 @@
 -- where the latch of a worker that falls asleep is set, its setter is on its way to wake it
+use Rattle.rayon_machine_places.specs.declared.place.Gathering.{Gathering}
 use Rattle.rayon_machine_places.specs.declared.place.Then.{Then}
 use Rattle.rayon_machine_places.specs.declared.place.OpenCall.{OpenCall}
 use Rattle.std.proofs.Common.{refl, sym, ◌∙◌, ap, subst, inl, inr}
@@ -12,7 +13,7 @@ use Rattle.rayon_machine_places.specs.declared.place.Latch.{Latch}
 use Rattle.rayon_machine_places.specs.declared.place.Latch.TheVariants.{Terminate, OfCall}
 use Rattle.rayon_machine_places.specs.declared.place.Plan.{Plan}
 use Rattle.rayon_machine_places.specs.declared.place.Place.{Place}
-use Rattle.rayon_machine_places.specs.declared.place.Place.TheVariants.{GetSleepy, FallAsleep, LoadCounters, AddSleeping, LookAtCast, LookAtInjector, BlockSelf, RelockOwn, WakeUp, GrowCall, SetLatch, LockToSettle, WakeSettled, SetLockLatch, GrowScope}
+use Rattle.rayon_machine_places.specs.declared.place.Place.TheVariants.{GetSleepy, FallAsleep, LoadCounters, AddSleeping, LookAtCast, LookAtInjector, BlockSelf, RelockOwn, WakeUp, GrowCall, SetLatch, LockToSettle, WakeSettled, SetLockLatch, GrowScope, GrowCast}
 use Rattle.rayon_machine_places.specs.declared.act.Seen.{Seen}
 use Rattle.rayon_machine_places.specs.declared.act.Seen.TheVariants.{Yes}
 use Rattle.rayon_machine_places.specs.declared.state.Letter.{Letter}
@@ -25,9 +26,9 @@ use Rattle.rayon_machine_laws.specs.Attended.{letter_at, same_latch, settles, Ha
 use Rattle.rayon_machine_laws.proofs.Calm.{part_at, counts_seen, next_at}
 use Rattle.rayon_machine_laws.proofs.Frame.{either, and_parts, same_index, same_refl, same_party_true, if_some_map, stack_other}
 use Rattle.rayon_machine_laws.proofs.Holding.{LocksOk, hold_target}
-use Rattle.rayon_machine_laws.proofs.Latches.{SameLatches, is_latching, latches_same, OneLatch, writes, or_terminate, writes_one, grow_one, lock_one, Sets, set_one, scope_one}
+use Rattle.rayon_machine_laws.proofs.Latches.{SameLatches, is_latching, latches_same, OneLatch, writes, or_terminate, writes_one, grow_one, lock_one, Sets, set_one, scope_one, gather_one}
 use Rattle.rayon_machine_laws.proofs.Locks.{holds}
-use Rattle.rayon_machine_laws.proofs.Owned.{Mine, SetsFor, Names, Owned, setter_of, owner_calls}
+use Rattle.rayon_machine_laws.proofs.OwnedActs.{Mine, SetsFor, Names, Owned, setter_of, owner_calls}
 use Rattle.rayon_machine_laws.proofs.Owners.{target_number, own_call, latch_call}
 use Rattle.rayon_machine_laws.proofs.Pushing.{top_is}
 use Rattle.rayon_machine_laws.proofs.Seats.{mode, owns_in}
@@ -204,6 +205,10 @@ target_scope : (q : Party) (n : OpenCall) → target_call (act_of q (GrowScope n
 target_scope (Worker a b) n = refl
 target_scope (Caller o) n = refl
 
+target_gather : (q : Party) (n : Gathering) → target_call (act_of q (GrowCast n)) ≡ n.call.number
+target_gather (Worker a b) n = refl
+target_gather (Caller o) n = refl
+
 target_lock : (q : Party) (c : ℕ) (t : Then) → target_call (act_of q (SetLockLatch c t)) ≡ c
 target_lock (Worker a b) n t = refl
 target_lock (Caller o) n t = refl
@@ -256,6 +261,9 @@ letters w q (GrowCall n) fs p i l e d ow mine = if_some_map {A = Seen × Part} (
 letters w q (GrowScope n) fs p i l e d ow mine = if_some_map {A = Seen × Part} (λ r. r.1.seat.latch ≡ (part_at w q (record { top = GrowScope n; below = fs })).seat.latch) (LetterChange w q (record { top = GrowScope n; below = fs }) p i l)
     (λ r s. inl (letter_kept w q (record { top = GrowScope n; below = fs }) r p i l (λ lt ep ei. s) (λ c lc ec. absurd (clash w q p i c d (subst (Mine w q) (sym (ec ∙ target_scope q n)) ((subst (λ z. Names w q (z.top)) e ((ow.named q).top)).own n.number refl)) (mine c lc)))))
     (outcome w q (record { top = GrowScope n; below = fs })) (scope_one w.shape q (counts_seen w q (record { top = GrowScope n; below = fs })) (part_at w q (record { top = GrowScope n; below = fs })) n)
+letters w q (GrowCast n) fs p i l e d ow mine = if_some_map {A = Seen × Part} (λ r. r.1.seat.latch ≡ (part_at w q (record { top = GrowCast n; below = fs })).seat.latch) (LetterChange w q (record { top = GrowCast n; below = fs }) p i l)
+    (λ r s. inl (letter_kept w q (record { top = GrowCast n; below = fs }) r p i l (λ lt ep ei. s) (λ c lc ec. absurd (clash w q p i c d (subst (Mine w q) (sym (ec ∙ target_gather q n)) ((subst (λ z. Names w q (z.top)) e ((ow.named q).top)).own n.call.number refl)) (mine c lc)))))
+    (outcome w q (record { top = GrowCast n; below = fs })) (gather_one w.shape q (counts_seen w q (record { top = GrowCast n; below = fs })) (part_at w q (record { top = GrowCast n; below = fs })) n)
 letters w q (SetLockLatch n t) fs p i l e d ow mine = if_some_map {A = Seen × Part} (λ r. r.1.seat.latch ≡ (part_at w q (record { top = SetLockLatch n t; below = fs })).seat.latch) (LetterChange w q (record { top = SetLockLatch n t; below = fs }) p i l)
     (λ r s. inl (letter_kept w q (record { top = SetLockLatch n t; below = fs }) r p i l (λ lt ep ei. s) (λ c lc ec. absurd (let v : Worker p i ≡ Caller 0 = set_clash w p i c (Caller 0) (subst (λ z. SetsFor w z (Caller 0)) (sym (ec ∙ target_lock q n t)) ((subst (λ z. Names w q (z.top)) e ((ow.named q).top)).sets n (Caller 0) refl)) (mine c lc) in cc))))
     (outcome w q (record { top = SetLockLatch n t; below = fs })) (lock_one w.shape q (counts_seen w q (record { top = SetLockLatch n t; below = fs })) (part_at w q (record { top = SetLockLatch n t; below = fs })) n t)

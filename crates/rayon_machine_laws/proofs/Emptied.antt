@@ -12,7 +12,7 @@ use Rattle.rayon_machine_places.specs.declared.place.Latch.{Latch}
 use Rattle.rayon_machine_places.specs.declared.place.Latch.TheVariants.{Terminate, OfCall}
 use Rattle.rayon_machine_places.specs.declared.place.Plan.{Plan}
 use Rattle.rayon_machine_places.specs.declared.place.Then.{Then}
-use Rattle.rayon_machine_places.specs.declared.place.Then.TheVariants.{BeginFound, LeaveWait, Resume, Await, RunFirst, Answers, Missing, Ran, GiveBack, Called}
+use Rattle.rayon_machine_places.specs.declared.place.Then.TheVariants.{BeginFound, LeaveWait, Resume, Await, RunFirst, Answers, Missing, Ran, GiveBack, Called, Gathers}
 use Rattle.rayon_machine_places.specs.declared.place.Feeding.{Feeding}
 use Rattle.rayon_machine_places.specs.declared.place.Taken.TheVariants.{Plain, Token}
 use Rattle.rayon_machine_places.specs.declared.place.Place.{Place}
@@ -27,7 +27,7 @@ use Rattle.rayon_machine_places.specs.declared.event.Event.{Event}
 use Rattle.rayon_machine_places.specs.declared.shape.PoolShape.{PoolShape}
 use Rattle.rayon_machine_places.specs.declared.place.Wait.{Wait}
 use Rattle.rayon_machine_places.specs.declared.place.Settling.{Settling}
-use Rattle.rayon_machine_places.specs.Places.{same_party, own_pool, own_index, is_member, plan_pool, plan_job, fresh, awaits, finish, after_set, act_of, next_of, plan_book}
+use Rattle.rayon_machine_places.specs.Places.{same_party, own_pool, own_index, is_member, plan_pool, plan_job, fresh, awaits, finish, after_set, act_of, next_of, plan_book, count_book}
 use Rattle.rayon_machine_places.specs.World.{Shape, Stack, World, Counts, Part, target_pool, target_worker, head_of, last_of, but_first, own_of, own_left, popped, effect, fifo_out, fifo_undo}
 use Rattle.rayon_machine_places.specs.Steps.{after_move, step}
 use Rattle.rayon_machine_places.specs.Runs.{first_place, start, IsRun}
@@ -74,11 +74,11 @@ is_filling (PushJob n e) = true
 is_filling (PushToken f e) = true
 is_filling _ = false
 
-out_empty : (q : Party) (m : Part) → m.seat.own ≡ [] → IfSome (fifo_out q m) (λ r. r.1.seat.own ≡ [])
-out_empty q m e = out_sees (λ r. r.1.seat.own ≡ []) q m e (λ u us is. e)
+out_empty : (q : Party) (m : Part) (b : Option ℕ) → m.seat.own ≡ [] → IfSome (fifo_out q m b) (λ r. r.1.seat.own ≡ [])
+out_empty q m b e = out_sees (λ r. r.1.seat.own ≡ []) q m b e (λ u us is. e)
 
-back_empty : (q : Party) (m : Part) → m.seat.own ≡ [] → IfSome (fifo_undo q m) (λ r. r.1.seat.own ≡ [])
-back_empty q m e = undo_sees (λ r. r.1.seat.own ≡ []) q m e (λ u is. e)
+back_empty : (q : Party) (m : Part) (b : Option ℕ) → m.seat.own ≡ [] → IfSome (fifo_undo q m b) (λ r. r.1.seat.own ≡ [])
+back_empty q m b e = undo_sees (λ r. r.1.seat.own ≡ []) q m b e (λ u is. e)
 
 -- no act but a push fills a deque
 stays_empty : (h : Shape) (q : Party) (c : Counts) (m : Part) (x : Place) → is_filling x ≡ false → StaysEmpty (act_of q x) h q c m
@@ -86,8 +86,8 @@ stays_empty h (Worker a b) c m (ProbeWorking k) z e = search (rules, arith)
 stays_empty h q c m (PushJob n v) z e = cc
 stays_empty h q c m (PushToken f v) z e = cc
 stays_empty h q c m (BeginTask (Plain t)) z e = e
-stays_empty h q c m (BeginTask (Token k i)) z e = out_empty q m e
-stays_empty h (Worker a b) c m (TakeFromFifo f) z e = back_empty (Worker a b) m e
+stays_empty h q c m (BeginTask (Token k i b8)) z e = out_empty q m b8 e
+stays_empty h (Worker a b) c m (TakeFromFifo f) z e = back_empty (Worker a b) m (count_book f.count) e
 stays_empty h (Worker a b) c m (PopWorking k) z e = pop_empty (Worker a b) m (h.pool a).order m.seat.own refl e
 stays_empty h (Worker a b) c m (PopIdle k) z e = pop_empty (Worker a b) m (h.pool a).order m.seat.own refl e
 stays_empty h (Worker a b) c m (JoinPop o) z e = pop_empty (Worker a b) m (h.pool a).order m.seat.own refl e
@@ -135,6 +135,11 @@ settled_busy h q s = by_latch s.latch
     finish_busy (RunFirst o a) = refl
     finish_busy Resume = tt
     finish_busy Called = tt
+    finish_busy (Gathers o) = awaiting q
+      where
+        awaiting : (q : Party) → is_emptied (awaits q o) ≡ false
+        awaiting (Worker i j) = refl
+        awaiting (Caller c) = refl
     finish_busy (Answers o f e) = tt
     finish_busy (Missing o f) = tt
     finish_busy (Ran t e) = tt

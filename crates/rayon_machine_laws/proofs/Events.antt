@@ -1,27 +1,30 @@
 -- steps and runs: what each act and each other event keeps holds in every world of every run
+use Rattle.rayon_machine_places.specs.declared.place.Pieces.{Pieces}
+use Rattle.rayon_machine_places.specs.declared.place.Count.TheVariants.{OfPool, OfScope, OfCast}
+use Rattle.rayon_machine_places.specs.declared.place.Count.{Count}
 use Rattle.rayon_machine_places.specs.declared.place.Plan.{Plan}
-use Rattle.rayon_machine_places.specs.declared.place.Plan.TheVariants.{Enter}
+use Rattle.rayon_machine_places.specs.declared.place.Plan.TheVariants.{Feed}
 use Rattle.std.proofs.Common.{refl, sym, ◌∙◌, subst}
-use Rattle.std.specs.Prelude.{ℕ, Bool, true, false, ◌&&◌, ◌-◌, ◌==◌, nat_lt, if◌then◌else◌, Some, None, List, [], ◌∷◌, ◌≡◌, IfSome}
+use Rattle.std.specs.Prelude.{ℕ, Bool, true, false, ◌&&◌, ◌-◌, ◌==◌, nat_lt, if◌then◌else◌, Some, None, List, [], ◌∷◌, ◌≡◌, IfSome, Option}
 use Rattle.rayon_machine_places.specs.declared.place.Party.{Party}
 use Rattle.rayon_machine_places.specs.declared.place.Party.TheVariants.{Worker, Caller}
 use Rattle.rayon_machine_places.specs.declared.place.Ending.{Ending}
 use Rattle.rayon_machine_places.specs.declared.place.Ending.TheVariants.{Fine, Fault}
 use Rattle.rayon_machine_places.specs.declared.place.JobKind.{JobKind}
-use Rattle.rayon_machine_places.specs.declared.place.JobKind.TheVariants.{Detached, Stored, Direct, TokenOf, Scoped, BodyOf}
+use Rattle.rayon_machine_places.specs.declared.place.JobKind.TheVariants.{Detached, Stored, Direct, TokenOf, Scoped, BodyOf, PieceOf, WholeOf}
 use Rattle.rayon_machine_places.specs.declared.place.Target.TheVariants.{Termination}
 use Rattle.rayon_machine_places.specs.declared.place.Place.{Place}
-use Rattle.rayon_machine_places.specs.declared.place.Place.TheVariants.{ProbeWorking, PickVictim, StealFrom, PopInjected, YieldPop, YieldPick, YieldSteal, YieldPopInjected, LocalPop, Run, GrowCall, PushJob, FirstSide, Free, Stopped, PushToken, AddToFifo, PushForAll, GrowScope, OpenSlot}
+use Rattle.rayon_machine_places.specs.declared.place.Place.TheVariants.{ProbeWorking, PickVictim, StealFrom, PopInjected, YieldPop, YieldPick, YieldSteal, YieldPopInjected, LocalPop, Run, GrowCall, PushJob, FirstSide, Free, Stopped, PushToken, AddToFifo, PushForAll, GrowScope, OpenSlot, OpenForAll, GrowCast, DealPieces}
 use Rattle.rayon_machine_places.specs.declared.event.Event.{Event}
-use Rattle.rayon_machine_places.specs.declared.event.Event.TheVariants.{Go, From, Refuse, Miss, End, Spawn, Fifo, Install, Join, Yield, YieldLocal, EndPool, Cast, Scope as OpenScope, IntoSpawn}
+use Rattle.rayon_machine_places.specs.declared.event.Event.TheVariants.{Go, From, Refuse, Miss, End, Spawn, Fifo, Install, Join, Yield, YieldLocal, EndPool, Cast, Scope as OpenScope, IntoSpawn, IntoFifo, IntoCast, Broadcast}
 use Rattle.rayon_machine_places.specs.declared.shape.PoolShape.{PoolShape}
 use Rattle.rayon_machine_places.specs.declared.place.Wait.{Wait}
-use Rattle.rayon_machine_laws.proofs.Frame.{fifo_cases, and_parts, if_cond, if_some_map, same_party_true, into_cases}
+use Rattle.rayon_machine_laws.proofs.Frame.{fifo_cases, and_parts, if_cond, if_some_map, same_party_true, into_cases, into_fifo_cases, into_cast_cases}
 use Rattle.rayon_machine_laws.proofs.Seats.{Out, SeatOk, Seeks, frame_out, is_frame, mode}
 use Rattle.rayon_machine_laws.proofs.Ties.{AllFrames, SeatsOk, StackOk, go_seats, job_at, outcome, result}
-use Rattle.rayon_machine_places.specs.Places.{act_of, fresh, goes_on, is_free, is_member, next_steal, next_victim, next_yield, not_self, own_index, own_pool, same_party, after_push}
+use Rattle.rayon_machine_places.specs.Places.{act_of, fresh, goes_on, is_free, is_member, next_steal, next_victim, next_yield, not_self, own_index, own_pool, same_party, after_push, withdraw, end_cast, plan_book}
 use Rattle.rayon_machine_places.specs.Runs.{IsRun, start}
-use Rattle.rayon_machine_places.specs.Steps.{after_outcome, after_call, can_miss, after_choice, after_close, after_end, after_end_pool, after_install, is_pool, after_join, after_miss, put_stack, after_refusal, after_resume, after_send, after_spawn, after_fifo, step, after_yield, after_cast, after_scope, after_into, holds}
+use Rattle.rayon_machine_places.specs.Steps.{after_outcome, after_call, can_miss, after_choice, after_close, after_end, after_end_pool, after_install, is_pool, after_join, after_miss, put_stack, after_refusal, after_resume, after_send, after_spawn, after_fifo, step, after_yield, after_cast, after_scope, after_into, holds, after_into_fifo, after_into_cast, after_broadcast}
 use Rattle.rayon_machine_places.specs.World.{Outcome, Seat, Shape, Stack, World, target_call, target_pool, target_worker}
 
 --
@@ -62,9 +65,11 @@ fits_closed : (p i t : ℕ) (k : JobKind) (fs : List Place) (e : Ending) (s : Se
 fits_closed p i t (Detached r) fs e s ok a = record { top = ok; below = a }
 fits_closed p i t (Stored c o) fs e s ok a = record { top = ok; below = a }
 fits_closed p i t (Scoped c o) fs e s ok a = record { top = ok; below = a }
+fits_closed p i t (PieceOf c o) fs e s ok a = record { top = ok; below = a }
 fits_closed p i t Direct fs e s ok a = fits_resumed p i fs e s ok a
-fits_closed p i t (TokenOf i9) fs e s ok a = fits_resumed p i fs e s ok a
+fits_closed p i t (TokenOf i9 b8) fs e s ok a = fits_resumed p i fs e s ok a
 fits_closed p i t (BodyOf c9 o9) fs e s ok a = fits_resumed p i fs e s ok a
+fits_closed p i t (WholeOf c9 o9) fs e s ok a = fits_resumed p i fs e s ok a
 
 -- a call begins above a free place
 fits_called : (p i : ℕ) (k : Stack) (y : Place) (s : Seat) → is_free (k.top) ≡ true → mode y ≡ Out → StackOk p i k s → StackOk p i (after_call k y) s
@@ -96,16 +101,27 @@ miss_moves w (Worker a b) _ fs e = tt
 miss_moves w (Caller n) _ fs e = tt
 
 push_out : (n : Plan) → mode (after_push n) ≡ Out
-push_out (Enter e) = refl
-push_out _ = refl
+push_out n = by (plan_book n)
+  where
+    by : (o : Option ℕ) → mode (withdraw o n) ≡ Out
+    by None = refl
+    by (Some c) = refl
+
+cast_out : (k : Count) (c : Pieces) → mode (end_cast k c) ≡ Out
+cast_out (OfPool p) c = refl
+cast_out (OfScope n o) c = refl
+cast_out (OfCast n o) c = refl
 
 refuse_moves : (w : World) (q : Party) (x : Place) (fs : List Place) → w.stack q ≡ record { top = x; below = fs } → IfSome (after_refusal w q (record { top = x; below = fs })) (Moved w)
 refuse_moves w q (GrowCall n) fs e = record { party = q; to = _; shape = refl; stack = λ r. refl; seat = λ p i. refl; fits = λ p i s ok. same_mode p i (GrowCall n) _ fs (w.stack q) s e refl ok }
 refuse_moves w q (GrowScope o) fs e = record { party = q; to = _; shape = refl; stack = λ r. refl; seat = λ p i. refl; fits = λ p i s ok. same_mode p i (GrowScope o) _ fs (w.stack q) s e refl ok }
 refuse_moves w q (OpenSlot n) fs e = record { party = q; to = _; shape = refl; stack = λ r. refl; seat = λ p i. refl; fits = λ p i s ok. same_mode p i (OpenSlot n) _ fs (w.stack q) s e refl ok }
 refuse_moves w q (PushToken f v) fs e = record { party = q; to = _; shape = refl; stack = λ r. refl; seat = λ p i. refl; fits = λ p i s ok. same_mode p i (PushToken f v) _ fs (w.stack q) s e refl ok }
-refuse_moves w q (PushForAll c) fs e = record { party = q; to = _; shape = refl; stack = λ r. refl; seat = λ p i. refl; fits = λ p i s ok. same_mode p i (PushForAll c) _ fs (w.stack q) s e refl ok }
-refuse_moves w q (AddToFifo f) fs e = record { party = q; to = _; shape = refl; stack = λ r. refl; seat = λ p i. refl; fits = λ p i s ok. same_mode p i (AddToFifo f) _ fs (w.stack q) s e refl ok }
+refuse_moves w q (OpenForAll c) fs e = record { party = q; to = _; shape = refl; stack = λ r. refl; seat = λ p i. refl; fits = λ p i s ok. same_mode p i (OpenForAll c) _ fs (w.stack q) s e refl ok }
+refuse_moves w q (GrowCast g) fs e = record { party = q; to = _; shape = refl; stack = λ r. refl; seat = λ p i. refl; fits = λ p i s ok. same_mode p i (GrowCast g) _ fs (w.stack q) s e refl ok }
+refuse_moves w q (DealPieces g) fs e = record { party = q; to = _; shape = refl; stack = λ r. refl; seat = λ p i. refl; fits = λ p i s ok. same_mode p i (DealPieces g) _ fs (w.stack q) s e refl ok }
+refuse_moves w q (PushForAll c) fs e = record { party = q; to = _; shape = refl; stack = λ r. refl; seat = λ p i. refl; fits = λ p i s ok. same_mode p i (PushForAll c) _ fs (w.stack q) s e (sym (cast_out c.count c)) ok }
+refuse_moves w q (AddToFifo f) fs e = record { party = q; to = _; shape = refl; stack = λ r. refl; seat = λ p i. refl; fits = λ p i s ok. same_mode p i (AddToFifo f) _ fs (w.stack q) s e (sym (push_out (Feed f))) ok }
 refuse_moves w q (PushJob n z) fs e = record { party = q; to = _; shape = refl; stack = λ r. refl; seat = λ p i. refl; fits = λ p i s ok. same_mode p i (PushJob n z) _ fs (w.stack q) s e (sym (push_out n)) ok }
 refuse_moves w q _ fs e = tt
 
@@ -134,6 +150,15 @@ scope_moves w q p = if_cond (Moved w) (is_free ((w.stack q).top) && is_pool w.sh
 
 into_moves : (w : World) (q : Party) (n : ℕ) → IfSome (after_into w q n (w.stack q)) (Moved w)
 into_moves w q n = into_cases (Moved w) w q n (λ z e free held. if_cond (Moved w) (is_free ((w.stack q).top) && holds z.call (w.stack q)) _ (λ b. record { party = q; to = _; shape = refl; stack = λ r. refl; seat = λ p i. refl; fits = λ a i s ok. fits_called a i (w.stack q) _ s free refl ok }))
+
+into_fifo_moves : (w : World) (q : Party) (n : ℕ) → IfSome (after_into_fifo w q n (w.stack q)) (Moved w)
+into_fifo_moves w q n = into_fifo_cases (Moved w) w q n (λ z e free held. if_cond (Moved w) (is_free ((w.stack q).top) && holds z.call (w.stack q)) _ (λ b. record { party = q; to = _; shape = refl; stack = λ r. refl; seat = λ p i. refl; fits = λ a i s ok. fits_called a i (w.stack q) _ s free refl ok })) (λ z i e free held. record { party = Worker z.pool i; to = _; shape = refl; stack = λ r. refl; seat = λ p i. refl; fits = λ a j s ok. fits_called a j (w.stack (Worker z.pool i)) _ s free refl ok })
+
+into_cast_moves : (w : World) (q : Party) (n : ℕ) → IfSome (after_into_cast w q n (w.stack q)) (Moved w)
+into_cast_moves w q n = into_cast_cases (Moved w) w q n (λ z e free held. record { party = q; to = _; shape = refl; stack = λ r. refl; seat = λ p i. refl; fits = λ a i s ok. fits_called a i (w.stack q) _ s free refl ok })
+
+broadcast_moves : (w : World) (q : Party) (p : ℕ) → IfSome (after_broadcast w q p (w.stack q)) (Moved w)
+broadcast_moves w q p = if_cond (Moved w) (is_free ((w.stack q).top) && is_pool w.shape p) _ (λ b. record { party = q; to = _; shape = refl; stack = λ r. refl; seat = λ p i. refl; fits = λ a i s ok. fits_called a i (w.stack q) _ s ((and_parts (is_free ((w.stack q).top)) (is_pool w.shape p) b).0) refl ok })
 
 join_moves : (w : World) (q : Party) → IfSome (after_join w q (w.stack q)) (Moved w)
 join_moves w (Worker a b) = if_cond (Moved w) (is_free ((w.stack (Worker a b)).top)) _ (λ z. record { party = Worker a b; to = _; shape = refl; stack = λ r. refl; seat = λ p i. refl; fits = λ p i s ok. fits_called p i (w.stack (Worker a b)) _ s z refl ok })
@@ -164,6 +189,9 @@ each_step P w go move (Install q p) = if_some_map (Moved w) P move _ (install_mo
 each_step P w go move (Join q) = if_some_map (Moved w) P move _ (join_moves w q)
 each_step P w go move (OpenScope q p) = if_some_map (Moved w) P move _ (scope_moves w q p)
 each_step P w go move (IntoSpawn q n) = if_some_map (Moved w) P move _ (into_moves w q n)
+each_step P w go move (IntoFifo q n) = if_some_map (Moved w) P move _ (into_fifo_moves w q n)
+each_step P w go move (IntoCast q n) = if_some_map (Moved w) P move _ (into_cast_moves w q n)
+each_step P w go move (Broadcast q p) = if_some_map (Moved w) P move _ (broadcast_moves w q p)
 each_step P w go move (Yield q) = if_some_map (Moved w) P move _ (yield_moves w q YieldPop refl)
 each_step P w go move (YieldLocal q) = if_some_map (Moved w) P move _ (yield_moves w q LocalPop refl)
 each_step P w go move (EndPool q p) = if_some_map (Moved w) P move _ (give_moves w q p)

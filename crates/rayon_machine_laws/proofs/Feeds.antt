@@ -1,5 +1,8 @@
 -- how often a stack has in hand what its calls have made and not queued: that is still as they made it
-use Rattle.rayon_machine_places.specs.declared.place.Count.TheVariants.{OfPool, OfScope}
+use Rattle.rayon_machine_places.specs.declared.place.Mark.TheVariants.{Counted, Queued, Returned, Numbered, Dealt, Unnumbered}
+use Rattle.rayon_machine_places.specs.declared.place.Pieces.{Pieces}
+use Rattle.rayon_machine_places.specs.declared.place.Feeding.{Feeding}
+use Rattle.rayon_machine_places.specs.declared.place.Count.TheVariants.{OfPool, OfScope, OfCast}
 use Rattle.rayon_machine_places.specs.declared.place.Count.{Count}
 use Rattle.std.proofs.Common.{arith, refl, sym, subst}
 use Rattle.std.specs.Prelude.{ℕ, Bool, true, false, ◌&&◌, ◌+◌, ◌-◌, ◌==◌, ◌≤◌, nat_lt, if◌then◌else◌, List, [], ◌∷◌, ◌≡◌, None, Option, Some}
@@ -11,20 +14,20 @@ use Rattle.rayon_machine_places.specs.declared.place.Latch.{Latch}
 use Rattle.rayon_machine_places.specs.declared.place.Latch.TheVariants.{Terminate, OfCall}
 use Rattle.rayon_machine_places.specs.declared.place.Rounds.{Rounds}
 use Rattle.rayon_machine_places.specs.declared.place.Rounds.TheVariants.{Failed, Announced}
-use Rattle.rayon_machine_places.specs.declared.place.Plan.TheVariants.{Detach, Here, Send, Fork, Feed, Open, Enter}
+use Rattle.rayon_machine_places.specs.declared.place.Plan.TheVariants.{Detach, Here, Send, Fork, Feed, Open, Enter, Gather}
 use Rattle.rayon_machine_places.specs.declared.place.Then.{Then}
-use Rattle.rayon_machine_places.specs.declared.place.Then.TheVariants.{BeginFound, LeaveWait, Resume, Await, RunFirst, Answers, Missing, Ran, GiveBack, Called}
+use Rattle.rayon_machine_places.specs.declared.place.Then.TheVariants.{BeginFound, LeaveWait, Resume, Await, RunFirst, Answers, Missing, Ran, GiveBack, Called, Gathers}
 use Rattle.rayon_machine_places.specs.declared.place.Taken.TheVariants.{Plain, Token}
 use Rattle.rayon_machine_places.specs.declared.place.Place.{Place}
-use Rattle.rayon_machine_places.specs.declared.place.Place.TheVariants.{ProbeWorking, PopWorking, TakeCastWorking, ProbeIdle, PopIdle, TakeCastIdle, PickVictim, StealFrom, PopInjected, AnnounceSelf, GetSleepy, FallAsleep, LoadCounters, AddSleeping, LookAtCast, LookAtInjector, WakeUp, LeaveSearch, JoinProbe, JoinPop, JoinTakeCast, YieldPop, YieldTakeCast, YieldPick, YieldSteal, YieldPopInjected, LocalPop, LocalTakeCast, BeginTask, BeginHere, RaiseCount, GrowCall, LookQueue, PushJob, TellNews, LockToWake, WakeWorker, UnlockWoken, TakeResult, LowerCount, StoreResult, SetLatch, UnlockSettled, SecondSide, AddToFifo, LookForToken, PushToken, TakeFromFifo, LockToSettle, WakeSettled, RaiseForAll, PushForAll, LowerForAll, GrowScope, OpenSlot, CloseSlot, SetLockLatch}
+use Rattle.rayon_machine_places.specs.declared.place.Place.TheVariants.{ProbeWorking, PopWorking, TakeCastWorking, ProbeIdle, PopIdle, TakeCastIdle, PickVictim, StealFrom, PopInjected, AnnounceSelf, GetSleepy, FallAsleep, LoadCounters, AddSleeping, LookAtCast, LookAtInjector, WakeUp, LeaveSearch, JoinProbe, JoinPop, JoinTakeCast, YieldPop, YieldTakeCast, YieldPick, YieldSteal, YieldPopInjected, LocalPop, LocalTakeCast, BeginTask, BeginHere, RaiseCount, GrowCall, LookQueue, PushJob, TellNews, LockToWake, WakeWorker, UnlockWoken, TakeResult, LowerCount, StoreResult, SetLatch, UnlockSettled, SecondSide, AddToFifo, LookForToken, PushToken, TakeFromFifo, LockToSettle, WakeSettled, RaiseForAll, PushForAll, LowerForAll, GrowScope, OpenSlot, CloseSlot, SetLockLatch, OpenForAll, CloseForAll, GrowCast, DealPieces}
 use Rattle.rayon_machine_places.specs.declared.place.Move.{Move}
 use Rattle.rayon_machine_places.specs.declared.place.Move.TheVariants.{Stay, Enter, StartRun, Back, HandBack, Discard, HandIn, Mark, HandAllBack}
 use Rattle.rayon_machine_places.specs.declared.act.Seen.{Seen}
-use Rattle.rayon_machine_places.specs.declared.act.Seen.TheVariants.{Done, Yes, Task, Jec, Word, Start, Wakes, Begun, Found, Handed}
+use Rattle.rayon_machine_places.specs.declared.act.Seen.TheVariants.{Done, Yes, Task, Jec, Word, Start, Wakes, Begun, Found, Handed, Opened}
 use Rattle.rayon_machine_places.specs.declared.shape.PoolShape.{PoolShape}
 use Rattle.rayon_machine_places.specs.declared.place.Wait.{Wait}
 use Rattle.rayon_machine_places.specs.declared.place.Settling.{Settling}
-use Rattle.rayon_machine_places.specs.Places.{same_party, own_pool, own_index, plan_pool, after_wait, finish, walk, settle, after_set, after_found, after_news, set_call, next_victim, not_self, after_failure, next_steal, next_yield, next_of, is_taken, after_raise, after_push, settle_count}
+use Rattle.rayon_machine_places.specs.Places.{same_party, own_pool, own_index, plan_pool, after_wait, finish, walk, settle, after_set, after_found, after_news, set_call, next_victim, not_self, after_failure, next_steal, next_yield, next_of, is_taken, after_raise, after_push, settle_count, begin_feed, begin_cast, end_cast, ends_count, after_slot, withdraw, plan_book, count_book, taken_number}
 use Rattle.rayon_machine_places.specs.World.{Stack, World}
 use Rattle.rayon_machine_places.specs.Steps.{put_stack, after_move, is_piece}
 use Rattle.rayon_machine_laws.specs.Once.{one, hand_rest, hand_then}
@@ -48,8 +51,8 @@ abbrev pub fed : ℕ → Place → ℕ
 fed t (RaiseCount n) = hand_plan t n
 fed t (GrowCall n) = hand_plan t n
 fed t (GrowScope o) = one (t == o.job)
-fed t (OpenSlot e) = one (t == e.job)
-fed t (CloseSlot e) = one (t == e.job)
+fed t (OpenSlot n) = hand_plan t n
+fed t (CloseSlot n) = fed_back t n
 fed t (LookQueue n) = hand_plan t n
 fed t (PushJob n e) = hand_plan t n
 fed t (AddToFifo f) = one (t == f.job) + one (t == f.token)
@@ -57,7 +60,11 @@ fed t (LookForToken f) = one (t == f.token)
 fed t (PushToken f e) = one (t == f.token)
 fed t (TakeFromFifo f) = one (t == f.token)
 fed t (RaiseForAll c) = one (is_piece c t)
+fed t (OpenForAll c) = one (is_piece c t)
 fed t (PushForAll c) = one (is_piece c t)
+fed t (CloseForAll c) = one (is_piece c t)
+fed t (GrowCast g) = one (is_piece g.pieces t)
+fed t (DealPieces g) = one (is_piece g.pieces t)
 fed t (LowerForAll c) = one (is_piece c t)
 fed t (TellNews n e) = hand_rest t n
 fed t (LockToWake k) = fed_then t k.then
@@ -81,13 +88,14 @@ all_fed t k = fed t k.top + fed_in t k.below
 abbrev pub fed_move : ℕ → Move → ℕ
 fed_move t (Stay y) = fed t y
 fed_move t (HandIn y token) = fed t y
-fed_move t (Mark y b9 m9) = fed t y
+fed_move t (Mark y c Returned) = fed t y + one (is_piece c t)
+fed_move t (Mark y c m) = fed t y
 fed_move t (Enter f y) = fed t y + fed t f
 fed_move t (StartRun f a) = fed t f
 fed_move t Back = 0
 fed_move t (HandBack n) = fed_back t n
 fed_move t (Discard n) = 0
-fed_move t (HandAllBack b9) = 0
+fed_move t (HandAllBack c) = one (is_piece c t)
 
 fed_back_most : (t : ℕ) (n : Plan) → fed_back t n ≤ hand_plan t n
 fed_back_most t (Feed f) = omega arith
@@ -104,6 +112,7 @@ fed_hand_then t _ = omega arith
 
 -- what is so held is in hand
 fed_hand : (t : ℕ) (x : Place) → fed t x ≤ hand t x
+fed_hand t (CloseSlot n) = fed_back_most t n
 fed_hand t (LockToWake k) = fed_hand_then t k.then
 fed_hand t (WakeWorker k) = fed_hand_then t k.then
 fed_hand t (UnlockWoken k) = fed_hand_then t k.then
@@ -122,12 +131,18 @@ fed_held_in t (f ∷ fs) = let a : fed t f ≤ hand t f = fed_hand t f in let b 
 pub fed_held : (t : ℕ) (k : Stack) → all_fed t k ≤ held t k
 fed_held t k = let a : fed t k.top ≤ hand t k.top = fed_hand t k.top in let b : fed_in t k.below ≤ held_in t k.below = fed_held_in t k.below in omega (arith, a, b)
 
+fed_begun : (t : ℕ) (f : Feeding) (k : Count) → fed t (begin_feed k f) ≤ one (t == f.job) + one (t == f.token)
+fed_begun t f (OfPool p) = omega arith
+fed_begun t f (OfScope c o) = omega arith
+fed_begun t f (OfCast c o) = omega arith
+
 fed_raised : (t : ℕ) (n : Plan) → fed_move t (after_raise n) ≤ hand_plan t n
 fed_raised t (Detach r u) = omega arith
 fed_raised t (Here r u) = omega arith
 fed_raised t (Send o) = omega arith
 fed_raised t (Fork o a) = omega arith
-fed_raised t (Feed f) = omega arith
+fed_raised t (Feed f) = fed_begun t f f.count
+fed_raised t (Gather g) = omega arith
 fed_raised t (Open o) = omega arith
 fed_raised t (Enter e) = omega arith
 
@@ -142,6 +157,8 @@ fed_finish t q Resume = omega arith
 fed_finish t q Called = omega arith
 fed_finish t (Worker a b) (Await o) = omega arith
 fed_finish t (Caller c) (Await o) = omega arith
+fed_finish t (Worker a b) (Gathers o) = omega arith
+fed_finish t (Caller c) (Gathers o) = omega arith
 fed_finish t q (RunFirst o a) = omega arith
 fed_finish t q (Answers o f e) = omega arith
 fed_finish t q (Missing o f) = omega arith
@@ -198,6 +215,7 @@ fed_goes t (Here r u) = omega arith
 fed_goes t (Send o) = omega arith
 fed_goes t (Fork o a) = omega arith
 fed_goes t (Feed f) = omega arith
+fed_goes t (Gather g) = omega arith
 fed_goes t (Open o) = omega arith
 fed_goes t (Enter e) = omega arith
 
@@ -212,10 +230,39 @@ fed_set t c (Caller i) n = omega arith
 fed_zero : (t : ℕ) (g : PoolShape) (q : Party) (k : Count) (n : Then) → fed_move t (settle_count g q k n) ≤ fed_then t n
 fed_zero t g q (OfPool p) n = fed_settle t g q p 0 n
 fed_zero t g q (OfScope c o) n = fed_set t c o n
+fed_zero t g q (OfCast c o) n = fed_set t c o n
+
+fed_ends : (t : ℕ) (k : Count) → fed t (ends_count k) ≤ 0
+fed_ends t (OfPool p) = omega arith
+fed_ends t (OfScope c o) = fed_set t c o Resume
+fed_ends t (OfCast c o) = fed_set t c o Resume
+
+fed_begins : (t : ℕ) (c : Pieces) (k : Count) → fed t (begin_cast k c) ≤ one (is_piece c t)
+fed_begins t c (OfPool p) = omega arith
+fed_begins t c (OfScope n o) = omega arith
+fed_begins t c (OfCast n o) = omega arith
+
+fed_undoes : (t : ℕ) (c : Pieces) (k : Count) → fed t (end_cast k c) ≤ one (is_piece c t)
+fed_undoes t c (OfPool p) = omega arith
+fed_undoes t c (OfScope n o) = omega arith
+fed_undoes t c (OfCast n o) = omega arith
+
+fed_slot : (t : ℕ) (n : Plan) → fed t (after_slot n) ≤ hand_plan t n
+fed_slot t (Feed f) = omega arith
+fed_slot t (Detach r u) = omega arith
+fed_slot t (Here r u) = omega arith
+fed_slot t (Send o) = omega arith
+fed_slot t (Fork o a) = omega arith
+fed_slot t (Open o) = omega arith
+fed_slot t (Enter e) = omega arith
+fed_slot t (Gather g) = omega arith
+
+fed_drawn : (t : ℕ) (o : Option ℕ) (n : Plan) → fed t (withdraw o n) ≤ fed_back t n
+fed_drawn t None n = omega arith
+fed_drawn t (Some c) n = omega arith
 
 fed_pushed : (t : ℕ) (n : Plan) → fed_move t (Stay (after_push n)) ≤ hand_plan t n
-fed_pushed t (Feed f) = omega arith
-fed_pushed t _ = omega arith
+fed_pushed t n = let a : fed t (withdraw (plan_book n) n) ≤ fed_back t n = fed_drawn t (plan_book n) n in let b : fed_back t n ≤ hand_plan t n = fed_back_most t n in omega (arith, a, b)
 
 -- over the whole table: no move leads to more of them
 pub feds : (g : PoolShape) (q : Party) (t : ℕ) (x : Place) (e : Seen) → fed_move t (next_of g q x e) ≤ fed t x
@@ -275,21 +322,27 @@ feds g q t (YieldSteal v n) (Task u) = omega arith
 feds g q t (YieldSteal v n) _ = let a : fed_move t (Stay (next_yield g q v n)) ≤ 0 = fed_yield t g q v n in omega (arith, a)
 feds g q t (BeginTask (Plain u)) (Begun d) = omega arith
 feds g q t (BeginTask (Plain u)) _ = omega arith
-feds g q t (BeginTask (Token k i)) (Handed u d) = omega arith
-feds g q t (BeginTask (Token k i)) _ = omega arith
+feds g q t (BeginTask (Token k i b8)) (Handed u d) = omega arith
+feds g q t (BeginTask (Token k i b8)) _ = omega arith
 feds g q t (AddToFifo f) Done = omega arith
-feds g q t (AddToFifo f) _ = omega arith
+feds g q t (AddToFifo f) _ = fed_pushed t (Feed f)
 feds g q t (LookForToken f) Yes = omega arith
 feds g q t (LookForToken f) _ = omega arith
 feds g q t (PushToken f v) Done = omega arith
 feds g q t (PushToken f v) _ = omega arith
-feds g q t (TakeFromFifo f) (Task x) = omega arith
+feds g q t (TakeFromFifo f) (Task x) = fed_drawn t (count_book f.count) (Feed (record f { job = taken_number x }))
 feds g q t (TakeFromFifo f) _ = omega arith
-feds g q t (RaiseForAll c) Done = omega arith
+feds g q t (RaiseForAll c) Done = fed_begins t c c.count
+feds g q t (OpenForAll c) (Opened n) = omega arith
+feds g q t (OpenForAll c) _ = omega arith
+feds g q t (GrowCast b) Done = omega arith
+feds g q t (GrowCast b) _ = omega arith
+feds g q t (DealPieces b) Done = omega arith
+feds g q t (DealPieces b) _ = omega arith
 feds g q t (RaiseForAll c) _ = omega arith
 feds g q t (PushForAll c) Done = omega arith
-feds g q t (PushForAll c) _ = omega arith
-feds g q t (LowerForAll c) Yes = omega arith
+feds g q t (PushForAll c) _ = fed_undoes t c c.count
+feds g q t (LowerForAll c) Yes = let a : fed t (ends_count c.count) ≤ 0 = fed_ends t c.count in omega (arith, a)
 feds g q t (LowerForAll c) _ = omega arith
 feds g q t (RaiseCount n) Done = fed_raised t n
 feds g q t (RaiseCount n) _ = fed_back_most t n
@@ -311,8 +364,9 @@ feds g q t (LowerCount r s n) _ = fed_finish t q n
 feds g q t (StoreResult i o d) e = let a : fed_move t (Stay (set_call i o Resume)) ≤ 0 = fed_set t i o Resume in omega (arith, a)
 feds g q t (GrowScope o) Done = omega arith
 feds g q t (GrowScope o) _ = omega arith
-feds g q t (OpenSlot n) Done = omega arith
-feds g q t (OpenSlot n) _ = omega arith
+feds g q t (OpenSlot n) Done = fed_slot t n
+feds g q t (OpenSlot n) _ = fed_back_most t n
+feds g q t (CloseSlot n) e = omega arith
 feds g q t (SetLockLatch c n) e = fed_finish t q n
 feds g q t (SetLatch k) Yes = omega arith
 feds g q t (SetLatch k) _ = let a : fed_move t (after_set g q k k.latch) ≤ fed_then t k.then = fed_settled t g q k k.latch in omega (arith, a)
@@ -322,7 +376,12 @@ feds g q t _ e = omega arith
 land_fed : (t : ℕ) (g : Move) (fs : List Place) → all_fed t (after_move g fs) ≤ fed_move t g + fed_in t fs
 land_fed t (Stay y) fs = omega arith
 land_fed t (HandIn y token) fs = omega arith
-land_fed t (Mark y b9 m9) fs = omega arith
+land_fed t (Mark y c Counted) fs = omega arith
+land_fed t (Mark y c (Numbered n)) fs = omega arith
+land_fed t (Mark y c Queued) fs = omega arith
+land_fed t (Mark y c Dealt) fs = omega arith
+land_fed t (Mark y c Unnumbered) fs = omega arith
+land_fed t (Mark y c Returned) fs = omega arith
 land_fed t (Enter f y) fs = omega arith
 land_fed t (StartRun f a) fs = omega arith
 land_fed t Back [] = omega arith

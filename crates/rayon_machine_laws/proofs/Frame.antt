@@ -6,8 +6,9 @@ use Rattle.rayon_machine_places.specs.declared.place.Party.{Party}
 use Rattle.rayon_machine_places.specs.declared.place.Party.TheVariants.{Worker, Caller}
 use Rattle.rayon_machine_places.specs.declared.place.Pieces.{Pieces}
 use Rattle.rayon_machine_places.specs.declared.place.Mark.{Mark as Marking}
-use Rattle.rayon_machine_places.specs.declared.place.Mark.TheVariants.{Counted, Queued, Returned}
-use Rattle.rayon_machine_places.specs.declared.place.Plan.TheVariants.{Detach, Here, Send, Fork, Feed, Open, Enter}
+use Rattle.rayon_machine_places.specs.declared.place.Mark.TheVariants.{Counted, Queued, Returned, Numbered, Dealt, Unnumbered}
+use Rattle.rayon_machine_places.specs.declared.place.Plan.TheVariants.{Detach, Here, Send, Fork, Feed, Open, Enter, Gather}
+use Rattle.rayon_machine_places.specs.declared.place.Count.TheVariants.{OfPool, OfScope}
 use Rattle.rayon_machine_places.specs.declared.place.Taken.TheVariants.{Plain}
 use Rattle.rayon_machine_places.specs.declared.place.Move.{Move}
 use Rattle.rayon_machine_places.specs.declared.place.Move.TheVariants.{Stay, Enter, StartRun, Back, HandBack, Discard, HandIn, Mark, HandAllBack}
@@ -18,8 +19,8 @@ use Rattle.rayon_machine_places.specs.declared.state.Whereabouts.{Whereabouts}
 use Rattle.rayon_machine_places.specs.declared.state.Whereabouts.TheVariants.{HandedBack, Spent, Retaken}
 use Rattle.rayon_machine_places.specs.declared.state.Scope.{Scope}
 use Rattle.rayon_machine_places.specs.Places.{is_free, same_party}
-use Rattle.rayon_machine_places.specs.Steps.{after_feed, after_fifo, after_outcome, after_spawn, after, is_pool, is_piece, marked, put, put_pieces, put_stack, jobs_after, after_enter, after_into, holds}
-use Rattle.rayon_machine_places.specs.World.{Outcome, Stack, World, at_job, begun, Part, is_open, fifo_back, fifo_first, fifo_out, fifo_undo, but_last, last_of}
+use Rattle.rayon_machine_places.specs.Steps.{after_feed, after_fifo, after_outcome, after_spawn, after, is_pool, is_piece, marked, put, put_pieces, put_stack, jobs_after, after_enter, after_into, holds, after_into_fifo, after_enter_fifo, after_into_cast, after_enter_cast, after_deal}
+use Rattle.rayon_machine_places.specs.World.{Outcome, Stack, World, at_job, begun, Part, is_open, fifo_back, fifo_first, fifo_out, fifo_undo, but_last, last_of, same_list, put_list}
 
 -- a test gives one of its two answers
 pub either : (b : Bool) → (b ≡ true) ⊎ (b ≡ false)
@@ -135,6 +136,7 @@ piece_out c t l = elim (either (is_piece c t)) [ inl y ↦ absurd (let a : (c.fi
 abbrev pub MarksKeep : {B : Type 0} → (Job → B) → Move → Type 0
 MarksKeep P (Mark y c k) = (i : ℕ) (j : Job) → P (marked k c.pool i j) ≡ P j
 MarksKeep P (HandAllBack c) = (i : ℕ) (j : Job) → P (marked Returned c.pool i j) ≡ P j
+MarksKeep P (HandBack (Gather g)) = (i : ℕ) (j : Job) → P (marked Returned g.pieces.pool i j) ≡ P j
 MarksKeep P _ = ⊤
 
 -- what neither a beginning nor other whereabouts nor what is made of all pieces of a broadcast change of a job, no move
@@ -153,6 +155,7 @@ after_part P b a q Back f t m = refl
 after_part P b a q (StartRun x u) f t m = put_same P f u (begun q (f u)) t (b q (f u))
 after_part P b a q (HandBack (Detach p u)) f t m = put_same P f u (at_job (f u) HandedBack) t (a (f u) HandedBack)
 after_part P b a q (HandBack (Here p u)) f t m = put_same P f u (at_job (f u) HandedBack) t (a (f u) HandedBack)
+after_part P b a q (HandBack (Gather g)) f t m = pieces_same P g.pieces (marked Returned g.pieces.pool) f t m
 after_part P b a q (HandBack (Open o)) f t m = put_same P f o.job (at_job (f o.job) HandedBack) t (a (f o.job) HandedBack)
 after_part P b a q (HandBack (Enter e)) f t m = put_same P f e.job (at_job (f e.job) HandedBack) t (a (f e.job) HandedBack)
 after_part P b a q (HandBack (Send o)) f t m = put_same P f o.job (at_job (f o.job) HandedBack) t (a (f o.job) HandedBack)
@@ -162,22 +165,32 @@ after_part P b a q (HandBack (Fork o u)) f t m =
 
 marked_kind : (k : Marking) (p i : ℕ) (j : Job) → (marked k p i j).kind ≡ j.kind
 marked_kind Counted p i j = refl
+marked_kind (Numbered n) p i j = refl
 marked_kind Queued p i j = refl
+marked_kind Dealt p i j = refl
+marked_kind Unnumbered p i j = refl
 marked_kind Returned p i j = refl
 
 marked_pool : (k : Marking) (p i : ℕ) (j : Job) → (marked k p i j).pool ≡ j.pool
 marked_pool Counted p i j = refl
+marked_pool (Numbered n) p i j = refl
 marked_pool Queued p i j = refl
+marked_pool Dealt p i j = refl
+marked_pool Unnumbered p i j = refl
 marked_pool Returned p i j = refl
 
 marked_bound : (k : Marking) (p i : ℕ) (j : Job) → (marked k p i j).bound ≡ j.bound
 marked_bound Counted p i j = refl
+marked_bound (Numbered n) p i j = refl
 marked_bound Queued p i j = refl
+marked_bound Dealt p i j = refl
+marked_bound Unnumbered p i j = refl
 marked_bound Returned p i j = refl
 
 all_keep : {B : Type 0} (P : Job → B) → ((k : Marking) (p i : ℕ) (j : Job) → P (marked k p i j) ≡ P j) → (g : Move) → MarksKeep P g
 all_keep P e (Mark y c k) = e k c.pool
 all_keep P e (HandAllBack c) = e Returned c.pool
+all_keep P e (HandBack (Gather g)) = e Returned g.pieces.pool
 all_keep P e _ = tt
 
 pub after_kind : (q : Party) (g : Move) (f : ℕ → Job) (t : ℕ) → (jobs_after q g f t).kind ≡ (f t).kind
@@ -192,27 +205,73 @@ after_bound q g f t = after_part (λ j. j.bound) (λ r j. refl) (λ j x. refl) q
 -- a move gives shares to the pieces of a broadcast, or takes them
 abbrev pub is_sharing : Move → Bool
 is_sharing (Mark y c Counted) = true
+is_sharing (Mark y c Dealt) = true
 is_sharing (Mark y c Returned) = true
 is_sharing (HandAllBack c) = true
 is_sharing _ = false
 
-counts_keep : (g : Move) → is_sharing g ≡ false → MarksKeep (λ (j : Job). j.counted) g
-counts_keep (Mark y c Counted) e = cc
-counts_keep (Mark y c Queued) e = λ i j. refl
-counts_keep (Mark y c Returned) e = cc
-counts_keep (HandAllBack c) e = cc
-counts_keep _ e = tt
+-- a call that is handed back hands its pieces back, if it is a broadcast
+abbrev pub gives_pieces : Move → Bool
+gives_pieces (HandBack (Gather g)) = true
+gives_pieces _ = false
 
-pub after_counted : (q : Party) (g : Move) (f : ℕ → Job) (t : ℕ) → is_sharing g ≡ false → (jobs_after q g f t).counted ≡ (f t).counted
-after_counted q g f t e = after_part (λ j. j.counted) (λ r j. refl) (λ j x. refl) q g f t (counts_keep g e)
+-- the pieces that a move hands back with their broadcast have no shares
+abbrev pub Bare : Move → (ℕ → Job) → ℕ → Type 0
+Bare (HandBack (Gather g)) f t = is_piece g.pieces t ≡ true → (f t).counted ≡ false
+Bare _ f t = ⊤
+
+-- where a move hands no broadcast back
+pub no_bare : (g : Move) (f : ℕ → Job) (t : ℕ) → gives_pieces g ≡ false → Bare g f t
+no_bare (HandBack (Gather g)) f t e = absurd (cc)
+no_bare _ f t e = tt
+
+pub bare_less : (g : Move) (f d : ℕ → Job) (t : ℕ) → ((f t).counted ≡ false → (d t).counted ≡ false) → Bare g f t → Bare g d t
+bare_less (HandBack (Gather g)) f d t l b = λ e. l (b e)
+bare_less _ f d t l b = tt
+
+counts_keep : (g : Move) → is_sharing g ≡ false → gives_pieces g ≡ false → MarksKeep (λ (j : Job). j.counted) g
+counts_keep (Mark y c Counted) e b = cc
+counts_keep (Mark y c (Numbered n)) e b = λ i j. refl
+counts_keep (Mark y c Queued) e b = λ i j. refl
+counts_keep (Mark y c Dealt) e b = cc
+counts_keep (Mark y c Unnumbered) e b = λ i j. refl
+counts_keep (Mark y c Returned) e b = cc
+counts_keep (HandAllBack c) e b = cc
+counts_keep (HandBack (Gather g)) e b = cc
+counts_keep _ e b = tt
+
+part_counted : (q : Party) (g : Move) (f : ℕ → Job) (t : ℕ) → is_sharing g ≡ false → gives_pieces g ≡ false → (jobs_after q g f t).counted ≡ (f t).counted
+part_counted q g f t e b = after_part (λ j. j.counted) (λ r j. refl) (λ j x. refl) q g f t (counts_keep g e b)
+
+pub after_counted : (q : Party) (g : Move) (f : ℕ → Job) (t : ℕ) → is_sharing g ≡ false → Bare g f t → (jobs_after q g f t).counted ≡ (f t).counted
+after_counted q (HandBack (Gather x)) f t e b = back (is_piece x.pieces t) refl
+  where
+    back : (z : Bool) → is_piece x.pieces t ≡ z → (if z then marked Returned x.pieces.pool (t - x.pieces.first) (f t) else f t).counted ≡ (f t).counted
+    back true y = sym (b y)
+    back false y = refl
+after_counted q (HandBack (Detach p u)) f t e b = part_counted q (HandBack (Detach p u)) f t e refl
+after_counted q (HandBack (Here p u)) f t e b = part_counted q (HandBack (Here p u)) f t e refl
+after_counted q (HandBack (Send o)) f t e b = part_counted q (HandBack (Send o)) f t e refl
+after_counted q (HandBack (Fork o a)) f t e b = part_counted q (HandBack (Fork o a)) f t e refl
+after_counted q (HandBack (Feed d)) f t e b = part_counted q (HandBack (Feed d)) f t e refl
+after_counted q (HandBack (Open o)) f t e b = part_counted q (HandBack (Open o)) f t e refl
+after_counted q (HandBack (Enter o)) f t e b = part_counted q (HandBack (Enter o)) f t e refl
+after_counted q (Stay y) f t e b = refl
+after_counted q (HandIn y k) f t e b = part_counted q (HandIn y k) f t e refl
+after_counted q (Discard k) f t e b = part_counted q (Discard k) f t e refl
+after_counted q (Mark y c k) f t e b = part_counted q (Mark y c k) f t e refl
+after_counted q (HandAllBack c) f t e b = part_counted q (HandAllBack c) f t e refl
+after_counted q (Enter x y) f t e b = refl
+after_counted q Back f t e b = refl
+after_counted q (StartRun x u) f t e b = part_counted q (StartRun x u) f t e refl
 
 -- a FIFO spawn is that of a worker of the pool, or a spawn
-pub fifo_cases : (P : World → Type 0) (w : World) (q : Party) (p : ℕ) → IfSome (after_spawn w q p (w.stack q)) P → ((i : ℕ) → is_free ((w.stack (Worker p i)).top) ≡ true → P (after_feed w p i (w.stack (Worker p i)))) → IfSome (after_fifo w q p (w.stack q)) P
+pub fifo_cases : (P : World → Type 0) (w : World) (q : Party) (p : ℕ) → IfSome (after_spawn w q p (w.stack q)) P → ((i : ℕ) → is_free ((w.stack (Worker p i)).top) ≡ true → P (after_feed w (OfPool p) p i (w.stack (Worker p i)))) → IfSome (after_fifo w q p (w.stack q)) P
 fifo_cases P w (Caller c) p s f = s
 fifo_cases P w (Worker r i) p s f = by (r == p) refl
   where
     own : (n : ℕ) → Option World
-    own n = if is_free ((w.stack (Worker n i)).top) && is_pool w.shape p then Some (after_feed w p i (w.stack (Worker n i))) else None
+    own n = if is_free ((w.stack (Worker n i)).top) && is_pool w.shape p then Some (after_feed w (OfPool p) p i (w.stack (Worker n i))) else None
 
     mine : IfSome (own p) P
     mine = if_cond P (is_free ((w.stack (Worker p i)).top) && is_pool w.shape p) _ (λ z. f i ((and_parts (is_free ((w.stack (Worker p i)).top)) (is_pool w.shape p) z).0))
@@ -222,28 +281,45 @@ fifo_cases P w (Worker r i) p s f = by (r == p) refl
     by false z = s
 
 -- a token takes the first job of a list that is open, or finds none
-pub out_sees : (P : Seen × Part → Type 0) (q : Party) (m : Part) → P (Missing, m) → ((u : ℕ) (us : List ℕ) → m.seat.fifo ≡ u ∷ us → P (Handed u m.job.kind, record m { seat = record (m.seat) { fifo = us }; job = begun q m.job })) → IfSome (fifo_out q m) P
-out_sees P q m none some = by (is_open q m.seat.feeder)
+pub out_sees : (P : Seen × Part → Type 0) (q : Party) (m : Part) (b : Option ℕ) → P (Missing, m) → ((u : ℕ) (us : List ℕ) → m.seat.fifo b ≡ u ∷ us → P (Handed u m.job.kind, record m { seat = record (m.seat) { fifo = put_list m.seat.fifo b us }; job = begun q m.job })) → IfSome (fifo_out q m b) P
+out_sees P q m b none some = by (is_open q (m.seat.feeder b))
   where
-    first : (l : List ℕ) → m.seat.fifo ≡ l → IfSome (fifo_first q m l) P
+    first : (l : List ℕ) → m.seat.fifo b ≡ l → IfSome (fifo_first q m b l) P
     first [] e = none
     first (u ∷ us) e = some u us e
 
-    by : (z : Bool) → IfSome (if z then fifo_first q m m.seat.fifo else None) P
-    by true = first m.seat.fifo refl
+    by : (z : Bool) → IfSome (if z then fifo_first q m b (m.seat.fifo b) else None) P
+    by true = first (m.seat.fifo b) refl
     by false = tt
 
 -- the job that was added last comes out of a list that is open, or there is none
-pub undo_sees : (P : Seen × Part → Type 0) (q : Party) (m : Part) → P (Missing, m) → ((u : ℕ) → last_of m.seat.fifo ≡ Some u → P (Task (Plain u), record m { seat = record (m.seat) { fifo = but_last m.seat.fifo; feeder = None }; job = at_job (m.job) (Retaken q) })) → IfSome (fifo_undo q m) P
-undo_sees P q m none some = by (is_open q m.seat.feeder)
+pub undo_sees : (P : Seen × Part → Type 0) (q : Party) (m : Part) (b : Option ℕ) → P (Missing, m) → ((u : ℕ) → last_of (m.seat.fifo b) ≡ Some u → P (Task (Plain u), record m { seat = record (m.seat) { fifo = put_list m.seat.fifo b (but_last (m.seat.fifo b)); feeder = put_list m.seat.feeder b None }; job = at_job (m.job) (Retaken q) })) → IfSome (fifo_undo q m b) P
+undo_sees P q m b none some = by (is_open q (m.seat.feeder b))
   where
-    back : (o : Option ℕ) → last_of m.seat.fifo ≡ o → IfSome (fifo_back q m o) P
+    back : (o : Option ℕ) → last_of (m.seat.fifo b) ≡ o → IfSome (fifo_back q m b o) P
     back None e = none
     back (Some u) e = some u e
 
-    by : (z : Bool) → IfSome (if z then fifo_back q m (last_of m.seat.fifo) else None) P
-    by true = back (last_of m.seat.fifo) refl
+    by : (z : Bool) → IfSome (if z then fifo_back q m b (last_of (m.seat.fifo b)) else None) P
+    by true = back (last_of (m.seat.fifo b)) refl
     by false = tt
+
+-- the same list, and another
+pub same_list_true : (b c : Option ℕ) → same_list b c ≡ true → b ≡ c
+same_list_true None None e = refl
+same_list_true (Some c) (Some d) e = ap Some (eqb-true c d e)
+same_list_true None (Some d) e = cc
+same_list_true (Some c) None e = cc
+
+pub same_list_refl : (b : Option ℕ) → same_list b b ≡ true
+same_list_refl None = refl
+same_list_refl (Some c) = eq-eqb c c refl
+
+pub list_new : {A : Type 0} (f : Option ℕ → A) (b : Option ℕ) (v : A) → put_list f b v b ≡ v
+list_new f b v = let e : same_list b b ≡ true = same_list_refl b in rw e
+
+pub list_old : {A : Type 0} (f : Option ℕ → A) (b : Option ℕ) (v : A) (c : Option ℕ) → same_list c b ≡ false → put_list f b v c ≡ f c
+list_old f b v c e = rw e
 
 -- a job is spawned into a scope that is there, by a free party that holds it
 pub into_cases : (P : World → Type 0) (w : World) (q : Party) (n : ℕ) → ((z : Scope) → slice_get w.scopes n ≡ Some z → is_free ((w.stack q).top) ≡ true → holds z.call (w.stack q) ≡ true → IfSome (after_enter w q (w.stack q) (Some z)) P) → IfSome (after_into w q n (w.stack q)) P
@@ -256,6 +332,43 @@ into_cases P w q n f = by (slice_get w.scopes n) refl
     by : (o : Option Scope) → slice_get w.scopes n ≡ o → IfSome (after_enter w q (w.stack q) o) P
     by None e = tt
     by (Some z) e = at z e (is_free ((w.stack q).top) && holds z.call (w.stack q)) refl
+
+-- a job is spawned into a scope in order by a worker of the scope's pool that holds the scope, or it is spawned there
+pub into_fifo_cases : (P : World → Type 0) (w : World) (q : Party) (n : ℕ) → ((z : Scope) → slice_get w.scopes n ≡ Some z → is_free ((w.stack q).top) ≡ true → holds z.call (w.stack q) ≡ true → IfSome (after_enter w q (w.stack q) (Some z)) P) → ((z : Scope) (i : ℕ) → slice_get w.scopes n ≡ Some z → is_free ((w.stack (Worker z.pool i)).top) ≡ true → holds z.call (w.stack (Worker z.pool i)) ≡ true → P (after_feed w (OfScope z.call z.owner) z.pool i (w.stack (Worker z.pool i)))) → IfSome (after_into_fifo w q n (w.stack q)) P
+into_fifo_cases P w q n f g = by q f (slice_get w.scopes n) refl
+  where
+    Plainly : Party → Type 0
+    Plainly r = (z : Scope) → slice_get w.scopes n ≡ Some z → is_free ((w.stack r).top) ≡ true → holds z.call (w.stack r) ≡ true → IfSome (after_enter w r (w.stack r) (Some z)) P
+
+    plain : (r : Party) → Plainly r → (z : Scope) → slice_get w.scopes n ≡ Some z → IfSome (after_enter w r (w.stack r) (Some z)) P
+    plain r h z e = at (is_free ((w.stack r).top) && holds z.call (w.stack r)) refl
+      where
+        at : (b : Bool) → (is_free ((w.stack r).top) && holds z.call (w.stack r)) ≡ b → IfSome (after_enter w r (w.stack r) (Some z)) P
+        at true t = let a : (is_free ((w.stack r).top) ≡ true) × (holds z.call (w.stack r) ≡ true) = and_parts (is_free ((w.stack r).top)) (holds z.call (w.stack r)) t in h z e (a.0) (a.1)
+        at false t = rw t tt
+
+    own : (z : Scope) (i r : ℕ) → Option World
+    own z i r = if is_free ((w.stack (Worker r i)).top) && holds z.call (w.stack (Worker r i)) then Some (after_feed w (OfScope z.call z.owner) z.pool i (w.stack (Worker r i))) else None
+
+    mine : (z : Scope) (i : ℕ) → slice_get w.scopes n ≡ Some z → IfSome (own z i z.pool) P
+    mine z i e = if_cond P (is_free ((w.stack (Worker z.pool i)).top) && holds z.call (w.stack (Worker z.pool i))) _ (λ b. let a : (is_free ((w.stack (Worker z.pool i)).top) ≡ true) × (holds z.call (w.stack (Worker z.pool i)) ≡ true) = and_parts (is_free ((w.stack (Worker z.pool i)).top)) (holds z.call (w.stack (Worker z.pool i))) b in g z i e (a.0) (a.1))
+
+    fed : (r i : ℕ) → Plainly (Worker r i) → (z : Scope) → slice_get w.scopes n ≡ Some z → (b : Bool) → (r == z.pool) ≡ b → IfSome (if b then own z i r else after_enter w (Worker r i) (w.stack (Worker r i)) (Some z)) P
+    fed r i h z e true b = subst (λ k. IfSome (own z i k) P) (sym (eqb-true r z.pool b)) (mine z i e)
+    fed r i h z e false b = plain (Worker r i) h z e
+
+    by : (r : Party) → Plainly r → (o : Option Scope) → slice_get w.scopes n ≡ o → IfSome (after_enter_fifo w r (w.stack r) o) P
+    by r h None e = tt
+    by (Caller c) h (Some z) e = plain (Caller c) h z e
+    by (Worker r i) h (Some z) e = fed r i h z e (r == z.pool) refl
+
+-- a broadcast into a scope that is there, by a free party that holds it
+pub into_cast_cases : (P : World → Type 0) (w : World) (q : Party) (n : ℕ) → ((z : Scope) → slice_get w.scopes n ≡ Some z → is_free ((w.stack q).top) ≡ true → holds z.call (w.stack q) ≡ true → P (after_deal w q (OfScope z.call z.owner) z.pool (w.stack q))) → IfSome (after_into_cast w q n (w.stack q)) P
+into_cast_cases P w q n f = by (slice_get w.scopes n) refl
+  where
+    by : (o : Option Scope) → slice_get w.scopes n ≡ o → IfSome (after_enter_cast w q (w.stack q) o) P
+    by None e = tt
+    by (Some z) e = if_cond P (is_free ((w.stack q).top) && holds z.call (w.stack q)) _ (λ b. let a : (is_free ((w.stack q).top) ≡ true) × (holds z.call (w.stack q) ≡ true) = and_parts (is_free ((w.stack q).top)) (holds z.call (w.stack q)) b in f z e (a.0) (a.1))
 
 -- an act on a book is not enabled while another party holds it
 pub book_sees : (P : Seen × Part → Type 0) (q : Party) (m : Part) (r : Seen × Part) → P r → IfSome (if is_open q m.call.writer then Some r else None) P

@@ -1,7 +1,9 @@
 -- which jobs a party has in hand or runs, by its places
-use Rattle.rayon_machine_places.specs.declared.place.Mark.TheVariants.{Counted, Queued, Returned}
+use Rattle.rayon_machine_places.specs.declared.place.Plan.{Plan}
+use Rattle.rayon_machine_places.specs.declared.place.Plan.TheVariants.{Gather}
+use Rattle.rayon_machine_places.specs.declared.place.Mark.TheVariants.{Counted, Queued, Returned, Numbered, Dealt, Unnumbered}
 use Rattle.rayon_machine_places.specs.declared.place.Share.{Share}
-use Rattle.rayon_machine_places.specs.declared.place.Count.TheVariants.{OfPool, OfScope}
+use Rattle.rayon_machine_places.specs.declared.place.Count.TheVariants.{OfPool, OfScope, OfCast}
 use Rattle.rayon_machine_places.specs.declared.place.Count.{Count}
 use Rattle.std.proofs.Common.{rules, arith, refl}
 use Rattle.std.specs.Prelude.{ℕ, Bool, true, false, ◌+◌, ◌==◌, nat_lt, if◌then◌else◌, List, [], ◌∷◌, ◌≡◌, IfSome}
@@ -35,6 +37,8 @@ abbrev pub paused : Move → List Place → Stack
 paused (Stay y) fs = record { top = y; below = fs }
 paused (HandIn y k) fs = record { top = y; below = BeginHere k ∷ fs }
 paused (Mark y c Counted) fs = record { top = y; below = fs }
+paused (Mark y c (Numbered n)) fs = record { top = y; below = fs }
+paused (Mark y c Unnumbered) fs = record { top = y; below = fs }
 paused (Mark y c k) fs = record { top = y; below = RaiseForAll c ∷ fs }
 paused (Enter f y) fs = record { top = y; below = f ∷ fs }
 paused (StartRun f a) fs = record { top = BeginHere a; below = f ∷ fs }
@@ -47,6 +51,8 @@ abbrev pub hand_move : ℕ → Move → ℕ
 hand_move t (Stay y) = hand t y
 hand_move t (HandIn y k) = hand t y + one (t == k)
 hand_move t (Mark y c Counted) = hand t y
+hand_move t (Mark y c (Numbered n)) = hand t y
+hand_move t (Mark y c Unnumbered) = hand t y
 hand_move t (Mark y c k) = hand t y + one (is_piece c t)
 hand_move t (Enter f y) = hand t y + hand t f
 hand_move t (StartRun f a) = one (t == a) + hand t f
@@ -71,7 +77,10 @@ pub land_held : (t : ℕ) (g : Move) (fs : List Place) → held t (paused g fs) 
 land_held t (Stay y) fs = refl
 land_held t (HandIn y k) fs = omega arith
 land_held t (Mark y b9 Counted) fs = omega arith
+land_held t (Mark y b9 (Numbered n)) fs = omega arith
 land_held t (Mark y b9 Queued) fs = omega arith
+land_held t (Mark y b9 Dealt) fs = omega arith
+land_held t (Mark y b9 Unnumbered) fs = omega arith
 land_held t (Mark y b9 Returned) fs = omega arith
 land_held t (Enter f y) fs = omega arith
 land_held t (StartRun f a) fs = omega arith
@@ -85,7 +94,10 @@ pub land_worked : (t : ℕ) (g : Move) (fs : List Place) → worked t (paused g 
 land_worked t (Stay y) fs = refl
 land_worked t (HandIn y k) fs = omega arith
 land_worked t (Mark y b9 Counted) fs = omega arith
+land_worked t (Mark y b9 (Numbered n)) fs = omega arith
 land_worked t (Mark y b9 Queued) fs = omega arith
+land_worked t (Mark y b9 Dealt) fs = omega arith
+land_worked t (Mark y b9 Unnumbered) fs = omega arith
 land_worked t (Mark y b9 Returned) fs = omega arith
 land_worked t (Enter f y) fs = omega arith
 land_worked t (StartRun f a) fs = omega arith
@@ -111,8 +123,25 @@ starts t (BeginTask (Plain u)) = one (t == u)
 starts t (BeginHere u) = one (t == u)
 starts t _ = 0
 
+-- a broadcast that waits queues no job of its own
+abbrev pub is_gather : Plan → Bool
+is_gather (Gather g) = true
+is_gather _ = false
+
+abbrev pub queues_whole : Place → Bool
+queues_whole (PushJob n v) = is_gather n
+queues_whole _ = false
+
+abbrev pub given_plan : ℕ → Plan → ℕ
+given_plan t (Gather g) = one (is_piece g.pieces t)
+given_plan t n = one (t == plan_job n)
+
+pub given_one : (t : ℕ) (n : Plan) → is_gather n ≡ false → given_plan t n ≡ one (t == plan_job n)
+given_one t (Gather g) e = cc
+given_one t _ e = refl
+
 abbrev pub given : ℕ → Place → ℕ
-given t (PushJob n e) = one (t == plan_job n)
+given t (PushJob n e) = given_plan t n
 given t (PushToken f e) = one (t == f.token)
 given t (AddToFifo f) = one (t == f.job)
 given t x = starts t x
@@ -149,6 +178,8 @@ set_hand t g q k _ = settled_hand t g q k k.latch
 -- whatever count is 0 now
 zero_hand : (t : ℕ) (g : PoolShape) (q : Party) (k : Count) (n : Then) → (hand_move t (settle_count g q k n) ≡ hand_then t n) × (run_move t (settle_count g q k n) ≡ 0)
 zero_hand t g q (OfPool p) n = settle_hand t g q p 0 n
+zero_hand t g q (OfCast c (Worker a b)) n = (omega arith, omega arith)
+zero_hand t g q (OfCast c (Caller i)) n = (omega arith, omega arith)
 zero_hand t g q (OfScope c (Worker a b)) n = (omega arith, omega arith)
 zero_hand t g q (OfScope c (Caller i)) n = (omega arith, omega arith)
 
@@ -165,7 +196,7 @@ table h s (Worker a b) c m t (ProbeWorking k) = search (rules, arith)
 table h s (Worker a b) c m t (SetLatch k) = set_sees (λ e. hand_move t (next_of s (Worker a b) (SetLatch k) e) + 0 ≡ hand t (SetLatch k) + got t e) k.latch m (letter k.latch m) (λ e none. let both : (hand_move t (next_of s (Worker a b) (SetLatch k) e) ≡ hand_then t k.then) × (run_move t (next_of s (Worker a b) (SetLatch k) e) ≡ 0) = set_hand t s (Worker a b) k e in let b : hand_move t (next_of s (Worker a b) (SetLatch k) e) ≡ hand_then t k.then = both.0 in let z : got t e ≡ 0 = (none t).0 in omega (arith, b, z))
 table h s (Worker a b) c m t (UnlockSettled k) = if_cond (λ r. hand_move t (next_of s (Worker a b) (UnlockSettled k) (r.0)) + 0 ≡ hand t (UnlockSettled k) + got t (r.0)) (is_held_by (Worker a b) m.seat.lock) _ (λ z. let both : (hand_move t (after_set s (Worker a b) k k.latch) ≡ hand_then t k.then) × (run_move t (after_set s (Worker a b) k k.latch) ≡ 0) = settled_hand t s (Worker a b) k k.latch in let b : hand_move t (after_set s (Worker a b) k k.latch) ≡ hand_then t k.then = both.0 in omega (arith, b))
 table h s (Worker a b) c m t (BeginTask (Plain u)) = search (rules, arith)
-table h s (Worker a b) c m t (BeginTask (Token k i)) = out_sees (λ r. hand_move t (after_begin (Token k i) (r.0)) + 0 ≡ one (t == k) + got t (r.0)) (Worker a b) m (omega arith) (λ u us e. omega arith)
+table h s (Worker a b) c m t (BeginTask (Token k i b8)) = out_sees (λ r. hand_move t (after_begin (Token k i b8) (r.0)) + 0 ≡ one (t == k) + got t (r.0)) (Worker a b) m b8 (omega arith) (λ u us e. omega arith)
 table h s (Worker a b) c m t (LowerCount k u j) = (lower_hand t s (Worker a b) k u j (count_in m k == 1)).0
 table h s (Worker a b) c m t (SetLockLatch i j) = (after_hand t (Worker a b) j).0
 table h s (Worker a b) c m t _ = search (rules, arith)
@@ -173,7 +204,7 @@ table h s (Caller n) c m t (ProbeWorking k) = search (rules, arith)
 table h s (Caller n) c m t (SetLatch k) = set_sees (λ e. hand_move t (next_of s (Caller n) (SetLatch k) e) + 0 ≡ hand t (SetLatch k) + got t e) k.latch m (letter k.latch m) (λ e none. let both : (hand_move t (next_of s (Caller n) (SetLatch k) e) ≡ hand_then t k.then) × (run_move t (next_of s (Caller n) (SetLatch k) e) ≡ 0) = set_hand t s (Caller n) k e in let b : hand_move t (next_of s (Caller n) (SetLatch k) e) ≡ hand_then t k.then = both.0 in let z : got t e ≡ 0 = (none t).0 in omega (arith, b, z))
 table h s (Caller n) c m t (UnlockSettled k) = if_cond (λ r. hand_move t (next_of s (Caller n) (UnlockSettled k) (r.0)) + 0 ≡ hand t (UnlockSettled k) + got t (r.0)) (is_held_by (Caller n) m.seat.lock) _ (λ z. let both : (hand_move t (after_set s (Caller n) k k.latch) ≡ hand_then t k.then) × (run_move t (after_set s (Caller n) k k.latch) ≡ 0) = settled_hand t s (Caller n) k k.latch in let b : hand_move t (after_set s (Caller n) k k.latch) ≡ hand_then t k.then = both.0 in omega (arith, b))
 table h s (Caller n) c m t (BeginTask (Plain u)) = search (rules, arith)
-table h s (Caller n) c m t (BeginTask (Token k i)) = out_sees (λ r. hand_move t (after_begin (Token k i) (r.0)) + 0 ≡ one (t == k) + got t (r.0)) (Caller n) m (omega arith) (λ u us e. omega arith)
+table h s (Caller n) c m t (BeginTask (Token k i b8)) = out_sees (λ r. hand_move t (after_begin (Token k i b8) (r.0)) + 0 ≡ one (t == k) + got t (r.0)) (Caller n) m b8 (omega arith) (λ u us e. omega arith)
 table h s (Caller n) c m t (LowerCount k u j) = (lower_hand t s (Caller n) k u j (count_in m k == 1)).0
 table h s (Caller n) c m t (SetLockLatch i j) = (after_hand t (Caller n) j).0
 table h s (Caller n) c m t _ = search (rules, arith)
@@ -184,7 +215,7 @@ run_table h s (Worker a b) c m t (ProbeWorking k) = search (rules, arith)
 run_table h s (Worker a b) c m t (SetLatch k) = set_sees (λ e. run_move t (next_of s (Worker a b) (SetLatch k) e) ≡ run_of t (SetLatch k) + (starts t (SetLatch k) + outs t e)) k.latch m (letter k.latch m) (λ e none. let both : (hand_move t (next_of s (Worker a b) (SetLatch k) e) ≡ hand_then t k.then) × (run_move t (next_of s (Worker a b) (SetLatch k) e) ≡ 0) = set_hand t s (Worker a b) k e in let b : run_move t (next_of s (Worker a b) (SetLatch k) e) ≡ 0 = both.1 in let z : outs t e ≡ 0 = (none t).1 in omega (arith, b, z))
 run_table h s (Worker a b) c m t (UnlockSettled k) = if_cond (λ r. run_move t (next_of s (Worker a b) (UnlockSettled k) (r.0)) ≡ run_of t (UnlockSettled k) + (starts t (UnlockSettled k) + outs t (r.0))) (is_held_by (Worker a b) m.seat.lock) _ (λ z. let both : (hand_move t (after_set s (Worker a b) k k.latch) ≡ hand_then t k.then) × (run_move t (after_set s (Worker a b) k k.latch) ≡ 0) = settled_hand t s (Worker a b) k k.latch in let b : run_move t (after_set s (Worker a b) k k.latch) ≡ 0 = both.1 in omega (arith, b))
 run_table h s (Worker a b) c m t (BeginTask (Plain u)) = search (rules, arith)
-run_table h s (Worker a b) c m t (BeginTask (Token k i)) = out_sees (λ r. run_move t (after_begin (Token k i) (r.0)) ≡ 0 + (0 + outs t (r.0))) (Worker a b) m (omega arith) (λ u us e. omega arith)
+run_table h s (Worker a b) c m t (BeginTask (Token k i b8)) = out_sees (λ r. run_move t (after_begin (Token k i b8) (r.0)) ≡ 0 + (0 + outs t (r.0))) (Worker a b) m b8 (omega arith) (λ u us e. omega arith)
 run_table h s (Worker a b) c m t (LowerCount k u j) = (lower_hand t s (Worker a b) k u j (count_in m k == 1)).1
 run_table h s (Worker a b) c m t (SetLockLatch i j) = (after_hand t (Worker a b) j).1
 run_table h s (Worker a b) c m t _ = search (rules, arith)
@@ -192,7 +223,7 @@ run_table h s (Caller n) c m t (ProbeWorking k) = search (rules, arith)
 run_table h s (Caller n) c m t (SetLatch k) = set_sees (λ e. run_move t (next_of s (Caller n) (SetLatch k) e) ≡ run_of t (SetLatch k) + (starts t (SetLatch k) + outs t e)) k.latch m (letter k.latch m) (λ e none. let both : (hand_move t (next_of s (Caller n) (SetLatch k) e) ≡ hand_then t k.then) × (run_move t (next_of s (Caller n) (SetLatch k) e) ≡ 0) = set_hand t s (Caller n) k e in let b : run_move t (next_of s (Caller n) (SetLatch k) e) ≡ 0 = both.1 in let z : outs t e ≡ 0 = (none t).1 in omega (arith, b, z))
 run_table h s (Caller n) c m t (UnlockSettled k) = if_cond (λ r. run_move t (next_of s (Caller n) (UnlockSettled k) (r.0)) ≡ run_of t (UnlockSettled k) + (starts t (UnlockSettled k) + outs t (r.0))) (is_held_by (Caller n) m.seat.lock) _ (λ z. let both : (hand_move t (after_set s (Caller n) k k.latch) ≡ hand_then t k.then) × (run_move t (after_set s (Caller n) k k.latch) ≡ 0) = settled_hand t s (Caller n) k k.latch in let b : run_move t (after_set s (Caller n) k k.latch) ≡ 0 = both.1 in omega (arith, b))
 run_table h s (Caller n) c m t (BeginTask (Plain u)) = search (rules, arith)
-run_table h s (Caller n) c m t (BeginTask (Token k i)) = out_sees (λ r. run_move t (after_begin (Token k i) (r.0)) ≡ 0 + (0 + outs t (r.0))) (Caller n) m (omega arith) (λ u us e. omega arith)
+run_table h s (Caller n) c m t (BeginTask (Token k i b8)) = out_sees (λ r. run_move t (after_begin (Token k i b8) (r.0)) ≡ 0 + (0 + outs t (r.0))) (Caller n) m b8 (omega arith) (λ u us e. omega arith)
 run_table h s (Caller n) c m t (LowerCount k u j) = (lower_hand t s (Caller n) k u j (count_in m k == 1)).1
 run_table h s (Caller n) c m t (SetLockLatch i j) = (after_hand t (Caller n) j).1
 run_table h s (Caller n) c m t _ = search (rules, arith)

@@ -1,4 +1,6 @@
 -- what a wait says of its last announcement, and of its own deque
+use Rattle.rayon_machine_places.specs.declared.place.Plan.TheVariants.{Gather}
+use Rattle.rayon_machine_places.specs.declared.place.Plan.{Plan}
 use Rattle.rayon_machine_places.specs.World.{Shape}
 use Rattle.rayon_machine_places.specs.declared.place.Pieces.{Pieces}
 use Rattle.std.proofs.Common.{refl}
@@ -6,7 +8,7 @@ use Rattle.std.specs.Prelude.{ℕ, Bool, true, false, ◌≡◌, Option, Some, N
 use Rattle.rayon_machine_places.specs.declared.place.Rounds.{Rounds}
 use Rattle.rayon_machine_places.specs.declared.place.Rounds.TheVariants.{Failed, Announced}
 use Rattle.rayon_machine_places.specs.declared.place.Place.{Place}
-use Rattle.rayon_machine_places.specs.declared.place.Place.TheVariants.{ProbeWorking, TakeCastWorking, BecomeInactive, ProbeIdle, PopIdle, TakeCastIdle, PickVictim, StealFrom, PopInjected, AnnounceSelf, GetSleepy, LockOwn, FallAsleep, LoadCounters, AddSleeping, LookAtCast, LookAtInjector, BlockSelf, RelockOwn, UndoSleeping, WakeUp, UnlockOwn, RaiseForAll, PushForAll}
+use Rattle.rayon_machine_places.specs.declared.place.Place.TheVariants.{ProbeWorking, TakeCastWorking, BecomeInactive, ProbeIdle, PopIdle, TakeCastIdle, PickVictim, StealFrom, PopInjected, AnnounceSelf, GetSleepy, LockOwn, FallAsleep, LoadCounters, AddSleeping, LookAtCast, LookAtInjector, BlockSelf, RelockOwn, UndoSleeping, WakeUp, UnlockOwn, RaiseForAll, PushForAll, OpenForAll, GrowCast, DealPieces, RaiseCount}
 use Rattle.rayon_machine_laws.proofs.Seats.{is_frame}
 
 -- the worker has announced itself since it last was busy
@@ -84,16 +86,24 @@ pub frame_not_emptied : (f : Place) → is_frame f ≡ true → is_emptied f ≡
 frame_not_emptied (ProbeWorking k) e = refl
 frame_not_emptied _ e = cc
 
--- the pieces of a broadcast that a party is about to take shares for, or to deal
-abbrev pub sizes : Place → Option Pieces
-sizes (RaiseForAll c) = Some c
-sizes (PushForAll c) = Some c
+-- the pieces of a broadcast that a party is about to take shares for, or to deal, and the pool whose workers it calls
+abbrev pub plan_sizes : Plan → Option (Pieces × ℕ)
+plan_sizes (Gather g) = Some (g.pieces, g.call.pool)
+plan_sizes _ = None
+
+abbrev pub sizes : Place → Option (Pieces × ℕ)
+sizes (RaiseForAll c) = Some (c, c.pool)
+sizes (OpenForAll c) = Some (c, c.pool)
+sizes (PushForAll c) = Some (c, c.pool)
+sizes (RaiseCount n) = plan_sizes n
+sizes (GrowCast g) = Some (g.pieces, g.call.pool)
+sizes (DealPieces g) = Some (g.pieces, g.call.pool)
 sizes _ = None
 
--- they are as many as their pool has workers
-abbrev pub SizedAs : Shape → Option Pieces → Type 0
+-- they are as many as their pool has workers, and those are called
+abbrev pub SizedAs : Shape → Option (Pieces × ℕ) → Type 0
 SizedAs h None = ⊤
-SizedAs h (Some c) = c.workers ≡ (h.pool c.pool).workers
+SizedAs h (Some (c, p)) = (c.workers ≡ (h.pool c.pool).workers) × (p ≡ c.pool)
 
 pub frame_unsized : (f : Place) → is_frame f ≡ true → sizes f ≡ None
 frame_unsized (ProbeWorking k) e = refl

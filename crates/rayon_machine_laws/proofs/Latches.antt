@@ -1,4 +1,5 @@
 -- what each act leaves of the latches
+use Rattle.rayon_machine_places.specs.declared.place.Gathering.{Gathering}
 use Rattle.rayon_machine_places.specs.declared.place.Then.{Then}
 use Rattle.rayon_machine_places.specs.declared.place.OpenCall.{OpenCall}
 use Rattle.std.proofs.Common.{rules, arith, refl, ap, subst}
@@ -9,7 +10,7 @@ use Rattle.rayon_machine_places.specs.declared.place.Latch.{Latch}
 use Rattle.rayon_machine_places.specs.declared.place.Latch.TheVariants.{Terminate, OfCall}
 use Rattle.rayon_machine_places.specs.declared.place.Plan.{Plan}
 use Rattle.rayon_machine_places.specs.declared.place.Place.{Place}
-use Rattle.rayon_machine_places.specs.declared.place.Place.TheVariants.{ProbeWorking, GetSleepy, FallAsleep, BlockSelf, WakeUp, GrowCall, SetLatch, SetLockLatch, GrowScope}
+use Rattle.rayon_machine_places.specs.declared.place.Place.TheVariants.{ProbeWorking, GetSleepy, FallAsleep, BlockSelf, WakeUp, GrowCall, SetLatch, SetLockLatch, GrowScope, GrowCast}
 use Rattle.rayon_machine_places.specs.declared.act.Act.TheVariants.{Sleepy, Asleep, Wakeup, Set}
 use Rattle.rayon_machine_places.specs.declared.act.Seen.{Seen}
 use Rattle.rayon_machine_places.specs.declared.act.Seen.TheVariants.{Yes}
@@ -33,6 +34,7 @@ is_latching (FallAsleep k) = true
 is_latching (WakeUp k) = true
 is_latching (GrowCall n) = true
 is_latching (GrowScope o) = true
+is_latching (GrowCast g) = true
 is_latching (SetLatch s) = true
 is_latching (SetLockLatch c t) = true
 is_latching _ = false
@@ -44,6 +46,7 @@ latches_same h q c m (FallAsleep k) z = cc
 latches_same h q c m (WakeUp k) z = cc
 latches_same h q c m (GrowCall n) z = cc
 latches_same h q c m (GrowScope o) z = cc
+latches_same h q c m (GrowCast g) z = cc
 latches_same h q c m (SetLatch s) z = cc
 latches_same h q c m (SetLockLatch d t) z = cc
 latches_same h (Worker a b) c m _ z = search (rules, arith)
@@ -89,6 +92,10 @@ grow_one h (Caller o) c m n = refl
 pub scope_one : (h : Shape) (q : Party) (c : Counts) (m : Part) (n : OpenCall) → IfSome (effect (act_of q (GrowScope n)) h q c m) (λ r. r.1.seat.latch ≡ m.seat.latch)
 scope_one h (Worker a b) c m n = refl
 scope_one h (Caller o) c m n = refl
+
+pub gather_one : (h : Shape) (q : Party) (c : Counts) (m : Part) (n : Gathering) → IfSome (effect (act_of q (GrowCast n)) h q c m) (λ r. r.1.seat.latch ≡ m.seat.latch)
+gather_one h (Worker a b) c m n = refl
+gather_one h (Caller o) c m n = refl
 
 pub lock_one : (h : Shape) (q : Party) (c : Counts) (m : Part) (d : ℕ) (t : Then) → IfSome (effect (act_of q (SetLockLatch d t)) h q c m) (λ r. r.1.seat.latch ≡ m.seat.latch)
 lock_one h (Worker a b) c m d t = refl

@@ -1,6 +1,7 @@
 -- what no step takes back, so that what a place says stays true while others move
+use Rattle.rayon_machine_places.specs.declared.place.Gathering.{Gathering}
 use Rattle.rayon_machine_places.specs.declared.place.Pieces.{Pieces}
-use Rattle.rayon_machine_places.specs.declared.place.Count.TheVariants.{OfPool, OfScope}
+use Rattle.rayon_machine_places.specs.declared.place.Count.TheVariants.{OfPool, OfScope, OfCast}
 use Rattle.rayon_machine_places.specs.declared.place.Count.{Count}
 use Rattle.std.proofs.Common.{rules, arith, refl, sym, ◌∙◌, ap, subst, inl, inr}
 use Rattle.std.specs.Prelude.{ℕ, Bool, true, false, ◌+◌, ◌-◌, ◌==◌, ◌≤◌, if◌then◌else◌, Option, Some, None, List, [], ◌∷◌, ◌≡◌, IfSome}
@@ -10,20 +11,20 @@ use Rattle.rayon_machine_places.specs.declared.place.Party.TheVariants.{Worker, 
 use Rattle.rayon_machine_places.specs.declared.place.Ending.{Ending}
 use Rattle.rayon_machine_places.specs.declared.place.Ending.TheVariants.{Fine}
 use Rattle.rayon_machine_places.specs.declared.place.JobKind.{JobKind}
-use Rattle.rayon_machine_places.specs.declared.place.JobKind.TheVariants.{Detached, Stored, Direct, TokenOf, Scoped, BodyOf}
+use Rattle.rayon_machine_places.specs.declared.place.JobKind.TheVariants.{Detached, Stored, Direct, TokenOf, Scoped, BodyOf, PieceOf, WholeOf}
 use Rattle.rayon_machine_places.specs.declared.place.Target.{Target}
 use Rattle.rayon_machine_places.specs.declared.place.Target.TheVariants.{Termination, Answer}
 use Rattle.rayon_machine_places.specs.declared.place.Latch.{Latch}
 use Rattle.rayon_machine_places.specs.declared.place.Latch.TheVariants.{Terminate, OfCall}
 use Rattle.rayon_machine_places.specs.declared.place.Plan.{Plan}
-use Rattle.rayon_machine_places.specs.declared.place.Plan.TheVariants.{Detach, Here, Send, Fork, Feed, Open, Enter}
+use Rattle.rayon_machine_places.specs.declared.place.Plan.TheVariants.{Detach, Here, Send, Fork, Feed, Open, Enter, Gather}
 use Rattle.rayon_machine_places.specs.declared.place.Share.{Share}
 use Rattle.rayon_machine_places.specs.declared.place.Share.TheVariants.{PoolValue, OfJob, Body}
 use Rattle.rayon_machine_places.specs.declared.place.Then.{Then}
-use Rattle.rayon_machine_places.specs.declared.place.Then.TheVariants.{BeginFound, LeaveWait, Resume, Await, RunFirst, Answers, Missing, Ran, GiveBack, Called}
+use Rattle.rayon_machine_places.specs.declared.place.Then.TheVariants.{BeginFound, LeaveWait, Resume, Await, RunFirst, Answers, Missing, Ran, GiveBack, Called, Gathers}
 use Rattle.rayon_machine_places.specs.declared.place.Taken.{Taken}
 use Rattle.rayon_machine_places.specs.declared.place.Place.{Place}
-use Rattle.rayon_machine_places.specs.declared.place.Place.TheVariants.{ProbeWorking, PopWorking, TakeCastWorking, BecomeInactive, ProbeIdle, PopIdle, TakeCastIdle, PickVictim, StealFrom, PopInjected, AnnounceSelf, GetSleepy, LockOwn, FallAsleep, LoadCounters, AddSleeping, LookAtCast, LookAtInjector, BlockSelf, RelockOwn, UndoSleeping, WakeUp, UnlockOwn, LeaveSearch, JoinProbe, JoinPop, JoinTakeCast, BeginTask, BeginHere, Run, RaiseCount, GrowCall, LookQueue, PushJob, TellNews, LockToWake, WakeWorker, UnlockWoken, WaitForLock, TakeResult, LowerCount, StoreResult, SetLatch, LockToSettle, WakeSettled, UnlockSettled, SetLockLatch, FirstSide, SecondSide, AtOnce, AddToFifo, LookForToken, PushToken, TakeFromFifo, RaiseForAll, PushForAll, LowerForAll, GrowScope, OpenSlot, CloseSlot, StoreBody, StoreSlot, ScopeBody}
+use Rattle.rayon_machine_places.specs.declared.place.Place.TheVariants.{ProbeWorking, PopWorking, TakeCastWorking, BecomeInactive, ProbeIdle, PopIdle, TakeCastIdle, PickVictim, StealFrom, PopInjected, AnnounceSelf, GetSleepy, LockOwn, FallAsleep, LoadCounters, AddSleeping, LookAtCast, LookAtInjector, BlockSelf, RelockOwn, UndoSleeping, WakeUp, UnlockOwn, LeaveSearch, JoinProbe, JoinPop, JoinTakeCast, BeginTask, BeginHere, Run, RaiseCount, GrowCall, LookQueue, PushJob, TellNews, LockToWake, WakeWorker, UnlockWoken, WaitForLock, TakeResult, LowerCount, StoreResult, SetLatch, LockToSettle, WakeSettled, UnlockSettled, SetLockLatch, FirstSide, SecondSide, AtOnce, AddToFifo, LookForToken, PushToken, TakeFromFifo, RaiseForAll, PushForAll, LowerForAll, GrowScope, OpenSlot, CloseSlot, StoreBody, StoreSlot, ScopeBody, OpenForAll, CloseForAll, GrowCast, DealPieces, StorePiece}
 use Rattle.rayon_machine_places.specs.declared.act.Seen.{Seen}
 use Rattle.rayon_machine_places.specs.declared.act.Seen.TheVariants.{Done, Refused}
 use Rattle.rayon_machine_places.specs.declared.state.Letter.{Letter}
@@ -31,10 +32,10 @@ use Rattle.rayon_machine_places.specs.declared.state.Letter.TheVariants.{Set as 
 use Rattle.rayon_machine_places.specs.declared.state.Whereabouts.{Whereabouts}
 use Rattle.rayon_machine_places.specs.declared.state.Whereabouts.TheVariants.{Nowhere, Made, InDeque, Injected, InFifo, Running, Over, HandedBack, Spent, Retaken, InCast}
 use Rattle.rayon_machine_places.specs.declared.place.OpenCall.{OpenCall}
-use Rattle.rayon_machine_places.specs.Places.{latch_of, act_of, own_index, plan_count}
-use Rattle.rayon_machine_places.specs.World.{Shape, Stack, World, Counts, Part, letter, with_letter, lowered, effect, count_in, raised}
+use Rattle.rayon_machine_places.specs.Places.{latch_of, act_of, own_index, plan_count, count_kind, count_book}
+use Rattle.rayon_machine_places.specs.World.{Shape, Stack, World, Counts, Part, letter, with_letter, lowered, effect, count_in, raised, all_raised, all_lowered, pool_more, call_more, pool_less, call_less}
 use Rattle.rayon_machine_places.specs.Readers.{is_done}
-use Rattle.rayon_machine_laws.proofs.Claims.{Opened, IsStored, call_kind, is_body, MadeAs, FirstEnds, SaysTarget, Left, Taking, is_detached, Awaited, SaysFound, SaysPlan, SaysQueue, SaysThen, SaysTaken, SaysOwner, SaysShare, SaysLatch, SaysRun, Says, AllSay, StackSays, SaysTold, SaysPieces, SaysEntry, IsReady}
+use Rattle.rayon_machine_laws.proofs.Claims.{Opened, IsStored, call_kind, is_body, MadeAs, FirstEnds, SaysTarget, Left, Taking, is_detached, Awaited, SaysFound, SaysPlan, SaysQueue, SaysThen, SaysOwner, SaysShare, SaysLatch, SaysRun, Says, AllSay, StackSays, SaysTold, SaysPieces, SaysEntry, IsReady, Tied, PartOf, KnownCount, SaysCast, SaysGather, PieceEnds, EndsAs, SaysSlot, SaysTaken}
 use Rattle.rayon_machine_laws.proofs.Letters.{sleepy_keeps, asleep_keeps, wake_keeps, set_keeps}
 use Rattle.rayon_machine_places.specs.declared.place.Taken.TheVariants.{Plain, Token}
 
@@ -51,6 +52,8 @@ pub record Later (w u : World) : Type 0 where
   pub ended : (p : ℕ) → (w.pool p).count ≡ 0 → (u.pool p).count ≡ 0
   pub spent : (c : ℕ) → c + 1 ≤ w.calls → (w.call c).count ≡ 0 → (u.call c).count ≡ 0
   pub given : (p : ℕ) → (w.pool p).held ≡ false → (u.pool p).held ≡ false
+  pub shape : u.shape ≡ w.shape
+  pub gone : (t : ℕ) → (w.job t).at ≡ Spent → (u.job t).at ≡ Spent
 
 later_opened : (w u : World) → Later w u → (q : Party) (o : OpenCall) → Opened w q o → Opened u q o
 later_opened w u l q o s = record {
@@ -77,15 +80,63 @@ later_target w u l q (Answer o f) s = (later_opened w u l q o (s.0), later_first
 pub later_made : (w u : World) → Later w u → (t p : ℕ) (k : JobKind) → MadeAs w t p k → MadeAs u t p k
 later_made w u l t p k s = record { made = (let a : t + 1 ≤ w.jobs = s.made in let b : w.jobs ≤ u.jobs = l.jobs in omega (arith, a, b)); kind = l.kind t (s.made) ∙ s.kind; pool = l.pool t (s.made) ∙ s.pool; bound = l.bound t (s.made) ∙ s.bound }
 
+pub later_tied : (w u : World) → Later w u → (c : ℕ) (o : Party) → Tied w c o → Tied u c o
+later_tied w u l c o s = record {
+  number = (let a : c + 1 ≤ w.calls = s.number in let b : w.calls ≤ u.calls = l.calls in omega (arith, a, b));
+  made = (let a : (w.call c).job + 1 ≤ w.jobs = s.made in let b : w.jobs ≤ u.jobs = l.jobs in let e : (u.call c).job ≡ (w.call c).job = l.target c (s.number) in omega (arith, a, b, e));
+  kind = ap (λ t. (u.job t).kind) (l.target c (s.number)) ∙ l.kind ((w.call c).job) (s.made) ∙ s.kind;
+}
+
+pub later_part : (w u : World) → Later w u → (t c : ℕ) (o : Party) → PartOf w t c o → PartOf u t c o
+later_part w u l t c o s = record {
+  number = (let a : c + 1 ≤ w.calls = s.number in let b : w.calls ≤ u.calls = l.calls in omega (arith, a, b));
+  made = (let a : (w.call c).job + 1 ≤ w.jobs = s.made in let b : w.jobs ≤ u.jobs = l.jobs in omega (arith, a, b, to));
+  kind = ap (λ t. (u.job t).kind) to ∙ l.kind ((w.call c).job) (s.made) ∙ s.kind;
+  pool = l.pool t (let a : t + 1 ≤ (w.call c).job = s.below in let b : (w.call c).job + 1 ≤ w.jobs = s.made in omega (arith, a, b)) ∙ s.pool ∙ sym (ap (λ n. (u.job n).pool) to ∙ l.pool ((w.call c).job) (s.made));
+  below = (let a : t + 1 ≤ (w.call c).job = s.below in omega (arith, a, to));
+  above = (let a : (w.call c).job ≤ t + (w.shape.pool (w.job (w.call c).job).pool).workers = s.above in let b : (u.shape.pool (u.job (u.call c).job).pool).workers ≡ (w.shape.pool (w.job (w.call c).job).pool).workers = ap (λ h. (h.pool (u.job (u.call c).job).pool).workers) (l.shape) ∙ ap (λ n. (w.shape.pool n).workers) (ap (λ n. (u.job n).pool) to ∙ l.pool ((w.call c).job) (s.made)) in omega (arith, a, b, to));
+}
+  where
+    to : (u.call c).job ≡ (w.call c).job
+    to = l.target c (s.number)
+
+pub later_known : (w u : World) → Later w u → (k : Count) (p : ℕ) → KnownCount w k p → KnownCount u k p
+later_known w u l (OfPool r) p s = s
+later_known w u l (OfScope c o) p s = later_tied w u l c o s
+later_known w u l (OfCast c o) p s = s
+
 pub later_pieces : (w u : World) → Later w u → (c : Pieces) → SaysPieces w c → SaysPieces u c
 later_pieces w u l c s t z = record { made = (let a : t + 1 ≤ w.jobs = (s t z).made in let b : w.jobs ≤ u.jobs = l.jobs in omega (arith, a, b)); kind = l.kind t ((s t z).made) ∙ (s t z).kind; pool = l.pool t ((s t z).made) ∙ (s t z).pool; bound = l.bound t ((s t z).made) ∙ (s t z).bound }
+
+pub later_cast : (w u : World) → Later w u → (c : Pieces) → SaysCast w c → SaysCast u c
+later_cast w u l c s = (later_pieces w u l c (s.0), later_known w u l c.count c.pool (s.1))
+
+later_gather : (w u : World) → Later w u → (q : Party) (g : Gathering) → SaysGather w q g → SaysGather u q g
+later_gather w u l q g s = record {
+  call = later_opened w u l q g.call (s.call);
+  alone = l.side (g.call.number) ((s.call).number) ∙ s.alone;
+  pieces = later_pieces w u l g.pieces (s.pieces);
+  count = s.count;
+  spent = l.gone (g.call.job) (s.spent);
+  whole = l.kind (g.call.job) ((s.call).made) ∙ s.whole;
+  last = s.last;
+  pool = s.pool;
+  size = s.size ∙ ap (λ h. (h.pool g.call.pool).workers) (sym (l.shape));
+}
+
+pub later_piece : (w u : World) → Later w u → (c : ℕ) (e : Ending) → PieceEnds w c e → PieceEnds u c e
+later_piece w u l c e s = record { job = s.job; owner = s.owner; made = (let a : s.job + 1 ≤ w.jobs = s.made in let b : w.jobs ≤ u.jobs = l.jobs in omega (arith, a, b)); kind = l.kind (s.job) (s.made) ∙ s.kind; at = l.over (s.job) e (s.at) }
+
+pub later_as : (w u : World) → Later w u → (t c : ℕ) (e : Ending) → EndsAs w t c e → EndsAs u t c e
+later_as w u l t c e (inl s) = inl (l.over t e s)
+later_as w u l t c e (inr s) = inr (later_piece w u l c e s)
 
 later_awaited : (w u : World) → Later w u → (t : ℕ) → Awaited w t → Awaited u t
 later_awaited w u l t s = record { made = (let a : t + 1 ≤ w.jobs = s.made in let b : w.jobs ≤ u.jobs = l.jobs in omega (arith, a, b)); kind = ap is_detached (l.kind t (s.made)) ∙ s.kind }
 
 later_taking : (w u : World) → Later w u → (x : Taken) → Taking w x → Taking u x
 later_taking w u l (Plain t) s = l.left t s
-later_taking w u l (Token k i) s = (l.left k (s.0), (let a : k + 1 ≤ w.jobs = s.1 in let b : w.jobs ≤ u.jobs = l.jobs in omega (arith, a, b)), l.kind k (s.1) ∙ s.2)
+later_taking w u l (Token k i b8) s = (l.left k (s.0), (let a : k + 1 ≤ w.jobs = s.1 in let b : w.jobs ≤ u.jobs = l.jobs in omega (arith, a, b)), l.kind k (s.1) ∙ s.2)
 
 later_found : (w u : World) → Later w u → (o : Option Taken) → SaysFound w o → SaysFound u o
 later_found w u l None s = tt
@@ -94,16 +145,18 @@ later_found w u l (Some x) s = later_taking w u l x s
 later_plan : (w u : World) → Later w u → (q : Party) (n : Plan) → SaysPlan w q n → SaysPlan u q n
 later_plan w u l q (Detach p t) s = later_made w u l t p (Detached p) s
 later_plan w u l q (Here p t) s = later_made w u l t p Direct s
-later_plan w u l q (Feed f) s = (later_made w u l f.job f.pool (Detached f.pool) (s.0), later_made w u l f.token f.pool (TokenOf (own_index q)) (s.1), s.2)
+later_plan w u l q (Feed f) s = (later_made w u l f.job f.pool (count_kind f.count) (s.0), later_made w u l f.token f.pool (TokenOf (own_index q) (count_book f.count)) (s.1), s.2, later_known w u l f.count f.pool (s.3))
+later_plan w u l q (Gather g) s = later_gather w u l q g s
 later_plan w u l q (Send o) s = (later_opened w u l q o (s.0), l.side (o.number) ((s.0).number) ∙ s.1)
 later_plan w u l q (Open o) s = (later_opened w u l q o (s.0), l.side (o.number) ((s.0).number) ∙ s.1)
-later_plan w u l q (Enter e) s = (later_made w u l e.job e.pool (Scoped e.call e.owner) (s.0), (let a : e.call + 1 ≤ w.calls = s.1 in let b : w.calls ≤ u.calls = l.calls in omega (arith, a, b)))
+later_plan w u l q (Enter e) s = (later_made w u l e.job e.pool (Scoped e.call e.owner) (s.0), later_tied w u l e.call e.owner (s.1))
 later_plan w u l q (Fork o a) s = (later_opened w u l q o (s.0), l.side (o.number) ((s.0).number) ∙ s.1, later_awaited w u l a (s.2))
 
 later_told : (w u : World) → Later w u → (q : Party) (n : Plan) → SaysTold w q n → SaysTold u q n
 later_told w u l q (Detach p t) s = ((let a : t + 1 ≤ w.jobs = s.0 in let b : w.jobs ≤ u.jobs = l.jobs in omega (arith, a, b)), l.pool t (s.0) ∙ s.1)
 later_told w u l q (Feed f) s = absurd s
 later_told w u l q (Open o) s = absurd s
+later_told w u l q (Gather g) s = absurd s
 later_told w u l q (Enter e) s = later_plan w u l q (Enter e) s
 later_told w u l q (Here p t) s = later_plan w u l q (Here p t) s
 later_told w u l q (Send o) s = later_plan w u l q (Send o) s
@@ -118,7 +171,7 @@ later_done w u l t s = by ((w.job t).at) refl s
     by (Running q) z d = cc
     by (InDeque p i) z d = cc
     by (Injected p) z d = cc
-    by (InFifo p i) z d = cc
+    by (InFifo p i b7) z d = cc
     by (InCast p i) z d = cc
     by (Retaken r) z d = cc
     by HandedBack z d = cc
@@ -126,9 +179,9 @@ later_done w u l t s = by ((w.job t).at) refl s
     by Nowhere z d = cc
 
 -- what was taken
-later_taken : (w u : World) → Later w u → (t : ℕ) (e : Ending) → SaysTaken w t e → SaysTaken u t e
-later_taken w u l t e (inl z) = inl (l.over t e z)
-later_taken w u l t e (inr z) = inr (later_done w u l t (z.0), z.1)
+later_taken : (w u : World) → Later w u → (t c : ℕ) (e : Ending) → SaysTaken w t c e → SaysTaken u t c e
+later_taken w u l t c e (inl z) = inl (later_as w u l t c e z)
+later_taken w u l t c e (inr (d, (z, i))) = inr (d, (later_as w u l t c d z, i))
 
 later_then : (w u : World) → Later w u → (q : Party) (n : Then) → SaysThen w q n → SaysThen u q n
 later_then w u l q (BeginFound g x) s = (later_target w u l q g (s.0), later_taking w u l x (s.1))
@@ -136,8 +189,9 @@ later_then w u l q (LeaveWait g) s = later_target w u l q g s
 later_then w u l q Resume s = tt
 later_then w u l q Called s = tt
 later_then w u l q (Await o) s = later_target w u l q (Answer o None) s
+later_then w u l q (Gathers o) s = later_target w u l q (Answer o None) s
 later_then w u l q (RunFirst o a) s = later_plan w u l q (Fork o a) s
-later_then w u l q (Answers o f e) s = (later_opened w u l q o (s.0), later_first w u l (o.number) f ((s.0).number) (s.1), later_taken w u l (o.job) e (s.2))
+later_then w u l q (Answers o f e) s = (later_opened w u l q o (s.0), later_first w u l (o.number) f ((s.0).number) (s.1), later_taken w u l (o.job) (o.number) e (s.2))
 later_then w u l q (Missing o f) s = later_target w u l q (Answer o f) s
 later_then w u l q (Ran t e) s = l.over t e s
 later_then w u l q (GiveBack n) s = later_plan w u l q n s
@@ -153,15 +207,27 @@ later_owner w u l t p (BeginFound g v) b s = s
 later_owner w u l t p (LeaveWait g) b s = s
 later_owner w u l t p (Await o) b s = s
 later_owner w u l t p (RunFirst o a) b s = s
+later_owner w u l t p (Gathers o) b s = s
 
 later_queue : (w u : World) → Later w u → (q : Party) (n : Plan) → SaysQueue w q n → SaysQueue u q n
 later_queue w u l q (Here p t) s = s
 later_queue w u l q (Feed f) s = s
 later_queue w u l q (Open o) s = s
+later_queue w u l q (Gather g) s = s
 later_queue w u l q (Enter e) s = later_plan w u l q (Enter e) s
 later_queue w u l q (Detach p t) s = later_plan w u l q (Detach p t) s
 later_queue w u l q (Send o) s = later_plan w u l q (Send o) s
 later_queue w u l q (Fork o a) s = later_plan w u l q (Fork o a) s
+
+later_slot : (w u : World) → Later w u → (q : Party) (n : Plan) → SaysSlot w q n → SaysSlot u q n
+later_slot w u l q (Enter e) s = later_plan w u l q (Enter e) s
+later_slot w u l q (Feed f) s = later_plan w u l q (Feed f) s
+later_slot w u l q (Detach p t) s = s
+later_slot w u l q (Here p t) s = s
+later_slot w u l q (Send o) s = s
+later_slot w u l q (Fork o a) s = s
+later_slot w u l q (Open o) s = s
+later_slot w u l q (Gather g) s = s
 
 later_entry : (w u : World) → Later w u → (t : ℕ) (n : Then) → SaysEntry w t n → SaysEntry u t n
 later_entry w u l t Resume s = later_done w u l t s
@@ -171,6 +237,7 @@ later_entry w u l t (BeginFound g v) s = s
 later_entry w u l t (LeaveWait g) s = s
 later_entry w u l t (Await o) s = s
 later_entry w u l t (RunFirst o a) s = s
+later_entry w u l t (Gathers o) s = s
 later_entry w u l t (Answers o f e) s = s
 later_entry w u l t (Missing o f) s = s
 later_entry w u l t (Ran v e) s = s
@@ -185,6 +252,9 @@ later_share w u l (OfPool p) (OfJob t) n s = ((let a : t + 1 ≤ w.jobs = s.0 in
 later_share w u l (OfPool p) Body n s = s
 later_share w u l (OfScope c o) PoolValue n s = s
 later_share w u l (OfScope c o) (OfJob t) n s = ((let a : t + 1 ≤ w.jobs = s.0 in let b : w.jobs ≤ u.jobs = l.jobs in omega (arith, a, b)), l.kind t (s.0) ∙ s.1, (let a : c + 1 ≤ w.calls = s.2 in let b : w.calls ≤ u.calls = l.calls in omega (arith, a, b)), later_entry w u l t n (s.3))
+later_share w u l (OfCast c o) PoolValue n s = s
+later_share w u l (OfCast c o) Body n s = s
+later_share w u l (OfCast c o) (OfJob t) n s = ((let a : t + 1 ≤ w.jobs = s.0 in let b : w.jobs ≤ u.jobs = l.jobs in omega (arith, a, b)), l.kind t (s.0) ∙ s.1, (let a : c + 1 ≤ w.calls = s.2 in let b : w.calls ≤ u.calls = l.calls in omega (arith, a, b)), later_done w u l t (s.3), s.4)
 later_share w u l (OfScope c o) Body n s = ((let a : c + 1 ≤ w.calls = s.0 in let b : w.calls ≤ u.calls = l.calls in omega (arith, a, b)), later_body w u l c (s.0) (s.1), s.2)
 
 later_stored : (w u : World) → Later w u → (c : ℕ) → c + 1 ≤ w.calls → IsStored w c → IsStored u c
@@ -203,8 +273,10 @@ later_latch w u l p (OfCall c) s = ((let a : c + 1 ≤ w.calls = s.0 in let b : 
 
 later_run : (w u : World) → Later w u → (t : ℕ) (k : JobKind) → SaysRun w t k → SaysRun u t k
 later_run w u l t Direct s = later_awaited w u l t s
-later_run w u l t (TokenOf i) s = later_awaited w u l t s
+later_run w u l t (TokenOf i b8) s = later_awaited w u l t s
 later_run w u l t (BodyOf c9 o9) s = later_awaited w u l t s
+later_run w u l t (WholeOf c9 o9) s = later_awaited w u l t s
+later_run w u l t (PieceOf c o) s = ((let a : t + 1 ≤ w.jobs = s.0 in let b : w.jobs ≤ u.jobs = l.jobs in omega (arith, a, b)), l.kind t (s.0) ∙ s.1)
 later_run w u l t (Detached p) s = ((let a : t + 1 ≤ w.jobs = s.0 in let b : w.jobs ≤ u.jobs = l.jobs in omega (arith, a, b)), l.kind t (s.0) ∙ s.1)
 later_run w u l t (Scoped c o) s = ((let a : t + 1 ≤ w.jobs = s.0 in let b : w.jobs ≤ u.jobs = l.jobs in omega (arith, a, b)), l.kind t (s.0) ∙ s.1)
 later_run w u l t (Stored c o) s = ((let a : t + 1 ≤ w.jobs = s.0 in let b : w.jobs ≤ u.jobs = l.jobs in omega (arith, a, b)), l.kind t (s.0) ∙ s.1)
@@ -243,8 +315,11 @@ later_says w u l q (Run t k) s = later_run w u l t k s
 later_says w u l q (RaiseCount n) s = later_plan w u l q n s
 later_says w u l q (GrowCall n) s = later_queue w u l q n s
 later_says w u l q (GrowScope o) s = later_plan w u l q (Open o) s
-later_says w u l q (OpenSlot e) s = later_plan w u l q (Enter e) s
-later_says w u l q (CloseSlot e) s = later_plan w u l q (Enter e) s
+later_says w u l q (OpenSlot n) s = later_slot w u l q n s
+later_says w u l q (CloseSlot n) s = later_slot w u l q n s
+later_says w u l q (GrowCast g) s = later_gather w u l q g s
+later_says w u l q (DealPieces g) s = later_gather w u l q g s
+later_says w u l q (StorePiece c o t e) s = ((let a : t + 1 ≤ w.jobs = s.0 in let b : w.jobs ≤ u.jobs = l.jobs in omega (arith, a, b)), l.kind t (s.0) ∙ s.1, (let a : c + 1 ≤ w.calls = s.2 in let b : w.calls ≤ u.calls = l.calls in omega (arith, a, b)), l.over t e (s.3))
 later_says w u l q (ScopeBody o) s = later_target w u l q (Answer o None) s
 later_says w u l q (StoreBody o e) s = (later_target w u l q (Answer o None) (s.0), l.over (o.job) e (s.1))
 later_says w u l q (StoreSlot c o t e) s = ((let a : t + 1 ≤ w.jobs = s.0 in let b : w.jobs ≤ u.jobs = l.jobs in omega (arith, a, b)), l.kind t (s.0) ∙ s.1, (let a : c + 1 ≤ w.calls = s.2 in let b : w.calls ≤ u.calls = l.calls in omega (arith, a, b)), l.over t e (s.3))
@@ -254,9 +329,11 @@ later_says w u l q (AddToFifo f) s = later_plan w u l q (Feed f) s
 later_says w u l q (LookForToken f) s = later_plan w u l q (Feed f) s
 later_says w u l q (PushToken f e) s = later_plan w u l q (Feed f) s
 later_says w u l q (TakeFromFifo f) s = later_plan w u l q (Feed f) s
-later_says w u l q (RaiseForAll c) s = later_pieces w u l c s
-later_says w u l q (PushForAll c) s = later_pieces w u l c s
-later_says w u l q (LowerForAll c) s = later_pieces w u l c s
+later_says w u l q (RaiseForAll c) s = later_cast w u l c s
+later_says w u l q (OpenForAll c) s = later_cast w u l c s
+later_says w u l q (PushForAll c) s = later_cast w u l c s
+later_says w u l q (CloseForAll c) s = later_cast w u l c s
+later_says w u l q (LowerForAll c) s = later_cast w u l c s
 later_says w u l q (BeginTask x) s = later_taking w u l x s
 later_says w u l q (TellNews n e) s = later_told w u l q n s
 later_says w u l q (LockToWake k) s = later_then w u l q k.then s
@@ -306,24 +383,39 @@ raise_static m k = by k (count_in m k == 0) refl
   where
     more : (j : Count) → (count_in m j == 0) ≡ false → Static m (Done, raised m j)
     more (OfPool p) e = record { kind = refl; pool = refl; bound = refl; target = refl; side = refl; held = refl; ended = λ z. absurd (let a : (m.pool.count == 0) ≡ true = eq-eqb (m.pool.count) 0 z in cc); spent = λ z. z }
+    more (OfCast c o) e = record { kind = refl; pool = refl; bound = refl; target = refl; side = refl; held = refl; ended = λ z. z; spent = λ z. absurd (let a : (m.call.count == 0) ≡ true = eq-eqb (m.call.count) 0 z in cc) }
     more (OfScope c o) e = record { kind = refl; pool = refl; bound = refl; target = refl; side = refl; held = refl; ended = λ z. z; spent = λ z. absurd (let a : (m.call.count == 0) ≡ true = eq-eqb (m.call.count) 0 z in cc) }
 
     by : (j : Count) (z : Bool) → (count_in m j == 0) ≡ z → IfSome (if z then Some (Refused, m) else Some (Done, raised m j)) (Static m)
     by j true e = same_static m Refused
     by j false e = more j e
 
-raise_all_static : (m : Part) (b : Pieces) → IfSome (if m.pool.count == 0 then Some (Refused, m) else Some (Done, record m { pool = record (m.pool) { count = m.pool.count + b.workers } })) (Static m)
-raise_all_static m b = by (m.pool.count == 0) refl
+raise_all_static : (m : Part) (b : Pieces) → IfSome (if count_in m b.count == 0 then Some (Refused, m) else Some (Done, all_raised m b)) (Static m)
+raise_all_static m b = by b.count refl (count_in m b.count == 0) refl
   where
-    by : (z : Bool) → (m.pool.count == 0) ≡ z → IfSome (if z then Some (Refused, m) else Some (Done, record m { pool = record (m.pool) { count = m.pool.count + b.workers } })) (Static m)
-    by true e = same_static m Refused
-    by false e = record { kind = refl; pool = refl; bound = refl; target = refl; side = refl; held = refl; ended = λ z. absurd (let a : (m.pool.count == 0) ≡ true = eq-eqb (m.pool.count) 0 z in cc); spent = λ z. z }
+    zero_not : (n : ℕ) → (n == 0) ≡ false → n ≡ 0 → ⊥
+    zero_not n e z = let a : (n == 0) ≡ true = eq-eqb n 0 z in cc
 
-lower_all_static : (m : Part) (b : Pieces) (e : Seen) → Static m (e, record m { pool = record (m.pool) { count = m.pool.count - b.workers } })
-lower_all_static m b e = record { kind = refl; pool = refl; bound = refl; target = refl; side = refl; held = refl; ended = λ z. (let n : m.pool.count ≡ 0 = z in let goal : m.pool.count - b.workers ≡ 0 = omega (arith, n) in goal); spent = λ z. z }
+    more : (j : Count) → b.count ≡ j → (count_in m j == 0) ≡ false → Static m (Done, all_raised m b)
+    more (OfPool p) k e = record { kind = refl; pool = refl; bound = refl; target = refl; side = refl; held = refl; ended = λ z. absurd (zero_not (m.pool.count) e z); spent = λ z. ap (λ v. call_more v b.workers m.call.count) k ∙ z }
+    more (OfScope c o) k e = record { kind = refl; pool = refl; bound = refl; target = refl; side = refl; held = refl; ended = λ z. ap (λ v. pool_more v b.workers m.pool.count) k ∙ z; spent = λ z. absurd (zero_not (m.call.count) e z) }
+    more (OfCast c o) k e = record { kind = refl; pool = refl; bound = refl; target = refl; side = refl; held = refl; ended = λ z. ap (λ v. pool_more v b.workers m.pool.count) k ∙ z; spent = λ z. absurd (zero_not (m.call.count) e z) }
+
+    by : (j : Count) → b.count ≡ j → (z : Bool) → (count_in m b.count == 0) ≡ z → IfSome (if z then Some (Refused, m) else Some (Done, all_raised m b)) (Static m)
+    by j k true e = same_static m Refused
+    by j k false e = more j k (ap (λ v. count_in m v == 0) (sym k) ∙ e)
+
+less_zero : (k : Count) (b n : ℕ) → n ≡ 0 → (pool_less k b n ≡ 0) × (call_less k b n ≡ 0)
+less_zero (OfPool p) b n e = (omega (arith, e), e)
+less_zero (OfScope c o) b n e = (e, omega (arith, e))
+less_zero (OfCast c o) b n e = (e, omega (arith, e))
+
+lower_all_static : (m : Part) (b : Pieces) (e : Seen) → Static m (e, all_lowered m b)
+lower_all_static m b e = record { kind = refl; pool = refl; bound = refl; target = refl; side = refl; held = refl; ended = λ z. (less_zero b.count b.workers (m.pool.count) z).0; spent = λ z. (less_zero b.count b.workers (m.call.count) z).1 }
 
 lower_static : (m : Part) (k : Count) (s : Share) (e : Seen) → Static m (e, lowered m k s)
 lower_static m (OfPool p) s e = record { kind = refl; pool = refl; bound = refl; target = refl; side = refl; held = refl; ended = λ z. (let n : m.pool.count ≡ 0 = z in let goal : m.pool.count - 1 ≡ 0 = omega (arith, n) in goal); spent = λ z. z }
+lower_static m (OfCast c o) s e = record { kind = refl; pool = refl; bound = refl; target = refl; side = refl; held = refl; ended = λ z. z; spent = λ z. (let n : m.call.count ≡ 0 = z in let goal : m.call.count - 1 ≡ 0 = omega (arith, n) in goal) }
 lower_static m (OfScope c o) s e = record { kind = refl; pool = refl; bound = refl; target = refl; side = refl; held = refl; ended = λ z. z; spent = λ z. (let n : m.call.count ≡ 0 = z in let goal : m.call.count - 1 ≡ 0 = omega (arith, n) in goal) }
 
 pub act_static : (h : Shape) (q : Party) (c : Counts) (m : Part) (x : Place) → IfSome (effect (act_of q x) h q c m) (Static m)

@@ -8,7 +8,7 @@ use Rattle.rayon_machine_places.specs.declared.place.Party.TheVariants.{Worker, 
 use Rattle.rayon_machine_places.specs.declared.place.Latch.{Latch}
 use Rattle.rayon_machine_places.specs.declared.place.Latch.TheVariants.{Terminate, OfCall}
 use Rattle.rayon_machine_places.specs.declared.place.Place.{Place}
-use Rattle.rayon_machine_places.specs.declared.place.Place.TheVariants.{ProbeWorking, PopWorking, TakeCastWorking, PopIdle, TakeCastIdle, StealFrom, PopInjected, JoinPop, JoinTakeCast, YieldPop, YieldTakeCast, YieldSteal, YieldPopInjected, LocalPop, LocalTakeCast, BeginTask, BeginHere, PushJob, AddToFifo, PushToken, TakeFromFifo, SetLatch, PushForAll}
+use Rattle.rayon_machine_places.specs.declared.place.Place.TheVariants.{ProbeWorking, PopWorking, TakeCastWorking, PopIdle, TakeCastIdle, StealFrom, PopInjected, JoinPop, JoinTakeCast, YieldPop, YieldTakeCast, YieldSteal, YieldPopInjected, LocalPop, LocalTakeCast, BeginTask, BeginHere, PushJob, AddToFifo, PushToken, TakeFromFifo, SetLatch, PushForAll, DealPieces}
 use Rattle.rayon_machine_places.specs.declared.act.Seen.{Seen}
 use Rattle.rayon_machine_places.specs.declared.state.Letter.{Letter}
 use Rattle.rayon_machine_places.specs.declared.state.Letter.TheVariants.{Unset}
@@ -40,6 +40,7 @@ moves_no_job (AddToFifo f) = false
 moves_no_job (PushToken f e) = false
 moves_no_job (TakeFromFifo f) = false
 moves_no_job (PushForAll c) = false
+moves_no_job (DealPieces g) = false
 moves_no_job _ = true
 
 -- the lists and the job's whereabouts are as before

@@ -7,9 +7,9 @@ use Rattle.rayon_machine_places.specs.declared.state.Whereabouts.{Whereabouts}
 use Rattle.rayon_machine_places.specs.declared.state.Whereabouts.TheVariants.{Nowhere, Made, InDeque, Injected, InFifo, Retaken, Running, Over, HandedBack, Spent, InCast}
 use Rattle.rayon_machine_places.specs.declared.state.Job.{Job}
 use Rattle.rayon_machine_places.specs.Places.{same_party}
-use Rattle.rayon_machine_places.specs.World.{World}
+use Rattle.rayon_machine_places.specs.World.{World, same_list}
 use Rattle.rayon_machine_laws.specs.Once.{one, times, is_known}
-use Rattle.rayon_machine_laws.proofs.Frame.{same_index, same_refl, same_party_true, same_party_refl}
+use Rattle.rayon_machine_laws.proofs.Frame.{same_index, same_refl, same_party_true, same_party_refl, same_list_true, same_list_refl, and_parts}
 use Rattle.rayon_machine_laws.proofs.Hands.{held, worked}
 
 -- the places where a job can be: in a party's hand, under a party's run, in a deque, a broadcast list, an injector, a
@@ -20,7 +20,7 @@ pub data Loc : Type 0 where
   Deck : (pool worker : ℕ) → Loc
   Cast : (pool worker : ℕ) → Loc
   Inj : (pool : ℕ) → Loc
-  Line : (pool worker : ℕ) → Loc
+  Line : (pool worker : ℕ) (list : Option ℕ) → Loc
 
 abbrev pub same_loc : Loc → Loc → Bool
 same_loc (Hand q) (Hand r) = same_party q r
@@ -28,7 +28,7 @@ same_loc (Work q) (Work r) = same_party q r
 same_loc (Deck p i) (Deck r j) = (p == r) && (i == j)
 same_loc (Cast p i) (Cast r j) = (p == r) && (i == j)
 same_loc (Inj p) (Inj r) = p == r
-same_loc (Line p i) (Line r j) = (p == r) && (i == j)
+same_loc (Line p i b) (Line r j c) = ((p == r) && (i == j)) && same_list b c
 same_loc _ _ = false
 
 -- the place that a job's record names: where it is, and how often it was begun
@@ -38,7 +38,7 @@ loc_of (Running q) n = if n == 0 then Some (Hand q) else (if n == 1 then Some (W
 loc_of (InDeque p i) n = if n == 0 then Some (Deck p i) else None
 loc_of (Injected p) n = if n == 0 then Some (Inj p) else None
 loc_of (Retaken q) n = if n == 0 then Some (Hand q) else None
-loc_of (InFifo p i) n = if n == 0 then Some (Line p i) else None
+loc_of (InFifo p i b7) n = if n == 0 then Some (Line p i b7) else None
 loc_of (InCast p i) n = if n == 0 then Some (Cast p i) else None
 loc_of _ n = None
 
@@ -57,7 +57,7 @@ weight w (Work q) t = worked t (w.stack q)
 weight w (Deck p i) t = times t (w.seat p i).own
 weight w (Cast p i) t = times t ((w.pool p).casts i)
 weight w (Inj p) t = times t (w.pool p).injector
-weight w (Line p i) t = times t (w.seat p i).fifo
+weight w (Line p i b) t = times t ((w.seat p i).fifo b)
 
 abbrev pub IsPlaced : (Loc → ℕ → ℕ) → (ℕ → Option Loc) → Type 0
 IsPlaced f at = (l : Loc) (t : ℕ) → f l t ≡ is_loc l (at t)
@@ -75,17 +75,17 @@ same_loc_true (Work q) (Work r) e = ap Work (same_party_true q r e)
 same_loc_true (Deck p i) (Deck r j) e = let a : (p ≡ r) × (i ≡ j) = same_index p i r j e in cc
 same_loc_true (Cast p i) (Cast r j) e = let a : (p ≡ r) × (i ≡ j) = same_index p i r j e in cc
 same_loc_true (Inj p) (Inj r) e = ap Inj (eqb-true p r e)
-same_loc_true (Line p i) (Line r j) e = let a : (p ≡ r) × (i ≡ j) = same_index p i r j e in cc
-same_loc_true (Line p i) (Hand r) e = cc
-same_loc_true (Line p i) (Work r) e = cc
-same_loc_true (Line p i) (Deck r j) e = cc
-same_loc_true (Line p i) (Cast r j) e = cc
-same_loc_true (Line p i) (Inj r) e = cc
-same_loc_true (Hand q) (Line r j) e = cc
-same_loc_true (Work q) (Line r j) e = cc
-same_loc_true (Deck p i) (Line r j) e = cc
-same_loc_true (Cast p i) (Line r j) e = cc
-same_loc_true (Inj p) (Line r j) e = cc
+same_loc_true (Line p i b) (Line r j c) e = let z : (((p == r) && (i == j)) ≡ true) × (same_list b c ≡ true) = and_parts ((p == r) && (i == j)) (same_list b c) e in let a : (p ≡ r) × (i ≡ j) = same_index p i r j (z.0) in let l : b ≡ c = same_list_true b c (z.1) in cc
+same_loc_true (Line p i b7) (Hand r) e = cc
+same_loc_true (Line p i b7) (Work r) e = cc
+same_loc_true (Line p i b7) (Deck r j) e = cc
+same_loc_true (Line p i b7) (Cast r j) e = cc
+same_loc_true (Line p i b7) (Inj r) e = cc
+same_loc_true (Hand q) (Line r j b7) e = cc
+same_loc_true (Work q) (Line r j b7) e = cc
+same_loc_true (Deck p i) (Line r j b7) e = cc
+same_loc_true (Cast p i) (Line r j b7) e = cc
+same_loc_true (Inj p) (Line r j b7) e = cc
 same_loc_true (Hand q) (Work r) e = cc
 same_loc_true (Hand q) (Deck r j) e = cc
 same_loc_true (Hand q) (Cast r j) e = cc
@@ -113,7 +113,7 @@ same_loc_refl (Work q) = same_party_refl q
 same_loc_refl (Deck p i) = same_refl p i
 same_loc_refl (Cast p i) = same_refl p i
 same_loc_refl (Inj p) = eq-eqb p p refl
-same_loc_refl (Line p i) = same_refl p i
+same_loc_refl (Line p i b) = let a : ((p == p) && (i == i)) ≡ true = same_refl p i in let c : same_list b b ≡ true = same_list_refl b in rw (a, c) refl
 
 -- a place that has a job is the one that is named
 pub where_is : (a : Loc) (v : Option Loc) → 1 ≤ is_loc a v → v ≡ Some a
@@ -216,7 +216,7 @@ JobsFit w = (t : ℕ) → fits (w.job t).at (w.job t).runs
 abbrev pub is_left : Whereabouts → Bool
 is_left (Made q) = false
 is_left Nowhere = false
-is_left (InFifo p i) = false
+is_left (InFifo p i b7) = false
 is_left (Retaken q) = false
 is_left _ = true
 
@@ -230,7 +230,7 @@ is_past _ = true
 -- what is not made is made by an event alone
 abbrev pub IsOnward : Whereabouts → Whereabouts → Type 0
 IsOnward (Made q) b = is_known b ≡ true
-IsOnward (InFifo p i) b = is_past b ≡ true
+IsOnward (InFifo p i b7) b = is_past b ≡ true
 IsOnward (Retaken q) b = is_past b ≡ true
 IsOnward (Over e) b = b ≡ Over e
 IsOnward HandedBack b = b ≡ HandedBack
@@ -243,7 +243,7 @@ onward_same (Made q) b e = ap is_known e
 onward_same (Running q) b e = ap is_left e
 onward_same (InDeque p i) b e = ap is_left e
 onward_same (Injected p) b e = ap is_left e
-onward_same (InFifo p i) b e = ap is_past e
+onward_same (InFifo p i b7) b e = ap is_past e
 onward_same (InCast p i) b e = ap is_left e
 onward_same (Retaken q) b e = ap is_past e
 onward_same (Over d) b e = e
@@ -259,7 +259,7 @@ past_known _ z = refl
 pub left_past : (a : Whereabouts) → is_left a ≡ true → is_past a ≡ true
 left_past (Made q) z = cc
 left_past Nowhere z = cc
-left_past (InFifo p i) z = cc
+left_past (InFifo p i b7) z = cc
 left_past (Retaken q) z = cc
 left_past _ z = refl
 
@@ -271,7 +271,7 @@ onward_loc (Made q) b n l e z = left_known b z
 onward_loc (Running q) b n l e z = z
 onward_loc (InDeque p i) b n l e z = z
 onward_loc (Injected p) b n l e z = z
-onward_loc (InFifo p i) b n l e z = left_past b z
+onward_loc (InFifo p i b7) b n l e z = left_past b z
 onward_loc (InCast p i) b n l e z = z
 onward_loc (Retaken q) b n l e z = left_past b z
 onward_loc (Over d) b n l e z = cc
@@ -289,7 +289,7 @@ onward_left Spent b h z = ap is_left h
 onward_left (Running q) b h z = h
 onward_left (InDeque p i) b h z = h
 onward_left (Injected p) b h z = h
-onward_left (InFifo p i) b h z = cc
+onward_left (InFifo p i b7) b h z = cc
 onward_left (InCast p i) b h z = h
 onward_left (Retaken q) b h z = cc
 
@@ -303,7 +303,7 @@ onward_past Spent b h z = ap is_past h
 onward_past (Running q) b h z = left_past b h
 onward_past (InDeque p i) b h z = left_past b h
 onward_past (Injected p) b h z = left_past b h
-onward_past (InFifo p i) b h z = h
+onward_past (InFifo p i b7) b h z = h
 onward_past (InCast p i) b h z = left_past b h
 onward_past (Retaken q) b h z = h
 
@@ -317,7 +317,7 @@ onward_known Spent b h z = ap is_known h
 onward_known (Running q) b h z = left_known b h
 onward_known (InDeque p i) b h z = left_known b h
 onward_known (Injected p) b h z = left_known b h
-onward_known (InFifo p i) b h z = past_known b h
+onward_known (InFifo p i b7) b h z = past_known b h
 onward_known (InCast p i) b h z = left_known b h
 onward_known (Retaken q) b h z = past_known b h
 
@@ -339,47 +339,47 @@ made_hand q n l e = by (n == 0) e
     by false g = cc
 
 -- what is in a FIFO list has a record that says so
-pub at_line : (v : Whereabouts) (n p i : ℕ) → loc_of v n ≡ Some (Line p i) → v ≡ InFifo p i
-at_line (InFifo r j) n p i e = by (n == 0) e
+pub at_line : (v : Whereabouts) (n p i : ℕ) (b7 : Option ℕ) → loc_of v n ≡ Some (Line p i b7) → v ≡ InFifo p i b7
+at_line (InFifo r j b6) n p i b7 e = by (n == 0) e
   where
-    by : (b : Bool) → (if b then Some (Line r j) else None) ≡ Some (Line p i) → InFifo r j ≡ InFifo p i
-    by true g = let k : Line r j ≡ Line p i = cc in let a : r ≡ p = cc in let c : j ≡ i = cc in cc
+    by : (b : Bool) → (if b then Some (Line r j b6) else None) ≡ Some (Line p i b7) → InFifo r j b6 ≡ InFifo p i b7
+    by true g = let k : Line r j b6 ≡ Line p i b7 = cc in let a : r ≡ p = cc in let c : j ≡ i = cc in let d : b6 ≡ b7 = cc in cc
     by false g = cc
-at_line (Made q) n p i e = by (n == 0) e
+at_line (Made q) n p i b7 e = by (n == 0) e
   where
-    by : (b : Bool) → (if b then Some (Hand q) else None) ≡ Some (Line p i) → Made q ≡ InFifo p i
+    by : (b : Bool) → (if b then Some (Hand q) else None) ≡ Some (Line p i b7) → Made q ≡ InFifo p i b7
     by true g = cc
     by false g = cc
-at_line (Retaken q) n p i e = by (n == 0) e
+at_line (Retaken q) n p i b7 e = by (n == 0) e
   where
-    by : (b : Bool) → (if b then Some (Hand q) else None) ≡ Some (Line p i) → Retaken q ≡ InFifo p i
+    by : (b : Bool) → (if b then Some (Hand q) else None) ≡ Some (Line p i b7) → Retaken q ≡ InFifo p i b7
     by true g = cc
     by false g = cc
-at_line (InDeque r j) n p i e = by (n == 0) e
+at_line (InDeque r j) n p i b7 e = by (n == 0) e
   where
-    by : (b : Bool) → (if b then Some (Deck r j) else None) ≡ Some (Line p i) → InDeque r j ≡ InFifo p i
+    by : (b : Bool) → (if b then Some (Deck r j) else None) ≡ Some (Line p i b7) → InDeque r j ≡ InFifo p i b7
     by true g = cc
     by false g = cc
-at_line (InCast r j) n p i e = by (n == 0) e
+at_line (InCast r j) n p i b7 e = by (n == 0) e
   where
-    by : (b : Bool) → (if b then Some (Cast r j) else None) ≡ Some (Line p i) → InCast r j ≡ InFifo p i
+    by : (b : Bool) → (if b then Some (Cast r j) else None) ≡ Some (Line p i b7) → InCast r j ≡ InFifo p i b7
     by true g = cc
     by false g = cc
-at_line (Injected r) n p i e = by (n == 0) e
+at_line (Injected r) n p i b7 e = by (n == 0) e
   where
-    by : (b : Bool) → (if b then Some (Inj r) else None) ≡ Some (Line p i) → Injected r ≡ InFifo p i
+    by : (b : Bool) → (if b then Some (Inj r) else None) ≡ Some (Line p i b7) → Injected r ≡ InFifo p i b7
     by true g = cc
     by false g = cc
-at_line (Running q) n p i e = by (n == 0) (n == 1) e
+at_line (Running q) n p i b7 e = by (n == 0) (n == 1) e
   where
-    by : (b d : Bool) → (if b then Some (Hand q) else (if d then Some (Work q) else None)) ≡ Some (Line p i) → Running q ≡ InFifo p i
+    by : (b d : Bool) → (if b then Some (Hand q) else (if d then Some (Work q) else None)) ≡ Some (Line p i b7) → Running q ≡ InFifo p i b7
     by true d g = cc
     by false true g = cc
     by false false g = cc
-at_line (Over d) n p i e = cc
-at_line HandedBack n p i e = cc
-at_line Spent n p i e = cc
-at_line Nowhere n p i e = cc
+at_line (Over d) n p i b7 e = cc
+at_line HandedBack n p i b7 e = cc
+at_line Spent n p i b7 e = cc
+at_line Nowhere n p i b7 e = cc
 
 -- a job that is in a list or in hand was never begun
 abbrev pub is_work : Loc → Bool
@@ -407,9 +407,9 @@ unbegun (Injected p) n l z e = by (n == 0) refl e
     by : (b : Bool) → (n == 0) ≡ b → (if b then Some (Inj p) else None) ≡ Some l → n ≡ 0
     by true f g = eqb-true n 0 f
     by false f g = cc
-unbegun (InFifo p i) n l z e = by (n == 0) refl e
+unbegun (InFifo p i b7) n l z e = by (n == 0) refl e
   where
-    by : (b : Bool) → (n == 0) ≡ b → (if b then Some (Line p i) else None) ≡ Some l → n ≡ 0
+    by : (b : Bool) → (n == 0) ≡ b → (if b then Some (Line p i b7) else None) ≡ Some l → n ≡ 0
     by true f g = eqb-true n 0 f
     by false f g = cc
 unbegun (InCast p i) n l z e = by (n == 0) refl e
@@ -450,9 +450,9 @@ at_work (Injected p) n q e = by (n == 0) e
     by : (b : Bool) → (if b then Some (Inj p) else None) ≡ Some (Work q) → (n ≡ 1) × (Injected p ≡ Running q)
     by true g = cc
     by false g = cc
-at_work (InFifo p i) n q e = by (n == 0) e
+at_work (InFifo p i b7) n q e = by (n == 0) e
   where
-    by : (b : Bool) → (if b then Some (Line p i) else None) ≡ Some (Work q) → (n ≡ 1) × (InFifo p i ≡ Running q)
+    by : (b : Bool) → (if b then Some (Line p i b7) else None) ≡ Some (Work q) → (n ≡ 1) × (InFifo p i b7 ≡ Running q)
     by true g = cc
     by false g = cc
 at_work (InCast p i) n q e = by (n == 0) e

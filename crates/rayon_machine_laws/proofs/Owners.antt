@@ -1,7 +1,8 @@
 -- whose call is whose: what a place names of calls, and what each act and move leaves of it
-use Rattle.rayon_machine_places.specs.declared.place.Entry.{Entry}
+use Rattle.rayon_machine_places.specs.declared.place.Gathering.{Gathering}
+use Rattle.rayon_machine_places.specs.declared.place.Pieces.{Pieces}
 use Rattle.rayon_machine_places.specs.declared.place.OpenCall.{OpenCall}
-use Rattle.rayon_machine_places.specs.declared.place.Count.TheVariants.{OfPool, OfScope}
+use Rattle.rayon_machine_places.specs.declared.place.Count.TheVariants.{OfPool, OfScope, OfCast}
 use Rattle.rayon_machine_places.specs.declared.place.Count.{Count}
 use Rattle.std.proofs.Common.{rules, arith, refl, sym, ◌∙◌, subst}
 use Rattle.std.specs.Prelude.{ℕ, Bool, true, false, ◌&&◌, ◌+◌, nat_lt, if◌then◌else◌, Option, Some, None, ◌≡◌, IfSome, ⊤}
@@ -9,7 +10,7 @@ use Rattle.rayon_machine_places.specs.declared.place.Party.{Party}
 use Rattle.rayon_machine_places.specs.declared.place.Party.TheVariants.{Worker, Caller}
 use Rattle.rayon_machine_places.specs.declared.place.Ending.{Ending}
 use Rattle.rayon_machine_places.specs.declared.place.JobKind.{JobKind}
-use Rattle.rayon_machine_places.specs.declared.place.JobKind.TheVariants.{Stored, Direct, Scoped, BodyOf}
+use Rattle.rayon_machine_places.specs.declared.place.JobKind.TheVariants.{Stored, Direct, Scoped, BodyOf, PieceOf, WholeOf}
 use Rattle.rayon_machine_places.specs.declared.place.Target.{Target}
 use Rattle.rayon_machine_places.specs.declared.place.Target.TheVariants.{Termination, Answer}
 use Rattle.rayon_machine_places.specs.declared.place.Latch.{Latch}
@@ -17,22 +18,22 @@ use Rattle.rayon_machine_places.specs.declared.place.Latch.TheVariants.{Terminat
 use Rattle.rayon_machine_places.specs.declared.place.Rounds.{Rounds}
 use Rattle.rayon_machine_places.specs.declared.place.Rounds.TheVariants.{Failed, Announced}
 use Rattle.rayon_machine_places.specs.declared.place.Plan.{Plan}
-use Rattle.rayon_machine_places.specs.declared.place.Plan.TheVariants.{Detach, Here, Send, Fork, Feed, Open, Enter}
+use Rattle.rayon_machine_places.specs.declared.place.Plan.TheVariants.{Detach, Here, Send, Fork, Feed, Open, Enter, Gather}
 use Rattle.rayon_machine_places.specs.declared.place.Share.{Share}
 use Rattle.rayon_machine_places.specs.declared.place.Then.{Then}
-use Rattle.rayon_machine_places.specs.declared.place.Then.TheVariants.{BeginFound, LeaveWait, Resume, Await, RunFirst, Answers, Missing, Ran, GiveBack, Called}
+use Rattle.rayon_machine_places.specs.declared.place.Then.TheVariants.{BeginFound, LeaveWait, Resume, Await, RunFirst, Answers, Missing, Ran, GiveBack, Called, Gathers}
 use Rattle.rayon_machine_places.specs.declared.place.Feeding.{Feeding}
 use Rattle.rayon_machine_places.specs.declared.place.Taken.{Taken}
 use Rattle.rayon_machine_places.specs.declared.place.Place.{Place}
-use Rattle.rayon_machine_places.specs.declared.place.Place.TheVariants.{ProbeWorking, PopWorking, TakeCastWorking, BecomeInactive, ProbeIdle, PopIdle, TakeCastIdle, PickVictim, StealFrom, PopInjected, AnnounceSelf, GetSleepy, LockOwn, FallAsleep, LoadCounters, AddSleeping, LookAtCast, LookAtInjector, BlockSelf, RelockOwn, UndoSleeping, WakeUp, UnlockOwn, LeaveSearch, JoinProbe, JoinPop, JoinTakeCast, BeginTask, Run, RaiseCount, GrowCall, LookQueue, PushJob, TellNews, LockToWake, WakeWorker, UnlockWoken, WaitForLock, TakeResult, LowerCount, StoreResult, SetLatch, LockToSettle, WakeSettled, UnlockSettled, SetLockLatch, FirstSide, SecondSide, AddToFifo, TakeFromFifo, GrowScope, OpenSlot, CloseSlot, StoreBody, StoreSlot, ScopeBody}
+use Rattle.rayon_machine_places.specs.declared.place.Place.TheVariants.{ProbeWorking, PopWorking, TakeCastWorking, BecomeInactive, ProbeIdle, PopIdle, TakeCastIdle, PickVictim, StealFrom, PopInjected, AnnounceSelf, GetSleepy, LockOwn, FallAsleep, LoadCounters, AddSleeping, LookAtCast, LookAtInjector, BlockSelf, RelockOwn, UndoSleeping, WakeUp, UnlockOwn, LeaveSearch, JoinProbe, JoinPop, JoinTakeCast, BeginTask, Run, RaiseCount, GrowCall, LookQueue, PushJob, TellNews, LockToWake, WakeWorker, UnlockWoken, WaitForLock, TakeResult, LowerCount, StoreResult, SetLatch, LockToSettle, WakeSettled, UnlockSettled, SetLockLatch, FirstSide, SecondSide, AddToFifo, TakeFromFifo, GrowScope, OpenSlot, CloseSlot, StoreBody, StoreSlot, ScopeBody, OpenForAll, CloseForAll, GrowCast, DealPieces, StorePiece, LookForToken, PushToken, RaiseForAll, PushForAll, LowerForAll}
 use Rattle.rayon_machine_places.specs.declared.place.Move.{Move}
 use Rattle.rayon_machine_places.specs.declared.place.Move.TheVariants.{Stay, Enter, StartRun, Back, HandBack, Discard, HandIn, Mark, HandAllBack}
 use Rattle.rayon_machine_places.specs.declared.act.Seen.{Seen}
-use Rattle.rayon_machine_places.specs.declared.act.Seen.TheVariants.{Done, Yes, Task, Wakes}
+use Rattle.rayon_machine_places.specs.declared.act.Seen.TheVariants.{Done, Yes, Task, Wakes, Opened}
 use Rattle.rayon_machine_places.specs.declared.shape.PoolShape.{PoolShape}
 use Rattle.rayon_machine_places.specs.declared.place.Wait.{Wait}
 use Rattle.rayon_machine_places.specs.declared.place.Settling.{Settling}
-use Rattle.rayon_machine_places.specs.Places.{own_pool, plan_call, after_wait, finish, walk, settle, after_set, after_found, undo, act_of, after_failure, next_of, plan_count, set_call}
+use Rattle.rayon_machine_places.specs.Places.{own_pool, plan_call, after_wait, finish, walk, settle, after_set, after_found, undo, act_of, after_failure, next_of, plan_count, set_call, begin_feed, withdraw, plan_book, count_book, begin_cast, end_cast, ends_count, after_slot, taken_number}
 use Rattle.rayon_machine_places.specs.World.{Shape, Counts, Part, effect}
 use Rattle.rayon_machine_laws.proofs.Frame.{if_some_all}
 
@@ -47,6 +48,7 @@ plan_number (Here p t) = None
 plan_number (Feed f) = None
 plan_number (Open o) = Some o.number
 plan_number (Enter e) = None
+plan_number (Gather g) = Some g.call.number
 plan_number (Send o) = Some o.number
 plan_number (Fork o a) = Some o.number
 
@@ -56,6 +58,7 @@ then_number (LeaveWait g) = target_number g
 then_number Resume = None
 then_number Called = None
 then_number (Await o) = Some o.number
+then_number (Gathers o) = Some o.number
 then_number (RunFirst o a) = Some o.number
 then_number (Answers o f e) = Some o.number
 then_number (Missing o f) = Some o.number
@@ -94,6 +97,10 @@ own_call (JoinTakeCast o) = Some o.number
 own_call (RaiseCount n) = plan_number n
 own_call (GrowCall n) = Some (plan_call n)
 own_call (GrowScope o) = Some o.number
+own_call (OpenSlot n) = plan_number n
+own_call (CloseSlot n) = plan_number n
+own_call (GrowCast g) = Some g.call.number
+own_call (DealPieces g) = Some g.call.number
 own_call (ScopeBody o) = Some o.number
 own_call (StoreBody o e) = Some o.number
 own_call (LookQueue n) = plan_number n
@@ -124,6 +131,8 @@ abbrev pub kind_call : JobKind → Option (ℕ × Party)
 kind_call (Stored c o) = Some (c, shown o)
 kind_call (Scoped c o) = Some (c, shown o)
 kind_call (BodyOf c o) = Some (c, shown o)
+kind_call (PieceOf c o) = Some (c, shown o)
+kind_call (WholeOf c o) = Some (c, shown o)
 kind_call _ = None
 
 abbrev pub latch_call : ℕ → ℕ → Latch → Option (ℕ × Party)
@@ -134,6 +143,7 @@ latch_call p i (OfCall c) = Some (c, Worker p i)
 abbrev pub count_sets : Count → Option (ℕ × Party)
 count_sets (OfPool p) = None
 count_sets (OfScope c o) = Some (c, shown o)
+count_sets (OfCast c o) = Some (c, shown o)
 
 abbrev pub sets_for : Place → Option (ℕ × Party)
 sets_for (Run t k) = kind_call k
@@ -141,10 +151,20 @@ sets_for (RaiseCount n) = count_sets (plan_count n)
 sets_for (GrowCall n) = count_sets (plan_count n)
 sets_for (LookQueue n) = count_sets (plan_count n)
 sets_for (PushJob n e) = count_sets (plan_count n)
-sets_for (OpenSlot e) = Some (e.call, shown e.owner)
-sets_for (CloseSlot e) = Some (e.call, shown e.owner)
+sets_for (OpenSlot n) = count_sets (plan_count n)
+sets_for (CloseSlot n) = count_sets (plan_count n)
+sets_for (AddToFifo f) = count_sets f.count
+sets_for (LookForToken f) = count_sets f.count
+sets_for (PushToken f e) = count_sets f.count
+sets_for (TakeFromFifo f) = count_sets f.count
+sets_for (RaiseForAll c) = count_sets c.count
+sets_for (OpenForAll c) = count_sets c.count
+sets_for (PushForAll c) = count_sets c.count
+sets_for (CloseForAll c) = count_sets c.count
+sets_for (LowerForAll c) = count_sets c.count
 sets_for (LowerCount k s t) = count_sets k
 sets_for (StoreSlot c o t e) = Some (c, shown o)
+sets_for (StorePiece c o t e) = Some (c, shown o)
 sets_for (StoreResult c o e) = Some (c, shown o)
 sets_for (SetLatch s) = latch_call s.pool s.worker s.latch
 sets_for (LockToSettle s) = latch_call s.pool s.worker s.latch
@@ -188,6 +208,8 @@ finish_names o q (BeginFound g t) = ((λ c e. e, λ c p e. absurd (cc)), (λ c e
 finish_names o q (LeaveWait g) = (left_own g, left_set o g)
 finish_names o (Worker i j) (Await n) = (λ c e. e, λ c p e. absurd (cc))
 finish_names o (Caller m) (Await n) = (λ c e. e, λ c p e. absurd (cc))
+finish_names o (Worker i j) (Gathers n) = (λ c e. e, λ c p e. absurd (cc))
+finish_names o (Caller m) (Gathers n) = (λ c e. e, λ c p e. absurd (cc))
 finish_names o q (RunFirst n a) = ((λ c e. e, λ c p e. absurd (cc)), (λ c e. absurd (cc), λ c p e. absurd (cc)))
 finish_names o q Resume = tt
 finish_names o q Called = tt
@@ -244,15 +266,22 @@ tell_names h q (Send o) v (Wakes m) = walk_from (Some o.number) (TellNews (Send 
 tell_names h q (Fork o a) v (Wakes m) = walk_from (Some o.number) (TellNews (Fork o a) v) h q o.pool m 0 (RunFirst o a) refl refl
 tell_names h q (Feed f) v (Wakes m) = walk_from None (TellNews (Feed f) v) h q f.pool m 0 (GiveBack (Detach f.pool f.token)) refl refl
 tell_names h q (Enter n) v (Wakes m) = walk_from None (TellNews (Enter n) v) h q n.pool m 0 Resume refl refl
+tell_names h q (Gather g) v (Wakes m) = walk_from (Some g.call.number) (TellNews (Gather g) v) h q g.call.pool m 0 (Await g.call) refl refl
 tell_names h q (Open o) v (Wakes m) = both_weak (λ y. OwnFrom None y × SetFrom None y) (NamesFrom (TellNews (Open o) v)) (λ y n. (λ c e. absurd (let a : None ≡ Some c = n.0 c e in cc), n.1)) (walk h q o.pool m 0 Resume) (walk_names None h q o.pool m 0 Resume)
 tell_names h q n v _ = (λ c e. e, λ c p e. e)
+
+feed_names : (f : Feeding) (k : Count) → NamesFrom (RaiseCount (Feed f)) (begin_feed k f)
+feed_names f (OfPool p) = (λ c e. e, λ c p e. e)
+feed_names f (OfScope d o) = (λ c e. e, λ c p e. e)
+feed_names f (OfCast d o) = (λ c e. e, λ c p e. e)
 
 raise_names : (h : PoolShape) (q : Party) (n : Plan) (e : Seen) → Both (NamesFrom (RaiseCount n)) (next_of h q (RaiseCount n) e)
 raise_names h q (Detach p t) Done = (λ c e. e, λ c p e. e)
 raise_names h q (Here p t) Done = ((λ c e. e, λ c p e. e), (λ c e. e, λ c p e. e))
 raise_names h q (Send o) Done = (λ c e. e, λ c p e. e)
 raise_names h q (Fork o a) Done = (λ c e. e, λ c p e. e)
-raise_names h q (Feed f) Done = (λ c e. e, λ c p e. e)
+raise_names h q (Feed f) Done = feed_names f f.count
+raise_names h q (Gather g) Done = (λ c e. e, λ c p e. absurd (cc))
 raise_names h q (Open o) Done = (λ c e. e, λ c p e. e)
 raise_names h q (Enter n) Done = (λ c e. e, λ c p e. e)
 raise_names h q n _ = tt
@@ -268,6 +297,7 @@ plan_is (Fork o a) c e = e
 plan_is (Feed f) c e = cc
 plan_is (Open o) c e = e
 plan_is (Enter n) c e = cc
+plan_is (Gather g) c e = e
 
 grow_names : (h : PoolShape) (q : Party) (n : Plan) (e : Seen) → Both (NamesFrom (GrowCall n)) (next_of h q (GrowCall n) e)
 grow_names h q n Done = (λ c e. plan_is n c e, λ c p e. e)
@@ -288,9 +318,68 @@ scope_names : (h : PoolShape) (q : Party) (o : OpenCall) (e : Seen) → Both (Na
 scope_names h q o Done = ((λ c e. e, λ c p e. absurd (cc)), (λ c e. absurd (cc), λ c p e. absurd (cc)))
 scope_names h q o _ = (λ c e. e, λ c p e. absurd (cc))
 
-slot_opens : (h : PoolShape) (q : Party) (n : Entry) (e : Seen) → Both (NamesFrom (OpenSlot n)) (next_of h q (OpenSlot n) e)
-slot_opens h q n Done = (λ c e. e, λ c p e. e)
+slotted : (n : Plan) → NamesFrom (OpenSlot n) (after_slot n)
+slotted (Feed f) = (λ c e. absurd (cc), λ c p e. e)
+slotted (Detach p t) = (λ c e. e, λ c p e. e)
+slotted (Here p t) = (λ c e. e, λ c p e. e)
+slotted (Send o) = (λ c e. e, λ c p e. e)
+slotted (Fork o a) = (λ c e. e, λ c p e. e)
+slotted (Open o) = (λ c e. e, λ c p e. e)
+slotted (Enter e) = (λ c e. e, λ c p e. e)
+slotted (Gather g) = (λ c e. e, λ c p e. e)
+
+slot_opens : (h : PoolShape) (q : Party) (n : Plan) (e : Seen) → Both (NamesFrom (OpenSlot n)) (next_of h q (OpenSlot n) e)
+slot_opens h q n Done = slotted n
 slot_opens h q n _ = (λ c e. e, λ c p e. e)
+
+-- a refused call names what it did, whether it has a number of a book or not
+pub drawn : (o : Option ℕ) (n : Plan) → OwnFrom (plan_number n) (withdraw o n) × SetFrom (count_sets (plan_count n)) (withdraw o n)
+drawn None n = (λ c e. e, λ c p e. e)
+drawn (Some d) n = (λ c e. e, λ c p e. e)
+
+push_names : (h : PoolShape) (q : Party) (n : Plan) (v : Bool) (e : Seen) → Both (NamesFrom (PushJob n v)) (next_of h q (PushJob n v) e)
+push_names h q n v Done = (λ c e. e, λ c p e. absurd (cc))
+push_names h q n v _ = drawn (plan_book n) n
+
+-- the places of a broadcast set the latch that waits for its count
+begun_names : (c : Pieces) (k : Count) → NamesFrom (RaiseForAll c) (begin_cast k c)
+begun_names c (OfPool p) = (λ d e. e, λ d p e. e)
+begun_names c (OfScope n o) = (λ d e. e, λ d p e. e)
+begun_names c (OfCast n o) = (λ d e. e, λ d p e. e)
+
+pub ended_names : (c : Pieces) (k : Count) → NamesFrom (PushForAll c) (end_cast k c)
+ended_names c (OfPool p) = (λ d e. e, λ d p e. e)
+ended_names c (OfScope n o) = (λ d e. e, λ d p e. e)
+ended_names c (OfCast n o) = (λ d e. e, λ d p e. e)
+
+zero_names : (k : Count) → OwnFrom None (ends_count k) × SetFrom (count_sets k) (ends_count k)
+zero_names (OfPool p) = (λ d e. e, λ d p e. absurd (cc))
+zero_names (OfScope n o) = set_owns n o Resume
+zero_names (OfCast n o) = set_owns n o Resume
+
+deal_names : (h : PoolShape) (q : Party) (b : Pieces) (e : Seen) → Both (NamesFrom (RaiseForAll b)) (next_of h q (RaiseForAll b) e)
+deal_names h q b Done = begun_names b b.count
+deal_names h q b _ = tt
+
+open_names : (h : PoolShape) (q : Party) (b : Pieces) (e : Seen) → Both (NamesFrom (OpenForAll b)) (next_of h q (OpenForAll b) e)
+open_names h q b (Opened n) = (λ d e. e, λ d p e. e)
+open_names h q b _ = (λ d e. e, λ d p e. e)
+
+cast_names : (h : PoolShape) (q : Party) (b : Pieces) (e : Seen) → Both (NamesFrom (PushForAll b)) (next_of h q (PushForAll b) e)
+cast_names h q b Done = (λ d e. absurd (cc), λ d p e. absurd (cc))
+cast_names h q b _ = ended_names b b.count
+
+sunk_names : (h : PoolShape) (q : Party) (b : Pieces) (e : Seen) → Both (NamesFrom (LowerForAll b)) (next_of h q (LowerForAll b) e)
+sunk_names h q b Yes = zero_names b.count
+sunk_names h q b _ = tt
+
+gather_names : (h : PoolShape) (q : Party) (g : Gathering) (e : Seen) → Both (NamesFrom (GrowCast g)) (next_of h q (GrowCast g) e)
+gather_names h q g Done = (λ d e. e, λ d p e. e)
+gather_names h q g _ = (λ d e. e, λ d p e. absurd (cc))
+
+dealt_names : (h : PoolShape) (q : Party) (g : Gathering) (e : Seen) → Both (NamesFrom (DealPieces g)) (next_of h q (DealPieces g) e)
+dealt_names h q g Done = (λ d e. e, λ d p e. absurd (cc))
+dealt_names h q g _ = (λ d e. e, λ d p e. absurd (cc))
 
 probe_names : (h : PoolShape) (q : Party) (k : Wait) (e : Seen) → Both (NamesFrom (ProbeWorking k)) (next_of h q (ProbeWorking k) e)
 probe_names h q k Yes = (left_own k.target, left_set None k.target)
@@ -311,14 +400,15 @@ inject_names h q k _ = search_names h k k.rounds
 lower_names : (h : PoolShape) (q : Party) (p : Count) (s : Share) (t : Then) (e : Seen) → Both (NamesFrom (LowerCount p s t)) (next_of h q (LowerCount p s t) e)
 lower_names h q (OfPool p) s t Yes = settle_names None h q p 0 t
 lower_names h q (OfScope c o) s t Yes = set_owns c o t
+lower_names h q (OfCast c o) s t Yes = set_owns c o t
 lower_names h q p s t _ = finish_names (count_sets p) q t
 
 add_names : (h : PoolShape) (q : Party) (f : Feeding) (e : Seen) → Both (NamesFrom (AddToFifo f)) (next_of h q (AddToFifo f) e)
 add_names h q f Done = (λ c e. e, λ c p e. e)
-add_names h q f _ = (λ c e. e, λ c p e. e)
+add_names h q f _ = drawn (count_book f.count) (Feed f)
 
 back_names : (h : PoolShape) (q : Party) (f : Feeding) (e : Seen) → Both (NamesFrom (TakeFromFifo f)) (next_of h q (TakeFromFifo f) e)
-back_names h q f (Task x) = (λ c e. e, λ c p e. e)
+back_names h q f (Task x) = drawn (count_book f.count) (Feed (record f { job = taken_number x }))
 back_names h q f _ = tt
 
 abbrev pub begins : Place → Bool
@@ -335,6 +425,15 @@ names_on h g q c m (BeginTask t) z = cc
 names_on h g q c m (StoreBody o e) z = cc
 names_on h g q c m (StoreSlot d o t e) z = of_every h g q c m (StoreSlot d o t e) (slot_names g q d o t e)
 names_on h g q c m (GrowScope o) z = of_every h g q c m (GrowScope o) (scope_names g q o)
+names_on h g q c m (StorePiece d o t e) z = of_every h g q c m (StorePiece d o t e) (λ e. (λ c e. e, λ c p e. e))
+names_on h g q c m (PushJob n v) z = of_every h g q c m (PushJob n v) (push_names g q n v)
+names_on h g q c m (RaiseForAll b) z = of_every h g q c m (RaiseForAll b) (deal_names g q b)
+names_on h g q c m (OpenForAll b) z = of_every h g q c m (OpenForAll b) (open_names g q b)
+names_on h g q c m (PushForAll b) z = of_every h g q c m (PushForAll b) (cast_names g q b)
+names_on h g q c m (CloseForAll b) z = of_every h g q c m (CloseForAll b) (λ e. (λ c e. e, λ c p e. e))
+names_on h g q c m (LowerForAll b) z = of_every h g q c m (LowerForAll b) (sunk_names g q b)
+names_on h g q c m (GrowCast b) z = of_every h g q c m (GrowCast b) (gather_names g q b)
+names_on h g q c m (DealPieces b) z = of_every h g q c m (DealPieces b) (dealt_names g q b)
 names_on h g q c m (OpenSlot n) z = of_every h g q c m (OpenSlot n) (slot_opens g q n)
 names_on h g q c m (CloseSlot n) z = of_every h g q c m (CloseSlot n) (λ e. (λ c e. e, λ c p e. e))
 names_on h g q c m (SetLockLatch d t) z = of_every h g q c m (SetLockLatch d t) (λ e. finish_names (Some (d, Caller 0)) q t)

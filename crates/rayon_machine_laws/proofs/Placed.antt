@@ -7,12 +7,12 @@ use Rattle.rayon_machine_places.specs.declared.place.Party.TheVariants.{Worker, 
 use Rattle.rayon_machine_places.specs.declared.place.JobKind.{JobKind}
 use Rattle.rayon_machine_places.specs.declared.place.JobKind.TheVariants.{Direct, TokenOf}
 use Rattle.rayon_machine_places.specs.declared.place.Plan.{Plan}
-use Rattle.rayon_machine_places.specs.declared.place.Plan.TheVariants.{Detach}
+use Rattle.rayon_machine_places.specs.declared.place.Plan.TheVariants.{Detach, Feed}
 use Rattle.rayon_machine_places.specs.declared.place.Feeding.{Feeding}
 use Rattle.rayon_machine_places.specs.declared.place.Taken.{Taken}
 use Rattle.rayon_machine_places.specs.declared.place.Taken.TheVariants.{Plain, Token}
 use Rattle.rayon_machine_places.specs.declared.place.Place.{Place}
-use Rattle.rayon_machine_places.specs.declared.place.Place.TheVariants.{PopWorking, TakeCastWorking, PopIdle, TakeCastIdle, StealFrom, PopInjected, JoinPop, JoinTakeCast, YieldPop, YieldTakeCast, YieldSteal, YieldPopInjected, LocalPop, LocalTakeCast, BeginTask, BeginHere, Run, PushJob, AddToFifo, LookForToken, PushToken, TakeFromFifo, TellNews, PushForAll}
+use Rattle.rayon_machine_places.specs.declared.place.Place.TheVariants.{PopWorking, TakeCastWorking, PopIdle, TakeCastIdle, StealFrom, PopInjected, JoinPop, JoinTakeCast, YieldPop, YieldTakeCast, YieldSteal, YieldPopInjected, LocalPop, LocalTakeCast, BeginTask, BeginHere, Run, PushJob, AddToFifo, LookForToken, PushToken, TakeFromFifo, TellNews, PushForAll, DealPieces}
 use Rattle.rayon_machine_places.specs.declared.place.Move.{Move}
 use Rattle.rayon_machine_places.specs.declared.place.Move.TheVariants.{Stay}
 use Rattle.rayon_machine_places.specs.declared.act.Act.{Act}
@@ -22,13 +22,13 @@ use Rattle.rayon_machine_places.specs.declared.act.Seen.TheVariants.{Done, Task,
 use Rattle.rayon_machine_places.specs.declared.state.Whereabouts.TheVariants.{Made, InDeque, Injected, InFifo, Retaken, Running, HandedBack, Spent}
 use Rattle.rayon_machine_places.specs.declared.shape.PoolShape.{PoolShape}
 use Rattle.rayon_machine_places.specs.declared.state.Job.{Job}
-use Rattle.rayon_machine_places.specs.Places.{same_party, own_pool, own_index, is_member, plan_pool, plan_job, act_of, next_of, taken_number, plan_book}
-use Rattle.rayon_machine_places.specs.World.{Stack, World, counts_at, Part, target_pool, target_worker, target_call, head_of, last_of, but_last, or_none, is_open, left_by, taken_as, fifo_back, fifo_first, Outcome, at_job, begun, popped, take_cast, pop_injector, effect, left_book}
+use Rattle.rayon_machine_places.specs.Places.{same_party, own_pool, own_index, is_member, plan_pool, plan_job, act_of, next_of, taken_number, plan_book, count_book, withdraw, after_push}
+use Rattle.rayon_machine_places.specs.World.{Stack, World, counts_at, Part, target_pool, target_worker, target_call, head_of, last_of, but_last, or_none, is_open, left_by, taken_as, fifo_back, fifo_first, Outcome, at_job, begun, popped, take_cast, pop_injector, effect, left_book, same_list, put_list}
 use Rattle.rayon_machine_places.specs.Steps.{put, put_stack, put_seat, part_of, step}
 use Rattle.rayon_machine_laws.specs.Once.{one, times, run_of, runs_in}
-use Rattle.rayon_machine_laws.proofs.Frame.{same_index, same_refl, same_party_true, same_party_refl, if_some_each, if_some_and, if_some_map}
+use Rattle.rayon_machine_laws.proofs.Frame.{same_index, same_refl, same_party_true, same_party_refl, if_some_each, if_some_and, if_some_map, same_list_true}
 use Rattle.rayon_machine_laws.proofs.Ties.{job_at, shape_at, outcome}
-use Rattle.rayon_machine_laws.proofs.Hands.{hand, held_in, held, worked, paused, hand_move, run_move, land_held, land_worked, got, outs, starts, given, table, run_table}
+use Rattle.rayon_machine_laws.proofs.Hands.{hand, held_in, held, worked, paused, hand_move, run_move, land_held, land_worked, got, outs, starts, given, table, run_table, hand_plan, is_gather, queues_whole, given_plan, given_one}
 use Rattle.rayon_machine_laws.proofs.Feeds.{fed_in, all_fed}
 use Rattle.rayon_machine_laws.proofs.Lists.{moves_no_job, SameJobs, quiet_same, times_first, times_own, times_push, times_drop}
 use Rattle.rayon_machine_laws.proofs.Located.{Loc, same_loc, loc_of, loc_at, is_loc, weight, JobsPlaced, comes, Shifts, was_at, shift_ok, fits, JobsFit, IsOnward, onward_same, onward_loc, is_hand, in_hand, made_hand, at_line, is_work, unbegun, Hand, Work, Deck, Cast, Inj, Line, where_is, and_true, and_false, comes_true, comes_false, same_loc_refl}
@@ -46,6 +46,10 @@ pub record JobsOk (w : World) : Type 0 where
   pub placed : JobsPlaced w
   pub fit : JobsFit w
 
+-- no party is about to push a broadcast's own number
+abbrev pub Unqueued : World → Type 0
+Unqueued w = (q : Party) → queues_whole (w.stack q).top ≡ false
+
 -- what a call has made and not queued is as it was made
 abbrev pub Feeds : World → Type 0
 Feeds w = (q : Party) (t : ℕ) → 1 ≤ all_fed t (w.stack q) → (w.job t).at ≡ Made q
@@ -61,7 +65,7 @@ midway w q s p i c n r = record w {
 }
 
 -- the weights halfway through an act, from those of the party's own stack and of the part that it touched
-weights_mid : (w : World) (q : Party) (k : Stack) (p0 i0 c0 n0 : ℕ) (r : Seen × Part) (A B : Loc → ℕ → ℕ) → w.stack q ≡ k → ((t : ℕ) → held t (paused (next_of (w.shape.pool p0) q (k.top) (r.0)) k.below) + A (Hand q) t ≡ held t k + B (Hand q) t) → ((t : ℕ) → worked t (paused (next_of (w.shape.pool p0) q (k.top) (r.0)) k.below) + A (Work q) t ≡ worked t k + B (Work q) t) → ((t : ℕ) → times t (r.1.seat.own) + A (Deck p0 i0) t ≡ times t ((w.seat p0 i0).own) + B (Deck p0 i0) t) → ((t : ℕ) → times t (r.1.seat.fifo) + A (Line p0 i0) t ≡ times t ((w.seat p0 i0).fifo) + B (Line p0 i0) t) → ((t : ℕ) → times t (r.1.pool.injector) + A (Inj p0) t ≡ times t ((w.pool p0).injector) + B (Inj p0) t) → ((i t : ℕ) → times t (r.1.pool.casts i) + A (Cast p0 i) t ≡ times t ((w.pool p0).casts i) + B (Cast p0 i) t) → ((g : Party) (t : ℕ) → same_party g q ≡ false → A (Hand g) t ≡ B (Hand g) t) → ((g : Party) (t : ℕ) → same_party g q ≡ false → A (Work g) t ≡ B (Work g) t) → ((p i t : ℕ) → ((p == p0) && (i == i0)) ≡ false → A (Deck p i) t ≡ B (Deck p i) t) → ((p i t : ℕ) → ((p == p0) && (i == i0)) ≡ false → A (Line p i) t ≡ B (Line p i) t) → ((p t : ℕ) → (p == p0) ≡ false → A (Inj p) t ≡ B (Inj p) t) → ((p i t : ℕ) → (p == p0) ≡ false → A (Cast p i) t ≡ B (Cast p i) t) → (l : Loc) (t : ℕ) → weight (midway w q k p0 i0 c0 n0 r) l t + A l t ≡ weight w l t + B l t
+weights_mid : (w : World) (q : Party) (k : Stack) (p0 i0 c0 n0 : ℕ) (r : Seen × Part) (A B : Loc → ℕ → ℕ) → w.stack q ≡ k → ((t : ℕ) → held t (paused (next_of (w.shape.pool p0) q (k.top) (r.0)) k.below) + A (Hand q) t ≡ held t k + B (Hand q) t) → ((t : ℕ) → worked t (paused (next_of (w.shape.pool p0) q (k.top) (r.0)) k.below) + A (Work q) t ≡ worked t k + B (Work q) t) → ((t : ℕ) → times t (r.1.seat.own) + A (Deck p0 i0) t ≡ times t ((w.seat p0 i0).own) + B (Deck p0 i0) t) → ((b : Option ℕ) (t : ℕ) → times t (r.1.seat.fifo b) + A (Line p0 i0 b) t ≡ times t ((w.seat p0 i0).fifo b) + B (Line p0 i0 b) t) → ((t : ℕ) → times t (r.1.pool.injector) + A (Inj p0) t ≡ times t ((w.pool p0).injector) + B (Inj p0) t) → ((i t : ℕ) → times t (r.1.pool.casts i) + A (Cast p0 i) t ≡ times t ((w.pool p0).casts i) + B (Cast p0 i) t) → ((g : Party) (t : ℕ) → same_party g q ≡ false → A (Hand g) t ≡ B (Hand g) t) → ((g : Party) (t : ℕ) → same_party g q ≡ false → A (Work g) t ≡ B (Work g) t) → ((p i t : ℕ) → ((p == p0) && (i == i0)) ≡ false → A (Deck p i) t ≡ B (Deck p i) t) → ((p i : ℕ) (b : Option ℕ) (t : ℕ) → ((p == p0) && (i == i0)) ≡ false → A (Line p i b) t ≡ B (Line p i b) t) → ((p t : ℕ) → (p == p0) ≡ false → A (Inj p) t ≡ B (Inj p) t) → ((p i t : ℕ) → (p == p0) ≡ false → A (Cast p i) t ≡ B (Cast p i) t) → (l : Loc) (t : ℕ) → weight (midway w q k p0 i0 c0 n0 r) l t + A l t ≡ weight w l t + B l t
 weights_mid w q k p0 i0 c0 n0 r A B e hq hw hs hf hp hc oq ow os of op oc (Hand g) t = by (same_party g q) refl
   where
     by : (z : Bool) → same_party g q ≡ z → held t (if z then paused (next_of (w.shape.pool p0) q (k.top) (r.0)) k.below else w.stack g) + A (Hand g) t ≡ held t (w.stack g) + B (Hand g) t
@@ -80,12 +84,12 @@ weights_mid w q k p0 i0 c0 n0 r A B e hq hw hs hf hp hc oq ow os of op oc (Deck 
     by true z = let is : (p ≡ p0) × (i ≡ i0) = same_index p i p0 i0 z in
         subst (λ p. times t (r.1.seat.own) + A (Deck p i) t ≡ times t ((w.seat p i).own) + B (Deck p i) t) (sym (is.0)) (subst (λ i. times t (r.1.seat.own) + A (Deck p0 i) t ≡ times t ((w.seat p0 i).own) + B (Deck p0 i) t) (sym (is.1)) (hs t))
     by false z = let o : A (Deck p i) t ≡ B (Deck p i) t = os p i t z in omega (arith, o)
-weights_mid w q k p0 i0 c0 n0 r A B e hq hw hs hf hp hc oq ow os of op oc (Line p i) t = by ((p == p0) && (i == i0)) refl
+weights_mid w q k p0 i0 c0 n0 r A B e hq hw hs hf hp hc oq ow os of op oc (Line p i b) t = by ((p == p0) && (i == i0)) refl
   where
-    by : (z : Bool) → ((p == p0) && (i == i0)) ≡ z → times t ((if z then r.1.seat else w.seat p i).fifo) + A (Line p i) t ≡ times t ((w.seat p i).fifo) + B (Line p i) t
+    by : (z : Bool) → ((p == p0) && (i == i0)) ≡ z → times t ((if z then r.1.seat else w.seat p i).fifo b) + A (Line p i b) t ≡ times t ((w.seat p i).fifo b) + B (Line p i b) t
     by true z = let is : (p ≡ p0) × (i ≡ i0) = same_index p i p0 i0 z in
-        subst (λ p. times t (r.1.seat.fifo) + A (Line p i) t ≡ times t ((w.seat p i).fifo) + B (Line p i) t) (sym (is.0)) (subst (λ i. times t (r.1.seat.fifo) + A (Line p0 i) t ≡ times t ((w.seat p0 i).fifo) + B (Line p0 i) t) (sym (is.1)) (hf t))
-    by false z = let o : A (Line p i) t ≡ B (Line p i) t = of p i t z in omega (arith, o)
+        subst (λ p. times t (r.1.seat.fifo b) + A (Line p i b) t ≡ times t ((w.seat p i).fifo b) + B (Line p i b) t) (sym (is.0)) (subst (λ i. times t (r.1.seat.fifo b) + A (Line p0 i b) t ≡ times t ((w.seat p0 i).fifo b) + B (Line p0 i b) t) (sym (is.1)) (hf b t))
+    by false z = let o : A (Line p i b) t ≡ B (Line p i b) t = of p i b t z in omega (arith, o)
 weights_mid w q k p0 i0 c0 n0 r A B e hq hw hs hf hp hc oq ow os of op oc (Inj p) t = by (p == p0) refl
   where
     by : (z : Bool) → (p == p0) ≡ z → times t ((if z then r.1.pool else w.pool p).injector) + A (Inj p) t ≡ times t ((w.pool p).injector) + B (Inj p) t
@@ -120,10 +124,10 @@ same_ok w q k p0 i0 c0 n0 r e own fifo casts inj at runs less run ok = record {
       (λ t. let a : hand_move t (next_of (w.shape.pool p0) q (k.top) (r.0)) ≡ hand t (k.top) = less t in let b : held t (paused (next_of (w.shape.pool p0) q (k.top) (r.0)) k.below) ≡ (hand_move t (next_of (w.shape.pool p0) q (k.top) (r.0)) + held_in t k.below) = land_held t (next_of (w.shape.pool p0) q (k.top) (r.0)) k.below in omega (arith, a, b))
       (λ t. let a : run_move t (next_of (w.shape.pool p0) q (k.top) (r.0)) ≡ run_of t (k.top) = run t in let b : worked t (paused (next_of (w.shape.pool p0) q (k.top) (r.0)) k.below) ≡ (run_move t (next_of (w.shape.pool p0) q (k.top) (r.0)) + runs_in t k.below) = land_worked t (next_of (w.shape.pool p0) q (k.top) (r.0)) k.below in omega (arith, a, b))
       (λ t. let a : times t (r.1.seat.own) ≡ times t ((w.seat p0 i0).own) = ap (times t) own in omega (arith, a))
-      (λ t. let a : times t (r.1.seat.fifo) ≡ times t ((w.seat p0 i0).fifo) = ap (times t) fifo in omega (arith, a))
+      (λ b t. let a : times t (r.1.seat.fifo b) ≡ times t ((w.seat p0 i0).fifo b) = ap (λ f. times t (f b)) fifo in omega (arith, a))
       (λ t. let a : times t (r.1.pool.injector) ≡ times t ((w.pool p0).injector) = ap (times t) inj in omega (arith, a))
       (λ i t. let a : times t (r.1.pool.casts i) ≡ times t ((w.pool p0).casts i) = ap (λ f. times t (f i)) casts in omega (arith, a))
-      (λ g t z. omega arith) (λ g t z. omega arith) (λ p i t z. omega arith) (λ p i t z. omega arith) (λ p t z. omega arith) (λ p i t z. omega arith) l t in
+      (λ g t z. omega arith) (λ g t z. omega arith) (λ p i t z. omega arith) (λ p i b t z. omega arith) (λ p t z. omega arith) (λ p i t z. omega arith) l t in
       let o : weight w l t ≡ is_loc l (loc_at (w.job t)) = (ok.placed) l t in
       let v : is_loc l (loc_of ((put w.job n0 (r.1.job) t).at) ((put w.job n0 (r.1.job) t).runs)) ≡ is_loc l (loc_at (w.job t)) = ap (λ x. is_loc l (loc_of x ((put w.job n0 (r.1.job) t).runs))) (where_at t) ∙ ap (λ x. is_loc l (loc_of ((w.job t).at) x)) (how_often t) in
       omega (arith, f, o, v);
@@ -239,14 +243,14 @@ own_step j q p i e = let n : j.runs ≡ 0 = unbegun (j.at) (j.runs) (Hand q) ref
 pub inject_step : (j : Job) (q : Party) (p : ℕ) → loc_at j ≡ Some (Hand q) → (loc_at (at_job j (Injected p)) ≡ Some (Inj p)) × fits (Injected p) (j.runs) × IsOnward (j.at) (Injected p)
 inject_step j q p e = let n : j.runs ≡ 0 = unbegun (j.at) (j.runs) (Hand q) refl e in (ap (λ x. loc_of (Injected p) x) n, n, onward_loc (j.at) (Injected p) (j.runs) (Hand q) e refl)
 
-pub line_step : (j : Job) (q : Party) (p i : ℕ) → j.at ≡ Made q → loc_at j ≡ Some (Hand q) → (loc_at (at_job j (InFifo p i)) ≡ Some (Line p i)) × fits (InFifo p i) (j.runs) × IsOnward (j.at) (InFifo p i)
-line_step j q p i m e = let n : j.runs ≡ 0 = unbegun (j.at) (j.runs) (Hand q) refl e in (ap (λ x. loc_of (InFifo p i) x) n, n, subst (λ v. IsOnward v (InFifo p i)) (sym m) refl)
+pub line_step : (j : Job) (q : Party) (p i : ℕ) (b7 : Option ℕ) → j.at ≡ Made q → loc_at j ≡ Some (Hand q) → (loc_at (at_job j (InFifo p i b7)) ≡ Some (Line p i b7)) × fits (InFifo p i b7) (j.runs) × IsOnward (j.at) (InFifo p i b7)
+line_step j q p i b7 m e = let n : j.runs ≡ 0 = unbegun (j.at) (j.runs) (Hand q) refl e in (ap (λ x. loc_of (InFifo p i b7) x) n, n, subst (λ v. IsOnward v (InFifo p i b7)) (sym m) refl)
 
-pub retaken_step : (j : Job) (q : Party) (p i : ℕ) → loc_at j ≡ Some (Line p i) → (loc_at (at_job j (Retaken q)) ≡ Some (Hand q)) × fits (Retaken q) (j.runs) × IsOnward (j.at) (Retaken q)
-retaken_step j q p i e = let n : j.runs ≡ 0 = unbegun (j.at) (j.runs) (Line p i) refl e in (ap (λ x. loc_of (Retaken q) x) n, n, subst (λ v. IsOnward v (Retaken q)) (sym (at_line (j.at) (j.runs) p i e)) refl)
+pub retaken_step : (j : Job) (q : Party) (p i : ℕ) (b7 : Option ℕ) → loc_at j ≡ Some (Line p i b7) → (loc_at (at_job j (Retaken q)) ≡ Some (Hand q)) × fits (Retaken q) (j.runs) × IsOnward (j.at) (Retaken q)
+retaken_step j q p i b7 e = let n : j.runs ≡ 0 = unbegun (j.at) (j.runs) (Line p i b7) refl e in (ap (λ x. loc_of (Retaken q) x) n, n, subst (λ v. IsOnward v (Retaken q)) (sym (at_line (j.at) (j.runs) p i b7 e)) refl)
 
-pub handed_step : (j : Job) (q : Party) (p i : ℕ) → loc_at j ≡ Some (Line p i) → (loc_at (begun q j) ≡ Some (Work q)) × fits (Running q) (j.runs + 1) × IsOnward (j.at) (Running q)
-handed_step j q p i e = let n : j.runs ≡ 0 = unbegun (j.at) (j.runs) (Line p i) refl e in (ap (λ x. loc_of (Running q) (x + 1)) n, (let g : j.runs + 1 ≤ 1 = omega (arith, n) in g), onward_loc (j.at) (Running q) (j.runs) (Line p i) e refl)
+pub handed_step : (j : Job) (q : Party) (p i : ℕ) (b7 : Option ℕ) → loc_at j ≡ Some (Line p i b7) → (loc_at (begun q j) ≡ Some (Work q)) × fits (Running q) (j.runs + 1) × IsOnward (j.at) (Running q)
+handed_step j q p i b7 e = let n : j.runs ≡ 0 = unbegun (j.at) (j.runs) (Line p i b7) refl e in (ap (λ x. loc_of (Running q) (x + 1)) n, (let g : j.runs + 1 ≤ 1 = omega (arith, n) in g), onward_loc (j.at) (Running q) (j.runs) (Line p i b7) e refl)
 
 pub spent_step : (j : Job) (q : Party) → loc_at j ≡ Some (Hand q) → (loc_at (at_job j Spent) ≡ None) × fits Spent (j.runs) × IsOnward (j.at) Spent
 spent_step j q e = (refl, unbegun (j.at) (j.runs) (Hand q) refl e, onward_loc (j.at) Spent (j.runs) (Hand q) e refl)
@@ -256,6 +260,21 @@ begun_step j q e = let n : j.runs ≡ 0 = unbegun (j.at) (j.runs) (Hand q) refl 
 
 pub back_step : (j : Job) (q : Party) → loc_at j ≡ Some (Hand q) → (loc_at (at_job j HandedBack) ≡ None) × fits HandedBack (j.runs) × IsOnward (j.at) HandedBack
 back_step j q e = (refl, unbegun (j.at) (j.runs) (Hand q) refl e, onward_loc (j.at) HandedBack (j.runs) (Hand q) e refl)
+
+-- a list with one job more, and with one less
+put_more : (f : Option ℕ → List ℕ) (b : Option ℕ) (v : List ℕ) (p i t u : ℕ) (c : Option ℕ) → times t v ≡ times t (f b) + one (t == u) → times t (put_list f b v c) + 0 ≡ times t (f c) + one ((((p == p) && (i == i)) && same_list c b) && (t == u))
+put_more f b v p i t u c e = let k : ((p == p) && (i == i)) ≡ true = same_refl p i in subst (λ y. times t (put_list f b v c) + 0 ≡ times t (f c) + one ((y && same_list c b) && (t == u))) (sym k) (by (same_list c b) refl)
+  where
+    by : (z : Bool) → same_list c b ≡ z → times t (if z then v else f c) + 0 ≡ times t (f c) + one ((true && z) && (t == u))
+    by true z = let a : times t (f c) ≡ times t (f b) = ap (λ l. times t (f l)) (same_list_true c b z) in omega (arith, a, e)
+    by false z = omega arith
+
+put_less : (f : Option ℕ → List ℕ) (b : Option ℕ) (v : List ℕ) (p i t u : ℕ) (c : Option ℕ) → times t (f b) ≡ one (t == u) + times t v → times t (put_list f b v c) + one ((((p == p) && (i == i)) && same_list c b) && (t == u)) ≡ times t (f c) + 0
+put_less f b v p i t u c e = let k : ((p == p) && (i == i)) ≡ true = same_refl p i in subst (λ y. times t (put_list f b v c) + one ((y && same_list c b) && (t == u)) ≡ times t (f c) + 0) (sym k) (by (same_list c b) refl)
+  where
+    by : (z : Bool) → same_list c b ≡ z → times t (if z then v else f c) + one ((true && z) && (t == u)) ≡ times t (f c) + 0
+    by true z = let a : times t (f c) ≡ times t (f b) = ap (λ l. times t (f l)) (same_list_true c b z) in omega (arith, a, e)
+    by false z = omega arith
 
 -- what the tables say of an act
 abbrev pub Tabled : World → Party → Stack → PoolShape → Seen × Part → Type 0
@@ -299,7 +318,7 @@ missing_ok w q k p0 i0 e none tab ok = same_ok w q k p0 i0 0 0 (Missing, part_of
 
 -- what is taken has the number that stood in the list
 pub same_number : (u : ℕ) (d : JobKind) → taken_number (taken_as u d) ≡ u
-same_number u (TokenOf i) = refl
+same_number u (TokenOf i b8) = refl
 same_number u _ = refl
 
 -- a pop of a deque, at whatever place and from either end
@@ -322,13 +341,13 @@ pop_mid w q k p0 i0 rest (Some u) e none less tab ok =
     (λ t. let a : times t ((w.seat p0 i0).own) ≡ (one (t == u) + times t rest) = less u t refl in
     let c : times t rest + one (true && (t == u)) ≡ times t ((w.seat p0 i0).own) + 0 = omega (arith, a) in
     subst (λ z. times t rest + one (z && (t == u)) ≡ times t ((w.seat p0 i0).own) + 0) (sym (same_refl p0 i0)) c)
-    (λ t. omega arith)
+    (λ b t. omega arith)
     (λ t. omega arith)
     (λ i t. omega arith)
     (λ g t z. let c : 0 ≡ one (false && (t == u)) = omega arith in subst (λ z. 0 ≡ one (z && (t == u))) (sym z) c)
     (λ g t z. omega arith)
     (λ p i t z. let c : one (false && (t == u)) ≡ 0 = omega arith in subst (λ z. one (z && (t == u)) ≡ 0) (sym z) c)
-    (λ p i t z. omega arith)
+    (λ p i b t z. omega arith)
     (λ p t z. omega arith)
     (λ p i t z. omega arith))
     (job_new w u (at_job (w.job u) (Running q))) (job_old w u (at_job (w.job u) (Running q))) refl (taken_step (w.job u) q (Deck p0 i0) refl) ok
@@ -350,7 +369,7 @@ inj_mid w q k p0 i0 (u ∷ rest) e none is tab ok =
     (λ t. let a : run_move t g ≡ run_of t (k.top) + (starts t (k.top) + 0) = (tab t).1 in let d : starts t (k.top) ≡ 0 = (none t).1 in
     let b : worked t (paused g k.below) ≡ (run_move t g + runs_in t k.below) = land_worked t g k.below in omega (arith, a, b, d))
     (λ t. omega arith)
-    (λ t. omega arith)
+    (λ b t. omega arith)
     (λ t. let a : times t ((w.pool p0).injector) ≡ (one (t == u) + times t rest) = ap (times t) is in
     let c : times t rest + one (true && (t == u)) ≡ times t ((w.pool p0).injector) + 0 = omega (arith, a) in
     subst (λ z. times t rest + one (z && (t == u)) ≡ times t ((w.pool p0).injector) + 0) (sym (eq-eqb p0 p0 refl)) c)
@@ -358,7 +377,7 @@ inj_mid w q k p0 i0 (u ∷ rest) e none is tab ok =
     (λ g t z. let c : 0 ≡ one (false && (t == u)) = omega arith in subst (λ z. 0 ≡ one (z && (t == u))) (sym z) c)
     (λ g t z. omega arith)
     (λ p i t z. omega arith)
-    (λ p i t z. omega arith)
+    (λ p i b t z. omega arith)
     (λ p t z. let c : one (false && (t == u)) ≡ 0 = omega arith in subst (λ z. one (z && (t == u)) ≡ 0) (sym z) c)
     (λ p i t z. omega arith))
     (job_new w u (at_job (w.job u) (Running q))) (job_old w u (at_job (w.job u) (Running q))) refl (taken_step (w.job u) q (Inj p0) refl) ok
@@ -381,13 +400,13 @@ cast_mid w q k p0 i0 (u ∷ rest) e own none is tab ok =
     (λ t. let a : run_move t g ≡ run_of t (k.top) + (starts t (k.top) + 0) = (tab t).1 in let d : starts t (k.top) ≡ 0 = (none t).1 in
     let b : worked t (paused g k.below) ≡ (run_move t g + runs_in t k.below) = land_worked t g k.below in omega (arith, a, b, d))
     (λ t. omega arith)
-    (λ t. omega arith)
+    (λ b t. omega arith)
     (λ t. omega arith)
     (λ i t. cast_left i t (i == i0) refl)
     (λ g t z. let c : 0 ≡ one (false && (t == u)) = omega arith in subst (λ z. 0 ≡ one (z && (t == u))) (sym z) c)
     (λ g t z. omega arith)
     (λ p i t z. omega arith)
-    (λ p i t z. omega arith)
+    (λ p i b t z. omega arith)
     (λ p t z. omega arith)
     (λ p i t z. let c : one ((false && (i == i0)) && (t == u)) ≡ 0 = omega arith in subst (λ z. one ((z && (i == i0)) && (t == u)) ≡ 0) (sym z) c))
     (job_new w u (at_job (w.job u) (Running q))) (job_old w u (at_job (w.job u) (Running q))) refl (taken_step (w.job u) q (Cast p0 i0) refl) ok
@@ -407,33 +426,34 @@ cast_mid w q k p0 i0 (u ∷ rest) e own none is tab ok =
 abbrev pub outcome_of : World → Party → Act → Outcome
 outcome_of w q a = effect a w.shape q (counts_at w (target_pool q a)) (part_of w (target_pool q a) (target_worker q a) (target_call a) (job_at w q a))
 
-push_mid : (w : World) (q : Party) (n : Plan) (v : Bool) (fs : List Place) (z : Bool) → w.stack q ≡ record { top = PushJob n v; below = fs } → IfSome (outcome_of w q (if z then PushOwn (plan_job n) (plan_book n) else PushInj (plan_pool n) (plan_job n) (plan_book n))) (Tabled w q (record { top = PushJob n v; below = fs }) (w.shape.pool (target_pool q (if z then PushOwn (plan_job n) (plan_book n) else PushInj (plan_pool n) (plan_job n) (plan_book n))))) → JobsOk w → IfSome (outcome_of w q (if z then PushOwn (plan_job n) (plan_book n) else PushInj (plan_pool n) (plan_job n) (plan_book n))) (λ r. Kept w (midway w q (record { top = PushJob n v; below = fs }) (target_pool q (if z then PushOwn (plan_job n) (plan_book n) else PushInj (plan_pool n) (plan_job n) (plan_book n))) (target_worker q (if z then PushOwn (plan_job n) (plan_book n) else PushInj (plan_pool n) (plan_job n) (plan_book n))) (target_call (if z then PushOwn (plan_job n) (plan_book n) else PushInj (plan_pool n) (plan_job n) (plan_book n))) (job_at w q (if z then PushOwn (plan_job n) (plan_book n) else PushInj (plan_pool n) (plan_job n) (plan_book n))) r))
-push_mid w q n v fs true e tab ok =
+push_mid : (w : World) (q : Party) (n : Plan) (v : Bool) (fs : List Place) (z : Bool) → w.stack q ≡ record { top = PushJob n v; below = fs } → is_gather n ≡ false → IfSome (outcome_of w q (if z then PushOwn (plan_job n) (plan_book n) else PushInj (plan_pool n) (plan_job n) (plan_book n))) (Tabled w q (record { top = PushJob n v; below = fs }) (w.shape.pool (target_pool q (if z then PushOwn (plan_job n) (plan_book n) else PushInj (plan_pool n) (plan_job n) (plan_book n))))) → JobsOk w → IfSome (outcome_of w q (if z then PushOwn (plan_job n) (plan_book n) else PushInj (plan_pool n) (plan_job n) (plan_book n))) (λ r. Kept w (midway w q (record { top = PushJob n v; below = fs }) (target_pool q (if z then PushOwn (plan_job n) (plan_book n) else PushInj (plan_pool n) (plan_job n) (plan_book n))) (target_worker q (if z then PushOwn (plan_job n) (plan_book n) else PushInj (plan_pool n) (plan_job n) (plan_book n))) (target_call (if z then PushOwn (plan_job n) (plan_book n) else PushInj (plan_pool n) (plan_job n) (plan_book n))) (job_at w q (if z then PushOwn (plan_job n) (plan_book n) else PushInj (plan_pool n) (plan_job n) (plan_book n))) r))
+push_mid w q n v fs true e nq tab ok =
     let u = plan_job n in let p0 = own_pool q in let i0 = own_index q in
     let c0 = or_none (plan_book n) in
     let k : Stack = record { top = PushJob n v; below = fs } in
     let m : Part = part_of w p0 i0 c0 u in
-    let r : Seen × Part = (Done, record m { seat = record (m.seat) { own = m.seat.own ++ u ∷ []; feeder = left_by q m.seat.feeder }; call = record (m.call) { writer = left_book q (plan_book n) m.call.writer }; job = at_job (m.job) (InDeque p0 i0) }) in
+    let r : Seen × Part = (Done, record m { seat = record (m.seat) { own = m.seat.own ++ u ∷ []; feeder = put_list m.seat.feeder (plan_book n) (left_by q (m.seat.feeder (plan_book n))) }; call = record (m.call) { writer = left_book q (plan_book n) m.call.writer }; job = at_job (m.job) (InDeque p0 i0) }) in
     gone_ok w (midway w q k p0 i0 c0 u r) u (at_job (w.job u) (InDeque p0 i0)) (Hand q) (Some (Deck p0 i0)) refl
     (weights_mid w q k p0 i0 c0 u r (λ l t. one (same_loc l (Hand q) && (t == u))) (λ l t. one (same_loc l (Deck p0 i0) && (t == u))) e
-    (λ t. let a : hand t (TellNews n v) + one (t == u) ≡ hand t (PushJob n v) + 0 = (tab t).0 in
-    let c : (hand t (TellNews n v) + held_in t fs) + one (true && (t == u)) ≡ (hand t (PushJob n v) + held_in t fs) + 0 = omega (arith, a) in
+    (λ t. let a : hand t (TellNews n v) + given_plan t n ≡ hand t (PushJob n v) + 0 = (tab t).0 in
+    let b : given_plan t n ≡ one (t == u) = given_one t n nq in
+    let c : (hand t (TellNews n v) + held_in t fs) + one (true && (t == u)) ≡ (hand t (PushJob n v) + held_in t fs) + 0 = omega (arith, a, b) in
     subst (λ z. (hand t (TellNews n v) + held_in t fs) + one (z && (t == u)) ≡ (hand t (PushJob n v) + held_in t fs) + 0) (sym (same_party_refl q)) c)
     (λ t. omega arith)
     (λ t. let a : times t ((w.seat p0 i0).own ++ u ∷ []) ≡ (times t ((w.seat p0 i0).own) + one (t == u)) = times_push ((w.seat p0 i0).own) t u in
     let c : times t ((w.seat p0 i0).own ++ u ∷ []) + 0 ≡ times t ((w.seat p0 i0).own) + one (true && (t == u)) = omega (arith, a) in
     subst (λ z. times t ((w.seat p0 i0).own ++ u ∷ []) + 0 ≡ times t ((w.seat p0 i0).own) + one (z && (t == u))) (sym (same_refl p0 i0)) c)
-    (λ t. omega arith)
+    (λ b t. omega arith)
     (λ t. omega arith)
     (λ i t. omega arith)
     (λ g t z. let c : one (false && (t == u)) ≡ 0 = omega arith in subst (λ z. one (z && (t == u)) ≡ 0) (sym z) c)
     (λ g t z. omega arith)
     (λ p i t z. let c : 0 ≡ one (false && (t == u)) = omega arith in subst (λ z. 0 ≡ one (z && (t == u))) (sym z) c)
-    (λ p i t z. omega arith)
+    (λ p i b t z. omega arith)
     (λ p t z. omega arith)
     (λ p i t z. omega arith))
     (job_new w u (at_job (w.job u) (InDeque p0 i0))) (job_old w u (at_job (w.job u) (InDeque p0 i0))) refl (own_step (w.job u) q p0 i0) ok
-push_mid w q n v fs false e tab ok =
+push_mid w q n v fs false e nq tab ok =
     let u = plan_job n in let p0 = plan_pool n in let i0 = own_index q in
     let c0 = or_none (plan_book n) in
     let k : Stack = record { top = PushJob n v; below = fs } in
@@ -441,12 +461,13 @@ push_mid w q n v fs false e tab ok =
     let r : Seen × Part = (Done, record m { pool = record (m.pool) { injector = m.pool.injector ++ u ∷ [] }; call = record (m.call) { writer = left_book q (plan_book n) m.call.writer }; job = at_job (m.job) (Injected p0) }) in
     gone_ok w (midway w q k p0 i0 c0 u r) u (at_job (w.job u) (Injected p0)) (Hand q) (Some (Inj p0)) refl
     (weights_mid w q k p0 i0 c0 u r (λ l t. one (same_loc l (Hand q) && (t == u))) (λ l t. one (same_loc l (Inj p0) && (t == u))) e
-    (λ t. let a : hand t (TellNews n v) + one (t == u) ≡ hand t (PushJob n v) + 0 = (tab t).0 in
-    let c : (hand t (TellNews n v) + held_in t fs) + one (true && (t == u)) ≡ (hand t (PushJob n v) + held_in t fs) + 0 = omega (arith, a) in
+    (λ t. let a : hand t (TellNews n v) + given_plan t n ≡ hand t (PushJob n v) + 0 = (tab t).0 in
+    let b : given_plan t n ≡ one (t == u) = given_one t n nq in
+    let c : (hand t (TellNews n v) + held_in t fs) + one (true && (t == u)) ≡ (hand t (PushJob n v) + held_in t fs) + 0 = omega (arith, a, b) in
     subst (λ z. (hand t (TellNews n v) + held_in t fs) + one (z && (t == u)) ≡ (hand t (PushJob n v) + held_in t fs) + 0) (sym (same_party_refl q)) c)
     (λ t. omega arith)
     (λ t. omega arith)
-    (λ t. omega arith)
+    (λ b t. omega arith)
     (λ t. let a : times t ((w.pool p0).injector ++ u ∷ []) ≡ (times t ((w.pool p0).injector) + one (t == u)) = times_push ((w.pool p0).injector) t u in
     let c : times t ((w.pool p0).injector ++ u ∷ []) + 0 ≡ times t ((w.pool p0).injector) + one (true && (t == u)) = omega (arith, a) in
     subst (λ z. times t ((w.pool p0).injector ++ u ∷ []) + 0 ≡ times t ((w.pool p0).injector) + one (z && (t == u))) (sym (eq-eqb p0 p0 refl)) c)
@@ -454,40 +475,41 @@ push_mid w q n v fs false e tab ok =
     (λ g t z. let c : one (false && (t == u)) ≡ 0 = omega arith in subst (λ z. one (z && (t == u)) ≡ 0) (sym z) c)
     (λ g t z. omega arith)
     (λ p i t z. omega arith)
-    (λ p i t z. omega arith)
+    (λ p i b t z. omega arith)
     (λ p t z. let c : 0 ≡ one (false && (t == u)) = omega arith in subst (λ z. 0 ≡ one (z && (t == u))) (sym z) c)
     (λ p i t z. omega arith))
     (job_new w u (at_job (w.job u) (Injected p0))) (job_old w u (at_job (w.job u) (Injected p0))) refl (inject_step (w.job u) q p0) ok
 
 -- a token is pushed onto the own deque
-token_mid : (w : World) (q : Party) (f : Feeding) (v : Bool) (fs : List Place) → w.stack q ≡ record { top = PushToken f v; below = fs } → JobsOk w → IfSome (outcome_of w q (PushOwn f.token None)) (λ r. Kept w (midway w q (record { top = PushToken f v; below = fs }) (own_pool q) (own_index q) 0 f.token r))
+token_mid : (w : World) (q : Party) (f : Feeding) (v : Bool) (fs : List Place) → w.stack q ≡ record { top = PushToken f v; below = fs } → JobsOk w → IfSome (outcome_of w q (PushOwn f.token (count_book f.count))) (λ r. Kept w (midway w q (record { top = PushToken f v; below = fs }) (own_pool q) (own_index q) (or_none (count_book f.count)) f.token r))
 token_mid w q f v fs e ok =
     let u = f.token in let p0 = own_pool q in let i0 = own_index q in
+    let b0 = count_book f.count in let c0 = or_none b0 in
     let k : Stack = record { top = PushToken f v; below = fs } in
-    let m : Part = part_of w p0 i0 0 u in
-    let r : Seen × Part = (Done, record m { seat = record (m.seat) { own = m.seat.own ++ u ∷ []; feeder = left_by q m.seat.feeder }; job = at_job (m.job) (InDeque p0 i0) }) in
-    gone_ok w (midway w q k p0 i0 0 u r) u (at_job (w.job u) (InDeque p0 i0)) (Hand q) (Some (Deck p0 i0)) refl
-    (weights_mid w q k p0 i0 0 u r (λ l t. one (same_loc l (Hand q) && (t == u))) (λ l t. one (same_loc l (Deck p0 i0) && (t == u))) e
+    let m : Part = part_of w p0 i0 c0 u in
+    let r : Seen × Part = (Done, record m { seat = record (m.seat) { own = m.seat.own ++ u ∷ []; feeder = put_list m.seat.feeder b0 (left_by q (m.seat.feeder b0)) }; call = record (m.call) { writer = left_book q b0 m.call.writer }; job = at_job (m.job) (InDeque p0 i0) }) in
+    gone_ok w (midway w q k p0 i0 c0 u r) u (at_job (w.job u) (InDeque p0 i0)) (Hand q) (Some (Deck p0 i0)) refl
+    (weights_mid w q k p0 i0 c0 u r (λ l t. one (same_loc l (Hand q) && (t == u))) (λ l t. one (same_loc l (Deck p0 i0) && (t == u))) e
     (λ t. let c : (hand t (TellNews (Detach f.pool f.token) v) + held_in t fs) + one (true && (t == u)) ≡ (hand t (PushToken f v) + held_in t fs) + 0 = omega arith in
     subst (λ z. (hand t (TellNews (Detach f.pool f.token) v) + held_in t fs) + one (z && (t == u)) ≡ (hand t (PushToken f v) + held_in t fs) + 0) (sym (same_party_refl q)) c)
     (λ t. omega arith)
     (λ t. let a : times t ((w.seat p0 i0).own ++ u ∷ []) ≡ (times t ((w.seat p0 i0).own) + one (t == u)) = times_push ((w.seat p0 i0).own) t u in
     let c : times t ((w.seat p0 i0).own ++ u ∷ []) + 0 ≡ times t ((w.seat p0 i0).own) + one (true && (t == u)) = omega (arith, a) in
     subst (λ z. times t ((w.seat p0 i0).own ++ u ∷ []) + 0 ≡ times t ((w.seat p0 i0).own) + one (z && (t == u))) (sym (same_refl p0 i0)) c)
-    (λ t. omega arith)
+    (λ b t. omega arith)
     (λ t. omega arith)
     (λ i t. omega arith)
     (λ g t z. let c : one (false && (t == u)) ≡ 0 = omega arith in subst (λ z. one (z && (t == u)) ≡ 0) (sym z) c)
     (λ g t z. omega arith)
     (λ p i t z. let c : 0 ≡ one (false && (t == u)) = omega arith in subst (λ z. 0 ≡ one (z && (t == u))) (sym z) c)
-    (λ p i t z. omega arith)
+    (λ p i b t z. omega arith)
     (λ p t z. omega arith)
     (λ p i t z. omega arith))
     (job_new w u (at_job (w.job u) (InDeque p0 i0))) (job_old w u (at_job (w.job u) (InDeque p0 i0))) refl (own_step (w.job u) q p0 i0) ok
 
 -- a job is added to the own FIFO list
-in_mid : (w : World) (q : Party) (f : Feeding) (fs : List Place) → w.stack q ≡ record { top = AddToFifo f; below = fs } → (w.job f.job).at ≡ Made q → JobsOk w → IfSome (outcome_of w q (FifoIn f.job)) (λ r. Kept w (midway w q (record { top = AddToFifo f; below = fs }) (own_pool q) (own_index q) 0 f.job r))
-in_mid w q f fs e made ok = by (is_open q ((w.seat (own_pool q) (own_index q)).feeder))
+in_mid : (w : World) (q : Party) (f : Feeding) (fs : List Place) → w.stack q ≡ record { top = AddToFifo f; below = fs } → (w.job f.job).at ≡ Made q → JobsOk w → IfSome (outcome_of w q (FifoIn f.job (count_book f.count))) (λ r. Kept w (midway w q (record { top = AddToFifo f; below = fs }) (own_pool q) (own_index q) 0 f.job r))
+in_mid w q f fs e made ok = by (is_open q ((w.seat (own_pool q) (own_index q)).feeder (count_book f.count)))
   where
     u : ℕ
     u = f.job
@@ -498,107 +520,119 @@ in_mid w q f fs e made ok = by (is_open q ((w.seat (own_pool q) (own_index q)).f
     i0 : ℕ
     i0 = own_index q
 
+    b0 : Option ℕ
+    b0 = count_book f.count
+
     k : Stack
     k = record { top = AddToFifo f; below = fs }
 
     r : Seen × Part
-    r = (Done, record (part_of w p0 i0 0 u) { seat = record (w.seat p0 i0) { fifo = (w.seat p0 i0).fifo ++ u ∷ []; feeder = Some q }; job = at_job (w.job u) (InFifo p0 i0) })
+    r = (Done, record (part_of w p0 i0 0 u) { seat = record (w.seat p0 i0) { fifo = put_list (w.seat p0 i0).fifo b0 ((w.seat p0 i0).fifo b0 ++ u ∷ []); feeder = put_list (w.seat p0 i0).feeder b0 (Some q) }; job = at_job (w.job u) (InFifo p0 i0 b0) })
 
     added : Kept w (midway w q k p0 i0 0 u r)
-    added = gone_ok w (midway w q k p0 i0 0 u r) u (at_job (w.job u) (InFifo p0 i0)) (Hand q) (Some (Line p0 i0)) refl
-        (weights_mid w q k p0 i0 0 u r (λ l t. one (same_loc l (Hand q) && (t == u))) (λ l t. one (same_loc l (Line p0 i0) && (t == u))) e
+    added = gone_ok w (midway w q k p0 i0 0 u r) u (at_job (w.job u) (InFifo p0 i0 b0)) (Hand q) (Some (Line p0 i0 b0)) refl
+        (weights_mid w q k p0 i0 0 u r (λ l t. one (same_loc l (Hand q) && (t == u))) (λ l t. one (same_loc l (Line p0 i0 b0) && (t == u))) e
         (λ t. let c : (hand t (LookForToken f) + held_in t fs) + one (true && (t == u)) ≡ (hand t (AddToFifo f) + held_in t fs) + 0 = omega arith in
         subst (λ z. (hand t (LookForToken f) + held_in t fs) + one (z && (t == u)) ≡ (hand t (AddToFifo f) + held_in t fs) + 0) (sym (same_party_refl q)) c)
         (λ t. omega arith)
         (λ t. omega arith)
-        (λ t. let a : times t ((w.seat p0 i0).fifo ++ u ∷ []) ≡ (times t ((w.seat p0 i0).fifo) + one (t == u)) = times_push ((w.seat p0 i0).fifo) t u in
-        let c : times t ((w.seat p0 i0).fifo ++ u ∷ []) + 0 ≡ times t ((w.seat p0 i0).fifo) + one (true && (t == u)) = omega (arith, a) in
-        subst (λ z. times t ((w.seat p0 i0).fifo ++ u ∷ []) + 0 ≡ times t ((w.seat p0 i0).fifo) + one (z && (t == u))) (sym (same_refl p0 i0)) c)
+        (λ b t. put_more (w.seat p0 i0).fifo b0 ((w.seat p0 i0).fifo b0 ++ u ∷ []) p0 i0 t u b (times_push ((w.seat p0 i0).fifo b0) t u))
         (λ t. omega arith)
         (λ i t. omega arith)
         (λ g t z. let c : one (false && (t == u)) ≡ 0 = omega arith in subst (λ z. one (z && (t == u)) ≡ 0) (sym z) c)
         (λ g t z. omega arith)
         (λ p i t z. omega arith)
-        (λ p i t z. let c : 0 ≡ one (false && (t == u)) = omega arith in subst (λ z. 0 ≡ one (z && (t == u))) (sym z) c)
+        (λ p i b t z. let c : 0 ≡ one ((false && same_list b b0) && (t == u)) = omega arith in subst (λ z. 0 ≡ one ((z && same_list b b0) && (t == u))) (sym z) c)
         (λ p t z. omega arith)
         (λ p i t z. omega arith))
-        (job_new w u (at_job (w.job u) (InFifo p0 i0))) (job_old w u (at_job (w.job u) (InFifo p0 i0))) refl (line_step (w.job u) q p0 i0 made) ok
+        (job_new w u (at_job (w.job u) (InFifo p0 i0 b0))) (job_old w u (at_job (w.job u) (InFifo p0 i0 b0))) refl (line_step (w.job u) q p0 i0 b0 made) ok
 
     by : (z : Bool) → IfSome (if z then Some r else None) (λ r. Kept w (midway w q k p0 i0 0 u r))
     by true = added
     by false = tt
 
+pub hand_push : (t : ℕ) (n : Plan) → hand t (after_push n) ≡ hand_plan t n
+hand_push t n = by (plan_book n)
+  where
+    by : (o : Option ℕ) → hand t (withdraw o n) ≡ hand_plan t n
+    by None = refl
+    by (Some c) = refl
+
+pub run_push : (t : ℕ) (n : Plan) → run_of t (after_push n) ≡ 0
+run_push t n = by (plan_book n)
+  where
+    by : (o : Option ℕ) → run_of t (withdraw o n) ≡ 0
+    by None = refl
+    by (Some c) = refl
+
 -- the job that was added last is taken back
-back_mid : (w : World) (q : Party) (f : Feeding) (fs : List Place) (o : Option ℕ) → w.stack q ≡ record { top = TakeFromFifo f; below = fs } → last_of ((w.seat (own_pool q) (own_index q)).fifo) ≡ o → JobsOk w → IfSome (fifo_back q (part_of w (own_pool q) (own_index q) 0 (or_none o)) o) (λ r. Kept w (midway w q (record { top = TakeFromFifo f; below = fs }) (own_pool q) (own_index q) 0 (or_none o) r))
+back_mid : (w : World) (q : Party) (f : Feeding) (fs : List Place) (o : Option ℕ) → w.stack q ≡ record { top = TakeFromFifo f; below = fs } → last_of ((w.seat (own_pool q) (own_index q)).fifo (count_book f.count)) ≡ o → JobsOk w → IfSome (fifo_back q (part_of w (own_pool q) (own_index q) 0 (or_none o)) (count_book f.count) o) (λ r. Kept w (midway w q (record { top = TakeFromFifo f; below = fs }) (own_pool q) (own_index q) 0 (or_none o) r))
 back_mid w q f fs None e is ok = same_ok w q (record { top = TakeFromFifo f; below = fs }) (own_pool q) (own_index q) 0 0 (Missing, part_of w (own_pool q) (own_index q) 0 0) e refl refl refl refl refl refl (λ t. refl) (λ t. refl) ok
 back_mid w q f fs (Some u) e is ok =
     let p0 = own_pool q in let i0 = own_index q in
     let k : Stack = record { top = TakeFromFifo f; below = fs } in
-    let l : List ℕ = (w.seat p0 i0).fifo in
-    let r : Seen × Part = (Task (Plain u), record (part_of w p0 i0 0 u) { seat = record (w.seat p0 i0) { fifo = but_last l; feeder = None }; job = at_job (w.job u) (Retaken q) }) in
-    gone_ok w (midway w q k p0 i0 0 u r) u (at_job (w.job u) (Retaken q)) (Line p0 i0) (Some (Hand q)) refl
-    (weights_mid w q k p0 i0 0 u r (λ l t. one (same_loc l (Line p0 i0) && (t == u))) (λ l t. one (same_loc l (Hand q) && (t == u))) e
-    (λ t. let c : ((one (t == u) + one (t == f.token)) + held_in t fs) + 0 ≡ (one (t == f.token) + held_in t fs) + one (true && (t == u)) = omega arith in
-    subst (λ z. ((one (t == u) + one (t == f.token)) + held_in t fs) + 0 ≡ (one (t == f.token) + held_in t fs) + one (z && (t == u))) (sym (same_party_refl q)) c)
+    let b0 = count_book f.count in let l : List ℕ = (w.seat p0 i0).fifo b0 in
+    let r : Seen × Part = (Task (Plain u), record (part_of w p0 i0 0 u) { seat = record (w.seat p0 i0) { fifo = put_list (w.seat p0 i0).fifo b0 (but_last l); feeder = put_list (w.seat p0 i0).feeder b0 None }; job = at_job (w.job u) (Retaken q) }) in
+    gone_ok w (midway w q k p0 i0 0 u r) u (at_job (w.job u) (Retaken q)) (Line p0 i0 b0) (Some (Hand q)) refl
+    (weights_mid w q k p0 i0 0 u r (λ l t. one (same_loc l (Line p0 i0 b0) && (t == u))) (λ l t. one (same_loc l (Hand q) && (t == u))) e
+    (λ t. let h : hand t (after_push (Feed (record f { job = u }))) ≡ one (t == u) + one (t == f.token) = hand_push t (Feed (record f { job = u })) in
+    let c : (hand t (after_push (Feed (record f { job = u }))) + held_in t fs) + 0 ≡ (one (t == f.token) + held_in t fs) + one (true && (t == u)) = omega (arith, h) in
+    subst (λ z. (hand t (after_push (Feed (record f { job = u }))) + held_in t fs) + 0 ≡ (one (t == f.token) + held_in t fs) + one (z && (t == u))) (sym (same_party_refl q)) c)
+    (λ t. let h : run_of t (after_push (Feed (record f { job = u }))) ≡ 0 = run_push t (Feed (record f { job = u })) in omega (arith, h))
     (λ t. omega arith)
-    (λ t. omega arith)
-    (λ t. let a : times t l ≡ (one (t == u) + times t (but_last l)) = times_drop l t u is in
-    let c : times t (but_last l) + one (true && (t == u)) ≡ times t l + 0 = omega (arith, a) in
-    subst (λ z. times t (but_last l) + one (z && (t == u)) ≡ times t l + 0) (sym (same_refl p0 i0)) c)
+    (λ b t. put_less (w.seat p0 i0).fifo b0 (but_last l) p0 i0 t u b (times_drop l t u is))
     (λ t. omega arith)
     (λ i t. omega arith)
     (λ g t z. let c : 0 ≡ one (false && (t == u)) = omega arith in subst (λ z. 0 ≡ one (z && (t == u))) (sym z) c)
     (λ g t z. omega arith)
     (λ p i t z. omega arith)
-    (λ p i t z. let c : one (false && (t == u)) ≡ 0 = omega arith in subst (λ z. one (z && (t == u)) ≡ 0) (sym z) c)
+    (λ p i b t z. let c : one ((false && same_list b b0) && (t == u)) ≡ 0 = omega arith in subst (λ z. one ((z && same_list b b0) && (t == u)) ≡ 0) (sym z) c)
     (λ p t z. omega arith)
     (λ p i t z. omega arith))
-    (job_new w u (at_job (w.job u) (Retaken q))) (job_old w u (at_job (w.job u) (Retaken q))) refl (retaken_step (w.job u) q p0 i0) ok
+    (job_new w u (at_job (w.job u) (Retaken q))) (job_old w u (at_job (w.job u) (Retaken q))) refl (retaken_step (w.job u) q p0 i0 b0) ok
 
-undo_mid : (w : World) (q : Party) (f : Feeding) (fs : List Place) → w.stack q ≡ record { top = TakeFromFifo f; below = fs } → JobsOk w → IfSome (outcome_of w q FifoUndo) (λ r. Kept w (midway w q (record { top = TakeFromFifo f; below = fs }) (own_pool q) (own_index q) 0 (or_none (last_of ((w.seat (own_pool q) (own_index q)).fifo))) r))
-undo_mid w q f fs e ok = by (is_open q ((w.seat (own_pool q) (own_index q)).feeder))
+undo_mid : (w : World) (q : Party) (f : Feeding) (fs : List Place) → w.stack q ≡ record { top = TakeFromFifo f; below = fs } → JobsOk w → IfSome (outcome_of w q (FifoUndo (count_book f.count))) (λ r. Kept w (midway w q (record { top = TakeFromFifo f; below = fs }) (own_pool q) (own_index q) 0 (or_none (last_of ((w.seat (own_pool q) (own_index q)).fifo (count_book f.count)))) r))
+undo_mid w q f fs e ok = by (is_open q ((w.seat (own_pool q) (own_index q)).feeder (count_book f.count)))
   where
     o : Option ℕ
-    o = last_of ((w.seat (own_pool q) (own_index q)).fifo)
+    o = last_of ((w.seat (own_pool q) (own_index q)).fifo (count_book f.count))
 
-    by : (z : Bool) → IfSome (if z then fifo_back q (part_of w (own_pool q) (own_index q) 0 (or_none o)) o else None) (λ r. Kept w (midway w q (record { top = TakeFromFifo f; below = fs }) (own_pool q) (own_index q) 0 (or_none o) r))
+    by : (z : Bool) → IfSome (if z then fifo_back q (part_of w (own_pool q) (own_index q) 0 (or_none o)) (count_book f.count) o else None) (λ r. Kept w (midway w q (record { top = TakeFromFifo f; below = fs }) (own_pool q) (own_index q) 0 (or_none o) r))
     by true = back_mid w q f fs o e refl ok
     by false = tt
 
 -- the first job of a FIFO list begins for a token
-first_mid : (w : World) (q : Party) (n i : ℕ) (fs : List Place) (l : List ℕ) → w.stack q ≡ record { top = BeginTask (Token n i); below = fs } → (w.seat (own_pool q) i).fifo ≡ l → JobsOk w → IfSome (fifo_first q (part_of w (own_pool q) i 0 (or_none (head_of l))) l) (λ r. Kept w (midway w q (record { top = BeginTask (Token n i); below = fs }) (own_pool q) i 0 (or_none (head_of l)) r))
-first_mid w q n i fs [] e is ok = same_ok w q (record { top = BeginTask (Token n i); below = fs }) (own_pool q) i 0 0 (Missing, part_of w (own_pool q) i 0 0) e refl refl refl refl refl refl (λ t. refl) (λ t. refl) ok
-first_mid w q n i fs (u ∷ rest) e is ok =
+first_mid : (w : World) (q : Party) (n i : ℕ) (b8 : Option ℕ) (fs : List Place) (l : List ℕ) → w.stack q ≡ record { top = BeginTask (Token n i b8); below = fs } → (w.seat (own_pool q) i).fifo b8 ≡ l → JobsOk w → IfSome (fifo_first q (part_of w (own_pool q) i 0 (or_none (head_of l))) b8 l) (λ r. Kept w (midway w q (record { top = BeginTask (Token n i b8); below = fs }) (own_pool q) i 0 (or_none (head_of l)) r))
+first_mid w q n i b8 fs [] e is ok = same_ok w q (record { top = BeginTask (Token n i b8); below = fs }) (own_pool q) i 0 0 (Missing, part_of w (own_pool q) i 0 0) e refl refl refl refl refl refl (λ t. refl) (λ t. refl) ok
+first_mid w q n i b8 fs (u ∷ rest) e is ok =
     let p0 = own_pool q in
-    let k : Stack = record { top = BeginTask (Token n i); below = fs } in
-    let r : Seen × Part = (Handed u (w.job u).kind, record (part_of w p0 i 0 u) { seat = record (w.seat p0 i) { fifo = rest }; job = begun q (w.job u) }) in
-    gone_ok w (midway w q k p0 i 0 u r) u (begun q (w.job u)) (Line p0 i) (Some (Work q)) refl
-    (weights_mid w q k p0 i 0 u r (λ l t. one (same_loc l (Line p0 i) && (t == u))) (λ l t. one (same_loc l (Work q) && (t == u))) e
+    let k : Stack = record { top = BeginTask (Token n i b8); below = fs } in
+    let r : Seen × Part = (Handed u (w.job u).kind, record (part_of w p0 i 0 u) { seat = record (w.seat p0 i) { fifo = put_list (w.seat p0 i).fifo b8 rest }; job = begun q (w.job u) }) in
+    gone_ok w (midway w q k p0 i 0 u r) u (begun q (w.job u)) (Line p0 i b8) (Some (Work q)) refl
+    (weights_mid w q k p0 i 0 u r (λ l t. one (same_loc l (Line p0 i b8) && (t == u))) (λ l t. one (same_loc l (Work q) && (t == u))) e
     (λ t. omega arith)
     (λ t. let c : (one (t == u) + (0 + runs_in t fs)) + 0 ≡ (0 + runs_in t fs) + one (true && (t == u)) = omega arith in
     subst (λ z. (one (t == u) + (0 + runs_in t fs)) + 0 ≡ (0 + runs_in t fs) + one (z && (t == u))) (sym (same_party_refl q)) c)
     (λ t. omega arith)
-    (λ t. let a : times t ((w.seat p0 i).fifo) ≡ (one (t == u) + times t rest) = ap (times t) is in
-    let c : times t rest + one (true && (t == u)) ≡ times t ((w.seat p0 i).fifo) + 0 = omega (arith, a) in
-    subst (λ z. times t rest + one (z && (t == u)) ≡ times t ((w.seat p0 i).fifo) + 0) (sym (same_refl p0 i)) c)
+    (λ b t. put_less (w.seat p0 i).fifo b8 rest p0 i t u b (ap (times t) is))
     (λ t. omega arith)
     (λ i t. omega arith)
     (λ g t z. omega arith)
     (λ g t z. let c : 0 ≡ one (false && (t == u)) = omega arith in subst (λ z. 0 ≡ one (z && (t == u))) (sym z) c)
     (λ p i t z. omega arith)
-    (λ p j t z. let c : one (false && (t == u)) ≡ 0 = omega arith in subst (λ z. one (z && (t == u)) ≡ 0) (sym z) c)
+    (λ p j b t z. let c : one ((false && same_list b b8) && (t == u)) ≡ 0 = omega arith in subst (λ z. one ((z && same_list b b8) && (t == u)) ≡ 0) (sym z) c)
     (λ p t z. omega arith)
     (λ p i t z. omega arith))
-    (job_new w u (begun q (w.job u))) (job_old w u (begun q (w.job u))) refl (handed_step (w.job u) q p0 i) ok
+    (job_new w u (begun q (w.job u))) (job_old w u (begun q (w.job u))) refl (handed_step (w.job u) q p0 i b8) ok
 
-out_mid : (w : World) (q : Party) (n i : ℕ) (fs : List Place) → w.stack q ≡ record { top = BeginTask (Token n i); below = fs } → JobsOk w → IfSome (outcome_of w q (FifoOut n i)) (λ r. Kept w (midway w q (record { top = BeginTask (Token n i); below = fs }) (own_pool q) i 0 (or_none (head_of ((w.seat (own_pool q) i).fifo))) r))
-out_mid w q n i fs e ok = by (is_open q ((w.seat (own_pool q) i).feeder))
+out_mid : (w : World) (q : Party) (n i : ℕ) (b8 : Option ℕ) (fs : List Place) → w.stack q ≡ record { top = BeginTask (Token n i b8); below = fs } → JobsOk w → IfSome (outcome_of w q (FifoOut n i b8)) (λ r. Kept w (midway w q (record { top = BeginTask (Token n i b8); below = fs }) (own_pool q) i 0 (or_none (head_of ((w.seat (own_pool q) i).fifo b8))) r))
+out_mid w q n i b8 fs e ok = by (is_open q ((w.seat (own_pool q) i).feeder b8))
   where
     l : List ℕ
-    l = (w.seat (own_pool q) i).fifo
+    l = (w.seat (own_pool q) i).fifo b8
 
-    by : (z : Bool) → IfSome (if z then fifo_first q (part_of w (own_pool q) i 0 (or_none (head_of l))) l else None) (λ r. Kept w (midway w q (record { top = BeginTask (Token n i); below = fs }) (own_pool q) i 0 (or_none (head_of l)) r))
-    by true = first_mid w q n i fs l e refl ok
+    by : (z : Bool) → IfSome (if z then fifo_first q (part_of w (own_pool q) i 0 (or_none (head_of l))) b8 l else None) (λ r. Kept w (midway w q (record { top = BeginTask (Token n i b8); below = fs }) (own_pool q) i 0 (or_none (head_of l)) r))
+    by true = first_mid w q n i b8 fs l e refl ok
     by false = tt
 
 -- a begin: the job is no longer in hand, but under a run
@@ -620,13 +654,13 @@ begin_mid w q x u y fs e had ran runs has to ok =
     let c : worked t (paused g fs) + 0 ≡ (run_of t x + runs_in t fs) + one (true && (t == u)) = omega (arith, a, b, d) in
     subst (λ z. worked t (paused g fs) + 0 ≡ (run_of t x + runs_in t fs) + one (z && (t == u))) (sym (same_party_refl q)) c)
     (λ t. omega arith)
-    (λ t. omega arith)
+    (λ b t. omega arith)
     (λ t. omega arith)
     (λ i t. omega arith)
     (λ g t z. let c : one (false && (t == u)) ≡ 0 = omega arith in subst (λ z. one (z && (t == u)) ≡ 0) (sym z) c)
     (λ g t z. let c : 0 ≡ one (false && (t == u)) = omega arith in subst (λ z. 0 ≡ one (z && (t == u))) (sym z) c)
     (λ p i t z. omega arith)
-    (λ p i t z. omega arith)
+    (λ p i b t z. omega arith)
     (λ p t z. omega arith)
     (λ p i t z. omega arith))
     (job_new w u (begun q (w.job u))) (job_old w u (begun q (w.job u))) refl (begun_step (w.job u) q) ok
@@ -634,47 +668,49 @@ begin_mid w q x u y fs e had ran runs has to ok =
 -- places whose acts deal pieces
 abbrev pub is_dealer : Place → Bool
 is_dealer (PushForAll c) = true
+is_dealer (DealPieces g) = true
 is_dealer _ = false
 
 -- halfway through each other act each job is in its one place
-pub go_mid : (w : World) (q : Party) (x : Place) (fs : List Place) → w.stack q ≡ record { top = x; below = fs } → is_dealer x ≡ false → Feeds w → JobsOk w → Mid w q (record { top = x; below = fs })
-go_mid w (Worker a b) (PopWorking k) fs e z fe ok = pop_mid w (Worker a b) (record { top = PopWorking k; below = fs }) a b _ _ e (λ t. (refl, refl)) (λ u t. times_own ((w.shape.pool a).order) ((w.seat a b).own) t u) (all_tables w (Worker a b) (record { top = PopWorking k; below = fs })) ok
-go_mid w (Caller c) (PopWorking k) fs e z fe ok = tt
-go_mid w (Worker a b) (PopIdle k) fs e z fe ok = pop_mid w (Worker a b) (record { top = PopIdle k; below = fs }) a b _ _ e (λ t. (refl, refl)) (λ u t. times_own ((w.shape.pool a).order) ((w.seat a b).own) t u) (all_tables w (Worker a b) (record { top = PopIdle k; below = fs })) ok
-go_mid w (Caller c) (PopIdle k) fs e z fe ok = tt
-go_mid w (Worker a b) (JoinPop o) fs e z fe ok = pop_mid w (Worker a b) (record { top = JoinPop o; below = fs }) a b _ _ e (λ t. (refl, refl)) (λ u t. times_own ((w.shape.pool a).order) ((w.seat a b).own) t u) (all_tables w (Worker a b) (record { top = JoinPop o; below = fs })) ok
-go_mid w (Caller c) (JoinPop o) fs e z fe ok = tt
-go_mid w (Worker a b) YieldPop fs e z fe ok = pop_mid w (Worker a b) (record { top = YieldPop; below = fs }) a b _ _ e (λ t. (refl, refl)) (λ u t. times_own ((w.shape.pool a).order) ((w.seat a b).own) t u) (all_tables w (Worker a b) (record { top = YieldPop; below = fs })) ok
-go_mid w (Caller c) YieldPop fs e z fe ok = tt
-go_mid w (Worker a b) LocalPop fs e z fe ok = pop_mid w (Worker a b) (record { top = LocalPop; below = fs }) a b _ _ e (λ t. (refl, refl)) (λ u t. times_own ((w.shape.pool a).order) ((w.seat a b).own) t u) (all_tables w (Worker a b) (record { top = LocalPop; below = fs })) ok
-go_mid w (Caller c) LocalPop fs e z fe ok = tt
-go_mid w (Worker a b) (StealFrom k n) fs e z fe ok = pop_mid w (Worker a b) (record { top = StealFrom k n; below = fs }) a (k.victim) _ _ e (λ t. (refl, refl)) (λ u t. times_first ((w.seat a (k.victim)).own) t u) (all_tables w (Worker a b) (record { top = StealFrom k n; below = fs })) ok
-go_mid w (Caller c) (StealFrom k n) fs e z fe ok = tt
-go_mid w (Worker a b) (YieldSteal v n) fs e z fe ok = pop_mid w (Worker a b) (record { top = YieldSteal v n; below = fs }) a (v) _ _ e (λ t. (refl, refl)) (λ u t. times_first ((w.seat a (v)).own) t u) (all_tables w (Worker a b) (record { top = YieldSteal v n; below = fs })) ok
-go_mid w (Caller c) (YieldSteal v n) fs e z fe ok = tt
-go_mid w (Worker a b) (PopInjected k) fs e z fe ok = inj_mid w (Worker a b) (record { top = PopInjected k; below = fs }) a b ((w.pool a).injector) e (λ t. (refl, refl)) refl (all_tables w (Worker a b) (record { top = PopInjected k; below = fs })) ok
-go_mid w (Caller c) (PopInjected k) fs e z fe ok = tt
-go_mid w (Worker a b) YieldPopInjected fs e z fe ok = inj_mid w (Worker a b) (record { top = YieldPopInjected; below = fs }) a b ((w.pool a).injector) e (λ t. (refl, refl)) refl (all_tables w (Worker a b) (record { top = YieldPopInjected; below = fs })) ok
-go_mid w (Caller c) YieldPopInjected fs e z fe ok = tt
-go_mid w (Worker a b) (TakeCastWorking k) fs e z fe ok = cast_mid w (Worker a b) (record { top = TakeCastWorking k; below = fs }) a b ((w.pool a).casts b) e refl (λ t. (refl, refl)) refl (all_tables w (Worker a b) (record { top = TakeCastWorking k; below = fs })) ok
-go_mid w (Caller c) (TakeCastWorking k) fs e z fe ok = tt
-go_mid w (Worker a b) (TakeCastIdle k) fs e z fe ok = cast_mid w (Worker a b) (record { top = TakeCastIdle k; below = fs }) a b ((w.pool a).casts b) e refl (λ t. (refl, refl)) refl (all_tables w (Worker a b) (record { top = TakeCastIdle k; below = fs })) ok
-go_mid w (Caller c) (TakeCastIdle k) fs e z fe ok = tt
-go_mid w (Worker a b) (JoinTakeCast o) fs e z fe ok = cast_mid w (Worker a b) (record { top = JoinTakeCast o; below = fs }) a b ((w.pool a).casts b) e refl (λ t. (refl, refl)) refl (all_tables w (Worker a b) (record { top = JoinTakeCast o; below = fs })) ok
-go_mid w (Caller c) (JoinTakeCast o) fs e z fe ok = tt
-go_mid w (Worker a b) YieldTakeCast fs e z fe ok = cast_mid w (Worker a b) (record { top = YieldTakeCast; below = fs }) a b ((w.pool a).casts b) e refl (λ t. (refl, refl)) refl (all_tables w (Worker a b) (record { top = YieldTakeCast; below = fs })) ok
-go_mid w (Caller c) YieldTakeCast fs e z fe ok = tt
-go_mid w (Worker a b) LocalTakeCast fs e z fe ok = cast_mid w (Worker a b) (record { top = LocalTakeCast; below = fs }) a b ((w.pool a).casts b) e refl (λ t. (refl, refl)) refl (all_tables w (Worker a b) (record { top = LocalTakeCast; below = fs })) ok
-go_mid w (Caller c) LocalTakeCast fs e z fe ok = tt
-go_mid w q (BeginTask (Token n i)) fs e z fe ok = out_mid w q n i fs e ok
-go_mid w q (BeginTask (Plain u)) fs e z fe ok = begin_mid w q (BeginTask (Plain u)) u (λ k. Run u k) fs e (λ t. refl) (λ t. refl) (λ k t. refl) (λ k t. refl) refl ok
-go_mid w q (BeginHere u) fs e z fe ok = begin_mid w q (BeginHere u) u (λ k. Run u Direct) fs e (λ t. refl) (λ t. refl) (λ k t. refl) (λ k t. refl) refl ok
-go_mid w q (PushJob n v) fs e z fe ok = push_mid w q n v fs (is_member q (plan_pool n)) e (all_tables w q (record { top = PushJob n v; below = fs })) ok
-go_mid w (Worker a b) (PushToken f v) fs e z fe ok = token_mid w (Worker a b) f v fs e ok
-go_mid w (Caller c) (PushToken f v) fs e z fe ok = tt
-go_mid w (Worker a b) (AddToFifo f) fs e z fe ok = in_mid w (Worker a b) f fs e (fe (Worker a b) f.job (let a : all_fed f.job (w.stack (Worker a b)) ≡ ((one (f.job == f.job) + one (f.job == f.token)) + fed_in f.job fs) = ap (all_fed f.job) e in let o : one (f.job == f.job) ≡ 1 = ap one (eq-eqb f.job f.job refl) in omega (arith, a, o))) ok
-go_mid w (Caller c) (AddToFifo f) fs e z fe ok = tt
-go_mid w (Worker a b) (TakeFromFifo f) fs e z fe ok = undo_mid w (Worker a b) f fs e ok
-go_mid w (Caller c) (TakeFromFifo f) fs e z fe ok = tt
-go_mid w q (PushForAll c) fs e z fe ok = cc
-go_mid w q x fs e z fe ok = quiet_mid w q (record { top = x; below = fs }) e refl ok
+pub go_mid : (w : World) (q : Party) (x : Place) (fs : List Place) → w.stack q ≡ record { top = x; below = fs } → is_dealer x ≡ false → queues_whole x ≡ false → Feeds w → JobsOk w → Mid w q (record { top = x; below = fs })
+go_mid w (Worker a b) (PopWorking k) fs e z nq fe ok = pop_mid w (Worker a b) (record { top = PopWorking k; below = fs }) a b _ _ e (λ t. (refl, refl)) (λ u t. times_own ((w.shape.pool a).order) ((w.seat a b).own) t u) (all_tables w (Worker a b) (record { top = PopWorking k; below = fs })) ok
+go_mid w (Caller c) (PopWorking k) fs e z nq fe ok = tt
+go_mid w (Worker a b) (PopIdle k) fs e z nq fe ok = pop_mid w (Worker a b) (record { top = PopIdle k; below = fs }) a b _ _ e (λ t. (refl, refl)) (λ u t. times_own ((w.shape.pool a).order) ((w.seat a b).own) t u) (all_tables w (Worker a b) (record { top = PopIdle k; below = fs })) ok
+go_mid w (Caller c) (PopIdle k) fs e z nq fe ok = tt
+go_mid w (Worker a b) (JoinPop o) fs e z nq fe ok = pop_mid w (Worker a b) (record { top = JoinPop o; below = fs }) a b _ _ e (λ t. (refl, refl)) (λ u t. times_own ((w.shape.pool a).order) ((w.seat a b).own) t u) (all_tables w (Worker a b) (record { top = JoinPop o; below = fs })) ok
+go_mid w (Caller c) (JoinPop o) fs e z nq fe ok = tt
+go_mid w (Worker a b) YieldPop fs e z nq fe ok = pop_mid w (Worker a b) (record { top = YieldPop; below = fs }) a b _ _ e (λ t. (refl, refl)) (λ u t. times_own ((w.shape.pool a).order) ((w.seat a b).own) t u) (all_tables w (Worker a b) (record { top = YieldPop; below = fs })) ok
+go_mid w (Caller c) YieldPop fs e z nq fe ok = tt
+go_mid w (Worker a b) LocalPop fs e z nq fe ok = pop_mid w (Worker a b) (record { top = LocalPop; below = fs }) a b _ _ e (λ t. (refl, refl)) (λ u t. times_own ((w.shape.pool a).order) ((w.seat a b).own) t u) (all_tables w (Worker a b) (record { top = LocalPop; below = fs })) ok
+go_mid w (Caller c) LocalPop fs e z nq fe ok = tt
+go_mid w (Worker a b) (StealFrom k n) fs e z nq fe ok = pop_mid w (Worker a b) (record { top = StealFrom k n; below = fs }) a (k.victim) _ _ e (λ t. (refl, refl)) (λ u t. times_first ((w.seat a (k.victim)).own) t u) (all_tables w (Worker a b) (record { top = StealFrom k n; below = fs })) ok
+go_mid w (Caller c) (StealFrom k n) fs e z nq fe ok = tt
+go_mid w (Worker a b) (YieldSteal v n) fs e z nq fe ok = pop_mid w (Worker a b) (record { top = YieldSteal v n; below = fs }) a (v) _ _ e (λ t. (refl, refl)) (λ u t. times_first ((w.seat a (v)).own) t u) (all_tables w (Worker a b) (record { top = YieldSteal v n; below = fs })) ok
+go_mid w (Caller c) (YieldSteal v n) fs e z nq fe ok = tt
+go_mid w (Worker a b) (PopInjected k) fs e z nq fe ok = inj_mid w (Worker a b) (record { top = PopInjected k; below = fs }) a b ((w.pool a).injector) e (λ t. (refl, refl)) refl (all_tables w (Worker a b) (record { top = PopInjected k; below = fs })) ok
+go_mid w (Caller c) (PopInjected k) fs e z nq fe ok = tt
+go_mid w (Worker a b) YieldPopInjected fs e z nq fe ok = inj_mid w (Worker a b) (record { top = YieldPopInjected; below = fs }) a b ((w.pool a).injector) e (λ t. (refl, refl)) refl (all_tables w (Worker a b) (record { top = YieldPopInjected; below = fs })) ok
+go_mid w (Caller c) YieldPopInjected fs e z nq fe ok = tt
+go_mid w (Worker a b) (TakeCastWorking k) fs e z nq fe ok = cast_mid w (Worker a b) (record { top = TakeCastWorking k; below = fs }) a b ((w.pool a).casts b) e refl (λ t. (refl, refl)) refl (all_tables w (Worker a b) (record { top = TakeCastWorking k; below = fs })) ok
+go_mid w (Caller c) (TakeCastWorking k) fs e z nq fe ok = tt
+go_mid w (Worker a b) (TakeCastIdle k) fs e z nq fe ok = cast_mid w (Worker a b) (record { top = TakeCastIdle k; below = fs }) a b ((w.pool a).casts b) e refl (λ t. (refl, refl)) refl (all_tables w (Worker a b) (record { top = TakeCastIdle k; below = fs })) ok
+go_mid w (Caller c) (TakeCastIdle k) fs e z nq fe ok = tt
+go_mid w (Worker a b) (JoinTakeCast o) fs e z nq fe ok = cast_mid w (Worker a b) (record { top = JoinTakeCast o; below = fs }) a b ((w.pool a).casts b) e refl (λ t. (refl, refl)) refl (all_tables w (Worker a b) (record { top = JoinTakeCast o; below = fs })) ok
+go_mid w (Caller c) (JoinTakeCast o) fs e z nq fe ok = tt
+go_mid w (Worker a b) YieldTakeCast fs e z nq fe ok = cast_mid w (Worker a b) (record { top = YieldTakeCast; below = fs }) a b ((w.pool a).casts b) e refl (λ t. (refl, refl)) refl (all_tables w (Worker a b) (record { top = YieldTakeCast; below = fs })) ok
+go_mid w (Caller c) YieldTakeCast fs e z nq fe ok = tt
+go_mid w (Worker a b) LocalTakeCast fs e z nq fe ok = cast_mid w (Worker a b) (record { top = LocalTakeCast; below = fs }) a b ((w.pool a).casts b) e refl (λ t. (refl, refl)) refl (all_tables w (Worker a b) (record { top = LocalTakeCast; below = fs })) ok
+go_mid w (Caller c) LocalTakeCast fs e z nq fe ok = tt
+go_mid w q (BeginTask (Token n i b8)) fs e z nq fe ok = out_mid w q n i b8 fs e ok
+go_mid w q (BeginTask (Plain u)) fs e z nq fe ok = begin_mid w q (BeginTask (Plain u)) u (λ k. Run u k) fs e (λ t. refl) (λ t. refl) (λ k t. refl) (λ k t. refl) refl ok
+go_mid w q (BeginHere u) fs e z nq fe ok = begin_mid w q (BeginHere u) u (λ k. Run u Direct) fs e (λ t. refl) (λ t. refl) (λ k t. refl) (λ k t. refl) refl ok
+go_mid w q (PushJob n v) fs e z nq fe ok = push_mid w q n v fs (is_member q (plan_pool n)) e nq (all_tables w q (record { top = PushJob n v; below = fs })) ok
+go_mid w (Worker a b) (PushToken f v) fs e z nq fe ok = token_mid w (Worker a b) f v fs e ok
+go_mid w (Caller c) (PushToken f v) fs e z nq fe ok = tt
+go_mid w (Worker a b) (AddToFifo f) fs e z nq fe ok = in_mid w (Worker a b) f fs e (fe (Worker a b) f.job (let a : all_fed f.job (w.stack (Worker a b)) ≡ ((one (f.job == f.job) + one (f.job == f.token)) + fed_in f.job fs) = ap (all_fed f.job) e in let o : one (f.job == f.job) ≡ 1 = ap one (eq-eqb f.job f.job refl) in omega (arith, a, o))) ok
+go_mid w (Caller c) (AddToFifo f) fs e z nq fe ok = tt
+go_mid w (Worker a b) (TakeFromFifo f) fs e z nq fe ok = undo_mid w (Worker a b) f fs e ok
+go_mid w (Caller c) (TakeFromFifo f) fs e z nq fe ok = tt
+go_mid w q (PushForAll c) fs e z nq fe ok = cc
+go_mid w q (DealPieces g) fs e z nq fe ok = cc
+go_mid w q x fs e z nq fe ok = quiet_mid w q (record { top = x; below = fs }) e refl ok

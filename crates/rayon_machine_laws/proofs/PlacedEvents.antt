@@ -1,9 +1,12 @@
 -- each step keeps each job in its one place
-use Rattle.rayon_machine_places.specs.declared.place.Count.TheVariants.{OfPool}
+use Rattle.rayon_machine_places.specs.declared.place.Mark.{Mark as Marking}
+use Rattle.rayon_machine_places.specs.declared.place.Count.{Count}
+use Rattle.rayon_machine_places.specs.declared.place.Gathering.{Gathering}
+use Rattle.rayon_machine_places.specs.declared.place.Count.TheVariants.{OfPool, OfScope, OfCast}
 use Rattle.rayon_machine_laws.proofs.Lists.{times_push}
 use Rattle.rayon_machine_places.specs.declared.act.Seen.{Seen}
 use Rattle.rayon_machine_places.specs.declared.place.Then.{Then}
-use Rattle.rayon_machine_places.specs.declared.place.Mark.TheVariants.{Counted, Queued, Returned}
+use Rattle.rayon_machine_places.specs.declared.place.Mark.TheVariants.{Counted, Queued, Returned, Numbered, Dealt, Unnumbered}
 use Rattle.rayon_machine_places.specs.declared.place.Settling.{Settling}
 use Rattle.rayon_machine_places.specs.declared.place.Latch.TheVariants.{Terminate, OfCall}
 use Rattle.rayon_machine_places.specs.declared.place.Latch.{Latch}
@@ -16,11 +19,11 @@ use Rattle.rayon_machine_places.specs.declared.place.Party.{Party}
 use Rattle.rayon_machine_places.specs.declared.place.Party.TheVariants.{Worker, Caller}
 use Rattle.rayon_machine_places.specs.declared.place.JobKind.TheVariants.{Direct}
 use Rattle.rayon_machine_places.specs.declared.place.Plan.{Plan}
-use Rattle.rayon_machine_places.specs.declared.place.Plan.TheVariants.{Detach, Here, Send, Fork, Feed, Open, Enter}
+use Rattle.rayon_machine_places.specs.declared.place.Plan.TheVariants.{Detach, Here, Send, Fork, Feed, Open, Enter, Gather}
 use Rattle.rayon_machine_places.specs.declared.place.Share.TheVariants.{PoolValue}
-use Rattle.rayon_machine_places.specs.declared.place.Then.TheVariants.{Resume, BeginFound, LeaveWait, Await, RunFirst, Answers, Missing as NoAnswer, Ran, GiveBack, Called}
+use Rattle.rayon_machine_places.specs.declared.place.Then.TheVariants.{Resume, BeginFound, LeaveWait, Await, RunFirst, Answers, Missing as NoAnswer, Ran, GiveBack, Called, Gathers}
 use Rattle.rayon_machine_places.specs.declared.place.Place.{Place}
-use Rattle.rayon_machine_places.specs.declared.place.Place.TheVariants.{PickVictim, StealFrom, PopInjected, YieldPick, YieldSteal, YieldPopInjected, BeginHere, Run, RaiseCount, GrowCall, PushJob, AddToFifo, PushToken, LowerCount, ProbeWorking, RaiseForAll, PushForAll, SetLatch, UnlockSettled, GrowScope, OpenSlot}
+use Rattle.rayon_machine_places.specs.declared.place.Place.TheVariants.{PickVictim, StealFrom, PopInjected, YieldPick, YieldSteal, YieldPopInjected, BeginHere, Run, RaiseCount, GrowCall, PushJob, AddToFifo, PushToken, LowerCount, ProbeWorking, RaiseForAll, PushForAll, SetLatch, UnlockSettled, GrowScope, OpenSlot, OpenForAll, GrowCast, DealPieces}
 use Rattle.rayon_machine_places.specs.declared.place.Move.{Move}
 use Rattle.rayon_machine_places.specs.declared.place.Move.TheVariants.{Stay, Enter, StartRun, Back, HandBack, Discard, HandIn, Mark, HandAllBack}
 use Rattle.rayon_machine_places.specs.declared.act.Seen.TheVariants.{Refused, Missing, Start, Done, Yes}
@@ -30,16 +33,17 @@ use Rattle.rayon_machine_places.specs.declared.shape.PoolShape.{PoolShape}
 use Rattle.rayon_machine_places.specs.declared.place.Wait.{Wait}
 use Rattle.rayon_machine_places.specs.declared.state.Job.{Job}
 use Rattle.rayon_machine_places.specs.declared.state.Call.{Call}
-use Rattle.rayon_machine_places.specs.Places.{same_party, own_pool, own_index, next_victim, not_self, act_of, next_steal, next_yield, next_of, is_free, finish, after_set, call_all, after_push}
-use Rattle.rayon_machine_places.specs.World.{Seat, Pool, Stack, World, target_pool, target_worker, target_call, at_job, begun, Shape, Counts, Part, counts_at, casts_with, effect}
+use Rattle.rayon_machine_places.specs.Places.{same_party, own_pool, own_index, next_victim, not_self, act_of, next_steal, next_yield, next_of, is_free, finish, after_set, call_all, end_cast, gather_all}
+use Rattle.rayon_machine_places.specs.World.{Seat, Pool, Stack, World, target_pool, target_worker, target_call, at_job, begun, Shape, Counts, Part, counts_at, casts_with, effect, left_book, undealt_after, count_call, count_book}
 use Rattle.rayon_machine_places.specs.Steps.{put, put_stack, put_seat, back, after_move, handed_back, jobs_after, after_choice, after_refusal, can_miss, after_miss, after_call, is_pool, after_yield, after_end_pool, step, after, is_piece, mark_pieces, marked, part_of, put_pieces}
 use Rattle.rayon_machine_laws.specs.Once.{one, times, is_known, run_of, runs_in}
 use Rattle.rayon_machine_laws.proofs.Frame.{same_party_true, if_some_map, if_cond, if_some_all, if_some_and, piece_new, piece_old, pieces_same, put_same, same_index}
 use Rattle.rayon_machine_laws.proofs.Ties.{job_at, outcome, result}
-use Rattle.rayon_machine_laws.proofs.Hands.{hand_plan, hand, held_in, held, worked, paused}
+use Rattle.rayon_machine_laws.proofs.Hands.{hand_plan, hand, held_in, held, worked, paused, queues_whole}
 use Rattle.rayon_machine_laws.proofs.Feeds.{fed, fed_in, all_fed, fed_held, fed_after, fed_stacks}
 use Rattle.rayon_machine_laws.proofs.Located.{Loc, same_loc, loc_of, loc_at, is_loc, where_is, in_hand, weight, JobsPlaced, fits, JobsFit, is_left, is_past, IsOnward, onward_same, onward_left, onward_past, onward_known, Hand, Work, Deck, Cast, Inj, Line, onward_loc, unbegun}
-use Rattle.rayon_machine_laws.proofs.Placed.{Kept, JobsOk, Feeds, midway, job_new, job_old, gone_ok, begun_step, back_step, spent_step, go_mid, group_ok, is_dealer}
+pub use Rattle.rayon_machine_laws.proofs.Placed.{hand_push}
+use Rattle.rayon_machine_laws.proofs.Placed.{Kept, JobsOk, Feeds, midway, job_new, job_old, gone_ok, begun_step, back_step, spent_step, go_mid, group_ok, is_dealer, run_push}
 
 -- what comes into nobody's hand
 abbrev pub Calm : (ℕ → Job) → (ℕ → Job) → Type 0
@@ -67,7 +71,7 @@ kept_then w v u calm a b = record { placed = b.placed; fit = b.fit; onward = λ 
     go (Running q) y z f g = onward_left y z g f
     go (InDeque p i) y z f g = onward_left y z g f
     go (Injected p) y z f g = onward_left y z g f
-    go (InFifo p i) y z f g = onward_past y z g f
+    go (InFifo p i b7) y z f g = onward_past y z g f
     go (InCast p i) y z f g = onward_left y z g f
     go (Retaken q) y z f g = onward_past y z g f
     go (Over d) y z f g = subst (λ v. IsOnward v z) f g
@@ -97,7 +101,7 @@ drop_hand w q k l S P C J u j h r step ok = gone_ok (with_parts w q k S P C J) (
     shift (Deck p i) t = omega arith
     shift (Cast p i) t = omega arith
     shift (Inj p) t = omega arith
-    shift (Line p i) t = omega arith
+    shift (Line p i b7) t = omega arith
 
 -- the run that a move starts begins
 start_run : (w : World) (q : Party) (f : Place) (u : ℕ) (fs : List Place) (S : ℕ → ℕ → Seat) (P : ℕ → Pool) (C : ℕ → Call) (J : ℕ → Job) → JobsOk (with_parts w q (record { top = BeginHere u; below = f ∷ fs }) S P C J) → Kept (with_parts w q (record { top = BeginHere u; below = f ∷ fs }) S P C J) (with_parts w q (record { top = Run u Direct; below = f ∷ fs }) S P C (put J u (begun q (J u))))
@@ -117,7 +121,7 @@ start_run w q f u fs S P C J ok = gone_ok (with_parts w q (record { top = BeginH
     shift (Deck p i) t = omega arith
     shift (Cast p i) t = omega arith
     shift (Inj p) t = omega arith
-    shift (Line p i) t = omega arith
+    shift (Line p i b7) t = omega arith
 
 held_back : (t : ℕ) (fs : List Place) → held t (back fs) ≡ held_in t fs
 held_back t [] = refl
@@ -141,29 +145,6 @@ put_back_step J a u q e = by (u == a) e
     by true e = cc
     by false e = back_step (J u) q e
 
-hand_back : (w : World) (q : Party) (n : Plan) (fs : List Place) (S : ℕ → ℕ → Seat) (P : ℕ → Pool) (C : ℕ → Call) (J : ℕ → Job) → JobsOk (with_parts w q (record { top = RaiseCount n; below = fs }) S P C J) → Kept (with_parts w q (record { top = RaiseCount n; below = fs }) S P C J) (with_parts w q (back fs) S P C (handed_back n J))
-hand_back w q (Detach p u) fs S P C J ok = give_one w q (Detach p u) u fs S P C J (at_job (J u) HandedBack) (λ t. refl) (back_step (J u) q) ok
-hand_back w q (Here p u) fs S P C J ok = give_one w q (Here p u) u fs S P C J (at_job (J u) HandedBack) (λ t. refl) (back_step (J u) q) ok
-hand_back w q (Send o) fs S P C J ok = give_one w q (Send o) (o.job) fs S P C J (at_job (J (o.job)) HandedBack) (λ t. refl) (back_step (J (o.job)) q) ok
-hand_back w q (Open o) fs S P C J ok = give_one w q (Open o) (o.job) fs S P C J (at_job (J (o.job)) HandedBack) (λ t. refl) (back_step (J (o.job)) q) ok
-hand_back w q (Enter o) fs S P C J ok = give_one w q (Enter o) (o.job) fs S P C J (at_job (J (o.job)) HandedBack) (λ t. refl) (back_step (J (o.job)) q) ok
-hand_back w q (Feed d) fs S P C J ok = kept_then w1 w2 (with_parts w q (back fs) S P C (handed_back (Feed d) J)) (put_calm (put J (d.job) (at_job (J (d.job)) HandedBack)) (d.token) (at_job (J (d.token)) HandedBack) refl) one_gone
-    (give_one w q (Detach 0 (d.token)) (d.token) fs S P C (put J (d.job) (at_job (J (d.job)) HandedBack)) (at_job (J (d.token)) HandedBack) (λ t. refl) (put_back_step J (d.job) (d.token) q) (record { placed = one_gone.placed; fit = one_gone.fit }))
-  where
-    w1 : World
-    w1 = with_parts w q (record { top = RaiseCount (Feed d); below = fs }) S P C J
-
-    w2 : World
-    w2 = with_parts w q (record { top = RaiseCount (Detach 0 (d.token)); below = fs }) S P C (put J (d.job) (at_job (J (d.job)) HandedBack))
-
-    one_gone : Kept w1 w2
-    one_gone = drop_hand w q (record { top = RaiseCount (Feed d); below = fs }) (record { top = RaiseCount (Detach 0 (d.token)); below = fs }) S P C J (d.job) (at_job (J (d.job)) HandedBack) (λ t. omega arith) (λ t. omega arith) (back_step (J (d.job)) q) ok
-hand_back w q (Fork o a) fs S P C J ok = kept_then (with_parts w q (record { top = RaiseCount (Fork o a); below = fs }) S P C J) (with_parts w q (record { top = RaiseCount (Detach 0 (o.job)); below = fs }) S P C (put J a (at_job (J a) HandedBack))) (with_parts w q (back fs) S P C (handed_back (Fork o a) J)) (put_calm (put J a (at_job (J a) HandedBack)) (o.job) (at_job (J (o.job)) HandedBack) refl) one_gone
-    (give_one w q (Detach 0 (o.job)) (o.job) fs S P C (put J a (at_job (J a) HandedBack)) (at_job (J (o.job)) HandedBack) (λ t. refl) (put_back_step J a (o.job) q) (record { placed = one_gone.placed; fit = one_gone.fit }))
-  where
-    one_gone : Kept (with_parts w q (record { top = RaiseCount (Fork o a); below = fs }) S P C J) (with_parts w q (record { top = RaiseCount (Detach 0 (o.job)); below = fs }) S P C (put J a (at_job (J a) HandedBack)))
-    one_gone = drop_hand w q (record { top = RaiseCount (Fork o a); below = fs }) (record { top = RaiseCount (Detach 0 (o.job)); below = fs }) S P C J a (at_job (J a) HandedBack) (λ t. omega arith) (λ t. omega arith) (back_step (J a) q) ok
-
 -- the pieces of a refused broadcast leave the hand of the party that made them
 all_back : (w : World) (q : Party) (c : Pieces) (k l : Stack) (S : ℕ → ℕ → Seat) (P : ℕ → Pool) (C : ℕ → Call) (J : ℕ → Job) → ((t : ℕ) → held t l + one (is_piece c t) ≡ held t k) → ((t : ℕ) → worked t l ≡ worked t k) → JobsOk (with_parts w q k S P C J) → Kept (with_parts w q k S P C J) (with_parts w q l S P C (mark_pieces c Returned J))
 all_back w q c k l S P C J h r ok = group_ok (with_parts w q k S P C J) (with_parts w q l S P C (mark_pieces c Returned J)) (is_piece c) (Hand q) (λ t. None) (λ t. refl) shift (λ t z. (let n : mark_pieces c Returned J t ≡ J t = piece_old c (marked Returned c.pool) J t z in (ap (λ j. loc_at j) n, ap (λ j. j.at) n, ap (λ j. j.runs) n))) (λ t. refl) step ok
@@ -182,16 +163,52 @@ all_back w q c k l S P C J h r ok = group_ok (with_parts w q k S P C J) (with_pa
     shift (Deck p i) t = omega arith
     shift (Cast p i) t = omega arith
     shift (Inj p) t = omega arith
-    shift (Line p i) t = omega arith
+    shift (Line p i b7) t = omega arith
 
     step : (t : ℕ) → is_piece c t ≡ true → loc_at (J t) ≡ Some (Hand q) → (loc_at (mark_pieces c Returned J t) ≡ None) × fits ((mark_pieces c Returned J t).at) ((mark_pieces c Returned J t).runs) × IsOnward (J t).at (mark_pieces c Returned J t).at
     step t z e = let n : mark_pieces c Returned J t ≡ marked Returned c.pool (t - c.first) (J t) = piece_new c (marked Returned c.pool) J t z in
         (ap (λ j. loc_at j) n, subst (λ j. fits (j.at) (j.runs)) (sym n) (unbegun ((J t).at) ((J t).runs) (Hand q) refl e), subst (λ j. IsOnward ((J t).at) (j.at)) (sym n) (onward_loc ((J t).at) HandedBack ((J t).runs) (Hand q) e refl))
 
+hand_back : (w : World) (q : Party) (n : Plan) (fs : List Place) (S : ℕ → ℕ → Seat) (P : ℕ → Pool) (C : ℕ → Call) (J : ℕ → Job) → JobsOk (with_parts w q (record { top = RaiseCount n; below = fs }) S P C J) → Kept (with_parts w q (record { top = RaiseCount n; below = fs }) S P C J) (with_parts w q (back fs) S P C (handed_back n J))
+hand_back w q (Detach p u) fs S P C J ok = give_one w q (Detach p u) u fs S P C J (at_job (J u) HandedBack) (λ t. refl) (back_step (J u) q) ok
+hand_back w q (Here p u) fs S P C J ok = give_one w q (Here p u) u fs S P C J (at_job (J u) HandedBack) (λ t. refl) (back_step (J u) q) ok
+hand_back w q (Send o) fs S P C J ok = give_one w q (Send o) (o.job) fs S P C J (at_job (J (o.job)) HandedBack) (λ t. refl) (back_step (J (o.job)) q) ok
+hand_back w q (Open o) fs S P C J ok = give_one w q (Open o) (o.job) fs S P C J (at_job (J (o.job)) HandedBack) (λ t. refl) (back_step (J (o.job)) q) ok
+hand_back w q (Enter o) fs S P C J ok = give_one w q (Enter o) (o.job) fs S P C J (at_job (J (o.job)) HandedBack) (λ t. refl) (back_step (J (o.job)) q) ok
+hand_back w q (Gather g) fs S P C J ok = all_back w q g.pieces (record { top = RaiseCount (Gather g); below = fs }) (back fs) S P C J
+    (λ t. let b : held t (back fs) ≡ held_in t fs = held_back t fs in omega (arith, b))
+    (λ t. let b : worked t (back fs) ≡ runs_in t fs = worked_back t fs in omega (arith, b)) ok
+hand_back w q (Feed d) fs S P C J ok = kept_then w1 w2 (with_parts w q (back fs) S P C (handed_back (Feed d) J)) (put_calm (put J (d.job) (at_job (J (d.job)) HandedBack)) (d.token) (at_job (J (d.token)) HandedBack) refl) one_gone
+    (give_one w q (Detach 0 (d.token)) (d.token) fs S P C (put J (d.job) (at_job (J (d.job)) HandedBack)) (at_job (J (d.token)) HandedBack) (λ t. refl) (put_back_step J (d.job) (d.token) q) (record { placed = one_gone.placed; fit = one_gone.fit }))
+  where
+    w1 : World
+    w1 = with_parts w q (record { top = RaiseCount (Feed d); below = fs }) S P C J
+
+    w2 : World
+    w2 = with_parts w q (record { top = RaiseCount (Detach 0 (d.token)); below = fs }) S P C (put J (d.job) (at_job (J (d.job)) HandedBack))
+
+    one_gone : Kept w1 w2
+    one_gone = drop_hand w q (record { top = RaiseCount (Feed d); below = fs }) (record { top = RaiseCount (Detach 0 (d.token)); below = fs }) S P C J (d.job) (at_job (J (d.job)) HandedBack) (λ t. omega arith) (λ t. omega arith) (back_step (J (d.job)) q) ok
+hand_back w q (Fork o a) fs S P C J ok = kept_then (with_parts w q (record { top = RaiseCount (Fork o a); below = fs }) S P C J) (with_parts w q (record { top = RaiseCount (Detach 0 (o.job)); below = fs }) S P C (put J a (at_job (J a) HandedBack))) (with_parts w q (back fs) S P C (handed_back (Fork o a) J)) (put_calm (put J a (at_job (J a) HandedBack)) (o.job) (at_job (J (o.job)) HandedBack) refl) one_gone
+    (give_one w q (Detach 0 (o.job)) (o.job) fs S P C (put J a (at_job (J a) HandedBack)) (at_job (J (o.job)) HandedBack) (λ t. refl) (put_back_step J a (o.job) q) (record { placed = one_gone.placed; fit = one_gone.fit }))
+  where
+    one_gone : Kept (with_parts w q (record { top = RaiseCount (Fork o a); below = fs }) S P C J) (with_parts w q (record { top = RaiseCount (Detach 0 (o.job)); below = fs }) S P C (put J a (at_job (J a) HandedBack)))
+    one_gone = drop_hand w q (record { top = RaiseCount (Fork o a); below = fs }) (record { top = RaiseCount (Detach 0 (o.job)); below = fs }) S P C J a (at_job (J a) HandedBack) (λ t. omega arith) (λ t. omega arith) (back_step (J a) q) ok
+
 -- a move deals pieces
 abbrev pub is_dealing : Move → Bool
 is_dealing (Mark y c Queued) = true
+is_dealing (Mark y c Dealt) = true
 is_dealing _ = false
+
+-- what is told of pieces that stay where they are
+land_mark : (w : World) (q : Party) (y : Place) (c : Pieces) (k : Marking) (fs : List Place) (S : ℕ → ℕ → Seat) (P : ℕ → Pool) (C : ℕ → Call) (J : ℕ → Job) → ((i : ℕ) (j : Job) → loc_at (marked k c.pool i j) ≡ loc_at j) → ((i : ℕ) (j : Job) → (marked k c.pool i j).at ≡ j.at) → ((i : ℕ) (j : Job) → (marked k c.pool i j).runs ≡ j.runs) → JobsOk (with_parts w q (record { top = y; below = fs }) S P C J) → Kept (with_parts w q (record { top = y; below = fs }) S P C J) (with_parts w q (record { top = y; below = fs }) S P C (mark_pieces c k J))
+land_mark w q y c k fs S P C J la at ru ok = record {
+  placed = λ l t. ok.placed l t ∙ ap (is_loc l) (sym (pieces_same (λ j. loc_at j) c (marked k c.pool) J t la));
+  fit = λ t. subst (λ x. fits x ((mark_pieces c k J t).runs)) (sym (pieces_same (λ j. j.at) c (marked k c.pool) J t at)) (subst (λ n. fits ((J t).at) n) (sym (pieces_same (λ j. j.runs) c (marked k c.pool) J t ru)) (ok.fit t));
+  onward = λ t. onward_same ((J t).at) ((mark_pieces c k J t).at) (pieces_same (λ j. j.at) c (marked k c.pool) J t at);
+  made = λ t s z h. pieces_same (λ j. j.at) c (marked k c.pool) J t at;
+}
 
 -- the rest of an act: the move's run begins, or jobs are handed back
 land_ok : (w : World) (q : Party) (g : Move) (fs : List Place) (S : ℕ → ℕ → Seat) (P : ℕ → Pool) (C : ℕ → Call) (J : ℕ → Job) → is_dealing g ≡ false → JobsOk (with_parts w q (paused g fs) S P C J) → Kept (with_parts w q (paused g fs) S P C J) (with_parts w q (after_move g fs) S P C (jobs_after q g J))
@@ -214,7 +231,10 @@ land_ok w q (Mark y c Counted) fs S P C J d ok = record {
     pieces_fit : (t : ℕ) (z : Bool) → fits ((if z then record (J t) { counted = true } else J t).at) ((if z then record (J t) { counted = true } else J t).runs)
     pieces_fit t true = ok.fit t
     pieces_fit t false = ok.fit t
+land_ok w q (Mark y c (Numbered n)) fs S P C J d ok = land_mark w q y c (Numbered n) fs S P C J (λ i j. refl) (λ i j. refl) (λ i j. refl) ok
+land_ok w q (Mark y c Unnumbered) fs S P C J d ok = land_mark w q y c Unnumbered fs S P C J (λ i j. refl) (λ i j. refl) (λ i j. refl) ok
 land_ok w q (Mark y c Queued) fs S P C J d ok = cc
+land_ok w q (Mark y c Dealt) fs S P C J d ok = cc
 land_ok w q (Mark y c Returned) fs S P C J d ok = all_back w q c (record { top = y; below = RaiseForAll c ∷ fs }) (record { top = y; below = fs }) S P C J (λ t. omega arith) (λ t. omega arith) ok
 land_ok w q (HandAllBack c) fs S P C J d ok = all_back w q c (record { top = RaiseForAll c; below = fs }) (back fs) S P C J
     (λ t. let b : held t (back fs) ≡ held_in t fs = held_back t fs in omega (arith, b))
@@ -253,10 +273,14 @@ land_calm q (HandBack (Here p a)) J = put_calm J a (at_job (J a) HandedBack) ref
 land_calm q (HandBack (Send o)) J = put_calm J (o.job) (at_job (J (o.job)) HandedBack) refl
 land_calm q (HandBack (Open o)) J = put_calm J (o.job) (at_job (J (o.job)) HandedBack) refl
 land_calm q (HandBack (Enter o)) J = put_calm J (o.job) (at_job (J (o.job)) HandedBack) refl
+land_calm q (HandBack (Gather g)) J = pieces_calm g.pieces (marked Returned g.pieces.pool) J (λ i j. refl)
 land_calm q (HandBack (Feed d)) J = two_calm J (d.job) (d.token)
 land_calm q (HandBack (Fork o a)) J = two_calm J a (o.job)
 land_calm q (Discard k) J = put_calm J k (at_job (J k) Spent) refl
 land_calm q (Mark y c Counted) J = λ t h. (pieces_same (λ j. loc_at j) c (marked Counted c.pool) J t (λ i j. refl), pieces_same (λ j. j.at) c (marked Counted c.pool) J t (λ i j. refl))
+land_calm q (Mark y c (Numbered n)) J = λ t h. (pieces_same (λ j. loc_at j) c (marked (Numbered n) c.pool) J t (λ i j. refl), pieces_same (λ j. j.at) c (marked (Numbered n) c.pool) J t (λ i j. refl))
+land_calm q (Mark y c Unnumbered) J = λ t h. (pieces_same (λ j. loc_at j) c (marked Unnumbered c.pool) J t (λ i j. refl), pieces_same (λ j. j.at) c (marked Unnumbered c.pool) J t (λ i j. refl))
+land_calm q (Mark y c Dealt) J = pieces_calm c (marked Dealt c.pool) J (λ i j. cast_hand c.pool i (j.runs))
 land_calm q (Mark y c Queued) J = pieces_calm c (marked Queued c.pool) J (λ i j. cast_hand c.pool i (j.runs))
 land_calm q (Mark y c Returned) J = pieces_calm c (marked Returned c.pool) J (λ i j. refl)
 land_calm q (HandAllBack c) J = pieces_calm c (marked Returned c.pool) J (λ i j. refl)
@@ -266,6 +290,7 @@ finish_deals q (BeginFound g t) = refl
 finish_deals q (LeaveWait g) = refl
 finish_deals q Resume = refl
 finish_deals q Called = refl
+finish_deals q (Gathers o) = refl
 finish_deals q (Await o) = refl
 finish_deals q (RunFirst o a) = refl
 finish_deals q (Answers o f e) = refl
@@ -289,6 +314,7 @@ set_deals h q s _ = settled_deals h q s s.latch
 pub no_deals : (h : Shape) (g : PoolShape) (q : Party) (c : Counts) (m : Part) (x : Place) → is_dealer x ≡ false → IfSome (effect (act_of q x) h q c m) (λ r. is_dealing (next_of g q x (r.0)) ≡ false)
 no_deals h g (Worker i j) c m (ProbeWorking k) z = search (rules, arith)
 no_deals h g q c m (PushForAll b) z = cc
+no_deals h g q c m (DealPieces b) z = cc
 no_deals h g q c m (SetLatch s) z = if_some_all {A = Seen × Part} (λ r. is_dealing (next_of g q (SetLatch s) (r.0)) ≡ false) (λ r. set_deals g q s (r.0)) (effect (act_of q (SetLatch s)) h q c m)
 no_deals h g q c m (UnlockSettled s) z = if_some_all {A = Seen × Part} (λ r. is_dealing (next_of g q (UnlockSettled s) (r.0)) ≡ false) (λ r. settled_deals g q s s.latch) (effect (act_of q (UnlockSettled s)) h q c m)
 no_deals h g (Worker i j) c m _ z = search (rules, arith)
@@ -296,7 +322,11 @@ no_deals h g (Caller n) c m _ z = search (rules, arith)
 
 -- the world after the pieces of a broadcast are dealt
 abbrev pub dealt_world : World → Party → Pieces → List Place → ℕ → World
-dealt_world w q c fs i0 = after w q (record { top = PushForAll c; below = fs }) c.pool i0 0 0 (Done, record (part_of w c.pool i0 0 0) { pool = record (w.pool c.pool) { casts = casts_with c (w.pool c.pool).casts } })
+dealt_world w q c fs i0 = after w q (record { top = PushForAll c; below = fs }) c.pool i0 (count_call c.count) 0 (Done, record (part_of w c.pool i0 (count_call c.count) 0) { pool = record (w.pool c.pool) { casts = casts_with c (w.pool c.pool).casts }; call = record (w.call (count_call c.count)) { writer = left_book q (count_book c.count) (w.call (count_call c.count)).writer; undealt = undealt_after c.count (w.call (count_call c.count)).undealt } })
+
+-- the same of a broadcast that waits
+abbrev pub gathered_world : World → Party → Gathering → List Place → ℕ → World
+gathered_world w q d fs i0 = after w q (record { top = DealPieces d; below = fs }) d.pieces.pool i0 (count_call d.pieces.count) 0 (Done, record (part_of w d.pieces.pool i0 (count_call d.pieces.count) 0) { pool = record (w.pool d.pieces.pool) { casts = casts_with d.pieces (w.pool d.pieces.pool).casts }; call = record (w.call (count_call d.pieces.count)) { writer = left_book q (count_book d.pieces.count) (w.call (count_call d.pieces.count)).writer; undealt = undealt_after d.pieces.count (w.call (count_call d.pieces.count)).undealt } })
 
 -- whose piece this number is
 own_piece : (a n i t : ℕ) → nat_lt i n ≡ true → (t == (a + i)) ≡ ((i == (t - a)) && (nat_le a t && nat_lt t (a + n)))
@@ -346,7 +376,7 @@ deal_ok w q c fs i0 e ok = group_ok w (dealt_world w q c fs i0) (is_piece c) (Ha
         by true z = let a : worked t (w.stack g) ≡ (0 + runs_in t fs) = ap (worked t) (ap w.stack (same_party_true g q z) ∙ e) in omega (arith, a)
         by false z = omega arith
     shift (Deck p i) t = let a : times t (put_seat w.seat c.pool i0 (w.seat c.pool i0) p i).own ≡ times t (w.seat p i).own = ap (λ s. times t s.own) (seat p i) in omega (arith, a)
-    shift (Line p i) t = let a : times t (put_seat w.seat c.pool i0 (w.seat c.pool i0) p i).fifo ≡ times t (w.seat p i).fifo = ap (λ s. times t s.fifo) (seat p i) in omega (arith, a)
+    shift (Line p i b7) t = let a : times t ((put_seat w.seat c.pool i0 (w.seat c.pool i0) p i).fifo b7) ≡ times t ((w.seat p i).fifo b7) = ap (λ s. times t (s.fifo b7)) (seat p i) in omega (arith, a)
     shift (Inj p) t = let a : times t (put w.pool c.pool (record (w.pool c.pool) { casts = casts_with c (w.pool c.pool).casts }) p).injector ≡ times t (w.pool p).injector = put_same (λ v. times t v.injector) w.pool c.pool (record (w.pool c.pool) { casts = casts_with c (w.pool c.pool).casts }) p refl in omega (arith, a)
     shift (Cast p i) t = by (p == c.pool) refl
       where
@@ -364,18 +394,77 @@ deal_kept : (w : World) (q : Party) (c : Pieces) (fs : List Place) → w.stack q
 deal_kept w (Worker a b) c fs e ok = deal_ok w (Worker a b) c fs b e ok
 deal_kept w (Caller n) c fs e ok = deal_ok w (Caller n) c fs 0 e ok
 
+pub gather_ok : (w : World) (q : Party) (d : Gathering) (fs : List Place) (i0 : ℕ) → w.stack q ≡ record { top = DealPieces d; below = fs } → JobsOk w → Kept w (gathered_world w q d fs i0)
+gather_ok w q d fs i0 e ok = group_ok w (gathered_world w q d fs i0) (is_piece c) (Hand q) (λ t. Some (Cast c.pool (t - c.first))) (λ t. refl) shift rest (λ t. refl) step ok
+  where
+    c : Pieces
+    c = d.pieces
+
+    J : ℕ → Job
+    J = put w.job 0 (w.job 0)
+
+    now : (t : ℕ) → is_piece c t ≡ true → mark_pieces c Dealt J t ≡ marked Dealt c.pool (t - c.first) (J t)
+    now t z = piece_new c (marked Dealt c.pool) J t z
+
+    rest : (t : ℕ) → is_piece c t ≡ false → (loc_at (mark_pieces c Dealt J t) ≡ loc_at (w.job t)) × ((mark_pieces c Dealt J t).at ≡ (w.job t).at) × ((mark_pieces c Dealt J t).runs ≡ (w.job t).runs)
+    rest t z = let n : mark_pieces c Dealt J t ≡ J t = piece_old c (marked Dealt c.pool) J t z in
+        (ap (λ j. loc_at j) n ∙ put_same (λ j. loc_at j) w.job 0 (w.job 0) t refl, ap (λ j. j.at) n ∙ put_same (λ j. j.at) w.job 0 (w.job 0) t refl, ap (λ j. j.runs) n ∙ put_same (λ j. j.runs) w.job 0 (w.job 0) t refl)
+
+    step : (t : ℕ) → is_piece c t ≡ true → loc_at (w.job t) ≡ Some (Hand q) → (loc_at (mark_pieces c Dealt J t) ≡ Some (Cast c.pool (t - c.first))) × fits ((mark_pieces c Dealt J t).at) ((mark_pieces c Dealt J t).runs) × IsOnward (w.job t).at (mark_pieces c Dealt J t).at
+    step t z l =
+        let r : (J t).runs ≡ 0 = put_same (λ j. j.runs) w.job 0 (w.job 0) t refl ∙ unbegun ((w.job t).at) ((w.job t).runs) (Hand q) refl l in
+        (ap (λ j. loc_at j) (now t z) ∙ ap (λ n. loc_of (InCast c.pool (t - c.first)) n) r, subst (λ j. fits (j.at) (j.runs)) (sym (now t z)) r, subst (λ j. IsOnward ((w.job t).at) (j.at)) (sym (now t z)) (onward_loc ((w.job t).at) (InCast c.pool (t - c.first)) ((w.job t).runs) (Hand q) l refl))
+
+    seat : (p i : ℕ) → put_seat w.seat c.pool i0 (w.seat c.pool i0) p i ≡ w.seat p i
+    seat p i = by ((p == c.pool) && (i == i0)) refl
+      where
+        by : (z : Bool) → ((p == c.pool) && (i == i0)) ≡ z → (if z then w.seat c.pool i0 else w.seat p i) ≡ w.seat p i
+        by true z = let n : (p ≡ c.pool) × (i ≡ i0) = same_index p i c.pool i0 z in ap (λ j. w.seat j i0) (sym (n.0)) ∙ ap (λ j. w.seat p j) (sym (n.1))
+        by false z = refl
+
+    shift : (a : Loc) (t : ℕ) → weight (gathered_world w q d fs i0) a t + one (same_loc a (Hand q) && is_piece c t) ≡ weight w a t + one (same_loc a (Cast c.pool (t - c.first)) && is_piece c t)
+    shift (Hand g) t = by (same_party g q) refl
+      where
+        by : (z : Bool) → same_party g q ≡ z → held t (if z then record { top = gather_all (w.shape.pool c.pool) d.call; below = fs } else w.stack g) + one (z && is_piece c t) ≡ held t (w.stack g) + 0
+        by true z = let a : held t (w.stack g) ≡ (one (is_piece c t) + held_in t fs) = ap (held t) (ap w.stack (same_party_true g q z) ∙ e) in omega (arith, a)
+        by false z = omega arith
+    shift (Work g) t = by (same_party g q) refl
+      where
+        by : (z : Bool) → same_party g q ≡ z → worked t (if z then record { top = gather_all (w.shape.pool c.pool) d.call; below = fs } else w.stack g) + 0 ≡ worked t (w.stack g) + 0
+        by true z = let a : worked t (w.stack g) ≡ (0 + runs_in t fs) = ap (worked t) (ap w.stack (same_party_true g q z) ∙ e) in omega (arith, a)
+        by false z = omega arith
+    shift (Deck p i) t = let a : times t (put_seat w.seat c.pool i0 (w.seat c.pool i0) p i).own ≡ times t (w.seat p i).own = ap (λ s. times t s.own) (seat p i) in omega (arith, a)
+    shift (Line p i b7) t = let a : times t ((put_seat w.seat c.pool i0 (w.seat c.pool i0) p i).fifo b7) ≡ times t ((w.seat p i).fifo b7) = ap (λ s. times t (s.fifo b7)) (seat p i) in omega (arith, a)
+    shift (Inj p) t = let a : times t (put w.pool c.pool (record (w.pool c.pool) { casts = casts_with c (w.pool c.pool).casts }) p).injector ≡ times t (w.pool p).injector = put_same (λ v. times t v.injector) w.pool c.pool (record (w.pool c.pool) { casts = casts_with c (w.pool c.pool).casts }) p refl in omega (arith, a)
+    shift (Cast p i) t = by (p == c.pool) refl
+      where
+        lists : (z : Bool) → nat_lt i c.workers ≡ z → times t (if z then (w.pool c.pool).casts i ++ (c.first + i) ∷ [] else (w.pool c.pool).casts i) + 0 ≡ times t ((w.pool c.pool).casts i) + one ((i == (t - c.first)) && is_piece c t)
+        lists true z = let a : times t ((w.pool c.pool).casts i ++ (c.first + i) ∷ []) ≡ (times t ((w.pool c.pool).casts i) + one (t == (c.first + i))) = times_push ((w.pool c.pool).casts i) t (c.first + i) in
+            let b : one (t == (c.first + i)) ≡ one ((i == (t - c.first)) && is_piece c t) = ap one (own_piece c.first c.workers i t z) in omega (arith, a, b)
+        lists false z = let b : one ((i == (t - c.first)) && is_piece c t) ≡ 0 = ap one (no_own_piece c.first c.workers i t z) in omega (arith, b)
+
+        by : (z : Bool) → (p == c.pool) ≡ z → times t ((if z then record (w.pool c.pool) { casts = casts_with c (w.pool c.pool).casts } else w.pool p).casts i) + 0 ≡ times t ((w.pool p).casts i) + one ((z && (i == (t - c.first))) && is_piece c t)
+        by true z = let a : times t ((w.pool c.pool).casts i) ≡ times t ((w.pool p).casts i) = ap (λ n. times t ((w.pool n).casts i)) (sym (eqb-true p c.pool z)) in
+            let b : times t (casts_with c (w.pool c.pool).casts i) + 0 ≡ times t ((w.pool c.pool).casts i) + one ((i == (t - c.first)) && is_piece c t) = lists (nat_lt i c.workers) refl in omega (arith, a, b)
+        by false z = omega arith
+
+gather_kept : (w : World) (q : Party) (d : Gathering) (fs : List Place) → w.stack q ≡ record { top = DealPieces d; below = fs } → JobsOk w → IfSome (outcome w q (record { top = DealPieces d; below = fs })) (λ r. Kept w (result w q (record { top = DealPieces d; below = fs }) r))
+gather_kept w (Worker a b) d fs e ok = gather_ok w (Worker a b) d fs b e ok
+gather_kept w (Caller n) d fs e ok = gather_ok w (Caller n) d fs 0 e ok
+
 -- each act keeps each job in its one place
-top_kept : (w : World) (q : Party) (x : Place) (fs : List Place) → w.stack q ≡ record { top = x; below = fs } → Feeds w → JobsOk w → IfSome (outcome w q (record { top = x; below = fs })) (λ r. Kept w (result w q (record { top = x; below = fs }) r))
-top_kept w q (PushForAll c) fs e fe ok = deal_kept w q c fs e ok
-top_kept w q x fs e fe ok =
+top_kept : (w : World) (q : Party) (x : Place) (fs : List Place) → w.stack q ≡ record { top = x; below = fs } → queues_whole x ≡ false → Feeds w → JobsOk w → IfSome (outcome w q (record { top = x; below = fs })) (λ r. Kept w (result w q (record { top = x; below = fs }) r))
+top_kept w q (PushForAll c) fs e nq fe ok = deal_kept w q c fs e ok
+top_kept w q (DealPieces d) fs e nq fe ok = gather_kept w q d fs e ok
+top_kept w q x fs e nq fe ok =
     let k : Stack = record { top = x; below = fs } in let p0 = target_pool q (act_of q x) in let i0 = target_worker q (act_of q x) in let c0 = target_call (act_of q x) in let n0 = job_at w q (act_of q x) in
     if_some_map (λ r. Kept w (midway w q k p0 i0 c0 n0 r) × (is_dealing (next_of (w.shape.pool p0) q x (r.0)) ≡ false)) (λ r. Kept w (result w q k r))
     (λ r b. let m : Kept w (midway w q k p0 i0 c0 n0 r) = b.0 in kept_then w (midway w q k p0 i0 c0 n0 r) (result w q k r) (land_calm q (next_of (w.shape.pool p0) q x (r.0)) (put w.job n0 (r.1.job))) m
     (land_ok w q (next_of (w.shape.pool p0) q x (r.0)) fs (put_seat w.seat p0 i0 (r.1.seat)) (put w.pool p0 (r.1.pool)) (put w.call c0 (r.1.call)) (put w.job n0 (r.1.job)) (b.1) (record { placed = m.placed; fit = m.fit })))
-    (outcome w q k) (if_some_and (λ r. Kept w (midway w q k p0 i0 c0 n0 r)) (λ r. is_dealing (next_of (w.shape.pool p0) q x (r.0)) ≡ false) (outcome w q k) (go_mid w q x fs e refl fe ok) (no_deals w.shape (w.shape.pool p0) q (counts_at w p0) (part_of w p0 i0 c0 n0) x refl))
+    (outcome w q k) (if_some_and (λ r. Kept w (midway w q k p0 i0 c0 n0 r)) (λ r. is_dealing (next_of (w.shape.pool p0) q x (r.0)) ≡ false) (outcome w q k) (go_mid w q x fs e refl nq fe ok) (no_deals w.shape (w.shape.pool p0) q (counts_at w p0) (part_of w p0 i0 c0 n0) x refl))
 
-pub go_kept : (w : World) (q : Party) → Feeds w → JobsOk w → IfSome (outcome w q (w.stack q)) (λ r. Kept w (result w q (w.stack q) r))
-go_kept w q fe ok = top_kept w q ((w.stack q).top) ((w.stack q).below) refl fe ok
+pub go_kept : (w : World) (q : Party) → queues_whole (w.stack q).top ≡ false → Feeds w → JobsOk w → IfSome (outcome w q (w.stack q)) (λ r. Kept w (result w q (w.stack q) r))
+go_kept w q nq fe ok = top_kept w q ((w.stack q).top) ((w.stack q).below) refl nq fe ok
 
 -- numbers not yet given out have no job
 abbrev pub Unmade : World → Type 0
@@ -392,7 +481,7 @@ IsFinal Nowhere b = ⊤
 IsFinal (Over e) b = b ≡ Over e
 IsFinal HandedBack b = b ≡ HandedBack
 IsFinal Spent b = b ≡ Spent
-IsFinal (InFifo p i) b = is_past b ≡ true
+IsFinal (InFifo p i b7) b = is_past b ≡ true
 IsFinal (Retaken q) b = is_past b ≡ true
 IsFinal _ b = is_left b ≡ true
 
@@ -405,7 +494,7 @@ final_onward Nowhere b h = tt
 final_onward (Running q) b h = h
 final_onward (InDeque p i) b h = h
 final_onward (Injected p) b h = h
-final_onward (InFifo p i) b h = h
+final_onward (InFifo p i b7) b h = h
 final_onward (InCast p i) b h = h
 final_onward (Retaken q) b h = h
 
@@ -418,7 +507,7 @@ final_left Spent b h z = ap is_left h
 final_left (Running q) b h z = h
 final_left (InDeque p i) b h z = h
 final_left (Injected p) b h z = h
-final_left (InFifo p i) b h z = cc
+final_left (InFifo p i b7) b h z = cc
 final_left (InCast p i) b h z = h
 final_left (Retaken q) b h z = cc
 
@@ -465,7 +554,7 @@ restack_ok w q k P h r inj casts le ok un = kept_advance w (record w { stack = p
         by false z = (ok.placed) (Work g) t
     placed (Deck p i) t = (ok.placed) (Deck p i) t
     placed (Cast p i) t = subst (λ f. times t (f i) ≡ is_loc (Cast p i) (loc_at (w.job t))) (sym (casts p)) ((ok.placed) (Cast p i) t)
-    placed (Line p i) t = (ok.placed) (Line p i) t
+    placed (Line p i b7) t = (ok.placed) (Line p i b7) t
     placed (Inj p) t = subst (λ f. times t f ≡ is_loc (Inj p) (loc_at (w.job t))) (sym (inj p)) ((ok.placed) (Inj p) t)
 
 -- the same where the old top is known
@@ -480,21 +569,21 @@ from_kept w q (PickVictim k) fs v e ok un = if_cond (Advance w) (nat_lt v (w.sha
 from_kept w q YieldPick fs v e ok un = if_cond (Advance w) (nat_lt v (w.shape.pool (own_pool q)).workers) _ (λ z. retop_ok w q YieldPick fs _ e (λ t. omega arith) (λ t. omega arith) (λ t. fed_after (w.shape.pool (own_pool q)) q t YieldPick fs (Start v)) ok un)
 from_kept w q _ fs v e ok un = tt
 
-pub hand_push : (t : ℕ) (n : Plan) → hand t (after_push n) ≡ hand_plan t n
-hand_push t (Enter e) = refl
-hand_push t _ = refl
-
-run_push : (t : ℕ) (n : Plan) → run_of t (after_push n) ≡ 0
-run_push t (Enter e) = refl
-run_push t _ = refl
+hand_end : (t : ℕ) (c : Pieces) (k : Count) → (hand t (end_cast k c) ≡ one (is_piece c t)) × (run_of t (end_cast k c) ≡ 0)
+hand_end t c (OfPool p) = (refl, refl)
+hand_end t c (OfScope n o) = (refl, refl)
+hand_end t c (OfCast n o) = (refl, refl)
 
 pub refuse_kept : (w : World) (q : Party) (x : Place) (fs : List Place) → w.stack q ≡ record { top = x; below = fs } → JobsOk w → Unmade w → IfSome (after_refusal w q (record { top = x; below = fs })) (Advance w)
 refuse_kept w q (GrowCall n) fs e ok un = retop_ok w q (GrowCall n) fs _ e (λ t. omega arith) (λ t. omega arith) (λ t. fed_after (w.shape.pool (own_pool q)) q t (GrowCall n) fs Refused) ok un
 refuse_kept w q (GrowScope n) fs e ok un = retop_ok w q (GrowScope n) fs _ e (λ t. omega arith) (λ t. omega arith) (λ t. fed_after (w.shape.pool (own_pool q)) q t (GrowScope n) fs Refused) ok un
 refuse_kept w q (OpenSlot n) fs e ok un = retop_ok w q (OpenSlot n) fs _ e (λ t. omega arith) (λ t. omega arith) (λ t. fed_after (w.shape.pool (own_pool q)) q t (OpenSlot n) fs Refused) ok un
-refuse_kept w q (AddToFifo f) fs e ok un = retop_ok w q (AddToFifo f) fs _ e (λ t. omega arith) (λ t. omega arith) (λ t. fed_after (w.shape.pool (own_pool q)) q t (AddToFifo f) fs Refused) ok un
+refuse_kept w q (AddToFifo f) fs e ok un = retop_ok w q (AddToFifo f) fs _ e (λ t. ap (λ z. z + held_in t fs) (hand_push t (Feed f))) (λ t. ap (λ z. z + runs_in t fs) (run_push t (Feed f))) (λ t. fed_after (w.shape.pool (own_pool q)) q t (AddToFifo f) fs Refused) ok un
 refuse_kept w q (PushToken f v) fs e ok un = retop_ok w q (PushToken f v) fs _ e (λ t. omega arith) (λ t. omega arith) (λ t. fed_after (w.shape.pool (own_pool q)) q t (PushToken f v) fs Refused) ok un
-refuse_kept w q (PushForAll c) fs e ok un = retop_ok w q (PushForAll c) fs _ e (λ t. omega arith) (λ t. omega arith) (λ t. fed_after (w.shape.pool (own_pool q)) q t (PushForAll c) fs Refused) ok un
+refuse_kept w q (OpenForAll c) fs e ok un = retop_ok w q (OpenForAll c) fs _ e (λ t. omega arith) (λ t. omega arith) (λ t. fed_after (w.shape.pool (own_pool q)) q t (OpenForAll c) fs Refused) ok un
+refuse_kept w q (GrowCast d) fs e ok un = retop_ok w q (GrowCast d) fs _ e (λ t. omega arith) (λ t. omega arith) (λ t. fed_after (w.shape.pool (own_pool q)) q t (GrowCast d) fs Refused) ok un
+refuse_kept w q (DealPieces d) fs e ok un = retop_ok w q (DealPieces d) fs _ e (λ t. omega arith) (λ t. omega arith) (λ t. fed_after (w.shape.pool (own_pool q)) q t (DealPieces d) fs Refused) ok un
+refuse_kept w q (PushForAll c) fs e ok un = retop_ok w q (PushForAll c) fs _ e (λ t. ap (λ z. z + held_in t fs) ((hand_end t c c.count).0)) (λ t. ap (λ z. z + runs_in t fs) ((hand_end t c c.count).1)) (λ t. fed_after (w.shape.pool (own_pool q)) q t (PushForAll c) fs Refused) ok un
 refuse_kept w q (PushJob n v) fs e ok un = retop_ok w q (PushJob n v) fs _ e (λ t. ap (λ z. z + held_in t fs) (hand_push t n)) (λ t. ap (λ z. z + runs_in t fs) (run_push t n)) (λ t. fed_after (w.shape.pool (own_pool q)) q t (PushJob n v) fs Refused) ok un
 refuse_kept w q _ fs e ok un = tt
 

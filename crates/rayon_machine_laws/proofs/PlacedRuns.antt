@@ -1,8 +1,10 @@
 -- each job is in its one place, once, in every world of every run
+use Rattle.rayon_machine_places.specs.declared.place.Count.TheVariants.{OfPool, OfScope, OfCast}
+use Rattle.rayon_machine_places.specs.declared.place.Count.{Count}
 use Rattle.rayon_machine_places.specs.declared.place.Pieces.{Pieces}
 use Rattle.rayon_machine_places.specs.declared.state.Scope.{Scope}
 use Rattle.std.proofs.Common.{arith, refl, sym, ◌∙◌, ap, subst, inl, inr}
-use Rattle.std.specs.Prelude.{ℕ, Bool, true, false, ◌&&◌, ◌+◌, ◌==◌, ◌≤◌, ◌<◌, nat_lt, if◌then◌else◌, Some, None, List, [], ◌∷◌, ◌≡◌, IfSome, suc, zero, ◌-◌, ◌++◌}
+use Rattle.std.specs.Prelude.{ℕ, Bool, true, false, ◌&&◌, ◌+◌, ◌==◌, ◌≤◌, ◌<◌, nat_lt, if◌then◌else◌, Some, None, List, [], ◌∷◌, ◌≡◌, IfSome, suc, zero, ◌-◌, ◌++◌, Option}
 use Rattle.std.proofs.lemmas.Bool.{eqb-true, eq-eqb, ltb-true, ltb-false}
 use Rattle.std.proofs.Math.Dec.{ltb}
 use Rattle.rayon_machine_places.specs.declared.place.Party.{Party}
@@ -10,31 +12,30 @@ use Rattle.rayon_machine_places.specs.declared.place.Party.TheVariants.{Worker, 
 use Rattle.rayon_machine_places.specs.declared.place.Ending.{Ending}
 use Rattle.rayon_machine_places.specs.declared.place.Ending.TheVariants.{Fine, Fault}
 use Rattle.rayon_machine_places.specs.declared.place.JobKind.{JobKind}
-use Rattle.rayon_machine_places.specs.declared.place.JobKind.TheVariants.{Detached, Stored, Direct, TokenOf, Scoped, BodyOf}
+use Rattle.rayon_machine_places.specs.declared.place.JobKind.TheVariants.{Detached, Stored, Direct, TokenOf, Scoped, BodyOf, PieceOf, WholeOf}
 use Rattle.rayon_machine_places.specs.declared.place.Target.TheVariants.{Termination}
 use Rattle.rayon_machine_places.specs.declared.place.Plan.{Plan}
-use Rattle.rayon_machine_places.specs.declared.place.Plan.TheVariants.{Detach, Here, Send, Fork, Feed, Open, Enter}
+use Rattle.rayon_machine_places.specs.declared.place.Plan.TheVariants.{Detach, Here, Send, Fork, Feed, Open, Enter, Gather}
 use Rattle.rayon_machine_places.specs.declared.place.Place.{Place}
 use Rattle.rayon_machine_places.specs.declared.place.Place.TheVariants.{ProbeWorking, YieldPop, LocalPop, Run, RaiseCount, FirstSide, Free, Stopped, RaiseForAll}
 use Rattle.rayon_machine_places.specs.declared.act.Seen.{Seen}
 use Rattle.rayon_machine_places.specs.declared.event.Event.{Event}
-use Rattle.rayon_machine_places.specs.declared.event.Event.TheVariants.{Go, From, Refuse, Miss, End, Spawn, Fifo, Install, Join, Yield, YieldLocal, EndPool, Cast as CastEvent, Scope as OpenScope, IntoSpawn}
+use Rattle.rayon_machine_places.specs.declared.event.Event.TheVariants.{Go, From, Refuse, Miss, End, Spawn, Fifo, Install, Join, Yield, YieldLocal, EndPool, Cast as CastEvent, Scope as OpenScope, IntoSpawn, IntoFifo, IntoCast, Broadcast}
 use Rattle.rayon_machine_places.specs.declared.state.Whereabouts.{Whereabouts}
 use Rattle.rayon_machine_places.specs.declared.state.Whereabouts.TheVariants.{Nowhere, Made, InDeque, Injected, InFifo, Retaken, Running, Over, HandedBack, Spent, InCast}
 use Rattle.rayon_machine_places.specs.declared.state.Job.{Job}
 use Rattle.rayon_machine_places.specs.declared.state.Call.{Call}
-use Rattle.rayon_machine_places.specs.Places.{same_party, is_member, fresh, act_of, next_of, goes_on, is_free}
+use Rattle.rayon_machine_places.specs.Places.{same_party, is_member, fresh, act_of, next_of, goes_on, is_free, count_kind, count_book}
 use Rattle.rayon_machine_places.specs.World.{Shape, World, Part, target_pool, target_worker, target_call, at_job}
-use Rattle.rayon_machine_places.specs.Steps.{put, put_stack, after_move, after_close, after_end, after_call, is_pool, new_job, new_call, after_spawn, after_fifo, after_send, after_install, after_join, step, after_cast, is_piece, new_piece, put_pieces, after_scope, after_into, holds}
-use Rattle.rayon_machine_places.specs.Runs.{first_place, start, IsRun}
+use Rattle.rayon_machine_places.specs.Steps.{put, put_stack, after_move, after_close, after_end, after_call, is_pool, new_job, new_call, after_spawn, after_fifo, after_send, after_install, after_join, step, after_cast, is_piece, new_piece, put_pieces, after_scope, after_into, holds, after_enter, after_deal, after_into_fifo, after_into_cast, after_broadcast, new_whole, new_gathering, after_feed}
+use Rattle.rayon_machine_places.specs.Runs.{first_place, start}
 use Rattle.rayon_machine_laws.specs.Once.{one, in_deque, in_fifo, in_injector, runs_with, is_with, is_known, may_begin, run_of, runs_in, IsOnce, in_cast}
-use Rattle.rayon_machine_laws.proofs.Frame.{either, fifo_cases, same_party_true, if_some_map, if_cond, acted_keeps, piece_in, piece_new, piece_range, into_cases}
+use Rattle.rayon_machine_laws.proofs.Frame.{either, fifo_cases, same_party_true, if_some_map, if_cond, acted_keeps, piece_in, piece_new, piece_range, into_cases, into_fifo_cases, into_cast_cases}
 use Rattle.rayon_machine_laws.proofs.Ties.{job_at, shape_at, outcome, result}
-use Rattle.rayon_machine_laws.proofs.Events.{run_keeps}
 use Rattle.rayon_machine_laws.proofs.Hands.{hand_plan, hand, held_in, held, worked}
 use Rattle.rayon_machine_laws.proofs.Feeds.{fed, fed_in, all_fed, fed_held, fed_after, fed_stacks}
 use Rattle.rayon_machine_laws.proofs.Located.{Loc, same_loc, loc_of, loc_at, is_loc, weight, IsPlaced, JobsPlaced, and_true, and_false, make_ok, fits, onward_loc, at_work, Hand, Work, Deck, Cast, Inj, Line}
-use Rattle.rayon_machine_laws.proofs.Placed.{Kept, JobsOk, Feeds, job_new, job_old, gone_ok}
+use Rattle.rayon_machine_laws.proofs.Placed.{Kept, JobsOk, Feeds, job_new, job_old, gone_ok, Unqueued}
 use Rattle.rayon_machine_laws.proofs.PlacedEvents.{go_kept, Unmade, Known, IsFinal, Advance, FedLess, kept_advance, from_kept, refuse_kept, miss_kept, yield_kept, give_kept}
 
 hand_goes_on : (t : ℕ) (f : Place) (e : Ending) → (hand t (goes_on f e) ≡ hand t f) × (run_of t (goes_on f e) ≡ run_of t f)
@@ -46,11 +47,14 @@ closed_none : (t u : ℕ) (k : JobKind) (e : Ending) (fs : List Place) → (held
 closed_none t u (Detached p) e fs = (omega arith, omega arith)
 closed_none t u (Stored c o) e fs = (omega arith, omega arith)
 closed_none t u (Scoped c o) e fs = (omega arith, omega arith)
+closed_none t u (PieceOf c o) e fs = (omega arith, omega arith)
 closed_none t u Direct e [] = (refl, refl)
-closed_none t u (TokenOf i) e [] = (refl, refl)
+closed_none t u (TokenOf i b8) e [] = (refl, refl)
 closed_none t u (BodyOf c9 o9) e [] = (refl, refl)
+closed_none t u (WholeOf c9 o9) e [] = (refl, refl)
 closed_none t u Direct e (f ∷ fs) = (ap (λ z. z + held_in t fs) ((hand_goes_on t f e).0), ap (λ z. z + runs_in t fs) ((hand_goes_on t f e).1))
-closed_none t u (TokenOf i) e (f ∷ fs) = (ap (λ z. z + held_in t fs) ((hand_goes_on t f e).0), ap (λ z. z + runs_in t fs) ((hand_goes_on t f e).1))
+closed_none t u (TokenOf i b8) e (f ∷ fs) = (ap (λ z. z + held_in t fs) ((hand_goes_on t f e).0), ap (λ z. z + runs_in t fs) ((hand_goes_on t f e).1))
+closed_none t u (WholeOf c9 o9) e (f ∷ fs) = (ap (λ z. z + held_in t fs) ((hand_goes_on t f e).0), ap (λ z. z + runs_in t fs) ((hand_goes_on t f e).1))
 closed_none t u (BodyOf c9 o9) e (f ∷ fs) = (ap (λ z. z + held_in t fs) ((hand_goes_on t f e).0), ap (λ z. z + runs_in t fs) ((hand_goes_on t f e).1))
 
 fed_goes_on : (t : ℕ) (f : Place) (e : Ending) → fed t (goes_on f e) ≤ fed t f
@@ -62,11 +66,14 @@ fed_closed : (t u : ℕ) (k : JobKind) (e : Ending) (fs : List Place) → all_fe
 fed_closed t u (Detached p) e fs = omega arith
 fed_closed t u (Stored c o) e fs = omega arith
 fed_closed t u (Scoped c o) e fs = omega arith
+fed_closed t u (PieceOf c o) e fs = omega arith
 fed_closed t u Direct e [] = omega arith
-fed_closed t u (TokenOf i) e [] = omega arith
+fed_closed t u (TokenOf i b8) e [] = omega arith
 fed_closed t u (BodyOf c9 o9) e [] = omega arith
+fed_closed t u (WholeOf c9 o9) e [] = omega arith
 fed_closed t u Direct e (f ∷ fs) = let a : fed t (goes_on f e) ≤ fed t f = fed_goes_on t f e in omega (arith, a)
-fed_closed t u (TokenOf i) e (f ∷ fs) = let a : fed t (goes_on f e) ≤ fed t f = fed_goes_on t f e in omega (arith, a)
+fed_closed t u (TokenOf i b8) e (f ∷ fs) = let a : fed t (goes_on f e) ≤ fed t f = fed_goes_on t f e in omega (arith, a)
+fed_closed t u (WholeOf c9 o9) e (f ∷ fs) = let a : fed t (goes_on f e) ≤ fed t f = fed_goes_on t f e in omega (arith, a)
 fed_closed t u (BodyOf c9 o9) e (f ∷ fs) = let a : fed t (goes_on f e) ≤ fed t f = fed_goes_on t f e in omega (arith, a)
 
 -- a run's end: the job is over, and in no place
@@ -93,7 +100,7 @@ end_kept w q d (Run u k) fs e ok un = kept_advance w (record w { stack = put_sta
     shift (Deck p i) t = omega arith
     shift (Cast p i) t = omega arith
     shift (Inj p) t = omega arith
-    shift (Line p i) t = omega arith
+    shift (Line p i b7) t = omega arith
 end_kept w q d _ fs e ok un = tt
 
 -- the weights where a party's call has new jobs
@@ -111,7 +118,7 @@ called_weight w q n (Work g) t = by (same_party g q) refl
 called_weight w q n (Deck p i) t = omega arith
 called_weight w q n (Cast p i) t = omega arith
 called_weight w q n (Inj p) t = omega arith
-called_weight w q n (Line p i) t = omega arith
+called_weight w q n (Line p i b7) t = omega arith
 
 pub not_new : (n t : ℕ) → n + 1 ≤ t → (t == n) ≡ false
 not_new n t h = elim (either (t == n)) [ inl y ↦ absurd (let z : t ≡ n = eqb-true t n y in omega (arith, z)) | inr z ↦ z ]
@@ -126,7 +133,7 @@ final_same HandedBack = refl
 final_same Spent = refl
 final_same (Made q) = tt
 final_same Nowhere = tt
-final_same (InFifo p i) = refl
+final_same (InFifo p i b7) = refl
 final_same (Retaken q) = refl
 final_same _ = refl
 
@@ -269,35 +276,45 @@ rescoped w u l a = record { feeds = a.feeds; placed = a.placed; fit = a.fit; fin
 scope_kept : (w : World) (q : Party) (p : ℕ) → JobsOk w → Unmade w → IfSome (after_scope w q p (w.stack q)) (Advance w)
 scope_kept w q p ok un = if_cond (Advance w) (is_free ((w.stack q).top) && is_pool w.shape p) _ (λ z. rescoped w _ (w.scopes ++ record { call = w.calls; pool = p; owner = q } ∷ []) (make_one w q (Open (record { number = w.calls; pool = p; job = w.jobs })) p (BodyOf w.calls q) (put w.call w.calls (new_call None w.jobs)) (w.calls + 1) (λ t. refl) ok un))
 
+entered : (w : World) (q : Party) (s : Scope) → JobsOk w → Unmade w → IfSome (after_enter w q (w.stack q) (Some s)) (Advance w)
+entered w q s ok un = if_cond (Advance w) (is_free ((w.stack q).top) && holds s.call (w.stack q)) _ (λ z. make_one w q (Enter (record { call = s.call; owner = s.owner; pool = s.pool; job = w.jobs })) s.pool (Scoped s.call s.owner) w.call w.calls (λ t. refl) ok un)
+
+-- a worker of a pool makes a job with a share of this count for its FIFO list, and a token
+feed_kept : (w : World) (k : Count) (p i : ℕ) → JobsOk w → Unmade w → Advance w (after_feed w k p i (w.stack (Worker p i)))
+feed_kept w k p i ok un = make_two w (Worker p i) (Feed (record { count = k; pool = p; job = w.jobs; token = w.jobs + 1 })) p (count_kind k) (TokenOf i (count_book k)) w.call w.calls (λ t. refl) ok un
+
 into_kept : (w : World) (q : Party) (n : ℕ) → JobsOk w → Unmade w → IfSome (after_into w q n (w.stack q)) (Advance w)
-into_kept w q n ok un = into_cases (Advance w) w q n (λ s e free held. if_cond (Advance w) (is_free ((w.stack q).top) && holds s.call (w.stack q)) _ (λ z. make_one w q (Enter (record { call = s.call; owner = s.owner; pool = s.pool; job = w.jobs })) s.pool (Scoped s.call s.owner) w.call w.calls (λ t. refl) ok un))
+into_kept w q n ok un = into_cases (Advance w) w q n (λ s e free held. entered w q s ok un)
+
+into_fifo_kept : (w : World) (q : Party) (n : ℕ) → JobsOk w → Unmade w → IfSome (after_into_fifo w q n (w.stack q)) (Advance w)
+into_fifo_kept w q n ok un = into_fifo_cases (Advance w) w q n (λ s e free held. entered w q s ok un) (λ s i e free held. feed_kept w (OfScope s.call s.owner) s.pool i ok un)
 
 join_kept : (w : World) (q : Party) → JobsOk w → Unmade w → IfSome (after_join w q (w.stack q)) (Advance w)
 join_kept w (Caller n) ok un = tt
 join_kept w (Worker p i) ok un = if_cond (Advance w) (is_free ((w.stack (Worker p i)).top)) _ (λ z. make_two w (Worker p i) (Fork (record { number = w.calls; pool = p; job = w.jobs + 1 }) w.jobs) p Direct (Stored w.calls (Worker p i)) (put w.call w.calls (new_call (Some w.jobs) (w.jobs + 1))) (w.calls + 1) (λ t. refl) ok un)
 
 fifo_kept : (w : World) (q : Party) (p : ℕ) → JobsOk w → Unmade w → IfSome (after_fifo w q p (w.stack q)) (Advance w)
-fifo_kept w q p ok un = fifo_cases (Advance w) w q p (spawn_kept w q p ok un) (λ i free. make_two w (Worker p i) (Feed (record { pool = p; job = w.jobs; token = w.jobs + 1 })) p (Detached p) (TokenOf i) w.call w.calls (λ t. refl) ok un)
+fifo_kept w q p ok un = fifo_cases (Advance w) w q p (spawn_kept w q p ok un) (λ i free. feed_kept w (OfPool p) p i ok un)
 
 -- a call that makes a piece for each worker of a pool
-cast_kept : (w : World) (q : Party) (p : ℕ) → JobsOk w → Unmade w → IfSome (after_cast w q p (w.stack q)) (Advance w)
-cast_kept w q p ok un = if_cond (Advance w) (is_free ((w.stack q).top) && is_pool w.shape p) _ (λ z. record {
+pieces_kept : (w : World) (q : Party) (k : Count) (p : ℕ) (x : Place) → ((t : ℕ) → hand t x ≡ one (is_piece (record { count = k; pool = p; first = w.jobs; workers = (w.shape.pool p).workers }) t)) → ((t : ℕ) → run_of t x ≡ 0) → ((t : ℕ) → fed t x ≡ one (is_piece (record { count = k; pool = p; first = w.jobs; workers = (w.shape.pool p).workers }) t)) → JobsOk w → Unmade w → Advance w (record w { stack = put_stack w.stack q (after_call (w.stack q) x); job = put_pieces (record { count = k; pool = p; first = w.jobs; workers = (w.shape.pool p).workers }) (λ i j. new_piece q k p i) w.job; jobs = w.jobs + (w.shape.pool p).workers })
+pieces_kept w q k p x ha ra fa ok un = record {
   feeds = feeds;
   placed = placed;
   fit = λ t. fit_by t (is_piece c t);
   final = λ t. fin_by t (is_piece c t) refl;
   unmade = λ t b. (let off : is_piece c t ≡ false = beyond t b in rw off (un t (omega (arith, b))));
   known = λ f t b. known_by f t b (is_piece c t) refl;
-})
+}
   where
     c : Pieces
-    c = record { pool = p; first = w.jobs; workers = (w.shape.pool p).workers }
+    c = record { count = k; pool = p; first = w.jobs; workers = (w.shape.pool p).workers }
 
     J : ℕ → Job
-    J = put_pieces c (λ i j. new_piece q p i) w.job
+    J = put_pieces c (λ i j. new_piece q k p i) w.job
 
     u : World
-    u = record w { stack = put_stack w.stack q (after_call (w.stack q) (RaiseForAll c)); job = J; jobs = w.jobs + c.workers }
+    u = record w { stack = put_stack w.stack q (after_call (w.stack q) x); job = J; jobs = w.jobs + c.workers }
 
     beyond : (t : ℕ) → w.jobs + c.workers ≤ t → is_piece c t ≡ false
     beyond t b = elim (either (is_piece c t)) [ inl y ↦ absurd (let r : (w.jobs ≤ t) × (t < w.jobs + c.workers) = piece_range c t y in let l : t < w.jobs + c.workers = r.1 in omega (arith, l, b)) | inr y ↦ y ]
@@ -305,38 +322,38 @@ cast_kept w q p ok un = if_cond (Advance w) (is_free ((w.stack q).top) && is_poo
     made : (t : ℕ) → is_piece c t ≡ true → (w.job t).at ≡ Nowhere
     made t y = let r : (w.jobs ≤ t) × (t < w.jobs + c.workers) = piece_range c t y in un t (r.0)
 
-    fit_by : (t : ℕ) (z : Bool) → fits ((if z then new_piece q p (t - w.jobs) else w.job t).at) ((if z then new_piece q p (t - w.jobs) else w.job t).runs)
+    fit_by : (t : ℕ) (z : Bool) → fits ((if z then new_piece q k p (t - w.jobs) else w.job t).at) ((if z then new_piece q k p (t - w.jobs) else w.job t).runs)
     fit_by t true = refl
     fit_by t false = (ok.fit) t
 
-    fin_by : (t : ℕ) (z : Bool) → is_piece c t ≡ z → IsFinal ((w.job t).at) ((if z then new_piece q p (t - w.jobs) else w.job t).at)
+    fin_by : (t : ℕ) (z : Bool) → is_piece c t ≡ z → IsFinal ((w.job t).at) ((if z then new_piece q k p (t - w.jobs) else w.job t).at)
     fin_by t true z = subst (λ v. IsFinal v (Made q)) (sym (made t z)) tt
     fin_by t false z = final_same ((w.job t).at)
 
-    known_by : Known w → (t : ℕ) → t + 1 ≤ w.jobs + c.workers → (z : Bool) → is_piece c t ≡ z → is_known ((if z then new_piece q p (t - w.jobs) else w.job t).at) ≡ true
+    known_by : Known w → (t : ℕ) → t + 1 ≤ w.jobs + c.workers → (z : Bool) → is_piece c t ≡ z → is_known ((if z then new_piece q k p (t - w.jobs) else w.job t).at) ≡ true
     known_by f t b true z = refl
     known_by f t b false z = f t (elim (either (ltb t w.jobs)) [ inl y ↦ (let l : t < w.jobs = ltb-true t w.jobs y in omega (arith, l)) | inr y ↦ absurd (let l : w.jobs ≤ t = ltb-false t w.jobs y in let in_it : is_piece c t ≡ true = piece_in c t l (omega (arith, b)) in cc) ])
 
     weights : (l : Loc) (t : ℕ) → weight u l t ≡ weight w l t + one (same_loc l (Hand q) && is_piece c t)
     weights (Hand g) t = by (same_party g q) refl
       where
-        by : (z : Bool) → same_party g q ≡ z → held t (if z then after_call (w.stack q) (RaiseForAll c) else w.stack g) ≡ held t (w.stack g) + one (z && is_piece c t)
-        by true z = subst (λ g. held t (after_call (w.stack q) (RaiseForAll c)) ≡ held t (w.stack g) + one (is_piece c t)) (sym (same_party_true g q z)) (omega arith)
+        by : (z : Bool) → same_party g q ≡ z → held t (if z then after_call (w.stack q) (x) else w.stack g) ≡ held t (w.stack g) + one (z && is_piece c t)
+        by true z = subst (λ g. held t (after_call (w.stack q) x) ≡ held t (w.stack g) + one (is_piece c t)) (sym (same_party_true g q z)) (let h : hand t x ≡ one (is_piece c t) = ha t in omega (arith, h))
         by false z = omega arith
     weights (Work g) t = by (same_party g q) refl
       where
-        by : (z : Bool) → same_party g q ≡ z → worked t (if z then after_call (w.stack q) (RaiseForAll c) else w.stack g) ≡ worked t (w.stack g) + 0
-        by true z = subst (λ g. worked t (after_call (w.stack q) (RaiseForAll c)) ≡ worked t (w.stack g) + 0) (sym (same_party_true g q z)) (omega arith)
+        by : (z : Bool) → same_party g q ≡ z → worked t (if z then after_call (w.stack q) (x) else w.stack g) ≡ worked t (w.stack g) + 0
+        by true z = subst (λ g. worked t (after_call (w.stack q) x) ≡ worked t (w.stack g) + 0) (sym (same_party_true g q z)) (let h : run_of t x ≡ 0 = ra t in omega (arith, h))
         by false z = omega arith
     weights (Deck p i) t = omega arith
     weights (Cast p i) t = omega arith
     weights (Inj p) t = omega arith
-    weights (Line p i) t = omega arith
+    weights (Line p i b7) t = omega arith
 
     placed : (l : Loc) (t : ℕ) → weight u l t ≡ is_loc l (loc_at (J t))
     placed l t = by (is_piece c t) refl
       where
-        by : (z : Bool) → is_piece c t ≡ z → weight u l t ≡ is_loc l (loc_at (if z then new_piece q p (t - w.jobs) else w.job t))
+        by : (z : Bool) → is_piece c t ≡ z → weight u l t ≡ is_loc l (loc_at (if z then new_piece q k p (t - w.jobs) else w.job t))
         by true z =
             let a : weight u l t ≡ weight w l t + one (same_loc l (Hand q) && true) = subst (λ b. weight u l t ≡ weight w l t + one (same_loc l (Hand q) && b)) z (weights l t) in
             let x : one (same_loc l (Hand q) && true) ≡ one (same_loc l (Hand q)) = ap one (and_true (same_loc l (Hand q))) in
@@ -356,39 +373,92 @@ cast_kept w q p ok un = if_cond (Advance w) (is_free ((w.stack q).top) && is_poo
             a : (w.job t).at ≡ Made s
             a = fe s t f
 
-            at : (z : Bool) → is_piece c t ≡ z → (if z then new_piece q p (t - w.jobs) else w.job t).at ≡ Made s
+            at : (z : Bool) → is_piece c t ≡ z → (if z then new_piece q k p (t - w.jobs) else w.job t).at ≡ Made s
             at true z = absurd (let n : (w.job t).at ≡ Nowhere = made t z in let k : Made s ≡ Nowhere = sym a ∙ n in cc)
             at false z = a
 
         mine : (z : Bool) → is_piece c t ≡ z → 1 ≤ one z + all_fed t (w.stack q) → (J t).at ≡ Made q
-        mine true z f = ap (λ j. j.at) (piece_new c (λ i j. new_piece q p i) w.job t z)
+        mine true z f = ap (λ j. j.at) (piece_new c (λ i j. new_piece q k p i) w.job t z)
         mine false z f = before q (omega (arith, f))
 
-        by : (z : Bool) → same_party r q ≡ z → 1 ≤ all_fed t (if z then after_call (w.stack q) (RaiseForAll c) else w.stack r) → (J t).at ≡ Made r
-        by true z f = mine (is_piece c t) refl f ∙ ap Made (sym (same_party_true r q z))
+        by : (z : Bool) → same_party r q ≡ z → 1 ≤ all_fed t (if z then after_call (w.stack q) (x) else w.stack r) → (J t).at ≡ Made r
+        by true z f = mine (is_piece c t) refl (let h : fed t x ≡ one (is_piece c t) = fa t in omega (arith, f, h)) ∙ ap Made (sym (same_party_true r q z))
         by false z f = before r f
+
+deal_kept : (w : World) (q : Party) (k : Count) (p : ℕ) → JobsOk w → Unmade w → Advance w (after_deal w q k p (w.stack q))
+deal_kept w q k p ok un = pieces_kept w q k p (RaiseForAll (record { count = k; pool = p; first = w.jobs; workers = (w.shape.pool p).workers })) (λ t. refl) (λ t. refl) (λ t. refl) ok un
+
+cast_kept : (w : World) (q : Party) (p : ℕ) → JobsOk w → Unmade w → IfSome (after_cast w q p (w.stack q)) (Advance w)
+cast_kept w q p ok un = if_cond (Advance w) (is_free ((w.stack q).top) && is_pool w.shape p) _ (λ z. deal_kept w q (OfPool p) p ok un)
+
+into_cast_kept : (w : World) (q : Party) (n : ℕ) → JobsOk w → Unmade w → IfSome (after_into_cast w q n (w.stack q)) (Advance w)
+into_cast_kept w q n ok un = into_cast_cases (Advance w) w q n (λ z e free held. deal_kept w q (OfScope z.call z.owner) z.pool ok un)
+
+-- one number more, which stands for a broadcast and is in no place
+whole_kept : (w u : World) (v : Job) (C : ℕ → Call) (n : ℕ) → v.at ≡ Spent → v.runs ≡ 0 → w.jobs ≤ u.jobs → Unmade w → Advance w u → Advance w (record u { job = put u.job u.jobs v; call = C; calls = n; jobs = u.jobs + 1 })
+whole_kept w u v C n at runs more un a = record {
+  placed = λ l t. placed l t (t == u.jobs) refl;
+  fit = λ t. fit t (t == u.jobs);
+  final = λ t. final t (t == u.jobs) refl;
+  unmade = λ t b. (let e : (t == u.jobs) ≡ false = not_new u.jobs t b in rw e (a.unmade t (omega (arith, b))));
+  known = λ f t b. known f t b (t == u.jobs) refl;
+  feeds = λ f r t b. feeds (a.feeds f) r t b (t == u.jobs) refl;
+}
+  where
+    gone : (m : ℕ) → loc_of v.at m ≡ None
+    gone m = ap (λ x. loc_of x m) at
+
+    here : (t : ℕ) → (t == u.jobs) ≡ true → (u.job t).at ≡ Nowhere
+    here t z = a.unmade t (let e : t ≡ u.jobs = eqb-true t u.jobs z in omega (arith, e))
+
+    placed : (l : Loc) (t : ℕ) (z : Bool) → (t == u.jobs) ≡ z → weight u l t ≡ is_loc l (loc_at (if z then v else u.job t))
+    placed l t true z = a.placed l t ∙ ap (λ x. is_loc l (loc_of x ((u.job t).runs))) (here t z) ∙ ap (is_loc l) (sym (gone v.runs))
+    placed l t false z = a.placed l t
+
+    fit : (t : ℕ) (z : Bool) → fits (if z then v else u.job t).at (if z then v else u.job t).runs
+    fit t true = subst (λ x. fits x v.runs) (sym at) runs
+    fit t false = a.fit t
+
+    final : (t : ℕ) (z : Bool) → (t == u.jobs) ≡ z → IsFinal ((w.job t).at) ((if z then v else u.job t).at)
+    final t true z = subst (λ x. IsFinal x v.at) (sym (un t (let e : t ≡ u.jobs = eqb-true t u.jobs z in omega (arith, e, more)))) tt
+    final t false z = a.final t
+
+    known : Known w → (t : ℕ) → t + 1 ≤ u.jobs + 1 → (z : Bool) → (t == u.jobs) ≡ z → is_known ((if z then v else u.job t).at) ≡ true
+    known f t b true z = ap is_known at
+    known f t b false z = a.known f t (old_below u.jobs t z b)
+
+    feeds : Feeds u → (r : Party) (t : ℕ) → 1 ≤ all_fed t (u.stack r) → (z : Bool) → (t == u.jobs) ≡ z → (if z then v else u.job t).at ≡ Made r
+    feeds f r t b true z = absurd (let m : (u.job t).at ≡ Made r = f r t b in let k : Nowhere ≡ Made r = sym (here t z) ∙ m in cc)
+    feeds f r t b false z = f r t b
+
+gather_kept : (w : World) (q : Party) (p : ℕ) → JobsOk w → Unmade w → IfSome (after_broadcast w q p (w.stack q)) (Advance w)
+gather_kept w q p ok un = if_cond (Advance w) (is_free ((w.stack q).top) && is_pool w.shape p) _ (λ z. whole_kept w _ (new_whole q p w.calls) (put w.call w.calls (new_gathering ((w.shape.pool p).workers) (w.jobs + (w.shape.pool p).workers))) (w.calls + 1) refl refl (omega arith) un
+    (pieces_kept w q (OfCast w.calls q) p (RaiseCount (Gather (record { call = record { number = w.calls; pool = p; job = w.jobs + (w.shape.pool p).workers }; pieces = record { count = OfCast w.calls q; pool = p; first = w.jobs; workers = (w.shape.pool p).workers } }))) (λ t. refl) (λ t. refl) (λ t. refl) ok un))
 
 pub go_fed : (w : World) (q : Party) (r : Seen × Part) → FedLess w (result w q (w.stack q) r)
 go_fed w q r = fed_stacks w q (after_move (next_of (shape_at w q (w.stack q)) q ((w.stack q).top) (r.0)) ((w.stack q).below)) (λ t. fed_after (shape_at w q (w.stack q)) q t ((w.stack q).top) ((w.stack q).below) (r.0))
 
 -- each event keeps each job in its one place
-pub step_advance : (w : World) (e : Event) → Feeds w → JobsOk w → Unmade w → IfSome (step w e) (Advance w)
-step_advance w (Go q) fe ok un = acted_keeps w q (w.stack q) (target_pool q (act_of q ((w.stack q).top))) (target_worker q (act_of q ((w.stack q).top))) (target_call (act_of q ((w.stack q).top))) (job_at w q (act_of q ((w.stack q).top))) (outcome w q (w.stack q)) (Advance w)
-    (if_some_map (λ r. Kept w (result w q (w.stack q) r)) (λ r. Advance w (result w q (w.stack q) r)) (λ r k. kept_advance w (result w q (w.stack q) r) (omega arith) un (go_fed w q r) k) (outcome w q (w.stack q)) (go_kept w q fe ok))
-step_advance w (From q v) fe ok un = from_kept w q ((w.stack q).top) ((w.stack q).below) v refl ok un
-step_advance w (Refuse q) fe ok un = refuse_kept w q ((w.stack q).top) ((w.stack q).below) refl ok un
-step_advance w (Miss q) fe ok un = miss_kept w q ((w.stack q).top) ((w.stack q).below) refl ok un
-step_advance w (End q d) fe ok un = end_kept w q d ((w.stack q).top) ((w.stack q).below) refl ok un
-step_advance w (Spawn q p) fe ok un = spawn_kept w q p ok un
-step_advance w (Fifo q p) fe ok un = fifo_kept w q p ok un
-step_advance w (CastEvent q p) fe ok un = cast_kept w q p ok un
-step_advance w (Install q p) fe ok un = install_kept w q p ok un
-step_advance w (Join q) fe ok un = join_kept w q ok un
-step_advance w (OpenScope q p) fe ok un = scope_kept w q p ok un
-step_advance w (IntoSpawn q n) fe ok un = into_kept w q n ok un
-step_advance w (Yield q) fe ok un = yield_kept w q YieldPop (λ t. refl) (λ t. refl) (λ t. refl) ok un
-step_advance w (YieldLocal q) fe ok un = yield_kept w q LocalPop (λ t. refl) (λ t. refl) (λ t. refl) ok un
-step_advance w (EndPool q p) fe ok un = give_kept w q p ok un
+pub step_advance : (w : World) (e : Event) → Unqueued w → Feeds w → JobsOk w → Unmade w → IfSome (step w e) (Advance w)
+step_advance w (Go q) uq fe ok un = acted_keeps w q (w.stack q) (target_pool q (act_of q ((w.stack q).top))) (target_worker q (act_of q ((w.stack q).top))) (target_call (act_of q ((w.stack q).top))) (job_at w q (act_of q ((w.stack q).top))) (outcome w q (w.stack q)) (Advance w)
+    (if_some_map (λ r. Kept w (result w q (w.stack q) r)) (λ r. Advance w (result w q (w.stack q) r)) (λ r k. kept_advance w (result w q (w.stack q) r) (omega arith) un (go_fed w q r) k) (outcome w q (w.stack q)) (go_kept w q (uq q) fe ok))
+step_advance w (From q v) uq fe ok un = from_kept w q ((w.stack q).top) ((w.stack q).below) v refl ok un
+step_advance w (Refuse q) uq fe ok un = refuse_kept w q ((w.stack q).top) ((w.stack q).below) refl ok un
+step_advance w (Miss q) uq fe ok un = miss_kept w q ((w.stack q).top) ((w.stack q).below) refl ok un
+step_advance w (End q d) uq fe ok un = end_kept w q d ((w.stack q).top) ((w.stack q).below) refl ok un
+step_advance w (Spawn q p) uq fe ok un = spawn_kept w q p ok un
+step_advance w (Fifo q p) uq fe ok un = fifo_kept w q p ok un
+step_advance w (CastEvent q p) uq fe ok un = cast_kept w q p ok un
+step_advance w (Install q p) uq fe ok un = install_kept w q p ok un
+step_advance w (Join q) uq fe ok un = join_kept w q ok un
+step_advance w (OpenScope q p) uq fe ok un = scope_kept w q p ok un
+step_advance w (IntoSpawn q n) uq fe ok un = into_kept w q n ok un
+step_advance w (IntoFifo q n) uq fe ok un = into_fifo_kept w q n ok un
+step_advance w (IntoCast q n) uq fe ok un = into_cast_kept w q n ok un
+step_advance w (Broadcast q p) uq fe ok un = gather_kept w q p ok un
+step_advance w (Yield q) uq fe ok un = yield_kept w q YieldPop (λ t. refl) (λ t. refl) (λ t. refl) ok un
+step_advance w (YieldLocal q) uq fe ok un = yield_kept w q LocalPop (λ t. refl) (λ t. refl) (λ t. refl) ok un
+step_advance w (EndPool q p) uq fe ok un = give_kept w q p ok un
 
 -- what holds of the jobs of every world
 pub record JobsHold (w : World) : Type 0 where
@@ -399,9 +469,6 @@ pub record JobsHold (w : World) : Type 0 where
 
 pub jobs_advance : (w u : World) → JobsHold w → Advance w u → JobsHold u
 jobs_advance w u h a = record { ok = record { placed = a.placed; fit = a.fit }; unmade = a.unmade; known = a.known (h.known); feeds = a.feeds (h.feeds) }
-
-pub step_jobs : (w : World) (e : Event) → JobsHold w → IfSome (step w e) JobsHold
-step_jobs w e h = if_some_map (Advance w) JobsHold (λ u a. jobs_advance w u h a) (step w e) (step_advance w e (h.feeds) (h.ok) (h.unmade))
 
 first_hand : (h : Shape) (q : Party) (t : ℕ) → (hand t (first_place h q) ≡ 0) × (run_of t (first_place h q) ≡ 0)
 first_hand h (Caller n) t = at (nat_lt n h.callers)
@@ -422,7 +489,7 @@ first_placed h (Work q) t = let a : run_of t (first_place h q) ≡ 0 = (first_ha
 first_placed h (Deck p i) t = omega arith
 first_placed h (Cast p i) t = omega arith
 first_placed h (Inj p) t = omega arith
-first_placed h (Line p i) t = omega arith
+first_placed h (Line p i b7) t = omega arith
 
 pub first_jobs : (h : Shape) → JobsHold (start h)
 first_jobs h = record { ok = record { placed = first_placed h; fit = λ t. refl }; unmade = λ t b. refl; known = λ t b. absurd (omega (arith, b)); feeds = λ q t n. absurd (let a : all_fed t ((start h).stack q) ≤ held t ((start h).stack q) = fed_held t ((start h).stack q) in let b : hand t (first_place h q) ≡ 0 = (first_hand h q t).0 in omega (arith, a, b, n)) }
@@ -434,7 +501,7 @@ begun_once (Running q) n f = f
 begun_once (Made q) n f = omega (arith, f)
 begun_once (InDeque p i) n f = omega (arith, f)
 begun_once (Injected p) n f = omega (arith, f)
-begun_once (InFifo p i) n f = omega (arith, f)
+begun_once (InFifo p i b7) n f = omega (arith, f)
 begun_once (InCast p i) n f = omega (arith, f)
 begun_once (Retaken q) n f = omega (arith, f)
 begun_once HandedBack n f = omega (arith, f)
@@ -447,7 +514,7 @@ not_begun (Running q) n z f = cc
 not_begun (Made q) n z f = f
 not_begun (InDeque p i) n z f = f
 not_begun (Injected p) n z f = f
-not_begun (InFifo p i) n z f = f
+not_begun (InFifo p i b7) n z f = f
 not_begun (InCast p i) n z f = f
 not_begun (Retaken q) n z f = f
 not_begun HandedBack n z f = f
@@ -484,7 +551,7 @@ deck_in : (p i : ℕ) (v : Whereabouts) (n : ℕ) → fits v n → is_loc (Deck 
 deck_in p i (InDeque r j) n f = loc_fits (Deck p i) (Deck r j) n f
 deck_in p i (Made q) n f = loc_none (Deck p i) (Hand q) n refl
 deck_in p i (Injected r) n f = loc_none (Deck p i) (Inj r) n refl
-deck_in p i (InFifo r j) n f = loc_none (Deck p i) (Line r j) n refl
+deck_in p i (InFifo r j b7) n f = loc_none (Deck p i) (Line r j b7) n refl
 deck_in p i (InCast r j) n f = loc_none (Deck p i) (Cast r j) n refl
 deck_in p i (Retaken q) n f = loc_none (Deck p i) (Hand q) n refl
 deck_in p i (Running q) n f = loc_run (Deck p i) (Hand q) (Work q) n
@@ -492,7 +559,7 @@ deck_in p i _ n f = refl
 
 inj_in : (p : ℕ) (v : Whereabouts) (n : ℕ) → fits v n → is_loc (Inj p) (loc_of v n) ≡ one (in_injector p v)
 inj_in p (Injected r) n f = loc_fits (Inj p) (Inj r) n f
-inj_in p (InFifo r j) n f = loc_none (Inj p) (Line r j) n refl
+inj_in p (InFifo r j b7) n f = loc_none (Inj p) (Line r j b7) n refl
 inj_in p (InCast r j) n f = loc_none (Inj p) (Cast r j) n refl
 inj_in p (Retaken q) n f = loc_none (Inj p) (Hand q) n refl
 inj_in p (Made q) n f = loc_none (Inj p) (Hand q) n refl
@@ -500,19 +567,19 @@ inj_in p (InDeque r j) n f = loc_none (Inj p) (Deck r j) n refl
 inj_in p (Running q) n f = loc_run (Inj p) (Hand q) (Work q) n
 inj_in p _ n f = refl
 
-line_in : (p i : ℕ) (v : Whereabouts) (n : ℕ) → fits v n → is_loc (Line p i) (loc_of v n) ≡ one (in_fifo p i v)
-line_in p i (InFifo r j) n f = loc_fits (Line p i) (Line r j) n f
-line_in p i (InCast r j) n f = loc_none (Line p i) (Cast r j) n refl
-line_in p i (InDeque r j) n f = loc_none (Line p i) (Deck r j) n refl
-line_in p i (Made q) n f = loc_none (Line p i) (Hand q) n refl
-line_in p i (Retaken q) n f = loc_none (Line p i) (Hand q) n refl
-line_in p i (Injected r) n f = loc_none (Line p i) (Inj r) n refl
-line_in p i (Running q) n f = loc_run (Line p i) (Hand q) (Work q) n
-line_in p i _ n f = refl
+line_in : (p i : ℕ) (b7 : Option ℕ) (v : Whereabouts) (n : ℕ) → fits v n → is_loc (Line p i b7) (loc_of v n) ≡ one (in_fifo p i b7 v)
+line_in p i b7 (InFifo r j b6) n f = loc_fits (Line p i b7) (Line r j b6) n f
+line_in p i b7 (InCast r j) n f = loc_none (Line p i b7) (Cast r j) n refl
+line_in p i b7 (InDeque r j) n f = loc_none (Line p i b7) (Deck r j) n refl
+line_in p i b7 (Made q) n f = loc_none (Line p i b7) (Hand q) n refl
+line_in p i b7 (Retaken q) n f = loc_none (Line p i b7) (Hand q) n refl
+line_in p i b7 (Injected r) n f = loc_none (Line p i b7) (Inj r) n refl
+line_in p i b7 (Running q) n f = loc_run (Line p i b7) (Hand q) (Work q) n
+line_in p i b7 _ n f = refl
 
 cast_in : (p i : ℕ) (v : Whereabouts) (n : ℕ) → fits v n → is_loc (Cast p i) (loc_of v n) ≡ one (in_cast p i v)
 cast_in p i (InCast r j) n f = loc_fits (Cast p i) (Cast r j) n f
-cast_in p i (InFifo r j) n f = loc_none (Cast p i) (Line r j) n refl
+cast_in p i (InFifo r j b7) n f = loc_none (Cast p i) (Line r j b7) n refl
 cast_in p i (InDeque r j) n f = loc_none (Cast p i) (Deck r j) n refl
 cast_in p i (Made q) n f = loc_none (Cast p i) (Hand q) n refl
 cast_in p i (Retaken q) n f = loc_none (Cast p i) (Hand q) n refl
@@ -526,7 +593,7 @@ hand_in q (Running r) n = let a : is_loc (Hand q) (loc_of (Running r) n) ≡ (on
 hand_in q (InDeque r j) n = loc_none (Hand q) (Deck r j) n refl
 hand_in q (Injected r) n = loc_none (Hand q) (Inj r) n refl
 hand_in q (InCast r j) n = loc_none (Hand q) (Cast r j) n refl
-hand_in q (InFifo r j) n = loc_none (Hand q) (Line r j) n refl
+hand_in q (InFifo r j b7) n = loc_none (Hand q) (Line r j b7) n refl
 hand_in q (Retaken r) n = loc_if (Hand q) (Hand r) n
 hand_in q _ n = refl
 
@@ -536,7 +603,7 @@ work_in q (Made r) n = loc_none (Work q) (Hand r) n refl
 work_in q (InDeque r j) n = loc_none (Work q) (Deck r j) n refl
 work_in q (Injected r) n = loc_none (Work q) (Inj r) n refl
 work_in q (InCast r j) n = loc_none (Work q) (Cast r j) n refl
-work_in q (InFifo r j) n = loc_none (Work q) (Line r j) n refl
+work_in q (InFifo r j b7) n = loc_none (Work q) (Line r j b7) n refl
 work_in q (Retaken r) n = loc_none (Work q) (Hand r) n refl
 work_in q _ n = refl
 
@@ -549,11 +616,8 @@ once w h = record {
   unbegun = λ t z. not_begun ((w.job t).at) ((w.job t).runs) z (((h.ok).fit) t);
   deque = λ p i t. ((h.ok).placed) (Deck p i) t ∙ deck_in p i ((w.job t).at) ((w.job t).runs) (((h.ok).fit) t);
   injector = λ p t. ((h.ok).placed) (Inj p) t ∙ inj_in p ((w.job t).at) ((w.job t).runs) (((h.ok).fit) t);
-  fifo = λ p i t. ((h.ok).placed) (Line p i) t ∙ line_in p i ((w.job t).at) ((w.job t).runs) (((h.ok).fit) t);
+  fifo = λ p i b t. ((h.ok).placed) (Line p i b) t ∙ line_in p i b ((w.job t).at) ((w.job t).runs) (((h.ok).fit) t);
   cast = λ p i t. ((h.ok).placed) (Cast p i) t ∙ cast_in p i ((w.job t).at) ((w.job t).runs) (((h.ok).fit) t);
   hand = λ q t. ((h.ok).placed) (Hand q) t ∙ hand_in q ((w.job t).at) ((w.job t).runs);
   running = λ q t. ((h.ok).placed) (Work q) t ∙ work_in q ((w.job t).at) ((w.job t).runs);
 }
-
-pub always_once : (h : Shape) (es : List Event) (w : World) → IsRun (start h) es w → IsOnce w
-always_once h es w r = once w (run_keeps JobsHold step_jobs (start h) w es (first_jobs h) r)

@@ -1,24 +1,30 @@
 -- a token that is to be redeemed finds a job in its FIFO list: the tokens that are queued or in hand, and the list's
 -- holder, are no more than its jobs
 use Rattle.rayon_machine_places.specs.declared.place.Mark.{Mark as Marking}
-use Rattle.rayon_machine_places.specs.declared.place.Mark.TheVariants.{Counted, Queued, Returned}
+use Rattle.rayon_machine_places.specs.declared.place.Mark.TheVariants.{Counted, Queued, Returned, Numbered, Dealt, Unnumbered}
 use Rattle.rayon_machine_laws.proofs.PlacedEvents.{is_dealing, no_deals}
 use Rattle.rayon_machine_laws.proofs.Later.{Static, act_static}
 use Rattle.rayon_machine_places.specs.declared.place.Pieces.{Pieces}
+use Rattle.rayon_machine_places.specs.declared.place.Count.{Count}
+use Rattle.rayon_machine_places.specs.declared.place.Count.TheVariants.{OfPool, OfScope, OfCast}
+use Rattle.rayon_machine_places.specs.declared.place.Feeding.{Feeding}
+use Rattle.rayon_machine_places.specs.declared.place.Gathering.{Gathering}
+use Rattle.rayon_machine_places.specs.declared.state.Scope.{Scope}
 use Rattle.std.proofs.Common.{arith, refl, sym, ◌∙◌, ap, subst, inl, inr}
-use Rattle.std.specs.Prelude.{ℕ, zero, suc, Bool, true, false, ◌&&◌, ◌+◌, ◌==◌, ◌≤◌, ◌<◌, if◌then◌else◌, Some, List, ◌≡◌, IfSome, length, nat_lt, ◌-◌, ⊤}
+use Rattle.std.specs.Prelude.{ℕ, zero, suc, Bool, true, false, ◌&&◌, ◌+◌, ◌==◌, ◌≤◌, ◌<◌, if◌then◌else◌, Option, Some, List, ◌≡◌, IfSome, length, nat_lt, ◌-◌, ⊤}
 use Rattle.std.proofs.lemmas.Bool.{eqb-true, eq-eqb, ltb-true, ltb-false}
 use Rattle.rayon_machine_places.specs.declared.place.Move.TheVariants.{Back, Discard, Enter, HandBack, HandIn, StartRun, Stay, Mark, HandAllBack}
-use Rattle.rayon_machine_places.specs.declared.place.Place.TheVariants.{BeginTask, LocalPop, LookForToken, LookQueue, PickVictim, PushJob, PushToken, Run, StealFrom, TakeFromFifo, YieldPick, YieldPop, YieldSteal, PushForAll}
+use Rattle.rayon_machine_places.specs.declared.place.Place.TheVariants.{BeginTask, LocalPop, LookQueue, PickVictim, PushJob, PushToken, Run, StealFrom, YieldPick, YieldPop, YieldSteal, PushForAll, DealPieces}
 use Rattle.rayon_machine_places.specs.declared.place.Party.TheVariants.{Caller, Worker}
 use Rattle.rayon_machine_laws.proofs.ClaimRuns.{CallsHold, place_part, top_says, world_after}
-use Rattle.rayon_machine_places.specs.declared.place.Plan.TheVariants.{Detach, Feed, Fork, Here, Send, Open, Enter}
+use Rattle.rayon_machine_places.specs.declared.place.Plan.TheVariants.{Detach, Feed, Fork, Here, Send, Open, Enter, Gather}
 use Rattle.rayon_machine_places.specs.declared.place.JobKind.TheVariants.{Detached, Direct, Stored, TokenOf, Scoped, BodyOf}
-use Rattle.rayon_machine_places.specs.declared.event.Event.TheVariants.{End, EndPool, Fifo, From, Go, Install, Join, Miss, Refuse, Spawn, Yield, YieldLocal, Cast, Scope as OpenScope, IntoSpawn}
+use Rattle.rayon_machine_places.specs.declared.event.Event.TheVariants.{End, EndPool, Fifo, From, Go, Install, Join, Miss, Refuse, Spawn, Yield, YieldLocal, Cast, Scope as OpenScope, IntoSpawn, IntoFifo, IntoCast, Broadcast}
 use Rattle.rayon_machine_places.specs.declared.place.Ending.{Ending}
 use Rattle.rayon_machine_places.specs.declared.event.Event.{Event}
-use Rattle.rayon_machine_laws.proofs.Stocked.{Fair, act_fair, at_pool, begun_off, draws, is_held, is_pushing, live, live_off, one_set, token_of, up, live_none}
-use Rattle.rayon_machine_laws.proofs.Feeders.{FeedersHold, first_feeders, is_waiting, step_feeders, waits}
+use Rattle.rayon_machine_laws.proofs.Stocked.{Fair, act_fair, at_pool, begun_off, count_no_token, draws, is_held, is_pushing, live, live_off, no_pushes, one_set, pushes, token_of, up, live_none}
+use Rattle.rayon_machine_laws.proofs.FeederEvents.{first_feeders, step_feeders}
+use Rattle.rayon_machine_laws.proofs.Feeders.{FeedersHold, waits}
 use Rattle.rayon_machine_places.specs.declared.act.Act.TheVariants.{FifoOut, LookInj, LookOwn, PushInj, PushOwn}
 use Rattle.rayon_machine_places.specs.declared.act.Seen.TheVariants.{Handed, Done}
 use Rattle.rayon_machine_places.specs.declared.state.Whereabouts.TheVariants.{HandedBack, Made, Over, Retaken, Running, Spent}
@@ -27,7 +33,7 @@ use Rattle.rayon_machine_places.specs.Runs.{IsRun, start}
 use Rattle.rayon_machine_places.specs.declared.state.Job.{Job}
 use Rattle.rayon_machine_places.specs.declared.place.JobKind.{JobKind}
 use Rattle.rayon_machine_places.specs.declared.place.Move.{Move}
-use Rattle.rayon_machine_places.specs.World.{Part, Shape, Stack, World, at_job, begun, target_call, target_pool, target_worker, effect, counts_at}
+use Rattle.rayon_machine_places.specs.World.{Part, Shape, Stack, World, at_job, begun, same_list, target_call, target_pool, target_worker, effect, counts_at}
 use Rattle.rayon_machine_places.specs.declared.place.Party.{Party}
 use Rattle.rayon_machine_places.specs.declared.place.Place.{Place}
 use Rattle.rayon_machine_places.specs.declared.place.Plan.{Plan}
@@ -35,12 +41,12 @@ use Rattle.rayon_machine_laws.proofs.Claims.{Says, Taking, SaysPieces}
 use Rattle.rayon_machine_places.specs.declared.act.Seen.{Seen}
 use Rattle.rayon_machine_places.specs.declared.place.Taken.TheVariants.{Token}
 use Rattle.rayon_machine_places.specs.declared.state.Whereabouts.{Whereabouts}
-use Rattle.rayon_machine_places.specs.Places.{act_of, after_begin, is_free, is_member, is_refusable, look_act, next_of, own_index, own_pool, plan_job, plan_pool, push_act, same_party, plan_book}
-use Rattle.rayon_machine_laws.proofs.Frame.{acted_keeps, and_parts, either, fifo_cases, if_cond, if_some_and, if_some_map, put_new, put_old, same_index, same_party_true, put_same, into_cases}
-use Rattle.rayon_machine_places.specs.Steps.{after_choice, after_end, after_end_pool, after_fifo, after_install, after_join, after_miss, after_send, after_spawn, after_yield, blank_job, can_miss, handed_back, is_pool, jobs_after, new_job, put, step, after_cast, new_piece, is_piece, mark_pieces, marked, after_scope, after_into, holds}
+use Rattle.rayon_machine_places.specs.Places.{act_of, after_begin, is_free, is_member, is_refusable, look_act, next_of, own_index, own_pool, plan_job, plan_pool, push_act, same_party, plan_book, count_book, count_kind}
+use Rattle.rayon_machine_laws.proofs.Frame.{acted_keeps, and_parts, either, fifo_cases, if_cond, if_some_and, if_some_map, put_new, put_old, same_index, same_list_refl, same_list_true, same_party_true, put_same, into_cases, into_cast_cases, into_fifo_cases}
+use Rattle.rayon_machine_places.specs.Steps.{after_choice, after_end, after_end_pool, after_fifo, after_install, after_join, after_miss, after_send, after_spawn, after_yield, blank_job, can_miss, handed_back, is_pool, jobs_after, new_job, put, step, after_cast, new_piece, is_piece, mark_pieces, marked, after_broadcast, after_deal, after_enter, after_feed, after_into_cast, after_into_fifo, after_scope, after_into, holds, new_whole, put_pieces}
 use Rattle.rayon_machine_laws.proofs.ClaimMakes.{first_calls, step_calls}
 use Rattle.rayon_machine_laws.proofs.Hands.{held, held_in}
-use Rattle.rayon_machine_laws.proofs.Located.{is_left}
+use Rattle.rayon_machine_laws.proofs.Located.{and_false, is_left}
 use Rattle.rayon_machine_laws.proofs.Ties.{job_at, outcome, result}
 use Rattle.rayon_machine_laws.proofs.PlacedRuns.{once}
 use Rattle.rayon_machine_laws.proofs.Events.{run_keeps}
@@ -79,79 +85,96 @@ sum_up zero n f = subst (λ z. sum_below n f ≤ sum_below z f) (let e : n ≡ 0
 sum_up (suc m) n f = subst (λ z. sum_below n f ≤ sum_below z f) (let e : suc (m + n) ≡ suc m + n = omega arith in e) (let a : sum_below n f ≤ sum_below (m + n) f = sum_up m n f in let b : sum_below n f ≤ f (m + n) + sum_below (m + n) f = omega (arith, a) in b)
 
 -- no move makes more tokens
-put_less : (p j : ℕ) (f : ℕ → Job) (k : ℕ) (v : Job) (t : ℕ) → live p j v ≤ live p j (f k) → live p j (put f k v t) ≤ live p j (f t)
-put_less p j f k v t e = by (t == k) refl
+put_less : (p j : ℕ) (v : Option ℕ) (f : ℕ → Job) (k : ℕ) (x : Job) (t : ℕ) → live p j v x ≤ live p j v (f k) → live p j v (put f k x t) ≤ live p j v (f t)
+put_less p j v f k x t e = by (t == k) refl
   where
-    by : (b : Bool) → (t == k) ≡ b → live p j (if b then v else f t) ≤ live p j (f t)
-    by true y = let a : live p j (f k) ≡ live p j (f t) = ap (λ n. live p j (f n)) (sym (eqb-true t k y)) in omega (arith, a, e)
+    by : (b : Bool) → (t == k) ≡ b → live p j v (if b then x else f t) ≤ live p j v (f t)
+    by true y = let a : live p j v (f k) ≡ live p j v (f t) = ap (λ n. live p j v (f n)) (sym (eqb-true t k y)) in omega (arith, a, e)
     by false y = omega arith
 
-off_less : (p j : ℕ) (v : Job) (n : ℕ) → at_pool p v.at v.runs ≡ false → live p j v ≤ n
-off_less p j v n e = let a : live p j v ≡ 0 = live_off p j v e in omega (arith, a)
+off_less : (p j : ℕ) (v : Option ℕ) (x : Job) (n : ℕ) → at_pool p x.at x.runs ≡ false → live p j v x ≤ n
+off_less p j v x n e = let a : live p j v x ≡ 0 = live_off p j v x e in omega (arith, a)
 
-back_less : (p j : ℕ) (n : Plan) (f : ℕ → Job) (t : ℕ) → live p j (handed_back n f t) ≤ live p j (f t)
-back_less p j (Detach r u) f t = put_less p j f u (at_job (f u) HandedBack) t (off_less p j (at_job (f u) HandedBack) (live p j (f u)) refl)
-back_less p j (Here r u) f t = put_less p j f u (at_job (f u) HandedBack) t (off_less p j (at_job (f u) HandedBack) (live p j (f u)) refl)
-back_less p j (Send o) f t = put_less p j f o.job (at_job (f o.job) HandedBack) t (off_less p j (at_job (f o.job) HandedBack) (live p j (f o.job)) refl)
-back_less p j (Open o) f t = put_less p j f o.job (at_job (f o.job) HandedBack) t (off_less p j (at_job (f o.job) HandedBack) (live p j (f o.job)) refl)
-back_less p j (Enter o) f t = put_less p j f o.job (at_job (f o.job) HandedBack) t (off_less p j (at_job (f o.job) HandedBack) (live p j (f o.job)) refl)
-back_less p j (Fork o u) f t =
+pieces_less : (p j : ℕ) (v : Option ℕ) (c : Pieces) (f : ℕ → Job) (t : ℕ) (b : Bool) → live p j v (if b then marked Returned c.pool (t - c.first) (f t) else f t) ≤ live p j v (f t)
+pieces_less p j v c f t true = off_less p j v (marked Returned c.pool (t - c.first) (f t)) (live p j v (f t)) refl
+pieces_less p j v c f t false = omega arith
+
+back_less : (p j : ℕ) (v : Option ℕ) (n : Plan) (f : ℕ → Job) (t : ℕ) → live p j v (handed_back n f t) ≤ live p j v (f t)
+back_less p j v (Detach r u) f t = put_less p j v f u (at_job (f u) HandedBack) t (off_less p j v (at_job (f u) HandedBack) (live p j v (f u)) refl)
+back_less p j v (Here r u) f t = put_less p j v f u (at_job (f u) HandedBack) t (off_less p j v (at_job (f u) HandedBack) (live p j v (f u)) refl)
+back_less p j v (Send o) f t = put_less p j v f o.job (at_job (f o.job) HandedBack) t (off_less p j v (at_job (f o.job) HandedBack) (live p j v (f o.job)) refl)
+back_less p j v (Open o) f t = put_less p j v f o.job (at_job (f o.job) HandedBack) t (off_less p j v (at_job (f o.job) HandedBack) (live p j v (f o.job)) refl)
+back_less p j v (Enter o) f t = put_less p j v f o.job (at_job (f o.job) HandedBack) t (off_less p j v (at_job (f o.job) HandedBack) (live p j v (f o.job)) refl)
+back_less p j v (Fork o u) f t =
     let g : ℕ → Job = put f u (at_job (f u) HandedBack) in
-    let a : live p j (g t) ≤ live p j (f t) = put_less p j f u (at_job (f u) HandedBack) t (off_less p j (at_job (f u) HandedBack) (live p j (f u)) refl) in
-    let b : live p j (put g o.job (at_job (f o.job) HandedBack) t) ≤ live p j (g t) = put_less p j g o.job (at_job (f o.job) HandedBack) t (off_less p j (at_job (f o.job) HandedBack) (live p j (g o.job)) refl) in omega (arith, a, b)
-back_less p j (Feed d) f t =
+    let a : live p j v (g t) ≤ live p j v (f t) = put_less p j v f u (at_job (f u) HandedBack) t (off_less p j v (at_job (f u) HandedBack) (live p j v (f u)) refl) in
+    let b : live p j v (put g o.job (at_job (f o.job) HandedBack) t) ≤ live p j v (g t) = put_less p j v g o.job (at_job (f o.job) HandedBack) t (off_less p j v (at_job (f o.job) HandedBack) (live p j v (g o.job)) refl) in omega (arith, a, b)
+back_less p j v (Feed d) f t =
     let g : ℕ → Job = put f d.job (at_job (f d.job) HandedBack) in
-    let a : live p j (g t) ≤ live p j (f t) = put_less p j f d.job (at_job (f d.job) HandedBack) t (off_less p j (at_job (f d.job) HandedBack) (live p j (f d.job)) refl) in
-    let b : live p j (put g d.token (at_job (f d.token) HandedBack) t) ≤ live p j (g t) = put_less p j g d.token (at_job (f d.token) HandedBack) t (off_less p j (at_job (f d.token) HandedBack) (live p j (g d.token)) refl) in omega (arith, a, b)
+    let a : live p j v (g t) ≤ live p j v (f t) = put_less p j v f d.job (at_job (f d.job) HandedBack) t (off_less p j v (at_job (f d.job) HandedBack) (live p j v (f d.job)) refl) in
+    let b : live p j v (put g d.token (at_job (f d.token) HandedBack) t) ≤ live p j v (g t) = put_less p j v g d.token (at_job (f d.token) HandedBack) t (off_less p j v (at_job (f d.token) HandedBack) (live p j v (g d.token)) refl) in omega (arith, a, b)
+back_less p j v (Gather g) f t = pieces_less p j v g.pieces f t (is_piece g.pieces t)
 
 abbrev is_queued : Marking → Bool
 is_queued Queued = true
+is_queued Dealt = true
 is_queued _ = false
 
 -- pieces that are dealt are no tokens
+abbrev NoTokens : (ℕ → Job) → Pieces → Type 0
+NoTokens f c = (t : ℕ) → is_piece c t ≡ true → (f t).kind ≡ count_kind c.count
+
 abbrev Deals : (ℕ → Job) → Move → Type 0
-Deals f (Mark y c Queued) = (t : ℕ) → is_piece c t ≡ true → (f t).kind ≡ Detached c.pool
+Deals f (Mark y c Queued) = NoTokens f c
+Deals f (Mark y c Dealt) = NoTokens f c
 Deals f _ = ⊤
 
 quiet_deals : (f : ℕ → Job) (g : Move) → is_dealing g ≡ false → Deals f g
 quiet_deals f (Mark y c Queued) e = absurd (cc)
+quiet_deals f (Mark y c Dealt) e = absurd (cc)
 quiet_deals f _ e = tt
 
-marked_less : (p j : ℕ) (c : Pieces) (k : Marking) (f : ℕ → Job) (t : ℕ) → (is_queued k ≡ true → is_piece c t ≡ true → (f t).kind ≡ Detached c.pool) → live p j (mark_pieces c k f t) ≤ live p j (f t)
-marked_less p j c k f t d = by (is_piece c t) refl
+marked_less : (p j : ℕ) (v : Option ℕ) (c : Pieces) (k : Marking) (f : ℕ → Job) (t : ℕ) → (is_queued k ≡ true → is_piece c t ≡ true → (f t).kind ≡ count_kind c.count) → live p j v (mark_pieces c k f t) ≤ live p j v (f t)
+marked_less p j v c k f t d = by (is_piece c t) refl
   where
-    less : (k : Marking) (i : ℕ) (v : Job) → (is_queued k ≡ true → v.kind ≡ Detached c.pool) → live p j (marked k c.pool i v) ≤ live p j v
-    less Counted i v d = omega arith
-    less Queued i v d = let a : live p j (marked Queued c.pool i v) ≡ 0 = live_none p j (marked Queued c.pool i v) (ap (token_of j) (d refl)) in omega (arith, a)
-    less Returned i v d = off_less p j (marked Returned c.pool i v) (live p j v) refl
+    dealt : (k : Marking) (i : ℕ) (x : Job) → (marked k c.pool i x).kind ≡ x.kind → x.kind ≡ count_kind c.count → live p j v (marked k c.pool i x) ≤ live p j v x
+    dealt k i x m e = let a : live p j v (marked k c.pool i x) ≡ 0 = live_none p j v (marked k c.pool i x) (ap (token_of j v) m ∙ ap (token_of j v) e ∙ count_no_token j v c.count) in omega (arith, a)
 
-    by : (b : Bool) → is_piece c t ≡ b → live p j (if b then marked k c.pool (t - c.first) (f t) else f t) ≤ live p j (f t)
+    less : (k : Marking) (i : ℕ) (x : Job) → (is_queued k ≡ true → x.kind ≡ count_kind c.count) → live p j v (marked k c.pool i x) ≤ live p j v x
+    less Counted i x d = omega arith
+    less (Numbered n) i x d = omega arith
+    less Unnumbered i x d = omega arith
+    less Queued i x d = dealt Queued i x refl (d refl)
+    less Dealt i x d = dealt Dealt i x refl (d refl)
+    less Returned i x d = off_less p j v (marked Returned c.pool i x) (live p j v x) refl
+
+    by : (b : Bool) → is_piece c t ≡ b → live p j v (if b then marked k c.pool (t - c.first) (f t) else f t) ≤ live p j v (f t)
     by true e = less k (t - c.first) (f t) (λ z. d z e)
     by false e = omega arith
 
-after_less : (p j : ℕ) (q : Party) (g : Move) (f : ℕ → Job) (t : ℕ) → Deals f g → live p j (jobs_after q g f t) ≤ live p j (f t)
-after_less p j q (Stay y) f t d = omega arith
-after_less p j q (Enter x y) f t d = omega arith
-after_less p j q Back f t d = omega arith
-after_less p j q (StartRun x u) f t d = put_less p j f u (begun q (f u)) t (let a : live p j (begun q (f u)) ≡ 0 = begun_off p j q (f u) in omega (arith, a))
-after_less p j q (HandIn y k) f t d = put_less p j f k (at_job (f k) Spent) t (off_less p j (at_job (f k) Spent) (live p j (f k)) refl)
-after_less p j q (Discard k) f t d = put_less p j f k (at_job (f k) Spent) t (off_less p j (at_job (f k) Spent) (live p j (f k)) refl)
-after_less p j q (HandBack n) f t d = back_less p j n f t
-after_less p j q (Mark y c k) f t d = marked_less p j c k f t (λ z. deals y c k f t z d)
+after_less : (p j : ℕ) (v : Option ℕ) (q : Party) (g : Move) (f : ℕ → Job) (t : ℕ) → Deals f g → live p j v (jobs_after q g f t) ≤ live p j v (f t)
+after_less p j v q (Stay y) f t d = omega arith
+after_less p j v q (Enter x y) f t d = omega arith
+after_less p j v q Back f t d = omega arith
+after_less p j v q (StartRun x u) f t d = put_less p j v f u (begun q (f u)) t (let a : live p j v (begun q (f u)) ≡ 0 = begun_off p j v q (f u) in omega (arith, a))
+after_less p j v q (HandIn y k) f t d = put_less p j v f k (at_job (f k) Spent) t (off_less p j v (at_job (f k) Spent) (live p j v (f k)) refl)
+after_less p j v q (Discard k) f t d = put_less p j v f k (at_job (f k) Spent) t (off_less p j v (at_job (f k) Spent) (live p j v (f k)) refl)
+after_less p j v q (HandBack n) f t d = back_less p j v n f t
+after_less p j v q (Mark y c k) f t d = marked_less p j v c k f t (λ z. deals y c k f t z d)
   where
-    deals : (y : Place) (c : Pieces) (k : Marking) (f : ℕ → Job) (t : ℕ) → is_queued k ≡ true → Deals f (Mark y c k) → is_piece c t ≡ true → (f t).kind ≡ Detached c.pool
+    deals : (y : Place) (c : Pieces) (k : Marking) (f : ℕ → Job) (t : ℕ) → is_queued k ≡ true → Deals f (Mark y c k) → is_piece c t ≡ true → (f t).kind ≡ count_kind c.count
     deals y c Queued f t z d = d t
-    deals y c Counted f t z d = absurd (cc)
-    deals y c Returned f t z d = absurd (cc)
-after_less p j q (HandAllBack c) f t d = marked_less p j c Returned f t (λ z. absurd (cc))
+    deals y c Dealt f t z d = d t
+    deals y c _ f t z d = absurd (cc)
+after_less p j v q (HandAllBack c) f t d = marked_less p j v c Returned f t (λ z. absurd (cc))
 
 -- the token that a party redeems is none any more
-spent : (p j : ℕ) (f : ℕ → Job) (k : ℕ) → live p j (put f k (at_job (f k) Spent) k) ≡ 0
-spent p j f k = ap (live p j) (put_new f k (at_job (f k) Spent)) ∙ live_off p j (at_job (f k) Spent) refl
+spent : (p j : ℕ) (v : Option ℕ) (f : ℕ → Job) (k : ℕ) → live p j v (put f k (at_job (f k) Spent) k) ≡ 0
+spent p j v f k = ap (live p j v) (put_new f k (at_job (f k) Spent)) ∙ live_off p j v (at_job (f k) Spent) refl
 
-begin_spends : (p j : ℕ) (q : Party) (k i : ℕ) (e : Seen) (f : ℕ → Job) → live p j (jobs_after q (after_begin (Token k i) e) f k) ≡ 0
-begin_spends p j q k i (Handed t d) f = spent p j f k
-begin_spends p j q k i _ f = spent p j f k
+begin_spends : (p j : ℕ) (v : Option ℕ) (q : Party) (k i : ℕ) (b : Option ℕ) (e : Seen) (f : ℕ → Job) → live p j v (jobs_after q (after_begin (Token k i b) e) f k) ≡ 0
+begin_spends p j v q k i b (Handed t d) f = spent p j v f k
+begin_spends p j v q k i b _ f = spent p j v f k
 
 -- and it is one before
 in_hand_live : (q : Party) (v : Whereabouts) (n : ℕ) → is_left v ≡ true → (is_with q v && (n == 0)) ≡ true → at_pool (own_pool q) v n ≡ true
@@ -160,18 +183,21 @@ in_hand_live q (Made r) n l e = absurd (cc)
 in_hand_live q (Retaken r) n l e = absurd (cc)
 in_hand_live q _ n l e = absurd (cc)
 
-token_live : (w : World) (q : Party) (k i : ℕ) (fs : List Place) → w.stack q ≡ record { top = BeginTask (Token k i); below = fs } → IsOnce w → Taking w (Token k i) → live (own_pool q) i (w.job k) ≡ 1
-token_live w q k i fs e h s =
-    let a : held k (w.stack q) ≡ (one (k == k) + held_in k fs) = ap (held k) e in let b : one (k == k) ≡ 1 = ap one (eq-eqb k k refl) in
-    let c : held k (w.stack q) ≡ one (is_with q (w.job k).at && ((w.job k).runs == 0)) = h.hand q k in
-    let d : (is_with q (w.job k).at && ((w.job k).runs == 0)) ≡ true = one_set (is_with q (w.job k).at && ((w.job k).runs == 0)) (omega (arith, a, b, c)) in
-    let t : token_of i (w.job k).kind ≡ true = ap (token_of i) (s.2) ∙ eq-eqb i i refl in
+token_live : (w : World) (q : Party) (k i : ℕ) (b : Option ℕ) (fs : List Place) → w.stack q ≡ record { top = BeginTask (Token k i b); below = fs } → IsOnce w → Taking w (Token k i b) → live (own_pool q) i b (w.job k) ≡ 1
+token_live w q k i b fs e h s =
+    let a : held k (w.stack q) ≡ (one (k == k) + held_in k fs) = ap (held k) e in let c : one (k == k) ≡ 1 = ap one (eq-eqb k k refl) in
+    let f : held k (w.stack q) ≡ one (is_with q (w.job k).at && ((w.job k).runs == 0)) = h.hand q k in
+    let d : (is_with q (w.job k).at && ((w.job k).runs == 0)) ≡ true = one_set (is_with q (w.job k).at && ((w.job k).runs == 0)) (omega (arith, a, c, f)) in
+    let t : token_of i b (w.job k).kind ≡ true = ap (token_of i b) (s.2) ∙ own i b in
     let p : at_pool (own_pool q) (w.job k).at (w.job k).runs ≡ true = in_hand_live q (w.job k).at (w.job k).runs (s.0) d in
     ap (λ z. one (z && at_pool (own_pool q) (w.job k).at (w.job k).runs)) t ∙ ap one p
+  where
+    own : (i : ℕ) (b : Option ℕ) → ((i == i) && same_list b b) ≡ true
+    own i b = let x : (i == i) ≡ true = eq-eqb i i refl in let y : same_list b b ≡ true = same_list_refl b in rw x y
 
 -- the tokens of each FIFO list, and its holder, are no more than its jobs
 abbrev pub Stocks : World → Type 0
-Stocks w = (p j n : ℕ) → sum_below n (λ t. live p j (w.job t)) + one (is_held (w.seat p j).feeder) ≤ length (w.seat p j).fifo
+Stocks w = (p j : ℕ) (v : Option ℕ) (n : ℕ) → sum_below n (λ t. live p j v (w.job t)) + one (is_held ((w.seat p j).feeder v)) ≤ length ((w.seat p j).fifo v)
 
 pub record StocksHold (w : World) : Type 0 where
   pub calls : CallsHold w
@@ -182,82 +208,111 @@ pub record StocksHold (w : World) : Type 0 where
 abbrev Fairly : World → Party → Place → Seen × Part → Type 0
 Fairly w q x r = Fair q x (place_part w q x) r × Deals (put w.job (job_at w q (act_of q x)) (r.1.job)) (next_of (w.shape.pool (target_pool q (act_of q x))) q x (r.0))
 
+-- the pieces that a place deals are no tokens
+no_tokens : (w : World) (q : Party) (x : Place) (c : Pieces) (r : Seen × Part) → SaysPieces w c → Static (place_part w q x) r → NoTokens (put w.job (job_at w q (act_of q x)) (r.1.job)) c
+no_tokens w q x c r s st = λ t z. put_same (λ j. j.kind) w.job (job_at w q (act_of q x)) (r.1.job) t st.kind ∙ (s t z).kind
+
 push_deals : (w : World) (q : Party) (c : Pieces) (r : Seen × Part) → SaysPieces w c → Static (place_part w q (PushForAll c)) r → (e : Seen) → Deals (put w.job (job_at w q (act_of q (PushForAll c))) (r.1.job)) (next_of (w.shape.pool (target_pool q (act_of q (PushForAll c)))) q (PushForAll c) e)
-push_deals w q c r s st Done = λ t z. put_same (λ j. j.kind) w.job (job_at w q (act_of q (PushForAll c))) (r.1.job) t st.kind ∙ (s t z).kind
+push_deals w q c r s st Done = no_tokens w q (PushForAll c) c r s st
 push_deals w q c r s st _ = tt
 
+gather_deals : (w : World) (q : Party) (g : Gathering) (r : Seen × Part) → SaysPieces w g.pieces → Static (place_part w q (DealPieces g)) r → (e : Seen) → Deals (put w.job (job_at w q (act_of q (DealPieces g))) (r.1.job)) (next_of (w.shape.pool (target_pool q (act_of q (DealPieces g)))) q (DealPieces g) e)
+gather_deals w q g r s st Done = no_tokens w q (DealPieces g) g.pieces r s st
+gather_deals w q g r s st _ = tt
+
 go_deals : (w : World) (q : Party) (x : Place) → Says w q x → IfSome (effect (act_of q x) w.shape q (counts_at w (target_pool q (act_of q x))) (place_part w q x)) (λ r. Deals (put w.job (job_at w q (act_of q x)) (r.1.job)) (next_of (w.shape.pool (target_pool q (act_of q x))) q x (r.0)))
-go_deals w q (PushForAll c) s = if_some_map (Static (place_part w q (PushForAll c))) (λ r. Deals (put w.job (job_at w q (act_of q (PushForAll c))) (r.1.job)) (next_of (w.shape.pool (target_pool q (act_of q (PushForAll c)))) q (PushForAll c) (r.0))) (λ r st. push_deals w q c r s st (r.0)) _ (act_static w.shape q (counts_at w (target_pool q (act_of q (PushForAll c)))) (place_part w q (PushForAll c)) (PushForAll c))
+go_deals w q (PushForAll c) s = if_some_map (Static (place_part w q (PushForAll c))) (λ r. Deals (put w.job (job_at w q (act_of q (PushForAll c))) (r.1.job)) (next_of (w.shape.pool (target_pool q (act_of q (PushForAll c)))) q (PushForAll c) (r.0))) (λ r st. push_deals w q c r (s.0) st (r.0)) _ (act_static w.shape q (counts_at w (target_pool q (act_of q (PushForAll c)))) (place_part w q (PushForAll c)) (PushForAll c))
+go_deals w q (DealPieces g) s = if_some_map (Static (place_part w q (DealPieces g))) (λ r. Deals (put w.job (job_at w q (act_of q (DealPieces g))) (r.1.job)) (next_of (w.shape.pool (target_pool q (act_of q (DealPieces g)))) q (DealPieces g) (r.0))) (λ r st. gather_deals w q g r s.pieces st (r.0)) _ (act_static w.shape q (counts_at w (target_pool q (act_of q (DealPieces g)))) (place_part w q (DealPieces g)) (DealPieces g))
 go_deals w q x s = if_some_map (λ r. is_dealing (next_of (w.shape.pool (target_pool q (act_of q x))) q x (r.0)) ≡ false) (λ r. Deals (put w.job (job_at w q (act_of q x)) (r.1.job)) (next_of (w.shape.pool (target_pool q (act_of q x))) q x (r.0))) (λ r z. quiet_deals (put w.job (job_at w q (act_of q x)) (r.1.job)) (next_of (w.shape.pool (target_pool q (act_of q x))) q x (r.0)) z) _ (no_deals w.shape (w.shape.pool (target_pool q (act_of q x))) q (counts_at w (target_pool q (act_of q x))) (place_part w q x) x refl)
 
 -- an act, for each job
-old_less : (w : World) (q : Party) (x : Place) (fs : List Place) (r : Seen × Part) → Fairly w q x r → (p j t : ℕ) → (t == job_at w q (act_of q x)) ≡ false → live p j ((world_after w q x fs r).job t) ≤ live p j (w.job t)
-old_less w q x fs r f p j t e =
+old_less : (w : World) (q : Party) (x : Place) (fs : List Place) (r : Seen × Part) → Fairly w q x r → (p j : ℕ) (v : Option ℕ) (t : ℕ) → (t == job_at w q (act_of q x)) ≡ false → live p j v ((world_after w q x fs r).job t) ≤ live p j v (w.job t)
+old_less w q x fs r f p j v t e =
     let g : Move = next_of (w.shape.pool (target_pool q (act_of q x))) q x (r.0) in
-    let a : live p j ((world_after w q x fs r).job t) ≤ live p j (put w.job (job_at w q (act_of q x)) (r.1.job) t) = after_less p j q g (put w.job (job_at w q (act_of q x)) (r.1.job)) t (f.1) in
-    let b : live p j (put w.job (job_at w q (act_of q x)) (r.1.job) t) ≡ live p j (w.job t) = ap (live p j) (put_old w.job (job_at w q (act_of q x)) (r.1.job) t e) in omega (arith, a, b)
+    let a : live p j v ((world_after w q x fs r).job t) ≤ live p j v (put w.job (job_at w q (act_of q x)) (r.1.job) t) = after_less p j v q g (put w.job (job_at w q (act_of q x)) (r.1.job)) t (f.1) in
+    let b : live p j v (put w.job (job_at w q (act_of q x)) (r.1.job) t) ≡ live p j v (w.job t) = ap (live p j v) (put_old w.job (job_at w q (act_of q x)) (r.1.job) t e) in omega (arith, a, b)
 
-new_less : (w : World) (q : Party) (x : Place) (fs : List Place) (r : Seen × Part) → Fairly w q x r → (p j : ℕ) → live p j ((world_after w q x fs r).job (job_at w q (act_of q x))) ≤ live p j (w.job (job_at w q (act_of q x))) + up q x p j
-new_less w q x fs r f p j =
+new_less : (w : World) (q : Party) (x : Place) (fs : List Place) (r : Seen × Part) → Fairly w q x r → (p j : ℕ) (v : Option ℕ) → live p j v ((world_after w q x fs r).job (job_at w q (act_of q x))) ≤ live p j v (w.job (job_at w q (act_of q x))) + up q x p j v
+new_less w q x fs r f p j v =
     let g : Move = next_of (w.shape.pool (target_pool q (act_of q x))) q x (r.0) in
     let n : ℕ = job_at w q (act_of q x) in
-    let a : live p j ((world_after w q x fs r).job n) ≤ live p j (put w.job n (r.1.job) n) = after_less p j q g (put w.job n (r.1.job)) n (f.1) in
-    let b : live p j (put w.job n (r.1.job) n) ≡ live p j (r.1.job) = ap (live p j) (put_new w.job n (r.1.job)) in
-    let c : live p j (r.1.job) ≤ live p j (w.job n) + up q x p j = (f.0).job p j in omega (arith, a, b, c)
+    let a : live p j v ((world_after w q x fs r).job n) ≤ live p j v (put w.job n (r.1.job) n) = after_less p j v q g (put w.job n (r.1.job)) n (f.1) in
+    let b : live p j v (put w.job n (r.1.job) n) ≡ live p j v (r.1.job) = ap (live p j v) (put_new w.job n (r.1.job)) in
+    let c : live p j v (r.1.job) ≤ live p j v (w.job n) + up q x p j v = (f.0).job p j v in omega (arith, a, b, c)
 
 -- and for their sum
-act_sum : (w : World) (q : Party) (x : Place) (fs : List Place) (r : Seen × Part) → Fairly w q x r → (p j n : ℕ) → sum_below n (λ t. live p j ((world_after w q x fs r).job t)) ≤ sum_below n (λ t. live p j (w.job t)) + up q x p j
-act_sum w q x fs r f p j n = sum_put n (λ t. live p j (w.job t)) (λ t. live p j ((world_after w q x fs r).job t)) (job_at w q (act_of q x)) (up q x p j) (λ t e. old_less w q x fs r f p j t e) (new_less w q x fs r f p j)
+act_sum : (w : World) (q : Party) (x : Place) (fs : List Place) (r : Seen × Part) → Fairly w q x r → (p j : ℕ) (v : Option ℕ) (n : ℕ) → sum_below n (λ t. live p j v ((world_after w q x fs r).job t)) ≤ sum_below n (λ t. live p j v (w.job t)) + up q x p j v
+act_sum w q x fs r f p j v n = sum_put n (λ t. live p j v (w.job t)) (λ t. live p j v ((world_after w q x fs r).job t)) (job_at w q (act_of q x)) (up q x p j v) (λ t e. old_less w q x fs r f p j v t e) (new_less w q x fs r f p j v)
 
-up_most : (q : Party) (x : Place) (p j : ℕ) → up q x p j ≤ one (is_pushing x)
-up_most q x p j = by (is_pushing x) ((p == own_pool q) && (j == own_index q))
+up_most : (q : Party) (x : Place) (p j : ℕ) (v : Option ℕ) → up q x p j v ≤ one (pushes v x)
+up_most q x p j v = by (pushes v x) ((p == own_pool q) && (j == own_index q))
   where
     by : (a b : Bool) → one (a && b) ≤ one a
     by true true = omega arith
     by true false = omega arith
     by false b = omega arith
 
-up_other : (q : Party) (x : Place) (p j : ℕ) → ((p == target_pool q (act_of q x)) && (j == target_worker q (act_of q x))) ≡ false → up q x p j ≡ 0
-up_other (Worker a b) (PushToken f v) p j e = ap one e
-up_other (Caller c) (PushToken f v) p j e = ap one e
-up_other q _ p j e = refl
+up_other : (q : Party) (x : Place) (p j : ℕ) (v : Option ℕ) → ((p == target_pool q (act_of q x)) && (j == target_worker q (act_of q x))) ≡ false → up q x p j v ≡ 0
+up_other (Worker a b) (PushToken f t) p j v e = ap (λ z. one (same_list v (count_book f.count) && z)) e ∙ ap one (and_false (same_list v (count_book f.count)))
+up_other (Caller c) (PushToken f t) p j v e = ap (λ z. one (same_list v (count_book f.count) && z)) e ∙ ap one (and_false (same_list v (count_book f.count)))
+up_other q _ p j v e = refl
 
--- the list that an act touches
-plain_stocks : (w : World) (q : Party) (x : Place) (fs : List Place) (r : Seen × Part) → StocksHold w → Fairly w q x r → draws x ≡ 0 → (n : ℕ) → sum_below n (λ t. live (target_pool q (act_of q x)) (target_worker q (act_of q x)) ((world_after w q x fs r).job t)) + one (is_held r.1.seat.feeder) ≤ length r.1.seat.fifo
-plain_stocks w q x fs r h f z n =
+-- the seat of which an act touches a list, if it touches one
+abbrev there : Party → Place → ℕ × ℕ
+there q x = (target_pool q (act_of q x), target_worker q (act_of q x))
+
+-- the tokens of a list of that seat, and its holder, after an act
+abbrev Stocked : World → Party → Place → List Place → Seen × Part → Option ℕ → ℕ → Type 0
+Stocked w q x fs r v n = sum_below n (λ t. live ((there q x).0) ((there q x).1) v ((world_after w q x fs r).job t)) + one (is_held (r.1.seat.feeder v)) ≤ length (r.1.seat.fifo v)
+
+plain_stocks : (w : World) (q : Party) (x : Place) (fs : List Place) (r : Seen × Part) → StocksHold w → Fairly w q x r → (v : Option ℕ) → draws v x ≡ 0 → (n : ℕ) → Stocked w q x fs r v n
+plain_stocks w q x fs r h f v z n =
     let p : ℕ = target_pool q (act_of q x) in let j : ℕ = target_worker q (act_of q x) in
-    let a : sum_below n (λ t. live p j ((world_after w q x fs r).job t)) ≤ sum_below n (λ t. live p j (w.job t)) + up q x p j = act_sum w q x fs r f p j n in
-    let b : sum_below n (λ t. live p j (w.job t)) + one (is_held (w.seat p j).feeder) ≤ length (w.seat p j).fifo = h.stocks p j n in
-    let c : (one (is_held r.1.seat.feeder) + length (w.seat p j).fifo) + one (is_pushing x) ≤ (one (is_held (w.seat p j).feeder) + length r.1.seat.fifo) + draws x = (f.0).list in
-    let d : up q x p j ≤ one (is_pushing x) = up_most q x p j in omega (arith, a, b, c, d, z)
+    let a : sum_below n (λ t. live p j v ((world_after w q x fs r).job t)) ≤ sum_below n (λ t. live p j v (w.job t)) + up q x p j v = act_sum w q x fs r f p j v n in
+    let b : sum_below n (λ t. live p j v (w.job t)) + one (is_held ((w.seat p j).feeder v)) ≤ length ((w.seat p j).fifo v) = h.stocks p j v n in
+    let c : (one (is_held (r.1.seat.feeder v)) + length ((w.seat p j).fifo v)) + one (pushes v x) ≤ (one (is_held ((w.seat p j).feeder v)) + length (r.1.seat.fifo v)) + draws v x = (f.0).list v in
+    let d : up q x p j v ≤ one (pushes v x) = up_most q x p j v in omega (arith, a, b, c, d, z)
 
-token_at : (q : Party) (k i : ℕ) → (target_pool q (act_of q (BeginTask (Token k i))) ≡ own_pool q) × (target_worker q (act_of q (BeginTask (Token k i))) ≡ i)
-token_at (Worker a b) k i = (refl, refl)
-token_at (Caller c) k i = (refl, refl)
+token_at : (q : Party) (k i : ℕ) (b : Option ℕ) → (target_pool q (act_of q (BeginTask (Token k i b))) ≡ own_pool q) × (target_worker q (act_of q (BeginTask (Token k i b))) ≡ i)
+token_at (Worker a b) k i l = (refl, refl)
+token_at (Caller c) k i l = (refl, refl)
 
-drawn_less : (w : World) (q : Party) (k i : ℕ) (fs : List Place) (r : Seen × Part) → Fairly w q (BeginTask (Token k i)) r → (p j t : ℕ) → live p j ((world_after w q (BeginTask (Token k i)) fs r).job t) ≤ live p j (w.job t)
-drawn_less w q k i fs r f p j t = elim (either (t == job_at w q (act_of q (BeginTask (Token k i))))) [
-  | inl y ↦ subst (λ n. live p j ((world_after w q (BeginTask (Token k i)) fs r).job n) ≤ live p j (w.job n)) (sym (eqb-true t (job_at w q (act_of q (BeginTask (Token k i)))) y))
-      (let a : live p j ((world_after w q (BeginTask (Token k i)) fs r).job (job_at w q (act_of q (BeginTask (Token k i))))) ≤ live p j (w.job (job_at w q (act_of q (BeginTask (Token k i))))) + 0 = new_less w q (BeginTask (Token k i)) fs r f p j in omega (arith, a))
-  | inr y ↦ old_less w q (BeginTask (Token k i)) fs r f p j t y
+drawn_less : (w : World) (q : Party) (x : Place) (fs : List Place) (r : Seen × Part) → is_pushing x ≡ false → Fairly w q x r → (p j : ℕ) (v : Option ℕ) (t : ℕ) → live p j v ((world_after w q x fs r).job t) ≤ live p j v (w.job t)
+drawn_less w q x fs r z f p j v t = elim (either (t == job_at w q (act_of q x))) [
+  | inl y ↦ subst (λ n. live p j v ((world_after w q x fs r).job n) ≤ live p j v (w.job n)) (sym (eqb-true t (job_at w q (act_of q x)) y))
+      (let a : live p j v ((world_after w q x fs r).job (job_at w q (act_of q x))) ≤ live p j v (w.job (job_at w q (act_of q x))) + up q x p j v = new_less w q x fs r f p j v in let b : up q x p j v ≡ 0 = none in omega (arith, a, b))
+  | inr y ↦ old_less w q x fs r f p j v t y
 ]
+  where
+    none : up q x p j v ≡ 0
+    none = ap (λ b. one (b && ((p == own_pool q) && (j == own_index q)))) (no_pushes v x z)
 
-drawn_stocks : (w : World) (q : Party) (k i : ℕ) (fs : List Place) (r : Seen × Part) → w.stack q ≡ record { top = BeginTask (Token k i); below = fs } → StocksHold w → Fairly w q (BeginTask (Token k i)) r → (n : ℕ) → sum_below n (λ t. live (target_pool q (act_of q (BeginTask (Token k i)))) (target_worker q (act_of q (BeginTask (Token k i)))) ((world_after w q (BeginTask (Token k i)) fs r).job t)) + one (is_held r.1.seat.feeder) ≤ length r.1.seat.fifo
-drawn_stocks w q k i fs r e h f n =
-    let p : ℕ = target_pool q (act_of q (BeginTask (Token k i))) in let j : ℕ = target_worker q (act_of q (BeginTask (Token k i))) in
-    let was : live p j (w.job k) ≡ 1 = subst (λ a. live a j (w.job k) ≡ 1) (sym ((token_at q k i).0)) (subst (λ b. live (own_pool q) b (w.job k) ≡ 1) (sym ((token_at q k i).1)) (token_live w q k i fs e (once w ((h.calls).jobs)) (top_says w q (BeginTask (Token k i)) fs h.calls e))) in
-    let now : live p j ((world_after w q (BeginTask (Token k i)) fs r).job k) ≡ 0 = begin_spends p j q k i (r.0) (put w.job (job_at w q (act_of q (BeginTask (Token k i)))) (r.1.job)) in
-    let a : sum_below n (λ t. live p j ((world_after w q (BeginTask (Token k i)) fs r).job t)) ≤ sum_below (suc k + n) (λ t. live p j ((world_after w q (BeginTask (Token k i)) fs r).job t)) = sum_up (suc k) n (λ t. live p j ((world_after w q (BeginTask (Token k i)) fs r).job t)) in
-    let b : sum_below (suc k + n) (λ t. live p j ((world_after w q (BeginTask (Token k i)) fs r).job t)) + 1 ≤ sum_below (suc k + n) (λ t. live p j (w.job t)) = sum_less (suc k + n) (λ t. live p j (w.job t)) (λ t. live p j ((world_after w q (BeginTask (Token k i)) fs r).job t)) k (omega arith) (λ t. drawn_less w q k i fs r f p j t) (omega (arith, was, now)) in
-    let c : sum_below (suc k + n) (λ t. live p j (w.job t)) + one (is_held (w.seat p j).feeder) ≤ length (w.seat p j).fifo = h.stocks p j (suc k + n) in
-    let d : (one (is_held r.1.seat.feeder) + length (w.seat p j).fifo) + 0 ≤ (one (is_held (w.seat p j).feeder) + length r.1.seat.fifo) + 1 = (f.0).list in omega (arith, a, b, c, d)
+-- the list from which a token's job is drawn
+drawn_stocks : (w : World) (q : Party) (k i : ℕ) (b : Option ℕ) (fs : List Place) (r : Seen × Part) → w.stack q ≡ record { top = BeginTask (Token k i b); below = fs } → StocksHold w → Fairly w q (BeginTask (Token k i b)) r → (n : ℕ) → Stocked w q (BeginTask (Token k i b)) fs r b n
+drawn_stocks w q k i b fs r e h f n =
+    let x : Place = BeginTask (Token k i b) in
+    let p : ℕ = target_pool q (act_of q x) in let j : ℕ = target_worker q (act_of q x) in
+    let was : live p j b (w.job k) ≡ 1 = subst (λ a. live a j b (w.job k) ≡ 1) (sym ((token_at q k i b).0)) (subst (λ d. live (own_pool q) d b (w.job k) ≡ 1) (sym ((token_at q k i b).1)) (token_live w q k i b fs e (once w ((h.calls).jobs)) (top_says w q x fs h.calls e))) in
+    let now : live p j b ((world_after w q x fs r).job k) ≡ 0 = begin_spends p j b q k i b (r.0) (put w.job (job_at w q (act_of q x)) (r.1.job)) in
+    let a : sum_below n (λ t. live p j b ((world_after w q x fs r).job t)) ≤ sum_below (suc k + n) (λ t. live p j b ((world_after w q x fs r).job t)) = sum_up (suc k) n (λ t. live p j b ((world_after w q x fs r).job t)) in
+    let d : sum_below (suc k + n) (λ t. live p j b ((world_after w q x fs r).job t)) + 1 ≤ sum_below (suc k + n) (λ t. live p j b (w.job t)) = sum_less (suc k + n) (λ t. live p j b (w.job t)) (λ t. live p j b ((world_after w q x fs r).job t)) k (omega arith) (λ t. drawn_less w q x fs r refl f p j b t) (omega (arith, was, now)) in
+    let c : sum_below (suc k + n) (λ t. live p j b (w.job t)) + one (is_held ((w.seat p j).feeder b)) ≤ length ((w.seat p j).fifo b) = h.stocks p j b (suc k + n) in
+    let g : (one (is_held (r.1.seat.feeder b)) + length ((w.seat p j).fifo b)) + 0 ≤ (one (is_held ((w.seat p j).feeder b)) + length (r.1.seat.fifo b)) + one (same_list b b) = (f.0).list b in
+    let one_at : one (same_list b b) ≡ 1 = ap one (same_list_refl b) in omega (arith, a, d, c, g, one_at)
 
-own_stocks : (w : World) (q : Party) (x : Place) (fs : List Place) (r : Seen × Part) → w.stack q ≡ record { top = x; below = fs } → StocksHold w → Fairly w q x r → (n : ℕ) → sum_below n (λ t. live (target_pool q (act_of q x)) (target_worker q (act_of q x)) ((world_after w q x fs r).job t)) + one (is_held r.1.seat.feeder) ≤ length r.1.seat.fifo
-own_stocks w q (BeginTask (Token k i)) fs r e h f n = drawn_stocks w q k i fs r e h f n
-own_stocks w q x fs r e h f n = plain_stocks w q x fs r h f refl n
+token_stocks : (w : World) (q : Party) (k i : ℕ) (b : Option ℕ) (fs : List Place) (r : Seen × Part) → w.stack q ≡ record { top = BeginTask (Token k i b); below = fs } → StocksHold w → Fairly w q (BeginTask (Token k i b)) r → (v : Option ℕ) (n : ℕ) → Stocked w q (BeginTask (Token k i b)) fs r v n
+token_stocks w q k i b fs r e h f v n = by (same_list v b) refl
+  where
+    by : (z : Bool) → same_list v b ≡ z → Stocked w q (BeginTask (Token k i b)) fs r v n
+    by true z = subst (λ c. Stocked w q (BeginTask (Token k i b)) fs r c n) (sym (same_list_true v b z)) (drawn_stocks w q k i b fs r e h f n)
+    by false z = plain_stocks w q (BeginTask (Token k i b)) fs r h f v (ap one z) n
+
+own_stocks : (w : World) (q : Party) (x : Place) (fs : List Place) (r : Seen × Part) → w.stack q ≡ record { top = x; below = fs } → StocksHold w → Fairly w q x r → (v : Option ℕ) (n : ℕ) → Stocked w q x fs r v n
+own_stocks w q (BeginTask (Token k i b)) fs r e h f v n = token_stocks w q k i b fs r e h f v n
+own_stocks w q x fs r e h f v n = plain_stocks w q x fs r h f v refl n
 
 act_stocks : (w : World) (q : Party) (x : Place) (fs : List Place) (r : Seen × Part) → w.stack q ≡ record { top = x; below = fs } → StocksHold w → Fairly w q x r → Stocks (world_after w q x fs r)
-act_stocks w q x fs r e h f p j n = by ((p == p0) && (j == i0)) refl
+act_stocks w q x fs r e h f p j v n = by ((p == p0) && (j == i0)) refl
   where
     p0 : ℕ
     p0 = target_pool q (act_of q x)
@@ -265,99 +320,123 @@ act_stocks w q x fs r e h f p j n = by ((p == p0) && (j == i0)) refl
     i0 : ℕ
     i0 = target_worker q (act_of q x)
 
-    by : (b : Bool) → ((p == p0) && (j == i0)) ≡ b → sum_below n (λ t. live p j ((world_after w q x fs r).job t)) + one (is_held (if b then r.1.seat else w.seat p j).feeder) ≤ length (if b then r.1.seat else w.seat p j).fifo
+    by : (b : Bool) → ((p == p0) && (j == i0)) ≡ b → sum_below n (λ t. live p j v ((world_after w q x fs r).job t)) + one (is_held ((if b then r.1.seat else w.seat p j).feeder v)) ≤ length ((if b then r.1.seat else w.seat p j).fifo v)
     by true y = let i : (p ≡ p0) × (j ≡ i0) = same_index p j p0 i0 y in
-        subst (λ a. sum_below n (λ t. live a j ((world_after w q x fs r).job t)) + one (is_held r.1.seat.feeder) ≤ length r.1.seat.fifo) (sym (i.0)) (subst (λ b. sum_below n (λ t. live p0 b ((world_after w q x fs r).job t)) + one (is_held r.1.seat.feeder) ≤ length r.1.seat.fifo) (sym (i.1)) (own_stocks w q x fs r e h f n))
+        subst (λ a. sum_below n (λ t. live a j v ((world_after w q x fs r).job t)) + one (is_held (r.1.seat.feeder v)) ≤ length (r.1.seat.fifo v)) (sym (i.0)) (subst (λ b. sum_below n (λ t. live p0 b v ((world_after w q x fs r).job t)) + one (is_held (r.1.seat.feeder v)) ≤ length (r.1.seat.fifo v)) (sym (i.1)) (own_stocks w q x fs r e h f v n))
     by false y =
-        let a : sum_below n (λ t. live p j ((world_after w q x fs r).job t)) ≤ sum_below n (λ t. live p j (w.job t)) + up q x p j = act_sum w q x fs r f p j n in
-        let b : sum_below n (λ t. live p j (w.job t)) + one (is_held (w.seat p j).feeder) ≤ length (w.seat p j).fifo = h.stocks p j n in
-        let c : up q x p j ≡ 0 = up_other q x p j y in omega (arith, a, b, c)
+        let a : sum_below n (λ t. live p j v ((world_after w q x fs r).job t)) ≤ sum_below n (λ t. live p j v (w.job t)) + up q x p j v = act_sum w q x fs r f p j v n in
+        let b : sum_below n (λ t. live p j v (w.job t)) + one (is_held ((w.seat p j).feeder v)) ≤ length ((w.seat p j).fifo v) = h.stocks p j v n in
+        let c : up q x p j v ≡ 0 = up_other q x p j v y in omega (arith, a, b, c)
 
 go_stocks : (w : World) (q : Party) → StocksHold w → IfSome (outcome w q (w.stack q)) (λ r. Stocks (result w q (w.stack q) r))
 go_stocks w q h = if_some_map (Fairly w q ((w.stack q).top)) (λ r. Stocks (result w q (w.stack q) r)) (λ r f. act_stocks w q ((w.stack q).top) ((w.stack q).below) r refl h f) (outcome w q (w.stack q))
-    (if_some_and (Fair q ((w.stack q).top) (place_part w q ((w.stack q).top))) (λ r. Deals (put w.job (job_at w q (act_of q ((w.stack q).top))) (r.1.job)) (next_of (w.shape.pool (target_pool q (act_of q ((w.stack q).top)))) q ((w.stack q).top) (r.0))) (outcome w q (w.stack q)) (act_fair w q ((w.stack q).top) (once w ((h.calls).jobs)) (((h.calls).says q).top) (λ p i e z. held p i e z)) (go_deals w q ((w.stack q).top) (((h.calls).says q).top)))
+    (if_some_and (Fair q ((w.stack q).top) (place_part w q ((w.stack q).top))) (λ r. Deals (put w.job (job_at w q (act_of q ((w.stack q).top))) (r.1.job)) (next_of (w.shape.pool (target_pool q (act_of q ((w.stack q).top)))) q ((w.stack q).top) (r.0))) (outcome w q (w.stack q)) (act_fair w q ((w.stack q).top) (once w ((h.calls).jobs)) (((h.calls).says q).top) (λ p i f e z. held p i f e z)) (go_deals w q ((w.stack q).top) (((h.calls).says q).top)))
   where
-    held : (p i : ℕ) → q ≡ Worker p i → is_waiting ((w.stack q).top) ≡ true → (w.seat p i).feeder ≡ Some (Worker p i)
-    held p i e z = some ((w.stack (Worker p i)).top) refl (ap (λ g. is_waiting ((w.stack g).top)) (sym e) ∙ z)
-      where
-        some : (x : Place) → (w.stack (Worker p i)).top ≡ x → is_waiting x ≡ true → (w.seat p i).feeder ≡ Some (Worker p i)
-        some (LookForToken f) y d = ((h.feeders).feeds p i f (ap waits y)).0
-        some (PushToken f v) y d = ((h.feeders).feeds p i f (ap waits y)).0
-        some (TakeFromFifo f) y d = ((h.feeders).feeds p i f (ap waits y)).0
-        some _ y d = absurd (cc)
+    held : (p i : ℕ) (f : Feeding) → q ≡ Worker p i → waits ((w.stack q).top) ≡ Some f → (w.seat p i).feeder (count_book f.count) ≡ Some (Worker p i)
+    held p i f e z = ((h.feeders).feeds p i f (ap (λ g. waits ((w.stack g).top)) (sym e) ∙ z)).0
 
 -- an event that is no act makes no more of them, and leaves the lists
 abbrev pub Fades : World → World → Type 0
-Fades w u = ((p j t : ℕ) → live p j (u.job t) ≤ live p j (w.job t)) × ((p j : ℕ) → u.seat p j ≡ w.seat p j)
+Fades w u = ((p j : ℕ) (v : Option ℕ) (t : ℕ) → live p j v (u.job t) ≤ live p j v (w.job t)) × ((p j : ℕ) → u.seat p j ≡ w.seat p j)
 
 fade_stocks : (w u : World) → Stocks w → Fades w u → Stocks u
-fade_stocks w u h f p j n =
-    let a : sum_below n (λ t. live p j (u.job t)) ≤ sum_below n (λ t. live p j (w.job t)) = sum_least_of n (λ t. live p j (w.job t)) (λ t. live p j (u.job t)) (λ t l. f.0 p j t) in
-    let b : sum_below n (λ t. live p j (w.job t)) + one (is_held (w.seat p j).feeder) ≤ length (w.seat p j).fifo = h p j n in
-    subst (λ s. sum_below n (λ t. live p j (u.job t)) + one (is_held s.feeder) ≤ length s.fifo) (sym (f.1 p j)) (omega (arith, a, b))
+fade_stocks w u h f p j v n =
+    let a : sum_below n (λ t. live p j v (u.job t)) ≤ sum_below n (λ t. live p j v (w.job t)) = sum_least_of n (λ t. live p j v (w.job t)) (λ t. live p j v (u.job t)) (λ t l. f.0 p j v t) in
+    let b : sum_below n (λ t. live p j v (w.job t)) + one (is_held ((w.seat p j).feeder v)) ≤ length ((w.seat p j).fifo v) = h p j v n in
+    subst (λ s. sum_below n (λ t. live p j v (u.job t)) + one (is_held (s.feeder v)) ≤ length (s.fifo v)) (sym (f.1 p j)) (omega (arith, a, b))
 
 from_fades : (w : World) (q : Party) (k : Stack) (x : Place) (v : ℕ) → IfSome (after_choice w q k x v) (Fades w)
-from_fades w q k (PickVictim n) v = if_cond (Fades w) (nat_lt v (w.shape.pool (own_pool q)).workers) _ (λ b. (λ p j t. omega arith, λ p j. refl))
-from_fades w q k YieldPick v = if_cond (Fades w) (nat_lt v (w.shape.pool (own_pool q)).workers) _ (λ b. (λ p j t. omega arith, λ p j. refl))
+from_fades w q k (PickVictim n) v = if_cond (Fades w) (nat_lt v (w.shape.pool (own_pool q)).workers) _ (λ b. (λ p j v t. omega arith, λ p j. refl))
+from_fades w q k YieldPick v = if_cond (Fades w) (nat_lt v (w.shape.pool (own_pool q)).workers) _ (λ b. (λ p j v t. omega arith, λ p j. refl))
 from_fades w q k _ v = tt
 
 miss_fades : (w : World) (q : Party) (k : Stack) (x : Place) → IfSome (after_miss w q k x) (Fades w)
-miss_fades w (Worker a b) k (StealFrom c n) = if_cond (Fades w) (can_miss w a c.victim) _ (λ y. (λ p j t. omega arith, λ p j. refl))
-miss_fades w (Worker a b) k (YieldSteal v n) = if_cond (Fades w) (can_miss w a v) _ (λ y. (λ p j t. omega arith, λ p j. refl))
+miss_fades w (Worker a b) k (StealFrom c n) = if_cond (Fades w) (can_miss w a c.victim) _ (λ y. (λ p j v t. omega arith, λ p j. refl))
+miss_fades w (Worker a b) k (YieldSteal v n) = if_cond (Fades w) (can_miss w a v) _ (λ y. (λ p j v t. omega arith, λ p j. refl))
 miss_fades w (Worker a b) k _ = tt
 miss_fades w (Caller c) k _ = tt
 
 end_fades : (w : World) (q : Party) (d : Ending) (k : Stack) (x : Place) → IfSome (after_end w q d k x) (Fades w)
-end_fades w q d k (Run u c) = (λ p j t. put_less p j w.job u (at_job (w.job u) (Over d)) t (off_less p j (at_job (w.job u) (Over d)) (live p j (w.job u)) refl), λ p j. refl)
+end_fades w q d k (Run u c) = (λ p j v t. put_less p j v w.job u (at_job (w.job u) (Over d)) t (off_less p j v (at_job (w.job u) (Over d)) (live p j v (w.job u)) refl), λ p j. refl)
 end_fades w q d k _ = tt
 
-new_less_job : (p j : ℕ) (f : ℕ → Job) (n : ℕ) (q : Party) (a : ℕ) (k : JobKind) (t : ℕ) → live p j (put f n (new_job q a k) t) ≤ live p j (f t)
-new_less_job p j f n q a k t = put_less p j f n (new_job q a k) t (off_less p j (new_job q a k) (live p j (f n)) refl)
+new_less_job : (p j : ℕ) (v : Option ℕ) (f : ℕ → Job) (n : ℕ) (q : Party) (a : ℕ) (k : JobKind) (t : ℕ) → live p j v (put f n (new_job q a k) t) ≤ live p j v (f t)
+new_less_job p j v f n q a k t = put_less p j v f n (new_job q a k) t (off_less p j v (new_job q a k) (live p j v (f n)) refl)
 
-two_less_jobs : (p j : ℕ) (f : ℕ → Job) (n : ℕ) (q : Party) (a : ℕ) (k l : JobKind) (t : ℕ) → live p j (put (put f n (new_job q a k)) (n + 1) (new_job q a l) t) ≤ live p j (f t)
-two_less_jobs p j f n q a k l t =
-    let x : live p j (put (put f n (new_job q a k)) (n + 1) (new_job q a l) t) ≤ live p j (put f n (new_job q a k) t) = new_less_job p j (put f n (new_job q a k)) (n + 1) q a l t in
-    let y : live p j (put f n (new_job q a k) t) ≤ live p j (f t) = new_less_job p j f n q a k t in omega (arith, x, y)
+two_less_jobs : (p j : ℕ) (v : Option ℕ) (f : ℕ → Job) (n : ℕ) (q : Party) (a : ℕ) (k l : JobKind) (t : ℕ) → live p j v (put (put f n (new_job q a k)) (n + 1) (new_job q a l) t) ≤ live p j v (f t)
+two_less_jobs p j v f n q a k l t =
+    let x : live p j v (put (put f n (new_job q a k)) (n + 1) (new_job q a l) t) ≤ live p j v (put f n (new_job q a k) t) = new_less_job p j v (put f n (new_job q a k)) (n + 1) q a l t in
+    let y : live p j v (put f n (new_job q a k) t) ≤ live p j v (f t) = new_less_job p j v f n q a k t in omega (arith, x, y)
 
 spawn_fades : (w : World) (q : Party) (r : ℕ) → IfSome (after_spawn w q r (w.stack q)) (Fades w)
-spawn_fades w q r = if_cond (Fades w) (is_free ((w.stack q).top) && is_pool w.shape r) _ (λ b. (λ p j t. new_less_job p j w.job w.jobs q r (Detached r) t, λ p j. refl))
+spawn_fades w q r = if_cond (Fades w) (is_free ((w.stack q).top) && is_pool w.shape r) _ (λ b. (λ p j v t. new_less_job p j v w.job w.jobs q r (Detached r) t, λ p j. refl))
 
-cast_fades : (w : World) (q : Party) (r : ℕ) → IfSome (after_cast w q r (w.stack q)) (Fades w)
-cast_fades w q r = if_cond (Fades w) (is_free ((w.stack q).top) && is_pool w.shape r) _ (λ b. (λ p j t. new p j t (is_piece c t), λ p j. refl))
+-- a broadcast begins, and a spawn in order
+new_less_pieces : (p j : ℕ) (v : Option ℕ) (f : ℕ → Job) (c : Pieces) (q : Party) (k : Count) (r t : ℕ) (b : Bool) → live p j v (if b then new_piece q k r (t - c.first) else f t) ≤ live p j v (f t)
+new_less_pieces p j v f c q k r t true = off_less p j v (new_piece q k r (t - c.first)) (live p j v (f t)) refl
+new_less_pieces p j v f c q k r t false = omega arith
+
+deal_fades : (w : World) (q : Party) (k : Count) (r : ℕ) → Fades w (after_deal w q k r (w.stack q))
+deal_fades w q k r = (λ p j v t. new_less_pieces p j v w.job c q k r t (is_piece c t), λ p j. refl)
   where
     c : Pieces
-    c = record { pool = r; first = w.jobs; workers = (w.shape.pool r).workers }
+    c = record { count = k; pool = r; first = w.jobs; workers = (w.shape.pool r).workers }
 
-    new : (p j t : ℕ) (b : Bool) → live p j (if b then new_piece q r (t - c.first) else w.job t) ≤ live p j (w.job t)
-    new p j t true = off_less p j (new_piece q r (t - c.first)) (live p j (w.job t)) refl
-    new p j t false = omega arith
+feed_fades : (w : World) (k : Count) (r i : ℕ) → Fades w (after_feed w k r i (w.stack (Worker r i)))
+feed_fades w k r i = (λ p j v t. two_less_jobs p j v w.job w.jobs (Worker r i) r (count_kind k) (TokenOf i (count_book k)) t, λ p j. refl)
+
+cast_fades : (w : World) (q : Party) (r : ℕ) → IfSome (after_cast w q r (w.stack q)) (Fades w)
+cast_fades w q r = if_cond (Fades w) (is_free ((w.stack q).top) && is_pool w.shape r) _ (λ b. deal_fades w q (OfPool r) r)
+
+gather_fades : (w : World) (q : Party) (r : ℕ) → IfSome (after_broadcast w q r (w.stack q)) (Fades w)
+gather_fades w q r = if_cond (Fades w) (is_free ((w.stack q).top) && is_pool w.shape r) _ (λ b. (λ p j v t. whole p j v t, λ p j. refl))
+  where
+    c : Pieces
+    c = record { count = OfCast w.calls q; pool = r; first = w.jobs; workers = (w.shape.pool r).workers }
+
+    f : ℕ → Job
+    f = put_pieces c (λ i j. new_piece q c.count r i) w.job
+
+    whole : (p j : ℕ) (v : Option ℕ) (t : ℕ) → live p j v (put f (w.jobs + c.workers) (new_whole q r w.calls) t) ≤ live p j v (w.job t)
+    whole p j v t =
+        let a : live p j v (put f (w.jobs + c.workers) (new_whole q r w.calls) t) ≤ live p j v (f t) = put_less p j v f (w.jobs + c.workers) (new_whole q r w.calls) t (off_less p j v (new_whole q r w.calls) (live p j v (f (w.jobs + c.workers))) refl) in
+        let b : live p j v (f t) ≤ live p j v (w.job t) = new_less_pieces p j v w.job c q c.count r t (is_piece c t) in omega (arith, a, b)
 
 fifo_fades : (w : World) (q : Party) (r : ℕ) → IfSome (after_fifo w q r (w.stack q)) (Fades w)
-fifo_fades w q r = fifo_cases (Fades w) w q r (spawn_fades w q r) (λ i free. (λ p j t. two_less_jobs p j w.job w.jobs (Worker r i) r (Detached r) (TokenOf i) t, λ p j. refl))
+fifo_fades w q r = fifo_cases (Fades w) w q r (spawn_fades w q r) (λ i free. feed_fades w (OfPool r) r i)
 
 sent_fades : (w : World) (q : Party) (r : ℕ) (b : Bool) → Fades w (after_send w q r (w.stack q) b)
-sent_fades w q r true = (λ p j t. new_less_job p j w.job w.jobs q r Direct t, λ p j. refl)
-sent_fades w q r false = (λ p j t. new_less_job p j w.job w.jobs q r (Stored w.calls q) t, λ p j. refl)
+sent_fades w q r true = (λ p j v t. new_less_job p j v w.job w.jobs q r Direct t, λ p j. refl)
+sent_fades w q r false = (λ p j v t. new_less_job p j v w.job w.jobs q r (Stored w.calls q) t, λ p j. refl)
 
 install_fades : (w : World) (q : Party) (r : ℕ) → IfSome (after_install w q r (w.stack q)) (Fades w)
 install_fades w q r = if_cond (Fades w) (is_free ((w.stack q).top) && is_pool w.shape r) _ (λ e. sent_fades w q r (is_member q r))
 
 scope_fades : (w : World) (q : Party) (r : ℕ) → IfSome (after_scope w q r (w.stack q)) (Fades w)
-scope_fades w q r = if_cond (Fades w) (is_free ((w.stack q).top) && is_pool w.shape r) _ (λ b. (λ p j t. new_less_job p j w.job w.jobs q r (BodyOf w.calls q) t, λ p j. refl))
+scope_fades w q r = if_cond (Fades w) (is_free ((w.stack q).top) && is_pool w.shape r) _ (λ b. (λ p j v t. new_less_job p j v w.job w.jobs q r (BodyOf w.calls q) t, λ p j. refl))
+
+enter_fades : (w : World) (q : Party) (z : Scope) → IfSome (after_enter w q (w.stack q) (Some z)) (Fades w)
+enter_fades w q z = if_cond (Fades w) (is_free ((w.stack q).top) && holds z.call (w.stack q)) _ (λ b. (λ p j v t. new_less_job p j v w.job w.jobs q z.pool (Scoped z.call z.owner) t, λ p j. refl))
 
 into_fades : (w : World) (q : Party) (n : ℕ) → IfSome (after_into w q n (w.stack q)) (Fades w)
-into_fades w q n = into_cases (Fades w) w q n (λ z e free held. if_cond (Fades w) (is_free ((w.stack q).top) && holds z.call (w.stack q)) _ (λ b. (λ p j t. new_less_job p j w.job w.jobs q z.pool (Scoped z.call z.owner) t, λ p j. refl)))
+into_fades w q n = into_cases (Fades w) w q n (λ z e free held. enter_fades w q z)
+
+into_fifo_fades : (w : World) (q : Party) (n : ℕ) → IfSome (after_into_fifo w q n (w.stack q)) (Fades w)
+into_fifo_fades w q n = into_fifo_cases (Fades w) w q n (λ z e free held. enter_fades w q z) (λ z i e free held. feed_fades w (OfScope z.call z.owner) z.pool i)
+
+into_cast_fades : (w : World) (q : Party) (n : ℕ) → IfSome (after_into_cast w q n (w.stack q)) (Fades w)
+into_cast_fades w q n = into_cast_cases (Fades w) w q n (λ z e free held. deal_fades w q (OfScope z.call z.owner) z.pool)
 
 join_fades : (w : World) (q : Party) → IfSome (after_join w q (w.stack q)) (Fades w)
-join_fades w (Worker a b) = if_cond (Fades w) (is_free ((w.stack (Worker a b)).top)) _ (λ z. (λ p j t. two_less_jobs p j w.job w.jobs (Worker a b) a Direct (Stored w.calls (Worker a b)) t, λ p j. refl))
+join_fades w (Worker a b) = if_cond (Fades w) (is_free ((w.stack (Worker a b)).top)) _ (λ z. (λ p j v t. two_less_jobs p j v w.job w.jobs (Worker a b) a Direct (Stored w.calls (Worker a b)) t, λ p j. refl))
 join_fades w (Caller n) = tt
 
 yield_fades : (w : World) (q : Party) (x : Place) → IfSome (after_yield w q (w.stack q) x) (Fades w)
-yield_fades w (Worker a b) x = if_cond (Fades w) (is_free ((w.stack (Worker a b)).top)) _ (λ z. (λ p j t. omega arith, λ p j. refl))
+yield_fades w (Worker a b) x = if_cond (Fades w) (is_free ((w.stack (Worker a b)).top)) _ (λ z. (λ p j v t. omega arith, λ p j. refl))
 yield_fades w (Caller c) x = tt
 
 give_fades : (w : World) (q : Party) (r : ℕ) → IfSome (after_end_pool w q r (w.stack q)) (Fades w)
-give_fades w q r = if_cond (Fades w) (is_free ((w.stack q).top) && (is_pool w.shape r && (w.pool r).held)) _ (λ b. (λ p j t. omega arith, λ p j. refl))
+give_fades w q r = if_cond (Fades w) (is_free ((w.stack q).top) && (is_pool w.shape r && (w.pool r).held)) _ (λ b. (λ p j v t. omega arith, λ p j. refl))
 
 step_fade : (w : World) (e : Event) → StocksHold w → IfSome (step w e) (Fades w) → IfSome (step w e) Stocks
 step_fade w e h f = if_some_map (Fades w) Stocks (λ u g. fade_stocks w u h.stocks g) (step w e) f
@@ -369,7 +448,7 @@ is_act _ = false
 pub event_fades : (w : World) (e : Event) → is_act e ≡ false → IfSome (step w e) (Fades w)
 event_fades w (Go q) e = absurd (cc)
 event_fades w (From q v) e = from_fades w q (w.stack q) ((w.stack q).top) v
-event_fades w (Refuse q) e = if_cond (Fades w) (is_refusable ((w.stack q).top)) _ (λ b. (λ p j t. omega arith, λ p j. refl))
+event_fades w (Refuse q) e = if_cond (Fades w) (is_refusable ((w.stack q).top)) _ (λ b. (λ p j v t. omega arith, λ p j. refl))
 event_fades w (Miss q) e = miss_fades w q (w.stack q) ((w.stack q).top)
 event_fades w (End q d) e = end_fades w q d (w.stack q) ((w.stack q).top)
 event_fades w (Spawn q p) e = spawn_fades w q p
@@ -379,6 +458,9 @@ event_fades w (Install q p) e = install_fades w q p
 event_fades w (Join q) e = join_fades w q
 event_fades w (OpenScope q p) e = scope_fades w q p
 event_fades w (IntoSpawn q n) e = into_fades w q n
+event_fades w (IntoFifo q n) e = into_fifo_fades w q n
+event_fades w (IntoCast q n) e = into_cast_fades w q n
+event_fades w (Broadcast q p) e = gather_fades w q p
 event_fades w (Yield q) e = yield_fades w q YieldPop
 event_fades w (YieldLocal q) e = yield_fades w q LocalPop
 event_fades w (EndPool q p) e = give_fades w q p
@@ -396,6 +478,9 @@ step_sums w (Install q p) h = step_fade w (Install q p) h (event_fades w (Instal
 step_sums w (Join q) h = step_fade w (Join q) h (event_fades w (Join q) refl)
 step_sums w (OpenScope q p) h = step_fade w (OpenScope q p) h (event_fades w (OpenScope q p) refl)
 step_sums w (IntoSpawn q n) h = step_fade w (IntoSpawn q n) h (event_fades w (IntoSpawn q n) refl)
+step_sums w (IntoFifo q n) h = step_fade w (IntoFifo q n) h (event_fades w (IntoFifo q n) refl)
+step_sums w (IntoCast q n) h = step_fade w (IntoCast q n) h (event_fades w (IntoCast q n) refl)
+step_sums w (Broadcast q p) h = step_fade w (Broadcast q p) h (event_fades w (Broadcast q p) refl)
 step_sums w (Yield q) h = step_fade w (Yield q) h (event_fades w (Yield q) refl)
 step_sums w (YieldLocal q) h = step_fade w (YieldLocal q) h (event_fades w (YieldLocal q) refl)
 step_sums w (EndPool q p) h = step_fade w (EndPool q p) h (event_fades w (EndPool q p) refl)
@@ -405,48 +490,48 @@ step_stocks w e h = if_some_map (λ u. CallsHold u × (FeedersHold u × Stocks u
     (if_some_and CallsHold (λ u. FeedersHold u × Stocks u) (step w e) (step_calls w e h.calls) (if_some_and FeedersHold Stocks (step w e) (step_feeders w e h.feeders) (step_sums w e h)))
 
 -- in the first world there is none
-first_none : (n p j : ℕ) → sum_below n (λ t. live p j blank_job) ≡ 0
-first_none zero p j = refl
-first_none (suc n) p j = let a : sum_below n (λ t. live p j blank_job) ≡ 0 = first_none n p j in omega (arith, a)
+first_none : (n p j : ℕ) (v : Option ℕ) → sum_below n (λ t. live p j v blank_job) ≡ 0
+first_none zero p j v = refl
+first_none (suc n) p j v = let a : sum_below n (λ t. live p j v blank_job) ≡ 0 = first_none n p j v in omega (arith, a)
 
 pub first_stocks : (h : Shape) → StocksHold (start h)
-first_stocks h = record { calls = first_calls h; feeders = first_feeders h; stocks = λ p j n. (let a : sum_below n (λ t. live p j blank_job) ≡ 0 = first_none n p j in omega (arith, a)) }
+first_stocks h = record { calls = first_calls h; feeders = first_feeders h; stocks = λ p j v n. (let a : sum_below n (λ t. live p j v blank_job) ≡ 0 = first_none n p j v in omega (arith, a)) }
 
 pub always_stocks : (h : Shape) (es : List Event) (w : World) → IsRun (start h) es w → StocksHold w
 always_stocks h es w r = run_keeps StocksHold step_stocks (start h) w es (first_stocks h) r
 
 -- a token is redeemed where it begins
-out_place : (q : Party) (x : Place) (k i : ℕ) → act_of q x ≡ FifoOut k i → x ≡ BeginTask (Token k i)
-out_place (Worker a b) (BeginTask (Token m j)) k i e = cc
-out_place (Caller c) (BeginTask (Token m j)) k i e = cc
-out_place q (PushJob n v) k i e = absurd (by (is_member q (plan_pool n)) (pushed q e))
+out_place : (q : Party) (x : Place) (k i : ℕ) (l : Option ℕ) → act_of q x ≡ FifoOut k i l → x ≡ BeginTask (Token k i l)
+out_place (Worker a b) (BeginTask (Token m j d)) k i l e = cc
+out_place (Caller c) (BeginTask (Token m j d)) k i l e = cc
+out_place q (PushJob n v) k i l e = absurd (by (is_member q (plan_pool n)) (pushed q e))
   where
-    pushed : (q : Party) → act_of q (PushJob n v) ≡ FifoOut k i → push_act q (plan_pool n) (plan_job n) (plan_book n) ≡ FifoOut k i
+    pushed : (q : Party) → act_of q (PushJob n v) ≡ FifoOut k i l → push_act q (plan_pool n) (plan_job n) (plan_book n) ≡ FifoOut k i l
     pushed (Worker a b) d = d
     pushed (Caller c) d = d
 
-    by : (z : Bool) → (if z then PushOwn (plan_job n) (plan_book n) else PushInj (plan_pool n) (plan_job n) (plan_book n)) ≡ FifoOut k i → ⊥
+    by : (z : Bool) → (if z then PushOwn (plan_job n) (plan_book n) else PushInj (plan_pool n) (plan_job n) (plan_book n)) ≡ FifoOut k i l → ⊥
     by true d = cc
     by false d = cc
-out_place q (LookQueue n) k i e = absurd (by (is_member q (plan_pool n)) (looked q e))
+out_place q (LookQueue n) k i l e = absurd (by (is_member q (plan_pool n)) (looked q e))
   where
-    looked : (q : Party) → act_of q (LookQueue n) ≡ FifoOut k i → look_act q (plan_pool n) ≡ FifoOut k i
+    looked : (q : Party) → act_of q (LookQueue n) ≡ FifoOut k i l → look_act q (plan_pool n) ≡ FifoOut k i l
     looked (Worker a b) d = d
     looked (Caller c) d = d
 
-    by : (z : Bool) → (if z then LookOwn else LookInj (plan_pool n)) ≡ FifoOut k i → ⊥
+    by : (z : Bool) → (if z then LookOwn else LookInj (plan_pool n)) ≡ FifoOut k i l → ⊥
     by true d = cc
     by false d = cc
-out_place (Worker a b) _ k i e = absurd (cc)
-out_place (Caller c) _ k i e = absurd (cc)
+out_place (Worker a b) _ k i l e = absurd (cc)
+out_place (Caller c) _ k i l e = absurd (cc)
 
 pub redeems : (w : World) → StocksHold w → IsRedeemed w
-redeems w h q k i e empty =
-    let at : (w.stack q).top ≡ BeginTask (Token k i) = out_place q ((w.stack q).top) k i e in
-    let a : live (own_pool q) i (w.job k) ≡ 1 = token_live w q k i ((w.stack q).below) (whole (w.stack q) at) (once w ((h.calls).jobs)) (subst (Says w q) at (((h.calls).says q).top)) in
-    let b : sum_below (suc k) (λ t. live (own_pool q) i (w.job t)) + one (is_held (w.seat (own_pool q) i).feeder) ≤ length (w.seat (own_pool q) i).fifo = h.stocks (own_pool q) i (suc k) in
-    let c : live (own_pool q) i (w.job k) ≤ sum_below (suc k) (λ t. live (own_pool q) i (w.job t)) = sum_least (suc k) (λ t. live (own_pool q) i (w.job t)) k (omega arith) in
-    let d : length (w.seat (own_pool q) i).fifo ≡ 0 = ap length empty in omega (arith, a, b, c, d)
+redeems w h q k i l e empty =
+    let at : (w.stack q).top ≡ BeginTask (Token k i l) = out_place q ((w.stack q).top) k i l e in
+    let a : live (own_pool q) i l (w.job k) ≡ 1 = token_live w q k i l ((w.stack q).below) (whole (w.stack q) at) (once w ((h.calls).jobs)) (subst (Says w q) at (((h.calls).says q).top)) in
+    let b : sum_below (suc k) (λ t. live (own_pool q) i l (w.job t)) + one (is_held ((w.seat (own_pool q) i).feeder l)) ≤ length ((w.seat (own_pool q) i).fifo l) = h.stocks (own_pool q) i l (suc k) in
+    let c : live (own_pool q) i l (w.job k) ≤ sum_below (suc k) (λ t. live (own_pool q) i l (w.job t)) = sum_least (suc k) (λ t. live (own_pool q) i l (w.job t)) k (omega arith) in
+    let d : length ((w.seat (own_pool q) i).fifo l) ≡ 0 = ap length empty in omega (arith, a, b, c, d)
   where
-    whole : (s : Stack) → s.top ≡ BeginTask (Token k i) → s ≡ record { top = BeginTask (Token k i); below = s.below }
+    whole : (s : Stack) → s.top ≡ BeginTask (Token k i l) → s ≡ record { top = BeginTask (Token k i l); below = s.below }
     whole s y = ap (λ x. record { top = x; below = s.below }) y

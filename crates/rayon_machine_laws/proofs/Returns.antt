@@ -1,11 +1,12 @@
 -- a refused call's share is given back: in every world its jobs are not in the count, from the act after its Lower on
-use Rattle.rayon_machine_places.specs.declared.place.Mark.TheVariants.{Counted, Returned}
+use Rattle.rayon_machine_places.specs.declared.place.Mark.TheVariants.{Counted, Returned, Dealt}
 use Rattle.rayon_machine_places.specs.declared.place.Move.TheVariants.{Mark}
 use Rattle.rayon_machine_places.specs.declared.place.Move.{Move}
 use Rattle.rayon_machine_places.specs.declared.place.Pieces.{Pieces}
-use Rattle.rayon_machine_laws.proofs.Claims.{SaysThen, SaysShare}
+use Rattle.rayon_machine_places.specs.declared.place.Gathering.{Gathering}
+use Rattle.rayon_machine_laws.proofs.Claims.{SaysThen, SaysShare, SaysPlan}
 use Rattle.rayon_machine_places.specs.declared.state.Scope.{Scope}
-use Rattle.rayon_machine_places.specs.declared.place.Count.TheVariants.{OfPool, OfScope}
+use Rattle.rayon_machine_places.specs.declared.place.Count.TheVariants.{OfPool, OfScope, OfCast}
 use Rattle.rayon_machine_places.specs.declared.place.Count.{Count}
 use Rattle.std.proofs.Common.{rules, arith, refl, sym, ◌∙◌, ap, subst, inl, inr}
 use Rattle.std.specs.Prelude.{ℕ, Bool, true, false, ◌&&◌, ◌+◌, ◌==◌, ◌≤◌, ◌<◌, nat_lt, if◌then◌else◌, Some, None, List, ◌≡◌, IfSome, ◌-◌, ◌++◌, [], ◌∷◌}
@@ -19,16 +20,16 @@ use Rattle.rayon_machine_places.specs.declared.place.JobKind.TheVariants.{Detach
 use Rattle.rayon_machine_places.specs.declared.place.Latch.{Latch}
 use Rattle.rayon_machine_places.specs.declared.place.Latch.TheVariants.{Terminate, OfCall}
 use Rattle.rayon_machine_places.specs.declared.place.Plan.{Plan}
-use Rattle.rayon_machine_places.specs.declared.place.Plan.TheVariants.{Detach, Here, Send, Fork, Feed, Open, Enter}
+use Rattle.rayon_machine_places.specs.declared.place.Plan.TheVariants.{Detach, Here, Send, Fork, Feed, Open, Enter, Gather}
 use Rattle.rayon_machine_places.specs.declared.place.Share.TheVariants.{PoolValue, OfJob, Body}
 use Rattle.rayon_machine_places.specs.declared.place.Then.{Then}
 use Rattle.rayon_machine_places.specs.declared.place.Then.TheVariants.{Resume, GiveBack}
 use Rattle.rayon_machine_places.specs.declared.place.Place.{Place}
-use Rattle.rayon_machine_places.specs.declared.place.Place.TheVariants.{ProbeWorking, PickVictim, StealFrom, GetSleepy, FallAsleep, WakeUp, YieldPop, YieldPick, YieldSteal, LocalPop, Run, RaiseCount, GrowCall, PushJob, LowerCount, SetLatch, LockToSettle, WakeSettled, UnlockSettled, AddToFifo, PushToken, RaiseForAll, PushForAll, LowerForAll, GrowScope, OpenSlot, SetLockLatch}
+use Rattle.rayon_machine_places.specs.declared.place.Place.TheVariants.{ProbeWorking, PickVictim, StealFrom, GetSleepy, FallAsleep, WakeUp, YieldPop, YieldPick, YieldSteal, LocalPop, Run, RaiseCount, GrowCall, PushJob, LowerCount, SetLatch, LockToSettle, WakeSettled, UnlockSettled, AddToFifo, PushToken, RaiseForAll, PushForAll, LowerForAll, GrowScope, OpenSlot, SetLockLatch, OpenForAll, GrowCast, DealPieces}
 use Rattle.rayon_machine_places.specs.declared.act.Seen.{Seen}
 use Rattle.rayon_machine_places.specs.declared.act.Seen.TheVariants.{Done, Refused, Yes, No, Missing, Start}
 use Rattle.rayon_machine_places.specs.declared.event.Event.{Event}
-use Rattle.rayon_machine_places.specs.declared.event.Event.TheVariants.{Go, From, Refuse, Miss, End, Spawn, Fifo, Install, Join, Yield, YieldLocal, EndPool, Cast, Scope as OpenScope, IntoSpawn}
+use Rattle.rayon_machine_places.specs.declared.event.Event.TheVariants.{Go, From, Refuse, Miss, End, Spawn, Fifo, Install, Join, Yield, YieldLocal, EndPool, Cast, Scope as OpenScope, IntoSpawn, IntoFifo, IntoCast, Broadcast}
 use Rattle.rayon_machine_places.specs.declared.state.Letter.{Letter}
 use Rattle.rayon_machine_places.specs.declared.state.Letter.TheVariants.{Set as IsSet}
 use Rattle.rayon_machine_places.specs.declared.state.Whereabouts.{Whereabouts}
@@ -36,26 +37,27 @@ use Rattle.rayon_machine_places.specs.declared.state.Whereabouts.TheVariants.{Ov
 use Rattle.rayon_machine_places.specs.declared.state.Job.{Job}
 use Rattle.rayon_machine_places.specs.declared.state.Call.{Call}
 use Rattle.rayon_machine_places.specs.declared.shape.PoolShape.{PoolShape}
-use Rattle.rayon_machine_places.specs.Places.{same_party, own_pool, is_member, latch_of, plan_job, after_raise, act_of, next_of, is_free, plan_count}
+use Rattle.rayon_machine_places.specs.Places.{same_party, own_pool, is_member, latch_of, plan_job, after_raise, act_of, next_of, is_free, plan_count, count_kind, count_book, begin_cast}
 use Rattle.rayon_machine_places.specs.World.{Shape, Stack, World, Counts, counts_at, Part, target_pool, target_worker, target_call, letter, with_letter, at_job, effect, count_in, count_pool}
-use Rattle.rayon_machine_places.specs.Steps.{put, put_stack, after_move, jobs_after, after_choice, after_refusal, can_miss, after_miss, after_close, after_end, after_call, is_pool, new_job, new_call, after_spawn, after_send, after_install, after_join, after_yield, after_end_pool, step, after_feed, after_cast, put_pieces, new_piece, is_piece, mark_pieces, marked, after_scope, after_into, holds}
+use Rattle.rayon_machine_places.specs.Steps.{put, put_stack, after_move, jobs_after, after_choice, after_refusal, can_miss, after_miss, after_close, after_end, after_call, is_pool, new_job, new_call, after_spawn, after_send, after_install, after_join, after_yield, after_end_pool, step, after_feed, after_cast, put_pieces, new_piece, is_piece, mark_pieces, marked, after_scope, after_into, holds, after_enter, after_deal, after_into_cast, after_broadcast, new_whole, new_gathering}
 use Rattle.rayon_machine_places.specs.Runs.{start, IsRun}
 use Rattle.rayon_machine_laws.specs.Once.{one}
 use Rattle.rayon_machine_laws.specs.End.{AllJobs, after_settling, IsReturned}
-use Rattle.rayon_machine_laws.proofs.Frame.{either, same_party_true, if_some_and, if_some_map, if_cond, acted_keeps, put_same, put_new, put_old, stack_mine, stack_other, after_counted, fifo_cases, is_sharing, piece_new, piece_old, into_cases}
+use Rattle.rayon_machine_laws.proofs.Frame.{either, same_party_true, if_some_and, if_some_map, if_cond, acted_keeps, put_same, put_new, put_old, stack_mine, stack_other, after_counted, fifo_cases, is_sharing, piece_new, piece_old, into_cases, piece_range, piece_out, into_fifo_cases, into_cast_cases, no_bare}
 use Rattle.rayon_machine_laws.proofs.Ties.{job_at, outcome}
 use Rattle.rayon_machine_laws.proofs.Events.{run_keeps}
-use Rattle.rayon_machine_laws.proofs.Hands.{hand_plan, held}
+use Rattle.rayon_machine_laws.proofs.Hands.{hand_plan, held, is_gather}
 use Rattle.rayon_machine_laws.proofs.Located.{loc_of, loc_at, is_loc, where_is, Hand}
 use Rattle.rayon_machine_laws.proofs.ClaimRuns.{world_after, place_part, top_says}
 use Rattle.rayon_machine_laws.proofs.ClaimEvents.{ended_world}
 use Rattle.rayon_machine_laws.proofs.ClaimMakes.{calling, below_new}
 use Rattle.rayon_machine_laws.proofs.Amounts.{paid}
 use Rattle.rayon_machine_laws.proofs.ShareActs.{SharesHold, is_tally, Untallied, same_untallied, act_untallied}
-use Rattle.rayon_machine_laws.proofs.ShareSteps.{self_one, raised_world, no_steady, lower_steady, raise_steady, all_raised}
+use Rattle.rayon_machine_laws.proofs.ShareSteps.{self_one, raised_world, no_steady, lower_steady, raise_steady, all_raised, counted_now, raise_plain}
 use Rattle.rayon_machine_laws.proofs.ShareLowers.{lowered_world, all_lowered, returned_jobs}
 use Rattle.rayon_machine_laws.proofs.ShareEnds.{step_shares, first_shares}
-use Rattle.rayon_machine_laws.proofs.Bares.{bare_then, bare, bare_in, all_bare, bare_move, backs, bare_held, bare_raised, bares, land_only, land_bare, closed_bare, handed}
+use Rattle.rayon_machine_laws.proofs.ShareRuns.{after_shares}
+use Rattle.rayon_machine_laws.proofs.Bares.{bare_then, bare, bare_in, all_bare, bare_move, backs, bare_held, bare_raised, bares, land_only, land_bare, closed_bare, handed, raised_hand, raised_own, bare_begins}
 use Rattle.rayon_machine_laws.proofs.Letters.{sleepy_keeps, asleep_keeps, wake_keeps, set_keeps}
 
 -- a job with a share is not handed back, and no party has it in hand without one
@@ -133,7 +135,7 @@ plain_returns : (w : World) (q : Party) (x : Place) (fs : List Place) (r : Seen 
 plain_returns w q x fs r z ut un st none h s = steady_returns w q x fs r z (λ t c. (sym (counted t) ∙ c, none_handed t (next_of (w.shape.pool (target_pool q (act_of q x))) q x (r.0)) st)) un (λ t c. none t) h s
   where
     counted : (t : ℕ) → ((world_after w q x fs r).job t).counted ≡ (w.job t).counted
-    counted t = after_counted q (next_of (w.shape.pool (target_pool q (act_of q x))) q x (r.0)) (put w.job (job_at w q (act_of q x)) (r.1.job)) t st ∙ put_same (λ j. j.counted) w.job (job_at w q (act_of q x)) (r.1.job) t (ut.job)
+    counted t = counted_now w q x fs r z (h.shares) (ut.job) st t
 
 -- a job's share is given back
 lower_returns : (w : World) (q : Party) (p : Count) (u : ℕ) (n : Then) (fs : List Place) (e : Seen) → w.stack q ≡ record { top = LowerCount p (OfJob u) n; below = fs } → ReturnsHold w → SharesHold (lowered_world w q p (OfJob u) n fs e) → ReturnsHold (lowered_world w q p (OfJob u) n fs e)
@@ -142,8 +144,12 @@ lower_returns w q p u n fs e z h s = returns_keep w v q (after_move (next_of (w.
     v : World
     v = lowered_world w q p (OfJob u) n fs e
 
+    off : (t : ℕ) (b : Bool) → (w.job t).counted ≡ false → (if b then record (w.job u) { counted = false } else w.job t).counted ≡ false
+    off t true y = refl
+    off t false y = y
+
     counted : (t : ℕ) → (v.job t).counted ≡ (put w.job u (record (w.job u) { counted = false }) t).counted
-    counted t = after_counted q (next_of (w.shape.pool (count_pool q p)) q (LowerCount p (OfJob u) n) e) (put w.job u (record (w.job u) { counted = false })) t (lower_steady (w.shape.pool (count_pool q p)) q p (OfJob u) n e)
+    counted t = after_shares w q (LowerCount p (OfJob u) n) fs (w.shape.pool (count_pool q p)) e z (h.shares).unraised (lower_steady (w.shape.pool (count_pool q p)) q p (OfJob u) n e) (put w.job u (record (w.job u) { counted = false })) t (λ y. off t (t == u) y)
 
     now : (v.job u).counted ≡ false
     now = counted u ∙ ap (λ j. j.counted) (put_new w.job u (record (w.job u) { counted = false }))
@@ -169,52 +175,73 @@ raise_returns w q n fs z h s = returns_by w v q k (λ i. refl) (λ t c. by t c (
     k : Stack
     k = after_move (next_of (w.shape.pool (count_pool q (plan_count n))) q (RaiseCount n) Done) fs
 
-    bound : (t : ℕ) → all_bare t (after_move (next_of (w.shape.pool (count_pool q (plan_count n))) q (RaiseCount n) Done) fs) + backs ((raised_world w q n fs).job t).at + one (t == plan_job n) ≤ hand_plan t n + bare_in t fs + backs (w.job t).at
+    bound : (t : ℕ) → all_bare t (after_move (next_of (w.shape.pool (count_pool q (plan_count n))) q (RaiseCount n) Done) fs) + backs ((raised_world w q n fs).job t).at + raised_hand t n ≤ hand_plan t n + bare_in t fs + backs (w.job t).at
     bound t = let a : all_bare t (after_move (after_raise n) fs) + backs (jobs_after q (after_raise n) (put w.job (plan_job n) (record (w.job (plan_job n)) { counted = true })) t).at ≤ bare_move t (after_raise n) + handed t (after_raise n) + bare_in t fs + backs (put w.job (plan_job n) (record (w.job (plan_job n)) { counted = true }) t).at = land_bare q t (after_raise n) fs (put w.job (plan_job n) (record (w.job (plan_job n)) { counted = true })) in
         let b : backs (put w.job (plan_job n) (record (w.job (plan_job n)) { counted = true }) t).at ≤ backs (w.job t).at = put_backs w.job (plan_job n) (record (w.job (plan_job n)) { counted = true }) t (omega arith) in
-        let c : bare_move t (after_raise n) + one (t == plan_job n) ≤ hand_plan t n = bare_raised t n in
+        let c : bare_move t (after_raise n) + raised_hand t n ≤ hand_plan t n = bare_raised t n in
         let d : handed t (after_raise n) ≡ 0 = none_handed t (after_raise n) (raise_steady n) in omega (arith, a, b, c, d)
 
     stack : (t : ℕ) → all_bare t (w.stack q) ≡ (hand_plan t n + bare_in t fs)
     stack t = ap (all_bare t) z
 
     same : (t : ℕ) → (t == plan_job n) ≡ false → (v.job t).counted ≡ (w.job t).counted
-    same t e = after_counted q (next_of (w.shape.pool (count_pool q (plan_count n))) q (RaiseCount n) Done) (put w.job (plan_job n) (record (w.job (plan_job n)) { counted = true })) t (raise_steady n) ∙ ap (λ j. j.counted) (put_old w.job (plan_job n) (record (w.job (plan_job n)) { counted = true }) t e)
+    same t e = after_counted q (next_of (w.shape.pool (count_pool q (plan_count n))) q (RaiseCount n) Done) (put w.job (plan_job n) (record (w.job (plan_job n)) { counted = true })) t (raise_steady n) (no_bare (next_of (w.shape.pool (count_pool q (plan_count n))) q (RaiseCount n) Done) (put w.job (plan_job n) (record (w.job (plan_job n)) { counted = true })) t (raise_plain n)) ∙ ap (λ j. j.counted) (put_old w.job (plan_job n) (record (w.job (plan_job n)) { counted = true }) t e)
 
     in_hand : all_bare (plan_job n) (w.stack q) ≤ is_loc (Hand q) (loc_at (w.job (plan_job n)))
     in_hand = let a : all_bare (plan_job n) (w.stack q) ≤ held (plan_job n) (w.stack q) = bare_held (plan_job n) (w.stack q) in let b : held (plan_job n) (w.stack q) ≡ is_loc (Hand q) (loc_at (w.job (plan_job n))) = ((((h.shares).calls).jobs).ok).placed (Hand q) (plan_job n) in omega (arith, a, b)
 
-    mine : loc_at (w.job (plan_job n)) ≡ Some (Hand q)
-    mine = where_is (Hand q) (loc_at (w.job (plan_job n))) (let a : all_bare (plan_job n) (w.stack q) ≤ is_loc (Hand q) (loc_at (w.job (plan_job n))) = in_hand in let b : all_bare (plan_job n) (w.stack q) ≡ (hand_plan (plan_job n) n + bare_in (plan_job n) fs) = stack (plan_job n) in let c : bare_move (plan_job n) (after_raise n) + one (plan_job n == plan_job n) ≤ hand_plan (plan_job n) n = bare_raised (plan_job n) n in let d : one (plan_job n == plan_job n) ≡ 1 = self_one (plan_job n) in omega (arith, a, b, c, d))
+    own_hand : is_gather n ≡ false → raised_hand (plan_job n) n ≡ 1
+    own_hand g = raised_own (plan_job n) n g ∙ self_one (plan_job n)
+
+    mine : is_gather n ≡ false → loc_at (w.job (plan_job n)) ≡ Some (Hand q)
+    mine g = where_is (Hand q) (loc_at (w.job (plan_job n))) (let a : all_bare (plan_job n) (w.stack q) ≤ is_loc (Hand q) (loc_at (w.job (plan_job n))) = in_hand in let b : all_bare (plan_job n) (w.stack q) ≡ (hand_plan (plan_job n) n + bare_in (plan_job n) fs) = stack (plan_job n) in let c : bare_move (plan_job n) (after_raise n) + raised_hand (plan_job n) n ≤ hand_plan (plan_job n) n = bare_raised (plan_job n) n in let d : raised_hand (plan_job n) n ≡ 1 = own_hand g in omega (arith, a, b, c, d))
+
+    -- the number that stands for a broadcast is in no hand
+    spent : (n : Plan) → SaysPlan w q n → is_gather n ≡ true → (w.job (plan_job n)).at ≡ Spent
+    spent (Gather g) y e = y.spent
+    spent _ y e = cc
+
+    nowhere : (x : Whereabouts) (m : ℕ) → x ≡ Spent → (r : Party) → is_loc (Hand r) (loc_of x m) ≡ 0
+    nowhere x m e r = ap (λ v. is_loc (Hand r) (loc_of v m)) e
+
+    apart : is_gather n ≡ true → (r : Party) → all_bare (plan_job n) (w.stack r) ≤ 0
+    apart g r = let a : all_bare (plan_job n) (w.stack r) ≤ held (plan_job n) (w.stack r) = bare_held (plan_job n) (w.stack r) in
+        let b : held (plan_job n) (w.stack r) ≡ is_loc (Hand r) (loc_at (w.job (plan_job n))) = ((((h.shares).calls).jobs).ok).placed (Hand r) (plan_job n) in
+        let c : is_loc (Hand r) (loc_at (w.job (plan_job n))) ≡ 0 = nowhere ((w.job (plan_job n)).at) ((w.job (plan_job n)).runs) (spent n (top_says w q (RaiseCount n) fs ((h.shares).calls) z) g) r in omega (arith, a, b, c)
 
     not_back : (x : Whereabouts) (m : ℕ) → loc_of x m ≡ Some (Hand q) → backs x ≤ 0
     not_back HandedBack m e = cc
     not_back Spent m e = cc
     not_back _ m e = omega arith
 
-    others : (r : Party) → same_party r q ≡ false → all_bare (plan_job n) (w.stack r) ≤ 0
-    others r e = let a : all_bare (plan_job n) (w.stack r) ≤ held (plan_job n) (w.stack r) = bare_held (plan_job n) (w.stack r) in
+    others : (b : Bool) → is_gather n ≡ b → (r : Party) → same_party r q ≡ false → all_bare (plan_job n) (w.stack r) ≤ 0
+    others true g r e = apart g r
+    others false g r e = let a : all_bare (plan_job n) (w.stack r) ≤ held (plan_job n) (w.stack r) = bare_held (plan_job n) (w.stack r) in
         let b : held (plan_job n) (w.stack r) ≡ is_loc (Hand r) (loc_at (w.job (plan_job n))) = ((((h.shares).calls).jobs).ok).placed (Hand r) (plan_job n) in
-        let c : is_loc (Hand r) (loc_at (w.job (plan_job n))) ≡ one (same_party r q) = ap (is_loc (Hand r)) mine in
+        let c : is_loc (Hand r) (loc_at (w.job (plan_job n))) ≡ one (same_party r q) = ap (is_loc (Hand r)) (mine g) in
         let d : one (same_party r q) ≡ 0 = ap one e in omega (arith, a, b, c, d)
 
-    own : all_bare (plan_job n) (after_move (next_of (w.shape.pool (count_pool q (plan_count n))) q (RaiseCount n) Done) fs) + backs ((raised_world w q n fs).job (plan_job n)).at ≤ 0
-    own = let a : all_bare (plan_job n) (after_move (next_of (w.shape.pool (count_pool q (plan_count n))) q (RaiseCount n) Done) fs) + backs ((raised_world w q n fs).job (plan_job n)).at + one (plan_job n == plan_job n) ≤ hand_plan (plan_job n) n + bare_in (plan_job n) fs + backs (w.job (plan_job n)).at = bound (plan_job n) in
-        let b : one (plan_job n == plan_job n) ≡ 1 = self_one (plan_job n) in
+    own : (b : Bool) → is_gather n ≡ b → all_bare (plan_job n) (after_move (next_of (w.shape.pool (count_pool q (plan_count n))) q (RaiseCount n) Done) fs) + backs ((raised_world w q n fs).job (plan_job n)).at ≤ 0
+    own true g = let a : all_bare (plan_job n) (after_move (next_of (w.shape.pool (count_pool q (plan_count n))) q (RaiseCount n) Done) fs) + backs ((raised_world w q n fs).job (plan_job n)).at + raised_hand (plan_job n) n ≤ hand_plan (plan_job n) n + bare_in (plan_job n) fs + backs (w.job (plan_job n)).at = bound (plan_job n) in
+        let c : all_bare (plan_job n) (w.stack q) ≡ (hand_plan (plan_job n) n + bare_in (plan_job n) fs) = stack (plan_job n) in
+        let d : all_bare (plan_job n) (w.stack q) ≤ 0 = apart g q in
+        let i : backs (w.job (plan_job n)).at ≡ 0 = ap backs (spent n (top_says w q (RaiseCount n) fs ((h.shares).calls) z) g) in omega (arith, a, c, d, i)
+    own false g = let a : all_bare (plan_job n) (after_move (next_of (w.shape.pool (count_pool q (plan_count n))) q (RaiseCount n) Done) fs) + backs ((raised_world w q n fs).job (plan_job n)).at + raised_hand (plan_job n) n ≤ hand_plan (plan_job n) n + bare_in (plan_job n) fs + backs (w.job (plan_job n)).at = bound (plan_job n) in
+        let b : raised_hand (plan_job n) n ≡ 1 = own_hand g in
         let c : all_bare (plan_job n) (w.stack q) ≡ (hand_plan (plan_job n) n + bare_in (plan_job n) fs) = stack (plan_job n) in
         let d : all_bare (plan_job n) (w.stack q) ≤ is_loc (Hand q) (loc_at (w.job (plan_job n))) = in_hand in
-        let f : is_loc (Hand q) (loc_at (w.job (plan_job n))) ≡ one (same_party q q) = ap (is_loc (Hand q)) mine in
-        let g : one (same_party q q) ≤ 1 = one_bound (same_party q q) in
-        let i : backs (w.job (plan_job n)).at ≤ 0 = not_back ((w.job (plan_job n)).at) ((w.job (plan_job n)).runs) mine in omega (arith, a, b, c, d, f, g, i)
+        let f : is_loc (Hand q) (loc_at (w.job (plan_job n))) ≡ one (same_party q q) = ap (is_loc (Hand q)) (mine g) in
+        let k : one (same_party q q) ≤ 1 = one_bound (same_party q q) in
+        let i : backs (w.job (plan_job n)).at ≤ 0 = not_back ((w.job (plan_job n)).at) ((w.job (plan_job n)).runs) (mine g) in omega (arith, a, b, c, d, f, k, i)
       where
         one_bound : (b : Bool) → one b ≤ 1
         one_bound true = omega arith
         one_bound false = omega arith
 
     by : (t : ℕ) → (v.job t).counted ≡ true → (b : Bool) → (t == plan_job n) ≡ b → (all_bare t k + backs (v.job t).at ≤ 0) × ((r : Party) → same_party r q ≡ false → all_bare t (w.stack r) ≤ 0)
-    by t c true e = subst (λ t. (all_bare t k + backs (v.job t).at ≤ 0) × ((r : Party) → same_party r q ≡ false → all_bare t (w.stack r) ≤ 0)) (sym (eqb-true t (plan_job n) e)) (own, others)
+    by t c true e = subst (λ t. (all_bare t k + backs (v.job t).at ≤ 0) × ((r : Party) → same_party r q ≡ false → all_bare t (w.stack r) ≤ 0)) (sym (eqb-true t (plan_job n) e)) (own (is_gather n) refl, others (is_gather n) refl)
     by t c false e = (
-      (let a : all_bare t (after_move (next_of (w.shape.pool (count_pool q (plan_count n))) q (RaiseCount n) Done) fs) + backs ((raised_world w q n fs).job t).at + one (t == plan_job n) ≤ hand_plan t n + bare_in t fs + backs (w.job t).at = bound t in
+      (let a : all_bare t (after_move (next_of (w.shape.pool (count_pool q (plan_count n))) q (RaiseCount n) Done) fs) + backs ((raised_world w q n fs).job t).at + raised_hand t n ≤ hand_plan t n + bare_in t fs + backs (w.job t).at = bound t in
           let b : all_bare t (w.stack q) ≡ (hand_plan t n + bare_in t fs) = stack t in
           let d : all_bare t (w.stack q) + backs (w.job t).at ≤ 0 = h.bare q t (sym (same t e) ∙ c) in omega (arith, a, b, d)),
       λ r y. (let d : all_bare t (w.stack r) + backs (w.job t).at ≤ 0 = h.bare r t (sym (same t e) ∙ c) in omega (arith, d)),
@@ -225,6 +252,7 @@ unpaid t (LowerCount (OfPool p) s n) z = cc
 unpaid t (LowerCount (OfScope c o) Body n) z = refl
 unpaid t (LowerCount (OfScope c o) PoolValue n) z = cc
 unpaid t (LowerCount (OfScope c o) (OfJob u) n) z = cc
+unpaid t (LowerCount (OfCast c o) s n) z = cc
 unpaid t (LowerForAll c) z = cc
 unpaid t _ z = refl
 
@@ -236,35 +264,29 @@ raise_either w q n fs z h done f false = f
 value_returns : (w : World) (q : Party) (p : ℕ) (n : Then) (fs : List Place) (e : Seen) → w.stack q ≡ record { top = LowerCount (OfPool p) PoolValue n; below = fs } → ReturnsHold w → SharesHold (lowered_world w q (OfPool p) PoolValue n fs e) → ReturnsHold (lowered_world w q (OfPool p) PoolValue n fs e)
 value_returns w q p n fs e z h s = returns_keep w (lowered_world w q (OfPool p) PoolValue n fs e) q (after_move (next_of (w.shape.pool p) q (LowerCount (OfPool p) PoolValue n) e) fs) (λ i. refl)
     (λ t c. (
-      sym (after_counted q (next_of (w.shape.pool p) q (LowerCount (OfPool p) PoolValue n) e) (put w.job 0 (w.job 0)) t (lower_steady (w.shape.pool p) q (OfPool p) PoolValue n e) ∙ put_same (λ j. j.counted) w.job 0 (w.job 0) t refl) ∙ c,
+      sym (same t) ∙ c,
       (let a : all_bare t (after_move (next_of (w.shape.pool p) q (LowerCount (OfPool p) PoolValue n) e) fs) + backs ((lowered_world w q (OfPool p) PoolValue n fs e).job t).at ≤ bare_move t (next_of (w.shape.pool p) q (LowerCount (OfPool p) PoolValue n) e) + handed t (next_of (w.shape.pool p) q (LowerCount (OfPool p) PoolValue n) e) + bare_in t fs + backs (put w.job 0 (w.job 0) t).at = land_bare q t (next_of (w.shape.pool p) q (LowerCount (OfPool p) PoolValue n) e) fs (put w.job 0 (w.job 0)) in
           let b : backs (put w.job 0 (w.job 0) t).at ≤ backs (w.job t).at = put_backs w.job 0 (w.job 0) t (omega arith) in
           let d : bare_move t (next_of (w.shape.pool p) q (LowerCount (OfPool p) PoolValue n) e) ≤ bare t (LowerCount (OfPool p) PoolValue n) + 0 = bares (w.shape.pool p) q t (LowerCount (OfPool p) PoolValue n) e in
           let f : all_bare t (w.stack q) ≡ (bare t (LowerCount (OfPool p) PoolValue n) + bare_in t fs) = ap (all_bare t) z in
           let g : handed t (next_of (w.shape.pool p) q (LowerCount (OfPool p) PoolValue n) e) ≡ 0 = none_handed t (next_of (w.shape.pool p) q (LowerCount (OfPool p) PoolValue n) e) (lower_steady (w.shape.pool p) q (OfPool p) PoolValue n e) in omega (arith, a, b, d, f, g)),
     )) h s
+  where
+    same : (t : ℕ) → ((lowered_world w q (OfPool p) PoolValue n fs e).job t).counted ≡ (w.job t).counted
+    same t = let a : (put w.job 0 (w.job 0) t).counted ≡ (w.job t).counted = put_same (λ j. j.counted) w.job 0 (w.job 0) t refl in
+        after_shares w q (LowerCount (OfPool p) PoolValue n) fs (w.shape.pool p) e z (h.shares).unraised (lower_steady (w.shape.pool p) q (OfPool p) PoolValue n e) (put w.job 0 (w.job 0)) t (λ y. a ∙ y) ∙ a
 
 plain_act : (w : World) (q : Party) (x : Place) (fs : List Place) → w.stack q ≡ record { top = x; below = fs } → is_tally x ≡ false → ReturnsHold w → IfSome (outcome w q (record { top = x; below = fs })) (λ r. SharesHold (world_after w q x fs r) → ReturnsHold (world_after w q x fs r))
 plain_act w q x fs z y h = if_some_map (λ r. Untallied (place_part w q x) r × (Unbacked (place_part w q x) r × (is_sharing (next_of (w.shape.pool (target_pool q (act_of q x))) q x (r.0)) ≡ false))) (λ r. SharesHold (world_after w q x fs r) → ReturnsHold (world_after w q x fs r)) (λ r f. plain_returns w q x fs r z (f.0) ((f.1).0) ((f.1).1) (λ t. unpaid t x y) h) (outcome w q (record { top = x; below = fs }))
     (if_some_and (Untallied (place_part w q x)) (λ r. Unbacked (place_part w q x) r × (is_sharing (next_of (w.shape.pool (target_pool q (act_of q x))) q x (r.0)) ≡ false)) (outcome w q (record { top = x; below = fs })) (act_untallied w.shape q (counts_at w (target_pool q (act_of q x))) (place_part w q x) x y)
     (if_some_and (Unbacked (place_part w q x)) (λ r. is_sharing (next_of (w.shape.pool (target_pool q (act_of q x))) q x (r.0)) ≡ false) (outcome w q (record { top = x; below = fs })) (act_unbacked w.shape q (counts_at w (target_pool q (act_of q x))) (place_part w q x) x y) (no_steady w.shape (w.shape.pool (target_pool q (act_of q x))) q (counts_at w (target_pool q (act_of q x))) (place_part w q x) x y)))
 
--- the pieces of a broadcast: once their shares are taken no party has one without; and where they are handed back none
--- has a share
-raised_returns : (w : World) (q : Party) (c : Pieces) (fs : List Place) → w.stack q ≡ record { top = RaiseForAll c; below = fs } → ReturnsHold w → SharesHold (all_raised w q c fs) → ReturnsHold (all_raised w q c fs)
-raised_returns w q c fs z h s = returns_by w v q k (λ i. refl) (λ t d. by t d (is_piece c t) refl) s
+-- pieces get shares that their party alone has in hand
+shared_returns : (w v : World) (q : Party) (c : Pieces) (x : Place) (k : Stack) (fs : List Place) → w.stack q ≡ record { top = x; below = fs } → ((t : ℕ) → bare t x ≡ one (is_piece c t)) → ((r : Party) → v.stack r ≡ put_stack w.stack q k r) → ((t : ℕ) → all_bare t k ≤ bare_in t fs) → ((t : ℕ) → is_piece c t ≡ true → backs (v.job t).at ≤ backs (w.job t).at) → ((t : ℕ) → is_piece c t ≡ false → ((v.job t).counted ≡ (w.job t).counted) × (backs (v.job t).at ≤ backs (w.job t).at)) → ReturnsHold w → SharesHold v → ReturnsHold v
+shared_returns w v q c x k fs z ba st le ne same h s = returns_by w v q k st (λ t d. by t d (is_piece c t) refl) s
   where
-    v : World
-    v = all_raised w q c fs
-
-    k : Stack
-    k = record { top = PushForAll c; below = fs }
-
-    same : (t : ℕ) → is_piece c t ≡ false → v.job t ≡ w.job t
-    same t e = piece_old c (marked Counted c.pool) (put w.job 0 (w.job 0)) t e ∙ put_same (λ j. j) w.job 0 (w.job 0) t refl
-
     stack : (t : ℕ) → all_bare t (w.stack q) ≡ (one (is_piece c t) + bare_in t fs)
-    stack t = ap (all_bare t) z
+    stack t = let a : all_bare t (w.stack q) ≡ (bare t x + bare_in t fs) = ap (all_bare t) z in let b : bare t x ≡ one (is_piece c t) = ba t in omega (arith, a, b)
 
     in_hand : (t : ℕ) → held t (w.stack q) ≡ is_loc (Hand q) (loc_at (w.job t))
     in_hand t = ((((h.shares).calls).jobs).ok).placed (Hand q) t
@@ -272,7 +294,7 @@ raised_returns w q c fs z h s = returns_by w v q k (λ i. refl) (λ t d. by t d 
     mine : (t : ℕ) → is_piece c t ≡ true → loc_at (w.job t) ≡ Some (Hand q)
     mine t e = where_is (Hand q) (loc_at (w.job t)) (let a : all_bare t (w.stack q) ≤ held t (w.stack q) = bare_held t (w.stack q) in let b : held t (w.stack q) ≡ is_loc (Hand q) (loc_at (w.job t)) = in_hand t in let d : all_bare t (w.stack q) ≡ (one (is_piece c t) + bare_in t fs) = stack t in let f : one (is_piece c t) ≡ 1 = ap one e in omega (arith, a, b, d, f))
 
-    not_back : (x : Whereabouts) (m : ℕ) → loc_of x m ≡ Some (Hand q) → backs x ≤ 0
+    not_back : (y : Whereabouts) (m : ℕ) → loc_of y m ≡ Some (Hand q) → backs y ≤ 0
     not_back HandedBack m e = cc
     not_back Spent m e = cc
     not_back _ m e = omega arith
@@ -290,7 +312,8 @@ raised_returns w q c fs z h s = returns_by w v q k (λ i. refl) (λ t d. by t d 
         let g : is_loc (Hand q) (loc_at (w.job t)) ≡ one (same_party q q) = ap (is_loc (Hand q)) (mine t e) in
         let i : one (same_party q q) ≤ 1 = one_bound (same_party q q) in
         let j : backs (w.job t).at ≤ 0 = not_back ((w.job t).at) ((w.job t).runs) (mine t e) in
-        let l : backs (v.job t).at ≡ backs (w.job t).at = ap (λ j. backs (j.at)) (piece_new c (marked Counted c.pool) (put w.job 0 (w.job 0)) t e) ∙ ap (λ j. backs (j.at)) (put_same (λ j. j) w.job 0 (w.job 0) t refl) in omega (arith, a, b, d, f, g, i, j, l)
+        let l : backs (v.job t).at ≤ backs (w.job t).at = ne t e in
+        let m : all_bare t k ≤ bare_in t fs = le t in omega (arith, a, b, d, f, g, i, j, l, m)
 
     others : (t : ℕ) → is_piece c t ≡ true → (r : Party) → same_party r q ≡ false → all_bare t (w.stack r) ≤ 0
     others t e r y = let a : all_bare t (w.stack r) ≤ held t (w.stack r) = bare_held t (w.stack r) in
@@ -302,10 +325,39 @@ raised_returns w q c fs z h s = returns_by w v q k (λ i. refl) (λ t d. by t d 
     by t d true e = (own t e, others t e)
     by t d false e = (
       (let a : all_bare t (w.stack q) ≡ (one (is_piece c t) + bare_in t fs) = stack t in
-          let b : backs (v.job t).at ≡ backs (w.job t).at = ap (λ j. backs (j.at)) (same t e) in
-          let f : all_bare t (w.stack q) + backs (w.job t).at ≤ 0 = h.bare q t (sym (ap (λ j. j.counted) (same t e)) ∙ d) in omega (arith, a, b, f)),
-      λ r y. (let f : all_bare t (w.stack r) + backs (w.job t).at ≤ 0 = h.bare r t (sym (ap (λ j. j.counted) (same t e)) ∙ d) in omega (arith, f)),
+          let b : backs (v.job t).at ≤ backs (w.job t).at = (same t e).1 in
+          let g : all_bare t k ≤ bare_in t fs = le t in
+          let f : all_bare t (w.stack q) + backs (w.job t).at ≤ 0 = h.bare q t (sym ((same t e).0) ∙ d) in omega (arith, a, b, f, g)),
+      λ r y. (let f : all_bare t (w.stack r) + backs (w.job t).at ≤ 0 = h.bare r t (sym ((same t e).0) ∙ d) in omega (arith, f)),
     )
+
+raised_returns : (w : World) (q : Party) (c : Pieces) (fs : List Place) → w.stack q ≡ record { top = RaiseForAll c; below = fs } → ReturnsHold w → SharesHold (all_raised w q c fs) → ReturnsHold (all_raised w q c fs)
+raised_returns w q c fs z h s = shared_returns w v q c (RaiseForAll c) (record { top = begin_cast c.count c; below = fs }) fs z (λ t. refl) (λ r. refl) (λ t. (let a : bare t (begin_cast c.count c) ≤ 0 = bare_begins t c c.count in omega (arith, a))) new (λ t e. (ap (λ j. j.counted) (same t e), (let a : backs (v.job t).at ≡ backs (w.job t).at = ap (λ j. backs (j.at)) (same t e) in omega (arith, a)))) h s
+  where
+    v : World
+    v = all_raised w q c fs
+
+    same : (t : ℕ) → is_piece c t ≡ false → v.job t ≡ w.job t
+    same t e = piece_old c (marked Counted c.pool) (put w.job 0 (w.job 0)) t e ∙ put_same (λ j. j) w.job 0 (w.job 0) t refl
+
+    new : (t : ℕ) → is_piece c t ≡ true → backs (v.job t).at ≤ backs (w.job t).at
+    new t e = let l : backs (v.job t).at ≡ backs (w.job t).at = ap (λ j. backs (j.at)) (piece_new c (marked Counted c.pool) (put w.job 0 (w.job 0)) t e) ∙ ap (λ j. backs (j.at)) (put_same (λ j. j) w.job 0 (w.job 0) t refl) in omega (arith, l)
+
+-- those of a broadcast that waits, where they come into their lists
+dealt_returns : (w : World) (q : Party) (g : Gathering) (fs : List Place) (m : Part) → m.job ≡ (place_part w q (DealPieces g)).job → w.stack q ≡ record { top = DealPieces g; below = fs } → ReturnsHold w → SharesHold (world_after w q (DealPieces g) fs (Done, m)) → ReturnsHold (world_after w q (DealPieces g) fs (Done, m))
+dealt_returns w q g fs m ej z h s = shared_returns w v q (g.pieces) (DealPieces g) (after_move (next_of (w.shape.pool (target_pool q (act_of q (DealPieces g)))) q (DealPieces g) Done) fs) fs z (λ t. refl) (λ r. refl) (λ t. omega arith) new (λ t e. (ap (λ j. j.counted) (same t e), (let a : backs (v.job t).at ≡ backs (w.job t).at = ap (λ j. backs (j.at)) (same t e) in omega (arith, a)))) h s
+  where
+    v : World
+    v = world_after w q (DealPieces g) fs (Done, m)
+
+    J : ℕ → Job
+    J = put w.job (job_at w q (act_of q (DealPieces g))) m.job
+
+    same : (t : ℕ) → is_piece g.pieces t ≡ false → v.job t ≡ w.job t
+    same t e = piece_old g.pieces (marked Dealt g.pieces.pool) J t e ∙ put_same (λ j. j) w.job (job_at w q (act_of q (DealPieces g))) m.job t ej
+
+    new : (t : ℕ) → is_piece g.pieces t ≡ true → backs (v.job t).at ≤ backs (w.job t).at
+    new t e = let l : backs (v.job t).at ≡ 0 = ap (λ j. backs (j.at)) (piece_new g.pieces (marked Dealt g.pieces.pool) J t e) in omega (arith, l)
 
 -- what is handed back of a broadcast has no share
 pub returned_none : (w : World) (c : Pieces) (n0 : ℕ) (j0 : Job) → j0 ≡ w.job n0 → (t : ℕ) → (mark_pieces c Returned (put w.job n0 j0) t).counted ≡ true → (is_piece c t ≡ false) × ((w.job t).counted ≡ true)
@@ -320,7 +372,7 @@ handed_none g q c t Yes z = ap one z
 handed_none g q c t _ z = refl
 
 lowered_returns : (w : World) (q : Party) (c : Pieces) (fs : List Place) (e : Seen) → w.stack q ≡ record { top = LowerForAll c; below = fs } → ReturnsHold w → SharesHold (all_lowered w q c fs e) → ReturnsHold (all_lowered w q c fs e)
-lowered_returns w q c fs e z h s = returns_keep w v q k (λ i. refl) (λ t d. each t (returned_none w c 0 (w.job 0) refl t (ap (λ g. (g t).counted) (sym (returned_jobs (w.shape.pool c.pool) q c e J)) ∙ d))) h s
+lowered_returns w q c fs e z h s = returns_keep w v q k (λ i. refl) (λ t d. each t (returned_none w c 0 (w.job 0) refl t (ap (λ g. (g t).counted) (sym (returned_jobs (w.shape.pool (count_pool q c.count)) q c e J)) ∙ d))) h s
   where
     v : World
     v = all_lowered w q c fs e
@@ -329,17 +381,17 @@ lowered_returns w q c fs e z h s = returns_keep w v q k (λ i. refl) (λ t d. ea
     J = put w.job 0 (w.job 0)
 
     g : Move
-    g = next_of (w.shape.pool c.pool) q (LowerForAll c) e
+    g = next_of (w.shape.pool (count_pool q c.count)) q (LowerForAll c) e
 
     k : Stack
-    k = after_move (next_of (w.shape.pool c.pool) q (LowerForAll c) e) fs
+    k = after_move (next_of (w.shape.pool (count_pool q c.count)) q (LowerForAll c) e) fs
 
     each : (t : ℕ) → (is_piece c t ≡ false) × ((w.job t).counted ≡ true) → ((w.job t).counted ≡ true) × (all_bare t k + backs (v.job t).at ≤ all_bare t (w.stack q) + backs (w.job t).at)
     each t p = (
       p.1,
       (let a : all_bare t k + backs (v.job t).at ≤ bare_move t g + handed t g + bare_in t fs + backs (J t).at = land_bare q t g fs J in
-          let b : bare_move t g ≤ 0 + one (is_piece c t) = bares (w.shape.pool c.pool) q t (LowerForAll c) e in
-          let d : handed t g ≡ 0 = handed_none (w.shape.pool c.pool) q c t e (p.0) in
+          let b : bare_move t g ≤ 0 + one (is_piece c t) = bares (w.shape.pool (count_pool q c.count)) q t (LowerForAll c) e in
+          let d : handed t g ≡ 0 = handed_none (w.shape.pool (count_pool q c.count)) q c t e (p.0) in
           let f : one (is_piece c t) ≡ 0 = ap one (p.0) in
           let i : all_bare t (w.stack q) ≡ (0 + bare_in t fs) = ap (all_bare t) z in
           let j : backs (J t).at ≡ backs (w.job t).at = put_same (λ j. backs (j.at)) w.job 0 (w.job 0) t refl in omega (arith, a, b, d, f, i, j)),
@@ -358,6 +410,9 @@ go_by w (Worker a b) (LowerCount (OfPool r) (OfJob u) n) fs z h = lower_returns 
 go_by w (Worker a b) (LowerCount (OfScope x o) (OfJob u) n) fs z h = lower_returns w (Worker a b) (OfScope x o) u n fs (if count_in (place_part w (Worker a b) (LowerCount (OfScope x o) (OfJob u) n)) (OfScope x o) == 1 then Yes else No) z h
 go_by w (Worker a b) (LowerCount (OfPool r) PoolValue n) fs z h = value_returns w (Worker a b) r n fs (if count_in (place_part w (Worker a b) (LowerCount (OfPool r) PoolValue n)) (OfPool r) == 1 then Yes else No) z h
 go_by w (Worker a b) (LowerCount (OfPool r) Body n) fs z h = absurd (let s : SaysThen w (Worker a b) n × SaysShare w (OfPool r) Body n = top_says w (Worker a b) (LowerCount (OfPool r) Body n) fs ((h.shares).calls) z in s.1)
+go_by w (Worker a b) (LowerCount (OfCast x o) (OfJob u) n) fs z h = lower_returns w (Worker a b) (OfCast x o) u n fs (if count_in (place_part w (Worker a b) (LowerCount (OfCast x o) (OfJob u) n)) (OfCast x o) == 1 then Yes else No) z h
+go_by w (Worker a b) (LowerCount (OfCast x o) PoolValue n) fs z h = absurd (let s : SaysThen w (Worker a b) n × SaysShare w (OfCast x o) PoolValue n = top_says w (Worker a b) (LowerCount (OfCast x o) PoolValue n) fs ((h.shares).calls) z in s.1)
+go_by w (Worker a b) (LowerCount (OfCast x o) Body n) fs z h = absurd (let s : SaysThen w (Worker a b) n × SaysShare w (OfCast x o) Body n = top_says w (Worker a b) (LowerCount (OfCast x o) Body n) fs ((h.shares).calls) z in s.1)
 go_by w (Worker a b) (LowerCount (OfScope x o) PoolValue n) fs z h = absurd (let s : SaysThen w (Worker a b) n × SaysShare w (OfScope x o) PoolValue n = top_says w (Worker a b) (LowerCount (OfScope x o) PoolValue n) fs ((h.shares).calls) z in s.1)
 go_by w (Worker a b) (LowerCount (OfScope x o) Body n) fs z h = plain_act w (Worker a b) (LowerCount (OfScope x o) Body n) fs z refl h
 go_by w (Caller c) (RaiseCount n) fs z h = raise_either w (Caller c) n fs z h _ (raise_returns w (Caller c) n fs z h) (count_in (place_part w (Caller c) (RaiseCount n)) (plan_count n) == 0)
@@ -365,12 +420,17 @@ go_by w (Caller c) (LowerCount (OfPool r) (OfJob u) n) fs z h = lower_returns w 
 go_by w (Caller c) (LowerCount (OfScope x o) (OfJob u) n) fs z h = lower_returns w (Caller c) (OfScope x o) u n fs (if count_in (place_part w (Caller c) (LowerCount (OfScope x o) (OfJob u) n)) (OfScope x o) == 1 then Yes else No) z h
 go_by w (Caller c) (LowerCount (OfPool r) PoolValue n) fs z h = value_returns w (Caller c) r n fs (if count_in (place_part w (Caller c) (LowerCount (OfPool r) PoolValue n)) (OfPool r) == 1 then Yes else No) z h
 go_by w (Caller c) (LowerCount (OfPool r) Body n) fs z h = absurd (let s : SaysThen w (Caller c) n × SaysShare w (OfPool r) Body n = top_says w (Caller c) (LowerCount (OfPool r) Body n) fs ((h.shares).calls) z in s.1)
+go_by w (Caller c) (LowerCount (OfCast x o) (OfJob u) n) fs z h = lower_returns w (Caller c) (OfCast x o) u n fs (if count_in (place_part w (Caller c) (LowerCount (OfCast x o) (OfJob u) n)) (OfCast x o) == 1 then Yes else No) z h
+go_by w (Caller c) (LowerCount (OfCast x o) PoolValue n) fs z h = absurd (let s : SaysThen w (Caller c) n × SaysShare w (OfCast x o) PoolValue n = top_says w (Caller c) (LowerCount (OfCast x o) PoolValue n) fs ((h.shares).calls) z in s.1)
+go_by w (Caller c) (LowerCount (OfCast x o) Body n) fs z h = absurd (let s : SaysThen w (Caller c) n × SaysShare w (OfCast x o) Body n = top_says w (Caller c) (LowerCount (OfCast x o) Body n) fs ((h.shares).calls) z in s.1)
 go_by w (Caller c) (LowerCount (OfScope x o) PoolValue n) fs z h = absurd (let s : SaysThen w (Caller c) n × SaysShare w (OfScope x o) PoolValue n = top_says w (Caller c) (LowerCount (OfScope x o) PoolValue n) fs ((h.shares).calls) z in s.1)
 go_by w (Caller c) (LowerCount (OfScope x o) Body n) fs z h = plain_act w (Caller c) (LowerCount (OfScope x o) Body n) fs z refl h
-go_by w (Worker a b) (RaiseForAll c) fs z h = all_either w (Worker a b) c fs (λ s. back_returns w (Worker a b) c fs z h s refl) _ (raised_returns w (Worker a b) c fs z h) ((w.pool c.pool).count == 0)
-go_by w (Worker a b) (LowerForAll c) fs z h = lowered_returns w (Worker a b) c fs (if (w.pool c.pool).count == c.workers then Yes else No) z h
-go_by w (Caller g) (RaiseForAll c) fs z h = all_either w (Caller g) c fs (λ s. back_returns w (Caller g) c fs z h s refl) _ (raised_returns w (Caller g) c fs z h) ((w.pool c.pool).count == 0)
-go_by w (Caller g) (LowerForAll c) fs z h = lowered_returns w (Caller g) c fs (if (w.pool c.pool).count == c.workers then Yes else No) z h
+go_by w (Worker a b) (RaiseForAll c) fs z h = all_either w (Worker a b) c fs (λ s. back_returns w (Worker a b) c fs z h s refl) _ (raised_returns w (Worker a b) c fs z h) (count_in (place_part w (Worker a b) (RaiseForAll c)) c.count == 0)
+go_by w (Worker a b) (LowerForAll c) fs z h = lowered_returns w (Worker a b) c fs (if count_in (place_part w (Worker a b) (LowerForAll c)) c.count == c.workers then Yes else No) z h
+go_by w (Caller g) (RaiseForAll c) fs z h = all_either w (Caller g) c fs (λ s. back_returns w (Caller g) c fs z h s refl) _ (raised_returns w (Caller g) c fs z h) (count_in (place_part w (Caller g) (RaiseForAll c)) c.count == 0)
+go_by w (Caller g) (LowerForAll c) fs z h = lowered_returns w (Caller g) c fs (if count_in (place_part w (Caller g) (LowerForAll c)) c.count == c.workers then Yes else No) z h
+go_by w (Worker a b) (DealPieces g) fs z h = dealt_returns w (Worker a b) g fs _ refl z h
+go_by w (Caller c) (DealPieces g) fs z h = dealt_returns w (Caller c) g fs _ refl z h
 go_by w q x fs z h = plain_act w q x fs z refl h
 
 -- a party goes on, and no job is touched
@@ -381,6 +441,10 @@ seen_returns : (w : World) (q : Party) (g : PoolShape) (x : Place) (fs : List Pl
 seen_returns w q g x fs e z y h s = moved_returns w (record w { stack = put_stack w.stack q (after_move (next_of g q x e) fs) }) q (after_move (next_of g q x e) fs) (λ r. refl) (λ t. refl)
     (λ t. (let i : all_bare t (after_move (next_of g q x e) fs) ≤ bare_move t (next_of g q x e) + bare_in t fs = land_only t (next_of g q x e) fs in
     let b : bare_move t (next_of g q x e) ≤ bare t x + paid t x = bares g q t x e in let c : paid t x ≡ 0 = unpaid t x y in let d : all_bare t (w.stack q) ≡ (bare t x + bare_in t fs) = ap (all_bare t) z in omega (arith, i, b, c, d))) h s
+
+dealt_refused : (w : World) (q : Party) (g : Gathering) (fs : List Place) → w.stack q ≡ record { top = DealPieces g; below = fs } → ReturnsHold w → SharesHold (record w { stack = put_stack w.stack q (after_move (next_of (w.shape.pool (own_pool q)) q (DealPieces g) Refused) fs) }) → ReturnsHold (record w { stack = put_stack w.stack q (after_move (next_of (w.shape.pool (own_pool q)) q (DealPieces g) Refused) fs) })
+dealt_refused w q g fs z h s = moved_returns w (record w { stack = put_stack w.stack q (after_move (next_of (w.shape.pool (own_pool q)) q (DealPieces g) Refused) fs) }) q (after_move (next_of (w.shape.pool (own_pool q)) q (DealPieces g) Refused) fs) (λ r. refl) (λ t. refl)
+    (λ t. (let d : all_bare t (w.stack q) ≡ (one (is_piece g.pieces t) + bare_in t fs) = ap (all_bare t) z in omega (arith, d))) h s
 
 from_returns : (w : World) (q : Party) (x : Place) (fs : List Place) (v : ℕ) → w.stack q ≡ record { top = x; below = fs } → ReturnsHold w → IfSome (after_choice w q (record { top = x; below = fs }) x v) (λ u. SharesHold u → ReturnsHold u)
 from_returns w q (PickVictim k) fs v z h = if_cond (λ u. SharesHold u → ReturnsHold u) (nat_lt v (w.shape.pool (own_pool q)).workers) _ (λ y a. seen_returns w q (w.shape.pool (own_pool q)) (PickVictim k) fs (Start v) z refl h a)
@@ -393,6 +457,9 @@ refuse_returns w q (GrowScope o) fs z h = λ a. seen_returns w q (w.shape.pool (
 refuse_returns w q (OpenSlot o) fs z h = λ a. seen_returns w q (w.shape.pool (own_pool q)) (OpenSlot o) fs Refused z refl h a
 refuse_returns w q (AddToFifo f) fs z h = λ a. seen_returns w q (w.shape.pool (own_pool q)) (AddToFifo f) fs Refused z refl h a
 refuse_returns w q (PushToken f v) fs z h = λ a. seen_returns w q (w.shape.pool (own_pool q)) (PushToken f v) fs Refused z refl h a
+refuse_returns w q (OpenForAll c) fs z h = λ a. seen_returns w q (w.shape.pool (own_pool q)) (OpenForAll c) fs Refused z refl h a
+refuse_returns w q (GrowCast g) fs z h = λ a. seen_returns w q (w.shape.pool (own_pool q)) (GrowCast g) fs Refused z refl h a
+refuse_returns w q (DealPieces g) fs z h = λ a. dealt_refused w q g fs z h a
 refuse_returns w q (PushForAll c) fs z h = λ a. seen_returns w q (w.shape.pool (own_pool q)) (PushForAll c) fs Refused z refl h a
 refuse_returns w q (PushJob n v) fs z h = λ a. seen_returns w q (w.shape.pool (own_pool q)) (PushJob n v) fs Refused z refl h a
 refuse_returns w q _ fs z h = tt
@@ -431,8 +498,11 @@ sent_returns w q p false h s = made_returns w q (Send (record { number = w.calls
 scope_returns : (w : World) (q : Party) (p : ℕ) → ReturnsHold w → IfSome (after_scope w q p (w.stack q)) (λ u. SharesHold u → ReturnsHold u)
 scope_returns w q p h = if_cond (λ u. SharesHold u → ReturnsHold u) (is_free ((w.stack q).top) && is_pool w.shape p) _ (λ f s. made_returns w q (Open (record { number = w.calls; pool = p; job = w.jobs })) (put w.call w.calls (new_call None w.jobs)) (put w.job w.jobs (new_job q p (BodyOf w.calls q))) (w.calls + 1) (w.jobs + 1) (w.scopes ++ record { call = w.calls; pool = p; owner = q } ∷ []) (λ t b. new_hand t w.jobs b) (new_counted w q p (BodyOf w.calls q) h) (λ t. put_backs w.job w.jobs (new_job q p (BodyOf w.calls q)) t (omega arith)) h s)
 
+enter_returns : (w : World) (q : Party) (z : Scope) → ReturnsHold w → IfSome (after_enter w q (w.stack q) (Some z)) (λ u. SharesHold u → ReturnsHold u)
+enter_returns w q z h = if_cond (λ u. SharesHold u → ReturnsHold u) (is_free ((w.stack q).top) && holds z.call (w.stack q)) _ (λ f s. made_returns w q (Enter (record { call = z.call; owner = z.owner; pool = z.pool; job = w.jobs })) w.call (put w.job w.jobs (new_job q z.pool (Scoped z.call z.owner))) w.calls (w.jobs + 1) w.scopes (λ t b. new_hand t w.jobs b) (new_counted w q (z.pool) (Scoped z.call z.owner) h) (λ t. put_backs w.job w.jobs (new_job q z.pool (Scoped z.call z.owner)) t (omega arith)) h s)
+
 into_returns : (w : World) (q : Party) (n : ℕ) → ReturnsHold w → IfSome (after_into w q n (w.stack q)) (λ u. SharesHold u → ReturnsHold u)
-into_returns w q n h = into_cases (λ u. SharesHold u → ReturnsHold u) w q n (λ z e free held. if_cond (λ u. SharesHold u → ReturnsHold u) (is_free ((w.stack q).top) && holds z.call (w.stack q)) _ (λ f s. made_returns w q (Enter (record { call = z.call; owner = z.owner; pool = z.pool; job = w.jobs })) w.call (put w.job w.jobs (new_job q z.pool (Scoped z.call z.owner))) w.calls (w.jobs + 1) w.scopes (λ t b. new_hand t w.jobs b) (new_counted w q (z.pool) (Scoped z.call z.owner) h) (λ t. put_backs w.job w.jobs (new_job q z.pool (Scoped z.call z.owner)) t (omega arith)) h s))
+into_returns w q n h = into_cases (λ u. SharesHold u → ReturnsHold u) w q n (λ z e free held. enter_returns w q z h)
 
 install_returns : (w : World) (q : Party) (p : ℕ) → ReturnsHold w → IfSome (after_install w q p (w.stack q)) (λ u. SharesHold u → ReturnsHold u)
 install_returns w q p h = if_cond (λ u. SharesHold u → ReturnsHold u) (is_free ((w.stack q).top) && is_pool w.shape p) _ (λ f s. sent_returns w q p (is_member q p) h s)
@@ -453,33 +523,85 @@ join_returns w (Worker p i) h = if_cond (λ u. SharesHold u → ReturnsHold u) (
     back : (t : ℕ) → backs (put J1 (w.jobs + 1) (new_job (Worker p i) p (Stored w.calls (Worker p i))) t).at ≤ backs (w.job t).at
     back t = let a : backs (put J1 (w.jobs + 1) (new_job (Worker p i) p (Stored w.calls (Worker p i))) t).at ≤ backs (J1 t).at = put_backs J1 (w.jobs + 1) (new_job (Worker p i) p (Stored w.calls (Worker p i))) t (omega arith) in let b : backs (J1 t).at ≤ backs (w.job t).at = put_backs w.job w.jobs (new_job (Worker p i) p Direct) t (omega arith) in omega (arith, a, b)
 
-cast_returns : (w : World) (q : Party) (p : ℕ) → ReturnsHold w → IfSome (after_cast w q p (w.stack q)) (λ u. SharesHold u → ReturnsHold u)
-cast_returns w q p h = if_cond (λ u. SharesHold u → ReturnsHold u) (is_free ((w.stack q).top) && is_pool w.shape p) _ (λ f s. returns_keep w u q (after_call (w.stack q) (RaiseForAll c)) (λ r. refl) (λ t d. each t (is_piece c t) refl d) h s)
+-- the pieces of a broadcast are new
+pieces_counted : (w : World) (q : Party) (c : Pieces) → w.jobs ≤ c.first → ReturnsHold w → (t : ℕ) → (put_pieces c (λ i j. new_piece q c.count c.pool i) w.job t).counted ≡ (w.job t).counted
+pieces_counted w q c l h t = by (is_piece c t) refl
+  where
+    by : (b : Bool) → is_piece c t ≡ b → (if b then new_piece q c.count c.pool (t - c.first) else w.job t).counted ≡ (w.job t).counted
+    by true e = sym ((h.shares).unmade t (let a : c.first ≤ t = (piece_range c t e).0 in omega (arith, a, l)))
+    by false e = refl
+
+pieces_backs : (q : Party) (c : Pieces) (J : ℕ → Job) (t : ℕ) → backs (put_pieces c (λ i j. new_piece q c.count c.pool i) J t).at ≤ backs (J t).at
+pieces_backs q c J t = by (is_piece c t)
+  where
+    by : (b : Bool) → backs (if b then new_piece q c.count c.pool (t - c.first) else J t).at ≤ backs (J t).at
+    by true = omega arith
+    by false = omega arith
+
+deal_returns : (w : World) (q : Party) (d : Count) (p : ℕ) → ReturnsHold w → SharesHold (after_deal w q d p (w.stack q)) → ReturnsHold (after_deal w q d p (w.stack q))
+deal_returns w q d p h s = returns_keep w u q (after_call (w.stack q) (RaiseForAll c)) (λ r. refl) (λ t e. each t (is_piece c t) refl e) h s
   where
     c : Pieces
-    c = record { pool = p; first = w.jobs; workers = (w.shape.pool p).workers }
+    c = record { count = d; pool = p; first = w.jobs; workers = (w.shape.pool p).workers }
 
     u : World
-    u = record w { stack = put_stack w.stack q (after_call (w.stack q) (RaiseForAll c)); job = put_pieces c (λ i j. new_piece q p i) w.job; jobs = w.jobs + c.workers }
+    u = after_deal w q d p (w.stack q)
 
-    each : (t : ℕ) (b : Bool) → is_piece c t ≡ b → (if b then new_piece q p (t - c.first) else w.job t).counted ≡ true → ((w.job t).counted ≡ true) × (all_bare t (after_call (w.stack q) (RaiseForAll c)) + backs (if b then new_piece q p (t - c.first) else w.job t).at ≤ all_bare t (w.stack q) + backs (w.job t).at)
-    each t true e d = absurd (cc)
-    each t false e d = (d, (let a : one (is_piece c t) ≡ 0 = ap one e in omega (arith, a)))
+    each : (t : ℕ) (b : Bool) → is_piece c t ≡ b → (if b then new_piece q d p (t - c.first) else w.job t).counted ≡ true → ((w.job t).counted ≡ true) × (all_bare t (after_call (w.stack q) (RaiseForAll c)) + backs (if b then new_piece q d p (t - c.first) else w.job t).at ≤ all_bare t (w.stack q) + backs (w.job t).at)
+    each t true e y = absurd (cc)
+    each t false e y = (y, (let a : one (is_piece c t) ≡ 0 = ap one e in omega (arith, a)))
 
-feed_returns : (w : World) (p i : ℕ) → ReturnsHold w → SharesHold (after_feed w p i (w.stack (Worker p i))) → ReturnsHold (after_feed w p i (w.stack (Worker p i)))
-feed_returns w p i h s = made_returns w (Worker p i) (Feed (record { pool = p; job = w.jobs; token = w.jobs + 1 })) w.call (put J1 (w.jobs + 1) (new_job (Worker p i) p (TokenOf i))) w.calls (w.jobs + 2) w.scopes new counted back h s
+cast_returns : (w : World) (q : Party) (p : ℕ) → ReturnsHold w → IfSome (after_cast w q p (w.stack q)) (λ u. SharesHold u → ReturnsHold u)
+cast_returns w q p h = if_cond (λ u. SharesHold u → ReturnsHold u) (is_free ((w.stack q).top) && is_pool w.shape p) _ (λ f s. deal_returns w q (OfPool p) p h s)
+
+into_cast_returns : (w : World) (q : Party) (n : ℕ) → ReturnsHold w → IfSome (after_into_cast w q n (w.stack q)) (λ u. SharesHold u → ReturnsHold u)
+into_cast_returns w q n h = into_cast_cases (λ u. SharesHold u → ReturnsHold u) w q n (λ z e free held s. deal_returns w q (OfScope z.call z.owner) z.pool h s)
+
+-- and with those of one that waits the number that stands for it
+gather_returns : (w : World) (q : Party) (p : ℕ) → ReturnsHold w → IfSome (after_broadcast w q p (w.stack q)) (λ u. SharesHold u → ReturnsHold u)
+gather_returns w q p h = if_cond (λ u. SharesHold u → ReturnsHold u) (is_free ((w.stack q).top) && is_pool w.shape p) _ (λ f s. made_returns w q n (put w.call w.calls (new_gathering c.workers t0)) (put J1 t0 (new_whole q p w.calls)) (w.calls + 1) (t0 + 1) w.scopes new counted back h s)
   where
+    c : Pieces
+    c = record { count = OfCast w.calls q; pool = p; first = w.jobs; workers = (w.shape.pool p).workers }
+
+    t0 : ℕ
+    t0 = w.jobs + c.workers
+
+    n : Plan
+    n = Gather (record { call = record { number = w.calls; pool = p; job = t0 }; pieces = c })
+
     J1 : ℕ → Job
-    J1 = put w.job w.jobs (new_job (Worker p i) p (Detached p))
+    J1 = put_pieces c (λ i j. new_piece q (OfCast w.calls q) p i) w.job
+
+    new : (t : ℕ) → t + 1 ≤ w.jobs → one (is_piece c t) ≤ 0
+    new t l = let a : one (is_piece c t) ≡ 0 = ap one (piece_out c t (omega (arith, l))) in omega (arith, a)
+
+    counted1 : (t : ℕ) → (J1 t).counted ≡ (w.job t).counted
+    counted1 t = pieces_counted w q c (omega arith) h t
+
+    counted : (t : ℕ) → (put J1 t0 (new_whole q p w.calls) t).counted ≡ (w.job t).counted
+    counted t = put_same (λ j. j.counted) J1 t0 (new_whole q p w.calls) t (sym (counted1 t0 ∙ (h.shares).unmade t0 (omega arith))) ∙ counted1 t
+
+    back : (t : ℕ) → backs (put J1 t0 (new_whole q p w.calls) t).at ≤ backs (w.job t).at
+    back t = let a : backs (put J1 t0 (new_whole q p w.calls) t).at ≤ backs (J1 t).at = put_backs J1 t0 (new_whole q p w.calls) t (omega arith) in let b : backs (J1 t).at ≤ backs (w.job t).at = pieces_backs q c w.job t in omega (arith, a, b)
+
+feed_returns : (w : World) (d : Count) (p i : ℕ) → ReturnsHold w → SharesHold (after_feed w d p i (w.stack (Worker p i))) → ReturnsHold (after_feed w d p i (w.stack (Worker p i)))
+feed_returns w d p i h s = made_returns w (Worker p i) (Feed (record { count = d; pool = p; job = w.jobs; token = w.jobs + 1 })) w.call (put J1 (w.jobs + 1) token) w.calls (w.jobs + 2) w.scopes new counted back h s
+  where
+    token : Job
+    token = new_job (Worker p i) p (TokenOf i (count_book d))
+
+    J1 : ℕ → Job
+    J1 = put w.job w.jobs (new_job (Worker p i) p (count_kind d))
 
     new : (t : ℕ) → t + 1 ≤ w.jobs → one (t == w.jobs) + one (t == (w.jobs + 1)) ≤ 0
     new t b = let a : one (t == w.jobs) ≤ 0 = new_hand t w.jobs b in let d : one (t == (w.jobs + 1)) ≤ 0 = new_hand t (w.jobs + 1) (omega (arith, b)) in omega (arith, a, d)
 
-    counted : (t : ℕ) → (put J1 (w.jobs + 1) (new_job (Worker p i) p (TokenOf i)) t).counted ≡ (w.job t).counted
-    counted t = put_same (λ j. j.counted) J1 (w.jobs + 1) (new_job (Worker p i) p (TokenOf i)) t (sym (new_counted w (Worker p i) p (Detached p) h (w.jobs + 1) ∙ (h.shares).unmade (w.jobs + 1) (omega arith))) ∙ new_counted w (Worker p i) p (Detached p) h t
+    counted : (t : ℕ) → (put J1 (w.jobs + 1) token t).counted ≡ (w.job t).counted
+    counted t = put_same (λ j. j.counted) J1 (w.jobs + 1) token t (sym (new_counted w (Worker p i) p (count_kind d) h (w.jobs + 1) ∙ (h.shares).unmade (w.jobs + 1) (omega arith))) ∙ new_counted w (Worker p i) p (count_kind d) h t
 
-    back : (t : ℕ) → backs (put J1 (w.jobs + 1) (new_job (Worker p i) p (TokenOf i)) t).at ≤ backs (w.job t).at
-    back t = let a : backs (put J1 (w.jobs + 1) (new_job (Worker p i) p (TokenOf i)) t).at ≤ backs (J1 t).at = put_backs J1 (w.jobs + 1) (new_job (Worker p i) p (TokenOf i)) t (omega arith) in let b : backs (J1 t).at ≤ backs (w.job t).at = put_backs w.job w.jobs (new_job (Worker p i) p (Detached p)) t (omega arith) in omega (arith, a, b)
+    back : (t : ℕ) → backs (put J1 (w.jobs + 1) token t).at ≤ backs (w.job t).at
+    back t = let a : backs (put J1 (w.jobs + 1) token t).at ≤ backs (J1 t).at = put_backs J1 (w.jobs + 1) token t (omega arith) in let b : backs (J1 t).at ≤ backs (w.job t).at = put_backs w.job w.jobs (new_job (Worker p i) p (count_kind d)) t (omega arith) in omega (arith, a, b)
 
 yield_returns : (w : World) (q : Party) (x : Place) → ((t : ℕ) → bare t x ≡ 0) → ReturnsHold w → IfSome (after_yield w q (w.stack q) x) (λ u. SharesHold u → ReturnsHold u)
 yield_returns w (Worker a b) x n h = if_cond (λ u. SharesHold u → ReturnsHold u) (is_free ((w.stack (Worker a b)).top)) _ (λ f s. moved_returns w (record w { stack = put_stack w.stack (Worker a b) (after_call (w.stack (Worker a b)) x) }) (Worker a b) (after_call (w.stack (Worker a b)) x) (λ r. refl) (λ t. refl) (λ t. (let c : bare t x ≡ 0 = n t in omega (arith, c))) h s)
@@ -498,12 +620,15 @@ each_returns w (Refuse q) h = refuse_returns w q ((w.stack q).top) ((w.stack q).
 each_returns w (Miss q) h = miss_returns w q ((w.stack q).top) ((w.stack q).below) refl h
 each_returns w (End q d) h = end_returns w q d ((w.stack q).top) ((w.stack q).below) refl h
 each_returns w (Spawn q p) h = spawn_returns w q p h
-each_returns w (Fifo q p) h = fifo_cases (λ u. SharesHold u → ReturnsHold u) w q p (spawn_returns w q p h) (λ i free s. feed_returns w p i h s)
+each_returns w (Fifo q p) h = fifo_cases (λ u. SharesHold u → ReturnsHold u) w q p (spawn_returns w q p h) (λ i free s. feed_returns w (OfPool p) p i h s)
 each_returns w (Cast q p) h = cast_returns w q p h
 each_returns w (Install q p) h = install_returns w q p h
 each_returns w (Join q) h = join_returns w q h
 each_returns w (OpenScope q p) h = scope_returns w q p h
 each_returns w (IntoSpawn q n) h = into_returns w q n h
+each_returns w (IntoFifo q n) h = into_fifo_cases (λ u. SharesHold u → ReturnsHold u) w q n (λ z e free held. enter_returns w q z h) (λ z i e free held s. feed_returns w (OfScope z.call z.owner) z.pool i h s)
+each_returns w (IntoCast q n) h = into_cast_returns w q n h
+each_returns w (Broadcast q p) h = gather_returns w q p h
 each_returns w (Yield q) h = yield_returns w q YieldPop (λ t. refl) h
 each_returns w (YieldLocal q) h = yield_returns w q LocalPop (λ t. refl) h
 each_returns w (EndPool q p) h = give_returns w q p h
@@ -544,6 +669,7 @@ going w h q n f = each n f
     each (Here p t) f = job t (let a : one (t == t) ≤ all_bare t (w.stack q) = f t in let b : one (t == t) ≡ 1 = self_one t in omega (arith, a, b))
     each (Send o) f = job (o.job) (let a : one (o.job == o.job) ≤ all_bare (o.job) (w.stack q) = f (o.job) in let b : one (o.job == o.job) ≡ 1 = self_one (o.job) in omega (arith, a, b))
     each (Open o) f = job (o.job) (let a : one (o.job == o.job) ≤ all_bare (o.job) (w.stack q) = f (o.job) in let b : one (o.job == o.job) ≡ 1 = self_one (o.job) in omega (arith, a, b))
+    each (Gather g) f = λ t e. job t (let a : one (is_piece g.pieces t) ≤ all_bare t (w.stack q) = f t in let b : one (is_piece g.pieces t) ≡ 1 = ap one e in omega (arith, a, b))
     each (Enter o) f = job (o.job) (let a : one (o.job == o.job) ≤ all_bare (o.job) (w.stack q) = f (o.job) in let b : one (o.job == o.job) ≡ 1 = self_one (o.job) in omega (arith, a, b))
     each (Feed d) f = (
       job (d.job) (let a : one (d.job == d.job) + one (d.job == d.token) ≤ all_bare (d.job) (w.stack q) = f (d.job) in let b : one (d.job == d.job) ≡ 1 = self_one (d.job) in omega (arith, a, b)),

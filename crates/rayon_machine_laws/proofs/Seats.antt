@@ -22,8 +22,8 @@ use Rattle.rayon_machine_places.specs.declared.act.Seen.TheVariants.{Yes}
 use Rattle.rayon_machine_places.specs.declared.shape.PoolShape.{PoolShape}
 use Rattle.rayon_machine_places.specs.declared.place.Settling.{Settling}
 use Rattle.rayon_machine_laws.proofs.Frame.{if_some_map, if_cond, out_sees, undo_sees}
-use Rattle.rayon_machine_places.specs.Places.{act_of, finish, next_of, same_party, settle, after_set, walk, begin_act}
-use Rattle.rayon_machine_places.specs.World.{Counts, Part, Seat, Shape, effect, is_open, but_last}
+use Rattle.rayon_machine_places.specs.Places.{act_of, finish, next_of, same_party, settle, after_set, walk, begin_act, count_book}
+use Rattle.rayon_machine_places.specs.World.{Counts, Part, Seat, Shape, effect, is_open, but_last, put_list}
 
 -- what a place says of its party's seat: nothing; inactive; holding its own lock too; asleep too; inactive and perhaps
 -- blocked
@@ -211,18 +211,18 @@ own_keeps h g p i c m (UnlockSettled s) ok = if_some_map (λ r. SeatOk p i Out (
 own_keeps h g p i c m _ ok = search (rules, arith)
 
 -- a seat with another FIFO list fits as before
-fed_keeps : (p i : ℕ) (x : Mode) (s : Seat) (l : List ℕ) (o : Option Party) → SeatOk p i x s → SeatOk p i x (record s { fifo = l; feeder = o })
+fed_keeps : (p i : ℕ) (x : Mode) (s : Seat) (l : Option ℕ → List ℕ) (o : Option ℕ → Option Party) → SeatOk p i x s → SeatOk p i x (record s { fifo = l; feeder = o })
 fed_keeps p i x s l o ok = record { inactive = ok.inactive; asleep = ok.asleep; blocked = ok.blocked; lock = ok.lock }
 
 begin_keeps : (h : Shape) (q : Party) (c : Counts) (m : Part) (x : Taken) (p i : ℕ) (y : Mode) → SeatOk p i y m.seat → IfSome (effect (begin_act x) h q c m) (λ r. SeatOk p i y (r.1.seat))
 begin_keeps h q c m (Plain t) p i y ok = ok
-begin_keeps h q c m (Token k j) p i y ok = out_sees (λ r. SeatOk p i y (r.1.seat)) q m ok (λ u us e. fed_keeps p i y m.seat us m.seat.feeder ok)
+begin_keeps h q c m (Token k j b8) p i y ok = out_sees (λ r. SeatOk p i y (r.1.seat)) q m b8 ok (λ u us e. fed_keeps p i y m.seat (put_list m.seat.fifo b8 us) m.seat.feeder ok)
 
-feed_keeps : (h : Shape) (q : Party) (c : Counts) (m : Part) (t p i : ℕ) (y : Mode) → SeatOk p i y m.seat → IfSome (effect (FifoIn t) h q c m) (λ r. SeatOk p i y (r.1.seat))
-feed_keeps h q c m t p i y ok = if_cond (λ r. SeatOk p i y (r.1.seat)) (is_open q m.seat.feeder) _ (λ z. fed_keeps p i y m.seat (m.seat.fifo ++ t ∷ []) (Some q) ok)
+feed_keeps : (h : Shape) (q : Party) (c : Counts) (m : Part) (t p i : ℕ) (b : Option ℕ) (y : Mode) → SeatOk p i y m.seat → IfSome (effect (FifoIn t b) h q c m) (λ r. SeatOk p i y (r.1.seat))
+feed_keeps h q c m t p i b y ok = if_cond (λ r. SeatOk p i y (r.1.seat)) (is_open q (m.seat.feeder b)) _ (λ z. fed_keeps p i y m.seat (put_list m.seat.fifo b (m.seat.fifo b ++ t ∷ [])) (put_list m.seat.feeder b (Some q)) ok)
 
-back_keeps : (h : Shape) (q : Party) (c : Counts) (m : Part) (p i : ℕ) (y : Mode) → SeatOk p i y m.seat → IfSome (effect FifoUndo h q c m) (λ r. SeatOk p i y (r.1.seat))
-back_keeps h q c m p i y ok = undo_sees (λ r. SeatOk p i y (r.1.seat)) q m ok (λ u e. fed_keeps p i y m.seat (but_last m.seat.fifo) None ok)
+back_keeps : (h : Shape) (q : Party) (c : Counts) (m : Part) (p i : ℕ) (b : Option ℕ) (y : Mode) → SeatOk p i y m.seat → IfSome (effect (FifoUndo b) h q c m) (λ r. SeatOk p i y (r.1.seat))
+back_keeps h q c m p i b y ok = undo_sees (λ r. SeatOk p i y (r.1.seat)) q m b ok (λ u e. fed_keeps p i y m.seat (put_list m.seat.fifo b (but_last (m.seat.fifo b))) (put_list m.seat.feeder b None) ok)
 
 -- another party's act leaves a worker's seat fitting the worker's place
 pub other_keeps : (h : Shape) (q : Party) (c : Counts) (m : Part) (x : Place) (p i : ℕ) (y : Place) → at_home x ≡ false → same_party q (Worker p i) ≡ false → SeatOk p i (mode y) m.seat → IfSome (effect (act_of q x) h q c m) (λ r. SeatOk p i (mode y) (r.1.seat))
@@ -235,8 +235,8 @@ other_keeps h (Worker a b) c m (UnlockSettled s) p i y away d ok = unlock_keeps 
 other_keeps h (Worker a b) c m (WakeWorker k) p i y away d ok = wake_keeps k.pool k.worker h (Worker a b) c m p i (mode y) ok
 other_keeps h (Worker a b) c m (WakeSettled s) p i y away d ok = wake_keeps s.pool s.worker h (Worker a b) c m p i (mode y) ok
 other_keeps h (Worker a b) c m (BeginTask x) p i y away d ok = begin_keeps h (Worker a b) c m x p i (mode y) ok
-other_keeps h (Worker a b) c m (AddToFifo f) p i y away d ok = feed_keeps h (Worker a b) c m f.job p i (mode y) ok
-other_keeps h (Worker a b) c m (TakeFromFifo f) p i y away d ok = back_keeps h (Worker a b) c m p i (mode y) ok
+other_keeps h (Worker a b) c m (AddToFifo f) p i y away d ok = feed_keeps h (Worker a b) c m f.job p i (count_book f.count) (mode y) ok
+other_keeps h (Worker a b) c m (TakeFromFifo f) p i y away d ok = back_keeps h (Worker a b) c m p i (count_book f.count) (mode y) ok
 other_keeps h (Worker a b) c m _ p i y away d ok = first_of (cc, search (rules, arith))
 other_keeps h (Caller n) c m (StealFrom k l) p i y away d ok = search (rules, arith)
 other_keeps h (Caller n) c m (SetLatch s) p i y away d ok = set_keeps s.latch s.pool s.worker h (Caller n) c m p i (mode y) ok

@@ -32,7 +32,8 @@ use Rattle.rayon_machine_laws.proofs.Frame.{either, same_index, same_refl, same_
 use Rattle.rayon_machine_laws.proofs.Holding.{blocking_home, if_some_h}
 use Rattle.rayon_machine_laws.proofs.Latches.{SameLatches, is_latching, latches_same, or_terminate, blocks_not}
 use Rattle.rayon_machine_laws.proofs.Locks.{tops_map}
-use Rattle.rayon_machine_laws.proofs.Owned.{Mine, Owned, step_owned, first_owned}
+use Rattle.rayon_machine_laws.proofs.OwnedActs.{Mine, Owned}
+use Rattle.rayon_machine_laws.proofs.Owned.{step_owned, first_owned}
 use Rattle.rayon_machine_laws.proofs.Seats.{mode, lies_in, is_frame, at_home}
 use Rattle.rayon_machine_laws.proofs.Ties.{home_pool, home_worker, home_caller, shape_at, outcome, result}
 use Rattle.rayon_machine_laws.proofs.Tops.{Tops, FramesOk, is_light, frame_light, settled_leads, leads_tops}

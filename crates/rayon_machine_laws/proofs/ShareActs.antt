@@ -1,6 +1,6 @@
 -- each act keeps the shares and their sum
 use Rattle.rayon_machine_places.specs.declared.place.Share.TheVariants.{PoolValue, OfJob, Body}
-use Rattle.rayon_machine_places.specs.declared.place.Count.TheVariants.{OfPool, OfScope}
+use Rattle.rayon_machine_places.specs.declared.place.Count.TheVariants.{OfPool, OfScope, OfCast}
 use Rattle.std.proofs.Common.{rules, arith, refl, sym, ◌∙◌, ap, subst}
 use Rattle.std.specs.Prelude.{ℕ, Bool, true, false, ◌+◌, ◌==◌, ◌≤◌, if◌then◌else◌, Option, Some, None, List, [], ◌∷◌, ◌++◌, ◌≡◌, IfSome, ◌&&◌, ⊤}
 use Rattle.std.proofs.lemmas.Bool.{eq-eqb}
@@ -10,10 +10,10 @@ use Rattle.rayon_machine_places.specs.declared.place.Party.TheVariants.{Worker, 
 use Rattle.rayon_machine_places.specs.declared.place.Latch.{Latch}
 use Rattle.rayon_machine_places.specs.declared.place.Latch.TheVariants.{Terminate, OfCall}
 use Rattle.rayon_machine_places.specs.declared.place.Plan.{Plan}
-use Rattle.rayon_machine_places.specs.declared.place.Plan.TheVariants.{Detach, Here, Send, Fork, Feed, Open, Enter}
+use Rattle.rayon_machine_places.specs.declared.place.Plan.TheVariants.{Detach, Here, Send, Fork, Feed, Open, Enter, Gather}
 use Rattle.rayon_machine_places.specs.declared.place.Taken.TheVariants.{Plain, Token}
 use Rattle.rayon_machine_places.specs.declared.place.Place.{Place}
-use Rattle.rayon_machine_places.specs.declared.place.Place.TheVariants.{ProbeWorking, PopWorking, TakeCastWorking, PopIdle, TakeCastIdle, StealFrom, PopInjected, GetSleepy, FallAsleep, WakeUp, JoinPop, JoinTakeCast, YieldPop, YieldTakeCast, YieldSteal, YieldPopInjected, LocalPop, LocalTakeCast, BeginTask, BeginHere, RaiseCount, PushJob, LowerCount, SetLatch, PushToken, AddToFifo, TakeFromFifo, RaiseForAll, PushForAll, LowerForAll}
+use Rattle.rayon_machine_places.specs.declared.place.Place.TheVariants.{ProbeWorking, PopWorking, TakeCastWorking, PopIdle, TakeCastIdle, StealFrom, PopInjected, GetSleepy, FallAsleep, WakeUp, JoinPop, JoinTakeCast, YieldPop, YieldTakeCast, YieldSteal, YieldPopInjected, LocalPop, LocalTakeCast, BeginTask, BeginHere, RaiseCount, PushJob, LowerCount, SetLatch, PushToken, AddToFifo, TakeFromFifo, RaiseForAll, PushForAll, LowerForAll, DealPieces}
 use Rattle.rayon_machine_places.specs.declared.act.Act.TheVariants.{PushInj, PushOwn, FifoOut, FifoUndo}
 use Rattle.rayon_machine_places.specs.declared.act.Seen.{Seen}
 use Rattle.rayon_machine_places.specs.declared.act.Seen.TheVariants.{Done, Missing, Task}
@@ -22,7 +22,7 @@ use Rattle.rayon_machine_places.specs.declared.state.Letter.TheVariants.{Set as 
 use Rattle.rayon_machine_places.specs.declared.state.Whereabouts.{Whereabouts}
 use Rattle.rayon_machine_places.specs.declared.state.Whereabouts.TheVariants.{Nowhere, Made, InDeque, Injected, InFifo, Retaken, InCast}
 use Rattle.rayon_machine_places.specs.declared.state.Job.{Job}
-use Rattle.rayon_machine_places.specs.Places.{own_pool, own_index, is_member, latch_of, plan_pool, plan_job, act_of, taken_number, plan_book}
+use Rattle.rayon_machine_places.specs.Places.{own_pool, own_index, is_member, latch_of, plan_pool, plan_job, act_of, taken_number, plan_book, count_book}
 use Rattle.rayon_machine_places.specs.World.{Shape, World, Counts, counts_at, Part, target_pool, target_worker, target_call, head_of, but_first, own_of, own_left, or_none, but_last, letter, with_letter, at_job, popped, take_cast, pop_injector, effect, is_open}
 use Rattle.rayon_machine_places.specs.Steps.{part_of}
 use Rattle.rayon_machine_laws.specs.Once.{one, times, in_deque, in_injector, IsOnce, in_fifo, in_cast}
@@ -34,7 +34,7 @@ use Rattle.rayon_machine_laws.proofs.Lists.{moves_no_job, SameJobs, quiet_same, 
 use Rattle.rayon_machine_laws.proofs.Located.{is_left}
 use Rattle.rayon_machine_laws.proofs.Placed.{outcome_of}
 use Rattle.rayon_machine_laws.proofs.Claims.{call_undetached, is_detached, SaysPlan, queue_plan, Says}
-use Rattle.rayon_machine_laws.proofs.ClaimRuns.{CallsHold, place_part}
+use Rattle.rayon_machine_laws.proofs.ClaimRuns.{CallsHold, place_part, LinedAs}
 use Rattle.rayon_machine_laws.proofs.Amounts.{all_raises, all_values, pushed}
 use Rattle.rayon_machine_laws.proofs.Tokens.{Tokens, sum_below}
 use Rattle.rayon_machine_laws.proofs.Letters.{sleepy_keeps, asleep_keeps, wake_keeps, set_keeps}
@@ -75,6 +75,7 @@ is_tally (LowerCount (OfScope c o) Body n) = false
 is_tally (LowerCount k s n) = true
 is_tally (RaiseForAll c) = true
 is_tally (LowerForAll c) = true
+is_tally (DealPieces g) = true
 is_tally _ = false
 
 pub record Untallied (m : Part) (r : Seen × Part) : Type 0 where
@@ -96,12 +97,14 @@ act_untallied h (Worker a b) c m (FallAsleep k) z = asleep_keeps (latch_of k.tar
 act_untallied h (Worker a b) c m (WakeUp k) z = wake_keeps (latch_of k.target) Untallied same_untallied (λ v e y n. letter_untallied (latch_of k.target) v e y) m (letter (latch_of k.target) m)
 act_untallied h (Worker a b) c m (SetLatch k) z = set_keeps k.latch Untallied (λ v e. letter_untallied k.latch v e IsSet) m (letter k.latch m)
 act_untallied h (Worker a b) c m (LowerCount (OfPool p) s n) z = cc
+act_untallied h (Worker a b) c m (LowerCount (OfCast d o) s n) z = cc
 act_untallied h (Worker a b) c m (LowerCount (OfScope d o) PoolValue n) z = cc
 act_untallied h (Worker a b) c m (LowerCount (OfScope d o) (OfJob t) n) z = cc
 act_untallied h (Worker a b) c m (LowerCount (OfScope d o) Body n) z = record { job = refl; pool = refl; count = refl }
 act_untallied h (Worker a b) c m _ z = first_of (cc, search (rules, arith))
 act_untallied h (Caller n) c m (SetLatch k) z = set_keeps k.latch Untallied (λ v e. letter_untallied k.latch v e IsSet) m (letter k.latch m)
 act_untallied h (Caller n) c m (LowerCount (OfPool p) s y) z = cc
+act_untallied h (Caller n) c m (LowerCount (OfCast d o) s y) z = cc
 act_untallied h (Caller n) c m (LowerCount (OfScope d o) PoolValue y) z = cc
 act_untallied h (Caller n) c m (LowerCount (OfScope d o) (OfJob t) y) z = cc
 act_untallied h (Caller n) c m (LowerCount (OfScope d o) Body y) z = record { job = refl; pool = refl; count = refl }
@@ -113,7 +116,7 @@ take_left w h p i t n e = by ((w.job t).at) (let a : times t (w.seat p i).own �
   where
     by : (v : Whereabouts) → 1 ≤ one (in_deque p i v) → is_left v ≡ true
     by (InDeque r j) z = refl
-    by (InFifo r j) z = absurd (omega (arith, z))
+    by (InFifo r j b7) z = absurd (omega (arith, z))
     by (Retaken q) z = absurd (omega (arith, z))
     by (Made q) z = absurd (omega (arith, z))
     by Nowhere z = absurd (omega (arith, z))
@@ -124,7 +127,7 @@ inject_left w h p t n e = by ((w.job t).at) (let a : times t (w.pool p).injector
   where
     by : (v : Whereabouts) → 1 ≤ one (in_injector p v) → is_left v ≡ true
     by (Injected r) z = refl
-    by (InFifo r j) z = absurd (omega (arith, z))
+    by (InFifo r j b7) z = absurd (omega (arith, z))
     by (Retaken q) z = absurd (omega (arith, z))
     by (Made q) z = absurd (omega (arith, z))
     by Nowhere z = absurd (omega (arith, z))
@@ -158,11 +161,11 @@ head_taken w h p i t e = subst (λ o. is_left (w.job (or_none o)).at ≡ true) (
 inj_taken : (w : World) → IsOnce w → (p t : ℕ) → head_of (w.pool p).injector ≡ Some t → is_left (w.job (or_none (head_of (w.pool p).injector))).at ≡ true
 inj_taken w h p t e = subst (λ o. is_left (w.job (or_none o)).at ≡ true) (sym e) (inject_left w h p t (times t (but_first (w.pool p).injector)) (times_first ((w.pool p).injector) t t e))
 
-line_busy : (w : World) → IsOnce w → (p i t : ℕ) → head_of (w.seat p i).fifo ≡ Some t → is_busy (w.job (or_none (head_of (w.seat p i).fifo))).at ≡ true
-line_busy w h p i t e = subst (λ o. is_busy (w.job (or_none o)).at ≡ true) (sym e) (by ((w.job t).at) (let a : times t (w.seat p i).fifo ≡ one (in_fifo p i (w.job t).at) = h.fifo p i t in let b : times t (w.seat p i).fifo ≡ (one (t == t) + times t (but_first (w.seat p i).fifo)) = times_first ((w.seat p i).fifo) t t e in let c : one (t == t) ≡ 1 = ap one (eq-eqb t t refl) in omega (arith, a, b, c)))
+line_busy : (w : World) → IsOnce w → (p i : ℕ) (b : Option ℕ) (t : ℕ) → head_of ((w.seat p i).fifo b) ≡ Some t → is_busy (w.job (or_none (head_of ((w.seat p i).fifo b)))).at ≡ true
+line_busy w h p i b t e = subst (λ o. is_busy (w.job (or_none o)).at ≡ true) (sym e) (by ((w.job t).at) (let a : times t ((w.seat p i).fifo b) ≡ one (in_fifo p i b (w.job t).at) = h.fifo p i b t in let d : times t ((w.seat p i).fifo b) ≡ (one (t == t) + times t (but_first ((w.seat p i).fifo b))) = times_first ((w.seat p i).fifo b) t t e in let c : one (t == t) ≡ 1 = ap one (eq-eqb t t refl) in omega (arith, a, d, c)))
   where
-    by : (v : Whereabouts) → 1 ≤ one (in_fifo p i v) → is_busy v ≡ true
-    by (InFifo r j) z = refl
+    by : (v : Whereabouts) → 1 ≤ one (in_fifo p i b v) → is_busy v ≡ true
+    by (InFifo r j d) z = refl
     by _ z = absurd (omega (arith, z))
 
 cast_taken : (w : World) → IsOnce w → (p i t : ℕ) → head_of ((w.pool p).casts i) ≡ Some t → is_left (w.job (or_none (head_of ((w.pool p).casts i)))).at ≡ true
@@ -176,6 +179,7 @@ push_stays : (w : World) (q : Party) (n : Plan) (v : Bool) (m m' : Part) → Say
 push_stays w q (Detach p t) v m m' s e y z = let a : one (t == t) ≡ 1 = ap one (eq-eqb t t refl) in let b : one (is_busy m'.job.at) ≤ 1 = one_most (is_busy m'.job.at) in omega (arith, a, b)
 push_stays w q (Enter x) v m m' s e y z = let a : one (x.job == x.job) ≡ 1 = ap one (eq-eqb x.job x.job refl) in let b : one (is_busy m'.job.at) ≤ 1 = one_most (is_busy m'.job.at) in omega (arith, a, b)
 push_stays w q (Open o) v m m' s e y z = absurd (let a : is_detached m.job.kind ≡ false = ap (λ j. is_detached (j.kind)) e ∙ call_undetached ((w.job o.job).kind) (o.number, q) ((s.0).kind) in cc)
+push_stays w q (Gather g) v m m' s e y z = absurd (let a : is_detached m.job.kind ≡ false = ap (λ j. is_detached (j.kind)) e ∙ ap is_detached (s.whole) in cc)
 push_stays w q (Feed f) v m m' s e y z = let a : one (f.job == f.job) ≡ 1 = ap one (eq-eqb f.job f.job refl) in let b : one (is_busy m'.job.at) ≤ 1 = one_most (is_busy m'.job.at) in omega (arith, a, b)
 push_stays w q (Here p t) v m m' s e y z = absurd (let a : is_detached m.job.kind ≡ false = ap (λ j. is_detached (j.kind)) e ∙ ap is_detached (s.kind) in cc)
 push_stays w q (Send o) v m m' s e y z = absurd (let a : is_detached m.job.kind ≡ false = ap (λ j. is_detached (j.kind)) e ∙ call_undetached ((w.job o.job).kind) (o.number, q) ((s.0).kind) in cc)
@@ -218,16 +222,17 @@ act_stays w (Caller c) YieldTakeCast h s = tt
 act_stays w (Worker a b) LocalTakeCast h s = cast_stays (Worker a b) (place_part w (Worker a b) LocalTakeCast) LocalTakeCast (job_at w (Worker a b) (act_of (Worker a b) LocalTakeCast)) _ (λ t e. cast_taken w h a b t e)
 act_stays w (Caller c) LocalTakeCast h s = tt
 act_stays w q (BeginTask (Plain t)) h s = λ y z. absurd (let a : is_left (w.job t).at ≡ true = s in cc)
-act_stays w (Worker a b) (BeginTask (Token k i)) h s = out_sees (Stays (place_part w (Worker a b) (BeginTask (Token k i))) (BeginTask (Token k i)) (job_at w (Worker a b) (FifoOut k i))) (Worker a b) (place_part w (Worker a b) (BeginTask (Token k i))) (same_stays (place_part w (Worker a b) (BeginTask (Token k i))) (BeginTask (Token k i)) (job_at w (Worker a b) (FifoOut k i)) (Missing, place_part w (Worker a b) (BeginTask (Token k i))) refl) (λ u us e y z. (let o : one (is_busy (w.job (or_none (head_of ((w.seat a i).fifo)))).at) ≡ 1 = ap one (line_busy w h a i u (ap head_of e)) in omega (arith, o)))
-act_stays w (Caller c) (BeginTask (Token k i)) h s = out_sees (Stays (place_part w (Caller c) (BeginTask (Token k i))) (BeginTask (Token k i)) (job_at w (Caller c) (FifoOut k i))) (Caller c) (place_part w (Caller c) (BeginTask (Token k i))) (same_stays (place_part w (Caller c) (BeginTask (Token k i))) (BeginTask (Token k i)) (job_at w (Caller c) (FifoOut k i)) (Missing, place_part w (Caller c) (BeginTask (Token k i))) refl) (λ u us e y z. (let o : one (is_busy (w.job (or_none (head_of ((w.seat 0 i).fifo)))).at) ≡ 1 = ap one (line_busy w h 0 i u (ap head_of e)) in omega (arith, o)))
+act_stays w (Worker a b) (BeginTask (Token k i b8)) h s = out_sees (Stays (place_part w (Worker a b) (BeginTask (Token k i b8))) (BeginTask (Token k i b8)) (job_at w (Worker a b) (FifoOut k i b8))) (Worker a b) (place_part w (Worker a b) (BeginTask (Token k i b8))) b8 (same_stays (place_part w (Worker a b) (BeginTask (Token k i b8))) (BeginTask (Token k i b8)) (job_at w (Worker a b) (FifoOut k i b8)) (Missing, place_part w (Worker a b) (BeginTask (Token k i b8))) refl) (λ u us e y z. (let o : one (is_busy (w.job (or_none (head_of ((w.seat a i).fifo b8)))).at) ≡ 1 = ap one (line_busy w h a i b8 u (ap head_of e)) in omega (arith, o)))
+act_stays w (Caller c) (BeginTask (Token k i b8)) h s = out_sees (Stays (place_part w (Caller c) (BeginTask (Token k i b8))) (BeginTask (Token k i b8)) (job_at w (Caller c) (FifoOut k i b8))) (Caller c) (place_part w (Caller c) (BeginTask (Token k i b8))) b8 (same_stays (place_part w (Caller c) (BeginTask (Token k i b8))) (BeginTask (Token k i b8)) (job_at w (Caller c) (FifoOut k i b8)) (Missing, place_part w (Caller c) (BeginTask (Token k i b8))) refl) (λ u us e y z. (let o : one (is_busy (w.job (or_none (head_of ((w.seat 0 i).fifo b8)))).at) ≡ 1 = ap one (line_busy w h 0 i b8 u (ap head_of e)) in omega (arith, o)))
 act_stays w (Worker a b) (PushToken f v) h s = λ y z. absurd (let k : is_detached (w.job f.token).kind ≡ false = ap is_detached ((s.1).kind) in cc)
 act_stays w (Caller c) (PushToken f v) h s = tt
-act_stays w (Worker a b) (AddToFifo f) h s = if_cond (Stays (place_part w (Worker a b) (AddToFifo f)) (AddToFifo f) f.job) (is_open (Worker a b) ((w.seat a b).feeder)) _ (λ t y z. (let o : one (f.job == f.job) ≡ 1 = ap one (eq-eqb f.job f.job refl) in omega (arith, o)))
+act_stays w (Worker a b) (AddToFifo f) h s = if_cond (Stays (place_part w (Worker a b) (AddToFifo f)) (AddToFifo f) f.job) (is_open (Worker a b) ((w.seat a b).feeder (count_book f.count))) _ (λ t y z. (let o : one (f.job == f.job) ≡ 1 = ap one (eq-eqb f.job f.job refl) in omega (arith, o)))
 act_stays w (Caller c) (AddToFifo f) h s = tt
-act_stays w (Worker a b) (TakeFromFifo f) h s = undo_sees (Stays (place_part w (Worker a b) (TakeFromFifo f)) (TakeFromFifo f) (job_at w (Worker a b) FifoUndo)) (Worker a b) (place_part w (Worker a b) (TakeFromFifo f)) (same_stays (place_part w (Worker a b) (TakeFromFifo f)) (TakeFromFifo f) (job_at w (Worker a b) FifoUndo) (Missing, place_part w (Worker a b) (TakeFromFifo f)) refl) (λ u e y z. omega arith)
+act_stays w (Worker a b) (TakeFromFifo f) h s = undo_sees (Stays (place_part w (Worker a b) (TakeFromFifo f)) (TakeFromFifo f) (job_at w (Worker a b) (FifoUndo (count_book f.count)))) (Worker a b) (place_part w (Worker a b) (TakeFromFifo f)) (count_book f.count) (same_stays (place_part w (Worker a b) (TakeFromFifo f)) (TakeFromFifo f) (job_at w (Worker a b) (FifoUndo (count_book f.count))) (Missing, place_part w (Worker a b) (TakeFromFifo f)) refl) (λ u e y z. omega arith)
 act_stays w (Caller c) (TakeFromFifo f) h s = tt
 act_stays w q (BeginHere t) h s = λ y z. absurd (let a : is_detached (w.job t).kind ≡ false = s.kind in cc)
 act_stays w q (PushForAll c) h s = λ y z. omega arith
+act_stays w q (DealPieces g) h s = λ y z. omega arith
 act_stays w q (PushJob n v) h s = push_act_stays w q n v (is_member q (plan_pool n)) (queue_plan w q n s)
 act_stays w q x h s = quiet_stays w.shape q (counts_at w (target_pool q (act_of q x))) (place_part w q x) x (job_at w q (act_of q x)) refl
 
@@ -236,14 +241,18 @@ abbrev pub Regains : World → Party → Place → Seen × Part → Type 0
 Regains w q (TakeFromFifo f) (Task y, m) = (job_at w q (act_of q (TakeFromFifo f)) ≡ taken_number y) × (with_job (w.job (taken_number y)) ≡ 1) × (is_busy m.job.at ≡ false)
 Regains w q _ _ = ⊤
 
-lined_share : (w : World) → CallsHold w → IsOnce w → (p i t : ℕ) → 1 ≤ times t (w.seat p i).fifo → with_job (w.job t) ≡ 1
-lined_share w h o p i t n = ap (λ k. one (is_detached k && is_busy (w.job t).at)) (h.lines p i t n).kind ∙ ap one (by ((w.job t).at) (let a : times t (w.seat p i).fifo ≡ one (in_fifo p i (w.job t).at) = o.fifo p i t in omega (arith, a, n)))
+lined_detached : (w : World) (t p : ℕ) (b : Option ℕ) → LinedAs w t p b → is_detached (w.job t).kind ≡ true
+lined_detached w t p None s = ap is_detached (s.kind)
+lined_detached w t p (Some c) s = ap is_detached ((s.1).kind)
+
+lined_share : (w : World) → CallsHold w → IsOnce w → (p i : ℕ) (b : Option ℕ) (t : ℕ) → 1 ≤ times t ((w.seat p i).fifo b) → with_job (w.job t) ≡ 1
+lined_share w h o p i b t n = ap (λ k. one (k && is_busy (w.job t).at)) (lined_detached w t p b (h.lines p i b t n)) ∙ ap one (by ((w.job t).at) (let a : times t ((w.seat p i).fifo b) ≡ one (in_fifo p i b (w.job t).at) = o.fifo p i b t in omega (arith, a, n)))
   where
-    by : (v : Whereabouts) → 1 ≤ one (in_fifo p i v) → is_busy v ≡ true
-    by (InFifo r j) z = refl
+    by : (v : Whereabouts) → 1 ≤ one (in_fifo p i b v) → is_busy v ≡ true
+    by (InFifo r j d) z = refl
     by _ z = absurd (omega (arith, z))
 
 pub act_regains : (w : World) (q : Party) (x : Place) → CallsHold w → IsOnce w → IfSome (effect (act_of q x) w.shape q (counts_at w (target_pool q (act_of q x))) (place_part w q x)) (Regains w q x)
-act_regains w (Worker a b) (TakeFromFifo f) h o = undo_sees (Regains w (Worker a b) (TakeFromFifo f)) (Worker a b) (place_part w (Worker a b) (TakeFromFifo f)) tt (λ u e. (ap or_none e, lined_share w h o a b u (let d : times u (w.seat a b).fifo ≡ (one (u == u) + times u (but_last (w.seat a b).fifo)) = times_drop (w.seat a b).fifo u u e in let c : one (u == u) ≡ 1 = ap one (eq-eqb u u refl) in omega (arith, c, d)), refl))
+act_regains w (Worker a b) (TakeFromFifo f) h o = undo_sees (Regains w (Worker a b) (TakeFromFifo f)) (Worker a b) (place_part w (Worker a b) (TakeFromFifo f)) (count_book f.count) tt (λ u e. (ap or_none e, lined_share w h o a b (count_book f.count) u (let d : times u ((w.seat a b).fifo (count_book f.count)) ≡ (one (u == u) + times u (but_last ((w.seat a b).fifo (count_book f.count)))) = times_drop ((w.seat a b).fifo (count_book f.count)) u u e in let c : one (u == u) ≡ 1 = ap one (eq-eqb u u refl) in omega (arith, c, d)), refl))
 act_regains w (Caller c) (TakeFromFifo f) h o = tt
 act_regains w q x h o = if_some_all (Regains w q x) (λ r. tt) (effect (act_of q x) w.shape q (counts_at w (target_pool q (act_of q x))) (place_part w q x))

@@ -1,18 +1,19 @@
 -- each step keeps the shares, and a pool whose terminate latch is set has none left
-use Rattle.rayon_machine_places.specs.declared.place.Mark.TheVariants.{Queued}
+use Rattle.rayon_machine_places.specs.declared.place.Gathering.{Gathering}
+use Rattle.rayon_machine_places.specs.declared.place.Mark.TheVariants.{Queued, Dealt}
 use Rattle.rayon_machine_places.specs.declared.place.Pieces.{Pieces}
-use Rattle.rayon_machine_places.specs.declared.place.Count.TheVariants.{OfPool, OfScope}
+use Rattle.rayon_machine_places.specs.declared.place.Count.TheVariants.{OfPool, OfScope, OfCast}
 use Rattle.std.proofs.Common.{arith, refl, sym, ◌∙◌, ap, subst}
 use Rattle.std.specs.Prelude.{ℕ, Bool, true, false, ◌&&◌, ◌+◌, ◌==◌, ◌≤◌, nat_lt, if◌then◌else◌, Option, Some, None, List, ◌∷◌, ◌≡◌, IfSome}
 use Rattle.std.proofs.lemmas.Bool.{eqb-true}
 use Rattle.rayon_machine_places.specs.declared.place.Party.{Party}
 use Rattle.rayon_machine_places.specs.declared.place.Party.TheVariants.{Worker, Caller}
 use Rattle.rayon_machine_places.specs.declared.place.Plan.{Plan}
-use Rattle.rayon_machine_places.specs.declared.place.Plan.TheVariants.{Detach, Here, Send, Fork, Feed, Open, Enter}
+use Rattle.rayon_machine_places.specs.declared.place.Plan.TheVariants.{Detach, Here, Send, Fork, Feed, Open, Enter, Gather}
 use Rattle.rayon_machine_places.specs.declared.place.Share.TheVariants.{PoolValue, OfJob, Body}
 use Rattle.rayon_machine_places.specs.declared.place.Then.TheVariants.{Resume}
 use Rattle.rayon_machine_places.specs.declared.place.Place.{Place}
-use Rattle.rayon_machine_places.specs.declared.place.Place.TheVariants.{PickVictim, StealFrom, YieldPick, YieldSteal, RaiseCount, GrowCall, PushJob, LowerCount, AddToFifo, PushToken, TakeFromFifo, RaiseForAll, PushForAll, LowerForAll, GrowScope, OpenSlot}
+use Rattle.rayon_machine_places.specs.declared.place.Place.TheVariants.{PickVictim, StealFrom, YieldPick, YieldSteal, RaiseCount, GrowCall, PushJob, LowerCount, AddToFifo, PushToken, TakeFromFifo, RaiseForAll, PushForAll, LowerForAll, GrowScope, OpenSlot, OpenForAll, GrowCast, DealPieces}
 use Rattle.rayon_machine_places.specs.declared.place.Move.{Move}
 use Rattle.rayon_machine_places.specs.declared.place.Move.TheVariants.{Stay, Enter, StartRun, Back, HandBack, Discard, HandIn, Mark, HandAllBack}
 use Rattle.rayon_machine_places.specs.declared.act.Seen.{Seen}
@@ -28,14 +29,15 @@ use Rattle.rayon_machine_laws.proofs.Ties.{job_at, outcome, result}
 use Rattle.rayon_machine_laws.proofs.Placed.{Kept}
 use Rattle.rayon_machine_laws.proofs.PlacedEvents.{go_kept, no_deals, is_dealing}
 use Rattle.rayon_machine_laws.proofs.PlacedRuns.{once}
-use Rattle.rayon_machine_laws.proofs.Claims.{is_detached, SaysMove, says_next, SaysThen, SaysShare}
+use Rattle.rayon_machine_laws.proofs.Claims.{is_detached, SaysMove, says_next, SaysThen, SaysShare, is_part}
 use Rattle.rayon_machine_laws.proofs.Later.{later_says, Static, act_static}
 use Rattle.rayon_machine_laws.proofs.ClaimActs.{Lasting, lasting, Learned, act_learned, Written, act_written, Lines, line_table}
-use Rattle.rayon_machine_laws.proofs.ClaimRuns.{CallsHold, world_after, place_part, learns, act_calls, top_says}
+use Rattle.rayon_machine_laws.proofs.ClaimRuns.{CallsHold, world_after, place_part, learns, act_calls, top_says, unqueued}
 use Rattle.rayon_machine_laws.proofs.Amounts.{regained, raises, values, raises_in, values_in, all_raises, all_values, gained, pushed, paid}
 use Rattle.rayon_machine_laws.proofs.ShareActs.{with_job, SharesHold, Regains, act_regains, is_tally, Untallied, same_untallied, act_untallied, Stays, act_stays}
+use Rattle.rayon_machine_laws.proofs.Lost.{Unlost, act_unlost, dealt_stays}
 use Rattle.rayon_machine_laws.proofs.ShareRuns.{StartsAwaited, says_starts, busy_step, shares_mine, other_le, values_mine, raises_all, still_hold, dealt}
-use Rattle.rayon_machine_laws.proofs.ShareSteps.{Ready, plain_hold, raised_world, raise_hold, no_steady, refused_hold, raise_all_hold, all_raised}
+use Rattle.rayon_machine_laws.proofs.ShareSteps.{Ready, plain_hold, raised_world, raise_hold, no_steady, refused_hold, raise_all_hold, all_raised, deal_hold}
 use Rattle.rayon_machine_laws.proofs.ShareLowers.{lowered_world, lower_job, lower_value, lower_all_hold, all_lowered}
 
 -- the share that comes back to a call was the job's own
@@ -63,25 +65,38 @@ regain w q x fs r g t b = omega (arith, b)
 -- what a move deals, the act has pushed
 none_dealt : (t : ℕ) (g : Move) → is_dealing g ≡ false → dealt t g ≡ 0
 none_dealt t (Mark y c Queued) e = absurd (cc)
+none_dealt t (Mark y c Dealt) e = absurd (cc)
 none_dealt t _ e = refl
 
 push_dealt : (t : ℕ) (g : PoolShape) (q : Party) (c : Pieces) (e : Seen) → dealt t (next_of g q (PushForAll c) e) ≤ pushed t (PushForAll c) e
 push_dealt t g q c Done = omega arith
 push_dealt t g q c _ = omega arith
 
+deal_dealt : (t : ℕ) (g : PoolShape) (q : Party) (b : Gathering) (e : Seen) → dealt t (next_of g q (DealPieces b) e) ≤ pushed t (DealPieces b) e
+deal_dealt t g q b Done = omega arith
+deal_dealt t g q b _ = omega arith
+
 act_deals : (w : World) (q : Party) (x : Place) → IfSome (effect (act_of q x) w.shape q (counts_at w (target_pool q (act_of q x))) (place_part w q x)) (λ r. (t : ℕ) → dealt t (next_of (w.shape.pool (target_pool q (act_of q x))) q x (r.0)) ≤ pushed t x (r.0))
 act_deals w q (PushForAll c) = if_some_all {A = Seen × Part} (λ r. (t : ℕ) → dealt t (next_of (w.shape.pool (target_pool q (act_of q (PushForAll c)))) q (PushForAll c) (r.0)) ≤ pushed t (PushForAll c) (r.0)) (λ r t. push_dealt t (w.shape.pool (target_pool q (act_of q (PushForAll c)))) q c (r.0)) (effect (act_of q (PushForAll c)) w.shape q (counts_at w (target_pool q (act_of q (PushForAll c)))) (place_part w q (PushForAll c)))
+act_deals w q (DealPieces b) = if_some_all {A = Seen × Part} (λ r. (t : ℕ) → dealt t (next_of (w.shape.pool (target_pool q (act_of q (DealPieces b)))) q (DealPieces b) (r.0)) ≤ pushed t (DealPieces b) (r.0)) (λ r t. deal_dealt t (w.shape.pool (target_pool q (act_of q (DealPieces b)))) q b (r.0)) (effect (act_of q (DealPieces b)) w.shape q (counts_at w (target_pool q (act_of q (DealPieces b)))) (place_part w q (DealPieces b)))
 act_deals w q x = if_some_map (λ r. is_dealing (next_of (w.shape.pool (target_pool q (act_of q x))) q x (r.0)) ≡ false) (λ r. (t : ℕ) → dealt t (next_of (w.shape.pool (target_pool q (act_of q x))) q x (r.0)) ≤ pushed t x (r.0)) (λ r z t. (let a : dealt t (next_of (w.shape.pool (target_pool q (act_of q x))) q x (r.0)) ≡ 0 = none_dealt t (next_of (w.shape.pool (target_pool q (act_of q x))) q x (r.0)) z in omega (arith, a))) _ (no_deals w.shape (w.shape.pool (target_pool q (act_of q x))) q (counts_at w (target_pool q (act_of q x))) (place_part w q x) x refl)
+
+-- what an act deals, and that it hands nothing back itself
+abbrev DealsLess : World → Party → Place → Seen × Part → Type 0
+DealsLess w q x r = ((t : ℕ) → dealt t (next_of (w.shape.pool (target_pool q (act_of q x))) q x (r.0)) ≤ pushed t x (r.0)) × Unlost (place_part w q x) r
+
+deals_less : (w : World) (q : Party) (x : Place) → IfSome (effect (act_of q x) w.shape q (counts_at w (target_pool q (act_of q x))) (place_part w q x)) (DealsLess w q x)
+deals_less w q x = if_some_and (λ r. (t : ℕ) → dealt t (next_of (w.shape.pool (target_pool q (act_of q x))) q x (r.0)) ≤ pushed t x (r.0)) (Unlost (place_part w q x)) (effect (act_of q x) w.shape q (counts_at w (target_pool q (act_of q x))) (place_part w q x)) (act_deals w q x) (act_unlost w.shape q (counts_at w (target_pool q (act_of q x))) (place_part w q x) x)
 
 pub ready : (w : World) (q : Party) → SharesHold w → IfSome (outcome w q (w.stack q)) (λ r. Ready w q ((w.stack q).top) ((w.stack q).below) r)
 ready w q h =
     let k = w.stack q in let x = k.top in
-    if_some_map (λ r. (((Static (place_part w q x) r × Learned w.shape q (place_part w q x) x r) × (Written (place_part w q x) x r × Kept w (result w q k r))) × Stays (place_part w q x) x (job_at w q (act_of q x)) r) × ((((t : ℕ) → Lines (place_part w q x) t x r) × Regains w q x r) × ((t : ℕ) → dealt t (next_of (w.shape.pool (target_pool q (act_of q x))) q x (r.0)) ≤ pushed t x (r.0)))) (λ r. Ready w q x (k.below) r)
-    (λ r g. (let f : ((Static (place_part w q x) r × Learned w.shape q (place_part w q x) x r) × (Written (place_part w q x) x r × Kept w (result w q k r))) × Stays (place_part w q x) x (job_at w q (act_of q x)) r = g.0 in let ch : CallsHold (world_after w q x (k.below) r) = act_calls w q x (k.below) r (h.calls) refl (((f.0).0).0) (((f.0).1).1) (((f.0).0).1) (((f.0).1).0) (((g.1).0).0) in
+    if_some_map (λ r. (((Static (place_part w q x) r × Learned w.shape q (place_part w q x) x r) × (Written (place_part w q x) x r × Kept w (result w q k r))) × Stays (place_part w q x) x (job_at w q (act_of q x)) r) × ((((i : Option ℕ × ℕ) → Lines (place_part w q x) (i.0) (i.1) x r) × Regains w q x r) × DealsLess w q x r)) (λ r. Ready w q x (k.below) r)
+    (λ r g. (let f : ((Static (place_part w q x) r × Learned w.shape q (place_part w q x) x r) × (Written (place_part w q x) x r × Kept w (result w q k r))) × Stays (place_part w q x) x (job_at w q (act_of q x)) r = g.0 in let ch : CallsHold (world_after w q x (k.below) r) = act_calls w q x (k.below) r (h.calls) refl (((f.0).0).0) (((f.0).1).1) (((f.0).0).1) (((f.0).1).0) (λ v t. ((g.1).0).0 (v, t)) in
     let la : Lasting w (world_after w q x (k.below) r) = lasting w q k (target_pool q (act_of q x)) (target_worker q (act_of q x)) (target_call (act_of q x)) (job_at w q (act_of q x)) r (((f.0).0).0) (((f.0).1).1) in
     let sm : SaysMove (world_after w q x (k.below) r) q (next_of (w.shape.pool (target_pool q (act_of q x))) q x (r.0)) = says_next (world_after w q x (k.below) r) (w.shape.pool (target_pool q (act_of q x))) q x (r.0) (learns w q x (k.below) r (h.calls) refl (((f.0).1).1) la (((f.0).0).1)) (later_says w (world_after w q x (k.below) r) (la.later) q x (((h.calls).says q).top)) in
     let starts : StartsAwaited w (next_of (w.shape.pool (target_pool q (act_of q x))) q x (r.0)) = starts_back w (world_after w q x (k.below) r) la (next_of (w.shape.pool (target_pool q (act_of q x))) q x (r.0)) (says_starts (world_after w q x (k.below) r) q (next_of (w.shape.pool (target_pool q (act_of q x))) q x (r.0)) sm) in
-    let busy : (t : ℕ) → with_job ((world_after w q x (k.below) r).job t) ≤ with_job (w.job t) + pushed t x (r.0) = busy_step w q x (k.below) r (((f.0).1).1) la starts (f.1) ((g.1).1) in
+    let busy : (t : ℕ) → with_job ((world_after w q x (k.below) r).job t) ≤ with_job (w.job t) + pushed t x (r.0) = busy_step w q x (k.below) r (((f.0).1).1) la starts (f.1) (((g.1).1).0) in
     record {
       hold = h;
       stack = refl;
@@ -91,20 +106,21 @@ ready w q h =
       busy = busy;
       regains = λ t. regain w q x (k.below) r (((g.1).0).1) t (busy t);
       pools = λ t. after_pool q (next_of (w.shape.pool (target_pool q (act_of q x))) q x (r.0)) (put w.job (job_at w q (act_of q x)) (r.1.job)) t ∙ put_same (λ j. j.pool) w.job (job_at w q (act_of q x)) (r.1.job) t ((((f.0).0).0).pool);
+      dealt = dealt_stays w q x (k.below) r (h.calls) refl starts (((g.1).1).1) ((la.later).left);
       held = λ p. put_same (λ v. v.held) w.pool (target_pool q (act_of q x)) (r.1.pool) p ((((f.0).0).0).held);
     }))
     (outcome w q k)
-    (if_some_and (λ r. ((Static (place_part w q x) r × Learned w.shape q (place_part w q x) x r) × (Written (place_part w q x) x r × Kept w (result w q k r))) × Stays (place_part w q x) x (job_at w q (act_of q x)) r) (λ r. (((t : ℕ) → Lines (place_part w q x) t x r) × Regains w q x r) × ((t : ℕ) → dealt t (next_of (w.shape.pool (target_pool q (act_of q x))) q x (r.0)) ≤ pushed t x (r.0))) (outcome w q k)
+    (if_some_and (λ r. ((Static (place_part w q x) r × Learned w.shape q (place_part w q x) x r) × (Written (place_part w q x) x r × Kept w (result w q k r))) × Stays (place_part w q x) x (job_at w q (act_of q x)) r) (λ r. (((i : Option ℕ × ℕ) → Lines (place_part w q x) (i.0) (i.1) x r) × Regains w q x r) × DealsLess w q x r) (outcome w q k)
     (if_some_and (λ r. (Static (place_part w q x) r × Learned w.shape q (place_part w q x) x r) × (Written (place_part w q x) x r × Kept w (result w q k r))) (Stays (place_part w q x) x (job_at w q (act_of q x))) (outcome w q k)
     (if_some_and (λ r. Static (place_part w q x) r × Learned w.shape q (place_part w q x) x r) (λ r. Written (place_part w q x) x r × Kept w (result w q k r)) (outcome w q k)
     (if_some_and (Static (place_part w q x)) (Learned w.shape q (place_part w q x) x) (outcome w q k) (act_static w.shape q (counts_at w (target_pool q (act_of q x))) (place_part w q x) x) (act_learned w.shape q (counts_at w (target_pool q (act_of q x))) (place_part w q x) x))
-    (if_some_and (Written (place_part w q x) x) (λ r. Kept w (result w q k r)) (outcome w q k) (act_written w.shape q (counts_at w (target_pool q (act_of q x))) (place_part w q x) x) (go_kept w q (((h.calls).jobs).feeds) (((h.calls).jobs).ok))))
+    (if_some_and (Written (place_part w q x) x) (λ r. Kept w (result w q k r)) (outcome w q k) (act_written w.shape q (counts_at w (target_pool q (act_of q x))) (place_part w q x) x) (go_kept w q (unqueued w (h.calls) q) (((h.calls).jobs).feeds) (((h.calls).jobs).ok))))
     (act_stays w q x (once w ((h.calls).jobs)) (((h.calls).says q).top)))
-    (if_some_and (λ r. ((t : ℕ) → Lines (place_part w q x) t x r) × Regains w q x r) (λ r. (t : ℕ) → dealt t (next_of (w.shape.pool (target_pool q (act_of q x))) q x (r.0)) ≤ pushed t x (r.0)) (outcome w q k)
-    (if_some_and (λ r. (t : ℕ) → Lines (place_part w q x) t x r) (Regains w q x) (outcome w q k)
-    (if_some_each {I = ℕ} (λ t r. Lines (place_part w q x) t x r) (outcome w q k) (λ t. line_table w.shape q (counts_at w (target_pool q (act_of q x))) (place_part w q x) t x))
+    (if_some_and (λ r. ((i : Option ℕ × ℕ) → Lines (place_part w q x) (i.0) (i.1) x r) × Regains w q x r) (λ r. DealsLess w q x r) (outcome w q k)
+    (if_some_and (λ r. (i : Option ℕ × ℕ) → Lines (place_part w q x) (i.0) (i.1) x r) (Regains w q x) (outcome w q k)
+    (if_some_each {I = Option ℕ × ℕ} (λ i r. Lines (place_part w q x) (i.0) (i.1) x r) (outcome w q k) (λ i. line_table w.shape q (counts_at w (target_pool q (act_of q x))) (place_part w q x) (i.0) (i.1) x))
     (act_regains w q x (h.calls) (once w ((h.calls).jobs))))
-    (act_deals w q x)))
+    (deals_less w q x)))
   where
     starts_back : (w u : World) → Lasting w u → (g : Move) → StartsAwaited u g → StartsAwaited w g
     starts_back w u l (StartRun f a) s = ap is_detached (sym (l.kinds a)) ∙ s
@@ -114,13 +130,14 @@ ready w q h =
     starts_back w u l (Mark y c m) s = λ t e. ap is_detached (sym (l.kinds t)) ∙ s t e
     starts_back w u l (HandAllBack c) s = λ t e. ap is_detached (sym (l.kinds t)) ∙ s t e
     starts_back w u l Back s = tt
-    starts_back w u l (HandBack (Feed d)) s = ap is_detached (sym (l.kinds d.job)) ∙ s
+    starts_back w u l (HandBack (Feed d)) s = (ap is_detached (sym (l.kinds d.job)) ∙ s.0, ap is_part (sym (l.kinds d.job)) ∙ s.1)
     starts_back w u l (HandBack (Detach p t)) s = tt
     starts_back w u l (HandBack (Here p t)) s = tt
     starts_back w u l (HandBack (Send o)) s = tt
     starts_back w u l (HandBack (Open o)) s = tt
     starts_back w u l (HandBack (Enter e)) s = tt
     starts_back w u l (HandBack (Fork o a)) s = tt
+    starts_back w u l (HandBack (Gather g)) s = tt
     starts_back w u l (Discard k) s = ap is_detached (sym (l.kinds k)) ∙ s
 
 -- the acts that raise a count, done or refused
@@ -131,6 +148,7 @@ raise_go w q n fs plain done f false d = f d
 pub ungained : (t : ℕ) (x : Place) (e : Seen) → is_tally x ≡ false → gained t x e ≡ 0
 ungained t (RaiseCount n) e z = cc
 ungained t (RaiseForAll c) e z = cc
+ungained t (DealPieces b) e z = cc
 ungained t _ e z = refl
 
 plain_go : (w : World) (q : Party) (x : Place) (fs : List Place) → is_tally x ≡ false → IfSome (outcome w q (record { top = x; below = fs })) (Ready w q x fs) → IfSome (outcome w q (record { top = x; below = fs })) (λ r. SharesHold (world_after w q x fs r))
@@ -147,20 +165,28 @@ go_by : (w : World) (q : Party) (x : Place) (fs : List Place) → w.stack q ≡ 
 go_by w (Worker a b) (RaiseCount n) fs z h d = raise_go w (Worker a b) n fs (λ r y un st none. plain_hold w (Worker a b) (RaiseCount n) fs r y un st none) _ (λ y. raise_hold w (Worker a b) n fs h z (y.calls) (λ t. (let e : with_job ((raised_world w (Worker a b) n fs).job t) ≤ with_job (w.job t) + 0 = y.busy t in omega (arith, e))) ((y.last).kinds) (y.pools) (y.held)) (count_in (place_part w (Worker a b) (RaiseCount n)) (plan_count n) == 0) d
 go_by w (Worker a b) (LowerCount (OfPool r) (OfJob u) n) fs z h d = lower_job w (Worker a b) (OfPool r) u n fs (if count_in (place_part w (Worker a b) (LowerCount (OfPool r) (OfJob u) n)) (OfPool r) == 1 then Yes else No) h z (d.calls) (λ t. (let e : with_job ((lowered_world w (Worker a b) (OfPool r) (OfJob u) n fs (if count_in (place_part w (Worker a b) (LowerCount (OfPool r) (OfJob u) n)) (OfPool r) == 1 then Yes else No)).job t) ≤ with_job (w.job t) + 0 = d.busy t in omega (arith, e))) ((d.last).kinds) (d.pools) (d.held)
 go_by w (Worker a b) (LowerCount (OfScope x o) (OfJob u) n) fs z h d = lower_job w (Worker a b) (OfScope x o) u n fs (if count_in (place_part w (Worker a b) (LowerCount (OfScope x o) (OfJob u) n)) (OfScope x o) == 1 then Yes else No) h z (d.calls) (λ t. (let e : with_job ((lowered_world w (Worker a b) (OfScope x o) (OfJob u) n fs (if count_in (place_part w (Worker a b) (LowerCount (OfScope x o) (OfJob u) n)) (OfScope x o) == 1 then Yes else No)).job t) ≤ with_job (w.job t) + 0 = d.busy t in omega (arith, e))) ((d.last).kinds) (d.pools) (d.held)
+go_by w (Worker a b) (LowerCount (OfCast x o) (OfJob u) n) fs z h d = lower_job w (Worker a b) (OfCast x o) u n fs (if count_in (place_part w (Worker a b) (LowerCount (OfCast x o) (OfJob u) n)) (OfCast x o) == 1 then Yes else No) h z (d.calls) (λ t. (let e : with_job ((lowered_world w (Worker a b) (OfCast x o) (OfJob u) n fs (if count_in (place_part w (Worker a b) (LowerCount (OfCast x o) (OfJob u) n)) (OfCast x o) == 1 then Yes else No)).job t) ≤ with_job (w.job t) + 0 = d.busy t in omega (arith, e))) ((d.last).kinds) (d.pools) (d.held)
 go_by w (Worker a b) (LowerCount (OfPool r) PoolValue n) fs z h d = lower_value w (Worker a b) r n fs (if count_in (place_part w (Worker a b) (LowerCount (OfPool r) PoolValue n)) (OfPool r) == 1 then Yes else No) h z (d.calls) (λ t. (let e : with_job ((lowered_world w (Worker a b) (OfPool r) PoolValue n fs (if count_in (place_part w (Worker a b) (LowerCount (OfPool r) PoolValue n)) (OfPool r) == 1 then Yes else No)).job t) ≤ with_job (w.job t) + 0 = d.busy t in omega (arith, e))) ((d.last).kinds) (d.pools) (d.held)
 go_by w (Worker a b) (LowerCount (OfPool r) Body n) fs z h d = absurd (let s : SaysThen w (Worker a b) n × SaysShare w (OfPool r) Body n = top_says w (Worker a b) (LowerCount (OfPool r) Body n) fs (h.calls) z in s.1)
 go_by w (Worker a b) (LowerCount (OfScope x o) PoolValue n) fs z h d = absurd (let s : SaysThen w (Worker a b) n × SaysShare w (OfScope x o) PoolValue n = top_says w (Worker a b) (LowerCount (OfScope x o) PoolValue n) fs (h.calls) z in s.1)
+go_by w (Worker a b) (LowerCount (OfCast x o) PoolValue n) fs z h d = absurd (let s : SaysThen w (Worker a b) n × SaysShare w (OfCast x o) PoolValue n = top_says w (Worker a b) (LowerCount (OfCast x o) PoolValue n) fs (h.calls) z in s.1)
+go_by w (Worker a b) (LowerCount (OfCast x o) Body n) fs z h d = absurd (let s : SaysThen w (Worker a b) n × SaysShare w (OfCast x o) Body n = top_says w (Worker a b) (LowerCount (OfCast x o) Body n) fs (h.calls) z in s.1)
 go_by w (Worker a b) (LowerCount (OfScope x o) Body n) fs z h d = plain_go w (Worker a b) (LowerCount (OfScope x o) Body n) fs refl d
 go_by w (Caller c) (RaiseCount n) fs z h d = raise_go w (Caller c) n fs (λ r y un st none. plain_hold w (Caller c) (RaiseCount n) fs r y un st none) _ (λ y. raise_hold w (Caller c) n fs h z (y.calls) (λ t. (let e : with_job ((raised_world w (Caller c) n fs).job t) ≤ with_job (w.job t) + 0 = y.busy t in omega (arith, e))) ((y.last).kinds) (y.pools) (y.held)) (count_in (place_part w (Caller c) (RaiseCount n)) (plan_count n) == 0) d
 go_by w (Caller c) (LowerCount (OfPool r) (OfJob u) n) fs z h d = lower_job w (Caller c) (OfPool r) u n fs (if count_in (place_part w (Caller c) (LowerCount (OfPool r) (OfJob u) n)) (OfPool r) == 1 then Yes else No) h z (d.calls) (λ t. (let e : with_job ((lowered_world w (Caller c) (OfPool r) (OfJob u) n fs (if count_in (place_part w (Caller c) (LowerCount (OfPool r) (OfJob u) n)) (OfPool r) == 1 then Yes else No)).job t) ≤ with_job (w.job t) + 0 = d.busy t in omega (arith, e))) ((d.last).kinds) (d.pools) (d.held)
 go_by w (Caller c) (LowerCount (OfScope x o) (OfJob u) n) fs z h d = lower_job w (Caller c) (OfScope x o) u n fs (if count_in (place_part w (Caller c) (LowerCount (OfScope x o) (OfJob u) n)) (OfScope x o) == 1 then Yes else No) h z (d.calls) (λ t. (let e : with_job ((lowered_world w (Caller c) (OfScope x o) (OfJob u) n fs (if count_in (place_part w (Caller c) (LowerCount (OfScope x o) (OfJob u) n)) (OfScope x o) == 1 then Yes else No)).job t) ≤ with_job (w.job t) + 0 = d.busy t in omega (arith, e))) ((d.last).kinds) (d.pools) (d.held)
-go_by w (Worker a b) (RaiseForAll c) fs z h d = raise_all_go w (Worker a b) c fs (λ y. refused_hold w (Worker a b) c fs y refl) _ (λ y. raise_all_hold w (Worker a b) c fs h z (y.calls) (λ t. (let e : with_job ((all_raised w (Worker a b) c fs).job t) ≤ with_job (w.job t) + 0 = y.busy t in omega (arith, e))) ((y.last).kinds) (y.pools) (y.held)) ((w.pool c.pool).count == 0) d
-go_by w (Worker a b) (LowerForAll c) fs z h d = lower_all_hold w (Worker a b) c fs (if (w.pool c.pool).count == c.workers then Yes else No) h z (d.calls) (λ t. (let e : with_job ((all_lowered w (Worker a b) c fs (if (w.pool c.pool).count == c.workers then Yes else No)).job t) ≤ with_job (w.job t) + 0 = d.busy t in omega (arith, e))) ((d.last).kinds) (d.pools) (d.held)
-go_by w (Caller g) (RaiseForAll c) fs z h d = raise_all_go w (Caller g) c fs (λ y. refused_hold w (Caller g) c fs y refl) _ (λ y. raise_all_hold w (Caller g) c fs h z (y.calls) (λ t. (let e : with_job ((all_raised w (Caller g) c fs).job t) ≤ with_job (w.job t) + 0 = y.busy t in omega (arith, e))) ((y.last).kinds) (y.pools) (y.held)) ((w.pool c.pool).count == 0) d
-go_by w (Caller g) (LowerForAll c) fs z h d = lower_all_hold w (Caller g) c fs (if (w.pool c.pool).count == c.workers then Yes else No) h z (d.calls) (λ t. (let e : with_job ((all_lowered w (Caller g) c fs (if (w.pool c.pool).count == c.workers then Yes else No)).job t) ≤ with_job (w.job t) + 0 = d.busy t in omega (arith, e))) ((d.last).kinds) (d.pools) (d.held)
+go_by w (Caller c) (LowerCount (OfCast x o) (OfJob u) n) fs z h d = lower_job w (Caller c) (OfCast x o) u n fs (if count_in (place_part w (Caller c) (LowerCount (OfCast x o) (OfJob u) n)) (OfCast x o) == 1 then Yes else No) h z (d.calls) (λ t. (let e : with_job ((lowered_world w (Caller c) (OfCast x o) (OfJob u) n fs (if count_in (place_part w (Caller c) (LowerCount (OfCast x o) (OfJob u) n)) (OfCast x o) == 1 then Yes else No)).job t) ≤ with_job (w.job t) + 0 = d.busy t in omega (arith, e))) ((d.last).kinds) (d.pools) (d.held)
+go_by w (Worker a b) (RaiseForAll c) fs z h d = raise_all_go w (Worker a b) c fs (λ y. refused_hold w (Worker a b) c fs y refl) _ (λ y. raise_all_hold w (Worker a b) c fs h z (y.calls) (λ t. (let e : with_job ((all_raised w (Worker a b) c fs).job t) ≤ with_job (w.job t) + 0 = y.busy t in omega (arith, e))) ((y.last).kinds) (y.pools) (y.held)) (count_in (place_part w (Worker a b) (RaiseForAll c)) c.count == 0) d
+go_by w (Worker a b) (LowerForAll c) fs z h d = lower_all_hold w (Worker a b) c fs (if count_in (place_part w (Worker a b) (LowerForAll c)) c.count == c.workers then Yes else No) h z (d.calls) (λ t. (let e : with_job ((all_lowered w (Worker a b) c fs (if count_in (place_part w (Worker a b) (LowerForAll c)) c.count == c.workers then Yes else No)).job t) ≤ with_job (w.job t) + 0 = d.busy t in omega (arith, e))) ((d.last).kinds) (d.pools) (d.held)
+go_by w (Worker a b) (DealPieces g) fs z h d = deal_hold w (Worker a b) g fs _ refl refl refl d
+go_by w (Caller g) (RaiseForAll c) fs z h d = raise_all_go w (Caller g) c fs (λ y. refused_hold w (Caller g) c fs y refl) _ (λ y. raise_all_hold w (Caller g) c fs h z (y.calls) (λ t. (let e : with_job ((all_raised w (Caller g) c fs).job t) ≤ with_job (w.job t) + 0 = y.busy t in omega (arith, e))) ((y.last).kinds) (y.pools) (y.held)) (count_in (place_part w (Caller g) (RaiseForAll c)) c.count == 0) d
+go_by w (Caller g) (LowerForAll c) fs z h d = lower_all_hold w (Caller g) c fs (if count_in (place_part w (Caller g) (LowerForAll c)) c.count == c.workers then Yes else No) h z (d.calls) (λ t. (let e : with_job ((all_lowered w (Caller g) c fs (if count_in (place_part w (Caller g) (LowerForAll c)) c.count == c.workers then Yes else No)).job t) ≤ with_job (w.job t) + 0 = d.busy t in omega (arith, e))) ((d.last).kinds) (d.pools) (d.held)
+go_by w (Caller g) (DealPieces b) fs z h d = deal_hold w (Caller g) b fs _ refl refl refl d
 go_by w (Caller c) (LowerCount (OfPool r) PoolValue n) fs z h d = lower_value w (Caller c) r n fs (if count_in (place_part w (Caller c) (LowerCount (OfPool r) PoolValue n)) (OfPool r) == 1 then Yes else No) h z (d.calls) (λ t. (let e : with_job ((lowered_world w (Caller c) (OfPool r) PoolValue n fs (if count_in (place_part w (Caller c) (LowerCount (OfPool r) PoolValue n)) (OfPool r) == 1 then Yes else No)).job t) ≤ with_job (w.job t) + 0 = d.busy t in omega (arith, e))) ((d.last).kinds) (d.pools) (d.held)
 go_by w (Caller c) (LowerCount (OfPool r) Body n) fs z h d = absurd (let s : SaysThen w (Caller c) n × SaysShare w (OfPool r) Body n = top_says w (Caller c) (LowerCount (OfPool r) Body n) fs (h.calls) z in s.1)
 go_by w (Caller c) (LowerCount (OfScope x o) PoolValue n) fs z h d = absurd (let s : SaysThen w (Caller c) n × SaysShare w (OfScope x o) PoolValue n = top_says w (Caller c) (LowerCount (OfScope x o) PoolValue n) fs (h.calls) z in s.1)
+go_by w (Caller c) (LowerCount (OfCast x o) PoolValue n) fs z h d = absurd (let s : SaysThen w (Caller c) n × SaysShare w (OfCast x o) PoolValue n = top_says w (Caller c) (LowerCount (OfCast x o) PoolValue n) fs (h.calls) z in s.1)
+go_by w (Caller c) (LowerCount (OfCast x o) Body n) fs z h d = absurd (let s : SaysThen w (Caller c) n × SaysShare w (OfCast x o) Body n = top_says w (Caller c) (LowerCount (OfCast x o) Body n) fs (h.calls) z in s.1)
 go_by w (Caller c) (LowerCount (OfScope x o) Body n) fs z h d = plain_go w (Caller c) (LowerCount (OfScope x o) Body n) fs refl d
 go_by w q x fs z h d = plain_go w q x fs refl d
 
@@ -191,6 +217,9 @@ refuse_shares w q (OpenSlot o) fs z h = λ a. seen_shares w q (w.shape.pool (own
 refuse_shares w q (AddToFifo f) fs z h = λ a. seen_shares w q (w.shape.pool (own_pool q)) (AddToFifo f) fs Refused z (λ t. refl) h a
 refuse_shares w q (PushToken f v) fs z h = λ a. seen_shares w q (w.shape.pool (own_pool q)) (PushToken f v) fs Refused z (λ t. refl) h a
 refuse_shares w q (PushForAll c) fs z h = λ a. seen_shares w q (w.shape.pool (own_pool q)) (PushForAll c) fs Refused z (λ t. refl) h a
+refuse_shares w q (OpenForAll c) fs z h = λ a. seen_shares w q (w.shape.pool (own_pool q)) (OpenForAll c) fs Refused z (λ t. refl) h a
+refuse_shares w q (GrowCast b) fs z h = λ a. seen_shares w q (w.shape.pool (own_pool q)) (GrowCast b) fs Refused z (λ t. refl) h a
+refuse_shares w q (DealPieces b) fs z h = λ a. seen_shares w q (w.shape.pool (own_pool q)) (DealPieces b) fs Refused z (λ t. refl) h a
 refuse_shares w q (PushJob n v) fs z h = λ a. seen_shares w q (w.shape.pool (own_pool q)) (PushJob n v) fs Refused z (λ t. refl) h a
 refuse_shares w q _ fs z h = tt
 

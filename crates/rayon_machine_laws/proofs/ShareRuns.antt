@@ -1,12 +1,13 @@
 -- each act keeps the shares, and a pool whose terminate latch is set has none left
+use Rattle.rayon_machine_laws.proofs.Raises.{rises_gain}
 use Rattle.rayon_machine_places.specs.declared.place.Mark.{Mark as Marking}
 use Rattle.rayon_machine_places.specs.declared.place.Pieces.{Pieces}
-use Rattle.rayon_machine_places.specs.declared.place.Mark.TheVariants.{Counted, Queued, Returned}
+use Rattle.rayon_machine_places.specs.declared.place.Mark.TheVariants.{Counted, Queued, Returned, Numbered, Dealt, Unnumbered}
 use Rattle.std.proofs.Common.{arith, refl, sym, ◌∙◌, ap, subst}
 use Rattle.std.specs.Prelude.{ℕ, Bool, true, false, ◌&&◌, ◌+◌, ◌==◌, ◌≤◌, if◌then◌else◌, List, ◌≡◌, ⊤, ◌-◌}
 use Rattle.std.proofs.lemmas.Bool.{eqb-true}
 use Rattle.rayon_machine_places.specs.declared.place.Party.{Party}
-use Rattle.rayon_machine_places.specs.declared.place.Plan.TheVariants.{Detach, Here, Send, Fork, Feed, Open, Enter}
+use Rattle.rayon_machine_places.specs.declared.place.Plan.TheVariants.{Detach, Here, Send, Fork, Feed, Open, Enter, Gather}
 use Rattle.rayon_machine_places.specs.declared.place.Place.{Place}
 use Rattle.rayon_machine_places.specs.declared.place.Move.{Move}
 use Rattle.rayon_machine_places.specs.declared.place.Move.TheVariants.{Stay, Enter, StartRun, Back, HandBack, Discard, HandIn, Mark, HandAllBack}
@@ -20,16 +21,16 @@ use Rattle.rayon_machine_places.specs.World.{Stack, World, Part, target_pool, at
 use Rattle.rayon_machine_places.specs.Steps.{put, put_stack, after_move, jobs_after, is_piece, mark_pieces, marked}
 use Rattle.rayon_machine_laws.specs.Once.{one}
 use Rattle.rayon_machine_laws.specs.Shares.{share, shares_in, shares, is_busy}
-use Rattle.rayon_machine_laws.proofs.Frame.{same_party_true, stack_mine, stack_other}
+use Rattle.rayon_machine_laws.proofs.Frame.{same_party_true, stack_mine, stack_other, Bare, bare_less, after_counted, is_sharing}
 use Rattle.rayon_machine_laws.proofs.Ties.{job_at}
 use Rattle.rayon_machine_laws.proofs.Located.{is_left, IsOnward}
 use Rattle.rayon_machine_laws.proofs.Placed.{Kept}
-use Rattle.rayon_machine_laws.proofs.Claims.{is_detached, SaysMove, SaysBack}
+use Rattle.rayon_machine_laws.proofs.Claims.{is_detached, SaysMove, SaysBack, counts_detached}
 use Rattle.rayon_machine_laws.proofs.ClaimActs.{Lasting}
 use Rattle.rayon_machine_laws.proofs.ClaimRuns.{CallsHold, world_after, place_part}
 use Rattle.rayon_machine_laws.proofs.Amounts.{raises, values, raises_in, values_in, all_raises, all_values, share_move, raises_move, values_move, gained, pushed, paid, amounts, land_shares, land_raises, land_values, regained}
 use Rattle.rayon_machine_laws.proofs.Tokens.{Tokens, tokens_keep, sum_below}
-use Rattle.rayon_machine_laws.proofs.ShareActs.{with_job, tally, SharesHold, one_most, Stays}
+use Rattle.rayon_machine_laws.proofs.ShareActs.{with_job, tally, SharesHold, one_most, Stays, one_not}
 
 -- a run that a move starts is not of a detached job, nor is a token that it spends one; but what comes back from a call
 -- for a FIFO list is, beside its token, and so is each piece of a broadcast
@@ -37,7 +38,7 @@ abbrev pub StartsAwaited : World → Move → Type 0
 StartsAwaited w (StartRun f a) = is_detached (w.job a).kind ≡ false
 StartsAwaited w (HandIn y k) = is_detached (w.job k).kind ≡ false
 StartsAwaited w (Discard k) = is_detached (w.job k).kind ≡ false
-StartsAwaited w (HandBack n) = SaysBack w n
+StartsAwaited w (HandBack (Feed d)) = SaysBack w (Feed d)
 StartsAwaited w (Mark y c m) = (t : ℕ) → is_piece c t ≡ true → is_detached (w.job t).kind ≡ true
 StartsAwaited w (HandAllBack c) = (t : ℕ) → is_piece c t ≡ true → is_detached (w.job t).kind ≡ true
 StartsAwaited w _ = ⊤
@@ -46,12 +47,13 @@ pub says_starts : (w : World) (q : Party) (g : Move) → SaysMove w q g → Star
 says_starts w q (StartRun f a) s = (s.2).kind
 says_starts w q (Stay y) s = tt
 says_starts w q (HandIn y k) s = s.1
-says_starts w q (Mark y c m) s = λ t e. ap is_detached ((s.1 t e).kind)
+says_starts w q (Mark y c m) s = λ t e. ap is_detached ((s.1 t e).kind) ∙ counts_detached c.count
 says_starts w q (Enter f y) s = tt
 says_starts w q Back s = tt
-says_starts w q (HandBack n) s = s
+says_starts w q (HandBack (Feed d)) s = s
+says_starts w q (HandBack n) s = tt
 says_starts w q (Discard k) s = s
-says_starts w q (HandAllBack c) s = λ t e. ap is_detached ((s t e).kind)
+says_starts w q (HandAllBack c) s = λ t e. ap is_detached ((s t e).kind) ∙ counts_detached c.count
 
 pub one_le : (b d : Bool) → (b ≡ true → d ≡ true) → one b ≤ one d
 one_le true d f = let e : one d ≡ 1 = ap one (f refl) in omega (arith, e)
@@ -74,13 +76,23 @@ spent_busy J a t = by (t == a)
 -- the pieces that a move deals
 abbrev pub dealt : ℕ → Move → ℕ
 dealt t (Mark y c Queued) = one (is_piece c t)
+dealt t (Mark y c Dealt) = one (is_piece c t)
 dealt t _ = 0
 
-marked_busy : (c : Pieces) (k : Marking) (J : ℕ → Job) (t n : ℕ) → (k ≡ Queued → one (is_piece c t) ≤ n) → one (is_busy (mark_pieces c k J t).at) ≤ one (is_busy (J t).at) + n
+-- pieces come into their lists
+abbrev deals : Marking → Bool
+deals Queued = true
+deals Dealt = true
+deals _ = false
+
+marked_busy : (c : Pieces) (k : Marking) (J : ℕ → Job) (t n : ℕ) → (deals k ≡ true → one (is_piece c t) ≤ n) → one (is_busy (mark_pieces c k J t).at) ≤ one (is_busy (J t).at) + n
 marked_busy c k J t n d = by (is_piece c t) refl
   where
-    each : (k : Marking) → (k ≡ Queued → 1 ≤ n) → one (is_busy (marked k c.pool (t - c.first) (J t)).at) ≤ one (is_busy (J t).at) + n
+    each : (k : Marking) → (deals k ≡ true → 1 ≤ n) → one (is_busy (marked k c.pool (t - c.first) (J t)).at) ≤ one (is_busy (J t).at) + n
     each Counted d = omega arith
+    each (Numbered j) d = omega arith
+    each Unnumbered d = omega arith
+    each Dealt d = let a : 1 ≤ n = d refl in omega (arith, a)
     each Returned d = omega arith
     each Queued d = let a : 1 ≤ n = d refl in omega (arith, a)
 
@@ -116,6 +128,10 @@ after_busy w q (HandBack (Fork o a)) J t s z = by (t == o.job)
     by true = omega arith
     by false = let b : one (is_busy (put J a (at_job (J a) HandedBack) t).at) ≤ one (is_busy (J t).at) = gone_busy J a t in omega (arith, b)
 after_busy w q (Mark y c Counted) J t s z = marked_busy c Counted J t 0 (λ e. absurd (cc))
+after_busy w q (Mark y c (Numbered j)) J t s z = marked_busy c (Numbered j) J t 0 (λ e. absurd (cc))
+after_busy w q (Mark y c Unnumbered) J t s z = marked_busy c Unnumbered J t 0 (λ e. absurd (cc))
+after_busy w q (Mark y c Dealt) J t s z = marked_busy c Dealt J t (one (is_piece c t)) (λ e. omega arith)
+after_busy w q (HandBack (Gather g)) J t s z = marked_busy g.pieces Returned J t 0 (λ e. absurd (cc))
 after_busy w q (Mark y c Returned) J t s z = marked_busy c Returned J t 0 (λ e. absurd (cc))
 after_busy w q (Mark y c Queued) J t s z = marked_busy c Queued J t (one (is_piece c t)) (λ e. omega arith)
 after_busy w q (HandAllBack c) J t s z = marked_busy c Returned J t 0 (λ e. absurd (cc))
@@ -141,7 +157,7 @@ busy_step w q x fs r ke l sa st de t = by (is_detached (w.job t).kind) refl
         left_busy (InDeque p i) v2 z o = one_most (is_busy v2)
         left_busy (Injected p) v2 z o = one_most (is_busy v2)
         left_busy (InCast p i) v2 z o = one_most (is_busy v2)
-        left_busy (InFifo p i) v2 z o = cc
+        left_busy (InFifo p i b7) v2 z o = cc
         left_busy (Retaken s) v2 z o = cc
         left_busy (Running s) v2 z o = one_most (is_busy v2)
 
@@ -173,22 +189,34 @@ zero_sum : (a b : ℕ) → (a + b) ≡ 0 → (a ≡ 0) × (b ≡ 0)
 zero_sum a b e = ((let g : a ≡ 0 = omega (arith, e) in g), (let g : b ≡ 0 = omega (arith, e) in g))
 
 pub values_mine : (w : World) (q : Party) (x : Place) (fs : List Place) (g : PoolShape) (e : Seen) (p : ℕ) → w.stack q ≡ record { top = x; below = fs } → all_values p (put_stack w.stack q (after_move (next_of g q x e) fs) q) + values p x ≡ all_values p (w.stack q)
-values_mine w q x fs g e p z = let a : values_move p (next_of g q x e) ≡ 0 = (zero_sum (raises_move 0 (next_of g q x e)) (values_move p (next_of g q x e)) ((amounts g q 0 p x e).1)).1 in
+values_mine w q x fs g e p z = let a : values_move p (next_of g q x e) ≡ 0 = (amounts g q 0 p x e).1 in
     let b : all_values p (after_move (next_of g q x e) fs) ≡ values_move p (next_of g q x e) + values_in p fs = land_values p (next_of g q x e) fs in
     let c : all_values p (put_stack w.stack q (after_move (next_of g q x e) fs) q) ≡ all_values p (after_move (next_of g q x e) fs) = ap (all_values p) (stack_mine w.stack q (after_move (next_of g q x e) fs)) in
     let d : all_values p (w.stack q) ≡ (values p x + values_in p fs) = ap (all_values p) z in omega (arith, a, b, c, d)
 
-pub raises_mine : (w : World) (q : Party) (x : Place) (fs : List Place) (g : PoolShape) (e : Seen) (t : ℕ) → w.stack q ≡ record { top = x; below = fs } → all_raises t (put_stack w.stack q (after_move (next_of g q x e) fs) q) + raises t x ≡ all_raises t (w.stack q)
-raises_mine w q x fs g e t z = let a : raises_move t (next_of g q x e) ≡ 0 = (zero_sum (raises_move t (next_of g q x e)) (values_move 0 (next_of g q x e)) ((amounts g q t 0 x e).1)).0 in
-    let b : all_raises t (after_move (next_of g q x e) fs) ≡ raises_move t (next_of g q x e) + raises_in t fs = land_raises t (next_of g q x e) fs in
+pub raises_mine : (w : World) (q : Party) (x : Place) (fs : List Place) (g : PoolShape) (e : Seen) (t : ℕ) → w.stack q ≡ record { top = x; below = fs } → all_raises t (put_stack w.stack q (after_move (next_of g q x e) fs) q) + gained t x e ≤ all_raises t (w.stack q)
+raises_mine w q x fs g e t z = let a : raises_move t (next_of g q x e) + gained t x e ≤ raises t x = rises_gain g q t x e in
+    let b : all_raises t (after_move (next_of g q x e) fs) ≤ raises_move t (next_of g q x e) + raises_in t fs = land_raises t (next_of g q x e) fs in
     let c : all_raises t (put_stack w.stack q (after_move (next_of g q x e) fs) q) ≡ all_raises t (after_move (next_of g q x e) fs) = ap (all_raises t) (stack_mine w.stack q (after_move (next_of g q x e) fs)) in
     let d : all_raises t (w.stack q) ≡ (raises t x + raises_in t fs) = ap (all_raises t) z in omega (arith, a, b, c, d)
+
+-- the pieces of a broadcast that is handed back were waiting for their shares
+pub back_bare : (w : World) (q : Party) (x : Place) (fs : List Place) (g : PoolShape) (e : Seen) → w.stack q ≡ record { top = x; below = fs } → ((s : Party) (t : ℕ) → all_raises t (w.stack s) + one (w.job t).counted ≤ 1) → (t : ℕ) → Bare (next_of g q x e) w.job t
+back_bare w q x fs g e z un t = by (next_of g q x e) (let a : raises_move t (next_of g q x e) + gained t x e ≤ raises t x = rises_gain g q t x e in let b : all_raises t (w.stack q) ≡ (raises t x + raises_in t fs) = ap (all_raises t) z in let c : all_raises t (w.stack q) + one (w.job t).counted ≤ 1 = un q t in omega (arith, a, b, c))
+  where
+    by : (m : Move) → raises_move t m + one (w.job t).counted ≤ 1 → Bare m w.job t
+    by (HandBack (Gather y)) l = λ d. one_not ((w.job t).counted) (let a : one (is_piece y.pieces t) ≡ 1 = ap one d in omega (arith, a, l))
+    by _ l = tt
+
+-- so what a move makes of the jobs leaves each its share, or that it has none
+pub after_shares : (w : World) (q : Party) (x : Place) (fs : List Place) (g : PoolShape) (e : Seen) → w.stack q ≡ record { top = x; below = fs } → ((s : Party) (t : ℕ) → all_raises t (w.stack s) + one (w.job t).counted ≤ 1) → is_sharing (next_of g q x e) ≡ false → (f : ℕ → Job) (t : ℕ) → ((w.job t).counted ≡ false → (f t).counted ≡ false) → (jobs_after q (next_of g q x e) f t).counted ≡ (f t).counted
+after_shares w q x fs g e z un st f t l = after_counted q (next_of g q x e) f t st (bare_less (next_of g q x e) w.job f t l (back_bare w q x fs g e z un t))
 
 pub raises_all : (w : World) (q : Party) (x : Place) (fs : List Place) (g : PoolShape) (e : Seen) (t : ℕ) → w.stack q ≡ record { top = x; below = fs } → (r : Party) → all_raises t (put_stack w.stack q (after_move (next_of g q x e) fs) r) ≤ all_raises t (w.stack r)
 raises_all w q x fs g e t z r = by (same_party r q) refl
   where
     by : (b : Bool) → same_party r q ≡ b → all_raises t (put_stack w.stack q (after_move (next_of g q x e) fs) r) ≤ all_raises t (w.stack r)
-    by true y = subst (λ v. all_raises t (put_stack w.stack q (after_move (next_of g q x e) fs) v) ≤ all_raises t (w.stack v)) (sym (same_party_true r q y)) (let a : (all_raises t (put_stack w.stack q (after_move (next_of g q x e) fs) q) + raises t x) ≡ all_raises t (w.stack q) = raises_mine w q x fs g e t z in omega (arith, a))
+    by true y = subst (λ v. all_raises t (put_stack w.stack q (after_move (next_of g q x e) fs) v) ≤ all_raises t (w.stack v)) (sym (same_party_true r q y)) (let a : all_raises t (put_stack w.stack q (after_move (next_of g q x e) fs) q) + gained t x e ≤ all_raises t (w.stack q) = raises_mine w q x fs g e t z in omega (arith, a))
     by false y = other_le (all_raises t) w q (after_move (next_of g q x e) fs) r y
 
 -- where no share is taken or given back

@@ -3,10 +3,12 @@ use Rattle.std.proofs.Common.{arith, refl, sym, ◌∙◌, ap, subst, inl, inr}
 use Rattle.std.specs.Prelude.{ℕ, Bool, true, false, ◌&&◌, ◌+◌, ◌==◌, ◌≤◌, if◌then◌else◌, Option, Some, None, List, [], ◌∷◌, ◌++◌, ◌≡◌, IfSome, length}
 use Rattle.std.proofs.lemmas.Bool.{eqb-true, eq-eqb}
 use Rattle.std.proofs.lemmas.List.{length-append}
-use Rattle.rayon_machine_places.specs.declared.place.Place.TheVariants.{AddToFifo, BeginHere, BeginTask, JoinPop, JoinTakeCast, LocalPop, LocalTakeCast, PopIdle, PopInjected, PopWorking, PushJob, PushToken, StealFrom, TakeCastIdle, TakeCastWorking, TakeFromFifo, YieldPop, YieldPopInjected, YieldSteal, YieldTakeCast, PushForAll}
+use Rattle.rayon_machine_places.specs.declared.place.Count.{Count}
+use Rattle.rayon_machine_places.specs.declared.place.Count.TheVariants.{OfPool, OfScope, OfCast}
+use Rattle.rayon_machine_places.specs.declared.place.Place.TheVariants.{AddToFifo, BeginHere, BeginTask, JoinPop, JoinTakeCast, LocalPop, LocalTakeCast, PopIdle, PopInjected, PopWorking, PushJob, PushToken, StealFrom, TakeCastIdle, TakeCastWorking, TakeFromFifo, YieldPop, YieldPopInjected, YieldSteal, YieldTakeCast, PushForAll, DealPieces}
 use Rattle.rayon_machine_places.specs.declared.place.Party.TheVariants.{Caller, Worker}
-use Rattle.rayon_machine_places.specs.World.{Counts, Part, Shape, World, at_job, begun, but_first, but_last, counts_at, effect, fifo_out, head_of, is_open, last_of, left_by, or_none, own_left, own_of, pop_injector, popped, take_cast, target_call, target_pool, target_worker}
-use Rattle.rayon_machine_places.specs.declared.place.Plan.TheVariants.{Detach, Feed, Fork, Here, Send, Open, Enter}
+use Rattle.rayon_machine_places.specs.World.{Counts, Part, Shape, World, at_job, begun, but_first, but_last, counts_at, effect, fifo_in, fifo_out, fifo_undo, head_of, is_open, last_of, left_by, put_list, same_list, or_none, own_left, own_of, pop_injector, popped, take_cast, target_call, target_pool, target_worker}
+use Rattle.rayon_machine_places.specs.declared.place.Plan.TheVariants.{Detach, Feed, Fork, Here, Send, Open, Enter, Gather}
 use Rattle.rayon_machine_places.specs.declared.place.Feeding.{Feeding}
 use Rattle.rayon_machine_places.specs.declared.state.Whereabouts.TheVariants.{InDeque, InFifo, Injected, Retaken, Running, InCast}
 use Rattle.rayon_machine_laws.specs.Once.{IsOnce, in_deque, in_injector, one, times, in_cast}
@@ -25,19 +27,19 @@ use Rattle.rayon_machine_places.specs.declared.act.Seen.{Seen}
 use Rattle.rayon_machine_laws.proofs.Later.{Static, act_static}
 use Rattle.rayon_machine_places.specs.declared.place.JobKind.TheVariants.{TokenOf}
 use Rattle.rayon_machine_places.specs.declared.state.Whereabouts.{Whereabouts}
-use Rattle.rayon_machine_places.specs.Places.{act_of, is_member, own_index, own_pool, plan_job, plan_pool, same_party, plan_book}
+use Rattle.rayon_machine_places.specs.Places.{act_of, count_book, count_kind, is_member, own_index, own_pool, plan_job, plan_pool, same_party, plan_book}
 use Rattle.rayon_machine_laws.proofs.Located.{and_false}
-use Rattle.rayon_machine_laws.proofs.Frame.{either, if_cond, if_some_and, if_some_map, out_sees, same_index, same_party_refl, undo_sees}
-use Rattle.rayon_machine_laws.proofs.Feeders.{is_waiting}
+use Rattle.rayon_machine_laws.proofs.Frame.{either, if_cond, if_some_and, if_some_map, out_sees, same_index, same_list_true, same_party_refl, undo_sees}
+use Rattle.rayon_machine_laws.proofs.Feeders.{list_at, waits}
 use Rattle.rayon_machine_laws.proofs.Ties.{job_at}
 use Rattle.rayon_machine_laws.proofs.Placed.{outcome_of}
 use Rattle.rayon_machine_places.specs.Steps.{part_of}
 use Rattle.rayon_machine_laws.proofs.ClaimRuns.{place_part}
 
--- a job is a token of this worker
-abbrev pub token_of : ℕ → JobKind → Bool
-token_of j (TokenOf i) = j == i
-token_of j _ = false
+-- a job is a token of this worker and this list
+abbrev pub token_of : ℕ → Option ℕ → JobKind → Bool
+token_of j v (TokenOf i b) = (j == i) && same_list v b
+token_of j v _ = false
 
 -- it is queued at this pool, or in the hand of a party of it that has taken it
 abbrev pub at_pool : ℕ → Whereabouts → ℕ → Bool
@@ -48,41 +50,50 @@ at_pool p (Running q) n = (p == own_pool q) && (n == 0)
 at_pool p _ n = false
 
 -- 1 where a job is a token that this worker's FIFO list has a job for
-abbrev pub live : ℕ → ℕ → Job → ℕ
-live p j t = one (token_of j t.kind && at_pool p t.at t.runs)
+abbrev pub live : ℕ → ℕ → Option ℕ → Job → ℕ
+live p j v t = one (token_of j v t.kind && at_pool p t.at t.runs)
 
 abbrev pub is_held : Option Party → Bool
 is_held None = false
 is_held (Some q) = true
 
--- a token is pushed, or redeemed
+-- a token is pushed
 abbrev pub is_pushing : Place → Bool
-is_pushing (PushToken f v) = true
+is_pushing (PushToken f t) = true
 is_pushing _ = false
 
-abbrev pub draws : Place → ℕ
-draws (BeginTask (Token k i)) = 1
-draws _ = 0
+-- a token of this list is pushed, or redeemed
+abbrev pub pushes : Option ℕ → Place → Bool
+pushes v (PushToken f t) = same_list v (count_book f.count)
+pushes v _ = false
 
-abbrev pub up : Party → Place → ℕ → ℕ → ℕ
-up q x p j = one (is_pushing x && ((p == own_pool q) && (j == own_index q)))
+abbrev pub draws : Option ℕ → Place → ℕ
+draws v (BeginTask (Token k i b)) = one (same_list v b)
+draws v _ = 0
+
+abbrev pub up : Party → Place → ℕ → ℕ → Option ℕ → ℕ
+up q x p j v = one (pushes v x && ((p == own_pool q) && (j == own_index q)))
 
 -- no act makes more tokens, but the push of one, nor shortens a list, but where a token or the list's holder goes
 pub record Fair (q : Party) (x : Place) (m : Part) (r : Seen × Part) : Type 0 where
-  pub job : (p j : ℕ) → live p j r.1.job ≤ live p j m.job + up q x p j
-  pub list : (one (is_held r.1.seat.feeder) + length m.seat.fifo) + one (is_pushing x) ≤ (one (is_held m.seat.feeder) + length r.1.seat.fifo) + draws x
+  pub job : (p j : ℕ) (v : Option ℕ) → live p j v r.1.job ≤ live p j v m.job + up q x p j v
+  pub list : (v : Option ℕ) → (one (is_held (r.1.seat.feeder v)) + length (m.seat.fifo v)) + one (pushes v x) ≤ (one (is_held (m.seat.feeder v)) + length (r.1.seat.fifo v)) + draws v x
 
-pub live_off : (p j : ℕ) (t : Job) → at_pool p t.at t.runs ≡ false → live p j t ≡ 0
-live_off p j t e = ap (λ b. one (token_of j t.kind && b)) e ∙ ap one (and_false (token_of j t.kind))
+pub no_pushes : (v : Option ℕ) (x : Place) → is_pushing x ≡ false → pushes v x ≡ false
+no_pushes v (PushToken f t) e = cc
+no_pushes v _ e = refl
 
-pub live_none : (p j : ℕ) (t : Job) → token_of j t.kind ≡ false → live p j t ≡ 0
-live_none p j t e = ap (λ b. one (b && at_pool p t.at t.runs)) e
+pub live_off : (p j : ℕ) (v : Option ℕ) (t : Job) → at_pool p t.at t.runs ≡ false → live p j v t ≡ 0
+live_off p j v t e = ap (λ b. one (token_of j v t.kind && b)) e ∙ ap one (and_false (token_of j v t.kind))
+
+pub live_none : (p j : ℕ) (v : Option ℕ) (t : Job) → token_of j v t.kind ≡ false → live p j v t ≡ 0
+live_none p j v t e = ap (λ b. one (b && at_pool p t.at t.runs)) e
 
 not_zero : (n : ℕ) → ((n + 1) == 0) ≡ false
 not_zero n = elim (either ((n + 1) == 0)) [ inl y ↦ absurd (let a : n + 1 ≡ 0 = eqb-true (n + 1) 0 y in omega (arith, a)) | inr y ↦ y ]
 
-pub begun_off : (p j : ℕ) (q : Party) (t : Job) → live p j (begun q t) ≡ 0
-begun_off p j q t = live_off p j (begun q t) (ap (λ b. (p == own_pool q) && b) (not_zero t.runs) ∙ and_false (p == own_pool q))
+pub begun_off : (p j : ℕ) (v : Option ℕ) (q : Party) (t : Job) → live p j v (begun q t) ≡ 0
+begun_off p j v q t = live_off p j v (begun q t) (ap (λ b. (p == own_pool q) && b) (not_zero t.runs) ∙ and_false (p == own_pool q))
 
 less : (a b z d : Bool) → d ≡ b → one (a && (b && z)) ≤ one (a && d)
 less false b z d e = omega arith
@@ -90,31 +101,31 @@ less true false z d e = omega arith
 less true true false d e = omega arith
 less true true true d e = let k : one d ≡ 1 = ap one e in omega (arith, k)
 
-taken_less : (p j : ℕ) (q : Party) (t : Job) → at_pool p t.at t.runs ≡ (p == own_pool q) → live p j (at_job t (Running q)) ≤ live p j t
-taken_less p j q t e = less (token_of j t.kind) (p == own_pool q) (t.runs == 0) (at_pool p t.at t.runs) e
+taken_less : (p j : ℕ) (v : Option ℕ) (q : Party) (t : Job) → at_pool p t.at t.runs ≡ (p == own_pool q) → live p j v (at_job t (Running q)) ≤ live p j v t
+taken_less p j v q t e = less (token_of j v t.kind) (p == own_pool q) (t.runs == 0) (at_pool p t.at t.runs) e
 
 -- an act that is none of a token's
-plain_fair : (q : Party) (x : Place) (m : Part) (r : Seen × Part) → is_pushing x ≡ false → ((p j : ℕ) → live p j r.1.job ≤ live p j m.job) → one (is_held r.1.seat.feeder) + length m.seat.fifo ≤ one (is_held m.seat.feeder) + length r.1.seat.fifo → Fair q x m r
+plain_fair : (q : Party) (x : Place) (m : Part) (r : Seen × Part) → is_pushing x ≡ false → ((p j : ℕ) (v : Option ℕ) → live p j v r.1.job ≤ live p j v m.job) → ((v : Option ℕ) → one (is_held (r.1.seat.feeder v)) + length (m.seat.fifo v) ≤ one (is_held (m.seat.feeder v)) + length (r.1.seat.fifo v)) → Fair q x m r
 plain_fair q x m r n f s = record {
-  job = λ p j. (let a : live p j r.1.job ≤ live p j m.job = f p j in omega (arith, a));
-  list = let b : one (is_pushing x) ≡ 0 = ap one n in omega (arith, b, s);
+  job = λ p j v. (let a : live p j v r.1.job ≤ live p j v m.job = f p j v in omega (arith, a));
+  list = λ v. (let a : one (is_held (r.1.seat.feeder v)) + length (m.seat.fifo v) ≤ one (is_held (m.seat.feeder v)) + length (r.1.seat.fifo v) = s v in let b : one (pushes v x) ≡ 0 = ap one (no_pushes v x n) in omega (arith, a, b));
 }
 
 still_fair : (q : Party) (x : Place) (m : Part) (e : Seen) → is_pushing x ≡ false → Fair q x m (e, m)
-still_fair q x m e n = plain_fair q x m (e, m) n (λ p j. omega arith) (omega arith)
+still_fair q x m e n = plain_fair q x m (e, m) n (λ p j v. omega arith) (λ v. omega arith)
 
 -- a task is taken out of a queue of the own pool
 pop_fair : (q : Party) (m : Part) (x : Place) (rest : List ℕ) (o : Option ℕ) → is_pushing x ≡ false → ((t : ℕ) → o ≡ Some t → (p : ℕ) → at_pool p m.job.at m.job.runs ≡ (p == own_pool q)) → IfSome (popped q m rest o) (Fair q x m)
 pop_fair q m x rest None n f = still_fair q x m Missing n
-pop_fair q m x rest (Some t) n f = plain_fair q x m _ n (λ p j. taken_less p j q m.job (f t refl p)) (omega arith)
+pop_fair q m x rest (Some t) n f = plain_fair q x m _ n (λ p j v. taken_less p j v q m.job (f t refl p)) (λ v. omega arith)
 
 inj_fair : (q : Party) (m : Part) (x : Place) (l : List ℕ) → is_pushing x ≡ false → ((t : ℕ) → head_of l ≡ Some t → (p : ℕ) → at_pool p m.job.at m.job.runs ≡ (p == own_pool q)) → IfSome (pop_injector q m l) (Fair q x m)
 inj_fair q m x [] n f = still_fair q x m Missing n
-inj_fair q m x (t ∷ ts) n f = plain_fair q x m _ n (λ p j. taken_less p j q m.job (f t refl p)) (omega arith)
+inj_fair q m x (t ∷ ts) n f = plain_fair q x m _ n (λ p j v. taken_less p j v q m.job (f t refl p)) (λ v. omega arith)
 
 cast_fair : (q : Party) (m : Part) (x : Place) (l : List ℕ) → is_pushing x ≡ false → ((t : ℕ) → head_of l ≡ Some t → (p : ℕ) → at_pool p m.job.at m.job.runs ≡ (p == own_pool q)) → IfSome (take_cast q m l) (Fair q x m)
 cast_fair q m x [] n f = still_fair q x m Missing n
-cast_fair q m x (t ∷ ts) n f = plain_fair q x m _ n (λ p j. taken_less p j q m.job (f t refl p)) (omega arith)
+cast_fair q m x (t ∷ ts) n f = plain_fair q x m _ n (λ p j v. taken_less p j v q m.job (f t refl p)) (λ v. omega arith)
 
 pub one_set : (b : Bool) → 1 ≤ one b → b ≡ true
 one_set true k = refl
@@ -157,41 +168,62 @@ left_less q (Some r) = by (same_party q r)
     by true = omega arith
     by false = omega arith
 
-call_no_token : (j : ℕ) (k : JobKind) (n : ℕ × Party) → call_kind k ≡ Some n → token_of j k ≡ false
-call_no_token j (TokenOf i) n e = cc
-call_no_token j _ n e = refl
+left_list_less : (q : Party) (f : Option ℕ → Option Party) (b v : Option ℕ) → one (is_held (put_list f b (left_by q (f b)) v)) ≤ one (is_held (f v))
+left_list_less q f b v = list_at (λ o. one (is_held o) ≤ one (is_held (f v))) f b (left_by q (f b)) v (λ i. subst (λ c. one (is_held (left_by q (f b))) ≤ one (is_held (f c))) (sym i) (left_less q (f b))) (omega arith)
 
-plan_no_token : (w : World) (q : Party) (n : Plan) (j : ℕ) → SaysPlan w q n → token_of j (w.job (plan_job n)).kind ≡ false
-plan_no_token w q (Detach p t) j s = ap (token_of j) (s.kind)
-plan_no_token w q (Here p t) j s = ap (token_of j) (s.kind)
-plan_no_token w q (Feed f) j s = ap (token_of j) ((s.0).kind)
-plan_no_token w q (Send o) j s = call_no_token j ((w.job o.job).kind) (o.number, q) ((s.0).kind)
-plan_no_token w q (Open o) j s = call_no_token j ((w.job o.job).kind) (o.number, q) ((s.0).kind)
-plan_no_token w q (Enter e) j s = ap (token_of j) ((s.0).kind)
-plan_no_token w q (Fork o a) j s = call_no_token j ((w.job o.job).kind) (o.number, q) ((s.0).kind)
+call_no_token : (j : ℕ) (v : Option ℕ) (k : JobKind) (n : ℕ × Party) → call_kind k ≡ Some n → token_of j v k ≡ false
+call_no_token j v (TokenOf i b) n e = cc
+call_no_token j v _ n e = refl
 
-push_fair : (w : World) (q : Party) (n : Plan) (v z : Bool) → SaysPlan w q n → IfSome (outcome_of w q (if z then PushOwn (plan_job n) (plan_book n) else PushInj (plan_pool n) (plan_job n) (plan_book n))) (Fair q (PushJob n v) (part_of w (target_pool q (if z then PushOwn (plan_job n) (plan_book n) else PushInj (plan_pool n) (plan_job n) (plan_book n))) (target_worker q (if z then PushOwn (plan_job n) (plan_book n) else PushInj (plan_pool n) (plan_job n) (plan_book n))) (target_call (if z then PushOwn (plan_job n) (plan_book n) else PushInj (plan_pool n) (plan_job n) (plan_book n))) (job_at w q (if z then PushOwn (plan_job n) (plan_book n) else PushInj (plan_pool n) (plan_job n) (plan_book n)))))
-push_fair w q n v true s = plain_fair q (PushJob n v) (part_of w (own_pool q) (own_index q) (or_none (plan_book n)) (plan_job n)) _ refl
-    (λ p j. let a : live p j (at_job (w.job (plan_job n)) (InDeque (own_pool q) (own_index q))) ≡ 0 = live_none p j (at_job (w.job (plan_job n)) (InDeque (own_pool q) (own_index q))) (plan_no_token w q n j s) in omega (arith, a))
-    (let a : one (is_held (left_by q ((w.seat (own_pool q) (own_index q)).feeder))) ≤ one (is_held ((w.seat (own_pool q) (own_index q)).feeder)) = left_less q ((w.seat (own_pool q) (own_index q)).feeder) in omega (arith, a))
-push_fair w q n v false s = plain_fair q (PushJob n v) (part_of w (plan_pool n) (own_index q) (or_none (plan_book n)) (plan_job n)) _ refl
-    (λ p j. let a : live p j (at_job (w.job (plan_job n)) (Injected (plan_pool n))) ≡ 0 = live_none p j (at_job (w.job (plan_job n)) (Injected (plan_pool n))) (plan_no_token w q n j s) in omega (arith, a))
-    (omega arith)
+pub count_no_token : (j : ℕ) (v : Option ℕ) (k : Count) → token_of j v (count_kind k) ≡ false
+count_no_token j v (OfPool p) = refl
+count_no_token j v (OfScope c o) = refl
+count_no_token j v (OfCast c o) = refl
 
-both : (a b : Bool) → one (a && b) ≤ one (b && a)
-both true true = omega arith
-both true false = omega arith
-both false b = omega arith
+plan_no_token : (w : World) (q : Party) (n : Plan) (j : ℕ) (v : Option ℕ) → SaysPlan w q n → token_of j v (w.job (plan_job n)).kind ≡ false
+plan_no_token w q (Detach p t) j v s = ap (token_of j v) (s.kind)
+plan_no_token w q (Here p t) j v s = ap (token_of j v) (s.kind)
+plan_no_token w q (Feed f) j v s = ap (token_of j v) ((s.0).kind) ∙ count_no_token j v f.count
+plan_no_token w q (Send o) j v s = call_no_token j v ((w.job o.job).kind) (o.number, q) ((s.0).kind)
+plan_no_token w q (Open o) j v s = call_no_token j v ((w.job o.job).kind) (o.number, q) ((s.0).kind)
+plan_no_token w q (Enter e) j v s = ap (token_of j v) ((s.0).kind)
+plan_no_token w q (Gather g) j v s = ap (token_of j v) (s.whole)
+plan_no_token w q (Fork o a) j v s = call_no_token j v ((w.job o.job).kind) (o.number, q) ((s.0).kind)
+
+push_fair : (w : World) (q : Party) (n : Plan) (e z : Bool) → SaysPlan w q n → IfSome (outcome_of w q (if z then PushOwn (plan_job n) (plan_book n) else PushInj (plan_pool n) (plan_job n) (plan_book n))) (Fair q (PushJob n e) (part_of w (target_pool q (if z then PushOwn (plan_job n) (plan_book n) else PushInj (plan_pool n) (plan_job n) (plan_book n))) (target_worker q (if z then PushOwn (plan_job n) (plan_book n) else PushInj (plan_pool n) (plan_job n) (plan_book n))) (target_call (if z then PushOwn (plan_job n) (plan_book n) else PushInj (plan_pool n) (plan_job n) (plan_book n))) (job_at w q (if z then PushOwn (plan_job n) (plan_book n) else PushInj (plan_pool n) (plan_job n) (plan_book n)))))
+push_fair w q n e true s = plain_fair q (PushJob n e) (part_of w (own_pool q) (own_index q) (or_none (plan_book n)) (plan_job n)) _ refl
+    (λ p j v. let a : live p j v (at_job (w.job (plan_job n)) (InDeque (own_pool q) (own_index q))) ≡ 0 = live_none p j v (at_job (w.job (plan_job n)) (InDeque (own_pool q) (own_index q))) (plan_no_token w q n j v s) in omega (arith, a))
+    (λ v. let a : one (is_held (put_list ((w.seat (own_pool q) (own_index q)).feeder) (plan_book n) (left_by q ((w.seat (own_pool q) (own_index q)).feeder (plan_book n))) v)) ≤ one (is_held ((w.seat (own_pool q) (own_index q)).feeder v)) = left_list_less q ((w.seat (own_pool q) (own_index q)).feeder) (plan_book n) v in omega (arith, a))
+push_fair w q n e false s = plain_fair q (PushJob n e) (part_of w (plan_pool n) (own_index q) (or_none (plan_book n)) (plan_job n)) _ refl
+    (λ p j v. let a : live p j v (at_job (w.job (plan_job n)) (Injected (plan_pool n))) ≡ 0 = live_none p j v (at_job (w.job (plan_job n)) (Injected (plan_pool n))) (plan_no_token w q n j v s) in omega (arith, a))
+    (λ v. omega arith)
+
+turned : (a b d : Bool) → one ((a && b) && d) ≤ one (b && (d && a))
+turned true true true = omega arith
+turned true true false = omega arith
+turned true false d = omega arith
+turned false b d = omega arith
 
 -- a token is pushed, and its pusher leaves the list
-token_fair : (w : World) (a b : ℕ) (f : Feeding) (v : Bool) → (w.job f.token).kind ≡ TokenOf b → (w.seat a b).feeder ≡ Some (Worker a b) → IfSome (outcome_of w (Worker a b) (PushOwn f.token None)) (Fair (Worker a b) (PushToken f v) (part_of w a b 0 f.token))
-token_fair w a b f v k s = record {
-  job = λ p j. (let c : one (token_of j (w.job f.token).kind && (p == a)) ≤ one ((p == a) && (j == b)) = subst (λ d. one (token_of j d && (p == a)) ≤ one ((p == a) && (j == b))) (sym k) (both (j == b) (p == a)) in omega (arith, c));
-  list = let c : one (is_held (left_by (Worker a b) ((w.seat a b).feeder))) ≡ 0 = ap (λ o. one (is_held (left_by (Worker a b) o))) s ∙ gone in let d : one (is_held ((w.seat a b).feeder)) ≡ 1 = ap (λ o. one (is_held o)) s in omega (arith, c, d);
+token_fair : (w : World) (a b : ℕ) (f : Feeding) (t : Bool) → (w.job f.token).kind ≡ TokenOf b (count_book f.count) → (w.seat a b).feeder (count_book f.count) ≡ Some (Worker a b) → IfSome (outcome_of w (Worker a b) (PushOwn f.token (count_book f.count))) (Fair (Worker a b) (PushToken f t) (part_of w a b (or_none (count_book f.count)) f.token))
+token_fair w a b f t k s = record {
+  job = λ p j v. (let c : one (token_of j v (w.job f.token).kind && (p == a)) ≤ one (same_list v l && ((p == a) && (j == b))) = subst (λ d. one (token_of j v d && (p == a)) ≤ one (same_list v l && ((p == a) && (j == b)))) (sym k) (turned (j == b) (same_list v l) (p == a)) in omega (arith, c));
+  list = λ v. by v (same_list v l) refl;
 }
   where
+    l : Option ℕ
+    l = count_book f.count
+
+    feeder : Option ℕ → Option Party
+    feeder = (w.seat a b).feeder
+
     gone : one (is_held (left_by (Worker a b) (Some (Worker a b)))) ≡ 0
     gone = let y : same_party (Worker a b) (Worker a b) ≡ true = same_party_refl (Worker a b) in rw y refl
+
+    by : (v : Option ℕ) (z : Bool) → same_list v l ≡ z → (one (is_held (if z then left_by (Worker a b) (feeder l) else feeder v)) + length ((w.seat a b).fifo v)) + one z ≤ (one (is_held (feeder v)) + length ((w.seat a b).fifo v)) + 0
+    by v true z = let c : one (is_held (left_by (Worker a b) (feeder l))) ≡ 0 = ap (λ o. one (is_held (left_by (Worker a b) o))) s ∙ gone in
+        let d : one (is_held (feeder v)) ≡ 1 = ap (λ o. one (is_held (feeder o))) (same_list_true v l z) ∙ ap (λ o. one (is_held o)) s in omega (arith, c, d)
+    by v false z = omega arith
 
 drop_length : (l : List ℕ) → length l ≤ length (but_last l) + 1
 drop_length [] = omega arith
@@ -199,24 +231,74 @@ drop_length (t ∷ []) = omega arith
 drop_length (t ∷ u ∷ ts) = let a : length (u ∷ ts) ≤ length (but_last (u ∷ ts)) + 1 = drop_length (u ∷ ts) in omega (arith, a)
 
 begin_fair : (q : Party) (x : Place) (m : Part) (e : Seen) → is_pushing x ≡ false → Fair q x m (e, record m { job = begun q m.job })
-begin_fair q x m e n = plain_fair q x m _ n (λ p j. let a : live p j (begun q m.job) ≡ 0 = begun_off p j q m.job in omega (arith, a)) (omega arith)
+begin_fair q x m e n = plain_fair q x m _ n (λ p j v. let a : live p j v (begun q m.job) ≡ 0 = begun_off p j v q m.job in omega (arith, a)) (λ v. omega arith)
 
 -- a token is redeemed
-out_fair : (q : Party) (k i : ℕ) (m : Part) → IfSome (fifo_out q m) (Fair q (BeginTask (Token k i)) m)
-out_fair q k i m = out_sees (Fair q (BeginTask (Token k i)) m) q m
-    (record { job = λ p j. omega arith; list = omega arith })
+out_fair : (q : Party) (k i : ℕ) (b : Option ℕ) (m : Part) → IfSome (fifo_out q m b) (Fair q (BeginTask (Token k i b)) m)
+out_fair q k i b m = out_sees (Fair q (BeginTask (Token k i b)) m) q m b
+    (record { job = λ p j v. omega arith; list = λ v. omega arith })
     (λ u us e. record {
-      job = λ p j. (let a : live p j (begun q m.job) ≡ 0 = begun_off p j q m.job in omega (arith, a));
-      list = let a : length m.seat.fifo ≡ length us + 1 = ap length e ∙ (let b : length (u ∷ us) ≡ length us + 1 = omega arith in b) in omega (arith, a);
+      job = λ p j v. (let a : live p j v (begun q m.job) ≡ 0 = begun_off p j v q m.job in omega (arith, a));
+      list = λ v. shorter u us e v (same_list v b) refl;
     })
+  where
+    shorter : (u : ℕ) (us : List ℕ) → m.seat.fifo b ≡ u ∷ us → (v : Option ℕ) (z : Bool) → same_list v b ≡ z → (one (is_held (m.seat.feeder v)) + length (m.seat.fifo v)) + 0 ≤ (one (is_held (m.seat.feeder v)) + length (if z then us else m.seat.fifo v)) + one z
+    shorter u us e v true z = let a : length (m.seat.fifo v) ≡ length us + 1 = ap (λ c. length (m.seat.fifo c)) (same_list_true v b z) ∙ ap length e ∙ (let c : length (u ∷ us) ≡ length us + 1 = omega arith in c) in omega (arith, a)
+    shorter u us e v false z = omega arith
+
+-- a job is added to a list
+add_fair : (w : World) (a b : ℕ) (g : Feeding) → IfSome (fifo_in (Worker a b) (part_of w a b 0 g.job) g.job (count_book g.count)) (Fair (Worker a b) (AddToFifo g) (part_of w a b 0 g.job))
+add_fair w a b g = if_cond (Fair (Worker a b) (AddToFifo g) (part_of w a b 0 g.job)) (is_open (Worker a b) (feeder l)) _ (λ o. plain_fair (Worker a b) (AddToFifo g) (part_of w a b 0 g.job) _ refl
+    (λ p j v. let d : live p j v (at_job (w.job g.job) (InFifo a b l)) ≡ 0 = live_off p j v (at_job (w.job g.job) (InFifo a b l)) refl in omega (arith, d))
+    (λ v. longer v (same_list v l) refl))
+  where
+    l : Option ℕ
+    l = count_book g.count
+
+    feeder : Option ℕ → Option Party
+    feeder = (w.seat a b).feeder
+
+    fifo : Option ℕ → List ℕ
+    fifo = (w.seat a b).fifo
+
+    longer : (v : Option ℕ) (z : Bool) → same_list v l ≡ z → one (is_held (if z then Some (Worker a b) else feeder v)) + length (fifo v) ≤ one (is_held (feeder v)) + length (if z then fifo l ++ g.job ∷ [] else fifo v)
+    longer v true z = let d : length (fifo l ++ g.job ∷ []) ≡ length (fifo l) + length (g.job ∷ []) = length-append (fifo l) (g.job ∷ []) in
+        let c : length (fifo v) ≡ length (fifo l) = ap (λ o. length (fifo o)) (same_list_true v l z) in omega (arith, c, d)
+    longer v false z = omega arith
+
+-- the job that was added last is taken back, and the list is left
+back_fair : (w : World) (a b : ℕ) (g : Feeding) (n : ℕ) → (w.seat a b).feeder (count_book g.count) ≡ Some (Worker a b) → IfSome (fifo_undo (Worker a b) (part_of w a b 0 n) (count_book g.count)) (Fair (Worker a b) (TakeFromFifo g) (part_of w a b 0 n))
+back_fair w a b g n s = undo_sees (Fair (Worker a b) (TakeFromFifo g) m) (Worker a b) m l (still_fair (Worker a b) (TakeFromFifo g) m Missing refl)
+    (λ u e. plain_fair (Worker a b) (TakeFromFifo g) m _ refl
+    (λ p j v. let d : live p j v (at_job (w.job n) (Retaken (Worker a b))) ≡ 0 = live_off p j v (at_job (w.job n) (Retaken (Worker a b))) refl in omega (arith, d))
+    (λ v. shorter v (same_list v l) refl))
+  where
+    l : Option ℕ
+    l = count_book g.count
+
+    m : Part
+    m = part_of w a b 0 n
+
+    feeder : Option ℕ → Option Party
+    feeder = (w.seat a b).feeder
+
+    fifo : Option ℕ → List ℕ
+    fifo = (w.seat a b).fifo
+
+    shorter : (v : Option ℕ) (z : Bool) → same_list v l ≡ z → one (is_held (if z then None else feeder v)) + length (fifo v) ≤ one (is_held (feeder v)) + length (if z then but_last (fifo l) else fifo v)
+    shorter v true z = let k : one (is_held (feeder v)) ≡ 1 = ap (λ o. one (is_held (feeder o))) (same_list_true v l z) ∙ ap (λ o. one (is_held o)) s in
+        let c : length (fifo v) ≡ length (fifo l) = ap (λ o. length (fifo o)) (same_list_true v l z) in
+        let d : length (fifo l) ≤ length (but_last (fifo l)) + 1 = drop_length (fifo l) in omega (arith, k, c, d)
+    shorter v false z = omega arith
 
 quiet_fair : (h : Shape) (q : Party) (c : Counts) (m : Part) (x : Place) → moves_no_job x ≡ true → is_pushing x ≡ false → IfSome (effect (act_of q x) h q c m) (Fair q x m)
 quiet_fair h q c m x z n = if_some_map (λ r. SameJobs m r × Static m r) (Fair q x m)
-    (λ r s. plain_fair q x m r n (λ p j. let a : live p j r.1.job ≡ live p j m.job = ap (λ k. one (token_of j k && at_pool p r.1.job.at r.1.job.runs)) ((s.1).kind) ∙ ap (λ v. one (token_of j m.job.kind && at_pool p v r.1.job.runs)) ((s.0).at) ∙ ap (λ d. one (token_of j m.job.kind && at_pool p m.job.at d)) ((s.0).runs) in omega (arith, a))
-    (let a : one (is_held r.1.seat.feeder) ≡ one (is_held m.seat.feeder) = ap (λ o. one (is_held o)) ((s.0).feeder) in let b : length r.1.seat.fifo ≡ length m.seat.fifo = ap length ((s.0).fifo) in omega (arith, a, b)))
+    (λ r s. plain_fair q x m r n
+    (λ p j v. let a : live p j v r.1.job ≡ live p j v m.job = ap (λ k. one (token_of j v k && at_pool p r.1.job.at r.1.job.runs)) ((s.1).kind) ∙ ap (λ y. one (token_of j v m.job.kind && at_pool p y r.1.job.runs)) ((s.0).at) ∙ ap (λ d. one (token_of j v m.job.kind && at_pool p m.job.at d)) ((s.0).runs) in omega (arith, a))
+    (λ v. let a : one (is_held (r.1.seat.feeder v)) ≡ one (is_held (m.seat.feeder v)) = ap (λ o. one (is_held (o v))) ((s.0).feeder) in let b : length (r.1.seat.fifo v) ≡ length (m.seat.fifo v) = ap (λ l. length (l v)) ((s.0).fifo) in omega (arith, a, b)))
     (effect (act_of q x) h q c m) (if_some_and (SameJobs m) (Static m) (effect (act_of q x) h q c m) (quiet_same h q c m x z) (act_static h q c m x))
 
-pub act_fair : (w : World) (q : Party) (x : Place) → IsOnce w → Says w q x → ((p i : ℕ) → q ≡ Worker p i → is_waiting x ≡ true → (w.seat p i).feeder ≡ Some (Worker p i)) → IfSome (effect (act_of q x) w.shape q (counts_at w (target_pool q (act_of q x))) (place_part w q x)) (Fair q x (place_part w q x))
+pub act_fair : (w : World) (q : Party) (x : Place) → IsOnce w → Says w q x → ((p i : ℕ) (f : Feeding) → q ≡ Worker p i → waits x ≡ Some f → (w.seat p i).feeder (count_book f.count) ≡ Some (Worker p i)) → IfSome (effect (act_of q x) w.shape q (counts_at w (target_pool q (act_of q x))) (place_part w q x)) (Fair q x (place_part w q x))
 act_fair w (Worker a b) (PopWorking k) h s f = pop_fair (Worker a b) (place_part w (Worker a b) (PopWorking k)) (PopWorking k) _ _ refl (λ t e. own_spot w h ((w.shape.pool a).order) a b t e)
 act_fair w (Caller c) (PopWorking k) h s f = tt
 act_fair w (Worker a b) (PopIdle k) h s f = pop_fair (Worker a b) (place_part w (Worker a b) (PopIdle k)) (PopIdle k) _ _ refl (λ t e. own_spot w h ((w.shape.pool a).order) a b t e)
@@ -246,21 +328,16 @@ act_fair w (Caller c) YieldTakeCast h s f = tt
 act_fair w (Worker a b) LocalTakeCast h s f = cast_fair (Worker a b) (place_part w (Worker a b) LocalTakeCast) LocalTakeCast _ refl (λ t e. cast_spot w h a b t e)
 act_fair w (Caller c) LocalTakeCast h s f = tt
 act_fair w q (BeginTask (Plain t)) h s f = begin_fair q (BeginTask (Plain t)) (place_part w q (BeginTask (Plain t))) _ refl
-act_fair w (Worker a b) (BeginTask (Token k i)) h s f = out_fair (Worker a b) k i (place_part w (Worker a b) (BeginTask (Token k i)))
-act_fair w (Caller c) (BeginTask (Token k i)) h s f = out_fair (Caller c) k i (place_part w (Caller c) (BeginTask (Token k i)))
-act_fair w (Worker a b) (PushToken g v) h s f = token_fair w a b g v ((s.1).kind) (f a b refl refl)
+act_fair w (Worker a b) (BeginTask (Token k i l)) h s f = out_fair (Worker a b) k i l (place_part w (Worker a b) (BeginTask (Token k i l)))
+act_fair w (Caller c) (BeginTask (Token k i l)) h s f = out_fair (Caller c) k i l (place_part w (Caller c) (BeginTask (Token k i l)))
+act_fair w (Worker a b) (PushToken g v) h s f = token_fair w a b g v ((s.1).kind) (f a b g refl refl)
 act_fair w (Caller c) (PushToken g v) h s f = tt
-act_fair w (Worker a b) (AddToFifo g) h s f = if_cond (Fair (Worker a b) (AddToFifo g) (place_part w (Worker a b) (AddToFifo g))) (is_open (Worker a b) ((w.seat a b).feeder)) _ (λ o. record {
-  job = λ p j. (let d : live p j (at_job (w.job g.job) (InFifo a b)) ≡ 0 = live_off p j (at_job (w.job g.job) (InFifo a b)) refl in omega (arith, d));
-  list = let d : length ((w.seat a b).fifo ++ g.job ∷ []) ≡ length ((w.seat a b).fifo) + length (g.job ∷ []) = length-append ((w.seat a b).fifo) (g.job ∷ []) in omega (arith, d);
-})
+act_fair w (Worker a b) (AddToFifo g) h s f = add_fair w a b g
 act_fair w (Caller c) (AddToFifo g) h s f = tt
-act_fair w (Worker a b) (TakeFromFifo g) h s f = undo_sees (Fair (Worker a b) (TakeFromFifo g) (place_part w (Worker a b) (TakeFromFifo g))) (Worker a b) (place_part w (Worker a b) (TakeFromFifo g)) (still_fair (Worker a b) (TakeFromFifo g) (place_part w (Worker a b) (TakeFromFifo g)) Missing refl)
-    (λ u e. plain_fair (Worker a b) (TakeFromFifo g) (place_part w (Worker a b) (TakeFromFifo g)) _ refl
-    (λ p j. let d : live p j (at_job (w.job (or_none (last_of ((w.seat a b).fifo)))) (Retaken (Worker a b))) ≡ 0 = live_off p j (at_job (w.job (or_none (last_of ((w.seat a b).fifo)))) (Retaken (Worker a b))) refl in omega (arith, d))
-    (let k : one (is_held ((w.seat a b).feeder)) ≡ 1 = ap (λ o. one (is_held o)) (f a b refl refl) in let d : length ((w.seat a b).fifo) ≤ length (but_last ((w.seat a b).fifo)) + 1 = drop_length ((w.seat a b).fifo) in omega (arith, k, d)))
+act_fair w (Worker a b) (TakeFromFifo g) h s f = back_fair w a b g (or_none (last_of ((w.seat a b).fifo (count_book g.count)))) (f a b g refl refl)
 act_fair w (Caller c) (TakeFromFifo g) h s f = tt
 act_fair w q (BeginHere t) h s f = begin_fair q (BeginHere t) (place_part w q (BeginHere t)) _ refl
-act_fair w q (PushForAll c) h s f = plain_fair q (PushForAll c) (place_part w q (PushForAll c)) _ refl (λ p j. omega arith) (omega arith)
+act_fair w q (PushForAll c) h s f = plain_fair q (PushForAll c) (place_part w q (PushForAll c)) _ refl (λ p j v. omega arith) (λ v. omega arith)
+act_fair w q (DealPieces g) h s f = plain_fair q (DealPieces g) (place_part w q (DealPieces g)) _ refl (λ p j v. omega arith) (λ v. omega arith)
 act_fair w q (PushJob n v) h s f = push_fair w q n v (is_member q (plan_pool n)) (queue_plan w q n s)
 act_fair w q x h s f = quiet_fair w.shape q (counts_at w (target_pool q (act_of q x))) (place_part w q x) x refl refl

@@ -42,6 +42,13 @@ tokens_gain f g own new q other mine less t = record { alone = λ r. alone r (sa
     apart r s false true y z d = let i : s ≡ q = same_party_true s q z in subst (λ p. g r + g p ≤ 1) (sym i) (let b : g r ≤ f r = other r y in let e : f r + f q ≤ 0 = t.apart r q y in omega (arith, b, e, mine))
     apart r s true true y z d = absurd (let i : r ≡ q = same_party_true r q y in let j : s ≡ q = same_party_true s q z in let k : same_party r s ≡ true = ap (λ p. same_party p s) (i ∙ sym j) ∙ same_party_refl s in cc)
 
+-- a share that nobody had comes to its owner
+pub tokens_own : (f g : Party → ℕ) (own new : ℕ) → new ≤ 1 → ((r : Party) → g r ≤ f r) → Tokens f own 0 → Tokens g new 1
+tokens_own f g own new one other t = record {
+  alone = λ r. (let a : g r ≤ f r = other r in let b : f r + own ≤ 0 = t.alone r in omega (arith, a, b, one));
+  apart = λ r s d. (let a : g r ≤ f r = other r in let b : g s ≤ f s = other s in let e : f r + f s ≤ 0 = t.apart r s d in omega (arith, a, b, e));
+}
+
 -- the party that has the share gives it back: nobody has it
 pub tokens_pay : (f g : Party → ℕ) (own new cap : ℕ) (q : Party) → cap ≤ 1 → ((r : Party) → same_party r q ≡ false → g r ≤ f r) → g q + 1 ≤ f q → new ≤ own → Tokens f own cap → Tokens g new 0
 tokens_pay f g own new cap q c other mine less t = record { alone = λ r. alone r (same_party r q) refl; apart = λ r s d. (let a : g r + new ≤ 0 = alone r (same_party r q) refl in let b : g s + new ≤ 0 = alone s (same_party s q) refl in omega (arith, a, b)) }

@@ -1,6 +1,8 @@
 -- where a party stands after an act, and that only frames stand below
+use Rattle.rayon_machine_places.specs.declared.place.Plan.TheVariants.{Feed}
+use Rattle.rayon_machine_places.specs.declared.place.Plan.{Plan}
 use Rattle.std.proofs.Common.{rules, arith, refl}
-use Rattle.std.specs.Prelude.{ℕ, Bool, true, false, ◌&&◌, ◌||◌, ◌+◌, nat_lt, if◌then◌else◌, List, [], ◌∷◌, ◌≡◌, IfSome, ⊤}
+use Rattle.std.specs.Prelude.{ℕ, Bool, true, false, ◌&&◌, ◌||◌, ◌+◌, nat_lt, if◌then◌else◌, List, [], ◌∷◌, ◌≡◌, IfSome, ⊤, Option, None, Some}
 use Rattle.rayon_machine_places.specs.declared.place.Party.{Party}
 use Rattle.rayon_machine_places.specs.declared.place.Party.TheVariants.{Worker, Caller}
 use Rattle.rayon_machine_places.specs.declared.place.JobKind.TheVariants.{Direct}
@@ -8,7 +10,7 @@ use Rattle.rayon_machine_places.specs.declared.place.Target.TheVariants.{Termina
 use Rattle.rayon_machine_places.specs.declared.place.Latch.{Latch}
 use Rattle.rayon_machine_places.specs.declared.place.Latch.TheVariants.{Terminate, OfCall}
 use Rattle.rayon_machine_places.specs.declared.place.Then.{Then}
-use Rattle.rayon_machine_places.specs.declared.place.Then.TheVariants.{BeginFound, LeaveWait, Resume, Await, RunFirst, Answers, Missing, Ran, GiveBack, Called}
+use Rattle.rayon_machine_places.specs.declared.place.Then.TheVariants.{BeginFound, LeaveWait, Resume, Await, RunFirst, Answers, Missing, Ran, GiveBack, Called, Gathers}
 use Rattle.rayon_machine_places.specs.declared.place.Feeding.{Feeding}
 use Rattle.rayon_machine_places.specs.declared.place.Taken.{Taken}
 use Rattle.rayon_machine_places.specs.declared.place.Taken.TheVariants.{Plain, Token}
@@ -20,7 +22,7 @@ use Rattle.rayon_machine_places.specs.declared.act.Seen.{Seen}
 use Rattle.rayon_machine_places.specs.declared.act.Seen.TheVariants.{Yes, Done, Task, Begun, Handed}
 use Rattle.rayon_machine_places.specs.declared.shape.PoolShape.{PoolShape}
 use Rattle.rayon_machine_places.specs.declared.place.Settling.{Settling}
-use Rattle.rayon_machine_places.specs.Places.{finish, walk, settle, after_set, act_of, next_of, after_begin, taken_back}
+use Rattle.rayon_machine_places.specs.Places.{finish, walk, settle, after_set, act_of, next_of, after_begin, taken_back, withdraw, count_book, taken_number}
 use Rattle.rayon_machine_places.specs.World.{Shape, World, Counts, Part, effect}
 use Rattle.rayon_machine_places.specs.Steps.{after_move}
 use Rattle.rayon_machine_laws.proofs.Frame.{if_some_all}
@@ -155,6 +157,8 @@ finish_leads b (Caller n) (Await o) = or_true b
 finish_leads b q (RunFirst o a) = refl
 finish_leads b q Resume = tt
 finish_leads b q Called = tt
+finish_leads b (Worker i j) (Gathers o) = or_true b
+finish_leads b (Caller n) (Gathers o) = or_true b
 finish_leads b q (Answers o f e) = tt
 finish_leads b q (Missing o f) = tt
 finish_leads b q (Ran t e) = tt
@@ -181,15 +185,19 @@ set_leads h q s _ = settled_leads true h q s s.latch
 begin_leads : (x : Taken) (e : Seen) → Leads false (after_begin x e)
 begin_leads (Plain t) (Begun d) = refl
 begin_leads (Plain t) _ = refl
-begin_leads (Token k i) (Handed t d) = refl
-begin_leads (Token k i) _ = tt
+begin_leads (Token k i b8) (Handed t d) = refl
+begin_leads (Token k i b8) _ = tt
+
+drawn_leads : (o : Option ℕ) (n : Plan) → Leads false (Stay (withdraw o n))
+drawn_leads None n = refl
+drawn_leads (Some c) n = refl
 
 feed_leads : (g : PoolShape) (q : Party) (f : Feeding) (e : Seen) → Leads false (next_of g q (AddToFifo f) e)
 feed_leads g q f Done = refl
-feed_leads g q f _ = refl
+feed_leads g q f _ = drawn_leads (count_book f.count) (Feed f)
 
 back_leads : (f : Feeding) (e : Seen) → Leads false (taken_back f e)
-back_leads f (Task x) = refl
+back_leads f (Task x) = drawn_leads (count_book f.count) (Feed (record f { job = taken_number x }))
 back_leads f _ = tt
 
 pub leads : (h : Shape) (g : PoolShape) (q : Party) (c : Counts) (m : Part) (x : Place) → IfSome (effect (act_of q x) h q c m) (λ r. Leads (is_heavy x) (next_of g q x (r.0)))

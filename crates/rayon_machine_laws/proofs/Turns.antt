@@ -12,7 +12,7 @@ use Rattle.rayon_machine_places.specs.declared.place.Rounds.{Rounds}
 use Rattle.rayon_machine_places.specs.declared.place.Rounds.TheVariants.{Failed, Announced}
 use Rattle.rayon_machine_places.specs.declared.place.Plan.{Plan}
 use Rattle.rayon_machine_places.specs.declared.place.Then.{Then}
-use Rattle.rayon_machine_places.specs.declared.place.Then.TheVariants.{BeginFound, LeaveWait, Resume, Await, RunFirst, Answers, Missing, Ran, GiveBack, Called}
+use Rattle.rayon_machine_places.specs.declared.place.Then.TheVariants.{BeginFound, LeaveWait, Resume, Await, RunFirst, Answers, Missing, Ran, GiveBack, Called, Gathers}
 use Rattle.rayon_machine_places.specs.declared.place.Place.{Place}
 use Rattle.rayon_machine_places.specs.declared.place.Place.TheVariants.{ProbeWorking, ProbeIdle, PopInjected, AnnounceSelf, LoadCounters, AddSleeping, TellNews, SetLatch, UnlockSettled}
 use Rattle.rayon_machine_places.specs.declared.place.Move.{Move}
@@ -57,6 +57,11 @@ settled_keeps h q s n = tops_map (λ y. announced y ≡ false) (KeepsOn n) (λ y
     finish_calm (RunFirst o a) = refl
     finish_calm Resume = tt
     finish_calm Called = tt
+    finish_calm (Gathers o) = awaiting q
+      where
+        awaiting : (q : Party) → announced (awaits q o) ≡ false
+        awaiting (Worker i j) = refl
+        awaiting (Caller c) = refl
     finish_calm (Answers o f e) = tt
     finish_calm (Missing o f) = tt
     finish_calm (Ran t e) = tt

@@ -9,9 +9,9 @@ use Rattle.rayon_machine_places.specs.declared.place.Ending.TheVariants.{Fine, F
 use Rattle.rayon_machine_places.specs.declared.place.Latch.TheVariants.{Terminate}
 use Rattle.rayon_machine_places.specs.declared.place.Place.TheVariants.{Free, Stopped}
 use Rattle.rayon_machine_places.specs.declared.act.Act.{Act}
-use Rattle.rayon_machine_places.specs.declared.act.Act.TheVariants.{Probe, TakeCast, Lock, Wakeup, Begin, Idle}
+use Rattle.rayon_machine_places.specs.declared.act.Act.TheVariants.{Probe, TakeCast, PopInj, Lock, Wakeup, Begin, Idle}
 use Rattle.rayon_machine_places.specs.declared.event.Event.{Event}
-use Rattle.rayon_machine_places.specs.declared.event.Event.TheVariants.{Go, Refuse, End, Spawn, Install, Join, YieldLocal, EndPool}
+use Rattle.rayon_machine_places.specs.declared.event.Event.TheVariants.{Go, Refuse, Miss, End, Spawn, Fifo, Install, Join, Scope, IntoSpawn, YieldLocal, EndPool}
 use Rattle.rayon_machine_places.specs.declared.state.Whereabouts.TheVariants.{Over}
 use Rattle.rayon_machine_places.specs.Places.{act_of, is_free}
 use Rattle.rayon_machine_places.specs.Readers.{is_done, is_job_that, is_queued, is_running, jobs_that}
@@ -150,6 +150,35 @@ nested = Spawn c 0 ∷ gos c 4 ++ gos a 10 ++ Install a 1 ∷ gos a 5 ++ gos (Wo
 across_pools : IfSome (run (Some (start (pools 1 32))) (nested ++ End a Fine ∷ gos a 2 ++ gos (Worker 1 0) 3 ++ End (Worker 1 0) Fine ∷ gos (Worker 1 0) 2 ++ gos a 3)) (λ w. PoolLine w 0 0 0 1 0 2 × WorkerLine w 0 0 0 false Idle × PoolLine w 1 0 0 1 0 1 × WorkerLine w 1 0 0 false (Probe Terminate) × JobLine w 0 1 2 × (is_free (w.stack a).top ≡ true))
 unfolding is_job_that
 across_pools = (record { sleeps = refl; idles = refl; turns = refl; holds = refl; counts = refl }, record { own = refl; blocks = refl; acts = refl }, record { sleeps = refl; idles = refl; turns = refl; holds = refl; counts = refl }, record { own = refl; blocks = refl; acts = refl }, record { waits = refl; runs = refl; ends = refl }, refl)
+
+-- an outside caller opens a scope and spawns one job into it, which faults; it waits until that job is over
+abbrev until_body_ends : List Event
+until_body_ends = Scope c 0 ∷ gos c 2 ++ IntoSpawn c 0 ∷ gos c 5 ++ End c Fine ∷ gos c 2
+
+scope_waited : IfSome (run (Some (start (pools 1 32))) (until_body_ends ++ gos a 10 ++ End a Fault ∷ gos a 3 ++ gos c 3)) (λ w. PoolLine w 0 0 0 1 0 1 × WorkerLine w 0 0 0 false (Probe Terminate) × JobLine w 0 0 2 × ((w.stack c).top ≡ Free))
+unfolding is_job_that
+scope_waited = (record { sleeps = refl; idles = refl; turns = refl; holds = refl; counts = refl }, record { own = refl; blocks = refl; acts = refl }, record { waits = refl; runs = refl; ends = refl }, refl)
+
+-- before the job is over the scope's latch is not set, so the caller can't go on
+scope_not_over : run (Some (start (pools 1 32))) (until_body_ends ++ Go c ∷ []) ≡ None
+scope_not_over = refl
+
+-- a spawn in order whose token is refused, and one that is not: the token begins the one job that the list has
+in_order : IfSome (run (Some (start (pools 1 32))) (Spawn c 0 ∷ gos c 4 ++ gos a 10 ++ Fifo a 0 ∷ gos a 3 ++ Refuse a ∷ gos a 2 ++ Fifo a 0 ∷ gos a 5 ++ End a Fine ∷ gos a 4)) (λ w. PoolLine w 0 0 0 1 0 2 × WorkerLine w 0 0 0 false Idle × JobLine w 0 1 1 × (is_free (w.stack a).top ≡ true))
+unfolding is_job_that
+in_order = (record { sleeps = refl; idles = refl; turns = refl; holds = refl; counts = refl }, record { own = refl; blocks = refl; acts = refl }, record { waits = refl; runs = refl; ends = refl }, refl)
+
+-- a steal misses the one task of its victim's deque
+abbrev until_steal : List Event
+until_steal = Spawn c 0 ∷ gos c 4 ++ gos a 12 ++ Spawn a 0 ∷ gos a 4 ++ gos b 8 ++ Miss b ∷ []
+
+steal_missed : IfSome (run (Some (start (pools 2 32))) until_steal) (λ w. PoolLine w 0 0 1 1 0 3 × WorkerLine w 0 0 1 false Idle × WorkerLine w 0 1 0 false PopInj × JobLine w 1 1 0 × (is_free (w.stack a).top ≡ true))
+unfolding is_job_that
+steal_missed = (record { sleeps = refl; idles = refl; turns = refl; holds = refl; counts = refl }, record { own = refl; blocks = refl; acts = refl }, record { own = refl; blocks = refl; acts = refl }, record { waits = refl; runs = refl; ends = refl }, refl)
+
+-- in a pool that is oldest first none does
+no_miss : run (Some (start (record { pool = λ p. record { workers = 2; limit = 0; order = OldestFirst; callers_own = false }; callers = 16; jec_bits = 32 }))) until_steal ≡ None
+no_miss = refl
 
 -- the caller's own worker runs jobs only inside its calls
 abbrev own_worker : Shape

@@ -5,7 +5,7 @@ use Rattle.rayon_machine_places.specs.declared.place.Party.TheVariants.{Worker}
 use Rattle.rayon_machine_places.specs.declared.place.Latch.{Latch}
 use Rattle.rayon_machine_places.specs.declared.place.Latch.TheVariants.{Terminate, OfCall}
 use Rattle.rayon_machine_places.specs.declared.place.Then.{Then}
-use Rattle.rayon_machine_places.specs.declared.place.Then.TheVariants.{Called}
+use Rattle.rayon_machine_places.specs.declared.place.Then.TheVariants.{Called, Gathers}
 use Rattle.rayon_machine_places.specs.declared.place.Place.{Place}
 use Rattle.rayon_machine_places.specs.declared.place.Place.TheVariants.{RelockOwn, TellNews, LockToWake, WakeWorker, UnlockWoken, LockToSettle, WakeSettled}
 use Rattle.rayon_machine_places.specs.declared.place.Wait.{Wait}
@@ -61,6 +61,7 @@ IsEmptyHanded w = (p i : ℕ) → (w.seat p i).blocked ≡ true → (w.seat p i)
 -- what follows a walk says that its party has put tasks into the broadcast lists of the pool, and calls all workers
 abbrev pub is_calling : Then → Bool
 is_calling Called = true
+is_calling (Gathers o) = true
 is_calling _ = false
 
 -- the party has put tasks into the broadcast lists of the pool, which has so many workers, and has not passed this

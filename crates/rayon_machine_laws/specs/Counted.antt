@@ -1,11 +1,12 @@
 -- a pool's terminate count is the number of its shares, and each share is kept once
+use Rattle.rayon_machine_places.specs.declared.state.Whereabouts.TheVariants.{Made}
 use Rattle.rayon_machine_places.specs.Readers.{is_done}
 use Rattle.rayon_machine_places.specs.declared.place.Count.{Count}
-use Rattle.rayon_machine_places.specs.declared.place.Count.TheVariants.{OfPool, OfScope}
+use Rattle.rayon_machine_places.specs.declared.place.Count.TheVariants.{OfPool, OfScope, OfCast}
 use Rattle.std.specs.Prelude.{ℕ, Bool, true, false, not, ◌&&◌, ◌+◌, ◌==◌, ◌≤◌, Option, Some, None, List, [], ◌∷◌, ◌≡◌}
 use Rattle.rayon_machine_places.specs.declared.place.Party.{Party}
 use Rattle.rayon_machine_places.specs.declared.place.JobKind.{JobKind}
-use Rattle.rayon_machine_places.specs.declared.place.JobKind.TheVariants.{Detached, Scoped}
+use Rattle.rayon_machine_places.specs.declared.place.JobKind.TheVariants.{Detached, Scoped, PieceOf, WholeOf}
 use Rattle.rayon_machine_places.specs.declared.place.Share.TheVariants.{PoolValue}
 use Rattle.rayon_machine_places.specs.declared.place.Place.{Place}
 use Rattle.rayon_machine_places.specs.declared.place.Place.TheVariants.{LowerCount}
@@ -16,10 +17,11 @@ use Rattle.rayon_machine_laws.specs.Once.{one}
 use Rattle.rayon_machine_laws.specs.Shares.{shares, is_busy}
 pub use Rattle.rayon_machine_laws.specs.Shares.{is_scoped}
 
--- no call waits for a job of this kind alone: it is detached, or of a scope
+-- no call waits for a job of this kind alone: it is detached, of a scope, or a piece of a broadcast that waits
 abbrev pub is_detached : JobKind → Bool
 is_detached (Detached p) = true
 is_detached (Scoped c o) = true
+is_detached (PieceOf c o) = true
 is_detached _ = false
 
 -- a job keeps its share itself: a detached one that is queued, in a hand or running. Its call keeps the share before,
@@ -27,16 +29,17 @@ is_detached _ = false
 abbrev pub keeps_own : Job → Bool
 keeps_own j = is_detached j.kind && is_busy j.at
 
--- a job of this kind is of this call's scope
+-- a job of this kind is of this call's scope, or a piece of this call's broadcast
 abbrev pub is_of_scope : ℕ → JobKind → Bool
 is_of_scope n (Scoped c o) = n == c
+is_of_scope n (PieceOf c o) = n == c
 is_of_scope n k = false
 
--- a job has a share of this pool's terminate count: one that is of no scope
+-- a job has a share of this pool's terminate count: one that has none of a call's count
 abbrev pub has_share : ℕ → Job → Bool
 has_share p j = j.counted && (not (is_scoped j.kind) && (p == j.pool))
 
--- a job has a share of the count of this call's scope
+-- a job has a share of the count of this call, a scope or a broadcast that waits
 abbrev pub has_entry : ℕ → Job → Bool
 has_entry c j = j.counted && is_of_scope c j.kind
 
@@ -44,6 +47,7 @@ has_entry c j = j.counted && is_of_scope c j.kind
 abbrev pub value_in : ℕ → Count → ℕ
 value_in p (OfPool r) = one (p == r)
 value_in p (OfScope c o) = 0
+value_in p (OfCast c o) = 0
 
 -- how often a place is the Lower that gives back the share of pool p's value
 abbrev pub values : ℕ → Place → ℕ
@@ -64,6 +68,7 @@ abbrev pub is_kept_by : Party → Option Party → Bool
 is_kept_by q None = false
 is_kept_by q (Some r) = same_party q r
 
+-- whether the owner keeps it
 abbrev pub is_kept_by_owner : Option Party → Bool
 is_kept_by_owner None = true
 is_kept_by_owner (Some r) = false
@@ -83,16 +88,27 @@ pub record IsCounted (w : World) : Type 0 where
   pub value : (p : ℕ) → KeptOnce (λ q. all_values p (w.stack q)) (w.pool p).held (w.pool p).counted
   pub jobs : (t : ℕ) → KeptOnce (λ q. shares t (w.stack q)) (keeps_own (w.job t)) (w.job t).counted
 
--- a scope whose count is 0 has ended: its body is over, and no job of it has a share of the count, is queued or runs
+-- a call of a scope has a body; a broadcast that waits has none, and a job of this kind stands for it
+abbrev pub has_body : JobKind → Bool
+has_body (WholeOf c o) = false
+has_body _ = true
+
+-- a call whose count is 0 has ended: its body is over, if it has one, and each piece of it, if it is a broadcast, and
+-- no job of its scope, or piece of its broadcast, has a share of the count, is queued or runs
 pub record ScopeEnded (w : World) (c : ℕ) : Type 0 where
-  pub body : is_done (w.job (w.call c).job).at ≡ true
-  pub jobs : (t : ℕ) (o : Party) → (w.job t).kind ≡ Scoped c o → (w.job t).counted ≡ false
-  pub idle : (t : ℕ) (o : Party) → (w.job t).kind ≡ Scoped c o → is_busy (w.job t).at ≡ false
+  pub body : has_body (w.job (w.call c).job).kind ≡ true → is_done (w.job (w.call c).job).at ≡ true
+  pub jobs : (t : ℕ) → is_of_scope c (w.job t).kind ≡ true → (w.job t).counted ≡ false
+  pub idle : (t : ℕ) → is_of_scope c (w.job t).kind ≡ true → is_busy (w.job t).at ≡ false
+  pub over : has_body (w.job (w.call c).job).kind ≡ false → (t : ℕ) → t + 1 ≤ w.jobs → is_of_scope c (w.job t).kind ≡ true → is_done (w.job t).at ≡ true
 
 -- each scope's count is 1 while its body's share is in it, and 1 more for each job with a share of it; the body's share
--- is in it until the body is over, and a job's while the job is queued or runs
+-- is in it at least until the body is over, and a job's while the job is queued or runs. The count of a broadcast that
+-- waits is the number of its pieces from the first: until they are dealt, as many shares wait in it as it has pieces,
+-- and from then on each piece has its own. Those of one that was refused stay. No share waits in the count of a scope
 pub record ScopesCounted (w : World) : Type 0 where
-  pub count : (c : ℕ) → (w.call c).count ≡ one (w.call c).counted + count_below w.jobs (λ t. has_entry c (w.job t))
-  pub body : (c : ℕ) → c + 1 ≤ w.calls → (w.call c).counted ≡ false → is_done (w.job (w.call c).job).at ≡ true
-  pub kept : (t c : ℕ) (o : Party) → (w.job t).kind ≡ Scoped c o → is_busy (w.job t).at ≡ true → (w.job t).counted ≡ true
+  pub count : (c : ℕ) → (w.call c).count ≡ (one (w.call c).counted + (w.call c).undealt) + count_below w.jobs (λ t. has_entry c (w.job t))
+  pub none : (c : ℕ) → has_body (w.job (w.call c).job).kind ≡ true → (w.call c).undealt ≡ 0
+  pub body : (c : ℕ) → c + 1 ≤ w.calls → (w.call c).counted ≡ false → has_body (w.job (w.call c).job).kind ≡ true → is_done (w.job (w.call c).job).at ≡ true
+  pub undealt : (t : ℕ) → t + 1 ≤ w.jobs → (c : ℕ) (o : Party) → (w.job t).kind ≡ PieceOf c o → (w.job t).at ≡ Made o → (w.call c).undealt ≡ (w.shape.pool (w.job t).pool).workers
+  pub kept : (t : ℕ) → is_scoped (w.job t).kind ≡ true → is_busy (w.job t).at ≡ true → (w.job t).counted ≡ true
   pub ended : (c : ℕ) → c + 1 ≤ w.calls → (w.call c).count ≡ 0 → ScopeEnded w c

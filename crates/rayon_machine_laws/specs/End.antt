@@ -1,14 +1,14 @@
 -- how calls end
 use Rattle.rayon_machine_places.specs.Steps.{is_piece}
 use Rattle.rayon_machine_places.specs.declared.place.Pieces.{Pieces}
-use Rattle.std.specs.Prelude.{ℕ, false, Option, Some, None, ◌≡◌, ◌⊎◌, ⊤, true}
+use Rattle.std.specs.Prelude.{ℕ, false, ◌+◌, Option, Some, None, ◌≡◌, ◌≤◌, ◌<◌, ◌⊎◌, ⊤, true}
 use Rattle.rayon_machine_places.specs.declared.place.Party.{Party}
 use Rattle.rayon_machine_places.specs.declared.place.Ending.{Ending}
 use Rattle.rayon_machine_places.specs.declared.place.Ending.TheVariants.{Fine, Fault}
 use Rattle.rayon_machine_places.specs.declared.place.JobKind.{JobKind}
-use Rattle.rayon_machine_places.specs.declared.place.JobKind.TheVariants.{Scoped, BodyOf}
+use Rattle.rayon_machine_places.specs.declared.place.JobKind.TheVariants.{Scoped, BodyOf, PieceOf, WholeOf}
 use Rattle.rayon_machine_places.specs.declared.place.Plan.{Plan}
-use Rattle.rayon_machine_places.specs.declared.place.Plan.TheVariants.{Detach, Here, Send, Fork, Feed, Open, Enter}
+use Rattle.rayon_machine_places.specs.declared.place.Plan.TheVariants.{Detach, Here, Send, Fork, Feed, Open, Enter, Gather}
 use Rattle.rayon_machine_places.specs.declared.place.Then.{Then}
 use Rattle.rayon_machine_places.specs.declared.place.Then.TheVariants.{Answers, Missing, Ran, GiveBack}
 use Rattle.rayon_machine_places.specs.declared.place.Place.{Place}
@@ -67,9 +67,31 @@ abbrev pub ScopeTakes : World → ℕ → Ending → Type 0
 ScopeTakes w c Fine = ScopeFine w c
 ScopeTakes w c Fault = ScopeFaulted w c
 
--- what a call that waited for a job of this kind took: how that job ended, but of a scope, whose job is its body
+-- a broadcast that waited, by its call, keeps no fault: each piece of it has ended without one
+pub record CastFine (w : World) (c : ℕ) : Type 0 where
+  pub kept : (w.call c).fault ≡ None
+  pub pieces : (t : ℕ) (o : Party) → t + 1 ≤ w.jobs → (w.job t).kind ≡ PieceOf c o → HasEnded w t Fine
+
+-- it keeps the fault of the piece of the lowest number that ended with one; and each piece has ended
+pub record CastFaulted (w : World) (c : ℕ) : Type 0 where
+  pub job : ℕ
+  pub kept : (w.call c).fault ≡ Some job
+  pub ended : HasEnded w job Fault
+  pub owner : Party
+  pub piece : (w.job job).kind ≡ PieceOf c owner
+  pub lower : (t : ℕ) (o : Party) → (w.job t).kind ≡ PieceOf c o → t < job → HasEnded w t Fine
+  pub pieces : (t : ℕ) (o : Party) → t + 1 ≤ w.jobs → (w.job t).kind ≡ PieceOf c o → (e : Ending) × HasEnded w t e
+
+-- what a broadcast takes: a fault exactly where a piece of it ended with one
+abbrev pub CastTakes : World → ℕ → Ending → Type 0
+CastTakes w c Fine = CastFine w c
+CastTakes w c Fault = CastFaulted w c
+
+-- what a call that waited for a job of this kind took: how that job ended, but of a scope, whose job is its body, and
+-- of a broadcast, whose job stands for its pieces
 abbrev pub Takes : World → OpenCall → JobKind → Ending → Type 0
 Takes w o (BodyOf c q) e = ScopeTakes w o.number e
+Takes w o (WholeOf c q) e = CastTakes w o.number e
 Takes w o k e = HasEnded w o.job e
 
 -- what each answer tells of the call's jobs
@@ -79,7 +101,8 @@ IsVerdict w o LastFault = Takes w o (w.job o.job).kind Fault × SideFine w (w.ca
 IsVerdict w o AllFine = Takes w o (w.job o.job).kind Fine × SideFine w (w.call o.number).first
 
 -- a call that waited: its job has run once and ended as the call took it, or, of a scope, the fault that it took is the
--- one that its book keeps; its first side has run too, if it is a join; the answer's fault is the one that comes first
+-- one that its book keeps, or, of a broadcast, all pieces have run once and the fault is that of the lowest; its first
+-- side has run too, if it is a join; the answer's fault is the one that comes first
 pub record CallEnds (w : World) (o : OpenCall) (first : Option Ending) (last : Ending) : Type 0 where
   pub own : (w.call o.number).job ≡ o.job
   pub job : Takes w o (w.job o.job).kind last
@@ -108,7 +131,7 @@ pub record IsEnd (w : World) : Type 0 where
 pub record IsUntouched (w : World) (t : ℕ) : Type 0 where
   pub runs : (w.job t).runs ≡ 0
   pub deque : (p i : ℕ) → times t (w.seat p i).own ≡ 0
-  pub fifo : (p i : ℕ) → times t (w.seat p i).fifo ≡ 0
+  pub fifo : (p i : ℕ) (b : Option ℕ) → times t ((w.seat p i).fifo b) ≡ 0
   pub cast : (p i : ℕ) → times t ((w.pool p).casts i) ≡ 0
   pub injector : (p : ℕ) → times t (w.pool p).injector ≡ 0
 
@@ -121,6 +144,7 @@ AllJobs P (Fork o a) = P a × P o.job
 AllJobs P (Feed f) = P f.job × P f.token
 AllJobs P (Open o) = P o.job
 AllJobs P (Enter e) = P e.job
+AllJobs P (Gather g) = (t : ℕ) → is_piece g.pieces t ≡ true → P t
 
 -- a refused call: until its last step its jobs stand in no list and have never run, and once they are handed back that
 -- stays so. So it is of the pieces of a refused broadcast, up to the act that gives back their shares and hands them

@@ -4,17 +4,17 @@ use Rattle.std.specs.Prelude.{ℕ, Bool, true, false, ◌&&◌, ◌+◌, ◌==�
 use Rattle.rayon_machine_places.specs.declared.place.Party.{Party}
 use Rattle.rayon_machine_places.specs.declared.place.Ending.{Ending}
 use Rattle.rayon_machine_places.specs.declared.place.Plan.{Plan}
-use Rattle.rayon_machine_places.specs.declared.place.Plan.TheVariants.{Detach, Here, Send, Fork, Feed, Open, Enter}
+use Rattle.rayon_machine_places.specs.declared.place.Plan.TheVariants.{Detach, Here, Send, Fork, Feed, Open, Enter, Gather}
 use Rattle.rayon_machine_places.specs.declared.place.Taken.{Taken}
 use Rattle.rayon_machine_places.specs.declared.place.Then.{Then}
 use Rattle.rayon_machine_places.specs.declared.place.Then.TheVariants.{BeginFound, RunFirst, GiveBack}
 use Rattle.rayon_machine_places.specs.declared.place.Place.{Place}
-use Rattle.rayon_machine_places.specs.declared.place.Place.TheVariants.{LeaveSearch, BeginTask, BeginHere, Run, RaiseCount, GrowCall, LookQueue, PushJob, AddToFifo, LookForToken, PushToken, TakeFromFifo, RaiseForAll, PushForAll, LowerForAll, TellNews, LockToWake, WakeWorker, UnlockWoken, LowerCount, SetLatch, LockToSettle, WakeSettled, UnlockSettled, GrowScope, OpenSlot, CloseSlot, SetLockLatch}
+use Rattle.rayon_machine_places.specs.declared.place.Place.TheVariants.{LeaveSearch, BeginTask, BeginHere, Run, RaiseCount, GrowCall, LookQueue, PushJob, AddToFifo, LookForToken, PushToken, TakeFromFifo, RaiseForAll, PushForAll, LowerForAll, TellNews, LockToWake, WakeWorker, UnlockWoken, LowerCount, SetLatch, LockToSettle, WakeSettled, UnlockSettled, GrowScope, OpenSlot, CloseSlot, SetLockLatch, OpenForAll, CloseForAll, GrowCast, DealPieces}
 use Rattle.rayon_machine_places.specs.declared.state.Whereabouts.{Whereabouts}
 use Rattle.rayon_machine_places.specs.declared.state.Whereabouts.TheVariants.{Nowhere, Made, InDeque, Injected, InFifo, InCast, Retaken, Running, Over}
 use Rattle.rayon_machine_places.specs.declared.act.Act.TheVariants.{FifoOut}
 use Rattle.rayon_machine_places.specs.Places.{same_party, taken_number, act_of, own_pool}
-use Rattle.rayon_machine_places.specs.World.{Stack, World}
+use Rattle.rayon_machine_places.specs.World.{Stack, World, same_list}
 use Rattle.rayon_machine_places.specs.Steps.{is_piece}
 
 -- 1 where the test holds, else 0
@@ -37,10 +37,10 @@ abbrev pub in_injector : ℕ → Whereabouts → Bool
 in_injector p (Injected q) = p == q
 in_injector p _ = false
 
--- a job's record says that it is in this worker's FIFO list
-abbrev pub in_fifo : ℕ → ℕ → Whereabouts → Bool
-in_fifo p i (InFifo q j) = (p == q) && (i == j)
-in_fifo p i _ = false
+-- a job's record says that it is in this FIFO list of this worker, that of a scope or that of detached jobs
+abbrev pub in_fifo : ℕ → ℕ → Option ℕ → Whereabouts → Bool
+in_fifo p i b (InFifo q j c) = ((p == q) && (i == j)) && same_list b c
+in_fifo p i b _ = false
 
 -- a job's record says that it is in this worker's broadcast list
 abbrev pub in_cast : ℕ → ℕ → Whereabouts → Bool
@@ -93,6 +93,7 @@ hand_plan t (Fork o a) = one (t == a) + one (t == o.job)
 hand_plan t (Feed f) = one (t == f.job) + one (t == f.token)
 hand_plan t (Open o) = one (t == o.job)
 hand_plan t (Enter e) = one (t == e.job)
+hand_plan t (Gather g) = one (is_piece g.pieces t)
 
 -- after the push a join still has its first side in hand, and a call for a FIFO list its token
 abbrev pub hand_rest : ℕ → Plan → ℕ
@@ -120,8 +121,8 @@ hand t (BeginHere u) = one (t == u)
 hand t (RaiseCount n) = hand_plan t n
 hand t (GrowCall n) = hand_plan t n
 hand t (GrowScope o) = one (t == o.job)
-hand t (OpenSlot e) = one (t == e.job)
-hand t (CloseSlot e) = one (t == e.job)
+hand t (OpenSlot n) = hand_plan t n
+hand t (CloseSlot n) = hand_plan t n
 hand t (LookQueue n) = hand_plan t n
 hand t (PushJob n e) = hand_plan t n
 hand t (AddToFifo f) = one (t == f.job) + one (t == f.token)
@@ -129,8 +130,12 @@ hand t (LookForToken f) = one (t == f.token)
 hand t (PushToken f e) = one (t == f.token)
 hand t (TakeFromFifo f) = one (t == f.token)
 hand t (RaiseForAll c) = one (is_piece c t)
+hand t (OpenForAll c) = one (is_piece c t)
 hand t (PushForAll c) = one (is_piece c t)
+hand t (CloseForAll c) = one (is_piece c t)
 hand t (LowerForAll c) = one (is_piece c t)
+hand t (GrowCast g) = one (is_piece g.pieces t)
+hand t (DealPieces g) = one (is_piece g.pieces t)
 hand t (TellNews n e) = hand_rest t n
 hand t (LockToWake k) = hand_then t k.then
 hand t (WakeWorker k) = hand_then t k.then
@@ -164,21 +169,21 @@ pub record IsOnce (w : World) : Type 0 where
   pub unbegun : (t : ℕ) → may_begin (w.job t).at ≡ false → (w.job t).runs ≡ 0
   pub deque : (p i t : ℕ) → times t (w.seat p i).own ≡ one (in_deque p i (w.job t).at)
   pub injector : (p t : ℕ) → times t (w.pool p).injector ≡ one (in_injector p (w.job t).at)
-  pub fifo : (p i t : ℕ) → times t (w.seat p i).fifo ≡ one (in_fifo p i (w.job t).at)
+  pub fifo : (p i : ℕ) (b : Option ℕ) (t : ℕ) → times t ((w.seat p i).fifo b) ≡ one (in_fifo p i b (w.job t).at)
   pub cast : (p i t : ℕ) → times t ((w.pool p).casts i) ≡ one (in_cast p i (w.job t).at)
   pub hand : (q : Party) (t : ℕ) → held t (w.stack q) ≡ one (is_with q (w.job t).at && ((w.job t).runs == 0))
   pub running : (q : Party) (t : ℕ) → worked t (w.stack q) ≡ one (runs_with q (w.job t).at && ((w.job t).runs == 1))
 
 -- no party that is to redeem a token finds the FIFO list of the token's worker empty
 abbrev pub IsRedeemed : World → Type 0
-IsRedeemed w = (q : Party) (token worker : ℕ) → act_of q (w.stack q).top ≡ FifoOut token worker → (w.seat (own_pool q) worker).fifo ≡ [] → ⊥
+IsRedeemed w = (q : Party) (token worker : ℕ) (b : Option ℕ) → act_of q (w.stack q).top ≡ FifoOut token worker b → (w.seat (own_pool q) worker).fifo b ≡ [] → ⊥
 
 -- where a piece of a broadcast may be that is bound to worker i of pool p: in that worker's broadcast list, with that
 -- worker once it is taken, or in no list and under no run
 abbrev pub is_own_place : ℕ → ℕ → Whereabouts → Bool
 is_own_place p i (InDeque q j) = false
 is_own_place p i (Injected q) = false
-is_own_place p i (InFifo q j) = false
+is_own_place p i (InFifo q j b7) = false
 is_own_place p i (Retaken q) = false
 is_own_place p i (InCast q j) = (p == q) && (i == j)
 is_own_place p i (Running q) = same_party (Worker p i) q

@@ -3,17 +3,17 @@ use Rattle.rayon_machine_places.specs.Steps.{is_piece}
 use Rattle.rayon_machine_places.specs.declared.place.JobKind.{JobKind}
 use Rattle.std.specs.Prelude.{ℕ, Bool, true, false, ◌+◌, ◌==◌, List, [], ◌∷◌, ◌≡◌}
 use Rattle.rayon_machine_places.specs.declared.place.Party.{Party}
-use Rattle.rayon_machine_places.specs.declared.place.JobKind.TheVariants.{Detached, Scoped}
+use Rattle.rayon_machine_places.specs.declared.place.JobKind.TheVariants.{Detached, Scoped, PieceOf}
 use Rattle.rayon_machine_places.specs.declared.place.Target.{Target}
 use Rattle.rayon_machine_places.specs.declared.place.Target.TheVariants.{Termination, Answer}
 use Rattle.rayon_machine_places.specs.declared.place.Plan.{Plan}
-use Rattle.rayon_machine_places.specs.declared.place.Plan.TheVariants.{Send, Fork}
+use Rattle.rayon_machine_places.specs.declared.place.Plan.TheVariants.{Send, Fork, Gather}
 use Rattle.rayon_machine_places.specs.declared.place.Share.{Share}
 use Rattle.rayon_machine_places.specs.declared.place.Share.TheVariants.{PoolValue, OfJob, Body}
 use Rattle.rayon_machine_places.specs.declared.place.Then.{Then}
-use Rattle.rayon_machine_places.specs.declared.place.Then.TheVariants.{BeginFound, LeaveWait, Await, RunFirst}
+use Rattle.rayon_machine_places.specs.declared.place.Then.TheVariants.{BeginFound, LeaveWait, Await, RunFirst, Gathers}
 use Rattle.rayon_machine_places.specs.declared.place.Place.{Place}
-use Rattle.rayon_machine_places.specs.declared.place.Place.TheVariants.{ProbeWorking, PopWorking, TakeCastWorking, BecomeInactive, ProbeIdle, PopIdle, TakeCastIdle, PickVictim, StealFrom, PopInjected, AnnounceSelf, GetSleepy, LockOwn, FallAsleep, LoadCounters, AddSleeping, LookAtCast, LookAtInjector, BlockSelf, RelockOwn, UndoSleeping, WakeUp, UnlockOwn, LeaveSearch, JoinProbe, JoinPop, JoinTakeCast, GrowCall, LookQueue, PushJob, AddToFifo, TellNews, LockToWake, WakeWorker, UnlockWoken, WaitForLock, TakeResult, LowerCount, SetLatch, LockToSettle, WakeSettled, UnlockSettled, FirstSide, SecondSide, AtOnce, PushForAll, LowerForAll, GrowScope, OpenSlot, CloseSlot, StoreBody, StoreSlot, SetLockLatch, ScopeBody}
+use Rattle.rayon_machine_places.specs.declared.place.Place.TheVariants.{ProbeWorking, PopWorking, TakeCastWorking, BecomeInactive, ProbeIdle, PopIdle, TakeCastIdle, PickVictim, StealFrom, PopInjected, AnnounceSelf, GetSleepy, LockOwn, FallAsleep, LoadCounters, AddSleeping, LookAtCast, LookAtInjector, BlockSelf, RelockOwn, UndoSleeping, WakeUp, UnlockOwn, LeaveSearch, JoinProbe, JoinPop, JoinTakeCast, GrowCall, LookQueue, PushJob, AddToFifo, TellNews, LockToWake, WakeWorker, UnlockWoken, WaitForLock, TakeResult, LowerCount, SetLatch, LockToSettle, WakeSettled, UnlockSettled, FirstSide, SecondSide, AtOnce, PushForAll, LowerForAll, GrowScope, OpenSlot, CloseSlot, StoreBody, StoreSlot, SetLockLatch, ScopeBody, OpenForAll, CloseForAll, GrowCast, DealPieces, StorePiece}
 use Rattle.rayon_machine_places.specs.declared.state.Letter.TheVariants.{Set as IsSet}
 use Rattle.rayon_machine_places.specs.declared.state.Whereabouts.{Whereabouts}
 use Rattle.rayon_machine_places.specs.declared.state.Whereabouts.TheVariants.{InDeque, Injected, InFifo, Running, InCast}
@@ -30,6 +30,7 @@ share_target t (Answer o f) = one (t == o.job)
 abbrev pub share_rest : ℕ → Plan → ℕ
 share_rest t (Send o) = one (t == o.job)
 share_rest t (Fork o a) = one (t == o.job)
+share_rest t (Gather g) = one (t == g.call.job)
 share_rest t _ = 0
 
 -- what follows others' waking keeps the share of the call that goes on then
@@ -37,6 +38,7 @@ abbrev pub share_then : ℕ → Then → ℕ
 share_then t (BeginFound g u) = share_target t g
 share_then t (LeaveWait g) = share_target t g
 share_then t (Await o) = one (t == o.job)
+share_then t (Gathers o) = one (t == o.job)
 share_then t (RunFirst o a) = one (t == o.job)
 share_then t _ = 0
 
@@ -83,15 +85,20 @@ share t (WaitForLock o) = one (t == o.job)
 share t (TakeResult o f) = one (t == o.job)
 share t (GrowCall n) = one (t == plan_job n)
 share t (GrowScope o) = one (t == o.job)
-share t (OpenSlot e) = one (t == e.job)
-share t (CloseSlot e) = one (t == e.job)
+share t (OpenSlot n) = one (t == plan_job n)
+share t (CloseSlot n) = one (t == plan_job n)
 share t (StoreBody o e) = one (t == o.job)
 share t (StoreSlot c o u e) = one (t == u)
+share t (StorePiece c o u e) = one (t == u)
 share t (LookQueue n) = one (t == plan_job n)
 share t (PushJob n e) = one (t == plan_job n)
 share t (AddToFifo f) = one (t == f.job)
+share t (OpenForAll c) = one (is_piece c t)
 share t (PushForAll c) = one (is_piece c t)
+share t (CloseForAll c) = one (is_piece c t)
 share t (LowerForAll c) = one (is_piece c t)
+share t (GrowCast g) = one (t == g.call.job)
+share t (DealPieces g) = one (t == g.call.job)
 share t (TellNews n e) = share_rest t n
 share t (LockToWake k) = share_then t k.then
 share t (WakeWorker k) = share_then t k.then
@@ -117,14 +124,15 @@ shares t k = share t k.top + shares_in t k.below
 abbrev pub is_busy : Whereabouts → Bool
 is_busy (InDeque p i) = true
 is_busy (Injected p) = true
-is_busy (InFifo p i) = true
+is_busy (InFifo p i b7) = true
 is_busy (InCast p i) = true
 is_busy (Running q) = true
 is_busy _ = false
 
--- a job of this kind is of a scope
+-- a job of this kind has its share of a call's count: it is of a scope, or a piece of a broadcast that waits
 abbrev pub is_scoped : JobKind → Bool
 is_scoped (Scoped c o) = true
+is_scoped (PieceOf c o) = true
 is_scoped k = false
 
 -- a pool that has ended: its value is given up, and so is the value's share of the count; no call made at the pool

@@ -2,7 +2,7 @@
 ghost use Rattle.rayon_machine_places.specs.Runs.{Always};
 ghost use Rattle.rayon_machine_laws.specs.Committed.{CommittedHold, CommittedSleep, SleepersAreInactive};
 ghost use Rattle.rayon_machine_laws.specs.Counted.{ScopesCounted};
-ghost use Rattle.rayon_machine_laws.specs.Latch.{IsLatched};
+ghost use Rattle.rayon_machine_laws.specs.Latch.{IsGathered, IsLatched};
 ghost use Rattle.rayon_machine_laws.specs.Once.{IsBound, IsOnce, IsRedeemed};
 
 /// In every world of every run each number that was given out is a job or a token, and its record says where it is. Its
@@ -11,8 +11,9 @@ ghost use Rattle.rayon_machine_laws.specs.Once.{IsBound, IsOnce, IsRedeemed};
 /// else: in that worker's deque, in that worker's FIFO list, in that worker's broadcast list, in that pool's injector,
 /// or with that party, in its hand until its run begins and under its run from then on. One that is over, spent or
 /// handed back stands nowhere. So no job and no token is lost and none is doubled.
-/// No party that is to redeem a token finds the token's FIFO list empty (`redeemed`): the tokens of a list that are
-/// queued or in a hand are no more than the jobs that stand in it.
+/// A worker has one FIFO list for detached jobs, and one for each scope; a job stands in the one that its record names.
+/// No party that is to redeem a token finds the token's FIFO list empty (`redeemed`), be it a scope's or the one of
+/// detached jobs: the tokens of a list that are queued or in a hand are no more than the jobs that stand in it.
 /// Each piece of a broadcast is bound to one worker (`bound`): it stands in no list but that worker's broadcast list,
 /// and once it is taken with no party but that worker, in its hand or under its run.
 /// It does not say that a job ever runs.
@@ -23,16 +24,25 @@ pub fn law_once()
 {}
 
 /// In every world of every run the latch of a call is set only when the job that the call waits for is over, and the
-/// call's cell holds an ending only where that job ended so.
+/// call's cell holds an ending only where that job ended so. The latch of a scope is set only when the scope has ended:
+/// no job of it has a share of its count, is queued or runs. The latch of a broadcast that waits is set only when each
+/// piece of it is over, and its cell holds an ending only where a piece ended so.
+/// A broadcast whose latch is set keeps no fault exactly where each piece has ended without one, and else that of the
+/// lowest piece that ended with one; and its Take, which takes its cell, sees a fault exactly where one is kept
+/// (`gathered`).
 /// It does not say that a latch is ever set.
 pub fn law_latch()
-    ensures { Always IsLatched }
+    ensures latched { Always IsLatched }
+    ensures gathered { Always IsGathered }
 {}
 
-/// In every world of every run each scope's count is the number of its shares: 1 for its body, until the body is over,
-/// and 1 for each job of the scope with a share, which each has that is queued or runs. So a scope whose count is 0 has
-/// ended: its body is over, and no job of it is queued or runs.
-/// It does not say that a scope ever ends.
+/// In every world of every run each scope's count is the number of its shares: 1 for its body, at least until that is
+/// over, and 1 for each job of the scope with a share, which each has that is queued or runs. So a scope whose count is
+/// 0 has ended: its body is over, and no job of it is queued or runs. The jobs of a scope are those spawned into it, in
+/// order or not, and the pieces of broadcasts into it.
+/// The count of a broadcast that waits is the number of its pieces: until they are dealt so many shares wait in it, and
+/// from then on each piece has its own until it is over. So a broadcast whose count is 0 has ended: each piece is over.
+/// It does not say that a scope or a broadcast ever ends.
 pub fn law_scope()
     ensures { Always ScopesCounted }
 {}

@@ -1,5 +1,5 @@
 use Rattle.rayon_machine_laws.proofs.Bounds.{always_bound}
-use Rattle.rayon_machine_laws.proofs.PlacedRuns.{always_once}
+use Rattle.rayon_machine_laws.proofs.ClaimMakes.{always_once}
 use Rattle.rayon_machine_laws.proofs.Redeems.{always_stocks, redeems}
 use Rattle.rayon_machine_laws.proofs.laws.law_once.Goals as goal
 

@@ -1,7 +1,9 @@
 -- a job that has begun stays so: no step takes a begin back
+use Rattle.rayon_machine_places.specs.declared.place.Count.{Count}
+use Rattle.rayon_machine_places.specs.declared.place.Count.TheVariants.{OfPool, OfScope, OfCast}
 use Rattle.rayon_machine_places.specs.declared.place.Pieces.{Pieces}
 use Rattle.rayon_machine_places.specs.declared.place.Mark.{Mark as Marking}
-use Rattle.rayon_machine_places.specs.declared.place.Mark.TheVariants.{Counted, Queued, Returned}
+use Rattle.rayon_machine_places.specs.declared.place.Mark.TheVariants.{Counted, Queued, Returned, Numbered, Dealt, Unnumbered}
 use Rattle.std.proofs.Common.{rules, arith, refl, ap, subst}
 use Rattle.std.specs.Prelude.{ℕ, Bool, true, false, ◌+◌, ◌==◌, ◌≤◌, if◌then◌else◌, ◌≡◌, IfSome, ◌-◌, ◌&&◌}
 use Rattle.std.proofs.lemmas.Bool.{eqb-true}
@@ -10,21 +12,21 @@ use Rattle.rayon_machine_places.specs.declared.place.Party.TheVariants.{Worker, 
 use Rattle.rayon_machine_places.specs.declared.place.Ending.{Ending}
 use Rattle.rayon_machine_places.specs.declared.place.Latch.{Latch}
 use Rattle.rayon_machine_places.specs.declared.place.Latch.TheVariants.{Terminate, OfCall}
-use Rattle.rayon_machine_places.specs.declared.place.Plan.TheVariants.{Detach, Here, Send, Fork, Feed, Open, Enter}
+use Rattle.rayon_machine_places.specs.declared.place.Plan.TheVariants.{Detach, Here, Send, Fork, Feed, Open, Enter, Gather}
 use Rattle.rayon_machine_places.specs.declared.place.Place.{Place}
 use Rattle.rayon_machine_places.specs.declared.place.Place.TheVariants.{ProbeWorking, PickVictim, StealFrom, YieldPop, YieldPick, YieldSteal, LocalPop, Run, SetLatch}
 use Rattle.rayon_machine_places.specs.declared.place.Move.{Move}
 use Rattle.rayon_machine_places.specs.declared.place.Move.TheVariants.{Stay, Enter, StartRun, Back, HandBack, Discard, HandIn, Mark, HandAllBack}
 use Rattle.rayon_machine_places.specs.declared.act.Act.TheVariants.{Set}
 use Rattle.rayon_machine_places.specs.declared.event.Event.{Event}
-use Rattle.rayon_machine_places.specs.declared.event.Event.TheVariants.{Go, From, Refuse, Miss, End, Spawn, Fifo, Install, Join, Yield, YieldLocal, EndPool, Cast, Scope as OpenScope, IntoSpawn}
+use Rattle.rayon_machine_places.specs.declared.event.Event.TheVariants.{Go, From, Refuse, Miss, End, Spawn, Fifo, Install, Join, Yield, YieldLocal, EndPool, Cast, Scope as OpenScope, IntoSpawn, IntoFifo, IntoCast, Broadcast}
 use Rattle.rayon_machine_places.specs.declared.state.Whereabouts.TheVariants.{HandedBack, Spent, Over}
 use Rattle.rayon_machine_places.specs.declared.state.Job.{Job}
 use Rattle.rayon_machine_places.specs.Places.{act_of, is_free, is_member}
 use Rattle.rayon_machine_places.specs.World.{Shape, Stack, World, Counts, Part, at_job, begun, effect, target_pool, target_worker, target_call}
-use Rattle.rayon_machine_places.specs.Steps.{put, jobs_after, after_choice, after_miss, after_end, after_send, after_join, after_yield, step, mark_pieces, marked, after_cast, new_piece, is_piece, is_pool}
+use Rattle.rayon_machine_places.specs.Steps.{put, jobs_after, after_choice, after_miss, after_end, after_send, after_join, after_yield, step, mark_pieces, marked, put_pieces, after_cast, after_gather, new_piece, new_whole, is_piece, is_pool}
 use Rattle.rayon_machine_laws.proofs.Calm.{part_at, counts_seen, next_at}
-use Rattle.rayon_machine_laws.proofs.Frame.{if_some_map, if_cond, acted_keeps, fifo_cases, pieces_same, piece_range, into_cases}
+use Rattle.rayon_machine_laws.proofs.Frame.{if_some_map, if_cond, acted_keeps, fifo_cases, pieces_same, piece_range, into_cases, into_fifo_cases, into_cast_cases}
 use Rattle.rayon_machine_laws.proofs.Located.{fits}
 use Rattle.rayon_machine_laws.proofs.PlacedRuns.{JobsHold}
 use Rattle.rayon_machine_laws.proofs.Ties.{job_at, outcome, result}
@@ -61,6 +63,9 @@ marked_runs : (k : Marking) (p i : ℕ) (j : Job) → (marked k p i j).runs ≡ 
 marked_runs Counted p i j = refl
 marked_runs Queued p i j = refl
 marked_runs Returned p i j = refl
+marked_runs (Numbered n) p i j = refl
+marked_runs Dealt p i j = refl
+marked_runs Unnumbered p i j = refl
 
 after_runs : (q : Party) (g : Move) (f : ℕ → Job) (t : ℕ) → (f t).runs ≤ (jobs_after q g f t).runs
 after_runs q (Stay y) f t = omega arith
@@ -78,6 +83,7 @@ after_runs q (HandBack (Send o)) f t = put_runs f o.job (at_job (f o.job) Handed
 after_runs q (HandBack (Open o)) f t = put_runs f o.job (at_job (f o.job) HandedBack) (omega arith) t
 after_runs q (HandBack (Enter o)) f t = put_runs f o.job (at_job (f o.job) HandedBack) (omega arith) t
 after_runs q (HandBack (Fork o u)) f t = two_back f u o.job t
+after_runs q (HandBack (Gather g)) f t = let a : (mark_pieces g.pieces Returned f t).runs ≡ (f t).runs = pieces_same (λ j. j.runs) g.pieces (marked Returned g.pieces.pool) f t (marked_runs Returned g.pieces.pool) in omega (arith, a)
 
 go_runs : (w : World) (q : Party) → IfSome (outcome w q (w.stack q)) (λ r. BeginsOn w (result w q (w.stack q) r))
 go_runs w q =
@@ -128,15 +134,27 @@ yield_runs : (w : World) (q : Party) (x : Place) → IfSome (after_yield w q (w.
 yield_runs w (Worker a b) x = if_cond (BeginsOn w) _ _ (λ b t. omega arith)
 yield_runs w (Caller n) x = tt
 
-cast_runs : (w : World) (q : Party) (p : ℕ) → JobsHold w → IfSome (after_cast w q p (w.stack q)) (BeginsOn w)
-cast_runs w q p h = if_cond (BeginsOn w) (is_free ((w.stack q).top) && is_pool w.shape p) _ (λ b t. at t (is_piece c t) refl)
+-- the pieces of a broadcast
+deal_runs : (w : World) (q : Party) (k : Count) (p : ℕ) (c : Pieces) → c.first ≡ w.jobs → JobsHold w → (t : ℕ) → (w.job t).runs ≤ (put_pieces c (λ i j. new_piece q k p i) w.job t).runs
+deal_runs w q k p c is h t = at (is_piece c t) refl
+  where
+    at : (b : Bool) → is_piece c t ≡ b → (w.job t).runs ≤ (if b then new_piece q k p (t - c.first) else w.job t).runs
+    at true e = let l : c.first ≤ t = (piece_range c t e).0 in let z : (w.job t).runs ≡ 0 = unmade_runs w h t (omega (arith, is, l)) in omega (arith, z)
+    at false e = omega arith
+
+-- and the number that stands for it
+gather_runs : (w : World) (q : Party) (p : ℕ) → JobsHold w → BeginsOn w (after_gather w q p (w.stack q))
+gather_runs w q p h t = at (t == (w.jobs + c.workers)) refl
   where
     c : Pieces
-    c = record { pool = p; first = w.jobs; workers = (w.shape.pool p).workers }
+    c = record { count = OfCast w.calls q; pool = p; first = w.jobs; workers = (w.shape.pool p).workers }
 
-    at : (t : ℕ) (b : Bool) → is_piece c t ≡ b → (w.job t).runs ≤ (if b then new_piece q p (t - c.first) else w.job t).runs
-    at t true e = let z : (w.job t).runs ≡ 0 = unmade_runs w h t ((piece_range c t e).0) in omega (arith, z)
-    at t false e = omega arith
+    at : (b : Bool) → (t == (w.jobs + c.workers)) ≡ b → (w.job t).runs ≤ (if b then new_whole q p w.calls else put_pieces c (λ i j. new_piece q c.count p i) w.job t).runs
+    at true e = let l : t ≡ w.jobs + c.workers = eqb-true t (w.jobs + c.workers) e in let z : (w.job t).runs ≡ 0 = unmade_runs w h t (omega (arith, l)) in omega (arith, z)
+    at false e = deal_runs w q c.count p c refl h t
+
+cast_runs : (w : World) (q : Party) (p : ℕ) → JobsHold w → IfSome (after_cast w q p (w.stack q)) (BeginsOn w)
+cast_runs w q p h = if_cond (BeginsOn w) (is_free ((w.stack q).top) && is_pool w.shape p) _ (λ b. deal_runs w q (OfPool p) p (record { count = OfPool p; pool = p; first = w.jobs; workers = (w.shape.pool p).workers }) refl h)
 
 pub step_runs : (w : World) (e : Event) → JobsHold w → IfSome (step w e) (BeginsOn w)
 step_runs w (Go q) h = acted_keeps w q (w.stack q) (target_pool q (act_of q (w.stack q).top)) (target_worker q (act_of q (w.stack q).top)) (target_call (act_of q (w.stack q).top)) (job_at w q (act_of q (w.stack q).top)) (outcome w q (w.stack q)) (BeginsOn w) (go_runs w q)
@@ -151,6 +169,9 @@ step_runs w (Install q p) h = if_cond (BeginsOn w) _ _ (λ b. sent_runs w q p (i
 step_runs w (Join q) h = join_runs w q h
 step_runs w (OpenScope q p) h = if_cond (BeginsOn w) _ _ (λ b t. make_runs w h w.jobs _ (omega arith) t)
 step_runs w (IntoSpawn q n) h = into_cases (BeginsOn w) w q n (λ z e free held. if_cond (BeginsOn w) _ _ (λ b t. make_runs w h w.jobs _ (omega arith) t))
+step_runs w (IntoFifo q n) h = into_fifo_cases (BeginsOn w) w q n (λ z e free held. if_cond (BeginsOn w) _ _ (λ b t. make_runs w h w.jobs _ (omega arith) t)) (λ z i e free held t. two_runs w h _ _ t)
+step_runs w (IntoCast q n) h = into_cast_cases (BeginsOn w) w q n (λ z e free held. deal_runs w q (OfScope z.call z.owner) z.pool (record { count = OfScope z.call z.owner; pool = z.pool; first = w.jobs; workers = (w.shape.pool z.pool).workers }) refl h)
+step_runs w (Broadcast q p) h = if_cond (BeginsOn w) (is_free ((w.stack q).top) && is_pool w.shape p) _ (λ b. gather_runs w q p h)
 step_runs w (Yield q) h = yield_runs w q YieldPop
 step_runs w (YieldLocal q) h = yield_runs w q LocalPop
 step_runs w (EndPool q p) h = if_cond (BeginsOn w) _ _ (λ b t. omega arith)

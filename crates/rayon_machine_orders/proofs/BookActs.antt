@@ -1,307 +1,59 @@
 -- what each act leaves of the books: which places lead to which, and what the acts on a book do
 use Rattle.std.proofs.Common.{rules, arith, refl, sym, ◌∙◌, ap, subst, inl, inr}
 use Rattle.std.proofs.lemmas.Bool.{eqb-true}
-use Rattle.std.specs.Prelude.{ℕ, Bool, true, false, ◌&&◌, ◌+◌, ◌-◌, ◌==◌, ◌≤◌, nat_lt, if◌then◌else◌, Some, None, List, ◌≡◌, IfSome}
+use Rattle.std.specs.Prelude.{ℕ, Bool, true, false, ◌&&◌, ◌+◌, ◌-◌, ◌==◌, ◌≤◌, if◌then◌else◌, Option, Some, None, List, ◌≡◌, ◌⊎◌, IfSome}
 use Rattle.rayon_machine_places.specs.declared.place.Party.{Party}
 use Rattle.rayon_machine_places.specs.declared.place.Party.TheVariants.{Worker, Caller}
-use Rattle.rayon_machine_places.specs.declared.place.JobKind.TheVariants.{Detached, Scoped}
-use Rattle.rayon_machine_places.specs.declared.place.Target.{Target}
-use Rattle.rayon_machine_places.specs.declared.place.Target.TheVariants.{Termination, Answer}
+use Rattle.rayon_machine_places.specs.declared.place.JobKind.TheVariants.{Detached, Scoped, PieceOf}
 use Rattle.rayon_machine_places.specs.declared.place.Latch.{Latch}
 use Rattle.rayon_machine_places.specs.declared.place.Latch.TheVariants.{Terminate, OfCall}
-use Rattle.rayon_machine_places.specs.declared.place.Rounds.{Rounds}
-use Rattle.rayon_machine_places.specs.declared.place.Rounds.TheVariants.{Failed, Announced}
 use Rattle.rayon_machine_places.specs.declared.place.Plan.{Plan}
-use Rattle.rayon_machine_places.specs.declared.place.Plan.TheVariants.{Detach, Here, Send, Fork, Feed, Open, Enter}
-use Rattle.rayon_machine_places.specs.declared.place.Entry.{Entry}
+use Rattle.rayon_machine_places.specs.declared.place.Plan.TheVariants.{Detach, Here, Send, Fork, Feed, Open, Enter, Gather}
+use Rattle.rayon_machine_places.specs.declared.place.Feeding.{Feeding}
+use Rattle.rayon_machine_places.specs.declared.place.Gathering.{Gathering}
 use Rattle.rayon_machine_places.specs.declared.place.Pieces.{Pieces}
-use Rattle.rayon_machine_places.specs.declared.place.Mark.{Mark as Marking}
-use Rattle.rayon_machine_places.specs.declared.place.Mark.TheVariants.{Counted, Queued, Returned}
+use Rattle.rayon_machine_places.specs.declared.place.Mark.TheVariants.{Counted, Numbered, Queued, Dealt, Unnumbered, Returned}
 use Rattle.rayon_machine_places.specs.declared.place.Count.{Count}
-use Rattle.rayon_machine_places.specs.declared.place.Count.TheVariants.{OfPool, OfScope}
-use Rattle.rayon_machine_places.specs.declared.place.Share.{Share}
+use Rattle.rayon_machine_places.specs.declared.place.Count.TheVariants.{OfPool, OfScope, OfCast}
 use Rattle.rayon_machine_places.specs.declared.place.Share.TheVariants.{OfJob}
 use Rattle.rayon_machine_places.specs.declared.place.Then.{Then}
-use Rattle.rayon_machine_places.specs.declared.place.Then.TheVariants.{BeginFound, LeaveWait, Resume, Await, RunFirst, Answers, Missing, Ran, GiveBack, Called}
-use Rattle.rayon_machine_places.specs.declared.place.Taken.{Taken}
-use Rattle.rayon_machine_places.specs.declared.place.Taken.TheVariants.{Plain, Token}
-use Rattle.rayon_machine_places.specs.declared.place.Wait.{Wait}
-use Rattle.rayon_machine_places.specs.declared.place.Settling.{Settling}
-use Rattle.rayon_machine_places.specs.declared.place.OpenCall.{OpenCall}
+use Rattle.rayon_machine_places.specs.declared.place.Taken.TheVariants.{Plain}
 use Rattle.rayon_machine_places.specs.declared.place.Place.{Place}
-use Rattle.rayon_machine_places.specs.declared.place.Place.TheVariants.{ProbeWorking, PopWorking, TakeCastWorking, ProbeIdle, PopIdle, TakeCastIdle, PickVictim, StealFrom, PopInjected, AnnounceSelf, GetSleepy, FallAsleep, LoadCounters, AddSleeping, LookAtCast, LookAtInjector, WakeUp, LeaveSearch, JoinProbe, JoinPop, JoinTakeCast, YieldPop, YieldTakeCast, YieldPick, YieldSteal, YieldPopInjected, LocalPop, LocalTakeCast, BeginTask, BeginHere, Run, RaiseCount, GrowCall, LookQueue, PushJob, TellNews, LockToWake, WakeWorker, UnlockWoken, TakeResult, LowerCount, StoreResult, SetLatch, UnlockSettled, SetLockLatch, FirstSide, SecondSide, AtOnce, Free, Stopped, AddToFifo, LookForToken, PushToken, TakeFromFifo, RaiseForAll, PushForAll, LowerForAll, GrowScope, OpenSlot, CloseSlot, StoreSlot, ScopeBody}
+use Rattle.rayon_machine_places.specs.declared.place.Place.TheVariants.{ProbeWorking, GetSleepy, FallAsleep, WakeUp, RaiseCount, LookQueue, PushJob, LowerCount, SetLatch, AddToFifo, LookForToken, PushToken, TakeFromFifo, RaiseForAll, PushForAll, LowerForAll, OpenSlot, CloseSlot, StoreSlot, OpenForAll, CloseForAll, DealPieces, StorePiece}
 use Rattle.rayon_machine_places.specs.declared.place.Move.{Move}
-use Rattle.rayon_machine_places.specs.declared.place.Move.TheVariants.{Stay, Enter, Mark, HandBack, HandAllBack}
+use Rattle.rayon_machine_places.specs.declared.place.Move.TheVariants.{Enter, Mark, HandBack, HandAllBack}
 use Rattle.rayon_machine_places.specs.declared.act.Act.TheVariants.{PushOwn, PushInj}
 use Rattle.rayon_machine_places.specs.declared.act.Seen.{Seen}
-use Rattle.rayon_machine_places.specs.declared.act.Seen.TheVariants.{Done, Refused, Yes, Task, Jec, Word, Start, Wakes, Begun, Found, Handed}
+use Rattle.rayon_machine_places.specs.declared.act.Seen.TheVariants.{Done, Refused, Yes, Task}
 use Rattle.rayon_machine_places.specs.declared.shape.PoolShape.{PoolShape}
 use Rattle.rayon_machine_places.specs.declared.state.Letter.{Letter}
 use Rattle.rayon_machine_places.specs.declared.state.Letter.TheVariants.{Set as IsSet}
 use Rattle.rayon_machine_places.specs.declared.state.Job.{Job}
 use Rattle.rayon_machine_places.specs.declared.state.Slot.TheVariants.{Closed}
-use Rattle.rayon_machine_places.specs.Places.{own_pool, own_index, plan_pool, plan_job, plan_count, plan_book, is_member, latch_of, after_wait, finish, walk, settle, after_set, after_found, after_news, after_raise, undo, after_push, set_call, settle_count, next_victim, not_self, after_failure, next_steal, next_yield, act_of, next_of, is_taken}
-use Rattle.rayon_machine_places.specs.World.{Shape, Counts, World, Part, counts_at, count_in, target_pool, target_call, letter, with_letter, raised, effect}
-use Rattle.rayon_machine_places.specs.Steps.{put, after_move, jobs_after, is_piece, marked}
+use Rattle.rayon_machine_places.specs.declared.state.Whereabouts.TheVariants.{Over}
+use Rattle.rayon_machine_places.specs.declared.place.Ending.{Ending}
+use Rattle.rayon_machine_places.specs.Places.{plan_pool, plan_job, plan_count, plan_book, is_member, latch_of, act_of, next_of, count_book, count_kind, withdraw, begin_feed, begin_cast}
+use Rattle.rayon_machine_places.specs.World.{Shape, Counts, World, Part, counts_at, count_in, target_pool, target_call, letter, with_letter, raised, effect, left_book, last_of, is_open, fifo_back}
+use Rattle.rayon_machine_places.specs.Steps.{put, after_move, jobs_after, is_piece, marked, holds_in}
 use Rattle.rayon_machine_laws.specs.Once.{one}
 use Rattle.rayon_machine_laws.specs.Shares.{is_busy}
-use Rattle.rayon_machine_laws.proofs.Frame.{either, if_some_map, put_same, after_part, MarksKeep, stack_mine, stack_other}
+use Rattle.rayon_machine_laws.proofs.Frame.{either, if_some_map, if_some_and, if_cond, put_same, put_old, after_part, MarksKeep, stack_mine, stack_other, piece_old}
 use Rattle.rayon_machine_laws.proofs.Ties.{AllFrames, job_at, outcome}
-use Rattle.rayon_machine_laws.proofs.Tops.{Tops, top_after}
-use Rattle.rayon_machine_laws.proofs.Seats.{is_frame}
+use Rattle.rayon_machine_laws.proofs.Tops.{top_after}
 use Rattle.rayon_machine_laws.proofs.Letters.{sleepy_keeps, asleep_keeps, wake_keeps, set_keeps}
-use Rattle.rayon_machine_laws.proofs.Claims.{is_detached, SaysPieces, SaysThen, SaysShare, Says}
+use Rattle.rayon_machine_laws.proofs.Claims.{is_detached, is_part, SaysThen, SaysShare, SaysGather, Says}
 use Rattle.rayon_machine_laws.proofs.ClaimRuns.{CallsHold, top_says, place_part, world_after}
 use Rattle.rayon_machine_laws.proofs.Amounts.{pushed}
-use Rattle.rayon_machine_laws.proofs.ShareActs.{with_job}
+use Rattle.rayon_machine_laws.proofs.ShareActs.{with_job, one_is}
+use Rattle.rayon_machine_laws.proofs.Feeders.{FeedersHold, waits}
 use Rattle.rayon_machine_laws.specs.Counted.{is_scoped}
 use Rattle.rayon_machine_laws.proofs.ShareLowers.{owner_unscoped}
 use Rattle.rayon_machine_laws.proofs.ShareSteps.{Ready, stack_after}
-use Rattle.rayon_machine_orders.proofs.Early.{EarlyHold, NotGiven, Stays}
-use Rattle.rayon_machine_orders.proofs.Books.{is_unfilled, writes, book_free, Written, AtBook, free_at, free_writes, free_enters, written_kept, BooksHold, quiet_books}
-
--- a move to places that say nothing of a book
-abbrev pub Clear : Move → Type 0
-Clear g = Tops (λ y. book_free y ≡ true) g
-
-left_free : (g : Target) → book_free (after_wait g) ≡ true
-left_free Termination = refl
-left_free (Answer o f) = refl
-
-finish_free : (q : Party) (n : Then) → Clear (finish q n)
-finish_free q (BeginFound g t) = refl
-finish_free q (LeaveWait g) = left_free g
-finish_free q Resume = tt
-finish_free q Called = tt
-finish_free (Worker a b) (Await o) = refl
-finish_free (Caller c) (Await o) = refl
-finish_free q (RunFirst o a) = refl
-finish_free q (Answers o f e) = tt
-finish_free q (Missing o f) = tt
-finish_free q (Ran t e) = tt
-finish_free q (GiveBack n) = tt
-
-walk_free : (g : PoolShape) (q : Party) (p k i : ℕ) (n : Then) → Clear (walk g q p k i n)
-walk_free g q p k i n = by (nat_lt 0 k && nat_lt i g.workers)
-  where
-    by : (z : Bool) → Clear (if z then Stay (LockToWake (record { pool = p; owed = k; worker = i; then = n })) else finish q n)
-    by true = refl
-    by false = finish_free q n
-
-settle_free : (g : PoolShape) (q : Party) (p i : ℕ) (n : Then) → Clear (settle g q p i n)
-settle_free g q p i n = by (nat_lt i g.workers)
-  where
-    by : (z : Bool) → Clear (if z then Stay (SetLatch (record { latch = Terminate; pool = p; worker = i; then = n })) else finish q n)
-    by true = refl
-    by false = finish_free q n
-
-settled_free : (g : PoolShape) (q : Party) (k : Settling) (l : Latch) → Clear (after_set g q k l)
-settled_free g q k Terminate = settle_free g q k.pool (k.worker + 1) k.then
-settled_free g q k (OfCall i) = finish_free q k.then
-
-if_free : (x y : Place) (z : Bool) → book_free x ≡ true → book_free y ≡ true → Clear (if z then Stay x else Stay y)
-if_free x y true a b = a
-if_free x y false a b = b
-
-pop_free : (o : OpenCall) (u : Taken) → Clear (if is_taken u o.job then Enter (SecondSide o) (BeginHere o.job) else Enter (JoinProbe o) (BeginTask u))
-pop_free o u = by (is_taken u o.job)
-  where
-    by : (z : Bool) → Clear (if z then Enter (SecondSide o) (BeginHere o.job) else Enter (JoinProbe o) (BeginTask u))
-    by true = refl
-    by false = refl
-
-pub steal_free : (g : PoolShape) (q : Party) (k : Wait) (n : ℕ) → book_free (next_steal g q k n) ≡ true
-steal_free g q k n = by (n == 0)
-  where
-    by : (z : Bool) → book_free (if z then PopInjected k else StealFrom (record k { victim = not_self g.workers (own_index q) (next_victim g.workers k.victim) }) (n - 1)) ≡ true
-    by true = refl
-    by false = refl
-
-pub yield_free : (g : PoolShape) (q : Party) (v n : ℕ) → book_free (next_yield g q v n) ≡ true
-yield_free g q v n = by (n == 0)
-  where
-    by : (z : Bool) → book_free (if z then YieldPopInjected else YieldSteal (not_self g.workers (own_index q) (next_victim g.workers v)) (n - 1)) ≡ true
-    by true = refl
-    by false = refl
-
-failed_free : (g : PoolShape) (k : Wait) (r : Rounds) → book_free (after_failure g k r) ≡ true
-failed_free g k (Failed n) = by (nat_lt n g.limit)
-  where
-    by : (z : Bool) → book_free (if z then ProbeIdle (record k { rounds = Failed (n + 1) }) else AnnounceSelf k) ≡ true
-    by true = refl
-    by false = refl
-failed_free g k Announced = refl
-
-call_free : (c : ℕ) (o : Party) (n : Then) → book_free (set_call c o n) ≡ true
-call_free c (Worker a b) n = refl
-call_free c (Caller m) n = refl
-
-count_free : (g : PoolShape) (q : Party) (k : Count) (n : Then) → Clear (settle_count g q k n)
-count_free g q (OfPool p) n = settle_free g q p 0 n
-count_free g q (OfScope c o) n = call_free c o n
-
-pub lower_clear : (g : PoolShape) (q : Party) (k : Count) (a : Share) (n : Then) (e : Seen) → Clear (next_of g q (LowerCount k a n) e)
-lower_clear g q k a n Yes = count_free g q k n
-lower_clear g q k a n _ = finish_free q n
-
-raised_free : (n : Plan) → book_free (RaiseCount n) ≡ true → Clear (after_raise n)
-raised_free (Detach p t) z = refl
-raised_free (Here p t) z = refl
-raised_free (Send o) z = refl
-raised_free (Fork o a) z = refl
-raised_free (Feed f) z = refl
-raised_free (Open o) z = refl
-raised_free (Enter e) z = cc
-
-grown_free : (n : Plan) → book_free (GrowCall n) ≡ true → book_free (LookQueue n) ≡ true
-grown_free (Detach p t) z = refl
-grown_free (Here p t) z = refl
-grown_free (Send o) z = refl
-grown_free (Fork o a) z = refl
-grown_free (Feed f) z = refl
-grown_free (Open o) z = refl
-grown_free (Enter e) z = cc
-
-pub undo_free : (n : Plan) → book_free (GrowCall n) ≡ true → book_free (undo n) ≡ true
-undo_free (Detach p t) z = refl
-undo_free (Here p t) z = refl
-undo_free (Send o) z = refl
-undo_free (Fork o a) z = refl
-undo_free (Feed f) z = refl
-undo_free (Open o) z = refl
-undo_free (Enter e) z = cc
-
-looked_free : (n : Plan) (v : Bool) → book_free (LookQueue n) ≡ true → book_free (PushJob n v) ≡ true
-looked_free (Detach p t) v z = refl
-looked_free (Here p t) v z = refl
-looked_free (Send o) v z = refl
-looked_free (Fork o a) v z = refl
-looked_free (Feed f) v z = refl
-looked_free (Open o) v z = refl
-looked_free (Enter e) v z = cc
-
-pub unpushed_free : (n : Plan) (v : Bool) → book_free (PushJob n v) ≡ true → book_free (after_push n) ≡ true
-unpushed_free (Detach p t) v z = refl
-unpushed_free (Here p t) v z = refl
-unpushed_free (Send o) v z = refl
-unpushed_free (Fork o a) v z = refl
-unpushed_free (Feed f) v z = refl
-unpushed_free (Open o) v z = refl
-unpushed_free (Enter e) v z = cc
-
--- over the whole table: from such a place only to such places
-pub book_next : (g : PoolShape) (q : Party) (x : Place) (e : Seen) → book_free x ≡ true → Clear (next_of g q x e)
-book_next g q (ProbeWorking k) Yes z = left_free k.target
-book_next g q (ProbeWorking k) _ z = refl
-book_next g q (PopWorking k) (Task u) z = refl
-book_next g q (PopWorking k) _ z = refl
-book_next g q (TakeCastWorking k) (Task u) z = refl
-book_next g q (TakeCastWorking k) _ z = refl
-book_next g q (ProbeIdle k) Yes z = refl
-book_next g q (ProbeIdle k) _ z = refl
-book_next g q (PopIdle k) (Task u) z = refl
-book_next g q (PopIdle k) _ z = refl
-book_next g q (TakeCastIdle k) (Task u) z = refl
-book_next g q (TakeCastIdle k) _ z = if_free (PopInjected k) (PickVictim k) (g.workers == 1) refl refl
-book_next g q (PickVictim k) (Start v) z = refl
-book_next g q (PickVictim k) _ z = refl
-book_next g q (StealFrom k n) (Task u) z = refl
-book_next g q (StealFrom k n) _ z = steal_free g q k n
-book_next g q (PopInjected k) (Task u) z = refl
-book_next g q (PopInjected k) _ z = failed_free g k k.rounds
-book_next g q (AnnounceSelf k) (Jec j) z = refl
-book_next g q (AnnounceSelf k) _ z = refl
-book_next g q (GetSleepy k) Done z = refl
-book_next g q (GetSleepy k) _ z = refl
-book_next g q (FallAsleep k) Done z = refl
-book_next g q (FallAsleep k) _ z = refl
-book_next g q (AddSleeping k) Done z = refl
-book_next g q (AddSleeping k) _ z = refl
-book_next g q (LookAtCast k) Yes z = refl
-book_next g q (LookAtCast k) _ z = refl
-book_next g q (LookAtInjector k) Yes z = refl
-book_next g q (LookAtInjector k) _ z = refl
-book_next g q (LoadCounters k) (Word a1 b1 j) z = if_free (AddSleeping (record k { sleeping = a1; inactive = b1 })) (WakeUp (record k { rounds = Failed g.limit })) (j == k.kept) refl refl
-book_next g q (LoadCounters k) _ z = refl
-book_next g q (LeaveSearch k) (Wakes n) z = walk_free g q (own_pool q) n 0 (after_found k.target k.found)
-book_next g q (LeaveSearch k) _ z = refl
-book_next g q (JoinProbe o) Yes z = refl
-book_next g q (JoinProbe o) _ z = refl
-book_next g q (JoinPop o) (Task u) z = pop_free o u
-book_next g q (JoinPop o) _ z = refl
-book_next g q (JoinTakeCast o) (Task u) z = refl
-book_next g q (JoinTakeCast o) _ z = refl
-book_next g q YieldPop (Task u) z = refl
-book_next g q YieldPop _ z = refl
-book_next g q YieldPopInjected (Task u) z = refl
-book_next g q YieldPopInjected _ z = tt
-book_next g q LocalPop (Task u) z = refl
-book_next g q LocalPop _ z = refl
-book_next g q LocalTakeCast (Task u) z = refl
-book_next g q LocalTakeCast _ z = tt
-book_next g q YieldTakeCast (Task u) z = refl
-book_next g q YieldTakeCast _ z = if_free YieldPopInjected YieldPick (g.workers == 1) refl refl
-book_next g q YieldPick (Start v) z = refl
-book_next g q YieldPick _ z = refl
-book_next g q (YieldSteal v n) (Task u) z = refl
-book_next g q (YieldSteal v n) _ z = yield_free g q v n
-book_next g q (BeginTask (Plain u)) (Begun d) z = refl
-book_next g q (BeginTask (Plain u)) _ z = refl
-book_next g q (BeginTask (Token k i)) (Handed u d) z = refl
-book_next g q (BeginTask (Token k i)) _ z = tt
-book_next g q (AddToFifo f) Done z = refl
-book_next g q (AddToFifo f) _ z = refl
-book_next g q (LookForToken f) Yes z = refl
-book_next g q (LookForToken f) _ z = refl
-book_next g q (PushToken f v) Done z = refl
-book_next g q (PushToken f v) _ z = refl
-book_next g q (TakeFromFifo f) (Task x) z = refl
-book_next g q (TakeFromFifo f) _ z = tt
-book_next g q (RaiseForAll b) Done z = refl
-book_next g q (RaiseForAll b) _ z = tt
-book_next g q (PushForAll b) Done z = refl
-book_next g q (PushForAll b) _ z = refl
-book_next g q (LowerForAll b) Yes z = refl
-book_next g q (LowerForAll b) _ z = tt
-book_next g q (TellNews n v) (Wakes k) z = walk_free g q (plan_pool n) k 0 (after_news n)
-book_next g q (TellNews n v) _ z = refl
-book_next g q (WakeWorker k) Yes z = refl
-book_next g q (WakeWorker k) _ z = refl
-book_next g q (UnlockWoken k) e z = walk_free g q k.pool k.owed (k.worker + 1) k.then
-book_next g q (TakeResult o f) (Found d) z = refl
-book_next g q (TakeResult o f) _ z = refl
-book_next g q (StoreResult i o d) e z = call_free i o Resume
-book_next g q (SetLatch k) Yes z = refl
-book_next g q (SetLatch k) _ z = settled_free g q k k.latch
-book_next g q (UnlockSettled k) e z = settled_free g q k k.latch
-book_next g q (SetLockLatch c n) e z = finish_free q n
-book_next g q (GrowScope o) Done z = refl
-book_next g q (GrowScope o) _ z = refl
-book_next g q (RaiseCount n) Done z = raised_free n z
-book_next g q (RaiseCount n) _ z = tt
-book_next g q (GrowCall n) Done z = grown_free n z
-book_next g q (GrowCall n) _ z = undo_free n z
-book_next g q (LookQueue n) Yes z = looked_free n true z
-book_next g q (LookQueue n) _ z = looked_free n false z
-book_next g q (PushJob n v) Done z = refl
-book_next g q (PushJob n v) _ z = unpushed_free n v z
-book_next g q (OpenSlot x) e z = cc
-book_next g q (CloseSlot x) e z = cc
-book_next g q (StoreSlot c o t d) e z = cc
-book_next g q (LowerCount k a n) e z = lower_clear g q k a n e
-book_next g q _ e z = refl
-
-pub frame_clear : (f : Place) → is_frame f ≡ true → book_free f ≡ true
-frame_clear (ProbeWorking k) e = refl
-frame_clear (JoinProbe o) e = refl
-frame_clear (FirstSide o a) e = refl
-frame_clear (SecondSide o) e = refl
-frame_clear (ScopeBody o) e = refl
-frame_clear (AtOnce p t) e = refl
-frame_clear (Run t k) e = refl
-frame_clear Free e = refl
-frame_clear Stopped e = refl
-frame_clear _ e = cc
+use Rattle.rayon_machine_orders.proofs.EarlyActs.{NotGiven, Stays}
+use Rattle.rayon_machine_orders.proofs.EarlyStates.{EarlyHold}
+use Rattle.rayon_machine_orders.proofs.Books.{is_unfilled, writes, book_of, AtBook, AtState, IsWorker, raising, BooksHold, quiet_books}
+use Rattle.rayon_machine_orders.proofs.BookStates.{is_nothing, scope_count, fresh_state, open_state, hold_state, line_state, close_state, shut_state, fresh_all, open_all, hold_all, shut_all, book_free, holds_book, free_at, free_writes, free_raising, at_kept}
+use Rattle.rayon_machine_orders.proofs.BookMoves.{Clear, lower_clear, lower_all_clear, plan_book_is, open_not, close_not, open_all_not, close_all_not, book_next, frame_clear, is_numbering, is_numbered, numbers_next}
 
 -- an act that leaves the book that it touches, and the number of its job
 pub record Unbooked (m : Part) (r : Seen × Part) : Type 0 where
@@ -310,19 +62,63 @@ pub record Unbooked (m : Part) (r : Seen × Part) : Type 0 where
   pub slots : r.1.call.slots ≡ m.call.slots
 
 -- the places whose acts do not
+abbrev pub is_scope : Count → Bool
+is_scope (OfScope c o) = true
+is_scope (OfPool p) = false
+is_scope (OfCast c o) = false
+
 abbrev pub is_booking : Place → Bool
-is_booking (OpenSlot e) = true
-is_booking (CloseSlot e) = true
+is_booking (OpenSlot n) = true
+is_booking (CloseSlot n) = true
 is_booking (StoreSlot c o t e) = true
-is_booking (PushJob (Enter e) v) = true
+is_booking (StorePiece c o t e) = true
+is_booking (PushJob n v) = is_scope (plan_count n)
+is_booking (PushToken f v) = is_scope f.count
+is_booking (OpenForAll b) = true
+is_booking (CloseForAll b) = true
+is_booking (PushForAll b) = is_scope b.count
+is_booking (DealPieces g) = is_scope (g.pieces).count
 is_booking _ = false
 
-pub free_booking : (x : Place) → book_free x ≡ true → is_booking x ≡ false
-free_booking (OpenSlot e) z = cc
-free_booking (CloseSlot e) z = cc
-free_booking (StoreSlot c o t e) z = cc
-free_booking (PushJob (Enter e) v) z = cc
-free_booking _ z = refl
+-- two that say nothing of a scope's book all the same: the end of a piece, and the push of a broadcast that waits
+abbrev pub is_aside : Place → Bool
+is_aside (StorePiece c o t e) = true
+is_aside (DealPieces g) = true
+is_aside _ = false
+
+hold_scope : (k : Count) (t : ℕ) → is_nothing (hold_state k t) ≡ true → is_scope k ≡ false
+hold_scope (OfPool p) t z = refl
+hold_scope (OfScope c o) t z = cc
+hold_scope (OfCast c o) t z = refl
+
+line_scope : (k : Count) (t : ℕ) → is_nothing (line_state k t) ≡ true → is_scope k ≡ false
+line_scope (OfPool p) t z = refl
+line_scope (OfScope c o) t z = cc
+line_scope (OfCast c o) t z = refl
+
+all_scope : (k : Count) (b : Pieces) → is_nothing (hold_all k b) ≡ true → is_scope k ≡ false
+all_scope (OfPool p) b z = refl
+all_scope (OfScope c o) b z = cc
+all_scope (OfCast c o) b z = refl
+
+pub free_booking : (x : Place) → book_free x ≡ true → is_aside x ≡ false → is_booking x ≡ false
+free_booking (OpenSlot n) z a = absurd (open_not (plan_count n) (plan_job n) z)
+free_booking (CloseSlot n) z a = absurd (close_not (plan_count n) (plan_job n) z)
+free_booking (StoreSlot c o t e) z a = cc
+free_booking (StorePiece c o t e) z a = cc
+free_booking (PushJob n v) z a = hold_scope (plan_count n) (plan_job n) z
+free_booking (PushToken f v) z a = line_scope f.count f.job z
+free_booking (OpenForAll b) z a = absurd (open_all_not b.count b z)
+free_booking (CloseForAll b) z a = absurd (close_all_not b.count b z)
+free_booking (PushForAll b) z a = all_scope b.count b z
+free_booking (DealPieces g) z a = cc
+free_booking _ z a = refl
+
+pub free_numbered : (x : Place) → book_free x ≡ true → is_aside x ≡ false → is_numbered x ≡ false
+free_numbered (OpenForAll b) z a = absurd (open_all_not b.count b z)
+free_numbered (CloseForAll b) z a = absurd (close_all_not b.count b z)
+free_numbered (DealPieces g) z a = cc
+free_numbered _ z a = refl
 
 letter_unbooked : (l : Latch) (m : Part) (e : Seen) (y : Letter) → Unbooked m (e, with_letter l m y)
 letter_unbooked Terminate m e y = record { slot = refl; writer = refl; slots = refl }
@@ -339,14 +135,21 @@ push_unbooked : (h : Shape) (q : Party) (c : Counts) (m : Part) (t p : ℕ) (z :
 push_unbooked h q c m t p true = record { slot = refl; writer = refl; slots = refl }
 push_unbooked h q c m t p false = record { slot = refl; writer = refl; slots = refl }
 
-plan_unbooked : (h : Shape) (q : Party) (c : Counts) (m : Part) (n : Plan) (v z : Bool) → is_booking (PushJob n v) ≡ false → IfSome (effect (if z then PushOwn (plan_job n) (plan_book n) else PushInj (plan_pool n) (plan_job n) (plan_book n)) h q c m) (Unbooked m)
-plan_unbooked h q c m (Detach p t) v z b = push_unbooked h q c m t p z
-plan_unbooked h q c m (Here p t) v z b = push_unbooked h q c m t p z
-plan_unbooked h q c m (Send o) v z b = push_unbooked h q c m (o.job) (o.pool) z
-plan_unbooked h q c m (Fork o a) v z b = push_unbooked h q c m (o.job) (o.pool) z
-plan_unbooked h q c m (Feed f) v z b = push_unbooked h q c m (f.job) (f.pool) z
-plan_unbooked h q c m (Open o) v z b = push_unbooked h q c m (o.job) (o.pool) z
-plan_unbooked h q c m (Enter e) v z b = absurd (let a : true ≡ false = b in cc)
+no_book : (k : Count) → is_scope k ≡ false → count_book k ≡ None
+no_book (OfPool p) z = refl
+no_book (OfScope c o) z = cc
+no_book (OfCast c o) z = refl
+
+plan_unbooked : (h : Shape) (q : Party) (c : Counts) (m : Part) (n : Plan) (z : Bool) → is_scope (plan_count n) ≡ false → IfSome (effect (if z then PushOwn (plan_job n) (plan_book n) else PushInj (plan_pool n) (plan_job n) (plan_book n)) h q c m) (Unbooked m)
+plan_unbooked h q c m n z b = subst (λ o. IfSome (effect (if z then PushOwn (plan_job n) o else PushInj (plan_pool n) (plan_job n) o) h q c m) (Unbooked m)) (sym (plan_book_is n ∙ no_book (plan_count n) b)) (push_unbooked h q c m (plan_job n) (plan_pool n) z)
+
+token_unbooked : (h : Shape) (q : Party) (c : Counts) (m : Part) (t : ℕ) (k : Count) → is_scope k ≡ false → IfSome (effect (PushOwn t (count_book k)) h q c m) (Unbooked m)
+token_unbooked h q c m t k b = subst (λ o. IfSome (effect (PushOwn t o) h q c m) (Unbooked m)) (sym (no_book k b)) (record { slot = refl; writer = refl; slots = refl })
+
+left_none : (q : Party) (k : Count) (r : Option Party) → is_scope k ≡ false → left_book q (count_book k) r ≡ r
+left_none q (OfPool p) r z = refl
+left_none q (OfScope c o) r z = cc
+left_none q (OfCast c o) r z = refl
 
 pub act_unbooked : (h : Shape) (q : Party) (c : Counts) (m : Part) (x : Place) → is_booking x ≡ false → IfSome (effect (act_of q x) h q c m) (Unbooked m)
 act_unbooked h (Worker a b) c m (ProbeWorking k) z = same_unbooked m _
@@ -356,99 +159,133 @@ act_unbooked h (Worker a b) c m (WakeUp k) z = wake_keeps (latch_of k.target) Un
 act_unbooked h (Worker a b) c m (SetLatch k) z = set_keeps k.latch Unbooked (λ v e. letter_unbooked k.latch v e IsSet) m (letter k.latch m)
 act_unbooked h (Worker a b) c m (RaiseCount i) z = either_unbooked m (Refused, m) (Done, raised m (plan_count i)) (same_unbooked m Refused) (record { slot = refl; writer = refl; slots = refl }) (count_in m (plan_count i) == 0)
 act_unbooked h (Worker a b) c m (LowerCount k s t) z = record { slot = refl; writer = refl; slots = refl }
-act_unbooked h (Worker a b) c m (RaiseForAll k) z = either_unbooked m (Refused, m) _ (same_unbooked m Refused) (record { slot = refl; writer = refl; slots = refl }) (m.pool.count == 0)
+act_unbooked h (Worker a b) c m (RaiseForAll k) z = either_unbooked m (Refused, m) _ (same_unbooked m Refused) (record { slot = refl; writer = refl; slots = refl }) (count_in m k.count == 0)
 act_unbooked h (Worker a b) c m (LowerForAll k) z = record { slot = refl; writer = refl; slots = refl }
-act_unbooked h (Worker a b) c m (PushJob i v) z = plan_unbooked h (Worker a b) c m i v (is_member (Worker a b) (plan_pool i)) z
+act_unbooked h (Worker a b) c m (PushForAll k) z = record { slot = refl; writer = left_none (Worker a b) k.count m.call.writer z; slots = refl }
+act_unbooked h (Worker a b) c m (DealPieces g) z = record { slot = refl; writer = left_none (Worker a b) (g.pieces).count m.call.writer z; slots = refl }
+act_unbooked h (Worker a b) c m (PushJob i v) z = plan_unbooked h (Worker a b) c m i (is_member (Worker a b) (plan_pool i)) z
+act_unbooked h (Worker a b) c m (PushToken f v) z = token_unbooked h (Worker a b) c m f.token f.count z
 act_unbooked h (Worker a b) c m _ z = first_of (cc, search (rules, arith))
 act_unbooked h (Caller n) c m (SetLatch k) z = set_keeps k.latch Unbooked (λ v e. letter_unbooked k.latch v e IsSet) m (letter k.latch m)
 act_unbooked h (Caller n) c m (RaiseCount i) z = either_unbooked m (Refused, m) (Done, raised m (plan_count i)) (same_unbooked m Refused) (record { slot = refl; writer = refl; slots = refl }) (count_in m (plan_count i) == 0)
 act_unbooked h (Caller n) c m (LowerCount k s t) z = record { slot = refl; writer = refl; slots = refl }
-act_unbooked h (Caller n) c m (RaiseForAll k) z = either_unbooked m (Refused, m) _ (same_unbooked m Refused) (record { slot = refl; writer = refl; slots = refl }) (m.pool.count == 0)
+act_unbooked h (Caller n) c m (RaiseForAll k) z = either_unbooked m (Refused, m) _ (same_unbooked m Refused) (record { slot = refl; writer = refl; slots = refl }) (count_in m k.count == 0)
 act_unbooked h (Caller n) c m (LowerForAll k) z = record { slot = refl; writer = refl; slots = refl }
-act_unbooked h (Caller n) c m (PushJob i v) z = plan_unbooked h (Caller n) c m i v (is_member (Caller n) (plan_pool i)) z
+act_unbooked h (Caller n) c m (PushForAll k) z = record { slot = refl; writer = left_none (Caller n) k.count m.call.writer z; slots = refl }
+act_unbooked h (Caller n) c m (DealPieces g) z = record { slot = refl; writer = left_none (Caller n) (g.pieces).count m.call.writer z; slots = refl }
+act_unbooked h (Caller n) c m (PushJob i v) z = plan_unbooked h (Caller n) c m i (is_member (Caller n) (plan_pool i)) z
+act_unbooked h (Caller n) c m (PushToken f v) z = tt
 act_unbooked h (Caller n) c m _ z = first_of (cc, search (rules, arith))
 
-marked_slot : (k : Marking) (p i : ℕ) (j : Job) → (marked k p i j).slot ≡ j.slot
-marked_slot Counted p i j = refl
-marked_slot Queued p i j = refl
-marked_slot Returned p i j = refl
+slots_keep : (g : Move) → is_numbering g ≡ false → MarksKeep (λ (j : Job). j.slot) g
+slots_keep (Mark y c Counted) z = λ i j. refl
+slots_keep (Mark y c Queued) z = λ i j. refl
+slots_keep (Mark y c Returned) z = λ i j. refl
+slots_keep (Mark y c (Numbered n)) z = cc
+slots_keep (Mark y c Unnumbered) z = cc
+slots_keep (Mark y c Dealt) z = cc
+slots_keep (HandAllBack c) z = λ i j. refl
+slots_keep (HandBack (Gather g)) z = λ i j. refl
+slots_keep _ z = tt
 
-slots_keep : (g : Move) → MarksKeep (λ (j : Job). j.slot) g
-slots_keep (Mark y c k) = marked_slot k c.pool
-slots_keep (HandAllBack c) = marked_slot Returned c.pool
-slots_keep _ = tt
+pub after_slot : (q : Party) (g : Move) (f : ℕ → Job) (t : ℕ) → is_numbering g ≡ false → (jobs_after q g f t).slot ≡ (f t).slot
+after_slot q g f t z = after_part (λ j. j.slot) (λ r j. refl) (λ j x. refl) q g f t (slots_keep g z)
 
-pub after_slot : (q : Party) (g : Move) (f : ℕ → Job) (t : ℕ) → (jobs_after q g f t).slot ≡ (f t).slot
-after_slot q g f t = after_part (λ j. j.slot) (λ r j. refl) (λ j x. refl) q g f t (slots_keep g)
+-- what is pushed of a scope has an open number
+flat_kind : (k : Count) (c : ℕ) (o : Party) → is_scope k ≡ false → count_kind k ≡ Scoped c o → ⊥
+flat_kind (OfPool p) c o z y = cc
+flat_kind (OfScope d r) c o z y = cc
+flat_kind (OfCast d r) c o z y = cc
 
--- what is pushed else is of no scope
-flat_job : (w : World) (t a p c : ℕ) (o : Party) → (w.job a).kind ≡ Detached p → (w.job t).kind ≡ Scoped c o → (b : Bool) → (t == a) ≡ b → one b ≡ 0
-flat_job w t a p c o s k true e = absurd (let i : Detached p ≡ Scoped c o = sym s ∙ ap (λ n. (w.job n).kind) (sym (eqb-true t a e)) ∙ k in cc)
-flat_job w t a p c o s k false e = refl
+hold_open : (w : World) (q : Party) (k : Count) (u c : ℕ) (o : Party) → AtState w q (hold_state k u) → (w.job u).kind ≡ count_kind k → (w.job u).kind ≡ Scoped c o → is_unfilled (w.job u).slot ≡ true
+hold_open w q (OfPool p) u c o a i k = absurd (let z : Detached p ≡ Scoped c o = sym i ∙ k in cc)
+hold_open w q (OfScope d r) u c o a i k = ap is_unfilled a.slot
+hold_open w q (OfCast d r) u c o a i k = absurd (let z : PieceOf d r ≡ Scoped c o = sym i ∙ k in cc)
 
-flat_piece : (w : World) (b : Pieces) (t c : ℕ) (o : Party) → SaysPieces w b → (w.job t).kind ≡ Scoped c o → (z : Bool) → is_piece b t ≡ z → z ≡ false
-flat_piece w b t c o s k true e = absurd (let i : Detached b.pool ≡ Scoped c o = sym ((s t e).kind) ∙ k in cc)
-flat_piece w b t c o s k false e = refl
-
-pub pushed_flat : (w : World) (q : Party) (x : Place) (e : Seen) (t c : ℕ) (o : Party) → is_booking x ≡ false → Says w q x → (w.job t).kind ≡ Scoped c o → pushed t x e ≡ 0
-pushed_flat w q (PushJob (Detach p a) v) Done t c o z s k = flat_job w t a p c o (s.kind) k (t == a) refl
-pushed_flat w q (PushJob (Here p a) v) Done t c o z s k = absurd s
-pushed_flat w q (PushJob (Feed f) v) Done t c o z s k = absurd s
-pushed_flat w q (PushJob (Open d) v) Done t c o z s k = absurd s
-pushed_flat w q (PushJob (Enter d) v) Done t c o z s k = cc
-pushed_flat w q (AddToFifo f) Done t c o z s k = flat_job w t (f.job) (f.pool) c o ((s.0).kind) k (t == f.job) refl
-pushed_flat w q (PushForAll b) Done t c o z s k = ap one (flat_piece w b t c o s k (is_piece b t) refl)
-pushed_flat w q _ e t c o z s k = refl
+pushed_open : (w : World) (q : Party) (x : Place) (e : Seen) (t c : ℕ) (o : Party) → is_booking x ≡ false → Says w q x → AtBook w q x → (w.job t).kind ≡ Scoped c o → 1 ≤ pushed t x e → is_unfilled (w.job t).slot ≡ true
+pushed_open w q (PushJob (Detach p a) v) Done t c o z s y k m = absurd (let i : t ≡ a = eqb-true t a (one_is (t == a) m) in let d : Detached p ≡ Scoped c o = sym (s.kind) ∙ ap (λ n. (w.job n).kind) (sym i) ∙ k in cc)
+pushed_open w q (PushJob (Here p a) v) Done t c o z s y k m = absurd s
+pushed_open w q (PushJob (Feed f) v) Done t c o z s y k m = absurd s
+pushed_open w q (PushJob (Open d) v) Done t c o z s y k m = absurd s
+pushed_open w q (PushJob (Enter d) v) Done t c o z s y k m = cc
+pushed_open w q (AddToFifo f) Done t c o z s y k m = let i : t ≡ f.job = eqb-true t f.job (one_is (t == f.job) m) in subst (λ n. is_unfilled (w.job n).slot ≡ true) (sym i) (hold_open w q f.count f.job c o y ((s.0).kind) (ap (λ n. (w.job n).kind) (sym i) ∙ k))
+pushed_open w q (PushForAll b) Done t c o z s y k m = absurd (flat_kind b.count c o z (sym (((s.0) t (one_is (is_piece b t) m)).kind) ∙ k))
+pushed_open w q (DealPieces g) Done t c o z s y k m = absurd (flat_kind (g.pieces).count c o z (sym ((s.pieces t (one_is (is_piece g.pieces t) m)).kind) ∙ k))
+pushed_open w q _ e t c o z s y k m = absurd (omega (arith, m))
 
 pub with_one : (j : Job) (c : ℕ) (o : Party) → j.kind ≡ Scoped c o → is_busy j.at ≡ true → with_job j ≡ 1
 with_one j c o k b = ap (λ v. one (is_detached v && is_busy j.at)) k ∙ ap one b
 
-with_none : (j : Job) (c : ℕ) (o : Party) → j.kind ≡ Scoped c o → is_busy j.at ≡ false → with_job j ≡ 0
+pub with_none : (j : Job) (c : ℕ) (o : Party) → j.kind ≡ Scoped c o → is_busy j.at ≡ false → with_job j ≡ 0
 with_none j c o k b = ap (λ v. one (is_detached v && is_busy j.at)) k ∙ ap one b
 
-pub was_busy : (j i : Job) (c : ℕ) (o : Party) → j.kind ≡ Scoped c o → i.kind ≡ j.kind → with_job i ≤ with_job j → is_busy i.at ≡ true → is_busy j.at ≡ true
-was_busy j i c o k s l b = elim (either (is_busy j.at)) [ inl y ↦ y | inr y ↦ absurd (let a : with_job i ≡ 1 = with_one i c o (s ∙ k) b in let d : with_job j ≡ 0 = with_none j c o k y in omega (arith, a, d, l)) ]
+-- a job that is busy after an act was so, or was pushed
+pub was_busy : (j i : Job) (c : ℕ) (o : Party) (n : ℕ) → j.kind ≡ Scoped c o → i.kind ≡ j.kind → with_job i ≤ with_job j + n → is_busy i.at ≡ true → (is_busy j.at ≡ true) ⊎ (1 ≤ n)
+was_busy j i c o n k s l b = elim (either (is_busy j.at)) [ inl y ↦ inl y | inr y ↦ inr (let a : with_job i ≡ 1 = with_one i c o (s ∙ k) b in let d : with_job j ≡ 0 = with_none j c o k y in omega (arith, a, d, l)) ]
 
 -- the share of a job whose number is open stays
+fresh_shut : (w : World) (q : Party) (b : Pieces) (k : Count) (t c : ℕ) (o : Party) → AtState w q (fresh_all k b) → (w.job t).kind ≡ count_kind k → (w.job t).kind ≡ Scoped c o → is_piece b t ≡ true → is_unfilled (w.job t).slot ≡ false
+fresh_shut w q b (OfPool p) t c o y i k e = absurd (let z : Detached p ≡ Scoped c o = sym i ∙ k in cc)
+fresh_shut w q b (OfScope d r) t c o y i k e = ap is_unfilled (y t e)
+fresh_shut w q b (OfCast d r) t c o y i k e = absurd (let z : PieceOf d r ≡ Scoped c o = sym i ∙ k in cc)
+
+shut_shut : (w : World) (q : Party) (b : Pieces) (k : Count) (t c : ℕ) (o : Party) → AtState w q (shut_all k b) → (w.job t).kind ≡ count_kind k → (w.job t).kind ≡ Scoped c o → is_piece b t ≡ true → is_unfilled (w.job t).slot ≡ false
+shut_shut w q b (OfPool p) t c o y i k e = absurd (let z : Detached p ≡ Scoped c o = sym i ∙ k in cc)
+shut_shut w q b (OfScope d r) t c o y i k e = y t e
+shut_shut w q b (OfCast d r) t c o y i k e = absurd (let z : PieceOf d r ≡ Scoped c o = sym i ∙ k in cc)
+
 kept_share : (w : World) (q : Party) (x : Place) (fs : List Place) (t c : ℕ) (o : Party) → w.stack q ≡ record { top = x; below = fs } → BooksHold w → (w.job t).kind ≡ Scoped c o → is_unfilled (w.job t).slot ≡ true → NotGiven x t
 kept_share w q x fs t c o z h k f = (
   (λ a n i. lowers a n (subst (AtBook w q) (ap (λ v. v.top) z ∙ i) (h.at q)) (top_says w q (LowerCount a (OfJob t) n) fs calls (z ∙ ap (λ v. record { top = v; below = fs }) i))),
   (λ b i. elim i [
-    | inl r ↦ flat_piece w b t c o (top_says w q (RaiseForAll b) fs calls (z ∙ ap (λ v. record { top = v; below = fs }) r)) k (is_piece b t) refl
-    | inr r ↦ flat_piece w b t c o (top_says w q (LowerForAll b) fs calls (z ∙ ap (λ v. record { top = v; below = fs }) r)) k (is_piece b t) refl
+    | inl r ↦ off b (λ e. fresh_shut w q b b.count t c o (subst (AtBook w q) (ap (λ v. v.top) z ∙ r) (h.at q)) (((top_says w q (RaiseForAll b) fs calls (z ∙ ap (λ v. record { top = v; below = fs }) r)).0 t e).kind) k e) (is_piece b t) refl
+    | inr r ↦ off b (λ e. shut_shut w q b b.count t c o (subst (AtBook w q) (ap (λ v. v.top) z ∙ r) (h.at q)) (((top_says w q (LowerForAll b) fs calls (z ∙ ap (λ v. record { top = v; below = fs }) r)).0 t e).kind) k e) (is_piece b t) refl
   ]),
 )
   where
     calls : CallsHold w
     calls = (((h.early).fills).hold).calls
 
+    off : (b : Pieces) → (is_piece b t ≡ true → is_unfilled (w.job t).slot ≡ false) → (d : Bool) → is_piece b t ≡ d → d ≡ false
+    off b g false e = refl
+    off b g true e = absurd (let a : true ≡ false = sym f ∙ g e in cc)
+
     lowers : (a : Count) (n : Then) → AtBook w q (LowerCount a (OfJob t) n) → SaysThen w q n × SaysShare w a (OfJob t) n → ⊥
     lowers (OfScope d p) n y s = let b : true ≡ false = sym f ∙ y in cc
+    lowers (OfCast d p) n y s = let b : PieceOf d p ≡ Scoped c o = sym ((s.1).1) ∙ k in cc
     lowers (OfPool p) n y s = let b : is_scoped (w.job t).kind ≡ false = owner_unscoped w q t p n (s.0) ((s.1).2) in let d : is_scoped (w.job t).kind ≡ true = ap is_scoped k in let g : true ≡ false = sym d ∙ b in cc
 
 -- what is to be shown of an act
 abbrev pub Acts : World → Party → Place → List Place → Seen × Part → Type 0
-Acts w q x fs r = EarlyHold (world_after w q x fs r) → Ready w q x fs r → Stays w q x fs r → BooksHold (world_after w q x fs r)
+Acts w q x fs r = EarlyHold (world_after w q x fs r) → FeedersHold (world_after w q x fs r) → Ready w q x fs r → Stays w q x fs r → BooksHold (world_after w q x fs r)
 
 -- an act on no book
-quiet_act : (w : World) (q : Party) (x : Place) (fs : List Place) (r : Seen × Part) → w.stack q ≡ record { top = x; below = fs } → BooksHold w → is_booking x ≡ false → Unbooked (place_part w q x) r →
-    (((t : ℕ) → ((world_after w q x fs r).job t).slot ≡ (w.job t).slot) → ((c : ℕ) → (((world_after w q x fs r).call c).writer ≡ (w.call c).writer) × (((world_after w q x fs r).call c).slots ≡ (w.call c).slots)) → AtBook (world_after w q x fs r) q (stack_after w q x fs (r.0)).top) →
-    ((c : ℕ) → writes x ≡ Some c → writes (stack_after w q x fs (r.0)).top ≡ Some c) → ((e : Entry) → (stack_after w q x fs (r.0)).top ≡ RaiseCount (Enter e) → ⊥) → Acts w q x fs r
-quiet_act w q x fs r z h b un top wrote raised e d st = quiet_books w u q h e (record {
+record Leaves (w : World) (q : Party) (x : Place) (fs : List Place) (r : Seen × Part) : Type 0 where
+  slot : (t : ℕ) → t + 1 ≤ w.jobs → is_part (w.job t).kind ≡ false → ((world_after w q x fs r).job t).slot ≡ (w.job t).slot
+  fresh : (t : ℕ) → w.jobs ≤ t → ((world_after w q x fs r).job t).slot ≡ Closed
+  call : (c : ℕ) → (((world_after w q x fs r).call c).writer ≡ (w.call c).writer) × (((world_after w q x fs r).call c).slots ≡ (w.call c).slots)
+  top : AtBook (world_after w q x fs r) q (stack_after w q x fs (r.0)).top
+  wrote : (c : ℕ) → writes x ≡ Some c → writes (stack_after w q x fs (r.0)).top ≡ Some c
+  raised : (c : ℕ) → raising (stack_after w q x fs (r.0)).top ≡ Some c → holds_in c (stack_after w q x fs (r.0)).below ≡ true
+  opens : (t c : ℕ) (o : Party) → (w.job t).kind ≡ Scoped c o → 1 ≤ pushed t x (r.0) → is_unfilled (w.job t).slot ≡ true
+
+quiet_act : (w : World) (q : Party) (x : Place) (fs : List Place) (r : Seen × Part) → w.stack q ≡ record { top = x; below = fs } → BooksHold w → Leaves w q x fs r → Acts w q x fs r
+quiet_act w q x fs r z h l e fe d st = quiet_books w u q h e fe (record {
   jobs = omega arith;
   calls = omega arith;
   stack = λ s y. stack_other w.stack q (stack_after w q x fs (r.0)) s y;
-  top = subst (λ s. AtBook u q s.top) (sym mine) (top slot call);
-  wrote = λ c y. ap (λ s. writes (s.top)) mine ∙ wrote c (ap (λ s. writes (s.top)) (sym z) ∙ y);
-  enters = λ y i. absurd (raised y (ap (λ s. s.top) (sym mine) ∙ i));
-  slot = λ t l. slot t;
-  fresh = λ t l. slot t ∙ h.unmade t l;
-  call = λ c l. call c;
-  opened = λ c l. (call c).0 ∙ h.uncalled c l;
-  kind = λ t l. (d.last).kinds t;
-  busy = λ t l c o k y. was_busy (w.job t) (u.job t) c o k ((d.last).kinds t) (let a : with_job (u.job t) ≤ with_job (w.job t) + pushed t x (r.0) = d.busy t in let i : pushed t x (r.0) ≡ 0 = pushed_flat w q x (r.0) t c o b (top_says w q x fs ((((h.early).fills).hold).calls) z) k in omega (arith, a, i)) y;
-  idle = λ t l m. absurd (omega (arith, l, m));
-  counted = λ t l c o k f y. st t (kept_share w q x fs t c o z h k f) y;
+  top = subst (λ s. AtBook u q s.top) (sym mine) (l.top);
+  wrote = λ c y. ap (λ s. writes (s.top)) mine ∙ l.wrote c (ap (λ s. writes (s.top)) (sym z) ∙ y);
+  enters = λ c i. ap (λ s. holds_in c (s.below)) mine ∙ l.raised c (ap (λ s. raising (s.top)) (sym mine) ∙ i);
+  slot = l.slot;
+  fresh = l.fresh;
+  call = λ c m. l.call c;
+  opened = λ c m. (l.call c).0 ∙ (h.uncalled c m).0;
+  empty = λ c m. inl ((l.call c).1 ∙ (h.uncalled c m).1);
+  kind = λ t m. (d.last).kinds t;
+  busy = λ t m c o k y. elim (was_busy (w.job t) (u.job t) c o (pushed t x (r.0)) k ((d.last).kinds t) (d.busy t) y) [ inl a ↦ inl a | inr a ↦ inr (l.opens t c o k a) ];
+  idle = λ t m n. absurd (omega (arith, m, n));
+  counted = λ t m c o k f y. st t (kept_share w q x fs t c o z h k f) y;
 })
   where
     u : World
@@ -457,59 +294,292 @@ quiet_act w q x fs r z h b un top wrote raised e d st = quiet_books w u q h e (r
     mine : u.stack q ≡ stack_after w q x fs (r.0)
     mine = stack_mine w.stack q (stack_after w q x fs (r.0))
 
-    slot : (t : ℕ) → (u.job t).slot ≡ (w.job t).slot
-    slot t = after_slot q (next_of (w.shape.pool (target_pool q (act_of q x))) q x (r.0)) (put w.job (job_at w q (act_of q x)) (r.1.job)) t ∙ put_same (λ j. j.slot) w.job (job_at w q (act_of q x)) (r.1.job) t (un.slot)
+-- what an act does not touch of the books
+same_slot : (w : World) (q : Party) (x : Place) (fs : List Place) (r : Seen × Part) → is_numbered x ≡ false → Unbooked (place_part w q x) r → (t : ℕ) → ((world_after w q x fs r).job t).slot ≡ (w.job t).slot
+same_slot w q x fs r n un t = after_slot q (next_of (w.shape.pool (target_pool q (act_of q x))) q x (r.0)) (put w.job (job_at w q (act_of q x)) (r.1.job)) t (numbers_next (w.shape.pool (target_pool q (act_of q x))) q x (r.0) n) ∙ put_same (λ j. j.slot) w.job (job_at w q (act_of q x)) (r.1.job) t (un.slot)
 
-    call : (c : ℕ) → ((u.call c).writer ≡ (w.call c).writer) × ((u.call c).slots ≡ (w.call c).slots)
-    call c = (put_same (λ k. k.writer) w.call (target_call (act_of q x)) (r.1.call) c (un.writer), put_same (λ k. k.slots) w.call (target_call (act_of q x)) (r.1.call) c (un.slots))
+same_book : (w : World) (q : Party) (x : Place) (fs : List Place) (r : Seen × Part) → Unbooked (place_part w q x) r → (c : ℕ) → (((world_after w q x fs r).call c).writer ≡ (w.call c).writer) × (((world_after w q x fs r).call c).slots ≡ (w.call c).slots)
+same_book w q x fs r un c = (put_same (λ k. k.writer) w.call (target_call (act_of q x)) (r.1.call) c (un.writer), put_same (λ k. k.slots) w.call (target_call (act_of q x)) (r.1.call) c (un.slots))
 
-clear_enters : (g : Move) (fs : List Place) (e : Entry) → AllFrames fs → Clear g → (after_move g fs).top ≡ RaiseCount (Enter e) → ⊥
-clear_enters g fs e a t z = free_enters ((after_move g fs).top) e (top_after (λ y. book_free y ≡ true) g fs t frame_clear a) z
+-- where the place after it says of the books what is so still
+pub held_act : (w : World) (q : Party) (x : Place) (fs : List Place) → w.stack q ≡ record { top = x; below = fs } → BooksHold w → is_booking x ≡ false → is_numbered x ≡ false →
+    ((r : Seen × Part) → ((t : ℕ) → ((world_after w q x fs r).job t).slot ≡ (w.job t).slot) → ((c : ℕ) → (((world_after w q x fs r).call c).writer ≡ (w.call c).writer) × (((world_after w q x fs r).call c).slots ≡ (w.call c).slots)) → AtBook (world_after w q x fs r) q (stack_after w q x fs (r.0)).top) →
+    ((e : Seen) (c : ℕ) → writes x ≡ Some c → writes (stack_after w q x fs e).top ≡ Some c) → ((e : Seen) (c : ℕ) → raising (stack_after w q x fs e).top ≡ Some c → holds_in c (stack_after w q x fs e).below ≡ true) → IfSome (outcome w q (record { top = x; below = fs })) (Acts w q x fs)
+held_act w q x fs z h b n top wrote raised = if_some_map (Unbooked (place_part w q x)) (Acts w q x fs) (λ r un. quiet_act w q x fs r z h (record {
+  slot = λ t l p. same_slot w q x fs r n un t;
+  fresh = λ t l. same_slot w q x fs r n un t ∙ h.unmade t l;
+  call = same_book w q x fs r un;
+  top = top r (same_slot w q x fs r n un) (same_book w q x fs r un);
+  wrote = wrote (r.0);
+  raised = raised (r.0);
+  opens = λ t c o k m. pushed_open w q x (r.0) t c o b (top_says w q x fs ((((h.early).fills).hold).calls) z) (subst (λ s. AtBook w q (s.top)) z (h.at q)) k m;
+})) (outcome w q (record { top = x; below = fs })) (act_unbooked w.shape q (counts_at w (target_pool q (act_of q x))) (place_part w q x) x b)
 
 pub clear_top : (u : World) (q : Party) (g : Move) (fs : List Place) → AllFrames fs → Clear g → AtBook u q ((after_move g fs).top)
 clear_top u q g fs a t = free_at u q ((after_move g fs).top) (top_after (λ y. book_free y ≡ true) g fs t frame_clear a)
 
-below_frames : (w : World) (q : Party) (x : Place) (fs : List Place) → w.stack q ≡ record { top = x; below = fs } → BooksHold w → AllFrames fs
+pub clear_raises : (g : Move) (fs : List Place) (c : ℕ) → AllFrames fs → Clear g → raising ((after_move g fs).top) ≡ Some c → ⊥
+clear_raises g fs c a t z = free_raising ((after_move g fs).top) c (top_after (λ y. book_free y ≡ true) g fs t frame_clear a) z
+
+pub below_frames : (w : World) (q : Party) (x : Place) (fs : List Place) → w.stack q ≡ record { top = x; below = fs } → BooksHold w → AllFrames fs
 below_frames w q x fs z h = subst (λ k. AllFrames (k.below)) z (((h.early).fills).frames q)
 
+-- where it leads to places that say nothing, and held no book
+pub clear_act : (w : World) (q : Party) (x : Place) (fs : List Place) → w.stack q ≡ record { top = x; below = fs } → BooksHold w → is_booking x ≡ false → is_numbered x ≡ false → ((e : Seen) → Clear (next_of (w.shape.pool (target_pool q (act_of q x))) q x e)) → ((c : ℕ) → writes x ≡ Some c → ⊥) → IfSome (outcome w q (record { top = x; below = fs })) (Acts w q x fs)
+clear_act w q x fs z h b n cl wr = held_act w q x fs z h b n
+    (λ r s c. clear_top (world_after w q x fs r) q (next_of (w.shape.pool (target_pool q (act_of q x))) q x (r.0)) fs (below_frames w q x fs z h) (cl (r.0)))
+    (λ e c y. absurd (wr c y)) (λ e c i. absurd (clear_raises (next_of (w.shape.pool (target_pool q (act_of q x))) q x e) fs c (below_frames w q x fs z h) (cl e) i))
+
 -- at a place that says nothing of a book
-pub free_act : (w : World) (q : Party) (x : Place) (fs : List Place) → w.stack q ≡ record { top = x; below = fs } → BooksHold w → book_free x ≡ true → IfSome (outcome w q (record { top = x; below = fs })) (Acts w q x fs)
-free_act w q x fs z h f = if_some_map (Unbooked (place_part w q x)) (Acts w q x fs) (λ r un. quiet_act w q x fs r z h (free_booking x f) un
-    (λ s c. clear_top (world_after w q x fs r) q (next_of (w.shape.pool (target_pool q (act_of q x))) q x (r.0)) fs (below_frames w q x fs z h) (book_next (w.shape.pool (target_pool q (act_of q x))) q x (r.0) f))
-    (λ c y. absurd (free_writes x c f y)) (λ y i. clear_enters (next_of (w.shape.pool (target_pool q (act_of q x))) q x (r.0)) fs y (below_frames w q x fs z h) (book_next (w.shape.pool (target_pool q (act_of q x))) q x (r.0) f) i)) (outcome w q (record { top = x; below = fs })) (act_unbooked w.shape q (counts_at w (target_pool q (act_of q x))) (place_part w q x) x (free_booking x f))
+pub free_act : (w : World) (q : Party) (x : Place) (fs : List Place) → w.stack q ≡ record { top = x; below = fs } → BooksHold w → book_free x ≡ true → is_aside x ≡ false → IfSome (outcome w q (record { top = x; below = fs })) (Acts w q x fs)
+free_act w q x fs z h f a = clear_act w q x fs z h (free_booking x f a) (free_numbered x f a) (λ e. book_next (w.shape.pool (target_pool q (act_of q x))) q x e f) (λ c y. free_writes x c f y)
+
+-- the push of a broadcast that waits: its pieces are of no scope
+deal_slot : (g : PoolShape) (q : Party) (d : Gathering) (e : Seen) (J : ℕ → Job) (t : ℕ) → is_piece d.pieces t ≡ false → (jobs_after q (next_of g q (DealPieces d) e) J t).slot ≡ (J t).slot
+deal_slot g q d Done J t y = ap (λ j. j.slot) (piece_old (d.pieces) (marked Dealt (d.pieces).pool) J t y)
+deal_slot g q d _ J t y = refl
+
+pub deal_act : (w : World) (q : Party) (g : Gathering) (fs : List Place) → w.stack q ≡ record { top = DealPieces g; below = fs } → BooksHold w → IfSome (outcome w q (record { top = DealPieces g; below = fs })) (Acts w q (DealPieces g) fs)
+deal_act w q g fs z h = if_some_map (Unbooked (place_part w q (DealPieces g))) (Acts w q (DealPieces g) fs) (λ r un. quiet_act w q (DealPieces g) fs r z h (record {
+  slot = λ t l p. slot r un t (unpiece t p);
+  fresh = λ t l. slot r un t (unmade t l) ∙ h.unmade t l;
+  call = same_book w q (DealPieces g) fs r un;
+  top = clear_top (world_after w q (DealPieces g) fs r) q (next_of g0 q (DealPieces g) (r.0)) fs (below_frames w q (DealPieces g) fs z h) (book_next g0 q (DealPieces g) (r.0) refl);
+  wrote = λ c y. absurd (cc);
+  raised = λ c i. absurd (clear_raises (next_of g0 q (DealPieces g) (r.0)) fs c (below_frames w q (DealPieces g) fs z h) (book_next g0 q (DealPieces g) (r.0) refl) i);
+  opens = λ t c o k m. pushed_open w q (DealPieces g) (r.0) t c o flat said tt k m;
+})) (outcome w q (record { top = DealPieces g; below = fs })) (act_unbooked w.shape q (counts_at w (target_pool q (act_of q (DealPieces g)))) (place_part w q (DealPieces g)) (DealPieces g) flat)
+  where
+    g0 : PoolShape
+    g0 = w.shape.pool (target_pool q (act_of q (DealPieces g)))
+
+    said : SaysGather w q g
+    said = top_says w q (DealPieces g) fs ((((h.early).fills).hold).calls) z
+
+    flat : is_scope (g.pieces).count ≡ false
+    flat = ap is_scope (said.count)
+
+    unpiece : (t : ℕ) → is_part (w.job t).kind ≡ false → is_piece g.pieces t ≡ false
+    unpiece t p = elim (either (is_piece g.pieces t)) [ inl y ↦ absurd (let a : true ≡ false = sym (ap is_part ((said.pieces t y).kind ∙ ap count_kind (said.count))) ∙ p in cc) | inr y ↦ y ]
+
+    unmade : (t : ℕ) → w.jobs ≤ t → is_piece g.pieces t ≡ false
+    unmade t l = elim (either (is_piece g.pieces t)) [ inl y ↦ absurd (let a : t + 1 ≤ w.jobs = (said.pieces t y).made in omega (arith, a, l)) | inr y ↦ y ]
+
+    slot : (r : Seen × Part) → Unbooked (place_part w q (DealPieces g)) r → (t : ℕ) → is_piece g.pieces t ≡ false → ((world_after w q (DealPieces g) fs r).job t).slot ≡ (w.job t).slot
+    slot r un t y = deal_slot g0 q g (r.0) (put w.job (job_at w q (act_of q (DealPieces g))) (r.1.job)) t y ∙ put_same (λ j. j.slot) w.job (job_at w q (act_of q (DealPieces g))) (r.1.job) t (un.slot)
+
+-- and the end of one
+piece_by : (w : World) (q : Party) (c : ℕ) (o : Party) (t : ℕ) (d : Ending) (fs : List Place) (r : Seen × Part) → w.stack q ≡ record { top = StorePiece c o t d; below = fs } → BooksHold w → job_at w q (act_of q (StorePiece c o t d)) ≡ t → (r.1.call.writer ≡ (place_part w q (StorePiece c o t d)).call.writer) × (r.1.call.slots ≡ (place_part w q (StorePiece c o t d)).call.slots) → Acts w q (StorePiece c o t d) fs r
+piece_by w q c o t d fs r z h i un = quiet_act w q (StorePiece c o t d) fs r z h (record {
+  slot = λ s l p. ap (λ j. j.slot) (put_old w.job (job_at w q (act_of q (StorePiece c o t d))) (r.1.job) s (off s p));
+  fresh = λ s l. ap (λ j. j.slot) (put_old w.job (job_at w q (act_of q (StorePiece c o t d))) (r.1.job) s (far s l)) ∙ h.unmade s l;
+  call = λ n. (put_same (λ k. k.writer) w.call (target_call (act_of q (StorePiece c o t d))) (r.1.call) n (un.0), put_same (λ k. k.slots) w.call (target_call (act_of q (StorePiece c o t d))) (r.1.call) n (un.1));
+  top = tt;
+  wrote = λ n y. absurd (cc);
+  raised = λ n y. absurd (cc);
+  opens = λ s n p k m. absurd (omega (arith, m));
+})
+  where
+    said : (t + 1 ≤ w.jobs) × ((w.job t).kind ≡ PieceOf c o) × (c + 1 ≤ w.calls) × ((w.job t).at ≡ Over d)
+    said = top_says w q (StorePiece c o t d) fs ((((h.early).fills).hold).calls) z
+
+    apart : (s : ℕ) → (s ≡ t → ⊥) → (s == job_at w q (act_of q (StorePiece c o t d))) ≡ false
+    apart s f = elim (either (s == job_at w q (act_of q (StorePiece c o t d)))) [ inl y ↦ absurd (f (eqb-true s (job_at w q (act_of q (StorePiece c o t d))) y ∙ i)) | inr y ↦ y ]
+
+    off : (s : ℕ) → is_part (w.job s).kind ≡ false → (s == job_at w q (act_of q (StorePiece c o t d))) ≡ false
+    off s p = apart s (λ y. (let a : true ≡ false = sym (ap is_part (said.1)) ∙ ap (λ n. is_part (w.job n).kind) (sym y) ∙ p in cc))
+
+    far : (s : ℕ) → w.jobs ≤ s → (s == job_at w q (act_of q (StorePiece c o t d))) ≡ false
+    far s l = apart s (λ y. (let a : t + 1 ≤ w.jobs = said.0 in omega (arith, a, l, y)))
+
+pub piece_act : (w : World) (q : Party) (c : ℕ) (o : Party) (t : ℕ) (d : Ending) (fs : List Place) → w.stack q ≡ record { top = StorePiece c o t d; below = fs } → BooksHold w → IfSome (outcome w q (record { top = StorePiece c o t d; below = fs })) (Acts w q (StorePiece c o t d) fs)
+piece_act w (Worker a b) c o t d fs z h = piece_by w (Worker a b) c o t d fs _ z h refl (refl, refl)
+piece_act w (Caller n) c o t d fs z h = piece_by w (Caller n) c o t d fs _ z h refl (refl, refl)
 
 -- at a place of a spawn into a scope, or of the end of a job of one
-raised_top : (u : World) (q : Party) (e : Entry) (g : PoolShape) (fs : List Place) (s : Seen) → AllFrames fs → (u.job e.job).slot ≡ Closed → AtBook u q ((after_move (next_of g q (RaiseCount (Enter e)) s) fs).top)
-raised_top u q e g fs Done a y = y
-raised_top u q e g fs _ a y = clear_top u q (HandBack (Enter e)) fs a tt
+raised_top : (u : World) (q : Party) (n : Plan) (c : ℕ) (o : Party) (g : PoolShape) (fs : List Place) (s : Seen) → plan_count n ≡ OfScope c o → AllFrames fs → (u.job (plan_job n)).slot ≡ Closed → AtBook u q ((after_move (next_of g q (RaiseCount n) s) fs).top) × ((d : ℕ) → raising ((after_move (next_of g q (RaiseCount n) s) fs).top) ≡ Some d → ⊥)
+raised_top u q (Enter e) c o g fs Done k a y = (y, λ d i. cc)
+raised_top u q (Feed f) c o g fs Done k a y = (
+  subst (λ x. AtState u q (book_of (begin_feed x f))) (sym k) (subst (λ x. AtState u q (open_state x f.job)) (sym k) y),
+  λ d i. raises_none f.count d i,
+)
+  where
+    raises_none : (x : Count) (d : ℕ) → raising (begin_feed x f) ≡ Some d → ⊥
+    raises_none (OfPool p) d i = cc
+    raises_none (OfScope m r) d i = cc
+    raises_none (OfCast m r) d i = cc
+raised_top u q (Detach p t) c o g fs Done k a y = absurd (cc)
+raised_top u q (Here p t) c o g fs Done k a y = absurd (cc)
+raised_top u q (Send d) c o g fs Done k a y = absurd (cc)
+raised_top u q (Fork d t) c o g fs Done k a y = absurd (cc)
+raised_top u q (Open d) c o g fs Done k a y = absurd (cc)
+raised_top u q (Gather d) c o g fs Done k a y = absurd (cc)
+raised_top u q n c o g fs _ k a y = (clear_top u q (HandBack n) fs a tt, λ d i. clear_raises (HandBack n) fs d a tt i)
 
-raised_enters : (q : Party) (e y : Entry) (g : PoolShape) (fs : List Place) (s : Seen) → AllFrames fs → (after_move (next_of g q (RaiseCount (Enter e)) s) fs).top ≡ RaiseCount (Enter y) → ⊥
-raised_enters q e y g fs Done a z = cc
-raised_enters q e y g fs _ a z = clear_enters (HandBack (Enter e)) fs y a tt z
+fresh_closed : (w : World) (q : Party) (k : Count) (t c : ℕ) (o : Party) → k ≡ OfScope c o → AtState w q (fresh_state k t) → (w.job t).slot ≡ Closed
+fresh_closed w q k t c o e y = subst (λ x. AtState w q (fresh_state x t)) e y
 
-pub raise_act : (w : World) (q : Party) (e : Entry) (fs : List Place) → w.stack q ≡ record { top = RaiseCount (Enter e); below = fs } → BooksHold w → IfSome (outcome w q (record { top = RaiseCount (Enter e); below = fs })) (Acts w q (RaiseCount (Enter e)) fs)
-raise_act w q e fs z h = if_some_map (Unbooked (place_part w q (RaiseCount (Enter e)))) (Acts w q (RaiseCount (Enter e)) fs) (λ r un. quiet_act w q (RaiseCount (Enter e)) fs r z h refl un
-    (λ s c. raised_top (world_after w q (RaiseCount (Enter e)) fs r) q e (w.shape.pool (target_pool q (act_of q (RaiseCount (Enter e))))) fs (r.0) (below_frames w q (RaiseCount (Enter e)) fs z h) (s (e.job) ∙ subst (λ k. AtBook w q (k.top)) z (h.at q)))
-    (λ c y. absurd (cc)) (λ y i. raised_enters q e y (w.shape.pool (target_pool q (act_of q (RaiseCount (Enter e))))) fs (r.0) (below_frames w q (RaiseCount (Enter e)) fs z h) i)) (outcome w q (record { top = RaiseCount (Enter e); below = fs })) (act_unbooked w.shape q (counts_at w (target_pool q (act_of q (RaiseCount (Enter e))))) (place_part w q (RaiseCount (Enter e))) (RaiseCount (Enter e)) refl)
+fresh_none : (k : Count) (t d : ℕ) → holds_book (fresh_state k t) ≡ Some d → ⊥
+fresh_none (OfPool p) t d y = cc
+fresh_none (OfScope c o) t d y = cc
+fresh_none (OfCast c o) t d y = cc
 
-looked_top : (u : World) (q : Party) (e : Entry) (g : PoolShape) (fs : List Place) (s : Seen) → Written u q e → AtBook u q ((after_move (next_of g q (LookQueue (Enter e)) s) fs).top)
-looked_top u q e g fs Yes y = y
-looked_top u q e g fs _ y = y
+pub raise_act : (w : World) (q : Party) (n : Plan) (c : ℕ) (o : Party) (fs : List Place) → plan_count n ≡ OfScope c o → w.stack q ≡ record { top = RaiseCount n; below = fs } → BooksHold w → IfSome (outcome w q (record { top = RaiseCount n; below = fs })) (Acts w q (RaiseCount n) fs)
+raise_act w q n c o fs k z h = held_act w q (RaiseCount n) fs z h refl refl
+    (λ r s b. (raised_top (world_after w q (RaiseCount n) fs r) q n c o g0 fs (r.0) k (below_frames w q (RaiseCount n) fs z h) (s (plan_job n) ∙ closed)).0)
+    (λ e d y. absurd (fresh_none (plan_count n) (plan_job n) d y))
+    (λ e d i. absurd ((raised_top w q n c o g0 fs e k (below_frames w q (RaiseCount n) fs z h) closed).1 d i))
+  where
+    g0 : PoolShape
+    g0 = w.shape.pool (target_pool q (act_of q (RaiseCount n)))
 
-looked_writes : (q : Party) (e : Entry) (g : PoolShape) (fs : List Place) (s : Seen) → writes ((after_move (next_of g q (LookQueue (Enter e)) s) fs).top) ≡ Some e.call
-looked_writes q e g fs Yes = refl
-looked_writes q e g fs _ = refl
+    closed : (w.job (plan_job n)).slot ≡ Closed
+    closed = fresh_closed w q (plan_count n) (plan_job n) c o k (subst (λ v. AtBook w q (v.top)) z (h.at q))
 
-looked_enters : (q : Party) (e y : Entry) (g : PoolShape) (fs : List Place) (s : Seen) → (after_move (next_of g q (LookQueue (Enter e)) s) fs).top ≡ RaiseCount (Enter y) → ⊥
-looked_enters q e y g fs Yes z = cc
-looked_enters q e y g fs _ z = cc
+-- a state that stays
+looked_top : (u : World) (q : Party) (n : Plan) (g : PoolShape) (fs : List Place) (s : Seen) → AtState u q (hold_state (plan_count n) (plan_job n)) → AtBook u q ((after_move (next_of g q (LookQueue n) s) fs).top) × ((writes (LookQueue n) ≡ writes ((after_move (next_of g q (LookQueue n) s) fs).top)) × ((d : ℕ) → raising ((after_move (next_of g q (LookQueue n) s) fs).top) ≡ Some d → ⊥))
+looked_top u q n g fs Yes y = (y, (refl, λ d i. cc))
+looked_top u q n g fs _ y = (y, (refl, λ d i. cc))
 
-pub look_act : (w : World) (q : Party) (e : Entry) (fs : List Place) → w.stack q ≡ record { top = LookQueue (Enter e); below = fs } → BooksHold w → IfSome (outcome w q (record { top = LookQueue (Enter e); below = fs })) (Acts w q (LookQueue (Enter e)) fs)
-look_act w q e fs z h = if_some_map (Unbooked (place_part w q (LookQueue (Enter e)))) (Acts w q (LookQueue (Enter e)) fs) (λ r un. quiet_act w q (LookQueue (Enter e)) fs r z h refl un
-    (λ s c. looked_top (world_after w q (LookQueue (Enter e)) fs r) q e (w.shape.pool (target_pool q (act_of q (LookQueue (Enter e))))) fs (r.0) (written_kept w (world_after w q (LookQueue (Enter e)) fs r) q e (s (e.job)) (c (e.call)) (subst (λ k. AtBook w q (k.top)) z (h.at q))))
-    (λ c y. looked_writes q e (w.shape.pool (target_pool q (act_of q (LookQueue (Enter e))))) fs (r.0) ∙ y) (λ y i. looked_enters q e y (w.shape.pool (target_pool q (act_of q (LookQueue (Enter e))))) fs (r.0) i)) (outcome w q (record { top = LookQueue (Enter e); below = fs })) (act_unbooked w.shape q (counts_at w (target_pool q (act_of q (LookQueue (Enter e))))) (place_part w q (LookQueue (Enter e))) (LookQueue (Enter e)) refl)
+pub look_act : (w : World) (q : Party) (n : Plan) (fs : List Place) → w.stack q ≡ record { top = LookQueue n; below = fs } → BooksHold w → IfSome (outcome w q (record { top = LookQueue n; below = fs })) (Acts w q (LookQueue n) fs)
+look_act w q n fs z h = held_act w q (LookQueue n) fs z h refl refl
+    (λ r s b. (looked_top (world_after w q (LookQueue n) fs r) q n g0 fs (r.0) (at_kept w (world_after w q (LookQueue n) fs r) q (hold_state (plan_count n) (plan_job n)) (λ t i. s t) (λ c i. b c) here)).0)
+    (λ e d y. sym ((looked_top w q n g0 fs e here).1.0) ∙ y)
+    (λ e d i. absurd ((looked_top w q n g0 fs e here).1.1 d i))
+  where
+    g0 : PoolShape
+    g0 = w.shape.pool (target_pool q (act_of q (LookQueue n)))
 
-pub lower_act : (w : World) (q : Party) (c : ℕ) (o : Party) (t : ℕ) (n : Then) (fs : List Place) → w.stack q ≡ record { top = LowerCount (OfScope c o) (OfJob t) n; below = fs } → BooksHold w → IfSome (outcome w q (record { top = LowerCount (OfScope c o) (OfJob t) n; below = fs })) (Acts w q (LowerCount (OfScope c o) (OfJob t) n) fs)
-lower_act w q c o t n fs z h = if_some_map (Unbooked (place_part w q (LowerCount (OfScope c o) (OfJob t) n))) (Acts w q (LowerCount (OfScope c o) (OfJob t) n) fs) (λ r un. quiet_act w q (LowerCount (OfScope c o) (OfJob t) n) fs r z h refl un
-    (λ s d. clear_top (world_after w q (LowerCount (OfScope c o) (OfJob t) n) fs r) q (next_of (w.shape.pool (target_pool q (act_of q (LowerCount (OfScope c o) (OfJob t) n)))) q (LowerCount (OfScope c o) (OfJob t) n) (r.0)) fs (below_frames w q (LowerCount (OfScope c o) (OfJob t) n) fs z h) (lower_clear (w.shape.pool (target_pool q (act_of q (LowerCount (OfScope c o) (OfJob t) n)))) q (OfScope c o) (OfJob t) n (r.0)))
-    (λ d y. absurd (cc)) (λ y i. clear_enters (next_of (w.shape.pool (target_pool q (act_of q (LowerCount (OfScope c o) (OfJob t) n)))) q (LowerCount (OfScope c o) (OfJob t) n) (r.0)) fs y (below_frames w q (LowerCount (OfScope c o) (OfJob t) n) fs z h) (lower_clear (w.shape.pool (target_pool q (act_of q (LowerCount (OfScope c o) (OfJob t) n)))) q (OfScope c o) (OfJob t) n (r.0)) i)) (outcome w q (record { top = LowerCount (OfScope c o) (OfJob t) n; below = fs })) (act_unbooked w.shape q (counts_at w (target_pool q (act_of q (LowerCount (OfScope c o) (OfJob t) n)))) (place_part w q (LowerCount (OfScope c o) (OfJob t) n)) (LowerCount (OfScope c o) (OfJob t) n) refl)
+    here : AtState w q (hold_state (plan_count n) (plan_job n))
+    here = subst (λ v. AtBook w q (v.top)) z (h.at q)
+
+token_top : (u : World) (q : Party) (f : Feeding) (g : PoolShape) (fs : List Place) (s : Seen) → AtState u q (line_state f.count f.job) → AtBook u q ((after_move (next_of g q (LookForToken f) s) fs).top) × ((writes (LookForToken f) ≡ writes ((after_move (next_of g q (LookForToken f) s) fs).top)) × ((d : ℕ) → raising ((after_move (next_of g q (LookForToken f) s) fs).top) ≡ Some d → ⊥))
+token_top u q f g fs Yes y = (y, (refl, λ d i. cc))
+token_top u q f g fs _ y = (y, (refl, λ d i. cc))
+
+pub token_act : (w : World) (q : Party) (f : Feeding) (fs : List Place) → w.stack q ≡ record { top = LookForToken f; below = fs } → BooksHold w → IfSome (outcome w q (record { top = LookForToken f; below = fs })) (Acts w q (LookForToken f) fs)
+token_act w q f fs z h = held_act w q (LookForToken f) fs z h refl refl
+    (λ r s b. (token_top (world_after w q (LookForToken f) fs r) q f g0 fs (r.0) (at_kept w (world_after w q (LookForToken f) fs r) q (line_state f.count f.job) (λ t i. s t) (λ c i. b c) here)).0)
+    (λ e d y. sym ((token_top w q f g0 fs e here).1.0) ∙ y)
+    (λ e d i. absurd ((token_top w q f g0 fs e here).1.1 d i))
+  where
+    g0 : PoolShape
+    g0 = w.shape.pool (target_pool q (act_of q (LookForToken f)))
+
+    here : AtState w q (line_state f.count f.job)
+    here = subst (λ v. AtBook w q (v.top)) z (h.at q)
+
+-- a worker adds its job to its list
+line_of : (u : World) (q : Party) (k : Count) (t : ℕ) → IsWorker q → AtState u q (hold_state k t) → AtState u q (line_state k t)
+line_of u q (OfPool p) t i y = tt
+line_of u q (OfScope c o) t i y = (y, i)
+line_of u q (OfCast c o) t i y = tt
+
+line_writes : (k : Count) (t : ℕ) → holds_book (hold_state k t) ≡ holds_book (line_state k t)
+line_writes (OfPool p) t = refl
+line_writes (OfScope c o) t = refl
+line_writes (OfCast c o) t = refl
+
+pub close_of : (u : World) (q : Party) (k : Count) (n : Plan) → plan_count n ≡ k → AtState u q (hold_state k (plan_job n)) → AtState u q (book_of (withdraw (count_book k) n)) × ((holds_book (hold_state k (plan_job n)) ≡ writes (withdraw (count_book k) n)) × ((d : ℕ) → raising (withdraw (count_book k) n) ≡ Some d → ⊥))
+close_of u q (OfPool p) n e y = (subst (λ c. AtState u q (shut_state c (plan_job n))) (sym e) tt, (ap (λ c. holds_book (shut_state c (plan_job n))) (sym e), λ d i. cc))
+close_of u q (OfScope c o) n e y = (subst (λ k. AtState u q (close_state k (plan_job n))) (sym e) y, (ap (λ k. holds_book (close_state k (plan_job n))) (sym e), λ d i. cc))
+close_of u q (OfCast c o) n e y = (subst (λ c. AtState u q (shut_state c (plan_job n))) (sym e) tt, (ap (λ c. holds_book (shut_state c (plan_job n))) (sym e), λ d i. cc))
+
+added_top : (u : World) (q : Party) (f : Feeding) (g : PoolShape) (fs : List Place) (s : Seen) → IsWorker q → AtState u q (hold_state f.count f.job) → AtBook u q ((after_move (next_of g q (AddToFifo f) s) fs).top) × ((writes (AddToFifo f) ≡ writes ((after_move (next_of g q (AddToFifo f) s) fs).top)) × ((d : ℕ) → raising ((after_move (next_of g q (AddToFifo f) s) fs).top) ≡ Some d → ⊥))
+added_top u q f g fs Done i y = (line_of u q f.count f.job i y, (line_writes f.count f.job, λ d i. cc))
+added_top u q f g fs _ i y = close_of u q f.count (Feed f) refl y
+
+pub add_act : (w : World) (q : Party) (f : Feeding) (fs : List Place) → w.stack q ≡ record { top = AddToFifo f; below = fs } → BooksHold w → IfSome (outcome w q (record { top = AddToFifo f; below = fs })) (Acts w q (AddToFifo f) fs)
+add_act w (Caller n) f fs z h = tt
+add_act w (Worker a b) f fs z h = held_act w (Worker a b) (AddToFifo f) fs z h refl refl
+    (λ r s c. (added_top (world_after w (Worker a b) (AddToFifo f) fs r) (Worker a b) f g0 fs (r.0) (a, (b, refl)) (at_kept w (world_after w (Worker a b) (AddToFifo f) fs r) (Worker a b) (hold_state f.count f.job) (λ t i. s t) (λ n i. c n) here)).0)
+    (λ e d y. sym ((added_top w (Worker a b) f g0 fs e (a, (b, refl)) here).1.0) ∙ y)
+    (λ e d i. absurd ((added_top w (Worker a b) f g0 fs e (a, (b, refl)) here).1.1 d i))
+  where
+    g0 : PoolShape
+    g0 = w.shape.pool (target_pool (Worker a b) (act_of (Worker a b) (AddToFifo f)))
+
+    here : AtState w (Worker a b) (hold_state f.count f.job)
+    here = subst (λ v. AtBook w (Worker a b) (v.top)) z (h.at (Worker a b))
+
+-- and takes it back
+hold_of : (u : World) (q : Party) (k : Count) (t : ℕ) → AtState u q (line_state k t) → AtState u q (hold_state k t)
+hold_of u q (OfPool p) t y = tt
+hold_of u q (OfScope c o) t y = y.0
+hold_of u q (OfCast c o) t y = tt
+
+retaken_top : (u : World) (q : Party) (f : Feeding) (g : PoolShape) (fs : List Place) → AtState u q (hold_state f.count f.job) → AtBook u q ((after_move (next_of g q (TakeFromFifo f) (Task (Plain f.job))) fs).top) × ((holds_book (hold_state f.count f.job) ≡ writes ((after_move (next_of g q (TakeFromFifo f) (Task (Plain f.job))) fs).top)) × ((d : ℕ) → raising ((after_move (next_of g q (TakeFromFifo f) (Task (Plain f.job))) fs).top) ≡ Some d → ⊥))
+retaken_top u q f g fs y = close_of u q f.count (Feed f) refl y
+
+pub retake_act : (w : World) (q : Party) (f : Feeding) (fs : List Place) → w.stack q ≡ record { top = TakeFromFifo f; below = fs } → BooksHold w → IfSome (outcome w q (record { top = TakeFromFifo f; below = fs })) (Acts w q (TakeFromFifo f) fs)
+retake_act w (Caller n) f fs z h = tt
+retake_act w (Worker a b) f fs z h = if_some_map (λ r. Unbooked (place_part w (Worker a b) (TakeFromFifo f)) r × (r.0 ≡ Task (Plain f.job))) (Acts w (Worker a b) (TakeFromFifo f) fs) (λ r y. taken r (y.0) (y.1)) (outcome w (Worker a b) (record { top = TakeFromFifo f; below = fs }))
+    (if_some_and (Unbooked (place_part w (Worker a b) (TakeFromFifo f))) (λ r. r.0 ≡ Task (Plain f.job)) (outcome w (Worker a b) (record { top = TakeFromFifo f; below = fs })) (act_unbooked w.shape (Worker a b) (counts_at w a) (place_part w (Worker a b) (TakeFromFifo f)) (TakeFromFifo f) refl)
+    (subst (λ o. IfSome (if is_open (Worker a b) ((w.seat a b).feeder (count_book f.count)) then fifo_back (Worker a b) (place_part w (Worker a b) (TakeFromFifo f)) (count_book f.count) o else None) (λ r. r.0 ≡ Task (Plain f.job))) (sym last) (if_cond (λ (r : Seen × Part). r.0 ≡ Task (Plain f.job)) (is_open (Worker a b) ((w.seat a b).feeder (count_book f.count))) _ (λ o. refl))))
+  where
+    last : last_of ((w.seat a b).fifo (count_book f.count)) ≡ Some f.job
+    last = ((h.feeders).feeds a b f (ap (λ s. waits (s.top)) z)).1
+
+    here : AtState w (Worker a b) (hold_state f.count f.job)
+    here = hold_of w (Worker a b) f.count f.job (subst (λ v. AtBook w (Worker a b) (v.top)) z (h.at (Worker a b)))
+
+    g0 : PoolShape
+    g0 = w.shape.pool (target_pool (Worker a b) (act_of (Worker a b) (TakeFromFifo f)))
+
+    taken : (r : Seen × Part) → Unbooked (place_part w (Worker a b) (TakeFromFifo f)) r → r.0 ≡ Task (Plain f.job) → Acts w (Worker a b) (TakeFromFifo f) fs r
+    taken r un i = quiet_act w (Worker a b) (TakeFromFifo f) fs r z h (record {
+      slot = λ t l p. same_slot w (Worker a b) (TakeFromFifo f) fs r refl un t;
+      fresh = λ t l. same_slot w (Worker a b) (TakeFromFifo f) fs r refl un t ∙ h.unmade t l;
+      call = same_book w (Worker a b) (TakeFromFifo f) fs r un;
+      top = subst (λ e. AtBook (world_after w (Worker a b) (TakeFromFifo f) fs r) (Worker a b) ((after_move (next_of g0 (Worker a b) (TakeFromFifo f) e) fs).top)) (sym i)
+          ((retaken_top (world_after w (Worker a b) (TakeFromFifo f) fs r) (Worker a b) f g0 fs (at_kept w (world_after w (Worker a b) (TakeFromFifo f) fs r) (Worker a b) (hold_state f.count f.job) (λ t j. same_slot w (Worker a b) (TakeFromFifo f) fs r refl un t) (λ c j. same_book w (Worker a b) (TakeFromFifo f) fs r un c) here)).0);
+      wrote = λ c y. subst (λ e. writes ((after_move (next_of g0 (Worker a b) (TakeFromFifo f) e) fs).top) ≡ Some c) (sym i) (sym ((retaken_top w (Worker a b) f g0 fs here).1.0) ∙ line_writes f.count f.job ∙ y);
+      raised = λ c y. absurd ((retaken_top w (Worker a b) f g0 fs here).1.1 c (ap (λ e. raising ((after_move (next_of g0 (Worker a b) (TakeFromFifo f) e) fs).top)) (sym i) ∙ y));
+      opens = λ t c o k m. absurd (omega (arith, m));
+    })
+
+-- the share of a job goes back, and those of pieces come and go
+shut_none : (k : Count) (t d : ℕ) → holds_book (shut_state k t) ≡ Some d → ⊥
+shut_none (OfPool p) t d y = cc
+shut_none (OfScope c o) t d y = cc
+shut_none (OfCast c o) t d y = cc
+
+pub lower_act : (w : World) (q : Party) (k : Count) (t : ℕ) (n : Then) (fs : List Place) → w.stack q ≡ record { top = LowerCount k (OfJob t) n; below = fs } → BooksHold w → IfSome (outcome w q (record { top = LowerCount k (OfJob t) n; below = fs })) (Acts w q (LowerCount k (OfJob t) n) fs)
+lower_act w q k t n fs z h = clear_act w q (LowerCount k (OfJob t) n) fs z h refl refl (λ e. lower_clear (w.shape.pool (target_pool q (act_of q (LowerCount k (OfJob t) n)))) q k (OfJob t) n e) (λ c y. shut_none k t c y)
+
+shut_all_none : (k : Count) (b : Pieces) (d : ℕ) → holds_book (shut_all k b) ≡ Some d → ⊥
+shut_all_none (OfPool p) b d y = cc
+shut_all_none (OfScope c o) b d y = cc
+shut_all_none (OfCast c o) b d y = cc
+
+pub lower_all_act : (w : World) (q : Party) (b : Pieces) (fs : List Place) → w.stack q ≡ record { top = LowerForAll b; below = fs } → BooksHold w → IfSome (outcome w q (record { top = LowerForAll b; below = fs })) (Acts w q (LowerForAll b) fs)
+lower_all_act w q b fs z h = clear_act w q (LowerForAll b) fs z h refl refl (λ e. lower_all_clear (w.shape.pool (target_pool q (act_of q (LowerForAll b)))) q b e) (λ c y. shut_all_none b.count b c y)
+
+fresh_all_none : (k : Count) (b : Pieces) (d : ℕ) → holds_book (fresh_all k b) ≡ Some d → ⊥
+fresh_all_none (OfPool p) b d y = cc
+fresh_all_none (OfScope c o) b d y = cc
+fresh_all_none (OfCast c o) b d y = cc
+
+begun_of : (u : World) (q : Party) (k : Count) (b : Pieces) → b.count ≡ k → AtState u q (fresh_all k b) → AtState u q (book_of (begin_cast k b)) × ((d : ℕ) → raising (begin_cast k b) ≡ Some d → scope_count b.count ≡ Some d)
+begun_of u q (OfPool p) b e y = (subst (λ c. AtState u q (hold_all c b)) (sym e) tt, λ d i. i)
+begun_of u q (OfScope c o) b e y = (subst (λ c. AtState u q (open_all c b)) (sym e) y, λ d i. i)
+begun_of u q (OfCast c o) b e y = (subst (λ c. AtState u q (hold_all c b)) (sym e) tt, λ d i. i)
+
+all_raised_top : (u : World) (q : Party) (b : Pieces) (g : PoolShape) (fs : List Place) (s : Seen) → AllFrames fs → ((d : ℕ) → scope_count b.count ≡ Some d → holds_in d fs ≡ true) → AtState u q (fresh_all b.count b) → AtBook u q ((after_move (next_of g q (RaiseForAll b) s) fs).top) × ((d : ℕ) → raising ((after_move (next_of g q (RaiseForAll b) s) fs).top) ≡ Some d → holds_in d ((after_move (next_of g q (RaiseForAll b) s) fs).below) ≡ true)
+all_raised_top u q b g fs Done a k y = ((begun_of u q b.count b refl y).0, λ d i. k d ((begun_of u q b.count b refl y).1 d i))
+all_raised_top u q b g fs _ a k y = (clear_top u q (HandAllBack b) fs a tt, λ d i. absurd (clear_raises (HandAllBack b) fs d a tt i))
+
+pub raise_all_act : (w : World) (q : Party) (b : Pieces) (fs : List Place) → w.stack q ≡ record { top = RaiseForAll b; below = fs } → BooksHold w → IfSome (outcome w q (record { top = RaiseForAll b; below = fs })) (Acts w q (RaiseForAll b) fs)
+raise_all_act w q b fs z h = held_act w q (RaiseForAll b) fs z h refl refl
+    (λ r s c. (all_raised_top (world_after w q (RaiseForAll b) fs r) q b g0 fs (r.0) (below_frames w q (RaiseForAll b) fs z h) inside (at_kept w (world_after w q (RaiseForAll b) fs r) q (fresh_all b.count b) (λ t i. s t) (λ n i. c n) here)).0)
+    (λ e d y. absurd (fresh_all_none b.count b d y))
+    (λ e d i. (all_raised_top w q b g0 fs e (below_frames w q (RaiseForAll b) fs z h) inside here).1 d i)
+  where
+    g0 : PoolShape
+    g0 = w.shape.pool (target_pool q (act_of q (RaiseForAll b)))
+
+    inside : (d : ℕ) → scope_count b.count ≡ Some d → holds_in d fs ≡ true
+    inside d i = ap (λ s. holds_in d (s.below)) (sym z) ∙ h.enters q d (ap (λ s. raising (s.top)) z ∙ i)
+
+    here : AtState w q (fresh_all b.count b)
+    here = subst (λ v. AtBook w q (v.top)) z (h.at q)

@@ -4,6 +4,7 @@ use Rattle.std.specs.Prelude.{ℕ, Bool, true, false, ◌&&◌, ◌+◌, ◌-◌
 use Rattle.rayon_machine_places.specs.declared.place.Party.{Party}
 use Rattle.rayon_machine_places.specs.declared.place.Party.TheVariants.{Worker, Caller}
 use Rattle.rayon_machine_places.specs.declared.place.Ending.{Ending}
+use Rattle.rayon_machine_places.specs.declared.place.Ending.TheVariants.{Fine, Fault}
 use Rattle.rayon_machine_places.specs.declared.place.Target.{Target}
 use Rattle.rayon_machine_places.specs.declared.place.Target.TheVariants.{Termination, Answer}
 use Rattle.rayon_machine_places.specs.declared.place.Latch.{Latch}
@@ -11,15 +12,15 @@ use Rattle.rayon_machine_places.specs.declared.place.Latch.TheVariants.{Terminat
 use Rattle.rayon_machine_places.specs.declared.place.Rounds.{Rounds}
 use Rattle.rayon_machine_places.specs.declared.place.Rounds.TheVariants.{Failed, Announced}
 use Rattle.rayon_machine_places.specs.declared.place.Plan.{Plan}
-use Rattle.rayon_machine_places.specs.declared.place.Plan.TheVariants.{Detach, Here, Send, Fork, Feed, Open, Enter}
+use Rattle.rayon_machine_places.specs.declared.place.Plan.TheVariants.{Detach, Here, Send, Fork, Feed, Open, Enter, Gather}
 use Rattle.rayon_machine_places.specs.declared.place.Count.{Count}
-use Rattle.rayon_machine_places.specs.declared.place.Count.TheVariants.{OfPool, OfScope}
+use Rattle.rayon_machine_places.specs.declared.place.Count.TheVariants.{OfPool, OfScope, OfCast}
 use Rattle.rayon_machine_places.specs.declared.place.Share.{Share}
 use Rattle.rayon_machine_places.specs.declared.place.Share.TheVariants.{PoolValue, Body, OfJob}
 use Rattle.rayon_machine_places.specs.declared.place.Then.{Then}
-use Rattle.rayon_machine_places.specs.declared.place.Then.TheVariants.{BeginFound, LeaveWait, Resume, Await, RunFirst, Answers, Missing, Ran, GiveBack, Called}
+use Rattle.rayon_machine_places.specs.declared.place.Then.TheVariants.{BeginFound, LeaveWait, Resume, Await, RunFirst, Answers, Missing, Ran, GiveBack, Called, Gathers}
 use Rattle.rayon_machine_places.specs.declared.place.Place.{Place}
-use Rattle.rayon_machine_places.specs.declared.place.Place.TheVariants.{ProbeWorking, PopWorking, TakeCastWorking, BecomeInactive, ProbeIdle, PopIdle, TakeCastIdle, PickVictim, StealFrom, PopInjected, AnnounceSelf, GetSleepy, LockOwn, FallAsleep, LoadCounters, AddSleeping, LookAtCast, LookAtInjector, BlockSelf, RelockOwn, UndoSleeping, WakeUp, UnlockOwn, LeaveSearch, JoinProbe, JoinPop, JoinTakeCast, YieldPop, YieldTakeCast, YieldPick, YieldSteal, YieldPopInjected, LocalPop, LocalTakeCast, BeginTask, BeginHere, Run, RaiseCount, GrowCall, LookQueue, PushJob, TellNews, LockToWake, WakeWorker, UnlockWoken, WaitForLock, TakeResult, LowerCount, StoreResult, SetLatch, LockToSettle, WakeSettled, UnlockSettled, SetLockLatch, FirstSide, SecondSide, AtOnce, Free, Stopped, AddToFifo, LookForToken, PushToken, TakeFromFifo, RaiseForAll, PushForAll, LowerForAll, GrowScope, OpenSlot, CloseSlot, StoreBody, StoreSlot, ScopeBody}
+use Rattle.rayon_machine_places.specs.declared.place.Place.TheVariants.{ProbeWorking, PopWorking, TakeCastWorking, BecomeInactive, ProbeIdle, PopIdle, TakeCastIdle, PickVictim, StealFrom, PopInjected, AnnounceSelf, GetSleepy, LockOwn, FallAsleep, LoadCounters, AddSleeping, LookAtCast, LookAtInjector, BlockSelf, RelockOwn, UndoSleeping, WakeUp, UnlockOwn, LeaveSearch, JoinProbe, JoinPop, JoinTakeCast, YieldPop, YieldTakeCast, YieldPick, YieldSteal, YieldPopInjected, LocalPop, LocalTakeCast, BeginTask, BeginHere, Run, RaiseCount, GrowCall, LookQueue, PushJob, TellNews, LockToWake, WakeWorker, UnlockWoken, WaitForLock, TakeResult, LowerCount, StoreResult, SetLatch, LockToSettle, WakeSettled, UnlockSettled, SetLockLatch, FirstSide, SecondSide, AtOnce, Free, Stopped, AddToFifo, LookForToken, PushToken, TakeFromFifo, RaiseForAll, PushForAll, LowerForAll, GrowScope, OpenSlot, CloseSlot, StoreBody, StoreSlot, ScopeBody, OpenForAll, CloseForAll, GrowCast, DealPieces, StorePiece}
 use Rattle.rayon_machine_places.specs.declared.place.Move.{Move}
 use Rattle.rayon_machine_places.specs.declared.place.Move.TheVariants.{Stay, Enter, StartRun, Back, HandBack, Discard, HandIn, Mark, HandAllBack}
 use Rattle.rayon_machine_places.specs.declared.act.Seen.{Seen}
@@ -29,25 +30,35 @@ use Rattle.rayon_machine_places.specs.declared.shape.PoolShape.{PoolShape}
 use Rattle.rayon_machine_places.specs.declared.place.OpenCall.{OpenCall}
 use Rattle.rayon_machine_places.specs.declared.place.Wait.{Wait}
 use Rattle.rayon_machine_places.specs.declared.place.Settling.{Settling}
-use Rattle.rayon_machine_places.specs.Places.{own_pool, own_index, plan_pool, plan_job, after_wait, finish, walk, settle, after_set, after_found, after_news, after_raise, next_victim, not_self, after_failure, next_steal, next_of, is_taken, set_call, settle_count}
+use Rattle.rayon_machine_places.specs.Places.{own_pool, own_index, plan_pool, plan_job, begin_feed, after_slot, undo, withdraw, after_wait, finish, walk, settle, after_set, after_found, after_news, after_raise, next_victim, not_self, after_failure, next_steal, next_of, is_taken, set_call, settle_count}
 use Rattle.rayon_machine_places.specs.World.{World, is_token}
 use Rattle.rayon_machine_places.specs.Readers.{is_done}
-use Rattle.rayon_machine_laws.proofs.Claims.{FirstEnds, is_detached, SaysThen, Says, taken_over}
+use Rattle.rayon_machine_laws.proofs.Claims.{FirstEnds, is_body, is_detached, SaysThen, Says}
 use Rattle.rayon_machine_places.specs.declared.place.Taken.{Taken}
+use Rattle.rayon_machine_places.specs.declared.place.Feeding.{Feeding}
+use Rattle.rayon_machine_places.specs.declared.place.Gathering.{Gathering}
+use Rattle.rayon_machine_places.specs.declared.place.JobKind.TheVariants.{Detached, Stored, Direct, TokenOf, Scoped, BodyOf, PieceOf, WholeOf}
+use Rattle.rayon_machine_places.specs.declared.place.JobKind.{JobKind}
+use Rattle.rayon_machine_places.specs.declared.state.Job.{Job}
+use Rattle.rayon_machine_laws.specs.Counted.{has_body}
+use Rattle.rayon_machine_laws.specs.End.{HasEnded, ScopeTakes, CastTakes, Takes as TakesAs}
+use Rattle.rayon_machine_places.specs.Steps.{is_piece}
 
--- how far a call has come: its job is not yet queued, or it is, or a scope's body runs; its share is given back; or a step of the call was
--- refused. In between the job of a call for a FIFO list is there without a token, and is taken back where that is
--- refused
+-- how far a call has come: its job is not yet queued, or it is, or a scope's body runs; its share is given back; or a
+-- step of the call was refused, and then its share is given back. In between the job of a call for a FIFO list is there
+-- without a token, and is taken back where that is refused
 pub data Stage : Type 0 where
   Going : Stage
   Gone : Stage
   Paid : Stage
   Undone : Stage
+  Repaid : Stage
   Added : Stage
   Withdrawing : Stage
 
 abbrev pub is_undone : Stage → Bool
 is_undone Undone = true
+is_undone Repaid = true
 is_undone Withdrawing = true
 is_undone _ = false
 
@@ -56,6 +67,7 @@ abbrev pub plan_open : Plan → Option OpenCall
 plan_open (Send o) = Some o
 plan_open (Fork o a) = Some o
 plan_open (Open o) = Some o
+plan_open (Gather g) = Some g.call
 plan_open _ = None
 
 abbrev pub plan_here : Plan → Option ℕ
@@ -72,7 +84,14 @@ abbrev pub is_sent : Plan → Bool
 is_sent (Here p t) = false
 is_sent (Feed f) = false
 is_sent (Open o) = false
+is_sent (Gather g) = false
 is_sent _ = true
+
+-- a spawn into a scope opens a number of the scope's book, in order or not
+abbrev pub is_slotted : Plan → Bool
+is_slotted (Enter e) = true
+is_slotted (Feed f) = true
+is_slotted _ = false
 
 -- of which plan a call tells the news: one for a FIFO list, of its token
 abbrev pub told : Plan → Plan
@@ -97,6 +116,7 @@ PartThen n s (LeaveWait g) = PartTarget n s g
 PartThen n s Resume = (is_detach n ≡ true) × (s ≡ Gone)
 PartThen n s Called = ⊥
 PartThen n s (Await o) = PartOpen n s o
+PartThen n s (Gathers o) = PartOpen n s o
 PartThen n s (RunFirst o a) = (n ≡ Fork o a) × (s ≡ Gone)
 PartThen n s _ = ⊥
 
@@ -111,7 +131,7 @@ PartOwed n s _ = ⊥
 abbrev pub PartPaid : Plan → Stage → Then → Type 0
 PartPaid n s (Answers o f e) = (plan_open n ≡ Some o) × (s ≡ Paid)
 PartPaid n s (Ran t e) = (plan_here n ≡ Some t) × (s ≡ Paid)
-PartPaid n s (GiveBack m) = (m ≡ n) × (s ≡ Undone)
+PartPaid n s (GiveBack m) = (m ≡ n) × (s ≡ Repaid)
 PartPaid n s (Await o) = PartOpen n s o
 PartPaid n s _ = ⊥
 
@@ -179,44 +199,78 @@ Part n s (AtOnce p t) = (n ≡ Here p t) × (s ≡ Going)
 Part n s (GrowScope o) = (n ≡ Open o) × (s ≡ Going)
 Part n s (ScopeBody o) = (n ≡ Open o) × (s ≡ Gone)
 Part n s (StoreBody o e) = (n ≡ Open o) × (s ≡ Gone)
-Part n s (OpenSlot e) = (n ≡ Enter e) × (s ≡ Going)
-Part n s (CloseSlot e) = (n ≡ Enter e) × (s ≡ Undone)
+Part n s (OpenSlot m) = (m ≡ n) × (s ≡ Going) × (is_slotted m ≡ true)
+Part n s (CloseSlot m) = (m ≡ n) × (s ≡ Undone)
+Part n s (GrowCast g) = (n ≡ Gather g) × (s ≡ Going)
+Part n s (DealPieces g) = (n ≡ Gather g) × (s ≡ Going)
 Part n s _ = ⊥
 
 abbrev pub Ended : World → ℕ → Type 0
 Ended w t = is_done (w.job t).at ≡ true
 
--- a call that nothing refused can return: its jobs are over and its share is given back, or it was a spawn and has
--- queued its job
-abbrev pub Returns : World → Plan → Stage → Type 0
-Returns w (Detach p t) s = s ≡ Gone
-Returns w (Feed f) s = s ≡ Gone
-Returns w (Here p t) s = (s ≡ Paid) × Ended w t
-Returns w (Open o) s = (s ≡ Paid) × Ended w o.job
-Returns w (Enter e) s = s ≡ Gone
-Returns w (Send o) s = (s ≡ Paid) × Ended w o.job
-Returns w (Fork o a) s = (s ≡ Paid) × (Ended w a × Ended w o.job)
+-- what is known of the jobs of a call that waited once it has given its share back: they are over
+abbrev pub AllOver : (ℕ → Job) → Plan → Type 0
+AllOver f (Detach p t) = ⊤
+AllOver f (Feed d) = ⊤
+AllOver f (Enter e) = ⊤
+AllOver f (Here p t) = is_done (f t).at ≡ true
+AllOver f (Send o) = is_done (f o.job).at ≡ true
+AllOver f (Open o) = is_done (f o.job).at ≡ true
+AllOver f (Fork o a) = (is_done (f a).at ≡ true) × (is_done (f o.job).at ≡ true)
+AllOver f (Gather g) = (t : ℕ) → is_piece g.pieces t ≡ true → is_done (f t).at ≡ true
+
+-- and the count of a broadcast is 0 then
+abbrev pub NoneLeft : World → Plan → Type 0
+NoneLeft w (Gather g) = (w.call g.call.number).count ≡ 0
+NoneLeft w _ = ⊤
+
+-- a call that nothing refused can return: its share is given back, or it was a spawn and has queued its job
+abbrev pub Returns : Plan → Stage → Type 0
+Returns (Detach p t) s = s ≡ Gone
+Returns (Feed f) s = s ≡ Gone
+Returns (Enter e) s = s ≡ Gone
+Returns n s = s ≡ Paid
+
+-- the job of a scope's call: its body
+abbrev pub is_scope_body : JobKind → Bool
+is_scope_body (BodyOf c o) = true
+is_scope_body _ = false
+
+-- the job of a call that waits was made, and is of such a kind
+pub record KnownJob (w : World) (t : ℕ) (f : JobKind → Bool) (b : Bool) : Type 0 where
+  pub made : t + 1 ≤ w.jobs
+  pub sort : f (w.job t).kind ≡ b
+
+-- a broadcast that waits: its call has no first side, its own number stands for it, and the pieces are the call's
+pub record KnownGather (w : World) (g : Gathering) : Type 0 where
+  pub number : g.call.number + 1 ≤ w.calls
+  pub alone : (w.call g.call.number).first ≡ None
+  pub owner : Party
+  pub made : g.call.job + 1 ≤ w.jobs
+  pub whole : (w.job g.call.job).kind ≡ WholeOf g.call.number owner
+  pub pieces : (t : ℕ) → is_piece g.pieces t ≡ true → (t + 1 ≤ w.jobs) × ((w.job t).kind ≡ PieceOf g.call.number owner)
 
 -- what the world tells of a plan: no call waits for a spawn's job, a call that waits knows its first side, if it is a
 -- join
 abbrev pub Known : World → Plan → Type 0
 Known w (Detach p t) = (t + 1 ≤ w.jobs) × (is_detached (w.job t).kind ≡ true)
 Known w (Feed f) = ((f.job + 1 ≤ w.jobs) × (is_detached (w.job f.job).kind ≡ true)) × ((f.token + 1 ≤ w.jobs) × (is_token (w.job f.token).kind ≡ true))
-Known w (Open o) = (o.number + 1 ≤ w.calls) × ((w.call o.number).first ≡ None)
+Known w (Open o) = (o.number + 1 ≤ w.calls) × ((w.call o.number).first ≡ None) × KnownJob w o.job is_scope_body true
 Known w (Enter e) = (e.job + 1 ≤ w.jobs) × (is_detached (w.job e.job).kind ≡ true)
-Known w (Send o) = (o.number + 1 ≤ w.calls) × ((w.call o.number).first ≡ None)
-Known w (Fork o a) = (o.number + 1 ≤ w.calls) × ((w.call o.number).first ≡ Some a)
+Known w (Send o) = (o.number + 1 ≤ w.calls) × ((w.call o.number).first ≡ None) × KnownJob w o.job is_body false
+Known w (Fork o a) = (o.number + 1 ≤ w.calls) × ((w.call o.number).first ≡ Some a) × KnownJob w o.job is_body false
+Known w (Gather g) = KnownGather w g
 Known w _ = ⊤
 
 -- where a move of the call's own step leads
 abbrev pub Leads : World → Plan → Stage → Move → Type 0
 Leads w n s (Stay y) = Part n s y
 Leads w n s (HandIn y k) = ⊥
-Leads w n s (Mark y b9 m9) = ⊥
+Leads w n s (Mark y c m) = Part n s y
 Leads w n s (Enter f y) = Part n s f
 Leads w n s (StartRun f t) = Part n s f
-Leads w n s Back = Returns w n s
-Leads w n s (HandBack m) = (m ≡ n) × (s ≡ Undone)
+Leads w n s Back = Returns n s
+Leads w n s (HandBack m) = (m ≡ n) × (s ≡ Repaid)
 Leads w n s (Discard k) = ⊥
 Leads w n s (HandAllBack b9) = ⊥
 
@@ -227,44 +281,104 @@ first_ended w a None z = absurd z
 some_open : {o p : OpenCall} → Some o ≡ Some p → o ≡ p
 some_open e = cc
 
-open_returns : (w : World) (q : Party) (n : Plan) (s : Stage) (o : OpenCall) (f : Option Ending) (e : Ending) → Known w n → SaysThen w q (Answers o f e) → (plan_open n ≡ Some o) × (s ≡ Paid) → Returns w n s
-open_returns w q (Detach p t) s o f e k z y = absurd (let a : None ≡ Some o = y.0 in cc)
-open_returns w q (Here p t) s o f e k z y = absurd (let a : None ≡ Some o = y.0 in cc)
-open_returns w q (Feed d) s o f e k z y = absurd (let a : None ≡ Some o = y.0 in cc)
-open_returns w q (Open p) s o f e k z y = (y.1, subst (λ v. Ended w v.job) (sym (some_open (y.0))) (taken_over w o.job e (z.2)))
-open_returns w q (Enter x) s o f e k z y = absurd (let a : None ≡ Some o = y.0 in cc)
-open_returns w q (Send p) s o f e k z y = (y.1, subst (λ v. Ended w v.job) (sym (some_open (y.0))) (taken_over w o.job e (z.2)))
-open_returns w q (Fork p a) s o f e k z y =
-    let same : p ≡ o = some_open (y.0) in
-    let side : FirstEnds w (w.call p.number).first f = subst (λ v. FirstEnds w (w.call v.number).first f) (sym same) (z.1) in
-    (y.1, (first_ended w a f (subst (λ v. FirstEnds w v f) (k.1) side), subst (λ v. Ended w v.job) (sym same) (taken_over w o.job e (z.2))))
+-- what a call took tells that its job is over, or all pieces of a broadcast are
+pub plain_takes : (w : World) (o : OpenCall) (d : Ending) (k : JobKind) → is_body k ≡ false → TakesAs w o k d → HasEnded w o.job d
+plain_takes w o d (BodyOf c p) b y = cc
+plain_takes w o d (WholeOf c p) b y = cc
+plain_takes w o d (Detached p) b y = y
+plain_takes w o d (Stored c p) b y = y
+plain_takes w o d (Scoped c p) b y = y
+plain_takes w o d (PieceOf c p) b y = y
+plain_takes w o d (TokenOf i b9) b y = y
+plain_takes w o d Direct b y = y
 
-detach_returns : (w : World) (n : Plan) (s : Stage) → (is_detach n ≡ true) × (s ≡ Gone) → Returns w n s
-detach_returns w (Detach p t) s y = y.1
-detach_returns w (Feed f) s y = y.1
-detach_returns w (Here p t) s y = absurd (let a : false ≡ true = y.0 in cc)
-detach_returns w (Send o) s y = absurd (let a : false ≡ true = y.0 in cc)
-detach_returns w (Open o) s y = absurd (let a : false ≡ true = y.0 in cc)
-detach_returns w (Enter e) s y = y.1
-detach_returns w (Fork o a) s y = absurd (let b : false ≡ true = y.0 in cc)
+pub body_takes : (w : World) (o : OpenCall) (d : Ending) (k : JobKind) → is_scope_body k ≡ true → TakesAs w o k d → ScopeTakes w o.number d
+body_takes w o d (BodyOf c p) b y = y
+body_takes w o d _ b y = cc
 
-here_returns : (w : World) (n : Plan) (s : Stage) (t : ℕ) (e : Ending) → (w.job t).at ≡ Over e → (plan_here n ≡ Some t) × (s ≡ Paid) → Returns w n s
-here_returns w (Here p u) s t e z y = (y.1, (let a : Some u ≡ Some t = y.0 in let b : u ≡ t = cc in subst (λ v. Ended w v) (sym b) (ap is_done z)))
-here_returns w (Feed f) s t e z y = absurd (let a : None ≡ Some t = y.0 in cc)
-here_returns w (Detach p u) s t e z y = absurd (let a : None ≡ Some t = y.0 in cc)
-here_returns w (Send o) s t e z y = absurd (let a : None ≡ Some t = y.0 in cc)
-here_returns w (Open o) s t e z y = absurd (let a : None ≡ Some t = y.0 in cc)
-here_returns w (Enter x) s t e z y = absurd (let a : None ≡ Some t = y.0 in cc)
-here_returns w (Fork o b) s t e z y = absurd (let a : None ≡ Some t = y.0 in cc)
+scope_over : (w : World) (c : ℕ) (d : Ending) → ScopeTakes w c d → Ended w (w.call c).job
+scope_over w c Fine y = ap is_done (y.body).at
+scope_over w c Fault y = ap is_done (y.body).at
+
+pub pieces_over : (w : World) (c : ℕ) (d : Ending) → CastTakes w c d → (t : ℕ) (o : Party) → t + 1 ≤ w.jobs → (w.job t).kind ≡ PieceOf c o → Ended w t
+pieces_over w c Fine y t o m k = ap is_done ((y.pieces t o m k).at)
+pieces_over w c Fault y t o m k = ap is_done (((y.pieces t o m k).1).at)
+
+-- what a call knows that is to answer
+pub record Knows (w : World) (o : OpenCall) (f : Option Ending) (d : Ending) : Type 0 where
+  pub own : (w.call o.number).job ≡ o.job
+  pub side : FirstEnds w (w.call o.number).first f
+  pub took : TakesAs w o (w.job o.job).kind d
+  pub count : has_body (w.job o.job).kind ≡ false → (w.call o.number).count ≡ 0
+
+pub open_over : (w : World) (n : Plan) (o : OpenCall) (f : Option Ending) (d : Ending) → Known w n → Knows w o f d → plan_open n ≡ Some o → AllOver w.job n
+open_over w (Detach p t) o f d k y e = tt
+open_over w (Here p t) o f d k y e = absurd (cc)
+open_over w (Feed g) o f d k y e = tt
+open_over w (Enter x) o f d k y e = tt
+open_over w (Send m) o f d k y e = let i : o ≡ m = sym (some_open e) in let z : Knows w m f d = subst (λ x. Knows w x f d) i y in ap is_done ((plain_takes w m d ((w.job m.job).kind) ((k.2).sort) z.took).at)
+open_over w (Open m) o f d k y e = let i : o ≡ m = sym (some_open e) in let z : Knows w m f d = subst (λ x. Knows w x f d) i y in subst (Ended w) z.own (scope_over w m.number d (body_takes w m d ((w.job m.job).kind) ((k.2).sort) z.took))
+open_over w (Fork m a) o f d k y e = let i : o ≡ m = sym (some_open e) in let z : Knows w m f d = subst (λ x. Knows w x f d) i y in (first_ended w a f (subst (λ v. FirstEnds w v f) (k.1) z.side), ap is_done ((plain_takes w m d ((w.job m.job).kind) ((k.2).sort) z.took).at))
+open_over w (Gather g) o f d k y e = let i : o ≡ g.call = sym (some_open e) in let z : Knows w g.call f d = subst (λ x. Knows w x f d) i y in let c : CastTakes w g.call.number d = subst (λ x. TakesAs w g.call x d) k.whole z.took in λ t p. pieces_over w g.call.number d c t k.owner ((k.pieces t p).0) ((k.pieces t p).1)
+
+pub open_none : (w : World) (n : Plan) (o : OpenCall) (f : Option Ending) (d : Ending) → Known w n → Knows w o f d → plan_open n ≡ Some o → NoneLeft w n
+open_none w (Gather g) o f d k y e = let i : o ≡ g.call = sym (some_open e) in let z : Knows w g.call f d = subst (λ x. Knows w x f d) i y in z.count (ap has_body k.whole)
+open_none w _ o f d k y e = tt
+
+pub here_none : (w : World) (n : Plan) (t : ℕ) → plan_here n ≡ Some t → NoneLeft w n
+here_none w (Gather g) t y = absurd (cc)
+here_none w _ t y = tt
+
+pub here_over : (w : World) (n : Plan) (t : ℕ) (e : Ending) → (w.job t).at ≡ Over e → plan_here n ≡ Some t → AllOver w.job n
+here_over w (Here p u) t e z y = (let b : u ≡ t = cc in subst (λ v. Ended w v) (sym b) (ap is_done z))
+here_over w (Feed f) t e z y = tt
+here_over w (Detach p u) t e z y = tt
+here_over w (Enter x) t e z y = tt
+here_over w (Send o) t e z y = absurd (cc)
+here_over w (Open o) t e z y = absurd (cc)
+here_over w (Fork o b) t e z y = absurd (cc)
+here_over w (Gather g) t e z y = absurd (cc)
+
+open_returns : (n : Plan) (s : Stage) (o : OpenCall) → (plan_open n ≡ Some o) × (s ≡ Paid) → Returns n s
+open_returns (Detach p t) s o y = absurd (let a : None ≡ Some o = y.0 in cc)
+open_returns (Here p t) s o y = y.1
+open_returns (Feed d) s o y = absurd (let a : None ≡ Some o = y.0 in cc)
+open_returns (Open p) s o y = y.1
+open_returns (Enter x) s o y = absurd (let a : None ≡ Some o = y.0 in cc)
+open_returns (Send p) s o y = y.1
+open_returns (Fork p a) s o y = y.1
+open_returns (Gather g) s o y = y.1
+
+detach_returns : (n : Plan) (s : Stage) → (is_detach n ≡ true) × (s ≡ Gone) → Returns n s
+detach_returns (Detach p t) s y = y.1
+detach_returns (Feed f) s y = y.1
+detach_returns (Here p t) s y = absurd (let a : false ≡ true = y.0 in cc)
+detach_returns (Send o) s y = absurd (let a : false ≡ true = y.0 in cc)
+detach_returns (Open o) s y = absurd (let a : false ≡ true = y.0 in cc)
+detach_returns (Enter e) s y = y.1
+detach_returns (Fork o a) s y = absurd (let b : false ≡ true = y.0 in cc)
+detach_returns (Gather g) s y = absurd (let b : false ≡ true = y.0 in cc)
+
+here_returns : (n : Plan) (s : Stage) (t : ℕ) → (plan_here n ≡ Some t) × (s ≡ Paid) → Returns n s
+here_returns (Here p u) s t y = y.1
+here_returns (Feed f) s t y = absurd (let a : None ≡ Some t = y.0 in cc)
+here_returns (Detach p u) s t y = absurd (let a : None ≡ Some t = y.0 in cc)
+here_returns (Enter x) s t y = absurd (let a : None ≡ Some t = y.0 in cc)
+here_returns (Send o) s t y = y.1
+here_returns (Open o) s t y = y.1
+here_returns (Fork o b) s t y = y.1
+here_returns (Gather g) s t y = y.1
 
 finish_leads : (w : World) (q : Party) (n : Plan) (s : Stage) (t : Then) → PartThen n s t → Leads w n s (finish q t)
 finish_leads w q n s (BeginFound g t) y = y
 finish_leads w q n s (LeaveWait Termination) y = absurd y
 finish_leads w q n s (LeaveWait (Answer o f)) y = y
-finish_leads w q n s Resume y = detach_returns w n s y
+finish_leads w q n s Resume y = detach_returns n s y
 finish_leads w q n s Called y = absurd y
 finish_leads w (Worker p i) n s (Await o) y = y
 finish_leads w (Caller c) n s (Await o) y = y
+finish_leads w (Worker p i) n s (Gathers o) y = y
+finish_leads w (Caller c) n s (Gathers o) y = y
 finish_leads w q n s (RunFirst o a) y = y
 finish_leads w q n s (Answers o f e) y = absurd y
 finish_leads w q n s (Missing o f) y = absurd y
@@ -272,8 +386,8 @@ finish_leads w q n s (Ran t e) y = absurd y
 finish_leads w q n s (GiveBack m) y = absurd y
 
 paid_leads : (w : World) (q : Party) (n : Plan) (s : Stage) (t : Then) → Known w n → SaysThen w q t → PartPaid n s t → Leads w n s (finish q t)
-paid_leads w q n s (Answers o f e) k z y = open_returns w q n s o f e k z y
-paid_leads w q n s (Ran t e) k z y = here_returns w n s t e z y
+paid_leads w q n s (Answers o f e) k z y = open_returns n s o y
+paid_leads w q n s (Ran t e) k z y = here_returns n s t y
 paid_leads w q n s (GiveBack m) k z y = y
 paid_leads w q n s (BeginFound g t) k z y = absurd y
 paid_leads w q n s (LeaveWait g) k z y = absurd y
@@ -281,6 +395,7 @@ paid_leads w q n s Resume k z y = absurd y
 paid_leads w q n s Called k z y = absurd y
 paid_leads w (Worker p i) n s (Await o) k z y = y
 paid_leads w (Caller c) n s (Await o) k z y = y
+paid_leads w q n s (Gathers o) k z y = absurd y
 paid_leads w q n s (RunFirst o a) k z y = absurd y
 paid_leads w q n s (Missing o f) k z y = absurd y
 
@@ -309,6 +424,7 @@ set_part n s c (Caller m) t y = y
 zero_leads : (w : World) (g : PoolShape) (q : Party) (n : Plan) (s : Stage) (p : Count) (t : Then) → Known w n → SaysThen w q t → PartPaid n s t → Leads w n s (settle_count g q p t)
 zero_leads w g q n s (OfPool p) t k z y = settle_leads w g q n s p 0 t k z y
 zero_leads w g q n s (OfScope c o) t k z y = set_part n s c o t y
+zero_leads w g q n s (OfCast c o) t k z y = set_part n s c o t y
 
 -- a Lower of the call leads on as it has been paid
 pub lower_leads : (w : World) (g : PoolShape) (q : Party) (n : Plan) (s : Stage) (p : Count) (h : Share) (t : Then) (e : Seen) → Known w n → SaysThen w q t → PartPaid n s t → Leads w n s (next_of g q (LowerCount p h t) e)
@@ -358,6 +474,7 @@ told_detach (Send o) = refl
 told_detach (Open o) = refl
 told_detach (Enter e) = refl
 told_detach (Fork o a) = refl
+told_detach (Gather g) = refl
 
 told_open : (n : Plan) → plan_open (told n) ≡ plan_open n
 told_open (Feed f) = refl
@@ -367,6 +484,7 @@ told_open (Send o) = refl
 told_open (Open o) = refl
 told_open (Enter e) = refl
 told_open (Fork o a) = refl
+told_open (Gather g) = refl
 
 told_fork : (n : Plan) (o : OpenCall) (a : ℕ) → Fork o a ≡ told n → n ≡ Fork o a
 told_fork (Feed f) o a e = cc
@@ -376,24 +494,52 @@ told_fork (Send m) o a e = sym e
 told_fork (Open m) o a e = sym e
 told_fork (Enter m) o a e = sym e
 told_fork (Fork m b) o a e = sym e
+told_fork (Gather m) o a e = sym e
 
 news_part : (n : Plan) (s : Stage) (m : Plan) → PartPlan (told n) s Gone m → PartThen n s (after_news m)
 news_part n s (Detach p t) y = (sym (told_detach n) ∙ ap is_detach (sym (y.0)), y.1)
 news_part n s (Here p t) y = absurd (let a : false ≡ true = y.2 in cc)
 news_part n s (Feed f) y = absurd (let a : false ≡ true = y.2 in cc)
 news_part n s (Open o) y = absurd (let a : false ≡ true = y.2 in cc)
+news_part n s (Gather g) y = absurd (let a : false ≡ true = y.2 in cc)
 news_part n s (Enter e) y = (sym (told_detach n) ∙ ap is_detach (sym (y.0)), y.1)
 news_part n s (Send o) y = (sym (told_open n) ∙ ap plan_open (sym (y.0)), y.1)
 news_part n s (Fork o a) y = (told_fork n o a (y.0), y.1)
 
+-- what a spawn in order goes on with once it has its share
+fed_part : (n : Plan) (s : Stage) (f : Feeding) (k : Count) → (Feed f ≡ n) × (s ≡ Going) → Part n s (begin_feed k f)
+fed_part n s f (OfPool p) y = (sym (y.0), y.1)
+fed_part n s f (OfScope c o) y = (y.0, y.1, refl)
+fed_part n s f (OfCast c o) y = (sym (y.0), y.1)
+
+-- and a spawn into a scope once it has a number of the book
+pub slot_part : (n : Plan) (s : Stage) (m : Plan) → Part n s (OpenSlot m) → Part n s (after_slot m)
+slot_part n s (Enter e) y = (y.0, y.1, refl)
+slot_part n s (Feed f) y = (sym (y.0), y.1)
+slot_part n s (Detach p t) y = absurd (let a : false ≡ true = y.2 in cc)
+slot_part n s (Here p t) y = absurd (let a : false ≡ true = y.2 in cc)
+slot_part n s (Send o) y = absurd (let a : false ≡ true = y.2 in cc)
+slot_part n s (Fork o a) y = absurd (let b : false ≡ true = y.2 in cc)
+slot_part n s (Open o) y = absurd (let a : false ≡ true = y.2 in cc)
+slot_part n s (Gather g) y = absurd (let a : false ≡ true = y.2 in cc)
+
+-- a refused call gives its share back, or takes its number of a book back first
+pub undo_part : (n m : Plan) → m ≡ n → Part n Undone (undo m)
+undo_part n m e = (ap plan_job e, (e, refl))
+
+pub withdraw_part : (n m : Plan) (b : Option ℕ) → m ≡ n → Part n Undone (withdraw b m)
+withdraw_part n m None e = undo_part n m e
+withdraw_part n m (Some c) e = (e, refl)
+
 -- once its pool's count is raised for it
 pub raised_leads : (w : World) (n : Plan) (s : Stage) (m : Plan) → Known w n → (m ≡ n) × (s ≡ Going) → Leads w n s (after_raise m)
 raised_leads w n s (Detach p t) k y = (y.0, y.1, refl)
-raised_leads w n s (Feed f) k y = (sym (y.0), y.1)
+raised_leads w n s (Feed f) k y = fed_part n s f f.count y
+raised_leads w n s (Gather g) k y = (sym (y.0), y.1)
 raised_leads w n s (Here p t) k y = (sym (y.0), y.1)
 raised_leads w n s (Send o) k y = (y.0, y.1, refl)
 raised_leads w n s (Open o) k y = (sym (y.0), y.1)
-raised_leads w n s (Enter e) k y = (sym (y.0), y.1)
+raised_leads w n s (Enter e) k y = (y.0, y.1, refl)
 raised_leads w n s (Fork o a) k y = (y.0, y.1, refl)
 
 -- the acts whose answer decides more than the place
@@ -408,6 +554,8 @@ is_decisive (TakeResult o f) = true
 is_decisive (LowerCount p h t) = true
 is_decisive (GrowScope o) = true
 is_decisive (OpenSlot e) = true
+is_decisive (GrowCast g) = true
+is_decisive (DealPieces g) = true
 is_decisive _ = false
 
 -- every other place of a call leads to another of it, or the call returns
@@ -466,9 +614,14 @@ part_leads w g q n s (StoreResult c o f) e d h z y = absurd y
 part_leads w g q n s (SetLockLatch c t) e d h z y = paid_leads w q n s t h (z.1) y
 part_leads w g q n s (GrowScope o) e d h z y = absurd (let a : true ≡ false = d in cc)
 part_leads w g q n s (OpenSlot o) e d h z y = absurd (let a : true ≡ false = d in cc)
-part_leads w g q n s (CloseSlot o) e d h z y = (ap plan_job (sym (y.0)), (sym (y.0), y.1))
+part_leads w g q n s (CloseSlot m) e d h z y = (ap plan_job (y.0), y)
 part_leads w g q n s (StoreBody o f) e d h z y = y
 part_leads w g q n s (StoreSlot c o t f) e d h z y = absurd y
+part_leads w g q n s (StorePiece c o t f) e d h z y = absurd y
+part_leads w g q n s (GrowCast b) e d h z y = absurd (let a : true ≡ false = d in cc)
+part_leads w g q n s (DealPieces b) e d h z y = absurd (let a : true ≡ false = d in cc)
+part_leads w g q n s (OpenForAll c) e d h z y = absurd y
+part_leads w g q n s (CloseForAll c) e d h z y = absurd y
 part_leads w g q n s (ScopeBody o) e d h z y = y
 part_leads w g q n s Free e d h z y = absurd y
 part_leads w g q n s Stopped e d h z y = absurd y
@@ -506,6 +659,7 @@ open_job (Open m) o e = let a : m ≡ o = cc in ap (λ x. x.job) (sym a)
 open_job (Enter m) o e = absurd (cc)
 open_job (Send m) o e = let a : m ≡ o = cc in ap (λ x. x.job) (sym a)
 open_job (Fork m a) o e = let b : m ≡ o = cc in ap (λ x. x.job) (sym b)
+open_job (Gather g) o e = let b : g.call ≡ o = cc in ap (λ x. x.job) (sym b)
 
 pub here_job : (n : Plan) (t : ℕ) → plan_here n ≡ Some t → t ≡ plan_job n
 here_job (Detach p u) t e = absurd (cc)
@@ -515,3 +669,4 @@ here_job (Enter m) t e = absurd (cc)
 here_job (Here p u) t e = (let a : u ≡ t = cc in sym a)
 here_job (Send m) t e = absurd (cc)
 here_job (Fork m a) t e = absurd (cc)
+here_job (Gather m) t e = absurd (cc)

@@ -1,62 +1,62 @@
 -- what a step keeps of the calls and jobs that a call names
 use Rattle.rayon_machine_laws.proofs.ShareLowers.{returned_jobs}
-use Rattle.rayon_machine_places.specs.declared.place.Mark.TheVariants.{Counted, Returned}
+use Rattle.rayon_machine_places.specs.declared.place.Mark.TheVariants.{Counted, Returned, Dealt}
 use Rattle.rayon_machine_places.specs.declared.place.Pieces.{Pieces}
 use Rattle.rayon_machine_places.specs.declared.place.Mark.{Mark as Marking}
 use Rattle.std.proofs.Common.{arith, refl, ◌∙◌, ap, subst, inl, inr, sym}
-use Rattle.std.specs.Prelude.{ℕ, Bool, true, false, ◌&&◌, ◌||◌, ◌+◌, ◌==◌, ◌≤◌, if◌then◌else◌, Some, List, ◌≡◌, IfSome, ◌⊎◌, zero, suc, ◌-◌}
+use Rattle.std.specs.Prelude.{ℕ, Bool, true, false, ◌&&◌, ◌||◌, ◌+◌, ◌==◌, ◌≤◌, if◌then◌else◌, Option, Some, List, ◌≡◌, IfSome, ◌⊎◌, zero, suc, ◌-◌}
 use Rattle.std.proofs.lemmas.Bool.{eqb-true, eq-eqb}
 use Rattle.rayon_machine_places.specs.declared.place.Party.{Party}
 use Rattle.rayon_machine_places.specs.declared.place.Party.TheVariants.{Worker, Caller}
 use Rattle.rayon_machine_places.specs.declared.place.Plan.{Plan}
-use Rattle.rayon_machine_places.specs.declared.place.Plan.TheVariants.{Detach, Here, Send, Fork, Feed, Open, Enter}
+use Rattle.rayon_machine_places.specs.declared.place.Plan.TheVariants.{Detach, Here, Send, Fork, Feed, Open, Enter, Gather}
 use Rattle.rayon_machine_places.specs.declared.place.Count.{Count}
 use Rattle.rayon_machine_places.specs.declared.place.Share.TheVariants.{PoolValue, OfJob, Body}
 use Rattle.rayon_machine_places.specs.declared.place.Then.{Then}
 use Rattle.rayon_machine_places.specs.declared.place.Place.{Place}
-use Rattle.rayon_machine_places.specs.declared.place.Place.TheVariants.{YieldPop, LocalPop, RaiseCount, LowerCount, TakeFromFifo, RaiseForAll, LowerForAll}
+use Rattle.rayon_machine_places.specs.declared.place.Place.TheVariants.{YieldPop, LocalPop, RaiseCount, LowerCount, TakeFromFifo, RaiseForAll, LowerForAll, DealPieces}
 use Rattle.rayon_machine_places.specs.declared.act.Seen.{Seen}
 use Rattle.rayon_machine_places.specs.declared.act.Seen.TheVariants.{Done, Refused, Task, Yes, No}
 use Rattle.rayon_machine_places.specs.declared.event.Event.{Event}
-use Rattle.rayon_machine_places.specs.declared.event.Event.TheVariants.{Go, From, Refuse, Miss, End, Spawn, Fifo, Install, Join, Scope as OpenScope, IntoSpawn, Yield, YieldLocal, EndPool, Cast}
+use Rattle.rayon_machine_places.specs.declared.event.Event.TheVariants.{Go, From, Refuse, Miss, End, Spawn, Fifo, Install, Join, Scope as OpenScope, IntoSpawn, Yield, YieldLocal, EndPool, Cast, IntoFifo, IntoCast, Broadcast}
 use Rattle.rayon_machine_places.specs.declared.state.Whereabouts.{Whereabouts}
 use Rattle.rayon_machine_places.specs.declared.state.Whereabouts.TheVariants.{Nowhere, Made, InDeque, Injected, InFifo, Running, Over, HandedBack, Spent, Retaken, InCast}
-use Rattle.rayon_machine_places.specs.Places.{plan_job, plan_count, act_of, next_of, taken_number}
-use Rattle.rayon_machine_places.specs.World.{World, Part, count_in, raised, counts_at, target_pool, target_worker, target_call, at_job, begun, is_token, last_of, or_none, effect}
-use Rattle.rayon_machine_places.specs.Steps.{put, step, jobs_after, is_piece, mark_pieces, marked}
+use Rattle.rayon_machine_places.specs.Places.{plan_job, plan_count, count_book, act_of, next_of, same_party, taken_number}
+use Rattle.rayon_machine_places.specs.World.{Stack, World, Part, count_in, count_pool, raised, counts_at, target_pool, target_worker, target_call, at_job, begun, is_token, last_of, or_none, effect}
+use Rattle.rayon_machine_places.specs.Steps.{put, put_stack, step, jobs_after, is_piece, mark_pieces, marked}
 use Rattle.rayon_machine_places.specs.Readers.{is_queued, is_running, is_done}
 use Rattle.rayon_machine_laws.specs.Once.{one, in_fifo, times}
 use Rattle.rayon_machine_laws.specs.Shares.{is_busy, share, shares_in, shares}
-use Rattle.rayon_machine_laws.proofs.Frame.{if_some_map, acted_keeps, put_same, after_kind, after_bound, after_counted, and_parts, either, if_some_all, if_some_and, is_sharing, piece_old}
+use Rattle.rayon_machine_laws.proofs.Frame.{if_some_map, acted_keeps, put_same, after_kind, after_bound, and_parts, either, if_some_all, if_some_and, is_sharing, piece_old, same_party_true, stack_mine, stack_other}
 use Rattle.rayon_machine_laws.proofs.Ties.{job_at, outcome, result}
-use Rattle.rayon_machine_laws.proofs.Hands.{hand_plan, held_in, held}
-use Rattle.rayon_machine_laws.proofs.Located.{Loc, Hand, loc_of, loc_at, is_loc, is_left}
+use Rattle.rayon_machine_laws.proofs.Located.{is_left}
 use Rattle.rayon_machine_laws.proofs.PlacedRuns.{JobsHold, once}
 use Rattle.rayon_machine_laws.proofs.PlacedEvents.{Advance, IsFinal, final_left}
-use Rattle.rayon_machine_laws.proofs.Claims.{is_detached}
+use Rattle.rayon_machine_laws.proofs.Claims.{is_body, is_detached}
 use Rattle.rayon_machine_laws.proofs.Later.{Static, act_static}
 use Rattle.rayon_machine_laws.proofs.ClaimRuns.{place_part, world_after}
 use Rattle.rayon_machine_laws.proofs.Bares.{all_bare, backs}
 use Rattle.rayon_machine_laws.proofs.ShareActs.{SharesHold, with_job, Untallied, act_untallied, one_most, one_is}
 use Rattle.rayon_machine_laws.proofs.Returns.{ReturnsHold, Unbacked, act_unbacked, put_backs}
-use Rattle.rayon_machine_orders.proofs.CallPlaces.{Stage, Going, Gone, Paid, Undone, Ended, Known, Added, Withdrawing}
-use Rattle.rayon_machine_orders.proofs.CallActs.{Queued, Sofar, HandedOn, TokenOn}
-use Rattle.rayon_machine_orders.proofs.CallEvents.{Turned, from_turned, refuse_turned, miss_turned, end_turned, spawn_turned, install_turned, join_turned, scope_turned, into_turned, yield_turned, give_turned, fifo_turned, cast_turned}
+use Rattle.rayon_machine_orders.proofs.CallPlaces.{Stage, Going, Gone, Paid, Undone, Repaid, Ended, Known, KnownJob, AllOver, NoneLeft, is_scope_body, Added, Withdrawing}
+use Rattle.rayon_machine_orders.proofs.CallActs.{Queued, Sofar, Unshared, HandedOn, TokenOn}
+use Rattle.rayon_machine_orders.proofs.CallEvents.{Turned, from_turned, refuse_turned, miss_turned, end_turned, spawn_turned, install_turned, join_turned, scope_turned, into_turned, into_fifo_turned, into_cast_turned, gather_turned, yield_turned, give_turned, fifo_turned, cast_turned}
 use Rattle.rayon_machine_places.specs.declared.place.Move.TheVariants.{Back, Discard, Enter, HandBack, HandIn, StartRun, Stay, Mark, HandAllBack}
 use Rattle.rayon_machine_orders.proofs.Keeping.{BusyAfter, all_busy}
-use Rattle.rayon_machine_places.specs.declared.place.JobKind.TheVariants.{Detached, Direct, Scoped, Stored, TokenOf, BodyOf}
+use Rattle.rayon_machine_places.specs.declared.place.JobKind.TheVariants.{Detached, Direct, Scoped, Stored, TokenOf, BodyOf, PieceOf, WholeOf}
 use Rattle.rayon_machine_laws.proofs.Feeders.{FeedersHold, feeds_now, waits}
 use Rattle.rayon_machine_places.specs.declared.place.Feeding.{Feeding}
+use Rattle.rayon_machine_places.specs.declared.shape.PoolShape.{PoolShape}
 use Rattle.rayon_machine_places.specs.declared.state.Job.{Job}
 use Rattle.rayon_machine_places.specs.declared.place.JobKind.{JobKind}
 use Rattle.rayon_machine_laws.proofs.ClaimActs.{Learned, act_learned}
 use Rattle.rayon_machine_places.specs.declared.place.Move.{Move}
 use Rattle.rayon_machine_laws.proofs.ShareSteps.{Ready, no_steady, raise_steady, lower_steady}
-use Rattle.rayon_machine_laws.proofs.ShareRuns.{StartsAwaited}
+use Rattle.rayon_machine_laws.proofs.ShareRuns.{StartsAwaited, after_shares, raises_all}
 use Rattle.rayon_machine_places.specs.declared.place.Taken.{Taken}
 use Rattle.rayon_machine_laws.proofs.Feeds.{all_fed, fed, fed_in, fed_move, feds}
 use Rattle.rayon_machine_laws.proofs.ShareEvents.{ready}
-use Rattle.rayon_machine_laws.proofs.Amounts.{regained, pushed, all_raises, raises_in}
+use Rattle.rayon_machine_laws.proofs.Amounts.{regained, pushed, raises, all_raises, raises_in, waiting}
 
 -- calls keep their first side and the job that they wait for, and jobs their kind and what they are bound to
 pub record Carries (w u : World) : Type 0 where
@@ -88,6 +88,9 @@ mover (Install q p) = q
 mover (Join q) = q
 mover (OpenScope q p) = q
 mover (IntoSpawn q n) = q
+mover (IntoFifo q n) = q
+mover (IntoCast q n) = q
+mover (Broadcast q p) = q
 mover (Yield q) = q
 mover (YieldLocal q) = q
 mover (EndPool q p) = q
@@ -109,8 +112,11 @@ turns w (Install q p) z = install_turned w q p
 turns w (Join q) z = join_turned w q
 turns w (OpenScope q p) z = scope_turned w q p
 turns w (IntoSpawn q n) z = into_turned w q n
-turns w (Yield q) z = yield_turned w q YieldPop (Yield q) (λ r s. refl)
-turns w (YieldLocal q) z = yield_turned w q LocalPop (YieldLocal q) (λ r s. refl)
+turns w (IntoFifo q n) z = into_fifo_turned w q n
+turns w (IntoCast q n) z = into_cast_turned w q n
+turns w (Broadcast q p) z = gather_turned w q p
+turns w (Yield q) z = yield_turned w q YieldPop (Yield q) (λ r s. refl) (λ t. omega arith)
+turns w (YieldLocal q) z = yield_turned w q LocalPop (YieldLocal q) (λ r s. refl) (λ t. omega arith)
 turns w (EndPool q p) z = give_turned w q p
 
 pub go_all : (P : World → Type 0) (w : World) (q : Party) → IfSome (outcome w q (w.stack q)) (λ r. P (result w q (w.stack q) r)) → IfSome (step w (Go q)) P
@@ -130,6 +136,9 @@ by_act P w (Install q p) go turn true z = absurd (let a : false ≡ true = z in 
 by_act P w (Join q) go turn true z = absurd (let a : false ≡ true = z in cc)
 by_act P w (OpenScope q p) go turn true z = absurd (let a : false ≡ true = z in cc)
 by_act P w (IntoSpawn q n) go turn true z = absurd (let a : false ≡ true = z in cc)
+by_act P w (IntoFifo q n) go turn true z = absurd (let a : false ≡ true = z in cc)
+by_act P w (IntoCast q n) go turn true z = absurd (let a : false ≡ true = z in cc)
+by_act P w (Broadcast q p) go turn true z = absurd (let a : false ≡ true = z in cc)
 by_act P w (Yield q) go turn true z = absurd (let a : false ≡ true = z in cc)
 by_act P w (YieldLocal q) go turn true z = absurd (let a : false ≡ true = z in cc)
 by_act P w (EndPool q p) go turn true z = absurd (let a : false ≡ true = z in cc)
@@ -137,14 +146,26 @@ by_act P w (EndPool q p) go turn true z = absurd (let a : false ≡ true = z in 
 pub step_carries : (w : World) (e : Event) → IfSome (step w e) (Carries w)
 step_carries w e = by_act (Carries w) w e (λ q. if_some_map (Static (place_part w q ((w.stack q).top))) (λ r. Carries w (result w q (w.stack q) r)) (λ r s. act_carries w q ((w.stack q).top) ((w.stack q).below) r s) (outcome w q (w.stack q)) (act_static w.shape q (counts_at w (target_pool q (act_of q ((w.stack q).top)))) (place_part w q ((w.stack q).top)) ((w.stack q).top))) (λ u t. turned_carries w u (mover e) e t) (is_act e) refl
 
+-- what is known of the job of a call that waits stays so
+job_on : (w u : World) → Carries w u → (t : ℕ) (f : JobKind → Bool) (b : Bool) → KnownJob w t f b → KnownJob u t f b
+job_on w u c t f b k = record { made = (c.made t k.made).0; sort = ap f ((c.made t k.made).1) ∙ k.sort }
+
 pub known_on : (w u : World) → Carries w u → (n : Plan) → Known w n → Known u n
 known_on w u c (Detach p t) k = ((c.made t (k.0)).0, ap is_detached ((c.made t (k.0)).1) ∙ k.1)
 known_on w u c (Feed f) k = (((c.made f.job ((k.0).0)).0, ap is_detached ((c.made f.job ((k.0).0)).1) ∙ (k.0).1), ((c.made f.token ((k.1).0)).0, ap is_token ((c.made f.token ((k.1).0)).1) ∙ (k.1).1))
 known_on w u c (Here p t) k = tt
-known_on w u c (Open o) k = ((c.sides (o.number) (k.0)).0, (c.sides (o.number) (k.0)).1 ∙ k.1)
+known_on w u c (Open o) k = ((c.sides (o.number) (k.0)).0, (c.sides (o.number) (k.0)).1 ∙ k.1, job_on w u c o.job is_scope_body true (k.2))
 known_on w u c (Enter e) k = ((c.made e.job (k.0)).0, ap is_detached ((c.made e.job (k.0)).1) ∙ k.1)
-known_on w u c (Send o) k = ((c.sides (o.number) (k.0)).0, (c.sides (o.number) (k.0)).1 ∙ k.1)
-known_on w u c (Fork o a) k = ((c.sides (o.number) (k.0)).0, (c.sides (o.number) (k.0)).1 ∙ k.1)
+known_on w u c (Send o) k = ((c.sides (o.number) (k.0)).0, (c.sides (o.number) (k.0)).1 ∙ k.1, job_on w u c o.job is_body false (k.2))
+known_on w u c (Fork o a) k = ((c.sides (o.number) (k.0)).0, (c.sides (o.number) (k.0)).1 ∙ k.1, job_on w u c o.job is_body false (k.2))
+known_on w u c (Gather g) k = record {
+  number = (c.sides g.call.number k.number).0;
+  alone = (c.sides g.call.number k.number).1 ∙ k.alone;
+  owner = k.owner;
+  made = (c.made g.call.job k.made).0;
+  whole = (c.made g.call.job k.made).1 ∙ k.whole;
+  pieces = λ t e. ((c.made t ((k.pieces t e).0)).0, (c.made t ((k.pieces t e).0)).1 ∙ (k.pieces t e).1);
+}
 
 -- a job whose share no party has keeps it
 self : (t : ℕ) → one (t == t) ≡ 1
@@ -165,13 +186,14 @@ lower_counts w q p u n fs t z none c = by (t == u) refl
     by true e = absurd (let a : shares t (w.stack q) ≡ (share t (LowerCount p (OfJob u) n) + shares_in t fs) = ap (shares t) z in let b : one (t == u) ≡ 1 = ap one e in omega (arith, a, b, none))
     by false e = c
 
-pub counts_on : (w : World) (q : Party) (x : Place) (fs : List Place) (r : Seen × Part) (t : ℕ) → is_sharing (next_of (w.shape.pool (target_pool q (act_of q x))) q x (r.0)) ≡ false → (put w.job (job_at w q (act_of q x)) (r.1.job) t).counted ≡ true → ((world_after w q x fs r).job t).counted ≡ true
-counts_on w q x fs r t st c = after_counted q (next_of (w.shape.pool (target_pool q (act_of q x))) q x (r.0)) (put w.job (job_at w q (act_of q x)) (r.1.job)) t st ∙ c
+pub counts_on : (w : World) (q : Party) (x : Place) (fs : List Place) (r : Seen × Part) (t : ℕ) → w.stack q ≡ record { top = x; below = fs } → ((s : Party) (i : ℕ) → all_raises i (w.stack s) + one (w.job i).counted ≤ 1) → is_sharing (next_of (w.shape.pool (target_pool q (act_of q x))) q x (r.0)) ≡ false → (w.job t).counted ≡ true → (put w.job (job_at w q (act_of q x)) (r.1.job) t).counted ≡ true → ((world_after w q x fs r).job t).counted ≡ true
+counts_on w q x fs r t z un st k c = after_shares w q x fs (w.shape.pool (target_pool q (act_of q x))) (r.0) z un st (put w.job (job_at w q (act_of q x)) (r.1.job)) t (λ y. absurd (let a : true ≡ false = sym k ∙ y in cc)) ∙ c
 
--- places whose acts are on the count for all pieces of a broadcast
+-- places whose acts give shares to all pieces of a broadcast, or take them
 abbrev pub is_all : Place → Bool
 is_all (RaiseForAll c) = true
 is_all (LowerForAll c) = true
+is_all (DealPieces g) = true
 is_all _ = false
 
 put_counts : (w : World) (q : Party) (x : Place) (fs : List Place) (t : ℕ) → is_all x ≡ false → w.stack q ≡ record { top = x; below = fs } → shares t (w.stack q) ≡ 0 → (w.job t).counted ≡ true → IfSome (outcome w q (record { top = x; below = fs })) (λ r. (put w.job (job_at w q (act_of q x)) (r.1.job) t).counted ≡ true)
@@ -185,6 +207,7 @@ put_counts w (Worker a b) (LowerCount p Body n) fs t y z none c = put_same (λ j
 put_counts w (Caller i) (LowerCount p Body n) fs t y z none c = put_same (λ j. j.counted) w.job 0 (w.job 0) t refl ∙ c
 put_counts w q (RaiseForAll b) fs t y z none c = cc
 put_counts w q (LowerForAll b) fs t y z none c = cc
+put_counts w q (DealPieces b) fs t y z none c = cc
 put_counts w q x fs t y z none c = if_some_map (Untallied (place_part w q x)) (λ r. (put w.job (job_at w q (act_of q x)) (r.1.job) t).counted ≡ true) (λ r k. put_same (λ j. j.counted) w.job (job_at w q (act_of q x)) (r.1.job) t k.job ∙ c) (outcome w q (record { top = x; below = fs })) (act_untallied w.shape q (counts_at w (target_pool q (act_of q x))) (place_part w q x) x refl)
 
 -- an act that is not leaves who has a share as the act has it
@@ -197,6 +220,7 @@ all_steady w q (RaiseCount n) y = if_some_all {A = Seen × Part} (λ r. is_shari
 all_steady w q (LowerCount p s n) y = if_some_all {A = Seen × Part} (λ r. is_sharing (next_of (w.shape.pool (target_pool q (act_of q (LowerCount p s n)))) q (LowerCount p s n) (r.0)) ≡ false) (λ r. lower_steady (w.shape.pool (target_pool q (act_of q (LowerCount p s n)))) q p s n (r.0)) (effect (act_of q (LowerCount p s n)) w.shape q (counts_at w (target_pool q (act_of q (LowerCount p s n)))) (place_part w q (LowerCount p s n)))
 all_steady w q (RaiseForAll c) y = cc
 all_steady w q (LowerForAll c) y = cc
+all_steady w q (DealPieces g) y = cc
 all_steady w q x y = no_steady w.shape (w.shape.pool (target_pool q (act_of q x))) q (counts_at w (target_pool q (act_of q x))) (place_part w q x) x refl
 
 -- a broadcast gives its pieces shares, and takes back those that it gave
@@ -217,29 +241,31 @@ back_counts w q c fs t z k l = ap (λ j. j.counted) (piece_old c (marked Returne
     none : is_piece c t ≡ false
     none = not_piece c t (raises_in t fs) (let a : all_raises t (w.stack q) ≡ (one (is_piece c t) + raises_in t fs) = ap (all_raises t) z in let b : one (w.job t).counted ≡ 1 = ap one k in omega (arith, a, b, l))
 
-done_counts : (w : World) (c : Pieces) (t : ℕ) → (w.job t).counted ≡ true → (mark_pieces c Counted (put w.job 0 (w.job 0)) t).counted ≡ true
-done_counts w c t k = by (is_piece c t)
+mark_counts : (c : Pieces) (k : Marking) (f : ℕ → Job) (t : ℕ) → ((p i : ℕ) (j : Job) → (marked k p i j).counted ≡ true) → (f t).counted ≡ true → (mark_pieces c k f t).counted ≡ true
+mark_counts c k f t m n = by (is_piece c t)
   where
-    by : (b : Bool) → (if b then marked Counted c.pool (t - c.first) (put w.job 0 (w.job 0) t) else put w.job 0 (w.job 0) t).counted ≡ true
-    by true = refl
-    by false = put_same (λ j. j.counted) w.job 0 (w.job 0) t refl ∙ k
+    by : (b : Bool) → (if b then marked k c.pool (t - c.first) (f t) else f t).counted ≡ true
+    by true = m c.pool (t - c.first) (f t)
+    by false = n
 
-lowered_counts : (w : World) (q : Party) (c : Pieces) (fs : List Place) (t : ℕ) (e : Seen) → w.stack q ≡ record { top = LowerForAll c; below = fs } → shares t (w.stack q) ≡ 0 → (w.job t).counted ≡ true → (jobs_after q (next_of (w.shape.pool c.pool) q (LowerForAll c) e) (put w.job 0 (w.job 0)) t).counted ≡ true
-lowered_counts w q c fs t e z n k = ap (λ g. (g t).counted) (returned_jobs (w.shape.pool c.pool) q c e (put w.job 0 (w.job 0))) ∙ ap (λ j. j.counted) (piece_old c (marked Returned c.pool) (put w.job 0 (w.job 0)) t none) ∙ put_same (λ j. j.counted) w.job 0 (w.job 0) t refl ∙ k
+lowered_counts : (w : World) (q : Party) (c : Pieces) (fs : List Place) (t : ℕ) (g : PoolShape) (e : Seen) → w.stack q ≡ record { top = LowerForAll c; below = fs } → shares t (w.stack q) ≡ 0 → (w.job t).counted ≡ true → (jobs_after q (next_of g q (LowerForAll c) e) (put w.job 0 (w.job 0)) t).counted ≡ true
+lowered_counts w q c fs t g e z n k = ap (λ g. (g t).counted) (returned_jobs g q c e (put w.job 0 (w.job 0))) ∙ ap (λ j. j.counted) (piece_old c (marked Returned c.pool) (put w.job 0 (w.job 0)) t none) ∙ put_same (λ j. j.counted) w.job 0 (w.job 0) t refl ∙ k
   where
     none : is_piece c t ≡ false
     none = not_piece c t (shares_in t fs) (let a : shares t (w.stack q) ≡ (one (is_piece c t) + shares_in t fs) = ap (shares t) z in omega (arith, a, n))
 
-act_counts : (w : World) (q : Party) (x : Place) (fs : List Place) (t : ℕ) → w.stack q ≡ record { top = x; below = fs } → shares t (w.stack q) ≡ 0 → (w.job t).counted ≡ true → all_raises t (w.stack q) + one (w.job t).counted ≤ 1 → IfSome (outcome w q (record { top = x; below = fs })) (λ r. ((world_after w q x fs r).job t).counted ≡ true)
-act_counts w (Worker a b) (RaiseForAll c) fs t z n k l = all_cases (λ r. ((world_after w (Worker a b) (RaiseForAll c) fs r).job t).counted ≡ true) (Refused, place_part w (Worker a b) (RaiseForAll c)) _ (back_counts w (Worker a b) c fs t z k l) (done_counts w c t k) ((w.pool c.pool).count == 0)
-act_counts w (Caller g) (RaiseForAll c) fs t z n k l = all_cases (λ r. ((world_after w (Caller g) (RaiseForAll c) fs r).job t).counted ≡ true) (Refused, place_part w (Caller g) (RaiseForAll c)) _ (back_counts w (Caller g) c fs t z k l) (done_counts w c t k) ((w.pool c.pool).count == 0)
-act_counts w (Worker a b) (LowerForAll c) fs t z n k l = lowered_counts w (Worker a b) c fs t (if (w.pool c.pool).count == c.workers then Yes else No) z n k
-act_counts w (Caller g) (LowerForAll c) fs t z n k l = lowered_counts w (Caller g) c fs t (if (w.pool c.pool).count == c.workers then Yes else No) z n k
-act_counts w q x fs t z n k l = if_some_map (λ r. ((put w.job (job_at w q (act_of q x)) (r.1.job) t).counted ≡ true) × (is_sharing (next_of (w.shape.pool (target_pool q (act_of q x))) q x (r.0)) ≡ false)) (λ r. ((world_after w q x fs r).job t).counted ≡ true) (λ r f. counts_on w q x fs r t (f.1) (f.0)) (outcome w q (record { top = x; below = fs }))
+act_counts : (w : World) (q : Party) (x : Place) (fs : List Place) (t : ℕ) → w.stack q ≡ record { top = x; below = fs } → ((s : Party) (i : ℕ) → all_raises i (w.stack s) + one (w.job i).counted ≤ 1) → shares t (w.stack q) ≡ 0 → (w.job t).counted ≡ true → IfSome (outcome w q (record { top = x; below = fs })) (λ r. ((world_after w q x fs r).job t).counted ≡ true)
+act_counts w (Worker a b) (RaiseForAll c) fs t z un n k = all_cases (λ r. ((world_after w (Worker a b) (RaiseForAll c) fs r).job t).counted ≡ true) (Refused, place_part w (Worker a b) (RaiseForAll c)) _ (back_counts w (Worker a b) c fs t z k (un (Worker a b) t)) (mark_counts c Counted (put w.job 0 (w.job 0)) t (λ p i j. refl) (put_same (λ j. j.counted) w.job 0 (w.job 0) t refl ∙ k)) (count_in (place_part w (Worker a b) (RaiseForAll c)) c.count == 0)
+act_counts w (Caller g) (RaiseForAll c) fs t z un n k = all_cases (λ r. ((world_after w (Caller g) (RaiseForAll c) fs r).job t).counted ≡ true) (Refused, place_part w (Caller g) (RaiseForAll c)) _ (back_counts w (Caller g) c fs t z k (un (Caller g) t)) (mark_counts c Counted (put w.job 0 (w.job 0)) t (λ p i j. refl) (put_same (λ j. j.counted) w.job 0 (w.job 0) t refl ∙ k)) (count_in (place_part w (Caller g) (RaiseForAll c)) c.count == 0)
+act_counts w (Worker a b) (LowerForAll c) fs t z un n k = lowered_counts w (Worker a b) c fs t (w.shape.pool (count_pool (Worker a b) c.count)) (if count_in (place_part w (Worker a b) (LowerForAll c)) c.count == c.workers then Yes else No) z n k
+act_counts w (Caller g) (LowerForAll c) fs t z un n k = lowered_counts w (Caller g) c fs t (w.shape.pool (count_pool (Caller g) c.count)) (if count_in (place_part w (Caller g) (LowerForAll c)) c.count == c.workers then Yes else No) z n k
+act_counts w (Worker a b) (DealPieces g) fs t z un n k = mark_counts g.pieces Dealt (put w.job 0 (w.job 0)) t (λ p i j. refl) (put_same (λ j. j.counted) w.job 0 (w.job 0) t refl ∙ k)
+act_counts w (Caller i) (DealPieces g) fs t z un n k = mark_counts g.pieces Dealt (put w.job 0 (w.job 0)) t (λ p i j. refl) (put_same (λ j. j.counted) w.job 0 (w.job 0) t refl ∙ k)
+act_counts w q x fs t z un n k = if_some_map (λ r. ((put w.job (job_at w q (act_of q x)) (r.1.job) t).counted ≡ true) × (is_sharing (next_of (w.shape.pool (target_pool q (act_of q x))) q x (r.0)) ≡ false)) (λ r. ((world_after w q x fs r).job t).counted ≡ true) (λ r f. counts_on w q x fs r t z un (f.1) k (f.0)) (outcome w q (record { top = x; below = fs }))
     (if_some_and (λ r. (put w.job (job_at w q (act_of q x)) (r.1.job) t).counted ≡ true) (λ r. is_sharing (next_of (w.shape.pool (target_pool q (act_of q x))) q x (r.0)) ≡ false) (outcome w q (record { top = x; below = fs })) (put_counts w q x fs t refl z n k) (all_steady w q x refl))
 
-pub step_counts : (w : World) (e : Event) (t : ℕ) → t + 1 ≤ w.jobs → ((q : Party) → all_raises t (w.stack q) + one (w.job t).counted ≤ 1) → ((q : Party) → shares t (w.stack q) ≡ 0) → (w.job t).counted ≡ true → IfSome (step w e) (λ u. (u.job t).counted ≡ true)
-step_counts w e t l ra none c = by_act (λ u. (u.job t).counted ≡ true) w e (λ q. act_counts w q ((w.stack q).top) ((w.stack q).below) t refl (none q) c (ra q)) (λ u m. ((m.made t l).1).1 ∙ c) (is_act e) refl
+pub step_counts : (w : World) (e : Event) (t : ℕ) → t + 1 ≤ w.jobs → ((q : Party) (i : ℕ) → all_raises i (w.stack q) + one (w.job i).counted ≤ 1) → ((q : Party) → shares t (w.stack q) ≡ 0) → (w.job t).counted ≡ true → IfSome (step w e) (λ u. (u.job t).counted ≡ true)
+step_counts w e t l ra none c = by_act (λ u. (u.job t).counted ≡ true) w e (λ q. act_counts w q ((w.stack q).top) ((w.stack q).below) t refl ra (none q) c) (λ u m. ((m.made t l).1).1 ∙ c) (is_act e) refl
 
 -- a job that is over stays over, and one that is handed back stays handed back
 pub ended_on : (w u : World) → Advance w u → (t : ℕ) → Ended w t → Ended u t
@@ -251,7 +277,7 @@ ended_on w u a t z = by ((w.job t).at) (a.final t) z
     by (Running q) f d = cc
     by (InDeque p i) f d = cc
     by (Injected p) f d = cc
-    by (InFifo p i) f d = cc
+    by (InFifo p i b) f d = cc
     by (InCast p i) f d = cc
     by HandedBack f d = cc
     by (Retaken q) f d = cc
@@ -259,11 +285,11 @@ ended_on w u a t z = by ((w.job t).at) (a.final t) z
     by Nowhere f d = cc
 
 -- a job in a FIFO list can be taken back by its call
-lined_apart : (w : World) → JobsHold w → (p i t : ℕ) → 1 ≤ times t ((w.seat p i).fifo) → is_left (w.job t).at ≡ true → ⊥
-lined_apart w h p i t n l = by ((w.job t).at) (let a : times t ((w.seat p i).fifo) ≡ one (in_fifo p i (w.job t).at) = (once w h).fifo p i t in omega (arith, a, n)) l
+lined_apart : (w : World) → JobsHold w → (p i : ℕ) (b : Option ℕ) (t : ℕ) → 1 ≤ times t ((w.seat p i).fifo b) → is_left (w.job t).at ≡ true → ⊥
+lined_apart w h p i b t n l = by ((w.job t).at) (let a : times t ((w.seat p i).fifo b) ≡ one (in_fifo p i b (w.job t).at) = (once w h).fifo p i b t in omega (arith, a, n)) l
   where
-    by : (v : Whereabouts) → 1 ≤ one (in_fifo p i v) → is_left v ≡ true → ⊥
-    by (InFifo r j) e l = cc
+    by : (v : Whereabouts) → 1 ≤ one (in_fifo p i b v) → is_left v ≡ true → ⊥
+    by (InFifo r j c) e l = cc
     by _ e l = absurd (omega (arith, e))
 
 -- an act takes job t back from no FIFO list
@@ -285,7 +311,7 @@ untaken w t g q = by q ((w.stack q).top) ((w.stack q).below) refl
 
 -- who has left its call is in no FIFO list
 pub left_untaken : (w : World) → JobsHold w → (t : ℕ) → is_left (w.job t).at ≡ true → Untaken w t
-left_untaken w h t l = untaken w t (λ a b f fs y m z k. elim (either (t == taken_number y)) [ inl e ↦ absurd (lined_apart w h a b (taken_number y) (k.1) (ap (λ n. is_left (w.job n).at) (sym (eqb-true t (taken_number y) e)) ∙ l)) | inr e ↦ e ])
+left_untaken w h t l = untaken w t (λ a b f fs y m z k. elim (either (t == taken_number y)) [ inl e ↦ absurd (lined_apart w h a b (count_book f.count) (taken_number y) (k.1) (ap (λ n. is_left (w.job n).at) (sym (eqb-true t (taken_number y) e)) ∙ l)) | inr e ↦ e ])
 
 -- and a call takes its own job back, whose token it still has
 paired_untaken : (w : World) → JobsHold w → FeedersHold w → (t k : ℕ) → k ≡ t + 1 → is_left (w.job k).at ≡ true → Untaken w t
@@ -293,7 +319,7 @@ paired_untaken w h fe t k pair l = untaken w t (λ a b f fs y m z j. elim (eithe
   where
     same : (a b : ℕ) (f : Feeding) (fs : List Place) (y : Taken) (m : Part) → w.stack (Worker a b) ≡ record { top = TakeFromFifo f; below = fs } → Learned w.shape (Worker a b) (place_part w (Worker a b) (TakeFromFifo f)) (TakeFromFifo f) (Task y, m) → t ≡ taken_number y → ⊥
     same a b f fs y m z j e =
-        let last : last_of ((w.seat a b).fifo) ≡ Some f.job = (fe.feeds a b f (ap (λ k. waits (k.top)) z)).1 in
+        let last : last_of ((w.seat a b).fifo (count_book f.count)) ≡ Some f.job = (fe.feeds a b f (ap (λ k. waits (k.top)) z)).1 in
         let own : f.job ≡ taken_number y = sym (ap or_none last) ∙ j.0 in
         let two : f.token ≡ f.job + 1 = fe.pairs (Worker a b) f (ap (λ k. feeds_now (k.top)) z) in
         let is : k ≡ f.token = pair ∙ ap (λ n. n + 1) (e ∙ sym own) ∙ sym two in
@@ -308,7 +334,7 @@ KeptOn u t = backs (u.job t).at ≤ 0 → HandedOn (u.job t)
 busy_on : (v : Whereabouts) → is_busy v ≡ true → (is_queued v || (is_running v || is_done v)) ≡ true
 busy_on (InDeque p i) e = refl
 busy_on (Injected p) e = refl
-busy_on (InFifo p i) e = refl
+busy_on (InFifo p i b) e = refl
 busy_on (InCast p i) e = refl
 busy_on (Running q) e = refl
 busy_on _ e = cc
@@ -334,7 +360,7 @@ handed_on w u e made h r a t l k un z = by ((w.job t).at) refl z (a.final t)
         let own : with_job (w.job t) ≡ 1 = ap (λ b. one (b && is_busy (w.job t).at)) k ∙ ap one y in
         let counted : (w.job t).counted ≡ true = one_is ((w.job t).counted) (let b : shares t (w.stack (mover e)) + with_job (w.job t) ≤ one (w.job t).counted = (h.jobs t).alone (mover e) in omega (arith, b, own)) in
         let none : (q : Party) → shares t (w.stack q) ≡ 0 = λ q. (let b : shares t (w.stack q) + with_job (w.job t) ≤ one (w.job t).counted = (h.jobs t).alone q in let d : one (w.job t).counted ≤ 1 = one_most ((w.job t).counted) in omega (arith, b, d, own)) in
-        let now : (u.job t).counted ≡ true = (let f : IfSome (Some u) (λ v. (v.job t).counted ≡ true) = subst (λ o. IfSome o (λ v. (v.job t).counted ≡ true)) made (step_counts w e t l (λ q. h.unraised q t) none counted) in f) in
+        let now : (u.job t).counted ≡ true = (let f : IfSome (Some u) (λ v. (v.job t).counted ≡ true) = subst (λ o. IfSome o (λ v. (v.job t).counted ≡ true)) made (step_counts w e t l h.unraised none counted) in f) in
         let kept : KeptOn u t = (let f : IfSome (Some u) (λ v. KeptOn v t) = subst (λ o. IfSome o (λ v. KeptOn v t)) made (by_act (λ v. KeptOn v t) w e (busy_act w t h own un) (λ v m. turned v m) (is_act e) refl) in f) in
         kept (let b : all_bare t (u.stack (mover e)) + backs (u.job t).at ≤ 0 = r.bare (mover e) t now in omega (arith, b))
       where
@@ -345,7 +371,7 @@ handed_on w u e made h r a t l k un z = by ((w.job t).at) refl z (a.final t)
     by (Over d) i y f = ap (λ v. is_queued v || (is_running v || is_done v)) f
     by (InDeque p j) i y f = busy (ap is_busy i)
     by (Injected p) i y f = busy (ap is_busy i)
-    by (InFifo p j) i y f = busy (ap is_busy i)
+    by (InFifo p j b) i y f = busy (ap is_busy i)
     by (InCast p j) i y f = busy (ap is_busy i)
     by (Running q) i y f = busy (ap is_busy i)
     by (Made q) i y f = cc
@@ -357,7 +383,9 @@ handed_on w u e made h r a t l k un z = by ((w.job t).at) refl z (a.final t)
 -- a token that has left its call is not handed back
 token_kinds : (k : JobKind) → is_detached k ≡ true → is_token k ≡ true → ⊥
 token_kinds (Detached p) d e = cc
-token_kinds (TokenOf i) d e = cc
+token_kinds (TokenOf i b) d e = cc
+token_kinds (PieceOf c o) d e = cc
+token_kinds (WholeOf c o) d e = cc
 token_kinds (BodyOf c9 o9) d e = cc
 token_kinds (Stored c o) d e = cc
 token_kinds (Scoped c o) d e = cc
@@ -398,6 +426,11 @@ land_kept w q (HandBack (Here p a)) J k s t f b = put_handed J a k f b
 land_kept w q (HandBack (Send o)) J k s t f b = put_handed J (o.job) k f b
 land_kept w q (HandBack (Open o)) J k s t f b = put_handed J (o.job) k f b
 land_kept w q (HandBack (Enter o)) J k s t f b = put_handed J (o.job) k f b
+land_kept w q (HandBack (Gather g)) J k s t f b = by (is_piece g.pieces k) refl
+  where
+    by : (z : Bool) → is_piece g.pieces k ≡ z → backs (if z then marked Returned g.pieces.pool (k - g.pieces.first) (J k) else J k).at ≤ 0
+    by true e = absurd (let c : one (is_piece g.pieces k) ≡ 1 = ap one e in omega (arith, c, f))
+    by false e = b
 land_kept w q (HandBack (Fork o a)) J k s t f b = by (k == o.job) refl
   where
     by : (z : Bool) → (k == o.job) ≡ z → backs (if z then at_job (J o.job) HandedBack else put J a (at_job (J a) HandedBack) k).at ≤ 0
@@ -406,7 +439,7 @@ land_kept w q (HandBack (Fork o a)) J k s t f b = by (k == o.job) refl
 land_kept w q (HandBack (Feed d)) J k s t f b = by (k == d.token) refl
   where
     apart : (z : Bool) → (k == d.job) ≡ z → backs (if z then at_job (J d.job) HandedBack else J k).at ≤ 0
-    apart true e = absurd (token_kinds ((w.job k).kind) (ap (λ n. is_detached (w.job n).kind) (eqb-true k d.job e) ∙ s) t)
+    apart true e = absurd (token_kinds ((w.job k).kind) (ap (λ n. is_detached (w.job n).kind) (eqb-true k d.job e) ∙ s.0) t)
     apart false e = b
 
     by : (z : Bool) → (k == d.token) ≡ z → backs (if z then at_job (J d.token) HandedBack else put J d.job (at_job (J d.job) HandedBack) k).at ≤ 0
@@ -430,18 +463,12 @@ all_unbacked w (Caller c) (LowerCount p PoolValue n) fs = omega arith
 all_unbacked w (Worker a b) (LowerCount p Body n) fs = omega arith
 all_unbacked w (Caller c) (LowerCount p Body n) fs = omega arith
 all_unbacked w (Caller c) (LowerCount p (OfJob u) n) fs = omega arith
-all_unbacked w (Worker a b) (RaiseForAll c) fs = by ((w.pool c.pool).count == 0)
-  where
-    by : (z : Bool) → IfSome {T = Seen × Part} (if z then Some (Refused, place_part w (Worker a b) (RaiseForAll c)) else Some (Done, record (place_part w (Worker a b) (RaiseForAll c)) { pool = record (w.pool c.pool) { count = (w.pool c.pool).count + c.workers } })) (Unbacked (place_part w (Worker a b) (RaiseForAll c)))
-    by true = omega arith
-    by false = omega arith
+all_unbacked w (Worker a b) (RaiseForAll c) fs = all_cases (Unbacked (place_part w (Worker a b) (RaiseForAll c))) (Refused, place_part w (Worker a b) (RaiseForAll c)) _ (omega arith) (omega arith) (count_in (place_part w (Worker a b) (RaiseForAll c)) c.count == 0)
 all_unbacked w (Worker a b) (LowerForAll c) fs = omega arith
-all_unbacked w (Caller g) (RaiseForAll c) fs = by ((w.pool c.pool).count == 0)
-  where
-    by : (z : Bool) → IfSome {T = Seen × Part} (if z then Some (Refused, place_part w (Caller g) (RaiseForAll c)) else Some (Done, record (place_part w (Caller g) (RaiseForAll c)) { pool = record (w.pool c.pool) { count = (w.pool c.pool).count + c.workers } })) (Unbacked (place_part w (Caller g) (RaiseForAll c)))
-    by true = omega arith
-    by false = omega arith
+all_unbacked w (Caller g) (RaiseForAll c) fs = all_cases (Unbacked (place_part w (Caller g) (RaiseForAll c))) (Refused, place_part w (Caller g) (RaiseForAll c)) _ (omega arith) (omega arith) (count_in (place_part w (Caller g) (RaiseForAll c)) c.count == 0)
 all_unbacked w (Caller g) (LowerForAll c) fs = omega arith
+all_unbacked w (Worker a b) (DealPieces g) fs = omega arith
+all_unbacked w (Caller c) (DealPieces g) fs = omega arith
 all_unbacked w q x fs = act_unbacked w.shape q (counts_at w (target_pool q (act_of q x))) (place_part w q x) x refl
 
 token_act : (w : World) (k : ℕ) → SharesHold w → is_token (w.job k).kind ≡ true → is_left (w.job k).at ≡ true → backs (w.job k).at ≤ 0 → (q : Party) → IfSome (outcome w q (w.stack q)) (λ r. backs ((result w q (w.stack q) r).job k).at ≤ 0)
@@ -486,7 +513,7 @@ token_on w u e made h a k l t z = (left, by ((u.job k).at) left unbacked)
     by : (v : Whereabouts) → is_left v ≡ true → backs v ≤ 0 → ((is_queued v || (is_running v || is_done v)) ≡ true) ⊎ (v ≡ Spent)
     by (Made q) y b = cc
     by Nowhere y b = cc
-    by (InFifo p i) y b = cc
+    by (InFifo p i c) y b = cc
     by (Retaken q) y b = cc
     by HandedBack y b = absurd (omega (arith, b))
     by (InDeque p i) y b = inl refl
@@ -503,40 +530,25 @@ queued_on w u e made h fe r a (Send o) k z = tt
 queued_on w u e made h fe r a (Open o) k z = tt
 queued_on w u e made h fe r a (Enter x) k z = (final_left ((w.job x.job).at) ((u.job x.job).at) (a.final x.job) (z.0), handed_on w u e made h r a x.job (k.0) (k.1) (left_untaken w ((h.calls).jobs) x.job (z.0)) (z.1))
 queued_on w u e made h fe r a (Fork o b) k z = tt
+queued_on w u e made h fe r a (Gather g) k z = tt
 queued_on w u e made h fe r a (Detach p t) k z = (final_left ((w.job t).at) ((u.job t).at) (a.final t) (z.0), handed_on w u e made h r a t (k.0) (k.1) (left_untaken w ((h.calls).jobs) t (z.0)) (z.1))
 queued_on w u e made h fe r a (Feed d) k z = (handed_on w u e made h r a d.job ((k.0).0) ((k.0).1) (paired_untaken w ((h.calls).jobs) fe d.job d.token (z.2) ((z.1).0)) (z.0), token_on w u e made h a d.token ((k.1).0) ((k.1).1) (z.1), z.2)
 
--- a job that is over is in nobody's hand, so no Raise takes a share for it
-plan_hand : (t : ℕ) (n : Plan) → one (t == plan_job n) ≤ hand_plan t n
-plan_hand t (Detach p u) = omega arith
-plan_hand t (Here p u) = omega arith
-plan_hand t (Send o) = omega arith
-plan_hand t (Open o) = omega arith
-plan_hand t (Enter x) = omega arith
-plan_hand t (Feed f) = omega arith
-plan_hand t (Fork o a) = omega arith
+-- nobody comes to raise a count for a job that is there
+raises_on : (w : World) (q : Party) (k : Stack) (u : World) (t : ℕ) → ((r : Party) → u.stack r ≡ put_stack w.stack q k r) → all_raises t k ≤ all_raises t (w.stack q) → (r : Party) → all_raises t (u.stack r) ≤ all_raises t (w.stack r)
+raises_on w q k u t st l r = by (same_party r q) refl
+  where
+    is : all_raises t (u.stack r) ≡ all_raises t (put_stack w.stack q k r)
+    is = ap (all_raises t) (st r)
 
-over_nowhere : (v : Whereabouts) (n : ℕ) (l : Loc) → is_done v ≡ true → is_loc l (loc_of v n) ≡ 0
-over_nowhere (Over e) n l d = refl
-over_nowhere (Made q) n l d = cc
-over_nowhere (Running q) n l d = cc
-over_nowhere (InDeque p i) n l d = cc
-over_nowhere (Injected p) n l d = cc
-over_nowhere (InFifo p i) n l d = cc
-over_nowhere (InCast p i) n l d = cc
-over_nowhere HandedBack n l d = cc
-over_nowhere (Retaken q) n l d = cc
-over_nowhere Spent n l d = cc
-over_nowhere Nowhere n l d = cc
+    by : (b : Bool) → same_party r q ≡ b → all_raises t (u.stack r) ≤ all_raises t (w.stack r)
+    by true y = let i : r ≡ q = same_party_true r q y in let a : all_raises t (put_stack w.stack q k r) ≡ all_raises t k = ap (λ s. all_raises t (put_stack w.stack q k s)) i ∙ ap (all_raises t) (stack_mine w.stack q k) in let c : all_raises t (w.stack r) ≡ all_raises t (w.stack q) = ap (λ s. all_raises t (w.stack s)) i in omega (arith, is, a, c, l)
+    by false y = let a : all_raises t (put_stack w.stack q k r) ≡ all_raises t (w.stack r) = ap (all_raises t) (stack_other w.stack q k r y) in omega (arith, is, a)
 
-raise_apart : (w : World) → JobsHold w → (q : Party) (n : Plan) (fs : List Place) (t : ℕ) → w.stack q ≡ record { top = RaiseCount n; below = fs } → is_done (w.job t).at ≡ true → (t == plan_job n) ≡ true → ⊥
-raise_apart w h q n fs t z d e =
-    let a = ((h.ok).placed) (Hand q) t in
-    let b : is_loc (Hand q) (loc_at (w.job t)) ≡ 0 = over_nowhere ((w.job t).at) ((w.job t).runs) (Hand q) d in
-    let c : held t (w.stack q) ≡ (hand_plan t n + held_in t fs) = ap (held t) z in
-    let f : one (t == plan_job n) ≤ hand_plan t n = plan_hand t n in
-    let g : one (t == plan_job n) ≡ 1 = ap one e in omega (arith, a, b, c, f, g)
+step_raises : (w : World) (e : Event) (t : ℕ) → t + 1 ≤ w.jobs → IfSome (step w e) (λ u. (r : Party) → all_raises t (u.stack r) ≤ all_raises t (w.stack r))
+step_raises w e t l = by_act (λ u. (r : Party) → all_raises t (u.stack r) ≤ all_raises t (w.stack r)) w e (λ q. if_some_all {A = Seen × Part} (λ v. (r : Party) → all_raises t ((result w q (w.stack q) v).stack r) ≤ all_raises t (w.stack r)) (λ v r. raises_all w q ((w.stack q).top) ((w.stack q).below) (w.shape.pool (target_pool q (act_of q ((w.stack q).top)))) (v.0) t refl r) (outcome w q (w.stack q))) (λ u m. raises_on w (mover e) m.to u t m.stack (m.raises t l)) (is_act e) refl
 
+-- a job that nobody raises has no share after an act either
 raise_uncounts : (w : World) (n : Plan) (t : ℕ) (g h : Part) → g.job.counted ≡ (w.job (plan_job n)).counted → ((t == plan_job n) ≡ true → ⊥) → (w.job t).counted ≡ false → (b : Bool) → IfSome {T = Seen × Part} (if b then Some (Refused, g) else Some (Done, h)) (λ r. (put w.job (plan_job n) (r.1.job) t).counted ≡ false)
 raise_uncounts w n t g h i k c true = put_same (λ j. j.counted) w.job (plan_job n) g.job t i ∙ c
 raise_uncounts w n t g h i k c false = by (t == plan_job n) refl
@@ -552,23 +564,24 @@ lower_uncounts w u t c = by (t == u)
     by true = refl
     by false = c
 
-put_uncounts : (w : World) (q : Party) (x : Place) (fs : List Place) (t : ℕ) → is_all x ≡ false → w.stack q ≡ record { top = x; below = fs } → JobsHold w → is_done (w.job t).at ≡ true → (w.job t).counted ≡ false → IfSome (outcome w q (record { top = x; below = fs })) (λ r. (put w.job (job_at w q (act_of q x)) (r.1.job) t).counted ≡ false)
-put_uncounts w (Worker a b) (RaiseCount n) fs t y z h d c = raise_uncounts w n t _ _ refl (raise_apart w h (Worker a b) n fs t z d) c (count_in (place_part w (Worker a b) (RaiseCount n)) (plan_count n) == 0)
-put_uncounts w (Caller i) (RaiseCount n) fs t y z h d c = raise_uncounts w n t _ _ refl (raise_apart w h (Caller i) n fs t z d) c (count_in (place_part w (Caller i) (RaiseCount n)) (plan_count n) == 0)
-put_uncounts w (Worker a b) (LowerCount p (OfJob u) n) fs t y z h d c = lower_uncounts w u t c
-put_uncounts w (Caller i) (LowerCount p (OfJob u) n) fs t y z h d c = lower_uncounts w u t c
-put_uncounts w (Worker a b) (LowerCount p PoolValue n) fs t y z h d c = put_same (λ j. j.counted) w.job 0 (w.job 0) t refl ∙ c
-put_uncounts w (Caller i) (LowerCount p PoolValue n) fs t y z h d c = put_same (λ j. j.counted) w.job 0 (w.job 0) t refl ∙ c
-put_uncounts w (Worker a b) (LowerCount p Body n) fs t y z h d c = put_same (λ j. j.counted) w.job 0 (w.job 0) t refl ∙ c
-put_uncounts w (Caller i) (LowerCount p Body n) fs t y z h d c = put_same (λ j. j.counted) w.job 0 (w.job 0) t refl ∙ c
-put_uncounts w q (RaiseForAll b) fs t y z h d c = cc
-put_uncounts w q (LowerForAll b) fs t y z h d c = cc
-put_uncounts w q x fs t y z h d c = if_some_map (Untallied (place_part w q x)) (λ r. (put w.job (job_at w q (act_of q x)) (r.1.job) t).counted ≡ false) (λ r k. put_same (λ j. j.counted) w.job (job_at w q (act_of q x)) (r.1.job) t k.job ∙ c) (outcome w q (record { top = x; below = fs })) (act_untallied w.shape q (counts_at w (target_pool q (act_of q x))) (place_part w q x) x refl)
+unraised_apart : (w : World) (q : Party) (n : Plan) (fs : List Place) (t : ℕ) → w.stack q ≡ record { top = RaiseCount n; below = fs } → all_raises t (w.stack q) ≤ 0 → (t == plan_job n) ≡ true → ⊥
+unraised_apart w q n fs t z r e = let a : all_raises t (w.stack q) ≡ ((one (t == plan_job n) + waiting t n) + raises_in t fs) = ap (all_raises t) z in let b : one (t == plan_job n) ≡ 1 = ap one e in omega (arith, a, b, r)
 
--- a job that is over is no piece in a hand
-over_piece : (w : World) → JobsHold w → (q : Party) (c : Pieces) (fs : List Place) (t : ℕ) → w.stack q ≡ record { top = RaiseForAll c; below = fs } → is_done (w.job t).at ≡ true → is_piece c t ≡ false
-over_piece w h q c fs t z d = not_piece c t (held_in t fs) (let a : held t (w.stack q) ≡ is_loc (Hand q) (loc_at (w.job t)) = ((h.ok).placed) (Hand q) t in let b : is_loc (Hand q) (loc_at (w.job t)) ≡ 0 = over_nowhere ((w.job t).at) ((w.job t).runs) (Hand q) d in let e : held t (w.stack q) ≡ (one (is_piece c t) + held_in t fs) = ap (held t) z in omega (arith, a, b, e))
+put_uncounts : (w : World) (q : Party) (x : Place) (fs : List Place) (t : ℕ) → is_all x ≡ false → w.stack q ≡ record { top = x; below = fs } → all_raises t (w.stack q) ≤ 0 → (w.job t).counted ≡ false → IfSome (outcome w q (record { top = x; below = fs })) (λ r. (put w.job (job_at w q (act_of q x)) (r.1.job) t).counted ≡ false)
+put_uncounts w (Worker a b) (RaiseCount n) fs t y z d c = raise_uncounts w n t _ _ refl (unraised_apart w (Worker a b) n fs t z d) c (count_in (place_part w (Worker a b) (RaiseCount n)) (plan_count n) == 0)
+put_uncounts w (Caller i) (RaiseCount n) fs t y z d c = raise_uncounts w n t _ _ refl (unraised_apart w (Caller i) n fs t z d) c (count_in (place_part w (Caller i) (RaiseCount n)) (plan_count n) == 0)
+put_uncounts w (Worker a b) (LowerCount p (OfJob u) n) fs t y z d c = lower_uncounts w u t c
+put_uncounts w (Caller i) (LowerCount p (OfJob u) n) fs t y z d c = lower_uncounts w u t c
+put_uncounts w (Worker a b) (LowerCount p PoolValue n) fs t y z d c = put_same (λ j. j.counted) w.job 0 (w.job 0) t refl ∙ c
+put_uncounts w (Caller i) (LowerCount p PoolValue n) fs t y z d c = put_same (λ j. j.counted) w.job 0 (w.job 0) t refl ∙ c
+put_uncounts w (Worker a b) (LowerCount p Body n) fs t y z d c = put_same (λ j. j.counted) w.job 0 (w.job 0) t refl ∙ c
+put_uncounts w (Caller i) (LowerCount p Body n) fs t y z d c = put_same (λ j. j.counted) w.job 0 (w.job 0) t refl ∙ c
+put_uncounts w q (RaiseForAll b) fs t y z d c = cc
+put_uncounts w q (LowerForAll b) fs t y z d c = cc
+put_uncounts w q (DealPieces b) fs t y z d c = cc
+put_uncounts w q x fs t y z d c = if_some_map (Untallied (place_part w q x)) (λ r. (put w.job (job_at w q (act_of q x)) (r.1.job) t).counted ≡ false) (λ r k. put_same (λ j. j.counted) w.job (job_at w q (act_of q x)) (r.1.job) t k.job ∙ c) (outcome w q (record { top = x; below = fs })) (act_untallied w.shape q (counts_at w (target_pool q (act_of q x))) (place_part w q x) x refl)
 
+-- nor after a broadcast has given its pieces shares, or taken them
 mark_uncounts : (w : World) (c : Pieces) (k : Marking) (t : ℕ) → ((p i : ℕ) (j : Job) → j.counted ≡ false → (marked k p i j).counted ≡ false) → (w.job t).counted ≡ false → (mark_pieces c k (put w.job 0 (w.job 0)) t).counted ≡ false
 mark_uncounts w c k t f n = by (is_piece c t)
   where
@@ -579,33 +592,62 @@ mark_uncounts w c k t f n = by (is_piece c t)
     by true = f c.pool (t - c.first) (put w.job 0 (w.job 0) t) was
     by false = was
 
-done_uncounts : (w : World) (q : Party) (c : Pieces) (fs : List Place) (t : ℕ) → w.stack q ≡ record { top = RaiseForAll c; below = fs } → JobsHold w → is_done (w.job t).at ≡ true → (w.job t).counted ≡ false → (mark_pieces c Counted (put w.job 0 (w.job 0)) t).counted ≡ false
-done_uncounts w q c fs t z h d n = ap (λ j. j.counted) (piece_old c (marked Counted c.pool) (put w.job 0 (w.job 0)) t (over_piece w h q c fs t z d)) ∙ put_same (λ j. j.counted) w.job 0 (w.job 0) t refl ∙ n
+off_uncounts : (w : World) (c : Pieces) (k : Marking) (t : ℕ) → is_piece c t ≡ false → (w.job t).counted ≡ false → (mark_pieces c k (put w.job 0 (w.job 0)) t).counted ≡ false
+off_uncounts w c k t e n = ap (λ j. j.counted) (piece_old c (marked k c.pool) (put w.job 0 (w.job 0)) t e) ∙ put_same (λ j. j.counted) w.job 0 (w.job 0) t refl ∙ n
 
-act_uncounts : (w : World) (q : Party) (x : Place) (fs : List Place) (t : ℕ) → w.stack q ≡ record { top = x; below = fs } → JobsHold w → is_done (w.job t).at ≡ true → (w.job t).counted ≡ false → IfSome (outcome w q (record { top = x; below = fs })) (λ r. ((world_after w q x fs r).job t).counted ≡ false)
-act_uncounts w (Worker a b) (RaiseForAll c) fs t z h d n = all_cases (λ r. ((world_after w (Worker a b) (RaiseForAll c) fs r).job t).counted ≡ false) (Refused, place_part w (Worker a b) (RaiseForAll c)) _ (mark_uncounts w c Returned t (λ p i j e. refl) n) (done_uncounts w (Worker a b) c fs t z h d n) ((w.pool c.pool).count == 0)
-act_uncounts w (Caller g) (RaiseForAll c) fs t z h d n = all_cases (λ r. ((world_after w (Caller g) (RaiseForAll c) fs r).job t).counted ≡ false) (Refused, place_part w (Caller g) (RaiseForAll c)) _ (mark_uncounts w c Returned t (λ p i j e. refl) n) (done_uncounts w (Caller g) c fs t z h d n) ((w.pool c.pool).count == 0)
-act_uncounts w (Worker a b) (LowerForAll c) fs t z h d n = ap (λ g. (g t).counted) (returned_jobs (w.shape.pool c.pool) (Worker a b) c (if (w.pool c.pool).count == c.workers then Yes else No) (put w.job 0 (w.job 0))) ∙ mark_uncounts w c Returned t (λ p i j e. refl) n
-act_uncounts w (Caller g) (LowerForAll c) fs t z h d n = ap (λ g. (g t).counted) (returned_jobs (w.shape.pool c.pool) (Caller g) c (if (w.pool c.pool).count == c.workers then Yes else No) (put w.job 0 (w.job 0))) ∙ mark_uncounts w c Returned t (λ p i j e. refl) n
-act_uncounts w q x fs t z h d n = if_some_map (λ r. ((put w.job (job_at w q (act_of q x)) (r.1.job) t).counted ≡ false) × (is_sharing (next_of (w.shape.pool (target_pool q (act_of q x))) q x (r.0)) ≡ false)) (λ r. ((world_after w q x fs r).job t).counted ≡ false) (λ r f. after_counted q (next_of (w.shape.pool (target_pool q (act_of q x))) q x (r.0)) (put w.job (job_at w q (act_of q x)) (r.1.job)) t (f.1) ∙ f.0) (outcome w q (record { top = x; below = fs }))
-    (if_some_and (λ r. (put w.job (job_at w q (act_of q x)) (r.1.job) t).counted ≡ false) (λ r. is_sharing (next_of (w.shape.pool (target_pool q (act_of q x))) q x (r.0)) ≡ false) (outcome w q (record { top = x; below = fs })) (put_uncounts w q x fs t refl z h d n) (all_steady w q x refl))
+unraised_piece : (w : World) (q : Party) (c : Pieces) (x : Place) (fs : List Place) (t : ℕ) → w.stack q ≡ record { top = x; below = fs } → raises t x ≡ one (is_piece c t) → all_raises t (w.stack q) ≤ 0 → is_piece c t ≡ false
+unraised_piece w q c x fs t z e r = not_piece c t (raises_in t fs) (let a : all_raises t (w.stack q) ≡ (raises t x + raises_in t fs) = ap (all_raises t) z in omega (arith, a, e, r))
 
-step_uncounts : (w : World) (e : Event) (t : ℕ) → t + 1 ≤ w.jobs → JobsHold w → is_done (w.job t).at ≡ true → (w.job t).counted ≡ false → IfSome (step w e) (λ u. (u.job t).counted ≡ false)
-step_uncounts w e t l h d c = by_act (λ u. (u.job t).counted ≡ false) w e (λ q. act_uncounts w q ((w.stack q).top) ((w.stack q).below) t refl h d c) (λ u m. ((m.made t l).1).1 ∙ c) (is_act e) refl
+act_uncounts : (w : World) (q : Party) (x : Place) (fs : List Place) (t : ℕ) → w.stack q ≡ record { top = x; below = fs } → ((s : Party) (i : ℕ) → all_raises i (w.stack s) + one (w.job i).counted ≤ 1) → all_raises t (w.stack q) ≤ 0 → (w.job t).counted ≡ false → IfSome (outcome w q (record { top = x; below = fs })) (λ r. ((world_after w q x fs r).job t).counted ≡ false)
+act_uncounts w (Worker a b) (RaiseForAll c) fs t z un d n = all_cases (λ r. ((world_after w (Worker a b) (RaiseForAll c) fs r).job t).counted ≡ false) (Refused, place_part w (Worker a b) (RaiseForAll c)) _ (mark_uncounts w c Returned t (λ p i j e. refl) n) (off_uncounts w c Counted t (unraised_piece w (Worker a b) c (RaiseForAll c) fs t z refl d) n) (count_in (place_part w (Worker a b) (RaiseForAll c)) c.count == 0)
+act_uncounts w (Caller g) (RaiseForAll c) fs t z un d n = all_cases (λ r. ((world_after w (Caller g) (RaiseForAll c) fs r).job t).counted ≡ false) (Refused, place_part w (Caller g) (RaiseForAll c)) _ (mark_uncounts w c Returned t (λ p i j e. refl) n) (off_uncounts w c Counted t (unraised_piece w (Caller g) c (RaiseForAll c) fs t z refl d) n) (count_in (place_part w (Caller g) (RaiseForAll c)) c.count == 0)
+act_uncounts w (Worker a b) (LowerForAll c) fs t z un d n = ap (λ g. (g t).counted) (returned_jobs (w.shape.pool (count_pool (Worker a b) c.count)) (Worker a b) c (if count_in (place_part w (Worker a b) (LowerForAll c)) c.count == c.workers then Yes else No) (put w.job 0 (w.job 0))) ∙ mark_uncounts w c Returned t (λ p i j e. refl) n
+act_uncounts w (Caller g) (LowerForAll c) fs t z un d n = ap (λ g. (g t).counted) (returned_jobs (w.shape.pool (count_pool (Caller g) c.count)) (Caller g) c (if count_in (place_part w (Caller g) (LowerForAll c)) c.count == c.workers then Yes else No) (put w.job 0 (w.job 0))) ∙ mark_uncounts w c Returned t (λ p i j e. refl) n
+act_uncounts w (Worker a b) (DealPieces g) fs t z un d n = off_uncounts w g.pieces Dealt t (unraised_piece w (Worker a b) g.pieces (DealPieces g) fs t z refl d) n
+act_uncounts w (Caller i) (DealPieces g) fs t z un d n = off_uncounts w g.pieces Dealt t (unraised_piece w (Caller i) g.pieces (DealPieces g) fs t z refl d) n
+act_uncounts w q x fs t z un d n = if_some_map (λ r. ((put w.job (job_at w q (act_of q x)) (r.1.job) t).counted ≡ false) × (is_sharing (next_of (w.shape.pool (target_pool q (act_of q x))) q x (r.0)) ≡ false)) (λ r. ((world_after w q x fs r).job t).counted ≡ false) (λ r f. after_shares w q x fs (w.shape.pool (target_pool q (act_of q x))) (r.0) z un (f.1) (put w.job (job_at w q (act_of q x)) (r.1.job)) t (λ y. f.0) ∙ f.0) (outcome w q (record { top = x; below = fs }))
+    (if_some_and (λ r. (put w.job (job_at w q (act_of q x)) (r.1.job) t).counted ≡ false) (λ r. is_sharing (next_of (w.shape.pool (target_pool q (act_of q x))) q x (r.0)) ≡ false) (outcome w q (record { top = x; below = fs })) (put_uncounts w q x fs t refl z d n) (all_steady w q x refl))
 
-paid_on : (w u : World) (e : Event) → step w e ≡ Some u → JobsHold w → Advance w u → (n : Plan) → Sofar w Paid n → Sofar u Paid n
-paid_on w u e made h a n z = (
-  (let f : IfSome (Some u) (Carries w) = subst (λ o. IfSome o (Carries w)) made (step_carries w e) in (f.made (plan_job n) (z.0)).0),
-  (
-    ended_on w u a (plan_job n) ((z.1).0),
-    (let f : IfSome (Some u) (λ v. (v.job (plan_job n)).counted ≡ false) = subst (λ o. IfSome o (λ v. (v.job (plan_job n)).counted ≡ false)) made (step_uncounts w e (plan_job n) (z.0) h ((z.1).0) ((z.1).1)) in f),
-  ),
-)
+step_uncounts : (w : World) (e : Event) (t : ℕ) → SharesHold w → Unshared w t → IfSome (step w e) (λ u. (u.job t).counted ≡ false)
+step_uncounts w e t h k = by_act (λ u. (u.job t).counted ≡ false) w e (λ q. act_uncounts w q ((w.stack q).top) ((w.stack q).below) t refl h.unraised (k.raised q) k.none) (λ u m. ((m.made t k.made).1).1 ∙ k.none) (is_act e) refl
+
+-- a job that has no share, and for which nobody is to take one, has none for ever
+unshared_on : (w u : World) (e : Event) → step w e ≡ Some u → SharesHold w → (t : ℕ) → Unshared w t → Unshared u t
+unshared_on w u e made h t k = record {
+  made = (let f : IfSome (Some u) (Carries w) = subst (λ o. IfSome o (Carries w)) made (step_carries w e) in f.made t k.made).0;
+  none = (let f : IfSome (Some u) (λ v. (v.job t).counted ≡ false) = subst (λ o. IfSome o (λ v. (v.job t).counted ≡ false)) made (step_uncounts w e t h k) in f);
+  raised = λ r. (let f : IfSome (Some u) (λ v. (r : Party) → all_raises t (v.stack r) ≤ all_raises t (w.stack r)) = subst (λ o. IfSome o (λ v. (r : Party) → all_raises t (v.stack r) ≤ all_raises t (w.stack r))) made (step_raises w e t k.made) in let a : all_raises t (u.stack r) ≤ all_raises t (w.stack r) = f r in let b : all_raises t (w.stack r) ≤ 0 = k.raised r in omega (arith, a, b));
+}
+
+over_on : (w u : World) → Advance w u → (n : Plan) → AllOver w.job n → AllOver u.job n
+over_on w u a (Detach p t) z = tt
+over_on w u a (Feed f) z = tt
+over_on w u a (Enter x) z = tt
+over_on w u a (Here p t) z = ended_on w u a t z
+over_on w u a (Send o) z = ended_on w u a o.job z
+over_on w u a (Open o) z = ended_on w u a o.job z
+over_on w u a (Fork o b) z = (ended_on w u a b (z.0), ended_on w u a o.job (z.1))
+over_on w u a (Gather g) z = λ t e. ended_on w u a t (z t e)
+
+-- a count of 0 stays so
+step_spent : (w : World) (e : Event) (c : ℕ) → c + 1 ≤ w.calls → SharesHold w → (w.call c).count ≡ 0 → IfSome (step w e) (λ u. (u.call c).count ≡ 0)
+step_spent w e c l h z = by_act (λ u. (u.call c).count ≡ 0) w e (λ q. if_some_map {A = Seen × Part} (Ready w q ((w.stack q).top) ((w.stack q).below)) (λ r. ((result w q (w.stack q) r).call c).count ≡ 0) (λ r f. f.last.later.spent c l z) (outcome w q (w.stack q)) (ready w q h)) (λ u m. m.counts c l ∙ z) (is_act e) refl
+
+left_on : (w u : World) (e : Event) → step w e ≡ Some u → SharesHold w → (n : Plan) → Known w n → NoneLeft w n → NoneLeft u n
+left_on w u e made h (Gather g) k z = let f : IfSome (Some u) (λ v. (v.call g.call.number).count ≡ 0) = subst (λ o. IfSome o (λ v. (v.call g.call.number).count ≡ 0)) made (step_spent w e g.call.number k.number h z) in f
+left_on w u e made h (Detach p t) k z = tt
+left_on w u e made h (Here p t) k z = tt
+left_on w u e made h (Feed f) k z = tt
+left_on w u e made h (Enter x) k z = tt
+left_on w u e made h (Send o) k z = tt
+left_on w u e made h (Open o) k z = tt
+left_on w u e made h (Fork o b) k z = tt
 
 pub sofar_on : (w u : World) (e : Event) → step w e ≡ Some u → SharesHold w → FeedersHold w → ReturnsHold u → Advance w u → (n : Plan) → Known w n → (s : Stage) → Sofar w s n → Sofar u s n
 sofar_on w u e made h fe r a n k Going z = tt
 sofar_on w u e made h fe r a n k Undone z = tt
 sofar_on w u e made h fe r a n k Added z = tt
 sofar_on w u e made h fe r a n k Withdrawing z = tt
-sofar_on w u e made h fe r a n k Paid z = paid_on w u e made ((h.calls).jobs) a n z
+sofar_on w u e made h fe r a n k Paid z = (unshared_on w u e made h (plan_job n) (z.0), over_on w u a n (z.1), left_on w u e made h n k (z.2))
+sofar_on w u e made h fe r a n k Repaid z = unshared_on w u e made h (plan_job n) z
 sofar_on w u e made h fe r a n k Gone z = queued_on w u e made h fe r a n k z

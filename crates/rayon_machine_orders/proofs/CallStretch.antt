@@ -1,10 +1,13 @@
 -- a call from its event on: in each world until it is over a place of it stands right above what its party did
 use Rattle.std.proofs.Common.{refl, sym, ◌∙◌, ap, subst, inl, inr}
-use Rattle.std.specs.Prelude.{ℕ, Bool, true, false, ◌&&◌, ◌||◌, ◌==◌, if◌then◌else◌, Some, List, [], ◌∷◌, ◌++◌, ◌≡◌, IfSome, ◌⊎◌}
+use Rattle.std.specs.Prelude.{ℕ, Bool, true, false, ◌&&◌, ◌||◌, ◌==◌, if◌then◌else◌, Option, Some, List, [], ◌∷◌, ◌++◌, ◌≡◌, IfSome, ◌⊎◌}
 use Rattle.rayon_machine_places.specs.declared.place.Party.{Party}
-use Rattle.rayon_machine_places.specs.declared.place.JobKind.TheVariants.{Direct}
+use Rattle.rayon_machine_places.specs.declared.place.JobKind.TheVariants.{Direct, WholeOf}
+use Rattle.rayon_machine_places.specs.declared.place.JobKind.{JobKind}
+use Rattle.rayon_machine_laws.specs.Counted.{has_body}
+use Rattle.rayon_machine_orders.proofs.FaultPlaces.{told_of}
 use Rattle.rayon_machine_places.specs.declared.place.Plan.{Plan}
-use Rattle.rayon_machine_places.specs.declared.place.Plan.TheVariants.{Detach, Here, Send, Fork, Feed, Open, Enter}
+use Rattle.rayon_machine_places.specs.declared.place.Plan.TheVariants.{Detach, Here, Send, Fork, Feed, Open, Enter, Gather}
 use Rattle.rayon_machine_places.specs.declared.place.Place.{Place}
 use Rattle.rayon_machine_places.specs.declared.place.Place.TheVariants.{Run}
 use Rattle.rayon_machine_places.specs.declared.place.Move.{Move}
@@ -16,21 +19,30 @@ use Rattle.rayon_machine_places.specs.declared.state.Whereabouts.TheVariants.{Ha
 use Rattle.rayon_machine_places.specs.declared.state.Job.{Job}
 use Rattle.rayon_machine_places.specs.Places.{plan_job, same_party, act_of, next_of}
 use Rattle.rayon_machine_places.specs.World.{Stack, World, Part as Piece, target_pool, at_job}
-use Rattle.rayon_machine_places.specs.Steps.{put, after_move, handed_back, jobs_after, step}
-use Rattle.rayon_machine_laws.specs.End.{AllJobs}
+use Rattle.rayon_machine_places.specs.Steps.{put, after_move, handed_back, is_piece, marked, jobs_after, step}
+use Rattle.rayon_machine_laws.specs.End.{AllJobs, follows}
 use Rattle.rayon_machine_orders.specs.Calls.{is_at_call, is_raise_refused, is_refusal, IsHandedOn, IsSpent}
-use Rattle.rayon_machine_laws.proofs.Frame.{if_some_all, if_some_map, put_new, same_party_true, same_party_refl, stack_mine, stack_other}
+use Rattle.rayon_machine_laws.proofs.Frame.{if_some_all, if_some_map, put_new, piece_new, same_party_true, same_party_refl, stack_mine, stack_other}
 use Rattle.rayon_machine_laws.proofs.Ties.{job_at, outcome, result}
 use Rattle.rayon_machine_laws.proofs.PlacedEvents.{Advance}
-use Rattle.rayon_machine_laws.proofs.Claims.{Says}
+use Rattle.rayon_machine_laws.proofs.Claims.{Says, SaysTaken, Opened, FirstEnds, is_body}
 use Rattle.rayon_machine_laws.proofs.ClaimRuns.{CallsHold, world_after}
 use Rattle.rayon_machine_laws.proofs.Returns.{ReturnsHold}
-use Rattle.rayon_machine_orders.proofs.Filled.{FilledHold, takes_filled}
-use Rattle.rayon_machine_orders.proofs.CallPlaces.{Stage, Paid, is_undone, is_detach, Part, Ended, Returns, Known, Gone}
+use Rattle.rayon_machine_orders.proofs.FilledStates.{FilledHold}
+use Rattle.rayon_machine_orders.proofs.Filled.{takes_filled}
+use Rattle.rayon_machine_orders.proofs.CallPlaces.{Stage, Paid, Repaid, is_undone, is_detach, Part, Ended, Returns, Known, Knows, NoneLeft, Gone}
 use Rattle.rayon_machine_orders.proofs.CallActs.{Sofar, Went, call_goes, or_false}
 use Rattle.rayon_machine_orders.proofs.CallEvents.{whole, CallStands, Stood, Turned, at_call_yes, at_call_no}
-use Rattle.rayon_machine_orders.proofs.CallSteps.{Carries, mover, turns, go_all, step_carries, known_on, ended_on, sofar_on}
+use Rattle.rayon_machine_orders.proofs.CallSteps.{Carries, mover, turns, go_all, step_carries, known_on, sofar_on}
 use Rattle.rayon_machine_laws.proofs.Feeders.{FeedersHold}
+use Rattle.rayon_machine_laws.proofs.Endings.{follows_says}
+use Rattle.rayon_machine_orders.proofs.Books.{BooksHold}
+use Rattle.rayon_machine_orders.proofs.Faults.{FaultsHold}
+use Rattle.rayon_machine_orders.proofs.FaultSteps.{takes_so}
+use Rattle.rayon_machine_places.specs.declared.place.OpenCall.{OpenCall}
+use Rattle.rayon_machine_places.specs.declared.place.Ending.{Ending}
+use Rattle.rayon_machine_places.specs.declared.place.Then.TheVariants.{Answers}
+use Rattle.rayon_machine_places.specs.declared.place.Mark.TheVariants.{Returned as HandedOut}
 
 -- what holds of every world
 pub record Ground (w : World) : Type 0 where
@@ -38,6 +50,8 @@ pub record Ground (w : World) : Type 0 where
   pub filled : FilledHold w
   pub returns : ReturnsHold w
   pub feeders : FeedersHold w
+  pub faults : FaultsHold w
+  pub books : BooksHold w
 
 -- the call goes on
 pub record Inside (u : World) (q : Party) (s : Stack) (n : Plan) (r : Bool) : Type 0 where
@@ -56,44 +70,59 @@ Unrefused u (Enter e) = IsHandedOn u e.job
 Unrefused u (Here p t) = Ended u t
 Unrefused u (Send o) = Ended u o.job
 Unrefused u (Fork o a) = Ended u a × Ended u o.job
+Unrefused u (Gather g) = (t : ℕ) → is_piece g.pieces t ≡ true → Ended u t
 
 -- the call is over
 pub record Returned (u : World) (q : Party) (s : Stack) (n : Plan) (r : Bool) : Type 0 where
   pub back : u.stack q ≡ s
   pub ends : r ≡ false → Unrefused u n
-  pub paid : r ≡ false → is_detach n ≡ false → (u.job (plan_job n)).counted ≡ false
+  pub paid : is_detach n ≡ false → (u.job (plan_job n)).counted ≡ false
   pub refused : r ≡ true → AllJobs (λ t. (u.job t).at ≡ HandedBack) n
+  pub left : r ≡ false → NoneLeft u n
 
 abbrev pub After : World → Party → Stack → Plan → Bool → Type 0
 After u q s n r = Inside u q s n r ⊎ Returned u q s n r
 
 -- a call returns
-left_so : (w u : World) → Advance w u → (n : Plan) (s : Stage) → Known u n → Returns w n s → Sofar u s n → Unrefused u n
-left_so w u a (Detach p t) s k y z = (let b : Sofar u Gone (Detach p t) = subst (λ v. Sofar u v (Detach p t)) y z in b.1)
-left_so w u a (Feed f) s k y z = (let b : Sofar u Gone (Feed f) = subst (λ v. Sofar u v (Feed f)) y z in (b.0, elim ((b.1).1) [ inl c ↦ inl c | inr c ↦ inr (record { token = (k.1).1; at = c }) ]))
-left_so w u a (Open o) s k y z = ended_on w u a (o.job) (y.1)
-left_so w u a (Enter e) s k y z = (let b : Sofar u Gone (Enter e) = subst (λ v. Sofar u v (Enter e)) y z in b.1)
-left_so w u a (Here p t) s k y z = ended_on w u a t (y.1)
-left_so w u a (Send o) s k y z = ended_on w u a (o.job) (y.1)
-left_so w u a (Fork o b) s k y z = (ended_on w u a b ((y.1).0), ended_on w u a (o.job) ((y.1).1))
+left_so : (u : World) (n : Plan) (s : Stage) → Known u n → Returns n s → Sofar u s n → Unrefused u n
+left_so u (Detach p t) s k y z = (let b : Sofar u Gone (Detach p t) = subst (λ v. Sofar u v (Detach p t)) y z in b.1)
+left_so u (Feed f) s k y z = (let b : Sofar u Gone (Feed f) = subst (λ v. Sofar u v (Feed f)) y z in (b.0, elim ((b.1).1) [ inl c ↦ inl c | inr c ↦ inr (record { token = (k.1).1; at = c }) ]))
+left_so u (Enter e) s k y z = (let b : Sofar u Gone (Enter e) = subst (λ v. Sofar u v (Enter e)) y z in b.1)
+left_so u (Open o) s k y z = (let b : Sofar u Paid (Open o) = subst (λ v. Sofar u v (Open o)) y z in b.1)
+left_so u (Here p t) s k y z = (let b : Sofar u Paid (Here p t) = subst (λ v. Sofar u v (Here p t)) y z in b.1)
+left_so u (Send o) s k y z = (let b : Sofar u Paid (Send o) = subst (λ v. Sofar u v (Send o)) y z in b.1)
+left_so u (Fork o a) s k y z = (let b : Sofar u Paid (Fork o a) = subst (λ v. Sofar u v (Fork o a)) y z in b.1)
+left_so u (Gather g) s k y z = (let b : Sofar u Paid (Gather g) = subst (λ v. Sofar u v (Gather g)) y z in b.1)
 
-paid_so : (w u : World) (n : Plan) (s : Stage) → Returns w n s → is_detach n ≡ false → Sofar u s n → (u.job (plan_job n)).counted ≡ false
-paid_so w u (Feed f) s y d z = absurd (let a : true ≡ false = d in cc)
-paid_so w u (Detach p t) s y d z = absurd (let a : true ≡ false = d in cc)
-paid_so w u (Open o) s y d z = (let k : Sofar u Paid (Open o) = subst (λ v. Sofar u v (Open o)) (y.0) z in (k.1).1)
-paid_so w u (Enter e) s y d z = absurd (let a : true ≡ false = d in cc)
-paid_so w u (Here p t) s y d z = (let k : Sofar u Paid (Here p t) = subst (λ v. Sofar u v (Here p t)) (y.0) z in (k.1).1)
-paid_so w u (Send o) s y d z = (let k : Sofar u Paid (Send o) = subst (λ v. Sofar u v (Send o)) (y.0) z in (k.1).1)
-paid_so w u (Fork o b) s y d z = (let k : Sofar u Paid (Fork o b) = subst (λ v. Sofar u v (Fork o b)) (y.0) z in (k.1).1)
+paid_so : (u : World) (n : Plan) (s : Stage) → Returns n s → is_detach n ≡ false → Sofar u s n → (u.job (plan_job n)).counted ≡ false
+paid_so u (Feed f) s y d z = absurd (let a : true ≡ false = d in cc)
+paid_so u (Detach p t) s y d z = absurd (let a : true ≡ false = d in cc)
+paid_so u (Enter e) s y d z = absurd (let a : true ≡ false = d in cc)
+paid_so u (Open o) s y d z = (let k : Sofar u Paid (Open o) = subst (λ v. Sofar u v (Open o)) y z in (k.0).none)
+paid_so u (Here p t) s y d z = (let k : Sofar u Paid (Here p t) = subst (λ v. Sofar u v (Here p t)) y z in (k.0).none)
+paid_so u (Send o) s y d z = (let k : Sofar u Paid (Send o) = subst (λ v. Sofar u v (Send o)) y z in (k.0).none)
+paid_so u (Fork o b) s y d z = (let k : Sofar u Paid (Fork o b) = subst (λ v. Sofar u v (Fork o b)) y z in (k.0).none)
+paid_so u (Gather g) s y d z = (let k : Sofar u Paid (Gather g) = subst (λ v. Sofar u v (Gather g)) y z in (k.0).none)
 
-not_undone : (w : World) (n : Plan) (s : Stage) → Returns w n s → is_undone s ≡ false
-not_undone w (Detach p t) s y = ap is_undone y
-not_undone w (Feed f) s y = ap is_undone y
-not_undone w (Open o) s y = ap is_undone (y.0)
-not_undone w (Enter e) s y = ap is_undone y
-not_undone w (Here p t) s y = ap is_undone (y.0)
-not_undone w (Send o) s y = ap is_undone (y.0)
-not_undone w (Fork o b) s y = ap is_undone (y.0)
+none_so : (u : World) (n : Plan) (s : Stage) → Returns n s → Sofar u s n → NoneLeft u n
+none_so u (Gather g) s y z = (let k : Sofar u Paid (Gather g) = subst (λ v. Sofar u v (Gather g)) y z in k.2)
+none_so u (Detach p t) s y z = tt
+none_so u (Here p t) s y z = tt
+none_so u (Feed f) s y z = tt
+none_so u (Enter e) s y z = tt
+none_so u (Send o) s y z = tt
+none_so u (Open o) s y z = tt
+none_so u (Fork o b) s y z = tt
+
+not_undone : (n : Plan) (s : Stage) → Returns n s → is_undone s ≡ false
+not_undone (Detach p t) s y = ap is_undone y
+not_undone (Feed f) s y = ap is_undone y
+not_undone (Open o) s y = ap is_undone y
+not_undone (Enter e) s y = ap is_undone y
+not_undone (Here p t) s y = ap is_undone y
+not_undone (Send o) s y = ap is_undone y
+not_undone (Fork o b) s y = ap is_undone y
+not_undone (Gather g) s y = ap is_undone y
 
 two_handed : (f : ℕ → Job) (a b : ℕ) → ((put (put f a (at_job (f a) HandedBack)) b (at_job (f b) HandedBack) a).at ≡ HandedBack) × ((put (put f a (at_job (f a) HandedBack)) b (at_job (f b) HandedBack) b).at ≡ HandedBack)
 two_handed f a b = (by (a == b), ap (λ j. j.at) (put_new (put f a (at_job (f a) HandedBack)) b (at_job (f b) HandedBack)))
@@ -110,18 +139,19 @@ handed_all f (Open o) = ap (λ j. j.at) (put_new f (o.job) (at_job (f (o.job)) H
 handed_all f (Enter e) = ap (λ j. j.at) (put_new f (e.job) (at_job (f (e.job)) HandedBack))
 handed_all f (Fork o a) = two_handed f a o.job
 handed_all f (Feed d) = two_handed f d.job d.token
+handed_all f (Gather g) = λ t e. ap (λ j. j.at) (piece_new g.pieces (marked HandedOut g.pieces.pool) f t e)
 
 -- where the call's own act leads
-landed : (w u : World) (q : Party) (s : Stack) (n : Plan) (st : Stage) (b : Bool) (g : Move) (f : ℕ → Job) → u.stack q ≡ after_move g (whole s) → u.job ≡ jobs_after q g f → Went w u n st b g → Sofar u st n → Known u n → Advance w u → After u q s n (is_undone st || b)
-landed w u q s n st b (Stay y) f z j h so k a = inl (record { stage = h.stage; stands = record { above = []; place = y; is = ap whole z; part = h.leads }; sofar = h.sofar so; known = k; flag = h.flag })
-landed w u q s n st b (HandIn y t) f z j h so k a = absurd h.leads
-landed w u q s n st b (Mark y c m) f z j h so k a = absurd h.leads
-landed w u q s n st b (HandAllBack c) f z j h so k a = absurd h.leads
-landed w u q s n st b (Enter x y) f z j h so k a = inl (record { stage = h.stage; stands = record { above = y ∷ []; place = x; is = ap whole z; part = h.leads }; sofar = h.sofar so; known = k; flag = h.flag })
-landed w u q s n st b (StartRun x t) f z j h so k a = inl (record { stage = h.stage; stands = record { above = Run t Direct ∷ []; place = x; is = ap whole z; part = h.leads }; sofar = h.sofar so; known = k; flag = h.flag })
-landed w u q s n st b Back f z j h so k a = inr (record { back = z; ends = λ e. left_so w u a n h.stage k h.leads (h.sofar so); paid = λ e d. paid_so w u n h.stage h.leads d (h.sofar so); refused = λ e. absurd (let c : is_undone h.stage ≡ false = not_undone w n h.stage h.leads in let d : is_undone h.stage ≡ true = h.flag ∙ e in cc) })
-landed w u q s n st b (HandBack m) f z j h so k a = inr (record { back = z; ends = λ e. absurd (let c : is_undone h.stage ≡ true = ap is_undone ((h.leads).1) in let d : is_undone h.stage ≡ false = h.flag ∙ e in cc); paid = λ e d. absurd (let c : is_undone h.stage ≡ true = ap is_undone ((h.leads).1) in let d : is_undone h.stage ≡ false = h.flag ∙ e in cc); refused = λ e. subst (λ v. AllJobs (λ t. (u.job t).at ≡ HandedBack) v) ((h.leads).0) (subst (λ v. AllJobs (λ t. (v t).at ≡ HandedBack) m) (sym j) (handed_all f m)) })
-landed w u q s n st b (Discard t) f z j h so k a = absurd h.leads
+landed : (w u : World) (q : Party) (s : Stack) (n : Plan) (st : Stage) (b : Bool) (g : Move) (f : ℕ → Job) → u.stack q ≡ after_move g (whole s) → u.job ≡ jobs_after q g f → Went w u n st b g → Sofar u st n → Known u n → After u q s n (is_undone st || b)
+landed w u q s n st b (Stay y) f z j h so k = inl (record { stage = h.stage; stands = record { above = []; place = y; is = ap whole z; part = h.leads }; sofar = h.sofar so; known = k; flag = h.flag })
+landed w u q s n st b (HandIn y t) f z j h so k = absurd h.leads
+landed w u q s n st b (Mark y c m) f z j h so k = inl (record { stage = h.stage; stands = record { above = []; place = y; is = ap whole z; part = h.leads }; sofar = h.sofar so; known = k; flag = h.flag })
+landed w u q s n st b (HandAllBack c) f z j h so k = absurd h.leads
+landed w u q s n st b (Enter x y) f z j h so k = inl (record { stage = h.stage; stands = record { above = y ∷ []; place = x; is = ap whole z; part = h.leads }; sofar = h.sofar so; known = k; flag = h.flag })
+landed w u q s n st b (StartRun x t) f z j h so k = inl (record { stage = h.stage; stands = record { above = Run t Direct ∷ []; place = x; is = ap whole z; part = h.leads }; sofar = h.sofar so; known = k; flag = h.flag })
+landed w u q s n st b Back f z j h so k = inr (record { back = z; ends = λ e. left_so u n h.stage k h.leads (h.sofar so); paid = λ d. paid_so u n h.stage h.leads d (h.sofar so); refused = λ e. absurd (let c : is_undone h.stage ≡ false = not_undone n h.stage h.leads in let d : is_undone h.stage ≡ true = h.flag ∙ e in cc); left = λ e. none_so u n h.stage h.leads (h.sofar so) })
+landed w u q s n st b (HandBack m) f z j h so k = inr (record { back = z; ends = λ e. absurd (let c : is_undone h.stage ≡ true = ap is_undone ((h.leads).1) in let d : is_undone h.stage ≡ false = h.flag ∙ e in cc); paid = λ d. (let c : Sofar u Repaid n = subst (λ v. Sofar u v n) ((h.leads).1) (h.sofar so) in c.none); refused = λ e. subst (λ v. AllJobs (λ t. (u.job t).at ≡ HandedBack) v) ((h.leads).0) (subst (λ v. AllJobs (λ t. (v t).at ≡ HandedBack) m) (sym j) (handed_all f m)); left = λ e. absurd (let c : is_undone h.stage ≡ true = ap is_undone ((h.leads).1) in let d : is_undone h.stage ≡ false = h.flag ∙ e in cc) })
+landed w u q s n st b (Discard t) f z j h so k = absurd h.leads
 
 -- what goes on above the call's place
 climbs : (n : Plan) (st : Stage) (s : Stack) (g : Move) (gs : List Place) (p : Place) → Part n st p → CallStands n st s (after_move g (gs ++ (p ∷ whole s)))
@@ -174,17 +204,31 @@ by_turn : (w u : World) (e : Event) (q : Party) (s : Stack) (n : Plan) (r : Bool
 by_turn w u e q s n r g i t true z = turned w u e q s n r g i (subst (λ v. Turned w u v e) (sym (same_party_true q (mover e) z)) t)
 by_turn w u e q s n r g i t false z = idle w u e q s n r g i (t.stack q ∙ stack_other w.stack (mover e) t.to q z) (t.quiet q s z)
 
+whole_body : (k : JobKind) → has_body k ≡ false → is_body k ≡ true
+whole_body (WholeOf c o) b = refl
+whole_body _ b = cc
+
+-- what a call knows that is to answer
+pub knows : (w : World) (q : Party) (x : Place) (fs : List Place) (o : OpenCall) (f : Option Ending) (d : Ending) → w.stack q ≡ record { top = x; below = fs } → Ground w → follows x ≡ Some (Answers o f d) → Knows w o f d
+knows w q x fs o f d z g i = record { own = (s.0).target; side = s.1; took = takes_so w g.faults q o f d is; count = λ b. (g.faults.answers q o f d (ap told_of is)).count (whole_body ((w.job o.job).kind) b) }
+  where
+    is : follows (w.stack q).top ≡ Some (Answers o f d)
+    is = ap (λ k. follows k.top) z ∙ i
+
+    s : Opened w q o × FirstEnds w (w.call o.number).first f × SaysTaken w o.job o.number d
+    s = follows_says w q (w.stack q).top (Answers o f d) is ((g.calls.says q).top)
+
 -- its act is the call's own
 own_act : (w : World) (q : Party) (s : Stack) (n : Plan) (r : Bool) (st : Stage) (x : Place) (fs : List Place) → w.stack q ≡ record { top = x; below = fs } → fs ≡ whole s → Ground w → Part n st x → Sofar w st n → Known w n → is_undone st ≡ r → IfSome (outcome w q (record { top = x; below = fs })) (λ z. Stays w (Go q) q s n r (world_after w q x fs z))
 own_act w q s n r st x fs z e g p so k fl = if_some_map (λ v. Went w (world_after w q x fs v) n st (is_raise_refused w (act_of q x)) (next_of (w.shape.pool (target_pool q (act_of q x))) q x (v.0))) (λ v. Stays w (Go q) q s n r (world_after w q x fs v)) (λ v h made d a. lands v h made d a) (outcome w q (record { top = x; below = fs }))
-    (call_goes w q n st x fs (λ o f i c. takes_filled w g.filled q o f (ap (λ v. v.top) z ∙ i) c) z g.feeders (g.calls.jobs) k (subst (λ v. Says w q (v.top)) z ((g.calls.says q).top)) p)
+    (call_goes w q n st x fs (λ o f i c. takes_filled w g.filled q o f (ap (λ v. v.top) z ∙ i) c) (λ o f d i. knows w q x fs o f d z g i) z g.feeders (g.returns.shares) k (subst (λ v. Says w q (v.top)) z ((g.calls.says q).top)) p)
   where
     refuses : is_refusal q s w (Go q) ≡ is_raise_refused w (act_of q x)
     refuses = let a : same_party q q ≡ true = same_party_refl q in let b : is_at_call s (w.stack q) ≡ true = at_call_yes s (w.stack q) (ap (λ v. v.below) z ∙ e) in rw a (rw b (ap (λ v. is_raise_refused w (act_of q v.top)) z))
 
     lands : (v : Seen × Piece) → Went w (world_after w q x fs v) n st (is_raise_refused w (act_of q x)) (next_of (w.shape.pool (target_pool q (act_of q x))) q x (v.0)) → Stays w (Go q) q s n r (world_after w q x fs v)
     lands v h made d a = subst (λ c. After (world_after w q x fs v) q s n c) (ap (λ c. c || is_raise_refused w (act_of q x)) fl ∙ ap (λ c. r || c) (sym refuses))
-        (landed w (world_after w q x fs v) q s n st (is_raise_refused w (act_of q x)) (next_of (w.shape.pool (target_pool q (act_of q x))) q x (v.0)) (put w.job (job_at w q (act_of q x)) (v.1.job)) (stack_mine w.stack q (after_move (next_of (w.shape.pool (target_pool q (act_of q x))) q x (v.0)) fs) ∙ ap (λ c. after_move (next_of (w.shape.pool (target_pool q (act_of q x))) q x (v.0)) c) e) refl h (sofar_on w (world_after w q x fs v) (Go q) made (g.returns.shares) g.feeders d.returns a n k st so) (keeps_known w (world_after w q x fs v) (Go q) made n k) a)
+        (landed w (world_after w q x fs v) q s n st (is_raise_refused w (act_of q x)) (next_of (w.shape.pool (target_pool q (act_of q x))) q x (v.0)) (put w.job (job_at w q (act_of q x)) (v.1.job)) (stack_mine w.stack q (after_move (next_of (w.shape.pool (target_pool q (act_of q x))) q x (v.0)) fs) ∙ ap (λ c. after_move (next_of (w.shape.pool (target_pool q (act_of q x))) q x (v.0)) c) e) refl h (sofar_on w (world_after w q x fs v) (Go q) made (g.returns.shares) g.feeders d.returns a n k st so) (keeps_known w (world_after w q x fs v) (Go q) made n k))
 
 -- its act is of what runs inside the call
 inner_act : (w : World) (q : Party) (s : Stack) (n : Plan) (r : Bool) (st : Stage) (x : Place) (fs gs : List Place) (p : Place) → w.stack q ≡ record { top = x; below = fs } → fs ≡ gs ++ (p ∷ whole s) → Ground w → Part n st p → Sofar w st n → Known w n → is_undone st ≡ r → (v : Seen × Piece) → Stays w (Go q) q s n r (world_after w q x fs v)

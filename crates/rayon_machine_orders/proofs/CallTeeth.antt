@@ -28,7 +28,7 @@ use Rattle.rayon_machine_places.specs.Places.{walk, act_of, next_of}
 use Rattle.rayon_machine_places.specs.World.{Shape, World, Counts, Part, Outcome, effect}
 use Rattle.rayon_machine_laws.specs.End.{AllFine, follows}
 use Rattle.rayon_machine_orders.specs.Calls.{caller_of, is_awaited, verdict_of, is_at_call, is_refusal}
-use Rattle.rayon_machine_orders.proofs.WrongMachines.{Machine, step_by, run_by, times_go, two, b, c, right}
+use Rattle.rayon_machine_orders.proofs.WrongMachines.{Machine, step_by, run_by, times_go, two, b, c, right, doing, leading}
 
 -- some event of a machine's run passes the test
 abbrev pub any_by : Machine → (World → Event → Bool) → Option World → List Event → Bool
@@ -55,7 +55,7 @@ abbrev pub Ends : Machine → List Event → Party → Event → List Event → 
 Ends m before q e between r t x = IfSome (run_by m (two 32) before) (λ w. IfSome (step_by m w e) (λ v. IfSome (run_by m (Some v) between) (EndsSo m q e between r t x w v)))
 
 -- a worker runs an installed job
-abbrev running : List Event
+abbrev pub running : List Event
 running = Install c 0 ∷ times_go c 5 ++ times_go b 12
 
 -- a join in it, up to the run of its first side
@@ -88,7 +88,7 @@ one_sided h q (ProbeWorking k) e = abandons h q k e k.target
 one_sided h q x e = next_of h q x e
 
 -- the clause is broken: nothing refused the join, it is over, and its second side stands in the deque
-join_abandons_its_second_side : Ends (record { does = effect; next = one_sided }) running b (Join b) (forked ++ End b Fault ∷ times_go b 2) false 2 (InDeque 0 1)
+join_abandons_its_second_side : Ends (leading one_sided) running b (Join b) (forked ++ End b Fault ∷ times_go b 2) false 2 (InDeque 0 1)
 join_abandons_its_second_side = record { caller = refl; back = refl; until = refl; refused = refl; mine = refl; at = refl }
 
 -- an install goes back once its job is queued, as a spawn does
@@ -98,7 +98,7 @@ unwaiting h q x e = next_of h q x e
 
 -- the clause is broken: nothing refused the worker's install on another pool, it is over, and its job stands in the
 -- injector
-install_does_not_wait : Ends (record { does = effect; next = unwaiting }) running b (Install b 1) (times_go b 5) false 1 (Injected 1)
+install_does_not_wait : Ends (leading unwaiting) running b (Install b 1) (times_go b 5) false 1 (Injected 1)
 install_does_not_wait = record { caller = refl; back = refl; until = refl; refused = refl; mine = refl; at = refl }
 
 -- a refused call goes back with its jobs
@@ -107,7 +107,7 @@ keeping h q (LowerCount p s (GiveBack n)) No = Back
 keeping h q x e = next_of h q x e
 
 -- the clause is broken: a step of the join was refused, it is over, and its first side is not handed back
-refused_join_keeps_its_jobs : Ends (record { does = effect; next = keeping }) running b (Join b) (times_go b 3 ++ Refuse b ∷ Go b ∷ []) true 1 (Made b)
+refused_join_keeps_its_jobs : Ends (leading keeping) running b (Join b) (times_go b 3 ++ Refuse b ∷ Go b ∷ []) true 1 (Made b)
 refused_join_keeps_its_jobs = record { caller = refl; back = refl; until = refl; refused = refl; mine = refl; at = refl }
 
 -- a Store stores nothing
@@ -124,7 +124,7 @@ record TakesNothing (q : Party) (e : Event) (w v u : World) : Type 0 where
   cell : (u.call 0).cell ≡ None
   over : (u.job (v.jobs - 1)).at ≡ Over Fine
 
-store_stores_nothing : IfSome (two 32) (λ w. IfSome (step_by (record { does = stores_nothing; next = next_of }) w (Install c 0)) (λ v. IfSome (run_by (record { does = stores_nothing; next = next_of }) (Some v) (times_go c 5 ++ times_go b 12 ++ End b Fine ∷ times_go b 2 ++ Go c ∷ [])) (TakesNothing c (Install c 0) w v)))
+store_stores_nothing : IfSome (two 32) (λ w. IfSome (step_by (doing stores_nothing) w (Install c 0)) (λ v. IfSome (run_by (doing stores_nothing) (Some v) (times_go c 5 ++ times_go b 12 ++ End b Fine ∷ times_go b 2 ++ Go c ∷ [])) (TakesNothing c (Install c 0) w v)))
 store_stores_nothing = record { caller = refl; own = refl; act = refl; cell = refl; over = refl }
 
 -- a call goes back with what it took, and leaves out its Lower
@@ -144,7 +144,7 @@ record Leaks (m : Machine) (q : Party) (e : Event) (between : List Event) (w v u
 abbrev installed : List Event
 installed = times_go c 5 ++ times_go b 12 ++ End b Fine ∷ times_go b 2 ++ times_go c 2
 
-call_leaves_out_its_lower : IfSome (two 32) (λ w. IfSome (step_by (record { does = effect; next = unlowered }) w (Install c 0)) (λ v. IfSome (run_by (record { does = effect; next = unlowered }) (Some v) installed) (Leaks (record { does = effect; next = unlowered }) c (Install c 0) installed w v)))
+call_leaves_out_its_lower : IfSome (two 32) (λ w. IfSome (step_by (leading unlowered) w (Install c 0)) (λ v. IfSome (run_by (leading unlowered) (Some v) installed) (Leaks (leading unlowered) c (Install c 0) installed w v)))
 call_leaves_out_its_lower = record { caller = refl; awaited = refl; back = refl; until = refl; counted = refl }
 
 -- the machine as it is lowers the count, and then goes back
@@ -166,7 +166,7 @@ record LowersUnanswered (m : Machine) (q : Party) (e : Event) (between : List Ev
   act : act_of q (u.stack q).top ≡ Lower (OfPool 0) (OfJob 0)
   answer : verdict_of (follows (u.stack q).top) ≡ None
 
-call_lowers_without_an_answer : IfSome (two 32) (λ w. IfSome (step_by (record { does = effect; next = unanswering }) w (Install c 0)) (λ v. IfSome (run_by (record { does = effect; next = unanswering }) (Some v) installed) (LowersUnanswered (record { does = effect; next = unanswering }) c (Install c 0) installed w v)))
+call_lowers_without_an_answer : IfSome (two 32) (λ w. IfSome (step_by (leading unanswering) w (Install c 0)) (λ v. IfSome (run_by (leading unanswering) (Some v) installed) (LowersUnanswered (leading unanswering) c (Install c 0) installed w v)))
 call_lowers_without_an_answer = record { caller = refl; awaited = refl; until = refl; refused = refl; own = refl; act = refl; answer = refl }
 
 -- the machine as it is answers there

@@ -22,7 +22,7 @@ use Rattle.rayon_machine_laws.specs.Once.{one, times, in_cast}
 use Rattle.rayon_machine_laws.specs.Counted.{has_share}
 use Rattle.rayon_machine_laws.specs.Committed.{is_committed}
 use Rattle.rayon_machine_laws.specs.Attended.{is_filled, owes_cast}
-use Rattle.rayon_machine_orders.proofs.WrongMachines.{run_by, times_go, two, a, b, c, right}
+use Rattle.rayon_machine_orders.proofs.WrongMachines.{run_by, times_go, two, a, b, c, right, doing, leading}
 
 -- whoever has put tasks into all broadcast lists begins its calls at worker 1
 abbrev skips_first : PoolShape → Party → Place → Seen → Move
@@ -40,7 +40,7 @@ record Uncalled (w : World) : Type 0 where
   committed : is_committed w 0 0 ≡ true
   callers : (owes_cast (w.stack c).top 2 0 0 || (owes_cast (w.stack a).top 2 0 0 || owes_cast (w.stack b).top 2 0 0)) ≡ false
 
-call_of_all_skips_a_worker : IfSome (run_by (record { does = effect; next = skips_first }) (two 32) asleep_run) Uncalled
+call_of_all_skips_a_worker : IfSome (run_by (leading skips_first) (two 32) asleep_run) Uncalled
 call_of_all_skips_a_worker = record { filled = refl; committed = refl; callers = refl }
 
 -- in the machine as it is the caller is to wake it
@@ -53,7 +53,7 @@ skips_last (PushCast p) h q n m = effect (PushCast (record p { workers = p.worke
 skips_last act h q n m = effect act h q n m
 
 -- the law of places is broken: the last piece's record says that it is queued, and it does not stand there
-broadcast_skips_its_last_worker : IfSome (run_by (record { does = skips_last; next = next_of }) (two 32) (Cast c 0 ∷ times_go c 2)) (λ w. (in_cast 0 1 (w.job 1).at ≡ true) × (times 1 ((w.pool 0).casts 1) ≡ 0))
+broadcast_skips_its_last_worker : IfSome (run_by (doing skips_last) (two 32) (Cast c 0 ∷ times_go c 2)) (λ w. (in_cast 0 1 (w.job 1).at ≡ true) × (times 1 ((w.pool 0).casts 1) ≡ 0))
 broadcast_skips_its_last_worker = (refl, refl)
 
 -- in the machine as it is each piece is bound to its own worker from the event on, and may stand in no other's list
@@ -67,5 +67,5 @@ keeps_shares h q (PushForAll p) e = HandAllBack p
 keeps_shares h q x e = next_of h q x e
 
 -- the law of the count is broken: the number is two more than the shares, so this pool will never end
-refused_broadcast_keeps_its_shares : IfSome (run_by (record { does = effect; next = keeps_shares }) (two 32) (Cast c 0 ∷ times_go c 1 ++ Refuse c ∷ [])) (λ w. ((w.pool 0).count ≡ 3) × ((one (w.pool 0).counted + count_below w.jobs (λ t. has_share 0 (w.job t))) ≡ 1))
+refused_broadcast_keeps_its_shares : IfSome (run_by (leading keeps_shares) (two 32) (Cast c 0 ∷ times_go c 1 ++ Refuse c ∷ [])) (λ w. ((w.pool 0).count ≡ 3) × ((one (w.pool 0).counted + count_below w.jobs (λ t. has_share 0 (w.job t))) ≡ 1))
 refused_broadcast_keeps_its_shares = (refl, refl)

@@ -1,50 +1,52 @@
 -- the law of broadcasts: from the event that begins one to the world in which its party is back
 use Rattle.std.proofs.Common.{arith, refl, sym, ◌∙◌, ap, subst, inl, inr}
-use Rattle.std.specs.Prelude.{ℕ, Bool, true, false, ◌&&◌, ◌||◌, ◌+◌, ◌-◌, ◌==◌, ◌≤◌, ◌<◌, nat_lt, if◌then◌else◌, Some, None, List, [], ◌∷◌, ◌++◌, ◌≡◌, IfSome, ◌⊎◌, ⊤, length}
+use Rattle.std.specs.Prelude.{ℕ, Bool, true, false, ◌&&◌, ◌||◌, ◌+◌, ◌-◌, ◌==◌, ◌≤◌, ◌<◌, nat_lt, if◌then◌else◌, Some, None, List, [], ◌∷◌, ◌++◌, ◌≡◌, IfSome, ◌⊎◌, ⊤, Option, length, slice_get}
 use Rattle.rayon_machine_places.specs.declared.place.Party.{Party}
 use Rattle.rayon_machine_places.specs.declared.place.Party.TheVariants.{Worker, Caller}
 use Rattle.rayon_machine_places.specs.declared.place.Pieces.{Pieces}
 use Rattle.rayon_machine_places.specs.declared.place.Ending.{Ending}
-use Rattle.rayon_machine_places.specs.declared.place.Latch.TheVariants.{Terminate}
+use Rattle.rayon_machine_places.specs.declared.place.Latch.TheVariants.{Terminate, OfCall}
+use Rattle.rayon_machine_places.specs.declared.place.Latch.{Latch}
+use Rattle.rayon_machine_places.specs.declared.place.Count.{Count}
+use Rattle.rayon_machine_places.specs.declared.place.Count.TheVariants.{OfPool, OfScope, OfCast}
+use Rattle.rayon_machine_places.specs.declared.state.Scope.{Scope}
 use Rattle.rayon_machine_places.specs.declared.place.Mark.TheVariants.{Queued, Returned}
 use Rattle.rayon_machine_places.specs.declared.place.Then.{Then}
 use Rattle.rayon_machine_places.specs.declared.place.Then.TheVariants.{Resume, Called}
 use Rattle.rayon_machine_places.specs.declared.place.Settling.{Settling as Setting}
 use Rattle.rayon_machine_places.specs.declared.place.Place.{Place}
-use Rattle.rayon_machine_places.specs.declared.place.Place.TheVariants.{RaiseForAll, PushForAll, LowerForAll, LockToWake, WakeWorker, UnlockWoken, SetLatch, LockToSettle, WakeSettled, UnlockSettled, PickVictim, StealFrom, YieldPick, YieldSteal, YieldPop, LocalPop, Run, Free}
+use Rattle.rayon_machine_places.specs.declared.place.Place.TheVariants.{RaiseForAll, PushForAll, LowerForAll, LockToWake, WakeWorker, UnlockWoken, SetLatch, SetLockLatch, LockToSettle, WakeSettled, UnlockSettled, PickVictim, StealFrom, YieldPick, YieldSteal, YieldPop, LocalPop, Run, Free, OpenForAll, CloseForAll}
 use Rattle.rayon_machine_places.specs.declared.place.Move.{Move}
 use Rattle.rayon_machine_places.specs.declared.place.Move.TheVariants.{Stay, Back}
 use Rattle.rayon_machine_places.specs.declared.act.Seen.{Seen}
 use Rattle.rayon_machine_places.specs.declared.act.Seen.TheVariants.{Refused, Yes, No}
 use Rattle.rayon_machine_places.specs.declared.event.Event.{Event}
-use Rattle.rayon_machine_places.specs.declared.event.Event.TheVariants.{Go, From, Refuse, Miss, End, Spawn, Fifo, Cast, Scope as OpenScope, IntoSpawn, Install, Join, Yield, YieldLocal, EndPool}
+use Rattle.rayon_machine_places.specs.declared.event.Event.TheVariants.{Go, From, Refuse, Miss, End, Spawn, Fifo, Cast, Scope as OpenScope, IntoSpawn, Install, Join, Yield, YieldLocal, EndPool, IntoFifo, IntoCast, Broadcast}
 use Rattle.rayon_machine_places.specs.declared.state.Whereabouts.TheVariants.{HandedBack}
 use Rattle.rayon_machine_places.specs.declared.state.Job.{Job}
 use Rattle.rayon_machine_places.specs.declared.shape.PoolShape.{PoolShape}
-use Rattle.rayon_machine_places.specs.Places.{same_party, act_of, next_of, is_free, walk, after_set, finish}
-use Rattle.rayon_machine_places.specs.World.{Shape, Stack, World, Part, target_pool}
-use Rattle.rayon_machine_places.specs.Steps.{put, after_move, after_choice, after_refusal, after_miss, after_end, after_call, after_spawn, after_feed, after_yield, after_into, is_pool, is_piece, mark_pieces, marked, put_pieces, new_piece, after_cast, jobs_after, step, with_stack}
+use Rattle.rayon_machine_places.specs.Places.{same_party, act_of, next_of, is_free, walk, after_set, finish, set_call, begin_cast, end_cast, ends_count}
+use Rattle.rayon_machine_places.specs.World.{Shape, Stack, World, Part, target_pool, count_pool, count_call, count_in, is_open}
+use Rattle.rayon_machine_places.specs.Steps.{put, after_move, after_choice, after_refusal, after_miss, after_end, after_call, after_spawn, after_feed, after_yield, after_into, is_pool, is_piece, mark_pieces, marked, part_of, put_pieces, new_piece, after_cast, after_deal, after_enter, after_enter_fifo, after_into_fifo, after_into_cast, holds, jobs_after, step, with_stack}
 use Rattle.rayon_machine_places.specs.Readers.{is_queued, is_running, is_done}
 use Rattle.rayon_machine_places.specs.Runs.{IsRun, start}
-use Rattle.rayon_machine_orders.specs.Calls.{IsRunUntil, is_at_call, is_any, IsHandedOn, StandsOn}
-use Rattle.rayon_machine_orders.specs.Casts.{is_cast_refused, is_cast_refusal, CastLaw}
-use Rattle.rayon_machine_laws.proofs.Frame.{and_parts, into_cases, if_cond, if_some_all, if_some_map, same_party_true, same_party_refl, stack_mine, stack_other, piece_new, piece_range, piece_in}
+use Rattle.rayon_machine_orders.specs.Calls.{IsRunUntil, is_at_call, is_any, count_of, scope_pool, IsHandedOn, StandsOn}
+use Rattle.rayon_machine_orders.specs.Casts.{caster_of, cast_pool, is_cast_refused, is_cast_refusal, CastLaw}
+use Rattle.rayon_machine_laws.proofs.Frame.{and_parts, into_cases, into_cast_cases, if_cond, if_some_all, if_some_map, same_party_true, same_party_refl, stack_mine, stack_other, piece_new, piece_range, piece_in}
 use Rattle.rayon_machine_laws.proofs.Ties.{outcome, result}
 use Rattle.rayon_machine_laws.proofs.Located.{is_left}
 use Rattle.rayon_machine_laws.proofs.PlacedEvents.{Advance, final_left, IsFinal}
 use Rattle.rayon_machine_laws.proofs.PlacedRuns.{step_advance}
-use Rattle.rayon_machine_laws.proofs.Claims.{is_detached}
-use Rattle.rayon_machine_laws.proofs.ClaimRuns.{world_after, place_part}
-use Rattle.rayon_machine_laws.proofs.Endings.{refused_so}
-use Rattle.rayon_machine_laws.proofs.Returns.{returned_so}
-use Rattle.rayon_machine_orders.proofs.CallActs.{or_false}
+use Rattle.rayon_machine_laws.proofs.Claims.{counts_detached, is_detached}
+use Rattle.rayon_machine_laws.proofs.ClaimRuns.{world_after, place_part, unqueued}
+use Rattle.rayon_machine_orders.proofs.CallActs.{or_false, or_true}
 use Rattle.rayon_machine_orders.proofs.CallEvents.{whole, Turned, at_call_yes}
 use Rattle.rayon_machine_orders.proofs.CallSteps.{Carries, mover, turns, go_all, is_act, step_carries, handed_on, left_untaken}
 use Rattle.rayon_machine_orders.proofs.CallStretch.{Ground}
-use Rattle.rayon_machine_orders.proofs.Calls.{ground_of, run_more, or_assoc, run_on}
+use Rattle.rayon_machine_orders.proofs.Calls.{ground_of, run_more, or_assoc, run_on, until_bound, given_back}
 
--- how far a broadcast is: before its push, after a refused push, calling all, and setting the latches of a pool that a
--- refused one has ended
+-- how far a broadcast is: before its push, after a refused one, calling all, and setting the latches of a pool or of a
+-- scope that a refused one has ended
 data Stage : Type 0 where
   Before : Stage
   Undoing : Stage
@@ -60,16 +62,44 @@ is_undone Emptying = true
 -- where its party stands then
 abbrev Spot : Pieces → Stage → Place → Type 0
 Spot c Before (RaiseForAll d) = d ≡ c
+Spot c Before (OpenForAll d) = d ≡ c
 Spot c Before (PushForAll d) = d ≡ c
+Spot c Undoing (CloseForAll d) = d ≡ c
 Spot c Undoing (LowerForAll d) = d ≡ c
 Spot c Calling (LockToWake k) = k.then ≡ Called
 Spot c Calling (WakeWorker k) = k.then ≡ Called
 Spot c Calling (UnlockWoken k) = k.then ≡ Called
-Spot c Emptying (SetLatch k) = (k.then ≡ Resume) × (k.latch ≡ Terminate)
-Spot c Emptying (LockToSettle k) = (k.then ≡ Resume) × (k.latch ≡ Terminate)
-Spot c Emptying (WakeSettled k) = (k.then ≡ Resume) × (k.latch ≡ Terminate)
-Spot c Emptying (UnlockSettled k) = (k.then ≡ Resume) × (k.latch ≡ Terminate)
+Spot c Emptying (SetLatch k) = k.then ≡ Resume
+Spot c Emptying (LockToSettle k) = k.then ≡ Resume
+Spot c Emptying (WakeSettled k) = k.then ≡ Resume
+Spot c Emptying (UnlockSettled k) = k.then ≡ Resume
+Spot c Emptying (SetLockLatch n t) = t ≡ Resume
 Spot c _ _ = ⊥
+
+begin_spot : (c : Pieces) (k : Count) → Spot c Before (begin_cast k c)
+begin_spot c (OfPool p) = refl
+begin_spot c (OfScope n o) = refl
+begin_spot c (OfCast n o) = refl
+
+end_spot : (c d : Pieces) (k : Count) → d ≡ c → Spot c Undoing (end_cast k d)
+end_spot c d (OfPool p) e = e
+end_spot c d (OfScope n o) e = e
+end_spot c d (OfCast n o) e = e
+
+set_spot : (c : Pieces) (n : ℕ) (o : Party) → Spot c Emptying (set_call n o Resume)
+set_spot c n (Worker a b) = refl
+set_spot c n (Caller m) = refl
+
+ends_spot : (c : Pieces) (k : Count) → Spot c Emptying (ends_count k)
+ends_spot c (OfPool p) = refl
+ends_spot c (OfScope n o) = set_spot c n o
+ends_spot c (OfCast n o) = set_spot c n o
+
+-- the count that a broadcast raises is that of its part
+count_is : (w : World) (q : Party) (k : Count) (i t : ℕ) → count_in (part_of w (count_pool q k) i (count_call k) t) k ≡ count_of w k
+count_is w q (OfPool p) i t = refl
+count_is w q (OfScope c o) i t = refl
+count_is w q (OfCast c o) i t = refl
 
 -- what has become of the pieces by then
 abbrev AllOn : World → Pieces → Type 0
@@ -158,11 +188,12 @@ called_leads c g q p n i t e = subst (λ t. Leads c Calling (walk g q p n i t)) 
     by true = refl
     by false = tt
 
-set_leads : (c : Pieces) (g : PoolShape) (q : Party) (k : Setting) → k.then ≡ Resume → k.latch ≡ Terminate → Leads c Emptying (after_set g q k k.latch)
-set_leads c g q k e l = subst (λ l. Leads c Emptying (after_set g q k l)) (sym l) (by (nat_lt (k.worker + 1) g.workers))
+set_leads : (c : Pieces) (g : PoolShape) (q : Party) (k : Setting) (l : Latch) → k.then ≡ Resume → Leads c Emptying (after_set g q k l)
+set_leads c g q k (OfCall n) e = subst (λ t. Leads c Emptying (finish q t)) (sym e) tt
+set_leads c g q k Terminate e = by (nat_lt (k.worker + 1) g.workers)
   where
     by : (b : Bool) → Leads c Emptying (if b then Stay (SetLatch (record { latch = Terminate; pool = k.pool; worker = k.worker + 1; then = k.then })) else finish q k.then)
-    by true = (e, refl)
+    by true = e
     by false = subst (λ t. Leads c Emptying (finish q t)) (sym e) tt
 
 leads : (c : Pieces) (g : PoolShape) (q : Party) (st : Stage) (x : Place) (e : Seen) → is_going st ≡ true → Spot c st x → Leads c st (next_of g q x e)
@@ -171,10 +202,11 @@ leads c g q Calling (WakeWorker k) Yes y p = p
 leads c g q Calling (WakeWorker k) _ y p = p
 leads c g q Calling (UnlockWoken k) e y p = called_leads c g q k.pool k.owed (k.worker + 1) k.then p
 leads c g q Emptying (SetLatch k) Yes y p = p
-leads c g q Emptying (SetLatch k) _ y p = set_leads c g q k (p.0) (p.1)
+leads c g q Emptying (SetLatch k) _ y p = set_leads c g q k k.latch p
 leads c g q Emptying (LockToSettle k) e y p = p
 leads c g q Emptying (WakeSettled k) e y p = p
-leads c g q Emptying (UnlockSettled k) e y p = set_leads c g q k (p.0) (p.1)
+leads c g q Emptying (UnlockSettled k) e y p = set_leads c g q k k.latch p
+leads c g q Emptying (SetLockLatch n t) e y p = subst (λ t. Leads c Emptying (finish q t)) (sym p) tt
 leads c g q Before x e y p = cc
 leads c g q Undoing x e y p = cc
 leads c g q st _ e y p = absurd p
@@ -194,6 +226,8 @@ calm w (Worker a b) c Emptying (WakeSettled k) y p = refl
 calm w (Caller g) c Emptying (WakeSettled k) y p = refl
 calm w (Worker a b) c Emptying (UnlockSettled k) y p = refl
 calm w (Caller g) c Emptying (UnlockSettled k) y p = refl
+calm w (Worker a b) c Emptying (SetLockLatch n t) y p = refl
+calm w (Caller g) c Emptying (SetLockLatch n t) y p = refl
 calm w q c Before x y p = cc
 calm w q c Undoing x y p = cc
 calm w q c st _ y p = absurd p
@@ -221,14 +255,21 @@ all_with : (P : Seen × Part → Type 0) (none done : Seen × Part) (b : Bool) �
 all_with P none done true x y = x refl
 all_with P none done false x y = y refl
 
-given_back : (J : ℕ → Job) (c : Pieces) (t : ℕ) → is_piece c t ≡ true → (mark_pieces c Returned J t).at ≡ HandedBack
-given_back J c t e = ap (λ j. j.at) (piece_new c (marked Returned c.pool) J t e)
+marked_back : (J : ℕ → Job) (c : Pieces) (t : ℕ) → is_piece c t ≡ true → (mark_pieces c Returned J t).at ≡ HandedBack
+marked_back J c t e = ap (λ j. j.at) (piece_new c (marked Returned c.pool) J t e)
 
 raise_none : (w : World) (q : Party) (s : Stack) (c : Pieces) → w.stack q ≡ record { top = RaiseForAll c; below = whole s } → is_cast_refused w (act_of q (RaiseForAll c)) ≡ true → (u : World) → u.stack q ≡ s → ((t : ℕ) → u.job t ≡ mark_pieces c Returned (put w.job 0 (w.job 0)) t) → Keeps w (Go q) q s c false u
-raise_none w q s c z e u b j made h a = subst (λ f. After u q s c f) (sym (own_flag w q s (RaiseForAll c) true z e)) (inr (record { back = b; on = λ d. cc; backs = λ d t y. ap (λ v. v.at) (j t) ∙ given_back (put w.job 0 (w.job 0)) c t y }))
+raise_none w q s c z e u b j made h a = subst (λ f. After u q s c f) (sym (own_flag w q s (RaiseForAll c) true z e)) (inr (record { back = b; on = λ d. cc; backs = λ d t y. ap (λ v. v.at) (j t) ∙ marked_back (put w.job 0 (w.job 0)) c t y }))
 
-raise_done : (w : World) (q : Party) (s : Stack) (c : Pieces) → w.stack q ≡ record { top = RaiseForAll c; below = whole s } → is_cast_refused w (act_of q (RaiseForAll c)) ≡ false → AllMade w c → (u : World) → u.stack q ≡ record { top = PushForAll c; below = whole s } → Keeps w (Go q) q s c false u
-raise_done w q s c z e k u b made h a = subst (λ f. After u q s c f) (sym (own_flag w q s (RaiseForAll c) false z e)) (inl (record { stage = Before; top = PushForAll c; is = b; spot = refl; sofar = tt; known = made_on w u (Go q) made c k; flag = refl }))
+raise_done : (w : World) (q : Party) (s : Stack) (c : Pieces) → w.stack q ≡ record { top = RaiseForAll c; below = whole s } → is_cast_refused w (act_of q (RaiseForAll c)) ≡ false → AllMade w c → (u : World) → u.stack q ≡ record { top = begin_cast c.count c; below = whole s } → Keeps w (Go q) q s c false u
+raise_done w q s c z e k u b made h a = subst (λ f. After u q s c f) (sym (own_flag w q s (RaiseForAll c) false z e)) (inl (record { stage = Before; top = begin_cast c.count c; is = b; spot = begin_spot c c.count; sofar = tt; known = made_on w u (Go q) made c k; flag = refl }))
+
+-- the numbers of a book are opened, and are taken back
+open_done : (w : World) (q : Party) (s : Stack) (c : Pieces) → w.stack q ≡ record { top = OpenForAll c; below = whole s } → is_cast_refused w (act_of q (OpenForAll c)) ≡ false → AllMade w c → (u : World) → u.stack q ≡ record { top = PushForAll c; below = whole s } → Keeps w (Go q) q s c false u
+open_done w q s c z e k u b made h a = subst (λ f. After u q s c f) (sym (own_flag w q s (OpenForAll c) false z e)) (inl (record { stage = Before; top = PushForAll c; is = b; spot = refl; sofar = tt; known = made_on w u (Go q) made c k; flag = refl }))
+
+close_done : (w : World) (q : Party) (s : Stack) (c : Pieces) (r : Bool) → r ≡ true → AllMade w c → (u : World) → u.stack q ≡ record { top = LowerForAll c; below = whole s } → Keeps w (Go q) q s c r u
+close_done w q s c r f k u b made h a = subst (λ v. After u q s c (v || is_cast_refusal q s w (Go q))) (sym f) (inl (record { stage = Undoing; top = LowerForAll c; is = b; spot = refl; sofar = tt; known = made_on w u (Go q) made c k; flag = refl }))
 
 push_done : (w : World) (q : Party) (s : Stack) (c : Pieces) → w.stack q ≡ record { top = PushForAll c; below = whole s } → is_cast_refused w (act_of q (PushForAll c)) ≡ false → AllMade w c → (n n0 : ℕ) (j0 : Job) (u : World) → u.stack q ≡ record { top = LockToWake (record { pool = c.pool; owed = n; worker = 0; then = Called }); below = whole s } → ((t : ℕ) → u.job t ≡ mark_pieces c Queued (put w.job n0 j0) t) → Keeps w (Go q) q s c false u
 push_done w q s c z e k n n0 j0 u b j made h a = subst (λ f. After u q s c f) (sym (own_flag w q s (PushForAll c) false z e)) (inl (record { stage = Calling; top = LockToWake (record { pool = c.pool; owed = n; worker = 0; then = Called }); is = b; spot = refl; sofar = on; known = made_on w u (Go q) made c k; flag = refl }))
@@ -240,43 +281,59 @@ lower_on : (w : World) (q : Party) (s : Stack) (c : Pieces) (r : Bool) → r ≡
 lower_on w q s c r f k g e u b j made h a = subst (λ v. After u q s c (v || is_cast_refusal q s w (Go q))) (sym f) (by e b j)
   where
     by : (e : Seen) → u.stack q ≡ after_move (next_of g q (LowerForAll c) e) (whole s) → ((t : ℕ) → u.job t ≡ jobs_after q (next_of g q (LowerForAll c) e) (put w.job 0 (w.job 0)) t) → After u q s c true
-    by Yes b j = inl (record { stage = Emptying; top = SetLatch (record { latch = Terminate; pool = c.pool; worker = 0; then = Resume }); is = b; spot = (refl, refl); sofar = λ t y. ap (λ v. v.at) (j t) ∙ given_back (put w.job 0 (w.job 0)) c t y; known = made_on w u (Go q) made c k; flag = refl })
-    by _ b j = inr (record { back = b; on = λ d. cc; backs = λ d t y. ap (λ v. v.at) (j t) ∙ given_back (put w.job 0 (w.job 0)) c t y })
+    by Yes b j = inl (record { stage = Emptying; top = ends_count c.count; is = b; spot = ends_spot c c.count; sofar = λ t y. ap (λ v. v.at) (j t) ∙ marked_back (put w.job 0 (w.job 0)) c t y; known = made_on w u (Go q) made c k; flag = refl })
+    by _ b j = inr (record { back = b; on = λ d. cc; backs = λ d t y. ap (λ v. v.at) (j t) ∙ marked_back (put w.job 0 (w.job 0)) c t y })
 
 abbrev Keepers : World → Party → Stack → Pieces → Bool → Place → Seen × Part → Type 0
 Keepers w q s c r x v = Keeps w (Go q) q s c r (world_after w q x (whole s) v)
+
+-- an act on a book is done, or not enabled
+book_done : (w : World) (q : Party) (s : Stack) (c : Pieces) (r : Bool) (x : Place) (b : Bool) (v : Seen × Part) → Keepers w q s c r x v → IfSome (if b then Some v else None) (Keepers w q s c r x)
+book_done w q s c r x b v k = if_cond (Keepers w q s c r x) b v (λ z. k)
 
 own_act : (w : World) (q : Party) (s : Stack) (c : Pieces) (r : Bool) (st : Stage) (x : Place) → w.stack q ≡ record { top = x; below = whole s } → Ground w → Spot c st x → Sofar w c st → AllMade w c → is_undone st ≡ r → IfSome (outcome w q (record { top = x; below = whole s })) (Keepers w q s c r x)
 own_act w q s c r Before (RaiseForAll d) z g p o k f = subst (λ b. IfSome (outcome w q (record { top = RaiseForAll d; below = whole s })) (Keepers w q s c b (RaiseForAll d))) f
     (subst (λ c. AllMade w c → IfSome (outcome w q (record { top = RaiseForAll d; below = whole s })) (Keepers w q s c false (RaiseForAll d))) p (raised q z) k)
   where
     raised : (q : Party) → w.stack q ≡ record { top = RaiseForAll d; below = whole s } → AllMade w d → IfSome (outcome w q (record { top = RaiseForAll d; below = whole s })) (Keepers w q s d false (RaiseForAll d))
-    raised (Worker a b) z k = all_with (Keepers w (Worker a b) s d false (RaiseForAll d)) (Refused, place_part w (Worker a b) (RaiseForAll d)) _ ((w.pool d.pool).count == 0) (λ e. raise_none w (Worker a b) s d z e (world_after w (Worker a b) (RaiseForAll d) (whole s) (Refused, place_part w (Worker a b) (RaiseForAll d))) (stack_mine w.stack (Worker a b) s) (λ t. refl)) (λ e. raise_done w (Worker a b) s d z e k _ (stack_mine w.stack (Worker a b) (record { top = PushForAll d; below = whole s })))
-    raised (Caller n) z k = all_with (Keepers w (Caller n) s d false (RaiseForAll d)) (Refused, place_part w (Caller n) (RaiseForAll d)) _ ((w.pool d.pool).count == 0) (λ e. raise_none w (Caller n) s d z e (world_after w (Caller n) (RaiseForAll d) (whole s) (Refused, place_part w (Caller n) (RaiseForAll d))) (stack_mine w.stack (Caller n) s) (λ t. refl)) (λ e. raise_done w (Caller n) s d z e k _ (stack_mine w.stack (Caller n) (record { top = PushForAll d; below = whole s })))
+    raised (Worker a b) z k = all_with (Keepers w (Worker a b) s d false (RaiseForAll d)) (Refused, place_part w (Worker a b) (RaiseForAll d)) _ (count_in (place_part w (Worker a b) (RaiseForAll d)) d.count == 0) (λ e. raise_none w (Worker a b) s d z (ap (λ n. n == 0) (sym (count_is w (Worker a b) d.count b 0)) ∙ e) (world_after w (Worker a b) (RaiseForAll d) (whole s) (Refused, place_part w (Worker a b) (RaiseForAll d))) (stack_mine w.stack (Worker a b) s) (λ t. refl)) (λ e. raise_done w (Worker a b) s d z (ap (λ n. n == 0) (sym (count_is w (Worker a b) d.count b 0)) ∙ e) k _ (stack_mine w.stack (Worker a b) (record { top = begin_cast d.count d; below = whole s })))
+    raised (Caller n) z k = all_with (Keepers w (Caller n) s d false (RaiseForAll d)) (Refused, place_part w (Caller n) (RaiseForAll d)) _ (count_in (place_part w (Caller n) (RaiseForAll d)) d.count == 0) (λ e. raise_none w (Caller n) s d z (ap (λ n. n == 0) (sym (count_is w (Caller n) d.count 0 0)) ∙ e) (world_after w (Caller n) (RaiseForAll d) (whole s) (Refused, place_part w (Caller n) (RaiseForAll d))) (stack_mine w.stack (Caller n) s) (λ t. refl)) (λ e. raise_done w (Caller n) s d z (ap (λ n. n == 0) (sym (count_is w (Caller n) d.count 0 0)) ∙ e) k _ (stack_mine w.stack (Caller n) (record { top = begin_cast d.count d; below = whole s })))
+own_act w q s c r Before (OpenForAll d) z g p o k f = subst (λ b. IfSome (outcome w q (record { top = OpenForAll d; below = whole s })) (Keepers w q s c b (OpenForAll d))) f
+    (subst (λ c. AllMade w c → IfSome (outcome w q (record { top = OpenForAll d; below = whole s })) (Keepers w q s c false (OpenForAll d))) p (opened q z) k)
+  where
+    opened : (q : Party) → w.stack q ≡ record { top = OpenForAll d; below = whole s } → AllMade w d → IfSome (outcome w q (record { top = OpenForAll d; below = whole s })) (Keepers w q s d false (OpenForAll d))
+    opened (Worker a b) z k = book_done w (Worker a b) s d false (OpenForAll d) (is_open (Worker a b) ((w.call (count_call d.count)).writer)) _ (open_done w (Worker a b) s d z refl k _ (stack_mine w.stack (Worker a b) (record { top = PushForAll d; below = whole s })))
+    opened (Caller n) z k = book_done w (Caller n) s d false (OpenForAll d) (is_open (Caller n) ((w.call (count_call d.count)).writer)) _ (open_done w (Caller n) s d z refl k _ (stack_mine w.stack (Caller n) (record { top = PushForAll d; below = whole s })))
 own_act w q s c r Before (PushForAll d) z g p o k f = subst (λ b. IfSome (outcome w q (record { top = PushForAll d; below = whole s })) (Keepers w q s c b (PushForAll d))) f
     (subst (λ c. AllMade w c → IfSome (outcome w q (record { top = PushForAll d; below = whole s })) (Keepers w q s c false (PushForAll d))) p (pushed q z) k)
   where
     pushed : (q : Party) → w.stack q ≡ record { top = PushForAll d; below = whole s } → AllMade w d → IfSome (outcome w q (record { top = PushForAll d; below = whole s })) (Keepers w q s d false (PushForAll d))
     pushed (Worker a b) z k = push_done w (Worker a b) s d z refl k (w.shape.pool d.pool).workers 0 (w.job 0) _ (stack_mine w.stack (Worker a b) _) (λ t. refl)
     pushed (Caller n) z k = push_done w (Caller n) s d z refl k (w.shape.pool d.pool).workers 0 (w.job 0) _ (stack_mine w.stack (Caller n) _) (λ t. refl)
+own_act w q s c r Undoing (CloseForAll d) z g p o k f = subst (λ c. AllMade w c → IfSome (outcome w q (record { top = CloseForAll d; below = whole s })) (Keepers w q s c r (CloseForAll d))) p (closed q z) k
+  where
+    closed : (q : Party) → w.stack q ≡ record { top = CloseForAll d; below = whole s } → AllMade w d → IfSome (outcome w q (record { top = CloseForAll d; below = whole s })) (Keepers w q s d r (CloseForAll d))
+    closed (Worker a b) z k = book_done w (Worker a b) s d r (CloseForAll d) (is_open (Worker a b) ((w.call (count_call d.count)).writer)) _ (close_done w (Worker a b) s d r (sym f) k _ (stack_mine w.stack (Worker a b) (record { top = LowerForAll d; below = whole s })))
+    closed (Caller n) z k = book_done w (Caller n) s d r (CloseForAll d) (is_open (Caller n) ((w.call (count_call d.count)).writer)) _ (close_done w (Caller n) s d r (sym f) k _ (stack_mine w.stack (Caller n) (record { top = LowerForAll d; below = whole s })))
 own_act w q s c r Undoing (LowerForAll d) z g p o k f = subst (λ c. AllMade w c → IfSome (outcome w q (record { top = LowerForAll d; below = whole s })) (Keepers w q s c r (LowerForAll d))) p (lowered q z) k
   where
     lowered : (q : Party) → w.stack q ≡ record { top = LowerForAll d; below = whole s } → AllMade w d → IfSome (outcome w q (record { top = LowerForAll d; below = whole s })) (Keepers w q s d r (LowerForAll d))
-    lowered (Worker a b) z k = lower_on w (Worker a b) s d r (sym f) k (w.shape.pool d.pool) (if (w.pool d.pool).count == d.workers then Yes else No) _ (stack_mine w.stack (Worker a b) _) (λ t. refl)
-    lowered (Caller n) z k = lower_on w (Caller n) s d r (sym f) k (w.shape.pool d.pool) (if (w.pool d.pool).count == d.workers then Yes else No) _ (stack_mine w.stack (Caller n) _) (λ t. refl)
+    lowered (Worker a b) z k = lower_on w (Worker a b) s d r (sym f) k (w.shape.pool (count_pool (Worker a b) d.count)) (if count_in (place_part w (Worker a b) (LowerForAll d)) d.count == d.workers then Yes else No) _ (stack_mine w.stack (Worker a b) _) (λ t. refl)
+    lowered (Caller n) z k = lower_on w (Caller n) s d r (sym f) k (w.shape.pool (count_pool (Caller n) d.count)) (if count_in (place_part w (Caller n) (LowerForAll d)) d.count == d.workers then Yes else No) _ (stack_mine w.stack (Caller n) _) (λ t. refl)
 own_act w q s c r Calling x z g p o k f = if_some_all (Keepers w q s c r x) (going_act w q s c r Calling x z g refl p o k f) (outcome w q (record { top = x; below = whole s }))
 own_act w q s c r Emptying x z g p o k f = if_some_all (Keepers w q s c r x) (going_act w q s c r Emptying x z g refl p o k f) (outcome w q (record { top = x; below = whole s }))
 own_act w q s c r st _ z g p o k f = absurd p
 
--- a refusal: only the push of the pieces is refused
+-- a refusal: of the push of the pieces, or of the opening of their numbers
+refused_on : (w : World) (q : Party) (s : Stack) (c : Pieces) (r : Bool) (x y : Place) (fs : List Place) → w.stack q ≡ record { top = x; below = fs } → fs ≡ whole s → Spot c Undoing y → AllMade w c → Keeps w (Refuse q) q s c r (with_stack w q (record { top = y; below = fs }))
+refused_on w q s c r x y fs z e p k made h a = subst (λ b. After (with_stack w q (record { top = y; below = fs })) q s c b) (or_true r ∙ ap (λ v. r || v) (sym (let b : same_party q q ≡ true = same_party_refl q in let d : is_at_call s (w.stack q) ≡ true = at_call_yes s (w.stack q) (ap (λ v. v.below) z ∙ e) in rw b d)))
+    (inl (record { stage = Undoing; top = y; is = stack_mine w.stack q (record { top = y; below = fs }) ∙ ap (λ l. record { top = y; below = l }) e; spot = p; sofar = tt; known = made_on w (with_stack w q (record { top = y; below = fs })) (Refuse q) made c k; flag = refl }))
+
 refuse_act : (w : World) (q : Party) (s : Stack) (c : Pieces) (r : Bool) (st : Stage) (x : Place) (fs : List Place) → w.stack q ≡ record { top = x; below = fs } → fs ≡ whole s → Spot c st x → AllMade w c → IfSome (after_refusal w q (record { top = x; below = fs })) (Keeps w (Refuse q) q s c r)
-refuse_act w q s c r Before (PushForAll d) fs z e p k = λ made h a. subst (λ b. After (with_stack w q (record { top = LowerForAll d; below = fs })) q s c b) (or_true r ∙ ap (λ v. r || v) (sym (let b : same_party q q ≡ true = same_party_refl q in let d : is_at_call s (w.stack q) ≡ true = at_call_yes s (w.stack q) (ap (λ v. v.below) z ∙ e) in rw b d)))
-    (inl (record { stage = Undoing; top = LowerForAll d; is = stack_mine w.stack q (record { top = LowerForAll d; below = fs }) ∙ ap (λ l. record { top = LowerForAll d; below = l }) e; spot = p; sofar = tt; known = made_on w (with_stack w q (record { top = LowerForAll d; below = fs })) (Refuse q) made c k; flag = refl }))
-  where
-    or_true : (b : Bool) → true ≡ (b || true)
-    or_true true = refl
-    or_true false = refl
+refuse_act w q s c r Before (PushForAll d) fs z e p k = refused_on w q s c r (PushForAll d) (end_cast d.count d) fs z e (end_spot c d d.count p) k
+refuse_act w q s c r Before (OpenForAll d) fs z e p k = refused_on w q s c r (OpenForAll d) (LowerForAll d) fs z e p k
 refuse_act w q s c r Before (RaiseForAll d) fs z e p k = tt
+refuse_act w q s c r Undoing (CloseForAll d) fs z e p k = tt
 refuse_act w q s c r Undoing (LowerForAll d) fs z e p k = tt
 refuse_act w q s c r Calling (LockToWake d) fs z e p k = tt
 refuse_act w q s c r Calling (WakeWorker d) fs z e p k = tt
@@ -285,6 +342,7 @@ refuse_act w q s c r Emptying (SetLatch d) fs z e p k = tt
 refuse_act w q s c r Emptying (LockToSettle d) fs z e p k = tt
 refuse_act w q s c r Emptying (WakeSettled d) fs z e p k = tt
 refuse_act w q s c r Emptying (UnlockSettled d) fs z e p k = tt
+refuse_act w q s c r Emptying (SetLockLatch d t) fs z e p k = tt
 refuse_act w q s c r st _ fs z e p k = absurd p
 
 -- where a broadcast stands no other event of its party is possible
@@ -292,6 +350,9 @@ abbrev is_spot : Place → Bool
 is_spot (RaiseForAll c) = true
 is_spot (PushForAll c) = true
 is_spot (LowerForAll c) = true
+is_spot (OpenForAll c) = true
+is_spot (CloseForAll c) = true
+is_spot (SetLockLatch n t) = true
 is_spot (LockToWake k) = true
 is_spot (WakeWorker k) = true
 is_spot (UnlockWoken k) = true
@@ -304,6 +365,8 @@ is_spot _ = false
 spot_is : (c : Pieces) (st : Stage) (x : Place) → Spot c st x → is_spot x ≡ true
 spot_is c Before (RaiseForAll d) p = refl
 spot_is c Before (PushForAll d) p = refl
+spot_is c Before (OpenForAll d) p = refl
+spot_is c Undoing (CloseForAll d) p = refl
 spot_is c Undoing (LowerForAll d) p = refl
 spot_is c Calling (LockToWake d) p = refl
 spot_is c Calling (WakeWorker d) p = refl
@@ -312,6 +375,7 @@ spot_is c Emptying (SetLatch d) p = refl
 spot_is c Emptying (LockToSettle d) p = refl
 spot_is c Emptying (WakeSettled d) p = refl
 spot_is c Emptying (UnlockSettled d) p = refl
+spot_is c Emptying (SetLockLatch n t) p = refl
 spot_is c st _ p = absurd p
 
 not_free : (x : Place) → is_spot x ≡ true → is_free x ≡ true → ⊥
@@ -341,7 +405,7 @@ fifo_none : (P : World → Type 0) (w : World) (q : Party) (p : ℕ) → (is_fre
 fifo_none P w (Caller c) p n = gate P w _ ((w.stack (Caller c)).top) (is_pool w.shape p) n
 fifo_none P w (Worker r i) p n = by (r == p)
   where
-    by : (z : Bool) → IfSome (if z then (if is_free ((w.stack (Worker r i)).top) && is_pool w.shape p then Some (after_feed w p i (w.stack (Worker r i))) else None) else after_spawn w (Worker r i) p (w.stack (Worker r i))) P
+    by : (z : Bool) → IfSome (if z then (if is_free ((w.stack (Worker r i)).top) && is_pool w.shape p then Some (after_feed w (OfPool p) p i (w.stack (Worker r i))) else None) else after_spawn w (Worker r i) p (w.stack (Worker r i))) P
     by true = gate P w _ ((w.stack (Worker r i)).top) (is_pool w.shape p) n
     by false = gate P w _ ((w.stack (Worker r i)).top) (is_pool w.shape p) n
 
@@ -356,6 +420,24 @@ yield_none P w (Caller c) x n = tt
 into_none : (P : World → Type 0) (w : World) (q : Party) (n : ℕ) → (is_free ((w.stack q).top) ≡ true → ⊥) → IfSome (after_into w q n (w.stack q)) P
 into_none P w q n f = into_cases P w q n (λ z e free held. absurd (f free))
 
+enter_none : (P : World → Type 0) (w : World) (q : Party) (z : Scope) → (is_free ((w.stack q).top) ≡ true → ⊥) → IfSome (after_enter w q (w.stack q) (Some z)) P
+enter_none P w q z n = gate P w _ ((w.stack q).top) (holds z.call (w.stack q)) n
+
+into_fifo_none : (P : World → Type 0) (w : World) (q : Party) (n : ℕ) → (is_free ((w.stack q).top) ≡ true → ⊥) → IfSome (after_into_fifo w q n (w.stack q)) P
+into_fifo_none P w q n f = by q (slice_get w.scopes n) f
+  where
+    mine : (r i : ℕ) (z : Scope) → (is_free ((w.stack (Worker r i)).top) ≡ true → ⊥) → (b : Bool) → IfSome (if b then (if is_free ((w.stack (Worker r i)).top) && holds z.call (w.stack (Worker r i)) then Some (after_feed w (OfScope z.call z.owner) z.pool i (w.stack (Worker r i))) else None) else after_enter w (Worker r i) (w.stack (Worker r i)) (Some z)) P
+    mine r i z f true = gate P w _ ((w.stack (Worker r i)).top) (holds z.call (w.stack (Worker r i))) f
+    mine r i z f false = enter_none P w (Worker r i) z f
+
+    by : (q : Party) (o : Option Scope) → (is_free ((w.stack q).top) ≡ true → ⊥) → IfSome (after_enter_fifo w q (w.stack q) o) P
+    by q None f = tt
+    by (Caller c) (Some z) f = enter_none P w (Caller c) z f
+    by (Worker r i) (Some z) f = mine r i z f (r == z.pool)
+
+into_cast_none : (P : World → Type 0) (w : World) (q : Party) (n : ℕ) → (is_free ((w.stack q).top) ≡ true → ⊥) → IfSome (after_into_cast w q n (w.stack q)) P
+into_cast_none P w q n f = into_cast_cases P w q n (λ z e free held. absurd (f free))
+
 -- the party's own events
 own_event : (w : World) (e : Event) (s : Stack) (c : Pieces) (r : Bool) → Ground w → Inside w (mover e) s c r → IfSome (step w e) (Keeps w e (mover e) s c r)
 own_event w (Go q) s c r g i = go_all (Keeps w (Go q) q s c r) w q (subst (λ k. IfSome (outcome w q k) (λ v. Keeps w (Go q) q s c r (result w q k v))) (sym i.is) (own_act w q s c r i.stage i.top i.is g i.spot i.sofar i.known i.flag))
@@ -368,6 +450,9 @@ own_event w (Fifo q p) s c r g i = fifo_none (Keeps w (Fifo q p) q s c r) w q p 
 own_event w (Cast q p) s c r g i = gate (Keeps w (Cast q p) q s c r) w _ ((w.stack q).top) (is_pool w.shape p) (not_free ((w.stack q).top) (ap (λ k. is_spot (k.top)) i.is ∙ spot_is c i.stage i.top i.spot))
 own_event w (OpenScope q p) s c r g i = gate (Keeps w (OpenScope q p) q s c r) w _ ((w.stack q).top) (is_pool w.shape p) (not_free ((w.stack q).top) (ap (λ k. is_spot (k.top)) i.is ∙ spot_is c i.stage i.top i.spot))
 own_event w (IntoSpawn q n) s c r g i = into_none (Keeps w (IntoSpawn q n) q s c r) w q n (not_free ((w.stack q).top) (ap (λ k. is_spot (k.top)) i.is ∙ spot_is c i.stage i.top i.spot))
+own_event w (IntoFifo q n) s c r g i = into_fifo_none (Keeps w (IntoFifo q n) q s c r) w q n (not_free ((w.stack q).top) (ap (λ k. is_spot (k.top)) i.is ∙ spot_is c i.stage i.top i.spot))
+own_event w (IntoCast q n) s c r g i = into_cast_none (Keeps w (IntoCast q n) q s c r) w q n (not_free ((w.stack q).top) (ap (λ k. is_spot (k.top)) i.is ∙ spot_is c i.stage i.top i.spot))
+own_event w (Broadcast q p) s c r g i = gate (Keeps w (Broadcast q p) q s c r) w _ ((w.stack q).top) (is_pool w.shape p) (not_free ((w.stack q).top) (ap (λ k. is_spot (k.top)) i.is ∙ spot_is c i.stage i.top i.spot))
 own_event w (Install q p) s c r g i = gate (Keeps w (Install q p) q s c r) w _ ((w.stack q).top) (is_pool w.shape p) (not_free ((w.stack q).top) (ap (λ k. is_spot (k.top)) i.is ∙ spot_is c i.stage i.top i.spot))
 own_event w (Join q) s c r g i = join_none (Keeps w (Join q) q s c r) w q (not_free ((w.stack q).top) (ap (λ k. is_spot (k.top)) i.is ∙ spot_is c i.stage i.top i.spot))
 own_event w (Yield q) s c r g i = yield_none (Keeps w (Yield q) q s c r) w q YieldPop (not_free ((w.stack q).top) (ap (λ k. is_spot (k.top)) i.is ∙ spot_is c i.stage i.top i.spot))
@@ -398,7 +483,7 @@ stretch h before w q s c u [] r run i same = subst (λ v. After v q s c (r || fa
 stretch h before w q s c u (e ∷ es) r run i (v, opened, one, rest) =
     let next : IsRun (start h) (before ++ (e ∷ [])) v = run_more (start h) w v before e run one in
     let d : Ground w = ground_of h before w run in
-    let adv : Advance w v = (let f : IfSome (Some v) (Advance w) = subst (λ o. IfSome o (Advance w)) one (step_advance w e ((d.calls.jobs).feeds) ((d.calls.jobs).ok) ((d.calls.jobs).unmade)) in f) in
+    let adv : Advance w v = (let f : IfSome (Some v) (Advance w) = subst (λ o. IfSome o (Advance w)) one (step_advance w e (unqueued w d.calls) ((d.calls.jobs).feeds) ((d.calls.jobs).ok) ((d.calls.jobs).unmade)) in f) in
     let st : Keeps w e q s c r v = (let f : IfSome (Some v) (Keeps w e q s c r) = subst (λ o. IfSome o (Keeps w e q s c r)) one (step_keeps w e q s c r d i) in f) in
     let b : Bool = is_cast_refusal q s w e in
     elim (st one (ground_of h (before ++ (e ∷ [])) v next) adv) [
@@ -410,33 +495,42 @@ stretch h before w q s c u (e ∷ es) r run i (v, opened, one, rest) =
     over v b k one [] same = subst (λ x. After x q s c (r || (b || is_any (is_cast_refusal q s) (step w e) []))) (sym same) (subst (λ d. After v q s c d) (ap (λ d. r || d) (or_false b) ∙ ap (λ o. r || (b || is_any (is_cast_refusal q s) o [])) (sym one)) (inr k))
     over v b k one (a ∷ gs) (x, still, two, rest) = absurd (still k.back)
 
--- what a piece is bound to stays
-until_bound : (w : World) (q : Party) (s : Stack) (es : List Event) (u : World) → IsRunUntil q s w es u → (t : ℕ) → t + 1 ≤ w.jobs → (u.job t).bound ≡ (w.job t).bound
-until_bound w q s [] u same t l = subst (λ v. (v.job t).bound ≡ (w.job t).bound) (sym same) refl
-until_bound w q s (e ∷ es) u (v, opened, one, rest) t l = let f : Carries w v = (let g : IfSome (Some v) (Carries w) = subst (λ o. IfSome o (Carries w)) one (step_carries w e) in g) in until_bound v q s es u rest t ((f.made t l).0) ∙ f.bound t l
-
 -- its event
-record Begun (w v : World) (q : Party) (p : ℕ) : Type 0 where
+record Begun (w v : World) (q : Party) (e : Event) : Type 0 where
   pieces : Pieces
-  made : v.jobs ≡ w.jobs + (w.shape.pool p).workers
+  made : v.jobs ≡ w.jobs + (w.shape.pool (cast_pool w e)).workers
   inside : Inside v q (w.stack q) pieces false
   mine : (t : ℕ) → w.jobs ≤ t → t < v.jobs → is_piece pieces t ≡ true
   bound : (t : ℕ) → w.jobs ≤ t → t < v.jobs → (v.job t).bound ≡ Some (t - w.jobs)
 
-cast_begun : (w : World) (q : Party) (p : ℕ) → IfSome (after_cast w q p (w.stack q)) (λ v. Begun w v q p)
-cast_begun w q p = if_cond (λ v. Begun w v q p) (is_free ((w.stack q).top) && is_pool w.shape p) _ (λ b. record {
+deal_begun : (w : World) (q : Party) (k : Count) (p : ℕ) (e : Event) → cast_pool w e ≡ p → Begun w (after_deal w q k p (w.stack q)) q e
+deal_begun w q k p e i = record {
   pieces = c;
-  made = refl;
+  made = ap (λ n. w.jobs + (w.shape.pool n).workers) (sym i);
   inside = record { stage = Before; top = RaiseForAll c; is = stack_mine w.stack q (after_call (w.stack q) (RaiseForAll c)); spot = refl; sofar = tt; known = known; flag = refl };
   mine = λ t l m. piece_in c t l m;
-  bound = λ t l m. ap (λ j. j.bound) (piece_new c (λ i j. new_piece q p i) w.job t (piece_in c t l m));
-})
+  bound = λ t l m. ap (λ j. j.bound) (piece_new c (λ i j. new_piece q k p i) w.job t (piece_in c t l m));
+}
   where
     c : Pieces
-    c = record { pool = p; first = w.jobs; workers = (w.shape.pool p).workers }
+    c = record { count = k; pool = p; first = w.jobs; workers = (w.shape.pool p).workers }
 
-    known : (t : ℕ) → is_piece c t ≡ true → (t + 1 ≤ w.jobs + c.workers) × (is_detached (put_pieces c (λ i j. new_piece q p i) w.job t).kind ≡ true)
-    known t e = let a : (c.first ≤ t) × (t < c.first + c.workers) = piece_range c t e in let b : t < c.first + c.workers = a.1 in ((let g : t + 1 ≤ w.jobs + c.workers = omega (arith, b) in g), ap (λ j. is_detached (j.kind)) (piece_new c (λ i j. new_piece q p i) w.job t e))
+    known : (t : ℕ) → is_piece c t ≡ true → (t + 1 ≤ w.jobs + c.workers) × (is_detached (put_pieces c (λ i j. new_piece q k p i) w.job t).kind ≡ true)
+    known t e = let a : (c.first ≤ t) × (t < c.first + c.workers) = piece_range c t e in let b : t < c.first + c.workers = a.1 in ((let g : t + 1 ≤ w.jobs + c.workers = omega (arith, b) in g), ap (λ j. is_detached (j.kind)) (piece_new c (λ i j. new_piece q k p i) w.job t e) ∙ counts_detached k)
+
+cast_begun : (w : World) (q : Party) (p : ℕ) → IfSome (after_cast w q p (w.stack q)) (λ v. Begun w v q (Cast q p))
+cast_begun w q p = if_cond (λ v. Begun w v q (Cast q p)) (is_free ((w.stack q).top) && is_pool w.shape p) _ (λ b. deal_begun w q (OfPool p) p (Cast q p) refl)
+
+into_begun : (w : World) (q : Party) (n : ℕ) → IfSome (after_into_cast w q n (w.stack q)) (λ v. Begun w v q (IntoCast q n))
+into_begun w q n = into_cast_cases (λ v. Begun w v q (IntoCast q n)) w q n (λ z e free held. deal_begun w q (OfScope z.call z.owner) z.pool (IntoCast q n) (ap scope_pool e))
+
+some_party : {q r : Party} → Some q ≡ Some r → q ≡ r
+some_party e = cc
+
+begun_by : (w : World) (q : Party) (e : Event) → caster_of e ≡ Some q → IfSome (step w e) (λ v. Begun w v q e)
+begun_by w q (Cast r p) z = subst (λ x. IfSome (step w (Cast r p)) (λ v. Begun w v x (Cast r p))) (some_party z) (cast_begun w r p)
+begun_by w q (IntoCast r n) z = subst (λ x. IfSome (step w (IntoCast r n)) (λ v. Begun w v x (IntoCast r n))) (some_party z) (into_begun w r n)
+begun_by w q _ z = absurd (cc)
 
 still_apart : (u : World) (q : Party) (s : Stack) (c : Pieces) (r : Bool) → Inside u q s c r → u.stack q ≡ s → ⊥
 still_apart u q s c r i z = let a : length ((u.stack q).below) ≡ length (whole s) = ap (λ k. length (k.below)) i.is in let b : length ((u.stack q).below) ≡ length (s.below) = ap (λ k. length (k.below)) z in omega (arith, a, b)
@@ -450,18 +544,18 @@ cast_stands u q s c r (inl i) = inl (record { more = []; is = ap (λ k. k.below)
 cast_stands u q s c r (inr k) = inr k.back
 
 pub cast_law : CastLaw
-cast_law h before q p w v u between b run =
-    let begun : Begun w v q p = (let f : IfSome (Some v) (λ x. Begun w x q p) = subst (λ o. IfSome o (λ x. Begun w x q p)) b.made (cast_begun w q p) in f) in
+cast_law h before q e w v u between b run =
+    let begun : Begun w v q e = (let f : IfSome (Some v) (λ x. Begun w x q e) = subst (λ o. IfSome o (λ x. Begun w x q e)) b.made (begun_by w q e b.caster) in f) in
     let s : Stack = w.stack q in
-    let next : IsRun (start h) (before ++ (Cast q p ∷ [])) v = run_more (start h) w v before (Cast q p) b.reached b.made in
-    let g : Ground u = run_on h (before ++ (Cast q p ∷ [])) v q s u between next run in
+    let next : IsRun (start h) (before ++ (e ∷ [])) v = run_more (start h) w v before e b.reached b.made in
+    let g : Ground u = run_on h (before ++ (e ∷ [])) v q s u between next run in
     let c : Pieces = begun.pieces in
     let r : Bool = is_any (is_cast_refusal q s) (Some v) between in
-    let a : After u q s c r = stretch h (before ++ (Cast q p ∷ [])) v q s c u between false next begun.inside run in
+    let a : After u q s c r = stretch h (before ++ (e ∷ [])) v q s c u between false next begun.inside run in
     record {
       made = begun.made;
       bound = λ t l m. until_bound v q s between u run t (omega (arith, m)) ∙ begun.bound t l m;
       stands = cast_stands u q s c r a;
       ends = λ z y t l m. ((is_over u q s c r a z).on y t (begun.mine t l m)).1;
-      refused = λ z y t l m. (let k : (u.job t).at ≡ HandedBack = (is_over u q s c r a z).backs y t (begun.mine t l m) in record { at = k; untouched = (refused_so u (g.calls.jobs)).gone t k; share = (returned_so u g.returns).gone t k });
+      refused = λ z y t l m. given_back u g t ((is_over u q s c r a z).backs y t (begun.mine t l m));
     }

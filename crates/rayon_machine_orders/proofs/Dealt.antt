@@ -1,11 +1,14 @@
 -- what each step does to the own deque of a worker that is alone in its pool
-use Rattle.rayon_machine_places.specs.declared.place.Count.TheVariants.{OfPool, OfScope}
+use Rattle.rayon_machine_places.specs.declared.place.Count.TheVariants.{OfPool, OfScope, OfCast}
 use Rattle.rayon_machine_places.specs.declared.place.Count.{Count}
 use Rattle.std.proofs.Common.{rules, arith, refl, sym, ◌∙◌, ap, inl, inr}
 use Rattle.std.specs.Prelude.{ℕ, Bool, true, false, ◌&&◌, ◌==◌, if◌then◌else◌, Option, Some, None, List, [], ◌∷◌, ◌++◌, ◌≡◌, ◌⊎◌, IfSome}
 use Rattle.std.proofs.lemmas.Bool.{eqb-true}
 use Rattle.rayon_machine_places.specs.declared.shape.Order.{Order}
 use Rattle.rayon_machine_places.specs.declared.shape.Order.TheVariants.{NewestFirst, OldestFirst}
+use Rattle.rayon_machine_places.specs.declared.place.Feeding.{Feeding}
+use Rattle.rayon_machine_places.specs.declared.place.JobKind.{JobKind}
+use Rattle.rayon_machine_places.specs.declared.place.Pieces.{Pieces}
 use Rattle.rayon_machine_places.specs.declared.place.Party.{Party}
 use Rattle.rayon_machine_places.specs.declared.place.Party.TheVariants.{Worker, Caller}
 use Rattle.rayon_machine_places.specs.declared.place.Target.{Target}
@@ -13,25 +16,25 @@ use Rattle.rayon_machine_places.specs.declared.place.Target.TheVariants.{Termina
 use Rattle.rayon_machine_places.specs.declared.place.Latch.{Latch}
 use Rattle.rayon_machine_places.specs.declared.place.Latch.TheVariants.{Terminate, OfCall}
 use Rattle.rayon_machine_places.specs.declared.place.Plan.{Plan}
-use Rattle.rayon_machine_places.specs.declared.place.Plan.TheVariants.{Detach, Here, Send, Fork, Feed, Open, Enter}
+use Rattle.rayon_machine_places.specs.declared.place.Plan.TheVariants.{Detach, Here, Send, Fork, Feed, Open, Enter, Gather}
 use Rattle.rayon_machine_places.specs.declared.place.Then.{Then}
-use Rattle.rayon_machine_places.specs.declared.place.Then.TheVariants.{BeginFound, LeaveWait, Resume, Await, RunFirst, Answers, Missing as Lacks, Ran, GiveBack, Called}
+use Rattle.rayon_machine_places.specs.declared.place.Then.TheVariants.{BeginFound, LeaveWait, Resume, Await, RunFirst, Answers, Missing as Lacks, Ran, GiveBack, Called, Gathers}
 use Rattle.rayon_machine_places.specs.declared.place.Place.{Place}
-use Rattle.rayon_machine_places.specs.declared.place.Place.TheVariants.{ProbeWorking, PopWorking, TakeCastWorking, PopIdle, TakeCastIdle, StealFrom, PopInjected, LeaveSearch, JoinPop, JoinTakeCast, YieldPop, YieldTakeCast, YieldSteal, YieldPopInjected, LocalPop, LocalTakeCast, PickVictim, YieldPick, BeginTask, BeginHere, RaiseCount, LookQueue, PushJob, TellNews, LockToWake, WakeWorker, UnlockWoken, LowerCount, SetLatch, LockToSettle, WakeSettled, UnlockSettled, AddToFifo, PushToken, TakeFromFifo, SetLockLatch}
+use Rattle.rayon_machine_places.specs.declared.place.Place.TheVariants.{ProbeWorking, PopWorking, TakeCastWorking, PopIdle, TakeCastIdle, StealFrom, PopInjected, LeaveSearch, JoinPop, JoinTakeCast, YieldPop, YieldTakeCast, YieldSteal, YieldPopInjected, LocalPop, LocalTakeCast, PickVictim, YieldPick, BeginTask, BeginHere, RaiseCount, LookQueue, PushJob, TellNews, LockToWake, WakeWorker, UnlockWoken, LowerCount, SetLatch, LockToSettle, WakeSettled, UnlockSettled, AddToFifo, PushToken, TakeFromFifo, SetLockLatch, OpenSlot, RaiseForAll, OpenForAll, PushForAll, LowerForAll, DealPieces}
 use Rattle.rayon_machine_places.specs.declared.place.Move.{Move}
 use Rattle.rayon_machine_places.specs.declared.place.Move.TheVariants.{Stay, Enter, StartRun, Back, HandBack, Discard, HandIn, Mark, HandAllBack}
 use Rattle.rayon_machine_places.specs.declared.act.Act.TheVariants.{LookOwn, LookInj, PushOwn, PushInj, Set}
 use Rattle.rayon_machine_places.specs.declared.act.Seen.{Seen}
-use Rattle.rayon_machine_places.specs.declared.act.Seen.TheVariants.{Yes, Done, Task}
+use Rattle.rayon_machine_places.specs.declared.act.Seen.TheVariants.{Yes, Done, Task, Opened}
 use Rattle.rayon_machine_places.specs.declared.shape.PoolShape.{PoolShape}
 use Rattle.rayon_machine_places.specs.declared.place.Settling.{Settling}
-use Rattle.rayon_machine_places.specs.Places.{same_party, is_member, plan_pool, plan_job, finish, walk, settle, after_set, after_found, after_news, act_of, next_of, taken_back, settle_count, plan_book}
-use Rattle.rayon_machine_places.specs.World.{Shape, Seat, Stack, World, Counts, Part, last_of, but_last, own_of, own_left, target_pool, target_worker, effect, is_open}
+use Rattle.rayon_machine_places.specs.Places.{same_party, is_member, plan_pool, plan_job, finish, walk, settle, after_set, after_found, after_news, act_of, next_of, settle_count, plan_book, count_book, withdraw, begin_feed, after_raise, after_slot, begin_cast, end_cast, ends_count, taken_number}
+use Rattle.rayon_machine_places.specs.World.{Shape, Seat, Stack, World, Counts, Part, last_of, but_last, own_of, own_left, target_pool, target_worker, effect, is_open, taken_as}
 use Rattle.rayon_machine_places.specs.Steps.{put_seat, after_move}
-use Rattle.rayon_machine_orders.specs.Order.{Happening, Adds, Begins, Redeems, act_happens, Hands}
+use Rattle.rayon_machine_orders.specs.Order.{Happening, Adds, Queues, Retakes, Begins, Redeems, act_happens, Hands}
 use Rattle.rayon_machine_laws.proofs.Calm.{part_at, counts_seen}
 use Rattle.rayon_machine_laws.proofs.Frame.{either, if_some_all, if_some_map, same_index, same_refl, if_cond, out_sees, undo_sees}
-use Rattle.rayon_machine_orders.proofs.Lone.{is_thief, settle_move, settled_move, taken, taken_then, walk_move, number_found}
+use Rattle.rayon_machine_orders.proofs.Lone.{is_thief, settle_move, settled_move, taken, taken_then, walk_move}
 use Rattle.rayon_machine_laws.proofs.Seats.{is_frame}
 use Rattle.rayon_machine_laws.proofs.Ties.{AllFrames, outcome, result}
 use Rattle.rayon_machine_laws.proofs.Tops.{Tops, top_after}
@@ -48,7 +51,7 @@ is_pop LocalPop = true
 is_pop _ = false
 
 -- a call that runs its job at once
-abbrev is_here : Plan → Bool
+abbrev pub is_here : Plan → Bool
 is_here (Here p t) = true
 is_here _ = false
 
@@ -77,21 +80,43 @@ is_push (PushJob n e) = true
 is_push (PushToken f e) = true
 is_push _ = false
 
--- the deque is as it was: a party that had taken no job has none, or one that was elsewhere; one that had a job still
+-- a party adds a job to its FIFO list, or takes one back
+abbrev pub is_line : Place → Bool
+is_line (AddToFifo f) = true
+is_line (TakeFromFifo f) = true
+is_line _ = false
+
+-- a call whose next place depends on its count
+abbrev is_call : Place → Bool
+is_call (RaiseCount n) = true
+is_call (OpenSlot n) = true
+is_call (PushJob n v) = true
+is_call (AddToFifo f) = true
+is_call (TakeFromFifo f) = true
+is_call (RaiseForAll c) = true
+is_call (OpenForAll c) = true
+is_call (PushForAll c) = true
+is_call (LowerForAll c) = true
+is_call (DealPieces d) = true
+is_call _ = false
+
+-- the deque is as it was: a party that had taken nothing has nothing, or what was elsewhere; one that had something still
 -- has it
 abbrev pub Keeps : Place → List ℕ → List ℕ → Place → Type 0
 Keeps x old new y = (new ≡ old) × (((taken x ≡ None) × ((taken y ≡ None) ⊎ (elsewhere x ≡ true))) ⊎ (taken y ≡ taken x))
 
--- the next job of the deque is taken
-abbrev pub Pops : Order → Place → List ℕ → List ℕ → Place → Type 0
-Pops o x old new y = (t : ℕ) × Hands o old t new × (taken x ≡ None) × (taken y ≡ Some t)
+-- the next of the deque is taken: a job or a token, by its kind
+abbrev pub Pops : Order → (ℕ → JobKind) → Place → List ℕ → List ℕ → Place → Type 0
+Pops o k x old new y = (t : ℕ) × Hands o old t new × (taken x ≡ None) × (taken y ≡ Some (taken_as t (k t)))
 
 -- what a step does to a worker's deque and to what it has taken, by what happens
-abbrev pub Dealt : Order → Place → List ℕ → List ℕ → Place → Option Happening → Type 0
-Dealt o x old new y None = Keeps x old new y ⊎ Pops o x old new y
-Dealt o x old new y (Some (Adds by t)) = (new ≡ old ++ t ∷ []) × (taken x ≡ None) × (taken y ≡ None)
-Dealt o x old new y (Some (Redeems t)) = (new ≡ old) × (taken x ≡ Some t) × (taken y ≡ None)
-Dealt o x old new y (Some (Begins t)) = (new ≡ old) × (taken x ≡ Some t) × (taken y ≡ None)
+abbrev pub Dealt : Order → (ℕ → JobKind) → Place → List ℕ → List ℕ → Place → Option Happening → Type 0
+Dealt o k x old new y None = Keeps x old new y ⊎ Pops o k x old new y
+Dealt o k x old new y (Some (Adds by t)) = (new ≡ old ++ t ∷ []) × (taken x ≡ None) × (taken y ≡ None)
+Dealt o k x old new y (Some (Queues b by t)) = (new ≡ old) × (taken x ≡ None) × (taken y ≡ None)
+Dealt o k x old new y (Some (Retakes b)) = (new ≡ old) × (taken x ≡ None) × (taken y ≡ None)
+Dealt o k x old new y (Some (Redeems t b r)) = (new ≡ old) × ((i : ℕ) × (taken x ≡ Some (Token t i b))) × (taken y ≡ None)
+Dealt o k x old new y (Some (Begins t)) = (new ≡ old) × (taken x ≡ Some (Plain t)) × (taken y ≡ None)
 
 -- the next job that a list hands out is the one that the worker takes from its deque
 last_hands : (l : List ℕ) (t : ℕ) → last_of l ≡ Some t → l ≡ but_last l ++ t ∷ []
@@ -132,10 +157,10 @@ frame_empty (ProbeWorking k) e = refl
 frame_empty _ e = cc
 
 -- a party without a job comes by none, and one with a job keeps it, until it begins it
-abbrev FreeOf : Move → Type 0
+abbrev pub FreeOf : Move → Type 0
 FreeOf g = Tops (λ y. taken y ≡ None) g
 
-abbrev Has : ℕ → Move → Type 0
+abbrev Has : Taken → Move → Type 0
 Has t g = Lands (λ y. taken y ≡ Some t) g
 
 pub lands_free : (g : Move) (fs : List Place) → AllFrames fs → FreeOf g → taken ((after_move g fs).top) ≡ None
@@ -154,8 +179,10 @@ finish_free q (Answers o f d) e = tt
 finish_free q (Lacks o f) e = tt
 finish_free q (Ran t d) e = tt
 finish_free q (GiveBack m) e = tt
+finish_free (Worker a b) (Gathers o) e = refl
+finish_free (Caller c) (Gathers o) e = refl
 
-finish_has : (q : Party) (n : Then) (t : ℕ) → taken_then n ≡ Some t → Has t (finish q n)
+finish_has : (q : Party) (n : Then) (t : Taken) → taken_then n ≡ Some t → Has t (finish q n)
 finish_has q (BeginFound g u) t e = e
 finish_has q (LeaveWait g) t e = absurd (cc)
 finish_has q (Await o) t e = absurd (cc)
@@ -166,26 +193,27 @@ finish_has q (Answers o f d) t e = absurd (cc)
 finish_has q (Lacks o f) t e = absurd (cc)
 finish_has q (Ran u d) t e = absurd (cc)
 finish_has q (GiveBack m) t e = absurd (cc)
+finish_has q (Gathers o) t e = absurd (cc)
 
 settle_free : (g : PoolShape) (q : Party) (p i : ℕ) (n : Then) → taken_then n ≡ None → FreeOf (settle g q p i n)
 settle_free g q p i n e = settle_move FreeOf g q p i n (λ k d. ap taken_then d ∙ e) (finish_free q n e)
 
-settle_has : (g : PoolShape) (q : Party) (p i : ℕ) (n : Then) (t : ℕ) → taken_then n ≡ Some t → Has t (settle g q p i n)
+settle_has : (g : PoolShape) (q : Party) (p i : ℕ) (n : Then) (t : Taken) → taken_then n ≡ Some t → Has t (settle g q p i n)
 settle_has g q p i n t e = settle_move (Has t) g q p i n (λ k d. ap taken_then d ∙ e) (finish_has q n t e)
 
 settled_free : (g : PoolShape) (q : Party) (s : Settling) → taken_then s.then ≡ None → FreeOf (after_set g q s s.latch)
 settled_free g q s e = settled_move FreeOf g q s s.latch (λ k d. ap taken_then d ∙ e) (finish_free q s.then e)
 
-settled_has : (g : PoolShape) (q : Party) (s : Settling) (t : ℕ) → taken_then s.then ≡ Some t → Has t (after_set g q s s.latch)
+settled_has : (g : PoolShape) (q : Party) (s : Settling) (t : Taken) → taken_then s.then ≡ Some t → Has t (after_set g q s s.latch)
 settled_has g q s t e = settled_move (Has t) g q s s.latch (λ k d. ap taken_then d ∙ e) (finish_has q s.then t e)
 
 walk_free : (g : PoolShape) (q : Party) (p n i : ℕ) (t : Then) → taken_then t ≡ None → FreeOf (walk g q p n i t)
 walk_free g q p n i t e = walk_move FreeOf g q p n i t (λ k d. ap taken_then d ∙ e) (finish_free q t e)
 
-walk_has : (g : PoolShape) (q : Party) (p n i : ℕ) (m : Then) (t : ℕ) → taken_then m ≡ Some t → Has t (walk g q p n i m)
+walk_has : (g : PoolShape) (q : Party) (p n i : ℕ) (m : Then) (t : Taken) → taken_then m ≡ Some t → Has t (walk g q p n i m)
 walk_has g q p n i m t e = walk_move (Has t) g q p n i m (λ k d. ap taken_then d ∙ e) (finish_has q m t e)
 
-found_taken : (g : Target) (o : Option Taken) → taken_then (after_found g o) ≡ number_found o
+found_taken : (g : Target) (o : Option Taken) → taken_then (after_found g o) ≡ o
 found_taken g None = refl
 found_taken g (Some t) = refl
 
@@ -197,26 +225,96 @@ news_taken (Fork o a) = refl
 news_taken (Feed f) = refl
 news_taken (Open o) = refl
 news_taken (Enter e) = refl
+news_taken (Gather g) = refl
 
 count_free : (g : PoolShape) (q : Party) (k : Count) (n : Then) → taken_then n ≡ None → FreeOf (settle_count g q k n)
 count_free g q (OfPool p) n e = settle_free g q p 0 n e
 count_free g q (OfScope c (Worker a b)) n e = e
 count_free g q (OfScope c (Caller m)) n e = e
+count_free g q (OfCast c (Worker a b)) n e = e
+count_free g q (OfCast c (Caller m)) n e = e
 
-count_has : (g : PoolShape) (q : Party) (k : Count) (n : Then) (t : ℕ) → taken_then n ≡ Some t → Has t (settle_count g q k n)
+count_has : (g : PoolShape) (q : Party) (k : Count) (n : Then) (t : Taken) → taken_then n ≡ Some t → Has t (settle_count g q k n)
 count_has g q (OfPool p) n t e = settle_has g q p 0 n t e
 count_has g q (OfScope c (Worker a b)) n t e = e
 count_has g q (OfScope c (Caller m)) n t e = e
+count_has g q (OfCast c (Worker a b)) n t e = e
+count_has g q (OfCast c (Caller m)) n t e = e
+
+withdraw_free : (b : Option ℕ) (n : Plan) → taken (withdraw b n) ≡ None
+withdraw_free None n = refl
+withdraw_free (Some c) n = refl
+
+feed_free : (k : Count) (f : Feeding) → taken (begin_feed k f) ≡ None
+feed_free (OfPool p) f = refl
+feed_free (OfScope c o) f = refl
+feed_free (OfCast c o) f = refl
+
+slot_free : (n : Plan) → taken (after_slot n) ≡ None
+slot_free (Detach p t) = refl
+slot_free (Here p t) = refl
+slot_free (Send o) = refl
+slot_free (Fork o a) = refl
+slot_free (Feed f) = refl
+slot_free (Open o) = refl
+slot_free (Enter e) = refl
+slot_free (Gather g) = refl
+
+raise_free : (n : Plan) → is_here n ≡ false → FreeOf (after_raise n)
+raise_free (Detach p t) e = refl
+raise_free (Here p t) e = cc
+raise_free (Send o) e = refl
+raise_free (Fork o a) e = refl
+raise_free (Feed f) e = feed_free f.count f
+raise_free (Open o) e = refl
+raise_free (Enter e) d = refl
+raise_free (Gather g) e = refl
+
+cast_free : (k : Count) (c : Pieces) → (taken (begin_cast k c) ≡ None) × (taken (end_cast k c) ≡ None)
+cast_free (OfPool p) c = (refl, refl)
+cast_free (OfScope m o) c = (refl, refl)
+cast_free (OfCast m o) c = (refl, refl)
+
+ends_free : (k : Count) → taken (ends_count k) ≡ None
+ends_free (OfPool p) = refl
+ends_free (OfScope c (Worker a b)) = refl
+ends_free (OfScope c (Caller n)) = refl
+ends_free (OfCast c (Worker a b)) = refl
+ends_free (OfCast c (Caller n)) = refl
+
+-- where the calls lead that depend on a count
+called_free : (g : PoolShape) (q : Party) (x : Place) (e : Seen) → elsewhere x ≡ false → is_call x ≡ true → FreeOf (next_of g q x e)
+called_free g q (RaiseCount n) Done y z = raise_free n y
+called_free g q (RaiseCount n) _ y z = tt
+called_free g q (OpenSlot n) Done y z = slot_free n
+called_free g q (OpenSlot n) _ y z = refl
+called_free g q (PushJob n v) Done y z = refl
+called_free g q (PushJob n v) _ y z = withdraw_free (plan_book n) n
+called_free g q (AddToFifo f) Done y z = refl
+called_free g q (AddToFifo f) _ y z = withdraw_free (count_book f.count) (Feed f)
+called_free g q (TakeFromFifo f) (Task x) y z = withdraw_free (count_book f.count) (Feed (record f { job = taken_number x }))
+called_free g q (TakeFromFifo f) _ y z = tt
+called_free g q (RaiseForAll c) Done y z = (cast_free c.count c).0
+called_free g q (RaiseForAll c) _ y z = tt
+called_free g q (OpenForAll c) (Opened n) y z = refl
+called_free g q (OpenForAll c) _ y z = refl
+called_free g q (PushForAll c) Done y z = refl
+called_free g q (PushForAll c) _ y z = (cast_free c.count c).1
+called_free g q (LowerForAll c) Yes y z = ends_free c.count
+called_free g q (LowerForAll c) _ y z = tt
+called_free g q (DealPieces d) Done y z = refl
+called_free g q (DealPieces d) _ y z = refl
+called_free g q _ e y z = absurd (cc)
 
 set_free : (g : PoolShape) (q : Party) (s : Settling) (e : Seen) → taken_then s.then ≡ None → FreeOf (next_of g q (SetLatch s) e)
 set_free g q s Yes z = z
 set_free g q s _ z = settled_free g q s z
 
-set_has : (g : PoolShape) (q : Party) (s : Settling) (e : Seen) (t : ℕ) → taken_then s.then ≡ Some t → Has t (next_of g q (SetLatch s) e)
+set_has : (g : PoolShape) (q : Party) (s : Settling) (e : Seen) (t : Taken) → taken_then s.then ≡ Some t → Has t (next_of g q (SetLatch s) e)
 set_has g q s Yes t z = z
 set_has g q s _ t z = settled_has g q s t z
 
-stays_free : (h : Shape) (g : PoolShape) (q : Party) (c : Counts) (m : Part) (x : Place) → is_pop x ≡ false → elsewhere x ≡ false → is_start x ≡ false → taken x ≡ None → IfSome (effect (act_of q x) h q c m) (λ r. FreeOf (next_of g q x (r.0)))
+pub stays_free : (h : Shape) (g : PoolShape) (q : Party) (c : Counts) (m : Part) (x : Place) → is_pop x ≡ false → elsewhere x ≡ false → is_start x ≡ false → taken x ≡ None → IfSome (effect (act_of q x) h q c m) (λ r. FreeOf (next_of g q x (r.0)))
 stays_free h g (Worker a b) c m (ProbeWorking k) y z s e = search (rules, arith)
 stays_free h g (Worker a b) c m (LeaveSearch k) y z s e = walk_free g (Worker a b) a _ 0 (after_found k.target k.found) (found_taken k.target k.found ∙ e)
 stays_free h g (Worker a b) c m (TellNews n v) y z s e = walk_free g (Worker a b) (plan_pool n) _ 0 (after_news n) (news_taken n)
@@ -230,21 +328,21 @@ stays_free h g q c m (LowerCount p v n) y z s e = if_some_all {A = Seen × Part}
 stays_free h g q c m (SetLockLatch i n) y z s e = if_some_all {A = Seen × Part} (λ r. FreeOf (next_of g q (SetLockLatch i n) (r.0))) (λ r. finish_free q n e) (effect (act_of q (SetLockLatch i n)) h q c m)
 stays_free h g q c m (SetLatch k) y z s e = if_some_all {A = Seen × Part} (λ r. FreeOf (next_of g q (SetLatch k) (r.0))) (λ r. set_free g q k (r.0) e) (effect (act_of q (SetLatch k)) h q c m)
 stays_free h g q c m (UnlockSettled k) y z s e = if_some_all {A = Seen × Part} (λ r. FreeOf (next_of g q (UnlockSettled k) (r.0))) (λ r. settled_free g q k e) (effect (act_of q (UnlockSettled k)) h q c m)
-stays_free h g q c m (AddToFifo f) y z s e = if_some_all {A = Seen × Part} (λ r. FreeOf (next_of g q (AddToFifo f) (r.0))) (λ r. adds (r.0)) (effect (act_of q (AddToFifo f)) h q c m)
-  where
-    adds : (d : Seen) → FreeOf (next_of g q (AddToFifo f) d)
-    adds Done = refl
-    adds _ = refl
-stays_free h g q c m (TakeFromFifo f) y z s e = if_some_all {A = Seen × Part} (λ r. FreeOf (taken_back f (r.0))) (λ r. backs (r.0)) (effect (act_of q (TakeFromFifo f)) h q c m)
-  where
-    backs : (d : Seen) → FreeOf (taken_back f d)
-    backs (Task x) = refl
-    backs _ = tt
+stays_free h g q c m (RaiseCount n) y z s e = if_some_all {A = Seen × Part} (λ r. FreeOf (next_of g q (RaiseCount n) (r.0))) (λ r. called_free g q (RaiseCount n) (r.0) z refl) (effect (act_of q (RaiseCount n)) h q c m)
+stays_free h g q c m (OpenSlot n) y z s e = if_some_all {A = Seen × Part} (λ r. FreeOf (next_of g q (OpenSlot n) (r.0))) (λ r. called_free g q (OpenSlot n) (r.0) z refl) (effect (act_of q (OpenSlot n)) h q c m)
+stays_free h g q c m (PushJob n v) y z s e = if_some_all {A = Seen × Part} (λ r. FreeOf (next_of g q (PushJob n v) (r.0))) (λ r. called_free g q (PushJob n v) (r.0) z refl) (effect (act_of q (PushJob n v)) h q c m)
+stays_free h g q c m (AddToFifo f) y z s e = if_some_all {A = Seen × Part} (λ r. FreeOf (next_of g q (AddToFifo f) (r.0))) (λ r. called_free g q (AddToFifo f) (r.0) z refl) (effect (act_of q (AddToFifo f)) h q c m)
+stays_free h g q c m (TakeFromFifo f) y z s e = if_some_all {A = Seen × Part} (λ r. FreeOf (next_of g q (TakeFromFifo f) (r.0))) (λ r. called_free g q (TakeFromFifo f) (r.0) z refl) (effect (act_of q (TakeFromFifo f)) h q c m)
+stays_free h g q c m (RaiseForAll d) y z s e = if_some_all {A = Seen × Part} (λ r. FreeOf (next_of g q (RaiseForAll d) (r.0))) (λ r. called_free g q (RaiseForAll d) (r.0) z refl) (effect (act_of q (RaiseForAll d)) h q c m)
+stays_free h g q c m (OpenForAll d) y z s e = if_some_all {A = Seen × Part} (λ r. FreeOf (next_of g q (OpenForAll d) (r.0))) (λ r. called_free g q (OpenForAll d) (r.0) z refl) (effect (act_of q (OpenForAll d)) h q c m)
+stays_free h g q c m (PushForAll d) y z s e = if_some_all {A = Seen × Part} (λ r. FreeOf (next_of g q (PushForAll d) (r.0))) (λ r. called_free g q (PushForAll d) (r.0) z refl) (effect (act_of q (PushForAll d)) h q c m)
+stays_free h g q c m (LowerForAll d) y z s e = if_some_all {A = Seen × Part} (λ r. FreeOf (next_of g q (LowerForAll d) (r.0))) (λ r. called_free g q (LowerForAll d) (r.0) z refl) (effect (act_of q (LowerForAll d)) h q c m)
+stays_free h g q c m (DealPieces d) y z s e = if_some_all {A = Seen × Part} (λ r. FreeOf (next_of g q (DealPieces d) (r.0))) (λ r. called_free g q (DealPieces d) (r.0) z refl) (effect (act_of q (DealPieces d)) h q c m)
 stays_free h g q c m (BeginTask x) y z s e = cc
 stays_free h g (Worker a b) c m _ y z s e = first_of (cc, search (rules, arith))
 stays_free h g (Caller n) c m _ y z s e = first_of (cc, search (rules, arith))
 
-keeps_task : (h : Shape) (g : PoolShape) (q : Party) (c : Counts) (m : Part) (x : Place) (t : ℕ) → is_start x ≡ false → taken x ≡ Some t → IfSome (effect (act_of q x) h q c m) (λ r. Has t (next_of g q x (r.0)))
+keeps_task : (h : Shape) (g : PoolShape) (q : Party) (c : Counts) (m : Part) (x : Place) (t : Taken) → is_start x ≡ false → taken x ≡ Some t → IfSome (effect (act_of q x) h q c m) (λ r. Has t (next_of g q x (r.0)))
 keeps_task h g (Worker a b) c m (LeaveSearch k) t s e = walk_has g (Worker a b) a _ 0 (after_found k.target k.found) t (found_taken k.target k.found ∙ e)
 keeps_task h g (Caller n) c m (LeaveSearch k) t s e = tt
 keeps_task h g q c m (LockToWake k) t s e = if_some_all {A = Seen × Part} (λ r. Has t (next_of g q (LockToWake k) (r.0))) (λ r. e) (effect (act_of q (LockToWake k)) h q c m)
@@ -268,7 +366,7 @@ keeps_task h g q c m (BeginTask u) t s e = cc
 keeps_task h g q c m (BeginHere u) t s e = cc
 keeps_task h g q c m _ t s e = absurd (cc)
 
-option_or : (o : Option ℕ) → (o ≡ None) ⊎ ((t : ℕ) × (o ≡ Some t))
+option_or : (o : Option Taken) → (o ≡ None) ⊎ ((t : Taken) × (o ≡ Some t))
 option_or None = inl refl
 option_or (Some t) = inr (t, refl)
 
@@ -291,10 +389,10 @@ pub own_same : (h : Shape) (q : Party) (c : Counts) (m : Part) (x : Place) → i
 own_same h (Worker a b) c m (ProbeWorking k) y z s = search (rules, arith)
 own_same h q c m (SetLatch k) y z s = set_own k.latch k.pool k.worker h q c m
 own_same h q c m (BeginTask (Plain t)) y z s = refl
-own_same h q c m (BeginTask (Token k i)) y z s = out_sees (λ r. r.1.seat.own ≡ m.seat.own) q m refl (λ u us e. refl)
-own_same h (Worker a b) c m (AddToFifo f) y z s = if_cond (λ (r : Seen × Part). r.1.seat.own ≡ m.seat.own) (is_open (Worker a b) m.seat.feeder) _ (λ o. refl)
+own_same h q c m (BeginTask (Token k i b8)) y z s = out_sees (λ r. r.1.seat.own ≡ m.seat.own) q m b8 refl (λ u us e. refl)
+own_same h (Worker a b) c m (AddToFifo f) y z s = if_cond (λ (r : Seen × Part). r.1.seat.own ≡ m.seat.own) (is_open (Worker a b) (m.seat.feeder (count_book f.count))) _ (λ o. refl)
 own_same h (Caller n) c m (AddToFifo f) y z s = tt
-own_same h (Worker a b) c m (TakeFromFifo f) y z s = undo_sees (λ r. r.1.seat.own ≡ m.seat.own) (Worker a b) m refl (λ u e. refl)
+own_same h (Worker a b) c m (TakeFromFifo f) y z s = undo_sees (λ r. r.1.seat.own ≡ m.seat.own) (Worker a b) m (count_book f.count) refl (λ u e. refl)
 own_same h (Caller n) c m (TakeFromFifo f) y z s = tt
 own_same h q c m (PushToken f v) y z s = cc
 own_same h (Worker a b) c m _ y z s = first_of (cc, search (rules, arith))
@@ -309,17 +407,19 @@ push_away h (Worker a b) c m n v e = at (is_member (Worker a b) (plan_pool n)) e
     at false f = refl
 push_away h (Caller o) c m n v e = refl
 
--- what no place but a push and a begin says
-pub silent : (q : Party) (x : Place) (fs : List Place) → is_push x ≡ false → is_start x ≡ false → act_happens (act_of q x) fs ≡ None
-silent (Worker a b) (LookQueue n) fs z s = at (a == plan_pool n)
+-- what no place but a push, a begin and one of a FIFO list says
+pub silent : (q : Party) (x : Place) (fs : List Place) (o : Option ℕ) → is_push x ≡ false → is_start x ≡ false → is_line x ≡ false → act_happens (act_of q x) fs o ≡ None
+silent (Worker a b) (LookQueue n) fs o z s l = at (a == plan_pool n)
   where
-    at : (y : Bool) → act_happens (if y then LookOwn else LookInj (plan_pool n)) fs ≡ None
+    at : (y : Bool) → act_happens (if y then LookOwn else LookInj (plan_pool n)) fs o ≡ None
     at true = refl
     at false = refl
-silent (Caller c) (LookQueue n) fs z s = refl
-silent q (PushToken f v) fs z s = cc
-silent (Worker a b) _ fs z s = first_of (cc, search (rules, arith))
-silent (Caller c) _ fs z s = first_of (cc, search (rules, arith))
+silent (Caller c) (LookQueue n) fs o z s l = refl
+silent q (PushToken f v) fs o z s l = cc
+silent q (AddToFifo f) fs o z s l = cc
+silent q (TakeFromFifo f) fs o z s l = cc
+silent (Worker a b) _ fs o z s l = first_of (cc, search (rules, arith))
+silent (Caller c) _ fs o z s l = first_of (cc, search (rules, arith))
 
 pub seat_mine : (f : ℕ → ℕ → Seat) (p i : ℕ) (s : Seat) → put_seat f p i s p i ≡ s
 seat_mine f p i s = let e : ((p == p) && (i == i)) ≡ true = same_refl p i in rw e

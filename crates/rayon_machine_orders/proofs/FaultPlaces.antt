@@ -1,4 +1,4 @@
--- what a place answers, and what acts leave of the faults and numbers of a book, over each act and move
+-- what a place answers, what acts leave of the faults that calls keep, and that none ends a run, over each act and move
 use Rattle.std.proofs.Common.{◌∙◌, arith, refl, rules, sym}
 use Rattle.std.specs.Prelude.{◌≡◌, ◌&&◌, ◌==◌, ◌+◌, ◌-◌, ◌∷◌, ℕ, [], if◌then◌else◌, Bool, IfSome, List, None, Option, Some, false, nat_lt, true}
 use Rattle.rayon_machine_laws.proofs.Frame.{if_cond, if_some_all, if_some_map, out_sees, undo_sees}
@@ -6,21 +6,20 @@ use Rattle.rayon_machine_laws.proofs.Lists.{SameJobs, quiet_same}
 use Rattle.rayon_machine_laws.proofs.Seats.{is_frame}
 use Rattle.rayon_machine_laws.proofs.Tops.{Tops}
 use Rattle.rayon_machine_laws.specs.End.{follows}
-use Rattle.rayon_machine_orders.proofs.BookActs.{Unbooked, act_unbooked}
-use Rattle.rayon_machine_places.specs.Places.{act_of, after_failure, after_found, after_news, after_set, after_wait, finish, is_member, next_of, own_pool, plan_book, plan_job, plan_pool, settle, walk}
+use Rattle.rayon_machine_places.specs.Places.{act_of, after_failure, after_found, after_news, after_set, after_wait, begin_cast, begin_feed, count_book, end_cast, ends_count, finish, is_member, next_of, own_pool, plan_book, plan_job, plan_pool, settle, taken_number, walk, withdraw}
 use Rattle.rayon_machine_places.specs.Steps.{is_piece, jobs_after, mark_pieces, marked, put}
 use Rattle.rayon_machine_places.specs.World.{Counts, Part, Shape, at_job, begun, effect, found, is_open, pop_injector, popped, take_cast}
 use Rattle.rayon_machine_places.specs.declared.act.Act.TheVariants.{PushInj, PushOwn, Set}
 use Rattle.rayon_machine_places.specs.declared.act.Seen.{Seen}
 use Rattle.rayon_machine_places.specs.declared.act.Seen.TheVariants.{Done, Found, Task, Wakes, Yes}
 use Rattle.rayon_machine_places.specs.declared.place.Count.{Count}
-use Rattle.rayon_machine_places.specs.declared.place.Count.TheVariants.{OfPool, OfScope}
+use Rattle.rayon_machine_places.specs.declared.place.Count.TheVariants.{OfPool, OfScope, OfCast}
 use Rattle.rayon_machine_places.specs.declared.place.Ending.{Ending}
-use Rattle.rayon_machine_places.specs.declared.place.Entry.{Entry}
+use Rattle.rayon_machine_places.specs.declared.place.Feeding.{Feeding}
 use Rattle.rayon_machine_places.specs.declared.place.Latch.{Latch}
 use Rattle.rayon_machine_places.specs.declared.place.Latch.TheVariants.{OfCall, Terminate}
 use Rattle.rayon_machine_places.specs.declared.place.Mark.{Mark as Marking}
-use Rattle.rayon_machine_places.specs.declared.place.Mark.TheVariants.{Counted, Queued, Returned}
+use Rattle.rayon_machine_places.specs.declared.place.Mark.TheVariants.{Counted, Dealt, Numbered, Queued, Returned, Unnumbered}
 use Rattle.rayon_machine_places.specs.declared.place.Move.{Move}
 use Rattle.rayon_machine_places.specs.declared.place.Move.TheVariants.{Back, Discard, HandAllBack, HandBack, HandIn, Enter as Into, Mark, StartRun, Stay}
 use Rattle.rayon_machine_places.specs.declared.place.OpenCall.{OpenCall}
@@ -28,9 +27,9 @@ use Rattle.rayon_machine_places.specs.declared.place.Party.{Party}
 use Rattle.rayon_machine_places.specs.declared.place.Party.TheVariants.{Caller, Worker}
 use Rattle.rayon_machine_places.specs.declared.place.Pieces.{Pieces}
 use Rattle.rayon_machine_places.specs.declared.place.Place.{Place}
-use Rattle.rayon_machine_places.specs.declared.place.Place.TheVariants.{AddToFifo, AnnounceSelf, BeginHere, BeginTask, CloseSlot, JoinPop, JoinTakeCast, LeaveSearch, LocalPop, LocalTakeCast, LockToSettle, LockToWake, LowerCount, OpenSlot, PopIdle, PopInjected, PopWorking, ProbeIdle, ProbeWorking, PushForAll, PushJob, PushToken, RaiseCount, SetLatch, SetLockLatch, StealFrom, StoreBody, StoreResult, StoreSlot, TakeCastIdle, TakeCastWorking, TakeFromFifo, TakeResult, TellNews, UnlockSettled, UnlockWoken, WakeSettled, YieldPop, YieldPopInjected, YieldSteal, YieldTakeCast}
+use Rattle.rayon_machine_places.specs.declared.place.Place.TheVariants.{AddToFifo, AnnounceSelf, BeginHere, BeginTask, JoinPop, JoinTakeCast, LeaveSearch, LocalPop, LocalTakeCast, LockToSettle, LockToWake, LowerCount, OpenSlot, PopIdle, PopInjected, PopWorking, ProbeIdle, ProbeWorking, DealPieces, LowerForAll, RaiseForAll, StorePiece, PushForAll, PushJob, PushToken, RaiseCount, SetLatch, SetLockLatch, StealFrom, StoreBody, StoreResult, StoreSlot, TakeCastIdle, TakeCastWorking, TakeFromFifo, TakeResult, TellNews, UnlockSettled, UnlockWoken, WakeSettled, YieldPop, YieldPopInjected, YieldSteal, YieldTakeCast}
 use Rattle.rayon_machine_places.specs.declared.place.Plan.{Plan}
-use Rattle.rayon_machine_places.specs.declared.place.Plan.TheVariants.{Detach, Enter, Feed, Fork, Here, Open, Send}
+use Rattle.rayon_machine_places.specs.declared.place.Plan.TheVariants.{Detach, Enter, Feed, Fork, Gather, Here, Open, Send}
 use Rattle.rayon_machine_places.specs.declared.place.Rounds.{Rounds}
 use Rattle.rayon_machine_places.specs.declared.place.Rounds.TheVariants.{Announced, Failed}
 use Rattle.rayon_machine_places.specs.declared.place.Settling.{Settling}
@@ -39,7 +38,7 @@ use Rattle.rayon_machine_places.specs.declared.place.Taken.TheVariants.{Plain, T
 use Rattle.rayon_machine_places.specs.declared.place.Target.{Target}
 use Rattle.rayon_machine_places.specs.declared.place.Target.TheVariants.{Answer, Termination}
 use Rattle.rayon_machine_places.specs.declared.place.Then.{Then}
-use Rattle.rayon_machine_places.specs.declared.place.Then.TheVariants.{Answers, Await, BeginFound, Called, GiveBack, LeaveWait, Missing as NoResult, Ran, Resume, RunFirst}
+use Rattle.rayon_machine_places.specs.declared.place.Then.TheVariants.{Answers, Await, BeginFound, Called, Gathers, GiveBack, LeaveWait, Missing as NoResult, Ran, Resume, RunFirst}
 use Rattle.rayon_machine_places.specs.declared.place.Wait.{Wait}
 use Rattle.rayon_machine_places.specs.declared.shape.PoolShape.{PoolShape}
 use Rattle.rayon_machine_places.specs.declared.state.Job.{Job}
@@ -93,6 +92,8 @@ finish_on s (Caller n) (Await o) = λ a e. cc
 finish_on s q (RunFirst o f) = λ a e. cc
 finish_on s q Resume = tt
 finish_on s q Called = tt
+finish_on s (Worker i j) (Gathers o) = λ a e. cc
+finish_on s (Caller n) (Gathers o) = λ a e. cc
 finish_on s q (Answers o f e) = tt
 finish_on s q (NoResult o f) = tt
 finish_on s q (Ran t e) = tt
@@ -124,12 +125,23 @@ tell_on : (h : PoolShape) (q : Party) (n : Plan) (v : Bool) (e : Seen) → Tops 
 tell_on h q n v (Wakes m) = walk_on None h q (plan_pool n) m 0 (after_news n)
 tell_on h q n v _ = λ a e. cc
 
+begun_on : (s : Option Told) (k : Count) (f : Feeding) → On s (begin_feed k f)
+begun_on s (OfPool p) f = λ a e. cc
+begun_on s (OfScope c o) f = λ a e. cc
+begun_on s (OfCast c o) f = λ a e. cc
+
+-- where a refused call goes that has not pushed its job
+withdrawn_on : (s : Option Told) (b : Option ℕ) (n : Plan) → On s (withdraw b n)
+withdrawn_on s None n = λ a e. cc
+withdrawn_on s (Some c) n = λ a e. cc
+
 raise_on : (h : PoolShape) (q : Party) (n : Plan) (e : Seen) → Tops (Goes (RaiseCount n) e) (next_of h q (RaiseCount n) e)
 raise_on h q (Detach p t) Done = λ a e. cc
 raise_on h q (Here p t) Done = λ a e. cc
 raise_on h q (Send o) Done = λ a e. cc
 raise_on h q (Fork o f) Done = λ a e. cc
-raise_on h q (Feed f) Done = λ a e. cc
+raise_on h q (Feed f) Done = begun_on None f.count f
+raise_on h q (Gather g) Done = λ a e. cc
 raise_on h q (Open f) Done = λ a e. cc
 raise_on h q (Enter x) Done = λ a e. cc
 raise_on h q n _ = tt
@@ -146,17 +158,62 @@ lower_on : (h : PoolShape) (q : Party) (k : Count) (s : Share) (t : Then) (e : S
 lower_on h q (OfPool p) s t Yes = settle_on h q p 0 t
 lower_on h q (OfScope c (Worker i j)) s t Yes = λ a e. e
 lower_on h q (OfScope c (Caller n)) s t Yes = λ a e. e
+lower_on h q (OfCast c (Worker i j)) s t Yes = λ a e. e
+lower_on h q (OfCast c (Caller n)) s t Yes = λ a e. e
 lower_on h q k s t _ = finish_on (then_answer t) q t
 
 push_on : (h : PoolShape) (q : Party) (n : Plan) (v : Bool) (e : Seen) → Tops (Goes (PushJob n v) e) (next_of h q (PushJob n v) e)
 push_on h q n v Done = λ a e. cc
-push_on h q (Detach p t) v _ = λ a e. cc
-push_on h q (Here p t) v _ = λ a e. cc
-push_on h q (Send o) v _ = λ a e. cc
-push_on h q (Fork o f) v _ = λ a e. cc
-push_on h q (Feed f) v _ = λ a e. cc
-push_on h q (Open o) v _ = λ a e. cc
-push_on h q (Enter x) v _ = λ a e. cc
+push_on h q n v _ = withdrawn_on None (plan_book n) n
+
+slot_on : (h : PoolShape) (q : Party) (n : Plan) (e : Seen) → Tops (Goes (OpenSlot n) e) (next_of h q (OpenSlot n) e)
+slot_on h q (Feed f) Done = λ a e. cc
+slot_on h q (Detach p t) Done = λ a e. cc
+slot_on h q (Here p t) Done = λ a e. cc
+slot_on h q (Send o) Done = λ a e. cc
+slot_on h q (Fork o f) Done = λ a e. cc
+slot_on h q (Open o) Done = λ a e. cc
+slot_on h q (Enter x) Done = λ a e. cc
+slot_on h q (Gather g) Done = λ a e. cc
+slot_on h q n _ = λ a e. cc
+
+add_on : (h : PoolShape) (q : Party) (f : Feeding) (e : Seen) → Tops (Goes (AddToFifo f) e) (next_of h q (AddToFifo f) e)
+add_on h q f Done = λ a e. cc
+add_on h q f _ = withdrawn_on None (count_book f.count) (Feed f)
+
+back_on : (h : PoolShape) (q : Party) (f : Feeding) (e : Seen) → Tops (Goes (TakeFromFifo f) e) (next_of h q (TakeFromFifo f) e)
+back_on h q f (Task x) = withdrawn_on None (count_book f.count) (Feed (record f { job = taken_number x }))
+back_on h q f _ = tt
+
+-- a broadcast has its shares, its push is refused, or it has given the last shares back
+cast_on : (s : Option Told) (k : Count) (c : Pieces) → On s (begin_cast k c)
+cast_on s (OfPool p) c = λ a e. cc
+cast_on s (OfScope d o) c = λ a e. cc
+cast_on s (OfCast d o) c = λ a e. cc
+
+uncast_on : (s : Option Told) (k : Count) (c : Pieces) → On s (end_cast k c)
+uncast_on s (OfPool p) c = λ a e. cc
+uncast_on s (OfScope d o) c = λ a e. cc
+uncast_on s (OfCast d o) c = λ a e. cc
+
+ends_on : (s : Option Told) (k : Count) → On s (ends_count k)
+ends_on s (OfPool p) = λ a e. cc
+ends_on s (OfScope d (Worker i j)) = λ a e. cc
+ends_on s (OfScope d (Caller n)) = λ a e. cc
+ends_on s (OfCast d (Worker i j)) = λ a e. cc
+ends_on s (OfCast d (Caller n)) = λ a e. cc
+
+raise_all_on : (h : PoolShape) (q : Party) (c : Pieces) (e : Seen) → Tops (Goes (RaiseForAll c) e) (next_of h q (RaiseForAll c) e)
+raise_all_on h q c Done = cast_on None c.count c
+raise_all_on h q c _ = tt
+
+push_all_on : (h : PoolShape) (q : Party) (c : Pieces) (e : Seen) → Tops (Goes (PushForAll c) e) (next_of h q (PushForAll c) e)
+push_all_on h q c Done = λ a e. cc
+push_all_on h q c _ = uncast_on None c.count c
+
+lower_all_on : (h : PoolShape) (q : Party) (c : Pieces) (e : Seen) → Tops (Goes (LowerForAll c) e) (next_of h q (LowerForAll c) e)
+lower_all_on h q c Yes = ends_on None c.count
+lower_all_on h q c _ = tt
 
 search_on : (h : PoolShape) (k : Wait) (r : Rounds) → On None (after_failure h k r)
 search_on h k (Failed m) = at (nat_lt m h.limit)
@@ -187,6 +244,13 @@ answers_on h g q c m (RaiseCount n) = of_every h g q c m (RaiseCount n) (raise_o
 answers_on h g q c m (StoreResult d o e) = of_every h g q c m (StoreResult d o e) (store_on g q d o e)
 answers_on h g q c m (LowerCount p s t) = of_every h g q c m (LowerCount p s t) (lower_on g q p s t)
 answers_on h g q c m (PushJob n v) = of_every h g q c m (PushJob n v) (push_on g q n v)
+answers_on h g q c m (OpenSlot n) = of_every h g q c m (OpenSlot n) (slot_on g q n)
+answers_on h g q c m (AddToFifo f) = of_every h g q c m (AddToFifo f) (add_on g q f)
+answers_on h g q c m (TakeFromFifo f) = of_every h g q c m (TakeFromFifo f) (back_on g q f)
+answers_on h g q c m (RaiseForAll b) = of_every h g q c m (RaiseForAll b) (raise_all_on g q b)
+answers_on h g q c m (PushForAll b) = of_every h g q c m (PushForAll b) (push_all_on g q b)
+answers_on h g q c m (LowerForAll b) = of_every h g q c m (LowerForAll b) (lower_all_on g q b)
+answers_on h g q c m (StorePiece d o t e) = of_every h g q c m (StorePiece d o t e) (λ s a z. cc)
 answers_on h g q c m (StoreBody o e) = of_every h g q c m (StoreBody o e) (λ s a z. cc)
 answers_on h g q c m (StoreSlot d o t e) = of_every h g q c m (StoreSlot d o t e) (λ s a z. cc)
 answers_on h g q c m (SetLockLatch d t) = of_every h g q c m (SetLockLatch d t) (λ e. finish_on (then_answer t) q t)
@@ -197,13 +261,14 @@ answers_on h g q c m (TakeResult o f) = of_every h g q c m (TakeResult o f) (tak
 answers_on h g (Worker i j) c m _ = search (rules, arith)
 answers_on h g (Caller n) c m _ = search (rules, arith)
 
--- places whose acts store into the book of a scope
+-- places whose acts store how a job ended, for a scope or a broadcast
 abbrev pub is_storing : Place → Bool
 is_storing (StoreBody o e) = true
 is_storing (StoreSlot c o t e) = true
+is_storing (StorePiece c o t e) = true
 is_storing _ = false
 
--- no other act changes which fault a book keeps
+-- no other act changes which fault a call keeps
 abbrev pub SameFault : Part → Seen × Part → Type 0
 SameFault m r = r.1.call.fault ≡ m.call.fault
 
@@ -220,35 +285,11 @@ act_fault h (Worker a b) c m (ProbeWorking k) z = search (rules, arith)
 act_fault h q c m (SetLatch s) z = set_fault s.latch s.pool s.worker h q c m
 act_fault h q c m (StoreBody o e) z = cc
 act_fault h q c m (StoreSlot d o t e) z = cc
+act_fault h q c m (StorePiece d o t e) z = cc
 act_fault h (Worker a b) c m (TakeResult o f) z = found_fault m m.call.cell
 act_fault h (Caller n) c m (TakeResult o f) z = found_fault m m.call.cell
 act_fault h (Worker a b) c m _ z = search (rules, arith)
 act_fault h (Caller n) c m _ z = search (rules, arith)
-
--- places whose acts write the number that a job has of a book
-abbrev pub is_numbering : Place → Bool
-is_numbering (OpenSlot e) = true
-is_numbering (CloseSlot e) = true
-is_numbering (StoreSlot c o t e) = true
-is_numbering _ = false
-
-abbrev pub SameSlot : Part → Seen × Part → Type 0
-SameSlot m r = r.1.job.slot ≡ m.job.slot
-
-pushed_slot : (h : Shape) (q : Party) (c : Counts) (m : Part) (t p : ℕ) (k : Option ℕ) (z : Bool) → IfSome (effect (if z then PushOwn t k else PushInj p t k) h q c m) (SameSlot m)
-pushed_slot h q c m t p k true = refl
-pushed_slot h q c m t p k false = refl
-
-entered_slot : (h : Shape) (q : Party) (c : Counts) (m : Part) (e : Entry) (v : Bool) → IfSome (effect (act_of q (PushJob (Enter e) v)) h q c m) (SameSlot m)
-entered_slot h (Worker a b) c m e v = pushed_slot h (Worker a b) c m (e.job) (e.pool) (Some e.call) (is_member (Worker a b) (e.pool))
-entered_slot h (Caller n) c m e v = pushed_slot h (Caller n) c m (e.job) (e.pool) (Some e.call) (is_member (Caller n) (e.pool))
-
-pub act_slot : (h : Shape) (q : Party) (c : Counts) (m : Part) (x : Place) → is_numbering x ≡ false → IfSome (effect (act_of q x) h q c m) (SameSlot m)
-act_slot h q c m (OpenSlot e) z = cc
-act_slot h q c m (CloseSlot e) z = cc
-act_slot h q c m (StoreSlot d o t e) z = cc
-act_slot h q c m (PushJob (Enter e) v) z = entered_slot h q c m e v
-act_slot h q c m x z = if_some_map (Unbooked m) (SameSlot m) (λ r u. u.slot) (effect (act_of q x) h q c m) (act_unbooked h q c m x refl)
 
 -- no act ends a run
 abbrev pub NoEnd : Part → Seen × Part → Type 0
@@ -303,18 +344,20 @@ act_end h (Worker a b) c m (PushJob n v) = push_end h (Worker a b) c m (plan_job
 act_end h (Caller g) c m (PushJob n v) = push_end h (Caller g) c m (plan_job n) (plan_pool n) (plan_book n) (is_member (Caller g) (plan_pool n))
 act_end h (Worker a b) c m (PushToken f v) = λ e z. cc
 act_end h (Caller g) c m (PushToken f v) = tt
-act_end h (Worker a b) c m (AddToFifo f) = if_cond (NoEnd m) (is_open (Worker a b) m.seat.feeder) _ (λ k e z. cc)
+act_end h (Worker a b) c m (AddToFifo f) = if_cond (NoEnd m) (is_open (Worker a b) (m.seat.feeder (count_book f.count))) _ (λ k e z. cc)
 act_end h (Caller g) c m (AddToFifo f) = tt
-act_end h (Worker a b) c m (TakeFromFifo f) = undo_sees (NoEnd m) (Worker a b) m (λ e z. z) (λ u i e z. cc)
+act_end h (Worker a b) c m (TakeFromFifo f) = undo_sees (NoEnd m) (Worker a b) m (count_book f.count) (λ e z. z) (λ u i e z. cc)
 act_end h (Caller g) c m (TakeFromFifo f) = tt
 act_end h (Worker a b) c m (BeginTask (Plain u)) = λ e z. cc
 act_end h (Caller g) c m (BeginTask (Plain u)) = λ e z. cc
-act_end h (Worker a b) c m (BeginTask (Token k i)) = out_sees (NoEnd m) (Worker a b) m (λ e z. z) (λ u us y e z. cc)
-act_end h (Caller g) c m (BeginTask (Token k i)) = out_sees (NoEnd m) (Caller g) m (λ e z. z) (λ u us y e z. cc)
+act_end h (Worker a b) c m (BeginTask (Token k i l)) = out_sees (NoEnd m) (Worker a b) m l (λ e z. z) (λ u us y e z. cc)
+act_end h (Caller g) c m (BeginTask (Token k i l)) = out_sees (NoEnd m) (Caller g) m l (λ e z. z) (λ u us y e z. cc)
 act_end h (Worker a b) c m (BeginHere u) = λ e z. cc
 act_end h (Caller g) c m (BeginHere u) = λ e z. cc
 act_end h (Worker a b) c m (PushForAll v) = λ e z. z
 act_end h (Caller g) c m (PushForAll v) = λ e z. z
+act_end h (Worker a b) c m (DealPieces v) = λ e z. z
+act_end h (Caller g) c m (DealPieces v) = λ e z. z
 act_end h q c m x = if_some_map (SameJobs m) (NoEnd m) (λ r s e z. sym s.at ∙ z) (effect (act_of q x) h q c m) (quiet_same h q c m x refl)
 
 -- and no move does
@@ -330,7 +373,10 @@ marks_end c k f t e = by (is_piece c t) k
   where
     by : (b : Bool) (k : Marking) → (if b then marked k c.pool (t - c.first) (f t) else f t).at ≡ Over e → (f t).at ≡ Over e
     by true Counted z = z
+    by true (Numbered n) z = z
+    by true Unnumbered z = z
     by true Queued z = cc
+    by true Dealt z = cc
     by true Returned z = cc
     by false k z = z
 
@@ -344,6 +390,7 @@ moved_end q (StartRun a u) f t e z = put_end f u (begun q (f u)) t e (λ y. cc) 
 moved_end q (HandBack (Detach p a)) f t e z = put_end f a (at_job (f a) HandedBack) t e (λ y. cc) z
 moved_end q (HandBack (Here p a)) f t e z = put_end f a (at_job (f a) HandedBack) t e (λ y. cc) z
 moved_end q (HandBack (Send o)) f t e z = put_end f o.job (at_job (f o.job) HandedBack) t e (λ y. cc) z
+moved_end q (HandBack (Gather g)) f t e z = marks_end g.pieces Returned f t e z
 moved_end q (HandBack (Open o)) f t e z = put_end f o.job (at_job (f o.job) HandedBack) t e (λ y. cc) z
 moved_end q (HandBack (Enter o)) f t e z = put_end f o.job (at_job (f o.job) HandedBack) t e (λ y. cc) z
 moved_end q (HandBack (Fork o a)) f t e z = put_end f a (at_job (f a) HandedBack) t e (λ y. cc) (put_end (put f a (at_job (f a) HandedBack)) o.job (at_job (f o.job) HandedBack) t e (λ y. cc) z)

@@ -1,6 +1,6 @@
 -- each share that is in the count has a keeper: what a party or the share's owner keeps, no act loses
 use Rattle.rayon_machine_places.specs.declared.place.Mark.{Mark as Marking}
-use Rattle.rayon_machine_places.specs.declared.place.Mark.TheVariants.{Counted, Queued, Returned}
+use Rattle.rayon_machine_places.specs.declared.place.Mark.TheVariants.{Counted, Queued, Returned, Numbered, Dealt, Unnumbered}
 use Rattle.rayon_machine_places.specs.declared.place.Pieces.{Pieces}
 use Rattle.std.proofs.Common.{arith, refl, sym, ◌∙◌, ap, subst, inl, inr}
 use Rattle.std.specs.Prelude.{ℕ, zero, suc, Bool, true, false, ◌&&◌, ◌+◌, ◌==◌, ◌≤◌, if◌then◌else◌, Option, Some, None, List, [], ◌∷◌, ◌≡◌, IfSome, ⊤, ◌-◌}
@@ -8,16 +8,16 @@ use Rattle.std.proofs.lemmas.Bool.{eqb-true}
 use Rattle.rayon_machine_places.specs.declared.place.Party.{Party}
 use Rattle.rayon_machine_places.specs.declared.place.Party.TheVariants.{Worker, Caller}
 use Rattle.rayon_machine_places.specs.declared.place.Plan.{Plan}
-use Rattle.rayon_machine_places.specs.declared.place.Plan.TheVariants.{Detach, Here, Send, Fork, Feed, Open, Enter}
+use Rattle.rayon_machine_places.specs.declared.place.Plan.TheVariants.{Detach, Here, Send, Fork, Feed, Open, Enter, Gather}
 use Rattle.rayon_machine_places.specs.declared.place.Place.{Place}
-use Rattle.rayon_machine_places.specs.declared.place.Place.TheVariants.{PopWorking, TakeCastWorking, PopIdle, TakeCastIdle, StealFrom, PopInjected, JoinPop, JoinTakeCast, YieldPop, YieldTakeCast, YieldSteal, YieldPopInjected, LocalPop, LocalTakeCast, BeginTask, BeginHere, PushJob, TakeFromFifo, AddToFifo, PushToken, PushForAll}
+use Rattle.rayon_machine_places.specs.declared.place.Place.TheVariants.{PopWorking, TakeCastWorking, PopIdle, TakeCastIdle, StealFrom, PopInjected, JoinPop, JoinTakeCast, YieldPop, YieldTakeCast, YieldSteal, YieldPopInjected, LocalPop, LocalTakeCast, BeginTask, BeginHere, PushJob, TakeFromFifo, AddToFifo, PushToken, PushForAll, OpenForAll, CloseForAll, GrowCast, DealPieces, StorePiece}
 use Rattle.rayon_machine_places.specs.declared.place.Move.{Move}
 use Rattle.rayon_machine_places.specs.declared.place.Move.TheVariants.{Stay, Enter, StartRun, Back, HandBack, Discard, HandIn, Mark, HandAllBack}
 use Rattle.rayon_machine_places.specs.declared.act.Act.TheVariants.{PushInj, PushOwn}
 use Rattle.rayon_machine_places.specs.declared.act.Seen.{Seen}
 use Rattle.rayon_machine_places.specs.declared.state.Whereabouts.TheVariants.{HandedBack, Spent}
 use Rattle.rayon_machine_places.specs.declared.state.Job.{Job}
-use Rattle.rayon_machine_places.specs.Places.{same_party, is_member, plan_pool, plan_job, act_of, next_of, plan_book}
+use Rattle.rayon_machine_places.specs.Places.{same_party, is_member, plan_pool, plan_job, act_of, next_of, plan_book, count_book}
 use Rattle.rayon_machine_places.specs.World.{Shape, Stack, World, Counts, Part, target_pool, at_job, begun, popped, take_cast, pop_injector, effect, is_open}
 use Rattle.rayon_machine_places.specs.Steps.{put, put_stack, jobs_after, mark_pieces, marked, is_piece}
 use Rattle.rayon_machine_laws.specs.Once.{one}
@@ -156,14 +156,15 @@ act_busies h (Caller n) c m YieldTakeCast z = tt
 act_busies h (Worker a b) c m LocalTakeCast z = cast_busies (Worker a b) m _
 act_busies h (Caller n) c m LocalTakeCast z = tt
 act_busies h q c m (BeginTask (Plain t)) z = one_most (is_busy m.job.at)
-act_busies h q c m (BeginTask (Token k i)) z = out_sees (StaysBusy m) q m (omega arith) (λ u us e. one_most (is_busy m.job.at))
-act_busies h (Worker a b) c m (AddToFifo f) z = if_cond (StaysBusy m) (is_open (Worker a b) m.seat.feeder) _ (λ o. one_most (is_busy m.job.at))
+act_busies h q c m (BeginTask (Token k i b8)) z = out_sees (StaysBusy m) q m b8 (omega arith) (λ u us e. one_most (is_busy m.job.at))
+act_busies h (Worker a b) c m (AddToFifo f) z = if_cond (StaysBusy m) (is_open (Worker a b) (m.seat.feeder (count_book f.count))) _ (λ o. one_most (is_busy m.job.at))
 act_busies h (Caller n) c m (AddToFifo f) z = tt
 act_busies h (Worker a b) c m (PushToken f v) z = one_most (is_busy m.job.at)
 act_busies h (Caller n) c m (PushToken f v) z = tt
 act_busies h q c m (TakeFromFifo f) z = cc
 act_busies h q c m (BeginHere t) z = one_most (is_busy m.job.at)
 act_busies h q c m (PushForAll b) z = omega arith
+act_busies h q c m (DealPieces g) z = omega arith
 act_busies h q c m (PushJob n v) z = if_some_map (λ r. is_busy r.1.job.at ≡ true) (StaysBusy m) (λ r e. (let a : one (is_busy m.job.at) ≤ 1 = one_most (is_busy m.job.at) in let b : one (is_busy r.1.job.at) ≡ 1 = ap one e in omega (arith, a, b))) (effect (act_of q (PushJob n v)) h q c m) (act_pushes h q c m n v)
 act_busies h q c m x z = if_some_map (SameJobs m) (StaysBusy m) (λ r s. (let a : one (is_busy r.1.job.at) ≡ one (is_busy m.job.at) = ap (λ v. one (is_busy v)) (s.at) in omega (arith, a))) (effect (act_of q x) h q c m) (quiet_same h q c m x refl)
 
@@ -173,7 +174,7 @@ StaysUntaken m (Task y, n) = ⊤
 StaysUntaken m r = StaysBusy m r
 
 pub retake_busies : (h : Shape) (a b : ℕ) (c : Counts) (m : Part) (f : Feeding) → IfSome (effect (act_of (Worker a b) (TakeFromFifo f)) h (Worker a b) c m) (StaysUntaken m)
-retake_busies h a b c m f = undo_sees (StaysUntaken m) (Worker a b) m (omega arith) (λ u e. tt)
+retake_busies h a b c m f = undo_sees (StaysUntaken m) (Worker a b) m (count_book f.count) (omega arith) (λ u e. tt)
 
 -- and so does a move, but for what it hands back
 back_stays : (J : ℕ → Job) (n t : ℕ) → backs (put J n (at_job (J n) HandedBack) t).at ≤ 0 → one (is_busy (J t).at) ≤ one (is_busy (put J n (at_job (J n) HandedBack) t).at)
@@ -211,6 +212,9 @@ marked_stays c k J t = by (is_piece c t)
     each : (k : Marking) → backs (marked k c.pool (t - c.first) (J t)).at ≤ 0 → one (is_busy (J t).at) ≤ one (is_busy (marked k c.pool (t - c.first) (J t)).at)
     each Counted h = omega arith
     each Queued h = one_most (is_busy (J t).at)
+    each (Numbered i) h = omega arith
+    each Dealt h = one_most (is_busy (J t).at)
+    each Unnumbered h = omega arith
     each Returned h = absurd (omega (arith, h))
 
     by : (z : Bool) → backs (if z then marked k c.pool (t - c.first) (J t) else J t).at ≤ 0 → one (is_busy (J t).at) ≤ one (is_busy (if z then marked k c.pool (t - c.first) (J t) else J t).at)
@@ -235,6 +239,7 @@ moved_stays q (HandBack (Here p n)) J t e h = back_stays J n t h
 moved_stays q (HandBack (Send o)) J t n h = back_stays J (o.job) t h
 moved_stays q (HandBack (Open o)) J t n h = back_stays J (o.job) t h
 moved_stays q (HandBack (Enter x)) J t n h = back_stays J (x.job) t h
+moved_stays q (HandBack (Gather g)) J t n h = marked_stays (g.pieces) Returned J t h
 moved_stays q (HandBack (Feed d)) J t e h = by (t == d.token) h
   where
     by : (z : Bool) → backs (if z then at_job (J (d.token)) HandedBack else put J (d.job) (at_job (J (d.job)) HandedBack) t).at ≤ 0 → one (is_busy (J t).at) ≤ one (is_busy (if z then at_job (J (d.token)) HandedBack else put J (d.job) (at_job (J (d.job)) HandedBack) t).at)

@@ -1,6 +1,11 @@
 -- in a pool of one worker nobody steals; what the events that are no acts do to the party that makes them
-use Rattle.rayon_machine_places.specs.declared.place.Plan.TheVariants.{Detach, Here, Send, Fork, Feed, Open, Enter}
+use Rattle.rayon_machine_places.specs.declared.place.Plan.TheVariants.{Detach, Here, Send, Fork, Feed, Open, Enter, Gather}
 use Rattle.rayon_machine_places.specs.declared.place.Plan.{Plan}
+use Rattle.rayon_machine_places.specs.declared.place.Count.TheVariants.{OfPool, OfScope, OfCast}
+use Rattle.rayon_machine_places.specs.declared.place.Count.{Count}
+use Rattle.rayon_machine_places.specs.declared.place.Share.{Share}
+use Rattle.rayon_machine_places.specs.declared.place.Pieces.{Pieces}
+use Rattle.rayon_machine_places.specs.declared.place.Gathering.{Gathering}
 use Rattle.std.proofs.Common.{rules, arith, refl, sym, ◌∙◌, ap, subst}
 use Rattle.std.specs.Prelude.{ℕ, Bool, true, false, ◌&&◌, ◌+◌, ◌==◌, nat_lt, if◌then◌else◌, Option, Some, None, List, [], ◌∷◌, ◌≡◌, IfSome}
 use Rattle.std.proofs.lemmas.Bool.{eq-eqb}
@@ -9,32 +14,32 @@ use Rattle.rayon_machine_places.specs.declared.place.Party.TheVariants.{Worker, 
 use Rattle.rayon_machine_places.specs.declared.place.Ending.{Ending}
 use Rattle.rayon_machine_places.specs.declared.place.Ending.TheVariants.{Fine, Fault}
 use Rattle.rayon_machine_places.specs.declared.place.JobKind.{JobKind}
-use Rattle.rayon_machine_places.specs.declared.place.JobKind.TheVariants.{Detached, Stored, Direct, TokenOf, Scoped, BodyOf}
+use Rattle.rayon_machine_places.specs.declared.place.JobKind.TheVariants.{Detached, Stored, Direct, TokenOf, Scoped, BodyOf, PieceOf, WholeOf}
 use Rattle.rayon_machine_places.specs.declared.place.Target.TheVariants.{Termination, Answer}
 use Rattle.rayon_machine_places.specs.declared.place.Latch.{Latch}
 use Rattle.rayon_machine_places.specs.declared.place.Latch.TheVariants.{Terminate, OfCall}
 use Rattle.rayon_machine_places.specs.declared.place.Then.{Then}
-use Rattle.rayon_machine_places.specs.declared.place.Then.TheVariants.{BeginFound, LeaveWait, Resume, Await, RunFirst, Answers, Missing, Ran, GiveBack, Called}
+use Rattle.rayon_machine_places.specs.declared.place.Then.TheVariants.{BeginFound, LeaveWait, Resume, Await, RunFirst, Answers, Missing, Ran, GiveBack, Called, Gathers}
 use Rattle.rayon_machine_places.specs.declared.place.Place.{Place}
-use Rattle.rayon_machine_places.specs.declared.place.Place.TheVariants.{ProbeWorking, TakeCastIdle, PickVictim, StealFrom, LeaveSearch, YieldPop, YieldTakeCast, YieldPick, YieldSteal, LocalPop, BeginTask, BeginHere, Run, GrowCall, PushJob, LockToWake, WakeWorker, UnlockWoken, LowerCount, SetLatch, LockToSettle, WakeSettled, UnlockSettled, FirstSide, Free, Stopped, AddToFifo, PushToken, TakeFromFifo, PushForAll, GrowScope, OpenSlot, SetLockLatch}
+use Rattle.rayon_machine_places.specs.declared.place.Place.TheVariants.{ProbeWorking, TakeCastIdle, PickVictim, StealFrom, LeaveSearch, YieldPop, YieldTakeCast, YieldPick, YieldSteal, LocalPop, BeginTask, BeginHere, Run, RaiseCount, GrowCall, PushJob, LockToWake, WakeWorker, UnlockWoken, LowerCount, SetLatch, LockToSettle, WakeSettled, UnlockSettled, FirstSide, Free, Stopped, AddToFifo, PushToken, TakeFromFifo, PushForAll, GrowScope, OpenSlot, SetLockLatch, OpenForAll, RaiseForAll, LowerForAll, GrowCast, DealPieces}
 use Rattle.rayon_machine_places.specs.declared.place.Move.{Move}
 use Rattle.rayon_machine_places.specs.declared.place.Move.TheVariants.{Stay}
 use Rattle.rayon_machine_places.specs.declared.act.Seen.{Seen}
-use Rattle.rayon_machine_places.specs.declared.act.Seen.TheVariants.{Yes, Begun, Done, Handed, Task}
+use Rattle.rayon_machine_places.specs.declared.act.Seen.TheVariants.{Yes, Begun, Done, Handed, Task, Opened}
 use Rattle.rayon_machine_places.specs.declared.event.Event.{Event}
-use Rattle.rayon_machine_places.specs.declared.event.Event.TheVariants.{Go, From, Refuse, Miss, End, Spawn, Fifo, Install, Join, Yield, YieldLocal, EndPool, Cast, Scope as OpenScope, IntoSpawn}
+use Rattle.rayon_machine_places.specs.declared.event.Event.TheVariants.{Go, From, Refuse, Miss, End, Spawn, Fifo, Install, Join, Yield, YieldLocal, EndPool, Cast, Scope as OpenScope, IntoSpawn, IntoFifo, IntoCast, Broadcast}
 use Rattle.rayon_machine_places.specs.declared.shape.PoolShape.{PoolShape}
 use Rattle.rayon_machine_places.specs.declared.place.Walk.{Walk}
 use Rattle.rayon_machine_places.specs.declared.place.Settling.{Settling}
-use Rattle.rayon_machine_places.specs.Places.{same_party, own_pool, is_member, finish, walk, settle, after_set, act_of, next_of, goes_on, is_free, fresh, after_begin, taken_back, taken_number, after_push}
+use Rattle.rayon_machine_places.specs.Places.{same_party, own_pool, is_member, finish, walk, settle, after_set, act_of, next_of, goes_on, is_free, fresh, after_begin, taken_back, taken_number, count_book, plan_book, undo, after_push, withdraw, begin_feed, after_raise, after_slot, begin_cast, end_cast, ends_count, settle_count}
 use Rattle.rayon_machine_places.specs.World.{Shape, Stack, World, Counts, Part, target_pool, target_worker, target_call, effect}
-use Rattle.rayon_machine_places.specs.Steps.{put_stack, after_choice, after_refusal, can_miss, after_miss, after_close, after_end, is_pool, after_spawn, after_send, after_install, after_join, after_yield, after_end_pool, after_move, step, after_fifo, after_cast, after_scope, after_into, holds}
+use Rattle.rayon_machine_places.specs.Steps.{put_stack, after_choice, after_refusal, can_miss, after_miss, after_close, after_end, is_pool, after_spawn, after_send, after_install, after_join, after_yield, after_end_pool, after_move, step, after_fifo, after_cast, after_scope, after_into, after_into_fifo, after_into_cast, after_broadcast, holds}
 use Rattle.rayon_machine_places.specs.Runs.{IsRun, start}
 use Rattle.rayon_machine_laws.proofs.Attended.{aside_frames, step_shape}
 use Rattle.rayon_machine_laws.proofs.Asides.{steps_aside}
 use Rattle.rayon_machine_laws.proofs.Calm.{part_at, counts_seen, next_at, top_then}
 use Rattle.rayon_machine_laws.proofs.Events.{run_keeps}
-use Rattle.rayon_machine_laws.proofs.Frame.{and_parts, if_some_all, if_some_and, if_some_each, if_some_map, if_cond, same_party_true, acted_keeps, fifo_cases, into_cases}
+use Rattle.rayon_machine_laws.proofs.Frame.{and_parts, if_some_all, if_some_and, if_some_each, if_some_map, if_cond, same_party_true, acted_keeps, fifo_cases, into_cases, into_fifo_cases, into_cast_cases}
 use Rattle.rayon_machine_laws.proofs.Holding.{go_frames}
 use Rattle.rayon_machine_laws.proofs.Seats.{is_frame}
 use Rattle.rayon_machine_laws.proofs.Ties.{AllFrames, job_at, shape_at, outcome, result}
@@ -51,19 +56,14 @@ is_thief YieldPick = true
 is_thief (YieldSteal v n) = true
 is_thief _ = false
 
--- the task that a wake was made with in hand
-abbrev pub taken_then : Then → Option ℕ
-taken_then (BeginFound g x) = Some (taken_number x)
+-- what a wake was made with in hand
+abbrev pub taken_then : Then → Option Taken
+taken_then (BeginFound g x) = Some x
 taken_then _ = None
 
--- the number of what a search has found
-abbrev pub number_found : Option Taken → Option ℕ
-number_found None = None
-number_found (Some x) = Some (taken_number x)
-
--- the job that a party is about to begin, or the token that it is about to redeem, by an act of its own
-abbrev pub taken : Place → Option ℕ
-taken (LeaveSearch w) = number_found w.found
+-- what a party is about to begin by an act of its own: a job, or a token to redeem
+abbrev pub taken : Place → Option Taken
+taken (LeaveSearch w) = w.found
 taken (LockToWake k) = taken_then k.then
 taken (WakeWorker k) = taken_then k.then
 taken (UnlockWoken k) = taken_then k.then
@@ -73,8 +73,8 @@ taken (SetLockLatch c n) = taken_then n
 taken (LockToSettle s) = taken_then s.then
 taken (WakeSettled s) = taken_then s.then
 taken (UnlockSettled s) = taken_then s.then
-taken (BeginTask x) = Some (taken_number x)
-taken (BeginHere t) = Some t
+taken (BeginTask x) = Some x
+taken (BeginHere t) = Some (Plain t)
 taken _ = None
 
 -- what holds of where a latch's setter goes on
@@ -97,7 +97,7 @@ walk_move P h q p n i t f g = at (nat_lt 0 n && nat_lt i h.workers)
     at true = f (record { pool = p; owed = n; worker = i; then = t }) refl
     at false = g
 
-abbrev NoThief : Move → Type 0
+abbrev pub NoThief : Move → Type 0
 NoThief g = Tops (λ y. is_thief y ≡ false) g
 
 finish_honest : (q : Party) (t : Then) → NoThief (finish q t)
@@ -109,6 +109,8 @@ finish_honest (Caller c) (Await o) = refl
 finish_honest q (RunFirst o a) = refl
 finish_honest q Resume = tt
 finish_honest q Called = tt
+finish_honest (Worker a b) (Gathers o) = refl
+finish_honest (Caller c) (Gathers o) = refl
 finish_honest q (Answers o f e) = tt
 finish_honest q (Missing o f) = tt
 finish_honest q (Ran t e) = tt
@@ -124,15 +126,100 @@ set_honest h q s _ = settled_honest h q s
 begin_honest : (x : Taken) (e : Seen) → NoThief (after_begin x e)
 begin_honest (Plain t) (Begun d) = refl
 begin_honest (Plain t) _ = refl
-begin_honest (Token k i) (Handed t d) = refl
-begin_honest (Token k i) _ = tt
+begin_honest (Token k i b8) (Handed t d) = refl
+begin_honest (Token k i b8) _ = tt
+
+withdraw_honest : (b : Option ℕ) (n : Plan) → (is_thief (withdraw b n) ≡ false) × (taken (withdraw b n) ≡ None)
+withdraw_honest None n = (refl, refl)
+withdraw_honest (Some c) n = (refl, refl)
+
+feed_honest : (k : Count) (f : Feeding) → is_thief (begin_feed k f) ≡ false
+feed_honest (OfPool p) f = refl
+feed_honest (OfScope c o) f = refl
+feed_honest (OfCast c o) f = refl
+
+slot_honest : (n : Plan) → is_thief (after_slot n) ≡ false
+slot_honest (Detach p t) = refl
+slot_honest (Here p t) = refl
+slot_honest (Send o) = refl
+slot_honest (Fork o a) = refl
+slot_honest (Feed f) = refl
+slot_honest (Open o) = refl
+slot_honest (Enter e) = refl
+slot_honest (Gather g) = refl
+
+raise_honest : (n : Plan) → NoThief (after_raise n)
+raise_honest (Detach p t) = refl
+raise_honest (Here p t) = refl
+raise_honest (Send o) = refl
+raise_honest (Fork o a) = refl
+raise_honest (Feed f) = feed_honest f.count f
+raise_honest (Open o) = refl
+raise_honest (Enter e) = refl
+raise_honest (Gather g) = refl
+
+raised_honest : (g : PoolShape) (q : Party) (n : Plan) (e : Seen) → NoThief (next_of g q (RaiseCount n) e)
+raised_honest g q n Done = raise_honest n
+raised_honest g q n _ = tt
+
+opened_honest : (g : PoolShape) (q : Party) (n : Plan) (e : Seen) → NoThief (next_of g q (OpenSlot n) e)
+opened_honest g q n Done = slot_honest n
+opened_honest g q n _ = refl
+
+pushed_honest : (g : PoolShape) (q : Party) (n : Plan) (v : Bool) (e : Seen) → NoThief (next_of g q (PushJob n v) e)
+pushed_honest g q n v Done = refl
+pushed_honest g q n v _ = (withdraw_honest (plan_book n) n).0
+
+-- where a broadcast goes
+cast_honest : (k : Count) (c : Pieces) → (is_thief (begin_cast k c) ≡ false) × ((is_thief (end_cast k c) ≡ false) × (taken (end_cast k c) ≡ None))
+cast_honest (OfPool p) c = (refl, (refl, refl))
+cast_honest (OfScope m o) c = (refl, (refl, refl))
+cast_honest (OfCast m o) c = (refl, (refl, refl))
+
+ends_honest : (k : Count) → is_thief (ends_count k) ≡ false
+ends_honest (OfPool p) = refl
+ends_honest (OfScope c (Worker a b)) = refl
+ends_honest (OfScope c (Caller n)) = refl
+ends_honest (OfCast c (Worker a b)) = refl
+ends_honest (OfCast c (Caller n)) = refl
+
+count_honest : (g : PoolShape) (q : Party) (k : Count) (t : Then) → NoThief (settle_count g q k t)
+count_honest g q (OfPool p) t = settle_move NoThief g q p 0 t (λ k e. refl) (finish_honest q t)
+count_honest g q (OfScope c (Worker a b)) t = refl
+count_honest g q (OfScope c (Caller n)) t = refl
+count_honest g q (OfCast c (Worker a b)) t = refl
+count_honest g q (OfCast c (Caller n)) t = refl
+
+lowered_honest : (g : PoolShape) (q : Party) (k : Count) (s : Share) (t : Then) (e : Seen) → NoThief (next_of g q (LowerCount k s t) e)
+lowered_honest g q k s t Yes = count_honest g q k t
+lowered_honest g q k s t _ = finish_honest q t
+
+all_raised_honest : (g : PoolShape) (q : Party) (c : Pieces) (e : Seen) → NoThief (next_of g q (RaiseForAll c) e)
+all_raised_honest g q c Done = (cast_honest c.count c).0
+all_raised_honest g q c _ = tt
+
+all_opened_honest : (g : PoolShape) (q : Party) (c : Pieces) (e : Seen) → NoThief (next_of g q (OpenForAll c) e)
+all_opened_honest g q c (Opened n) = refl
+all_opened_honest g q c _ = refl
+
+all_pushed_honest : (g : PoolShape) (q : Party) (c : Pieces) (e : Seen) → NoThief (next_of g q (PushForAll c) e)
+all_pushed_honest g q c Done = refl
+all_pushed_honest g q c _ = ((cast_honest c.count c).1).0
+
+all_lowered_honest : (g : PoolShape) (q : Party) (c : Pieces) (e : Seen) → NoThief (next_of g q (LowerForAll c) e)
+all_lowered_honest g q c Yes = ends_honest c.count
+all_lowered_honest g q c _ = tt
+
+piece_honest : (g : PoolShape) (q : Party) (k : Gathering) (e : Seen) → NoThief (next_of g q (DealPieces k) e)
+piece_honest g q k Done = refl
+piece_honest g q k _ = refl
 
 add_honest : (g : PoolShape) (q : Party) (f : Feeding) (e : Seen) → NoThief (next_of g q (AddToFifo f) e)
 add_honest g q f Done = refl
-add_honest g q f _ = refl
+add_honest g q f _ = (withdraw_honest (count_book f.count) (Feed f)).0
 
 back_honest : (f : Feeding) (e : Seen) → NoThief (taken_back f e)
-back_honest f (Task x) = refl
+back_honest f (Task x) = (withdraw_honest (count_book f.count) (Feed (record f { job = taken_number x }))).0
 back_honest f _ = tt
 
 -- the places from which a worker of a larger pool goes on to steal
@@ -142,7 +229,7 @@ turns_thief YieldTakeCast = true
 turns_thief _ = false
 
 -- a worker alone in its pool does not come to steal
-stays_honest : (h : Shape) (g : PoolShape) (q : Party) (c : Counts) (m : Part) (x : Place) → is_thief x ≡ false → (turns_thief x ≡ true → g.workers ≡ 1) → IfSome (effect (act_of q x) h q c m) (λ r. NoThief (next_of g q x (r.0)))
+pub stays_honest : (h : Shape) (g : PoolShape) (q : Party) (c : Counts) (m : Part) (x : Place) → is_thief x ≡ false → (turns_thief x ≡ true → g.workers ≡ 1) → IfSome (effect (act_of q x) h q c m) (λ r. NoThief (next_of g q x (r.0)))
 stays_honest h g (Worker a b) c m (ProbeWorking k) z f = search (rules, arith)
 stays_honest h g q c m (PickVictim k) z f = cc
 stays_honest h g q c m (StealFrom k n) z f = cc
@@ -155,27 +242,41 @@ stays_honest h g q c m (UnlockSettled s) z f = if_some_all {A = Seen × Part} (�
 stays_honest h g q c m (BeginTask x) z f = if_some_all {A = Seen × Part} (λ r. NoThief (after_begin x (r.0))) (λ r. begin_honest x (r.0)) (effect (act_of q (BeginTask x)) h q c m)
 stays_honest h g q c m (AddToFifo d) z f = if_some_all {A = Seen × Part} (λ r. NoThief (next_of g q (AddToFifo d) (r.0))) (λ r. add_honest g q d (r.0)) (effect (act_of q (AddToFifo d)) h q c m)
 stays_honest h g q c m (TakeFromFifo d) z f = if_some_all {A = Seen × Part} (λ r. NoThief (taken_back d (r.0))) (λ r. back_honest d (r.0)) (effect (act_of q (TakeFromFifo d)) h q c m)
+stays_honest h g q c m (RaiseCount n) z f = if_some_all {A = Seen × Part} (λ r. NoThief (next_of g q (RaiseCount n) (r.0))) (λ r. raised_honest g q n (r.0)) (effect (act_of q (RaiseCount n)) h q c m)
+stays_honest h g q c m (OpenSlot n) z f = if_some_all {A = Seen × Part} (λ r. NoThief (next_of g q (OpenSlot n) (r.0))) (λ r. opened_honest g q n (r.0)) (effect (act_of q (OpenSlot n)) h q c m)
+stays_honest h g q c m (PushJob n v) z f = if_some_all {A = Seen × Part} (λ r. NoThief (next_of g q (PushJob n v) (r.0))) (λ r. pushed_honest g q n v (r.0)) (effect (act_of q (PushJob n v)) h q c m)
+stays_honest h g q c m (RaiseForAll d) z f = if_some_all {A = Seen × Part} (λ r. NoThief (next_of g q (RaiseForAll d) (r.0))) (λ r. all_raised_honest g q d (r.0)) (effect (act_of q (RaiseForAll d)) h q c m)
+stays_honest h g q c m (OpenForAll d) z f = if_some_all {A = Seen × Part} (λ r. NoThief (next_of g q (OpenForAll d) (r.0))) (λ r. all_opened_honest g q d (r.0)) (effect (act_of q (OpenForAll d)) h q c m)
+stays_honest h g q c m (PushForAll d) z f = if_some_all {A = Seen × Part} (λ r. NoThief (next_of g q (PushForAll d) (r.0))) (λ r. all_pushed_honest g q d (r.0)) (effect (act_of q (PushForAll d)) h q c m)
+stays_honest h g q c m (LowerForAll d) z f = if_some_all {A = Seen × Part} (λ r. NoThief (next_of g q (LowerForAll d) (r.0))) (λ r. all_lowered_honest g q d (r.0)) (effect (act_of q (LowerForAll d)) h q c m)
+stays_honest h g q c m (LowerCount k v t) z f = if_some_all {A = Seen × Part} (λ r. NoThief (next_of g q (LowerCount k v t) (r.0))) (λ r. lowered_honest g q k v t (r.0)) (effect (act_of q (LowerCount k v t)) h q c m)
+stays_honest h g q c m (DealPieces d) z f = if_some_all {A = Seen × Part} (λ r. NoThief (next_of g q (DealPieces d) (r.0))) (λ r. piece_honest g q d (r.0)) (effect (act_of q (DealPieces d)) h q c m)
 stays_honest h g (Worker a b) c m _ z f = search (rules, arith)
 stays_honest h g (Caller n) c m _ z f = search (rules, arith)
 
-frame_honest : (f : Place) → is_frame f ≡ true → is_thief f ≡ false
+pub frame_honest : (f : Place) → is_frame f ≡ true → is_thief f ≡ false
 frame_honest (ProbeWorking w) e = refl
 frame_honest _ e = cc
 
--- an event that is no act: one party's stack is another, no seat is changed, and the party had taken no job; if it did
--- not steal, it does not come to do so, and takes no job
+-- where a party makes no step any more
+abbrev pub is_stopped : Place → Bool
+is_stopped Stopped = true
+is_stopped _ = false
+
+-- an event that is no act: one party's stack is another, no seat is changed, and the party had taken no job and had not
+-- stopped; if it did not steal, it does not come to do so, and takes no job
 pub record Turns (w u : World) : Type 0 where
   pub party : Party
   pub to : Stack
   pub stack : (r : Party) → u.stack r ≡ put_stack w.stack party to r
   pub seat : (p i : ℕ) → u.seat p i ≡ w.seat p i
-  pub empty : taken (w.stack party).top ≡ None
+  pub empty : (taken (w.stack party).top ≡ None) × (is_stopped (w.stack party).top ≡ false)
   pub honest : is_thief (w.stack party).top ≡ false → (is_thief to.top ≡ false) × (taken to.top ≡ None)
 
-free_empty : (x : Place) → is_free x ≡ true → taken x ≡ None
-free_empty (Run t k) e = refl
-free_empty Free e = refl
-free_empty _ e = cc
+free_empty : (x : Place) → is_free x ≡ true → (taken x ≡ None) × (is_stopped x ≡ false)
+free_empty (Run t k) e = (refl, refl)
+free_empty Free e = (refl, refl)
+free_empty _ e = absurd (cc)
 
 abbrev pub is_act : Event → Bool
 is_act (Go q) = true
@@ -184,38 +285,35 @@ is_act _ = false
 at_place : (w : World) (q : Party) (x : Place) (fs : List Place) (R : Place → Type 0) → w.stack q ≡ record { top = x; below = fs } → R x → R (w.stack q).top
 at_place w q x fs R e r = subst (λ z. R (z.top)) (sym e) r
 
-thief_turn : (w : World) (q : Party) (x : Place) (fs : List Place) (to : Stack) → w.stack q ≡ record { top = x; below = fs } → is_thief x ≡ true → taken x ≡ None → Turns w (record w { stack = put_stack w.stack q to })
-thief_turn w q x fs to e z n = record { party = q; to = to; stack = λ r. refl; seat = λ p i. refl; empty = at_place w q x fs (λ y. taken y ≡ None) e n; honest = λ h. absurd (let k : is_thief (w.stack q).top ≡ true = at_place w q x fs (λ y. is_thief y ≡ true) e z in cc) }
+thief_turn : (w : World) (q : Party) (x : Place) (fs : List Place) (to : Stack) → w.stack q ≡ record { top = x; below = fs } → is_thief x ≡ true → (taken x ≡ None) × (is_stopped x ≡ false) → Turns w (record w { stack = put_stack w.stack q to })
+thief_turn w q x fs to e z n = record { party = q; to = to; stack = λ r. refl; seat = λ p i. refl; empty = at_place w q x fs (λ y. (taken y ≡ None) × (is_stopped y ≡ false)) e n; honest = λ h. absurd (let k : is_thief (w.stack q).top ≡ true = at_place w q x fs (λ y. is_thief y ≡ true) e z in cc) }
 
 from_turn : (w : World) (q : Party) (x : Place) (fs : List Place) (v : ℕ) → w.stack q ≡ record { top = x; below = fs } → IfSome (after_choice w q (record { top = x; below = fs }) x v) (Turns w)
-from_turn w q (PickVictim k) fs v e = if_cond (Turns w) (nat_lt v (w.shape.pool (own_pool q)).workers) _ (λ b. thief_turn w q (PickVictim k) fs _ e refl refl)
-from_turn w q YieldPick fs v e = if_cond (Turns w) (nat_lt v (w.shape.pool (own_pool q)).workers) _ (λ b. thief_turn w q YieldPick fs _ e refl refl)
+from_turn w q (PickVictim k) fs v e = if_cond (Turns w) (nat_lt v (w.shape.pool (own_pool q)).workers) _ (λ b. thief_turn w q (PickVictim k) fs _ e refl (refl, refl))
+from_turn w q YieldPick fs v e = if_cond (Turns w) (nat_lt v (w.shape.pool (own_pool q)).workers) _ (λ b. thief_turn w q YieldPick fs _ e refl (refl, refl))
 from_turn w q _ fs v e = tt
 
 miss_turn : (w : World) (q : Party) (x : Place) (fs : List Place) → w.stack q ≡ record { top = x; below = fs } → IfSome (after_miss w q (record { top = x; below = fs }) x) (Turns w)
-miss_turn w (Worker a b) (StealFrom k n) fs e = if_cond (Turns w) (can_miss w a k.victim) _ (λ z. thief_turn w (Worker a b) (StealFrom k n) fs _ e refl refl)
-miss_turn w (Worker a b) (YieldSteal v n) fs e = if_cond (Turns w) (can_miss w a v) _ (λ z. thief_turn w (Worker a b) (YieldSteal v n) fs _ e refl refl)
+miss_turn w (Worker a b) (StealFrom k n) fs e = if_cond (Turns w) (can_miss w a k.victim) _ (λ z. thief_turn w (Worker a b) (StealFrom k n) fs _ e refl (refl, refl))
+miss_turn w (Worker a b) (YieldSteal v n) fs e = if_cond (Turns w) (can_miss w a v) _ (λ z. thief_turn w (Worker a b) (YieldSteal v n) fs _ e refl (refl, refl))
 miss_turn w (Worker a b) _ fs e = tt
 miss_turn w (Caller n) _ fs e = tt
 
--- where a call goes whose push was refused
-unpushed_honest : (n : Plan) → (is_thief (after_push n) ≡ false) × (taken (after_push n) ≡ None)
-unpushed_honest (Detach p t) = (refl, refl)
-unpushed_honest (Here p t) = (refl, refl)
-unpushed_honest (Send o) = (refl, refl)
-unpushed_honest (Fork o a) = (refl, refl)
-unpushed_honest (Feed f) = (refl, refl)
-unpushed_honest (Open o) = (refl, refl)
-unpushed_honest (Enter e) = (refl, refl)
+-- where a party stands after a refusal
+refused : (w : World) (q : Party) (x y : Place) (fs : List Place) → w.stack q ≡ record { top = x; below = fs } → (taken x ≡ None) × (is_stopped x ≡ false) → (is_thief y ≡ false) × (taken y ≡ None) → Turns w (record w { stack = put_stack w.stack q (record { top = y; below = fs }) })
+refused w q x y fs e n z = record { party = q; to = record { top = y; below = fs }; stack = λ r. refl; seat = λ p i. refl; empty = at_place w q x fs (λ y. (taken y ≡ None) × (is_stopped y ≡ false)) e n; honest = λ h. z }
 
 refuse_turn : (w : World) (q : Party) (x : Place) (fs : List Place) → w.stack q ≡ record { top = x; below = fs } → IfSome (after_refusal w q (record { top = x; below = fs })) (Turns w)
-refuse_turn w q (GrowCall n) fs e = record { party = q; to = _; stack = λ r. refl; seat = λ p i. refl; empty = at_place w q (GrowCall n) fs (λ y. taken y ≡ None) e refl; honest = λ h. (refl, refl) }
-refuse_turn w q (GrowScope n) fs e = record { party = q; to = _; stack = λ r. refl; seat = λ p i. refl; empty = at_place w q (GrowScope n) fs (λ y. taken y ≡ None) e refl; honest = λ h. (refl, refl) }
-refuse_turn w q (OpenSlot n) fs e = record { party = q; to = _; stack = λ r. refl; seat = λ p i. refl; empty = at_place w q (OpenSlot n) fs (λ y. taken y ≡ None) e refl; honest = λ h. (refl, refl) }
-refuse_turn w q (PushJob n v) fs e = record { party = q; to = _; stack = λ r. refl; seat = λ p i. refl; empty = at_place w q (PushJob n v) fs (λ y. taken y ≡ None) e refl; honest = λ h. unpushed_honest n }
-refuse_turn w q (AddToFifo f) fs e = record { party = q; to = _; stack = λ r. refl; seat = λ p i. refl; empty = at_place w q (AddToFifo f) fs (λ y. taken y ≡ None) e refl; honest = λ h. (refl, refl) }
-refuse_turn w q (PushToken f v) fs e = record { party = q; to = _; stack = λ r. refl; seat = λ p i. refl; empty = at_place w q (PushToken f v) fs (λ y. taken y ≡ None) e refl; honest = λ h. (refl, refl) }
-refuse_turn w q (PushForAll c) fs e = record { party = q; to = _; stack = λ r. refl; seat = λ p i. refl; empty = at_place w q (PushForAll c) fs (λ y. taken y ≡ None) e refl; honest = λ h. (refl, refl) }
+refuse_turn w q (GrowCall n) fs e = refused w q (GrowCall n) (undo n) fs e (refl, refl) (refl, refl)
+refuse_turn w q (GrowScope n) fs e = refused w q (GrowScope n) (undo (Open n)) fs e (refl, refl) (refl, refl)
+refuse_turn w q (GrowCast n) fs e = refused w q (GrowCast n) (undo (Gather n)) fs e (refl, refl) (refl, refl)
+refuse_turn w q (DealPieces n) fs e = refused w q (DealPieces n) (undo (Gather n)) fs e (refl, refl) (refl, refl)
+refuse_turn w q (OpenSlot n) fs e = refused w q (OpenSlot n) (undo n) fs e (refl, refl) (refl, refl)
+refuse_turn w q (OpenForAll c) fs e = refused w q (OpenForAll c) (LowerForAll c) fs e (refl, refl) (refl, refl)
+refuse_turn w q (PushJob n v) fs e = refused w q (PushJob n v) (after_push n) fs e (refl, refl) (withdraw_honest (plan_book n) n)
+refuse_turn w q (AddToFifo f) fs e = refused w q (AddToFifo f) (after_push (Feed f)) fs e (refl, refl) (withdraw_honest (count_book f.count) (Feed f))
+refuse_turn w q (PushToken f v) fs e = refused w q (PushToken f v) (TakeFromFifo f) fs e (refl, refl) (refl, refl)
+refuse_turn w q (PushForAll c) fs e = refused w q (PushForAll c) (end_cast c.count c) fs e (refl, refl) ((cast_honest c.count c).1)
 refuse_turn w q _ fs e = tt
 
 goes_honest : (f : Place) (e : Ending) → is_frame f ≡ true → (is_thief (goes_on f e) ≡ false) × (taken (goes_on f e) ≡ None)
@@ -228,15 +326,18 @@ close_honest : (t : ℕ) (k : JobKind) (d : Ending) (fs : List Place) → AllFra
 close_honest t (Detached p) d fs a = (refl, refl)
 close_honest t (Stored c o) d fs a = (refl, refl)
 close_honest t (Scoped c o) d fs a = (refl, refl)
+close_honest t (PieceOf c o) d fs a = (refl, refl)
 close_honest t Direct d [] a = (refl, refl)
-close_honest t (TokenOf i) d [] a = (refl, refl)
+close_honest t (TokenOf i b8) d [] a = (refl, refl)
 close_honest t (BodyOf c9 o9) d [] a = (refl, refl)
+close_honest t (WholeOf c9 o9) d [] a = (refl, refl)
 close_honest t Direct d (f ∷ fs) a = goes_honest f d (a.0)
-close_honest t (TokenOf i) d (f ∷ fs) a = goes_honest f d (a.0)
+close_honest t (TokenOf i b8) d (f ∷ fs) a = goes_honest f d (a.0)
 close_honest t (BodyOf c9 o9) d (f ∷ fs) a = goes_honest f d (a.0)
+close_honest t (WholeOf c9 o9) d (f ∷ fs) a = goes_honest f d (a.0)
 
 end_turn : (w : World) (q : Party) (d : Ending) (x : Place) (fs : List Place) → w.stack q ≡ record { top = x; below = fs } → AllFrames fs → IfSome (after_end w q d (record { top = x; below = fs }) x) (Turns w)
-end_turn w q d (Run t k) fs e a = record { party = q; to = after_close t k d fs; stack = λ r. refl; seat = λ p i. refl; empty = at_place w q (Run t k) fs (λ y. taken y ≡ None) e refl; honest = λ h. close_honest t k d fs a }
+end_turn w q d (Run t k) fs e a = record { party = q; to = after_close t k d fs; stack = λ r. refl; seat = λ p i. refl; empty = at_place w q (Run t k) fs (λ y. (taken y ≡ None) × (is_stopped y ≡ false)) e (refl, refl); honest = λ h. close_honest t k d fs a }
 end_turn w q d _ fs e a = tt
 
 spawn_turn : (w : World) (q : Party) (p : ℕ) → IfSome (after_spawn w q p (w.stack q)) (Turns w)
@@ -260,6 +361,17 @@ scope_turn w q p = if_cond (Turns w) (is_free ((w.stack q).top) && is_pool w.sha
 
 into_turn : (w : World) (q : Party) (n : ℕ) → IfSome (after_into w q n (w.stack q)) (Turns w)
 into_turn w q n = into_cases (Turns w) w q n (λ z e free held. if_cond (Turns w) (is_free ((w.stack q).top) && holds z.call (w.stack q)) _ (λ b. record { party = q; to = _; stack = λ r. refl; seat = λ p i. refl; empty = free_empty (w.stack q).top free; honest = λ h. (refl, refl) }))
+
+into_fifo_turn : (w : World) (q : Party) (n : ℕ) → IfSome (after_into_fifo w q n (w.stack q)) (Turns w)
+into_fifo_turn w q n = into_fifo_cases (Turns w) w q n
+    (λ z e free held. if_cond (Turns w) (is_free ((w.stack q).top) && holds z.call (w.stack q)) _ (λ b. record { party = q; to = _; stack = λ r. refl; seat = λ p i. refl; empty = free_empty (w.stack q).top free; honest = λ h. (refl, refl) }))
+    (λ z i e free held. record { party = Worker z.pool i; to = _; stack = λ r. refl; seat = λ p i. refl; empty = free_empty (w.stack (Worker z.pool i)).top free; honest = λ h. (refl, refl) })
+
+into_cast_turn : (w : World) (q : Party) (n : ℕ) → IfSome (after_into_cast w q n (w.stack q)) (Turns w)
+into_cast_turn w q n = into_cast_cases (Turns w) w q n (λ z e free held. record { party = q; to = _; stack = λ r. refl; seat = λ p i. refl; empty = free_empty (w.stack q).top free; honest = λ h. (refl, refl) })
+
+broadcast_turn : (w : World) (q : Party) (p : ℕ) → IfSome (after_broadcast w q p (w.stack q)) (Turns w)
+broadcast_turn w q p = if_cond (Turns w) (is_free ((w.stack q).top) && is_pool w.shape p) _ (λ b. record { party = q; to = _; stack = λ r. refl; seat = λ p i. refl; empty = free_empty (w.stack q).top ((and_parts (is_free ((w.stack q).top)) (is_pool w.shape p) b).0); honest = λ h. (refl, refl) })
 
 join_turn : (w : World) (q : Party) → IfSome (after_join w q (w.stack q)) (Turns w)
 join_turn w (Worker a b) = if_cond (Turns w) (is_free ((w.stack (Worker a b)).top)) _ (λ z. record { party = Worker a b; to = _; stack = λ r. refl; seat = λ p i. refl; empty = free_empty (w.stack (Worker a b)).top z; honest = λ h. (refl, refl) })
@@ -285,6 +397,9 @@ turns w fr (Install q p) z = install_turn w q p
 turns w fr (Join q) z = join_turn w q
 turns w fr (OpenScope q p) z = scope_turn w q p
 turns w fr (IntoSpawn q n) z = into_turn w q n
+turns w fr (IntoFifo q n) z = into_fifo_turn w q n
+turns w fr (IntoCast q n) z = into_cast_turn w q n
+turns w fr (Broadcast q p) z = broadcast_turn w q p
 turns w fr (Yield q) z = yield_turn w q YieldPop (refl, refl)
 turns w fr (YieldLocal q) z = yield_turn w q LocalPop (refl, refl)
 turns w fr (EndPool q p) z = give_turn w q p

@@ -1,16 +1,16 @@
 -- runs of one worker, computed by the kernel: the order of its jobs
 use Rattle.std.proofs.Common.{refl, inl, inr}
-use Rattle.std.specs.Prelude.{ℕ, zero, suc, false, Option, Some, List, [], ◌∷◌, ◌++◌, ◌≡◌}
+use Rattle.std.specs.Prelude.{ℕ, zero, suc, false, Option, Some, None, List, [], ◌∷◌, ◌++◌, ◌≡◌}
 use Rattle.rayon_machine_places.specs.declared.shape.Order.{Order}
 use Rattle.rayon_machine_places.specs.declared.shape.Order.TheVariants.{NewestFirst, OldestFirst}
 use Rattle.rayon_machine_places.specs.declared.place.Party.{Party}
 use Rattle.rayon_machine_places.specs.declared.place.Party.TheVariants.{Worker, Caller}
 use Rattle.rayon_machine_places.specs.declared.place.Ending.TheVariants.{Fine}
 use Rattle.rayon_machine_places.specs.declared.event.Event.{Event}
-use Rattle.rayon_machine_places.specs.declared.event.Event.TheVariants.{Go, Refuse, End, Spawn, YieldLocal}
+use Rattle.rayon_machine_places.specs.declared.event.Event.TheVariants.{Go, Refuse, End, Spawn, Fifo, YieldLocal}
 use Rattle.rayon_machine_places.specs.Runs.{start}
 use Rattle.rayon_machine_places.specs.World.{World}
-use Rattle.rayon_machine_orders.specs.Order.{Happening, Adds, Begins, happenings, begun_in, NoTree, Tree, walk, IsWalk, TokenList}
+use Rattle.rayon_machine_orders.specs.Order.{Happening, Adds, Queues, Retakes, Begins, Redeems, happenings, begun_in, in_line, NoTree, Tree, walk, IsWalk, TokenList}
 
 abbrev gos : Party → ℕ → List Event
 gos q zero = []
@@ -100,7 +100,36 @@ robbed : happenings 0 beside_thief (Spawn c 0 ∷ gos c 4 ++ gos a 12 ++ spawns 
 robbed = refl
 
 -- no token list hands the jobs out so
-robbed_list : (left : List ℕ) → TokenList OldestFirst [] after_theft left → ⊥
-robbed_list left (inl (rest, h, more)) = cc
-robbed_list left (inr (z, inl (rest, h, more))) = cc
-robbed_list left (inr (z, inr (y, more))) = cc
+robbed_list : (left : List ℕ) (rest : Option ℕ → List ℕ) → TokenList OldestFirst [] (λ b. []) after_theft left rest → ⊥
+robbed_list left rest (inl (m, h, more)) = cc
+robbed_list left rest (inr (z, inl (m, h, more))) = cc
+robbed_list left rest (inr (z, inr (y, more))) = cc
+
+-- the worker spawns a job in order, and one whose token does not fit: it takes the job back
+abbrev feeds : List Event
+feeds = Fifo a 0 ∷ gos a 5
+
+abbrev fails : List Event
+fails = Fifo a 0 ∷ gos a 3 ++ Refuse a ∷ gos a 2
+
+-- its run ends, and it redeems the next token of its deque
+abbrev redeems : List Event
+redeems = End a Fine ∷ gos a 4
+
+-- a caller's job 0 spawns 1 in order, fails with 3, and spawns 5; each of these spawns one more
+abbrev fifo_run : List Event
+fifo_run = Spawn c 0 ∷ gos c 4 ++ gos a 10 ++ feeds ++ fails ++ feeds ++ redeems ++ feeds ++ redeems ++ feeds ++ redeems ++ redeems
+
+-- the newest token comes first, and begins the oldest job
+in_order : happenings 0 (alone NewestFirst) fifo_run ≡ Begins 0 ∷ Queues None (Some 0) 1 ∷ Adds (Some 0) 2 ∷ Queues None (Some 0) 3 ∷ Retakes None ∷ Queues None (Some 0) 5 ∷ Adds (Some 0) 6 ∷ Redeems 6 None (Some 1) ∷ Queues None (Some 1) 7 ∷ Adds (Some 1) 8 ∷ Redeems 8 None (Some 5) ∷ Queues None (Some 5) 9 ∷ Adds (Some 5) 10 ∷ Redeems 10 None (Some 7) ∷ Redeems 2 None (Some 9) ∷ []
+in_order = refl
+
+-- so the jobs begin level by level
+level_walk : IsWalk OldestFirst [] (in_line None (happenings 0 (alone NewestFirst) fifo_run)) []
+level_walk = record {
+  standing = NoTree;
+  arrived = Tree 0 (Tree 1 (Tree 7 NoTree NoTree) (Tree 5 (Tree 9 NoTree NoTree) NoTree)) NoTree;
+  top = refl;
+  below = (tt, (refl, ((refl, ((refl, (tt, tt)), (refl, ((refl, (tt, tt)), tt)))), tt)));
+  order = refl;
+}

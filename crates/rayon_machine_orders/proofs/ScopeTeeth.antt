@@ -6,7 +6,7 @@ use Rattle.rayon_machine_places.specs.declared.place.Party.{Party}
 use Rattle.rayon_machine_places.specs.declared.place.Ending.{Ending}
 use Rattle.rayon_machine_places.specs.declared.place.Ending.TheVariants.{Fine, Fault}
 use Rattle.rayon_machine_places.specs.declared.place.Plan.TheVariants.{Enter}
-use Rattle.rayon_machine_places.specs.declared.place.Count.TheVariants.{OfPool, OfScope}
+use Rattle.rayon_machine_places.specs.declared.place.Count.TheVariants.{OfScope, OfPool}
 use Rattle.rayon_machine_places.specs.declared.place.Share.TheVariants.{Body, OfJob}
 use Rattle.rayon_machine_places.specs.declared.place.Place.{Place}
 use Rattle.rayon_machine_places.specs.declared.place.Place.TheVariants.{CloseSlot, LowerCount, GrowScope, OpenSlot, LookQueue, StoreSlot}
@@ -29,7 +29,7 @@ use Rattle.rayon_machine_places.specs.World.{Shape, World, Counts, Part, Outcome
 use Rattle.rayon_machine_laws.specs.Once.{one}
 use Rattle.rayon_machine_laws.specs.Shares.{shares, is_busy}
 use Rattle.rayon_machine_laws.specs.Counted.{has_entry, keeps_own}
-use Rattle.rayon_machine_orders.proofs.WrongMachines.{Machine, step_by, run_by, times_go, two, b, c, right}
+use Rattle.rayon_machine_orders.proofs.WrongMachines.{Machine, step_by, run_by, times_go, two, b, c, right, doing, leading}
 use Rattle.rayon_machine_orders.proofs.CallTeeth.{any_by, is_back, Ends}
 use Rattle.rayon_machine_laws.specs.End.{Verdict, AllFine, LastFault, follows}
 use Rattle.rayon_machine_orders.specs.Calls.{caller_of, is_scope, is_at_call, is_refusal, verdict_of}
@@ -49,7 +49,7 @@ record EndsEarly (w : World) : Type 0 where
   pool : (w.job 1).pool ≡ 0
   counted : (w.job 1).counted ≡ true
 
-scope_leaves_its_job : IfSome (run_by (record { does = effect; next = sets_early }) (two 32) (left_run ++ times_go c 7)) EndsEarly
+scope_leaves_its_job : IfSome (run_by (leading sets_early) (two 32) (left_run ++ times_go c 7)) EndsEarly
 scope_leaves_its_job = record { latch = refl; pool = refl; counted = refl }
 
 -- in the machine as it is the scope's latch is not set
@@ -58,7 +58,7 @@ scope_waits_for_its_job = (refl, refl, refl)
 
 -- a refused spawn into a scope takes its number back, and keeps its share of the scope's count
 abbrev keeps_entry : PoolShape → Party → Place → Seen → Move
-keeps_entry h q (CloseSlot x) e = HandBack (Enter x)
+keeps_entry h q (CloseSlot n) e = HandBack n
 keeps_entry h q x e = next_of h q x e
 
 abbrev refused_run : List Event
@@ -71,7 +71,7 @@ record Unkept (w : World) : Type 0 where
   party : shares 1 (w.stack c) ≡ 0
   owner : keeps_own (w.job 1) ≡ false
 
-refused_spawn_keeps_its_share : IfSome (run_by (record { does = effect; next = keeps_entry }) (two 32) refused_run) Unkept
+refused_spawn_keeps_its_share : IfSome (run_by (leading keeps_entry) (two 32) refused_run) Unkept
 refused_spawn_keeps_its_share = record { counted = refl; party = refl; owner = refl }
 
 -- the machine as it is gives it back
@@ -88,7 +88,7 @@ record Miscounted (w : World) : Type 0 where
   number : (w.call 0).count ≡ 1
   shares : (one (w.call 0).counted + count_below w.jobs (λ t. has_entry 0 (w.job t))) ≡ 0
 
-lower_lowers_no_scope : IfSome (run_by (record { does = leaves_number; next = next_of }) (two 32) (OpenScope c 0 ∷ times_go c 2 ++ End c Fine ∷ times_go c 2)) Miscounted
+lower_lowers_no_scope : IfSome (run_by (doing leaves_number) (two 32) (OpenScope c 0 ∷ times_go c 2 ++ End c Fine ∷ times_go c 2)) Miscounted
 lower_lowers_no_scope = record { number = refl; shares = refl }
 
 -- the calls of scopes: in the machine as it is a scope's body faults, and the scope is over
@@ -116,7 +116,7 @@ keeps_job h q (LowerCount k s (GiveBack (Enter x))) No = Back
 keeps_job h q x e = next_of h q x e
 
 -- the clause of calls is broken: a step of the spawn was refused, it is over, and its job is not handed back
-refused_spawn_keeps_its_job : Ends (record { does = effect; next = keeps_job }) opened c (IntoSpawn c 0) (times_go c 3 ++ Refuse c ∷ times_go c 2) true 1 (Made c)
+refused_spawn_keeps_its_job : Ends (leading keeps_job) opened c (IntoSpawn c 0) (times_go c 3 ++ Refuse c ∷ times_go c 2) true 1 (Made c)
 refused_spawn_keeps_its_job = record { caller = refl; back = refl; until = refl; refused = refl; mine = refl; at = refl }
 
 -- a scope of the party that is over, begun in w and not refused, and a job of it is queued
@@ -133,7 +133,7 @@ record LeavesJobs (m : Machine) (q : Party) (e : Event) (between : List Event) (
 abbrev left_call : List Event
 left_call = times_go c 2 ++ IntoSpawn c 0 ∷ times_go c 5 ++ End c Fine ∷ times_go c 6
 
-scope_is_over_before_its_job : IfSome (two 32) (λ w. IfSome (step_by (record { does = effect; next = sets_early }) w (OpenScope c 0)) (λ v. IfSome (run_by (record { does = effect; next = sets_early }) (Some v) left_call) (LeavesJobs (record { does = effect; next = sets_early }) c (OpenScope c 0) left_call 1 w v)))
+scope_is_over_before_its_job : IfSome (two 32) (λ w. IfSome (step_by (leading sets_early) w (OpenScope c 0)) (λ v. IfSome (run_by (leading sets_early) (Some v) left_call) (LeavesJobs (leading sets_early) c (OpenScope c 0) left_call 1 w v)))
 scope_is_over_before_its_job = record { caller = refl; scope = refl; back = refl; until = refl; refused = refl; kind = refl; busy = refl }
 
 -- a scope gives its body's share back, and its body never runs
@@ -151,7 +151,7 @@ record LowersUnrun (m : Machine) (q : Party) (e : Event) (between : List Event) 
   act : act_of q (u.stack q).top ≡ Lower (OfScope 0 c) Body
   runs : (u.job (v.jobs - 1)).runs ≡ 0
 
-scope_lowers_without_its_body : IfSome (two 32) (λ w. IfSome (step_by (record { does = effect; next = runs_nothing }) w (OpenScope c 0)) (λ v. IfSome (run_by (record { does = effect; next = runs_nothing }) (Some v) (times_go c 2)) (LowersUnrun (record { does = effect; next = runs_nothing }) c (OpenScope c 0) (times_go c 2) w v)))
+scope_lowers_without_its_body : IfSome (two 32) (λ w. IfSome (step_by (leading runs_nothing) w (OpenScope c 0)) (λ v. IfSome (run_by (leading runs_nothing) (Some v) (times_go c 2)) (LowersUnrun (leading runs_nothing) c (OpenScope c 0) (times_go c 2) w v)))
 scope_lowers_without_its_body = record { caller = refl; until = refl; refused = refl; own = refl; act = refl; runs = refl }
 
 -- the books of scopes: who opens a number does not hold the book
@@ -165,11 +165,11 @@ shared_run = opened ++ IntoSpawn c 0 ∷ times_go c 5 ++ times_go b 12 ++ IntoSp
 
 -- the clause of books is broken where the caller's push is refused: its number is not the last
 record Misplaced (w : World) : Type 0 where
-  top : (w.stack c).top ≡ CloseSlot (record { call = 0; owner = c; pool = 0; job = 2 })
+  top : (w.stack c).top ≡ CloseSlot (Enter (record { call = 0; owner = c; pool = 0; job = 2 }))
   slot : (w.job 2).slot ≡ IsOpen 1
   slots : (w.call 0).slots ≡ 3
 
-opener_leaves_the_book : IfSome (run_by (record { does = holds_no_book; next = next_of }) (two 32) (shared_run ++ times_go c 1 ++ Refuse c ∷ [])) Misplaced
+opener_leaves_the_book : IfSome (run_by (doing holds_no_book) (two 32) (shared_run ++ times_go c 1 ++ Refuse c ∷ [])) Misplaced
 opener_leaves_the_book = record { top = refl; slot = refl; slots = refl }
 
 -- in the machine as it is the caller holds the book, and the worker's Slot is not enabled
@@ -184,7 +184,7 @@ book_is_held = refl
 
 -- a refused Slot goes on to the push
 abbrev pushes_unnumbered : PoolShape → Party → Place → Seen → Move
-pushes_unnumbered h q (OpenSlot x) e = Stay (LookQueue (Enter x))
+pushes_unnumbered h q (OpenSlot n) e = Stay (LookQueue n)
 pushes_unnumbered h q x e = next_of h q x e
 
 -- the clause of books is broken: how the job ended is to be stored, and it has no number
@@ -192,7 +192,7 @@ record Unnumbered (w : World) : Type 0 where
   top : (w.stack b).top ≡ StoreSlot 0 c 1 Fine
   slot : (w.job 1).slot ≡ Closed
 
-refused_slot_goes_on : IfSome (run_by (record { does = effect; next = pushes_unnumbered }) (two 32) (opened ++ IntoSpawn c 0 ∷ times_go c 1 ++ Refuse c ∷ times_go c 3 ++ times_go b 12 ++ End b Fine ∷ [])) Unnumbered
+refused_slot_goes_on : IfSome (run_by (leading pushes_unnumbered) (two 32) (opened ++ IntoSpawn c 0 ∷ times_go c 1 ++ Refuse c ∷ times_go c 3 ++ times_go b 12 ++ End b Fine ∷ [])) Unnumbered
 refused_slot_goes_on = record { top = refl; slot = refl }
 
 -- the clause of books is broken where the end of the body sets the scope's latch: the scope is to take, and its count is
@@ -202,7 +202,7 @@ record TakesEarly (w : World) : Type 0 where
   count : (w.call 0).count ≡ 1
   slot : (w.job 1).slot ≡ IsOpen 0
 
-scope_takes_early : IfSome (run_by (record { does = effect; next = sets_early }) (two 32) (opened ++ IntoSpawn c 0 ∷ times_go c 5 ++ End c Fine ∷ times_go c 4)) TakesEarly
+scope_takes_early : IfSome (run_by (leading sets_early) (two 32) (opened ++ IntoSpawn c 0 ∷ times_go c 5 ++ End c Fine ∷ times_go c 4)) TakesEarly
 scope_takes_early = record { act = refl; count = refl; slot = refl }
 
 -- the faults of scopes: a job of the scope faults, and then the body ends
@@ -221,7 +221,7 @@ record Forgets (w : World) : Type 0 where
   kind : (w.job 1).kind ≡ Scoped 0 c
   at : (w.job 1).at ≡ Over Fault
 
-book_forgets_a_fault : IfSome (run_by (record { does = forgets_faults; next = next_of }) (two 32) (opened ++ faulted_job ++ End c Fine ∷ times_go c 4)) Forgets
+book_forgets_a_fault : IfSome (run_by (doing forgets_faults) (two 32) (opened ++ faulted_job ++ End c Fine ∷ times_go c 4)) Forgets
 book_forgets_a_fault = record { act = refl; kept = refl; kind = refl; at = refl }
 
 -- a book keeps the fault that was stored last
@@ -239,7 +239,7 @@ record Replaces (m : Machine) (w : World) : Type 0 where
   kept : (w.call 0).fault ≡ Some 1
   after : IfSome (run_by m (Some w) (times_go c 1)) (λ v. (v.call 0).fault ≡ Some 0)
 
-book_keeps_the_last_fault : IfSome (run_by (record { does = keeps_last; next = next_of }) (two 32) (opened ++ faulted_job ++ End c Fault ∷ [])) (Replaces (record { does = keeps_last; next = next_of }))
+book_keeps_the_last_fault : IfSome (run_by (doing keeps_last) (two 32) (opened ++ faulted_job ++ End c Fault ∷ [])) (Replaces (doing keeps_last))
 book_keeps_the_last_fault = record { act = refl; kept = refl; after = refl }
 
 -- the machine as it is keeps the first
@@ -271,7 +271,7 @@ abbrev faulted_call : List Event
 faulted_call = times_go c 2 ++ faulted_job ++ End c Fine ∷ times_go c 5
 
 -- the clause of calls is broken: it answers no fault
-take_sees_the_body_alone : IfSome (two 32) (λ w. IfSome (step_by (record { does = sees_body; next = next_of }) w (OpenScope c 0)) (λ v. IfSome (run_by (record { does = sees_body; next = next_of }) (Some v) faulted_call) (AnswersSo (record { does = sees_body; next = next_of }) c (OpenScope c 0) faulted_call AllFine w v)))
+take_sees_the_body_alone : IfSome (two 32) (λ w. IfSome (step_by (doing sees_body) w (OpenScope c 0)) (λ v. IfSome (run_by (doing sees_body) (Some v) faulted_call) (AnswersSo (doing sees_body) c (OpenScope c 0) faulted_call AllFine w v)))
 take_sees_the_body_alone = record { caller = refl; scope = refl; until = refl; refused = refl; own = refl; act = refl; answer = refl; kept = refl }
 
 -- the machine as it is answers one

@@ -6,15 +6,18 @@ use Rattle.std.proofs.lemmas.List.{append_assoc}
 use Rattle.rayon_machine_places.specs.declared.shape.Order.{Order}
 use Rattle.rayon_machine_places.specs.declared.shape.Order.TheVariants.{NewestFirst, OldestFirst}
 use Rattle.rayon_machine_laws.specs.Once.{one, times}
-use Rattle.rayon_machine_orders.specs.Order.{Happening, Adds, Begins, Redeems, Hands, Trees, NoTree, Tree, roots, walk_back, beside, levels, joined, walk, walk_each, same_run, added_by, begun_in, AreSpawned, reversed, handed}
+use Rattle.rayon_machine_orders.specs.Order.{Happening, Adds, Queues, Retakes, Begins, Redeems, Hands, Trees, NoTree, Tree, roots, walk_back, beside, levels, joined, walk, walk_each, same_run, added_by, begun_in, AreSpawned, reversed, handed}
 use Rattle.rayon_machine_laws.proofs.Frame.{either}
 
 -- a job is neither added nor begun
 abbrev pub Absent : ℕ → List Happening → Type 0
 Absent s [] = ⊤
 Absent s (Adds by t ∷ hs) = (s ≢ t) × Absent s hs
+Absent s (Queues b by t ∷ hs) = (s ≢ t) × Absent s hs
+Absent s (Retakes b ∷ hs) = Absent s hs
 Absent s (Begins t ∷ hs) = (s ≢ t) × Absent s hs
-Absent s (Redeems t ∷ hs) = Absent s hs
+Absent s (Redeems k b (Some t) ∷ hs) = (s ≢ t) × Absent s hs
+Absent s (Redeems k b None ∷ hs) = Absent s hs
 
 -- a job that stands in no list and never will, nor begin
 abbrev pub Fresh : Option ℕ → List ℕ → List Happening → Type 0
@@ -27,7 +30,7 @@ abbrev pub Orderly : Order → Option ℕ → List ℕ → List Happening → Li
 Orderly o r l [] left = left ≡ l
 Orderly o r l (Adds by t ∷ hs) left = (by ≡ r) × Orderly o r (l ++ t ∷ []) hs left
 Orderly o r l (Begins t ∷ hs) left = ((rest : List ℕ) × Hands o l t rest × Fresh (Some t) rest hs × Orderly o (Some t) rest hs left) ⊎ ((l ≡ []) × Fresh (Some t) [] hs × Orderly o (Some t) [] hs left)
-Orderly o r l (Redeems t ∷ hs) left = ⊥
+Orderly o r l (_ ∷ hs) left = ⊥
 
 nil_right : {A : Type 0} (l : List A) → l ++ [] ≡ l
 nil_right [] = refl
@@ -201,7 +204,9 @@ gone o r t l (Adds by c ∷ hs) left n f a = ap (λ b. if b then c ∷ added_by 
     other : (r : Option ℕ) → ((s : ℕ) → r ≡ Some s → s ≢ t) → same_run r (Some t) ≡ false
     other None n = refl
     other (Some s) n = apart s t (λ e. n s refl (sym e))
-gone o r t l (Redeems c ∷ hs) left n f a = absurd a
+gone o r t l (Redeems k b x ∷ hs) left n f a = absurd a
+gone o r t l (Queues b by c ∷ hs) left n f a = absurd a
+gone o r t l (Retakes b ∷ hs) left n f a = absurd a
 gone o r t l (Begins c ∷ hs) left n f (inl (rest, h, fresh, a)) = gone o r c rest hs left (λ s e. (f s e).0) (λ s e. (f s e).1) a
 gone o r t l (Begins c ∷ hs) left n f (inr (e, fresh, a)) = gone o r c [] hs left (λ s e. (f s e).0) (λ s e. (f s e).1) a
 
@@ -295,6 +300,8 @@ come_grown o r l t hs left f e a g = record {
 pub grown : (o : Order) (r : Option ℕ) (l : List ℕ) (hs : List Happening) (left : List ℕ) → Fresh r l hs → Orderly o r l hs left → Grown o r l hs left
 grown o r l [] left f a = leaf_grown o r l left a
 grown o r l (Adds by t ∷ hs) left f a = add_grown o r by l t hs left (a.0) f (grown o r (l ++ t ∷ []) hs left (fresh_more r l t by hs f) (a.1))
-grown o r l (Redeems t ∷ hs) left f a = absurd a
+grown o r l (Redeems k b x ∷ hs) left f a = absurd a
+grown o r l (Queues b by t ∷ hs) left f a = absurd a
+grown o r l (Retakes b ∷ hs) left f a = absurd a
 grown o r l (Begins t ∷ hs) left f (inl (rest, h, fresh, a)) = hand_grown o r l rest t hs left f h a (grown o (Some t) rest hs left fresh a)
 grown o r l (Begins t ∷ hs) left f (inr (e, fresh, a)) = come_grown o r l t hs left f e a (grown o (Some t) [] hs left fresh a)

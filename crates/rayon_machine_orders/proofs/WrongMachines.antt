@@ -26,7 +26,7 @@ use Rattle.rayon_machine_places.specs.declared.state.Whereabouts.TheVariants.{In
 use Rattle.rayon_machine_places.specs.declared.shape.PoolShape.{PoolShape}
 use Rattle.rayon_machine_places.specs.declared.place.Settling.{Settling}
 use Rattle.rayon_machine_places.specs.Places.{own_pool, finish, act_of, next_of, is_refusable}
-use Rattle.rayon_machine_places.specs.World.{Shape, Stack, World, count_below, Counts, counts_at, is_even, jec, head_of, last_of, but_first, popped, Part, target_pool, target_worker, target_call, target_job, Outcome, at_job, lowered, effect, count_in}
+use Rattle.rayon_machine_places.specs.World.{Shape, Seat, Pool, Stack, World, or_none, count_below, Counts, counts_at, is_even, jec, head_of, last_of, but_first, popped, Part, target_pool, target_worker, target_call, target_job, Outcome, at_job, lowered, effect, count_in}
 use Rattle.rayon_machine_places.specs.Steps.{put, put_stack, put_seat, part_of, after_move, jobs_after, step}
 use Rattle.rayon_machine_places.specs.Runs.{start}
 use Rattle.rayon_machine_laws.specs.Once.{one, times, in_injector, is_with, held}
@@ -36,12 +36,30 @@ use Rattle.rayon_machine_laws.specs.End.{follows}
 use Rattle.rayon_machine_laws.specs.Committed.{is_committed, is_looking}
 use Rattle.rayon_machine_laws.specs.Attended.{is_filled, has_pushed, owes_wake, settles}
 use Rattle.rayon_machine_laws.specs.Turn.{is_adding, is_added, is_news}
-use Rattle.rayon_machine_orders.specs.Order.{Happening, Adds, Begins, happening, and_next, TokenList}
+use Rattle.rayon_machine_orders.specs.Order.{Happening, Adds, Begins, happened, and_next, TokenList}
 
--- a machine: what each act does, and where it leads
+-- a machine: the act that a place names, the job that an act touches, what each act does, where it leads, and what the
+-- events make that are no act
 pub record Machine : Type 0 where
+  pub act : Party → Place → Act
+  pub aims : Shape → Party → Act → Pool → Seat → ℕ
   pub does : Act → Shape → Party → Counts → Part → Outcome
   pub next : PoolShape → Party → Place → Seen → Move
+  pub made : World → Event → Option World
+
+-- one whose acts do something else, one whose acts touch another job too, one whose acts lead elsewhere, and one whose
+-- events make something else
+abbrev pub doing : (Act → Shape → Party → Counts → Part → Outcome) → Machine
+doing f = record { act = act_of; aims = target_job; does = f; next = next_of; made = step }
+
+abbrev pub aiming : (Shape → Party → Act → Pool → Seat → ℕ) → (Act → Shape → Party → Counts → Part → Outcome) → Machine
+aiming g f = record { act = act_of; aims = g; does = f; next = next_of; made = step }
+
+abbrev pub leading : (PoolShape → Party → Place → Seen → Move) → Machine
+leading f = record { act = act_of; aims = target_job; does = effect; next = f; made = step }
+
+abbrev pub making : (World → Event → Option World) → Machine
+making f = record { act = act_of; aims = target_job; does = effect; next = next_of; made = f }
 
 -- a party's act, as `act_at` and `after` have it
 abbrev pub done_by : Machine → World → Party → Stack → Act → Outcome → Option World
@@ -51,11 +69,11 @@ done_by m w q s a (Some r) = Some (record w {
   seat = put_seat w.seat (target_pool q a) (target_worker q a) (r.1.seat);
   pool = put w.pool (target_pool q a) (r.1.pool);
   call = put w.call (target_call a) (r.1.call);
-  job = jobs_after q (m.next (w.shape.pool (target_pool q a)) q s.top (r.0)) (put w.job (target_job w.shape q a (w.pool (target_pool q a)) (w.seat (target_pool q a) (target_worker q a))) (r.1.job));
+  job = jobs_after q (m.next (w.shape.pool (target_pool q a)) q s.top (r.0)) (put w.job (m.aims w.shape q a (w.pool (target_pool q a)) (w.seat (target_pool q a) (target_worker q a))) (r.1.job));
 })
 
 abbrev pub act_by : Machine → World → Party → Stack → Act → Option World
-act_by m w q s a = done_by m w q s a (m.does a w.shape q (counts_at w (target_pool q a)) (part_of w (target_pool q a) (target_worker q a) (target_call a) (target_job w.shape q a (w.pool (target_pool q a)) (w.seat (target_pool q a) (target_worker q a)))))
+act_by m w q s a = done_by m w q s a (m.does a w.shape q (counts_at w (target_pool q a)) (part_of w (target_pool q a) (target_worker q a) (target_call a) (m.aims w.shape q a (w.pool (target_pool q a)) (w.seat (target_pool q a) (target_worker q a)))))
 
 -- a party's next act is refused, as `after_refusal` has it; where the machine leads to the call's last step at once,
 -- that is made too
@@ -69,9 +87,9 @@ refused_by m w q s =
     else None
 
 abbrev pub step_by : Machine → World → Event → Option World
-step_by m w (Go q) = act_by m w q (w.stack q) (act_of q (w.stack q).top)
+step_by m w (Go q) = act_by m w q (w.stack q) (m.act q (w.stack q).top)
 step_by m w (Refuse q) = refused_by m w q (w.stack q)
-step_by m w e = step w e
+step_by m w e = m.made w e
 
 abbrev pub then_by : Machine → Option World → Event → Option World
 then_by m None e = None
@@ -114,7 +132,7 @@ record Unattended (w : World) (i : ℕ) : Type 0 where
 
 -- the machine as it is
 abbrev pub right : Machine
-right = record { does = effect; next = next_of }
+right = leading next_of
 
 -- the last look at the injector comes before the worker counts itself as sleeping
 abbrev early_look : PoolShape → Party → Place → Seen → Move
@@ -128,7 +146,7 @@ early_look h q x e = next_of h q x e
 abbrev early_run : List Event
 early_run = times_go a 22 ++ times_go b 10 ++ Spawn c 0 ∷ times_go c 4 ++ Spawn d 0 ∷ times_go d 4 ++ times_go b 8 ++ times_go a 2
 
-injector_looked_at_before_counted : IfSome (run_by (record { does = effect; next = early_look }) (two 1) early_run) (λ w. Unattended w 0)
+injector_looked_at_before_counted : IfSome (run_by (leading early_look) (two 1) early_run) (λ w. Unattended w 0)
 injector_looked_at_before_counted = record { filled = refl; committed = refl; looks = refl; wakers = refl }
 
 -- a sleeper skips its last look at the injector
@@ -139,7 +157,7 @@ no_look h q x e = next_of h q x e
 abbrev blind_run : List Event
 blind_run = times_go a 21 ++ times_go b 10 ++ Spawn c 0 ∷ times_go c 4 ++ Spawn d 0 ∷ times_go d 4 ++ times_go b 8 ++ times_go a 2
 
-last_look_skipped : IfSome (run_by (record { does = effect; next = no_look }) (two 1) blind_run) (λ w. Unattended w 0)
+last_look_skipped : IfSome (run_by (leading no_look) (two 1) blind_run) (λ w. Unattended w 0)
 last_look_skipped = record { filled = refl; committed = refl; looks = refl; wakers = refl }
 
 -- the machine as it is sees the job, and takes itself out of the sleeping ones
@@ -155,7 +173,7 @@ leaves_alone act h q n m = effect act h q n m
 abbrev leaving_run : List Event
 leaving_run = times_go a 25 ++ times_go b 9 ++ Spawn c 0 ∷ times_go c 2 ++ Spawn d 0 ∷ times_go d 2 ++ times_go c 2 ++ times_go d 2 ++ times_go b 2
 
-leaving_searcher_wakes_nobody : IfSome (run_by (record { does = leaves_alone; next = next_of }) (two 32) leaving_run) (λ w. Unattended w 0)
+leaving_searcher_wakes_nobody : IfSome (run_by (doing leaves_alone) (two 32) leaving_run) (λ w. Unattended w 0)
 leaving_searcher_wakes_nobody = record { filled = refl; committed = refl; looks = refl; wakers = refl }
 
 -- one worker runs a job and the other sleeps, when a second job comes
@@ -167,7 +185,7 @@ abbrev short_walk : PoolShape → Party → Place → Seen → Move
 short_walk h q (UnlockWoken k) e = if nat_lt 0 k.owed && nat_lt (k.worker + 2) h.workers then Stay (LockToWake (record k { worker = k.worker + 1 })) else finish q k.then
 short_walk h q x e = next_of h q x e
 
-waker_stops_one_short : IfSome (run_by (record { does = effect; next = short_walk }) (two 32) (second_job ++ times_go c 3)) (λ w. Unattended w 1)
+waker_stops_one_short : IfSome (run_by (leading short_walk) (two 32) (second_job ++ times_go c 3)) (λ w. Unattended w 1)
 waker_stops_one_short = record { filled = refl; committed = refl; looks = refl; wakers = refl }
 
 -- News counts the sleepers among those that are awake and idle
@@ -175,7 +193,7 @@ abbrev counts_sleepers : Act → Shape → Party → Counts → Part → Outcome
 counts_sleepers (News p e) h q n m = Some (Wakes (if n.sleeping == 0 then 0 else if not e then 1 else if nat_lt n.inactive 1 then 1 else 0), record m { pool = record (m.pool) { turn = if is_even m.pool.turn then m.pool.turn + 1 else m.pool.turn } })
 counts_sleepers act h q n m = effect act h q n m
 
-news_counts_sleepers_as_awake : IfSome (run_by (record { does = counts_sleepers; next = next_of }) (two 32) second_job) (λ w. Unattended w 1)
+news_counts_sleepers_as_awake : IfSome (run_by (doing counts_sleepers) (two 32) second_job) (λ w. Unattended w 1)
 news_counts_sleepers_as_awake = record { filled = refl; committed = refl; looks = refl; wakers = refl }
 
 abbrev loaded : Part → Letter → Outcome
@@ -206,7 +224,7 @@ record Forgotten (w : World) : Type 0 where
   set : (w.call 1).latch ≡ IsSet
   settlers : (settles (w.stack a).top 0 1 (OfCall 1) || (settles (w.stack b).top 0 1 (OfCall 1) || settles (w.stack c).top 0 1 (OfCall 1))) ≡ false
 
-latch_set_by_load_and_store : IfSome (run_by (record { does = loads; next = load_and_store }) (two 32) store_run) Forgotten
+latch_set_by_load_and_store : IfSome (run_by (record { act = act_of; aims = target_job; does = loads; next = load_and_store; made = step }) (two 32) store_run) Forgotten
 latch_set_by_load_and_store = record { blocked = refl; waits = refl; set = refl; settlers = refl }
 
 -- an Announce leaves the event counter as it is
@@ -215,7 +233,7 @@ keeps_turn Announce h q n m = Some (Jec (jec h m.pool.turn), m)
 keeps_turn act h q n m = effect act h q n m
 
 abbrev quiet_machine : Machine
-quiet_machine = record { does = keeps_turn; next = next_of }
+quiet_machine = doing keeps_turn
 
 -- the turn is odd when a worker announces itself
 abbrev odd_run : List Event
@@ -249,7 +267,7 @@ record Unanswered (w : World) : Type 0 where
   answer : follows (w.stack c).top ≡ Some (Missing (record { number = 0; pool = 0; job = 0 }) None)
   queued : (w.job 0).at ≡ Injected 0
 
-caller_passes_a_latch_that_is_not_set : IfSome (run_by (record { does = passes_unset; next = next_of }) (two 32) early_take) Unanswered
+caller_passes_a_latch_that_is_not_set : IfSome (run_by (doing passes_unset) (two 32) early_take) Unanswered
 caller_passes_a_latch_that_is_not_set = record { answer = refl; queued = refl }
 
 -- the machine as it is waits there
@@ -276,7 +294,7 @@ record Unkept (w : World) (t : ℕ) : Type 0 where
   parties : (shares t (w.stack a) + shares t (w.stack b) + (shares t (w.stack c) + shares t (w.stack d))) ≡ 0
   owner : keeps_own (w.job t) ≡ false
 
-refused_push_keeps_its_share : IfSome (run_by (record { does = effect; next = keeps_share }) (two 32) (Spawn c 0 ∷ times_go c 2 ++ Refuse c ∷ [])) (λ w. Unkept w 0)
+refused_push_keeps_its_share : IfSome (run_by (leading keeps_share) (two 32) (Spawn c 0 ∷ times_go c 2 ++ Refuse c ∷ [])) (λ w. Unkept w 0)
 refused_push_keeps_its_share = record { counted = refl; parties = refl; owner = refl }
 
 -- a Lower clears the record of its share, and leaves the number
@@ -291,7 +309,7 @@ record Miscounted (w : World) (p : ℕ) : Type 0 where
   number : (w.pool p).count ≡ 2
   shares : (one (w.pool p).counted + count_below w.jobs (λ t. has_share p (w.job t))) ≡ 1
 
-lower_lowers_nothing : IfSome (run_by (record { does = leaves_number; next = next_of }) (two 32) refused_run) (λ w. Miscounted w 0)
+lower_lowers_nothing : IfSome (run_by (doing leaves_number) (two 32) refused_run) (λ w. Miscounted w 0)
 lower_lowers_nothing = record { number = refl; shares = refl }
 
 -- a push into an injector drops its job
@@ -304,7 +322,7 @@ record Dropped (w : World) (p t : ℕ) : Type 0 where
   says : in_injector p (w.job t).at ≡ true
   stands : times t (w.pool p).injector ≡ 0
 
-push_drops_its_job : IfSome (run_by (record { does = drops_job; next = next_of }) (two 32) (Spawn c 0 ∷ times_go c 3)) (λ w. Dropped w 0 0)
+push_drops_its_job : IfSome (run_by (doing drops_job) (two 32) (Spawn c 0 ∷ times_go c 3)) (λ w. Dropped w 0 0)
 push_drops_its_job = record { says = refl; stands = refl }
 
 -- a refused call makes its last step, and hands no job back
@@ -322,7 +340,7 @@ record Lost (w : World) (t : ℕ) : Type 0 where
   says : (is_with c (w.job t).at && ((w.job t).runs == 0)) ≡ true
   hand : held t (w.stack c) ≡ 0
 
-refused_call_loses_its_jobs : IfSome (run_by (record { does = effect; next = loses_jobs }) (two 32) refused_run) (λ w. Lost w 0)
+refused_call_loses_its_jobs : IfSome (run_by (leading loses_jobs) (two 32) refused_run) (λ w. Lost w 0)
 refused_call_loses_its_jobs = record { says = refl; hand = refl }
 
 -- a worker takes from its own deque the oldest job, where it should take the newest
@@ -330,11 +348,15 @@ abbrev wrong_end : Act → Shape → Party → Counts → Part → Outcome
 wrong_end PopOwn h q n m = popped q m (but_first m.seat.own) (head_of m.seat.own)
 wrong_end act h q n m = effect act h q n m
 
+abbrev aims_at_oldest : Shape → Party → Act → Pool → Seat → ℕ
+aims_at_oldest h q PopOwn v s = or_none (head_of s.own)
+aims_at_oldest h q act v s = target_job h q act v s
+
 -- what happens at worker 0 of pool 0 in a run of a machine
 abbrev happenings_by : Machine → Option World → List Event → List Happening
 happenings_by m None es = []
 happenings_by m (Some w) [] = []
-happenings_by m (Some w) (e ∷ es) = and_next (happening 0 w e) (happenings_by m (step_by m w e) es)
+happenings_by m (Some w) (e ∷ es) = and_next (happened 0 w e (step_by m w e)) (happenings_by m (step_by m w e) es)
 
 -- one worker, whose job spawns two; once it has ended, the worker begins one of them
 abbrev pub lone : Option World
@@ -347,7 +369,7 @@ two_spawns = Spawn c 0 ∷ times_go c 4 ++ times_go a 10 ++ Spawn a 0 ∷ times_
 abbrev earlier_first : List Happening
 earlier_first = Begins 0 ∷ Adds (Some 0) 1 ∷ Adds (Some 0) 2 ∷ Begins 1 ∷ []
 
-worker_pops_at_the_wrong_end : happenings_by (record { does = wrong_end; next = next_of }) lone two_spawns ≡ earlier_first
+worker_pops_at_the_wrong_end : happenings_by (aiming aims_at_oldest wrong_end) lone two_spawns ≡ earlier_first
 worker_pops_at_the_wrong_end = refl
 
 last_entry : (l : List ℕ) (t : ℕ) → last_of (l ++ t ∷ []) ≡ Some t
@@ -355,10 +377,10 @@ last_entry [] t = refl
 last_entry (u ∷ []) t = refl
 last_entry (u ∷ v ∷ l) t = last_entry (v ∷ l) t
 
-not_handed : (left : List ℕ) → TokenList NewestFirst [] earlier_first left → ⊥
-not_handed left (inl (rest, h, more)) = let k : last_of [] ≡ Some 0 = ap last_of h ∙ last_entry rest 0 in cc
-not_handed left (inr (z, inl (rest, h, more))) = let k : last_of (1 ∷ 2 ∷ []) ≡ Some 1 = ap last_of h ∙ last_entry rest 1 in cc
-not_handed left (inr (z, inr (y, more))) = cc
+not_handed : (lists left_lists : Option ℕ → List ℕ) (left : List ℕ) → TokenList NewestFirst [] lists earlier_first left left_lists → ⊥
+not_handed f g left (inl (rest, h, more)) = let k : last_of [] ≡ Some 0 = ap last_of h ∙ last_entry rest 0 in cc
+not_handed f g left (inr (z, inl (rest, h, more))) = let k : last_of (1 ∷ 2 ∷ []) ≡ Some 1 = ap last_of h ∙ last_entry rest 1 in cc
+not_handed f g left (inr (z, inr (y, more))) = cc
 
 -- the machine as it is begins the later one
 later_first : happenings_by right lone two_spawns ≡ Begins 0 ∷ Adds (Some 0) 1 ∷ Adds (Some 0) 2 ∷ Begins 2 ∷ []

@@ -1,45 +1,58 @@
--- the order in which a pool's one worker begins the jobs of its own deque
-use Rattle.std.specs.Prelude.{ℕ, Bool, true, false, ◌&&◌, ◌==◌, if◌then◌else◌, Option, Some, None, List, [], ◌∷◌, ◌++◌, ◌≡◌, ◌⊎◌, ⊤}
+-- the order in which a pool's one worker begins the jobs of its own deque and of its FIFO lists
+use Rattle.std.specs.Prelude.{ℕ, Bool, true, false, not, ◌&&◌, ◌==◌, if◌then◌else◌, Option, Some, None, List, [], ◌∷◌, ◌++◌, ◌≡◌, ◌⊎◌, ⊤, slice_get}
 use Rattle.rayon_machine_places.specs.declared.shape.Order.{Order}
 use Rattle.rayon_machine_places.specs.declared.shape.Order.TheVariants.{NewestFirst, OldestFirst}
+use Rattle.rayon_machine_places.specs.declared.place.JobKind.TheVariants.{TokenOf}
 use Rattle.rayon_machine_places.specs.declared.place.Party.TheVariants.{Worker}
 use Rattle.rayon_machine_places.specs.declared.place.Place.{Place}
 use Rattle.rayon_machine_places.specs.declared.place.Place.TheVariants.{ProbeWorking, Run}
 use Rattle.rayon_machine_places.specs.declared.place.Target.TheVariants.{Termination}
 use Rattle.rayon_machine_places.specs.declared.act.Act.{Act}
-use Rattle.rayon_machine_places.specs.declared.act.Act.TheVariants.{Begin, PushOwn, FifoOut}
+use Rattle.rayon_machine_places.specs.declared.act.Act.TheVariants.{Begin, PushOwn, FifoIn, FifoUndo, FifoOut}
 use Rattle.rayon_machine_places.specs.declared.event.Event.{Event}
-use Rattle.rayon_machine_places.specs.declared.event.Event.TheVariants.{Go, Fifo, Install, Join, Yield, YieldLocal, EndPool, Cast, Scope as OpenScope}
+use Rattle.rayon_machine_places.specs.declared.event.Event.TheVariants.{Go, Spawn, Fifo, Install, Join, Yield, YieldLocal, EndPool, Cast, Scope as OpenScope, IntoSpawn, IntoFifo, IntoCast, Broadcast}
+use Rattle.rayon_machine_places.specs.declared.state.Scope.{Scope}
 use Rattle.rayon_machine_places.specs.Places.{act_of, fresh, same_party}
-use Rattle.rayon_machine_places.specs.World.{Shape, World}
+use Rattle.rayon_machine_places.specs.World.{Shape, World, but_last, put_list, same_list}
 use Rattle.rayon_machine_places.specs.Steps.{step}
 use Rattle.rayon_machine_places.specs.Runs.{IsRun, start}
 use Rattle.rayon_machine_laws.specs.Once.{times}
 use Rattle.rayon_machine_laws.specs.Turn.{IsRunWithout}
+use Rattle.rayon_machine_orders.specs.Queue.{run_at}
 
--- what bears on the order: the run of a job, or no run, adds a job or a token to the worker's own deque; the worker
--- begins a job, or redeems a token
+-- what bears on the order: the run of a job, or no run, adds a job or a token to the worker's own deque, or a job to one
+-- of its FIFO lists; a refused call takes back the job that it added to that list; the worker begins a job, or redeems a
+-- token of that list, after which it runs this job
 pub data Happening : Type 0 where
   Adds : (by : Option ℕ) → (job : ℕ) → Happening
+  Queues : (list : Option ℕ) → (by : Option ℕ) → (job : ℕ) → Happening
+  Retakes : (list : Option ℕ) → Happening
   Begins : (job : ℕ) → Happening
-  Redeems : (token : ℕ) → Happening
+  Redeems : (token : ℕ) → (list : Option ℕ) → (runs : Option ℕ) → Happening
 
 -- the job whose run makes the call that stands above these frames, if a run does
 abbrev pub caller_of : List Place → Option ℕ
 caller_of (Run t k ∷ fs) = Some t
 caller_of _ = None
 
--- what an act above these frames is
-abbrev pub act_happens : Act → List Place → Option Happening
-act_happens (PushOwn t b) fs = Some (Adds (caller_of fs) t)
-act_happens (Begin t) fs = Some (Begins t)
-act_happens (FifoOut k i) fs = Some (Redeems k)
-act_happens _ fs = None
+-- what an act above these frames is, after which the party runs this job
+abbrev pub act_happens : Act → List Place → Option ℕ → Option Happening
+act_happens (PushOwn t b) fs o = Some (Adds (caller_of fs) t)
+act_happens (FifoIn t b) fs o = Some (Queues b (caller_of fs) t)
+act_happens (FifoUndo b) fs o = Some (Retakes b)
+act_happens (Begin t) fs o = Some (Begins t)
+act_happens (FifoOut k i b) fs o = Some (Redeems k b o)
+act_happens _ fs o = None
 
--- what an event is: an act of worker 0 of that pool
-abbrev pub happening : ℕ → World → Event → Option Happening
-happening p w (Go q) = if same_party (Worker p 0) q then act_happens (act_of q (w.stack q).top) (w.stack q).below else None
-happening p w _ = None
+-- what an event is that leads to this world: an act of worker 0 of that pool
+abbrev pub happening : ℕ → World → Event → World → Option Happening
+happening p w (Go q) v = if same_party (Worker p 0) q then act_happens (act_of q (w.stack q).top) (w.stack q).below (run_at (v.stack q).top) else None
+happening p w _ v = None
+
+-- the same where the event leads to this world, if to any
+abbrev pub happened : ℕ → World → Event → Option World → Option Happening
+happened p w e None = None
+happened p w e (Some v) = happening p w e v
 
 -- what happened at one event, before what happened at the later ones
 abbrev pub and_next : Option Happening → List Happening → List Happening
@@ -50,7 +63,7 @@ and_next (Some h) hs = h ∷ hs
 abbrev pub happenings : ℕ → Option World → List Event → List Happening
 happenings p None es = []
 happenings p (Some w) [] = []
-happenings p (Some w) (e ∷ es) = and_next (happening p w e) (happenings p (step w e) es)
+happenings p (Some w) (e ∷ es) = and_next (happened p w e (step w e)) (happenings p (step w e) es)
 
 -- a job is the next that a list hands out, and this is left: it is the last entry, or in a pool that is oldest first
 -- the first
@@ -58,25 +71,30 @@ abbrev pub Hands : Order → List ℕ → ℕ → List ℕ → Type 0
 Hands NewestFirst l t rest = l ≡ rest ++ t ∷ []
 Hands OldestFirst l t rest = l ≡ t ∷ rest
 
--- the token list: what is added stands last; a job that begins, or a token that is redeemed, is the next that the list
--- hands out, or it is none of the list's; at the end this is left
-abbrev pub TokenList : Order → List ℕ → List Happening → List ℕ → Type 0
-TokenList o l [] left = left ≡ l
-TokenList o l (Adds by t ∷ hs) left = TokenList o (l ++ t ∷ []) hs left
-TokenList o l (Redeems t ∷ hs) left = ((rest : List ℕ) × Hands o l t rest × TokenList o rest hs left) ⊎ ((times t l ≡ 0) × TokenList o l hs left)
-TokenList o l (Begins t ∷ hs) left = ((rest : List ℕ) × Hands o l t rest × TokenList o rest hs left) ⊎ ((times t l ≡ 0) × TokenList o l hs left)
+-- the token list, with the FIFO lists beside it: what is added stands last; a job that begins, or a token that is
+-- redeemed, is the next that the list hands out, or it is none of the list's; a token begins the first job of its FIFO
+-- list; at the end these are left
+abbrev pub TokenList : Order → List ℕ → (Option ℕ → List ℕ) → List Happening → List ℕ → (Option ℕ → List ℕ) → Type 0
+TokenList o l f [] left rest = (left ≡ l) × ((b : Option ℕ) → rest b ≡ f b)
+TokenList o l f (Adds by t ∷ hs) left rest = TokenList o (l ++ t ∷ []) f hs left rest
+TokenList o l f (Queues b by t ∷ hs) left rest = TokenList o l (put_list f b (f b ++ t ∷ [])) hs left rest
+TokenList o l f (Retakes b ∷ hs) left rest = TokenList o l (put_list f b (but_last (f b))) hs left rest
+TokenList o l f (Begins t ∷ hs) left rest = ((m : List ℕ) × Hands o l t m × TokenList o m f hs left rest) ⊎ ((times t l ≡ 0) × TokenList o l f hs left rest)
+TokenList o l f (Redeems k b r ∷ hs) left rest =
+    (t : ℕ) × (ts : List ℕ) × (r ≡ Some t) × (f b ≡ t ∷ ts) × (((m : List ℕ) × Hands o l k m × TokenList o m (put_list f b ts) hs left rest) ⊎ ((times k l ≡ 0) × TokenList o l (put_list f b ts) hs left rest))
 
--- the list is what stands in the worker's own deque, or that with one job that the worker has taken from it and not
--- begun
+-- the list is what stands in the worker's own deque, or that with one job or token that the worker has taken from it and
+-- neither begun nor redeemed
 abbrev pub IsLeft : World → ℕ → List ℕ → Type 0
 IsLeft u p l = (l ≡ (u.seat p 0).own) ⊎ ((t : ℕ) × Hands (u.shape.pool p).order l t (u.seat p 0).own × ((u.job t).runs ≡ 0))
 
 -- in every stretch of every run, the worker of a pool of one begins the jobs of its own deque, and redeems the tokens,
--- as the token list hands them out, from what stood in the deque
+-- as the token list hands them out, from what stood in the deque and in its FIFO lists; at the end these have what is
+-- left
 abbrev pub TokenLaw : Type 0
 TokenLaw = (shape : Shape) (before : List Event) (p : ℕ) (w u : World) (stretch : List Event) → (shape.pool p).workers ≡ 1 →
     IsRun (start shape) before w → IsRun w stretch u →
-    (left : List ℕ) × TokenList (shape.pool p).order (w.seat p 0).own (happenings p (Some w) stretch) left × IsLeft u p left
+    (left : List ℕ) × TokenList (shape.pool p).order (w.seat p 0).own (w.seat p 0).fifo (happenings p (Some w) stretch) left (u.seat p 0).fifo × IsLeft u p left
 
 -- trees side by side: a job, below it the trees of the jobs that its run has added to the deque, in their order, and
 -- beside it the later trees
@@ -131,15 +149,13 @@ same_run _ _ = false
 abbrev pub added_by : Option ℕ → List Happening → List ℕ
 added_by r [] = []
 added_by r (Adds s t ∷ hs) = if same_run r s then t ∷ added_by r hs else added_by r hs
-added_by r (Begins t ∷ hs) = added_by r hs
-added_by r (Redeems t ∷ hs) = added_by r hs
+added_by r (_ ∷ hs) = added_by r hs
 
 -- the jobs that have begun, in their order
 abbrev pub begun_in : List Happening → List ℕ
 begun_in [] = []
-begun_in (Adds s t ∷ hs) = begun_in hs
 begun_in (Begins t ∷ hs) = t ∷ begun_in hs
-begun_in (Redeems t ∷ hs) = begun_in hs
+begun_in (_ ∷ hs) = begun_in hs
 
 -- trees of what happened: below each job stand those that its run has added
 abbrev pub AreSpawned : List Happening → Trees → Type 0
@@ -171,14 +187,17 @@ IsBetweenRuns w p = w.stack (Worker p 0) ≡ record { top = ProbeWorking (fresh 
 
 -- the act redeems a token
 abbrev pub is_redeem : Act → Bool
-is_redeem (FifoOut k i) = true
+is_redeem (FifoOut k i b) = true
 is_redeem _ = false
 
 -- by the event worker 0 of that pool begins a call that is no spawn, or redeems a token
 abbrev pub is_other : ℕ → World → Event → Bool
 is_other p w (Go q) = same_party (Worker p 0) q && is_redeem (act_of q (w.stack q).top)
 is_other p w (Fifo q r) = same_party (Worker p 0) q
+is_other p w (IntoFifo q n) = same_party (Worker p 0) q
 is_other p w (Cast q r) = same_party (Worker p 0) q
+is_other p w (IntoCast q n) = same_party (Worker p 0) q
+is_other p w (Broadcast q r) = same_party (Worker p 0) q
 is_other p w (Install q r) = same_party (Worker p 0) q
 is_other p w (Join q) = same_party (Worker p 0) q
 is_other p w (OpenScope q r) = same_party (Worker p 0) q
@@ -193,3 +212,53 @@ abbrev pub TreeLaw : Type 0
 TreeLaw = (shape : Shape) (before : List Event) (p : ℕ) (w u : World) (stretch : List Event) → (shape.pool p).workers ≡ 1 →
     IsRun (start shape) before w → IsBetweenRuns w p → IsRunWithout (is_other p) w stretch u →
     (left : List ℕ) × IsWalk (shape.pool p).order (w.seat p 0).own (happenings p (Some w) stretch) left × IsLeft u p left
+
+-- the job that was added last to a FIFO list is not taken back next
+abbrev pub stays : List Happening → Bool
+stays (Retakes b ∷ hs) = false
+stays _ = true
+
+-- what happened, as list b of the FIFO lists has it: a job was added and not taken back, and a job began, by a token or
+-- not
+abbrev pub in_line : Option ℕ → List Happening → List Happening
+in_line b [] = []
+in_line b (Queues c by t ∷ hs) = if same_list b c && stays hs then Adds by t ∷ in_line b hs else in_line b hs
+in_line b (Begins t ∷ hs) = Begins t ∷ in_line b hs
+in_line b (Redeems k c (Some t) ∷ hs) = Begins t ∷ in_line b hs
+in_line b (_ ∷ hs) = in_line b hs
+
+-- these are tokens of list b of worker 0
+abbrev pub AreTokens : World → Option ℕ → List ℕ → Type 0
+AreTokens w b [] = ⊤
+AreTokens w b (t ∷ ts) = ((w.job t).kind ≡ TokenOf 0 b) × AreTokens w b ts
+
+-- the scope that this spawn is into has its pool here, and that list is the scope's
+abbrev pub is_of_list : ℕ → Option ℕ → Option Scope → Bool
+is_of_list p b None = false
+is_of_list p b (Some z) = (z.pool == p) && same_list b (Some z.call)
+
+-- by the event worker 0 of that pool begins a call that is no spawn in order for its list b
+abbrev pub is_unlisted : ℕ → Option ℕ → World → Event → Bool
+is_unlisted p b w (Fifo q n) = same_party (Worker p 0) q && not ((n == p) && same_list b None)
+is_unlisted p b w (IntoFifo q n) = same_party (Worker p 0) q && not (is_of_list p b (slice_get w.scopes n))
+is_unlisted p b w (Spawn q n) = same_party (Worker p 0) q
+is_unlisted p b w (IntoSpawn q n) = same_party (Worker p 0) q
+is_unlisted p b w (Cast q r) = same_party (Worker p 0) q
+is_unlisted p b w (IntoCast q n) = same_party (Worker p 0) q
+is_unlisted p b w (Broadcast q r) = same_party (Worker p 0) q
+is_unlisted p b w (Install q r) = same_party (Worker p 0) q
+is_unlisted p b w (Join q) = same_party (Worker p 0) q
+is_unlisted p b w (OpenScope q r) = same_party (Worker p 0) q
+is_unlisted p b w (Yield q) = same_party (Worker p 0) q
+is_unlisted p b w (YieldLocal q) = same_party (Worker p 0) q
+is_unlisted p b w (EndPool q r) = same_party (Worker p 0) q
+is_unlisted p b w _ = false
+
+-- in every stretch that begins where the worker of a pool of one is between runs, and only tokens of one FIFO list stand
+-- in its own deque, and in which it makes no call but spawns in order for that list, it begins jobs level by level,
+-- whatever the order of the pool: first the trees under what stood in the list, and then, one after the other, those of
+-- the jobs that came from elsewhere. What is left is what the list holds
+abbrev pub LevelLaw : Type 0
+LevelLaw = (shape : Shape) (before : List Event) (p : ℕ) (b : Option ℕ) (w u : World) (stretch : List Event) → (shape.pool p).workers ≡ 1 →
+    IsRun (start shape) before w → IsBetweenRuns w p → AreTokens w b (w.seat p 0).own → IsRunWithout (is_unlisted p b) w stretch u →
+    IsWalk OldestFirst ((w.seat p 0).fifo b) (in_line b (happenings p (Some w) stretch)) ((u.seat p 0).fifo b)

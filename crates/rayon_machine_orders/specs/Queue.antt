@@ -1,4 +1,4 @@
--- what becomes of a worker's FIFO list
+-- what becomes of a worker's FIFO lists
 use Rattle.std.specs.Prelude.{ℕ, ◌&&◌, ◌==◌, if◌then◌else◌, Option, Some, None, List, [], ◌∷◌, ◌++◌, ◌≡◌}
 use Rattle.rayon_machine_places.specs.declared.place.Party.{Party}
 use Rattle.rayon_machine_places.specs.declared.place.Place.{Place}
@@ -8,7 +8,7 @@ use Rattle.rayon_machine_places.specs.declared.act.Act.TheVariants.{FifoIn, Fifo
 use Rattle.rayon_machine_places.specs.declared.event.Event.{Event}
 use Rattle.rayon_machine_places.specs.declared.event.Event.TheVariants.{Go}
 use Rattle.rayon_machine_places.specs.Places.{act_of, own_pool, own_index}
-use Rattle.rayon_machine_places.specs.World.{Shape, World, but_last}
+use Rattle.rayon_machine_places.specs.World.{Shape, World, but_last, same_list}
 use Rattle.rayon_machine_places.specs.Steps.{step}
 use Rattle.rayon_machine_places.specs.Runs.{IsRun, start}
 
@@ -24,16 +24,18 @@ abbrev pub run_at : Place → Option ℕ
 run_at (Run t k) = Some t
 run_at _ = None
 
--- what a party's act is to the list of this worker of this pool, where the party stands so after it
-abbrev pub change_of : ℕ → ℕ → Party → Act → Place → Option Change
-change_of p i q (FifoIn t) y = if (p == own_pool q) && (i == own_index q) then Some (Joins t) else None
-change_of p i q FifoUndo y = if (p == own_pool q) && (i == own_index q) then Some Leaves else None
-change_of p i q (FifoOut token j) y = if (p == own_pool q) && (i == j) then Some (Comes (run_at y)) else None
-change_of p i q _ y = None
+-- what a party's act is to list b of this worker of this pool, where the party stands so after it: the list of detached
+-- jobs, or that of a scope
+abbrev pub change_of : ℕ → ℕ → Option ℕ → Party → Act → Place → Option Change
+change_of p i b q (FifoIn t c) y = if (p == own_pool q) && ((i == own_index q) && same_list b c) then Some (Joins t) else None
+change_of p i b q (FifoUndo c) y = if (p == own_pool q) && ((i == own_index q) && same_list b c) then Some Leaves else None
+change_of p i b q (FifoOut token j c) y = if (p == own_pool q) && ((i == j) && same_list b c) then Some (Comes (run_at y)) else None
+change_of p i b q _ y = None
 
-abbrev pub change : ℕ → ℕ → World → Event → World → Option Change
-change p i w (Go q) v = change_of p i q (act_of q (w.stack q).top) (v.stack q).top
-change p i w _ v = None
+-- what an event that leads to this world is to that list
+abbrev pub change : ℕ → ℕ → Option ℕ → World → Event → World → Option Change
+change p i b w (Go q) v = change_of p i b q (act_of q (w.stack q).top) (v.stack q).top
+change p i b w _ v = None
 
 -- the list after it: a job is added last, and a token begins the first
 abbrev pub Changes : List ℕ → Option Change → List ℕ → Type 0
@@ -42,7 +44,7 @@ Changes l (Some (Joins t)) m = m ≡ l ++ t ∷ []
 Changes l (Some Leaves) m = m ≡ but_last l
 Changes l (Some (Comes o)) m = (t : ℕ) × (o ≡ Some t) × (l ≡ t ∷ m)
 
--- each step of each run changes each worker's FIFO list so
+-- each step of each run changes each list of each worker so
 abbrev pub QueueLaw : Type 0
-QueueLaw = (shape : Shape) (before : List Event) (p i : ℕ) (w v : World) (e : Event) →
-    IsRun (start shape) before w → step w e ≡ Some v → Changes (w.seat p i).fifo (change p i w e v) (v.seat p i).fifo
+QueueLaw = (shape : Shape) (before : List Event) (p i : ℕ) (b : Option ℕ) (w v : World) (e : Event) →
+    IsRun (start shape) before w → step w e ≡ Some v → Changes ((w.seat p i).fifo b) (change p i b w e v) ((v.seat p i).fifo b)

@@ -1,6 +1,7 @@
 use Rattle.rayon_machine_laws.proofs.ClaimMakes.{always_calls}
 use Rattle.rayon_machine_laws.proofs.Endings.{ends_so, refused_so}
-use Rattle.rayon_machine_orders.proofs.Filled.{FilledHold, always_filled, takes_filled, none_missing}
+use Rattle.rayon_machine_orders.proofs.FilledStates.{FilledHold}
+use Rattle.rayon_machine_orders.proofs.Filled.{always_filled, takes_filled, none_missing}
 use Rattle.rayon_machine_laws.proofs.Returns.{always_returns, returned_so}
 use Rattle.rayon_machine_orders.proofs.Early.{always_early, no_early_end}
 use Rattle.rayon_machine_orders.proofs.BookEvents.{always_books, is_booked}

@@ -1,4 +1,5 @@
 use Rattle.rayon_machine_orders.proofs.Handed.{token_law}
+use Rattle.rayon_machine_orders.proofs.Leveling.{level_law}
 use Rattle.rayon_machine_orders.proofs.Queued.{queue_law}
 use Rattle.rayon_machine_orders.proofs.Walking.{tree_law}
 use Rattle.rayon_machine_orders.proofs.order_laws.law_order.Goals as goal
@@ -8,6 +9,9 @@ returns-clause-tokens c = token_law
 
 pub returns-clause-trees : goal.returns-clause-trees
 returns-clause-trees c = tree_law
+
+pub returns-clause-levels : goal.returns-clause-levels
+returns-clause-levels c = level_law
 
 pub returns-clause-queue : goal.returns-clause-queue
 returns-clause-queue c = queue_law

@@ -1,0 +1,136 @@
+-- wrong machines of lists: replays, computed by the kernel, in which a changed table or act breaks the clause of a law
+-- that forbids it
+use Rattle.std.proofs.Common.{refl, ap}
+use Rattle.std.specs.Prelude.{ℕ, if◌then◌else◌, Option, Some, None, List, [], ◌∷◌, ◌++◌, ◌≡◌, IfSome, false}
+use Rattle.rayon_machine_places.specs.declared.place.Party.{Party}
+use Rattle.rayon_machine_places.specs.declared.place.Plan.TheVariants.{Feed}
+use Rattle.rayon_machine_places.specs.declared.place.Taken.TheVariants.{Plain}
+use Rattle.rayon_machine_places.specs.declared.place.Place.{Place}
+use Rattle.rayon_machine_places.specs.declared.place.Place.TheVariants.{OpenSlot, AddToFifo, LookForToken, PushToken}
+use Rattle.rayon_machine_places.specs.declared.place.Move.{Move}
+use Rattle.rayon_machine_places.specs.declared.place.Move.TheVariants.{Stay}
+use Rattle.rayon_machine_places.specs.declared.act.Act.{Act}
+use Rattle.rayon_machine_places.specs.declared.act.Act.TheVariants.{Steal, FifoIn, FifoUndo, FifoOut}
+use Rattle.rayon_machine_places.specs.declared.act.Seen.{Seen}
+use Rattle.rayon_machine_places.specs.declared.act.Seen.TheVariants.{Done, Missing, Task}
+use Rattle.rayon_machine_places.specs.declared.event.Event.{Event}
+use Rattle.rayon_machine_places.specs.declared.event.Event.TheVariants.{Go, Refuse, Spawn, Fifo, Scope as OpenScope, IntoFifo}
+use Rattle.rayon_machine_places.specs.declared.state.Slot.TheVariants.{Closed}
+use Rattle.rayon_machine_places.specs.declared.state.Whereabouts.TheVariants.{HandedBack, Retaken, Running}
+use Rattle.rayon_machine_places.specs.declared.shape.PoolShape.{PoolShape}
+use Rattle.rayon_machine_places.specs.Places.{after_push, act_of, next_of}
+use Rattle.rayon_machine_places.specs.World.{Shape, Seat, Pool, World, or_none, head_of, last_of, but_first, but_last, Counts, Part, Outcome, at_job, is_open, put_list, popped, target_job, effect}
+use Rattle.rayon_machine_orders.specs.Queue.{Changes, Leaves, change}
+use Rattle.rayon_machine_orders.proofs.WrongMachines.{Machine, doing, aiming, leading, step_by, run_by, times_go, lone, two, a, b, c, right}
+use Rattle.rayon_machine_orders.proofs.CallTeeth.{running}
+
+-- a refused call takes the first job of the list back, where it should take the last
+abbrev first_back : Party → Part → Option ℕ → Option ℕ → Outcome
+first_back q m b None = Some (Missing, m)
+first_back q m b (Some t) = Some (Task (Plain t), record m { seat = record (m.seat) { fifo = put_list m.seat.fifo b (but_first (m.seat.fifo b)); feeder = put_list m.seat.feeder b None }; job = at_job (m.job) (Retaken q) })
+
+abbrev undoes_first : Act → Shape → Party → Counts → Part → Outcome
+undoes_first (FifoUndo b) h q n m = if is_open q (m.seat.feeder b) then first_back q m b (head_of (m.seat.fifo b)) else None
+undoes_first act h q n m = effect act h q n m
+
+abbrev aims_at_first : Shape → Party → Act → Pool → Seat → ℕ
+aims_at_first h q (FifoUndo b) v s = or_none (head_of (s.fifo b))
+aims_at_first h q act v s = target_job h q act v s
+
+abbrev undoing : Machine
+undoing = aiming aims_at_first undoes_first
+
+-- a job makes two calls for its worker's FIFO list, and the second push is refused
+abbrev second_refused : List Event
+second_refused = Spawn c 0 ∷ times_go c 4 ++ times_go a 10 ++ Fifo a 0 ∷ times_go a 5 ++ Fifo a 0 ∷ times_go a 3 ++ Refuse a ∷ []
+
+-- the law of the order is broken: the last job of the list is left there, and the first is taken back
+record TakesFirst (m : Machine) (w : World) : Type 0 where
+  act : act_of a (w.stack a).top ≡ FifoUndo None
+  list : (w.seat 0 0).fifo None ≡ 1 ∷ 3 ∷ []
+  after : IfSome (step_by m w (Go a)) (λ v. (change 0 0 None w (Go a) v ≡ Some Leaves) × ((v.seat 0 0).fifo None ≡ 3 ∷ []))
+
+wrong_job_is_taken_back : IfSome (run_by undoing lone second_refused) (TakesFirst undoing)
+wrong_job_is_taken_back = record { act = refl; list = refl; after = (refl, refl) }
+
+not_last : Changes (1 ∷ 3 ∷ []) (Some Leaves) (3 ∷ []) → ⊥
+not_last e = let n : head_of (3 ∷ []) ≡ head_of (1 ∷ []) = ap head_of e in cc
+
+-- the machine as it is takes the last
+own_job_is_taken_back : IfSome (run_by right lone (second_refused ++ Go a ∷ [])) (λ w. (w.seat 0 0).fifo None ≡ 1 ∷ [])
+own_job_is_taken_back = refl
+
+-- a spawn in order into a scope that is to take its job back, but leaves it in the list, gives the rest back
+abbrev leaves_in_list : PoolShape → Party → Place → Seen → Move
+leaves_in_list h q (PushToken f v) Done = next_of h q (PushToken f v) Done
+leaves_in_list h q (PushToken f v) e = Stay (after_push (Feed f))
+leaves_in_list h q x e = next_of h q x e
+
+-- a worker's run opens a scope and spawns in order into it
+abbrev scope_opened : List Event
+scope_opened = running ++ OpenScope b 0 ∷ times_go b 2
+
+-- the clause of refused calls is broken: the job is handed back, and stands in the scope's list
+record StandsStill (w : World) : Type 0 where
+  at : (w.job 2).at ≡ HandedBack
+  list : (w.seat 0 1).fifo (Some 1) ≡ 2 ∷ []
+
+refused_token_leaves_its_job : IfSome (run_by (leading leaves_in_list) (two 32) (scope_opened ++ IntoFifo b 0 ∷ times_go b 4 ++ Refuse b ∷ times_go b 2)) StandsStill
+refused_token_leaves_its_job = record { at = refl; list = refl }
+
+-- in the machine as it is nothing of it is left: the list is empty, the number is taken back, and the count is 1
+record IsUndone (w : World) : Type 0 where
+  at : (w.job 2).at ≡ HandedBack
+  list : (w.seat 0 1).fifo (Some 1) ≡ []
+  slot : (w.job 2).slot ≡ Closed
+  slots : (w.call 1).slots ≡ 0
+  count : (w.call 1).count ≡ 1
+  counted : (w.job 2).counted ≡ false
+
+refused_token_undone : IfSome (run_by right (two 32) (scope_opened ++ IntoFifo b 0 ∷ times_go b 4 ++ Refuse b ∷ times_go b 3)) IsUndone
+refused_token_undone = record { at = refl; list = refl; slot = refl; slots = refl; count = refl; counted = refl }
+
+-- a call for the FIFO list of a scope pushes its token before it adds its job
+abbrev token_first : PoolShape → Party → Place → Seen → Move
+token_first h q (OpenSlot (Feed f)) Done = Stay (LookForToken f)
+token_first h q (PushToken f v) Done = Stay (AddToFifo f)
+token_first h q x e = next_of h q x e
+
+-- the clause of tokens is broken: the other worker has the token, and the scope's list is empty
+token_of_a_scope_before_its_job : IfSome (run_by (leading token_first) (two 32) (scope_opened ++ IntoFifo b 0 ∷ times_go b 4 ++ times_go a 10)) (λ w. (act_of a (w.stack a).top ≡ FifoOut 3 1 (Some 1)) × ((w.seat 0 1).fifo (Some 1) ≡ []))
+token_of_a_scope_before_its_job = (refl, refl)
+
+-- a spawn in order into a scope adds its job to the worker's list of detached jobs, and its token is of the scope's
+abbrev adds_detached : Act → Shape → Party → Counts → Part → Outcome
+adds_detached (FifoIn t b) h q n m = effect (FifoIn t None) h q n m
+adds_detached act h q n m = effect act h q n m
+
+-- the clause of tokens is broken: a party is to redeem the token, and the scope's list is empty
+job_of_a_scope_in_the_detached_list : IfSome (run_by (doing adds_detached) (two 32) (scope_opened ++ IntoFifo b 0 ∷ times_go b 6 ++ times_go a 10)) (λ w. (act_of a (w.stack a).top ≡ FifoOut 3 1 (Some 1)) × ((w.seat 0 1).fifo (Some 1) ≡ []) × ((w.seat 0 1).fifo None ≡ 2 ∷ []))
+job_of_a_scope_in_the_detached_list = (refl, refl, refl)
+
+-- in the machine as it is the job stands in the scope's list
+job_of_a_scope_in_its_list : IfSome (run_by right (two 32) (scope_opened ++ IntoFifo b 0 ∷ times_go b 6 ++ times_go a 10)) (λ w. (act_of a (w.stack a).top ≡ FifoOut 3 1 (Some 1)) × ((w.seat 0 1).fifo (Some 1) ≡ 2 ∷ []) × ((w.seat 0 1).fifo None ≡ []))
+job_of_a_scope_in_its_list = (refl, refl, refl)
+
+-- a thief takes the newest task of the deque. No law forbids it: none speaks of a task's place in a deque of a pool of
+-- two workers
+abbrev steals_last : Act → Shape → Party → Counts → Part → Outcome
+steals_last (Steal p v) h q n m = popped q m (but_last m.seat.own) (last_of m.seat.own)
+steals_last act h q n m = effect act h q n m
+
+abbrev aims_at_last : Shape → Party → Act → Pool → Seat → ℕ
+aims_at_last h q (Steal p i) v s = or_none (last_of s.own)
+aims_at_last h q act v s = target_job h q act v s
+
+-- a run spawns two jobs, and the other worker steals
+abbrev stolen_run : List Event
+stolen_run = running ++ Spawn b 0 ∷ times_go b 4 ++ Spawn b 0 ∷ times_go b 4 ++ times_go a 9
+
+-- the earlier one is left
+thief_takes_the_newest : IfSome (run_by (aiming aims_at_last steals_last) (two 32) stolen_run) (λ w. ((w.seat 0 1).own ≡ 1 ∷ []) × ((w.job 2).at ≡ Running a))
+thief_takes_the_newest = (refl {a = 1 ∷ []}, refl {a = Running a})
+
+-- in the machine as it is the later one
+thief_takes_the_oldest : IfSome (run_by right (two 32) stolen_run) (λ w. ((w.seat 0 1).own ≡ 2 ∷ []) × ((w.job 1).at ≡ Running a))
+thief_takes_the_oldest = (refl {a = 2 ∷ []}, refl {a = Running a})

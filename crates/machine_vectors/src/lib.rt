@@ -2,6 +2,9 @@
 #![tactic(auto)]
 
 #[cfg(test)]
+mod orders;
+
+#[cfg(test)]
 mod tests {
     use rayon_machine::act::{Act, Seen};
     use rayon_machine::event::Event;

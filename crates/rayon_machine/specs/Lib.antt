@@ -17,5 +17,6 @@ pub use Rattle.rayon_machine_laws.specs.Counted
 pub use Rattle.rayon_machine_orders.specs.Calls
 pub use Rattle.rayon_machine_orders.specs.Order
 pub use Rattle.rayon_machine_orders.specs.Queue
+pub use Rattle.rayon_machine_numbers.specs.Numbers
 pub use Rattle.rayon_machine_parts.specs.State
 pub use Rattle.rayon_machine_world.specs.Running

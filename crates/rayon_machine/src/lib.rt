@@ -2,8 +2,8 @@
 //!
 //! A world holds any number of pools, workers and outside callers. An event lets one party make one
 //! step: it performs the act that its place names, sees something, and goes where the table of
-//! places sends it. Nothing here starts a thread: the running pool is meant to perform the same
-//! acts, which is not proved yet.
+//! places sends it. Nothing here starts a thread: the threads of the running pool go by the same
+//! tables.
 //!
 //! This crate only gives the names of the crates below it: `rayon_machine_places` has the places and their acts,
 //! `rayon_machine_laws` and `rayon_machine_orders` what holds in every run, and `rayon_machine_world` the world that

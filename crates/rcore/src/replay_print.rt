@@ -99,17 +99,18 @@ fn act_name(act: Act) -> &'static str {
 // The name of an act of a call, or on a FIFO list or all broadcast lists or a book.
 fn rare_act_name(act: Act) -> &'static str {
     match act {
-        Act::FifoIn(_) => "FifoIn",
-        Act::FifoUndo => "FifoUndo",
+        Act::FifoIn { .. } => "FifoIn",
+        Act::FifoUndo(_) => "FifoUndo",
         Act::FifoOut { .. } => "FifoOut",
         Act::PushCast(_) => "PushCast",
         Act::Lower { .. } | Act::LowerAll(_) => "Lower",
         Act::Raise { .. } | Act::RaiseAll(_) => "Raise",
         Act::Grow(_) => "Grow",
-        Act::Store { .. } | Act::StoreBody { .. } | Act::StoreSlot { .. } => "Store",
+        Act::Store { .. } | Act::StorePiece { .. } => "Store",
+        Act::StoreBody { .. } | Act::StoreSlot { .. } => "Store",
         Act::Take(_) => "Take",
-        Act::Slot { .. } => "Slot",
-        Act::SlotUndo { .. } => "SlotUndo",
+        Act::Slot { .. } | Act::SlotAll(_) => "Slot",
+        Act::SlotUndo { .. } | Act::SlotUndoAll(_) => "SlotUndo",
         _ => "Idle",
     }
 }

@@ -10,7 +10,7 @@ use std::test::Fail;
 use std::thread::Threads;
 
 /// Replays, and what they print. One that is refused has status 1, the others 0.
-const REPLAYS: [(&str, &str); 16] = [
+const REPLAYS: [(&str, &str); 20] = [
     // one worker falls asleep
     (
         "start 32 1/0/l\n0.0 go 21\n",
@@ -79,6 +79,26 @@ const REPLAYS: [(&str, &str); 16] = [
     (
         "start 32 2/0/l\n0.0 go 25\n0.1 go 4\nc0 spawn 0\nc1 spawn 0\nc0 go 2\nc1 go 2\nc0 go 2\nc1 go 2\n0.1 go 10\n",
         "pool 0 sleeping 0 inactive 1 turn 1 injected 1 count 3\n0.0 deque 0 cast 0 blocked 0 place Lock\n0.1 deque 0 cast 0 blocked 0 place Begin\njobs 1 queued 1 running 0 done\n",
+    ),
+    // scope of an outside caller
+    (
+        "start 32 1/0/l\nc0 scope 0\nc0 go 2\nc0 into 0 spawn\nc0 go 5\nc0 ok\nc0 go 2\n0.0 go 10\n0.0 fault\n0.0 go 3\nc0 go 3\n",
+        "pool 0 sleeping 0 inactive 0 turn 1 injected 0 count 1\n0.0 deque 0 cast 0 blocked 0 place Probe\njobs 0 queued 0 running 2 done\n",
+    ),
+    // scope of an outside caller goes too early
+    (
+        "start 32 1/0/l\nc0 scope 0\nc0 go 2\nc0 into 0 spawn\nc0 go 5\nc0 ok\nc0 go 3\n0.0 go 10\n0.0 fault\n0.0 go 3\nc0 go 3\n",
+        "refused at line 7\n",
+    ),
+    // job in order after a refused one
+    (
+        "start 32 1/0/l\nc0 spawn 0\nc0 go 4\n0.0 go 10\n0.0 fifo 0\n0.0 go 3\n0.0 refuse\n0.0 go 2\n0.0 fifo 0\n0.0 go 5\n0.0 ok\n0.0 go 4\n",
+        "pool 0 sleeping 0 inactive 0 turn 1 injected 0 count 2\n0.0 deque 0 cast 0 blocked 0 place Free\njobs 0 queued 1 running 1 done\n",
+    ),
+    // broadcast that waits
+    (
+        "start 32 2/0/l\nc0 broadcast 0\nc0 go 9\n0.1 go 4\n0.1 ok\n0.1 go 2\n0.0 go 4\n0.0 fault\n0.0 go 3\nc0 go 3\n",
+        "pool 0 sleeping 0 inactive 0 turn 0 injected 0 count 1\n0.0 deque 0 cast 0 blocked 0 place Probe\n0.1 deque 0 cast 0 blocked 0 place Probe\njobs 0 queued 0 running 2 done\n",
     ),
     // last line without its end
     (

@@ -116,6 +116,10 @@ fn event(party: Party, word: &str, argument: &str) -> Option<Event> {
             party,
             pool: index(argument)?,
         }),
+        "broadcast" => Some(Event::Broadcast {
+            party,
+            pool: index(argument)?,
+        }),
         "install" => Some(Event::Install {
             party,
             pool: index(argument)?,
@@ -136,11 +140,12 @@ fn event(party: Party, word: &str, argument: &str) -> Option<Event> {
 
 // The event of a call into a scope.
 fn event_into(party: Party, words: &str) -> Option<Event> {
-    match words.split_once(' ') {
-        Some((scope, "spawn")) => Some(Event::IntoSpawn {
-            party,
-            scope: index(scope)?,
-        }),
+    let (scope, word) = words.split_once(' ')?;
+    let scope = index(scope)?;
+    match word {
+        "spawn" => Some(Event::IntoSpawn { party, scope }),
+        "fifo" => Some(Event::IntoFifo { party, scope }),
+        "cast" => Some(Event::IntoCast { party, scope }),
         _ => None,
     }
 }

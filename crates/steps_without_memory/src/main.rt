@@ -1,6 +1,7 @@
 //! Makes a list of steps on the pure machine and, where an allocation of the start or of a step was refused, looks
 //! whether the world is as before and makes the same call again. It prints how often that was, and what the world shows
-//! at the end. Standard input has the number of allocations that the program makes and gives back before anything else.
+//! at the end. Standard input has the name of the list, `steps` or `scopes`, and the number of allocations that the
+//! program makes and gives back before anything else.
 #![tactic(auto)]
 
 use rayon_machine::error::{StartError, StepError};
@@ -31,6 +32,11 @@ const FINE: Event = Event::End {
     ending: Ending::Fine,
 };
 
+const FAULT: Event = Event::End {
+    party: WORKER,
+    ending: Ending::Fault,
+};
+
 /// An install whose job joins two sides, and then a spawn: each event, and how often it is made.
 const STEPS: [(Event, u32); 14] = [
     (
@@ -59,6 +65,104 @@ const STEPS: [(Event, u32); 14] = [
         1,
     ),
     (Event::Go(CALLER), 4),
+];
+
+/// An install whose job opens a scope, spawns into it, in order too, and broadcasts into it, and spawns in order and
+/// broadcasts beside it. The jobs run, one of them faults, and a piece broadcasts and waits. Last the caller broadcasts.
+const SCOPES: [(Event, u32); 36] = [
+    (
+        Event::Install {
+            party: CALLER,
+            pool: 0,
+        },
+        1,
+    ),
+    (Event::Go(CALLER), 5),
+    (Event::Go(WORKER), 10),
+    (
+        Event::Scope {
+            party: WORKER,
+            pool: 0,
+        },
+        1,
+    ),
+    (Event::Go(WORKER), 2),
+    (
+        Event::IntoSpawn {
+            party: WORKER,
+            scope: 0,
+        },
+        1,
+    ),
+    (Event::Go(WORKER), 5),
+    (
+        Event::IntoFifo {
+            party: WORKER,
+            scope: 0,
+        },
+        1,
+    ),
+    (Event::Go(WORKER), 6),
+    (
+        Event::IntoCast {
+            party: WORKER,
+            scope: 0,
+        },
+        1,
+    ),
+    (Event::Go(WORKER), 6),
+    (
+        Event::Fifo {
+            party: WORKER,
+            pool: 0,
+        },
+        1,
+    ),
+    (Event::Go(WORKER), 5),
+    (
+        Event::Cast {
+            party: WORKER,
+            pool: 0,
+        },
+        1,
+    ),
+    (Event::Go(WORKER), 5),
+    // the body ends, and in its wait the newest job begins: the detached one
+    (FINE, 1),
+    (Event::Go(WORKER), 5),
+    (FINE, 1),
+    (Event::Go(WORKER), 4),
+    // then the scope's two jobs and its piece, which faults
+    (FINE, 1),
+    (Event::Go(WORKER), 5),
+    (FINE, 1),
+    (Event::Go(WORKER), 6),
+    (FAULT, 1),
+    (Event::Go(WORKER), 6),
+    // the installed job ends, and the detached piece begins
+    (FINE, 1),
+    (Event::Go(WORKER), 6),
+    (
+        Event::Broadcast {
+            party: WORKER,
+            pool: 0,
+        },
+        1,
+    ),
+    (Event::Go(WORKER), 10),
+    (FINE, 1),
+    (Event::Go(WORKER), 6),
+    (FAULT, 1),
+    (Event::Go(WORKER), 1),
+    (Event::Go(CALLER), 3),
+    (
+        Event::Cast {
+            party: CALLER,
+            pool: 0,
+        },
+        1,
+    ),
+    (Event::Go(CALLER), 5),
 ];
 
 /// What the world shows of its pool, its worker and its jobs.
@@ -149,10 +253,10 @@ fn repeat(world: &mut World, event: Event, times: u32) -> Option<u32> {
 }
 
 // Makes all steps. How many of them had no room at first, or None where one failed.
-fn replay(world: &mut World) -> Option<u32> {
+fn replay(world: &mut World, steps: &[(Event, u32)]) -> Option<u32> {
     let mut refused = 0u32;
-    for (event, times) in STEPS {
-        refused = refused.saturating_add(repeat(world, event, times)?);
+    for (event, times) in steps {
+        refused = refused.saturating_add(repeat(world, *event, *times)?);
     }
     Some(refused)
 }
@@ -176,16 +280,22 @@ fn start(alloc: Global) -> Option<(World, u32)> {
     }
 }
 
-// The number that the input has.
-fn number(input: &[u8]) -> Option<u32> {
-    str::from_utf8(input).ok()?.trim().parse().ok()
+// Whether the input names the list with scopes, and its number.
+fn words(input: &[u8]) -> Option<(bool, u32)> {
+    let (name, number) = str::from_utf8(input).ok()?.trim().split_once(' ')?;
+    let number = number.parse().ok()?;
+    match name {
+        "steps" => Some((false, number)),
+        "scopes" => Some((true, number)),
+        _ => None,
+    }
 }
 
 fn main(rt: HostRuntime) -> io::Result<()> {
     let alloc = rt.alloc();
     let mut input = [0u8; INPUT_BYTES];
     let length = rt.reader().read(&mut input)?;
-    let Some(before) = number(&input[..length]) else {
+    let Some((with_scopes, before)) = words(&input[..length]) else {
         return println!(rt; "bad input");
     };
     if !allocate(alloc, before) {
@@ -194,7 +304,12 @@ fn main(rt: HostRuntime) -> io::Result<()> {
     let Some((mut world, starts)) = start(alloc) else {
         return println!(rt; "no start");
     };
-    match (replay(&mut world), View::of(&world)) {
+    let steps = if with_scopes {
+        replay(&mut world, &SCOPES)
+    } else {
+        replay(&mut world, &STEPS)
+    };
+    match (steps, View::of(&world)) {
         (Some(steps), Some(view)) => {
             println!(rt; "no room at {starts} starts and {steps} steps; {view}")
         }

@@ -65,7 +65,7 @@ module _ {X G O F : Type 0} (h : PoolShape) (i : ℕ) (m : Move) (s u v : Hands 
   -- the task that was found is given out of the hands
   pub given : (n : Taken) (r : Option (TaskOf X)) → r ≡ u.task → v ≡ record u { task = None } → HasTask u.task (Some n) → So h i m s (Stay (at.BeginTask n)) u → MatchOption r (So h i m s Back v) (λ t. So h i m s (Stay (at.BeginTask (Plain t.ticket.number))) (record v { task = Some t }))
   given n None e f k d = absurd (subst (λ (z : Option (TaskOf X)). HasTask z (Some n)) (sym e) k)
-  given (Token n j) (Some t) e f k d = absurd (subst (λ (z : Option (TaskOf X)). HasTask z (Some (Token n j))) (sym e) k)
+  given (Token n j b) (Some t) e f k d = absurd (subst (λ (z : Option (TaskOf X)). HasTask z (Some (Token n j b))) (sym e) k)
   given (Plain n) (Some t) e f k d =
       let is : t.ticket.number ≡ n = subst (λ (z : Option (TaskOf X)). HasTask z (Some (Plain n))) (sym e) k in
       let same : u ≡ record v { task = Some t } = subst (λ (z : Hands X G O F). u ≡ record z { task = Some t }) (sym f) (ap (λ (z : Option (TaskOf X)). record u { task = z }) (sym e)) in

@@ -1,7 +1,7 @@
 -- What a wait, and a join's look, leave of the worker's own: its index and its pool's shape, and its units but for the one
 -- that the end of the call gives back.
 use Rattle.std.proofs.Common.{◌≡◌, ℕ, ◌+◌, ◌-◌, Bool, true, false, nat_lt, ◌==◌, ◌&&◌, if◌then◌else◌, Option, None, Some, refl, sym, subst, ap, true≢false}
-use Rattle.rayon_machine_places.specs.declared.place.Count.TheVariants.{OfPool, OfScope}
+use Rattle.rayon_machine_places.specs.declared.place.Count.TheVariants.{OfPool, OfScope, OfCast}
 use Rattle.rayon_machine_places.specs.declared.place.Taken.{Taken}
 use Rattle.rayon_machine_places.specs.declared.place.Ending.TheVariants.{Fine}
 use Rattle.rayon_machine_places.specs.declared.place.Party.TheVariants.{Worker}
@@ -322,6 +322,7 @@ module _ {X G O F : Type 0} where
               let even = finish_even h g i t b.0 in
               (even.0, chain (ap (λ (z : Hands X G O F). z.holds) c) (chain (ap (λ n. n - 1) b.2) (sym (chain even.1 (ap (λ q. units_if q h) b.1)))))
           lowered (at.LowerCount (OfScope d o) s t) _ l b c = absurd b.0
+          lowered (at.LowerCount (OfCast d o) s t) _ l b c = absurd b.0
           lowered _ x l b c = absurd (true≢false (sym l))
 
   -- the units after a wait

@@ -73,7 +73,7 @@ module _ {X G O F : Type 0} where
 
 -- what a pop that was not the own second side leads to
 pub popped_joins : (h : PoolShape) (i : ℕ) (o : OpenCall) (x : Seen) → (x ≡ Task (Plain o.job) → ⊥) → InJoin o (next_of h (Worker 0 i) (at.JoinPop o) x)
-popped_joins h i o (Task (Token k j)) n = (inl refl, tt)
+popped_joins h i o (Task (Token k j b)) n = (inl refl, tt)
 popped_joins h i o (Task (Plain t)) n = by (t == o.job) refl
   where
     by : (z : Bool) → (t == o.job) ≡ z → InJoin o (if z then Enter (at.SecondSide o) (at.BeginHere o.job) else Enter (at.JoinProbe o) (at.BeginTask (Plain t)))

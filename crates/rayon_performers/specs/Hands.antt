@@ -1,6 +1,6 @@
 -- What a worker performs its acts with, and what each act does to it.
 use Rattle.std.specs.Prelude.{◌≡◌, ℕ, ◌+◌, ◌-◌, ◌++◌, [], ◌∷◌, List, Bool, true, false, Option, None, Some, slice_get}
-use Rattle.rayon_machine_places.specs.declared.place.Count.TheVariants.{OfScope}
+use Rattle.rayon_machine_places.specs.declared.place.Count.TheVariants.{OfScope, OfCast}
 use Rattle.rayon_machine_places.specs.declared.place.Ending.{Ending}
 use Rattle.rayon_machine_places.specs.declared.place.JobKind.{JobKind}
 use Rattle.rayon_machine_places.specs.declared.place.JobKind.TheVariants.{Stored, Direct}
@@ -65,7 +65,7 @@ module _ {X : Type 0} where
   HasTask k None = Unit {0}
   HasTask None (Some n) = ⊥
   HasTask (Some x) (Some (Plain n)) = x.ticket.number ≡ n
-  HasTask (Some x) (Some (Token n i)) = ⊥
+  HasTask (Some x) (Some (Token n i b)) = ⊥
 
   -- the task stands last in what the own pass has taken, from the end that the deque's order says
   abbrev pub PoppedFrom : Deque (TaskOf X) → Option (TaskOf X) → Deque (TaskOf X) → Type 0
@@ -115,9 +115,9 @@ module _ {X G O F : Type 0} where
   Needs acts.SubSleeping s = Sleeping s.chair
   Needs acts.Block s = Sleeping s.chair
   Needs (acts.News p e) s = Resting s.chair
-  Needs (acts.FifoIn n) s = ⊥
-  Needs acts.FifoUndo s = ⊥
-  Needs (acts.FifoOut n i) s = ⊥
+  Needs (acts.FifoIn n b) s = ⊥
+  Needs (acts.FifoUndo b) s = ⊥
+  Needs (acts.FifoOut n i b) s = ⊥
   Needs (acts.RaiseAll c) s = ⊥
   Needs (acts.PushCast c) s = ⊥
   Needs (acts.LowerAll c) s = ⊥
@@ -127,10 +127,14 @@ module _ {X G O F : Type 0} where
   Needs (acts.LockWait c) s = ⊥
   Needs (acts.Raise k n) s = ⊥
   Needs (acts.Lower (OfScope c o) b) s = ⊥
+  Needs (acts.Lower (OfCast c o) b) s = ⊥
   Needs (acts.Slot c n) s = ⊥
   Needs (acts.SlotUndo c n) s = ⊥
+  Needs (acts.SlotAll b) s = ⊥
+  Needs (acts.SlotUndoAll b) s = ⊥
   Needs (acts.StoreBody c e) s = ⊥
   Needs (acts.StoreSlot c n e) s = ⊥
+  Needs (acts.StorePiece c n e) s = ⊥
   Needs acts.Idle s = ⊥
   Needs _ s = Unit {0}
 

@@ -2,7 +2,7 @@
 use Rattle.std.specs.Prelude.{◌≡◌, ℕ, ◌+◌, ◌-◌, ◌==◌, nat_lt, ◌&&◌, if◌then◌else◌, Bool, true, false, Option, None, Some}
 use Rattle.std.proofs.Common.{refl, sym, subst, ap, true≢false}
 use Rattle.std.proofs.lemmas.Bool.{eqb-true}
-use Rattle.rayon_machine_places.specs.declared.place.Count.TheVariants.{OfPool, OfScope}
+use Rattle.rayon_machine_places.specs.declared.place.Count.TheVariants.{OfPool, OfScope, OfCast}
 use Rattle.rayon_machine_places.specs.declared.place.Party.{Party}
 use Rattle.rayon_machine_places.specs.declared.place.Party.TheVariants.{Worker, Caller}
 use Rattle.rayon_machine_places.specs.declared.place.Ending.{Ending}
@@ -14,7 +14,7 @@ use Rattle.rayon_machine_places.specs.declared.place.OpenCall.{OpenCall}
 use Rattle.rayon_machine_places.specs.declared.place.Rounds.{Rounds}
 use Rattle.rayon_machine_places.specs.declared.place.Rounds.TheVariants.{Failed, Announced}
 use Rattle.rayon_machine_places.specs.declared.place.Then.{Then}
-use Rattle.rayon_machine_places.specs.declared.place.Then.TheVariants.{BeginFound, LeaveWait, Resume, Await, RunFirst, Answers, Missing as AnswersMissing, Ran, GiveBack, Called}
+use Rattle.rayon_machine_places.specs.declared.place.Then.TheVariants.{BeginFound, LeaveWait, Resume, Await, RunFirst, Answers, Missing as AnswersMissing, Ran, GiveBack, Called, Gathers}
 use Rattle.rayon_machine_places.specs.declared.place.Wait.{Wait}
 use Rattle.rayon_machine_places.specs.declared.place.Settling.{Settling}
 use Rattle.rayon_machine_places.specs.declared.place.Place.{Place}
@@ -35,9 +35,9 @@ use Rattle.rayon_performers.specs.Stands.{IsWorker, SeatAt, Seated, StandsAt, St
 
 module _ {X : Type 0} where
   -- a token is no task that a worker has
-  no_token : (t : Option (TaskOf X)) (k i : ℕ) → HasTask t (Some (Token k i)) → ⊥
-  no_token None k i a = a
-  no_token (Some x) k i a = a
+  no_token : (t : Option (TaskOf X)) (k i : ℕ) (b : Option ℕ) → HasTask t (Some (Token k i b)) → ⊥
+  no_token None k i b a = a
+  no_token (Some x) k i b a = a
 
 module _ {X G O F : Type 0} where
   -- what is in hand is in hand of an equal
@@ -98,6 +98,7 @@ module _ {X G O F : Type 0} where
   finish_stands u p i Resume a = tt
   finish_stands u p i Called a = tt
   finish_stands u p i (Await o) a = (a, tt)
+  finish_stands u p i (Gathers o) a = (a, tt)
   finish_stands u p i (RunFirst o b) a = (a, tt)
   finish_stands u p i (Answers o f e) a = tt
   finish_stands u p i (AnswersMissing o f) a = tt
@@ -156,7 +157,7 @@ module _ {X G O F : Type 0} where
 
   -- a join has found its own second side, or another task
   joined : (u : Hands X G O F) (o : OpenCall) (n : Taken) → StandsAt u (Some n) (Some o.number) None None false → Stands u (if is_taken n o.job then Enter (at.SecondSide o) (at.BeginHere o.job) else Enter (at.JoinProbe o) (at.BeginTask n))
-  joined u o (Token k i) a = absurd (no_token u.task k i a.task)
+  joined u o (Token k i b) a = absurd (no_token u.task k i b a.task)
   joined u o (Plain n) a = by (n == o.job) refl
     where
       by : (z : Bool) → (n == o.job) ≡ z → Stands u (if z then Enter (at.SecondSide o) (at.BeginHere o.job) else Enter (at.JoinProbe o) (at.BeginTask (Plain n)))
@@ -183,7 +184,7 @@ module _ {X G O F : Type 0} where
   stands_needs u p i (at.SetLatch s) r a e = a.0.reply
   stands_needs u p i (at.SetLockLatch c t) r a e = a.0.reply
   stands_needs u p i (at.BeginTask (Plain t)) r a e = a.0.task
-  stands_needs u p i (at.BeginTask (Token t j)) r a e = no_token u.task t j a.0.task
+  stands_needs u p i (at.BeginTask (Token t j b)) r a e = no_token u.task t j b a.0.task
   stands_needs u p i (at.BeginHere t) r a e = a.0.task
   stands_needs u p i (at.RaiseCount n) r a e = absurd a.1
   stands_needs u p i (at.GrowCall n) r a e = absurd a.1
@@ -196,14 +197,20 @@ module _ {X G O F : Type 0} where
   stands_needs u p i (at.RaiseForAll c) r a e = absurd a.1
   stands_needs u p i (at.PushForAll c) r a e = absurd a.1
   stands_needs u p i (at.LowerForAll c) r a e = absurd a.1
+  stands_needs u p i (at.OpenForAll c) r a e = absurd a.1
+  stands_needs u p i (at.CloseForAll c) r a e = absurd a.1
+  stands_needs u p i (at.GrowCast g) r a e = absurd a.1
+  stands_needs u p i (at.DealPieces g) r a e = absurd a.1
   stands_needs u p i (at.TellNews n z) r a e = absurd a.1
   stands_needs u p i (at.WaitForLock o) r a e = absurd a.1
   stands_needs u p i (at.GrowScope o) r a e = absurd a.1
   stands_needs u p i (at.OpenSlot z) r a e = absurd a.1
   stands_needs u p i (at.CloseSlot z) r a e = absurd a.1
   stands_needs u p i (at.LowerCount (OfScope c o) s t) r a e = absurd a.1
+  stands_needs u p i (at.LowerCount (OfCast c o) s t) r a e = absurd a.1
   stands_needs u p i (at.StoreBody o z) r a e = absurd a.1
   stands_needs u p i (at.StoreSlot c o n z) r a e = absurd a.1
+  stands_needs u p i (at.StorePiece c o n z) r a e = absurd a.1
   stands_needs u p i (at.Run t k) r a e = absurd (true≢false r)
   stands_needs u p i (at.FirstSide o b) r a e = absurd (true≢false r)
   stands_needs u p i (at.SecondSide o) r a e = absurd (true≢false r)
@@ -278,7 +285,7 @@ module _ {X G O F : Type 0} where
   stands_on u v h p i at.LocalTakeCast _ r a d = tt
   stands_on u v h p i (at.BeginTask (Plain t)) (Begun k) r a d = (same u v _ _ _ _ _ d.1 a.0, tt)
   stands_on u v h p i (at.BeginTask (Plain t)) _ r a d = absurd d
-  stands_on u v h p i (at.BeginTask (Token t j)) _ r a d = absurd (no_token u.task t j a.0.task)
+  stands_on u v h p i (at.BeginTask (Token t j b)) _ r a d = absurd (no_token u.task t j b a.0.task)
   stands_on u v h p i (at.BeginHere t) (Begun k) r a d = (same u v _ _ _ _ _ d.1 a.0, tt)
   stands_on u v h p i (at.BeginHere t) _ r a d = absurd d
   stands_on u v h p i (at.LockToWake k) _ r a d = (moved u v v _ _ _ _ _ d.0 a.0, tt)
@@ -308,14 +315,20 @@ module _ {X G O F : Type 0} where
   stands_on u v h p i (at.RaiseForAll c) _ r a d = absurd a.1
   stands_on u v h p i (at.PushForAll c) _ r a d = absurd a.1
   stands_on u v h p i (at.LowerForAll c) _ r a d = absurd a.1
+  stands_on u v h p i (at.OpenForAll c) _ r a d = absurd a.1
+  stands_on u v h p i (at.CloseForAll c) _ r a d = absurd a.1
+  stands_on u v h p i (at.GrowCast g) _ r a d = absurd a.1
+  stands_on u v h p i (at.DealPieces g) _ r a d = absurd a.1
   stands_on u v h p i (at.TellNews n e) _ r a d = absurd a.1
   stands_on u v h p i (at.WaitForLock o) _ r a d = absurd a.1
   stands_on u v h p i (at.GrowScope o) _ r a d = absurd a.1
   stands_on u v h p i (at.OpenSlot e) _ r a d = absurd a.1
   stands_on u v h p i (at.CloseSlot e) _ r a d = absurd a.1
   stands_on u v h p i (at.LowerCount (OfScope c o) s t) _ r a d = absurd a.1
+  stands_on u v h p i (at.LowerCount (OfCast c o) s t) _ r a d = absurd a.1
   stands_on u v h p i (at.StoreBody o e) _ r a d = absurd a.1
   stands_on u v h p i (at.StoreSlot c o n e) _ r a d = absurd a.1
+  stands_on u v h p i (at.StorePiece c o n e) _ r a d = absurd a.1
   stands_on u v h p i _ _ r a d = absurd (true≢false r)
 
   -- the laws of the running performer, which is a worker

@@ -3,7 +3,7 @@ use Rattle.std.specs.Prelude.{◌≡◌, ℕ, ◌+◌, ◌-◌, ◌==◌, ◌≤
 use Rattle.std.proofs.Common.{refl, sym, subst, ap, true≢false}
 use Rattle.rayon_machine_places.specs.declared.place.Party.{Party}
 use Rattle.rayon_machine_places.specs.declared.place.Party.TheVariants.{Worker, Caller}
-use Rattle.rayon_machine_places.specs.declared.place.Count.TheVariants.{OfPool, OfScope}
+use Rattle.rayon_machine_places.specs.declared.place.Count.TheVariants.{OfPool, OfScope, OfCast}
 use Rattle.rayon_machine_places.specs.declared.place.Latch.{Latch}
 use Rattle.rayon_machine_places.specs.declared.place.Latch.TheVariants.{Terminate, OfCall}
 use Rattle.rayon_machine_places.specs.declared.place.Target.{Target}
@@ -11,7 +11,7 @@ use Rattle.rayon_machine_places.specs.declared.place.Target.TheVariants.{Termina
 use Rattle.rayon_machine_places.specs.declared.place.Rounds.{Rounds}
 use Rattle.rayon_machine_places.specs.declared.place.Rounds.TheVariants.{Failed, Announced}
 use Rattle.rayon_machine_places.specs.declared.place.Then.{Then}
-use Rattle.rayon_machine_places.specs.declared.place.Then.TheVariants.{BeginFound, LeaveWait, Resume, Await, RunFirst, Answers, Missing as AnswersMissing, Ran, GiveBack, Called}
+use Rattle.rayon_machine_places.specs.declared.place.Then.TheVariants.{BeginFound, LeaveWait, Resume, Await, RunFirst, Answers, Missing as AnswersMissing, Ran, GiveBack, Called, Gathers}
 use Rattle.rayon_machine_places.specs.declared.place.Wait.{Wait}
 use Rattle.rayon_machine_places.specs.declared.place.Settling.{Settling}
 use Rattle.rayon_machine_places.specs.declared.place.Place.{Place}
@@ -57,6 +57,7 @@ finish_seat c p i (LeaveWait g) a = rests_at c g a
 finish_seat c p i Resume a = a
 finish_seat c p i Called a = a
 finish_seat c p i (Await o) a = a
+finish_seat c p i (Gathers o) a = a
 finish_seat c p i (RunFirst o b) a = a
 finish_seat c p i (Answers o f e) a = a
 finish_seat c p i (AnswersMissing o f) a = a
@@ -163,8 +164,8 @@ still c h p i at.LocalTakeCast (Task n) r m w a = a
 still c h p i at.LocalTakeCast _ r m w a = a
 still c h p i (at.BeginTask (Plain t)) (Begun k) r m w a = a
 still c h p i (at.BeginTask (Plain t)) _ r m w a = a
-still c h p i (at.BeginTask (Token t j)) (Handed n d) r m w a = a
-still c h p i (at.BeginTask (Token t j)) _ r m w a = a
+still c h p i (at.BeginTask (Token t j b)) (Handed n d) r m w a = a
+still c h p i (at.BeginTask (Token t j b)) _ r m w a = a
 still c h p i (at.BeginHere t) _ r m w a = a
 still c h p i (at.WakeWorker k) Yes r m w a = a
 still c h p i (at.WakeWorker k) _ r m w a = a
@@ -174,11 +175,13 @@ still c h p i (at.TakeResult o f) _ r m w a = a
 still c h p i (at.LowerCount (OfPool n) s t) Yes r m w a = settle_seat c h p i n 0 t a
 still c h p i (at.LowerCount (OfPool n) s t) _ r m w a = finish_seat c p i t a
 still c h p i (at.LowerCount (OfScope n o) s t) _ r m w a = absurd w
+still c h p i (at.LowerCount (OfCast n o) s t) _ r m w a = absurd w
 still c h p i (at.GrowScope o) _ r m w a = absurd w
 still c h p i (at.OpenSlot e) _ r m w a = absurd w
 still c h p i (at.CloseSlot e) _ r m w a = absurd w
 still c h p i (at.StoreBody o e) _ r m w a = absurd w
 still c h p i (at.StoreSlot n o t e) _ r m w a = absurd w
+still c h p i (at.StorePiece n o t e) _ r m w a = absurd w
 still c h p i (at.ScopeBody o) _ r m w a = absurd (true≢false r)
 still c h p i (at.StoreResult n o e) _ r m w a = told c n o a
 still c h p i (at.SetLatch s) Yes r m w a = a
@@ -197,6 +200,10 @@ still c h p i (at.TakeFromFifo f) _ r m w a = absurd w
 still c h p i (at.RaiseForAll n) _ r m w a = absurd w
 still c h p i (at.PushForAll n) _ r m w a = absurd w
 still c h p i (at.LowerForAll n) _ r m w a = absurd w
+still c h p i (at.OpenForAll n) _ r m w a = absurd w
+still c h p i (at.CloseForAll n) _ r m w a = absurd w
+still c h p i (at.GrowCast g) _ r m w a = absurd w
+still c h p i (at.DealPieces g) _ r m w a = absurd w
 still c h p i (at.TellNews n e) _ r m w a = absurd w
 still c h p i (at.WaitForLock o) _ r m w a = absurd w
 still c h p i _ _ r m w a = absurd (true≢false r)
@@ -295,7 +302,7 @@ module _ {X G O F : Type 0} where
   moved u v h p i (at.LookQueue n) _ m w a d = absurd w
   moved u v h p i (at.PushJob n e) _ m w a d = absurd w
   moved u v h p i (at.BeginTask (Plain t)) _ m w a d = absurd (true≢false (sym m))
-  moved u v h p i (at.BeginTask (Token t j)) _ m w a d = absurd (true≢false (sym m))
+  moved u v h p i (at.BeginTask (Token t j b)) _ m w a d = absurd (true≢false (sym m))
   moved u v h p i _ _ m w a d = absurd (true≢false (sym m))
 
   -- after the act the seat holds what belongs to where the table leads

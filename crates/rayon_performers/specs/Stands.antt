@@ -1,13 +1,13 @@
 -- What a worker has at hand at each place of the table to which a drive leads it.
 use Rattle.std.specs.Prelude.{◌≡◌, ℕ, Bool, true, false, Option, None, Some}
-use Rattle.rayon_machine_places.specs.declared.place.Count.TheVariants.{OfScope}
+use Rattle.rayon_machine_places.specs.declared.place.Count.TheVariants.{OfScope, OfCast}
 use Rattle.rayon_machine_places.specs.declared.place.Party.{Party}
 use Rattle.rayon_machine_places.specs.declared.place.Party.TheVariants.{Worker, Caller}
 use Rattle.rayon_machine_places.specs.declared.place.Ending.{Ending}
 use Rattle.rayon_machine_places.specs.declared.place.Target.{Target}
 use Rattle.rayon_machine_places.specs.declared.place.Target.TheVariants.{Termination, Answer}
 use Rattle.rayon_machine_places.specs.declared.place.Then.{Then}
-use Rattle.rayon_machine_places.specs.declared.place.Then.TheVariants.{BeginFound, LeaveWait, Await}
+use Rattle.rayon_machine_places.specs.declared.place.Then.TheVariants.{BeginFound, LeaveWait, Await, Gathers}
 use Rattle.rayon_machine_places.specs.declared.place.Taken.{Taken}
 use Rattle.rayon_machine_places.specs.declared.place.Taken.TheVariants.{Plain}
 use Rattle.rayon_machine_places.specs.declared.place.Place.{Place}
@@ -33,6 +33,7 @@ abbrev pub call_then : Then → Option ℕ
 call_then (BeginFound g t) = call_to g
 call_then (LeaveWait g) = call_to g
 call_then (Await o) = Some o.number
+call_then (Gathers o) = Some o.number
 call_then _ = None
 
 -- whether the wait is left since its latch was seen set
@@ -160,7 +161,7 @@ Seated c (Stay p) = SeatAt p c
 Seated c _ = Resting c
 
 -- a place of a call before its wait. What it queues is its own affair: no drive stands there. And no worker here opens
--- a scope yet, or spawns into one
+-- a scope yet, or spawns into one, or broadcasts
 abbrev pub IsDriven : Place → Type 0
 IsDriven (at.RaiseCount n) = ⊥
 IsDriven (at.GrowCall n) = ⊥
@@ -173,14 +174,20 @@ IsDriven (at.TakeFromFifo f) = ⊥
 IsDriven (at.RaiseForAll c) = ⊥
 IsDriven (at.PushForAll c) = ⊥
 IsDriven (at.LowerForAll c) = ⊥
+IsDriven (at.OpenForAll c) = ⊥
+IsDriven (at.CloseForAll c) = ⊥
+IsDriven (at.GrowCast g) = ⊥
+IsDriven (at.DealPieces g) = ⊥
 IsDriven (at.TellNews n e) = ⊥
 IsDriven (at.WaitForLock o) = ⊥
 IsDriven (at.GrowScope o) = ⊥
 IsDriven (at.OpenSlot x) = ⊥
 IsDriven (at.CloseSlot x) = ⊥
 IsDriven (at.LowerCount (OfScope c o) s t) = ⊥
+IsDriven (at.LowerCount (OfCast c o) s t) = ⊥
 IsDriven (at.StoreBody o e) = ⊥
 IsDriven (at.StoreSlot c o n e) = ⊥
+IsDriven (at.StorePiece c o n e) = ⊥
 IsDriven _ = Unit {0}
 
 -- the task that begins above a frame

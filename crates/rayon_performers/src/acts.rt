@@ -48,8 +48,8 @@ impl<J: JobKind> Perform for Bench<J> {
             Act::Lower { count, share } => yes(self.lower(rt, count, share)),
             Act::PushOwn { .. }
             | Act::PushInj { .. }
-            | Act::FifoIn(_)
-            | Act::FifoUndo
+            | Act::FifoIn { .. }
+            | Act::FifoUndo(_)
             | Act::FifoOut { .. }
             | Act::RaiseAll(_)
             | Act::PushCast(_)
@@ -59,8 +59,11 @@ impl<J: JobKind> Perform for Bench<J> {
             | Act::Raise { .. }
             | Act::Slot { .. }
             | Act::SlotUndo { .. }
+            | Act::SlotAll(_)
+            | Act::SlotUndoAll(_)
             | Act::StoreBody { .. }
             | Act::StoreSlot { .. }
+            | Act::StorePiece { .. }
             | Act::Idle => unreachable!(),
             Act::Pick => self.pick(),
             Act::TakeCast => self.add(act, Seen::Missing),

@@ -5,7 +5,7 @@ use Rattle.rayon_words.specs.declared.refusal.CallError.{CallError}
 use Rattle.rayon_machine_places.specs.declared.place.Ending.{Ending}
 use Rattle.rayon_machine_places.specs.declared.place.Ending.TheVariants.{Fine, Fault}
 use Rattle.rayon_machine_places.specs.declared.place.JobKind.{JobKind}
-use Rattle.rayon_machine_places.specs.declared.place.JobKind.TheVariants.{BodyOf, Detached, Direct, Scoped, Stored, TokenOf}
+use Rattle.rayon_machine_places.specs.declared.place.JobKind.TheVariants.{BodyOf, Detached, Direct, PieceOf, Scoped, Stored, TokenOf, WholeOf}
 use Rattle.rayon_machine_places.specs.declared.place.OpenCall.{OpenCall}
 use Rattle.rayon_machine_places.specs.declared.place.Plan.{Plan}
 use Rattle.rayon_machine_places.specs.declared.place.Plan.TheVariants.{Here}
@@ -15,7 +15,7 @@ use Rattle.rayon_machine_places.specs.declared.place.Party.{Party}
 use Rattle.rayon_machine_places.specs.declared.place.Move.{Move}
 use Rattle.rayon_machine_places.specs.declared.place.Move.TheVariants.{Stay, Enter, StartRun, Back, HandBack}
 use Rattle.rayon_machine_places.specs.declared.shape.PoolShape.{PoolShape}
-use Rattle.rayon_machine_places.specs.declared.place.Place.TheVariants.{AtOnce, BeginHere, FirstSide, LowerCount, RaiseCount, Run, Stopped, StoreResult, StoreSlot}
+use Rattle.rayon_machine_places.specs.declared.place.Place.TheVariants.{AtOnce, BeginHere, FirstSide, LowerCount, RaiseCount, Run, Stopped, StoreResult, StoreSlot, StorePiece}
 use Rattle.rayon_machine_places.specs.declared.place.Target.{Target}
 use Rattle.rayon_machine_places.specs.declared.place.Target.TheVariants.{Termination, Answer}
 use Rattle.rayon_machine_places.specs.Places.{goes_on}
@@ -47,14 +47,17 @@ below (StartRun f t) e = Stay (goes_on f e)
 below m e = m
 
 -- the acts that the end of a run of this job adds: a share of the count is given back, or its ending is stored for the call
--- that waits for it or in its scope's book, or none, where the call below goes on. A token has no run
+-- that waits for it or in its scope's book, or none, where the call below goes on. A token has no run, and the number that
+-- stands for a broadcast has none
 abbrev pub Closes : PoolShape → Party → ℕ → JobKind → Ending → Log → Log → Type 0
 Closes h q t (Detached p) e v w = Made h q (Stay (LowerCount (OfPool p) (OfJob t) Resume)) v w Back
 Closes h q t (Stored c o) e v w = Made h q (Stay (StoreResult c o e)) v w Back
 Closes h q t (Scoped c o) e v w = Made h q (Stay (StoreSlot c o t e)) v w Back
 Closes h q t Direct e v w = w ≡ v
+Closes h q t (PieceOf c o) e v w = Made h q (Stay (StorePiece c o t e)) v w Back
 Closes h q t (BodyOf c o) e v w = w ≡ v
-Closes h q t (TokenOf i) e v w = ⊥
+Closes h q t (WholeOf c o) e v w = ⊥
+Closes h q t (TokenOf i b) e v w = ⊥
 
 -- what a run adds: the acts by which it begins, the entry of the run itself, and the acts of its end. The run of a first
 -- side begins and ends with none

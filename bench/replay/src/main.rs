@@ -1,7 +1,8 @@
 //! Replays the text of standard input on a machine written apart from the proved one, straight from the tables of
 //! acts and places. `replay` prints what `rcore replay` has to print, with the same status; `replay reach FILE..` prints
-//! the names of the places, acts and refusals that the files reach; `replay random SEED LINES START..` prints a replay of
-//! random enabled events.
+//! the names of the places, acts and refusals that the files reach; `replay begun FILE` the jobs that the file begins, in
+//! their order, by the numbers of the calls that made them; `replay random SEED LINES START..` a replay of random enabled
+//! events.
 
 mod random;
 mod reach;
@@ -18,6 +19,7 @@ fn main() -> ExitCode {
     let (text, status) = match words.as_slice() {
         [] => replay(),
         ["reach", files @ ..] => reach(files),
+        ["begun", file] => begun(file),
         ["random", seed, lines, start @ ..] => random(seed, lines, start),
         _ => (String::from("bad words\n"), 2),
     };
@@ -57,6 +59,25 @@ fn reach(files: &[&str]) -> (String, u8) {
     }
     let names: Vec<String> = reached.names.into_iter().collect();
     (names.join("\n") + "\n", 0)
+}
+
+/// The jobs that a file begins, each by how many calls were begun before its own that make jobs of pools or scopes.
+fn begun(file: &str) -> (String, u8) {
+    let Ok(text) = std::fs::read(file) else {
+        return (format!("{file} is not read\n"), 1);
+    };
+    let mut jobs = String::new();
+    let end = text::replay(&text, |world, event| {
+        if random::is_enabled(world, event) {
+            if let Some(job) = reach::begun(world, event) {
+                jobs.push_str(&format!("{job}\n"));
+            }
+        }
+    });
+    match end {
+        Ok(_) => (jobs, 0),
+        Err(line) => (format!("refused at line {line}\n"), 1),
+    }
 }
 
 fn random(seed: &str, lines: &str, start: &[&str]) -> (String, u8) {

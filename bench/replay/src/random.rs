@@ -53,26 +53,38 @@ fn draw(world: &World, numbers: &mut Numbers) -> (Event, usize) {
     let times = if numbers.below(3) == 0 { 1 } else { 1 + numbers.below(30) };
     let act = |how| Event::Act { party, how };
     let free = world.is_free(party);
+    let held: Vec<usize> = (0..world.scopes.len()).filter(|scope| world.holds(party, *scope as u32)).collect();
     match numbers.below(40) {
         0..=8 if free => (Event::End { party, fault: false }, 1),
         9..=10 if free => (Event::End { party, fault: true }, 1),
-        11..=13 if free => (Event::Spawn { party, pool }, 1),
-        14..=16 if free => (Event::Fifo { party, pool }, 1),
-        17 if free => (Event::Cast { party, pool }, 1),
-        18..=21 if free => (Event::Install { party, pool }, 1),
-        22..=25 if free => (Event::Join(party), 1),
-        26 if free => (Event::Scope { party, pool }, 1),
-        27 if free && !world.scopes.is_empty() => {
-            let scope = numbers.below(world.scopes.len());
-            (Event::IntoSpawn { party, scope }, 1)
+        11..=12 if free => (Event::Spawn { party, pool }, 1),
+        13..=14 if free => (Event::Fifo { party, pool }, 1),
+        15 if free => (Event::Cast { party, pool }, 1),
+        16 if free => (Event::Broadcast { party, pool }, 1),
+        17..=18 if free => (Event::Install { party, pool }, 1),
+        19..=20 if free => (Event::Join(party), 1),
+        21..=22 if free => (Event::Scope { party, pool }, 1),
+        23..=28 if free && !held.is_empty() => {
+            let scope = held[numbers.below(held.len())];
+            (into(party, scope, numbers), 1)
         }
-        28..=31 if free => (Event::Yield { party, local: false }, 1),
+        29 if free => (into(party, numbers.below(1 + world.scopes.len()), numbers), 1),
+        30..=31 if free => (Event::Yield { party, local: false }, 1),
         32..=33 if free => (Event::Yield { party, local: true }, 1),
         34 if free && numbers.below(50) == 0 => (Event::EndPool { party, pool }, 1),
         0..=2 => (act(How::From(numbers.below(4))), 1),
         3 => (act(How::Refuse), 1),
         4..=5 => (act(How::Miss), 1),
         _ => (act(How::Go), times),
+    }
+}
+
+/// A call into this scope.
+fn into(party: usize, scope: usize, numbers: &mut Numbers) -> Event {
+    match numbers.below(5) {
+        0 | 1 => Event::IntoSpawn { party, scope },
+        2 | 3 => Event::IntoFifo { party, scope },
+        _ => Event::IntoCast { party, scope },
     }
 }
 
@@ -93,10 +105,13 @@ fn words(world: &World, event: Event, times: usize) -> String {
         Event::Spawn { party, pool } => format!("{} spawn {pool}", name(party)),
         Event::Fifo { party, pool } => format!("{} fifo {pool}", name(party)),
         Event::Cast { party, pool } => format!("{} cast {pool}", name(party)),
+        Event::Broadcast { party, pool } => format!("{} broadcast {pool}", name(party)),
         Event::Install { party, pool } => format!("{} install {pool}", name(party)),
         Event::Join(party) => format!("{} join", name(party)),
         Event::Scope { party, pool } => format!("{} scope {pool}", name(party)),
         Event::IntoSpawn { party, scope } => format!("{} into {scope} spawn", name(party)),
+        Event::IntoFifo { party, scope } => format!("{} into {scope} fifo", name(party)),
+        Event::IntoCast { party, scope } => format!("{} into {scope} cast", name(party)),
         Event::Yield { party, local: false } => format!("{} yield", name(party)),
         Event::Yield { party, local: true } => format!("{} yield local", name(party)),
         Event::EndPool { party, pool } => format!("{} end {pool}", name(party)),

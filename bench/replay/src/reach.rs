@@ -1,4 +1,4 @@
-//! The names of acts, as the text prints them, and what a replay reaches.
+//! The names of acts, as the text prints them, what a replay reaches, and the jobs that it begins.
 
 use crate::step::{Event, How};
 use crate::world::{At, CallKind, CallStep, Frame, Look, Run, World};
@@ -13,7 +13,7 @@ pub fn act_name(world: &World, party: usize) -> &'static str {
         Frame::Wait(wait) => wait_names(wait.at).1,
         Frame::Stopped => "Stopped",
         Frame::Begin(_) => "Begin",
-        Frame::Redeem(_) => "FifoOut",
+        Frame::Redeem { .. } => "FifoOut",
         Frame::Run(_) => "Free",
         Frame::Call(call) => call_act(world.own_pool(party) == Some(call.pool), call.step),
         Frame::Yield { look, .. } => yield_act(*look),
@@ -22,8 +22,9 @@ pub fn act_name(world: &World, party: usize) -> &'static str {
             crate::world::Phase::Wake => "Wake",
             crate::world::Phase::Unlock => "Unlock",
         },
-        Frame::Lower(_) | Frame::LowerAll(_) | Frame::LowerScope(_) => "Lower",
-        Frame::Store { .. } | Frame::StoreSlot(_) => "Store",
+        Frame::Lower(_) | Frame::LowerAll(_) => "Lower",
+        Frame::LowerScope(_) | Frame::LowerScopeAll(_) | Frame::LowerCast(_) => "Lower",
+        Frame::Store { .. } | Frame::StoreSlot(_) | Frame::StorePiece { .. } => "Store",
         Frame::SetLock(_) => "LockSet",
         Frame::SetCall { .. } | Frame::SetTerminate { .. } => "Set",
     }
@@ -32,8 +33,13 @@ pub fn act_name(world: &World, party: usize) -> &'static str {
 /// The name that the machine's sources give the next act of a party.
 fn variant_name(world: &World, party: usize) -> &'static str {
     match world.parties[party].stack.last() {
-        Some(Frame::Call(call)) if call.kind == CallKind::Cast && call.step == CallStep::Raise => "RaiseAll",
-        Some(Frame::LowerAll(_)) => "LowerAll",
+        Some(Frame::Call(call)) if call.kind.casts() => match call.step {
+            CallStep::Raise => "RaiseAll",
+            CallStep::OpenSlot => "SlotAll",
+            CallStep::CloseSlot => "SlotUndoAll",
+            _ => act_name(world, party),
+        },
+        Some(Frame::LowerAll(_) | Frame::LowerScopeAll(_)) => "LowerAll",
         _ => act_name(world, party),
     }
 }
@@ -108,9 +114,13 @@ fn wait_names(at: At) -> (&'static str, &'static str) {
 
 fn call_place(kind: CallKind, step: CallStep, above: Option<&Frame>) -> &'static str {
     match step {
-        CallStep::Raise if kind == CallKind::Cast => "RaiseForAll",
+        CallStep::Raise if kind.casts() => "RaiseForAll",
+        CallStep::OpenSlot if kind.casts() => "OpenForAll",
+        CallStep::CloseSlot if kind.casts() => "CloseForAll",
         CallStep::Raise => "RaiseCount",
         CallStep::Grow if kind == CallKind::Scope => "GrowScope",
+        CallStep::Grow if kind == CallKind::Broadcast => "GrowCast",
+        CallStep::Deal if kind == CallKind::Broadcast => "DealPieces",
         CallStep::Grow => "GrowCall",
         CallStep::Look => "LookQueue",
         CallStep::Push => "PushJob",
@@ -159,7 +169,7 @@ fn place(frame: &Frame, above: Option<&Frame>) -> &'static str {
         Frame::Wait(wait) => wait_names(wait.at).0,
         Frame::Stopped => "Stopped",
         Frame::Begin(Run::Direct) => "BeginHere",
-        Frame::Begin(_) | Frame::Redeem(_) => "BeginTask",
+        Frame::Begin(_) | Frame::Redeem { .. } => "BeginTask",
         Frame::Run(_) => "Run",
         Frame::Call(call) => call_place(call.kind, call.step, above),
         Frame::Yield { look, local, .. } => yield_place(*look, *local),
@@ -169,12 +179,29 @@ fn place(frame: &Frame, above: Option<&Frame>) -> &'static str {
         Frame::Settle { phase: Phase::Lock, .. } => "LockToSettle",
         Frame::Settle { phase: Phase::Wake, .. } => "WakeSettled",
         Frame::Settle { phase: Phase::Unlock, .. } => "UnlockSettled",
-        Frame::Lower(_) | Frame::LowerScope(_) => "LowerCount",
-        Frame::LowerAll(_) => "LowerForAll",
+        Frame::Lower(_) | Frame::LowerScope(_) | Frame::LowerCast(_) => "LowerCount",
+        Frame::LowerAll(_) | Frame::LowerScopeAll(_) => "LowerForAll",
         Frame::Store { .. } => "StoreResult",
         Frame::StoreSlot(_) => "StoreSlot",
+        Frame::StorePiece { .. } => "StorePiece",
         Frame::SetLock(_) => "SetLockLatch",
         Frame::SetCall { .. } | Frame::SetTerminate { .. } => "SetLatch",
+    }
+}
+
+/// The job that an enabled event begins, by the number of the call that made it; none where it begins none, or one
+/// that a call waits for by itself.
+pub fn begun(world: &World, event: Event) -> Option<u32> {
+    let Event::Act { party, .. } = event else {
+        return None;
+    };
+    match world.parties[party].stack.last()? {
+        Frame::Begin(Run::Detached { job, .. } | Run::Scoped { job, .. }) => Some(*job),
+        Frame::Redeem { worker, scope } => {
+            let seat = world.seat_of(world.own_pool(party)?, *worker);
+            world.seats[seat].lists.get(scope)?.jobs.front().copied()
+        }
+        _ => None,
     }
 }
 
@@ -199,8 +226,11 @@ impl Reached {
         }
     }
 
-    /// Notes the act that an enabled event makes.
+    /// Notes the act that an enabled event makes, and what it is of; or the run that it ends.
     pub fn act(&mut self, world: &World, event: Event) {
+        if let Event::End { party, fault } = event {
+            self.end(world, party, fault);
+        }
         let Event::Act { party, how } = event else {
             return;
         };
@@ -213,11 +243,37 @@ impl Reached {
             How::Go => {}
         }
         if let Some(Frame::Call(call)) = world.parties[party].stack.last() {
-            let of_pool = call.kind != CallKind::Enter;
-            if of_pool && call.step == CallStep::Raise && world.pools[call.pool as usize].count == 0 {
+            let kind = call.kind;
+            self.note(&format!("act {name} of {kind:?}"));
+            let of_pool = !kind.enters();
+            let ended = of_pool && call.step == CallStep::Raise && world.pools[call.pool as usize].count == 0;
+            if ended {
                 self.note(&format!("refused {name}"));
             }
+            if ended || how == How::Refuse {
+                self.note(&format!("refused {name} of {kind:?}"));
+            }
         }
+    }
+
+    /// Notes the end of the run on top of a party's stack.
+    fn end(&mut self, world: &World, party: usize, fault: bool) {
+        let stack = &world.parties[party].stack;
+        let run = match stack.as_slice() {
+            [.., Frame::Run(Run::Detached { .. })] => "detached job",
+            [.., Frame::Run(Run::Answer(_))] => "answer",
+            [.., Frame::Run(Run::Scoped { .. })] => "job of a scope",
+            [.., Frame::Run(Run::Piece(_))] => "piece",
+            [.., Frame::Call(call), Frame::Run(Run::Direct)] => match (call.kind, call.step) {
+                (CallKind::Scope, _) => "body",
+                (CallKind::Join, CallStep::Above) => "first side",
+                (CallKind::Join, _) => "second side",
+                _ => "install at once",
+            },
+            _ => return,
+        };
+        let ending = if fault { "fault" } else { "ok" };
+        self.note(&format!("end {run} {ending}"));
     }
 
     fn note(&mut self, name: &str) {

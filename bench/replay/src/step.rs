@@ -24,6 +24,9 @@ pub enum Event {
     Join(usize),
     Scope { party: usize, pool: usize },
     IntoSpawn { party: usize, scope: usize },
+    IntoFifo { party: usize, scope: usize },
+    IntoCast { party: usize, scope: usize },
+    Broadcast { party: usize, pool: usize },
     Yield { party: usize, local: bool },
     EndPool { party: usize, pool: usize },
 }
@@ -42,6 +45,7 @@ impl World {
             }
             Event::Fifo { party, pool } => self.call(party, pool, CallKind::Spawn),
             Event::Cast { party, pool } => self.call(party, pool, CallKind::Cast),
+            Event::Broadcast { party, pool } => self.call(party, pool, CallKind::Broadcast),
             Event::Install { party, pool } if self.own_pool(party) == Some(pool as u8) => {
                 self.call(party, pool, CallKind::Here)
             }
@@ -59,12 +63,13 @@ impl World {
                 }
                 enabled
             }
-            Event::IntoSpawn { party, scope } => match self.scopes.get(scope).copied() {
-                Some(found) if self.holds(party, scope as u32) => {
-                    self.scoped_call(party, found.pool as usize, CallKind::Enter, scope as u32)
-                }
-                _ => false,
-            },
+            Event::IntoSpawn { party, scope } => self.enter(party, scope, CallKind::Enter),
+            Event::IntoFifo { party, scope } => {
+                let pool = self.scopes.get(scope).map(|found| found.pool);
+                let own = pool.is_some() && self.own_pool(party) == pool;
+                self.enter(party, scope, if own { CallKind::EnterFifo } else { CallKind::Enter })
+            }
+            Event::IntoCast { party, scope } => self.enter(party, scope, CallKind::EnterCast),
             Event::Yield { party, local } => {
                 let enabled = self.own_pool(party).is_some() && self.is_free(party);
                 if enabled {
@@ -87,12 +92,24 @@ impl World {
         self.scoped_call(party, pool, kind, 0)
     }
 
+    /// A call into a scope by a party that holds it.
+    fn enter(&mut self, party: usize, scope: usize, kind: CallKind) -> bool {
+        match self.scopes.get(scope).copied() {
+            Some(found) if self.holds(party, scope as u32) => {
+                self.scoped_call(party, found.pool as usize, kind, scope as u32)
+            }
+            _ => false,
+        }
+    }
+
     fn scoped_call(&mut self, party: usize, pool: usize, kind: CallKind, scope: u32) -> bool {
         if pool >= self.pools.len() || !self.is_free(party) {
             return false;
         }
         let step = CallStep::Raise;
-        let call = Call { kind, step, pool: pool as u8, was_empty: false, number: 0, scope };
+        let job = self.makers;
+        self.makers += u32::from(kind.makes());
+        let call = Call { kind, step, pool: pool as u8, was_empty: false, number: 0, scope, job };
         self.push(party, Frame::Call(call));
         true
     }
@@ -105,9 +122,10 @@ impl World {
         self.totals.running -= 1;
         self.totals.done += 1;
         match run {
-            Run::Detached(pool) => self.set_top(party, Frame::Lower(pool)),
+            Run::Detached { pool, .. } => self.set_top(party, Frame::Lower(pool)),
             Run::Answer(call) => self.set_top(party, Frame::Store { call, fault }),
-            Run::Scoped(scope) => self.set_top(party, Frame::StoreSlot(scope)),
+            Run::Scoped { scope, .. } => self.set_top(party, Frame::StoreSlot(scope)),
+            Run::Piece(call) => self.set_top(party, Frame::StorePiece { call, fault }),
             Run::Direct => {
                 self.parties[party].stack.pop();
                 self.call_after_run(party, fault);
@@ -187,7 +205,8 @@ impl World {
     /// The call has queued its job and woken others.
     fn after_news(&mut self, party: usize, call: Call) {
         match call.kind {
-            CallKind::Spawn | CallKind::Fifo | CallKind::Cast | CallKind::Enter => self.done(party),
+            CallKind::Spawn | CallKind::Fifo | CallKind::Cast => self.done(party),
+            CallKind::Enter | CallKind::EnterFifo | CallKind::EnterCast => self.done(party),
             CallKind::Join => {
                 self.go_on(party, call, CallStep::Above);
                 self.totals.running += 1;
@@ -215,10 +234,15 @@ impl World {
                 self.set_top(party, Frame::Run(run));
                 true
             }
-            Frame::Redeem(worker) => self.redeem(party, worker),
+            Frame::Redeem { worker, scope } => self.redeem(party, worker, scope),
             Frame::Wake { .. } | Frame::Settle { .. } => self.wake_act(party, frame),
             Frame::StoreSlot(scope) => self.store_slot(party, scope),
-            Frame::LowerScope(scope) => self.lower_scope(party, scope),
+            Frame::StorePiece { .. } | Frame::LowerCast(_) => self.end_piece(party, frame),
+            Frame::LowerScope(scope) => self.lower_scope(party, scope, 1),
+            Frame::LowerScopeAll(scope) => {
+                let shares = self.pieces_of(scope);
+                self.lower_scope(party, scope, shares)
+            }
             Frame::Lower(_) | Frame::LowerAll(_) => self.lower(party, frame),
             Frame::Store { .. } | Frame::SetLock(_) => self.end_act(party, frame),
             Frame::SetCall { .. } | Frame::SetTerminate { .. } => self.set_act(party, frame),
@@ -384,9 +408,23 @@ impl World {
         enabled
     }
 
-    fn lower_scope(&mut self, party: usize, scope: u32) -> bool {
+    /// How many pieces a broadcast into this scope has.
+    fn pieces_of(&self, scope: u32) -> u64 {
+        let pool = self.scopes[scope as usize].pool;
+        self.pools[pool as usize].shape.workers as u64
+    }
+
+    /// The frame that gives back what a refused call has of its scope's count.
+    fn undo_enter(call: Call) -> Frame {
+        match call.kind {
+            CallKind::EnterCast => Frame::LowerScopeAll(call.scope),
+            _ => Frame::LowerScope(call.scope),
+        }
+    }
+
+    fn lower_scope(&mut self, party: usize, scope: u32, shares: u64) -> bool {
         let record = &mut self.scopes[scope as usize];
-        record.count -= 1;
+        record.count -= shares;
         let (call, last) = (record.call, record.count == 0);
         if last {
             let next = self.set_latch_of(call);
@@ -402,9 +440,7 @@ impl World {
         let held = !self.is_book_open(party, call.scope);
         let record = &mut self.scopes[call.scope as usize];
         match call.step {
-            CallStep::OpenSlot if how == How::Refuse => {
-                self.set_top(party, Frame::LowerScope(call.scope));
-            }
+            CallStep::OpenSlot if how == How::Refuse => self.set_top(party, Self::undo_enter(call)),
             CallStep::LowerBody => {
                 record.count -= 1;
                 if record.count == 0 {
@@ -417,13 +453,41 @@ impl World {
             _ if held => return false,
             CallStep::OpenSlot => {
                 record.writer = Some(party);
-                self.go_on(party, call, CallStep::Look);
+                let next = match call.kind {
+                    CallKind::EnterFifo => CallStep::Add,
+                    CallKind::EnterCast => CallStep::Deal,
+                    _ => CallStep::Look,
+                };
+                self.go_on(party, call, next);
             }
             CallStep::CloseSlot => {
                 record.writer = None;
-                self.set_top(party, Frame::LowerScope(call.scope));
+                self.set_top(party, Self::undo_enter(call));
             }
             _ => self.go_on(party, call, CallStep::LowerBody),
+        }
+        true
+    }
+
+    /// An act at the end of a piece of a broadcast that waits.
+    fn end_piece(&mut self, party: usize, frame: Frame) -> bool {
+        match frame {
+            Frame::StorePiece { call, fault } => {
+                let record = &mut self.calls[call as usize];
+                record.cell = Some(fault || record.cell == Some(true));
+                self.set_top(party, Frame::LowerCast(call));
+            }
+            Frame::LowerCast(call) => {
+                let record = &mut self.calls[call as usize];
+                record.count -= 1;
+                if record.count == 0 {
+                    let next = self.set_latch_of(call);
+                    self.set_top(party, next);
+                } else {
+                    self.done(party);
+                }
+            }
+            _ => return false,
         }
         true
     }
@@ -471,12 +535,13 @@ impl World {
             CallStep::OpenSlot | CallStep::CloseSlot | CallStep::StoreBody | CallStep::LowerBody => {
                 return self.scope_act(party, call, how);
             }
-            CallStep::Raise if call.kind == CallKind::Enter => {
+            CallStep::Raise if call.kind.enters() => {
+                let shares = if call.kind == CallKind::EnterCast { self.pieces_of(call.scope) } else { 1 };
                 let record = &mut self.scopes[call.scope as usize];
                 if record.count == 0 {
                     self.done(party);
                 } else {
-                    record.count += 1;
+                    record.count += shares;
                     self.go_on(party, call, CallStep::OpenSlot);
                 }
             }
@@ -490,6 +555,12 @@ impl World {
                 self.go_on(party, Call { number, ..call }, CallStep::Body);
                 self.totals.running += 1;
                 self.push(party, Frame::Run(Run::Direct));
+            }
+            CallStep::Grow if call.kind == CallKind::Broadcast => {
+                let number = self.open_call(party);
+                let workers = self.pools[call.pool as usize].shape.workers;
+                self.calls[number as usize].count = workers as u64;
+                self.go_on(party, Call { number, ..call }, CallStep::Deal);
             }
             CallStep::Grow => {
                 let number = self.open_call(party);
@@ -506,10 +577,10 @@ impl World {
             },
             CallStep::Push => {
                 let task = match call.kind {
-                    CallKind::Spawn => Task::Detached(call.pool),
+                    CallKind::Spawn => Task::Detached { pool: call.pool, job: call.job },
                     CallKind::Enter => {
                         self.scopes[call.scope as usize].writer = None;
-                        Task::Scoped(call.scope)
+                        Task::Scoped { scope: call.scope, job: call.job }
                     }
                     _ => Task::Answer(call.number),
                 };
@@ -517,7 +588,11 @@ impl World {
                 self.totals.queued += 1;
                 self.go_on(party, call, CallStep::News);
             }
-            CallStep::Deal if how == How::Refuse => self.set_top(party, Frame::LowerAll(call.pool)),
+            CallStep::Deal if how == How::Refuse => match call.kind {
+                CallKind::EnterCast => self.go_on(party, call, CallStep::CloseSlot),
+                CallKind::Broadcast => self.close(party, call),
+                _ => self.set_top(party, Frame::LowerAll(call.pool)),
+            },
             CallStep::Deal => self.deal(party, call),
             CallStep::News => self.news(party, call),
             _ => return self.later_act(party, call),
@@ -529,32 +604,50 @@ impl World {
     fn deal(&mut self, party: usize, call: Call) {
         let pool = &self.pools[call.pool as usize];
         let (first, workers) = (pool.first_seat, pool.shape.workers);
+        let task = match call.kind {
+            CallKind::EnterCast => {
+                self.scopes[call.scope as usize].writer = None;
+                Task::Scoped { scope: call.scope, job: call.job }
+            }
+            CallKind::Broadcast => Task::Piece(call.number),
+            _ => Task::Detached { pool: call.pool, job: call.job },
+        };
         for seat in first..first + workers {
-            self.seats[seat].cast.push_back(Task::Detached(call.pool));
+            self.seats[seat].cast.push_back(task);
         }
         self.totals.queued += workers as u64;
         self.go_on(party, call, CallStep::Woken);
         self.wake(party, call.pool, workers as u32);
     }
 
-    /// Whether no other party holds the FIFO list of this worker.
-    fn is_open(&self, party: usize, seat: usize) -> bool {
-        self.seats[seat].feeder.is_none_or(|holder| holder == party)
+    /// Whether no other party holds this FIFO list of this worker.
+    fn is_open(&mut self, party: usize, seat: usize, scope: Option<u32>) -> bool {
+        self.list(seat, scope).feeder.is_none_or(|holder| holder == party)
+    }
+
+    /// A refused spawn in order, whose job is in no list: one into a scope has its number to take back.
+    fn undo_fifo(&mut self, party: usize, call: Call) {
+        match call.kind {
+            CallKind::EnterFifo => self.go_on(party, call, CallStep::CloseSlot),
+            _ => self.set_top(party, Frame::Lower(call.pool)),
+        }
     }
 
     /// An act of a call that spawns in order.
     fn fifo_act(&mut self, party: usize, call: Call, how: How) -> bool {
-        let Some((_, index)) = self.parties[party].worker else {
+        let Some((_, worker)) = self.parties[party].worker else {
             return false;
         };
+        let scope = (call.kind == CallKind::EnterFifo).then_some(call.scope);
         match call.step {
-            CallStep::Add if how == How::Refuse => self.set_top(party, Frame::Lower(call.pool)),
+            CallStep::Add if how == How::Refuse => self.undo_fifo(party, call),
             CallStep::Add => {
-                if !self.is_open(party, party) {
+                if !self.is_open(party, party, scope) {
                     return false;
                 }
-                self.seats[party].fifo += 1;
-                self.seats[party].feeder = Some(party);
+                let list = self.list(party, scope);
+                list.jobs.push_back(call.job);
+                list.feeder = Some(party);
                 self.totals.queued += 1;
                 self.go_on(party, call, CallStep::LookForToken);
             }
@@ -564,40 +657,48 @@ impl World {
             }
             CallStep::PushToken if how == How::Refuse => self.go_on(party, call, CallStep::TakeBack),
             CallStep::PushToken => {
-                self.seats[party].deque.push_back(Task::Token(index));
-                self.seats[party].feeder = None;
+                self.seats[party].deque.push_back(Task::Token { worker, scope });
+                self.list(party, scope).feeder = None;
+                if let Some(scope) = scope {
+                    self.scopes[scope as usize].writer = None;
+                }
                 self.go_on(party, call, CallStep::News);
             }
             _ => {
-                if !self.is_open(party, party) {
+                if !self.is_open(party, party, scope) {
                     return false;
                 }
-                self.seats[party].fifo -= 1;
-                self.seats[party].feeder = None;
+                let list = self.list(party, scope);
+                list.jobs.pop_back();
+                list.feeder = None;
                 self.totals.queued -= 1;
-                self.set_top(party, Frame::Lower(call.pool));
+                self.undo_fifo(party, call);
             }
         }
         true
     }
 
-    /// A token is redeemed: the first job of the FIFO list begins.
-    fn redeem(&mut self, party: usize, worker: u8) -> bool {
+    /// A token is redeemed: the first job of its FIFO list begins.
+    fn redeem(&mut self, party: usize, worker: u8, scope: Option<u32>) -> bool {
         let Some(pool) = self.own_pool(party) else {
             return false;
         };
         let seat = self.seat_of(pool, worker);
-        if !self.is_open(party, seat) {
+        if !self.is_open(party, seat, scope) {
             return false;
         }
-        if self.seats[seat].fifo == 0 {
+        let list = self.list(seat, scope);
+        let Some(job) = list.jobs.pop_front() else {
             self.done(party);
             return true;
-        }
-        self.seats[seat].fifo -= 1;
+        };
         self.totals.queued -= 1;
         self.totals.running += 1;
-        self.set_top(party, Frame::Run(Run::Detached(pool)));
+        let run = match scope {
+            Some(scope) => Run::Scoped { scope, job },
+            None => Run::Detached { pool, job },
+        };
+        self.set_top(party, Frame::Run(run));
         true
     }
 
@@ -690,7 +791,7 @@ impl World {
     }
 
     fn taken(&mut self, task: Found) -> Found {
-        if task.is_some_and(|task| !matches!(task, Task::Token(_))) {
+        if task.is_some_and(|task| !matches!(task, Task::Token { .. })) {
             self.totals.queued -= 1;
             self.totals.running += 1;
         }
@@ -989,10 +1090,11 @@ impl World {
 /// What was taken is begun.
 fn begin_of(task: Task) -> Frame {
     match task {
-        Task::Detached(pool) => Frame::Begin(Run::Detached(pool)),
+        Task::Detached { pool, job } => Frame::Begin(Run::Detached { pool, job }),
         Task::Answer(call) => Frame::Begin(Run::Answer(call)),
-        Task::Scoped(scope) => Frame::Begin(Run::Scoped(scope)),
-        Task::Token(worker) => Frame::Redeem(worker),
+        Task::Scoped { scope, job } => Frame::Begin(Run::Scoped { scope, job }),
+        Task::Piece(call) => Frame::Begin(Run::Piece(call)),
+        Task::Token { worker, scope } => Frame::Redeem { worker, scope },
     }
 }
 

@@ -79,14 +79,19 @@ fn event(world: &World, line: &str) -> Option<(Event, u64)> {
         ("spawn", Some(pool)) => Event::Spawn { party, pool: index(pool)? },
         ("fifo", Some(pool)) => Event::Fifo { party, pool: index(pool)? },
         ("cast", Some(pool)) => Event::Cast { party, pool: index(pool)? },
+        ("broadcast", Some(pool)) => Event::Broadcast { party, pool: index(pool)? },
         ("install", Some(pool)) => Event::Install { party, pool: index(pool)? },
         ("join", None) => Event::Join(party),
         ("scope", Some(pool)) => Event::Scope { party, pool: index(pool)? },
         ("into", Some(words)) => {
-            let (scope, "spawn") = words.split_once(' ')? else {
-                return None;
-            };
-            Event::IntoSpawn { party, scope: index(scope)? }
+            let (scope, what) = words.split_once(' ')?;
+            let scope = index(scope)?;
+            match what {
+                "spawn" => Event::IntoSpawn { party, scope },
+                "fifo" => Event::IntoFifo { party, scope },
+                "cast" => Event::IntoCast { party, scope },
+                _ => return None,
+            }
         }
         ("yield", None) => Event::Yield { party, local: false },
         ("yield", Some("local")) => Event::Yield { party, local: true },

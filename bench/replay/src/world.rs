@@ -1,6 +1,6 @@
 //! What a world holds: pools, seats of workers, parties with their stacks, and open calls.
 
-use std::collections::VecDeque;
+use std::collections::{BTreeMap, VecDeque};
 
 /// The outside callers.
 pub const CALLERS: usize = 16;
@@ -14,22 +14,25 @@ pub struct Shape {
     pub callers_own: bool,
 }
 
-/// A queued job: detached at a pool, the one that an open call waits for, or one of a scope; or a token for the FIFO list
-/// of a worker.
+/// A queued job: detached at a pool, the one that an open call waits for, one of a scope, or a piece of a broadcast that
+/// waits; or a token for a FIFO list of a worker: that of a scope, or that of detached jobs. Detached jobs and those of
+/// scopes have the number of the call that made them.
 #[derive(Clone, Copy, PartialEq, Eq)]
 pub enum Task {
-    Detached(u8),
+    Detached { pool: u8, job: u32 },
     Answer(u32),
-    Scoped(u32),
-    Token(u8),
+    Scoped { scope: u32, job: u32 },
+    Piece(u32),
+    Token { worker: u8, scope: Option<u32> },
 }
 
 /// What the end of a run sets going.
 #[derive(Clone, Copy)]
 pub enum Run {
-    Detached(u8),
+    Detached { pool: u8, job: u32 },
     Answer(u32),
-    Scoped(u32),
+    Scoped { scope: u32, job: u32 },
+    Piece(u32),
     /// The call below goes on.
     Direct,
 }
@@ -122,7 +125,7 @@ pub enum CallStep {
     TakeBack,
     /// A piece of a broadcast is put into each worker's broadcast list.
     Deal,
-    /// A number of a scope's book is opened, or taken back.
+    /// A number of a scope's book is opened, or one for each piece of a broadcast; or taken back.
     OpenSlot,
     CloseSlot,
     /// The body of a scope runs above; its ending is stored; its share of the scope's count is given back.
@@ -142,7 +145,7 @@ pub enum CallStep {
     Second,
 }
 
-#[derive(Clone, Copy, PartialEq, Eq)]
+#[derive(Clone, Copy, PartialEq, Eq, Debug)]
 pub enum CallKind {
     Spawn,
     /// A spawn in order, by a worker of the pool.
@@ -153,8 +156,30 @@ pub enum CallKind {
     Send,
     Join,
     Scope,
-    /// A spawn into a scope.
+    /// A spawn into a scope, and one in order by a worker of the scope's pool.
     Enter,
+    EnterFifo,
+    /// A broadcast into a scope.
+    EnterCast,
+    /// A broadcast that waits.
+    Broadcast,
+}
+
+impl CallKind {
+    /// Whether it is a call into a scope.
+    pub fn enters(self) -> bool {
+        matches!(self, CallKind::Enter | CallKind::EnterFifo | CallKind::EnterCast)
+    }
+
+    /// Whether it makes jobs of a pool or a scope, for which no call waits by itself.
+    pub fn makes(self) -> bool {
+        self.enters() || matches!(self, CallKind::Spawn | CallKind::Fifo | CallKind::Cast)
+    }
+
+    /// Whether it makes a piece for each worker of a pool.
+    pub fn casts(self) -> bool {
+        matches!(self, CallKind::Cast | CallKind::EnterCast)
+    }
 }
 
 #[derive(Clone, Copy)]
@@ -166,6 +191,8 @@ pub struct Call {
     pub number: u32,
     /// The scope that is opened or spawned into.
     pub scope: u32,
+    /// How many calls were begun before it that make jobs of pools or scopes.
+    pub job: u32,
 }
 
 #[derive(Clone, Copy, PartialEq, Eq)]
@@ -182,19 +209,24 @@ pub enum Frame {
     Wait(Wait),
     Stopped,
     Begin(Run),
-    /// A token for the FIFO list of this worker of the own pool is redeemed.
-    Redeem(u8),
+    /// A token for a FIFO list of this worker of the own pool is redeemed.
+    Redeem { worker: u8, scope: Option<u32> },
     Run(Run),
     Call(Call),
     Yield { look: Look, local: bool, victim: u8, left: u8 },
     Wake { pool: u8, worker: u8, owed: u8, phase: Phase },
     Lower(u8),
-    /// Gives back the shares of a refused broadcast's pieces.
+    /// Gives back the shares of a refused broadcast's pieces of the pool's count.
     LowerAll(u8),
     Store { call: u32, fault: bool },
     /// A job of this scope is over: its ending is stored, and then its share of the scope's count is given back.
     StoreSlot(u32),
     LowerScope(u32),
+    /// Gives back the shares of a refused broadcast's pieces of the scope's count.
+    LowerScopeAll(u32),
+    /// A piece of this call is over: its ending is stored, and then its share of the call's count is given back.
+    StorePiece { call: u32, fault: bool },
+    LowerCast(u32),
     SetLock(u32),
     /// Sets the latch of a call of this worker.
     SetCall { seat: u16, call: u32 },
@@ -216,13 +248,19 @@ pub struct Pool {
     pub held: bool,
 }
 
+/// The jobs of a FIFO list, oldest first, and the party that holds it. They are all of one scope, or all detached.
+#[derive(Clone, Default)]
+pub struct FifoList {
+    pub jobs: VecDeque<u32>,
+    pub feeder: Option<usize>,
+}
+
 #[derive(Clone)]
 pub struct Seat {
     pub deque: VecDeque<Task>,
     pub cast: VecDeque<Task>,
-    /// The jobs in the FIFO list, all detached at the worker's pool, and the party that holds the list.
-    pub fifo: u64,
-    pub feeder: Option<usize>,
+    /// The FIFO lists: one for each scope, and one for detached jobs.
+    pub lists: BTreeMap<Option<u32>, FifoList>,
     pub blocked: bool,
     pub locked: bool,
     pub terminate: Letter,
@@ -235,12 +273,13 @@ pub struct Party {
     pub stack: Vec<Frame>,
 }
 
-/// The latch and the cell of a call that waits.
+/// The latch and the cell of a call that waits, and its count, if it is a broadcast.
 #[derive(Clone, Copy)]
 pub struct OpenCall {
     pub owner: u16,
     pub latch: Letter,
     pub cell: Option<bool>,
+    pub count: u64,
 }
 
 /// A scope: its call, its pool, its count, and who holds its book.
@@ -269,6 +308,8 @@ pub struct World {
     pub calls: Vec<OpenCall>,
     pub free_calls: Vec<u32>,
     pub scopes: Vec<Scope>,
+    /// How many calls were begun that make jobs of pools or scopes.
+    pub makers: u32,
     pub totals: Totals,
 }
 
@@ -287,6 +328,7 @@ impl World {
             calls: Vec::new(),
             free_calls: Vec::new(),
             scopes: Vec::new(),
+            makers: 0,
             totals: Totals::default(),
         };
         for (number, shape) in shapes.iter().enumerate() {
@@ -316,13 +358,17 @@ impl World {
             self.seats.push(Seat {
                 deque: VecDeque::new(),
                 cast: VecDeque::new(),
-                fifo: 0,
-                feeder: None,
+                lists: BTreeMap::new(),
                 blocked: false,
                 locked: false,
                 terminate: Letter::Unset,
             });
         }
+    }
+
+    /// A FIFO list of the worker of this seat.
+    pub fn list(&mut self, seat: usize, scope: Option<u32>) -> &mut FifoList {
+        self.seats[seat].lists.entry(scope).or_default()
     }
 
     pub fn seat_of(&self, pool: u8, worker: u8) -> usize {
@@ -340,7 +386,7 @@ impl World {
     pub fn holds(&self, party: usize, scope: u32) -> bool {
         self.parties[party].stack.iter().any(|frame| match frame {
             Frame::Call(call) => call.step == CallStep::Body && call.scope == scope,
-            Frame::Run(Run::Scoped(number)) => *number == scope,
+            Frame::Run(Run::Scoped { scope: number, .. }) => *number == scope,
             _ => false,
         })
     }
@@ -361,7 +407,7 @@ impl World {
     }
 
     pub fn open_call(&mut self, owner: usize) -> u32 {
-        let record = OpenCall { owner: owner as u16, latch: Letter::Unset, cell: None };
+        let record = OpenCall { owner: owner as u16, latch: Letter::Unset, cell: None, count: 0 };
         match self.free_calls.pop() {
             Some(number) => {
                 self.calls[number as usize] = record;

@@ -5,12 +5,10 @@
 //! places sends it. Nothing here starts a thread: the threads of the running pool go by the same
 //! tables.
 //!
-//! This crate only gives the names of the crates below it: `rayon_machine_places` has the places and their acts,
-//! `rayon_machine_laws` and `rayon_machine_orders` what holds in every run, and `rayon_machine_world` the world that
-//! makes the steps.
+//! This crate only gives the names of the crates below it: `rayon_machine_places` has the places and their acts, and
+//! `rayon_machine_world` the world that makes the steps. What holds in every run is said and proved by
+//! `rayon_machine_laws` and `rayon_machine_orders`, of the same tables; nothing that runs stands on these two.
 #![tactic(auto)]
 
-pub use rayon_machine_laws::{laws, sleep_laws};
-pub use rayon_machine_orders::{call_laws, order_laws};
 pub use rayon_machine_places::{act, error, event, moves, place, shape, state, table};
 pub use rayon_machine_world::{readers, world};

@@ -1,4 +1,4 @@
--- how often a stack keeps the share that a scope's body has of the scope's count: from the scope's event to its Lower
+-- what moves leave of the share that a scope's body has of the scope's count
 use Rattle.rayon_machine_places.specs.declared.place.Pieces.{Pieces}
 use Rattle.rayon_machine_places.specs.declared.place.Feeding.{Feeding}
 use Rattle.rayon_machine_places.specs.declared.place.Share.TheVariants.{Body, PoolValue, OfJob}
@@ -36,33 +36,9 @@ use Rattle.rayon_machine_places.specs.Places.{own_pool, own_index, plan_pool, af
 use Rattle.rayon_machine_places.specs.World.{Stack}
 use Rattle.rayon_machine_places.specs.Steps.{after_move, after_close}
 use Rattle.rayon_machine_laws.specs.Once.{one}
+pub use Rattle.rayon_machine_laws.specs.Counted.{in_scope, plan_body, body_then, body, bodies_in, all_bodies}
 
--- a share of this count is one of call c's scope
-abbrev pub in_scope : ℕ → Count → ℕ
-in_scope c (OfPool p) = 0
-in_scope c (OfScope d o) = one (c == d)
-in_scope c (OfCast d o) = one (c == d)
-
-abbrev pub plan_body : ℕ → Plan → ℕ
-plan_body c (Open o) = one (c == o.number)
-plan_body c _ = 0
-
--- how often a place keeps the share that the body of call c has of its scope's count
-abbrev pub body : ℕ → Place → ℕ
-body c (RaiseCount n) = plan_body c n
-body c (GrowScope o) = one (c == o.number)
-body c (ScopeBody o) = one (c == o.number)
-body c (StoreBody o e) = one (c == o.number)
-body c (LowerCount k Body n) = in_scope c k
-body c _ = 0
-
-abbrev pub bodies_in : ℕ → List Place → ℕ
-bodies_in c [] = 0
-bodies_in c (f ∷ fs) = body c f + bodies_in c fs
-
-abbrev pub all_bodies : ℕ → Stack → ℕ
-all_bodies c k = body c k.top + bodies_in c k.below
-
+-- what is kept where a move leads
 abbrev pub body_move : ℕ → Move → ℕ
 body_move c (Stay y) = body c y
 body_move c (HandIn y token) = body c y
@@ -105,16 +81,16 @@ body_walk t g q r k i n = by (nat_lt 0 k && nat_lt i g.workers)
     by true = omega arith
     by false = body_finish t q n
 
-body_settle : (t : ℕ) (g : PoolShape) (q : Party) (r i : ℕ) (n : Then) → body_move t (settle g q r i n) ≤ 0
+body_settle : (t : ℕ) (g : PoolShape) (q : Party) (r i : ℕ) (n : Then) → body_move t (settle g q r i n) ≤ body_then t n
 body_settle t g q r i n = by (nat_lt i g.workers)
   where
-    by : (z : Bool) → body_move t (if z then Stay (SetLatch (record { latch = Terminate; pool = r; worker = i; then = n })) else finish q n) ≤ 0
+    by : (z : Bool) → body_move t (if z then Stay (SetLatch (record { latch = Terminate; pool = r; worker = i; then = n })) else finish q n) ≤ body_then t n
     by true = omega arith
-    by false = body_finish t q n
+    by false = let a : body_move t (finish q n) ≤ 0 = body_finish t q n in omega (arith, a)
 
-body_settled : (t : ℕ) (g : PoolShape) (q : Party) (k : Settling) (l : Latch) → body_move t (after_set g q k l) ≤ 0
+body_settled : (t : ℕ) (g : PoolShape) (q : Party) (k : Settling) (l : Latch) → body_move t (after_set g q k l) ≤ body_then t k.then
 body_settled t g q k Terminate = body_settle t g q k.pool (k.worker + 1) k.then
-body_settled t g q k (OfCall i) = body_finish t q k.then
+body_settled t g q k (OfCall i) = let a : body_move t (finish q k.then) ≤ 0 = body_finish t q k.then in omega (arith, a)
 
 body_if : (t n : ℕ) (x y : Move) (z : Bool) → body_move t x ≤ n → body_move t y ≤ n → body_move t (if z then x else y) ≤ n
 body_if t n x y true a b = a
@@ -142,11 +118,11 @@ body_failed t g k (Failed n) = by (nat_lt n g.limit)
     by false = omega arith
 body_failed t g k Announced = omega arith
 
-body_set : (t : ℕ) (c : ℕ) (o : Party) (n : Then) → body_move t (Stay (set_call c o n)) ≤ 0
+body_set : (t : ℕ) (c : ℕ) (o : Party) (n : Then) → body_move t (Stay (set_call c o n)) ≤ body_then t n
 body_set t c (Worker a b) n = omega arith
 body_set t c (Caller m) n = omega arith
 
-body_count : (t : ℕ) (g : PoolShape) (q : Party) (k : Count) (n : Then) → body_move t (settle_count g q k n) ≤ 0
+body_count : (t : ℕ) (g : PoolShape) (q : Party) (k : Count) (n : Then) → body_move t (settle_count g q k n) ≤ body_then t n
 body_count t g q (OfPool r) n = body_settle t g q r 0 n
 body_count t g q (OfScope c o) n = body_set t c o n
 body_count t g q (OfCast c o) n = body_set t c o n
@@ -171,7 +147,7 @@ body_undoes t b (OfPool p) = omega arith
 body_undoes t b (OfScope c o) = omega arith
 body_undoes t b (OfCast c o) = omega arith
 
-body_slot : (t : ℕ) (n : Plan) → body t (after_slot n) ≤ 0
+body_slot : (t : ℕ) (n : Plan) → body t (after_slot n) ≤ plan_body t n
 body_slot t (Feed f) = omega arith
 body_slot t (Detach r u) = omega arith
 body_slot t (Here r u) = omega arith
@@ -181,7 +157,7 @@ body_slot t (Open o) = omega arith
 body_slot t (Enter e) = omega arith
 body_slot t (Gather g) = omega arith
 
-body_drawn : (t : ℕ) (o : Option ℕ) (n : Plan) → body t (withdraw o n) ≤ 0
+body_drawn : (t : ℕ) (o : Option ℕ) (n : Plan) → body t (withdraw o n) ≤ plan_body t n
 body_drawn t None n = omega arith
 body_drawn t (Some c) n = omega arith
 
@@ -195,8 +171,8 @@ body_raised t (Gather g) = omega arith
 body_raised t (Open o) = omega arith
 body_raised t (Enter x) = omega arith
 
-body_unpushed : (t : ℕ) (n : Plan) → body t (after_push n) + 0 ≤ 0
-body_unpushed t n = let a : body t (withdraw (plan_book n) n) ≤ 0 = body_drawn t (plan_book n) n in omega (arith, a)
+body_unpushed : (t : ℕ) (n : Plan) → body t (after_push n) + 0 ≤ plan_body t n
+body_unpushed t n = let a : body t (withdraw (plan_book n) n) ≤ plan_body t n = body_drawn t (plan_book n) n in omega (arith, a)
 
 -- over the whole table: no move leads to more of them, and the act that gives the share back leads to one less
 pub bodies : (g : PoolShape) (q : Party) (t : ℕ) (x : Place) (e : Seen) → body_move t (next_of g q x e) + spent t x ≤ body t x
@@ -293,20 +269,20 @@ bodies g q t (WakeWorker k) _ = omega arith
 bodies g q t (UnlockWoken k) e = let a : body_move t (walk g q k.pool k.owed (k.worker + 1) k.then) ≤ 0 = body_walk t g q k.pool k.owed (k.worker + 1) k.then in omega (arith, a)
 bodies g q t (TakeResult o f) (Found d) = omega arith
 bodies g q t (TakeResult o f) _ = omega arith
-bodies g q t (LowerCount r PoolValue n) Yes = let a : body_move t (settle_count g q r n) ≤ 0 = body_count t g q r n in omega (arith, a)
-bodies g q t (LowerCount r Body n) Yes = let a : body_move t (settle_count g q r n) ≤ 0 = body_count t g q r n in omega (arith, a)
-bodies g q t (LowerCount r (OfJob u) n) Yes = let a : body_move t (settle_count g q r n) ≤ 0 = body_count t g q r n in omega (arith, a)
+bodies g q t (LowerCount r PoolValue n) Yes = let a : body_move t (settle_count g q r n) ≤ body_then t n = body_count t g q r n in omega (arith, a)
+bodies g q t (LowerCount r Body n) Yes = let a : body_move t (settle_count g q r n) ≤ body_then t n = body_count t g q r n in omega (arith, a)
+bodies g q t (LowerCount r (OfJob u) n) Yes = let a : body_move t (settle_count g q r n) ≤ body_then t n = body_count t g q r n in omega (arith, a)
 bodies g q t (LowerCount r PoolValue n) _ = let a : body_move t (finish q n) ≤ 0 = body_finish t q n in omega (arith, a)
 bodies g q t (LowerCount r Body n) _ = let a : body_move t (finish q n) ≤ 0 = body_finish t q n in omega (arith, a)
 bodies g q t (LowerCount r (OfJob u) n) _ = let a : body_move t (finish q n) ≤ 0 = body_finish t q n in omega (arith, a)
 bodies g q t (StoreResult i o d) e = let a : body_move t (Stay (set_call i o Resume)) ≤ 0 = body_set t i o Resume in omega (arith, a)
 bodies g q t (SetLatch k) Yes = omega arith
-bodies g q t (SetLatch k) _ = let a : body_move t (after_set g q k k.latch) ≤ 0 = body_settled t g q k k.latch in omega (arith, a)
-bodies g q t (UnlockSettled k) e = let a : body_move t (after_set g q k k.latch) ≤ 0 = body_settled t g q k k.latch in omega (arith, a)
+bodies g q t (SetLatch k) _ = let a : body_move t (after_set g q k k.latch) ≤ body_then t k.then = body_settled t g q k k.latch in omega (arith, a)
+bodies g q t (UnlockSettled k) e = let a : body_move t (after_set g q k k.latch) ≤ body_then t k.then = body_settled t g q k k.latch in omega (arith, a)
 bodies g q t (SetLockLatch c n) e = let a : body_move t (finish q n) ≤ 0 = body_finish t q n in omega (arith, a)
 bodies g q t (GrowScope o) Done = omega arith
 bodies g q t (GrowScope o) _ = omega arith
-bodies g q t (OpenSlot x) Done = let a : body t (after_slot x) ≤ 0 = body_slot t x in omega (arith, a)
+bodies g q t (OpenSlot x) Done = let a : body t (after_slot x) ≤ plan_body t x = body_slot t x in omega (arith, a)
 bodies g q t (OpenSlot x) _ = omega arith
 bodies g q t _ e = omega arith
 

@@ -4,7 +4,9 @@ use Rattle.rayon_machine_places.specs.declared.place.JobKind.{JobKind}
 use Rattle.rayon_machine_laws.specs.Counted.{has_body, ScopeEnded}
 use Rattle.rayon_machine_places.specs.Steps.{is_piece}
 use Rattle.rayon_machine_places.specs.Readers.{is_done}
-use Rattle.rayon_machine_laws.proofs.Scoping.{ScopesHold, scopes_counted}
+use Rattle.rayon_machine_laws.proofs.Scoping.{ScopesHold, count_over}
+use Rattle.rayon_machine_laws.proofs.Enters.{EntersHold}
+use Rattle.rayon_machine_laws.proofs.Spawned.{scope_ended}
 use Rattle.std.proofs.Common.{arith, refl, ap, subst, inl, inr, sym, ◌∙◌}
 use Rattle.std.specs.Prelude.{ℕ, ◌+◌, ◌==◌, ◌≤◌, Option, Some, None, ◌≡◌, true, false, ◌⊎◌}
 use Rattle.std.proofs.lemmas.Bool.{eq-eqb}
@@ -32,16 +34,16 @@ use Rattle.rayon_machine_laws.proofs.ClaimRuns.{CallsHold}
 -- whose latch can be set has its job over, if that is one that runs
 pub ready_over : (w : World) → ScopesHold w → (c : ℕ) → c + 1 ≤ w.calls → IsReady w c → has_body (w.job (w.call c).job).kind ≡ true → is_done (w.job (w.call c).job).at ≡ true
 ready_over w h c b (inl d) f = d.1
-ready_over w h c b (inr z) f = ((scopes_counted w h).ended c b z).body f
+ready_over w h c b (inr z) f = (count_over w h c b z).body f
 
 no_body : (k : JobKind) → has_body k ≡ false → is_body k ≡ true
 no_body (WholeOf c o) e = refl
 no_body _ e = cc
 
 -- a scope, or a broadcast, whose latch can be set has ended
-ready_ended : (w : World) → ScopesHold w → (c : ℕ) → c + 1 ≤ w.calls → IsReady w c → is_body (w.job (w.call c).job).kind ≡ true → ScopeEnded w c
-ready_ended w h c b (inl d) f = absurd (let e : true ≡ false = sym f ∙ (d.0).1 in cc)
-ready_ended w h c b (inr z) f = (scopes_counted w h).ended c b z
+ready_ended : (w : World) → ScopesHold w → EntersHold w → (c : ℕ) → c + 1 ≤ w.calls → IsReady w c → is_body (w.job (w.call c).job).kind ≡ true → ScopeEnded w c
+ready_ended w h e c b (inl d) f = absurd (let y : true ≡ false = sym f ∙ (d.0).1 in cc)
+ready_ended w h e c b (inr z) f = scope_ended w h e c z (count_over w h c b z)
 
 piece_ended : (w : World) (c : ℕ) (e : Ending) → EndsAs w (w.call c).job c e → ((w.job (w.call c).job).at ≡ Over e) ⊎ PieceEnded w c e
 piece_ended w c e (inl a) = inl a
@@ -52,11 +54,11 @@ job_ended : (w : World) → CallsHold w → (c : ℕ) (e : Ending) → has_body 
 job_ended w h c e f (inl a) = a
 job_ended w h c e f (inr p) = absurd (let a : PartOf w (p.job) c (p.owner) = h.parts (p.job) (p.made) c (p.owner) (p.kind) in let k : has_body (w.job (w.call c).job).kind ≡ false = ap has_body (a.kind) in let n : true ≡ false = sym f ∙ k in cc)
 
-pub latched : (w : World) → ScopesHold w → IsLatched w
-latched w h = record {
+pub latched : (w : World) → ScopesHold w → EntersHold w → IsLatched w
+latched w h enters = record {
   latch = λ c z f. (let s : (c + 1 ≤ w.calls) × IsReady w c = ((h.shares).calls).latches c z in ready_over w h c (s.0) (s.1) f);
-  scope = λ c n o z k. (let s : (c + 1 ≤ w.calls) × IsReady w c = ((h.shares).calls).latches c z in ready_ended w h c (s.0) (s.1) (ap is_body k));
-  pieces = λ c z f. (let s : (c + 1 ≤ w.calls) × IsReady w c = ((h.shares).calls).latches c z in ready_ended w h c (s.0) (s.1) (no_body ((w.job (w.call c).job).kind) f));
+  scope = λ c n o z k. (let s : (c + 1 ≤ w.calls) × IsReady w c = ((h.shares).calls).latches c z in ready_ended w h enters c (s.0) (s.1) (ap is_body k));
+  pieces = λ c z f. (let s : (c + 1 ≤ w.calls) × IsReady w c = ((h.shares).calls).latches c z in ready_ended w h enters c (s.0) (s.1) (no_body ((w.job (w.call c).job).kind) f));
   cell = λ c e z f. job_ended w ((h.shares).calls) c e f (((h.shares).calls).cells c e z);
   ended = λ c e z. piece_ended w c e (((h.shares).calls).cells c e z);
 }

@@ -37,7 +37,7 @@ use Rattle.rayon_machine_places.specs.Readers.{is_done}
 use Rattle.rayon_machine_places.specs.Runs.{first_place, start, IsRun}
 use Rattle.rayon_machine_laws.specs.Once.{one, runs_in}
 use Rattle.rayon_machine_laws.specs.Shares.{is_busy, is_scoped}
-use Rattle.rayon_machine_laws.specs.Counted.{has_body, is_of_scope, ScopeEnded}
+use Rattle.rayon_machine_laws.specs.Counted.{has_body, is_of_scope}
 use Rattle.rayon_machine_laws.specs.End.{HasEnded, CastTakes}
 use Rattle.rayon_machine_laws.proofs.Frame.{either, piece_new, piece_in, if_some_and, if_some_map, if_cond, acted_keeps, put_same, put_new, put_old, fifo_cases, into_cases, into_fifo_cases, into_cast_cases, piece_old, piece_out}
 use Rattle.rayon_machine_laws.proofs.Seats.{is_frame}
@@ -57,7 +57,7 @@ use Rattle.rayon_machine_laws.proofs.ClaimEvents.{ended_world}
 use Rattle.rayon_machine_laws.proofs.ClaimMakes.{below_new}
 use Rattle.rayon_machine_laws.proofs.Endings.{has_ended}
 use Rattle.rayon_machine_laws.proofs.ShareSteps.{self_one}
-use Rattle.rayon_machine_laws.proofs.Scoping.{ScopesHold, scopes_counted, step_scopes, first_scopes}
+use Rattle.rayon_machine_laws.proofs.Scoping.{ScopesHold, CountOver, count_over, entry_kept, step_scopes, first_scopes}
 use Rattle.rayon_machine_laws.proofs.Storing.{lowers_piece, number_is, Unpieced, drawn_unpieced, end_unpieced, frame_unpieced}
 use Rattle.rayon_machine_laws.proofs.Gathered.{Least, Blamed, GathersHold, WasKept, WasCell, WasEnded, Passes, is_whole_kind, calls_of, piece_done, gathers_pass, go_passes}
 
@@ -348,7 +348,7 @@ end_passes w q d (Run t k) fs z h = λ hu. record {
     ended : (s c : ℕ) (o : Party) → s + 1 ≤ w.jobs → (u.job s).kind ≡ PieceOf c o → (b : Bool) → (s == t) ≡ b → (if b then at_job (w.job t) (Over d) else w.job s).at ≡ Over Fault → (w.job s).counted ≡ false → WasEnded w s c o
     ended s c o m k false e a f = record { made = m; kind = sym (kind s) ∙ k; at = a; counted = f }
     ended s c o m k true e a f = absurd (let i : (w.job s).at ≡ Running q = ap (λ n. (w.job n).at) (eqb-true s t e) ∙ running in
-        let b : (w.job s).counted ≡ true = (scopes_counted w (h.scopes)).kept s (ap is_scoped (sym (kind s) ∙ k)) (ap is_busy i) in let n : true ≡ false = sym b ∙ f in cc)
+        let b : (w.job s).counted ≡ true = entry_kept w (h.scopes) s (ap is_scoped (sym (kind s) ∙ k)) (ap is_busy i) in let n : true ≡ false = sym b ∙ f in cc)
 
     was : (r : Party) (c s : ℕ) → lowers_piece (w.stack r).top ≡ Some (c, s) → (b : Bool) → (s == t) ≡ b → (if b then at_job (w.job t) (Over d) else w.job s).at ≡ Over Fault → (w.job s).at ≡ Over Fault
     was r c s e false y a = a
@@ -421,8 +421,8 @@ done_over _ d = cc
 pub cast_takes : (w : World) → GathersHold w → (c n : ℕ) (o : Party) → c + 1 ≤ w.calls → (w.job (w.call c).job).kind ≡ WholeOf n o → (w.call c).count ≡ 0 → CastTakes w c (told (w.call c).fault Fine)
 cast_takes w h c n o b k z = by (w.call c).fault refl
   where
-    gone : ScopeEnded w c
-    gone = (scopes_counted w (h.scopes)).ended c b z
+    gone : CountOver w c
+    gone = count_over w (h.scopes) c b z
 
     own : (t : ℕ) (p : Party) → (w.job t).kind ≡ PieceOf c p → is_of_scope c (w.job t).kind ≡ true
     own t p e = ap (is_of_scope c) e ∙ eq-eqb c c refl

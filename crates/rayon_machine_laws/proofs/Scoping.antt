@@ -21,7 +21,7 @@ use Rattle.rayon_machine_places.specs.World.{World, count_below}
 use Rattle.rayon_machine_places.specs.Readers.{is_done}
 use Rattle.rayon_machine_laws.specs.Once.{one}
 use Rattle.rayon_machine_laws.specs.Shares.{shares, is_busy, share_then, shares_in}
-use Rattle.rayon_machine_laws.specs.Counted.{is_scoped, is_of_scope, has_entry, ScopesCounted, is_detached, has_body}
+use Rattle.rayon_machine_laws.specs.Counted.{is_scoped, is_of_scope, has_entry, ScopesCounted, ScopeEnded, is_detached, has_body}
 use Rattle.rayon_machine_laws.proofs.Frame.{either}
 use Rattle.rayon_machine_laws.proofs.Ties.{outcome}
 use Rattle.rayon_machine_laws.proofs.Claims.{SaysThen, SaysShare, PartOf, Tied}
@@ -56,7 +56,7 @@ of_scoped c (Scoped d o) e = refl
 of_scoped c (PieceOf d o) e = refl
 of_scoped c _ e = cc
 
-entry_kept : (w : World) → ScopesHold w → (t : ℕ) → is_scoped (w.job t).kind ≡ true → is_busy (w.job t).at ≡ true → (w.job t).counted ≡ true
+pub entry_kept : (w : World) → ScopesHold w → (t : ℕ) → is_scoped (w.job t).kind ≡ true → is_busy (w.job t).at ≡ true → (w.job t).counted ≡ true
 entry_kept w h t k y = one_is ((w.job t).counted) (let a : shares t (w.stack (Caller 0)) + with_job (w.job t) ≤ one (w.job t).counted = ((h.shares).jobs t).alone (Caller 0) in let b : with_job (w.job t) ≡ 1 = ap (λ v. one (v && is_busy (w.job t).at)) (scoped_detached ((w.job t).kind) k) ∙ ap one y in omega (arith, a, b))
 
 entry_gone : (w : World) → ScopesHold w → (c : ℕ) → (w.call c).count ≡ 0 → (t : ℕ) → is_of_scope c (w.job t).kind ≡ true → (w.job t).counted ≡ false
@@ -135,19 +135,33 @@ piece_over w h c z f t m k = by ((w.job t).kind) refl k
     by (Scoped d o) e y = absurd (let x : Tied w d o = ((h.shares).calls).entries t m d o e in let i : c ≡ d = eqb-true c d y in let a : has_body (w.job (w.call c).job).kind ≡ true = ap (λ n. has_body (w.job (w.call n).job).kind) i ∙ ap has_body (x.kind) in let n : true ≡ false = sym a ∙ f in cc)
     by _ e y = cc
 
-pub scopes_counted : (w : World) → ScopesHold w → ScopesCounted w
-scopes_counted w h = record {
+-- what is known of a call whose count is 0 from the shares alone
+pub record CountOver (w : World) (c : ℕ) : Type 0 where
+  pub body : has_body (w.job (w.call c).job).kind ≡ true → is_done (w.job (w.call c).job).at ≡ true
+  pub jobs : (t : ℕ) → is_of_scope c (w.job t).kind ≡ true → (w.job t).counted ≡ false
+  pub idle : (t : ℕ) → is_of_scope c (w.job t).kind ≡ true → is_busy (w.job t).at ≡ false
+  pub over : has_body (w.job (w.call c).job).kind ≡ false → (t : ℕ) → t + 1 ≤ w.jobs → is_of_scope c (w.job t).kind ≡ true → is_done (w.job t).at ≡ true
+
+-- a body that has given its share back is over
+pub body_over : (w : World) → ScopesHold w → (c : ℕ) → c + 1 ≤ w.calls → (w.call c).counted ≡ false → has_body (w.job (w.call c).job).kind ≡ true → is_done (w.job (w.call c).job).at ≡ true
+body_over w h c b e f = body_done (w.job (w.call c).job) ((h.over c b e).closed) f
+
+pub count_over : (w : World) → ScopesHold w → (c : ℕ) → c + 1 ≤ w.calls → (w.call c).count ≡ 0 → CountOver w c
+count_over w h c b z = record {
+  body = λ f. body_over w h c b (scope_uncounted w h c z) f;
+  jobs = entry_gone w h c z;
+  idle = λ t k. idle_if (is_busy (w.job t).at) (λ y. sym (entry_kept w h t (of_scoped c ((w.job t).kind) k) y) ∙ entry_gone w h c z t k);
+  over = λ f t m k. piece_over w h c z f t m k;
+}
+
+pub scopes_counted : (w : World) → ScopesHold w → ((c : ℕ) → c + 1 ≤ w.calls → (w.call c).count ≡ 0 → ScopeEnded w c) → ScopesCounted w
+scopes_counted w h ended = record {
   count = λ c. (let a : sum_below w.jobs (λ t. entry c (w.job t)) + (one (w.call c).counted + (w.call c).undealt) ≡ (w.call c).count = h.sums c in let b : count_below w.jobs (λ t. has_entry c (w.job t)) ≡ sum_below w.jobs (λ t. entry c (w.job t)) = count_sum w.jobs (λ t. has_entry c (w.job t)) in omega (arith, a, b));
   none = λ c f. none_waits w h c f ((w.call c).undealt) refl;
-  body = λ c b e f. body_done (w.job (w.call c).job) ((h.over c b e).closed) f;
+  body = λ c b e f. body_over w h c b e f;
   undealt = λ t b c o k m. h.fresh t b c o k (ap is_dealt m);
   kept = entry_kept w h;
-  ended = λ c b z. record {
-    body = λ f. body_done (w.job (w.call c).job) ((h.over c b (scope_uncounted w h c z)).closed) f;
-    jobs = entry_gone w h c z;
-    idle = λ t k. idle_if (is_busy (w.job t).at) (λ y. sym (entry_kept w h t (of_scoped c ((w.job t).kind) k) y) ∙ entry_gone w h c z t k);
-    over = λ f t m k. piece_over w h c z f t m k;
-  };
+  ended = ended;
 }
 
 -- each act, by what its party stands at

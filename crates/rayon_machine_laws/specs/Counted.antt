@@ -1,12 +1,13 @@
 -- a pool's terminate count is the number of its shares, and each share is kept once
-use Rattle.rayon_machine_places.specs.declared.state.Whereabouts.TheVariants.{Made}
+use Rattle.rayon_machine_places.specs.declared.state.Whereabouts.{Whereabouts}
+use Rattle.rayon_machine_places.specs.declared.state.Whereabouts.TheVariants.{Made, Over, HandedBack}
 use Rattle.rayon_machine_places.specs.Readers.{is_done}
 use Rattle.rayon_machine_places.specs.declared.place.Count.{Count}
 use Rattle.rayon_machine_places.specs.declared.place.Count.TheVariants.{OfPool, OfScope, OfCast}
-use Rattle.std.specs.Prelude.{ℕ, Bool, true, false, not, ◌&&◌, ◌+◌, ◌==◌, ◌≤◌, Option, Some, None, List, [], ◌∷◌, ◌≡◌}
+use Rattle.std.specs.Prelude.{ℕ, Bool, true, false, not, ◌&&◌, ◌||◌, ◌+◌, ◌==◌, ◌≤◌, Option, Some, None, List, [], ◌∷◌, ◌≡◌}
 use Rattle.rayon_machine_places.specs.declared.place.Party.{Party}
 use Rattle.rayon_machine_places.specs.declared.place.JobKind.{JobKind}
-use Rattle.rayon_machine_places.specs.declared.place.JobKind.TheVariants.{Detached, Scoped, PieceOf, WholeOf}
+use Rattle.rayon_machine_places.specs.declared.place.JobKind.TheVariants.{Detached, Scoped, BodyOf, PieceOf, WholeOf}
 use Rattle.rayon_machine_places.specs.declared.place.Share.TheVariants.{PoolValue}
 use Rattle.rayon_machine_places.specs.declared.place.Place.{Place}
 use Rattle.rayon_machine_places.specs.declared.place.Place.TheVariants.{LowerCount}
@@ -16,6 +17,7 @@ use Rattle.rayon_machine_places.specs.World.{Stack, World, count_below}
 use Rattle.rayon_machine_laws.specs.Once.{one}
 use Rattle.rayon_machine_laws.specs.Shares.{shares, is_busy}
 pub use Rattle.rayon_machine_laws.specs.Shares.{is_scoped}
+pub use Rattle.rayon_machine_laws.specs.Bodies.{in_scope, plan_body, body_then, body, bodies_in, all_bodies}
 
 -- no call waits for a job of this kind alone: it is detached, of a scope, or a piece of a broadcast that waits
 abbrev pub is_detached : JobKind → Bool
@@ -81,25 +83,38 @@ KeptOnce parties owner false = ((q : Party) → parties q ≡ 0) × (owner ≡ f
 -- each pool's terminate count is 1 while its value's share is in it, and 1 more for each job with a share of it. The
 -- share of the value is kept by the held value or by the one Lower that gives it back; the share of a job by the one
 -- call that waits for it, from its Raise to its Lower, or, where no call waits, by its call before it is queued, by the
--- job itself, or by its Lower once it has run
+-- job itself, or by its Lower once it has run. The share of a scope's body, which is one of the scope's count, is kept by
+-- the party that opened the scope, until its Lower; only where the body is handed back, since a step of the call was
+-- refused, nobody is to give it back. Where a piece of a broadcast that waits is queued, in a hand, running or over, no
+-- share waits in its call's count: each is a piece's own
 pub record IsCounted (w : World) : Type 0 where
   pub count : (p : ℕ) → (w.pool p).count ≡ one (w.pool p).counted + count_below w.jobs (λ t. has_share p (w.job t))
   pub made : (t : ℕ) → w.jobs ≤ t → (w.job t).counted ≡ false
   pub value : (p : ℕ) → KeptOnce (λ q. all_values p (w.stack q)) (w.pool p).held (w.pool p).counted
   pub jobs : (t : ℕ) → KeptOnce (λ q. shares t (w.stack q)) (keeps_own (w.job t)) (w.job t).counted
+  pub bodies : (t c : ℕ) (o : Party) → t + 1 ≤ w.jobs → (w.job t).kind ≡ BodyOf c o → ((w.job t).at ≡ HandedBack → ⊥) → KeptOnce (λ q. all_bodies c (w.stack q)) false (w.call c).counted
+  pub dealt : (t : ℕ) → t + 1 ≤ w.jobs → (c : ℕ) (o : Party) → (w.job t).kind ≡ PieceOf c o → (is_busy (w.job t).at || is_done (w.job t).at) ≡ true → (w.call c).undealt ≡ 0
 
 -- a call of a scope has a body; a broadcast that waits has none, and a job of this kind stands for it
 abbrev pub has_body : JobKind → Bool
 has_body (WholeOf c o) = false
 has_body _ = true
 
+-- a job is over, or its call was refused and has handed it back
+abbrev pub is_through : Whereabouts → Bool
+is_through (Over e) = true
+is_through HandedBack = true
+is_through _ = false
+
 -- a call whose count is 0 has ended: its body is over, if it has one, and each piece of it, if it is a broadcast, and
--- no job of its scope, or piece of its broadcast, has a share of the count, is queued or runs
+-- no job of its scope, or piece of its broadcast, has a share of the count, is queued or runs. Each job of its scope,
+-- be it spawned into it or a piece of a broadcast into it, is over, or was handed back
 pub record ScopeEnded (w : World) (c : ℕ) : Type 0 where
   pub body : has_body (w.job (w.call c).job).kind ≡ true → is_done (w.job (w.call c).job).at ≡ true
   pub jobs : (t : ℕ) → is_of_scope c (w.job t).kind ≡ true → (w.job t).counted ≡ false
   pub idle : (t : ℕ) → is_of_scope c (w.job t).kind ≡ true → is_busy (w.job t).at ≡ false
   pub over : has_body (w.job (w.call c).job).kind ≡ false → (t : ℕ) → t + 1 ≤ w.jobs → is_of_scope c (w.job t).kind ≡ true → is_done (w.job t).at ≡ true
+  pub spawned : (t : ℕ) (o : Party) → t + 1 ≤ w.jobs → (w.job t).kind ≡ Scoped c o → is_through (w.job t).at ≡ true
 
 -- each scope's count is 1 while its body's share is in it, and 1 more for each job with a share of it; the body's share
 -- is in it at least until the body is over, and a job's while the job is queued or runs. The count of a broadcast that

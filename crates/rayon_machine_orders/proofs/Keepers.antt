@@ -53,7 +53,7 @@ one_of_two g new cap q c h = by new refl
     by (suc n) e = (None, (let a : cap ≤ new = omega (arith, c, e) in a))
 
 -- where a party and the owner have together no less than before, and the others the same, a keeper stays
-keeper_stays : (f g : Party → ℕ) (own new cap : ℕ) (q : Party) → cap ≤ 1 → ((r : Party) → same_party r q ≡ false → g r ≡ f r) → f q + own ≤ g q + new → HasKeeper f own cap → HasKeeper g new cap
+pub keeper_stays : (f g : Party → ℕ) (own new cap : ℕ) (q : Party) → cap ≤ 1 → ((r : Party) → same_party r q ≡ false → g r ≡ f r) → f q + own ≤ g q + new → HasKeeper f own cap → HasKeeper g new cap
 keeper_stays f g own new cap q c other mine (None, h) = let k : cap ≤ own = h in one_of_two g new cap q c (omega (arith, mine, k))
 keeper_stays f g own new cap q c other mine (Some r, h) = by (same_party r q) refl
   where

@@ -1,5 +1,4 @@
--- each step leaves each share that is in the count with a keeper; so a pool's terminate count is the number of its
--- shares, and each is kept once
+-- each step leaves each share of a job or of a pool's value that is in the count with a keeper
 use Rattle.rayon_machine_places.specs.declared.place.Mark.TheVariants.{Counted, Queued, Returned, Numbered, Dealt, Unnumbered}
 use Rattle.rayon_machine_places.specs.declared.place.Pieces.{Pieces}
 use Rattle.rayon_machine_places.specs.declared.state.Scope.{Scope}
@@ -654,37 +653,8 @@ each_keepers w (Yield q) h = yield_keepers w q YieldPop (λ t. refl) (λ p. refl
 each_keepers w (YieldLocal q) h = yield_keepers w q LocalPop (λ t. refl) (λ p. refl) h
 each_keepers w (EndPool q p) h = give_keepers w q p h
 
-step_keepers : (w : World) (e : Event) → KeepersHold w → IfSome (step w e) KeepersHold
+pub step_keepers : (w : World) (e : Event) → KeepersHold w → IfSome (step w e) KeepersHold
 step_keepers w e h = if_some_map (λ u. ReturnsHold u × (ReturnsHold u → KeepersHold u)) KeepersHold (λ u f. f.1 (f.0)) (step w e) (if_some_and ReturnsHold (λ u. ReturnsHold u → KeepersHold u) (step w e) (step_returns w e (h.returns)) (each_keepers w e h))
 
-first_keepers : (h : Shape) → KeepersHold (start h)
+pub first_keepers : (h : Shape) → KeepersHold (start h)
 first_keepers h = record { returns = first_returns h; jobs = λ t. (None, omega arith); values = λ p. (None, omega arith) }
-
--- with a share that has a keeper and is in at most one place, that keeper alone keeps it
-kept_once : (f : Party → ℕ) (own b : Bool) → Tokens f (one own) (one b) → HasKeeper f (one own) (one b) → KeptOnce f own b
-kept_once f own false t h = (λ q. (let a : f q + one own ≤ 0 = t.alone q in omega (arith, a)), one_not own (let a : f (Caller 0) + one own ≤ 0 = t.alone (Caller 0) in omega (arith, a)))
-kept_once f own true t (None, h) = (None, λ q. (let a : f q + one own ≤ 1 = t.alone q in let b : 1 ≤ one own = h in omega (arith, a, b)), one_is own h)
-kept_once f own true t (Some r, h) = (Some r, λ q. by q (same_party q r) refl, one_not own (let a : f r + one own ≤ 1 = t.alone r in let b : 1 ≤ f r = h in omega (arith, a, b)))
-  where
-    by : (q : Party) (z : Bool) → same_party q r ≡ z → f q ≡ one z
-    by q true z = let e : f q ≡ f r = ap f (same_party_true q r z) in let a : f r + one own ≤ 1 = t.alone r in let b : 1 ≤ f r = h in omega (arith, a, b, e)
-    by q false z = let a : f q + f r ≤ 1 = t.apart q r z in let b : 1 ≤ f r = h in omega (arith, a, b)
-
-count_sum : (n : ℕ) (f : ℕ → Bool) → count_below n f ≡ sum_below n (λ t. one (f t))
-count_sum zero f = refl
-count_sum (suc n) f = by (f n) (count_sum n f)
-  where
-    by : (b : Bool) → count_below n f ≡ sum_below n (λ t. one (f t)) → (if b then 1 + count_below n f else count_below n f) ≡ (one b + sum_below n (λ t. one (f t)))
-    by true a = omega (arith, a)
-    by false a = omega (arith, a)
-
-pub always_counted : (h : Shape) (es : List Event) (w : World) → IsRun (start h) es w → IsCounted w
-always_counted h es w r = counted (run_keeps KeepersHold step_keepers (start h) w es (first_keepers h) r)
-  where
-    counted : KeepersHold w → IsCounted w
-    counted k = record {
-      count = λ p. (let a : sum_below w.jobs (λ t. tally p (w.job t)) + one (w.pool p).counted ≡ (w.pool p).count = ((k.returns).shares).sums p in let b : count_below w.jobs (λ t. has_share p (w.job t)) ≡ sum_below w.jobs (λ t. tally p (w.job t)) = count_sum w.jobs (λ t. has_share p (w.job t)) in omega (arith, a, b));
-      made = ((k.returns).shares).unmade;
-      value = λ p. kept_once (λ q. all_values p (w.stack q)) ((w.pool p).held) ((w.pool p).counted) (((k.returns).shares).values p) (k.values p);
-      jobs = λ t. kept_once (λ q. shares t (w.stack q)) (keeps_own (w.job t)) ((w.job t).counted) (((k.returns).shares).jobs t) (k.jobs t);
-    }

@@ -17,7 +17,7 @@ use Rattle.rayon_machine_places.specs.declared.place.Place.TheVariants.{Free, Ru
 use Rattle.rayon_machine_places.specs.declared.place.Move.{Move}
 use Rattle.rayon_machine_places.specs.declared.place.Move.TheVariants.{Stay, Enter, Back, HandBack, Mark, HandAllBack}
 use Rattle.rayon_machine_places.specs.declared.act.Act.{Act}
-use Rattle.rayon_machine_places.specs.declared.act.Act.TheVariants.{SlotUndoAll}
+use Rattle.rayon_machine_places.specs.declared.act.Act.TheVariants.{PushCast, SlotUndoAll}
 use Rattle.rayon_machine_places.specs.declared.act.Seen.{Seen}
 use Rattle.rayon_machine_places.specs.declared.act.Seen.TheVariants.{Done, Yes}
 use Rattle.rayon_machine_places.specs.declared.event.Event.{Event}
@@ -26,7 +26,7 @@ use Rattle.rayon_machine_places.specs.declared.state.Slot.TheVariants.{Closed, O
 use Rattle.rayon_machine_places.specs.declared.state.Whereabouts.TheVariants.{InCast, Over, HandedBack}
 use Rattle.rayon_machine_places.specs.declared.shape.PoolShape.{PoolShape}
 use Rattle.rayon_machine_places.specs.Places.{call_all, gather_all, set_call, act_of, next_of}
-use Rattle.rayon_machine_places.specs.World.{Shape, Stack, World, count_below, Counts, Part, Outcome, target_job, effect}
+use Rattle.rayon_machine_places.specs.World.{Shape, Stack, World, count_below, Counts, Part, Outcome, casts_with, target_job, effect}
 use Rattle.rayon_machine_places.specs.Steps.{put_stack, step}
 use Rattle.rayon_machine_laws.specs.Once.{one}
 use Rattle.rayon_machine_laws.specs.Shares.{shares}
@@ -167,3 +167,27 @@ record HasNobodys (w : World) : Type 0 where
 
 undo_takes_one_number : IfSome (run_by (doing takes_one) (two 32) (opened ++ IntoCast c 0 ∷ times_go c 2 ++ Refuse c ∷ times_go c 1)) HasNobodys
 undo_takes_one_number = record { slots = refl {a = 1}; first = refl {a = Closed}; second = refl {a = Closed} }
+
+-- the pieces of a broadcast that waits get shares that are added to the count, and those that waited for them stay in it
+abbrev adds_shares : Act → Shape → Party → Counts → Part → Outcome
+adds_shares (PushCast p) h q n m = Some (Done, record m { pool = record (m.pool) { casts = casts_with p m.pool.casts }; call = record (m.call) { count = m.call.count + p.workers } })
+adds_shares act h q n m = effect act h q n m
+
+abbrev dealt_run : List Event
+dealt_run = Broadcast c 0 ∷ times_go c 3
+
+-- the law of the count is broken: the first piece is queued, and shares wait for it still, so the broadcast will never
+-- end. The law of scopes is not: the number is that of the shares
+record StillWaits (w : World) : Type 0 where
+  kind : (w.job 0).kind ≡ PieceOf 0 c
+  at : (w.job 0).at ≡ InCast 0 0
+  waits : (w.call 0).undealt ≡ 2
+  number : (w.call 0).count ≡ 4
+  shares : (one (w.call 0).counted + (w.call 0).undealt) + count_below w.jobs (λ t. has_entry 0 (w.job t)) ≡ 4
+
+dealt_shares_wait_still : IfSome (run_by (doing adds_shares) (two 32) dealt_run) StillWaits
+dealt_shares_wait_still = record { kind = refl {a = PieceOf 0 c}; at = refl {a = InCast 0 0}; waits = refl {a = 2}; number = refl {a = 4}; shares = refl {a = 4} }
+
+-- in the machine as it is none waits
+none_waits : IfSome (run_by right (two 32) dealt_run) (λ w. ((w.call 0).undealt ≡ 0) × ((w.call 0).count ≡ 2))
+none_waits = (refl {a = 0}, refl {a = 2})

@@ -20,6 +20,10 @@ ghost use Rattle.rayon_machine_orders.specs.Faults.{FaultLaw, IsKept};
 /// lost, and none stays in the count that nobody keeps. The pieces of a broadcast that waits have shares of its own
 /// count, from the act that queues them on, and the number that stands for the whole has the pool's, which the call that
 /// waits keeps. A spawn in order into a scope, and a piece of a scope, have shares of the scope's count.
+/// The share that a scope's body has of the scope's count is kept exactly once too, by the party that opened the scope,
+/// from the scope's event to its Lower; but once a refused scope has handed its body back nobody is to give that share
+/// back. Where a piece of a broadcast that waits is queued, in a hand, running or over, no share waits in its call's
+/// count: each is that of a piece.
 /// It does not say that a share is ever given back.
 pub fn law_count()
     ensures { Always IsCounted }

@@ -1,4 +1,4 @@
-use Rattle.rayon_machine_orders.proofs.Keeping.{always_counted}
+use Rattle.rayon_machine_orders.proofs.Exact.{always_counted}
 use Rattle.rayon_machine_orders.proofs.call_laws.law_count.Goals as goal
 
 pub returns : goal.returns

@@ -44,7 +44,8 @@ use Rattle.rayon_machine_laws.proofs.ClaimRuns.{CallsHold, top_says, world_after
 use Rattle.rayon_machine_laws.proofs.ClaimMakes.{below_new}
 use Rattle.rayon_machine_laws.proofs.Bodies.{body, bodies_in, all_bodies}
 use Rattle.rayon_machine_laws.proofs.Tokens.{sum_below, sum_least}
-use Rattle.rayon_machine_laws.proofs.Scoping.{ScopesHold, entry, entry_on, scopes_counted}
+use Rattle.rayon_machine_laws.proofs.Scoping.{ScopesHold, CountOver, count_over}
+use Rattle.rayon_machine_laws.proofs.Spawned.{below_counts}
 use Rattle.rayon_machine_laws.proofs.ShareSteps.{Ready, self_one, plan_made}
 use Rattle.rayon_machine_laws.proofs.ShareEvents.{ready}
 use Rattle.rayon_machine_orders.specs.Books.{slot_number, InBook, BookDone, IsBooked, IsCast, Undoes, UndoesAll}
@@ -511,32 +512,6 @@ first_books h = record {
 pub always_books : (h : Shape) (es : List Event) (w : World) → IsRun (start h) es w → BooksHold w
 always_books h es w r = run_keeps BooksHold step_books (start h) w es (first_books h) r
 
--- who holds a scope keeps its count above 0: who runs its body, or a job of it
-count_of_sum : (w : World) → ScopesHold w → (c : ℕ) → (1 ≤ one (w.call c).counted) ⊎ ((t : ℕ) × ((t + 1 ≤ w.jobs) × (entry c (w.job t) ≡ 1))) → 1 ≤ (w.call c).count
-count_of_sum w h c (inl b) = let a : sum_below w.jobs (λ t. entry c (w.job t)) + (one (w.call c).counted + (w.call c).undealt) ≡ (w.call c).count = h.sums c in omega (arith, a, b)
-count_of_sum w h c (inr (t, y)) = let m : t + 1 ≤ w.jobs = y.0 in let e : entry c (w.job t) ≡ 1 = y.1 in let a : sum_below w.jobs (λ t. entry c (w.job t)) + (one (w.call c).counted + (w.call c).undealt) ≡ (w.call c).count = h.sums c in let d : entry c (w.job t) ≤ sum_below w.jobs (λ t. entry c (w.job t)) = sum_least w.jobs (λ t. entry c (w.job t)) t m in omega (arith, a, d, e)
-
-frame_counts : (w : World) → ScopesHold w → (q : Party) (c : ℕ) (f : Place) → Says w q f → ((t : ℕ) → run_of t f ≤ worked t (w.stack q)) → body c f ≤ all_bodies c (w.stack q) → holds_scope c f ≡ true → 1 ≤ (w.call c).count
-frame_counts w h q c (ScopeBody o) s r b z = count_of_sum w h c (inl (let a : all_bodies c (w.stack q) + 0 ≤ one (w.call c).counted = (h.bodies c).alone q in let d : one (c == o.number) ≡ 1 = ap one (eq-eqb c (o.number) (sym (eqb-true (o.number) c z))) in omega (arith, a, b, d)))
-frame_counts w h q c (Run t (Scoped d o)) s r b z = count_of_sum w h c (inr (t, (s.0, entry_on c (w.job t) (Scoped d o) counted (s.1) ∙ ap one (eq-eqb c d (sym (eqb-true d c z))))))
-  where
-    running : (w.job t).at ≡ Running q
-    running = (at_work ((w.job t).at) ((w.job t).runs) q (where_is (Work q) (loc_at (w.job t)) (let a : worked t (w.stack q) ≡ is_loc (Work q) (loc_at (w.job t)) = (((((h.shares).calls).jobs).ok).placed (Work q) t) in let e : run_of t (Run t (Scoped d o)) ≤ worked t (w.stack q) = r t in let i : one (t == t) ≡ 1 = self_one t in omega (arith, a, e, i)))).1
-
-    counted : (w.job t).counted ≡ true
-    counted = (scopes_counted w h).kept t (ap is_scoped (s.1)) (ap is_busy running)
-frame_counts w h q c _ s r b z = cc
-
-hold_counts : (w : World) → ScopesHold w → (q : Party) (c : ℕ) (fs : List Place) → AllSay w q fs → ((t : ℕ) → runs_in t fs ≤ worked t (w.stack q)) → bodies_in c fs ≤ all_bodies c (w.stack q) → holds_in c fs ≡ true → 1 ≤ (w.call c).count
-hold_counts w h q c [] a r b z = cc
-hold_counts w h q c (f ∷ fs) a r b z = either_counts (holds_scope c f) refl
-    (frame_counts w h q c f (a.0) (λ t. (let d : run_of t f + runs_in t fs ≤ worked t (w.stack q) = r t in omega (arith, d))) (omega (arith, b)))
-    (hold_counts w h q c fs (a.1) (λ t. (let d : run_of t f + runs_in t fs ≤ worked t (w.stack q) = r t in omega (arith, d))) (omega (arith, b)))
-  where
-    either_counts : (x : Bool) → holds_scope c f ≡ x → (holds_scope c f ≡ true → 1 ≤ (w.call c).count) → (holds_in c fs ≡ true → 1 ≤ (w.call c).count) → 1 ≤ (w.call c).count
-    either_counts true e g k = g e
-    either_counts false e g k = k (ap (λ y. y || holds_in c fs) (sym e) ∙ z)
-
 -- what that says of the acts on a book
 made_job : (w : World) → BooksHold w → (t n : ℕ) → slot_number (w.job t).slot ≡ Some n → t + 1 ≤ w.jobs
 made_job w h t n z = elim (either (ltb t w.jobs)) [ inl g ↦ (let b : t < w.jobs = ltb-true t w.jobs g in omega (arith, b)) | inr g ↦ absurd (let a : slot_number (w.job t).slot ≡ None = ap slot_number (h.unmade t (ltb-false t w.jobs g)) in let b : Some n ≡ None = sym z ∙ a in cc) ]
@@ -598,12 +573,9 @@ writes_open w q (OpenForAll b) c z s a = absurd (none_all_holds b.count b c (inr
 writes_open w q (LowerForAll b) c z s a = absurd (none_all_holds b.count b c (inr (inr z)))
 writes_open w q _ c z s a = absurd (cc)
 
-below_runs : (t : ℕ) (x : Place) (fs : List Place) → runs_in t fs ≤ worked t (record { top = x; below = fs })
-below_runs t x fs = omega arith
-
 -- who is to raise a scope's count, or broadcasts into it, holds the scope
 raising_counts : (w : World) → BooksHold w → (q : Party) (c : ℕ) → raising (w.stack q).top ≡ Some c → (w.call c).count ≡ 0 → ⊥
-raising_counts w h q c i n = absurd (let a : 1 ≤ (w.call c).count = hold_counts w (((h.early).fills).scopes) q c ((w.stack q).below) (((((((h.early).fills).hold).calls).says q).below)) (λ t. below_runs t ((w.stack q).top) ((w.stack q).below)) (let b : all_bodies c (w.stack q) ≡ (body c ((w.stack q).top) + bodies_in c ((w.stack q).below)) = refl in omega (arith, b)) (h.enters q c i) in omega (arith, a, n))
+raising_counts w h q c i n = absurd (let a : 1 ≤ (w.call c).count = below_counts w (((h.early).fills).scopes) q c (h.enters q c i) in omega (arith, a, n))
 
 -- a book whose scope has the count 0
 done_book : (w : World) → BooksHold w → (c : ℕ) → c + 1 ≤ w.calls → (w.call c).count ≡ 0 → BookDone w c
@@ -612,8 +584,8 @@ done_book w h c l z = record { count = z; writer = by ((w.call c).writer) refl; 
     scopes : ScopesHold w
     scopes = ((h.early).fills).scopes
 
-    ended : ScopeEnded w c
-    ended = (scopes_counted w scopes).ended c l z
+    ended : CountOver w c
+    ended = count_over w scopes c l z
 
     uncounted : (t : ℕ) (o : Party) → (w.job t).kind ≡ Scoped c o → (w.job t).counted ≡ false
     uncounted t o k = ended.jobs t (ap (is_of_scope c) k ∙ eq-eqb c c refl)

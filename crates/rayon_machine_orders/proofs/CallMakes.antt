@@ -26,7 +26,9 @@ use Rattle.rayon_machine_places.specs.Steps.{after_call, is_pool, new_job, new_c
 use Rattle.rayon_machine_places.specs.Readers.{is_done}
 use Rattle.rayon_machine_laws.specs.End.{HasEnded, Verdict, AllFine, FirstFault, LastFault, AllJobs, ScopeTakes, CastTakes}
 use Rattle.rayon_machine_laws.specs.Counted.{ScopeEnded}
-use Rattle.rayon_machine_laws.proofs.Scoping.{scopes_counted}
+use Rattle.rayon_machine_laws.proofs.Scoping.{count_over}
+use Rattle.rayon_machine_laws.proofs.Enters.{EntersHold}
+use Rattle.rayon_machine_laws.proofs.Spawned.{scope_ended as zero_ended}
 use Rattle.rayon_machine_orders.specs.Faults.{TakesFault, TakesLowest}
 use Rattle.rayon_machine_orders.specs.Calls.{caller_of, scope_pool, fed_jobs, jobs_of, numbers_of, is_awaited, is_join, is_scope, is_broadcast, IsPrecedent, LowersSo, ScopeAnswers, CastAnswers, TakesSo, HasRun, LeavesJob, HoldsEnding, IsHandedOn, IsSpent}
 use Rattle.rayon_machine_laws.proofs.Frame.{either, if_cond, put_new, stack_mine, put_old, piece_in, piece_new, piece_range}
@@ -139,7 +141,7 @@ pub record CountBegun (w v : World) (n : Plan) : Type 0 where
   pub calls : w.calls + 1 ≤ v.calls
   pub target : (v.call w.calls).job ≡ plan_job n
   pub awaited : is_detach n ≡ false
-  pub ended : (u : World) → EarlyHold u → (u.call w.calls).job ≡ plan_job n → Known u n → Unrefused u n → NoneLeft u n → (u.job (plan_job n)).counted ≡ false → ScopeEnded u w.calls
+  pub ended : (u : World) → EarlyHold u → EntersHold u → (u.call w.calls).job ≡ plan_job n → Known u n → Unrefused u n → NoneLeft u n → (u.job (plan_job n)).counted ≡ false → ScopeEnded u w.calls
 
 -- a call has begun, with its plan
 pub record Begun (w v : World) (q : Party) (e : Event) : Type 0 where
@@ -308,7 +310,7 @@ scope_begun w q p = if_cond (λ v. Begun w v q (OpenScope q p)) (is_free ((w.sta
   awaited = λ z. refl;
   answer = λ u r x y. open_answer u (record { number = w.calls; pool = p; job = w.jobs }) (w.jobs + 1 - 1) (omega arith) x y;
   body = λ u h o c r k m z. (sym m ∙ own_number (record { number = w.calls; pool = p; job = w.jobs }) o k, subst (λ t. HasRun u t) (omega arith) (has_run u h w.jobs (subst (λ t. Ended u t) (own_job (record { number = w.calls; pool = p; job = w.jobs }) o k) z)));
-  scope = λ z. record { calls = omega arith; target = ap (λ k. k.job) (put_new w.call w.calls (new_call None w.jobs)); awaited = refl; ended = λ u h i k y m n. scope_ended u h w.calls w.jobs i y n };
+  scope = λ z. record { calls = omega arith; target = ap (λ k. k.job) (put_new w.call w.calls (new_call None w.jobs)); awaited = refl; ended = λ u h e i k y m n. scope_ended u h e w.calls w.jobs i y n };
   takes = λ u c y. (subst (HoldsEnding u c) (omega arith) (y.0), y.1);
   bound = λ z. absurd (cc);
   leaves = λ u h t i z. has_run u h t (subst (λ x. Ended u x) (sym i) z);
@@ -367,8 +369,8 @@ into_fifo_begun w q i = by q (slice_get w.scopes i) refl
     by (Worker r j) (Some z) e = mine z j r e (r == z.pool) refl
 
 -- a broadcast that waits: once its count is 0 each piece of it is over
-gather_ended : (u : World) → EarlyHold u → (c : ℕ) → c + 1 ≤ u.calls → (u.call c).count ≡ 0 → ScopeEnded u c
-gather_ended u h c l z = (scopes_counted u (h.fills).scopes).ended c l z
+gather_ended : (u : World) → EarlyHold u → EntersHold u → (c : ℕ) → c + 1 ≤ u.calls → (u.call c).count ≡ 0 → ScopeEnded u c
+gather_ended u h e c l z = zero_ended u (h.fills).scopes e c z (count_over u (h.fills).scopes c l z)
 
 gather_begun : (w : World) (q : Party) (p : ℕ) → IfSome (after_broadcast w q p (w.stack q)) (λ v. Begun w v q (Broadcast q p))
 gather_begun w q p = if_cond (λ v. Begun w v q (Broadcast q p)) (is_free ((w.stack q).top) && is_pool w.shape p) _ (λ b. record {
@@ -380,7 +382,7 @@ gather_begun w q p = if_cond (λ v. Begun w v q (Broadcast q p)) (is_free ((w.st
   awaited = λ z. refl;
   answer = λ u r x y. cast_answer u g (w.jobs + c.workers + 1 - 1) (omega arith) x y;
   body = λ u h o d r k m z. absurd (cc);
-  scope = λ z. record { calls = omega arith; target = ap (λ k. k.job) call; awaited = refl; ended = λ u h i k y m n. gather_ended u h w.calls k.number m };
+  scope = λ z. record { calls = omega arith; target = ap (λ k. k.job) call; awaited = refl; ended = λ u h e i k y m n. gather_ended u h e w.calls k.number m };
   takes = λ u d y. y;
   bound = λ z t l m. ((let a : t + 1 ≤ w.jobs + c.workers + 1 = omega (arith, m) in a), ap (λ j. j.bound) (piece t (piece_in c t l m)));
   leaves = λ u h t i z. has_run u h t (z t i);

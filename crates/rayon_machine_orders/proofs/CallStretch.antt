@@ -33,6 +33,8 @@ use Rattle.rayon_machine_orders.proofs.Filled.{takes_filled}
 use Rattle.rayon_machine_orders.proofs.CallPlaces.{Stage, Paid, Repaid, is_undone, is_detach, Part, Ended, Returns, Known, Knows, NoneLeft, Gone}
 use Rattle.rayon_machine_orders.proofs.CallActs.{Sofar, Went, call_goes, or_false}
 use Rattle.rayon_machine_orders.proofs.CallEvents.{whole, CallStands, Stood, Turned, at_call_yes, at_call_no}
+use Rattle.rayon_machine_laws.proofs.Enters.{EntersHold}
+use Rattle.rayon_machine_orders.proofs.Fillings.{SlotsHold}
 use Rattle.rayon_machine_orders.proofs.CallSteps.{Carries, mover, turns, go_all, step_carries, known_on, sofar_on}
 use Rattle.rayon_machine_laws.proofs.Feeders.{FeedersHold}
 use Rattle.rayon_machine_laws.proofs.Endings.{follows_says}
@@ -52,6 +54,8 @@ pub record Ground (w : World) : Type 0 where
   pub feeders : FeedersHold w
   pub faults : FaultsHold w
   pub books : BooksHold w
+  pub slots : SlotsHold w
+  pub enters : EntersHold w
 
 -- the call goes on
 pub record Inside (u : World) (q : Party) (s : Stack) (n : Plan) (r : Bool) : Type 0 where

@@ -24,7 +24,8 @@ use Rattle.rayon_machine_places.specs.declared.act.Act.TheVariants.{LookOwn, Loo
 use Rattle.rayon_machine_places.specs.declared.event.Event.{Event}
 use Rattle.rayon_machine_places.specs.declared.state.Whereabouts.TheVariants.{Over, HandedBack}
 use Rattle.rayon_machine_places.specs.declared.place.OpenCall.{OpenCall}
-use Rattle.rayon_machine_places.specs.declared.state.Slot.TheVariants.{Closed, Open as IsOpen}
+use Rattle.rayon_machine_places.specs.declared.state.Slot.{Slot}
+use Rattle.rayon_machine_places.specs.declared.state.Slot.TheVariants.{Closed, Open as IsOpen, Filled}
 use Rattle.rayon_machine_places.specs.Places.{is_member, plan_pool, plan_job, plan_book, act_of}
 use Rattle.rayon_machine_places.specs.World.{Shape, Stack, World}
 use Rattle.rayon_machine_places.specs.Steps.{holds, step}
@@ -49,6 +50,10 @@ use Rattle.rayon_machine_orders.proofs.CallSteps.{Carries, step_carries, known_o
 use Rattle.rayon_machine_orders.proofs.FaultSteps.{always_faults, is_kept}
 use Rattle.rayon_machine_orders.proofs.CallEvents.{whole, CallStands, at_call_no}
 use Rattle.rayon_machine_orders.proofs.CallMakes.{all_of, PlanAnswers, PlanTakes, CountBegun, Begun, begun_by}
+use Rattle.rayon_machine_places.specs.Readers.{is_done}
+use Rattle.rayon_machine_orders.specs.Books.{slot_number}
+use Rattle.rayon_machine_laws.proofs.Enters.{always_enters}
+use Rattle.rayon_machine_orders.proofs.Fillings.{fills, always_slots}
 use Rattle.rayon_machine_orders.proofs.CallStretch.{Ground, Inside, Returned, After, Stays, knows, step_stays}
 use Rattle.rayon_machine_places.specs.declared.place.Taken.TheVariants.{Plain, Token}
 use Rattle.rayon_machine_laws.proofs.FeederEvents.{always_feeders}
@@ -58,7 +63,7 @@ run_more w v u [] e r one = (u, subst (λ x. step x e ≡ Some u) r one, refl)
 run_more w v u (a ∷ es) e (x, two, rest) one = (x, two, run_more x v u es e rest one)
 
 pub ground_of : (h : Shape) (es : List Event) (w : World) → IsRun (start h) es w → Ground w
-ground_of h es w r = record { calls = always_calls h es w r; filled = always_filled h es w r; returns = always_returns h es w r; feeders = always_feeders h es w r; faults = always_faults h es w r; books = always_books h es w r }
+ground_of h es w r = record { calls = always_calls h es w r; filled = always_filled h es w r; returns = always_returns h es w r; feeders = always_feeders h es w r; faults = always_faults h es w r; books = always_books h es w r; slots = always_slots h es w r; enters = always_enters h es w r }
 
 pub or_assoc : (a b c : Bool) → ((a || b) || c) ≡ (a || (b || c))
 or_assoc true b c = refl
@@ -395,14 +400,20 @@ until_known w q s (e ∷ es) u (v, opened, one, rest) n k = let f : Carries w v 
 
 -- a job that is handed back
 pub given_back : (u : World) → Ground u → (t : ℕ) → (u.job t).at ≡ HandedBack → IsGivenBack u t
-given_back u g t i = record { at = i; untouched = (refused_so u (g.calls.jobs)).gone t i; share = share; number = λ c n o k z. number c n o k z (either (ltb t u.jobs)) }
+given_back u g t i = record { at = i; untouched = (refused_so u (g.calls.jobs)).gone t i; share = share; number = λ c n o k z. number c n o k ((u.job t).slot) refl z }
   where
     share : (u.job t).counted ≡ false
     share = (returned_so u g.returns).gone t i
 
-    number : (c n : ℕ) (o : Party) → (u.job t).kind ≡ Scoped c o → (u.job t).slot ≡ IsOpen n → (ltb t u.jobs ≡ true) ⊎ (ltb t u.jobs ≡ false) → ⊥
-    number c n o k z (inl l) = absurd (let m : t + 1 ≤ u.jobs = (let b : t < u.jobs = ltb-true t u.jobs l in omega (arith, b)) in let a : (u.job t).counted ≡ true = (g.books).counted t m c o k (ap is_unfilled z) in let d : true ≡ false = sym a ∙ share in cc)
-    number c n o k z (inr l) = absurd (let a : (u.job t).slot ≡ Closed = (g.books).unmade t (ltb-false t u.jobs l) in let d : Closed ≡ IsOpen n = sym a ∙ z in cc)
+    shut : (c n : ℕ) (o : Party) → (u.job t).kind ≡ Scoped c o → (u.job t).slot ≡ IsOpen n → (ltb t u.jobs ≡ true) ⊎ (ltb t u.jobs ≡ false) → ⊥
+    shut c n o k z (inl l) = absurd (let m : t + 1 ≤ u.jobs = (let b : t < u.jobs = ltb-true t u.jobs l in omega (arith, b)) in let a : (u.job t).counted ≡ true = (g.books).counted t m c o k (ap is_unfilled z) in let d : true ≡ false = sym a ∙ share in cc)
+    shut c n o k z (inr l) = absurd (let a : (u.job t).slot ≡ Closed = (g.books).unmade t (ltb-false t u.jobs l) in let d : Closed ≡ IsOpen n = sym a ∙ z in cc)
+
+    -- what is filled is over, and what is handed back is not
+    number : (c n : ℕ) (o : Party) → (u.job t).kind ≡ Scoped c o → (s : Slot) → (u.job t).slot ≡ s → slot_number s ≡ Some n → ⊥
+    number c n o k Closed e z = cc
+    number c n o k (IsOpen m) e z = shut c m o k e (either (ltb t u.jobs))
+    number c n o k (Filled m) e z = absurd (let a : fills (u.job t).slot ≡ 1 = ap fills e in let b : is_done (u.job t).at ≡ true = (g.slots).over t (omega (arith, a)) in let d : is_done (u.job t).at ≡ false = ap is_done i in let f : true ≡ false = sym b ∙ d in cc)
 
 pub call_law : CallLaw
 call_law h before q e w v u between b run =
@@ -421,6 +432,6 @@ call_law h before q e w v u between b run =
       answers = λ y p i z x d. call_answers u g q s n r p i (λ k. LowersSo e k u w.calls w.jobs (v.jobs - 1)) (begun.answer u) (λ o c b j m z. begun.body u (g.calls.jobs) o c b j m z) a z x d;
       pays = λ z y. subst (λ t. (u.job t).counted ≡ false) (begun.last (begun.awaited y)) ((is_returned u q s n r a z).paid (begun.awaited y));
       ends = λ z y t l m. begun.leaves u (g.calls.jobs) t (begun.numbers t l m) ((is_returned u q s n r a z).ends y);
-      empties = λ z i y. (let c : CountBegun w v n = begun.scope i in let k : Returned u q s n r = is_returned u q s n r a z in c.ended u ((g.books).early) (until_target v q s between u run w.calls c.calls ∙ c.target) (until_known v q s between u run n begun.inside.known) (k.ends y) (k.left y) (k.paid c.awaited));
+      empties = λ z i y. (let c : CountBegun w v n = begun.scope i in let k : Returned u q s n r = is_returned u q s n r a z in c.ended u ((g.books).early) g.enters (until_target v q s between u run w.calls c.calls ∙ c.target) (until_known v q s between u run n begun.inside.known) (k.ends y) (k.left y) (k.paid c.awaited));
       refused = λ z y t l m. given_back u g t (all_of (λ x. (u.job x).at ≡ HandedBack) t n (begun.numbers t l m) ((is_returned u q s n r a z).refused y));
     }

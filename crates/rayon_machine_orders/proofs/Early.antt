@@ -1,7 +1,7 @@
 -- a scope keeps its share of its pool's count while a job of it has one of the scope's: so no pool ends before the
 -- scopes at it
 use Rattle.std.proofs.Common.{arith, refl, sym, ◌∙◌, ap, inl, inr}
-use Rattle.std.specs.Prelude.{ℕ, Bool, true, false, ◌+◌, ◌==◌, ◌≤◌, ◌<◌, List, ◌≡◌, ◌⊎◌, IfSome}
+use Rattle.std.specs.Prelude.{ℕ, zero, suc, Bool, true, false, ◌+◌, ◌==◌, ◌≤◌, ◌<◌, List, ◌≡◌, ◌⊎◌, IfSome}
 use Rattle.std.proofs.lemmas.Bool.{eqb-true, ltb-true, ltb-false}
 use Rattle.std.proofs.Math.Dec.{ltb}
 use Rattle.rayon_machine_places.specs.declared.place.Party.{Party}
@@ -25,7 +25,9 @@ use Rattle.rayon_machine_laws.proofs.Tokens.{sum_below, sum_least}
 use Rattle.rayon_machine_laws.proofs.ShareActs.{SharesHold}
 use Rattle.rayon_machine_laws.proofs.ShareSteps.{self_one}
 use Rattle.rayon_machine_laws.proofs.ShareEnds.{gone, job_uncounted}
-use Rattle.rayon_machine_laws.proofs.Scoping.{ScopesHold, entry, entry_on, scopes_counted}
+use Rattle.rayon_machine_laws.proofs.Scoping.{ScopesHold, entry, entry_on, entry_kept}
+use Rattle.rayon_machine_laws.proofs.Enters.{EntersHold}
+use Rattle.rayon_machine_laws.proofs.Spawned.{through}
 use Rattle.rayon_machine_laws.specs.Counted.{ScopeEnded, has_body, is_of_scope}
 use Rattle.rayon_machine_places.specs.Readers.{is_done}
 use Rattle.rayon_machine_orders.proofs.FilledStates.{FilledHold, done_ended, unmade_ended}
@@ -114,12 +116,13 @@ no_early_end w h p i z = gone w p hold none (λ t e k. scoped t e k ((w.job t).c
             let z : true ≡ false = sym v ∙ x in cc
 
 -- a scope whose body is over and has given back its share of the pool's count has ended
-pub scope_ended : (w : World) → EarlyHold w → (c t : ℕ) → (w.call c).job ≡ t → is_done (w.job t).at ≡ true → (w.job t).counted ≡ false → ScopeEnded w c
-scope_ended w h c t i d n = record {
+pub scope_ended : (w : World) → EarlyHold w → EntersHold w → (c t : ℕ) → (w.call c).job ≡ t → is_done (w.job t).at ≡ true → (w.job t).counted ≡ false → ScopeEnded w c
+scope_ended w h enters c t i d n = record {
   body = λ f. over;
   jobs = λ j k. unshared j k ((w.job j).counted) refl;
   idle = λ j k. idle j k (is_busy (w.job j).at) refl;
   over = λ f j m k. absurd (whole f);
+  spawned = λ j o m k. through w hold enters c (empty j o m k ((w.call c).count) refl) j o m k;
 }
   where
     hold : ScopesHold w
@@ -132,6 +135,11 @@ scope_ended w h c t i d n = record {
     whole : has_body (w.job (w.call c).job).kind ≡ false → ⊥
     whole f = let m : (w.call c).job + 1 ≤ w.jobs = unmade_ended w ((((h.fills).hold).calls).jobs) ((w.call c).job) (done_ended ((w.job (w.call c).job).at) over) in
         let a : is_done (w.job (w.call c).job).at ≡ false = ap is_done ((h.fills).wholes ((w.call c).job) m f) in let x : true ≡ false = sym over ∙ a in cc
+
+    -- a scope whose body has given its share of the pool's count back has none of its own left
+    empty : (j : ℕ) (o : Party) → j + 1 ≤ w.jobs → (w.job j).kind ≡ Scoped c o → (a : ℕ) → (w.call c).count ≡ a → a ≡ 0
+    empty j o m k zero e = refl
+    empty j o m k (suc l) e = absurd (let v : (w.job (w.call c).job).counted ≡ true = h.kept j m c o k (omega (arith, e)) in let x : true ≡ false = sym v ∙ ap (λ v. (w.job v).counted) i ∙ n in cc)
 
     is_made : (j : ℕ) → (w.job j).counted ≡ true → j + 1 ≤ w.jobs
     is_made j y = elim (either (ltb j w.jobs)) [ inl g ↦ (let b : j < w.jobs = ltb-true j w.jobs g in omega (arith, b)) | inr g ↦ absurd (let z : (w.job j).counted ≡ false = (hold.shares).unmade j (ltb-false j w.jobs g) in let x : true ≡ false = sym y ∙ z in cc) ]
@@ -160,4 +168,4 @@ scope_ended w h c t i d n = record {
 
     idle : (j : ℕ) → is_of_scope c (w.job j).kind ≡ true → (b : Bool) → is_busy (w.job j).at ≡ b → b ≡ false
     idle j k false y = refl
-    idle j k true y = sym ((scopes_counted w hold).kept j (scoped ((w.job j).kind) k) y) ∙ unshared j k ((w.job j).counted) refl
+    idle j k true y = sym (entry_kept w hold j (scoped ((w.job j).kind) k) y) ∙ unshared j k ((w.job j).counted) refl

@@ -9,7 +9,7 @@ use Rattle.rayon_machine_laws.proofs.Events.{run_keeps}
 use Rattle.rayon_machine_laws.proofs.Frame.{acted_keeps, either, if_some_and, if_some_map}
 use Rattle.rayon_machine_laws.proofs.PlacedEvents.{Advance}
 use Rattle.rayon_machine_laws.proofs.PlacedRuns.{JobsHold, step_advance}
-use Rattle.rayon_machine_laws.proofs.Scoping.{scopes_counted}
+use Rattle.rayon_machine_laws.proofs.Scoping.{count_over}
 use Rattle.rayon_machine_laws.proofs.Ties.{job_at, outcome}
 use Rattle.rayon_machine_laws.specs.Counted.{has_body, is_of_scope}
 use Rattle.rayon_machine_laws.specs.End.{CastTakes, HasEnded, ScopeTakes, Takes, follows}
@@ -123,7 +123,7 @@ cast_takes w h c l v z own fine = by ((w.call c).fault) refl
     of_call t o k = ap (is_of_scope c) k ∙ eq-eqb c c refl
 
     over : (t : ℕ) (o : Party) → t + 1 ≤ w.jobs → (w.job t).kind ≡ PieceOf c o → (e : Ending) × ((w.job t).at ≡ Over e)
-    over t o m k = piece_over ((w.job t).at) (((scopes_counted w ((h.fills).scopes)).ended c l z).over (no_body ((w.job (w.call c).job).kind) v) t m (of_call t o k))
+    over t o m k = piece_over ((w.job t).at) ((count_over w ((h.fills).scopes) c l z).over (no_body ((w.job (w.call c).job).kind) v) t m (of_call t o k))
       where
         no_body : (k : JobKind) → is_whole k ≡ true → has_body k ≡ false
         no_body (WholeOf d p) y = refl

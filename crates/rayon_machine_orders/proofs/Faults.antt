@@ -7,12 +7,12 @@ use Rattle.std.specs.Prelude.{◌⊎◌, ◌≡◌, ◌==◌, ◌+◌, ◌≤◌
 use Rattle.rayon_machine_laws.proofs.ClaimRuns.{CallsHold, place_part}
 use Rattle.rayon_machine_laws.proofs.Claims.{Opened, Says, is_body, is_part}
 use Rattle.rayon_machine_laws.proofs.Frame.{either, if_cond, if_some_all, if_some_map, put_same}
-use Rattle.rayon_machine_laws.proofs.Scoping.{scopes_counted}
+use Rattle.rayon_machine_laws.proofs.Scoping.{CountOver, count_over}
 use Rattle.rayon_machine_laws.proofs.ShareActs.{with_job}
 use Rattle.rayon_machine_laws.proofs.ShareSteps.{self_one}
 use Rattle.rayon_machine_laws.proofs.Stocked.{one_set}
 use Rattle.rayon_machine_laws.proofs.Ties.{outcome}
-use Rattle.rayon_machine_laws.specs.Counted.{ScopeEnded, is_of_scope}
+use Rattle.rayon_machine_laws.specs.Counted.{is_of_scope}
 use Rattle.rayon_machine_laws.specs.Once.{one}
 use Rattle.rayon_machine_laws.specs.Shares.{share, shares, shares_in}
 use Rattle.rayon_machine_orders.proofs.FaultPlaces.{SameFault, act_fault, answer_of, is_storing}
@@ -269,8 +269,8 @@ puts_counts w h q c t e z n = absurd (let i : true ≡ false = sym counted ∙ (
     says : (t + 1 ≤ w.jobs) × (is_of_scope c (w.job t).kind ≡ true)
     says = puts_says w q ((w.stack q).top) c t e (((hold_of w h).says q).top) z
 
-    over : ScopeEnded w c
-    over = (scopes_counted w ((h.fills).scopes)).ended c ((call_bodied w (hold_of w h) t c (says.0) (says.1)).0) n
+    over : CountOver w c
+    over = count_over w ((h.fills).scopes) c ((call_bodied w (hold_of w h) t c (says.0) (says.1)).0) n
 
     counted : (w.job t).counted ≡ true
     counted = one_set ((w.job t).counted) (

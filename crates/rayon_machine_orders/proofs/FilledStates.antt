@@ -1,6 +1,6 @@
 -- what is said of the cells of calls in every world, and what is known of a call while it is made and when it takes
 use Rattle.rayon_machine_laws.proofs.Endings.{ready_over}
-use Rattle.rayon_machine_laws.proofs.Scoping.{ScopesHold, old_call as known_call, scopes_counted, entry}
+use Rattle.rayon_machine_laws.proofs.Scoping.{ScopesHold, old_call as known_call, body_over, count_over, entry}
 use Rattle.rayon_machine_places.specs.declared.place.Count.TheVariants.{OfScope, OfCast}
 use Rattle.std.proofs.Common.{arith, refl, sym, ◌∙◌, ap, subst, inl, inr}
 use Rattle.std.specs.Prelude.{ℕ, Bool, true, false, ◌+◌, ◌-◌, ◌==◌, ◌≤◌, ◌<◌, nat_lt, nat_le, Option, Some, None, List, ◌≡◌, ◌⊎◌}
@@ -110,7 +110,7 @@ now_ended w h n q c _ e s = absurd (cc)
 pub settled_ended : (w : World) → ScopesHold w → Wholes w → (c : ℕ) → IsSettled w c → is_ended (w.job (w.call c).job).at ≡ true
 settled_ended w h n c (inl a) = let s : (c + 1 ≤ w.calls) × IsReady w c = ((h.shares).calls).latches c a in ready_ended w h n c (s.0) (s.1)
 settled_ended w h n c (inr (inl s)) = (now_ended w h n (s.0) c ((w.stack (s.0)).top) (s.1) ((((h.shares).calls).says (s.0)).top)).1
-settled_ended w h n c (inr (inr y)) = done_ended ((w.job (w.call c).job).at) ((scopes_counted w h).body c (known_call w h c (y.0)) (y.0) (y.1))
+settled_ended w h n c (inr (inr y)) = done_ended ((w.job (w.call c).job).at) (body_over w h c (known_call w h c (y.0)) (y.0) (y.1))
 
 -- a job in hand is neither
 hand_undone : (v : Whereabouts) (n : ℕ) (l : Loc) → loc_of v n ≡ Some l → is_ended v ≡ true → ⊥
@@ -201,7 +201,7 @@ gather_unsettled w q g h y n hands s = by s
     ready (inl d) = undone (d.1)
     ready (inr z) =
         let p : PieceAs w (g.pieces).count (g.pieces).first (g.pieces).pool ((g.pieces).first - (g.pieces).first) = y.pieces ((g.pieces).first) some in
-        piece ((g.pieces).first) some (((scopes_counted w h).ended g.call.number ((y.call).number) z).over (ap has_body whole) ((g.pieces).first) (p.made) (ap (is_of_scope g.call.number) (p.kind ∙ ap count_kind (y.count)) ∙ eq-eqb g.call.number g.call.number refl))
+        piece ((g.pieces).first) some ((count_over w h g.call.number ((y.call).number) z).over (ap has_body whole) ((g.pieces).first) (p.made) (ap (is_of_scope g.call.number) (p.kind ∙ ap count_kind (y.count)) ∙ eq-eqb g.call.number g.call.number refl))
 
     latch : (p : ℕ) (l : Latch) → latch_number l ≡ Some g.call.number → SaysLatch w p l → ⊥
     latch p Terminate e a = cc

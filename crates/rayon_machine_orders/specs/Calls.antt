@@ -16,7 +16,6 @@ use Rattle.rayon_machine_places.specs.declared.event.Event.{Event}
 use Rattle.rayon_machine_places.specs.declared.event.Event.TheVariants.{Go, Refuse, Spawn, Fifo, Install, Join, Scope as OpenScope, IntoSpawn, IntoFifo, Broadcast}
 use Rattle.rayon_machine_places.specs.declared.state.Whereabouts.TheVariants.{HandedBack, Spent}
 use Rattle.rayon_machine_places.specs.declared.state.Scope.{Scope}
-use Rattle.rayon_machine_places.specs.declared.state.Slot.TheVariants.{Open as IsOpen}
 use Rattle.rayon_machine_places.specs.Places.{same_party, is_member, act_of}
 use Rattle.rayon_machine_places.specs.World.{Shape, Stack, World, is_token}
 use Rattle.rayon_machine_places.specs.Steps.{step}
@@ -24,6 +23,7 @@ use Rattle.rayon_machine_places.specs.Runs.{IsRun, start}
 use Rattle.rayon_machine_places.specs.Readers.{is_queued, is_running, is_done}
 use Rattle.rayon_machine_laws.specs.Counted.{ScopeEnded}
 use Rattle.rayon_machine_laws.specs.End.{HasEnded, Verdict, AllFine, FirstFault, LastFault, answered, follows, IsUntouched, ScopeTakes, CastTakes}
+use Rattle.rayon_machine_orders.specs.Books.{slot_number}
 use Rattle.rayon_machine_orders.specs.Faults.{TakesFault, TakesLowest}
 
 -- the party that begins a call by this event
@@ -149,12 +149,12 @@ LeavesJob (IntoFifo q n) w t = IsHandedOn w t ⊎ IsSpent w t
 LeavesJob _ w t = HasRun w t
 
 -- a job is handed back, stands in no list, has never run, and has no share of any count: of its pool's, its scope's or
--- its broadcast's. If it is a job of a scope, no number of the scope's book is open for it
+-- its broadcast's. If it is a job of a scope, it has no number of the scope's book, neither an open nor a filled one
 pub record IsGivenBack (w : World) (t : ℕ) : Type 0 where
   pub at : (w.job t).at ≡ HandedBack
   pub untouched : IsUntouched w t
   pub share : (w.job t).counted ≡ false
-  pub number : (c n : ℕ) (o : Party) → (w.job t).kind ≡ Scoped c o → (w.job t).slot ≡ IsOpen n → ⊥
+  pub number : (c n : ℕ) (o : Party) → (w.job t).kind ≡ Scoped c o → slot_number (w.job t).slot ≡ Some n → ⊥
 
 -- a call's cell holds how this job ended
 pub record HoldsEnding (w : World) (c t : ℕ) : Type 0 where

@@ -3,12 +3,24 @@ use Rattle.rayon_machine_places.specs.declared.place.Party.{Party}
 use Rattle.rayon_machine_places.specs.declared.place.JobKind.TheVariants.{BodyOf, PieceOf, WholeOf}
 use Rattle.rayon_machine_laws.specs.Counted.{has_body, ScopeEnded}
 use Rattle.rayon_machine_laws.specs.End.{CastTakes}
-use Rattle.std.specs.Prelude.{ℕ, true, Some, ◌≡◌, false, ◌⊎◌, ◌+◌, ◌≤◌}
+use Rattle.std.specs.Prelude.{ℕ, Bool, true, Some, ◌≡◌, false, ◌⊎◌, ◌+◌, ◌≤◌, ◌==◌, ◌&&◌, List, [], ◌∷◌}
 use Rattle.rayon_machine_places.specs.declared.place.Ending.{Ending}
 use Rattle.rayon_machine_places.specs.declared.place.Ending.TheVariants.{Fine}
 use Rattle.rayon_machine_places.specs.declared.state.Letter.TheVariants.{Set as IsSet}
 use Rattle.rayon_machine_places.specs.declared.state.Whereabouts.TheVariants.{Over}
-use Rattle.rayon_machine_places.specs.World.{World, told}
+use Rattle.rayon_machine_places.specs.declared.place.Latch.{Latch}
+use Rattle.rayon_machine_places.specs.declared.place.Latch.TheVariants.{Terminate, OfCall}
+use Rattle.rayon_machine_places.specs.declared.place.Place.{Place}
+use Rattle.rayon_machine_places.specs.declared.act.Act.{Act}
+use Rattle.rayon_machine_places.specs.declared.act.Act.TheVariants.{Set, LockSet}
+use Rattle.rayon_machine_places.specs.declared.event.Event.{Event}
+use Rattle.rayon_machine_places.specs.declared.event.Event.TheVariants.{Go}
+use Rattle.rayon_machine_places.specs.Places.{act_of}
+use Rattle.rayon_machine_places.specs.World.{Shape, Stack, World, told}
+use Rattle.rayon_machine_places.specs.Steps.{step}
+use Rattle.rayon_machine_places.specs.Runs.{IsRun, start}
+use Rattle.rayon_machine_laws.specs.Attended.{letter_at}
+use Rattle.rayon_machine_laws.specs.Once.{one}
 use Rattle.rayon_machine_places.specs.Readers.{is_done}
 
 -- a piece of this call's broadcast has ended so
@@ -34,3 +46,41 @@ pub record IsLatched (w : World) : Type 0 where
 pub record IsGathered (w : World) : Type 0 where
   pub kept : (c n : ℕ) (o : Party) → (w.call c).latch ≡ IsSet → (w.job (w.call c).job).kind ≡ WholeOf n o → CastTakes w c (told (w.call c).fault Fine)
   pub sees : (c n : ℕ) (o : Party) (e : Ending) → (w.call c).latch ≡ IsSet → (w.job (w.call c).job).kind ≡ WholeOf n o → (w.call c).cell ≡ Some e → told (w.call c).fault e ≡ told (w.call c).fault Fine
+
+-- an act sets this latch: that of a call, or the terminate latch of worker i of pool p
+abbrev pub sets : ℕ → ℕ → Latch → Act → Bool
+sets p i Terminate (Set Terminate r j) = (p == r) && (i == j)
+sets p i (OfCall c) (Set (OfCall d) r j) = c == d
+sets p i (OfCall c) (LockSet d) = c == d
+sets p i l a = false
+
+-- how many of these places of a party have an act that sets it
+abbrev pub setters_in : ℕ → ℕ → Latch → Party → List Place → ℕ
+setters_in p i l q [] = 0
+setters_in p i l q (f ∷ fs) = one (sets p i l (act_of q f)) + setters_in p i l q fs
+
+-- how many of a party's whole stack have
+abbrev pub setters : ℕ → ℕ → Latch → Party → Stack → ℕ
+setters p i l q k = one (sets p i l (act_of q k.top)) + setters_in p i l q k.below
+
+-- who is to set a latch finds it unset, and is the only one: one place of one party's stack
+pub record IsSetOnce (w : World) : Type 0 where
+  pub unset : (q : Party) (p i : ℕ) (l : Latch) → 1 ≤ setters p i l q (w.stack q) → letter_at w p i l ≡ IsSet → ⊥
+  pub once : (q : Party) (p i : ℕ) (l : Latch) → setters p i l q (w.stack q) ≤ 1
+  pub alone : (q r : Party) (p i : ℕ) (l : Latch) → 1 ≤ setters p i l q (w.stack q) → 1 ≤ setters p i l r (w.stack r) → q ≡ r
+
+-- the event is an act that sets this latch
+abbrev pub is_set_by : World → Event → ℕ → ℕ → Latch → Bool
+is_set_by w (Go q) p i l = sets p i l (act_of q (w.stack q).top)
+is_set_by w e p i l = false
+
+-- a step, for this latch: an act that sets it leaves it set; it stays set once it is, and comes to be set by such an act
+-- alone
+pub record SetsSo (w v : World) (e : Event) (p i : ℕ) (l : Latch) : Type 0 where
+  pub set : is_set_by w e p i l ≡ true → letter_at v p i l ≡ IsSet
+  pub stays : letter_at w p i l ≡ IsSet → letter_at v p i l ≡ IsSet
+  pub by : letter_at v p i l ≡ IsSet → (letter_at w p i l ≡ IsSet) ⊎ (is_set_by w e p i l ≡ true)
+
+-- each step of each run: with the above, no latch is set twice in a run
+abbrev pub SetLaw : Type 0
+SetLaw = (shape : Shape) (before : List Event) (w v : World) (e : Event) (p i : ℕ) (l : Latch) → IsRun (start shape) before w → step w e ≡ Some v → SetsSo w v e p i l

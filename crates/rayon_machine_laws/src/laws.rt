@@ -2,7 +2,8 @@
 ghost use Rattle.rayon_machine_places.specs.Runs.{Always};
 ghost use Rattle.rayon_machine_laws.specs.Committed.{CommittedHold, CommittedSleep, SleepersAreInactive};
 ghost use Rattle.rayon_machine_laws.specs.Counted.{ScopesCounted};
-ghost use Rattle.rayon_machine_laws.specs.Latch.{IsGathered, IsLatched};
+ghost use Rattle.rayon_machine_laws.specs.Fixed.{FixedLaw};
+ghost use Rattle.rayon_machine_laws.specs.Latch.{IsGathered, IsLatched, IsSetOnce, SetLaw};
 ghost use Rattle.rayon_machine_laws.specs.Once.{IsBound, IsOnce, IsRedeemed};
 
 /// In every world of every run each number that was given out is a job or a token, and its record says where it is. Its
@@ -15,12 +16,14 @@ ghost use Rattle.rayon_machine_laws.specs.Once.{IsBound, IsOnce, IsRedeemed};
 /// No party that is to redeem a token finds the token's FIFO list empty (`redeemed`), be it a scope's or the one of
 /// detached jobs: the tokens of a list that are queued or in a hand are no more than the jobs that stand in it.
 /// Each piece of a broadcast is bound to one worker (`bound`): it stands in no list but that worker's broadcast list,
-/// and once it is taken with no party but that worker, in its hand or under its run.
+/// and once it is taken with no party but that worker, in its hand or under its run. No step changes which worker that
+/// is, nor the pool that a job's call was made at, nor what the end of its run sets going (`fixed`).
 /// It does not say that a job ever runs.
 pub fn law_once()
     ensures once { Always IsOnce }
     ensures redeemed { Always IsRedeemed }
     ensures bound { Always IsBound }
+    ensures fixed { FixedLaw }
 {}
 
 /// In every world of every run the latch of a call is set only when the job that the call waits for is over, and the
@@ -30,10 +33,15 @@ pub fn law_once()
 /// A broadcast whose latch is set keeps no fault exactly where each piece has ended without one, and else that of the
 /// lowest piece that ended with one; and its Take, which takes its cell, sees a fault exactly where one is kept
 /// (`gathered`).
+/// Each latch, a call's and each worker's terminate latch, is set once at most, and by one party: whose next act sets it
+/// finds it unset, and is the only party whose next act does (`once`); and in each step of each run a latch that is set
+/// stays set, and comes to be set by such an act alone, which leaves it set (`sets`).
 /// It does not say that a latch is ever set.
 pub fn law_latch()
     ensures latched { Always IsLatched }
     ensures gathered { Always IsGathered }
+    ensures once { Always IsSetOnce }
+    ensures sets { SetLaw }
 {}
 
 /// In every world of every run each scope's count is the number of its shares: 1 for its body, at least until that is

@@ -1,7 +1,7 @@
 -- wrong machines of broadcasts: replays, computed by the kernel, in which a changed table or act breaks the clause of a
 -- law that forbids it
 use Rattle.std.proofs.Common.{refl}
-use Rattle.std.specs.Prelude.{true, false, ◌||◌, ◌+◌, ◌-◌, Some, List, [], ◌∷◌, ◌++◌, ◌≡◌, IfSome}
+use Rattle.std.specs.Prelude.{true, false, ◌||◌, ◌+◌, ◌-◌, Some, None, List, [], ◌∷◌, ◌++◌, ◌≡◌, IfSome}
 use Rattle.rayon_machine_places.specs.declared.place.Party.{Party}
 use Rattle.rayon_machine_places.specs.declared.place.Mark.TheVariants.{Queued}
 use Rattle.rayon_machine_places.specs.declared.place.Then.TheVariants.{Called}
@@ -10,7 +10,7 @@ use Rattle.rayon_machine_places.specs.declared.place.Place.TheVariants.{PushForA
 use Rattle.rayon_machine_places.specs.declared.place.Move.{Move}
 use Rattle.rayon_machine_places.specs.declared.place.Move.TheVariants.{Mark, HandAllBack}
 use Rattle.rayon_machine_places.specs.declared.act.Act.{Act}
-use Rattle.rayon_machine_places.specs.declared.act.Act.TheVariants.{PushCast}
+use Rattle.rayon_machine_places.specs.declared.act.Act.TheVariants.{PushCast, Begin}
 use Rattle.rayon_machine_places.specs.declared.act.Seen.{Seen}
 use Rattle.rayon_machine_places.specs.declared.act.Seen.TheVariants.{Done}
 use Rattle.rayon_machine_places.specs.declared.event.Event.{Event}
@@ -59,6 +59,27 @@ broadcast_skips_its_last_worker = (refl, refl)
 -- in the machine as it is each piece is bound to its own worker from the event on, and may stand in no other's list
 each_piece_has_its_worker : IfSome (run_by right (two 32) (Cast c 0 ∷ times_go c 2)) (λ w. ((w.job 0).bound ≡ Some 0) × ((w.job 1).bound ≡ Some 1))
 each_piece_has_its_worker = (refl, refl)
+
+-- a piece that begins to run forgets which worker it is bound to
+abbrev unbound : Outcome → Outcome
+unbound None = None
+unbound (Some r) = Some (r.0, record (r.1) { job = record (r.1.job) { bound = None } })
+
+abbrev forgets_worker : Act → Shape → Party → Counts → Part → Outcome
+forgets_worker (Begin t) h q n m = unbound (effect (Begin t) h q n m)
+forgets_worker act h q n m = effect act h q n m
+
+-- a caller broadcasts, and a worker takes its piece
+abbrev taken_run : List Event
+taken_run = Cast c 0 ∷ times_go c 2 ++ times_go a 3
+
+-- the law of once is broken, in its clause of what no step changes: the worker's next step frees the piece
+piece_forgets_its_worker : IfSome (run_by (doing forgets_worker) (two 32) taken_run) (λ w. (w.job 0).bound ≡ Some 0) × IfSome (run_by (doing forgets_worker) (two 32) (taken_run ++ times_go a 1)) (λ w. (w.job 0).bound ≡ None)
+piece_forgets_its_worker = (refl {a = Some 0}, refl {a = None})
+
+-- in the machine as it is the piece stays its worker's
+piece_keeps_its_worker : IfSome (run_by right (two 32) (taken_run ++ times_go a 1)) (λ w. (w.job 0).bound ≡ Some 0)
+piece_keeps_its_worker = refl {a = Some 0}
 
 -- a refused push hands the pieces back at once
 abbrev keeps_shares : PoolShape → Party → Place → Seen → Move

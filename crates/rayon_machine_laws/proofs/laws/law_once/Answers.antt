@@ -1,5 +1,6 @@
 use Rattle.rayon_machine_laws.proofs.Bounds.{always_bound}
 use Rattle.rayon_machine_laws.proofs.ClaimMakes.{always_once}
+use Rattle.rayon_machine_laws.proofs.Fixed.{fixed_law}
 use Rattle.rayon_machine_laws.proofs.Redeems.{always_stocks, redeems}
 use Rattle.rayon_machine_laws.proofs.laws.law_once.Goals as goal
 
@@ -11,3 +12,6 @@ returns-clause-redeemed c h es w r = redeems w (always_stocks h es w r)
 
 pub returns-clause-bound : goal.returns-clause-bound
 returns-clause-bound c h es w r = always_bound h es w r
+
+pub returns-clause-fixed : goal.returns-clause-fixed
+returns-clause-fixed c = fixed_law

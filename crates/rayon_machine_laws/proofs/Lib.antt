@@ -18,6 +18,7 @@ pub mod Kept
 pub mod Asides
 pub mod Attended
 pub mod Turns
+pub mod Leavers
 pub mod Emptied
 pub mod Owners
 pub mod OwnedActs
@@ -45,6 +46,10 @@ pub mod Endings
 pub mod Storing
 pub mod Gathered
 pub mod Gathers
+pub mod Setters
+pub mod SetterActs
+pub mod SetterEvents
+pub mod SetLaws
 pub mod Amounts
 pub mod Raises
 pub mod Raisers
@@ -61,8 +66,12 @@ pub mod ScopeCounts
 pub mod ScopeActs
 pub mod ScopeEvents
 pub mod Scoping
+pub mod Entering
+pub mod Enters
+pub mod Spawned
 pub mod Bares
 pub mod Bounds
+pub mod Fixed
 pub mod Returns
 pub mod Feeders
 pub mod FeederEvents

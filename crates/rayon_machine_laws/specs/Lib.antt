@@ -1,11 +1,14 @@
 pub mod Once
+pub mod Fixed
 pub mod Committed
 pub mod Attended
+pub mod Leavers
 pub mod Turn
 pub mod Searched
 pub mod End
 pub mod Latch
 pub mod Shares
+pub mod Bodies
 pub mod Counted
 pub use Rattle.rayon_machine_places.specs.Places
 pub use Rattle.rayon_machine_places.specs.World

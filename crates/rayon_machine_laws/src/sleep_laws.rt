@@ -1,5 +1,6 @@
 //! The laws of sleep and waking, each the contract of a call without arguments: it holds in every world of every run.
 ghost use Rattle.rayon_machine_laws.specs.Attended.{IsCastAttended, IsEmptyHanded, IsInjectorAttended, IsLatchAttended};
+ghost use Rattle.rayon_machine_laws.specs.Leavers.{LeaverLaw, TellerLaw};
 ghost use Rattle.rayon_machine_places.specs.Runs.{Always};
 ghost use Rattle.rayon_machine_laws.specs.Searched.{SearchLaw};
 ghost use Rattle.rayon_machine_laws.specs.Turn.{TurnLaw};
@@ -10,13 +11,18 @@ ghost use Rattle.rayon_machine_laws.specs.Turn.{TurnLaw};
 /// on a latch, and where that latch is set, the party that has set it has not yet woken the worker. Where a worker that
 /// is about to block itself or is blocked has a filled broadcast list, some party has put tasks there and has not
 /// passed the worker. A blocked worker's own deque is empty. Between a worker's last Announce and its Block its last
-/// looks are a whole search of its own that found nothing.
+/// looks are a whole search of its own that found nothing. A worker that leaves its search, with a task or without, owes
+/// its pool then a wake for each worker that sleeps there, but no more than two (`leavers`). A party that tells a pool's
+/// news owes it then one wake, but none where nobody sleeps, or where the queue was empty before its push and an
+/// inactive worker is awake (`tellers`).
 pub fn law_attended()
     ensures injector { Always IsInjectorAttended }
     ensures latch { Always IsLatchAttended }
     ensures cast { Always IsCastAttended }
     ensures own { Always IsEmptyHanded }
     ensures search { SearchLaw }
+    ensures leavers { LeaverLaw }
+    ensures tellers { TellerLaw }
 {}
 
 /// The event counter's turn tells a worker that falls asleep whether there was news since its last Announce, as long as

@@ -8,7 +8,7 @@ use Rattle.rayon_machine_places.specs.declared.place.Party.TheVariants.{Worker}
 use Rattle.rayon_machine_places.specs.declared.place.Ending.{Ending}
 use Rattle.rayon_machine_places.specs.declared.place.Ending.TheVariants.{Fine, Fault}
 use Rattle.rayon_machine_places.specs.declared.place.JobKind.{JobKind}
-use Rattle.rayon_machine_places.specs.declared.place.JobKind.TheVariants.{Scoped}
+use Rattle.rayon_machine_places.specs.declared.place.JobKind.TheVariants.{Scoped, BodyOf}
 use Rattle.rayon_machine_places.specs.declared.place.Target.{Target}
 use Rattle.rayon_machine_places.specs.declared.place.Target.TheVariants.{Answer}
 use Rattle.rayon_machine_places.specs.declared.place.Plan.TheVariants.{Enter}
@@ -16,26 +16,29 @@ use Rattle.rayon_machine_places.specs.declared.place.Count.TheVariants.{OfPool, 
 use Rattle.rayon_machine_places.specs.declared.place.Share.TheVariants.{Body, OfJob}
 use Rattle.rayon_machine_places.specs.declared.place.Then.TheVariants.{Resume, Answers, Ran}
 use Rattle.rayon_machine_places.specs.declared.place.Place.{Place}
-use Rattle.rayon_machine_places.specs.declared.place.Place.TheVariants.{ProbeWorking, Run, CloseSlot, LowerCount, StoreSlot, LockToWake}
+use Rattle.rayon_machine_places.specs.declared.place.Place.TheVariants.{ProbeWorking, Run, CloseSlot, LowerCount, StoreBody, StoreSlot}
 use Rattle.rayon_machine_places.specs.declared.place.Move.{Move}
 use Rattle.rayon_machine_places.specs.declared.place.Move.TheVariants.{Stay, Enter as EnterAbove, Back}
 use Rattle.rayon_machine_places.specs.declared.place.Wait.{Wait}
 use Rattle.rayon_machine_places.specs.declared.act.Act.{Act}
-use Rattle.rayon_machine_places.specs.declared.act.Act.TheVariants.{SubInactive, Raise, Take, SlotUndo}
+use Rattle.rayon_machine_places.specs.declared.act.Act.TheVariants.{SubInactive, News, Raise, Take, SlotUndo}
 use Rattle.rayon_machine_places.specs.declared.act.Seen.{Seen}
 use Rattle.rayon_machine_places.specs.declared.act.Seen.TheVariants.{Done, Yes, No, Wakes}
 use Rattle.rayon_machine_places.specs.declared.event.Event.{Event}
 use Rattle.rayon_machine_places.specs.declared.event.Event.TheVariants.{Refuse, End, Spawn, Install, Join, Scope as OpenScope, IntoSpawn}
 use Rattle.rayon_machine_places.specs.declared.state.Letter.TheVariants.{Set as IsSet}
-use Rattle.rayon_machine_places.specs.declared.state.Slot.TheVariants.{Closed, Open as IsOpen}
+use Rattle.rayon_machine_places.specs.declared.state.Slot.{Slot}
+use Rattle.rayon_machine_places.specs.declared.state.Slot.TheVariants.{Closed, Open as IsOpen, Filled as IsFilled}
 use Rattle.rayon_machine_places.specs.declared.state.Whereabouts.TheVariants.{InDeque, Running, Over, HandedBack}
 use Rattle.rayon_machine_places.specs.declared.shape.PoolShape.{PoolShape}
-use Rattle.rayon_machine_places.specs.Places.{set_call, settle_count, act_of, next_of}
+use Rattle.rayon_machine_places.specs.Places.{awaits, set_call, settle_count, act_of, next_of}
 use Rattle.rayon_machine_places.specs.World.{Shape, Stack, World, count_below, Counts, Part, Outcome, counts_at, is_open, raised, target_job, effect}
 use Rattle.rayon_machine_places.specs.Steps.{put, put_stack, step}
 use Rattle.rayon_machine_places.specs.Runs.{start}
 use Rattle.rayon_machine_laws.specs.Once.{one}
 use Rattle.rayon_machine_laws.specs.Counted.{has_entry}
+use Rattle.rayon_machine_laws.specs.Leavers.{owed_at, passed_at}
+use Rattle.rayon_machine_laws.specs.Bodies.{all_bodies}
 use Rattle.rayon_machine_laws.specs.End.{follows}
 use Rattle.rayon_machine_laws.specs.Shares.{is_busy}
 use Rattle.rayon_machine_orders.specs.Calls.{caller_of, is_refusal}
@@ -43,12 +46,12 @@ use Rattle.rayon_machine_orders.proofs.WrongMachines.{Machine, doing, leading, m
 use Rattle.rayon_machine_orders.proofs.CallTeeth.{any_by, is_back, Ends}
 
 -- a Lower sets the latches that wait for its count, though it is not the last
-abbrev settles_at_once : PoolShape → Party → Place → Seen → Move
+abbrev pub settles_at_once : PoolShape → Party → Place → Seen → Move
 settles_at_once h q (LowerCount k s t) e = settle_count h q k t
 settles_at_once h q x e = next_of h q x e
 
 -- a worker runs a caller's job to its end
-abbrev one_job : List Event
+abbrev pub one_job : List Event
 one_job = Spawn c 0 ∷ times_go c 4 ++ times_go b 12 ++ End b Fine ∷ times_go b 1
 
 -- the law of the end is broken: a terminate latch is set, and the pool's value is held
@@ -102,7 +105,7 @@ scope_counts_its_body : IfSome (run_by right (two 32) (OpenScope c 0 ∷ times_g
 scope_counts_its_body = (refl, refl)
 
 -- the end of a scope's body sets the scope's latch, though a job of it runs
-abbrev sets_early : PoolShape → Party → Place → Seen → Move
+abbrev pub sets_early : PoolShape → Party → Place → Seen → Move
 sets_early h q (LowerCount (OfScope n o) Body t) e = next_of h q (LowerCount (OfScope n o) Body t) Yes
 sets_early h q x e = next_of h q x e
 
@@ -213,32 +216,57 @@ taken_number_is_missing = (refl, refl)
 own_number_is_taken_back : IfSome (run_by right (two 32) (first_queued ++ IntoSpawn c 0 ∷ second_refused)) (λ u. ((u.job 2).slot ≡ Closed) × ((u.job 1).slot ≡ IsOpen 0))
 own_number_is_taken_back = (refl, refl)
 
--- a leaving searcher wakes one worker where two sleep. No law forbids it: the one that is woken looks
+-- a leaving searcher wakes one worker where two sleep
 abbrev wakes_one : Act → Shape → Party → Counts → Part → Outcome
 wakes_one SubInactive h q n m = Some (Wakes (min 1 n.sleeping), record m { seat = record (m.seat) { inactive = false } })
 wakes_one act h q n m = effect act h q n m
 
--- three workers, of which two sleep; the third leaves with a caller's job
+-- three workers, of which two sleep; the third has found a caller's job
 abbrev three : Option World
 three = Some (start (record { pool = λ p. record { workers = 3; limit = 0; order = NewestFirst; callers_own = false }; callers = 16; jec_bits = 32 }))
 
 abbrev third : Party
 third = Worker 0 2
 
-abbrev leaving_run : List Event
-leaving_run = times_go a 27 ++ times_go b 27 ++ times_go third 4 ++ Spawn c 0 ∷ times_go c 4 ++ times_go third 8
+abbrev finding_run : List Event
+finding_run = times_go a 27 ++ times_go b 27 ++ times_go third 4 ++ Spawn c 0 ∷ times_go c 4 ++ times_go third 7
 
--- how many wakes a party owes
-abbrev owed_at : Place → ℕ
-owed_at (LockToWake k) = k.owed
-owed_at _ = 0
+-- the step by which the third worker leaves its search: it owes its pool so many wakes, and has passed no worker
+record LeavesOwing (m : Machine) (n : ℕ) (w : World) : Type 0 where
+  act : act_of third (w.stack third).top ≡ SubInactive
+  sleeping : (counts_at w 0).sleeping ≡ 2
+  after : IfSome (run_by m (Some w) (times_go third 1)) (λ v. (owed_at 0 (v.stack third).top ≡ n) × (passed_at (v.stack third).top ≡ 0))
 
-leaving_searcher_wakes_one : IfSome (run_by (doing wakes_one) three leaving_run) (λ w. ((counts_at w 0).sleeping ≡ 2) × (owed_at (w.stack third).top ≡ 1))
-leaving_searcher_wakes_one = (refl {a = 2}, refl {a = 1})
+-- the clause of leavers is broken: it owes one wake
+leaving_searcher_wakes_one : IfSome (run_by (doing wakes_one) three finding_run) (LeavesOwing (doing wakes_one) 1)
+leaving_searcher_wakes_one = record { act = refl; sleeping = refl; after = (refl, refl) }
 
 -- in the machine as it is it owes two
-leaving_searcher_wakes_two : IfSome (run_by right three leaving_run) (λ w. ((counts_at w 0).sleeping ≡ 2) × (owed_at (w.stack third).top ≡ 2))
-leaving_searcher_wakes_two = (refl {a = 2}, refl {a = 2})
+leaving_searcher_wakes_two : IfSome (run_by right three finding_run) (LeavesOwing right 2)
+leaving_searcher_wakes_two = record { act = refl; sleeping = refl; after = (refl, refl) }
+
+-- News takes each queue for an empty one
+abbrev takes_for_empty : Act → Shape → Party → Counts → Part → Outcome
+takes_for_empty (News p v) h q n m = effect (News p true) h q n m
+takes_for_empty act h q n m = effect act h q n m
+
+-- two workers sleep, one of them is woken for a caller's job, and a second job is pushed beside the first
+abbrev second_run : List Event
+second_run = times_go a 25 ++ times_go b 25 ++ Spawn c 0 ∷ times_go c 7 ++ Spawn c 0 ∷ times_go c 3
+
+-- the step by which the caller tells of it: it owes the pool so many wakes
+record TellsOwing (m : Machine) (n : ℕ) (w : World) : Type 0 where
+  act : act_of c (w.stack c).top ≡ News 0 false
+  sleeping : (counts_at w 0).sleeping ≡ 1
+  after : IfSome (run_by m (Some w) (times_go c 1)) (λ v. owed_at 0 (v.stack c).top ≡ n)
+
+-- the clause of tellers is broken: it owes none, since the woken worker is awake
+news_takes_each_queue_for_empty : IfSome (run_by (doing takes_for_empty) (two 32) second_run) (TellsOwing (doing takes_for_empty) 0)
+news_takes_each_queue_for_empty = record { act = refl; sleeping = refl; after = refl }
+
+-- in the machine as it is it owes one
+news_looks_at_the_queue : IfSome (run_by right (two 32) second_run) (TellsOwing right 1)
+news_looks_at_the_queue = record { act = refl; sleeping = refl; after = refl }
 
 -- an undo leaves the number in the book
 abbrev leaves_number : Act → Shape → Party → Counts → Part → Outcome
@@ -248,3 +276,55 @@ leaves_number act h q k m = effect act h q k m
 -- the clause of books is broken: the book has a number that no job of the scope has
 number_is_nobodys : IfSome (run_by (doing leaves_number) (two 32) (OpenScope c 0 ∷ times_go c 2 ++ IntoSpawn c 0 ∷ times_go c 3 ++ Refuse c ∷ times_go c 2 ++ End c Fine ∷ times_go c 4)) (λ w. (act_of c (w.stack c).top ≡ Take 0) × ((w.call 0).slots ≡ 1) × ((w.job 1).slot ≡ Closed))
 number_is_nobodys = (refl {a = Take 0}, refl {a = 1}, refl {a = Closed})
+
+-- an undo marks the number as filled, and leaves it in the book
+abbrev filled_number : Slot → Slot
+filled_number (IsOpen n) = IsFilled n
+filled_number s = s
+
+abbrev fills_number : Act → Shape → Party → Counts → Part → Outcome
+fills_number (SlotUndo n t) h q k m = if is_open q m.call.writer then Some (Done, record m { call = record (m.call) { writer = None }; job = record (m.job) { slot = filled_number (m.job.slot) } }) else None
+fills_number act h q k m = effect act h q k m
+
+-- a caller's spawn into its scope is refused at the push
+abbrev opened_scope : List Event
+opened_scope = OpenScope c 0 ∷ times_go c 2
+
+-- the clause of calls is broken: the spawn is over, its job is handed back, and a number of the book is that job's
+refused_number_is_filled : Ends (doing fills_number) opened_scope c (IntoSpawn c 0) second_refused true 1 HandedBack × IfSome (run_by (doing fills_number) (two 32) (opened_scope ++ IntoSpawn c 0 ∷ second_refused)) (λ u. (u.job 1).slot ≡ IsFilled 0)
+refused_number_is_filled = (record { caller = refl; back = refl; until = refl; refused = refl; mine = refl; at = refl }, refl {a = IsFilled 0})
+
+-- in the machine as it is that job has no number
+refused_number_is_closed : Ends right opened_scope c (IntoSpawn c 0) second_refused true 1 HandedBack × IfSome (run_by right (two 32) (opened_scope ++ IntoSpawn c 0 ∷ second_refused)) (λ u. (u.job 1).slot ≡ Closed)
+refused_number_is_closed = (record { caller = refl; back = refl; until = refl; refused = refl; mine = refl; at = refl }, refl {a = Closed})
+
+-- the body of a scope leaves out the Lower of its share, and the scope waits
+abbrev leaves_share : PoolShape → Party → Place → Seen → Move
+leaves_share h q (StoreBody o e) x = Stay (awaits q o)
+leaves_share h q x e = next_of h q x e
+
+abbrev ended_body : List Event
+ended_body = OpenScope c 0 ∷ times_go c 2 ++ End c Fine ∷ times_go c 1
+
+-- the law of the count is broken: the body is over and its share is in the scope's count, and no party that ever moved
+-- keeps it, so the scope will never end
+record UnkeptBody (w : World) : Type 0 where
+  kind : (w.job 0).kind ≡ BodyOf 0 c
+  at : (w.job 0).at ≡ Over Fine
+  counted : (w.call 0).counted ≡ true
+  party : all_bodies 0 (w.stack c) ≡ 0
+
+body_leaves_out_its_lower : IfSome (run_by (leading leaves_share) (two 32) ended_body) UnkeptBody
+body_leaves_out_its_lower = record { kind = refl; at = refl; counted = refl; party = refl }
+
+-- in the machine as it is the party keeps it until the Lower, and then it is in no count
+record KeptBody (w : World) : Type 0 where
+  counted : (w.call 0).counted ≡ true
+  party : all_bodies 0 (w.stack c) ≡ 1
+
+body_keeps_its_share : IfSome (run_by right (two 32) ended_body) KeptBody × IfSome (run_by right (two 32) (ended_body ++ times_go c 1)) (λ w. ((w.call 0).counted ≡ false) × (all_bodies 0 (w.stack c) ≡ 0))
+body_keeps_its_share = (record { counted = refl; party = refl }, (refl, refl))
+
+-- a scope that is refused its cell keeps the body's share until it hands the body back
+refused_scope_keeps_its_share : IfSome (run_by right (two 32) (OpenScope c 0 ∷ times_go c 1 ++ Refuse c ∷ [])) KeptBody × IfSome (run_by right (two 32) (OpenScope c 0 ∷ times_go c 1 ++ Refuse c ∷ times_go c 1)) (λ w. ((w.job 0).at ≡ HandedBack) × (all_bodies 0 (w.stack c) ≡ 0))
+refused_scope_keeps_its_share = (record { counted = refl; party = refl }, (refl, refl))

@@ -20,8 +20,12 @@ pub mod BookMoves
 pub mod BookActs
 pub mod BookTouches
 pub mod BookEvents
+pub mod Fillings
 pub mod CallStretch
 pub mod FaultPlaces
+pub mod ExactMoves
+pub mod ExactActs
+pub mod Exact
 pub mod Faults
 pub mod FaultActs
 pub mod FaultEvents
@@ -31,6 +35,7 @@ pub mod Calls
 pub mod Casts
 pub mod CallTeeth
 pub mod CountTeeth
+pub mod LatchTeeth
 pub mod ListTeeth
 pub mod GatherTeeth
 pub mod PieceTeeth

@@ -45,8 +45,7 @@ is_cast_refusal q s w _ = false
 -- pieces are the numbers that the event gave out, one for each worker of the pool, and each is bound to its own: the
 -- first to the first worker, and so on. Until it is over the party's stack stands on what it was. Once it is over,
 -- either nothing refused it and each piece is queued, in a hand, running or over, or a step of it was refused and each
--- piece is given back: it has no share of the pool's or the scope's count, and no number of the scope's book is open
--- for it
+-- piece is given back: it has no share of the pool's or the scope's count, and no number of the scope's book
 pub record CastGoes (q : Party) (e : Event) (w v u : World) (between : List Event) : Type 0 where
   pub made : v.jobs ≡ w.jobs + (w.shape.pool (cast_pool w e)).workers
   pub bound : (t : ℕ) → w.jobs ≤ t → t < v.jobs → (u.job t).bound ≡ Some (t - w.jobs)

@@ -12,8 +12,10 @@ pub use Rattle.rayon_machine_places.specs.Readers
 pub use Rattle.rayon_machine_places.specs.Groups
 pub use Rattle.rayon_machine_places.specs.Starts
 pub use Rattle.rayon_machine_laws.specs.Once
+pub use Rattle.rayon_machine_laws.specs.Fixed
 pub use Rattle.rayon_machine_laws.specs.Committed
 pub use Rattle.rayon_machine_laws.specs.Attended
+pub use Rattle.rayon_machine_laws.specs.Leavers
 pub use Rattle.rayon_machine_laws.specs.Turn
 pub use Rattle.rayon_machine_laws.specs.Searched
 pub use Rattle.rayon_machine_laws.specs.End

@@ -3,6 +3,7 @@ use Rattle.rayon_machine_laws.proofs.Attended.{always_awake}
 use Rattle.rayon_machine_laws.proofs.Called.{always_hears, cast_attended}
 use Rattle.rayon_machine_laws.proofs.Emptied.{always_lists, empty_handed}
 use Rattle.rayon_machine_laws.proofs.Events.{always_seats}
+use Rattle.rayon_machine_laws.proofs.Leavers.{leaver_law, teller_law}
 use Rattle.rayon_machine_laws.proofs.Searching.{search_law}
 use Rattle.rayon_machine_laws.proofs.Settled.{always_watched, latch_attended}
 use Rattle.rayon_machine_laws.proofs.sleep_laws.law_attended.Goals as goal
@@ -21,3 +22,9 @@ returns-clause-own c h es w r = empty_handed w (always_seats h es w r) (always_l
 
 pub returns-clause-search : goal.returns-clause-search
 returns-clause-search c = search_law
+
+pub returns-clause-leavers : goal.returns-clause-leavers
+returns-clause-leavers c = leaver_law
+
+pub returns-clause-tellers : goal.returns-clause-tellers
+returns-clause-tellers c = teller_law

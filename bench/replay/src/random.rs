@@ -53,7 +53,7 @@ fn draw(world: &World, numbers: &mut Numbers) -> (Event, usize) {
     let times = if numbers.below(3) == 0 { 1 } else { 1 + numbers.below(30) };
     let act = |how| Event::Act { party, how };
     let free = world.is_free(party);
-    let held: Vec<usize> = (0..world.scopes.len()).filter(|scope| world.holds(party, *scope as u32)).collect();
+    let held = world.held(party);
     match numbers.below(40) {
         0..=8 if free => (Event::End { party, fault: false }, 1),
         9..=10 if free => (Event::End { party, fault: true }, 1),

@@ -382,13 +382,28 @@ impl World {
         }
     }
 
+    /// The scope whose body this frame is, or a job of it.
+    fn scope_of(frame: &Frame) -> Option<u32> {
+        match frame {
+            Frame::Call(call) if call.step == CallStep::Body => Some(call.scope),
+            Frame::Run(Run::Scoped { scope, .. }) => Some(*scope),
+            _ => None,
+        }
+    }
+
     /// Whether the party's stack holds the body of this scope, or a job of it.
     pub fn holds(&self, party: usize, scope: u32) -> bool {
-        self.parties[party].stack.iter().any(|frame| match frame {
-            Frame::Call(call) => call.step == CallStep::Body && call.scope == scope,
-            Frame::Run(Run::Scoped { scope: number, .. }) => *number == scope,
-            _ => false,
-        })
+        self.parties[party].stack.iter().any(|frame| Self::scope_of(frame) == Some(scope))
+    }
+
+    /// The numbers of the scopes of which the party's stack holds the body, or a job, the least first.
+    pub fn held(&self, party: usize) -> Vec<usize> {
+        let frames = self.parties[party].stack.iter();
+        let numbers = frames.filter_map(Self::scope_of).map(|scope| scope as usize);
+        let mut held: Vec<usize> = numbers.filter(|scope| *scope < self.scopes.len()).collect();
+        held.sort_unstable();
+        held.dedup();
+        held
     }
 
     /// The pool of a worker.

@@ -63,9 +63,9 @@ set_same (OfCall c) m _ = search (rules, arith)
 pub quiet_same : (h : Shape) (q : Party) (c : Counts) (m : Part) (x : Place) → moves_no_job x ≡ true → IfSome (effect (act_of q x) h q c m) (SameJobs m)
 quiet_same h (Worker a b) c m (ProbeWorking k) z = search (rules, arith)
 quiet_same h (Worker a b) c m (SetLatch k) z = set_same k.latch m (letter k.latch m)
-quiet_same h (Worker a b) c m _ z = first_of (search, cc, search (rules, arith))
+quiet_same h (Worker a b) c m _ z = search (rules, arith)
 quiet_same h (Caller n) c m (SetLatch k) z = set_same k.latch m (letter k.latch m)
-quiet_same h (Caller n) c m _ z = first_of (search, cc, search (rules, arith))
+quiet_same h (Caller n) c m _ z = search (rules, arith)
 
 -- a take from either end of a list: one less of that number, and of no other
 pub times_first : (l : List ℕ) (t u : ℕ) → head_of l ≡ Some u → times t l ≡ (one (t == u) + times t (but_first l))

@@ -94,10 +94,10 @@ act_unbacked h (Worker a b) c m (FallAsleep k) z = asleep_keeps (latch_of k.targ
 act_unbacked h (Worker a b) c m (WakeUp k) z = wake_keeps (latch_of k.target) Unbacked (λ v e. omega arith) (λ v e y n. letter_unbacked (latch_of k.target) v e y) m (letter (latch_of k.target) m)
 act_unbacked h (Worker a b) c m (SetLatch k) z = set_keeps k.latch Unbacked (λ v e. letter_unbacked k.latch v e IsSet) m (letter k.latch m)
 act_unbacked h (Worker a b) c m (LowerCount k s n) z = omega arith
-act_unbacked h (Worker a b) c m _ z = first_of (search, cc, search (rules, arith))
+act_unbacked h (Worker a b) c m _ z = search (rules, arith)
 act_unbacked h (Caller n) c m (SetLatch k) z = set_keeps k.latch Unbacked (λ v e. letter_unbacked k.latch v e IsSet) m (letter k.latch m)
 act_unbacked h (Caller n) c m (LowerCount k s y) z = omega arith
-act_unbacked h (Caller n) c m _ z = first_of (search, cc, search (rules, arith))
+act_unbacked h (Caller n) c m _ z = search (rules, arith)
 
 pub put_backs : (J : ℕ → Job) (n : ℕ) (j : Job) (t : ℕ) → backs j.at ≤ backs (J n).at → backs (put J n j t).at ≤ backs (J t).at
 put_backs J n j t a = by (t == n) refl

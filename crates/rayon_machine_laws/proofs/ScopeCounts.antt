@@ -310,9 +310,9 @@ act_uncalled h (Worker a b) c m (GetSleepy k) z = sleepy_keeps (latch_of k.targe
 act_uncalled h (Worker a b) c m (FallAsleep k) z = asleep_keeps (latch_of k.target) Uncalled same_uncalled (λ v e y n. letter_uncalled (latch_of k.target) v e y) m (letter (latch_of k.target) m)
 act_uncalled h (Worker a b) c m (WakeUp k) z = wake_keeps (latch_of k.target) Uncalled same_uncalled (λ v e y n. letter_uncalled (latch_of k.target) v e y) m (letter (latch_of k.target) m)
 act_uncalled h (Worker a b) c m (SetLatch k) z = set_keeps k.latch Uncalled (λ v e. letter_uncalled k.latch v e IsSet) m (letter k.latch m)
-act_uncalled h (Worker a b) c m _ z = first_of (search, cc, search (rules, arith))
+act_uncalled h (Worker a b) c m _ z = search (rules, arith)
 act_uncalled h (Caller n) c m (SetLatch k) z = set_keeps k.latch Uncalled (λ v e. letter_uncalled k.latch v e IsSet) m (letter k.latch m)
-act_uncalled h (Caller n) c m _ z = first_of (search, cc, search (rules, arith))
+act_uncalled h (Caller n) c m _ z = search (rules, arith)
 
 -- a place that is none of these gives no share and takes none
 pub tally_counting : (x : Place) → is_counting x ≡ false → is_tally x ≡ false

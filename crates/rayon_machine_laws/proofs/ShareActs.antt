@@ -101,14 +101,14 @@ act_untallied h (Worker a b) c m (LowerCount (OfCast d o) s n) z = cc
 act_untallied h (Worker a b) c m (LowerCount (OfScope d o) PoolValue n) z = cc
 act_untallied h (Worker a b) c m (LowerCount (OfScope d o) (OfJob t) n) z = cc
 act_untallied h (Worker a b) c m (LowerCount (OfScope d o) Body n) z = record { job = refl; pool = refl; count = refl }
-act_untallied h (Worker a b) c m _ z = first_of (search, cc, search (rules, arith))
+act_untallied h (Worker a b) c m _ z = search (rules, arith)
 act_untallied h (Caller n) c m (SetLatch k) z = set_keeps k.latch Untallied (λ v e. letter_untallied k.latch v e IsSet) m (letter k.latch m)
 act_untallied h (Caller n) c m (LowerCount (OfPool p) s y) z = cc
 act_untallied h (Caller n) c m (LowerCount (OfCast d o) s y) z = cc
 act_untallied h (Caller n) c m (LowerCount (OfScope d o) PoolValue y) z = cc
 act_untallied h (Caller n) c m (LowerCount (OfScope d o) (OfJob t) y) z = cc
 act_untallied h (Caller n) c m (LowerCount (OfScope d o) Body y) z = record { job = refl; pool = refl; count = refl }
-act_untallied h (Caller n) c m _ z = first_of (search, cc, search (rules, arith))
+act_untallied h (Caller n) c m _ z = search (rules, arith)
 
 -- a take is of a job that its list had
 take_left : (w : World) → IsOnce w → (p i t n : ℕ) → times t (w.seat p i).own ≡ (one (t == t) + n) → is_left (w.job t).at ≡ true

@@ -166,7 +166,7 @@ ok_away : (h : Shape) (g : PoolShape) (x : Place) → AwayTie OkTie h g x
 ok_away h g (StealFrom k n) p i c m s away ok = search (rules, arith)
 ok_away h g (SetLatch k) p i c m s away ok = if_some_all (λ r. Goes (OkAt p i s) (next_of g (Worker p i) (SetLatch k) (r.0))) (λ r. set_goes g p i k (r.0) s ok) (effect (act_of (Worker p i) (SetLatch k)) h (Worker p i) c m)
 ok_away h g (UnlockSettled k) p i c m s away ok = if_some_all (λ r. Goes (OkAt p i s) (next_of g (Worker p i) (UnlockSettled k) (r.0))) (λ r. out_goes p i s (after_set g (Worker p i) k k.latch) (settled_out g (Worker p i) k k.latch) ok) (effect (act_of (Worker p i) (UnlockSettled k)) h (Worker p i) c m)
-ok_away h g _ p i c m s away ok = first_of (search, cc, search (rules, arith))
+ok_away h g _ p i c m s away ok = search (rules, arith)
 
 ok_other : (h : Shape) (x : Place) → OtherTie OkTie h x
 ok_other h x q c m p i y away d ok = other_keeps h q c m x p i y away d ok

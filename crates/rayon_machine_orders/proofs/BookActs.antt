@@ -165,7 +165,7 @@ act_unbooked h (Worker a b) c m (PushForAll k) z = record { slot = refl; writer 
 act_unbooked h (Worker a b) c m (DealPieces g) z = record { slot = refl; writer = left_none (Worker a b) (g.pieces).count m.call.writer z; slots = refl }
 act_unbooked h (Worker a b) c m (PushJob i v) z = plan_unbooked h (Worker a b) c m i (is_member (Worker a b) (plan_pool i)) z
 act_unbooked h (Worker a b) c m (PushToken f v) z = token_unbooked h (Worker a b) c m f.token f.count z
-act_unbooked h (Worker a b) c m _ z = first_of (cc, search (rules, arith))
+act_unbooked h (Worker a b) c m _ z = search (rules, arith)
 act_unbooked h (Caller n) c m (SetLatch k) z = set_keeps k.latch Unbooked (λ v e. letter_unbooked k.latch v e IsSet) m (letter k.latch m)
 act_unbooked h (Caller n) c m (RaiseCount i) z = either_unbooked m (Refused, m) (Done, raised m (plan_count i)) (same_unbooked m Refused) (record { slot = refl; writer = refl; slots = refl }) (count_in m (plan_count i) == 0)
 act_unbooked h (Caller n) c m (LowerCount k s t) z = record { slot = refl; writer = refl; slots = refl }
@@ -175,7 +175,7 @@ act_unbooked h (Caller n) c m (PushForAll k) z = record { slot = refl; writer = 
 act_unbooked h (Caller n) c m (DealPieces g) z = record { slot = refl; writer = left_none (Caller n) (g.pieces).count m.call.writer z; slots = refl }
 act_unbooked h (Caller n) c m (PushJob i v) z = plan_unbooked h (Caller n) c m i (is_member (Caller n) (plan_pool i)) z
 act_unbooked h (Caller n) c m (PushToken f v) z = tt
-act_unbooked h (Caller n) c m _ z = first_of (cc, search (rules, arith))
+act_unbooked h (Caller n) c m _ z = search (rules, arith)
 
 slots_keep : (g : Move) → is_numbering g ≡ false → MarksKeep (λ (j : Job). j.slot) g
 slots_keep (Mark y c Counted) z = λ i j. refl

@@ -339,8 +339,8 @@ stays_free h g q c m (PushForAll d) y z s e = if_some_all {A = Seen × Part} (λ
 stays_free h g q c m (LowerForAll d) y z s e = if_some_all {A = Seen × Part} (λ r. FreeOf (next_of g q (LowerForAll d) (r.0))) (λ r. called_free g q (LowerForAll d) (r.0) z refl) (effect (act_of q (LowerForAll d)) h q c m)
 stays_free h g q c m (DealPieces d) y z s e = if_some_all {A = Seen × Part} (λ r. FreeOf (next_of g q (DealPieces d) (r.0))) (λ r. called_free g q (DealPieces d) (r.0) z refl) (effect (act_of q (DealPieces d)) h q c m)
 stays_free h g q c m (BeginTask x) y z s e = cc
-stays_free h g (Worker a b) c m _ y z s e = first_of (cc, search (rules, arith))
-stays_free h g (Caller n) c m _ y z s e = first_of (cc, search (rules, arith))
+stays_free h g (Worker a b) c m _ y z s e = search (rules, arith)
+stays_free h g (Caller n) c m _ y z s e = search (rules, arith)
 
 keeps_task : (h : Shape) (g : PoolShape) (q : Party) (c : Counts) (m : Part) (x : Place) (t : Taken) → is_start x ≡ false → taken x ≡ Some t → IfSome (effect (act_of q x) h q c m) (λ r. Has t (next_of g q x (r.0)))
 keeps_task h g (Worker a b) c m (LeaveSearch k) t s e = walk_has g (Worker a b) a _ 0 (after_found k.target k.found) t (found_taken k.target k.found ∙ e)
@@ -395,8 +395,8 @@ own_same h (Caller n) c m (AddToFifo f) y z s = tt
 own_same h (Worker a b) c m (TakeFromFifo f) y z s = undo_sees (λ r. r.1.seat.own ≡ m.seat.own) (Worker a b) m (count_book f.count) refl (λ u e. refl)
 own_same h (Caller n) c m (TakeFromFifo f) y z s = tt
 own_same h q c m (PushToken f v) y z s = cc
-own_same h (Worker a b) c m _ y z s = first_of (cc, search (rules, arith))
-own_same h (Caller n) c m _ y z s = first_of (cc, search (rules, arith))
+own_same h (Worker a b) c m _ y z s = search (rules, arith)
+own_same h (Caller n) c m _ y z s = search (rules, arith)
 
 -- a push elsewhere
 push_away : (h : Shape) (q : Party) (c : Counts) (m : Part) (n : Plan) (v : Bool) → is_member q (plan_pool n) ≡ false → IfSome (effect (act_of q (PushJob n v)) h q c m) (λ r. r.1.seat.own ≡ m.seat.own)
@@ -418,8 +418,8 @@ silent (Caller c) (LookQueue n) fs o z s l = refl
 silent q (PushToken f v) fs o z s l = cc
 silent q (AddToFifo f) fs o z s l = cc
 silent q (TakeFromFifo f) fs o z s l = cc
-silent (Worker a b) _ fs o z s l = first_of (cc, search (rules, arith))
-silent (Caller c) _ fs o z s l = first_of (cc, search (rules, arith))
+silent (Worker a b) _ fs o z s l = search (rules, arith)
+silent (Caller c) _ fs o z s l = search (rules, arith)
 
 pub seat_mine : (f : ℕ → ℕ → Seat) (p i : ℕ) (s : Seat) → put_seat f p i s p i ≡ s
 seat_mine f p i s = let e : ((p == p) && (i == i)) ≡ true = same_refl p i in rw e

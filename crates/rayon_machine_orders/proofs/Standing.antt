@@ -349,7 +349,7 @@ stands_emptied Q r (RaiseCount (Gather g)) fs s e = absurd ((s.0).1)
 stands_emptied Q r (RaiseCount (Open o)) fs s e = absurd ((s.0).1)
 stands_emptied Q r (RaiseCount (Enter x)) fs s e = cc
 stands_emptied Q r (RaiseCount (Fork o a)) fs s e = absurd ((s.0).1)
-stands_emptied Q r _ fs s e = first_of (cc, search (rules, arith))
+stands_emptied Q r _ fs s e = search (rules, arith)
 
 pub above_caller : (r : Option ℕ) (fs : List Place) → Above r fs → caller_of fs ≡ r
 above_caller r [] a = absurd a

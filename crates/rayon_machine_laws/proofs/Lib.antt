@@ -17,17 +17,11 @@ pub mod Waking
 pub mod Kept
 pub mod Asides
 pub mod Attended
-pub mod Turns
-pub mod Leavers
 pub mod Emptied
 pub mod Owners
 pub mod OwnedActs
 pub mod Owned
 pub mod Latches
-pub mod Dozing
-pub mod Settled
-pub mod Stages
-pub mod Searching
 pub mod Hands
 pub mod Feeds
 pub mod Lists
@@ -77,4 +71,3 @@ pub mod Feeders
 pub mod FeederEvents
 pub mod Stocked
 pub mod Redeems
-pub mod Called

@@ -4,7 +4,6 @@ pub mod Committed
 pub mod Attended
 pub mod Leavers
 pub mod Turn
-pub mod Searched
 pub mod End
 pub mod Latch
 pub mod Shares

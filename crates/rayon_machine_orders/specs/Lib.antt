@@ -17,7 +17,6 @@ pub use Rattle.rayon_machine_laws.specs.Committed
 pub use Rattle.rayon_machine_laws.specs.Attended
 pub use Rattle.rayon_machine_laws.specs.Leavers
 pub use Rattle.rayon_machine_laws.specs.Turn
-pub use Rattle.rayon_machine_laws.specs.Searched
 pub use Rattle.rayon_machine_laws.specs.End
 pub use Rattle.rayon_machine_laws.specs.Latch
 pub use Rattle.rayon_machine_laws.specs.Shares

@@ -26,7 +26,6 @@ use Rattle.rayon_machine_laws.proofs.Asides.{Aside, steps_aside}
 use Rattle.rayon_machine_laws.proofs.Attend.{looks_parts, is_owing}
 use Rattle.rayon_machine_laws.proofs.Attended.{Awake, step_awake, first_light, first_awake}
 use Rattle.rayon_machine_laws.proofs.Calm.{part_at, counts_seen, next_at, top_then}
-use Rattle.rayon_machine_laws.proofs.Dozing.{dozes_on, lies_at, is_deep, DozeOk, Dozing, dozes_own, dozes_calm, dozes_unsettling, light_dozes, light_unsettling, letter_kept, letter_new, LetterChange, letters, other_settled}
 use Rattle.rayon_machine_laws.proofs.Events.{run_keeps}
 use Rattle.rayon_machine_laws.proofs.Frame.{either, same_index, same_refl, same_party_true, if_some_all, if_some_each, if_some_and, if_some_map, if_none, stack_other}
 use Rattle.rayon_machine_laws.proofs.Holding.{blocking_home, if_some_h}
@@ -38,6 +37,7 @@ use Rattle.rayon_machine_laws.proofs.Seats.{mode, lies_in, is_frame, at_home}
 use Rattle.rayon_machine_laws.proofs.Ties.{home_pool, home_worker, home_caller, shape_at, outcome, result}
 use Rattle.rayon_machine_laws.proofs.Tops.{Tops, FramesOk, is_light, frame_light, settled_leads, leads_tops}
 use Rattle.rayon_machine_laws.proofs.Waking.{Woke, wakes_at, wake_seen}
+use Rattle.rayon_machine_sleep_laws.proofs.Dozing.{dozes_on, lies_at, is_deep, DozeOk, Dozing, dozes_own, dozes_calm, dozes_unsettling, light_dozes, light_unsettling, letter_kept, letter_new, LetterChange, letters, other_settled}
 
 abbrev falls_at : Place → Bool
 falls_at (FallAsleep k) = true

@@ -21,8 +21,8 @@ use Rattle.rayon_machine_places.specs.World.{Shape, Stack, World, Counts, is_eve
 use Rattle.rayon_machine_places.specs.Steps.{after_move, with_stack, after_choice, can_miss, after_miss, step}
 use Rattle.rayon_machine_laws.specs.Committed.{is_blocking}
 use Rattle.rayon_machine_laws.specs.Attended.{is_filled}
-use Rattle.rayon_machine_laws.specs.Searched.{Spot, OwnDeque, OwnCast, Deque, Injector, Look, look_at, missed_look, look_of, and_then, looks_in, others, EndsSearched, SearchLaw}
 use Rattle.rayon_machine_laws.specs.Turn.{IsRunWithout, is_announcing, is_announce}
+use Rattle.rayon_machine_sleep_laws.specs.Searched.{Spot, OwnDeque, OwnCast, Deque, Injector, Look, look_at, missed_look, look_of, and_then, looks_in, others, EndsSearched, SearchLaw}
 use Rattle.rayon_machine_laws.proofs.Asides.{Aside, calm_step}
 use Rattle.rayon_machine_laws.proofs.Attended.{Awake, aside_frames, step_awake, always_awake, step_shape, always_shape}
 use Rattle.rayon_machine_laws.proofs.Calm.{part_at, counts_seen, next_at, top_then}
@@ -32,9 +32,9 @@ use Rattle.rayon_machine_laws.proofs.Holding.{go_frames}
 use Rattle.rayon_machine_laws.proofs.Kept.{is_emptied, frame_not_emptied}
 use Rattle.rayon_machine_laws.proofs.Locks.{tops_map}
 use Rattle.rayon_machine_laws.proofs.Seats.{is_frame}
-use Rattle.rayon_machine_laws.proofs.Stages.{Stage, busy_stage, add_look, add_then, one_more, pick_stage, steal_stage}
 use Rattle.rayon_machine_laws.proofs.Ties.{AllFrames, job_at, outcome, result}
 use Rattle.rayon_machine_laws.proofs.Tops.{Tops, FramesOk}
+use Rattle.rayon_machine_sleep_laws.proofs.Stages.{Stage, busy_stage, add_look, add_then, one_more, pick_stage, steal_stage}
 
 settled_stage : (h : PoolShape) (q : Party) (s : Settling) (n i : ℕ) (l : List Look) → Tops (λ y. Stage n i y l) (after_set h q s s.latch)
 settled_stage h q s n i l = tops_map (λ y. is_emptied y ≡ false) (λ y. Stage n i y l) (λ y e. busy_stage n i y l e) (after_set h q s s.latch) (settled_busy h q s)

@@ -2,7 +2,7 @@
 ghost use Rattle.rayon_machine_laws.specs.Attended.{IsCastAttended, IsEmptyHanded, IsInjectorAttended, IsLatchAttended};
 ghost use Rattle.rayon_machine_laws.specs.Leavers.{LeaverLaw, TellerLaw};
 ghost use Rattle.rayon_machine_places.specs.Runs.{Always};
-ghost use Rattle.rayon_machine_laws.specs.Searched.{SearchLaw};
+ghost use Rattle.rayon_machine_sleep_laws.specs.Searched.{SearchLaw};
 ghost use Rattle.rayon_machine_laws.specs.Turn.{TurnLaw};
 
 /// No worker sleeps beside work that nobody attends to, in any world of any run. Where a pool's injector is filled and

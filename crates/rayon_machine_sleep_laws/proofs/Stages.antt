@@ -9,7 +9,7 @@ use Rattle.rayon_machine_places.specs.declared.place.Place.TheVariants.{TakeCast
 use Rattle.rayon_machine_places.specs.declared.shape.PoolShape.{PoolShape}
 use Rattle.rayon_machine_places.specs.declared.place.Wait.{Wait}
 use Rattle.rayon_machine_places.specs.Places.{own_index, next_victim, not_self, next_steal}
-use Rattle.rayon_machine_laws.specs.Searched.{OwnDeque, OwnCast, Deque, Injector, Look, and_then, others, EndsSearched}
+use Rattle.rayon_machine_sleep_laws.specs.Searched.{OwnDeque, OwnCast, Deque, Injector, Look, and_then, others, EndsSearched}
 use Rattle.rayon_machine_laws.proofs.Frame.{either}
 use Rattle.rayon_machine_laws.proofs.Kept.{is_emptied}
 

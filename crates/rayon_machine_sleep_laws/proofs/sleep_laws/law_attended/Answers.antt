@@ -1,12 +1,12 @@
 use Rattle.rayon_machine_laws.proofs.Attend.{attended_injectors}
 use Rattle.rayon_machine_laws.proofs.Attended.{always_awake}
-use Rattle.rayon_machine_laws.proofs.Called.{always_hears, cast_attended}
 use Rattle.rayon_machine_laws.proofs.Emptied.{always_lists, empty_handed}
 use Rattle.rayon_machine_laws.proofs.Events.{always_seats}
-use Rattle.rayon_machine_laws.proofs.Leavers.{leaver_law, teller_law}
-use Rattle.rayon_machine_laws.proofs.Searching.{search_law}
-use Rattle.rayon_machine_laws.proofs.Settled.{always_watched, latch_attended}
-use Rattle.rayon_machine_laws.proofs.sleep_laws.law_attended.Goals as goal
+use Rattle.rayon_machine_sleep_laws.proofs.Called.{always_hears, cast_attended}
+use Rattle.rayon_machine_sleep_laws.proofs.Leavers.{leaver_law, teller_law}
+use Rattle.rayon_machine_sleep_laws.proofs.Searching.{search_law}
+use Rattle.rayon_machine_sleep_laws.proofs.Settled.{always_watched, latch_attended}
+use Rattle.rayon_machine_sleep_laws.proofs.sleep_laws.law_attended.Goals as goal
 
 pub returns-clause-injector : goal.returns-clause-injector
 returns-clause-injector c h es w r = attended_injectors w ((always_awake h es w r).attended)

@@ -1,5 +1,0 @@
-use Rattle.rayon_machine_laws.proofs.Turns.{turn_law}
-use Rattle.rayon_machine_laws.proofs.sleep_laws.law_turn.Goals as goal
-
-pub returns : goal.returns
-returns c = turn_law

@@ -1,0 +1,12 @@
+pub mod Searched
+pub use Rattle.rayon_machine_places.specs.Places
+pub use Rattle.rayon_machine_places.specs.World
+pub use Rattle.rayon_machine_places.specs.Steps
+pub use Rattle.rayon_machine_places.specs.Runs
+pub use Rattle.rayon_machine_places.specs.Readers
+pub use Rattle.rayon_machine_places.specs.Groups
+pub use Rattle.rayon_machine_places.specs.Starts
+pub use Rattle.rayon_machine_laws.specs.Committed
+pub use Rattle.rayon_machine_laws.specs.Attended
+pub use Rattle.rayon_machine_laws.specs.Leavers
+pub use Rattle.rayon_machine_laws.specs.Turn

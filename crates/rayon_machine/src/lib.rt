@@ -7,7 +7,8 @@
 //!
 //! This crate only gives the names of the crates below it: `rayon_machine_places` has the places and their acts, and
 //! `rayon_machine_world` the world that makes the steps. What holds in every run is said and proved by
-//! `rayon_machine_laws` and `rayon_machine_orders`, of the same tables; nothing that runs stands on these two.
+//! `rayon_machine_laws`, `rayon_machine_sleep_laws` and `rayon_machine_orders`, of the same tables; nothing that runs
+//! stands on these three.
 #![tactic(auto)]
 
 pub use rayon_machine_places::{act, error, event, moves, place, shape, state, table};

@@ -3,7 +3,7 @@ ghost use Rattle.std.specs.Prelude.{◌≡◌, ℕ, ◌≤◌};
 
 use crate::outcome::{Outcome, Report};
 use crate::work::{Answer, Deed, Name, Work, joined};
-use rayon_core::latch::CoreLatch;
+use rayon_core::latch::OwnLatch;
 use rayon_core::{CallError, Refusal, Waits, WorkerThread};
 use std::alloc::Global;
 use std::sync::atomic::{AtomicU64, Ordering};
@@ -74,7 +74,7 @@ fn make_once<R: Waits<Work>>(
         WorkerCall::Join => join(rt, alloc, w, runs, Deed::Number(20)),
         WorkerCall::Push => join(rt, alloc, w, runs, Deed::Push),
         WorkerCall::Install => install(rt, alloc, w, runs),
-        WorkerCall::WaitUntil => Ok(wait_until(rt, alloc, w)),
+        WorkerCall::WaitUntil => wait_until(rt, alloc, w),
         WorkerCall::Owner => Ok(owner(w, runs)),
         WorkerCall::Deep => Ok(Outcome::Unlike),
     }
@@ -128,7 +128,11 @@ fn install<R: Waits<Work>>(
 }
 
 // Waits until a latch is set that is set.
-fn wait_until<R: Waits<Work>>(rt: &R, alloc: Global, w: &mut WorkerThread<Work>) -> Outcome
+fn wait_until<R: Waits<Work>>(
+    rt: &R,
+    alloc: Global,
+    w: &mut WorkerThread<Work>,
+) -> Result<Outcome, Refusal>
     requires { w.old.levels ≤ R.levels rt.now }
     ensures id { w.new.id ≡ w.old.id }
     ensures level { w.new.levels ≡ w.old.levels }
@@ -136,12 +140,12 @@ fn wait_until<R: Waits<Work>>(rt: &R, alloc: Global, w: &mut WorkerThread<Work>)
     ensures seat { w.new.seat ≡ w.old.seat }
     ensures shape { w.new.shape ≡ w.old.shape }
 {
-    let latch = CoreLatch::new();
-    latch.set(rt);
-    match w.wait_until(rt, alloc, &latch) {
+    let (latch, mut own) = OwnLatch::new(alloc)?;
+    latch.set_as_guest();
+    Ok(match w.wait_until(rt, alloc, &mut own) {
         Ok(()) => Outcome::Answered(1),
         Err(_) => Outcome::Unlike,
-    }
+    })
 }
 
 // Asks for what stands for the worker where a latch is set.

@@ -140,14 +140,14 @@ pub(crate) fn work<R: Wait>(rt: &R, bench: &mut Bench<Errand>, answer: u8) -> Op
     tell(rt, bench, found, answer)
 }
 
-// The worker offers the errand 7 by this name, and has the ticket of its join in hand.
+// The worker offers the errand 7 by this name, and has the call of its join in hand.
 pub(crate) fn offer<R: Wait + Abort>(rt: &R, alloc: Global, bench: &mut Bench<Errand>, name: u64)
     requires { Resting bench.old.chair }
     ensures ticket { HasTicket bench.new.call (Some name) }
     ensures rests { Resting bench.new.chair }
 {
     match bench.offer(rt, alloc, name, Errand(7), false) {
-        Ok(ticket) => bench.set_call(Some(ticket)),
+        Ok(held) => bench.set_call(Some(held)),
         Err(_) => panic!(rt; "no room"),
     }
 }

@@ -63,17 +63,15 @@ fn a_worker_waits_on_a_latch_that_another_sets(rt: HostRuntime) -> Result<(), Fa
         second,
         hold,
     } = two;
-    let latch = SpinLatch::new(registry.owner(1).expect(&rt, "room"));
+    let owner = registry.owner(1).expect(&rt, "room");
+    let (latch, mut own) = SpinLatch::new(alloc, owner).expect(&rt, "room");
     let (shared, handle) = (&latch, &rt);
     let ((stopped, is_set), ()) = thread::join(
         &rt,
         move || {
             let mut worker = other.worker(1, second);
-            let ended = worker.wait_on(handle, shared.core_latch());
-            (
-                matches!(ended, Move::Stay(Place::Stopped)),
-                shared.probe(handle),
-            )
+            let ended = worker.wait_on(handle, &mut own);
+            (matches!(ended, Move::Stay(Place::Stopped)), shared.probe())
         },
         move || {
             pause(handle);
@@ -98,15 +96,16 @@ fn a_worker_works_while_it_waits_on_a_latch(rt: HostRuntime) -> Result<(), Fail>
         second,
         hold,
     } = two;
-    let latch = SpinLatch::new(registry.owner(1).expect(&rt, "room"));
+    let owner = registry.owner(1).expect(&rt, "room");
+    let (latch, mut own) = SpinLatch::new(alloc, owner).expect(&rt, "room");
     let (lent, shared, handle) = (&registry, &latch, &rt);
     let ((number, stopped), answer) = thread::join(
         &rt,
         move || {
             let mut worker = other.worker(1, second);
-            let found = worker.wait_on(handle, shared.core_latch());
+            let found = worker.wait_on(handle, &mut own);
             let number = tell(handle, &mut worker, found, 9);
-            let ended = worker.wait_on(handle, shared.core_latch());
+            let ended = worker.wait_on(handle, &mut own);
             (number, matches!(ended, Move::Stay(Place::Stopped)))
         },
         move || {

@@ -4,7 +4,7 @@ ghost use Rattle.std.specs.Prelude.{◌≡◌, ℕ};
 use crate::many_workers::Many;
 use crate::together::Together;
 use crate::{deeds, many_workers, together};
-use rayon_core::latch::CoreLatch;
+use rayon_core::latch::OwnLatch;
 use rayon_core::{
     BroadcastContext, CallError, FnContext, Job, JobKind, Refusal, Waits, WorkerId, WorkerThread,
 };
@@ -195,7 +195,7 @@ pub enum Deed {
     /// Installs itself below as often as there are levels: this many.
     Descend(usize),
     /// Waits until this latch is set.
-    WaitFor(Arc<CoreLatch>),
+    WaitFor(OwnLatch),
     /// Tells which worker runs it.
     TellWorker,
     /// Does what is for any number of workers.
@@ -270,7 +270,7 @@ impl Job for Errand {
                 rt, alloc, w, &marks, held, words,
             ),
             Deed::Descend(levels) => deeds::descend(rt, alloc, w, &marks, levels),
-            Deed::WaitFor(latch) => match w.wait_until(rt, alloc, &latch) {
+            Deed::WaitFor(mut latch) => match w.wait_until(rt, alloc, &mut latch) {
                 Ok(()) => Ok(Answer::Said(Words::Waited)),
                 Err(refusal) => Err(Trouble::Refused(refusal, name)),
             },

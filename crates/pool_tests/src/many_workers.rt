@@ -176,15 +176,18 @@ fn wait<R: Waits<Errand>>(
     let Ok(owner) = w.owner() else {
         return Err(Trouble::NoMemory);
     };
-    let Ok(latch) = Arc::new(alloc, SpinLatch::new(owner)) else {
+    let Ok((latch, mut own)) = SpinLatch::new(alloc, owner) else {
+        return Err(Trouble::NoMemory);
+    };
+    let Ok(latch) = Arc::new(alloc, latch) else {
         return Err(Trouble::NoMemory);
     };
     let Ok(share) = Arc::try_clone(&latch) else {
         return Err(Trouble::NoMemory);
     };
     post.leave(rt, share);
-    match w.wait_until(rt, alloc, latch.core_latch()) {
-        Ok(()) if latch.probe(rt) => Ok(Answer::Said(Words::Waited)),
+    match w.wait_until(rt, alloc, &mut own) {
+        Ok(()) if latch.probe() => Ok(Answer::Said(Words::Waited)),
         Ok(()) => Err(Trouble::Unlike),
         Err(refusal) => Err(Trouble::Refused(refusal, Name::Caller)),
     }

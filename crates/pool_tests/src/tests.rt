@@ -1,7 +1,7 @@
 //! Tests of what the calls of a running pool answer.
 use crate::errand::{Answer, Deed, Errand, Marks, Name, Trouble, Words, outcome, outcomes};
 use crate::together::Together;
-use rayon_core::latch::{CoreLatch, LockLatch};
+use rayon_core::latch::{LockLatch, OwnLatch};
 use rayon_core::{
     Ids, PoolRef, Refusal, ThreadPool, ThreadPoolBuildError, ThreadPoolBuilder, WorkerId,
 };
@@ -245,15 +245,15 @@ fn own_deque(rt: HostRuntime) -> Result<(), Fail> {
 // What each step of a core latch answers.
 #[test]
 fn core_latch_steps(rt: HostRuntime) -> Result<(), Fail> {
-    let core = CoreLatch::new();
-    assert!(rt; !core.probe(&rt) && !core.fall_asleep(&rt));
-    assert!(rt; core.get_sleepy(&rt) && !core.get_sleepy(&rt));
-    assert!(rt; core.fall_asleep(&rt) && !core.fall_asleep(&rt));
-    core.wake_up(&rt);
-    assert!(rt; core.get_sleepy(&rt) && core.fall_asleep(&rt));
-    assert!(rt; core.set(&rt) && !core.set(&rt));
-    core.wake_up(&rt);
-    assert!(rt; core.probe(&rt) && !core.get_sleepy(&rt));
+    let (core, mut own) = OwnLatch::new(rt.alloc())?;
+    assert!(rt; !own.probe() && !own.fall_asleep());
+    assert!(rt; own.get_sleepy() && !own.get_sleepy());
+    assert!(rt; own.fall_asleep() && !own.fall_asleep());
+    own.wake_up();
+    assert!(rt; own.get_sleepy() && own.fall_asleep());
+    assert!(rt; core.set_as_guest().0 && !core.set_as_guest().0);
+    own.wake_up();
+    assert!(rt; own.probe() && !own.get_sleepy());
     Ok(())
 }
 

@@ -1,7 +1,7 @@
 //! Tests of what a run is told of itself.
 use crate::errand::{Answer, Deed, Errand, Marks, Name, Trouble, Words, outcome, outcomes};
 use crate::tests::{installed, pool_of};
-use rayon_core::latch::CoreLatch;
+use rayon_core::latch::OwnLatch;
 use std::sync::Arc;
 use std::test::Fail;
 use std::thread;
@@ -70,8 +70,8 @@ fn second_side_from_outside_migrated_after_a_fault(rt: HostRuntime) -> Result<()
 fn sides_that_run_one_after_the_other_migrated(rt: HostRuntime) -> Result<(), Fail> {
     let alloc = rt.alloc();
     let marks = Marks::new(alloc)?;
-    let latch = Arc::new(alloc, CoreLatch::new())?;
-    let waits = Errand::new(Name::Caller, &marks, Deed::WaitFor(Arc::try_clone(&latch)?))?;
+    let (latch, own) = OwnLatch::new(alloc)?;
+    let waits = Errand::new(Name::Caller, &marks, Deed::WaitFor(own))?;
     let a = Errand::new(Name::First, &marks, Deed::TellMigrated)?;
     let b = Errand::new(Name::Second, &marks, Deed::TellMigrated)?;
     let wakes = Errand::new(Name::Caller, &marks, Deed::End(Ok(Words::Awake)))?;
@@ -86,7 +86,7 @@ fn sides_that_run_one_after_the_other_migrated(rt: HostRuntime) -> Result<(), Fa
             }
         }
         let sides = outcomes(shared.join(handle, alloc, a, b));
-        latch.set(handle);
+        latch.set_as_guest();
         let woken = outcome(shared.install(handle, alloc, wakes));
         assert_eq!(handle; woken, Ok(Answer::Said(Words::Awake)));
         let waited = match waiting {

@@ -3,8 +3,8 @@
 ghost use Rattle.std.proofs.Common.{rules};
 
 use rayon_jobs::{Done, JobKind};
-use rayon_machine_places::place::{Ending, Party};
-use rayon_tasks::{Ticket, Work, task_of_job, task_of_pair, task_parts};
+use rayon_machine_places::place::Ending;
+use rayon_tasks::{Call, Ticket, Work, task_of_job, task_of_pair, task_parts};
 use std::alloc::Global;
 use std::sync::Wait;
 use std::test::*;
@@ -33,12 +33,10 @@ impl JobKind for Errand {
 
 // The ticket of the job with this number, of a worker's call or of an outside caller's.
 fn ticket(alloc: Global, worker: bool, number: u64) -> Result<Ticket<Errand>, Fail> {
-    let owner = if worker {
-        Party::Worker { pool: 0, index: 1 }
-    } else {
-        Party::Caller(0)
-    };
-    Ok(Ticket::new(alloc, owner, number)?)
+    if worker {
+        return Ok(Call::new(alloc, 0, 1, number)?.ticket);
+    }
+    Ok(Ticket::of_caller(alloc, 0, number)?)
 }
 
 // Takes the result from the cell: the tag, and the output where there is one.
@@ -70,9 +68,10 @@ fn the_shares_of_a_ticket_have_one_latch(rt: HostRuntime) -> Result<(), Fail> {
     let of_worker = ticket(rt.alloc(), true, 1)?;
     let share = of_worker.share()?;
     if let (Some(latch), Some(same)) = (of_worker.core_latch(), share.core_latch()) {
-        assert!(rt; !same.probe(&rt));
-        assert!(rt; !latch.set(&rt));
-        assert!(rt; same.probe(&rt));
+        let mut seat = same.guest_seat();
+        assert!(rt; !same.probe(&mut seat));
+        assert!(rt; !latch.set_as_guest().0);
+        assert!(rt; same.probe(&mut seat));
     }
     let of_caller = ticket(rt.alloc(), false, 2)?;
     let share = of_caller.share()?;

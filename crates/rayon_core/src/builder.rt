@@ -3,7 +3,8 @@ ghost use Rattle.std.specs.Prelude.{◌≡◌, ℕ, ◌+◌, ◌-◌, ◌^◌, m
 
 use crate::thread_pool::{ThreadPool, end_workers};
 use rayon_jobs::JobKind;
-use rayon_performers::WorkerKit;
+use rayon_performers::{WorkerKit, WorkerSeats};
+use rayon_queues::WorkerDeque;
 use rayon_registry::{Ids, Job, Registry, ThreadBuilder};
 use rayon_tasks::Task;
 use std::alloc::{AllocFailed, Global};
@@ -149,40 +150,59 @@ impl<J: JobKind> ThreadPoolBuilder<J> {
     }
 }
 
-// Starts a thread that begins with these two values. They stand in types of their own, as the deque does in
-// `start_sharing`: the checker finds of each that it may be sent, and not of a type that holds both.
+// Starts a thread that begins with these three values. They stand in types of their own, as the deque does in
+// `start_sharing`: the checker finds of each that it may be sent, and not of a type that holds two.
 fn start_with<
     S: Drop + Send + 'static,
     D: Drop + Send + 'static,
+    K: Drop + Send + 'static,
     R: Threads + Wait + Copy + Send + 'static,
-    F: FnOnce(&R, S, D) + Drop + Send + 'static,
->(rt: &R, shared: S, deque: D, begin: F) -> Result<JoinHandle<()>, ThreadPoolBuildError>
+    F: FnOnce(&R, S, D, K) + Drop + Send + 'static,
+>(rt: &R, shared: S, deque: D, seats: K, begin: F) -> Result<JoinHandle<()>, ThreadPoolBuildError>
     requires { F.IsAlwaysCallable begin }
 {
     let theirs = *rt;
-    let started = thread::Builder::new().spawn(rt, move || begin(&theirs, shared, deque));
+    let started = thread::Builder::new().spawn(rt, move || begin(&theirs, shared, deque, seats));
     started.map_err(ThreadPoolBuildError::IOError)
 }
 
-// What a worker begins with.
-trait OwnKit<J: JobKind>: Drop {
+// A worker's own deque.
+trait OwnDeque<J: JobKind>: Drop {
     // It itself.
-    fn into_kit(self) -> WorkerKit<Task<J>>;
+    fn into_deque(self) -> WorkerDeque<Task<J>>;
 }
 
-impl<J: JobKind> OwnKit<J> for WorkerKit<Task<J>> {
-    fn into_kit(self) -> WorkerKit<Task<J>> {
+impl<J: JobKind> OwnDeque<J> for WorkerDeque<Task<J>> {
+    fn into_deque(self) -> WorkerDeque<Task<J>> {
         self
     }
 }
 
-// Starts a thread that begins with what the pool's threads share, and with this deque.
-fn start_sharing<J, D: OwnKit<J> + Send + 'static, R: Threads + Wait + Copy + Send + 'static>(
+// A worker's seats.
+trait OwnSeats: Drop {
+    // They themselves.
+    fn into_seats(self) -> WorkerSeats;
+}
+
+impl OwnSeats for WorkerSeats {
+    fn into_seats(self) -> WorkerSeats {
+        self
+    }
+}
+
+// Starts a thread that begins with what the pool's threads share, and with this deque and these seats.
+fn start_sharing<
+    J,
+    D: OwnDeque<J> + Send + 'static,
+    K: OwnSeats + Send + 'static,
+    R: Threads + Wait + Copy + Send + 'static,
+>(
     rt: &R,
     alloc: Global,
     registry: &Registry<J>,
     index: usize,
     deque: D,
+    seats: K,
 ) -> Result<JoinHandle<()>, ThreadPoolBuildError>
 where
     J: Job + Send + Sync + 'static,
@@ -194,20 +214,22 @@ where
     let Ok(shared) = registry.shared() else {
         return Err(ThreadPoolBuildError::NoRoom);
     };
-    start_with(rt, shared, deque, move |rt, shared, deque| {
-        if let Some(thread) = ThreadBuilder::new(id, index, shared, deque.into_kit()) {
+    start_with(rt, shared, deque, seats, move |rt, shared, deque, seats| {
+        let kit = WorkerKit::new(deque.into_deque(), seats.into_seats());
+        if let Some(thread) = ThreadBuilder::new(id, index, shared, kit) {
             thread.run(rt, alloc);
         }
     })
 }
 
 // Starts the thread of the worker with this index, whose own deque this is.
-fn start_worker<J, R: Threads + Wait + Copy + Send + 'static>(
+fn start_with_deque<J, K: OwnSeats + Send + 'static, R: Threads + Wait + Copy + Send + 'static>(
     rt: &R,
     alloc: Global,
     registry: &Registry<J>,
     index: usize,
-    deque: WorkerKit<Task<J>>,
+    deque: WorkerDeque<Task<J>>,
+    seats: K,
 ) -> Result<JoinHandle<()>, ThreadPoolBuildError>
 where
     J: Job + Send + Sync + 'static,
@@ -215,7 +237,25 @@ where
     J::Output: Send + Sync + 'static,
     J::Fault: Send + Sync + 'static,
 {
-    start_sharing(rt, alloc, registry, index, deque)
+    start_sharing(rt, alloc, registry, index, deque, seats)
+}
+
+// Starts the thread of the worker with this index, which begins with this.
+fn start_worker<J, R: Threads + Wait + Copy + Send + 'static>(
+    rt: &R,
+    alloc: Global,
+    registry: &Registry<J>,
+    index: usize,
+    kit: WorkerKit<Task<J>>,
+) -> Result<JoinHandle<()>, ThreadPoolBuildError>
+where
+    J: Job + Send + Sync + 'static,
+    J::Tag: Send + Sync + 'static,
+    J::Output: Send + Sync + 'static,
+    J::Fault: Send + Sync + 'static,
+{
+    let (deque, seats) = kit.into_parts();
+    start_with_deque(rt, alloc, registry, index, deque, seats)
 }
 
 // Why not all workers were started, and a worker that was, but whose handle found no room beside the others'. It leaves

@@ -4,6 +4,7 @@
 
 mod builder;
 mod end_after;
+pub mod latch;
 mod pool_ref;
 mod thread_pool;
 
@@ -16,7 +17,7 @@ pub use rayon_registry::{
     BroadcastContext, FnContext, ForkJoin, Ids, Job, PoolId, Scope, Waits, WorkerId, WorkerThread,
 };
 pub use rayon_sleep::latch::{Owner, SpinLatch};
-pub use rayon_words::{CallError, Refusal, latch};
+pub use rayon_words::{CallError, Refusal};
 pub use thread_pool::ThreadPool;
 
 // What is pushed and taken by hand. To users it is opaque: none answers for a call but the one that the call queued.

@@ -46,8 +46,13 @@ counts _ = false
 module _ {X G O F : Type 0} where
   -- no act changes whose bench it is
   pub does_stays : (a : Act) (x : Seen) (s t : Hands X G O F) → Does a x s t → SameSeat s t
-  does_stays (acts.Probe l) Yes s t d = (ap (λ (z : Hands X G O F). z.index) d, ap (λ (z : Hands X G O F). z.shape) d)
-  does_stays (acts.Probe l) _ s t d = (ap (λ (z : Hands X G O F). z.index) d, ap (λ (z : Hands X G O F). z.shape) d)
+  does_stays (acts.Probe l) Yes s t d = (ap (λ (z : Hands X G O F). z.index) d.0, ap (λ (z : Hands X G O F). z.shape) d.0)
+  does_stays (acts.Probe l) _ s t d = (ap (λ (z : Hands X G O F). z.index) d.0, ap (λ (z : Hands X G O F). z.shape) d.0)
+  does_stays (acts.Sleepy l) Done s t d = (ap (λ (z : Hands X G O F). z.index) d.0, ap (λ (z : Hands X G O F). z.shape) d.0)
+  does_stays (acts.Sleepy l) _ s t d = (ap (λ (z : Hands X G O F). z.index) d.0, ap (λ (z : Hands X G O F). z.shape) d.0)
+  does_stays (acts.Asleep l) Done s t d = (ap (λ (z : Hands X G O F). z.index) d.0, ap (λ (z : Hands X G O F). z.shape) d.0)
+  does_stays (acts.Asleep l) _ s t d = (ap (λ (z : Hands X G O F). z.index) d.0, ap (λ (z : Hands X G O F). z.shape) d.0)
+  does_stays (acts.Wakeup l) _ s t d = (ap (λ (z : Hands X G O F). z.index) d.0, ap (λ (z : Hands X G O F). z.shape) d.0)
   does_stays acts.PopOwn (Task n) s t d = (ap (λ (z : Hands X G O F). z.index) d.2, ap (λ (z : Hands X G O F). z.shape) d.2)
   does_stays acts.PopOwn _ s t d = (ap (λ (z : Hands X G O F). z.index) d.2, ap (λ (z : Hands X G O F). z.shape) d.2)
   does_stays acts.PopInj (Task n) s t d = (ap (λ (z : Hands X G O F). z.index) d.2, ap (λ (z : Hands X G O F). z.shape) d.2)
@@ -66,9 +71,12 @@ module _ {X G O F : Type 0} where
   does_stays (acts.Take c) (Found e) s t d = (ap (λ (z : Hands X G O F). z.index) d.1, ap (λ (z : Hands X G O F). z.shape) d.1)
   does_stays (acts.Take c) saw.Missing s t d = (ap (λ (z : Hands X G O F). z.index) d, ap (λ (z : Hands X G O F). z.shape) d)
   does_stays (acts.Take c) _ s t d = absurd d
-  does_stays (acts.Raise k n) Done s t d = (ap (λ (z : Hands X G O F). z.index) d, ap (λ (z : Hands X G O F). z.shape) d)
-  does_stays (acts.Raise k n) _ s t d = (ap (λ (z : Hands X G O F). z.index) d, ap (λ (z : Hands X G O F). z.shape) d)
-  does_stays (acts.Lower k b) _ s t d = (ap (λ (z : Hands X G O F). z.index) d, ap (λ (z : Hands X G O F). z.shape) d)
+  does_stays (acts.Raise k n) Done s t d = (ap (λ (z : Hands X G O F). z.index) d.0, ap (λ (z : Hands X G O F). z.shape) d.0)
+  does_stays (acts.Raise k n) _ s t d = (ap (λ (z : Hands X G O F). z.index) d.0, ap (λ (z : Hands X G O F). z.shape) d.0)
+  does_stays (acts.Lower k b) Yes s t d = (ap (λ (z : Hands X G O F). z.index) d.0, ap (λ (z : Hands X G O F). z.shape) d.0)
+  does_stays (acts.Lower k b) _ s t d = (ap (λ (z : Hands X G O F). z.index) d.0, ap (λ (z : Hands X G O F). z.shape) d.0)
+  does_stays (acts.Set l p i) Yes s t d = (ap (λ (z : Hands X G O F). z.index) d.0, ap (λ (z : Hands X G O F). z.shape) d.0)
+  does_stays (acts.Set l p i) _ s t d = (ap (λ (z : Hands X G O F). z.index) d.0, ap (λ (z : Hands X G O F). z.shape) d.0)
   does_stays acts.AddInactive _ s t d = (ap (λ (z : Hands X G O F). z.index) d.0, ap (λ (z : Hands X G O F). z.shape) d.0)
   does_stays acts.SubInactive _ s t d = (ap (λ (z : Hands X G O F). z.index) d.0, ap (λ (z : Hands X G O F). z.shape) d.0)
   does_stays acts.Announce _ s t d = (ap (λ (z : Hands X G O F). z.index) d.0, ap (λ (z : Hands X G O F). z.shape) d.0)
@@ -82,8 +90,13 @@ module _ {X G O F : Type 0} where
 
   -- the units are as many after an act that counts none
   pub does_holds : (a : Act) (x : Seen) (s t : Hands X G O F) → counts a ≡ false → Does a x s t → t.holds ≡ s.holds
-  does_holds (acts.Probe l) Yes s t c d = ap (λ (z : Hands X G O F). z.holds) d
-  does_holds (acts.Probe l) _ s t c d = ap (λ (z : Hands X G O F). z.holds) d
+  does_holds (acts.Probe l) Yes s t c d = ap (λ (z : Hands X G O F). z.holds) d.0
+  does_holds (acts.Probe l) _ s t c d = ap (λ (z : Hands X G O F). z.holds) d.0
+  does_holds (acts.Sleepy l) Done s t c d = ap (λ (z : Hands X G O F). z.holds) d.0
+  does_holds (acts.Sleepy l) _ s t c d = ap (λ (z : Hands X G O F). z.holds) d.0
+  does_holds (acts.Asleep l) Done s t c d = ap (λ (z : Hands X G O F). z.holds) d.0
+  does_holds (acts.Asleep l) _ s t c d = ap (λ (z : Hands X G O F). z.holds) d.0
+  does_holds (acts.Wakeup l) _ s t c d = ap (λ (z : Hands X G O F). z.holds) d.0
   does_holds acts.PopOwn (Task n) s t c d = ap (λ (z : Hands X G O F). z.holds) d.2
   does_holds acts.PopOwn _ s t c d = ap (λ (z : Hands X G O F). z.holds) d.2
   does_holds acts.PopInj (Task n) s t c d = ap (λ (z : Hands X G O F). z.holds) d.2
@@ -102,6 +115,8 @@ module _ {X G O F : Type 0} where
   does_holds (acts.Take k) (Found e) s t c d = ap (λ (z : Hands X G O F). z.holds) d.1
   does_holds (acts.Take k) saw.Missing s t c d = ap (λ (z : Hands X G O F). z.holds) d
   does_holds (acts.Take k) _ s t c d = absurd d
+  does_holds (acts.Set l p i) Yes s t c d = ap (λ (z : Hands X G O F). z.holds) d.0
+  does_holds (acts.Set l p i) _ s t c d = ap (λ (z : Hands X G O F). z.holds) d.0
   does_holds (acts.Raise k n) x s t c d = absurd (true≢false c)
   does_holds (acts.Lower k b) x s t c d = absurd (true≢false c)
   does_holds acts.AddInactive _ s t c d = ap (λ (z : Hands X G O F). z.holds) d.0
@@ -317,10 +332,10 @@ module _ {X G O F : Type 0} where
           lowered : (y : Place) (x : Seen) → lowers y ≡ true → Held h g v (Stay y) → Does (act_of (Worker 0 i) y) x v w → Closes (next_of k (Worker 0 i) y x) × (w.holds ≡ units_at (next_of k (Worker 0 i) y x) h)
           lowered (at.LowerCount (OfPool p) s t) Yes l b c =
               let even = settle_even h g k i p 0 t b.0 in
-              (even.0, chain (ap (λ (z : Hands X G O F). z.holds) c) (chain (ap (λ n. n - 1) b.2) (sym (chain even.1 (ap (λ q. units_if q h) b.1)))))
+              (even.0, chain (ap (λ (z : Hands X G O F). z.holds) c.0) (chain (ap (λ n. n - 1) b.2) (sym (chain even.1 (ap (λ q. units_if q h) b.1)))))
           lowered (at.LowerCount (OfPool p) s t) _ l b c =
               let even = finish_even h g i t b.0 in
-              (even.0, chain (ap (λ (z : Hands X G O F). z.holds) c) (chain (ap (λ n. n - 1) b.2) (sym (chain even.1 (ap (λ q. units_if q h) b.1)))))
+              (even.0, chain (ap (λ (z : Hands X G O F). z.holds) c.0) (chain (ap (λ n. n - 1) b.2) (sym (chain even.1 (ap (λ q. units_if q h) b.1)))))
           lowered (at.LowerCount (OfScope d o) s t) _ l b c = absurd b.0
           lowered (at.LowerCount (OfCast d o) s t) _ l b c = absurd b.0
           lowered _ x l b c = absurd (true≢false (sym l))

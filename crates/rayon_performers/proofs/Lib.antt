@@ -1,7 +1,9 @@
 pub mod Finds
 pub mod Holds
 pub mod Joins
+pub mod Letters
 pub mod Offers
+pub mod Recounts
 pub mod Seats
 pub mod Stretches
 pub mod Tails

@@ -1,5 +1,5 @@
 -- A program that only wakes workers and sets latches ends in what follows.
-use Rattle.std.proofs.Common.{◌≡◌, ℕ, ◌+◌, Option, None, Some, Bool, true, false, nat_lt, ◌&&◌, if◌then◌else◌, refl, sym, subst, true≢false}
+use Rattle.std.proofs.Common.{◌≡◌, ℕ, ◌+◌, Option, None, Some, Bool, true, false, nat_lt, ◌&&◌, if◌then◌else◌, refl, sym, subst, ap, true≢false}
 use Rattle.rayon_machine_places.specs.declared.place.Party.{Party}
 use Rattle.rayon_machine_places.specs.declared.place.Party.TheVariants.{Worker}
 use Rattle.rayon_machine_places.specs.declared.place.Latch.{Latch}
@@ -18,7 +18,8 @@ use Rattle.rayon_machine_places.specs.Places.{next_of, finish, walk, settle, aft
 use Rattle.rayon_drive.specs.Paths.{goes, act_at, onward, Driven}
 use Rattle.rayon_drive.proofs.Paths.{driven_keeps}
 use Rattle.rayon_atomics.specs.declared.views.Watch.{Watch}
-use Rattle.rayon_performers.specs.Hands.{Hands, Does, Locks, Same}
+use Rattle.rayon_performers.specs.Hands.{Hands, Does, Locks, Same, Told}
+use Rattle.rayon_performers.specs.Marks.{Marks}
 use Rattle.rayon_performers.specs.Seats.{Relocks, Resting}
 use Rattle.rayon_performers.specs.Tails.{IsLast, TailAt, IsTail}
 
@@ -83,8 +84,15 @@ stopped q t (Mark p c m) a g = a
 stopped q t (HandAllBack c) a g = a
 
 module _ {X G O F : Type 0} where
-  same_as : (s u v : Hands X G O F) → Same s u → Same u v → Same s v
-  same_as s u v a b = subst (λ (z : Hands X G O F). v ≡ record z { trace = v.trace }) a b
+  told_as : (s u v : Hands X G O F) → Told s u → Told u v → Told s v
+  told_as s u v a b = subst (λ (z : Hands X G O F). v ≡ record z { marks = v.marks; trace = v.trace }) a b
+
+  same_told : (u v : Hands X G O F) → Same u v → Told u v
+  same_told u v d = subst (λ (q : Marks). v ≡ record u { marks = q; trace = v.trace }) (sym (ap (λ (z : Hands X G O F). z.marks) d)) d
+
+  -- a latch was set
+  set_told : (u v : Hands X G O F) → v ≡ record u { marks = record { set = v.marks.set; count = u.marks.count }; trace = v.trace } → Told u v
+  set_told u v d = subst (λ (q : Marks). v ≡ record u { marks = q; trace = v.trace }) (sym (ap (λ (z : Hands X G O F). z.marks) d)) d
 
   -- a sleep lock is taken by a worker whose seat is at hand
   locked_same : (u v : Hands X G O F) → Resting u.chair → Locks u v → Same u v
@@ -94,26 +102,27 @@ module _ {X G O F : Type 0} where
       at_hand None a l = absurd a
       at_hand (Some w) a l = l
 
-  -- the acts of such a program change nothing but the trace
-  tail_same : (p i : ℕ) (t : Then) (y : Place) (x : Seen) (u v : Hands X G O F) → TailAt t y → Resting u.chair → Does (act_of (Worker p i) y) x u v → Same u v
-  tail_same p i t (at.LockToWake k) x u v a r d = locked_same u v r d
-  tail_same p i t (at.WakeWorker k) x u v a r d = d
-  tail_same p i t (at.UnlockWoken k) x u v a r d = d
-  tail_same p i t (at.SetLatch s) x u v a r d = d
-  tail_same p i t (at.LockToSettle s) x u v a r d = locked_same u v r d
-  tail_same p i t (at.WakeSettled s) x u v a r d = d
-  tail_same p i t (at.UnlockSettled s) x u v a r d = d
-  tail_same p i t (at.SetLockLatch c n) x u v a r d = d
-  tail_same p i t _ x u v a r d = absurd a
+  -- the acts of such a program change nothing but the seats by which latches were set, and the trace
+  tail_told : (p i : ℕ) (t : Then) (y : Place) (x : Seen) (u v : Hands X G O F) → TailAt t y → Resting u.chair → Does (act_of (Worker p i) y) x u v → Told u v
+  tail_told p i t (at.LockToWake k) x u v a r d = same_told u v (locked_same u v r d)
+  tail_told p i t (at.WakeWorker k) x u v a r d = same_told u v d
+  tail_told p i t (at.UnlockWoken k) x u v a r d = same_told u v d
+  tail_told p i t (at.SetLatch s) Yes u v a r d = set_told u v d.0
+  tail_told p i t (at.SetLatch s) _ u v a r d = set_told u v d.0
+  tail_told p i t (at.LockToSettle s) x u v a r d = same_told u v (locked_same u v r d)
+  tail_told p i t (at.WakeSettled s) x u v a r d = same_told u v d
+  tail_told p i t (at.UnlockSettled s) x u v a r d = same_told u v d
+  tail_told p i t (at.SetLockLatch c n) x u v a r d = same_told u v d
+  tail_told p i t _ x u v a r d = absurd a
 
-  -- what a drive through such places leaves: what follows is reached, and nothing but the trace is another
-  pub tail_ends : (h : PoolShape) (i : ℕ) (t : Then) (m : Move) (s u : Hands X G O F) (n : Move) → IsLast t → IsTail (Worker 0 i) t m → Resting s.chair → Driven (λ (a : Hands X G O F) x y b. Does x y a b) (λ (a : Hands X G O F). a.trace) h (Worker 0 i) m s u n → goes n ≡ false → (finish (Worker 0 i) t ≡ n) × Same s u
+  -- what a drive through such places leaves: what follows is reached, and nothing but that is another
+  pub tail_ends : (h : PoolShape) (i : ℕ) (t : Then) (m : Move) (s u : Hands X G O F) (n : Move) → IsLast t → IsTail (Worker 0 i) t m → Resting s.chair → Driven (λ (a : Hands X G O F) x y b. Does x y a b) (λ (a : Hands X G O F). a.trace) h (Worker 0 i) m s u n → goes n ≡ false → (finish (Worker 0 i) t ≡ n) × Told s u
   tail_ends h i t m s u n l a r d g =
-      let end = driven_keeps (λ (a : Hands X G O F) x y b. Does x y a b) (λ (a : Hands X G O F). a.trace) (λ (v : Hands X G O F) k. IsTail (Worker 0 i) t k × Same s v) h (Worker 0 i) keeps m s u n (a, refl) d in
+      let end = driven_keeps (λ (a : Hands X G O F) x y b. Does x y a b) (λ (a : Hands X G O F). a.trace) (λ (v : Hands X G O F) k. IsTail (Worker 0 i) t k × Told s v) h (Worker 0 i) keeps m s u n (a, refl) d in
       (stopped (Worker 0 i) t n end.0 g, end.1)
     where
-      keeps : (v w : Hands X G O F) (k : Move) (x : Seen) → goes k ≡ true → IsTail (Worker 0 i) t k × Same s v → Does (act_at (Worker 0 i) k) x v w → IsTail (Worker 0 i) t (onward h (Worker 0 i) k x) × Same s w
-      keeps v w (Stay y) x go b e = (tail_on h (Worker 0 i) t y x l b.0, same_as s v w b.1 (tail_same 0 i t y x v w b.0 (subst (λ (z : Hands X G O F). Resting z.chair) (sym b.1) r) e))
+      keeps : (v w : Hands X G O F) (k : Move) (x : Seen) → goes k ≡ true → IsTail (Worker 0 i) t k × Told s v → Does (act_at (Worker 0 i) k) x v w → IsTail (Worker 0 i) t (onward h (Worker 0 i) k x) × Told s w
+      keeps v w (Stay y) x go b e = (tail_on h (Worker 0 i) t y x l b.0, told_as s v w b.1 (tail_told 0 i t y x v w b.0 (subst (λ (z : Hands X G O F). Resting z.chair) (sym b.1) r) e))
       keeps v w (Enter f y) x go b e = absurd (true≢false (sym go))
       keeps v w (StartRun f y) x go b e = absurd (true≢false (sym go))
       keeps v w Back x go b e = absurd (true≢false (sym go))

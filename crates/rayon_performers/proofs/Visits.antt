@@ -93,10 +93,10 @@ module _ {X G O F : Type 0} where
   end_on u h c _ _ a = absurd a
 
   keeps_same : (u v : Visit X G O F) → Same u v → Keeps u v
-  keeps_same u v d = subst (λ (z : Visit X G O F). z ≡ record u { done = z.done; first_done = z.first_done; holds = z.holds; trace = z.trace }) (sym d) refl
+  keeps_same u v d = subst (λ (z : Visit X G O F). z ≡ record u { done = z.done; first_done = z.first_done; holds = z.holds; marks = z.marks; trace = z.trace }) (sym d) refl
 
   keeps_then : (s u v : Visit X G O F) → Keeps s u → Keeps u v → Keeps s v
-  keeps_then s u v a b = subst (λ (z : Visit X G O F). v ≡ record z { done = v.done; first_done = v.first_done; holds = v.holds; trace = v.trace }) a b
+  keeps_then s u v a b = subst (λ (z : Visit X G O F). v ≡ record z { done = v.done; first_done = v.first_done; holds = v.holds; marks = v.marks; trace = v.trace }) a b
 
   keeps_on : (u v : Visit X G O F) (c : ℕ) (y : Place) (x : Seen) → Stands u (Stay y) → Does (act_of (Caller c) y) x u v → Keeps u v
   keeps_on u v c (at.TellNews n e) x a d = keeps_same u v d
@@ -104,11 +104,13 @@ module _ {X G O F : Type 0} where
   keeps_on u v c (at.WakeWorker k) x a d = keeps_same u v d
   keeps_on u v c (at.UnlockWoken k) x a d = keeps_same u v d
   keeps_on u v c (at.WaitForLock o) x a d = keeps_same u v d
-  keeps_on u v c (at.TakeResult o f) (Found e) a d = subst (λ (z : Visit X G O F). z ≡ record u { done = z.done; first_done = z.first_done; holds = z.holds; trace = z.trace }) (sym d.2) refl
-  keeps_on u v c (at.TakeResult o f) Missing a d = subst (λ (z : Visit X G O F). z ≡ record u { done = z.done; first_done = z.first_done; holds = z.holds; trace = z.trace }) (sym d.1) refl
+  keeps_on u v c (at.TakeResult o f) (Found e) a d = subst (λ (z : Visit X G O F). z ≡ record u { done = z.done; first_done = z.first_done; holds = z.holds; marks = z.marks; trace = z.trace }) (sym d.2) refl
+  keeps_on u v c (at.TakeResult o f) Missing a d = subst (λ (z : Visit X G O F). z ≡ record u { done = z.done; first_done = z.first_done; holds = z.holds; marks = z.marks; trace = z.trace }) (sym d.1) refl
   keeps_on u v c (at.TakeResult o f) _ a d = absurd d
-  keeps_on u v c (at.LowerCount (OfPool p) b t) x a d = subst (λ (z : Visit X G O F). z ≡ record u { done = z.done; first_done = z.first_done; holds = z.holds; trace = z.trace }) (sym d.1) refl
-  keeps_on u v c (at.SetLatch s) x a d = keeps_same u v d
+  keeps_on u v c (at.LowerCount (OfPool p) b t) Yes a d = subst (λ (z : Visit X G O F). z ≡ record u { done = z.done; first_done = z.first_done; holds = z.holds; marks = z.marks; trace = z.trace }) (sym d.0) refl
+  keeps_on u v c (at.LowerCount (OfPool p) b t) _ a d = subst (λ (z : Visit X G O F). z ≡ record u { done = z.done; first_done = z.first_done; holds = z.holds; marks = z.marks; trace = z.trace }) (sym d.0) refl
+  keeps_on u v c (at.SetLatch s) Yes a d = subst (λ (z : Visit X G O F). z ≡ record u { done = z.done; first_done = z.first_done; holds = z.holds; marks = z.marks; trace = z.trace }) (sym d.0) refl
+  keeps_on u v c (at.SetLatch s) _ a d = subst (λ (z : Visit X G O F). z ≡ record u { done = z.done; first_done = z.first_done; holds = z.holds; marks = z.marks; trace = z.trace }) (sym d.0) refl
   keeps_on u v c (at.LockToSettle s) x a d = keeps_same u v d
   keeps_on u v c (at.WakeSettled s) x a d = keeps_same u v d
   keeps_on u v c (at.UnlockSettled s) x a d = keeps_same u v d

@@ -1,5 +1,5 @@
 -- What a worker performs its acts with, and what each act does to it.
-use Rattle.std.specs.Prelude.{◌≡◌, ℕ, ◌+◌, ◌-◌, ◌++◌, [], ◌∷◌, List, Bool, true, false, Option, None, Some, slice_get}
+use Rattle.std.specs.Prelude.{◌≡◌, ℕ, ◌+◌, ◌-◌, ◌==◌, ◌++◌, [], ◌∷◌, List, Bool, true, false, Option, None, Some, slice_get}
 use Rattle.rayon_machine_places.specs.declared.place.Count.TheVariants.{OfScope, OfCast}
 use Rattle.rayon_machine_places.specs.declared.place.Ending.{Ending}
 use Rattle.rayon_machine_places.specs.declared.place.JobKind.{JobKind}
@@ -14,19 +14,22 @@ use Rattle.rayon_machine_places.specs.declared.act.Act.TheVariants as acts
 use Rattle.rayon_machine_places.specs.declared.act.Seen.{Seen}
 use Rattle.rayon_machine_places.specs.declared.act.Seen.TheVariants.{Done, Yes, No, Task, Missing, Begun, Found}
 use Rattle.rayon_drive.specs.declared.trace.Log.{Log}
+use Rattle.rayon_atomics.specs.declared.views.Guard.{Guard}
 use Rattle.rayon_atomics.specs.declared.views.Watch.{Watch}
 use Rattle.rayon_queues.specs.Deques.{Deque, DequeId, Popped, Pushed, SameDeque, Thief, Unmoved, Visitor, thief, visitor}
 use Rattle.rayon_jobs.specs.Endings.{ending_of}
 use Rattle.rayon_tasks.specs.Tasks.{TaskOf}
 use Rattle.rayon_tasks.specs.Tickets.{TicketOf}
 use Rattle.rayon_jobs.specs.Within.{Run}
+use Rattle.rayon_performers.specs.Marks.{GivesUnit, Marks, MissesUnit, NoLatch, SetBy, TakesUnit}
+use Rattle.rayon_performers.specs.Sights.{Finds, Guards, Turns, Wakes, Watches}
 use Rattle.rayon_performers.specs.Seats.{AddsInactive, Announces, Loads, Relocks, Resting, Searching, Sleeping, Steps, SubsInactive, SubsSleeping, Tells, Tries}
 
 -- what a worker has at hand: its index in the pool, the pool's shape and deques; its own deque, its pass of the
 -- injector and its last pass of another's deque; the task that was taken and is not begun; the ticket of its call, the
--- one to answer, the result to store or that was found; whether the latch that it looked at last was set; the units of
--- the terminate count that its calls hold; its seat of the counters, where that is not under its sleep lock; and what it
--- did
+-- one to answer, the result to store or that was found; its own seats of latches, and whether the latch that it looked at
+-- last was set; the units of the terminate count that its calls hold; its seat of that count, and the one by which it set a
+-- latch last; its seat of the counters, where that is not under its sleep lock; and what it did
 pub record Hands (X G O F : Type 0) : Type 0 where
   pub index : ℕ
   pub shape : PoolShape
@@ -38,8 +41,10 @@ pub record Hands (X G O F : Type 0) : Type 0 where
   pub call : Option TicketOf
   pub reply : Option TicketOf
   pub done : Option (Run G O F)
+  pub guards : Guards
   pub probed : Bool
   pub holds : ℕ
+  pub marks : Marks
   pub chair : Option Watch
   pub trace : Log
 
@@ -142,6 +147,10 @@ module _ {X G O F : Type 0} where
   abbrev pub Same : Hands X G O F → Hands X G O F → Type 0
   Same s t = t ≡ record s { trace = t.trace }
 
+  -- nothing was done but steps of the seats that no place asks of, and the trace is another
+  abbrev pub Told : Hands X G O F → Hands X G O F → Type 0
+  Told s t = t ≡ record s { marks = t.marks; trace = t.trace }
+
   -- nothing was done but this step of the seat of the counters, and the trace is another
   abbrev pub Counts : (Watch → Watch → Type 0) → Hands X G O F → Hands X G O F → Type 0
   Counts R s t = (t ≡ record s { chair = t.chair; trace = t.trace }) × Steps R s.chair t.chair
@@ -154,10 +163,24 @@ module _ {X G O F : Type 0} where
   abbrev pub Locks : Hands X G O F → Hands X G O F → Type 0
   Locks s t = (t ≡ record s { chair = t.chair; trace = t.trace }) × Relocks s.chair t.chair
 
+  -- nothing was done but this step of the seat of a latch, and the trace is another
+  abbrev pub Latches : Latch → (Guard → Guard → Type 0) → Hands X G O F → Hands X G O F → Type 0
+  Latches l R s t = (t ≡ record s { guards = t.guards; trace = t.trace }) × Watches l R s.guards t.guards
+
   -- a look at the latch
-  abbrev pub Probes : Seen → Hands X G O F → Hands X G O F → Type 0
-  Probes Yes s t = t ≡ record s { probed = true; trace = t.trace }
-  Probes _ s t = t ≡ record s { probed = false; trace = t.trace }
+  abbrev pub Probes : Latch → Seen → Hands X G O F → Hands X G O F → Type 0
+  Probes l Yes s t = (t ≡ record s { guards = t.guards; probed = true; trace = t.trace }) × Watches l (Finds true) s.guards t.guards
+  Probes l _ s t = (t ≡ record s { guards = t.guards; probed = false; trace = t.trace }) × Watches l (Finds false) s.guards t.guards
+
+  -- the worker prepares to sleep on the latch, unless its letter is not Unset
+  abbrev pub GetsSleepy : Latch → Seen → Hands X G O F → Hands X G O F → Type 0
+  GetsSleepy l Done s t = Latches l (Turns 0 1 true) s t
+  GetsSleepy l _ s t = Latches l (Turns 0 1 false) s t
+
+  -- it falls asleep on it, unless its letter is not Sleepy
+  abbrev pub FallsAsleep : Latch → Seen → Hands X G O F → Hands X G O F → Type 0
+  FallsAsleep l Done s t = Latches l (Turns 1 2 true) s t
+  FallsAsleep l _ s t = Latches l (Turns 1 2 false) s t
 
   -- a look at the own deque
   abbrev pub Looks : Hands X G O F → Hands X G O F → Type 0
@@ -198,14 +221,24 @@ module _ {X G O F : Type 0} where
   Takes Missing s t = t ≡ record s { done = None; trace = t.trace }
   Takes _ s t = ⊥
 
+  -- nothing was done but steps of its seat of the terminate count, and the trace is another
+  abbrev pub Recounts : Hands X G O F → Hands X G O F → ℕ → Type 0
+  Recounts s t n = t ≡ record s { holds = n; marks = record { set = s.marks.set; count = t.marks.count }; trace = t.trace }
+
   -- a unit of the terminate count is taken, or was refused
   abbrev pub Raises : Seen → Hands X G O F → Hands X G O F → Type 0
-  Raises Done s t = t ≡ record s { holds = s.holds + 1; trace = t.trace }
-  Raises _ s t = Same s t
+  Raises Done s t = Recounts s t (s.holds + 1) × TakesUnit (s.holds == 0) s.marks.count t.marks.count
+  Raises _ s t = Recounts s t s.holds × MissesUnit (s.holds == 0) s.marks.count t.marks.count
 
-  -- a unit is given back
-  abbrev pub Lowers : Hands X G O F → Hands X G O F → Type 0
-  Lowers s t = t ≡ record s { holds = s.holds - 1; trace = t.trace }
+  -- a unit is given back, which was the pool's last or not
+  abbrev pub Lowers : Seen → Hands X G O F → Hands X G O F → Type 0
+  Lowers Yes s t = Recounts s t (s.holds - 1) × GivesUnit (s.holds == 1) true s.marks.count t.marks.count
+  Lowers _ s t = Recounts s t (s.holds - 1) × GivesUnit (s.holds == 1) false s.marks.count t.marks.count
+
+  -- a latch is set, by the one step that makes a seat of it; its owner slept or not
+  abbrev pub Sets : Latch → ℕ → Seen → Hands X G O F → Hands X G O F → Type 0
+  Sets l i Yes s t = (t ≡ record s { marks = record { set = t.marks.set; count = s.marks.count }; trace = t.trace }) × SetBy (NoLatch l i s.deques s.reply) true t.marks.set
+  Sets l i _ s t = (t ≡ record s { marks = record { set = t.marks.set; count = s.marks.count }; trace = t.trace }) × SetBy (NoLatch l i s.deques s.reply) false t.marks.set
 
   -- a task is pushed onto the own deque: it stands last in what the own pass has pushed; or it was refused and nothing
   -- was added
@@ -215,7 +248,10 @@ module _ {X G O F : Type 0} where
 
   -- what each act does
   abbrev pub Does : Act → Seen → Hands X G O F → Hands X G O F → Type 0
-  Does (acts.Probe l) x s t = Probes x s t
+  Does (acts.Probe l) x s t = Probes l x s t
+  Does (acts.Sleepy l) x s t = GetsSleepy l x s t
+  Does (acts.Asleep l) x s t = FallsAsleep l x s t
+  Does (acts.Wakeup l) x s t = Latches l Wakes s t
   Does acts.PopOwn x s t = Pops x s t
   Does acts.PopInj x s t = PopsInjected x s t
   Does (acts.Steal p v) x s t = Steals v x s t
@@ -227,7 +263,8 @@ module _ {X G O F : Type 0} where
   Does (acts.Store c e) x s t = Stores s t
   Does (acts.Take c) x s t = Takes x s t
   Does (acts.Raise k n) x s t = Raises x s t
-  Does (acts.Lower k b) x s t = Lowers s t
+  Does (acts.Lower k b) x s t = Lowers x s t
+  Does (acts.Set l p i) x s t = Sets l i x s t
   Does acts.AddInactive x s t = Counts AddsInactive s t
   Does acts.SubInactive x s t = Counts (SubsInactive x) s t
   Does acts.Announce x s t = Counts (Announces x) s t

@@ -31,7 +31,8 @@ use Rattle.rayon_tasks.specs.Tasks.{TaskOf}
 use Rattle.rayon_tasks.specs.Tickets.{TicketOf}
 use Rattle.rayon_performers.specs.Hands.{Hands, HasTask, HasTicket, Needs, Does, Same, Looks, Pops, PopsInjected, Steals, call_latch}
 use Rattle.rayon_performers.specs.Seating.{seat_on}
-use Rattle.rayon_performers.specs.Stands.{IsWorker, SeatAt, Seated, StandsAt, Stands, call_to, call_then, task_then, leaves}
+use Rattle.rayon_performers.specs.Sights.{SeenSet, seen_set}
+use Rattle.rayon_performers.specs.Stands.{IsWorker, SawSet, SeatAt, Seated, StandsAt, Stands, call_to, call_then, task_then, left_by}
 
 module _ {X : Type 0} where
   -- a token is no task that a worker has
@@ -41,54 +42,62 @@ module _ {X : Type 0} where
 
 module _ {X G O F : Type 0} where
   -- what is in hand is in hand of an equal
-  via : (v u : Hands X G O F) (t : Option Taken) (c r : Option ℕ) (e : Option Ending) (z : Bool) → v ≡ u → StandsAt u t c r e z → StandsAt v t c r e z
+  via : (v u : Hands X G O F) (t : Option Taken) (c r : Option ℕ) (e : Option Ending) (z : Option Latch) → v ≡ u → StandsAt u t c r e z → StandsAt v t c r e z
   via v u t c r e z d a = subst (λ (x : Hands X G O F). StandsAt x t c r e z) (sym d) a
 
-  same : (u v : Hands X G O F) (t : Option Taken) (c r : Option ℕ) (e : Option Ending) (z : Bool) → Same u v → StandsAt u t c r e z → StandsAt v t c r e z
+  same : (u v : Hands X G O F) (t : Option Taken) (c r : Option ℕ) (e : Option Ending) (z : Option Latch) → Same u v → StandsAt u t c r e z → StandsAt v t c r e z
   same u v t c r e z d a = via v _ t c r e z d (record { task = a.task; call = a.call; reply = a.reply; done = a.done; probed = a.probed })
 
   -- but that the seat made a step, or was given away or taken back
-  moved : (u v w : Hands X G O F) (t : Option Taken) (c r : Option ℕ) (e : Option Ending) (z : Bool) → v ≡ record u { chair = w.chair; trace = w.trace } → StandsAt u t c r e z → StandsAt v t c r e z
+  moved : (u v w : Hands X G O F) (t : Option Taken) (c r : Option ℕ) (e : Option Ending) (z : Option Latch) → v ≡ record u { chair = w.chair; trace = w.trace } → StandsAt u t c r e z → StandsAt v t c r e z
   moved u v w t c r e z d a = via v _ t c r e z d (record { task = a.task; call = a.call; reply = a.reply; done = a.done; probed = a.probed })
 
-  looked : (u v : Hands X G O F) (t : Option Taken) (c r : Option ℕ) (e : Option Ending) (z : Bool) → Looks u v → StandsAt u t c r e z → StandsAt v t c r e z
+  looked : (u v : Hands X G O F) (t : Option Taken) (c r : Option ℕ) (e : Option Ending) (z : Option Latch) → Looks u v → StandsAt u t c r e z → StandsAt v t c r e z
   looked u v t c r e z d a = via v _ t c r e z d.2 (record { task = a.task; call = a.call; reply = a.reply; done = a.done; probed = a.probed })
 
+  -- but that a latch's seat made a step
+  latched : (u v w : Hands X G O F) (t : Option Taken) (c r : Option ℕ) (e : Option Ending) → v ≡ record u { guards = w.guards; trace = w.trace } → StandsAt u t c r e None → StandsAt v t c r e None
+  latched u v w t c r e d a = via v _ t c r e None d (record { task = a.task; call = a.call; reply = a.reply; done = a.done; probed = tt })
+
   -- the latch was not set
-  unset : (u v : Hands X G O F) (t : Option Taken) (c r : Option ℕ) (e : Option Ending) → v ≡ record u { probed = false; trace = v.trace } → StandsAt u t c r e false → StandsAt v t c r e false
-  unset u v t c r e d a = via v _ t c r e false d (record { task = a.task; call = a.call; reply = a.reply; done = a.done; probed = tt })
+  unset : (u v : Hands X G O F) (t : Option Taken) (c r : Option ℕ) (e : Option Ending) → v ≡ record u { guards = v.guards; probed = false; trace = v.trace } → StandsAt u t c r e None → StandsAt v t c r e None
+  unset u v t c r e d a = via v _ t c r e None d (record { task = a.task; call = a.call; reply = a.reply; done = a.done; probed = tt })
 
   -- it was
-  set : (u v : Hands X G O F) (t : Option Taken) (c r : Option ℕ) (e : Option Ending) → v ≡ record u { probed = true; trace = v.trace } → StandsAt u t c r e false → StandsAt v t c r e true
-  set u v t c r e d a = via v _ t c r e true d (record { task = a.task; call = a.call; reply = a.reply; done = a.done; probed = refl })
+  set : (u v : Hands X G O F) (t : Option Taken) (c r : Option ℕ) (e : Option Ending) (l : Latch) → v ≡ record u { guards = v.guards; probed = true; trace = v.trace } → SeenSet v.guards l → StandsAt u t c r e None → StandsAt v t c r e (Some l)
+  set u v t c r e l d z a = via v _ t c r e (Some l) d (record { task = a.task; call = a.call; reply = a.reply; done = a.done; probed = (refl, z) })
 
-  missed : (u v : Hands X G O F) (t : Option Taken) (c r : Option ℕ) (e : Option Ending) (z : Bool) → v ≡ record u { thief = v.thief; trace = v.trace } → StandsAt u t c r e z → StandsAt v t c r e z
+  missed : (u v : Hands X G O F) (t : Option Taken) (c r : Option ℕ) (e : Option Ending) (z : Option Latch) → v ≡ record u { thief = v.thief; trace = v.trace } → StandsAt u t c r e z → StandsAt v t c r e z
   missed u v t c r e z d a = via v _ t c r e z d (record { task = a.task; call = a.call; reply = a.reply; done = a.done; probed = a.probed })
 
-  lowered : (u v : Hands X G O F) (t : Option Taken) (c r : Option ℕ) (e : Option Ending) (z : Bool) → v ≡ record u { holds = u.holds - 1; trace = v.trace } → StandsAt u t c r e z → StandsAt v t c r e z
+  lowered : (u v : Hands X G O F) (t : Option Taken) (c r : Option ℕ) (e : Option Ending) (z : Option Latch) → v ≡ record u { holds = u.holds - 1; marks = record { set = u.marks.set; count = v.marks.count }; trace = v.trace } → StandsAt u t c r e z → StandsAt v t c r e z
   lowered u v t c r e z d a = via v _ t c r e z d (record { task = a.task; call = a.call; reply = a.reply; done = a.done; probed = a.probed })
+
+  -- a latch was set
+  struck : (u v : Hands X G O F) (t : Option Taken) (c r : Option ℕ) (e : Option Ending) (z : Option Latch) → v ≡ record u { marks = record { set = v.marks.set; count = u.marks.count }; trace = v.trace } → StandsAt u t c r e z → StandsAt v t c r e z
+  struck u v t c r e z d a = via v _ t c r e z d (record { task = a.task; call = a.call; reply = a.reply; done = a.done; probed = a.probed })
 
   call_of : (u v : Hands X G O F) (c : Option ℕ) → v.call ≡ u.call → HasTicket u.call c → HasTicket v.call c
   call_of u v c e k = subst (λ (x : Option TicketOf). HasTicket x c) (sym e) k
 
   -- a task was taken
-  popped : (u v : Hands X G O F) (c : Option ℕ) (n : Taken) → HasTicket u.call c → Pops (Task n) u v → StandsAt v (Some n) c None None false
+  popped : (u v : Hands X G O F) (c : Option ℕ) (n : Taken) → HasTicket u.call c → Pops (Task n) u v → StandsAt v (Some n) c None None None
   popped u v c n k d = record { task = d.0; call = call_of u v c (ap (λ (z : Hands X G O F). z.call) d.2) k; reply = tt; done = tt; probed = tt }
 
-  popped_injected : (u v : Hands X G O F) (c : Option ℕ) (n : Taken) → HasTicket u.call c → PopsInjected (Task n) u v → StandsAt v (Some n) c None None false
+  popped_injected : (u v : Hands X G O F) (c : Option ℕ) (n : Taken) → HasTicket u.call c → PopsInjected (Task n) u v → StandsAt v (Some n) c None None None
   popped_injected u v c n k d = record { task = d.0; call = call_of u v c (ap (λ (z : Hands X G O F). z.call) d.2) k; reply = tt; done = tt; probed = tt }
 
-  stolen : (u v : Hands X G O F) (m : ℕ) (c : Option ℕ) (n : Taken) → HasTicket u.call c → Steals m (Task n) u v → StandsAt v (Some n) c None None false
+  stolen : (u v : Hands X G O F) (m : ℕ) (c : Option ℕ) (n : Taken) → HasTicket u.call c → Steals m (Task n) u v → StandsAt v (Some n) c None None None
   stolen u v m c n k d = record { task = d.0; call = call_of u v c (ap (λ (z : Hands X G O F). z.call) d.2) k; reply = tt; done = tt; probed = tt }
 
   -- less is asked
-  bare : (u : Hands X G O F) (c : Option ℕ) → HasTicket u.call c → StandsAt u None c None None false
+  bare : (u : Hands X G O F) (c : Option ℕ) → HasTicket u.call c → StandsAt u None c None None None
   bare u c k = record { task = tt; call = k; reply = tt; done = tt; probed = tt }
 
   abbrev pub StandsThen : Hands X G O F → Then → Type 0
-  StandsThen u t = StandsAt u (task_then t) (call_then t) None None (leaves t)
+  StandsThen u t = StandsAt u (task_then t) (call_then t) None None (left_by t)
 
-  left_stands : (u : Hands X G O F) (g : Target) → HasTicket u.call (call_to g) → u.probed ≡ true → Stands u (Stay (after_wait g))
+  left_stands : (u : Hands X G O F) (g : Target) → HasTicket u.call (call_to g) → SawSet u (Some (latch_of g)) → Stands u (Stay (after_wait g))
   left_stands u Termination k z = (record { task = tt; call = tt; reply = tt; done = tt; probed = z }, tt)
   left_stands u (Answer o f) k z = (record { task = tt; call = k; reply = tt; done = tt; probed = z }, tt)
 
@@ -123,7 +132,7 @@ module _ {X G O F : Type 0} where
   after_set_stands u h p i s Terminate a = settle_stands u h p i s.pool (s.worker + 1) s.then a
   after_set_stands u h p i s (OfCall c) a = finish_stands u p i s.then a
 
-  found_stands : (u : Hands X G O F) (g : Target) (f : Option Taken) → StandsAt u f (call_to g) None None (elim f [ None ↦ true | Some t ↦ false ]) → StandsThen u (after_found g f)
+  found_stands : (u : Hands X G O F) (g : Target) (f : Option Taken) → StandsAt u f (call_to g) None None (elim f [ None ↦ Some (latch_of g) | Some t ↦ None ]) → StandsThen u (after_found g f)
   found_stands u g None a = a
   found_stands u g (Some n) a = a
 
@@ -148,7 +157,7 @@ module _ {X G O F : Type 0} where
   told u c (Caller n) k = (record { task = tt; call = tt; reply = k; done = tt; probed = tt }, tt)
 
   -- without the ticket to answer
-  then_of : (u : Hands X G O F) (t : Then) (r : Option ℕ) → StandsAt u (task_then t) (call_then t) r None (leaves t) → StandsThen u t
+  then_of : (u : Hands X G O F) (t : Then) (r : Option ℕ) → StandsAt u (task_then t) (call_then t) r None (left_by t) → StandsThen u t
   then_of u t r a = record { task = a.task; call = a.call; reply = tt; done = tt; probed = a.probed }
 
   latch_needs : (u : Hands X G O F) (g : Target) → HasTicket u.call (call_to g) → HasTicket u.call (call_latch (latch_of g))
@@ -156,12 +165,12 @@ module _ {X G O F : Type 0} where
   latch_needs u (Answer o f) k = k
 
   -- a join has found its own second side, or another task
-  joined : (u : Hands X G O F) (o : OpenCall) (n : Taken) → StandsAt u (Some n) (Some o.number) None None false → Stands u (if is_taken n o.job then Enter (at.SecondSide o) (at.BeginHere o.job) else Enter (at.JoinProbe o) (at.BeginTask n))
+  joined : (u : Hands X G O F) (o : OpenCall) (n : Taken) → StandsAt u (Some n) (Some o.number) None None None → Stands u (if is_taken n o.job then Enter (at.SecondSide o) (at.BeginHere o.job) else Enter (at.JoinProbe o) (at.BeginTask n))
   joined u o (Token k i b) a = absurd (no_token u.task k i b a.task)
   joined u o (Plain n) a = by (n == o.job) refl
     where
       by : (z : Bool) → (n == o.job) ≡ z → Stands u (if z then Enter (at.SecondSide o) (at.BeginHere o.job) else Enter (at.JoinProbe o) (at.BeginTask (Plain n)))
-      by true e = (subst (λ (k : ℕ). StandsAt u (Some (Plain k)) (Some o.number) None None false) (eqb-true n o.job e) a, tt)
+      by true e = (subst (λ (k : ℕ). StandsAt u (Some (Plain k)) (Some o.number) None None None) (eqb-true n o.job e) a, tt)
       by false e = (a, tt)
 
   -- what the act at a place asks is there
@@ -222,15 +231,15 @@ module _ {X G O F : Type 0} where
 
   -- after the act there is what belongs to where the table leads
   pub stands_on : (u v : Hands X G O F) (h : PoolShape) (p i : ℕ) (y : Place) (x : Seen) → is_rest y ≡ false → Stands u (Stay y) → Does (act_of (Worker p i) y) x u v → Stands v (next_of h (Worker p i) y x)
-  stands_on u v h p i (at.ProbeWorking k) Yes r a d = left_stands v k.target (call_of u v (call_to k.target) (ap (λ (z : Hands X G O F). z.call) d) a.0.call) (ap (λ (z : Hands X G O F). z.probed) d)
-  stands_on u v h p i (at.ProbeWorking k) _ r a d = (unset u v _ _ _ _ d a.0, tt)
+  stands_on u v h p i (at.ProbeWorking k) Yes r a d = left_stands v k.target (call_of u v (call_to k.target) (ap (λ (z : Hands X G O F). z.call) d.0) a.0.call) (ap (λ (z : Hands X G O F). z.probed) d.0, seen_set u.guards v.guards (latch_of k.target) d.1)
+  stands_on u v h p i (at.ProbeWorking k) _ r a d = (unset u v _ _ _ _ d.0 a.0, tt)
   stands_on u v h p i (at.PopWorking k) (Task n) r a d = (popped u v (call_to k.target) n a.0.call d, tt)
   stands_on u v h p i (at.PopWorking k) _ r a d = (looked u v _ _ _ _ _ d a.0, tt)
   stands_on u v h p i (at.TakeCastWorking k) (Task n) r a d = absurd d
   stands_on u v h p i (at.TakeCastWorking k) _ r a d = (same u v _ _ _ _ _ d a.0, tt)
   stands_on u v h p i (at.BecomeInactive k) _ r a d = (moved u v v _ _ _ _ _ d.0 a.0, tt)
-  stands_on u v h p i (at.ProbeIdle k) Yes r a d = (set u v _ _ _ _ d a.0, tt)
-  stands_on u v h p i (at.ProbeIdle k) _ r a d = (unset u v _ _ _ _ d a.0, tt)
+  stands_on u v h p i (at.ProbeIdle k) Yes r a d = (set u v _ _ _ _ (latch_of k.target) d.0 (seen_set u.guards v.guards (latch_of k.target) d.1) a.0, tt)
+  stands_on u v h p i (at.ProbeIdle k) _ r a d = (unset u v _ _ _ _ d.0 a.0, tt)
   stands_on u v h p i (at.PopIdle k) (Task n) r a d = (popped u v (call_to k.target) n a.0.call d, tt)
   stands_on u v h p i (at.PopIdle k) _ r a d = (looked u v _ _ _ _ _ d a.0, tt)
   stands_on u v h p i (at.TakeCastIdle k) (Task n) r a d = absurd d
@@ -243,11 +252,11 @@ module _ {X G O F : Type 0} where
   stands_on u v h p i (at.PopInjected k) _ r a d = failed_stands v h k k.rounds (call_of u v (call_to k.target) (ap (λ (z : Hands X G O F). z.call) d) a.0.call)
   stands_on u v h p i (at.AnnounceSelf k) (Jec j) r a d = (moved u v v _ _ _ _ _ d.0 a.0, tt)
   stands_on u v h p i (at.AnnounceSelf k) _ r a d = (moved u v v _ _ _ _ _ d.0 a.0, tt)
-  stands_on u v h p i (at.GetSleepy k) Done r a d = (same u v _ _ _ _ _ d a.0, tt)
-  stands_on u v h p i (at.GetSleepy k) _ r a d = (same u v _ _ _ _ _ d a.0, tt)
+  stands_on u v h p i (at.GetSleepy k) Done r a d = (latched u v v _ _ _ _ d.0 a.0, tt)
+  stands_on u v h p i (at.GetSleepy k) _ r a d = (latched u v v _ _ _ _ d.0 a.0, tt)
   stands_on u v h p i (at.LockOwn k) _ r a d = (moved u v v _ _ _ _ _ d.0 a.0, tt)
-  stands_on u v h p i (at.FallAsleep k) Done r a d = (same u v _ _ _ _ _ d a.0, tt)
-  stands_on u v h p i (at.FallAsleep k) _ r a d = (same u v _ _ _ _ _ d a.0, tt)
+  stands_on u v h p i (at.FallAsleep k) Done r a d = (latched u v v _ _ _ _ d.0 a.0, tt)
+  stands_on u v h p i (at.FallAsleep k) _ r a d = (latched u v v _ _ _ _ d.0 a.0, tt)
   stands_on u v h p i (at.LoadCounters k) (Word s t j) r a d = either v (j == k.kept) (Stay (at.AddSleeping (record k { sleeping = s; inactive = t }))) (Stay (at.WakeUp (record k { rounds = Failed h.limit }))) (moved u v v _ _ _ _ _ d.0 a.0, tt) (moved u v v _ _ _ _ _ d.0 a.0, tt)
   stands_on u v h p i (at.LoadCounters k) _ r a d = (moved u v v _ _ _ _ _ d.0 a.0, tt)
   stands_on u v h p i (at.AddSleeping k) Done r a d = (moved u v v _ _ _ _ _ d.0 a.0, tt)
@@ -259,12 +268,12 @@ module _ {X G O F : Type 0} where
   stands_on u v h p i (at.BlockSelf k) _ r a d = (via v _ _ _ _ _ _ d.0 (record { task = a.0.task; call = a.0.call; reply = a.0.reply; done = a.0.done; probed = a.0.probed }), tt)
   stands_on u v h p i (at.RelockOwn k) _ r a d = (moved u v v _ _ _ _ _ d.0 a.0, tt)
   stands_on u v h p i (at.UndoSleeping k) _ r a d = (moved u v v _ _ _ _ _ d.0 a.0, tt)
-  stands_on u v h p i (at.WakeUp k) _ r a d = (same u v _ _ _ _ _ d a.0, tt)
+  stands_on u v h p i (at.WakeUp k) _ r a d = (latched u v v _ _ _ _ d.0 a.0, tt)
   stands_on u v h p i (at.UnlockOwn k) _ r a d = (same u v _ _ _ _ _ d a.0, tt)
   stands_on u v h p i (at.LeaveSearch k) (Wakes n) r a d = walk_stands v h p i p n 0 (after_found k.target k.found) (found_stands v k.target k.found (moved u v v _ _ _ _ _ d.0 a.0))
   stands_on u v h p i (at.LeaveSearch k) _ r a d = (moved u v v _ _ _ _ _ d.0 a.0, tt)
-  stands_on u v h p i (at.JoinProbe o) Yes r a d = (set u v _ _ _ _ d a.0, tt)
-  stands_on u v h p i (at.JoinProbe o) _ r a d = (unset u v _ _ _ _ d a.0, tt)
+  stands_on u v h p i (at.JoinProbe o) Yes r a d = (set u v _ _ _ _ (OfCall o.number) d.0 (seen_set u.guards v.guards (OfCall o.number) d.1) a.0, tt)
+  stands_on u v h p i (at.JoinProbe o) _ r a d = (unset u v _ _ _ _ d.0 a.0, tt)
   stands_on u v h p i (at.JoinPop o) (Task n) r a d = joined v o n (popped u v (Some o.number) n a.0.call d)
   stands_on u v h p i (at.JoinPop o) _ r a d = (looked u v _ _ _ _ _ d a.0, tt)
   stands_on u v h p i (at.JoinTakeCast o) (Task n) r a d = absurd d
@@ -295,11 +304,11 @@ module _ {X G O F : Type 0} where
   stands_on u v h p i (at.TakeResult o f) (Found e) r a d = (via v _ _ _ _ _ _ d.1 (bare _ None tt), tt)
   stands_on u v h p i (at.TakeResult o f) Missing r a d = (via v _ _ _ _ _ _ d (bare _ None tt), tt)
   stands_on u v h p i (at.TakeResult o f) _ r a d = absurd d
-  stands_on u v h p i (at.LowerCount (OfPool m) s t) Yes r a d = settle_stands v h p i m 0 t (lowered u v _ _ _ _ _ d a.0)
-  stands_on u v h p i (at.LowerCount (OfPool m) s t) _ r a d = finish_stands v p i t (lowered u v _ _ _ _ _ d a.0)
+  stands_on u v h p i (at.LowerCount (OfPool m) s t) Yes r a d = settle_stands v h p i m 0 t (lowered u v _ _ _ _ _ d.0 a.0)
+  stands_on u v h p i (at.LowerCount (OfPool m) s t) _ r a d = finish_stands v p i t (lowered u v _ _ _ _ _ d.0 a.0)
   stands_on u v h p i (at.StoreResult c o e) _ r a d = told v c o (subst (λ (z : Hands X G O F). HasTicket z.reply (Some c)) (sym d) a.0.reply)
-  stands_on u v h p i (at.SetLatch s) Yes r a d = (then_of v s.then (call_latch s.latch) (same u v _ _ _ _ _ d a.0), tt)
-  stands_on u v h p i (at.SetLatch s) _ r a d = after_set_stands v h p i s s.latch (then_of v s.then (call_latch s.latch) (same u v _ _ _ _ _ d a.0))
+  stands_on u v h p i (at.SetLatch s) Yes r a d = (then_of v s.then (call_latch s.latch) (struck u v _ _ _ _ _ d.0 a.0), tt)
+  stands_on u v h p i (at.SetLatch s) _ r a d = after_set_stands v h p i s s.latch (then_of v s.then (call_latch s.latch) (struck u v _ _ _ _ _ d.0 a.0))
   stands_on u v h p i (at.LockToSettle s) _ r a d = (moved u v v _ _ _ _ _ d.0 a.0, tt)
   stands_on u v h p i (at.WakeSettled s) _ r a d = (same u v _ _ _ _ _ d a.0, tt)
   stands_on u v h p i (at.UnlockSettled s) _ r a d = after_set_stands v h p i s s.latch (same u v _ _ _ _ _ d a.0)

@@ -2,9 +2,11 @@ pub mod Calls
 pub mod Finds
 pub mod Hands
 pub mod Keeps
+pub mod Marks
 pub mod Pools
 pub mod Seating
 pub mod Seats
+pub mod Sights
 pub mod Stands
 pub mod Tails
 pub mod Visiting

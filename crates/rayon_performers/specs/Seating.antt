@@ -245,8 +245,13 @@ wakes v w s a = subst (λ (z : Watch). Searches z) (sym s) (a.0, refl, a.2)
 module _ {X G O F : Type 0} where
   -- an act that does not move the seat leaves it as it is
   kept : (a : Act) (x : Seen) (s t : Hands X G O F) → moves_seat a ≡ false → Does a x s t → t.chair ≡ s.chair
-  kept (acts.Probe l) Yes s t m d = ap (λ (z : Hands X G O F). z.chair) d
-  kept (acts.Probe l) _ s t m d = ap (λ (z : Hands X G O F). z.chair) d
+  kept (acts.Probe l) Yes s t m d = ap (λ (z : Hands X G O F). z.chair) d.0
+  kept (acts.Probe l) _ s t m d = ap (λ (z : Hands X G O F). z.chair) d.0
+  kept (acts.Sleepy l) Done s t m d = ap (λ (z : Hands X G O F). z.chair) d.0
+  kept (acts.Sleepy l) _ s t m d = ap (λ (z : Hands X G O F). z.chair) d.0
+  kept (acts.Asleep l) Done s t m d = ap (λ (z : Hands X G O F). z.chair) d.0
+  kept (acts.Asleep l) _ s t m d = ap (λ (z : Hands X G O F). z.chair) d.0
+  kept (acts.Wakeup l) _ s t m d = ap (λ (z : Hands X G O F). z.chair) d.0
   kept acts.PopOwn (Task n) s t m d = ap (λ (z : Hands X G O F). z.chair) d.2
   kept acts.PopOwn _ s t m d = ap (λ (z : Hands X G O F). z.chair) d.2
   kept acts.PopInj (Task n) s t m d = ap (λ (z : Hands X G O F). z.chair) d.2
@@ -265,9 +270,12 @@ module _ {X G O F : Type 0} where
   kept (acts.Take c) (Found e) s t m d = ap (λ (z : Hands X G O F). z.chair) d.1
   kept (acts.Take c) Missing s t m d = ap (λ (z : Hands X G O F). z.chair) d
   kept (acts.Take c) _ s t m d = absurd d
-  kept (acts.Raise p n) Done s t m d = ap (λ (z : Hands X G O F). z.chair) d
-  kept (acts.Raise p n) _ s t m d = ap (λ (z : Hands X G O F). z.chair) d
-  kept (acts.Lower p b) _ s t m d = ap (λ (z : Hands X G O F). z.chair) d
+  kept (acts.Raise p n) Done s t m d = ap (λ (z : Hands X G O F). z.chair) d.0
+  kept (acts.Raise p n) _ s t m d = ap (λ (z : Hands X G O F). z.chair) d.0
+  kept (acts.Lower p b) Yes s t m d = ap (λ (z : Hands X G O F). z.chair) d.0
+  kept (acts.Lower p b) _ s t m d = ap (λ (z : Hands X G O F). z.chair) d.0
+  kept (acts.Set l p i) Yes s t m d = ap (λ (z : Hands X G O F). z.chair) d.0
+  kept (acts.Set l p i) _ s t m d = ap (λ (z : Hands X G O F). z.chair) d.0
   kept acts.AddInactive _ s t m d = absurd (true≢false m)
   kept acts.SubInactive _ s t m d = absurd (true≢false m)
   kept acts.Announce _ s t m d = absurd (true≢false m)

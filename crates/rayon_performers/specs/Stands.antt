@@ -1,9 +1,11 @@
 -- What a worker has at hand at each place of the table to which a drive leads it.
-use Rattle.std.specs.Prelude.{◌≡◌, ℕ, Bool, true, false, Option, None, Some}
+use Rattle.std.specs.Prelude.{◌≡◌, ℕ, true, Option, None, Some}
 use Rattle.rayon_machine_places.specs.declared.place.Count.TheVariants.{OfScope, OfCast}
 use Rattle.rayon_machine_places.specs.declared.place.Party.{Party}
 use Rattle.rayon_machine_places.specs.declared.place.Party.TheVariants.{Worker, Caller}
 use Rattle.rayon_machine_places.specs.declared.place.Ending.{Ending}
+use Rattle.rayon_machine_places.specs.declared.place.Latch.{Latch}
+use Rattle.rayon_machine_places.specs.declared.place.Latch.TheVariants.{Terminate, OfCall}
 use Rattle.rayon_machine_places.specs.declared.place.Target.{Target}
 use Rattle.rayon_machine_places.specs.declared.place.Target.TheVariants.{Termination, Answer}
 use Rattle.rayon_machine_places.specs.declared.place.Then.{Then}
@@ -14,7 +16,9 @@ use Rattle.rayon_machine_places.specs.declared.place.Place.{Place}
 use Rattle.rayon_machine_places.specs.declared.place.Place.TheVariants as at
 use Rattle.rayon_machine_places.specs.declared.place.Move.{Move}
 use Rattle.rayon_machine_places.specs.declared.place.Move.TheVariants.{Stay, Enter, StartRun, Back, HandBack, HandIn, Discard, Mark, HandAllBack}
+use Rattle.rayon_machine_places.specs.Places.{latch_of}
 use Rattle.rayon_atomics.specs.declared.views.Watch.{Watch}
+use Rattle.rayon_performers.specs.Sights.{SeenSet}
 use Rattle.rayon_performers.specs.Seats.{Resting, Searching, Sleeping}
 use Rattle.rayon_performers.specs.Hands.{Hands, HasTask, HasTicket, HasResult, call_latch}
 
@@ -36,10 +40,10 @@ call_then (Await o) = Some o.number
 call_then (Gathers o) = Some o.number
 call_then _ = None
 
--- whether the wait is left since its latch was seen set
-abbrev pub leaves : Then → Bool
-leaves (LeaveWait g) = true
-leaves _ = false
+-- the latch that was seen set where the wait is left for it
+abbrev pub left_by : Then → Option Latch
+left_by (LeaveWait g) = Some (latch_of g)
+left_by _ = None
 
 -- the name of the task that was taken and is not begun
 abbrev pub task_at : Place → Option Taken
@@ -113,21 +117,21 @@ abbrev pub done_at : Place → Option Ending
 done_at (at.StoreResult c o e) = Some e
 done_at _ = None
 
--- whether the latch that was looked at last was set
-abbrev pub probed_at : Place → Bool
-probed_at (at.LeaveSearch w) = elim w.found [ None ↦ true | Some t ↦ false ]
-probed_at (at.LockToWake k) = leaves k.then
-probed_at (at.WakeWorker k) = leaves k.then
-probed_at (at.UnlockWoken k) = leaves k.then
-probed_at (at.LowerCount k s t) = leaves t
-probed_at (at.SetLatch s) = leaves s.then
-probed_at (at.LockToSettle s) = leaves s.then
-probed_at (at.WakeSettled s) = leaves s.then
-probed_at (at.UnlockSettled s) = leaves s.then
-probed_at (at.SetLockLatch c t) = leaves t
-probed_at (at.TakeResult o f) = true
-probed_at at.Stopped = true
-probed_at _ = false
+-- the latch that was looked at last, where it was set
+abbrev pub seen_at : Place → Option Latch
+seen_at (at.LeaveSearch w) = elim w.found [ None ↦ Some (latch_of w.target) | Some t ↦ None ]
+seen_at (at.LockToWake k) = left_by k.then
+seen_at (at.WakeWorker k) = left_by k.then
+seen_at (at.UnlockWoken k) = left_by k.then
+seen_at (at.LowerCount k s t) = left_by t
+seen_at (at.SetLatch s) = left_by s.then
+seen_at (at.LockToSettle s) = left_by s.then
+seen_at (at.WakeSettled s) = left_by s.then
+seen_at (at.UnlockSettled s) = left_by s.then
+seen_at (at.SetLockLatch c t) = left_by t
+seen_at (at.TakeResult o f) = Some (OfCall o.number)
+seen_at at.Stopped = Some Terminate
+seen_at _ = None
 
 -- what the worker's seat of the counters holds: an inactive unit exactly from after AddInactive to SubInactive, and a
 -- sleeping one too where the worker is counted as sleeping. From Block until the own sleep lock is taken again the seat
@@ -223,25 +227,25 @@ abbrev pub IsWorker : Party → Type 0
 IsWorker (Worker p i) = Unit {0}
 IsWorker (Caller c) = ⊥
 
--- if so, then it holds
-abbrev pub If : Bool → Type 0 → Type 0
-If true P = P
-If false P = Unit {0}
-
 module _ {X G O F : Type 0} where
+  -- this latch was looked at last and was set, and its seat has seen so
+  abbrev pub SawSet : Hands X G O F → Option Latch → Type 0
+  SawSet s None = Unit {0}
+  SawSet s (Some l) = (s.probed ≡ true) × SeenSet s.guards l
+
   -- what is in hand at a place
-  pub record StandsAt (s : Hands X G O F) (tasked : Option Taken) (called replied : Option ℕ) (result : Option Ending) (seen : Bool) : Type 0 where
+  pub record StandsAt (s : Hands X G O F) (tasked : Option Taken) (called replied : Option ℕ) (result : Option Ending) (seen : Option Latch) : Type 0 where
     pub task : HasTask s.task tasked
     pub call : HasTicket s.call called
     pub reply : HasTicket s.reply replied
     pub done : HasResult s.done result
-    pub probed : If seen (s.probed ≡ true)
+    pub probed : SawSet s seen
 
   -- what is in hand where a program has moved so
   abbrev pub Stands : Hands X G O F → Move → Type 0
-  Stands s (Stay p) = StandsAt s (task_at p) (call_at p) (reply_at p) (done_at p) (probed_at p) × IsDriven p
-  Stands s (Enter f p) = StandsAt s (task_begun p) (call_at f) None None false × BeginsAbove f p
-  Stands s (StartRun f t) = StandsAt s None None None None false × IsFrame f
+  Stands s (Stay p) = StandsAt s (task_at p) (call_at p) (reply_at p) (done_at p) (seen_at p) × IsDriven p
+  Stands s (Enter f p) = StandsAt s (task_begun p) (call_at f) None None None × BeginsAbove f p
+  Stands s (StartRun f t) = StandsAt s None None None None None × IsFrame f
   Stands s Back = Unit {0}
   Stands s (HandBack n) = Unit {0}
   Stands s (HandIn p n) = ⊥

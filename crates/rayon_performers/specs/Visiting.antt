@@ -80,9 +80,9 @@ module _ {X G O F : Type 0} where
   Stands s (HandBack n) = s.holds ≡ false
   Stands s _ = ⊥
 
-  -- a drive changes no more than what was found, the unit and the trace
+  -- a drive changes no more than what was found, the unit, the seats and the trace
   abbrev pub Keeps : Visit X G O F → Visit X G O F → Type 0
-  Keeps s t = t ≡ record s { done = t.done; first_done = t.first_done; holds = t.holds; trace = t.trace }
+  Keeps s t = t ≡ record s { done = t.done; first_done = t.first_done; holds = t.holds; marks = t.marks; trace = t.trace }
 
   same : (u v : Visit X G O F) (t : Then) → Same u v → StandsThen u t → StandsThen v t
   same u v t d a = subst (λ (z : Visit X G O F). StandsThen z t) (sym d) (same_then u v t a)
@@ -96,6 +96,9 @@ module _ {X G O F : Type 0} where
 
   setting : (u v : Visit X G O F) (x : Settling) → Same u v → StandsSetting u x → StandsSetting v x
   setting u v x d a = subst (λ (z : Visit X G O F). StandsSetting z x) (sym d) a
+
+  struck : (u v : Visit X G O F) (x : Settling) → v ≡ record u { marks = record { set = v.marks.set; count = u.marks.count }; trace = v.trace } → StandsSetting u x → StandsSetting v x
+  struck u v x d a = subst (λ (z : Visit X G O F). StandsSetting z x) (sym d) a
 
   await_stands : (u : Visit X G O F) (c : ℕ) (t : Then) → StandsThen u t → Stands u (finish (Caller c) t)
   await_stands u c (Await o) a = a
@@ -153,10 +156,10 @@ module _ {X G O F : Type 0} where
   stands_on u v h c (at.TakeResult o f) (Found e) a d = (a.0, subst (λ (z : Visit X G O F). z.holds ≡ true) (sym d.2) a.2, tt)
   stands_on u v h c (at.TakeResult o f) Missing a d = (a.0, subst (λ (z : Visit X G O F). z.holds ≡ true) (sym d.1) a.2, tt)
   stands_on u v h c (at.TakeResult o f) _ a d = absurd d
-  stands_on u v h c (at.LowerCount (OfPool p) b t) Yes a d = settle_stands v h c p 0 t a.0 a.2 (ap (λ (z : Visit X G O F). z.holds) d.1)
-  stands_on u v h c (at.LowerCount (OfPool p) b t) _ a d = end_stands v c t a.2 (ap (λ (z : Visit X G O F). z.holds) d.1)
-  stands_on u v h c (at.SetLatch x) Yes a d = setting u v x d a
-  stands_on u v h c (at.SetLatch x) _ a d = after_set_stands v h c x x.latch (setting u v x d a)
+  stands_on u v h c (at.LowerCount (OfPool p) b t) Yes a d = settle_stands v h c p 0 t a.0 a.2 (ap (λ (z : Visit X G O F). z.holds) d.0)
+  stands_on u v h c (at.LowerCount (OfPool p) b t) _ a d = end_stands v c t a.2 (ap (λ (z : Visit X G O F). z.holds) d.0)
+  stands_on u v h c (at.SetLatch x) Yes a d = struck u v x d.0 a
+  stands_on u v h c (at.SetLatch x) _ a d = after_set_stands v h c x x.latch (struck u v x d.0 a)
   stands_on u v h c (at.LockToSettle x) _ a d = setting u v x d a
   stands_on u v h c (at.WakeSettled x) _ a d = setting u v x d a
   stands_on u v h c (at.UnlockSettled x) _ a d = after_set_stands v h c x x.latch (setting u v x d a)

@@ -1,5 +1,5 @@
 -- What an outside caller has for the time of one call, and what each act of the call does to it.
-use Rattle.std.specs.Prelude.{◌≡◌, ℕ, ◌++◌, [], ◌∷◌, Bool, true, false, Option, None, Some}
+use Rattle.std.specs.Prelude.{◌≡◌, ℕ, ◌≤◌, ◌++◌, [], ◌∷◌, Bool, true, false, Option, None, Some}
 use Rattle.rayon_machine_places.specs.declared.place.Count.TheVariants.{OfPool}
 use Rattle.rayon_machine_places.specs.declared.place.Party.TheVariants.{Caller}
 use Rattle.rayon_machine_places.specs.declared.place.OpenCall.{OpenCall}
@@ -11,17 +11,18 @@ use Rattle.rayon_machine_places.specs.declared.shape.PoolShape.{PoolShape}
 use Rattle.rayon_machine_places.specs.declared.act.Act.{Act}
 use Rattle.rayon_machine_places.specs.declared.act.Act.TheVariants as acts
 use Rattle.rayon_machine_places.specs.declared.act.Seen.{Seen}
-use Rattle.rayon_machine_places.specs.declared.act.Seen.TheVariants.{Done, Missing, Found}
+use Rattle.rayon_machine_places.specs.declared.act.Seen.TheVariants.{Done, Missing, Found, Yes}
 use Rattle.rayon_drive.specs.declared.trace.Log.{Log}
 use Rattle.rayon_queues.specs.Deques.{Visitor, visitor}
 use Rattle.rayon_tasks.specs.Tasks.{TaskOf}
 use Rattle.rayon_tasks.specs.Tickets.{TicketOf}
 use Rattle.rayon_jobs.specs.Within.{Run}
 use Rattle.rayon_performers.specs.Hands.{HasResult}
+use Rattle.rayon_performers.specs.Marks.{GivesUnit, Marks, MissesUnit, SetBy, TakesUnit}
 
 -- what an outside caller has: the pool's shape; its pass of the injector; the ticket of its call, and where two
 -- sides are sent that of the first one's cell; the results that were found in the cells of the two; whether it
--- holds a unit of the terminate count; and what it did
+-- holds a unit of the terminate count; its seat of that count, and the one by which it set a latch last; and what it did
 pub record Visit (X G O F : Type 0) : Type 0 where
   pub shape : PoolShape
   pub inlet : Visitor (TaskOf X)
@@ -30,6 +31,7 @@ pub record Visit (X G O F : Type 0) : Type 0 where
   pub done : Option (Run G O F)
   pub first_done : Option (Run G O F)
   pub holds : Bool
+  pub marks : Marks
   pub trace : Log
 
 -- the ticket of an outside caller's call of this name
@@ -83,14 +85,25 @@ module _ {X G O F : Type 0} where
   abbrev pub Same : Visit X G O F → Visit X G O F → Type 0
   Same s t = t ≡ record s { trace = t.trace }
 
+  -- nothing was done but steps of its seat of the terminate count, and the trace is another
+  abbrev pub Recounts : Bool → Visit X G O F → Visit X G O F → Type 0
+  Recounts b s t = t ≡ record s { holds = b; marks = record { set = s.marks.set; count = t.marks.count }; trace = t.trace }
+
   -- a unit of the terminate count is taken where none was held, or was refused
   abbrev pub Raises : Seen → Visit X G O F → Visit X G O F → Type 0
-  Raises Done s t = (s.holds ≡ false) × (t ≡ record s { holds = true; trace = t.trace })
-  Raises _ s t = Same s t
+  Raises Done s t = Recounts true s t × TakesUnit true s.marks.count t.marks.count × (s.holds ≡ false)
+  Raises _ s t = Recounts s.holds s t × MissesUnit true s.marks.count t.marks.count
 
-  -- the unit that was held is given back
-  abbrev pub Lowers : Visit X G O F → Visit X G O F → Type 0
-  Lowers s t = (s.holds ≡ true) × (t ≡ record s { holds = false; trace = t.trace })
+  -- the unit that was held is given back, which was the pool's last or not
+  abbrev pub Lowers : Seen → Visit X G O F → Visit X G O F → Type 0
+  Lowers Yes s t = Recounts false s t × GivesUnit true true s.marks.count t.marks.count × (s.holds ≡ true)
+  Lowers _ s t = Recounts false s t × GivesUnit true false s.marks.count t.marks.count × (s.holds ≡ true)
+
+  -- a worker's terminate latch is set, by the one step that makes a seat of it; its owner slept or not. Or the pool has no
+  -- such worker
+  abbrev pub Sets : ℕ → Seen → Visit X G O F → Visit X G O F → Type 0
+  Sets i Yes s t = (t ≡ record s { marks = record { set = t.marks.set; count = s.marks.count }; trace = t.trace }) × SetBy (s.shape.workers ≤ i) true t.marks.set
+  Sets i _ s t = (t ≡ record s { marks = record { set = t.marks.set; count = s.marks.count }; trace = t.trace }) × SetBy (s.shape.workers ≤ i) false t.marks.set
 
   -- the ticket of the call was made, and where two sides are sent one for the first one's result; or they were
   -- refused
@@ -123,6 +136,6 @@ module _ {X G O F : Type 0} where
   Does (acts.Unlock p i) x s t = Same s t
   Does (acts.LockWait c) x s t = Same s t
   Does (acts.Take c) x s t = Takes x s t
-  Does (acts.Lower (OfPool p) b) x s t = Lowers s t
-  Does (acts.Set l p i) x s t = Same s t
+  Does (acts.Lower (OfPool p) b) x s t = Lowers x s t
+  Does (acts.Set l p i) x s t = Sets i x s t
   Does _ x s t = ⊥

@@ -10,6 +10,7 @@ use Rattle.rayon_machine_places.specs.declared.place.Place.TheVariants as at
 use Rattle.rayon_machine_places.specs.declared.place.Move.{Move}
 use Rattle.rayon_machine_places.specs.declared.place.Move.TheVariants.{Stay, Enter, Back}
 use Rattle.rayon_machine_places.specs.Places.{fresh}
+use Rattle.rayon_atomics.specs.declared.views.Guard.{Guard}
 use Rattle.rayon_performers.specs.Hands.{Hands}
 
 -- a task that was in a queue begins
@@ -42,3 +43,7 @@ module _ {X G O F : Type 0} where
   -- what one worker of one pool has at hand, before and after
   abbrev pub SameSeat : Hands X G O F → Hands X G O F → Type 0
   SameSeat s t = (t.index ≡ s.index) × (t.shape ≡ s.shape)
+
+  -- the same worker, where a seat that knows this stands for that of its terminate latch
+  abbrev pub waiting_on : Guard → Hands X G O F → Hands X G O F
+  waiting_on v s = record s { guards = record { own = v; call = s.guards.call } }

@@ -1,24 +1,26 @@
 //! A worker's acts. Each does what the machine's act of its name does, and adds the one entry of that act to the trace.
-ghost use Rattle.std.specs.Prelude.{◌≡◌, ◌⊎◌, ◌+◌, ℕ, [], true, Some, IfErr, MatchOption, MatchResult};
+ghost use Rattle.std.specs.Prelude.{◌≡◌, ◌⊎◌, ◌+◌, ◌-◌, ◌==◌, ℕ, [], true, false, Some, is_some, IfErr, IfOk, MatchOption, MatchResult};
 ghost use Rattle.rayon_drive.specs.Traces.{Adds};
 ghost use Rattle.rayon_machine_places.specs.declared.act.Act.TheVariants as acts;
 ghost use Rattle.rayon_machine_places.specs.declared.act.Seen.TheVariants as saw;
 ghost use Rattle.rayon_machine_places.specs.declared.place.Count.TheVariants.{OfPool};
 ghost use Rattle.rayon_machine_places.specs.declared.place.Party.TheVariants.{Worker};
 ghost use Rattle.rayon_machine_places.specs.declared.place.Taken.TheVariants.{Plain};
-ghost use Rattle.rayon_performers.specs.Hands.{Does, Looks, Lowers, Needs, Stores, answer};
+ghost use Rattle.rayon_atomics.specs.Latches.{guard};
+ghost use Rattle.rayon_performers.specs.Hands.{Does, HasTicket, Looks, Lowers, Needs, Stores, Told, answer, call_latch};
 ghost use Rattle.rayon_performers.specs.Keeps.{bench_needs, bench_on};
+ghost use Rattle.rayon_performers.specs.Marks.{GivesUnit, MissesUnit, NoLatch, SetBy, TakesUnit};
 ghost use Rattle.rayon_performers.specs.Stands.{IsWorker, Seated, Stands};
 ghost use Rattle.rayon_queues.specs.Deques.{Pushed, SameDeque, Unmoved};
 
 use crate::bench::Bench;
+use rayon_atomics::latch::{CoreLatch, LatchSeat};
 use rayon_drive::drive::Perform;
 use rayon_jobs::JobKind;
 use rayon_machine_places::act::{Act, Seen};
 use rayon_machine_places::place::{Count, Ending, JobKind as Kind, Latch, Party, Share, Taken};
-use rayon_tasks::{Task, Ticket};
+use rayon_tasks::{Call, Task, Ticket};
 use rayon_words::Refusal;
-use rayon_words::latch::CoreLatch;
 use std::alloc::Global;
 use std::sync::Wait;
 use std::thread;
@@ -34,7 +36,10 @@ impl<J: JobKind> Perform for Bench<J> {
 
     fn perform<R: Wait>(&mut self, rt: &R, act: Act) -> Seen {
         match act {
-            Act::Probe(latch) => yes(self.probe(rt, latch)),
+            Act::Probe(latch) => yes(self.probe(latch)),
+            Act::Sleepy(latch) => self.get_sleepy(latch),
+            Act::Asleep(latch) => self.fall_asleep(latch),
+            Act::Wakeup(latch) => self.wake_up(latch),
             Act::PopOwn => self.pop_own(),
             Act::LookOwn => yes(self.look_own()),
             Act::PopInj => self.pop_injected(rt),
@@ -85,16 +90,15 @@ impl<J: JobKind> Perform for Bench<J> {
             Act::News { pool, was_empty } => Seen::Wakes(self.news(rt, pool, was_empty)),
             Act::Block => self.block(rt),
             Act::Lock { pool, worker } => self.lock(rt, pool, worker),
-            Act::Sleepy(_)
-            | Act::Asleep(_)
-            | Act::Wakeup(_)
-            | Act::Unlock { .. }
-            | Act::Wake { .. }
-            | Act::Set { .. }
-            | Act::LockSet(_) => {
+            Act::Unlock { .. } | Act::Wake { .. } | Act::LockSet(_) => {
                 let seen = self.touch(rt, act);
                 self.add(act, seen)
             }
+            Act::Set {
+                latch,
+                pool,
+                worker,
+            } => self.set(latch, pool, worker),
         }
     }
 
@@ -109,12 +113,6 @@ fn yes(yes: bool) -> Seen
     ensures { result ≡ answer yes }
 {
     if yes { Seen::Yes } else { Seen::No }
-}
-
-// Done or refused.
-#[inline(always)]
-pub(crate) fn done(answer: bool) -> Seen {
-    if answer { Seen::Done } else { Seen::Refused }
 }
 
 impl<J: JobKind> Bench<J> {
@@ -150,43 +148,6 @@ impl<J: JobKind> Bench<J> {
         let name = task.number();
         self.task = Some(task);
         self.add(act, Seen::Task(Taken::Plain(name)))
-    }
-
-    // A latch of the worker.
-    #[inline(always)]
-    fn latch(&self, latch: Latch) -> Option<&CoreLatch> {
-        match latch {
-            Latch::Terminate => self.registry.terminate(self.index),
-            Latch::OfCall(_) => match &self.call {
-                Some(call) => call.core_latch(),
-                None => None,
-            },
-        }
-    }
-
-    // Looks at a latch of the worker.
-    #[inline(always)]
-    pub(crate) fn probe<R: Wait>(&mut self, rt: &R, latch: Latch) -> bool
-        ensures does { Does (acts.Probe latch) (answer result) self.old self.new }
-        ensures adds { Adds (acts.Probe latch) (answer result) self.old.trace self.new.trace }
-    {
-        let is_set = match self.latch(latch) {
-            Some(latch) => latch.probe(rt),
-            None => false,
-        };
-        self.probed(latch, is_set);
-        is_set
-    }
-
-    // It was seen whether this latch is set.
-    #[inline(always)]
-    pub(crate) fn probed(&mut self, latch: Latch, is_set: bool) -> Seen
-        ensures seen { result ≡ answer is_set }
-        ensures does { Does (acts.Probe latch) result self.old self.new }
-        ensures adds { Adds (acts.Probe latch) result self.old.trace self.new.trace }
-    {
-        self.probed = is_set;
-        self.add(Act::Probe(latch), yes(is_set))
     }
 
     // Takes the newest task of the own deque.
@@ -291,7 +252,7 @@ impl<J: JobKind> Bench<J> {
         ensures adds { Adds (acts.Take call) result self.old.trace self.new.trace }
     {
         let found = match &self.call {
-            Some(call) => call.take(rt),
+            Some(call) => call.ticket.take(rt),
             None => None,
         };
         match found {
@@ -313,6 +274,7 @@ impl<J: JobKind> Bench<J> {
     #[inline(always)]
     pub(crate) fn raise<R: Wait>(&mut self, rt: &R, job: u64) -> Result<(), Refusal>
         ensures does { MatchResult result (λ _. Does (acts.Raise (OfPool 0) job) saw.Done self.old self.new) (λ _. Does (acts.Raise (OfPool 0) job) saw.Refused self.old self.new) }
+        ensures left { MatchResult result (λ _. self.new ≡ record self.old { holds = self.old.holds + 1; marks = self.new.marks; trace = self.new.trace }) (λ _. Told self.old self.new) }
         ensures adds { MatchResult result (λ _. Adds (acts.Raise (OfPool 0) job) saw.Done self.old.trace self.new.trace) (λ _. Adds (acts.Raise (OfPool 0) job) saw.Refused self.old.trace self.new.trace) }
         ensures refused { IfErr result (λ r. (r ≡ Refusal.Ended) ⊎ (r ≡ Refusal.Full)) }
     {
@@ -335,13 +297,20 @@ impl<J: JobKind> Bench<J> {
     // One unit more, in the pool's own count or in the worker's.
     #[inline(always)]
     fn hold<R: Wait>(&mut self, rt: &R) -> Result<(), Refusal>
-        ensures { MatchResult result (λ _. self.new ≡ record self.old { holds = self.old.holds + 1 }) (λ r. ((r ≡ Refusal.Ended) ⊎ (r ≡ Refusal.Full)) × (self.new ≡ self.old)) }
+        ensures same { MatchResult result
+            (λ _. self.new ≡ record self.old { holds = self.old.holds + 1; marks = record { set = self.old.marks.set; count = self.new.marks.count } })
+            (λ _. self.new ≡ record self.old { marks = record { set = self.old.marks.set; count = self.new.marks.count } }) }
+        ensures step { MatchResult result
+            (λ _. TakesUnit (self.old.holds == 0) self.old.marks.count self.new.marks.count)
+            (λ _. MissesUnit (self.old.holds == 0) self.old.marks.count self.new.marks.count) }
+        ensures refused { IfErr result (λ r. (r ≡ Refusal.Ended) ⊎ (r ≡ Refusal.Full)) }
     {
         let Some(holds) = self.holds.checked_add(1) else {
             return Err(Refusal::Full);
         };
         if self.holds == 0 {
-            self.registry.increment_terminate_count(rt)?;
+            self.registry
+                .increment_terminate_count(rt, &mut self.count)?;
         }
         self.holds = holds;
         Ok(())
@@ -350,29 +319,87 @@ impl<J: JobKind> Bench<J> {
     // Gives a unit of the terminate count back.
     #[inline(always)]
     pub(crate) fn lower<R: Wait>(&mut self, rt: &R, count: Count, share: Share) -> bool
-        ensures does { Lowers self.old self.new }
+        ensures does { Lowers (answer result) self.old self.new }
         ensures adds { Adds (acts.Lower count share) (answer result) self.old.trace self.new.trace }
+        ensures left { self.new ≡ record self.old { holds = self.old.holds - 1; marks = self.new.marks; trace = self.new.trace } }
     {
-        let was_last = self.holds == 1 && self.registry.decrement_terminate_count(rt);
-        self.holds = self.holds.saturating_sub(1);
+        let was_last = self.give(rt);
         self.add(Act::Lower { count, share }, yes(was_last));
         was_last
     }
 
-    // Makes the ticket of a call, and a share of it. Refused where there is no room.
+    // One unit fewer, in the pool's own count or in the worker's. True exactly if it was the pool's last.
     #[inline(always)]
-    pub(crate) fn grow(&mut self, alloc: Global, call: u64) -> Option<(Ticket<J>, Ticket<J>)>
-        ensures same { self.new ≡ record self.old { trace = self.new.trace } }
-        ensures grown { MatchOption result (Adds (acts.Grow call) saw.Refused self.old.trace self.new.trace) (λ t. Adds (acts.Grow call) saw.Done self.old.trace self.new.trace × (t.0 ≡ record { owner = Worker 0 self.old.index; number = call }) × (t.1 ≡ t.0)) }
+    fn give<R: Wait>(&mut self, rt: &R) -> bool
+        ensures same { self.new ≡ record self.old { holds = self.old.holds - 1; marks = record { set = self.old.marks.set; count = self.new.marks.count } } }
+        ensures step { GivesUnit (self.old.holds == 1) result self.old.marks.count self.new.marks.count }
     {
-        if let Ok(ticket) = Ticket::new(alloc, self.party(), call) {
-            if let Ok(share) = ticket.share() {
-                self.add(Act::Grow(call), Seen::Done);
-                return Some((ticket, share));
+        let is_outermost = self.holds == 1;
+        self.holds = self.holds.saturating_sub(1);
+        if is_outermost {
+            self.registry.decrement_terminate_count(rt, &mut self.count)
+        } else {
+            false
+        }
+    }
+
+    // Makes the call for the job of this name, and a share of its ticket. Refused where there is no room.
+    #[inline(always)]
+    pub(crate) fn grow(&mut self, alloc: Global, number: u64) -> Option<(Call<J>, Ticket<J>)>
+        ensures same { self.new ≡ record self.old { trace = self.new.trace } }
+        ensures grown { MatchOption result (Adds (acts.Grow number) saw.Refused self.old.trace self.new.trace) (λ t. Adds (acts.Grow number) saw.Done self.old.trace self.new.trace × (t.0.ticket ≡ record { owner = Worker 0 self.old.index; number = number }) × (t.1 ≡ t.0.ticket)) }
+    {
+        match self.next_call(alloc, number) {
+            Ok(grown) => {
+                self.add(Act::Grow(number), Seen::Done);
+                Some(grown)
+            }
+            Err(_) => {
+                self.add(Act::Grow(number), Seen::Refused);
+                None
             }
         }
-        self.add(Act::Grow(call), Seen::Refused);
-        None
+    }
+
+    // The call for the job of this name, and a share of its ticket: those that were kept last serve it, or new ones. Refused
+    // `NoRoom`.
+    #[inline(always)]
+    fn next_call(&mut self, alloc: Global, number: u64) -> Result<(Call<J>, Ticket<J>), Refusal>
+        ensures same { self.new ≡ self.old }
+        ensures ticket { IfOk result (λ c. (c.0.ticket ≡ record { owner = Worker 0 self.old.index; number = number }) × (c.1 ≡ c.0.ticket)) }
+    {
+        if let Some((Call { ticket, latch }, share)) = self.next_spare() {
+            if self.is_own(&ticket) && self.is_own(&share) {
+                let ticket = ticket.renamed(number);
+                let share = share.renamed(number);
+                return Ok((Call { ticket, latch }, share));
+            }
+        }
+        let call = Call::new(alloc, 0, self.index, number)?;
+        let share = call.ticket.share()?;
+        Ok((call, share))
+    }
+
+    // The call that was kept last, and its share.
+    #[inline(always)]
+    fn next_spare(&mut self) -> Option<(Call<J>, Ticket<J>)>
+        ensures { self.new ≡ self.old }
+    {
+        match &mut self.spares {
+            Some(spares) => spares.pop(),
+            None => None,
+        }
+    }
+
+    // Whether the call of this ticket is the worker's own.
+    #[inline(always)]
+    fn is_own(&self, ticket: &Ticket<J>) -> bool
+        ensures { result ≡ true → ticket.now.owner ≡ Worker 0 self.now.index }
+    {
+        match ticket.owner() {
+            Party::Worker { pool: 0, index } => index == self.index,
+            _ => false,
+        }
     }
 
     // Pushes a task onto the own deque. Where there is no room the task comes back.
@@ -402,54 +429,79 @@ impl<J: JobKind> Bench<J> {
                 Seen::Done
             }
             Act::Wake { worker, .. } => yes(sleep.wake(rt, worker)),
-            _ => self.touch_latch(rt, act),
-        }
-    }
-
-    // An act on a latch.
-    fn touch_latch<R: Wait>(&self, rt: &R, act: Act) -> Seen {
-        match act {
-            Act::Sleepy(latch) => match self.latch(latch) {
-                Some(latch) => done(latch.get_sleepy(rt)),
-                None => Seen::Refused,
-            },
-            Act::Asleep(latch) => match self.latch(latch) {
-                Some(latch) => done(latch.fall_asleep(rt)),
-                None => Seen::Refused,
-            },
-            Act::Wakeup(latch) => {
-                if let Some(latch) = self.latch(latch) {
-                    latch.wake_up(rt);
-                }
-                Seen::Done
-            }
-            Act::Set { latch, worker, .. } => self.set(rt, latch, worker),
             Act::LockSet(_) => {
-                if let Some(reply) = &self.reply {
-                    if let Some(latch) = reply.lock_latch() {
-                        latch.set(rt);
-                    }
-                }
+                self.set_lock_latch(rt);
                 Seen::Done
             }
             _ => Seen::Done,
         }
     }
 
-    // Sets a worker's terminate latch, or the core latch of the ticket to answer.
-    fn set<R: Wait>(&self, rt: &R, latch: Latch, worker: usize) -> Seen {
-        match latch {
-            Latch::Terminate => match self.registry.terminate(worker) {
-                Some(latch) => yes(latch.set(rt)),
-                None => Seen::No,
-            },
-            Latch::OfCall(_) => match &self.reply {
-                Some(reply) => match reply.core_latch() {
-                    Some(latch) => yes(latch.set(rt)),
-                    None => Seen::No,
-                },
-                None => Seen::No,
-            },
+    // Sets the lock latch of the ticket to answer.
+    fn set_lock_latch<R: Wait>(&self, rt: &R) {
+        if let Some(reply) = &self.reply {
+            if let Some(latch) = reply.lock_latch() {
+                latch.set(rt);
+            }
         }
     }
+
+    // Sets a worker's terminate latch, or the core latch of the ticket to answer, by the one step that makes a seat of it.
+    fn set(&mut self, latch: Latch, pool: usize, worker: usize) -> Seen
+        requires { HasTicket self.old.reply (call_latch latch) }
+        ensures does { Does (acts.Set latch pool worker) result self.old self.new }
+        ensures adds { Adds (acts.Set latch pool worker) result self.old.trace self.new.trace }
+    {
+        let act = Act::Set {
+            latch,
+            pool,
+            worker,
+        };
+        if self.strike(latch, worker) {
+            self.add(act, Seen::Yes)
+        } else {
+            self.add(act, Seen::No)
+        }
+    }
+
+    // Keeps the seat by which the latch was set. True exactly if its owner slept.
+    fn strike(&mut self, latch: Latch, worker: usize) -> bool
+        requires { HasTicket self.old.reply (call_latch latch) }
+        ensures same { self.new ≡ record self.old { marks = record { set = self.new.marks.set; count = self.old.marks.count } } }
+        ensures step { SetBy (NoLatch latch worker self.old.deques self.old.reply) result self.new.marks.set }
+    {
+        match self.struck(latch, worker) {
+            Some((slept, seat)) => {
+                self.setter = Some(seat);
+                slept
+            }
+            None => {
+                self.setter = None;
+                false
+            }
+        }
+    }
+
+    // The one step that sets the latch, and the seat that it makes.
+    fn struck(&self, latch: Latch, worker: usize) -> Option<(bool, LatchSeat)>
+        requires { HasTicket self.now.reply (call_latch latch) }
+        ensures { MatchOption result (NoLatch latch worker self.now.deques self.now.reply) (λ r. SetBy ⊥ r.0 (Some (guard r.1))) }
+    {
+        match latch {
+            Latch::Terminate => set_latch(self.registry.terminate(worker)),
+            Latch::OfCall(_) => {
+                let Some(reply) = &self.reply else {
+                    unreachable!()
+                };
+                set_latch(reply.core_latch())
+            }
+        }
+    }
+}
+
+// Sets the latch, if there is one.
+pub(crate) fn set_latch(latch: Option<&CoreLatch>) -> Option<(bool, LatchSeat)>
+    ensures { MatchOption result (is_some latch.entry ≡ false) (λ r. SetBy ⊥ r.0 (Some (guard r.1))) }
+{
+    Some(latch?.set_as_guest())
 }

@@ -7,21 +7,28 @@ ghost use Rattle.rayon_performers.specs.Hands.{Hands};
 ghost use Rattle.rayon_performers.specs.Pools.{shape_of};
 ghost use Rattle.rayon_performers.specs.Seats.{Resting};
 ghost use Rattle.rayon_queues.specs.Deques.{visitor};
+ghost use Rattle.rayon_tasks.specs.Calls.{latch_in, ticket_in};
 
 use crate::kit::WorkerKit;
 use crate::registry::Registry;
+use rayon_atomics::count::CountSeat;
+use rayon_atomics::latch::LatchSeat;
+use rayon_atomics::own_latch::OwnLatch;
 use rayon_drive::trace::Trace;
 use rayon_jobs::{Done, JobKind};
 use rayon_machine_places::shape::PoolShape;
 use rayon_queues::{InjectorPass, StealPass, WorkerDeque, XorShift64Star};
 use rayon_sleep::counters::Chair;
 use rayon_sleep::latch::Owner;
-use rayon_tasks::{Task, Ticket};
+use rayon_tasks::{Call, Task, Ticket};
 use rayon_words::Refusal;
 use std::alloc::Global;
 use std::marker::Model;
 use std::mem;
 use std::sync::Arc;
+
+// How many calls that have ended a worker keeps: as deep as joins mostly stand nested.
+const SPARES: usize = 64;
 
 /// What a worker performs its acts with: its own deque and its passes of the other queues, and what the program at hand
 /// has. Each act of it adds one entry to its trace, and so does a run that the worker was lent to; meanwhile the trace is set
@@ -36,13 +43,22 @@ pub struct Bench<J: JobKind> {
     pub(crate) inlet: InjectorPass<Task<J>>,
     pub(crate) thief: Option<StealPass<Task<J>>>,
     pub(crate) task: Option<Task<J>>,
-    pub(crate) call: Option<Ticket<J>>,
+    pub(crate) call: Option<Call<J>>,
+    // calls that have ended, each with the share of its ticket that went with the task and came back: they serve the next
+    // ones
+    pub(crate) spares: Option<Vec<(Call<J>, Ticket<J>)>>,
     pub(crate) reply: Option<Ticket<J>>,
     pub(crate) done: Option<Done<J>>,
     // of two sides, the first side's result, and the ticket to whose cell it goes
     pub(crate) first: Option<(Ticket<J>, Done<J>)>,
+    // the terminate latch, with the worker's own seat of it
+    pub(crate) terminate: OwnLatch,
     pub(crate) probed: bool,
     pub(crate) holds: u64,
+    // the seat of the terminate count
+    pub(crate) count: CountSeat,
+    // the seat by which a latch was set last
+    pub(crate) setter: Option<LatchSeat>,
     // the seat of the counters, but while it lies under the worker's sleep lock
     pub(crate) chair: Option<Chair>,
     pub(crate) trace: Trace,
@@ -52,8 +68,11 @@ impl<J: JobKind> Model for Bench<J> {
     ghost use Rattle.std.specs.Arc.{arc_value};
     ghost use Rattle.std.specs.Prelude.{◌≡◌, ◌<◌};
     ghost use Rattle.std.specs.Coded.{codes};
+    ghost use Rattle.rayon_atomics.specs.Tallies.{teller};
     ghost use Rattle.rayon_drive.specs.contracts.trace.Log as logs;
     ghost use Rattle.rayon_performers.specs.Hands.{Hands};
+    ghost use Rattle.rayon_performers.specs.Marks.{seat_in};
+    ghost use Rattle.rayon_tasks.specs.Calls.{latch_in, ticket_in};
 
     ghost Value = { Hands J J.Tag J.Output J.Fault };
 
@@ -67,16 +86,18 @@ impl<J: JobKind> Model for Bench<J> {
       inlet = b.inlet;
       thief = b.thief;
       task = b.task;
-      call = b.call;
+      call = ticket_in b.call;
       reply = b.reply;
       done = b.done;
+      guards = record { own = b.terminate; call = latch_in b.call };
       probed = b.probed;
       holds = b.holds;
+      marks = record { set = seat_in b.setter; count = teller b.count };
       chair = b.chair;
       trace = b.trace;
     } };
 
-    ghost invariant = { λ b. (b.inlet.injector ≡ (arc_value b.registry).injector) × (b.index < (arc_value b.registry).workers) };
+    ghost invariant = { λ b. (b.inlet.injector ≡ (arc_value b.registry).injector) × (b.index < (arc_value b.registry).workers) × (b.count.table_id ≡ (arc_value b.registry).count) };
 }
 
 impl<J: JobKind> Bench<J> {
@@ -95,7 +116,8 @@ impl<J: JobKind> Bench<J> {
         ensures empty { (result.task ≡ None) × (result.holds ≡ 0) × (result.trace ≡ Empty) }
     {
         let inlet = registry.injector().pass();
-        let (own, chair) = own.into_parts();
+        let (own, seats) = own.into_parts();
+        let (chair, terminate) = seats.into_parts();
         Bench {
             shape: registry.shape(),
             index,
@@ -105,11 +127,15 @@ impl<J: JobKind> Bench<J> {
             thief: None,
             task: None,
             call: None,
+            spares: None,
             reply: None,
             done: None,
             first: None,
+            terminate,
             probed: false,
             holds: 0,
+            count: registry.count_seat(),
+            setter: None,
             chair: Some(chair),
             trace: Trace::new(),
             registry,
@@ -143,19 +169,37 @@ impl<J: JobKind> Bench<J> {
         self.trace.add_run();
     }
 
-    /// The ticket of the call that is waited for next.
-    pub fn set_call(&mut self, call: Option<Ticket<J>>)
-        ensures { self.new ≡ record self.old { call = call } }
+    /// The call that is waited for next.
+    pub fn set_call(&mut self, call: Option<Call<J>>)
+        ensures { self.new ≡ record self.old { call = ticket_in call; guards = record { own = self.old.guards.own; call = latch_in call } } }
     {
         self.call = call;
     }
 
-    /// Takes the ticket of the call out.
-    pub fn take_call(&mut self) -> Option<Ticket<J>>
-        ensures given { result ≡ self.old.call }
-        ensures left { self.new ≡ record self.old { call = None } }
+    /// Takes the call out.
+    pub fn take_call(&mut self) -> Option<Call<J>>
+        ensures given { (ticket_in result ≡ self.old.call) × (latch_in result ≡ self.old.guards.call) }
+        ensures left { self.new ≡ record self.old { call = None; guards = record { own = self.old.guards.own; call = None } } }
     {
         self.call.take()
+    }
+
+    /// The call at hand has ended, and the one other share of its ticket came back, which was never used: its block, its
+    /// latch and both shares serve a later call. Where there is no room they are let go.
+    #[inline(always)]
+    pub fn keep_call(&mut self, alloc: Global, share: Ticket<J>)
+        ensures { self.new ≡ record self.old { call = None; guards = record { own = self.old.guards.own; call = None } } }
+    {
+        let mut spares = match self.spares.take() {
+            Some(spares) => spares,
+            None => Vec::new(alloc),
+        };
+        if let Some(call) = self.call.take() {
+            if spares.len() < SPARES {
+                drop(spares.push((call, share)));
+            }
+        }
+        self.spares = Some(spares);
     }
 
     /// The result of a run that has ended, of two sides the first one's too, and the ticket of the call to answer.

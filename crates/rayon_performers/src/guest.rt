@@ -1,5 +1,5 @@
 //! An outside caller, for the time of one call: what it performs the call's acts with, and the calls.
-ghost use Rattle.std.specs.Prelude.{◌≡◌, ◌⊎◌, [], None, Some, true, false, IfOk, IfErr, MatchResult};
+ghost use Rattle.std.specs.Prelude.{◌≡◌, ◌≤◌, ◌⊎◌, [], None, Some, true, false, IfOk, IfErr, MatchResult};
 ghost use Rattle.rayon_drive.specs.declared.trace.Log.TheVariants.{Empty};
 ghost use Rattle.rayon_drive.specs.Paths.{Driven};
 ghost use Rattle.rayon_drive.specs.Traces.{Adds};
@@ -13,13 +13,17 @@ ghost use Rattle.rayon_machine_places.specs.declared.place.Place.TheVariants as 
 ghost use Rattle.rayon_machine_places.specs.declared.place.Share.TheVariants.{OfJob, PoolValue};
 ghost use Rattle.rayon_machine_places.specs.declared.place.Then.TheVariants.{GiveBack, Resume};
 ghost use Rattle.rayon_performers.specs.Hands.{answer};
+ghost use Rattle.rayon_performers.specs.Marks.{GivesUnit, SetBy};
 ghost use Rattle.rayon_performers.specs.Pools.{shape_of};
 ghost use Rattle.rayon_performers.specs.Visiting.{IsCaller, Keeps, Stands, end_of, guest_needs, guest_on};
 ghost use Rattle.rayon_performers.specs.Visits.{Does, Needs, Takes, plan_of, ticket_of, with_pushed};
 ghost use Rattle.rayon_queues.specs.Deques.{visitor};
 
+use crate::acts::set_latch;
 use crate::registry::Registry;
 use crate::terminate::PoolHold;
+use rayon_atomics::count::CountSeat;
+use rayon_atomics::latch::LatchSeat;
 use rayon_drive::drive::{Perform, drive};
 use rayon_drive::trace::Trace;
 use rayon_jobs::{Done, JobKind};
@@ -47,13 +51,19 @@ pub struct Guest<'a, J: JobKind> {
     done: Option<Done<J>>,
     first_done: Option<Done<J>>,
     holds: bool,
+    // the seat of the terminate count
+    count: CountSeat,
+    // the seat by which a latch was set last
+    setter: Option<LatchSeat>,
     trace: Trace,
 }
 
 impl<'a, J: JobKind> Model for Guest<'a, J> {
     ghost use Rattle.std.specs.Prelude.{◌≡◌};
     ghost use Rattle.std.specs.Coded.{codes};
+    ghost use Rattle.rayon_atomics.specs.Tallies.{teller};
     ghost use Rattle.rayon_drive.specs.contracts.trace.Log as logs;
+    ghost use Rattle.rayon_performers.specs.Marks.{seat_in};
     ghost use Rattle.rayon_performers.specs.Visits.{Visit};
 
     ghost Value = { Visit J J.Tag J.Output J.Fault };
@@ -68,10 +78,11 @@ impl<'a, J: JobKind> Model for Guest<'a, J> {
       done = g.done;
       first_done = g.first_done;
       holds = g.holds;
+      marks = record { set = seat_in g.setter; count = teller g.count };
       trace = g.trace;
     } };
 
-    ghost invariant = { λ g. g.inlet.injector ≡ g.registry.now.injector };
+    ghost invariant = { λ g. (g.inlet.injector ≡ g.registry.now.injector) × (g.count.table_id ≡ g.registry.now.count) × (g.shape.workers ≡ g.registry.now.workers) };
 }
 
 impl<'a, J: JobKind> Perform for Guest<'a, J> {
@@ -102,11 +113,8 @@ impl<'a, J: JobKind> Perform for Guest<'a, J> {
             Act::Lower {
                 count: Count::OfPool(_),
                 ..
-            } => self.lower(rt),
-            Act::Set { worker, .. } => match self.registry.terminate(worker) {
-                Some(latch) => yes(latch.set(rt)),
-                None => Seen::No,
-            },
+            } => yes(self.lower(rt)),
+            Act::Set { worker, .. } => yes(self.set(worker)),
             _ => unreachable!(),
         };
         self.trace.add(act, seen);
@@ -156,6 +164,8 @@ impl<'a, J: JobKind> Guest<'a, J> {
             done: None,
             first_done: None,
             holds: false,
+            count: registry.count_seat(),
+            setter: None,
             trace: Trace::new(),
         }
     }
@@ -210,11 +220,29 @@ impl<'a, J: JobKind> Guest<'a, J> {
     }
 
     // Gives the unit of the terminate count back.
-    fn lower<R: Wait>(&mut self, rt: &R) -> Seen
-        ensures { self.new ≡ record self.old { holds = false } }
+    fn lower<R: Wait>(&mut self, rt: &R) -> bool
+        ensures same { self.new ≡ record self.old { holds = false; marks = record { set = self.old.marks.set; count = self.new.marks.count } } }
+        ensures step { GivesUnit true result self.old.marks.count self.new.marks.count }
     {
         self.holds = false;
-        yes(self.registry.decrement_terminate_count(rt))
+        self.registry.decrement_terminate_count(rt, &mut self.count)
+    }
+
+    // Sets a worker's terminate latch, by the one step that makes a seat of it.
+    fn set(&mut self, worker: usize) -> bool
+        ensures same { self.new ≡ record self.old { marks = record { set = self.new.marks.set; count = self.old.marks.count } } }
+        ensures step { SetBy (self.old.shape.workers ≤ worker) result self.new.marks.set }
+    {
+        match set_latch(self.registry.terminate(worker)) {
+            Some((slept, seat)) => {
+                self.setter = Some(seat);
+                slept
+            }
+            None => {
+                self.setter = None;
+                false
+            }
+        }
     }
 
     // Performs a call of a pool of this shape from this place on, as far as its end.
@@ -238,7 +266,7 @@ impl<'a, J: JobKind> Guest<'a, J> {
             count: Count::OfPool(0),
             job,
         };
-        match self.registry.increment_terminate_count(rt) {
+        match self.registry.increment_terminate_count(rt, &mut self.count) {
             Ok(()) => {
                 self.holds = true;
                 self.add(act, Seen::Done);
@@ -495,7 +523,7 @@ impl<'a, J: JobKind> Guest<'a, J> {
 fn tickets<J: JobKind>(alloc: Global, name: u64) -> Result<(Ticket<J>, Ticket<J>), Refusal>
     ensures { IfOk result (λ t. (t.0 ≡ ticket_of name) × (t.1 ≡ ticket_of name)) }
 {
-    let ticket = Ticket::new(alloc, CALLER, name)?;
+    let ticket = Ticket::of_caller(alloc, 0, name)?;
     let share = ticket.share()?;
     Ok((ticket, share))
 }

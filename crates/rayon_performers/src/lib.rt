@@ -6,14 +6,15 @@ mod bench;
 mod counting;
 mod guest;
 mod kit;
+mod latches;
 mod looks;
 mod registry;
 mod stretch;
 mod terminate;
-mod waiter;
 
 pub use bench::Bench;
 pub use guest::Guest;
-pub use kit::WorkerKit;
+pub use kit::{WorkerKit, WorkerSeats};
+pub use rayon_atomics::terminate::TerminateCount;
 pub use registry::Registry;
-pub use terminate::{PoolHold, TerminateCount};
+pub use terminate::PoolHold;

@@ -87,7 +87,7 @@ impl<J: JobKind> Bench<J> {
             (λ _. Driven (λ s a x t. Does a x s t) (λ s. s.trace) self.old.shape (Worker 0 self.old.index) (Stay (at.LookQueue (Detach 0 task.ticket.number))) self.old self.new Back)
             (λ _. Driven (λ s a x t. Does a x s t) (λ s. s.trace) self.old.shape (Worker 0 self.old.index) (Stay (at.LookQueue (Detach 0 task.ticket.number))) self.old self.new (Stay (undo (Detach 0 task.ticket.number)))) }
         ensures pushed { MatchResult result (λ _. StandsLast self.old.own task self.new.own) (λ back. (back ≡ task) × Unmoved self.old.own self.new.own) }
-        ensures left { SameDeque self.old.own self.new.own × (self.new ≡ record self.old { own = self.new.own; chair = self.new.chair; trace = self.new.trace }) }
+        ensures left { SameDeque self.old.own self.new.own × (self.new ≡ record self.old { own = self.new.own; marks = self.new.marks; chair = self.new.chair; trace = self.new.trace }) }
         ensures rests { Resting self.new.chair }
     {
         let name = task.number();
@@ -102,7 +102,7 @@ impl<J: JobKind> Bench<J> {
     fn tell_pushed<R: Wait>(&mut self, rt: &R, name: u64, was_empty: bool)
         requires { Resting self.old.chair }
         ensures path { Driven (λ s a x t. Does a x s t) (λ s. s.trace) self.old.shape (Worker 0 self.old.index) (Stay (at.TellNews (Detach 0 name) was_empty)) self.old self.new Back }
-        ensures same { self.new ≡ record self.old { chair = self.new.chair; trace = self.new.trace } }
+        ensures same { self.new ≡ record self.old { marks = self.new.marks; chair = self.new.chair; trace = self.new.trace } }
         ensures rests { Resting self.new.chair }
     {
         let shape = self.shape;

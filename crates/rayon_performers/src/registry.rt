@@ -1,12 +1,17 @@
 //! What the threads of a pool share.
-ghost use Rattle.std.specs.Prelude.{◌≡◌, ◌⊎◌, ◌<◌, ◌++◌, [], ◌∷◌, All, false, map, max, length, IfOk, IfErr};
+ghost use Rattle.std.specs.Prelude.{◌≡◌, ◌⊎◌, ◌<◌, ◌≤◌, ◌++◌, [], ◌∷◌, All, false, true, map, max, length, is_some, IfOk, IfErr, MatchResult};
+ghost use Rattle.rayon_atomics.specs.Tallies.{teller};
+ghost use Rattle.rayon_performers.specs.Marks.{GivesUnit, MissesUnit, TakesUnit};
 ghost use Rattle.rayon_performers.specs.Pools.{shape_of};
 ghost use Rattle.rayon_queues.specs.Deques.{IsNew};
 ghost use Rattle.rayon_sleep.specs.Berths.{Rests};
 
-use crate::kit::WorkerKit;
-use crate::terminate::{PoolHold, TerminateCount};
-use crossbeam_utils::CachePadded;
+use crate::kit::{WorkerKit, WorkerSeats};
+use crate::terminate::PoolHold;
+use rayon_atomics::count::CountSeat;
+use rayon_atomics::latch::CoreLatch;
+use rayon_atomics::own_latch::OwnLatch;
+use rayon_atomics::terminate::TerminateCount;
 use rayon_machine_places::shape::{Order, PoolShape};
 use rayon_queues::{Injector, Stealers, WorkerDeque};
 use rayon_sleep::counters::Chair;
@@ -14,7 +19,7 @@ use rayon_sleep::latch::Owner;
 use rayon_sleep::sleep::Sleep;
 use rayon_tasks::Names;
 use rayon_words::Refusal;
-use rayon_words::latch::{CoreLatch, LatchRef};
+use rayon_words::latch::LatchRef;
 use std::alloc::{AllocError, Global};
 use std::marker::Model;
 use std::sync::{Arc, Mutex, Wait};
@@ -32,8 +37,8 @@ pub struct Registry<T> {
     sleep: Arc<Sleep, Global>,
     injector: Injector<T>,
     stealers: Stealers<T>,
-    terminate_count: CachePadded<Mutex<TerminateCount>>,
-    terminate: Vec<CachePadded<CoreLatch>>,
+    terminate_count: TerminateCount,
+    terminate: Vec<Arc<CoreLatch, Global>>,
     caller_names: Mutex<Names>,
 }
 
@@ -44,9 +49,9 @@ impl<T> Model for Registry<T> {
 
     ghost Value = { Shared };
 
-    ghost view = { λ r. record { workers = r.num_threads; depth_limit = r.depth_limit; deques = r.stealers; injector = r.injector } };
+    ghost view = { λ r. record { workers = r.num_threads; depth_limit = r.depth_limit; deques = r.stealers; injector = r.injector; count = r.terminate_count.table } };
 
-    ghost invariant = { λ r. (length r.stealers ≡ r.num_threads) × (0 < r.num_threads) × (r.num_threads < 65536) × (arc_value r.sleep ≡ r.num_threads) };
+    ghost invariant = { λ r. (length r.stealers ≡ r.num_threads) × (length r.terminate.items ≡ r.num_threads) × (0 < r.num_threads) × (r.num_threads < 65536) × (arc_value r.sleep ≡ r.num_threads) };
 }
 
 impl<T: Drop> Registry<T> {
@@ -67,6 +72,7 @@ impl<T: Drop> Registry<T> {
         ensures refused { IfErr result (λ r. r ≡ Refusal.NoRoom) }
     {
         let (sleep, mut chairs) = Sleep::new(alloc, num_threads)?;
+        let (terminate_count, _) = TerminateCount::new(alloc)?;
         let (Ok(sleep), Ok(injector)) = (Arc::new(alloc, sleep), Injector::new(alloc)) else {
             return Err(Refusal::NoRoom);
         };
@@ -77,13 +83,14 @@ impl<T: Drop> Registry<T> {
             let Some(chair) = chairs.pop() else {
                 unreachable!()
             };
-            let Ok(kit) = new_kit(alloc, &mut stealers, chair) else {
+            let (latch, own) = OwnLatch::new(alloc)?;
+            let Ok(kit) = new_kit(alloc, &mut stealers, chair, own) else {
                 return Err(Refusal::NoRoom);
             };
             if deques.push(kit).is_err() {
                 return Err(Refusal::NoRoom);
             }
-            if terminate.push(CachePadded::new(CoreLatch::new())).is_err() {
+            if terminate.push(latch).is_err() {
                 return Err(Refusal::NoRoom);
             }
         }
@@ -94,7 +101,7 @@ impl<T: Drop> Registry<T> {
             sleep,
             injector,
             stealers,
-            terminate_count: CachePadded::new(Mutex::new(TerminateCount::new())),
+            terminate_count,
             terminate,
             caller_names: Mutex::new(Names::new(num_threads, num_threads + 1)),
         };
@@ -167,21 +174,41 @@ impl<T: Drop> Registry<T> {
     }
 
     /// A worker's terminate latch, if the pool has that worker.
-    pub(crate) fn terminate(&self, worker: usize) -> Option<LatchRef<'_, CoreLatch>> {
+    pub(crate) fn terminate(&self, worker: usize) -> Option<LatchRef<'_, CoreLatch>>
+        ensures { is_some result ≡ false → (length self.now.deques ≤ worker) × (self.now.workers ≤ worker) }
+    {
         let latch: &CoreLatch = self.terminate.get(worker)?;
         Some(latch)
     }
 
-    /// Takes a unit of the terminate count. Refused `Ended`, `Full`.
-    pub(crate) fn increment_terminate_count<R: Wait>(&self, rt: &R) -> Result<(), Refusal>
-        ensures { IfErr result (λ r. (r ≡ Refusal.Ended) ⊎ (r ≡ Refusal.Full)) }
+    /// A seat of the terminate count, for one party more.
+    pub(crate) fn count_seat(&self) -> CountSeat
+        ensures { result.table_id ≡ self.now.count }
     {
-        self.terminate_count.lock(rt).increment()
+        self.terminate_count.guest_seat()
+    }
+
+    /// Takes a unit of the terminate count. Refused `Ended`, `Full`.
+    pub(crate) fn increment_terminate_count<R: Wait>(
+        &self,
+        rt: &R,
+        seat: &mut CountSeat,
+    ) -> Result<(), Refusal>
+        requires { seat.old.table_id ≡ self.now.count }
+        ensures table { seat.new.table_id ≡ seat.old.table_id }
+        ensures raised { MatchResult result (λ _. TakesUnit true (teller seat.old) (teller seat.new)) (λ _. MissesUnit true (teller seat.old) (teller seat.new)) }
+        ensures refused { IfErr result (λ r. (r ≡ Refusal.Ended) ⊎ (r ≡ Refusal.Full)) }
+    {
+        self.terminate_count.increment(rt, seat)
     }
 
     /// Gives a unit of the terminate count back. True exactly if it was the last.
-    pub(crate) fn decrement_terminate_count<R: Wait>(&self, rt: &R) -> bool {
-        self.terminate_count.lock(rt).decrement()
+    pub(crate) fn decrement_terminate_count<R: Wait>(&self, rt: &R, seat: &mut CountSeat) -> bool
+        requires { seat.old.table_id ≡ self.now.count }
+        ensures table { seat.new.table_id ≡ seat.old.table_id }
+        ensures lowered { GivesUnit true result (teller seat.old) (teller seat.new) }
+    {
+        self.terminate_count.decrement(rt, seat)
     }
 
     /// A name for the job of an outside caller. None where all are used up.
@@ -190,11 +217,12 @@ impl<T: Drop> Registry<T> {
     }
 }
 
-// What one worker more begins with: its own deque, and this seat; and the stealer of the deque.
+// What one worker more begins with: its own deque, this seat and this latch; and the stealer of the deque.
 fn new_kit<T: Drop>(
     alloc: Global,
     stealers: &mut Stealers<T>,
     chair: Chair,
+    terminate: OwnLatch,
 ) -> Result<WorkerKit<T>, AllocError>
     requires { Rests chair }
     ensures stealer { IfOk result (λ d. stealers.new ≡ stealers.old ++ d.id ∷ []) }
@@ -202,5 +230,5 @@ fn new_kit<T: Drop>(
 {
     let deque = WorkerDeque::new(alloc, false)?;
     stealers.add(&deque)?;
-    Ok(WorkerKit::new(deque, chair))
+    Ok(WorkerKit::new(deque, WorkerSeats::new(chair, terminate)))
 }

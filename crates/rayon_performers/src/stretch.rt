@@ -13,16 +13,18 @@ ghost use Rattle.rayon_machine_places.specs.declared.place.Place.TheVariants as 
 ghost use Rattle.rayon_machine_places.specs.declared.place.Plan.TheVariants.{Here};
 ghost use Rattle.rayon_machine_places.specs.declared.place.Share.TheVariants.{OfJob};
 ghost use Rattle.rayon_machine_places.specs.declared.place.Taken.TheVariants.{Plain};
+ghost use Rattle.rayon_machine_places.specs.declared.place.Target.TheVariants.{Termination};
 ghost use Rattle.rayon_performers.specs.Calls.{IsJobOf, IsOneJob, own_call, own_join};
 ghost use Rattle.rayon_performers.specs.Finds.{StandsLast};
-ghost use Rattle.rayon_performers.specs.Hands.{Does, HasResult, HasTask, HasTicket, Same, kind_of};
+ghost use Rattle.rayon_performers.specs.Hands.{Does, HasResult, HasTask, HasTicket, Same, Told, kind_of};
 ghost use Rattle.rayon_performers.specs.Seats.{Resting};
 ghost use Rattle.rayon_performers.specs.Stands.{Seated, Stands, call_to};
 ghost use Rattle.rayon_performers.specs.Tails.{IsLast, IsTail};
-ghost use Rattle.rayon_performers.specs.Waits.{Rejoined, SameSeat, Waited, units_after};
+ghost use Rattle.rayon_performers.specs.Waits.{Rejoined, SameSeat, Waited, units_after, waiting_on};
 ghost use Rattle.rayon_queues.specs.Deques.{SameDeque, Unmoved};
 
 use crate::bench::Bench;
+use rayon_atomics::own_latch::OwnLatch;
 use rayon_drive::drive::drive;
 use rayon_jobs::JobKind;
 use rayon_machine_places::act::Seen;
@@ -30,7 +32,7 @@ use rayon_machine_places::place::{
     Count, Ending, Latch, Move, OpenCall, Party, Place, Plan, Share, Taken, Target, Then,
 };
 use rayon_machine_places::shape::PoolShape;
-use rayon_tasks::{Task, Ticket, Work, task_of_job, task_parts};
+use rayon_tasks::{Call, Task, Ticket, Work, task_of_job, task_parts};
 use rayon_words::Refusal;
 use std::alloc::Global;
 use std::sync::Wait;
@@ -63,6 +65,29 @@ impl<J: JobKind> Bench<J> {
         ensures seat { SameSeat self.old self.new }
     {
         self.drive(rt, Place::ProbeWorking(target.wait()))
+    }
+
+    /// Waits until this latch is set, which is no call's, and works meanwhile: as far as a task that it has found, or
+    /// to the end of the wait. Then the latch's owner has seen it set. Whoever sets it wakes this worker, as `SpinLatch`
+    /// does.
+    ///
+    /// The table has one latch of a worker's that is no call's, so the latch that was handed in stands where the worker's
+    /// terminate latch does for as long as the wait lasts. In the trace it stands under the name of that, and the end of
+    /// the wait is the place `Stopped`; the worker goes on after it.
+    pub fn wait_on<R: Wait>(&mut self, rt: &R, latch: &mut OwnLatch) -> Move
+        requires { Resting self.old.chair }
+        ensures path { Driven (λ s a x t. Does a x s t) (λ s. s.trace) self.old.shape (Worker 0 self.old.index) (Stay (at.ProbeWorking (fresh Termination))) (waiting_on latch.old self.old) (waiting_on latch.new self.new) result }
+        ensures stands { Stands (waiting_on latch.new self.new) result }
+        ensures rests { Resting self.new.chair }
+        ensures ends { Waited Termination result }
+        ensures units { self.new.holds ≡ self.old.holds }
+        ensures seat { SameSeat self.old self.new }
+        ensures own { self.new.guards.own ≡ self.old.guards.own }
+    {
+        self.exchange_latch(latch);
+        let ended = self.wait(rt, Target::Termination);
+        self.exchange_latch(latch);
+        ended
     }
 
     // Goes on from what an act saw at this place, as this worker of a pool of this shape.
@@ -108,7 +133,7 @@ impl<J: JobKind> Bench<J> {
         requires last { IsLast then }
         requires tail { IsTail (Worker 0 index) then (next_of shape (Worker 0 index) place seen) }
         ensures path { Driven (λ s a x t. Does a x s t) (λ s. s.trace) shape (Worker 0 index) (next_of shape (Worker 0 index) place seen) self.old self.new (finish (Worker 0 index) then) }
-        ensures same { Same self.old self.new }
+        ensures same { Told self.old self.new }
         ensures rests { Resting self.new.chair }
     {
         self.go_on_from(rt, shape, index, place, seen);
@@ -121,7 +146,7 @@ impl<J: JobKind> Bench<J> {
         requires last { IsLast then }
         requires rests { Resting self.old.chair }
         ensures path { Driven (λ s a x t. Does a x s t) (λ s. s.trace) self.old.shape (Worker 0 self.old.index) (Stay (at.LowerCount (OfPool 0) (OfJob job) then)) self.old self.new (finish (Worker 0 self.old.index) then) }
-        ensures same { self.new ≡ record self.old { holds = self.old.holds - 1; trace = self.new.trace } }
+        ensures same { self.new ≡ record self.old { holds = self.old.holds - 1; marks = self.new.marks; trace = self.new.trace } }
         ensures rests { Resting self.new.chair }
     {
         let shape = self.shape;
@@ -138,7 +163,7 @@ impl<J: JobKind> Bench<J> {
     }
 
     /// A join offers its second side, a job that has this name: Raise, Grow, LookOwn, PushOwn, News and its wakes, as
-    /// far as the run of its first side. Answers the join's ticket. Refused `Ended`, `Full`, `NoRoom`, with the job
+    /// far as the run of its first side. Answers the join's call. Refused `Ended`, `Full`, `NoRoom`, with the job
     /// back, nothing pushed, and the unit of the terminate count given back.
     #[inline(always)]
     pub fn offer<R: Wait>(
@@ -148,19 +173,19 @@ impl<J: JobKind> Bench<J> {
         name: u64,
         job: J,
         injected: bool,
-    ) -> Result<Ticket<J>, (Refusal, J)>
+    ) -> Result<Call<J>, (Refusal, J)>
         requires { Resting self.old.chair }
         ensures path { MatchResult result
             (λ _. Driven (λ s a x t. Does a x s t) (λ s. s.trace) self.old.shape (Worker 0 self.old.index) (Stay (at.RaiseCount (own_join name))) self.old self.new (StartRun (at.FirstSide (own_call name) name) name))
             (λ _. Driven (λ s a x t. Does a x s t) (λ s. s.trace) self.old.shape (Worker 0 self.old.index) (Stay (at.RaiseCount (own_join name))) self.old self.new (HandBack (own_join name))) }
         ensures pushed { MatchResult result
-            (λ t. StandsLast self.old.own (record { work = OneJob job; injected = injected; ticket = t }) self.new.own)
+            (λ c. StandsLast self.old.own (record { work = OneJob job; injected = injected; ticket = c.ticket }) self.new.own)
             (λ e. (e.1 ≡ job) × Unmoved self.old.own self.new.own) }
         ensures deque { SameDeque self.old.own self.new.own }
-        ensures ticket { IfOk result (λ t. t ≡ record { owner = Worker 0 self.old.index; number = name }) }
+        ensures ticket { IfOk result (λ c. c.ticket ≡ record { owner = Worker 0 self.old.index; number = name }) }
         ensures left { MatchResult result
-            (λ _. self.new ≡ record self.old { own = self.new.own; holds = self.old.holds + 1; chair = self.new.chair; trace = self.new.trace })
-            (λ _. self.new ≡ record self.old { own = self.new.own; trace = self.new.trace }) }
+            (λ _. self.new ≡ record self.old { own = self.new.own; holds = self.old.holds + 1; marks = self.new.marks; chair = self.new.chair; trace = self.new.trace })
+            (λ _. self.new ≡ record self.old { own = self.new.own; marks = self.new.marks; trace = self.new.trace }) }
         ensures rests { Resting self.new.chair }
         ensures refused { IfErr result (λ e. (e.0 ≡ Refusal.Ended) ⊎ ((e.0 ≡ Refusal.Full) ⊎ (e.0 ≡ Refusal.NoRoom))) }
     {
@@ -173,7 +198,7 @@ impl<J: JobKind> Bench<J> {
         if let Err(refusal) = self.raise(rt, name) {
             return Err((refusal, job));
         }
-        let Some((ticket, share)) = self.grow(alloc, name) else {
+        let Some((held, share)) = self.grow(alloc, name) else {
             self.lower_then(rt, name, Then::GiveBack(plan));
             return Err((Refusal::NoRoom, job));
         };
@@ -183,7 +208,7 @@ impl<J: JobKind> Bench<J> {
             return Err((Refusal::NoRoom, only_job(task)));
         }
         self.tell_news(rt, name, was_empty);
-        Ok(ticket)
+        Ok(held)
     }
 
     // Tells that a join's second side was pushed, and wakes whom that owes a wake, before its first side runs.
@@ -191,7 +216,7 @@ impl<J: JobKind> Bench<J> {
     fn tell_news<R: Wait>(&mut self, rt: &R, name: u64, was_empty: bool)
         requires { Resting self.old.chair }
         ensures path { Driven (λ s a x t. Does a x s t) (λ s. s.trace) self.old.shape (Worker 0 self.old.index) (Stay (at.TellNews (own_join name) was_empty)) self.old self.new (StartRun (at.FirstSide (own_call name) name) name) }
-        ensures same { self.new ≡ record self.old { chair = self.new.chair; trace = self.new.trace } }
+        ensures same { self.new ≡ record self.old { marks = self.new.marks; chair = self.new.chair; trace = self.new.trace } }
         ensures rests { Resting self.new.chair }
     {
         let shape = self.shape;
@@ -219,7 +244,7 @@ impl<J: JobKind> Bench<J> {
         ensures path { MatchResult result
             (λ _. Driven (λ s a x t. Does a x s t) (λ s. s.trace) self.old.shape (Worker 0 self.old.index) (Stay (at.RaiseCount (Here 0 name))) self.old self.new (Enter (at.AtOnce 0 name) (at.BeginHere name)))
             (λ _. Driven (λ s a x t. Does a x s t) (λ s. s.trace) self.old.shape (Worker 0 self.old.index) (Stay (at.RaiseCount (Here 0 name))) self.old self.new (HandBack (Here 0 name))) }
-        ensures left { MatchResult result (λ _. self.new ≡ record self.old { holds = self.old.holds + 1; trace = self.new.trace }) (λ _. Same self.old self.new) }
+        ensures left { MatchResult result (λ _. self.new ≡ record self.old { holds = self.old.holds + 1; marks = self.new.marks; trace = self.new.trace }) (λ _. Told self.old self.new) }
         ensures refused { IfErr result (λ r. (r ≡ Refusal.Ended) ⊎ (r ≡ Refusal.Full)) }
     {
         self.raise(rt, name)
@@ -254,7 +279,7 @@ impl<J: JobKind> Bench<J> {
         requires done { HasResult self.old.done (Some ending) }
         requires rests { Resting self.old.chair }
         ensures path { Driven (λ s a x t. Does a x s t) (λ s. s.trace) self.old.shape (Worker 0 self.old.index) (Stay (at.StoreResult call owner ending)) self.old self.new Back }
-        ensures same { self.new ≡ record self.old { done = None; trace = self.new.trace } }
+        ensures same { self.new ≡ record self.old { done = None; marks = self.new.marks; trace = self.new.trace } }
         ensures rests { Resting self.new.chair }
     {
         let shape = self.shape;
@@ -285,7 +310,7 @@ impl<J: JobKind> Bench<J> {
     {
         let shape = self.shape;
         let index = self.index;
-        if self.probe(rt, Latch::OfCall(call.number)) {
+        if self.probe(Latch::OfCall(call.number)) {
             return Err(self.go_on_from(rt, shape, index, Place::JoinProbe(call), Seen::Yes));
         }
         let popped = self.pop_own();

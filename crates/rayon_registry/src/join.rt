@@ -21,7 +21,8 @@ use crate::job::Waits;
 use crate::worker_thread::{Lent, WorkerThread};
 use rayon_jobs::{Done, JobKind, Lost, claimed};
 use rayon_machine_places::place::{Ending, Move, OpenCall, Place, Target, Then};
-use rayon_tasks::{Task, Ticket, task_parts};
+use rayon_sleep::latch::OwnLatch;
+use rayon_tasks::{Call, Task, Ticket, task_parts};
 use rayon_words::{CallError, Refusal};
 use std::alloc::Global;
 use std::marker::Model;
@@ -45,6 +46,8 @@ impl<J: JobKind> Model for PairRun<J> {
 /// A second side that was pushed. It has no `Drop`: the join has to be finished.
 pub struct Fork<J: JobKind> {
     ticket: Ticket<J>,
+    // the ticket's latch, with the worker's own seat of it
+    latch: OwnLatch,
     tag: J::Tag,
 }
 
@@ -117,8 +120,9 @@ impl<J: JobKind> WorkerThread<J> {
             return Err((Refusal::Full, b));
         };
         let tag = b.tag();
-        let ticket = self.bench.offer(rt, alloc, name, b, injected)?;
-        Ok(Fork { ticket, tag })
+        let held = self.bench.offer(rt, alloc, name, b, injected)?;
+        let Call { ticket, latch } = held;
+        Ok(Fork { ticket, latch, tag })
     }
 
     // Waits for the second side, takes its result beside the tag that was handed in, and gives the count back.
@@ -136,8 +140,9 @@ impl<J: JobKind> WorkerThread<J> {
         ensures ended { EndedCall self.old self.new }
         ensures path { Met self.old.shape (Worker 0 self.old.seat) fork.ticket.number (ended_so first_faulted) self.old.acts self.new.acts }
     {
-        let Fork { ticket, tag } = fork;
+        let Fork { ticket, latch, tag } = fork;
         let name = ticket.number();
+        let held = Call { ticket, latch };
         let call = OpenCall {
             number: name,
             pool: 0,
@@ -148,9 +153,9 @@ impl<J: JobKind> WorkerThread<J> {
                 call,
                 first: Some(Ending::Fault),
             };
-            self.wait_for(rt, alloc, target, Some(ticket))
+            self.wait_for(rt, alloc, target, Some(held))
         } else {
-            self.second_side(rt, alloc, call, ticket)
+            self.second_side(rt, alloc, call, held)
         };
         (found, tag)
     }
@@ -164,18 +169,18 @@ impl<J: JobKind> WorkerThread<J> {
         rt: &R,
         alloc: Global,
         call: OpenCall,
-        ticket: Ticket<J>,
+        held: Call<J>,
     ) -> Option<Done<J>>
         requires some { 0 < self.old.levels }
         requires levels { self.old.levels ≤ R.levels rt.now }
-        requires ticket { ticket.number ≡ call.number }
+        requires ticket { held.ticket.number ≡ call.number }
         requires pool { call.pool ≡ 0 }
         ensures ended { EndedCall self.old self.new }
         ensures path { Worked self.old.shape (Worker 0 self.old.seat) (Stay (at.JoinProbe call)) self.old.acts self.new.acts Back }
     {
-        let mut ticket = Some(ticket);
+        let mut held = Some(held);
         for _ in rt.forever() {
-            self.bench.set_call(ticket);
+            self.bench.set_call(held);
             match self.bench.reclaim(rt, call) {
                 Ok(()) => {
                     let Some(task) = self.bench.take_task() else {
@@ -189,14 +194,14 @@ impl<J: JobKind> WorkerThread<J> {
                         place: Place::BeginTask(name),
                     },
                 ) => {
-                    ticket = self.bench.take_call();
+                    held = self.bench.take_call();
                     self.bench.begin_task(name);
                     let Some(task) = self.bench.take_task() else {
                         unreachable!()
                     };
                     self.run_task(rt, alloc, task);
                     if let Place::ProbeWorking(wait) = frame {
-                        return self.wait_for(rt, alloc, wait.target, ticket);
+                        return self.wait_for(rt, alloc, wait.target, held);
                     }
                 }
                 Err(_) => return self.bench.take_done(),
@@ -220,7 +225,8 @@ impl<J: JobKind> WorkerThread<J> {
         ensures ended { EndedCall self.old self.new }
         ensures path { Lowered self.old.shape (Worker 0 self.old.seat) call self.old.acts self.new.acts }
     {
-        let (work, injected, _ticket) = task_parts(task);
+        let (work, injected, share) = task_parts(task);
+        self.bench.keep_call(alloc, share);
         self.bench.begin_here(call.job);
         let (done, first) = self.run_work(rt, alloc, work, injected);
         if let Some((ticket, done)) = first {

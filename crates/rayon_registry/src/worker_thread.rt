@@ -2,6 +2,7 @@
 ghost use Rattle.rayon_performers.specs.Hands.{HasTicket};
 ghost use Rattle.rayon_performers.specs.Stands.{call_to};
 ghost use Rattle.rayon_queues.specs.Deques.{Leaves};
+ghost use Rattle.rayon_tasks.specs.Calls.{ticket_in};
 ghost use Rattle.rayon_machine_places.specs.Places.{fresh, undo};
 ghost use Rattle.rayon_machine_places.specs.declared.place.Move.TheVariants.{Back, Stay};
 ghost use Rattle.rayon_machine_places.specs.declared.place.Party.TheVariants.{Worker};
@@ -29,9 +30,8 @@ use rayon_drive::trace::Trace;
 use rayon_jobs::{Done, JobKind};
 use rayon_machine_places::place::{Ending, Move, Place, Target, Then};
 use rayon_performers::{Bench, WorkerKit};
-use rayon_sleep::latch::Owner;
-use rayon_tasks::{Names, Pair, Task, Ticket, Work, task_parts};
-use rayon_words::latch::{CoreLatch, LatchRef};
+use rayon_sleep::latch::{OwnLatch, Owner};
+use rayon_tasks::{Call, Names, Pair, Task, Ticket, Work, task_parts};
 use rayon_words::{CallError, Refusal};
 use std::alloc::Global;
 use std::marker::Model;
@@ -261,13 +261,14 @@ impl<J: JobKind> WorkerThread<J> {
         &mut self,
         rt: &R,
         alloc: Global,
-        latch: LatchRef<'_, CoreLatch>,
+        latch: &mut OwnLatch,
     ) -> Result<(), Refusal>
         requires levels { self.old.levels ≤ R.levels rt.now }
         ensures refused { MatchResult result (λ _. 0 < self.old.levels) (λ r. (r ≡ Refusal.TooDeep) × (self.old.levels ≡ 0) × (self.new ≡ self.old)) }
         ensures same { SameWorker self.old self.new }
         ensures path { IfOk result (λ _. Worked self.old.shape (Worker 0 self.old.seat) (Stay (at.ProbeWorking (fresh Termination))) self.old.acts self.new.acts (Stay at.Stopped)) }
         ensures set { IfOk result (λ _. self.new.probed ≡ true) }
+        ensures latch { IfOk result (λ _. latch.new.seen ≡ true) }
     {
         if self.levels == 0 {
             return Err(Refusal::TooDeep);
@@ -301,7 +302,7 @@ impl<J: JobKind> WorkerThread<J> {
         }
     }
 
-    // Waits for this, with the ticket of the call if it is a call's result, and runs the tasks that it meets meanwhile.
+    // Waits for this, with the call if it is a call's result, and runs the tasks that it meets meanwhile.
     // Answers the result that was found.
     #[tactic(auto, unfolding(crate::specs::Pushes::units_of, crate::specs::Pushes::shape_at, crate::specs::Pushes::seat_of))]
     pub(crate) fn wait_for<R: Waits<J>>(
@@ -309,23 +310,23 @@ impl<J: JobKind> WorkerThread<J> {
         rt: &R,
         alloc: Global,
         target: Target,
-        ticket: Option<Ticket<J>>,
+        held: Option<Call<J>>,
     ) -> Option<Done<J>>
         requires some { 0 < self.old.levels }
         requires levels { self.old.levels ≤ R.levels rt.now }
-        requires ticket { HasTicket ticket (call_to target) }
+        requires ticket { HasTicket (ticket_in held) (call_to target) }
         ensures after { AfterWait target self.old self.new }
         ensures path { Worked self.old.shape (Worker 0 self.old.seat) (Stay (at.ProbeWorking (fresh target))) self.old.acts self.new.acts (wait_end target) }
     {
-        let mut ticket = ticket;
+        let mut held = held;
         for _ in rt.forever() {
-            self.bench.set_call(ticket);
+            self.bench.set_call(held);
             match self.bench.wait(rt, target) {
                 Move::Enter {
                     place: Place::BeginTask(name),
                     ..
                 } => {
-                    ticket = self.bench.take_call();
+                    held = self.bench.take_call();
                     self.bench.begin_task(name);
                     let Some(task) = self.bench.take_task() else {
                         unreachable!()

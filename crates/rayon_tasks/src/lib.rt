@@ -2,12 +2,14 @@
 //! tickets that only a call makes, and tasks that are opaque to who has no more than one.
 #![tactic(auto)]
 
+mod call;
 mod call_latch;
 mod names;
 mod task;
 mod ticket;
 mod work;
 
+pub use call::Call;
 pub use names::{Names, law_names};
 pub use task::{Task, task_of_job, task_of_pair, task_parts};
 pub use ticket::Ticket;

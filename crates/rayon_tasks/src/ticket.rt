@@ -1,23 +1,25 @@
 //! What a waiting call is known by, and where its job's result goes.
+ghost use Rattle.rayon_machine_places.specs.declared.place.Party.TheVariants.{Caller};
+ghost use Rattle.rayon_tasks.specs.Latches.{is_core};
 ghost use Rattle.rayon_tasks.specs.Tickets.{is_worker};
 ghost use Rattle.rayon_words.specs.declared.refusal.Refusal.TheVariants.{NoRoom};
 ghost use Rattle.std.specs.Prelude.{◌≡◌, ℕ, is_some, not, IfOk, IfErr};
 
 use crate::call_latch::CallLatch;
+use rayon_atomics::latch::CoreLatch;
 use rayon_jobs::{Cell, Done, JobKind};
 use rayon_machine_places::place::Party;
 use rayon_words::Refusal;
-use rayon_words::latch::{CoreLatch, LockLatch};
+use rayon_words::latch::LockLatch;
 use std::alloc::Global;
 use std::marker::Model;
 use std::sync::{Arc, Mutex, Wait};
 
-// One block of memory for a call: who made it, the name of its job, the latch that it waits on, and the place for the
-// result.
+// One block of memory for a call: who made it, the latch that it waits on, and the place for the result. The name of its
+// job stands beside each share, so that the block can serve a later call.
 #[derive(Drop)]
 struct Frame<J: JobKind> {
     owner: Party,
-    number: u64,
     latch: CallLatch,
     cell: Mutex<Cell<J>>,
 }
@@ -28,6 +30,7 @@ struct Frame<J: JobKind> {
 #[derive(Drop)]
 pub struct Ticket<J: JobKind> {
     frame: Arc<Frame<J>, Global>,
+    number: u64,
 }
 
 impl<J: JobKind> Model for Ticket<J> {
@@ -38,30 +41,40 @@ impl<J: JobKind> Model for Ticket<J> {
 
     ghost Value = { TicketOf };
 
-    ghost view = { λ t. record { owner = (arc_value t.frame).owner; number = (arc_value t.frame).number } };
+    ghost view = { λ t. record { owner = (arc_value t.frame).owner; number = t.number } };
 
     ghost invariant = { λ t. is_core (arc_value t.frame).latch ≡ is_worker (arc_value t.frame).owner };
 }
 
 impl<J: JobKind> Ticket<J> {
-    /// The ticket of a party's call for the job of this name, with an unset latch, a core latch for a worker and a lock
-    /// latch for an outside caller, and an empty cell. Refused `NoRoom`.
-    pub fn new(alloc: Global, owner: Party, number: u64) -> Result<Ticket<J>, Refusal>
+    /// The ticket of an outside caller's call for the job of this name, with an unset lock latch and an empty cell.
+    /// Refused `NoRoom`.
+    pub fn of_caller(alloc: Global, caller: usize, number: u64) -> Result<Ticket<J>, Refusal>
+        ensures made { IfOk result (λ t. t ≡ record { owner = Caller caller; number = number }) }
+        ensures refused { IfErr result (λ refusal. refusal ≡ NoRoom) }
+    {
+        let latch = CallLatch::Lock(LockLatch::new());
+        Ticket::with_latch(alloc, Party::Caller(caller), number, latch)
+    }
+
+    // The ticket of a party's call for the job of this name, which waits on this latch. Refused `NoRoom`.
+    pub(crate) fn with_latch(
+        alloc: Global,
+        owner: Party,
+        number: u64,
+        latch: CallLatch,
+    ) -> Result<Ticket<J>, Refusal>
+        requires { is_core latch ≡ is_worker owner }
         ensures made { IfOk result (λ t. t ≡ record { owner = owner; number = number }) }
         ensures refused { IfErr result (λ refusal. refusal ≡ NoRoom) }
     {
-        let latch = match owner {
-            Party::Worker { .. } => CallLatch::Core(CoreLatch::new()),
-            Party::Caller(_) => CallLatch::Lock(LockLatch::new()),
-        };
         let frame = Frame {
             owner,
-            number,
             latch,
             cell: Mutex::new(Cell::new()),
         };
         match Arc::new(alloc, frame) {
-            Ok(frame) => Ok(Ticket { frame }),
+            Ok(frame) => Ok(Ticket { frame, number }),
             Err(_) => Err(Refusal::NoRoom),
         }
     }
@@ -72,9 +85,20 @@ impl<J: JobKind> Ticket<J> {
         ensures refused { IfErr result (λ refusal. refusal ≡ NoRoom) }
     {
         match Arc::try_clone(&self.frame) {
-            Ok(frame) => Ok(Ticket { frame }),
+            Ok(frame) => Ok(Ticket {
+                frame,
+                number: self.number,
+            }),
             Err(_) => Err(Refusal::NoRoom),
         }
+    }
+
+    /// The same ticket for a later call, for the job of this name.
+    pub fn renamed(self, number: u64) -> Ticket<J>
+        ensures { result ≡ record self { number = number } }
+    {
+        let Ticket { frame, number: _ } = self;
+        Ticket { frame, number }
     }
 
     /// Who made the call.
@@ -88,7 +112,7 @@ impl<J: JobKind> Ticket<J> {
     pub fn number(&self) -> u64
         ensures { result ≡ self.now.number }
     {
-        self.frame.number
+        self.number
     }
 
     /// The core latch that the call waits on, exactly of a worker's call.

@@ -29,7 +29,7 @@ returns-in_default-grow-clause-path g c =
     let u = c.grow.new.self in
     and_then h i first s (Stay (undo (own_join n))) (HandBack (own_join n)) u c.lower_then.new.self
     (join_not_grown h i n first s t u raised c.in_default-grow.ensures.same c.in_default-grow.ensures.grown)
-    (of_worker s u c.lower_then.new.self (Stay (undo (own_join n))) (HandBack (own_join n)) (ap (λ z. z.shape) c.in_default-grow.ensures.same ∙ ap (λ z. z.shape) c.in_default.ensures.does) (ap (λ z. z.index) c.in_default-grow.ensures.same ∙ ap (λ z. z.index) c.in_default.ensures.does) c.lower_then.ensures.path)
+    (of_worker s u c.lower_then.new.self (Stay (undo (own_join n))) (HandBack (own_join n)) (ap (λ z. z.shape) c.in_default-grow.ensures.same ∙ ap (λ z. z.shape) c.in_default.ensures.does.0) (ap (λ z. z.index) c.in_default-grow.ensures.same ∙ ap (λ z. z.index) c.in_default.ensures.does.0) c.lower_then.ensures.path)
 
 pub returns-in-Err-push_own-clause-path : goal.returns-in-Err-push_own-clause-path
 returns-in-Err-push_own-clause-path g c =
@@ -47,7 +47,7 @@ returns-in-Err-push_own-clause-path g c =
     let w = c.push_own.new.self in
     and_then h i first s (Stay (undo (own_join n))) (HandBack (own_join n)) w c.lower_then-in-Err-push_own.new.self
     (join_not_pushed h i n first s v w c.look_own-was_empty.result looked (c.in-Err-push_own.ensures.same.0, c.in-Err-push_own.ensures.pushed.1, c.in-Err-push_own.ensures.same.1) c.in-Err-push_own.ensures.pushed.2)
-    (of_worker s w c.lower_then-in-Err-push_own.new.self (Stay (undo (own_join n))) (HandBack (own_join n)) (ap (λ z. z.shape) c.in-Err-push_own.ensures.same.1 ∙ ap (λ z. z.shape) c.look_own-was_empty.ensures.does.2 ∙ ap (λ z. z.shape) c.in-Some.ensures.same ∙ ap (λ z. z.shape) c.in_default.ensures.does) (ap (λ z. z.index) c.in-Err-push_own.ensures.same.1 ∙ ap (λ z. z.index) c.look_own-was_empty.ensures.does.2 ∙ ap (λ z. z.index) c.in-Some.ensures.same ∙ ap (λ z. z.index) c.in_default.ensures.does) c.lower_then-in-Err-push_own.ensures.path)
+    (of_worker s w c.lower_then-in-Err-push_own.new.self (Stay (undo (own_join n))) (HandBack (own_join n)) (ap (λ z. z.shape) c.in-Err-push_own.ensures.same.1 ∙ ap (λ z. z.shape) c.look_own-was_empty.ensures.does.2 ∙ ap (λ z. z.shape) c.in-Some.ensures.same ∙ ap (λ z. z.shape) c.in_default.ensures.does.0) (ap (λ z. z.index) c.in-Err-push_own.ensures.same.1 ∙ ap (λ z. z.index) c.look_own-was_empty.ensures.does.2 ∙ ap (λ z. z.index) c.in-Some.ensures.same ∙ ap (λ z. z.index) c.in_default.ensures.does.0) c.lower_then-in-Err-push_own.ensures.path)
 
 pub returns-clause-path : goal.returns-clause-path
 returns-clause-path g c =
@@ -65,4 +65,4 @@ returns-clause-path g c =
     let w = c.push_own.new.self in
     and_then h i first s (Stay (at.TellNews (own_join n) c.look_own-was_empty.result)) (StartRun (at.FirstSide (own_call n) n) n) w c.tell_news.new.self
     (join_pushed h i n first s v w c.look_own-was_empty.result looked (c.task_of_job.result, c.in_default-push_own.ensures.pushed.0, c.in_default-push_own.ensures.same.0, c.in_default-push_own.ensures.same.1) c.in_default-push_own.ensures.pushed.1)
-    (of_worker s w c.tell_news.new.self (Stay (at.TellNews (own_join n) c.look_own-was_empty.result)) (StartRun (at.FirstSide (own_call n) n) n) (ap (λ z. z.shape) c.in_default-push_own.ensures.same.1 ∙ ap (λ z. z.shape) c.look_own-was_empty.ensures.does.2 ∙ ap (λ z. z.shape) c.in-Some.ensures.same ∙ ap (λ z. z.shape) c.in_default.ensures.does) (ap (λ z. z.index) c.in_default-push_own.ensures.same.1 ∙ ap (λ z. z.index) c.look_own-was_empty.ensures.does.2 ∙ ap (λ z. z.index) c.in-Some.ensures.same ∙ ap (λ z. z.index) c.in_default.ensures.does) c.tell_news.ensures.path)
+    (of_worker s w c.tell_news.new.self (Stay (at.TellNews (own_join n) c.look_own-was_empty.result)) (StartRun (at.FirstSide (own_call n) n) n) (ap (λ z. z.shape) c.in_default-push_own.ensures.same.1 ∙ ap (λ z. z.shape) c.look_own-was_empty.ensures.does.2 ∙ ap (λ z. z.shape) c.in-Some.ensures.same ∙ ap (λ z. z.shape) c.in_default.ensures.does.0) (ap (λ z. z.index) c.in_default-push_own.ensures.same.1 ∙ ap (λ z. z.index) c.look_own-was_empty.ensures.does.2 ∙ ap (λ z. z.index) c.in-Some.ensures.same ∙ ap (λ z. z.index) c.in_default.ensures.does.0) c.tell_news.ensures.path)

@@ -6,6 +6,7 @@ use Rattle.rayon_machine_places.specs.declared.place.Latch.TheVariants.{OfCall}
 use Rattle.rayon_machine_places.specs.declared.act.Act.TheVariants as acts
 use Rattle.rayon_machine_places.specs.declared.act.Seen.TheVariants.{Yes, No}
 use Rattle.rayon_machine_places.specs.Places.{next_of}
+use Rattle.rayon_performers.specs.Keeps.{stands_on}
 use Rattle.rayon_performers.specs.Seating.{seat_on}
 use Rattle.rayon_performers.specs.Seats.{Resting}
 use Rattle.rayon_performers.proofs.Holds.{chain, does_holds, does_stays, drive_stays, join_holds, popped_closes, seat_then}
@@ -14,11 +15,14 @@ use Rattle.rayon_performers.proofs.Offers.{join_probed, join_popped, own_popped}
 use Rattle.rayon_performers.proofs.Stretches.{So, and_then}
 use Rattle.rayon_performers.proofs.bench.Bench.reclaim.Goals as goal
 
+pub go_on_from-requires-clause-hands : goal.go_on_from-requires-clause-hands
+go_on_from-requires-clause-hands g c = stands_on c.args.self.now c.probe.new.self c.args.self.now.shape 0 c.args.self.now.index (at.JoinProbe c.args.call) Yes refl (record { task = tt; call = c.requires.ticket; reply = tt; done = tt; probed = tt }, tt) c.if-probe.ensures.does
+
 pub go_on_from-requires-clause-seat : goal.go_on_from-requires-clause-seat
-go_on_from-requires-clause-seat g c = subst (λ z. Resting z.chair) (sym c.if-probe.ensures.does) c.requires.rests
+go_on_from-requires-clause-seat g c = subst (λ z. Resting z.chair) (sym c.if-probe.ensures.does.0) c.requires.rests
 
 pub go_on_from-requires-2-clause-seat : goal.go_on_from-requires-2-clause-seat
-go_on_from-requires-2-clause-seat g c = seat_on c.probe.new.self c.pop_own-popped.new.self c.args.self.now.shape 0 c.args.self.now.index (at.JoinPop c.args.call) c.pop_own-popped.result refl tt (subst (λ z. Resting z.chair) (sym c.if-probe.ensures.does) c.requires.rests) c.pop_own-popped.ensures.does
+go_on_from-requires-2-clause-seat g c = seat_on c.probe.new.self c.pop_own-popped.new.self c.args.self.now.shape 0 c.args.self.now.index (at.JoinPop c.args.call) c.pop_own-popped.result refl tt (subst (λ z. Resting z.chair) (sym c.if-probe.ensures.does.0) c.requires.rests) c.pop_own-popped.ensures.does
 
 pub returns-then-probe-clause-path : goal.returns-then-probe-clause-path
 returns-then-probe-clause-path g c =

@@ -5,6 +5,8 @@ use Rattle.rayon_machine_places.specs.declared.act.Seen.TheVariants as saw
 use Rattle.rayon_machine_places.specs.Places.{undo}
 use Rattle.rayon_performers.specs.Visits.{plan_of}
 use Rattle.rayon_performers.proofs.Visits.{So, so_far, by_act, and_then, grown_two}
+use Rattle.rayon_atomics.specs.Tallies.{teller}
+use Rattle.rayon_performers.specs.Marks.{seat_in}
 use Rattle.rayon_performers.proofs.guest.Guest.send_pair.Goals as goal
 
 pub returns-in-Err-clause-path : goal.returns-in-Err-clause-path
@@ -36,8 +38,8 @@ returns-in-Ok-queue-clause-path g c =
     let queued = and_then h first s (Stay (at.LookQueue plan)) Back c.grow_pair.new.self c.queue.new.self grown (subst (λ v. So v.shape (Stay (at.LookQueue plan)) c.grow_pair.new.self Back c.queue.new.self) c.self.view_is c.in-Ok-queue.ensures.path) in
     let seen = subst (λ v. So h first s Back v) (sym c.self-2.view_is) queued in
     let i = c.self-2.inside in
-    let one = subst (λ d. So h first s Back (record { shape = i.shape; inlet = i.inlet; call = i.call; first = i.first; done = i.done; first_done = d; holds = i.holds; trace = i.trace })) (sym c.take.ensures.value) seen in
-    subst (λ d. So h first s Back (record { shape = i.shape; inlet = i.inlet; call = i.call; first = i.first; done = d; first_done = c.take.result; holds = i.holds; trace = i.trace })) (sym c.take-in-Ok-queue.ensures.value) one
+    let one = subst (λ d. So h first s Back (record { shape = i.shape; inlet = i.inlet; call = i.call; first = i.first; done = i.done; first_done = d; holds = i.holds; marks = record { set = seat_in i.setter; count = teller i.count }; trace = i.trace })) (sym c.take.ensures.value) seen in
+    subst (λ d. So h first s Back (record { shape = i.shape; inlet = i.inlet; call = i.call; first = i.first; done = d; first_done = c.take.result; holds = i.holds; marks = record { set = seat_in i.setter; count = teller i.count }; trace = i.trace })) (sym c.take-in-Ok-queue.ensures.value) one
 
 pub returns-in-Pair-clause-path : goal.returns-in-Pair-clause-path
 returns-in-Pair-clause-path g c =

@@ -36,4 +36,7 @@ loop-preserved g c =
     let news = c.new_kit.new.stealers in
     let e = pushed c.push.result xs (xs ++ x ∷ []) zs (sym c.is_err.ensures.value ∙ c.if-is_err.false) c.push.ensures.items in
     let n = c.in-Ok.ensures.stealer in
-    (more ids news x.id c.loop.counter n c.loop.invariant.0, tied xs zs x ids news e n c.loop.invariant.1, all_new xs zs x e c.loop.invariant.2 c.in-Ok.ensures.empty, more xs zs x c.loop.counter e c.loop.invariant.3, fewer c.loop.chairs.items c.pop.new.self.items c.pop.result c.in-Some.chair c.loop.counter c.args.num_threads c.in-Some.is c.pop.ensures.items c.loop.invariant.4, (All-pop (λ w. w ≡ fresh c.args.num_threads 1) c.loop.chairs.items c.pop.new.self.items c.pop.result c.pop.ensures.items c.loop.invariant.5).0)
+    let ls = c.loop.terminate.items in
+    let ms = c.push-in-loop.new.self.items in
+    let f = pushed c.push-in-loop.result ls _ ms (sym c.is_err-in-loop.ensures.value ∙ c.if-is_err-2.false) c.push-in-loop.ensures.items in
+    (more ids news x.id c.loop.counter n c.loop.invariant.0, tied xs zs x ids news e n c.loop.invariant.1, all_new xs zs x e c.loop.invariant.2 c.in-Ok.ensures.empty, more xs zs x c.loop.counter e c.loop.invariant.3, fewer c.loop.chairs.items c.pop.new.self.items c.pop.result c.in-Some.chair c.loop.counter c.args.num_threads c.in-Some.is c.pop.ensures.items c.loop.invariant.4, (All-pop (λ w. w ≡ fresh c.args.num_threads 1) c.loop.chairs.items c.pop.new.self.items c.pop.result c.pop.ensures.items c.loop.invariant.5).0, more ls ms _ c.loop.counter f c.loop.invariant.6)

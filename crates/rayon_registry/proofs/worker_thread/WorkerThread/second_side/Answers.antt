@@ -57,7 +57,7 @@ returns-in-ProbeWorking-clause-path g c =
     let seat : x.seat ≡ a.seat = search rules in
     let shape : x.shape ≡ a.shape = search rules in
     let waited = subst (λ t. Worked x.shape (Worker 0 x.seat) (Stay (at.ProbeWorking (fresh t))) x.acts w (wait_end t)) met.1 c.wait_for.ensures.path in
-    let t = c.take_call-ticket.new.self in
+    let t = c.take_call-held.new.self in
     let y = c.begin_task.new.self in
     c.loop.invariant.8 w Back (around_task a.shape a.seat (at.ProbeWorking (fresh (Answer o (Some Fine)))) c.in-Err-Enter-default-BeginTask.name c.in-Some-take_task-2.task t y c.take_task-in-Err-Enter-default-BeginTask.new.self p first l.acts u.trace x.acts w Back (search rules) (search rules) (search rules) (search rules) (search rules) (search rules) (search rules) (search rules) found c.begin_task.ensures.path c.run_task.ensures.path
     (worked_as x.shape a.shape x.seat a.seat (Stay (at.ProbeWorking (fresh (Answer o (Some Fine))))) x.acts w Back seat shape waited))
@@ -80,7 +80,7 @@ loop-preserved g c =
     let mine = subst (λ z. Made z.shape (Worker 0 z.index) first z.trace u.trace n) c.set_call.ensures (made s.shape s.index first s u n c.in-Err-Enter-default-BeginTask.ensures.path) in
     let here = subst (λ v. Made v.shape (Worker 0 v.seat) first v.acts u.trace n) c.self.view_is mine in
     let found = made_as l.shape a.shape l.seat a.seat first l.acts u.trace n (Enter (at.JoinProbe o) p) c.loop.invariant.5 c.loop.invariant.6 met here in
-    let t = c.take_call-ticket.new.self in
+    let t = c.take_call-held.new.self in
     let y = c.begin_task.new.self in (
       tt,
       tt,

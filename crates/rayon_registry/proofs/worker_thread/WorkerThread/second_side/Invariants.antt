@@ -4,6 +4,7 @@ use Rattle.rayon_machine_places.specs.declared.place.Move.TheVariants.{Stay}
 use Rattle.rayon_machine_places.specs.declared.place.Party.TheVariants.{Worker}
 use Rattle.rayon_machine_places.specs.declared.place.Place.TheVariants as at
 use Rattle.rayon_drive.specs.declared.trace.Log.{Log}
+use Rattle.rayon_tasks.specs.Calls.{ticket_in}
 use Rattle.rayon_performers.specs.Hands.{HasTicket}
 use Rattle.rayon_registry.specs.Acts.{Worked}
 use Rattle.rayon_registry.proofs.worker_thread.WorkerThread.second_side.Given as goal
@@ -17,5 +18,5 @@ invariant-loop g l =
     × (l.self.units ≡ l.initial.self.units)
     × (l.self.seat ≡ l.initial.self.seat)
     × (l.self.shape ≡ l.initial.self.shape)
-    × HasTicket l.ticket (Some l.call.number)
+    × HasTicket (ticket_in l.held) (Some l.call.number)
     × ((w : Log) (n : Move) → Worked l.initial.self.shape (Worker 0 l.initial.self.seat) (Stay (at.JoinProbe l.call)) l.self.acts w n → Worked l.initial.self.shape (Worker 0 l.initial.self.seat) (Stay (at.JoinProbe l.call)) l.initial.self.acts w n)

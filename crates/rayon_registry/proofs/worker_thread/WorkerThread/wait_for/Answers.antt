@@ -24,7 +24,7 @@ loop-preserved g c =
     let mine = subst (λ z. Made z.shape (Worker 0 z.index) first z.trace u.trace r) c.set_call.ensures (made s.shape s.index first s u r c.wait.ensures.path) in
     let here = subst (λ v. Made v.shape (Worker 0 v.seat) first v.acts u.trace r) c.self.view_is mine in
     let found = made_as l.shape a.shape l.seat a.seat first l.acts u.trace r (Enter (at.ProbeWorking (fresh k)) p) c.loop.invariant.5 c.loop.invariant.6 (above k c.in-Enter-default-BeginTask.frame p r c.in-Enter-default-BeginTask.is c.wait.ensures.ends) here in
-    let t = c.take_call-ticket.new.self in
+    let t = c.take_call-held.new.self in
     let y = c.begin_task.new.self in (
       tt,
       tt,

@@ -6,7 +6,7 @@ use Rattle.rayon_machine_places.specs.declared.place.Target.TheVariants.{Termina
 use Rattle.rayon_machine_places.specs.Places.{fresh}
 use Rattle.rayon_registry.specs.Acts.{Made, Worked}
 use Rattle.rayon_registry.specs.Pushes.{acts_of, saw_set, seat_of, shape_at, units_of}
-use Rattle.rayon_registry.proofs.Made.{above, around_task, has_probed, last, made, made_as}
+use Rattle.rayon_registry.proofs.Made.{above, around_task, has_probed, has_seen, last, made, made_as}
 use Rattle.rayon_registry.proofs.worker_thread.WorkerThread.wait_until.Goals as goal
 use Rattle.rayon_registry.proofs.worker_thread.WorkerThread.wait_until.Goals.{in_default-via-in-Enter+in_default, in_default-via-in_default}
 
@@ -21,7 +21,7 @@ loop-preserved g c =
     let f = c.in-Enter-default-BeginTask.frame in
     let p = c.in-Enter-default-BeginTask.place in
     let first = Stay (at.ProbeWorking (fresh Termination)) in
-    let here = subst (λ v. Made v.shape (Worker 0 v.seat) first v.acts u.trace r) c.self-in-loop.view_is (made b.shape b.index first b u r c.wait_on.ensures.path) in
+    let here = subst (λ v. Made v.shape (Worker 0 v.seat) first v.acts u.trace r) c.self-in-loop.view_is (made b.shape b.index first _ _ r c.wait_on.ensures.path) in
     let found = made_as l.shape a.shape l.seat a.seat first l.acts u.trace r (Enter (at.ProbeWorking (fresh Termination)) p) c.loop.invariant.5 c.loop.invariant.6 (above Termination f p r c.in-Enter-default-BeginTask.is c.wait_on.ensures.ends) here in
     let y = c.begin_task.new.self in (
       tt,
@@ -43,7 +43,7 @@ returns-in_default-clause-path g c =
     let u = c.wait_on.new.self in
     let r = c.wait_on.result in
     let first = Stay (at.ProbeWorking (fresh Termination)) in
-    let here = subst (λ v. Made v.shape (Worker 0 v.seat) first v.acts u.trace r) c.self-in-loop.view_is (made b.shape b.index first b u r c.wait_on.ensures.path) in
+    let here = subst (λ v. Made v.shape (Worker 0 v.seat) first v.acts u.trace r) c.self-in-loop.view_is (made b.shape b.index first _ _ r c.wait_on.ensures.path) in
     elim c.in_default.branch [
       | in_default-via-in-Enter+in_default w ↦
           let stopped : r ≡ Stay at.Stopped = search rules in
@@ -65,8 +65,20 @@ returns-in_default-clause-set g c =
     elim c.in_default.branch [
       | in_default-via-in-Enter+in_default w ↦
           let stopped : r ≡ Stay at.Stopped = search rules in
-          subst (λ z. z.probed ≡ true) (sym w.self-is) (has_probed u r stopped c.wait_on.ensures.stands)
+          subst (λ z. z.probed ≡ true) (sym w.self-is) (has_probed _ r stopped c.wait_on.ensures.stands)
       | in_default-via-in_default w ↦
           let stopped : r ≡ Stay at.Stopped = search rules in
-          subst (λ z. z.probed ≡ true) (sym w.self-is) (has_probed u r stopped c.wait_on.ensures.stands)
+          subst (λ z. z.probed ≡ true) (sym w.self-is) (has_probed _ r stopped c.wait_on.ensures.stands)
+    ]
+
+pub returns-in_default-clause-latch : goal.returns-in_default-clause-latch
+returns-in_default-clause-latch g c =
+    let r = c.wait_on.result in
+    elim c.in_default.branch [
+      | in_default-via-in-Enter+in_default w ↦
+          let stopped : r ≡ Stay at.Stopped = search rules in
+          has_seen _ r stopped c.wait_on.ensures.stands
+      | in_default-via-in_default w ↦
+          let stopped : r ≡ Stay at.Stopped = search rules in
+          has_seen _ r stopped c.wait_on.ensures.stands
     ]

@@ -74,7 +74,7 @@ fn make_once<R: Waits<Work>>(
         WorkerCall::Join => join(rt, alloc, w, runs, Deed::Number(20)),
         WorkerCall::Push => join(rt, alloc, w, runs, Deed::Push),
         WorkerCall::Install => install(rt, alloc, w, runs),
-        WorkerCall::WaitUntil => wait_until(rt, alloc, w),
+        WorkerCall::WaitUntil => Ok(wait_until(rt, alloc, w, runs)),
         WorkerCall::Owner => Ok(owner(w, runs)),
         WorkerCall::Deep => Ok(Outcome::Unlike),
     }
@@ -127,12 +127,13 @@ fn install<R: Waits<Work>>(
     })
 }
 
-// Waits until a latch is set that is set.
+// Makes a latch, and waits until it is set, which it is.
 fn wait_until<R: Waits<Work>>(
     rt: &R,
     alloc: Global,
     w: &mut WorkerThread<Work>,
-) -> Result<Outcome, Refusal>
+    runs: &Arc<AtomicU64>,
+) -> Outcome
     requires { w.old.levels ≤ R.levels rt.now }
     ensures id { w.new.id ≡ w.old.id }
     ensures level { w.new.levels ≡ w.old.levels }
@@ -140,12 +141,21 @@ fn wait_until<R: Waits<Work>>(
     ensures seat { w.new.seat ≡ w.old.seat }
     ensures shape { w.new.shape ≡ w.old.shape }
 {
-    let (latch, mut own) = OwnLatch::new(alloc)?;
+    let (latch, mut own) = match OwnLatch::new(alloc) {
+        Ok(made) => made,
+        Err(refusal) => {
+            return Outcome::Refused {
+                refusal,
+                same_jobs: true,
+                runs: runs.load(Ordering::SeqCst),
+            };
+        }
+    };
     latch.set_as_guest();
-    Ok(match w.wait_until(rt, alloc, &mut own) {
+    match w.wait_until(rt, alloc, &mut own) {
         Ok(()) => Outcome::Answered(1),
         Err(_) => Outcome::Unlike,
-    })
+    }
 }
 
 // Asks for what stands for the worker where a latch is set.

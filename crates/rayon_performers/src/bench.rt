@@ -170,6 +170,7 @@ impl<J: JobKind> Bench<J> {
     }
 
     /// The call that is waited for next.
+    #[inline(always)]
     pub fn set_call(&mut self, call: Option<Call<J>>)
         ensures { self.new ≡ record self.old { call = ticket_in call; guards = record { own = self.old.guards.own; call = latch_in call } } }
     {
@@ -177,6 +178,7 @@ impl<J: JobKind> Bench<J> {
     }
 
     /// Takes the call out.
+    #[inline(always)]
     pub fn take_call(&mut self) -> Option<Call<J>>
         ensures given { (ticket_in result ≡ self.old.call) × (latch_in result ≡ self.old.guards.call) }
         ensures left { self.new ≡ record self.old { call = None; guards = record { own = self.old.guards.own; call = None } } }
@@ -190,16 +192,14 @@ impl<J: JobKind> Bench<J> {
     pub fn keep_call(&mut self, alloc: Global, share: Ticket<J>)
         ensures { self.new ≡ record self.old { call = None; guards = record { own = self.old.guards.own; call = None } } }
     {
-        let mut spares = match self.spares.take() {
-            Some(spares) => spares,
-            None => Vec::new(alloc),
-        };
-        if let Some(call) = self.call.take() {
+        if self.spares.is_none() {
+            self.spares = Some(Vec::new(alloc));
+        }
+        if let (Some(spares), Some(call)) = (&mut self.spares, self.call.take()) {
             if spares.len() < SPARES {
                 drop(spares.push((call, share)));
             }
         }
-        self.spares = Some(spares);
     }
 
     /// The result of a run that has ended, of two sides the first one's too, and the ticket of the call to answer.
@@ -217,6 +217,7 @@ impl<J: JobKind> Bench<J> {
     }
 
     /// Takes the task that was taken and begun.
+    #[inline(always)]
     pub fn take_task(&mut self) -> Option<Task<J>>
         ensures given { result ≡ self.old.task }
         ensures left { self.new ≡ record self.old { task = None } }
@@ -225,6 +226,7 @@ impl<J: JobKind> Bench<J> {
     }
 
     /// Takes the result that was found.
+    #[inline(always)]
     pub fn take_done(&mut self) -> Option<Done<J>>
         ensures given { result ≡ self.old.done }
         ensures left { self.new ≡ record self.old { done = None } }

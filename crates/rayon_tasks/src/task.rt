@@ -65,6 +65,7 @@ impl<J: JobKind> Task<J> {
 }
 
 /// The task of one job, whose result goes to the cell of this ticket.
+#[inline(always)]
 pub fn task_of_job<J: JobKind>(job: J, injected: bool, ticket: Ticket<J>) -> Task<J>
     ensures { result ≡ record { work = OneJob job; injected = injected; ticket = ticket } }
 {
@@ -104,6 +105,7 @@ pub fn task_of_pair<J: JobKind>(
 }
 
 /// What there is to run, whether the call was made outside the pool, and the call's ticket.
+#[inline(always)]
 pub fn task_parts<J: JobKind>(task: Task<J>) -> (Work<J>, bool, Ticket<J>)
     ensures work { work_of result.0 ≡ task.work }
     ensures injected { result.1 ≡ task.injected }

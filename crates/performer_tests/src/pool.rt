@@ -1,5 +1,5 @@
 //! The pool of the tests, and what its workers do in them.
-ghost use Rattle.rayon_performers.specs.Hands.{HasTicket};
+ghost use Rattle.rayon_performers.specs.Hands.{HasTask, HasTicket};
 ghost use Rattle.rayon_performers.specs.Stands.{Stands};
 ghost use Rattle.std.specs.Arc.{arc_value};
 ghost use Rattle.rayon_performers.specs.Seats.{Resting};
@@ -120,7 +120,29 @@ pub(crate) fn tell<R: Wait>(
     requires rests { Resting bench.old.chair }
     ensures { Resting bench.new.chair }
 {
-    let (Work::Job(job), _, ticket) = task_parts(begun(bench, found)?) else {
+    let Move::Enter {
+        place: Place::BeginTask(task),
+        ..
+    } = found
+    else {
+        return None;
+    };
+    tell_task(rt, bench, task, answer)
+}
+
+// A worker that has found this task runs it to this answer, and tells its call. Answers the task's errand.
+pub(crate) fn tell_task<R: Wait>(
+    rt: &R,
+    bench: &mut Bench<Errand>,
+    task: Taken,
+    answer: u8,
+) -> Option<u8>
+    requires task { HasTask bench.old.task (Some task) }
+    requires rests { Resting bench.old.chair }
+    ensures { Resting bench.new.chair }
+{
+    bench.begin_task(task);
+    let (Work::Job(job), _, ticket) = task_parts(bench.take_task()?) else {
         return None;
     };
     let (call, owner) = (ticket.number(), ticket.owner());

@@ -2,7 +2,7 @@
 ghost use Rattle.rayon_performers.specs.Seats.{Resting};
 
 use crate::errand::Errand;
-use crate::pool::{Two, begun, call_of, end, found, offer, tell};
+use crate::pool::{Two, begun, call_of, end, found, offer, tell, tell_task};
 use rayon_jobs::{Done, JobKind};
 use rayon_machine_places::place::{Move, Place, Target};
 use rayon_performers::{Bench, Guest};
@@ -103,8 +103,13 @@ fn a_worker_works_while_it_waits_on_a_latch(rt: HostRuntime) -> Result<(), Fail>
         &rt,
         move || {
             let mut worker = other.worker(1, second);
-            let found = worker.wait_on(handle, &mut own);
-            let number = tell(handle, &mut worker, found, 9);
+            let number = match worker.wait_on(handle, &mut own) {
+                Move::Enter {
+                    place: Place::BeginTask(task),
+                    ..
+                } => tell_task(handle, &mut worker, task, 9),
+                _ => None,
+            };
             let ended = worker.wait_on(handle, &mut own);
             (number, matches!(ended, Move::Stay(Place::Stopped)))
         },

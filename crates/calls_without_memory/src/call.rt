@@ -64,7 +64,7 @@ fn build<R: Threads + Wait + Copy + Send + 'static>(rt: &R, alloc: Global) -> Ou
     let builder = ThreadPoolBuilder::<Work>::new().num_threads(2);
     match builder.build(rt, alloc, &Ids::new()) {
         Ok(pool) => {
-            pool.end(rt);
+            pool.end_and_join(rt);
             Outcome::Made
         }
         Err(error) => Outcome::NotMade(NoPool::of(error)),
@@ -159,6 +159,6 @@ fn make_on_pool<R: Threads + Wait + Copy + Send + 'static>(
         PoolCall::Join => twice(|| join(rt, alloc, &pool, &runs)),
         PoolCall::OnWorker(call) => install_caller(rt, alloc, &pool, &runs, call),
     };
-    pool.end(rt);
+    pool.end_and_join(rt);
     report
 }

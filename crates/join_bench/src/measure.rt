@@ -60,7 +60,7 @@ fn run_on_pool<R: Runtime + Threads + Wait + Copy + Send + 'static>(
         None => print_values(rt, alloc, &pool),
         Some((what, n)) => time(rt, alloc, &pool, what, n),
     };
-    pool.end(rt);
+    pool.end_and_join(rt);
     outcome
 }
 
@@ -75,7 +75,7 @@ fn run_leaves<R: Runtime + Threads + Wait + Copy + Send + 'static>(
     let builder = ThreadPoolBuilder::<Leaves>::new().num_threads(workers);
     let pool = builder.build(rt, alloc, &ids)?;
     let outcome = time_leaves(rt, alloc, &pool, n);
-    pool.end(rt);
+    pool.end_and_join(rt);
     outcome
 }
 

@@ -1,4 +1,5 @@
-//! Tests of a pool's end: under calls from other threads, and while its worker still runs.
+//! Tests of a pool's end, which joins its threads or does not: under calls from other threads, and while its workers
+//! still run.
 use crate::errand::{Answer, Deed, Errand, Marks, Name, Trouble, Words, outcome, outcomes};
 use crate::tests::{WORKERS, pool_with};
 use crate::together::Together;
@@ -64,13 +65,25 @@ fn caller<R: Threads + Wait + Abort + Copy + Send + 'static>(
         .expect(rt, "a thread")
 }
 
+// Waits until so many runs have begun.
+fn wait_for_runs<R: Wait>(rt: &R, marks: &Marks, runs: u64) {
+    for _ in rt.forever() {
+        if marks.runs() >= runs {
+            break;
+        }
+        thread::yield_now();
+    }
+}
+
 // Three threads call through a reference of their own while a pool of so many workers is ended, after so many runs have
-// begun: each caller is answered, no job runs whose call was refused, and a call after the end is.
+// begun: each caller is answered, and no job runs whose call was refused. A call after the end is refused, at once
+// where the threads are joined, and else once the three are answered.
 fn end_in_a_storm<R: Threads + Wait + Abort + Copy + Send + 'static>(
     rt: &R,
     alloc: Global,
     workers: usize,
     runs: u64,
+    joins: bool,
 ) {
     let marks = Marks::new(alloc).expect(rt, "room");
     let pool = pool_with(rt, alloc, workers, 9).expect(rt, "a pool");
@@ -81,16 +94,17 @@ fn end_in_a_storm<R: Threads + Wait + Abort + Copy + Send + 'static>(
     let green = caller(rt, alloc, mine, &marks, Words::Green);
     let mine = pool.pool_ref().expect(rt, "room");
     let blue = caller(rt, alloc, mine, &marks, Words::Blue);
-    for _ in rt.forever() {
-        if marks.runs() >= runs {
-            break;
-        }
-        thread::yield_now();
+    wait_for_runs(rt, &marks, runs);
+    if joins {
+        pool.end_and_join(rt);
+    } else {
+        pool.end(rt);
     }
-    pool.end(rt);
-    assert_eq!(rt; call_until_ended(rt, alloc, &late, &marks, Words::One), 0);
+    let mine = call_until_ended(rt, alloc, &late, &marks, Words::One);
+    assert!(rt; !joins || mine == 0, "{workers} workers, {runs} runs");
     let both = red.join(rt).saturating_add(green.join(rt));
-    let answered = both.saturating_add(blue.join(rt));
+    let answered = both.saturating_add(blue.join(rt)).saturating_add(mine);
+    assert_eq!(rt; call_until_ended(rt, alloc, &late, &marks, Words::Two), 0);
     assert_eq!(rt; marks.runs(), answered, "{workers} workers, {runs} runs");
 }
 
@@ -99,7 +113,8 @@ fn pools_end_in_a_storm_of_calls(rt: HostRuntime) -> Result<(), Fail> {
     let alloc = rt.alloc();
     for workers in WORKERS {
         for runs in 0..20 {
-            end_in_a_storm(&rt, alloc, workers, runs);
+            end_in_a_storm(&rt, alloc, workers, runs, true);
+            end_in_a_storm(&rt, alloc, workers, runs, false);
         }
     }
     Ok(())
@@ -118,10 +133,10 @@ fn installer<R: Threads + Wait + Abort + Copy + Send + 'static>(
         .expect(rt, "a thread")
 }
 
-// A pool's end waits for its workers' threads: as many jobs as there are workers, which meet and then run on at the
-// end, have left when the end comes back.
+// An end that joins waits for the workers' threads: as many jobs as there are workers, which meet and then run on at
+// the end, have left when it comes back.
 #[test]
-fn end_joins_the_workers(rt: HostRuntime) -> Result<(), Fail> {
+fn end_and_join_waits_for_the_workers(rt: HostRuntime) -> Result<(), Fail> {
     let alloc = rt.alloc();
     for workers in WORKERS {
         let marks = Marks::new(alloc).expect(&rt, "room");
@@ -129,6 +144,7 @@ fn end_joins_the_workers(rt: HostRuntime) -> Result<(), Fail> {
         let crowd = pool.current_num_threads();
         let gate = Arc::new(alloc, Barrier::new(crowd)).expect(&rt, "room");
         let mut calls = Vec::new(alloc);
+        let mut called = 0_u64;
         for _ in 0..crowd {
             let share = Arc::try_clone(&gate).expect(&rt, "room");
             let deed = Deed::Together(Together::MeetAndLinger(share));
@@ -136,20 +152,48 @@ fn end_joins_the_workers(rt: HostRuntime) -> Result<(), Fail> {
             let pool_ref = pool.pool_ref().expect(&rt, "room");
             let call = installer(&rt, alloc, pool_ref, job);
             calls.push(call).expect(&rt, "room");
+            called = called.saturating_add(1);
         }
-        for _ in rt.forever() {
-            if usize::try_from(marks.runs()) == Ok(crowd) {
-                break;
-            }
-            thread::yield_now();
-        }
+        wait_for_runs(&rt, &marks, called);
         marks.release();
-        pool.end(&rt);
-        let left = usize::try_from(marks.left());
-        assert_eq!(rt; left, Ok(crowd), "a worker was still running");
+        pool.end_and_join(&rt);
+        assert_eq!(rt; marks.left(), called, "a worker was still running");
         for call in calls {
             assert_eq!(rt; call.join(&rt), Ok(Answer::Said(Words::Gone)));
         }
+    }
+    Ok(())
+}
+
+// An end that does not join waits for no job: it comes back while one runs that lingers until it is released after the
+// end. As long as its call waits, others are answered where there is a worker for them, and then they are refused.
+#[test]
+fn end_waits_for_no_job(rt: HostRuntime) -> Result<(), Fail> {
+    let alloc = rt.alloc();
+    for workers in WORKERS {
+        let marks = Marks::new(alloc).expect(&rt, "room");
+        let says = |words| Errand::new(Name::Caller, &marks, Deed::End(Ok(words)));
+        let pool = pool_with(&rt, alloc, workers, 9).expect(&rt, "a pool");
+        let (mine, other) = (pool.pool_ref(), pool.pool_ref());
+        let (mine, other) = (mine.expect(&rt, "room"), other.expect(&rt, "room"));
+        let gate = Arc::new(alloc, Barrier::new(1)).expect(&rt, "room");
+        let deed = Deed::Together(Together::MeetAndLinger(gate));
+        let job = Errand::new(Name::First, &marks, deed).expect(&rt, "room");
+        let call = installer(&rt, alloc, mine, job);
+        wait_for_runs(&rt, &marks, 1);
+        pool.end(&rt);
+        if workers > 1 {
+            let job = says(Words::Awake).expect(&rt, "room");
+            let answer = outcome(other.install(&rt, alloc, job));
+            assert_eq!(rt; answer, Ok(Answer::Said(Words::Awake)));
+        }
+        let runs = marks.runs();
+        marks.release();
+        assert_eq!(rt; call.join(&rt), Ok(Answer::Said(Words::Gone)));
+        let job = says(Words::Two).expect(&rt, "room");
+        let late = outcome(other.install(&rt, alloc, job));
+        assert_eq!(rt; late, Err(Trouble::Refused(Refusal::Ended, Name::Caller)));
+        assert_eq!(rt; marks.runs(), runs, "a refused job has run");
     }
     Ok(())
 }

@@ -260,7 +260,7 @@ fn gate_two_sides(rt: HostRuntime) -> Result<(), Fail> {
                 Ok((Answer::Migrated(true), Answer::Migrated(true)))
             );
         }
-        pool.end(&rt);
+        pool.end_and_join(&rt);
     }
     Ok(())
 }
@@ -291,7 +291,7 @@ fn an_outside_thread_wakes_a_waiting_worker(rt: HostRuntime) -> Result<(), Fail>
         assert_eq!(rt; waited, Ok(Answer::Said(Words::Waited)));
         assert_eq!(rt; set, Ok(Answer::Said(Words::Set)));
     }
-    pool.end(&rt);
+    pool.end_and_join(&rt);
     assert_eq!(rt; marks.runs(), 100);
     Ok(())
 }
@@ -310,7 +310,7 @@ fn a_second_side_wakes_the_first(rt: HostRuntime) -> Result<(), Fail> {
             let answer = installed(&rt, alloc, &pool, deed);
             assert_eq!(rt; answer, (Ok(Answer::Both(Words::Waited, Words::Set)), 3));
         }
-        pool.end(&rt);
+        pool.end_and_join(&rt);
     }
     Ok(())
 }
@@ -332,7 +332,7 @@ fn a_task_of_another_is_found(rt: HostRuntime) -> Result<(), Fail> {
         assert_eq!(rt; both, Ok((Answer::Number(7), Answer::Said(Words::Gone))));
         assert_eq!(rt; (marks.runs(), marks.noted()), (3, 7));
     }
-    pool.end(&rt);
+    pool.end_and_join(&rt);
     Ok(())
 }
 
@@ -346,7 +346,7 @@ fn found_tasks_run_once(rt: HostRuntime) -> Result<(), Fail> {
             let answer = installed(&rt, alloc, &pool, Deed::Many(Many::Tree(10)));
             assert_eq!(rt; answer, (Ok(Answer::Number(1_024)), 2_047));
         }
-        pool.end(&rt);
+        pool.end_and_join(&rt);
     }
     Ok(())
 }

@@ -97,7 +97,7 @@ fn faults_come_out_in_order(rt: HostRuntime) -> Result<(), Fail> {
                 }
             }
         }
-        pool.end(&rt);
+        pool.end_and_join(&rt);
     }
     Ok(())
 }
@@ -116,7 +116,7 @@ fn joins_take_two_levels(rt: HostRuntime) -> Result<(), Fail> {
         let jobs = installed(&rt, alloc, &pool, Deed::JoinJobs(Ok(one), Ok(two)));
         let closure = installed(&rt, alloc, &pool, Deed::JoinClosure(one, two));
         let outside = joined(&rt, alloc, &pool, Ok(one), Ok(two));
-        pool.end(&rt);
+        pool.end_and_join(&rt);
         assert_eq!(rt; alone, (Ok(Answer::Said(one)), 1));
         if depth_limit < 2 {
             assert_eq!(rt; jobs, (Ok(turned_back), 1));
@@ -138,7 +138,7 @@ fn runs_nest_to_the_depth_limit(rt: HostRuntime) -> Result<(), Fail> {
     for (depth_limit, levels, runs) in [(0, 0, 1), (1, 0, 1), (2, 1, 2), (5, 4, 5)] {
         let pool = pool_with(&rt, alloc, 2, depth_limit).expect(&rt, "a pool");
         let (answer, count) = installed(&rt, alloc, &pool, Deed::Descend(levels));
-        pool.end(&rt);
+        pool.end_and_join(&rt);
         assert_eq!(rt; answer, Ok(Answer::Nested(runs)), "limit {depth_limit}");
         assert_eq!(rt; usize::try_from(count), Ok(runs), "limit {depth_limit}");
     }
@@ -153,7 +153,7 @@ fn pools_have_numbers(rt: HostRuntime) -> Result<(), Fail> {
     let ids = Ids::new();
     match ThreadPoolBuilder::<Errand>::new().build(&rt, alloc, &Ids::spent()) {
         Ok(pool) => {
-            pool.end(&rt);
+            pool.end_and_join(&rt);
             panic!(rt; "a pool without a number");
         }
         Err(error) => assert!(rt; matches!(&error, ThreadPoolBuildError::NoIds)),
@@ -171,8 +171,8 @@ fn pools_have_numbers(rt: HostRuntime) -> Result<(), Fail> {
         (one.current_num_threads(), two.current_num_threads()),
         (1, 1)
     );
-    one.end(&rt);
-    two.end(&rt);
+    one.end_and_join(&rt);
+    two.end_and_join(&rt);
     assert_ne!(rt; first, second);
     let of = |pool| (Ok(Answer::Worker(WorkerId { pool, index: 0 })), 1);
     assert_eq!(rt; workers, (of(first), of(second)));
@@ -205,7 +205,7 @@ fn references(rt: HostRuntime) -> Result<(), Fail> {
     let (id, workers) = (pool.id(), pool.current_num_threads());
     let alone = outcome(second.install(&rt, alloc, job));
     let before = told_twice(&rt, alloc, &second, &marks);
-    pool.end(&rt);
+    pool.end_and_join(&rt);
     let alone_late = outcome(second.install(&rt, alloc, late));
     let after = told_twice(&rt, alloc, &first, &marks);
     assert_eq!(rt; (first.id(), first.current_num_threads()), (id, workers));
@@ -235,7 +235,7 @@ fn own_deque(rt: HostRuntime) -> Result<(), Fail> {
     let job = Errand::new(Name::Caller, &marks, deed)?;
     let pool = pool_of(&rt, alloc, 9)?;
     let taken = outcome(pool.install(&rt, alloc, job));
-    pool.end(&rt);
+    pool.end_and_join(&rt);
     assert_eq!(rt; taken, Ok(Answer::Number(2)));
     assert_eq!(rt; marks.noted(), 12, "the older one has run first");
     assert_eq!(rt; marks.runs(), 5);

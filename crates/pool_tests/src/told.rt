@@ -22,7 +22,7 @@ fn contexts_tell_whether_a_side_migrated(rt: HostRuntime) -> Result<(), Fail> {
     let outside = outcomes(pool.join_context(&rt, alloc, a, b));
     let (inside, inside_runs) = installed(&rt, alloc, &pool, Deed::JoinContext(Ok(())));
     let failed = outcome(pool.install(&rt, alloc, failing));
-    pool.end(&rt);
+    pool.end_and_join(&rt);
     let both_migrated = (Answer::Migrated(true), Answer::Migrated(true));
     assert_eq!(rt; outside, Ok(both_migrated));
     assert_eq!(rt; inside, Ok(Answer::BothMigrated(false, false)));
@@ -41,7 +41,7 @@ fn installs_and_joins_on_the_worker_do_not_migrate(rt: HostRuntime) -> Result<()
     let outside = installed(&rt, alloc, &pool, Deed::TellMigrated);
     let inside = installed(&rt, alloc, &pool, Deed::InstallTeller);
     let sides = installed(&rt, alloc, &pool, Deed::JoinTellers);
-    pool.end(&rt);
+    pool.end_and_join(&rt);
     assert_eq!(rt; outside, (Ok(Answer::Migrated(true)), 1));
     assert_eq!(rt; inside, (Ok(Answer::Migrated(false)), 2));
     assert_eq!(rt; sides, (Ok(Answer::BothMigrated(false, false)), 3));
@@ -58,7 +58,7 @@ fn second_side_from_outside_migrated_after_a_fault(rt: HostRuntime) -> Result<()
     let b = Errand::new(Name::Second, &marks, Deed::TellMigrated)?;
     let pool = pool_of(&rt, alloc, 9)?;
     let answer = outcomes(pool.join(&rt, alloc, a, b));
-    pool.end(&rt);
+    pool.end_and_join(&rt);
     assert_eq!(rt; answer, Err(Trouble::Said(Words::HelloWorld)));
     assert_eq!(rt; (marks.runs(), marks.migrated()), (2, 1));
     Ok(())
@@ -95,7 +95,7 @@ fn sides_that_run_one_after_the_other_migrated(rt: HostRuntime) -> Result<(), Fa
         };
         (waited, sides)
     });
-    pool.end(&rt);
+    pool.end_and_join(&rt);
     assert_eq!(rt; waited, Ok(Answer::Said(Words::Waited)));
     assert_eq!(rt; sides, Ok((Answer::Migrated(true), Answer::Migrated(true))));
     Ok(())

@@ -40,7 +40,7 @@ fn fibonacci_numbers(rt: HostRuntime) -> Result<(), Fail> {
         ] {
             expect_fib(&rt, alloc, &pool, n, number, 2 * leaves - 1);
         }
-        pool.end(&rt);
+        pool.end_and_join(&rt);
     }
     Ok(())
 }
@@ -78,7 +78,7 @@ fn many_joins_run_each_side_once(rt: HostRuntime) -> Result<(), Fail> {
         }
         started
     });
-    pool.end(&rt);
+    pool.end_and_join(&rt);
     assert!(rt; started, "a thread was refused");
     assert_eq!(rt; (firsts.runs(), seconds.runs()), (50_000, 50_000));
     Ok(())
@@ -95,7 +95,7 @@ fn use_pool<R: Threads + Wait + Abort + Copy + Send + 'static>(
     let (one, two) = (Words::One, Words::Two);
     let answers = joined(rt, alloc, &pool, Ok(one), Ok(two));
     let has = pool.current_num_threads();
-    pool.end(rt);
+    pool.end_and_join(rt);
     assert_eq!(rt; has, workers);
     assert_eq!(rt; answers, (Ok((Answer::Said(one), Answer::Said(two))), 2));
 }
@@ -162,7 +162,7 @@ fn workers_wake_each_other(rt: HostRuntime) -> Result<(), Fail> {
                 (Ok(crowd), bits.trailing_ones())
             );
         }
-        pool.end(&rt);
+        pool.end_and_join(&rt);
     }
     Ok(())
 }
@@ -178,7 +178,7 @@ fn an_injected_job_wakes_a_worker(rt: HostRuntime) -> Result<(), Fail> {
             let answer = installed(&rt, alloc, &pool, Deed::End(Ok(Words::Awake)));
             assert_eq!(rt; answer, (Ok(Answer::Said(Words::Awake)), 1));
         }
-        pool.end(&rt);
+        pool.end_and_join(&rt);
     }
     Ok(())
 }

@@ -8,11 +8,12 @@ use std::thread::Threads;
 
 /// What has to be ended: a pool. Import it to call `pool.end_after(..)`.
 pub trait EndAfter: Sized {
-    /// Ends it, as `ThreadPool::end` does.
+    /// Ends it and joins its threads, as `ThreadPool::end_and_join` does.
     fn end_lent<R: Threads + Wait>(self, rt: &R);
 
-    /// Lends the pool to a closure, ends it once the closure has answered, and answers the same, whatever that is. So
-    /// the closure may leave by `?`, which a function that holds a pool by its value may not: that has to be spent.
+    /// Lends the pool to a closure, ends it and joins its threads once the closure has answered, and answers the same,
+    /// whatever that is. So the closure may leave by `?`, which a function that holds a pool by its value may not: that
+    /// has to be spent.
     final fn end_after<R: Threads + Wait, T, F: FnOnce(&Self) -> T>(self, rt: &R, with_pool: F) -> T
         requires callable { (pool : _) → pool.now ≡ self → F.pre with_pool pool }
         ensures answer { (pool : _) × (pool.now ≡ self) × F.post with_pool pool result }
@@ -25,6 +26,6 @@ pub trait EndAfter: Sized {
 
 impl<J: JobKind> EndAfter for ThreadPool<J> {
     fn end_lent<R: Threads + Wait>(self, rt: &R) {
-        self.end(rt);
+        self.end_and_join(rt);
     }
 }

@@ -13,8 +13,8 @@ use std::marker::Model;
 use std::sync::Wait;
 use std::thread::{JoinHandle, Threads};
 
-/// A pool, held by its value. It has no `Drop`: it must be spent by `end`. Contracts see its number, how many
-/// workers it has, and the levels of a worker value that no run was lent yet.
+/// A pool, held by its value. It has no `Drop`: it must be spent by `end` or `end_and_join`. Contracts see its number,
+/// how many workers it has, and the levels of a worker value that no run was lent yet.
 pub struct ThreadPool<J: JobKind> {
     registry: Registry<J>,
     hold: PoolHold,
@@ -117,10 +117,23 @@ impl<J: JobKind> ThreadPool<J> {
         self.join(rt, alloc, a, b)
     }
 
-    /// Ends the pool: gives up the unit of the terminate count that the pool's value holds. Calls through a `PoolRef`
-    /// are still answered while other calls hold the pool; once none does, each further call is refused `Ended`, and
-    /// the workers' threads leave and are joined. So this waits for the waiting calls that other threads have made.
-    pub fn end<R: Threads + Wait>(self, rt: &R) {
+    /// Ends the pool, and waits for no job and no thread: gives up the unit of the terminate count that the pool's
+    /// value holds, and the handles of the workers' threads. Calls through a `PoolRef` are still answered while other
+    /// calls hold the pool; once none does, each further call is refused `Ended`, and the threads leave. A thread that
+    /// still runs a job when `main` returns is ended with the process.
+    pub fn end<R: Wait>(self, rt: &R) {
+        let ThreadPool {
+            registry,
+            hold,
+            workers,
+        } = self;
+        registry.end(rt, hold);
+        drop(workers);
+    }
+
+    /// Ends the pool as `end` does, and joins the workers' threads, which leave once no call holds the pool. So this
+    /// waits for the waiting calls that other threads have made, and no thread of the pool is left.
+    pub fn end_and_join<R: Threads + Wait>(self, rt: &R) {
         let ThreadPool {
             registry,
             hold,

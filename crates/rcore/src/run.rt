@@ -103,7 +103,7 @@ fn print_fib<R: Threads + Wait + Copy + Send + 'static, W: Write, E: Write>(
         Err(error) => return fail(err, build_error_name(&error)),
     };
     let answer = pool.install(rt, alloc, Fib(n));
-    pool.end(rt);
+    pool.end_and_join(rt);
     match answer {
         Ok(value) => match writeln!(out, "{value}") {
             Ok(()) => DONE,

@@ -47,7 +47,7 @@ fn ascending<R: Threads + Wait + Copy + Send + 'static>(
     let numbers: &'static [u64] = numbers.leak();
     let pool = ThreadPoolBuilder::new().build(rt, alloc, ids)?;
     let sorted = pool.install(rt, alloc, Sort(numbers));
-    pool.end(rt);
+    pool.end_and_join(rt);
     Ok(sorted.map_err(CallError::without_sides)?)
 }
 
@@ -93,7 +93,7 @@ fn first_sides<R: Threads + Wait + Copy + Send + 'static>(
     let pool = ThreadPoolBuilder::new().build(rt, alloc, ids)?;
     let job = pool.install(rt, alloc, Tell::FirstJob);
     let closure = pool.install(rt, alloc, Tell::Closure);
-    pool.end(rt);
+    pool.end_and_join(rt);
     let job = job.map_err(CallError::without_sides)?;
     let closure = closure.map_err(CallError::without_sides)?;
     Ok((job, closure))

@@ -3,9 +3,10 @@ ghost use Rattle.rayon_core.specs.Worker.{SameWorker};
 ghost use Rattle.std.specs.Prelude.{◌≡◌, ℕ, ◌≤◌};
 
 use crate::errand::{Answer, Deed, Errand, Marks, Name, Trouble, Words, outcome, outcomes};
+use rayon_core::latch::OwnLatch;
 use rayon_core::{CallError, ForkJoin, Refusal, Waits, WorkerThread};
 use std::alloc::Global;
-use std::sync::Arc;
+use std::sync::{Arc, Mutex};
 
 /// Joins a closure that ends so, and a job that tells whether it migrated.
 pub fn join_context<R: Waits<Errand>>(
@@ -34,6 +35,26 @@ pub fn join_context<R: Waits<Errand>>(
         Err(CallError::Fault(trouble)) => Err(trouble),
         Err(CallError::Refused(refusal, (_, job))) => Err(Trouble::Refused(refusal, job.name())),
         Err(CallError::Foreign | CallError::Missing) => Err(Trouble::Lost),
+    }
+}
+
+/// Waits on the latch that lies there, as its owner.
+pub fn wait_for<R: Waits<Errand>>(
+    rt: &R,
+    alloc: Global,
+    w: &mut WorkerThread<Errand>,
+    name: Name,
+    latch: &Mutex<Option<OwnLatch>>,
+) -> Result<Answer, Trouble>
+    requires { w.old.levels ≤ R.levels rt.now }
+    ensures same { SameWorker w.old w.new }
+{
+    let Some(mut own) = latch.lock(rt).take() else {
+        return Err(Trouble::Unlike);
+    };
+    match w.wait_until(rt, alloc, &mut own) {
+        Ok(()) => Ok(Answer::Said(Words::Waited)),
+        Err(refusal) => Err(Trouble::Refused(refusal, name)),
     }
 }
 

@@ -9,8 +9,8 @@ use rayon_core::{
     BroadcastContext, CallError, FnContext, Job, JobKind, Refusal, Waits, WorkerId, WorkerThread,
 };
 use std::alloc::Global;
-use std::sync::Arc;
 use std::sync::atomic::{AtomicU64, Ordering};
+use std::sync::{Arc, Mutex};
 
 // How many turns a job that lingers takes after its release: far more than a call needs that waits for nothing.
 const LINGERING_TURNS: u64 = 2_000_000;
@@ -194,8 +194,8 @@ pub enum Deed {
     JoinClosure(Words, Words),
     /// Installs itself below as often as there are levels: this many.
     Descend(usize),
-    /// Waits until this latch is set.
-    WaitFor(OwnLatch),
+    /// Waits until the latch that lies here is set.
+    WaitFor(Mutex<Option<OwnLatch>>),
     /// Tells which worker runs it.
     TellWorker,
     /// Does what is for any number of workers.
@@ -270,10 +270,7 @@ impl Job for Errand {
                 rt, alloc, w, &marks, held, words,
             ),
             Deed::Descend(levels) => deeds::descend(rt, alloc, w, &marks, levels),
-            Deed::WaitFor(mut latch) => match w.wait_until(rt, alloc, &mut latch) {
-                Ok(()) => Ok(Answer::Said(Words::Waited)),
-                Err(refusal) => Err(Trouble::Refused(refusal, name)),
-            },
+            Deed::WaitFor(latch) => deeds::wait_for(rt, alloc, w, name, &latch),
             Deed::TellWorker if w.id().index == w.index() => Ok(Answer::Worker(w.id())),
             Deed::TellWorker => Err(Trouble::Unlike),
             Deed::Together(deed) => together::run(rt, alloc, w, &marks, ctx.migrated(), deed),

@@ -2,7 +2,7 @@
 use crate::errand::{Answer, Deed, Errand, Marks, Name, Trouble, Words, outcome, outcomes};
 use crate::tests::{installed, pool_of};
 use rayon_core::latch::OwnLatch;
-use std::sync::Arc;
+use std::sync::Mutex;
 use std::test::Fail;
 use std::thread;
 
@@ -71,7 +71,7 @@ fn sides_that_run_one_after_the_other_migrated(rt: HostRuntime) -> Result<(), Fa
     let alloc = rt.alloc();
     let marks = Marks::new(alloc)?;
     let (latch, own) = OwnLatch::new(alloc)?;
-    let waits = Errand::new(Name::Caller, &marks, Deed::WaitFor(own))?;
+    let waits = Errand::new(Name::Caller, &marks, Deed::WaitFor(Mutex::new(Some(own))))?;
     let a = Errand::new(Name::First, &marks, Deed::TellMigrated)?;
     let b = Errand::new(Name::Second, &marks, Deed::TellMigrated)?;
     let wakes = Errand::new(Name::Caller, &marks, Deed::End(Ok(Words::Awake)))?;

@@ -21,8 +21,7 @@ use crate::job::Waits;
 use crate::worker_thread::{Lent, WorkerThread};
 use rayon_jobs::{Done, JobKind, Lost, claimed};
 use rayon_machine_places::place::{Ending, Move, OpenCall, Place, Target, Then};
-use rayon_sleep::latch::OwnLatch;
-use rayon_tasks::{Call, Task, Ticket, task_parts};
+use rayon_tasks::{Call, Task, single_parts, task_parts};
 use rayon_words::{CallError, Refusal};
 use std::alloc::Global;
 use std::marker::Model;
@@ -45,9 +44,7 @@ impl<J: JobKind> Model for PairRun<J> {
 
 /// A second side that was pushed. It has no `Drop`: the join has to be finished.
 pub struct Fork<J: JobKind> {
-    ticket: Ticket<J>,
-    // the ticket's latch, with the worker's own seat of it
-    latch: OwnLatch,
+    call: Call<J>,
     tag: J::Tag,
 }
 
@@ -82,13 +79,13 @@ impl<J: JobKind> WorkerThread<J> {
             (HandedBack self.old.shape (Worker 0 self.old.seat) own_join self.old.acts self.new.acts)
             result }
     {
-        let fork = match self.fork(rt, alloc, b, false) {
+        let Fork { call, tag } = match self.fork(rt, alloc, b, false) {
             Ok(fork) => fork,
             Err((refusal, b)) => return Err(CallError::Refused(refusal, (a, b))),
         };
         let first = rt.run_job(alloc, self, a, &mut FnContext::new(false));
-        let (found, tag) = self.meet(rt, alloc, fork, first.is_err());
-        join_answer(first, claimed(found, &tag))
+        let second = self.meet(rt, alloc, call, &tag, first.is_err());
+        join_answer(first, second)
     }
 }
 
@@ -105,12 +102,12 @@ impl<J: JobKind> WorkerThread<J> {
         injected: bool,
     ) -> Result<Fork<J>, (Refusal, J)>
         ensures forked { IfOk result (λ f. (f.tag ≡ J.tag_of b) × (0 < self.old.levels)) }
-        ensures pushed { IfOk result (λ f. self.new ≡ record self.old { pushed = self.old.pushed ++ record { work = OneJob b; injected = injected; ticket = f.ticket } ∷ []; left = self.old.left ++ record { work = OneJob b; injected = injected; ticket = f.ticket } ∷ []; units = self.old.units + 1; acts = self.new.acts }) }
+        ensures pushed { IfOk result (λ f. self.new ≡ record self.old { pushed = self.old.pushed ++ record { work = OneJob b; injected = injected; ticket = f.call.ticket } ∷ []; left = self.old.left ++ record { work = OneJob b; injected = injected; ticket = f.call.ticket } ∷ []; units = self.old.units + 1; acts = self.new.acts }) }
         ensures back { IfErr result (λ e. (e.1 ≡ b) × Kept self.old self.new) }
         ensures deep { self.old.levels ≡ 0 → result ≡ Err (Refusal.TooDeep, b) }
         ensures shallow { IfErr result (λ e. e.0 ≡ Refusal.TooDeep → self.old.levels ≡ 0) }
         ensures path { MatchResult result
-            (λ f. Offered self.old.shape (Worker 0 self.old.seat) f.ticket.number self.old.acts self.new.acts)
+            (λ f. Offered self.old.shape (Worker 0 self.old.seat) f.call.ticket.number self.old.acts self.new.acts)
             (λ _. HandedBack self.old.shape (Worker 0 self.old.seat) own_join self.old.acts self.new.acts) }
     {
         if self.levels == 0 {
@@ -120,48 +117,45 @@ impl<J: JobKind> WorkerThread<J> {
             return Err((Refusal::Full, b));
         };
         let tag = b.tag();
-        let held = self.bench.offer(rt, alloc, name, b, injected)?;
-        let Call { ticket, latch } = held;
-        Ok(Fork { ticket, latch, tag })
+        let call = self.bench.offer(rt, alloc, name, b, injected)?;
+        Ok(Fork { call, tag })
     }
 
-    // Waits for the second side, takes its result beside the tag that was handed in, and gives the count back.
+    // Waits for the second side, claims its result by the tag that was handed in, and gives the count back.
     #[inline(always)]
     fn meet<R: Waits<J>>(
         &mut self,
         rt: &R,
         alloc: Global,
-        fork: Fork<J>,
+        held: Call<J>,
+        tag: &J::Tag,
         first_faulted: bool,
-    ) -> (Option<Done<J>>, J::Tag)
+    ) -> Result<Result<J::Output, J::Fault>, Lost>
         requires some { 0 < self.old.levels }
         requires levels { self.old.levels ≤ R.levels rt.now }
-        ensures tag { result.1 ≡ fork.tag }
+        ensures ok { IfOk result (λ r. J.answers tag.now r) }
         ensures ended { EndedCall self.old self.new }
-        ensures path { Met self.old.shape (Worker 0 self.old.seat) fork.ticket.number (ended_so first_faulted) self.old.acts self.new.acts }
+        ensures path { Met self.old.shape (Worker 0 self.old.seat) held.ticket.number (ended_so first_faulted) self.old.acts self.new.acts }
     {
-        let Fork { ticket, latch, tag } = fork;
-        let name = ticket.number();
-        let held = Call { ticket, latch };
+        let name = held.ticket.number();
         let call = OpenCall {
             number: name,
             pool: 0,
             job: name,
         };
-        let found = if first_faulted {
+        if first_faulted {
             let target = Target::Answer {
                 call,
                 first: Some(Ending::Fault),
             };
-            self.wait_for(rt, alloc, target, Some(held))
+            claimed(self.wait_for(rt, alloc, target, Some(held)), tag)
         } else {
-            self.second_side(rt, alloc, call, held)
-        };
-        (found, tag)
+            self.second_side(rt, alloc, call, held, tag)
+        }
     }
 
     // Takes the own second side back and runs it, or runs what lies above it until it is met, or waits for the result
-    // of the worker that stole it.
+    // of the worker that stole it. Claims the result.
     #[inline(always)]
     #[tactic(auto, unfolding(crate::specs::Pushes::units_of, crate::specs::Pushes::shape_at, crate::specs::Pushes::seat_of, crate::specs::Pushes::acts_of))]
     fn second_side<R: Waits<J>>(
@@ -170,11 +164,13 @@ impl<J: JobKind> WorkerThread<J> {
         alloc: Global,
         call: OpenCall,
         held: Call<J>,
-    ) -> Option<Done<J>>
+        tag: &J::Tag,
+    ) -> Result<Result<J::Output, J::Fault>, Lost>
         requires some { 0 < self.old.levels }
         requires levels { self.old.levels ≤ R.levels rt.now }
         requires ticket { held.ticket.number ≡ call.number }
         requires pool { call.pool ≡ 0 }
+        ensures ok { IfOk result (λ r. J.answers tag.now r) }
         ensures ended { EndedCall self.old self.new }
         ensures path { Worked self.old.shape (Worker 0 self.old.seat) (Stay (at.JoinProbe call)) self.old.acts self.new.acts Back }
     {
@@ -186,7 +182,7 @@ impl<J: JobKind> WorkerThread<J> {
                     let Some(task) = self.bench.take_task() else {
                         unreachable!()
                     };
-                    return Some(self.run_second(rt, alloc, call, task));
+                    return self.run_second(rt, alloc, call, task, tag);
                 }
                 Err(
                     Move::Enter {
@@ -201,19 +197,53 @@ impl<J: JobKind> WorkerThread<J> {
                     };
                     self.run_task(rt, alloc, task);
                     if let Place::ProbeWorking(wait) = frame {
-                        return self.wait_for(rt, alloc, wait.target, held);
+                        return claimed(self.wait_for(rt, alloc, wait.target, held), tag);
                     }
                 }
-                Err(_) => return self.bench.take_done(),
+                Err(_) => return claimed(self.bench.take_done(), tag),
             }
         }
         unreachable!()
     }
 
-    // Runs the own second side, which was taken back, and gives the unit of the terminate count back.
+    // Runs the own second side, which was taken back, gives the unit of the terminate count back, and claims the result.
     #[inline(always)]
     #[tactic(auto, unfolding(crate::specs::Pushes::units_of, crate::specs::Pushes::shape_at, crate::specs::Pushes::seat_of, crate::specs::Pushes::acts_of))]
     fn run_second<R: Waits<J>>(
+        &mut self,
+        rt: &R,
+        alloc: Global,
+        call: OpenCall,
+        task: Task<J>,
+        tag: &J::Tag,
+    ) -> Result<Result<J::Output, J::Fault>, Lost>
+        requires some { 0 < self.old.levels }
+        requires levels { self.old.levels ≤ R.levels rt.now }
+        ensures ok { IfOk result (λ r. J.answers tag.now r) }
+        ensures ended { EndedCall self.old self.new }
+        ensures path { Lowered self.old.shape (Worker 0 self.old.seat) call self.old.acts self.new.acts }
+    {
+        if !task.is_single() {
+            return claimed(Some(self.run_second_pair(rt, alloc, call, task)), tag);
+        }
+        let (job, injected, share) = single_parts(task);
+        self.bench.keep_call(alloc, share);
+        self.bench.begin_here(call.job);
+        let done = self.run_to_done(rt, alloc, job, injected);
+        let then = Then::Answers {
+            call,
+            first: Some(Ending::Fine),
+            last: done.ending(),
+        };
+        self.bench.lower_then(rt, call.job, then);
+        claimed(Some(done), tag)
+    }
+
+    // The same for a task of two sides, which no join of the worker's own queues.
+    #[cold]
+    #[inline(never)]
+    #[tactic(auto, unfolding(crate::specs::Pushes::units_of, crate::specs::Pushes::shape_at, crate::specs::Pushes::seat_of, crate::specs::Pushes::acts_of))]
+    fn run_second_pair<R: Waits<J>>(
         &mut self,
         rt: &R,
         alloc: Global,
@@ -225,9 +255,10 @@ impl<J: JobKind> WorkerThread<J> {
         ensures ended { EndedCall self.old self.new }
         ensures path { Lowered self.old.shape (Worker 0 self.old.seat) call self.old.acts self.new.acts }
     {
+        let name = call.job;
         let (work, injected, share) = task_parts(task);
         self.bench.keep_call(alloc, share);
-        self.bench.begin_here(call.job);
+        self.bench.begin_here(name);
         let (done, first) = self.run_work(rt, alloc, work, injected);
         if let Some((ticket, done)) = first {
             ticket.store(rt, done);
@@ -237,7 +268,7 @@ impl<J: JobKind> WorkerThread<J> {
             first: Some(Ending::Fine),
             last: done.ending(),
         };
-        self.bench.lower_then(rt, call.job, then);
+        self.bench.lower_then(rt, name, then);
         done
     }
 
@@ -255,13 +286,21 @@ impl<J: JobKind> WorkerThread<J> {
         ensures same { SameWorker self.old self.new }
     {
         match self.fork(rt, alloc, second, true) {
-            Ok(fork) => {
+            Ok(
+                Fork {
+                    call,
+                    tag: handed_in,
+                },
+            ) => {
                 let tag = first.tag();
                 let answer = rt.run_job(alloc, self, first, &mut FnContext::new(true));
-                let (found, _) = self.meet(rt, alloc, fork, answer.is_err());
+                let second = match self.meet(rt, alloc, call, &handed_in, answer.is_err()) {
+                    Ok(answer) => Some(Done::of_run(handed_in, answer)),
+                    Err(_) => None,
+                };
                 PairRun {
                     first: Done::of_run(tag, answer),
-                    second: found,
+                    second,
                 }
             }
             Err((_, second)) => self.one_after_the_other(rt, alloc, first, second),
@@ -380,11 +419,11 @@ impl<J: JobKind> Sides<J> for WorkerThread<J> {
 
     ghost joined = { λ e v w. Joined v.shape (Worker 0 v.seat) e v.acts w.acts };
 
-    ghost offered = { λ v f. Offered v.shape (Worker 0 v.seat) f.fork.ticket.number v.acts f.lent.acts };
+    ghost offered = { λ v f. Offered v.shape (Worker 0 v.seat) f.fork.call.ticket.number v.acts f.lent.acts };
 
-    ghost met = { λ e f w. (x : Log) × AddsRun f.lent.acts x × Met w.shape (Worker 0 w.seat) f.fork.ticket.number e x w.acts };
+    ghost met = { λ e f w. (x : Log) × AddsRun f.lent.acts x × Met w.shape (Worker 0 w.seat) f.fork.call.ticket.number e x w.acts };
 
-    ghost joins = { λ e v w f same a b. joins_by e v w f.fork.ticket.number f.lent.acts same a b };
+    ghost joins = { λ e v w f same a b. joins_by e v w f.fork.call.ticket.number f.lent.acts same a b };
 
     ghost fork_tag = { λ f. f.fork.tag };
 
@@ -410,8 +449,8 @@ impl<J: JobKind> Sides<J> for WorkerThread<J> {
     ) -> Result<Result<J::Output, J::Fault>, Lost> {
         let ClosureFork { fork, lent } = fork;
         self.take_back(lent);
-        let (found, tag) = self.meet(rt, alloc, fork, first_faulted);
-        claimed(found, &tag)
+        let Fork { call, tag } = fork;
+        self.meet(rt, alloc, call, &tag, first_faulted)
     }
 }
 

@@ -358,7 +358,6 @@ impl<J: JobKind> WorkerThread<J> {
 
     // Runs what there is to run of a task. Answers the result for the call's cell, and of two sides the first one's
     // with the ticket to whose cell that goes.
-    #[inline(always)]
     pub(crate) fn run_work<R: Waits<J>>(
         &mut self,
         rt: &R,

@@ -1,7 +1,7 @@
 //! What lies in the queues of a pool.
-ghost use Rattle.rayon_tasks.specs.Tasks.{OneJob, TwoSides};
+ghost use Rattle.rayon_tasks.specs.Tasks.{IsSingle, OneJob, TwoSides};
 ghost use Rattle.rayon_tasks.specs.Works.{work_of};
-ghost use Rattle.std.specs.Prelude.{◌≡◌, true, IfOk, IfErr};
+ghost use Rattle.std.specs.Prelude.{◌≡◌, ◌↔◌, IsTrue, true, IfOk, IfErr};
 
 use crate::ticket::Ticket;
 use crate::work::{Pair, Work};
@@ -62,6 +62,13 @@ impl<J: JobKind> Task<J> {
     {
         self.injected
     }
+
+    /// Whether there is one job to run.
+    pub fn is_single(&self) -> bool
+        ensures { IsTrue result ↔ IsSingle self.now.work }
+    {
+        self.first.is_none()
+    }
 }
 
 /// The task of one job, whose result goes to the cell of this ticket.
@@ -101,6 +108,26 @@ pub fn task_of_pair<J: JobKind>(
             let Task { job: first, .. } = refused.value;
             Err((first, second))
         }
+    }
+}
+
+/// The job of a task that has one alone, whether the call was made outside the pool, and the call's ticket.
+#[inline(always)]
+pub fn single_parts<J: JobKind>(task: Task<J>) -> (J, bool, Ticket<J>)
+    requires { IsSingle task.work }
+    ensures work { OneJob result.0 ≡ task.work }
+    ensures injected { result.1 ≡ task.injected }
+    ensures ticket { result.2 ≡ task.ticket }
+{
+    let Task {
+        job,
+        injected,
+        ticket,
+        first,
+    } = task;
+    match first {
+        None => (job, injected, ticket),
+        Some(_) => unreachable!(),
     }
 }
 

@@ -8,14 +8,14 @@ use Rattle.rayon_registry.specs.Pushes.{acts_of, seat_of, shape_at}
 use Rattle.rayon_registry.proofs.Made.{made, on_err}
 use Rattle.rayon_registry.proofs.worker_thread.WorkerThread.fork.Goals as goal
 
-pub returns-in_err-held-clause-path : goal.returns-in_err-held-clause-path
+pub returns-in_err-call-clause-path : goal.returns-in_err-call-clause-path
 unfolding acts_of seat_of shape_at
-returns-in_err-held-clause-path g c =
+returns-in_err-call-clause-path g c =
     let b = c.self.inside.bench in
     let u = c.offer.new.self in
     let n = c.in-Some.name in
     let first = Stay (at.RaiseCount (own_join n)) in
-    let made = subst (λ v. Made v.shape (Worker 0 v.seat) first v.acts u.trace (HandBack (own_join n))) c.self.view_is (made b.shape b.index first b u (HandBack (own_join n)) c.in_err-held.ensures.path) in
+    let made = subst (λ v. Made v.shape (Worker 0 v.seat) first v.acts u.trace (HandBack (own_join n))) c.self.view_is (made b.shape b.index first b u (HandBack (own_join n)) c.in_err-call.ensures.path) in
     on_err _ _ c.from_residual.result c.from_residual.ensures.0 (inr (n, made))
 
 pub returns-clause-path : goal.returns-clause-path
@@ -26,6 +26,6 @@ returns-clause-path g c =
     let n = c.in-Some.name in
     let first = Stay (at.RaiseCount (own_join n)) in
     let end = StartRun (at.FirstSide (own_call n) n) n in
-    let named : n ≡ c.in_ok-held.held.ticket.number = search rules in
+    let named : n ≡ c.in_ok-call.call.ticket.number = search rules in
     subst (λ (z : ℕ). Offered c.args.self.now.shape (Worker 0 c.args.self.now.seat) z c.args.self.now.acts u.trace) named
-    (subst (λ v. Made v.shape (Worker 0 v.seat) first v.acts u.trace end) c.self.view_is (made b.shape b.index first b u end c.in_ok-held.ensures.path))
+    (subst (λ v. Made v.shape (Worker 0 v.seat) first v.acts u.trace end) c.self.view_is (made b.shape b.index first b u end c.in_ok-call.ensures.path))

@@ -18,7 +18,7 @@ returns-clause-path g c =
     let a = c.args.self.now in
     let x = c.begin_here.new.self in
     let s = c.self-2.inside.bench in
-    let w = c.run_work-done.new.self in
+    let w = c.run_to_done-done.new.self in
     let u = c.lower_then.new.self in
     let begins = Stay (at.BeginHere c.args.call.job) in
     let run = Stay (at.Run c.args.call.job Direct) in
@@ -29,4 +29,4 @@ returns-clause-path g c =
     let here = subst (λ v. Made v.shape (Worker 0 v.seat) first v.acts u.trace Back) c.self-2.view_is (made s.shape s.index first s u Back c.lower_then.ensures.path) in
     let seat : w.seat ≡ a.seat = search rules in
     let shape : w.shape ≡ a.shape = search rules in
-    (c.ending.result, x.trace, w.acts, begun, c.run_work-done.ensures.acts, made_as w.shape a.shape w.seat a.seat first w.acts u.trace Back Back seat shape refl here)
+    (c.ending.result, x.trace, w.acts, begun, c.run_to_done-done.ensures.acts, made_as w.shape a.shape w.seat a.seat first w.acts u.trace Back Back seat shape refl here)

@@ -5,7 +5,7 @@ use crate::errand::Errand;
 use crate::pool::{Two, begun, call_of, end, found, offer, tell, tell_task};
 use rayon_jobs::{Done, JobKind};
 use rayon_machine_places::place::{Move, Place, Target};
-use rayon_performers::{Bench, Guest};
+use rayon_performers::{Bench, Guest, Reclaimed};
 use rayon_sleep::latch::SpinLatch;
 use rayon_tasks::{Pair, Work, task_parts};
 use rayon_words::latch::LockLatch;
@@ -181,7 +181,7 @@ fn an_owner_waits_for_its_thief(rt: HostRuntime) -> Result<(), Fail> {
             let mut owner = share.worker(0, first);
             offer(handle, alloc, &mut owner, 0);
             raised.wait(handle);
-            let waited = matches!(owner.reclaim(handle, call_of(0)), Err(Move::Back));
+            let waited = matches!(owner.reclaim(handle, call_of(0)), Reclaimed::Answered);
             (waited, found(&mut owner))
         },
         move || {

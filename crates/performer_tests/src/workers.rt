@@ -2,7 +2,7 @@
 use crate::errand::Errand;
 use crate::pool::{Two, call_of, end, found, number_of, offer, work};
 use rayon_machine_places::place::{Ending, Then};
-use rayon_performers::Guest;
+use rayon_performers::{Guest, Reclaimed};
 use rayon_words::Refusal;
 use std::test::Fail;
 use std::thread;
@@ -21,7 +21,7 @@ fn a_second_side_is_taken_back(rt: HostRuntime) -> Result<(), Fail> {
     } = two;
     let mut first = share.worker(0, first);
     offer(&rt, alloc, &mut first, 3);
-    let taken = first.reclaim(&rt, call_of(3)).is_ok();
+    let taken = matches!(first.reclaim(&rt, call_of(3)), Reclaimed::Own);
     let number = number_of(first.take_task());
     let then = Then::Answers {
         call: call_of(3),
@@ -51,7 +51,7 @@ fn a_thief_answers_the_join(rt: HostRuntime) -> Result<(), Fail> {
     let mut second = other.worker(1, second);
     offer(&rt, alloc, &mut first, 0);
     let number = work(&rt, &mut second, 9);
-    let stolen = first.reclaim(&rt, call_of(0)).is_err();
+    let stolen = !matches!(first.reclaim(&rt, call_of(0)), Reclaimed::Own);
     let answer = found(&mut first);
     end(&rt, &registry, hold);
     assert_eq!(rt; number, Some(7));

@@ -1,6 +1,6 @@
 -- How a wait ends: with a task that begins above it, with its latch set, or with the result of the call that it waits for;
 -- and how a join's look for its own second side does.
-use Rattle.std.specs.Prelude.{◌≡◌, ◌⊎◌, ◌-◌, ℕ, Some}
+use Rattle.std.specs.Prelude.{◌≡◌, ◌⊎◌, ◌-◌, ℕ, Some, if◌then◌else◌}
 use Rattle.rayon_machine_places.specs.declared.place.Ending.TheVariants.{Fine}
 use Rattle.rayon_machine_places.specs.declared.place.OpenCall.{OpenCall}
 use Rattle.rayon_machine_places.specs.declared.place.Target.{Target}
@@ -11,7 +11,10 @@ use Rattle.rayon_machine_places.specs.declared.place.Move.{Move}
 use Rattle.rayon_machine_places.specs.declared.place.Move.TheVariants.{Stay, Enter, Back}
 use Rattle.rayon_machine_places.specs.Places.{fresh}
 use Rattle.rayon_atomics.specs.declared.views.Guard.{Guard}
-use Rattle.rayon_performers.specs.Hands.{Hands}
+use Rattle.rayon_machine_places.specs.declared.place.Taken.TheVariants.{Plain}
+use Rattle.rayon_performers.specs.declared.reclaimed.Reclaimed.{Reclaimed}
+use Rattle.rayon_performers.specs.declared.reclaimed.Reclaimed.TheVariants.{Own, Other, Answered}
+use Rattle.rayon_performers.specs.Hands.{Hands, HasTask, HasTicket}
 
 -- a task that was in a queue begins
 abbrev pub IsTaken : Place → Type 0
@@ -33,6 +36,13 @@ Rejoined o (Enter f p) = ((f ≡ at.JoinProbe o) ⊎ (f ≡ at.ProbeWorking (fre
 Rejoined o Back = Unit {0}
 Rejoined o m = ⊥
 
+-- where a join that looked for its own second side goes on after it found this: that side's run begins, or another task's,
+-- after which it waits for the thief's answer or looks again, or it has the result
+abbrev pub rejoins : OpenCall → Reclaimed → Move
+rejoins o Own = Enter (at.SecondSide o) (at.BeginHere o.job)
+rejoins o (Other t waits) = Enter (if waits then at.ProbeWorking (fresh (Answer o (Some Fine))) else at.JoinProbe o) (at.BeginTask t)
+rejoins o Answered = Back
+
 -- the units of the terminate count that the worker's calls hold where a wait, or a join's look, has moved so: a call that
 -- has its result has given its unit back
 abbrev pub units_after : Move → ℕ → ℕ
@@ -43,6 +53,12 @@ module _ {X G O F : Type 0} where
   -- what one worker of one pool has at hand, before and after
   abbrev pub SameSeat : Hands X G O F → Hands X G O F → Type 0
   SameSeat s t = (t.index ≡ s.index) × (t.shape ≡ s.shape)
+
+  -- the task that a join found is in hand, and where it is another's, the join's own call too
+  abbrev pub FoundSo : OpenCall → Hands X G O F → Reclaimed → Type 0
+  FoundSo o s Own = HasTask s.task (Some (Plain o.job))
+  FoundSo o s (Other t waits) = HasTask s.task (Some t) × HasTicket s.call (Some o.number)
+  FoundSo o s Answered = Unit {0}
 
   -- the same worker, where a seat that knows this stands for that of its terminate latch
   abbrev pub waiting_on : Guard → Hands X G O F → Hands X G O F

@@ -20,10 +20,11 @@ ghost use Rattle.rayon_performers.specs.Hands.{Does, HasResult, HasTask, HasTick
 ghost use Rattle.rayon_performers.specs.Seats.{Resting};
 ghost use Rattle.rayon_performers.specs.Stands.{Seated, Stands, call_to};
 ghost use Rattle.rayon_performers.specs.Tails.{IsLast, IsTail};
-ghost use Rattle.rayon_performers.specs.Waits.{Rejoined, SameSeat, Waited, units_after, waiting_on};
+ghost use Rattle.rayon_performers.specs.Waits.{FoundSo, SameSeat, Waited, rejoins, units_after, waiting_on};
 ghost use Rattle.rayon_queues.specs.Deques.{SameDeque, Unmoved};
 
 use crate::bench::Bench;
+use crate::reclaimed::{Reclaimed, found_by};
 use rayon_atomics::own_latch::OwnLatch;
 use rayon_drive::drive::drive;
 use rayon_jobs::JobKind;
@@ -294,30 +295,29 @@ impl<J: JobKind> Bench<J> {
     }
 
     /// A join whose first side has ended without a fault looks at its latch, and takes its own second side back where
-    /// that is the newest task of the own deque. Else it answers how far the program has gone from there.
+    /// that is the newest task of the own deque. Else it goes on as far as another task, or the result.
     #[inline(always)]
-    pub fn reclaim<R: Wait>(&mut self, rt: &R, call: OpenCall) -> Result<(), Move>
+    pub fn reclaim<R: Wait>(&mut self, rt: &R, call: OpenCall) -> Reclaimed
         requires ticket { HasTicket self.old.call (Some call.number) }
         requires rests { Resting self.old.chair }
-        ensures path { MatchResult result
-            (λ _. Driven (λ s a x t. Does a x s t) (λ s. s.trace) self.old.shape (Worker 0 self.old.index) (Stay (at.JoinProbe call)) self.old self.new (Enter (at.SecondSide call) (at.BeginHere call.job)))
-            (λ m. Driven (λ s a x t. Does a x s t) (λ s. s.trace) self.old.shape (Worker 0 self.old.index) (Stay (at.JoinProbe call)) self.old self.new m) }
-        ensures own { MatchResult result (λ _. HasTask self.new.task (Some (Plain call.job))) (λ m. Stands self.new m × (goes m ≡ false)) }
-        ensures rejoins { IfErr result (λ m. Rejoined call m) }
-        ensures units { MatchResult result (λ _. self.new.holds ≡ self.old.holds) (λ m. self.new.holds ≡ units_after m self.old.holds) }
+        ensures path { Driven (λ s a x t. Does a x s t) (λ s. s.trace) self.old.shape (Worker 0 self.old.index) (Stay (at.JoinProbe call)) self.old self.new (rejoins call result) }
+        ensures found { FoundSo call self.new result }
+        ensures units { self.new.holds ≡ units_after (rejoins call result) self.old.holds }
         ensures seat { SameSeat self.old self.new }
         ensures rests { Resting self.new.chair }
     {
         let shape = self.shape;
         let index = self.index;
         if self.probe(Latch::OfCall(call.number)) {
-            return Err(self.go_on_from(rt, shape, index, Place::JoinProbe(call), Seen::Yes));
+            let place = Place::JoinProbe(call);
+            return found_by(call, self.go_on_from(rt, shape, index, place, Seen::Yes));
         }
         let popped = self.pop_own();
         if is_task(popped, call.job) {
-            return Ok(());
+            return Reclaimed::Own;
         }
-        Err(self.go_on_from(rt, shape, index, Place::JoinPop(call), popped))
+        let place = Place::JoinPop(call);
+        found_by(call, self.go_on_from(rt, shape, index, place, popped))
     }
 }
 

@@ -29,7 +29,7 @@ use Rattle.rayon_drive.proofs.Paths.{driven_read}
 use Rattle.rayon_tasks.specs.Tasks.{TaskOf}
 use Rattle.rayon_performers.specs.Hands.{Hands, Does, kind_of}
 use Rattle.rayon_performers.specs.Stands.{Stands}
-use Rattle.rayon_performers.specs.Waits.{Rejoined, Waited, units_after}
+use Rattle.rayon_performers.specs.Waits.{Waited, units_after}
 use Rattle.rayon_registry.specs.Acts.{CallMade, Lowered, Made, Worked, wait_end}
 use Rattle.rayon_registry.specs.Worker.{AfterWait, Worker as WorkerValue}
 
@@ -163,42 +163,3 @@ runs_second h q o v u w e a l =
 
 pub lowered_as : (h k : PoolShape) (i j : ℕ) (o : OpenCall) (v w : Log) → i ≡ j → h ≡ k → Lowered h (Worker 0 i) o v w → Lowered k (Worker 0 j) o v w
 lowered_as h k i j o v w e f a = subst (λ (z : PoolShape). Lowered z (Worker 0 j) o v w) f (subst (λ (z : ℕ). Lowered h (Worker 0 z) o v w) e a)
-
--- what a wait at a place waits for
-abbrev pub target_at : Place → Target
-target_at (at.ProbeWorking k) = k.target
-target_at _ = Termination
-
-abbrev pub is_wait : Place → Bool
-is_wait (at.ProbeWorking k) = true
-is_wait _ = false
-
--- a join that has met another task looks again, or waits for the thief's answer
-pub met_again : (o : OpenCall) (f p : Place) (m : Move) → m ≡ Enter f p → Rejoined o m → ((k : Wait) → f ≡ at.ProbeWorking k → ⊥) → m ≡ Enter (at.JoinProbe o) p
-met_again o f p m e a n =
-    let b = subst (λ (z : Move). Rejoined o z) e a in
-    elim b.0 [
-      | inl d ↦ subst (λ (z : Place). m ≡ Enter z p) d e
-      | inr d ↦ absurd (n (fresh (Answer o (Some Fine))) d)
-    ]
-
-pub met_waiting : (o : OpenCall) (f p : Place) (m : Move) (k : Wait) → m ≡ Enter f p → f ≡ at.ProbeWorking k → Rejoined o m → (m ≡ Enter (at.ProbeWorking (fresh (Answer o (Some Fine)))) p) × (k.target ≡ Answer o (Some Fine))
-met_waiting o f p m k e d a =
-    let b = subst (λ (z : Move). Rejoined o z) e a in
-    elim b.0 [
-      | inl c ↦ absurd (true≢false (subst (λ (z : Place). is_wait z ≡ false) d (subst (λ (z : Place). is_wait z ≡ false) (sym c) refl)))
-      | inr c ↦ (subst (λ (z : Place). m ≡ Enter z p) c e, subst (λ (z : Place). target_at z ≡ Answer o (Some Fine)) d (subst (λ (z : Place). target_at z ≡ Answer o (Some Fine)) (sym c) refl))
-    ]
-
--- a join's look that has found no task has its result
-pub met_end : (o : OpenCall) (m : Move) → Rejoined o m → ((f : Place) (k : Taken) → m ≡ Enter f (at.BeginTask k) → ⊥) → m ≡ Back
-met_end o (Enter f (at.BeginTask k)) a n = absurd (n f k refl)
-met_end o (Enter f _) a n = absurd a.1
-met_end o Back a n = refl
-met_end o (Stay p) a n = absurd a
-met_end o (StartRun f k) a n = absurd a
-met_end o (HandBack k) a n = absurd a
-met_end o (HandIn p k) a n = absurd a
-met_end o (Discard k) a n = absurd a
-met_end o (Mark p c m) a n = absurd a
-met_end o (HandAllBack c) a n = absurd a

@@ -20,7 +20,8 @@ use crate::context::{Context, FnContext, Scope};
 use crate::job::Waits;
 use crate::worker_thread::{Lent, WorkerThread};
 use rayon_jobs::{Done, JobKind, Lost, claimed};
-use rayon_machine_places::place::{Ending, Move, OpenCall, Place, Target, Then};
+use rayon_machine_places::place::{Ending, OpenCall, Target, Then};
+use rayon_performers::Reclaimed;
 use rayon_tasks::{Call, Task, single_parts, task_parts};
 use rayon_words::{CallError, Refusal};
 use std::alloc::Global;
@@ -178,29 +179,28 @@ impl<J: JobKind> WorkerThread<J> {
         for _ in rt.forever() {
             self.bench.set_call(held);
             match self.bench.reclaim(rt, call) {
-                Ok(()) => {
+                Reclaimed::Own => {
                     let Some(task) = self.bench.take_task() else {
                         unreachable!()
                     };
                     return self.run_second(rt, alloc, call, task, tag);
                 }
-                Err(
-                    Move::Enter {
-                        frame,
-                        place: Place::BeginTask(name),
-                    },
-                ) => {
+                Reclaimed::Other { task: name, waits } => {
                     held = self.bench.take_call();
                     self.bench.begin_task(name);
                     let Some(task) = self.bench.take_task() else {
                         unreachable!()
                     };
                     self.run_task(rt, alloc, task);
-                    if let Place::ProbeWorking(wait) = frame {
-                        return claimed(self.wait_for(rt, alloc, wait.target, held), tag);
+                    if waits {
+                        let target = Target::Answer {
+                            call,
+                            first: Some(Ending::Fine),
+                        };
+                        return claimed(self.wait_for(rt, alloc, target, held), tag);
                     }
                 }
-                Err(_) => return claimed(self.bench.take_done(), tag),
+                Reclaimed::Answered => return claimed(self.bench.take_done(), tag),
             }
         }
         unreachable!()

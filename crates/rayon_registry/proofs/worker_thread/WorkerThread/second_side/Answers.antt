@@ -1,4 +1,4 @@
-use Rattle.std.proofs.Common.{◌≡◌, Some, refl, rules, subst, sym}
+use Rattle.std.proofs.Common.{◌≡◌, Bool, true, false, if◌then◌else◌, Some, refl, rules, subst, sym}
 use Rattle.rayon_machine_places.specs.declared.place.Ending.TheVariants.{Fine}
 use Rattle.rayon_machine_places.specs.declared.place.Move.TheVariants.{Back, Enter, Stay}
 use Rattle.rayon_machine_places.specs.declared.place.Party.TheVariants.{Worker}
@@ -6,14 +6,14 @@ use Rattle.rayon_machine_places.specs.declared.place.Place.TheVariants as at
 use Rattle.rayon_machine_places.specs.declared.place.Target.TheVariants.{Answer}
 use Rattle.rayon_machine_places.specs.Places.{fresh}
 use Rattle.rayon_drive.specs.declared.trace.Log.{Log}
-use Rattle.rayon_registry.specs.Acts.{Lowered, Made, Worked, wait_end}
+use Rattle.rayon_registry.specs.Acts.{Lowered, Made, Worked}
 use Rattle.rayon_registry.specs.Pushes.{acts_of, seat_of, shape_at, units_of}
-use Rattle.rayon_registry.proofs.Made.{around_task, last, lowered_as, made, made_as, met_again, met_end, met_waiting, runs_second, worked_as}
+use Rattle.rayon_registry.proofs.Made.{around_task, last, lowered_as, made, made_as, runs_second, worked_as}
 use Rattle.rayon_registry.proofs.worker_thread.WorkerThread.second_side.Goals as goal
 
-pub returns-in-Ok-clause-path : goal.returns-in-Ok-clause-path
+pub returns-in-Own-clause-path : goal.returns-in-Own-clause-path
 unfolding acts_of seat_of shape_at units_of
-returns-in-Ok-clause-path g c =
+returns-in-Own-clause-path g c =
     let a = c.args.self.now in
     let l = c.loop.self in
     let b = c.self.inside.bench in
@@ -22,7 +22,7 @@ returns-in-Ok-clause-path g c =
     let o = c.args.call in
     let first = Stay (at.JoinProbe o) in
     let n = Enter (at.SecondSide o) (at.BeginHere o.job) in
-    let mine = subst (λ z. Made z.shape (Worker 0 z.index) first z.trace u.trace n) c.set_call.ensures (made s.shape s.index first s u n c.in-Ok.ensures.path) in
+    let mine = subst (λ z. Made z.shape (Worker 0 z.index) first z.trace u.trace n) c.set_call.ensures (made s.shape s.index first s u n c.in-Own.ensures.path) in
     let here = subst (λ v. Made v.shape (Worker 0 v.seat) first v.acts u.trace n) c.self.view_is mine in
     let found = made_as l.shape a.shape l.seat a.seat first l.acts u.trace n n c.loop.invariant.5 c.loop.invariant.6 refl here in
     let t = c.take_task.new.self in
@@ -33,14 +33,11 @@ returns-in-Ok-clause-path g c =
     let lowered = subst (λ (v : Log). Lowered a.shape (Worker 0 a.seat) o v w) same (lowered_as t.shape a.shape t.index a.seat o t.trace w seat shape c.run_second.ensures.path) in
     c.loop.invariant.8 w Back (runs_second a.shape (Worker 0 a.seat) o l.acts u.trace w c.requires.pool found lowered)
 
-pub returns-in-ProbeWorking-clause-path : goal.returns-in-ProbeWorking-clause-path
+pub returns-then-waits-clause-path : goal.returns-then-waits-clause-path
 unfolding acts_of seat_of shape_at units_of
-returns-in-ProbeWorking-clause-path g c =
-    let p = c.in-Err-Enter-default-BeginTask.field-0-1 in
-    let f = c.in-Err-Enter-default-BeginTask.frame in
-    let k = c.in-ProbeWorking.wait in
-    let entered : c.in-Err-Enter-default-BeginTask.field-0 ≡ Enter f p = search rules in
-    let met = met_waiting c.args.call f p c.in-Err-Enter-default-BeginTask.field-0 k entered c.in-ProbeWorking.is c.in-Err-Enter-default-BeginTask.ensures.rejoins in
+returns-then-waits-clause-path g c =
+    let p = at.BeginTask c.in-Other.name in
+    let wait = at.ProbeWorking (fresh (Answer c.args.call (Some Fine))) in
     let a = c.args.self.now in
     let l = c.loop.self in
     let b = c.self.inside.bench in
@@ -48,38 +45,39 @@ returns-in-ProbeWorking-clause-path g c =
     let u = c.reclaim.new.self in
     let o = c.args.call in
     let first = Stay (at.JoinProbe o) in
-    let n = c.in-Err-Enter-default-BeginTask.field-0 in
-    let mine = subst (λ z. Made z.shape (Worker 0 z.index) first z.trace u.trace n) c.set_call.ensures (made s.shape s.index first s u n c.in-Err-Enter-default-BeginTask.ensures.path) in
+    let n = Enter wait p in
+    let waits : c.in-Other.waits ≡ true = search rules in
+    let moved = subst (λ (z : Bool). Made s.shape (Worker 0 s.index) first s.trace u.trace (Enter (if z then wait else at.JoinProbe o) p)) waits (made s.shape s.index first s u _ c.in-Other.ensures.path) in
+    let mine = subst (λ z. Made z.shape (Worker 0 z.index) first z.trace u.trace n) c.set_call.ensures moved in
     let here = subst (λ v. Made v.shape (Worker 0 v.seat) first v.acts u.trace n) c.self.view_is mine in
-    let found = made_as l.shape a.shape l.seat a.seat first l.acts u.trace n (Enter (at.ProbeWorking (fresh (Answer o (Some Fine)))) p) c.loop.invariant.5 c.loop.invariant.6 met.0 here in
+    let found = made_as l.shape a.shape l.seat a.seat first l.acts u.trace n n c.loop.invariant.5 c.loop.invariant.6 refl here in
     let x = c.run_task.new.self in
     let w = c.wait_for.new.self.acts in
     let seat : x.seat ≡ a.seat = search rules in
     let shape : x.shape ≡ a.shape = search rules in
-    let waited = subst (λ t. Worked x.shape (Worker 0 x.seat) (Stay (at.ProbeWorking (fresh t))) x.acts w (wait_end t)) met.1 c.wait_for.ensures.path in
     let t = c.take_call-held.new.self in
     let y = c.begin_task.new.self in
-    c.loop.invariant.8 w Back (around_task a.shape a.seat (at.ProbeWorking (fresh (Answer o (Some Fine)))) c.in-Err-Enter-default-BeginTask.name c.in-Some-take_task-2.task t y c.take_task-in-Err-Enter-default-BeginTask.new.self p first l.acts u.trace x.acts w Back (search rules) (search rules) (search rules) (search rules) (search rules) (search rules) (search rules) (search rules) found c.begin_task.ensures.path c.run_task.ensures.path
-    (worked_as x.shape a.shape x.seat a.seat (Stay (at.ProbeWorking (fresh (Answer o (Some Fine))))) x.acts w Back seat shape waited))
+    c.loop.invariant.8 w Back (around_task a.shape a.seat wait c.in-Other.name c.in-Some-take_task-2.task t y c.take_task-in-Other.new.self p first l.acts u.trace x.acts w Back (search rules) (search rules) (search rules) (search rules) (search rules) (search rules) (search rules) (search rules) found c.begin_task.ensures.path c.run_task.ensures.path
+    (worked_as x.shape a.shape x.seat a.seat (Stay wait) x.acts w Back seat shape c.wait_for.ensures.path))
 
 pub loop-preserved : goal.loop-preserved
 unfolding acts_of seat_of shape_at units_of
 loop-preserved g c =
-    let p = c.in-Err-Enter-default-BeginTask.field-0-1 in
-    let f = c.in-Err-Enter-default-BeginTask.frame in
-    let entered : c.in-Err-Enter-default-BeginTask.field-0 ≡ Enter f p = search rules in
-    let met = met_again c.args.call f p c.in-Err-Enter-default-BeginTask.field-0 entered c.in-Err-Enter-default-BeginTask.ensures.rejoins c.in_default-frame.not-ProbeWorking in
+    let p = at.BeginTask c.in-Other.name in
     let a = c.args.self.now in
     let l = c.loop.self in
     let b = c.self.inside.bench in
     let s = c.set_call.new.self in
     let u = c.reclaim.new.self in
     let o = c.args.call in
+    let wait = at.ProbeWorking (fresh (Answer o (Some Fine))) in
     let first = Stay (at.JoinProbe o) in
-    let n = c.in-Err-Enter-default-BeginTask.field-0 in
-    let mine = subst (λ z. Made z.shape (Worker 0 z.index) first z.trace u.trace n) c.set_call.ensures (made s.shape s.index first s u n c.in-Err-Enter-default-BeginTask.ensures.path) in
+    let n = Enter (at.JoinProbe o) p in
+    let looks : c.in-Other.waits ≡ false = search rules in
+    let moved = subst (λ (z : Bool). Made s.shape (Worker 0 s.index) first s.trace u.trace (Enter (if z then wait else at.JoinProbe o) p)) looks (made s.shape s.index first s u _ c.in-Other.ensures.path) in
+    let mine = subst (λ z. Made z.shape (Worker 0 z.index) first z.trace u.trace n) c.set_call.ensures moved in
     let here = subst (λ v. Made v.shape (Worker 0 v.seat) first v.acts u.trace n) c.self.view_is mine in
-    let found = made_as l.shape a.shape l.seat a.seat first l.acts u.trace n (Enter (at.JoinProbe o) p) c.loop.invariant.5 c.loop.invariant.6 met here in
+    let found = made_as l.shape a.shape l.seat a.seat first l.acts u.trace n n c.loop.invariant.5 c.loop.invariant.6 refl here in
     let t = c.take_call-held.new.self in
     let y = c.begin_task.new.self in (
       tt,
@@ -90,13 +88,12 @@ loop-preserved g c =
       search rules,
       search rules,
       search rules,
-      λ w m x. c.loop.invariant.8 w m (around_task a.shape a.seat (at.JoinProbe o) c.in-Err-Enter-default-BeginTask.name c.in-Some-take_task-2.task t y c.take_task-in-Err-Enter-default-BeginTask.new.self p first l.acts u.trace c.run_task.new.self.acts w m (search rules) (search rules) (search rules) (search rules) (search rules) (search rules) (search rules) (search rules) found c.begin_task.ensures.path c.run_task.ensures.path x),
+      λ w m x. c.loop.invariant.8 w m (around_task a.shape a.seat (at.JoinProbe o) c.in-Other.name c.in-Some-take_task-2.task t y c.take_task-in-Other.new.self p first l.acts u.trace c.run_task.new.self.acts w m (search rules) (search rules) (search rules) (search rules) (search rules) (search rules) (search rules) (search rules) found c.begin_task.ensures.path c.run_task.ensures.path x),
     )
 
-pub returns-in-Err-clause-path : goal.returns-in-Err-clause-path
+pub returns-in-Answered-clause-path : goal.returns-in-Answered-clause-path
 unfolding acts_of seat_of shape_at units_of
-returns-in-Err-clause-path g c =
-    let met = met_end c.args.call c.in-Err.field-0 c.in-Err.ensures.rejoins (λ f k e. search rules) in
+returns-in-Answered-clause-path g c =
     let a = c.args.self.now in
     let l = c.loop.self in
     let b = c.self.inside.bench in
@@ -104,9 +101,8 @@ returns-in-Err-clause-path g c =
     let u = c.reclaim.new.self in
     let o = c.args.call in
     let first = Stay (at.JoinProbe o) in
-    let n = c.in-Err.field-0 in
-    let mine = subst (λ z. Made z.shape (Worker 0 z.index) first z.trace u.trace n) c.set_call.ensures (made s.shape s.index first s u n c.in-Err.ensures.path) in
-    let here = subst (λ v. Made v.shape (Worker 0 v.seat) first v.acts u.trace n) c.self.view_is mine in
-    let found = made_as l.shape a.shape l.seat a.seat first l.acts u.trace n Back c.loop.invariant.5 c.loop.invariant.6 met here in
+    let mine = subst (λ z. Made z.shape (Worker 0 z.index) first z.trace u.trace Back) c.set_call.ensures (made s.shape s.index first s u Back c.in-Answered.ensures.path) in
+    let here = subst (λ v. Made v.shape (Worker 0 v.seat) first v.acts u.trace Back) c.self.view_is mine in
+    let found = made_as l.shape a.shape l.seat a.seat first l.acts u.trace Back Back c.loop.invariant.5 c.loop.invariant.6 refl here in
     subst (λ z. Worked a.shape (Worker 0 a.seat) first a.acts z.trace Back) (sym c.take_done.ensures.left)
     (c.loop.invariant.8 u.trace Back (last a.shape (Worker 0 a.seat) first l.acts u.trace Back found))

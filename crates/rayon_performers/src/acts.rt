@@ -385,8 +385,13 @@ impl<J: JobKind> Bench<J> {
     fn next_spare(&mut self) -> Option<(Call<J>, Ticket<J>)>
         ensures { self.new ≡ self.old }
     {
-        match &mut self.spares {
-            Some(spares) => spares.pop(),
+        let Some(spares) = &mut self.spares else {
+            return None;
+        };
+        let last = self.kept.checked_sub(1)?;
+        self.kept = last;
+        match spares.get_mut(last) {
+            Some(place) => place.take(),
             None => None,
         }
     }

@@ -46,7 +46,9 @@ pub struct Bench<J: JobKind> {
     pub(crate) call: Option<Call<J>>,
     // calls that have ended, each with the share of its ticket that went with the task and came back: they serve the next
     // ones
-    pub(crate) spares: Option<Vec<(Call<J>, Ticket<J>)>>,
+    pub(crate) spares: Option<Vec<Option<(Call<J>, Ticket<J>)>>>,
+    // how many of these places are filled: the first ones
+    pub(crate) kept: usize,
     pub(crate) reply: Option<Ticket<J>>,
     pub(crate) done: Option<Done<J>>,
     // of two sides, the first side's result, and the ticket to whose cell it goes
@@ -128,6 +130,7 @@ impl<J: JobKind> Bench<J> {
             task: None,
             call: None,
             spares: None,
+            kept: 0,
             reply: None,
             done: None,
             first: None,
@@ -195,9 +198,15 @@ impl<J: JobKind> Bench<J> {
         if self.spares.is_none() {
             self.spares = Some(Vec::new(alloc));
         }
-        if let (Some(spares), Some(call)) = (&mut self.spares, self.call.take()) {
-            if spares.len() < SPARES {
-                drop(spares.push((call, share)));
+        let Some(call) = self.call.take() else {
+            return;
+        };
+        if let Some(spares) = &mut self.spares {
+            if let Some(place) = spares.get_mut(self.kept) {
+                *place = Some((call, share));
+                self.kept += 1;
+            } else if self.kept < SPARES && spares.push(Some((call, share))).is_ok() {
+                self.kept = spares.len();
             }
         }
     }

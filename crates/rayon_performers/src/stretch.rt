@@ -306,16 +306,49 @@ impl<J: JobKind> Bench<J> {
         ensures seat { SameSeat self.old self.new }
         ensures rests { Resting self.new.chair }
     {
-        let shape = self.shape;
-        let index = self.index;
         if self.probe(Latch::OfCall(call.number)) {
-            let place = Place::JoinProbe(call);
-            return found_by(call, self.go_on_from(rt, shape, index, place, Seen::Yes));
+            return self.go_on_set(rt, call);
         }
         let popped = self.pop_own();
         if is_task(popped, call.job) {
             return Reclaimed::Own;
         }
+        self.go_on_popped(rt, call, popped)
+    }
+
+    // A join goes on that has seen its latch set.
+    #[cold]
+    #[inline(never)]
+    fn go_on_set<R: Wait>(&mut self, rt: &R, call: OpenCall) -> Reclaimed
+        requires hands { Stands self.old (next_of self.old.shape (Worker 0 self.old.index) (at.JoinProbe call) saw.Yes) }
+        requires seat { Seated self.old.chair (next_of self.old.shape (Worker 0 self.old.index) (at.JoinProbe call) saw.Yes) }
+        ensures path { Driven (λ s a x t. Does a x s t) (λ s. s.trace) self.old.shape (Worker 0 self.old.index) (next_of self.old.shape (Worker 0 self.old.index) (at.JoinProbe call) saw.Yes) self.old self.new (rejoins call result) }
+        ensures found { FoundSo call self.new result }
+        ensures units { self.new.holds ≡ units_after (rejoins call result) self.old.holds }
+        ensures same { SameSeat self.old self.new }
+        ensures rests { Resting self.new.chair }
+    {
+        let shape = self.shape;
+        let index = self.index;
+        let place = Place::JoinProbe(call);
+        found_by(call, self.go_on_from(rt, shape, index, place, Seen::Yes))
+    }
+
+    // A join goes on that has taken no task of its own deque, or not its own second side.
+    #[cold]
+    #[inline(never)]
+    fn go_on_popped<R: Wait>(&mut self, rt: &R, call: OpenCall, popped: Seen) -> Reclaimed
+        requires hands { Stands self.old (next_of self.old.shape (Worker 0 self.old.index) (at.JoinPop call) popped) }
+        requires seat { Seated self.old.chair (next_of self.old.shape (Worker 0 self.old.index) (at.JoinPop call) popped) }
+        requires other { popped ≡ saw.Task (Plain call.job) → ⊥ }
+        ensures path { Driven (λ s a x t. Does a x s t) (λ s. s.trace) self.old.shape (Worker 0 self.old.index) (next_of self.old.shape (Worker 0 self.old.index) (at.JoinPop call) popped) self.old self.new (rejoins call result) }
+        ensures found { FoundSo call self.new result }
+        ensures units { self.new.holds ≡ units_after (rejoins call result) self.old.holds }
+        ensures same { SameSeat self.old self.new }
+        ensures rests { Resting self.new.chair }
+    {
+        let shape = self.shape;
+        let index = self.index;
         let place = Place::JoinPop(call);
         found_by(call, self.go_on_from(rt, shape, index, place, popped))
     }

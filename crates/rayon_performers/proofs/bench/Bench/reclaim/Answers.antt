@@ -60,8 +60,8 @@ returns-clause-path g c =
     let t = c.pop_own-popped.new.self in
     let x = c.pop_own-popped.result in
     let same = seat_then s c.probe.new.self t
-        (does_stays (acts.Probe (OfCall o.number)) No s c.probe.new.self c.if-probe.ensures.does)
-        (does_stays acts.PopOwn x c.probe.new.self t c.pop_own-popped.ensures.does) in
+    (does_stays (acts.Probe (OfCall o.number)) No s c.probe.new.self c.if-probe.ensures.does)
+    (does_stays acts.PopOwn x c.probe.new.self t c.pop_own-popped.ensures.does) in
     and_then h i (Stay (at.JoinProbe o)) s (next_of h (Worker 0 i) (at.JoinPop o) c.pop_own-popped.result) (rejoins o c.go_on_popped.result) t c.go_on_popped.new.self
     (join_popped h i o s c.probe.new.self t c.pop_own-popped.result
     (join_probed h i o s c.probe.new.self c.probe.new.self false c.if-probe.ensures.does c.if-probe.ensures.adds)

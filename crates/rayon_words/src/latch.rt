@@ -2,7 +2,12 @@
 ghost use Rattle.std.specs.Prelude.{◌≡◌, true, false};
 
 use std::marker::Model;
+use std::sync::atomic::{AtomicBool, Ordering};
 use std::sync::{Condvar, Mutex, Wait};
+
+// How often a thread looks at a latch before it blocks on it: for two or three microseconds, half of what it takes to
+// block and be woken.
+const LOOKS: u32 = 8192;
 
 /// A shared reference to a latch.
 pub type LatchRef<'a, L> = &'a L;
@@ -60,6 +65,8 @@ impl LockLatchState {
 pub struct LockLatch {
     state: Mutex<LockLatchState>,
     changed: Condvar,
+    // what the state says, for a look without the lock; nothing rests on it
+    hint: AtomicBool,
 }
 
 impl LockLatch {
@@ -68,17 +75,23 @@ impl LockLatch {
         LockLatch {
             state: Mutex::new(LockLatchState::new()),
             changed: Condvar::new(),
+            hint: AtomicBool::new(false),
         }
     }
 
     /// Sets the latch, and wakes all that wait on it.
     pub fn set<R: Wait>(&self, rt: &R) {
-        self.state.lock(rt).set();
+        let mut state = self.state.lock(rt);
+        state.set();
+        self.hint.store(true, Ordering::SeqCst);
+        drop(state);
         self.changed.notify_all();
     }
 
-    /// Blocks until the latch is set.
+    /// Blocks until the latch is set. It looks for two or three microseconds first, so that a set that comes so soon
+    /// finds the thread awake.
     pub fn wait<R: Wait>(&self, rt: &R) {
+        self.look();
         let _state = self
             .changed
             .wait_while(rt, self.state.lock(rt), |state| !state.is_set());
@@ -90,5 +103,15 @@ impl LockLatch {
             .changed
             .wait_while(rt, self.state.lock(rt), |state| !state.is_set());
         state.reset();
+        self.hint.store(false, Ordering::SeqCst);
+    }
+
+    // Looks for a while, until the latch seems to be set.
+    fn look(&self) {
+        for _ in 0..LOOKS {
+            if self.hint.load(Ordering::SeqCst) {
+                return;
+            }
+        }
     }
 }

@@ -5,8 +5,8 @@ use std::marker::Model;
 use std::sync::atomic::{AtomicBool, Ordering};
 use std::sync::{Condvar, Mutex, Wait};
 
-// How often a thread looks at a latch before it blocks on it: for two or three microseconds, half of what it takes to
-// block and be woken.
+// How often a thread looks at a latch before it blocks on it: for a few microseconds, about what it takes to block and
+// be woken.
 const LOOKS: u32 = 8192;
 
 /// A shared reference to a latch.
@@ -88,8 +88,8 @@ impl LockLatch {
         self.changed.notify_all();
     }
 
-    /// Blocks until the latch is set. It looks for two or three microseconds first, so that a set that comes so soon
-    /// finds the thread awake.
+    /// Blocks until the latch is set. It looks for a few microseconds first, so that a set that comes so soon finds the
+    /// thread awake.
     pub fn wait<R: Wait>(&self, rt: &R) {
         self.look();
         let _state = self

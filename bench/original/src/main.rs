@@ -1,9 +1,11 @@
 //! The commands of `join_bench` on the original's pools: for each timed run the nanoseconds that it took and what it
 //! answered.
 
-use rayon_core::{join, ThreadPool, ThreadPoolBuilder};
+use rayon_core::{join, spawn, ThreadPool, ThreadPoolBuilder};
 use std::error::Error;
 use std::hint::black_box;
+use std::sync::atomic::{AtomicU64, Ordering};
+use std::sync::Arc;
 use std::thread;
 use std::time::{Duration, Instant};
 
@@ -15,6 +17,9 @@ const RUNS: u32 = 3;
 
 /// How many calls are made from outside, one after the other.
 const CALLS: u32 = 20_000;
+
+/// How many jobs are spawned by one.
+const SPAWNS: u64 = 100_000;
 
 /// How many seconds a pool is idle.
 const SECONDS: u64 = 2;
@@ -35,8 +40,9 @@ fn main() -> Result<(), Box<dyn Error>> {
             let pool = pool_of(workers.parse()?)?;
             time_calls(n.parse()?, |n| joined_twice(&pool, n))
         }
+        ["spawn", workers, _] => time_spawns(&pool_of(workers.parse()?)?),
         ["idle", workers, n] => idle(&pool_of(workers.parse()?)?, n.parse()?),
-        _ => Err("join|leaves|sequential|install|pool_join|idle WORKERS N, or nothing".into()),
+        _ => Err("join|leaves|sequential|install|pool_join|spawn|idle WORKERS N, or nothing".into()),
     }
 }
 
@@ -73,6 +79,27 @@ fn time_calls(n: u8, call: impl Fn(u8) -> Result<u64, &'static str>) -> Result<(
     }
     let nanoseconds = start.elapsed().as_nanos();
     println!("{nanoseconds} {sum}");
+    Ok(())
+}
+
+fn time_spawns(pool: &ThreadPool) -> Result<(), Box<dyn Error>> {
+    for _ in 0..RUNS {
+        let counter = Arc::new(AtomicU64::new(0));
+        let start = Instant::now();
+        pool.install(|| {
+            for _ in 0..SPAWNS {
+                let counter = Arc::clone(&counter);
+                spawn(move || {
+                    counter.fetch_add(1, Ordering::SeqCst);
+                });
+            }
+        });
+        while counter.load(Ordering::SeqCst) < SPAWNS {
+            thread::yield_now();
+        }
+        let nanoseconds = start.elapsed().as_nanos();
+        println!("{nanoseconds} {SPAWNS}");
+    }
     Ok(())
 }
 

@@ -1,7 +1,7 @@
 //! The calls that the program makes, and what they give.
 use crate::on_worker::WorkerCall;
 use crate::outcome::{NoPool, Outcome, Report};
-use crate::work::{Answer, Deed, Name, Work, joined};
+use crate::work::{Answer, Deed, Name, Work, joined, spawned};
 use rayon_core::{CallError, Ids, Refusal, ThreadPool, ThreadPoolBuilder};
 use std::alloc::Global;
 use std::str;
@@ -25,6 +25,8 @@ pub enum PoolCall {
     Install,
     /// `ThreadPool::join`.
     Join,
+    /// `ThreadPool::spawn`.
+    Spawn,
     /// A call on a worker of the pool.
     OnWorker(WorkerCall),
 }
@@ -37,6 +39,8 @@ impl Call {
             "build" => Call::Build,
             "install" => Call::OnPool(PoolCall::Install),
             "pool_join" => Call::OnPool(PoolCall::Join),
+            "pool_spawn" => Call::OnPool(PoolCall::Spawn),
+            "spawn" => Call::OnPool(PoolCall::OnWorker(WorkerCall::Spawn)),
             "join" => Call::OnPool(PoolCall::OnWorker(WorkerCall::Join)),
             "worker_install" => Call::OnPool(PoolCall::OnWorker(WorkerCall::Install)),
             "wait_until" => Call::OnPool(PoolCall::OnWorker(WorkerCall::WaitUntil)),
@@ -55,6 +59,14 @@ impl PoolCall {
         match self {
             PoolCall::OnWorker(WorkerCall::Push | WorkerCall::Deep) => 1,
             _ => 2,
+        }
+    }
+
+    // Whether the job runs after the call: the number of runs is told once the pool has ended.
+    fn spawns(self) -> bool {
+        match self {
+            PoolCall::Spawn | PoolCall::OnWorker(WorkerCall::Spawn) => true,
+            _ => false,
         }
     }
 }
@@ -101,6 +113,17 @@ fn join<R: Wait>(
     let first = Work::new(Name::First, runs, one)?;
     let second = Work::new(Name::Second, runs, two)?;
     Ok(joined(pool.join(rt, alloc, first, second), runs, one, two))
+}
+
+// Spawns a job from outside that counts its run.
+fn spawn<R: Wait>(
+    rt: &R,
+    alloc: Global,
+    pool: &ThreadPool<Work>,
+    runs: &Arc<AtomicU64>,
+) -> Result<Outcome, Refusal> {
+    let job = Work::new(Name::Installed, runs, Deed::Number(7))?;
+    Ok(spawned(pool.spawn(rt, alloc, job), runs, Name::Installed))
 }
 
 // Makes a call and, where it is refused, the same again.
@@ -157,8 +180,12 @@ fn make_on_pool<R: Threads + Wait + Copy + Send + 'static>(
     let report = match call {
         PoolCall::Install => twice(|| install(rt, alloc, &pool, &runs)),
         PoolCall::Join => twice(|| join(rt, alloc, &pool, &runs)),
+        PoolCall::Spawn => twice(|| spawn(rt, alloc, &pool, &runs)),
         PoolCall::OnWorker(call) => install_caller(rt, alloc, &pool, &runs, call),
     };
     pool.end_and_join(rt);
+    if call.spawns() {
+        return Ok(report?.and(runs.load(Ordering::SeqCst)));
+    }
     report
 }

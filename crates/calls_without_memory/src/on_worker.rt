@@ -2,7 +2,7 @@
 ghost use Rattle.std.specs.Prelude.{◌≡◌, ℕ, ◌≤◌};
 
 use crate::outcome::{Outcome, Report};
-use crate::work::{Answer, Deed, Name, Work, joined};
+use crate::work::{Answer, Deed, Name, Work, joined, spawned};
 use rayon_core::latch::OwnLatch;
 use rayon_core::{CallError, Refusal, Waits, WorkerThread};
 use std::alloc::Global;
@@ -21,6 +21,8 @@ pub enum WorkerCall {
     Install,
     /// `WorkerThread::wait_until`.
     WaitUntil,
+    /// `WorkerThread::spawn`.
+    Spawn,
     /// `WorkerThread::owner`.
     Owner,
     /// `WorkerThread::push`, of a second side that was taken before.
@@ -76,6 +78,7 @@ fn make_once<R: Waits<Work>>(
         WorkerCall::Install => install(rt, alloc, w, runs),
         WorkerCall::WaitUntil => Ok(wait_until(rt, alloc, w, runs)),
         WorkerCall::Owner => Ok(owner(w, runs)),
+        WorkerCall::Spawn => spawn(rt, alloc, w, runs),
         WorkerCall::Deep => Ok(Outcome::Unlike),
     }
 }
@@ -125,6 +128,23 @@ fn install<R: Waits<Work>>(
         },
         _ => Outcome::Unlike,
     })
+}
+
+// Spawns a job that counts its run.
+fn spawn<R: Waits<Work>>(
+    rt: &R,
+    alloc: Global,
+    w: &mut WorkerThread<Work>,
+    runs: &Arc<AtomicU64>,
+) -> Result<Outcome, Refusal>
+    ensures id { w.new.id ≡ w.old.id }
+    ensures level { w.new.levels ≡ w.old.levels }
+    ensures units { w.new.units ≡ w.old.units }
+    ensures seat { w.new.seat ≡ w.old.seat }
+    ensures shape { w.new.shape ≡ w.old.shape }
+{
+    let job = Work::new(Name::First, runs, Deed::Number(7))?;
+    Ok(spawned(w.spawn(rt, alloc, job), runs, Name::First))
 }
 
 // Makes a latch, and waits until it is set, which it is.

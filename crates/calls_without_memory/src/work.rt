@@ -86,6 +86,18 @@ pub fn joined(
     }
 }
 
+/// What a spawn gave of a job with this name: 0 where it was queued, to which its run is added once it has run.
+pub fn spawned(answer: Result<(), (Refusal, Work)>, runs: &Arc<AtomicU64>, name: Name) -> Outcome {
+    match answer {
+        Ok(()) => Outcome::Answered(0),
+        Err((refusal, job)) => Outcome::Refused {
+            refusal,
+            same_jobs: job.is(name, Deed::Number(7)),
+            runs: runs.load(Ordering::SeqCst),
+        },
+    }
+}
+
 impl JobKind for Work {
     type Tag = Name;
 

@@ -19,6 +19,8 @@ pub enum Timed {
     Install,
     /// Joins of F(n) and F(n) from outside, one after the other.
     PoolJoin,
+    /// Spawns of jobs that only count, by one job.
+    Spawn,
     /// Nothing: the pool is idle for some seconds after it has found F(n).
     Idle,
 }
@@ -35,6 +37,7 @@ impl Timed {
             "sequential" => Some(Timed::Sequential),
             "install" => Some(Timed::Install),
             "pool_join" => Some(Timed::PoolJoin),
+            "spawn" => Some(Timed::Spawn),
             "idle" => Some(Timed::Idle),
             _ => None,
         }

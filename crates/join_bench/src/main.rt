@@ -4,6 +4,7 @@
 mod command;
 mod leaves;
 mod measure;
+mod spawns;
 
 use crate::command::Command;
 use crate::measure::run;
@@ -15,7 +16,7 @@ fn main(rt: HostRuntime) -> Result<()> {
     let mut words = env::args(&rt)?;
     let _ = words.next();
     let Some(command) = Command::parse(words) else {
-        bail!("join|leaves|sequential|install|pool_join|idle WORKERS N, or nothing");
+        bail!("join|leaves|sequential|install|pool_join|spawn|idle WORKERS N, or nothing");
     };
     run(&rt, alloc, command)
 }

@@ -4,12 +4,14 @@ ghost use Rattle.fibonacci.specs.Fib.{fib};
 
 use crate::command::{Command, Timed};
 use crate::leaves::Leaves;
+use crate::spawns::Spawning;
 use anyhow::{Context, Result};
 use fibonacci::{Fib, sequential};
 use rayon_core::{CallError, Ids, ThreadPool, ThreadPoolBuilder};
 use std::alloc::Global;
 use std::rt::Runtime;
-use std::sync::Wait;
+use std::sync::atomic::{AtomicU64, Ordering};
+use std::sync::{Arc, Wait};
 use std::thread;
 use std::thread::Threads;
 use std::time::{Duration, Instant};
@@ -19,6 +21,9 @@ const RUNS: u32 = 3;
 
 // How many calls are made from outside, one after the other.
 const CALLS: u32 = 20_000;
+
+// How many jobs are spawned by one.
+const SPAWNS: u64 = 100_000;
 
 // How many seconds a pool is idle.
 const SECONDS: u64 = 2;
@@ -42,6 +47,11 @@ pub fn run<R: Runtime + Threads + Wait + Copy + Send + 'static>(
             workers,
             n,
         } => run_leaves(rt, alloc, workers, n),
+        Command::Time {
+            what: Timed::Spawn,
+            workers,
+            ..
+        } => run_spawns(rt, alloc, workers),
         Command::Time { what, workers, n } => run_on_pool(rt, alloc, workers, Some((what, n))),
     }
 }
@@ -79,6 +89,20 @@ fn run_leaves<R: Runtime + Threads + Wait + Copy + Send + 'static>(
     outcome
 }
 
+// The same of jobs that are spawned.
+fn run_spawns<R: Runtime + Threads + Wait + Copy + Send + 'static>(
+    rt: &R,
+    alloc: Global,
+    workers: usize,
+) -> Result<()> {
+    let ids = Ids::new();
+    let builder = ThreadPoolBuilder::<Spawning>::new().num_threads(workers);
+    let pool = builder.build(rt, alloc, &ids)?;
+    let outcome = time_spawns(rt, alloc, &pool);
+    pool.end_and_join(rt);
+    outcome
+}
+
 // Times this on the pool.
 fn time<R: Runtime + Wait>(
     rt: &R,
@@ -92,7 +116,7 @@ fn time<R: Runtime + Wait>(
         Timed::Install => time_installs(rt, alloc, pool, n),
         Timed::PoolJoin => time_pool_joins(rt, alloc, pool, n),
         Timed::Idle => idle(rt, alloc, pool, n),
-        Timed::Leaves | Timed::Sequential => Ok(()),
+        Timed::Leaves | Timed::Sequential | Timed::Spawn => Ok(()),
     }
 }
 
@@ -167,6 +191,32 @@ fn time_pool_joins<R: Runtime + Wait>(
     }
     let nanoseconds = start.elapsed(rt)?.as_nanos();
     println!(rt; "{nanoseconds} {sum}")?;
+    Ok(())
+}
+
+// From the install of the job that spawns until the last spawned job has counted.
+fn time_spawns<R: Runtime + Wait>(
+    rt: &R,
+    alloc: Global,
+    pool: &ThreadPool<Spawning>,
+) -> Result<()> {
+    for _ in 0..RUNS {
+        let counter = Arc::new(alloc, AtomicU64::new(0)).context("NoRoom")?;
+        let mine = Arc::try_clone(&counter).context("NoRoom")?;
+        let start = Instant::now(rt)?;
+        let job = Spawning::new(mine, SPAWNS);
+        let spawned = pool
+            .install(rt, alloc, job)
+            .map_err(CallError::without_sides)?;
+        for _ in rt.forever() {
+            if counter.load(Ordering::SeqCst) >= spawned {
+                break;
+            }
+            thread::yield_now();
+        }
+        let nanoseconds = start.elapsed(rt)?.as_nanos();
+        println!(rt; "{nanoseconds} {spawned}")?;
+    }
     Ok(())
 }
 

@@ -1,7 +1,7 @@
 //! What stands for a pool on other threads than the one that made it.
 ghost use Rattle.rayon_registry.specs.Answers.{InstallAnswers, JoinAnswers};
 ghost use Rattle.std.specs.Arc.{arc_value};
-ghost use Rattle.std.specs.Prelude.{◌≡◌, ◌<◌, ℕ, Result, Ok, Err, IfOk, IfErr};
+ghost use Rattle.std.specs.Prelude.{◌≡◌, ◌⊎◌, ◌<◌, ℕ, Result, Ok, Err, IfOk, IfErr};
 
 use rayon_jobs::JobKind;
 use rayon_registry::{PoolId, Registry};
@@ -68,6 +68,19 @@ impl<J: JobKind> PoolRef<J> {
         ensures shallow { (j : _) → result ≡ Err (CallError.Refused Refusal.TooDeep j) → ⊥ }
     {
         self.registry.install(rt, alloc, job)
+    }
+
+    /// Spawns a detached job on the pool, for a caller that is no worker, as `ThreadPool::spawn` does.
+    pub fn spawn<R: Wait>(&self, rt: &R, alloc: Global, job: J) -> Result<(), (Refusal, J)>
+        ensures back { IfErr result (λ e. e.1 ≡ job) }
+        ensures refused { IfErr result (λ e. (e.0 ≡ Refusal.Ended) ⊎ ((e.0 ≡ Refusal.Full) ⊎ (e.0 ≡ Refusal.NoRoom))) }
+    {
+        self.registry.spawn(rt, alloc, job)
+    }
+
+    /// The first fault of a detached job since this was asked last, and how many there were, as `ThreadPool::take_fault`.
+    pub fn take_fault<R: Wait>(&self, rt: &R) -> (Option<J::Fault>, u64) {
+        self.registry.take_fault(rt)
     }
 
     /// Runs two jobs on the pool by a join there, for a caller that is no worker, as `ThreadPool::join` does.

@@ -1,7 +1,7 @@
 //! Pools.
 ghost use Rattle.rayon_registry.specs.Answers.{InstallAnswers, JoinAnswers};
 ghost use Rattle.std.specs.Arc.{arc_value};
-ghost use Rattle.std.specs.Prelude.{◌≡◌, ◌<◌, ℕ, length, Result, Ok, Err, IfOk, IfErr};
+ghost use Rattle.std.specs.Prelude.{◌≡◌, ◌⊎◌, ◌<◌, ℕ, length, Result, Ok, Err, IfOk, IfErr};
 
 use crate::pool_ref::PoolRef;
 use rayon_jobs::JobKind;
@@ -83,6 +83,22 @@ impl<J: JobKind> ThreadPool<J> {
         ensures shallow { (j : _) → result ≡ Err (CallError.Refused Refusal.TooDeep j) → ⊥ }
     {
         self.registry.install(rt, alloc, job)
+    }
+
+    /// Spawns a detached job on the pool, for a caller that is no worker, and waits for nothing. The job keeps the pool from
+    /// ending until its run is over. Nobody is answered its output, and its fault is kept for `take_fault`. Refused `Full`,
+    /// `NoRoom`, `Ended`, with the job back.
+    pub fn spawn<R: Wait>(&self, rt: &R, alloc: Global, job: J) -> Result<(), (Refusal, J)>
+        ensures back { IfErr result (λ e. e.1 ≡ job) }
+        ensures refused { IfErr result (λ e. (e.0 ≡ Refusal.Ended) ⊎ ((e.0 ≡ Refusal.Full) ⊎ (e.0 ≡ Refusal.NoRoom))) }
+    {
+        self.registry.spawn(rt, alloc, job)
+    }
+
+    /// The first fault of a detached job since this was asked last, and how many there were; that number stops at 2^64 - 1.
+    /// None and 0 are left.
+    pub fn take_fault<R: Wait>(&self, rt: &R) -> (Option<J::Fault>, u64) {
+        self.registry.take_fault(rt)
     }
 
     /// Runs two jobs on the pool by a join there, for a caller that is no worker; it blocks until both have run, and

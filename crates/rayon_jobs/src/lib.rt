@@ -3,10 +3,12 @@
 
 mod cell;
 mod done;
+mod faults;
 mod kind;
 mod lost;
 
 pub use cell::Cell;
 pub use done::Done;
+pub use faults::Faults;
 pub use kind::JobKind;
 pub use lost::{Lost, claimed};

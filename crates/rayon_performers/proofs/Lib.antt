@@ -5,6 +5,7 @@ pub mod Letters
 pub mod Offers
 pub mod Recounts
 pub mod Seats
+pub mod Spawns
 pub mod Stretches
 pub mod Tails
 pub mod Visits

@@ -63,6 +63,7 @@ set_end h c x (OfCall n) e = finish_end c x.then e
 module _ {X G O F : Type 0} where
   await_end : (u : Visit X G O F) (c : ℕ) (t : Then) → StandsThen u t → end_of (finish (Caller c) t) ≡ Back
   await_end u c (Await o) a = refl
+  await_end u c Resume a = refl
   await_end u c _ a = absurd a
 
   walk_end : (u : Visit X G O F) (h : PoolShape) (c r k j : ℕ) (t : Then) → StandsThen u t → end_of (walk h (Caller c) r k j t) ≡ Back

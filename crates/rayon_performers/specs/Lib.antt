@@ -7,6 +7,7 @@ pub mod Pools
 pub mod Seating
 pub mod Seats
 pub mod Sights
+pub mod Spawns
 pub mod Stands
 pub mod Tails
 pub mod Visiting

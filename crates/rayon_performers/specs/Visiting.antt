@@ -53,9 +53,11 @@ module _ {X G O F : Type 0} where
   abbrev pub InCall : Visit X G O F → OpenCall → Type 0
   InCall s o = (o.pool ≡ 0) × (s.call ≡ Some (ticket_of o.number)) × (s.holds ≡ true)
 
-  -- what is in hand where workers are woken before this follows: a call waits then
+  -- what is in hand where workers are woken before this follows: a call waits then, or a spawn is over, whose unit went with
+  -- its job
   abbrev pub StandsThen : Visit X G O F → Then → Type 0
   StandsThen s (Await o) = InCall s o
+  StandsThen s Resume = s.holds ≡ false
   StandsThen s _ = ⊥
 
   -- what is in hand where the workers' terminate latches are set
@@ -89,6 +91,7 @@ module _ {X G O F : Type 0} where
     where
       same_then : (w z : Visit X G O F) (n : Then) → StandsThen w n → StandsThen (record w { trace = z.trace }) n
       same_then w z (Await o) b = b
+      same_then w z Resume b = b
       same_then w z _ b = absurd b
 
   waits : (u v : Visit X G O F) (o : OpenCall) → Same u v → InCall u o → InCall v o
@@ -102,6 +105,7 @@ module _ {X G O F : Type 0} where
 
   await_stands : (u : Visit X G O F) (c : ℕ) (t : Then) → StandsThen u t → Stands u (finish (Caller c) t)
   await_stands u c (Await o) a = a
+  await_stands u c Resume a = a
   await_stands u c _ a = absurd a
 
   walk_stands : (u : Visit X G O F) (h : PoolShape) (c r k j : ℕ) (t : Then) → r ≡ 0 → StandsThen u t → Stands u (walk h (Caller c) r k j t)

@@ -36,7 +36,11 @@ pub record Visit (X G O F : Type 0) : Type 0 where
 
 -- the ticket of an outside caller's call of this name
 abbrev pub ticket_of : ℕ → TicketOf
-ticket_of n = record { owner = Caller 0; number = n }
+ticket_of n = record { owner = Caller 0; number = n; detached = false }
+
+-- the ticket of a detached job of this name that an outside caller spawned
+abbrev pub detached_ticket : ℕ → TicketOf
+detached_ticket n = record { owner = Caller 0; number = n; detached = true }
 
 -- the call that sends the work of this name to the one pool that there is
 abbrev pub call_of : ℕ → OpenCall

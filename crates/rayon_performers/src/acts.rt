@@ -223,10 +223,7 @@ impl<J: JobKind> Bench<J> {
         ensures adds { Adds (acts.Begin job) result self.old.trace self.new.trace }
     {
         let kind = match &self.task {
-            Some(task) => Kind::Stored {
-                call: task.number(),
-                owner: task.owner(),
-            },
+            Some(task) => task.kind(),
             None => Kind::Direct,
         };
         self.add(Act::Begin(job), Seen::Begun(kind))
@@ -347,7 +344,7 @@ impl<J: JobKind> Bench<J> {
     #[inline(always)]
     pub(crate) fn grow(&mut self, alloc: Global, number: u64) -> Option<(Call<J>, Ticket<J>)>
         ensures same { self.new ≡ record self.old { trace = self.new.trace } }
-        ensures grown { MatchOption result (Adds (acts.Grow number) saw.Refused self.old.trace self.new.trace) (λ t. Adds (acts.Grow number) saw.Done self.old.trace self.new.trace × (t.0.ticket ≡ record { owner = Worker 0 self.old.index; number = number }) × (t.1 ≡ t.0.ticket)) }
+        ensures grown { MatchOption result (Adds (acts.Grow number) saw.Refused self.old.trace self.new.trace) (λ t. Adds (acts.Grow number) saw.Done self.old.trace self.new.trace × (t.0.ticket ≡ record { owner = Worker 0 self.old.index; number = number; detached = false }) × (t.1 ≡ t.0.ticket)) }
     {
         match self.next_call(alloc, number) {
             Ok(grown) => {
@@ -366,7 +363,7 @@ impl<J: JobKind> Bench<J> {
     #[inline(always)]
     fn next_call(&mut self, alloc: Global, number: u64) -> Result<(Call<J>, Ticket<J>), Refusal>
         ensures same { self.new ≡ self.old }
-        ensures ticket { IfOk result (λ c. (c.0.ticket ≡ record { owner = Worker 0 self.old.index; number = number }) × (c.1 ≡ c.0.ticket)) }
+        ensures ticket { IfOk result (λ c. (c.0.ticket ≡ record { owner = Worker 0 self.old.index; number = number; detached = false }) × (c.1 ≡ c.0.ticket)) }
     {
         if let Some((Call { ticket, latch }, share)) = self.next_spare() {
             if self.is_own(&ticket) && self.is_own(&share) {
@@ -396,13 +393,13 @@ impl<J: JobKind> Bench<J> {
         }
     }
 
-    // Whether the call of this ticket is the worker's own.
+    // Whether this is the ticket of a call of the worker's own.
     #[inline(always)]
     fn is_own(&self, ticket: &Ticket<J>) -> bool
-        ensures { result ≡ true → ticket.now.owner ≡ Worker 0 self.now.index }
+        ensures { result ≡ true → (ticket.now.owner ≡ Worker 0 self.now.index) × (ticket.now.detached ≡ false) }
     {
         match ticket.owner() {
-            Party::Worker { pool: 0, index } => index == self.index,
+            Party::Worker { pool: 0, index } => index == self.index && !ticket.is_detached(),
             _ => false,
         }
     }

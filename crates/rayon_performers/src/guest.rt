@@ -9,18 +9,22 @@ ghost use Rattle.rayon_machine_places.specs.declared.act.Seen.TheVariants as saw
 ghost use Rattle.rayon_machine_places.specs.declared.place.Count.TheVariants.{OfPool};
 ghost use Rattle.rayon_machine_places.specs.declared.place.Move.TheVariants.{Stay, Back, HandBack};
 ghost use Rattle.rayon_machine_places.specs.declared.place.Party.TheVariants.{Caller};
+ghost use Rattle.rayon_machine_places.specs.declared.place.Plan.TheVariants.{Detach};
 ghost use Rattle.rayon_machine_places.specs.declared.place.Place.TheVariants as at;
 ghost use Rattle.rayon_machine_places.specs.declared.place.Share.TheVariants.{OfJob, PoolValue};
 ghost use Rattle.rayon_machine_places.specs.declared.place.Then.TheVariants.{GiveBack, Resume};
 ghost use Rattle.rayon_performers.specs.Hands.{answer};
 ghost use Rattle.rayon_performers.specs.Marks.{GivesUnit, SetBy};
 ghost use Rattle.rayon_performers.specs.Pools.{shape_of};
+ghost use Rattle.rayon_performers.specs.Calls.{IsJobOf, IsOneJob};
+ghost use Rattle.rayon_performers.specs.Spawns.{Spawned, Traced, Unspawned, detached_task};
 ghost use Rattle.rayon_performers.specs.Visiting.{IsCaller, Keeps, Stands, end_of, guest_needs, guest_on};
 ghost use Rattle.rayon_performers.specs.Visits.{Does, Needs, Takes, plan_of, ticket_of, with_pushed};
 ghost use Rattle.rayon_queues.specs.Deques.{visitor};
 
 use crate::acts::set_latch;
 use crate::registry::Registry;
+use crate::stretch::only_job;
 use crate::terminate::PoolHold;
 use rayon_atomics::count::CountSeat;
 use rayon_atomics::latch::LatchSeat;
@@ -42,7 +46,7 @@ use std::sync::Wait;
 /// else does.
 #[derive(Drop)]
 pub struct Guest<'a, J: JobKind> {
-    registry: &'a Registry<Task<J>>,
+    registry: &'a Registry<Task<J>, J::Fault>,
     shape: PoolShape,
     inlet: InjectorPass<Task<J>>,
     call: Option<Ticket<J>>,
@@ -150,7 +154,7 @@ const CALLER: Party = Party::Caller(0);
 
 impl<'a, J: JobKind> Guest<'a, J> {
     /// An outside caller of this pool that has done nothing yet.
-    pub fn new(registry: &'a Registry<Task<J>>) -> Guest<'a, J>
+    pub fn new(registry: &'a Registry<Task<J>, J::Fault>) -> Guest<'a, J>
         ensures inlet { result.inlet ≡ visitor registry.now.injector [] [] }
         ensures shape { result.shape ≡ shape_of registry.now.workers }
         ensures empty { (result.holds ≡ false) × (result.trace ≡ Empty) }
@@ -368,10 +372,20 @@ impl<'a, J: JobKind> Guest<'a, J> {
         ensures keeps { Keeps self.old self.new }
         ensures over { self.new.holds ≡ false }
     {
+        self.give_back(rt, shape, name, plan(name));
+    }
+
+    // Gives the unit of a refused call of this plan back.
+    fn give_back<R: Wait>(&mut self, rt: &R, shape: PoolShape, name: u64, plan: Plan)
+        requires { self.old.holds ≡ true }
+        ensures path { Driven (λ s a x t. Does a x s t) (λ s. s.trace) shape (Caller 0) (Stay (at.LowerCount (OfPool 0) (OfJob name) (GiveBack plan))) self.old self.new (HandBack plan) }
+        ensures keeps { Keeps self.old self.new }
+        ensures over { self.new.holds ≡ false }
+    {
         let place = Place::LowerCount {
             count: Count::OfPool(0),
             share: Share::OfJob(name),
-            then: Then::GiveBack(plan(name)),
+            then: Then::GiveBack(plan),
         };
         self.drive(rt, shape, place);
     }
@@ -495,6 +509,75 @@ impl<'a, J: JobKind> Guest<'a, J> {
                     }
                     Work::Job(_) => unreachable!(),
                 }
+            }
+        }
+    }
+
+    /// Spawns a detached job of this name on the pool: Raise, LookInj, PushInj, News and its wakes. It waits for no job: the
+    /// unit of the terminate count goes with the job. Refused `NoRoom` before its Raise or at the push, `Ended`, `Full`, with
+    /// the job back: nothing was pushed then, and a unit that was taken is given back.
+    pub fn spawn<R: Wait>(
+        &mut self,
+        rt: &R,
+        alloc: Global,
+        name: u64,
+        job: J,
+    ) -> Result<(), (Refusal, J)>
+        requires { self.old.holds ≡ false }
+        ensures path { MatchResult result
+            (λ _. Spawned self.old.shape (Caller 0) name self.old.trace self.new.trace)
+            (λ _. Unspawned self.old.shape (Caller 0) name self.old.trace self.new.trace) }
+        ensures pushed { MatchResult result
+            (λ _. self.new.inlet ≡ with_pushed self.old.inlet (detached_task job true (Caller 0) name))
+            (λ _. self.new.inlet ≡ self.old.inlet) }
+        ensures back { IfErr result (λ e. e.1 ≡ job) }
+        ensures refused { IfErr result (λ e. (e.0 ≡ Refusal.Ended) ⊎ (e.0 ≡ Refusal.Full) ⊎ (e.0 ≡ Refusal.NoRoom)) }
+        ensures unit { self.new.holds ≡ false }
+    {
+        let shape = self.shape;
+        let Ok(ticket) = Ticket::of_detached(alloc, CALLER, name) else {
+            return Err((Refusal::NoRoom, job));
+        };
+        match self.raise(rt, name) {
+            Ok(()) => self.queue_detached(rt, shape, name, task_of_job(job, true, ticket)),
+            Err(refusal) => Err((refusal, job)),
+        }
+    }
+
+    // Queues the task of a detached job of this name, for which a unit was taken: that goes with the job. Where there is no
+    // room the job comes back, and the unit is given back.
+    fn queue_detached<R: Wait>(
+        &mut self,
+        rt: &R,
+        shape: PoolShape,
+        name: u64,
+        queued: Task<J>,
+    ) -> Result<(), (Refusal, J)>
+        requires unit { self.old.holds ≡ true }
+        requires single { IsOneJob queued.work }
+        ensures path { MatchResult result
+            (λ _. Traced shape (Caller 0) (Stay (at.LookQueue (Detach 0 name))) self.old.trace self.new.trace Back)
+            (λ _. Traced shape (Caller 0) (Stay (at.LookQueue (Detach 0 name))) self.old.trace self.new.trace (HandBack (Detach 0 name))) }
+        ensures pushed { MatchResult result
+            (λ _. self.new.inlet ≡ with_pushed self.old.inlet queued)
+            (λ e. IsJobOf queued.work e.1 × (e.0 ≡ Refusal.NoRoom) × (self.new.inlet ≡ self.old.inlet)) }
+        ensures over { self.new.holds ≡ false }
+    {
+        let plan = Plan::Detach { pool: 0, job: name };
+        let is_first = self.look();
+        match self.push(rt, name, queued) {
+            Ok(()) => {
+                self.holds = false;
+                let place = Place::TellNews {
+                    plan,
+                    was_empty: is_first,
+                };
+                self.drive(rt, shape, place);
+                Ok(())
+            }
+            Err(task) => {
+                self.give_back(rt, shape, name, plan);
+                Err((Refusal::NoRoom, only_job(task)))
             }
         }
     }

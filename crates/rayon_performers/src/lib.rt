@@ -4,6 +4,7 @@
 mod acts;
 mod bench;
 mod counting;
+mod detached;
 mod guest;
 mod kit;
 mod latches;

@@ -183,7 +183,7 @@ impl<J: JobKind> Bench<J> {
             (λ c. StandsLast self.old.own (record { work = OneJob job; injected = injected; ticket = c.ticket }) self.new.own)
             (λ e. (e.1 ≡ job) × Unmoved self.old.own self.new.own) }
         ensures deque { SameDeque self.old.own self.new.own }
-        ensures ticket { IfOk result (λ c. c.ticket ≡ record { owner = Worker 0 self.old.index; number = name }) }
+        ensures ticket { IfOk result (λ c. c.ticket ≡ record { owner = Worker 0 self.old.index; number = name; detached = false }) }
         ensures left { MatchResult result
             (λ _. self.new ≡ record self.old { own = self.new.own; holds = self.old.holds + 1; marks = self.new.marks; chair = self.new.chair; trace = self.new.trace })
             (λ _. self.new ≡ record self.old { own = self.new.own; marks = self.new.marks; trace = self.new.trace }) }
@@ -366,7 +366,7 @@ fn is_task(seen: Seen, name: u64) -> bool
 }
 
 // The job of a task that has one job.
-fn only_job<J: JobKind>(task: Task<J>) -> J
+pub(crate) fn only_job<J: JobKind>(task: Task<J>) -> J
     requires { IsOneJob task.work }
     ensures { IsJobOf task.work result }
 {

@@ -1,14 +1,16 @@
 -- The acts of a performer's path are those of a path, whatever they did.
-use Rattle.std.proofs.Common.{◌≡◌, inl, inr, Bool, true, false, true≢false, ℕ, [], ◌∷◌, Option, None, Some, Result, Ok, Err, MatchOption, MatchResult, refl, sym, subst, ap}
+use Rattle.std.proofs.Common.{◌≡◌, inl, inr, Bool, true, false, true≢false, ℕ, [], ◌∷◌, Option, None, Some, Result, Ok, Err, MatchOption, MatchResult, IfErr, refl, sym, subst, ap}
 use Rattle.rayon_machine_places.specs.declared.place.Count.TheVariants.{OfPool}
 use Rattle.std.specs.Result.{IsErr}
 use Rattle.rayon_words.specs.declared.refusal.CallError.{CallError}
 use Rattle.rayon_machine_places.specs.declared.place.Ending.{Ending}
 use Rattle.rayon_machine_places.specs.declared.place.Ending.TheVariants.{Fine}
-use Rattle.rayon_machine_places.specs.declared.place.JobKind.TheVariants.{Direct, Stored}
+use Rattle.rayon_machine_places.specs.declared.place.JobKind.{JobKind}
+use Rattle.rayon_machine_places.specs.declared.place.JobKind.TheVariants.{Detached, Direct, Stored}
 use Rattle.rayon_machine_places.specs.declared.place.OpenCall.{OpenCall}
+use Rattle.rayon_machine_places.specs.declared.place.Plan.TheVariants.{Detach}
 use Rattle.rayon_machine_places.specs.declared.place.Share.TheVariants.{OfJob}
-use Rattle.rayon_machine_places.specs.declared.place.Then.TheVariants.{Answers}
+use Rattle.rayon_machine_places.specs.declared.place.Then.TheVariants.{Answers, Resume}
 use Rattle.rayon_machine_places.specs.declared.place.Wait.{Wait}
 use Rattle.rayon_machine_places.specs.declared.place.Party.{Party}
 use Rattle.rayon_machine_places.specs.declared.place.Party.TheVariants.{Worker}
@@ -17,7 +19,7 @@ use Rattle.rayon_machine_places.specs.declared.place.Place.TheVariants as at
 use Rattle.rayon_machine_places.specs.declared.place.Move.{Move}
 use Rattle.rayon_machine_places.specs.declared.place.Move.TheVariants.{Stay, Enter, StartRun, Back, HandBack, HandIn, Discard, Mark, HandAllBack}
 use Rattle.rayon_machine_places.specs.declared.place.Taken.{Taken}
-use Rattle.rayon_machine_places.specs.declared.place.Taken.TheVariants.{Plain}
+use Rattle.rayon_machine_places.specs.declared.place.Taken.TheVariants.{Plain, Token}
 use Rattle.rayon_machine_places.specs.declared.place.Target.{Target}
 use Rattle.rayon_machine_places.specs.declared.place.Target.TheVariants.{Termination, Answer}
 use Rattle.rayon_machine_places.specs.declared.shape.PoolShape.{PoolShape}
@@ -27,10 +29,12 @@ use Rattle.rayon_drive.specs.Paths.{Driven}
 use Rattle.rayon_drive.specs.Traces.{AddsRun}
 use Rattle.rayon_drive.proofs.Paths.{driven_read}
 use Rattle.rayon_tasks.specs.Tasks.{TaskOf}
-use Rattle.rayon_performers.specs.Hands.{Hands, Does, kind_of}
+use Rattle.rayon_tasks.specs.Tickets.{TicketOf, kind_in}
+use Rattle.rayon_performers.specs.Hands.{Hands, Does, HasTask, kind_of}
+use Rattle.rayon_performers.specs.Spawns.{Unspawned}
 use Rattle.rayon_performers.specs.Stands.{Stands}
 use Rattle.rayon_performers.specs.Waits.{Waited, units_after}
-use Rattle.rayon_registry.specs.Acts.{CallMade, Lowered, Made, Worked, wait_end}
+use Rattle.rayon_registry.specs.Acts.{CallMade, Closes, HandedBack, Lowered, Made, Worked, wait_end}
 use Rattle.rayon_registry.specs.Worker.{AfterWait, Worker as WorkerValue}
 
 module _ {X G O F : Type 0} (h : PoolShape) (i : ℕ) (m : Move) (s t : Hands X G O F) where
@@ -46,7 +50,7 @@ module _ {X G O F : Type 0} (h : PoolShape) (i : ℕ) (m : Move) (s t : Hands X 
   made_found (Some x) d = driven_read (λ (a : Hands X G O F) x y b. Does x y a b) (λ (a : Hands X G O F). a.trace) (λ (v : Log) a x (w : Log). Unit {0}) (λ (v : Log). v) (λ (a : Hands X G O F). a.trace) (λ a. refl) (λ a x y b d. tt) h (Worker 0 i) m s (record t { task = Some x }) (Stay (at.BeginTask (Plain x.ticket.number))) d
 
   -- the beginning of a task's run
-  pub made_begun : (k : Taken) (x : TaskOf X) → s.task ≡ Some x → Goes t (Stay (at.Run (taken_number k) (kind_of s.task))) → Made h (Worker 0 i) m s.trace t.trace (Stay (at.Run (taken_number k) (Stored x.ticket.number x.ticket.owner)))
+  pub made_begun : (k : Taken) (x : TaskOf X) → s.task ≡ Some x → Goes t (Stay (at.Run (taken_number k) (kind_of s.task))) → Made h (Worker 0 i) m s.trace t.trace (Stay (at.Run (taken_number k) (kind_in x.ticket)))
   made_begun k x f d = subst (λ (z : Option (TaskOf X)). Made h (Worker 0 i) m s.trace t.trace (Stay (at.Run (taken_number k) (kind_of z)))) f (made (Stay (at.Run (taken_number k) (kind_of s.task))) d)
 
   -- a push
@@ -58,6 +62,15 @@ module _ {X G O F : Type 0} (h : PoolShape) (i : ℕ) (m : Move) (s t : Hands X 
 pub on_err : {A B : Type 0} (P : A → Type 0) (Q : Type 0) (r : Result A B) → IsErr r → Q → MatchResult r P (λ _. Q)
 on_err P Q (Err e) i q = q
 on_err P Q (Ok x) i q = absurd (true≢false (sym i))
+
+pub if_err : {A B : Type 0} (Q : Type 0) (r : Result A B) → Q → IfErr r (λ _. Q)
+if_err Q (Err e) q = q
+if_err Q (Ok x) q = tt
+
+-- a refused spawn has made the acts of a call that is handed back
+pub unspawned : (h : PoolShape) (i n : ℕ) (v w : Log) → Unspawned h (Worker 0 i) n v w → HandedBack h (Worker 0 i) (Detach 0) v w
+unspawned h i n v w (inl e) = inl e
+unspawned h i n v w (inr d) = inr (n, d)
 
 -- what a call has made, by what it answers
 pub made_fine : {O F B : Type 0} (P Q R : Type 0) (r : Result O (CallError F B)) (x : O) → r ≡ Ok x → P → CallMade P Q R r
@@ -126,27 +139,48 @@ module _ {X G O F : Type 0} where
       here.0.probed.1
 
 -- one more stretch, to a run of a task that was taken, and what it adds
-pub around : (h : PoolShape) (q : Party) (f : Place) (k : Taken) (t c : ℕ) (o : Party) (e : Ending) (m : Move) (v u y z x w : Log) (n : Move) → Made h q m v u (Enter f (at.BeginTask k)) → Made h q (Stay (at.BeginTask k)) u y (Stay (at.Run t (Stored c o))) → AddsRun y z → Made h q (Stay (at.StoreResult c o e)) z x Back → Worked h q (Stay (goes_on f e)) x w n → Worked h q m v w n
-around h q f k t c o e m v u y z x w n a b l d r = (record { begins = Enter f (at.BeginTask k); job = t; kind = Stored c o; ended = e; lent = y; over = z } ∷ r.0, (u, x, a, (b, l, d), r.1))
+pub around : (h : PoolShape) (q : Party) (f : Place) (k : Taken) (t : ℕ) (o : JobKind) (e : Ending) (m : Move) (v u y z x w : Log) (n : Move) → Made h q m v u (Enter f (at.BeginTask k)) → Made h q (Stay (at.BeginTask k)) u y (Stay (at.Run t o)) → AddsRun y z → Closes h q t o e z x → Worked h q (Stay (goes_on f e)) x w n → Worked h q m v w n
+around h q f k t o e m v u y z x w n a b l d r = (record { begins = Enter f (at.BeginTask k); job = t; kind = o; ended = e; lent = y; over = z } ∷ r.0, (u, x, a, (b, l, d), r.1))
+
+-- the acts of a run's end, said of equals
+pub closes_as : (h k : PoolShape) (i j : ℕ) (t r : ℕ) (o : JobKind) (e : Ending) (v w : Log) → i ≡ j → h ≡ k → t ≡ r → Closes h (Worker 0 i) t o e v w → Closes k (Worker 0 j) r o e v w
+closes_as h k i j t r o e v w a b c d =
+    subst (λ (z : ℕ). Closes k (Worker 0 j) z o e v w) c
+    (subst (λ (z : PoolShape). Closes z (Worker 0 j) t o e v w) b
+    (subst (λ (z : ℕ). Closes h (Worker 0 z) t o e v w) a d))
+
+-- the acts of the end of a detached job's run, and of one for which a call waits, by the ticket
+pub closes_detached : (h : PoolShape) (q : Party) (t : TicketOf) (e : Ending) (v w : Log) → t.detached ≡ true → Made h q (Stay (at.LowerCount (OfPool 0) (OfJob t.number) Resume)) v w Back → Closes h q t.number (kind_in t) e v w
+closes_detached h q t e v w d m = subst (λ (b : Bool). Closes h q t.number (elim b [ true ↦ Detached 0 | false ↦ Stored t.number t.owner ]) e v w) (sym d) m
+
+pub closes_call : (h : PoolShape) (q : Party) (t : TicketOf) (e : Ending) (v w : Log) → t.detached ≡ false → Made h q (Stay (at.StoreResult t.number t.owner e)) v w Back → Closes h q t.number (kind_in t) e v w
+closes_call h q t e v w d m = subst (λ (b : Bool). Closes h q t.number (elim b [ true ↦ Detached 0 | false ↦ Stored t.number t.owner ]) e v w) (sym d) m
+
+-- a task in hand has the number by which it was taken
+module _ {X : Type 0} where
+  pub named : (x : TaskOf X) (k : Taken) → HasTask (Some x) (Some k) → x.ticket.number ≡ taken_number k
+  named x (Plain n) a = a
+  named x (Token n i b) a = absurd a
 
 -- one more stretch of a worker's, to a run of the task that it has at hand, and what the worker adds: of what it has before
 -- the run begins, once it has begun, and once the task is out of its hand
 module _ {X G O F : Type 0} (h : PoolShape) (i : ℕ) (f : Place) (k : Taken) (x : TaskOf X) (s t r : Hands X G O F) where
   abbrev pub Told : Log → Type 0
-  Told z = (e : Ending) × (o : Log) × AddsRun r.trace o × Made r.shape (Worker 0 r.index) (Stay (at.StoreResult x.ticket.number x.ticket.owner e)) o z Back
+  Told z = (e : Ending) × (o : Log) × AddsRun r.trace o × Closes r.shape (Worker 0 r.index) x.ticket.number (kind_in x.ticket) e o z
 
-  pub around_task : (p : Place) (m : Move) (v u z w : Log) (n : Move) → p ≡ at.BeginTask k → s.index ≡ i → s.shape ≡ h → s.task ≡ Some x → s.trace ≡ u → t.trace ≡ r.trace → r.index ≡ i → r.shape ≡ h
+  pub around_task : (p : Place) (m : Move) (v u z w : Log) (n : Move) → HasTask s.task (Some k) → p ≡ at.BeginTask k → s.index ≡ i → s.shape ≡ h → s.task ≡ Some x → s.trace ≡ u → t.trace ≡ r.trace → r.index ≡ i → r.shape ≡ h
       → Made h (Worker 0 i) m v u (Enter f p)
       → Driven (λ (a : Hands X G O F) x y b. Does x y a b) (λ (a : Hands X G O F). a.trace) s.shape (Worker 0 s.index) (Stay (at.BeginTask k)) s t (Stay (at.Run (taken_number k) (kind_of s.task)))
       → (told : Told z)
       → Worked h (Worker 0 i) (Stay (goes_on f told.0)) z w n → Worked h (Worker 0 i) m v w n
-  around_task p m v u z w n taken seat shape hand before after seat2 shape2 a d told rest =
-      let run = Stay (at.Run (taken_number k) (Stored x.ticket.number x.ticket.owner)) in
-      let tells = Stay (at.StoreResult x.ticket.number x.ticket.owner told.0) in
+  around_task p m v u z w n has taken seat shape hand before after seat2 shape2 a d told rest =
+      let run = Stay (at.Run (taken_number k) (kind_in x.ticket)) in
+      let number = named x k (subst (λ (l : Option (TaskOf X)). HasTask l (Some k)) hand has) in
+      let closes = closes_as r.shape h r.index i x.ticket.number (taken_number k) (kind_in x.ticket) told.0 told.1 z seat2 shape2 number told.3 in
       let begun = made_as s.shape h s.index i (Stay (at.BeginTask k)) s.trace t.trace run run seat shape refl (made_begun s.shape s.index (Stay (at.BeginTask k)) s t k x hand d) in
       let begun2 = subst (λ (l : Log). Made h (Worker 0 i) (Stay (at.BeginTask k)) l r.trace run) before (subst (λ (l : Log). Made h (Worker 0 i) (Stay (at.BeginTask k)) s.trace l run) after begun) in
       let entered = subst (λ (l : Place). Made h (Worker 0 i) m v u (Enter f l)) taken a in
-      around h (Worker 0 i) f k (taken_number k) x.ticket.number x.ticket.owner told.0 m v u r.trace told.1 z w n entered begun2 told.2 (made_as r.shape h r.index i tells told.1 z Back Back seat2 shape2 refl told.3) rest
+      around h (Worker 0 i) f k (taken_number k) (kind_in x.ticket) told.0 m v u r.trace told.1 z w n entered begun2 told.2 closes rest
 
 -- acts with runs between, said of equals
 pub worked_as : (h k : PoolShape) (i j : ℕ) (m : Move) (v w : Log) (n : Move) → i ≡ j → h ≡ k → Worked h (Worker 0 i) m v w n → Worked k (Worker 0 j) m v w n

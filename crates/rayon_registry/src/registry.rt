@@ -19,16 +19,16 @@ use std::sync::{Arc, Wait};
 // A pool's number, and a share of what its threads have in common, where its queues hold such tasks. It stands apart from
 // the job type, so that the checker finds once that it may be sent where its tasks may be.
 #[derive(Drop)]
-pub(crate) struct PoolShare<T> {
+pub(crate) struct PoolShare<T, F> {
     pub(crate) id: PoolId,
-    pub(crate) shared: Arc<rayon_performers::Registry<T>, Global>,
+    pub(crate) shared: Arc<rayon_performers::Registry<T, F>, Global>,
 }
 
 /// What stands for a pool: its number, and a share of what its threads have in common. Contracts see the pool's number,
 /// how many workers it has, and the levels of a worker value that no run was lent yet.
 #[derive(Drop)]
 pub struct Registry<J: JobKind> {
-    pub(crate) pool: PoolShare<Task<J>>,
+    pub(crate) pool: PoolShare<Task<J>, J::Fault>,
 }
 
 impl<J: JobKind> Model for Registry<J> {
@@ -73,7 +73,10 @@ impl<J: JobKind> Registry<J> {
     }
 
     // The pool with this number, whose threads share this.
-    fn of(id: PoolId, shared: Arc<rayon_performers::Registry<Task<J>>, Global>) -> Registry<J>
+    fn of(
+        id: PoolId,
+        shared: Arc<rayon_performers::Registry<Task<J>, J::Fault>, Global>,
+    ) -> Registry<J>
         ensures { result ≡ record { id = id; workers = (arc_value shared).workers; depth_limit = (arc_value shared).depth_limit } }
     {
         Registry {
@@ -91,7 +94,9 @@ impl<J: JobKind> Registry<J> {
     }
 
     /// What the pool's threads share, for one thread more. Refused `NoRoom`.
-    pub fn shared(&self) -> Result<Arc<rayon_performers::Registry<Task<J>>, Global>, Refusal>
+    pub fn shared(
+        &self,
+    ) -> Result<Arc<rayon_performers::Registry<Task<J>, J::Fault>, Global>, Refusal>
         ensures workers { IfOk result (λ s. (arc_value s).workers ≡ self.now.workers) }
         ensures depth { IfOk result (λ s. (arc_value s).depth_limit ≡ self.now.depth_limit) }
         ensures refused { IfErr result (λ r. r ≡ Refusal.NoRoom) }
@@ -147,6 +152,25 @@ impl<J: JobKind> Registry<J> {
             Ok(found) => install_answer(claimed(found, &tag)),
             Err((refusal, job)) => Err(CallError::Refused(refusal, job)),
         }
+    }
+
+    /// Spawns a detached job on the pool for a caller that is no worker, and waits for nothing. Refused `Full`, `NoRoom`,
+    /// `Ended`, with the job back.
+    pub fn spawn<R: Wait>(&self, rt: &R, alloc: Global, job: J) -> Result<(), (Refusal, J)>
+        ensures back { IfErr result (λ e. e.1 ≡ job) }
+        ensures refused { IfErr result (λ e. (e.0 ≡ Refusal.Ended) ⊎ ((e.0 ≡ Refusal.Full) ⊎ (e.0 ≡ Refusal.NoRoom))) }
+    {
+        let Some(name) = self.pool.shared.caller_name(rt) else {
+            return Err((Refusal::Full, job));
+        };
+        let mut guest = Guest::new(&*self.pool.shared);
+        guest.spawn(rt, alloc, name, job)
+    }
+
+    /// The first fault of a detached job since this was asked last, and how many there were, at most 2^64 - 1. None and 0 are
+    /// left.
+    pub fn take_fault<R: Wait>(&self, rt: &R) -> (Option<J::Fault>, u64) {
+        self.pool.shared.take_fault(rt)
     }
 
     /// Joins two sides on the pool for a caller that is no worker, which blocks until both have run. Refused `TooDeep`
@@ -220,7 +244,7 @@ impl<J: JobKind> ThreadBuilder<J> {
     pub fn new(
         id: PoolId,
         index: usize,
-        shared: Arc<rayon_performers::Registry<Task<J>>, Global>,
+        shared: Arc<rayon_performers::Registry<Task<J>, J::Fault>, Global>,
         deque: WorkerKit<Task<J>>,
     ) -> Option<ThreadBuilder<J>>
         ensures seat { IfSome result (λ t. t ≡ record { pool = record { id = id; workers = (arc_value shared).workers; depth_limit = (arc_value shared).depth_limit }; index = index }) }

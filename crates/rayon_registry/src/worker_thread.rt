@@ -1,8 +1,13 @@
 //! The value that stands for a worker.
 ghost use Rattle.rayon_performers.specs.Hands.{HasTicket};
+ghost use Rattle.rayon_performers.specs.Spawns.{Spawned, detached_task};
 ghost use Rattle.rayon_performers.specs.Stands.{call_to};
 ghost use Rattle.rayon_queues.specs.Deques.{Leaves};
 ghost use Rattle.rayon_tasks.specs.Calls.{ticket_in};
+ghost use Rattle.rayon_tasks.specs.Tickets.{kind_in};
+ghost use Rattle.rayon_machine_places.specs.declared.place.Count.TheVariants.{OfPool};
+ghost use Rattle.rayon_machine_places.specs.declared.place.Share.TheVariants.{OfJob};
+ghost use Rattle.rayon_machine_places.specs.declared.place.Then.TheVariants.{Resume};
 ghost use Rattle.rayon_machine_places.specs.Places.{fresh, undo};
 ghost use Rattle.rayon_machine_places.specs.declared.place.Move.TheVariants.{Back, Stay};
 ghost use Rattle.rayon_machine_places.specs.declared.place.Party.TheVariants.{Worker};
@@ -16,7 +21,7 @@ ghost use Rattle.rayon_jobs.specs.Endings.{ending_of as ended};
 ghost use Rattle.rayon_drive.specs.Traces.{AddsRun};
 ghost use Rattle.rayon_drive.specs.declared.trace.Log.{Log};
 ghost use Rattle.rayon_drive.specs.declared.trace.Log.TheVariants.{Empty};
-ghost use Rattle.rayon_registry.specs.Acts.{CallMade, HandedBack, Installed, Made, Worked, wait_end};
+ghost use Rattle.rayon_registry.specs.Acts.{CallMade, Closes, HandedBack, Installed, Made, Worked, wait_end};
 ghost use Rattle.rayon_registry.specs.Answers.{InstallAnswers};
 ghost use Rattle.rayon_registry.specs.Worker.{AfterWait, Kept, SameWorker};
 ghost use Rattle.std.specs.Prelude.{◌≡◌, ◌⊎◌, ℕ, [], ◌∷◌, ◌++◌, ◌-◌, ◌<◌, ◌≤◌, ◌↔◌, IsTrue, List, Result, Ok, Err, IfOk, IfSome, IfNone, IfErr, MatchOption, MatchResult, None, true, false};
@@ -225,6 +230,24 @@ impl<J: JobKind> WorkerThread<J> {
         }
     }
 
+    /// Spawns a detached job: puts it last into the worker's own deque, and waits for nothing. The job has a unit of the
+    /// terminate count, which the end of its run gives back, so that the pool cannot end before. Nobody is answered its
+    /// output; its fault is kept by the pool (`take_fault`). Refused `Full`, `NoRoom`, `Ended`, with the job back and nothing
+    /// added.
+    #[tactic(auto, unfolding(crate::specs::Pushes::pushed_by, crate::specs::Pushes::left_to, crate::specs::Pushes::takes_oldest, crate::specs::Pushes::units_of, crate::specs::Pushes::shape_at, crate::specs::Pushes::seat_of, crate::specs::Pushes::acts_of, crate::specs::Pushes::saw_set))]
+    pub fn spawn<R: Wait>(&mut self, rt: &R, alloc: Global, job: J) -> Result<(), (Refusal, J)>
+        ensures spawned { IfOk result (λ _. (n : ℕ) × Spawned self.old.shape (Worker 0 self.old.seat) n self.old.acts self.new.acts × (self.new ≡ record self.old { pushed = self.old.pushed ++ detached_task job false (Worker 0 self.old.seat) n ∷ []; left = self.old.left ++ detached_task job false (Worker 0 self.old.seat) n ∷ []; acts = self.new.acts })) }
+        ensures back { IfErr result (λ e. (e.1 ≡ job) × Kept self.old self.new) }
+        ensures path { IfErr result (λ _. HandedBack self.old.shape (Worker 0 self.old.seat) (Detach 0) self.old.acts self.new.acts) }
+        ensures refused { IfErr result (λ e. (e.0 ≡ Refusal.Ended) ⊎ ((e.0 ≡ Refusal.Full) ⊎ (e.0 ≡ Refusal.NoRoom))) }
+    {
+        let Some(name) = self.names.draw() else {
+            return Err((Refusal::Full, job));
+        };
+        self.bench.spawn(rt, alloc, name, job)?;
+        Ok(())
+    }
+
     /// Takes the newest task of the worker's own deque, or the oldest where that is its order. None where nothing lies
     /// there.
     #[tactic(auto, unfolding(crate::specs::Pushes::pushed_by, crate::specs::Pushes::left_to, crate::specs::Pushes::takes_oldest, crate::specs::Pushes::units_of, crate::specs::Pushes::shape_at, crate::specs::Pushes::seat_of, crate::specs::Pushes::acts_of, crate::specs::Pushes::saw_set))]
@@ -345,15 +368,32 @@ impl<J: JobKind> WorkerThread<J> {
         requires some { 0 < self.old.levels }
         requires levels { self.old.levels ≤ R.levels rt.now }
         ensures same { SameWorker self.old self.new }
-        ensures path { (e : Ending) × (x : Log) × AddsRun self.old.acts x × Made self.old.shape (Worker 0 self.old.seat) (Stay (at.StoreResult task.ticket.number task.ticket.owner e)) x self.new.acts Back }
+        ensures path { (e : Ending) × (x : Log) × AddsRun self.old.acts x × Closes self.old.shape (Worker 0 self.old.seat) task.ticket.number (kind_in task.ticket) e x self.new.acts }
     {
         let (call, owner) = (task.number(), task.owner());
         let migrated = task.injected() || !owner.is_worker(0, self.id.index);
         let (work, _injected, ticket) = task_parts(task);
         let (done, first) = self.run_work(rt, alloc, work, migrated);
-        let ending = done.ending();
-        self.bench.set_reply(ticket, done, first);
-        self.bench.tell(rt, call, owner, ending);
+        if ticket.is_detached() {
+            self.let_go(rt, call, done);
+        } else {
+            let ending = done.ending();
+            self.bench.set_reply(ticket, done, first);
+            self.bench.tell(rt, call, owner, ending);
+        }
+    }
+
+    // A detached job of this name has ended so: its fault is kept by the pool, and its unit of the terminate count is given
+    // back.
+    #[tactic(auto, unfolding(crate::specs::Pushes::units_of, crate::specs::Pushes::shape_at, crate::specs::Pushes::seat_of, crate::specs::Pushes::acts_of))]
+    fn let_go<R: Wait>(&mut self, rt: &R, name: u64, done: Done<J>)
+        ensures same { SameWorker self.old self.new }
+        ensures path { Made self.old.shape (Worker 0 self.old.seat) (Stay (at.LowerCount (OfPool 0) (OfJob name) Resume)) self.old.acts self.new.acts Back }
+    {
+        if let Err(fault) = done.into_result() {
+            self.bench.keep_fault(rt, fault);
+        }
+        self.bench.end_detached(rt, name);
     }
 
     // Runs what there is to run of a task. Answers the result for the call's cell, and of two sides the first one's

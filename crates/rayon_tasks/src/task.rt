@@ -1,16 +1,18 @@
 //! What lies in the queues of a pool.
 ghost use Rattle.rayon_tasks.specs.Tasks.{IsSingle, OneJob, TwoSides};
+ghost use Rattle.rayon_tasks.specs.Tickets.{kind_in};
 ghost use Rattle.rayon_tasks.specs.Works.{work_of};
 ghost use Rattle.std.specs.Prelude.{◌≡◌, ◌↔◌, IsTrue, true, IfOk, IfErr};
 
 use crate::ticket::Ticket;
 use crate::work::{Pair, Work};
 use rayon_jobs::JobKind;
-use rayon_machine_places::place::Party;
+use rayon_machine_places::place::{JobKind as Kind, Party};
 use std::alloc::Global;
 use std::marker::Model;
 
-/// What a call queued: a second side, a job that was sent to the pool, or two sides that were sent to the pool.
+/// What a call queued: a second side, a job that was sent to the pool, two sides that were sent to the pool, or a detached
+/// job.
 ///
 /// Users of the pool see this type alone of the crate, and to them it is opaque. Tasks are made and taken apart by
 /// functions beside the type, not by its methods, so who has a task and not this crate can neither take its ticket out
@@ -42,7 +44,7 @@ impl<J: JobKind> Model for Task<J> {
 }
 
 impl<J: JobKind> Task<J> {
-    /// The name of the call's job.
+    /// The name of the job.
     pub fn number(&self) -> u64
         ensures { result ≡ self.now.ticket.number }
     {
@@ -54,6 +56,22 @@ impl<J: JobKind> Task<J> {
         ensures { result ≡ self.now.ticket.owner }
     {
         self.ticket.owner()
+    }
+
+    /// What the end of the run sets going: of a detached job that its unit of the terminate count is given back, else that
+    /// its result is stored for the call that waits for it.
+    #[inline(always)]
+    pub fn kind(&self) -> Kind
+        ensures { result ≡ kind_in self.now.ticket }
+    {
+        if self.ticket.is_detached() {
+            Kind::Detached(0)
+        } else {
+            Kind::Stored {
+                call: self.number(),
+                owner: self.owner(),
+            }
+        }
     }
 
     /// Whether the call was made outside the pool.

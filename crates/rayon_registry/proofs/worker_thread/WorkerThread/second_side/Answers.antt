@@ -57,7 +57,7 @@ returns-then-waits-clause-path g c =
     let shape : x.shape ≡ a.shape = search rules in
     let t = c.take_call-held.new.self in
     let y = c.begin_task.new.self in
-    c.loop.invariant.8 w Back (around_task a.shape a.seat wait c.in-Other.name c.in-Some-take_task-2.task t y c.take_task-in-Other.new.self p first l.acts u.trace x.acts w Back (search rules) (search rules) (search rules) (search rules) (search rules) (search rules) (search rules) (search rules) found c.begin_task.ensures.path c.run_task.ensures.path
+    c.loop.invariant.8 w Back (around_task a.shape a.seat wait c.in-Other.name c.in-Some-take_task-2.task t y c.take_task-in-Other.new.self p first l.acts u.trace x.acts w Back (search rules) (search rules) (search rules) (search rules) (search rules) (search rules) (search rules) (search rules) (search rules) found c.begin_task.ensures.path c.run_task.ensures.path
     (worked_as x.shape a.shape x.seat a.seat (Stay wait) x.acts w Back seat shape c.wait_for.ensures.path))
 
 pub loop-preserved : goal.loop-preserved
@@ -88,7 +88,7 @@ loop-preserved g c =
       search rules,
       search rules,
       search rules,
-      λ w m x. c.loop.invariant.8 w m (around_task a.shape a.seat (at.JoinProbe o) c.in-Other.name c.in-Some-take_task-2.task t y c.take_task-in-Other.new.self p first l.acts u.trace c.run_task.new.self.acts w m (search rules) (search rules) (search rules) (search rules) (search rules) (search rules) (search rules) (search rules) found c.begin_task.ensures.path c.run_task.ensures.path x),
+      λ w m x. c.loop.invariant.8 w m (around_task a.shape a.seat (at.JoinProbe o) c.in-Other.name c.in-Some-take_task-2.task t y c.take_task-in-Other.new.self p first l.acts u.trace c.run_task.new.self.acts w m (search rules) (search rules) (search rules) (search rules) (search rules) (search rules) (search rules) (search rules) (search rules) found c.begin_task.ensures.path c.run_task.ensures.path x),
     )
 
 pub returns-in-Answered-clause-path : goal.returns-in-Answered-clause-path

@@ -34,7 +34,7 @@ loop-preserved g c =
       search rules,
       search rules,
       search rules,
-      λ w n x. c.loop.invariant.8 w n (around_task a.shape a.seat (at.ProbeWorking (fresh k)) c.in-Enter-default-BeginTask.name c.in-Some-take_task.task t y c.take_task.new.self p first l.acts u.trace c.run_task.new.self.acts w n (search rules) (search rules) (search rules) (search rules) (search rules) (search rules) (search rules) (search rules) found c.begin_task.ensures.path c.run_task.ensures.path x),
+      λ w n x. c.loop.invariant.8 w n (around_task a.shape a.seat (at.ProbeWorking (fresh k)) c.in-Enter-default-BeginTask.name c.in-Some-take_task.task t y c.take_task.new.self p first l.acts u.trace c.run_task.new.self.acts w n (search rules) (search rules) (search rules) (search rules) (search rules) (search rules) (search rules) (search rules) (search rules) found c.begin_task.ensures.path c.run_task.ensures.path x),
     )
 
 pub returns-in_default-clause-path : goal.returns-in_default-clause-path

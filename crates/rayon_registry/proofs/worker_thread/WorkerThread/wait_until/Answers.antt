@@ -31,7 +31,7 @@ loop-preserved g c =
       search rules,
       search rules,
       search rules,
-      λ w n k. c.loop.invariant.7 w n (around_task a.shape a.seat (at.ProbeWorking (fresh Termination)) c.in-Enter-default-BeginTask.name c.in-Some-take_task.task u y c.take_task.new.self p first l.acts u.trace c.run_task.new.self.acts w n (search rules) (search rules) (search rules) (search rules) refl (search rules) (search rules) (search rules) found c.begin_task.ensures.path c.run_task.ensures.path k),
+      λ w n k. c.loop.invariant.7 w n (around_task a.shape a.seat (at.ProbeWorking (fresh Termination)) c.in-Enter-default-BeginTask.name c.in-Some-take_task.task u y c.take_task.new.self p first l.acts u.trace c.run_task.new.self.acts w n (search rules) (search rules) (search rules) (search rules) (search rules) refl (search rules) (search rules) (search rules) found c.begin_task.ensures.path c.run_task.ensures.path k),
     )
 
 pub returns-in_default-clause-path : goal.returns-in_default-clause-path

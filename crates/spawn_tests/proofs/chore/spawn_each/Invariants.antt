@@ -1,0 +1,11 @@
+use Rattle.std.proofs.Common.{◌≡◌}
+use Rattle.spawn_tests.proofs.chore.spawn_each.Given as goal
+
+abbrev pub invariant-loop : goal.invariant-loop
+invariant-loop g l =
+    (goal.iterator-loop g).can_next l.iterator' × (goal.iterator-loop g).is_finite l.iterator'
+    × (l.w.levels ≡ l.initial.w.levels)
+    × (l.w.id ≡ l.initial.w.id)
+    × (l.w.units ≡ l.initial.w.units)
+    × (l.w.seat ≡ l.initial.w.seat)
+    × (l.w.shape ≡ l.initial.w.shape)

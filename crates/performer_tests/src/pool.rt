@@ -37,14 +37,14 @@ pub(crate) fn number_of(task: Option<Task<Errand>>) -> Option<u8> {
 }
 
 // Ends the pool.
-pub(crate) fn end<R: Wait>(rt: &R, registry: &Registry<Task<Errand>, u8>, hold: PoolHold) {
+pub(crate) fn end<R: Wait>(rt: &R, registry: &Registry<Task<Errand>>, hold: PoolHold) {
     let mut guest = Guest::new(registry);
     guest.end(rt, hold);
 }
 
 // A pool of two workers, their own deques, and the unit of the terminate count of its value.
 pub(crate) struct Two {
-    pub(crate) registry: Arc<Registry<Task<Errand>, u8>, Global>,
+    pub(crate) registry: Arc<Registry<Task<Errand>>, Global>,
     pub(crate) first: WorkerKit<Task<Errand>>,
     pub(crate) second: WorkerKit<Task<Errand>>,
     pub(crate) hold: PoolHold,
@@ -77,7 +77,7 @@ impl Two {
 // A share of what the workers of a pool of two have in common.
 #[derive(Drop)]
 pub(crate) struct Share {
-    registry: Arc<Registry<Task<Errand>, u8>, Global>,
+    registry: Arc<Registry<Task<Errand>>, Global>,
     ghost workers: { (arc_value registry).workers ≡ 2 },
 }
 

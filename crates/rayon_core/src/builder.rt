@@ -150,19 +150,27 @@ impl<J: JobKind> ThreadPoolBuilder<J> {
     }
 }
 
-// Starts a thread that begins with these three values. They stand in types of their own, as the deque does in
+// Starts a thread that begins with these four values. They stand in types of their own, as the deque does in
 // `start_sharing`: the checker finds of each that it may be sent, and not of a type that holds two.
 fn start_with<
     S: Drop + Send + 'static,
+    N: Drop + Send + 'static,
     D: Drop + Send + 'static,
     K: Drop + Send + 'static,
     R: Threads + Wait + Copy + Send + 'static,
-    F: FnOnce(&R, S, D, K) + Drop + Send + 'static,
->(rt: &R, shared: S, deque: D, seats: K, begin: F) -> Result<JoinHandle<()>, ThreadPoolBuildError>
+    F: FnOnce(&R, S, N, D, K) + Drop + Send + 'static,
+>(
+    rt: &R,
+    shared: S,
+    faults: N,
+    deque: D,
+    seats: K,
+    begin: F,
+) -> Result<JoinHandle<()>, ThreadPoolBuildError>
     requires { F.IsAlwaysCallable begin }
 {
     let theirs = *rt;
-    let started = thread::Builder::new().spawn(rt, move || begin(&theirs, shared, deque, seats));
+    let started = thread::Builder::new().spawn(rt, move || begin(&theirs, shared, faults, deque, seats));
     started.map_err(ThreadPoolBuildError::IOError)
 }
 
@@ -211,15 +219,22 @@ where
     J::Fault: Send + Sync + 'static,
 {
     let id = registry.id();
-    let Ok(shared) = registry.shared() else {
+    let (Ok(shared), Ok(faults)) = (registry.shared(), registry.faults()) else {
         return Err(ThreadPoolBuildError::NoRoom);
     };
-    start_with(rt, shared, deque, seats, move |rt, shared, deque, seats| {
-        let kit = WorkerKit::new(deque.into_deque(), seats.into_seats());
-        if let Some(thread) = ThreadBuilder::new(id, index, shared, kit) {
-            thread.run(rt, alloc);
-        }
-    })
+    start_with(
+        rt,
+        shared,
+        faults,
+        deque,
+        seats,
+        move |rt, shared, faults, deque, seats| {
+            let kit = WorkerKit::new(deque.into_deque(), seats.into_seats());
+            if let Some(thread) = ThreadBuilder::new(id, index, shared, faults, kit) {
+                thread.run(rt, alloc);
+            }
+        },
+    )
 }
 
 // Starts the thread of the worker with this index, whose own deque this is.

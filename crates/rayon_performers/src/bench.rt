@@ -25,7 +25,7 @@ use rayon_words::Refusal;
 use std::alloc::Global;
 use std::marker::Model;
 use std::mem;
-use std::sync::{Arc, Wait};
+use std::sync::Arc;
 
 // How many calls that have ended a worker keeps: as deep as joins mostly stand nested.
 const SPARES: usize = 64;
@@ -35,7 +35,7 @@ const SPARES: usize = 64;
 /// aside.
 #[derive(Drop)]
 pub struct Bench<J: JobKind> {
-    pub(crate) registry: Arc<Registry<Task<J>, J::Fault>, Global>,
+    pub(crate) registry: Arc<Registry<Task<J>>, Global>,
     pub(crate) shape: PoolShape,
     pub(crate) index: usize,
     pub(crate) random: XorShift64Star,
@@ -51,7 +51,7 @@ pub struct Bench<J: JobKind> {
     pub(crate) kept: usize,
     pub(crate) reply: Option<Ticket<J>>,
     // the ticket of the worker's detached jobs, of which each has a share
-    pub(crate) loose: Option<Ticket<J>>,
+    pub(crate) detached: Option<Ticket<J>>,
     pub(crate) done: Option<Done<J>>,
     // of two sides, the first side's result, and the ticket to whose cell it goes
     pub(crate) first: Option<(Ticket<J>, Done<J>)>,
@@ -108,7 +108,7 @@ impl<J: JobKind> Bench<J> {
     /// What the worker of this index begins with: nothing at hand, and nothing done. It is made where the worker's
     /// thread runs, of a share of what the threads have in common.
     pub fn new(
-        registry: Arc<Registry<Task<J>, J::Fault>, Global>,
+        registry: Arc<Registry<Task<J>>, Global>,
         index: usize,
         own: WorkerKit<Task<J>>,
     ) -> Bench<J>
@@ -134,7 +134,7 @@ impl<J: JobKind> Bench<J> {
             spares: None,
             kept: 0,
             reply: None,
-            loose: None,
+            detached: None,
             done: None,
             first: None,
             terminate,
@@ -154,11 +154,6 @@ impl<J: JobKind> Bench<J> {
         ensures refused { IfErr result (λ r. r ≡ Refusal.NoRoom) }
     {
         self.registry.owner(self.index)
-    }
-
-    /// A detached job has ended with this fault, which the pool keeps if it is the first.
-    pub fn keep_fault<R: Wait>(&self, rt: &R, fault: J::Fault) {
-        self.registry.keep_fault(rt, fault);
     }
 
     /// Takes the trace out, and begins a new one: for a run that the worker is lent to.

@@ -51,7 +51,7 @@ impl<J: JobKind> Bench<J> {
         ensures rests { Resting self.new.chair }
         ensures refused { IfErr result (λ e. (e.0 ≡ Refusal.Ended) ⊎ ((e.0 ≡ Refusal.Full) ⊎ (e.0 ≡ Refusal.NoRoom))) }
     {
-        let ticket = match self.loose_ticket(alloc, name) {
+        let ticket = match self.ticket_of_detached(alloc, name) {
             Ok(ticket) => ticket,
             Err(refusal) => return Err((refusal, job)),
         };
@@ -139,25 +139,25 @@ impl<J: JobKind> Bench<J> {
     }
 
     // The ticket of the worker's detached job of this name: a share of the one that it keeps. Refused `NoRoom`.
-    fn loose_ticket(&mut self, alloc: Global, name: u64) -> Result<Ticket<J>, Refusal>
+    fn ticket_of_detached(&mut self, alloc: Global, name: u64) -> Result<Ticket<J>, Refusal>
         ensures same { self.new ≡ self.old }
         ensures ticket { IfOk result (λ t. t ≡ record { owner = Worker 0 self.old.index; number = name; detached = true }) }
         ensures refused { IfErr result (λ r. r ≡ Refusal.NoRoom) }
     {
-        if let Some(ticket) = &self.loose {
-            if self.is_loose(ticket) {
+        if let Some(ticket) = &self.detached {
+            if self.is_own_detached(ticket) {
                 let share = ticket.share()?;
                 return Ok(share.renamed(name));
             }
         }
         let ticket = Ticket::of_detached(alloc, self.party(), name)?;
         let share = ticket.share()?;
-        self.loose = Some(ticket);
+        self.detached = Some(ticket);
         Ok(share)
     }
 
     // Whether this is the ticket of a detached job of the worker's own.
-    fn is_loose(&self, ticket: &Ticket<J>) -> bool
+    fn is_own_detached(&self, ticket: &Ticket<J>) -> bool
         ensures { result ≡ true → (ticket.now.owner ≡ Worker 0 self.now.index) × (ticket.now.detached ≡ true) }
     {
         match ticket.owner() {

@@ -46,7 +46,7 @@ use std::sync::Wait;
 /// else does.
 #[derive(Drop)]
 pub struct Guest<'a, J: JobKind> {
-    registry: &'a Registry<Task<J>, J::Fault>,
+    registry: &'a Registry<Task<J>>,
     shape: PoolShape,
     inlet: InjectorPass<Task<J>>,
     call: Option<Ticket<J>>,
@@ -154,7 +154,7 @@ const CALLER: Party = Party::Caller(0);
 
 impl<'a, J: JobKind> Guest<'a, J> {
     /// An outside caller of this pool that has done nothing yet.
-    pub fn new(registry: &'a Registry<Task<J>, J::Fault>) -> Guest<'a, J>
+    pub fn new(registry: &'a Registry<Task<J>>) -> Guest<'a, J>
         ensures inlet { result.inlet ≡ visitor registry.now.injector [] [] }
         ensures shape { result.shape ≡ shape_of registry.now.workers }
         ensures empty { (result.holds ≡ false) × (result.trace ≡ Empty) }

@@ -12,7 +12,6 @@ use rayon_atomics::count::CountSeat;
 use rayon_atomics::latch::CoreLatch;
 use rayon_atomics::own_latch::OwnLatch;
 use rayon_atomics::terminate::TerminateCount;
-use rayon_jobs::Faults;
 use rayon_machine_places::shape::{Order, PoolShape};
 use rayon_queues::{Injector, Stealers, WorkerDeque};
 use rayon_sleep::counters::Chair;
@@ -28,11 +27,10 @@ use std::sync::{Arc, Mutex, Wait};
 // How many searches of an idle worker fail before it announces itself, less one.
 const ROUNDS_UNTIL_SLEEPY: u64 = 32;
 
-/// What the threads of a pool share, where its queues hold `T`: tasks, and the faults of its detached jobs are `F`. Contracts
-/// see how many workers it has, the levels of a worker value that no run was lent yet, and which deques and which injector are
-/// its own.
+/// What the threads of a pool share, where its queues hold `T`: tasks. Contracts see how many workers it has, the levels of a worker value that no run
+/// was lent yet, and which deques and which injector are its own.
 #[derive(Drop)]
-pub struct Registry<T, F> {
+pub struct Registry<T> {
     depth_limit: usize,
     num_threads: usize,
     steal_seed: u64,
@@ -42,10 +40,9 @@ pub struct Registry<T, F> {
     terminate_count: TerminateCount,
     terminate: Vec<Arc<CoreLatch, Global>>,
     caller_names: Mutex<Names>,
-    faults: Mutex<Faults<F>>,
 }
 
-impl<T, F> Model for Registry<T, F> {
+impl<T> Model for Registry<T> {
     ghost use Rattle.rayon_performers.specs.Pools.{Shared};
     ghost use Rattle.std.specs.Arc.{arc_value};
     ghost use Rattle.std.specs.Prelude.{◌≡◌, ◌<◌, length};
@@ -57,7 +54,7 @@ impl<T, F> Model for Registry<T, F> {
     ghost invariant = { λ r. (length r.stealers ≡ r.num_threads) × (length r.terminate.items ≡ r.num_threads) × (0 < r.num_threads) × (r.num_threads < 65536) × (arc_value r.sleep ≡ r.num_threads) };
 }
 
-impl<T: Drop, F: Drop> Registry<T, F> {
+impl<T: Drop> Registry<T> {
     /// The shared part of a pool of so many workers, what each worker begins with by index, and the unit of the terminate
     /// count that the pool's value holds. A `depth_limit` of 0 counts as 1. Refused `NoRoom`.
     pub fn new(
@@ -65,7 +62,7 @@ impl<T: Drop, F: Drop> Registry<T, F> {
         num_threads: usize,
         depth_limit: usize,
         steal_seed: u64,
-    ) -> Result<(Registry<T, F>, Vec<WorkerKit<T>>, PoolHold), Refusal>
+    ) -> Result<(Registry<T>, Vec<WorkerKit<T>>, PoolHold), Refusal>
         requires { (0 < num_threads) × (num_threads < 65536) }
         ensures workers { IfOk result (λ r. r.0.workers ≡ num_threads) }
         ensures depth { IfOk result (λ r. r.0.depth_limit ≡ max 1 depth_limit) }
@@ -107,7 +104,6 @@ impl<T: Drop, F: Drop> Registry<T, F> {
             terminate_count,
             terminate,
             caller_names: Mutex::new(Names::new(num_threads, num_threads + 1)),
-            faults: Mutex::new(Faults::new()),
         };
         Ok((registry, deques, PoolHold::new()))
     }
@@ -218,16 +214,6 @@ impl<T: Drop, F: Drop> Registry<T, F> {
     /// A name for the job of an outside caller. None where all are used up.
     pub fn caller_name<R: Wait>(&self, rt: &R) -> Option<u64> {
         self.caller_names.lock(rt).draw()
-    }
-
-    /// A detached job has ended with this fault.
-    pub(crate) fn keep_fault<R: Wait>(&self, rt: &R, fault: F) {
-        self.faults.lock(rt).keep(fault);
-    }
-
-    /// The first fault of a detached job since this was asked last, and how many there were, at most 2^64 - 1.
-    pub fn take_fault<R: Wait>(&self, rt: &R) -> (Option<F>, u64) {
-        self.faults.lock(rt).take()
     }
 }
 

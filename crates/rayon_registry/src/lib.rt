@@ -3,6 +3,7 @@
 
 mod answers;
 mod context;
+mod faults;
 mod ids;
 mod job;
 mod join;
@@ -11,6 +12,7 @@ mod registry;
 mod worker_thread;
 
 pub use context::{BroadcastContext, Context, FnContext, PieceContext, Scope};
+pub use faults::SharedFaults;
 pub use ids::{IdSource, Ids, PoolId, WorkerId};
 pub use job::{Job, Waits};
 pub use join::{ForkJoin, PairRun};

@@ -4,6 +4,7 @@ ghost use Rattle.std.specs.Arc.{arc_value};
 ghost use Rattle.std.specs.Prelude.{◌≡◌, ◌⊎◌, ◌<◌, ◌≤◌, ℕ, max, length, Result, Ok, Err, IfOk, IfErr, IfSome, IfNone};
 
 use crate::answers::{install_answer, join_answer};
+use crate::faults::SharedFaults;
 use crate::ids::PoolId;
 use crate::job::Job;
 use crate::level::{Level, work_at};
@@ -19,16 +20,17 @@ use std::sync::{Arc, Wait};
 // A pool's number, and a share of what its threads have in common, where its queues hold such tasks. It stands apart from
 // the job type, so that the checker finds once that it may be sent where its tasks may be.
 #[derive(Drop)]
-pub(crate) struct PoolShare<T, F> {
+pub(crate) struct PoolShare<T> {
     pub(crate) id: PoolId,
-    pub(crate) shared: Arc<rayon_performers::Registry<T, F>, Global>,
+    pub(crate) shared: Arc<rayon_performers::Registry<T>, Global>,
 }
 
-/// What stands for a pool: its number, and a share of what its threads have in common. Contracts see the pool's number,
+/// What stands for a pool: its number, and shares of what its threads have in common. Contracts see the pool's number,
 /// how many workers it has, and the levels of a worker value that no run was lent yet.
 #[derive(Drop)]
 pub struct Registry<J: JobKind> {
-    pub(crate) pool: PoolShare<Task<J>, J::Fault>,
+    pub(crate) pool: PoolShare<Task<J>>,
+    pub(crate) faults: SharedFaults<J::Fault>,
 }
 
 impl<J: JobKind> Model for Registry<J> {
@@ -57,6 +59,7 @@ impl<J: JobKind> Registry<J> {
         ensures deques { IfOk result (λ r. length r.1.items ≡ num_threads) }
         ensures refused { IfErr result (λ r. r ≡ Refusal.NoRoom) }
     {
+        let faults = SharedFaults::new(alloc)?;
         let (shared, deques, hold) = rayon_performers::Registry::new(
             alloc,
             num_threads,
@@ -64,7 +67,7 @@ impl<J: JobKind> Registry<J> {
             steal_seed,
         )?;
         match Arc::new(alloc, shared) {
-            Ok(shared) => Ok((Registry::of(id, shared), deques, hold)),
+            Ok(shared) => Ok((Registry::of(id, shared, faults), deques, hold)),
             Err(AllocFailed { value: shared }) => {
                 Guest::new(&shared).end(rt, hold);
                 Err(Refusal::NoRoom)
@@ -75,12 +78,14 @@ impl<J: JobKind> Registry<J> {
     // The pool with this number, whose threads share this.
     fn of(
         id: PoolId,
-        shared: Arc<rayon_performers::Registry<Task<J>, J::Fault>, Global>,
+        shared: Arc<rayon_performers::Registry<Task<J>>, Global>,
+        faults: SharedFaults<J::Fault>,
     ) -> Registry<J>
         ensures { result ≡ record { id = id; workers = (arc_value shared).workers; depth_limit = (arc_value shared).depth_limit } }
     {
         Registry {
             pool: PoolShare { id, shared },
+            faults,
         }
     }
 
@@ -90,18 +95,24 @@ impl<J: JobKind> Registry<J> {
         ensures refused { IfErr result (λ r. r ≡ Refusal.NoRoom) }
     {
         let shared = self.shared()?;
-        Ok(Registry::of(self.id(), shared))
+        let faults = self.faults()?;
+        Ok(Registry::of(self.id(), shared, faults))
     }
 
     /// What the pool's threads share, for one thread more. Refused `NoRoom`.
-    pub fn shared(
-        &self,
-    ) -> Result<Arc<rayon_performers::Registry<Task<J>, J::Fault>, Global>, Refusal>
+    pub fn shared(&self) -> Result<Arc<rayon_performers::Registry<Task<J>>, Global>, Refusal>
         ensures workers { IfOk result (λ s. (arc_value s).workers ≡ self.now.workers) }
         ensures depth { IfOk result (λ s. (arc_value s).depth_limit ≡ self.now.depth_limit) }
         ensures refused { IfErr result (λ r. r ≡ Refusal.NoRoom) }
     {
         Arc::try_clone(&self.pool.shared).map_err(|_| Refusal::NoRoom)
+    }
+
+    /// The faults of the pool's detached jobs, for one thread more. Refused `NoRoom`.
+    pub fn faults(&self) -> Result<SharedFaults<J::Fault>, Refusal>
+        ensures refused { IfErr result (λ r. r ≡ Refusal.NoRoom) }
+    {
+        self.faults.share()
     }
 
     /// The pool's number.
@@ -170,7 +181,7 @@ impl<J: JobKind> Registry<J> {
     /// The first fault of a detached job since this was asked last, and how many there were, at most 2^64 - 1. None and 0 are
     /// left.
     pub fn take_fault<R: Wait>(&self, rt: &R) -> (Option<J::Fault>, u64) {
-        self.pool.shared.take_fault(rt)
+        self.faults.take(rt)
     }
 
     /// Joins two sides on the pool for a caller that is no worker, which blocks until both have run. Refused `TooDeep`
@@ -244,7 +255,8 @@ impl<J: JobKind> ThreadBuilder<J> {
     pub fn new(
         id: PoolId,
         index: usize,
-        shared: Arc<rayon_performers::Registry<Task<J>, J::Fault>, Global>,
+        shared: Arc<rayon_performers::Registry<Task<J>>, Global>,
+        faults: SharedFaults<J::Fault>,
         deque: WorkerKit<Task<J>>,
     ) -> Option<ThreadBuilder<J>>
         ensures seat { IfSome result (λ t. t ≡ record { pool = record { id = id; workers = (arc_value shared).workers; depth_limit = (arc_value shared).depth_limit }; index = index }) }
@@ -254,7 +266,7 @@ impl<J: JobKind> ThreadBuilder<J> {
             return None;
         }
         Some(ThreadBuilder {
-            registry: Registry::of(id, shared),
+            registry: Registry::of(id, shared, faults),
             index,
             deque,
         })

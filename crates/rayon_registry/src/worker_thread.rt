@@ -27,6 +27,7 @@ ghost use Rattle.rayon_registry.specs.Worker.{AfterWait, Kept, SameWorker};
 ghost use Rattle.std.specs.Prelude.{◌≡◌, ◌⊎◌, ℕ, [], ◌∷◌, ◌++◌, ◌-◌, ◌<◌, ◌≤◌, ◌↔◌, IsTrue, List, Result, Ok, Err, IfOk, IfSome, IfNone, IfErr, MatchOption, MatchResult, None, true, false};
 
 use crate::context::FnContext;
+use crate::faults::SharedFaults;
 use crate::ids::WorkerId;
 use crate::job::Waits;
 use crate::join::PairRun;
@@ -50,6 +51,7 @@ pub struct WorkerThread<J: JobKind> {
     pub(crate) id: WorkerId,
     pub(crate) levels: usize,
     pub(crate) names: Names,
+    pub(crate) faults: SharedFaults<J::Fault>,
     pub(crate) bench: Bench<J>,
 }
 
@@ -92,13 +94,15 @@ impl<J: JobKind> WorkerThread<J> {
         ensures seat { result.seat ≡ index }
         ensures acts { result.acts ≡ Empty }
     {
-        let PoolShare { id, shared } = registry.pool;
+        let Registry { pool, faults } = registry;
+        let PoolShare { id, shared } = pool;
         let levels = shared.depth_limit();
         let parties = shared.num_threads().saturating_add(1);
         WorkerThread {
             id: WorkerId { pool: id, index },
             levels,
             names: Names::new(index, parties),
+            faults,
             bench: Bench::new(shared, index, deque),
         }
     }
@@ -391,7 +395,7 @@ impl<J: JobKind> WorkerThread<J> {
         ensures path { Made self.old.shape (Worker 0 self.old.seat) (Stay (at.LowerCount (OfPool 0) (OfJob name) Resume)) self.old.acts self.new.acts Back }
     {
         if let Err(fault) = done.into_result() {
-            self.bench.keep_fault(rt, fault);
+            self.faults.keep(rt, fault);
         }
         self.bench.end_detached(rt, name);
     }

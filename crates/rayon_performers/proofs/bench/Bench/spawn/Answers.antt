@@ -17,7 +17,7 @@ returns-in-Err-raise_for_job-clause-path g c =
     let n = c.args.name in
     let u = c.raise_for_job.new.self.trace in
     not_raised a.shape n a.trace u (Worker 0 a.index)
-    (subst (λ z. Adds (acts.Raise (OfPool 0) n) saw.Refused z.trace u) c.loose_ticket.ensures.same c.in-Err-raise_for_job.ensures.adds)
+    (subst (λ z. Adds (acts.Raise (OfPool 0) n) saw.Refused z.trace u) c.ticket_of_detached.ensures.same c.in-Err-raise_for_job.ensures.adds)
 
 pub returns-in-Ok-push-clause-path : goal.returns-in-Ok-push-clause-path
 returns-in-Ok-push-clause-path g c =
@@ -29,7 +29,7 @@ returns-in-Ok-push-clause-path g c =
     let shape : u.shape ≡ a.shape = search rules in
     let index : u.index ≡ a.index = search rules in
     let named : m ≡ n = search rules in
-    let adds = subst (λ z. Adds (acts.Raise (OfPool 0) n) saw.Done z.trace u.trace) c.loose_ticket.ensures.same c.in_default.ensures.adds in
+    let adds = subst (λ z. Adds (acts.Raise (OfPool 0) n) saw.Done z.trace u.trace) c.ticket_of_detached.ensures.same c.in_default.ensures.adds in
     let pushed = traced u.shape u.index (Stay (at.LookQueue (Detach 0 m))) u w Back c.in-Ok-push.ensures.path in
     spawned_by a.shape n a.trace u.trace (Worker 0 a.index) w.trace adds
     (queued_as u.shape a.shape u.index a.index m n u.trace w.trace (λ k. Back) shape index named pushed)
@@ -50,7 +50,7 @@ returns-in-Err-push-clause-path g c =
     let shape2 : w.shape ≡ a.shape = search rules in
     let index2 : w.index ≡ a.index = search rules in
     let named : m ≡ n = search rules in
-    let adds = subst (λ z. Adds (acts.Raise (OfPool 0) n) saw.Done z.trace u.trace) c.loose_ticket.ensures.same c.in_default.ensures.adds in
+    let adds = subst (λ z. Adds (acts.Raise (OfPool 0) n) saw.Done z.trace u.trace) c.ticket_of_detached.ensures.same c.in_default.ensures.adds in
     let pushed = traced u.shape u.index (Stay (at.LookQueue (Detach 0 m))) u w (Stay (undo (Detach 0 m))) c.in-Err-push.ensures.path in
     let here = queued_as u.shape a.shape u.index a.index m n u.trace w.trace (λ k. Stay (undo (Detach 0 k))) shape index named pushed in
     let lowered = traced_as w.shape a.shape w.index a.index undone w.trace x.trace back shape2 index2 c.lower_job_then.ensures.path in

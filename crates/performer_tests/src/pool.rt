@@ -53,7 +53,7 @@ pub(crate) struct Two {
 
 impl Two {
     pub(crate) fn new<R: Wait + Abort>(rt: &R, alloc: Global) -> Two {
-        let (registry, deques, hold) = Registry::new(alloc, 2, 8, 0).expect(rt, "room");
+        let (registry, deques, hold) = Registry::new(alloc, 2, 8, 0, false).expect(rt, "room");
         let registry = Arc::new(alloc, registry).expect(rt, "room");
         let mut deques = deques.into_iter();
         let first = deques.next().expect(rt, "a deque");

@@ -11,7 +11,7 @@ use std::test::Fail;
 // Whose task a thief takes in a pool of four workers with this seed, where each of the others has one: the errand's
 // number is the index of the worker that pushed it.
 fn robbed<R: Wait + Abort>(rt: &R, alloc: Global, steal_seed: u64, thief: usize) -> Option<u8> {
-    let (registry, deques, hold) = Registry::new(alloc, 4, 8, steal_seed).expect(rt, "room");
+    let (registry, deques, hold) = Registry::new(alloc, 4, 8, steal_seed, false).expect(rt, "room");
     let registry = Arc::new(alloc, registry).expect(rt, "room");
     let mut taker = None;
     for (index, deque) in deques.into_iter().enumerate() {

@@ -2,7 +2,7 @@
 use crate::errand::{Answer, Deed, Errand, Marks, Name, Words, outcomes};
 use crate::tests::{LEVELS, WORKERS, installed, joined, pool_with};
 use crate::together::{Together, pause};
-use rayon_core::{PoolRef, ThreadPool};
+use rayon_core::{Ids, PoolRef, ThreadPool, ThreadPoolBuilder};
 use std::alloc::Global;
 use std::process::Abort;
 use std::sync::{Arc, Barrier, Wait};
@@ -38,6 +38,22 @@ fn fibonacci_numbers(rt: HostRuntime) -> Result<(), Fail> {
             (18, 2_584, 4_181),
             (21, 10_946, 17_711),
         ] {
+            expect_fib(&rt, alloc, &pool, n, number, 2 * leaves - 1);
+        }
+        pool.end_and_join(&rt);
+    }
+    Ok(())
+}
+
+// In a pool that goes breadth first a worker finds older tasks before its own second side: the numbers are the same, and each
+// job runs once.
+#[test]
+fn fibonacci_numbers_breadth_first(rt: HostRuntime) -> Result<(), Fail> {
+    let alloc = rt.alloc();
+    for workers in [1, 2, 4] {
+        let builder = ThreadPoolBuilder::new().num_threads(workers).breadth_first();
+        let pool = builder.build(&rt, alloc, &Ids::new()).expect(&rt, "a pool");
+        for (n, number, leaves) in [(1, 1, 1), (2, 1, 2), (8, 21, 34)] {
             expect_fib(&rt, alloc, &pool, n, number, 2 * leaves - 1);
         }
         pool.end_and_join(&rt);

@@ -1,5 +1,5 @@
 //! How a pool is made.
-ghost use Rattle.std.specs.Prelude.{◌≡◌, ℕ, ◌+◌, ◌-◌, ◌^◌, max, min, length, IfOk};
+ghost use Rattle.std.specs.Prelude.{◌≡◌, ℕ, ◌+◌, ◌-◌, ◌^◌, max, min, length, IfOk, true, false};
 
 use crate::thread_pool::{ThreadPool, end_workers};
 use rayon_jobs::JobKind;
@@ -37,6 +37,7 @@ pub struct ThreadPoolBuilder<J: JobKind> {
     num_threads: usize,
     depth_limit: usize,
     steal_seed: u64,
+    breadth_first: bool,
     jobs: PhantomData<J>,
 }
 
@@ -45,19 +46,20 @@ impl<J: JobKind> Model for ThreadPoolBuilder<J> {
 
     ghost Value = { Settings };
 
-    ghost view = { λ b. record { num_threads = b.num_threads; depth_limit = b.depth_limit; steal_seed = b.steal_seed } };
+    ghost view = { λ b. record { num_threads = b.num_threads; depth_limit = b.depth_limit; steal_seed = b.steal_seed; breadth_first = b.breadth_first } };
 }
 
 impl<J: JobKind> ThreadPoolBuilder<J> {
     /// Settings of which none was made: the builder chooses how many workers, and runs may nest as deep as the memory
     /// of a thread allows.
     pub fn new() -> ThreadPoolBuilder<J>
-        ensures { result ≡ record { num_threads = 0; depth_limit = 2 ^ 64 - 1; steal_seed = 0 } }
+        ensures { result ≡ record { num_threads = 0; depth_limit = 2 ^ 64 - 1; steal_seed = 0; breadth_first = false } }
     {
         ThreadPoolBuilder {
             num_threads: 0,
             depth_limit: usize::MAX,
             steal_seed: 0,
+            breadth_first: false,
             jobs: PhantomData,
         }
     }
@@ -71,6 +73,7 @@ impl<J: JobKind> ThreadPoolBuilder<J> {
             num_threads,
             depth_limit: self.depth_limit,
             steal_seed: self.steal_seed,
+            breadth_first: self.breadth_first,
             jobs: PhantomData,
         }
     }
@@ -88,6 +91,7 @@ impl<J: JobKind> ThreadPoolBuilder<J> {
             num_threads: self.num_threads,
             depth_limit,
             steal_seed: self.steal_seed,
+            breadth_first: self.breadth_first,
             jobs: PhantomData,
         }
     }
@@ -100,6 +104,21 @@ impl<J: JobKind> ThreadPoolBuilder<J> {
             num_threads: self.num_threads,
             depth_limit: self.depth_limit,
             steal_seed,
+            breadth_first: self.breadth_first,
+            jobs: PhantomData,
+        }
+    }
+
+    /// Has each worker take the oldest task of its own deque first, where else it takes the newest. Jobs that spawn then go
+    /// breadth first, and the second side of a join is found behind what was queued before it. No answer depends on it.
+    pub fn breadth_first(self) -> ThreadPoolBuilder<J>
+        ensures { result ≡ record self { breadth_first = true } }
+    {
+        ThreadPoolBuilder {
+            num_threads: self.num_threads,
+            depth_limit: self.depth_limit,
+            steal_seed: self.steal_seed,
+            breadth_first: true,
             jobs: PhantomData,
         }
     }
@@ -120,6 +139,7 @@ impl<J: JobKind> ThreadPoolBuilder<J> {
         J::Fault: Send + Sync + 'static,
         ensures workers { IfOk result (λ p. p.workers ≡ min 65535 (max 1 self.num_threads)) }
         ensures depth { IfOk result (λ p. p.depth_limit ≡ max 1 self.depth_limit) }
+        ensures order { IfOk result (λ p. p.breadth_first ≡ self.breadth_first) }
     {
         let Some(id) = ids.next(rt) else {
             return Err(ThreadPoolBuildError::NoIds);
@@ -132,6 +152,7 @@ impl<J: JobKind> ThreadPoolBuilder<J> {
             num_threads,
             self.depth_limit,
             self.steal_seed,
+            self.breadth_first,
         );
         let Ok((registry, deques, hold)) = made else {
             return Err(ThreadPoolBuildError::NoRoom);
@@ -170,7 +191,10 @@ fn start_with<
     requires { F.IsAlwaysCallable begin }
 {
     let theirs = *rt;
-    let started = thread::Builder::new().spawn(rt, move || begin(&theirs, shared, faults, deque, seats));
+    let started = thread::Builder::new().spawn(
+        rt,
+        move || begin(&theirs, shared, faults, deque, seats),
+    );
     started.map_err(ThreadPoolBuildError::IOError)
 }
 

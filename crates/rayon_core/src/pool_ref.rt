@@ -22,13 +22,13 @@ impl<J: JobKind> Model for PoolRef<J> {
 
     ghost Value = { Pool };
 
-    ghost view = { λ p. record { id = p.registry.id; workers = p.registry.workers; depth_limit = p.registry.depth_limit } };
+    ghost view = { λ p. record { id = p.registry.id; workers = p.registry.workers; depth_limit = p.registry.depth_limit; breadth_first = p.registry.breadth_first } };
 }
 
 impl<J: JobKind> PoolRef<J> {
     // One more share of what the pool's threads share. Refused `NoRoom`.
     pub(crate) fn new(registry: &Registry<J>) -> Result<PoolRef<J>, Refusal>
-        ensures same { IfOk result (λ p. p ≡ record { id = registry.now.id; workers = registry.now.workers; depth_limit = registry.now.depth_limit }) }
+        ensures same { IfOk result (λ p. p ≡ record { id = registry.now.id; workers = registry.now.workers; depth_limit = registry.now.depth_limit; breadth_first = registry.now.breadth_first }) }
         ensures refused { IfErr result (λ r. r ≡ Refusal.NoRoom) }
     {
         let registry = registry.share()?;

@@ -27,7 +27,7 @@ impl<J: JobKind> Model for ThreadPool<J> {
 
     ghost Value = { Pool };
 
-    ghost view = { λ p. record { id = p.registry.id; workers = p.registry.workers; depth_limit = p.registry.depth_limit } };
+    ghost view = { λ p. record { id = p.registry.id; workers = p.registry.workers; depth_limit = p.registry.depth_limit; breadth_first = p.registry.breadth_first } };
 
     ghost invariant = { λ p. length p.workers.items ≡ p.registry.workers };
 }
@@ -40,7 +40,7 @@ impl<J: JobKind> ThreadPool<J> {
         workers: Vec<JoinHandle<()>>,
     ) -> ThreadPool<J>
         requires { length workers.items ≡ registry.workers }
-        ensures { result ≡ record { id = registry.id; workers = registry.workers; depth_limit = registry.depth_limit } }
+        ensures { result ≡ record { id = registry.id; workers = registry.workers; depth_limit = registry.depth_limit; breadth_first = registry.breadth_first } }
     {
         ThreadPool {
             registry,

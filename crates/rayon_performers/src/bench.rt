@@ -114,7 +114,7 @@ impl<J: JobKind> Bench<J> {
     ) -> Bench<J>
         requires { index < (arc_value registry).workers }
         ensures index { result.index ≡ index }
-        ensures pool { (result.deques ≡ (arc_value registry).deques) × (result.shape ≡ shape_of (arc_value registry).workers) }
+        ensures pool { (result.deques ≡ (arc_value registry).deques) × (result.shape ≡ shape_of (arc_value registry).workers (arc_value registry).breadth_first) }
         ensures passes { (result.own ≡ own) × (result.inlet ≡ visitor (arc_value registry).injector [] []) }
         ensures rests { Resting result.chair }
         ensures empty { (result.task ≡ None) × (result.holds ≡ 0) × (result.trace ≡ Empty) }

@@ -156,7 +156,7 @@ impl<'a, J: JobKind> Guest<'a, J> {
     /// An outside caller of this pool that has done nothing yet.
     pub fn new(registry: &'a Registry<Task<J>>) -> Guest<'a, J>
         ensures inlet { result.inlet ≡ visitor registry.now.injector [] [] }
-        ensures shape { result.shape ≡ shape_of registry.now.workers }
+        ensures shape { result.shape ≡ shape_of registry.now.workers registry.now.breadth_first }
         ensures empty { (result.holds ≡ false) × (result.trace ≡ Empty) }
     {
         Guest {

@@ -34,6 +34,7 @@ pub struct Registry<T> {
     depth_limit: usize,
     num_threads: usize,
     steal_seed: u64,
+    breadth_first: bool,
     sleep: Arc<Sleep, Global>,
     injector: Injector<T>,
     stealers: Stealers<T>,
@@ -49,26 +50,29 @@ impl<T> Model for Registry<T> {
 
     ghost Value = { Shared };
 
-    ghost view = { λ r. record { workers = r.num_threads; depth_limit = r.depth_limit; deques = r.stealers; injector = r.injector; count = r.terminate_count.table } };
+    ghost view = { λ r. record { workers = r.num_threads; depth_limit = r.depth_limit; breadth_first = r.breadth_first; deques = r.stealers; injector = r.injector; count = r.terminate_count.table } };
 
     ghost invariant = { λ r. (length r.stealers ≡ r.num_threads) × (length r.terminate.items ≡ r.num_threads) × (0 < r.num_threads) × (r.num_threads < 65536) × (arc_value r.sleep ≡ r.num_threads) };
 }
 
 impl<T: Drop> Registry<T> {
     /// The shared part of a pool of so many workers, what each worker begins with by index, and the unit of the terminate
-    /// count that the pool's value holds. A `depth_limit` of 0 counts as 1. Refused `NoRoom`.
+    /// count that the pool's value holds. A `depth_limit` of 0 counts as 1; `breadth_first` has each worker take the oldest
+    /// task of its own deque first. Refused `NoRoom`.
     pub fn new(
         alloc: Global,
         num_threads: usize,
         depth_limit: usize,
         steal_seed: u64,
+        breadth_first: bool,
     ) -> Result<(Registry<T>, Vec<WorkerKit<T>>, PoolHold), Refusal>
         requires { (0 < num_threads) × (num_threads < 65536) }
         ensures workers { IfOk result (λ r. r.0.workers ≡ num_threads) }
         ensures depth { IfOk result (λ r. r.0.depth_limit ≡ max 1 depth_limit) }
+        ensures order { IfOk result (λ r. r.0.breadth_first ≡ breadth_first) }
         ensures length { IfOk result (λ r. length r.1.items ≡ num_threads) }
         ensures deques { IfOk result (λ r. map (λ d. d.id) r.1.items ≡ r.0.deques) }
-        ensures empty { IfOk result (λ r. All (IsNew false 32) r.1.items) }
+        ensures empty { IfOk result (λ r. All (IsNew breadth_first 32) r.1.items) }
         ensures refused { IfErr result (λ r. r ≡ Refusal.NoRoom) }
     {
         let (sleep, mut chairs) = Sleep::new(alloc, num_threads)?;
@@ -84,7 +88,7 @@ impl<T: Drop> Registry<T> {
                 unreachable!()
             };
             let (latch, own) = OwnLatch::new(alloc)?;
-            let Ok(kit) = new_kit(alloc, &mut stealers, chair, own) else {
+            let Ok(kit) = new_kit(alloc, &mut stealers, breadth_first, chair, own) else {
                 return Err(Refusal::NoRoom);
             };
             if deques.push(kit).is_err() {
@@ -98,6 +102,7 @@ impl<T: Drop> Registry<T> {
             depth_limit: depth_limit.max(1),
             num_threads,
             steal_seed,
+            breadth_first,
             sleep,
             injector,
             stealers,
@@ -130,12 +135,16 @@ impl<T: Drop> Registry<T> {
 
     /// What the table of places asks of the pool.
     pub fn shape(&self) -> PoolShape
-        ensures { result ≡ shape_of self.now.workers }
+        ensures { result ≡ shape_of self.now.workers self.now.breadth_first }
     {
         PoolShape {
             workers: self.num_threads,
             limit: ROUNDS_UNTIL_SLEEPY,
-            order: Order::NewestFirst,
+            order: if self.breadth_first {
+                Order::OldestFirst
+            } else {
+                Order::NewestFirst
+            },
             callers_own: false,
         }
     }
@@ -217,18 +226,20 @@ impl<T: Drop> Registry<T> {
     }
 }
 
-// What one worker more begins with: its own deque, this seat and this latch; and the stealer of the deque.
+// What one worker more begins with: its own deque, which gives the oldest task first where it says so, this seat and this
+// latch; and the stealer of the deque.
 fn new_kit<T: Drop>(
     alloc: Global,
     stealers: &mut Stealers<T>,
+    oldest_first: bool,
     chair: Chair,
     terminate: OwnLatch,
 ) -> Result<WorkerKit<T>, AllocError>
     requires { Rests chair }
     ensures stealer { IfOk result (λ d. stealers.new ≡ stealers.old ++ d.id ∷ []) }
-    ensures empty { IfOk result (λ d. IsNew false 32 d) }
+    ensures empty { IfOk result (λ d. IsNew oldest_first 32 d) }
 {
-    let deque = WorkerDeque::new(alloc, false)?;
+    let deque = WorkerDeque::new(alloc, oldest_first)?;
     stealers.add(&deque)?;
     Ok(WorkerKit::new(deque, WorkerSeats::new(chair, terminate)))
 }

@@ -39,13 +39,14 @@ impl<J: JobKind> Model for Registry<J> {
 
     ghost Value = { Shared };
 
-    ghost view = { λ r. record { id = r.pool.id; workers = (arc_value r.pool.shared).workers; depth_limit = (arc_value r.pool.shared).depth_limit } };
+    ghost view = { λ r. record { id = r.pool.id; workers = (arc_value r.pool.shared).workers; depth_limit = (arc_value r.pool.shared).depth_limit; breadth_first = (arc_value r.pool.shared).breadth_first } };
 }
 
 impl<J: JobKind> Registry<J> {
     /// A pool of so many workers, none of which runs yet; what each worker begins with by index; and the unit of the
     /// terminate count that the pool's value holds. A `depth_limit` of 0 counts as 1; `steal_seed` is added to each
-    /// worker's index for the seed of its choice of victims. Refused `NoRoom`.
+    /// worker's index for the seed of its choice of victims; `breadth_first` has each worker take the oldest task of its own
+    /// deque first. Refused `NoRoom`.
     pub fn new<R: Wait>(
         rt: &R,
         alloc: Global,
@@ -53,9 +54,10 @@ impl<J: JobKind> Registry<J> {
         num_threads: usize,
         depth_limit: usize,
         steal_seed: u64,
+        breadth_first: bool,
     ) -> Result<(Registry<J>, Vec<WorkerKit<Task<J>>>, PoolHold), Refusal>
         requires { (0 < num_threads) × (num_threads < 65536) }
-        ensures made { IfOk result (λ r. r.0 ≡ record { id = id; workers = num_threads; depth_limit = max 1 depth_limit }) }
+        ensures made { IfOk result (λ r. r.0 ≡ record { id = id; workers = num_threads; depth_limit = max 1 depth_limit; breadth_first = breadth_first }) }
         ensures deques { IfOk result (λ r. length r.1.items ≡ num_threads) }
         ensures refused { IfErr result (λ r. r ≡ Refusal.NoRoom) }
     {
@@ -65,6 +67,7 @@ impl<J: JobKind> Registry<J> {
             num_threads,
             depth_limit,
             steal_seed,
+            breadth_first,
         )?;
         match Arc::new(alloc, shared) {
             Ok(shared) => Ok((Registry::of(id, shared, faults), deques, hold)),
@@ -81,7 +84,7 @@ impl<J: JobKind> Registry<J> {
         shared: Arc<rayon_performers::Registry<Task<J>>, Global>,
         faults: SharedFaults<J::Fault>,
     ) -> Registry<J>
-        ensures { result ≡ record { id = id; workers = (arc_value shared).workers; depth_limit = (arc_value shared).depth_limit } }
+        ensures { result ≡ record { id = id; workers = (arc_value shared).workers; depth_limit = (arc_value shared).depth_limit; breadth_first = (arc_value shared).breadth_first } }
     {
         Registry {
             pool: PoolShare { id, shared },
@@ -103,6 +106,7 @@ impl<J: JobKind> Registry<J> {
     pub fn shared(&self) -> Result<Arc<rayon_performers::Registry<Task<J>>, Global>, Refusal>
         ensures workers { IfOk result (λ s. (arc_value s).workers ≡ self.now.workers) }
         ensures depth { IfOk result (λ s. (arc_value s).depth_limit ≡ self.now.depth_limit) }
+        ensures order { IfOk result (λ s. (arc_value s).breadth_first ≡ self.now.breadth_first) }
         ensures refused { IfErr result (λ r. r ≡ Refusal.NoRoom) }
     {
         Arc::try_clone(&self.pool.shared).map_err(|_| Refusal::NoRoom)
@@ -259,7 +263,7 @@ impl<J: JobKind> ThreadBuilder<J> {
         faults: SharedFaults<J::Fault>,
         deque: WorkerKit<Task<J>>,
     ) -> Option<ThreadBuilder<J>>
-        ensures seat { IfSome result (λ t. t ≡ record { pool = record { id = id; workers = (arc_value shared).workers; depth_limit = (arc_value shared).depth_limit }; index = index }) }
+        ensures seat { IfSome result (λ t. t ≡ record { pool = record { id = id; workers = (arc_value shared).workers; depth_limit = (arc_value shared).depth_limit; breadth_first = (arc_value shared).breadth_first }; index = index }) }
         ensures none { IfNone result ((arc_value shared).workers ≤ index) }
     {
         if index >= shared.num_threads() {

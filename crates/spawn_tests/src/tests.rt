@@ -80,6 +80,20 @@ fn one_worker_runs_its_newest_job_first(rt: HostRuntime) -> Result<(), Fail> {
     Ok(())
 }
 
+// In a pool that goes breadth first, one worker runs the jobs that it spawned oldest first.
+#[test]
+fn a_breadth_first_worker_runs_its_oldest_job_first(rt: HostRuntime) -> Result<(), Fail> {
+    let alloc = rt.alloc();
+    let ledger = Ledger::new(alloc).expect(&rt, "room");
+    let builder = ThreadPoolBuilder::new().num_threads(1).breadth_first();
+    let pool = builder.build(&rt, alloc, &Ids::new()).expect(&rt, "a pool");
+    install(&rt, alloc, &pool, &ledger, 0, Deed::Grid(3));
+    install(&rt, alloc, &pool, &ledger, 9, Deed::Note);
+    assert!(rt; ledger.has_noted(&rt, &[0, 0, 1, 2, 0, 1, 2, 10, 11, 12, 20, 21, 22, 9]));
+    pool.end_and_join(&rt);
+    Ok(())
+}
+
 // A job from outside is told that it migrated, and one that its own worker spawned and runs that it did not.
 #[test]
 fn detached_jobs_are_told_whether_they_migrated(rt: HostRuntime) -> Result<(), Fail> {

@@ -1,4 +1,4 @@
-use Rattle.std.proofs.Common.{◌≡◌, ◌∙◌, ℕ, ◌+◌, ◌++◌, [], ◌∷◌, List, length, map, All, false, Option, Some, option_to_list, Result, Ok, Err, arith, if◌then◌else◌, sym, subst, ap, true≢false}
+use Rattle.std.proofs.Common.{◌≡◌, ◌∙◌, ℕ, ◌+◌, ◌++◌, [], ◌∷◌, List, length, map, All, Bool, false, Option, Some, option_to_list, Result, Ok, Err, arith, if◌then◌else◌, sym, subst, ap, true≢false}
 use Rattle.std.specs.Result.{is_ok, is_err}
 use Rattle.std.proofs.lemmas.List.{map-append, length-append}
 use Rattle.std.proofs.lemmas.List.Elements.{All-append, All-nil, All-cons, All-pop}
@@ -24,8 +24,8 @@ module _ {T : Type 0} where
   tied : (xs zs : List (Deque T)) (x : Deque T) (ids news : List DequeId) → zs ≡ xs ++ x ∷ [] → news ≡ ids ++ x.id ∷ [] → map (λ (d : Deque T). d.id) xs ≡ ids → map (λ (d : Deque T). d.id) zs ≡ news
   tied xs zs x ids news e n m = ap (λ (l : List (Deque T)). map (λ (d : Deque T). d.id) l) e ∙ map-append (λ (d : Deque T). d.id) xs (x ∷ []) ∙ ap (λ (l : List DequeId). l ++ x.id ∷ []) m ∙ sym n
 
-  all_new : (xs zs : List (Deque T)) (x : Deque T) → zs ≡ xs ++ x ∷ [] → All (IsNew false 32) xs → IsNew false 32 x → All (IsNew false 32) zs
-  all_new xs zs x e a b = subst (λ (l : List (Deque T)). All (IsNew false 32) l) (sym e) (All-append (IsNew false 32) xs (x ∷ []) a (All-cons (IsNew false 32) x [] b (All-nil (IsNew false 32))))
+  all_new : (o : Bool) (xs zs : List (Deque T)) (x : Deque T) → zs ≡ xs ++ x ∷ [] → All (IsNew o 32) xs → IsNew o 32 x → All (IsNew o 32) zs
+  all_new o xs zs x e a b = subst (λ (l : List (Deque T)). All (IsNew o 32) l) (sym e) (All-append (IsNew o 32) xs (x ∷ []) a (All-cons (IsNew o 32) x [] b (All-nil (IsNew o 32))))
 
 pub loop-preserved : goal.loop-preserved
 loop-preserved g c =
@@ -39,4 +39,4 @@ loop-preserved g c =
     let ls = c.loop.terminate.items in
     let ms = c.push-in-loop.new.self.items in
     let f = pushed c.push-in-loop.result ls _ ms (sym c.is_err-in-loop.ensures.value ∙ c.if-is_err-2.false) c.push-in-loop.ensures.items in
-    (more ids news x.id c.loop.counter n c.loop.invariant.0, tied xs zs x ids news e n c.loop.invariant.1, all_new xs zs x e c.loop.invariant.2 c.in-Ok.ensures.empty, more xs zs x c.loop.counter e c.loop.invariant.3, fewer c.loop.chairs.items c.pop.new.self.items c.pop.result c.in-Some.chair c.loop.counter c.args.num_threads c.in-Some.is c.pop.ensures.items c.loop.invariant.4, (All-pop (λ w. w ≡ fresh c.args.num_threads 1) c.loop.chairs.items c.pop.new.self.items c.pop.result c.pop.ensures.items c.loop.invariant.5).0, more ls ms _ c.loop.counter f c.loop.invariant.6)
+    (more ids news x.id c.loop.counter n c.loop.invariant.0, tied xs zs x ids news e n c.loop.invariant.1, all_new c.args.breadth_first xs zs x e c.loop.invariant.2 c.in-Ok.ensures.empty, more xs zs x c.loop.counter e c.loop.invariant.3, fewer c.loop.chairs.items c.pop.new.self.items c.pop.result c.in-Some.chair c.loop.counter c.args.num_threads c.in-Some.is c.pop.ensures.items c.loop.invariant.4, (All-pop (λ w. w ≡ fresh c.args.num_threads 1) c.loop.chairs.items c.pop.new.self.items c.pop.result c.pop.ensures.items c.loop.invariant.5).0, more ls ms _ c.loop.counter f c.loop.invariant.6)

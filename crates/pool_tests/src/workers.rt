@@ -51,7 +51,9 @@ fn fibonacci_numbers(rt: HostRuntime) -> Result<(), Fail> {
 fn fibonacci_numbers_breadth_first(rt: HostRuntime) -> Result<(), Fail> {
     let alloc = rt.alloc();
     for workers in [1, 2, 4] {
-        let builder = ThreadPoolBuilder::new().num_threads(workers).breadth_first();
+        let builder = ThreadPoolBuilder::new()
+            .num_threads(workers)
+            .breadth_first();
         let pool = builder.build(&rt, alloc, &Ids::new()).expect(&rt, "a pool");
         for (n, number, leaves) in [(1, 1, 1), (2, 1, 2), (8, 21, 34)] {
             expect_fib(&rt, alloc, &pool, n, number, 2 * leaves - 1);

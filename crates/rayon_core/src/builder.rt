@@ -5,11 +5,11 @@ use crate::thread_pool::{ThreadPool, end_workers};
 use rayon_jobs::JobKind;
 use rayon_performers::{WorkerKit, WorkerSeats};
 use rayon_queues::WorkerDeque;
-use rayon_registry::{Ids, Job, Registry, ThreadBuilder};
+use rayon_registry::{Ids, Job, Registry, SharedFaults, ThreadBuilder, WorkerId};
 use rayon_tasks::Task;
 use std::alloc::{AllocFailed, Global};
 use std::marker::{Model, PhantomData};
-use std::sync::Wait;
+use std::sync::{Arc, Wait};
 use std::thread::{JoinHandle, Threads};
 use std::{io, thread};
 use thiserror::Error;
@@ -171,8 +171,9 @@ impl<J: JobKind> ThreadPoolBuilder<J> {
     }
 }
 
-// Starts a thread that begins with these four values. They stand in types of their own, as the deque does in
-// `start_sharing`: the checker finds of each that it may be sent, and not of a type that holds two.
+// Starts a thread that begins with these four values. They stand in types of their own: the checker finds of each that it
+// may be sent, and not of a type that holds two. Each of the functions below puts one of these types in its place, since it
+// finds that where little else stands beside the value.
 fn start_with<
     S: Drop + Send + 'static,
     N: Drop + Send + 'static,
@@ -222,17 +223,32 @@ impl OwnSeats for WorkerSeats {
     }
 }
 
-// Starts a thread that begins with what the pool's threads share, and with this deque and these seats.
+// A share of the faults of a pool's detached jobs.
+trait OwnFaults<F>: Drop {
+    // It itself.
+    fn into_faults(self) -> SharedFaults<F>;
+}
+
+impl<F: Drop> OwnFaults<F> for SharedFaults<F> {
+    fn into_faults(self) -> SharedFaults<F> {
+        self
+    }
+}
+
+// Starts the thread of this worker, which begins with what the pool's threads share, and with these faults, this deque and
+// these seats.
 fn start_sharing<
     J,
+    N: OwnFaults<J::Fault> + Send + 'static,
     D: OwnDeque<J> + Send + 'static,
     K: OwnSeats + Send + 'static,
     R: Threads + Wait + Copy + Send + 'static,
 >(
     rt: &R,
     alloc: Global,
-    registry: &Registry<J>,
-    index: usize,
+    worker: WorkerId,
+    shared: Arc<rayon_performers::Registry<Task<J>>, Global>,
+    faults: N,
     deque: D,
     seats: K,
 ) -> Result<JoinHandle<()>, ThreadPoolBuildError>
@@ -242,10 +258,6 @@ where
     J::Output: Send + Sync + 'static,
     J::Fault: Send + Sync + 'static,
 {
-    let id = registry.id();
-    let (Ok(shared), Ok(faults)) = (registry.shared(), registry.faults()) else {
-        return Err(ThreadPoolBuildError::NoRoom);
-    };
     start_with(
         rt,
         shared,
@@ -254,19 +266,27 @@ where
         seats,
         move |rt, shared, faults, deque, seats| {
             let kit = WorkerKit::new(deque.into_deque(), seats.into_seats());
-            if let Some(thread) = ThreadBuilder::new(id, index, shared, faults, kit) {
+            let WorkerId { pool, index } = worker;
+            let faults = faults.into_faults();
+            if let Some(thread) = ThreadBuilder::new(pool, index, shared, faults, kit) {
                 thread.run(rt, alloc);
             }
         },
     )
 }
 
-// Starts the thread of the worker with this index, whose own deque this is.
-fn start_with_deque<J, K: OwnSeats + Send + 'static, R: Threads + Wait + Copy + Send + 'static>(
+// Starts the thread of this worker, whose own deque this is.
+fn start_with_deque<
+    J,
+    N: OwnFaults<J::Fault> + Send + 'static,
+    K: OwnSeats + Send + 'static,
+    R: Threads + Wait + Copy + Send + 'static,
+>(
     rt: &R,
     alloc: Global,
-    registry: &Registry<J>,
-    index: usize,
+    worker: WorkerId,
+    shared: Arc<rayon_performers::Registry<Task<J>>, Global>,
+    faults: N,
     deque: WorkerDeque<Task<J>>,
     seats: K,
 ) -> Result<JoinHandle<()>, ThreadPoolBuildError>
@@ -276,7 +296,7 @@ where
     J::Output: Send + Sync + 'static,
     J::Fault: Send + Sync + 'static,
 {
-    start_sharing(rt, alloc, registry, index, deque, seats)
+    start_sharing(rt, alloc, worker, shared, faults, deque, seats)
 }
 
 // Starts the thread of the worker with this index, which begins with this.
@@ -293,8 +313,15 @@ where
     J::Output: Send + Sync + 'static,
     J::Fault: Send + Sync + 'static,
 {
+    let (Ok(shared), Ok(faults)) = (registry.shared(), registry.faults()) else {
+        return Err(ThreadPoolBuildError::NoRoom);
+    };
+    let worker = WorkerId {
+        pool: registry.id(),
+        index,
+    };
     let (deque, seats) = kit.into_parts();
-    start_with_deque(rt, alloc, registry, index, deque, seats)
+    start_with_deque(rt, alloc, worker, shared, faults, deque, seats)
 }
 
 // Why not all workers were started, and a worker that was, but whose handle found no room beside the others'. It leaves

@@ -3,8 +3,7 @@ use Rattle.join_bench.proofs.spawns.spawn_all.Given as goal
 
 abbrev pub invariant-loop : goal.invariant-loop
 invariant-loop g l =
-    (goal.iterator-loop g).can_next l.iterator' × (goal.iterator-loop g).is_finite l.iterator'
-    × (l.w.levels ≡ l.initial.w.levels)
+    (l.w.levels ≡ l.initial.w.levels)
     × (l.w.id ≡ l.initial.w.id)
     × (l.w.units ≡ l.initial.w.units)
     × (l.w.seat ≡ l.initial.w.seat)

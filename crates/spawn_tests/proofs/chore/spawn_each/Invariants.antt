@@ -1,10 +1,9 @@
 use Rattle.std.proofs.Common.{◌≡◌}
 use Rattle.spawn_tests.proofs.chore.spawn_each.Given as goal
 
-abbrev pub invariant-loop : goal.invariant-loop
-invariant-loop g l =
-    (goal.iterator-loop g).can_next l.iterator' × (goal.iterator-loop g).is_finite l.iterator'
-    × (l.w.levels ≡ l.initial.w.levels)
+abbrev pub invariant-loop-i : goal.invariant-loop-i
+invariant-loop-i g l =
+    (l.w.levels ≡ l.initial.w.levels)
     × (l.w.id ≡ l.initial.w.id)
     × (l.w.units ≡ l.initial.w.units)
     × (l.w.seat ≡ l.initial.w.seat)

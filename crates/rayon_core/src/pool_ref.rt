@@ -11,7 +11,7 @@ use std::marker::Model;
 use std::sync::Wait;
 
 /// A pool as other threads use it: it can be sent to them and shared among them. It keeps no pool from ending.
-/// Contracts see the pool's number, how many workers it has, and the levels of a worker value that no run was lent yet.
+/// Contracts see what they see of the pool's value.
 #[derive(Drop)]
 pub struct PoolRef<J: JobKind> {
     registry: Registry<J>,

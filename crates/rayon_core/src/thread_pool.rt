@@ -14,7 +14,7 @@ use std::sync::Wait;
 use std::thread::{JoinHandle, Threads};
 
 /// A pool, held by its value. It has no `Drop`: it must be spent by `end` or `end_and_join`. Contracts see its number,
-/// how many workers it has, and the levels of a worker value that no run was lent yet.
+/// how many workers it has, the levels of a worker value that no run was lent yet, and whether it goes breadth first.
 pub struct ThreadPool<J: JobKind> {
     registry: Registry<J>,
     hold: PoolHold,
@@ -135,8 +135,8 @@ impl<J: JobKind> ThreadPool<J> {
 
     /// Ends the pool, and waits for no job and no thread: gives up the unit of the terminate count that the pool's
     /// value holds, and the handles of the workers' threads. Calls through a `PoolRef` are still answered while other
-    /// calls hold the pool; once none does, each further call is refused `Ended`, and the threads leave. A thread that
-    /// still runs a job when `main` returns is ended with the process.
+    /// calls or detached jobs hold the pool; once none does, each further call is refused `Ended`, and the threads
+    /// leave. A thread that still runs a job when `main` returns is ended with the process.
     pub fn end<R: Wait>(self, rt: &R) {
         let ThreadPool {
             registry,
@@ -147,8 +147,9 @@ impl<J: JobKind> ThreadPool<J> {
         drop(workers);
     }
 
-    /// Ends the pool as `end` does, and joins the workers' threads, which leave once no call holds the pool. So this
-    /// waits for the waiting calls that other threads have made, and no thread of the pool is left.
+    /// Ends the pool as `end` does, and joins the workers' threads, which leave once nothing holds the pool. So this
+    /// waits for detached jobs and for the waiting calls that other threads have made, and no thread of the pool is
+    /// left.
     pub fn end_and_join<R: Threads + Wait>(self, rt: &R) {
         let ThreadPool {
             registry,

@@ -2,8 +2,8 @@ use Rattle.std.specs.Prelude.{◌≡◌, ℕ, ◌≤◌, List, [], ◌∷◌, �
 use Rattle.std.specs.Str.Parse.{IsNumeral, digits_value, without_leading_plus}
 use Rattle.std.specs.Fmt.{decimal}
 use Rattle.fibonacci.specs.Fib.{fib}
-use Rattle.rcore.specs.declared.command.Command.{Command}
-use Rattle.rcore.specs.declared.command.Command.TheVariants.{Fib, Replay}
+use Rattle.rcore_commands.specs.declared.command.Command.{Command}
+use Rattle.rcore_commands.specs.declared.command.Command.TheVariants.{Fib, Replay}
 
 -- the bytes of the word fib
 abbrev pub fib_word : List ℕ

@@ -1,5 +1,5 @@
 //! What the words of a command line ask for.
-ghost use Rattle.rcore.specs.Words.{AsksFor, AskForNothing, InRange};
+ghost use Rattle.rcore_commands.specs.Words.{AsksFor, AskForNothing, InRange};
 ghost use Rattle.std.specs.Prelude.{◌≡◌, ◌↔◌, ℕ, IsTrue, IfSome, IfNone, map, string_bytes};
 ghost use Rattle.std.specs.Vec.Iter.{into_iter_items};
 

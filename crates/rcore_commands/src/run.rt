@@ -1,7 +1,7 @@
 //! The program over any words, reader and writers.
 ghost use Rattle.fibonacci.specs.Fib.{fib};
-ghost use Rattle.rcore.specs.Words.{AsksFor, AskForNothing, IsPrinted};
-ghost use Rattle.rcore.specs.declared.command.Command.{Command};
+ghost use Rattle.rcore_commands.specs.Words.{AsksFor, AskForNothing, IsPrinted};
+ghost use Rattle.rcore_commands.specs.declared.command.Command.{Command};
 ghost use Rattle.std.specs.Fmt.{decimal};
 ghost use Rattle.std.specs.Io.KnownBytes.{Appends, Keeps};
 ghost use Rattle.std.specs.IoError.{error_kind};

@@ -1,24 +1,16 @@
-//! Uses of `rayon_core`, as a caller writes them: one file for each feature, and here how a pool is made for it, lent
-//! and ended.
-#![tactic(auto)]
-
+//! How a pool is made for each feature, lent and ended.
 ghost use Rattle.std.specs.Prelude.{◌≡◌, IfOk, false};
 
-mod closure;
-mod migrated;
-mod sort;
-mod sum;
-mod threads;
-mod tree;
-
-use migrated::Tell;
+use crate::migrated::Tell;
+use crate::sort::Sort;
+use crate::sum::Sum;
+use crate::threads::triples_of;
+use crate::tree::{Evaluate, Expression, Operator};
 use rayon_core::{CallError, EndAfter, Ids, ThreadPoolBuilder};
-use sort::Sort;
 use std::alloc::Global;
+use std::rt::Runtime;
 use std::sync::Wait;
 use std::thread::Threads;
-use sum::Sum;
-use tree::{Evaluate, Expression, Operator};
 
 // The sum of all numbers, and of each half.
 fn sums<R: Threads + Wait + Copy + Send + 'static>(
@@ -78,7 +70,7 @@ fn triples<R: Threads + Wait + Copy + Send + 'static>(
     let pool = ThreadPoolBuilder::new().build(rt, alloc, ids)?;
     pool.end_after(rt, |pool| {
         let shared = pool.pool_ref()?;
-        Ok(threads::triples_of(rt, alloc, &shared, 5, 7))
+        Ok(triples_of(rt, alloc, &shared, 5, 7))
     })
 }
 
@@ -99,18 +91,21 @@ fn first_sides<R: Threads + Wait + Copy + Send + 'static>(
     Ok((job, closure))
 }
 
-fn main(rt: HostRuntime) -> anyhow::Result<()> {
-    let alloc = rt.alloc();
+/// Makes each of these pools in turn, and prints what came of it.
+pub fn print_all<R: Runtime + Threads + Wait + Copy + Send + 'static>(
+    rt: &R,
+    alloc: Global,
+) -> anyhow::Result<()> {
     let ids = Ids::new();
-    let (whole, left, right) = sums(&rt, alloc, &ids)?;
+    let (whole, left, right) = sums(rt, alloc, &ids)?;
     println!(rt; "sum: {whole} = {left} + {right}")?;
-    let sorted = ascending(&rt, alloc, &ids, vec![in alloc; 3, 1, 4, 1, 5]?)?;
+    let sorted = ascending(rt, alloc, &ids, vec![in alloc; 3, 1, 4, 1, 5]?)?;
     println!(rt; "sorted: {sorted:?}")?;
-    let value = product_of_sums(&rt, alloc, &ids)?;
+    let value = product_of_sums(rt, alloc, &ids)?;
     println!(rt; "value: {value}")?;
-    let triples = triples(&rt, alloc, &ids)?;
+    let triples = triples(rt, alloc, &ids)?;
     println!(rt; "triples: {triples:?}")?;
-    let (job, closure) = first_sides(&rt, alloc, &ids)?;
+    let (job, closure) = first_sides(rt, alloc, &ids)?;
     println!(rt; "migrated: {job} {closure}")?;
     Ok(())
 }

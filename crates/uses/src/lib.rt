@@ -1,0 +1,10 @@
+//! Uses of `rayon_core`, as a caller writes them: one file for each feature, and one for the pools.
+#![tactic(auto)]
+
+pub mod closure;
+pub mod migrated;
+pub mod pools;
+pub mod sort;
+pub mod sum;
+pub mod threads;
+pub mod tree;

@@ -1,49 +1,8 @@
-//! Makes one call of a pool and, where an allocation of it was refused, the same call again, and prints what each gave.
-//! Standard input names the call, and how many allocations the program makes and gives back before anything else.
+//! Makes the call of a pool that standard input names, of which an allocation may be refused, and prints what it gave.
 #![tactic(auto)]
 
-mod call;
-mod on_worker;
-mod outcome;
-mod work;
-
-use call::Call;
-use outcome::Report;
-use std::alloc::Global;
 use std::io;
-use std::io::Read;
-
-/// The most bytes that standard input may have.
-const INPUT_BYTES: usize = 64;
-
-// Makes and gives back so many allocations. False where one was refused.
-fn allocate(alloc: Global, count: u32) -> bool {
-    for _ in 0..count {
-        if Box::new(alloc, count).is_err() {
-            return false;
-        }
-    }
-    true
-}
 
 fn main(rt: HostRuntime) -> io::Result<()> {
-    let alloc = rt.alloc();
-    let mut input = [0u8; INPUT_BYTES];
-    let length = rt.reader().read(&mut input)?;
-    let Some((call, before)) = Call::parse(&input[..length]) else {
-        return println!(rt; "bad input");
-    };
-    if !allocate(alloc, before) {
-        return println!(rt; "refused before the call");
-    }
-    match call::make(&rt, alloc, call) {
-        Ok(Report { first, again: None }) => println!(rt; "{first}"),
-        Ok(
-            Report {
-                first,
-                again: Some(again),
-            },
-        ) => println!(rt; "{first}; then {again}"),
-        Err(refusal) => println!(rt; "{refusal} before the call"),
-    }
+    refused_calls::answer_input(&rt, rt.alloc())
 }

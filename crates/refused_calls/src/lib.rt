@@ -1,0 +1,10 @@
+//! Calls of a pool of which an allocation may be refused, and what they give then.
+#![tactic(auto)]
+
+mod call;
+mod input;
+mod on_worker;
+mod outcome;
+mod work;
+
+pub use input::answer_input;

@@ -1,14 +1,9 @@
 //! Times the calls of pools, for `bench/run`. With no arguments it prints values alone.
 #![tactic(auto)]
 
-mod command;
-mod leaves;
-mod measure;
-mod spawns;
-
-use crate::command::Command;
-use crate::measure::run;
 use anyhow::{Result, bail};
+use bench_commands::command::Command;
+use bench_commands::measure::run;
 use std::env;
 
 fn main(rt: HostRuntime) -> Result<()> {

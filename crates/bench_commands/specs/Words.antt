@@ -1,9 +1,9 @@
 use Rattle.std.specs.Prelude.{◌≡◌, ℕ, ◌≤◌, List, [], ◌∷◌}
 use Rattle.std.specs.Str.Parse.{IsNumeral, digits_value, without_leading_plus}
-use Rattle.join_bench.specs.declared.command.Command.{Command}
-use Rattle.join_bench.specs.declared.command.Command.TheVariants.{Values, Time}
-use Rattle.join_bench.specs.declared.command.Timed.{Timed}
-use Rattle.join_bench.specs.declared.command.Timed.TheVariants.{Join, Leaves, Sequential, Install, PoolJoin, Spawn, Idle}
+use Rattle.bench_commands.specs.declared.command.Command.{Command}
+use Rattle.bench_commands.specs.declared.command.Command.TheVariants.{Values, Time}
+use Rattle.bench_commands.specs.declared.command.Timed.{Timed}
+use Rattle.bench_commands.specs.declared.command.Timed.TheVariants.{Join, Leaves, Sequential, Install, PoolJoin, Spawn, Idle}
 
 -- the bytes of the word that asks for this: join, leaves, sequential, install, pool_join, spawn, idle
 abbrev pub word_of : Timed → List ℕ

@@ -1,6 +1,6 @@
 //! What the words of the command line ask for.
-ghost use Rattle.join_bench.specs.Words.{AsksFor, AskForNothing, InRange, word_of};
-ghost use Rattle.join_bench.specs.declared.command.Timed.{Timed};
+ghost use Rattle.bench_commands.specs.Words.{AsksFor, AskForNothing, InRange, word_of};
+ghost use Rattle.bench_commands.specs.declared.command.Timed.{Timed};
 ghost use Rattle.std.specs.Prelude.{◌≡◌, ◌↔◌, ℕ, IsTrue, IfSome, IfNone, map, string_bytes};
 ghost use Rattle.std.specs.Vec.Iter.{into_iter_items};
 

@@ -1,5 +1,5 @@
 use Rattle.std.proofs.Common.{◌≡◌}
-use Rattle.join_bench.proofs.spawns.spawn_all.Given as goal
+use Rattle.bench_commands.proofs.spawns.spawn_all.Given as goal
 
 abbrev pub invariant-loop : goal.invariant-loop
 invariant-loop g l =

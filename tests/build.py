@@ -300,7 +300,7 @@ def main(words):
         return 0
     used = resource.getrusage(resource.RUSAGE_CHILDREN)
     wall, processor = time.monotonic() - began, used.ru_utime + used.ru_stime
-    said = f"{missing} crates in {wall:.0f} seconds, {processor:.0f} of a processor"
+    said = f"{missing} built in {wall:.0f} seconds, {processor:.0f} of a processor"
     print(said, file=sys.stderr)
     return 0
 

@@ -3,9 +3,11 @@ ghost use Rattle.std.specs.Prelude.{◌≡◌, ℕ, ◌+◌, ◌-◌, ◌^◌, m
 
 use crate::thread_pool::{ThreadPool, end_workers};
 use rayon_jobs::JobKind;
-use rayon_performers::{WorkerKit, WorkerSeats};
+use rayon_performers::{Registry, WorkerKit, WorkerSeats};
 use rayon_queues::WorkerDeque;
-use rayon_registry::{Ids, Job, Registry, SharedFaults, ThreadBuilder, WorkerId};
+use rayon_registry::{
+    Ids, Job, PoolRef, SharedFaults, ThreadBuilder, WorkerId, faults_of, new_pool, shared_of,
+};
 use rayon_tasks::Task;
 use std::alloc::{AllocFailed, Global};
 use std::marker::{Model, PhantomData};
@@ -42,7 +44,7 @@ pub struct ThreadPoolBuilder<J: JobKind> {
 }
 
 impl<J: JobKind> Model for ThreadPoolBuilder<J> {
-    ghost use Rattle.rayon_core.specs.Pool.{Settings};
+    ghost use Rattle.rayon_core.specs.Settings.{Settings};
 
     ghost Value = { Settings };
 
@@ -145,7 +147,7 @@ impl<J: JobKind> ThreadPoolBuilder<J> {
             return Err(ThreadPoolBuildError::NoIds);
         };
         let num_threads = self.num_threads.clamp(1, MAX_WORKERS);
-        let made = Registry::new(
+        let made = new_pool(
             rt,
             alloc,
             id,
@@ -154,14 +156,14 @@ impl<J: JobKind> ThreadPoolBuilder<J> {
             self.steal_seed,
             self.breadth_first,
         );
-        let Ok((registry, deques, hold)) = made else {
+        let Ok((pool, deques, hold)) = made else {
             return Err(ThreadPoolBuildError::NoRoom);
         };
         let mut workers = Vec::new(alloc);
-        match start_workers(rt, alloc, &registry, deques, &mut workers) {
-            Ok(()) => Ok(ThreadPool::new(registry, hold, workers)),
+        match start_workers(rt, alloc, &pool, deques, &mut workers) {
+            Ok(()) => Ok(ThreadPool::new(pool, hold, workers)),
             Err(Unstarted { error, worker }) => {
-                end_workers(rt, &registry, hold, workers);
+                end_workers(rt, &pool, hold, workers);
                 if let Some(worker) = worker {
                     worker.join(rt);
                 }
@@ -247,7 +249,7 @@ fn start_sharing<
     rt: &R,
     alloc: Global,
     worker: WorkerId,
-    shared: Arc<rayon_performers::Registry<Task<J>>, Global>,
+    shared: Arc<Registry<Task<J>>, Global>,
     faults: N,
     deque: D,
     seats: K,
@@ -285,7 +287,7 @@ fn start_with_deque<
     rt: &R,
     alloc: Global,
     worker: WorkerId,
-    shared: Arc<rayon_performers::Registry<Task<J>>, Global>,
+    shared: Arc<Registry<Task<J>>, Global>,
     faults: N,
     deque: WorkerDeque<Task<J>>,
     seats: K,
@@ -303,7 +305,7 @@ where
 fn start_worker<J, R: Threads + Wait + Copy + Send + 'static>(
     rt: &R,
     alloc: Global,
-    registry: &Registry<J>,
+    pool: &PoolRef<J>,
     index: usize,
     kit: WorkerKit<Task<J>>,
 ) -> Result<JoinHandle<()>, ThreadPoolBuildError>
@@ -313,11 +315,11 @@ where
     J::Output: Send + Sync + 'static,
     J::Fault: Send + Sync + 'static,
 {
-    let (Ok(shared), Ok(faults)) = (registry.shared(), registry.faults()) else {
+    let (Ok(shared), Ok(faults)) = (shared_of(pool), faults_of(pool)) else {
         return Err(ThreadPoolBuildError::NoRoom);
     };
     let worker = WorkerId {
-        pool: registry.id(),
+        pool: pool.id(),
         index,
     };
     let (deque, seats) = kit.into_parts();
@@ -345,7 +347,7 @@ impl Unstarted {
 fn start_workers<J, R: Threads + Wait + Copy + Send + 'static>(
     rt: &R,
     alloc: Global,
-    registry: &Registry<J>,
+    pool: &PoolRef<J>,
     deques: Vec<WorkerKit<Task<J>>>,
     workers: &mut Vec<JoinHandle<()>>,
 ) -> Result<(), Unstarted>
@@ -357,7 +359,7 @@ where
     ensures started { IfOk result (λ _. length workers.new.items ≡ length workers.old.items + length deques.items) }
 {
     for (index, deque) in deques.into_iter().enumerate() {
-        match start_worker(rt, alloc, registry, index, deque) {
+        match start_worker(rt, alloc, pool, index, deque) {
             Ok(worker) => {
                 if let Err(AllocFailed { value: worker }) = workers.push(worker) {
                     return Err(Unstarted {

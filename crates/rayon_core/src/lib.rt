@@ -5,16 +5,15 @@
 mod builder;
 mod end_after;
 pub mod latch;
-mod pool_ref;
 mod thread_pool;
 
 // What jobs and calls are written with.
 pub use builder::{ThreadPoolBuildError, ThreadPoolBuilder};
 pub use end_after::EndAfter;
-pub use pool_ref::PoolRef;
 pub use rayon_jobs::{Done, JobKind};
 pub use rayon_registry::{
-    BroadcastContext, FnContext, ForkJoin, Ids, Job, PoolId, Scope, Waits, WorkerId, WorkerThread,
+    BroadcastContext, FnContext, ForkJoin, Ids, Job, PoolId, PoolRef, Scope, Waits, WorkerId,
+    WorkerThread,
 };
 pub use rayon_sleep::latch::{Owner, SpinLatch};
 pub use rayon_words::{CallError, Refusal};

@@ -31,7 +31,7 @@ use crate::faults::SharedFaults;
 use crate::ids::WorkerId;
 use crate::job::Waits;
 use crate::join::PairRun;
-use crate::registry::{PoolShare, Registry};
+use crate::pool_ref::{PoolRef, PoolShare};
 use rayon_drive::trace::Trace;
 use rayon_jobs::{Done, JobKind};
 use rayon_machine_places::place::{Ending, Move, Place, Target, Then};
@@ -81,21 +81,19 @@ pub(crate) struct Lent {
 impl<J: JobKind> WorkerThread<J> {
     /// The worker with this index of the pool, which begins with this. There is one value for each.
     #[tactic(auto, unfolding(crate::specs::Pushes::units_of, crate::specs::Pushes::shape_at, crate::specs::Pushes::seat_of, crate::specs::Pushes::acts_of))]
-    pub(crate) fn new(
-        registry: Registry<J>,
-        index: usize,
-        deque: WorkerKit<Task<J>>,
-    ) -> WorkerThread<J>
-        requires { index < registry.workers }
-        ensures pool { result.id.pool ≡ registry.id }
+    pub(crate) fn new(pool: PoolRef<J>, index: usize, deque: WorkerKit<Task<J>>) -> WorkerThread<J>
+        requires { index < pool.workers }
+        ensures pool { result.id.pool ≡ pool.id }
         ensures index { result.id.index ≡ index }
-        ensures levels { result.levels ≡ registry.depth_limit }
+        ensures levels { result.levels ≡ pool.depth_limit }
         ensures units { result.units ≡ 0 }
         ensures seat { result.seat ≡ index }
         ensures acts { result.acts ≡ Empty }
     {
-        let Registry { pool, faults } = registry;
-        let PoolShare { id, shared } = pool;
+        let PoolRef {
+            pool: PoolShare { id, shared },
+            faults,
+        } = pool;
         let levels = shared.depth_limit();
         let parties = shared.num_threads().saturating_add(1);
         WorkerThread {

@@ -1,0 +1,190 @@
+//! What stands for a pool on any thread, and the calls that are made on it from outside.
+ghost use Rattle.rayon_registry.specs.Answers.{joined_pair, InstallAnswers, JoinAnswers};
+ghost use Rattle.std.specs.Arc.{arc_value};
+ghost use Rattle.std.specs.Prelude.{◌≡◌, ◌⊎◌, ◌<◌, ℕ, Result, Ok, Err, IfOk, IfErr};
+
+use crate::answers::{install_answer, join_answer};
+use crate::faults::SharedFaults;
+use crate::ids::PoolId;
+use crate::pool_parts::{faults_of, shared_of};
+use rayon_jobs::{JobKind, Lost, claimed};
+use rayon_performers::Guest;
+use rayon_tasks::Task;
+use rayon_words::{CallError, Refusal};
+use std::alloc::Global;
+use std::marker::Model;
+use std::sync::{Arc, Wait};
+
+// A pool's number, and a share of what its threads have in common, where its queues hold such tasks. It stands apart from
+// the job type, so that the checker finds once that it may be sent where its tasks may be.
+#[derive(Drop)]
+pub(crate) struct PoolShare<T> {
+    pub(crate) id: PoolId,
+    pub(crate) shared: Arc<rayon_performers::Registry<T>, Global>,
+}
+
+/// A pool as any thread uses it: it can be sent to other threads and shared among them. It keeps no pool from ending.
+/// Contracts see the pool's number, how many workers it has, the levels of a worker value that no run was lent yet, and
+/// whether each worker takes its oldest task first.
+#[derive(Drop)]
+pub struct PoolRef<J: JobKind> {
+    pub(crate) pool: PoolShare<Task<J>>,
+    pub(crate) faults: SharedFaults<J::Fault>,
+}
+
+impl<J: JobKind> Model for PoolRef<J> {
+    ghost use Rattle.rayon_registry.specs.Worker.{Pool};
+    ghost use Rattle.std.specs.Arc.{arc_value};
+
+    ghost Value = { Pool };
+
+    ghost view = { λ r. record { id = r.pool.id; workers = (arc_value r.pool.shared).workers; depth_limit = (arc_value r.pool.shared).depth_limit; breadth_first = (arc_value r.pool.shared).breadth_first } };
+}
+
+impl<J: JobKind> PoolRef<J> {
+    // The pool with this number, whose threads share this.
+    pub(crate) fn of(
+        id: PoolId,
+        shared: Arc<rayon_performers::Registry<Task<J>>, Global>,
+        faults: SharedFaults<J::Fault>,
+    ) -> PoolRef<J>
+        ensures { result ≡ record { id = id; workers = (arc_value shared).workers; depth_limit = (arc_value shared).depth_limit; breadth_first = (arc_value shared).breadth_first } }
+    {
+        PoolRef {
+            pool: PoolShare { id, shared },
+            faults,
+        }
+    }
+
+    /// A copy, for the same pool. Refused `NoRoom`.
+    pub fn pool_ref(&self) -> Result<PoolRef<J>, Refusal>
+        ensures same { IfOk result (λ p. p ≡ self.now) }
+        ensures refused { IfErr result (λ r. r ≡ Refusal.NoRoom) }
+    {
+        let shared = shared_of(self)?;
+        let faults = faults_of(self)?;
+        Ok(PoolRef::of(self.id(), shared, faults))
+    }
+
+    /// The pool's number.
+    pub fn id(&self) -> PoolId
+        ensures { result ≡ self.now.id }
+    {
+        self.pool.id
+    }
+
+    /// How many workers the pool has.
+    pub fn current_num_threads(&self) -> usize
+        ensures { result ≡ self.now.workers }
+    {
+        self.pool.shared.num_threads()
+    }
+
+    // The levels of a worker value that no run was lent yet.
+    fn depth_limit(&self) -> usize
+        ensures { result ≡ self.now.depth_limit }
+    {
+        self.pool.shared.depth_limit()
+    }
+
+    /// Runs a job on the pool, for a caller that is no worker; it blocks until the job has run, and answers the job's
+    /// output. Refused `Ended`, `Full`, `NoRoom`, with the job back.
+    pub fn install<R: Wait>(
+        &self,
+        rt: &R,
+        alloc: Global,
+        job: J,
+    ) -> Result<J::Output, CallError<J::Fault, J>>
+        ensures answers { InstallAnswers (λ r. J.answers (J.tag_of job) r) job result }
+        ensures shallow { (j : _) → result ≡ Err (CallError.Refused Refusal.TooDeep j) → ⊥ }
+    {
+        let Some(name) = self.pool.shared.caller_name(rt) else {
+            return Err(CallError::Refused(Refusal::Full, job));
+        };
+        let tag = job.tag();
+        let mut guest = Guest::new(&*self.pool.shared);
+        match guest.send(rt, alloc, name, job) {
+            Ok(found) => install_answer(claimed(found, &tag)),
+            Err((refusal, job)) => Err(CallError::Refused(refusal, job)),
+        }
+    }
+
+    /// Spawns a detached job on the pool, for a caller that is no worker, and waits for nothing. The job keeps the pool from
+    /// ending until its run is over. Nobody is answered its output, and its fault is kept for `take_fault`. Refused `Full`,
+    /// `NoRoom`, `Ended`, with the job back.
+    pub fn spawn<R: Wait>(&self, rt: &R, alloc: Global, job: J) -> Result<(), (Refusal, J)>
+        ensures back { IfErr result (λ e. e.1 ≡ job) }
+        ensures refused { IfErr result (λ e. (e.0 ≡ Refusal.Ended) ⊎ ((e.0 ≡ Refusal.Full) ⊎ (e.0 ≡ Refusal.NoRoom))) }
+    {
+        let Some(name) = self.pool.shared.caller_name(rt) else {
+            return Err((Refusal::Full, job));
+        };
+        let mut guest = Guest::new(&*self.pool.shared);
+        guest.spawn(rt, alloc, name, job)
+    }
+
+    /// The first fault of a detached job since this was asked last, and how many there were; that number stops at 2^64 - 1.
+    /// None and 0 are left.
+    pub fn take_fault<R: Wait>(&self, rt: &R) -> (Option<J::Fault>, u64) {
+        self.faults.take(rt)
+    }
+
+    /// Runs two jobs on the pool by a join there, for a caller that is no worker; it blocks until both have run, and
+    /// answers both outputs. Refused `TooDeep` exactly where the depth limit is 1, whatever else holds; `Ended`,
+    /// `Full`, `NoRoom`; with the sides back, and neither has run.
+    pub fn join<R: Wait>(
+        &self,
+        rt: &R,
+        alloc: Global,
+        a: J,
+        b: J,
+    ) -> Result<(J::Output, J::Output), CallError<J::Fault, (J, J)>>
+        ensures answers { JoinAnswers (λ r. J.answers (J.tag_of a) r) (λ r. J.answers (J.tag_of b) r) (a, b) result }
+        ensures deep { self.now.depth_limit < 2 → result ≡ Err (CallError.Refused Refusal.TooDeep (a, b)) }
+        ensures shallow { (sides : _) → result ≡ Err (CallError.Refused Refusal.TooDeep sides) → self.now.depth_limit < 2 }
+    {
+        if self.depth_limit() < 2 {
+            return Err(CallError::Refused(Refusal::TooDeep, (a, b)));
+        }
+        let Some(name) = self.pool.shared.caller_name(rt) else {
+            return Err(CallError::Refused(Refusal::Full, (a, b)));
+        };
+        let tags = (a.tag(), b.tag());
+        let mut guest = Guest::new(&*self.pool.shared);
+        match guest.send_pair(rt, alloc, name, a, b) {
+            Ok((first, second)) => {
+                pair_answer(claimed(first, &tags.0), claimed(second, &tags.1))
+            }
+            Err((refusal, sides)) => Err(CallError::Refused(refusal, sides)),
+        }
+    }
+
+    /// The same as `join`: both jobs are told that their call came from outside the pool.
+    pub fn join_context<R: Wait>(
+        &self,
+        rt: &R,
+        alloc: Global,
+        a: J,
+        b: J,
+    ) -> Result<(J::Output, J::Output), CallError<J::Fault, (J, J)>>
+        ensures answers { JoinAnswers (λ r. J.answers (J.tag_of a) r) (λ r. J.answers (J.tag_of b) r) (a, b) result }
+        ensures deep { self.now.depth_limit < 2 → result ≡ Err (CallError.Refused Refusal.TooDeep (a, b)) }
+        ensures shallow { (sides : _) → result ≡ Err (CallError.Refused Refusal.TooDeep sides) → self.now.depth_limit < 2 }
+    {
+        self.join(rt, alloc, a, b)
+    }
+}
+
+// What a join that was sent to a pool answers: whatever is wrong with the first side's result comes first.
+fn pair_answer<X: Drop, Y: Drop, F: Drop, B>(
+    first: Result<Result<X, F>, Lost>,
+    second: Result<Result<Y, F>, Lost>,
+) -> Result<(X, Y), CallError<F, B>>
+    ensures { result ≡ joined_pair first second }
+{
+    match first {
+        Err(Lost::Missing) => Err(CallError::Missing),
+        Err(Lost::Foreign) => Err(CallError::Foreign),
+        Ok(first) => join_answer(first, second),
+    }
+}

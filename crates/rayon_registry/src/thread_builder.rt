@@ -1,0 +1,78 @@
+//! A worker's thread, up to its loop.
+ghost use Rattle.std.specs.Arc.{arc_value};
+ghost use Rattle.std.specs.Prelude.{◌≡◌, ◌≤◌, IfSome, IfNone};
+
+use crate::faults::SharedFaults;
+use crate::ids::PoolId;
+use crate::job::Job;
+use crate::level::{Level, work_at};
+use crate::pool_ref::PoolRef;
+use crate::worker_thread::WorkerThread;
+use rayon_jobs::JobKind;
+use rayon_performers::{Registry, WorkerKit};
+use rayon_tasks::Task;
+use std::alloc::Global;
+use std::marker::Model;
+use std::sync::{Arc, Wait};
+
+/// A worker's thread that has not begun its loop yet. Contracts see its pool and its index.
+#[derive(Drop)]
+pub struct ThreadBuilder<J: JobKind> {
+    pool: PoolRef<J>,
+    index: usize,
+    deque: WorkerKit<Task<J>>,
+}
+
+impl<J: JobKind> Model for ThreadBuilder<J> {
+    ghost use Rattle.rayon_registry.specs.Worker.{Seat};
+    ghost use Rattle.std.specs.Prelude.{◌<◌};
+
+    ghost Value = { Seat };
+
+    ghost view = { λ t. record { pool = t.pool; index = t.index } };
+
+    ghost invariant = { λ t. t.index < t.pool.workers };
+}
+
+impl<J: JobKind> ThreadBuilder<J> {
+    /// The thread of the worker with this index of the pool with this number, by what the pool's threads share and by
+    /// what the worker begins with. It is made in the thread itself, of what was sent there. None where the pool has no
+    /// worker with this index.
+    pub fn new(
+        id: PoolId,
+        index: usize,
+        shared: Arc<Registry<Task<J>>, Global>,
+        faults: SharedFaults<J::Fault>,
+        deque: WorkerKit<Task<J>>,
+    ) -> Option<ThreadBuilder<J>>
+        ensures seat { IfSome result (λ t. t ≡ record { pool = record { id = id; workers = (arc_value shared).workers; depth_limit = (arc_value shared).depth_limit; breadth_first = (arc_value shared).breadth_first }; index = index }) }
+        ensures none { IfNone result ((arc_value shared).workers ≤ index) }
+    {
+        if index >= shared.num_threads() {
+            return None;
+        }
+        Some(ThreadBuilder {
+            pool: PoolRef::of(id, shared, faults),
+            index,
+            deque,
+        })
+    }
+
+    /// The worker's index in its pool, from 0.
+    pub fn index(&self) -> usize
+        ensures { result ≡ self.now.index }
+    {
+        self.index
+    }
+
+    /// The worker's loop: runs what is queued, sleeps where nothing is, and ends when the pool has ended.
+    pub fn run<R: Wait>(self, rt: &R, alloc: Global)
+    where
+        J: Job,
+    {
+        let ThreadBuilder { pool, index, deque } = self;
+        let mut worker = WorkerThread::new(pool, index, deque);
+        let level = Level::new(worker.levels());
+        work_at(rt, &level, alloc, &mut worker);
+    }
+}

@@ -16,7 +16,7 @@ use std::sync::{Arc, Wait};
 
 // The call of the job of this name.
 pub(crate) fn call_of(name: u64) -> OpenCall
-    ensures { result.number ≡ name }
+    ensures { (result.number ≡ name) × (result.pool ≡ 0) × (result.job ≡ name) }
 {
     OpenCall {
         number: name,

@@ -4,8 +4,8 @@ ghost use Rattle.rayon_performers.specs.Seats.{Resting};
 use crate::errand::Errand;
 use crate::pool::{Two, begun, call_of, end, found, offer, tell, tell_task};
 use rayon_jobs::{Done, JobKind};
-use rayon_machine_places::place::{Move, Place, Target};
-use rayon_performers::{Bench, Guest, Reclaimed};
+use rayon_machine_places::place::{Move, Place, Plan, Target};
+use rayon_performers::{Bench, Guest, Load, Reclaimed};
 use rayon_sleep::latch::SpinLatch;
 use rayon_tasks::{Pair, Work, task_parts};
 use rayon_words::latch::LockLatch;
@@ -114,10 +114,11 @@ fn a_worker_works_while_it_waits_on_a_latch(rt: HostRuntime) -> Result<(), Fail>
             (number, matches!(ended, Move::Stay(Place::Stopped)))
         },
         move || {
-            let sent = Guest::new(lent).send(handle, alloc, 5, Errand(7));
+            let plan = Plan::Send(call_of(5));
+            let sent = Guest::new(lent).call(handle, alloc, plan, Load::Job(Errand(7)));
             shared.set(handle);
             match sent {
-                Ok(found) => result_of(found),
+                Ok((_, found)) => result_of(found),
                 Err(_) => None,
             }
         },
@@ -149,9 +150,13 @@ fn a_sent_pair_is_answered_in_order(rt: HostRuntime) -> Result<(), Fail> {
             let mut worker = other.worker(1, second);
             work_pair(handle, &mut worker)
         },
-        move || match Guest::new(shared).send_pair(handle, alloc, 5, Errand(7), Errand(8)) {
-            Ok((first, second)) => Some((result_of(first), result_of(second))),
-            Err(_) => None,
+        move || {
+            let plan = Plan::Send(call_of(5));
+            let sides = Load::Sides(Errand(7), Errand(8));
+            match Guest::new(shared).call(handle, alloc, plan, sides) {
+                Ok((first, second)) => Some((result_of(first), result_of(second))),
+                Err(_) => None,
+            }
         },
     );
     end(&rt, &registry, hold);

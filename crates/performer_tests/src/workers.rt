@@ -1,8 +1,8 @@
 //! Tests of a worker's performer and of an outside caller's.
 use crate::errand::Errand;
 use crate::pool::{Two, call_of, end, found, number_of, offer, work};
-use rayon_machine_places::place::{Ending, Then};
-use rayon_performers::{Guest, Reclaimed};
+use rayon_machine_places::place::{Ending, Plan, Then};
+use rayon_performers::{Guest, Load, Reclaimed};
 use rayon_words::Refusal;
 use std::test::Fail;
 use std::thread;
@@ -81,9 +81,12 @@ fn a_sent_job_is_run_and_a_waiting_worker_leaves(rt: HostRuntime) -> Result<(), 
             let number = work(handle, &mut worker, 9);
             (number, worker.take_task().is_none())
         },
-        move || match Guest::new(shared).send(handle, alloc, 5, Errand(7)) {
-            Ok(Some(done)) => Some(done.into_result()),
-            _ => None,
+        move || {
+            let plan = Plan::Send(call_of(5));
+            match Guest::new(shared).call(handle, alloc, plan, Load::Job(Errand(7))) {
+                Ok((_, Some(done))) => Some(done.into_result()),
+                _ => None,
+            }
         },
     );
     end(&rt, &registry, hold);
@@ -121,9 +124,10 @@ fn an_ended_pool_refuses(rt: HostRuntime) -> Result<(), Fail> {
         Ok(_) => None,
         Err((refusal, job)) => Some((refusal, job.0)),
     };
-    let sent = match Guest::new(&registry).send(&rt, alloc, 5, Errand(6)) {
-        Ok(_) => None,
-        Err((refusal, job)) => Some((refusal, job.0)),
+    let plan = Plan::Send(call_of(5));
+    let sent = match Guest::new(&registry).call(&rt, alloc, plan, Load::Job(Errand(6))) {
+        Err((refusal, Load::Job(job))) => Some((refusal, job.0)),
+        _ => None,
     };
     assert_eq!(rt; installed, Err(Refusal::Ended));
     assert_eq!(rt; offered, Some((Refusal::Ended, 7)));

@@ -18,7 +18,6 @@ use Rattle.rayon_drive.specs.Traces.{Adds}
 use Rattle.rayon_drive.proofs.Paths.{driven_read, driven_then, goes_on, starts}
 use Rattle.rayon_performers.specs.Hands.{Hands, Does}
 use Rattle.rayon_performers.specs.Spawns.{Spawned, Traced, Unspawned}
-use Rattle.rayon_performers.specs.Visits.{Visit, Does as GuestDoes}
 
 module _ (h : PoolShape) (q : Party) (m : Move) (v : Log) where
   pub traced_here : Traced h q m v v m
@@ -36,10 +35,6 @@ module _ {X G O F : Type 0} where
   -- of a worker's path
   pub traced : (h : PoolShape) (i : ℕ) (m : Move) (s t : Hands X G O F) (n : Move) → Driven (λ (a : Hands X G O F) x y b. Does x y a b) (λ (a : Hands X G O F). a.trace) h (Worker 0 i) m s t n → Traced h (Worker 0 i) m s.trace t.trace n
   traced h i m s t n d = driven_read (λ (a : Hands X G O F) x y b. Does x y a b) (λ (a : Hands X G O F). a.trace) (λ (v : Log) a x (w : Log). Unit {0}) (λ (v : Log). v) (λ (a : Hands X G O F). a.trace) (λ a. refl) (λ a x y b d. tt) h (Worker 0 i) m s t n d
-
-  -- of a caller's
-  pub traced_outside : (h : PoolShape) (m : Move) (s t : Visit X G O F) (n : Move) → Driven (λ (a : Visit X G O F) x y b. GuestDoes x y a b) (λ (a : Visit X G O F). a.trace) h (Caller 0) m s t n → Traced h (Caller 0) m s.trace t.trace n
-  traced_outside h m s t n d = driven_read (λ (a : Visit X G O F) x y b. GuestDoes x y a b) (λ (a : Visit X G O F). a.trace) (λ (v : Log) a x (w : Log). Unit {0}) (λ (v : Log). v) (λ (a : Visit X G O F). a.trace) (λ a. refl) (λ a x y b d. tt) h (Caller 0) m s t n d
 
 -- a path of a trace, said of equals
 pub traced_as : (h k : PoolShape) (i j : ℕ) (m : Move) (v w : Log) (n : Move) → h ≡ k → i ≡ j → Traced h (Worker 0 i) m v w n → Traced k (Worker 0 j) m v w n

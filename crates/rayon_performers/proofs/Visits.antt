@@ -1,167 +1,64 @@
--- The calls of an outside caller go on by one act, and end where their place says.
-use Rattle.std.proofs.Common.{◌≡◌, ℕ, ◌+◌, Bool, true, false, nat_lt, ◌&&◌, if◌then◌else◌, None, Some, refl, sym, subst, ◌∙◌, true≢false}
-use Rattle.rayon_machine_places.specs.declared.place.Count.TheVariants.{OfPool}
+-- What a call of an outside caller leaves.
+use Rattle.std.proofs.Common.{◌≡◌, true, Option, None, Some, refl, sym, subst, ap, ◌∙◌, true≢false}
 use Rattle.rayon_machine_places.specs.declared.place.Party.TheVariants.{Caller}
-use Rattle.rayon_machine_places.specs.declared.place.Latch.{Latch}
-use Rattle.rayon_machine_places.specs.declared.place.Latch.TheVariants.{Terminate, OfCall}
 use Rattle.rayon_machine_places.specs.declared.place.Plan.{Plan}
-use Rattle.rayon_machine_places.specs.declared.place.Settling.{Settling}
-use Rattle.rayon_machine_places.specs.declared.place.Then.{Then}
-use Rattle.rayon_machine_places.specs.declared.place.Then.TheVariants.{Resume, Await, Answers, Missing as AnswersMissing, GiveBack}
 use Rattle.rayon_machine_places.specs.declared.place.Place.{Place}
 use Rattle.rayon_machine_places.specs.declared.place.Place.TheVariants as at
 use Rattle.rayon_machine_places.specs.declared.place.Move.{Move}
 use Rattle.rayon_machine_places.specs.declared.place.Move.TheVariants.{Stay, Enter, StartRun, Back, HandBack, HandIn, Discard, Mark, HandAllBack}
 use Rattle.rayon_machine_places.specs.declared.act.Seen.{Seen}
-use Rattle.rayon_machine_places.specs.declared.act.Seen.TheVariants.{Done, Yes, Missing, Wakes, Found}
+use Rattle.rayon_machine_places.specs.declared.act.Seen.TheVariants.{Done}
 use Rattle.rayon_machine_places.specs.declared.shape.PoolShape.{PoolShape}
-use Rattle.rayon_machine_places.specs.Places.{act_of, next_of, finish, walk, settle, after_set, after_news, plan_pool}
+use Rattle.rayon_machine_places.specs.Places.{act_of, next_of, plan_job}
 use Rattle.rayon_drive.specs.Paths.{goes, act_at, onward, Driven}
-use Rattle.rayon_drive.specs.Traces.{Adds}
-use Rattle.rayon_drive.proofs.Paths.{goes_on, starts, driven_then, driven_keeps}
-use Rattle.rayon_performers.specs.Hands.{answer}
-use Rattle.rayon_performers.specs.Visits.{Visit, Does, Same, Grows, MayHave, ticket_of}
-use Rattle.rayon_performers.specs.Visiting.{IsEnd, Stands, StandsThen, Keeps, end_of, end_then, stands_on}
-
-module _ {X G O F : Type 0} (h : PoolShape) (m : Move) (s : Visit X G O F) where
-  -- the caller's acts so far, from the first move to this one
-  abbrev pub So : Move → Visit X G O F → Type 0
-  So n t = Driven (λ (a : Visit X G O F) x y b. Does x y a b) (λ (a : Visit X G O F). a.trace) h (Caller 0) m s t n
-
-  pub so_far : So m s
-  so_far = starts (λ (a : Visit X G O F) x y b. Does x y a b) (λ (a : Visit X G O F). a.trace) h (Caller 0) m s
-
-  pub by_act : (n : Move) (t u : Visit X G O F) (x : Seen) → goes n ≡ true → So n t → Does (act_at (Caller 0) n) x t u → Adds (act_at (Caller 0) n) x t.trace u.trace → So (onward h (Caller 0) n x) u
-  by_act n t u x go a d e = goes_on (λ (b : Visit X G O F) x y c. Does x y b c) (λ (b : Visit X G O F). b.trace) h (Caller 0) m s t n x u a go d e
-
-  pub and_then : (n l : Move) (t u : Visit X G O F) → So n t → Driven (λ (a : Visit X G O F) x y b. Does x y a b) (λ (a : Visit X G O F). a.trace) h (Caller 0) n t u l → So l u
-  and_then n l t u a b = driven_then (λ (c : Visit X G O F) x y d. Does x y c d) (λ (c : Visit X G O F). c.trace) h (Caller 0) m s t n u l a b
-
--- a look at the injector leads to the push, which knows what was seen
-pub looked : (h : PoolShape) (n : Plan) (z : Bool) → next_of h (Caller 0) (at.LookQueue n) (answer z) ≡ Stay (at.PushJob n z)
-looked h n true = refl
-looked h n false = refl
-
-finish_end : (c : ℕ) (t : Then) → IsEnd t → end_of (finish (Caller c) t) ≡ end_then t
-finish_end c Resume l = refl
-finish_end c (Answers o f e) l = refl
-finish_end c (AnswersMissing o f) l = refl
-finish_end c (GiveBack n) l = refl
-finish_end c _ l = absurd l
-
-settle_end : (h : PoolShape) (c p i : ℕ) (t : Then) → IsEnd t → end_of (settle h (Caller c) p i t) ≡ end_then t
-settle_end h c p i t l = by (nat_lt i h.workers)
-  where
-    by : (z : Bool) → end_of (if z then Stay (at.SetLatch (record { latch = Terminate; pool = p; worker = i; then = t })) else finish (Caller c) t) ≡ end_then t
-    by true = refl
-    by false = finish_end c t l
-
-set_end : (h : PoolShape) (c : ℕ) (x : Settling) (l : Latch) → IsEnd x.then → end_of (after_set h (Caller c) x l) ≡ end_then x.then
-set_end h c x Terminate e = settle_end h c x.pool (x.worker + 1) x.then e
-set_end h c x (OfCall n) e = finish_end c x.then e
+use Rattle.rayon_drive.proofs.Paths.{driven_keeps}
+use Rattle.rayon_queues.specs.Deques.{Visitor}
+use Rattle.rayon_tasks.specs.Tasks.{TaskOf}
+use Rattle.rayon_jobs.specs.Within.{Run}
+use Rattle.rayon_performers.specs.declared.load.Load.{Load}
+use Rattle.rayon_performers.specs.Visits.{Visit, Hand, Does, after, hand, sent}
+use Rattle.rayon_performers.specs.Visiting.{At, Kept, KeptIn, at_on}
 
 module _ {X G O F : Type 0} where
-  await_end : (u : Visit X G O F) (c : ℕ) (t : Then) → StandsThen u t → end_of (finish (Caller c) t) ≡ Back
-  await_end u c (Await o) a = refl
-  await_end u c Resume a = refl
-  await_end u c _ a = absurd a
+  -- the caller's acts from this move to that one
+  abbrev pub So : PoolShape → Move → Visit X G O F → Move → Visit X G O F → Type 0
+  So h m s n t = Driven (λ (a : Visit X G O F) x y b. Does x y a b) (λ (a : Visit X G O F). a.trace) h (Caller 0) m s t n
 
-  walk_end : (u : Visit X G O F) (h : PoolShape) (c r k j : ℕ) (t : Then) → StandsThen u t → end_of (walk h (Caller c) r k j t) ≡ Back
-  walk_end u h c r k j t a = by (nat_lt 0 k && nat_lt j h.workers)
+  -- a push takes the load that is in hand, if it is still there
+  kept_pushed : (p n : Plan) (b : Hand X G O F) (l : Option (Load X G O F)) (v : Visitor (TaskOf X)) → n ≡ p → KeptIn (plan_job p) b l v → sent (plan_job n) l v ≡ sent (plan_job p) b.load b.inlet
+  kept_pushed p n b None v e k = k
+  kept_pushed p n b (Some w) v e k = subst (λ (m : Plan). sent (plan_job m) (Some w) v ≡ sent (plan_job p) b.load b.inlet) (sym e) (ap (λ (l : Option (Load X G O F)). sent (plan_job p) l v) k.0 ∙ ap (λ (u : Visitor (TaskOf X)). sent (plan_job p) b.load u) k.1)
+
+  -- the very load is in hand until it is pushed, and the pass has it once after
+  kept_on : (p : Plan) (b s : Hand X G O F) (y : Place) (x : Seen) → At p s (Stay y) → Kept (plan_job p) b s → Kept (plan_job p) b (after (act_of (Caller 0) y) x s)
+  kept_on p b s (at.PushJob n e) Done a k = kept_pushed p n b s.load s.inlet a.1.0 k
+  kept_on p b s (at.BeginTask t) x a k = absurd a.1
+  kept_on p b s _ _ a k = k
+
+  -- what a drive of a call leaves
+  pub call_ends : (p : Plan) (h : PoolShape) (m : Move) (s u : Visit X G O F) (n : Move) → At p (hand s) m → So h m s n u → At p (hand u) n × Kept (plan_job p) (hand s) (hand u) × (u.shape ≡ s.shape)
+  call_ends p h m s u n a d =
+      driven_keeps (λ (v : Visit X G O F) x y w. Does x y v w) (λ (v : Visit X G O F). v.trace) (λ (v : Visit X G O F) k. At p (hand v) k × Kept (plan_job p) (hand s) (hand v) × (v.shape ≡ s.shape)) h (Caller 0) keeps m s u n (a, start (hand s).load, refl) d
     where
-      by : (z : Bool) → end_of (if z then Stay (at.LockToWake (record { pool = r; owed = k; worker = j; then = t })) else finish (Caller c) t) ≡ Back
-      by true = refl
-      by false = await_end u c t a
+      start : (l : Option (Load X G O F)) → KeptIn (plan_job p) (record (hand s) { load = l }) l s.inlet
+      start None = refl
+      start (Some w) = (refl, refl)
 
-  -- where a call ends is the same after each of its acts
-  end_on : (u : Visit X G O F) (h : PoolShape) (c : ℕ) (y : Place) (x : Seen) → Stands u (Stay y) → end_of (next_of h (Caller c) y x) ≡ end_of (Stay y)
-  end_on u h c (at.TellNews n e) (Wakes k) a = walk_end u h c (plan_pool n) k 0 (after_news n) a.1
-  end_on u h c (at.TellNews n e) _ a = refl
-  end_on u h c (at.LockToWake k) _ a = refl
-  end_on u h c (at.WakeWorker k) Yes a = refl
-  end_on u h c (at.WakeWorker k) _ a = refl
-  end_on u h c (at.UnlockWoken k) _ a = walk_end u h c k.pool k.owed (k.worker + 1) k.then a.1
-  end_on u h c (at.WaitForLock o) _ a = refl
-  end_on u h c (at.TakeResult o f) (Found e) a = refl
-  end_on u h c (at.TakeResult o f) _ a = refl
-  end_on u h c (at.LowerCount (OfPool p) b t) Yes a = settle_end h c p 0 t a.2
-  end_on u h c (at.LowerCount (OfPool p) b t) _ a = finish_end c t a.2
-  end_on u h c (at.SetLatch s) Yes a = refl
-  end_on u h c (at.SetLatch s) _ a = set_end h c s s.latch a.3
-  end_on u h c (at.LockToSettle s) _ a = refl
-  end_on u h c (at.WakeSettled s) _ a = refl
-  end_on u h c (at.UnlockSettled s) _ a = set_end h c s s.latch a.3
-  end_on u h c _ _ a = absurd a
-
-  keeps_same : (u v : Visit X G O F) → Same u v → Keeps u v
-  keeps_same u v d = subst (λ (z : Visit X G O F). z ≡ record u { done = z.done; first_done = z.first_done; holds = z.holds; marks = z.marks; trace = z.trace }) (sym d) refl
-
-  keeps_then : (s u v : Visit X G O F) → Keeps s u → Keeps u v → Keeps s v
-  keeps_then s u v a b = subst (λ (z : Visit X G O F). v ≡ record z { done = v.done; first_done = v.first_done; holds = v.holds; marks = v.marks; trace = v.trace }) a b
-
-  keeps_on : (u v : Visit X G O F) (c : ℕ) (y : Place) (x : Seen) → Stands u (Stay y) → Does (act_of (Caller c) y) x u v → Keeps u v
-  keeps_on u v c (at.TellNews n e) x a d = keeps_same u v d
-  keeps_on u v c (at.LockToWake k) x a d = keeps_same u v d
-  keeps_on u v c (at.WakeWorker k) x a d = keeps_same u v d
-  keeps_on u v c (at.UnlockWoken k) x a d = keeps_same u v d
-  keeps_on u v c (at.WaitForLock o) x a d = keeps_same u v d
-  keeps_on u v c (at.TakeResult o f) (Found e) a d = subst (λ (z : Visit X G O F). z ≡ record u { done = z.done; first_done = z.first_done; holds = z.holds; marks = z.marks; trace = z.trace }) (sym d.2) refl
-  keeps_on u v c (at.TakeResult o f) Missing a d = subst (λ (z : Visit X G O F). z ≡ record u { done = z.done; first_done = z.first_done; holds = z.holds; marks = z.marks; trace = z.trace }) (sym d.1) refl
-  keeps_on u v c (at.TakeResult o f) _ a d = absurd d
-  keeps_on u v c (at.LowerCount (OfPool p) b t) Yes a d = subst (λ (z : Visit X G O F). z ≡ record u { done = z.done; first_done = z.first_done; holds = z.holds; marks = z.marks; trace = z.trace }) (sym d.0) refl
-  keeps_on u v c (at.LowerCount (OfPool p) b t) _ a d = subst (λ (z : Visit X G O F). z ≡ record u { done = z.done; first_done = z.first_done; holds = z.holds; marks = z.marks; trace = z.trace }) (sym d.0) refl
-  keeps_on u v c (at.SetLatch s) Yes a d = subst (λ (z : Visit X G O F). z ≡ record u { done = z.done; first_done = z.first_done; holds = z.holds; marks = z.marks; trace = z.trace }) (sym d.0) refl
-  keeps_on u v c (at.SetLatch s) _ a d = subst (λ (z : Visit X G O F). z ≡ record u { done = z.done; first_done = z.first_done; holds = z.holds; marks = z.marks; trace = z.trace }) (sym d.0) refl
-  keeps_on u v c (at.LockToSettle s) x a d = keeps_same u v d
-  keeps_on u v c (at.WakeSettled s) x a d = keeps_same u v d
-  keeps_on u v c (at.UnlockSettled s) x a d = keeps_same u v d
-  keeps_on u v c _ x a d = absurd a
-
-  -- where a call stops it is over, and its unit is given back
-  stopped : (u : Visit X G O F) (n : Move) → Stands u n → goes n ≡ false → (end_of n ≡ n) × (u.holds ≡ false)
-  stopped u Back a g = (refl, a)
-  stopped u (HandBack n) a g = (refl, a)
-  stopped u (HandIn p n) a g = absurd a
-  stopped u (Discard n) a g = absurd a
-  stopped u (Mark p c m) a g = absurd a
-  stopped u (HandAllBack c) a g = absurd a
-  stopped u (Enter f p) a g = absurd a
-  stopped u (StartRun f n) a g = absurd a
-  stopped u (Stay (at.TellNews n e)) a g = absurd (true≢false g)
-  stopped u (Stay (at.LockToWake k)) a g = absurd (true≢false g)
-  stopped u (Stay (at.WakeWorker k)) a g = absurd (true≢false g)
-  stopped u (Stay (at.UnlockWoken k)) a g = absurd (true≢false g)
-  stopped u (Stay (at.WaitForLock o)) a g = absurd (true≢false g)
-  stopped u (Stay (at.TakeResult o f)) a g = absurd (true≢false g)
-  stopped u (Stay (at.LowerCount (OfPool p) b t)) a g = absurd (true≢false g)
-  stopped u (Stay (at.SetLatch s)) a g = absurd (true≢false g)
-  stopped u (Stay (at.LockToSettle s)) a g = absurd (true≢false g)
-  stopped u (Stay (at.WakeSettled s)) a g = absurd (true≢false g)
-  stopped u (Stay (at.UnlockSettled s)) a g = absurd (true≢false g)
-  stopped u (Stay _) a g = absurd a
-
-  -- what a drive of a call leaves: it is over where its place says, no more was changed than a drive may, and
-  -- its unit is given back
-  pub call_ends : (h : PoolShape) (y : Place) (s u : Visit X G O F) (n : Move) → Stands s (Stay y) → Driven (λ (a : Visit X G O F) x y b. Does x y a b) (λ (a : Visit X G O F). a.trace) h (Caller 0) (Stay y) s u n → goes n ≡ false → (n ≡ end_of (Stay y)) × Keeps s u × (u.holds ≡ false)
-  call_ends h y s u n a d g =
-      let end = driven_keeps (λ (a : Visit X G O F) x y b. Does x y a b) (λ (a : Visit X G O F). a.trace) (λ (v : Visit X G O F) k. Stands v k × (end_of k ≡ end_of (Stay y)) × Keeps s v) h (Caller 0) keeps (Stay y) s u n (a, refl, refl) d in
-      let over = stopped u n end.0 g in
-      (sym over.0 ∙ end.1, end.2, over.1)
-    where
-      keeps : (v w : Visit X G O F) (k : Move) (x : Seen) → goes k ≡ true → Stands v k × (end_of k ≡ end_of (Stay y)) × Keeps s v → Does (act_at (Caller 0) k) x v w → Stands w (onward h (Caller 0) k x) × (end_of (onward h (Caller 0) k x) ≡ end_of (Stay y)) × Keeps s w
-      keeps v w (Stay z) x go b e = (stands_on v w h 0 z x b.0 e, end_on v h 0 z x b.0 ∙ b.1, keeps_then s v w b.2 (keeps_on v w 0 z x b.0 e))
+      keeps : (v w : Visit X G O F) (k : Move) (x : Seen) → goes k ≡ true → At p (hand v) k × Kept (plan_job p) (hand s) (hand v) × (v.shape ≡ s.shape) → Does (act_at (Caller 0) k) x v w → At p (hand w) (onward h (Caller 0) k x) × Kept (plan_job p) (hand s) (hand w) × (w.shape ≡ s.shape)
+      keeps v w (Stay y) x go b e = (subst (λ (z : Hand X G O F). At p z (next_of h (Caller 0) y x)) (sym e.0) (at_on p (hand v) h y x b.0), subst (λ (z : Hand X G O F). Kept (plan_job p) (hand s) z) (sym e.0) (kept_on p (hand s) (hand v) y x b.0 b.1), e.1 ∙ b.2)
       keeps v w (Enter f z) x go b e = absurd (true≢false (sym go))
       keeps v w (StartRun f z) x go b e = absurd (true≢false (sym go))
       keeps v w Back x go b e = absurd (true≢false (sym go))
       keeps v w (HandBack z) x go b e = absurd (true≢false (sym go))
-      keeps v w (HandIn p z) x go b e = absurd (true≢false (sym go))
+      keeps v w (HandIn q z) x go b e = absurd (true≢false (sym go))
       keeps v w (Discard z) x go b e = absurd (true≢false (sym go))
-      keeps v w (Mark p c m) x go b e = absurd (true≢false (sym go))
+      keeps v w (Mark q c z) x go b e = absurd (true≢false (sym go))
       keeps v w (HandAllBack c) x go b e = absurd (true≢false (sym go))
 
-  -- the tickets of a call are made, of one job or of two sides
-  pub grown_one : (n : ℕ) (u v : Visit X G O F) → v ≡ record u { call = Some (ticket_of n); first = None; trace = v.trace } → Grows n Done u v
-  grown_one n u v d = subst (λ (z : Visit X G O F). (z.call ≡ Some (ticket_of n)) × MayHave z.first n × (z ≡ record u { call = z.call; first = z.first; trace = z.trace })) (sym d) (refl, tt, refl)
+  -- what was found is answered
+  pub answered : (h : PoolShape) (m : Move) (s v : Visit X G O F) (r d : Option (Run G O F)) → r ≡ v.first_done → d ≡ v.done → So h m s Back v → So h m s Back (record v { first_done = r; done = d })
+  answered h m s v r d e f a = subst (λ (z : Option (Run G O F)). So h m s Back (record v { first_done = r; done = z })) (sym f) (subst (λ (z : Option (Run G O F)). So h m s Back (record v { first_done = z })) (sym e) a)
 
-  pub grown_two : (n : ℕ) (u v : Visit X G O F) → v ≡ record u { call = Some (ticket_of n); first = Some (ticket_of n); trace = v.trace } → Grows n Done u v
-  grown_two n u v d = subst (λ (z : Visit X G O F). (z.call ≡ Some (ticket_of n)) × MayHave z.first n × (z ≡ record u { call = z.call; first = z.first; trace = z.trace })) (sym d) (refl, refl, refl)
+  -- and a load that comes back
+  pub returned : (h : PoolShape) (m : Move) (s v : Visit X G O F) (n p : Plan) (l : Option (Load X G O F)) → n ≡ p → l ≡ v.load → So h m s (HandBack n) v → So h m s (HandBack p) (record v { load = l })
+  returned h m s v n p l e f a = subst (λ (q : Plan). So h m s (HandBack q) (record v { load = l })) e (subst (λ (z : Option (Load X G O F)). So h m s (HandBack n) (record v { load = z })) (sym f) a)

@@ -1,179 +1,212 @@
--- What an outside caller has at each place of its calls, and where they end.
-use Rattle.std.specs.Prelude.{◌≡◌, ℕ, ◌+◌, nat_lt, ◌&&◌, if◌then◌else◌, Bool, true, false, Some}
-use Rattle.std.proofs.Common.{sym, subst, ap}
+-- What an outside caller has at each place of its calls.
+use Rattle.std.specs.Prelude.{◌≡◌, ℕ, ◌+◌, nat_lt, ◌&&◌, if◌then◌else◌, Bool, true, false, Option, None, Some}
+use Rattle.std.proofs.Common.{refl, sym, subst, ap, ◌∙◌}
 use Rattle.rayon_machine_places.specs.declared.place.Count.TheVariants.{OfPool}
 use Rattle.rayon_machine_places.specs.declared.place.Party.{Party}
-use Rattle.rayon_machine_places.specs.declared.place.Party.TheVariants.{Worker, Caller}
+use Rattle.rayon_machine_places.specs.declared.place.Party.TheVariants.{Caller}
 use Rattle.rayon_machine_places.specs.declared.place.Latch.{Latch}
 use Rattle.rayon_machine_places.specs.declared.place.Latch.TheVariants.{Terminate, OfCall}
-use Rattle.rayon_machine_places.specs.declared.place.OpenCall.{OpenCall}
+use Rattle.rayon_machine_places.specs.declared.place.Plan.{Plan}
+use Rattle.rayon_machine_places.specs.declared.place.Plan.TheVariants.{Send, Detach}
 use Rattle.rayon_machine_places.specs.declared.place.Then.{Then}
-use Rattle.rayon_machine_places.specs.declared.place.Then.TheVariants.{Resume, Await, Answers, Missing as AnswersMissing, GiveBack}
 use Rattle.rayon_machine_places.specs.declared.place.Settling.{Settling}
 use Rattle.rayon_machine_places.specs.declared.place.Place.{Place}
 use Rattle.rayon_machine_places.specs.declared.place.Place.TheVariants as at
 use Rattle.rayon_machine_places.specs.declared.place.Move.{Move}
 use Rattle.rayon_machine_places.specs.declared.place.Move.TheVariants.{Stay, Back, HandBack}
 use Rattle.rayon_machine_places.specs.declared.act.Seen.{Seen}
-use Rattle.rayon_machine_places.specs.declared.act.Seen.TheVariants.{Yes, Missing, Wakes, Found}
+use Rattle.rayon_machine_places.specs.declared.act.Seen.TheVariants.{Done, Yes, Wakes, Found}
 use Rattle.rayon_machine_places.specs.declared.shape.PoolShape.{PoolShape}
-use Rattle.rayon_machine_places.specs.Places.{act_of, next_of, finish, walk, settle, after_set, after_news, plan_pool, is_rest}
-use Rattle.rayon_performers.specs.Visits.{Visit, Needs, Does, Same, IsTerminate, ticket_of}
-
--- only an outside caller makes such calls
-abbrev pub IsCaller : Party → Type 0
-IsCaller (Worker p i) = ⊥
-IsCaller (Caller c) = Unit {0}
-
--- what follows once the unit of the terminate count is given back: the call is over
-abbrev pub IsEnd : Then → Type 0
-IsEnd Resume = Unit {0}
-IsEnd (Answers o f e) = Unit {0}
-IsEnd (AnswersMissing o f) = Unit {0}
-IsEnd (GiveBack n) = Unit {0}
-IsEnd _ = ⊥
-
--- where a call ends that goes on so: one that waits goes back once it has waited
-abbrev pub end_then : Then → Move
-end_then (GiveBack n) = HandBack n
-end_then _ = Back
-
--- where a call ends that has moved so
-abbrev pub end_of : Move → Move
-end_of (Stay (at.LowerCount (OfPool p) b t)) = end_then t
-end_of (Stay (at.SetLatch x)) = end_then x.then
-end_of (Stay (at.LockToSettle x)) = end_then x.then
-end_of (Stay (at.WakeSettled x)) = end_then x.then
-end_of (Stay (at.UnlockSettled x)) = end_then x.then
-end_of (HandBack n) = HandBack n
-end_of _ = Back
+use Rattle.rayon_machine_places.specs.Places.{act_of, next_of, finish, walk, settle, after_set, after_news, after_push, after_raise, plan_call, plan_job, plan_pool, undo, is_rest}
+use Rattle.rayon_queues.specs.Deques.{Visitor}
+use Rattle.rayon_tasks.specs.Tasks.{TaskOf}
+use Rattle.rayon_tasks.specs.Tickets.{TicketOf}
+use Rattle.rayon_performers.specs.declared.load.Load.{Load}
+use Rattle.rayon_performers.specs.declared.load.Load.TheVariants.{Job, Sides, Detached}
+use Rattle.rayon_performers.specs.Visits.{Visit, Hand, hand, Needs, Does, Packed, after, detached_ticket, first_of, sent, ticket_of, unit_after}
 
 module _ {X G O F : Type 0} where
-  -- a call that has its ticket and its unit of the terminate count
-  abbrev pub InCall : Visit X G O F → OpenCall → Type 0
-  InCall s o = (o.pool ≡ 0) × (s.call ≡ Some (ticket_of o.number)) × (s.holds ≡ true)
+  -- a load for whose results a call waits
+  abbrev pub IsAwaited : Option (Load X G O F) → Type 0
+  IsAwaited (Some (Job j)) = Unit {0}
+  IsAwaited (Some (Sides a b)) = Unit {0}
+  IsAwaited _ = ⊥
 
-  -- what is in hand where workers are woken before this follows: a call waits then, or a spawn is over, whose unit went with
-  -- its job
-  abbrev pub StandsThen : Visit X G O F → Then → Type 0
-  StandsThen s (Await o) = InCall s o
-  StandsThen s Resume = s.holds ≡ false
-  StandsThen s _ = ⊥
+  -- one that is detached, with this ticket
+  abbrev pub IsDetached : TicketOf → Option (Load X G O F) → Type 0
+  IsDetached t (Some (Detached j k)) = k ≡ t
+  IsDetached t _ = ⊥
 
-  -- what is in hand where the workers' terminate latches are set
-  abbrev pub StandsSetting : Visit X G O F → Settling → Type 0
-  StandsSetting s x = (x.pool ≡ 0) × IsTerminate x.latch × (s.holds ≡ false) × IsEnd x.then
+  -- a call of this plan queues this load
+  abbrev pub Fits : Plan → Option (Load X G O F) → Type 0
+  Fits (Send o) l = (o.pool ≡ 0) × (o.number ≡ o.job) × IsAwaited l
+  Fits (Detach p n) l = (p ≡ 0) × IsDetached (detached_ticket n) l
+  Fits _ l = ⊥
 
-  -- what is in hand where a call has moved so. No drive stands where a call queues its task: that is the call's
-  -- own affair
-  abbrev pub Stands : Visit X G O F → Move → Type 0
-  Stands s (Stay (at.TellNews n e)) = (plan_pool n ≡ 0) × StandsThen s (after_news n)
-  Stands s (Stay (at.LockToWake k)) = (k.pool ≡ 0) × StandsThen s k.then
-  Stands s (Stay (at.WakeWorker k)) = (k.pool ≡ 0) × StandsThen s k.then
-  Stands s (Stay (at.UnlockWoken k)) = (k.pool ≡ 0) × StandsThen s k.then
-  Stands s (Stay (at.WaitForLock o)) = InCall s o
-  Stands s (Stay (at.TakeResult o f)) = InCall s o
-  Stands s (Stay (at.LowerCount (OfPool p) b t)) = (p ≡ 0) × (s.holds ≡ true) × IsEnd t
-  Stands s (Stay (at.SetLatch x)) = StandsSetting s x
-  Stands s (Stay (at.LockToSettle x)) = StandsSetting s x
-  Stands s (Stay (at.WakeSettled x)) = StandsSetting s x
-  Stands s (Stay (at.UnlockSettled x)) = StandsSetting s x
-  Stands s Back = s.holds ≡ false
-  Stands s (HandBack n) = s.holds ≡ false
-  Stands s _ = ⊥
+  -- what is in hand where workers have been woken and latches set, in a call of this plan: the load was queued and the call
+  -- waits, or is over; or it hands the load back
+  abbrev pub Next : Plan → Hand X G O F → Move → Type 0
+  Next p s (Stay (at.WaitForLock o)) = (s.call ≡ Some (ticket_of o.number)) × (o.pool ≡ 0) × (s.holds ≡ true) × (s.load ≡ None)
+  Next p s Back = (s.holds ≡ false) × (s.load ≡ None)
+  Next p s (HandBack n) = (n ≡ p) × (s.holds ≡ false) × Fits n s.load
+  Next p s _ = ⊥
 
-  -- a drive changes no more than what was found, the unit, the seats and the trace
+  -- what is in hand beside what the act asks
+  abbrev pub Holds : Plan → Hand X G O F → Place → Type 0
+  Holds p s (at.RaiseCount n) = (n ≡ p) × Fits n s.load
+  Holds p s (at.GrowCall n) = (n ≡ p) × Fits n s.load × (s.holds ≡ true)
+  Holds p s (at.LookQueue n) = (n ≡ p) × Fits n s.load × (s.holds ≡ true) × Needs (act_of (Caller 0) (at.PushJob n true)) s
+  Holds p s (at.PushJob n e) = (n ≡ p) × Fits n s.load × (s.holds ≡ true)
+  Holds p s (at.TellNews n e) = Next p s (finish (Caller 0) (after_news n))
+  Holds p s (at.LockToWake k) = Next p s (finish (Caller 0) k.then)
+  Holds p s (at.WakeWorker k) = Next p s (finish (Caller 0) k.then)
+  Holds p s (at.UnlockWoken k) = Next p s (finish (Caller 0) k.then)
+  Holds p s (at.WaitForLock o) = (o.pool ≡ 0) × (s.holds ≡ true) × (s.load ≡ None)
+  Holds p s (at.TakeResult o f) = (o.pool ≡ 0) × (s.holds ≡ true) × (s.load ≡ None)
+  Holds p s (at.LowerCount c b t) = Next p (record s { holds = false }) (finish (Caller 0) t)
+  Holds p s (at.SetLatch x) = Next p s (finish (Caller 0) x.then)
+  Holds p s (at.LockToSettle x) = Next p s (finish (Caller 0) x.then)
+  Holds p s (at.WakeSettled x) = Next p s (finish (Caller 0) x.then)
+  Holds p s (at.UnlockSettled x) = Next p s (finish (Caller 0) x.then)
+  Holds p s _ = ⊥
+
+  -- what is in hand where a call of this plan has moved so
+  abbrev pub At : Plan → Hand X G O F → Move → Type 0
+  At p s (Stay y) = Needs (act_of (Caller 0) y) s × Holds p s y
+  At p s Back = Next p s Back
+  At p s (HandBack n) = Next p s (HandBack n)
+  At p s _ = ⊥
+
+  -- a call of some plan has moved so
+  abbrev pub Stands : Hand X G O F → Move → Type 0
+  Stands s m = (p : Plan) × At p s m
+
+  -- what became of the load of a call of this name, which began with that in hand: the very one is in hand, and nothing was
+  -- pushed; or it was pushed, and nothing else
+  abbrev pub KeptIn : ℕ → Hand X G O F → Option (Load X G O F) → Visitor (TaskOf X) → Type 0
+  KeptIn n b (Some w) v = (Some w ≡ b.load) × (v ≡ b.inlet)
+  KeptIn n b None v = v ≡ sent n b.load b.inlet
+
+  abbrev pub Kept : ℕ → Hand X G O F → Hand X G O F → Type 0
+  Kept n b s = KeptIn n b s.load s.inlet
+
+  -- neither the pool's shape nor the pass is another
   abbrev pub Keeps : Visit X G O F → Visit X G O F → Type 0
-  Keeps s t = t ≡ record s { done = t.done; first_done = t.first_done; holds = t.holds; marks = t.marks; trace = t.trace }
+  Keeps s t = (t.shape ≡ s.shape) × (t.inlet ≡ s.inlet)
 
-  same : (u v : Visit X G O F) (t : Then) → Same u v → StandsThen u t → StandsThen v t
-  same u v t d a = subst (λ (z : Visit X G O F). StandsThen z t) (sym d) (same_then u v t a)
+  next_at : (p : Plan) (s : Hand X G O F) (m : Move) → Next p s m → At p s m
+  next_at p s (Stay (at.WaitForLock o)) a = (a.0, (a.1, a.2, a.3))
+  next_at p s Back a = a
+  next_at p s (HandBack n) a = a
+  next_at p s _ a = absurd a
+
+  walk_at : (p : Plan) (s : Hand X G O F) (h : PoolShape) (r k j : ℕ) (t : Then) → r ≡ 0 → Next p s (finish (Caller 0) t) → At p s (walk h (Caller 0) r k j t)
+  walk_at p s h r k j t e a = by (nat_lt 0 k && nat_lt j h.workers)
     where
-      same_then : (w z : Visit X G O F) (n : Then) → StandsThen w n → StandsThen (record w { trace = z.trace }) n
-      same_then w z (Await o) b = b
-      same_then w z Resume b = b
-      same_then w z _ b = absurd b
-
-  waits : (u v : Visit X G O F) (o : OpenCall) → Same u v → InCall u o → InCall v o
-  waits u v o d a = subst (λ (z : Visit X G O F). InCall z o) (sym d) a
-
-  setting : (u v : Visit X G O F) (x : Settling) → Same u v → StandsSetting u x → StandsSetting v x
-  setting u v x d a = subst (λ (z : Visit X G O F). StandsSetting z x) (sym d) a
-
-  struck : (u v : Visit X G O F) (x : Settling) → v ≡ record u { marks = record { set = v.marks.set; count = u.marks.count }; trace = v.trace } → StandsSetting u x → StandsSetting v x
-  struck u v x d a = subst (λ (z : Visit X G O F). StandsSetting z x) (sym d) a
-
-  await_stands : (u : Visit X G O F) (c : ℕ) (t : Then) → StandsThen u t → Stands u (finish (Caller c) t)
-  await_stands u c (Await o) a = a
-  await_stands u c Resume a = a
-  await_stands u c _ a = absurd a
-
-  walk_stands : (u : Visit X G O F) (h : PoolShape) (c r k j : ℕ) (t : Then) → r ≡ 0 → StandsThen u t → Stands u (walk h (Caller c) r k j t)
-  walk_stands u h c r k j t e a = by (nat_lt 0 k && nat_lt j h.workers)
-    where
-      by : (z : Bool) → Stands u (if z then Stay (at.LockToWake (record { pool = r; owed = k; worker = j; then = t })) else finish (Caller c) t)
+      by : (z : Bool) → At p s (if z then Stay (at.LockToWake (record { pool = r; owed = k; worker = j; then = t })) else finish (Caller 0) t)
       by true = (e, a)
-      by false = await_stands u c t a
+      by false = next_at p s (finish (Caller 0) t) a
 
-  end_stands : (u : Visit X G O F) (c : ℕ) (t : Then) → IsEnd t → u.holds ≡ false → Stands u (finish (Caller c) t)
-  end_stands u c Resume l a = a
-  end_stands u c (Answers o f e) l a = a
-  end_stands u c (AnswersMissing o f) l a = a
-  end_stands u c (GiveBack n) l a = a
-  end_stands u c _ l a = absurd l
-
-  settle_stands : (u : Visit X G O F) (h : PoolShape) (c r j : ℕ) (t : Then) → r ≡ 0 → IsEnd t → u.holds ≡ false → Stands u (settle h (Caller c) r j t)
-  settle_stands u h c r j t e l a = by (nat_lt j h.workers)
+  settle_at : (p : Plan) (s : Hand X G O F) (h : PoolShape) (r j : ℕ) (t : Then) → r ≡ 0 → Next p s (finish (Caller 0) t) → At p s (settle h (Caller 0) r j t)
+  settle_at p s h r j t e a = by (nat_lt j h.workers)
     where
-      by : (z : Bool) → Stands u (if z then Stay (at.SetLatch (record { latch = Terminate; pool = r; worker = j; then = t })) else finish (Caller c) t)
-      by true = (e, tt, a, l)
-      by false = end_stands u c t l a
+      by : (z : Bool) → At p s (if z then Stay (at.SetLatch (record { latch = Terminate; pool = r; worker = j; then = t })) else finish (Caller 0) t)
+      by true = ((e, tt), a)
+      by false = next_at p s (finish (Caller 0) t) a
 
-  after_set_stands : (u : Visit X G O F) (h : PoolShape) (c : ℕ) (x : Settling) (l : Latch) → StandsSetting u x → Stands u (after_set h (Caller c) x l)
-  after_set_stands u h c x Terminate a = settle_stands u h c x.pool (x.worker + 1) x.then a.0 a.3 a.2
-  after_set_stands u h c x (OfCall n) a = end_stands u c x.then a.3 a.2
+  after_set_at : (p : Plan) (s : Hand X G O F) (h : PoolShape) (x : Settling) (l : Latch) → x.pool ≡ 0 → Next p s (finish (Caller 0) x.then) → At p s (after_set h (Caller 0) x l)
+  after_set_at p s h x Terminate e a = settle_at p s h x.pool (x.worker + 1) x.then e a
+  after_set_at p s h x (OfCall c) e a = next_at p s (finish (Caller 0) x.then) a
 
-  -- at each place of a caller there is what the act asks
-  stands_needs : (u : Visit X G O F) (c : ℕ) (y : Place) → Stands u (Stay y) → Needs (act_of (Caller c) y) u
-  stands_needs u c (at.TellNews n e) a = a.0
-  stands_needs u c (at.LockToWake k) a = a.0
-  stands_needs u c (at.WakeWorker k) a = a.0
-  stands_needs u c (at.UnlockWoken k) a = a.0
-  stands_needs u c (at.WaitForLock o) a = a.1
-  stands_needs u c (at.TakeResult o f) a = a.1
-  stands_needs u c (at.LowerCount (OfPool p) b t) a = (a.0, a.1)
-  stands_needs u c (at.SetLatch x) a = (a.0, a.1)
-  stands_needs u c (at.LockToSettle x) a = a.0
-  stands_needs u c (at.WakeSettled x) a = a.0
-  stands_needs u c (at.UnlockSettled x) a = a.0
-  stands_needs u c _ a = absurd a
+  -- a call that has its unit goes on
+  raised_at : (p n : Plan) (s : Hand X G O F) → n ≡ p → Fits n s.load → At p (record s { holds = true }) (after_raise n)
+  raised_at p (Send o) s e f = (tt, (e, f, refl))
+  raised_at p (Detach r n) s e f = (f.0, (e, f, refl, (f.0, refl, packed s.load f.1)))
+    where
+      packed : (l : Option (Load X G O F)) → IsDetached (detached_ticket n) l → Packed n l s.call s.first
+      packed (Some (Detached j k)) d = ap (λ (t : TicketOf). t.detached) d
+      packed _ d = absurd d
+  raised_at p _ s e f = absurd f
 
-  -- and after it there is what belongs to where the table leads
-  pub stands_on : (u v : Visit X G O F) (h : PoolShape) (c : ℕ) (y : Place) (x : Seen) → Stands u (Stay y) → Does (act_of (Caller c) y) x u v → Stands v (next_of h (Caller c) y x)
-  stands_on u v h c (at.TellNews n e) (Wakes k) a d = walk_stands v h c (plan_pool n) k 0 (after_news n) a.0 (same u v (after_news n) d a.1)
-  stands_on u v h c (at.TellNews n e) _ a d = (a.0, same u v (after_news n) d a.1)
-  stands_on u v h c (at.LockToWake k) _ a d = (a.0, same u v k.then d a.1)
-  stands_on u v h c (at.WakeWorker k) Yes a d = (a.0, same u v k.then d a.1)
-  stands_on u v h c (at.WakeWorker k) _ a d = (a.0, same u v k.then d a.1)
-  stands_on u v h c (at.UnlockWoken k) _ a d = walk_stands v h c k.pool k.owed (k.worker + 1) k.then a.0 (same u v k.then d a.1)
-  stands_on u v h c (at.WaitForLock o) _ a d = waits u v o d a
-  stands_on u v h c (at.TakeResult o f) (Found e) a d = (a.0, subst (λ (z : Visit X G O F). z.holds ≡ true) (sym d.2) a.2, tt)
-  stands_on u v h c (at.TakeResult o f) Missing a d = (a.0, subst (λ (z : Visit X G O F). z.holds ≡ true) (sym d.1) a.2, tt)
-  stands_on u v h c (at.TakeResult o f) _ a d = absurd d
-  stands_on u v h c (at.LowerCount (OfPool p) b t) Yes a d = settle_stands v h c p 0 t a.0 a.2 (ap (λ (z : Visit X G O F). z.holds) d.0)
-  stands_on u v h c (at.LowerCount (OfPool p) b t) _ a d = end_stands v c t a.2 (ap (λ (z : Visit X G O F). z.holds) d.0)
-  stands_on u v h c (at.SetLatch x) Yes a d = struck u v x d.0 a
-  stands_on u v h c (at.SetLatch x) _ a d = after_set_stands v h c x x.latch (struck u v x d.0 a)
-  stands_on u v h c (at.LockToSettle x) _ a d = setting u v x d a
-  stands_on u v h c (at.WakeSettled x) _ a d = setting u v x d a
-  stands_on u v h c (at.UnlockSettled x) _ a d = after_set_stands v h c x x.latch (setting u v x d a)
-  stands_on u v h c _ _ a d = absurd a
+  -- or gives it back, since it was refused
+  undo_at : (p n : Plan) (s : Hand X G O F) → n ≡ p → Fits n s.load → s.holds ≡ true → At p s (Stay (undo n)) × At p s (Stay (after_push n))
+  undo_at p (Send o) s e f h = (((f.0, h), (e, refl, f)), ((f.0, h), (e, refl, f)))
+  undo_at p (Detach r n) s e f h = (((f.0, h), (e, refl, f)), ((f.0, h), (e, refl, f)))
+  undo_at p _ s e f h = absurd f
+
+  -- the tickets of a call are made
+  grown_at : (p n : Plan) (s : Hand X G O F) → n ≡ p → Fits n s.load → s.holds ≡ true → At p (record s { call = Some (ticket_of (plan_call n)); first = first_of (plan_call n) s.load }) (Stay (at.LookQueue n))
+  grown_at p (Send o) s e f h = (f.0, (e, f, h, (f.0, refl, packed s.load f.2)))
+    where
+      same : Some (ticket_of o.number) ≡ Some (ticket_of o.job)
+      same = ap (λ (k : ℕ). Some (ticket_of k)) f.1
+
+      packed : (l : Option (Load X G O F)) → IsAwaited l → Packed o.job l (Some (ticket_of o.number)) (first_of o.number l)
+      packed (Some (Job j)) a = same
+      packed (Some (Sides a b)) d = (same, same)
+      packed _ a = absurd a
+  grown_at p (Detach r n) s e f h = (f.0, (e, f, h, (f.0, refl, packed s.load f.1)))
+    where
+      packed : (l : Option (Load X G O F)) → IsDetached (detached_ticket n) l → Packed n l (Some (ticket_of 0)) (first_of 0 l)
+      packed (Some (Detached j k)) d = ap (λ (t : TicketOf). t.detached) d
+      packed _ d = absurd d
+  grown_at p _ s e f h = absurd f
+
+  -- the load was pushed
+  pushed_at : (p n : Plan) (s : Hand X G O F) (v : Visitor (TaskOf X)) (e : Bool) → Fits n s.load → s.holds ≡ true → Packed (plan_job n) s.load s.call s.first → At p (record s { inlet = v; load = None; holds = unit_after s.load s.holds }) (Stay (at.TellNews n e))
+  pushed_at p (Send o) s v e f h k = (f.0, by s.load f.2 k)
+    where
+      by : (l : Option (Load X G O F)) → IsAwaited l → Packed o.job l s.call s.first → Next p (record s { inlet = v; load = None; holds = unit_after l s.holds }) (Stay (at.WaitForLock o))
+      by (Some (Job j)) a c = (c ∙ ap (λ (m : ℕ). Some (ticket_of m)) (sym f.1), f.0, h, refl)
+      by (Some (Sides x y)) a c = (c.0 ∙ ap (λ (m : ℕ). Some (ticket_of m)) (sym f.1), f.0, h, refl)
+      by _ a c = absurd a
+  pushed_at p (Detach r n) s v e f h k = (f.0, by s.load f.1)
+    where
+      by : (l : Option (Load X G O F)) → IsDetached (detached_ticket n) l → Next p (record s { inlet = v; load = None; holds = unit_after l s.holds }) Back
+      by (Some (Detached j t)) d = (refl, refl)
+      by _ d = absurd d
+  pushed_at p _ s v e f h k = absurd f
+
+  -- after each act there is what belongs to where the table leads
+  pub at_on : (p : Plan) (s : Hand X G O F) (h : PoolShape) (y : Place) (x : Seen) → At p s (Stay y) → At p (after (act_of (Caller 0) y) x s) (next_of h (Caller 0) y x)
+  at_on p s h (at.RaiseCount n) Done a = raised_at p n s a.1.0 a.1.1
+  at_on p s h (at.RaiseCount n) _ a = refused n a
+    where
+      refused : (m : Plan) → At p s (Stay (at.RaiseCount m)) → Next p s (HandBack m)
+      refused (Send o) b = (b.1.0, b.0.1, b.1.1)
+      refused (Detach r k) b = (b.1.0, b.0.1, b.1.1)
+      refused _ b = absurd b.1.1
+  at_on p s h (at.GrowCall n) Done a = grown_at p n s a.1.0 a.1.1 a.1.2
+  at_on p s h (at.GrowCall n) _ a = (undo_at p n s a.1.0 a.1.1 a.1.2).0
+  at_on p s h (at.LookQueue n) Yes a = (a.1.3, (a.1.0, a.1.1, a.1.2))
+  at_on p s h (at.LookQueue n) _ a = (a.1.3, (a.1.0, a.1.1, a.1.2))
+  at_on p s h (at.PushJob n e) Done a = pushed_at p n s (sent (plan_job n) s.load s.inlet) e a.1.1 a.1.2 a.0.2
+  at_on p s h (at.PushJob n e) _ a = (undo_at p n s a.1.0 a.1.1 a.1.2).1
+  at_on p s h (at.TellNews n e) (Wakes k) a = walk_at p s h (plan_pool n) k 0 (after_news n) a.0 a.1
+  at_on p s h (at.TellNews n e) _ a = a
+  at_on p s h (at.LockToWake k) _ a = a
+  at_on p s h (at.WakeWorker k) Yes a = a
+  at_on p s h (at.WakeWorker k) _ a = a
+  at_on p s h (at.UnlockWoken k) _ a = walk_at p s h k.pool k.owed (k.worker + 1) k.then a.0 a.1
+  at_on p s h (at.WaitForLock o) _ a = a
+  at_on p s h (at.TakeResult o f) (Found e) a = ((a.1.0, a.1.1), (refl, a.1.2))
+  at_on p s h (at.TakeResult o f) _ a = ((a.1.0, a.1.1), (refl, a.1.2))
+  at_on p s h (at.LowerCount (OfPool r) b t) Yes a = settle_at p (record s { holds = false }) h r 0 t a.0.0 a.1
+  at_on p s h (at.LowerCount (OfPool r) b t) _ a = next_at p (record s { holds = false }) (finish (Caller 0) t) a.1
+  at_on p s h (at.SetLatch x) Yes a = (a.0.0, a.1)
+  at_on p s h (at.SetLatch x) _ a = after_set_at p s h x x.latch a.0.0 a.1
+  at_on p s h (at.LockToSettle x) _ a = a
+  at_on p s h (at.WakeSettled x) _ a = a
+  at_on p s h (at.UnlockSettled x) _ a = after_set_at p s h x x.latch a.0 a.1
+  at_on p s h (at.LowerCount _ b t) _ a = absurd a.0
+  at_on p s h _ _ a = absurd a.1
 
   -- the laws of the performer, which is an outside caller
-  pub guest_needs : (u : Visit X G O F) (q : Party) (y : Place) → is_rest y ≡ false → IsCaller q × Stands u (Stay y) → Needs (act_of q y) u
-  guest_needs u (Caller c) y r a = stands_needs u c y a.1
-  guest_needs u (Worker p i) y r a = absurd a.0
+  pub guest_needs : (u : Visit X G O F) (q : Party) (y : Place) → is_rest y ≡ false → (q ≡ Caller 0) × Stands (hand u) (Stay y) → Needs (act_of q y) (hand u)
+  guest_needs u q y r a = subst (λ (z : Party). Needs (act_of z y) (hand u)) (sym a.0) a.1.1.0
 
-  pub guest_on : (u v : Visit X G O F) (h : PoolShape) (q : Party) (y : Place) (x : Seen) → is_rest y ≡ false → IsCaller q × Stands u (Stay y) → Does (act_of q y) x u v → IsCaller q × Stands v (next_of h q y x)
-  guest_on u v h (Caller c) y x r a d = (tt, stands_on u v h c y x a.1 d)
-  guest_on u v h (Worker p i) y x r a d = absurd a.0
+  pub guest_on : (u v : Visit X G O F) (h : PoolShape) (q : Party) (y : Place) (x : Seen) → is_rest y ≡ false → (q ≡ Caller 0) × Stands (hand u) (Stay y) → Does (act_of q y) x u v → (q ≡ Caller 0) × Stands (hand v) (next_of h q y x)
+  guest_on u v h q y x r a d =
+      let own = subst (λ (z : Party). Does (act_of z y) x u v) a.0 d in
+      let on = subst (λ (z : Hand X G O F). At a.1.0 z (next_of h (Caller 0) y x)) (sym own.0) (at_on a.1.0 (hand u) h y x a.1.1) in
+      (a.0, subst (λ (z : Party). Stands (hand v) (next_of h z y x)) (sym a.0) (a.1.0, on))

@@ -1,5 +1,5 @@
 -- What an outside caller has for the time of one call, and what each act of the call does to it.
-use Rattle.std.specs.Prelude.{◌≡◌, ℕ, ◌≤◌, ◌++◌, [], ◌∷◌, Bool, true, false, Option, None, Some}
+use Rattle.std.specs.Prelude.{◌≡◌, ℕ, ◌≤◌, ◌++◌, [], ◌∷◌, Bool, true, false, if◌then◌else◌, Option, None, Some}
 use Rattle.rayon_machine_places.specs.declared.place.Count.TheVariants.{OfPool}
 use Rattle.rayon_machine_places.specs.declared.place.Party.TheVariants.{Caller}
 use Rattle.rayon_machine_places.specs.declared.place.OpenCall.{OpenCall}
@@ -14,18 +14,23 @@ use Rattle.rayon_machine_places.specs.declared.act.Seen.{Seen}
 use Rattle.rayon_machine_places.specs.declared.act.Seen.TheVariants.{Done, Missing, Found, Yes}
 use Rattle.rayon_drive.specs.declared.trace.Log.{Log}
 use Rattle.rayon_queues.specs.Deques.{Visitor, visitor}
-use Rattle.rayon_tasks.specs.Tasks.{TaskOf}
+use Rattle.rayon_atomics.specs.declared.views.Teller.{Teller}
+use Rattle.rayon_tasks.specs.Tasks.{TaskOf, OneJob, TwoSides}
 use Rattle.rayon_tasks.specs.Tickets.{TicketOf}
 use Rattle.rayon_jobs.specs.Within.{Run}
+use Rattle.rayon_performers.specs.declared.load.Load.{Load}
+use Rattle.rayon_performers.specs.declared.load.Load.TheVariants.{Job, Sides, Detached}
 use Rattle.rayon_performers.specs.Hands.{HasResult}
 use Rattle.rayon_performers.specs.Marks.{GivesUnit, Marks, MissesUnit, SetBy, TakesUnit}
 
--- what an outside caller has: the pool's shape; its pass of the injector; the ticket of its call, and where two
--- sides are sent that of the first one's cell; the results that were found in the cells of the two; whether it
--- holds a unit of the terminate count; its seat of that count, and the one by which it set a latch last; and what it did
+-- what an outside caller has: the pool's shape; its pass of the injector; what its call queues, until it is queued; the
+-- ticket of its call, and where two sides are sent that of the first one's cell; the results that were found in the cells of
+-- the two; whether it holds a unit of the terminate count; its seat of that count, and the one by which it set a latch last;
+-- and what it did
 pub record Visit (X G O F : Type 0) : Type 0 where
   pub shape : PoolShape
   pub inlet : Visitor (TaskOf X)
+  pub load : Option (Load X G O F)
   pub call : Option TicketOf
   pub first : Option TicketOf
   pub done : Option (Run G O F)
@@ -33,6 +38,14 @@ pub record Visit (X G O F : Type 0) : Type 0 where
   pub holds : Bool
   pub marks : Marks
   pub trace : Log
+
+-- what of it the places ask
+pub record Hand (X G O F : Type 0) : Type 0 where
+  pub inlet : Visitor (TaskOf X)
+  pub load : Option (Load X G O F)
+  pub call : Option TicketOf
+  pub first : Option TicketOf
+  pub holds : Bool
 
 -- the ticket of an outside caller's call of this name
 abbrev pub ticket_of : ℕ → TicketOf
@@ -50,15 +63,25 @@ call_of n = record { number = n; pool = 0; job = n }
 abbrev pub plan_of : ℕ → Plan
 plan_of n = Send (call_of n)
 
--- no ticket, or one of this call
-abbrev pub MayHave : Option TicketOf → ℕ → Type 0
-MayHave None n = Unit {0}
-MayHave (Some u) n = u ≡ ticket_of n
-
 -- of the latches a caller sets the workers' terminate latches alone
 abbrev pub IsTerminate : Latch → Type 0
 IsTerminate Terminate = Unit {0}
 IsTerminate (OfCall c) = ⊥
+
+-- this where the act was done, else that
+abbrev pub if_done : {A : Type 0} → Seen → A → A → A
+if_done Done new old = new
+if_done _ new old = old
+
+-- a unit is taken where none was held, or was refused
+abbrev pub Raises : Seen → Bool → Teller → Teller → Type 0
+Raises Done b v w = TakesUnit true v w × (b ≡ false)
+Raises _ b v w = MissesUnit true v w
+
+-- the unit that was held is given back, which was the pool's last or not
+abbrev pub Lowers : Seen → Bool → Teller → Teller → Type 0
+Lowers Yes b v w = GivesUnit true true v w × (b ≡ true)
+Lowers _ b v w = GivesUnit true false v w × (b ≡ true)
 
 module _ {G O F : Type 0} where
   -- a result of the first side is found only where two sides were sent
@@ -66,15 +89,59 @@ module _ {G O F : Type 0} where
   FirstFound None (Some r) = ⊥
   FirstFound t r = Unit {0}
 
+  -- what the call's cell gave is found, and it ended so; or the cell was empty. The first side's cell is looked into too
+  abbrev pub Takes : Seen → Option TicketOf → Option (Run G O F) → Option (Run G O F) → Type 0
+  Takes (Found e) f d r = HasResult d (Some e) × FirstFound f r
+  Takes Missing f d r = (d ≡ None) × FirstFound f r
+  Takes _ f d r = ⊥
+
 module _ {X : Type 0} where
   -- the pass with this task more at the end of what it pushed
   abbrev pub with_pushed : Visitor (TaskOf X) → TaskOf X → Visitor (TaskOf X)
   with_pushed v x = visitor v.injector (v.pushed ++ x ∷ []) v.taken
 
 module _ {X G O F : Type 0} where
-  -- what an act asks. What a call queues is pushed by the call itself, and no act of a drive does so; the other
-  -- acts that stand under ⊥ are no caller's
-  abbrev pub Needs : Act → Visit X G O F → Type 0
+  -- the task of a load in the call of this name
+  abbrev pub task_in : ℕ → Load X G O F → TaskOf X
+  task_in n (Job j) = record { work = OneJob j; injected = true; ticket = ticket_of n }
+  task_in n (Sides a b) = record { work = TwoSides a b (ticket_of n); injected = true; ticket = ticket_of n }
+  task_in n (Detached j k) = record { work = OneJob j; injected = true; ticket = k }
+
+  -- the load of a task
+  abbrev pub load_in : TaskOf X → Load X G O F
+  load_in t = elim t.work [ OneJob j ↦ (if t.ticket.detached then Detached j t.ticket else Job j) | TwoSides a b k ↦ Sides a b ]
+
+  -- the pass once the load was pushed, if there was one
+  abbrev pub sent : ℕ → Option (Load X G O F) → Visitor (TaskOf X) → Visitor (TaskOf X)
+  sent n None v = v
+  sent n (Some w) v = with_pushed v (task_in n w)
+
+  -- the ticket to whose cell the first side's result goes, where there are two
+  abbrev pub first_of : ℕ → Option (Load X G O F) → Option TicketOf
+  first_of n (Some (Sides a b)) = Some (ticket_of n)
+  first_of n _ = None
+
+  -- whether the caller still holds a unit once the load was pushed: that of a detached job goes with the job
+  abbrev pub unit_after : Option (Load X G O F) → Bool → Bool
+  unit_after (Some (Detached j k)) b = false
+  unit_after _ b = b
+
+  -- the load and the tickets of its results are in hand
+  abbrev pub Packed : ℕ → Option (Load X G O F) → Option TicketOf → Option TicketOf → Type 0
+  Packed n None k f = ⊥
+  Packed n (Some (Job j)) k f = k ≡ Some (ticket_of n)
+  Packed n (Some (Sides a b)) k f = (k ≡ Some (ticket_of n)) × (f ≡ Some (ticket_of n))
+  Packed n (Some (Detached j t)) k f = t.detached ≡ true
+
+  abbrev pub hand : Visit X G O F → Hand X G O F
+  hand s = record { inlet = s.inlet; load = s.load; call = s.call; first = s.first; holds = s.holds }
+
+  -- what an act asks. The acts that stand under ⊥ are no caller's
+  abbrev pub Needs : Act → Hand X G O F → Type 0
+  Needs (acts.Raise (OfPool p) n) s = (p ≡ 0) × (s.holds ≡ false)
+  Needs (acts.Grow c) s = Unit {0}
+  Needs (acts.LookInj p) s = p ≡ 0
+  Needs (acts.PushInj p n b) s = (p ≡ 0) × (b ≡ None) × Packed n s.load s.call s.first
   Needs (acts.News p e) s = p ≡ 0
   Needs (acts.Lock p i) s = p ≡ 0
   Needs (acts.Wake p i) s = p ≡ 0
@@ -85,61 +152,41 @@ module _ {X G O F : Type 0} where
   Needs (acts.Set l p i) s = (p ≡ 0) × IsTerminate l
   Needs _ s = ⊥
 
-  -- nothing was done but that the trace is another
-  abbrev pub Same : Visit X G O F → Visit X G O F → Type 0
-  Same s t = t ≡ record s { trace = t.trace }
+  -- what an act leaves in hand: a unit is taken or given back, tickets are made, the load is pushed
+  abbrev pub after : Act → Seen → Hand X G O F → Hand X G O F
+  after (acts.Raise c n) x s = record s { holds = if_done x true s.holds }
+  after (acts.Grow c) x s = record s { call = if_done x (Some (ticket_of c)) s.call; first = if_done x (first_of c s.load) s.first }
+  after (acts.PushInj p n b) x s = record s { inlet = if_done x (sent n s.load s.inlet) s.inlet; load = if_done x None s.load; holds = if_done x (unit_after s.load s.holds) s.holds }
+  after (acts.Lower c b) x s = record s { holds = false }
+  after _ x s = s
 
-  -- nothing was done but steps of its seat of the terminate count, and the trace is another
-  abbrev pub Recounts : Bool → Visit X G O F → Visit X G O F → Type 0
-  Recounts b s t = t ≡ record s { holds = b; marks = record { set = s.marks.set; count = t.marks.count }; trace = t.trace }
-
-  -- a unit of the terminate count is taken where none was held, or was refused
-  abbrev pub Raises : Seen → Visit X G O F → Visit X G O F → Type 0
-  Raises Done s t = Recounts true s t × TakesUnit true s.marks.count t.marks.count × (s.holds ≡ false)
-  Raises _ s t = Recounts s.holds s t × MissesUnit true s.marks.count t.marks.count
-
-  -- the unit that was held is given back, which was the pool's last or not
-  abbrev pub Lowers : Seen → Visit X G O F → Visit X G O F → Type 0
-  Lowers Yes s t = Recounts false s t × GivesUnit true true s.marks.count t.marks.count × (s.holds ≡ true)
-  Lowers _ s t = Recounts false s t × GivesUnit true false s.marks.count t.marks.count × (s.holds ≡ true)
+  -- what it finds
+  abbrev pub Finds : Act → Seen → Visit X G O F → Visit X G O F → Type 0
+  Finds (acts.Take c) x s t = Takes x s.first t.done t.first_done
+  Finds _ x s t = (t.done ≡ s.done) × (t.first_done ≡ s.first_done)
 
   -- a worker's terminate latch is set, by the one step that makes a seat of it; its owner slept or not. Or the pool has no
   -- such worker
   abbrev pub Sets : ℕ → Seen → Visit X G O F → Visit X G O F → Type 0
-  Sets i Yes s t = (t ≡ record s { marks = record { set = t.marks.set; count = s.marks.count }; trace = t.trace }) × SetBy (s.shape.workers ≤ i) true t.marks.set
-  Sets i _ s t = (t ≡ record s { marks = record { set = t.marks.set; count = s.marks.count }; trace = t.trace }) × SetBy (s.shape.workers ≤ i) false t.marks.set
+  Sets i Yes s t = SetBy (s.shape.workers ≤ i) true t.marks.set
+  Sets i _ s t = SetBy (s.shape.workers ≤ i) false t.marks.set
 
-  -- the ticket of the call was made, and where two sides are sent one for the first one's result; or they were
-  -- refused
-  abbrev pub Grows : ℕ → Seen → Visit X G O F → Visit X G O F → Type 0
-  Grows c Done s t = (t.call ≡ Some (ticket_of c)) × MayHave t.first c × (t ≡ record s { call = t.call; first = t.first; trace = t.trace })
-  Grows c _ s t = Same s t
+  -- what it does to the seats. There is no other act of a caller
+  abbrev pub Marked : Act → Seen → Visit X G O F → Visit X G O F → Type 0
+  Marked (acts.Raise (OfPool p) n) x s t = (t.marks.set ≡ s.marks.set) × Raises x s.holds s.marks.count t.marks.count
+  Marked (acts.Lower (OfPool p) b) x s t = (t.marks.set ≡ s.marks.set) × Lowers x s.holds s.marks.count t.marks.count
+  Marked (acts.Set l p i) x s t = (t.marks.count ≡ s.marks.count) × Sets i x s t
+  Marked (acts.Grow c) x s t = t.marks ≡ s.marks
+  Marked (acts.LookInj p) x s t = t.marks ≡ s.marks
+  Marked (acts.PushInj p n None) x s t = t.marks ≡ s.marks
+  Marked (acts.News p e) x s t = t.marks ≡ s.marks
+  Marked (acts.Lock p i) x s t = t.marks ≡ s.marks
+  Marked (acts.Wake p i) x s t = t.marks ≡ s.marks
+  Marked (acts.Unlock p i) x s t = t.marks ≡ s.marks
+  Marked (acts.LockWait c) x s t = t.marks ≡ s.marks
+  Marked (acts.Take c) x s t = t.marks ≡ s.marks
+  Marked _ x s t = ⊥
 
-  -- one task was pushed, with a share of the call's ticket, and stands last in what the pass pushed; or it was
-  -- refused and none was
-  abbrev pub Sends : ℕ → Seen → Visit X G O F → Visit X G O F → Type 0
-  Sends n Done s t = (x : TaskOf X) × (x.injected ≡ true) × (x.ticket ≡ ticket_of n) × (t ≡ record s { inlet = with_pushed s.inlet x; trace = t.trace })
-  Sends n _ s t = Same s t
-
-  -- what the call's cell gave is in hand, and it ended so; or the cell was empty. The first side's cell is
-  -- looked into too
-  abbrev pub Takes : Seen → Visit X G O F → Visit X G O F → Type 0
-  Takes (Found e) s t = HasResult t.done (Some e) × FirstFound s.first t.first_done × (t ≡ record s { done = t.done; first_done = t.first_done; trace = t.trace })
-  Takes Missing s t = FirstFound s.first t.first_done × (t ≡ record s { done = None; first_done = t.first_done; trace = t.trace })
-  Takes _ s t = ⊥
-
-  -- what each act of a caller does. There is no other
+  -- what each act of a caller does
   abbrev pub Does : Act → Seen → Visit X G O F → Visit X G O F → Type 0
-  Does (acts.Raise (OfPool p) n) x s t = Raises x s t
-  Does (acts.Grow c) x s t = Grows c x s t
-  Does (acts.LookInj p) x s t = Same s t
-  Does (acts.PushInj p n None) x s t = Sends n x s t
-  Does (acts.News p e) x s t = Same s t
-  Does (acts.Lock p i) x s t = Same s t
-  Does (acts.Wake p i) x s t = Same s t
-  Does (acts.Unlock p i) x s t = Same s t
-  Does (acts.LockWait c) x s t = Same s t
-  Does (acts.Take c) x s t = Takes x s t
-  Does (acts.Lower (OfPool p) b) x s t = Lowers x s t
-  Does (acts.Set l p i) x s t = Sets i x s t
-  Does _ x s t = ⊥
+  Does a x s t = (hand t ≡ after a x (hand s)) × (t.shape ≡ s.shape) × Finds a x s t × Marked a x s t

@@ -1,4 +1,5 @@
 //! What stands for a pool on any thread, and the calls that are made on it from outside.
+ghost use Rattle.rayon_performers.specs.Visits.{plan_of};
 ghost use Rattle.rayon_registry.specs.Answers.{joined_pair, InstallAnswers, JoinAnswers};
 ghost use Rattle.std.specs.Arc.{arc_value};
 ghost use Rattle.std.specs.Prelude.{◌≡◌, ◌⊎◌, ◌<◌, ℕ, Result, Ok, Err, IfOk, IfErr};
@@ -8,8 +9,9 @@ use crate::faults::SharedFaults;
 use crate::ids::PoolId;
 use crate::pool_parts::{faults_of, shared_of};
 use rayon_jobs::{JobKind, Lost, claimed};
-use rayon_performers::Guest;
-use rayon_tasks::Task;
+use rayon_machine_places::place::{OpenCall, Party, Plan};
+use rayon_performers::{Guest, Load};
+use rayon_tasks::{Task, Ticket};
 use rayon_words::{CallError, Refusal};
 use std::alloc::Global;
 use std::marker::Model;
@@ -103,9 +105,10 @@ impl<J: JobKind> PoolRef<J> {
         };
         let tag = job.tag();
         let mut guest = Guest::new(&*self.pool.shared);
-        match guest.send(rt, alloc, name, job) {
-            Ok(found) => install_answer(claimed(found, &tag)),
-            Err((refusal, job)) => Err(CallError::Refused(refusal, job)),
+        match guest.call(rt, alloc, send(name), Load::Job(job)) {
+            Ok((_, found)) => install_answer(claimed(found, &tag)),
+            Err((refusal, Load::Job(job))) => Err(CallError::Refused(refusal, job)),
+            Err(_) => unreachable!(),
         }
     }
 
@@ -119,8 +122,16 @@ impl<J: JobKind> PoolRef<J> {
         let Some(name) = self.pool.shared.caller_name(rt) else {
             return Err((Refusal::Full, job));
         };
+        let Ok(ticket) = Ticket::of_detached(alloc, Party::Caller(0), name) else {
+            return Err((Refusal::NoRoom, job));
+        };
+        let plan = Plan::Detach { pool: 0, job: name };
         let mut guest = Guest::new(&*self.pool.shared);
-        guest.spawn(rt, alloc, name, job)
+        match guest.call(rt, alloc, plan, Load::Detached(job, ticket)) {
+            Ok(_) => Ok(()),
+            Err((refusal, Load::Detached(job, _))) => Err((refusal, job)),
+            Err(_) => unreachable!(),
+        }
     }
 
     /// The first fault of a detached job since this was asked last, and how many there were; that number stops at 2^64 - 1.
@@ -151,11 +162,12 @@ impl<J: JobKind> PoolRef<J> {
         };
         let tags = (a.tag(), b.tag());
         let mut guest = Guest::new(&*self.pool.shared);
-        match guest.send_pair(rt, alloc, name, a, b) {
+        match guest.call(rt, alloc, send(name), Load::Sides(a, b)) {
             Ok((first, second)) => {
                 pair_answer(claimed(first, &tags.0), claimed(second, &tags.1))
             }
-            Err((refusal, sides)) => Err(CallError::Refused(refusal, sides)),
+            Err((refusal, Load::Sides(a, b))) => Err(CallError::Refused(refusal, (a, b))),
+            Err(_) => unreachable!(),
         }
     }
 
@@ -173,6 +185,17 @@ impl<J: JobKind> PoolRef<J> {
     {
         self.join(rt, alloc, a, b)
     }
+}
+
+// The plan of the call that sends the work of this name.
+fn send(name: u64) -> Plan
+    ensures { result ≡ plan_of name }
+{
+    Plan::Send(OpenCall {
+        number: name,
+        pool: 0,
+        job: name,
+    })
 }
 
 // What a join that was sent to a pool answers: whatever is wrong with the first side's result comes first.

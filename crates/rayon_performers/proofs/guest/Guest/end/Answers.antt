@@ -9,4 +9,4 @@ use Rattle.rayon_performers.proofs.guest.Guest.end.Goals as goal
 
 pub returns-clause-path : goal.returns-clause-path
 returns-clause-path g c =
-    subst (λ v. So v.shape (Stay (at.LowerCount (OfPool 0) PoolValue Resume)) (record v { holds = true }) Back c.drive.new.self) c.self.view_is c.drive.ensures.path
+    subst (λ v. So v.shape (Stay (at.LowerCount (OfPool 0) PoolValue Resume)) (record v { holds = true }) Back c.drive.new.self) c.self.view_is c.in-Back.ensures.path

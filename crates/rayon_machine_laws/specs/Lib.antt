@@ -1,6 +1,7 @@
 pub mod Once
 pub mod Fixed
 pub mod Committed
+pub mod Seats
 pub mod Attended
 pub mod Leavers
 pub mod Turn

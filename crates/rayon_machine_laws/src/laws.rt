@@ -5,6 +5,7 @@ ghost use Rattle.rayon_machine_laws.specs.Counted.{ScopesCounted};
 ghost use Rattle.rayon_machine_laws.specs.Fixed.{FixedLaw};
 ghost use Rattle.rayon_machine_laws.specs.Latch.{IsGathered, IsLatched, IsSetOnce, SetLaw};
 ghost use Rattle.rayon_machine_laws.specs.Once.{IsBound, IsOnce, IsRedeemed};
+ghost use Rattle.rayon_machine_laws.specs.Seats.{IsSeated};
 
 /// In every world of every run each number that was given out is a job or a token, and its record says where it is. Its
 /// run has begun at most once: a job that is over has run once, and one that was made, queued or handed back has not
@@ -57,8 +58,12 @@ pub fn law_scope()
 
 /// In every world of every run each sleeping worker is inactive, and each worker that is about to block itself or is
 /// blocked is counted as sleeping, and holds its own sleep lock unless it is blocked.
+/// A worker is inactive exactly where it stands in its search, from the act by which it becomes inactive to the one by
+/// which it leaves; it counts as sleeping exactly from its TryAdd to the act that takes it out, and while it is blocked;
+/// and it is blocked only where it is to take its own lock again (`seated`).
 pub fn law_sleep()
     ensures inactive { Always SleepersAreInactive }
     ensures asleep { Always CommittedSleep }
     ensures held { Always CommittedHold }
+    ensures seated { Always IsSeated }
 {}

@@ -1,5 +1,5 @@
 use Rattle.rayon_machine_laws.proofs.Events.{always_seats}
-use Rattle.rayon_machine_laws.proofs.Sleepers.{sleeper, committed_sleeps, committed_holds}
+use Rattle.rayon_machine_laws.proofs.Sleepers.{sleeper, committed_sleeps, committed_holds, seated}
 use Rattle.rayon_machine_laws.proofs.Seats.{mode}
 use Rattle.rayon_machine_places.specs.declared.place.Party.TheVariants.{Worker}
 use Rattle.rayon_machine_laws.proofs.laws.law_sleep.Goals as goal
@@ -12,3 +12,6 @@ returns-clause-asleep c h es w r p i = committed_sleeps w p i (always_seats h es
 
 pub returns-clause-held : goal.returns-clause-held
 returns-clause-held c h es w r p i = committed_holds w p i (always_seats h es w r)
+
+pub returns-clause-seated : goal.returns-clause-seated
+returns-clause-seated c h es w r = seated w (always_seats h es w r)

@@ -6,6 +6,8 @@ pub mod Events
 pub mod Sleepers
 pub mod Vectors
 pub mod Tops
+pub mod Posts
+pub mod PostEvents
 pub mod Locks
 pub mod Holding
 pub mod Calm
@@ -44,6 +46,7 @@ pub mod Setters
 pub mod SetterActs
 pub mod SetterEvents
 pub mod SetLaws
+pub mod Stops
 pub mod Amounts
 pub mod Raises
 pub mod Raisers

@@ -2,6 +2,8 @@ pub mod Once
 pub mod Fixed
 pub mod Committed
 pub mod Seats
+pub mod Letters
+pub mod Holders
 pub mod Attended
 pub mod Leavers
 pub mod Turn

@@ -4,6 +4,7 @@ ghost use Rattle.rayon_machine_laws.specs.Committed.{CommittedHold, CommittedSle
 ghost use Rattle.rayon_machine_laws.specs.Counted.{ScopesCounted};
 ghost use Rattle.rayon_machine_laws.specs.Fixed.{FixedLaw};
 ghost use Rattle.rayon_machine_laws.specs.Latch.{IsGathered, IsLatched, IsSetOnce, SetLaw};
+ghost use Rattle.rayon_machine_laws.specs.Letters.{StopsOnSet};
 ghost use Rattle.rayon_machine_laws.specs.Once.{IsBound, IsOnce, IsRedeemed};
 ghost use Rattle.rayon_machine_laws.specs.Seats.{IsSeated};
 
@@ -61,9 +62,12 @@ pub fn law_scope()
 /// A worker is inactive exactly where it stands in its search, from the act by which it becomes inactive to the one by
 /// which it leaves; it counts as sleeping exactly from its TryAdd to the act that takes it out, and while it is blocked;
 /// and it is blocked only where it is to take its own lock again (`seated`).
+/// A worker stops only once its terminate latch is set, and leaves its search without a task only once the latch that it
+/// waits for is set (`stops`).
 pub fn law_sleep()
     ensures inactive { Always SleepersAreInactive }
     ensures asleep { Always CommittedSleep }
     ensures held { Always CommittedHold }
     ensures seated { Always IsSeated }
+    ensures stops { Always StopsOnSet }
 {}

@@ -1,6 +1,7 @@
 use Rattle.rayon_machine_laws.proofs.Events.{always_seats}
 use Rattle.rayon_machine_laws.proofs.Sleepers.{sleeper, committed_sleeps, committed_holds, seated}
 use Rattle.rayon_machine_laws.proofs.Seats.{mode}
+use Rattle.rayon_machine_laws.proofs.Stops.{always_stops, stops_on_set}
 use Rattle.rayon_machine_places.specs.declared.place.Party.TheVariants.{Worker}
 use Rattle.rayon_machine_laws.proofs.laws.law_sleep.Goals as goal
 
@@ -15,3 +16,6 @@ returns-clause-held c h es w r p i = committed_holds w p i (always_seats h es w 
 
 pub returns-clause-seated : goal.returns-clause-seated
 returns-clause-seated c h es w r = seated w (always_seats h es w r)
+
+pub returns-clause-stops : goal.returns-clause-stops
+returns-clause-stops c h es w r = stops_on_set w (always_stops h es w r)

@@ -47,6 +47,7 @@ pub mod SetterActs
 pub mod SetterEvents
 pub mod SetLaws
 pub mod Stops
+pub mod Lettered
 pub mod Amounts
 pub mod Raises
 pub mod Raisers

@@ -137,6 +137,10 @@ act_kinds w q k r f t = after_kind q (next_at w q k (r.0)) (put w.job (job_at w 
 act_grown : (w : World) (q : Party) (k : Stack) (r : Seen × Part) → Fixed (part_at w q k) r → Grown w (result w q k r)
 act_grown w q k r f = record { calls = omega arith; call = λ c l. act_calls w q k r f c; kind = λ t l. act_kinds w q k r f t }
 
+pub go_grown : (w : World) (q : Party) → IfSome (outcome w q (w.stack q)) (λ r. Grown w (result w q (w.stack q) r))
+go_grown w q = if_some_map (Fixed (part_at w q (w.stack q))) (λ r. Grown w (result w q (w.stack q) r)) (λ r f. act_grown w q (w.stack q) r f) (outcome w q (w.stack q))
+    (act_fixed w.shape q (counts_seen w q (w.stack q)) (part_at w q (w.stack q)) (w.stack q).top)
+
 abbrev pub number_of : Option (ℕ × Party) → ℕ
 number_of None = 0
 number_of (Some a) = a.0

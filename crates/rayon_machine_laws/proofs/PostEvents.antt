@@ -1,6 +1,6 @@
 -- what an event that is no act leaves of letters, locks and books, and that each stack has its bottom
 use Rattle.std.proofs.Common.{arith, refl, ◌∙◌, sym, ap, subst, inl, inr}
-use Rattle.std.specs.Prelude.{ℕ, Bool, true, false, ◌&&◌, ◌+◌, ◌-◌, ◌==◌, ◌≤◌, nat_lt, if◌then◌else◌, Option, Some, None, ◌≡◌, ◌⊎◌, IfSome, ⊤, List, [], ◌∷◌}
+use Rattle.std.specs.Prelude.{ℕ, Bool, true, false, ◌&&◌, ◌+◌, ◌-◌, ◌==◌, ◌≤◌, ◌<◌, nat_lt, if◌then◌else◌, Option, Some, None, ◌≡◌, ◌⊎◌, IfSome, ⊤, List, [], ◌∷◌}
 use Rattle.std.proofs.lemmas.Bool.{eqb-true}
 use Rattle.rayon_machine_places.specs.declared.place.Party.{Party}
 use Rattle.rayon_machine_places.specs.declared.place.Party.TheVariants.{Worker, Caller}
@@ -36,6 +36,7 @@ use Rattle.rayon_machine_places.specs.Runs.{first_place}
 use Rattle.rayon_machine_laws.specs.Letters.{letter_for}
 use Rattle.rayon_machine_laws.specs.Holders.{locks_at, book_at}
 use Rattle.rayon_machine_laws.proofs.Frame.{and_parts, either, fifo_cases, if_cond, into_cases, into_fifo_cases, into_cast_cases, put_old}
+use Rattle.rayon_machine_laws.proofs.Owners.{own_call}
 use Rattle.rayon_machine_laws.proofs.Posts.{Letters, Saids, Locking, Mild, Passes, Steers, is_base, is_booked, is_live, set_at, has, probes_here}
 
 -- the frames of a stack
@@ -108,6 +109,16 @@ Same x y = Letters x y × Saids x y × Locking x y × (book_at y ≡ book_at x) 
 mild_same : (x y : Place) → Mild x → Mild y → Same x y
 mild_same x y a m = (λ l. m.0 l ∙ sym (a.0 l), λ l e. absurd (let z : None ≡ Some l = sym (m.1) ∙ e in cc), λ q p i. m.2 q p i ∙ sym (a.2 q p i), m.3 ∙ sym (a.3), m.4)
 
+-- the calls that are there now and were not: the one that the party begins
+abbrev NewCalls : ℕ → ℕ → Place → Type 0
+NewCalls m n y = (m ≤ n) × ((c : ℕ) → m ≤ c → c < n → own_call y ≡ Some c)
+
+no_new : (n : ℕ) (y : Place) → NewCalls n n y
+no_new n y = (omega arith, λ c a b. absurd (omega (arith, a, b)))
+
+one_new : (n : ℕ) (y : Place) → own_call y ≡ Some n → NewCalls n (n + 1) y
+one_new n y e = (omega arith, λ c a b. (let s : n ≡ c = omega (arith, a, b) in e ∙ ap Some s))
+
 -- an event that is no act: one party's stack is another, no seat is, and no call that was there
 pub record Turned (w u : World) : Type 0 where
   pub party : Party
@@ -117,6 +128,7 @@ pub record Turned (w u : World) : Type 0 where
   pub seat : (p i : ℕ) → u.seat p i ≡ w.seat p i
   pub same : Based (w.stack party) → Same (w.stack party).top to.top
   pub based : Based (w.stack party) → Based to
+  pub calls : NewCalls w.calls u.calls to.top
   pub call : (c : ℕ) → (u.call c ≡ w.call c) ⊎ ((w.calls ≤ c) × ((u.call c).latch ≡ Unset) × ((u.call c).writer ≡ None))
 
 -- from one place to another
@@ -129,6 +141,7 @@ turn_at w q x y fs z s b = record {
   seat = λ p i. refl;
   same = λ k. subst (λ v. Same (v.top) y) (sym z) s;
   based = λ k. (let a : Based (record { top = x; below = fs }) = subst Based z k in (a.0, based_on x y fs b (a.1)));
+  calls = no_new w.calls y;
   call = λ c. inl refl;
 }
 
@@ -232,6 +245,7 @@ end_turns w q d (Run t k) fs z = record {
   seat = λ p i. refl;
   same = λ b. (let a : Mild (after_close t k d fs).top × Based (after_close t k d fs) = closed t k d fs (subst Based z b) in subst (λ v. Same (v.top) (after_close t k d fs).top) (sym z) (mild_same (Run t k) (after_close t k d fs).top (λ l. refl, refl, λ r p i. refl, refl, refl) (a.0)));
   based = λ b. (closed t k d fs (subst Based z b)).1;
+  calls = no_new w.calls (after_close t k d fs).top;
   call = λ c. inl refl;
 }
 end_turns w q d _ fs z = tt
@@ -242,9 +256,10 @@ free_live Free e = refl
 free_live _ e = cc
 
 -- a call begins above a free place
-begin_turns : (w u : World) (q : Party) (y : Place) → is_free (w.stack q).top ≡ true → u.shape ≡ w.shape → ((r : Party) → u.stack r ≡ put_stack w.stack q (after_call (w.stack q) y) r) → ((p i : ℕ) → u.seat p i ≡ w.seat p i) → Mild y →
+begin_turns : (w u : World) (q : Party) (y : Place) → is_free (w.stack q).top ≡ true → u.shape ≡ w.shape → ((r : Party) → u.stack r ≡ put_stack w.stack q (after_call (w.stack q) y) r) → ((p i : ℕ) → u.seat p i ≡ w.seat p i) → Mild y
+    → (u.calls ≡ w.calls) ⊎ ((u.calls ≡ w.calls + 1) × (own_call y ≡ Some w.calls)) →
     ((c : ℕ) → (u.call c ≡ w.call c) ⊎ ((w.calls ≤ c) × ((u.call c).latch ≡ Unset) × ((u.call c).writer ≡ None))) → Turned w u
-begin_turns w u q y f h s c m n = record {
+begin_turns w u q y f h s c m l n = record {
   party = q;
   to = after_call (w.stack q) y;
   shape = h;
@@ -252,6 +267,7 @@ begin_turns w u q y f h s c m n = record {
   seat = c;
   same = λ b. mild_same (w.stack q).top y (live_mild (w.stack q).top (free_live (w.stack q).top f)) m;
   based = λ b. ((free_live (w.stack q).top f, b.0), b.1);
+  calls = elim l [ inl e ↦ subst (λ n. NewCalls w.calls n y) (sym e) (no_new w.calls y) | inr e ↦ subst (λ n. NewCalls w.calls n y) (sym (e.0)) (one_new w.calls y (e.1)) ];
   call = n;
 }
 
@@ -265,30 +281,31 @@ new_turns w v a b c = by (c == w.calls) refl
 
 spawn_turns : (w : World) (q : Party) (p : ℕ) → IfSome (after_spawn w q p (w.stack q)) (Turned w)
 spawn_turns w q p = if_cond (Turned w) (is_free ((w.stack q).top) && is_pool w.shape p) _
-    (λ b. begin_turns w _ q (RaiseCount (Detach p w.jobs)) ((and_parts (is_free ((w.stack q).top)) (is_pool w.shape p) b).0) refl (λ r. refl) (λ p i. refl) (λ l. refl, refl, λ r p i. refl, refl, refl) (λ c. inl refl))
+    (λ b. begin_turns w _ q (RaiseCount (Detach p w.jobs)) ((and_parts (is_free ((w.stack q).top)) (is_pool w.shape p) b).0) refl (λ r. refl) (λ p i. refl) (λ l. refl, refl, λ r p i. refl, refl, refl) (inl refl) (λ c. inl refl))
 
 deal_turns : (w : World) (q : Party) (k : Count) (p : ℕ) → is_free ((w.stack q).top) ≡ true → Turned w (after_deal w q k p (w.stack q))
-deal_turns w q k p e = begin_turns w (after_deal w q k p (w.stack q)) q (RaiseForAll (record { count = k; pool = p; first = w.jobs; workers = (w.shape.pool p).workers })) e refl (λ r. refl) (λ p i. refl) (λ l. refl, refl, λ r p i. refl, refl, refl) (λ c. inl refl)
+deal_turns w q k p e = begin_turns w (after_deal w q k p (w.stack q)) q (RaiseForAll (record { count = k; pool = p; first = w.jobs; workers = (w.shape.pool p).workers })) e refl (λ r. refl) (λ p i. refl) (λ l. refl, refl, λ r p i. refl, refl, refl) (inl refl) (λ c. inl refl)
 
 feed_turns : (w : World) (k : Count) (p i : ℕ) → is_free ((w.stack (Worker p i)).top) ≡ true → Turned w (after_feed w k p i (w.stack (Worker p i)))
-feed_turns w k p i free = begin_turns w (after_feed w k p i (w.stack (Worker p i))) (Worker p i) (RaiseCount (Feed (record { count = k; pool = p; job = w.jobs; token = w.jobs + 1 }))) free refl (λ r. refl) (λ p i. refl) (λ l. refl, refl, λ r p i. refl, refl, refl) (λ c. inl refl)
+feed_turns w k p i free = begin_turns w (after_feed w k p i (w.stack (Worker p i))) (Worker p i) (RaiseCount (Feed (record { count = k; pool = p; job = w.jobs; token = w.jobs + 1 }))) free refl (λ r. refl) (λ p i. refl) (λ l. refl, refl, λ r p i. refl, refl, refl) (inl refl) (λ c. inl refl)
 
 sent_turns : (w : World) (q : Party) (p : ℕ) (b : Bool) → is_free ((w.stack q).top) ≡ true → Turned w (after_send w q p (w.stack q) b)
-sent_turns w q p true e = begin_turns w (after_send w q p (w.stack q) true) q (RaiseCount (Here p w.jobs)) e refl (λ r. refl) (λ p i. refl) (λ l. refl, refl, λ r p i. refl, refl, refl) (λ c. inl refl)
-sent_turns w q p false e = begin_turns w (after_send w q p (w.stack q) false) q (RaiseCount (Send (record { number = w.calls; pool = p; job = w.jobs }))) e refl (λ r. refl) (λ p i. refl) (λ l. refl, refl, λ r p i. refl, refl, refl) (new_turns w (new_call None w.jobs) refl refl)
+sent_turns w q p true e = begin_turns w (after_send w q p (w.stack q) true) q (RaiseCount (Here p w.jobs)) e refl (λ r. refl) (λ p i. refl) (λ l. refl, refl, λ r p i. refl, refl, refl) (inl refl) (λ c. inl refl)
+sent_turns w q p false e = begin_turns w (after_send w q p (w.stack q) false) q (RaiseCount (Send (record { number = w.calls; pool = p; job = w.jobs }))) e refl (λ r. refl) (λ p i. refl) (λ l. refl, refl, λ r p i. refl, refl, refl) (inr (refl, refl)) (new_turns w (new_call None w.jobs) refl refl)
 
 enter_turns : (w : World) (q : Party) (z : Scope) → is_free ((w.stack q).top) ≡ true → IfSome (after_enter w q (w.stack q) (Some z)) (Turned w)
 enter_turns w q z free = if_cond (Turned w) (is_free ((w.stack q).top) && holds z.call (w.stack q)) _
-    (λ b. begin_turns w _ q (RaiseCount (Enter (record { call = z.call; owner = z.owner; pool = z.pool; job = w.jobs }))) free refl (λ r. refl) (λ p i. refl) (λ l. refl, refl, λ r p i. refl, refl, refl) (λ c. inl refl))
+    (λ b. begin_turns w _ q (RaiseCount (Enter (record { call = z.call; owner = z.owner; pool = z.pool; job = w.jobs }))) free refl (λ r. refl) (λ p i. refl) (λ l. refl, refl, λ r p i. refl, refl, refl) (inl refl) (λ c. inl refl))
 
 scope_turns : (w : World) (q : Party) (p : ℕ) → IfSome (after_scope w q p (w.stack q)) (Turned w)
 scope_turns w q p = if_cond (Turned w) (is_free ((w.stack q).top) && is_pool w.shape p) _
-    (λ b. begin_turns w _ q (RaiseCount (Open (record { number = w.calls; pool = p; job = w.jobs }))) ((and_parts (is_free ((w.stack q).top)) (is_pool w.shape p) b).0) refl (λ r. refl) (λ p i. refl) (λ l. refl, refl, λ r p i. refl, refl, refl) (new_turns w (new_call None w.jobs) refl refl))
+    (λ b. begin_turns w _ q (RaiseCount (Open (record { number = w.calls; pool = p; job = w.jobs })))
+    ((and_parts (is_free ((w.stack q).top)) (is_pool w.shape p) b).0) refl (λ r. refl) (λ p i. refl) (λ l. refl, refl, λ r p i. refl, refl, refl) (inr (refl, refl)) (new_turns w (new_call None w.jobs) refl refl))
 
 gather_turns : (w : World) (q : Party) (p : ℕ) → IfSome (after_broadcast w q p (w.stack q)) (Turned w)
 gather_turns w q p = if_cond (Turned w) (is_free ((w.stack q).top) && is_pool w.shape p) _
     (λ b. begin_turns w (after_gather w q p (w.stack q)) q (RaiseCount (Gather (record { call = o; pieces = c })))
-    ((and_parts (is_free ((w.stack q).top)) (is_pool w.shape p) b).0) refl (λ r. refl) (λ p i. refl) (λ l. refl, refl, λ r p i. refl, refl, refl) (new_turns w (new_gathering c.workers o.job) refl refl))
+    ((and_parts (is_free ((w.stack q).top)) (is_pool w.shape p) b).0) refl (λ r. refl) (λ p i. refl) (λ l. refl, refl, λ r p i. refl, refl, refl) (inr (refl, refl)) (new_turns w (new_gathering c.workers o.job) refl refl))
   where
     c : Pieces
     c = record { count = OfCast w.calls q; pool = p; first = w.jobs; workers = (w.shape.pool p).workers }
@@ -298,11 +315,11 @@ gather_turns w q p = if_cond (Turned w) (is_free ((w.stack q).top) && is_pool w.
 
 join_turns : (w : World) (q : Party) → IfSome (after_join w q (w.stack q)) (Turned w)
 join_turns w (Worker a b) = if_cond (Turned w) (is_free ((w.stack (Worker a b)).top)) _
-    (λ z. begin_turns w _ (Worker a b) (RaiseCount (Fork (record { number = w.calls; pool = a; job = w.jobs + 1 }) w.jobs)) z refl (λ r. refl) (λ p i. refl) (λ l. refl, refl, λ r p i. refl, refl, refl) (new_turns w (new_call (Some w.jobs) (w.jobs + 1)) refl refl))
+    (λ z. begin_turns w _ (Worker a b) (RaiseCount (Fork (record { number = w.calls; pool = a; job = w.jobs + 1 }) w.jobs)) z refl (λ r. refl) (λ p i. refl) (λ l. refl, refl, λ r p i. refl, refl, refl) (inr (refl, refl)) (new_turns w (new_call (Some w.jobs) (w.jobs + 1)) refl refl))
 join_turns w (Caller n) = tt
 
 yield_turns : (w : World) (q : Party) (x : Place) → Mild x → IfSome (after_yield w q (w.stack q) x) (Turned w)
-yield_turns w (Worker a b) x m = if_cond (Turned w) (is_free ((w.stack (Worker a b)).top)) _ (λ z. begin_turns w _ (Worker a b) x z refl (λ r. refl) (λ p i. refl) m (λ c. inl refl))
+yield_turns w (Worker a b) x m = if_cond (Turned w) (is_free ((w.stack (Worker a b)).top)) _ (λ z. begin_turns w _ (Worker a b) x z refl (λ r. refl) (λ p i. refl) m (inl refl) (λ c. inl refl))
 yield_turns w (Caller c) x m = tt
 
 -- an event is an act
@@ -329,4 +346,4 @@ turns w (Broadcast q p) n = gather_turns w q p
 turns w (Yield q) n = yield_turns w q YieldPop (λ l. refl, refl, λ r p i. refl, refl, refl)
 turns w (YieldLocal q) n = yield_turns w q LocalPop (λ l. refl, refl, λ r p i. refl, refl, refl)
 turns w (EndPool q p) n = if_cond (Turned w) (is_free ((w.stack q).top) && (is_pool w.shape p && (w.pool p).held)) _
-    (λ b. begin_turns w _ q (LowerCount (OfPool p) PoolValue Resume) ((and_parts (is_free ((w.stack q).top)) (is_pool w.shape p && (w.pool p).held) b).0) refl (λ r. refl) (λ p i. refl) (λ l. refl, refl, λ r p i. refl, refl, refl) (λ c. inl refl))
+    (λ b. begin_turns w _ q (LowerCount (OfPool p) PoolValue Resume) ((and_parts (is_free ((w.stack q).top)) (is_pool w.shape p && (w.pool p).held) b).0) refl (λ r. refl) (λ p i. refl) (λ l. refl, refl, λ r p i. refl, refl, refl) (inl refl) (λ c. inl refl))

@@ -98,7 +98,8 @@ unset_live : (x f : Place) → is_live f ≡ true → Said x f
 unset_live x f e l s = absurd (let z : None ≡ Some l = sym ((live_mild f e).1) ∙ s in cc)
 
 -- any other act leads only to where no other latch is said to be set
-other_said : (w : World) (q : Party) (x : Place) (fs : List Place) → probes_here x ≡ false → Based (record { top = x; below = fs }) → (e : Seen) → Steers x (next_of (w.shape.pool (target_pool q (act_of q x))) q x e) → Said x ((after_move (next_of (w.shape.pool (target_pool q (act_of q x))) q x e) fs).top)
+other_said : (w : World) (q : Party) (x : Place) (fs : List Place) → probes_here x ≡ false → Based (record { top = x; below = fs }) → (e : Seen)
+    → Steers x (next_of (w.shape.pool (target_pool q (act_of q x))) q x e) → Said x ((after_move (next_of (w.shape.pool (target_pool q (act_of q x))) q x e) fs).top)
 other_said w q x fs z b e s = land x (Said x) (next_of (w.shape.pool (target_pool q (act_of q x))) q x e) fs (λ p f n. unset_live x f n)
     (λ y p. (let k : Unless (probes_here x) (Said x y) = p.1 in subst (λ t. Unless t (Said x y)) z k)) s (b.0) (b.1)
 

@@ -4,7 +4,7 @@ ghost use Rattle.rayon_machine_laws.specs.Committed.{CommittedHold, CommittedSle
 ghost use Rattle.rayon_machine_laws.specs.Counted.{ScopesCounted};
 ghost use Rattle.rayon_machine_laws.specs.Fixed.{FixedLaw};
 ghost use Rattle.rayon_machine_laws.specs.Latch.{IsGathered, IsLatched, IsSetOnce, SetLaw};
-ghost use Rattle.rayon_machine_laws.specs.Letters.{StopsOnSet};
+ghost use Rattle.rayon_machine_laws.specs.Letters.{IsLettered, StopsOnSet};
 ghost use Rattle.rayon_machine_laws.specs.Once.{IsBound, IsOnce, IsRedeemed};
 ghost use Rattle.rayon_machine_laws.specs.Seats.{IsSeated};
 
@@ -64,10 +64,13 @@ pub fn law_scope()
 /// and it is blocked only where it is to take its own lock again (`seated`).
 /// A worker stops only once its terminate latch is set, and leaves its search without a task only once the latch that it
 /// waits for is set (`stops`).
+/// A latch that is not set is sleepy exactly where its worker is about to take its own lock and to fall asleep for it,
+/// sleeping exactly from there to the act by which the worker wakes up, and else unset (`letters`).
 pub fn law_sleep()
     ensures inactive { Always SleepersAreInactive }
     ensures asleep { Always CommittedSleep }
     ensures held { Always CommittedHold }
     ensures seated { Always IsSeated }
     ensures stops { Always StopsOnSet }
+    ensures letters { Always IsLettered }
 {}

@@ -2,6 +2,7 @@ use Rattle.rayon_machine_laws.proofs.Events.{always_seats}
 use Rattle.rayon_machine_laws.proofs.Sleepers.{sleeper, committed_sleeps, committed_holds, seated}
 use Rattle.rayon_machine_laws.proofs.Seats.{mode}
 use Rattle.rayon_machine_laws.proofs.Stops.{always_stops, stops_on_set}
+use Rattle.rayon_machine_laws.proofs.Lettered.{always_letters, always_owned, lettered}
 use Rattle.rayon_machine_places.specs.declared.place.Party.TheVariants.{Worker}
 use Rattle.rayon_machine_laws.proofs.laws.law_sleep.Goals as goal
 
@@ -19,3 +20,6 @@ returns-clause-seated c h es w r = seated w (always_seats h es w r)
 
 pub returns-clause-stops : goal.returns-clause-stops
 returns-clause-stops c h es w r = stops_on_set w (always_stops h es w r)
+
+pub returns-clause-letters : goal.returns-clause-letters
+returns-clause-letters c h es w r = lettered w (always_owned h es w r) (always_letters h es w r)

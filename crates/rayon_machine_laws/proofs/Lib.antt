@@ -48,6 +48,8 @@ pub mod SetterEvents
 pub mod SetLaws
 pub mod Stops
 pub mod Lettered
+pub mod Holders
+pub mod Held
 pub mod Amounts
 pub mod Raises
 pub mod Raisers

@@ -3,6 +3,7 @@ ghost use Rattle.rayon_machine_places.specs.Runs.{Always};
 ghost use Rattle.rayon_machine_laws.specs.Committed.{CommittedHold, CommittedSleep, SleepersAreInactive};
 ghost use Rattle.rayon_machine_laws.specs.Counted.{ScopesCounted};
 ghost use Rattle.rayon_machine_laws.specs.Fixed.{FixedLaw};
+ghost use Rattle.rayon_machine_laws.specs.Holders.{HolderLaw, IsHolding};
 ghost use Rattle.rayon_machine_laws.specs.Latch.{IsGathered, IsLatched, IsSetOnce, SetLaw};
 ghost use Rattle.rayon_machine_laws.specs.Letters.{IsLettered, StopsOnSet};
 ghost use Rattle.rayon_machine_laws.specs.Once.{IsBound, IsOnce, IsRedeemed};
@@ -66,6 +67,9 @@ pub fn law_scope()
 /// waits for is set (`stops`).
 /// A latch that is not set is sleepy exactly where its worker is about to take its own lock and to fall asleep for it,
 /// sleeping exactly from there to the act by which the worker wakes up, and else unset (`letters`).
+/// A party holds a sleep lock exactly where it stands between its Lock and its Unlock or Block, and so with a scope's book
+/// and a FIFO list, between the act that takes it and the one that leaves it (`holders`). No step of a run is an act on
+/// what another party holds, nor leaves a lock that its party does not hold (`guards`).
 pub fn law_sleep()
     ensures inactive { Always SleepersAreInactive }
     ensures asleep { Always CommittedSleep }
@@ -73,4 +77,6 @@ pub fn law_sleep()
     ensures seated { Always IsSeated }
     ensures stops { Always StopsOnSet }
     ensures letters { Always IsLettered }
+    ensures holders { Always IsHolding }
+    ensures guards { HolderLaw }
 {}

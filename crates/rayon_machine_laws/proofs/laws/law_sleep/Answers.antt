@@ -3,6 +3,8 @@ use Rattle.rayon_machine_laws.proofs.Sleepers.{sleeper, committed_sleeps, commit
 use Rattle.rayon_machine_laws.proofs.Seats.{mode}
 use Rattle.rayon_machine_laws.proofs.Stops.{always_stops, stops_on_set}
 use Rattle.rayon_machine_laws.proofs.Lettered.{always_letters, always_owned, lettered}
+use Rattle.rayon_machine_laws.proofs.FeederEvents.{always_feeders}
+use Rattle.rayon_machine_laws.proofs.Held.{always_holds, holder_law, holding}
 use Rattle.rayon_machine_places.specs.declared.place.Party.TheVariants.{Worker}
 use Rattle.rayon_machine_laws.proofs.laws.law_sleep.Goals as goal
 
@@ -23,3 +25,9 @@ returns-clause-stops c h es w r = stops_on_set w (always_stops h es w r)
 
 pub returns-clause-letters : goal.returns-clause-letters
 returns-clause-letters c h es w r = lettered w (always_owned h es w r) (always_letters h es w r)
+
+pub returns-clause-holders : goal.returns-clause-holders
+returns-clause-holders c h es w r = holding w (always_holds h es w r) (always_feeders h es w r)
+
+pub returns-clause-guards : goal.returns-clause-guards
+returns-clause-guards c = holder_law

@@ -47,6 +47,7 @@ pub mod SetterActs
 pub mod SetterEvents
 pub mod SetLaws
 pub mod Stops
+pub mod Records
 pub mod Lettered
 pub mod Holders
 pub mod Held

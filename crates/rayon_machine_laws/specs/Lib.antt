@@ -1,5 +1,6 @@
 pub mod Once
 pub mod Fixed
+pub mod Ends
 pub mod Committed
 pub mod Seats
 pub mod Letters

@@ -2,6 +2,7 @@
 ghost use Rattle.rayon_machine_places.specs.Runs.{Always};
 ghost use Rattle.rayon_machine_laws.specs.Committed.{CommittedHold, CommittedSleep, SleepersAreInactive};
 ghost use Rattle.rayon_machine_laws.specs.Counted.{ScopesCounted};
+ghost use Rattle.rayon_machine_laws.specs.Ends.{EndsLaw};
 ghost use Rattle.rayon_machine_laws.specs.Fixed.{FixedLaw};
 ghost use Rattle.rayon_machine_laws.specs.Holders.{HolderLaw, IsHolding};
 ghost use Rattle.rayon_machine_laws.specs.Latch.{IsGathered, IsLatched, IsSetOnce, SetLaw};
@@ -21,12 +22,15 @@ ghost use Rattle.rayon_machine_laws.specs.Seats.{IsSeated};
 /// Each piece of a broadcast is bound to one worker (`bound`): it stands in no list but that worker's broadcast list,
 /// and once it is taken with no party but that worker, in its hand or under its run. No step changes which worker that
 /// is, nor the pool that a job's call was made at, nor what the end of its run sets going (`fixed`).
+/// A job whose run ends is over as its run ended, and comes to be over only so; and a step adds one to the number of its
+/// runs only where a party comes to stand at its run (`ends`). So a job that has run has stood at its run.
 /// It does not say that a job ever runs.
 pub fn law_once()
     ensures once { Always IsOnce }
     ensures redeemed { Always IsRedeemed }
     ensures bound { Always IsBound }
     ensures fixed { FixedLaw }
+    ensures ends { EndsLaw }
 {}
 
 /// In every world of every run the latch of a call is set only when the job that the call waits for is over, and the

@@ -1,6 +1,7 @@
 use Rattle.rayon_machine_laws.proofs.Bounds.{always_bound}
 use Rattle.rayon_machine_laws.proofs.ClaimMakes.{always_once}
 use Rattle.rayon_machine_laws.proofs.Fixed.{fixed_law}
+use Rattle.rayon_machine_laws.proofs.Records.{ends_law}
 use Rattle.rayon_machine_laws.proofs.Redeems.{always_stocks, redeems}
 use Rattle.rayon_machine_laws.proofs.laws.law_once.Goals as goal
 
@@ -15,3 +16,6 @@ returns-clause-bound c h es w r = always_bound h es w r
 
 pub returns-clause-fixed : goal.returns-clause-fixed
 returns-clause-fixed c = fixed_law
+
+pub returns-clause-ends : goal.returns-clause-ends
+returns-clause-ends c = ends_law

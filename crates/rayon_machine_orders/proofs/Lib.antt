@@ -36,6 +36,8 @@ pub mod Casts
 pub mod CallTeeth
 pub mod CountTeeth
 pub mod LatchTeeth
+pub mod SeatTeeth
+pub mod RecordTeeth
 pub mod ListTeeth
 pub mod GatherTeeth
 pub mod PieceTeeth

@@ -1,0 +1,65 @@
+-- wrong machines of records: replays, computed by the kernel, in which a job's record is not as its run began or ended
+use Rattle.std.proofs.Common.{refl}
+use Rattle.std.specs.Prelude.{ℕ, ◌+◌, Option, Some, None, List, [], ◌∷◌, ◌++◌, ◌≡◌, IfSome}
+use Rattle.rayon_machine_places.specs.declared.place.Ending.{Ending}
+use Rattle.rayon_machine_places.specs.declared.place.Ending.TheVariants.{Fine, Fault}
+use Rattle.rayon_machine_places.specs.declared.place.Party.{Party}
+use Rattle.rayon_machine_places.specs.declared.place.Place.{Place}
+use Rattle.rayon_machine_places.specs.declared.place.Place.TheVariants.{BeginTask, Run}
+use Rattle.rayon_machine_places.specs.declared.place.Move.{Move}
+use Rattle.rayon_machine_places.specs.declared.place.Move.TheVariants.{Back}
+use Rattle.rayon_machine_places.specs.declared.act.Act.{Act}
+use Rattle.rayon_machine_places.specs.declared.act.Act.TheVariants.{Begin}
+use Rattle.rayon_machine_places.specs.declared.act.Seen.{Seen}
+use Rattle.rayon_machine_places.specs.declared.act.Seen.TheVariants.{Begun}
+use Rattle.rayon_machine_places.specs.declared.event.Event.{Event}
+use Rattle.rayon_machine_places.specs.declared.event.Event.TheVariants.{End, Spawn}
+use Rattle.rayon_machine_places.specs.declared.shape.PoolShape.{PoolShape}
+use Rattle.rayon_machine_places.specs.declared.state.Whereabouts.TheVariants.{Over}
+use Rattle.rayon_machine_places.specs.Places.{act_of, next_of}
+use Rattle.rayon_machine_places.specs.World.{Shape, Stack, World, Counts, Part, Outcome, at_job, effect, target_job}
+use Rattle.rayon_machine_places.specs.Steps.{after_close, put, put_stack, step}
+use Rattle.rayon_machine_laws.specs.Once.{run_of}
+use Rattle.rayon_machine_orders.proofs.WrongMachines.{Machine, making, run_by, times_go, two, a, c, right}
+
+-- a caller spawns a job, and a worker finds it and begins it
+abbrev one_job : List Event
+one_job = Spawn c 0 ∷ times_go c 4 ++ times_go a 12
+
+-- each run is over as if it had ended without a fault
+abbrev ended_fine : World → Party → Ending → Stack → Place → Option World
+ended_fine w q e s (Run t k) = Some (record w { stack = put_stack w.stack q (after_close t k e s.below); job = put w.job t (at_job (w.job t) (Over Fine)) })
+ended_fine w q e s _ = None
+
+abbrev ends_fine : World → Event → Option World
+ends_fine w (End q e) = ended_fine w q e (w.stack q) (w.stack q).top
+ends_fine w e = step w e
+
+-- the run ends with a fault, and its job is over without one
+fault_is_over_fine : IfSome (run_by (making ends_fine) (two 32) (one_job ++ End a Fault ∷ [])) (λ w. (w.job 0).at ≡ Over Fine)
+fault_is_over_fine = refl {a = Over Fine}
+
+-- in the machine as it is it is over with the fault
+fault_is_over : IfSome (run_by right (two 32) (one_job ++ End a Fault ∷ [])) (λ w. (w.job 0).at ≡ Over Fault)
+fault_is_over = refl {a = Over Fault}
+
+-- a Begin writes the record of a run that is over, and its party goes back
+abbrev begins_over : Act → Shape → Party → Counts → Part → Outcome
+begins_over (Begin t) h q n m = Some (Begun (m.job.kind), record m { job = record (m.job) { at = Over Fine; runs = m.job.runs + 1 } })
+begins_over act h q n m = effect act h q n m
+
+abbrev goes_back : PoolShape → Party → Place → Seen → Move
+goes_back h q (BeginTask x) e = Back
+goes_back h q x e = next_of h q x e
+
+-- the job has run, and its worker does not stand at its run
+record Unrun (w : World) : Type 0 where
+  runs : (w.job 0).runs ≡ 1
+  place : run_of 0 (w.stack a).top ≡ 0
+
+job_runs_nowhere : IfSome (run_by (record { act = act_of; aims = target_job; does = begins_over; next = goes_back; made = step }) (two 32) one_job) Unrun
+job_runs_nowhere = record { runs = refl {a = 1}; place = refl {a = 0} }
+
+-- in the machine as it is the worker stands there
+job_runs : IfSome (run_by right (two 32) one_job) (λ w. ((w.job 0).runs ≡ 1) × (run_of 0 (w.stack a).top ≡ 1))
+job_runs = (refl {a = 1}, refl {a = 1})

@@ -95,29 +95,50 @@ cast_own r j p i (InCast a b) e y = let k : (r ≡ a) × (j ≡ b) = same_index 
 cast_own r j p i _ e y = absurd (cc)
 
 -- what stands in a list, its record says to be there
+pub own_at : (w : World) → IsOnce w → (b : Order) (a i t : ℕ) → own_of b (w.seat a i).own ≡ Some t → in_deque a i (w.job (or_none (own_of b (w.seat a i).own))).at ≡ true
+own_at w h b a i t e = subst (λ o. in_deque a i (w.job (or_none o)).at ≡ true) (sym e) (one_set (in_deque a i (w.job t).at)
+    (let d : times t (w.seat a i).own ≡ one (in_deque a i (w.job t).at) = h.deque a i t in let k : times t (w.seat a i).own ≡ (one (t == t) + times t (own_left b (w.seat a i).own)) = times_own b ((w.seat a i).own) t t e in let c : one (t == t) ≡ 1 = ap one (eq-eqb t t refl) in omega
+    (arith, d, k, c)))
+
 own_in : (w : World) → IsOnce w → (b : Order) (a i t : ℕ) → own_of b (w.seat a i).own ≡ Some t → Shut (w.job (or_none (own_of b (w.seat a i).own))).at
-own_in w h b a i t e = subst (λ o. Shut (w.job (or_none o)).at) (sym e) (deck_shut a i (w.job t).at (one_set (in_deque a i (w.job t).at)
-    (let d : times t (w.seat a i).own ≡ one (in_deque a i (w.job t).at) = h.deque a i t in let k : times t (w.seat a i).own ≡ (one (t == t) + times t (own_left b (w.seat a i).own)) = times_own b ((w.seat a i).own) t t e in let c : one (t == t) ≡ 1 = ap one (eq-eqb t t refl) in omega (arith, d, k, c))))
+own_in w h b a i t e = deck_shut a i (w.job (or_none (own_of b (w.seat a i).own))).at (own_at w h b a i t e)
+
+pub head_at : (w : World) → IsOnce w → (a i t : ℕ) → head_of (w.seat a i).own ≡ Some t → in_deque a i (w.job (or_none (head_of (w.seat a i).own))).at ≡ true
+head_at w h a i t e = subst (λ o. in_deque a i (w.job (or_none o)).at ≡ true) (sym e) (one_set (in_deque a i (w.job t).at)
+    (let d : times t (w.seat a i).own ≡ one (in_deque a i (w.job t).at) = h.deque a i t in let k : times t (w.seat a i).own ≡ (one (t == t) + times t (but_first (w.seat a i).own)) = times_first ((w.seat a i).own) t t e in let c : one (t == t) ≡ 1 = ap one (eq-eqb t t refl) in omega
+    (arith, d, k, c)))
 
 head_in : (w : World) → IsOnce w → (a i t : ℕ) → head_of (w.seat a i).own ≡ Some t → Shut (w.job (or_none (head_of (w.seat a i).own))).at
-head_in w h a i t e = subst (λ o. Shut (w.job (or_none o)).at) (sym e) (deck_shut a i (w.job t).at (one_set (in_deque a i (w.job t).at)
-    (let d : times t (w.seat a i).own ≡ one (in_deque a i (w.job t).at) = h.deque a i t in let k : times t (w.seat a i).own ≡ (one (t == t) + times t (but_first (w.seat a i).own)) = times_first ((w.seat a i).own) t t e in let c : one (t == t) ≡ 1 = ap one (eq-eqb t t refl) in omega (arith, d, k, c))))
+head_in w h a i t e = deck_shut a i (w.job (or_none (head_of (w.seat a i).own))).at (head_at w h a i t e)
+
+pub inj_at : (w : World) → IsOnce w → (a t : ℕ) → head_of (w.pool a).injector ≡ Some t → in_injector a (w.job (or_none (head_of (w.pool a).injector))).at ≡ true
+inj_at w h a t e = subst (λ o. in_injector a (w.job (or_none o)).at ≡ true) (sym e) (one_set (in_injector a (w.job t).at)
+    (let d : times t (w.pool a).injector ≡ one (in_injector a (w.job t).at) = h.injector a t in let k : times t (w.pool a).injector ≡ (one (t == t) + times t (but_first (w.pool a).injector)) = times_first ((w.pool a).injector) t t e in let c : one (t == t) ≡ 1 = ap one
+    (eq-eqb t t refl) in omega (arith, d, k, c)))
 
 inj_in : (w : World) → IsOnce w → (a t : ℕ) → head_of (w.pool a).injector ≡ Some t → Shut (w.job (or_none (head_of (w.pool a).injector))).at
-inj_in w h a t e = subst (λ o. Shut (w.job (or_none o)).at) (sym e) (inj_shut a (w.job t).at (one_set (in_injector a (w.job t).at)
-    (let d : times t (w.pool a).injector ≡ one (in_injector a (w.job t).at) = h.injector a t in let k : times t (w.pool a).injector ≡ (one (t == t) + times t (but_first (w.pool a).injector)) = times_first ((w.pool a).injector) t t e in let c : one (t == t) ≡ 1 = ap one (eq-eqb t t refl) in omega (arith, d, k, c))))
+inj_in w h a t e = inj_shut a (w.job (or_none (head_of (w.pool a).injector))).at (inj_at w h a t e)
+
+pub first_at : (w : World) → IsOnce w → (a i : ℕ) (b : Option ℕ) (t : ℕ) → head_of ((w.seat a i).fifo b) ≡ Some t → in_fifo a i b (w.job (or_none (head_of ((w.seat a i).fifo b)))).at ≡ true
+first_at w h a i b t e = subst (λ o. in_fifo a i b (w.job (or_none o)).at ≡ true) (sym e) (one_set (in_fifo a i b (w.job t).at)
+    (let d : times t ((w.seat a i).fifo b) ≡ one (in_fifo a i b (w.job t).at) = h.fifo a i b t in let k : times t ((w.seat a i).fifo b) ≡ (one (t == t) + times t (but_first ((w.seat a i).fifo b))) = times_first ((w.seat a i).fifo b) t t e in let c : one (t == t) ≡ 1 = ap one
+    (eq-eqb t t refl) in omega (arith, d, k, c)))
 
 first_in : (w : World) → IsOnce w → (a i : ℕ) (b : Option ℕ) (t : ℕ) → head_of ((w.seat a i).fifo b) ≡ Some t → Shut (w.job (or_none (head_of ((w.seat a i).fifo b)))).at
-first_in w h a i b t e = subst (λ o. Shut (w.job (or_none o)).at) (sym e) (fifo_shut a i b (w.job t).at (one_set (in_fifo a i b (w.job t).at)
-    (let d : times t ((w.seat a i).fifo b) ≡ one (in_fifo a i b (w.job t).at) = h.fifo a i b t in let k : times t ((w.seat a i).fifo b) ≡ (one (t == t) + times t (but_first ((w.seat a i).fifo b))) = times_first ((w.seat a i).fifo b) t t e in let c : one (t == t) ≡ 1 = ap one (eq-eqb t t refl) in omega (arith, d, k, c))))
+first_in w h a i b t e = fifo_shut a i b (w.job (or_none (head_of ((w.seat a i).fifo b)))).at (first_at w h a i b t e)
+
+pub last_at : (w : World) → IsOnce w → (a i : ℕ) (b : Option ℕ) (t : ℕ) → last_of ((w.seat a i).fifo b) ≡ Some t → in_fifo a i b (w.job (or_none (last_of ((w.seat a i).fifo b)))).at ≡ true
+last_at w h a i b t e = subst (λ o. in_fifo a i b (w.job (or_none o)).at ≡ true) (sym e) (one_set (in_fifo a i b (w.job t).at)
+    (let d : times t ((w.seat a i).fifo b) ≡ one (in_fifo a i b (w.job t).at) = h.fifo a i b t in let k : times t ((w.seat a i).fifo b) ≡ (one (t == t) + times t (but_last ((w.seat a i).fifo b))) = times_drop ((w.seat a i).fifo b) t t e in let c : one (t == t) ≡ 1 = ap one
+    (eq-eqb t t refl) in omega (arith, d, k, c)))
 
 last_in : (w : World) → IsOnce w → (a i : ℕ) (b : Option ℕ) (t : ℕ) → last_of ((w.seat a i).fifo b) ≡ Some t → Shut (w.job (or_none (last_of ((w.seat a i).fifo b)))).at
-last_in w h a i b t e = subst (λ o. Shut (w.job (or_none o)).at) (sym e) (fifo_shut a i b (w.job t).at (one_set (in_fifo a i b (w.job t).at)
-    (let d : times t ((w.seat a i).fifo b) ≡ one (in_fifo a i b (w.job t).at) = h.fifo a i b t in let k : times t ((w.seat a i).fifo b) ≡ (one (t == t) + times t (but_last ((w.seat a i).fifo b))) = times_drop ((w.seat a i).fifo b) t t e in let c : one (t == t) ≡ 1 = ap one (eq-eqb t t refl) in omega (arith, d, k, c))))
+last_in w h a i b t e = fifo_shut a i b (w.job (or_none (last_of ((w.seat a i).fifo b)))).at (last_at w h a i b t e)
 
-cast_in : (w : World) → IsOnce w → (a i t : ℕ) → head_of ((w.pool a).casts i) ≡ Some t → in_cast a i (w.job (or_none (head_of ((w.pool a).casts i)))).at ≡ true
+pub cast_in : (w : World) → IsOnce w → (a i t : ℕ) → head_of ((w.pool a).casts i) ≡ Some t → in_cast a i (w.job (or_none (head_of ((w.pool a).casts i)))).at ≡ true
 cast_in w h a i t e = subst (λ o. in_cast a i (w.job (or_none o)).at ≡ true) (sym e) (one_set (in_cast a i (w.job t).at)
-    (let d : times t ((w.pool a).casts i) ≡ one (in_cast a i (w.job t).at) = h.cast a i t in let k : times t ((w.pool a).casts i) ≡ (one (t == t) + times t (but_first ((w.pool a).casts i))) = times_first ((w.pool a).casts i) t t e in let c : one (t == t) ≡ 1 = ap one (eq-eqb t t refl) in omega (arith, d, k, c)))
+    (let d : times t ((w.pool a).casts i) ≡ one (in_cast a i (w.job t).at) = h.cast a i t in let k : times t ((w.pool a).casts i) ≡ (one (t == t) + times t (but_first ((w.pool a).casts i))) = times_first ((w.pool a).casts i) t t e in let c : one (t == t) ≡ 1 = ap one
+    (eq-eqb t t refl) in omega (arith, d, k, c)))
 
 pop_moves : (q : Party) (m : Part) (rest : List ℕ) (o : Option ℕ) → ((t : ℕ) → o ≡ Some t → Shut m.job.at) → IfSome (popped q m rest o) (Moves m)
 pop_moves q m rest None f = same_moves m (Missing, m) refl
@@ -184,14 +205,18 @@ act_moves w (Worker a b) YieldTakeCast fs z h s = cast_moves a b (place_part w (
 act_moves w (Caller c) YieldTakeCast fs z h s = tt
 act_moves w (Worker a b) LocalTakeCast fs z h s = cast_moves a b (place_part w (Worker a b) LocalTakeCast) _ (λ t e. cast_in w h a b t e)
 act_moves w (Caller c) LocalTakeCast fs z h s = tt
-act_moves w q (BeginTask (Plain t)) fs z h s = λ i b k y. begin_own q (w.job t).pool i (w.job t).at (w.job t).runs s (one_set (is_with q (w.job t).at && ((w.job t).runs == 0)) (let a : held t (w.stack q) ≡ one (is_with q (w.job t).at && ((w.job t).runs == 0)) = h.hand q t in let c : held t (w.stack q) ≡ (one (t == t) + held_in t fs) = ap (held t) z in let d : one (t == t) ≡ 1 = ap one (eq-eqb t t refl) in omega (arith, a, c, d))) y
-act_moves w (Worker a b) (BeginTask (Token k i b8)) fs z h s = out_sees (Moves (place_part w (Worker a b) (BeginTask (Token k i b8)))) (Worker a b) (place_part w (Worker a b) (BeginTask (Token k i b8))) b8 (λ i b k y. y) (λ u us e j c d y. shut_none (place_part w (Worker a b) (BeginTask (Token k i b8))) (first_in w h a i b8 u (ap head_of e)) j y)
-act_moves w (Caller c) (BeginTask (Token k i b8)) fs z h s = out_sees (Moves (place_part w (Caller c) (BeginTask (Token k i b8)))) (Caller c) (place_part w (Caller c) (BeginTask (Token k i b8))) b8 (λ i b k y. y) (λ u us e j d n y. shut_none (place_part w (Caller c) (BeginTask (Token k i b8))) (first_in w h 0 i b8 u (ap head_of e)) j y)
+act_moves w q (BeginTask (Plain t)) fs z h s = λ i b k y. begin_own q (w.job t).pool i (w.job t).at (w.job t).runs s (one_set (is_with q (w.job t).at && ((w.job t).runs == 0))
+    (let a : held t (w.stack q) ≡ one (is_with q (w.job t).at && ((w.job t).runs == 0)) = h.hand q t in let c : held t (w.stack q) ≡ (one (t == t) + held_in t fs) = ap (held t) z in let d : one (t == t) ≡ 1 = ap one (eq-eqb t t refl) in omega (arith, a, c, d))) y
+act_moves w (Worker a b) (BeginTask (Token k i b8)) fs z h s = out_sees (Moves (place_part w (Worker a b) (BeginTask (Token k i b8)))) (Worker a b) (place_part w (Worker a b) (BeginTask (Token k i b8))) b8 (λ i b k y. y)
+    (λ u us e j c d y. shut_none (place_part w (Worker a b) (BeginTask (Token k i b8))) (first_in w h a i b8 u (ap head_of e)) j y)
+act_moves w (Caller c) (BeginTask (Token k i b8)) fs z h s = out_sees (Moves (place_part w (Caller c) (BeginTask (Token k i b8)))) (Caller c) (place_part w (Caller c) (BeginTask (Token k i b8))) b8 (λ i b k y. y)
+    (λ u us e j d n y. shut_none (place_part w (Caller c) (BeginTask (Token k i b8))) (first_in w h 0 i b8 u (ap head_of e)) j y)
 act_moves w (Worker a b) (PushToken f v) fs z h s = λ i c d y. free_none (place_part w (Worker a b) (PushToken f v)) ((s.1).bound) i c
 act_moves w (Caller c) (PushToken f v) fs z h s = tt
 act_moves w (Worker a b) (AddToFifo f) fs z h s = if_cond (Moves (place_part w (Worker a b) (AddToFifo f))) (is_open (Worker a b) ((w.seat a b).feeder (count_book f.count))) _ (λ o i c d y. free_none (place_part w (Worker a b) (AddToFifo f)) ((s.0).bound) i c)
 act_moves w (Caller c) (AddToFifo f) fs z h s = tt
-act_moves w (Worker a b) (TakeFromFifo f) fs z h s = undo_sees (Moves (place_part w (Worker a b) (TakeFromFifo f))) (Worker a b) (place_part w (Worker a b) (TakeFromFifo f)) (count_book f.count) (λ i b k y. y) (λ u e j c d y. shut_none (place_part w (Worker a b) (TakeFromFifo f)) (last_in w h a b (count_book f.count) u e) j y)
+act_moves w (Worker a b) (TakeFromFifo f) fs z h s = undo_sees (Moves (place_part w (Worker a b) (TakeFromFifo f))) (Worker a b) (place_part w (Worker a b) (TakeFromFifo f)) (count_book f.count) (λ i b k y. y)
+    (λ u e j c d y. shut_none (place_part w (Worker a b) (TakeFromFifo f)) (last_in w h a b (count_book f.count) u e) j y)
 act_moves w (Caller c) (TakeFromFifo f) fs z h s = tt
 act_moves w q (BeginHere t) fs z h s = λ i b k y. other_none (place_part w q (BeginHere t)) (s.kind) k
 act_moves w q (PushForAll c) fs z h s = λ i b k y. y
@@ -200,7 +225,7 @@ act_moves w q (PushJob n v) fs z h s = push_moves w q n (is_member q (plan_pool 
 act_moves w q x fs z h s = quiet_moves w.shape q (counts_at w (target_pool q (act_of q x))) (place_part w q x) x refl
 
 -- what a move says of the jobs that it begins or deals
-abbrev Good : (ℕ → Job) → Move → Type 0
+abbrev pub Good : (ℕ → Job) → Move → Type 0
 Good J (StartRun f a) = is_detached (J a).kind ≡ false
 Good J (Mark y c Queued) = (t : ℕ) → is_piece c t ≡ true → ((J t).pool ≡ c.pool) × ((J t).bound ≡ Some (t - c.first))
 Good J (Mark y c Dealt) = (t : ℕ) → is_piece c t ≡ true → ((J t).pool ≡ c.pool) × ((J t).bound ≡ Some (t - c.first))
@@ -292,24 +317,29 @@ push_good : (w : World) (q : Party) (c : Pieces) (r : Seen × Part) → SaysPiec
 push_good w q c r s st Done = λ t z. (put_same (λ j. j.pool) w.job (job_at w q (act_of q (PushForAll c))) (r.1.job) t st.pool ∙ (s t z).pool, put_same (λ j. j.bound) w.job (job_at w q (act_of q (PushForAll c))) (r.1.job) t st.bound ∙ (s t z).bound)
 push_good w q c r s st _ = tt
 
-deal_good : (w : World) (q : Party) (c : Gathering) (r : Seen × Part) → SaysPieces w c.pieces → Static (place_part w q (DealPieces c)) r → (e : Seen) → Good (put w.job (job_at w q (act_of q (DealPieces c))) (r.1.job)) (next_of (w.shape.pool (target_pool q (act_of q (DealPieces c)))) q (DealPieces c) e)
+deal_good : (w : World) (q : Party) (c : Gathering) (r : Seen × Part) → SaysPieces w c.pieces → Static (place_part w q (DealPieces c)) r → (e : Seen)
+    → Good (put w.job (job_at w q (act_of q (DealPieces c))) (r.1.job)) (next_of (w.shape.pool (target_pool q (act_of q (DealPieces c)))) q (DealPieces c) e)
 deal_good w q c r s st Done = λ t z. (put_same (λ j. j.pool) w.job (job_at w q (act_of q (DealPieces c))) (r.1.job) t st.pool ∙ (s t z).pool, put_same (λ j. j.bound) w.job (job_at w q (act_of q (DealPieces c))) (r.1.job) t st.bound ∙ (s t z).bound)
 deal_good w q c r s st _ = tt
 
 abbrev Known : World → Party → Place → List Place → Seen × Part → Type 0
 Known w q x fs r = Static (place_part w q x) r × StartsAwaited w (next_of (w.shape.pool (target_pool q (act_of q x))) q x (r.0))
 
-go_good : (w : World) (q : Party) (x : Place) (fs : List Place) → Says w q x → IfSome (outcome w q (record { top = x; below = fs })) (Known w q x fs) → IfSome (outcome w q (record { top = x; below = fs })) (λ r. Good (put w.job (job_at w q (act_of q x)) (r.1.job)) (next_of (w.shape.pool (target_pool q (act_of q x))) q x (r.0)))
+go_good : (w : World) (q : Party) (x : Place) (fs : List Place) → Says w q x → IfSome (outcome w q (record { top = x; below = fs })) (Known w q x fs)
+    → IfSome (outcome w q (record { top = x; below = fs })) (λ r. Good (put w.job (job_at w q (act_of q x)) (r.1.job)) (next_of (w.shape.pool (target_pool q (act_of q x))) q x (r.0)))
 go_good w q (PushForAll c) fs s k = if_some_map (Known w q (PushForAll c) fs) (λ r. Good (put w.job (job_at w q (act_of q (PushForAll c))) (r.1.job)) (next_of (w.shape.pool (target_pool q (act_of q (PushForAll c)))) q (PushForAll c) (r.0))) (λ r f. push_good w q c r (s.0) (f.0) (r.0)) _ k
 go_good w q (DealPieces c) fs s k = if_some_map (Known w q (DealPieces c) fs) (λ r. Good (put w.job (job_at w q (act_of q (DealPieces c))) (r.1.job)) (next_of (w.shape.pool (target_pool q (act_of q (DealPieces c)))) q (DealPieces c) (r.0))) (λ r f. deal_good w q c r (s.pieces) (f.0) (r.0)) _ k
-go_good w q x fs s k = if_some_map (λ r. Known w q x fs r × (is_dealing (next_of (w.shape.pool (target_pool q (act_of q x))) q x (r.0)) ≡ false)) (λ r. Good (put w.job (job_at w q (act_of q x)) (r.1.job)) (next_of (w.shape.pool (target_pool q (act_of q x))) q x (r.0))) (λ r f. good_move w (put w.job (job_at w q (act_of q x)) (r.1.job)) (next_of (w.shape.pool (target_pool q (act_of q x))) q x (r.0)) (λ t. put_same (λ j. j.kind) w.job (job_at w q (act_of q x)) (r.1.job) t (((f.0).0).kind)) ((f.0).1) (f.1)) _
-    (if_some_and (Known w q x fs) (λ r. is_dealing (next_of (w.shape.pool (target_pool q (act_of q x))) q x (r.0)) ≡ false) (outcome w q (record { top = x; below = fs })) k (no_deals w.shape (w.shape.pool (target_pool q (act_of q x))) q (counts_at w (target_pool q (act_of q x))) (place_part w q x) x refl))
+go_good w q x fs s k = if_some_map (λ r. Known w q x fs r × (is_dealing (next_of (w.shape.pool (target_pool q (act_of q x))) q x (r.0)) ≡ false)) (λ r. Good (put w.job (job_at w q (act_of q x)) (r.1.job)) (next_of (w.shape.pool (target_pool q (act_of q x))) q x (r.0)))
+    (λ r f. good_move w (put w.job (job_at w q (act_of q x)) (r.1.job)) (next_of (w.shape.pool (target_pool q (act_of q x))) q x (r.0)) (λ t. put_same (λ j. j.kind) w.job (job_at w q (act_of q x)) (r.1.job) t (((f.0).0).kind)) ((f.0).1) (f.1)) _
+    (if_some_and (Known w q x fs) (λ r. is_dealing (next_of (w.shape.pool (target_pool q (act_of q x))) q x (r.0)) ≡ false) (outcome w q (record { top = x; below = fs })) k
+    (no_deals w.shape (w.shape.pool (target_pool q (act_of q x))) q (counts_at w (target_pool q (act_of q x))) (place_part w q x) x refl))
 
 -- what each step leaves of the pieces
 abbrev Kept : World → Type 0
 Kept u = ((t i : ℕ) → (u.job t).bound ≡ Some i → is_detached (u.job t).kind ≡ true) × IsBound u
 
-act_kept : (w : World) (q : Party) (x : Place) (fs : List Place) (r : Seen × Part) → BoundsHold w → Static (place_part w q x) r → Moves (place_part w q x) r → Good (put w.job (job_at w q (act_of q x)) (r.1.job)) (next_of (w.shape.pool (target_pool q (act_of q x))) q x (r.0)) → Kept (world_after w q x fs r)
+act_kept : (w : World) (q : Party) (x : Place) (fs : List Place) (r : Seen × Part) → BoundsHold w → Static (place_part w q x) r → Moves (place_part w q x) r → Good (put w.job (job_at w q (act_of q x)) (r.1.job)) (next_of (w.shape.pool (target_pool q (act_of q x))) q x (r.0))
+    → Kept (world_after w q x fs r)
 act_kept w q x fs r h st mo go = (λ t i b. ap is_detached (kinds t) ∙ h.kind t i (sym (bounds t) ∙ b), λ t i b. owns t i (sym (bounds t) ∙ b))
   where
     g : Move
@@ -334,15 +364,22 @@ act_kept w q x fs r h st mo go = (λ t i b. ap is_detached (kinds t) ∙ h.kind 
     owns : (t i : ℕ) → (w.job t).bound ≡ Some i → is_own_place ((world_after w q x fs r).job t).pool i ((world_after w q x fs r).job t).at ≡ true
     owns t i b = after_own q g J t i go (put_same (λ j. j.bound) w.job n (r.1.job) t st.bound ∙ b) (ap is_detached (put_same (λ j. j.kind) w.job n (r.1.job) t st.kind) ∙ h.kind t i b) (touched t i b (t == n) refl)
 
+-- what is known of each act and of its move
+pub goods : (w : World) (q : Party) → SharesHold w → IfSome (outcome w q (w.stack q)) (λ r. Static (place_part w q (w.stack q).top) r × Good (put w.job (job_at w q (act_of q (w.stack q).top)) (r.1.job)) (next_of (w.shape.pool (target_pool q (act_of q (w.stack q).top))) q (w.stack q).top (r.0)))
+goods w q h =
+    let x : Place = (w.stack q).top in let fs : List Place = (w.stack q).below in
+    let known : IfSome (outcome w q (w.stack q)) (Known w q x fs) = if_some_map (λ r. Static (place_part w q x) r × Ready w q x fs r) (Known w q x fs) (λ r f. (f.0, (f.1).starts)) (outcome w q (w.stack q))
+    (if_some_and (Static (place_part w q x)) (Ready w q x fs) (outcome w q (w.stack q)) (act_static w.shape q (counts_at w (target_pool q (act_of q x))) (place_part w q x) x) (ready w q h)) in
+    if_some_map (λ r. Known w q x fs r × Good (put w.job (job_at w q (act_of q x)) (r.1.job)) (next_of (w.shape.pool (target_pool q (act_of q x))) q x (r.0))) (λ r. Static (place_part w q x) r × Good (put w.job (job_at w q (act_of q x)) (r.1.job)) (next_of (w.shape.pool (target_pool q (act_of q x))) q x (r.0))) (λ r f. ((f.0).0, f.1)) (outcome w q (w.stack q))
+    (if_some_and (Known w q x fs) (λ r. Good (put w.job (job_at w q (act_of q x)) (r.1.job)) (next_of (w.shape.pool (target_pool q (act_of q x))) q x (r.0))) (outcome w q (w.stack q)) known (go_good w q x fs ((h.calls).says q).top known))
+
 go_kept : (w : World) (q : Party) → BoundsHold w → IfSome (outcome w q (w.stack q)) (λ r. Kept (result w q (w.stack q) r))
 go_kept w q h =
     let x : Place = (w.stack q).top in let fs : List Place = (w.stack q).below in
-    let says : Says w q x = (((h.shares).calls).says q).top in
-    let known : IfSome (outcome w q (w.stack q)) (Known w q x fs) = if_some_map (λ r. Static (place_part w q x) r × Ready w q x fs r) (Known w q x fs) (λ r f. (f.0, (f.1).starts)) (outcome w q (w.stack q)) (if_some_and (Static (place_part w q x)) (Ready w q x fs) (outcome w q (w.stack q)) (act_static w.shape q (counts_at w (target_pool q (act_of q x))) (place_part w q x) x) (ready w q h.shares)) in
-    if_some_map (λ r. (Known w q x fs r × Moves (place_part w q x) r) × Good (put w.job (job_at w q (act_of q x)) (r.1.job)) (next_of (w.shape.pool (target_pool q (act_of q x))) q x (r.0))) (λ r. Kept (result w q (w.stack q) r)) (λ r f. act_kept w q x fs r h (((f.0).0).0) ((f.0).1) (f.1)) (outcome w q (w.stack q))
-    (if_some_and (λ r. Known w q x fs r × Moves (place_part w q x) r) (λ r. Good (put w.job (job_at w q (act_of q x)) (r.1.job)) (next_of (w.shape.pool (target_pool q (act_of q x))) q x (r.0))) (outcome w q (w.stack q))
-    (if_some_and (Known w q x fs) (Moves (place_part w q x)) (outcome w q (w.stack q)) known (act_moves w q x fs refl (once w (((h.shares).calls).jobs)) says))
-    (go_good w q x fs says known))
+    if_some_map (λ r. (Static (place_part w q x) r × Good (put w.job (job_at w q (act_of q x)) (r.1.job)) (next_of (w.shape.pool (target_pool q (act_of q x))) q x (r.0))) × Moves (place_part w q x) r) (λ r. Kept (result w q (w.stack q) r)) (λ r f. act_kept w q x fs r h ((f.0).0) (f.1) ((f.0).1)) (outcome w q (w.stack q))
+    (if_some_and (λ r. Static (place_part w q x) r × Good (put w.job (job_at w q (act_of q x)) (r.1.job)) (next_of (w.shape.pool (target_pool q (act_of q x))) q x (r.0))) (Moves (place_part w q x)) (outcome w q (w.stack q))
+    (goods w q h.shares)
+    (act_moves w q x fs refl (once w (((h.shares).calls).jobs)) ((((h.shares).calls).says q).top)))
 
 -- events that are no acts
 fresh_kept : (w : World) (J : ℕ → Job) → BoundsHold w → ((t : ℕ) (i : ℕ) → (J t).bound ≡ Some i → (J t ≡ w.job t) ⊎ ((is_detached (J t).kind ≡ true) × Own (J t) i)) → ((t i : ℕ) → (J t).bound ≡ Some i → is_detached (J t).kind ≡ true) × ((t i : ℕ) → (J t).bound ≡ Some i → Own (J t) i)
@@ -361,7 +398,8 @@ put_kept w n j h e = fresh_kept w (put w.job n j) h (λ t i b. by t i (t == n) b
     by t i true b = absurd (let c : Some i ≡ None = sym b ∙ e in cc)
     by t i false b = inl refl
 
-both_kept : (w : World) (n m : ℕ) (j k : Job) → BoundsHold w → j.bound ≡ None → k.bound ≡ None → ((t i : ℕ) → (put (put w.job n j) m k t).bound ≡ Some i → is_detached (put (put w.job n j) m k t).kind ≡ true) × ((t i : ℕ) → (put (put w.job n j) m k t).bound ≡ Some i → Own (put (put w.job n j) m k t) i)
+both_kept : (w : World) (n m : ℕ) (j k : Job) → BoundsHold w → j.bound ≡ None → k.bound ≡ None → ((t i : ℕ) → (put (put w.job n j) m k t).bound ≡ Some i → is_detached (put (put w.job n j) m k t).kind ≡ true) × ((t i : ℕ) → (put (put w.job n j) m k t).bound ≡ Some i
+    → Own (put (put w.job n j) m k t) i)
 both_kept w n m j k h e d = fresh_kept w (put (put w.job n j) m k) h (λ t i b. by t i (t == m) (t == n) b)
   where
     by : (t i : ℕ) (y z : Bool) → (if y then k else (if z then j else w.job t)).bound ≡ Some i → ((if y then k else (if z then j else w.job t)) ≡ w.job t) ⊎ ((is_detached (if y then k else (if z then j else w.job t)).kind ≡ true) × Own (if y then k else (if z then j else w.job t)) i)
@@ -400,7 +438,8 @@ deal_kept w q d r h = fresh_kept w (put_pieces c (λ i j. new_piece q d r i) w.j
     c : Pieces
     c = record { count = d; pool = r; first = w.jobs; workers = (w.shape.pool r).workers }
 
-    by : (t i : ℕ) (z : Bool) → (if z then new_piece q d r (t - c.first) else w.job t).bound ≡ Some i → ((if z then new_piece q d r (t - c.first) else w.job t) ≡ w.job t) ⊎ ((is_detached (if z then new_piece q d r (t - c.first) else w.job t).kind ≡ true) × Own (if z then new_piece q d r (t - c.first) else w.job t) i)
+    by : (t i : ℕ) (z : Bool) → (if z then new_piece q d r (t - c.first) else w.job t).bound ≡ Some i
+        → ((if z then new_piece q d r (t - c.first) else w.job t) ≡ w.job t) ⊎ ((is_detached (if z then new_piece q d r (t - c.first) else w.job t).kind ≡ true) × Own (if z then new_piece q d r (t - c.first) else w.job t) i)
     by t i true e = inr (counts_detached d, refl)
     by t i false e = inl refl
 
@@ -413,7 +452,8 @@ gather_kept w q r h = if_cond Kept (is_free ((w.stack q).top) && is_pool w.shape
     c : Pieces
     c = record { count = OfCast w.calls q; pool = r; first = w.jobs; workers = (w.shape.pool r).workers }
 
-    by : (t i : ℕ) (y z : Bool) → (if y then new_whole q r w.calls else (if z then new_piece q (OfCast w.calls q) r (t - c.first) else w.job t)).bound ≡ Some i → ((if y then new_whole q r w.calls else (if z then new_piece q (OfCast w.calls q) r (t - c.first) else w.job t)) ≡ w.job t) ⊎ ((is_detached (if y then new_whole q r w.calls else (if z then new_piece q (OfCast w.calls q) r (t - c.first) else w.job t)).kind ≡ true) × Own (if y then new_whole q r w.calls else (if z then new_piece q (OfCast w.calls q) r (t - c.first) else w.job t)) i)
+    by : (t i : ℕ) (y z : Bool) → (if y then new_whole q r w.calls else (if z then new_piece q (OfCast w.calls q) r (t - c.first) else w.job t)).bound ≡ Some i
+        → ((if y then new_whole q r w.calls else (if z then new_piece q (OfCast w.calls q) r (t - c.first) else w.job t)) ≡ w.job t) ⊎ ((is_detached (if y then new_whole q r w.calls else (if z then new_piece q (OfCast w.calls q) r (t - c.first) else w.job t)).kind ≡ true) × Own (if y then new_whole q r w.calls else (if z then new_piece q (OfCast w.calls q) r (t - c.first) else w.job t)) i)
     by t i true z e = absurd (cc)
     by t i false true e = inr (refl, refl)
     by t i false false e = inl refl

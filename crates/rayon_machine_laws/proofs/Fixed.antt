@@ -42,17 +42,17 @@ go_fixed w q =
     })
     (outcome w q k) (act_static w.shape q (counts_seen w q k) (part_at w q k) k.top)
 
-apart : (t n : ℕ) → t + 1 ≤ n → (t == n) ≡ false
+pub apart : (t n : ℕ) → t + 1 ≤ n → (t == n) ≡ false
 apart t n l = elim (either (t == n)) [ inl e ↦ absurd (let k : t ≡ n = eqb-true t n e in omega (arith, k, l)) | inr e ↦ e ]
 
 -- a number that is given out now is none of these
-made_old : (w : World) (u : ℕ) (j : Job) → w.jobs ≤ u → (t : ℕ) → t + 1 ≤ w.jobs → put w.job u j t ≡ w.job t
+pub made_old : (w : World) (u : ℕ) (j : Job) → w.jobs ≤ u → (t : ℕ) → t + 1 ≤ w.jobs → put w.job u j t ≡ w.job t
 made_old w u j l t m = put_old w.job u j t (apart t u (omega (arith, l, m)))
 
-two_old : (w : World) (j k : Job) (t : ℕ) → t + 1 ≤ w.jobs → put (put w.job w.jobs j) (w.jobs + 1) k t ≡ w.job t
+pub two_old : (w : World) (j k : Job) (t : ℕ) → t + 1 ≤ w.jobs → put (put w.job w.jobs j) (w.jobs + 1) k t ≡ w.job t
 two_old w j k t m = put_old (put w.job w.jobs j) (w.jobs + 1) k t (apart t (w.jobs + 1) (omega (arith, m))) ∙ made_old w w.jobs j (omega arith) t m
 
-deal_old : (w : World) (c : Pieces) (f : ℕ → Job → Job) → c.first ≡ w.jobs → (t : ℕ) → t + 1 ≤ w.jobs → put_pieces c f w.job t ≡ w.job t
+pub deal_old : (w : World) (c : Pieces) (f : ℕ → Job → Job) → c.first ≡ w.jobs → (t : ℕ) → t + 1 ≤ w.jobs → put_pieces c f w.job t ≡ w.job t
 deal_old w c f is t m = piece_old c f w.job t (piece_out c t (omega (arith, is, m)))
 
 gather_fixed : (w : World) (q : Party) (p : ℕ) → FixedOn w (after_gather w q p (w.stack q))

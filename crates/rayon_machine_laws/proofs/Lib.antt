@@ -72,6 +72,9 @@ pub mod Enters
 pub mod Spawned
 pub mod Bares
 pub mod Bounds
+pub mod Kindly
+pub mod Near
+pub mod NearEvents
 pub mod Fixed
 pub mod Returns
 pub mod Feeders

@@ -130,7 +130,7 @@ abbrev Touches : World → Party → Place → List Place → Seen × Part → T
 Touches w q x fs r = TouchesBy w q x fs (act_of q x) r
 
 -- the act by which a job is pushed
-abbrev push_by : Plan → Bool → Act
+abbrev pub push_by : Plan → Bool → Act
 push_by n z = if z then PushOwn (plan_job n) (plan_book n) else PushInj (plan_pool n) (plan_job n) (plan_book n)
 
 module _ (w : World) (fs : List Place) where

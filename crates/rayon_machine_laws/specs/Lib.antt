@@ -1,6 +1,7 @@
 pub mod Once
 pub mod Fixed
 pub mod Ends
+pub mod Near
 pub mod Committed
 pub mod Seats
 pub mod Letters

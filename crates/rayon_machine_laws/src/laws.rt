@@ -7,6 +7,7 @@ ghost use Rattle.rayon_machine_laws.specs.Fixed.{FixedLaw};
 ghost use Rattle.rayon_machine_laws.specs.Holders.{HolderLaw, IsHolding};
 ghost use Rattle.rayon_machine_laws.specs.Latch.{IsGathered, IsLatched, IsSetOnce, SetLaw};
 ghost use Rattle.rayon_machine_laws.specs.Letters.{IsLettered, StopsOnSet};
+ghost use Rattle.rayon_machine_laws.specs.Near.{IsNear};
 ghost use Rattle.rayon_machine_laws.specs.Once.{IsBound, IsOnce, IsRedeemed};
 ghost use Rattle.rayon_machine_laws.specs.Seats.{IsSeated};
 
@@ -24,6 +25,8 @@ ghost use Rattle.rayon_machine_laws.specs.Seats.{IsSeated};
 /// is, nor the pool that a job's call was made at, nor what the end of its run sets going (`fixed`).
 /// A job whose run ends is over as its run ended, and comes to be over only so; and a step adds one to the number of its
 /// runs only where a party comes to stand at its run (`ends`). So a job that has run has stood at its run.
+/// Each job is queued and run at its own pool, a job of a FIFO list in the one of its own kind, a token in its own worker's
+/// deque, and each piece in its own worker's broadcast list; what is run at once is in no list (`near`).
 /// It does not say that a job ever runs.
 pub fn law_once()
     ensures once { Always IsOnce }
@@ -31,6 +34,7 @@ pub fn law_once()
     ensures bound { Always IsBound }
     ensures fixed { FixedLaw }
     ensures ends { EndsLaw }
+    ensures near { Always IsNear }
 {}
 
 /// In every world of every run the latch of a call is set only when the job that the call waits for is over, and the

@@ -1,26 +1,29 @@
--- wrong machines of records: replays, computed by the kernel, in which a job's record is not as its run began or ended
+-- wrong machines of records: replays, computed by the kernel, in which a job's record is not as its run began or ended, or
+-- names another pool than the job's
 use Rattle.std.proofs.Common.{refl}
-use Rattle.std.specs.Prelude.{ℕ, ◌+◌, Option, Some, None, List, [], ◌∷◌, ◌++◌, ◌≡◌, IfSome}
+use Rattle.std.specs.Prelude.{ℕ, true, false, ◌+◌, Option, Some, None, List, [], ◌∷◌, ◌++◌, ◌≡◌, IfSome}
 use Rattle.rayon_machine_places.specs.declared.place.Ending.{Ending}
 use Rattle.rayon_machine_places.specs.declared.place.Ending.TheVariants.{Fine, Fault}
 use Rattle.rayon_machine_places.specs.declared.place.Party.{Party}
+use Rattle.rayon_machine_places.specs.declared.place.Party.TheVariants.{Worker}
 use Rattle.rayon_machine_places.specs.declared.place.Place.{Place}
-use Rattle.rayon_machine_places.specs.declared.place.Place.TheVariants.{BeginTask, Run}
+use Rattle.rayon_machine_places.specs.declared.place.Place.TheVariants.{BeginTask, Run, PushJob}
 use Rattle.rayon_machine_places.specs.declared.place.Move.{Move}
 use Rattle.rayon_machine_places.specs.declared.place.Move.TheVariants.{Back}
 use Rattle.rayon_machine_places.specs.declared.act.Act.{Act}
-use Rattle.rayon_machine_places.specs.declared.act.Act.TheVariants.{Begin}
+use Rattle.rayon_machine_places.specs.declared.act.Act.TheVariants.{Begin, PushOwn}
 use Rattle.rayon_machine_places.specs.declared.act.Seen.{Seen}
 use Rattle.rayon_machine_places.specs.declared.act.Seen.TheVariants.{Begun}
 use Rattle.rayon_machine_places.specs.declared.event.Event.{Event}
 use Rattle.rayon_machine_places.specs.declared.event.Event.TheVariants.{End, Spawn}
 use Rattle.rayon_machine_places.specs.declared.shape.PoolShape.{PoolShape}
-use Rattle.rayon_machine_places.specs.declared.state.Whereabouts.TheVariants.{Over}
-use Rattle.rayon_machine_places.specs.Places.{act_of, next_of}
+use Rattle.rayon_machine_places.specs.declared.state.Whereabouts.TheVariants.{InDeque, Injected, Over}
+use Rattle.rayon_machine_places.specs.Places.{act_of, next_of, plan_book, plan_job}
 use Rattle.rayon_machine_places.specs.World.{Shape, Stack, World, Counts, Part, Outcome, at_job, effect, target_job}
 use Rattle.rayon_machine_places.specs.Steps.{after_close, put, put_stack, step}
 use Rattle.rayon_machine_laws.specs.Once.{run_of}
-use Rattle.rayon_machine_orders.proofs.WrongMachines.{Machine, making, run_by, times_go, two, a, c, right}
+use Rattle.rayon_machine_laws.specs.Near.{is_near}
+use Rattle.rayon_machine_orders.proofs.WrongMachines.{making, run_by, times_go, two, a, c, right}
 
 -- a caller spawns a job, and a worker finds it and begins it
 abbrev one_job : List Event
@@ -63,3 +66,24 @@ job_runs_nowhere = record { runs = refl {a = 1}; place = refl {a = 0} }
 -- in the machine as it is the worker stands there
 job_runs : IfSome (run_by right (two 32) one_job) (λ w. ((w.job 0).runs ≡ 1) × (run_of 0 (w.stack a).top ≡ 1))
 job_runs = (refl {a = 1}, refl {a = 1})
+
+-- a worker pushes each job onto its own deque, whatever its pool
+abbrev pushes_own : Party → Place → Act
+pushes_own (Worker p i) (PushJob n e) = PushOwn (plan_job n) (plan_book n)
+pushes_own q x = act_of q x
+
+-- a job of pool 0 spawns one at pool 1
+abbrev elsewhere : List Event
+elsewhere = one_job ++ Spawn a 1 ∷ times_go a 3
+
+-- it stands in a deque of pool 0
+record Astray (w : World) : Type 0 where
+  at : (w.job 1).at ≡ InDeque 0 0
+  near : is_near (w.job 1).kind (w.job 1).pool (w.job 1).bound (w.job 1).at ≡ false
+
+job_is_queued_elsewhere : IfSome (run_by (record { act = pushes_own; aims = target_job; does = effect; next = next_of; made = step }) (two 32) elsewhere) Astray
+job_is_queued_elsewhere = record { at = refl {a = InDeque 0 0}; near = refl }
+
+-- in the machine as it is it stands in its own pool's injector
+job_is_queued_at_home : IfSome (run_by right (two 32) elsewhere) (λ w. ((w.job 1).at ≡ Injected 1) × (is_near (w.job 1).kind (w.job 1).pool (w.job 1).bound (w.job 1).at ≡ true))
+job_is_queued_at_home = (refl {a = Injected 1}, refl)

@@ -2,6 +2,7 @@ use Rattle.rayon_machine_laws.proofs.Bounds.{always_bound}
 use Rattle.rayon_machine_laws.proofs.ClaimMakes.{always_once}
 use Rattle.rayon_machine_laws.proofs.Fixed.{fixed_law}
 use Rattle.rayon_machine_laws.proofs.Records.{ends_law}
+use Rattle.rayon_machine_laws.proofs.NearEvents.{always_near}
 use Rattle.rayon_machine_laws.proofs.Redeems.{always_stocks, redeems}
 use Rattle.rayon_machine_laws.proofs.laws.law_once.Goals as goal
 
@@ -19,3 +20,6 @@ returns-clause-fixed c = fixed_law
 
 pub returns-clause-ends : goal.returns-clause-ends
 returns-clause-ends c = ends_law
+
+pub returns-clause-near : goal.returns-clause-near
+returns-clause-near c h es w r = always_near h es w r

@@ -33,6 +33,7 @@ pub mod FaultSteps
 pub mod CallMakes
 pub mod Calls
 pub mod Casts
+pub mod Making
 pub mod CallTeeth
 pub mod CountTeeth
 pub mod LatchTeeth
@@ -42,6 +43,7 @@ pub mod ListTeeth
 pub mod GatherTeeth
 pub mod PieceTeeth
 pub mod FifoTeeth
+pub mod MakeTeeth
 pub mod CastTeeth
 pub mod ScopeTeeth
 pub mod Walks

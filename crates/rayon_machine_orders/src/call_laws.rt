@@ -8,6 +8,7 @@ ghost use Rattle.rayon_machine_orders.specs.Books.{IsBooked};
 ghost use Rattle.rayon_machine_orders.specs.Calls.{CallLaw};
 ghost use Rattle.rayon_machine_orders.specs.Casts.{CastLaw};
 ghost use Rattle.rayon_machine_orders.specs.Faults.{FaultLaw, IsKept};
+ghost use Rattle.rayon_machine_orders.specs.Makes.{MakeLaw};
 
 /// In every world of every run a pool's terminate count is the number of the shares in it: one for the pool's value
 /// until its Lower, and one for each job at the pool that has a share, but the jobs of scopes, whose shares are in
@@ -54,6 +55,9 @@ pub fn law_count()
 /// for each worker of the pool, bound to that worker. Once the party's stack is again what it was, each piece is
 /// queued, in a hand, running or over; but if a step of the broadcast itself was refused, each is handed back, has
 /// never run, and has no share of the pool's or the scope's count, and no number of the scope's book that is open.
+/// What an event names is what it makes (`makes`): each number that it gives out is that of a job of the kind, the pool
+/// and the worker that the call says, scopes are listed in the order of their openings, and no other event gives out a
+/// number or lists a scope.
 /// Each number of a scope's book is that of one job, and none below the next one is without a job (`books`). Who is to
 /// raise a scope's count for a job, or for the pieces of a broadcast, finds that it is not 0; who is to take numbers
 /// back holds the book, and they are its last; who stores how a job of a scope ended finds the job's number open; and
@@ -73,6 +77,7 @@ pub fn law_end()
     ensures early { Always NoEarlyEnd }
     ensures calls { CallLaw }
     ensures casts { CastLaw }
+    ensures makes { MakeLaw }
     ensures books { Always IsBooked }
     ensures faults { Always IsKept }
     ensures first { FaultLaw }

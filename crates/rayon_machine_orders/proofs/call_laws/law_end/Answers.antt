@@ -8,6 +8,7 @@ use Rattle.rayon_machine_orders.proofs.BookEvents.{always_books, is_booked}
 use Rattle.rayon_machine_orders.proofs.FaultSteps.{always_faults, takes_so, is_kept, fault_law}
 use Rattle.rayon_machine_orders.proofs.Calls.{call_law}
 use Rattle.rayon_machine_orders.proofs.Casts.{cast_law}
+use Rattle.rayon_machine_orders.proofs.Making.{make_law}
 use Rattle.rayon_machine_orders.proofs.call_laws.law_end.Goals as goal
 
 pub returns-clause-ends : goal.returns-clause-ends
@@ -27,6 +28,9 @@ returns-clause-calls c = call_law
 
 pub returns-clause-casts : goal.returns-clause-casts
 returns-clause-casts c = cast_law
+
+pub returns-clause-makes : goal.returns-clause-makes
+returns-clause-makes c = make_law
 
 pub returns-clause-books : goal.returns-clause-books
 returns-clause-books c h es w r = is_booked w (always_books h es w r)

@@ -34,6 +34,7 @@ pub mod CallMakes
 pub mod Calls
 pub mod Casts
 pub mod Making
+pub mod Listing
 pub mod CallTeeth
 pub mod CountTeeth
 pub mod LatchTeeth

@@ -1,7 +1,8 @@
 -- wrong machines of lists: replays, computed by the kernel, in which a changed table or act breaks the clause of a law
 -- that forbids it
-use Rattle.std.proofs.Common.{refl, ap}
-use Rattle.std.specs.Prelude.{ℕ, if◌then◌else◌, Option, Some, None, List, [], ◌∷◌, ◌++◌, ◌≡◌, IfSome, false}
+use Rattle.std.proofs.Common.{refl, ap, inl, inr}
+use Rattle.std.specs.Prelude.{ℕ, ◌+◌, nat_lt, if◌then◌else◌, Option, Some, None, List, [], ◌∷◌, ◌++◌, ◌≡◌, IfSome, false}
+use Rattle.rayon_machine_places.specs.declared.shape.Order.TheVariants.{OldestFirst}
 use Rattle.rayon_machine_places.specs.declared.place.Party.{Party}
 use Rattle.rayon_machine_places.specs.declared.place.Plan.TheVariants.{Feed}
 use Rattle.rayon_machine_places.specs.declared.place.Taken.TheVariants.{Plain}
@@ -10,16 +11,17 @@ use Rattle.rayon_machine_places.specs.declared.place.Place.TheVariants.{OpenSlot
 use Rattle.rayon_machine_places.specs.declared.place.Move.{Move}
 use Rattle.rayon_machine_places.specs.declared.place.Move.TheVariants.{Stay}
 use Rattle.rayon_machine_places.specs.declared.act.Act.{Act}
-use Rattle.rayon_machine_places.specs.declared.act.Act.TheVariants.{Steal, FifoIn, FifoUndo, FifoOut}
+use Rattle.rayon_machine_places.specs.declared.act.Act.TheVariants.{Steal, PopInj, PushCast, FifoIn, FifoUndo, FifoOut}
 use Rattle.rayon_machine_places.specs.declared.act.Seen.{Seen}
 use Rattle.rayon_machine_places.specs.declared.act.Seen.TheVariants.{Done, Missing, Task}
 use Rattle.rayon_machine_places.specs.declared.event.Event.{Event}
-use Rattle.rayon_machine_places.specs.declared.event.Event.TheVariants.{Go, Refuse, Spawn, Fifo, Scope as OpenScope, IntoFifo}
+use Rattle.rayon_machine_places.specs.declared.event.Event.TheVariants.{Go, Refuse, Spawn, Fifo, Cast, Scope as OpenScope, IntoFifo}
 use Rattle.rayon_machine_places.specs.declared.state.Slot.TheVariants.{Closed}
 use Rattle.rayon_machine_places.specs.declared.state.Whereabouts.TheVariants.{HandedBack, Retaken, Running}
 use Rattle.rayon_machine_places.specs.declared.shape.PoolShape.{PoolShape}
 use Rattle.rayon_machine_places.specs.Places.{after_push, act_of, next_of}
-use Rattle.rayon_machine_places.specs.World.{Shape, Seat, Pool, World, or_none, head_of, last_of, but_first, but_last, Counts, Part, Outcome, at_job, is_open, put_list, popped, target_job, effect}
+use Rattle.rayon_machine_places.specs.World.{Shape, Seat, Pool, World, or_none, head_of, last_of, but_first, but_last, Counts, Part, Outcome, at_job, is_open, put_list, popped, taken_as, target_job, effect}
+use Rattle.rayon_machine_orders.specs.Lists.{Pushes, Takes, Shifts, shift_at, deque_shift, injector_shift, cast_shift}
 use Rattle.rayon_machine_orders.specs.Queue.{Changes, Leaves, change}
 use Rattle.rayon_machine_orders.proofs.WrongMachines.{Machine, doing, aiming, leading, step_by, run_by, times_go, lone, two, a, b, c, right}
 use Rattle.rayon_machine_orders.proofs.CallTeeth.{running}
@@ -113,8 +115,7 @@ job_of_a_scope_in_the_detached_list = (refl, refl, refl)
 job_of_a_scope_in_its_list : IfSome (run_by right (two 32) (scope_opened ++ IntoFifo b 0 ∷ times_go b 6 ++ times_go a 10)) (λ w. (act_of a (w.stack a).top ≡ FifoOut 3 1 (Some 1)) × ((w.seat 0 1).fifo (Some 1) ≡ 2 ∷ []) × ((w.seat 0 1).fifo None ≡ []))
 job_of_a_scope_in_its_list = (refl, refl, refl)
 
--- a thief takes the newest task of the deque. No law forbids it: none speaks of a task's place in a deque of a pool of
--- two workers
+-- a thief takes the newest task of the deque
 abbrev steals_last : Act → Shape → Party → Counts → Part → Outcome
 steals_last (Steal p v) h q n m = popped q m (but_last m.seat.own) (last_of m.seat.own)
 steals_last act h q n m = effect act h q n m
@@ -123,14 +124,82 @@ abbrev aims_at_last : Shape → Party → Act → Pool → Seat → ℕ
 aims_at_last h q (Steal p i) v s = or_none (last_of s.own)
 aims_at_last h q act v s = target_job h q act v s
 
--- a run spawns two jobs, and the other worker steals
+-- a run spawns two jobs, and the other worker is to steal
 abbrev stolen_run : List Event
-stolen_run = running ++ Spawn b 0 ∷ times_go b 4 ++ Spawn b 0 ∷ times_go b 4 ++ times_go a 9
+stolen_run = running ++ Spawn b 0 ∷ times_go b 4 ++ Spawn b 0 ∷ times_go b 4 ++ times_go a 8
 
--- the earlier one is left
-thief_takes_the_newest : IfSome (run_by (aiming aims_at_last steals_last) (two 32) stolen_run) (λ w. ((w.seat 0 1).own ≡ 1 ∷ []) × ((w.job 2).at ≡ Running a))
-thief_takes_the_newest = (refl {a = 1 ∷ []}, refl {a = Running a})
+-- where the thief has one job in hand after the steal, and this is left
+record Steals (m : Machine) (hand : ℕ) (left : List ℕ) (w : World) : Type 0 where
+  act : act_of a (w.stack a).top ≡ Steal 0 1
+  deque : (w.seat 0 1).own ≡ 1 ∷ 2 ∷ []
+  after : IfSome (step_by m w (Go a)) (λ v. (shift_at (deque_shift w.shape 0 1) w (Go a) v ≡ Some (Takes OldestFirst (Some hand))) × ((v.seat 0 1).own ≡ left))
+
+-- the clause of lists is broken: the earlier one is left
+thief_takes_the_newest : IfSome (run_by (aiming aims_at_last steals_last) (two 32) stolen_run) (Steals (aiming aims_at_last steals_last) 2 (1 ∷ []))
+thief_takes_the_newest = record { act = refl; deque = refl; after = (refl, refl) }
+
+not_oldest : Shifts (1 ∷ 2 ∷ []) (Some (Takes OldestFirst (Some 2))) (1 ∷ []) → ⊥
+not_oldest (inl (e, f)) = cc
+not_oldest (inr (t, e, h)) = let n : last_of (1 ∷ 2 ∷ []) ≡ last_of (t ∷ 1 ∷ []) = ap last_of h in cc
 
 -- in the machine as it is the later one
-thief_takes_the_oldest : IfSome (run_by right (two 32) stolen_run) (λ w. ((w.seat 0 1).own ≡ 2 ∷ []) × ((w.job 1).at ≡ Running a))
-thief_takes_the_oldest = (refl {a = 2 ∷ []}, refl {a = Running a})
+thief_takes_the_oldest : IfSome (run_by right (two 32) stolen_run) (Steals right 1 (2 ∷ []))
+thief_takes_the_oldest = record { act = refl; deque = refl; after = (refl, refl) }
+
+-- a worker takes the newest job of the injector
+abbrev newest_taken : Party → Part → Option ℕ → Outcome
+newest_taken q m None = Some (Missing, m)
+newest_taken q m (Some t) = Some (Task (taken_as t m.job.kind), record m { pool = record (m.pool) { injector = but_last m.pool.injector }; job = at_job (m.job) (Running q) })
+
+abbrev pops_last : Act → Shape → Party → Counts → Part → Outcome
+pops_last PopInj h q n m = newest_taken q m (last_of m.pool.injector)
+pops_last act h q n m = effect act h q n m
+
+abbrev aims_at_newest : Shape → Party → Act → Pool → Seat → ℕ
+aims_at_newest h q PopInj v s = or_none (last_of v.injector)
+aims_at_newest h q act v s = target_job h q act v s
+
+-- a caller spawns two jobs, and a worker is to look at the injector
+abbrev injected_run : List Event
+injected_run = Spawn c 0 ∷ times_go c 4 ++ Spawn c 0 ∷ times_go c 4 ++ times_go a 9
+
+record PopsInjector (m : Machine) (hand : ℕ) (left : List ℕ) (w : World) : Type 0 where
+  act : act_of a (w.stack a).top ≡ PopInj
+  injector : (w.pool 0).injector ≡ 0 ∷ 1 ∷ []
+  after : IfSome (step_by m w (Go a)) (λ v. (shift_at (injector_shift 0) w (Go a) v ≡ Some (Takes OldestFirst (Some hand))) × ((v.pool 0).injector ≡ left))
+
+-- the clause of lists is broken: the earlier one is left
+injector_popped_newest_first : IfSome (run_by (aiming aims_at_newest pops_last) (two 32) injected_run) (PopsInjector (aiming aims_at_newest pops_last) 1 (0 ∷ []))
+injector_popped_newest_first = record { act = refl; injector = refl; after = (refl, refl) }
+
+not_earliest : Shifts (0 ∷ 1 ∷ []) (Some (Takes OldestFirst (Some 1))) (0 ∷ []) → ⊥
+not_earliest (inl (e, f)) = cc
+not_earliest (inr (t, e, h)) = let n : last_of (0 ∷ 1 ∷ []) ≡ last_of (t ∷ 0 ∷ []) = ap last_of h in cc
+
+-- in the machine as it is the later one
+injector_popped_oldest_first : IfSome (run_by right (two 32) injected_run) (PopsInjector right 0 (1 ∷ []))
+injector_popped_oldest_first = record { act = refl; injector = refl; after = (refl, refl) }
+
+-- a broadcast adds its pieces first
+abbrev deals_first : Act → Shape → Party → Counts → Part → Outcome
+deals_first (PushCast b) h q n m = Some (Done, record m { pool = record (m.pool) { casts = λ i. if nat_lt i b.workers then (b.first + i) ∷ m.pool.casts i else m.pool.casts i } })
+deals_first act h q n m = effect act h q n m
+
+-- a caller broadcasts, and is to queue the pieces of a second broadcast
+abbrev cast_run : List Event
+cast_run = Cast c 0 ∷ times_go c 8 ++ Cast c 0 ∷ times_go c 1
+
+record Deals (m : Machine) (list : List ℕ) (w : World) : Type 0 where
+  before : (w.pool 0).casts 0 ≡ 0 ∷ []
+  after : IfSome (step_by m w (Go c)) (λ v. (shift_at (cast_shift 0 0) w (Go c) v ≡ Some (Pushes 2)) × ((v.pool 0).casts 0 ≡ list))
+
+-- the clause of lists is broken: the later piece stands first
+broadcast_adds_its_pieces_first : IfSome (run_by (doing deals_first) (two 32) cast_run) (Deals (doing deals_first) (2 ∷ 0 ∷ []))
+broadcast_adds_its_pieces_first = record { before = refl {a = 0 ∷ []}; after = (refl {a = Some (Pushes 2)}, refl {a = 2 ∷ 0 ∷ []}) }
+
+not_added_last : Shifts (0 ∷ []) (Some (Pushes 2)) (2 ∷ 0 ∷ []) → ⊥
+not_added_last e = let n : head_of (2 ∷ 0 ∷ []) ≡ head_of (0 ∷ 2 ∷ []) = ap head_of e in cc
+
+-- in the machine as it is last
+broadcast_adds_its_pieces_last : IfSome (run_by right (two 32) cast_run) (Deals right (0 ∷ 2 ∷ []))
+broadcast_adds_its_pieces_last = record { before = refl {a = 0 ∷ []}; after = (refl {a = Some (Pushes 2)}, refl {a = 0 ∷ 2 ∷ []}) }

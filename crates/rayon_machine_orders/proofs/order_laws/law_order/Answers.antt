@@ -1,5 +1,6 @@
 use Rattle.rayon_machine_orders.proofs.Handed.{token_law}
 use Rattle.rayon_machine_orders.proofs.Leveling.{level_law}
+use Rattle.rayon_machine_orders.proofs.Listing.{list_law}
 use Rattle.rayon_machine_orders.proofs.Queued.{queue_law}
 use Rattle.rayon_machine_orders.proofs.Walking.{tree_law}
 use Rattle.rayon_machine_orders.proofs.order_laws.law_order.Goals as goal
@@ -15,3 +16,6 @@ returns-clause-levels c = level_law
 
 pub returns-clause-queue : goal.returns-clause-queue
 returns-clause-queue c = queue_law
+
+pub returns-clause-lists : goal.returns-clause-lists
+returns-clause-lists c = list_law

@@ -35,6 +35,7 @@ pub mod Calls
 pub mod Casts
 pub mod Making
 pub mod Listing
+pub mod Looking
 pub mod CallTeeth
 pub mod CountTeeth
 pub mod LatchTeeth
@@ -45,6 +46,7 @@ pub mod GatherTeeth
 pub mod PieceTeeth
 pub mod FifoTeeth
 pub mod MakeTeeth
+pub mod LookTeeth
 pub mod CastTeeth
 pub mod ScopeTeeth
 pub mod Walks

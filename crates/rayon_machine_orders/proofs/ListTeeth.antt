@@ -125,7 +125,7 @@ aims_at_last h q (Steal p i) v s = or_none (last_of s.own)
 aims_at_last h q act v s = target_job h q act v s
 
 -- a run spawns two jobs, and the other worker is to steal
-abbrev stolen_run : List Event
+abbrev pub stolen_run : List Event
 stolen_run = running ++ Spawn b 0 ∷ times_go b 4 ++ Spawn b 0 ∷ times_go b 4 ++ times_go a 8
 
 -- where the thief has one job in hand after the steal, and this is left

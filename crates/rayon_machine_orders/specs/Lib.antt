@@ -3,7 +3,9 @@ pub mod Calls
 pub mod Casts
 pub mod Faults
 pub mod Lists
+pub mod Looks
 pub mod Makes
+pub mod Numbers
 pub mod Order
 pub mod Queue
 pub use Rattle.rayon_machine_places.specs.Places

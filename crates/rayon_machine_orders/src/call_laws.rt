@@ -9,6 +9,7 @@ ghost use Rattle.rayon_machine_orders.specs.Calls.{CallLaw};
 ghost use Rattle.rayon_machine_orders.specs.Casts.{CastLaw};
 ghost use Rattle.rayon_machine_orders.specs.Faults.{FaultLaw, IsKept};
 ghost use Rattle.rayon_machine_orders.specs.Makes.{MakeLaw};
+ghost use Rattle.rayon_machine_orders.specs.Numbers.{NumberLaw};
 
 /// In every world of every run a pool's terminate count is the number of the shares in it: one for the pool's value
 /// until its Lower, and one for each job at the pool that has a share, but the jobs of scopes, whose shares are in
@@ -63,6 +64,9 @@ pub fn law_count()
 /// back holds the book, and they are its last; who stores how a job of a scope ended finds the job's number open; and
 /// where a scope is to take from its cell its count is 0, nobody holds its book,
 /// and no number of its jobs is open.
+/// A spawn into a scope opens the next number of the scope's book, and a broadcast into one the next numbers, in the
+/// order of its workers; the pieces of a broadcast that waits have those from 0 on, each that of its worker
+/// (`numbers`).
 /// There the book keeps no fault exactly where the scope's body and each job of it that is over ended without one, and
 /// else that of the body or of a job that ended so; and the Take sees a fault exactly where one is kept (`faults`). So
 /// it is of a broadcast that waited: each piece has run once, and the fault is that of the lowest piece that ended with
@@ -79,6 +83,7 @@ pub fn law_end()
     ensures casts { CastLaw }
     ensures makes { MakeLaw }
     ensures books { Always IsBooked }
+    ensures numbers { NumberLaw }
     ensures faults { Always IsKept }
     ensures first { FaultLaw }
 {}

@@ -1,6 +1,7 @@
 //! The law of the order of jobs on one worker, the contract of a call without arguments: it holds in every stretch of
 //! every run.
 ghost use Rattle.rayon_machine_orders.specs.Lists.{ListLaw};
+ghost use Rattle.rayon_machine_orders.specs.Looks.{MissLaw, TellLaw};
 ghost use Rattle.rayon_machine_orders.specs.Order.{LevelLaw, TokenLaw, TreeLaw};
 ghost use Rattle.rayon_machine_orders.specs.Queue.{QueueLaw};
 
@@ -22,11 +23,14 @@ ghost use Rattle.rayon_machine_orders.specs.Queue.{QueueLaw};
 /// what is left is what the list holds. The list may be that of detached jobs, or that of a scope.
 /// Each worker's FIFO lists are queues, in every pool, whatever its order (`queue`): a job that is added stands last, a
 /// refused call takes the last back, each token that is redeemed begins the first, and no other step changes a list.
-/// Own deques, injectors and broadcast lists are queues too, in every pool (`lists`): a worker pushes onto its own deque
-/// last, and pops the last, or the first in a pool that is oldest first; a thief takes the first. What is pushed into an
-/// injector stands last there, and the pool's workers take the first, as each worker does from its own broadcast list, to
-/// which a broadcast adds that worker's piece last. Who takes has the job or token in hand then, a list that is not empty
-/// gives one, and no other step changes a list.
+/// Own deques, injectors and broadcast lists are queues too, in every pool (`lists`): a worker pushes onto its own
+/// deque last, and pops the last, or the first in a pool that is oldest first; a thief takes the first. What is pushed
+/// into an injector stands last there, and the pool's workers take the first, as each worker does from its own
+/// broadcast list, to which a broadcast adds that worker's piece last. Who takes has the job or token in hand then, a
+/// list that is not empty gives one, and no other step changes a list.
+/// A steal misses only in a pool that is newest first, at a deque with exactly one task (`misses`). Who pushes a job or
+/// a token has looked at the very queue that the push goes to, and tells of that pool next, with what the queue was:
+/// empty or not (`told`).
 /// It does not say that a job ever begins.
 pub fn law_order()
     ensures tokens { TokenLaw }
@@ -34,4 +38,6 @@ pub fn law_order()
     ensures levels { LevelLaw }
     ensures queue { QueueLaw }
     ensures lists { ListLaw }
+    ensures misses { MissLaw }
+    ensures told { TellLaw }
 {}

@@ -8,6 +8,7 @@ use Rattle.rayon_machine_orders.proofs.BookEvents.{always_books, is_booked}
 use Rattle.rayon_machine_orders.proofs.FaultSteps.{always_faults, takes_so, is_kept, fault_law}
 use Rattle.rayon_machine_orders.proofs.Calls.{call_law}
 use Rattle.rayon_machine_orders.proofs.Casts.{cast_law}
+use Rattle.rayon_machine_orders.proofs.Looking.{number_law}
 use Rattle.rayon_machine_orders.proofs.Making.{make_law}
 use Rattle.rayon_machine_orders.proofs.call_laws.law_end.Goals as goal
 
@@ -34,6 +35,9 @@ returns-clause-makes c = make_law
 
 pub returns-clause-books : goal.returns-clause-books
 returns-clause-books c h es w r = is_booked w (always_books h es w r)
+
+pub returns-clause-numbers : goal.returns-clause-numbers
+returns-clause-numbers c = number_law
 
 pub returns-clause-faults : goal.returns-clause-faults
 returns-clause-faults c h es w r = is_kept w (always_faults h es w r)

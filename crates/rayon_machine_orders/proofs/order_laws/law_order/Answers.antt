@@ -1,6 +1,7 @@
 use Rattle.rayon_machine_orders.proofs.Handed.{token_law}
 use Rattle.rayon_machine_orders.proofs.Leveling.{level_law}
 use Rattle.rayon_machine_orders.proofs.Listing.{list_law}
+use Rattle.rayon_machine_orders.proofs.Looking.{miss_law, tell_law}
 use Rattle.rayon_machine_orders.proofs.Queued.{queue_law}
 use Rattle.rayon_machine_orders.proofs.Walking.{tree_law}
 use Rattle.rayon_machine_orders.proofs.order_laws.law_order.Goals as goal
@@ -19,3 +20,9 @@ returns-clause-queue c = queue_law
 
 pub returns-clause-lists : goal.returns-clause-lists
 returns-clause-lists c = list_law
+
+pub returns-clause-misses : goal.returns-clause-misses
+returns-clause-misses c = miss_law
+
+pub returns-clause-told : goal.returns-clause-told
+returns-clause-told c = tell_law

@@ -1,0 +1,207 @@
+-- a steal misses only the one task of a deque; who pushes has looked at the queue that it pushes to, and tells of it; and
+-- the numbers of books are opened in order
+use Rattle.std.proofs.Common.{arith, refl, sym, ◌∙◌, ap, subst}
+use Rattle.std.specs.Prelude.{ℕ, Bool, true, false, ◌+◌, ◌-◌, ◌<◌, if◌then◌else◌, Some, None, List, [], ◌∷◌, ◌≡◌, IfSome}
+use Rattle.std.proofs.lemmas.Bool.{eqb-true}
+use Rattle.rayon_machine_places.specs.declared.shape.Order.{Order}
+use Rattle.rayon_machine_places.specs.declared.shape.Order.TheVariants.{NewestFirst, OldestFirst}
+use Rattle.rayon_machine_places.specs.declared.place.Party.{Party}
+use Rattle.rayon_machine_places.specs.declared.place.Party.TheVariants.{Worker, Caller}
+use Rattle.rayon_machine_places.specs.declared.place.Count.{Count}
+use Rattle.rayon_machine_places.specs.declared.place.Count.TheVariants.{OfPool, OfScope, OfCast}
+use Rattle.rayon_machine_places.specs.declared.place.Pieces.{Pieces}
+use Rattle.rayon_machine_places.specs.declared.place.Plan.{Plan}
+use Rattle.rayon_machine_places.specs.declared.place.Feeding.{Feeding}
+use Rattle.rayon_machine_places.specs.declared.place.Gathering.{Gathering}
+use Rattle.rayon_machine_places.specs.declared.shape.PoolShape.{PoolShape}
+use Rattle.rayon_machine_places.specs.declared.place.Mark.{Mark as Marking}
+use Rattle.rayon_machine_places.specs.declared.place.Mark.TheVariants.{Numbered, Dealt}
+use Rattle.rayon_machine_places.specs.declared.place.Taken.TheVariants.{Plain, Token}
+use Rattle.rayon_machine_places.specs.declared.place.Place.{Place}
+use Rattle.rayon_machine_places.specs.declared.place.Place.TheVariants.{BeginTask, DealPieces, LookForToken, LookQueue, OpenForAll, OpenSlot, PushForAll, PushJob, PushToken, StealFrom, YieldSteal}
+use Rattle.rayon_machine_places.specs.declared.act.Act.{Act}
+use Rattle.rayon_machine_places.specs.declared.act.Act.TheVariants.{FifoOut, LookInj, LookOwn, News, PushCast, PushInj, PushOwn, Slot, SlotAll, Steal}
+use Rattle.rayon_machine_places.specs.declared.act.Seen.{Seen}
+use Rattle.rayon_machine_places.specs.declared.act.Seen.TheVariants.{Done}
+use Rattle.rayon_machine_places.specs.declared.event.Event.TheVariants.{Go}
+use Rattle.rayon_machine_places.specs.declared.state.Job.{Job}
+use Rattle.rayon_machine_places.specs.declared.state.Slot.TheVariants.{Open as IsOpen}
+use Rattle.rayon_machine_places.specs.Places.{act_of, count_call, is_member, next_of, own_pool, plan_book, plan_count, plan_job, plan_pool}
+use Rattle.rayon_machine_places.specs.World.{Stack, World, Part, empty_seen, is_open, target_call, target_pool, target_worker}
+use Rattle.rayon_machine_places.specs.Steps.{after, after_miss, after_move, can_miss, has_one, is_newest_first, jobs_after, mark_pieces, marked, put, step}
+use Rattle.rayon_machine_orders.specs.Looks.{MissesOne, MissLaw, is_look, flag_of, queue_of, pool_of, is_empty, TellsSo, TellLaw}
+use Rattle.rayon_machine_orders.specs.Numbers.{DealtFrom, OpensSo, NumberLaw}
+use Rattle.rayon_machine_laws.proofs.Frame.{and_parts, if_cond, if_some_all, if_some_map, piece_in, piece_new, put_new, stack_mine}
+use Rattle.rayon_machine_laws.proofs.ClaimMakes.{always_calls}
+use Rattle.rayon_machine_laws.proofs.Claims.{KnownCount, Says}
+use Rattle.rayon_machine_laws.proofs.Placed.{outcome_of}
+use Rattle.rayon_machine_laws.proofs.Ties.{job_at, outcome, result}
+use Rattle.rayon_machine_orders.proofs.CallSteps.{go_all}
+
+-- the world after such an act
+abbrev world_by : World → Party → Act → Place → List Place → Seen × Part → World
+world_by w q a x fs r = after w q (record { top = x; below = fs }) (target_pool q a) (target_worker q a) (target_call a) (job_at w q a) r
+
+-- a thief that can miss
+newest : (o : Order) → is_newest_first o ≡ true → o ≡ NewestFirst
+newest NewestFirst e = refl
+newest OldestFirst e = cc
+
+misses : (w : World) (q : Party) (s : Stack) (p v : ℕ) (l : List ℕ) → own_pool q ≡ p → act_of q (w.stack q).top ≡ Steal p v → (w.seat p v).own ≡ l → can_miss w p v ≡ true → MissesOne w q
+misses w q s p v l a b d e = by l d (and_parts (is_newest_first (w.shape.pool p).order) (has_one (w.seat p v).own) e)
+  where
+    by : (l : List ℕ) → (w.seat p v).own ≡ l → (is_newest_first (w.shape.pool p).order ≡ true) × (has_one (w.seat p v).own ≡ true) → MissesOne w q
+    by [] y z = absurd (let i : has_one [] ≡ true = ap has_one (sym y) ∙ z.1 in cc)
+    by (t ∷ u ∷ us) y z = absurd (let i : has_one (t ∷ u ∷ us) ≡ true = ap has_one (sym y) ∙ z.1 in cc)
+    by (t ∷ []) y z = record { victim = v; act = subst (λ n. act_of q (w.stack q).top ≡ Steal n v) (sym a) b; order = subst (λ n. (w.shape.pool n).order ≡ NewestFirst) (sym a) (newest ((w.shape.pool p).order) (z.0)); task = t; deque = subst (λ n. (w.seat n v).own ≡ t ∷ []) (sym a) y }
+
+missed : (w : World) (q : Party) (x : Place) → (w.stack q).top ≡ x → IfSome (after_miss w q (w.stack q) x) (λ v. MissesOne w q)
+missed w (Worker p i) (StealFrom k n) e = if_cond (λ v. MissesOne w (Worker p i)) (can_miss w p k.victim) _ (misses w (Worker p i) (w.stack (Worker p i)) p k.victim ((w.seat p k.victim).own) refl (ap (act_of (Worker p i)) e) refl)
+missed w (Worker p i) (YieldSteal v n) e = if_cond (λ u. MissesOne w (Worker p i)) (can_miss w p v) _ (misses w (Worker p i) (w.stack (Worker p i)) p v ((w.seat p v).own) refl (ap (act_of (Worker p i)) e) refl)
+missed w (Worker p i) _ e = tt
+missed w (Caller c) _ e = tt
+
+pub miss_law : MissLaw
+miss_law shape before q w v run s = let k : IfSome (Some v) (λ u. MissesOne w q) = subst (λ o. IfSome o (λ u. MissesOne w q)) s (missed w q ((w.stack q).top) refl) in k
+
+-- where a party stands after its act, and what it tells
+record Tells (w : World) (q : Party) (x y : Place) : Type 0 where
+  looks : is_look x ≡ true → (l : List ℕ) × (queue_of w q (act_of q y) ≡ Some l) × (flag_of y ≡ Some (is_empty l))
+  tells : (b : Bool) → flag_of x ≡ Some b → act_of q y ≡ News (pool_of q (act_of q x)) b
+
+abbrev Leads : World → Party → Act → Place → List Place → Type 0
+Leads w q a x fs = IfSome (outcome_of w q a) (λ r. Tells w q x (after_move (next_of (w.shape.pool (target_pool q a)) q x (r.0)) fs).top)
+
+silent : (w : World) (q : Party) (x y : Place) → is_look x ≡ false → flag_of x ≡ None → Tells w q x y
+silent w q x y a b = record { looks = λ z. absurd (let c : true ≡ false = sym z ∙ a in cc); tells = λ e z. absurd (let c : Some e ≡ None = sym z ∙ b in cc) }
+
+looked : (w : World) (q : Party) (n : Plan) (fs : List Place) (g : PoolShape) (l : List ℕ) → ((e : Bool) → queue_of w q (act_of q (PushJob n e)) ≡ Some l) → Tells w q (LookQueue n) (after_move (next_of g q (LookQueue n) (empty_seen l)) fs).top
+looked w q n fs g [] e = record { looks = λ z. ([], e true, refl); tells = λ b z. cc }
+looked w q n fs g (t ∷ ts) e = record { looks = λ z. (t ∷ ts, e false, refl); tells = λ b z. cc }
+
+token_looked : (w : World) (a b : ℕ) (f : Feeding) (fs : List Place) (g : PoolShape) (l : List ℕ) → (w.seat a b).own ≡ l → Tells w (Worker a b) (LookForToken f) (after_move (next_of g (Worker a b) (LookForToken f) (empty_seen l)) fs).top
+token_looked w a b f fs g [] e = record { looks = λ z. ([], ap Some e, refl); tells = λ b z. cc }
+token_looked w a b f fs g (t ∷ ts) e = record { looks = λ z. (t ∷ ts, ap Some e, refl); tells = λ b z. cc }
+
+look_tells : (w : World) (a b : ℕ) (n : Plan) (fs : List Place) → Leads w (Worker a b) (act_of (Worker a b) (LookQueue n)) (LookQueue n) fs
+look_tells w a b n fs = by (is_member (Worker a b) (plan_pool n)) refl
+  where
+    goes : Bool → Act
+    goes k = if k then PushOwn (plan_job n) (plan_book n) else PushInj (plan_pool n) (plan_job n) (plan_book n)
+
+    by : (k : Bool) → is_member (Worker a b) (plan_pool n) ≡ k → Leads w (Worker a b) (if k then LookOwn else LookInj (plan_pool n)) (LookQueue n) fs
+    by true z = looked w (Worker a b) n fs (w.shape.pool a) ((w.seat a b).own) (λ e. ap (λ k. queue_of w (Worker a b) (goes k)) z)
+    by false z = looked w (Worker a b) n fs (w.shape.pool (plan_pool n)) ((w.pool (plan_pool n)).injector) (λ e. ap (λ k. queue_of w (Worker a b) (goes k)) z)
+
+push_tells : (w : World) (a b : ℕ) (n : Plan) (v : Bool) (fs : List Place) → Leads w (Worker a b) (act_of (Worker a b) (PushJob n v)) (PushJob n v) fs
+push_tells w a b n v fs = by (is_member (Worker a b) (plan_pool n)) refl
+  where
+    goes : Bool → Act
+    goes k = if k then PushOwn (plan_job n) (plan_book n) else PushInj (plan_pool n) (plan_job n) (plan_book n)
+
+    pool : (k : Bool) → is_member (Worker a b) (plan_pool n) ≡ k → pool_of (Worker a b) (goes k) ≡ plan_pool n
+    pool true z = eqb-true a (plan_pool n) z
+    pool false z = refl
+
+    told : (k : Bool) → is_member (Worker a b) (plan_pool n) ≡ k → (e : Bool) → Some v ≡ Some e → News (plan_pool n) v ≡ News (pool_of (Worker a b) (goes (is_member (Worker a b) (plan_pool n)))) e
+    told k z e y = let i : v ≡ e = cc in ap (λ u. News (plan_pool n) u) i ∙ ap (λ u. News u e) (sym (ap (λ u. pool_of (Worker a b) (goes u)) z ∙ pool k z))
+
+    by : (k : Bool) → is_member (Worker a b) (plan_pool n) ≡ k → Leads w (Worker a b) (goes k) (PushJob n v) fs
+    by true z = record { looks = λ y. cc; tells = told true z }
+    by false z = record { looks = λ y. cc; tells = told false z }
+
+act_tells : (w : World) (q : Party) (x : Place) (fs : List Place) → Says w q x → Leads w q (act_of q x) x fs
+act_tells w (Worker a b) (LookQueue n) fs s = look_tells w a b n fs
+act_tells w (Caller c) (LookQueue n) fs s = looked w (Caller c) n fs (w.shape.pool (plan_pool n)) ((w.pool (plan_pool n)).injector) (λ e. refl)
+act_tells w (Worker a b) (LookForToken f) fs s = token_looked w a b f fs (w.shape.pool a) ((w.seat a b).own) refl
+act_tells w (Caller c) (LookForToken f) fs s = tt
+act_tells w (Worker a b) (PushJob n v) fs s = push_tells w a b n v fs
+act_tells w (Caller c) (PushJob n v) fs s = record { looks = λ y. cc; tells = λ e y. (let i : v ≡ e = cc in ap (λ u. News (plan_pool n) u) i) }
+act_tells w (Worker a b) (PushToken f v) fs s = record { looks = λ y. cc; tells = λ e y. (let i : v ≡ e = cc in ap (λ u. News f.pool u) i ∙ ap (λ u. News u e) (s.2)) }
+act_tells w (Caller c) (PushToken f v) fs s = tt
+act_tells w q x fs s = if_some_all (λ r. Tells w q x (after_move (next_of (w.shape.pool (target_pool q (act_of q x))) q x (r.0)) fs).top) (λ r. silent w q x _ refl refl) (outcome_of w q (act_of q x))
+
+-- so it is over each step
+go_tells : (w : World) (q : Party) → Says w q (w.stack q).top → IfSome (step w (Go q)) (TellsSo w q)
+go_tells w q s = go_all (TellsSo w q) w q (if_some_map (λ r. Tells w q ((w.stack q).top) ((to r).top)) (λ r. TellsSo w q (result w q (w.stack q) r)) landed (outcome w q (w.stack q)) (act_tells w q ((w.stack q).top) ((w.stack q).below) s))
+  where
+    to : Seen × Part → Stack
+    to r = after_move (next_of (w.shape.pool (target_pool q (act_of q (w.stack q).top))) q ((w.stack q).top) (r.0)) ((w.stack q).below)
+
+    landed : (r : Seen × Part) → Tells w q ((w.stack q).top) ((to r).top) → TellsSo w q (result w q (w.stack q) r)
+    landed r h = subst (λ k. Tells w q ((w.stack q).top) (k.top) → TellsSo w q (result w q (w.stack q) r)) (stack_mine w.stack q (to r)) made h
+      where
+        made : Tells w q ((w.stack q).top) (((result w q (w.stack q) r).stack q).top) → TellsSo w q (result w q (w.stack q) r)
+        made t = record { looks = λ z. (let l : (l : List ℕ) × (queue_of w q (act_of q (((result w q (w.stack q) r).stack q).top)) ≡ Some l) × (flag_of (((result w q (w.stack q) r).stack q).top) ≡ Some (is_empty l)) = t.looks z in record { queue = l.0; goes = l.1; flag = l.2 }); tells = t.tells }
+
+pub tell_law : TellLaw
+tell_law shape before q w v run s = let k : IfSome (Some v) (TellsSo w q) = subst (λ o. IfSome o (TellsSo w q)) s (go_tells w q (((always_calls shape before w run).says q).top)) in k
+
+-- the numbers that an act opens
+numbered : (c : Pieces) (k : Marking) (f : ℕ → Job) (n i : ℕ) → ((j : Job) (t : ℕ) → (marked k c.pool t j).slot ≡ IsOpen (n + t)) → i < c.workers → (mark_pieces c k f (c.first + i)).slot ≡ IsOpen (n + i)
+numbered c k f n i h l = ap (λ j. j.slot) (piece_new c (marked k c.pool) f (c.first + i) (piece_in c (c.first + i) (omega arith) (omega (arith, l)))) ∙ h (f (c.first + i)) (c.first + i - c.first) ∙ ap (λ t. IsOpen (n + t)) (omega arith)
+
+slot_opens : (w : World) (q : Party) (n : Plan) (fs : List Place) → IfSome (outcome_of w q (Slot (count_call (plan_count n)) (plan_job n))) (λ r. OpensSo w (Slot (count_call (plan_count n)) (plan_job n)) (world_by w q (Slot (count_call (plan_count n)) (plan_job n)) (OpenSlot n) fs r))
+slot_opens w q n fs = if_cond (λ r. OpensSo w (Slot (count_call (plan_count n)) (plan_job n)) (world_by w q (Slot (count_call (plan_count n)) (plan_job n)) (OpenSlot n) fs r)) (is_open q ((w.call (count_call (plan_count n))).writer)) _
+    (λ o. (ap (λ j. j.slot) (put_new w.job (plan_job n) _), ap (λ c. c.slots) (put_new w.call (count_call (plan_count n)) _)))
+
+all_opens : (w : World) (q : Party) (c : Pieces) (fs : List Place) → IfSome (outcome_of w q (SlotAll c)) (λ r. OpensSo w (SlotAll c) (world_by w q (SlotAll c) (OpenForAll c) fs r))
+all_opens w q c fs = if_cond (λ r. OpensSo w (SlotAll c) (world_by w q (SlotAll c) (OpenForAll c) fs r)) (is_open q ((w.call (count_call c.count)).writer)) _
+    (λ o. (λ i l. numbered c (Numbered (w.call (count_call c.count)).slots) (put w.job 0 (w.job 0)) ((w.call (count_call c.count)).slots) i (λ j t. refl) l, ap (λ k. k.slots) (put_new w.call (count_call c.count) _)))
+
+deal_opens : (w v : World) (c : Pieces) (k : Count) (f : ℕ → Job) → ((t : ℕ) → v.job t ≡ mark_pieces c Dealt f t) → DealtFrom v c k
+deal_opens w v c (OfPool p) f e = tt
+deal_opens w v c (OfScope n o) f e = tt
+deal_opens w v c (OfCast n o) f e = λ i l. ap (λ j. j.slot) (e (c.first + i)) ∙ numbered c Dealt f 0 i (λ j t. ap IsOpen (omega arith)) l
+
+deals : (w : World) (q : Party) (g : Gathering) (fs : List Place) → IfSome (outcome_of w q (PushCast g.pieces)) (λ r. OpensSo w (PushCast g.pieces) (world_by w q (PushCast g.pieces) (DealPieces g) fs r))
+deals w q g fs = if_some_map (λ r. r.0 ≡ Done) (λ r. OpensSo w (PushCast g.pieces) (world_by w q (PushCast g.pieces) (DealPieces g) fs r)) done (outcome_of w q (PushCast g.pieces)) refl
+  where
+    done : (r : Seen × Part) → r.0 ≡ Done → OpensSo w (PushCast g.pieces) (world_by w q (PushCast g.pieces) (DealPieces g) fs r)
+    done r e = deal_opens w (world_by w q (PushCast g.pieces) (DealPieces g) fs r) g.pieces g.pieces.count (put w.job 0 (r.1.job)) (λ t. ap (λ x. jobs_after q (next_of (w.shape.pool g.pieces.pool) q (DealPieces g) x) (put w.job 0 (r.1.job)) t) e)
+
+-- a broadcast that waits for nothing has no count of its own
+known_opens : (w v : World) (c : Pieces) (k : Count) (p : ℕ) → KnownCount w k p → DealtFrom v c k
+known_opens w v c (OfPool r) p s = tt
+known_opens w v c (OfScope n o) p s = tt
+known_opens w v c (OfCast n o) p s = absurd s
+
+cast_opens : (w : World) (q : Party) (c : Pieces) (fs : List Place) → KnownCount w c.count c.pool → IfSome (outcome_of w q (PushCast c)) (λ r. OpensSo w (PushCast c) (world_by w q (PushCast c) (PushForAll c) fs r))
+cast_opens w q c fs s = if_some_all (λ r. OpensSo w (PushCast c) (world_by w q (PushCast c) (PushForAll c) fs r)) (λ r. known_opens w (world_by w q (PushCast c) (PushForAll c) fs r) c c.count c.pool s) (outcome_of w q (PushCast c))
+
+-- all other acts open none
+others : (w : World) (q : Party) (a : Act) (x : Place) (fs : List Place) → ((v : World) → OpensSo w a v) → IfSome (outcome_of w q a) (λ r. OpensSo w a (world_by w q a x fs r))
+others w q a x fs h = if_some_all (λ r. OpensSo w a (world_by w q a x fs r)) (λ r. h (world_by w q a x fs r)) (outcome_of w q a)
+
+act_opens : (w : World) (q : Party) (x : Place) (fs : List Place) → Says w q x → IfSome (outcome_of w q (act_of q x)) (λ r. OpensSo w (act_of q x) (world_by w q (act_of q x) x fs r))
+act_opens w (Worker a b) (OpenSlot n) fs s = slot_opens w (Worker a b) n fs
+act_opens w (Caller g) (OpenSlot n) fs s = slot_opens w (Caller g) n fs
+act_opens w (Worker a b) (OpenForAll c) fs s = all_opens w (Worker a b) c fs
+act_opens w (Caller g) (OpenForAll c) fs s = all_opens w (Caller g) c fs
+act_opens w (Worker a b) (PushForAll c) fs s = cast_opens w (Worker a b) c fs (s.1)
+act_opens w (Caller g) (PushForAll c) fs s = cast_opens w (Caller g) c fs (s.1)
+act_opens w (Worker a b) (DealPieces g) fs s = deals w (Worker a b) g fs
+act_opens w (Caller c) (DealPieces g) fs s = deals w (Caller c) g fs
+act_opens w (Worker a b) (PushJob n v) fs s = by (is_member (Worker a b) (plan_pool n))
+  where
+    by : (k : Bool) → IfSome (outcome_of w (Worker a b) (if k then PushOwn (plan_job n) (plan_book n) else PushInj (plan_pool n) (plan_job n) (plan_book n)))
+        (λ r. OpensSo w (if k then PushOwn (plan_job n) (plan_book n) else PushInj (plan_pool n) (plan_job n) (plan_book n)) (world_by w (Worker a b) (if k then PushOwn (plan_job n) (plan_book n) else PushInj (plan_pool n) (plan_job n) (plan_book n)) (PushJob n v) fs r))
+    by true = tt
+    by false = tt
+act_opens w (Worker a b) (LookQueue n) fs s = by (is_member (Worker a b) (plan_pool n))
+  where
+    by : (k : Bool) → IfSome (outcome_of w (Worker a b) (if k then LookOwn else LookInj (plan_pool n))) (λ r. OpensSo w (if k then LookOwn else LookInj (plan_pool n)) (world_by w (Worker a b) (if k then LookOwn else LookInj (plan_pool n)) (LookQueue n) fs r))
+    by true = tt
+    by false = tt
+act_opens w (Worker a b) (BeginTask (Plain t)) fs s = tt
+act_opens w (Caller c) (BeginTask (Plain t)) fs s = tt
+act_opens w (Worker a b) (BeginTask (Token k i d)) fs s = others w (Worker a b) (FifoOut k i d) (BeginTask (Token k i d)) fs (λ v. tt)
+act_opens w (Caller c) (BeginTask (Token k i d)) fs s = others w (Caller c) (FifoOut k i d) (BeginTask (Token k i d)) fs (λ v. tt)
+act_opens w (Worker a b) x fs s = others w (Worker a b) (act_of (Worker a b) x) x fs (λ v. tt)
+act_opens w (Caller c) x fs s = others w (Caller c) (act_of (Caller c) x) x fs (λ v. tt)
+
+go_opens : (w : World) (q : Party) → Says w q (w.stack q).top → IfSome (step w (Go q)) (OpensSo w (act_of q (w.stack q).top))
+go_opens w q s = go_all (OpensSo w (act_of q (w.stack q).top)) w q (act_opens w q ((w.stack q).top) ((w.stack q).below) s)
+
+pub number_law : NumberLaw
+number_law shape before q w v run s = let k : IfSome (Some v) (OpensSo w (act_of q (w.stack q).top)) = subst (λ o. IfSome o (OpensSo w (act_of q (w.stack q).top))) s (go_opens w q (((always_calls shape before w run).says q).top)) in k

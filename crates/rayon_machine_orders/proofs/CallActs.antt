@@ -124,7 +124,7 @@ abbrev pub Goes : World → Party → Plan → Stage → Place → List Place �
 Goes w q n s x fs = IfSome (outcome w q (record { top = x; below = fs })) (λ r. Went w (world_after w q x fs r) n s (is_raise_refused w (act_of q x)) (next_of (w.shape.pool (target_pool q (act_of q x))) q x (r.0)))
 
 -- the count that a call raises is that of its part
-raise_count : (w : World) (q : Party) (m : Plan) → count_in (place_part w q (RaiseCount m)) (plan_count m) ≡ count_of w (plan_count m)
+pub raise_count : (w : World) (q : Party) (m : Plan) → count_in (place_part w q (RaiseCount m)) (plan_count m) ≡ count_of w (plan_count m)
 raise_count w (Worker a b) m = by (plan_count m) (plan_job m)
   where
     by : (k : Count) (t : ℕ) → count_in (part_of w (count_pool (Worker a b) k) b (count_call k) t) k ≡ count_of w k
@@ -194,7 +194,7 @@ queued_now f g n (Enter x) a e s l z i = subst (λ v. Queued g v) e (ap (λ j. i
 queued_now f g n (Fork o b) a e s l z i = subst (λ v. Queued g v) e tt
 queued_now f g n (Gather x) a e s l z i = absurd (let b : false ≡ true = s in cc)
 
-sent_told : (n m : Plan) → m ≡ n → is_sent m ≡ true → n ≡ told n
+pub sent_told : (n m : Plan) → m ≡ n → is_sent m ≡ true → n ≡ told n
 sent_told (Detach p t) m e s = refl
 sent_told (Here p t) m e s = refl
 sent_told (Send o) m e s = refl

@@ -56,6 +56,7 @@ pub record Stood (u : World) (n : Plan) (r : Stage) (s k : Stack) (b : Bool) : T
   pub stands : CallStands n stage s k
   pub sofar : Sofar u r n → Sofar u stage n
   pub flag : is_undone stage ≡ (is_undone r || b)
+  pub same : b ≡ false → stage ≡ r
 
 -- what an event that is no act changes: its party's stack, and no call or job that was there but for where the job is
 pub record Turned (w u : World) (q : Party) (e : Event) : Type 0 where
@@ -71,7 +72,7 @@ pub record Turned (w u : World) (q : Party) (e : Event) : Type 0 where
 
 -- nothing is refused
 same_stood : (u : World) (n : Plan) (r : Stage) (s k : Stack) → CallStands n r s k → Stood u n r s k false
-same_stood u n r s k h = record { stage = r; stands = h; sofar = λ z. z; flag = or_false (is_undone r) }
+same_stood u n r s k h = record { stage = r; stands = h; sofar = λ z. z; flag = or_false (is_undone r); same = λ z. refl }
 
 -- another top, which is of the call if the old one was
 retop : (n : Plan) (r z : Stage) (s : Stack) (x y : Place) (fs above : List Place) (place : Place) → x ∷ fs ≡ above ++ (place ∷ whole s) → Part n r place → r ≡ z → (Part n r x → Part n z y) → CallStands n z s (record { top = y; below = fs })
@@ -128,12 +129,15 @@ refused_at w u q x y fs n r v s [] place z i o f e p = record {
   stands = record { above = []; place = y; is = (let a : fs ≡ whole s = cc in ap (λ l. y ∷ l) a); part = f (let a : x ≡ place = cc in subst (λ l. Part n r l) (sym a) p) };
   sofar = λ k. o;
   flag = i ∙ or_true (is_undone r) ∙ ap (λ l. is_undone r || l) (sym (let a : same_party q q ≡ true = same_party_refl q in let b : fs ≡ whole s = cc in let d : is_at_call s (w.stack q) ≡ true = at_call_yes s (w.stack q) (ap (λ k. k.below) z ∙ b) in rw a d));
+  same = λ m. absurd (let a : same_party q q ≡ true = same_party_refl q in let b : fs ≡ whole s = cc in let d : is_at_call s (w.stack q) ≡ true = at_call_yes s (w.stack q) (ap (λ k. k.below) z ∙ b) in
+      let c : (same_party q q && is_at_call s (w.stack q)) ≡ true = rw a d in let j : true ≡ false = sym c ∙ m in cc);
 }
 refused_at w u q x y fs n r v s (a ∷ gs) place z i o f e p = record {
   stage = r;
   stands = record { above = y ∷ gs; place = place; is = (let b : fs ≡ gs ++ (place ∷ whole s) = cc in ap (λ l. y ∷ l) b); part = p };
   sofar = λ k. k;
   flag = or_false (is_undone r) ∙ ap (λ l. is_undone r || l) (sym (let a : same_party q q ≡ true = same_party_refl q in let b : fs ≡ gs ++ (place ∷ whole s) = cc in let d : is_at_call s (w.stack q) ≡ false = at_call_no s (w.stack q) gs place (ap (λ k. k.below) z ∙ b) in rw a d));
+  same = λ m. refl;
 }
 
 -- a refused act that is no step of such a call: of a broadcast
@@ -144,6 +148,7 @@ kept_above w u q x y fs n r s (a ∷ gs) place z f e p = record {
   stands = record { above = y ∷ gs; place = place; is = (let b : fs ≡ gs ++ (place ∷ whole s) = cc in ap (λ v. y ∷ v) b); part = p };
   sofar = λ y. y;
   flag = or_false (is_undone r) ∙ ap (λ v. is_undone r || v) (sym (let a : same_party q q ≡ true = same_party_refl q in let b : fs ≡ gs ++ (place ∷ whole s) = cc in let d : is_at_call s (w.stack q) ≡ false = at_call_no s (w.stack q) gs place (ap (λ k. k.below) z ∙ b) in rw a d));
+  same = λ m. refl;
 }
 
 pub refuse_turned : (w : World) (q : Party) (x : Place) (fs : List Place) → w.stack q ≡ record { top = x; below = fs } → IfSome (after_refusal w q (record { top = x; below = fs })) (λ u. Turned w u q (Refuse q))

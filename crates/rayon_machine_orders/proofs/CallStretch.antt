@@ -158,7 +158,7 @@ landed w u q s n st b (HandBack m) f z j h so k = inr (record { back = z; ends =
 landed w u q s n st b (Discard t) f z j h so k = absurd h.leads
 
 -- what goes on above the call's place
-climbs : (n : Plan) (st : Stage) (s : Stack) (g : Move) (gs : List Place) (p : Place) → Part n st p → CallStands n st s (after_move g (gs ++ (p ∷ whole s)))
+pub climbs : (n : Plan) (st : Stage) (s : Stack) (g : Move) (gs : List Place) (p : Place) → Part n st p → CallStands n st s (after_move g (gs ++ (p ∷ whole s)))
 climbs n st s (Stay y) gs p h = record { above = y ∷ gs; place = p; is = refl; part = h }
 climbs n st s (HandIn y token) gs p h = record { above = y ∷ gs; place = p; is = refl; part = h }
 climbs n st s (Mark y b9 m9) gs p h = record { above = y ∷ gs; place = p; is = refl; part = h }

@@ -127,7 +127,7 @@ taker (Worker i j) _ c e = absurd (cc)
 taker (Caller i) _ c e = absurd (cc)
 
 -- what stands on a stack is no longer it
-stands_apart : (n : Plan) (r : Stage) (s k : Stack) → CallStands n r s k → k ≡ s → ⊥
+pub stands_apart : (n : Plan) (r : Stage) (s k : Stack) → CallStands n r s k → k ≡ s → ⊥
 stands_apart n r s k h e =
     let a : length (whole k) ≡ length (h.above ++ (h.place ∷ whole s)) = ap length h.is in
     let b : length (h.above ++ (h.place ∷ whole s)) ≡ length h.above + length (h.place ∷ whole s) = length-append h.above (h.place ∷ whole s) in

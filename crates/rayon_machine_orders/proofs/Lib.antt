@@ -36,6 +36,8 @@ pub mod Casts
 pub mod Making
 pub mod Listing
 pub mod Looking
+pub mod Pushed
+pub mod Placing
 pub mod CallTeeth
 pub mod CountTeeth
 pub mod LatchTeeth
@@ -47,6 +49,7 @@ pub mod PieceTeeth
 pub mod FifoTeeth
 pub mod MakeTeeth
 pub mod LookTeeth
+pub mod PlaceTeeth
 pub mod CastTeeth
 pub mod ScopeTeeth
 pub mod Walks

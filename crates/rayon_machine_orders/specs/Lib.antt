@@ -7,6 +7,7 @@ pub mod Looks
 pub mod Makes
 pub mod Numbers
 pub mod Order
+pub mod Placed
 pub mod Queue
 pub use Rattle.rayon_machine_places.specs.Places
 pub use Rattle.rayon_machine_places.specs.World

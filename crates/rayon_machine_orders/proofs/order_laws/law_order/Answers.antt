@@ -2,6 +2,7 @@ use Rattle.rayon_machine_orders.proofs.Handed.{token_law}
 use Rattle.rayon_machine_orders.proofs.Leveling.{level_law}
 use Rattle.rayon_machine_orders.proofs.Listing.{list_law}
 use Rattle.rayon_machine_orders.proofs.Looking.{miss_law, tell_law}
+use Rattle.rayon_machine_orders.proofs.Placing.{placed_law}
 use Rattle.rayon_machine_orders.proofs.Queued.{queue_law}
 use Rattle.rayon_machine_orders.proofs.Walking.{tree_law}
 use Rattle.rayon_machine_orders.proofs.order_laws.law_order.Goals as goal
@@ -26,3 +27,6 @@ returns-clause-misses c = miss_law
 
 pub returns-clause-told : goal.returns-clause-told
 returns-clause-told c = tell_law
+
+pub returns-clause-placed : goal.returns-clause-placed
+returns-clause-placed c = placed_law

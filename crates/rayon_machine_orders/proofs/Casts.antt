@@ -1,6 +1,7 @@
 -- the law of broadcasts: from the event that begins one to the world in which its party is back
 use Rattle.std.proofs.Common.{arith, refl, sym, ◌∙◌, ap, subst, inl, inr}
 use Rattle.std.specs.Prelude.{ℕ, Bool, true, false, ◌&&◌, ◌||◌, ◌+◌, ◌-◌, ◌==◌, ◌≤◌, ◌<◌, nat_lt, if◌then◌else◌, Some, None, List, [], ◌∷◌, ◌++◌, ◌≡◌, IfSome, ◌⊎◌, ⊤, Option, length, slice_get}
+use Rattle.std.proofs.lemmas.List.{append_assoc}
 use Rattle.rayon_machine_places.specs.declared.place.Party.{Party}
 use Rattle.rayon_machine_places.specs.declared.place.Party.TheVariants.{Worker, Caller}
 use Rattle.rayon_machine_places.specs.declared.place.Pieces.{Pieces}
@@ -17,9 +18,11 @@ use Rattle.rayon_machine_places.specs.declared.place.Settling.{Settling as Setti
 use Rattle.rayon_machine_places.specs.declared.place.Place.{Place}
 use Rattle.rayon_machine_places.specs.declared.place.Place.TheVariants.{RaiseForAll, PushForAll, LowerForAll, LockToWake, WakeWorker, UnlockWoken, SetLatch, SetLockLatch, LockToSettle, WakeSettled, UnlockSettled, PickVictim, StealFrom, YieldPick, YieldSteal, YieldPop, LocalPop, Run, Free, OpenForAll, CloseForAll}
 use Rattle.rayon_machine_places.specs.declared.place.Move.{Move}
-use Rattle.rayon_machine_places.specs.declared.place.Move.TheVariants.{Stay, Back}
+use Rattle.rayon_machine_places.specs.declared.place.Move.TheVariants.{Stay, Back, Mark}
+use Rattle.rayon_machine_places.specs.declared.act.Act.{Act}
+use Rattle.rayon_machine_places.specs.declared.act.Act.TheVariants.{PushCast}
 use Rattle.rayon_machine_places.specs.declared.act.Seen.{Seen}
-use Rattle.rayon_machine_places.specs.declared.act.Seen.TheVariants.{Refused, Yes, No}
+use Rattle.rayon_machine_places.specs.declared.act.Seen.TheVariants.{Done, Refused, Yes, No}
 use Rattle.rayon_machine_places.specs.declared.event.Event.{Event}
 use Rattle.rayon_machine_places.specs.declared.event.Event.TheVariants.{Go, From, Refuse, Miss, End, Spawn, Fifo, Cast, Scope as OpenScope, IntoSpawn, Install, Join, Yield, YieldLocal, EndPool, IntoFifo, IntoCast, Broadcast}
 use Rattle.rayon_machine_places.specs.declared.state.Whereabouts.TheVariants.{HandedBack}
@@ -31,6 +34,8 @@ use Rattle.rayon_machine_places.specs.Steps.{put, after_move, after_choice, afte
 use Rattle.rayon_machine_places.specs.Readers.{is_queued, is_running, is_done}
 use Rattle.rayon_machine_places.specs.Runs.{IsRun, start}
 use Rattle.rayon_machine_orders.specs.Calls.{IsRunUntil, is_at_call, is_any, count_of, scope_pool, IsHandedOn, StandsOn}
+use Rattle.rayon_machine_orders.specs.Placed.{belongs, cast_once, DealtLaw, own_push, push_in, pushes_of, scope_count}
+use Rattle.rayon_machine_orders.proofs.Pushed.{nil_right}
 use Rattle.rayon_machine_orders.specs.Casts.{caster_of, cast_pool, is_cast_refused, is_cast_refusal, CastLaw}
 use Rattle.rayon_machine_laws.proofs.Frame.{and_parts, into_cases, into_cast_cases, if_cond, if_some_all, if_some_map, same_party_true, same_party_refl, stack_mine, stack_other, piece_new, piece_range, piece_in}
 use Rattle.rayon_machine_laws.proofs.Ties.{outcome, result}
@@ -438,26 +443,37 @@ into_fifo_none P w q n f = by q (slice_get w.scopes n) f
 into_cast_none : (P : World → Type 0) (w : World) (q : Party) (n : ℕ) → (is_free ((w.stack q).top) ≡ true → ⊥) → IfSome (after_into_cast w q n (w.stack q)) P
 into_cast_none P w q n f = into_cast_cases P w q n (λ z e free held. absurd (f free))
 
+-- no other event of a party that stands so is possible
+abbrev is_acting : Event → Bool
+is_acting (Go q) = true
+is_acting (Refuse q) = true
+is_acting _ = false
+
+other_none : (P : World → Type 0) (w : World) (e : Event) → is_acting e ≡ false → is_spot ((w.stack (mover e)).top) ≡ true → IfSome (step w e) P
+other_none P w (Go q) z y = cc
+other_none P w (Refuse q) z y = cc
+other_none P w (From q v) z y = from_none P w q (w.stack q) ((w.stack q).top) v y
+other_none P w (Miss q) z y = miss_none P w q (w.stack q) ((w.stack q).top) y
+other_none P w (End q d) z y = end_none P w q d (w.stack q) ((w.stack q).top) y
+other_none P w (Spawn q p) z y = gate P w _ ((w.stack q).top) (is_pool w.shape p) (not_free ((w.stack q).top) y)
+other_none P w (Fifo q p) z y = fifo_none P w q p (not_free ((w.stack q).top) y)
+other_none P w (Cast q p) z y = gate P w _ ((w.stack q).top) (is_pool w.shape p) (not_free ((w.stack q).top) y)
+other_none P w (OpenScope q p) z y = gate P w _ ((w.stack q).top) (is_pool w.shape p) (not_free ((w.stack q).top) y)
+other_none P w (IntoSpawn q n) z y = into_none P w q n (not_free ((w.stack q).top) y)
+other_none P w (IntoFifo q n) z y = into_fifo_none P w q n (not_free ((w.stack q).top) y)
+other_none P w (IntoCast q n) z y = into_cast_none P w q n (not_free ((w.stack q).top) y)
+other_none P w (Broadcast q p) z y = gate P w _ ((w.stack q).top) (is_pool w.shape p) (not_free ((w.stack q).top) y)
+other_none P w (Install q p) z y = gate P w _ ((w.stack q).top) (is_pool w.shape p) (not_free ((w.stack q).top) y)
+other_none P w (Join q) z y = join_none P w q (not_free ((w.stack q).top) y)
+other_none P w (Yield q) z y = yield_none P w q YieldPop (not_free ((w.stack q).top) y)
+other_none P w (YieldLocal q) z y = yield_none P w q LocalPop (not_free ((w.stack q).top) y)
+other_none P w (EndPool q p) z y = gate P w _ ((w.stack q).top) (is_pool w.shape p && (w.pool p).held) (not_free ((w.stack q).top) y)
+
 -- the party's own events
 own_event : (w : World) (e : Event) (s : Stack) (c : Pieces) (r : Bool) → Ground w → Inside w (mover e) s c r → IfSome (step w e) (Keeps w e (mover e) s c r)
 own_event w (Go q) s c r g i = go_all (Keeps w (Go q) q s c r) w q (subst (λ k. IfSome (outcome w q k) (λ v. Keeps w (Go q) q s c r (result w q k v))) (sym i.is) (own_act w q s c r i.stage i.top i.is g i.spot i.sofar i.known i.flag))
 own_event w (Refuse q) s c r g i = subst (λ k. IfSome (after_refusal w q k) (Keeps w (Refuse q) q s c r)) (sym i.is) (refuse_act w q s c r i.stage i.top (whole s) i.is refl i.spot i.known)
-own_event w (From q v) s c r g i = from_none (Keeps w (From q v) q s c r) w q (w.stack q) ((w.stack q).top) v (ap (λ k. is_spot (k.top)) i.is ∙ spot_is c i.stage i.top i.spot)
-own_event w (Miss q) s c r g i = miss_none (Keeps w (Miss q) q s c r) w q (w.stack q) ((w.stack q).top) (ap (λ k. is_spot (k.top)) i.is ∙ spot_is c i.stage i.top i.spot)
-own_event w (End q d) s c r g i = end_none (Keeps w (End q d) q s c r) w q d (w.stack q) ((w.stack q).top) (ap (λ k. is_spot (k.top)) i.is ∙ spot_is c i.stage i.top i.spot)
-own_event w (Spawn q p) s c r g i = gate (Keeps w (Spawn q p) q s c r) w _ ((w.stack q).top) (is_pool w.shape p) (not_free ((w.stack q).top) (ap (λ k. is_spot (k.top)) i.is ∙ spot_is c i.stage i.top i.spot))
-own_event w (Fifo q p) s c r g i = fifo_none (Keeps w (Fifo q p) q s c r) w q p (not_free ((w.stack q).top) (ap (λ k. is_spot (k.top)) i.is ∙ spot_is c i.stage i.top i.spot))
-own_event w (Cast q p) s c r g i = gate (Keeps w (Cast q p) q s c r) w _ ((w.stack q).top) (is_pool w.shape p) (not_free ((w.stack q).top) (ap (λ k. is_spot (k.top)) i.is ∙ spot_is c i.stage i.top i.spot))
-own_event w (OpenScope q p) s c r g i = gate (Keeps w (OpenScope q p) q s c r) w _ ((w.stack q).top) (is_pool w.shape p) (not_free ((w.stack q).top) (ap (λ k. is_spot (k.top)) i.is ∙ spot_is c i.stage i.top i.spot))
-own_event w (IntoSpawn q n) s c r g i = into_none (Keeps w (IntoSpawn q n) q s c r) w q n (not_free ((w.stack q).top) (ap (λ k. is_spot (k.top)) i.is ∙ spot_is c i.stage i.top i.spot))
-own_event w (IntoFifo q n) s c r g i = into_fifo_none (Keeps w (IntoFifo q n) q s c r) w q n (not_free ((w.stack q).top) (ap (λ k. is_spot (k.top)) i.is ∙ spot_is c i.stage i.top i.spot))
-own_event w (IntoCast q n) s c r g i = into_cast_none (Keeps w (IntoCast q n) q s c r) w q n (not_free ((w.stack q).top) (ap (λ k. is_spot (k.top)) i.is ∙ spot_is c i.stage i.top i.spot))
-own_event w (Broadcast q p) s c r g i = gate (Keeps w (Broadcast q p) q s c r) w _ ((w.stack q).top) (is_pool w.shape p) (not_free ((w.stack q).top) (ap (λ k. is_spot (k.top)) i.is ∙ spot_is c i.stage i.top i.spot))
-own_event w (Install q p) s c r g i = gate (Keeps w (Install q p) q s c r) w _ ((w.stack q).top) (is_pool w.shape p) (not_free ((w.stack q).top) (ap (λ k. is_spot (k.top)) i.is ∙ spot_is c i.stage i.top i.spot))
-own_event w (Join q) s c r g i = join_none (Keeps w (Join q) q s c r) w q (not_free ((w.stack q).top) (ap (λ k. is_spot (k.top)) i.is ∙ spot_is c i.stage i.top i.spot))
-own_event w (Yield q) s c r g i = yield_none (Keeps w (Yield q) q s c r) w q YieldPop (not_free ((w.stack q).top) (ap (λ k. is_spot (k.top)) i.is ∙ spot_is c i.stage i.top i.spot))
-own_event w (YieldLocal q) s c r g i = yield_none (Keeps w (YieldLocal q) q s c r) w q LocalPop (not_free ((w.stack q).top) (ap (λ k. is_spot (k.top)) i.is ∙ spot_is c i.stage i.top i.spot))
-own_event w (EndPool q p) s c r g i = gate (Keeps w (EndPool q p) q s c r) w _ ((w.stack q).top) (is_pool w.shape p && (w.pool p).held) (not_free ((w.stack q).top) (ap (λ k. is_spot (k.top)) i.is ∙ spot_is c i.stage i.top i.spot))
+own_event w e s c r g i = other_none (Keeps w e (mover e) s c r) w e refl (ap (λ k. is_spot (k.top)) i.is ∙ spot_is c i.stage i.top i.spot)
 
 -- other parties' events
 quiet : (w : World) (q : Party) (s : Stack) (e : Event) → same_party q (mover e) ≡ false → is_cast_refusal q s w e ≡ false
@@ -502,14 +518,18 @@ record Begun (w v : World) (q : Party) (e : Event) : Type 0 where
   inside : Inside v q (w.stack q) pieces false
   mine : (t : ℕ) → w.jobs ≤ t → t < v.jobs → is_piece pieces t ≡ true
   bound : (t : ℕ) → w.jobs ≤ t → t < v.jobs → (v.job t).bound ≡ Some (t - w.jobs)
+  pushes : PushCast pieces ∷ [] ≡ belongs w e
+  fresh : inside.stage ≡ Before
 
-deal_begun : (w : World) (q : Party) (k : Count) (p : ℕ) (e : Event) → cast_pool w e ≡ p → Begun w (after_deal w q k p (w.stack q)) q e
-deal_begun w q k p e i = record {
+deal_begun : (w : World) (q : Party) (k : Count) (p : ℕ) (e : Event) → cast_pool w e ≡ p → cast_once w k p ≡ belongs w e → Begun w (after_deal w q k p (w.stack q)) q e
+deal_begun w q k p e i d = record {
   pieces = c;
   made = ap (λ n. w.jobs + (w.shape.pool n).workers) (sym i);
   inside = record { stage = Before; top = RaiseForAll c; is = stack_mine w.stack q (after_call (w.stack q) (RaiseForAll c)); spot = refl; sofar = tt; known = known; flag = refl };
   mine = λ t l m. piece_in c t l m;
   bound = λ t l m. ap (λ j. j.bound) (piece_new c (λ i j. new_piece q k p i) w.job t (piece_in c t l m));
+  pushes = d;
+  fresh = refl;
 }
   where
     c : Pieces
@@ -519,10 +539,10 @@ deal_begun w q k p e i = record {
     known t e = let a : (c.first ≤ t) × (t < c.first + c.workers) = piece_range c t e in let b : t < c.first + c.workers = a.1 in ((let g : t + 1 ≤ w.jobs + c.workers = omega (arith, b) in g), ap (λ j. is_detached (j.kind)) (piece_new c (λ i j. new_piece q k p i) w.job t e) ∙ counts_detached k)
 
 cast_begun : (w : World) (q : Party) (p : ℕ) → IfSome (after_cast w q p (w.stack q)) (λ v. Begun w v q (Cast q p))
-cast_begun w q p = if_cond (λ v. Begun w v q (Cast q p)) (is_free ((w.stack q).top) && is_pool w.shape p) _ (λ b. deal_begun w q (OfPool p) p (Cast q p) refl)
+cast_begun w q p = if_cond (λ v. Begun w v q (Cast q p)) (is_free ((w.stack q).top) && is_pool w.shape p) _ (λ b. deal_begun w q (OfPool p) p (Cast q p) refl refl)
 
 into_begun : (w : World) (q : Party) (n : ℕ) → IfSome (after_into_cast w q n (w.stack q)) (λ v. Begun w v q (IntoCast q n))
-into_begun w q n = into_cast_cases (λ v. Begun w v q (IntoCast q n)) w q n (λ z e free held. deal_begun w q (OfScope z.call z.owner) z.pool (IntoCast q n) (ap scope_pool e))
+into_begun w q n = into_cast_cases (λ v. Begun w v q (IntoCast q n)) w q n (λ z e free held. deal_begun w q (OfScope z.call z.owner) z.pool (IntoCast q n) (ap scope_pool e) (ap (λ o. cast_once w (scope_count o) (scope_pool o)) (sym e)))
 
 some_party : {q r : Party} → Some q ≡ Some r → q ≡ r
 some_party e = cc
@@ -559,3 +579,199 @@ cast_law h before q e w v u between b run =
       ends = λ z y t l m. ((is_over u q s c r a z).on y t (begun.mine t l m)).1;
       refused = λ z y t l m. given_back u g t ((is_over u q s c r a z).backs y t (begun.mine t l m));
     }
+
+--
+-- what a broadcast has queued, once it is over and nothing refused it
+
+abbrev cast_pushes : Pieces → Stage → List Act
+cast_pushes c Calling = PushCast c ∷ []
+cast_pushes c _ = []
+
+-- a place tells the stage
+abbrev stage_at : Place → Stage
+stage_at (RaiseForAll d) = Before
+stage_at (OpenForAll d) = Before
+stage_at (PushForAll d) = Before
+stage_at (CloseForAll d) = Undoing
+stage_at (LowerForAll d) = Undoing
+stage_at (LockToWake k) = Calling
+stage_at (WakeWorker k) = Calling
+stage_at (UnlockWoken k) = Calling
+stage_at _ = Emptying
+
+spot_stage : (c : Pieces) (st : Stage) (x : Place) → Spot c st x → st ≡ stage_at x
+spot_stage c Before (RaiseForAll d) p = refl
+spot_stage c Before (PushForAll d) p = refl
+spot_stage c Before (OpenForAll d) p = refl
+spot_stage c Undoing (CloseForAll d) p = refl
+spot_stage c Undoing (LowerForAll d) p = refl
+spot_stage c Calling (LockToWake d) p = refl
+spot_stage c Calling (WakeWorker d) p = refl
+spot_stage c Calling (UnlockWoken d) p = refl
+spot_stage c Emptying (SetLatch d) p = refl
+spot_stage c Emptying (LockToSettle d) p = refl
+spot_stage c Emptying (WakeSettled d) p = refl
+spot_stage c Emptying (UnlockSettled d) p = refl
+spot_stage c Emptying (SetLockLatch n t) p = refl
+spot_stage c st _ p = absurd p
+
+-- a move that leads on, or out of the broadcast, with this queued
+record Onward (c : Pieces) (l : List Act) (y : Place) : Type 0 where
+  stage : Stage
+  spot : Spot c stage y
+  pushes : cast_pushes c stage ≡ l
+
+abbrev Queues : Pieces → List Act → Move → Type 0
+Queues c l (Stay y) = Onward c l y
+Queues c l (Mark y d m) = Onward c l y
+Queues c l Back = PushCast c ∷ [] ≡ l
+Queues c l _ = ⊥
+
+going_queues : (c : Pieces) (g : Move) → Leads c Calling g → Queues c (PushCast c ∷ []) g
+going_queues c (Stay y) l = record { stage = Calling; spot = l; pushes = refl }
+going_queues c Back l = refl
+going_queues c _ l = absurd l
+
+abbrev ActQueues : World → Party → Pieces → Stage → Place → List Place → Type 0
+ActQueues w q c st x fs = IfSome (outcome w q (record { top = x; below = fs })) (λ r. Queues c (cast_pushes c st ++ push_in (act_of q x)) (next_of (w.shape.pool (target_pool q (act_of q x))) q x (r.0)))
+
+raise_queues : (c d : Pieces) (g : PoolShape) (q : Party) (m n : Part) (b : Bool) → d ≡ c → b ≡ false → IfSome {T = Seen × Part} (if b then Some (Refused, m) else Some (Done, n)) (λ r. Queues c [] (next_of g q (RaiseForAll d) (r.0)))
+raise_queues c d g q m n true p z = cc
+raise_queues c d g q m n false p z = record { stage = Before; spot = subst (λ x. Spot x Before (begin_cast d.count d)) p (begin_spot d d.count); pushes = refl }
+
+calls_on : (w : World) (q : Party) (c : Pieces) (x : Place) (fs : List Place) → Spot c Calling x → push_in (act_of q x) ≡ [] → ActQueues w q c Calling x fs
+calls_on w q c x fs p i = if_some_all (λ r. Queues c (PushCast c ∷ push_in (act_of q x)) (next_of (w.shape.pool (target_pool q (act_of q x))) q x (r.0)))
+    (λ r. subst (λ l. Queues c (PushCast c ∷ l) (next_of (w.shape.pool (target_pool q (act_of q x))) q x (r.0))) (sym i)
+    (going_queues c (next_of (w.shape.pool (target_pool q (act_of q x))) q x (r.0)) (leads c (w.shape.pool (target_pool q (act_of q x))) q Calling x (r.0) refl p))) (outcome w q (record { top = x; below = fs }))
+
+act_queues : (w : World) (q : Party) (c : Pieces) (st : Stage) (x : Place) (fs : List Place) → Spot c st x → is_undone st ≡ false → is_cast_refused w (act_of q x) ≡ false → ActQueues w q c st x fs
+act_queues w (Worker a b) c Before (RaiseForAll d) fs p u z = raise_queues c d (w.shape.pool (count_pool (Worker a b) d.count)) (Worker a b) _ _ (count_in (place_part w (Worker a b) (RaiseForAll d)) d.count == 0) p (ap (λ n. n == 0) (count_is w (Worker a b) d.count b 0) ∙ z)
+act_queues w (Caller n) c Before (RaiseForAll d) fs p u z = raise_queues c d (w.shape.pool (count_pool (Caller n) d.count)) (Caller n) _ _ (count_in (place_part w (Caller n) (RaiseForAll d)) d.count == 0) p (ap (λ n. n == 0) (count_is w (Caller n) d.count 0 0) ∙ z)
+act_queues w (Worker a b) c Before (OpenForAll d) fs p u z = if_cond (λ r. Queues c [] (next_of (w.shape.pool a) (Worker a b) (OpenForAll d) (r.0))) (is_open (Worker a b) ((w.call (count_call d.count)).writer)) _ (λ o. record { stage = Before; spot = p; pushes = refl })
+act_queues w (Caller n) c Before (OpenForAll d) fs p u z = if_cond (λ r. Queues c [] (next_of (w.shape.pool 0) (Caller n) (OpenForAll d) (r.0))) (is_open (Caller n) ((w.call (count_call d.count)).writer)) _ (λ o. record { stage = Before; spot = p; pushes = refl })
+act_queues w (Worker a b) c Before (PushForAll d) fs p u z = record { stage = Calling; spot = refl; pushes = ap (λ x. PushCast x ∷ []) (sym p) }
+act_queues w (Caller n) c Before (PushForAll d) fs p u z = record { stage = Calling; spot = refl; pushes = ap (λ x. PushCast x ∷ []) (sym p) }
+act_queues w (Worker a b) c Calling (LockToWake k) fs p u z = calls_on w (Worker a b) c (LockToWake k) fs p refl
+act_queues w (Caller n) c Calling (LockToWake k) fs p u z = calls_on w (Caller n) c (LockToWake k) fs p refl
+act_queues w (Worker a b) c Calling (WakeWorker k) fs p u z = calls_on w (Worker a b) c (WakeWorker k) fs p refl
+act_queues w (Caller n) c Calling (WakeWorker k) fs p u z = calls_on w (Caller n) c (WakeWorker k) fs p refl
+act_queues w (Worker a b) c Calling (UnlockWoken k) fs p u z = calls_on w (Worker a b) c (UnlockWoken k) fs p refl
+act_queues w (Caller n) c Calling (UnlockWoken k) fs p u z = calls_on w (Caller n) c (UnlockWoken k) fs p refl
+act_queues w q c Undoing x fs p u z = cc
+act_queues w q c Emptying x fs p u z = cc
+act_queues w q c st _ fs p u z = absurd p
+
+-- a step that does not refuse the broadcast queues what it should
+record CastQueues (w v : World) (q : Party) (s : Stack) (c : Pieces) (st : Stage) (e : Event) : Type 0 where
+  on : (t : Stage) (y : Place) → v.stack q ≡ record { top = y; below = whole s } → Spot c t y → cast_pushes c t ≡ cast_pushes c st ++ own_push q s w e
+  back : v.stack q ≡ s → PushCast c ∷ [] ≡ cast_pushes c st ++ own_push q s w e
+
+not_back : (s k : Stack) (y : Place) → k ≡ record { top = y; below = whole s } → k ≡ s → ⊥
+not_back s k y z e = let a : length (k.below) ≡ length (whole s) = ap (λ x. length (x.below)) z in let b : length (k.below) ≡ length (s.below) = ap (λ x. length (x.below)) e in omega (arith, a, b)
+
+one_stage : (c : Pieces) (s t : Stage) (x y : Place) (k : Stack) (fs : List Place) → k ≡ record { top = x; below = fs } → k ≡ record { top = y; below = fs } → Spot c s x → Spot c t y → t ≡ s
+one_stage c s t x y k fs z e a b = spot_stage c t y b ∙ ap stage_at (ap (λ l. l.top) (sym e ∙ z)) ∙ sym (spot_stage c s x a)
+
+same_queues : (w v : World) (q : Party) (s : Stack) (c : Pieces) (st : Stage) (x : Place) (e : Event) → v.stack q ≡ record { top = x; below = whole s } → Spot c st x → own_push q s w e ≡ [] → CastQueues w v q s c st e
+same_queues w v q s c st x e z p i = record {
+  on = λ t y k a. ap (cast_pushes c) (one_stage c st t x y (v.stack q) (whole s) z k p a) ∙ nil_right (cast_pushes c st) ∙ ap (λ l. cast_pushes c st ++ l) (sym i);
+  back = λ k. absurd (not_back s (v.stack q) x z k);
+}
+
+own_queues : (w v : World) (q : Party) (s : Stack) (c : Pieces) (st : Stage) (x : Place) (g : Move) → own_push q s w (Go q) ≡ push_in (act_of q x) → Queues c (cast_pushes c st ++ push_in (act_of q x)) g → v.stack q ≡ after_move g (whole s) → CastQueues w v q s c st (Go q)
+own_queues w v q s c st x g i h z = by g h z
+  where
+    all : (l : List Act) → l ≡ cast_pushes c st ++ push_in (act_of q x) → l ≡ cast_pushes c st ++ own_push q s w (Go q)
+    all l e = e ∙ ap (λ a. cast_pushes c st ++ a) (sym i)
+
+    stays : (y : Place) → Onward c (cast_pushes c st ++ push_in (act_of q x)) y → v.stack q ≡ record { top = y; below = whole s } → CastQueues w v q s c st (Go q)
+    stays y o z = record {
+      on = λ t r k a. ap (cast_pushes c) (one_stage c o.stage t y r (v.stack q) (whole s) z k o.spot a) ∙ all (cast_pushes c o.stage) o.pushes;
+      back = λ k. absurd (not_back s (v.stack q) y z k);
+    }
+
+    by : (g : Move) → Queues c (cast_pushes c st ++ push_in (act_of q x)) g → v.stack q ≡ after_move g (whole s) → CastQueues w v q s c st (Go q)
+    by (Stay y) o z = stays y o z
+    by (Mark y d m) o z = stays y o z
+    by Back o z = record { on = λ t r k a. absurd (not_back s (v.stack q) r k z); back = λ k. all (PushCast c ∷ []) o }
+    by _ o z = absurd o
+
+cast_mine : (w : World) (q : Party) (s : Stack) (x : Place) → w.stack q ≡ record { top = x; below = whole s } → own_push q s w (Go q) ≡ push_in (act_of q x)
+cast_mine w q s x z = let a : same_party q q ≡ true = same_party_refl q in let d : is_at_call s (w.stack q) ≡ true = at_call_yes s (w.stack q) (ap (λ v. v.below) z) in rw a (rw d (ap (λ v. push_in (act_of q v.top)) z))
+
+no_push : (q : Party) (s : Stack) (w : World) (e : Event) → same_party q (mover e) ≡ false → own_push q s w e ≡ []
+no_push q s w (Go r) d = ap (λ b. if b && is_at_call s (w.stack q) then push_in (act_of q (w.stack q).top) else []) d
+no_push q s w _ d = refl
+
+-- the broadcast's own step
+own_step : (w : World) (e : Event) (s : Stack) (c : Pieces) → (i : Inside w (mover e) s c false) → is_cast_refusal (mover e) s w e ≡ false → IfSome (step w e) (λ v. CastQueues w v (mover e) s c i.stage e)
+own_step w (Go q) s c i f = go_all (λ v. CastQueues w v q s c i.stage (Go q)) w q (subst (λ k. IfSome (outcome w q k) (λ r. CastQueues w (result w q k r) q s c i.stage (Go q))) (sym i.is)
+    (if_some_map (λ r. Queues c (cast_pushes c i.stage ++ push_in (act_of q i.top)) (move r)) (λ r. CastQueues w (world_after w q i.top (whole s) r) q s c i.stage (Go q)) lands (outcome w q (record { top = i.top; below = whole s }))
+    (act_queues w q c i.stage i.top (whole s) i.spot i.flag (sym own_flag_is ∙ f))))
+  where
+    move : Seen × Part → Move
+    move r = next_of (w.shape.pool (target_pool q (act_of q i.top))) q i.top (r.0)
+
+    own_flag_is : is_cast_refusal q s w (Go q) ≡ is_cast_refused w (act_of q i.top)
+    own_flag_is = own_flag w q s i.top (is_cast_refused w (act_of q i.top)) i.is refl
+
+    lands : (r : Seen × Part) → Queues c (cast_pushes c i.stage ++ push_in (act_of q i.top)) (move r) → CastQueues w (world_after w q i.top (whole s) r) q s c i.stage (Go q)
+    lands r h = own_queues w (world_after w q i.top (whole s) r) q s c i.stage i.top (move r) (cast_mine w q s i.top i.is) h (stack_mine w.stack q (after_move (move r) (whole s)))
+own_step w (Refuse q) s c i f = absurd (let a : same_party q q ≡ true = same_party_refl q in let d : is_at_call s (w.stack q) ≡ true = at_call_yes s (w.stack q) (ap (λ v. v.below) i.is) in let b : is_cast_refusal q s w (Refuse q) ≡ true = rw a d in let n : true ≡ false = sym b ∙ f in cc)
+own_step w e s c i f = other_none (λ v. CastQueues w v (mover e) s c i.stage e) w e refl (ap (λ k. is_spot (k.top)) i.is ∙ spot_is c i.stage i.top i.spot)
+
+step_queues : (w : World) (e : Event) (q : Party) (s : Stack) (c : Pieces) → (i : Inside w q s c false) → is_cast_refusal q s w e ≡ false → IfSome (step w e) (λ v. CastQueues w v q s c i.stage e)
+step_queues w e q s c i f = by (same_party q (mover e)) refl
+  where
+    mine : (p : Party) → p ≡ mover e → (i : Inside w p s c false) → is_cast_refusal p s w e ≡ false → IfSome (step w e) (λ v. CastQueues w v p s c i.stage e)
+    mine p y = subst (λ p. (i : Inside w p s c false) → is_cast_refusal p s w e ≡ false → IfSome (step w e) (λ v. CastQueues w v p s c i.stage e)) (sym y) (own_step w e s c)
+
+    by : (b : Bool) → same_party q (mover e) ≡ b → IfSome (step w e) (λ v. CastQueues w v q s c i.stage e)
+    by true y = mine q (same_party_true q (mover e) y) i f
+    by false y = if_some_map (λ v. v.stack q ≡ w.stack q) (λ v. CastQueues w v q s c i.stage e) (λ v z. same_queues w v q s c i.stage i.top e (z ∙ i.is) i.spot (no_push q s w e y)) (step w e) (apart w e q y (is_act e) refl)
+
+or_none : (a b : Bool) → (a || b) ≡ false → (a ≡ false) × (b ≡ false)
+or_none false b z = (refl, z)
+or_none true b z = cc
+
+queues_on : (h : Shape) (before : List Event) (w : World) (q : Party) (s : Stack) (c : Pieces) (u : World) (es : List Event) → IsRun (start h) before w → (i : Inside w q s c false) → IsRunUntil q s w es u → u.stack q ≡ s → is_any (is_cast_refusal q s) (Some w) es ≡ false →
+    cast_pushes c i.stage ++ pushes_of q s (Some w) es ≡ PushCast c ∷ []
+queues_on h before w q s c u [] run i same back none = absurd (not_back s (w.stack q) i.top i.is (ap (λ x. x.stack q) (sym same) ∙ back))
+queues_on h before w q s c u (e ∷ es) run i (v, opened, one, rest) back none = elim (st one (ground_of h (before ++ (e ∷ [])) v next) adv) [
+  | inl j ↦ (let m : Inside v q s c false = subst (λ b. Inside v q s c b) (both.0) j in goes m (queues_on h (before ++ (e ∷ [])) v q s c u es next m rest back (ap (λ o. is_any (is_cast_refusal q s) o es) (sym one) ∙ both.1)))
+  | inr j ↦ ends j.back es rest
+]
+  where
+    both : (is_cast_refusal q s w e ≡ false) × (is_any (is_cast_refusal q s) (step w e) es ≡ false)
+    both = or_none (is_cast_refusal q s w e) (is_any (is_cast_refusal q s) (step w e) es) none
+
+    next : IsRun (start h) (before ++ (e ∷ [])) v
+    next = run_more (start h) w v before e run one
+
+    d : Ground w
+    d = ground_of h before w run
+
+    adv : Advance w v
+    adv = let f : IfSome (Some v) (Advance w) = subst (λ o. IfSome o (Advance w)) one (step_advance w e (unqueued w d.calls) ((d.calls.jobs).feeds) ((d.calls.jobs).ok) ((d.calls.jobs).unmade)) in f
+
+    st : Keeps w e q s c false v
+    st = let f : IfSome (Some v) (Keeps w e q s c false) = subst (λ o. IfSome o (Keeps w e q s c false)) one (step_keeps w e q s c false d i) in f
+
+    k : CastQueues w v q s c i.stage e
+    k = let f : IfSome (Some v) (λ x. CastQueues w x q s c i.stage e) = subst (λ o. IfSome o (λ x. CastQueues w x q s c i.stage e)) one (step_queues w e q s c i (both.0)) in f
+
+    own : List Act
+    own = own_push q s w e
+
+    goes : (j : Inside v q s c false) → cast_pushes c j.stage ++ pushes_of q s (Some v) es ≡ PushCast c ∷ [] → cast_pushes c i.stage ++ (own ++ pushes_of q s (step w e) es) ≡ PushCast c ∷ []
+    goes j more = ap (λ o. cast_pushes c i.stage ++ (own ++ pushes_of q s o es)) one ∙ sym (append_assoc (cast_pushes c i.stage) own (pushes_of q s (Some v) es)) ∙ ap (λ l. l ++ pushes_of q s (Some v) es) (sym (k.on j.stage j.top j.is j.spot)) ∙ more
+
+    ends : v.stack q ≡ s → (es : List Event) → IsRunUntil q s v es u → cast_pushes c i.stage ++ (own ++ pushes_of q s (step w e) es) ≡ PushCast c ∷ []
+    ends z [] same = ap (λ o. cast_pushes c i.stage ++ (own ++ pushes_of q s o [])) one ∙ ap (λ l. cast_pushes c i.stage ++ l) (sym (nil_right own)) ∙ sym (k.back z)
+    ends z (a ∷ gs) (x, opens, two, more) = absurd (opens z)
+
+pub dealt_law : DealtLaw
+dealt_law h before q e w v u between b run back none =
+    let begun : Begun w v q e = (let f : IfSome (Some v) (λ x. Begun w x q e) = subst (λ o. IfSome o (λ x. Begun w x q e)) b.made (begun_by w q e b.caster) in f) in
+    let next : IsRun (start h) (before ++ (e ∷ [])) v = run_more (start h) w v before e b.reached b.made in
+    sym (ap (λ t. cast_pushes begun.pieces t ++ pushes_of q (w.stack q) (Some v) between) begun.fresh) ∙ queues_on h (before ++ (e ∷ [])) v q (w.stack q) begun.pieces u between next begun.inside run back none ∙ begun.pushes

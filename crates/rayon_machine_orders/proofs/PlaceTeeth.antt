@@ -1,28 +1,30 @@
 -- wrong machines of pushes: replays, computed by the kernel, in which a call that nothing refused queues its job where it
 -- does not belong
 use Rattle.std.proofs.Common.{refl}
-use Rattle.std.specs.Prelude.{false, ◌&&◌, ◌+◌, if◌then◌else◌, Option, Some, None, List, [], ◌∷◌, ◌++◌, ◌≡◌, IfSome}
+use Rattle.std.specs.Prelude.{ℕ, false, ◌&&◌, ◌+◌, if◌then◌else◌, Option, Some, None, List, [], ◌∷◌, ◌++◌, ◌≡◌, IfSome}
 use Rattle.rayon_machine_places.specs.declared.place.Party.{Party}
 use Rattle.rayon_machine_places.specs.declared.place.Ending.TheVariants.{Fine}
+use Rattle.rayon_machine_places.specs.declared.place.Count.TheVariants.{OfPool}
 use Rattle.rayon_machine_places.specs.declared.place.Plan.TheVariants.{Detach, Feed}
 use Rattle.rayon_machine_places.specs.declared.place.Place.{Place}
-use Rattle.rayon_machine_places.specs.declared.place.Place.TheVariants.{LookQueue, PushJob, RaiseCount}
+use Rattle.rayon_machine_places.specs.declared.place.Place.TheVariants.{LookQueue, PushForAll, PushJob, RaiseCount}
 use Rattle.rayon_machine_places.specs.declared.place.Move.{Move}
 use Rattle.rayon_machine_places.specs.declared.place.Move.TheVariants.{HandIn}
 use Rattle.rayon_machine_places.specs.declared.act.Act.{Act}
-use Rattle.rayon_machine_places.specs.declared.act.Act.TheVariants.{FifoIn, PushInj, PushOwn}
+use Rattle.rayon_machine_places.specs.declared.act.Act.TheVariants.{FifoIn, PushCast, PushInj, PushOwn}
 use Rattle.rayon_machine_places.specs.declared.act.Seen.{Seen}
 use Rattle.rayon_machine_places.specs.declared.act.Seen.TheVariants.{Done}
 use Rattle.rayon_machine_places.specs.declared.event.Event.{Event}
-use Rattle.rayon_machine_places.specs.declared.event.Event.TheVariants.{Go, End, Spawn, Fifo}
+use Rattle.rayon_machine_places.specs.declared.event.Event.TheVariants.{Go, End, Spawn, Fifo, Cast}
 use Rattle.rayon_machine_places.specs.declared.state.Whereabouts.TheVariants.{InDeque, Running}
 use Rattle.rayon_machine_places.specs.declared.shape.PoolShape.{PoolShape}
 use Rattle.rayon_machine_places.specs.Places.{act_of, next_of, plan_book, plan_job, plan_pool, same_party}
 use Rattle.rayon_machine_places.specs.World.{Stack, World, effect, target_job}
 use Rattle.rayon_machine_places.specs.Steps.{step}
 use Rattle.rayon_machine_orders.specs.Calls.{caller_of, is_at_call, is_refusal}
+use Rattle.rayon_machine_orders.specs.Casts.{caster_of, is_cast_refusal}
 use Rattle.rayon_machine_orders.specs.Placed.{belongs, push_in}
-use Rattle.rayon_machine_orders.proofs.WrongMachines.{Machine, leading, right, run_by, step_by, times_go, two, b}
+use Rattle.rayon_machine_orders.proofs.WrongMachines.{Machine, leading, right, run_by, step_by, times_go, two, b, c}
 use Rattle.rayon_machine_orders.proofs.CallTeeth.{any_by, is_back, running}
 
 -- what a call queues in a machine's run
@@ -79,3 +81,31 @@ spawn_is_injected = (refl {a = PushOwn 1 None ∷ []}, record { caller = refl; b
 -- and the machine as it is pushes it there
 spawn_is_pushed : Queues right running b (Spawn b 0) (times_go b 4) (PushOwn 1 None ∷ [])
 spawn_is_pushed = record { caller = refl; back = refl; until = refl; refused = refl; pushes = refl {a = PushOwn 1 None ∷ []} }
+
+-- the pieces of a broadcast go to the workers of the next pool
+abbrev casting : Party → Place → Act
+casting q (PushForAll c) = PushCast (record c { pool = c.pool + 1 })
+casting q x = act_of q x
+
+abbrev next_pool : Machine
+next_pool = record { act = casting; aims = target_job; does = effect; next = next_of; made = step }
+
+-- a broadcast of the caller, begun by an event from w to v, is over in u, nothing refused it, and its pieces were queued
+-- at this pool
+record DealsAt (m : Machine) (e : Event) (between : List Event) (p : ℕ) (w v u : World) : Type 0 where
+  caster : caster_of e ≡ Some c
+  back : u.stack c ≡ w.stack c
+  until : any_by m (is_back c w) (Some v) between ≡ false
+  refused : any_by m (is_cast_refusal c (w.stack c)) (Some v) between ≡ false
+  pushes : pushes_by m c (w.stack c) (Some v) between ≡ PushCast (record { count = OfPool 0; pool = p; first = 0; workers = 2 }) ∷ []
+
+abbrev Deals : Machine → ℕ → Type 0
+Deals m p = IfSome (two 32) (λ w. IfSome (step_by m w (Cast c 0)) (λ v. IfSome (run_by m (Some v) (times_go c 8)) (DealsAt m (Cast c 0) (times_go c 8) p w v)))
+
+-- the clause is broken: they belong into the lists of the pool that the event names
+pieces_go_to_another_pool : Deals next_pool 1
+pieces_go_to_another_pool = record { caster = refl; back = refl; until = refl; refused = refl; pushes = refl {a = PushCast (record { count = OfPool 0; pool = 1; first = 0; workers = 2 }) ∷ []} }
+
+-- and the machine as it is queues them there
+pieces_go_to_their_pool : Deals right 0 × IfSome (two 32) (λ w. belongs w (Cast c 0) ≡ PushCast (record { count = OfPool 0; pool = 0; first = 0; workers = 2 }) ∷ [])
+pieces_go_to_their_pool = (record { caster = refl; back = refl; until = refl; refused = refl; pushes = refl {a = PushCast (record { count = OfPool 0; pool = 0; first = 0; workers = 2 }) ∷ []} }, refl {a = PushCast (record { count = OfPool 0; pool = 0; first = 0; workers = 2 }) ∷ []})

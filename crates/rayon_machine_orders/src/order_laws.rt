@@ -3,7 +3,7 @@
 ghost use Rattle.rayon_machine_orders.specs.Lists.{ListLaw};
 ghost use Rattle.rayon_machine_orders.specs.Looks.{MissLaw, TellLaw};
 ghost use Rattle.rayon_machine_orders.specs.Order.{LevelLaw, TokenLaw, TreeLaw};
-ghost use Rattle.rayon_machine_orders.specs.Placed.{PlacedLaw};
+ghost use Rattle.rayon_machine_orders.specs.Placed.{DealtLaw, PlacedLaw};
 ghost use Rattle.rayon_machine_orders.specs.Queue.{QueueLaw};
 
 /// In a pool of one worker the jobs of the worker's own deque begin, and the tokens in it are redeemed, in the order in
@@ -35,7 +35,8 @@ ghost use Rattle.rayon_machine_orders.specs.Queue.{QueueLaw};
 /// A call that nothing refused, and that is over, has queued its job just once, where it belongs (`placed`): a worker of
 /// the pool on its own deque, or of a job in order in its FIFO list and the token on its deque, others in the pool's
 /// injector; a join queues its second side, a broadcast that waits all its pieces at once, a scope and an install by a
-/// worker of the pool nothing. So a job that a worker spawns at its pool reaches it through its own deque alone.
+/// worker of the pool nothing. So a job that a worker spawns at its pool reaches it through its own deque alone. A
+/// broadcast that waits for nothing has queued its pieces once, all at once, in the broadcast lists of its pool (`dealt`).
 /// It does not say that a job ever begins.
 pub fn law_order()
     ensures tokens { TokenLaw }
@@ -46,4 +47,5 @@ pub fn law_order()
     ensures misses { MissLaw }
     ensures told { TellLaw }
     ensures placed { PlacedLaw }
+    ensures dealt { DealtLaw }
 {}

@@ -1,3 +1,4 @@
+use Rattle.rayon_machine_orders.proofs.Casts.{dealt_law}
 use Rattle.rayon_machine_orders.proofs.Handed.{token_law}
 use Rattle.rayon_machine_orders.proofs.Leveling.{level_law}
 use Rattle.rayon_machine_orders.proofs.Listing.{list_law}
@@ -30,3 +31,6 @@ returns-clause-told c = tell_law
 
 pub returns-clause-placed : goal.returns-clause-placed
 returns-clause-placed c = placed_law
+
+pub returns-clause-dealt : goal.returns-clause-dealt
+returns-clause-dealt c = dealt_law

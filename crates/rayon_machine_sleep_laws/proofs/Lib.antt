@@ -5,3 +5,4 @@ pub mod Dozing
 pub mod Settled
 pub mod Stages
 pub mod Searching
+pub mod Parities

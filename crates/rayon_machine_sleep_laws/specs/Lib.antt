@@ -1,4 +1,5 @@
 pub mod Searched
+pub mod Parity
 pub use Rattle.rayon_machine_places.specs.Places
 pub use Rattle.rayon_machine_places.specs.World
 pub use Rattle.rayon_machine_places.specs.Steps

@@ -6,3 +6,6 @@ pub mod Settled
 pub mod Stages
 pub mod Searching
 pub mod Parities
+pub mod Rests
+pub mod Zeros
+pub mod Dones

@@ -1,6 +1,6 @@
 -- what each act makes of the turn of the pool that it touches, and each step of each pool's
-use Rattle.std.proofs.Common.{rules, arith, refl, sym, ◌∙◌, ap, subst, ◌≢◌}
-use Rattle.std.specs.Prelude.{ℕ, Bool, true, false, ◌+◌, ◌%◌, ◌==◌, if◌then◌else◌, Some, List, ◌≡◌, IfSome}
+use Rattle.std.proofs.Common.{rules, arith, refl, sym, ◌∙◌, ap, ◌≢◌}
+use Rattle.std.specs.Prelude.{ℕ, Bool, true, false, ◌+◌, ◌%◌, ◌==◌, if◌then◌else◌, ◌≡◌, IfSome}
 use Rattle.std.proofs.lemmas.Bool.{eqb-true, eq-eqb}
 use Rattle.rayon_machine_places.specs.declared.place.Party.{Party}
 use Rattle.rayon_machine_places.specs.declared.place.Latch.{Latch}
@@ -13,15 +13,16 @@ use Rattle.rayon_machine_places.specs.declared.event.Event.TheVariants.{Go}
 use Rattle.rayon_machine_places.specs.declared.state.Letter.{Letter}
 use Rattle.rayon_machine_places.specs.declared.state.Letter.TheVariants.{Set as IsSet}
 use Rattle.rayon_machine_places.specs.Places.{act_of, own_pool}
-use Rattle.rayon_machine_places.specs.World.{Shape, Pool, World, Counts, Part, counts_at, is_even, target_pool, target_worker, target_call, letter, with_letter, effect}
+use Rattle.rayon_machine_places.specs.World.{Shape, Pool, World, Counts, Part, counts_at, is_even, target_pool, letter, with_letter, effect}
 use Rattle.rayon_machine_places.specs.Steps.{put, step}
 use Rattle.rayon_machine_laws.proofs.Asides.{Aside, one_step}
 use Rattle.rayon_machine_laws.proofs.Attended.{always_awake}
 use Rattle.rayon_machine_laws.proofs.Calm.{part_at}
-use Rattle.rayon_machine_laws.proofs.Frame.{acted_keeps, if_some_map, put_same}
+use Rattle.rayon_machine_laws.proofs.Frame.{if_some_map, put_same}
 use Rattle.rayon_machine_laws.proofs.Letters.{sleepy_keeps, asleep_keeps, wake_keeps, set_keeps}
-use Rattle.rayon_machine_laws.proofs.Ties.{job_at, outcome, result}
+use Rattle.rayon_machine_laws.proofs.Ties.{outcome, result}
 use Rattle.rayon_machine_laws.proofs.Tops.{FramesOk}
+use Rattle.rayon_machine_sleep_laws.proofs.Rests.{acted, stepped}
 use Rattle.rayon_machine_sleep_laws.specs.Parity.{announces_in, tells_of, is_announced_in, is_told_of, MadeEven, MadeOdd, TurnsSo, RaiseLaw}
 
 -- the turn after an act
@@ -111,8 +112,8 @@ aside_turns w u e a t m p = record {
 }
 
 step_turns : (w : World) (e : Event) → FramesOk w → IfSome (step w e) (EachTurns w e)
-step_turns w (Go q) fr = acted_keeps w q (w.stack q) (target_pool q (act_of q (w.stack q).top)) (target_worker q (act_of q (w.stack q).top)) (target_call (act_of q (w.stack q).top)) (job_at w q (act_of q (w.stack q).top)) (outcome w q (w.stack q)) (EachTurns w (Go q)) (go_turns w q)
+step_turns w (Go q) fr = acted w q (EachTurns w (Go q)) (go_turns w q)
 step_turns w e fr = one_step (EachTurns w e) w fr e (λ q z. absurd (cc)) (λ u m. aside_turns w u e (λ p. refl) (λ p. refl) m)
 
 pub raise_law : RaiseLaw
-raise_law shape before w v e p r s = (let k : IfSome (Some v) (EachTurns w e) = subst (λ o. IfSome o (EachTurns w e)) s (step_turns w e ((always_awake shape before w r).frames)) in k) p
+raise_law shape before w v e p r s = stepped w v e (EachTurns w e) s (step_turns w e ((always_awake shape before w r).frames)) p

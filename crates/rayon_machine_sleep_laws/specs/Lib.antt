@@ -1,5 +1,6 @@
 pub mod Searched
 pub mod Parity
+pub mod Done
 pub use Rattle.rayon_machine_places.specs.Places
 pub use Rattle.rayon_machine_places.specs.World
 pub use Rattle.rayon_machine_places.specs.Steps

@@ -29,9 +29,9 @@ pub fn law_attended()
 /// The event counter's turn tells a worker that falls asleep whether there was news since its last Announce, as long as
 /// the counter has not gone round: where fewer raises of the pool's turn than the counter has values lie between a
 /// worker's last Announce and its TryAdd that is done, there is no raise and no News of the pool between. The counter
-/// may have any number of bits. In each step an Announce leaves the turn of its pool even, by one raise where it was odd;
-/// a News leaves the turn of the pool that it tells of odd, by one raise where it was even; and no other step changes a
-/// turn (`raises`).
+/// may have any number of bits. In each step an Announce leaves the turn of its pool even, by one raise where it was
+/// odd; a News leaves the turn of the pool that it tells of odd, by one raise where it was even; and no other step
+/// changes a turn (`raises`).
 pub fn law_turn()
     ensures turn { TurnLaw }
     ensures raises { RaiseLaw }

@@ -9,3 +9,7 @@ pub mod Parities
 pub mod Rests
 pub mod Zeros
 pub mod Dones
+pub mod Sides
+pub mod Turnings
+pub mod Overs
+pub mod Waited

@@ -1,13 +1,18 @@
 -- no completion is lost: where what a latch waits for has come about, the latch is set, or some party is about to set it
 use Rattle.std.specs.Prelude.{ℕ, Bool, true, false, ◌&&◌, ◌==◌, ◌<◌, nat_lt, nat_le, ◌≡◌, ◌⊎◌}
 use Rattle.rayon_machine_places.specs.declared.place.Party.{Party}
+use Rattle.rayon_machine_places.specs.declared.place.JobKind.TheVariants.{Stored}
 use Rattle.rayon_machine_places.specs.declared.place.Latch.{Latch}
 use Rattle.rayon_machine_places.specs.declared.place.Latch.TheVariants.{Terminate, OfCall}
+use Rattle.rayon_machine_places.specs.declared.place.Share.TheVariants.{OfJob}
 use Rattle.rayon_machine_places.specs.declared.place.Place.{Place}
 use Rattle.rayon_machine_places.specs.declared.place.Place.TheVariants.{SetLatch, LockToSettle, WakeSettled, UnlockSettled}
+use Rattle.rayon_machine_places.specs.declared.act.Act.{Act}
+use Rattle.rayon_machine_places.specs.declared.act.Act.TheVariants.{Lower, Store}
 use Rattle.rayon_machine_places.specs.declared.state.Letter.TheVariants.{Set as IsSet}
 use Rattle.rayon_machine_places.specs.Places.{act_of}
 use Rattle.rayon_machine_places.specs.World.{World}
+use Rattle.rayon_machine_places.specs.Readers.{is_done}
 use Rattle.rayon_machine_laws.specs.Latch.{sets}
 
 -- some party's next act sets the latch of this call, for whatever worker or caller
@@ -42,3 +47,25 @@ pub record HasEnder (w : World) (p i : ℕ) : Type 0 where
 -- where the count of a pool is 0, each worker's terminate latch is set, or some party comes to set it
 abbrev pub IsPoolDone : World → Type 0
 IsPoolDone w = (p i : ℕ) → (w.pool p).count ≡ 0 → i < (w.shape.pool p).workers → ((w.seat p i).latch ≡ IsSet) ⊎ HasEnder w p i
+
+-- an act stores how the job ended that this call waits for
+abbrev pub stores_for : ℕ → Act → Bool
+stores_for c (Store d e) = c == d
+stores_for c a = false
+
+-- some party's next act does so
+pub record HasStorer (w : World) (c : ℕ) : Type 0 where
+  pub party : Party
+  pub next : stores_for c (act_of party (w.stack party).top) ≡ true
+
+-- an act gives this job's share back
+abbrev pub lowers_for : ℕ → Act → Bool
+lowers_for t (Lower k (OfJob u)) = t == u
+lowers_for t a = false
+
+-- where a job is over that an install or a join has queued and waits for, and its share is not given back, the call's
+-- latch is set, or some party's next act sets it, or stores how the job ended, which comes before that; or the next act
+-- of the call's own party, which has run the job itself, gives the share back
+abbrev pub IsJobDone : World → Type 0
+IsJobDone w = (t c : ℕ) (o : Party) → (w.job t).kind ≡ Stored c o → is_done (w.job t).at ≡ true → (w.job t).counted ≡ true →
+    (((w.call c).latch ≡ IsSet) ⊎ HasSetter w c) ⊎ (HasStorer w c ⊎ (lowers_for t (act_of o (w.stack o).top) ≡ true))

@@ -34,7 +34,7 @@ use Rattle.rayon_machine_sleep_laws.proofs.Rests.{acted, stepped, goes, Rests, n
 use Rattle.rayon_machine_sleep_laws.proofs.Zeros.{Zeroes, zeroes, not_short, sets_now, led_leads, Comes, ended_comes, walk_comes}
 
 -- one step more
-run_more : (w u v : World) (es : List Event) (e : Event) → IsRun w es u → step u e ≡ Some v → IsRun w (es ++ e ∷ []) v
+pub run_more : (w u v : World) (es : List Event) (e : Event) → IsRun w es u → step u e ≡ Some v → IsRun w (es ++ e ∷ []) v
 run_more w u v [] e r s = (v, subst (λ x. step x e ≡ Some v) r s, refl)
 run_more w u v (d ∷ es) e (x, one, rest) s = (x, one, run_more x u v es e rest s)
 
@@ -60,7 +60,7 @@ act_is s (Go q) z = ap Go (sym (same_party_true s q z))
 act_is s e z = cc
 
 -- a party that goes stands while others move
-stands_go : (w : World) (q s : Party) → same_party s q ≡ false → IfSome (outcome w q (w.stack q)) (λ r. (result w q (w.stack q) r).stack s ≡ w.stack s)
+pub stands_go : (w : World) (q s : Party) → same_party s q ≡ false → IfSome (outcome w q (w.stack q)) (λ r. (result w q (w.stack q) r).stack s ≡ w.stack s)
 stands_go w q s n = if_some_all {A = Seen × Part} (λ r. (result w q (w.stack q) r).stack s ≡ w.stack s) (λ r. rw n refl) (outcome w q (w.stack q))
 
 stands_step : (w : World) (e : Event) (s : Party) → goes (w.stack s).top ≡ true → acts s e ≡ false → IfSome (step w e) (λ v. v.stack s ≡ w.stack s)

@@ -28,13 +28,7 @@ use Rattle.rayon_machine_laws.proofs.Pushing.{tell_pool, top_is}
 use Rattle.rayon_machine_laws.proofs.Seats.{is_frame}
 use Rattle.rayon_machine_laws.proofs.Ties.{AllFrames, job_at, outcome, result, shape_at}
 use Rattle.rayon_machine_laws.proofs.Tops.{FramesOk, Tops, top_after}
-
--- a place of a walk of wakes
-abbrev is_walk : Place → Bool
-is_walk (LockToWake k) = true
-is_walk (WakeWorker k) = true
-is_walk (UnlockWoken k) = true
-is_walk _ = false
+use Rattle.rayon_machine_sleep_laws.specs.Walks.{is_walk}
 
 -- elsewhere nothing is owed
 owes_none : (x : Place) (p : ℕ) → is_walk x ≡ false → OwesAll x p 0
@@ -43,12 +37,12 @@ owes_none (WakeWorker k) p e = cc
 owes_none (UnlockWoken k) p e = cc
 owes_none _ p e = record { owed = refl; others = λ r d. refl; passed = refl }
 
-frame_owes : (f : Place) → is_frame f ≡ true → is_walk f ≡ false
+pub frame_owes : (f : Place) → is_frame f ≡ true → is_walk f ≡ false
 frame_owes (ProbeWorking w) e = refl
 frame_owes _ e = cc
 
 -- what follows a walk is none
-finish_owes : (q : Party) (t : Then) → Tops (λ y. is_walk y ≡ false) (finish q t)
+pub finish_owes : (q : Party) (t : Then) → Tops (λ y. is_walk y ≡ false) (finish q t)
 finish_owes q (BeginFound g t) = refl
 finish_owes q (LeaveWait Termination) = refl
 finish_owes q (LeaveWait (Answer o f)) = refl

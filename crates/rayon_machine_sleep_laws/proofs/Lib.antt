@@ -13,3 +13,4 @@ pub mod Sides
 pub mod Turnings
 pub mod Overs
 pub mod Waited
+pub mod Strides

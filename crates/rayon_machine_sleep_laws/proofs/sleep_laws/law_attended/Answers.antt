@@ -6,6 +6,7 @@ use Rattle.rayon_machine_sleep_laws.proofs.Called.{always_hears, cast_attended}
 use Rattle.rayon_machine_sleep_laws.proofs.Leavers.{leaver_law, teller_law}
 use Rattle.rayon_machine_sleep_laws.proofs.Searching.{search_law}
 use Rattle.rayon_machine_sleep_laws.proofs.Settled.{always_watched, latch_attended}
+use Rattle.rayon_machine_sleep_laws.proofs.Strides.{walk_law}
 use Rattle.rayon_machine_sleep_laws.proofs.sleep_laws.law_attended.Goals as goal
 
 pub returns-clause-injector : goal.returns-clause-injector
@@ -28,3 +29,6 @@ returns-clause-leavers c = leaver_law
 
 pub returns-clause-tellers : goal.returns-clause-tellers
 returns-clause-tellers c = teller_law
+
+pub returns-clause-walks : goal.returns-clause-walks
+returns-clause-walks c = walk_law

@@ -14,3 +14,4 @@ pub mod Turnings
 pub mod Overs
 pub mod Waited
 pub mod Strides
+pub mod Announcing

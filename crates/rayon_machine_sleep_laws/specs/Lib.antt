@@ -2,6 +2,7 @@ pub mod Searched
 pub mod Parity
 pub mod Done
 pub mod Walks
+pub mod Announced
 pub use Rattle.rayon_machine_places.specs.Places
 pub use Rattle.rayon_machine_places.specs.World
 pub use Rattle.rayon_machine_places.specs.Steps

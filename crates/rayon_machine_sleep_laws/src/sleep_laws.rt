@@ -2,6 +2,7 @@
 ghost use Rattle.rayon_machine_laws.specs.Attended.{IsCastAttended, IsEmptyHanded, IsInjectorAttended, IsLatchAttended};
 ghost use Rattle.rayon_machine_laws.specs.Leavers.{LeaverLaw, TellerLaw};
 ghost use Rattle.rayon_machine_places.specs.Runs.{Always};
+ghost use Rattle.rayon_machine_sleep_laws.specs.Announced.{AnnouncedLaw};
 ghost use Rattle.rayon_machine_sleep_laws.specs.Parity.{RaiseLaw};
 ghost use Rattle.rayon_machine_sleep_laws.specs.Searched.{SearchLaw};
 ghost use Rattle.rayon_machine_sleep_laws.specs.Walks.{WalkLaw};
@@ -19,7 +20,8 @@ ghost use Rattle.rayon_machine_laws.specs.Turn.{TurnLaw};
 /// its push and an inactive worker is awake (`tellers`). Who owes wakes to a pool walks from worker to worker: it
 /// takes the worker's lock, makes the Wake there, by which it owes one wake less exactly where the worker was blocked,
 /// and leaves the lock; where it still owes a wake it goes on to the next worker, and where it owes none, or there is
-/// no next one, the walk is over (`walks`).
+/// no next one, the walk is over (`walks`). Before a worker blocks itself it has announced itself, and since then it
+/// has not become inactive, nor blocked itself, nor been counted as sleeping no more (`announced`).
 pub fn law_attended()
     ensures injector { Always IsInjectorAttended }
     ensures latch { Always IsLatchAttended }
@@ -29,6 +31,7 @@ pub fn law_attended()
     ensures leavers { LeaverLaw }
     ensures tellers { TellerLaw }
     ensures walks { WalkLaw }
+    ensures announced { AnnouncedLaw }
 {}
 
 /// The event counter's turn tells a worker that falls asleep whether there was news since its last Announce, as long as

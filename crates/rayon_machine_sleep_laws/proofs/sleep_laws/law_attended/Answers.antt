@@ -2,6 +2,7 @@ use Rattle.rayon_machine_laws.proofs.Attend.{attended_injectors}
 use Rattle.rayon_machine_laws.proofs.Attended.{always_awake}
 use Rattle.rayon_machine_laws.proofs.Emptied.{always_lists, empty_handed}
 use Rattle.rayon_machine_laws.proofs.Events.{always_seats}
+use Rattle.rayon_machine_sleep_laws.proofs.Announcing.{announced_law}
 use Rattle.rayon_machine_sleep_laws.proofs.Called.{always_hears, cast_attended}
 use Rattle.rayon_machine_sleep_laws.proofs.Leavers.{leaver_law, teller_law}
 use Rattle.rayon_machine_sleep_laws.proofs.Searching.{search_law}
@@ -32,3 +33,6 @@ returns-clause-tellers c = teller_law
 
 pub returns-clause-walks : goal.returns-clause-walks
 returns-clause-walks c = walk_law
+
+pub returns-clause-announced : goal.returns-clause-announced
+returns-clause-announced c = announced_law

@@ -15,3 +15,6 @@ pub mod Overs
 pub mod Waited
 pub mod Strides
 pub mod Announcing
+pub mod Machines
+pub mod SleepTeeth
+pub mod DoneTeeth

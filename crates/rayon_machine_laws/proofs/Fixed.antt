@@ -18,17 +18,22 @@ use Rattle.rayon_machine_places.specs.declared.state.Job.{Job}
 use Rattle.rayon_machine_places.specs.Places.{act_of, is_free, is_member}
 use Rattle.rayon_machine_places.specs.World.{Stack, World, Part, at_job, target_pool, target_worker, target_call}
 use Rattle.rayon_machine_places.specs.Steps.{put, put_pieces, after_choice, after_end, after_gather, after_join, after_miss, after_send, after_yield, is_piece, is_pool, new_piece, new_whole, step}
-use Rattle.rayon_machine_laws.specs.Fixed.{StaysFixed, FixedLaw}
 use Rattle.rayon_machine_laws.proofs.Calm.{part_at, counts_seen, next_at}
 use Rattle.rayon_machine_laws.proofs.Frame.{after_kind, after_pool, after_bound, acted_keeps, either, fifo_cases, if_cond, if_some_map, into_cases, into_cast_cases, into_fifo_cases, piece_old, piece_out, put_old, put_same}
 use Rattle.rayon_machine_laws.proofs.Later.{Static, act_static}
 use Rattle.rayon_machine_laws.proofs.Ties.{job_at, outcome, result}
 
+-- a job or a token is as before what it was made as
+pub record StaysMade (w v : World) (t : ℕ) : Type 0 where
+  pub kind : (v.job t).kind ≡ (w.job t).kind
+  pub pool : (v.job t).pool ≡ (w.job t).pool
+  pub bound : (v.job t).bound ≡ (w.job t).bound
+
 -- each number that was given out stays what it is
 abbrev FixedOn : World → World → Type 0
-FixedOn w u = (t : ℕ) → t + 1 ≤ w.jobs → StaysFixed w u t
+FixedOn w u = (t : ℕ) → t + 1 ≤ w.jobs → StaysMade w u t
 
-same_fixed : (w u : World) (t : ℕ) → u.job t ≡ w.job t → StaysFixed w u t
+same_fixed : (w u : World) (t : ℕ) → u.job t ≡ w.job t → StaysMade w u t
 same_fixed w u t e = record { kind = ap (λ j. j.kind) e; pool = ap (λ j. j.pool) e; bound = ap (λ j. j.bound) e }
 
 go_fixed : (w : World) (q : Party) → IfSome (outcome w q (w.stack q)) (λ r. FixedOn w (result w q (w.stack q) r))
@@ -112,5 +117,5 @@ step_fixed w (Yield q) = yield_fixed w q YieldPop
 step_fixed w (YieldLocal q) = yield_fixed w q LocalPop
 step_fixed w (EndPool q p) = if_cond (FixedOn w) _ _ (λ b t m. same_fixed w _ t refl)
 
-pub fixed_law : FixedLaw
-fixed_law h es w v e t r s l = (let f : IfSome (Some v) (FixedOn w) = subst (λ o. IfSome o (FixedOn w)) s (step_fixed w e) in f) t (omega (arith, l))
+pub made_law : (w v : World) (e : Event) (t : ℕ) → step w e ≡ Some v → t < w.jobs → StaysMade w v t
+made_law w v e t s l = (let f : IfSome (Some v) (FixedOn w) = subst (λ o. IfSome o (FixedOn w)) s (step_fixed w e) in f) t (omega (arith, l))

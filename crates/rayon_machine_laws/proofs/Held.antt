@@ -38,7 +38,7 @@ use Rattle.rayon_machine_laws.proofs.ClaimMakes.{always_calls}
 use Rattle.rayon_machine_laws.proofs.Feeders.{FeedersHold, waits, waits_at}
 use Rattle.rayon_machine_laws.proofs.FeederEvents.{always_feeders}
 use Rattle.rayon_machine_laws.proofs.Posts.{Locking, Passes, Steers, Unless, is_booked, is_live, locks_here, books_here, steers}
-use Rattle.rayon_machine_laws.proofs.PostEvents.{Based, Turned, land, live_mild, turns}
+use Rattle.rayon_machine_laws.proofs.PostEvents.{Based, Stepped, land, live_mild, turns}
 use Rattle.rayon_machine_laws.proofs.Stops.{always_stops, made, run_has}
 use Rattle.rayon_machine_laws.proofs.Lettered.{always_owned}
 use Rattle.rayon_machine_laws.proofs.Holders.{BookKnown, Booked, Books, Deals, LockKnown, Locked, Locks, Retakes, Same, Top, act_booked, act_locked, holders_same}
@@ -224,7 +224,7 @@ book_has (PushForAll k) c e = count_has k.count c e
 book_has (CloseForAll k) c e = count_has k.count c e
 book_has _ c e = absurd (cc)
 
-turn_holds : (w v : World) → Owned w → ((q : Party) → Based (w.stack q)) → Turned w v → HoldersHold w → HoldersHold v
+turn_holds : (w v : World) → Owned w → ((q : Party) → Based (w.stack q)) → Stepped w v → HoldersHold w → HoldersHold v
 turn_holds w v ow b m h = record {
   booked = λ q. ap (λ s. is_booked (s.top)) (m.stack q) ∙ booked q (same_party q m.party) refl;
   locks = λ q p i. ap (λ s. is_held_by q (s.lock)) (m.seat p i) ∙ h.locks q p i ∙ sym (ap (λ s. locks_at q (s.top) p i) (m.stack q) ∙ locks q p i (same_party q m.party) refl);
@@ -255,7 +255,7 @@ turn_holds w v ow b m h = record {
 
 step_holds : (h : Shape) (es : List Event) (w v : World) (e : Event) → IsRun (start h) es w → step w e ≡ Some v → HoldersHold w → HoldersHold v
 step_holds h es w v (Go q) r s k = act_holds w v q k (made (ActHolds w q) w v (Go q) s (go_holds w q k ((always_stops h es w r).based q) (always_feeders h es w r) (((always_calls h es w r).says q).top)))
-step_holds h es w v e r s k = turn_holds w v (always_owned h es w r) ((always_stops h es w r).based) (made (Turned w) w v e s (turns w e refl)) k
+step_holds h es w v e r s k = turn_holds w v (always_owned h es w r) ((always_stops h es w r).based) (made (Stepped w) w v e s (turns w e refl)) k
 
 first_holds : (h : Shape) → HoldersHold (start h)
 first_holds h = record {

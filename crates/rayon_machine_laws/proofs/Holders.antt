@@ -19,7 +19,7 @@ use Rattle.rayon_machine_places.specs.declared.place.Walk.{Walk}
 use Rattle.rayon_machine_places.specs.declared.place.Settling.{Settling}
 use Rattle.rayon_machine_places.specs.declared.place.Taken.TheVariants.{Plain}
 use Rattle.rayon_machine_places.specs.declared.place.Place.{Place}
-use Rattle.rayon_machine_places.specs.declared.place.Place.TheVariants.{ProbeWorking, GetSleepy, LockOwn, FallAsleep, LoadCounters, AddSleeping, LookAtCast, LookAtInjector, BlockSelf, RelockOwn, UndoSleeping, WakeUp, UnlockOwn, SetLatch, LowerForAll, LockToWake, WakeWorker, UnlockWoken, LockToSettle, WakeSettled, UnlockSettled, GrowCall, OpenSlot, CloseSlot, LookQueue, PushJob, AddToFifo, LookForToken, PushToken, TakeFromFifo, OpenForAll, PushForAll, CloseForAll, DealPieces, Free, Stopped}
+use Rattle.rayon_machine_places.specs.declared.place.Place.TheVariants.{ProbeWorking, GetSleepy, LockOwn, FallAsleep, LoadCounters, AddSleeping, LookAtCast, LookAtInjector, BlockSelf, RelockOwn, UndoSleeping, WakeUp, UnlockOwn, SetLatch, LowerForAll, LockToWake, WakeWorker, UnlockWoken, LockToSettle, WakeSettled, UnlockSettled, GrowCall, OpenSlot, CloseSlot, LookQueue, PushJob, AddToFifo, LookForToken, PushToken, TakeFromFifo, OpenForAll, PushForAll, CloseForAll, DealPieces, StoreSlot, StorePiece, Free, Stopped}
 use Rattle.rayon_machine_places.specs.declared.place.Move.{Move}
 use Rattle.rayon_machine_places.specs.declared.act.Act.{Act}
 use Rattle.rayon_machine_places.specs.declared.act.Act.TheVariants.{Lock, Unlock, PushOwn, PushInj, FifoIn, FifoUndo, FifoOut, Slot, SlotUndo, SlotAll, SlotUndoAll, StoreBody as PutBody, StoreSlot as PutSlot}
@@ -48,7 +48,7 @@ use Rattle.rayon_machine_laws.proofs.ClaimMakes.{always_calls}
 use Rattle.rayon_machine_laws.proofs.Feeders.{FeedersHold, waits, waits_at}
 use Rattle.rayon_machine_laws.proofs.FeederEvents.{always_feeders}
 use Rattle.rayon_machine_laws.proofs.Posts.{Locking, Passes, Steers, Unless, has, is_booked, is_live, locks_here, books_here, steers}
-use Rattle.rayon_machine_laws.proofs.PostEvents.{Based, Turned, land, live_mild, turns}
+use Rattle.rayon_machine_laws.proofs.PostEvents.{Based, Stepped, land, live_mild, turns}
 use Rattle.rayon_machine_laws.proofs.Stops.{always_stops, made, run_has}
 use Rattle.rayon_machine_laws.proofs.Lettered.{always_owned}
 
@@ -165,19 +165,27 @@ writers_here (CloseForAll c) = true
 writers_here (DealPieces g) = true
 writers_here _ = false
 
--- any other act leaves the holders of its part
+-- the places whose acts write a job's number of a book
+abbrev pub slots_here : Place → Bool
+slots_here (OpenSlot n) = true
+slots_here (CloseSlot n) = true
+slots_here (StoreSlot c o t e) = true
+slots_here (StorePiece c o t e) = true
+slots_here _ = false
+
+-- any other act leaves the holders of its part, and the number of its job
 abbrev pub Same : Place → Part → Seen × Part → Type 0
-Same x m r = Unless (locks_here x) (r.1.seat.lock ≡ m.seat.lock) × Unless (writers_here x) (r.1.call.writer ≡ m.call.writer)
+Same x m r = Unless (locks_here x) (r.1.seat.lock ≡ m.seat.lock) × Unless (writers_here x) (r.1.call.writer ≡ m.call.writer) × Unless (slots_here x) (r.1.job.slot ≡ m.job.slot)
 
 abbrev Held : Part → Seen × Part → Type 0
-Held m r = (r.1.seat.lock ≡ m.seat.lock) × (r.1.call.writer ≡ m.call.writer)
+Held m r = (r.1.seat.lock ≡ m.seat.lock) × (r.1.call.writer ≡ m.call.writer) × (r.1.job.slot ≡ m.job.slot)
 
 same_held : (m : Part) (e : Seen) → Held m (e, m)
-same_held m e = (refl, refl)
+same_held m e = (refl, refl, refl)
 
 letter_held : (l : Latch) (m : Part) (e : Seen) (y : Letter) → Held m (e, with_letter l m y)
-letter_held Terminate m e y = (refl, refl)
-letter_held (OfCall c) m e y = (refl, refl)
+letter_held Terminate m e y = (refl, refl, refl)
+letter_held (OfCall c) m e y = (refl, refl, refl)
 
 pub holders_same : (h : Shape) (q : Party) (c : Counts) (m : Part) (x : Place) → IfSome (effect (act_of q x) h q c m) (Same x m)
 holders_same h (Worker a b) c m (ProbeWorking k) = search (rules, arith)

@@ -38,9 +38,9 @@ use Rattle.rayon_machine_laws.proofs.OwnedActs.{Grown, Mine, Owned, go_grown, gr
 use Rattle.rayon_machine_laws.proofs.Owned.{step_owned, first_owned}
 use Rattle.rayon_machine_laws.proofs.ClaimRuns.{CallsHold}
 use Rattle.rayon_machine_laws.proofs.ClaimMakes.{always_calls, step_calls}
-use Rattle.rayon_machine_laws.proofs.Fixed.{fixed_law}
+use Rattle.rayon_machine_laws.proofs.Fixed.{made_law}
 use Rattle.rayon_machine_laws.proofs.Posts.{Letters, Passes, Steers, Unless, is_live, letters_here, steers}
-use Rattle.rayon_machine_laws.proofs.PostEvents.{Based, Turned, is_based, land, live_mild, turns}
+use Rattle.rayon_machine_laws.proofs.PostEvents.{Based, Stepped, is_based, land, live_mild, turns}
 use Rattle.rayon_machine_laws.proofs.SetLaws.{sets_law}
 use Rattle.rayon_machine_laws.proofs.Stops.{always_stops, made, run_has}
 
@@ -424,7 +424,7 @@ act_letters w v q ow stays known a h = record {
     ]
 
 -- an event that is no act
-turn_letters : (w v : World) → Owned w → Owned v → ((q : Party) → Based (w.stack q)) → ((t : ℕ) → t < w.jobs → (v.job t).kind ≡ (w.job t).kind) → Turned w v → LettersHold w → LettersHold v
+turn_letters : (w v : World) → Owned w → Owned v → ((q : Party) → Based (w.stack q)) → ((t : ℕ) → t < w.jobs → (v.job t).kind ≡ (w.job t).kind) → Stepped w v → LettersHold w → LettersHold v
 turn_letters w v ow ov b kinds m h = record {
   seat = λ p i. subst (λ x. Fits x Terminate (v.stack (Worker p i)).top) (sym (ap (λ s. s.latch) (m.seat p i))) (at (w.seat p i).latch Terminate (Worker p i) (h.seat p i));
   call = λ q c o. elim (m.call c) [
@@ -472,7 +472,7 @@ step_letters h es w v e r s k = by e s
 
     by : (e : Event) → step w e ≡ Some v → LettersHold v
     by (Go q) s = act_letters w v q ow (stays (Go q) s) (λ c z. ((made CallsHold w v (Go q) s (step_calls w (Go q) (always_calls h es w r))).latches c z).0) (made (ActLetters w q) w v (Go q) s (go_letters w q (based q))) k
-    by e s = turn_letters w v ow (made Owned w v e s (step_owned w e ow)) based (λ t l. (fixed_law h es w v e t r s l).kind) (made (Turned w) w v e s (turns w e refl)) k
+    by e s = turn_letters w v ow (made Owned w v e s (step_owned w e ow)) based (λ t l. (made_law w v e t s l).kind) (made (Stepped w) w v e s (turns w e refl)) k
 
 first_letters : (h : Shape) → LettersHold (start h)
 first_letters h = record {

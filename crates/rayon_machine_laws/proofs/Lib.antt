@@ -75,6 +75,8 @@ pub mod Bounds
 pub mod Kindly
 pub mod Near
 pub mod NearEvents
+pub mod Slots
+pub mod SlotEvents
 pub mod Fixed
 pub mod Returns
 pub mod Feeders

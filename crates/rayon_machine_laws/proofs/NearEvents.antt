@@ -50,7 +50,7 @@ use Rattle.rayon_machine_laws.proofs.ClaimMakes.{always_calls, always_once}
 use Rattle.rayon_machine_laws.proofs.ShareActs.{SharesHold}
 use Rattle.rayon_machine_laws.proofs.ShareEnds.{always_shares}
 use Rattle.rayon_machine_laws.proofs.Bounds.{Good, goods, own_at}
-use Rattle.rayon_machine_laws.proofs.Fixed.{apart, deal_old, fixed_law, made_old, two_old}
+use Rattle.rayon_machine_laws.proofs.Fixed.{apart, deal_old, made_law, made_old, two_old}
 use Rattle.rayon_machine_laws.proofs.Posts.{Steers, is_live, steers}
 use Rattle.rayon_machine_laws.proofs.PostEvents.{AllLive, Based, is_act}
 use Rattle.rayon_machine_laws.proofs.Stops.{always_stops, made, run_has}
@@ -516,7 +516,7 @@ step_near : (h : Shape) (es : List Event) (w v : World) (e : Event) → IsRun (s
 step_near h es w v e r s k = by e s
   where
     kinds : (e : Event) → step w e ≡ Some v → (t : ℕ) → t < w.jobs → (v.job t).kind ≡ (w.job t).kind
-    kinds e s t l = (fixed_law h es w v e t r s l).kind
+    kinds e s t l = (made_law w v e t s l).kind
 
     based : (q : Party) → Based (w.stack q)
     based = (always_stops h es w r).based

@@ -120,7 +120,7 @@ one_new : (n : ℕ) (y : Place) → own_call y ≡ Some n → NewCalls n (n + 1)
 one_new n y e = (omega arith, λ c a b. (let s : n ≡ c = omega (arith, a, b) in e ∙ ap Some s))
 
 -- an event that is no act: one party's stack is another, no seat is, and no call that was there
-pub record Turned (w u : World) : Type 0 where
+pub record Stepped (w u : World) : Type 0 where
   pub party : Party
   pub to : Stack
   pub shape : u.shape ≡ w.shape
@@ -132,7 +132,7 @@ pub record Turned (w u : World) : Type 0 where
   pub call : (c : ℕ) → (u.call c ≡ w.call c) ⊎ ((w.calls ≤ c) × ((u.call c).latch ≡ Unset) × ((u.call c).writer ≡ None))
 
 -- from one place to another
-turn_at : (w : World) (q : Party) (x y : Place) (fs : List Place) → w.stack q ≡ record { top = x; below = fs } → Same x y → (is_base x ≡ true → is_base y ≡ true) → Turned w (with_stack w q (record { top = y; below = fs }))
+turn_at : (w : World) (q : Party) (x y : Place) (fs : List Place) → w.stack q ≡ record { top = x; below = fs } → Same x y → (is_base x ≡ true → is_base y ≡ true) → Stepped w (with_stack w q (record { top = y; below = fs }))
 turn_at w q x y fs z s b = record {
   party = q;
   to = record { top = y; below = fs };
@@ -145,10 +145,10 @@ turn_at w q x y fs z s b = record {
   call = λ c. inl refl;
 }
 
-from_turns : (w : World) (q : Party) (x : Place) (fs : List Place) (v : ℕ) → w.stack q ≡ record { top = x; below = fs } → IfSome (after_choice w q (record { top = x; below = fs }) x v) (Turned w)
-from_turns w q (PickVictim k) fs v z = if_cond (Turned w) (nat_lt v (w.shape.pool (own_pool q)).workers) _
+from_turns : (w : World) (q : Party) (x : Place) (fs : List Place) (v : ℕ) → w.stack q ≡ record { top = x; below = fs } → IfSome (after_choice w q (record { top = x; below = fs }) x v) (Stepped w)
+from_turns w q (PickVictim k) fs v z = if_cond (Stepped w) (nat_lt v (w.shape.pool (own_pool q)).workers) _
     (λ b. turn_at w q (PickVictim k) (StealFrom (record k { victim = not_self (w.shape.pool (own_pool q)).workers (own_index q) v }) ((w.shape.pool (own_pool q)).workers - 2)) fs z (λ l. refl, λ l e. e, λ r p i. refl, refl, refl) (λ e. e))
-from_turns w q YieldPick fs v z = if_cond (Turned w) (nat_lt v (w.shape.pool (own_pool q)).workers) _
+from_turns w q YieldPick fs v z = if_cond (Stepped w) (nat_lt v (w.shape.pool (own_pool q)).workers) _
     (λ b. turn_at w q YieldPick (YieldSteal (not_self (w.shape.pool (own_pool q)).workers (own_index q) v) ((w.shape.pool (own_pool q)).workers - 2)) fs z (λ l. refl, λ l e. e, λ r p i. refl, refl, refl) (λ e. e))
 from_turns w q _ fs v z = tt
 
@@ -165,7 +165,7 @@ cast_same c (OfPool p) e = (λ l. refl, λ l z. z, λ r p i. refl, sym (ap count
 cast_same c (OfScope n o) e = (λ l. refl, λ l z. z, λ r p i. refl, refl, ap (λ m. has (count_book m)) e)
 cast_same c (OfCast n o) e = (λ l. refl, λ l z. z, λ r p i. refl, sym (ap count_book e), refl)
 
-refuse_turns : (w : World) (q : Party) (x : Place) (fs : List Place) → w.stack q ≡ record { top = x; below = fs } → IfSome (after_refusal w q (record { top = x; below = fs })) (Turned w)
+refuse_turns : (w : World) (q : Party) (x : Place) (fs : List Place) → w.stack q ≡ record { top = x; below = fs } → IfSome (after_refusal w q (record { top = x; below = fs })) (Stepped w)
 refuse_turns w q (GrowCall n) fs z = turn_at w q (GrowCall n) (undo n) fs z (λ l. refl, λ l e. e, λ r p i. refl, refl, refl) (λ e. absurd (cc))
 refuse_turns w q (GrowScope o) fs z = turn_at w q (GrowScope o) (undo (Open o)) fs z (λ l. refl, λ l e. e, λ r p i. refl, refl, refl) (λ e. absurd (cc))
 refuse_turns w q (OpenSlot n) fs z = turn_at w q (OpenSlot n) (undo n) fs z (λ l. refl, λ l e. e, λ r p i. refl, refl, refl) (λ e. absurd (cc))
@@ -178,23 +178,23 @@ refuse_turns w q (AddToFifo f) fs z = turn_at w q (AddToFifo f) (after_push (Fee
 refuse_turns w q (PushJob n v) fs z = turn_at w q (PushJob n v) (after_push n) fs z (drawn_same (PushJob n v) (plan_book n) n refl (λ l. refl) (λ r p i. refl) refl) (no_base (PushJob n v) (after_push n) refl)
 refuse_turns w q _ fs z = tt
 
-steal_turns : (w : World) (q : Party) (k : Wait) (n : ℕ) (g : PoolShape) (fs : List Place) → w.stack q ≡ record { top = StealFrom k n; below = fs } → Turned w (with_stack w q (record { top = next_steal g q k n; below = fs }))
+steal_turns : (w : World) (q : Party) (k : Wait) (n : ℕ) (g : PoolShape) (fs : List Place) → w.stack q ≡ record { top = StealFrom k n; below = fs } → Stepped w (with_stack w q (record { top = next_steal g q k n; below = fs }))
 steal_turns w q k n g fs z = at (n == 0)
   where
-    at : (b : Bool) → Turned w (with_stack w q (record { top = (if b then PopInjected k else StealFrom (record k { victim = not_self g.workers (own_index q) (next_victim g.workers k.victim) }) (n - 1)); below = fs }))
+    at : (b : Bool) → Stepped w (with_stack w q (record { top = (if b then PopInjected k else StealFrom (record k { victim = not_self g.workers (own_index q) (next_victim g.workers k.victim) }) (n - 1)); below = fs }))
     at true = turn_at w q (StealFrom k n) (PopInjected k) fs z (λ l. refl, λ l e. e, λ r p i. refl, refl, refl) (λ e. e)
     at false = turn_at w q (StealFrom k n) (StealFrom (record k { victim = not_self g.workers (own_index q) (next_victim g.workers k.victim) }) (n - 1)) fs z (λ l. refl, λ l e. e, λ r p i. refl, refl, refl) (λ e. e)
 
-skip_turns : (w : World) (q : Party) (v n : ℕ) (g : PoolShape) (fs : List Place) → w.stack q ≡ record { top = YieldSteal v n; below = fs } → Turned w (with_stack w q (record { top = next_yield g q v n; below = fs }))
+skip_turns : (w : World) (q : Party) (v n : ℕ) (g : PoolShape) (fs : List Place) → w.stack q ≡ record { top = YieldSteal v n; below = fs } → Stepped w (with_stack w q (record { top = next_yield g q v n; below = fs }))
 skip_turns w q v n g fs z = at (n == 0)
   where
-    at : (b : Bool) → Turned w (with_stack w q (record { top = (if b then YieldPopInjected else YieldSteal (not_self g.workers (own_index q) (next_victim g.workers v)) (n - 1)); below = fs }))
+    at : (b : Bool) → Stepped w (with_stack w q (record { top = (if b then YieldPopInjected else YieldSteal (not_self g.workers (own_index q) (next_victim g.workers v)) (n - 1)); below = fs }))
     at true = turn_at w q (YieldSteal v n) YieldPopInjected fs z (λ l. refl, λ l e. e, λ r p i. refl, refl, refl) (λ e. e)
     at false = turn_at w q (YieldSteal v n) (YieldSteal (not_self g.workers (own_index q) (next_victim g.workers v)) (n - 1)) fs z (λ l. refl, λ l e. e, λ r p i. refl, refl, refl) (λ e. e)
 
-miss_turns : (w : World) (q : Party) (x : Place) (fs : List Place) → w.stack q ≡ record { top = x; below = fs } → IfSome (after_miss w q (record { top = x; below = fs }) x) (Turned w)
-miss_turns w (Worker a b) (StealFrom k n) fs z = if_cond (Turned w) (can_miss w a k.victim) _ (λ y. steal_turns w (Worker a b) k n (w.shape.pool a) fs z)
-miss_turns w (Worker a b) (YieldSteal v n) fs z = if_cond (Turned w) (can_miss w a v) _ (λ y. skip_turns w (Worker a b) v n (w.shape.pool a) fs z)
+miss_turns : (w : World) (q : Party) (x : Place) (fs : List Place) → w.stack q ≡ record { top = x; below = fs } → IfSome (after_miss w q (record { top = x; below = fs }) x) (Stepped w)
+miss_turns w (Worker a b) (StealFrom k n) fs z = if_cond (Stepped w) (can_miss w a k.victim) _ (λ y. steal_turns w (Worker a b) k n (w.shape.pool a) fs z)
+miss_turns w (Worker a b) (YieldSteal v n) fs z = if_cond (Stepped w) (can_miss w a v) _ (λ y. skip_turns w (Worker a b) v n (w.shape.pool a) fs z)
 miss_turns w (Worker a b) _ fs z = tt
 miss_turns w (Caller n) _ fs z = tt
 
@@ -236,7 +236,7 @@ closed t (TokenOf i b) d fs a = resumed t (TokenOf i b) fs d a
 closed t (BodyOf c o) d fs a = resumed t (BodyOf c o) fs d a
 closed t (WholeOf c o) d fs a = resumed t (WholeOf c o) fs d a
 
-end_turns : (w : World) (q : Party) (d : Ending) (x : Place) (fs : List Place) → w.stack q ≡ record { top = x; below = fs } → IfSome (after_end w q d (record { top = x; below = fs }) x) (Turned w)
+end_turns : (w : World) (q : Party) (d : Ending) (x : Place) (fs : List Place) → w.stack q ≡ record { top = x; below = fs } → IfSome (after_end w q d (record { top = x; below = fs }) x) (Stepped w)
 end_turns w q d (Run t k) fs z = record {
   party = q;
   to = after_close t k d fs;
@@ -258,7 +258,7 @@ free_live _ e = cc
 -- a call begins above a free place
 begin_turns : (w u : World) (q : Party) (y : Place) → is_free (w.stack q).top ≡ true → u.shape ≡ w.shape → ((r : Party) → u.stack r ≡ put_stack w.stack q (after_call (w.stack q) y) r) → ((p i : ℕ) → u.seat p i ≡ w.seat p i) → Mild y
     → (u.calls ≡ w.calls) ⊎ ((u.calls ≡ w.calls + 1) × (own_call y ≡ Some w.calls)) →
-    ((c : ℕ) → (u.call c ≡ w.call c) ⊎ ((w.calls ≤ c) × ((u.call c).latch ≡ Unset) × ((u.call c).writer ≡ None))) → Turned w u
+    ((c : ℕ) → (u.call c ≡ w.call c) ⊎ ((w.calls ≤ c) × ((u.call c).latch ≡ Unset) × ((u.call c).writer ≡ None))) → Stepped w u
 begin_turns w u q y f h s c m l n = record {
   party = q;
   to = after_call (w.stack q) y;
@@ -279,31 +279,31 @@ new_turns w v a b c = by (c == w.calls) refl
     by true e = inr (let k : c ≡ w.calls = eqb-true c w.calls e in omega (arith, k), a, b)
     by false e = inl refl
 
-spawn_turns : (w : World) (q : Party) (p : ℕ) → IfSome (after_spawn w q p (w.stack q)) (Turned w)
-spawn_turns w q p = if_cond (Turned w) (is_free ((w.stack q).top) && is_pool w.shape p) _
+spawn_turns : (w : World) (q : Party) (p : ℕ) → IfSome (after_spawn w q p (w.stack q)) (Stepped w)
+spawn_turns w q p = if_cond (Stepped w) (is_free ((w.stack q).top) && is_pool w.shape p) _
     (λ b. begin_turns w _ q (RaiseCount (Detach p w.jobs)) ((and_parts (is_free ((w.stack q).top)) (is_pool w.shape p) b).0) refl (λ r. refl) (λ p i. refl) (λ l. refl, refl, λ r p i. refl, refl, refl) (inl refl) (λ c. inl refl))
 
-deal_turns : (w : World) (q : Party) (k : Count) (p : ℕ) → is_free ((w.stack q).top) ≡ true → Turned w (after_deal w q k p (w.stack q))
+deal_turns : (w : World) (q : Party) (k : Count) (p : ℕ) → is_free ((w.stack q).top) ≡ true → Stepped w (after_deal w q k p (w.stack q))
 deal_turns w q k p e = begin_turns w (after_deal w q k p (w.stack q)) q (RaiseForAll (record { count = k; pool = p; first = w.jobs; workers = (w.shape.pool p).workers })) e refl (λ r. refl) (λ p i. refl) (λ l. refl, refl, λ r p i. refl, refl, refl) (inl refl) (λ c. inl refl)
 
-feed_turns : (w : World) (k : Count) (p i : ℕ) → is_free ((w.stack (Worker p i)).top) ≡ true → Turned w (after_feed w k p i (w.stack (Worker p i)))
+feed_turns : (w : World) (k : Count) (p i : ℕ) → is_free ((w.stack (Worker p i)).top) ≡ true → Stepped w (after_feed w k p i (w.stack (Worker p i)))
 feed_turns w k p i free = begin_turns w (after_feed w k p i (w.stack (Worker p i))) (Worker p i) (RaiseCount (Feed (record { count = k; pool = p; job = w.jobs; token = w.jobs + 1 }))) free refl (λ r. refl) (λ p i. refl) (λ l. refl, refl, λ r p i. refl, refl, refl) (inl refl) (λ c. inl refl)
 
-sent_turns : (w : World) (q : Party) (p : ℕ) (b : Bool) → is_free ((w.stack q).top) ≡ true → Turned w (after_send w q p (w.stack q) b)
+sent_turns : (w : World) (q : Party) (p : ℕ) (b : Bool) → is_free ((w.stack q).top) ≡ true → Stepped w (after_send w q p (w.stack q) b)
 sent_turns w q p true e = begin_turns w (after_send w q p (w.stack q) true) q (RaiseCount (Here p w.jobs)) e refl (λ r. refl) (λ p i. refl) (λ l. refl, refl, λ r p i. refl, refl, refl) (inl refl) (λ c. inl refl)
 sent_turns w q p false e = begin_turns w (after_send w q p (w.stack q) false) q (RaiseCount (Send (record { number = w.calls; pool = p; job = w.jobs }))) e refl (λ r. refl) (λ p i. refl) (λ l. refl, refl, λ r p i. refl, refl, refl) (inr (refl, refl)) (new_turns w (new_call None w.jobs) refl refl)
 
-enter_turns : (w : World) (q : Party) (z : Scope) → is_free ((w.stack q).top) ≡ true → IfSome (after_enter w q (w.stack q) (Some z)) (Turned w)
-enter_turns w q z free = if_cond (Turned w) (is_free ((w.stack q).top) && holds z.call (w.stack q)) _
+enter_turns : (w : World) (q : Party) (z : Scope) → is_free ((w.stack q).top) ≡ true → IfSome (after_enter w q (w.stack q) (Some z)) (Stepped w)
+enter_turns w q z free = if_cond (Stepped w) (is_free ((w.stack q).top) && holds z.call (w.stack q)) _
     (λ b. begin_turns w _ q (RaiseCount (Enter (record { call = z.call; owner = z.owner; pool = z.pool; job = w.jobs }))) free refl (λ r. refl) (λ p i. refl) (λ l. refl, refl, λ r p i. refl, refl, refl) (inl refl) (λ c. inl refl))
 
-scope_turns : (w : World) (q : Party) (p : ℕ) → IfSome (after_scope w q p (w.stack q)) (Turned w)
-scope_turns w q p = if_cond (Turned w) (is_free ((w.stack q).top) && is_pool w.shape p) _
+scope_turns : (w : World) (q : Party) (p : ℕ) → IfSome (after_scope w q p (w.stack q)) (Stepped w)
+scope_turns w q p = if_cond (Stepped w) (is_free ((w.stack q).top) && is_pool w.shape p) _
     (λ b. begin_turns w _ q (RaiseCount (Open (record { number = w.calls; pool = p; job = w.jobs })))
     ((and_parts (is_free ((w.stack q).top)) (is_pool w.shape p) b).0) refl (λ r. refl) (λ p i. refl) (λ l. refl, refl, λ r p i. refl, refl, refl) (inr (refl, refl)) (new_turns w (new_call None w.jobs) refl refl))
 
-gather_turns : (w : World) (q : Party) (p : ℕ) → IfSome (after_broadcast w q p (w.stack q)) (Turned w)
-gather_turns w q p = if_cond (Turned w) (is_free ((w.stack q).top) && is_pool w.shape p) _
+gather_turns : (w : World) (q : Party) (p : ℕ) → IfSome (after_broadcast w q p (w.stack q)) (Stepped w)
+gather_turns w q p = if_cond (Stepped w) (is_free ((w.stack q).top) && is_pool w.shape p) _
     (λ b. begin_turns w (after_gather w q p (w.stack q)) q (RaiseCount (Gather (record { call = o; pieces = c })))
     ((and_parts (is_free ((w.stack q).top)) (is_pool w.shape p) b).0) refl (λ r. refl) (λ p i. refl) (λ l. refl, refl, λ r p i. refl, refl, refl) (inr (refl, refl)) (new_turns w (new_gathering c.workers o.job) refl refl))
   where
@@ -313,13 +313,13 @@ gather_turns w q p = if_cond (Turned w) (is_free ((w.stack q).top) && is_pool w.
     o : OpenCall
     o = record { number = w.calls; pool = p; job = w.jobs + c.workers }
 
-join_turns : (w : World) (q : Party) → IfSome (after_join w q (w.stack q)) (Turned w)
-join_turns w (Worker a b) = if_cond (Turned w) (is_free ((w.stack (Worker a b)).top)) _
+join_turns : (w : World) (q : Party) → IfSome (after_join w q (w.stack q)) (Stepped w)
+join_turns w (Worker a b) = if_cond (Stepped w) (is_free ((w.stack (Worker a b)).top)) _
     (λ z. begin_turns w _ (Worker a b) (RaiseCount (Fork (record { number = w.calls; pool = a; job = w.jobs + 1 }) w.jobs)) z refl (λ r. refl) (λ p i. refl) (λ l. refl, refl, λ r p i. refl, refl, refl) (inr (refl, refl)) (new_turns w (new_call (Some w.jobs) (w.jobs + 1)) refl refl))
 join_turns w (Caller n) = tt
 
-yield_turns : (w : World) (q : Party) (x : Place) → Mild x → IfSome (after_yield w q (w.stack q) x) (Turned w)
-yield_turns w (Worker a b) x m = if_cond (Turned w) (is_free ((w.stack (Worker a b)).top)) _ (λ z. begin_turns w _ (Worker a b) x z refl (λ r. refl) (λ p i. refl) m (inl refl) (λ c. inl refl))
+yield_turns : (w : World) (q : Party) (x : Place) → Mild x → IfSome (after_yield w q (w.stack q) x) (Stepped w)
+yield_turns w (Worker a b) x m = if_cond (Stepped w) (is_free ((w.stack (Worker a b)).top)) _ (λ z. begin_turns w _ (Worker a b) x z refl (λ r. refl) (λ p i. refl) m (inl refl) (λ c. inl refl))
 yield_turns w (Caller c) x m = tt
 
 -- an event is an act
@@ -327,23 +327,23 @@ abbrev pub is_act : Event → Bool
 is_act (Go q) = true
 is_act e = false
 
-pub turns : (w : World) (e : Event) → is_act e ≡ false → IfSome (step w e) (Turned w)
+pub turns : (w : World) (e : Event) → is_act e ≡ false → IfSome (step w e) (Stepped w)
 turns w (Go q) n = cc
 turns w (From q v) n = from_turns w q ((w.stack q).top) ((w.stack q).below) v refl
 turns w (Refuse q) n = refuse_turns w q ((w.stack q).top) ((w.stack q).below) refl
 turns w (Miss q) n = miss_turns w q ((w.stack q).top) ((w.stack q).below) refl
 turns w (End q d) n = end_turns w q d ((w.stack q).top) ((w.stack q).below) refl
 turns w (Spawn q p) n = spawn_turns w q p
-turns w (Fifo q p) n = fifo_cases (Turned w) w q p (spawn_turns w q p) (λ i free. feed_turns w (OfPool p) p i free)
-turns w (Cast q p) n = if_cond (Turned w) (is_free ((w.stack q).top) && is_pool w.shape p) _ (λ b. deal_turns w q (OfPool p) p ((and_parts (is_free ((w.stack q).top)) (is_pool w.shape p) b).0))
-turns w (Install q p) n = if_cond (Turned w) (is_free ((w.stack q).top) && is_pool w.shape p) _ (λ e. sent_turns w q p (is_member q p) ((and_parts (is_free ((w.stack q).top)) (is_pool w.shape p) e).0))
+turns w (Fifo q p) n = fifo_cases (Stepped w) w q p (spawn_turns w q p) (λ i free. feed_turns w (OfPool p) p i free)
+turns w (Cast q p) n = if_cond (Stepped w) (is_free ((w.stack q).top) && is_pool w.shape p) _ (λ b. deal_turns w q (OfPool p) p ((and_parts (is_free ((w.stack q).top)) (is_pool w.shape p) b).0))
+turns w (Install q p) n = if_cond (Stepped w) (is_free ((w.stack q).top) && is_pool w.shape p) _ (λ e. sent_turns w q p (is_member q p) ((and_parts (is_free ((w.stack q).top)) (is_pool w.shape p) e).0))
 turns w (Join q) n = join_turns w q
 turns w (OpenScope q p) n = scope_turns w q p
-turns w (IntoSpawn q k) n = into_cases (Turned w) w q k (λ z e free held. enter_turns w q z free)
-turns w (IntoFifo q k) n = into_fifo_cases (Turned w) w q k (λ z e free held. enter_turns w q z free) (λ z i e free held. feed_turns w (OfScope z.call z.owner) z.pool i free)
-turns w (IntoCast q k) n = into_cast_cases (Turned w) w q k (λ z e free held. deal_turns w q (OfScope z.call z.owner) z.pool free)
+turns w (IntoSpawn q k) n = into_cases (Stepped w) w q k (λ z e free held. enter_turns w q z free)
+turns w (IntoFifo q k) n = into_fifo_cases (Stepped w) w q k (λ z e free held. enter_turns w q z free) (λ z i e free held. feed_turns w (OfScope z.call z.owner) z.pool i free)
+turns w (IntoCast q k) n = into_cast_cases (Stepped w) w q k (λ z e free held. deal_turns w q (OfScope z.call z.owner) z.pool free)
 turns w (Broadcast q p) n = gather_turns w q p
 turns w (Yield q) n = yield_turns w q YieldPop (λ l. refl, refl, λ r p i. refl, refl, refl)
 turns w (YieldLocal q) n = yield_turns w q LocalPop (λ l. refl, refl, λ r p i. refl, refl, refl)
-turns w (EndPool q p) n = if_cond (Turned w) (is_free ((w.stack q).top) && (is_pool w.shape p && (w.pool p).held)) _
+turns w (EndPool q p) n = if_cond (Stepped w) (is_free ((w.stack q).top) && (is_pool w.shape p && (w.pool p).held)) _
     (λ b. begin_turns w _ q (LowerCount (OfPool p) PoolValue Resume) ((and_parts (is_free ((w.stack q).top)) (is_pool w.shape p && (w.pool p).held) b).0) refl (λ r. refl) (λ p i. refl) (λ l. refl, refl, λ r p i. refl, refl, refl) (inl refl) (λ c. inl refl))

@@ -27,7 +27,7 @@ use Rattle.rayon_machine_laws.proofs.Frame.{acted_keeps, either, if_some_and, if
 use Rattle.rayon_machine_laws.proofs.Ties.{outcome, result, job_at, shape_at}
 use Rattle.rayon_machine_laws.proofs.Calm.{counts_seen, part_at, next_at}
 use Rattle.rayon_machine_laws.proofs.Posts.{Passes, Steers, Unless, is_base, is_live, set_at, probes_here, found_latch, steers}
-use Rattle.rayon_machine_laws.proofs.PostEvents.{Based, Turned, is_act, is_based, land, land_based, live_mild, turns}
+use Rattle.rayon_machine_laws.proofs.PostEvents.{Based, Stepped, is_act, is_based, land, land_based, live_mild, turns}
 use Rattle.rayon_machine_laws.proofs.SetLaws.{sets_law}
 
 -- one step more of a run
@@ -155,7 +155,7 @@ act_stops w v q stays a h = record {
         ]
 
 -- and so does an event that is no act
-turn_stops : (w v : World) → ((p i : ℕ) (l : Latch) → letter_at w p i l ≡ IsSet → letter_at v p i l ≡ IsSet) → Turned w v → StopsHold w → StopsHold v
+turn_stops : (w v : World) → ((p i : ℕ) (l : Latch) → letter_at w p i l ≡ IsSet → letter_at v p i l ≡ IsSet) → Stepped w v → StopsHold w → StopsHold v
 turn_stops w v stays m h = record {
   based = λ r. subst Based (sym (m.stack r)) (based r (same_party r m.party) refl);
   set = λ p i l n s. stays p i l (h.set p i l (subst (λ z. i < (z.pool p).workers) m.shape n) (set (Worker p i) l (same_party (Worker p i) m.party) refl (ap (λ z. set_at (z.top)) (sym (m.stack (Worker p i))) ∙ s)));
@@ -177,7 +177,7 @@ step_stops h es w v e r s k = by e s
 
     by : (e : Event) → step w e ≡ Some v → StopsHold v
     by (Go q) s = act_stops w v q (stays (Go q) s) (made (ActStops w q) w v (Go q) s (go_stops w q)) k
-    by e s = turn_stops w v (stays e s) (made (Turned w) w v e s (turns w e refl)) k
+    by e s = turn_stops w v (stays e s) (made (Stepped w) w v e s (turns w e refl)) k
 
 first_stops : (h : Shape) → StopsHold (start h)
 first_stops h = record {

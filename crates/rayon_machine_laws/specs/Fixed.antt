@@ -1,16 +1,30 @@
 -- what no step changes of a job
-use Rattle.std.specs.Prelude.{ℕ, ◌<◌, Some, List, ◌≡◌}
+use Rattle.std.specs.Prelude.{ℕ, Bool, true, false, ◌==◌, ◌<◌, Some, List, ◌≡◌}
 use Rattle.rayon_machine_places.specs.declared.event.Event.{Event}
+use Rattle.rayon_machine_places.specs.declared.state.Slot.{Slot}
+use Rattle.rayon_machine_places.specs.declared.state.Slot.TheVariants.{Closed, Open, Filled}
 use Rattle.rayon_machine_places.specs.World.{Shape, World}
 use Rattle.rayon_machine_places.specs.Steps.{step}
 use Rattle.rayon_machine_places.specs.Runs.{IsRun, start}
 
+-- a job's number of a book, before a step and after it: one that has none may be given one; one that is open stays, is
+-- filled, or is taken back; and one that is filled stays
+abbrev pub slot_stays : Slot → Slot → Bool
+slot_stays Closed Closed = true
+slot_stays Closed (Open n) = true
+slot_stays (Open n) Closed = true
+slot_stays (Open n) (Open m) = n == m
+slot_stays (Open n) (Filled m) = n == m
+slot_stays (Filled n) (Filled m) = n == m
+slot_stays _ _ = false
+
 -- a job or a token is as before what it was made as: what the end of its run sets going, the pool that its call was made
--- at, and, of a piece of a broadcast, the worker that it is bound to
+-- at, and, of a piece of a broadcast, the worker that it is bound to; and it has no other number of a book than it had
 pub record StaysFixed (w v : World) (t : ℕ) : Type 0 where
   pub kind : (v.job t).kind ≡ (w.job t).kind
   pub pool : (v.job t).pool ≡ (w.job t).pool
   pub bound : (v.job t).bound ≡ (w.job t).bound
+  pub slot : slot_stays (w.job t).slot (v.job t).slot ≡ true
 
 -- so it is over each step of each run, of each number that was given out before it
 abbrev pub FixedLaw : Type 0

@@ -22,7 +22,8 @@ ghost use Rattle.rayon_machine_laws.specs.Seats.{IsSeated};
 /// detached jobs: the tokens of a list that are queued or in a hand are no more than the jobs that stand in it.
 /// Each piece of a broadcast is bound to one worker (`bound`): it stands in no list but that worker's broadcast list,
 /// and once it is taken with no party but that worker, in its hand or under its run. No step changes which worker that
-/// is, nor the pool that a job's call was made at, nor what the end of its run sets going (`fixed`).
+/// is, nor the pool that a job's call was made at, nor what the end of its run sets going, nor a job's number of its book
+/// once it has one, until it is taken back (`fixed`).
 /// A job whose run ends is over as its run ended, and comes to be over only so; and a step adds one to the number of its
 /// runs only where a party comes to stand at its run (`ends`). So a job that has run has stood at its run.
 /// Each job is queued and run at its own pool, a job of a FIFO list in the one of its own kind, a token in its own worker's

@@ -1,6 +1,6 @@
 use Rattle.rayon_machine_laws.proofs.Bounds.{always_bound}
 use Rattle.rayon_machine_laws.proofs.ClaimMakes.{always_once}
-use Rattle.rayon_machine_laws.proofs.Fixed.{fixed_law}
+use Rattle.rayon_machine_laws.proofs.SlotEvents.{fixed_law}
 use Rattle.rayon_machine_laws.proofs.Records.{ends_law}
 use Rattle.rayon_machine_laws.proofs.NearEvents.{always_near}
 use Rattle.rayon_machine_laws.proofs.Redeems.{always_stocks, redeems}

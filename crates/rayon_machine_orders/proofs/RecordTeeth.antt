@@ -1,5 +1,5 @@
--- wrong machines of records: replays, computed by the kernel, in which a job's record is not as its run began or ended, or
--- names another pool than the job's
+-- wrong machines of records: replays, computed by the kernel, in which a job's record is not as its run began or ended, names
+-- another pool than the job's, or changes its number of its book
 use Rattle.std.proofs.Common.{refl}
 use Rattle.std.specs.Prelude.{ℕ, true, false, ◌+◌, Option, Some, None, List, [], ◌∷◌, ◌++◌, ◌≡◌, IfSome}
 use Rattle.rayon_machine_places.specs.declared.place.Ending.{Ending}
@@ -11,19 +11,21 @@ use Rattle.rayon_machine_places.specs.declared.place.Place.TheVariants.{BeginTas
 use Rattle.rayon_machine_places.specs.declared.place.Move.{Move}
 use Rattle.rayon_machine_places.specs.declared.place.Move.TheVariants.{Back}
 use Rattle.rayon_machine_places.specs.declared.act.Act.{Act}
-use Rattle.rayon_machine_places.specs.declared.act.Act.TheVariants.{Begin, PushOwn}
+use Rattle.rayon_machine_places.specs.declared.act.Act.TheVariants.{Begin, PushOwn, StoreSlot as PutSlot}
 use Rattle.rayon_machine_places.specs.declared.act.Seen.{Seen}
-use Rattle.rayon_machine_places.specs.declared.act.Seen.TheVariants.{Begun}
+use Rattle.rayon_machine_places.specs.declared.act.Seen.TheVariants.{Done, Begun}
 use Rattle.rayon_machine_places.specs.declared.event.Event.{Event}
-use Rattle.rayon_machine_places.specs.declared.event.Event.TheVariants.{End, Spawn}
+use Rattle.rayon_machine_places.specs.declared.event.Event.TheVariants.{Go, End, Spawn, Scope as OpenScope, IntoSpawn}
 use Rattle.rayon_machine_places.specs.declared.shape.PoolShape.{PoolShape}
+use Rattle.rayon_machine_places.specs.declared.state.Slot.TheVariants.{Open, Filled}
 use Rattle.rayon_machine_places.specs.declared.state.Whereabouts.TheVariants.{InDeque, Injected, Over}
 use Rattle.rayon_machine_places.specs.Places.{act_of, next_of, plan_book, plan_job}
 use Rattle.rayon_machine_places.specs.World.{Shape, Stack, World, Counts, Part, Outcome, at_job, effect, target_job}
 use Rattle.rayon_machine_places.specs.Steps.{after_close, put, put_stack, step}
 use Rattle.rayon_machine_laws.specs.Once.{run_of}
+use Rattle.rayon_machine_laws.specs.Fixed.{slot_stays}
 use Rattle.rayon_machine_laws.specs.Near.{is_near}
-use Rattle.rayon_machine_orders.proofs.WrongMachines.{making, run_by, times_go, two, a, c, right}
+use Rattle.rayon_machine_orders.proofs.WrongMachines.{doing, making, run_by, times_go, two, a, b, c, right}
 
 -- a caller spawns a job, and a worker finds it and begins it
 abbrev one_job : List Event
@@ -87,3 +89,25 @@ job_is_queued_elsewhere = record { at = refl {a = InDeque 0 0}; near = refl }
 -- in the machine as it is it stands in its own pool's injector
 job_is_queued_at_home : IfSome (run_by right (two 32) elsewhere) (λ w. ((w.job 1).at ≡ Injected 1) × (is_near (w.job 1).kind (w.job 1).pool (w.job 1).bound (w.job 1).at ≡ true))
 job_is_queued_at_home = (refl {a = Injected 1}, refl)
+
+-- the end of a job fills number 1 of its scope's book, whichever the job has
+abbrev fills_one : Act → Shape → Party → Counts → Part → Outcome
+fills_one (PutSlot k t e) h q n m = Some (Done, record m { job = record (m.job) { slot = Filled 1 } })
+fills_one act h q n m = effect act h q n m
+
+-- a job of a scope has number 0, and its run has ended
+abbrev ended_in_scope : List Event
+ended_in_scope = OpenScope c 0 ∷ times_go c 2 ++ IntoSpawn c 0 ∷ times_go c 5 ++ times_go b 12 ++ End b Fine ∷ []
+
+-- a step at which its number goes from open to another that is filled, which the law forbids
+record Fills (w v : World) : Type 0 where
+  before : (w.job 1).slot ≡ Open 0
+  after : (v.job 1).slot ≡ Filled 1
+  stays : slot_stays (w.job 1).slot (v.job 1).slot ≡ false
+
+other_number_is_filled : IfSome (run_by (doing fills_one) (two 32) ended_in_scope) (λ w. IfSome (run_by (doing fills_one) (Some w) (Go b ∷ [])) (Fills w))
+other_number_is_filled = record { before = refl {a = Open 0}; after = refl {a = Filled 1}; stays = refl }
+
+-- in the machine as it is it is its own
+own_number_is_filled : IfSome (run_by right (two 32) ended_in_scope) (λ w. IfSome (run_by right (Some w) (Go b ∷ [])) (λ v. ((v.job 1).slot ≡ Filled 0) × (slot_stays (w.job 1).slot (v.job 1).slot ≡ true)))
+own_number_is_filled = (refl {a = Filled 0}, refl)

@@ -1,8 +1,7 @@
 -- what has been made stays what it was made as, over each step
 use Rattle.std.proofs.Common.{arith, refl, ◌∙◌, ap, subst, inl, inr}
-use Rattle.std.specs.Prelude.{ℕ, Bool, true, false, ◌&&◌, ◌+◌, ◌-◌, ◌==◌, ◌≤◌, ◌<◌, if◌then◌else◌, Some, ◌≡◌, IfSome}
+use Rattle.std.specs.Prelude.{ℕ, Bool, true, false, ◌&&◌, ◌+◌, ◌==◌, ◌≤◌, ◌<◌, Some, ◌≡◌, IfSome}
 use Rattle.std.proofs.lemmas.Bool.{eqb-true}
-use Rattle.rayon_machine_places.specs.declared.place.Count.{Count}
 use Rattle.rayon_machine_places.specs.declared.place.Count.TheVariants.{OfPool, OfScope, OfCast}
 use Rattle.rayon_machine_places.specs.declared.place.Pieces.{Pieces}
 use Rattle.rayon_machine_places.specs.declared.place.Party.{Party}
@@ -17,7 +16,7 @@ use Rattle.rayon_machine_places.specs.declared.state.Whereabouts.TheVariants.{Ov
 use Rattle.rayon_machine_places.specs.declared.state.Job.{Job}
 use Rattle.rayon_machine_places.specs.Places.{act_of, is_free, is_member}
 use Rattle.rayon_machine_places.specs.World.{Stack, World, Part, at_job, target_pool, target_worker, target_call}
-use Rattle.rayon_machine_places.specs.Steps.{put, put_pieces, after_choice, after_end, after_gather, after_join, after_miss, after_send, after_yield, is_piece, is_pool, new_piece, new_whole, step}
+use Rattle.rayon_machine_places.specs.Steps.{put, put_pieces, after_choice, after_end, after_gather, after_join, after_miss, after_send, after_yield, is_pool, new_piece, new_whole, step}
 use Rattle.rayon_machine_laws.proofs.Calm.{part_at, counts_seen, next_at}
 use Rattle.rayon_machine_laws.proofs.Frame.{after_kind, after_pool, after_bound, acted_keeps, either, fifo_cases, if_cond, if_some_map, into_cases, into_cast_cases, into_fifo_cases, piece_old, piece_out, put_old, put_same}
 use Rattle.rayon_machine_laws.proofs.Later.{Static, act_static}

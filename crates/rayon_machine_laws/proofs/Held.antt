@@ -1,6 +1,6 @@
 -- who holds each sleep lock, each scope's book and each FIFO list, in every world of every run
 use Rattle.std.proofs.Common.{arith, refl, ◌∙◌, sym, ap, subst, inl, inr}
-use Rattle.std.specs.Prelude.{ℕ, Bool, true, false, not, ◌&&◌, ◌+◌, ◌==◌, ◌<◌, ◌≤◌, nat_lt, if◌then◌else◌, Option, Some, None, ◌≡◌, ◌⊎◌, IfSome, ⊤, List, [], ◌∷◌}
+use Rattle.std.specs.Prelude.{ℕ, Bool, true, false, not, ◌&&◌, ◌==◌, ◌<◌, ◌≤◌, nat_lt, if◌then◌else◌, Option, Some, None, ◌≡◌, ◌⊎◌, IfSome, ⊤, List}
 use Rattle.std.proofs.lemmas.Bool.{eqb-true}
 use Rattle.rayon_machine_places.specs.declared.place.Party.{Party}
 use Rattle.rayon_machine_places.specs.declared.place.Party.TheVariants.{Worker, Caller}
@@ -19,25 +19,24 @@ use Rattle.rayon_machine_places.specs.declared.act.Seen.{Seen}
 use Rattle.rayon_machine_places.specs.declared.event.Event.{Event}
 use Rattle.rayon_machine_places.specs.declared.event.Event.TheVariants.{Go}
 use Rattle.rayon_machine_places.specs.declared.state.Letter.TheVariants.{Unset}
-use Rattle.rayon_machine_places.specs.Places.{act_of, next_of, plan_book, plan_count, count_book, count_call, own_pool, own_index, same_party, fresh}
+use Rattle.rayon_machine_places.specs.Places.{act_of, plan_book, plan_count, count_book, count_call, own_pool, own_index, same_party, fresh}
 use Rattle.rayon_machine_places.specs.World.{Shape, Stack, World, Part, Outcome, target_pool, target_worker, target_call, counts_at, effect, is_free_lock, is_held_by, is_open, is_own, last_of, same_list}
 use Rattle.rayon_machine_places.specs.Steps.{after_move, act_at, part_of, step}
 use Rattle.rayon_machine_places.specs.Runs.{IsRun, start, first_place}
 use Rattle.rayon_machine_places.specs.declared.shape.PoolShape.{PoolShape}
 use Rattle.rayon_machine_laws.specs.Letters.{letter_for}
 use Rattle.rayon_machine_laws.specs.Holders.{HolderLaw, IsHolding, book_at, feeds_list, locks_at, others_hold}
-use Rattle.rayon_machine_laws.proofs.Frame.{acted_keeps, and_parts, either, if_cond, if_some_all, if_some_and, if_some_map, same_index, same_list_true, same_party_true, same_party_refl, stack_mine, stack_other}
+use Rattle.rayon_machine_laws.proofs.Frame.{acted_keeps, and_parts, either, if_some_all, if_some_and, if_some_map, same_index, same_list_true, same_party_true, stack_mine, stack_other}
 use Rattle.rayon_machine_laws.proofs.Ties.{AllFrames, outcome, result, job_at, shape_at}
 use Rattle.rayon_machine_laws.proofs.Calm.{counts_seen, part_at, next_at}
-use Rattle.rayon_machine_laws.proofs.Tops.{FramesOk, Leads, Tops, frame_light, is_light, is_heavy, leads, leads_tops, top_after}
+use Rattle.rayon_machine_laws.proofs.Tops.{Leads, frame_light, is_light, is_heavy, leads, leads_tops, top_after}
 use Rattle.rayon_machine_laws.proofs.Owners.{count_sets, sets_for, shown}
 use Rattle.rayon_machine_laws.proofs.OwnedActs.{Owned, SetsFor}
 use Rattle.rayon_machine_laws.proofs.ClaimPlaces.{Says}
-use Rattle.rayon_machine_laws.proofs.ClaimRuns.{CallsHold}
 use Rattle.rayon_machine_laws.proofs.ClaimMakes.{always_calls}
 use Rattle.rayon_machine_laws.proofs.Feeders.{FeedersHold, waits, waits_at}
 use Rattle.rayon_machine_laws.proofs.FeederEvents.{always_feeders}
-use Rattle.rayon_machine_laws.proofs.Posts.{Locking, Passes, Steers, Unless, is_booked, is_live, locks_here, books_here, steers}
+use Rattle.rayon_machine_laws.proofs.Posts.{Locking, Steers, Unless, is_booked, locks_here, books_here, steers}
 use Rattle.rayon_machine_laws.proofs.PostEvents.{Based, Stepped, land, live_mild, turns}
 use Rattle.rayon_machine_laws.proofs.Stops.{always_stops, made, run_has}
 use Rattle.rayon_machine_laws.proofs.Lettered.{always_owned}

@@ -1,10 +1,9 @@
 -- a party holds a sleep lock, a scope's book and a FIFO list exactly where it stands so
-use Rattle.std.proofs.Common.{rules, arith, refl, ◌∙◌, sym, ap, subst, inl, inr}
-use Rattle.std.specs.Prelude.{ℕ, Bool, true, false, not, ◌&&◌, ◌+◌, ◌==◌, ◌<◌, ◌≤◌, nat_lt, if◌then◌else◌, Option, Some, None, ◌≡◌, ◌⊎◌, IfSome, ⊤, List, [], ◌∷◌}
+use Rattle.std.proofs.Common.{rules, arith, refl, ◌∙◌, sym, ap, inl, inr}
+use Rattle.std.specs.Prelude.{ℕ, Bool, true, false, not, ◌&&◌, ◌==◌, if◌then◌else◌, Option, Some, None, ◌≡◌, IfSome, ⊤, List}
 use Rattle.std.proofs.lemmas.Bool.{eqb-true, eq-eqb}
 use Rattle.rayon_machine_places.specs.declared.place.Party.{Party}
 use Rattle.rayon_machine_places.specs.declared.place.Party.TheVariants.{Worker, Caller}
-use Rattle.rayon_machine_places.specs.declared.place.Target.TheVariants.{Termination}
 use Rattle.rayon_machine_places.specs.declared.place.Latch.{Latch}
 use Rattle.rayon_machine_places.specs.declared.place.Latch.TheVariants.{Terminate, OfCall}
 use Rattle.rayon_machine_places.specs.declared.place.Plan.{Plan}
@@ -12,45 +11,25 @@ use Rattle.rayon_machine_places.specs.declared.place.Plan.TheVariants.{Detach, H
 use Rattle.rayon_machine_places.specs.declared.place.Count.{Count}
 use Rattle.rayon_machine_places.specs.declared.place.Count.TheVariants.{OfPool, OfScope, OfCast}
 use Rattle.rayon_machine_places.specs.declared.place.Feeding.{Feeding}
-use Rattle.rayon_machine_places.specs.declared.place.Pieces.{Pieces}
-use Rattle.rayon_machine_places.specs.declared.place.Gathering.{Gathering}
-use Rattle.rayon_machine_places.specs.declared.place.Wait.{Wait}
 use Rattle.rayon_machine_places.specs.declared.place.Walk.{Walk}
 use Rattle.rayon_machine_places.specs.declared.place.Settling.{Settling}
 use Rattle.rayon_machine_places.specs.declared.place.Taken.TheVariants.{Plain}
 use Rattle.rayon_machine_places.specs.declared.place.Place.{Place}
-use Rattle.rayon_machine_places.specs.declared.place.Place.TheVariants.{ProbeWorking, GetSleepy, LockOwn, FallAsleep, LoadCounters, AddSleeping, LookAtCast, LookAtInjector, BlockSelf, RelockOwn, UndoSleeping, WakeUp, UnlockOwn, SetLatch, LowerForAll, LockToWake, WakeWorker, UnlockWoken, LockToSettle, WakeSettled, UnlockSettled, GrowCall, OpenSlot, CloseSlot, LookQueue, PushJob, AddToFifo, LookForToken, PushToken, TakeFromFifo, OpenForAll, PushForAll, CloseForAll, DealPieces, StoreSlot, StorePiece, Free, Stopped}
-use Rattle.rayon_machine_places.specs.declared.place.Move.{Move}
-use Rattle.rayon_machine_places.specs.declared.act.Act.{Act}
-use Rattle.rayon_machine_places.specs.declared.act.Act.TheVariants.{Lock, Unlock, PushOwn, PushInj, FifoIn, FifoUndo, FifoOut, Slot, SlotUndo, SlotAll, SlotUndoAll, StoreBody as PutBody, StoreSlot as PutSlot}
+use Rattle.rayon_machine_places.specs.declared.place.Place.TheVariants.{ProbeWorking, GetSleepy, LockOwn, FallAsleep, LoadCounters, AddSleeping, LookAtCast, LookAtInjector, BlockSelf, RelockOwn, UndoSleeping, WakeUp, UnlockOwn, SetLatch, LowerForAll, LockToWake, WakeWorker, UnlockWoken, LockToSettle, WakeSettled, UnlockSettled, GrowCall, OpenSlot, CloseSlot, LookQueue, PushJob, PushToken, TakeFromFifo, OpenForAll, PushForAll, CloseForAll, DealPieces, StoreSlot, StorePiece}
+use Rattle.rayon_machine_places.specs.declared.act.Act.TheVariants.{Unlock, PushOwn, PushInj, FifoUndo}
 use Rattle.rayon_machine_places.specs.declared.act.Seen.{Seen}
 use Rattle.rayon_machine_places.specs.declared.act.Seen.TheVariants.{Done, Task}
-use Rattle.rayon_machine_places.specs.declared.event.Event.{Event}
-use Rattle.rayon_machine_places.specs.declared.event.Event.TheVariants.{Go}
 use Rattle.rayon_machine_places.specs.declared.state.Letter.{Letter}
 use Rattle.rayon_machine_places.specs.declared.state.Letter.TheVariants.{Set as IsSet}
 use Rattle.rayon_machine_places.specs.declared.shape.PoolShape.{PoolShape}
-use Rattle.rayon_machine_places.specs.Places.{act_of, next_of, latch_of, plan_book, plan_count, plan_job, plan_pool, count_book, count_call, is_member, withdraw, after_push, after_slot, own_pool, own_index, same_party, fresh}
-use Rattle.rayon_machine_places.specs.World.{Shape, Stack, World, Part, Counts, Outcome, target_pool, target_worker, target_call, or_none, effect, is_free_lock, is_held_by, is_open, is_own, left_by, left_book, last_of, same_list, fifo_back, letter, with_letter}
-use Rattle.rayon_machine_places.specs.Steps.{after_move, act_at, after_outcome, part_of, step}
-use Rattle.rayon_machine_places.specs.Runs.{IsRun, start, first_place}
-use Rattle.rayon_machine_laws.specs.Holders.{HolderLaw, IsHolding, book_at, feeds_list, locks_at, others_hold}
-use Rattle.rayon_machine_laws.proofs.Frame.{acted_keeps, and_parts, either, if_cond, if_some_all, if_some_and, if_some_map, not_same, same_index, same_list_refl, same_list_true, same_party_true, same_party_refl, same_refl, stack_mine, stack_other}
-use Rattle.rayon_machine_laws.proofs.Seats.{is_frame}
+use Rattle.rayon_machine_places.specs.Places.{act_of, next_of, latch_of, plan_book, plan_count, plan_job, plan_pool, count_book, count_call, is_member, withdraw, after_slot, same_party}
+use Rattle.rayon_machine_places.specs.World.{Shape, Part, Counts, target_pool, target_worker, target_call, or_none, effect, is_free_lock, is_held_by, is_open, is_own, left_by, left_book, last_of, same_list, fifo_back, letter, with_letter}
+use Rattle.rayon_machine_places.specs.Steps.{after_move}
+use Rattle.rayon_machine_laws.specs.Holders.{book_at, locks_at}
+use Rattle.rayon_machine_laws.proofs.Frame.{and_parts, either, if_cond, if_some_map, same_index, same_party_true, same_party_refl, same_refl}
 use Rattle.rayon_machine_laws.proofs.Letters.{sleepy_keeps, asleep_keeps, wake_keeps, set_keeps}
-use Rattle.rayon_machine_laws.proofs.Ties.{outcome, result, job_at, shape_at}
-use Rattle.rayon_machine_laws.proofs.Calm.{counts_seen, part_at, next_at}
-use Rattle.rayon_machine_laws.proofs.Tops.{Leads, is_light, is_heavy, leads}
-use Rattle.rayon_machine_laws.proofs.Owners.{count_sets, sets_for}
-use Rattle.rayon_machine_laws.proofs.OwnedActs.{Owned, SetsFor}
-use Rattle.rayon_machine_laws.proofs.ClaimPlaces.{Says}
-use Rattle.rayon_machine_laws.proofs.ClaimMakes.{always_calls}
-use Rattle.rayon_machine_laws.proofs.Feeders.{FeedersHold, waits, waits_at}
-use Rattle.rayon_machine_laws.proofs.FeederEvents.{always_feeders}
-use Rattle.rayon_machine_laws.proofs.Posts.{Locking, Passes, Steers, Unless, has, is_booked, is_live, locks_here, books_here, steers}
-use Rattle.rayon_machine_laws.proofs.PostEvents.{Based, Stepped, land, live_mild, turns}
-use Rattle.rayon_machine_laws.proofs.Stops.{always_stops, made, run_has}
-use Rattle.rayon_machine_laws.proofs.Lettered.{always_owned}
+use Rattle.rayon_machine_laws.proofs.Tops.{is_light, is_heavy}
+use Rattle.rayon_machine_laws.proofs.Posts.{Locking, Unless, has, is_booked, locks_here, books_here}
 
 -- tests the other way round
 eqb_turn : (a b : ℕ) (z : Bool) → (a == b) ≡ z → (b == a) ≡ z

@@ -1,19 +1,15 @@
 -- of what kind the jobs are that a call sends, forks or runs at once, over each act and move
-use Rattle.std.proofs.Common.{rules, arith, refl, ◌∙◌, sym, ap, subst, inl, inr}
-use Rattle.std.specs.Prelude.{ℕ, Bool, true, false, not, ◌&&◌, ◌||◌, ◌+◌, ◌-◌, ◌==◌, ◌<◌, ◌≤◌, nat_lt, if◌then◌else◌, Option, Some, None, ◌≡◌, ◌⊎◌, IfSome, ⊤, List, [], ◌∷◌}
-use Rattle.std.proofs.lemmas.Bool.{eqb-true, eq-eqb}
+use Rattle.std.proofs.Common.{rules, arith, refl, ◌∙◌, ap, inl, inr}
+use Rattle.std.specs.Prelude.{ℕ, Bool, true, false, ◌&&◌, ◌+◌, ◌==◌, ◌<◌, nat_lt, if◌then◌else◌, Option, Some, None, ◌≡◌, ◌⊎◌, IfSome, ⊤}
+use Rattle.std.proofs.lemmas.Bool.{eq-eqb}
 use Rattle.rayon_machine_places.specs.declared.place.Party.{Party}
 use Rattle.rayon_machine_places.specs.declared.place.Party.TheVariants.{Worker, Caller}
-use Rattle.rayon_machine_places.specs.declared.place.Ending.{Ending}
-use Rattle.rayon_machine_places.specs.declared.place.Ending.TheVariants.{Fine, Fault}
 use Rattle.rayon_machine_places.specs.declared.place.JobKind.{JobKind}
 use Rattle.rayon_machine_places.specs.declared.place.JobKind.TheVariants.{Direct, Stored}
 use Rattle.rayon_machine_places.specs.declared.place.Target.{Target}
 use Rattle.rayon_machine_places.specs.declared.place.Target.TheVariants.{Termination, Answer}
 use Rattle.rayon_machine_places.specs.declared.place.Latch.{Latch}
 use Rattle.rayon_machine_places.specs.declared.place.Latch.TheVariants.{Terminate, OfCall}
-use Rattle.rayon_machine_places.specs.declared.place.Rounds.{Rounds}
-use Rattle.rayon_machine_places.specs.declared.place.Rounds.TheVariants.{Failed, Announced}
 use Rattle.rayon_machine_places.specs.declared.place.Plan.{Plan}
 use Rattle.rayon_machine_places.specs.declared.place.Plan.TheVariants.{Detach, Here, Send, Fork, Feed, Open, Enter, Gather}
 use Rattle.rayon_machine_places.specs.declared.place.Count.{Count}
@@ -24,7 +20,7 @@ use Rattle.rayon_machine_places.specs.declared.place.Taken.TheVariants.{Plain, T
 use Rattle.rayon_machine_places.specs.declared.place.Then.{Then}
 use Rattle.rayon_machine_places.specs.declared.place.Then.TheVariants.{BeginFound, LeaveWait, Resume, Await, RunFirst, Answers, Missing as NoResult, Ran, GiveBack, Called, Gathers}
 use Rattle.rayon_machine_places.specs.declared.place.Place.{Place}
-use Rattle.rayon_machine_places.specs.declared.place.Place.TheVariants.{ProbeWorking, ProbeIdle, StealFrom, PopInjected, AnnounceSelf, LeaveSearch, JoinProbe, JoinPop, YieldSteal, YieldPopInjected, BeginTask, BeginHere, Run, RaiseCount, GrowCall, GrowScope, OpenSlot, CloseSlot, LookQueue, PushJob, AddToFifo, PushToken, TakeFromFifo, RaiseForAll, PushForAll, LowerForAll, TellNews, LockToWake, WakeWorker, UnlockWoken, LowerCount, StoreResult, SetLatch, LockToSettle, WakeSettled, UnlockSettled, SetLockLatch, FirstSide, SecondSide, ScopeBody, AtOnce, Free, Stopped}
+use Rattle.rayon_machine_places.specs.declared.place.Place.TheVariants.{ProbeWorking, LeaveSearch, JoinPop, BeginTask, BeginHere, RaiseCount, GrowCall, GrowScope, OpenSlot, LookQueue, PushJob, AddToFifo, TakeFromFifo, RaiseForAll, PushForAll, LowerForAll, TellNews, LockToWake, WakeWorker, UnlockWoken, LowerCount, StoreResult, SetLatch, LockToSettle, WakeSettled, UnlockSettled, SetLockLatch}
 use Rattle.rayon_machine_places.specs.declared.place.Move.{Move}
 use Rattle.rayon_machine_places.specs.declared.place.Move.TheVariants.{Stay, Enter, StartRun, Back, HandBack, Discard, HandIn, Mark, HandAllBack}
 use Rattle.rayon_machine_places.specs.declared.act.Seen.{Seen}
@@ -39,12 +35,11 @@ use Rattle.rayon_machine_places.specs.declared.place.Walk.{Walk}
 use Rattle.rayon_machine_places.specs.declared.place.OpenCall.{OpenCall}
 use Rattle.rayon_machine_places.specs.declared.place.Pieces.{Pieces}
 use Rattle.rayon_machine_places.specs.declared.place.Settling.{Settling}
-use Rattle.rayon_machine_places.specs.Places.{own_pool, plan_pool, plan_book, count_book, after_news, after_push, after_wait, finish, walk, settle, after_set, after_found, after_slot, act_of, next_of, settle_count, taken_number, withdraw, begin_feed, begin_cast, end_cast, ends_count, set_call, after_begin, goes_on}
+use Rattle.rayon_machine_places.specs.Places.{own_pool, plan_book, count_book, after_news, after_wait, finish, walk, settle, after_set, after_found, after_slot, act_of, next_of, taken_number, withdraw, begin_feed, begin_cast, end_cast, ends_count, set_call, after_begin}
 use Rattle.rayon_machine_places.specs.World.{Shape, Counts, Part, effect}
-use Rattle.rayon_machine_laws.specs.Once.{one, hand, hand_found, hand_rest, hand_then}
+use Rattle.rayon_machine_laws.specs.Once.{one, hand, hand_found, hand_then}
 use Rattle.rayon_machine_laws.specs.Near.{is_body}
 use Rattle.rayon_machine_laws.proofs.Frame.{if_some_all}
-use Rattle.rayon_machine_laws.proofs.Posts.{is_live}
 
 abbrev pub is_stored : JobKind → Bool
 is_stored (Stored c o) = true

@@ -1,6 +1,6 @@
 -- each latch that is not set says what its worker has written there, by where the worker stands
 use Rattle.std.proofs.Common.{refl, ◌∙◌, sym, ap, subst, inl, inr, arith}
-use Rattle.std.specs.Prelude.{ℕ, Bool, true, false, not, ◌&&◌, ◌+◌, ◌==◌, ◌<◌, ◌≤◌, nat_lt, if◌then◌else◌, Option, Some, None, ◌≡◌, ◌⊎◌, IfSome, List, [], ◌∷◌}
+use Rattle.std.specs.Prelude.{ℕ, Bool, true, false, ◌&&◌, ◌+◌, ◌==◌, ◌<◌, ◌≤◌, nat_lt, if◌then◌else◌, Some, None, ◌≡◌, ◌⊎◌, IfSome, List}
 use Rattle.std.proofs.lemmas.Bool.{eqb-true, eq-eqb, ltb-true, ltb-false}
 use Rattle.rayon_machine_places.specs.declared.place.Party.{Party}
 use Rattle.rayon_machine_places.specs.declared.place.Party.TheVariants.{Worker, Caller}
@@ -9,7 +9,6 @@ use Rattle.rayon_machine_places.specs.declared.place.Target.TheVariants.{Termina
 use Rattle.rayon_machine_places.specs.declared.place.Latch.{Latch}
 use Rattle.rayon_machine_places.specs.declared.place.Latch.TheVariants.{Terminate, OfCall}
 use Rattle.rayon_machine_places.specs.declared.place.Wait.{Wait}
-use Rattle.rayon_machine_places.specs.declared.place.Settling.{Settling}
 use Rattle.rayon_machine_places.specs.declared.place.Place.{Place}
 use Rattle.rayon_machine_places.specs.declared.place.Place.TheVariants.{ProbeWorking, GetSleepy, LockOwn, FallAsleep, LoadCounters, AddSleeping, LookAtCast, LookAtInjector, BlockSelf, RelockOwn, UndoSleeping, WakeUp, GrowCall, GrowScope, GrowCast, SetLatch, SetLockLatch, Free, Stopped}
 use Rattle.rayon_machine_places.specs.declared.place.Move.{Move}
@@ -23,24 +22,24 @@ use Rattle.rayon_machine_places.specs.declared.shape.PoolShape.{PoolShape}
 use Rattle.rayon_machine_places.specs.Places.{act_of, next_of, latch_of, own_pool, own_index, same_party, fresh}
 use Rattle.rayon_machine_places.specs.World.{Shape, Stack, World, Part, Counts, target_pool, target_worker, target_call, call_of, letter, effect, sleepy, fall_asleep, wake_up, with_letter}
 use Rattle.rayon_machine_places.specs.Steps.{after_move, step}
-use Rattle.rayon_machine_places.specs.Runs.{IsRun, start, first_place}
+use Rattle.rayon_machine_places.specs.Runs.{IsRun, start}
 use Rattle.rayon_machine_laws.specs.Attended.{letter_at, same_latch}
 use Rattle.rayon_machine_laws.specs.Latch.{SetsSo}
 use Rattle.rayon_machine_laws.specs.Letters.{CallLettered, IsLettered, letter_for}
-use Rattle.rayon_machine_laws.proofs.Frame.{acted_keeps, either, if_some_all, if_some_and, if_some_map, same_index, same_party_true, same_party_refl, same_refl, stack_mine, stack_other}
+use Rattle.rayon_machine_laws.proofs.Frame.{acted_keeps, either, if_some_and, if_some_map, same_index, same_party_true, same_party_refl, same_refl, stack_mine, stack_other}
 use Rattle.rayon_machine_laws.proofs.Seats.{at_home}
-use Rattle.rayon_machine_laws.proofs.Ties.{home_caller, home_pool, home_worker, outcome, result, job_at, shape_at}
+use Rattle.rayon_machine_laws.proofs.Ties.{home_pool, home_worker, outcome, result, job_at, shape_at}
 use Rattle.rayon_machine_laws.proofs.Events.{run_keeps}
 use Rattle.rayon_machine_laws.proofs.Calm.{counts_seen, part_at, next_at}
-use Rattle.rayon_machine_laws.proofs.Latches.{SameLatches, OneLatch, Sets, is_latching, latches_same, set_one, grow_one, scope_one, gather_one, lock_one}
+use Rattle.rayon_machine_laws.proofs.Latches.{SameLatches, Sets, latches_same, set_one}
 use Rattle.rayon_machine_laws.proofs.Owners.{own_call, target_number}
 use Rattle.rayon_machine_laws.proofs.OwnedActs.{Grown, Mine, Owned, go_grown, grown_mine, owner_of, setter_of}
 use Rattle.rayon_machine_laws.proofs.Owned.{step_owned, first_owned}
 use Rattle.rayon_machine_laws.proofs.ClaimRuns.{CallsHold}
 use Rattle.rayon_machine_laws.proofs.ClaimMakes.{always_calls, step_calls}
 use Rattle.rayon_machine_laws.proofs.Fixed.{made_law}
-use Rattle.rayon_machine_laws.proofs.Posts.{Letters, Passes, Steers, Unless, is_live, letters_here, steers}
-use Rattle.rayon_machine_laws.proofs.PostEvents.{Based, Stepped, is_based, land, live_mild, turns}
+use Rattle.rayon_machine_laws.proofs.Posts.{Letters, Steers, Unless, is_live, letters_here, steers}
+use Rattle.rayon_machine_laws.proofs.PostEvents.{Based, Stepped, land, live_mild, turns}
 use Rattle.rayon_machine_laws.proofs.SetLaws.{sets_law}
 use Rattle.rayon_machine_laws.proofs.Stops.{always_stops, made, run_has}
 

@@ -1,51 +1,41 @@
 -- each job is queued and run at its own pool, and stands in the list of its own kind
 use Rattle.std.proofs.Common.{arith, refl, ◌∙◌, sym, ap, subst, inl, inr}
-use Rattle.std.specs.Prelude.{ℕ, Bool, true, false, not, ◌&&◌, ◌||◌, ◌+◌, ◌-◌, ◌==◌, ◌<◌, ◌≤◌, nat_lt, if◌then◌else◌, Option, Some, None, ◌≡◌, ◌⊎◌, IfSome, ⊤, List, [], ◌∷◌}
+use Rattle.std.specs.Prelude.{ℕ, Bool, true, false, not, ◌&&◌, ◌||◌, ◌+◌, ◌==◌, Option, Some, None, ◌≡◌, ◌⊎◌, IfSome, List, [], ◌∷◌}
 use Rattle.std.proofs.lemmas.Bool.{eqb-true, eq-eqb}
-use Rattle.rayon_machine_places.specs.declared.shape.Order.{Order}
 use Rattle.rayon_machine_places.specs.declared.place.Party.{Party}
 use Rattle.rayon_machine_places.specs.declared.place.Party.TheVariants.{Worker, Caller}
-use Rattle.rayon_machine_places.specs.declared.place.Ending.{Ending}
-use Rattle.rayon_machine_places.specs.declared.place.Ending.TheVariants.{Fine, Fault}
 use Rattle.rayon_machine_places.specs.declared.place.JobKind.{JobKind}
-use Rattle.rayon_machine_places.specs.declared.place.JobKind.TheVariants.{Detached, Stored, Direct, Scoped, BodyOf, PieceOf, WholeOf, TokenOf}
+use Rattle.rayon_machine_places.specs.declared.place.JobKind.TheVariants.{Detached, Stored, Direct, Scoped, TokenOf}
 use Rattle.rayon_machine_places.specs.declared.place.Count.{Count}
 use Rattle.rayon_machine_places.specs.declared.place.Count.TheVariants.{OfPool, OfScope, OfCast}
-use Rattle.rayon_machine_places.specs.declared.place.Mark.{Mark as Marking}
-use Rattle.rayon_machine_places.specs.declared.place.Mark.TheVariants.{Counted, Numbered, Queued, Dealt, Unnumbered, Returned}
-use Rattle.rayon_machine_places.specs.declared.place.Pieces.{Pieces}
-use Rattle.rayon_machine_places.specs.declared.place.OpenCall.{OpenCall}
 use Rattle.rayon_machine_places.specs.declared.place.Plan.{Plan}
 use Rattle.rayon_machine_places.specs.declared.place.Plan.TheVariants.{Detach, Here, Send, Fork, Feed, Open, Enter, Gather}
-use Rattle.rayon_machine_places.specs.declared.place.Taken.{Taken}
 use Rattle.rayon_machine_places.specs.declared.place.Taken.TheVariants.{Plain, Token}
 use Rattle.rayon_machine_places.specs.declared.place.Place.{Place}
 use Rattle.rayon_machine_places.specs.declared.place.Place.TheVariants.{PopWorking, TakeCastWorking, PopIdle, TakeCastIdle, StealFrom, PopInjected, JoinPop, JoinTakeCast, YieldPop, YieldTakeCast, YieldSteal, YieldPopInjected, LocalPop, LocalTakeCast, BeginTask, BeginHere, PushJob, AddToFifo, PushToken, TakeFromFifo, PushForAll, DealPieces}
-use Rattle.rayon_machine_places.specs.declared.place.Move.{Move}
-use Rattle.rayon_machine_places.specs.declared.place.Move.TheVariants.{Stay, Enter, StartRun, Back, HandBack, Discard, HandIn, Mark, HandAllBack}
+use Rattle.rayon_machine_places.specs.declared.place.Move.TheVariants.{Enter}
 use Rattle.rayon_machine_places.specs.declared.act.Act.{Act}
-use Rattle.rayon_machine_places.specs.declared.act.Act.TheVariants.{PushOwn, PushInj}
 use Rattle.rayon_machine_places.specs.declared.act.Seen.{Seen}
 use Rattle.rayon_machine_places.specs.declared.act.Seen.TheVariants.{Missing}
 use Rattle.rayon_machine_places.specs.declared.state.Whereabouts.{Whereabouts}
-use Rattle.rayon_machine_places.specs.declared.state.Whereabouts.TheVariants.{Made, InDeque, Injected, InFifo, InCast, Retaken, Running, Over, HandedBack, Spent}
+use Rattle.rayon_machine_places.specs.declared.state.Whereabouts.TheVariants.{Made, InDeque, Injected, InFifo, InCast, Retaken, Running}
 use Rattle.rayon_machine_places.specs.declared.state.Job.{Job}
-use Rattle.rayon_machine_places.specs.Places.{same_party, is_member, act_of, next_of, own_pool, own_index, plan_book, plan_job, plan_pool, count_book, count_kind}
-use Rattle.rayon_machine_places.specs.World.{Shape, Stack, World, Part, Counts, Outcome, counts_at, target_pool, target_worker, target_call, at_job, begun, effect, popped, take_cast, pop_injector, head_of, last_of, is_open, or_none, own_of, same_list}
-use Rattle.rayon_machine_places.specs.Steps.{put, part_of, jobs_after, is_piece, marked}
+use Rattle.rayon_machine_places.specs.Places.{is_member, act_of, own_pool, own_index, plan_job, plan_pool, count_book, count_kind}
+use Rattle.rayon_machine_places.specs.World.{World, Part, counts_at, target_pool, target_worker, target_call, at_job, effect, popped, take_cast, pop_injector, head_of, is_open, same_list}
+use Rattle.rayon_machine_places.specs.Steps.{part_of}
 use Rattle.rayon_machine_laws.specs.Once.{IsOnce, in_deque, in_injector, in_fifo, in_cast, is_with, one, hand, held, held_in}
 use Rattle.rayon_machine_laws.specs.Near.{IsNear, has_line, is_body, is_decked, is_direct, is_for, is_lined, is_near, is_queued}
-use Rattle.rayon_machine_laws.proofs.Frame.{and_parts, either, if_cond, if_some_and, if_some_map, or_parts, out_sees, put_new, put_same, same_index, same_list_refl, same_party_true, undo_sees}
-use Rattle.rayon_machine_laws.proofs.Ties.{job_at, outcome, result}
-use Rattle.rayon_machine_laws.proofs.Lists.{SameJobs, moves_no_job, quiet_same}
+use Rattle.rayon_machine_laws.proofs.Frame.{and_parts, if_cond, if_some_and, if_some_map, out_sees, same_index, same_party_true, undo_sees}
+use Rattle.rayon_machine_laws.proofs.Ties.{job_at}
+use Rattle.rayon_machine_laws.proofs.Lists.{SameJobs, quiet_same}
 use Rattle.rayon_machine_laws.proofs.Located.{is_left}
 use Rattle.rayon_machine_laws.proofs.Placed.{outcome_of}
-use Rattle.rayon_machine_laws.proofs.Claims.{KnownCount, Says, SaysPlan, is_detached}
+use Rattle.rayon_machine_laws.proofs.Claims.{KnownCount, Says, is_detached}
 use Rattle.rayon_machine_laws.proofs.Later.{Static}
 use Rattle.rayon_machine_laws.proofs.ClaimRuns.{place_part}
 use Rattle.rayon_machine_laws.proofs.Stocked.{one_set}
-use Rattle.rayon_machine_laws.proofs.Bounds.{Good, cast_in, first_at, head_at, inj_at, last_at, own_at}
-use Rattle.rayon_machine_laws.proofs.Kindly.{KindMove, Kinds, PlanKinds, is_made, is_stored}
+use Rattle.rayon_machine_laws.proofs.Bounds.{cast_in, first_at, head_at, inj_at, last_at, own_at}
+use Rattle.rayon_machine_laws.proofs.Kindly.{Kinds, PlanKinds, is_made, is_stored}
 use Rattle.rayon_machine_laws.proofs.Records.{push_by}
 
 -- where a job is, by its record

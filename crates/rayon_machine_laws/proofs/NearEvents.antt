@@ -1,6 +1,6 @@
 -- where each job is in every world of every run
 use Rattle.std.proofs.Common.{arith, refl, ◌∙◌, sym, ap, subst, inl, inr}
-use Rattle.std.specs.Prelude.{ℕ, Bool, true, false, not, ◌&&◌, ◌||◌, ◌+◌, ◌-◌, ◌==◌, ◌<◌, ◌≤◌, nat_lt, if◌then◌else◌, Option, Some, None, ◌≡◌, ◌⊎◌, IfSome, ⊤, List, [], ◌∷◌}
+use Rattle.std.specs.Prelude.{ℕ, Bool, true, false, not, ◌&&◌, ◌||◌, ◌+◌, ◌-◌, ◌==◌, ◌<◌, ◌≤◌, nat_lt, if◌then◌else◌, Option, Some, None, ◌≡◌, ◌⊎◌, IfSome, List, [], ◌∷◌}
 use Rattle.std.proofs.lemmas.Bool.{eqb-true, eq-eqb}
 use Rattle.rayon_machine_places.specs.declared.place.Party.{Party}
 use Rattle.rayon_machine_places.specs.declared.place.Party.TheVariants.{Worker, Caller}
@@ -14,7 +14,6 @@ use Rattle.rayon_machine_places.specs.declared.place.Count.TheVariants.{OfPool, 
 use Rattle.rayon_machine_places.specs.declared.place.Share.TheVariants.{PoolValue}
 use Rattle.rayon_machine_places.specs.declared.place.Then.{Then}
 use Rattle.rayon_machine_places.specs.declared.place.Then.TheVariants.{Resume, RunFirst}
-use Rattle.rayon_machine_places.specs.declared.place.Mark.{Mark as Marking}
 use Rattle.rayon_machine_places.specs.declared.place.Mark.TheVariants.{Counted, Numbered, Queued, Dealt, Unnumbered, Returned}
 use Rattle.rayon_machine_places.specs.declared.place.Pieces.{Pieces}
 use Rattle.rayon_machine_places.specs.declared.place.OpenCall.{OpenCall}
@@ -22,40 +21,40 @@ use Rattle.rayon_machine_places.specs.declared.place.Wait.{Wait}
 use Rattle.rayon_machine_places.specs.declared.place.Plan.{Plan}
 use Rattle.rayon_machine_places.specs.declared.place.Plan.TheVariants.{Detach, Here, Send, Fork, Feed, Open, Enter, Gather}
 use Rattle.rayon_machine_places.specs.declared.place.Place.{Place}
-use Rattle.rayon_machine_places.specs.declared.place.Place.TheVariants.{ProbeWorking, PickVictim, StealFrom, PopInjected, JoinProbe, JoinPop, JoinTakeCast, YieldPop, YieldPick, YieldSteal, YieldPopInjected, LocalPop, BeginTask, BeginHere, Run, RaiseCount, GrowCall, GrowScope, OpenSlot, LookQueue, PushJob, AddToFifo, PushToken, TakeFromFifo, RaiseForAll, OpenForAll, PushForAll, LowerForAll, GrowCast, DealPieces, TellNews, LockToWake, WakeWorker, UnlockWoken, LowerCount, SetLatch, LockToSettle, WakeSettled, UnlockSettled, SetLockLatch, FirstSide, SecondSide, ScopeBody, AtOnce, Free, Stopped}
+use Rattle.rayon_machine_places.specs.declared.place.Place.TheVariants.{ProbeWorking, PickVictim, StealFrom, PopInjected, JoinProbe, JoinPop, YieldPop, YieldPick, YieldSteal, YieldPopInjected, LocalPop, BeginTask, BeginHere, Run, RaiseCount, GrowCall, GrowScope, OpenSlot, LookQueue, PushJob, AddToFifo, PushToken, TakeFromFifo, RaiseForAll, OpenForAll, PushForAll, LowerForAll, GrowCast, DealPieces, TellNews, LockToWake, WakeWorker, UnlockWoken, LowerCount, SetLatch, LockToSettle, WakeSettled, UnlockSettled, SetLockLatch, FirstSide, SecondSide, ScopeBody, AtOnce, Free, Stopped}
 use Rattle.rayon_machine_places.specs.declared.place.Move.{Move}
 use Rattle.rayon_machine_places.specs.declared.place.Move.TheVariants.{Stay, Enter, StartRun, Back, HandBack, Discard, HandIn, Mark, HandAllBack}
 use Rattle.rayon_machine_places.specs.declared.act.Seen.{Seen}
-use Rattle.rayon_machine_places.specs.declared.act.Seen.TheVariants.{Task, Missing, Refused, Start}
+use Rattle.rayon_machine_places.specs.declared.act.Seen.TheVariants.{Start}
 use Rattle.rayon_machine_places.specs.declared.event.Event.{Event}
 use Rattle.rayon_machine_places.specs.declared.event.Event.TheVariants.{Go, From, Refuse, Miss, End, Spawn, Fifo, Install, Join, Yield, YieldLocal, EndPool, Cast, Scope as OpenScope, IntoSpawn, IntoFifo, IntoCast, Broadcast}
 use Rattle.rayon_machine_places.specs.declared.shape.PoolShape.{PoolShape}
 use Rattle.rayon_machine_places.specs.declared.state.Whereabouts.{Whereabouts}
-use Rattle.rayon_machine_places.specs.declared.state.Whereabouts.TheVariants.{Made, InDeque, Retaken, Running, Over, HandedBack, Spent}
+use Rattle.rayon_machine_places.specs.declared.state.Whereabouts.TheVariants.{Made, InDeque, Retaken, Running, Over}
 use Rattle.rayon_machine_places.specs.declared.state.Job.{Job}
 use Rattle.rayon_machine_places.specs.declared.state.Scope.{Scope}
 use Rattle.rayon_machine_places.specs.Places.{same_party, is_free, is_member, act_of, next_of, own_pool, own_index, next_steal, next_yield, not_self, next_victim, plan_book, count_book, count_kind, after_push, end_cast, undo, is_taken, goes_on, fresh}
 use Rattle.rayon_machine_places.specs.World.{Shape, Stack, World, Part, Outcome, counts_at, target_pool, target_worker, target_call, at_job, begun, popped, or_none, own_of, taken_as}
-use Rattle.rayon_machine_places.specs.Steps.{put, put_stack, put_pieces, part_of, with_stack, after_move, after_resume, after_close, after_call, jobs_after, is_piece, marked, after_choice, after_refusal, after_miss, after_end, after_spawn, after_feed, after_fifo, after_deal, after_cast, after_gather, after_broadcast, after_send, after_install, after_join, after_scope, after_enter, after_into, after_into_fifo, after_into_cast, after_yield, after_end_pool, can_miss, holds, is_pool, new_job, new_piece, new_whole, step}
+use Rattle.rayon_machine_places.specs.Steps.{put, put_stack, put_pieces, with_stack, after_move, after_resume, after_close, after_call, is_piece, after_choice, after_refusal, after_miss, after_end, after_spawn, after_feed, after_deal, after_gather, after_send, after_join, after_scope, after_enter, after_yield, can_miss, holds, is_pool, new_job, new_piece, new_whole, step}
 use Rattle.rayon_machine_places.specs.Runs.{IsRun, start, first_place}
-use Rattle.rayon_machine_laws.specs.Once.{IsOnce, in_deque, is_with, hand}
+use Rattle.rayon_machine_laws.specs.Once.{IsOnce, in_deque, is_with}
 use Rattle.rayon_machine_laws.specs.Near.{IsNear, has_line, is_body, is_direct, is_for, is_near}
-use Rattle.rayon_machine_laws.proofs.Frame.{acted_keeps, and_parts, either, fifo_cases, if_cond, if_some_and, if_some_map, into_cases, into_cast_cases, into_fifo_cases, put_new, put_old, put_same, same_party_true, stack_mine, stack_other}
-use Rattle.rayon_machine_laws.proofs.Ties.{job_at, outcome, result, shape_at}
-use Rattle.rayon_machine_laws.proofs.Calm.{counts_seen, part_at, next_at}
+use Rattle.rayon_machine_laws.proofs.Frame.{acted_keeps, either, fifo_cases, if_cond, if_some_and, if_some_map, into_cases, into_cast_cases, into_fifo_cases, put_new, put_old, put_same, same_party_true, stack_mine, stack_other}
+use Rattle.rayon_machine_laws.proofs.Ties.{job_at, outcome, result}
+use Rattle.rayon_machine_laws.proofs.Calm.{next_at}
 use Rattle.rayon_machine_laws.proofs.Claims.{Says}
 use Rattle.rayon_machine_laws.proofs.Later.{Static}
-use Rattle.rayon_machine_laws.proofs.ClaimRuns.{CallsHold, place_part}
-use Rattle.rayon_machine_laws.proofs.ClaimMakes.{always_calls, always_once}
+use Rattle.rayon_machine_laws.proofs.ClaimRuns.{place_part}
+use Rattle.rayon_machine_laws.proofs.ClaimMakes.{always_once}
 use Rattle.rayon_machine_laws.proofs.ShareActs.{SharesHold}
 use Rattle.rayon_machine_laws.proofs.ShareEnds.{always_shares}
 use Rattle.rayon_machine_laws.proofs.Bounds.{Good, goods, own_at}
 use Rattle.rayon_machine_laws.proofs.Fixed.{apart, deal_old, made_law, made_old, two_old}
-use Rattle.rayon_machine_laws.proofs.Posts.{Steers, is_live, steers}
+use Rattle.rayon_machine_laws.proofs.Posts.{is_live}
 use Rattle.rayon_machine_laws.proofs.PostEvents.{AllLive, Based, is_act}
 use Rattle.rayon_machine_laws.proofs.Stops.{always_stops, made, run_has}
 use Rattle.rayon_machine_laws.proofs.Records.{Markings, Starts, after_each}
-use Rattle.rayon_machine_laws.proofs.Kindly.{KindMove, Kinds, PlanKinds, StartKinds, ThenKinds, drawn_kinds, is_made, is_pop, is_stored, kinds_next, uncast_kinds}
+use Rattle.rayon_machine_laws.proofs.Kindly.{KindMove, Kinds, PlanKinds, StartKinds, ThenKinds, drawn_kinds, is_made, is_stored, kinds_next, uncast_kinds}
 use Rattle.rayon_machine_laws.proofs.Near.{Goes, Moves, Near, act_moves, both, in_hand}
 
 -- what is said of the jobs of a place stays so, while kinds stay and nothing comes to be made

@@ -8,7 +8,6 @@ use Rattle.rayon_machine_places.specs.declared.place.Ending.{Ending}
 use Rattle.rayon_machine_places.specs.declared.place.Ending.TheVariants.{Fine, Fault}
 use Rattle.rayon_machine_places.specs.declared.place.JobKind.{JobKind}
 use Rattle.rayon_machine_places.specs.declared.place.JobKind.TheVariants.{Detached, Stored, Direct, Scoped, BodyOf, PieceOf, WholeOf, TokenOf}
-use Rattle.rayon_machine_places.specs.declared.place.Target.TheVariants.{Termination}
 use Rattle.rayon_machine_places.specs.declared.place.Latch.{Latch}
 use Rattle.rayon_machine_places.specs.declared.place.Plan.{Plan}
 use Rattle.rayon_machine_places.specs.declared.place.Plan.TheVariants.{Detach, Here, Send, Fork, Feed, Open, Enter, Gather}
@@ -17,7 +16,7 @@ use Rattle.rayon_machine_places.specs.declared.place.Count.TheVariants.{OfPool, 
 use Rattle.rayon_machine_places.specs.declared.place.Share.TheVariants.{PoolValue}
 use Rattle.rayon_machine_places.specs.declared.place.Then.TheVariants.{Resume}
 use Rattle.rayon_machine_places.specs.declared.place.Place.{Place}
-use Rattle.rayon_machine_places.specs.declared.place.Place.TheVariants.{ProbeWorking, PickVictim, StealFrom, PopInjected, JoinProbe, YieldPop, YieldPick, YieldSteal, YieldPopInjected, LocalPop, Run, RaiseCount, GrowCall, GrowScope, OpenSlot, CloseSlot, PushJob, AddToFifo, PushToken, TakeFromFifo, RaiseForAll, OpenForAll, PushForAll, LowerForAll, GrowCast, DealPieces, LowerCount, FirstSide, SecondSide, ScopeBody, AtOnce, Free, Stopped}
+use Rattle.rayon_machine_places.specs.declared.place.Place.TheVariants.{ProbeWorking, PickVictim, StealFrom, PopInjected, JoinProbe, YieldPop, YieldPick, YieldSteal, YieldPopInjected, LocalPop, Run, RaiseCount, GrowCall, GrowScope, OpenSlot, PushJob, AddToFifo, PushToken, TakeFromFifo, RaiseForAll, OpenForAll, PushForAll, LowerForAll, GrowCast, DealPieces, LowerCount, FirstSide, SecondSide, ScopeBody, AtOnce, Free}
 use Rattle.rayon_machine_places.specs.declared.place.Move.{Move}
 use Rattle.rayon_machine_places.specs.declared.place.Move.TheVariants.{Stay, Enter, StartRun, Back, HandBack, Discard, HandIn, Mark, HandAllBack}
 use Rattle.rayon_machine_places.specs.declared.event.Event.{Event}
@@ -29,15 +28,14 @@ use Rattle.rayon_machine_places.specs.declared.shape.PoolShape.{PoolShape}
 use Rattle.rayon_machine_places.specs.declared.place.OpenCall.{OpenCall}
 use Rattle.rayon_machine_places.specs.declared.place.Pieces.{Pieces}
 use Rattle.rayon_machine_places.specs.declared.place.Wait.{Wait}
-use Rattle.rayon_machine_places.specs.Places.{own_pool, own_index, is_free, is_member, not_self, next_victim, next_steal, next_yield, plan_book, count_book, undo, withdraw, after_push, end_cast, goes_on, fresh}
-use Rattle.rayon_machine_places.specs.World.{Shape, Stack, World}
-use Rattle.rayon_machine_places.specs.Steps.{put, put_stack, with_stack, after_move, after_resume, after_close, after_call, after_choice, after_refusal, after_miss, after_end, after_spawn, after_feed, after_fifo, after_deal, after_cast, after_gather, after_broadcast, after_send, after_install, after_join, after_scope, after_enter, after_into, after_into_fifo, after_into_cast, after_yield, after_end_pool, can_miss, holds, is_pool, new_call, new_gathering, step}
-use Rattle.rayon_machine_places.specs.Runs.{first_place}
+use Rattle.rayon_machine_places.specs.Places.{own_pool, own_index, is_free, is_member, not_self, next_victim, next_steal, next_yield, plan_book, count_book, undo, withdraw, after_push, end_cast, goes_on}
+use Rattle.rayon_machine_places.specs.World.{Stack, World}
+use Rattle.rayon_machine_places.specs.Steps.{put, put_stack, with_stack, after_move, after_resume, after_close, after_call, after_choice, after_refusal, after_miss, after_end, after_spawn, after_feed, after_deal, after_gather, after_broadcast, after_send, after_join, after_scope, after_enter, after_yield, can_miss, holds, is_pool, new_call, new_gathering, step}
 use Rattle.rayon_machine_laws.specs.Letters.{letter_for}
 use Rattle.rayon_machine_laws.specs.Holders.{locks_at, book_at}
-use Rattle.rayon_machine_laws.proofs.Frame.{and_parts, either, fifo_cases, if_cond, into_cases, into_fifo_cases, into_cast_cases, put_old}
+use Rattle.rayon_machine_laws.proofs.Frame.{and_parts, fifo_cases, if_cond, into_cases, into_fifo_cases, into_cast_cases}
 use Rattle.rayon_machine_laws.proofs.Owners.{own_call}
-use Rattle.rayon_machine_laws.proofs.Posts.{Letters, Saids, Locking, Mild, Passes, Steers, is_base, is_booked, is_live, set_at, has, probes_here}
+use Rattle.rayon_machine_laws.proofs.Posts.{Letters, Saids, Locking, Mild, Passes, Steers, is_base, is_booked, is_live, has}
 
 -- the frames of a stack
 abbrev pub AllLive : List Place → Type 0

@@ -1,13 +1,12 @@
 -- what each step makes of a job's record: how often its run was begun, and whether it is over
 use Rattle.std.proofs.Common.{arith, refl, ◌∙◌, sym, ap, subst, inl, inr}
-use Rattle.std.specs.Prelude.{ℕ, Bool, true, false, ◌&&◌, ◌+◌, ◌-◌, ◌==◌, ◌≤◌, ◌<◌, nat_lt, if◌then◌else◌, Option, Some, None, ◌≡◌, ◌⊎◌, IfSome, ⊤, List, [], ◌∷◌}
+use Rattle.std.specs.Prelude.{ℕ, Bool, true, false, ◌&&◌, ◌+◌, ◌-◌, ◌==◌, ◌≤◌, if◌then◌else◌, Option, Some, None, ◌≡◌, ◌⊎◌, IfSome, ⊤, List, [], ◌∷◌}
 use Rattle.std.proofs.lemmas.Bool.{eqb-true}
 use Rattle.rayon_machine_places.specs.declared.place.Party.{Party}
 use Rattle.rayon_machine_places.specs.declared.place.Party.TheVariants.{Worker, Caller}
 use Rattle.rayon_machine_places.specs.declared.place.Ending.{Ending}
 use Rattle.rayon_machine_places.specs.declared.place.JobKind.{JobKind}
-use Rattle.rayon_machine_places.specs.declared.place.JobKind.TheVariants.{Detached, Direct, Stored}
-use Rattle.rayon_machine_places.specs.declared.place.Taken.{Taken}
+use Rattle.rayon_machine_places.specs.declared.place.JobKind.TheVariants.{Direct, Stored}
 use Rattle.rayon_machine_places.specs.declared.place.Taken.TheVariants.{Plain, Token}
 use Rattle.rayon_machine_places.specs.declared.place.Pieces.{Pieces}
 use Rattle.rayon_machine_places.specs.declared.place.Count.{Count}
@@ -17,30 +16,27 @@ use Rattle.rayon_machine_places.specs.declared.place.Mark.TheVariants.{Counted, 
 use Rattle.rayon_machine_places.specs.declared.place.Plan.{Plan}
 use Rattle.rayon_machine_places.specs.declared.place.Plan.TheVariants.{Detach, Here, Send, Fork, Feed, Open, Enter, Gather}
 use Rattle.rayon_machine_places.specs.declared.place.Place.{Place}
-use Rattle.rayon_machine_places.specs.declared.place.Place.TheVariants.{PopWorking, TakeCastWorking, PopIdle, TakeCastIdle, PickVictim, StealFrom, PopInjected, JoinPop, JoinTakeCast, YieldPop, YieldTakeCast, YieldPick, YieldSteal, YieldPopInjected, LocalPop, LocalTakeCast, BeginTask, BeginHere, Run, PushJob, AddToFifo, PushToken, TakeFromFifo, PushForAll, DealPieces, Free}
+use Rattle.rayon_machine_places.specs.declared.place.Place.TheVariants.{PopWorking, TakeCastWorking, PopIdle, TakeCastIdle, PickVictim, StealFrom, PopInjected, JoinPop, JoinTakeCast, YieldPop, YieldTakeCast, YieldPick, YieldSteal, YieldPopInjected, LocalPop, LocalTakeCast, BeginTask, BeginHere, Run, PushJob, AddToFifo, PushToken, TakeFromFifo, PushForAll, DealPieces}
 use Rattle.rayon_machine_places.specs.declared.place.Move.{Move}
 use Rattle.rayon_machine_places.specs.declared.place.Move.TheVariants.{Stay, Enter, StartRun, Back, HandBack, Discard, HandIn, Mark, HandAllBack}
 use Rattle.rayon_machine_places.specs.declared.act.Act.{Act}
 use Rattle.rayon_machine_places.specs.declared.act.Act.TheVariants.{PushOwn, PushInj}
 use Rattle.rayon_machine_places.specs.declared.act.Seen.{Seen}
-use Rattle.rayon_machine_places.specs.declared.act.Seen.TheVariants.{Missing}
 use Rattle.rayon_machine_places.specs.declared.event.Event.{Event}
 use Rattle.rayon_machine_places.specs.declared.event.Event.TheVariants.{Go, From, Refuse, Miss, End, Spawn, Fifo, Install, Join, Yield, YieldLocal, EndPool, Cast, Scope as OpenScope, IntoSpawn, IntoFifo, IntoCast, Broadcast}
 use Rattle.rayon_machine_places.specs.declared.state.Whereabouts.{Whereabouts}
-use Rattle.rayon_machine_places.specs.declared.state.Whereabouts.TheVariants.{Nowhere, Over, HandedBack, Spent}
+use Rattle.rayon_machine_places.specs.declared.state.Whereabouts.TheVariants.{Over, HandedBack, Spent}
 use Rattle.rayon_machine_places.specs.declared.state.Job.{Job}
-use Rattle.rayon_machine_places.specs.declared.state.Scope.{Scope}
-use Rattle.rayon_machine_places.specs.Places.{act_of, next_of, plan_book, plan_job, plan_pool, count_book, count_kind, is_free, is_member}
-use Rattle.rayon_machine_places.specs.World.{Shape, Stack, World, Part, Counts, Outcome, counts_at, target_pool, target_worker, target_call, at_job, begun, effect, head_of, is_open, or_none, pop_injector, popped, take_cast}
-use Rattle.rayon_machine_places.specs.Steps.{put, put_stack, put_pieces, part_of, after_move, after, jobs_after, handed_back, marked, mark_pieces, is_piece, after_choice, after_end, after_miss, after_yield, after_send, after_join, after_gather, after_deal, after_feed, after_enter, new_job, new_piece, new_whole, is_pool, holds, can_miss, step}
-use Rattle.rayon_machine_places.specs.Runs.{IsRun, start}
+use Rattle.rayon_machine_places.specs.Places.{act_of, next_of, plan_book, plan_job, plan_pool, count_book, is_free, is_member}
+use Rattle.rayon_machine_places.specs.World.{Stack, World, Part, Outcome, counts_at, target_pool, target_worker, target_call, at_job, begun, head_of, is_open, or_none, pop_injector, popped, take_cast}
+use Rattle.rayon_machine_places.specs.Steps.{put, put_pieces, after_move, jobs_after, marked, mark_pieces, is_piece, after_choice, after_end, after_miss, after_yield, after_send, after_join, after_gather, after_deal, after_feed, new_job, new_piece, new_whole, is_pool, step}
 use Rattle.rayon_machine_laws.specs.Once.{IsOnce, may_begin}
-use Rattle.rayon_machine_laws.specs.Ends.{Begins, Ends, EndsLaw, RunsSo}
-use Rattle.rayon_machine_laws.proofs.Frame.{acted_keeps, either, fifo_cases, if_cond, if_some_all, if_some_map, into_cases, into_cast_cases, into_fifo_cases, out_sees, piece_range, put_new, stack_mine, undo_sees}
-use Rattle.rayon_machine_laws.proofs.Ties.{outcome, result, job_at, shape_at}
-use Rattle.rayon_machine_laws.proofs.Calm.{counts_seen, part_at, next_at}
+use Rattle.rayon_machine_laws.specs.Ends.{Begins, Ends, EndsLaw}
+use Rattle.rayon_machine_laws.proofs.Frame.{acted_keeps, fifo_cases, if_cond, if_some_map, into_cases, into_cast_cases, into_fifo_cases, out_sees, piece_range, put_new, stack_mine, undo_sees}
+use Rattle.rayon_machine_laws.proofs.Ties.{outcome, result, job_at}
+use Rattle.rayon_machine_laws.proofs.Calm.{part_at, next_at}
 use Rattle.rayon_machine_laws.proofs.Placed.{outcome_of}
-use Rattle.rayon_machine_laws.proofs.Lists.{SameJobs, moves_no_job, quiet_same}
+use Rattle.rayon_machine_laws.proofs.Lists.{SameJobs, quiet_same}
 use Rattle.rayon_machine_laws.proofs.ClaimMakes.{always_once}
 use Rattle.rayon_machine_laws.proofs.Stops.{made}
 

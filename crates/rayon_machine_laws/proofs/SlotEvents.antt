@@ -1,6 +1,6 @@
 -- what has been made stays what it was made as, and keeps its number of a book
 use Rattle.std.proofs.Common.{arith, refl, ◌∙◌, sym, ap, subst, inl, inr}
-use Rattle.std.specs.Prelude.{ℕ, Bool, true, false, not, ◌&&◌, ◌||◌, ◌+◌, ◌-◌, ◌==◌, ◌<◌, ◌≤◌, nat_lt, if◌then◌else◌, Option, Some, None, ◌≡◌, ◌⊎◌, IfSome, ⊤, List, [], ◌∷◌}
+use Rattle.std.specs.Prelude.{ℕ, Bool, true, false, ◌&&◌, ◌+◌, ◌-◌, ◌==◌, ◌<◌, ◌≤◌, if◌then◌else◌, Some, ◌≡◌, ◌⊎◌, IfSome, ⊤, List, [], ◌∷◌}
 use Rattle.std.proofs.lemmas.Bool.{eqb-true, eq-eqb}
 use Rattle.rayon_machine_places.specs.declared.place.Party.{Party}
 use Rattle.rayon_machine_places.specs.declared.place.Party.TheVariants.{Worker, Caller}
@@ -8,12 +8,10 @@ use Rattle.rayon_machine_places.specs.declared.place.Ending.{Ending}
 use Rattle.rayon_machine_places.specs.declared.place.Ending.TheVariants.{Fine, Fault}
 use Rattle.rayon_machine_places.specs.declared.place.JobKind.{JobKind}
 use Rattle.rayon_machine_places.specs.declared.place.JobKind.TheVariants.{Detached, Stored, Direct, Scoped, BodyOf, PieceOf, WholeOf, TokenOf}
-use Rattle.rayon_machine_places.specs.declared.place.Target.TheVariants.{Termination}
 use Rattle.rayon_machine_places.specs.declared.place.Count.{Count}
 use Rattle.rayon_machine_places.specs.declared.place.Count.TheVariants.{OfPool, OfScope, OfCast}
 use Rattle.rayon_machine_places.specs.declared.place.Share.TheVariants.{PoolValue}
-use Rattle.rayon_machine_places.specs.declared.place.Then.{Then}
-use Rattle.rayon_machine_places.specs.declared.place.Then.TheVariants.{Resume, RunFirst}
+use Rattle.rayon_machine_places.specs.declared.place.Then.TheVariants.{Resume}
 use Rattle.rayon_machine_places.specs.declared.place.Mark.{Mark as Marking}
 use Rattle.rayon_machine_places.specs.declared.place.Mark.TheVariants.{Counted, Numbered, Queued, Dealt, Unnumbered, Returned}
 use Rattle.rayon_machine_places.specs.declared.place.Pieces.{Pieces}
@@ -23,7 +21,7 @@ use Rattle.rayon_machine_places.specs.declared.place.Wait.{Wait}
 use Rattle.rayon_machine_places.specs.declared.place.Plan.{Plan}
 use Rattle.rayon_machine_places.specs.declared.place.Plan.TheVariants.{Detach, Here, Send, Fork, Feed, Open, Enter, Gather}
 use Rattle.rayon_machine_places.specs.declared.place.Place.{Place}
-use Rattle.rayon_machine_places.specs.declared.place.Place.TheVariants.{ProbeWorking, PickVictim, StealFrom, PopInjected, JoinProbe, JoinPop, JoinTakeCast, YieldPop, YieldPick, YieldSteal, YieldPopInjected, LocalPop, BeginTask, BeginHere, Run, RaiseCount, GrowCall, GrowScope, OpenSlot, LookQueue, PushJob, AddToFifo, PushToken, TakeFromFifo, RaiseForAll, OpenForAll, PushForAll, CloseForAll, LowerForAll, GrowCast, DealPieces, TellNews, LockToWake, WakeWorker, UnlockWoken, LowerCount, SetLatch, LockToSettle, WakeSettled, UnlockSettled, SetLockLatch, FirstSide, SecondSide, ScopeBody, AtOnce, Free, Stopped}
+use Rattle.rayon_machine_places.specs.declared.place.Place.TheVariants.{ProbeWorking, PickVictim, StealFrom, PopInjected, JoinProbe, YieldPop, YieldPick, YieldSteal, YieldPopInjected, LocalPop, Run, RaiseCount, GrowCall, GrowScope, OpenSlot, PushJob, AddToFifo, PushToken, TakeFromFifo, RaiseForAll, OpenForAll, PushForAll, CloseForAll, LowerForAll, GrowCast, DealPieces, LowerCount, FirstSide, SecondSide, ScopeBody, AtOnce, Free}
 use Rattle.rayon_machine_places.specs.declared.place.Move.{Move}
 use Rattle.rayon_machine_places.specs.declared.place.Move.TheVariants.{Stay, Enter, StartRun, Back, HandBack, Discard, HandIn, Mark, HandAllBack}
 use Rattle.rayon_machine_places.specs.declared.act.Seen.{Seen}
@@ -32,23 +30,21 @@ use Rattle.rayon_machine_places.specs.declared.event.Event.{Event}
 use Rattle.rayon_machine_places.specs.declared.event.Event.TheVariants.{Go, From, Refuse, Miss, End, Spawn, Fifo, Install, Join, Yield, YieldLocal, EndPool, Cast, Scope as OpenScope, IntoSpawn, IntoFifo, IntoCast, Broadcast}
 use Rattle.rayon_machine_places.specs.declared.shape.PoolShape.{PoolShape}
 use Rattle.rayon_machine_places.specs.declared.state.Whereabouts.{Whereabouts}
-use Rattle.rayon_machine_places.specs.declared.state.Whereabouts.TheVariants.{Made, InDeque, Retaken, Running, Over, HandedBack, Spent}
+use Rattle.rayon_machine_places.specs.declared.state.Whereabouts.TheVariants.{Made, Retaken, Running, Over}
 use Rattle.rayon_machine_places.specs.declared.state.Job.{Job}
 use Rattle.rayon_machine_places.specs.declared.state.Scope.{Scope}
 use Rattle.rayon_machine_places.specs.declared.state.Slot.{Slot as SlotState}
 use Rattle.rayon_machine_places.specs.declared.state.Slot.TheVariants.{Closed, Open as IsOpen, Filled}
 use Rattle.rayon_machine_places.specs.Readers.{is_done}
 use Rattle.rayon_machine_places.specs.Places.{same_party, is_free, is_member, act_of, next_of, own_pool, own_index, next_steal, next_yield, not_self, next_victim, plan_book, count_book, count_kind, after_push, end_cast, undo, begin_feed, begin_cast, count_call, gather_all, goes_on}
-use Rattle.rayon_machine_places.specs.World.{Shape, Stack, World, Part, Outcome, counts_at, target_pool, target_worker, target_call, at_job, begun, filled, is_open}
-use Rattle.rayon_machine_places.specs.Steps.{put, put_stack, put_pieces, back, with_stack, after_move, after_resume, after_close, after_call, jobs_after, is_piece, marked, after_choice, after_refusal, after_miss, after_end, after_spawn, after_feed, after_fifo, after_deal, after_cast, after_gather, after_broadcast, after_send, after_install, after_join, after_scope, after_enter, after_into, after_into_fifo, after_into_cast, after_yield, after_end_pool, can_miss, holds, is_pool, new_job, new_piece, new_whole, step}
-use Rattle.rayon_machine_places.specs.Runs.{IsRun, start, first_place}
+use Rattle.rayon_machine_places.specs.World.{Shape, Stack, World, Part, counts_at, target_pool, target_worker, target_call, at_job, filled, is_open}
+use Rattle.rayon_machine_places.specs.Steps.{put, put_stack, put_pieces, back, with_stack, after_move, after_resume, after_close, after_call, jobs_after, is_piece, marked, after_choice, after_refusal, after_miss, after_end, after_spawn, after_feed, after_deal, after_gather, after_send, after_join, after_scope, after_enter, after_yield, can_miss, holds, is_pool, new_job, new_piece, new_whole, step}
+use Rattle.rayon_machine_places.specs.Runs.{IsRun, start}
 use Rattle.rayon_machine_laws.specs.Once.{IsOnce, is_with, held, one}
 use Rattle.rayon_machine_laws.specs.Fixed.{FixedLaw, slot_stays}
 use Rattle.rayon_machine_laws.proofs.Frame.{acted_keeps, and_parts, either, fifo_cases, if_cond, if_some_and, if_some_map, into_cases, into_cast_cases, into_fifo_cases, piece_new, piece_range, put_new, put_old, put_same, same_party_refl, same_party_true, stack_mine, stack_other}
-use Rattle.rayon_machine_laws.proofs.Ties.{job_at, outcome, result, shape_at}
-use Rattle.rayon_machine_laws.proofs.Calm.{counts_seen, part_at, next_at}
+use Rattle.rayon_machine_laws.proofs.Ties.{job_at, outcome}
 use Rattle.rayon_machine_laws.proofs.Claims.{Says}
-use Rattle.rayon_machine_laws.proofs.Later.{Static}
 use Rattle.rayon_machine_laws.proofs.ClaimRuns.{CallsHold, place_part, unqueued, world_after}
 use Rattle.rayon_machine_laws.proofs.PlacedEvents.{Advance, IsFinal}
 use Rattle.rayon_machine_laws.proofs.PlacedRuns.{step_advance}

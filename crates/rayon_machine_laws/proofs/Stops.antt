@@ -1,24 +1,23 @@
 -- a worker stops, and leaves its search without a task, only once the latch that it waits for is set
 use Rattle.std.proofs.Common.{refl, ◌∙◌, sym, ap, subst, inl, inr}
-use Rattle.std.specs.Prelude.{ℕ, Bool, true, false, ◌&&◌, ◌==◌, ◌<◌, nat_lt, if◌then◌else◌, Option, Some, None, ◌≡◌, ◌⊎◌, IfSome, List, [], ◌∷◌, ◌++◌}
-use Rattle.std.proofs.lemmas.Bool.{ltb-true, lt-ltb}
+use Rattle.std.specs.Prelude.{ℕ, Bool, true, false, ◌&&◌, ◌==◌, ◌<◌, nat_lt, if◌then◌else◌, Some, None, ◌≡◌, ◌⊎◌, IfSome, List, [], ◌∷◌, ◌++◌}
+use Rattle.std.proofs.lemmas.Bool.{lt-ltb}
 use Rattle.rayon_machine_places.specs.declared.place.Party.{Party}
 use Rattle.rayon_machine_places.specs.declared.place.Party.TheVariants.{Worker, Caller}
 use Rattle.rayon_machine_places.specs.declared.place.Target.{Target}
 use Rattle.rayon_machine_places.specs.declared.place.Target.TheVariants.{Termination, Answer}
 use Rattle.rayon_machine_places.specs.declared.place.Latch.{Latch}
 use Rattle.rayon_machine_places.specs.declared.place.Latch.TheVariants.{Terminate, OfCall}
-use Rattle.rayon_machine_places.specs.declared.place.Wait.{Wait}
 use Rattle.rayon_machine_places.specs.declared.place.Place.{Place}
-use Rattle.rayon_machine_places.specs.declared.place.Place.TheVariants.{ProbeWorking, ProbeIdle, LeaveSearch, Free, Stopped}
+use Rattle.rayon_machine_places.specs.declared.place.Place.TheVariants.{ProbeWorking, ProbeIdle, Free, Stopped}
 use Rattle.rayon_machine_places.specs.declared.act.Seen.{Seen}
 use Rattle.rayon_machine_places.specs.declared.event.Event.{Event}
 use Rattle.rayon_machine_places.specs.declared.event.Event.TheVariants.{Go}
 use Rattle.rayon_machine_places.specs.declared.state.Letter.{Letter}
-use Rattle.rayon_machine_places.specs.declared.state.Letter.TheVariants.{Unset, Sleepy as IsSleepy, Sleeping, Set as IsSet}
+use Rattle.rayon_machine_places.specs.declared.state.Letter.TheVariants.{Set as IsSet}
 use Rattle.rayon_machine_places.specs.Places.{act_of, next_of, own_pool, own_index, latch_of, after_wait, fresh, same_party}
 use Rattle.rayon_machine_places.specs.World.{Shape, Stack, World, Part, target_pool, target_worker, target_call, call_of, letter, is_set}
-use Rattle.rayon_machine_places.specs.Steps.{part_of, put_stack, after_move, step}
+use Rattle.rayon_machine_places.specs.Steps.{part_of, after_move, step}
 use Rattle.rayon_machine_places.specs.Runs.{IsRun, start, first_place}
 use Rattle.rayon_machine_laws.specs.Attended.{letter_at}
 use Rattle.rayon_machine_laws.specs.Latch.{SetsSo}
@@ -26,8 +25,8 @@ use Rattle.rayon_machine_laws.specs.Letters.{StopsOnSet}
 use Rattle.rayon_machine_laws.proofs.Frame.{acted_keeps, either, if_some_and, if_some_map, same_party_true, stack_mine, stack_other}
 use Rattle.rayon_machine_laws.proofs.Ties.{outcome, result, job_at, shape_at}
 use Rattle.rayon_machine_laws.proofs.Calm.{counts_seen, part_at, next_at}
-use Rattle.rayon_machine_laws.proofs.Posts.{Passes, Steers, Unless, is_base, is_live, set_at, probes_here, found_latch, steers}
-use Rattle.rayon_machine_laws.proofs.PostEvents.{Based, Stepped, is_act, is_based, land, land_based, live_mild, turns}
+use Rattle.rayon_machine_laws.proofs.Posts.{Steers, Unless, is_base, is_live, set_at, probes_here, found_latch, steers}
+use Rattle.rayon_machine_laws.proofs.PostEvents.{Based, Stepped, land, land_based, live_mild, turns}
 use Rattle.rayon_machine_laws.proofs.SetLaws.{sets_law}
 
 -- one step more of a run

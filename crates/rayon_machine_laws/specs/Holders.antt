@@ -1,7 +1,6 @@
 -- who holds each sleep lock, each scope's book and each FIFO list
-use Rattle.std.specs.Prelude.{ℕ, Bool, true, false, not, ◌&&◌, ◌==◌, Option, Some, None, List, ◌≡◌}
+use Rattle.std.specs.Prelude.{ℕ, Bool, false, not, ◌&&◌, ◌==◌, Option, Some, None, List, ◌≡◌}
 use Rattle.rayon_machine_places.specs.declared.place.Party.{Party}
-use Rattle.rayon_machine_places.specs.declared.place.Party.TheVariants.{Worker}
 use Rattle.rayon_machine_places.specs.declared.place.Place.{Place}
 use Rattle.rayon_machine_places.specs.declared.place.Place.TheVariants.{FallAsleep, LoadCounters, AddSleeping, LookAtCast, LookAtInjector, BlockSelf, UndoSleeping, WakeUp, UnlockOwn, WakeWorker, UnlockWoken, WakeSettled, UnlockSettled, LookQueue, PushJob, CloseSlot, AddToFifo, LookForToken, PushToken, TakeFromFifo, PushForAll, CloseForAll}
 use Rattle.rayon_machine_places.specs.declared.act.Act.{Act}

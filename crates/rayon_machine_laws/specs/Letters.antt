@@ -1,5 +1,5 @@
 -- what each latch says while it is not set, by where its worker stands, and where a worker leaves what it waits in
-use Rattle.std.specs.Prelude.{ℕ, Bool, false, ◌<◌, if◌then◌else◌, None, ◌≡◌, ◌⊎◌}
+use Rattle.std.specs.Prelude.{ℕ, false, ◌<◌, if◌then◌else◌, None, ◌≡◌, ◌⊎◌}
 use Rattle.rayon_machine_places.specs.declared.place.Party.{Party}
 use Rattle.rayon_machine_places.specs.declared.place.Party.TheVariants.{Worker}
 use Rattle.rayon_machine_places.specs.declared.place.Latch.{Latch}

@@ -1,6 +1,5 @@
 -- where a job may be: at its own pool, a piece with its own worker, and in the list of its own kind
 use Rattle.std.specs.Prelude.{ℕ, Bool, true, false, not, ◌&&◌, ◌||◌, ◌==◌, Option, Some, None, ◌≡◌}
-use Rattle.rayon_machine_places.specs.declared.place.Party.{Party}
 use Rattle.rayon_machine_places.specs.declared.place.JobKind.{JobKind}
 use Rattle.rayon_machine_places.specs.declared.place.JobKind.TheVariants.{Detached, Stored, Direct, Scoped, BodyOf, TokenOf}
 use Rattle.rayon_machine_places.specs.declared.state.Whereabouts.{Whereabouts}

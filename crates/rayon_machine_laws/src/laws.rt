@@ -22,12 +22,12 @@ ghost use Rattle.rayon_machine_laws.specs.Seats.{IsSeated};
 /// detached jobs: the tokens of a list that are queued or in a hand are no more than the jobs that stand in it.
 /// Each piece of a broadcast is bound to one worker (`bound`): it stands in no list but that worker's broadcast list,
 /// and once it is taken with no party but that worker, in its hand or under its run. No step changes which worker that
-/// is, nor the pool that a job's call was made at, nor what the end of its run sets going, nor a job's number of its book
-/// once it has one, until it is taken back (`fixed`).
-/// A job whose run ends is over as its run ended, and comes to be over only so; and a step adds one to the number of its
-/// runs only where a party comes to stand at its run (`ends`). So a job that has run has stood at its run.
-/// Each job is queued and run at its own pool, a job of a FIFO list in the one of its own kind, a token in its own worker's
-/// deque, and each piece in its own worker's broadcast list; what is run at once is in no list (`near`).
+/// is, nor the pool that a job's call was made at, nor what the end of its run sets going; and a job's number of its book
+/// stays, unless it is taken back, and once it is filled it stays so (`fixed`).
+/// A job whose run ends is over as its run ended, and comes to be over only so; and a step adds one to the number of
+/// its runs only where a party comes to stand at its run (`ends`). So a job that has run has stood at its run.
+/// Each job is queued and run at its own pool, a job of a FIFO list in the one of its own kind, a token in its own
+/// worker's deque, and each piece in its own worker's broadcast list; what is run at once is in no list (`near`).
 /// It does not say that a job ever runs.
 pub fn law_once()
     ensures once { Always IsOnce }
@@ -70,15 +70,15 @@ pub fn law_scope()
 /// In every world of every run each sleeping worker is inactive, and each worker that is about to block itself or is
 /// blocked is counted as sleeping, and holds its own sleep lock unless it is blocked.
 /// A worker is inactive exactly where it stands in its search, from the act by which it becomes inactive to the one by
-/// which it leaves; it counts as sleeping exactly from its TryAdd to the act that takes it out, and while it is blocked;
-/// and it is blocked only where it is to take its own lock again (`seated`).
-/// A worker stops only once its terminate latch is set, and leaves its search without a task only once the latch that it
-/// waits for is set (`stops`).
+/// which it leaves; it counts as sleeping exactly from its TryAdd to the act by which it blocks or takes itself out, and
+/// while it is blocked; and it is blocked only where it is to take its own lock again (`seated`).
+/// A worker stops only once its terminate latch is set, and leaves its search without a task only once the latch that
+/// it waits for is set (`stops`).
 /// A latch that is not set is sleepy exactly where its worker is about to take its own lock and to fall asleep for it,
 /// sleeping exactly from there to the act by which the worker wakes up, and else unset (`letters`).
-/// A party holds a sleep lock exactly where it stands between its Lock and its Unlock or Block, and so with a scope's book
-/// and a FIFO list, between the act that takes it and the one that leaves it (`holders`). No step of a run is an act on
-/// what another party holds, nor leaves a lock that its party does not hold (`guards`).
+/// A party holds a sleep lock exactly where it stands between its Lock and its Unlock or Block, and so with a scope's
+/// book and a FIFO list, between the act that takes it and the one that leaves it (`holders`). No step of a run is an
+/// act on what another party holds, nor leaves a lock that its party does not hold (`guards`).
 pub fn law_sleep()
     ensures inactive { Always SleepersAreInactive }
     ensures asleep { Always CommittedSleep }

@@ -9,7 +9,7 @@ use Rattle.rayon_machine_places.specs.declared.place.Pieces.{Pieces}
 use Rattle.rayon_machine_places.specs.declared.place.Plan.TheVariants.{Fork}
 use Rattle.rayon_machine_places.specs.declared.place.Then.TheVariants.{RunFirst}
 use Rattle.rayon_machine_places.specs.declared.place.Place.{Place}
-use Rattle.rayon_machine_places.specs.declared.place.Place.TheVariants.{LookQueue, PushJob, StealFrom}
+use Rattle.rayon_machine_places.specs.declared.place.Place.TheVariants.{GrowCall, LookQueue, PushJob, StealFrom}
 use Rattle.rayon_machine_places.specs.declared.place.Move.{Move}
 use Rattle.rayon_machine_places.specs.declared.place.Move.TheVariants.{Stay}
 use Rattle.rayon_machine_places.specs.declared.act.Act.{Act}
@@ -108,6 +108,27 @@ not_looked w v q p f h = let i : Some (w.pool 0).injector ≡ Some h.queue = sym
 -- in the machine as it is it does not
 full_queue_is_full : IfSome (run_by right (two 32) second_look) (Looks right false)
 full_queue_is_full = record { look = refl; queue = refl; after = (refl, refl) }
+
+-- a join comes to its push without a look
+abbrev unlooked : PoolShape → Party → Place → Seen → Move
+unlooked h q (GrowCall (Fork o t)) Done = Stay (PushJob (Fork o t) true)
+unlooked h q x e = next_of h q x e
+
+-- the flag that the party of a join has next, where it does not look
+record Grows (m : Machine) (flag : Option Bool) (w : World) : Type 0 where
+  look : is_look (w.stack b).top ≡ false
+  after : IfSome (step_by m w (Go b)) (λ v. flag_of (v.stack b).top ≡ flag)
+
+-- the clause is broken: it takes the queue for empty, and has not looked
+join_pushes_unlooked : IfSome (run_by (leading unlooked) (two 32) (running ++ Join b ∷ times_go b 1)) (Grows (leading unlooked) (Some true))
+join_pushes_unlooked = record { look = refl; after = refl }
+
+not_come : (w v : World) → is_look (w.stack b).top ≡ false → flag_of (v.stack b).top ≡ Some true → TellsSo w b v → ⊥
+not_come w v l f t = let n : true ≡ false = sym (t.comes true f) ∙ l in cc
+
+-- in the machine as it is it looks first
+join_looks : IfSome (run_by right (two 32) (running ++ Join b ∷ times_go b 1)) (Grows right None)
+join_looks = record { look = refl; after = refl }
 
 -- the pieces of a broadcast that waits get their numbers the other way round
 abbrev numbered_back : Act → Option World → Option World

@@ -1,7 +1,7 @@
 -- a steal misses only the one task of a deque; who pushes has looked at the queue that it pushes to, and tells of it; and
 -- the numbers of books are opened in order
-use Rattle.std.proofs.Common.{arith, refl, sym, ◌∙◌, ap, subst}
-use Rattle.std.specs.Prelude.{ℕ, Bool, true, false, ◌+◌, ◌-◌, ◌<◌, if◌then◌else◌, Some, None, List, [], ◌∷◌, ◌≡◌, IfSome}
+use Rattle.std.proofs.Common.{rules, arith, refl, sym, ◌∙◌, ap, subst}
+use Rattle.std.specs.Prelude.{ℕ, nat_lt, Option, Bool, true, false, ◌+◌, ◌-◌, ◌<◌, if◌then◌else◌, Some, None, List, [], ◌∷◌, ◌≡◌, IfSome}
 use Rattle.std.proofs.lemmas.Bool.{eqb-true}
 use Rattle.rayon_machine_places.specs.declared.shape.Order.{Order}
 use Rattle.rayon_machine_places.specs.declared.shape.Order.TheVariants.{NewestFirst, OldestFirst}
@@ -11,6 +11,7 @@ use Rattle.rayon_machine_places.specs.declared.place.Count.{Count}
 use Rattle.rayon_machine_places.specs.declared.place.Count.TheVariants.{OfPool, OfScope, OfCast}
 use Rattle.rayon_machine_places.specs.declared.place.Pieces.{Pieces}
 use Rattle.rayon_machine_places.specs.declared.place.Plan.{Plan}
+use Rattle.rayon_machine_places.specs.declared.place.Plan.TheVariants.{Feed}
 use Rattle.rayon_machine_places.specs.declared.place.Feeding.{Feeding}
 use Rattle.rayon_machine_places.specs.declared.place.Gathering.{Gathering}
 use Rattle.rayon_machine_places.specs.declared.shape.PoolShape.{PoolShape}
@@ -19,23 +20,40 @@ use Rattle.rayon_machine_places.specs.declared.place.Mark.TheVariants.{Numbered,
 use Rattle.rayon_machine_places.specs.declared.place.Taken.TheVariants.{Plain, Token}
 use Rattle.rayon_machine_places.specs.declared.place.Place.{Place}
 use Rattle.rayon_machine_places.specs.declared.place.Place.TheVariants.{BeginTask, DealPieces, LookForToken, LookQueue, OpenForAll, OpenSlot, PushForAll, PushJob, PushToken, StealFrom, YieldSteal}
+use Rattle.rayon_machine_places.specs.declared.place.Place.TheVariants.{AddToFifo, AnnounceSelf, LeaveSearch, LowerCount, LowerForAll, PopInjected, ProbeIdle, ProbeWorking, RaiseCount, RaiseForAll, SetLatch, TakeFromFifo, TellNews, UnlockSettled, UnlockWoken}
+use Rattle.rayon_machine_places.specs.declared.place.Move.{Move}
+use Rattle.rayon_machine_places.specs.declared.place.Rounds.{Rounds}
+use Rattle.rayon_machine_places.specs.declared.place.Rounds.TheVariants.{Failed, Announced}
+use Rattle.rayon_machine_places.specs.declared.place.Settling.{Settling}
+use Rattle.rayon_machine_places.specs.declared.place.Share.{Share}
+use Rattle.rayon_machine_places.specs.declared.place.Taken.{Taken}
+use Rattle.rayon_machine_places.specs.declared.place.Target.TheVariants.{Termination, Answer}
+use Rattle.rayon_machine_places.specs.declared.place.Then.{Then}
+use Rattle.rayon_machine_places.specs.declared.place.Then.TheVariants.{BeginFound, LeaveWait, Resume, Await, RunFirst, Gathers}
+use Rattle.rayon_machine_places.specs.declared.place.Wait.{Wait}
 use Rattle.rayon_machine_places.specs.declared.act.Act.{Act}
 use Rattle.rayon_machine_places.specs.declared.act.Act.TheVariants.{FifoOut, LookInj, LookOwn, News, PushCast, PushInj, PushOwn, Slot, SlotAll, Steal}
 use Rattle.rayon_machine_places.specs.declared.act.Seen.{Seen}
-use Rattle.rayon_machine_places.specs.declared.act.Seen.TheVariants.{Done}
+use Rattle.rayon_machine_places.specs.declared.act.Seen.TheVariants.{Begun, Done, Handed, Task, Wakes, Yes}
 use Rattle.rayon_machine_places.specs.declared.event.Event.TheVariants.{Go}
 use Rattle.rayon_machine_places.specs.declared.state.Job.{Job}
 use Rattle.rayon_machine_places.specs.declared.state.Slot.TheVariants.{Open as IsOpen}
-use Rattle.rayon_machine_places.specs.Places.{act_of, count_call, is_member, next_of, own_pool, plan_book, plan_count, plan_job, plan_pool}
-use Rattle.rayon_machine_places.specs.World.{Stack, World, Part, empty_seen, is_open, target_call, target_pool, target_worker}
+use Rattle.rayon_machine_places.specs.Places.{act_of, after_begin, after_failure, after_found, after_news, after_raise, after_set, after_slot, begin_cast, begin_feed, count_book, count_call, end_cast, ends_count, finish, is_member, next_of, own_pool, plan_book, plan_count, plan_job, plan_pool}
+use Rattle.rayon_machine_places.specs.Places.{set_call, settle_count, taken_back, taken_number, walk, withdraw}
+use Rattle.rayon_machine_places.specs.World.{Counts, Outcome, Part, Shape, Stack, World, effect, empty_seen, is_open, target_call, target_pool, target_worker}
 use Rattle.rayon_machine_places.specs.Steps.{after, after_miss, after_move, can_miss, has_one, is_newest_first, jobs_after, mark_pieces, marked, put, step}
 use Rattle.rayon_machine_orders.specs.Looks.{MissesOne, MissLaw, is_look, flag_of, queue_of, pool_of, is_empty, TellsSo, TellLaw}
 use Rattle.rayon_machine_orders.specs.Numbers.{DealtFrom, OpensSo, NumberLaw}
-use Rattle.rayon_machine_laws.proofs.Frame.{and_parts, if_cond, if_some_all, if_some_map, piece_in, piece_new, put_new, stack_mine}
+use Rattle.rayon_machine_laws.proofs.Frame.{and_parts, if_cond, if_some_all, if_some_and, if_some_map, piece_in, piece_new, put_new, stack_mine}
+use Rattle.rayon_machine_laws.proofs.Calm.{counts_seen, next_at, part_at, top_then}
 use Rattle.rayon_machine_laws.proofs.ClaimMakes.{always_calls}
+use Rattle.rayon_machine_laws.proofs.Emptied.{always_lists}
+use Rattle.rayon_machine_laws.proofs.Seats.{is_frame}
+use Rattle.rayon_machine_laws.proofs.Tops.{FramesOk, Tops}
+use Rattle.rayon_machine_orders.proofs.Lone.{settle_move, settled_move, walk_move}
 use Rattle.rayon_machine_laws.proofs.Claims.{KnownCount, Says}
 use Rattle.rayon_machine_laws.proofs.Placed.{outcome_of}
-use Rattle.rayon_machine_laws.proofs.Ties.{job_at, outcome, result}
+use Rattle.rayon_machine_laws.proofs.Ties.{job_at, outcome, result, shape_at}
 use Rattle.rayon_machine_orders.proofs.CallSteps.{go_all}
 
 -- the world after such an act
@@ -121,21 +139,194 @@ act_tells w (Worker a b) (PushToken f v) fs s = record { looks = λ y. cc; tells
 act_tells w (Caller c) (PushToken f v) fs s = tt
 act_tells w q x fs s = if_some_all (λ r. Tells w q x (after_move (next_of (w.shape.pool (target_pool q (act_of q x))) q x (r.0)) fs).top) (λ r. silent w q x _ refl refl) (outcome_of w q (act_of q x))
 
+-- nobody else comes to a push
+abbrev Unflagged : Move → Type 0
+Unflagged g = Tops (λ y. flag_of y ≡ None) g
+
+finish_unflagged : (q : Party) (t : Then) → Unflagged (finish q t)
+finish_unflagged q (BeginFound g t) = refl
+finish_unflagged q (LeaveWait Termination) = refl
+finish_unflagged q (LeaveWait (Answer o f)) = refl
+finish_unflagged (Worker a b) (Await o) = refl
+finish_unflagged (Caller c) (Await o) = refl
+finish_unflagged (Worker a b) (Gathers o) = refl
+finish_unflagged (Caller c) (Gathers o) = refl
+finish_unflagged q (RunFirst o a) = refl
+finish_unflagged q _ = tt
+
+walk_unflagged : (h : PoolShape) (q : Party) (p n i : ℕ) (t : Then) → Unflagged (walk h q p n i t)
+walk_unflagged h q p n i t = walk_move Unflagged h q p n i t (λ k e. refl) (finish_unflagged q t)
+
+settled_unflagged : (h : PoolShape) (q : Party) (s : Settling) → Unflagged (after_set h q s s.latch)
+settled_unflagged h q s = settled_move Unflagged h q s s.latch (λ k e. refl) (finish_unflagged q s.then)
+
+withdraw_unflagged : (b : Option ℕ) (n : Plan) → flag_of (withdraw b n) ≡ None
+withdraw_unflagged None n = refl
+withdraw_unflagged (Some c) n = refl
+
+set_unflagged : (c : ℕ) (o : Party) (t : Then) → flag_of (set_call c o t) ≡ None
+set_unflagged c (Worker a b) t = refl
+set_unflagged c (Caller n) t = refl
+
+feed_unflagged : (k : Count) (f : Feeding) → flag_of (begin_feed k f) ≡ None
+feed_unflagged (OfPool p) f = refl
+feed_unflagged (OfScope c o) f = refl
+feed_unflagged (OfCast c o) f = refl
+
+slot_unflagged : (n : Plan) → flag_of (after_slot n) ≡ None
+slot_unflagged (Feed f) = refl
+slot_unflagged _ = refl
+
+raise_unflagged : (n : Plan) → Unflagged (after_raise n)
+raise_unflagged (Feed f) = feed_unflagged f.count f
+raise_unflagged _ = refl
+
+cast_unflagged : (k : Count) (c : Pieces) → (flag_of (begin_cast k c) ≡ None) × (flag_of (end_cast k c) ≡ None) × (flag_of (ends_count k) ≡ None)
+cast_unflagged (OfPool p) c = (refl, refl, refl)
+cast_unflagged (OfScope m o) c = (refl, refl, set_unflagged m o Resume)
+cast_unflagged (OfCast m o) c = (refl, refl, set_unflagged m o Resume)
+
+count_unflagged : (g : PoolShape) (q : Party) (k : Count) (t : Then) → Unflagged (settle_count g q k t)
+count_unflagged g q (OfPool p) t = settle_move Unflagged g q p 0 t (λ k e. refl) (finish_unflagged q t)
+count_unflagged g q (OfScope c o) t = set_unflagged c o t
+count_unflagged g q (OfCast c o) t = set_unflagged c o t
+
+begin_unflagged : (x : Taken) (e : Seen) → Unflagged (after_begin x e)
+begin_unflagged (Plain t) (Begun d) = refl
+begin_unflagged (Plain t) _ = refl
+begin_unflagged (Token k i b) (Handed t d) = refl
+begin_unflagged (Token k i b) _ = tt
+
+back_unflagged : (f : Feeding) (e : Seen) → Unflagged (taken_back f e)
+back_unflagged f (Task x) = withdraw_unflagged (count_book f.count) (Feed (record f { job = taken_number x }))
+back_unflagged f _ = tt
+
+failed_unflagged : (h : PoolShape) (w : Wait) (r : Rounds) → flag_of (after_failure h w r) ≡ None
+failed_unflagged h w (Failed n) = by (nat_lt n h.limit)
+  where
+    by : (z : Bool) → flag_of (if z then ProbeIdle (record w { rounds = Failed (n + 1) }) else AnnounceSelf w) ≡ None
+    by true = refl
+    by false = refl
+failed_unflagged h w Announced = refl
+
+injected_next : (g : PoolShape) (q : Party) (k : Wait) (e : Seen) → Unflagged (next_of g q (PopInjected k) e)
+injected_next g q k (Task t) = refl
+injected_next g q k _ = failed_unflagged g k k.rounds
+
+-- the places whose next ones depend on what the act saw, and on a plan, a count or what follows
+abbrev NextUnflagged : PoolShape → Party → Place → Type 0
+NextUnflagged g q x = (e : Seen) → Unflagged (next_of g q x e)
+
+set_next : (g : PoolShape) (q : Party) (s : Settling) → NextUnflagged g q (SetLatch s)
+set_next g q s Yes = refl
+set_next g q s _ = settled_unflagged g q s
+
+leave_next : (g : PoolShape) (q : Party) (k : Wait) → NextUnflagged g q (LeaveSearch k)
+leave_next g q k (Wakes n) = walk_unflagged g q (own_pool q) n 0 (after_found k.target k.found)
+leave_next g q k _ = refl
+
+told_next : (g : PoolShape) (q : Party) (n : Plan) (v : Bool) → NextUnflagged g q (TellNews n v)
+told_next g q n v (Wakes k) = walk_unflagged g q (plan_pool n) k 0 (after_news n)
+told_next g q n v _ = refl
+
+add_next : (g : PoolShape) (q : Party) (f : Feeding) → NextUnflagged g q (AddToFifo f)
+add_next g q f Done = refl
+add_next g q f _ = withdraw_unflagged (count_book f.count) (Feed f)
+
+raise_next : (g : PoolShape) (q : Party) (n : Plan) → NextUnflagged g q (RaiseCount n)
+raise_next g q n Done = raise_unflagged n
+raise_next g q n _ = tt
+
+slot_next : (g : PoolShape) (q : Party) (n : Plan) → NextUnflagged g q (OpenSlot n)
+slot_next g q n Done = slot_unflagged n
+slot_next g q n _ = refl
+
+push_next : (g : PoolShape) (q : Party) (n : Plan) (v : Bool) → NextUnflagged g q (PushJob n v)
+push_next g q n v Done = refl
+push_next g q n v _ = withdraw_unflagged (plan_book n) n
+
+all_raise_next : (g : PoolShape) (q : Party) (c : Pieces) → NextUnflagged g q (RaiseForAll c)
+all_raise_next g q c Done = (cast_unflagged c.count c).0
+all_raise_next g q c _ = tt
+
+all_push_next : (g : PoolShape) (q : Party) (c : Pieces) → NextUnflagged g q (PushForAll c)
+all_push_next g q c Done = refl
+all_push_next g q c _ = (cast_unflagged c.count c).1
+
+all_lower_next : (g : PoolShape) (q : Party) (c : Pieces) → NextUnflagged g q (LowerForAll c)
+all_lower_next g q c Yes = (cast_unflagged c.count c).2
+all_lower_next g q c _ = tt
+
+lower_next : (g : PoolShape) (q : Party) (k : Count) (s : Share) (t : Then) → NextUnflagged g q (LowerCount k s t)
+lower_next g q k s t Yes = count_unflagged g q k t
+lower_next g q k s t _ = finish_unflagged q t
+
+-- of each outcome, if of what any act may see
+sees : (P : Seen → Type 0) → ((e : Seen) → P e) → (o : Outcome) → IfSome o (λ r. P (r.0))
+sees P f o = if_some_all (λ r. P (r.0)) (λ r. f (r.0)) o
+
+abbrev AllUnflagged : Shape → PoolShape → Party → Counts → Part → Place → Type 0
+AllUnflagged h g q c m x = IfSome (effect (act_of q x) h q c m) (λ r. Unflagged (next_of g q x (r.0)))
+
+next_unflagged : (h : Shape) (g : PoolShape) (q : Party) (c : Counts) (m : Part) (x : Place) → is_look x ≡ false → AllUnflagged h g q c m x
+next_unflagged h g (Worker a b) c m (ProbeWorking k) z = search (rules, arith)
+next_unflagged h g q c m (LookQueue n) z = cc
+next_unflagged h g q c m (LookForToken f) z = cc
+next_unflagged h g q c m (PopInjected k) z = sees (λ e. Unflagged (next_of g q (PopInjected k) e)) (injected_next g q k) (effect (act_of q (PopInjected k)) h q c m)
+next_unflagged h g q c m (SetLatch s) z = sees (λ e. Unflagged (next_of g q (SetLatch s) e)) (set_next g q s) (effect (act_of q (SetLatch s)) h q c m)
+next_unflagged h g q c m (UnlockSettled s) z = sees (λ e. Unflagged (next_of g q (UnlockSettled s) e)) (λ e. settled_unflagged g q s) (effect (act_of q (UnlockSettled s)) h q c m)
+next_unflagged h g q c m (UnlockWoken k) z = sees (λ e. Unflagged (next_of g q (UnlockWoken k) e)) (λ e. walk_unflagged g q k.pool k.owed (k.worker + 1) k.then) (effect (act_of q (UnlockWoken k)) h q c m)
+next_unflagged h g q c m (LeaveSearch k) z = sees (λ e. Unflagged (next_of g q (LeaveSearch k) e)) (leave_next g q k) (effect (act_of q (LeaveSearch k)) h q c m)
+next_unflagged h g q c m (TellNews n v) z = sees (λ e. Unflagged (next_of g q (TellNews n v) e)) (told_next g q n v) (effect (act_of q (TellNews n v)) h q c m)
+next_unflagged h g q c m (BeginTask x) z = sees (λ e. Unflagged (after_begin x e)) (begin_unflagged x) (effect (act_of q (BeginTask x)) h q c m)
+next_unflagged h g q c m (AddToFifo f) z = sees (λ e. Unflagged (next_of g q (AddToFifo f) e)) (add_next g q f) (effect (act_of q (AddToFifo f)) h q c m)
+next_unflagged h g q c m (TakeFromFifo f) z = sees (λ e. Unflagged (taken_back f e)) (back_unflagged f) (effect (act_of q (TakeFromFifo f)) h q c m)
+next_unflagged h g q c m (RaiseCount n) z = sees (λ e. Unflagged (next_of g q (RaiseCount n) e)) (raise_next g q n) (effect (act_of q (RaiseCount n)) h q c m)
+next_unflagged h g q c m (OpenSlot n) z = sees (λ e. Unflagged (next_of g q (OpenSlot n) e)) (slot_next g q n) (effect (act_of q (OpenSlot n)) h q c m)
+next_unflagged h g q c m (PushJob n v) z = sees (λ e. Unflagged (next_of g q (PushJob n v) e)) (push_next g q n v) (effect (act_of q (PushJob n v)) h q c m)
+next_unflagged h g q c m (RaiseForAll d) z = sees (λ e. Unflagged (next_of g q (RaiseForAll d) e)) (all_raise_next g q d) (effect (act_of q (RaiseForAll d)) h q c m)
+next_unflagged h g q c m (PushForAll d) z = sees (λ e. Unflagged (next_of g q (PushForAll d) e)) (all_push_next g q d) (effect (act_of q (PushForAll d)) h q c m)
+next_unflagged h g q c m (LowerForAll d) z = sees (λ e. Unflagged (next_of g q (LowerForAll d) e)) (all_lower_next g q d) (effect (act_of q (LowerForAll d)) h q c m)
+next_unflagged h g q c m (LowerCount k v t) z = sees (λ e. Unflagged (next_of g q (LowerCount k v t) e)) (lower_next g q k v t) (effect (act_of q (LowerCount k v t)) h q c m)
+next_unflagged h g (Worker a b) c m _ z = search (rules, arith)
+next_unflagged h g (Caller n) c m _ z = search (rules, arith)
+
+frame_unflagged : (f : Place) → is_frame f ≡ true → flag_of f ≡ None
+frame_unflagged (ProbeWorking w) e = refl
+frame_unflagged _ e = cc
+
+comes_on : (w : World) (q : Party) → FramesOk w → (z : Bool) → is_look (w.stack q).top ≡ z → IfSome (outcome w q (w.stack q)) (λ r. (b : Bool) → flag_of ((after_move (next_at w q (w.stack q) (r.0)) (w.stack q).below).top) ≡ Some b → is_look (w.stack q).top ≡ true)
+comes_on w q fr true z = if_some_all (λ r. (b : Bool) → flag_of ((after_move (next_at w q (w.stack q) (r.0)) (w.stack q).below).top) ≡ Some b → is_look (w.stack q).top ≡ true) (λ r b e. z) (outcome w q (w.stack q))
+comes_on w q fr false z = if_some_map (λ r. Unflagged (next_at w q k (r.0))) (λ r. (b : Bool) → flag_of ((after_move (next_at w q k (r.0)) k.below).top) ≡ Some b → is_look k.top ≡ true)
+    (λ r t b e. absurd (let i : flag_of ((after_move (next_at w q k (r.0)) k.below).top) ≡ None = top_then (λ y. flag_of y ≡ None) w q k (r.0) refl fr frame_unflagged t in let n : None ≡ Some b = sym i ∙ e in cc))
+    (outcome w q k) (next_unflagged w.shape (shape_at w q k) q (counts_seen w q k) (part_at w q k) k.top z)
+  where
+    k : Stack
+    k = w.stack q
+
 -- so it is over each step
-go_tells : (w : World) (q : Party) → Says w q (w.stack q).top → IfSome (step w (Go q)) (TellsSo w q)
-go_tells w q s = go_all (TellsSo w q) w q (if_some_map (λ r. Tells w q ((w.stack q).top) ((to r).top)) (λ r. TellsSo w q (result w q (w.stack q) r)) landed (outcome w q (w.stack q)) (act_tells w q ((w.stack q).top) ((w.stack q).below) s))
+go_tells : (w : World) (q : Party) → FramesOk w → Says w q (w.stack q).top → IfSome (step w (Go q)) (TellsSo w q)
+go_tells w q fr s = go_all (TellsSo w q) w q (if_some_map (λ r. Tells w q ((w.stack q).top) ((to r).top) × Comes r) (λ r. TellsSo w q (result w q (w.stack q) r)) landed (outcome w q (w.stack q))
+    (if_some_and (λ r. Tells w q ((w.stack q).top) ((to r).top)) Comes (outcome w q (w.stack q)) (act_tells w q ((w.stack q).top) ((w.stack q).below) s) (comes_on w q fr (is_look (w.stack q).top) refl)))
   where
     to : Seen × Part → Stack
     to r = after_move (next_of (w.shape.pool (target_pool q (act_of q (w.stack q).top))) q ((w.stack q).top) (r.0)) ((w.stack q).below)
 
-    landed : (r : Seen × Part) → Tells w q ((w.stack q).top) ((to r).top) → TellsSo w q (result w q (w.stack q) r)
-    landed r h = subst (λ k. Tells w q ((w.stack q).top) (k.top) → TellsSo w q (result w q (w.stack q) r)) (stack_mine w.stack q (to r)) made h
+    Comes : Seen × Part → Type 0
+    Comes r = (b : Bool) → flag_of ((to r).top) ≡ Some b → is_look (w.stack q).top ≡ true
+
+    landed : (r : Seen × Part) → Tells w q ((w.stack q).top) ((to r).top) × Comes r → TellsSo w q (result w q (w.stack q) r)
+    landed r h = record {
+      looks = λ z. (let l : (l : List ℕ) × (queue_of w q (act_of q ((to r).top)) ≡ Some l) × (flag_of ((to r).top) ≡ Some (is_empty l)) = (h.0).looks z in record { queue = l.0; goes = ap (λ k. queue_of w q (act_of q k.top)) mine ∙ l.1; flag = ap (λ k. flag_of k.top) mine ∙ l.2 });
+      comes = λ b e. (h.1) b (sym (ap (λ k. flag_of k.top) mine) ∙ e);
+      tells = λ b e. ap (λ k. act_of q k.top) mine ∙ (h.0).tells b e;
+    }
       where
-        made : Tells w q ((w.stack q).top) (((result w q (w.stack q) r).stack q).top) → TellsSo w q (result w q (w.stack q) r)
-        made t = record { looks = λ z. (let l : (l : List ℕ) × (queue_of w q (act_of q (((result w q (w.stack q) r).stack q).top)) ≡ Some l) × (flag_of (((result w q (w.stack q) r).stack q).top) ≡ Some (is_empty l)) = t.looks z in record { queue = l.0; goes = l.1; flag = l.2 }); tells = t.tells }
+        mine : (result w q (w.stack q) r).stack q ≡ to r
+        mine = stack_mine w.stack q (to r)
 
 pub tell_law : TellLaw
-tell_law shape before q w v run s = let k : IfSome (Some v) (TellsSo w q) = subst (λ o. IfSome o (TellsSo w q)) s (go_tells w q (((always_calls shape before w run).says q).top)) in k
+tell_law shape before q w v run s = let k : IfSome (Some v) (TellsSo w q) = subst (λ o. IfSome o (TellsSo w q)) s (go_tells w q ((always_lists shape before w run).frames) (((always_calls shape before w run).says q).top)) in k
 
 -- the numbers that an act opens
 numbered : (c : Pieces) (k : Marking) (f : ℕ → Job) (n i : ℕ) → ((j : Job) (t : ℕ) → (marked k c.pool t j).slot ≡ IsOpen (n + t)) → i < c.workers → (mark_pieces c k f (c.first + i)).slot ≡ IsOpen (n + i)

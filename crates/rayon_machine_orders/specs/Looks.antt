@@ -58,10 +58,11 @@ pub record HasLooked (w : World) (q : Party) (v : World) : Type 0 where
   pub goes : queue_of w q (act_of q (v.stack q).top) ≡ Some queue
   pub flag : flag_of (v.stack q).top ≡ Some (is_empty queue)
 
--- an act that leads from w to v: who looks comes to its push with what the queue was, and who pushes tells the news of
--- the pool of that queue next, with the same
+-- an act that leads from w to v: who looks comes to its push with what the queue was, nobody else comes to a push, and who
+-- pushes tells the news of the pool of that queue next, with the same
 pub record TellsSo (w : World) (q : Party) (v : World) : Type 0 where
   pub looks : is_look (w.stack q).top ≡ true → HasLooked w q v
+  pub comes : (b : Bool) → flag_of (v.stack q).top ≡ Some b → is_look (w.stack q).top ≡ true
   pub tells : (b : Bool) → flag_of (w.stack q).top ≡ Some b → act_of q (v.stack q).top ≡ News (pool_of q (act_of q (w.stack q).top)) b
 
 -- so it is of each act of each run

@@ -32,11 +32,12 @@ ghost use Rattle.rayon_machine_orders.specs.Queue.{QueueLaw};
 /// A steal misses only in a pool that is newest first, at a deque with exactly one task (`misses`). Who pushes a job or
 /// a token has looked at the very queue that the push goes to, and tells of that pool next, with what the queue was:
 /// empty or not (`told`).
-/// A call that nothing refused, and that is over, has queued its job just once, where it belongs (`placed`): a worker of
-/// the pool on its own deque, or of a job in order in its FIFO list and the token on its deque, others in the pool's
+/// A call that nothing refused, and that is over, has queued its job just once, where it belongs (`placed`): a worker
+/// of the pool on its own deque, or of a job in order in its FIFO list and the token on its deque, others in the pool's
 /// injector; a join queues its second side, a broadcast that waits all its pieces at once, a scope and an install by a
 /// worker of the pool nothing. So a job that a worker spawns at its pool reaches it through its own deque alone. A
-/// broadcast that waits for nothing has queued its pieces once, all at once, in the broadcast lists of its pool (`dealt`).
+/// broadcast that waits for nothing has queued its pieces once, all at once, in the broadcast lists of its pool
+/// (`dealt`).
 /// It does not say that a job ever begins.
 pub fn law_order()
     ensures tokens { TokenLaw }

@@ -12,7 +12,7 @@ use Rattle.rayon_machine_places.specs.declared.place.Place.TheVariants.{LowerCou
 use Rattle.rayon_machine_places.specs.declared.place.Move.{Move}
 use Rattle.rayon_machine_places.specs.declared.place.Move.TheVariants.{Back, HandAllBack}
 use Rattle.rayon_machine_places.specs.declared.act.Seen.{Seen}
-use Rattle.rayon_machine_places.specs.declared.act.Seen.TheVariants.{No}
+use Rattle.rayon_machine_places.specs.declared.act.Seen.TheVariants.{No, Yes}
 use Rattle.rayon_machine_places.specs.declared.event.Event.{Event}
 use Rattle.rayon_machine_places.specs.declared.event.Event.TheVariants.{Go, Refuse, End, Cast, Install, Scope as OpenScope, Broadcast, EndPool}
 use Rattle.rayon_machine_places.specs.declared.state.Letter.TheVariants.{Unset}

@@ -33,7 +33,7 @@ use Rattle.rayon_machine_laws.specs.Once.{IsOnce, one}
 use Rattle.rayon_machine_laws.proofs.Claims.{AllSay, Says, SaysRun, call_kind, here, is_body}
 use Rattle.rayon_machine_laws.proofs.ClaimMakes.{always_once, always_calls}
 use Rattle.rayon_machine_laws.proofs.ClaimRuns.{CallsHold, place_part}
-use Rattle.rayon_machine_laws.proofs.Fixed.{fixed_law}
+use Rattle.rayon_machine_laws.proofs.SlotEvents.{fixed_law}
 use Rattle.rayon_machine_laws.proofs.Frame.{if_some_and, if_some_each, if_some_map, put_same, after_kind, same_party_true, stack_mine, stack_other}
 use Rattle.rayon_machine_laws.proofs.Gathered.{calls_of}
 use Rattle.rayon_machine_laws.proofs.Later.{Static, act_static}

@@ -1,0 +1,288 @@
+//! The threads of a script that are no workers.
+use crate::play::{Play, trouble_of, trouble_of_both};
+use crate::stage::{Here, Stage, Told, Trouble};
+use pool_script::script::{Ask, Call, Line, Step, Verb};
+use rayon_core::{CallError, JobKind, PoolRef};
+use std::alloc::{AllocError, Global};
+use std::fmt::Write;
+use std::sync::{Arc, Wait};
+
+/// What was said, line by line. A line that comes again at once is counted.
+#[derive(Drop)]
+pub struct Log {
+    text: String,
+    last: String,
+    times: u64,
+}
+
+impl Log {
+    /// Nothing was said.
+    pub fn new(alloc: Global) -> Log {
+        Log {
+            text: String::new(alloc),
+            last: String::new(alloc),
+            times: 0,
+        }
+    }
+
+    /// Says a line.
+    pub fn say(&mut self, line: String) -> Result<(), AllocError> {
+        if self.times > 0 && self.last.as_str() == line.as_str() {
+            self.times = self.times.saturating_add(1);
+            return Ok(());
+        }
+        self.close()?;
+        self.last = line;
+        self.times = 1;
+        Ok(())
+    }
+
+    // Writes the last line down.
+    fn close(&mut self) -> Result<(), AllocError> {
+        match self.times {
+            0 => {}
+            1 => {
+                self.text.push_str(self.last.as_str())?;
+                self.text.push_str("\n")?;
+            }
+            times => writeln!(self.text, "{} x{times}", self.last)?,
+        }
+        self.times = 0;
+        Ok(())
+    }
+
+    /// All that was said.
+    pub fn into_text(self) -> Result<String, AllocError> {
+        let mut log = self;
+        log.close()?;
+        Ok(log.text)
+    }
+}
+
+/// A thread that is no worker, with what it said.
+#[derive(Drop)]
+pub struct Actor {
+    stage: Arc<Stage>,
+    pools: Vec<PoolRef<Play>>,
+    log: Log,
+}
+
+impl Actor {
+    /// A thread that said nothing.
+    pub fn new(alloc: Global, stage: Arc<Stage>, pools: Vec<PoolRef<Play>>) -> Actor {
+        let log = Log::new(alloc);
+        Actor { stage, pools, log }
+    }
+
+    /// What another thread shares with this one.
+    pub fn share(&self, alloc: Global) -> Result<(Arc<Stage>, Vec<PoolRef<Play>>), AllocError> {
+        let mut pools = Vec::new(alloc);
+        for pool in self.pools.iter() {
+            pools.push(pool.pool_ref().map_err(|_| AllocError)?)?;
+        }
+        Ok((Arc::try_clone(&self.stage)?, pools))
+    }
+
+    /// All that it said.
+    pub fn into_text(self) -> Result<String, AllocError> {
+        let Actor {
+            stage: _,
+            pools: _,
+            log,
+        } = self;
+        log.into_text()
+    }
+
+    /// Says a line.
+    pub fn say(&mut self, line: String) -> Result<(), AllocError> {
+        self.log.say(line)
+    }
+
+    /// Takes the lines of the thread with this number.
+    pub fn take_all<R: Wait>(
+        &mut self,
+        rt: &R,
+        alloc: Global,
+        part: usize,
+    ) -> Result<(), AllocError> {
+        let stage = Arc::try_clone(&self.stage)?;
+        if let Some(part) = stage.script().parts.get(part) {
+            for line in part.lines.iter() {
+                for turn in 0..line.times {
+                    self.take(rt, alloc, line, turn)?;
+                }
+            }
+        }
+        Ok(())
+    }
+
+    /// Takes a line once.
+    pub fn take<R: Wait>(
+        &mut self,
+        rt: &R,
+        alloc: Global,
+        line: &Line,
+        turn: u64,
+    ) -> Result<(), AllocError> {
+        let here = Here {
+            number: 0,
+            turn,
+            migrated: false,
+            index: 0,
+        };
+        let mut said = String::from_str(alloc, line.text.as_str())?;
+        said.push_str(" ->")?;
+        if self.answer(rt, alloc, here, line.step, &mut said)? {
+            self.log.say(said)?;
+        }
+        Ok(())
+    }
+
+    // Writes what a step is answered. False where nothing is to be said.
+    fn answer<R: Wait>(
+        &self,
+        rt: &R,
+        alloc: Global,
+        here: Here,
+        step: Step,
+        said: &mut String,
+    ) -> Result<bool, AllocError> {
+        match step {
+            Step::Plain(plain) => match self.stage.plain(rt, here, plain) {
+                Ok(_) => Ok(false),
+                Err(trouble) => self.tell(false, trouble, said),
+            },
+            Step::One(pool, verb, call) => match (self.pools.get(pool), self.job(here, call)?) {
+                (Some(pool), Some(job)) => self.one(rt, alloc, pool, verb, job, said),
+                _ => Ok(false),
+            },
+            Step::Join(pool, first, second) => {
+                match (self.pools.get(pool), self.jobs(here, first, second)?) {
+                    (Some(pool), Some((first, second))) => {
+                        self.both(pool.join(rt, alloc, first, second), said)
+                    }
+                    _ => Ok(false),
+                }
+            }
+            Step::JoinContext(pool, first, second) => {
+                match (self.pools.get(pool), self.jobs(here, first, second)?) {
+                    (Some(pool), Some((first, second))) => {
+                        self.both(pool.join_context(rt, alloc, first, second), said)
+                    }
+                    _ => Ok(false),
+                }
+            }
+            Step::Ask(pool, ask) => match self.pools.get(pool) {
+                Some(pool) => self.ask(rt, pool, ask, said),
+                None => Ok(false),
+            },
+            Step::Print(shown) => {
+                self.stage.show(rt, alloc, shown, said)?;
+                Ok(true)
+            }
+            Step::Lead(_) => Ok(false),
+        }
+    }
+
+    // The job that a step names. None where its number would be below 0.
+    fn job(&self, here: Here, call: Call) -> Result<Option<Play>, AllocError> {
+        Play::new(&self.stage, here, call).map_err(|_| AllocError)
+    }
+
+    // The same of two jobs.
+    fn jobs(
+        &self,
+        here: Here,
+        first: Call,
+        second: Call,
+    ) -> Result<Option<(Play, Play)>, AllocError> {
+        Play::pair(&self.stage, here, first, second).map_err(|_| AllocError)
+    }
+
+    // Calls one job, and writes what is answered.
+    fn one<R: Wait>(
+        &self,
+        rt: &R,
+        alloc: Global,
+        pool: &PoolRef<Play>,
+        verb: Verb,
+        job: Play,
+        said: &mut String,
+    ) -> Result<bool, AllocError> {
+        match verb {
+            Verb::Install => match pool.install(rt, alloc, job) {
+                Ok(answer) => {
+                    write!(said, " {answer}")?;
+                    Ok(true)
+                }
+                Err(error) => self.tell(is_fault(&error), trouble_of(error), said),
+            },
+            Verb::Spawn => match pool.spawn(rt, alloc, job) {
+                Ok(()) => Ok(false),
+                Err((refusal, job)) => {
+                    self.tell(false, Trouble::Refused(refusal, job.tag()), said)
+                }
+            },
+        }
+    }
+
+    // Writes what a join was answered.
+    fn both(
+        &self,
+        answers: Result<(u64, u64), CallError<Trouble, (Play, Play)>>,
+        said: &mut String,
+    ) -> Result<bool, AllocError> {
+        match answers {
+            Ok((first, second)) => {
+                write!(said, " {first} and {second}")?;
+                Ok(true)
+            }
+            Err(error) => self.tell(is_fault(&error), trouble_of_both(error), said),
+        }
+    }
+
+    // Writes what a pool answers without a job.
+    fn ask<R: Wait>(
+        &self,
+        rt: &R,
+        pool: &PoolRef<Play>,
+        ask: Ask,
+        said: &mut String,
+    ) -> Result<bool, AllocError> {
+        let (first, count) = pool.take_fault(rt);
+        match (ask, first) {
+            (Ask::CountFaults, _) => write!(said, " {count}")?,
+            (Ask::TakeFault, None) => write!(said, " none, {count} in all")?,
+            (Ask::TakeFault, Some(trouble)) => {
+                self.tell(true, trouble, said)?;
+                write!(said, ", {count} in all")?;
+            }
+        }
+        Ok(true)
+    }
+
+    // Writes why a call has no answer.
+    fn tell(
+        &self,
+        is_fault: bool,
+        trouble: Trouble,
+        said: &mut String,
+    ) -> Result<bool, AllocError> {
+        let script = self.stage.script();
+        let told = Told {
+            script,
+            is_fault,
+            trouble,
+        };
+        write!(said, " {told}")?;
+        Ok(true)
+    }
+}
+
+// Whether the jobs have run.
+fn is_fault<B>(error: &CallError<Trouble, B>) -> bool {
+    match error {
+        CallError::Fault(_) => true,
+        CallError::Refused(..) | CallError::Foreign | CallError::Missing => false,
+    }
+}

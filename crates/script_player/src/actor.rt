@@ -93,9 +93,12 @@ impl Actor {
         log.into_text()
     }
 
-    /// Says a line.
-    pub fn say(&mut self, line: String) -> Result<(), AllocError> {
-        self.log.say(line)
+    /// Says each line of a text.
+    pub fn say_all(&mut self, alloc: Global, text: &str) -> Result<(), AllocError> {
+        for line in text.lines() {
+            self.log.say(String::from_str(alloc, line)?)?;
+        }
+        Ok(())
     }
 
     /// Takes the lines of the thread with this number.
@@ -103,11 +106,11 @@ impl Actor {
         &mut self,
         rt: &R,
         alloc: Global,
-        part: usize,
+        thread: usize,
     ) -> Result<(), AllocError> {
         let stage = Arc::try_clone(&self.stage)?;
-        if let Some(part) = stage.script().parts.get(part) {
-            for line in part.lines.iter() {
+        if let Some(thread) = stage.script().threads.get(thread) {
+            for line in thread.lines.iter() {
                 for turn in 0..line.times {
                     self.take(rt, alloc, line, turn)?;
                 }

@@ -2,6 +2,7 @@
 #![tactic(auto)]
 
 mod actor;
+mod error;
 mod house;
 mod play;
 mod run;

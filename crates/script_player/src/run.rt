@@ -1,7 +1,8 @@
 //! The program over any reader and writers.
+use crate::error::PlayError;
 use crate::house::play;
-use pool_script::{Bad, BadLine, read};
-use std::alloc::{AllocError, Global};
+use pool_script::{ReadError, read, text_of};
+use std::alloc::Global;
 use std::fmt::Display;
 use std::io::{BufRead, ErrorKind, Write};
 use std::sync::Wait;
@@ -25,46 +26,36 @@ pub fn run<R: Threads + Wait + Copy + Send + 'static, I: BufRead, W: Write, E: W
     out: &mut W,
     err: &mut E,
 ) -> u8 {
-    let mut text = String::new(alloc);
-    match reader.read_to_string(&mut text) {
-        Ok(_) => play_text(rt, alloc, text.as_str(), out, err),
-        Err(error) if error.kind() == ErrorKind::OutOfMemory => fail(err, "NoMemory"),
-        Err(_) => fail(err, "Read"),
+    let mut bytes = Vec::new(alloc);
+    match reader.read_to_end(&mut bytes) {
+        Ok(_) => play_bytes(rt, alloc, bytes.as_slice(), out, err),
+        Err(error) if error.kind() == ErrorKind::OutOfMemory => fail(err, PlayError::NoMemory),
+        Err(_) => fail(err, "the script is not read"),
     }
 }
 
-// Plays the script that this text is.
-fn play_text<R: Threads + Wait + Copy + Send + 'static, W: Write, E: Write>(
+// Plays the script that these bytes are.
+fn play_bytes<R: Threads + Wait + Copy + Send + 'static, W: Write, E: Write>(
     rt: &R,
     alloc: Global,
-    text: &str,
+    bytes: &[u8],
     out: &mut W,
     err: &mut E,
 ) -> u8 {
-    let script = match read(alloc, text) {
+    let script = match text_of(bytes).and_then(|text| read(alloc, text)) {
         Ok(script) => script,
-        Err(
-            BadLine {
-                bad: Bad::NoMemory,
-                ..
-            },
-        ) => return fail(err, "NoMemory"),
-        Err(
-            BadLine {
-                line,
-                bad: Bad::Words(why),
-            },
-        ) => {
-            let _ = writeln!(err, "bad line {line}: {why}");
+        Err(ReadError::NoMemory) => return fail(err, PlayError::NoMemory),
+        Err(error) => {
+            let _ = writeln!(err, "{error}");
             return BAD_SCRIPT;
         }
     };
     match play(rt, alloc, script) {
         Ok(said) => match write!(out, "{said}") {
             Ok(()) => DONE,
-            Err(_) => fail(err, "Write"),
+            Err(_) => fail(err, "what was said is not written"),
         },
-        Err(AllocError) => fail(err, "NoMemory"),
+        Err(error) => fail(err, error),
     }
 }
 

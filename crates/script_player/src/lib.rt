@@ -8,4 +8,4 @@ mod play;
 mod run;
 mod stage;
 
-pub use run::run;
+pub use run::play_script;

@@ -19,7 +19,7 @@ const BAD_SCRIPT: u8 = 2;
 
 /// Reads a script to its end, plays it, and writes what it says to `out`. Answers the status: 0 played; 1 memory, a thread, a
 /// read or a write was refused, with a line on `err`; 2 a bad script, with its line on `err` and nothing on `out`.
-pub fn run<R: Threads + Wait + Copy + Send + 'static, I: BufRead, W: Write, E: Write>(
+pub fn play_script<R: Threads + Wait + Copy + Send + 'static, I: BufRead, W: Write, E: Write>(
     rt: &R,
     alloc: Global,
     reader: &mut I,

@@ -81,14 +81,7 @@ const BAD_DEEDS: [(&str, &str); 45] = [
 
 /// Calls of a job that do not go down.
 const BAD_CALLS: [&str; 8] = [
-    "up",
-    "up(n-1)",
-    "a",
-    "a(n)",
-    "a(n-0)",
-    "a(2n-1)",
-    "a(n+1-2)",
-    "a(k)",
+    "up", "up(n-1)", "a", "a(n)", "a(n-0)", "a(2n-1)", "a(n+1-2)", "a(k)",
 ];
 
 /// Lines below main that are its steps.
@@ -194,16 +187,28 @@ const BAD_HEADINGS: [(&str, &str); 33] = [
 ];
 
 #[test]
-fn scripts_are_read(rt: HostRuntime) -> Result<(), Fail> {
+fn deeds_are_read(rt: HostRuntime) -> Result<(), Fail> {
     let alloc = rt.alloc();
     for deed in DEEDS {
         let text = format!(in alloc; "{ABOVE}{deed}\njob b\n")?;
         assert!(rt; read(alloc, text.as_str()).is_ok(), "{deed}");
     }
+    Ok(())
+}
+
+#[test]
+fn steps_are_read(rt: HostRuntime) -> Result<(), Fail> {
+    let alloc = rt.alloc();
     for step in STEPS {
         let text = format!(in alloc; "{ABOVE}main\n{step}\njob b")?;
         assert!(rt; read(alloc, text.as_str()).is_ok(), "{step}");
     }
+    Ok(())
+}
+
+#[test]
+fn headings_are_read(rt: HostRuntime) -> Result<(), Fail> {
+    let alloc = rt.alloc();
     for heading in HEADINGS {
         let text = format!(in alloc; "\n \n# {ABOVE}{heading}")?;
         assert!(rt; read(alloc, text.as_str()).is_ok(), "{heading}");
@@ -212,27 +217,42 @@ fn scripts_are_read(rt: HostRuntime) -> Result<(), Fail> {
 }
 
 #[test]
-fn bad_lines_are_told(rt: HostRuntime) -> Result<(), Fail> {
+fn bad_deeds_are_told(rt: HostRuntime) -> Result<(), Fail> {
     let alloc = rt.alloc();
     for (deed, why) in BAD_DEEDS {
         let text = format!(in alloc; "{ABOVE} add 1\n\n{deed}\n what\njob b\n")?;
-        let told = format!(in alloc; "bad line 8: {why}")?;
-        assert!(rt; is_told(alloc, text.as_bytes(), told.as_str())?, "{deed}");
+        assert!(rt; is_told(alloc, text.as_bytes(), 8, why)?, "{deed}");
     }
+    Ok(())
+}
+
+#[test]
+fn calls_upwards_are_told(rt: HostRuntime) -> Result<(), Fail> {
+    let alloc = rt.alloc();
+    let why = "a job names jobs below, or itself with n less something";
     for call in BAD_CALLS {
         let text = format!(in alloc; "{ABOVE}  spawn {call}\n")?;
-        let told = format!(in alloc; "bad line 6: a job names jobs below, or itself with n less something")?;
-        assert!(rt; is_told(alloc, text.as_bytes(), told.as_str())?, "{call}");
+        assert!(rt; is_told(alloc, text.as_bytes(), 6, why)?, "{call}");
     }
+    Ok(())
+}
+
+#[test]
+fn bad_steps_are_told(rt: HostRuntime) -> Result<(), Fail> {
+    let alloc = rt.alloc();
     for (step, why) in BAD_STEPS {
         let text = format!(in alloc; "{ABOVE}job b\nthread u\n{step}\n")?;
-        let told = format!(in alloc; "bad line 8: {why}")?;
-        assert!(rt; is_told(alloc, text.as_bytes(), told.as_str())?, "{step}");
+        assert!(rt; is_told(alloc, text.as_bytes(), 8, why)?, "{step}");
     }
+    Ok(())
+}
+
+#[test]
+fn bad_headings_are_told(rt: HostRuntime) -> Result<(), Fail> {
+    let alloc = rt.alloc();
     for (heading, why) in BAD_HEADINGS {
         let text = format!(in alloc; "{ABOVE} add 1\n{heading}\nwhat\n")?;
-        let told = format!(in alloc; "bad line 7: {why}")?;
-        assert!(rt; is_told(alloc, text.as_bytes(), told.as_str())?, "{heading}");
+        assert!(rt; is_told(alloc, text.as_bytes(), 7, why)?, "{heading}");
     }
     Ok(())
 }
@@ -240,24 +260,25 @@ fn bad_lines_are_told(rt: HostRuntime) -> Result<(), Fail> {
 #[test]
 fn bad_texts_are_told(rt: HostRuntime) -> Result<(), Fail> {
     let alloc = rt.alloc();
-    let texts: [(&[u8], &str); 6] = [
-        (b" add 1\n", "bad line 1: below no heading"),
-        (b"pool p 1\n add 1\n", "bad line 2: below no heading"),
-        (b"\n\tmain\n", "bad line 2: below no heading"),
-        (b"main\nmain\n", "bad line 2: declared twice"),
-        (b"main\n add 1\njob a\n add x", "bad line 2: no such step"),
-        (b"main\n pause\n\xff\n", "bad line 3: no text"),
+    let texts: [(&[u8], usize, &str); 6] = [
+        (b" add 1\n", 1, "below no heading"),
+        (b"pool p 1\n add 1\n", 2, "below no heading"),
+        (b"\n\tmain\n", 2, "below no heading"),
+        (b"main\nmain\n", 2, "declared twice"),
+        (b"main\n add 1\njob a\n add x", 2, "no such step"),
+        (b"main\n pause\n\xff\n", 3, "no text"),
     ];
-    for (text, told) in texts {
-        assert!(rt; is_told(alloc, text, told)?, "{told}");
+    for (text, line, why) in texts {
+        assert!(rt; is_told(alloc, text, line, why)?, "{why}");
     }
     Ok(())
 }
 
-// Whether this is what is told of a text.
-fn is_told(alloc: Global, bytes: &[u8], told: &str) -> Result<bool, AllocError> {
+// Whether it is told of a text that this is wrong with this line.
+fn is_told(alloc: Global, bytes: &[u8], line: usize, why: &str) -> Result<bool, AllocError> {
+    let told = format!(in alloc; "bad line {line}: {why}")?;
     match text_of(bytes).and_then(|text| read(alloc, text)) {
         Ok(_) => Ok(false),
-        Err(error) => Ok(error.to_string(alloc)?.as_str() == told),
+        Err(error) => Ok(error.to_string(alloc)?.as_str() == told.as_str()),
     }
 }

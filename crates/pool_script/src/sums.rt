@@ -68,8 +68,8 @@ fn plus(first: Option<u64>, second: Option<u64>) -> Option<u64>
 }
 
 impl JobPlan {
-    /// What the run with this number answers where it comes to its end, if the script says it: the sum of what its lines
-    /// add, where none adds what a call answers or what is told of its worker.
+    /// What the run with this number answers where it comes to its end, if the script says it: the sum of what its
+    /// lines add, where none adds what a call answers or what is told of its worker.
     pub fn sum(&self, number: u64) -> Option<u64>
         ensures { result ≡ sum_of self.now.deeds.items number }
     {

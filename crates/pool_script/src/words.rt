@@ -86,8 +86,8 @@ pub(crate) fn call(names: &Directory, word: &str) -> Result<Call, Bad> {
     })
 }
 
-// The same in a line of the job with this number: the named one stands further down, or is the same with a smaller number. So
-// each script comes to an end.
+// The same in a line of the job with this number: the named one stands further down, or is the same with a smaller
+// number. So each script comes to an end.
 pub(crate) fn call_below(names: &Directory, job: usize, word: &str) -> Result<Call, Bad>
     ensures { IfOk result (GoesDown job) }
 {

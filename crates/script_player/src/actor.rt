@@ -1,7 +1,7 @@
 //! The threads of a script that are no workers.
 use crate::play::{Play, trouble_of, trouble_of_both};
 use crate::stage::{Here, Stage, Told, Trouble};
-use pool_script::script::{Ask, Call, Line, Step, Verb};
+use pool_script::script::{Ask, Call, Line, Plain, Step, Verb};
 use rayon_core::{CallError, JobKind, PoolRef};
 use std::alloc::{AllocError, Global};
 use std::fmt::Write;
@@ -151,10 +151,7 @@ impl Actor {
         said: &mut String,
     ) -> Result<bool, AllocError> {
         match step {
-            Step::Plain(plain) => match self.stage.plain(rt, here, plain) {
-                Ok(_) => Ok(false),
-                Err(trouble) => self.tell(false, trouble, said),
-            },
+            Step::Plain(plain) => self.plain(rt, here, plain, said),
             Step::One(pool, verb, call) => match (self.pools.get(pool), self.job(here, call)?) {
                 (Some(pool), Some(job)) => self.one(rt, alloc, pool, verb, job, said),
                 _ => Ok(false),
@@ -175,15 +172,26 @@ impl Actor {
                     _ => Ok(false),
                 }
             }
-            Step::Ask(pool, ask) => match self.pools.get(pool) {
-                Some(pool) => self.ask(rt, pool, ask, said),
-                None => Ok(false),
-            },
+            Step::Ask(pool, ask) => self.ask(rt, pool, ask, said),
             Step::Print(shown) => {
                 self.stage.show(rt, alloc, shown, said)?;
                 Ok(true)
             }
             Step::Lead(_) => Ok(false),
+        }
+    }
+
+    // Does what needs no call, and writes why it is refused where it is.
+    fn plain<R: Wait>(
+        &self,
+        rt: &R,
+        here: Here,
+        plain: Plain,
+        said: &mut String,
+    ) -> Result<bool, AllocError> {
+        match self.stage.plain(rt, here, plain) {
+            Ok(_) => Ok(false),
+            Err(trouble) => self.tell(false, trouble, said),
         }
     }
 
@@ -248,10 +256,13 @@ impl Actor {
     fn ask<R: Wait>(
         &self,
         rt: &R,
-        pool: &PoolRef<Play>,
+        pool: usize,
         ask: Ask,
         said: &mut String,
     ) -> Result<bool, AllocError> {
+        let Some(pool) = self.pools.get(pool) else {
+            return Ok(false);
+        };
         let (first, count) = pool.take_fault(rt);
         match (ask, first) {
             (Ask::CountFaults, _) => write!(said, " {count}")?,

@@ -17,8 +17,8 @@ const FAILED: u8 = 1;
 /// The status of a bad script.
 const BAD_SCRIPT: u8 = 2;
 
-/// Reads a script to its end, plays it, and writes what it says to `out`. Answers the status: 0 played; 1 memory, a thread, a
-/// read or a write was refused, with a line on `err`; 2 a bad script, with its line on `err` and nothing on `out`.
+/// Reads a script to its end, plays it, and writes what it says to `out`. Answers the status: 0 played; 1 memory, a
+/// thread, a read or a write was refused, with a line on `err`; 2 a bad script, told on `err`, with nothing on `out`.
 pub fn play_script<R: Threads + Wait + Copy + Send + 'static, I: BufRead, W: Write, E: Write>(
     rt: &R,
     alloc: Global,

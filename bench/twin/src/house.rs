@@ -23,7 +23,7 @@ pub fn play(script: Script) -> Result<Option<String>, Box<dyn Error>> {
     let pools = pools.map(|(place, plan)| Held::build(place, plan));
     let pools = pools.collect::<Result<Vec<_>, _>>()?;
     let stage: &'static Stage = Box::leak(Box::new(Stage::new(script, pools)));
-    let threads = stage.script.parts.iter().map(|_| None).collect();
+    let threads = stage.script.threads.iter().map(|_| None).collect();
     let mut house = House {
         stage,
         threads,
@@ -58,27 +58,27 @@ impl House {
         match lead {
             Lead::End(pool) => self.stage.pools[pool].end(false),
             Lead::EndAndJoin(pool) => self.stage.pools[pool].end(true),
-            Lead::Start(part) => self.start(part)?,
-            Lead::Finish(part) => self.finish(part),
-            Lead::Do(part) => take_all(self.stage, &mut self.log, part),
+            Lead::Start(place) => self.start(place)?,
+            Lead::Finish(place) => self.finish(place),
+            Lead::Do(place) => take_all(self.stage, &mut self.log, place),
         }
         Ok(())
     }
 
-    fn start(&mut self, part: usize) -> Result<(), Box<dyn Error>> {
+    fn start(&mut self, place: usize) -> Result<(), Box<dyn Error>> {
         let stage = self.stage;
         let thread = Builder::new().spawn(move || {
             let mut log = Log::default();
-            take_all(stage, &mut log, part);
+            take_all(stage, &mut log, place);
             log.into_text()
         })?;
-        self.threads[part] = Some(thread);
+        self.threads[place] = Some(thread);
         Ok(())
     }
 
     /// Waits for the end of a thread, and says what it said.
-    fn finish(&mut self, part: usize) {
-        if let Some(thread) = self.threads[part].take() {
+    fn finish(&mut self, place: usize) {
+        if let Some(thread) = self.threads[place].take() {
             let said = thread.join().unwrap_or_else(|_| std::process::abort());
             said.lines().for_each(|line| self.log.say(line.to_string()));
         }
@@ -86,7 +86,7 @@ impl House {
 
     /// Finishes the threads, and ends and joins the pools.
     fn close(&mut self) {
-        (0..self.threads.len()).for_each(|part| self.finish(part));
+        (0..self.threads.len()).for_each(|place| self.finish(place));
         self.stage.pools.iter().for_each(|pool| pool.end(true));
     }
 }

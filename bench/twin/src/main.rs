@@ -3,13 +3,16 @@
 //! to the script it prints `no answer`, with status 3. docs/SCRIPTS.md is the page of the language.
 
 mod calls;
+mod deeds;
 mod house;
+mod names;
 mod play;
 mod pool;
 mod reader;
 mod scopes;
 mod script;
 mod stage;
+mod steps;
 mod thread;
 mod words;
 

@@ -58,9 +58,9 @@ impl Play {
             worker,
             scope,
         };
-        let deeds = self.stage.script.roles[self.job].deeds.iter();
+        let deeds = self.stage.script.jobs[self.job].iter();
         deeds
-            .filter(|deed| (deed.from..deed.below).contains(&self.number))
+            .filter(|deed| deed.is_done(self.number))
             .map(|deed| repeat(self.stage, place, deed))
             .fold(0, u64::wrapping_add)
     }

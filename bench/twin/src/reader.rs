@@ -1,7 +1,10 @@
 //! Reading a script.
 
-use crate::script::{Lead, Line, Part, PoolPlan, Role, Script, Step};
-use crate::words::{ask, asking, call_of, deed, gate_of, number, plain, pool_of};
+use crate::deeds::deed;
+use crate::names::Directory;
+use crate::script::{PoolPlan, Script};
+use crate::steps::line;
+use crate::words::digits;
 
 /// What is wrong with a line.
 pub type Bad = &'static str;
@@ -12,40 +15,53 @@ pub struct BadLine {
     pub why: Bad,
 }
 
-/// Whose lines are read: those of a job or a thread, by its place, of the main thread, or nobody's.
+/// Below which heading a line stands. Jobs and threads are counted from 0.
 #[derive(Clone, Copy)]
 enum Place {
-    Nobody,
-    Role(usize),
-    Part(usize),
+    Nothing,
+    Job(usize),
+    Thread(usize),
     Main,
 }
 
-/// Reads a script: first the headings, then what stands below them, so that a line may name what is further down.
+/// Reads a script: first the headings, so that a line may name what stands further down, and then what stands below
+/// them.
 pub fn read(text: &str) -> Result<Script, BadLine> {
-    let mut script = Script::default();
+    let (mut script, mut names) = (Script::default(), Directory::default());
+    let mut first = None;
     for (above, text) in text.lines().enumerate() {
         let text = without_comment(text);
         if is_heading(text) {
-            declare(&mut script, text).map_err(|why| BadLine {
-                line: above + 1,
-                why,
-            })?;
+            if let Err(why) = declare(&mut names, &mut script, text) {
+                first.get_or_insert(BadLine {
+                    line: above + 1,
+                    why,
+                });
+            }
         }
     }
-    read_below(&mut script, text)?;
-    Ok(script)
+    let end = first.as_ref().map_or(usize::MAX, |bad| bad.line - 1);
+    fill(&names, &mut script, text.lines().take(end))?;
+    match first {
+        Some(bad) => Err(bad),
+        None => Ok(script),
+    }
 }
 
-fn read_below(script: &mut Script, text: &str) -> Result<(), BadLine> {
-    let (mut roles, mut parts) = (0, 0);
-    let mut place = Place::Nobody;
-    for (above, text) in text.lines().enumerate() {
+/// Takes up the lines below the headings.
+fn fill<'a>(
+    names: &Directory,
+    script: &mut Script,
+    lines: impl Iterator<Item = &'a str>,
+) -> Result<(), BadLine> {
+    let (mut jobs, mut threads) = (0, 0);
+    let mut place = Place::Nothing;
+    for (above, text) in lines.enumerate() {
         let text = without_comment(text);
         if is_heading(text) {
-            place = place_below(text, &mut roles, &mut parts);
+            place = place_below(text, &mut jobs, &mut threads);
         } else if !text.is_empty() {
-            take(script, place, text).map_err(|why| BadLine {
+            take(names, script, place, text).map_err(|why| BadLine {
                 line: above + 1,
                 why,
             })?;
@@ -58,157 +74,100 @@ fn without_comment(line: &str) -> &str {
     line.split('#').next().unwrap_or("").trim_end()
 }
 
+/// Whether a line that has no blanks at its end is a heading: it has none at its beginning either.
 fn is_heading(line: &str) -> bool {
-    !line.is_empty() && !line.starts_with(' ')
+    !line.is_empty() && line.trim_start().len() == line.len()
 }
 
-/// Whose lines stand below a heading. So many jobs and threads stand above it.
-fn place_below(text: &str, roles: &mut usize, parts: &mut usize) -> Place {
-    match text.split_whitespace().next() {
+/// Where the lines below a heading stand. So many jobs and threads stand above it.
+fn place_below(heading: &str, jobs: &mut usize, threads: &mut usize) -> Place {
+    match heading.split_whitespace().next() {
         Some("job") => {
-            *roles += 1;
-            Place::Role(*roles - 1)
+            *jobs += 1;
+            Place::Job(*jobs - 1)
         }
         Some("thread") => {
-            *parts += 1;
-            Place::Part(*parts - 1)
+            *threads += 1;
+            Place::Thread(*threads - 1)
         }
         Some("main") => Place::Main,
-        _ => Place::Nobody,
+        _ => Place::Nothing,
     }
 }
 
 /// Takes up what a heading declares.
-fn declare(script: &mut Script, text: &str) -> Result<(), Bad> {
+fn declare(names: &mut Directory, script: &mut Script, text: &str) -> Result<(), Bad> {
     let words: Vec<&str> = text.split_whitespace().collect();
     match words.as_slice() {
-        ["pool", name, options @ ..] => {
-            let plan = pool_plan(name, options)?;
-            is_new(script.pools.iter().map(|pool| &pool.name), name)?;
+        ["pool", words @ ..] => {
+            let (name, plan) = pool_plan(words)?;
+            names.pools.declare(name)?;
             script.pools.push(plan);
         }
-        ["gates", names @ ..] => {
-            for name in names {
-                is_new(&script.gates, name)?;
-                script.gates.push(name.to_string());
+        ["gates"] => return Err("no name, or too many"),
+        ["gates", words @ ..] => {
+            for name in words {
+                declare_gate(names, name)?;
+                script.gates += 1;
             }
         }
         ["job", name] => {
-            is_new(script.roles.iter().map(|role| &role.name), name)?;
-            let (name, deeds) = (name.to_string(), vec![]);
-            script.roles.push(Role { name, deeds });
+            names.jobs.declare(name)?;
+            script.jobs.push(vec![]);
         }
         ["thread", name] => {
-            is_new(script.parts.iter().map(|part| &part.name), name)?;
-            let (name, lines) = (name.to_string(), vec![]);
-            script.parts.push(Part { name, lines });
+            names.threads.declare(name)?;
+            script.threads.push(vec![]);
         }
-        ["main"] => {}
+        ["job" | "thread", ..] => return Err("no name, or too many"),
+        ["main"] if names.has_main => return Err("declared twice"),
+        ["main"] => names.has_main = true,
         ["own:", ..] => script.is_own = true,
         _ => return Err("no such heading"),
     }
     Ok(())
 }
 
-/// Whether none of its kind has this name yet.
-fn is_new<'a>(names: impl IntoIterator<Item = &'a String>, name: &str) -> Result<(), Bad> {
-    match names.into_iter().any(|other| other == name) {
-        true => Err("named twice"),
-        false => Ok(()),
+/// Declares a gate. What `print` names otherwise is no gate's name.
+fn declare_gate(names: &mut Directory, name: &str) -> Result<(), Bad> {
+    match name {
+        "ledger" | "sorted" => Err("no such name is allowed"),
+        _ => names.gates.declare(name),
     }
 }
 
-fn pool_plan(name: &str, options: &[&str]) -> Result<PoolPlan, Bad> {
-    let (workers, depth, breadth_first) = match options {
-        [] => return Err("no number"),
-        [workers] => (workers, None, false),
-        [workers, "breadth_first"] => (workers, None, true),
-        [workers, "depth", depth] => (workers, Some(depth), false),
-        [workers, "depth", depth, "breadth_first"] => (workers, Some(depth), true),
-        _ => return Err("no such heading"),
+/// A pool's name, and how it is built.
+fn pool_plan<'a>(words: &[&'a str]) -> Result<(&'a str, PoolPlan), Bad> {
+    let (name, workers, depth, breadth_first) = match words {
+        [] => return Err("no name, or too many"),
+        [name, workers] => (name, workers, None, false),
+        [name, workers, "breadth_first"] => (name, workers, None, true),
+        [name, workers, "depth", depth] => (name, workers, Some(depth), false),
+        [name, workers, "depth", depth, "breadth_first"] => (name, workers, Some(depth), true),
+        _ => return Err("no such option"),
     };
-    if let Some(depth) = depth {
-        number(depth)?;
+    // (the original has no depth limit)
+    depth.map_or(Ok(0), |depth| digits(depth))?;
+    match usize::try_from(digits(workers)?) {
+        Ok(0) => Err("no workers"),
+        Ok(workers) => Ok((
+            name,
+            PoolPlan {
+                workers,
+                breadth_first,
+            },
+        )),
+        Err(_) => Err("number too large"),
     }
-    let workers = usize::try_from(number(workers)?).map_err(|_| "no number")?;
-    Ok(PoolPlan {
-        name: name.to_string(),
-        workers,
-        breadth_first,
-    })
 }
 
 /// Takes up a line below a heading.
-fn take(script: &mut Script, place: Place, text: &str) -> Result<(), Bad> {
+fn take(names: &Directory, script: &mut Script, place: Place, text: &str) -> Result<(), Bad> {
     match place {
-        Place::Nobody => return Err("below no job and no thread"),
-        Place::Role(role) => {
-            let deed = deed(script, role, text)?;
-            script.roles[role].deeds.push(deed);
-        }
-        Place::Part(part) => {
-            let line = line(script, false, text)?;
-            script.parts[part].lines.push(line);
-        }
-        Place::Main => {
-            let line = line(script, true, text)?;
-            script.main.push(line);
-        }
+        Place::Nothing => return Err("below no heading"),
+        Place::Job(job) => script.jobs[job].push(deed(names, job, text)?),
+        Place::Thread(thread) => script.threads[thread].push(line(names, false, text)?),
+        Place::Main => script.main.push(line(names, true, text)?),
     }
     Ok(())
-}
-
-/// A line of a thread. Only the main thread leads.
-fn line(script: &Script, is_main: bool, text: &str) -> Result<Line, Bad> {
-    let (times, text) = match text.split_once(':') {
-        None => (1, text),
-        Some((prefix, text)) => match *prefix.split_whitespace().collect::<Vec<_>>() {
-            [times, "times"] => (number(times)?, text),
-            _ => return Err("no such prefix"),
-        },
-    };
-    if text.contains(':') {
-        return Err("no such prefix");
-    }
-    let words: Vec<&str> = text.split_whitespace().collect();
-    let step = step(script, &words)?;
-    if matches!(step, Step::Lead(_)) && !is_main {
-        return Err("only main does this");
-    }
-    let text = text.trim().to_string();
-    Ok(Line { times, step, text })
-}
-
-fn step(script: &Script, words: &[&str]) -> Result<Step, Bad> {
-    let pool = |word: &str| pool_of(script, word);
-    match words {
-        ["take_fault", name] => Ok(Step::TakeFault(pool(name)?)),
-        ["count_faults", name] => Ok(Step::CountFaults(pool(name)?)),
-        ["print", "ledger"] => Ok(Step::PrintLedger),
-        ["print", "sorted"] => Ok(Step::PrintSorted),
-        ["print", gate] => Ok(Step::PrintGate(gate_of(script, gate)?)),
-        ["end", name] => Ok(Step::Lead(Lead::End(pool(name)?))),
-        ["end_and_join", name] => Ok(Step::Lead(Lead::EndAndJoin(pool(name)?))),
-        ["start", name] => Ok(Step::Lead(Lead::Start(part_of(script, name)?))),
-        ["finish", name] => Ok(Step::Lead(Lead::Finish(part_of(script, name)?))),
-        ["do", name] => Ok(Step::Lead(Lead::Do(part_of(script, name)?))),
-        ["note" | "open" | "wait" | "meet" | "pause", ..] => {
-            let plain = plain(script, words)?;
-            Ok(Step::Plain(plain.ok_or("no such step")?))
-        }
-        [verb, name, jobs @ ..] => {
-            let asking = asking(verb, jobs).ok_or("no such step")?;
-            let pool = pool(name)?;
-            Ok(Step::Ask(
-                pool,
-                ask(asking, jobs, |word| call_of(script, word))?,
-            ))
-        }
-        _ => Err("no such step"),
-    }
-}
-
-fn part_of(script: &Script, word: &str) -> Result<usize, Bad> {
-    let found = script.parts.iter().position(|part| part.name == word);
-    found.ok_or("no such thread")
 }

@@ -41,7 +41,7 @@ pub struct Call {
     pub number: Number,
 }
 
-/// What is done without a call of a pool. Gates are named by their places.
+/// What is done without a call of a pool.
 #[derive(Clone, Copy)]
 pub enum Plain {
     Note(Value),
@@ -107,7 +107,8 @@ pub enum Act {
 #[derive(Clone, Copy)]
 pub struct Deed {
     pub from: u64,
-    pub below: u64,
+    /// The smallest number of a run that does not, if there is one.
+    pub below: Option<u64>,
     pub times: u64,
     pub tries: bool,
     /// The pool that is called, where that is not said to be the run's own.
@@ -115,13 +116,14 @@ pub struct Deed {
     pub act: Act,
 }
 
-/// A job: its name, and its lines.
-pub struct Role {
-    pub name: String,
-    pub deeds: Vec<Deed>,
+impl Deed {
+    /// Whether a run of this number does it.
+    pub fn is_done(&self, number: u64) -> bool {
+        self.from <= number && self.below.is_none_or(|below| number < below)
+    }
 }
 
-/// What a thread does that is no worker. Pools, gates and threads are named by their places.
+/// What a thread does that is no worker.
 #[derive(Clone, Copy)]
 pub enum Step {
     Plain(Plain),
@@ -151,27 +153,21 @@ pub struct Line {
     pub text: String,
 }
 
-/// A pool: its name, and how it is built. The original has no depth limit.
+/// How a pool is built.
 pub struct PoolPlan {
-    pub name: String,
     pub workers: usize,
     pub breadth_first: bool,
 }
 
-/// A thread that the main thread starts: its name, and its lines.
-pub struct Part {
-    pub name: String,
-    pub lines: Vec<Line>,
-}
-
-/// A script.
+/// A script. Its lines name pools, gates, jobs and threads by their places.
 #[derive(Default)]
 pub struct Script {
     /// Whether it says that the original has no answer to it.
     pub is_own: bool,
     pub pools: Vec<PoolPlan>,
-    pub gates: Vec<String>,
-    pub roles: Vec<Role>,
-    pub parts: Vec<Part>,
+    /// How many gates there are.
+    pub gates: usize,
+    pub jobs: Vec<Vec<Deed>>,
+    pub threads: Vec<Vec<Line>>,
     pub main: Vec<Line>,
 }

@@ -59,7 +59,7 @@ impl Stage {
     /// For a script that nobody has played yet.
     pub fn new(script: Script, pools: Vec<Held>) -> Stage {
         Stage {
-            gates: script.gates.iter().map(|_| AtomicU64::new(0)).collect(),
+            gates: (0..script.gates).map(|_| AtomicU64::new(0)).collect(),
             ledger: Mutex::default(),
             is_unanswered: AtomicBool::new(false),
             script,

@@ -41,8 +41,8 @@ impl Log {
 }
 
 /// Takes the lines of the thread at this place.
-pub fn take_all(stage: &'static Stage, log: &mut Log, part: usize) {
-    for line in &stage.script.parts[part].lines {
+pub fn take_all(stage: &'static Stage, log: &mut Log, thread: usize) {
+    for line in &stage.script.threads[thread] {
         (0..line.times).for_each(|turn| take(stage, log, line, turn));
     }
 }

@@ -13,11 +13,12 @@ impl Names {
         if name.contains(['(', ')', ':']) {
             return Err("no such name is allowed");
         }
-        let place = self.0.len();
-        match self.0.insert(name.to_string(), place) {
-            None => Ok(()),
-            Some(_) => Err("declared twice"),
+        if self.0.contains_key(name) {
+            return Err("declared twice");
         }
+        let place = self.0.len();
+        self.0.insert(name.to_string(), place);
+        Ok(())
     }
 
     fn place(&self, name: &str, missing: Bad) -> Result<usize, Bad> {

@@ -246,7 +246,7 @@ class Drawing:
         pool, count = self.draw.choice(self.pools), self.draw.randint(1, 3)
         yield from (f"spawn {pool} server({at + 1})" for at in range(count))
         for _ in range(count):
-            yield self.draw.choice(["pause", f"install {pool} flush"])
+            yield "pause" if self.draw.random() < 0.1 else f"install {pool} flush"
             yield "open s"
 
 

@@ -130,7 +130,7 @@ impl Stage {
 
 /// Lets other threads run for a while, so that they may fall asleep.
 fn pause() {
-    for _ in 0..2_000 {
+    for _ in 0..100 {
         std::thread::yield_now();
     }
 }

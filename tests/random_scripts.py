@@ -60,7 +60,19 @@ class Jobs:
         self.names = [f"j{at}" for at in range(draw.randint(2, 7))]
         self.deeds, self.counts = {}, {}
         for at in reversed(range(len(self.names))):
-            self.deeds[self.names[at]] = [self.deed(at) for _ in range(draw.randint(1, 4))]
+            self.deeds[self.names[at]] = [*self.marks(at), *(self.deed(at) for _ in range(draw.randint(1, 4)))]
+        # A job that others detach, so that faults are kept that end no other run.
+        self.names.append("fails")
+        self.deeds["fails"] = [Deed(0, NO_LIMIT, 1, "fault n", [])]
+
+    def marks(self, at):
+        """Deeds by which the order of the runs is seen, and what they were told."""
+        if self.draw.random() < 0.7:
+            yield Deed(0, NO_LIMIT, 1, f"note n+{100 * (at + 1)}", [])
+        if self.told and self.draw.random() < 0.4:
+            yield Deed(0, NO_LIMIT, 1, "note migrated", [])
+        if self.faults and self.draw.random() < 0.3:
+            yield Deed(0, NO_LIMIT, 1, f"spawn fails(n+{10 * (at + 1)})", ["fails(n)"])
 
     def lines(self):
         for name in self.names:
@@ -100,6 +112,8 @@ class Jobs:
             return f"join {one} with {draw.choice(plain)}", [one]
         if chance < 0.82:
             return f"join {one} with install {other}", [one, other]
+        if self.faults and draw.random() < 0.4:
+            one = f"fails({draw.choice(NUMBERS)})"
         return f"spawn {one}", [one]
 
     def plain(self, chance):
@@ -139,10 +153,11 @@ class Jobs:
         return self.counts[name, own]
 
     def pick(self, most):
-        """A job that leads to at most so many runs; None where none was found."""
-        for _ in range(20):
+        """A job that leads to at most so many runs, and mostly to several; None where none was found."""
+        least = self.draw.choice([1, 4, 12])
+        for turn in range(40):
             name, own = self.draw.choice(self.names[:3]), self.draw.choice([0, 1, 2, 3, 3, 4, 5, 6, 8])
-            if self.count(name, own) <= most:
+            if (least if turn < 20 else 1) <= self.count(name, own) <= most:
                 return f"{name}({own})"
         return None
 

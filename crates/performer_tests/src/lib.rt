@@ -1,14 +1,8 @@
-//! Tests of the performers of a pool of many workers: what their contracts cannot say of queues, latches and cells that
-//! lie behind locks. They have a crate of their own, since a crate with tests is proved twice.
+//! Tests of the performers that no script of calls can say: benches that no thread moves, a pool that has ended under
+//! them, and from whom a thief steals first. They have a crate of their own, since a crate with tests is proved twice.
 #![tactic(auto)]
 
 #[cfg(test)]
 mod errand;
 #[cfg(test)]
-mod pool;
-#[cfg(test)]
-mod victims;
-#[cfg(test)]
-mod waits;
-#[cfg(test)]
-mod workers;
+mod tests;

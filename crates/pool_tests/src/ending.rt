@@ -1,12 +1,10 @@
-//! Tests of a pool's end, which joins its threads or does not: under calls from other threads, and while its workers
-//! still run.
-use crate::errand::{Answer, Deed, Errand, Marks, Name, Trouble, Words, outcome, outcomes};
-use crate::tests::{WORKERS, pool_with};
-use crate::together::Together;
+//! The test of a pool's end under calls from other threads, at whatever moment it comes.
+use crate::errand::{Deed, Errand, Marks, Trouble, outcome, outcomes};
+use crate::tests::pool_of;
 use rayon_core::{PoolRef, Refusal};
 use std::alloc::Global;
 use std::process::Abort;
-use std::sync::{Arc, Barrier, Wait};
+use std::sync::{Arc, Wait};
 use std::test::Fail;
 use std::thread;
 use std::thread::{JoinHandle, Threads};
@@ -21,26 +19,23 @@ fn call_until_ended<R: Wait + Abort>(
     alloc: Global,
     pool: &PoolRef<Errand>,
     marks: &Arc<Marks>,
-    words: Words,
+    number: u64,
 ) -> u64 {
-    let says = |name| Errand::new(name, marks, Deed::End(Ok(words))).expect(rt, "room");
+    let says = |name| Errand::new(name, marks, Deed::End(Ok(number))).expect(rt, "room");
     let mut answered = 0_u64;
     for _ in 0..TURNS {
-        match outcome(pool.install(rt, alloc, says(Name::Caller))) {
-            Ok(answer) => assert_eq!(rt; answer, Answer::Said(words)),
+        match outcome(pool.install(rt, alloc, says(7))) {
+            Ok(answer) => assert_eq!(rt; answer, number),
             Err(trouble) => {
-                assert_eq!(rt; trouble, Trouble::Refused(Refusal::Ended, Name::Caller));
+                assert_eq!(rt; trouble, Trouble::Refused(Refusal::Ended, 7));
                 return answered;
             }
         }
         answered = answered.saturating_add(1);
-        match outcomes(pool.join(rt, alloc, says(Name::First), says(Name::Second))) {
-            Ok(answers) => {
-                assert_eq!(rt; answers, (Answer::Said(words), Answer::Said(words)));
-            }
+        match outcomes(pool.join(rt, alloc, says(8), says(9))) {
+            Ok(answers) => assert_eq!(rt; answers, (number, number)),
             Err(trouble) => {
-                let ended = Trouble::BothRefused(Refusal::Ended, Name::First, Name::Second);
-                assert_eq!(rt; trouble, ended);
+                assert_eq!(rt; trouble, Trouble::BothRefused(Refusal::Ended, 8, 9));
                 return answered;
             }
         }
@@ -55,12 +50,12 @@ fn caller<R: Threads + Wait + Abort + Copy + Send + 'static>(
     alloc: Global,
     pool: PoolRef<Errand>,
     marks: &Arc<Marks>,
-    words: Words,
+    number: u64,
 ) -> JoinHandle<u64> {
     let (theirs, marks) = (*rt, Arc::try_clone(marks).expect(rt, "room"));
     thread::Builder::new()
         .spawn(rt, move || {
-            call_until_ended(&theirs, alloc, &pool, &marks, words)
+            call_until_ended(&theirs, alloc, &pool, &marks, number)
         })
         .expect(rt, "a thread")
 }
@@ -86,114 +81,34 @@ fn end_in_a_storm<R: Threads + Wait + Abort + Copy + Send + 'static>(
     joins: bool,
 ) {
     let marks = Marks::new(alloc).expect(rt, "room");
-    let pool = pool_with(rt, alloc, workers, 9).expect(rt, "a pool");
-    let late = pool.pool_ref().expect(rt, "room");
-    let mine = pool.pool_ref().expect(rt, "room");
-    let red = caller(rt, alloc, mine, &marks, Words::Red);
-    let mine = pool.pool_ref().expect(rt, "room");
-    let green = caller(rt, alloc, mine, &marks, Words::Green);
-    let mine = pool.pool_ref().expect(rt, "room");
-    let blue = caller(rt, alloc, mine, &marks, Words::Blue);
+    let pool = pool_of(rt, alloc, workers);
+    let share = || pool.pool_ref().expect(rt, "room");
+    let late = share();
+    let red = caller(rt, alloc, share(), &marks, 1);
+    let green = caller(rt, alloc, share(), &marks, 2);
+    let blue = caller(rt, alloc, share(), &marks, 3);
     wait_for_runs(rt, &marks, runs);
     if joins {
         pool.end_and_join(rt);
     } else {
         pool.end(rt);
     }
-    let mine = call_until_ended(rt, alloc, &late, &marks, Words::One);
+    let mine = call_until_ended(rt, alloc, &late, &marks, 4);
     assert!(rt; !joins || mine == 0, "{workers} workers, {runs} runs");
     let both = red.join(rt).saturating_add(green.join(rt));
     let answered = both.saturating_add(blue.join(rt)).saturating_add(mine);
-    assert_eq!(rt; call_until_ended(rt, alloc, &late, &marks, Words::Two), 0);
+    assert_eq!(rt; call_until_ended(rt, alloc, &late, &marks, 5), 0);
     assert_eq!(rt; marks.runs(), answered, "{workers} workers, {runs} runs");
 }
 
 #[test]
 fn pools_end_in_a_storm_of_calls(rt: HostRuntime) -> Result<(), Fail> {
     let alloc = rt.alloc();
-    for workers in WORKERS {
+    for workers in [1, 2, 4] {
         for runs in 0..20 {
             end_in_a_storm(&rt, alloc, workers, runs, true);
             end_in_a_storm(&rt, alloc, workers, runs, false);
         }
-    }
-    Ok(())
-}
-
-// Starts a thread that installs a job.
-fn installer<R: Threads + Wait + Abort + Copy + Send + 'static>(
-    rt: &R,
-    alloc: Global,
-    pool: PoolRef<Errand>,
-    job: Errand,
-) -> JoinHandle<Result<Answer, Trouble>> {
-    let theirs = *rt;
-    thread::Builder::new()
-        .spawn(rt, move || outcome(pool.install(&theirs, alloc, job)))
-        .expect(rt, "a thread")
-}
-
-// An end that joins waits for the workers' threads: as many jobs as there are workers, which meet and then run on at
-// the end, have left when it comes back.
-#[test]
-fn end_and_join_waits_for_the_workers(rt: HostRuntime) -> Result<(), Fail> {
-    let alloc = rt.alloc();
-    for workers in WORKERS {
-        let marks = Marks::new(alloc).expect(&rt, "room");
-        let pool = pool_with(&rt, alloc, workers, 9).expect(&rt, "a pool");
-        let crowd = pool.current_num_threads();
-        let gate = Arc::new(alloc, Barrier::new(crowd)).expect(&rt, "room");
-        let mut calls = Vec::new(alloc);
-        let mut called = 0_u64;
-        for _ in 0..crowd {
-            let share = Arc::try_clone(&gate).expect(&rt, "room");
-            let deed = Deed::Together(Together::MeetAndLinger(share));
-            let job = Errand::new(Name::Caller, &marks, deed).expect(&rt, "room");
-            let pool_ref = pool.pool_ref().expect(&rt, "room");
-            let call = installer(&rt, alloc, pool_ref, job);
-            calls.push(call).expect(&rt, "room");
-            called = called.saturating_add(1);
-        }
-        wait_for_runs(&rt, &marks, called);
-        marks.release();
-        pool.end_and_join(&rt);
-        assert_eq!(rt; marks.left(), called, "a worker was still running");
-        for call in calls {
-            assert_eq!(rt; call.join(&rt), Ok(Answer::Said(Words::Gone)));
-        }
-    }
-    Ok(())
-}
-
-// An end that does not join waits for no job: it comes back while one runs that lingers until it is released after the
-// end. As long as its call waits, others are answered where there is a worker for them, and then they are refused.
-#[test]
-fn end_waits_for_no_job(rt: HostRuntime) -> Result<(), Fail> {
-    let alloc = rt.alloc();
-    for workers in WORKERS {
-        let marks = Marks::new(alloc).expect(&rt, "room");
-        let says = |words| Errand::new(Name::Caller, &marks, Deed::End(Ok(words)));
-        let pool = pool_with(&rt, alloc, workers, 9).expect(&rt, "a pool");
-        let (mine, other) = (pool.pool_ref(), pool.pool_ref());
-        let (mine, other) = (mine.expect(&rt, "room"), other.expect(&rt, "room"));
-        let gate = Arc::new(alloc, Barrier::new(1)).expect(&rt, "room");
-        let deed = Deed::Together(Together::MeetAndLinger(gate));
-        let job = Errand::new(Name::First, &marks, deed).expect(&rt, "room");
-        let call = installer(&rt, alloc, mine, job);
-        wait_for_runs(&rt, &marks, 1);
-        pool.end(&rt);
-        if workers > 1 {
-            let job = says(Words::Awake).expect(&rt, "room");
-            let answer = outcome(other.install(&rt, alloc, job));
-            assert_eq!(rt; answer, Ok(Answer::Said(Words::Awake)));
-        }
-        let runs = marks.runs();
-        marks.release();
-        assert_eq!(rt; call.join(&rt), Ok(Answer::Said(Words::Gone)));
-        let job = says(Words::Two).expect(&rt, "room");
-        let late = outcome(other.install(&rt, alloc, job));
-        assert_eq!(rt; late, Err(Trouble::Refused(Refusal::Ended, Name::Caller)));
-        assert_eq!(rt; marks.runs(), runs, "a refused job has run");
     }
     Ok(())
 }

@@ -1,21 +1,12 @@
-//! Tests of a running pool, by jobs whose tags, outputs and faults are words and not numbers alone.
+//! Tests of a running pool that no script of calls can say: tasks that a job takes and pushes by hand, a pool's number,
+//! a pool that is lent, a pool that ends under calls at any moment, and a latch between two threads.
 #![tactic(auto)]
 
-#[cfg(test)]
-mod deeds;
 #[cfg(test)]
 mod ending;
 #[cfg(test)]
 mod errand;
 #[cfg(test)]
-mod lent;
-#[cfg(test)]
-mod many_workers;
+mod hands;
 #[cfg(test)]
 mod tests;
-#[cfg(test)]
-mod together;
-#[cfg(test)]
-mod told;
-#[cfg(test)]
-mod workers;

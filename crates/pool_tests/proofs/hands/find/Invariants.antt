@@ -1,5 +1,5 @@
 use Rattle.std.proofs.Common.{◌≡◌}
-use Rattle.pool_tests.proofs.together.find.Given as goal
+use Rattle.pool_tests.proofs.hands.find.Given as goal
 
 abbrev pub invariant-loop : goal.invariant-loop
 invariant-loop g l =

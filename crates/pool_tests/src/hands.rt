@@ -62,7 +62,7 @@ pub fn run<R: Waits<Errand>>(
 
 /// Lets other threads run for a while, so that they may fall asleep. No test's outcome depends on it.
 pub fn pause() {
-    for _ in 0..2_000 {
+    for _ in 0..1_000 {
         thread::yield_now();
     }
 }

@@ -120,7 +120,7 @@ fn own_deque(rt: HostRuntime) -> Result<(), Fail> {
 fn a_pushed_task_wakes_a_worker(rt: HostRuntime) -> Result<(), Fail> {
     let alloc = rt.alloc();
     let pool = pool_of(&rt, alloc, 2);
-    for _ in 0..100 {
+    for _ in 0..5 {
         pause();
         let (first, second) = gate_of_two(&rt, alloc);
         let both = installed(&rt, alloc, &pool, Deed::JoinMeet(first, second));

@@ -1,0 +1,16 @@
+use Rattle.rayon_machine_laws.proofs.FeederEvents.{always_feeders}
+use Rattle.rayon_machine_laws.proofs.Held.{always_holds}
+use Rattle.rayon_machine_step_laws.proofs.Steps.{allows_calls, allows_choices, allows_ends, allows_go}
+use Rattle.rayon_machine_step_laws.proofs.step_laws.law_enabled.Goals as goal
+
+pub returns-clause-goes : goal.returns-clause-goes
+returns-clause-goes c h es w r = allows_go w (always_holds h es w r) (always_feeders h es w r)
+
+pub returns-clause-ends : goal.returns-clause-ends
+returns-clause-ends c h es w r = allows_ends w
+
+pub returns-clause-choices : goal.returns-clause-choices
+returns-clause-choices c h es w r = allows_choices w
+
+pub returns-clause-calls : goal.returns-clause-calls
+returns-clause-calls c h es w r = allows_calls w

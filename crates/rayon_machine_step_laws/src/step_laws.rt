@@ -1,0 +1,17 @@
+//! The law of steps, the contract of a call without arguments: it holds in every world of every run.
+ghost use Rattle.rayon_machine_places.specs.Runs.{Always};
+ghost use Rattle.rayon_machine_step_laws.specs.Enabled.{AllowsCalls, AllowsChoices, AllowsEnds, AllowsGo};
+
+/// Which events each world of each run allows, so that no law is met by a machine that stands still.
+/// A party can make its next act but in three cases: it is to take a sleep lock that is held, or its own while it is
+/// blocked; it is to pass a lock latch that is not set; or it is to open or fill a number of a book, or to redeem a token
+/// of a FIFO list, and another party holds that book or list (`goes`). A run can end either way, and nothing else ends
+/// (`ends`). A search can begin at each worker of the pool, and a steal can miss where it takes the newest of one task
+/// (`choices`). A free party can make each call (`calls`).
+/// No progress and no fairness is claimed: a party that can take a step need not take it.
+pub fn law_enabled()
+    ensures goes { Always AllowsGo }
+    ensures ends { Always AllowsEnds }
+    ensures choices { Always AllowsChoices }
+    ensures calls { Always AllowsCalls }
+{}

@@ -29,7 +29,7 @@ use Rattle.rayon_machine_laws.proofs.Ties.{job_at}
 use Rattle.rayon_machine_step_laws.specs.Enabled.{AllowsCalls, AllowsChoices, AllowsEnds, AllowsGo, holds_this, is_open_to, is_run, is_set_letter, is_worker, steal_misses}
 
 -- an answer under a test
-some_if : {A : Type 0} (b : Bool) (v : A) → is_some (if b then Some v else None) ≡ b
+pub some_if : {A : Type 0} (b : Bool) (v : A) → is_some (if b then Some v else None) ≡ b
 some_if true v = refl
 some_if false v = refl
 
@@ -248,7 +248,10 @@ enter_fifo_where : (w : World) (q : Party) (z : Option Scope) → is_some (after
 enter_fifo_where w q None = never (is_free (w.stack q).top)
 enter_fifo_where w (Worker r i) (Some z) = by (r == z.pool)
   where
-    by : (b : Bool) → is_some (if b then (if is_free (w.stack (Worker r i)).top && holds z.call (w.stack (Worker r i)) then Some (after_feed w (OfScope z.call z.owner) z.pool i (w.stack (Worker r i))) else None) else after_enter w (Worker r i) (w.stack (Worker r i)) (Some z)) ≡ (is_free (w.stack (Worker r i)).top && holds z.call (w.stack (Worker r i)))
+    own : Option World
+    own = if is_free (w.stack (Worker r i)).top && holds z.call (w.stack (Worker r i)) then Some (after_feed w (OfScope z.call z.owner) z.pool i (w.stack (Worker r i))) else None
+
+    by : (b : Bool) → is_some (if b then own else after_enter w (Worker r i) (w.stack (Worker r i)) (Some z)) ≡ (is_free (w.stack (Worker r i)).top && holds z.call (w.stack (Worker r i)))
     by true = some_if (is_free (w.stack (Worker r i)).top && holds z.call (w.stack (Worker r i))) _
     by false = enter_where w (Worker r i) (Some z)
 enter_fifo_where w (Caller c) (Some z) = enter_where w (Caller c) (Some z)

@@ -1,25 +1,37 @@
--- which events a world allows: where a party can make its next act, and where a run can end, a victim be chosen, a steal
--- miss, and a call begin
-use Rattle.std.specs.Prelude.{ℕ, Bool, true, false, not, ◌&&◌, nat_lt, Option, Some, None, is_some, slice_get, ◌≡◌}
+-- which events a world allows: where a party has an act, can make it, and can be refused it; and where a run can end, a
+-- victim be chosen, a steal miss, and a call begin
+use Rattle.std.specs.Prelude.{ℕ, Bool, true, false, not, ◌&&◌, nat_lt, Option, Some, None, is_some, slice_get, ◌≡◌, ◌<◌}
 use Rattle.rayon_machine_places.specs.declared.place.Party.{Party}
 use Rattle.rayon_machine_places.specs.declared.place.Party.TheVariants.{Worker, Caller}
 use Rattle.rayon_machine_places.specs.declared.place.Ending.{Ending}
 use Rattle.rayon_machine_places.specs.declared.place.Place.{Place}
-use Rattle.rayon_machine_places.specs.declared.place.Place.TheVariants.{Run}
+use Rattle.rayon_machine_places.specs.declared.place.Place.TheVariants.{Run, Stopped}
 use Rattle.rayon_machine_places.specs.declared.act.Act.{Act}
-use Rattle.rayon_machine_places.specs.declared.act.Act.TheVariants.{Lock, LockWait, Slot, SlotAll, StoreBody as PutBody, StoreSlot as PutSlot, FifoOut, Idle}
+use Rattle.rayon_machine_places.specs.declared.act.Act.TheVariants.{Lock, LockWait, Slot, SlotAll, StoreBody as PutBody, StoreSlot as PutSlot, FifoIn, FifoOut, Grow, PushOwn, PushInj, PushCast, Idle}
 use Rattle.rayon_machine_places.specs.declared.event.Event.{Event}
-use Rattle.rayon_machine_places.specs.declared.event.Event.TheVariants.{Go, From, Miss, End, Spawn, Fifo, Cast, Install, Join, Scope as OpenScope, IntoSpawn, IntoFifo, IntoCast, Broadcast, Yield, YieldLocal, EndPool}
+use Rattle.rayon_machine_places.specs.declared.event.Event.TheVariants.{Go, From, Refuse, Miss, End, Spawn, Fifo, Cast, Install, Join, Scope as OpenScope, IntoSpawn, IntoFifo, IntoCast, Broadcast, Yield, YieldLocal, EndPool}
 use Rattle.rayon_machine_places.specs.declared.state.Letter.{Letter}
 use Rattle.rayon_machine_places.specs.declared.state.Letter.TheVariants.{Set as IsSet}
 use Rattle.rayon_machine_places.specs.declared.state.Scope.{Scope}
-use Rattle.rayon_machine_places.specs.Places.{own_pool, act_of, count_call, is_pick, victim_of, is_free}
-use Rattle.rayon_machine_places.specs.World.{World, is_own, is_free_lock, is_open}
+use Rattle.rayon_machine_places.specs.Places.{own_pool, act_of, count_call, is_pick, victim_of, is_rest, is_free}
+use Rattle.rayon_machine_places.specs.World.{World, is_own, is_free_lock, is_held_by, is_open}
 use Rattle.rayon_machine_places.specs.Steps.{can_miss, holds, is_pool, step}
 
 -- a world allows an event: there is a world after it
 abbrev pub is_enabled : World → Event → Bool
 is_enabled w e = is_some (step w e)
+
+-- an act is one of some party
+abbrev pub has_act : Act → Bool
+has_act Idle = false
+has_act _ = true
+
+-- a party has an act at each place that is none of rest. Where it rests it runs a job, is free or has stopped; and no outside
+-- caller of the world stops
+pub record AllowsActs (w : World) : Type 0 where
+  pub acts : (q : Party) → is_rest (w.stack q).top ≡ false → has_act (act_of q (w.stack q).top) ≡ true
+  pub rests : (q : Party) → is_rest (w.stack q).top ≡ true → is_free (w.stack q).top ≡ false → (w.stack q).top ≡ Stopped
+  pub callers : (c : ℕ) → c < w.shape.callers → (w.stack (Caller c)).top ≡ Stopped → ⊥
 
 -- a latch is set
 abbrev pub is_set_letter : Letter → Bool
@@ -43,6 +55,28 @@ is_open_to w q _ = true
 -- a party can make its next act exactly where it does not have to wait for it
 abbrev pub AllowsGo : World → Type 0
 AllowsGo w = (q : Party) → is_enabled w (Go q) ≡ is_open_to w q (act_of q (w.stack q).top)
+
+-- who holds a sleep lock, a book or a FIFO list, for which others may have to wait, can make its own next act
+pub record AllowsHolders (w : World) : Type 0 where
+  pub locks : (q : Party) (p i : ℕ) → is_held_by q (w.seat p i).lock ≡ true → is_enabled w (Go q) ≡ true
+  pub books : (q : Party) (c : ℕ) → is_held_by q (w.call c).writer ≡ true → is_enabled w (Go q) ≡ true
+  pub lists : (q : Party) (p i : ℕ) (b : Option ℕ) → is_held_by q ((w.seat p i).feeder b) ≡ true → is_enabled w (Go q) ≡ true
+
+-- an act can be refused for want of room: a call's cell is made, a job or a token is pushed, the pieces of a broadcast are,
+-- a job is added to a FIFO list, or numbers of a book are opened
+abbrev pub can_refuse : Act → Bool
+can_refuse (Grow c) = true
+can_refuse (PushOwn t b) = true
+can_refuse (PushInj p t b) = true
+can_refuse (PushCast c) = true
+can_refuse (FifoIn t b) = true
+can_refuse (Slot c t) = true
+can_refuse (SlotAll c) = true
+can_refuse _ = false
+
+-- a party's next act can be refused exactly where it is such an act
+abbrev pub AllowsRefusals : World → Type 0
+AllowsRefusals w = (q : Party) → is_enabled w (Refuse q) ≡ can_refuse (act_of q (w.stack q).top)
 
 -- a place is a run
 abbrev pub is_run : Place → Bool

@@ -1,16 +1,23 @@
 //! The law of steps, the contract of a call without arguments: it holds in every world of every run.
 ghost use Rattle.rayon_machine_places.specs.Runs.{Always};
-ghost use Rattle.rayon_machine_step_laws.specs.Enabled.{AllowsCalls, AllowsChoices, AllowsEnds, AllowsGo};
+ghost use Rattle.rayon_machine_step_laws.specs.Enabled.{AllowsActs, AllowsCalls, AllowsChoices, AllowsEnds};
+ghost use Rattle.rayon_machine_step_laws.specs.Enabled.{AllowsGo, AllowsHolders, AllowsRefusals};
 
 /// Which events each world of each run allows, so that no law is met by a machine that stands still.
+/// Each party runs a job, is free, has stopped, or stands at a place with an act; and no outside caller stops (`acts`).
 /// A party can make its next act but in three cases: it is to take a sleep lock that is held, or its own while it is
-/// blocked; it is to pass a lock latch that is not set; or it is to open or fill a number of a book, or to redeem a token
-/// of a FIFO list, and another party holds that book or list (`goes`). A run can end either way, and nothing else ends
-/// (`ends`). A search can begin at each worker of the pool, and a steal can miss where it takes the newest of one task
-/// (`choices`). A free party can make each call (`calls`).
+/// blocked; it is to pass a lock latch that is not set; or it is to open or fill a number of a book, or to redeem a
+/// token of a FIFO list, and another party holds that book or list (`goes`). Who holds such a lock, book or list can
+/// make its own next act, so nobody waits for one who waits for another's (`holders`).
+/// An act can be refused exactly where it is one for which room may be wanting (`refusals`). A run can end either way,
+/// and nothing else ends (`ends`). A search can begin at each worker of the pool, and a steal can miss exactly where
+/// the newest is taken first and the victim has one task (`choices`). A free party can make each call (`calls`).
 /// No progress and no fairness is claimed: a party that can take a step need not take it.
 pub fn law_enabled()
+    ensures acts { Always AllowsActs }
     ensures goes { Always AllowsGo }
+    ensures holders { Always AllowsHolders }
+    ensures refusals { Always AllowsRefusals }
     ensures ends { Always AllowsEnds }
     ensures choices { Always AllowsChoices }
     ensures calls { Always AllowsCalls }

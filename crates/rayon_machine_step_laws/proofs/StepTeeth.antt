@@ -1,5 +1,5 @@
--- wrong machines of steps: replays, computed by the kernel, in which a changed step breaks a clause of law_enabled, and that
--- the machine as it is meets the clause there
+-- wrong machines of steps: replays, computed by the kernel, in which a changed step breaks a clause of law_enabled or of
+-- law_yield, and that the machine as it is meets the clause there
 use Rattle.std.proofs.Common.{refl}
 use Rattle.std.specs.Prelude.{ℕ, zero, suc, Bool, true, false, ◌==◌, nat_lt, if◌then◌else◌, Option, Some, None, is_some, List, [], ◌∷◌, ◌++◌, ◌≡◌, IfSome}
 use Rattle.rayon_machine_places.specs.declared.shape.Order.TheVariants.{NewestFirst}
@@ -7,16 +7,19 @@ use Rattle.rayon_machine_places.specs.declared.place.Party.{Party}
 use Rattle.rayon_machine_places.specs.declared.place.Party.TheVariants.{Worker, Caller}
 use Rattle.rayon_machine_places.specs.declared.place.Ending.TheVariants.{Fine, Fault}
 use Rattle.rayon_machine_places.specs.declared.place.Target.TheVariants.{Termination}
+use Rattle.rayon_machine_places.specs.declared.place.Taken.TheVariants.{Plain}
 use Rattle.rayon_machine_places.specs.declared.place.Place.{Place}
-use Rattle.rayon_machine_places.specs.declared.place.Place.TheVariants.{ProbeWorking, TellNews, AtOnce, Free, Stopped}
+use Rattle.rayon_machine_places.specs.declared.place.Place.TheVariants.{ProbeWorking, YieldPop, YieldTakeCast, YieldPick, YieldPopInjected, LocalTakeCast, BeginTask, TellNews, AtOnce, Free, Stopped}
 use Rattle.rayon_machine_places.specs.declared.act.Act.{Act}
 use Rattle.rayon_machine_places.specs.declared.act.Act.TheVariants.{Load, LookOwn, PushInj, News, Take}
 use Rattle.rayon_machine_places.specs.declared.event.Event.{Event}
-use Rattle.rayon_machine_places.specs.declared.event.Event.TheVariants.{Go, From, Refuse, Miss, End, Spawn, Fifo, Install, Scope as OpenScope, IntoSpawn, EndPool}
+use Rattle.rayon_machine_places.specs.declared.event.Event.TheVariants.{Go, From, Refuse, Miss, End, Spawn, Fifo, Install, Scope as OpenScope, IntoSpawn, Yield, YieldLocal, EndPool}
 use Rattle.rayon_machine_places.specs.Places.{act_of, fresh, is_free, is_rest, victim_of}
-use Rattle.rayon_machine_places.specs.World.{World, is_held_by}
+use Rattle.rayon_machine_places.specs.World.{Stack, World, is_held_by}
 use Rattle.rayon_machine_places.specs.Steps.{back, is_pool, step, with_stack}
 use Rattle.rayon_machine_places.specs.Runs.{start}
+use Rattle.rayon_machine_sleep_laws.specs.Searched.{Spot, OwnDeque, OwnCast, Injector, Look, and_then, whole_search}
+use Rattle.rayon_machine_step_laws.specs.Yields.{local_search, yield_look_of}
 use Rattle.rayon_machine_step_laws.specs.Enabled.{can_refuse, has_act, is_enabled, is_open_to, is_run, steal_misses}
 
 -- a machine: its step. A run of it
@@ -262,3 +265,72 @@ pool_ends_again = (refl, refl)
 
 pool_ends_once : IfSome (run_by step (pool_of 1 false) (EndPool c 0 ∷ [])) (λ w. ((w.pool 0).held ≡ false) × (is_enabled w (EndPool d 0) ≡ false))
 pool_ends_once = (refl, refl)
+
+-- a machine whose yield goes elsewhere from some places
+abbrev restacked : Party → (Stack → Stack) → Option World → Option World
+restacked q g None = None
+restacked q g (Some v) = Some (with_stack v q (g (v.stack q)))
+
+abbrev yielding : (Place → Bool) → (Stack → Stack) → Machine
+yielding f g w (Go q) = if f (top w q) then restacked q g (step w (Go q)) else step w (Go q)
+yielding f g w e = step w e
+
+-- the looks of worker 0 in a machine's yield
+abbrev looks_by : Machine → Option World → List Event → List Look
+looks_by m None es = []
+looks_by m (Some w) [] = []
+looks_by m (Some w) (e ∷ es) = and_then (yield_look_of 0 0 w e) (looks_by m (m w e) es)
+
+-- the worker has looked so since the start, and stands here
+abbrev Looked : Machine → ℕ → List Event → List Look → Place → Type 0
+Looked m n es l x = (looks_by m (pool_of n true) es ≡ l) × IfSome (run_by m (pool_of n true) es) (λ w. top w a ≡ x)
+
+abbrev nothing_in : Spot → Look
+nothing_in s = record { spot = s; found = false }
+
+-- a yield looks at its own two lists and goes back, beside the injector
+abbrev takes_cast : Place → Bool
+takes_cast YieldTakeCast = true
+takes_cast x = false
+
+yield_skips_injector : Looked (yielding takes_cast (λ s. back s.below)) 1 (Yield a ∷ times_go a 2) (nothing_in OwnDeque ∷ nothing_in OwnCast ∷ []) Free
+yield_skips_injector = (refl, refl)
+
+yield_looks_at_injector : Looked step 1 (Yield a ∷ times_go a 3) (whole_search 1 0 0) Free
+yield_looks_at_injector = (refl, refl)
+
+-- beside another worker
+abbrev picks : Place → Bool
+picks YieldPick = true
+picks x = false
+
+yield_skips_the_other : Looked (yielding picks (λ s. record { top = YieldPopInjected; below = s.below })) 2 (Yield a ∷ times_go a 4) (nothing_in OwnDeque ∷ nothing_in OwnCast ∷ nothing_in Injector ∷ []) Free
+yield_skips_the_other = (refl, refl)
+
+yield_looks_at_the_other : Looked step 2 (Yield a ∷ times_go a 5) (whole_search 2 0 1) Free
+yield_looks_at_the_other = (refl, refl)
+
+-- a yield that finds a task looks on
+abbrev pops : Place → Bool
+pops YieldPop = true
+pops x = false
+
+abbrev task_there : List Event
+task_there = Spawn a 0 ∷ times_go a 4 ++ Yield a ∷ Go a ∷ []
+
+yield_leaves_its_task : Looked (yielding pops (λ s. record { top = YieldTakeCast; below = s.below })) 1 task_there (record { spot = OwnDeque; found = true } ∷ []) YieldTakeCast
+yield_leaves_its_task = (refl, refl)
+
+yield_begins_its_task : Looked step 1 task_there (record { spot = OwnDeque; found = true } ∷ []) (BeginTask (Plain 0))
+yield_begins_its_task = (refl, refl)
+
+-- a local yield looks at the injector too
+abbrev takes_local : Place → Bool
+takes_local LocalTakeCast = true
+takes_local x = false
+
+local_looks_further : Looked (yielding takes_local (λ s. record { top = YieldPopInjected; below = s.top ∷ s.below })) 1 (YieldLocal a ∷ times_go a 3) (whole_search 1 0 0) Free
+local_looks_further = (refl, refl)
+
+local_looks_twice : Looked step 1 (YieldLocal a ∷ times_go a 2) (local_search 0) Free
+local_looks_twice = (refl, refl)

@@ -1,4 +1,5 @@
 pub mod Enabled
+pub mod Yields
 pub use Rattle.rayon_machine_places.specs.Places
 pub use Rattle.rayon_machine_places.specs.World
 pub use Rattle.rayon_machine_places.specs.Steps
@@ -6,3 +7,5 @@ pub use Rattle.rayon_machine_places.specs.Runs
 pub use Rattle.rayon_machine_places.specs.Readers
 pub use Rattle.rayon_machine_places.specs.Groups
 pub use Rattle.rayon_machine_places.specs.Starts
+pub use Rattle.rayon_machine_laws.specs.Attended
+pub use Rattle.rayon_machine_sleep_laws.specs.Searched

@@ -1,7 +1,8 @@
-//! The law of steps, the contract of a call without arguments: it holds in every world of every run.
+//! The laws of steps, each the contract of a call without arguments: it holds in every world of every run.
 ghost use Rattle.rayon_machine_places.specs.Runs.{Always};
 ghost use Rattle.rayon_machine_step_laws.specs.Enabled.{AllowsActs, AllowsCalls, AllowsChoices, AllowsEnds};
 ghost use Rattle.rayon_machine_step_laws.specs.Enabled.{AllowsGo, AllowsHolders, AllowsRefusals};
+ghost use Rattle.rayon_machine_step_laws.specs.Yields.{LocalLaw, YieldLaw};
 
 /// Which events each world of each run allows, so that no law is met by a machine that stands still.
 /// Each party runs a job, is free, has stopped, or stands at a place with an act; and no outside caller stops (`acts`).
@@ -21,4 +22,15 @@ pub fn law_enabled()
     ensures ends { Always AllowsEnds }
     ensures choices { Always AllowsChoices }
     ensures calls { Always AllowsCalls }
+{}
+
+/// A yield of a worker is one search in order: its own deque, its own broadcast list, each other worker's deque from
+/// some other worker upward and round, the injector (`search`); one that is local looks at the first two (`local`). In
+/// each world from its event on it goes on and each of its looks has found nothing; or its last look has found a task,
+/// which the worker begins next, and each look before found nothing; or it has made the whole search, has found
+/// nothing, and the worker is where it was. Each look is of the list as it was at its own step; a steal that misses the
+/// one task of a deque found nothing too. It does not say that a yield comes to its end.
+pub fn law_yield()
+    ensures search { YieldLaw }
+    ensures local { LocalLaw }
 {}

@@ -16,7 +16,7 @@ use Rattle.rayon_machine_places.specs.declared.place.Then.TheVariants.{BeginFoun
 use Rattle.rayon_machine_places.specs.declared.place.Feeding.{Feeding}
 use Rattle.rayon_machine_places.specs.declared.place.Taken.TheVariants.{Plain, Token}
 use Rattle.rayon_machine_places.specs.declared.place.Place.{Place}
-use Rattle.rayon_machine_places.specs.declared.place.Place.TheVariants.{ProbeWorking, PopWorking, TakeCastWorking, PopIdle, TakeCastIdle, StealFrom, PopInjected, RelockOwn, JoinPop, JoinTakeCast, YieldPop, YieldTakeCast, YieldSteal, YieldPopInjected, LocalPop, LocalTakeCast, Run, PushJob, AddToFifo, PushForAll, DealPieces, BeginHere, SetLatch, UnlockSettled, Free, Stopped, PushToken, BeginTask, TakeFromFifo}
+use Rattle.rayon_machine_places.specs.declared.place.Place.TheVariants.{ProbeWorking, PopWorking, TakeCastWorking, PopIdle, TakeCastIdle, StealFrom, PopInjected, RelockOwn, JoinPop, JoinTakeCast, YieldPop, YieldTakeCast, YieldSteal, YieldPopInjected, LocalPop, LocalTakeCast, Run, PushJob, AddToFifo, PushForAll, DealPieces, BeginHere, SetLatch, UnlockSettled, Free, Stopped, PushToken, BeginTask, TakeFromFifo, BecomeInactive, ProbeIdle, PickVictim, AnnounceSelf, GetSleepy, LockOwn, FallAsleep, LoadCounters, AddSleeping, LookAtCast, LookAtInjector, BlockSelf, UndoSleeping, WakeUp, UnlockOwn}
 use Rattle.rayon_machine_places.specs.declared.place.Move.{Move}
 use Rattle.rayon_machine_places.specs.declared.place.Move.TheVariants.{Stay, Enter, StartRun, Back, HandBack, Discard, HandIn, Mark, HandAllBack}
 use Rattle.rayon_machine_places.specs.declared.act.Act.{Act}
@@ -186,14 +186,52 @@ pub set_busy : (h : PoolShape) (q : Party) (s : Settling) (e : Seen) → Tops (�
 set_busy h q s Yes = refl
 set_busy h q s _ = settled_busy h q s
 
+every : (R : Place → Type 0) (g : Move) → ((y : Place) → R y) → Tops R g
+every R (Stay y) a = a y
+every R (HandIn y token) a = a y
+every R (Mark y b9 m9) a = a y
+every R (Enter x y) a = a y
+every R (StartRun x n) a = a (Run n Direct)
+every R Back a = tt
+every R (HandBack n) a = tt
+every R (Discard n) a = tt
+every R (HandAllBack b9) a = tt
+
 -- only a busy wait's look leads a worker to where its deque is known to be empty
-emptied_on : (h : Shape) (g : PoolShape) (q : Party) (c : Counts) (m : Part) (x : Place) → looks_first x ≡ false → IfSome (effect (act_of q x) h q c m) (λ r. Tops (λ y. is_emptied y ≡ true → is_emptied x ≡ true) (next_of g q x (r.0)))
-emptied_on h g q c m (PopWorking k) z = cc
-emptied_on h g (Worker a b) c m (ProbeWorking k) z = search (rules, arith)
-emptied_on h g q c m (SetLatch s) z = if_some_all {A = Seen × Part} (λ r. Tops (λ y. is_emptied y ≡ true → false ≡ true) (next_of g q (SetLatch s) (r.0))) (λ r. tops_map (λ y. is_emptied y ≡ false) (λ y. is_emptied y ≡ true → false ≡ true) (λ y e f. cc) (next_of g q (SetLatch s) (r.0)) (set_busy g q s (r.0))) (effect (act_of q (SetLatch s)) h q c m)
-emptied_on h g q c m (UnlockSettled s) z = if_some_all {A = Seen × Part} (λ r. Tops (λ y. is_emptied y ≡ true → false ≡ true) (next_of g q (UnlockSettled s) (r.0))) (λ r. tops_map (λ y. is_emptied y ≡ false) (λ y. is_emptied y ≡ true → false ≡ true) (λ y e f. cc) (after_set g q s s.latch) (settled_busy g q s)) (effect (act_of q (UnlockSettled s)) h q c m)
-emptied_on h g (Worker a b) c m _ z = search (rules, arith)
-emptied_on h g (Caller n) c m _ z = search (rules, arith)
+busy_on : (h : Shape) (g : PoolShape) (i j : ℕ) (c : Counts) (m : Part) (x : Place) → looks_first x ≡ false → is_emptied x ≡ false → IfSome (effect (act_of (Worker i j) x) h (Worker i j) c m) (λ r. Tops (λ y. is_emptied y ≡ false) (next_of g (Worker i j) x (r.0)))
+busy_on h g i j c m (PopWorking k) z n = cc
+busy_on h g i j c m (TakeCastWorking k) z n = cc
+busy_on h g i j c m (BecomeInactive k) z n = cc
+busy_on h g i j c m (ProbeIdle k) z n = cc
+busy_on h g i j c m (PopIdle k) z n = cc
+busy_on h g i j c m (TakeCastIdle k) z n = cc
+busy_on h g i j c m (PickVictim k) z n = cc
+busy_on h g i j c m (StealFrom k v) z n = cc
+busy_on h g i j c m (PopInjected k) z n = cc
+busy_on h g i j c m (AnnounceSelf k) z n = cc
+busy_on h g i j c m (GetSleepy k) z n = cc
+busy_on h g i j c m (LockOwn k) z n = cc
+busy_on h g i j c m (FallAsleep k) z n = cc
+busy_on h g i j c m (LoadCounters k) z n = cc
+busy_on h g i j c m (AddSleeping k) z n = cc
+busy_on h g i j c m (LookAtCast k) z n = cc
+busy_on h g i j c m (LookAtInjector k) z n = cc
+busy_on h g i j c m (BlockSelf k) z n = cc
+busy_on h g i j c m (RelockOwn k) z n = cc
+busy_on h g i j c m (UndoSleeping k) z n = cc
+busy_on h g i j c m (WakeUp k) z n = cc
+busy_on h g i j c m (UnlockOwn k) z n = cc
+busy_on h g i j c m (ProbeWorking k) z n = search (rules, arith)
+busy_on h g i j c m (SetLatch s) z n = if_some_all {A = Seen × Part} (λ r. Tops (λ y. is_emptied y ≡ false) (next_of g (Worker i j) (SetLatch s) (r.0))) (λ r. set_busy g (Worker i j) s (r.0)) (effect (act_of (Worker i j) (SetLatch s)) h (Worker i j) c m)
+busy_on h g i j c m (UnlockSettled s) z n = if_some_all {A = Seen × Part} (λ r. Tops (λ y. is_emptied y ≡ false) (next_of g (Worker i j) (UnlockSettled s) (r.0))) (λ r. settled_busy g (Worker i j) s) (effect (act_of (Worker i j) (UnlockSettled s)) h (Worker i j) c m)
+busy_on h g i j c m _ z n = search (rules, arith)
+
+emptied_on : (h : Shape) (g : PoolShape) (i j : ℕ) (c : Counts) (m : Part) (x : Place) → looks_first x ≡ false → IfSome (effect (act_of (Worker i j) x) h (Worker i j) c m) (λ r. Tops (λ y. is_emptied y ≡ true → is_emptied x ≡ true) (next_of g (Worker i j) x (r.0)))
+emptied_on h g i j c m x z = elim (either (is_emptied x)) [
+  | inl e ↦ if_some_all {A = Seen × Part} (λ r. Tops (λ y. is_emptied y ≡ true → is_emptied x ≡ true) (next_of g (Worker i j) x (r.0))) (λ r. every (λ y. is_emptied y ≡ true → is_emptied x ≡ true) (next_of g (Worker i j) x (r.0)) (λ y f. e)) (effect (act_of (Worker i j) x) h (Worker i j) c m)
+  | inr e ↦ if_some_map {A = Seen × Part} (λ r. Tops (λ y. is_emptied y ≡ false) (next_of g (Worker i j) x (r.0))) (λ r. Tops (λ y. is_emptied y ≡ true → is_emptied x ≡ true) (next_of g (Worker i j) x (r.0)))
+      (λ r t. tops_map (λ y. is_emptied y ≡ false) (λ y. is_emptied y ≡ true → is_emptied x ≡ true) (λ y o f. absurd (cc)) (next_of g (Worker i j) x (r.0)) t) (effect (act_of (Worker i j) x) h (Worker i j) c m) (busy_on h g i j c m x z e)
+]
 
 frame_fills : (f : Place) (R : Type 0) → is_frame f ≡ true → is_emptied f ≡ true → R
 frame_fills f R e h = absurd (let k : is_emptied f ≡ false = frame_not_emptied f e in cc)
@@ -208,23 +246,15 @@ abbrev SeatLeft : World → Party → Stack → Seen × Part → Type 0
 SeatLeft w q k r = Tops (λ y. is_emptied y ≡ true → (is_emptied k.top ≡ true → (part_at w q k).seat.own ≡ []) → r.1.seat.own ≡ []) (next_at w q k (r.0))
 
 -- an act of a worker on its own seat
-own_left_empty : (h : Shape) (g : PoolShape) (p i : ℕ) (c : Counts) (m : Part) (x : Place) → is_filling x ≡ false → (is_emptied x ≡ true → m.seat.own ≡ []) → IfSome (effect (act_of (Worker p i) x) h (Worker p i) c m) (λ r. Tops (λ y. is_emptied y ≡ true → r.1.seat.own ≡ []) (next_of g (Worker p i) x (r.0)))
+own_left_empty : (h : Shape) (g : PoolShape) (p i : ℕ) (c : Counts) (m : Part) (x : Place) → is_filling x ≡ false → (is_emptied x ≡ true → m.seat.own ≡ [])
+    → IfSome (effect (act_of (Worker p i) x) h (Worker p i) c m) (λ r. Tops (λ y. is_emptied y ≡ true → r.1.seat.own ≡ []) (next_of g (Worker p i) x (r.0)))
 own_left_empty h g p i c m (PopWorking k) z f = busy_empties g (Worker p i) k m (h.pool p).order (own_of (h.pool p).order m.seat.own) refl
 own_left_empty h g p i c m x z f = elim (either (is_emptied x)) [
-  | inl e ↦ if_some_map {A = Seen × Part} (λ r. r.1.seat.own ≡ []) (λ r. Tops (λ y. is_emptied y ≡ true → r.1.seat.own ≡ []) (next_of g (Worker p i) x (r.0))) (λ r o. every (λ y. is_emptied y ≡ true → r.1.seat.own ≡ []) (next_of g (Worker p i) x (r.0)) (λ y a. o)) (effect (act_of (Worker p i) x) h (Worker p i) c m) (stays_empty h (Worker p i) c m x z (f e))
-  | inr e ↦ if_some_map {A = Seen × Part} (λ r. Tops (λ y. is_emptied y ≡ true → is_emptied x ≡ true) (next_of g (Worker p i) x (r.0))) (λ r. Tops (λ y. is_emptied y ≡ true → r.1.seat.own ≡ []) (next_of g (Worker p i) x (r.0))) (λ r t. tops_map (λ y. is_emptied y ≡ true → is_emptied x ≡ true) (λ y. is_emptied y ≡ true → r.1.seat.own ≡ []) (λ y a b. absurd (let n : is_emptied x ≡ true = a b in cc)) (next_of g (Worker p i) x (r.0)) t) (effect (act_of (Worker p i) x) h (Worker p i) c m) (emptied_on h g (Worker p i) c m x refl)
+  | inl e ↦ if_some_map {A = Seen × Part} (λ r. r.1.seat.own ≡ []) (λ r. Tops (λ y. is_emptied y ≡ true → r.1.seat.own ≡ []) (next_of g (Worker p i) x (r.0))) (λ r o. every (λ y. is_emptied y ≡ true → r.1.seat.own ≡ []) (next_of g (Worker p i) x (r.0)) (λ y a. o))
+      (effect (act_of (Worker p i) x) h (Worker p i) c m) (stays_empty h (Worker p i) c m x z (f e))
+  | inr e ↦ if_some_map {A = Seen × Part} (λ r. Tops (λ y. is_emptied y ≡ false) (next_of g (Worker p i) x (r.0))) (λ r. Tops (λ y. is_emptied y ≡ true → r.1.seat.own ≡ []) (next_of g (Worker p i) x (r.0)))
+      (λ r t. tops_map (λ y. is_emptied y ≡ false) (λ y. is_emptied y ≡ true → r.1.seat.own ≡ []) (λ y a b. absurd (cc)) (next_of g (Worker p i) x (r.0)) t) (effect (act_of (Worker p i) x) h (Worker p i) c m) (busy_on h g p i c m x refl e)
 ]
-  where
-    every : (R : Place → Type 0) (g : Move) → ((y : Place) → R y) → Tops R g
-    every R (Stay y) a = a y
-    every R (HandIn y token) a = a y
-    every R (Mark y b9 m9) a = a y
-    every R (Enter x y) a = a y
-    every R (StartRun x n) a = a (Run n Direct)
-    every R Back a = tt
-    every R (HandBack n) a = tt
-    every R (Discard n) a = tt
-    every R (HandAllBack b9) a = tt
 
 push_busy : (h : Shape) (g : PoolShape) (q : Party) (c : Counts) (m : Part) (n : Plan) (v : Bool) → IfSome (effect (act_of q (PushJob n v)) h q c m) (λ r. Tops (λ y. is_emptied y ≡ false) (next_of g q (PushJob n v) (r.0)))
 push_busy h g (Worker a b) c m n v = at (is_member (Worker a b) (plan_pool n))
@@ -278,7 +308,8 @@ other_empty w q k p i d ep ei e = by_place k.top refl
           let t : (target_pool q (act_of q (PushJob n v)) ≡ own_pool q) × (target_worker q (act_of q (PushJob n v)) ≡ own_index q) = push_target q n v mem in
           let me : q ≡ Worker p i = member_worker q (plan_pool n) mem ∙ ap (λ z. Worker z (own_index q)) (sym (ep ∙ ap (λ z. target_pool q (act_of q z)) s ∙ t.0)) ∙ ap (λ z. Worker p z) (sym (ei ∙ ap (λ z. target_worker q (act_of q z)) s ∙ t.1)) in
           let l : same_party (Worker p i) q ≡ true = ap (same_party (Worker p i)) me ∙ same_refl p i in cc)
-      | inr not_mem ↦ if_some_map {A = Seen × Part} (λ r. r.1.seat.own ≡ (part_at w q k).seat.own) (λ r. r.1.seat.own ≡ []) (λ r f. f ∙ e) (outcome w q k) (subst (λ z. IfSome (effect (act_of q z) w.shape q (counts_seen w q k) (part_at w q k)) (λ r. r.1.seat.own ≡ (part_at w q k).seat.own)) (sym s) (push_other w.shape q (counts_seen w q k) (part_at w q k) n v not_mem))
+      | inr not_mem ↦ if_some_map {A = Seen × Part} (λ r. r.1.seat.own ≡ (part_at w q k).seat.own) (λ r. r.1.seat.own ≡ []) (λ r f. f ∙ e) (outcome w q k)
+          (subst (λ z. IfSome (effect (act_of q z) w.shape q (counts_seen w q k) (part_at w q k)) (λ r. r.1.seat.own ≡ (part_at w q k).seat.own)) (sym s) (push_other w.shape q (counts_seen w q k) (part_at w q k) n v not_mem))
     ]
     by_place x s = subst (λ z. IfSome (effect (act_of q z) w.shape q (counts_seen w q k) (part_at w q k)) (λ r. r.1.seat.own ≡ [])) (sym s) (stays_empty w.shape q (counts_seen w q k) (part_at w q k) x refl e)
 
@@ -294,7 +325,8 @@ pushes_busy w q k e = by_place k.top refl e
     by_place (PushToken f v) s z = subst (λ z. IfSome (effect (act_of q z) w.shape q (counts_seen w q k) (part_at w q k)) (λ r. Tops (λ y. is_emptied y ≡ false) (next_of (shape_at w q k) q z (r.0)))) (sym s) (token_busy w.shape (shape_at w q k) q (counts_seen w q k) (part_at w q k) f v)
     by_place _ s z = cc
 
-at_empty : (w : World) (q : Party) (k : Stack) (p i : ℕ) (b d : Bool) → w.stack q ≡ k → FramesOk w → EmptiedOk w → same_party (Worker p i) q ≡ b → ((p == target_pool q (act_of q k.top)) && (i == target_worker q (act_of q k.top))) ≡ d → IfSome (outcome w q k) (λ r. is_emptied ((if b then after_move (next_at w q k (r.0)) k.below else w.stack (Worker p i)).top) ≡ true → (if d then r.1.seat else w.seat p i).own ≡ [])
+at_empty : (w : World) (q : Party) (k : Stack) (p i : ℕ) (b d : Bool) → w.stack q ≡ k → FramesOk w → EmptiedOk w → same_party (Worker p i) q ≡ b → ((p == target_pool q (act_of q k.top)) && (i == target_worker q (act_of q k.top))) ≡ d
+    → IfSome (outcome w q k) (λ r. is_emptied ((if b then after_move (next_at w q k (r.0)) k.below else w.stack (Worker p i)).top) ≡ true → (if d then r.1.seat else w.seat p i).own ≡ [])
 at_empty w q k p i b d e fr ok eb ed = at b d eb ed
   where
     p0 : ℕ
@@ -310,7 +342,8 @@ at_empty w q k p i b d e fr ok eb ed = at b d eb ed
     mine z h = ok p i (ap (λ n. is_emptied ((w.stack n).top)) (same_party_true (Worker p i) q z) ∙ ap (λ n. is_emptied (n.top)) e ∙ h)
 
     push_true : same_party (Worker p i) q ≡ true → (d : Bool) → is_filling k.top ≡ true → IfSome (outcome w q k) (λ r. is_emptied ((after_move (next_at w q k (r.0)) k.below).top) ≡ true → (if d then r.1.seat else w.seat p i).own ≡ [])
-    push_true z d push = if_some_map {A = Seen × Part} (λ r. Tops (λ y. is_emptied y ≡ false) (next_at w q k (r.0))) (λ r. is_emptied ((after_move (next_at w q k (r.0)) k.below).top) ≡ true → (if d then r.1.seat else w.seat p i).own ≡ []) (λ r t h. absurd (let n : is_emptied ((after_move (next_at w q k (r.0)) k.below).top) ≡ false = top_then (λ y. is_emptied y ≡ false) w q k (r.0) e fr frame_not_emptied t in cc)) (outcome w q k) (pushes_busy w q k push)
+    push_true z d push = if_some_map {A = Seen × Part} (λ r. Tops (λ y. is_emptied y ≡ false) (next_at w q k (r.0))) (λ r. is_emptied ((after_move (next_at w q k (r.0)) k.below).top) ≡ true → (if d then r.1.seat else w.seat p i).own ≡ [])
+        (λ r t h. absurd (let n : is_emptied ((after_move (next_at w q k (r.0)) k.below).top) ≡ false = top_then (λ y. is_emptied y ≡ false) w q k (r.0) e fr frame_not_emptied t in cc)) (outcome w q k) (pushes_busy w q k push)
 
     at : (b d : Bool) → same_party (Worker p i) q ≡ b → ((p == p0) && (i == i0)) ≡ d → IfSome (outcome w q k) (λ r. is_emptied ((if b then after_move (next_at w q k (r.0)) k.below else w.stack (Worker p i)).top) ≡ true → (if d then r.1.seat else w.seat p i).own ≡ [])
     at true true eb ed = elim (push_or k.top) [
@@ -333,7 +366,8 @@ at_empty w q k p i b d e fr ok eb ed = at b d eb ed
             let yes : ((p == p0) && (i == i0)) ≡ true = rw (eq-eqb p p0 tp, eq-eqb i i0 ti) in cc)
         | inr later ↦ if_some_map {A = Seen × Part} (λ r. Tops (λ y. is_emptied y ≡ true → is_emptied k.top ≡ true) (next_at w q k (r.0))) (λ r. is_emptied ((after_move (next_at w q k (r.0)) k.below).top) ≡ true → (w.seat p i).own ≡ [])
             (λ r t h. mine eb (top_then (λ y. is_emptied y ≡ true → is_emptied k.top ≡ true) w q k (r.0) e fr (λ f ff. frame_fills f (is_emptied k.top ≡ true) ff) t h)) (outcome w q k)
-            (emptied_on w.shape (shape_at w q k) q (counts_seen w q k) (part_at w q k) k.top later)
+            (subst (λ z. IfSome (effect (act_of z k.top) w.shape z (counts_seen w q k) (part_at w q k)) (λ r. Tops (λ y. is_emptied y ≡ true → is_emptied k.top ≡ true) (next_of (shape_at w q k) z k.top (r.0)))) (same_party_true (Worker p i) q eb)
+            (emptied_on w.shape (shape_at w q k) p i (counts_seen w q k) (part_at w q k) k.top later))
       ]
     ]
     at false true eb ed = if_some_h (is_emptied (w.stack (Worker p i)).top) (λ r. r.1.seat.own ≡ []) (outcome w q k) (λ h. (let z : (p ≡ p0) × (i ≡ i0) = same_index p i p0 i0 ed in other_empty w q k p i eb (z.0) (z.1) (ap (λ s. s.own) (here ed) ∙ ok p i h)))

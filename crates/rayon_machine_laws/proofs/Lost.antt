@@ -1,33 +1,26 @@
 -- no step hands back, or spends, a piece of a broadcast that was dealt
-use Rattle.std.proofs.Common.{arith, rules, refl, sym, ◌∙◌, ap, subst}
-use Rattle.std.specs.Prelude.{ℕ, zero, suc, Bool, true, false, ◌+◌, ◌-◌, ◌==◌, ◌≤◌, if◌then◌else◌, Some, List, ◌≡◌, IfSome}
+use Rattle.std.proofs.Common.{arith, refl, sym, ◌∙◌, ap, subst, inl, inr}
+use Rattle.std.specs.Prelude.{ℕ, zero, suc, Bool, true, false, ◌+◌, ◌-◌, ◌==◌, ◌≤◌, if◌then◌else◌, List, ◌≡◌, IfSome}
 use Rattle.std.proofs.lemmas.Bool.{eqb-true}
 use Rattle.rayon_machine_places.specs.declared.place.Party.{Party}
-use Rattle.rayon_machine_places.specs.declared.place.Party.TheVariants.{Worker, Caller}
 use Rattle.rayon_machine_places.specs.declared.place.JobKind.{JobKind}
 use Rattle.rayon_machine_places.specs.declared.place.JobKind.TheVariants.{PieceOf}
-use Rattle.rayon_machine_places.specs.declared.place.Latch.{Latch}
-use Rattle.rayon_machine_places.specs.declared.place.Latch.TheVariants.{Terminate, OfCall}
-use Rattle.rayon_machine_places.specs.declared.place.Count.{Count}
 use Rattle.rayon_machine_places.specs.declared.place.Pieces.{Pieces}
 use Rattle.rayon_machine_places.specs.declared.place.Mark.{Mark as Marking}
 use Rattle.rayon_machine_places.specs.declared.place.Mark.TheVariants.{Counted, Numbered, Queued, Dealt, Unnumbered, Returned}
 use Rattle.rayon_machine_places.specs.declared.place.Plan.TheVariants.{Detach, Here, Send, Fork, Feed, Open, Enter, Gather}
 use Rattle.rayon_machine_places.specs.declared.place.Place.{Place}
-use Rattle.rayon_machine_places.specs.declared.place.Place.TheVariants.{ProbeWorking, GetSleepy, FallAsleep, WakeUp, RaiseCount, RaiseForAll, LowerCount, SetLatch}
 use Rattle.rayon_machine_places.specs.declared.place.Move.{Move}
 use Rattle.rayon_machine_places.specs.declared.place.Move.TheVariants.{Stay, Enter as Into, StartRun, Back, HandBack, HandIn, Discard, Mark, HandAllBack}
 use Rattle.rayon_machine_places.specs.declared.act.Seen.{Seen}
-use Rattle.rayon_machine_places.specs.declared.act.Seen.TheVariants.{Done, Refused}
-use Rattle.rayon_machine_places.specs.declared.state.Letter.{Letter}
-use Rattle.rayon_machine_places.specs.declared.state.Letter.TheVariants.{Set as IsSet}
 use Rattle.rayon_machine_places.specs.declared.state.Whereabouts.{Whereabouts}
 use Rattle.rayon_machine_places.specs.declared.state.Whereabouts.TheVariants.{Made, Running, Over, HandedBack, Spent, InDeque, Injected, InCast}
 use Rattle.rayon_machine_places.specs.declared.state.Job.{Job}
-use Rattle.rayon_machine_places.specs.Places.{latch_of, act_of, next_of}
-use Rattle.rayon_machine_places.specs.World.{Shape, World, Counts, Part, letter, with_letter, at_job, begun, effect, target_pool, raised, all_raised}
+use Rattle.rayon_machine_places.specs.Places.{act_of, next_of}
+use Rattle.rayon_machine_places.specs.World.{Shape, World, Counts, Part, at_job, begun, effect, target_pool}
 use Rattle.rayon_machine_places.specs.Steps.{put, jobs_after, is_piece, mark_pieces, marked}
 use Rattle.rayon_machine_laws.specs.Once.{one}
+use Rattle.rayon_machine_laws.proofs.Frame.{if_some_map}
 use Rattle.rayon_machine_laws.proofs.Ties.{job_at}
 use Rattle.rayon_machine_laws.proofs.Hands.{hand_plan}
 use Rattle.rayon_machine_laws.proofs.Located.{is_left}
@@ -35,7 +28,7 @@ use Rattle.rayon_machine_laws.proofs.Feeds.{fed, fed_in, all_fed, fed_move, feds
 use Rattle.rayon_machine_laws.proofs.Claims.{is_detached, is_part, Left}
 use Rattle.rayon_machine_laws.proofs.ClaimRuns.{CallsHold, world_after, place_part}
 use Rattle.rayon_machine_laws.proofs.ShareRuns.{StartsAwaited}
-use Rattle.rayon_machine_laws.proofs.Letters.{sleepy_keeps, asleep_keeps, wake_keeps, set_keeps}
+use Rattle.rayon_machine_laws.proofs.Lists.{is_settled, Onward, act_on}
 
 -- a piece of a broadcast that is in its list, was taken, runs or is over
 abbrev pub is_dealt : Whereabouts → Bool
@@ -82,33 +75,16 @@ left_dealt _ e l = cc
 abbrev pub Unlost : Part → Seen × Part → Type 0
 Unlost m r = lost r.1.job.at ≤ lost m.job.at
 
-letter_unlost : (l : Latch) (m : Part) (e : Seen) (y : Letter) → Unlost m (e, with_letter l m y)
-letter_unlost Terminate m e y = omega arith
-letter_unlost (OfCall c) m e y = omega arith
-
-raise_unlost : (m : Part) (k : Count) (b : Bool) → IfSome (if b then Some (Refused, m) else Some (Done, raised m k)) (Unlost m)
-raise_unlost m k true = omega arith
-raise_unlost m k false = omega arith
-
-raise_all_unlost : (m : Part) (c : Pieces) (b : Bool) → IfSome (if b then Some (Refused, m) else Some (Done, all_raised m c)) (Unlost m)
-raise_all_unlost m c true = omega arith
-raise_all_unlost m c false = omega arith
+unsettled_kept : (v : Whereabouts) → is_settled v ≡ false → lost v ≡ 0
+unsettled_kept HandedBack e = cc
+unsettled_kept Spent e = cc
+unsettled_kept _ e = refl
 
 pub act_unlost : (h : Shape) (q : Party) (c : Counts) (m : Part) (x : Place) → IfSome (effect (act_of q x) h q c m) (Unlost m)
-act_unlost h (Worker a b) c m (ProbeWorking k) = omega arith
-act_unlost h (Worker a b) c m (GetSleepy k) = sleepy_keeps (latch_of k.target) Unlost (λ v e. omega arith) (λ v e y n. letter_unlost (latch_of k.target) v e y) m (letter (latch_of k.target) m)
-act_unlost h (Worker a b) c m (FallAsleep k) = asleep_keeps (latch_of k.target) Unlost (λ v e. omega arith) (λ v e y n. letter_unlost (latch_of k.target) v e y) m (letter (latch_of k.target) m)
-act_unlost h (Worker a b) c m (WakeUp k) = wake_keeps (latch_of k.target) Unlost (λ v e. omega arith) (λ v e y n. letter_unlost (latch_of k.target) v e y) m (letter (latch_of k.target) m)
-act_unlost h (Worker a b) c m (SetLatch k) = set_keeps k.latch Unlost (λ v e. letter_unlost k.latch v e IsSet) m (letter k.latch m)
-act_unlost h (Worker a b) c m (RaiseCount n) = raise_unlost m _ _
-act_unlost h (Worker a b) c m (RaiseForAll n) = raise_all_unlost m n _
-act_unlost h (Worker a b) c m (LowerCount k s n) = omega arith
-act_unlost h (Worker a b) c m _ = search (rules, arith)
-act_unlost h (Caller n) c m (SetLatch k) = set_keeps k.latch Unlost (λ v e. letter_unlost k.latch v e IsSet) m (letter k.latch m)
-act_unlost h (Caller g) c m (RaiseCount n) = raise_unlost m _ _
-act_unlost h (Caller g) c m (RaiseForAll n) = raise_all_unlost m n _
-act_unlost h (Caller g) c m (LowerCount k s n) = omega arith
-act_unlost h (Caller n) c m _ = search (rules, arith)
+act_unlost h q c m x = if_some_map (Onward m) (Unlost m) (λ r o. elim o [
+  | inl e ↦ (let s : lost r.1.job.at ≡ lost m.job.at = ap lost e in omega (arith, s))
+  | inr e ↦ (let z : lost r.1.job.at ≡ 0 = unsettled_kept r.1.job.at e in omega (arith, z))
+]) (effect (act_of q x) h q c m) (act_on h q c m x)
 
 -- what a move hands back or spends
 abbrev gives : ℕ → Move → ℕ

@@ -46,6 +46,7 @@ use Rattle.rayon_machine_laws.proofs.Frame.{either, if_some_all, if_some_map, pu
 use Rattle.rayon_machine_laws.proofs.Seats.{is_frame}
 use Rattle.rayon_machine_laws.proofs.Tops.{Tops}
 use Rattle.rayon_machine_laws.proofs.Feeds.{fed_move}
+use Rattle.rayon_machine_laws.proofs.Lists.{is_settled, Onward, act_on}
 use Rattle.rayon_machine_laws.proofs.Letters.{sleepy_keeps, asleep_keeps, wake_keeps, set_keeps}
 
 -- the piece whose share is given back once its ending is stored, with its call
@@ -75,33 +76,15 @@ is_faulted _ l = absurd (omega (arith, l))
 abbrev pub Unended : Part → Seen × Part → Type 0
 Unended m r = faulted r.1.job.at ≤ faulted m.job.at
 
-letter_unended : (l : Latch) (m : Part) (e : Seen) (y : Letter) → Unended m (e, with_letter l m y)
-letter_unended Terminate m e y = omega arith
-letter_unended (OfCall c) m e y = omega arith
-
-raise_unended : (m : Part) (k : Count) (b : Bool) → IfSome (if b then Some (Refused, m) else Some (Done, raised m k)) (Unended m)
-raise_unended m k true = omega arith
-raise_unended m k false = omega arith
-
-raise_all_unended : (m : Part) (c : Pieces) (b : Bool) → IfSome (if b then Some (Refused, m) else Some (Done, all_raised m c)) (Unended m)
-raise_all_unended m c true = omega arith
-raise_all_unended m c false = omega arith
+unsettled_unfaulted : (v : Whereabouts) → is_settled v ≡ false → faulted v ≡ 0
+unsettled_unfaulted (Over d) e = cc
+unsettled_unfaulted _ e = refl
 
 pub act_unended : (h : Shape) (q : Party) (c : Counts) (m : Part) (x : Place) → IfSome (effect (act_of q x) h q c m) (Unended m)
-act_unended h (Worker a b) c m (ProbeWorking k) = omega arith
-act_unended h (Worker a b) c m (GetSleepy k) = sleepy_keeps (latch_of k.target) Unended (λ v e. omega arith) (λ v e y n. letter_unended (latch_of k.target) v e y) m (letter (latch_of k.target) m)
-act_unended h (Worker a b) c m (FallAsleep k) = asleep_keeps (latch_of k.target) Unended (λ v e. omega arith) (λ v e y n. letter_unended (latch_of k.target) v e y) m (letter (latch_of k.target) m)
-act_unended h (Worker a b) c m (WakeUp k) = wake_keeps (latch_of k.target) Unended (λ v e. omega arith) (λ v e y n. letter_unended (latch_of k.target) v e y) m (letter (latch_of k.target) m)
-act_unended h (Worker a b) c m (SetLatch k) = set_keeps k.latch Unended (λ v e. letter_unended k.latch v e IsSet) m (letter k.latch m)
-act_unended h (Worker a b) c m (RaiseCount n) = raise_unended m _ _
-act_unended h (Worker a b) c m (RaiseForAll n) = raise_all_unended m n _
-act_unended h (Worker a b) c m (LowerCount k s n) = omega arith
-act_unended h (Worker a b) c m _ = search (rules, arith)
-act_unended h (Caller n) c m (SetLatch k) = set_keeps k.latch Unended (λ v e. letter_unended k.latch v e IsSet) m (letter k.latch m)
-act_unended h (Caller g) c m (RaiseCount n) = raise_unended m _ _
-act_unended h (Caller g) c m (RaiseForAll n) = raise_all_unended m n _
-act_unended h (Caller g) c m (LowerCount k s n) = omega arith
-act_unended h (Caller n) c m _ = search (rules, arith)
+act_unended h q c m x = if_some_map (Onward m) (Unended m) (λ r o. elim o [
+  | inl e ↦ (let s : faulted r.1.job.at ≡ faulted m.job.at = ap faulted e in omega (arith, s))
+  | inr e ↦ (let z : faulted r.1.job.at ≡ 0 = unsettled_unfaulted r.1.job.at e in omega (arith, z))
+]) (effect (act_of q x) h q c m) (act_on h q c m x)
 
 put_faulted : (J : ℕ → Job) (a t : ℕ) (v : Whereabouts) → faulted v ≡ 0 → faulted (put J a (at_job (J a) v) t).at ≤ faulted (J t).at
 put_faulted J a t v z = by (t == a)

@@ -202,14 +202,20 @@ local_cast_leads g p i m base l [] k s = inr (inl (record { stands = refl; searc
 -- the round begins at a worker
 pick_leads : (n i v : ℕ) (base : Stack) (l : List Look) → v < n → i < n → Stage false n i YieldPick l → Next false n i base (after_call base (YieldSteal (not_self n i v) (n - 2))) l
 unfolding begins_at
-pick_leads n i v base l a b s = inl (YieldSteal (not_self n i v) (n - 2), (refl, record {
-  start = not_self n i v;
-  done = [];
-  within = (begins_at n i v a b).within;
-  other = (begins_at n i v a b).other;
-  is = s.1;
-  rest = (let two : 1 < n = s.0 in let m : suc (n - 2) ≡ n - 1 = omega arith in ap (λ z. others n i z (not_self n i v)) m);
-}))
+pick_leads n i v base l a b s = inl (
+  YieldSteal (not_self n i v) (n - 2),
+  (
+    refl,
+    record {
+      start = not_self n i v;
+      done = [];
+      within = (begins_at n i v a b).within;
+      other = (begins_at n i v a b).other;
+      is = s.1;
+      rest = (let two : 1 < n = s.0 in let m : suc (n - 2) ≡ n - 1 = omega arith in ap (λ z. others n i z (not_self n i v)) m);
+    },
+  ),
+)
 
 -- a steal finds nothing
 skip_leads : (g : PoolShape) (p i v m : ℕ) (base : Stack) (l : List Look) → Stealing g.workers i v m l → Next false g.workers i base (after_call base (next_yield g (Worker p i) v m)) (l ++ deck v ∷ [])
@@ -228,20 +234,32 @@ skip_leads g p i v m base l s = at (m == 0) refl
     after = append_assoc s.done (deck v ∷ []) (others n i m next) ∙ s.rest
 
     at : (b : Bool) → (m == 0) ≡ b → Next false n i base (after_call base (if b then YieldPopInjected else YieldSteal next (m - 1))) (l ++ deck v ∷ [])
-    at true e = inl (YieldPopInjected, (refl, record {
-      start = s.start;
-      within = s.within;
-      other = s.other;
-      is = more ∙ ap (λ z. mine ∷ cast ∷ z) (let m0 : m ≡ 0 = eqb-true m 0 e in ap (λ z. s.done ++ (deck v ∷ others n i z next)) (sym m0) ∙ s.rest);
-    }))
-    at false e = inl (YieldSteal next (m - 1), (refl, record {
-      start = s.start;
-      done = s.done ++ deck v ∷ [];
-      within = s.within;
-      other = s.other;
-      is = more;
-      rest = (let some : m ≢ 0 = λ z. (let y : (m == 0) ≡ true = eq-eqb m 0 z in cc) in let m1 : suc (m - 1) ≡ m = omega arith in ap (λ z. (s.done ++ deck v ∷ []) ++ others n i z next) m1 ∙ after);
-    }))
+    at true e = inl (
+      YieldPopInjected,
+      (
+        refl,
+        record {
+          start = s.start;
+          within = s.within;
+          other = s.other;
+          is = more ∙ ap (λ z. mine ∷ cast ∷ z) (let m0 : m ≡ 0 = eqb-true m 0 e in ap (λ z. s.done ++ (deck v ∷ others n i z next)) (sym m0) ∙ s.rest);
+        },
+      ),
+    )
+    at false e = inl (
+      YieldSteal next (m - 1),
+      (
+        refl,
+        record {
+          start = s.start;
+          done = s.done ++ deck v ∷ [];
+          within = s.within;
+          other = s.other;
+          is = more;
+          rest = (let some : m ≢ 0 = λ z. (let y : (m == 0) ≡ true = eq-eqb m 0 z in cc) in let m1 : suc (m - 1) ≡ m = omega arith in ap (λ z. (s.done ++ deck v ∷ []) ++ others n i z next) m1 ∙ after);
+        },
+      ),
+    )
 
 steal_leads : (g : PoolShape) (p i v m : ℕ) (c : Part) (base : Stack) (l : List Look) (t : List ℕ) → Stealing g.workers i v m l → IfSome (popped (Worker p i) c (but_first t) (head_of t)) (Led false g p i base (YieldSteal v m) (l ++ look_in (Deque v) t ∷ []))
 steal_leads g p i v m c base l (t ∷ ts) s = inr (inr (record { task = taken_as t c.job.kind; spot = Deque v; before = l; left = others g.workers i m (not_self g.workers i (next_victim g.workers v)) ++ last ∷ []; stands = refl; last = refl; searched = part_of_steal g.workers i v m l s }))
@@ -376,7 +394,7 @@ run_yields b p i base l z u (e ∷ es) f k (inl (y, (is, s))) (t, v, one, rest) 
     let same : v.shape ≡ z.shape = (made (Leaves (actor e) z) z v e one (leaves z e)).shape in
     let next : Next b (z.shape.pool p).workers i base (v.stack (Worker p i)) (add l (yield_look_of p i z e)) = yield_step b z v p i base y l e k is s one in
     let here : So b v.shape p i base (u.stack (Worker p i)) (add l (yield_look_of p i z e) ++ yield_looks_in p i (Some v) es) = run_yields b p i base (add l (yield_look_of p i z e)) v u es f (subst (λ h. i < (h.pool p).workers) (sym same) k)
-        (subst (λ h. Next b (h.pool p).workers i base (v.stack (Worker p i)) (add l (yield_look_of p i z e))) (sym same) next) rest in
+    (subst (λ h. Next b (h.pool p).workers i base (v.stack (Worker p i)) (add l (yield_look_of p i z e))) (sym same) next) rest in
     subst (So b z.shape p i base (u.stack (Worker p i))) (add_then l (yield_look_of p i z e) (yield_looks_in p i (Some v) es) ∙ ap (λ o. l ++ and_then (yield_look_of p i z e) (yield_looks_in p i o es)) (sym one))
     (subst (λ h. So b h p i base (u.stack (Worker p i)) (add l (yield_look_of p i z e) ++ yield_looks_in p i (Some v) es)) same here)
 

@@ -1,4 +1,5 @@
 //! The faults of a pool's detached jobs, which its threads share.
+ghost use Rattle.rayon_jobs.specs.Faults.{Agrees};
 ghost use Rattle.std.specs.Prelude.{◌≡◌, IfErr};
 
 use rayon_jobs::Faults;
@@ -41,7 +42,9 @@ impl<F: Drop> SharedFaults<F> {
     }
 
     // The first fault since this was asked last, and how many there were, at most 2^64 - 1. None is kept then.
-    pub(crate) fn take<R: Wait>(&self, rt: &R) -> (Option<F>, u64) {
+    pub(crate) fn take<R: Wait>(&self, rt: &R) -> (Option<F>, u64)
+        ensures { Agrees result.0 result.1 }
+    {
         self.faults.lock(rt).take()
     }
 }

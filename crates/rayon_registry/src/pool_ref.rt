@@ -1,4 +1,5 @@
 //! What stands for a pool on any thread, and the calls that are made on it from outside.
+ghost use Rattle.rayon_jobs.specs.Faults.{Agrees};
 ghost use Rattle.rayon_performers.specs.Visits.{plan_of};
 ghost use Rattle.rayon_registry.specs.Answers.{joined_pair, InstallAnswers, JoinAnswers};
 ghost use Rattle.std.specs.Arc.{arc_value};
@@ -136,7 +137,9 @@ impl<J: JobKind> PoolRef<J> {
 
     /// The first fault of a detached job since this was asked last, and how many there were; that number stops at 2^64 - 1.
     /// None and 0 are left.
-    pub fn take_fault<R: Wait>(&self, rt: &R) -> (Option<J::Fault>, u64) {
+    pub fn take_fault<R: Wait>(&self, rt: &R) -> (Option<J::Fault>, u64)
+        ensures { Agrees result.0 result.1 }
+    {
         self.faults.take(rt)
     }
 

@@ -1,0 +1,11 @@
+//! What a scope keeps of its jobs: the book of their results by number, and the receipts that its body holds of what it
+//! spawned, each met by the output at its number.
+#![tactic(auto)]
+
+mod receipt;
+mod scope_book;
+mod slot;
+
+pub use receipt::{Ended, Receipt, are_met, is_met};
+pub use scope_book::ScopeBook;
+pub use slot::{First, NoOutputs, Slot};

@@ -1,4 +1,10 @@
 -- how each move changes the shares that a stack keeps, and that no move leads to a raise or to the giving up of a value
+--
+-- `amounts` is an equation. A stack keeps after a move what it kept, with what was raised. What went with a job or was
+-- given back is less.
+-- The pieces of a broadcast that waits come into the count with their call. They get their shares all at once where
+-- they are dealt. So the table `raises` says of whom a party raises a count: of the job of its Raise, and of its pieces
+-- until they are dealt.
 use Rattle.rayon_machine_places.specs.declared.place.Pieces.{Pieces}
 use Rattle.rayon_machine_places.specs.declared.place.Feeding.{Feeding}
 use Rattle.rayon_machine_places.specs.declared.place.Count.TheVariants.{OfPool, OfScope, OfCast}

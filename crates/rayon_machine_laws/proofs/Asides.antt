@@ -1,4 +1,6 @@
 -- the events that are no acts move one party between places that neither hold, owe nor commit
+--
+-- `Aside` says so of each such event, and `one_step` takes a step apart into acts and asides.
 use Rattle.rayon_machine_places.specs.declared.place.Pieces.{Pieces}
 use Rattle.rayon_machine_places.specs.declared.place.Count.{Count}
 use Rattle.rayon_machine_places.specs.declared.place.Count.TheVariants.{OfPool, OfScope, OfCast}

@@ -1,4 +1,27 @@
 -- in every world of every run the injectors are attended
+--
+-- Why a committed worker is never left alone with work, act by act. `go_attends` goes over all places, and names for
+-- each the lemma. The counts are of Counting.
+-- 1. A push fills the injector: its party is a waker until it tells the news. A push onto the own deque fills no
+--    injector. `push_attends`, of Pushing.
+-- 2. News. If a worker is committed, somebody sleeps (`count_some`). News wakes nobody only in two cases
+--    (`wakes_none`): nobody sleeps, or the queue was seen empty and fewer workers sleep than are inactive. In the
+--    second one is inactive and not sleeping (`count_more`), so not committed: it looks. Otherwise the party owes a
+--    wake, and has passed nobody yet. `tell_attends`, of Pushing.
+-- 3. A worker leaves its search: it found something, or its latch is set. It was perhaps the only one that looked. But
+--    if a worker is committed, the sleeping count is above 0. So the leaver owes a wake to one or two, and is a waker
+--    now. `leave_attends`, of Leaving.
+-- 4. The last look commits a worker only if the injector is empty there: nothing to show. `look_attends`. Block changes
+--    nothing: the worker was committed before. `block_attends`. Both are of Leaving.
+-- 5. A Wake. If the worker there was blocked, it is inactive and no longer committed: it looks. If not, it is not about
+--    to block itself either: then it would hold the lock that the waker holds (`not_committed` of Waking). So no
+--    committed worker is passed unwoken. `wake_attends` for a walk, `settled_attends` for the Wake after a latch was
+--    set; both of Waking.
+-- 6. Every other act leaves the committed workers as they are, and makes no inactive one active (`quiet_go` of Calm).
+--    It fills no injector (`shrinks`), and what was owed is still owed (`unlock_owes`, for a walk that leaves a lock).
+--    `quiet_attends`, of Attend.
+-- The events that are no acts change none of it (`aside_same`). `step_awake` adds them, and `always_awake` says it of
+-- every world. The shape never changes.
 use Rattle.std.proofs.Common.{refl, sym, ◌∙◌, ap, subst}
 use Rattle.std.specs.Prelude.{ℕ, Bool, true, false, ◌&&◌, ◌||◌, ◌==◌, nat_lt, if◌then◌else◌, Option, Some, List, ◌≡◌, IfSome}
 use Rattle.rayon_machine_places.specs.declared.place.Party.{Party}

@@ -1,4 +1,7 @@
 -- what moves leave of the share that a scope's body has of the scope's count
+--
+-- `bodies` goes over the table of moves. The share is kept from the Raise of the scope's call to the Lower at the
+-- body's end. A refused call keeps it to the step that hands the body back.
 use Rattle.rayon_machine_places.specs.declared.place.Pieces.{Pieces}
 use Rattle.rayon_machine_places.specs.declared.place.Feeding.{Feeding}
 use Rattle.rayon_machine_places.specs.declared.place.Share.TheVariants.{Body, PoolValue, OfJob}

@@ -1,4 +1,7 @@
 -- each piece of a broadcast stands for its own worker alone, and no other worker takes or runs it
+--
+-- `BoundsHold` says: a piece is a detached job, and stands where its own worker alone may have it (`is_own_place`,
+-- specs/Once). What a call queues else is bound to no worker (`MadeAs`).
 use Rattle.rayon_machine_places.specs.declared.state.Scope.{Scope}
 use Rattle.rayon_machine_places.specs.declared.place.Gathering.{Gathering}
 use Rattle.rayon_machine_places.specs.declared.place.Count.TheVariants.{OfPool, OfScope, OfCast}

@@ -1,4 +1,6 @@
 -- acts after which the same workers are committed, and none has ceased to be inactive
+--
+-- The lemma of such an act is `quiet_go`.
 use Rattle.std.proofs.Common.{rules, arith, refl, sym, ◌∙◌, ap, subst}
 use Rattle.std.specs.Prelude.{ℕ, Bool, true, false, ◌&&◌, ◌||◌, ◌==◌, if◌then◌else◌, ◌≡◌, IfSome}
 use Rattle.rayon_machine_places.specs.declared.place.Party.{Party}

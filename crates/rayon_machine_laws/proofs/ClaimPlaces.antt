@@ -1,4 +1,8 @@
 -- what a place says of the world: of its party's calls, of their jobs, and of ended pools
+--
+-- `Says w q x` is what the place x tells of the world w. The party q stands there, or has it as a frame. The wait of a
+-- call says that its call is open, and how its first side ended. `SetLatch` says that the job is over, or that the pool
+-- has ended.
 use Rattle.rayon_machine_places.specs.declared.place.Gathering.{Gathering}
 use Rattle.rayon_machine_places.specs.declared.place.Pieces.{Pieces}
 use Rattle.rayon_machine_places.specs.declared.place.Count.TheVariants.{OfPool, OfScope, OfCast}

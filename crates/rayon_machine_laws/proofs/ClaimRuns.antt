@@ -1,4 +1,12 @@
 -- what places, cells and latches say holds in every world of every run
+--
+-- `CallsHold` says: what each place of each stack says is so, and what cells, call latches and terminate latches say; a
+-- job's kind names its call.
+-- Why what each act writes is right:
+-- - Store: the run of the call's job has just ended so (`says_closed`, ClaimEvents).
+-- - Set of a call's latch: the job is over since the Store before it (`set_call_says`).
+-- - Set of a terminate latch: the Lower before it found the last share (`set_seat_says`).
+-- - Take: what a cell holds is how the job ended; else the Take sees a fault (`took`).
 use Rattle.rayon_machine_places.specs.declared.place.Plan.{Plan}
 use Rattle.rayon_machine_places.specs.declared.place.Feeding.{Feeding}
 use Rattle.rayon_machine_places.specs.declared.place.Count.{Count}

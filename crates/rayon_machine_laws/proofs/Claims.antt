@@ -1,4 +1,9 @@
 -- what a stack says of the world, and what acts and moves leave of it
+--
+-- For the party that moves, `says_next` goes over the table of moves. What the old place says, and what the act's
+-- answer tells (`Learns`), give what is said of the next place.
+-- Frames say the same as tops. `Link` ties a frame to what stands right above it: above a join's frame its first side
+-- runs.
 use Rattle.rayon_machine_places.specs.declared.place.Feeding.{Feeding}
 use Rattle.rayon_machine_places.specs.declared.place.Pieces.{Pieces}
 use Rattle.rayon_machine_places.specs.declared.place.Count.TheVariants.{OfPool, OfScope, OfCast}

@@ -1,4 +1,7 @@
 -- from what holds of the calls and jobs of each world to the laws of latches and ends
+--
+-- It goes from `CallsHold`, and for the latch of a scope from `ScopesHold`, to the clauses of `law_latch` and
+-- `law_end`.
 use Rattle.rayon_machine_places.specs.declared.place.JobKind.TheVariants.{WholeOf}
 use Rattle.rayon_machine_places.specs.declared.place.JobKind.{JobKind}
 use Rattle.rayon_machine_laws.specs.Counted.{has_body, ScopeEnded}

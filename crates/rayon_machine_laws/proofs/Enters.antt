@@ -1,5 +1,8 @@
 -- who spawns or broadcasts into a scope holds it until what it makes is queued or handed back, and so the scope's count
 -- is not 0; where it is 0 each job of the scope is over or handed back
+--
+-- `EntersHold` says besides that a token alone is spent. So each job of a scope whose count is 0 is over or was handed
+-- back (`through`, Spawned).
 use Rattle.std.proofs.Common.{rules, arith, refl, sym, ◌∙◌, ap, subst, inl, inr}
 use Rattle.std.specs.Prelude.{ℕ, Bool, true, false, ◌&&◌, ◌||◌, ◌+◌, ◌-◌, ◌==◌, ◌≤◌, ◌<◌, nat_lt, if◌then◌else◌, Option, Some, None, List, [], ◌∷◌, ◌≡◌, IfSome, zero, suc}
 use Rattle.std.proofs.lemmas.Bool.{eqb-true, eq-eqb}

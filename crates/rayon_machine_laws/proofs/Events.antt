@@ -1,4 +1,6 @@
 -- steps and runs: what each act and each other event keeps holds in every world of every run
+--
+-- Here are the events that are no acts (`Moved`). What each step keeps, every run has (`run_keeps`).
 use Rattle.rayon_machine_places.specs.declared.place.Pieces.{Pieces}
 use Rattle.rayon_machine_places.specs.declared.place.Count.TheVariants.{OfPool, OfScope, OfCast}
 use Rattle.rayon_machine_places.specs.declared.place.Count.{Count}

@@ -1,4 +1,6 @@
 -- how often a stack has in hand what its calls have made and not queued: that is still as they made it
+--
+-- The table is `fed`. So a job in a FIFO list has not left its call, which can take it back (`is_left` of Located).
 use Rattle.rayon_machine_places.specs.declared.place.Mark.TheVariants.{Counted, Queued, Returned, Numbered, Dealt, Unnumbered}
 use Rattle.rayon_machine_places.specs.declared.place.Pieces.{Pieces}
 use Rattle.rayon_machine_places.specs.declared.place.Feeding.{Feeding}

@@ -1,4 +1,7 @@
 -- how a step changes the world: tests on parties and indices, and what holds of an act that may not be enabled
+--
+-- A table over all places is proved in two clauses: one place, and then a catch-all. The checker goes through the
+-- places by itself.
 use Rattle.std.proofs.Common.{refl, sym, ◌∙◌, ap, subst, inl, inr, arith}
 use Rattle.std.specs.Prelude.{ℕ, Bool, true, false, ◌&&◌, ◌||◌, ◌-◌, ◌==◌, if◌then◌else◌, Option, Some, None, ◌≡◌, IfSome, ◌⊎◌, List, [], ◌∷◌, ⊤, ◌+◌, ◌<◌, ◌≤◌, nat_le, nat_lt, slice_get}
 use Rattle.std.proofs.lemmas.Bool.{eqb-true, eq-eqb, leb-true, ltb-true, le-leb, lt-ltb}

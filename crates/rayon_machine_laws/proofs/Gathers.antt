@@ -1,4 +1,7 @@
 -- each step keeps what holds of the faults of broadcasts; and so what a broadcast takes
+--
+-- Who gives a piece's share back has stored its ending. So at a count of 0 each piece's ending is stored. Then what is
+-- kept is the lowest (`cast_takes`), and the Take sees a fault exactly where one is kept (`cast_told`).
 use Rattle.std.proofs.Common.{arith, refl, sym, ◌∙◌, ap, subst, inl, inr}
 use Rattle.std.specs.Prelude.{ℕ, Bool, true, false, ◌&&◌, ◌+◌, ◌-◌, ◌==◌, ◌≤◌, ◌<◌, nat_lt, if◌then◌else◌, Option, Some, None, List, [], ◌∷◌, ◌++◌, ◌≡◌, IfSome}
 use Rattle.std.proofs.lemmas.Bool.{eqb-true, eq-eqb, ltb-true, ltb-false}

@@ -1,4 +1,7 @@
 -- which jobs a party has in hand or runs, by its places
+--
+-- The lemma `table` goes over all places. After a move a party has in hand what it had, with what it took, less what it
+-- gave.
 use Rattle.rayon_machine_places.specs.declared.place.Plan.{Plan}
 use Rattle.rayon_machine_places.specs.declared.place.Plan.TheVariants.{Gather}
 use Rattle.rayon_machine_places.specs.declared.place.Mark.TheVariants.{Counted, Queued, Returned, Numbered, Dealt, Unnumbered}

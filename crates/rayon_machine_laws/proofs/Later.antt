@@ -1,4 +1,7 @@
 -- what no step takes back, so that what a place says stays true while others move
+--
+-- Over stays over, a call's job stays its job, a count of 0 stays 0. So what the others do can be ignored
+-- (`later_says`).
 use Rattle.rayon_machine_places.specs.declared.place.Gathering.{Gathering}
 use Rattle.rayon_machine_places.specs.declared.place.Pieces.{Pieces}
 use Rattle.rayon_machine_places.specs.declared.place.Count.TheVariants.{OfPool, OfScope, OfCast}

@@ -1,4 +1,11 @@
 -- each job is in the one place that its record names, once
+--
+-- A `Loc` is a place where a job can be. `weight` counts how often it has a job, and `loc_of` reads a job's record as a
+-- `Loc`.
+-- The invariant is one equation: a place has a job as often as the record says, once or not at all. No lemma speaks of
+-- two places at once.
+-- An act moves at most one job from one `Loc` to another (`gone_ok` of Placed), or none (`same_ok` there). That the job
+-- was where the act takes it from is a consequence (`was_at`).
 use Rattle.std.proofs.Common.{arith, refl, sym, ◌∙◌, ap, subst}
 use Rattle.std.specs.Prelude.{ℕ, Bool, true, false, ◌&&◌, ◌+◌, ◌==◌, ◌≤◌, if◌then◌else◌, Option, Some, None, ◌≡◌}
 use Rattle.std.proofs.lemmas.Bool.{eqb-true, eq-eqb}

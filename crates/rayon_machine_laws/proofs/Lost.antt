@@ -1,4 +1,7 @@
 -- no step hands back, or spends, a piece of a broadcast that was dealt
+--
+-- What was dealt is in nobody's hand as it was made, so no move hands it back (`dealt_stays`). At a count of 0 each
+-- piece was dealt, and is over (`piece_over`, Scoping).
 use Rattle.std.proofs.Common.{arith, refl, sym, ◌∙◌, ap, subst, inl, inr}
 use Rattle.std.specs.Prelude.{ℕ, zero, suc, Bool, true, false, ◌+◌, ◌-◌, ◌==◌, ◌≤◌, if◌then◌else◌, List, ◌≡◌, IfSome}
 use Rattle.std.proofs.lemmas.Bool.{eqb-true}

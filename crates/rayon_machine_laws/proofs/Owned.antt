@@ -1,5 +1,7 @@
 -- in every world of every run what a party's places name are its own calls, and who sets a call's latch sets it for its
 -- owner
+--
+-- `SetsFor` says for whom a latch is set.
 use Rattle.rayon_machine_places.specs.declared.place.Count.{Count}
 use Rattle.rayon_machine_places.specs.declared.place.Pieces.{Pieces}
 use Rattle.rayon_machine_places.specs.declared.state.Scope.{Scope}

@@ -1,4 +1,13 @@
 -- the acts keep each job in its one place
+--
+-- An act has two halves. `midway` is the world after its effect. There the run that the move starts has not begun, and
+-- a refused call's jobs are not handed back. A token that the move spends is still in hand. `land_ok` (PlacedEvents)
+-- makes the rest.
+-- The lemma of each act:
+-- - a pop of the own deque, a steal: `pop_mid`. A take from the injector: `inj_mid`; from the own broadcast list:
+--   `cast_mid`.
+-- - a push: `push_mid`; of a token: `token_mid`. FifoIn, FifoUndo and FifoOut: `in_mid`, `undo_mid`, `out_mid`.
+-- - a begin: `begin_mid`. Every other act: `quiet_mid`.
 use Rattle.std.proofs.Common.{arith, refl, sym, ◌∙◌, ap, subst}
 use Rattle.std.specs.Prelude.{ℕ, Bool, true, false, ◌&&◌, ◌+◌, ◌==◌, ◌≤◌, if◌then◌else◌, Option, Some, None, List, [], ◌∷◌, ◌++◌, ◌≡◌, IfSome}
 use Rattle.std.proofs.lemmas.Bool.{eqb-true, eq-eqb}

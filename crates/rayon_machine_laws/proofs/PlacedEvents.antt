@@ -1,4 +1,7 @@
 -- each step keeps each job in its one place
+--
+-- A push of the pieces of a broadcast, with its move: `deal_ok`. Pieces are handed back: `all_back`. A join's first
+-- side begins: `start_run`. A refused call hands its jobs back: `hand_back`.
 use Rattle.rayon_machine_places.specs.declared.place.Mark.{Mark as Marking}
 use Rattle.rayon_machine_places.specs.declared.place.Count.{Count}
 use Rattle.rayon_machine_places.specs.declared.place.Gathering.{Gathering}

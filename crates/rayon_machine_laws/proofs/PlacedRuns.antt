@@ -1,4 +1,8 @@
 -- each job is in its one place, once, in every world of every run
+--
+-- `JobsHold` says: each job is in the one place that its record names, once; how often it was begun fits where it is;
+-- each number given out has a job, and no other number has.
+-- The end of a run: `end_kept`. A call that makes one job, two jobs, pieces: `make_one`, `make_two`, `cast_kept`.
 use Rattle.rayon_machine_places.specs.declared.place.Count.TheVariants.{OfPool, OfScope, OfCast}
 use Rattle.rayon_machine_places.specs.declared.place.Count.{Count}
 use Rattle.rayon_machine_places.specs.declared.place.Pieces.{Pieces}

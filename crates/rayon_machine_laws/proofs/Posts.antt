@@ -1,5 +1,5 @@
--- what a place says of letters, sleep locks and books, and of the bottom of its party's stack, and what each act and move
--- leaves of it
+-- what a place says of letters, sleep locks and books, and of the bottom of its party's stack, and what each act and
+-- move leaves of it
 use Rattle.std.proofs.Common.{rules, arith, refl, ◌∙◌, sym, ap}
 use Rattle.std.specs.Prelude.{ℕ, Bool, true, false, not, ◌&&◌, ◌+◌, nat_lt, if◌then◌else◌, Option, Some, None, ◌≡◌, IfSome, ⊤}
 use Rattle.rayon_machine_places.specs.declared.place.Party.{Party}

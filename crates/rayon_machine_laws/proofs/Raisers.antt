@@ -1,4 +1,7 @@
 -- only one party raises the count for a job, or has a piece that waits for its share
+--
+-- No two parties raise a count for one job (`one_raiser`). So what is dealt had no share (`ungiven`, ShareSteps), and
+-- what is handed back undealt had none (`back_bare`, ShareRuns).
 use Rattle.std.proofs.Common.{arith, refl, sym, ◌∙◌, ap, subst, inl, inr}
 use Rattle.std.specs.Prelude.{ℕ, true, false, zero, suc, ◌+◌, ◌==◌, ◌≤◌, Some, None, List, [], ◌∷◌, ◌≡◌, ◌⊎◌}
 use Rattle.std.proofs.lemmas.Bool.{eqb-true}

@@ -1,5 +1,7 @@
 -- a token that is to be redeemed finds a job in its FIFO list: the tokens that are queued or in hand, and the list's
 -- holder, are no more than its jobs
+--
+-- The tokens counted are those queued at the list's pool, or in a hand there. Lists of scopes are among them.
 use Rattle.rayon_machine_places.specs.declared.place.Mark.{Mark as Marking}
 use Rattle.rayon_machine_places.specs.declared.place.Mark.TheVariants.{Counted, Queued, Returned, Numbered, Dealt, Unnumbered}
 use Rattle.rayon_machine_laws.proofs.PlacedEvents.{is_dealing, no_deals}

@@ -1,4 +1,11 @@
 -- what is said of the count of each scope, and what a step that changes no count leaves of it
+--
+-- `ScopesHold` says: the share of a scope's body is in at most one place, and in none where it is not counted; a
+-- scope's count is the sum of its shares; a body whose share is given back is over.
+-- Of a broadcast that waits: while a piece is not dealt, or once it is handed back, shares wait in the call's count.
+-- They are as many as the pool has workers.
+-- A scope's count is as a pool's: the sum over its jobs with a share (`entry`), and one for its body. A job of a scope
+-- keeps its share as a detached job does.
 use Rattle.rayon_machine_laws.proofs.Lost.{is_dealt}
 use Rattle.std.proofs.Common.{rules, arith, refl, sym, ◌∙◌, ap, subst, inl, inr}
 use Rattle.std.specs.Prelude.{ℕ, Bool, true, false, ◌&&◌, ◌+◌, ◌-◌, ◌==◌, ◌≤◌, ◌<◌, nat_lt, if◌then◌else◌, List, ◌≡◌, IfSome, ◌||◌, nat_le}

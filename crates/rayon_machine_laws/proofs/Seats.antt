@@ -1,4 +1,9 @@
 -- each worker's seat fits the place where the worker stands
+--
+-- By `mode` a worker is out of any search, seeking, owning its lock, dozing, or lying blocked. `SeatOk` says of its
+-- place and seat three facts, which every step keeps (`always_seats` of Events).
+-- It is inactive exactly while it is in its search or asleep. It counts as sleeping exactly from its TryAdd until it
+-- takes itself out or is woken. While it falls asleep it holds its own sleep lock.
 use Rattle.std.proofs.Common.{rules, arith, refl, sym, subst}
 use Rattle.std.specs.Prelude.{ℕ, Bool, true, false, ◌&&◌, ◌||◌, ◌+◌, nat_lt, if◌then◌else◌, Some, ◌≡◌, IfSome, Option, None, List, [], ◌∷◌, ◌++◌}
 use Rattle.rayon_machine_places.specs.declared.place.Party.{Party}

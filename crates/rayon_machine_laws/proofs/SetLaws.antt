@@ -1,4 +1,7 @@
 -- each latch is set once, by one party: what the act at a place makes of the latches, and what each step does
+--
+-- Of the clause `sets` there is one more case. The act that makes a call's cell unsets its latch; then its job is in a
+-- hand, or its pieces wait in its count (`grow_unready`).
 use Rattle.std.proofs.Common.{arith, refl, sym, ◌∙◌, ap, subst, inl, inr}
 use Rattle.std.specs.Prelude.{ℕ, Bool, true, false, not, ◌&&◌, ◌+◌, ◌-◌, ◌==◌, ◌≤◌, ◌<◌, if◌then◌else◌, Option, Some, List, [], ◌∷◌, ◌≡◌, ◌⊎◌, IfSome}
 use Rattle.std.proofs.lemmas.Bool.{eqb-true, eq-eqb, ltb-true}

@@ -1,4 +1,8 @@
 -- each act keeps what holds of who is to set which latch: it finds the latch unset, and nobody else is to set it
+--
+-- That Lower found the count above 0, and the run from which the Store follows was running. So before it the call could
+-- not be set (`led_by`, `undone_unready`). But who is to set a latch, and a latch that is set, says that it can
+-- (`means_ready`; `IsReady` in ClaimPlaces). So nobody else was to set it, and it was not set.
 use Rattle.std.proofs.Common.{arith, refl, sym, ◌∙◌, ap, subst, inl, inr}
 use Rattle.std.specs.Prelude.{ℕ, Bool, true, false, not, ◌&&◌, ◌||◌, ◌+◌, ◌==◌, ◌≤◌, ◌<◌, nat_lt, if◌then◌else◌, Some, List, ◌≡◌, ◌⊎◌, IfSome, slice_get, ⊤}
 use Rattle.std.proofs.lemmas.Bool.{eqb-true, eq-eqb, ltb-true}

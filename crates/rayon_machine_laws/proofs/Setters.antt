@@ -1,5 +1,10 @@
--- whose latch a place is about to set, and of which pool it sets the terminate latches one after the other, over each act
--- and move
+-- whose latch a place is about to set, and of which pool it sets the terminate latches one after the other, over each
+-- act and move
+--
+-- The table is `means` for calls, and `walks` for the terminate latches of a pool. Of these `unset_from` is the first
+-- that is not set.
+-- `leads_on` goes over the table of moves. A place comes to set a call's latch from its Store, or from a Lower that
+-- sees the last share.
 use Rattle.std.proofs.Common.{rules, arith, refl, sym, ◌∙◌, ap, inl, inr}
 use Rattle.std.specs.Prelude.{ℕ, Bool, true, false, ◌&&◌, ◌+◌, ◌-◌, ◌==◌, ◌≤◌, nat_lt, if◌then◌else◌, Option, Some, None, ◌≡◌, ◌⊎◌, IfSome}
 use Rattle.std.proofs.lemmas.Bool.{eqb-true}

@@ -1,4 +1,9 @@
 -- each act keeps the shares and their sum
+--
+-- `SharesHold` says: each share of a terminate count is in at most one place, and none is where it is not counted; the
+-- count is the sum of the shares, the value's with them. So a count of 0 means that no share is left.
+-- The table `share` (specs/Shares) says which places keep a share. The sums over a pool's jobs pass jobs of scopes over
+-- (`tally`).
 use Rattle.rayon_machine_places.specs.declared.place.Share.TheVariants.{PoolValue, OfJob, Body}
 use Rattle.rayon_machine_places.specs.declared.place.Count.TheVariants.{OfPool, OfScope, OfCast}
 use Rattle.std.proofs.Common.{rules, arith, refl, sym, ◌∙◌, ap, subst}

@@ -1,4 +1,8 @@
 -- the acts that take a share or give it back, and those that do neither
+--
+-- A Raise takes a share that nobody had (`raise_hold`). A Lower gives one back that the party had (`lower_job` and
+-- `lower_value` of ShareLowers). Every other act moves it or leaves it (`plain_hold`).
+-- The two acts of a broadcast do so for all pieces at once (`raise_all_hold`, and `lower_all_hold` of ShareLowers).
 use Rattle.rayon_machine_places.specs.declared.place.Gathering.{Gathering}
 use Rattle.rayon_machine_laws.proofs.Raisers.{one_raiser}
 use Rattle.rayon_machine_places.specs.declared.place.Party.TheVariants.{Worker, Caller}

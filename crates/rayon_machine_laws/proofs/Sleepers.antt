@@ -1,4 +1,7 @@
 -- sleepers are inactive, the committed sleep and hold their locks, and the sets are as the places say
+--
+-- A committed worker counts as sleeping (`committed_sleeps`), and holds its lock or is blocked (`committed_holds`).
+-- Both follow from `SeatOk` of Seats.
 use Rattle.std.proofs.Common.{refl, sym, ◌∙◌, ap, inl, inr}
 use Rattle.std.specs.Prelude.{ℕ, Bool, true, false, ◌||◌, Some, ◌≡◌, ◌⊎◌}
 use Rattle.rayon_machine_places.specs.declared.place.Party.TheVariants.{Worker}

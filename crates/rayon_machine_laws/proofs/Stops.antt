@@ -1,4 +1,6 @@
 -- a worker stops, and leaves its search without a task, only once the latch that it waits for is set
+--
+-- `run_has` is as `run_keeps`, but its step has the run before it, and so every law that is proved.
 use Rattle.std.proofs.Common.{refl, ◌∙◌, sym, ap, subst, inl, inr}
 use Rattle.std.specs.Prelude.{ℕ, Bool, true, false, ◌&&◌, ◌==◌, ◌<◌, nat_lt, if◌then◌else◌, Some, None, ◌≡◌, ◌⊎◌, IfSome, List, [], ◌∷◌, ◌++◌}
 use Rattle.std.proofs.lemmas.Bool.{lt-ltb}

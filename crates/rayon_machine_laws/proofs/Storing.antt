@@ -1,4 +1,7 @@
 -- what acts leave of the faults that calls keep, of the jobs that have ended so, and of the shares of those
+--
+-- StorePiece alone writes what a broadcast keeps (`act_storing`), and makes it the lower of two. Only that place leads
+-- to the Lower of a piece's share (`act_leads`).
 use Rattle.std.proofs.Common.{rules, arith, refl, sym, ◌∙◌, ap, inl, inr}
 use Rattle.std.specs.Prelude.{ℕ, Bool, true, false, ◌+◌, ◌-◌, ◌==◌, ◌≤◌, ◌<◌, nat_lt, min, if◌then◌else◌, Option, Some, None, ◌≡◌, IfSome, ◌⊎◌}
 use Rattle.std.proofs.lemmas.Bool.{ltb-true, ltb-false}

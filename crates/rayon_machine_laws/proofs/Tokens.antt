@@ -1,4 +1,8 @@
 -- a share is in at most one place: with one party, or with its owner
+--
+-- `Tokens` says of one share: the parties and its owner have it at most once together, and not at all where it is
+-- uncounted. A gain is `tokens_gain`, a giving back `tokens_pay`; else it moves or stays (`tokens_keep`). How many
+-- pieces there are is a sum too (`pieces_below`).
 use Rattle.rayon_machine_laws.specs.Once.{one}
 use Rattle.rayon_machine_places.specs.Steps.{is_piece}
 use Rattle.rayon_machine_places.specs.declared.place.Pieces.{Pieces}

@@ -1,4 +1,6 @@
 -- where a party stands after an act, and that only frames stand below
+--
+-- At a light place nothing of the sleep half is done. Only frames stand below a top (`FramesOk`).
 use Rattle.rayon_machine_places.specs.declared.place.Plan.TheVariants.{Feed}
 use Rattle.rayon_machine_places.specs.declared.place.Plan.{Plan}
 use Rattle.std.proofs.Common.{rules, arith, refl}

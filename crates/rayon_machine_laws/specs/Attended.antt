@@ -1,4 +1,10 @@
 -- attended pools: where work waits, no committed worker is left alone with it
+--
+-- Broken by the wrong machines, in `rayon_machine_orders/proofs`:
+-- - injectors: `injector_looked_at_before_counted`, `last_look_skipped`, `leaving_searcher_wakes_nobody`,
+--   `waker_stops_one_short` and `news_counts_sleepers_as_awake` (WrongMachines).
+-- - latches: `latch_set_by_load_and_store` (WrongMachines).
+-- - broadcast lists: `call_of_all_skips_a_worker` (CastTeeth), `waiting_call_of_all_skips_a_worker` (GatherTeeth).
 use Rattle.std.specs.Prelude.{ℕ, Bool, true, false, not, ◌&&◌, ◌+◌, ◌==◌, ◌<◌, nat_lt, nat_le, List, [], ◌∷◌, ◌≡◌, ◌⊎◌}
 use Rattle.rayon_machine_places.specs.declared.place.Party.{Party}
 use Rattle.rayon_machine_places.specs.declared.place.Party.TheVariants.{Worker}

@@ -1,4 +1,16 @@
 -- a pool's terminate count is the number of its shares, and each share is kept once
+--
+-- So the count is the sum of three: 1 for the value while it is counted; 1 for each detached job from its Raise to its
+-- Lower; 1 for each waiting call from its Raise to its last Lower.
+-- A share that is lost breaks this. So does one in the number that nobody is left to give back.
+-- Where a scope's body has run, and its share is not given back, exactly one party is to do so.
+-- Broken by the wrong machines, in `rayon_machine_orders/proofs`:
+-- - `IsCounted`: `refused_push_keeps_its_share` and `lower_lowers_nothing` (WrongMachines),
+--   `refused_broadcast_keeps_its_shares` (CastTeeth), `refused_spawn_keeps_its_share` (ScopeTeeth),
+--   `body_leaves_out_its_lower` (CountTeeth), `dealt_shares_wait_still` and `refused_waiting_broadcast_keeps_its_share`
+--   (PieceTeeth).
+-- - `ScopesCounted`: `lower_lowers_no_scope` (ScopeTeeth), `scope_starts_at_zero` and `body_lowers_the_scope_twice`
+--   (CountTeeth), `pieces_have_no_shares` and `refused_pieces_keep_their_shares` (PieceTeeth).
 use Rattle.rayon_machine_places.specs.declared.state.Whereabouts.{Whereabouts}
 use Rattle.rayon_machine_places.specs.declared.state.Whereabouts.TheVariants.{Made, Over, HandedBack}
 use Rattle.rayon_machine_places.specs.Readers.{is_done}

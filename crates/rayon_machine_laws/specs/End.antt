@@ -1,4 +1,11 @@
 -- how calls end
+--
+-- The clause of refused calls does not speak of a call whose Raise was refused: it hands its jobs back in that same
+-- step. Once they are handed back it speaks of them too.
+-- Broken by the wrong machines, in `rayon_machine_orders/proofs`:
+-- - `IsEnd`: `caller_passes_a_latch_that_is_not_set` (WrongMachines), `join_skips_second_side` (CountTeeth),
+--   `piece_is_stored_after_its_lower` (PieceTeeth).
+-- - `IsRefused`: `refused_token_leaves_its_job` (ListTeeth).
 use Rattle.rayon_machine_places.specs.Steps.{is_piece}
 use Rattle.rayon_machine_places.specs.declared.place.Pieces.{Pieces}
 use Rattle.std.specs.Prelude.{ℕ, false, ◌+◌, Option, Some, None, ◌≡◌, ◌≤◌, ◌<◌, ◌⊎◌, ⊤, true}

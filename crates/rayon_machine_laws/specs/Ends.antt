@@ -1,4 +1,7 @@
 -- what a step makes of a job's run
+--
+-- Broken by the wrong machines, in `rayon_machine_orders/proofs`: `fault_is_over_fine`, `job_runs_nowhere`
+-- (RecordTeeth).
 use Rattle.std.specs.Prelude.{ℕ, ◌+◌, Some, List, ◌≡◌, ◌⊎◌}
 use Rattle.rayon_machine_places.specs.declared.place.Party.{Party}
 use Rattle.rayon_machine_places.specs.declared.place.Ending.{Ending}

@@ -1,4 +1,7 @@
 -- what no step changes of a job
+--
+-- Broken by the wrong machines, in `rayon_machine_orders/proofs`: `piece_forgets_its_worker` (CastTeeth),
+-- `other_number_is_filled` (RecordTeeth).
 use Rattle.std.specs.Prelude.{ℕ, Bool, true, false, ◌==◌, ◌<◌, Some, List, ◌≡◌}
 use Rattle.rayon_machine_places.specs.declared.event.Event.{Event}
 use Rattle.rayon_machine_places.specs.declared.state.Slot.{Slot}

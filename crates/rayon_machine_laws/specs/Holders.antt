@@ -1,4 +1,7 @@
 -- who holds each sleep lock, each scope's book and each FIFO list
+--
+-- Broken by the wrong machines, in `rayon_machine_orders/proofs`: `waker_keeps_the_lock`, `push_keeps_the_list` and
+-- `held_lock_is_taken` for `IsHolding`, `lock_is_held` for `HolderLaw` (SeatTeeth).
 use Rattle.std.specs.Prelude.{ℕ, Bool, false, not, ◌&&◌, ◌==◌, Option, Some, None, List, ◌≡◌}
 use Rattle.rayon_machine_places.specs.declared.place.Party.{Party}
 use Rattle.rayon_machine_places.specs.declared.place.Place.{Place}

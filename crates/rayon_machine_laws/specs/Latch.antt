@@ -1,4 +1,8 @@
 -- what a call's latch and cell tell
+--
+-- Broken by the wrong machines, in `rayon_machine_orders/proofs`:
+-- - `IsLatched`: `scope_counts_its_jobs_alone` and `scope_ends_while_a_job_runs` (CountTeeth).
+-- - `IsSetOnce`: `body_and_job_set_the_latch`, `job_sets_the_latch_again` and `end_sets_latches_again` (LatchTeeth).
 use Rattle.rayon_machine_places.specs.declared.place.Party.{Party}
 use Rattle.rayon_machine_places.specs.declared.place.JobKind.TheVariants.{BodyOf, PieceOf, WholeOf}
 use Rattle.rayon_machine_laws.specs.Counted.{has_body, ScopeEnded}

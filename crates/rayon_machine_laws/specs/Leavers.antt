@@ -1,4 +1,7 @@
 -- how many wakes are owed: by a worker that leaves its search, and by a party that tells the news of a job
+--
+-- Broken by the wrong machines, in `rayon_machine_orders/proofs`: `leaving_searcher_wakes_one`,
+-- `news_takes_each_queue_for_empty` (CountTeeth).
 use Rattle.std.specs.Prelude.{ℕ, Bool, true, false, ◌+◌, ◌==◌, ◌<◌, ◌≤◌, min, if◌then◌else◌, Some, List, ◌≡◌}
 use Rattle.rayon_machine_places.specs.declared.place.Party.{Party}
 use Rattle.rayon_machine_places.specs.declared.place.Place.{Place}

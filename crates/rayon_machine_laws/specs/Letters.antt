@@ -1,4 +1,7 @@
 -- what each latch says while it is not set, by where its worker stands, and where a worker leaves what it waits in
+--
+-- Broken by the wrong machines, in `rayon_machine_orders/proofs`: `worker_stops_when_idle` for `StopsOnSet`,
+-- `latch_is_left_unset` for `IsLettered` (SeatTeeth).
 use Rattle.std.specs.Prelude.{ℕ, false, ◌<◌, if◌then◌else◌, None, ◌≡◌, ◌⊎◌}
 use Rattle.rayon_machine_places.specs.declared.place.Party.{Party}
 use Rattle.rayon_machine_places.specs.declared.place.Party.TheVariants.{Worker}

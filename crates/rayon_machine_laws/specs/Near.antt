@@ -1,4 +1,6 @@
 -- where a job may be: at its own pool, a piece with its own worker, and in the list of its own kind
+--
+-- Broken by the wrong machines, in `rayon_machine_orders/proofs`: `job_is_queued_elsewhere` (RecordTeeth).
 use Rattle.std.specs.Prelude.{ℕ, Bool, true, false, not, ◌&&◌, ◌||◌, ◌==◌, Option, Some, None, ◌≡◌}
 use Rattle.rayon_machine_places.specs.declared.place.JobKind.{JobKind}
 use Rattle.rayon_machine_places.specs.declared.place.JobKind.TheVariants.{Detached, Stored, Direct, Scoped, BodyOf, TokenOf}

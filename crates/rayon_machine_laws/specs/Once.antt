@@ -1,4 +1,10 @@
 -- each job runs at most once, and stands exactly once where its record says, and so does each token
+--
+-- Broken by the wrong machines, in `rayon_machine_orders/proofs`:
+-- - `IsOnce`: `push_drops_its_job` and `refused_call_loses_its_jobs` (WrongMachines), `broadcast_skips_its_last_worker`
+--   (CastTeeth), `waiting_push_skips_the_last_worker` (GatherTeeth).
+-- - `IsRedeemed`: `token_pushed_before_job` (FifoTeeth), `token_of_a_scope_before_its_job` and
+--   `job_of_a_scope_in_the_detached_list` (ListTeeth).
 use Rattle.rayon_machine_places.specs.declared.place.Party.TheVariants.{Worker}
 use Rattle.std.specs.Prelude.{ℕ, Bool, true, false, ◌&&◌, ◌+◌, ◌==◌, ◌≤◌, ◌<◌, Option, Some, None, List, [], ◌∷◌, ◌≡◌}
 use Rattle.rayon_machine_places.specs.declared.place.Party.{Party}

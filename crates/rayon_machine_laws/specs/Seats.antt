@@ -1,4 +1,6 @@
 -- in which sets a worker is, by where it stands
+--
+-- Broken by the wrong machines, in `rayon_machine_orders/proofs`: `busy_worker_is_inactive` (SeatTeeth).
 use Rattle.std.specs.Prelude.{ℕ, Bool, true, false, ◌||◌, ◌≡◌}
 use Rattle.rayon_machine_places.specs.declared.place.Party.TheVariants.{Worker}
 use Rattle.rayon_machine_places.specs.declared.place.Place.{Place}

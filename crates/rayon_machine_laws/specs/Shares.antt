@@ -1,4 +1,7 @@
 -- who keeps a pool from ending
+--
+-- `NoEarlyEnd` is broken by the wrong machines `scope_leaves_its_job` (ScopeTeeth) and `end_sets_latches_at_once`
+-- (CountTeeth), in `rayon_machine_orders/proofs`.
 use Rattle.rayon_machine_places.specs.Steps.{is_piece}
 use Rattle.rayon_machine_places.specs.declared.place.JobKind.{JobKind}
 use Rattle.std.specs.Prelude.{ℕ, Bool, true, false, ◌+◌, ◌==◌, List, [], ◌∷◌, ◌≡◌}

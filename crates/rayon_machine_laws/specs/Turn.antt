@@ -1,4 +1,11 @@
 -- the turn of a pool between a worker's last Announce and its TryAdd that is done
+--
+-- Without the premise on the number of raises the law is false. With a counter of one bit another worker's Announce and
+-- one News make a whole turn. Then the first worker's TryAdd is done although there was news: `whole_turn` and
+-- `turned_round` in proofs/Vectors. With 32 bits it is not done there (`turned_not`).
+-- Why the law holds: an Announce leaves the turn even, and a News raises an even turn. A TryAdd is done only if the
+-- counter is the announced one. Two turns less than 2^bits apart with the same remainder are the same.
+-- Broken by the wrong machine `announce_leaves_event_counter` (WrongMachines), in `rayon_machine_orders/proofs`.
 use Rattle.std.specs.Prelude.{ℕ, Bool, true, false, ◌&&◌, ◌+◌, ◌^◌, ◌==◌, ◌<◌, Some, List, [], ◌∷◌, ◌≡◌}
 use Rattle.rayon_machine_places.specs.declared.place.Party.TheVariants.{Worker}
 use Rattle.rayon_machine_places.specs.declared.place.Place.{Place}

@@ -1,4 +1,6 @@
 -- each event moves its own party alone, and a party that yields makes none but the looks and choices of its search
+--
+-- The first is `leaves`, and `shut` names the acts that are none of who yields. A yield needs no more.
 use Rattle.std.proofs.Common.{refl, ◌∙◌, sym, ap, subst}
 use Rattle.std.specs.Prelude.{ℕ, Bool, true, false, ◌&&◌, ◌==◌, nat_lt, if◌then◌else◌, Option, Some, None, slice_get, ◌≡◌, IfSome}
 use Rattle.std.proofs.lemmas.Bool.{eqb-true}

@@ -1,4 +1,7 @@
 -- where a party has an act, can be refused it, and holds what others wait for
+--
+-- It stands on `HoldersHold`, `FeedersHold` and `StopsHold` of `rayon_machine_laws`: who leaves a lock holds it, and
+-- who takes a number back holds the book; no other party holds a worker's own FIFO list.
 use Rattle.std.proofs.Common.{refl, ◌∙◌, sym, ap}
 use Rattle.std.specs.Prelude.{ℕ, Bool, true, false, not, nat_lt, if◌then◌else◌, Option, Some, ◌≡◌}
 use Rattle.std.proofs.lemmas.Bool.{lt-ltb}

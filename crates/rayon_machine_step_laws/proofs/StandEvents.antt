@@ -1,4 +1,6 @@
 -- where each party can stand, over the events that are no acts and over each step of each run
+--
+-- This is `StandsHold`, and `always_stands` says it of every world.
 use Rattle.std.proofs.Common.{refl, ◌∙◌, sym, ap, subst}
 use Rattle.std.specs.Prelude.{ℕ, Bool, true, false, not, ◌&&◌, ◌+◌, ◌-◌, ◌==◌, nat_lt, if◌then◌else◌, Some, ◌≡◌, IfSome, List, [], ◌∷◌}
 use Rattle.rayon_machine_places.specs.declared.place.Party.{Party}

@@ -1,5 +1,7 @@
--- where each party can stand, over each act and move: nobody stands at a frame, and an outside caller only at places that
--- have an act of its own
+-- where each party can stand, over each act and move: nobody stands at a frame, and an outside caller only at places
+-- that have an act of its own
+--
+-- Which frames fit below is shown too (`Goes`).
 use Rattle.std.proofs.Common.{rules, arith, refl, ◌∙◌, sym, ap}
 use Rattle.std.specs.Prelude.{ℕ, Bool, true, false, not, ◌&&◌, ◌||◌, ◌+◌, nat_lt, if◌then◌else◌, Option, Some, None, ◌≡◌, IfSome, ⊤, List, [], ◌∷◌}
 use Rattle.rayon_machine_places.specs.declared.place.Party.{Party}

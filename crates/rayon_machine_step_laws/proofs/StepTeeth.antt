@@ -1,5 +1,5 @@
--- wrong machines of steps: replays, computed by the kernel, in which a changed step breaks a clause of law_enabled or of
--- law_yield, and that the machine as it is meets the clause there
+-- wrong machines of steps: replays, computed by the kernel, in which a changed step breaks a clause of law_enabled or
+-- of law_yield, and that the machine as it is meets the clause there
 use Rattle.std.proofs.Common.{refl}
 use Rattle.std.specs.Prelude.{ℕ, zero, suc, Bool, true, false, ◌==◌, nat_lt, if◌then◌else◌, Option, Some, None, is_some, List, [], ◌∷◌, ◌++◌, ◌≡◌, IfSome}
 use Rattle.rayon_machine_places.specs.declared.shape.Order.TheVariants.{NewestFirst}

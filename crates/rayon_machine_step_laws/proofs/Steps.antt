@@ -1,4 +1,6 @@
 -- which events a world allows: what each act, and each other event, needs
+--
+-- The table is `needs`; that `is_open_to` is all of it is shown over each act, choice, end and call.
 use Rattle.std.proofs.Common.{refl, ◌∙◌, sym, ap}
 use Rattle.std.specs.Prelude.{ℕ, Bool, true, false, not, ◌&&◌, ◌==◌, nat_lt, if◌then◌else◌, Option, Some, None, is_some, slice_get, ◌≡◌, List, [], ◌∷◌}
 use Rattle.rayon_machine_places.specs.declared.place.Party.{Party}

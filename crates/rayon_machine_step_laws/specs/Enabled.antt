@@ -1,5 +1,7 @@
 -- which events a world allows: where a party has an act, can make it, and can be refused it; and where a run can end, a
 -- victim be chosen, a steal miss, and a call begin
+--
+-- So no law is met by a machine that stands still. Broken by the wrong machines of StepTeeth.
 use Rattle.std.specs.Prelude.{ℕ, Bool, true, false, not, ◌&&◌, nat_lt, Option, Some, None, is_some, slice_get, ◌≡◌, ◌<◌}
 use Rattle.rayon_machine_places.specs.declared.place.Party.{Party}
 use Rattle.rayon_machine_places.specs.declared.place.Party.TheVariants.{Worker, Caller}

@@ -1,4 +1,7 @@
 -- yields: what a worker that yields looks at, and in which order
+--
+-- Broken by `yield_skips_injector`, `yield_skips_the_other`, `yield_leaves_its_task` and `local_looks_further` of
+-- StepTeeth.
 use Rattle.std.specs.Prelude.{ℕ, Bool, true, false, ◌==◌, ◌<◌, if◌then◌else◌, Option, Some, None, List, [], ◌∷◌, ◌++◌, ◌≡◌, ◌⊎◌}
 use Rattle.rayon_machine_places.specs.declared.place.Party.{Party}
 use Rattle.rayon_machine_places.specs.declared.place.Party.TheVariants.{Worker}

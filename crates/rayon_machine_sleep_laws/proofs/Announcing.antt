@@ -1,5 +1,5 @@
--- a worker that is about to block itself has announced itself since it last became inactive, blocked itself or was counted
--- as sleeping no more
+-- a worker that is about to block itself has announced itself since it last became inactive, blocked itself or was
+-- counted as sleeping no more
 use Rattle.std.proofs.Common.{rules, arith, refl, sym, ◌∙◌, ap, subst, inl, inr}
 use Rattle.std.specs.Prelude.{ℕ, Bool, true, false, not, ◌&&◌, ◌+◌, ◌==◌, nat_lt, if◌then◌else◌, Some, List, [], ◌∷◌, ◌++◌, ◌≡◌, ◌⊎◌, IfSome}
 use Rattle.rayon_machine_places.specs.declared.place.Party.{Party}

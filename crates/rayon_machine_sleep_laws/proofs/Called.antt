@@ -1,4 +1,6 @@
 -- a worker that looks no more at its broadcast list, where that is filled, is called
+--
+-- Who has filled that list calls all, and has not passed the worker (`always_hears`).
 use Rattle.rayon_machine_places.specs.declared.place.Count.TheVariants.{OfPool, OfScope, OfCast}
 use Rattle.rayon_machine_places.specs.declared.place.Plan.TheVariants.{Detach, Here, Send, Fork, Feed, Open, Enter, Gather}
 use Rattle.rayon_machine_places.specs.declared.place.Count.{Count}

@@ -1,5 +1,5 @@
--- wrong machines of completions: replays, computed by the kernel, in which a changed table breaks a clause of law_done: the
--- latch is not set, and none of the parties that ever moved comes to set it
+-- wrong machines of completions: replays, computed by the kernel, in which a changed table breaks a clause of law_done:
+-- the latch is not set, and none of the parties that ever moved comes to set it
 use Rattle.std.proofs.Common.{refl}
 use Rattle.std.specs.Prelude.{Bool, true, false, ◌||◌, List, [], ◌∷◌, ◌++◌, ◌≡◌, IfSome}
 use Rattle.rayon_machine_places.specs.declared.place.Party.{Party}

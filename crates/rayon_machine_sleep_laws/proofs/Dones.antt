@@ -1,5 +1,7 @@
--- no completion of a scope, of a broadcast or of a pool is lost: each step keeps that, where the count is 0, the latch is
--- set or a party comes to set it
+-- no completion of a scope, of a broadcast or of a pool is lost: each step keeps that, where the count is 0, the latch
+-- is set or a party comes to set it
+--
+-- `Nearly` is of scopes and broadcasts, `Coming` of pools.
 use Rattle.std.proofs.Common.{arith, refl, sym, ◌∙◌, ap, subst, inl, inr, ◌≢◌}
 use Rattle.std.specs.Prelude.{ℕ, Bool, true, false, ◌&&◌, ◌+◌, ◌==◌, ◌≤◌, ◌<◌, nat_lt, nat_le, if◌then◌else◌, Some, List, [], ◌∷◌, ◌++◌, ◌≡◌, ◌⊎◌, IfSome}
 use Rattle.std.proofs.lemmas.Bool.{eqb-true, eq-eqb, lt-ltb, le-leb}

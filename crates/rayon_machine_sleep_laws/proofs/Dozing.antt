@@ -1,4 +1,6 @@
 -- where the latch of a worker that falls asleep is set, its setter is on its way to wake it
+--
+-- A dozing worker's latch is sleeping or set.
 use Rattle.rayon_machine_places.specs.declared.place.Gathering.{Gathering}
 use Rattle.rayon_machine_places.specs.declared.place.Then.{Then}
 use Rattle.rayon_machine_places.specs.declared.place.OpenCall.{OpenCall}

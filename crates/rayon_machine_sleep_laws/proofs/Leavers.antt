@@ -1,4 +1,7 @@
 -- who leaves its search, and who tells the news, owes the pool so many wakes
+--
+-- The two acts that see how many to wake stand each at one place of the table. It leads to a walk that owes as many,
+-- from the first worker on (`walk_owes`). There is a worker to begin at, since one sleeps.
 use Rattle.std.proofs.Common.{arith, refl, sym, ◌∙◌, ap, subst, inl, inr}
 use Rattle.std.specs.Prelude.{ℕ, zero, suc, Bool, true, false, ◌-◌, ◌==◌, ◌<◌, ◌≤◌, min, nat_lt, if◌then◌else◌, Option, Some, List, ◌≡◌, IfSome}
 use Rattle.std.proofs.lemmas.Bool.{eqb-true, eq-eqb, lt-ltb, ltb-true, ltb-false}

@@ -1,4 +1,9 @@
 -- in every world of every run a blocked worker on a set latch is on its setter's way
+--
+-- Why (`always_watched`, `latch_attended`): a worker makes its latch sleeping before it can be committed. From then on
+-- only its setter changes it. The latch of a call is written by the call's own party, and set for its owner alone.
+-- A Set that finds `Sleeping` goes to the worker's lock. Its Wake there finds the worker blocked, or not yet asleep in
+-- its lock's keeping. In between the worker holds its own lock, so the setter waits.
 use Rattle.std.proofs.Common.{rules, arith, refl, sym, ◌∙◌, ap, subst, inl, inr}
 use Rattle.std.specs.Prelude.{ℕ, Bool, true, false, ◌&&◌, ◌==◌, ◌<◌, if◌then◌else◌, Option, Some, None, List, ◌≡◌, ◌⊎◌, IfSome}
 use Rattle.std.proofs.lemmas.Bool.{eqb-true, eq-eqb}

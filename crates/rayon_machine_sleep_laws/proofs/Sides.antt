@@ -1,4 +1,6 @@
 -- a job that a call waits for, and that its own party begins, is the second side of a join: its run is above that frame
+--
+-- This is `Backed`, over the table of moves.
 use Rattle.std.proofs.Common.{rules, arith, refl, sym, ◌∙◌, ap, subst}
 use Rattle.std.specs.Prelude.{ℕ, Bool, true, false, ◌&&◌, ◌+◌, ◌==◌, ◌≤◌, nat_lt, if◌then◌else◌, Option, Some, None, List, [], ◌∷◌, ◌≡◌, IfSome, ⊤}
 use Rattle.std.proofs.lemmas.Bool.{eq-eqb}

@@ -1,5 +1,5 @@
--- wrong machines of turns, walks and announcements: replays, computed by the kernel, in which a changed table or act breaks
--- the clause of a law that forbids it
+-- wrong machines of turns, walks and announcements: replays, computed by the kernel, in which a changed table or act
+-- breaks the clause of a law that forbids it
 use Rattle.std.proofs.Common.{refl, sym, ◌∙◌, ap}
 use Rattle.std.specs.Prelude.{ℕ, true, false, ◌+◌, ◌-◌, if◌then◌else◌, Some, List, ◌∷◌, ◌++◌, ◌≡◌, IfSome}
 use Rattle.rayon_machine_places.specs.declared.place.Party.{Party}

@@ -1,5 +1,7 @@
--- no completion of a job that a call waits for is lost: each step keeps that, once the job is over, the call's latch is set,
--- or a party comes to set it, or gives the job's share back
+-- no completion of a job that a call waits for is lost: each step keeps that, once the job is over, the call's latch is
+-- set, or a party comes to set it, or gives the job's share back
+--
+-- This is `Close`.
 use Rattle.std.proofs.Common.{arith, refl, sym, ◌∙◌, ap, subst, inl, inr}
 use Rattle.std.specs.Prelude.{ℕ, Bool, true, false, ◌&&◌, ◌+◌, ◌==◌, ◌≤◌, nat_lt, if◌then◌else◌, Option, Some, None, List, [], ◌∷◌, ◌≡◌, ◌⊎◌, IfSome}
 use Rattle.std.proofs.lemmas.Bool.{eqb-true, eq-eqb}

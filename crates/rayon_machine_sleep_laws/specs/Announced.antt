@@ -1,4 +1,8 @@
 -- a worker announces itself before it blocks itself
+--
+-- So the laws that begin at a last Announce speak of each worker that blocks itself: those of whole searches and of the
+-- turn.
+-- Broken by the wrong machines `sleeper_announces_nothing` and `sleeper_resumes` of SleepTeeth.
 use Rattle.std.specs.Prelude.{ℕ, Bool, true, false, ◌&&◌, List, ◌∷◌, ◌++◌, ◌≡◌}
 use Rattle.rayon_machine_places.specs.declared.place.Party.TheVariants.{Worker}
 use Rattle.rayon_machine_places.specs.declared.act.Act.{Act}

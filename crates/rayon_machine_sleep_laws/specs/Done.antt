@@ -1,4 +1,7 @@
--- no completion is lost: where what a latch waits for has come about, the latch is set, or some party is about to set it
+-- no completion is lost: where what a latch waits for has come about, the latch is set, or some party is about to set
+-- it
+--
+-- Broken by the wrong machines of DoneTeeth.
 use Rattle.std.specs.Prelude.{ℕ, Bool, true, false, ◌&&◌, ◌==◌, ◌<◌, nat_lt, nat_le, ◌≡◌, ◌⊎◌}
 use Rattle.rayon_machine_places.specs.declared.place.Party.{Party}
 use Rattle.rayon_machine_places.specs.declared.place.JobKind.TheVariants.{Stored}

@@ -1,4 +1,6 @@
 -- what each step makes of a pool's turn: an Announce makes it even, a News odd
+--
+-- Broken by the wrong machine `news_raises_always` of SleepTeeth.
 use Rattle.std.specs.Prelude.{ℕ, Bool, true, false, ◌+◌, ◌==◌, Some, List, ◌≡◌}
 use Rattle.rayon_machine_places.specs.declared.place.Party.{Party}
 use Rattle.rayon_machine_places.specs.declared.act.Act.{Act}

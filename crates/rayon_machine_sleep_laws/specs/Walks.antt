@@ -1,4 +1,6 @@
 -- walks of wakes: who owes wakes to a pool goes from worker to worker, and makes no more wakes than it owes
+--
+-- Broken by the wrong machine `walk_keeps_owing` of SleepTeeth.
 use Rattle.std.specs.Prelude.{ℕ, Bool, true, false, ◌+◌, ◌-◌, ◌<◌, ◌≤◌, if◌then◌else◌, List, ◌≡◌, ◌⊎◌}
 use Rattle.rayon_machine_places.specs.declared.place.Party.{Party}
 use Rattle.rayon_machine_places.specs.declared.place.Place.{Place}

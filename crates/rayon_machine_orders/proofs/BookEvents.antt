@@ -1,4 +1,7 @@
 -- the events that are no acts leave the books of scopes; and what holds of the books of every world
+--
+-- A number that is open has a job with a share. So at a count of 0 none is open, and nobody holds the book
+-- (`done_book`).
 use Rattle.std.proofs.Common.{arith, refl, sym, ◌∙◌, ap, subst, inl, inr}
 use Rattle.std.proofs.lemmas.Bool.{eqb-true, eq-eqb, ltb-true, ltb-false}
 use Rattle.std.proofs.Math.Dec.{ltb}

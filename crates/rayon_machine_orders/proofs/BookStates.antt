@@ -1,4 +1,7 @@
 -- what each place knows of the books of scopes
+--
+-- What a place knows of a book is its `BookState` (`book_of`), and `AtBook` is what that says. It is nothing at most
+-- places (`book_free`), and from such a place only such places are reached (`book_next`, BookMoves).
 use Rattle.std.proofs.Common.{arith, refl, sym, ◌∙◌, ap, subst, inl, inr}
 use Rattle.std.proofs.lemmas.Bool.{eqb-true, eq-eqb}
 use Rattle.std.specs.Prelude.{ℕ, Bool, true, false, ◌+◌, ◌-◌, ◌==◌, ◌≤◌, ◌<◌, Option, Some, None, ◌≡◌, ◌⊎◌, ⊤}

@@ -1,4 +1,15 @@
 -- the books of scopes: who has opened numbers holds the book and they are its last, and each job has another
+--
+-- Eight acts touch a book: Slot, SlotUndo, SlotAll, SlotUndoAll, StoreSlot; and three pushes: of a spawn into a scope,
+-- of the token of one in order, of a broadcast into one. Each is enabled only while no other party holds the book, or
+-- its party holds it.
+-- Who knows a job's number has its share, or is to take it. Or it holds the FIFO list that the job is last of. So no
+-- two parties do (`others_apart`).
+-- An act is said by the set of jobs whose numbers it opens, takes back or fills (`Touched`); a push has none. So each
+-- leaves what the others know (`touched_books`), and every other act leaves all books (`quiet_books`).
+-- `BooksHold` says too: nobody but who has opened numbers holds a book; each number is some job's; the number of a job
+-- that is queued or runs is open; a job whose number is open has its share. Who is to raise a scope's count, or
+-- broadcasts into the scope, runs in it.
 use Rattle.std.proofs.Common.{arith, refl, sym, ◌∙◌, ap, subst, inl, inr}
 use Rattle.std.proofs.lemmas.Bool.{eqb-true, ltb-true, ltb-false}
 use Rattle.std.proofs.Math.Dec.{ltb}

@@ -1,4 +1,7 @@
 -- what one step does to a call's place, and what it keeps of the call's jobs
+--
+-- Six acts decide more than their place does: Raise, Grow, Slot, a push, Take and Lower (`call_goes`). So do those on a
+-- FIFO list.
 use Rattle.std.proofs.Common.{rules, arith, refl, sym, ◌∙◌, ap, subst, inl, inr}
 use Rattle.std.proofs.lemmas.Bool.{eqb-true, eq-eqb}
 use Rattle.std.specs.Prelude.{ℕ, Bool, true, false, ◌||◌, ◌+◌, ◌==◌, ◌≤◌, zero, suc, nat_lt, if◌then◌else◌, Option, Some, None, List, ◌≡◌, IfSome, ⊤, ◌⊎◌}

@@ -1,4 +1,6 @@
 -- what the events that are no acts leave of a call's place in its party's stack
+--
+-- Where a call's place stands in its stack after such an event is `Turned`.
 use Rattle.rayon_machine_places.specs.declared.place.Pieces.{Pieces}
 use Rattle.std.proofs.Common.{arith, refl, sym, ◌∙◌, ap, subst, inl, inr}
 use Rattle.std.specs.Prelude.{ℕ, Bool, true, false, ◌&&◌, ◌||◌, ◌+◌, ◌==◌, ◌≤◌, nat_lt, Some, None, List, [], ◌∷◌, ◌++◌, ◌≡◌, IfSome, length, ◌⊎◌, if◌then◌else◌, Option, slice_get}

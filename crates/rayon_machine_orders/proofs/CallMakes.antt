@@ -1,4 +1,6 @@
 -- which call each event begins, with its plan, and what the law says of it
+--
+-- Which call an event begins, and the numbers that it gives out, is `begun_by`.
 use Rattle.std.proofs.Common.{arith, refl, sym, ◌∙◌, ap, subst, inl, inr}
 use Rattle.std.specs.Prelude.{ℕ, Bool, true, false, ◌&&◌, ◌||◌, ◌+◌, ◌-◌, ◌==◌, ◌≤◌, ◌<◌, if◌then◌else◌, Option, Some, None, [], ◌≡◌, IfSome, ◌⊎◌, slice_get}
 use Rattle.std.proofs.lemmas.Bool.{eqb-true, eq-eqb}

@@ -1,4 +1,10 @@
 -- which places are of a call's own program, and where each leads
+--
+-- `Part` says which places are of the call of a plan, by how far it has come: not yet queued; queued, or a scope's body
+-- has begun; its share given back; refused.
+-- The act of such a place leads to another of the call (`part_leads`, over the table of moves), or back. Back means: by
+-- what the place says (`CallsHold`) the jobs are over; or the plan was a spawn that has queued its job; or the move
+-- hands the jobs back.
 use Rattle.std.proofs.Common.{refl, sym, ap, subst, ◌∙◌}
 use Rattle.std.specs.Prelude.{ℕ, Bool, true, false, ◌&&◌, ◌+◌, ◌-◌, ◌==◌, ◌≤◌, nat_lt, if◌then◌else◌, Option, Some, None, ◌≡◌, ⊤}
 use Rattle.rayon_machine_places.specs.declared.place.Party.{Party}

@@ -1,4 +1,7 @@
 -- what a step keeps of the calls and jobs that a call names
+--
+-- A spawned job that is queued or running has its share, so nobody hands it back (`queued_on`). A job that is over is
+-- in nobody's hand, so nobody takes a share for it again (`unshared_on`).
 use Rattle.rayon_machine_laws.proofs.ShareLowers.{returned_jobs}
 use Rattle.rayon_machine_places.specs.declared.place.Mark.TheVariants.{Counted, Returned, Dealt}
 use Rattle.rayon_machine_places.specs.declared.place.Pieces.{Pieces}

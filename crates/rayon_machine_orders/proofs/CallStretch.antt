@@ -1,4 +1,9 @@
 -- a call from its event on: in each world until it is over a place of it stands right above what its party did
+--
+-- From its event to its end a call has one place in its party's stack. Right below it stands the stack as it was
+-- (`CallStands`, CallEvents). Above it may run whatever a wait has taken. An act of that leaves the place, and what is
+-- below it, alone (`climbs`).
+-- The first world in which the stack is the old one again is the one after a move back: before it the stack is longer.
 use Rattle.std.proofs.Common.{refl, sym, ◌∙◌, ap, subst, inl, inr}
 use Rattle.std.specs.Prelude.{ℕ, Bool, true, false, ◌&&◌, ◌||◌, ◌==◌, if◌then◌else◌, Option, Some, List, [], ◌∷◌, ◌++◌, ◌≡◌, IfSome, ◌⊎◌}
 use Rattle.rayon_machine_places.specs.declared.place.Party.{Party}

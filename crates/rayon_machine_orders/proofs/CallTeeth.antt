@@ -1,5 +1,12 @@
 -- the law of calls has teeth: replays, computed by the kernel, in which a changed table or act breaks it, and that its
 -- premises are met in the machine as it is
+--
+-- Edits of the code that make the same mistakes, each with the function at which the check refuses it:
+-- - `join_abandons_its_second_side`: `join_skips_second_side` (there it still answers), at `Place::resume`.
+-- - `install_does_not_wait`: `install_goes_back_once_its_job_is_queued`, at `Plan::after_news`.
+-- - `refused_join_keeps_its_jobs`: `refused_call_keeps_its_jobs`, at `Then::follow`.
+-- - `store_stores_nothing`, at `Touched::latches`. `call_leaves_out_its_lower`, at `Place::next_closing`.
+-- - `call_lowers_without_an_answer`, at `OpenCall::answered`.
 use Rattle.rayon_machine_places.specs.declared.place.Count.TheVariants.{OfPool}
 use Rattle.std.proofs.Common.{refl}
 use Rattle.std.specs.Prelude.{ℕ, Bool, true, false, ◌&&◌, ◌||◌, ◌-◌, ◌==◌, nat_lt, nat_le, Option, Some, None, List, [], ◌∷◌, ◌++◌, ◌≡◌, IfSome, length}

@@ -1,4 +1,7 @@
 -- the law of calls: from the event that begins a call to the world in which its party is back
+--
+-- The law is `call_law`. It stands on all the records of jobs and calls but `SetsHold`, `KeepersHold` and `ExactHold`.
+-- That a scope is empty at its end is `scope_ended` (Early): its body has given back its share of the pool's count.
 use Rattle.rayon_machine_laws.proofs.ClaimRuns.{CallsHold, unqueued}
 use Rattle.std.proofs.Common.{arith, refl, sym, ◌∙◌, ap, subst, inl, inr}
 use Rattle.std.specs.Prelude.{ℕ, Bool, true, false, ◌||◌, ◌+◌, ◌-◌, ◌≤◌, ◌<◌, if◌then◌else◌, Option, Some, None, List, [], ◌∷◌, ◌++◌, ◌≡◌, IfSome, ◌⊎◌, length}

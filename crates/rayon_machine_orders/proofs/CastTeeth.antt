@@ -1,5 +1,12 @@
 -- wrong machines of broadcasts: replays, computed by the kernel, in which a changed table or act breaks the clause of a
 -- law that forbids it
+--
+-- Edits of the code that make the same mistakes, each with the function at which the check refuses it:
+-- - `call_of_all_skips_a_worker`: `call_of_all_wakes_one_worker`, at `Pieces::call_all`.
+-- - `broadcast_skips_its_last_worker`: `broadcast_gives_all_the_first_piece`, at `push_pieces`.
+-- - `piece_forgets_its_worker`: `begun_piece_forgets_its_worker`, at `Touched::begin`.
+-- - `refused_broadcast_keeps_its_shares`, at `Place::next_casting`.
+-- Pieces that are made with no worker break the law of broadcasts: any of them may stand in any list.
 use Rattle.std.proofs.Common.{refl}
 use Rattle.std.specs.Prelude.{true, false, ◌||◌, ◌+◌, ◌-◌, Some, None, List, [], ◌∷◌, ◌++◌, ◌≡◌, IfSome}
 use Rattle.rayon_machine_places.specs.declared.place.Party.{Party}

@@ -1,4 +1,6 @@
 -- the law of broadcasts: from the event that begins one to the world in which its party is back
+--
+-- The law is `cast_law`. The places of such a broadcast are no frames.
 use Rattle.std.proofs.Common.{arith, refl, sym, ◌∙◌, ap, subst, inl, inr}
 use Rattle.std.specs.Prelude.{ℕ, Bool, true, false, ◌&&◌, ◌||◌, ◌+◌, ◌-◌, ◌==◌, ◌≤◌, ◌<◌, nat_lt, if◌then◌else◌, Some, None, List, [], ◌∷◌, ◌++◌, ◌≡◌, IfSome, ◌⊎◌, ⊤, Option, length, slice_get}
 use Rattle.std.proofs.lemmas.List.{append_assoc}

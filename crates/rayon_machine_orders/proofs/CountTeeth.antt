@@ -1,5 +1,18 @@
 -- wrong machines of counts and latches: replays, computed by the kernel, in which a changed table, act or event breaks
 -- the clause of a law that forbids it
+--
+-- Edits of the code that make the same mistakes, each with the function at which the check refuses it:
+-- - `end_sets_latches_at_once`, at `Place::next_closing`. `join_skips_second_side`, at `Place::resume`.
+-- - `scope_starts_at_zero` and `spawn_finds_zero`: `scope_starts_at_zero`, at `Call::waiting`.
+--   `scope_counts_its_jobs_alone`: with it `raise_of_a_count_of_zero_is_done`, at `Touched::raise`.
+-- - `scope_ends_while_a_job_runs`: `body_sets_the_latch_of_its_scope_at_once`, at `Place::next_closing`.
+-- - `body_lowers_the_scope_twice`: `body_lowers_its_scope_again`, at `Place::next_closing`.
+-- - `store_comes_after_the_lower`: `job_of_a_scope_lowers_before_it_stores`, at `Parties::close`.
+-- - `wrong_number_is_taken_back` and `taken_number_is_missing`: `undo_takes_the_number_of_another_job`, at
+--   `Place::scoping_act`.
+-- - `leaving_searcher_wakes_one`, at `wakes_on_leaving`. `news_takes_each_queue_for_empty`, at `wakes_for_one`.
+-- - `number_is_nobodys`: `undone_number_stays_open`, at `Touched::closing_slot`. `refused_number_is_filled`, there too.
+-- - `body_leaves_out_its_lower`: `scope_leaves_out_the_lower_of_its_body`, at `Place::next_scoping`.
 use Rattle.std.proofs.Common.{refl}
 use Rattle.std.specs.Prelude.{ℕ, true, false, ◌+◌, ◌-◌, Option, Some, None, List, [], ◌∷◌, ◌++◌, ◌≡◌, IfSome, min, if◌then◌else◌}
 use Rattle.rayon_machine_places.specs.declared.shape.Order.TheVariants.{NewestFirst}

@@ -1,4 +1,6 @@
 -- what each step does to the own deque of a worker that is alone in its pool
+--
+-- The worker alone pushes onto its deque, always last.
 use Rattle.rayon_machine_places.specs.declared.place.Count.TheVariants.{OfPool, OfScope, OfCast}
 use Rattle.rayon_machine_places.specs.declared.place.Count.{Count}
 use Rattle.std.proofs.Common.{rules, arith, refl, sym, ◌∙◌, ap, inl, inr}

@@ -1,5 +1,16 @@
 -- a scope keeps its share of its pool's count while a job of it has one of the scope's: so no pool ends before the
 -- scopes at it
+--
+-- A count of 0 says that no job but those of scopes has a share of the pool. That none of these has one stands on three
+-- facts:
+-- - A scope's body has a kind of its own. So no end of a queued job sets the scope's latch. A set one means that the
+--   count is 0 (`IsReady`).
+-- - Who gives the body's share back has seen that latch set (`seen_set`, at the Lower after a Take too). Or the call is
+--   refused, and then its body is as it was made (`Feeds`).
+-- - A job comes into a scope only by who holds it (`Holder`): who runs the body, whose frame has the body's share, or a
+--   job of the scope.
+-- So while a scope's count is not 0 its body keeps its share of the pool (`not_given` of EarlyActs). Then the pool's
+-- count is not 0.
 use Rattle.std.proofs.Common.{arith, refl, sym, ◌∙◌, ap, inl, inr}
 use Rattle.std.specs.Prelude.{ℕ, zero, suc, Bool, true, false, ◌+◌, ◌==◌, ◌≤◌, ◌<◌, List, ◌≡◌, ◌⊎◌, IfSome}
 use Rattle.std.proofs.lemmas.Bool.{eqb-true, ltb-true, ltb-false}

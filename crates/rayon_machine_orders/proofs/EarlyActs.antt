@@ -1,4 +1,8 @@
 -- what acts leave of the shares of scopes and broadcasts: none goes while a job or a piece of it has one
+--
+-- A broadcast that waits is as a scope here. Its pieces are shares of its own count; what stands for it keeps the share
+-- of the pool's while one of them has its own. The pieces get theirs all at once, as they come into their lists
+-- (`gained_piece`). Meanwhile their call keeps the pool's share.
 use Rattle.std.proofs.Common.{arith, refl, sym, ◌∙◌, ap, subst, inl, inr}
 use Rattle.std.specs.Prelude.{ℕ, Bool, true, false, ◌+◌, ◌-◌, ◌==◌, ◌≤◌, ◌<◌, if◌then◌else◌, Option, Some, None, List, ◌≡◌, ◌⊎◌, IfSome}
 use Rattle.std.proofs.lemmas.Bool.{eqb-true, ltb-true, ltb-false}

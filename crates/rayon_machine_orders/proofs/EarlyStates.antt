@@ -1,4 +1,6 @@
 -- what is said of scopes and of their jobs in every world, and who holds a scope
+--
+-- A job of a scope is at the pool of the scope's body, which has left its call.
 use Rattle.std.proofs.Common.{arith, refl, sym, ◌∙◌, ap, subst, inl, inr}
 use Rattle.std.specs.Prelude.{ℕ, Bool, true, false, ◌||◌, ◌+◌, ◌==◌, ◌≤◌, Option, Some, None, List, [], ◌∷◌, ◌≡◌, ◌⊎◌, slice_get}
 use Rattle.std.proofs.lemmas.Bool.{eqb-true, eq-eqb}

@@ -1,5 +1,7 @@
--- each step leaves the share of a scope's body with a keeper, and no share that waits for pieces that are dealt; so each
--- share of each count is kept once
+-- each step leaves the share of a scope's body with a keeper, and no share that waits for pieces that are dealt; so
+-- each share of each count is kept once
+--
+-- With `Tokens` this gives `KeptOnce` (`kept_once`). What is over was running (`end_exact`; `act_end` in FaultPlaces).
 use Rattle.std.proofs.Common.{arith, refl, sym, ◌∙◌, ap, subst, inl, inr}
 use Rattle.std.specs.Prelude.{ℕ, zero, suc, Bool, true, false, ◌&&◌, ◌||◌, ◌+◌, ◌-◌, ◌==◌, ◌≤◌, ◌<◌, nat_lt, if◌then◌else◌, Some, None, List, [], ◌∷◌, ◌++◌, ◌≡◌, ◌⊎◌, IfSome}
 use Rattle.std.proofs.lemmas.Bool.{eqb-true, ltb-true, ltb-false, eq-eqb}

@@ -1,5 +1,8 @@
--- the share of a scope's body has a keeper while it is counted, and none waits for pieces that are dealt: each act keeps
--- this
+-- the share of a scope's body has a keeper while it is counted, and none waits for pieces that are dealt: each act
+-- keeps this
+--
+-- Of the shares that wait it is enough that no act adds to them (`act_lessens`). A piece comes into a list only by the
+-- act after which none waits (`deals`, over `pushed` of Amounts).
 use Rattle.std.proofs.Common.{arith, refl, sym, ◌∙◌, ap, subst, inl, inr}
 use Rattle.std.specs.Prelude.{ℕ, zero, suc, Bool, true, false, ◌&&◌, ◌||◌, ◌+◌, ◌-◌, ◌==◌, ◌≤◌, ◌<◌, if◌then◌else◌, Some, None, List, ◌≡◌, ◌⊎◌, IfSome}
 use Rattle.std.proofs.lemmas.Bool.{eqb-true, ltb-true, ltb-false}

@@ -1,4 +1,8 @@
 -- over the table of places: the share of a scope's body is not lost, but where it is given back or its scope is refused
+--
+-- What a place keeps of the share is kept where its move leads (`more_bodies`), but in two cases. Its act gives the
+-- share back (`spent` of Bodies): that takes it out of the count. Or the move hands a body back (`dropped`): that very
+-- one (`says_drop`). So neither leaves a share without a keeper.
 use Rattle.std.proofs.Common.{arith, refl}
 use Rattle.std.specs.Prelude.{ℕ, Bool, true, false, ◌&&◌, ◌+◌, ◌-◌, ◌==◌, ◌≤◌, nat_lt, if◌then◌else◌, Option, Some, None, List, [], ◌∷◌, ◌≡◌, ⊤}
 use Rattle.rayon_machine_places.specs.declared.place.Party.{Party}

@@ -1,4 +1,15 @@
 -- the faults that calls keep: what each act leaves of them, and what a call that has taken answers
+--
+-- Three acts store how a job ended, StoreBody, StoreSlot and StorePiece; no other changes which fault a call keeps
+-- (`act_first`). No act ends a run (`act_end`, FaultPlaces).
+-- Where such a job's run ends its party comes to the store (`ends_puts`, FaultEvents). There it stays until it has made
+-- it (`puts_stored`). So a job that faulted has told it, or a party has its share still. At a count of 0 none has
+-- (`puts_counts`).
+-- What a call has taken it goes on with until it is over (`answers_on`, FaultPlaces). What it keeps does not change
+-- meanwhile (`unstored`, FaultActs): who stores there is the scope's own party, or has a share of that count, which is
+-- 0.
+-- `FaultsHold` says too: what a call answers is how its job ended, but a fault where it keeps one; a scope or broadcast
+-- that answers has the count 0.
 use Rattle.std.proofs.Common.{◌∙◌, ap, arith, inl, inr, refl, subst, sym}
 use Rattle.std.proofs.Math.Dec.{ltb}
 use Rattle.std.proofs.Math.Nat.{min-eq_left, min-eq_right}

@@ -1,5 +1,9 @@
 -- wrong machines of FIFO lists: replays, computed by the kernel, in which a changed table or act breaks the clause of a
 -- law that forbids it
+--
+-- Edits of the code that make the same mistakes, each with the function at which the check refuses it:
+-- - `token_pushed_before_job`, at `Feeding::begin`. `list_popped_newest_first`: `fifo_list_popped_newest_first`, at
+--   `FifoList::write`.
 use Rattle.std.proofs.Common.{refl, sym, ◌∙◌, ap}
 use Rattle.std.specs.Prelude.{ℕ, if◌then◌else◌, Option, Some, None, List, [], ◌∷◌, ◌++◌, ◌≡◌, IfSome}
 use Rattle.rayon_machine_places.specs.declared.act.Act.{Act}

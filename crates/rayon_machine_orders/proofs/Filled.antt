@@ -1,4 +1,6 @@
 -- a call's cell is filled when it takes from it, so no call of any run answers that its result is missing
+--
+-- The number that stands for a broadcast that waits runs nowhere.
 use Rattle.rayon_machine_laws.proofs.Scoping.{first_scopes}
 use Rattle.std.proofs.Common.{arith, refl, ap, inl, inr}
 use Rattle.std.specs.Prelude.{ℕ, Bool, true, false, ◌&&◌, ◌==◌, nat_lt, if◌then◌else◌, Option, Some, None, List, ◌≡◌, ◌⊎◌, IfSome}

@@ -1,4 +1,17 @@
 -- what is said of the cells of calls in every world, and what is known of a call while it is made and when it takes
+--
+-- A cell is empty before its Store and after its Take. The call's share tells both apart: a call has it from its Raise
+-- to its Lower, and the Take is the last act before that.
+-- `IsSettled` says that a call's latch is set or that a party is about to set it: so it is from the Store on. Of a
+-- broadcast that waits it says that its count is 0.
+-- At a Take the call has seen its latch set (`seen_set` and `follows_on` of Takes), and has its share. So its cell is
+-- filled (`take_filled`).
+-- Why each act keeps it:
+-- - Store: the cell is filled now. Set of a call's latch: the call was settled before (`sets_touched`, Takes).
+-- - Grow, which empties the cell: the job is in hand, so the call is not settled (`grow_unsettled`). Raise: the same
+--   (`gained_hand`).
+-- - Take, which empties the cell: nobody else has the share, and a Lower follows (`takes_last`, FilledActs).
+-- - every other act: the cell stays (`act_cell`, Takes), and no share comes (`shares_mine`, ShareRuns).
 use Rattle.rayon_machine_laws.proofs.Endings.{ready_over}
 use Rattle.rayon_machine_laws.proofs.Scoping.{ScopesHold, old_call as known_call, body_over, count_over, entry}
 use Rattle.rayon_machine_places.specs.declared.place.Count.TheVariants.{OfScope, OfCast}

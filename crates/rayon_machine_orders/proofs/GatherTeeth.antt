@@ -1,5 +1,15 @@
 -- wrong machines of broadcasts that wait, and of broadcasts into scopes: replays, computed by the kernel, in which a
 -- changed table, act or event breaks the clause of a law that forbids it
+--
+-- Edits of the code that make the same mistakes, each with the function at which the check refuses it:
+-- - `broadcast_skips_the_last_worker`: `broadcast_makes_no_piece_for_the_last_worker`, at `World::cast`.
+-- - `waiting_broadcast_skips_the_last_worker`: `waiting_broadcast_makes_no_piece_for_the_last_worker`, at
+--   `World::broadcast`.
+-- - `broadcast_into_a_scope_skips_the_last_worker`: `broadcast_into_a_scope_makes_no_piece_for_the_last_worker`, at
+--   `World::cast_into`.
+-- - `waiting_call_of_all_skips_a_worker`, at `OpenCall::gather_all`.
+-- - `broadcast_keeps_the_highest_fault` and `broadcast_answers_the_highest_fault`:
+--   `broadcast_keeps_the_fault_of_the_last_piece`, at `kept_of_pieces`.
 use Rattle.std.proofs.Common.{refl}
 use Rattle.std.specs.Prelude.{ℕ, true, false, ◌||◌, ◌+◌, ◌-◌, nat_lt, if◌then◌else◌, Option, Some, None, List, ◌∷◌, ◌++◌, ◌≡◌, IfSome}
 use Rattle.rayon_machine_places.specs.declared.place.Party.{Party}

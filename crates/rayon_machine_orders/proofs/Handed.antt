@@ -1,4 +1,6 @@
 -- a worker that is alone in its pool begins the jobs of its deque as the token list hands them out
+--
+-- The law is `token_law`. `Held`: the token list is the deque, or has what was taken besides.
 use Rattle.rayon_machine_laws.proofs.ClaimMakes.{always_calls}
 use Rattle.rayon_machine_laws.proofs.ClaimRuns.{CallsHold}
 use Rattle.std.proofs.Common.{arith, refl, sym, ◌∙◌, ap, subst, inl, inr}

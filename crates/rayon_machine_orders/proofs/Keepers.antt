@@ -1,4 +1,12 @@
 -- each share that is in the count has a keeper: what a party or the share's owner keeps, no act loses
+--
+-- `HasKeeper` is the other half of `Tokens`: where a share is counted, some party or its owner has it. One party moves
+-- at a time. What it and the owner have together is no less after the move (`keepers_by`).
+-- Two things could take a share away without a Lower. The one is a detached job that ceases to be queued or to run. No
+-- act does that (`act_busies`); its end brings the share to the party's Lower (`end_keepers`, Keeping); a job that is
+-- handed back has no share (`ReturnsHold`).
+-- The other is a push by a call that no push is made for: an install that runs its job at once queues none
+-- (`SaysQueue`).
 use Rattle.rayon_machine_places.specs.declared.place.Mark.{Mark as Marking}
 use Rattle.rayon_machine_places.specs.declared.place.Mark.TheVariants.{Counted, Queued, Returned, Numbered, Dealt, Unnumbered}
 use Rattle.rayon_machine_places.specs.declared.place.Pieces.{Pieces}

@@ -1,4 +1,10 @@
--- wrong machines of latches: replays, computed by the kernel, in which a latch is set twice, or two parties are to set it
+-- wrong machines of latches: replays, computed by the kernel, in which a latch is set twice, or two parties are to set
+-- it
+--
+-- Edits of the code that make the same mistakes, each with the function at which the check refuses it:
+-- - `body_and_job_set_the_latch` and `job_sets_the_latch_again`: `body_sets_the_latch_of_its_scope_at_once`, at
+--   `Place::next_closing`.
+-- - `end_sets_latches_again`: `end_sets_latches_at_once`, at `Place::next_closing`.
 use Rattle.std.proofs.Common.{refl}
 use Rattle.std.specs.Prelude.{List, ◌∷◌, ◌++◌, ◌≡◌, IfSome}
 use Rattle.rayon_machine_places.specs.declared.place.Ending.TheVariants.{Fine}

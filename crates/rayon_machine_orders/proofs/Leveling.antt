@@ -1,5 +1,7 @@
--- a worker that is alone in its pool, and makes no call but spawns in order for one of its FIFO lists, begins jobs level
--- by level
+-- a worker that is alone in its pool, and makes no call but spawns in order for one of its FIFO lists, begins jobs
+-- level by level
+--
+-- The law is `level_law`; `level_step` says that each step keeps to the list.
 use Rattle.std.proofs.Common.{arith, refl, sym, ◌∙◌, ap, subst, inl, inr, ◌≢◌}
 use Rattle.std.specs.Prelude.{ℕ, Bool, true, false, not, ◌&&◌, ◌+◌, ◌==◌, ◌≤◌, ◌<◌, nat_lt, if◌then◌else◌, Option, Some, None, List, [], ◌∷◌, ◌++◌, ◌≡◌, ◌⊎◌, ⊤, IfSome, length, slice_get}
 use Rattle.std.proofs.lemmas.Bool.{eqb-true, eq-eqb, ltb-true, ltb-false}

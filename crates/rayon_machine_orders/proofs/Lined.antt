@@ -1,5 +1,5 @@
--- what happens at the one worker of a pool is what each step does to the worker's FIFO lists: no other party has a token
--- of them
+-- what happens at the one worker of a pool is what each step does to the worker's FIFO lists: no other party has a
+-- token of them
 use Rattle.std.proofs.Common.{rules, arith, refl, sym, ◌∙◌, ap, subst, inl, inr}
 use Rattle.rayon_machine_places.specs.declared.place.Plan.{Plan}
 use Rattle.rayon_machine_places.specs.declared.place.Plan.TheVariants.{Here}

@@ -1,5 +1,12 @@
 -- wrong machines of lists: replays, computed by the kernel, in which a changed table or act breaks the clause of a law
 -- that forbids it
+--
+-- Edits of the code that make the same mistakes, each with the function at which the check refuses it:
+-- - `wrong_job_is_taken_back`: `refused_call_takes_the_first_job_back`, at `FifoList::write`.
+-- - `refused_token_leaves_its_job`: `refused_token_keeps_its_job_in_the_list`, at `Place::next_feeding`.
+-- - `token_of_a_scope_before_its_job`: `token_of_a_scope_pushed_before_its_job`, at `Plan::after_slot`.
+-- - `job_of_a_scope_in_the_detached_list`: `jobs_of_a_scope_go_to_the_list_of_detached_jobs`, at `Place::feeding_act`.
+-- - `thief_takes_the_newest`: `steal_takes_the_newest`, at `Seat::write_own`.
 use Rattle.std.proofs.Common.{refl, ap, inl, inr}
 use Rattle.std.specs.Prelude.{ℕ, ◌+◌, nat_lt, if◌then◌else◌, Option, Some, None, List, [], ◌∷◌, ◌++◌, ◌≡◌, IfSome, false}
 use Rattle.rayon_machine_places.specs.declared.shape.Order.TheVariants.{OldestFirst}

@@ -1,4 +1,7 @@
 -- in a pool of one worker nobody steals; what the events that are no acts do to the party that makes them
+--
+-- That is `always_honest`: no worker of such a pool ever chooses a victim. What a party has taken and not begun is the
+-- table `taken`. Between the pop of a job and its Begin the worker makes neither a push nor a pop.
 use Rattle.rayon_machine_places.specs.declared.place.Plan.TheVariants.{Detach, Here, Send, Fork, Feed, Open, Enter, Gather}
 use Rattle.rayon_machine_places.specs.declared.place.Plan.{Plan}
 use Rattle.rayon_machine_places.specs.declared.place.Count.TheVariants.{OfPool, OfScope, OfCast}

@@ -1,5 +1,7 @@
--- a steal misses only the one task of a deque; who pushes has looked at the queue that it pushes to, and tells of it; and
--- the numbers of books are opened in order
+-- a steal misses only the one task of a deque; who pushes has looked at the queue that it pushes to, and tells of it;
+-- and the numbers of books are opened in order
+--
+-- The laws are `miss_law`, `tell_law` and `number_law`.
 use Rattle.std.proofs.Common.{rules, arith, refl, sym, ◌∙◌, ap, subst}
 use Rattle.std.specs.Prelude.{ℕ, nat_lt, Option, Bool, true, false, ◌+◌, ◌-◌, ◌<◌, if◌then◌else◌, Some, None, List, [], ◌∷◌, ◌≡◌, IfSome}
 use Rattle.std.proofs.lemmas.Bool.{eqb-true}

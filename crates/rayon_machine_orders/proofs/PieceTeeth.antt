@@ -1,5 +1,17 @@
--- wrong machines of the pieces of broadcasts, where they end and where they are refused: replays, computed by the kernel,
--- in which a changed table or event breaks the clause of a law that forbids it
+-- wrong machines of the pieces of broadcasts, where they end and where they are refused: replays, computed by the
+-- kernel, in which a changed table or event breaks the clause of a law that forbids it
+--
+-- Edits of the code that make the same mistakes, each with the function at which the check refuses it:
+-- - `piece_is_stored_after_its_lower`: `piece_lowers_before_it_stores`, at `Parties::close`.
+-- - `broadcast_does_not_wait`: `broadcast_goes_back_once_its_pieces_are_dealt`, at `Place::next_gathering`.
+-- - `pieces_have_no_shares`: `pieces_that_are_waited_for_have_no_shares`, at `Place::next_gathering`.
+-- - `refused_waiting_broadcast_keeps_its_share`: `refused_broadcast_that_waits_keeps_its_share` (there it goes round),
+--   at `Place::next_gathering`.
+-- - `refused_pieces_keep_their_numbers`, at `Pieces::undo`. `refused_pieces_keep_their_shares`:
+--   `refused_numbers_keep_the_shares`, at `Place::next_casting`.
+-- - `undo_takes_one_number`: `undo_of_pieces_takes_one_number`, at `Touched::closing_slots`.
+-- - `dealt_shares_wait_still`: `dealt_pieces_leave_the_shares_with_their_call` (there the number stays), at
+--   `Touched::dealing`.
 use Rattle.std.proofs.Common.{refl}
 use Rattle.std.specs.Prelude.{ℕ, true, false, ◌+◌, Option, Some, None, List, [], ◌∷◌, ◌++◌, ◌≡◌, IfSome}
 use Rattle.rayon_machine_places.specs.declared.place.Party.{Party}

@@ -1,5 +1,7 @@
--- wrong machines of pushes: replays, computed by the kernel, in which a call that nothing refused queues its job where it
--- does not belong
+-- wrong machines of pushes: replays, computed by the kernel, in which a call that nothing refused queues its job where
+-- it does not belong
+--
+-- The edit `worker_pushes_to_the_injector` makes the mistake of `spawn_is_injected`. The check refuses it at `push`.
 use Rattle.std.proofs.Common.{refl}
 use Rattle.std.specs.Prelude.{ℕ, false, ◌&&◌, ◌+◌, if◌then◌else◌, Option, Some, None, List, [], ◌∷◌, ◌++◌, ◌≡◌, IfSome}
 use Rattle.rayon_machine_places.specs.declared.place.Party.{Party}

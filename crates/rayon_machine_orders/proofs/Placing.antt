@@ -1,4 +1,6 @@
 -- a call that nothing refused has queued its jobs once, where they belong
+--
+-- The law is `placed_law`, by what each step queues (`Queues`). That of broadcasts is `dealt_law` in Casts.
 use Rattle.std.proofs.Common.{refl, sym, ◌∙◌, ap, subst, inl, inr}
 use Rattle.std.specs.Prelude.{ℕ, Bool, true, false, ◌&&◌, ◌||◌, ◌+◌, ◌==◌, if◌then◌else◌, Option, Some, None, List, [], ◌∷◌, ◌++◌, ◌≡◌, IfSome, ◌⊎◌, slice_get}
 use Rattle.std.proofs.lemmas.Bool.{eqb-true, eq-eqb}

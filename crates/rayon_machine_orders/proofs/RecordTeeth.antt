@@ -1,5 +1,5 @@
--- wrong machines of records: replays, computed by the kernel, in which a job's record is not as its run began or ended, names
--- another pool than the job's, or changes its number of its book
+-- wrong machines of records: replays, computed by the kernel, in which a job's record is not as its run began or ended,
+-- names another pool than the job's, or changes its number of its book
 use Rattle.std.proofs.Common.{refl}
 use Rattle.std.specs.Prelude.{ℕ, true, false, ◌+◌, Option, Some, None, List, [], ◌∷◌, ◌++◌, ◌≡◌, IfSome}
 use Rattle.rayon_machine_places.specs.declared.place.Ending.{Ending}

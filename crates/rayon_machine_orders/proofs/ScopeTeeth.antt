@@ -1,5 +1,15 @@
 -- wrong machines of scopes: replays, computed by the kernel, in which a changed table or act breaks the clause of a law
 -- that forbids it
+--
+-- Edits of the code that make the same mistakes, each with the function at which the check refuses it:
+-- - `scope_leaves_its_job`, `scope_is_over_before_its_job` and `scope_takes_early`:
+--   `body_sets_the_latch_of_its_scope_at_once`, at `Place::next_closing`.
+-- - `refused_spawn_keeps_its_share`: `refused_spawn_into_a_scope_keeps_its_share`, at `Place::next_scoping`.
+-- - `refused_spawn_keeps_its_job`: `refused_call_keeps_its_jobs`, at `Then::follow`.
+-- - `scope_lowers_without_its_body` and `refused_slot_goes_on`, at `Place::next_scoping`.
+-- - `opener_leaves_the_book`, at `Touched::open_slot`. `lower_lowers_no_scope`, at `call_less`.
+-- - `book_forgets_a_fault`, at `kept_fault`. `book_keeps_the_last_fault`, at `Touched::keeping_fault`.
+-- - `take_sees_the_body_alone`, at `Touched::take`.
 use Rattle.std.proofs.Common.{refl}
 use Rattle.std.specs.Prelude.{ℕ, true, false, ◌+◌, ◌-◌, ◌==◌, if◌then◌else◌, Option, Some, None, List, [], ◌∷◌, ◌++◌, ◌≡◌, IfSome}
 use Rattle.rayon_machine_places.specs.declared.place.Party.{Party}

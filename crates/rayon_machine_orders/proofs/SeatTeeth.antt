@@ -1,5 +1,5 @@
--- wrong machines of sleep: replays, computed by the kernel, in which a worker's sets, its latch or a lock are not as the
--- places say
+-- wrong machines of sleep: replays, computed by the kernel, in which a worker's sets, its latch or a lock are not as
+-- the places say
 use Rattle.std.proofs.Common.{refl}
 use Rattle.std.specs.Prelude.{ℕ, Bool, true, false, Some, None, List, [], ◌∷◌, ◌++◌, ◌≡◌, IfSome, min}
 use Rattle.rayon_machine_places.specs.declared.place.Latch.TheVariants.{Terminate}

@@ -1,5 +1,7 @@
--- in a pool of one worker each job of a FIFO list of the worker has a token in the worker's own deque or in its hand, or
--- its call is about to push one
+-- in a pool of one worker each job of a FIFO list of the worker has a token in the worker's own deque or in its hand,
+-- or its call is about to push one
+--
+-- This is `Full`, and `full_step` keeps it. So where the deque is empty the FIFO list is empty too.
 use Rattle.std.proofs.Common.{arith, refl, sym, ◌∙◌, ap, subst, inl, inr}
 use Rattle.std.specs.Prelude.{ℕ, Bool, true, false, ◌&&◌, ◌+◌, ◌==◌, ◌≤◌, if◌then◌else◌, Option, Some, None, List, [], ◌∷◌, ◌++◌, ◌≡◌, ◌⊎◌, IfSome, length}
 use Rattle.std.proofs.lemmas.Bool.{eqb-true, eq-eqb}

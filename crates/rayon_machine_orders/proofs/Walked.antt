@@ -1,4 +1,8 @@
 -- what happens at a worker that makes no call but spawns, and where each step leads it
+--
+-- What happens is `Orderly` (Walks): the run below a push is the one that began last. Runs do not nest without other
+-- calls (`Stands` of Standing). A job begins once and is added once. A search looks at the injector only after the own
+-- deque was empty.
 use Rattle.std.proofs.Common.{arith, refl, sym, ◌∙◌, ap, subst, inl, inr}
 use Rattle.std.specs.Prelude.{ℕ, Bool, true, false, ◌&&◌, ◌==◌, ◌≤◌, nat_lt, if◌then◌else◌, Option, Some, None, List, [], ◌∷◌, ◌≡◌, ⊤, IfSome, slice_get, ◌+◌}
 use Rattle.std.proofs.lemmas.Bool.{eqb-true, eq-eqb}

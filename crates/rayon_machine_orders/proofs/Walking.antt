@@ -1,5 +1,7 @@
 -- a worker that is alone in its pool, and makes no call but spawns, begins jobs in the order of the walk of the trees
 -- of spawns
+--
+-- The law is `tree_law`.
 use Rattle.std.proofs.Common.{arith, refl, sym, ◌∙◌, ap, subst, inl, inr, ◌≢◌}
 use Rattle.std.specs.Prelude.{ℕ, Bool, true, false, ◌≤◌, Option, Some, None, List, [], ◌∷◌, ◌++◌, ◌≡◌, ◌⊎◌, ◌+◌, ◌==◌, if◌then◌else◌, IfSome, ◌&&◌, ⊤}
 use Rattle.rayon_machine_places.specs.declared.shape.Order.{Order}

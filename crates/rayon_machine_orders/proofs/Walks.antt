@@ -1,4 +1,6 @@
 -- lists of what happens at one worker: where it takes from the one end of its list, the order is the walk of a tree
+--
+-- What is orderly grows trees that are walked so (`grown`).
 use Rattle.std.proofs.Common.{arith, refl, sym, ◌∙◌, ap, subst, inl, inr, ◌≢◌}
 use Rattle.std.specs.Prelude.{ℕ, true, false, ◌+◌, ◌==◌, if◌then◌else◌, Option, Some, None, List, [], ◌∷◌, ◌++◌, ◌≡◌, ◌⊎◌, ⊤}
 use Rattle.std.proofs.lemmas.Bool.{eqb-true, eq-eqb}

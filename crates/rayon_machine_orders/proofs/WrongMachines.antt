@@ -1,5 +1,15 @@
 -- wrong machines: replays, computed by the kernel, in which a changed table or act breaks the clause of a law that
 -- forbids it
+--
+-- Edits of the code that make the same mistakes, each with the function at which the check refuses it:
+-- - `injector_looked_at_before_counted`, at `Place::next_dozing`. `last_look_skipped`: `sleeper_skips_last_look`, there
+--   too.
+-- - `leaving_searcher_wakes_nobody`, at `Touched::counters`. `news_counts_sleepers_as_awake`, at `wakes_for_one`.
+-- - `waker_stops_one_short`: `waker_stops_one_worker_short`, at `PoolShape::wake_after`.
+-- - `latch_set_by_load_and_store`, at `Touched::set`. `caller_passes_a_latch_that_is_not_set`, at `Touched::latches`.
+-- - `announce_leaves_event_counter`, at `Touched::announce`. `lower_lowers_nothing`, at `pool_less`.
+-- - `refused_push_keeps_its_share`, at `Place::next_calling`. `refused_call_loses_its_jobs`, at `move_jobs`.
+-- - `push_drops_its_job`, at `Pool::write`. `worker_pops_at_the_wrong_end`, at `Parts::peek`.
 use Rattle.std.proofs.Common.{refl, ◌∙◌, ap, inl, inr}
 use Rattle.std.specs.Prelude.{ℕ, zero, suc, Bool, true, false, not, ◌&&◌, ◌||◌, ◌+◌, ◌==◌, nat_lt, if◌then◌else◌, Option, Some, None, List, [], ◌∷◌, ◌++◌, ◌≡◌, IfSome}
 use Rattle.rayon_machine_places.specs.declared.shape.Order.TheVariants.{NewestFirst}

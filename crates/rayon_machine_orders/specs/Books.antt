@@ -1,4 +1,9 @@
 -- how the acts on the book of a scope find it
+--
+-- The book of a broadcast that waits is left out where each number is some job's. Broken by the wrong machines:
+-- - of ScopeTeeth: `scope_takes_early`, `opener_leaves_the_book`, `refused_slot_goes_on`.
+-- - of CountTeeth: `spawn_finds_zero`, `store_comes_after_the_lower`, `taken_number_is_missing`, `number_is_nobodys`.
+-- - of PieceTeeth: `undo_takes_one_number`.
 use Rattle.std.specs.Prelude.{ℕ, true, ◌+◌, ◌-◌, ◌≤◌, Option, Some, None, ◌≡◌, ◌⊎◌}
 use Rattle.rayon_machine_places.specs.declared.place.Party.{Party}
 use Rattle.rayon_machine_places.specs.declared.place.Ending.{Ending}

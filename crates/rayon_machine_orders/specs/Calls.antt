@@ -1,4 +1,13 @@
 -- calls, each from the event that begins it to the world in which its party's stack is again what it was
+--
+-- Places are named by their acts alone. So a table that leaves a call too early breaks the law. It does so also by a
+-- place that no other clause names.
+-- Broken by the wrong machines of CallTeeth, and by these:
+-- - of ScopeTeeth: `scope_is_over_before_its_job`, `scope_lowers_without_its_body`, `refused_spawn_keeps_its_job`,
+--   `take_sees_the_body_alone`.
+-- - of CountTeeth: `scope_ends_while_a_job_runs`, `wrong_number_is_taken_back`, `refused_number_is_filled`.
+-- - of GatherTeeth: `waiting_broadcast_skips_the_last_worker`, `broadcast_answers_the_highest_fault`.
+-- - of PieceTeeth: `broadcast_does_not_wait`.
 use Rattle.rayon_machine_places.specs.declared.place.Count.TheVariants.{OfPool, OfScope, OfCast}
 use Rattle.rayon_machine_places.specs.declared.place.Count.{Count}
 use Rattle.std.specs.Prelude.{ℕ, Bool, true, false, ◌&&◌, ◌||◌, ◌+◌, ◌-◌, ◌==◌, ◌≤◌, ◌<◌, if◌then◌else◌, Option, Some, None, List, [], ◌∷◌, ◌++◌, ◌≡◌, ◌⊎◌, length, slice_get}

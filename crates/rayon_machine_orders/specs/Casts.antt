@@ -1,5 +1,8 @@
 -- broadcasts that wait for nothing, each from the event that begins it to the world in which its party's stack is again
 -- what it was
+--
+-- Broken by the wrong machines `broadcast_skips_the_last_worker` and `broadcast_into_a_scope_skips_the_last_worker` of
+-- GatherTeeth, and by `refused_pieces_keep_their_numbers` of PieceTeeth.
 use Rattle.std.specs.Prelude.{ℕ, Bool, true, false, ◌&&◌, ◌+◌, ◌-◌, ◌==◌, ◌≤◌, ◌<◌, Option, Some, None, List, ◌≡◌, ◌⊎◌, slice_get}
 use Rattle.rayon_machine_places.specs.declared.place.Party.{Party}
 use Rattle.rayon_machine_places.specs.declared.act.Act.{Act}

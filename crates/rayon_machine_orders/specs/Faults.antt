@@ -1,4 +1,9 @@
 -- which fault a scope keeps, and which one a broadcast that waits
+--
+-- Broken by the wrong machines:
+-- - what is taken: `book_forgets_a_fault` (ScopeTeeth), `store_comes_after_the_lower` (CountTeeth),
+--   `broadcast_keeps_the_highest_fault` and `broadcast_forgets_a_fault` (GatherTeeth).
+-- - what a step keeps: `book_keeps_the_last_fault` (ScopeTeeth).
 use Rattle.std.specs.Prelude.{ℕ, ◌==◌, ◌≤◌, ◌<◌, if◌then◌else◌, Option, Some, None, List, ◌≡◌, ◌⊎◌, IfSome}
 use Rattle.rayon_machine_places.specs.declared.place.Party.{Party}
 use Rattle.rayon_machine_places.specs.declared.place.Ending.{Ending}

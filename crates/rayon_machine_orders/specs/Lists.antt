@@ -1,4 +1,7 @@
 -- what becomes of own deques, injectors and broadcast lists
+--
+-- Broken by the wrong machines `thief_takes_the_newest`, `injector_popped_newest_first` and
+-- `broadcast_adds_its_pieces_first` of ListTeeth.
 use Rattle.std.specs.Prelude.{ℕ, ◌&&◌, ◌+◌, ◌==◌, nat_lt, if◌then◌else◌, Option, Some, None, List, [], ◌∷◌, ◌++◌, ◌≡◌, ◌⊎◌}
 use Rattle.rayon_machine_places.specs.declared.shape.Order.{Order}
 use Rattle.rayon_machine_places.specs.declared.shape.Order.TheVariants.{OldestFirst}

@@ -1,4 +1,6 @@
 -- what a party has seen of a queue: a thief that misses, and who looks at a queue before it pushes there
+--
+-- Broken by the wrong machines of LookTeeth.
 use Rattle.std.specs.Prelude.{ℕ, Bool, true, false, Option, Some, None, List, [], ◌∷◌, ◌≡◌}
 use Rattle.rayon_machine_places.specs.declared.shape.Order.TheVariants.{NewestFirst}
 use Rattle.rayon_machine_places.specs.declared.place.Party.{Party}

@@ -1,4 +1,6 @@
 -- what an event names is what it makes: the jobs and calls whose numbers it gives out, and the scope that it opens
+--
+-- Broken by the wrong machines of MakeTeeth.
 use Rattle.std.specs.Prelude.{ℕ, ◌+◌, ◌-◌, ◌==◌, ◌≤◌, ◌<◌, nat_lt, if◌then◌else◌, Option, Some, None, List, [], ◌∷◌, ◌++◌, ◌≡◌, slice_get}
 use Rattle.rayon_machine_places.specs.declared.place.JobKind.{JobKind}
 use Rattle.rayon_machine_places.specs.declared.place.JobKind.TheVariants.{Detached, Stored, Direct, Scoped, BodyOf, PieceOf, WholeOf, TokenOf}

@@ -1,4 +1,6 @@
 -- which numbers of a book are opened, and for which jobs
+--
+-- Broken by the wrong machine `pieces_are_numbered_back` of LookTeeth.
 use Rattle.std.specs.Prelude.{ℕ, ◌+◌, ◌<◌, Some, List, ◌≡◌, ⊤}
 use Rattle.rayon_machine_places.specs.declared.place.Party.{Party}
 use Rattle.rayon_machine_places.specs.declared.place.Count.{Count}

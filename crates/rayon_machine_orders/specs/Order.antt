@@ -1,4 +1,18 @@
 -- the order in which a pool's one worker begins the jobs of its own deque and of its FIFO lists
+--
+-- Some jobs and tokens are none of the list's: they came from the injector, were taken before the stretch, or are run
+-- at once by an install.
+-- Under `trees` a job that came from elsewhere begins only once the deque is empty. Where the deque is empty at the
+-- start, and one job comes, the whole is the walk of one tree.
+-- A caller's own worker has no wait between runs, and runs jobs only inside its calls. So `tokens` is about it, and
+-- `trees` and `levels` are not.
+-- Without their premises the clauses are false; the runs of the first two are in proofs/Ordered:
+-- - With two workers a thief takes from the other end (`robbed`).
+-- - A run that yields begins the job that it has just spawned. It may then spawn one more, which comes first in the
+--   walk (`yielded`). So `trees` and `levels` have no other calls, where `tokens` allows them all.
+-- - In a pool that is oldest first a job that is no token begins before the FIFO list is through. What it spawns in
+--   order stands behind that list. So `levels` has tokens only.
+-- Broken by the wrong machine `worker_pops_at_the_wrong_end` of WrongMachines, as `not_handed` shows.
 use Rattle.std.specs.Prelude.{ℕ, Bool, true, false, not, ◌&&◌, ◌==◌, if◌then◌else◌, Option, Some, None, List, [], ◌∷◌, ◌++◌, ◌≡◌, ◌⊎◌, ⊤, slice_get}
 use Rattle.rayon_machine_places.specs.declared.shape.Order.{Order}
 use Rattle.rayon_machine_places.specs.declared.shape.Order.TheVariants.{NewestFirst, OldestFirst}

@@ -1,4 +1,7 @@
 -- where a call queues what it makes
+--
+-- So in the clauses `trees` and `levels` no job of a worker's own spawn comes to it from elsewhere. Broken by the wrong
+-- machines of PlaceTeeth.
 use Rattle.std.specs.Prelude.{ℕ, false, ◌&&◌, ◌+◌, if◌then◌else◌, Option, Some, None, List, [], ◌∷◌, ◌++◌, ◌≡◌, slice_get}
 use Rattle.rayon_machine_places.specs.declared.place.Party.{Party}
 use Rattle.rayon_machine_places.specs.declared.place.Count.{Count}

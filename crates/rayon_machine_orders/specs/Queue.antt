@@ -1,4 +1,7 @@
 -- what becomes of a worker's FIFO lists
+--
+-- So the jobs of one list begin in the order in which they were added. Broken by the wrong machines
+-- `list_popped_newest_first` of FifoTeeth and `wrong_job_is_taken_back` of ListTeeth.
 use Rattle.std.specs.Prelude.{ℕ, ◌&&◌, ◌==◌, if◌then◌else◌, Option, Some, None, List, [], ◌∷◌, ◌++◌, ◌≡◌}
 use Rattle.rayon_machine_places.specs.declared.place.Party.{Party}
 use Rattle.rayon_machine_places.specs.declared.place.Place.{Place}

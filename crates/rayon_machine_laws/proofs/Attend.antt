@@ -4,13 +4,11 @@ use Rattle.std.specs.Prelude.{ℕ, Bool, true, false, not, ◌&&◌, ◌||◌, �
 use Rattle.std.proofs.lemmas.Bool.{eqb-true, ltb-true, lt-ltb, le-leb}
 use Rattle.rayon_machine_places.specs.declared.place.Party.{Party}
 use Rattle.rayon_machine_places.specs.declared.place.Party.TheVariants.{Worker, Caller}
-use Rattle.rayon_machine_places.specs.declared.place.Latch.{Latch}
-use Rattle.rayon_machine_places.specs.declared.place.Latch.TheVariants.{Terminate, OfCall}
 use Rattle.rayon_machine_places.specs.declared.place.Then.{Then}
 use Rattle.rayon_machine_places.specs.declared.place.Place.{Place}
-use Rattle.rayon_machine_places.specs.declared.place.Place.TheVariants.{ProbeWorking, PopInjected, YieldPopInjected, PushJob, TellNews, LockToWake, WakeWorker, UnlockWoken, SetLatch}
+use Rattle.rayon_machine_places.specs.declared.place.Place.TheVariants.{PopInjected, YieldPopInjected, PushJob, TellNews, LockToWake, WakeWorker, UnlockWoken}
 use Rattle.rayon_machine_places.specs.declared.act.Act.{Act}
-use Rattle.rayon_machine_places.specs.declared.act.Act.TheVariants.{PopInj, Set}
+use Rattle.rayon_machine_places.specs.declared.act.Act.TheVariants.{PopInj}
 use Rattle.rayon_machine_places.specs.declared.act.Seen.{Seen}
 use Rattle.rayon_machine_places.specs.declared.shape.PoolShape.{PoolShape}
 use Rattle.rayon_machine_places.specs.declared.place.Walk.{Walk}
@@ -19,6 +17,7 @@ use Rattle.rayon_machine_places.specs.World.{Shape, Pool, Stack, World, Counts, 
 use Rattle.rayon_machine_places.specs.Steps.{after_move}
 use Rattle.rayon_machine_laws.specs.Committed.{is_committed}
 use Rattle.rayon_machine_laws.specs.Attended.{is_filled, HasLooker, has_pushed, owes_wake, HasWaker, IsInjectorAttended}
+use Rattle.rayon_machine_laws.proofs.Acts.{Injector, writes_at, keeps}
 use Rattle.rayon_machine_laws.proofs.Calm.{is_quiet, part_at, counts_seen, next_at, Quiet, quiet_go}
 use Rattle.rayon_machine_laws.proofs.Frame.{and_parts, or_parts, same_party_true, if_some_and, if_some_map}
 use Rattle.rayon_machine_laws.proofs.Ties.{outcome, result}
@@ -97,6 +96,11 @@ is_push _ = false
 abbrev pub Shrinks : Act → Shape → Party → Counts → Part → Type 0
 Shrinks a h q c m = IfSome (effect a h q c m) (λ r. is_filled (r.1.pool.injector) ≡ true → is_filled m.pool.injector ≡ true)
 
+abbrev pops_injector : Place → Bool
+pops_injector (PopInjected k) = true
+pops_injector YieldPopInjected = true
+pops_injector _ = false
+
 pop_shrinks : (h : Shape) (q : Party) (c : Counts) (m : Part) → Shrinks PopInj h q c m
 pop_shrinks h q c m = popped (m.pool.injector) refl
   where
@@ -104,19 +108,21 @@ pop_shrinks h q c m = popped (m.pool.injector) refl
     popped [] e = λ h. h
     popped (y ∷ ys) e = λ h. ap is_filled e
 
-set_shrinks : (l : Latch) (r j : ℕ) (h : Shape) (q : Party) (c : Counts) (m : Part) → Shrinks (Set l r j) h q c m
-set_shrinks Terminate r j h q c m = search (rules, arith)
-set_shrinks (OfCall n) r j h q c m = search (rules, arith)
+push_writes : (x : Place) → is_push x ≡ false → pops_injector x ≡ false → writes_at x (Injector ∷ []) ≡ false
+push_writes (PopInjected k) z e = cc
+push_writes _ z e = cc
+
+injector_left : (h : Shape) (q : Party) (c : Counts) (m : Part) (x : Place) → writes_at x (Injector ∷ []) ≡ false → Shrinks (act_of q x) h q c m
+injector_left h q c m x n = keeps h q c m (λ v r. is_filled (r.1.pool.injector) ≡ true → is_filled v.pool.injector ≡ true) (Injector ∷ []) x n (λ r k e. sym (ap is_filled (k.0)) ∙ e)
 
 -- only a push fills an injector
 pub shrinks : (h : Shape) (q : Party) (c : Counts) (m : Part) (x : Place) → is_push x ≡ false → Shrinks (act_of q x) h q c m
-shrinks h (Worker i j) c m (ProbeWorking k) z = search (rules, arith)
 shrinks h q c m (PushJob n e) z = cc
 shrinks h (Worker i j) c m (PopInjected k) z = pop_shrinks h (Worker i j) c m
 shrinks h (Worker i j) c m YieldPopInjected z = pop_shrinks h (Worker i j) c m
-shrinks h q c m (SetLatch s) z = set_shrinks s.latch s.pool s.worker h q c m
-shrinks h (Worker i j) c m _ z = search (rules, arith)
-shrinks h (Caller n) c m _ z = search (rules, arith)
+shrinks h (Caller n) c m (PopInjected k) z = tt
+shrinks h (Caller n) c m YieldPopInjected z = tt
+shrinks h q c m x z = injector_left h q c m x (push_writes x z refl)
 
 -- places that can owe
 abbrev pub is_owing : Place → Bool

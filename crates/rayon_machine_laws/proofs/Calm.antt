@@ -2,15 +2,12 @@
 --
 -- The lemma of such an act is `quiet_go`.
 use Rattle.std.proofs.Common.{rules, arith, refl, sym, ◌∙◌, ap, subst}
-use Rattle.std.specs.Prelude.{ℕ, Bool, true, false, ◌&&◌, ◌||◌, ◌==◌, if◌then◌else◌, ◌≡◌, IfSome}
+use Rattle.std.specs.Prelude.{ℕ, Bool, true, false, ◌&&◌, ◌||◌, ◌==◌, if◌then◌else◌, ◌≡◌, List, [], ◌∷◌, IfSome}
 use Rattle.rayon_machine_places.specs.declared.place.Party.{Party}
 use Rattle.rayon_machine_places.specs.declared.place.Party.TheVariants.{Worker, Caller}
-use Rattle.rayon_machine_places.specs.declared.place.Latch.{Latch}
-use Rattle.rayon_machine_places.specs.declared.place.Latch.TheVariants.{Terminate, OfCall}
 use Rattle.rayon_machine_places.specs.declared.place.Place.{Place}
-use Rattle.rayon_machine_places.specs.declared.place.Place.TheVariants.{ProbeWorking, LookAtInjector, BlockSelf, LeaveSearch, WakeWorker, SetLatch, WakeSettled, UnlockSettled}
+use Rattle.rayon_machine_places.specs.declared.place.Place.TheVariants.{ProbeWorking, LookAtInjector, BlockSelf, LeaveSearch, WakeWorker, SetLatch, WakeSettled, UnlockSettled, BecomeInactive}
 use Rattle.rayon_machine_places.specs.declared.place.Move.{Move}
-use Rattle.rayon_machine_places.specs.declared.act.Act.TheVariants.{Set}
 use Rattle.rayon_machine_places.specs.declared.act.Seen.{Seen}
 use Rattle.rayon_machine_places.specs.declared.act.Seen.TheVariants.{Yes}
 use Rattle.rayon_machine_places.specs.declared.shape.PoolShape.{PoolShape}
@@ -19,6 +16,7 @@ use Rattle.rayon_machine_places.specs.Places.{same_party, after_set, act_of, nex
 use Rattle.rayon_machine_places.specs.World.{Shape, Seat, Stack, World, Counts, counts_at, Part, target_pool, target_worker, target_call, effect}
 use Rattle.rayon_machine_places.specs.Steps.{part_of, after_move}
 use Rattle.rayon_machine_laws.specs.Committed.{is_blocking, is_committed}
+use Rattle.rayon_machine_laws.proofs.Acts.{Inactive, Blocked, writes_at, keeps}
 use Rattle.rayon_machine_laws.proofs.Frame.{same_index, same_party_true, if_some_all, if_some_and, if_some_map}
 use Rattle.rayon_machine_laws.proofs.Locks.{tops_map}
 use Rattle.rayon_machine_laws.proofs.Seats.{is_frame}
@@ -29,6 +27,10 @@ use Rattle.rayon_machine_laws.proofs.Tops.{Tops, top_after, FramesOk, is_light, 
 pub record SameSets (s t : Seat) : Type 0 where
   pub inactive : s.inactive ≡ true → t.inactive ≡ true
   pub blocked : t.blocked ≡ s.blocked
+
+abbrev is_becoming : Place → Bool
+is_becoming (BecomeInactive k) = true
+is_becoming _ = false
 
 -- the places at which a party neither commits itself, nor ceases to be inactive, nor wakes
 abbrev pub is_quiet : Place → Bool
@@ -50,21 +52,18 @@ light_awake _ e = refl
 pub frame_awake : (f : Place) → is_frame f ≡ true → is_blocking f ≡ false
 frame_awake f e = light_awake f (frame_light f e)
 
-set_sets : (l : Latch) (r j : ℕ) (h : Shape) (q : Party) (c : Counts) (m : Part) → IfSome (effect (Set l r j) h q c m) (λ r. SameSets m.seat (r.1.seat))
-set_sets Terminate r j h q c m = search (rules, arith)
-set_sets (OfCall n) r j h q c m = search (rules, arith)
+quiet_writes : (x : Place) → is_quiet x ≡ true → is_becoming x ≡ false → writes_at x (Inactive ∷ Blocked ∷ []) ≡ false
+quiet_writes (BlockSelf k) z n = cc
+quiet_writes _ z n = cc
+
+seat_left : (h : Shape) (q : Party) (c : Counts) (m : Part) (x : Place) → writes_at x (Inactive ∷ Blocked ∷ []) ≡ false → IfSome (effect (act_of q x) h q c m) (λ r. SameSets m.seat (r.1.seat))
+seat_left h q c m x n = keeps h q c m (λ v r. SameSets v.seat (r.1.seat)) (Inactive ∷ Blocked ∷ []) x n (λ r k. record { inactive = λ e. k.0 ∙ e; blocked = (k.1).0 })
 
 -- what a quiet act does to a seat
 pub seat_same : (h : Shape) (q : Party) (c : Counts) (m : Part) (x : Place) → is_quiet x ≡ true → IfSome (effect (act_of q x) h q c m) (λ r. SameSets m.seat (r.1.seat))
-seat_same h (Worker i j) c m (ProbeWorking k) z = search (rules, arith)
-seat_same h (Worker i j) c m (LookAtInjector k) z = cc
-seat_same h (Worker i j) c m (BlockSelf k) z = cc
-seat_same h (Worker i j) c m (LeaveSearch k) z = cc
-seat_same h q c m (WakeWorker k) z = cc
-seat_same h q c m (WakeSettled s) z = cc
-seat_same h q c m (SetLatch s) z = set_sets s.latch s.pool s.worker h q c m
-seat_same h (Worker i j) c m _ z = search (rules, arith)
-seat_same h (Caller n) c m _ z = search (rules, arith)
+seat_same h (Worker i j) c m (BecomeInactive k) z = record { inactive = λ e. refl; blocked = refl }
+seat_same h (Caller n) c m (BecomeInactive k) z = tt
+seat_same h q c m x z = seat_left h q c m x (quiet_writes x z refl)
 
 settled_awake : (h : PoolShape) (q : Party) (s : Settling) → Tops (λ y. is_blocking y ≡ false) (after_set h q s s.latch)
 settled_awake h q s = tops_map (λ y. is_light y ≡ true) (λ y. is_blocking y ≡ false) light_awake (after_set h q s s.latch) (leads_tops (after_set h q s s.latch) (settled_leads false h q s s.latch))

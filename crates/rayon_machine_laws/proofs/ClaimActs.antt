@@ -17,7 +17,7 @@ use Rattle.rayon_machine_places.specs.declared.place.Then.{Then}
 use Rattle.rayon_machine_places.specs.declared.place.Taken.TheVariants.{Plain, Token}
 use Rattle.rayon_machine_places.specs.declared.act.Act.TheVariants.{FifoOut, FifoUndo, PushOwn, PushInj}
 use Rattle.rayon_machine_places.specs.declared.place.Place.{Place}
-use Rattle.rayon_machine_places.specs.declared.place.Place.TheVariants.{ProbeWorking, PopWorking, TakeCastWorking, PopIdle, TakeCastIdle, StealFrom, PopInjected, GetSleepy, FallAsleep, WakeUp, JoinPop, JoinTakeCast, YieldPop, YieldTakeCast, YieldSteal, YieldPopInjected, LocalPop, LocalTakeCast, BeginTask, GrowCall, TakeResult, LowerCount, StoreResult, SetLatch, SetLockLatch, TakeFromFifo, AddToFifo, PushToken, PushJob, BeginHere, PushForAll, LowerForAll, GrowScope, StoreBody, GrowCast, DealPieces, StorePiece}
+use Rattle.rayon_machine_places.specs.declared.place.Place.TheVariants.{PopWorking, TakeCastWorking, PopIdle, TakeCastIdle, StealFrom, PopInjected, GetSleepy, FallAsleep, WakeUp, JoinPop, JoinTakeCast, YieldPop, YieldTakeCast, YieldSteal, YieldPopInjected, LocalPop, LocalTakeCast, BeginTask, GrowCall, TakeResult, LowerCount, StoreResult, SetLatch, SetLockLatch, TakeFromFifo, AddToFifo, PushToken, PushJob, BeginHere, PushForAll, LowerForAll, GrowScope, StoreBody, GrowCast, DealPieces, StorePiece}
 use Rattle.rayon_machine_places.specs.declared.act.Seen.{Seen}
 use Rattle.rayon_machine_places.specs.declared.act.Seen.TheVariants.{Yes, No, Task, Missing, Begun, Found, Handed}
 use Rattle.rayon_machine_places.specs.declared.state.Letter.{Letter}
@@ -27,6 +27,7 @@ use Rattle.rayon_machine_places.specs.declared.place.Settling.{Settling}
 use Rattle.rayon_machine_places.specs.Places.{latch_of, act_of, next_of, taken_number, plan_job, plan_pool, is_member, plan_book, count_book}
 use Rattle.rayon_machine_places.specs.World.{Shape, Stack, World, Counts, Part, head_of, own_of, or_none, target_job, Outcome, letter, with_letter, set_latch, found, popped, take_cast, pop_injector, lowered, effect, is_open, but_last, at_job, taken_as, count_in, put_body, same_list, put_list, all_lowered, pool_less, call_less, put_piece, with_piece, told}
 use Rattle.rayon_machine_places.specs.Steps.{put, part_of, after}
+use Rattle.rayon_machine_laws.proofs.Acts.{Cell, CallLetter, SeatLetter, writes_at, keeps}
 use Rattle.rayon_machine_laws.proofs.Frame.{either, if_some_all, if_some_map, put_same, after_kind, after_pool, out_sees, undo_sees, if_cond, after_bound, book_sees, same_list_true}
 use Rattle.rayon_machine_laws.proofs.Hands.{held}
 use Rattle.rayon_machine_laws.specs.Once.{one, times}
@@ -416,9 +417,6 @@ found_written : (m : Part) (p : Place) (x : Option Ending) → IfSome (found m x
 found_written m p None = same_written m p Missing
 found_written m p (Some d) = record { cell = λ e z. cc; call = λ z. inl z; seat = λ z. inl z }
 
-lower_unwritten : (m : Part) (k : Count) (s : Share) (e : Seen) → Unwritten m (e, lowered m k s)
-lower_unwritten m k s e = record { cell = refl; call = refl; seat = refl }
-
 body_written : (q : Party) (m : Part) (o : OpenCall) (d : Ending) → IfSome (put_body q m d) (Written m (StoreBody o d))
 body_written q m o d = book_sees (Written m (StoreBody o d)) q m _ (record { cell = λ e z. inr z; call = λ z. inl z; seat = λ z. inl z })
 
@@ -430,30 +428,23 @@ piece_written m c o t d s = record { cell = λ e z. by m.call.cell e refl z; cal
     by (Some Fine) e y z = inr z
     by (Some Fault) e y z = inl (y ∙ z)
 
+none_written : (h : Shape) (q : Party) (c : Counts) (m : Part) (x : Place) → writes_at x (Cell ∷ CallLetter ∷ SeatLetter ∷ []) ≡ false → IfSome (effect (act_of q x) h q c m) (Written m x)
+none_written h q c m x n = written m x (effect (act_of q x) h q c m) (keeps h q c m Unwritten (Cell ∷ CallLetter ∷ SeatLetter ∷ []) x n (λ r k. record { cell = k.0; call = k.1.0; seat = k.1.1.0 }))
+
 pub act_written : (h : Shape) (q : Party) (c : Counts) (m : Part) (x : Place) → IfSome (effect (act_of q x) h q c m) (Written m x)
-act_written h (Worker a b) c m (ProbeWorking k) = same_written m (ProbeWorking k) _
 act_written h (Worker a b) c m (GetSleepy k) = sleepy_keeps (latch_of k.target) (λ v r. Written v (GetSleepy k) r) (λ v e. same_written v (GetSleepy k) e) (λ v e y n. unset_written v (GetSleepy k) (latch_of k.target) e y n) m (letter (latch_of k.target) m)
 act_written h (Worker a b) c m (FallAsleep k) = asleep_keeps (latch_of k.target) (λ v r. Written v (FallAsleep k) r) (λ v e. same_written v (FallAsleep k) e) (λ v e y n. unset_written v (FallAsleep k) (latch_of k.target) e y n) m (letter (latch_of k.target) m)
 act_written h (Worker a b) c m (WakeUp k) = wake_keeps (latch_of k.target) (λ v r. Written v (WakeUp k) r) (λ v e. same_written v (WakeUp k) e) (λ v e y n. unset_written v (WakeUp k) (latch_of k.target) e y n) m (letter (latch_of k.target) m)
-act_written h (Worker a b) c m (SetLatch k) = set_written m k
-act_written h (Worker a b) c m (SetLockLatch i n) = record { cell = λ e z. inl z; call = λ z. inr refl; seat = λ z. inl z }
-act_written h (Worker a b) c m (StoreResult i o e) = record { cell = λ d z. inr z; call = λ z. inl z; seat = λ z. inl z }
-act_written h (Worker a b) c m (TakeResult o f) = found_written m (TakeResult o f) m.call.cell
-act_written h (Worker a b) c m (GrowCall n) = record { cell = λ e z. cc; call = λ z. cc; seat = λ z. inl z }
-act_written h (Worker a b) c m (GrowCast n) = record { cell = λ e z. cc; call = λ z. cc; seat = λ z. inl z }
-act_written h (Worker a b) c m (StorePiece i o t d) = piece_written m i o t d _
-act_written h (Worker a b) c m (GrowScope n) = record { cell = λ e z. cc; call = λ z. cc; seat = λ z. inl z }
-act_written h (Worker a b) c m (StoreBody o d) = body_written (Worker a b) m o d
-act_written h (Worker a b) c m (LowerCount p s n) = written m (LowerCount p s n) (effect (act_of (Worker a b) (LowerCount p s n)) h (Worker a b) c m) (lower_unwritten m p s _)
-act_written h (Worker a b) c m x = written m x (effect (act_of (Worker a b) x) h (Worker a b) c m) (search (rules, arith))
-act_written h (Caller v) c m (SetLatch k) = set_written m k
-act_written h (Caller v) c m (SetLockLatch i n) = record { cell = λ e z. inl z; call = λ z. inr refl; seat = λ z. inl z }
-act_written h (Caller v) c m (StoreResult i o e) = record { cell = λ d z. inr z; call = λ z. inl z; seat = λ z. inl z }
-act_written h (Caller v) c m (TakeResult o f) = found_written m (TakeResult o f) m.call.cell
-act_written h (Caller v) c m (GrowCall n) = record { cell = λ e z. cc; call = λ z. cc; seat = λ z. inl z }
-act_written h (Caller v) c m (GrowCast n) = record { cell = λ e z. cc; call = λ z. cc; seat = λ z. inl z }
-act_written h (Caller v) c m (StorePiece i o t d) = piece_written m i o t d _
-act_written h (Caller v) c m (GrowScope n) = record { cell = λ e z. cc; call = λ z. cc; seat = λ z. inl z }
-act_written h (Caller v) c m (StoreBody o d) = body_written (Caller v) m o d
-act_written h (Caller v) c m (LowerCount p s n) = written m (LowerCount p s n) (effect (act_of (Caller v) (LowerCount p s n)) h (Caller v) c m) (lower_unwritten m p s _)
-act_written h (Caller v) c m x = written m x (effect (act_of (Caller v) x) h (Caller v) c m) (search (rules, arith))
+act_written h (Caller n) c m (GetSleepy k) = tt
+act_written h (Caller n) c m (FallAsleep k) = tt
+act_written h (Caller n) c m (WakeUp k) = tt
+act_written h q c m (SetLatch k) = set_written m k
+act_written h q c m (SetLockLatch i n) = record { cell = λ e z. inl z; call = λ z. inr refl; seat = λ z. inl z }
+act_written h q c m (StoreResult i o e) = record { cell = λ d z. inr z; call = λ z. inl z; seat = λ z. inl z }
+act_written h q c m (TakeResult o f) = found_written m (TakeResult o f) m.call.cell
+act_written h q c m (GrowCall n) = record { cell = λ e z. cc; call = λ z. cc; seat = λ z. inl z }
+act_written h q c m (GrowCast n) = record { cell = λ e z. cc; call = λ z. cc; seat = λ z. inl z }
+act_written h q c m (GrowScope n) = record { cell = λ e z. cc; call = λ z. cc; seat = λ z. inl z }
+act_written h q c m (StorePiece i o t d) = piece_written m i o t d _
+act_written h q c m (StoreBody o d) = body_written q m o d
+act_written h q c m x = none_written h q c m x refl

@@ -14,9 +14,8 @@ use Rattle.rayon_machine_places.specs.declared.place.Plan.{Plan}
 use Rattle.rayon_machine_places.specs.declared.place.Then.{Then}
 use Rattle.rayon_machine_places.specs.declared.place.Then.TheVariants.{BeginFound, LeaveWait, Resume, Await, RunFirst, Answers, Missing, Ran, GiveBack, Called, Gathers}
 use Rattle.rayon_machine_places.specs.declared.place.Feeding.{Feeding}
-use Rattle.rayon_machine_places.specs.declared.place.Taken.TheVariants.{Plain, Token}
 use Rattle.rayon_machine_places.specs.declared.place.Place.{Place}
-use Rattle.rayon_machine_places.specs.declared.place.Place.TheVariants.{ProbeWorking, PopWorking, TakeCastWorking, PopIdle, TakeCastIdle, StealFrom, PopInjected, RelockOwn, JoinPop, JoinTakeCast, YieldPop, YieldTakeCast, YieldSteal, YieldPopInjected, LocalPop, LocalTakeCast, Run, PushJob, AddToFifo, PushForAll, DealPieces, BeginHere, SetLatch, UnlockSettled, Free, Stopped, PushToken, BeginTask, TakeFromFifo, BecomeInactive, ProbeIdle, PickVictim, AnnounceSelf, GetSleepy, LockOwn, FallAsleep, LoadCounters, AddSleeping, LookAtCast, LookAtInjector, BlockSelf, UndoSleeping, WakeUp, UnlockOwn}
+use Rattle.rayon_machine_places.specs.declared.place.Place.TheVariants.{ProbeWorking, PopWorking, TakeCastWorking, PopIdle, TakeCastIdle, StealFrom, PopInjected, RelockOwn, JoinPop, YieldPop, YieldSteal, LocalPop, Run, PushJob, SetLatch, UnlockSettled, Free, Stopped, PushToken, BecomeInactive, ProbeIdle, PickVictim, AnnounceSelf, GetSleepy, LockOwn, FallAsleep, LoadCounters, AddSleeping, LookAtCast, LookAtInjector, BlockSelf, UndoSleeping, WakeUp, UnlockOwn}
 use Rattle.rayon_machine_places.specs.declared.place.Move.{Move}
 use Rattle.rayon_machine_places.specs.declared.place.Move.TheVariants.{Stay, Enter, StartRun, Back, HandBack, Discard, HandIn, Mark, HandAllBack}
 use Rattle.rayon_machine_places.specs.declared.act.Act.{Act}
@@ -27,18 +26,18 @@ use Rattle.rayon_machine_places.specs.declared.event.Event.{Event}
 use Rattle.rayon_machine_places.specs.declared.shape.PoolShape.{PoolShape}
 use Rattle.rayon_machine_places.specs.declared.place.Wait.{Wait}
 use Rattle.rayon_machine_places.specs.declared.place.Settling.{Settling}
-use Rattle.rayon_machine_places.specs.Places.{same_party, own_pool, own_index, is_member, plan_pool, plan_job, fresh, awaits, finish, after_set, act_of, next_of, plan_book, count_book}
-use Rattle.rayon_machine_places.specs.World.{Shape, Stack, World, Counts, Part, target_pool, target_worker, head_of, last_of, but_first, own_of, own_left, popped, pop_injector, take_cast, is_open, effect, fifo_out, fifo_undo}
+use Rattle.rayon_machine_places.specs.Places.{same_party, own_pool, own_index, is_member, plan_pool, plan_job, fresh, awaits, finish, after_set, act_of, next_of, plan_book}
+use Rattle.rayon_machine_places.specs.World.{Shape, Stack, World, Counts, Part, target_pool, target_worker, head_of, last_of, but_first, own_of, own_left, popped, effect}
 use Rattle.rayon_machine_places.specs.Steps.{after_move, step}
 use Rattle.rayon_machine_places.specs.Runs.{first_place, start, IsRun}
 use Rattle.rayon_machine_laws.specs.Attended.{IsEmptyHanded}
+use Rattle.rayon_machine_laws.proofs.Acts.{Own, writes_at, keeps}
 use Rattle.rayon_machine_laws.proofs.Asides.{Aside, steps_aside}
 use Rattle.rayon_machine_laws.proofs.Attended.{aside_frames}
 use Rattle.rayon_machine_laws.proofs.Calm.{part_at, counts_seen, next_at, top_then}
 use Rattle.rayon_machine_laws.proofs.Events.{run_keeps}
-use Rattle.rayon_machine_laws.proofs.Frame.{either, if_cond, same_index, same_refl, same_party_true, if_some_all, if_some_each, if_some_and, if_some_map, out_sees, undo_sees}
+use Rattle.rayon_machine_laws.proofs.Frame.{either, same_index, same_refl, same_party_true, if_some_all, if_some_each, if_some_and, if_some_map}
 use Rattle.rayon_machine_laws.proofs.Holding.{if_some_h, go_frames}
-use Rattle.rayon_machine_laws.proofs.Lists.{SameJobs, quiet_same}
 use Rattle.rayon_machine_laws.proofs.Kept.{is_emptied, frame_not_emptied}
 use Rattle.rayon_machine_laws.proofs.Locks.{tops_map}
 use Rattle.rayon_machine_laws.proofs.Seats.{mode, lies_in, is_frame}
@@ -71,31 +70,11 @@ is_filling (PushJob n e) = true
 is_filling (PushToken f e) = true
 is_filling _ = false
 
-inj_empty : (q : Party) (m : Part) (l : List ℕ) → m.seat.own ≡ [] → IfSome (pop_injector q m l) (λ r. r.1.seat.own ≡ [])
-inj_empty q m [] e = e
-inj_empty q m (t ∷ ts) e = e
-
-cast_empty : (q : Party) (m : Part) (l : List ℕ) → m.seat.own ≡ [] → IfSome (take_cast q m l) (λ r. r.1.seat.own ≡ [])
-cast_empty q m [] e = e
-cast_empty q m (t ∷ ts) e = e
-
-out_empty : (q : Party) (m : Part) (b : Option ℕ) → m.seat.own ≡ [] → IfSome (fifo_out q m b) (λ r. r.1.seat.own ≡ [])
-out_empty q m b e = out_sees (λ r. r.1.seat.own ≡ []) q m b e (λ u us is. e)
-
-back_empty : (q : Party) (m : Part) (b : Option ℕ) → m.seat.own ≡ [] → IfSome (fifo_undo q m b) (λ r. r.1.seat.own ≡ [])
-back_empty q m b e = undo_sees (λ r. r.1.seat.own ≡ []) q m b e (λ u is. e)
+still_empty : (h : Shape) (q : Party) (c : Counts) (m : Part) (x : Place) → m.seat.own ≡ [] → writes_at x (Own ∷ []) ≡ false → IfSome (effect (act_of q x) h q c m) (λ r. r.1.seat.own ≡ [])
+still_empty h q c m x e n = keeps h q c m (λ v r. r.1.seat.own ≡ []) (Own ∷ []) x n (λ r k. k.0 ∙ e)
 
 -- no act but a push fills a deque
 stays_empty : (h : Shape) (q : Party) (c : Counts) (m : Part) (x : Place) → is_filling x ≡ false → StaysEmpty (act_of q x) h q c m
-stays_empty h (Worker a b) c m (TakeFromFifo f) z e = back_empty (Worker a b) m (count_book f.count) e
-stays_empty h q c m (PushJob n v) z e = cc
-stays_empty h q c m (PushToken f v) z e = cc
-stays_empty h q c m (BeginTask (Plain t)) z e = e
-stays_empty h q c m (BeginTask (Token k i b8)) z e = out_empty q m b8 e
-stays_empty h q c m (BeginHere t) z e = e
-stays_empty h q c m (PushForAll b) z e = e
-stays_empty h q c m (DealPieces g) z e = e
-stays_empty h (Worker a b) c m (AddToFifo f) z e = if_cond (λ r. r.1.seat.own ≡ []) (is_open (Worker a b) (m.seat.feeder (count_book f.count))) _ (λ o. e)
 stays_empty h (Worker a b) c m (PopWorking k) z e = pop_empty (Worker a b) m (h.pool a).order m.seat.own refl e
 stays_empty h (Worker a b) c m (PopIdle k) z e = pop_empty (Worker a b) m (h.pool a).order m.seat.own refl e
 stays_empty h (Worker a b) c m (JoinPop o) z e = pop_empty (Worker a b) m (h.pool a).order m.seat.own refl e
@@ -103,13 +82,6 @@ stays_empty h (Worker a b) c m YieldPop z e = pop_empty (Worker a b) m (h.pool a
 stays_empty h (Worker a b) c m LocalPop z e = pop_empty (Worker a b) m (h.pool a).order m.seat.own refl e
 stays_empty h (Worker a b) c m (StealFrom k n) z e = steal_empty (Worker a b) m m.seat.own refl e
 stays_empty h (Worker a b) c m (YieldSteal v n) z e = steal_empty (Worker a b) m m.seat.own refl e
-stays_empty h (Worker a b) c m (PopInjected k) z e = inj_empty (Worker a b) m m.pool.injector e
-stays_empty h (Worker a b) c m YieldPopInjected z e = inj_empty (Worker a b) m m.pool.injector e
-stays_empty h (Worker a b) c m (TakeCastWorking k) z e = cast_empty (Worker a b) m (m.pool.casts b) e
-stays_empty h (Worker a b) c m (TakeCastIdle k) z e = cast_empty (Worker a b) m (m.pool.casts b) e
-stays_empty h (Worker a b) c m (JoinTakeCast o) z e = cast_empty (Worker a b) m (m.pool.casts b) e
-stays_empty h (Worker a b) c m YieldTakeCast z e = cast_empty (Worker a b) m (m.pool.casts b) e
-stays_empty h (Worker a b) c m LocalTakeCast z e = cast_empty (Worker a b) m (m.pool.casts b) e
 stays_empty h (Caller n) c m (PopWorking k) z e = tt
 stays_empty h (Caller n) c m (PopIdle k) z e = tt
 stays_empty h (Caller n) c m (JoinPop o) z e = tt
@@ -117,16 +89,9 @@ stays_empty h (Caller n) c m YieldPop z e = tt
 stays_empty h (Caller n) c m LocalPop z e = tt
 stays_empty h (Caller n) c m (StealFrom k l) z e = tt
 stays_empty h (Caller n) c m (YieldSteal v l) z e = tt
-stays_empty h (Caller n) c m (PopInjected k) z e = tt
-stays_empty h (Caller n) c m YieldPopInjected z e = tt
-stays_empty h (Caller n) c m (TakeCastWorking k) z e = tt
-stays_empty h (Caller n) c m (TakeCastIdle k) z e = tt
-stays_empty h (Caller n) c m (JoinTakeCast o) z e = tt
-stays_empty h (Caller n) c m YieldTakeCast z e = tt
-stays_empty h (Caller n) c m LocalTakeCast z e = tt
-stays_empty h (Caller n) c m (TakeFromFifo f) z e = tt
-stays_empty h (Caller n) c m (AddToFifo f) z e = tt
-stays_empty h q c m x z e = if_some_map (SameJobs m) (λ r. r.1.seat.own ≡ []) (λ r s. s.own ∙ e) (effect (act_of q x) h q c m) (quiet_same h q c m x refl)
+stays_empty h q c m (PushJob n v) z e = cc
+stays_empty h q c m (PushToken f v) z e = cc
+stays_empty h q c m x z e = still_empty h q c m x e refl
 
 -- the last of a list is missing only where the list is empty
 last_none : (l : List ℕ) → last_of l ≡ None → l ≡ []

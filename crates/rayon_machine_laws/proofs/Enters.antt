@@ -19,15 +19,12 @@ use Rattle.rayon_machine_places.specs.declared.place.Share.TheVariants.{PoolValu
 use Rattle.rayon_machine_places.specs.declared.place.Pieces.{Pieces}
 use Rattle.rayon_machine_places.specs.declared.place.Mark.{Mark as Marking}
 use Rattle.rayon_machine_places.specs.declared.place.Mark.TheVariants.{Counted, Queued, Returned, Numbered, Dealt, Unnumbered}
-use Rattle.rayon_machine_places.specs.declared.place.Latch.{Latch}
-use Rattle.rayon_machine_places.specs.declared.place.Latch.TheVariants.{Terminate, OfCall}
 use Rattle.rayon_machine_places.specs.declared.place.Plan.TheVariants.{Detach, Here, Send, Fork, Feed, Open, Enter, Gather}
 use Rattle.rayon_machine_places.specs.declared.place.Then.TheVariants.{Resume}
 use Rattle.rayon_machine_places.specs.declared.place.Place.{Place}
-use Rattle.rayon_machine_places.specs.declared.place.Place.TheVariants.{ProbeWorking, PickVictim, StealFrom, YieldPop, YieldPick, YieldSteal, LocalPop, Run, Free, Stopped, SetLatch, RaiseCount, RaiseForAll, LowerCount, FirstSide}
+use Rattle.rayon_machine_places.specs.declared.place.Place.TheVariants.{ProbeWorking, PickVictim, StealFrom, YieldPop, YieldPick, YieldSteal, LocalPop, Run, Free, Stopped, RaiseCount, RaiseForAll, LowerCount, FirstSide}
 use Rattle.rayon_machine_places.specs.declared.place.Move.{Move}
 use Rattle.rayon_machine_places.specs.declared.place.Move.TheVariants.{Stay, Enter as EnterAbove, StartRun, Back, HandBack, Discard, HandIn, Mark, HandAllBack}
-use Rattle.rayon_machine_places.specs.declared.act.Act.TheVariants.{Set}
 use Rattle.rayon_machine_places.specs.declared.act.Seen.{Seen}
 use Rattle.rayon_machine_places.specs.declared.act.Seen.TheVariants.{Refused, Missing, Start}
 use Rattle.rayon_machine_places.specs.declared.event.Event.{Event}
@@ -38,9 +35,10 @@ use Rattle.rayon_machine_places.specs.declared.state.Job.{Job}
 use Rattle.rayon_machine_places.specs.declared.state.Scope.{Scope}
 use Rattle.rayon_machine_places.specs.Places.{same_party, act_of, next_of, own_pool, is_free, is_member, holds_scope, goes_on, fresh, count_kind, count_book}
 use Rattle.rayon_machine_places.specs.World.{Shape, Stack, World, Counts, Part, at_job, begun, effect, counts_at, target_pool, target_worker, target_call}
-use Rattle.rayon_machine_places.specs.Steps.{put, put_stack, after_move, after_call, after_close, after_resume, jobs_after, after_choice, after_refusal, after_miss, after_end, after_send, after_join, after_yield, after_feed, after_enter, seeing, step, mark_pieces, marked, put_pieces, after_gather, new_job, new_piece, new_whole, is_piece, is_pool, holds, holds_in}
+use Rattle.rayon_machine_places.specs.Steps.{put, put_stack, after_move, after_call, after_close, after_resume, jobs_after, after_choice, after_miss, after_end, after_send, after_join, after_yield, after_feed, after_enter, seeing, step, mark_pieces, marked, put_pieces, after_gather, new_job, new_piece, new_whole, is_piece, is_pool, holds, holds_in}
 use Rattle.rayon_machine_places.specs.Runs.{start, first_place, IsRun}
 use Rattle.rayon_machine_laws.specs.Once.{one}
+use Rattle.rayon_machine_laws.proofs.Lists.{is_settled, Onward, act_on}
 use Rattle.rayon_machine_laws.proofs.Seats.{is_frame}
 use Rattle.rayon_machine_laws.proofs.Ties.{AllFrames, job_at, outcome, result}
 use Rattle.rayon_machine_laws.proofs.Tops.{FramesOk}
@@ -121,15 +119,15 @@ is_spent _ z = absurd (omega (arith, z))
 abbrev Unspent : Part → Seen × Part → Type 0
 Unspent m r = spends r.1.job.at ≤ spends m.job.at
 
-set_unspent : (l : Latch) (r j : ℕ) (h : Shape) (q : Party) (c : Counts) (m : Part) → IfSome (effect (Set l r j) h q c m) (Unspent m)
-set_unspent Terminate r j h q c m = search (rules, arith)
-set_unspent (OfCall n) r j h q c m = search (rules, arith)
+unsettled_unspent : (v : Whereabouts) → is_settled v ≡ false → spends v ≡ 0
+unsettled_unspent Spent e = cc
+unsettled_unspent _ e = refl
 
 act_unspent : (h : Shape) (q : Party) (c : Counts) (m : Part) (x : Place) → IfSome (effect (act_of q x) h q c m) (Unspent m)
-act_unspent h (Worker a b) c m (ProbeWorking k) = search (rules, arith)
-act_unspent h q c m (SetLatch s) = set_unspent s.latch s.pool s.worker h q c m
-act_unspent h (Worker a b) c m _ = search (rules, arith)
-act_unspent h (Caller a) c m _ = search (rules, arith)
+act_unspent h q c m x = if_some_map (Onward m) (Unspent m) (λ r o. elim o [
+  | inl e ↦ (let s : spends r.1.job.at ≡ spends m.job.at = ap spends e in omega (arith, s))
+  | inr e ↦ (let z : spends r.1.job.at ≡ 0 = unsettled_unspent r.1.job.at e in omega (arith, z))
+]) (effect (act_of q x) h q c m) (act_on h q c m x)
 
 -- a move spends the token in hand
 abbrev spent_by : ℕ → Move → ℕ

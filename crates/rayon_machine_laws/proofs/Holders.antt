@@ -1,11 +1,9 @@
 -- a party holds a sleep lock, a scope's book and a FIFO list exactly where it stands so
 use Rattle.std.proofs.Common.{rules, arith, refl, ◌∙◌, sym, ap, inl, inr}
-use Rattle.std.specs.Prelude.{ℕ, Bool, true, false, not, ◌&&◌, ◌==◌, if◌then◌else◌, Option, Some, None, ◌≡◌, IfSome, ⊤, List}
+use Rattle.std.specs.Prelude.{ℕ, Bool, true, false, not, ◌&&◌, ◌==◌, if◌then◌else◌, Option, Some, None, ◌≡◌, IfSome, ⊤, [], ◌∷◌, List}
 use Rattle.std.proofs.lemmas.Bool.{eqb-true, eq-eqb}
 use Rattle.rayon_machine_places.specs.declared.place.Party.{Party}
 use Rattle.rayon_machine_places.specs.declared.place.Party.TheVariants.{Worker, Caller}
-use Rattle.rayon_machine_places.specs.declared.place.Latch.{Latch}
-use Rattle.rayon_machine_places.specs.declared.place.Latch.TheVariants.{Terminate, OfCall}
 use Rattle.rayon_machine_places.specs.declared.place.Plan.{Plan}
 use Rattle.rayon_machine_places.specs.declared.place.Plan.TheVariants.{Detach, Here, Send, Fork, Feed, Open, Enter, Gather}
 use Rattle.rayon_machine_places.specs.declared.place.Count.{Count}
@@ -15,19 +13,17 @@ use Rattle.rayon_machine_places.specs.declared.place.Walk.{Walk}
 use Rattle.rayon_machine_places.specs.declared.place.Settling.{Settling}
 use Rattle.rayon_machine_places.specs.declared.place.Taken.TheVariants.{Plain}
 use Rattle.rayon_machine_places.specs.declared.place.Place.{Place}
-use Rattle.rayon_machine_places.specs.declared.place.Place.TheVariants.{ProbeWorking, GetSleepy, LockOwn, FallAsleep, LoadCounters, AddSleeping, LookAtCast, LookAtInjector, BlockSelf, RelockOwn, UndoSleeping, WakeUp, UnlockOwn, SetLatch, LowerForAll, LockToWake, WakeWorker, UnlockWoken, LockToSettle, WakeSettled, UnlockSettled, GrowCall, OpenSlot, CloseSlot, LookQueue, PushJob, PushToken, TakeFromFifo, OpenForAll, PushForAll, CloseForAll, DealPieces, StoreSlot, StorePiece}
+use Rattle.rayon_machine_places.specs.declared.place.Place.TheVariants.{LockOwn, FallAsleep, LoadCounters, AddSleeping, LookAtCast, LookAtInjector, BlockSelf, RelockOwn, UndoSleeping, WakeUp, UnlockOwn, LowerForAll, LockToWake, WakeWorker, UnlockWoken, LockToSettle, WakeSettled, UnlockSettled, GrowCall, OpenSlot, CloseSlot, LookQueue, PushJob, PushToken, TakeFromFifo, OpenForAll, PushForAll, CloseForAll, DealPieces, StoreSlot, StorePiece}
 use Rattle.rayon_machine_places.specs.declared.act.Act.TheVariants.{Unlock, PushOwn, PushInj, FifoUndo}
 use Rattle.rayon_machine_places.specs.declared.act.Seen.{Seen}
 use Rattle.rayon_machine_places.specs.declared.act.Seen.TheVariants.{Done, Task}
-use Rattle.rayon_machine_places.specs.declared.state.Letter.{Letter}
-use Rattle.rayon_machine_places.specs.declared.state.Letter.TheVariants.{Set as IsSet}
 use Rattle.rayon_machine_places.specs.declared.shape.PoolShape.{PoolShape}
-use Rattle.rayon_machine_places.specs.Places.{act_of, next_of, latch_of, plan_book, plan_count, plan_job, plan_pool, count_book, count_call, is_member, withdraw, after_slot, same_party}
-use Rattle.rayon_machine_places.specs.World.{Shape, Part, Counts, target_pool, target_worker, target_call, or_none, effect, is_free_lock, is_held_by, is_open, is_own, left_by, left_book, last_of, same_list, fifo_back, letter, with_letter}
+use Rattle.rayon_machine_places.specs.Places.{act_of, next_of, plan_book, plan_count, plan_job, plan_pool, count_book, count_call, is_member, withdraw, after_slot, same_party}
+use Rattle.rayon_machine_places.specs.World.{Shape, Part, Counts, target_pool, target_worker, target_call, or_none, effect, is_free_lock, is_held_by, is_open, is_own, left_by, left_book, last_of, same_list, fifo_back}
 use Rattle.rayon_machine_places.specs.Steps.{after_move}
 use Rattle.rayon_machine_laws.specs.Holders.{book_at, locks_at}
-use Rattle.rayon_machine_laws.proofs.Frame.{and_parts, either, if_cond, if_some_map, same_index, same_party_true, same_party_refl, same_refl}
-use Rattle.rayon_machine_laws.proofs.Letters.{sleepy_keeps, asleep_keeps, wake_keeps, set_keeps}
+use Rattle.rayon_machine_laws.proofs.Acts.{Field, Locker, Writer, Number, Kept, writes_at, keeps}
+use Rattle.rayon_machine_laws.proofs.Frame.{and_parts, either, if_cond, if_some_map, same_index, same_party_true, same_party_refl, same_refl, if_some_all, if_some_and}
 use Rattle.rayon_machine_laws.proofs.Tops.{is_light, is_heavy}
 use Rattle.rayon_machine_laws.proofs.Posts.{Locking, Unless, has, is_booked, locks_here, books_here}
 
@@ -156,25 +152,28 @@ slots_here _ = false
 abbrev pub Same : Place → Part → Seen × Part → Type 0
 Same x m r = Unless (locks_here x) (r.1.seat.lock ≡ m.seat.lock) × Unless (writers_here x) (r.1.call.writer ≡ m.call.writer) × Unless (slots_here x) (r.1.job.slot ≡ m.job.slot)
 
-abbrev Held : Part → Seen × Part → Type 0
-Held m r = (r.1.seat.lock ≡ m.seat.lock) × (r.1.call.writer ≡ m.call.writer) × (r.1.job.slot ≡ m.job.slot)
-
-same_held : (m : Part) (e : Seen) → Held m (e, m)
-same_held m e = (refl, refl, refl)
-
-letter_held : (l : Latch) (m : Part) (e : Seen) (y : Letter) → Held m (e, with_letter l m y)
-letter_held Terminate m e y = (refl, refl, refl)
-letter_held (OfCall c) m e y = (refl, refl, refl)
-
 pub holders_same : (h : Shape) (q : Party) (c : Counts) (m : Part) (x : Place) → IfSome (effect (act_of q x) h q c m) (Same x m)
-holders_same h (Worker a b) c m (ProbeWorking k) = search (rules, arith)
-holders_same h (Worker a b) c m (GetSleepy k) = sleepy_keeps (latch_of k.target) Held same_held (λ v e y n. letter_held (latch_of k.target) v e y) m (letter (latch_of k.target) m)
-holders_same h (Worker a b) c m (FallAsleep k) = asleep_keeps (latch_of k.target) Held same_held (λ v e y n. letter_held (latch_of k.target) v e y) m (letter (latch_of k.target) m)
-holders_same h (Worker a b) c m (WakeUp k) = wake_keeps (latch_of k.target) Held same_held (λ v e y n. letter_held (latch_of k.target) v e y) m (letter (latch_of k.target) m)
-holders_same h (Worker a b) c m (SetLatch s) = set_keeps s.latch Held (λ v e. letter_held s.latch v e IsSet) m (letter s.latch m)
-holders_same h (Caller n) c m (SetLatch s) = set_keeps s.latch Held (λ v e. letter_held s.latch v e IsSet) m (letter s.latch m)
-holders_same h (Worker a b) c m _ = search (rules, arith)
-holders_same h (Caller n) c m _ = search (rules, arith)
+holders_same h q c m x =
+    if_some_map (λ r. Unless (locks_here x) (Kept Locker m r) × (Unless (writers_here x) (Kept Writer m r) × Unless (slots_here x) (Kept Number m r))) (Same x m) (λ r k. (k.0, k.1.0, k.1.1)) (effect (act_of q x) h q c m)
+    (if_some_and (λ r. Unless (locks_here x) (Kept Locker m r)) (λ r. Unless (writers_here x) (Kept Writer m r) × Unless (slots_here x) (Kept Number m r)) (effect (act_of q x) h q c m)
+    (one Locker (locks_here x) (locks_only x))
+    (if_some_and (λ r. Unless (writers_here x) (Kept Writer m r)) (λ r. Unless (slots_here x) (Kept Number m r)) (effect (act_of q x) h q c m) (one Writer (writers_here x) (writers_only x)) (one Number (slots_here x) (slots_only x))))
+  where
+    one : (f : Field) (b : Bool) → (b ≡ false → writes_at x (f ∷ []) ≡ false) → IfSome (effect (act_of q x) h q c m) (λ r. Unless b (Kept f m r))
+    one f true e = if_some_all (λ r. Unless true (Kept f m r)) (λ r. tt) (effect (act_of q x) h q c m)
+    one f false e = keeps h q c m (λ v r. Unless false (Kept f v r)) (f ∷ []) x (e refl) (λ r k. k.0)
+
+    locks_only : (x : Place) → locks_here x ≡ false → writes_at x (Locker ∷ []) ≡ false
+    locks_only (LockOwn k) e = cc
+    locks_only _ e = cc
+
+    writers_only : (x : Place) → writers_here x ≡ false → writes_at x (Writer ∷ []) ≡ false
+    writers_only (OpenSlot n) e = cc
+    writers_only _ e = cc
+
+    slots_only : (x : Place) → slots_here x ≡ false → writes_at x (Number ∷ []) ≡ false
+    slots_only (OpenSlot n) e = cc
+    slots_only _ e = cc
 
 -- where an act leads
 abbrev pub Top : PoolShape → Party → Place → List Place → Seen → Place

@@ -3,7 +3,7 @@ use Rattle.rayon_machine_places.specs.declared.place.Gathering.{Gathering}
 use Rattle.rayon_machine_places.specs.declared.place.Then.{Then}
 use Rattle.rayon_machine_places.specs.declared.place.OpenCall.{OpenCall}
 use Rattle.std.proofs.Common.{rules, arith, refl, ap, subst}
-use Rattle.std.specs.Prelude.{ℕ, Bool, true, false, Option, Some, None, ◌≡◌, IfSome}
+use Rattle.std.specs.Prelude.{ℕ, Bool, true, false, Option, Some, None, ◌≡◌, List, [], ◌∷◌, IfSome}
 use Rattle.rayon_machine_places.specs.declared.place.Party.{Party}
 use Rattle.rayon_machine_places.specs.declared.place.Party.TheVariants.{Worker, Caller}
 use Rattle.rayon_machine_places.specs.declared.place.Latch.{Latch}
@@ -20,6 +20,7 @@ use Rattle.rayon_machine_places.specs.declared.place.Settling.{Settling}
 use Rattle.rayon_machine_places.specs.Places.{latch_of, act_of}
 use Rattle.rayon_machine_places.specs.World.{Shape, Counts, Part, letter, set_latch, effect, with_letter}
 use Rattle.rayon_machine_laws.specs.Committed.{is_blocking}
+use Rattle.rayon_machine_laws.proofs.Acts.{SeatLetter, CallLetter, writes_at, keeps}
 use Rattle.rayon_machine_laws.proofs.Letters.{sleepy_keeps, asleep_keeps, wake_keeps}
 
 -- an act leaves the letters of the latches that it touches
@@ -40,17 +41,11 @@ is_latching (SetLockLatch c t) = true
 is_latching _ = false
 
 pub latches_same : (h : Shape) (q : Party) (c : Counts) (m : Part) (x : Place) → is_latching x ≡ false → IfSome (effect (act_of q x) h q c m) (SameLatches m)
-latches_same h (Worker a b) c m (ProbeWorking k) z = search (rules, arith)
-latches_same h q c m (GetSleepy k) z = cc
-latches_same h q c m (FallAsleep k) z = cc
-latches_same h q c m (WakeUp k) z = cc
-latches_same h q c m (GrowCall n) z = cc
-latches_same h q c m (GrowScope o) z = cc
-latches_same h q c m (GrowCast g) z = cc
-latches_same h q c m (SetLatch s) z = cc
-latches_same h q c m (SetLockLatch d t) z = cc
-latches_same h (Worker a b) c m _ z = search (rules, arith)
-latches_same h (Caller n) c m _ z = search (rules, arith)
+latches_same h q c m x z = keeps h q c m SameLatches (SeatLetter ∷ CallLetter ∷ []) x (writes_none x z) (λ r k. record { seat = k.0; call = k.1.0 })
+  where
+    writes_none : (x : Place) → is_latching x ≡ false → writes_at x (SeatLetter ∷ CallLetter ∷ []) ≡ false
+    writes_none (SetLatch s) z = cc
+    writes_none _ z = cc
 
 -- an act on a latch writes no other: not the call's where it is the worker's own, and not the seat's where it is a call's
 abbrev pub OneLatch : Latch → Part → Seen × Part → Type 0

@@ -10,7 +10,7 @@ use Rattle.std.proofs.Common.{rules, arith, refl, sym, ◌∙◌, ap, subst, inl
 use Rattle.std.specs.Prelude.{ℕ, Bool, true, false, ◌+◌, ◌-◌, ◌==◌, ◌≤◌, if◌then◌else◌, Option, Some, None, List, [], ◌∷◌, ◌≡◌, IfSome}
 use Rattle.std.proofs.lemmas.Bool.{eq-eqb}
 use Rattle.rayon_machine_places.specs.declared.place.Party.{Party}
-use Rattle.rayon_machine_places.specs.declared.place.Party.TheVariants.{Worker, Caller}
+use Rattle.rayon_machine_places.specs.declared.place.Party.TheVariants.{Worker}
 use Rattle.rayon_machine_places.specs.declared.place.Ending.{Ending}
 use Rattle.rayon_machine_places.specs.declared.place.Ending.TheVariants.{Fine}
 use Rattle.rayon_machine_places.specs.declared.place.JobKind.{JobKind}
@@ -29,17 +29,15 @@ use Rattle.rayon_machine_places.specs.declared.place.Taken.{Taken}
 use Rattle.rayon_machine_places.specs.declared.place.Place.{Place}
 use Rattle.rayon_machine_places.specs.declared.place.Place.TheVariants.{ProbeWorking, PopWorking, TakeCastWorking, BecomeInactive, ProbeIdle, PopIdle, TakeCastIdle, PickVictim, StealFrom, PopInjected, AnnounceSelf, GetSleepy, LockOwn, FallAsleep, LoadCounters, AddSleeping, LookAtCast, LookAtInjector, BlockSelf, RelockOwn, UndoSleeping, WakeUp, UnlockOwn, LeaveSearch, JoinProbe, JoinPop, JoinTakeCast, BeginTask, BeginHere, Run, RaiseCount, GrowCall, LookQueue, PushJob, TellNews, LockToWake, WakeWorker, UnlockWoken, WaitForLock, TakeResult, LowerCount, StoreResult, SetLatch, LockToSettle, WakeSettled, UnlockSettled, SetLockLatch, FirstSide, SecondSide, AtOnce, AddToFifo, LookForToken, PushToken, TakeFromFifo, RaiseForAll, PushForAll, LowerForAll, GrowScope, OpenSlot, CloseSlot, StoreBody, StoreSlot, ScopeBody, OpenForAll, CloseForAll, GrowCast, DealPieces, StorePiece}
 use Rattle.rayon_machine_places.specs.declared.act.Seen.{Seen}
-use Rattle.rayon_machine_places.specs.declared.act.Seen.TheVariants.{Done, Refused}
-use Rattle.rayon_machine_places.specs.declared.state.Letter.{Letter}
-use Rattle.rayon_machine_places.specs.declared.state.Letter.TheVariants.{Set as IsSet}
+use Rattle.rayon_machine_places.specs.declared.act.Seen.TheVariants.{Done, Refused, Yes, No}
 use Rattle.rayon_machine_places.specs.declared.state.Whereabouts.{Whereabouts}
 use Rattle.rayon_machine_places.specs.declared.state.Whereabouts.TheVariants.{Nowhere, Made, InDeque, Injected, InFifo, Running, Over, HandedBack, Spent, Retaken, InCast}
 use Rattle.rayon_machine_places.specs.declared.place.OpenCall.{OpenCall}
-use Rattle.rayon_machine_places.specs.Places.{latch_of, act_of, own_index, plan_count, count_kind, count_book}
-use Rattle.rayon_machine_places.specs.World.{Shape, Stack, World, Counts, Part, letter, with_letter, lowered, effect, count_in, raised, all_raised, all_lowered, pool_more, call_more, pool_less, call_less}
+use Rattle.rayon_machine_places.specs.Places.{act_of, own_index, plan_count, count_kind, count_book}
+use Rattle.rayon_machine_places.specs.World.{Shape, Stack, World, Counts, Part, lowered, effect, count_in, raised, all_raised, all_lowered, pool_more, call_more, pool_less, call_less}
 use Rattle.rayon_machine_places.specs.Readers.{is_done}
+use Rattle.rayon_machine_laws.proofs.Acts.{Field, Fixed, PoolCount, CallCount, writes_at, keeps}
 use Rattle.rayon_machine_laws.proofs.Claims.{Opened, IsStored, call_kind, is_body, MadeAs, FirstEnds, SaysTarget, Left, Taking, is_detached, Awaited, SaysFound, SaysPlan, SaysQueue, SaysThen, SaysOwner, SaysShare, SaysLatch, SaysRun, Says, AllSay, StackSays, SaysTold, SaysPieces, SaysEntry, IsReady, Tied, PartOf, KnownCount, SaysCast, SaysGather, PieceEnds, EndsAs, SaysSlot, SaysTaken}
-use Rattle.rayon_machine_laws.proofs.Letters.{sleepy_keeps, asleep_keeps, wake_keeps, set_keeps}
 use Rattle.rayon_machine_places.specs.declared.place.Taken.TheVariants.{Plain, Token}
 
 pub record Later (w u : World) : Type 0 where
@@ -374,9 +372,8 @@ pub record Static (m : Part) (r : Seen × Part) : Type 0 where
   pub ended : m.pool.count ≡ 0 → r.1.pool.count ≡ 0
   pub spent : m.call.count ≡ 0 → r.1.call.count ≡ 0
 
-letter_static : (l : Latch) (m : Part) (e : Seen) (y : Letter) → Static m (e, with_letter l m y)
-letter_static Terminate m e y = record { kind = refl; pool = refl; bound = refl; target = refl; side = refl; held = refl; ended = λ z. z; spent = λ z. z }
-letter_static (OfCall c) m e y = record { kind = refl; pool = refl; bound = refl; target = refl; side = refl; held = refl; ended = λ z. z; spent = λ z. z }
+abbrev static_fields : List Field
+static_fields = Fixed ∷ PoolCount ∷ CallCount ∷ []
 
 same_static : (m : Part) (e : Seen) → Static m (e, m)
 same_static m e = record { kind = refl; pool = refl; bound = refl; target = refl; side = refl; held = refl; ended = λ z. z; spent = λ z. z }
@@ -421,20 +418,33 @@ lower_static m (OfPool p) s e = record { kind = refl; pool = refl; bound = refl;
 lower_static m (OfCast c o) s e = record { kind = refl; pool = refl; bound = refl; target = refl; side = refl; held = refl; ended = λ z. z; spent = λ z. (let n : m.call.count ≡ 0 = z in let goal : m.call.count - 1 ≡ 0 = omega (arith, n) in goal) }
 lower_static m (OfScope c o) s e = record { kind = refl; pool = refl; bound = refl; target = refl; side = refl; held = refl; ended = λ z. z; spent = λ z. (let n : m.call.count ≡ 0 = z in let goal : m.call.count - 1 ≡ 0 = omega (arith, n) in goal) }
 
+abbrev counts : Place → Bool
+counts (RaiseCount n) = true
+counts (LowerCount p s n) = true
+counts (RaiseForAll n) = true
+counts (LowerForAll n) = true
+counts _ = false
+
+count_writes : (x : Place) → counts x ≡ false → writes_at x static_fields ≡ false
+count_writes (RaiseCount n) e = cc
+count_writes _ e = cc
+
+static_left : (h : Shape) (q : Party) (c : Counts) (m : Part) (x : Place) → writes_at x static_fields ≡ false → IfSome (effect (act_of q x) h q c m) (Static m)
+static_left h q c m x n = keeps h q c m Static static_fields x n (λ r k. record {
+  kind = k.0.kind;
+  pool = k.0.pool;
+  bound = k.0.bound;
+  target = k.0.awaited;
+  side = k.0.first;
+  held = k.0.held;
+  ended = λ z. k.1.0 ∙ z;
+  spent = λ z. k.1.1.0 ∙ z;
+})
+
 pub act_static : (h : Shape) (q : Party) (c : Counts) (m : Part) (x : Place) → IfSome (effect (act_of q x) h q c m) (Static m)
-act_static h (Worker a b) c m (ProbeWorking k) = search (rules, arith)
-act_static h (Worker a b) c m (GetSleepy k) = sleepy_keeps (latch_of k.target) Static same_static (λ v e y n. letter_static (latch_of k.target) v e y) m (letter (latch_of k.target) m)
-act_static h (Worker a b) c m (FallAsleep k) = asleep_keeps (latch_of k.target) Static same_static (λ v e y n. letter_static (latch_of k.target) v e y) m (letter (latch_of k.target) m)
-act_static h (Worker a b) c m (WakeUp k) = wake_keeps (latch_of k.target) Static same_static (λ v e y n. letter_static (latch_of k.target) v e y) m (letter (latch_of k.target) m)
-act_static h (Worker a b) c m (SetLatch k) = set_keeps k.latch Static (λ v e. letter_static k.latch v e IsSet) m (letter k.latch m)
 act_static h (Worker a b) c m (RaiseCount n) = raise_static m (plan_count n)
-act_static h (Worker a b) c m (LowerCount p s n) = lower_static m p s _
-act_static h (Worker a b) c m (RaiseForAll n) = raise_all_static m n
-act_static h (Worker a b) c m (LowerForAll n) = lower_all_static m n _
-act_static h (Worker a b) c m _ = search (rules, arith)
-act_static h (Caller n) c m (SetLatch k) = set_keeps k.latch Static (λ v e. letter_static k.latch v e IsSet) m (letter k.latch m)
-act_static h (Caller n) c m (RaiseCount g) = raise_static m (plan_count g)
-act_static h (Caller n) c m (RaiseForAll g) = raise_all_static m g
-act_static h (Caller n) c m (LowerForAll g) = lower_all_static m g _
-act_static h (Caller n) c m (LowerCount p s g) = lower_static m p s _
-act_static h (Caller n) c m _ = search (rules, arith)
+act_static h q c m (RaiseCount n) = raise_static m (plan_count n)
+act_static h q c m (LowerCount p s n) = lower_static m p s (if count_in m p == 1 then Yes else No)
+act_static h q c m (RaiseForAll n) = raise_all_static m n
+act_static h q c m (LowerForAll n) = lower_all_static m n (if count_in m n.count == n.workers then Yes else No)
+act_static h q c m x = static_left h q c m x (count_writes x refl)

@@ -1,4 +1,6 @@
 pub mod Frame
+pub mod Acts
+pub mod Cases
 pub mod Letters
 pub mod Seats
 pub mod Ties

@@ -2,29 +2,26 @@
 --
 -- Who stands at a place with another's sleep lock holds it (`LocksOk`). No act takes a sleep lock from another party.
 use Rattle.std.proofs.Common.{rules, arith, refl, sym, ◌∙◌, ap}
-use Rattle.std.specs.Prelude.{ℕ, Bool, true, false, not, ◌&&◌, ◌==◌, if◌then◌else◌, Option, Some, None, ◌≡◌, IfSome}
+use Rattle.std.specs.Prelude.{ℕ, Bool, true, false, not, ◌&&◌, ◌==◌, if◌then◌else◌, Option, Some, None, ◌≡◌, List, [], ◌∷◌, IfSome}
 use Rattle.rayon_machine_places.specs.declared.place.Party.{Party}
 use Rattle.rayon_machine_places.specs.declared.place.Party.TheVariants.{Worker, Caller}
 use Rattle.rayon_machine_places.specs.declared.place.JobKind.TheVariants.{Direct}
-use Rattle.rayon_machine_places.specs.declared.place.Latch.{Latch}
-use Rattle.rayon_machine_places.specs.declared.place.Latch.TheVariants.{Terminate, OfCall}
 use Rattle.rayon_machine_places.specs.declared.place.Place.{Place}
-use Rattle.rayon_machine_places.specs.declared.place.Place.TheVariants.{ProbeWorking, GetSleepy, LockOwn, FallAsleep, BlockSelf, RelockOwn, WakeUp, UnlockOwn, Run, LockToWake, WakeWorker, UnlockWoken, SetLatch, LockToSettle, WakeSettled, UnlockSettled}
+use Rattle.rayon_machine_places.specs.declared.place.Place.TheVariants.{ProbeWorking, LockOwn, BlockSelf, RelockOwn, UnlockOwn, Run, LockToWake, WakeWorker, UnlockWoken, SetLatch, LockToSettle, WakeSettled, UnlockSettled}
 use Rattle.rayon_machine_places.specs.declared.place.Move.{Move}
 use Rattle.rayon_machine_places.specs.declared.place.Move.TheVariants.{Stay, Enter, StartRun, Back, HandBack, Discard, HandIn, Mark, HandAllBack}
 use Rattle.rayon_machine_places.specs.declared.act.Act.{Act}
-use Rattle.rayon_machine_places.specs.declared.act.Act.TheVariants.{Lock, Unlock, Wake, Set}
+use Rattle.rayon_machine_places.specs.declared.act.Act.TheVariants.{Lock, Unlock}
 use Rattle.rayon_machine_places.specs.declared.act.Seen.{Seen}
 use Rattle.rayon_machine_places.specs.declared.act.Seen.TheVariants.{Yes}
 use Rattle.rayon_machine_places.specs.declared.shape.PoolShape.{PoolShape}
 use Rattle.rayon_machine_places.specs.declared.place.Settling.{Settling}
-use Rattle.rayon_machine_places.specs.Places.{same_party, latch_of, after_set, act_of, next_of}
-use Rattle.rayon_machine_places.specs.World.{Shape, Counts, Part, target_pool, target_worker, is_own, is_free_lock, effect, Outcome, letter, with_letter}
+use Rattle.rayon_machine_places.specs.Places.{same_party, after_set, act_of, next_of}
+use Rattle.rayon_machine_places.specs.World.{Shape, Counts, Part, target_pool, target_worker, is_own, is_free_lock, effect}
 use Rattle.rayon_machine_laws.specs.Committed.{is_blocking}
+use Rattle.rayon_machine_laws.proofs.Acts.{Locker, writes_at, keeps}
 use Rattle.rayon_machine_laws.proofs.Frame.{same_index, same_party_refl, if_some_all, if_some_map}
 use Rattle.rayon_machine_laws.proofs.Tops.{Tops, is_light, settled_leads, leads_tops}
-use Rattle.rayon_machine_laws.proofs.Letters.{sleepy_keeps, asleep_keeps, wake_keeps}
-use Rattle.rayon_machine_places.specs.declared.state.Letter.{Letter}
 
 -- whose sleep lock a party at this place holds, beside its own
 abbrev pub holds : Place → ℕ → ℕ → Bool
@@ -51,46 +48,24 @@ lock_left r j h q c m g l = search (rules, arith)
 unlock_left : (r j : ℕ) (h : Shape) (q : Party) (c : Counts) (m : Part) (g : Party) → same_party q g ≡ false → m.seat.lock ≡ Some g → LockLeft (Unlock r j) h q c m g
 unlock_left r j h q c m g d l = search (rules, arith)
 
-wake_left : (r j : ℕ) (h : Shape) (q : Party) (c : Counts) (m : Part) (g : Party) → m.seat.lock ≡ Some g → LockLeft (Wake r j) h q c m g
-wake_left r j h q c m g l = search (rules, arith)
-
-set_left : (n : Latch) (r j : ℕ) (h : Shape) (q : Party) (c : Counts) (m : Part) (g : Party) → m.seat.lock ≡ Some g → LockLeft (Set n r j) h q c m g
-set_left Terminate r j h q c m g l = search (rules, arith)
-set_left (OfCall n) r j h q c m g l = search (rules, arith)
-
--- a change of a letter leaves the lock of the seat
-abbrev LeftTo : Party → Part → Seen × Part → Type 0
-LeftTo g m r = m.seat.lock ≡ Some g → r.1.seat.lock ≡ Some g
-
-same_left : (g : Party) (m : Part) (e : Seen) → LeftTo g m (e, m)
-same_left g m e l = l
-
-letter_left : (g : Party) (n : Latch) (m : Part) (e : Seen) (y : Letter) → LeftTo g m (e, with_letter n m y)
-letter_left g Terminate m e y l = l
-letter_left g (OfCall c) m e y l = l
-
-left_by : (g : Party) (m : Part) (o : Outcome) → m.seat.lock ≡ Some g → IfSome o (LeftTo g m) → IfSome o (λ r. r.1.seat.lock ≡ Some g)
-left_by g m o l f = if_some_map (LeftTo g m) (λ r. r.1.seat.lock ≡ Some g) (λ r k. k l) o f
+lock_stays : (h : Shape) (q g : Party) (c : Counts) (m : Part) (x : Place) → m.seat.lock ≡ Some g → writes_at x (Locker ∷ []) ≡ false → LockLeft (act_of q x) h q c m g
+lock_stays h q g c m x l n = keeps h q c m (λ v r. r.1.seat.lock ≡ Some g) (Locker ∷ []) x n (λ r k. k.0 ∙ l)
 
 -- an act takes no lock from another party
 pub lock_kept : (h : Shape) (q g : Party) (c : Counts) (m : Part) (x : Place) → m.seat.lock ≡ Some g → same_party q g ≡ false → ((p i : ℕ) → q ≡ Worker p i → is_blocking x ≡ true → m.seat.lock ≡ Some q) → LockLeft (act_of q x) h q c m g
-lock_kept h (Worker a z) g c m (ProbeWorking k) l d own = search (rules, arith)
-lock_kept h (Worker a z) g c m (GetSleepy k) l d own = left_by g m (effect (act_of (Worker a z) (GetSleepy k)) h (Worker a z) c m) l (sleepy_keeps (latch_of k.target) (LeftTo g) (same_left g) (λ v e y n. letter_left g (latch_of k.target) v e y) m (letter (latch_of k.target) m))
-lock_kept h (Worker a z) g c m (FallAsleep k) l d own = left_by g m (effect (act_of (Worker a z) (FallAsleep k)) h (Worker a z) c m) l (asleep_keeps (latch_of k.target) (LeftTo g) (same_left g) (λ v e y n. letter_left g (latch_of k.target) v e y) m (letter (latch_of k.target) m))
-lock_kept h (Worker a z) g c m (WakeUp k) l d own = left_by g m (effect (act_of (Worker a z) (WakeUp k)) h (Worker a z) c m) l (wake_keeps (latch_of k.target) (LeftTo g) (same_left g) (λ v e y n. letter_left g (latch_of k.target) v e y) m (letter (latch_of k.target) m))
 lock_kept h (Worker a z) g c m (BlockSelf k) l d own = absurd (let s : Worker a z ≡ g = (let f : m.seat.lock ≡ Some (Worker a z) = own a z refl refl in cc) in let k : same_party (Worker a z) g ≡ true = ap (same_party (Worker a z)) (sym s) ∙ same_party_refl (Worker a z) in cc)
 lock_kept h (Worker a z) g c m (LockOwn k) l d own = lock_left a z h (Worker a z) c m g l
 lock_kept h (Worker a z) g c m (RelockOwn k) l d own = lock_left a z h (Worker a z) c m g l
 lock_kept h (Worker a z) g c m (UnlockOwn k) l d own = unlock_left a z h (Worker a z) c m g d l
+lock_kept h (Caller n) g c m (BlockSelf k) l d own = tt
+lock_kept h (Caller n) g c m (LockOwn k) l d own = tt
+lock_kept h (Caller n) g c m (RelockOwn k) l d own = tt
+lock_kept h (Caller n) g c m (UnlockOwn k) l d own = tt
 lock_kept h q g c m (LockToWake k) l d own = lock_left k.pool k.worker h q c m g l
-lock_kept h q g c m (WakeWorker k) l d own = wake_left k.pool k.worker h q c m g l
 lock_kept h q g c m (UnlockWoken k) l d own = unlock_left k.pool k.worker h q c m g d l
 lock_kept h q g c m (LockToSettle s) l d own = lock_left s.pool s.worker h q c m g l
-lock_kept h q g c m (WakeSettled s) l d own = wake_left s.pool s.worker h q c m g l
 lock_kept h q g c m (UnlockSettled s) l d own = unlock_left s.pool s.worker h q c m g d l
-lock_kept h q g c m (SetLatch s) l d own = set_left s.latch s.pool s.worker h q c m g l
-lock_kept h (Worker a z) g c m _ l d own = search (rules, arith)
-lock_kept h (Caller n) g c m _ l d own = search (rules, arith)
+lock_kept h q g c m x l d own = lock_stays h q g c m x l refl
 
 -- the act at a place that holds a lock next is on that worker, and leaves it with the lock
 pub record Takes (q : Party) (x : Place) (a b : ℕ) (l : Option Party) : Type 0 where
@@ -149,11 +124,8 @@ never_takes h g q c m x a b z = if_some_map {A = Seen × Part} (λ r. Tops (λ y
 
 pub lock_taken : (h : Shape) (g : PoolShape) (q : Party) (c : Counts) (m : Part) (x : Place) (a b : ℕ) → (holds x a b ≡ true → m.seat.lock ≡ Some q) → IfSome (effect (act_of q x) h q c m) (λ r. Tops (λ y. holds y a b ≡ true → Takes q x a b (r.1.seat.lock)) (next_of g q x (r.0)))
 lock_taken h g (Worker i j) c m (LockToWake k) a b own = if_taken (is_free_lock m.seat.lock && not (is_own (Worker i j) k.pool k.worker && m.seat.blocked)) (λ (z : Seen × Part). ((k.pool == a) && (k.worker == b)) ≡ true → Takes (Worker i j) (LockToWake k) a b (z.1.seat.lock)) (λ f. let s : (k.pool ≡ a) × (k.worker ≡ b) = same_index k.pool k.worker a b f in record { pool = s.0; worker = s.1; lock = refl })
-lock_taken h g (Caller n) c m (LockToWake k) a b own = if_taken (is_free_lock m.seat.lock && not (is_own (Caller n) k.pool k.worker && m.seat.blocked)) (λ (z : Seen × Part). ((k.pool == a) && (k.worker == b)) ≡ true → Takes (Caller n) (LockToWake k) a b (z.1.seat.lock)) (λ f. let s : (k.pool ≡ a) × (k.worker ≡ b) = same_index k.pool k.worker a b f in record { pool = s.0; worker = s.1; lock = refl })
-lock_taken h g (Worker i j) c m (LockToSettle k) a b own = if_taken (is_free_lock m.seat.lock && not (is_own (Worker i j) k.pool k.worker && m.seat.blocked)) (λ (z : Seen × Part). ((k.pool == a) && (k.worker == b)) ≡ true → Takes (Worker i j) (LockToSettle k) a b (z.1.seat.lock)) (λ f. let s : (k.pool ≡ a) × (k.worker ≡ b) = same_index k.pool k.worker a b f in record { pool = s.0; worker = s.1; lock = refl })
-lock_taken h g (Caller n) c m (LockToSettle k) a b own = if_taken (is_free_lock m.seat.lock && not (is_own (Caller n) k.pool k.worker && m.seat.blocked)) (λ (z : Seen × Part). ((k.pool == a) && (k.worker == b)) ≡ true → Takes (Caller n) (LockToSettle k) a b (z.1.seat.lock)) (λ f. let s : (k.pool ≡ a) × (k.worker ≡ b) = same_index k.pool k.worker a b f in record { pool = s.0; worker = s.1; lock = refl })
-lock_taken h g (Worker i j) c m (WakeWorker k) a b own = if_both m.seat.blocked (λ (z : Seen × Part). Tops (λ y. holds y a b ≡ true → Takes (Worker i j) (WakeWorker k) a b (z.1.seat.lock)) (next_of g (Worker i j) (WakeWorker k) (z.0))) (λ f. let s : (k.pool ≡ a) × (k.worker ≡ b) = same_index k.pool k.worker a b f in record { pool = s.0; worker = s.1; lock = own f }) (λ f. let s : (k.pool ≡ a) × (k.worker ≡ b) = same_index k.pool k.worker a b f in record { pool = s.0; worker = s.1; lock = own f })
-lock_taken h g (Caller n) c m (WakeWorker k) a b own = if_both m.seat.blocked (λ (z : Seen × Part). Tops (λ y. holds y a b ≡ true → Takes (Caller n) (WakeWorker k) a b (z.1.seat.lock)) (next_of g (Caller n) (WakeWorker k) (z.0))) (λ f. let s : (k.pool ≡ a) × (k.worker ≡ b) = same_index k.pool k.worker a b f in record { pool = s.0; worker = s.1; lock = own f }) (λ f. let s : (k.pool ≡ a) × (k.worker ≡ b) = same_index k.pool k.worker a b f in record { pool = s.0; worker = s.1; lock = own f })
-lock_taken h g (Worker i j) c m (WakeSettled k) a b own = if_both m.seat.blocked (λ (z : Seen × Part). Tops (λ y. holds y a b ≡ true → Takes (Worker i j) (WakeSettled k) a b (z.1.seat.lock)) (next_of g (Worker i j) (WakeSettled k) (z.0))) (λ f. let s : (k.pool ≡ a) × (k.worker ≡ b) = same_index k.pool k.worker a b f in record { pool = s.0; worker = s.1; lock = own f }) (λ f. let s : (k.pool ≡ a) × (k.worker ≡ b) = same_index k.pool k.worker a b f in record { pool = s.0; worker = s.1; lock = own f })
-lock_taken h g (Caller n) c m (WakeSettled k) a b own = if_both m.seat.blocked (λ (z : Seen × Part). Tops (λ y. holds y a b ≡ true → Takes (Caller n) (WakeSettled k) a b (z.1.seat.lock)) (next_of g (Caller n) (WakeSettled k) (z.0))) (λ f. let s : (k.pool ≡ a) × (k.worker ≡ b) = same_index k.pool k.worker a b f in record { pool = s.0; worker = s.1; lock = own f }) (λ f. let s : (k.pool ≡ a) × (k.worker ≡ b) = same_index k.pool k.worker a b f in record { pool = s.0; worker = s.1; lock = own f })
+lock_taken h g q c m (LockToWake k) a b own = if_taken (is_free_lock m.seat.lock && not (is_own q k.pool k.worker && m.seat.blocked)) (λ (z : Seen × Part). ((k.pool == a) && (k.worker == b)) ≡ true → Takes q (LockToWake k) a b (z.1.seat.lock)) (λ f. let s : (k.pool ≡ a) × (k.worker ≡ b) = same_index k.pool k.worker a b f in record { pool = s.0; worker = s.1; lock = refl })
+lock_taken h g q c m (LockToSettle k) a b own = if_taken (is_free_lock m.seat.lock && not (is_own q k.pool k.worker && m.seat.blocked)) (λ (z : Seen × Part). ((k.pool == a) && (k.worker == b)) ≡ true → Takes q (LockToSettle k) a b (z.1.seat.lock)) (λ f. let s : (k.pool ≡ a) × (k.worker ≡ b) = same_index k.pool k.worker a b f in record { pool = s.0; worker = s.1; lock = refl })
+lock_taken h g q c m (WakeWorker k) a b own = if_both m.seat.blocked (λ (z : Seen × Part). Tops (λ y. holds y a b ≡ true → Takes q (WakeWorker k) a b (z.1.seat.lock)) (next_of g q (WakeWorker k) (z.0))) (λ f. let s : (k.pool ≡ a) × (k.worker ≡ b) = same_index k.pool k.worker a b f in record { pool = s.0; worker = s.1; lock = own f }) (λ f. let s : (k.pool ≡ a) × (k.worker ≡ b) = same_index k.pool k.worker a b f in record { pool = s.0; worker = s.1; lock = own f })
+lock_taken h g q c m (WakeSettled k) a b own = if_both m.seat.blocked (λ (z : Seen × Part). Tops (λ y. holds y a b ≡ true → Takes q (WakeSettled k) a b (z.1.seat.lock)) (next_of g q (WakeSettled k) (z.0))) (λ f. let s : (k.pool ≡ a) × (k.worker ≡ b) = same_index k.pool k.worker a b f in record { pool = s.0; worker = s.1; lock = own f }) (λ f. let s : (k.pool ≡ a) × (k.worker ≡ b) = same_index k.pool k.worker a b f in record { pool = s.0; worker = s.1; lock = own f })
 lock_taken h g q c m x a b own = never_takes h g q c m x a b refl

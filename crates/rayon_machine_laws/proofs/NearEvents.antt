@@ -17,29 +17,27 @@ use Rattle.rayon_machine_places.specs.declared.place.Then.TheVariants.{Resume, R
 use Rattle.rayon_machine_places.specs.declared.place.Mark.TheVariants.{Counted, Numbered, Queued, Dealt, Unnumbered, Returned}
 use Rattle.rayon_machine_places.specs.declared.place.Pieces.{Pieces}
 use Rattle.rayon_machine_places.specs.declared.place.OpenCall.{OpenCall}
-use Rattle.rayon_machine_places.specs.declared.place.Wait.{Wait}
 use Rattle.rayon_machine_places.specs.declared.place.Plan.{Plan}
 use Rattle.rayon_machine_places.specs.declared.place.Plan.TheVariants.{Detach, Here, Send, Fork, Feed, Open, Enter, Gather}
 use Rattle.rayon_machine_places.specs.declared.place.Place.{Place}
-use Rattle.rayon_machine_places.specs.declared.place.Place.TheVariants.{ProbeWorking, PickVictim, StealFrom, PopInjected, JoinProbe, JoinPop, YieldPop, YieldPick, YieldSteal, YieldPopInjected, LocalPop, BeginTask, BeginHere, Run, RaiseCount, GrowCall, GrowScope, OpenSlot, LookQueue, PushJob, AddToFifo, PushToken, TakeFromFifo, RaiseForAll, OpenForAll, PushForAll, LowerForAll, GrowCast, DealPieces, TellNews, LockToWake, WakeWorker, UnlockWoken, LowerCount, SetLatch, LockToSettle, WakeSettled, UnlockSettled, SetLockLatch, FirstSide, SecondSide, ScopeBody, AtOnce, Free, Stopped}
+use Rattle.rayon_machine_places.specs.declared.place.Place.TheVariants.{ProbeWorking, JoinProbe, JoinPop, YieldPop, LocalPop, BeginTask, BeginHere, Run, RaiseCount, GrowCall, GrowScope, OpenSlot, LookQueue, PushJob, RaiseForAll, TellNews, LockToWake, WakeWorker, UnlockWoken, LowerCount, SetLatch, LockToSettle, WakeSettled, UnlockSettled, SetLockLatch, FirstSide, SecondSide, ScopeBody, AtOnce, Free, Stopped}
 use Rattle.rayon_machine_places.specs.declared.place.Move.{Move}
 use Rattle.rayon_machine_places.specs.declared.place.Move.TheVariants.{Stay, Enter, StartRun, Back, HandBack, Discard, HandIn, Mark, HandAllBack}
 use Rattle.rayon_machine_places.specs.declared.act.Seen.{Seen}
-use Rattle.rayon_machine_places.specs.declared.act.Seen.TheVariants.{Start}
 use Rattle.rayon_machine_places.specs.declared.event.Event.{Event}
-use Rattle.rayon_machine_places.specs.declared.event.Event.TheVariants.{Go, From, Refuse, Miss, End, Spawn, Fifo, Install, Join, Yield, YieldLocal, EndPool, Cast, Scope as OpenScope, IntoSpawn, IntoFifo, IntoCast, Broadcast}
+use Rattle.rayon_machine_places.specs.declared.event.Event.TheVariants.{Go}
 use Rattle.rayon_machine_places.specs.declared.shape.PoolShape.{PoolShape}
 use Rattle.rayon_machine_places.specs.declared.state.Whereabouts.{Whereabouts}
 use Rattle.rayon_machine_places.specs.declared.state.Whereabouts.TheVariants.{Made, InDeque, Retaken, Running, Over}
 use Rattle.rayon_machine_places.specs.declared.state.Job.{Job}
-use Rattle.rayon_machine_places.specs.declared.state.Scope.{Scope}
-use Rattle.rayon_machine_places.specs.Places.{same_party, is_free, is_member, act_of, next_of, own_pool, own_index, next_steal, next_yield, not_self, next_victim, plan_book, count_book, count_kind, after_push, end_cast, undo, is_taken, goes_on, fresh}
+use Rattle.rayon_machine_places.specs.Places.{same_party, is_member, act_of, next_of, count_book, count_kind, is_taken, goes_on, fresh}
 use Rattle.rayon_machine_places.specs.World.{Shape, Stack, World, Part, Outcome, counts_at, target_pool, target_worker, target_call, at_job, begun, popped, or_none, own_of, taken_as}
-use Rattle.rayon_machine_places.specs.Steps.{put, put_stack, put_pieces, with_stack, after_move, after_resume, after_close, after_call, is_piece, after_choice, after_refusal, after_miss, after_end, after_spawn, after_feed, after_deal, after_gather, after_send, after_join, after_scope, after_enter, after_yield, can_miss, holds, is_pool, new_job, new_piece, new_whole, step}
+use Rattle.rayon_machine_places.specs.Steps.{put, put_stack, put_pieces, with_stack, after_move, after_resume, after_close, after_call, is_piece, after_feed, after_deal, after_gather, after_send, new_job, new_piece, new_whole, step}
 use Rattle.rayon_machine_places.specs.Runs.{IsRun, start, first_place}
 use Rattle.rayon_machine_laws.specs.Once.{IsOnce, in_deque, is_with}
 use Rattle.rayon_machine_laws.specs.Near.{IsNear, has_line, is_body, is_direct, is_for, is_near}
-use Rattle.rayon_machine_laws.proofs.Frame.{acted_keeps, either, fifo_cases, if_cond, if_some_and, if_some_map, into_cases, into_cast_cases, into_fifo_cases, put_new, put_old, put_same, same_party_true, stack_mine, stack_other}
+use Rattle.rayon_machine_laws.proofs.Cases.{Turn, NoScope, turn_to, with_join, is_free_at, event_cases}
+use Rattle.rayon_machine_laws.proofs.Frame.{acted_keeps, either, if_some_and, if_some_map, put_new, put_old, put_same, same_party_true, stack_mine, stack_other}
 use Rattle.rayon_machine_laws.proofs.Ties.{job_at, outcome, result}
 use Rattle.rayon_machine_laws.proofs.Calm.{next_at}
 use Rattle.rayon_machine_laws.proofs.Claims.{Says}
@@ -54,7 +52,7 @@ use Rattle.rayon_machine_laws.proofs.Posts.{is_live}
 use Rattle.rayon_machine_laws.proofs.PostEvents.{AllLive, Based, is_act}
 use Rattle.rayon_machine_laws.proofs.Stops.{always_stops, made, run_has}
 use Rattle.rayon_machine_laws.proofs.Records.{Markings, Starts, after_each}
-use Rattle.rayon_machine_laws.proofs.Kindly.{KindMove, Kinds, PlanKinds, StartKinds, ThenKinds, drawn_kinds, is_made, is_stored, kinds_next, uncast_kinds}
+use Rattle.rayon_machine_laws.proofs.Kindly.{KindMove, Kinds, PlanKinds, StartKinds, ThenKinds, is_made, is_stored, kinds_next}
 use Rattle.rayon_machine_laws.proofs.Near.{Goes, Moves, Near, act_moves, both, in_hand}
 
 -- what is said of the jobs of a place stays so, while kinds stay and nothing comes to be made
@@ -302,43 +300,9 @@ turn_near w u b kinds m h = record {
 turn_at : (w : World) (q : Party) (k : Stack) → Kinds w.job w.jobs k.top → NearTurn w (with_stack w q k)
 turn_at w q k d = record { party = q; to = k; stack = λ s. refl; jobs = omega arith; near = λ t n. n; makes = λ t l n. n; kinds = λ b. d }
 
-from_near : (w : World) (q : Party) (s : Stack) (x : Place) (v : ℕ) → s.top ≡ x → IfSome (after_choice w q s x v) (NearTurn w)
-from_near w q s (PickVictim k) v e = if_cond (NearTurn w) _ _ (λ b. turn_at w q _ (subst (λ x. Kinds w.job w.jobs ((after_move (next_of (w.shape.pool (own_pool q)) q x (Start v)) s.below).top)) (sym e) tt))
-from_near w q s YieldPick v e = if_cond (NearTurn w) _ _ (λ b. turn_at w q _ (subst (λ x. Kinds w.job w.jobs ((after_move (next_of (w.shape.pool (own_pool q)) q x (Start v)) s.below).top)) (sym e) tt))
-from_near w q s _ v e = tt
-
-refuse_near : (w : World) (q : Party) (x : Place) (fs : List Place) → IfSome (after_refusal w q (record { top = x; below = fs })) (NearTurn w)
-refuse_near w q (GrowCall n) fs = turn_at w q (record { top = undo n; below = fs }) tt
-refuse_near w q (GrowScope o) fs = turn_at w q (record { top = undo (Open o); below = fs }) tt
-refuse_near w q (OpenSlot n) fs = turn_at w q (record { top = undo n; below = fs }) tt
-refuse_near w q (PushToken f v) fs = turn_at w q (record { top = TakeFromFifo f; below = fs }) tt
-refuse_near w q (OpenForAll c) fs = turn_at w q (record { top = LowerForAll c; below = fs }) tt
-refuse_near w q (GrowCast g) fs = turn_at w q (record { top = undo (Gather g); below = fs }) tt
-refuse_near w q (DealPieces g) fs = turn_at w q (record { top = undo (Gather g); below = fs }) tt
-refuse_near w q (PushForAll c) fs = turn_at w q (record { top = end_cast c.count c; below = fs }) (uncast_kinds w.job w.jobs c c.count)
-refuse_near w q (AddToFifo f) fs = turn_at w q (record { top = after_push (Feed f); below = fs }) (drawn_kinds w.job w.jobs (count_book f.count) (Feed f))
-refuse_near w q (PushJob n v) fs = turn_at w q (record { top = after_push n; below = fs }) (drawn_kinds w.job w.jobs (plan_book n) n)
-refuse_near w q _ fs = tt
-
-steal_kinds : (J : ℕ → Job) (m : ℕ) (g : PoolShape) (q : Party) (k : Wait) (n : ℕ) → Kinds J m (next_steal g q k n)
-steal_kinds J m g q k n = by (n == 0)
-  where
-    by : (b : Bool) → Kinds J m (if b then PopInjected k else StealFrom (record k { victim = not_self g.workers (own_index q) (next_victim g.workers k.victim) }) (n - 1))
-    by true = tt
-    by false = tt
-
-skip_kinds : (J : ℕ → Job) (m : ℕ) (g : PoolShape) (q : Party) (v n : ℕ) → Kinds J m (next_yield g q v n)
-skip_kinds J m g q v n = by (n == 0)
-  where
-    by : (b : Bool) → Kinds J m (if b then YieldPopInjected else YieldSteal (not_self g.workers (own_index q) (next_victim g.workers v)) (n - 1))
-    by true = tt
-    by false = tt
-
-miss_near : (w : World) (q : Party) (x : Place) (fs : List Place) → IfSome (after_miss w q (record { top = x; below = fs }) x) (NearTurn w)
-miss_near w (Worker a b) (StealFrom k n) fs = if_cond (NearTurn w) (can_miss w a k.victim) _ (λ y. turn_at w (Worker a b) (record { top = next_steal (w.shape.pool a) (Worker a b) k n; below = fs }) (steal_kinds w.job w.jobs (w.shape.pool a) (Worker a b) k n))
-miss_near w (Worker a b) (YieldSteal v n) fs = if_cond (NearTurn w) (can_miss w a v) _ (λ y. turn_at w (Worker a b) (record { top = next_yield (w.shape.pool a) (Worker a b) v n; below = fs }) (skip_kinds w.job w.jobs (w.shape.pool a) (Worker a b) v n))
-miss_near w (Worker a b) _ fs = tt
-miss_near w (Caller n) _ fs = tt
+turn_kinds : (J : ℕ → Job) (n : ℕ) (t : Turn) → Kinds J n (turn_to t)
+turn_kinds J n (NoScope o) = tt
+turn_kinds J n _ = tt
 
 on_kinds : (J : ℕ → Job) (n : ℕ) (f : Place) (d : Ending) → is_live f ≡ true → Kinds J n (goes_on f d)
 on_kinds J n (FirstSide o a) Fine e = tt
@@ -366,15 +330,15 @@ closed_kinds J n t (TokenOf i b) d fs a = resumed_kinds J n fs d a
 closed_kinds J n t (BodyOf c o) d fs a = resumed_kinds J n fs d a
 closed_kinds J n t (WholeOf c o) d fs a = resumed_kinds J n fs d a
 
-end_near : (w : World) (q : Party) (d : Ending) (x : Place) → IfSome (after_end w q d (w.stack q) x) (NearTurn w)
-end_near w q d (Run t k) = record {
+end_near : (w : World) (q : Party) (d : Ending) (t : ℕ) (k : JobKind) (fs : List Place) → w.stack q ≡ record { top = Run t k; below = fs } → NearTurn w (record w { stack = put_stack w.stack q (after_close t k d fs); job = put w.job t (at_job (w.job t) (Over d)) })
+end_near w q d t k fs z = record {
   party = q;
-  to = after_close t k d (w.stack q).below;
+  to = after_close t k d fs;
   stack = λ s. refl;
   jobs = omega arith;
   near = λ u n. near u (u == t) n;
   makes = λ u l n. unmade u (u == t) n;
-  kinds = λ b. closed_kinds (put w.job t (at_job (w.job t) (Over d))) w.jobs t k d (w.stack q).below (b.0);
+  kinds = λ b. (let a : Based (record { top = Run t k; below = fs }) = subst Based z b in closed_kinds (put w.job t (at_job (w.job t) (Over d))) w.jobs t k d fs (a.0));
 }
   where
     near : (u : ℕ) (z : Bool) → Near (w.job u) → Near (if z then at_job (w.job t) (Over d) else w.job u)
@@ -384,7 +348,6 @@ end_near w q d (Run t k) = record {
     unmade : (u : ℕ) (z : Bool) → is_made (w.job u).at ≡ false → is_made (if z then at_job (w.job t) (Over d) else w.job u).at ≡ false
     unmade u true n = refl
     unmade u false n = n
-end_near w q d _ = tt
 
 -- a call begins
 begin_near : (w u : World) (q : Party) (y : Place) → ((s : Party) → u.stack s ≡ put_stack w.stack q (after_call (w.stack q) y) s) → w.jobs ≤ u.jobs → ((t : ℕ) → t + 1 ≤ w.jobs → u.job t ≡ w.job t) → ((t : ℕ) → Near (w.job t) → Near (u.job t)) → Kinds u.job u.jobs y → NearTurn w u
@@ -427,9 +390,6 @@ counted_near (OfPool r) q p b = refl
 counted_near (OfScope c o) q p b = refl
 counted_near (OfCast c o) q p b = refl
 
-spawn_near : (w : World) (q : Party) (p : ℕ) → IfSome (after_spawn w q p (w.stack q)) (NearTurn w)
-spawn_near w q p = if_cond (NearTurn w) (is_free ((w.stack q).top) && is_pool w.shape p) _ (λ b. begin_near w _ q (RaiseCount (Detach p w.jobs)) (λ s. refl) (omega arith) (one_old w _) (one_near w (new_job q p (Detached p)) refl) tt)
-
 feed_near : (w : World) (k : Count) (p i : ℕ) → NearTurn w (after_feed w k p i (w.stack (Worker p i)))
 feed_near w k p i = begin_near w (after_feed w k p i (w.stack (Worker p i))) (Worker p i) (RaiseCount (Feed (record { count = k; pool = p; job = w.jobs; token = w.jobs + 1 }))) (λ s. refl) (omega arith) (two_old w _ _)
     (two_near w (new_job (Worker p i) p (count_kind k)) (new_job (Worker p i) p (TokenOf i (count_book k))) (counted_near k (Worker p i) p None) refl) tt
@@ -459,15 +419,14 @@ gathers_near w q p = begin_near w (after_gather w q p (w.stack q)) q (RaiseCount
         by true = refl
         by false = deal_near w c (λ i j. new_piece q c.count p i) (λ i j. refl) t m
 
-sent_near : (w : World) (q : Party) (p : ℕ) (z : Bool) → is_member q p ≡ z → NearTurn w (after_send w q p (w.stack q) z)
-sent_near w q p true e = begin_near w (after_send w q p (w.stack q) true) q (RaiseCount (Here p w.jobs)) (λ s. refl) (omega arith) (one_old w _) (one_near w (new_job q p Direct) e) (omega arith, ap (λ j. j.kind) (put_new w.job w.jobs (new_job q p Direct)))
-sent_near w q p false e = begin_near w (after_send w q p (w.stack q) false) q (RaiseCount (Send (record { number = w.calls; pool = p; job = w.jobs }))) (λ s. refl) (omega arith) (one_old w _) (one_near w (new_job q p (Stored w.calls q)) refl)
+sent_near : (w : World) (q : Party) (p : ℕ) (z : Bool) → is_member q p ≡ z → is_free_at w q → NearTurn w (after_send w q p (w.stack q) z)
+sent_near w q p true e f = begin_near w (after_send w q p (w.stack q) true) q (RaiseCount (Here p w.jobs)) (λ s. refl) (omega arith) (one_old w _) (one_near w (new_job q p Direct) e) (omega arith, ap (λ j. j.kind) (put_new w.job w.jobs (new_job q p Direct)))
+sent_near w q p false e f = begin_near w (after_send w q p (w.stack q) false) q (RaiseCount (Send (record { number = w.calls; pool = p; job = w.jobs }))) (λ s. refl) (omega arith) (one_old w _) (one_near w (new_job q p (Stored w.calls q)) refl)
     (omega arith, ap (λ j. is_stored (j.kind)) (put_new w.job w.jobs (new_job q p (Stored w.calls q))))
 
-join_near : (w : World) (q : Party) → IfSome (after_join w q (w.stack q)) (NearTurn w)
-join_near w (Caller n) = tt
-join_near w (Worker a b) = if_cond (NearTurn w) (is_free (w.stack (Worker a b)).top) _ (λ z. begin_near w _ (Worker a b) (RaiseCount (Fork (record { number = w.calls; pool = a; job = w.jobs + 1 }) w.jobs)) (λ s. refl) (omega arith) (two_old w _ _) (two_near w first second (eq-eqb a a refl) refl)
-    (omega arith, ap (λ j. is_stored (j.kind)) (put_new (put w.job w.jobs first) (w.jobs + 1) second), omega arith, ap (λ j. j.kind) (put_old (put w.job w.jobs first) (w.jobs + 1) second w.jobs (below w.jobs) ∙ put_new w.job w.jobs first)))
+join_near : (w : World) (a b : ℕ) → NearTurn w (with_join w a b)
+join_near w a b = begin_near w (with_join w a b) (Worker a b) (RaiseCount (Fork (record { number = w.calls; pool = a; job = w.jobs + 1 }) w.jobs)) (λ s. refl) (omega arith) (two_old w _ _) (two_near w first second (eq-eqb a a refl) refl)
+    (omega arith, ap (λ j. is_stored (j.kind)) (put_new (put w.job w.jobs first) (w.jobs + 1) second), omega arith, ap (λ j. j.kind) (put_old (put w.job w.jobs first) (w.jobs + 1) second w.jobs (below w.jobs) ∙ put_new w.job w.jobs first))
   where
     first : Job
     first = new_job (Worker a b) a Direct
@@ -478,38 +437,26 @@ join_near w (Worker a b) = if_cond (NearTurn w) (is_free (w.stack (Worker a b)).
     below : (n : ℕ) → (n == (n + 1)) ≡ false
     below n = apart n (n + 1) (omega arith)
 
-scope_near : (w : World) (q : Party) (p : ℕ) → IfSome (after_scope w q p (w.stack q)) (NearTurn w)
-scope_near w q p = if_cond (NearTurn w) (is_free ((w.stack q).top) && is_pool w.shape p) _ (λ b. begin_near w _ q (RaiseCount (Open (record { number = w.calls; pool = p; job = w.jobs }))) (λ s. refl) (omega arith) (one_old w _) (one_near w (new_job q p (BodyOf w.calls q)) refl)
-    (omega arith, ap (λ j. is_body (j.kind)) (put_new w.job w.jobs (new_job q p (BodyOf w.calls q)))))
-
-enter_near : (w : World) (q : Party) (z : Scope) → IfSome (after_enter w q (w.stack q) (Some z)) (NearTurn w)
-enter_near w q z = if_cond (NearTurn w) (is_free ((w.stack q).top) && holds z.call (w.stack q)) _ (λ b. begin_near w _ q (RaiseCount (Enter (record { call = z.call; owner = z.owner; pool = z.pool; job = w.jobs }))) (λ s. refl) (omega arith) (one_old w _)
-    (one_near w (new_job q z.pool (Scoped z.call z.owner)) refl) tt)
-
-yield_near : (w : World) (q : Party) (x : Place) → Kinds w.job w.jobs x → IfSome (after_yield w q (w.stack q) x) (NearTurn w)
-yield_near w (Worker a b) x d = if_cond (NearTurn w) (is_free ((w.stack (Worker a b)).top)) _ (λ z. turn_at w (Worker a b) (after_call (w.stack (Worker a b)) x) d)
-yield_near w (Caller c) x d = tt
-
 turns_near : (w : World) (e : Event) → is_act e ≡ false → IfSome (step w e) (NearTurn w)
-turns_near w (Go q) n = cc
-turns_near w (From q v) n = from_near w q (w.stack q) ((w.stack q).top) v refl
-turns_near w (Refuse q) n = refuse_near w q ((w.stack q).top) ((w.stack q).below)
-turns_near w (Miss q) n = miss_near w q ((w.stack q).top) ((w.stack q).below)
-turns_near w (End q d) n = end_near w q d ((w.stack q).top)
-turns_near w (Spawn q p) n = spawn_near w q p
-turns_near w (Fifo q p) n = fifo_cases (NearTurn w) w q p (spawn_near w q p) (λ i free. feed_near w (OfPool p) p i)
-turns_near w (Cast q p) n = if_cond (NearTurn w) (is_free ((w.stack q).top) && is_pool w.shape p) _ (λ b. deals_near w q (OfPool p) p)
-turns_near w (Install q p) n = if_cond (NearTurn w) (is_free ((w.stack q).top) && is_pool w.shape p) _ (λ b. sent_near w q p (is_member q p) refl)
-turns_near w (Join q) n = join_near w q
-turns_near w (OpenScope q p) n = scope_near w q p
-turns_near w (IntoSpawn q k) n = into_cases (NearTurn w) w q k (λ z e free held. enter_near w q z)
-turns_near w (IntoFifo q k) n = into_fifo_cases (NearTurn w) w q k (λ z e free held. enter_near w q z) (λ z i e free held. feed_near w (OfScope z.call z.owner) z.pool i)
-turns_near w (IntoCast q k) n = into_cast_cases (NearTurn w) w q k (λ z e free held. deals_near w q (OfScope z.call z.owner) z.pool)
-turns_near w (Broadcast q p) n = if_cond (NearTurn w) (is_free ((w.stack q).top) && is_pool w.shape p) _ (λ b. gathers_near w q p)
-turns_near w (Yield q) n = yield_near w q YieldPop tt
-turns_near w (YieldLocal q) n = yield_near w q LocalPop tt
-turns_near w (EndPool q p) n = if_cond (NearTurn w) (is_free ((w.stack q).top) && (is_pool w.shape p && (w.pool p).held)) _
-    (λ b. record { party = q; to = after_call (w.stack q) (LowerCount (OfPool p) PoolValue Resume); stack = λ s. refl; jobs = omega arith; near = λ t m. m; makes = λ t l m. m; kinds = λ k. tt })
+turns_near w = event_cases (NearTurn w) w (record {
+  turned = λ q t fs z. turn_at w q (record { top = turn_to t; below = fs }) (turn_kinds w.job w.jobs t);
+  ended = end_near w;
+  spawned = λ q p f. begin_near w _ q (RaiseCount (Detach p w.jobs)) (λ s. refl) (omega arith) (one_old w _) (one_near w (new_job q p (Detached p)) refl) tt;
+  fed = λ p i f. feed_near w (OfPool p) p i;
+  dealt = λ q p f. deals_near w q (OfPool p) p;
+  sent = sent_near w;
+  joined = λ p i f. join_near w p i;
+  scoped = λ q p f. begin_near w _ q (RaiseCount (Open (record { number = w.calls; pool = p; job = w.jobs }))) (λ s. refl) (omega arith) (one_old w _) (one_near w (new_job q p (BodyOf w.calls q)) refl)
+      (omega arith, ap (λ j. is_body (j.kind)) (put_new w.job w.jobs (new_job q p (BodyOf w.calls q))));
+  entered = λ q z k. begin_near w _ q (RaiseCount (Enter (record { call = z.call; owner = z.owner; pool = z.pool; job = w.jobs }))) (λ s. refl) (omega arith) (one_old w _)
+      (one_near w (new_job q z.pool (Scoped z.call z.owner)) refl) tt;
+  fed_into = λ i z k. feed_near w (OfScope z.call z.owner) z.pool i;
+  dealt_into = λ q z k. deals_near w q (OfScope z.call z.owner) z.pool;
+  gathered = λ q p f. gathers_near w q p;
+  yielded = λ p i f. turn_at w (Worker p i) (after_call (w.stack (Worker p i)) YieldPop) tt;
+  yielded_local = λ p i f. turn_at w (Worker p i) (after_call (w.stack (Worker p i)) LocalPop) tt;
+  given = λ q p f held. record { party = q; to = after_call (w.stack q) (LowerCount (OfPool p) PoolValue Resume); stack = λ s. refl; jobs = omega arith; near = λ t m. m; makes = λ t l m. m; kinds = λ k. tt };
+})
 
 step_near : (h : Shape) (es : List Event) (w v : World) (e : Event) → IsRun (start h) es w → step w e ≡ Some v → NearHold w → NearHold v
 step_near h es w v e r s k = by e s

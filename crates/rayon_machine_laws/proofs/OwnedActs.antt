@@ -6,19 +6,17 @@ use Rattle.rayon_machine_places.specs.declared.place.Party.{Party}
 use Rattle.rayon_machine_places.specs.declared.place.Party.TheVariants.{Worker, Caller}
 use Rattle.rayon_machine_places.specs.declared.place.JobKind.{JobKind}
 use Rattle.rayon_machine_places.specs.declared.place.JobKind.TheVariants.{Detached, Stored, Direct, TokenOf, Scoped, BodyOf, PieceOf, WholeOf}
-use Rattle.rayon_machine_places.specs.declared.place.Latch.{Latch}
-use Rattle.rayon_machine_places.specs.declared.place.Latch.TheVariants.{Terminate, OfCall}
 use Rattle.rayon_machine_places.specs.declared.place.Taken.{Taken}
 use Rattle.rayon_machine_places.specs.declared.place.Taken.TheVariants.{Plain, Token}
 use Rattle.rayon_machine_places.specs.declared.place.Place.{Place}
-use Rattle.rayon_machine_places.specs.declared.place.Place.TheVariants.{ProbeWorking, BeginTask, Run, SetLatch, Stopped, StoreBody}
+use Rattle.rayon_machine_places.specs.declared.place.Place.TheVariants.{BeginTask, Run, SetLatch, Stopped, StoreBody}
 use Rattle.rayon_machine_places.specs.declared.place.Move.{Move}
 use Rattle.rayon_machine_places.specs.declared.place.Move.TheVariants.{Stay, Enter, StartRun, Back, HandBack, Discard, HandIn, Mark, HandAllBack}
-use Rattle.rayon_machine_places.specs.declared.act.Act.TheVariants.{Set}
 use Rattle.rayon_machine_places.specs.declared.act.Seen.{Seen}
 use Rattle.rayon_machine_places.specs.Places.{same_party, act_of, after_begin}
 use Rattle.rayon_machine_places.specs.World.{Shape, Stack, World, Counts, Part, target_call, effect, or_none, head_of}
 use Rattle.rayon_machine_places.specs.Steps.{put, after_move, part_of}
+use Rattle.rayon_machine_laws.proofs.Acts.{Fixed as AsEver, writes_at, keeps}
 use Rattle.rayon_machine_laws.proofs.Calm.{part_at, counts_seen, next_at}
 use Rattle.rayon_machine_laws.proofs.Frame.{same_party_true, if_some_and, if_some_map, put_same, after_kind, out_sees, if_some_all}
 use Rattle.rayon_machine_laws.proofs.Owners.{own_call, kind_call, sets_for, Both, NamesFrom, names_on, shown}
@@ -118,15 +116,12 @@ land_names w q (HandAllBack b9) (f ∷ fs) t a = record { top = a.0; below = a.1
 abbrev Fixed : Part → Seen × Part → Type 0
 Fixed m r = (r.1.call.job ≡ m.call.job) × (r.1.job.kind ≡ m.job.kind)
 
-set_fixed : (l : Latch) (r j : ℕ) (h : Shape) (q : Party) (c : Counts) (m : Part) → IfSome (effect (Set l r j) h q c m) (Fixed m)
-set_fixed Terminate r j h q c m = search (rules, arith)
-set_fixed (OfCall n) r j h q c m = search (rules, arith)
-
 act_fixed : (h : Shape) (q : Party) (c : Counts) (m : Part) (x : Place) → IfSome (effect (act_of q x) h q c m) (Fixed m)
-act_fixed h (Worker a b) c m (ProbeWorking k) = search (rules, arith)
-act_fixed h q c m (SetLatch s) = set_fixed s.latch s.pool s.worker h q c m
-act_fixed h (Worker a b) c m _ = search (rules, arith)
-act_fixed h (Caller n) c m _ = search (rules, arith)
+act_fixed h q c m x = keeps h q c m Fixed (AsEver ∷ []) x (never x) (λ r k. (k.0.awaited, k.0.kind))
+  where
+    never : (x : Place) → writes_at x (AsEver ∷ []) ≡ false
+    never (SetLatch s) = refl
+    never _ = refl
 
 act_calls : (w : World) (q : Party) (k : Stack) (r : Seen × Part) → Fixed (part_at w q k) r → (c : ℕ) → ((result w q k r).call c).job ≡ (w.call c).job
 act_calls w q k r f c = put_same (λ z. z.job) w.call (target_call (act_of q k.top)) (r.1.call) c (f.0)

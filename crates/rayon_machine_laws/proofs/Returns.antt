@@ -4,6 +4,7 @@ use Rattle.rayon_machine_places.specs.declared.place.Move.TheVariants.{Mark}
 use Rattle.rayon_machine_places.specs.declared.place.Move.{Move}
 use Rattle.rayon_machine_places.specs.declared.place.Pieces.{Pieces}
 use Rattle.rayon_machine_places.specs.declared.place.Gathering.{Gathering}
+use Rattle.rayon_machine_laws.proofs.Lists.{is_settled, Onward, act_on}
 use Rattle.rayon_machine_laws.proofs.Claims.{SaysThen, SaysShare, SaysPlan}
 use Rattle.rayon_machine_places.specs.declared.state.Scope.{Scope}
 use Rattle.rayon_machine_places.specs.declared.place.Count.TheVariants.{OfPool, OfScope, OfCast}
@@ -17,28 +18,24 @@ use Rattle.rayon_machine_places.specs.declared.place.Party.TheVariants.{Worker, 
 use Rattle.rayon_machine_places.specs.declared.place.Ending.{Ending}
 use Rattle.rayon_machine_places.specs.declared.place.JobKind.{JobKind}
 use Rattle.rayon_machine_places.specs.declared.place.JobKind.TheVariants.{Detached, Stored, Direct, TokenOf, Scoped, BodyOf}
-use Rattle.rayon_machine_places.specs.declared.place.Latch.{Latch}
-use Rattle.rayon_machine_places.specs.declared.place.Latch.TheVariants.{Terminate, OfCall}
 use Rattle.rayon_machine_places.specs.declared.place.Plan.{Plan}
 use Rattle.rayon_machine_places.specs.declared.place.Plan.TheVariants.{Detach, Here, Send, Fork, Feed, Open, Enter, Gather}
 use Rattle.rayon_machine_places.specs.declared.place.Share.TheVariants.{PoolValue, OfJob, Body}
 use Rattle.rayon_machine_places.specs.declared.place.Then.{Then}
 use Rattle.rayon_machine_places.specs.declared.place.Then.TheVariants.{Resume, GiveBack}
 use Rattle.rayon_machine_places.specs.declared.place.Place.{Place}
-use Rattle.rayon_machine_places.specs.declared.place.Place.TheVariants.{ProbeWorking, PickVictim, StealFrom, GetSleepy, FallAsleep, WakeUp, YieldPop, YieldPick, YieldSteal, LocalPop, Run, RaiseCount, GrowCall, PushJob, LowerCount, SetLatch, LockToSettle, WakeSettled, UnlockSettled, AddToFifo, PushToken, RaiseForAll, PushForAll, LowerForAll, GrowScope, OpenSlot, SetLockLatch, OpenForAll, GrowCast, DealPieces}
+use Rattle.rayon_machine_places.specs.declared.place.Place.TheVariants.{PickVictim, StealFrom, YieldPop, YieldPick, YieldSteal, LocalPop, Run, RaiseCount, GrowCall, PushJob, LowerCount, SetLatch, LockToSettle, WakeSettled, UnlockSettled, AddToFifo, PushToken, RaiseForAll, PushForAll, LowerForAll, GrowScope, OpenSlot, SetLockLatch, OpenForAll, GrowCast, DealPieces}
 use Rattle.rayon_machine_places.specs.declared.act.Seen.{Seen}
 use Rattle.rayon_machine_places.specs.declared.act.Seen.TheVariants.{Done, Refused, Yes, No, Missing, Start}
 use Rattle.rayon_machine_places.specs.declared.event.Event.{Event}
 use Rattle.rayon_machine_places.specs.declared.event.Event.TheVariants.{Go, From, Refuse, Miss, End, Spawn, Fifo, Install, Join, Yield, YieldLocal, EndPool, Cast, Scope as OpenScope, IntoSpawn, IntoFifo, IntoCast, Broadcast}
-use Rattle.rayon_machine_places.specs.declared.state.Letter.{Letter}
-use Rattle.rayon_machine_places.specs.declared.state.Letter.TheVariants.{Set as IsSet}
 use Rattle.rayon_machine_places.specs.declared.state.Whereabouts.{Whereabouts}
 use Rattle.rayon_machine_places.specs.declared.state.Whereabouts.TheVariants.{Over, HandedBack, Spent}
 use Rattle.rayon_machine_places.specs.declared.state.Job.{Job}
 use Rattle.rayon_machine_places.specs.declared.state.Call.{Call}
 use Rattle.rayon_machine_places.specs.declared.shape.PoolShape.{PoolShape}
-use Rattle.rayon_machine_places.specs.Places.{same_party, own_pool, is_member, latch_of, plan_job, after_raise, act_of, next_of, is_free, plan_count, count_kind, count_book, begin_cast}
-use Rattle.rayon_machine_places.specs.World.{Shape, Stack, World, Counts, counts_at, Part, target_pool, target_worker, target_call, letter, with_letter, at_job, effect, count_in, count_pool}
+use Rattle.rayon_machine_places.specs.Places.{same_party, own_pool, is_member, plan_job, after_raise, act_of, next_of, is_free, plan_count, count_kind, count_book, begin_cast}
+use Rattle.rayon_machine_places.specs.World.{Shape, Stack, World, Counts, counts_at, Part, target_pool, target_worker, target_call, at_job, effect, count_in, count_pool}
 use Rattle.rayon_machine_places.specs.Steps.{put, put_stack, after_move, jobs_after, after_choice, after_refusal, can_miss, after_miss, after_close, after_end, after_call, is_pool, new_job, new_call, after_spawn, after_send, after_install, after_join, after_yield, after_end_pool, step, after_feed, after_cast, put_pieces, new_piece, is_piece, mark_pieces, marked, after_scope, after_into, holds, after_enter, after_deal, after_into_cast, after_broadcast, new_whole, new_gathering}
 use Rattle.rayon_machine_places.specs.Runs.{start, IsRun}
 use Rattle.rayon_machine_laws.specs.Once.{one}
@@ -58,7 +55,6 @@ use Rattle.rayon_machine_laws.proofs.ShareLowers.{lowered_world, all_lowered, re
 use Rattle.rayon_machine_laws.proofs.ShareEnds.{step_shares, first_shares}
 use Rattle.rayon_machine_laws.proofs.ShareRuns.{after_shares}
 use Rattle.rayon_machine_laws.proofs.Bares.{bare_then, bare, bare_in, all_bare, bare_move, backs, bare_held, bare_raised, bares, land_only, land_bare, closed_bare, handed, raised_hand, raised_own, bare_begins}
-use Rattle.rayon_machine_laws.proofs.Letters.{sleepy_keeps, asleep_keeps, wake_keeps, set_keeps}
 
 -- a job with a share is not handed back, and no party has it in hand without one
 pub record ReturnsHold (w : World) : Type 0 where
@@ -83,21 +79,15 @@ returns_keep w u q k st f h s = returns_by w u q k st (λ t c. (
 abbrev pub Unbacked : Part → Seen × Part → Type 0
 Unbacked m r = backs r.1.job.at ≤ backs m.job.at
 
-letter_unbacked : (l : Latch) (m : Part) (e : Seen) (y : Letter) → Unbacked m (e, with_letter l m y)
-letter_unbacked Terminate m e y = omega arith
-letter_unbacked (OfCall c) m e y = omega arith
+unsettled_unbacked : (v : Whereabouts) → is_settled v ≡ false → backs v ≡ 0
+unsettled_unbacked HandedBack e = cc
+unsettled_unbacked _ e = refl
 
 pub act_unbacked : (h : Shape) (q : Party) (c : Counts) (m : Part) (x : Place) → is_tally x ≡ false → IfSome (effect (act_of q x) h q c m) (Unbacked m)
-act_unbacked h (Worker a b) c m (ProbeWorking k) z = omega arith
-act_unbacked h (Worker a b) c m (GetSleepy k) z = sleepy_keeps (latch_of k.target) Unbacked (λ v e. omega arith) (λ v e y n. letter_unbacked (latch_of k.target) v e y) m (letter (latch_of k.target) m)
-act_unbacked h (Worker a b) c m (FallAsleep k) z = asleep_keeps (latch_of k.target) Unbacked (λ v e. omega arith) (λ v e y n. letter_unbacked (latch_of k.target) v e y) m (letter (latch_of k.target) m)
-act_unbacked h (Worker a b) c m (WakeUp k) z = wake_keeps (latch_of k.target) Unbacked (λ v e. omega arith) (λ v e y n. letter_unbacked (latch_of k.target) v e y) m (letter (latch_of k.target) m)
-act_unbacked h (Worker a b) c m (SetLatch k) z = set_keeps k.latch Unbacked (λ v e. letter_unbacked k.latch v e IsSet) m (letter k.latch m)
-act_unbacked h (Worker a b) c m (LowerCount k s n) z = omega arith
-act_unbacked h (Worker a b) c m _ z = search (rules, arith)
-act_unbacked h (Caller n) c m (SetLatch k) z = set_keeps k.latch Unbacked (λ v e. letter_unbacked k.latch v e IsSet) m (letter k.latch m)
-act_unbacked h (Caller n) c m (LowerCount k s y) z = omega arith
-act_unbacked h (Caller n) c m _ z = search (rules, arith)
+act_unbacked h q c m x z = if_some_map (Onward m) (Unbacked m) (λ r o. elim o [
+  | inl e ↦ (let s : backs r.1.job.at ≡ backs m.job.at = ap backs e in omega (arith, s))
+  | inr e ↦ (let n : backs r.1.job.at ≡ 0 = unsettled_unbacked r.1.job.at e in omega (arith, n))
+]) (effect (act_of q x) h q c m) (act_on h q c m x)
 
 pub put_backs : (J : ℕ → Job) (n : ℕ) (j : Job) (t : ℕ) → backs j.at ≤ backs (J n).at → backs (put J n j t).at ≤ backs (J t).at
 put_backs J n j t a = by (t == n) refl

@@ -6,17 +6,15 @@
 -- They are as many as the pool has workers.
 -- A scope's count is as a pool's: the sum over its jobs with a share (`entry`), and one for its body. A job of a scope
 -- keeps its share as a detached job does.
+use Rattle.rayon_machine_laws.proofs.Acts.{JobCounted, CallCount, CallCounted, Undealt, writes_at, keeps}
 use Rattle.rayon_machine_laws.proofs.Lost.{is_dealt}
 use Rattle.std.proofs.Common.{rules, arith, refl, sym, ◌∙◌, ap, subst, inl, inr}
-use Rattle.std.specs.Prelude.{ℕ, Bool, true, false, ◌&&◌, ◌+◌, ◌-◌, ◌==◌, ◌≤◌, ◌<◌, nat_lt, if◌then◌else◌, List, ◌≡◌, IfSome, ◌||◌, nat_le}
+use Rattle.std.specs.Prelude.{ℕ, Bool, true, false, ◌&&◌, ◌+◌, ◌-◌, ◌==◌, ◌≤◌, ◌<◌, nat_lt, if◌then◌else◌, List, ◌≡◌, IfSome, ◌||◌, [], ◌∷◌, nat_le}
 use Rattle.std.proofs.lemmas.Bool.{eqb-true, ltb-true, ltb-false, le-leb, lt-ltb}
 use Rattle.std.proofs.Math.Dec.{ltb}
 use Rattle.rayon_machine_places.specs.declared.place.Party.{Party}
-use Rattle.rayon_machine_places.specs.declared.place.Party.TheVariants.{Worker, Caller}
 use Rattle.rayon_machine_places.specs.declared.place.JobKind.{JobKind}
 use Rattle.rayon_machine_places.specs.declared.place.JobKind.TheVariants.{Detached, Stored, Direct, Scoped, TokenOf, BodyOf, PieceOf, WholeOf}
-use Rattle.rayon_machine_places.specs.declared.place.Latch.{Latch}
-use Rattle.rayon_machine_places.specs.declared.place.Latch.TheVariants.{Terminate, OfCall}
 use Rattle.rayon_machine_places.specs.declared.place.Plan.{Plan}
 use Rattle.rayon_machine_places.specs.declared.place.Plan.TheVariants.{Detach, Here, Send, Fork, Feed, Open, Enter, Gather}
 use Rattle.rayon_machine_places.specs.declared.place.Count.{Count}
@@ -25,16 +23,14 @@ use Rattle.rayon_machine_places.specs.declared.place.Share.TheVariants.{OfJob}
 use Rattle.rayon_machine_places.specs.declared.place.Then.{Then}
 use Rattle.rayon_machine_places.specs.declared.place.Pieces.{Pieces}
 use Rattle.rayon_machine_places.specs.declared.place.Place.{Place}
-use Rattle.rayon_machine_places.specs.declared.place.Place.TheVariants.{ProbeWorking, GetSleepy, FallAsleep, WakeUp, RaiseCount, LowerCount, RaiseForAll, LowerForAll, SetLatch, DealPieces, PushForAll}
+use Rattle.rayon_machine_places.specs.declared.place.Place.TheVariants.{RaiseCount, LowerCount, RaiseForAll, LowerForAll, DealPieces, PushForAll}
 use Rattle.rayon_machine_places.specs.declared.act.Seen.{Seen}
-use Rattle.rayon_machine_places.specs.declared.state.Letter.{Letter}
-use Rattle.rayon_machine_places.specs.declared.state.Letter.TheVariants.{Set as IsSet}
 use Rattle.rayon_machine_places.specs.declared.state.Whereabouts.TheVariants.{Nowhere}
 use Rattle.rayon_machine_places.specs.declared.state.Job.{Job}
 use Rattle.rayon_machine_places.specs.declared.state.Call.{Call}
 use Rattle.rayon_machine_places.specs.declared.shape.PoolShape.{PoolShape}
-use Rattle.rayon_machine_places.specs.Places.{same_party, latch_of, plan_job, plan_count, act_of, next_of, fresh, count_kind}
-use Rattle.rayon_machine_places.specs.World.{Shape, Stack, World, Counts, Part, letter, with_letter, effect, count_call, call_more, call_less, body_stays}
+use Rattle.rayon_machine_places.specs.Places.{same_party, plan_job, plan_count, act_of, next_of, fresh, count_kind}
+use Rattle.rayon_machine_places.specs.World.{Shape, Stack, World, Counts, Part, effect, count_call, call_more, call_less, body_stays}
 use Rattle.rayon_machine_places.specs.Steps.{put, put_stack, is_piece, after_move}
 use Rattle.rayon_machine_places.specs.Readers.{is_done}
 use Rattle.rayon_machine_laws.specs.Once.{one}
@@ -44,7 +40,6 @@ use Rattle.rayon_machine_laws.proofs.Frame.{either, same_party_true, put_same, s
 use Rattle.rayon_machine_laws.proofs.Claims.{call_unscoped, SaysPlan, SaysThen, SaysShare, is_part}
 use Rattle.rayon_machine_laws.proofs.Later.{later_body}
 use Rattle.rayon_machine_laws.proofs.ClaimActs.{Lasting}
-use Rattle.rayon_machine_laws.proofs.Letters.{sleepy_keeps, asleep_keeps, wake_keeps, set_keeps}
 use Rattle.rayon_machine_laws.proofs.Tokens.{Tokens, tokens_keep, sum_below}
 use Rattle.rayon_machine_laws.proofs.ShareActs.{SharesHold, is_tally, one_most}
 use Rattle.rayon_machine_laws.proofs.ShareRuns.{other_le}
@@ -304,22 +299,15 @@ pub record Uncalled (m : Part) (r : Seen × Part) : Type 0 where
   pub counted : r.1.call.counted ≡ m.call.counted
   pub undealt : r.1.call.undealt ≡ m.call.undealt
 
-letter_uncalled : (l : Latch) (m : Part) (e : Seen) (y : Letter) → Uncalled m (e, with_letter l m y)
-letter_uncalled Terminate m e y = record { job = refl; count = refl; counted = refl; undealt = refl }
-letter_uncalled (OfCall c) m e y = record { job = refl; count = refl; counted = refl; undealt = refl }
-
 pub same_uncalled : (m : Part) (e : Seen) → Uncalled m (e, m)
 same_uncalled m e = record { job = refl; count = refl; counted = refl; undealt = refl }
 
 pub act_uncalled : (h : Shape) (q : Party) (c : Counts) (m : Part) (x : Place) → is_counting x ≡ false → IfSome (effect (act_of q x) h q c m) (Uncalled m)
-act_uncalled h (Worker a b) c m (ProbeWorking k) z = same_uncalled m _
-act_uncalled h (Worker a b) c m (GetSleepy k) z = sleepy_keeps (latch_of k.target) Uncalled same_uncalled (λ v e y n. letter_uncalled (latch_of k.target) v e y) m (letter (latch_of k.target) m)
-act_uncalled h (Worker a b) c m (FallAsleep k) z = asleep_keeps (latch_of k.target) Uncalled same_uncalled (λ v e y n. letter_uncalled (latch_of k.target) v e y) m (letter (latch_of k.target) m)
-act_uncalled h (Worker a b) c m (WakeUp k) z = wake_keeps (latch_of k.target) Uncalled same_uncalled (λ v e y n. letter_uncalled (latch_of k.target) v e y) m (letter (latch_of k.target) m)
-act_uncalled h (Worker a b) c m (SetLatch k) z = set_keeps k.latch Uncalled (λ v e. letter_uncalled k.latch v e IsSet) m (letter k.latch m)
-act_uncalled h (Worker a b) c m _ z = search (rules, arith)
-act_uncalled h (Caller n) c m (SetLatch k) z = set_keeps k.latch Uncalled (λ v e. letter_uncalled k.latch v e IsSet) m (letter k.latch m)
-act_uncalled h (Caller n) c m _ z = search (rules, arith)
+act_uncalled h q c m x z = keeps h q c m Uncalled (JobCounted ∷ CallCount ∷ CallCounted ∷ Undealt ∷ []) x (writes_none x z) (λ r k. record { job = k.0; count = k.1.0; counted = k.1.1.0; undealt = k.1.1.1.0 })
+  where
+    writes_none : (x : Place) → is_counting x ≡ false → writes_at x (JobCounted ∷ CallCount ∷ CallCounted ∷ Undealt ∷ []) ≡ false
+    writes_none (RaiseCount n) z = cc
+    writes_none _ z = cc
 
 -- a place that is none of these gives no share and takes none
 pub tally_counting : (x : Place) → is_counting x ≡ false → is_tally x ≡ false

@@ -4,7 +4,7 @@
 -- place and seat three facts, which every step keeps (`always_seats` of Events).
 -- It is inactive exactly while it is in its search or asleep. It counts as sleeping exactly from its TryAdd until it
 -- takes itself out or is woken. While it falls asleep it holds its own sleep lock.
-use Rattle.std.proofs.Common.{rules, arith, refl, sym, subst}
+use Rattle.std.proofs.Common.{rules, arith, refl, sym, ◌∙◌, ap, subst}
 use Rattle.std.specs.Prelude.{ℕ, Bool, true, false, ◌&&◌, ◌||◌, ◌+◌, nat_lt, if◌then◌else◌, Some, ◌≡◌, IfSome, Option, None, List, [], ◌∷◌, ◌++◌}
 use Rattle.rayon_machine_places.specs.declared.place.Party.{Party}
 use Rattle.rayon_machine_places.specs.declared.place.Party.TheVariants.{Worker, Caller}
@@ -14,21 +14,20 @@ use Rattle.rayon_machine_places.specs.declared.place.Latch.{Latch}
 use Rattle.rayon_machine_places.specs.declared.place.Latch.TheVariants.{Terminate, OfCall}
 use Rattle.rayon_machine_places.specs.declared.place.Then.{Then}
 use Rattle.rayon_machine_places.specs.declared.place.Then.TheVariants.{BeginFound, LeaveWait, Await}
-use Rattle.rayon_machine_places.specs.declared.place.Taken.{Taken}
-use Rattle.rayon_machine_places.specs.declared.place.Taken.TheVariants.{Plain, Token}
 use Rattle.rayon_machine_places.specs.declared.place.Place.{Place}
-use Rattle.rayon_machine_places.specs.declared.place.Place.TheVariants.{ProbeWorking, PopWorking, TakeCastWorking, BecomeInactive, ProbeIdle, PopIdle, TakeCastIdle, PickVictim, StealFrom, PopInjected, AnnounceSelf, GetSleepy, LockOwn, FallAsleep, LoadCounters, AddSleeping, LookAtCast, LookAtInjector, BlockSelf, RelockOwn, UndoSleeping, WakeUp, UnlockOwn, LeaveSearch, JoinProbe, Run, LockToWake, WakeWorker, UnlockWoken, SetLatch, LockToSettle, WakeSettled, UnlockSettled, FirstSide, SecondSide, AtOnce, Free, Stopped, BeginTask, AddToFifo, TakeFromFifo, ScopeBody}
+use Rattle.rayon_machine_places.specs.declared.place.Place.TheVariants.{ProbeWorking, PopWorking, TakeCastWorking, BecomeInactive, ProbeIdle, PopIdle, TakeCastIdle, PickVictim, StealFrom, PopInjected, AnnounceSelf, GetSleepy, LockOwn, FallAsleep, LoadCounters, AddSleeping, LookAtCast, LookAtInjector, BlockSelf, RelockOwn, UndoSleeping, WakeUp, UnlockOwn, LeaveSearch, JoinProbe, Run, LockToWake, WakeWorker, UnlockWoken, SetLatch, LockToSettle, WakeSettled, UnlockSettled, FirstSide, SecondSide, AtOnce, Free, Stopped, ScopeBody}
 use Rattle.rayon_machine_places.specs.declared.place.Move.{Move}
 use Rattle.rayon_machine_places.specs.declared.place.Move.TheVariants.{Stay, Enter, StartRun, Back, HandBack, Discard, HandIn, Mark, HandAllBack}
 use Rattle.rayon_machine_places.specs.declared.act.Act.{Act}
-use Rattle.rayon_machine_places.specs.declared.act.Act.TheVariants.{Lock, Unlock, Wake, Set, FifoIn, FifoUndo}
+use Rattle.rayon_machine_places.specs.declared.act.Act.TheVariants.{Lock, Unlock, Wake, Set}
 use Rattle.rayon_machine_places.specs.declared.act.Seen.{Seen}
 use Rattle.rayon_machine_places.specs.declared.act.Seen.TheVariants.{Yes}
 use Rattle.rayon_machine_places.specs.declared.shape.PoolShape.{PoolShape}
 use Rattle.rayon_machine_places.specs.declared.place.Settling.{Settling}
-use Rattle.rayon_machine_laws.proofs.Frame.{if_some_map, if_cond, out_sees, undo_sees}
-use Rattle.rayon_machine_places.specs.Places.{act_of, finish, next_of, same_party, settle, after_set, walk, begin_act, count_book}
-use Rattle.rayon_machine_places.specs.World.{Counts, Part, Seat, Shape, effect, is_open, but_last, put_list}
+use Rattle.rayon_machine_laws.proofs.Acts.{Inactive, Asleep, Blocked, Locker, AllKept, writes_at, keeps}
+use Rattle.rayon_machine_laws.proofs.Frame.{if_some_map}
+use Rattle.rayon_machine_places.specs.Places.{act_of, finish, next_of, same_party, settle, after_set, walk}
+use Rattle.rayon_machine_places.specs.World.{Counts, Part, Seat, Shape, effect}
 
 -- what a place says of its party's seat: nothing; inactive; holding its own lock too; asleep too; inactive and perhaps
 -- blocked
@@ -215,41 +214,34 @@ own_keeps h g p i c m (SetLatch s) ok = if_some_map (λ r. SeatOk p i Out (r.1.s
 own_keeps h g p i c m (UnlockSettled s) ok = if_some_map (λ r. SeatOk p i Out (r.1.seat)) (λ r. Goes (OkAt p i (r.1.seat)) (next_of g (Worker p i) (UnlockSettled s) (r.0))) (λ r k. out_goes p i (r.1.seat) (after_set g (Worker p i) s s.latch) (settled_out g (Worker p i) s s.latch) k) (effect (act_of (Worker p i) (UnlockSettled s)) h (Worker p i) c m) (rest_unlocks s.pool s.worker h (Worker p i) c m p i ok)
 own_keeps h g p i c m _ ok = search (rules, arith)
 
--- a seat with another FIFO list fits as before
-fed_keeps : (p i : ℕ) (x : Mode) (s : Seat) (l : Option ℕ → List ℕ) (o : Option ℕ → Option Party) → SeatOk p i x s → SeatOk p i x (record s { fifo = l; feeder = o })
-fed_keeps p i x s l o ok = record { inactive = ok.inactive; asleep = ok.asleep; blocked = ok.blocked; lock = ok.lock }
+-- a seat that is the same but for its lists and its latch
+seat_kept : (p i : ℕ) (y : Mode) (m : Part) (r : Seen × Part) → AllKept (Inactive ∷ Asleep ∷ Blocked ∷ Locker ∷ []) m r → SeatOk p i y m.seat → SeatOk p i y (r.1.seat)
+seat_kept p i y m r k ok = record { inactive = k.0 ∙ ok.inactive; asleep = k.1.0 ∙ ok.asleep ∙ ap (λ b. asleep_in y || b) (sym (k.1.1.0)); blocked = λ e. ok.blocked (sym (k.1.1.0) ∙ e); lock = λ e. k.1.1.1.0 ∙ ok.lock e }
 
-begin_keeps : (h : Shape) (q : Party) (c : Counts) (m : Part) (x : Taken) (p i : ℕ) (y : Mode) → SeatOk p i y m.seat → IfSome (effect (begin_act x) h q c m) (λ r. SeatOk p i y (r.1.seat))
-begin_keeps h q c m (Plain t) p i y ok = ok
-begin_keeps h q c m (Token k j b8) p i y ok = out_sees (λ r. SeatOk p i y (r.1.seat)) q m b8 ok (λ u us e. fed_keeps p i y m.seat (put_list m.seat.fifo b8 us) m.seat.feeder ok)
+-- the places at which a party touches another's lock, or wakes it
+abbrev locks_or_wakes : Place → Bool
+locks_or_wakes (LockToWake k) = true
+locks_or_wakes (LockToSettle s) = true
+locks_or_wakes (UnlockWoken k) = true
+locks_or_wakes (UnlockSettled s) = true
+locks_or_wakes (WakeWorker k) = true
+locks_or_wakes (WakeSettled s) = true
+locks_or_wakes _ = false
 
-feed_keeps : (h : Shape) (q : Party) (c : Counts) (m : Part) (t p i : ℕ) (b : Option ℕ) (y : Mode) → SeatOk p i y m.seat → IfSome (effect (FifoIn t b) h q c m) (λ r. SeatOk p i y (r.1.seat))
-feed_keeps h q c m t p i b y ok = if_cond (λ r. SeatOk p i y (r.1.seat)) (is_open q (m.seat.feeder b)) _ (λ z. fed_keeps p i y m.seat (put_list m.seat.fifo b (m.seat.fifo b ++ t ∷ [])) (put_list m.seat.feeder b (Some q)) ok)
+away_writes : (x : Place) → at_home x ≡ false → locks_or_wakes x ≡ false → writes_at x (Inactive ∷ Asleep ∷ Blocked ∷ Locker ∷ []) ≡ false
+away_writes (LockToWake k) e n = cc
+away_writes _ e n = cc
 
-back_keeps : (h : Shape) (q : Party) (c : Counts) (m : Part) (p i : ℕ) (b : Option ℕ) (y : Mode) → SeatOk p i y m.seat → IfSome (effect (FifoUndo b) h q c m) (λ r. SeatOk p i y (r.1.seat))
-back_keeps h q c m p i b y ok = undo_sees (λ r. SeatOk p i y (r.1.seat)) q m b ok (λ u e. fed_keeps p i y m.seat (put_list m.seat.fifo b (but_last (m.seat.fifo b))) (put_list m.seat.feeder b None) ok)
+away_left : (h : Shape) (q : Party) (c : Counts) (m : Part) (x : Place) (p i : ℕ) (y : Mode) → SeatOk p i y m.seat → writes_at x (Inactive ∷ Asleep ∷ Blocked ∷ Locker ∷ []) ≡ false → IfSome (effect (act_of q x) h q c m) (λ r. SeatOk p i y (r.1.seat))
+away_left h q c m x p i y ok n = keeps h q c m (λ v r. SeatOk p i y (r.1.seat)) (Inactive ∷ Asleep ∷ Blocked ∷ Locker ∷ []) x n (λ r k. seat_kept p i y m r k ok)
 
 -- another party's act leaves a worker's seat fitting the worker's place
 pub other_keeps : (h : Shape) (q : Party) (c : Counts) (m : Part) (x : Place) (p i : ℕ) (y : Place) → at_home x ≡ false → same_party q (Worker p i) ≡ false → SeatOk p i (mode y) m.seat → IfSome (effect (act_of q x) h q c m) (λ r. SeatOk p i (mode y) (r.1.seat))
-other_keeps h (Worker a b) c m (StealFrom k n) p i y away d ok = search (rules, arith)
-other_keeps h (Worker a b) c m (SetLatch s) p i y away d ok = set_keeps s.latch s.pool s.worker h (Worker a b) c m p i (mode y) ok
 other_keeps h (Worker a b) c m (LockToWake k) p i y away d ok = lock_keeps k.pool k.worker h (Worker a b) c m p i (mode y) ok
-other_keeps h (Worker a b) c m (LockToSettle s) p i y away d ok = lock_keeps s.pool s.worker h (Worker a b) c m p i (mode y) ok
-other_keeps h (Worker a b) c m (UnlockWoken k) p i y away d ok = unlock_keeps k.pool k.worker h (Worker a b) c m p i (mode y) d ok
-other_keeps h (Worker a b) c m (UnlockSettled s) p i y away d ok = unlock_keeps s.pool s.worker h (Worker a b) c m p i (mode y) d ok
-other_keeps h (Worker a b) c m (WakeWorker k) p i y away d ok = wake_keeps k.pool k.worker h (Worker a b) c m p i (mode y) ok
-other_keeps h (Worker a b) c m (WakeSettled s) p i y away d ok = wake_keeps s.pool s.worker h (Worker a b) c m p i (mode y) ok
-other_keeps h (Worker a b) c m (BeginTask x) p i y away d ok = begin_keeps h (Worker a b) c m x p i (mode y) ok
-other_keeps h (Worker a b) c m (AddToFifo f) p i y away d ok = feed_keeps h (Worker a b) c m f.job p i (count_book f.count) (mode y) ok
-other_keeps h (Worker a b) c m (TakeFromFifo f) p i y away d ok = back_keeps h (Worker a b) c m p i (count_book f.count) (mode y) ok
-other_keeps h (Worker a b) c m _ p i y away d ok = search (rules, arith)
-other_keeps h (Caller n) c m (StealFrom k l) p i y away d ok = search (rules, arith)
-other_keeps h (Caller n) c m (SetLatch s) p i y away d ok = set_keeps s.latch s.pool s.worker h (Caller n) c m p i (mode y) ok
-other_keeps h (Caller n) c m (LockToWake k) p i y away d ok = lock_keeps k.pool k.worker h (Caller n) c m p i (mode y) ok
-other_keeps h (Caller n) c m (LockToSettle s) p i y away d ok = lock_keeps s.pool s.worker h (Caller n) c m p i (mode y) ok
-other_keeps h (Caller n) c m (UnlockWoken k) p i y away d ok = unlock_keeps k.pool k.worker h (Caller n) c m p i (mode y) d ok
-other_keeps h (Caller n) c m (UnlockSettled s) p i y away d ok = unlock_keeps s.pool s.worker h (Caller n) c m p i (mode y) d ok
-other_keeps h (Caller n) c m (WakeWorker k) p i y away d ok = wake_keeps k.pool k.worker h (Caller n) c m p i (mode y) ok
-other_keeps h (Caller n) c m (WakeSettled s) p i y away d ok = wake_keeps s.pool s.worker h (Caller n) c m p i (mode y) ok
-other_keeps h (Caller n) c m (BeginTask x) p i y away d ok = begin_keeps h (Caller n) c m x p i (mode y) ok
-other_keeps h (Caller n) c m _ p i y away d ok = search (rules, arith)
+other_keeps h q c m (LockToWake k) p i y away d ok = lock_keeps k.pool k.worker h q c m p i (mode y) ok
+other_keeps h q c m (LockToSettle s) p i y away d ok = lock_keeps s.pool s.worker h q c m p i (mode y) ok
+other_keeps h q c m (UnlockWoken k) p i y away d ok = unlock_keeps k.pool k.worker h q c m p i (mode y) d ok
+other_keeps h q c m (UnlockSettled s) p i y away d ok = unlock_keeps s.pool s.worker h q c m p i (mode y) d ok
+other_keeps h q c m (WakeWorker k) p i y away d ok = wake_keeps k.pool k.worker h q c m p i (mode y) ok
+other_keeps h q c m (WakeSettled s) p i y away d ok = wake_keeps s.pool s.worker h q c m p i (mode y) ok
+other_keeps h q c m x p i y away d ok = away_left h q c m x p i (mode y) ok (away_writes x away refl)

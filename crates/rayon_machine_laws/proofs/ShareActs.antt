@@ -4,35 +4,32 @@
 -- count is the sum of the shares, the value's with them. So a count of 0 means that no share is left.
 -- The table `share` (specs/Shares) says which places keep a share. The sums over a pool's jobs pass jobs of scopes over
 -- (`tally`).
-use Rattle.rayon_machine_places.specs.declared.place.Share.TheVariants.{PoolValue, OfJob, Body}
-use Rattle.rayon_machine_places.specs.declared.place.Count.TheVariants.{OfPool, OfScope, OfCast}
+use Rattle.rayon_machine_places.specs.declared.place.Share.TheVariants.{Body}
+use Rattle.rayon_machine_places.specs.declared.place.Count.TheVariants.{OfScope}
 use Rattle.std.proofs.Common.{rules, arith, refl, sym, ◌∙◌, ap, subst}
 use Rattle.std.specs.Prelude.{ℕ, Bool, true, false, ◌+◌, ◌==◌, ◌≤◌, if◌then◌else◌, Option, Some, None, List, [], ◌∷◌, ◌++◌, ◌≡◌, IfSome, ◌&&◌, ⊤}
 use Rattle.std.proofs.lemmas.Bool.{eq-eqb}
 use Rattle.rayon_machine_places.specs.declared.shape.Order.{Order}
 use Rattle.rayon_machine_places.specs.declared.place.Party.{Party}
 use Rattle.rayon_machine_places.specs.declared.place.Party.TheVariants.{Worker, Caller}
-use Rattle.rayon_machine_places.specs.declared.place.Latch.{Latch}
-use Rattle.rayon_machine_places.specs.declared.place.Latch.TheVariants.{Terminate, OfCall}
 use Rattle.rayon_machine_places.specs.declared.place.Plan.{Plan}
 use Rattle.rayon_machine_places.specs.declared.place.Plan.TheVariants.{Detach, Here, Send, Fork, Feed, Open, Enter, Gather}
 use Rattle.rayon_machine_places.specs.declared.place.Taken.TheVariants.{Plain, Token}
 use Rattle.rayon_machine_places.specs.declared.place.Place.{Place}
-use Rattle.rayon_machine_places.specs.declared.place.Place.TheVariants.{ProbeWorking, PopWorking, TakeCastWorking, PopIdle, TakeCastIdle, StealFrom, PopInjected, GetSleepy, FallAsleep, WakeUp, JoinPop, JoinTakeCast, YieldPop, YieldTakeCast, YieldSteal, YieldPopInjected, LocalPop, LocalTakeCast, BeginTask, BeginHere, RaiseCount, PushJob, LowerCount, SetLatch, PushToken, AddToFifo, TakeFromFifo, RaiseForAll, PushForAll, LowerForAll, DealPieces}
+use Rattle.rayon_machine_places.specs.declared.place.Place.TheVariants.{PopWorking, TakeCastWorking, PopIdle, TakeCastIdle, StealFrom, PopInjected, JoinPop, JoinTakeCast, YieldPop, YieldTakeCast, YieldSteal, YieldPopInjected, LocalPop, LocalTakeCast, BeginTask, BeginHere, RaiseCount, PushJob, LowerCount, PushToken, AddToFifo, TakeFromFifo, RaiseForAll, PushForAll, LowerForAll, DealPieces}
 use Rattle.rayon_machine_places.specs.declared.act.Act.TheVariants.{PushInj, PushOwn, FifoOut, FifoUndo}
 use Rattle.rayon_machine_places.specs.declared.act.Seen.{Seen}
 use Rattle.rayon_machine_places.specs.declared.act.Seen.TheVariants.{Done, Missing, Task}
-use Rattle.rayon_machine_places.specs.declared.state.Letter.{Letter}
-use Rattle.rayon_machine_places.specs.declared.state.Letter.TheVariants.{Set as IsSet}
 use Rattle.rayon_machine_places.specs.declared.state.Whereabouts.{Whereabouts}
 use Rattle.rayon_machine_places.specs.declared.state.Whereabouts.TheVariants.{Nowhere, Made, InDeque, Injected, InFifo, Retaken, InCast}
 use Rattle.rayon_machine_places.specs.declared.state.Job.{Job}
-use Rattle.rayon_machine_places.specs.Places.{own_pool, own_index, is_member, latch_of, plan_pool, plan_job, act_of, taken_number, plan_book, count_book}
-use Rattle.rayon_machine_places.specs.World.{Shape, World, Counts, counts_at, Part, target_pool, target_worker, target_call, head_of, but_first, own_of, own_left, or_none, but_last, letter, with_letter, at_job, popped, take_cast, pop_injector, effect, is_open}
+use Rattle.rayon_machine_places.specs.Places.{own_pool, own_index, is_member, plan_pool, plan_job, act_of, taken_number, plan_book, count_book}
+use Rattle.rayon_machine_places.specs.World.{Shape, World, Counts, counts_at, Part, target_pool, target_worker, target_call, head_of, but_first, own_of, own_left, or_none, but_last, at_job, popped, take_cast, pop_injector, effect, is_open}
 use Rattle.rayon_machine_places.specs.Steps.{part_of}
 use Rattle.rayon_machine_laws.specs.Once.{one, times, in_deque, in_injector, IsOnce, in_fifo, in_cast}
 use Rattle.rayon_machine_laws.specs.Counted.{keeps_own, has_share}
 use Rattle.rayon_machine_laws.specs.Shares.{shares, is_busy}
+use Rattle.rayon_machine_laws.proofs.Acts.{JobCounted, PoolCounted, PoolCount, writes_at, keeps}
 use Rattle.rayon_machine_laws.proofs.Frame.{if_some_all, if_some_map, out_sees, undo_sees, if_cond}
 use Rattle.rayon_machine_laws.proofs.Ties.{job_at}
 use Rattle.rayon_machine_laws.proofs.Lists.{moves_no_job, SameJobs, quiet_same, times_first, times_own, times_drop}
@@ -42,7 +39,6 @@ use Rattle.rayon_machine_laws.proofs.Claims.{call_undetached, is_detached, SaysP
 use Rattle.rayon_machine_laws.proofs.ClaimRuns.{CallsHold, place_part, LinedAs}
 use Rattle.rayon_machine_laws.proofs.Amounts.{all_raises, all_values, pushed}
 use Rattle.rayon_machine_laws.proofs.Tokens.{Tokens, sum_below}
-use Rattle.rayon_machine_laws.proofs.Letters.{sleepy_keeps, asleep_keeps, wake_keeps, set_keeps}
 
 -- a detached job that is queued or runs has its share itself
 abbrev pub with_job : Job → ℕ
@@ -83,37 +79,30 @@ is_tally (LowerForAll c) = true
 is_tally (DealPieces g) = true
 is_tally _ = false
 
+-- the share of a scope's body is given back
+abbrev is_body_share : Place → Bool
+is_body_share (LowerCount (OfScope c o) Body n) = true
+is_body_share _ = false
+
 pub record Untallied (m : Part) (r : Seen × Part) : Type 0 where
   pub job : r.1.job.counted ≡ m.job.counted
   pub pool : r.1.pool.counted ≡ m.pool.counted
   pub count : r.1.pool.count ≡ m.pool.count
 
-letter_untallied : (l : Latch) (m : Part) (e : Seen) (y : Letter) → Untallied m (e, with_letter l m y)
-letter_untallied Terminate m e y = record { job = refl; pool = refl; count = refl }
-letter_untallied (OfCall c) m e y = record { job = refl; pool = refl; count = refl }
-
 pub same_untallied : (m : Part) (e : Seen) → Untallied m (e, m)
 same_untallied m e = record { job = refl; pool = refl; count = refl }
 
+tally_writes : (x : Place) → is_tally x ≡ false → is_body_share x ≡ false → writes_at x (JobCounted ∷ PoolCounted ∷ PoolCount ∷ []) ≡ false
+tally_writes (LowerCount (OfScope d o) Body n) z e = cc
+tally_writes _ z e = cc
+
+tally_left : (h : Shape) (q : Party) (c : Counts) (m : Part) (x : Place) → writes_at x (JobCounted ∷ PoolCounted ∷ PoolCount ∷ []) ≡ false → IfSome (effect (act_of q x) h q c m) (Untallied m)
+tally_left h q c m x n = keeps h q c m Untallied (JobCounted ∷ PoolCounted ∷ PoolCount ∷ []) x n (λ r k. record { job = k.0; pool = k.1.0; count = k.1.1.0 })
+
 pub act_untallied : (h : Shape) (q : Party) (c : Counts) (m : Part) (x : Place) → is_tally x ≡ false → IfSome (effect (act_of q x) h q c m) (Untallied m)
-act_untallied h (Worker a b) c m (ProbeWorking k) z = same_untallied m _
-act_untallied h (Worker a b) c m (GetSleepy k) z = sleepy_keeps (latch_of k.target) Untallied same_untallied (λ v e y n. letter_untallied (latch_of k.target) v e y) m (letter (latch_of k.target) m)
-act_untallied h (Worker a b) c m (FallAsleep k) z = asleep_keeps (latch_of k.target) Untallied same_untallied (λ v e y n. letter_untallied (latch_of k.target) v e y) m (letter (latch_of k.target) m)
-act_untallied h (Worker a b) c m (WakeUp k) z = wake_keeps (latch_of k.target) Untallied same_untallied (λ v e y n. letter_untallied (latch_of k.target) v e y) m (letter (latch_of k.target) m)
-act_untallied h (Worker a b) c m (SetLatch k) z = set_keeps k.latch Untallied (λ v e. letter_untallied k.latch v e IsSet) m (letter k.latch m)
-act_untallied h (Worker a b) c m (LowerCount (OfPool p) s n) z = cc
-act_untallied h (Worker a b) c m (LowerCount (OfCast d o) s n) z = cc
-act_untallied h (Worker a b) c m (LowerCount (OfScope d o) PoolValue n) z = cc
-act_untallied h (Worker a b) c m (LowerCount (OfScope d o) (OfJob t) n) z = cc
 act_untallied h (Worker a b) c m (LowerCount (OfScope d o) Body n) z = record { job = refl; pool = refl; count = refl }
-act_untallied h (Worker a b) c m _ z = search (rules, arith)
-act_untallied h (Caller n) c m (SetLatch k) z = set_keeps k.latch Untallied (λ v e. letter_untallied k.latch v e IsSet) m (letter k.latch m)
-act_untallied h (Caller n) c m (LowerCount (OfPool p) s y) z = cc
-act_untallied h (Caller n) c m (LowerCount (OfCast d o) s y) z = cc
-act_untallied h (Caller n) c m (LowerCount (OfScope d o) PoolValue y) z = cc
-act_untallied h (Caller n) c m (LowerCount (OfScope d o) (OfJob t) y) z = cc
-act_untallied h (Caller n) c m (LowerCount (OfScope d o) Body y) z = record { job = refl; pool = refl; count = refl }
-act_untallied h (Caller n) c m _ z = search (rules, arith)
+act_untallied h (Caller i) c m (LowerCount (OfScope d o) Body n) z = record { job = refl; pool = refl; count = refl }
+act_untallied h q c m x z = tally_left h q c m x (tally_writes x z refl)
 
 -- a take is of a job that its list had
 take_left : (w : World) → IsOnce w → (p i t n : ℕ) → times t (w.seat p i).own ≡ (one (t == t) + n) → is_left (w.job t).at ≡ true

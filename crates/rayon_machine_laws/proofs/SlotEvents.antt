@@ -17,17 +17,16 @@ use Rattle.rayon_machine_places.specs.declared.place.Mark.TheVariants.{Counted, 
 use Rattle.rayon_machine_places.specs.declared.place.Pieces.{Pieces}
 use Rattle.rayon_machine_places.specs.declared.place.OpenCall.{OpenCall}
 use Rattle.rayon_machine_places.specs.declared.place.Gathering.{Gathering}
-use Rattle.rayon_machine_places.specs.declared.place.Wait.{Wait}
 use Rattle.rayon_machine_places.specs.declared.place.Plan.{Plan}
 use Rattle.rayon_machine_places.specs.declared.place.Plan.TheVariants.{Detach, Here, Send, Fork, Feed, Open, Enter, Gather}
 use Rattle.rayon_machine_places.specs.declared.place.Place.{Place}
-use Rattle.rayon_machine_places.specs.declared.place.Place.TheVariants.{ProbeWorking, PickVictim, StealFrom, PopInjected, JoinProbe, YieldPop, YieldPick, YieldSteal, YieldPopInjected, LocalPop, Run, RaiseCount, GrowCall, GrowScope, OpenSlot, PushJob, AddToFifo, PushToken, TakeFromFifo, RaiseForAll, OpenForAll, PushForAll, CloseForAll, LowerForAll, GrowCast, DealPieces, LowerCount, FirstSide, SecondSide, ScopeBody, AtOnce, Free}
+use Rattle.rayon_machine_places.specs.declared.place.Place.TheVariants.{ProbeWorking, JoinProbe, YieldPop, LocalPop, Run, RaiseCount, RaiseForAll, OpenForAll, PushForAll, CloseForAll, LowerForAll, GrowCast, DealPieces, LowerCount, FirstSide, SecondSide, ScopeBody, AtOnce, Free}
 use Rattle.rayon_machine_places.specs.declared.place.Move.{Move}
 use Rattle.rayon_machine_places.specs.declared.place.Move.TheVariants.{Stay, Enter, StartRun, Back, HandBack, Discard, HandIn, Mark, HandAllBack}
 use Rattle.rayon_machine_places.specs.declared.act.Seen.{Seen}
 use Rattle.rayon_machine_places.specs.declared.act.Seen.TheVariants.{Done, Opened as Numbers}
 use Rattle.rayon_machine_places.specs.declared.event.Event.{Event}
-use Rattle.rayon_machine_places.specs.declared.event.Event.TheVariants.{Go, From, Refuse, Miss, End, Spawn, Fifo, Install, Join, Yield, YieldLocal, EndPool, Cast, Scope as OpenScope, IntoSpawn, IntoFifo, IntoCast, Broadcast}
+use Rattle.rayon_machine_places.specs.declared.event.Event.TheVariants.{Go}
 use Rattle.rayon_machine_places.specs.declared.shape.PoolShape.{PoolShape}
 use Rattle.rayon_machine_places.specs.declared.state.Whereabouts.{Whereabouts}
 use Rattle.rayon_machine_places.specs.declared.state.Whereabouts.TheVariants.{Made, Retaken, Running, Over}
@@ -36,13 +35,14 @@ use Rattle.rayon_machine_places.specs.declared.state.Scope.{Scope}
 use Rattle.rayon_machine_places.specs.declared.state.Slot.{Slot as SlotState}
 use Rattle.rayon_machine_places.specs.declared.state.Slot.TheVariants.{Closed, Open as IsOpen, Filled}
 use Rattle.rayon_machine_places.specs.Readers.{is_done}
-use Rattle.rayon_machine_places.specs.Places.{same_party, is_free, is_member, act_of, next_of, own_pool, own_index, next_steal, next_yield, not_self, next_victim, plan_book, count_book, count_kind, after_push, end_cast, undo, begin_feed, begin_cast, count_call, gather_all, goes_on}
+use Rattle.rayon_machine_places.specs.Places.{same_party, act_of, next_of, count_book, count_kind, begin_feed, begin_cast, count_call, gather_all, goes_on}
 use Rattle.rayon_machine_places.specs.World.{Shape, Stack, World, Part, counts_at, target_pool, target_worker, target_call, at_job, filled, is_open}
-use Rattle.rayon_machine_places.specs.Steps.{put, put_stack, put_pieces, back, with_stack, after_move, after_resume, after_close, after_call, jobs_after, is_piece, marked, after_choice, after_refusal, after_miss, after_end, after_spawn, after_feed, after_deal, after_gather, after_send, after_join, after_scope, after_enter, after_yield, can_miss, holds, is_pool, new_job, new_piece, new_whole, step}
+use Rattle.rayon_machine_places.specs.Steps.{put, put_stack, put_pieces, back, with_stack, after_move, after_resume, after_close, after_call, jobs_after, is_piece, marked, after_feed, after_deal, after_gather, after_send, holds, new_job, new_piece, new_whole, step}
 use Rattle.rayon_machine_places.specs.Runs.{IsRun, start}
 use Rattle.rayon_machine_laws.specs.Once.{IsOnce, is_with, held, one}
 use Rattle.rayon_machine_laws.specs.Fixed.{FixedLaw, slot_stays}
-use Rattle.rayon_machine_laws.proofs.Frame.{acted_keeps, and_parts, either, fifo_cases, if_cond, if_some_and, if_some_map, into_cases, into_cast_cases, into_fifo_cases, piece_new, piece_range, put_new, put_old, put_same, same_party_refl, same_party_true, stack_mine, stack_other}
+use Rattle.rayon_machine_laws.proofs.Cases.{Turn, NoScope, turn_to, with_job, event_cases}
+use Rattle.rayon_machine_laws.proofs.Frame.{acted_keeps, and_parts, either, if_cond, if_some_and, if_some_map, piece_new, piece_range, put_new, put_old, put_same, same_party_refl, same_party_true, stack_mine, stack_other}
 use Rattle.rayon_machine_laws.proofs.Ties.{job_at, outcome}
 use Rattle.rayon_machine_laws.proofs.Claims.{Says}
 use Rattle.rayon_machine_laws.proofs.ClaimRuns.{CallsHold, place_part, unqueued, world_after}
@@ -56,7 +56,7 @@ use Rattle.rayon_machine_laws.proofs.PostEvents.{AllLive, Based, is_act}
 use Rattle.rayon_machine_laws.proofs.Stops.{always_stops, made, run_has}
 use Rattle.rayon_machine_laws.proofs.Records.{after_each}
 use Rattle.rayon_machine_laws.proofs.Holders.{Same, holders_same}
-use Rattle.rayon_machine_laws.proofs.Slots.{Changes, Opened, Plainly, blanks, blanks_hand, drawn_plain, held_top, is_blank, no_blanks, numbers, opens, piece_hand, plain_next, slot_target, uncast_plain}
+use Rattle.rayon_machine_laws.proofs.Slots.{Changes, Opened, Plainly, blanks, blanks_hand, held_top, is_blank, no_blanks, numbers, opens, piece_hand, plain_next, slot_target}
 
 -- a move that numbers nothing
 abbrev NoNumbers : Move → Type 0
@@ -362,43 +362,9 @@ turn_stays w u m t l = elim (m.slot t) [ inl a ↦ ap (slot_stays (w.job t).slot
 slot_at : (w : World) (q : Party) (k : Stack) → is_blank k.top ≡ false → SlotTurn w (with_stack w q k)
 slot_at w q k n = record { party = q; to = k; stack = λ s. refl; slot = λ t. inl (refl, λ d. d); blank = λ b t c. absurd (no_blanks k.top t n c) }
 
-from_slots : (w : World) (q : Party) (x : Place) (fs : List Place) (v : ℕ) → IfSome (after_choice w q (record { top = x; below = fs }) x v) (SlotTurn w)
-from_slots w q (PickVictim k) fs v = if_cond (SlotTurn w) _ _ (λ b. slot_at w q (record { top = StealFrom (record k { victim = not_self (w.shape.pool (own_pool q)).workers (own_index q) v }) ((w.shape.pool (own_pool q)).workers - 2); below = fs }) refl)
-from_slots w q YieldPick fs v = if_cond (SlotTurn w) _ _ (λ b. slot_at w q (record { top = YieldSteal (not_self (w.shape.pool (own_pool q)).workers (own_index q) v) ((w.shape.pool (own_pool q)).workers - 2); below = fs }) refl)
-from_slots w q _ fs v = tt
-
-refuse_slots : (w : World) (q : Party) (x : Place) (fs : List Place) → IfSome (after_refusal w q (record { top = x; below = fs })) (SlotTurn w)
-refuse_slots w q (GrowCall n) fs = slot_at w q (record { top = undo n; below = fs }) refl
-refuse_slots w q (GrowScope o) fs = slot_at w q (record { top = undo (Open o); below = fs }) refl
-refuse_slots w q (OpenSlot n) fs = slot_at w q (record { top = undo n; below = fs }) refl
-refuse_slots w q (PushToken f v) fs = slot_at w q (record { top = TakeFromFifo f; below = fs }) refl
-refuse_slots w q (OpenForAll c) fs = slot_at w q (record { top = LowerForAll c; below = fs }) refl
-refuse_slots w q (GrowCast g) fs = slot_at w q (record { top = undo (Gather g); below = fs }) refl
-refuse_slots w q (DealPieces g) fs = slot_at w q (record { top = undo (Gather g); below = fs }) refl
-refuse_slots w q (PushForAll c) fs = slot_at w q (record { top = end_cast c.count c; below = fs }) (uncast_plain c c.count)
-refuse_slots w q (AddToFifo f) fs = slot_at w q (record { top = after_push (Feed f); below = fs }) (drawn_plain (count_book f.count) (Feed f))
-refuse_slots w q (PushJob n v) fs = slot_at w q (record { top = after_push n; below = fs }) (drawn_plain (plan_book n) n)
-refuse_slots w q _ fs = tt
-
-steal_plain : (g : PoolShape) (q : Party) (k : Wait) (n : ℕ) → is_blank (next_steal g q k n) ≡ false
-steal_plain g q k n = by (n == 0)
-  where
-    by : (b : Bool) → is_blank (if b then PopInjected k else StealFrom (record k { victim = not_self g.workers (own_index q) (next_victim g.workers k.victim) }) (n - 1)) ≡ false
-    by true = refl
-    by false = refl
-
-skip_plain : (g : PoolShape) (q : Party) (v n : ℕ) → is_blank (next_yield g q v n) ≡ false
-skip_plain g q v n = by (n == 0)
-  where
-    by : (b : Bool) → is_blank (if b then YieldPopInjected else YieldSteal (not_self g.workers (own_index q) (next_victim g.workers v)) (n - 1)) ≡ false
-    by true = refl
-    by false = refl
-
-miss_slots : (w : World) (q : Party) (x : Place) (fs : List Place) → IfSome (after_miss w q (record { top = x; below = fs }) x) (SlotTurn w)
-miss_slots w (Worker a b) (StealFrom k n) fs = if_cond (SlotTurn w) (can_miss w a k.victim) _ (λ y. slot_at w (Worker a b) (record { top = next_steal (w.shape.pool a) (Worker a b) k n; below = fs }) (steal_plain (w.shape.pool a) (Worker a b) k n))
-miss_slots w (Worker a b) (YieldSteal v n) fs = if_cond (SlotTurn w) (can_miss w a v) _ (λ y. slot_at w (Worker a b) (record { top = next_yield (w.shape.pool a) (Worker a b) v n; below = fs }) (skip_plain (w.shape.pool a) (Worker a b) v n))
-miss_slots w (Worker a b) _ fs = tt
-miss_slots w (Caller n) _ fs = tt
+turn_plain : (t : Turn) → is_blank (turn_to t) ≡ false
+turn_plain (NoScope o) = refl
+turn_plain _ = refl
 
 on_plain : (f : Place) (d : Ending) → is_live f ≡ true → is_blank (goes_on f d) ≡ false
 on_plain (FirstSide o a) Fine e = refl
@@ -426,19 +392,18 @@ closed_plain t (TokenOf i b) d fs a = resumed_plain fs d a
 closed_plain t (BodyOf c o) d fs a = resumed_plain fs d a
 closed_plain t (WholeOf c o) d fs a = resumed_plain fs d a
 
-end_slots : (w : World) (q : Party) (d : Ending) (x : Place) → IfSome (after_end w q d (w.stack q) x) (SlotTurn w)
-end_slots w q d (Run t k) = record {
+end_slots : (w : World) (q : Party) (d : Ending) (t : ℕ) (k : JobKind) (fs : List Place) → w.stack q ≡ record { top = Run t k; below = fs } → SlotTurn w (record w { stack = put_stack w.stack q (after_close t k d fs); job = put w.job t (at_job (w.job t) (Over d)) })
+end_slots w q d t k fs z = record {
   party = q;
-  to = after_close t k d (w.stack q).below;
+  to = after_close t k d fs;
   stack = λ s. refl;
   slot = λ u. inl (put_same (λ j. j.slot) w.job t (at_job (w.job t) (Over d)) u refl, λ e. done u (u == t) e);
-  blank = λ b u c. absurd (no_blanks (after_close t k d (w.stack q).below).top u (closed_plain t k d (w.stack q).below (b.0)) c);
+  blank = λ b u c. absurd (let a : Based (record { top = Run t k; below = fs }) = subst Based z b in no_blanks (after_close t k d fs).top u (closed_plain t k d fs (a.0)) c);
 }
   where
     done : (u : ℕ) (z : Bool) → is_done (w.job u).at ≡ true → is_done (if z then at_job (w.job t) (Over d) else w.job u).at ≡ true
     done u true e = refl
     done u false e = e
-end_slots w q d _ = tt
 
 -- a call begins: its jobs have no numbers
 abbrev Given : World → Job → ℕ → Type 0
@@ -467,9 +432,6 @@ deal_given w c f is n t = by (is_piece c t) refl
     by : (z : Bool) → is_piece c t ≡ z → Given w (if z then f (t - c.first) (w.job t) else w.job t) t
     by true e = inr (let a : c.first ≤ t = (piece_range c t e).0 in omega (arith, a, is), n (t - c.first) (w.job t))
     by false e = inl (refl, λ d. d)
-
-spawn_slots : (w : World) (q : Party) (p : ℕ) → IfSome (after_spawn w q p (w.stack q)) (SlotTurn w)
-spawn_slots w q p = if_cond (SlotTurn w) (is_free ((w.stack q).top) && is_pool w.shape p) _ (λ b. begin_slots w _ q (RaiseCount (Detach p w.jobs)) (λ s. refl) (one_given w _ refl) (λ t c. absurd (cc)))
 
 feed_slots : (w : World) (k : Count) (p i : ℕ) → SlotTurn w (after_feed w k p i (w.stack (Worker p i)))
 feed_slots w k p i = begin_slots w (after_feed w k p i (w.stack (Worker p i))) (Worker p i) (RaiseCount (Feed (record { count = k; pool = p; job = w.jobs; token = w.jobs + 1 }))) (λ s. refl) (two_given w first second refl refl)
@@ -511,44 +473,31 @@ sent_slots : (w : World) (q : Party) (p : ℕ) (z : Bool) → SlotTurn w (after_
 sent_slots w q p true = begin_slots w (after_send w q p (w.stack q) true) q (RaiseCount (Here p w.jobs)) (λ s. refl) (one_given w _ refl) (λ t c. absurd (cc))
 sent_slots w q p false = begin_slots w (after_send w q p (w.stack q) false) q (RaiseCount (Send (record { number = w.calls; pool = p; job = w.jobs }))) (λ s. refl) (one_given w _ refl) (λ t c. absurd (cc))
 
-join_slots : (w : World) (q : Party) → IfSome (after_join w q (w.stack q)) (SlotTurn w)
-join_slots w (Caller n) = tt
-join_slots w (Worker a b) = if_cond (SlotTurn w) (is_free (w.stack (Worker a b)).top) _ (λ z. begin_slots w _ (Worker a b) (RaiseCount (Fork (record { number = w.calls; pool = a; job = w.jobs + 1 }) w.jobs)) (λ s. refl) (two_given w _ _ refl refl) (λ t c. absurd (cc)))
-
-scope_slots : (w : World) (q : Party) (p : ℕ) → IfSome (after_scope w q p (w.stack q)) (SlotTurn w)
-scope_slots w q p = if_cond (SlotTurn w) (is_free ((w.stack q).top) && is_pool w.shape p) _ (λ b. begin_slots w _ q (RaiseCount (Open (record { number = w.calls; pool = p; job = w.jobs }))) (λ s. refl) (one_given w _ refl) (λ t c. absurd (cc)))
-
-enter_slots : (w : World) (q : Party) (z : Scope) → IfSome (after_enter w q (w.stack q) (Some z)) (SlotTurn w)
-enter_slots w q z = if_cond (SlotTurn w) (is_free ((w.stack q).top) && holds z.call (w.stack q)) _ (λ b. begin_slots w _ q (RaiseCount (Enter (record { call = z.call; owner = z.owner; pool = z.pool; job = w.jobs }))) (λ s. refl) (one_given w job refl)
-    (λ t c. subst (λ n. (put w.job w.jobs job n).slot ≡ Closed) (sym (eqb-true t w.jobs c)) (ap (λ j. j.slot) (put_new w.job w.jobs job))))
+enter_slots : (w : World) (q : Party) (z : Scope) → SlotTurn w (with_job w q z.pool (Scoped z.call z.owner) (RaiseCount (Enter (record { call = z.call; owner = z.owner; pool = z.pool; job = w.jobs }))))
+enter_slots w q z = begin_slots w _ q (RaiseCount (Enter (record { call = z.call; owner = z.owner; pool = z.pool; job = w.jobs }))) (λ s. refl) (one_given w job refl)
+    (λ t c. subst (λ n. (put w.job w.jobs job n).slot ≡ Closed) (sym (eqb-true t w.jobs c)) (ap (λ j. j.slot) (put_new w.job w.jobs job)))
   where
     job : Job
     job = new_job q z.pool (Scoped z.call z.owner)
 
-yield_slots : (w : World) (q : Party) (x : Place) → is_blank x ≡ false → IfSome (after_yield w q (w.stack q) x) (SlotTurn w)
-yield_slots w (Worker a b) x n = if_cond (SlotTurn w) (is_free ((w.stack (Worker a b)).top)) _ (λ z. slot_at w (Worker a b) (after_call (w.stack (Worker a b)) x) n)
-yield_slots w (Caller c) x n = tt
-
 turns_slots : (w : World) (e : Event) → is_act e ≡ false → IfSome (step w e) (SlotTurn w)
-turns_slots w (Go q) n = cc
-turns_slots w (From q v) n = from_slots w q ((w.stack q).top) ((w.stack q).below) v
-turns_slots w (Refuse q) n = refuse_slots w q ((w.stack q).top) ((w.stack q).below)
-turns_slots w (Miss q) n = miss_slots w q ((w.stack q).top) ((w.stack q).below)
-turns_slots w (End q d) n = end_slots w q d ((w.stack q).top)
-turns_slots w (Spawn q p) n = spawn_slots w q p
-turns_slots w (Fifo q p) n = fifo_cases (SlotTurn w) w q p (spawn_slots w q p) (λ i free. feed_slots w (OfPool p) p i)
-turns_slots w (Cast q p) n = if_cond (SlotTurn w) (is_free ((w.stack q).top) && is_pool w.shape p) _ (λ b. deals_slots w q (OfPool p) p)
-turns_slots w (Install q p) n = if_cond (SlotTurn w) (is_free ((w.stack q).top) && is_pool w.shape p) _ (λ b. sent_slots w q p (is_member q p))
-turns_slots w (Join q) n = join_slots w q
-turns_slots w (OpenScope q p) n = scope_slots w q p
-turns_slots w (IntoSpawn q k) n = into_cases (SlotTurn w) w q k (λ z e free held. enter_slots w q z)
-turns_slots w (IntoFifo q k) n = into_fifo_cases (SlotTurn w) w q k (λ z e free held. enter_slots w q z) (λ z i e free held. feed_slots w (OfScope z.call z.owner) z.pool i)
-turns_slots w (IntoCast q k) n = into_cast_cases (SlotTurn w) w q k (λ z e free held. deals_slots w q (OfScope z.call z.owner) z.pool)
-turns_slots w (Broadcast q p) n = if_cond (SlotTurn w) (is_free ((w.stack q).top) && is_pool w.shape p) _ (λ b. gathers_slots w q p)
-turns_slots w (Yield q) n = yield_slots w q YieldPop refl
-turns_slots w (YieldLocal q) n = yield_slots w q LocalPop refl
-turns_slots w (EndPool q p) n = if_cond (SlotTurn w) (is_free ((w.stack q).top) && (is_pool w.shape p && (w.pool p).held)) _
-    (λ b. record { party = q; to = after_call (w.stack q) (LowerCount (OfPool p) PoolValue Resume); stack = λ s. refl; slot = λ t. inl (refl, λ d. d); blank = λ k t c. absurd (cc) })
+turns_slots w = event_cases (SlotTurn w) w (record {
+  turned = λ q t fs z. slot_at w q (record { top = turn_to t; below = fs }) (turn_plain t);
+  ended = end_slots w;
+  spawned = λ q p f. begin_slots w _ q (RaiseCount (Detach p w.jobs)) (λ s. refl) (one_given w _ refl) (λ t c. absurd (cc));
+  fed = λ p i f. feed_slots w (OfPool p) p i;
+  dealt = λ q p f. deals_slots w q (OfPool p) p;
+  sent = λ q p b e f. sent_slots w q p b;
+  joined = λ p i f. begin_slots w _ (Worker p i) (RaiseCount (Fork (record { number = w.calls; pool = p; job = w.jobs + 1 }) w.jobs)) (λ s. refl) (two_given w _ _ refl refl) (λ t c. absurd (cc));
+  scoped = λ q p f. begin_slots w _ q (RaiseCount (Open (record { number = w.calls; pool = p; job = w.jobs }))) (λ s. refl) (one_given w _ refl) (λ t c. absurd (cc));
+  entered = λ q z k. enter_slots w q z;
+  fed_into = λ i z k. feed_slots w (OfScope z.call z.owner) z.pool i;
+  dealt_into = λ q z k. deals_slots w q (OfScope z.call z.owner) z.pool;
+  gathered = λ q p f. gathers_slots w q p;
+  yielded = λ p i f. slot_at w (Worker p i) (after_call (w.stack (Worker p i)) YieldPop) refl;
+  yielded_local = λ p i f. slot_at w (Worker p i) (after_call (w.stack (Worker p i)) LocalPop) refl;
+  given = λ q p f held. record { party = q; to = after_call (w.stack q) (LowerCount (OfPool p) PoolValue Resume); stack = λ s. refl; slot = λ t. inl (refl, λ d. d); blank = λ k t c. absurd (cc) };
+})
 
 -- what each step makes of the numbers
 record StepSlots (w v : World) : Type 0 where

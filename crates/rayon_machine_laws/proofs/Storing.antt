@@ -3,7 +3,7 @@
 -- StorePiece alone writes what a broadcast keeps (`act_storing`), and makes it the lower of two. Only that place leads
 -- to the Lower of a piece's share (`act_leads`).
 use Rattle.std.proofs.Common.{rules, arith, refl, sym, ◌∙◌, ap, inl, inr}
-use Rattle.std.specs.Prelude.{ℕ, Bool, true, false, ◌+◌, ◌-◌, ◌==◌, ◌≤◌, ◌<◌, nat_lt, min, if◌then◌else◌, Option, Some, None, ◌≡◌, IfSome, ◌⊎◌}
+use Rattle.std.specs.Prelude.{ℕ, Bool, true, false, ◌+◌, ◌-◌, ◌==◌, ◌≤◌, ◌<◌, nat_lt, min, if◌then◌else◌, Option, Some, None, ◌≡◌, IfSome, List, [], ◌∷◌, ◌⊎◌}
 use Rattle.std.proofs.lemmas.Bool.{ltb-true, ltb-false}
 use Rattle.std.proofs.Math.Dec.{ltb}
 use Rattle.std.proofs.Math.Nat.{min-le_left, min-le_right, min-eq_left, min-eq_right}
@@ -28,29 +28,27 @@ use Rattle.rayon_machine_places.specs.declared.place.Plan.TheVariants.{Detach, H
 use Rattle.rayon_machine_places.specs.declared.place.Then.{Then}
 use Rattle.rayon_machine_places.specs.declared.place.Then.TheVariants.{BeginFound, LeaveWait, Resume, Await, RunFirst, Answers, Missing as NoAnswer, Ran, GiveBack, Called, Gathers}
 use Rattle.rayon_machine_places.specs.declared.place.Place.{Place}
-use Rattle.rayon_machine_places.specs.declared.place.Place.TheVariants.{ProbeWorking, GetSleepy, FallAsleep, WakeUp, Run, RaiseCount, PushJob, AddToFifo, TakeFromFifo, RaiseForAll, LowerForAll, TakeResult, LowerCount, StoreResult, StoreBody, StoreSlot, StorePiece, SetLatch, UnlockSettled}
+use Rattle.rayon_machine_places.specs.declared.place.Place.TheVariants.{ProbeWorking, Run, RaiseCount, PushJob, AddToFifo, TakeFromFifo, RaiseForAll, LowerForAll, TakeResult, LowerCount, StoreResult, StoreBody, StoreSlot, StorePiece, SetLatch, UnlockSettled, GrowCall, GrowScope, GrowCast}
 use Rattle.rayon_machine_places.specs.declared.place.Move.{Move}
 use Rattle.rayon_machine_places.specs.declared.place.Move.TheVariants.{Stay, Enter as Into, StartRun, Back, HandBack, HandIn, Discard, Mark, HandAllBack}
 use Rattle.rayon_machine_places.specs.declared.place.OpenCall.{OpenCall}
 use Rattle.rayon_machine_places.specs.declared.place.Settling.{Settling}
 use Rattle.rayon_machine_places.specs.declared.act.Seen.{Seen}
-use Rattle.rayon_machine_places.specs.declared.act.Seen.TheVariants.{Done, Refused, Yes, Task}
-use Rattle.rayon_machine_places.specs.declared.state.Letter.{Letter}
-use Rattle.rayon_machine_places.specs.declared.state.Letter.TheVariants.{Set as IsSet}
+use Rattle.rayon_machine_places.specs.declared.act.Seen.TheVariants.{Done, Refused, Yes, No, Task}
 use Rattle.rayon_machine_places.specs.declared.state.Whereabouts.{Whereabouts}
 use Rattle.rayon_machine_places.specs.declared.state.Whereabouts.TheVariants.{Over, HandedBack, Spent}
 use Rattle.rayon_machine_places.specs.declared.state.Job.{Job}
 use Rattle.rayon_machine_places.specs.declared.shape.PoolShape.{PoolShape}
-use Rattle.rayon_machine_places.specs.Places.{latch_of, act_of, next_of, finish, after_set, begin_cast, begin_feed, ends_count, withdraw, count_book, plan_book, taken_number, end_cast}
-use Rattle.rayon_machine_places.specs.World.{Shape, Counts, Part, letter, with_letter, at_job, begun, effect, raised, all_raised, found, first_fault, lowest_fault, with_piece, put_body, put_slot, put_piece}
+use Rattle.rayon_machine_places.specs.Places.{act_of, next_of, finish, after_set, begin_cast, begin_feed, ends_count, withdraw, count_book, plan_book, taken_number, end_cast}
+use Rattle.rayon_machine_places.specs.World.{Shape, Counts, Part, at_job, begun, effect, raised, lowered, count_in, found, first_fault, lowest_fault, with_piece, put_body, put_slot, put_piece}
 use Rattle.rayon_machine_places.specs.Steps.{put, jobs_after, is_piece, mark_pieces, marked}
 use Rattle.rayon_machine_laws.specs.Once.{one}
+use Rattle.rayon_machine_laws.proofs.Acts.{JobCounted, KeptFault, Cell, writes_at, keeps}
 use Rattle.rayon_machine_laws.proofs.Frame.{either, if_some_all, if_some_map, put_same, book_sees}
 use Rattle.rayon_machine_laws.proofs.Seats.{is_frame}
 use Rattle.rayon_machine_laws.proofs.Tops.{Tops}
 use Rattle.rayon_machine_laws.proofs.Feeds.{fed_move}
 use Rattle.rayon_machine_laws.proofs.Lists.{is_settled, Onward, act_on}
-use Rattle.rayon_machine_laws.proofs.Letters.{sleepy_keeps, asleep_keeps, wake_keeps, set_keeps}
 
 -- the piece whose share is given back once its ending is stored, with its call
 abbrev pub piece_of : Count → Share → Option (ℕ × ℕ)
@@ -149,10 +147,6 @@ lowers_job _ = 0
 abbrev pub Unlowered : Part → Place → Seen × Part → Type 0
 Unlowered m x r = one m.job.counted ≤ one r.1.job.counted + lowers_job x
 
-letter_unlowered : (l : Latch) (m : Part) (x : Place) (e : Seen) (y : Letter) → Unlowered m x (e, with_letter l m y)
-letter_unlowered Terminate m x e y = omega arith
-letter_unlowered (OfCall c) m x e y = omega arith
-
 one_most : (b : Bool) → one b ≤ 1
 one_most true = omega arith
 one_most false = omega arith
@@ -161,25 +155,28 @@ raise_unlowered : (m : Part) (x : Place) (k : Count) (b : Bool) → IfSome (if b
 raise_unlowered m x k true = omega arith
 raise_unlowered m x k false = let a : one m.job.counted ≤ 1 = one_most (m.job.counted) in omega (arith, a)
 
-raise_all_unlowered : (m : Part) (x : Place) (c : Pieces) (b : Bool) → IfSome (if b then Some (Refused, m) else Some (Done, all_raised m c)) (Unlowered m x)
-raise_all_unlowered m x c true = omega arith
-raise_all_unlowered m x c false = omega arith
+-- the acts that write whether a job has a share
+abbrev writes_share : Place → Bool
+writes_share (RaiseCount n) = true
+writes_share (LowerCount k s n) = true
+writes_share _ = false
+
+lowered_unlowered : (m : Part) (k : Count) (s : Share) (n : Then) (e : Seen) → Unlowered m (LowerCount k s n) (e, lowered m k s)
+lowered_unlowered m k (OfJob u) n e = let a : one m.job.counted ≤ 1 = one_most (m.job.counted) in omega (arith, a)
+lowered_unlowered m k _ n e = omega arith
+
+share_writes : (x : Place) → writes_share x ≡ false → writes_at x (JobCounted ∷ []) ≡ false
+share_writes (RaiseCount n) e = cc
+share_writes _ e = cc
+
+share_left : (h : Shape) (q : Party) (c : Counts) (m : Part) (x : Place) → writes_at x (JobCounted ∷ []) ≡ false → IfSome (effect (act_of q x) h q c m) (Unlowered m x)
+share_left h q c m x n = keeps h q c m (λ v r. Unlowered v x r) (JobCounted ∷ []) x n (λ r k. let e : one r.1.job.counted ≡ one m.job.counted = ap one (k.0) in omega (arith, e))
 
 pub act_unlowered : (h : Shape) (q : Party) (c : Counts) (m : Part) (x : Place) → IfSome (effect (act_of q x) h q c m) (Unlowered m x)
-act_unlowered h (Worker a b) c m (ProbeWorking k) = omega arith
-act_unlowered h (Worker a b) c m (GetSleepy k) = sleepy_keeps (latch_of k.target) (λ v. Unlowered v (GetSleepy k)) (λ v e. omega arith) (λ v e y n. letter_unlowered (latch_of k.target) v (GetSleepy k) e y) m (letter (latch_of k.target) m)
-act_unlowered h (Worker a b) c m (FallAsleep k) = asleep_keeps (latch_of k.target) (λ v. Unlowered v (FallAsleep k)) (λ v e. omega arith) (λ v e y n. letter_unlowered (latch_of k.target) v (FallAsleep k) e y) m (letter (latch_of k.target) m)
-act_unlowered h (Worker a b) c m (WakeUp k) = wake_keeps (latch_of k.target) (λ v. Unlowered v (WakeUp k)) (λ v e. omega arith) (λ v e y n. letter_unlowered (latch_of k.target) v (WakeUp k) e y) m (letter (latch_of k.target) m)
-act_unlowered h (Worker a b) c m (SetLatch k) = set_keeps k.latch (λ v. Unlowered v (SetLatch k)) (λ v e. letter_unlowered k.latch v (SetLatch k) e IsSet) m (letter k.latch m)
 act_unlowered h (Worker a b) c m (RaiseCount n) = raise_unlowered m (RaiseCount n) _ _
-act_unlowered h (Worker a b) c m (RaiseForAll n) = raise_all_unlowered m (RaiseForAll n) n _
-act_unlowered h (Worker a b) c m (LowerCount k (OfJob u) n) = let e : one m.job.counted ≤ 1 = one_most (m.job.counted) in omega (arith, e)
-act_unlowered h (Worker a b) c m _ = search (rules, arith)
-act_unlowered h (Caller n) c m (SetLatch k) = set_keeps k.latch (λ v. Unlowered v (SetLatch k)) (λ v e. letter_unlowered k.latch v (SetLatch k) e IsSet) m (letter k.latch m)
-act_unlowered h (Caller g) c m (RaiseCount n) = raise_unlowered m (RaiseCount n) _ _
-act_unlowered h (Caller g) c m (RaiseForAll n) = raise_all_unlowered m (RaiseForAll n) n _
-act_unlowered h (Caller g) c m (LowerCount k (OfJob u) n) = let e : one m.job.counted ≤ 1 = one_most (m.job.counted) in omega (arith, e)
-act_unlowered h (Caller n) c m _ = search (rules, arith)
+act_unlowered h q c m (RaiseCount n) = raise_unlowered m (RaiseCount n) _ _
+act_unlowered h q c m (LowerCount k s n) = lowered_unlowered m k s n (if count_in m k == 1 then Yes else No)
+act_unlowered h q c m x = share_left h q c m x (share_writes x refl)
 
 -- the pieces that a move takes shares from
 abbrev pub unshares : ℕ → Move → ℕ
@@ -276,43 +273,32 @@ is_cell_fault None l = absurd (omega (arith, l))
 abbrev Unstored : Part → Seen × Part → Type 0
 Unstored m r = (r.1.call.fault ≡ m.call.fault) × (cell_fault r.1.call.cell ≤ cell_fault m.call.cell)
 
-letter_unstored : (l : Latch) (m : Part) (e : Seen) (y : Letter) → Unstored m (e, with_letter l m y)
-letter_unstored Terminate m e y = (refl, omega arith)
-letter_unstored (OfCall c) m e y = (refl, omega arith)
-
 found_unstored : (m : Part) (x : Option Ending) → IfSome (found m x) (Unstored m)
 found_unstored m None = (refl, omega arith)
 found_unstored m (Some e) = (refl, omega arith)
 
-raise_unstored : (m : Part) (k : Count) (b : Bool) → IfSome (if b then Some (Refused, m) else Some (Done, raised m k)) (Unstored m)
-raise_unstored m k true = (refl, omega arith)
-raise_unstored m k false = (refl, omega arith)
+-- the acts that empty a cell
+abbrev empties : Place → Bool
+empties (TakeResult o f) = true
+empties (GrowCall n) = true
+empties (GrowScope o) = true
+empties (GrowCast g) = true
+empties _ = false
 
-raise_all_unstored : (m : Part) (c : Pieces) (b : Bool) → IfSome (if b then Some (Refused, m) else Some (Done, all_raised m c)) (Unstored m)
-raise_all_unstored m c true = (refl, omega arith)
-raise_all_unstored m c false = (refl, omega arith)
+store_writes : (x : Place) → is_storing x ≡ false → empties x ≡ false → writes_at x (KeptFault ∷ Cell ∷ []) ≡ false
+store_writes (TakeResult o f) z e = cc
+store_writes _ z e = cc
+
+stored_left : (h : Shape) (q : Party) (c : Counts) (m : Part) (x : Place) → writes_at x (KeptFault ∷ Cell ∷ []) ≡ false → IfSome (effect (act_of q x) h q c m) (Unstored m)
+stored_left h q c m x n = keeps h q c m Unstored (KeptFault ∷ Cell ∷ []) x n (λ r k. (k.0, let e : cell_fault r.1.call.cell ≡ cell_fault m.call.cell = ap cell_fault (k.1.0) in omega (arith, e)))
 
 act_unstored : (h : Shape) (q : Party) (c : Counts) (m : Part) (x : Place) → is_storing x ≡ false → IfSome (effect (act_of q x) h q c m) (Unstored m)
-act_unstored h (Worker a b) c m (ProbeWorking k) z = (refl, omega arith)
-act_unstored h (Worker a b) c m (GetSleepy k) z = sleepy_keeps (latch_of k.target) Unstored (λ v e. (refl, omega arith)) (λ v e y n. letter_unstored (latch_of k.target) v e y) m (letter (latch_of k.target) m)
-act_unstored h (Worker a b) c m (FallAsleep k) z = asleep_keeps (latch_of k.target) Unstored (λ v e. (refl, omega arith)) (λ v e y n. letter_unstored (latch_of k.target) v e y) m (letter (latch_of k.target) m)
-act_unstored h (Worker a b) c m (WakeUp k) z = wake_keeps (latch_of k.target) Unstored (λ v e. (refl, omega arith)) (λ v e y n. letter_unstored (latch_of k.target) v e y) m (letter (latch_of k.target) m)
-act_unstored h (Worker a b) c m (SetLatch k) z = set_keeps k.latch Unstored (λ v e. letter_unstored k.latch v e IsSet) m (letter k.latch m)
-act_unstored h (Worker a b) c m (RaiseCount n) z = raise_unstored m _ _
-act_unstored h (Worker a b) c m (RaiseForAll n) z = raise_all_unstored m n _
 act_unstored h (Worker a b) c m (TakeResult o f) z = found_unstored m m.call.cell
-act_unstored h q c m (StoreResult d o e) z = cc
-act_unstored h q c m (StoreBody o e) z = cc
-act_unstored h q c m (StoreSlot d o t e) z = cc
-act_unstored h q c m (StorePiece d o t e) z = cc
-act_unstored h (Worker a b) c m (LowerCount k s n) z = (refl, omega arith)
-act_unstored h (Worker a b) c m _ z = search (rules, arith)
-act_unstored h (Caller n) c m (SetLatch k) z = set_keeps k.latch Unstored (λ v e. letter_unstored k.latch v e IsSet) m (letter k.latch m)
-act_unstored h (Caller g) c m (RaiseCount n) z = raise_unstored m _ _
-act_unstored h (Caller g) c m (RaiseForAll n) z = raise_all_unstored m n _
-act_unstored h (Caller g) c m (TakeResult o f) z = found_unstored m m.call.cell
-act_unstored h (Caller g) c m (LowerCount k s n) z = (refl, omega arith)
-act_unstored h (Caller n) c m _ z = search (rules, arith)
+act_unstored h q c m (TakeResult o f) z = found_unstored m m.call.cell
+act_unstored h q c m (GrowCall n) z = (refl, omega arith)
+act_unstored h q c m (GrowScope o) z = (refl, omega arith)
+act_unstored h q c m (GrowCast g) z = (refl, omega arith)
+act_unstored h q c m x z = stored_left h q c m x (store_writes x z refl)
 
 -- the piece whose fault an act stores
 abbrev pub blame_of : Place → Option ℕ

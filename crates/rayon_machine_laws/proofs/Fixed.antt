@@ -5,20 +5,18 @@ use Rattle.std.proofs.lemmas.Bool.{eqb-true}
 use Rattle.rayon_machine_places.specs.declared.place.Count.TheVariants.{OfPool, OfScope, OfCast}
 use Rattle.rayon_machine_places.specs.declared.place.Pieces.{Pieces}
 use Rattle.rayon_machine_places.specs.declared.place.Party.{Party}
-use Rattle.rayon_machine_places.specs.declared.place.Party.TheVariants.{Worker, Caller}
-use Rattle.rayon_machine_places.specs.declared.place.Ending.{Ending}
-use Rattle.rayon_machine_places.specs.declared.place.Place.{Place}
-use Rattle.rayon_machine_places.specs.declared.place.Place.TheVariants.{PickVictim, StealFrom, YieldPop, YieldPick, YieldSteal, LocalPop, Run}
 use Rattle.rayon_machine_places.specs.declared.act.Seen.{Seen}
 use Rattle.rayon_machine_places.specs.declared.event.Event.{Event}
-use Rattle.rayon_machine_places.specs.declared.event.Event.TheVariants.{Go, From, Refuse, Miss, End, Spawn, Fifo, Install, Join, Yield, YieldLocal, EndPool, Cast, Scope as OpenScope, IntoSpawn, IntoFifo, IntoCast, Broadcast}
+use Rattle.rayon_machine_places.specs.declared.event.Event.TheVariants.{Go}
 use Rattle.rayon_machine_places.specs.declared.state.Whereabouts.TheVariants.{Over}
 use Rattle.rayon_machine_places.specs.declared.state.Job.{Job}
-use Rattle.rayon_machine_places.specs.Places.{act_of, is_free, is_member}
+use Rattle.rayon_machine_places.specs.Places.{act_of}
 use Rattle.rayon_machine_places.specs.World.{Stack, World, Part, at_job, target_pool, target_worker, target_call}
-use Rattle.rayon_machine_places.specs.Steps.{put, put_pieces, after_choice, after_end, after_gather, after_join, after_miss, after_send, after_yield, is_pool, new_piece, new_whole, step}
+use Rattle.rayon_machine_places.specs.Steps.{put, put_pieces, after_gather, after_send, new_piece, new_whole, step, after_deal}
+use Rattle.rayon_machine_places.specs.declared.place.Count.{Count}
+use Rattle.rayon_machine_laws.proofs.Cases.{is_act, event_cases}
 use Rattle.rayon_machine_laws.proofs.Calm.{part_at, counts_seen, next_at}
-use Rattle.rayon_machine_laws.proofs.Frame.{after_kind, after_pool, after_bound, acted_keeps, either, fifo_cases, if_cond, if_some_map, into_cases, into_cast_cases, into_fifo_cases, piece_old, piece_out, put_old, put_same}
+use Rattle.rayon_machine_laws.proofs.Frame.{after_kind, after_pool, after_bound, acted_keeps, either, if_some_map, piece_old, piece_out, put_old, put_same}
 use Rattle.rayon_machine_laws.proofs.Later.{Static, act_static}
 use Rattle.rayon_machine_laws.proofs.Ties.{job_at, outcome, result}
 
@@ -65,56 +63,39 @@ gather_fixed w q p t m = same_fixed w (after_gather w q p (w.stack q)) t (put_ol
     c : Pieces
     c = record { count = OfCast w.calls q; pool = p; first = w.jobs; workers = (w.shape.pool p).workers }
 
-from_fixed : (w : World) (q : Party) (s : Stack) (x : Place) (v : ℕ) → IfSome (after_choice w q s x v) (FixedOn w)
-from_fixed w q s (PickVictim k) v = if_cond (FixedOn w) _ _ (λ b t m. same_fixed w _ t refl)
-from_fixed w q s YieldPick v = if_cond (FixedOn w) _ _ (λ b t m. same_fixed w _ t refl)
-from_fixed w q s _ v = tt
-
-miss_fixed : (w : World) (q : Party) (s : Stack) (x : Place) → IfSome (after_miss w q s x) (FixedOn w)
-miss_fixed w (Worker a b) s (StealFrom k n) = if_cond (FixedOn w) _ _ (λ b t m. same_fixed w _ t refl)
-miss_fixed w (Worker a b) s (YieldSteal v n) = if_cond (FixedOn w) _ _ (λ b t m. same_fixed w _ t refl)
-miss_fixed w (Worker a b) s _ = tt
-miss_fixed w (Caller n) s _ = tt
-
-end_fixed : (w : World) (q : Party) (d : Ending) (s : Stack) (x : Place) → IfSome (after_end w q d s x) (FixedOn w)
-end_fixed w q d s (Run n k) = λ t m. record {
-  kind = put_same (λ j. j.kind) w.job n (at_job (w.job n) (Over d)) t refl;
-  pool = put_same (λ j. j.pool) w.job n (at_job (w.job n) (Over d)) t refl;
-  bound = put_same (λ j. j.bound) w.job n (at_job (w.job n) (Over d)) t refl;
-}
-end_fixed w q d s _ = tt
-
 sent_fixed : (w : World) (q : Party) (p : ℕ) (b : Bool) → FixedOn w (after_send w q p (w.stack q) b)
 sent_fixed w q p true t m = same_fixed w (after_send w q p (w.stack q) true) t (made_old w w.jobs _ (omega arith) t m)
 sent_fixed w q p false t m = same_fixed w (after_send w q p (w.stack q) false) t (made_old w w.jobs _ (omega arith) t m)
 
-join_fixed : (w : World) (q : Party) → IfSome (after_join w q (w.stack q)) (FixedOn w)
-join_fixed w (Caller n) = tt
-join_fixed w (Worker a b) = if_cond (FixedOn w) (is_free (w.stack (Worker a b)).top) _ (λ z t m. same_fixed w _ t (two_old w _ _ t m))
-
-yield_fixed : (w : World) (q : Party) (x : Place) → IfSome (after_yield w q (w.stack q) x) (FixedOn w)
-yield_fixed w (Worker a b) x = if_cond (FixedOn w) _ _ (λ b t m. same_fixed w _ t refl)
-yield_fixed w (Caller n) x = tt
+event_fixed : (w : World) (e : Event) → is_act e ≡ false → IfSome (step w e) (FixedOn w)
+event_fixed w = event_cases (FixedOn w) w (record {
+  turned = λ q a fs z t m. same_fixed w _ t refl;
+  ended = λ q d n k fs z t m. record {
+    kind = put_same (λ j. j.kind) w.job n (at_job (w.job n) (Over d)) t refl;
+    pool = put_same (λ j. j.pool) w.job n (at_job (w.job n) (Over d)) t refl;
+    bound = put_same (λ j. j.bound) w.job n (at_job (w.job n) (Over d)) t refl;
+  };
+  spawned = λ q p f t m. same_fixed w _ t (made_old w w.jobs _ (omega arith) t m);
+  fed = λ p i f t m. same_fixed w _ t (two_old w _ _ t m);
+  dealt = λ q p f. deals q (OfPool p) p;
+  sent = λ q p b e f. sent_fixed w q p b;
+  joined = λ p i f t m. same_fixed w _ t (two_old w _ _ t m);
+  scoped = λ q p f t m. same_fixed w _ t (made_old w w.jobs _ (omega arith) t m);
+  entered = λ q z k t m. same_fixed w _ t (made_old w w.jobs _ (omega arith) t m);
+  fed_into = λ i z k t m. same_fixed w _ t (two_old w _ _ t m);
+  dealt_into = λ q z k. deals q (OfScope z.call z.owner) z.pool;
+  gathered = λ q p f. gather_fixed w q p;
+  yielded = λ p i f t m. same_fixed w _ t refl;
+  yielded_local = λ p i f t m. same_fixed w _ t refl;
+  given = λ q p f held t m. same_fixed w _ t refl;
+})
+  where
+    deals : (q : Party) (k : Count) (p : ℕ) → FixedOn w (after_deal w q k p (w.stack q))
+    deals q k p t m = same_fixed w _ t (deal_old w (record { count = k; pool = p; first = w.jobs; workers = (w.shape.pool p).workers }) (λ i j. new_piece q k p i) refl t m)
 
 step_fixed : (w : World) (e : Event) → IfSome (step w e) (FixedOn w)
 step_fixed w (Go q) = acted_keeps w q (w.stack q) (target_pool q (act_of q (w.stack q).top)) (target_worker q (act_of q (w.stack q).top)) (target_call (act_of q (w.stack q).top)) (job_at w q (act_of q (w.stack q).top)) (outcome w q (w.stack q)) (FixedOn w) (go_fixed w q)
-step_fixed w (From q v) = from_fixed w q (w.stack q) (w.stack q).top v
-step_fixed w (Refuse q) = if_cond (FixedOn w) _ _ (λ b t m. same_fixed w _ t refl)
-step_fixed w (Miss q) = miss_fixed w q (w.stack q) (w.stack q).top
-step_fixed w (End q d) = end_fixed w q d (w.stack q) (w.stack q).top
-step_fixed w (Spawn q p) = if_cond (FixedOn w) _ _ (λ b t m. same_fixed w _ t (made_old w w.jobs _ (omega arith) t m))
-step_fixed w (Fifo q p) = fifo_cases (FixedOn w) w q p (if_cond (FixedOn w) _ _ (λ b t m. same_fixed w _ t (made_old w w.jobs _ (omega arith) t m))) (λ i free t m. same_fixed w _ t (two_old w _ _ t m))
-step_fixed w (Cast q p) = if_cond (FixedOn w) (is_free ((w.stack q).top) && is_pool w.shape p) _ (λ b t m. same_fixed w _ t (deal_old w (record { count = OfPool p; pool = p; first = w.jobs; workers = (w.shape.pool p).workers }) (λ i j. new_piece q (OfPool p) p i) refl t m))
-step_fixed w (Install q p) = if_cond (FixedOn w) _ _ (λ b. sent_fixed w q p (is_member q p))
-step_fixed w (Join q) = join_fixed w q
-step_fixed w (OpenScope q p) = if_cond (FixedOn w) _ _ (λ b t m. same_fixed w _ t (made_old w w.jobs _ (omega arith) t m))
-step_fixed w (IntoSpawn q n) = into_cases (FixedOn w) w q n (λ z e free held. if_cond (FixedOn w) _ _ (λ b t m. same_fixed w _ t (made_old w w.jobs _ (omega arith) t m)))
-step_fixed w (IntoFifo q n) = into_fifo_cases (FixedOn w) w q n (λ z e free held. if_cond (FixedOn w) _ _ (λ b t m. same_fixed w _ t (made_old w w.jobs _ (omega arith) t m))) (λ z i e free held t m. same_fixed w _ t (two_old w _ _ t m))
-step_fixed w (IntoCast q n) = into_cast_cases (FixedOn w) w q n (λ z e free held t m. same_fixed w _ t (deal_old w (record { count = OfScope z.call z.owner; pool = z.pool; first = w.jobs; workers = (w.shape.pool z.pool).workers }) (λ i j. new_piece q (OfScope z.call z.owner) z.pool i) refl t m))
-step_fixed w (Broadcast q p) = if_cond (FixedOn w) (is_free ((w.stack q).top) && is_pool w.shape p) _ (λ b. gather_fixed w q p)
-step_fixed w (Yield q) = yield_fixed w q YieldPop
-step_fixed w (YieldLocal q) = yield_fixed w q LocalPop
-step_fixed w (EndPool q p) = if_cond (FixedOn w) _ _ (λ b t m. same_fixed w _ t refl)
+step_fixed w e = event_fixed w e refl
 
 pub made_law : (w v : World) (e : Event) (t : ℕ) → step w e ≡ Some v → t < w.jobs → StaysMade w v t
 made_law w v e t s l = (let f : IfSome (Some v) (FixedOn w) = subst (λ o. IfSome o (FixedOn w)) s (step_fixed w e) in f) t (omega (arith, l))

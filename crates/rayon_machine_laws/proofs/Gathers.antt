@@ -20,29 +20,26 @@ use Rattle.rayon_machine_places.specs.declared.place.Pieces.{Pieces}
 use Rattle.rayon_machine_places.specs.declared.place.Plan.TheVariants.{Detach, Here, Send, Fork, Feed, Open, Enter, Gather}
 use Rattle.rayon_machine_places.specs.declared.place.Then.TheVariants.{Resume}
 use Rattle.rayon_machine_places.specs.declared.place.Place.{Place}
-use Rattle.rayon_machine_places.specs.declared.place.Place.TheVariants.{ProbeWorking, PickVictim, StealFrom, PopInjected, YieldPop, YieldPick, YieldSteal, YieldPopInjected, LocalPop, Run, FirstSide, SecondSide, ScopeBody, AtOnce, Free, Stopped, RaiseCount, GrowCall, GrowScope, OpenSlot, PushJob, AddToFifo, PushToken, RaiseForAll, OpenForAll, PushForAll, GrowCast, DealPieces, LowerCount}
-use Rattle.rayon_machine_places.specs.declared.place.Wait.{Wait}
-use Rattle.rayon_machine_places.specs.declared.act.Seen.{Seen}
-use Rattle.rayon_machine_places.specs.declared.act.Seen.TheVariants.{Refused, Missing, Start}
+use Rattle.rayon_machine_places.specs.declared.place.Place.TheVariants.{ProbeWorking, YieldPop, LocalPop, Run, FirstSide, SecondSide, ScopeBody, AtOnce, Free, Stopped, RaiseCount, RaiseForAll, LowerCount}
 use Rattle.rayon_machine_places.specs.declared.event.Event.{Event}
-use Rattle.rayon_machine_places.specs.declared.event.Event.TheVariants.{Go, From, Refuse, Miss, End, Spawn, Fifo, Install, Join, Yield, YieldLocal, EndPool, Cast, Scope as OpenScope, IntoSpawn, IntoFifo, IntoCast, Broadcast}
+use Rattle.rayon_machine_places.specs.declared.event.Event.TheVariants.{Go}
 use Rattle.rayon_machine_places.specs.declared.state.Letter.TheVariants.{Set as IsSet}
 use Rattle.rayon_machine_places.specs.declared.state.Whereabouts.{Whereabouts}
 use Rattle.rayon_machine_places.specs.declared.state.Whereabouts.TheVariants.{Nowhere, Running, Over, Spent}
 use Rattle.rayon_machine_places.specs.declared.state.Job.{Job}
 use Rattle.rayon_machine_places.specs.declared.state.Call.{Call}
 use Rattle.rayon_machine_places.specs.declared.state.Scope.{Scope}
-use Rattle.rayon_machine_places.specs.declared.shape.PoolShape.{PoolShape}
-use Rattle.rayon_machine_places.specs.Places.{fresh, own_pool, own_index, is_member, act_of, next_of, count_kind, count_book, plan_book, goes_on, is_free, next_victim, next_steal, next_yield, not_self, same_party}
+use Rattle.rayon_machine_places.specs.Places.{fresh, act_of, count_kind, count_book, goes_on, same_party}
 use Rattle.rayon_machine_places.specs.World.{Shape, Pool, Stack, World, target_worker, at_job, target_pool, target_call, told}
-use Rattle.rayon_machine_places.specs.Steps.{put, put_stack, put_pieces, after_move, after_choice, after_refusal, can_miss, after_miss, after_close, after_end, after_resume, after_call, is_pool, new_job, new_call, new_piece, new_whole, new_gathering, after_spawn, after_send, after_install, after_join, after_yield, after_end_pool, step, after_feed, after_scope, holds, after_enter, after_deal, after_broadcast}
+use Rattle.rayon_machine_places.specs.Steps.{put, put_stack, put_pieces, after_close, after_resume, after_call, new_job, new_call, new_piece, new_whole, new_gathering, after_send, step, after_feed, after_deal, after_gather}
 use Rattle.rayon_machine_places.specs.Readers.{is_done}
 use Rattle.rayon_machine_places.specs.Runs.{first_place, start, IsRun}
 use Rattle.rayon_machine_laws.specs.Once.{one, runs_in}
 use Rattle.rayon_machine_laws.specs.Shares.{is_busy, is_scoped}
 use Rattle.rayon_machine_laws.specs.Counted.{has_body, is_of_scope}
 use Rattle.rayon_machine_laws.specs.End.{HasEnded, CastTakes}
-use Rattle.rayon_machine_laws.proofs.Frame.{either, piece_new, piece_in, if_some_and, if_some_map, if_cond, acted_keeps, put_same, put_new, put_old, fifo_cases, into_cases, into_fifo_cases, into_cast_cases, piece_old, piece_out}
+use Rattle.rayon_machine_laws.proofs.Cases.{Turn, NoScope, turn_to, is_act, event_cases}
+use Rattle.rayon_machine_laws.proofs.Frame.{either, piece_new, piece_in, if_some_and, if_some_map, acted_keeps, put_same, put_new, put_old, piece_old, piece_out}
 use Rattle.rayon_machine_laws.proofs.Seats.{is_frame}
 use Rattle.rayon_machine_laws.proofs.Ties.{AllFrames, job_at, outcome}
 use Rattle.rayon_machine_laws.proofs.Tops.{FramesOk}
@@ -61,7 +58,7 @@ use Rattle.rayon_machine_laws.proofs.ClaimMakes.{below_new}
 use Rattle.rayon_machine_laws.proofs.Endings.{has_ended}
 use Rattle.rayon_machine_laws.proofs.ShareSteps.{self_one}
 use Rattle.rayon_machine_laws.proofs.Scoping.{ScopesHold, CountOver, count_over, entry_kept, step_scopes, first_scopes}
-use Rattle.rayon_machine_laws.proofs.Storing.{lowers_piece, number_is, Unpieced, drawn_unpieced, end_unpieced, frame_unpieced}
+use Rattle.rayon_machine_laws.proofs.Storing.{lowers_piece, number_is, Unpieced, frame_unpieced}
 use Rattle.rayon_machine_laws.proofs.Gathered.{Least, Blamed, GathersHold, WasKept, WasCell, WasEnded, Passes, is_whole_kind, calls_of, piece_done, gathers_pass, go_passes}
 
 -- a job that is new has not ended, and stands for a broadcast only if it is spent
@@ -179,25 +176,9 @@ call_fresh w v j a b c i d m = let e : i ≡ w.calls = omega (arith, d, m) in su
 no_calls : (w : World) (C : ℕ → Call) (j : ℕ) (i : ℕ) → w.calls ≤ i → i + 1 ≤ w.calls → ((C i).fault ≡ None) × (((C i).cell ≡ None) × ((C i).job + 1 ≤ j))
 no_calls w C j i a b = absurd (omega (arith, a, b))
 
-spawn_stills : (w : World) (q : Party) (p : ℕ) → IfSome (after_spawn w q p (w.stack q)) (Stills w)
-spawn_stills w q p = if_cond (Stills w) (is_free ((w.stack q).top) && is_pool w.shape p) _ (λ f. called_stills w q (RaiseCount (Detach p w.jobs)) w.call (put w.job w.jobs (new_job q p (Detached p))) w.calls (w.jobs + 1) w.scopes refl (omega arith) (omega arith) (one_old w (new_job q p (Detached p))) (λ i b. refl) (one_fresh w (new_job q p (Detached p)) (new_fresh q p (Detached p) refl)) (no_calls w w.call (w.jobs + 1)))
-
 sent_stills : (w : World) (q : Party) (p : ℕ) (b : Bool) → Stills w (after_send w q p (w.stack q) b)
 sent_stills w q p true = called_stills w q (RaiseCount (Here p w.jobs)) w.call (put w.job w.jobs (new_job q p Direct)) w.calls (w.jobs + 1) w.scopes refl (omega arith) (omega arith) (one_old w (new_job q p Direct)) (λ i b. refl) (one_fresh w (new_job q p Direct) (new_fresh q p Direct refl)) (no_calls w w.call (w.jobs + 1))
 sent_stills w q p false = called_stills w q (RaiseCount (Send (record { number = w.calls; pool = p; job = w.jobs }))) (put w.call w.calls (new_call None w.jobs)) (put w.job w.jobs (new_job q p (Stored w.calls q))) (w.calls + 1) (w.jobs + 1) w.scopes refl (omega arith) (omega arith) (one_old w (new_job q p (Stored w.calls q))) (call_old w (new_call None w.jobs)) (one_fresh w (new_job q p (Stored w.calls q)) (new_fresh q p (Stored w.calls q) refl)) (call_fresh w (new_call None w.jobs) (w.jobs + 1) refl refl (omega arith))
-
-install_stills : (w : World) (q : Party) (p : ℕ) → IfSome (after_install w q p (w.stack q)) (Stills w)
-install_stills w q p = if_cond (Stills w) (is_free ((w.stack q).top) && is_pool w.shape p) _ (λ f. sent_stills w q p (is_member q p))
-
-join_stills : (w : World) (q : Party) → IfSome (after_join w q (w.stack q)) (Stills w)
-join_stills w (Caller n) = tt
-join_stills w (Worker p i) = if_cond (Stills w) (is_free ((w.stack (Worker p i)).top)) _ (λ f. called_stills w (Worker p i) (RaiseCount (Fork (record { number = w.calls; pool = p; job = w.jobs + 1 }) w.jobs)) (put w.call w.calls (new_call (Some w.jobs) (w.jobs + 1))) (put (put w.job w.jobs (new_job (Worker p i) p Direct)) (w.jobs + 1) (new_job (Worker p i) p (Stored w.calls (Worker p i)))) (w.calls + 1) (w.jobs + 2) w.scopes refl (omega arith) (omega arith) (two_old w (new_job (Worker p i) p Direct) (new_job (Worker p i) p (Stored w.calls (Worker p i)))) (call_old w (new_call (Some w.jobs) (w.jobs + 1))) (two_fresh w (new_job (Worker p i) p Direct) (new_job (Worker p i) p (Stored w.calls (Worker p i))) (new_fresh (Worker p i) p Direct refl) (new_fresh (Worker p i) p (Stored w.calls (Worker p i)) refl)) (call_fresh w (new_call (Some w.jobs) (w.jobs + 1)) (w.jobs + 2) refl refl (omega arith)))
-
-scope_stills : (w : World) (q : Party) (p : ℕ) → IfSome (after_scope w q p (w.stack q)) (Stills w)
-scope_stills w q p = if_cond (Stills w) (is_free ((w.stack q).top) && is_pool w.shape p) _ (λ f. called_stills w q (RaiseCount (Open (record { number = w.calls; pool = p; job = w.jobs }))) (put w.call w.calls (new_call None w.jobs)) (put w.job w.jobs (new_job q p (BodyOf w.calls q))) (w.calls + 1) (w.jobs + 1) (w.scopes ++ record { call = w.calls; pool = p; owner = q } ∷ []) refl (omega arith) (omega arith) (one_old w (new_job q p (BodyOf w.calls q))) (call_old w (new_call None w.jobs)) (one_fresh w (new_job q p (BodyOf w.calls q)) (new_fresh q p (BodyOf w.calls q) refl)) (call_fresh w (new_call None w.jobs) (w.jobs + 1) refl refl (omega arith)))
-
-enter_stills : (w : World) (q : Party) (z : Scope) → IfSome (after_enter w q (w.stack q) (Some z)) (Stills w)
-enter_stills w q z = if_cond (Stills w) (is_free ((w.stack q).top) && holds z.call (w.stack q)) _ (λ f. called_stills w q (RaiseCount (Enter (record { call = z.call; owner = z.owner; pool = z.pool; job = w.jobs }))) w.call (put w.job w.jobs (new_job q z.pool (Scoped z.call z.owner))) w.calls (w.jobs + 1) w.scopes refl (omega arith) (omega arith) (one_old w (new_job q z.pool (Scoped z.call z.owner))) (λ i b. refl) (one_fresh w (new_job q z.pool (Scoped z.call z.owner)) (new_fresh q z.pool (Scoped z.call z.owner) refl)) (no_calls w w.call (w.jobs + 1)))
 
 count_whole : (k : Count) → is_whole_kind (count_kind k) ≡ false
 count_whole (OfPool p) = refl
@@ -220,8 +201,8 @@ deal_stills w q d p = called_stills w q (RaiseForAll c) w.call (put_pieces c (λ
     c : Pieces
     c = record { count = d; pool = p; first = w.jobs; workers = (w.shape.pool p).workers }
 
-gather_stills : (w : World) (q : Party) (p : ℕ) → IfSome (after_broadcast w q p (w.stack q)) (Stills w)
-gather_stills w q p = if_cond (Stills w) (is_free ((w.stack q).top) && is_pool w.shape p) _ (λ f. called_stills w q (RaiseCount (Gather (record { call = record { number = w.calls; pool = p; job = n }; pieces = c }))) (put w.call w.calls (new_gathering c.workers n)) (put dealt n (new_whole q p w.calls)) (w.calls + 1) (n + 1) w.scopes refl (omega arith) (omega arith) old (call_old w (new_gathering c.workers n)) made (call_fresh w (new_gathering c.workers n) (n + 1) refl refl (omega arith)))
+gather_stills : (w : World) (q : Party) (p : ℕ) → Stills w (after_gather w q p (w.stack q))
+gather_stills w q p = called_stills w q (RaiseCount (Gather (record { call = record { number = w.calls; pool = p; job = n }; pieces = c }))) (put w.call w.calls (new_gathering c.workers n)) (put dealt n (new_whole q p w.calls)) (w.calls + 1) (n + 1) w.scopes refl (omega arith) (omega arith) old (call_old w (new_gathering c.workers n)) made (call_fresh w (new_gathering c.workers n) (n + 1) refl refl (omega arith))
   where
     c : Pieces
     c = record { count = OfCast w.calls q; pool = p; first = w.jobs; workers = (w.shape.pool p).workers }
@@ -241,56 +222,10 @@ gather_stills w q p = if_cond (Stills w) (is_free ((w.stack q).top) && is_pool w
       | inr x ↦ (let d : n ≤ t = ltb-false t n x in let i : t ≡ n = omega (arith, d, m) in subst (λ v. FreshJob (put dealt n (new_whole q p w.calls) v)) (sym i) (subst FreshJob (sym (put_new dealt n (new_whole q p w.calls))) (record { over = λ e. absurd (cc); whole = λ c o e. refl })))
     ]
 
-yield_stills : (w : World) (q : Party) (y : Place) → Unpieced y → IfSome (after_yield w q (w.stack q) y) (Stills w)
-yield_stills w (Worker a b) y n = if_cond (Stills w) (is_free ((w.stack (Worker a b)).top)) _ (λ f. moved_stills w (Worker a b) (after_call (w.stack (Worker a b)) y) w.pool n)
-yield_stills w (Caller c) y n = tt
+turn_unpieced : (t : Turn) → Unpieced (turn_to t)
+turn_unpieced (NoScope o) = refl
+turn_unpieced _ = refl
 
-give_stills : (w : World) (q : Party) (p : ℕ) → IfSome (after_end_pool w q p (w.stack q)) (Stills w)
-give_stills w q p = if_cond (Stills w) (is_free ((w.stack q).top) && (is_pool w.shape p && (w.pool p).held)) _ (λ f. moved_stills w q (after_call (w.stack q) (LowerCount (OfPool p) PoolValue Resume)) (put w.pool p (record (w.pool p) { held = false })) refl)
-
--- a party goes on as if its act had seen this
-seen_stills : (w : World) (q : Party) (g : PoolShape) (x : Place) (fs : List Place) (e : Seen) → Unpieced (after_move (next_of g q x e) fs).top → Stills w (record w { stack = put_stack w.stack q (after_move (next_of g q x e) fs) })
-seen_stills w q g x fs e n = moved_stills w q (after_move (next_of g q x e) fs) w.pool n
-
-from_stills : (w : World) (q : Party) (x : Place) (fs : List Place) (v : ℕ) → IfSome (after_choice w q (record { top = x; below = fs }) x v) (Stills w)
-from_stills w q (PickVictim k) fs v = if_cond (Stills w) (nat_lt v (w.shape.pool (own_pool q)).workers) _ (λ y. seen_stills w q (w.shape.pool (own_pool q)) (PickVictim k) fs (Start v) refl)
-from_stills w q YieldPick fs v = if_cond (Stills w) (nat_lt v (w.shape.pool (own_pool q)).workers) _ (λ y. seen_stills w q (w.shape.pool (own_pool q)) YieldPick fs (Start v) refl)
-from_stills w q _ fs v = tt
-
-refuse_stills : (w : World) (q : Party) (x : Place) (fs : List Place) → IfSome (after_refusal w q (record { top = x; below = fs })) (Stills w)
-refuse_stills w q (GrowCall n) fs = seen_stills w q (w.shape.pool (own_pool q)) (GrowCall n) fs Refused refl
-refuse_stills w q (GrowScope o) fs = seen_stills w q (w.shape.pool (own_pool q)) (GrowScope o) fs Refused refl
-refuse_stills w q (OpenSlot n) fs = seen_stills w q (w.shape.pool (own_pool q)) (OpenSlot n) fs Refused refl
-refuse_stills w q (AddToFifo f) fs = seen_stills w q (w.shape.pool (own_pool q)) (AddToFifo f) fs Refused (drawn_unpieced (count_book f.count) (Feed f))
-refuse_stills w q (PushToken f v) fs = seen_stills w q (w.shape.pool (own_pool q)) (PushToken f v) fs Refused refl
-refuse_stills w q (OpenForAll c) fs = seen_stills w q (w.shape.pool (own_pool q)) (OpenForAll c) fs Refused refl
-refuse_stills w q (PushForAll c) fs = seen_stills w q (w.shape.pool (own_pool q)) (PushForAll c) fs Refused (end_unpieced c c.count)
-refuse_stills w q (GrowCast g) fs = seen_stills w q (w.shape.pool (own_pool q)) (GrowCast g) fs Refused refl
-refuse_stills w q (DealPieces g) fs = seen_stills w q (w.shape.pool (own_pool q)) (DealPieces g) fs Refused refl
-refuse_stills w q (PushJob n v) fs = seen_stills w q (w.shape.pool (own_pool q)) (PushJob n v) fs Refused (drawn_unpieced (plan_book n) n)
-refuse_stills w q _ fs = tt
-
-steal_unpieced : (g : PoolShape) (q : Party) (k : Wait) (n : ℕ) → Unpieced (next_steal g q k n)
-steal_unpieced g q k n = by (n == 0)
-  where
-    by : (b : Bool) → Unpieced (if b then PopInjected k else StealFrom (record k { victim = not_self g.workers (own_index q) (next_victim g.workers k.victim) }) (n - 1))
-    by true = refl
-    by false = refl
-
-yield_unpieced : (g : PoolShape) (q : Party) (v n : ℕ) → Unpieced (next_yield g q v n)
-yield_unpieced g q v n = by (n == 0)
-  where
-    by : (b : Bool) → Unpieced (if b then YieldPopInjected else YieldSteal (not_self g.workers (own_index q) (next_victim g.workers v)) (n - 1))
-    by true = refl
-    by false = refl
-
-miss_stills : (w : World) (q : Party) (x : Place) (fs : List Place) → IfSome (after_miss w q (record { top = x; below = fs }) x) (Stills w)
-miss_stills w (Worker a b) (StealFrom k n) fs = if_cond (Stills w) (can_miss w a k.victim) _ (λ y. seen_stills w (Worker a b) (w.shape.pool a) (StealFrom k n) fs Missing (steal_unpieced (w.shape.pool a) (Worker a b) k n))
-miss_stills w (Worker a b) (YieldSteal v n) fs = if_cond (Stills w) (can_miss w a v) _ (λ y. seen_stills w (Worker a b) (w.shape.pool a) (YieldSteal v n) fs Missing (yield_unpieced (w.shape.pool a) (Worker a b) v n))
-miss_stills w (Worker a b) _ fs = tt
-miss_stills w (Caller n) _ fs = tt
-
--- the end of a run: a piece that has ended still has its share
 goes_unpieced : (f : Place) (e : Ending) → is_frame f ≡ true → Unpieced (goes_on f e)
 goes_unpieced (FirstSide o a) Fine z = refl
 goes_unpieced (FirstSide o a) Fault z = refl
@@ -314,8 +249,8 @@ closed_unpieced t (BodyOf c o) e fs a = resumed_unpieced e fs a
 closed_unpieced t (WholeOf c o) e fs a = resumed_unpieced e fs a
 closed_unpieced t (TokenOf i b) e fs a = resumed_unpieced e fs a
 
-end_passes : (w : World) (q : Party) (d : Ending) (x : Place) (fs : List Place) → w.stack q ≡ record { top = x; below = fs } → GathersHold w → IfSome (after_end w q d (record { top = x; below = fs }) x) (λ u. CallsHold u → Passes w u)
-end_passes w q d (Run t k) fs z h = λ hu. record {
+end_passes : (w : World) (q : Party) (d : Ending) (t : ℕ) (k : JobKind) (fs : List Place) → w.stack q ≡ record { top = Run t k; below = fs } → GathersHold w → CallsHold (ended_world w q d t k fs) → Passes w (ended_world w q d t k fs)
+end_passes w q d t k fs z h = λ hu. record {
   jobs = omega arith;
   target = h.target;
   kinds = λ s b. kind s;
@@ -356,30 +291,32 @@ end_passes w q d (Run t k) fs z h = λ hu. record {
     was : (r : Party) (c s : ℕ) → lowers_piece (w.stack r).top ≡ Some (c, s) → (b : Bool) → (s == t) ≡ b → (if b then at_job (w.job t) (Over d) else w.job s).at ≡ Over Fault → (w.job s).at ≡ Over Fault
     was r c s e false y a = a
     was r c s e true y a = absurd (let i : is_done (w.job s).at ≡ true = piece_done w r ((w.stack r).top) c s e (((calls_of w h).says r).top) in let j : is_done (w.job s).at ≡ false = ap (λ n. is_done (w.job n).at) (eqb-true s t y) ∙ ap is_done running in let n : true ≡ false = sym i ∙ j in cc)
-end_passes w q d _ fs z h = tt
 
-still_passes : (w : World) (o : Option World) → GathersHold w → IfSome o (Stills w) → IfSome o (λ u. CallsHold u → Passes w u)
-still_passes w o h s = if_some_map (Stills w) (λ u. CallsHold u → Passes w u) (λ u m c. stills_pass w u h c m) o s
+event_passes : (w : World) → GathersHold w → (e : Event) → is_act e ≡ false → IfSome (step w e) (λ u. CallsHold u → Passes w u)
+event_passes w h = event_cases (λ u. CallsHold u → Passes w u) w (record {
+  turned = λ q t fs z. pass _ (moved_stills w q (record { top = turn_to t; below = fs }) w.pool (turn_unpieced t));
+  ended = λ q d t k fs z. end_passes w q d t k fs z h;
+  spawned = λ q p f. pass _ (called_stills w q (RaiseCount (Detach p w.jobs)) w.call (put w.job w.jobs (new_job q p (Detached p))) w.calls (w.jobs + 1) w.scopes refl (omega arith) (omega arith) (one_old w (new_job q p (Detached p))) (λ i b. refl) (one_fresh w (new_job q p (Detached p)) (new_fresh q p (Detached p) refl)) (no_calls w w.call (w.jobs + 1)));
+  fed = λ p i f. pass _ (feed_stills w (OfPool p) p i);
+  dealt = λ q p f. pass _ (deal_stills w q (OfPool p) p);
+  sent = λ q p b e f. pass _ (sent_stills w q p b);
+  joined = λ p i f. pass _ (called_stills w (Worker p i) (RaiseCount (Fork (record { number = w.calls; pool = p; job = w.jobs + 1 }) w.jobs)) (put w.call w.calls (new_call (Some w.jobs) (w.jobs + 1))) (put (put w.job w.jobs (new_job (Worker p i) p Direct)) (w.jobs + 1) (new_job (Worker p i) p (Stored w.calls (Worker p i)))) (w.calls + 1) (w.jobs + 2) w.scopes refl (omega arith) (omega arith) (two_old w (new_job (Worker p i) p Direct) (new_job (Worker p i) p (Stored w.calls (Worker p i)))) (call_old w (new_call (Some w.jobs) (w.jobs + 1))) (two_fresh w (new_job (Worker p i) p Direct) (new_job (Worker p i) p (Stored w.calls (Worker p i))) (new_fresh (Worker p i) p Direct refl) (new_fresh (Worker p i) p (Stored w.calls (Worker p i)) refl)) (call_fresh w (new_call (Some w.jobs) (w.jobs + 1)) (w.jobs + 2) refl refl (omega arith)));
+  scoped = λ q p f. pass _ (called_stills w q (RaiseCount (Open (record { number = w.calls; pool = p; job = w.jobs }))) (put w.call w.calls (new_call None w.jobs)) (put w.job w.jobs (new_job q p (BodyOf w.calls q))) (w.calls + 1) (w.jobs + 1) (w.scopes ++ record { call = w.calls; pool = p; owner = q } ∷ []) refl (omega arith) (omega arith) (one_old w (new_job q p (BodyOf w.calls q))) (call_old w (new_call None w.jobs)) (one_fresh w (new_job q p (BodyOf w.calls q)) (new_fresh q p (BodyOf w.calls q) refl)) (call_fresh w (new_call None w.jobs) (w.jobs + 1) refl refl (omega arith)));
+  entered = λ q z k. pass _ (called_stills w q (RaiseCount (Enter (record { call = z.call; owner = z.owner; pool = z.pool; job = w.jobs }))) w.call (put w.job w.jobs (new_job q z.pool (Scoped z.call z.owner))) w.calls (w.jobs + 1) w.scopes refl (omega arith) (omega arith) (one_old w (new_job q z.pool (Scoped z.call z.owner))) (λ i b. refl) (one_fresh w (new_job q z.pool (Scoped z.call z.owner)) (new_fresh q z.pool (Scoped z.call z.owner) refl)) (no_calls w w.call (w.jobs + 1)));
+  fed_into = λ i z k. pass _ (feed_stills w (OfScope z.call z.owner) z.pool i);
+  dealt_into = λ q z k. pass _ (deal_stills w q (OfScope z.call z.owner) z.pool);
+  gathered = λ q p f. pass _ (gather_stills w q p);
+  yielded = λ p i f. pass _ (moved_stills w (Worker p i) (after_call (w.stack (Worker p i)) YieldPop) w.pool refl);
+  yielded_local = λ p i f. pass _ (moved_stills w (Worker p i) (after_call (w.stack (Worker p i)) LocalPop) w.pool refl);
+  given = λ q p f held. pass _ (moved_stills w q (after_call (w.stack q) (LowerCount (OfPool p) PoolValue Resume)) (put w.pool p (record (w.pool p) { held = false })) refl);
+})
+  where
+    pass : (u : World) → Stills w u → CallsHold u → Passes w u
+    pass u m c = stills_pass w u h c m
 
 each_passes : (w : World) (e : Event) → GathersHold w → IfSome (step w e) (λ u. CallsHold u → Passes w u)
 each_passes w (Go q) h = acted_keeps w q (w.stack q) (target_pool q (act_of q ((w.stack q).top))) (target_worker q (act_of q ((w.stack q).top))) (target_call (act_of q ((w.stack q).top))) (job_at w q (act_of q ((w.stack q).top))) (outcome w q (w.stack q)) (λ u. CallsHold u → Passes w u) (if_some_map (λ r. Passes w (world_after w q ((w.stack q).top) ((w.stack q).below) r)) (λ r. CallsHold (world_after w q ((w.stack q).top) ((w.stack q).below) r) → Passes w (world_after w q ((w.stack q).top) ((w.stack q).below) r)) (λ r p c. p) (outcome w q (w.stack q)) (go_passes w q h))
-each_passes w (From q v) h = still_passes w (step w (From q v)) h (from_stills w q ((w.stack q).top) ((w.stack q).below) v)
-each_passes w (Refuse q) h = still_passes w (step w (Refuse q)) h (refuse_stills w q ((w.stack q).top) ((w.stack q).below))
-each_passes w (Miss q) h = still_passes w (step w (Miss q)) h (miss_stills w q ((w.stack q).top) ((w.stack q).below))
-each_passes w (End q d) h = end_passes w q d ((w.stack q).top) ((w.stack q).below) refl h
-each_passes w (Spawn q p) h = still_passes w (step w (Spawn q p)) h (spawn_stills w q p)
-each_passes w (Fifo q p) h = still_passes w (step w (Fifo q p)) h (fifo_cases (Stills w) w q p (spawn_stills w q p) (λ i free. feed_stills w (OfPool p) p i))
-each_passes w (Cast q p) h = still_passes w (step w (Cast q p)) h (if_cond (Stills w) (is_free ((w.stack q).top) && is_pool w.shape p) _ (λ f. deal_stills w q (OfPool p) p))
-each_passes w (Install q p) h = still_passes w (step w (Install q p)) h (install_stills w q p)
-each_passes w (Join q) h = still_passes w (step w (Join q)) h (join_stills w q)
-each_passes w (OpenScope q p) h = still_passes w (step w (OpenScope q p)) h (scope_stills w q p)
-each_passes w (IntoSpawn q n) h = still_passes w (step w (IntoSpawn q n)) h (into_cases (Stills w) w q n (λ z e free held. enter_stills w q z))
-each_passes w (IntoFifo q n) h = still_passes w (step w (IntoFifo q n)) h (into_fifo_cases (Stills w) w q n (λ z e free held. enter_stills w q z) (λ z i e free held. feed_stills w (OfScope z.call z.owner) z.pool i))
-each_passes w (IntoCast q n) h = still_passes w (step w (IntoCast q n)) h (into_cast_cases (Stills w) w q n (λ z e free held. deal_stills w q (OfScope z.call z.owner) z.pool))
-each_passes w (Broadcast q p) h = still_passes w (step w (Broadcast q p)) h (gather_stills w q p)
-each_passes w (Yield q) h = still_passes w (step w (Yield q)) h (yield_stills w q YieldPop refl)
-each_passes w (YieldLocal q) h = still_passes w (step w (YieldLocal q)) h (yield_stills w q LocalPop refl)
-each_passes w (EndPool q p) h = still_passes w (step w (EndPool q p)) h (give_stills w q p)
+each_passes w e h = event_passes w h e refl
 
 pub step_gathers : (w : World) (e : Event) → GathersHold w → IfSome (step w e) GathersHold
 step_gathers w e h = if_some_map (λ u. (ScopesHold u × FramesOk u) × (CallsHold u → Passes w u)) GathersHold (λ u f. gathers_pass w u h ((f.0).0) ((f.0).1) (f.1 ((((f.0).0).shares).calls))) (step w e)

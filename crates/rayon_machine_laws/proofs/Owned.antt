@@ -6,7 +6,6 @@ use Rattle.rayon_machine_places.specs.declared.place.Count.{Count}
 use Rattle.rayon_machine_places.specs.declared.place.Pieces.{Pieces}
 use Rattle.rayon_machine_places.specs.declared.state.Scope.{Scope}
 use Rattle.rayon_machine_places.specs.declared.place.Count.TheVariants.{OfPool, OfScope, OfCast}
-use Rattle.rayon_machine_places.specs.declared.place.Plan.{Plan}
 use Rattle.std.proofs.Common.{arith, refl, sym, ◌∙◌, ap, subst, inl, inr}
 use Rattle.std.specs.Prelude.{ℕ, Bool, true, false, ◌&&◌, ◌+◌, ◌-◌, ◌==◌, ◌<◌, ◌≤◌, nat_lt, if◌then◌else◌, Option, Some, None, List, [], ◌∷◌, ◌≡◌, ◌⊎◌, IfSome, ◌++◌, slice_get, zero, suc}
 use Rattle.std.proofs.lemmas.Bool.{eqb-true, ltb-true, ltb-false}
@@ -21,19 +20,18 @@ use Rattle.rayon_machine_places.specs.declared.place.Plan.TheVariants.{Detach, H
 use Rattle.rayon_machine_places.specs.declared.place.Share.TheVariants.{PoolValue, OfJob}
 use Rattle.rayon_machine_places.specs.declared.place.Then.TheVariants.{Resume}
 use Rattle.rayon_machine_places.specs.declared.place.Place.{Place}
-use Rattle.rayon_machine_places.specs.declared.place.Place.TheVariants.{ProbeWorking, PickVictim, StealFrom, PopInjected, YieldPop, YieldPick, YieldSteal, YieldPopInjected, LocalPop, Run, RaiseCount, GrowCall, PushJob, LowerCount, FirstSide, SecondSide, AtOnce, Free, Stopped, AddToFifo, PushToken, TakeFromFifo, RaiseForAll, PushForAll, LowerForAll, GrowScope, OpenSlot, ScopeBody, OpenForAll, GrowCast, DealPieces}
+use Rattle.rayon_machine_places.specs.declared.place.Place.TheVariants.{ProbeWorking, YieldPop, LocalPop, Run, RaiseCount, LowerCount, FirstSide, SecondSide, AtOnce, Free, Stopped, RaiseForAll, ScopeBody}
 use Rattle.rayon_machine_places.specs.declared.event.Event.{Event}
-use Rattle.rayon_machine_places.specs.declared.event.Event.TheVariants.{Go, From, Refuse, Miss, End, Spawn, Fifo, Install, Join, Yield, YieldLocal, EndPool, Cast, Scope as OpenScope, IntoSpawn, IntoFifo, IntoCast, Broadcast}
+use Rattle.rayon_machine_places.specs.declared.event.Event.TheVariants.{Go}
 use Rattle.rayon_machine_places.specs.declared.state.Whereabouts.TheVariants.{Over}
-use Rattle.rayon_machine_places.specs.declared.shape.PoolShape.{PoolShape}
-use Rattle.rayon_machine_places.specs.declared.place.Wait.{Wait}
 use Rattle.rayon_machine_places.specs.declared.state.Job.{Job}
-use Rattle.rayon_machine_places.specs.Places.{same_party, own_pool, own_index, is_member, fresh, undo, next_victim, not_self, act_of, next_steal, next_yield, goes_on, is_free, after_push, count_kind, plan_book, count_book, end_cast}
+use Rattle.rayon_machine_places.specs.Places.{same_party, fresh, act_of, goes_on, count_kind, count_book}
 use Rattle.rayon_machine_places.specs.World.{Shape, Stack, World, target_pool, target_worker, target_call, at_job}
-use Rattle.rayon_machine_places.specs.Steps.{put, put_stack, with_stack, after_choice, after_refusal, can_miss, after_miss, after_close, after_end, after_call, is_pool, new_job, new_call, after_spawn, after_send, after_install, after_join, after_yield, after_end_pool, step, after_feed, after_fifo, after_cast, is_piece, new_piece, put_pieces, after_scope, after_into, holds, after_deal, after_enter, after_into_fifo, after_into_cast, after_broadcast, after_gather, new_whole, new_gathering}
+use Rattle.rayon_machine_places.specs.Steps.{put, put_stack, with_stack, after_close, after_call, new_job, new_call, after_send, step, after_feed, is_piece, new_piece, put_pieces, after_deal, after_gather, new_whole, new_gathering}
 use Rattle.rayon_machine_places.specs.Runs.{first_place, start}
-use Rattle.rayon_machine_laws.proofs.Frame.{same_party_true, if_some_map, if_cond, acted_keeps, either, put_same, put_new, put_old, fifo_cases, piece_old, piece_out, into_cases, into_fifo_cases, into_cast_cases}
-use Rattle.rayon_machine_laws.proofs.Owners.{own_call, sets_for, NamesFrom, plan_is, shown, count_sets, drawn, ended_names}
+use Rattle.rayon_machine_laws.proofs.Cases.{Turn, NoCall, NoScope, NoCast, NoDeal, turn_from, turn_to, with_job, with_join, with_scope, is_act, event_cases}
+use Rattle.rayon_machine_laws.proofs.Frame.{same_party_true, if_some_map, acted_keeps, either, put_same, put_new, put_old, piece_old, piece_out}
+use Rattle.rayon_machine_laws.proofs.Owners.{own_call, sets_for, NamesFrom, plan_is, shown, count_sets}
 use Rattle.rayon_machine_laws.proofs.Ties.{job_at, outcome}
 use Rattle.rayon_machine_laws.proofs.OwnedActs.{SetsFor, owner_of, Mine, Names, StackNames, Owned, Grown, grown_mine, grown_sets, grown_stack, from_names, nameless, number_of, setter_of, owner_calls, some_shown, go_owned}
 
@@ -84,46 +82,12 @@ turn_bears w q x y fs ow e f =
       named = grown_stack w u ow g q (record { top = y; below = fs }) (record { top = from_names w q x y f s.top; below = s.below });
     }
 
-from_bears : (w : World) (q : Party) (x : Place) (fs : List Place) (v : ℕ) → Owned w → w.stack q ≡ record { top = x; below = fs } → IfSome (after_choice w q (record { top = x; below = fs }) x v) (Bears w)
-from_bears w q (PickVictim k) fs v ow e = if_cond (Bears w) (nat_lt v (w.shape.pool (own_pool q)).workers) _ (λ b. turn_bears w q (PickVictim k) (StealFrom (record k { victim = not_self (w.shape.pool (own_pool q)).workers (own_index q) v }) ((w.shape.pool (own_pool q)).workers - 2)) fs ow e (λ c z. z, λ c p z. z))
-from_bears w q YieldPick fs v ow e = if_cond (Bears w) (nat_lt v (w.shape.pool (own_pool q)).workers) _ (λ b. turn_bears w q YieldPick (YieldSteal (not_self (w.shape.pool (own_pool q)).workers (own_index q) v) ((w.shape.pool (own_pool q)).workers - 2)) fs ow e (λ c z. z, λ c p z. z))
-from_bears w q _ fs v ow e = tt
-
-steal_from : (k : Wait) (n : ℕ) (g : PoolShape) (q : Party) → NamesFrom (StealFrom k n) (next_steal g q k n)
-steal_from k n g q = at (n == 0)
-  where
-    at : (b : Bool) → NamesFrom (StealFrom k n) (if b then PopInjected k else StealFrom (record k { victim = not_self g.workers (own_index q) (next_victim g.workers k.victim) }) (n - 1))
-    at true = (λ c z. z, λ c p z. z)
-    at false = (λ c z. z, λ c p z. z)
-
-yield_from : (v n : ℕ) (g : PoolShape) (q : Party) → NamesFrom (YieldSteal v n) (next_yield g q v n)
-yield_from v n g q = at (n == 0)
-  where
-    at : (b : Bool) → NamesFrom (YieldSteal v n) (if b then YieldPopInjected else YieldSteal (not_self g.workers (own_index q) (next_victim g.workers v)) (n - 1))
-    at true = (λ c z. z, λ c p z. z)
-    at false = (λ c z. z, λ c p z. z)
-
-miss_bears : (w : World) (q : Party) (x : Place) (fs : List Place) → Owned w → w.stack q ≡ record { top = x; below = fs } → IfSome (after_miss w q (record { top = x; below = fs }) x) (Bears w)
-miss_bears w (Worker a b) (StealFrom k n) fs ow e = if_cond (Bears w) (can_miss w a k.victim) _ (λ z. turn_bears w (Worker a b) (StealFrom k n) (next_steal (w.shape.pool a) (Worker a b) k n) fs ow e (steal_from k n (w.shape.pool a) (Worker a b)))
-miss_bears w (Worker a b) (YieldSteal v n) fs ow e = if_cond (Bears w) (can_miss w a v) _ (λ z. turn_bears w (Worker a b) (YieldSteal v n) (next_yield (w.shape.pool a) (Worker a b) v n) fs ow e (yield_from v n (w.shape.pool a) (Worker a b)))
-miss_bears w (Worker a b) _ fs ow e = tt
-miss_bears w (Caller n) _ fs ow e = tt
-
-push_from : (n : Plan) (z : Bool) → NamesFrom (PushJob n z) (after_push n)
-push_from n z = drawn (plan_book n) n
-
-refuse_bears : (w : World) (q : Party) (x : Place) (fs : List Place) → Owned w → w.stack q ≡ record { top = x; below = fs } → IfSome (after_refusal w q (record { top = x; below = fs })) (Bears w)
-refuse_bears w q (GrowCall n) fs ow e = turn_bears w q (GrowCall n) (undo n) fs ow e (λ c z. plan_is n c z, λ c p z. z)
-refuse_bears w q (AddToFifo f) fs ow e = turn_bears w q (AddToFifo f) (after_push (Feed f)) fs ow e (drawn (count_book f.count) (Feed f))
-refuse_bears w q (PushToken f v) fs ow e = turn_bears w q (PushToken f v) (TakeFromFifo f) fs ow e (λ c z. z, λ c p z. z)
-refuse_bears w q (PushForAll b) fs ow e = turn_bears w q (PushForAll b) (end_cast b.count b) fs ow e (ended_names b b.count)
-refuse_bears w q (OpenForAll b) fs ow e = turn_bears w q (OpenForAll b) (LowerForAll b) fs ow e (λ c z. z, λ c p z. z)
-refuse_bears w q (GrowCast g) fs ow e = turn_bears w q (GrowCast g) (undo (Gather g)) fs ow e (λ c z. z, λ c p z. absurd (cc))
-refuse_bears w q (DealPieces g) fs ow e = turn_bears w q (DealPieces g) (undo (Gather g)) fs ow e (λ c z. z, λ c p z. absurd (cc))
-refuse_bears w q (GrowScope o) fs ow e = turn_bears w q (GrowScope o) (undo (Open o)) fs ow e (λ c z. z, λ c p z. absurd (cc))
-refuse_bears w q (OpenSlot n) fs ow e = turn_bears w q (OpenSlot n) (undo n) fs ow e (λ c z. z, λ c p z. z)
-refuse_bears w q (PushJob n z) fs ow e = turn_bears w q (PushJob n z) (after_push n) fs ow e (push_from n z)
-refuse_bears w q _ fs ow e = tt
+turn_names : (t : Turn) → NamesFrom (turn_from t) (turn_to t)
+turn_names (NoCall n) = (λ c z. plan_is n c z, λ c p z. z)
+turn_names (NoScope o) = (λ c z. z, λ c p z. absurd (cc))
+turn_names (NoCast g) = (λ c z. z, λ c p z. absurd (cc))
+turn_names (NoDeal g) = (λ c z. z, λ c p z. absurd (cc))
+turn_names _ = (λ c z. z, λ c p z. z)
 
 goes_on_names : (w : World) (q : Party) (f : Place) (e : Ending) → Names w q f → Names w q (goes_on f e)
 goes_on_names w q (FirstSide o a) Fine n = record { own = λ c z. n.own c z; sets = λ c p z. absurd (cc) }
@@ -148,8 +112,8 @@ closed_names w q t Direct d (f ∷ fs) s = record { top = goes_on_names w q f d 
 closed_names w q t (TokenOf i b8) d (f ∷ fs) s = record { top = goes_on_names w q f d ((s.below).0); below = (s.below).1 }
 closed_names w q t (BodyOf c9 o9) d (f ∷ fs) s = record { top = goes_on_names w q f d ((s.below).0); below = (s.below).1 }
 
-end_bears : (w : World) (q : Party) (d : Ending) (x : Place) (fs : List Place) → Owned w → w.stack q ≡ record { top = x; below = fs } → IfSome (after_end w q d (record { top = x; below = fs }) x) (Bears w)
-end_bears w q d (Run t k) fs ow e =
+end_bears : (w : World) (q : Party) (d : Ending) (t : ℕ) (k : JobKind) (fs : List Place) → Owned w → w.stack q ≡ record { top = Run t k; below = fs } → Bears w (record w { stack = put_stack w.stack q (after_close t k d fs); job = put w.job t (at_job (w.job t) (Over d)) })
+end_bears w q d t k fs ow e =
     let u : World = record w { stack = put_stack w.stack q (after_close t k d fs); job = put w.job t (at_job (w.job t) (Over d)) } in
     let same : (n : ℕ) → (u.job n).kind ≡ (w.job n).kind = λ n. put_same (λ j. j.kind) w.job t (at_job (w.job t) (Over d)) n refl in
     let g : Grown w u = record { calls = omega arith; call = λ c l. refl; kind = λ n l. same n } in
@@ -163,7 +127,6 @@ end_bears w q d (Run t k) fs ow e =
       scopes = λ n z e. grown_mine w u ow g z.owner z.call (ow.scopes n z e);
       named = grown_stack w u ow g q (after_close t k d fs) (closed_names w q t k d fs (same_stack w q (Run t k) fs ow e));
     }
-end_bears w q d _ fs ow e = tt
 
 -- a new job, of a call that was there or of none
 owned_job : (w : World) (q : Party) (t : ℕ) (v : Job) (f : Party → Stack) → Owned w → w.jobs ≤ t → ((c : ℕ) (o : Party) → owner_of v.kind ≡ Some (c, o) → Mine w o c) → (n : ℕ) → w.jobs ≤ n → Grown w (record w { stack = f; job = put w.job t v; jobs = n }) × ((u c : ℕ) (o : Party) → owner_of (put w.job t v u).kind ≡ Some (c, o) → Mine (record w { stack = f; job = put w.job t v; jobs = n }) o c)
@@ -192,8 +155,8 @@ owned_job w q t v f ow new own n more = (g, kinds)
 called_names : (w u : World) (q : Party) (y : Place) → Owned w → Grown w u → Names u q y → StackNames u q (after_call (w.stack q) y)
 called_names w u q y ow g n = let s : StackNames u q (w.stack q) = grown_stack w u ow g q (w.stack q) (ow.named q) in record { top = n; below = (s.top, s.below) }
 
-spawn_bears : (w : World) (q : Party) (p : ℕ) → Owned w → IfSome (after_spawn w q p (w.stack q)) (Bears w)
-spawn_bears w q p ow = if_cond (Bears w) (is_free ((w.stack q).top) && is_pool w.shape p) _ (λ b.
+spawn_bears : (w : World) (q : Party) (p : ℕ) → Owned w → Bears w (with_job w q p (Detached p) (RaiseCount (Detach p w.jobs)))
+spawn_bears w q p ow =
     let y : Place = RaiseCount (Detach p w.jobs) in
     let v : Job = new_job q p (Detached p) in
     let h = owned_job w q w.jobs v (put_stack w.stack q (after_call (w.stack q) y)) ow (omega arith) (λ c o z. absurd (cc)) (w.jobs + 1) (omega arith) in
@@ -207,7 +170,7 @@ spawn_bears w q p ow = if_cond (Bears w) (is_free ((w.stack q).top) && is_pool w
       called = λ c l. (let z : (w.call c).job < w.jobs = ow.called c l in omega arith);
       scopes = λ n z e. grown_mine w u ow (h.0) z.owner z.call (ow.scopes n z e);
       named = called_names w u q y ow (h.0) (nameless u q y refl refl);
-    })
+    }
 
 -- the call of a count is there, and its owner's
 abbrev OwnsCount : World → Count → Type 0
@@ -258,9 +221,6 @@ feed_bears w k p i known ow = record {
     kinds n c o false true h = grown_mine w u ow g o c (known c o h)
     kinds n c o false false h = grown_mine w u ow g o c (ow.kinds n c o h)
 
-fifo_bears : (w : World) (q : Party) (p : ℕ) → Owned w → IfSome (after_fifo w q p (w.stack q)) (Bears w)
-fifo_bears w q p ow = fifo_cases (Bears w) w q p (spawn_bears w q p ow) (λ i free. feed_bears w (OfPool p) p i (pool_counts w p) ow)
-
 deal_bears : (w : World) (q : Party) (k : Count) (p : ℕ) → OwnsCount w k → Owned w → Bears w (after_deal w q k p (w.stack q))
 deal_bears w q k p known ow =
     let y : Place = RaiseForAll b in
@@ -290,12 +250,6 @@ deal_bears w q k p known ow =
         at : (z : Bool) → owner_of (if z then new_piece q k p (m - b.first) else w.job m).kind ≡ Some (c, o) → Mine u o c
         at true h = grown_mine w u ow g o c (known c o h)
         at false h = grown_mine w u ow g o c (ow.kinds m c o h)
-
-cast_bears : (w : World) (q : Party) (p : ℕ) → Owned w → IfSome (after_cast w q p (w.stack q)) (Bears w)
-cast_bears w q p ow = if_cond (Bears w) (is_free ((w.stack q).top) && is_pool w.shape p) _ (λ f. deal_bears w q (OfPool p) p (pool_counts w p) ow)
-
-into_cast_bears : (w : World) (q : Party) (n : ℕ) → Owned w → IfSome (after_into_cast w q n (w.stack q)) (Bears w)
-into_cast_bears w q n ow = into_cast_cases (Bears w) w q n (λ z e free held. deal_bears w q (OfScope z.call z.owner) z.pool (scope_counts w z.call z.owner (ow.scopes n z e)) ow)
 
 here_bears : (w : World) (q : Party) (p : ℕ) → Owned w → Bears w (after_send w q p (w.stack q) true)
 here_bears w q p ow =
@@ -399,15 +353,8 @@ sent_bears w q p ow = new_bears w u q w.jobs y ow new (λ r. refl) refl refl
       others = λ n c o h. other n c o (n == w.jobs) refl h;
     }
 
-install_bears : (w : World) (q : Party) (p : ℕ) → Owned w → IfSome (after_install w q p (w.stack q)) (Bears w)
-install_bears w q p ow = if_cond (Bears w) (is_free ((w.stack q).top) && is_pool w.shape p) _ (λ e. by_member (is_member q p))
-  where
-    by_member : (b : Bool) → Bears w (after_send w q p (w.stack q) b)
-    by_member true = here_bears w q p ow
-    by_member false = sent_bears w q p ow
-
-scope_bears : (w : World) (q : Party) (p : ℕ) → Owned w → IfSome (after_scope w q p (w.stack q)) (Bears w)
-scope_bears w q p ow = if_cond (Bears w) (is_free ((w.stack q).top) && is_pool w.shape p) u (λ e. new_bears w u q w.jobs y ow new (λ r. refl) refl refl)
+scope_bears : (w : World) (q : Party) (p : ℕ) → Owned w → Bears w (with_scope w q p)
+scope_bears w q p ow = new_bears w u q w.jobs y ow new (λ r. refl) refl refl
   where
     y : Place
     y = RaiseCount (Open (record { number = w.calls; pool = p; job = w.jobs }))
@@ -439,8 +386,8 @@ scope_bears w q p ow = if_cond (Bears w) (is_free ((w.stack q).top) && is_pool w
       others = λ n c o h. other n c o (n == w.jobs) refl h;
     }
 
-into_scope : (w : World) (q : Party) (n : ℕ) (z : Scope) → Owned w → slice_get w.scopes n ≡ Some z → IfSome (after_enter w q (w.stack q) (Some z)) (Bears w)
-into_scope w q n z ow e = if_cond (Bears w) (is_free ((w.stack q).top) && holds z.call (w.stack q)) _ (λ b.
+into_scope : (w : World) (q : Party) (n : ℕ) (z : Scope) → Owned w → slice_get w.scopes n ≡ Some z → Bears w (with_job w q z.pool (Scoped z.call z.owner) (RaiseCount (Enter (record { call = z.call; owner = z.owner; pool = z.pool; job = w.jobs }))))
+into_scope w q n z ow e =
     let y : Place = RaiseCount (Enter (record { call = z.call; owner = z.owner; pool = z.pool; job = w.jobs })) in
     let v : Job = new_job q z.pool (Scoped z.call z.owner) in
     let own : Mine w z.owner z.call = ow.scopes n z e in
@@ -455,16 +402,10 @@ into_scope w q n z ow e = if_cond (Bears w) (is_free ((w.stack q).top) && holds 
       called = λ c l. (let z : (w.call c).job < w.jobs = ow.called c l in omega arith);
       scopes = λ n z e. grown_mine w u ow (h.0) z.owner z.call (ow.scopes n z e);
       named = called_names w u q y ow (h.0) (record { own = λ c e. absurd (cc); sets = λ c p e. grown_sets w u ow (h.0) c p (subst (SetsFor w c) (ap some_shown e) (subst (λ a. SetsFor w a (shown z.owner)) (ap number_of e) (own.0, owner_calls (w.job (w.call z.call).job).kind z.call z.owner (own.1)))) });
-    })
+    }
 
-into_bears : (w : World) (q : Party) (n : ℕ) → Owned w → IfSome (after_into w q n (w.stack q)) (Bears w)
-into_bears w q n ow = into_cases (Bears w) w q n (λ z e free held. into_scope w q n z ow e)
-
-into_fifo_bears : (w : World) (q : Party) (n : ℕ) → Owned w → IfSome (after_into_fifo w q n (w.stack q)) (Bears w)
-into_fifo_bears w q n ow = into_fifo_cases (Bears w) w q n (λ z e free held. into_scope w q n z ow e) (λ z i e free held. feed_bears w (OfScope z.call z.owner) z.pool i (scope_counts w z.call z.owner (ow.scopes n z e)) ow)
-
-gather_bears : (w : World) (q : Party) (p : ℕ) → Owned w → IfSome (after_broadcast w q p (w.stack q)) (Bears w)
-gather_bears w q p ow = if_cond (Bears w) (is_free ((w.stack q).top) && is_pool w.shape p) u (λ e. new_bears w u q (w.jobs + b.workers) y ow new (λ r. refl) refl refl)
+gather_bears : (w : World) (q : Party) (p : ℕ) → Owned w → Bears w (after_gather w q p (w.stack q))
+gather_bears w q p ow = new_bears w u q (w.jobs + b.workers) y ow new (λ r. refl) refl refl
   where
     b : Pieces
     b = record { count = OfCast w.calls q; pool = p; first = w.jobs; workers = (w.shape.pool p).workers }
@@ -499,9 +440,8 @@ gather_bears w q p ow = if_cond (Bears w) (is_free ((w.stack q).top) && is_pool 
       others = λ n c o h. other n c o (n == (w.jobs + b.workers)) h;
     }
 
-join_bears : (w : World) (q : Party) → Owned w → IfSome (after_join w q (w.stack q)) (Bears w)
-join_bears w (Caller n) ow = tt
-join_bears w (Worker p i) ow = if_cond (Bears w) (is_free ((w.stack q).top)) u (λ z. new_bears w u q (w.jobs + 1) y ow new (λ r. refl) refl refl)
+join_bears : (w : World) (p i : ℕ) → Owned w → Bears w (with_join w p i)
+join_bears w p i ow = new_bears w u q (w.jobs + 1) y ow new (λ r. refl) refl refl
   where
     q : Party
     q = Worker p i
@@ -539,40 +479,45 @@ join_bears w (Worker p i) ow = if_cond (Bears w) (is_free ((w.stack q).top)) u (
       others = λ n c o h. other n c o (n == (w.jobs + 1)) (n == w.jobs) refl refl h;
     }
 
-yield_bears : (w : World) (q : Party) (x : Place) → Owned w → own_call x ≡ None → sets_for x ≡ None → IfSome (after_yield w q (w.stack q) x) (Bears w)
-yield_bears w (Caller n) x ow a b = tt
-yield_bears w (Worker p i) x ow a b = if_cond (Bears w) (is_free ((w.stack (Worker p i)).top)) _ (λ z.
-    let q : Party = Worker p i in
+yield_bears : (w : World) (q : Party) (x : Place) → Owned w → own_call x ≡ None → sets_for x ≡ None → Bears w (with_stack w q (after_call (w.stack q) x))
+yield_bears w q x ow a b =
     let u : World = with_stack w q (after_call (w.stack q) x) in
     let g : Grown w u = stands w (put_stack w.stack q (after_call (w.stack q) x)) in
-    record { party = q; to = after_call (w.stack q) x; stack = λ r. refl; grown = g; kinds = λ t c o k. grown_mine w u ow g o c (ow.kinds t c o k); called = ow.called; scopes = λ n z e. grown_mine w u ow g z.owner z.call (ow.scopes n z e); named = called_names w u q x ow g (nameless u q x a b) })
+    record { party = q; to = after_call (w.stack q) x; stack = λ r. refl; grown = g; kinds = λ t c o k. grown_mine w u ow g o c (ow.kinds t c o k); called = ow.called; scopes = λ n z e. grown_mine w u ow g z.owner z.call (ow.scopes n z e); named = called_names w u q x ow g (nameless u q x a b) }
 
-give_bears : (w : World) (q : Party) (p : ℕ) → Owned w → IfSome (after_end_pool w q p (w.stack q)) (Bears w)
-give_bears w q p ow = if_cond (Bears w) (is_free ((w.stack q).top) && (is_pool w.shape p && (w.pool p).held)) _ (λ z.
+give_bears : (w : World) (q : Party) (p : ℕ) → Owned w → Bears w (record w { stack = put_stack w.stack q (after_call (w.stack q) (LowerCount (OfPool p) PoolValue Resume)); pool = put w.pool p (record (w.pool p) { held = false }) })
+give_bears w q p ow =
     let y : Place = LowerCount (OfPool p) PoolValue Resume in
     let u : World = record w { stack = put_stack w.stack q (after_call (w.stack q) y); pool = put w.pool p (record (w.pool p) { held = false }) } in
     let g : Grown w u = record { calls = omega arith; call = λ c l. refl; kind = λ t l. refl } in
-    record { party = q; to = after_call (w.stack q) y; stack = λ r. refl; grown = g; kinds = λ t c o k. grown_mine w u ow g o c (ow.kinds t c o k); called = ow.called; scopes = λ n z e. grown_mine w u ow g z.owner z.call (ow.scopes n z e); named = called_names w u q y ow g (nameless u q y refl refl) })
+    record { party = q; to = after_call (w.stack q) y; stack = λ r. refl; grown = g; kinds = λ t c o k. grown_mine w u ow g o c (ow.kinds t c o k); called = ow.called; scopes = λ n z e. grown_mine w u ow g z.owner z.call (ow.scopes n z e); named = called_names w u q y ow g (nameless u q y refl refl) }
+
+event_bears : (w : World) → Owned w → (e : Event) → is_act e ≡ false → IfSome (step w e) (Bears w)
+event_bears w ow = event_cases (Bears w) w (record {
+  turned = λ q t fs z. turn_bears w q (turn_from t) (turn_to t) fs ow z (turn_names t);
+  ended = λ q d t k fs z. end_bears w q d t k fs ow z;
+  spawned = λ q p f. spawn_bears w q p ow;
+  fed = λ p i f. feed_bears w (OfPool p) p i (pool_counts w p) ow;
+  dealt = λ q p f. deal_bears w q (OfPool p) p (pool_counts w p) ow;
+  sent = λ q p b e f. sent q p b;
+  joined = λ p i f. join_bears w p i ow;
+  scoped = λ q p f. scope_bears w q p ow;
+  entered = λ q z k. into_scope w q k.number z ow k.there;
+  fed_into = λ i z k. feed_bears w (OfScope z.call z.owner) z.pool i (scope_counts w z.call z.owner (ow.scopes k.number z k.there)) ow;
+  dealt_into = λ q z k. deal_bears w q (OfScope z.call z.owner) z.pool (scope_counts w z.call z.owner (ow.scopes k.number z k.there)) ow;
+  gathered = λ q p f. gather_bears w q p ow;
+  yielded = λ p i f. yield_bears w (Worker p i) YieldPop ow refl refl;
+  yielded_local = λ p i f. yield_bears w (Worker p i) LocalPop ow refl refl;
+  given = λ q p f held. give_bears w q p ow;
+})
+  where
+    sent : (q : Party) (p : ℕ) (b : Bool) → Bears w (after_send w q p (w.stack q) b)
+    sent q p true = here_bears w q p ow
+    sent q p false = sent_bears w q p ow
 
 pub step_owned : (w : World) (e : Event) → Owned w → IfSome (step w e) Owned
 step_owned w (Go q) ow = acted_keeps w q (w.stack q) (target_pool q (act_of q (w.stack q).top)) (target_worker q (act_of q (w.stack q).top)) (target_call (act_of q (w.stack q).top)) (job_at w q (act_of q (w.stack q).top)) (outcome w q (w.stack q)) Owned (go_owned w ow q)
-step_owned w (From q v) ow = if_some_map (Bears w) Owned (λ u m. bears_owned w u ow m) _ (from_bears w q ((w.stack q).top) ((w.stack q).below) v ow refl)
-step_owned w (Refuse q) ow = if_some_map (Bears w) Owned (λ u m. bears_owned w u ow m) _ (refuse_bears w q ((w.stack q).top) ((w.stack q).below) ow refl)
-step_owned w (Miss q) ow = if_some_map (Bears w) Owned (λ u m. bears_owned w u ow m) _ (miss_bears w q ((w.stack q).top) ((w.stack q).below) ow refl)
-step_owned w (End q d) ow = if_some_map (Bears w) Owned (λ u m. bears_owned w u ow m) _ (end_bears w q d ((w.stack q).top) ((w.stack q).below) ow refl)
-step_owned w (Spawn q p) ow = if_some_map (Bears w) Owned (λ u m. bears_owned w u ow m) _ (spawn_bears w q p ow)
-step_owned w (Fifo q p) ow = if_some_map (Bears w) Owned (λ u m. bears_owned w u ow m) _ (fifo_bears w q p ow)
-step_owned w (Cast q p) ow = if_some_map (Bears w) Owned (λ u m. bears_owned w u ow m) _ (cast_bears w q p ow)
-step_owned w (Install q p) ow = if_some_map (Bears w) Owned (λ u m. bears_owned w u ow m) _ (install_bears w q p ow)
-step_owned w (Join q) ow = if_some_map (Bears w) Owned (λ u m. bears_owned w u ow m) _ (join_bears w q ow)
-step_owned w (OpenScope q p) ow = if_some_map (Bears w) Owned (λ u m. bears_owned w u ow m) _ (scope_bears w q p ow)
-step_owned w (IntoSpawn q n) ow = if_some_map (Bears w) Owned (λ u m. bears_owned w u ow m) _ (into_bears w q n ow)
-step_owned w (IntoFifo q n) ow = if_some_map (Bears w) Owned (λ u m. bears_owned w u ow m) _ (into_fifo_bears w q n ow)
-step_owned w (IntoCast q n) ow = if_some_map (Bears w) Owned (λ u m. bears_owned w u ow m) _ (into_cast_bears w q n ow)
-step_owned w (Broadcast q p) ow = if_some_map (Bears w) Owned (λ u m. bears_owned w u ow m) _ (gather_bears w q p ow)
-step_owned w (Yield q) ow = if_some_map (Bears w) Owned (λ u m. bears_owned w u ow m) _ (yield_bears w q YieldPop ow refl refl)
-step_owned w (YieldLocal q) ow = if_some_map (Bears w) Owned (λ u m. bears_owned w u ow m) _ (yield_bears w q LocalPop ow refl refl)
-step_owned w (EndPool q p) ow = if_some_map (Bears w) Owned (λ u m. bears_owned w u ow m) _ (give_bears w q p ow)
+step_owned w e ow = if_some_map (Bears w) Owned (λ u m. bears_owned w u ow m) (step w e) (event_bears w ow e refl)
 
 first_nameless : (h : Shape) (q : Party) → Names (start h) q (first_place h q)
 first_nameless h (Worker p i) = at (nat_lt i (h.pool p).workers) ((h.pool p).callers_own && (i == 0))

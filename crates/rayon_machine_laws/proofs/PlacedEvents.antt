@@ -3,9 +3,9 @@
 -- A push of the pieces of a broadcast, with its move: `deal_ok`. Pieces are handed back: `all_back`. A join's first
 -- side begins: `start_run`. A refused call hands its jobs back: `hand_back`.
 use Rattle.rayon_machine_places.specs.declared.place.Mark.{Mark as Marking}
-use Rattle.rayon_machine_places.specs.declared.place.Count.{Count}
 use Rattle.rayon_machine_places.specs.declared.place.Gathering.{Gathering}
-use Rattle.rayon_machine_places.specs.declared.place.Count.TheVariants.{OfPool, OfScope, OfCast}
+use Rattle.rayon_machine_places.specs.declared.place.Count.TheVariants.{OfPool}
+use Rattle.rayon_machine_laws.proofs.Cases.{Turn, NoCall, NoScope, NoSlot, NoPush, NoPushIn, NoFifo, NoFifoIn, turn_from, turn_to}
 use Rattle.rayon_machine_laws.proofs.Lists.{times_push}
 use Rattle.rayon_machine_places.specs.declared.act.Seen.{Seen}
 use Rattle.rayon_machine_places.specs.declared.place.Then.{Then}
@@ -26,27 +26,26 @@ use Rattle.rayon_machine_places.specs.declared.place.Plan.TheVariants.{Detach, H
 use Rattle.rayon_machine_places.specs.declared.place.Share.TheVariants.{PoolValue}
 use Rattle.rayon_machine_places.specs.declared.place.Then.TheVariants.{Resume, BeginFound, LeaveWait, Await, RunFirst, Answers, Missing as NoAnswer, Ran, GiveBack, Called, Gathers}
 use Rattle.rayon_machine_places.specs.declared.place.Place.{Place}
-use Rattle.rayon_machine_places.specs.declared.place.Place.TheVariants.{PickVictim, StealFrom, PopInjected, YieldPick, YieldSteal, YieldPopInjected, BeginHere, Run, RaiseCount, GrowCall, PushJob, AddToFifo, PushToken, LowerCount, ProbeWorking, RaiseForAll, PushForAll, SetLatch, UnlockSettled, GrowScope, OpenSlot, OpenForAll, GrowCast, DealPieces}
+use Rattle.rayon_machine_places.specs.declared.place.Place.TheVariants.{BeginHere, Run, RaiseCount, GrowCall, PushJob, AddToFifo, LowerCount, ProbeWorking, RaiseForAll, PushForAll, SetLatch, UnlockSettled, OpenSlot, DealPieces}
 use Rattle.rayon_machine_places.specs.declared.place.Move.{Move}
 use Rattle.rayon_machine_places.specs.declared.place.Move.TheVariants.{Stay, Enter, StartRun, Back, HandBack, Discard, HandIn, Mark, HandAllBack}
-use Rattle.rayon_machine_places.specs.declared.act.Seen.TheVariants.{Refused, Missing, Start, Done, Yes}
+use Rattle.rayon_machine_places.specs.declared.act.Seen.TheVariants.{Refused, Done, Yes}
 use Rattle.rayon_machine_places.specs.declared.state.Whereabouts.{Whereabouts}
 use Rattle.rayon_machine_places.specs.declared.state.Whereabouts.TheVariants.{Nowhere, Made, InDeque, Injected, InFifo, Retaken, Running, Over, HandedBack, Spent, InCast}
 use Rattle.rayon_machine_places.specs.declared.shape.PoolShape.{PoolShape}
-use Rattle.rayon_machine_places.specs.declared.place.Wait.{Wait}
 use Rattle.rayon_machine_places.specs.declared.state.Job.{Job}
 use Rattle.rayon_machine_places.specs.declared.state.Call.{Call}
-use Rattle.rayon_machine_places.specs.Places.{same_party, own_pool, own_index, next_victim, not_self, act_of, next_steal, next_yield, next_of, is_free, finish, after_set, call_all, end_cast, gather_all}
+use Rattle.rayon_machine_places.specs.Places.{same_party, act_of, next_of, finish, after_set, call_all, gather_all, withdraw}
 use Rattle.rayon_machine_places.specs.World.{Seat, Pool, Stack, World, target_pool, target_worker, target_call, at_job, begun, Shape, Counts, Part, counts_at, casts_with, effect, left_book, undealt_after, count_call, count_book}
-use Rattle.rayon_machine_places.specs.Steps.{put, put_stack, put_seat, back, after_move, handed_back, jobs_after, after_choice, after_refusal, can_miss, after_miss, after_call, is_pool, after_yield, after_end_pool, step, after, is_piece, mark_pieces, marked, part_of, put_pieces}
+use Rattle.rayon_machine_places.specs.Steps.{put, put_stack, put_seat, back, after_move, handed_back, jobs_after, after_call, step, after, is_piece, mark_pieces, marked, part_of, put_pieces, with_stack}
 use Rattle.rayon_machine_laws.specs.Once.{one, times, is_known, run_of, runs_in}
-use Rattle.rayon_machine_laws.proofs.Frame.{same_party_true, if_some_map, if_cond, if_some_all, if_some_and, piece_new, piece_old, pieces_same, put_same, same_index}
+use Rattle.rayon_machine_laws.proofs.Frame.{same_party_true, if_some_map, if_some_all, if_some_and, piece_new, piece_old, pieces_same, put_same, same_index}
 use Rattle.rayon_machine_laws.proofs.Ties.{job_at, outcome, result}
 use Rattle.rayon_machine_laws.proofs.Hands.{hand_plan, hand, held_in, held, worked, paused, queues_whole}
-use Rattle.rayon_machine_laws.proofs.Feeds.{fed, fed_in, all_fed, fed_held, fed_after, fed_stacks}
+use Rattle.rayon_machine_laws.proofs.Feeds.{fed, fed_in, all_fed, fed_held, fed_stacks, feds}
 use Rattle.rayon_machine_laws.proofs.Located.{Loc, same_loc, loc_of, loc_at, is_loc, where_is, in_hand, weight, JobsPlaced, fits, JobsFit, is_left, is_past, IsOnward, onward_same, onward_left, onward_past, onward_known, Hand, Work, Deck, Cast, Inj, Line, onward_loc, unbegun}
 pub use Rattle.rayon_machine_laws.proofs.Placed.{hand_push}
-use Rattle.rayon_machine_laws.proofs.Placed.{Kept, JobsOk, Feeds, midway, job_new, job_old, gone_ok, begun_step, back_step, spent_step, go_mid, group_ok, is_dealer, run_push}
+use Rattle.rayon_machine_laws.proofs.Placed.{Kept, JobsOk, Feeds, midway, job_new, job_old, gone_ok, begun_step, back_step, spent_step, go_mid, group_ok, is_dealer}
 
 -- what comes into nobody's hand
 abbrev pub Calm : (ℕ → Job) → (ℕ → Job) → Type 0
@@ -567,60 +566,29 @@ retop_ok w q x fs k e h r le ok un = restack_ok w q k w.pool
     (λ t. let a : worked t (w.stack q) ≡ (run_of t x + runs_in t fs) = ap (worked t) e in let b : worked t k ≡ run_of t x + runs_in t fs = r t in omega (arith, a, b))
     (λ p. refl) (λ p. refl) (λ t. let a : all_fed t (w.stack q) ≡ (fed t x + fed_in t fs) = ap (all_fed t) e in let b : all_fed t k ≤ fed t x + fed_in t fs = le t in omega (arith, a, b)) ok un
 
-pub from_kept : (w : World) (q : Party) (x : Place) (fs : List Place) (v : ℕ) → w.stack q ≡ record { top = x; below = fs } → JobsOk w → Unmade w → IfSome (after_choice w q (record { top = x; below = fs }) x v) (Advance w)
-from_kept w q (PickVictim k) fs v e ok un = if_cond (Advance w) (nat_lt v (w.shape.pool (own_pool q)).workers) _ (λ z. retop_ok w q (PickVictim k) fs _ e (λ t. omega arith) (λ t. omega arith) (λ t. fed_after (w.shape.pool (own_pool q)) q t (PickVictim k) fs (Start v)) ok un)
-from_kept w q YieldPick fs v e ok un = if_cond (Advance w) (nat_lt v (w.shape.pool (own_pool q)).workers) _ (λ z. retop_ok w q YieldPick fs _ e (λ t. omega arith) (λ t. omega arith) (λ t. fed_after (w.shape.pool (own_pool q)) q t YieldPick fs (Start v)) ok un)
-from_kept w q _ fs v e ok un = tt
+turn_hands : (u : ℕ) (t : Turn) → (hand u (turn_to t) ≡ hand u (turn_from t)) × (run_of u (turn_to t) ≡ run_of u (turn_from t))
+turn_hands u (NoScope o) = (refl, refl)
+turn_hands u _ = (refl, refl)
 
-hand_end : (t : ℕ) (c : Pieces) (k : Count) → (hand t (end_cast k c) ≡ one (is_piece c t)) × (run_of t (end_cast k c) ≡ 0)
-hand_end t c (OfPool p) = (refl, refl)
-hand_end t c (OfScope n o) = (refl, refl)
-hand_end t c (OfCast n o) = (refl, refl)
+turn_fed : (g : PoolShape) (q : Party) (u : ℕ) (t : Turn) → fed u (turn_to t) ≤ fed u (turn_from t)
+turn_fed g q u (NoCall n) = feds g q u (GrowCall n) Refused
+turn_fed g q u (NoSlot n) = feds g q u (OpenSlot n) Refused
+turn_fed g q u (NoPush n v e) = subst (λ o. fed u (withdraw o n) ≤ fed u (PushJob n v)) e (feds g q u (PushJob n v) Refused)
+turn_fed g q u (NoPushIn n v c e) = subst (λ o. fed u (withdraw o n) ≤ fed u (PushJob n v)) e (feds g q u (PushJob n v) Refused)
+turn_fed g q u (NoFifo f e) = subst (λ o. fed u (withdraw o (Feed f)) ≤ fed u (AddToFifo f)) e (feds g q u (AddToFifo f) Refused)
+turn_fed g q u (NoFifoIn f c e) = subst (λ o. fed u (withdraw o (Feed f)) ≤ fed u (AddToFifo f)) e (feds g q u (AddToFifo f) Refused)
+turn_fed g q u _ = omega arith
 
-pub refuse_kept : (w : World) (q : Party) (x : Place) (fs : List Place) → w.stack q ≡ record { top = x; below = fs } → JobsOk w → Unmade w → IfSome (after_refusal w q (record { top = x; below = fs })) (Advance w)
-refuse_kept w q (GrowCall n) fs e ok un = retop_ok w q (GrowCall n) fs _ e (λ t. omega arith) (λ t. omega arith) (λ t. fed_after (w.shape.pool (own_pool q)) q t (GrowCall n) fs Refused) ok un
-refuse_kept w q (GrowScope n) fs e ok un = retop_ok w q (GrowScope n) fs _ e (λ t. omega arith) (λ t. omega arith) (λ t. fed_after (w.shape.pool (own_pool q)) q t (GrowScope n) fs Refused) ok un
-refuse_kept w q (OpenSlot n) fs e ok un = retop_ok w q (OpenSlot n) fs _ e (λ t. omega arith) (λ t. omega arith) (λ t. fed_after (w.shape.pool (own_pool q)) q t (OpenSlot n) fs Refused) ok un
-refuse_kept w q (AddToFifo f) fs e ok un = retop_ok w q (AddToFifo f) fs _ e (λ t. ap (λ z. z + held_in t fs) (hand_push t (Feed f))) (λ t. ap (λ z. z + runs_in t fs) (run_push t (Feed f))) (λ t. fed_after (w.shape.pool (own_pool q)) q t (AddToFifo f) fs Refused) ok un
-refuse_kept w q (PushToken f v) fs e ok un = retop_ok w q (PushToken f v) fs _ e (λ t. omega arith) (λ t. omega arith) (λ t. fed_after (w.shape.pool (own_pool q)) q t (PushToken f v) fs Refused) ok un
-refuse_kept w q (OpenForAll c) fs e ok un = retop_ok w q (OpenForAll c) fs _ e (λ t. omega arith) (λ t. omega arith) (λ t. fed_after (w.shape.pool (own_pool q)) q t (OpenForAll c) fs Refused) ok un
-refuse_kept w q (GrowCast d) fs e ok un = retop_ok w q (GrowCast d) fs _ e (λ t. omega arith) (λ t. omega arith) (λ t. fed_after (w.shape.pool (own_pool q)) q t (GrowCast d) fs Refused) ok un
-refuse_kept w q (DealPieces d) fs e ok un = retop_ok w q (DealPieces d) fs _ e (λ t. omega arith) (λ t. omega arith) (λ t. fed_after (w.shape.pool (own_pool q)) q t (DealPieces d) fs Refused) ok un
-refuse_kept w q (PushForAll c) fs e ok un = retop_ok w q (PushForAll c) fs _ e (λ t. ap (λ z. z + held_in t fs) ((hand_end t c c.count).0)) (λ t. ap (λ z. z + runs_in t fs) ((hand_end t c c.count).1)) (λ t. fed_after (w.shape.pool (own_pool q)) q t (PushForAll c) fs Refused) ok un
-refuse_kept w q (PushJob n v) fs e ok un = retop_ok w q (PushJob n v) fs _ e (λ t. ap (λ z. z + held_in t fs) (hand_push t n)) (λ t. ap (λ z. z + runs_in t fs) (run_push t n)) (λ t. fed_after (w.shape.pool (own_pool q)) q t (PushJob n v) fs Refused) ok un
-refuse_kept w q _ fs e ok un = tt
+pub turn_kept : (w : World) (q : Party) (t : Turn) (fs : List Place) → w.stack q ≡ record { top = turn_from t; below = fs } → JobsOk w → Unmade w → Advance w (with_stack w q (record { top = turn_to t; below = fs }))
+turn_kept w q t fs e ok un = retop_ok w q (turn_from t) fs (record { top = turn_to t; below = fs }) e
+    (λ u. ap (λ n. n + held_in u fs) ((turn_hands u t).0)) (λ u. ap (λ n. n + runs_in u fs) ((turn_hands u t).1)) (λ u. let l : fed u (turn_to t) ≤ fed u (turn_from t) = turn_fed (w.shape.pool 0) q u t in omega (arith, l)) ok un
 
-next_steal_none : (g : PoolShape) (q : Party) (k : Wait) (n t : ℕ) → (hand t (next_steal g q k n) ≡ 0) × (run_of t (next_steal g q k n) ≡ 0)
-next_steal_none g q k n t = by (n == 0)
-  where
-    by : (z : Bool) → (hand t (if z then PopInjected k else StealFrom (record k { victim = not_self g.workers (own_index q) (next_victim g.workers k.victim) }) (n - 1)) ≡ 0) × (run_of t (if z then PopInjected k else StealFrom (record k { victim = not_self g.workers (own_index q) (next_victim g.workers k.victim) }) (n - 1)) ≡ 0)
-    by true = (refl, refl)
-    by false = (refl, refl)
+pub yield_kept : (w : World) (q : Party) (x : Place) → ((t : ℕ) → hand t x ≡ 0) → ((t : ℕ) → run_of t x ≡ 0) → ((t : ℕ) → fed t x ≡ 0) → JobsOk w → Unmade w → Advance w (with_stack w q (after_call (w.stack q) x))
+yield_kept w q x h r n ok un = restack_ok w q (after_call (w.stack q) x) w.pool
+    (λ t. let f : hand t x ≡ 0 = h t in omega (arith, f)) (λ t. let f : run_of t x ≡ 0 = r t in omega (arith, f)) (λ p. refl) (λ p. refl) (λ t. let f : fed t x ≡ 0 = n t in omega (arith, f)) ok un
 
-next_yield_none : (g : PoolShape) (q : Party) (v n t : ℕ) → (hand t (next_yield g q v n) ≡ 0) × (run_of t (next_yield g q v n) ≡ 0)
-next_yield_none g q v n t = by (n == 0)
-  where
-    by : (z : Bool) → (hand t (if z then YieldPopInjected else YieldSteal (not_self g.workers (own_index q) (next_victim g.workers v)) (n - 1)) ≡ 0) × (run_of t (if z then YieldPopInjected else YieldSteal (not_self g.workers (own_index q) (next_victim g.workers v)) (n - 1)) ≡ 0)
-    by true = (refl, refl)
-    by false = (refl, refl)
-
-pub miss_kept : (w : World) (q : Party) (x : Place) (fs : List Place) → w.stack q ≡ record { top = x; below = fs } → JobsOk w → Unmade w → IfSome (after_miss w q (record { top = x; below = fs }) x) (Advance w)
-miss_kept w (Worker a b) (StealFrom k n) fs e ok un = if_cond (Advance w) (can_miss w a k.victim) _ (λ z. retop_ok w (Worker a b) (StealFrom k n) fs _ e
-    (λ t. let f : hand t (next_steal (w.shape.pool a) (Worker a b) k n) ≡ 0 = (next_steal_none (w.shape.pool a) (Worker a b) k n t).0 in omega (arith, f))
-    (λ t. let f : run_of t (next_steal (w.shape.pool a) (Worker a b) k n) ≡ 0 = (next_steal_none (w.shape.pool a) (Worker a b) k n t).1 in omega (arith, f)) (λ t. fed_after (w.shape.pool a) (Worker a b) t (StealFrom k n) fs Missing) ok un)
-miss_kept w (Worker a b) (YieldSteal v n) fs e ok un = if_cond (Advance w) (can_miss w a v) _ (λ z. retop_ok w (Worker a b) (YieldSteal v n) fs _ e
-    (λ t. let f : hand t (next_yield (w.shape.pool a) (Worker a b) v n) ≡ 0 = (next_yield_none (w.shape.pool a) (Worker a b) v n t).0 in omega (arith, f))
-    (λ t. let f : run_of t (next_yield (w.shape.pool a) (Worker a b) v n) ≡ 0 = (next_yield_none (w.shape.pool a) (Worker a b) v n t).1 in omega (arith, f)) (λ t. fed_after (w.shape.pool a) (Worker a b) t (YieldSteal v n) fs Missing) ok un)
-miss_kept w (Worker a b) _ fs e ok un = tt
-miss_kept w (Caller n) _ fs e ok un = tt
-
-pub yield_kept : (w : World) (q : Party) (x : Place) → ((t : ℕ) → hand t x ≡ 0) → ((t : ℕ) → run_of t x ≡ 0) → ((t : ℕ) → fed t x ≡ 0) → JobsOk w → Unmade w → IfSome (after_yield w q (w.stack q) x) (Advance w)
-yield_kept w (Worker a b) x h r n ok un = if_cond (Advance w) (is_free ((w.stack (Worker a b)).top)) _ (λ z. restack_ok w (Worker a b) (after_call (w.stack (Worker a b)) x) w.pool
-    (λ t. let f : hand t x ≡ 0 = h t in omega (arith, f)) (λ t. let f : run_of t x ≡ 0 = r t in omega (arith, f)) (λ p. refl) (λ p. refl) (λ t. let f : fed t x ≡ 0 = n t in omega (arith, f)) ok un)
-yield_kept w (Caller m) x h r n ok un = tt
-
-pub give_kept : (w : World) (q : Party) (p : ℕ) → JobsOk w → Unmade w → IfSome (after_end_pool w q p (w.stack q)) (Advance w)
-give_kept w q p ok un = if_cond (Advance w) (is_free ((w.stack q).top) && (is_pool w.shape p && (w.pool p).held)) _ (λ z. restack_ok w q (after_call (w.stack q) (LowerCount (OfPool p) PoolValue Resume)) (put w.pool p (record (w.pool p) { held = false })) (λ t. omega arith) (λ t. omega arith) (λ r. inj r (r == p) refl) (λ r. casts r (r == p) refl) (λ t. omega arith) ok un)
+pub give_kept : (w : World) (q : Party) (p : ℕ) → JobsOk w → Unmade w → Advance w (record w { stack = put_stack w.stack q (after_call (w.stack q) (LowerCount (OfPool p) PoolValue Resume)); pool = put w.pool p (record (w.pool p) { held = false }) })
+give_kept w q p ok un = restack_ok w q (after_call (w.stack q) (LowerCount (OfPool p) PoolValue Resume)) (put w.pool p (record (w.pool p) { held = false })) (λ t. omega arith) (λ t. omega arith) (λ r. inj r (r == p) refl) (λ r. casts r (r == p) refl) (λ t. omega arith) ok un
   where
     inj : (r : ℕ) (z : Bool) → (r == p) ≡ z → (if z then record (w.pool p) { held = false } else w.pool r).injector ≡ (w.pool r).injector
     inj r true z = ap (λ n. (w.pool n).injector) (sym (eqb-true r p z))

@@ -24,23 +24,24 @@ use Rattle.rayon_machine_places.specs.declared.place.Place.{Place}
 use Rattle.rayon_machine_places.specs.declared.place.Place.TheVariants.{ProbeWorking, YieldPop, LocalPop, Run, RaiseCount, FirstSide, Free, Stopped, RaiseForAll}
 use Rattle.rayon_machine_places.specs.declared.act.Seen.{Seen}
 use Rattle.rayon_machine_places.specs.declared.event.Event.{Event}
-use Rattle.rayon_machine_places.specs.declared.event.Event.TheVariants.{Go, From, Refuse, Miss, End, Spawn, Fifo, Install, Join, Yield, YieldLocal, EndPool, Cast as CastEvent, Scope as OpenScope, IntoSpawn, IntoFifo, IntoCast, Broadcast}
+use Rattle.rayon_machine_places.specs.declared.event.Event.TheVariants.{Go}
 use Rattle.rayon_machine_places.specs.declared.state.Whereabouts.{Whereabouts}
 use Rattle.rayon_machine_places.specs.declared.state.Whereabouts.TheVariants.{Nowhere, Made, InDeque, Injected, InFifo, Retaken, Running, Over, HandedBack, Spent, InCast}
 use Rattle.rayon_machine_places.specs.declared.state.Job.{Job}
 use Rattle.rayon_machine_places.specs.declared.state.Call.{Call}
-use Rattle.rayon_machine_places.specs.Places.{same_party, is_member, fresh, act_of, next_of, goes_on, is_free, count_kind, count_book}
+use Rattle.rayon_machine_places.specs.Places.{same_party, fresh, act_of, next_of, goes_on, count_kind, count_book}
 use Rattle.rayon_machine_places.specs.World.{Shape, World, Part, target_pool, target_worker, target_call, at_job}
-use Rattle.rayon_machine_places.specs.Steps.{put, put_stack, after_move, after_close, after_end, after_call, is_pool, new_job, new_call, after_spawn, after_fifo, after_send, after_install, after_join, step, after_cast, is_piece, new_piece, put_pieces, after_scope, after_into, holds, after_enter, after_deal, after_into_fifo, after_into_cast, after_broadcast, new_whole, new_gathering, after_feed}
+use Rattle.rayon_machine_places.specs.Steps.{put, put_stack, after_move, after_close, after_call, new_job, new_call, after_send, step, is_piece, new_piece, put_pieces, after_deal, new_whole, new_gathering, after_feed, after_gather}
 use Rattle.rayon_machine_places.specs.Runs.{first_place, start}
 use Rattle.rayon_machine_laws.specs.Once.{one, in_deque, in_fifo, in_injector, runs_with, is_with, is_known, may_begin, run_of, runs_in, IsOnce, in_cast}
-use Rattle.rayon_machine_laws.proofs.Frame.{either, fifo_cases, same_party_true, if_some_map, if_cond, acted_keeps, piece_in, piece_new, piece_range, into_cases, into_fifo_cases, into_cast_cases}
+use Rattle.rayon_machine_laws.proofs.Cases.{is_act, event_cases}
+use Rattle.rayon_machine_laws.proofs.Frame.{either, same_party_true, if_some_map, acted_keeps, piece_in, piece_new, piece_range}
 use Rattle.rayon_machine_laws.proofs.Ties.{job_at, shape_at, outcome, result}
 use Rattle.rayon_machine_laws.proofs.Hands.{hand_plan, hand, held_in, held, worked}
 use Rattle.rayon_machine_laws.proofs.Feeds.{fed, fed_in, all_fed, fed_held, fed_after, fed_stacks}
 use Rattle.rayon_machine_laws.proofs.Located.{Loc, same_loc, loc_of, loc_at, is_loc, weight, IsPlaced, JobsPlaced, and_true, and_false, make_ok, fits, onward_loc, at_work, Hand, Work, Deck, Cast, Inj, Line}
 use Rattle.rayon_machine_laws.proofs.Placed.{Kept, JobsOk, Feeds, job_new, job_old, gone_ok, Unqueued}
-use Rattle.rayon_machine_laws.proofs.PlacedEvents.{go_kept, Unmade, Known, IsFinal, Advance, FedLess, kept_advance, from_kept, refuse_kept, miss_kept, yield_kept, give_kept}
+use Rattle.rayon_machine_laws.proofs.PlacedEvents.{go_kept, Unmade, Known, IsFinal, Advance, FedLess, kept_advance, yield_kept, give_kept, turn_kept}
 
 hand_goes_on : (t : ℕ) (f : Place) (e : Ending) → (hand t (goes_on f e) ≡ hand t f) × (run_of t (goes_on f e) ≡ run_of t f)
 hand_goes_on t (FirstSide o a) Fine = (refl, refl)
@@ -81,8 +82,8 @@ fed_closed t u (WholeOf c9 o9) e (f ∷ fs) = let a : fed t (goes_on f e) ≤ fe
 fed_closed t u (BodyOf c9 o9) e (f ∷ fs) = let a : fed t (goes_on f e) ≤ fed t f = fed_goes_on t f e in omega (arith, a)
 
 -- a run's end: the job is over, and in no place
-end_kept : (w : World) (q : Party) (d : Ending) (x : Place) (fs : List Place) → w.stack q ≡ record { top = x; below = fs } → JobsOk w → Unmade w → IfSome (after_end w q d (record { top = x; below = fs }) x) (Advance w)
-end_kept w q d (Run u k) fs e ok un = kept_advance w (record w { stack = put_stack w.stack q (after_close u k d fs); job = put w.job u (at_job (w.job u) (Over d)) }) (omega arith) un (fed_stacks w q (after_close u k d fs) closed_fed)
+end_kept : (w : World) (q : Party) (d : Ending) (u : ℕ) (k : JobKind) (fs : List Place) → w.stack q ≡ record { top = Run u k; below = fs } → JobsOk w → Unmade w → Advance w (record w { stack = put_stack w.stack q (after_close u k d fs); job = put w.job u (at_job (w.job u) (Over d)) })
+end_kept w q d u k fs e ok un = kept_advance w (record w { stack = put_stack w.stack q (after_close u k d fs); job = put w.job u (at_job (w.job u) (Over d)) }) (omega arith) un (fed_stacks w q (after_close u k d fs) closed_fed)
     (gone_ok w (record w { stack = put_stack w.stack q (after_close u k d fs); job = put w.job u (at_job (w.job u) (Over d)) }) u (at_job (w.job u) (Over d)) (Work q) None refl shift (job_new w u (at_job (w.job u) (Over d))) (job_old w u (at_job (w.job u) (Over d))) refl (λ z. (refl, (at_work ((w.job u).at) ((w.job u).runs) q z).0, onward_loc ((w.job u).at) (Over d) ((w.job u).runs) (Work q) z refl)) ok)
   where
     closed_fed : (t : ℕ) → all_fed t (after_close u k d fs) ≤ all_fed t (w.stack q)
@@ -105,7 +106,6 @@ end_kept w q d (Run u k) fs e ok un = kept_advance w (record w { stack = put_sta
     shift (Cast p i) t = omega arith
     shift (Inj p) t = omega arith
     shift (Line p i b7) t = omega arith
-end_kept w q d _ fs e ok un = tt
 
 -- the weights where a party's call has new jobs
 called_weight : (w : World) (q : Party) (n : Plan) (l : Loc) (t : ℕ) → weight (record w { stack = put_stack w.stack q (after_call (w.stack q) (RaiseCount n)) }) l t ≡ weight w l t + (if same_loc l (Hand q) then hand_plan t n else 0)
@@ -204,15 +204,9 @@ make_one w q n p k C c h ok un = record {
     fin_by t true z = subst (λ v. IsFinal v (Made q)) (sym (un t (let e : t ≡ w.jobs = eqb-true t w.jobs z in omega (arith, e)))) tt
     fin_by t false z = final_same ((w.job t).at)
 
-spawn_kept : (w : World) (q : Party) (p : ℕ) → JobsOk w → Unmade w → IfSome (after_spawn w q p (w.stack q)) (Advance w)
-spawn_kept w q p ok un = if_cond (Advance w) (is_free ((w.stack q).top) && is_pool w.shape p) _ (λ z. make_one w q (Detach p w.jobs) p (Detached p) w.call w.calls (λ t. refl) ok un)
-
 sent_kept : (w : World) (q : Party) (p : ℕ) (b : Bool) → JobsOk w → Unmade w → Advance w (after_send w q p (w.stack q) b)
 sent_kept w q p true ok un = make_one w q (Here p w.jobs) p Direct w.call w.calls (λ t. refl) ok un
 sent_kept w q p false ok un = make_one w q (Send (record { number = w.calls; pool = p; job = w.jobs })) p (Stored w.calls q) (put w.call w.calls (new_call None w.jobs)) (w.calls + 1) (λ t. refl) ok un
-
-install_kept : (w : World) (q : Party) (p : ℕ) → JobsOk w → Unmade w → IfSome (after_install w q p (w.stack q)) (Advance w)
-install_kept w q p ok un = if_cond (Advance w) (is_free ((w.stack q).top) && is_pool w.shape p) _ (λ z. sent_kept w q p (is_member q p) ok un)
 
 -- the weights with one new job
 abbrev pub mid_of : World → Party → Loc → ℕ → ℕ
@@ -277,28 +271,9 @@ make_two w q n p d k C c is ok un = record {
 rescoped : (w u : World) (l : List Scope) → Advance w u → Advance w (record u { scopes = l })
 rescoped w u l a = record { feeds = a.feeds; placed = a.placed; fit = a.fit; final = a.final; unmade = a.unmade; known = a.known }
 
-scope_kept : (w : World) (q : Party) (p : ℕ) → JobsOk w → Unmade w → IfSome (after_scope w q p (w.stack q)) (Advance w)
-scope_kept w q p ok un = if_cond (Advance w) (is_free ((w.stack q).top) && is_pool w.shape p) _ (λ z. rescoped w _ (w.scopes ++ record { call = w.calls; pool = p; owner = q } ∷ []) (make_one w q (Open (record { number = w.calls; pool = p; job = w.jobs })) p (BodyOf w.calls q) (put w.call w.calls (new_call None w.jobs)) (w.calls + 1) (λ t. refl) ok un))
-
-entered : (w : World) (q : Party) (s : Scope) → JobsOk w → Unmade w → IfSome (after_enter w q (w.stack q) (Some s)) (Advance w)
-entered w q s ok un = if_cond (Advance w) (is_free ((w.stack q).top) && holds s.call (w.stack q)) _ (λ z. make_one w q (Enter (record { call = s.call; owner = s.owner; pool = s.pool; job = w.jobs })) s.pool (Scoped s.call s.owner) w.call w.calls (λ t. refl) ok un)
-
 -- a worker of a pool makes a job with a share of this count for its FIFO list, and a token
 feed_kept : (w : World) (k : Count) (p i : ℕ) → JobsOk w → Unmade w → Advance w (after_feed w k p i (w.stack (Worker p i)))
 feed_kept w k p i ok un = make_two w (Worker p i) (Feed (record { count = k; pool = p; job = w.jobs; token = w.jobs + 1 })) p (count_kind k) (TokenOf i (count_book k)) w.call w.calls (λ t. refl) ok un
-
-into_kept : (w : World) (q : Party) (n : ℕ) → JobsOk w → Unmade w → IfSome (after_into w q n (w.stack q)) (Advance w)
-into_kept w q n ok un = into_cases (Advance w) w q n (λ s e free held. entered w q s ok un)
-
-into_fifo_kept : (w : World) (q : Party) (n : ℕ) → JobsOk w → Unmade w → IfSome (after_into_fifo w q n (w.stack q)) (Advance w)
-into_fifo_kept w q n ok un = into_fifo_cases (Advance w) w q n (λ s e free held. entered w q s ok un) (λ s i e free held. feed_kept w (OfScope s.call s.owner) s.pool i ok un)
-
-join_kept : (w : World) (q : Party) → JobsOk w → Unmade w → IfSome (after_join w q (w.stack q)) (Advance w)
-join_kept w (Caller n) ok un = tt
-join_kept w (Worker p i) ok un = if_cond (Advance w) (is_free ((w.stack (Worker p i)).top)) _ (λ z. make_two w (Worker p i) (Fork (record { number = w.calls; pool = p; job = w.jobs + 1 }) w.jobs) p Direct (Stored w.calls (Worker p i)) (put w.call w.calls (new_call (Some w.jobs) (w.jobs + 1))) (w.calls + 1) (λ t. refl) ok un)
-
-fifo_kept : (w : World) (q : Party) (p : ℕ) → JobsOk w → Unmade w → IfSome (after_fifo w q p (w.stack q)) (Advance w)
-fifo_kept w q p ok un = fifo_cases (Advance w) w q p (spawn_kept w q p ok un) (λ i free. feed_kept w (OfPool p) p i ok un)
 
 -- a call that makes a piece for each worker of a pool
 pieces_kept : (w : World) (q : Party) (k : Count) (p : ℕ) (x : Place) → ((t : ℕ) → hand t x ≡ one (is_piece (record { count = k; pool = p; first = w.jobs; workers = (w.shape.pool p).workers }) t)) → ((t : ℕ) → run_of t x ≡ 0) → ((t : ℕ) → fed t x ≡ one (is_piece (record { count = k; pool = p; first = w.jobs; workers = (w.shape.pool p).workers }) t)) → JobsOk w → Unmade w → Advance w (record w { stack = put_stack w.stack q (after_call (w.stack q) x); job = put_pieces (record { count = k; pool = p; first = w.jobs; workers = (w.shape.pool p).workers }) (λ i j. new_piece q k p i) w.job; jobs = w.jobs + (w.shape.pool p).workers })
@@ -392,12 +367,6 @@ pieces_kept w q k p x ha ra fa ok un = record {
 deal_kept : (w : World) (q : Party) (k : Count) (p : ℕ) → JobsOk w → Unmade w → Advance w (after_deal w q k p (w.stack q))
 deal_kept w q k p ok un = pieces_kept w q k p (RaiseForAll (record { count = k; pool = p; first = w.jobs; workers = (w.shape.pool p).workers })) (λ t. refl) (λ t. refl) (λ t. refl) ok un
 
-cast_kept : (w : World) (q : Party) (p : ℕ) → JobsOk w → Unmade w → IfSome (after_cast w q p (w.stack q)) (Advance w)
-cast_kept w q p ok un = if_cond (Advance w) (is_free ((w.stack q).top) && is_pool w.shape p) _ (λ z. deal_kept w q (OfPool p) p ok un)
-
-into_cast_kept : (w : World) (q : Party) (n : ℕ) → JobsOk w → Unmade w → IfSome (after_into_cast w q n (w.stack q)) (Advance w)
-into_cast_kept w q n ok un = into_cast_cases (Advance w) w q n (λ z e free held. deal_kept w q (OfScope z.call z.owner) z.pool ok un)
-
 -- one number more, which stands for a broadcast and is in no place
 whole_kept : (w u : World) (v : Job) (C : ℕ → Call) (n : ℕ) → v.at ≡ Spent → v.runs ≡ 0 → w.jobs ≤ u.jobs → Unmade w → Advance w u → Advance w (record u { job = put u.job u.jobs v; call = C; calls = n; jobs = u.jobs + 1 })
 whole_kept w u v C n at runs more un a = record {
@@ -435,34 +404,37 @@ whole_kept w u v C n at runs more un a = record {
     feeds f r t b true z = absurd (let m : (u.job t).at ≡ Made r = f r t b in let k : Nowhere ≡ Made r = sym (here t z) ∙ m in cc)
     feeds f r t b false z = f r t b
 
-gather_kept : (w : World) (q : Party) (p : ℕ) → JobsOk w → Unmade w → IfSome (after_broadcast w q p (w.stack q)) (Advance w)
-gather_kept w q p ok un = if_cond (Advance w) (is_free ((w.stack q).top) && is_pool w.shape p) _ (λ z. whole_kept w _ (new_whole q p w.calls) (put w.call w.calls (new_gathering ((w.shape.pool p).workers) (w.jobs + (w.shape.pool p).workers))) (w.calls + 1) refl refl (omega arith) un
-    (pieces_kept w q (OfCast w.calls q) p (RaiseCount (Gather (record { call = record { number = w.calls; pool = p; job = w.jobs + (w.shape.pool p).workers }; pieces = record { count = OfCast w.calls q; pool = p; first = w.jobs; workers = (w.shape.pool p).workers } }))) (λ t. refl) (λ t. refl) (λ t. refl) ok un))
+gather_kept : (w : World) (q : Party) (p : ℕ) → JobsOk w → Unmade w → Advance w (after_gather w q p (w.stack q))
+gather_kept w q p ok un = whole_kept w _ (new_whole q p w.calls) (put w.call w.calls (new_gathering ((w.shape.pool p).workers) (w.jobs + (w.shape.pool p).workers))) (w.calls + 1) refl refl (omega arith) un
+    (pieces_kept w q (OfCast w.calls q) p (RaiseCount (Gather (record { call = record { number = w.calls; pool = p; job = w.jobs + (w.shape.pool p).workers }; pieces = record { count = OfCast w.calls q; pool = p; first = w.jobs; workers = (w.shape.pool p).workers } }))) (λ t. refl) (λ t. refl) (λ t. refl) ok un)
 
 pub go_fed : (w : World) (q : Party) (r : Seen × Part) → FedLess w (result w q (w.stack q) r)
 go_fed w q r = fed_stacks w q (after_move (next_of (shape_at w q (w.stack q)) q ((w.stack q).top) (r.0)) ((w.stack q).below)) (λ t. fed_after (shape_at w q (w.stack q)) q t ((w.stack q).top) ((w.stack q).below) (r.0))
+
+event_advances : (w : World) → JobsOk w → Unmade w → (e : Event) → is_act e ≡ false → IfSome (step w e) (Advance w)
+event_advances w ok un = event_cases (Advance w) w (record {
+  turned = λ q t fs e. turn_kept w q t fs e ok un;
+  ended = λ q d t k fs e. end_kept w q d t k fs e ok un;
+  spawned = λ q p f. make_one w q (Detach p w.jobs) p (Detached p) w.call w.calls (λ t. refl) ok un;
+  fed = λ p i f. feed_kept w (OfPool p) p i ok un;
+  dealt = λ q p f. deal_kept w q (OfPool p) p ok un;
+  sent = λ q p b e f. sent_kept w q p b ok un;
+  joined = λ p i f. make_two w (Worker p i) (Fork (record { number = w.calls; pool = p; job = w.jobs + 1 }) w.jobs) p Direct (Stored w.calls (Worker p i)) (put w.call w.calls (new_call (Some w.jobs) (w.jobs + 1))) (w.calls + 1) (λ t. refl) ok un;
+  scoped = λ q p f. rescoped w _ (w.scopes ++ record { call = w.calls; pool = p; owner = q } ∷ []) (make_one w q (Open (record { number = w.calls; pool = p; job = w.jobs })) p (BodyOf w.calls q) (put w.call w.calls (new_call None w.jobs)) (w.calls + 1) (λ t. refl) ok un);
+  entered = λ q s k. make_one w q (Enter (record { call = s.call; owner = s.owner; pool = s.pool; job = w.jobs })) s.pool (Scoped s.call s.owner) w.call w.calls (λ t. refl) ok un;
+  fed_into = λ i z k. feed_kept w (OfScope z.call z.owner) z.pool i ok un;
+  dealt_into = λ q z k. deal_kept w q (OfScope z.call z.owner) z.pool ok un;
+  gathered = λ q p f. gather_kept w q p ok un;
+  yielded = λ p i f. yield_kept w (Worker p i) YieldPop (λ t. refl) (λ t. refl) (λ t. refl) ok un;
+  yielded_local = λ p i f. yield_kept w (Worker p i) LocalPop (λ t. refl) (λ t. refl) (λ t. refl) ok un;
+  given = λ q p f held. give_kept w q p ok un;
+})
 
 -- each event keeps each job in its one place
 pub step_advance : (w : World) (e : Event) → Unqueued w → Feeds w → JobsOk w → Unmade w → IfSome (step w e) (Advance w)
 step_advance w (Go q) uq fe ok un = acted_keeps w q (w.stack q) (target_pool q (act_of q ((w.stack q).top))) (target_worker q (act_of q ((w.stack q).top))) (target_call (act_of q ((w.stack q).top))) (job_at w q (act_of q ((w.stack q).top))) (outcome w q (w.stack q)) (Advance w)
     (if_some_map (λ r. Kept w (result w q (w.stack q) r)) (λ r. Advance w (result w q (w.stack q) r)) (λ r k. kept_advance w (result w q (w.stack q) r) (omega arith) un (go_fed w q r) k) (outcome w q (w.stack q)) (go_kept w q (uq q) fe ok))
-step_advance w (From q v) uq fe ok un = from_kept w q ((w.stack q).top) ((w.stack q).below) v refl ok un
-step_advance w (Refuse q) uq fe ok un = refuse_kept w q ((w.stack q).top) ((w.stack q).below) refl ok un
-step_advance w (Miss q) uq fe ok un = miss_kept w q ((w.stack q).top) ((w.stack q).below) refl ok un
-step_advance w (End q d) uq fe ok un = end_kept w q d ((w.stack q).top) ((w.stack q).below) refl ok un
-step_advance w (Spawn q p) uq fe ok un = spawn_kept w q p ok un
-step_advance w (Fifo q p) uq fe ok un = fifo_kept w q p ok un
-step_advance w (CastEvent q p) uq fe ok un = cast_kept w q p ok un
-step_advance w (Install q p) uq fe ok un = install_kept w q p ok un
-step_advance w (Join q) uq fe ok un = join_kept w q ok un
-step_advance w (OpenScope q p) uq fe ok un = scope_kept w q p ok un
-step_advance w (IntoSpawn q n) uq fe ok un = into_kept w q n ok un
-step_advance w (IntoFifo q n) uq fe ok un = into_fifo_kept w q n ok un
-step_advance w (IntoCast q n) uq fe ok un = into_cast_kept w q n ok un
-step_advance w (Broadcast q p) uq fe ok un = gather_kept w q p ok un
-step_advance w (Yield q) uq fe ok un = yield_kept w q YieldPop (λ t. refl) (λ t. refl) (λ t. refl) ok un
-step_advance w (YieldLocal q) uq fe ok un = yield_kept w q LocalPop (λ t. refl) (λ t. refl) (λ t. refl) ok un
-step_advance w (EndPool q p) uq fe ok un = give_kept w q p ok un
+step_advance w e uq fe ok un = event_advances w ok un e refl
 
 -- what holds of the jobs of every world
 pub record JobsHold (w : World) : Type 0 where

@@ -4,6 +4,8 @@
 -- The tokens counted are those queued at the list's pool, or in a hand there. Lists of scopes are among them.
 use Rattle.rayon_machine_places.specs.declared.place.Mark.{Mark as Marking}
 use Rattle.rayon_machine_places.specs.declared.place.Mark.TheVariants.{Counted, Queued, Returned, Numbered, Dealt, Unnumbered}
+pub use Rattle.rayon_machine_laws.proofs.Cases.{is_act}
+use Rattle.rayon_machine_laws.proofs.Cases.{event_cases}
 use Rattle.rayon_machine_laws.proofs.PlacedEvents.{is_dealing, no_deals}
 use Rattle.rayon_machine_laws.proofs.Later.{Static, act_static}
 use Rattle.rayon_machine_places.specs.declared.place.Pieces.{Pieces}
@@ -11,18 +13,16 @@ use Rattle.rayon_machine_places.specs.declared.place.Count.{Count}
 use Rattle.rayon_machine_places.specs.declared.place.Count.TheVariants.{OfPool, OfScope, OfCast}
 use Rattle.rayon_machine_places.specs.declared.place.Feeding.{Feeding}
 use Rattle.rayon_machine_places.specs.declared.place.Gathering.{Gathering}
-use Rattle.rayon_machine_places.specs.declared.state.Scope.{Scope}
 use Rattle.std.proofs.Common.{arith, refl, sym, ◌∙◌, ap, subst, inl, inr}
 use Rattle.std.specs.Prelude.{ℕ, zero, suc, Bool, true, false, ◌&&◌, ◌+◌, ◌==◌, ◌≤◌, ◌<◌, if◌then◌else◌, Option, Some, List, ◌≡◌, IfSome, length, nat_lt, ◌-◌, ⊤}
 use Rattle.std.proofs.lemmas.Bool.{eqb-true, eq-eqb, ltb-true, ltb-false}
 use Rattle.rayon_machine_places.specs.declared.place.Move.TheVariants.{Back, Discard, Enter, HandBack, HandIn, StartRun, Stay, Mark, HandAllBack}
-use Rattle.rayon_machine_places.specs.declared.place.Place.TheVariants.{BeginTask, LocalPop, LookQueue, PickVictim, PushJob, PushToken, Run, StealFrom, YieldPick, YieldPop, YieldSteal, PushForAll, DealPieces}
+use Rattle.rayon_machine_places.specs.declared.place.Place.TheVariants.{BeginTask, LookQueue, PushJob, PushToken, PushForAll, DealPieces}
 use Rattle.rayon_machine_places.specs.declared.place.Party.TheVariants.{Caller, Worker}
 use Rattle.rayon_machine_laws.proofs.ClaimRuns.{CallsHold, place_part, top_says, world_after}
 use Rattle.rayon_machine_places.specs.declared.place.Plan.TheVariants.{Detach, Feed, Fork, Here, Send, Open, Enter, Gather}
 use Rattle.rayon_machine_places.specs.declared.place.JobKind.TheVariants.{Detached, Direct, Stored, TokenOf, Scoped, BodyOf}
-use Rattle.rayon_machine_places.specs.declared.event.Event.TheVariants.{End, EndPool, Fifo, From, Go, Install, Join, Miss, Refuse, Spawn, Yield, YieldLocal, Cast, Scope as OpenScope, IntoSpawn, IntoFifo, IntoCast, Broadcast}
-use Rattle.rayon_machine_places.specs.declared.place.Ending.{Ending}
+use Rattle.rayon_machine_places.specs.declared.event.Event.TheVariants.{Go}
 use Rattle.rayon_machine_places.specs.declared.event.Event.{Event}
 use Rattle.rayon_machine_laws.proofs.Stocked.{Fair, act_fair, at_pool, begun_off, count_no_token, draws, is_held, is_pushing, live, live_off, no_pushes, one_set, pushes, token_of, up, live_none}
 use Rattle.rayon_machine_laws.proofs.FeederEvents.{first_feeders, step_feeders}
@@ -43,9 +43,9 @@ use Rattle.rayon_machine_laws.proofs.Claims.{Says, Taking, SaysPieces}
 use Rattle.rayon_machine_places.specs.declared.act.Seen.{Seen}
 use Rattle.rayon_machine_places.specs.declared.place.Taken.TheVariants.{Token}
 use Rattle.rayon_machine_places.specs.declared.state.Whereabouts.{Whereabouts}
-use Rattle.rayon_machine_places.specs.Places.{act_of, after_begin, is_free, is_member, is_refusable, look_act, next_of, own_index, own_pool, plan_job, plan_pool, push_act, same_party, plan_book, count_book, count_kind}
-use Rattle.rayon_machine_laws.proofs.Frame.{acted_keeps, and_parts, either, fifo_cases, if_cond, if_some_and, if_some_map, put_new, put_old, same_index, same_list_refl, same_list_true, same_party_true, put_same, into_cases, into_cast_cases, into_fifo_cases}
-use Rattle.rayon_machine_places.specs.Steps.{after_choice, after_end, after_end_pool, after_fifo, after_install, after_join, after_miss, after_send, after_spawn, after_yield, blank_job, can_miss, handed_back, is_pool, jobs_after, new_job, put, step, after_cast, new_piece, is_piece, mark_pieces, marked, after_broadcast, after_deal, after_enter, after_feed, after_into_cast, after_into_fifo, after_scope, after_into, holds, new_whole, put_pieces}
+use Rattle.rayon_machine_places.specs.Places.{act_of, after_begin, is_member, look_act, next_of, own_index, own_pool, plan_job, plan_pool, push_act, same_party, plan_book, count_book, count_kind}
+use Rattle.rayon_machine_laws.proofs.Frame.{acted_keeps, and_parts, either, if_some_and, if_some_map, put_new, put_old, same_index, same_list_refl, same_list_true, same_party_true, put_same}
+use Rattle.rayon_machine_places.specs.Steps.{after_send, blank_job, handed_back, jobs_after, new_job, put, step, new_piece, is_piece, mark_pieces, marked, after_deal, after_feed, new_whole, put_pieces, after_gather}
 use Rattle.rayon_machine_laws.proofs.ClaimMakes.{first_calls, step_calls}
 use Rattle.rayon_machine_laws.proofs.Hands.{held, held_in}
 use Rattle.rayon_machine_laws.proofs.Located.{and_false, is_left}
@@ -347,21 +347,6 @@ fade_stocks w u h f p j v n =
     let b : sum_below n (λ t. live p j v (w.job t)) + one (is_held ((w.seat p j).feeder v)) ≤ length ((w.seat p j).fifo v) = h p j v n in
     subst (λ s. sum_below n (λ t. live p j v (u.job t)) + one (is_held (s.feeder v)) ≤ length (s.fifo v)) (sym (f.1 p j)) (omega (arith, a, b))
 
-from_fades : (w : World) (q : Party) (k : Stack) (x : Place) (v : ℕ) → IfSome (after_choice w q k x v) (Fades w)
-from_fades w q k (PickVictim n) v = if_cond (Fades w) (nat_lt v (w.shape.pool (own_pool q)).workers) _ (λ b. (λ p j v t. omega arith, λ p j. refl))
-from_fades w q k YieldPick v = if_cond (Fades w) (nat_lt v (w.shape.pool (own_pool q)).workers) _ (λ b. (λ p j v t. omega arith, λ p j. refl))
-from_fades w q k _ v = tt
-
-miss_fades : (w : World) (q : Party) (k : Stack) (x : Place) → IfSome (after_miss w q k x) (Fades w)
-miss_fades w (Worker a b) k (StealFrom c n) = if_cond (Fades w) (can_miss w a c.victim) _ (λ y. (λ p j v t. omega arith, λ p j. refl))
-miss_fades w (Worker a b) k (YieldSteal v n) = if_cond (Fades w) (can_miss w a v) _ (λ y. (λ p j v t. omega arith, λ p j. refl))
-miss_fades w (Worker a b) k _ = tt
-miss_fades w (Caller c) k _ = tt
-
-end_fades : (w : World) (q : Party) (d : Ending) (k : Stack) (x : Place) → IfSome (after_end w q d k x) (Fades w)
-end_fades w q d k (Run u c) = (λ p j v t. put_less p j v w.job u (at_job (w.job u) (Over d)) t (off_less p j v (at_job (w.job u) (Over d)) (live p j v (w.job u)) refl), λ p j. refl)
-end_fades w q d k _ = tt
-
 new_less_job : (p j : ℕ) (v : Option ℕ) (f : ℕ → Job) (n : ℕ) (q : Party) (a : ℕ) (k : JobKind) (t : ℕ) → live p j v (put f n (new_job q a k) t) ≤ live p j v (f t)
 new_less_job p j v f n q a k t = put_less p j v f n (new_job q a k) t (off_less p j v (new_job q a k) (live p j v (f n)) refl)
 
@@ -369,9 +354,6 @@ two_less_jobs : (p j : ℕ) (v : Option ℕ) (f : ℕ → Job) (n : ℕ) (q : Pa
 two_less_jobs p j v f n q a k l t =
     let x : live p j v (put (put f n (new_job q a k)) (n + 1) (new_job q a l) t) ≤ live p j v (put f n (new_job q a k) t) = new_less_job p j v (put f n (new_job q a k)) (n + 1) q a l t in
     let y : live p j v (put f n (new_job q a k) t) ≤ live p j v (f t) = new_less_job p j v f n q a k t in omega (arith, x, y)
-
-spawn_fades : (w : World) (q : Party) (r : ℕ) → IfSome (after_spawn w q r (w.stack q)) (Fades w)
-spawn_fades w q r = if_cond (Fades w) (is_free ((w.stack q).top) && is_pool w.shape r) _ (λ b. (λ p j v t. new_less_job p j v w.job w.jobs q r (Detached r) t, λ p j. refl))
 
 -- a broadcast begins, and a spawn in order
 new_less_pieces : (p j : ℕ) (v : Option ℕ) (f : ℕ → Job) (c : Pieces) (q : Party) (k : Count) (r t : ℕ) (b : Bool) → live p j v (if b then new_piece q k r (t - c.first) else f t) ≤ live p j v (f t)
@@ -387,11 +369,8 @@ deal_fades w q k r = (λ p j v t. new_less_pieces p j v w.job c q k r t (is_piec
 feed_fades : (w : World) (k : Count) (r i : ℕ) → Fades w (after_feed w k r i (w.stack (Worker r i)))
 feed_fades w k r i = (λ p j v t. two_less_jobs p j v w.job w.jobs (Worker r i) r (count_kind k) (TokenOf i (count_book k)) t, λ p j. refl)
 
-cast_fades : (w : World) (q : Party) (r : ℕ) → IfSome (after_cast w q r (w.stack q)) (Fades w)
-cast_fades w q r = if_cond (Fades w) (is_free ((w.stack q).top) && is_pool w.shape r) _ (λ b. deal_fades w q (OfPool r) r)
-
-gather_fades : (w : World) (q : Party) (r : ℕ) → IfSome (after_broadcast w q r (w.stack q)) (Fades w)
-gather_fades w q r = if_cond (Fades w) (is_free ((w.stack q).top) && is_pool w.shape r) _ (λ b. (λ p j v t. whole p j v t, λ p j. refl))
+gather_fades : (w : World) (q : Party) (r : ℕ) → Fades w (after_gather w q r (w.stack q))
+gather_fades w q r = (λ p j v t. whole p j v t, λ p j. refl)
   where
     c : Pieces
     c = record { count = OfCast w.calls q; pool = r; first = w.jobs; workers = (w.shape.pool r).workers }
@@ -404,88 +383,35 @@ gather_fades w q r = if_cond (Fades w) (is_free ((w.stack q).top) && is_pool w.s
         let a : live p j v (put f (w.jobs + c.workers) (new_whole q r w.calls) t) ≤ live p j v (f t) = put_less p j v f (w.jobs + c.workers) (new_whole q r w.calls) t (off_less p j v (new_whole q r w.calls) (live p j v (f (w.jobs + c.workers))) refl) in
         let b : live p j v (f t) ≤ live p j v (w.job t) = new_less_pieces p j v w.job c q c.count r t (is_piece c t) in omega (arith, a, b)
 
-fifo_fades : (w : World) (q : Party) (r : ℕ) → IfSome (after_fifo w q r (w.stack q)) (Fades w)
-fifo_fades w q r = fifo_cases (Fades w) w q r (spawn_fades w q r) (λ i free. feed_fades w (OfPool r) r i)
-
 sent_fades : (w : World) (q : Party) (r : ℕ) (b : Bool) → Fades w (after_send w q r (w.stack q) b)
 sent_fades w q r true = (λ p j v t. new_less_job p j v w.job w.jobs q r Direct t, λ p j. refl)
 sent_fades w q r false = (λ p j v t. new_less_job p j v w.job w.jobs q r (Stored w.calls q) t, λ p j. refl)
 
-install_fades : (w : World) (q : Party) (r : ℕ) → IfSome (after_install w q r (w.stack q)) (Fades w)
-install_fades w q r = if_cond (Fades w) (is_free ((w.stack q).top) && is_pool w.shape r) _ (λ e. sent_fades w q r (is_member q r))
-
-scope_fades : (w : World) (q : Party) (r : ℕ) → IfSome (after_scope w q r (w.stack q)) (Fades w)
-scope_fades w q r = if_cond (Fades w) (is_free ((w.stack q).top) && is_pool w.shape r) _ (λ b. (λ p j v t. new_less_job p j v w.job w.jobs q r (BodyOf w.calls q) t, λ p j. refl))
-
-enter_fades : (w : World) (q : Party) (z : Scope) → IfSome (after_enter w q (w.stack q) (Some z)) (Fades w)
-enter_fades w q z = if_cond (Fades w) (is_free ((w.stack q).top) && holds z.call (w.stack q)) _ (λ b. (λ p j v t. new_less_job p j v w.job w.jobs q z.pool (Scoped z.call z.owner) t, λ p j. refl))
-
-into_fades : (w : World) (q : Party) (n : ℕ) → IfSome (after_into w q n (w.stack q)) (Fades w)
-into_fades w q n = into_cases (Fades w) w q n (λ z e free held. enter_fades w q z)
-
-into_fifo_fades : (w : World) (q : Party) (n : ℕ) → IfSome (after_into_fifo w q n (w.stack q)) (Fades w)
-into_fifo_fades w q n = into_fifo_cases (Fades w) w q n (λ z e free held. enter_fades w q z) (λ z i e free held. feed_fades w (OfScope z.call z.owner) z.pool i)
-
-into_cast_fades : (w : World) (q : Party) (n : ℕ) → IfSome (after_into_cast w q n (w.stack q)) (Fades w)
-into_cast_fades w q n = into_cast_cases (Fades w) w q n (λ z e free held. deal_fades w q (OfScope z.call z.owner) z.pool)
-
-join_fades : (w : World) (q : Party) → IfSome (after_join w q (w.stack q)) (Fades w)
-join_fades w (Worker a b) = if_cond (Fades w) (is_free ((w.stack (Worker a b)).top)) _ (λ z. (λ p j v t. two_less_jobs p j v w.job w.jobs (Worker a b) a Direct (Stored w.calls (Worker a b)) t, λ p j. refl))
-join_fades w (Caller n) = tt
-
-yield_fades : (w : World) (q : Party) (x : Place) → IfSome (after_yield w q (w.stack q) x) (Fades w)
-yield_fades w (Worker a b) x = if_cond (Fades w) (is_free ((w.stack (Worker a b)).top)) _ (λ z. (λ p j v t. omega arith, λ p j. refl))
-yield_fades w (Caller c) x = tt
-
-give_fades : (w : World) (q : Party) (r : ℕ) → IfSome (after_end_pool w q r (w.stack q)) (Fades w)
-give_fades w q r = if_cond (Fades w) (is_free ((w.stack q).top) && (is_pool w.shape r && (w.pool r).held)) _ (λ b. (λ p j v t. omega arith, λ p j. refl))
-
-step_fade : (w : World) (e : Event) → StocksHold w → IfSome (step w e) (Fades w) → IfSome (step w e) Stocks
-step_fade w e h f = if_some_map (Fades w) Stocks (λ u g. fade_stocks w u h.stocks g) (step w e) f
-
-abbrev pub is_act : Event → Bool
-is_act (Go q) = true
-is_act _ = false
-
 pub event_fades : (w : World) (e : Event) → is_act e ≡ false → IfSome (step w e) (Fades w)
-event_fades w (Go q) e = absurd (cc)
-event_fades w (From q v) e = from_fades w q (w.stack q) ((w.stack q).top) v
-event_fades w (Refuse q) e = if_cond (Fades w) (is_refusable ((w.stack q).top)) _ (λ b. (λ p j v t. omega arith, λ p j. refl))
-event_fades w (Miss q) e = miss_fades w q (w.stack q) ((w.stack q).top)
-event_fades w (End q d) e = end_fades w q d (w.stack q) ((w.stack q).top)
-event_fades w (Spawn q p) e = spawn_fades w q p
-event_fades w (Fifo q p) e = fifo_fades w q p
-event_fades w (Cast q p) e = cast_fades w q p
-event_fades w (Install q p) e = install_fades w q p
-event_fades w (Join q) e = join_fades w q
-event_fades w (OpenScope q p) e = scope_fades w q p
-event_fades w (IntoSpawn q n) e = into_fades w q n
-event_fades w (IntoFifo q n) e = into_fifo_fades w q n
-event_fades w (IntoCast q n) e = into_cast_fades w q n
-event_fades w (Broadcast q p) e = gather_fades w q p
-event_fades w (Yield q) e = yield_fades w q YieldPop
-event_fades w (YieldLocal q) e = yield_fades w q LocalPop
-event_fades w (EndPool q p) e = give_fades w q p
+event_fades w = event_cases (Fades w) w (record {
+  turned = λ q t fs z. same;
+  ended = λ q d u c fs z. (λ p j v t. put_less p j v w.job u (at_job (w.job u) (Over d)) t (off_less p j v (at_job (w.job u) (Over d)) (live p j v (w.job u)) refl), λ p j. refl);
+  spawned = λ q r f. (λ p j v t. new_less_job p j v w.job w.jobs q r (Detached r) t, λ p j. refl);
+  fed = λ r i f. feed_fades w (OfPool r) r i;
+  dealt = λ q r f. deal_fades w q (OfPool r) r;
+  sent = λ q r b e f. sent_fades w q r b;
+  joined = λ a b f. (λ p j v t. two_less_jobs p j v w.job w.jobs (Worker a b) a Direct (Stored w.calls (Worker a b)) t, λ p j. refl);
+  scoped = λ q r f. (λ p j v t. new_less_job p j v w.job w.jobs q r (BodyOf w.calls q) t, λ p j. refl);
+  entered = λ q z k. (λ p j v t. new_less_job p j v w.job w.jobs q z.pool (Scoped z.call z.owner) t, λ p j. refl);
+  fed_into = λ i z k. feed_fades w (OfScope z.call z.owner) z.pool i;
+  dealt_into = λ q z k. deal_fades w q (OfScope z.call z.owner) z.pool;
+  gathered = λ q r f. gather_fades w q r;
+  yielded = λ p i f. same;
+  yielded_local = λ p i f. same;
+  given = λ q r f held. same;
+})
+  where
+    same : ((p j : ℕ) (v : Option ℕ) (t : ℕ) → live p j v (w.job t) ≤ live p j v (w.job t)) × ((p j : ℕ) → w.seat p j ≡ w.seat p j)
+    same = (λ p j v t. omega arith, λ p j. refl)
 
 step_sums : (w : World) (e : Event) → StocksHold w → IfSome (step w e) Stocks
 step_sums w (Go q) h = acted_keeps w q (w.stack q) (target_pool q (act_of q ((w.stack q).top))) (target_worker q (act_of q ((w.stack q).top))) (target_call (act_of q ((w.stack q).top))) (job_at w q (act_of q ((w.stack q).top))) (outcome w q (w.stack q)) Stocks (go_stocks w q h)
-step_sums w (From q v) h = step_fade w (From q v) h (event_fades w (From q v) refl)
-step_sums w (Refuse q) h = step_fade w (Refuse q) h (event_fades w (Refuse q) refl)
-step_sums w (Miss q) h = step_fade w (Miss q) h (event_fades w (Miss q) refl)
-step_sums w (End q d) h = step_fade w (End q d) h (event_fades w (End q d) refl)
-step_sums w (Spawn q p) h = step_fade w (Spawn q p) h (event_fades w (Spawn q p) refl)
-step_sums w (Fifo q p) h = step_fade w (Fifo q p) h (event_fades w (Fifo q p) refl)
-step_sums w (Cast q p) h = step_fade w (Cast q p) h (event_fades w (Cast q p) refl)
-step_sums w (Install q p) h = step_fade w (Install q p) h (event_fades w (Install q p) refl)
-step_sums w (Join q) h = step_fade w (Join q) h (event_fades w (Join q) refl)
-step_sums w (OpenScope q p) h = step_fade w (OpenScope q p) h (event_fades w (OpenScope q p) refl)
-step_sums w (IntoSpawn q n) h = step_fade w (IntoSpawn q n) h (event_fades w (IntoSpawn q n) refl)
-step_sums w (IntoFifo q n) h = step_fade w (IntoFifo q n) h (event_fades w (IntoFifo q n) refl)
-step_sums w (IntoCast q n) h = step_fade w (IntoCast q n) h (event_fades w (IntoCast q n) refl)
-step_sums w (Broadcast q p) h = step_fade w (Broadcast q p) h (event_fades w (Broadcast q p) refl)
-step_sums w (Yield q) h = step_fade w (Yield q) h (event_fades w (Yield q) refl)
-step_sums w (YieldLocal q) h = step_fade w (YieldLocal q) h (event_fades w (YieldLocal q) refl)
-step_sums w (EndPool q p) h = step_fade w (EndPool q p) h (event_fades w (EndPool q p) refl)
+step_sums w e h = if_some_map (Fades w) Stocks (λ u g. fade_stocks w u h.stocks g) (step w e) (event_fades w e refl)
 
 pub step_stocks : (w : World) (e : Event) → StocksHold w → IfSome (step w e) StocksHold
 step_stocks w e h = if_some_map (λ u. CallsHold u × (FeedersHold u × Stocks u)) StocksHold (λ u k. record { calls = k.0; feeders = (k.1).0; stocks = (k.1).1 }) (step w e)

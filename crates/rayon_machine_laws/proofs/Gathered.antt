@@ -1,6 +1,6 @@
 -- which fault a broadcast that waits keeps: that of the piece of the lowest number that ended with one
 use Rattle.std.proofs.Common.{arith, refl, sym, ◌∙◌, ap, subst, inl, inr}
-use Rattle.std.specs.Prelude.{ℕ, zero, suc, Bool, true, false, ◌+◌, ◌-◌, ◌==◌, ◌≤◌, ◌<◌, if◌then◌else◌, Option, Some, None, List, ◌≡◌, IfSome, ◌⊎◌}
+use Rattle.std.specs.Prelude.{ℕ, zero, suc, Bool, true, false, ◌+◌, ◌==◌, ◌≤◌, ◌<◌, if◌then◌else◌, Option, Some, None, List, ◌≡◌, IfSome, ◌⊎◌}
 use Rattle.std.proofs.lemmas.Bool.{eqb-true, ltb-true, ltb-false}
 use Rattle.std.proofs.Math.Dec.{ltb}
 use Rattle.rayon_machine_places.specs.declared.place.Party.{Party}

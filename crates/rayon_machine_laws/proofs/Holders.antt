@@ -1,5 +1,5 @@
 -- a party holds a sleep lock, a scope's book and a FIFO list exactly where it stands so
-use Rattle.std.proofs.Common.{rules, arith, refl, ◌∙◌, sym, ap, inl, inr}
+use Rattle.std.proofs.Common.{refl, ◌∙◌, sym, ap, inl, inr}
 use Rattle.std.specs.Prelude.{ℕ, Bool, true, false, not, ◌&&◌, ◌==◌, if◌then◌else◌, Option, Some, None, ◌≡◌, IfSome, ⊤, [], ◌∷◌, List}
 use Rattle.std.proofs.lemmas.Bool.{eqb-true, eq-eqb}
 use Rattle.rayon_machine_places.specs.declared.place.Party.{Party}

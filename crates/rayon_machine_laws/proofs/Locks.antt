@@ -2,7 +2,7 @@
 --
 -- Who stands at a place with another's sleep lock holds it (`LocksOk`). No act takes a sleep lock from another party.
 use Rattle.std.proofs.Common.{rules, arith, refl, sym, ◌∙◌, ap}
-use Rattle.std.specs.Prelude.{ℕ, Bool, true, false, not, ◌&&◌, ◌==◌, if◌then◌else◌, Option, Some, None, ◌≡◌, List, [], ◌∷◌, IfSome}
+use Rattle.std.specs.Prelude.{ℕ, Bool, true, false, not, ◌&&◌, ◌==◌, if◌then◌else◌, Option, Some, None, ◌≡◌, [], ◌∷◌, IfSome}
 use Rattle.rayon_machine_places.specs.declared.place.Party.{Party}
 use Rattle.rayon_machine_places.specs.declared.place.Party.TheVariants.{Worker, Caller}
 use Rattle.rayon_machine_places.specs.declared.place.JobKind.TheVariants.{Direct}

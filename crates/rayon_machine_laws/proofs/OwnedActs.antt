@@ -1,6 +1,6 @@
 -- what is said of calls and their owners in every world, and what acts leave of it
 use Rattle.rayon_machine_places.specs.declared.state.Scope.{Scope}
-use Rattle.std.proofs.Common.{rules, arith, refl, sym, ◌∙◌, ap, subst}
+use Rattle.std.proofs.Common.{arith, refl, sym, ◌∙◌, ap, subst}
 use Rattle.std.specs.Prelude.{ℕ, Bool, true, false, ◌<◌, ◌≤◌, if◌then◌else◌, Option, Some, None, List, [], ◌∷◌, ◌≡◌, IfSome, ⊤, slice_get}
 use Rattle.rayon_machine_places.specs.declared.place.Party.{Party}
 use Rattle.rayon_machine_places.specs.declared.place.Party.TheVariants.{Worker, Caller}

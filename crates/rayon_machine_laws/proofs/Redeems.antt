@@ -14,7 +14,7 @@ use Rattle.rayon_machine_places.specs.declared.place.Count.TheVariants.{OfPool, 
 use Rattle.rayon_machine_places.specs.declared.place.Feeding.{Feeding}
 use Rattle.rayon_machine_places.specs.declared.place.Gathering.{Gathering}
 use Rattle.std.proofs.Common.{arith, refl, sym, ◌∙◌, ap, subst, inl, inr}
-use Rattle.std.specs.Prelude.{ℕ, zero, suc, Bool, true, false, ◌&&◌, ◌+◌, ◌==◌, ◌≤◌, ◌<◌, if◌then◌else◌, Option, Some, List, ◌≡◌, IfSome, length, nat_lt, ◌-◌, ⊤}
+use Rattle.std.specs.Prelude.{ℕ, zero, suc, Bool, true, false, ◌&&◌, ◌+◌, ◌==◌, ◌≤◌, ◌<◌, if◌then◌else◌, Option, Some, List, ◌≡◌, IfSome, length, ◌-◌, ⊤}
 use Rattle.std.proofs.lemmas.Bool.{eqb-true, eq-eqb, ltb-true, ltb-false}
 use Rattle.rayon_machine_places.specs.declared.place.Move.TheVariants.{Back, Discard, Enter, HandBack, HandIn, StartRun, Stay, Mark, HandAllBack}
 use Rattle.rayon_machine_places.specs.declared.place.Place.TheVariants.{BeginTask, LookQueue, PushJob, PushToken, PushForAll, DealPieces}

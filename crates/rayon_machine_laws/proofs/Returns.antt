@@ -9,7 +9,7 @@ use Rattle.rayon_machine_laws.proofs.Claims.{SaysThen, SaysShare, SaysPlan}
 use Rattle.rayon_machine_places.specs.declared.state.Scope.{Scope}
 use Rattle.rayon_machine_places.specs.declared.place.Count.TheVariants.{OfPool, OfScope, OfCast}
 use Rattle.rayon_machine_places.specs.declared.place.Count.{Count}
-use Rattle.std.proofs.Common.{rules, arith, refl, sym, ◌∙◌, ap, subst, inl, inr}
+use Rattle.std.proofs.Common.{arith, refl, sym, ◌∙◌, ap, subst, inl, inr}
 use Rattle.std.specs.Prelude.{ℕ, Bool, true, false, ◌&&◌, ◌+◌, ◌==◌, ◌≤◌, ◌<◌, nat_lt, if◌then◌else◌, Some, None, List, ◌≡◌, IfSome, ◌-◌, ◌++◌, [], ◌∷◌}
 use Rattle.std.proofs.lemmas.Bool.{eqb-true, ltb-true, ltb-false}
 use Rattle.std.proofs.Math.Dec.{ltb}

@@ -22,7 +22,7 @@ use Rattle.rayon_machine_places.specs.declared.act.Seen.TheVariants.{Done, Refus
 use Rattle.rayon_machine_places.specs.declared.state.Whereabouts.TheVariants.{Made}
 use Rattle.rayon_machine_places.specs.declared.state.Job.{Job}
 use Rattle.rayon_machine_places.specs.declared.state.Call.{Call}
-use Rattle.rayon_machine_places.specs.Places.{own_pool, plan_pool, plan_job, plan_count, act_of, next_of, fresh, count_kind}
+use Rattle.rayon_machine_places.specs.Places.{own_pool, plan_pool, plan_job, plan_count, act_of, next_of, count_kind}
 use Rattle.rayon_machine_places.specs.World.{Stack, World, counts_at, Part, target_pool, target_call, count_in, count_pool, count_call, call_more, call_less, body_stays, undealt_after}
 use Rattle.rayon_machine_places.specs.Steps.{put, put_stack, is_piece, mark_pieces, marked, after_move}
 use Rattle.rayon_machine_places.specs.Readers.{is_done}
@@ -38,8 +38,7 @@ use Rattle.rayon_machine_laws.proofs.ShareActs.{with_job, SharesHold, one_most, 
 use Rattle.rayon_machine_laws.proofs.ShareRuns.{shares_mine, other_le, after_shares}
 use Rattle.rayon_machine_laws.proofs.ShareSteps.{Ready, stack_after, counted_now, self_one, raised_world, plan_made, no_steady, lower_steady, raise_steady, raise_plain, ungiven, all_raised, back_counted, pieces_made}
 use Rattle.rayon_machine_laws.proofs.ShareLowers.{lowered_world, returned_jobs, share_made, all_lowered}
-use Rattle.rayon_machine_laws.proofs.ShareEvents.{above}
-use Rattle.rayon_machine_laws.proofs.Bodies.{in_scope, all_bodies, spent, bodies}
+use Rattle.rayon_machine_laws.proofs.Bodies.{in_scope, all_bodies, spent}
 use Rattle.rayon_machine_laws.proofs.ScopeCounts.{piece_in, entry, is_whole, Closed, SomePiece, ScopesHold, fresh_on, some_on, or_second, closed_last, done_made, DealtOn, parts_last, entry_same, entry_off, entry_on, inside, scope_is, plan_entry, share_entry, more_at, less_of, more_one, less_at, bodies_still, unopened_still, scopes_keep, le_after, is_counting, Uncalled, same_uncalled, act_uncalled, tally_counting}
 
 -- an act that changes no scope's count

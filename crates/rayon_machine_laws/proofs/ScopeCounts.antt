@@ -8,7 +8,7 @@
 -- keeps its share as a detached job does.
 use Rattle.rayon_machine_laws.proofs.Acts.{JobCounted, CallCount, CallCounted, Undealt, writes_at, keeps}
 use Rattle.rayon_machine_laws.proofs.Lost.{is_dealt}
-use Rattle.std.proofs.Common.{rules, arith, refl, sym, ◌∙◌, ap, subst, inl, inr}
+use Rattle.std.proofs.Common.{arith, refl, sym, ◌∙◌, ap, subst, inl, inr}
 use Rattle.std.specs.Prelude.{ℕ, Bool, true, false, ◌&&◌, ◌+◌, ◌-◌, ◌==◌, ◌≤◌, ◌<◌, nat_lt, if◌then◌else◌, List, ◌≡◌, IfSome, ◌||◌, [], ◌∷◌, nat_le}
 use Rattle.std.proofs.lemmas.Bool.{eqb-true, ltb-true, ltb-false, le-leb, lt-ltb}
 use Rattle.std.proofs.Math.Dec.{ltb}
@@ -29,12 +29,11 @@ use Rattle.rayon_machine_places.specs.declared.state.Whereabouts.TheVariants.{No
 use Rattle.rayon_machine_places.specs.declared.state.Job.{Job}
 use Rattle.rayon_machine_places.specs.declared.state.Call.{Call}
 use Rattle.rayon_machine_places.specs.declared.shape.PoolShape.{PoolShape}
-use Rattle.rayon_machine_places.specs.Places.{same_party, plan_job, plan_count, act_of, next_of, fresh, count_kind}
+use Rattle.rayon_machine_places.specs.Places.{same_party, plan_job, plan_count, act_of, next_of, count_kind}
 use Rattle.rayon_machine_places.specs.World.{Shape, Stack, World, Counts, Part, effect, count_call, call_more, call_less, body_stays}
 use Rattle.rayon_machine_places.specs.Steps.{put, put_stack, is_piece, after_move}
 use Rattle.rayon_machine_places.specs.Readers.{is_done}
 use Rattle.rayon_machine_laws.specs.Once.{one}
-use Rattle.rayon_machine_laws.specs.Shares.{shares}
 use Rattle.rayon_machine_laws.specs.Counted.{is_scoped, is_of_scope, has_entry}
 use Rattle.rayon_machine_laws.proofs.Frame.{either, same_party_true, put_same, stack_mine}
 use Rattle.rayon_machine_laws.proofs.Claims.{call_unscoped, SaysPlan, SaysThen, SaysShare, is_part}

@@ -35,7 +35,6 @@ use Rattle.rayon_machine_places.specs.Steps.{put, put_stack, put_pieces, new_pie
 use Rattle.rayon_machine_places.specs.Readers.{is_done}
 use Rattle.rayon_machine_places.specs.Runs.{first_place, start, IsRun}
 use Rattle.rayon_machine_laws.specs.Once.{one}
-use Rattle.rayon_machine_laws.specs.Shares.{shares}
 use Rattle.rayon_machine_laws.specs.Counted.{is_of_scope}
 use Rattle.rayon_machine_laws.proofs.Frame.{either, same_party_true, if_some_and, if_some_map, if_cond, acted_keeps, put_same, put_new, put_old, piece_new, piece_old, piece_out, fifo_cases, into_cases, into_fifo_cases, into_cast_cases}
 use Rattle.rayon_machine_laws.proofs.Ties.{job_at, outcome}
@@ -51,7 +50,7 @@ use Rattle.rayon_machine_laws.proofs.ShareActs.{SharesHold, one_most}
 use Rattle.rayon_machine_laws.proofs.ShareRuns.{other_le}
 use Rattle.rayon_machine_laws.proofs.ShareEvents.{ready, above}
 use Rattle.rayon_machine_laws.proofs.ShareEnds.{step_shares, first_shares}
-use Rattle.rayon_machine_laws.proofs.Bodies.{plan_body, body, bodies_in, all_bodies, spent, bodies, closed_body}
+use Rattle.rayon_machine_laws.proofs.Bodies.{plan_body, body, bodies_in, all_bodies, spent, closed_body}
 use Rattle.rayon_machine_laws.proofs.ScopeCounts.{piece_call, piece_in, entry, is_closed, Closed, SomePiece, ScopesHold, PartsOn, fresh_on, some_on, closed_on, parts_made, entry_same, entry_off, bodies_still, unopened_still, old_call, scopes_keep, le_after}
 use Rattle.rayon_machine_laws.proofs.ScopeActs.{go_by}
 

@@ -1,7 +1,7 @@
 -- what holds of the count of each scope: it is the number of its shares, and the body's is in it until the body is over
 use Rattle.rayon_machine_laws.proofs.Lost.{is_dealt}
 use Rattle.std.proofs.Common.{arith, refl, sym, ◌∙◌, ap, inl, inr}
-use Rattle.std.specs.Prelude.{ℕ, zero, suc, Bool, true, false, ◌&&◌, ◌+◌, ◌-◌, ◌==◌, ◌≤◌, ◌<◌, if◌then◌else◌, List, ◌≡◌, IfSome, ◌||◌}
+use Rattle.std.specs.Prelude.{ℕ, zero, suc, Bool, true, false, ◌&&◌, ◌+◌, ◌==◌, ◌≤◌, ◌<◌, if◌then◌else◌, List, ◌≡◌, IfSome, ◌||◌}
 use Rattle.std.proofs.lemmas.Bool.{eqb-true, ltb-true, ltb-false}
 use Rattle.std.proofs.Math.Dec.{ltb}
 use Rattle.rayon_machine_places.specs.declared.place.Party.{Party}
@@ -16,7 +16,6 @@ use Rattle.rayon_machine_places.specs.declared.place.Place.TheVariants.{LowerCou
 use Rattle.rayon_machine_places.specs.declared.state.Whereabouts.{Whereabouts}
 use Rattle.rayon_machine_places.specs.declared.state.Whereabouts.TheVariants.{InDeque, Injected, InCast, Running, Over}
 use Rattle.rayon_machine_places.specs.declared.state.Job.{Job}
-use Rattle.rayon_machine_places.specs.Places.{fresh}
 use Rattle.rayon_machine_places.specs.World.{World, count_below}
 use Rattle.rayon_machine_places.specs.Readers.{is_done}
 use Rattle.rayon_machine_laws.specs.Once.{one}
@@ -30,8 +29,7 @@ use Rattle.rayon_machine_laws.proofs.Tokens.{sum_below, sum_least}
 use Rattle.rayon_machine_laws.proofs.ShareActs.{with_job, SharesHold, one_is, one_not}
 use Rattle.rayon_machine_laws.proofs.ShareSteps.{self_one}
 use Rattle.rayon_machine_laws.proofs.ShareLowers.{share_made}
-use Rattle.rayon_machine_laws.proofs.ShareEvents.{ready, above}
-use Rattle.rayon_machine_laws.proofs.Bodies.{body}
+use Rattle.rayon_machine_laws.proofs.ShareEvents.{ready}
 use Rattle.rayon_machine_laws.proofs.ScopeCounts.{is_whole, is_closed, share_entry}
 pub use Rattle.rayon_machine_laws.proofs.ScopeCounts.{entry, Closed, SomePiece, ScopesHold, PartsOn, entry_on, old_call, scopes_keep, is_counting, Uncalled, same_uncalled, act_uncalled}
 use Rattle.rayon_machine_laws.proofs.ScopeActs.{go_by}

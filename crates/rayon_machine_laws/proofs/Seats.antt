@@ -5,7 +5,7 @@
 -- It is inactive exactly while it is in its search or asleep. It counts as sleeping exactly from its TryAdd until it
 -- takes itself out or is woken. While it falls asleep it holds its own sleep lock.
 use Rattle.std.proofs.Common.{rules, arith, refl, sym, ◌∙◌, ap, subst}
-use Rattle.std.specs.Prelude.{ℕ, Bool, true, false, ◌&&◌, ◌||◌, ◌+◌, nat_lt, if◌then◌else◌, Some, ◌≡◌, IfSome, Option, None, List, [], ◌∷◌, ◌++◌}
+use Rattle.std.specs.Prelude.{ℕ, Bool, true, false, ◌&&◌, ◌||◌, ◌+◌, nat_lt, if◌then◌else◌, Some, ◌≡◌, IfSome, [], ◌∷◌}
 use Rattle.rayon_machine_places.specs.declared.place.Party.{Party}
 use Rattle.rayon_machine_places.specs.declared.place.Party.TheVariants.{Worker, Caller}
 use Rattle.rayon_machine_places.specs.declared.place.JobKind.TheVariants.{Direct}

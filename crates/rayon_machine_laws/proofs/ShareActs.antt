@@ -6,7 +6,7 @@
 -- (`tally`).
 use Rattle.rayon_machine_places.specs.declared.place.Share.TheVariants.{Body}
 use Rattle.rayon_machine_places.specs.declared.place.Count.TheVariants.{OfScope}
-use Rattle.std.proofs.Common.{rules, arith, refl, sym, ◌∙◌, ap, subst}
+use Rattle.std.proofs.Common.{arith, refl, sym, ◌∙◌, ap, subst}
 use Rattle.std.specs.Prelude.{ℕ, Bool, true, false, ◌+◌, ◌==◌, ◌≤◌, if◌then◌else◌, Option, Some, None, List, [], ◌∷◌, ◌++◌, ◌≡◌, IfSome, ◌&&◌, ⊤}
 use Rattle.std.proofs.lemmas.Bool.{eq-eqb}
 use Rattle.rayon_machine_places.specs.declared.shape.Order.{Order}

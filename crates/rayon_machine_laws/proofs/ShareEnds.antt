@@ -33,7 +33,7 @@ use Rattle.rayon_machine_laws.specs.Shares.{share, shares_in, shares, is_busy, I
 use Rattle.rayon_machine_laws.proofs.Frame.{either, fifo_cases, same_party_true, if_cond, acted_keeps, put_same, put_new, put_old, stack_mine, piece_range, piece_old, piece_out, into_cases, into_fifo_cases, into_cast_cases}
 use Rattle.rayon_machine_laws.proofs.Ties.{job_at, outcome}
 use Rattle.rayon_machine_laws.proofs.Events.{run_keeps}
-use Rattle.rayon_machine_laws.proofs.Hands.{held, worked}
+use Rattle.rayon_machine_laws.proofs.Hands.{worked}
 use Rattle.rayon_machine_laws.proofs.Located.{loc_at, is_loc, where_is, at_work, Work}
 use Rattle.rayon_machine_laws.proofs.Claims.{is_detached, SaysRun}
 use Rattle.rayon_machine_laws.proofs.ClaimRuns.{CallsHold, top_says}

@@ -38,7 +38,6 @@ use Rattle.rayon_machine_laws.specs.Once.{one}
 use Rattle.rayon_machine_laws.specs.Shares.{shares, is_busy}
 use Rattle.rayon_machine_laws.proofs.Frame.{same_party_true, put_same, put_new, put_old, after_counted, is_sharing, if_some_all, piece_new, piece_old, gives_pieces, no_bare}
 use Rattle.rayon_machine_laws.proofs.Ties.{job_at}
-use Rattle.rayon_machine_laws.proofs.Hands.{held}
 use Rattle.rayon_machine_laws.proofs.Claims.{call_unscoped, SaysPlan, SaysPieces, KnownCount, SaysCast, SaysGather, is_part}
 use Rattle.rayon_machine_laws.proofs.ClaimActs.{Lasting}
 use Rattle.rayon_machine_laws.proofs.ClaimRuns.{CallsHold, top_says, world_after, place_part}

@@ -37,7 +37,7 @@ use Rattle.rayon_machine_places.specs.declared.state.Slot.TheVariants.{Closed, O
 use Rattle.rayon_machine_places.specs.Readers.{is_done}
 use Rattle.rayon_machine_places.specs.Places.{same_party, act_of, next_of, count_book, count_kind, begin_feed, begin_cast, count_call, gather_all, goes_on}
 use Rattle.rayon_machine_places.specs.World.{Shape, Stack, World, Part, counts_at, target_pool, target_worker, target_call, at_job, filled, is_open}
-use Rattle.rayon_machine_places.specs.Steps.{put, put_stack, put_pieces, back, with_stack, after_move, after_resume, after_close, after_call, jobs_after, is_piece, marked, after_feed, after_deal, after_gather, after_send, holds, new_job, new_piece, new_whole, step}
+use Rattle.rayon_machine_places.specs.Steps.{put, put_stack, put_pieces, back, with_stack, after_move, after_resume, after_close, after_call, jobs_after, is_piece, marked, after_feed, after_deal, after_gather, after_send, new_job, new_piece, new_whole, step}
 use Rattle.rayon_machine_places.specs.Runs.{IsRun, start}
 use Rattle.rayon_machine_laws.specs.Once.{IsOnce, is_with, held, one}
 use Rattle.rayon_machine_laws.specs.Fixed.{FixedLaw, slot_stays}

@@ -1,7 +1,7 @@
 -- where the count of a scope is 0 each job of the scope is over or was handed back: who has one in hand that is not
 -- queued holds the scope, and who holds it has a share of its count
-use Rattle.std.proofs.Common.{arith, refl, sym, ◌∙◌, ap, subst, inl, inr}
-use Rattle.std.specs.Prelude.{ℕ, Bool, true, false, ◌&&◌, ◌||◌, ◌+◌, ◌-◌, ◌==◌, ◌≤◌, ◌<◌, Option, Some, None, List, [], ◌∷◌, ◌≡◌, ◌⊎◌}
+use Rattle.std.proofs.Common.{arith, refl, sym, ◌∙◌, ap, inl, inr}
+use Rattle.std.specs.Prelude.{ℕ, Bool, true, false, ◌&&◌, ◌||◌, ◌+◌, ◌==◌, ◌≤◌, Option, Some, None, List, [], ◌∷◌, ◌≡◌, ◌⊎◌}
 use Rattle.std.proofs.lemmas.Bool.{eqb-true, eq-eqb}
 use Rattle.rayon_machine_places.specs.declared.place.Party.{Party}
 use Rattle.rayon_machine_places.specs.declared.place.JobKind.{JobKind}
@@ -21,19 +21,18 @@ use Rattle.rayon_machine_places.specs.declared.place.Place.{Place}
 use Rattle.rayon_machine_places.specs.declared.place.Place.TheVariants.{ProbeWorking, LeaveSearch, BeginTask, BeginHere, Run, RaiseCount, GrowCall, LookQueue, PushJob, AddToFifo, LookForToken, PushToken, TakeFromFifo, RaiseForAll, PushForAll, LowerForAll, TellNews, LockToWake, WakeWorker, UnlockWoken, LowerCount, SetLatch, LockToSettle, WakeSettled, UnlockSettled, GrowScope, OpenSlot, CloseSlot, SetLockLatch, OpenForAll, CloseForAll, GrowCast, DealPieces, ScopeBody}
 use Rattle.rayon_machine_places.specs.declared.state.Whereabouts.{Whereabouts}
 use Rattle.rayon_machine_places.specs.declared.state.Whereabouts.TheVariants.{Nowhere, Made, InDeque, Injected, InFifo, InCast, Running, Over, Retaken, HandedBack, Spent}
-use Rattle.rayon_machine_places.specs.Places.{same_party, holds_scope, plan_count, count_kind, taken_number}
+use Rattle.rayon_machine_places.specs.Places.{holds_scope, plan_count, count_kind, taken_number}
 use Rattle.rayon_machine_places.specs.World.{World}
 use Rattle.rayon_machine_places.specs.Steps.{holds_in, is_piece}
-use Rattle.rayon_machine_places.specs.Readers.{is_done}
 use Rattle.rayon_machine_laws.specs.Once.{one, is_with, is_known, may_begin, run_of, runs_in, worked, hand_plan, hand_rest, hand_then, hand_found, hand, held_in, held}
 use Rattle.rayon_machine_laws.specs.Shares.{is_busy}
-use Rattle.rayon_machine_laws.specs.Counted.{is_scoped, is_of_scope, has_body, is_through, ScopeEnded, ScopesCounted}
+use Rattle.rayon_machine_laws.specs.Counted.{is_scoped, is_through, ScopeEnded, ScopesCounted}
 use Rattle.rayon_machine_laws.proofs.Frame.{same_party_refl}
 use Rattle.rayon_machine_laws.proofs.Seats.{is_frame}
 use Rattle.rayon_machine_laws.proofs.Ties.{AllFrames}
 use Rattle.rayon_machine_laws.proofs.Located.{loc_at, is_loc, where_is, at_work, Work, is_left}
-use Rattle.rayon_machine_laws.proofs.PlacedRuns.{JobsHold, once}
-use Rattle.rayon_machine_laws.proofs.Claims.{is_detached, call_undetached, Opened, MadeAs, Awaited, Taking, SaysPlan, SaysQueue, SaysSlot, SaysTold, SaysThen, SaysGather, SaysPieces, SaysFound, queue_plan, Says, AllSay}
+use Rattle.rayon_machine_laws.proofs.PlacedRuns.{once}
+use Rattle.rayon_machine_laws.proofs.Claims.{is_detached, call_undetached, Taking, SaysPlan, SaysSlot, SaysTold, SaysThen, SaysGather, SaysPieces, SaysFound, queue_plan, Says, AllSay}
 use Rattle.rayon_machine_laws.proofs.ShareActs.{one_is}
 use Rattle.rayon_machine_laws.proofs.ShareSteps.{self_one}
 use Rattle.rayon_machine_laws.proofs.Tokens.{sum_below, sum_least}

@@ -3,7 +3,7 @@
 -- StorePiece alone writes what a broadcast keeps (`act_storing`), and makes it the lower of two. Only that place leads
 -- to the Lower of a piece's share (`act_leads`).
 use Rattle.std.proofs.Common.{rules, arith, refl, sym, ◌∙◌, ap, inl, inr}
-use Rattle.std.specs.Prelude.{ℕ, Bool, true, false, ◌+◌, ◌-◌, ◌==◌, ◌≤◌, ◌<◌, nat_lt, min, if◌then◌else◌, Option, Some, None, ◌≡◌, IfSome, List, [], ◌∷◌, ◌⊎◌}
+use Rattle.std.specs.Prelude.{ℕ, Bool, true, false, ◌+◌, ◌-◌, ◌==◌, ◌≤◌, ◌<◌, nat_lt, min, if◌then◌else◌, Option, Some, None, ◌≡◌, IfSome, [], ◌∷◌, ◌⊎◌}
 use Rattle.std.proofs.lemmas.Bool.{ltb-true, ltb-false}
 use Rattle.std.proofs.Math.Dec.{ltb}
 use Rattle.std.proofs.Math.Nat.{min-le_left, min-le_right, min-eq_left, min-eq_right}

@@ -1,33 +1,10 @@
 -- a worker that is about to block itself has announced itself since it last became inactive, blocked itself or was
 -- counted as sleeping no more
 use Rattle.std.proofs.Common.{rules, arith, refl, sym, ◌∙◌, ap, subst, inl, inr}
-use Rattle.std.specs.Prelude.{ℕ, Bool, true, false, not, ◌&&◌, ◌+◌, ◌==◌, nat_lt, if◌then◌else◌, Some, List, [], ◌∷◌, ◌++◌, ◌≡◌, ◌⊎◌, IfSome}
-use Rattle.rayon_machine_places.specs.declared.place.Party.{Party}
-use Rattle.rayon_machine_places.specs.declared.place.Party.TheVariants.{Worker, Caller}
-use Rattle.rayon_machine_places.specs.declared.place.Target.TheVariants.{Termination, Answer}
-use Rattle.rayon_machine_places.specs.declared.place.Latch.{Latch}
-use Rattle.rayon_machine_places.specs.declared.place.Latch.TheVariants.{Terminate, OfCall}
-use Rattle.rayon_machine_places.specs.declared.place.Rounds.{Rounds}
-use Rattle.rayon_machine_places.specs.declared.place.Rounds.TheVariants.{Failed, Announced}
-use Rattle.rayon_machine_places.specs.declared.place.Then.{Then}
-use Rattle.rayon_machine_places.specs.declared.place.Then.TheVariants.{BeginFound, LeaveWait, Resume, Await, RunFirst, Answers, Missing, Ran, GiveBack, Called, Gathers}
-use Rattle.rayon_machine_places.specs.declared.place.Place.{Place}
-use Rattle.rayon_machine_places.specs.declared.place.Place.TheVariants.{ProbeIdle, PopInjected, AnnounceSelf, GetSleepy, LockOwn, FallAsleep, LoadCounters, AddSleeping, LookAtCast, LookAtInjector, BlockSelf, SetLatch, UnlockSettled, ProbeWorking, Free, Stopped}
-use Rattle.rayon_machine_places.specs.declared.place.Move.TheVariants.{Stay}
-use Rattle.rayon_machine_places.specs.declared.place.OpenCall.{OpenCall}
-use Rattle.rayon_machine_places.specs.declared.place.Wait.{Wait}
-use Rattle.rayon_machine_places.specs.declared.place.Settling.{Settling}
-use Rattle.rayon_machine_places.specs.declared.act.Seen.{Seen}
-use Rattle.rayon_machine_places.specs.declared.act.Seen.TheVariants.{Yes, Task}
-use Rattle.rayon_machine_places.specs.declared.event.Event.{Event}
-use Rattle.rayon_machine_places.specs.declared.event.Event.TheVariants.{Go}
-use Rattle.rayon_machine_places.specs.declared.shape.PoolShape.{PoolShape}
-use Rattle.rayon_machine_places.specs.Places.{act_of, after_failure, after_set, awaits, finish, fresh, next_of, same_party}
-use Rattle.rayon_machine_places.specs.World.{Shape, World, Counts, Part, effect}
-use Rattle.rayon_machine_places.specs.Steps.{step}
-use Rattle.rayon_machine_places.specs.Runs.{IsRun, first_place, start}
-use Rattle.rayon_machine_laws.specs.Committed.{is_blocking}
-use Rattle.rayon_machine_laws.specs.Turn.{IsRunWithout, is_announcing, is_announce}
+use Rattle.rayon_machine_sleep_laws.proofs.Words.{ℕ, Bool, true, false, not, ◌&&◌, ◌+◌, ◌==◌, nat_lt, if◌then◌else◌, Some, List, [], ◌∷◌, ◌++◌, ◌≡◌, ◌⊎◌, IfSome, Party, Worker, Caller, Termination, Answer, Latch, Terminate, OfCall, Rounds, Failed, Announced, Then, BeginFound, LeaveWait, Resume}
+use Rattle.rayon_machine_sleep_laws.proofs.Words.{Await, RunFirst, Answers, Missing, Ran, GiveBack, Called, Gathers, Place, ProbeIdle, PopInjected, AnnounceSelf, GetSleepy, LockOwn, FallAsleep, LoadCounters, AddSleeping, LookAtCast, LookAtInjector, BlockSelf, SetLatch, UnlockSettled}
+use Rattle.rayon_machine_sleep_laws.proofs.Words.{ProbeWorking, Free, Stopped, Stay, OpenCall, Wait, Settling, Seen, Yes, Task, Event, Go, PoolShape, act_of, after_failure, after_set, awaits, finish, fresh, next_of, same_party, Shape, World, Counts, Part, effect, step, IsRun, first_place, start}
+use Rattle.rayon_machine_sleep_laws.proofs.Words.{is_blocking, IsRunWithout, is_announcing, is_announce, begins_anew}
 use Rattle.rayon_machine_laws.proofs.Asides.{Aside, one_step}
 use Rattle.rayon_machine_laws.proofs.Attended.{always_awake, calm_parts}
 use Rattle.rayon_machine_laws.proofs.Calm.{counts_seen, next_at, part_at, top_then}
@@ -37,7 +14,7 @@ use Rattle.rayon_machine_laws.proofs.Pushing.{top_is}
 use Rattle.rayon_machine_laws.proofs.Seats.{is_frame}
 use Rattle.rayon_machine_laws.proofs.Ties.{outcome, result, shape_at}
 use Rattle.rayon_machine_laws.proofs.Tops.{FramesOk, Tops, is_light}
-use Rattle.rayon_machine_sleep_laws.specs.Announced.{is_anew, begins_anew, HasAnnounced, AnnouncedLaw}
+use Rattle.rayon_machine_sleep_laws.specs.Announced.{is_anew, HasAnnounced, AnnouncedLaw}
 use Rattle.rayon_machine_sleep_laws.proofs.Rests.{acted, stepped, not_both}
 use Rattle.rayon_machine_sleep_laws.proofs.Dones.{run_more, stands_go}
 
@@ -66,12 +43,7 @@ finish_since q (LeaveWait (Answer o f)) = refl
 finish_since q (Await o) = wait_since q o
 finish_since q (Gathers o) = wait_since q o
 finish_since q (RunFirst o a) = refl
-finish_since q Resume = tt
-finish_since q Called = tt
-finish_since q (Answers o f e) = tt
-finish_since q (Missing o f) = tt
-finish_since q (Ran t e) = tt
-finish_since q (GiveBack n) = tt
+finish_since q _ = tt
 
 settled_since : (h : PoolShape) (q : Party) (s : Settling) (l : Latch) → Tops (λ y. since y ≡ false) (after_set h q s l)
 settled_since h q s Terminate = by (nat_lt (s.worker + 1) h.workers)

@@ -2,39 +2,18 @@
 --
 -- Who has filled that list calls all, and has not passed the worker (`always_hears`).
 use Rattle.rayon_machine_places.specs.declared.place.Count.TheVariants.{OfPool, OfScope, OfCast}
-use Rattle.rayon_machine_places.specs.declared.place.Plan.TheVariants.{Detach, Here, Send, Fork, Feed, Open, Enter, Gather}
-use Rattle.rayon_machine_places.specs.declared.place.Count.{Count}
-use Rattle.rayon_machine_places.specs.declared.place.Plan.{Plan}
-use Rattle.rayon_machine_places.specs.declared.place.Feeding.{Feeding}
-use Rattle.rayon_machine_places.specs.declared.place.Gathering.{Gathering}
-use Rattle.rayon_machine_places.specs.declared.place.Wait.{Wait}
-use Rattle.rayon_machine_places.specs.declared.place.Move.TheVariants.{Stay}
-use Rattle.std.proofs.Common.{rules, arith, refl, sym, ◌∙◌, ap, subst, inl, inr, ◌≢◌}
-use Rattle.std.specs.Prelude.{ℕ, Bool, true, false, ◌&&◌, ◌||◌, ◌+◌, ◌-◌, ◌==◌, ◌<◌, ◌≤◌, nat_lt, nat_le, if◌then◌else◌, Some, None, List, [], ◌∷◌, ◌≡◌, ◌⊎◌, IfSome, Option}
-use Rattle.std.proofs.lemmas.Bool.{eqb-true, eq-eqb, ltb-true, lt-ltb, leb-true, le-leb, ltb-false}
-use Rattle.rayon_machine_places.specs.declared.place.Party.{Party}
-use Rattle.rayon_machine_places.specs.declared.place.Party.TheVariants.{Worker, Caller}
-use Rattle.rayon_machine_places.specs.declared.place.Target.TheVariants.{Termination, Answer}
-use Rattle.rayon_machine_places.specs.declared.place.Latch.{Latch}
-use Rattle.rayon_machine_places.specs.declared.place.Latch.TheVariants.{Terminate, OfCall}
-use Rattle.rayon_machine_places.specs.declared.place.Pieces.{Pieces}
-use Rattle.rayon_machine_places.specs.declared.place.Then.{Then}
-use Rattle.rayon_machine_places.specs.declared.place.Then.TheVariants.{BeginFound, LeaveWait, Resume, Await, RunFirst, Answers, Missing, Ran, GiveBack, Called, Gathers}
-use Rattle.rayon_machine_places.specs.declared.place.Place.{Place}
-use Rattle.rayon_machine_places.specs.declared.place.Place.TheVariants.{ProbeWorking, TakeCastWorking, TakeCastIdle, JoinTakeCast, YieldTakeCast, LocalTakeCast, LookAtCast, LookAtInjector, BlockSelf, LeaveSearch, RaiseForAll, PushForAll, LockToWake, WakeWorker, UnlockWoken, SetLatch, WakeSettled, UnlockSettled, Free, Stopped, OpenForAll, GrowCast, DealPieces, RaiseCount, TakeFromFifo, LowerForAll}
-use Rattle.rayon_machine_places.specs.declared.act.Act.TheVariants.{Set}
-use Rattle.rayon_machine_places.specs.declared.act.Seen.{Seen}
-use Rattle.rayon_machine_places.specs.declared.act.Seen.TheVariants.{Yes, Done, Opened, Task}
-use Rattle.rayon_machine_places.specs.declared.event.Event.{Event}
-use Rattle.rayon_machine_places.specs.declared.shape.PoolShape.{PoolShape}
-use Rattle.rayon_machine_places.specs.declared.place.Walk.{Walk}
-use Rattle.rayon_machine_places.specs.declared.place.Settling.{Settling}
-use Rattle.rayon_machine_places.specs.Places.{same_party, own_index, finish, walk, after_set, act_of, next_of, call_all, fresh, withdraw, count_book, begin_cast, begin_feed, ends_count, gather_all, taken_number}
-use Rattle.rayon_machine_places.specs.World.{Shape, Pool, Seat, Stack, World, Counts, Part, target_pool, target_worker, casts_with, empty_seen, take_cast, effect, left_book, undealt_after}
-use Rattle.rayon_machine_places.specs.Steps.{after_move, step, put}
-use Rattle.rayon_machine_places.specs.Runs.{start, IsRun, first_place}
-use Rattle.rayon_machine_laws.specs.Committed.{is_blocking}
-use Rattle.rayon_machine_laws.specs.Attended.{is_filled, is_calling, owes_cast, HasCaster, IsCastAttended}
+use Rattle.rayon_machine_sleep_laws.proofs.Words.{Detach, Here, Send, Fork, Feed, Open, Enter, Gather, Count, Plan, Feeding, Gathering, Wait, Stay, rules, arith, refl, sym, ◌∙◌, ap, subst, inl, inr, ◌≢◌, ℕ, Bool, true, false, ◌&&◌, ◌||◌, ◌+◌, ◌-◌, ◌==◌, ◌<◌, ◌≤◌, nat_lt, nat_le, if◌then◌else◌}
+use Rattle.rayon_machine_sleep_laws.proofs.Words.{Some, None, List, [], ◌∷◌, ◌≡◌, ◌⊎◌, IfSome, Option, eqb-true, eq-eqb, ltb-true, lt-ltb, le-leb, ltb-false, Party, Worker, Caller, Termination, Answer, Latch, Terminate, OfCall, Pieces, Then, BeginFound, LeaveWait, Await, RunFirst, Gathers}
+use Rattle.rayon_machine_sleep_laws.proofs.Words.{Place, ProbeWorking, TakeCastIdle, YieldTakeCast, LocalTakeCast, LookAtCast, LookAtInjector, BlockSelf, LeaveSearch, RaiseForAll, PushForAll, LockToWake, WakeWorker, UnlockWoken, SetLatch, WakeSettled, UnlockSettled, Free, Stopped, OpenForAll}
+use Rattle.rayon_machine_sleep_laws.proofs.Words.{GrowCast, DealPieces, RaiseCount, TakeFromFifo, LowerForAll, Set, Seen, Yes, Done, Task, Event, PoolShape, Walk, Settling, same_party, own_index, finish, walk, after_set, act_of, next_of, fresh, withdraw, count_book, begin_cast, begin_feed}
+use Rattle.rayon_machine_sleep_laws.proofs.Words.{ends_count, taken_number, Shape, Pool, Stack, World, Counts, Part, target_pool, target_worker, take_cast, effect, after_move, step, put, start, IsRun, first_place, is_blocking, is_filled, Act, Sleepy, Asleep, Wakeup, LookOwn, LookInj, PushOwn}
+use Rattle.rayon_machine_sleep_laws.proofs.Words.{PushInj, Letter, IsSet, letter, with_letter, is_member, plan_pool, plan_job, plan_book, Plain as PlainTask, Token, LockOwn, FallAsleep, LoadCounters, AddSleeping, RelockOwn, UndoSleeping, WakeUp, LockToSettle, BeginTask, LookQueue, PushJob}
+use Rattle.std.proofs.lemmas.Bool.{leb-true}
+use Rattle.rayon_machine_places.specs.declared.place.Place.TheVariants.{TakeCastWorking, JoinTakeCast}
+use Rattle.rayon_machine_places.specs.declared.act.Seen.TheVariants.{Opened}
+use Rattle.rayon_machine_places.specs.Places.{call_all, gather_all}
+use Rattle.rayon_machine_places.specs.World.{Seat, casts_with, empty_seen, left_book, undealt_after}
+use Rattle.rayon_machine_laws.specs.Attended.{is_calling, owes_cast, HasCaster, IsCastAttended}
 use Rattle.rayon_machine_laws.proofs.Asides.{Aside, steps_aside}
 use Rattle.rayon_machine_laws.proofs.Attend.{is_owing}
 use Rattle.rayon_machine_laws.proofs.Attended.{Awake, calm_parts, step_awake, first_awake}
@@ -46,8 +25,10 @@ use Rattle.rayon_machine_laws.proofs.Kept.{sizes, SizedAs, frame_unsized, plan_s
 use Rattle.rayon_machine_laws.proofs.Locks.{tops_map, holds, if_both}
 use Rattle.rayon_machine_laws.proofs.Seats.{is_frame, mode, owns_in}
 use Rattle.rayon_machine_laws.proofs.Ties.{SeatsOk, shape_at, outcome, result}
-use Rattle.rayon_machine_laws.proofs.Tops.{Tops, FramesOk, is_light, frame_light, settled_leads, leads_tops}
+use Rattle.rayon_machine_laws.proofs.Tops.{Tops, FramesOk, is_light, frame_light, settled_leads, leads_tops, Leads, leads, is_heavy}
 use Rattle.rayon_machine_laws.proofs.Waking.{Woke, wake_seen}
+use Rattle.rayon_machine_laws.proofs.Letters.{sleepy_keeps, asleep_keeps, wake_keeps, set_keeps}
+use Rattle.rayon_machine_places.specs.declared.act.Act.TheVariants.{TakeCast, PushCast}
 
 -- where a worker has looked at its broadcast list for the last time, and is not blocked yet
 abbrev pub is_late : Place → Bool
@@ -86,14 +67,41 @@ set_awake : (h : PoolShape) (q : Party) (s : Settling) (e : Seen) → Tops (λ y
 set_awake h q s Yes = refl
 set_awake h q s _ = settled_awake h q s
 
+-- where nothing of the sleep half is done, nothing of it is done next
+calm_late : (h : Shape) (g : PoolShape) (q : Party) (c : Counts) (m : Part) (x : Place) → is_heavy x ≡ false → IfSome (effect (act_of q x) h q c m) (λ r. Tops (λ y. is_late y ≡ false) (next_of g q x (r.0)))
+calm_late h g q c m x e = if_some_map {A = Seen × Part} (λ r. Leads false (next_of g q x (r.0))) (λ r. Tops (λ y. is_late y ≡ false) (next_of g q x (r.0)))
+    (λ r l. tops_map (λ y. is_light y ≡ true) (λ y. is_late y ≡ false) light_awake (next_of g q x (r.0)) (leads_tops (next_of g q x (r.0)) l)) (effect (act_of q x) h q c m)
+    (subst (λ b. IfSome (effect (act_of q x) h q c m) (λ r. Leads b (next_of g q x (r.0)))) e (leads h g q c m x))
+
 never_late : (h : Shape) (g : PoolShape) (q : Party) (c : Counts) (m : Part) (x : Place) → nears x ≡ false → IfSome (effect (act_of q x) h q c m) (λ r. Tops (λ y. is_late y ≡ false) (next_of g q x (r.0)))
-never_late h g (Worker i j) c m (ProbeWorking k) z = search (rules, arith)
+never_late h g (Worker i j) c m (LockOwn k) z = search (rules, arith)
+never_late h g (Worker i j) c m (FallAsleep k) z = search (rules, arith)
+never_late h g (Worker i j) c m (LoadCounters k) z = search (rules, arith)
+never_late h g (Worker i j) c m (AddSleeping k) z = search (rules, arith)
 never_late h g q c m (LookAtCast k) z = cc
 never_late h g q c m (LookAtInjector k) z = cc
+never_late h g (Worker i j) c m (BlockSelf k) z = search (rules, arith)
+never_late h g (Worker i j) c m (RelockOwn k) z = search (rules, arith)
+never_late h g (Worker i j) c m (UndoSleeping k) z = search (rules, arith)
+never_late h g (Worker i j) c m (WakeUp k) z = search (rules, arith)
+never_late h g (Worker i j) c m (LockToWake k) z = search (rules, arith)
+never_late h g (Worker i j) c m (WakeWorker k) z = search (rules, arith)
+never_late h g (Worker i j) c m (LockToSettle k) z = search (rules, arith)
+never_late h g (Worker i j) c m (WakeSettled k) z = search (rules, arith)
+never_late h g (Caller n) c m (LockOwn k) z = tt
+never_late h g (Caller n) c m (FallAsleep k) z = tt
+never_late h g (Caller n) c m (LoadCounters k) z = tt
+never_late h g (Caller n) c m (AddSleeping k) z = tt
+never_late h g (Caller n) c m (BlockSelf k) z = tt
+never_late h g (Caller n) c m (RelockOwn k) z = tt
+never_late h g (Caller n) c m (UndoSleeping k) z = tt
+never_late h g (Caller n) c m (WakeUp k) z = tt
+never_late h g (Caller n) c m (LockToWake k) z = search (rules, arith)
+never_late h g (Caller n) c m (WakeWorker k) z = search (rules, arith)
+never_late h g (Caller n) c m (LockToSettle k) z = search (rules, arith)
+never_late h g (Caller n) c m (WakeSettled k) z = search (rules, arith)
 never_late h g q c m (SetLatch s) z = if_some_all {A = Seen × Part} (λ r. Tops (λ y. is_late y ≡ false) (next_of g q (SetLatch s) (r.0))) (λ r. set_awake g q s (r.0)) (effect (act_of q (SetLatch s)) h q c m)
-never_late h g q c m (UnlockSettled s) z = if_some_all {A = Seen × Part} (λ r. Tops (λ y. is_late y ≡ false) (next_of g q (UnlockSettled s) (r.0))) (λ r. settled_awake g q s) (effect (act_of q (UnlockSettled s)) h q c m)
-never_late h g (Worker i j) c m _ z = search (rules, arith)
-never_late h g (Caller n) c m _ z = search (rules, arith)
+never_late h g q c m x z = calm_late h g q c m x refl
 
 -- no act but the own Block blocks a worker
 blocked_less : (h : Shape) (q : Party) (c : Counts) (m : Part) (x : Place) → is_blocking x ≡ false → IfSome (effect (act_of q x) h q c m) (λ r. r.1.seat.blocked ≡ true → m.seat.blocked ≡ true)
@@ -120,10 +128,6 @@ take_less q m (t ∷ ts) e = λ i h. by i (i == own_index q) refl h
     by i true z h = ap (λ n. is_filled (m.pool.casts n)) (eqb-true i (own_index q) z) ∙ ap is_filled e
     by i false z h = h
 
-set_less : (l : Latch) (r j : ℕ) (h : Shape) (q : Party) (c : Counts) (m : Part) → IfSome (effect (Set l r j) h q c m) (λ r. r.1.pool.casts ≡ m.pool.casts)
-set_less Terminate r j h q c m = search (rules, arith)
-set_less (OfCall n) r j h q c m = search (rules, arith)
-
 abbrev takes : Place → Bool
 takes (TakeCastWorking k) = true
 takes (TakeCastIdle k) = true
@@ -137,18 +141,50 @@ deals (PushForAll b) = true
 deals (DealPieces d) = true
 deals _ = false
 
+-- the acts that change one
+abbrev is_of_cast : Act → Bool
+is_of_cast TakeCast = true
+is_of_cast (PushCast b) = true
+is_of_cast _ = false
+
+abbrev SameCasts : Part → Seen × Part → Type 0
+SameCasts m r = r.1.pool.casts ≡ m.pool.casts
+
+letter_casts : (l : Latch) (m : Part) (e : Seen) (y : Letter) → SameCasts m (e, with_letter l m y)
+letter_casts Terminate m e y = refl
+letter_casts (OfCall c) m e y = refl
+
+act_casts : (a : Act) (h : Shape) (q : Party) (c : Counts) (m : Part) → is_of_cast a ≡ false → IfSome (effect a h q c m) (SameCasts m)
+act_casts TakeCast h q c m z = cc
+act_casts (PushCast b) h q c m z = cc
+act_casts (Sleepy l) h q c m z = sleepy_keeps l SameCasts (λ v e. refl) (λ v e y n. letter_casts l v e y) m (letter l m)
+act_casts (Asleep l) h q c m z = asleep_keeps l SameCasts (λ v e. refl) (λ v e y n. letter_casts l v e y) m (letter l m)
+act_casts (Wakeup l) h q c m z = wake_keeps l SameCasts (λ v e. refl) (λ v e y n. letter_casts l v e y) m (letter l m)
+act_casts (Set l r j) h q c m z = set_keeps l SameCasts (λ v e. letter_casts l v e IsSet) m (letter l m)
+act_casts _ h q c m z = search (rules, arith)
+
+either_act : (b : Bool) (x y : Act) → is_of_cast x ≡ false → is_of_cast y ≡ false → is_of_cast (if b then x else y) ≡ false
+either_act true x y e f = e
+either_act false x y e f = f
+
+place_casts : (q : Party) (x : Place) → deals x ≡ false → takes x ≡ false → is_of_cast (act_of q x) ≡ false
+place_casts (Worker a b) (ProbeWorking k) e z = refl
+place_casts q (BeginTask (PlainTask t)) e z = refl
+place_casts q (BeginTask (Token k i l)) e z = refl
+place_casts q (LookQueue n) e z = either_act (is_member q (plan_pool n)) LookOwn (LookInj (plan_pool n)) refl refl
+place_casts q (PushJob n v) e z = either_act (is_member q (plan_pool n)) (PushOwn (plan_job n) (plan_book n)) (PushInj (plan_pool n) (plan_job n) (plan_book n)) refl refl
+place_casts q (PushForAll b) e z = absurd (let a : true ≡ false = e in cc)
+place_casts q (DealPieces d) e z = absurd (let a : true ≡ false = e in cc)
+place_casts q (TakeCastWorking k) e z = absurd (let a : true ≡ false = z in cc)
+place_casts q (TakeCastIdle k) e z = absurd (let a : true ≡ false = z in cc)
+place_casts q (JoinTakeCast o) e z = absurd (let a : true ≡ false = z in cc)
+place_casts q YieldTakeCast e z = absurd (let a : true ≡ false = z in cc)
+place_casts q LocalTakeCast e z = absurd (let a : true ≡ false = z in cc)
+place_casts (Worker a b) _ e z = refl
+place_casts (Caller n) _ e z = refl
+
 same_casts : (h : Shape) (q : Party) (c : Counts) (m : Part) (x : Place) → deals x ≡ false → takes x ≡ false → IfSome (effect (act_of q x) h q c m) (λ r. r.1.pool.casts ≡ m.pool.casts)
-same_casts h (Worker a b) c m (ProbeWorking k) e z = search (rules, arith)
-same_casts h q c m (PushForAll k) e z = cc
-same_casts h q c m (DealPieces k) e z = cc
-same_casts h q c m (TakeCastWorking k) e z = cc
-same_casts h q c m (TakeCastIdle k) e z = cc
-same_casts h q c m (JoinTakeCast k) e z = cc
-same_casts h q c m YieldTakeCast e z = cc
-same_casts h q c m LocalTakeCast e z = cc
-same_casts h q c m (SetLatch s) e z = set_less s.latch s.pool s.worker h q c m
-same_casts h (Worker a b) c m _ e z = search (rules, arith)
-same_casts h (Caller n) c m _ e z = search (rules, arith)
+same_casts h q c m x e z = act_casts (act_of q x) h q c m (place_casts q x e z)
 
 casts_less : (h : Shape) (q : Party) (c : Counts) (m : Part) (x : Place) → deals x ≡ false → IfSome (effect (act_of q x) h q c m) (CastsLess m)
 casts_less h (Worker a b) c m (TakeCastWorking k) e = take_less (Worker a b) m (m.pool.casts b) refl
@@ -176,12 +212,7 @@ finish_unsized (Caller c) (Await o) = refl
 finish_unsized (Worker i j) (Gathers o) = refl
 finish_unsized (Caller c) (Gathers o) = refl
 finish_unsized q (RunFirst o a) = refl
-finish_unsized q Resume = tt
-finish_unsized q Called = tt
-finish_unsized q (Answers o f e) = tt
-finish_unsized q (Missing o f) = tt
-finish_unsized q (Ran t e) = tt
-finish_unsized q (GiveBack n) = tt
+finish_unsized q _ = tt
 
 settled_unsized : (h : PoolShape) (q : Party) (s : Settling) (l : Latch) → Tops (λ y. sizes y ≡ None) (after_set h q s l)
 settled_unsized h q s Terminate = by (nat_lt (s.worker + 1) h.workers)
@@ -239,8 +270,7 @@ Sized h b p = (b.workers ≡ (h.pool b.pool).workers) × (p ≡ b.pool)
 
 begun_sized : (h : Shape) (b : Pieces) (k : Count) → Sized h b b.pool → SizedAs h (sizes (begin_cast k b))
 begun_sized h b (OfPool p) s = s
-begun_sized h b (OfScope c o) s = s
-begun_sized h b (OfCast c o) s = s
+begun_sized h b _ s = s
 
 opened_sized : (g : PoolShape) (q : Party) (b : Pieces) (h : Shape) (e : Seen) → Sized h b b.pool → Tops (λ y. SizedAs h (sizes y)) (next_of g q (OpenForAll b) e)
 opened_sized g q b h (Opened n) s = s
@@ -248,8 +278,7 @@ opened_sized g q b h _ s = tt
 
 fed_sized : (h : Shape) (f : Feeding) (k : Count) → SizedAs h (sizes (begin_feed k f))
 fed_sized h f (OfPool p) = tt
-fed_sized h f (OfScope c o) = tt
-fed_sized h f (OfCast c o) = tt
+fed_sized h f _ = tt
 
 plan_sized : (g : PoolShape) (q : Party) (n : Plan) (h : Shape) (e : Seen) → SizedAs h (plan_sizes n) → Tops (λ y. SizedAs h (sizes y)) (next_of g q (RaiseCount n) e)
 plan_sized g q (Gather d) h Done s = s
@@ -271,12 +300,17 @@ raised_sized g q b h Done s = begun_sized h b b.count s
 raised_sized g q b h _ s = tt
 
 sized_tops : (w : World) (q : Party) (x : Place) (fs : List Place) → w.stack q ≡ record { top = x; below = fs } → CastsOk w → IfSome (outcome w q (record { top = x; below = fs })) (λ r. Tops (λ y. SizedAs w.shape (sizes y)) (next_at w q (record { top = x; below = fs }) (r.0)))
-sized_tops w q (RaiseForAll b) fs e ok = if_some_all {A = Seen × Part} (λ r. Tops (λ y. SizedAs w.shape (sizes y)) (next_at w q (record { top = RaiseForAll b; below = fs }) (r.0))) (λ r. raised_sized (shape_at w q (record { top = RaiseForAll b; below = fs })) q b w.shape (r.0) (subst (λ k. SizedAs w.shape (sizes (k.top))) e (ok.sized q))) (outcome w q (record { top = RaiseForAll b; below = fs }))
-sized_tops w q (OpenForAll b) fs e ok = if_some_all {A = Seen × Part} (λ r. Tops (λ y. SizedAs w.shape (sizes y)) (next_at w q (record { top = OpenForAll b; below = fs }) (r.0))) (λ r. opened_sized (shape_at w q (record { top = OpenForAll b; below = fs })) q b w.shape (r.0) (subst (λ k. SizedAs w.shape (sizes (k.top))) e (ok.sized q))) (outcome w q (record { top = OpenForAll b; below = fs }))
-sized_tops w q (RaiseCount n) fs e ok = if_some_all {A = Seen × Part} (λ r. Tops (λ y. SizedAs w.shape (sizes y)) (next_at w q (record { top = RaiseCount n; below = fs }) (r.0))) (λ r. plan_sized (shape_at w q (record { top = RaiseCount n; below = fs })) q n w.shape (r.0) (subst (λ k. SizedAs w.shape (sizes (k.top))) e (ok.sized q))) (outcome w q (record { top = RaiseCount n; below = fs }))
-sized_tops w q (GrowCast d) fs e ok = if_some_all {A = Seen × Part} (λ r. Tops (λ y. SizedAs w.shape (sizes y)) (next_at w q (record { top = GrowCast d; below = fs }) (r.0))) (λ r. grown_sized (shape_at w q (record { top = GrowCast d; below = fs })) q d w.shape (r.0) (subst (λ k. SizedAs w.shape (sizes (k.top))) e (ok.sized q))) (outcome w q (record { top = GrowCast d; below = fs }))
+sized_tops w q (RaiseForAll b) fs e ok = if_some_all {A = Seen × Part} (λ r. Tops (λ y. SizedAs w.shape (sizes y)) (next_at w q (record { top = RaiseForAll b; below = fs }) (r.0)))
+    (λ r. raised_sized (shape_at w q (record { top = RaiseForAll b; below = fs })) q b w.shape (r.0) (subst (λ k. SizedAs w.shape (sizes (k.top))) e (ok.sized q))) (outcome w q (record { top = RaiseForAll b; below = fs }))
+sized_tops w q (OpenForAll b) fs e ok = if_some_all {A = Seen × Part} (λ r. Tops (λ y. SizedAs w.shape (sizes y)) (next_at w q (record { top = OpenForAll b; below = fs }) (r.0)))
+    (λ r. opened_sized (shape_at w q (record { top = OpenForAll b; below = fs })) q b w.shape (r.0) (subst (λ k. SizedAs w.shape (sizes (k.top))) e (ok.sized q))) (outcome w q (record { top = OpenForAll b; below = fs }))
+sized_tops w q (RaiseCount n) fs e ok = if_some_all {A = Seen × Part} (λ r. Tops (λ y. SizedAs w.shape (sizes y)) (next_at w q (record { top = RaiseCount n; below = fs }) (r.0)))
+    (λ r. plan_sized (shape_at w q (record { top = RaiseCount n; below = fs })) q n w.shape (r.0) (subst (λ k. SizedAs w.shape (sizes (k.top))) e (ok.sized q))) (outcome w q (record { top = RaiseCount n; below = fs }))
+sized_tops w q (GrowCast d) fs e ok = if_some_all {A = Seen × Part} (λ r. Tops (λ y. SizedAs w.shape (sizes y)) (next_at w q (record { top = GrowCast d; below = fs }) (r.0)))
+    (λ r. grown_sized (shape_at w q (record { top = GrowCast d; below = fs })) q d w.shape (r.0) (subst (λ k. SizedAs w.shape (sizes (k.top))) e (ok.sized q))) (outcome w q (record { top = GrowCast d; below = fs }))
 sized_tops w q x fs e ok = let k : Stack = record { top = x; below = fs } in
-    if_some_map {A = Seen × Part} (λ r. Tops (λ y. sizes y ≡ None) (next_at w q k (r.0))) (λ r. Tops (λ y. SizedAs w.shape (sizes y)) (next_at w q k (r.0))) (λ r t. tops_map (λ y. sizes y ≡ None) (λ y. SizedAs w.shape (sizes y)) (λ y n. subst (SizedAs w.shape) (sym n) tt) (next_at w q k (r.0)) t) (outcome w q k) (unsized w.shape (shape_at w q k) q (counts_seen w q k) (part_at w q k) x refl)
+    if_some_map {A = Seen × Part} (λ r. Tops (λ y. sizes y ≡ None) (next_at w q k (r.0))) (λ r. Tops (λ y. SizedAs w.shape (sizes y)) (next_at w q k (r.0)))
+    (λ r t. tops_map (λ y. sizes y ≡ None) (λ y. SizedAs w.shape (sizes y)) (λ y n. subst (SizedAs w.shape) (sym n) tt) (next_at w q k (r.0)) t) (outcome w q k) (unsized w.shape (shape_at w q k) q (counts_seen w q k) (part_at w q k) x refl)
 
 sized_go : (w : World) (q : Party) (k : Stack) → w.stack q ≡ k → FramesOk w → CastsOk w → IfSome (outcome w q k) (λ r. (g : Party) → SizedAs w.shape (sizes ((result w q k r).stack g).top))
 sized_go w q k e fr ok = if_some_map {A = Seen × Part} (λ r. Tops (λ y. SizedAs w.shape (sizes y)) (next_at w q k (r.0))) (λ r. (g : Party) → SizedAs w.shape (sizes ((result w q k r).stack g).top)) (λ r t g. by r t g (same_party g q)) (outcome w q k) (sized_tops w q k.top k.below e ok)
@@ -306,8 +340,10 @@ still_called w q k r p i e hc on = record { party = hc.party; casts = by (same_p
     by false z = hc.casts
 
 -- a worker that looks no more after an act did not before, but for its own look and its own Block
-deaf_back : (w : World) (q : Party) (k : Stack) (r : Seen × Part) (p i : ℕ) → w.stack q ≡ k → FramesOk w → (same_party (Worker p i) q ≡ true → is_late ((after_move (next_at w q k (r.0)) k.below).top) ≡ true → is_deaf w p i ≡ true) → (((p == target_pool q (act_of q k.top)) && (i == target_worker q (act_of q k.top))) ≡ true → r.1.seat.blocked ≡ true → is_deaf w p i ≡ true) → is_deaf (result w q k r) p i ≡ true → is_deaf w p i ≡ true
-deaf_back w q k r p i e fr late blocked h = elim (or_parts (is_late ((result w q k r).stack (Worker p i)).top) (((result w q k r).seat p i).blocked) h) [ inl a ↦ by_top (same_party (Worker p i) q) refl a | inr b ↦ by_seat ((p == target_pool q (act_of q k.top)) && (i == target_worker q (act_of q k.top))) refl b ]
+deaf_back : (w : World) (q : Party) (k : Stack) (r : Seen × Part) (p i : ℕ) → w.stack q ≡ k → FramesOk w → (same_party (Worker p i) q ≡ true → is_late ((after_move (next_at w q k (r.0)) k.below).top) ≡ true → is_deaf w p i ≡ true)
+    → (((p == target_pool q (act_of q k.top)) && (i == target_worker q (act_of q k.top))) ≡ true → r.1.seat.blocked ≡ true → is_deaf w p i ≡ true) → is_deaf (result w q k r) p i ≡ true → is_deaf w p i ≡ true
+deaf_back w q k r p i e fr late blocked h = elim (or_parts (is_late ((result w q k r).stack (Worker p i)).top) (((result w q k r).seat p i).blocked) h)
+    [ inl a ↦ by_top (same_party (Worker p i) q) refl a | inr b ↦ by_seat ((p == target_pool q (act_of q k.top)) && (i == target_worker q (act_of q k.top))) refl b ]
   where
     or_true : (b : Bool) → (b || true) ≡ true
     or_true true = refl
@@ -327,7 +363,8 @@ or_right false b e = e
 
 -- the seat that an act touches, by the worker that it is of
 touched : (w : World) (q : Party) (k : Stack) (p i : ℕ) → ((p == target_pool q (act_of q k.top)) && (i == target_worker q (act_of q k.top))) ≡ true → (part_at w q k).seat ≡ w.seat p i
-touched w q k p i z = let at : (p ≡ target_pool q (act_of q k.top)) × (i ≡ target_worker q (act_of q k.top)) = same_index p i (target_pool q (act_of q k.top)) (target_worker q (act_of q k.top)) z in ap (λ n. w.seat n (target_worker q (act_of q k.top))) (sym (at.0)) ∙ ap (λ n. w.seat p n) (sym (at.1))
+touched w q k p i z = let at : (p ≡ target_pool q (act_of q k.top)) × (i ≡ target_worker q (act_of q k.top)) = same_index p i (target_pool q (act_of q k.top)) (target_worker q (act_of q k.top)) z in ap (λ n. w.seat n (target_worker q (act_of q k.top))) (sym (at.0))
+    ∙ ap (λ n. w.seat p n) (sym (at.1))
 
 -- the party's own top is that place
 own_top : (w : World) (q : Party) (k : Stack) (p i : ℕ) → w.stack q ≡ k → same_party (Worker p i) q ≡ true → (w.stack (Worker p i)).top ≡ k.top
@@ -339,11 +376,16 @@ Plain w q k r = (Tops (λ y. is_late y ≡ false) (next_at w q k (r.0)) ⊎ (is_
 
 plain_deaf : (w : World) (q : Party) (k : Stack) (r : Seen × Part) (p i : ℕ) → w.stack q ≡ k → FramesOk w → Plain w q k r → is_deaf (result w q k r) p i ≡ true → is_deaf w p i ≡ true
 plain_deaf w q k r p i e fr s = deaf_back w q k r p i e fr
-    (λ z a. elim (s.0) [ inl t ↦ absurd (let n : is_late ((after_move (next_at w q k (r.0)) k.below).top) ≡ false = top_then (λ y. is_late y ≡ false) w q k (r.0) e fr frame_awake t in cc) | inr l ↦ (let o : is_late (w.stack (Worker p i)).top ≡ true = ap is_late (own_top w q k p i e z) ∙ l in rw o refl) ])
+    (λ z a. elim (s.0) [
+      | inl t ↦ absurd (let n : is_late ((after_move (next_at w q k (r.0)) k.below).top) ≡ false = top_then (λ y. is_late y ≡ false) w q k (r.0) e fr frame_awake t in cc)
+      | inr l ↦ (let o : is_late (w.stack (Worker p i)).top ≡ true = ap is_late (own_top w q k p i e z) ∙ l in rw o refl)
+    ])
     (λ z b. or_right (is_late (w.stack (Worker p i)).top) ((w.seat p i).blocked) (ap (λ n. n.blocked) (sym (touched w q k p i z)) ∙ s.1 b))
 
 -- an act that deals no pieces, and after which who owed still does
-plain_called : (w : World) (q : Party) (k : Stack) (r : Seen × Part) → w.stack q ≡ k → FramesOk w → CastsOk w → Plain w q k r → ((p i : ℕ) → i < (w.shape.pool p).workers → owes_cast k.top (w.shape.pool p).workers p i ≡ true → is_deaf (result w q k r) p i ≡ true → owes_cast ((after_move (next_at w q k (r.0)) k.below).top) (w.shape.pool p).workers p i ≡ true) → (p i : ℕ) → is_filled (((result w q k r).pool p).casts i) ≡ true → is_deaf (result w q k r) p i ≡ true → HasCaster (result w q k r) p i
+plain_called : (w : World) (q : Party) (k : Stack) (r : Seen × Part) → w.stack q ≡ k → FramesOk w → CastsOk w → Plain w q k r
+    → ((p i : ℕ) → i < (w.shape.pool p).workers → owes_cast k.top (w.shape.pool p).workers p i ≡ true → is_deaf (result w q k r) p i ≡ true → owes_cast ((after_move (next_at w q k (r.0)) k.below).top) (w.shape.pool p).workers p i ≡ true) → (p i : ℕ)
+    → is_filled (((result w q k r).pool p).casts i) ≡ true → is_deaf (result w q k r) p i ≡ true → HasCaster (result w q k r) p i
 plain_called w q k r e fr ok s on p i filled deaf =
     let was : is_filled ((w.pool p).casts i) ≡ true = filled_back w q k r (s.2) p i filled in
     still_called w q k r p i e (ok.called p i was (plain_deaf w q k r p i e fr s deaf)) (λ o. on p i (within was) o deaf)
@@ -377,7 +419,8 @@ abbrev CalledIn : World → Type 0
 CalledIn w = (p i : ℕ) → is_filled ((w.pool p).casts i) ≡ true → is_deaf w p i ≡ true → HasCaster w p i
 
 -- the last look at the own list: if the worker goes on to the injector, its list is empty
-look_called : (w : World) (a b : ℕ) (k : Wait) (fs : List Place) → w.stack (Worker a b) ≡ record { top = LookAtCast k; below = fs } → FramesOk w → CastsOk w → IfSome (outcome w (Worker a b) (record { top = LookAtCast k; below = fs })) (λ r. CalledIn (result w (Worker a b) (record { top = LookAtCast k; below = fs }) r))
+look_called : (w : World) (a b : ℕ) (k : Wait) (fs : List Place) → w.stack (Worker a b) ≡ record { top = LookAtCast k; below = fs } → FramesOk w → CastsOk w → IfSome (outcome w (Worker a b) (record { top = LookAtCast k; below = fs }))
+    (λ r. CalledIn (result w (Worker a b) (record { top = LookAtCast k; below = fs }) r))
 look_called w a b k fs e fr ok p i filled deaf =
     let s : Stack = record { top = LookAtCast k; below = fs } in
     let q : Party = Worker a b in
@@ -392,7 +435,8 @@ look_called w a b k fs e fr ok p i filled deaf =
     mine : same_party (Worker p i) (Worker a b) ≡ true → is_filled ((w.pool p).casts i) ≡ true → is_late ((after_move (next_of (w.shape.pool a) (Worker a b) (LookAtCast k) (empty_seen ((w.pool a).casts b))) fs).top) ≡ true → ⊥
     mine z f l = let n : (p ≡ a) × (i ≡ b) = same_index p i a b z in empty ((w.pool a).casts b) (subst (λ j. is_filled ((w.pool a).casts j) ≡ true) (n.1) (subst (λ j. is_filled ((w.pool j).casts i) ≡ true) (n.0) f)) l
 
-block_called : (w : World) (a b : ℕ) (k : Wait) (fs : List Place) → w.stack (Worker a b) ≡ record { top = BlockSelf k; below = fs } → FramesOk w → CastsOk w → IfSome (outcome w (Worker a b) (record { top = BlockSelf k; below = fs })) (λ r. CalledIn (result w (Worker a b) (record { top = BlockSelf k; below = fs }) r))
+block_called : (w : World) (a b : ℕ) (k : Wait) (fs : List Place) → w.stack (Worker a b) ≡ record { top = BlockSelf k; below = fs } → FramesOk w → CastsOk w → IfSome (outcome w (Worker a b) (record { top = BlockSelf k; below = fs }))
+    (λ r. CalledIn (result w (Worker a b) (record { top = BlockSelf k; below = fs }) r))
 block_called w a b k fs e fr ok p i filled deaf =
     let s : Stack = record { top = BlockSelf k; below = fs } in
     let q : Party = Worker a b in
@@ -410,7 +454,13 @@ deal_called w q b fs e fr ok = at q refl
     k = record { top = PushForAll b; below = fs }
 
     r : Party → Seen × Part
-    r g = (Done, record (part_at w g k) { pool = record ((part_at w g k).pool) { casts = casts_with b (part_at w g k).pool.casts }; call = record ((part_at w g k).call) { writer = left_book g (count_book b.count) (part_at w g k).call.writer; undealt = undealt_after b.count (part_at w g k).call.undealt } })
+    r g = (
+      Done,
+      record (part_at w g k) {
+        pool = record ((part_at w g k).pool) { casts = casts_with b (part_at w g k).pool.casts };
+        call = record ((part_at w g k).call) { writer = left_book g (count_book b.count) (part_at w g k).call.writer; undealt = undealt_after b.count (part_at w g k).call.undealt };
+      },
+    )
 
     there : (g : Party) → target_pool g (act_of g (PushForAll b)) ≡ b.pool
     there (Worker x y) = refl
@@ -449,7 +499,13 @@ gather_called w q d fs e fr ok = at q refl
     k = record { top = DealPieces d; below = fs }
 
     r : Party → Seen × Part
-    r g = (Done, record (part_at w g k) { pool = record ((part_at w g k).pool) { casts = casts_with d.pieces (part_at w g k).pool.casts }; call = record ((part_at w g k).call) { writer = left_book g (count_book d.pieces.count) (part_at w g k).call.writer; undealt = undealt_after d.pieces.count (part_at w g k).call.undealt } })
+    r g = (
+      Done,
+      record (part_at w g k) {
+        pool = record ((part_at w g k).pool) { casts = casts_with d.pieces (part_at w g k).pool.casts };
+        call = record ((part_at w g k).call) { writer = left_book g (count_book d.pieces.count) (part_at w g k).call.writer; undealt = undealt_after d.pieces.count (part_at w g k).call.undealt };
+      },
+    )
 
     there : (g : Party) → target_pool g (act_of g (DealPieces d)) ≡ d.pieces.pool
     there (Worker x y) = refl
@@ -493,7 +549,8 @@ some_same : (g q : Party) → Some g ≡ Some q → g ≡ q
 some_same g q e = cc
 
 -- a worker that has been woken, or was found awake, looks at its list again
-woken_hears : (w : World) (q : Party) (n : Walk) (fs : List Place) (r : Seen × Part) → w.stack q ≡ record { top = WakeWorker n; below = fs } → SeatsOk w → FramesOk w → LocksOk w → Woke (part_at w q (record { top = WakeWorker n; below = fs })) r → Tops (λ y. is_late y ≡ false) (next_at w q (record { top = WakeWorker n; below = fs }) (r.0)) → is_deaf (result w q (record { top = WakeWorker n; below = fs }) r) n.pool n.worker ≡ false
+woken_hears : (w : World) (q : Party) (n : Walk) (fs : List Place) (r : Seen × Part) → w.stack q ≡ record { top = WakeWorker n; below = fs } → SeatsOk w → FramesOk w → LocksOk w → Woke (part_at w q (record { top = WakeWorker n; below = fs })) r → Tops (λ y. is_late y ≡ false)
+    (next_at w q (record { top = WakeWorker n; below = fs }) (r.0)) → is_deaf (result w q (record { top = WakeWorker n; below = fs }) r) n.pool n.worker ≡ false
 woken_hears w q n fs r e ok fr locks s t = by (is_deaf u n.pool n.worker) refl
   where
     k : Stack
@@ -562,7 +619,8 @@ wake_owes k n p i g q fs _ o l =
     let d : nat_lt k.worker i ≡ true = lt-ltb k.worker i l in
     rw (a, b, c, d) refl
 
-wake_called : (w : World) (q : Party) (n : Walk) (fs : List Place) → w.stack q ≡ record { top = WakeWorker n; below = fs } → SeatsOk w → FramesOk w → LocksOk w → CastsOk w → IfSome (outcome w q (record { top = WakeWorker n; below = fs })) (λ r. CalledIn (result w q (record { top = WakeWorker n; below = fs }) r))
+wake_called : (w : World) (q : Party) (n : Walk) (fs : List Place) → w.stack q ≡ record { top = WakeWorker n; below = fs } → SeatsOk w → FramesOk w → LocksOk w → CastsOk w → IfSome (outcome w q (record { top = WakeWorker n; below = fs }))
+    (λ r. CalledIn (result w q (record { top = WakeWorker n; below = fs }) r))
 wake_called w q n fs e ok fr locks h =
     if_some_map {A = Seen × Part} (λ r. Plain w q k r × (Woke (part_at w q k) r × Tops (λ y. is_late y ≡ false) (next_at w q k (r.0)))) (λ r. CalledIn (result w q k r))
     (λ r s. plain_called w q k r e fr h (s.0) (λ p i l o deaf. (let b : OwesCast n (w.shape.pool p).workers p i n.worker × (n.worker ≤ i) = lock_parts n (w.shape.pool p).workers p i o in
@@ -583,7 +641,8 @@ unlock_target : (q : Party) (n : Walk) → target_pool q (act_of q (UnlockWoken 
 unlock_target (Worker i j) n = refl
 unlock_target (Caller c) n = refl
 
-unlock_called : (w : World) (q : Party) (n : Walk) (fs : List Place) (p i : ℕ) → i < (w.shape.pool p).workers → owes_cast (UnlockWoken n) (w.shape.pool p).workers p i ≡ true → owes_cast ((after_move (walk (w.shape.pool (target_pool q (act_of q (UnlockWoken n)))) q n.pool n.owed (n.worker + 1) n.then) fs).top) (w.shape.pool p).workers p i ≡ true
+unlock_called : (w : World) (q : Party) (n : Walk) (fs : List Place) (p i : ℕ) → i < (w.shape.pool p).workers → owes_cast (UnlockWoken n) (w.shape.pool p).workers p i ≡ true
+    → owes_cast ((after_move (walk (w.shape.pool (target_pool q (act_of q (UnlockWoken n)))) q n.pool n.owed (n.worker + 1) n.then) fs).top) (w.shape.pool p).workers p i ≡ true
 unlock_called w q n fs p i l o =
     let b : OwesCast n (w.shape.pool p).workers p i (n.worker + 1) × (n.worker < i) = unlock_parts n (w.shape.pool p).workers p i o in
     let m : (w.shape.pool p).workers ≤ n.owed + (n.worker + 1) = (b.0).enough in
@@ -598,7 +657,9 @@ unlock_called w q n fs p i l o =
     let f : nat_le (n.worker + 1) i ≡ true = le-leb (n.worker + 1) i (omega (arith, later)) in
     rw (some, on, a, c, d, f) refl
 
-plainly : (w : World) (q : Party) (x : Place) (fs : List Place) → w.stack q ≡ record { top = x; below = fs } → FramesOk w → CastsOk w → special x ≡ false → ((e : Seen) (p i : ℕ) → i < (w.shape.pool p).workers → owes_cast x (w.shape.pool p).workers p i ≡ true → owes_cast ((after_move (next_at w q (record { top = x; below = fs }) e) fs).top) (w.shape.pool p).workers p i ≡ true) → IfSome (outcome w q (record { top = x; below = fs })) (λ r. CalledIn (result w q (record { top = x; below = fs }) r))
+plainly : (w : World) (q : Party) (x : Place) (fs : List Place) → w.stack q ≡ record { top = x; below = fs } → FramesOk w → CastsOk w → special x ≡ false
+    → ((e : Seen) (p i : ℕ) → i < (w.shape.pool p).workers → owes_cast x (w.shape.pool p).workers p i ≡ true → owes_cast ((after_move (next_at w q (record { top = x; below = fs }) e) fs).top) (w.shape.pool p).workers p i ≡ true) → IfSome (outcome w q (record { top = x; below = fs }))
+    (λ r. CalledIn (result w q (record { top = x; below = fs }) r))
 plainly w q x fs e fr h z on = let k : Stack = record { top = x; below = fs } in
     if_some_map {A = Seen × Part} (Plain w q k) (λ r. CalledIn (result w q k r)) (λ r s. plain_called w q k r e fr h s (λ p i l o d. on (r.0) p i l o)) (outcome w q k) (plain_go w q x fs z)
 
@@ -618,7 +679,8 @@ go_called w q x fs e ok fr locks h = plainly w q x fs e fr h refl (λ s p i l o.
 beyond_less : (w : World) (q : Party) (k : Stack) (r : Seen × Part) → CastsLess (part_at w q k) r → CastsOk w → (p i : ℕ) → (w.shape.pool p).workers ≤ i → is_filled (((result w q k r).pool p).casts i) ≡ false
 beyond_less w q k r less ok p i l = not_filled (is_filled (((result w q k r).pool p).casts i)) (λ f. (let y : is_filled ((w.pool p).casts i) ≡ true = filled_back w q k r less p i f in let n : is_filled ((w.pool p).casts i) ≡ false = ok.beyond p i l in cc))
 
-dealt_beyond : (w : World) (g : Party) (b : Pieces) (fs : List Place) → w.stack g ≡ record { top = PushForAll b; below = fs } → CastsOk w → target_pool g (act_of g (PushForAll b)) ≡ b.pool → (p i : ℕ) → (w.shape.pool p).workers ≤ i → is_filled ((put w.pool (target_pool g (act_of g (PushForAll b))) (record (w.pool (target_pool g (act_of g (PushForAll b)))) { casts = casts_with b (w.pool (target_pool g (act_of g (PushForAll b)))).casts }) p).casts i) ≡ false
+dealt_beyond : (w : World) (g : Party) (b : Pieces) (fs : List Place) → w.stack g ≡ record { top = PushForAll b; below = fs } → CastsOk w → target_pool g (act_of g (PushForAll b)) ≡ b.pool → (p i : ℕ) → (w.shape.pool p).workers ≤ i
+    → is_filled ((put w.pool (target_pool g (act_of g (PushForAll b))) (record (w.pool (target_pool g (act_of g (PushForAll b)))) { casts = casts_with b (w.pool (target_pool g (act_of g (PushForAll b)))).casts }) p).casts i) ≡ false
 dealt_beyond w g b fs e ok there p i l = by (p == target_pool g (act_of g (PushForAll b))) refl
   where
     size : b.workers ≡ (w.shape.pool b.pool).workers
@@ -632,7 +694,8 @@ dealt_beyond w g b fs e ok there p i l = by (p == target_pool g (act_of g (PushF
         rw off (ap (λ j. is_filled ((w.pool j).casts i)) (sym n) ∙ ok.beyond p i l)
     by false z = ok.beyond p i l
 
-gathered_beyond : (w : World) (g : Party) (d : Gathering) (fs : List Place) → w.stack g ≡ record { top = DealPieces d; below = fs } → CastsOk w → target_pool g (act_of g (DealPieces d)) ≡ d.pieces.pool → (p i : ℕ) → (w.shape.pool p).workers ≤ i → is_filled ((put w.pool (target_pool g (act_of g (DealPieces d))) (record (w.pool (target_pool g (act_of g (DealPieces d)))) { casts = casts_with d.pieces (w.pool (target_pool g (act_of g (DealPieces d)))).casts }) p).casts i) ≡ false
+gathered_beyond : (w : World) (g : Party) (d : Gathering) (fs : List Place) → w.stack g ≡ record { top = DealPieces d; below = fs } → CastsOk w → target_pool g (act_of g (DealPieces d)) ≡ d.pieces.pool → (p i : ℕ) → (w.shape.pool p).workers ≤ i
+    → is_filled ((put w.pool (target_pool g (act_of g (DealPieces d))) (record (w.pool (target_pool g (act_of g (DealPieces d)))) { casts = casts_with d.pieces (w.pool (target_pool g (act_of g (DealPieces d)))).casts }) p).casts i) ≡ false
 gathered_beyond w g d fs e ok there p i l = by (p == target_pool g (act_of g (DealPieces d))) refl
   where
     size : d.pieces.workers ≡ (w.shape.pool d.pieces.pool).workers
@@ -646,7 +709,8 @@ gathered_beyond w g d fs e ok there p i l = by (p == target_pool g (act_of g (De
         rw off (ap (λ j. is_filled ((w.pool j).casts i)) (sym n) ∙ ok.beyond p i l)
     by false z = ok.beyond p i l
 
-beyond_go : (w : World) (q : Party) (x : Place) (fs : List Place) → w.stack q ≡ record { top = x; below = fs } → CastsOk w → IfSome (outcome w q (record { top = x; below = fs })) (λ r. (p i : ℕ) → (w.shape.pool p).workers ≤ i → is_filled (((result w q (record { top = x; below = fs }) r).pool p).casts i) ≡ false)
+beyond_go : (w : World) (q : Party) (x : Place) (fs : List Place) → w.stack q ≡ record { top = x; below = fs } → CastsOk w → IfSome (outcome w q (record { top = x; below = fs }))
+    (λ r. (p i : ℕ) → (w.shape.pool p).workers ≤ i → is_filled (((result w q (record { top = x; below = fs }) r).pool p).casts i) ≡ false)
 beyond_go w (Worker c d) (PushForAll b) fs e ok = dealt_beyond w (Worker c d) b fs e ok refl
 beyond_go w (Caller n) (PushForAll b) fs e ok = dealt_beyond w (Caller n) b fs e ok refl
 beyond_go w (Worker a b) (DealPieces d) fs e ok = gathered_beyond w (Worker a b) d fs e ok refl
@@ -658,7 +722,8 @@ go_casts : (w : World) → Awake w → CastsOk w → (q : Party) → IfSome (out
 go_casts w a h q =
     let k : Stack = w.stack q in
     let o = outcome w q k in
-    if_some_map {A = Seen × Part} (λ r. ((g : Party) → SizedAs w.shape (sizes ((result w q k r).stack g).top)) × (((p i : ℕ) → (w.shape.pool p).workers ≤ i → is_filled (((result w q k r).pool p).casts i) ≡ false) × CalledIn (result w q k r))) (λ r. CastsOk (result w q k r)) (λ r s. record { sized = s.0; beyond = (s.1).0; called = (s.1).1 }) o
+    if_some_map {A = Seen × Part} (λ r. ((g : Party) → SizedAs w.shape (sizes ((result w q k r).stack g).top)) × (((p i : ℕ) → (w.shape.pool p).workers ≤ i → is_filled (((result w q k r).pool p).casts i) ≡ false) × CalledIn (result w q k r))) (λ r. CastsOk (result w q k r))
+    (λ r s. record { sized = s.0; beyond = (s.1).0; called = (s.1).1 }) o
     (if_some_and (λ r. (g : Party) → SizedAs w.shape (sizes ((result w q k r).stack g).top)) (λ r. ((p i : ℕ) → (w.shape.pool p).workers ≤ i → is_filled (((result w q k r).pool p).casts i) ≡ false) × CalledIn (result w q k r)) o (sized_go w q k refl (a.frames) h)
     (if_some_and (λ r. (p i : ℕ) → (w.shape.pool p).workers ≤ i → is_filled (((result w q k r).pool p).casts i) ≡ false) (λ r. CalledIn (result w q k r)) o (beyond_go w q k.top k.below refl h) (go_called w q k.top k.below refl (a.seats) (a.frames) (a.locks) h)))
 
@@ -680,17 +745,20 @@ aside_casts w u m h = record {
     sized g false = h.sized g
 
     deaf : (p i : ℕ) → is_deaf u p i ≡ true → is_deaf w p i ≡ true
-    deaf p i d = elim (or_parts (is_late (u.stack (Worker p i)).top) ((u.seat p i).blocked) d) [ inl a ↦ top (same_party (Worker p i) (m.party)) refl (ap (λ (k : Stack). is_late (k.top)) (sym (m.stack (Worker p i))) ∙ a) | inr b ↦ or_right (is_late (w.stack (Worker p i)).top) ((w.seat p i).blocked) (ap (λ (s : Seat). s.blocked) (sym (m.seat p i)) ∙ b) ]
+    deaf p i d = elim (or_parts (is_late (u.stack (Worker p i)).top) ((u.seat p i).blocked) d)
+        [ inl a ↦ top (same_party (Worker p i) (m.party)) refl (ap (λ (k : Stack). is_late (k.top)) (sym (m.stack (Worker p i))) ∙ a) | inr b ↦ or_right (is_late (w.stack (Worker p i)).top) ((w.seat p i).blocked) (ap (λ (s : Seat). s.blocked) (sym (m.seat p i)) ∙ b) ]
       where
         top : (b : Bool) → same_party (Worker p i) (m.party) ≡ b → is_late ((if b then m.to else w.stack (Worker p i)).top) ≡ true → is_deaf w p i ≡ true
         top true z l = absurd (let n : is_late ((m.to).top) ≡ false = light_awake ((m.to).top) ((calm_parts ((m.to).top) (m.now)).0) in cc)
         top false z l = (rw l refl)
 
     called : (p i : ℕ) → is_filled ((w.pool p).casts i) ≡ true → is_deaf w p i ≡ true → HasCaster u p i
-    called p i f d = let c : HasCaster w p i = h.called p i f d in record { party = c.party; casts = ap (λ s. owes_cast (u.stack (c.party)).top (s.pool p).workers p i) m.shape ∙ ap (λ (k : Stack). owes_cast (k.top) (w.shape.pool p).workers p i) (m.stack (c.party)) ∙ owed (c.party) (same_party (c.party) (m.party)) refl (c.casts) }
+    called p i f d = let c : HasCaster w p i = h.called p i f d in
+        record { party = c.party; casts = ap (λ s. owes_cast (u.stack (c.party)).top (s.pool p).workers p i) m.shape ∙ ap (λ (k : Stack). owes_cast (k.top) (w.shape.pool p).workers p i) (m.stack (c.party)) ∙ owed (c.party) (same_party (c.party) (m.party)) refl (c.casts) }
       where
         owed : (g : Party) (b : Bool) → same_party g (m.party) ≡ b → owes_cast (w.stack g).top (w.shape.pool p).workers p i ≡ true → owes_cast ((if b then m.to else w.stack g).top) (w.shape.pool p).workers p i ≡ true
-        owed g true z o = absurd (let is : g ≡ m.party = same_party_true g (m.party) z in let n : owes_cast (w.stack g).top (w.shape.pool p).workers p i ≡ false = owes_no_cast (w.stack g).top (w.shape.pool p).workers p i (ap (λ y. is_owing ((w.stack y).top)) is ∙ (calm_parts ((w.stack (m.party)).top) (m.was)).1) in cc)
+        owed g true z o = absurd (let is : g ≡ m.party = same_party_true g (m.party) z in let n : owes_cast (w.stack g).top (w.shape.pool p).workers p i ≡ false = owes_no_cast (w.stack g).top (w.shape.pool p).workers p i
+            (ap (λ y. is_owing ((w.stack y).top)) is ∙ (calm_parts ((w.stack (m.party)).top) (m.was)).1) in cc)
         owed g false z o = o
 
 -- both together
@@ -725,4 +793,5 @@ blocking_late (BlockSelf k) e = refl
 blocking_late _ e = cc
 
 pub cast_attended : (w : World) → CastsOk w → IsCastAttended w
-cast_attended w h p i f has = h.called p i f (elim (or_parts (is_blocking (w.stack (Worker p i)).top) ((w.seat p i).blocked) has) [ inl a ↦ (let l : is_late (w.stack (Worker p i)).top ≡ true = blocking_late (w.stack (Worker p i)).top a in rw l refl) | inr b ↦ or_right (is_late (w.stack (Worker p i)).top) ((w.seat p i).blocked) b ])
+cast_attended w h p i f has = h.called p i f
+    (elim (or_parts (is_blocking (w.stack (Worker p i)).top) ((w.seat p i).blocked) has) [ inl a ↦ (let l : is_late (w.stack (Worker p i)).top ≡ true = blocking_late (w.stack (Worker p i)).top a in rw l refl) | inr b ↦ or_right (is_late (w.stack (Worker p i)).top) ((w.seat p i).blocked) b ])

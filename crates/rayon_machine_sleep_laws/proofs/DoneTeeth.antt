@@ -1,27 +1,8 @@
 -- wrong machines of completions: replays, computed by the kernel, in which a changed table breaks a clause of law_done:
 -- the latch is not set, and none of the parties that ever moved comes to set it
 use Rattle.std.proofs.Common.{refl}
-use Rattle.std.specs.Prelude.{Bool, true, false, ◌||◌, List, [], ◌∷◌, ◌++◌, ◌≡◌, IfSome}
-use Rattle.rayon_machine_places.specs.declared.place.Party.{Party}
-use Rattle.rayon_machine_places.specs.declared.place.Ending.TheVariants.{Fine}
-use Rattle.rayon_machine_places.specs.declared.place.JobKind.TheVariants.{Stored}
-use Rattle.rayon_machine_places.specs.declared.place.Latch.TheVariants.{OfCall}
-use Rattle.rayon_machine_places.specs.declared.place.Count.TheVariants.{OfPool, OfScope, OfCast}
-use Rattle.rayon_machine_places.specs.declared.place.Place.{Place}
-use Rattle.rayon_machine_places.specs.declared.place.Place.TheVariants.{LowerCount, LowerForAll, StoreResult, SetLatch}
-use Rattle.rayon_machine_places.specs.declared.place.Move.{Move}
-use Rattle.rayon_machine_places.specs.declared.place.Move.TheVariants.{Back, HandAllBack}
-use Rattle.rayon_machine_places.specs.declared.act.Seen.{Seen}
-use Rattle.rayon_machine_places.specs.declared.act.Seen.TheVariants.{No, Yes}
-use Rattle.rayon_machine_places.specs.declared.event.Event.{Event}
-use Rattle.rayon_machine_places.specs.declared.event.Event.TheVariants.{Go, Refuse, End, Cast, Install, Scope as OpenScope, Broadcast, EndPool}
-use Rattle.rayon_machine_places.specs.declared.state.Letter.TheVariants.{Unset}
-use Rattle.rayon_machine_places.specs.declared.state.Whereabouts.TheVariants.{Over}
-use Rattle.rayon_machine_places.specs.declared.shape.PoolShape.{PoolShape}
-use Rattle.rayon_machine_places.specs.Places.{act_of, finish, next_of, settle}
-use Rattle.rayon_machine_places.specs.World.{World}
-use Rattle.rayon_machine_laws.specs.Latch.{sets}
-use Rattle.rayon_machine_sleep_laws.specs.Done.{comes_to, stores_for, lowers_for}
+use Rattle.rayon_machine_sleep_laws.proofs.Words.{Bool, true, false, ◌||◌, List, [], ◌∷◌, ◌++◌, ◌≡◌, IfSome, Party, Fine, Stored, OfCall, OfPool, OfScope, OfCast, Place, LowerCount, LowerForAll, StoreResult, SetLatch, Move, Back, HandAllBack, Seen, No, Yes, Event, Go, Refuse, End, Cast, Install}
+use Rattle.rayon_machine_sleep_laws.proofs.Words.{OpenScope, Broadcast, EndPool, Unset, Over, PoolShape, act_of, finish, next_of, settle, World, sets, comes_to, stores_for, lowers_for}
 use Rattle.rayon_machine_sleep_laws.proofs.Machines.{right, leading, run_by, times_go, pool_of, a, c, d}
 
 -- whether a party's next act sets the latch of call 0, stores how its job ended, or gives that job's share back

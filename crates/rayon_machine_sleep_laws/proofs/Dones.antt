@@ -3,25 +3,9 @@
 --
 -- `Nearly` is of scopes and broadcasts, `Coming` of pools.
 use Rattle.std.proofs.Common.{arith, refl, sym, ◌∙◌, ap, subst, inl, inr, ◌≢◌}
-use Rattle.std.specs.Prelude.{ℕ, Bool, true, false, ◌&&◌, ◌+◌, ◌==◌, ◌≤◌, ◌<◌, nat_lt, nat_le, if◌then◌else◌, Some, List, [], ◌∷◌, ◌++◌, ◌≡◌, ◌⊎◌, IfSome}
-use Rattle.std.proofs.lemmas.Bool.{eqb-true, eq-eqb, lt-ltb, le-leb}
-use Rattle.rayon_machine_places.specs.declared.place.Party.{Party}
-use Rattle.rayon_machine_places.specs.declared.place.Party.TheVariants.{Worker, Caller}
-use Rattle.rayon_machine_places.specs.declared.place.Latch.{Latch}
-use Rattle.rayon_machine_places.specs.declared.place.Latch.TheVariants.{Terminate, OfCall}
-use Rattle.rayon_machine_places.specs.declared.place.Settling.{Settling}
-use Rattle.rayon_machine_places.specs.declared.place.Place.{Place}
-use Rattle.rayon_machine_places.specs.declared.place.Place.TheVariants.{SetLatch, LockToSettle, WakeSettled, UnlockSettled, SetLockLatch}
-use Rattle.rayon_machine_places.specs.declared.act.Act.TheVariants.{Set}
-use Rattle.rayon_machine_places.specs.declared.act.Seen.{Seen}
-use Rattle.rayon_machine_places.specs.declared.event.Event.{Event}
-use Rattle.rayon_machine_places.specs.declared.event.Event.TheVariants.{Go}
-use Rattle.rayon_machine_places.specs.declared.state.Letter.TheVariants.{Set as IsSet}
-use Rattle.rayon_machine_places.specs.Places.{act_of, next_of, same_party}
-use Rattle.rayon_machine_places.specs.World.{Shape, World, Part, counts_at, target_pool, target_call}
-use Rattle.rayon_machine_places.specs.Steps.{after_move, step}
-use Rattle.rayon_machine_places.specs.Runs.{IsRun, start}
-use Rattle.rayon_machine_laws.specs.Latch.{sets, is_set_by, SetsSo}
+use Rattle.rayon_machine_sleep_laws.proofs.Words.{ℕ, Bool, true, false, ◌&&◌, ◌+◌, ◌==◌, ◌≤◌, ◌<◌, nat_lt, nat_le, if◌then◌else◌, Some, List, [], ◌∷◌, ◌++◌, ◌≡◌, ◌⊎◌, IfSome, eqb-true, eq-eqb, lt-ltb, le-leb, Party, Worker, Caller, Latch, Terminate, OfCall, Settling, Place, SetLatch}
+use Rattle.rayon_machine_sleep_laws.proofs.Words.{LockToSettle, WakeSettled, UnlockSettled, SetLockLatch, Set, Seen, Event, Go, IsSet, act_of, next_of, same_party, Shape, World, Part, counts_at, target_pool, target_call, after_move, step, IsRun, start, sets, SetsSo, comes_to}
+use Rattle.rayon_machine_laws.specs.Latch.{is_set_by}
 use Rattle.rayon_machine_laws.proofs.Attended.{always_shape}
 use Rattle.rayon_machine_laws.proofs.ClaimRuns.{place_part}
 use Rattle.rayon_machine_laws.proofs.Frame.{either, and_parts, if_some_all, if_some_map, same_party_true}
@@ -31,7 +15,7 @@ use Rattle.rayon_machine_laws.proofs.Scoping.{always_scopes}
 use Rattle.rayon_machine_laws.proofs.SetLaws.{sets_law}
 use Rattle.rayon_machine_laws.proofs.Setters.{is_of, is_end, walks, unset_from, passed}
 use Rattle.rayon_machine_laws.proofs.Ties.{outcome, result}
-use Rattle.rayon_machine_sleep_laws.specs.Done.{IsScopeDone, is_terminate, comes_to, IsPoolDone}
+use Rattle.rayon_machine_sleep_laws.specs.Done.{IsScopeDone, is_terminate, IsPoolDone}
 use Rattle.rayon_machine_sleep_laws.proofs.Rests.{acted, stepped, goes, Rests, not_both, is_act, rests}
 use Rattle.rayon_machine_sleep_laws.proofs.Zeros.{Zeroes, zeroes, not_short, sets_now, led_leads, Comes, ended_comes, walk_comes}
 

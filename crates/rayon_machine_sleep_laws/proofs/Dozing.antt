@@ -2,29 +2,11 @@
 --
 -- A dozing worker's latch is sleeping or set.
 use Rattle.rayon_machine_places.specs.declared.place.Gathering.{Gathering}
-use Rattle.rayon_machine_places.specs.declared.place.Then.{Then}
-use Rattle.rayon_machine_places.specs.declared.place.OpenCall.{OpenCall}
-use Rattle.std.proofs.Common.{refl, sym, ◌∙◌, ap, subst, inl, inr}
-use Rattle.std.specs.Prelude.{ℕ, Bool, true, false, ◌&&◌, ◌==◌, if◌then◌else◌, Option, Some, None, List, ◌≡◌, ◌⊎◌, IfSome}
-use Rattle.std.proofs.lemmas.Bool.{eqb-true, eq-eqb}
-use Rattle.rayon_machine_places.specs.declared.place.Party.{Party}
-use Rattle.rayon_machine_places.specs.declared.place.Party.TheVariants.{Worker, Caller}
-use Rattle.rayon_machine_places.specs.declared.place.Target.{Target}
-use Rattle.rayon_machine_places.specs.declared.place.Target.TheVariants.{Termination, Answer}
-use Rattle.rayon_machine_places.specs.declared.place.Latch.{Latch}
-use Rattle.rayon_machine_places.specs.declared.place.Latch.TheVariants.{Terminate, OfCall}
-use Rattle.rayon_machine_places.specs.declared.place.Plan.{Plan}
-use Rattle.rayon_machine_places.specs.declared.place.Place.{Place}
-use Rattle.rayon_machine_places.specs.declared.place.Place.TheVariants.{GetSleepy, FallAsleep, LoadCounters, AddSleeping, LookAtCast, LookAtInjector, BlockSelf, RelockOwn, WakeUp, GrowCall, SetLatch, LockToSettle, WakeSettled, SetLockLatch, GrowScope, GrowCast}
-use Rattle.rayon_machine_places.specs.declared.act.Seen.{Seen}
-use Rattle.rayon_machine_places.specs.declared.act.Seen.TheVariants.{Yes}
-use Rattle.rayon_machine_places.specs.declared.state.Letter.{Letter}
-use Rattle.rayon_machine_places.specs.declared.state.Letter.TheVariants.{Unset, Sleepy as IsSleepy, Sleeping, Set as IsSet}
-use Rattle.rayon_machine_places.specs.declared.place.Settling.{Settling}
-use Rattle.rayon_machine_places.specs.Places.{same_party, own_pool, own_index, latch_of, plan_call, act_of, next_of}
-use Rattle.rayon_machine_places.specs.World.{Stack, World, Part, target_pool, target_worker, call_of, target_call, letter}
-use Rattle.rayon_machine_places.specs.Steps.{after_move}
-use Rattle.rayon_machine_laws.specs.Attended.{letter_at, same_latch, settles, HasSettler}
+use Rattle.rayon_machine_sleep_laws.proofs.Words.{Then, OpenCall, refl, sym, ◌∙◌, ap, subst, inl, inr, ℕ, Bool, true, false, ◌&&◌, ◌==◌, if◌then◌else◌, Option, Some, None, List, ◌≡◌, ◌⊎◌, IfSome, eqb-true, eq-eqb, Party, Worker, Caller, Target, Termination, Answer, Latch, Terminate, OfCall}
+use Rattle.rayon_machine_sleep_laws.proofs.Words.{Plan, Place, GetSleepy, FallAsleep, LoadCounters, AddSleeping, LookAtCast, LookAtInjector, BlockSelf, RelockOwn, WakeUp, GrowCall, SetLatch, LockToSettle, WakeSettled, SetLockLatch, GrowScope, GrowCast, Seen, Yes, Letter, Unset, IsSleepy}
+use Rattle.rayon_machine_sleep_laws.proofs.Words.{Sleeping, IsSet, Settling, same_party, own_pool, own_index, latch_of, act_of, next_of, Stack, World, Part, target_pool, target_worker, call_of, target_call, letter, after_move, letter_at, settles, HasSettler}
+use Rattle.rayon_machine_places.specs.Places.{plan_call}
+use Rattle.rayon_machine_laws.specs.Attended.{same_latch}
 use Rattle.rayon_machine_laws.proofs.Calm.{part_at, counts_seen, next_at}
 use Rattle.rayon_machine_laws.proofs.Frame.{either, and_parts, same_index, same_refl, same_party_true, if_some_map, stack_other}
 use Rattle.rayon_machine_laws.proofs.Holding.{LocksOk, hold_target}
@@ -121,11 +103,6 @@ dozes_owns _ l e f = absurd (cc)
 
 pub light_dozes : (x : Place) (l : Latch) → is_light x ≡ true → dozes_on x ≡ Some l → ⊥
 light_dozes (LoadCounters k) l e f = cc
-light_dozes (AddSleeping k) l e f = cc
-light_dozes (LookAtCast k) l e f = cc
-light_dozes (LookAtInjector k) l e f = cc
-light_dozes (BlockSelf k) l e f = cc
-light_dozes (RelockOwn k) l e f = cc
 light_dozes _ l e f = cc
 
 pub light_unsettling : (x : Place) (p i : ℕ) (l : Latch) → is_light x ≡ true → settles x p i l ≡ false
@@ -134,7 +111,8 @@ light_unsettling (WakeSettled s) p i l e = cc
 light_unsettling _ p i l e = refl
 
 -- the letter of a latch after an act that leaves it
-pub letter_kept : (w : World) (q : Party) (k : Stack) (r : Seen × Part) (p i : ℕ) (l : Latch) → (l ≡ Terminate → p ≡ target_pool q (act_of q k.top) → i ≡ target_worker q (act_of q k.top) → r.1.seat.latch ≡ (part_at w q k).seat.latch) → ((c : ℕ) → l ≡ OfCall c → c ≡ target_call (act_of q k.top) → r.1.call.latch ≡ (part_at w q k).call.latch) → letter_at (result w q k r) p i l ≡ letter_at w p i l
+pub letter_kept : (w : World) (q : Party) (k : Stack) (r : Seen × Part) (p i : ℕ) (l : Latch) → (l ≡ Terminate → p ≡ target_pool q (act_of q k.top) → i ≡ target_worker q (act_of q k.top) → r.1.seat.latch ≡ (part_at w q k).seat.latch)
+    → ((c : ℕ) → l ≡ OfCall c → c ≡ target_call (act_of q k.top) → r.1.call.latch ≡ (part_at w q k).call.latch) → letter_at (result w q k r) p i l ≡ letter_at w p i l
 letter_kept w q k r p i Terminate sf cf = at ((p == target_pool q (act_of q k.top)) && (i == target_worker q (act_of q k.top))) refl
   where
     at : (d : Bool) → ((p == target_pool q (act_of q k.top)) && (i == target_worker q (act_of q k.top))) ≡ d → (if d then r.1.seat else w.seat p i).latch ≡ (w.seat p i).latch
@@ -148,8 +126,10 @@ letter_kept w q k r p i (OfCall c) sf cf = at (c == target_call (act_of q k.top)
     at false e = refl
 
 -- the letter of a latch that the act writes
-pub letter_new : (w : World) (q : Party) (k : Stack) (r : Seen × Part) (p i : ℕ) (l : Latch) → p ≡ target_pool q (act_of q k.top) → i ≡ target_worker q (act_of q k.top) → call_of l ≡ target_call (act_of q k.top) → (letter_at (result w q k r) p i l ≡ letter l (r.1)) × (letter_at w p i l ≡ letter l (part_at w q k))
-letter_new w q k r p i Terminate ep ei ec = let yes : ((p == target_pool q (act_of q k.top)) && (i == target_worker q (act_of q k.top))) ≡ true = rw (eq-eqb p (target_pool q (act_of q k.top)) ep, eq-eqb i (target_worker q (act_of q k.top)) ei) in (ap (λ b. (if b then r.1.seat else w.seat p i).latch) yes, ap (λ n. (w.seat n i).latch) ep ∙ ap (λ n. (w.seat (target_pool q (act_of q k.top)) n).latch) ei)
+pub letter_new : (w : World) (q : Party) (k : Stack) (r : Seen × Part) (p i : ℕ) (l : Latch) → p ≡ target_pool q (act_of q k.top) → i ≡ target_worker q (act_of q k.top) → call_of l ≡ target_call (act_of q k.top) → (letter_at (result w q k r) p i l ≡ letter l (r.1))
+    × (letter_at w p i l ≡ letter l (part_at w q k))
+letter_new w q k r p i Terminate ep ei ec = let yes : ((p == target_pool q (act_of q k.top)) && (i == target_worker q (act_of q k.top))) ≡ true = rw (eq-eqb p (target_pool q (act_of q k.top)) ep, eq-eqb i (target_worker q (act_of q k.top)) ei) in
+    (ap (λ b. (if b then r.1.seat else w.seat p i).latch) yes, ap (λ n. (w.seat n i).latch) ep ∙ ap (λ n. (w.seat (target_pool q (act_of q k.top)) n).latch) ei)
 letter_new w q k r p i (OfCall c) ep ei ec = let yes : (c == target_call (act_of q k.top)) ≡ true = eq-eqb c (target_call (act_of q k.top)) ec in (ap (λ b. (if b then r.1.call else w.call c).latch) yes, ap (λ n. (w.call n).latch) ec)
 
 -- another party's act leaves a worker's latch, or sets it
@@ -176,7 +156,8 @@ same_latch_refl (OfCall c) = eq-eqb c c refl
 settles_here : (s : Settling) (p i : ℕ) (l : Latch) → s.pool ≡ p → s.worker ≡ i → s.latch ≡ l → settles (LockToSettle s) p i l ≡ true
 settles_here s p i l a b c = let x : (s.pool == p) ≡ true = eq-eqb s.pool p a in let y : (s.worker == i) ≡ true = eq-eqb s.worker i b in let z : same_latch s.latch l ≡ true = ap (λ n. same_latch n l) c ∙ same_latch_refl l in rw (x, y, z)
 
-written : (w : World) (a b : ℕ) (x : Place) (fs : List Place) (p i : ℕ) (l n : Latch) → w.stack (Worker a b) ≡ record { top = x; below = fs } → writes x ≡ Some n → same_party (Worker p i) (Worker a b) ≡ false → Owned w → ((c : ℕ) → l ≡ OfCall c → Mine w (Worker p i) c) → IfSome (outcome w (Worker a b) (record { top = x; below = fs })) (LetterChange w (Worker a b) (record { top = x; below = fs }) p i l)
+written : (w : World) (a b : ℕ) (x : Place) (fs : List Place) (p i : ℕ) (l n : Latch) → w.stack (Worker a b) ≡ record { top = x; below = fs } → writes x ≡ Some n → same_party (Worker p i) (Worker a b) ≡ false → Owned w → ((c : ℕ) → l ≡ OfCall c → Mine w (Worker p i) c)
+    → IfSome (outcome w (Worker a b) (record { top = x; below = fs })) (LetterChange w (Worker a b) (record { top = x; below = fs }) p i l)
 written w a b x fs p i l n e wr d ow mine =
     if_some_map {A = Seen × Part} (OneLatch n (part_at w q k)) (LetterChange w q k p i l) (λ r one. inl (letter_kept w q k r p i l
     (λ lt ep ei. absurd (let yes : same_party (Worker p i) (Worker a b) ≡ true = rw (eq-eqb p a (ep ∙ t.0), eq-eqb i b (ei ∙ t.1)) in cc))
@@ -215,7 +196,8 @@ target_lock : (q : Party) (c : ℕ) (t : Then) → target_call (act_of q (SetLoc
 target_lock (Worker a b) n t = refl
 target_lock (Caller o) n t = refl
 
-set_changes : (w : World) (q : Party) (s : Settling) (fs : List Place) (p i : ℕ) (l : Latch) → w.stack q ≡ record { top = SetLatch s; below = fs } → Owned w → ((c : ℕ) → l ≡ OfCall c → Mine w (Worker p i) c) → IfSome (outcome w q (record { top = SetLatch s; below = fs })) (LetterChange w q (record { top = SetLatch s; below = fs }) p i l)
+set_changes : (w : World) (q : Party) (s : Settling) (fs : List Place) (p i : ℕ) (l : Latch) → w.stack q ≡ record { top = SetLatch s; below = fs } → Owned w → ((c : ℕ) → l ≡ OfCall c → Mine w (Worker p i) c) → IfSome (outcome w q (record { top = SetLatch s; below = fs }))
+    (LetterChange w q (record { top = SetLatch s; below = fs }) p i l)
 set_changes w q s fs p i l e ow mine = if_some_map {A = Seen × Part} (Sets s.latch (part_at w q k)) (LetterChange w q k p i l) (λ r z. by_latches s.latch l refl refl r z) (outcome w q k) (set_one w.shape q (counts_seen w q k) (part_at w q k) s)
   where
     k : Stack
@@ -238,7 +220,8 @@ set_changes w q s fs p i l e ow mine = if_some_map {A = Seen × Part} (Sets s.la
     by_latches Terminate (OfCall d) en em r z = inl (letter_kept w q k r p i l (λ lt ep ei. absurd (let v : Terminate ≡ OfCall d = sym lt ∙ em in cc)) (λ c lc ec. subst (λ y. OneLatch y (part_at w q k) r) en (z.other)))
     by_latches (OfCall d) Terminate en em r z = inl (letter_kept w q k r p i l (λ lt ep ei. subst (λ y. OneLatch y (part_at w q k) r) en (z.other)) (λ c lc ec. absurd (let v : Terminate ≡ OfCall c = sym em ∙ lc in cc)))
     by_latches (OfCall d) (OfCall c) en em r z = elim (either (d == c)) [
-      | inr other ↦ inl (letter_kept w q k r p i l (λ lt ep ei. absurd (let v : Terminate ≡ OfCall c = sym lt ∙ em in cc)) (λ b lb eb. absurd (let v : c ≡ b = ap call_of (sym em ∙ lb) in let y : d ≡ c = sym (ap call_of en) ∙ sym (t.2) ∙ sym eb ∙ sym v in let yes : (d == c) ≡ true = eq-eqb d c y in cc)))
+      | inr other ↦ inl (letter_kept w q k r p i l (λ lt ep ei. absurd (let v : Terminate ≡ OfCall c = sym lt ∙ em in cc))
+          (λ b lb eb. absurd (let v : c ≡ b = ap call_of (sym em ∙ lb) in let y : d ≡ c = sym (ap call_of en) ∙ sym (t.2) ∙ sym eb ∙ sym v in let yes : (d == c) ≡ true = eq-eqb d c y in cc)))
       | inl fits ↦ (
           let same : d ≡ c = eqb-true d c fits in
           let sets : SetsFor w d (Worker s.pool s.worker) = (subst (λ z. Names w q (z.top)) e ((ow.named q).top)).sets d (Worker s.pool s.worker) (ap (latch_call s.pool s.worker) en) in
@@ -247,9 +230,11 @@ set_changes w q s fs p i l e ow mine = if_some_map {A = Seen × Part} (Sets s.la
     ]
 
 plain_changes : (w : World) (q : Party) (x : Place) (fs : List Place) (p i : ℕ) (l : Latch) → is_latching x ≡ false → IfSome (outcome w q (record { top = x; below = fs })) (LetterChange w q (record { top = x; below = fs }) p i l)
-plain_changes w q x fs p i l z = if_some_map {A = Seen × Part} (SameLatches (part_at w q (record { top = x; below = fs }))) (LetterChange w q (record { top = x; below = fs }) p i l) (λ r s. inl (letter_kept w q (record { top = x; below = fs }) r p i l (λ lt ep ei. s.seat) (λ c lc ec. s.call))) (outcome w q (record { top = x; below = fs })) (latches_same w.shape q (counts_seen w q (record { top = x; below = fs })) (part_at w q (record { top = x; below = fs })) x z)
+plain_changes w q x fs p i l z = if_some_map {A = Seen × Part} (SameLatches (part_at w q (record { top = x; below = fs }))) (LetterChange w q (record { top = x; below = fs }) p i l)
+    (λ r s. inl (letter_kept w q (record { top = x; below = fs }) r p i l (λ lt ep ei. s.seat) (λ c lc ec. s.call))) (outcome w q (record { top = x; below = fs })) (latches_same w.shape q (counts_seen w q (record { top = x; below = fs })) (part_at w q (record { top = x; below = fs })) x z)
 
-pub letters : (w : World) (q : Party) (x : Place) (fs : List Place) (p i : ℕ) (l : Latch) → w.stack q ≡ record { top = x; below = fs } → same_party (Worker p i) q ≡ false → Owned w → ((c : ℕ) → l ≡ OfCall c → Mine w (Worker p i) c) → IfSome (outcome w q (record { top = x; below = fs })) (LetterChange w q (record { top = x; below = fs }) p i l)
+pub letters : (w : World) (q : Party) (x : Place) (fs : List Place) (p i : ℕ) (l : Latch) → w.stack q ≡ record { top = x; below = fs } → same_party (Worker p i) q ≡ false → Owned w → ((c : ℕ) → l ≡ OfCall c → Mine w (Worker p i) c) → IfSome (outcome w q (record { top = x; below = fs }))
+    (LetterChange w q (record { top = x; below = fs }) p i l)
 letters w (Worker a b) (GetSleepy k) fs p i l e d ow mine = written w a b (GetSleepy k) fs p i l (latch_of k.target) e refl d ow mine
 letters w (Worker a b) (FallAsleep k) fs p i l e d ow mine = written w a b (FallAsleep k) fs p i l (latch_of k.target) e refl d ow mine
 letters w (Worker a b) (WakeUp k) fs p i l e d ow mine = written w a b (WakeUp k) fs p i l (latch_of k.target) e refl d ow mine
@@ -267,19 +252,18 @@ letters w q (GrowCast n) fs p i l e d ow mine = if_some_map {A = Seen × Part} (
     (λ r s. inl (letter_kept w q (record { top = GrowCast n; below = fs }) r p i l (λ lt ep ei. s) (λ c lc ec. absurd (clash w q p i c d (subst (Mine w q) (sym (ec ∙ target_gather q n)) ((subst (λ z. Names w q (z.top)) e ((ow.named q).top)).own n.call.number refl)) (mine c lc)))))
     (outcome w q (record { top = GrowCast n; below = fs })) (gather_one w.shape q (counts_seen w q (record { top = GrowCast n; below = fs })) (part_at w q (record { top = GrowCast n; below = fs })) n)
 letters w q (SetLockLatch n t) fs p i l e d ow mine = if_some_map {A = Seen × Part} (λ r. r.1.seat.latch ≡ (part_at w q (record { top = SetLockLatch n t; below = fs })).seat.latch) (LetterChange w q (record { top = SetLockLatch n t; below = fs }) p i l)
-    (λ r s. inl (letter_kept w q (record { top = SetLockLatch n t; below = fs }) r p i l (λ lt ep ei. s) (λ c lc ec. absurd (let v : Worker p i ≡ Caller 0 = set_clash w p i c (Caller 0) (subst (λ z. SetsFor w z (Caller 0)) (sym (ec ∙ target_lock q n t)) ((subst (λ z. Names w q (z.top)) e ((ow.named q).top)).sets n (Caller 0) refl)) (mine c lc) in cc))))
+    (λ r s. inl (letter_kept w q (record { top = SetLockLatch n t; below = fs }) r p i l (λ lt ep ei. s)
+    (λ c lc ec. absurd (let v : Worker p i ≡ Caller 0 = set_clash w p i c (Caller 0) (subst (λ z. SetsFor w z (Caller 0)) (sym (ec ∙ target_lock q n t)) ((subst (λ z. Names w q (z.top)) e ((ow.named q).top)).sets n (Caller 0) refl)) (mine c lc) in cc))))
     (outcome w q (record { top = SetLockLatch n t; below = fs })) (lock_one w.shape q (counts_seen w q (record { top = SetLockLatch n t; below = fs })) (part_at w q (record { top = SetLockLatch n t; below = fs })) n t)
 letters w q x fs p i l e d ow mine = plain_changes w q x fs p i l refl
 
 -- a party that settles a latch goes on settling it until it has made its wake
 settling_on : (w : World) (q : Party) (x : Place) (fs : List Place) (p i : ℕ) (l : Latch) → settles x p i l ≡ true → wakes_at x ≡ false → (e : Seen) → settles ((after_move (next_at w q (record { top = x; below = fs }) e) fs).top) p i l ≡ true
 settling_on w q (LockToSettle s) fs p i l a b e = a
-settling_on w q (WakeSettled s) fs p i l a b e = cc
 settling_on w q _ fs p i l a b e = cc
 
 settling_holds : (x : Place) (p i : ℕ) (l : Latch) → settles x p i l ≡ true → wakes_at x ≡ true → holds x p i ≡ true
 settling_holds (WakeSettled s) p i l a b = (and_parts ((s.pool == p) && (s.worker == i)) (same_latch s.latch l) a).0
-settling_holds (LockToSettle s) p i l a b = cc
 settling_holds _ p i l a b = cc
 
 set_unsettling : (s : Settling) (x : Place) (p i : ℕ) (l : Latch) → x ≡ SetLatch s → settles x p i l ≡ false
@@ -296,7 +280,9 @@ unblocks w q k r p i h s =
     ap (λ b. (if b then r.1.seat else w.seat p i).blocked) there ∙ elim (either ((part_at w q k).seat.blocked)) [ inl b ↦ s.yes b | inr b ↦ elim (s.seat) [ inl same ↦ ap (λ z. z.blocked) same ∙ b | inr woke ↦ (woke.1) ] ]
 
 -- another party's act leaves a worker as much settled as it was
-pub other_settled : (w : World) (q : Party) (x : Place) (fs : List Place) (p i : ℕ) (l : Latch) (r : Seen × Part) → w.stack q ≡ record { top = x; below = fs } → same_party (Worker p i) q ≡ false → SeatsOk w → LocksOk w → DozeOk w p i l → dozes_on (w.stack (Worker p i)).top ≡ Some l → LetterChange w q (record { top = x; below = fs }) p i l r → (((result w q (record { top = x; below = fs }) r).seat p i).blocked ≡ true → (w.seat p i).blocked ≡ true) → (wakes_at x ≡ true → Woke (part_at w q (record { top = x; below = fs })) r) → DozeOk (result w q (record { top = x; below = fs }) r) p i l
+pub other_settled : (w : World) (q : Party) (x : Place) (fs : List Place) (p i : ℕ) (l : Latch) (r : Seen × Part) → w.stack q ≡ record { top = x; below = fs } → same_party (Worker p i) q ≡ false → SeatsOk w → LocksOk w → DozeOk w p i l → dozes_on (w.stack (Worker p i)).top ≡ Some l
+    → LetterChange w q (record { top = x; below = fs }) p i l r → (((result w q (record { top = x; below = fs }) r).seat p i).blocked ≡ true → (w.seat p i).blocked ≡ true) → (wakes_at x ≡ true → Woke (part_at w q (record { top = x; below = fs })) r)
+    → DozeOk (result w q (record { top = x; below = fs }) r) p i l
 other_settled w q x fs p i l r e d ok locks doze on change blocks wakes = record {
   deep = elim change [ inl same ↦ ap is_deep same ∙ doze.deep | inr new ↦ ap is_deep (new.now) ];
   settled = λ is waits. elim change [
@@ -349,5 +335,4 @@ other_settled w q x fs p i l r e d ok locks doze on change blocks wakes = record
           | inr a ↦ other_party g a
           | inl a ↦ absurd (let f : settles x p i l ≡ false = set_unsettling (n.setting) x p i l (n.place) in let y : settles x p i l ≡ true = this_party g a in cc)
         ])
-    by_letter n Unset z waits = absurd (let f : is_deep (letter_at w p i l) ≡ false = ap is_deep z in let y : is_deep (letter_at w p i l) ≡ true = doze.deep in cc)
-    by_letter n IsSleepy z waits = absurd (let f : is_deep (letter_at w p i l) ≡ false = ap is_deep z in let y : is_deep (letter_at w p i l) ≡ true = doze.deep in cc)
+    by_letter n _ z waits = absurd (let f : is_deep (letter_at w p i l) ≡ false = ap is_deep z in let y : is_deep (letter_at w p i l) ≡ true = doze.deep in cc)

@@ -3,26 +3,14 @@
 -- The two acts that see how many to wake stand each at one place of the table. It leads to a walk that owes as many,
 -- from the first worker on (`walk_owes`). There is a worker to begin at, since one sleeps.
 use Rattle.std.proofs.Common.{arith, refl, sym, ◌∙◌, ap, subst, inl, inr}
-use Rattle.std.specs.Prelude.{ℕ, zero, suc, Bool, true, false, ◌-◌, ◌==◌, ◌<◌, ◌≤◌, min, nat_lt, if◌then◌else◌, Option, Some, List, ◌≡◌, IfSome}
-use Rattle.std.proofs.lemmas.Bool.{eqb-true, eq-eqb, lt-ltb, ltb-true, ltb-false}
-use Rattle.rayon_machine_places.specs.declared.place.Party.{Party}
-use Rattle.rayon_machine_places.specs.declared.place.Party.TheVariants.{Worker, Caller}
-use Rattle.rayon_machine_places.specs.declared.place.Target.TheVariants.{Termination, Answer}
-use Rattle.rayon_machine_places.specs.declared.place.Taken.TheVariants.{Plain, Token}
-use Rattle.rayon_machine_places.specs.declared.place.Then.{Then}
-use Rattle.rayon_machine_places.specs.declared.place.Then.TheVariants.{BeginFound, LeaveWait, Resume, Await, RunFirst, Answers, Missing, Ran, GiveBack, Called, Gathers}
-use Rattle.rayon_machine_places.specs.declared.place.Place.{Place}
-use Rattle.rayon_machine_places.specs.declared.place.Place.TheVariants.{ProbeWorking, BeginTask, LeaveSearch, LookQueue, PushJob, TellNews, LockToWake, WakeWorker, UnlockWoken}
-use Rattle.rayon_machine_places.specs.declared.place.Plan.{Plan}
-use Rattle.rayon_machine_places.specs.declared.act.Act.{Act}
-use Rattle.rayon_machine_places.specs.declared.act.Act.TheVariants.{LookInj, LookOwn, SubInactive, PushInj, PushOwn, News}
-use Rattle.rayon_machine_places.specs.declared.act.Seen.{Seen}
-use Rattle.rayon_machine_places.specs.declared.act.Seen.TheVariants.{Wakes}
-use Rattle.rayon_machine_places.specs.declared.place.Wait.{Wait}
-use Rattle.rayon_machine_places.specs.declared.shape.PoolShape.{PoolShape}
-use Rattle.rayon_machine_places.specs.Places.{act_of, after_found, after_news, finish, is_member, look_act, own_pool, plan_book, plan_job, plan_pool, push_act, walk}
-use Rattle.rayon_machine_places.specs.World.{Counts, Part, Shape, Stack, World, count_below, counts_at, effect, target_call, target_pool, target_worker, wakes_for_one}
-use Rattle.rayon_machine_places.specs.Steps.{after_move}
+use Rattle.rayon_machine_sleep_laws.proofs.Words.{ℕ, zero, suc, Bool, true, false, ◌-◌, ◌==◌, ◌<◌, ◌≤◌, nat_lt, if◌then◌else◌, Option, Some, List, ◌≡◌, IfSome, eqb-true, eq-eqb, lt-ltb, ltb-true, ltb-false, Party, Worker, Caller, Termination, Answer, Plain, Token, Then, BeginFound, LeaveWait}
+use Rattle.rayon_machine_sleep_laws.proofs.Words.{Resume, Await, RunFirst, Answers, Missing, Ran, GiveBack, Called, Gathers, Place, ProbeWorking, BeginTask, LeaveSearch, LookQueue, PushJob, TellNews, LockToWake, WakeWorker, UnlockWoken, Plan, Act, LookInj, LookOwn, PushInj, PushOwn, News, Seen}
+use Rattle.rayon_machine_sleep_laws.proofs.Words.{Wakes, Wait, PoolShape, act_of, after_found, after_news, finish, is_member, own_pool, plan_book, plan_job, plan_pool, walk, Counts, Part, Shape, Stack, World, counts_at, effect, target_call, target_pool, target_worker, wakes_for_one, after_move}
+use Rattle.rayon_machine_sleep_laws.proofs.Words.{is_walk}
+use Rattle.std.specs.Prelude.{min}
+use Rattle.rayon_machine_places.specs.declared.act.Act.TheVariants.{SubInactive}
+use Rattle.rayon_machine_places.specs.Places.{look_act, push_act}
+use Rattle.rayon_machine_places.specs.World.{count_below}
 use Rattle.rayon_machine_laws.specs.Leavers.{LeaverLaw, OwesAll, OwesForOne, TellerLaw}
 use Rattle.rayon_machine_laws.proofs.Attended.{always_awake}
 use Rattle.rayon_machine_laws.proofs.Calm.{counts_seen, next_at, part_at}
@@ -31,7 +19,6 @@ use Rattle.rayon_machine_laws.proofs.Pushing.{tell_pool, top_is}
 use Rattle.rayon_machine_laws.proofs.Seats.{is_frame}
 use Rattle.rayon_machine_laws.proofs.Ties.{AllFrames, job_at, outcome, result, shape_at}
 use Rattle.rayon_machine_laws.proofs.Tops.{FramesOk, Tops, top_after}
-use Rattle.rayon_machine_sleep_laws.specs.Walks.{is_walk}
 
 -- elsewhere nothing is owed
 owes_none : (x : Place) (p : ℕ) → is_walk x ≡ false → OwesAll x p 0
@@ -54,12 +41,7 @@ finish_owes (Caller n) (Await o) = refl
 finish_owes (Worker i j) (Gathers o) = refl
 finish_owes (Caller n) (Gathers o) = refl
 finish_owes q (RunFirst o a) = refl
-finish_owes q Resume = tt
-finish_owes q Called = tt
-finish_owes q (Answers o f e) = tt
-finish_owes q (Missing o f) = tt
-finish_owes q (Ran t e) = tt
-finish_owes q (GiveBack n) = tt
+finish_owes q _ = tt
 
 -- where a walk from the first worker leads all is owed, if there is a worker where some is
 pub walk_owes : (h : PoolShape) (q : Party) (p n : ℕ) (t : Then) (fs : List Place) → AllFrames fs → (0 < n → 0 < h.workers) → OwesAll ((after_move (walk h q p n 0 t) fs).top) p n
@@ -143,7 +125,9 @@ left_go w (Caller n) x fs a e = absurd (caller_other n x e)
 pub leaver_law : LeaverLaw
 leaver_law shape before w v q m e =
     let fr : FramesOk w = (always_awake shape before w m.reached).frames in
-    let k : IfSome (Some v) (Left w q) = subst (λ o. IfSome o (Left w q)) m.made (acted_keeps w q (w.stack q) (target_pool q (act_of q (w.stack q).top)) (target_worker q (act_of q (w.stack q).top)) (target_call (act_of q (w.stack q).top)) (job_at w q (act_of q (w.stack q).top)) (outcome w q (w.stack q)) (Left w q) (left_go w q (w.stack q).top (w.stack q).below (fr q) e)) in
+    let k : IfSome (Some v) (Left w q) = subst (λ o. IfSome o (Left w q)) m.made
+    (acted_keeps w q (w.stack q) (target_pool q (act_of q (w.stack q).top)) (target_worker q (act_of q (w.stack q).top)) (target_call (act_of q (w.stack q).top)) (job_at w q (act_of q (w.stack q).top)) (outcome w q (w.stack q)) (Left w q)
+    (left_go w q (w.stack q).top (w.stack q).below (fr q) e)) in
     k
 
 -- the news is told at one place alone
@@ -240,5 +224,7 @@ told_go w q x fs p v f e =
 pub teller_law : TellerLaw
 teller_law shape before w v q p b m e =
     let fr : FramesOk w = (always_awake shape before w m.reached).frames in
-    let k : IfSome (Some v) (Told w q p b) = subst (λ o. IfSome o (Told w q p b)) m.made (acted_keeps w q (w.stack q) (target_pool q (act_of q (w.stack q).top)) (target_worker q (act_of q (w.stack q).top)) (target_call (act_of q (w.stack q).top)) (job_at w q (act_of q (w.stack q).top)) (outcome w q (w.stack q)) (Told w q p b) (told_go w q (w.stack q).top (w.stack q).below p b (fr q) e)) in
+    let k : IfSome (Some v) (Told w q p b) = subst (λ o. IfSome o (Told w q p b)) m.made
+    (acted_keeps w q (w.stack q) (target_pool q (act_of q (w.stack q).top)) (target_worker q (act_of q (w.stack q).top)) (target_call (act_of q (w.stack q).top)) (job_at w q (act_of q (w.stack q).top)) (outcome w q (w.stack q)) (Told w q p b)
+    (told_go w q (w.stack q).top (w.stack q).below p b (fr q) e)) in
     k

@@ -1,20 +1,9 @@
 -- machines whose table of moves or whose acts may be changed, and their replays
 use Rattle.std.specs.Prelude.{ℕ, zero, suc, Bool, false, ◌||◌, if◌then◌else◌, Option, Some, None, List, [], ◌∷◌}
-use Rattle.rayon_machine_places.specs.declared.shape.Order.TheVariants.{NewestFirst}
-use Rattle.rayon_machine_places.specs.declared.place.Party.{Party}
-use Rattle.rayon_machine_places.specs.declared.place.Party.TheVariants.{Worker, Caller}
-use Rattle.rayon_machine_places.specs.declared.place.Place.{Place}
-use Rattle.rayon_machine_places.specs.declared.place.Move.{Move}
-use Rattle.rayon_machine_places.specs.declared.act.Act.{Act}
-use Rattle.rayon_machine_places.specs.declared.act.Seen.{Seen}
-use Rattle.rayon_machine_places.specs.declared.act.Seen.TheVariants.{Refused}
-use Rattle.rayon_machine_places.specs.declared.event.Event.{Event}
-use Rattle.rayon_machine_places.specs.declared.event.Event.TheVariants.{Go, Refuse}
-use Rattle.rayon_machine_places.specs.declared.shape.PoolShape.{PoolShape}
-use Rattle.rayon_machine_places.specs.Places.{own_pool, act_of, next_of, is_refusable}
-use Rattle.rayon_machine_places.specs.World.{Shape, Stack, World, Counts, Part, Outcome, counts_at, target_pool, target_worker, target_call, target_job, effect}
-use Rattle.rayon_machine_places.specs.Steps.{put, put_stack, put_seat, part_of, after_move, jobs_after, step}
-use Rattle.rayon_machine_places.specs.Runs.{start}
+use Rattle.rayon_machine_sleep_laws.proofs.Words.{NewestFirst, Party, Worker, Caller, Place, Move, Act, Seen, Refused, Event, Go, Refuse, PoolShape, own_pool, act_of, next_of, is_refusable, Shape, Stack, World, Counts, Part, Outcome, counts_at, target_pool, target_worker, target_call, effect}
+use Rattle.rayon_machine_sleep_laws.proofs.Words.{put, put_stack, part_of, after_move, jobs_after, step, start}
+use Rattle.rayon_machine_places.specs.World.{target_job}
+use Rattle.rayon_machine_places.specs.Steps.{put_seat}
 
 -- a machine: what each act does, and where it leads
 pub record Machine : Type 0 where

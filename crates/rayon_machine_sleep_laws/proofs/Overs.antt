@@ -1,36 +1,16 @@
 -- a job that is over, whose call waits for it: each act leaves it so, and none gives it a share again
 use Rattle.std.proofs.Common.{rules, arith, refl, sym, ◌∙◌, ap, inl, inr}
-use Rattle.std.specs.Prelude.{ℕ, Bool, true, false, ◌&&◌, ◌+◌, ◌-◌, ◌==◌, ◌≤◌, if◌then◌else◌, Option, Some, ◌≡◌, ◌⊎◌, IfSome}
-use Rattle.rayon_machine_places.specs.declared.place.Party.{Party}
-use Rattle.rayon_machine_places.specs.declared.place.Party.TheVariants.{Worker, Caller}
-use Rattle.rayon_machine_places.specs.declared.place.Latch.{Latch}
-use Rattle.rayon_machine_places.specs.declared.place.Latch.TheVariants.{Terminate, OfCall}
-use Rattle.rayon_machine_places.specs.declared.place.Share.TheVariants.{PoolValue, Body, OfJob}
-use Rattle.rayon_machine_places.specs.declared.place.Plan.{Plan}
-use Rattle.rayon_machine_places.specs.declared.place.Plan.TheVariants.{Detach, Here, Send, Fork, Feed, Open, Enter, Gather}
-use Rattle.rayon_machine_places.specs.declared.place.Pieces.{Pieces}
-use Rattle.rayon_machine_places.specs.declared.place.Gathering.{Gathering}
+use Rattle.rayon_machine_sleep_laws.proofs.Words.{ℕ, Bool, true, false, ◌&&◌, ◌+◌, ◌-◌, ◌==◌, ◌≤◌, if◌then◌else◌, Option, Some, ◌≡◌, ◌⊎◌, IfSome, Party, Worker, Caller, Latch, Terminate, OfCall, PoolValue, OfJob, Plan, Detach, Here, Send, Fork, Feed, Open, Enter, Gather, Pieces, Gathering}
+use Rattle.rayon_machine_sleep_laws.proofs.Words.{Counted, Returned, Place, RaiseCount, LowerCount, RaiseForAll, LowerForAll, DealPieces, Move, Stay, Into, StartRun, Back, HandBack, HandIn, Discard, Mark, HandAllBack, Act, Sleepy, Asleep, Wakeup, Set, Seen, Done, Refused, Yes, Letter, IsSet}
+use Rattle.rayon_machine_sleep_laws.proofs.Words.{Over, Job, PoolShape, act_of, next_of, plan_count, plan_job, Shape, World, Counts, Part, at_job, effect, letter, with_letter, raised, all_raised, put, jobs_after, is_piece, is_done, IsOnce, one}
+use Rattle.rayon_machine_places.specs.declared.place.Share.TheVariants.{Body}
 use Rattle.rayon_machine_places.specs.declared.place.Mark.{Mark as Marking}
-use Rattle.rayon_machine_places.specs.declared.place.Mark.TheVariants.{Counted, Numbered, Queued, Dealt, Unnumbered, Returned}
-use Rattle.rayon_machine_places.specs.declared.place.Place.{Place}
-use Rattle.rayon_machine_places.specs.declared.place.Place.TheVariants.{RaiseCount, LowerCount, RaiseForAll, LowerForAll, DealPieces}
-use Rattle.rayon_machine_places.specs.declared.place.Move.{Move}
-use Rattle.rayon_machine_places.specs.declared.place.Move.TheVariants.{Stay, Enter as Into, StartRun, Back, HandBack, HandIn, Discard, Mark, HandAllBack}
-use Rattle.rayon_machine_places.specs.declared.act.Act.{Act}
-use Rattle.rayon_machine_places.specs.declared.act.Act.TheVariants.{Sleepy, Asleep, Wakeup, Set}
-use Rattle.rayon_machine_places.specs.declared.act.Seen.{Seen}
-use Rattle.rayon_machine_places.specs.declared.act.Seen.TheVariants.{Done, Refused, Yes}
-use Rattle.rayon_machine_places.specs.declared.state.Letter.{Letter}
-use Rattle.rayon_machine_places.specs.declared.state.Letter.TheVariants.{Set as IsSet}
+use Rattle.rayon_machine_places.specs.declared.place.Mark.TheVariants.{Numbered, Queued, Dealt, Unnumbered}
 use Rattle.rayon_machine_places.specs.declared.state.Whereabouts.{Whereabouts}
-use Rattle.rayon_machine_places.specs.declared.state.Whereabouts.TheVariants.{HandedBack, Spent, Over}
-use Rattle.rayon_machine_places.specs.declared.state.Job.{Job}
-use Rattle.rayon_machine_places.specs.declared.shape.PoolShape.{PoolShape}
-use Rattle.rayon_machine_places.specs.Places.{act_of, next_of, plan_count, plan_job}
-use Rattle.rayon_machine_places.specs.World.{Shape, World, Counts, Part, at_job, begun, effect, letter, with_letter, raised, all_raised}
-use Rattle.rayon_machine_places.specs.Steps.{put, jobs_after, is_piece, mark_pieces, marked}
-use Rattle.rayon_machine_places.specs.Readers.{is_done}
-use Rattle.rayon_machine_laws.specs.Once.{IsOnce, one, is_with, hand, hand_plan, held, held_in}
+use Rattle.rayon_machine_places.specs.declared.state.Whereabouts.TheVariants.{HandedBack, Spent}
+use Rattle.rayon_machine_places.specs.World.{begun}
+use Rattle.rayon_machine_places.specs.Steps.{mark_pieces, marked}
+use Rattle.rayon_machine_laws.specs.Once.{is_with, hand, hand_plan, held, held_in}
 use Rattle.rayon_machine_laws.proofs.Claims.{Says}
 use Rattle.rayon_machine_laws.proofs.Frame.{if_some_all, if_some_map, is_sharing}
 use Rattle.rayon_machine_laws.proofs.Letters.{sleepy_keeps, asleep_keeps, wake_keeps, set_keeps}
@@ -120,10 +100,8 @@ marks_land t g c k J f = by (is_piece c t) refl
     each : (k : Marking) → (k ≡ Counted → marks t g ≡ true) → Lands t g (marked k c.pool (t - c.first) (J t)) (J t)
     each Counted f = λ e. (e, λ z. inr (f refl))
     each (Numbered n) f = λ e. (e, λ z. inl z)
-    each Queued f = λ e. absurd (cc)
-    each Dealt f = λ e. absurd (cc)
     each Unnumbered f = λ e. (e, λ z. inl z)
-    each Returned f = λ e. absurd (cc)
+    each _ f = λ e. absurd (cc)
 
     by : (b : Bool) → is_piece c t ≡ b → Lands t g (if b then marked k c.pool (t - c.first) (J t) else J t) (J t)
     by true y = each k (λ e. f e y)

@@ -1,20 +1,8 @@
 -- what each act makes of the turn of the pool that it touches, and each step of each pool's
 use Rattle.std.proofs.Common.{rules, arith, refl, sym, ◌∙◌, ap, ◌≢◌}
-use Rattle.std.specs.Prelude.{ℕ, Bool, true, false, ◌+◌, ◌%◌, ◌==◌, if◌then◌else◌, ◌≡◌, IfSome}
-use Rattle.std.proofs.lemmas.Bool.{eqb-true, eq-eqb}
-use Rattle.rayon_machine_places.specs.declared.place.Party.{Party}
-use Rattle.rayon_machine_places.specs.declared.place.Latch.{Latch}
-use Rattle.rayon_machine_places.specs.declared.place.Latch.TheVariants.{Terminate, OfCall}
-use Rattle.rayon_machine_places.specs.declared.act.Act.{Act}
-use Rattle.rayon_machine_places.specs.declared.act.Act.TheVariants.{Announce, Sleepy, Asleep, Wakeup, Set, News}
-use Rattle.rayon_machine_places.specs.declared.act.Seen.{Seen}
-use Rattle.rayon_machine_places.specs.declared.event.Event.{Event}
-use Rattle.rayon_machine_places.specs.declared.event.Event.TheVariants.{Go}
-use Rattle.rayon_machine_places.specs.declared.state.Letter.{Letter}
-use Rattle.rayon_machine_places.specs.declared.state.Letter.TheVariants.{Set as IsSet}
-use Rattle.rayon_machine_places.specs.Places.{act_of, own_pool}
-use Rattle.rayon_machine_places.specs.World.{Shape, Pool, World, Counts, Part, counts_at, is_even, target_pool, letter, with_letter, effect}
-use Rattle.rayon_machine_places.specs.Steps.{put, step}
+use Rattle.rayon_machine_sleep_laws.proofs.Words.{ℕ, Bool, true, false, ◌+◌, ◌%◌, ◌==◌, if◌then◌else◌, ◌≡◌, IfSome, eqb-true, eq-eqb, Party, Latch, Terminate, OfCall, Act, Sleepy, Asleep, Wakeup, Set, News, Seen, Event, Go, Letter, IsSet, act_of, own_pool, Shape, Pool, World, Counts, Part}
+use Rattle.rayon_machine_sleep_laws.proofs.Words.{counts_at, is_even, target_pool, letter, with_letter, effect, put, step, is_told_of, TurnsSo}
+use Rattle.rayon_machine_places.specs.declared.act.Act.TheVariants.{Announce}
 use Rattle.rayon_machine_laws.proofs.Asides.{Aside, one_step}
 use Rattle.rayon_machine_laws.proofs.Attended.{always_awake}
 use Rattle.rayon_machine_laws.proofs.Calm.{part_at}
@@ -23,15 +11,15 @@ use Rattle.rayon_machine_laws.proofs.Letters.{sleepy_keeps, asleep_keeps, wake_k
 use Rattle.rayon_machine_laws.proofs.Ties.{outcome, result}
 use Rattle.rayon_machine_laws.proofs.Tops.{FramesOk}
 use Rattle.rayon_machine_sleep_laws.proofs.Rests.{acted, stepped}
-use Rattle.rayon_machine_sleep_laws.specs.Parity.{announces_in, tells_of, is_announced_in, is_told_of, MadeEven, MadeOdd, TurnsSo, RaiseLaw}
+use Rattle.rayon_machine_sleep_laws.specs.Parity.{announces_in, tells_of, is_announced_in, MadeEven, MadeOdd, RaiseLaw}
 
 -- the turn after an act
-abbrev turned : Act → ℕ → ℕ
+abbrev pub turned : Act → ℕ → ℕ
 turned Announce n = if is_even n then n else n + 1
 turned (News p b) n = if is_even n then n + 1 else n
 turned _ n = n
 
-abbrev Turned : Act → Part → Seen × Part → Type 0
+abbrev pub Turned : Act → Part → Seen × Part → Type 0
 Turned a m r = r.1.pool.turn ≡ turned a m.pool.turn
 
 -- an act on a latch leaves the pool
@@ -42,7 +30,7 @@ letter_same : (l : Latch) (m : Part) (e : Seen) (y : Letter) → SamePool m (e, 
 letter_same Terminate m e y = refl
 letter_same (OfCall c) m e y = refl
 
-act_turned : (a : Act) (h : Shape) (q : Party) (c : Counts) (m : Part) → IfSome (effect a h q c m) (Turned a m)
+pub act_turned : (a : Act) (h : Shape) (q : Party) (c : Counts) (m : Part) → IfSome (effect a h q c m) (Turned a m)
 act_turned (Sleepy l) h q c m = sleepy_keeps l SamePool (λ v e. refl) (λ v e y n. letter_same l v e y) m (letter l m)
 act_turned (Asleep l) h q c m = asleep_keeps l SamePool (λ v e. refl) (λ v e y n. letter_same l v e y) m (letter l m)
 act_turned (Wakeup l) h q c m = wake_keeps l SamePool (λ v e. refl) (λ v e y n. letter_same l v e y) m (letter l m)

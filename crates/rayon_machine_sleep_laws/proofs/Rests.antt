@@ -1,24 +1,9 @@
 -- the events that are no acts: a party that is about to set a latch stands, and no count comes to be 0
 use Rattle.std.proofs.Common.{arith, refl, sym, ◌∙◌, ap, subst}
-use Rattle.std.specs.Prelude.{ℕ, Bool, true, false, ◌&&◌, ◌+◌, ◌==◌, ◌<◌, nat_lt, if◌then◌else◌, Some, None, List, ◌≡◌, IfSome}
-use Rattle.std.proofs.lemmas.Bool.{ltb-true}
-use Rattle.rayon_machine_places.specs.declared.place.Party.{Party}
-use Rattle.rayon_machine_places.specs.declared.place.Party.TheVariants.{Worker, Caller}
-use Rattle.rayon_machine_places.specs.declared.place.Ending.{Ending}
-use Rattle.rayon_machine_places.specs.declared.place.Count.{Count}
-use Rattle.rayon_machine_places.specs.declared.place.Count.TheVariants.{OfPool, OfScope}
-use Rattle.rayon_machine_places.specs.declared.place.Place.{Place}
-use Rattle.rayon_machine_places.specs.declared.place.Place.TheVariants.{PickVictim, StealFrom, YieldPop, YieldPick, YieldSteal, LocalPop, Run, Free, LowerCount, StoreResult, SetLatch, LockToSettle, WakeSettled, UnlockSettled, SetLockLatch}
-use Rattle.rayon_machine_places.specs.declared.act.Act.{Act}
-use Rattle.rayon_machine_places.specs.declared.event.Event.{Event}
-use Rattle.rayon_machine_places.specs.declared.event.Event.TheVariants.{Go, From, Refuse, Miss, End, Spawn, Fifo, Install, Join, Yield, YieldLocal, EndPool, Cast, Scope as OpenScope, IntoSpawn, IntoFifo, IntoCast, Broadcast}
-use Rattle.rayon_machine_places.specs.declared.state.Call.{Call}
-use Rattle.rayon_machine_places.specs.declared.state.Job.{Job}
-use Rattle.rayon_machine_places.specs.declared.state.Scope.{Scope}
-use Rattle.rayon_machine_places.specs.Places.{own_pool, is_free, is_member, is_refusable, same_party, act_of}
-use Rattle.rayon_machine_places.specs.World.{Stack, World, target_pool, target_worker, target_call}
-use Rattle.rayon_machine_places.specs.Steps.{put, put_stack, can_miss, is_pool, holds, new_call, new_gathering, step}
-use Rattle.rayon_machine_places.specs.Steps.{after_choice, after_refusal, after_miss, after_end, after_spawn, after_feed, after_deal, after_broadcast, after_send, after_install, after_join, after_scope, after_enter, after_yield, after_end_pool}
+use Rattle.rayon_machine_sleep_laws.proofs.Words.{ℕ, Bool, true, false, ◌&&◌, ◌+◌, ◌==◌, ◌<◌, nat_lt, if◌then◌else◌, Some, None, List, ◌≡◌, IfSome, ltb-true, Party, Worker, Caller, Ending, Count, OfPool, OfScope, Place, PickVictim, StealFrom, YieldPop, YieldPick, YieldSteal, LocalPop, Run, Free}
+use Rattle.rayon_machine_sleep_laws.proofs.Words.{LowerCount, StoreResult, SetLatch, LockToSettle, WakeSettled, UnlockSettled, SetLockLatch, Act, Event, Go, From, Refuse, Miss, End, Spawn, Fifo, Install, Join, Yield, YieldLocal, EndPool, Cast, OpenScope, IntoSpawn, IntoFifo, IntoCast, Broadcast}
+use Rattle.rayon_machine_sleep_laws.proofs.Words.{Call, Job, Scope, own_pool, is_free, is_member, is_refusable, same_party, act_of, Stack, World, target_pool, target_worker, target_call, put, put_stack, can_miss, is_pool, holds, new_call, new_gathering, step, after_choice, after_refusal}
+use Rattle.rayon_machine_sleep_laws.proofs.Words.{after_miss, after_end, after_spawn, after_feed, after_deal, after_broadcast, after_send, after_install, after_join, after_scope, after_enter, after_yield, after_end_pool}
 use Rattle.rayon_machine_laws.proofs.Frame.{and_parts, if_cond, put_same, same_party_true, acted_keeps, fifo_cases, into_cases, into_fifo_cases, into_cast_cases}
 use Rattle.rayon_machine_laws.proofs.Ties.{job_at, outcome, result}
 
@@ -101,8 +86,7 @@ refuse_rests w q = if_cond (Rests w) (is_refusable (w.stack q).top) _ (λ b. mov
 miss_rests : (w : World) (q : Party) (x : Place) (fs : List Place) → w.stack q ≡ record { top = x; below = fs } → IfSome (after_miss w q (record { top = x; below = fs }) x) (Rests w)
 miss_rests w (Worker a b) (StealFrom k n) fs z = if_cond (Rests w) (can_miss w a k.victim) _ (λ d. moved_rests w (Worker a b) _ w.job (ap (λ s. goes (s.top)) z))
 miss_rests w (Worker a b) (YieldSteal v n) fs z = if_cond (Rests w) (can_miss w a v) _ (λ d. moved_rests w (Worker a b) _ w.job (ap (λ s. goes (s.top)) z))
-miss_rests w (Worker a b) _ fs z = tt
-miss_rests w (Caller n) _ fs z = tt
+miss_rests w _ _ fs z = tt
 
 end_rests : (w : World) (q : Party) (d : Ending) (x : Place) (fs : List Place) → w.stack q ≡ record { top = x; below = fs } → IfSome (after_end w q d (record { top = x; below = fs }) x) (Rests w)
 end_rests w q d (Run t k) fs z = moved_rests w q _ _ (ap (λ s. goes (s.top)) z)

@@ -1,28 +1,11 @@
 -- between a worker's last Announce and its Block lies a whole search that found nothing
 use Rattle.std.proofs.Common.{rules, arith, refl, sym, ◌∙◌, ap, subst, ◌≢◌}
-use Rattle.std.specs.Prelude.{ℕ, Bool, true, false, ◌&&◌, ◌+◌, ◌-◌, ◌==◌, ◌<◌, nat_lt, if◌then◌else◌, Option, Some, None, List, [], ◌∷◌, ◌++◌, ◌≡◌, IfSome}
-use Rattle.std.proofs.lemmas.Bool.{eqb-true, eq-eqb, ltb-true}
-use Rattle.rayon_machine_places.specs.declared.shape.Order.{Order}
-use Rattle.rayon_machine_places.specs.declared.place.Party.{Party}
-use Rattle.rayon_machine_places.specs.declared.place.Party.TheVariants.{Worker, Caller}
-use Rattle.rayon_machine_places.specs.declared.place.Rounds.{Rounds}
-use Rattle.rayon_machine_places.specs.declared.place.Rounds.TheVariants.{Failed, Announced}
-use Rattle.rayon_machine_places.specs.declared.place.Place.{Place}
-use Rattle.rayon_machine_places.specs.declared.place.Place.TheVariants.{ProbeIdle, PopIdle, TakeCastIdle, PickVictim, StealFrom, PopInjected, AnnounceSelf, BlockSelf, YieldPick, YieldSteal, YieldPopInjected, SetLatch, UnlockSettled}
-use Rattle.rayon_machine_places.specs.declared.place.Move.TheVariants.{Stay}
-use Rattle.rayon_machine_places.specs.declared.act.Seen.{Seen}
-use Rattle.rayon_machine_places.specs.declared.event.Event.{Event}
-use Rattle.rayon_machine_places.specs.declared.event.Event.TheVariants.{Go, From, Miss}
-use Rattle.rayon_machine_places.specs.declared.shape.PoolShape.{PoolShape}
-use Rattle.rayon_machine_places.specs.declared.place.Wait.{Wait}
-use Rattle.rayon_machine_places.specs.declared.place.Settling.{Settling}
-use Rattle.rayon_machine_places.specs.Places.{same_party, own_pool, own_index, after_set, next_victim, not_self, act_of, after_failure, next_steal, next_yield, next_of}
-use Rattle.rayon_machine_places.specs.World.{Shape, Stack, World, Counts, is_even, jec, Part, target_pool, target_worker, target_call, head_of, but_first, own_of, own_left, popped, take_cast, pop_injector, effect}
-use Rattle.rayon_machine_places.specs.Steps.{after_move, with_stack, after_choice, can_miss, after_miss, step}
-use Rattle.rayon_machine_laws.specs.Committed.{is_blocking}
-use Rattle.rayon_machine_laws.specs.Attended.{is_filled}
-use Rattle.rayon_machine_laws.specs.Turn.{IsRunWithout, is_announcing, is_announce}
-use Rattle.rayon_machine_sleep_laws.specs.Searched.{Spot, OwnDeque, OwnCast, Deque, Injector, Look, look_at, missed_look, look_of, and_then, looks_in, others, EndsSearched, SearchLaw}
+use Rattle.rayon_machine_sleep_laws.proofs.Words.{ℕ, Bool, true, false, ◌&&◌, ◌+◌, ◌-◌, ◌==◌, ◌<◌, nat_lt, if◌then◌else◌, Option, Some, None, List, [], ◌∷◌, ◌++◌, ◌≡◌, IfSome, eqb-true, eq-eqb, ltb-true, Order, Party, Worker, Caller, Rounds, Failed, Announced, Place, ProbeIdle, TakeCastIdle}
+use Rattle.rayon_machine_sleep_laws.proofs.Words.{PickVictim, StealFrom, PopInjected, AnnounceSelf, BlockSelf, YieldPick, YieldSteal, YieldPopInjected, SetLatch, UnlockSettled, Stay, Seen, Event, Go, From, Miss, PoolShape, Wait, Settling, same_party, own_pool, own_index, after_set, next_victim}
+use Rattle.rayon_machine_sleep_laws.proofs.Words.{not_self, act_of, after_failure, next_steal, next_yield, next_of, Shape, Stack, World, Counts, is_even, jec, Part, target_pool, target_worker, target_call, head_of, but_first, own_of, own_left, popped, take_cast, pop_injector, effect, after_move}
+use Rattle.rayon_machine_sleep_laws.proofs.Words.{with_stack, after_choice, can_miss, after_miss, step, is_blocking, is_filled, IsRunWithout, is_announcing, is_announce, Spot, OwnDeque, OwnCast, Deque, Injector, Look, and_then, others, EndsSearched}
+use Rattle.rayon_machine_places.specs.declared.place.Place.TheVariants.{PopIdle}
+use Rattle.rayon_machine_sleep_laws.specs.Searched.{look_at, missed_look, look_of, looks_in, SearchLaw}
 use Rattle.rayon_machine_laws.proofs.Asides.{Aside, calm_step}
 use Rattle.rayon_machine_laws.proofs.Attended.{Awake, aside_frames, step_awake, always_awake, step_shape, always_shape}
 use Rattle.rayon_machine_laws.proofs.Calm.{part_at, counts_seen, next_at, top_then}
@@ -82,10 +65,12 @@ cast_stage g q k m i l [] below s = at (g.workers == 1) refl
     more = one_more l s.earlier (look_in OwnDeque [] ∷ []) (look_in OwnCast []) s.is
 
     at : (b : Bool) → (g.workers == 1) ≡ b → Tops (λ y. Stage g.workers i y (l ++ look_in OwnCast [] ∷ [])) (if b then Stay (PopInjected k) else Stay (PickVictim k))
-    at true e = (let one : g.workers ≡ 1 = eqb-true g.workers 1 e in record { earlier = s.earlier; start = 0; within = λ two. absurd (omega arith); other = λ two. absurd (omega arith); is = more ∙ ap (λ z. s.earlier ++ (look_in OwnDeque [] ∷ look_in OwnCast [] ∷ z)) (sym (others_of_one g.workers i 0 one)) })
+    at true e = (let one : g.workers ≡ 1 = eqb-true g.workers 1 e in
+        record { earlier = s.earlier; start = 0; within = λ two. absurd (omega arith); other = λ two. absurd (omega arith); is = more ∙ ap (λ z. s.earlier ++ (look_in OwnDeque [] ∷ look_in OwnCast [] ∷ z)) (sym (others_of_one g.workers i 0 one)) })
     at false e = (let many : g.workers ≢ 1 = λ z. (let y : (g.workers == 1) ≡ true = eq-eqb g.workers 1 z in cc) in (omega arith, record { earlier = s.earlier; is = more }))
 
-thief_stage : (g : PoolShape) (p i : ℕ) (k : Wait) (v : ℕ) (m : Part) (l : List Look) (t : List ℕ) → Stage g.workers i (StealFrom k v) l → IfSome (popped (Worker p i) m (but_first t) (head_of t)) (λ r. Tops (λ y. Stage g.workers i y (l ++ look_in (Deque k.victim) t ∷ [])) (next_of g (Worker p i) (StealFrom k v) (r.0)))
+thief_stage : (g : PoolShape) (p i : ℕ) (k : Wait) (v : ℕ) (m : Part) (l : List Look) (t : List ℕ) → Stage g.workers i (StealFrom k v) l → IfSome (popped (Worker p i) m (but_first t) (head_of t))
+    (λ r. Tops (λ y. Stage g.workers i y (l ++ look_in (Deque k.victim) t ∷ [])) (next_of g (Worker p i) (StealFrom k v) (r.0)))
 thief_stage g p i k v m l (t ∷ ts) s = tt
 thief_stage g p i k v m l [] s = steal_stage g.workers i g (Worker p i) k v l refl refl s
 
@@ -102,7 +87,8 @@ last_stage g q k m i l [] s = by_rounds k.rounds
         at false = tt
 
 -- a worker's own act
-own_search : (w : World) (p i : ℕ) (x : Place) (fs : List Place) (l : List Look) → i < (w.shape.pool p).workers → Stage (w.shape.pool p).workers i x l → IfSome (outcome w (Worker p i) (record { top = x; below = fs })) (λ r. Tops (λ y. Stage (w.shape.pool p).workers i y (add_look l (look_at w p i x))) (next_of (w.shape.pool (target_pool (Worker p i) (act_of (Worker p i) x))) (Worker p i) x (r.0)))
+own_search : (w : World) (p i : ℕ) (x : Place) (fs : List Place) (l : List Look) → i < (w.shape.pool p).workers → Stage (w.shape.pool p).workers i x l → IfSome (outcome w (Worker p i) (record { top = x; below = fs }))
+    (λ r. Tops (λ y. Stage (w.shape.pool p).workers i y (add_look l (look_at w p i x))) (next_of (w.shape.pool (target_pool (Worker p i) (act_of (Worker p i) x))) (Worker p i) x (r.0)))
 own_search w p i (PopIdle k) fs l below s = pop_stage (w.shape.pool p) (Worker p i) k (part_at w (Worker p i) (record { top = PopIdle k; below = fs })) (w.shape.pool p).order (w.shape.pool p).workers i l (own_of (w.shape.pool p).order (w.seat p i).own) refl
 own_search w p i (TakeCastIdle k) fs l below s = cast_stage (w.shape.pool p) (Worker p i) k (part_at w (Worker p i) (record { top = TakeCastIdle k; below = fs })) i l ((w.pool p).casts i) below s
 own_search w p i (PickVictim k) fs l below s = pick_stage (w.shape.pool p).workers i 0 k l (omega arith) below s
@@ -122,7 +108,8 @@ pub record Searches (h : Shape) (p i : ℕ) (l : List Look) (w : World) : Type 0
 abbrev StageOf : World → ℕ → ℕ → Stack → List Look → Type 0
 StageOf w p i k l = Stage (w.shape.pool p).workers i k.top l
 
-search_go : (w : World) (q : Party) (p i : ℕ) (l : List Look) (b : Bool) → same_party (Worker p i) q ≡ b → i < (w.shape.pool p).workers → FramesOk w → StageOf w p i (w.stack (Worker p i)) l → IfSome (outcome w q (w.stack q)) (λ r. StageOf w p i (if b then after_move (next_at w q (w.stack q) (r.0)) (w.stack q).below else w.stack (Worker p i)) (add_look l (if b then look_at w p i (w.stack q).top else None)))
+search_go : (w : World) (q : Party) (p i : ℕ) (l : List Look) (b : Bool) → same_party (Worker p i) q ≡ b → i < (w.shape.pool p).workers → FramesOk w → StageOf w p i (w.stack (Worker p i)) l → IfSome (outcome w q (w.stack q))
+    (λ r. StageOf w p i (if b then after_move (next_at w q (w.stack q) (r.0)) (w.stack q).below else w.stack (Worker p i)) (add_look l (if b then look_at w p i (w.stack q).top else None)))
 search_go w q p i l true eb below fr s =
     let F : Party → Type 0 = λ z. IfSome (outcome w z (w.stack z)) (λ r. StageOf w p i (after_move (next_at w z (w.stack z) (r.0)) (w.stack z).below) (add_look l (look_at w p i (w.stack z).top))) in
     let me : Party = Worker p i in
@@ -146,7 +133,8 @@ search_aside h p i l w u m s f = record {
     at false e = s.stage
 
 -- one party turns from a place to another, with the same frames
-turn_search : (h : Shape) (p i : ℕ) (l t : List Look) (w : World) (q : Party) (x y : Place) (fs : List Place) → w.stack q ≡ record { top = x; below = fs } → Searches h p i l w → (same_party (Worker p i) q ≡ true → Stage (w.shape.pool p).workers i y t) → (same_party (Worker p i) q ≡ false → t ≡ l) → Searches h p i t (with_stack w q (record { top = y; below = fs }))
+turn_search : (h : Shape) (p i : ℕ) (l t : List Look) (w : World) (q : Party) (x y : Place) (fs : List Place) → w.stack q ≡ record { top = x; below = fs } → Searches h p i l w → (same_party (Worker p i) q ≡ true → Stage (w.shape.pool p).workers i y t)
+    → (same_party (Worker p i) q ≡ false → t ≡ l) → Searches h p i t (with_stack w q (record { top = y; below = fs }))
 turn_search h p i l t w q x y fs e s mine others' = record {
   shape = s.shape;
   frames = λ g. framed g (same_party g q);
@@ -201,15 +189,15 @@ miss_search h p i l w (Worker a b) (StealFrom k n) fs e s = if_cond (Searches h 
 miss_search h p i l w (Worker a b) (YieldSteal v n) fs e s = if_cond (Searches h p i (miss_of p i (Worker a b) (YieldSteal v n) l)) (can_miss w a v) _ (λ c.
     turn_search h p i l (miss_of p i (Worker a b) (YieldSteal v n) l) w (Worker a b) (YieldSteal v n) (next_yield (w.shape.pool a) (Worker a b) v n) fs e s
     (λ z. yield_stage (w.shape.pool p).workers i (w.shape.pool a) (Worker a b) v n (miss_of p i (Worker a b) (YieldSteal v n) l)) (λ z. ap (λ y. add_look l (if y then missed_look (YieldSteal v n) else None)) z))
-miss_search h p i l w (Worker a b) _ fs e s = tt
-miss_search h p i l w (Caller n) _ fs e s = tt
+miss_search h p i l w _ _ fs e s = tt
 
 abbrev pub LooksOn : Shape → ℕ → ℕ → List Look → World → Event → World → Type 0
 LooksOn h p i l w e u = Searches h p i (add_look l (look_of p i w e)) u
 
 search_step : (h : Shape) (p i : ℕ) (l : List Look) (w : World) (e : Event) → i < (h.pool p).workers → Searches h p i l w → IfSome (step w e) (LooksOn h p i l w e)
 search_step h p i l w (Go q) below s = acted_keeps w q (w.stack q) (target_pool q (act_of q (w.stack q).top)) (target_worker q (act_of q (w.stack q).top)) (target_call (act_of q (w.stack q).top)) (job_at w q (act_of q (w.stack q).top)) (outcome w q (w.stack q)) (LooksOn h p i l w (Go q))
-    (if_some_map {A = Seen × Part} (λ r. FramesOk (result w q (w.stack q) r) × StageOf w p i (if same_party (Worker p i) q then after_move (next_at w q (w.stack q) (r.0)) (w.stack q).below else w.stack (Worker p i)) (add_look l (look_of p i w (Go q)))) (λ r. LooksOn h p i l w (Go q) (result w q (w.stack q) r))
+    (if_some_map {A = Seen × Part} (λ r. FramesOk (result w q (w.stack q) r) × StageOf w p i (if same_party (Worker p i) q then after_move (next_at w q (w.stack q) (r.0)) (w.stack q).below else w.stack (Worker p i)) (add_look l (look_of p i w (Go q))))
+    (λ r. LooksOn h p i l w (Go q) (result w q (w.stack q) r))
     (λ r a. record { shape = s.shape; frames = a.0; stage = a.1 }) (outcome w q (w.stack q))
     (if_some_and (λ r. FramesOk (result w q (w.stack q) r)) (λ r. StageOf w p i (if same_party (Worker p i) q then after_move (next_at w q (w.stack q) (r.0)) (w.stack q).below else w.stack (Worker p i)) (add_look l (look_of p i w (Go q)))) (outcome w q (w.stack q))
     (go_frames w q (w.stack q) refl s.frames)
@@ -253,7 +241,9 @@ search_law shape before p i w v u es below first run blocks =
     let fv : FramesOk v = (let k : IfSome (Some v) Awake = subst (λ o. IfSome o Awake) first.made (step_awake w (Go me) fw) in k.frames) in
     let sv : v.shape ≡ shape = (let k : IfSome (Some v) (λ u. u.shape ≡ shape) = subst (λ o. IfSome o (λ u. u.shape ≡ shape)) first.made (step_shape shape w (Go me) fw.frames sw) in k) in
     let N : World → Type 0 = λ z. Stage n i ((z.stack (Worker p i)).top) [] in
-    let here : N v = (let k : IfSome (Some v) N = subst (λ o. IfSome o N) first.made (acted_keeps w me (w.stack me) (target_pool me (act_of me (w.stack me).top)) (target_worker me (act_of me (w.stack me).top)) (target_call (act_of me (w.stack me).top)) (job_at w me (act_of me (w.stack me).top)) (outcome w me (w.stack me)) N (announce_stage w p i n i (w.stack me).top (w.stack me).below first.place)) in k) in
+    let here : N v = (let k : IfSome (Some v) N = subst (λ o. IfSome o N) first.made
+    (acted_keeps w me (w.stack me) (target_pool me (act_of me (w.stack me).top)) (target_worker me (act_of me (w.stack me).top)) (target_call (act_of me (w.stack me).top)) (job_at w me (act_of me (w.stack me).top)) (outcome w me (w.stack me)) N
+    (announce_stage w p i n i (w.stack me).top (w.stack me).below first.place)) in k) in
     let begin : Searches shape p i [] v = record { shape = sv; frames = fv; stage = subst (λ z. Stage (z.pool p).workers i (v.stack (Worker p i)).top []) (sym sv) here } in
     let end : Searches shape p i (looks_in p i (Some v) es) u = search_run shape p i (is_announce p i) [] v u es below begin run in
     subst (λ z. EndsSearched (z.pool p).workers i (looks_in p i (Some v) es)) (end.shape) (blocking_searched (u.shape.pool p).workers i (u.stack (Worker p i)).top (looks_in p i (Some v) es) blocks (end.stage))

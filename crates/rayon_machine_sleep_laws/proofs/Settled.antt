@@ -5,28 +5,10 @@
 -- A Set that finds `Sleeping` goes to the worker's lock. Its Wake there finds the worker blocked, or not yet asleep in
 -- its lock's keeping. In between the worker holds its own lock, so the setter waits.
 use Rattle.std.proofs.Common.{rules, arith, refl, sym, ◌∙◌, ap, subst, inl, inr}
-use Rattle.std.specs.Prelude.{ℕ, Bool, true, false, ◌&&◌, ◌==◌, ◌<◌, if◌then◌else◌, Option, Some, None, List, ◌≡◌, ◌⊎◌, IfSome}
-use Rattle.std.proofs.lemmas.Bool.{eqb-true, eq-eqb}
-use Rattle.rayon_machine_places.specs.declared.place.Party.{Party}
-use Rattle.rayon_machine_places.specs.declared.place.Party.TheVariants.{Worker, Caller}
-use Rattle.rayon_machine_places.specs.declared.place.Latch.{Latch}
-use Rattle.rayon_machine_places.specs.declared.place.Latch.TheVariants.{Terminate, OfCall}
-use Rattle.rayon_machine_places.specs.declared.place.Place.{Place}
-use Rattle.rayon_machine_places.specs.declared.place.Place.TheVariants.{ProbeWorking, FallAsleep, RelockOwn, SetLatch, UnlockSettled}
-use Rattle.rayon_machine_places.specs.declared.act.Seen.{Seen}
-use Rattle.rayon_machine_places.specs.declared.act.Seen.TheVariants.{Yes}
-use Rattle.rayon_machine_places.specs.declared.event.Event.{Event}
-use Rattle.rayon_machine_places.specs.declared.state.Letter.{Letter}
-use Rattle.rayon_machine_places.specs.declared.state.Letter.TheVariants.{Unset, Sleepy as IsSleepy, Sleeping, Set as IsSet}
-use Rattle.rayon_machine_places.specs.declared.shape.PoolShape.{PoolShape}
-use Rattle.rayon_machine_places.specs.declared.place.Wait.{Wait}
-use Rattle.rayon_machine_places.specs.declared.place.Settling.{Settling}
-use Rattle.rayon_machine_places.specs.Places.{same_party, latch_of, after_set, act_of, next_of}
-use Rattle.rayon_machine_places.specs.World.{Shape, Stack, World, Counts, Part, target_pool, target_worker, call_of, letter, fall_asleep, effect}
-use Rattle.rayon_machine_places.specs.Steps.{after_move, step}
-use Rattle.rayon_machine_places.specs.Runs.{first_place, start, IsRun}
-use Rattle.rayon_machine_laws.specs.Committed.{is_blocking}
-use Rattle.rayon_machine_laws.specs.Attended.{letter_at, settles, HasSettler, IsWaiting, IsLatchAttended}
+use Rattle.rayon_machine_sleep_laws.proofs.Words.{ℕ, Bool, true, false, ◌&&◌, ◌==◌, ◌<◌, if◌then◌else◌, Option, Some, None, List, ◌≡◌, ◌⊎◌, IfSome, eqb-true, eq-eqb, Party, Worker, Caller, Latch, Terminate, OfCall, Place, ProbeWorking, FallAsleep, RelockOwn, SetLatch, UnlockSettled, Seen, Yes}
+use Rattle.rayon_machine_sleep_laws.proofs.Words.{Event, Letter, Unset, IsSleepy, Sleeping, IsSet, PoolShape, Wait, Settling, same_party, latch_of, after_set, act_of, next_of, Shape, Stack, World, Counts, Part, target_pool, target_worker, call_of, letter, fall_asleep, effect, after_move, step}
+use Rattle.rayon_machine_sleep_laws.proofs.Words.{first_place, start, IsRun, is_blocking, letter_at, settles, HasSettler}
+use Rattle.rayon_machine_laws.specs.Attended.{IsWaiting, IsLatchAttended}
 use Rattle.rayon_machine_laws.proofs.Asides.{Aside, steps_aside}
 use Rattle.rayon_machine_laws.proofs.Attend.{looks_parts, is_owing}
 use Rattle.rayon_machine_laws.proofs.Attended.{Awake, step_awake, first_light, first_awake}
@@ -63,7 +45,8 @@ doze_from : (h : Shape) (g : PoolShape) (q : Party) (c : Counts) (m : Part) (x :
 doze_from h g (Worker i j) c m (ProbeWorking k) l z = search (rules, arith)
 doze_from h g q c m (FallAsleep k) l z = cc
 doze_from h g q c m (SetLatch s) l z = if_some_all {A = Seen × Part} (λ r. Tops (DozedOn (SetLatch s) l) (next_of g q (SetLatch s) (r.0))) (λ r. set_dozes g q s l ((dozes_on (SetLatch s) ≡ Some l) × (lies_at (SetLatch s) ≡ false)) (r.0)) (effect (act_of q (SetLatch s)) h q c m)
-doze_from h g q c m (UnlockSettled s) l z = if_some_all {A = Seen × Part} (λ r. Tops (DozedOn (UnlockSettled s) l) (next_of g q (UnlockSettled s) (r.0))) (λ r. settled_dozes g q s l ((dozes_on (UnlockSettled s) ≡ Some l) × (lies_at (UnlockSettled s) ≡ false))) (effect (act_of q (UnlockSettled s)) h q c m)
+doze_from h g q c m (UnlockSettled s) l z = if_some_all {A = Seen × Part} (λ r. Tops (DozedOn (UnlockSettled s) l) (next_of g q (UnlockSettled s) (r.0))) (λ r. settled_dozes g q s l ((dozes_on (UnlockSettled s) ≡ Some l) × (lies_at (UnlockSettled s) ≡ false)))
+    (effect (act_of q (UnlockSettled s)) h q c m)
 doze_from h g (Worker i j) c m _ l z = search (rules, arith)
 doze_from h g (Caller n) c m _ l z = search (rules, arith)
 
@@ -71,7 +54,8 @@ frame_dozes : (f : Place) (l : Latch) (R : Type 0) → is_frame f ≡ true → d
 frame_dozes f l R e h = absurd (light_dozes f l (frame_light f e) h)
 
 -- a worker's own act, once it dozes
-own_settled : (w : World) (p i : ℕ) (x : Place) (fs : List Place) (l : Latch) → w.stack (Worker p i) ≡ record { top = x; below = fs } → falls_at x ≡ false → FramesOk w → Dozing w → IfSome (outcome w (Worker p i) (record { top = x; below = fs })) (λ r. dozes_on ((after_move (next_at w (Worker p i) (record { top = x; below = fs }) (r.0)) fs).top) ≡ Some l → DozeOk (result w (Worker p i) (record { top = x; below = fs }) r) p i l)
+own_settled : (w : World) (p i : ℕ) (x : Place) (fs : List Place) (l : Latch) → w.stack (Worker p i) ≡ record { top = x; below = fs } → falls_at x ≡ false → FramesOk w → Dozing w → IfSome (outcome w (Worker p i) (record { top = x; below = fs }))
+    (λ r. dozes_on ((after_move (next_at w (Worker p i) (record { top = x; below = fs }) (r.0)) fs).top) ≡ Some l → DozeOk (result w (Worker p i) (record { top = x; below = fs }) r) p i l)
 own_settled w p i x fs l e z fr doze = elim (either (is_latching x)) [
   | inl latching ↦ if_some_map {A = Seen × Part} (λ r. Tops (DozedOn x l) (next_at w q k (r.0))) (λ r. dozes_on ((after_move (next_at w q k (r.0)) fs).top) ≡ Some l → DozeOk (result w q k r) p i l)
       (λ r t on. absurd (let c : is_latching x ≡ false = dozes_calm x l ((dozed r t on).0) in cc)) (outcome w q k) table
@@ -112,11 +96,10 @@ own_settled w p i x fs l e z fr doze = elim (either (is_latching x)) [
 fall_next : (g : PoolShape) (q : Party) (j : Wait) (n l : Latch) (m : Part) (x : Letter) → latch_of j.target ≡ n → IfSome (fall_asleep n m x) (λ r. Tops (λ y. dozes_on y ≡ Some l → (letter n (r.1) ≡ Sleeping) × (n ≡ l)) (next_of g q (FallAsleep j) (r.0)))
 fall_next g q j Terminate l m IsSleepy e = λ z. (refl, sym e ∙ ap or_terminate z)
 fall_next g q j (OfCall c) l m IsSleepy e = λ z. (refl, sym e ∙ ap or_terminate z)
-fall_next g q j n l m Unset e = λ z. absurd (cc)
-fall_next g q j n l m Sleeping e = λ z. absurd (cc)
-fall_next g q j n l m IsSet e = λ z. absurd (cc)
+fall_next g q j n l m _ e = λ z. absurd (cc)
 
-own_falls : (w : World) (p i : ℕ) (j : Wait) (fs : List Place) (l : Latch) → w.stack (Worker p i) ≡ record { top = FallAsleep j; below = fs } → FramesOk w → IfSome (outcome w (Worker p i) (record { top = FallAsleep j; below = fs })) (λ r. dozes_on ((after_move (next_at w (Worker p i) (record { top = FallAsleep j; below = fs }) (r.0)) fs).top) ≡ Some l → DozeOk (result w (Worker p i) (record { top = FallAsleep j; below = fs }) r) p i l)
+own_falls : (w : World) (p i : ℕ) (j : Wait) (fs : List Place) (l : Latch) → w.stack (Worker p i) ≡ record { top = FallAsleep j; below = fs } → FramesOk w → IfSome (outcome w (Worker p i) (record { top = FallAsleep j; below = fs }))
+    (λ r. dozes_on ((after_move (next_at w (Worker p i) (record { top = FallAsleep j; below = fs }) (r.0)) fs).top) ≡ Some l → DozeOk (result w (Worker p i) (record { top = FallAsleep j; below = fs }) r) p i l)
 own_falls w p i j fs l e fr = if_some_map {A = Seen × Part} (λ r. Tops (λ y. dozes_on y ≡ Some l → (letter n (r.1) ≡ Sleeping) × (n ≡ l)) (next_at w q k (r.0))) (λ r. dozes_on ((after_move (next_at w q k (r.0)) fs).top) ≡ Some l → DozeOk (result w q k r) p i l)
     (λ r t on. slept r (top_then (λ y. dozes_on y ≡ Some l → (letter n (r.1) ≡ Sleeping) × (n ≡ l)) w q k (r.0) e fr (λ f ff. frame_dozes f l ((letter n (r.1) ≡ Sleeping) × (n ≡ l)) ff) t on))
     (outcome w q k) (fall_next (shape_at w q k) q j n l (part_at w q k) (letter n (part_at w q k)) refl)
@@ -135,7 +118,8 @@ own_falls w p i j fs l e fr = if_some_map {A = Seen × Part} (λ r. Tops (λ y. 
         let is : letter_at (result w q k r) p i l ≡ Sleeping = subst (λ y. letter_at (result w q k r) p i y ≡ Sleeping) (a.1) ((letter_new w q k r p i n refl refl refl).0 ∙ a.0) in
         record { deep = ap is_deep is; settled = λ set waits. absurd (let z : Sleeping ≡ IsSet = sym is ∙ set in cc) }
 
-own_doze : (w : World) (p i : ℕ) (x : Place) (fs : List Place) (l : Latch) → w.stack (Worker p i) ≡ record { top = x; below = fs } → FramesOk w → Dozing w → IfSome (outcome w (Worker p i) (record { top = x; below = fs })) (λ r. dozes_on ((after_move (next_at w (Worker p i) (record { top = x; below = fs }) (r.0)) fs).top) ≡ Some l → DozeOk (result w (Worker p i) (record { top = x; below = fs }) r) p i l)
+own_doze : (w : World) (p i : ℕ) (x : Place) (fs : List Place) (l : Latch) → w.stack (Worker p i) ≡ record { top = x; below = fs } → FramesOk w → Dozing w → IfSome (outcome w (Worker p i) (record { top = x; below = fs }))
+    (λ r. dozes_on ((after_move (next_at w (Worker p i) (record { top = x; below = fs }) (r.0)) fs).top) ≡ Some l → DozeOk (result w (Worker p i) (record { top = x; below = fs }) r) p i l)
 own_doze w p i (FallAsleep j) fs l e fr doze = own_falls w p i j fs l e fr
 own_doze w p i x fs l e fr doze = own_settled w p i x fs l e refl fr doze
 
@@ -144,7 +128,8 @@ mine_of : (w : World) (p i : ℕ) (l : Latch) → Owned w → dozes_on (w.stack 
 mine_of w p i l ow on c e = ((ow.named (Worker p i)).top).own c (dozes_own (w.stack (Worker p i)).top c (on ∙ ap Some e))
 
 -- another party's act
-other_doze : (w : World) (q : Party) (x : Place) (fs : List Place) (p i : ℕ) (l : Latch) → w.stack q ≡ record { top = x; below = fs } → same_party (Worker p i) q ≡ false → Awake w → Owned w → Dozing w → dozes_on (w.stack (Worker p i)).top ≡ Some l → IfSome (outcome w q (record { top = x; below = fs })) (λ r. DozeOk (result w q (record { top = x; below = fs }) r) p i l)
+other_doze : (w : World) (q : Party) (x : Place) (fs : List Place) (p i : ℕ) (l : Latch) → w.stack q ≡ record { top = x; below = fs } → same_party (Worker p i) q ≡ false → Awake w → Owned w → Dozing w → dozes_on (w.stack (Worker p i)).top ≡ Some l
+    → IfSome (outcome w q (record { top = x; below = fs })) (λ r. DozeOk (result w q (record { top = x; below = fs }) r) p i l)
 other_doze w q x fs p i l e d a ow doze on =
     if_some_map {A = Seen × Part} (λ r. LetterChange w q k p i l r × ((((result w q k r).seat p i).blocked ≡ true → (w.seat p i).blocked ≡ true) × (wakes_at x ≡ true → Woke (part_at w q k) r))) (λ r. DozeOk (result w q k r) p i l)
     (λ r h. other_settled w q x fs p i l r e d a.seats a.locks (doze p i l on) on (h.0) ((h.1).0) ((h.1).1))
@@ -176,11 +161,14 @@ other_doze w q x fs p i l e d a ow doze on =
     blocking : (b : Bool) → ((p == target_pool q (act_of q x)) && (i == target_worker q (act_of q x))) ≡ b → IfSome (outcome w q k) (λ r. (if b then r.1.seat else w.seat p i).blocked ≡ true → (w.seat p i).blocked ≡ true)
     blocking true z =
         let t : (p ≡ target_pool q (act_of q x)) × (i ≡ target_worker q (act_of q x)) = same_index p i (target_pool q (act_of q x)) (target_worker q (act_of q x)) z in
-        if_some_map {A = Seen × Part} (λ r. r.1.seat.blocked ≡ true → (part_at w q k).seat.blocked ≡ true) (λ r. r.1.seat.blocked ≡ true → (w.seat p i).blocked ≡ true) (λ r f h. ap (λ n. (w.seat n i).blocked) (t.0) ∙ ap (λ n. (w.seat (target_pool q (act_of q x)) n).blocked) (t.1) ∙ f h) (outcome w q k) (kept (t.0) (t.1))
+        if_some_map {A = Seen × Part} (λ r. r.1.seat.blocked ≡ true → (part_at w q k).seat.blocked ≡ true) (λ r. r.1.seat.blocked ≡ true → (w.seat p i).blocked ≡ true) (λ r f h. ap (λ n. (w.seat n i).blocked) (t.0) ∙ ap (λ n. (w.seat (target_pool q (act_of q x)) n).blocked) (t.1) ∙ f h)
+        (outcome w q k) (kept (t.0) (t.1))
     blocking false z = if_some_all {A = Seen × Part} (λ r. (w.seat p i).blocked ≡ true → (w.seat p i).blocked ≡ true) (λ r h. h) (outcome w q k)
 
-at_doze : (w : World) (q : Party) (p i : ℕ) (l : Latch) (b : Bool) → same_party (Worker p i) q ≡ b → Awake w → Owned w → Dozing w → IfSome (outcome w q (w.stack q)) (λ r. dozes_on ((if b then after_move (next_at w q (w.stack q) (r.0)) (w.stack q).below else w.stack (Worker p i)).top) ≡ Some l → DozeOk (result w q (w.stack q) r) p i l)
-at_doze w q p i l true eb a ow doze = subst (λ z. IfSome (outcome w z (w.stack z)) (λ r. dozes_on ((after_move (next_at w z (w.stack z) (r.0)) (w.stack z).below).top) ≡ Some l → DozeOk (result w z (w.stack z) r) p i l)) (same_party_true (Worker p i) q eb) (own_doze w p i (w.stack (Worker p i)).top (w.stack (Worker p i)).below l refl a.frames doze)
+at_doze : (w : World) (q : Party) (p i : ℕ) (l : Latch) (b : Bool) → same_party (Worker p i) q ≡ b → Awake w → Owned w → Dozing w → IfSome (outcome w q (w.stack q))
+    (λ r. dozes_on ((if b then after_move (next_at w q (w.stack q) (r.0)) (w.stack q).below else w.stack (Worker p i)).top) ≡ Some l → DozeOk (result w q (w.stack q) r) p i l)
+at_doze w q p i l true eb a ow doze = subst (λ z. IfSome (outcome w z (w.stack z)) (λ r. dozes_on ((after_move (next_at w z (w.stack z) (r.0)) (w.stack z).below).top) ≡ Some l → DozeOk (result w z (w.stack z) r) p i l)) (same_party_true (Worker p i) q eb)
+    (own_doze w p i (w.stack (Worker p i)).top (w.stack (Worker p i)).below l refl a.frames doze)
 at_doze w q p i l false eb a ow doze = elim (is_dozing (dozes_on (w.stack (Worker p i)).top) l) [
   | inl on ↦ if_some_map {A = Seen × Part} (λ r. DozeOk (result w q (w.stack q) r) p i l) (λ r. dozes_on (w.stack (Worker p i)).top ≡ Some l → DozeOk (result w q (w.stack q) r) p i l) (λ r h z. h) (outcome w q (w.stack q)) (other_doze w q (w.stack q).top (w.stack q).below p i l refl eb a ow doze on)
   | inr off ↦ if_some_all {A = Seen × Part} (λ r. dozes_on (w.stack (Worker p i)).top ≡ Some l → DozeOk (result w q (w.stack q) r) p i l) (λ r z. absurd (off z)) (outcome w q (w.stack q))
@@ -215,7 +203,8 @@ aside_dozing w u m ow doze p i l on = at (same_party (Worker p i) (m.party)) ref
 
     settler : HasSettler w p i l → HasSettler u p i l
     settler g = elim (either (same_party (g.party) (m.party))) [
-      | inl a ↦ absurd (let s : settles (w.stack (g.party)).top p i l ≡ false = ap (λ z. settles (w.stack z).top p i l) (same_party_true (g.party) (m.party) a) ∙ light_unsettling (w.stack (m.party)).top p i l ((looks_parts (is_light (w.stack (m.party)).top) (is_owing (w.stack (m.party)).top) (m.was)).0) in let t : settles (w.stack (g.party)).top p i l ≡ true = g.settling in cc)
+      | inl a ↦ absurd (let s : settles (w.stack (g.party)).top p i l ≡ false = ap (λ z. settles (w.stack z).top p i l) (same_party_true (g.party) (m.party) a)
+          ∙ light_unsettling (w.stack (m.party)).top p i l ((looks_parts (is_light (w.stack (m.party)).top) (is_owing (w.stack (m.party)).top) (m.was)).0) in let t : settles (w.stack (g.party)).top p i l ≡ true = g.settling in cc)
       | inr b ↦ record { party = g.party; settling = ap (λ s. settles (s.top) p i l) (m.stack (g.party) ∙ stack_other w.stack (m.party) (m.to) (g.party) b) ∙ g.settling }
     ]
 

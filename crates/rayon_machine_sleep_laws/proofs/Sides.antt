@@ -2,46 +2,15 @@
 --
 -- This is `Backed`, over the table of moves.
 use Rattle.std.proofs.Common.{rules, arith, refl, sym, ◌∙◌, ap, subst}
-use Rattle.std.specs.Prelude.{ℕ, Bool, true, false, ◌&&◌, ◌+◌, ◌==◌, ◌≤◌, nat_lt, if◌then◌else◌, Option, Some, None, List, [], ◌∷◌, ◌≡◌, IfSome, ⊤}
-use Rattle.std.proofs.lemmas.Bool.{eq-eqb}
-use Rattle.rayon_machine_places.specs.declared.place.Party.{Party}
-use Rattle.rayon_machine_places.specs.declared.place.Party.TheVariants.{Worker, Caller}
-use Rattle.rayon_machine_places.specs.declared.place.Ending.{Ending}
-use Rattle.rayon_machine_places.specs.declared.place.Ending.TheVariants.{Fine, Fault}
-use Rattle.rayon_machine_places.specs.declared.place.JobKind.{JobKind}
-use Rattle.rayon_machine_places.specs.declared.place.JobKind.TheVariants.{Detached, Stored, Direct, Scoped, BodyOf, PieceOf, WholeOf, TokenOf}
-use Rattle.rayon_machine_places.specs.declared.place.Target.{Target}
-use Rattle.rayon_machine_places.specs.declared.place.Target.TheVariants.{Termination, Answer}
-use Rattle.rayon_machine_places.specs.declared.place.Latch.{Latch}
-use Rattle.rayon_machine_places.specs.declared.place.Latch.TheVariants.{Terminate, OfCall}
-use Rattle.rayon_machine_places.specs.declared.place.Rounds.{Rounds}
-use Rattle.rayon_machine_places.specs.declared.place.Rounds.TheVariants.{Failed, Announced}
-use Rattle.rayon_machine_places.specs.declared.place.Plan.{Plan}
-use Rattle.rayon_machine_places.specs.declared.place.Plan.TheVariants.{Detach, Here, Send, Fork, Feed, Open, Enter, Gather}
-use Rattle.rayon_machine_places.specs.declared.place.Count.{Count}
-use Rattle.rayon_machine_places.specs.declared.place.Count.TheVariants.{OfPool, OfScope, OfCast}
-use Rattle.rayon_machine_places.specs.declared.place.Share.{Share}
-use Rattle.rayon_machine_places.specs.declared.place.Then.{Then}
-use Rattle.rayon_machine_places.specs.declared.place.Then.TheVariants.{BeginFound, LeaveWait, Resume, Await, RunFirst, Answers, Missing as NoResult, Ran, GiveBack, Called, Gathers}
-use Rattle.rayon_machine_places.specs.declared.place.Taken.{Taken}
-use Rattle.rayon_machine_places.specs.declared.place.Taken.TheVariants.{Plain, Token}
-use Rattle.rayon_machine_places.specs.declared.place.Place.{Place}
-use Rattle.rayon_machine_places.specs.declared.place.Place.TheVariants.{ProbeWorking, ProbeIdle, PopInjected, AnnounceSelf, LeaveSearch, JoinPop, BeginTask, BeginHere, Run, RaiseCount, TellNews, LockToWake, UnlockWoken, LowerCount, StoreResult, SetLatch}
-use Rattle.rayon_machine_places.specs.declared.place.Place.TheVariants.{UnlockSettled, SetLockLatch, FirstSide, SecondSide, ScopeBody, AtOnce, JoinProbe, Stopped, GrowScope, PushJob, OpenSlot, AddToFifo, TakeFromFifo, RaiseForAll, PushForAll, LowerForAll}
-use Rattle.rayon_machine_places.specs.declared.place.Move.{Move}
-use Rattle.rayon_machine_places.specs.declared.place.Move.TheVariants.{Stay, Enter as Into, StartRun, Back, HandBack, HandIn, Discard, Mark, HandAllBack}
-use Rattle.rayon_machine_places.specs.declared.act.Seen.{Seen}
-use Rattle.rayon_machine_places.specs.declared.act.Seen.TheVariants.{Done, Yes, Task, Wakes}
-use Rattle.rayon_machine_places.specs.declared.shape.PoolShape.{PoolShape}
-use Rattle.rayon_machine_places.specs.declared.place.Feeding.{Feeding}
-use Rattle.rayon_machine_places.specs.declared.place.Pieces.{Pieces}
-use Rattle.rayon_machine_places.specs.declared.place.OpenCall.{OpenCall}
-use Rattle.rayon_machine_places.specs.declared.place.Wait.{Wait}
-use Rattle.rayon_machine_places.specs.declared.place.Settling.{Settling}
-use Rattle.rayon_machine_places.specs.Places.{own_pool, plan_pool, after_news, after_wait, finish, walk, settle, after_set, after_found, act_of, after_failure, next_of}
-use Rattle.rayon_machine_places.specs.Places.{settle_count, plan_book, count_book, taken_number, withdraw, begin_feed, after_slot, begin_cast, end_cast, ends_count, set_call, is_taken, goes_on}
-use Rattle.rayon_machine_places.specs.World.{Shape, World, Counts, Part, effect}
-use Rattle.rayon_machine_places.specs.Steps.{after_move, after_close, after_resume}
+use Rattle.rayon_machine_sleep_laws.proofs.Words.{ℕ, Bool, true, false, ◌&&◌, ◌+◌, ◌==◌, ◌≤◌, nat_lt, if◌then◌else◌, Option, Some, None, List, [], ◌∷◌, ◌≡◌, IfSome, ⊤, eq-eqb, Party, Worker, Caller, Ending, Fine, Fault, JobKind, Detached, Stored, Direct, Scoped, BodyOf, PieceOf, WholeOf}
+use Rattle.rayon_machine_sleep_laws.proofs.Words.{TokenOf, Target, Termination, Answer, Latch, Terminate, OfCall, Rounds, Failed, Announced, Plan, Detach, Here, Send, Fork, Feed, Open, Enter, Gather, Count, OfPool, OfScope, OfCast, Share, Then, BeginFound, LeaveWait, Resume, Await, RunFirst}
+use Rattle.rayon_machine_sleep_laws.proofs.Words.{Answers, Missing as NoResult, Ran, GiveBack, Called, Gathers, Taken, Plain, Token, Place, ProbeWorking, ProbeIdle, PopInjected, AnnounceSelf, LeaveSearch, BeginTask, BeginHere, Run, RaiseCount, TellNews, LockToWake, UnlockWoken, LowerCount}
+use Rattle.rayon_machine_sleep_laws.proofs.Words.{StoreResult, SetLatch, UnlockSettled, SetLockLatch, FirstSide, SecondSide, ScopeBody, AtOnce, Stopped, GrowScope, PushJob, OpenSlot, AddToFifo, TakeFromFifo, RaiseForAll, PushForAll, LowerForAll, Move, Stay, Into, StartRun, Back, HandBack}
+use Rattle.rayon_machine_sleep_laws.proofs.Words.{HandIn, Discard, Mark, HandAllBack, Seen, Done, Yes, Task, Wakes, PoolShape, Feeding, Pieces, OpenCall, Wait, Settling, own_pool, plan_pool, after_news, after_wait, finish, walk, settle, after_set, after_found, act_of, after_failure, next_of}
+use Rattle.rayon_machine_sleep_laws.proofs.Words.{plan_book, count_book, taken_number, withdraw, begin_feed, after_slot, begin_cast, end_cast, ends_count, set_call, goes_on, Shape, World, Counts, Part, effect, after_move, after_close, after_resume}
+use Rattle.rayon_machine_places.specs.declared.place.Place.TheVariants.{JoinPop}
+use Rattle.rayon_machine_places.specs.declared.place.Place.TheVariants.{JoinProbe}
+use Rattle.rayon_machine_places.specs.Places.{settle_count, is_taken}
 use Rattle.rayon_machine_laws.proofs.Claims.{AllSay, Says, SaysThen, SaysTold, SaysFound, FirstEnds, here}
 use Rattle.rayon_machine_laws.proofs.Frame.{if_some_all, if_some_map, out_sees}
 use Rattle.rayon_machine_laws.proofs.Storing.{number_is}
@@ -91,14 +60,8 @@ land_backed w x (HandIn y k) fs m b = (λ t e s. b.0 t (m t e s) s, b.1)
 land_backed w x (Mark y c k) fs m b = (λ t e s. b.0 t (m t e s) s, b.1)
 land_backed w x (Into f y) fs m b = (λ t e s. m.0 t e s, (λ t e s. absurd (none_here f t (m.1) e), b.1))
 land_backed w x (StartRun f a) fs m b = (λ t e s. absurd (not_both (is_stored (w.job t).kind) s (ap (λ n. is_stored (w.job n).kind) (sym (number_is a t e)) ∙ m.0)), (λ t e s. absurd (none_here f t (m.1) e), b.1))
-land_backed w x Back [] m b = (λ t e s. absurd (none_here Stopped t refl e), tt)
-land_backed w x Back (f ∷ fs) m b = b.1
-land_backed w x (HandBack n) [] m b = (λ t e s. absurd (none_here Stopped t refl e), tt)
-land_backed w x (HandBack n) (f ∷ fs) m b = b.1
-land_backed w x (Discard n) [] m b = (λ t e s. absurd (none_here Stopped t refl e), tt)
-land_backed w x (Discard n) (f ∷ fs) m b = b.1
-land_backed w x (HandAllBack n) [] m b = (λ t e s. absurd (none_here Stopped t refl e), tt)
-land_backed w x (HandAllBack n) (f ∷ fs) m b = b.1
+land_backed w x _ [] m b = (λ t e s. absurd (none_here Stopped t refl e), tt)
+land_backed w x _ (f ∷ fs) m b = b.1
 
 -- places that begin and run nothing for a frame
 abbrev pub Calm : Move → Type 0
@@ -115,10 +78,7 @@ calm_turns w x (HandIn y k) n = λ t e s. absurd (none_here y t n e)
 calm_turns w x (Mark y c k) n = λ t e s. absurd (none_here y t n e)
 calm_turns w x (Into f y) n = (λ t e s. absurd (none_here y t (n.0) e), n.1)
 calm_turns w x (StartRun f a) n = absurd n
-calm_turns w x Back n = tt
-calm_turns w x (HandBack p) n = tt
-calm_turns w x (Discard k) n = tt
-calm_turns w x (HandAllBack c) n = tt
+calm_turns w x _ n = tt
 
 left_calm : (g : Target) → here (after_wait g) ≡ None
 left_calm Termination = refl
@@ -133,12 +93,7 @@ finish_turns w (Caller n) x (Await o) f s = calm_turns w x (finish (Caller n) (A
 finish_turns w (Worker i j) x (Gathers o) f s = calm_turns w x (finish (Worker i j) (Gathers o)) refl
 finish_turns w (Caller n) x (Gathers o) f s = calm_turns w x (finish (Caller n) (Gathers o)) refl
 finish_turns w q x (RunFirst o a) f s = ((f o.number a (s.1)).1, refl)
-finish_turns w q x Resume f s = tt
-finish_turns w q x Called f s = tt
-finish_turns w q x (Answers o e d) f s = tt
-finish_turns w q x (NoResult o e) f s = tt
-finish_turns w q x (Ran t e) f s = tt
-finish_turns w q x (GiveBack n) f s = tt
+finish_turns w q x _ f s = tt
 
 if_turns : (w : World) (x : Place) (b : Bool) (y : Place) (g : Move) → here y ≡ None → Turning w x g → Turning w x (if b then Stay y else g)
 if_turns w x true y g n t = calm_turns w x (Stay y) n
@@ -170,8 +125,7 @@ ends_calm (OfCast c o) = call_calm c o Resume
 
 fed_calm : (f : Feeding) (k : Count) → here (begin_feed k f) ≡ None
 fed_calm f (OfPool p) = refl
-fed_calm f (OfScope c o) = refl
-fed_calm f (OfCast c o) = refl
+fed_calm f _ = refl
 
 drawn_calm : (b : Option ℕ) (n : Plan) → here (withdraw b n) ≡ None
 drawn_calm None n = refl
@@ -179,23 +133,15 @@ drawn_calm (Some c) n = refl
 
 slot_calm : (n : Plan) → here (after_slot n) ≡ None
 slot_calm (Feed f) = refl
-slot_calm (Detach p t) = refl
-slot_calm (Here p t) = refl
-slot_calm (Send o) = refl
-slot_calm (Fork o a) = refl
-slot_calm (Open o) = refl
-slot_calm (Enter x) = refl
-slot_calm (Gather g) = refl
+slot_calm _ = refl
 
 begun_calm : (b : Pieces) (k : Count) → here (begin_cast k b) ≡ None
 begun_calm b (OfPool p) = refl
-begun_calm b (OfScope c o) = refl
-begun_calm b (OfCast c o) = refl
+begun_calm b _ = refl
 
 unpushed_calm : (b : Pieces) (k : Count) → here (end_cast k b) ≡ None
 unpushed_calm b (OfPool p) = refl
-unpushed_calm b (OfScope c o) = refl
-unpushed_calm b (OfCast c o) = refl
+unpushed_calm b _ = refl
 
 failed_calm : (h : PoolShape) (k : Wait) (r : Rounds) → here (after_failure h k r) ≡ None
 failed_calm h k (Failed m) = at (nat_lt m h.limit)
@@ -226,14 +172,12 @@ leave_turns w h q k (Wakes n) f s = walk_turns w h q (LeaveSearch k) (own_pool q
 leave_turns w h q k _ f s = λ t e s. absurd (cc)
 
 news_says : (w : World) (q : Party) (n : Plan) → SaysTold w q n → SaysThen w q (after_news n)
-news_says w q (Detach p t) s = tt
-news_says w q (Here p t) s = tt
 news_says w q (Send o) s = (s.0, subst (λ a. FirstEnds w a None) (sym (s.1)) tt)
 news_says w q (Fork o a) s = s
-news_says w q (Enter e) s = tt
 news_says w q (Feed f) s = absurd s
 news_says w q (Open o) s = absurd s
 news_says w q (Gather g) s = absurd s
+news_says w q _ s = tt
 
 tell_turns : (w : World) (h : PoolShape) (q : Party) (n : Plan) (v : Bool) (e : Seen) → Firsts w → Says w q (TellNews n v) → Turning w (TellNews n v) (next_of h q (TellNews n v) e)
 tell_turns w h q n v (Wakes m) f s = walk_turns w h q (TellNews n v) (plan_pool n) m 0 (after_news n) f (news_says w q n s)
@@ -305,14 +249,11 @@ grow_turns w h q o _ n = λ t e s. absurd (cc)
 
 -- what begins is of the kind that the party finds
 run_passes : (w : World) (x : Place) (t : ℕ) (d : JobKind) → d ≡ (w.job t).kind → Passes w x (Run t d)
-run_passes w x t Direct e u y s = absurd (not_both (is_stored (w.job u).kind) s (ap (λ n. is_stored (w.job n).kind) (sym (number_is t u y)) ∙ ap is_stored (sym e)))
-run_passes w x t (TokenOf i b) e u y s = absurd (not_both (is_stored (w.job u).kind) s (ap (λ n. is_stored (w.job n).kind) (sym (number_is t u y)) ∙ ap is_stored (sym e)))
-run_passes w x t (BodyOf c o) e u y s = absurd (not_both (is_stored (w.job u).kind) s (ap (λ n. is_stored (w.job n).kind) (sym (number_is t u y)) ∙ ap is_stored (sym e)))
-run_passes w x t (WholeOf c o) e u y s = absurd (not_both (is_stored (w.job u).kind) s (ap (λ n. is_stored (w.job n).kind) (sym (number_is t u y)) ∙ ap is_stored (sym e)))
 run_passes w x t (Detached p) e u y s = absurd (cc)
 run_passes w x t (Stored c o) e u y s = absurd (cc)
 run_passes w x t (Scoped c o) e u y s = absurd (cc)
 run_passes w x t (PieceOf c o) e u y s = absurd (cc)
+run_passes w x t _ e u y s = absurd (not_both (is_stored (w.job u).kind) s (ap (λ n. is_stored (w.job n).kind) (sym (number_is t u y)) ∙ ap is_stored (sym e)))
 
 -- what is known of the job that an act begins, and of a scope's body
 abbrev pub Known : World → Part → Place → Type 0
@@ -389,11 +330,8 @@ resume_backed w [] d b = (λ t e s. absurd (none_here Stopped t refl e), tt)
 resume_backed w (f ∷ fs) d b = (λ t e s. b.0 t (on_calm f d t e) s, b.1)
 
 pub closed_backed : (w : World) (t : ℕ) (k : JobKind) (d : Ending) (fs : List Place) → Backed w fs → Backed w ((after_close t k d fs).top ∷ (after_close t k d fs).below)
-closed_backed w t (Detached p) d fs b = (λ u e s. absurd (cc), b)
-closed_backed w t (Stored c o) d fs b = (λ u e s. absurd (cc), b)
-closed_backed w t (Scoped c o) d fs b = (λ u e s. absurd (cc), b)
-closed_backed w t (PieceOf c o) d fs b = (λ u e s. absurd (cc), b)
 closed_backed w t Direct d fs b = resume_backed w fs d b
 closed_backed w t (BodyOf c o) d fs b = resume_backed w fs d b
 closed_backed w t (WholeOf c o) d fs b = resume_backed w fs d b
 closed_backed w t (TokenOf i a) d fs b = resume_backed w fs d b
+closed_backed w t _ d fs b = (λ u e s. absurd (cc), b)

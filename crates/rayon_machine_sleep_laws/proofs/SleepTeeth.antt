@@ -1,27 +1,11 @@
 -- wrong machines of turns, walks and announcements: replays, computed by the kernel, in which a changed table or act
 -- breaks the clause of a law that forbids it
 use Rattle.std.proofs.Common.{refl, sym, ◌∙◌, ap}
-use Rattle.std.specs.Prelude.{ℕ, true, false, ◌+◌, ◌-◌, if◌then◌else◌, Some, List, ◌∷◌, ◌++◌, ◌≡◌, IfSome}
-use Rattle.rayon_machine_places.specs.declared.place.Party.{Party}
-use Rattle.rayon_machine_places.specs.declared.place.Place.{Place}
-use Rattle.rayon_machine_places.specs.declared.place.Place.TheVariants.{PopInjected, GetSleepy, UndoSleeping, WakeUp, WakeWorker, UnlockWoken}
-use Rattle.rayon_machine_places.specs.declared.place.Move.{Move}
-use Rattle.rayon_machine_places.specs.declared.place.Move.TheVariants.{Stay}
-use Rattle.rayon_machine_places.specs.declared.act.Act.{Act}
-use Rattle.rayon_machine_places.specs.declared.act.Act.TheVariants.{News, Wake}
-use Rattle.rayon_machine_places.specs.declared.act.Seen.{Seen}
-use Rattle.rayon_machine_places.specs.declared.act.Seen.TheVariants.{Yes, Missing, Wakes}
-use Rattle.rayon_machine_places.specs.declared.event.Event.{Event}
-use Rattle.rayon_machine_places.specs.declared.event.Event.TheVariants.{Go, Spawn}
-use Rattle.rayon_machine_places.specs.declared.shape.PoolShape.{PoolShape}
-use Rattle.rayon_machine_places.specs.Places.{act_of, next_of}
-use Rattle.rayon_machine_places.specs.World.{Shape, World, Counts, Part, Outcome, effect, is_even, wakes_for_one}
-use Rattle.rayon_machine_laws.specs.Committed.{is_blocking}
+use Rattle.rayon_machine_sleep_laws.proofs.Words.{ℕ, true, false, ◌+◌, ◌-◌, if◌then◌else◌, Some, List, ◌∷◌, ◌++◌, ◌≡◌, IfSome, Party, Place, PopInjected, GetSleepy, UndoSleeping, WakeUp, WakeWorker, UnlockWoken, Move, Stay, Act, News, Wake, Seen, Yes, Wakes, Event, Go, Spawn, PoolShape, act_of}
+use Rattle.rayon_machine_sleep_laws.proofs.Words.{next_of, Shape, World, Counts, Part, Outcome, effect, is_even, wakes_for_one, is_blocking, is_announce, begins_anew, is_told_of, TurnsSo, is_walk}
+use Rattle.rayon_machine_places.specs.declared.act.Seen.TheVariants.{Missing}
 use Rattle.rayon_machine_laws.specs.Leavers.{owed_at}
-use Rattle.rayon_machine_laws.specs.Turn.{is_announce}
-use Rattle.rayon_machine_sleep_laws.specs.Announced.{begins_anew}
-use Rattle.rayon_machine_sleep_laws.specs.Parity.{is_told_of, TurnsSo}
-use Rattle.rayon_machine_sleep_laws.specs.Walks.{is_walk, WalksOn}
+use Rattle.rayon_machine_sleep_laws.specs.Walks.{WalksOn}
 use Rattle.rayon_machine_sleep_laws.proofs.Machines.{right, doing, leading, step_by, run_by, any_by, times_go, pool_of, a, b, c}
 
 -- a News raises the turn also where it is odd

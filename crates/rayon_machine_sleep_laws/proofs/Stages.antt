@@ -1,15 +1,7 @@
 -- what a worker's looks since its Announce tell at each place of its search
 use Rattle.std.proofs.Common.{arith, refl, sym, ◌∙◌, ap, inl, inr, ◌≢◌}
-use Rattle.std.specs.Prelude.{ℕ, suc, Bool, true, false, ◌+◌, ◌-◌, ◌==◌, ◌<◌, ◌≤◌, nat_lt, if◌then◌else◌, Option, Some, None, List, [], ◌∷◌, ◌++◌, ◌≡◌, ⊤}
-use Rattle.std.proofs.lemmas.Bool.{eqb-true, eq-eqb, ltb-true, ltb-false}
-use Rattle.std.proofs.lemmas.List.{append_assoc}
-use Rattle.rayon_machine_places.specs.declared.place.Party.{Party}
-use Rattle.rayon_machine_places.specs.declared.place.Place.{Place}
-use Rattle.rayon_machine_places.specs.declared.place.Place.TheVariants.{TakeCastIdle, PickVictim, StealFrom, PopInjected, GetSleepy, LockOwn, FallAsleep, LoadCounters, AddSleeping, LookAtCast, LookAtInjector, BlockSelf}
-use Rattle.rayon_machine_places.specs.declared.shape.PoolShape.{PoolShape}
-use Rattle.rayon_machine_places.specs.declared.place.Wait.{Wait}
-use Rattle.rayon_machine_places.specs.Places.{own_index, next_victim, not_self, next_steal}
-use Rattle.rayon_machine_sleep_laws.specs.Searched.{OwnDeque, OwnCast, Deque, Injector, Look, and_then, others, EndsSearched}
+use Rattle.rayon_machine_sleep_laws.proofs.Words.{ℕ, suc, Bool, true, false, ◌+◌, ◌-◌, ◌==◌, ◌<◌, ◌≤◌, nat_lt, if◌then◌else◌, Option, Some, None, List, [], ◌∷◌, ◌++◌, ◌≡◌, ⊤, eqb-true, eq-eqb, ltb-true, ltb-false, append_assoc, Party, Place, TakeCastIdle, PickVictim, StealFrom, PopInjected}
+use Rattle.rayon_machine_sleep_laws.proofs.Words.{GetSleepy, LockOwn, FallAsleep, LoadCounters, AddSleeping, LookAtCast, LookAtInjector, BlockSelf, PoolShape, Wait, own_index, next_victim, not_self, next_steal, OwnDeque, OwnCast, Deque, Injector, Look, and_then, others, EndsSearched}
 use Rattle.rayon_machine_laws.proofs.Frame.{either}
 use Rattle.rayon_machine_laws.proofs.Kept.{is_emptied}
 

@@ -1,29 +1,14 @@
 -- how a walk of wakes goes on from worker to worker
 use Rattle.std.proofs.Common.{arith, refl, sym, ◌∙◌, ap, subst, inl, inr}
-use Rattle.std.specs.Prelude.{ℕ, Bool, true, false, ◌&&◌, ◌+◌, ◌-◌, ◌==◌, ◌<◌, ◌≤◌, nat_lt, if◌then◌else◌, Some, List, ◌≡◌, ◌⊎◌, IfSome}
-use Rattle.std.proofs.lemmas.Bool.{eq-eqb, lt-ltb, ltb-true}
-use Rattle.rayon_machine_places.specs.declared.place.Party.{Party}
-use Rattle.rayon_machine_places.specs.declared.place.Party.TheVariants.{Worker, Caller}
-use Rattle.rayon_machine_places.specs.declared.place.Walk.{Walk}
-use Rattle.rayon_machine_places.specs.declared.place.Place.{Place}
-use Rattle.rayon_machine_places.specs.declared.place.Place.TheVariants.{LockToWake, WakeWorker, UnlockWoken}
-use Rattle.rayon_machine_places.specs.declared.place.Move.TheVariants.{Stay}
-use Rattle.rayon_machine_places.specs.declared.act.Act.{Act}
-use Rattle.rayon_machine_places.specs.declared.act.Act.TheVariants.{Lock, Wake, Unlock}
-use Rattle.rayon_machine_places.specs.declared.act.Seen.{Seen}
-use Rattle.rayon_machine_places.specs.declared.act.Seen.TheVariants.{Yes, No}
-use Rattle.rayon_machine_places.specs.declared.event.Event.TheVariants.{Go}
-use Rattle.rayon_machine_places.specs.declared.shape.PoolShape.{PoolShape}
-use Rattle.rayon_machine_places.specs.Places.{act_of, finish, next_of, walk}
-use Rattle.rayon_machine_places.specs.World.{Shape, Stack, World, Counts, Part, effect, counts_at}
-use Rattle.rayon_machine_places.specs.Steps.{after_move}
+use Rattle.rayon_machine_sleep_laws.proofs.Words.{ℕ, Bool, true, false, ◌&&◌, ◌+◌, ◌-◌, ◌==◌, ◌<◌, ◌≤◌, nat_lt, if◌then◌else◌, Some, List, ◌≡◌, ◌⊎◌, IfSome, eq-eqb, lt-ltb, ltb-true, Party, Worker, Caller, Walk, Place, LockToWake, WakeWorker, UnlockWoken, Stay, Act, Lock, Wake, Unlock, Seen}
+use Rattle.rayon_machine_sleep_laws.proofs.Words.{Yes, No, Go, PoolShape, act_of, finish, next_of, walk, Shape, Stack, World, Counts, Part, effect, counts_at, after_move, is_walk}
 use Rattle.rayon_machine_laws.proofs.Attended.{always_awake}
 use Rattle.rayon_machine_laws.proofs.Calm.{part_at}
 use Rattle.rayon_machine_laws.proofs.Frame.{and_parts, if_some_all, if_some_map}
 use Rattle.rayon_machine_laws.proofs.Pushing.{top_is}
 use Rattle.rayon_machine_laws.proofs.Ties.{AllFrames, outcome, result}
 use Rattle.rayon_machine_laws.proofs.Tops.{FramesOk, top_after}
-use Rattle.rayon_machine_sleep_laws.specs.Walks.{is_walk, WalksTo, WalkLaw}
+use Rattle.rayon_machine_sleep_laws.specs.Walks.{WalksTo, WalkLaw}
 use Rattle.rayon_machine_sleep_laws.proofs.Leavers.{frame_owes, finish_owes}
 use Rattle.rayon_machine_sleep_laws.proofs.Rests.{acted, stepped, not_both}
 

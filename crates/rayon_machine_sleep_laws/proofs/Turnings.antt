@@ -1,36 +1,13 @@
 -- the events that are no acts: where their party goes, which jobs are over, and that a second side keeps its frame
 use Rattle.std.proofs.Common.{arith, refl, sym, ◌∙◌, ap, subst, inl, inr}
-use Rattle.std.specs.Prelude.{ℕ, Bool, true, false, ◌&&◌, ◌+◌, ◌-◌, ◌==◌, ◌≤◌, nat_lt, if◌then◌else◌, Some, None, List, ◌∷◌, ◌++◌, [], ◌≡◌, ◌⊎◌, IfSome}
-use Rattle.std.proofs.lemmas.Bool.{eqb-true}
-use Rattle.rayon_machine_places.specs.declared.place.Party.{Party}
-use Rattle.rayon_machine_places.specs.declared.place.Party.TheVariants.{Worker, Caller}
-use Rattle.rayon_machine_places.specs.declared.place.Ending.{Ending}
-use Rattle.rayon_machine_places.specs.declared.place.JobKind.{JobKind}
-use Rattle.rayon_machine_places.specs.declared.place.JobKind.TheVariants.{Detached, Stored, Direct, Scoped, BodyOf, TokenOf}
-use Rattle.rayon_machine_places.specs.declared.place.Count.{Count}
-use Rattle.rayon_machine_places.specs.declared.place.Count.TheVariants.{OfPool, OfScope, OfCast}
-use Rattle.rayon_machine_places.specs.declared.place.Share.TheVariants.{PoolValue}
-use Rattle.rayon_machine_places.specs.declared.place.Pieces.{Pieces}
-use Rattle.rayon_machine_places.specs.declared.place.Plan.TheVariants.{Detach, Here, Send, Fork, Feed, Open, Enter, Gather}
-use Rattle.rayon_machine_places.specs.declared.place.Then.TheVariants.{Resume}
-use Rattle.rayon_machine_places.specs.declared.place.Wait.{Wait}
-use Rattle.rayon_machine_places.specs.declared.place.Place.{Place}
-use Rattle.rayon_machine_places.specs.declared.place.Place.TheVariants.{PickVictim, StealFrom, PopInjected, YieldPop, YieldPick, YieldSteal, YieldPopInjected, LocalPop, Run, RaiseCount, GrowCall}
-use Rattle.rayon_machine_places.specs.declared.place.Place.TheVariants.{GrowScope, OpenSlot, PushJob, AddToFifo, PushToken, RaiseForAll, OpenForAll, PushForAll, GrowCast, DealPieces, LowerCount}
-use Rattle.rayon_machine_places.specs.declared.act.Seen.{Seen}
-use Rattle.rayon_machine_places.specs.declared.act.Seen.TheVariants.{Refused, Missing, Start}
-use Rattle.rayon_machine_places.specs.declared.event.Event.{Event}
-use Rattle.rayon_machine_places.specs.declared.event.Event.TheVariants.{Go, From, Refuse, Miss, End, Spawn, Fifo, Install, Join, Yield, YieldLocal, EndPool, Cast, Scope as OpenScope, IntoSpawn, IntoFifo, IntoCast, Broadcast}
-use Rattle.rayon_machine_places.specs.declared.state.Call.{Call}
-use Rattle.rayon_machine_places.specs.declared.state.Job.{Job}
-use Rattle.rayon_machine_places.specs.declared.state.Scope.{Scope}
-use Rattle.rayon_machine_places.specs.declared.state.Whereabouts.TheVariants.{Over}
-use Rattle.rayon_machine_places.specs.declared.shape.PoolShape.{PoolShape}
-use Rattle.rayon_machine_places.specs.Places.{own_pool, own_index, is_free, is_member, next_of, next_victim, next_steal, next_yield, not_self, count_kind, count_book}
-use Rattle.rayon_machine_places.specs.World.{Pool, Stack, World, at_job}
-use Rattle.rayon_machine_places.specs.Steps.{put, put_stack, put_pieces, is_piece, can_miss, is_pool, holds, new_call, new_gathering, new_job, new_piece, new_whole, after_move, after_call, after_close, step}
-use Rattle.rayon_machine_places.specs.Steps.{after_choice, after_refusal, after_miss, after_end, after_spawn, after_feed, after_deal, after_broadcast, after_send, after_install, after_join, after_scope, after_enter, after_yield, after_end_pool}
-use Rattle.rayon_machine_places.specs.Readers.{is_done}
+use Rattle.rayon_machine_sleep_laws.proofs.Words.{ℕ, Bool, true, false, ◌&&◌, ◌+◌, ◌-◌, ◌==◌, ◌≤◌, nat_lt, if◌then◌else◌, Some, None, List, ◌∷◌, ◌++◌, [], ◌≡◌, ◌⊎◌, IfSome, eqb-true, Party, Worker, Caller, Ending, JobKind, Detached, Stored, Direct, Scoped, BodyOf, TokenOf, Count, OfPool}
+use Rattle.rayon_machine_sleep_laws.proofs.Words.{OfScope, OfCast, PoolValue, Pieces, Detach, Here, Send, Fork, Feed, Open, Enter, Gather, Resume, Wait, Place, PickVictim, StealFrom, PopInjected, YieldPop, YieldPick, YieldSteal, YieldPopInjected, LocalPop, Run, RaiseCount, GrowCall, GrowScope}
+use Rattle.rayon_machine_sleep_laws.proofs.Words.{OpenSlot, PushJob, AddToFifo, PushToken, RaiseForAll, OpenForAll, PushForAll, GrowCast, DealPieces, LowerCount, Seen, Refused, Event, Go, From, Refuse, Miss, End, Spawn, Fifo, Install, Join, Yield, YieldLocal, EndPool, Cast, OpenScope, IntoSpawn}
+use Rattle.rayon_machine_sleep_laws.proofs.Words.{IntoFifo, IntoCast, Broadcast, Call, Job, Scope, Over, PoolShape, own_pool, own_index, is_free, is_member, next_of, next_victim, next_steal, next_yield, not_self, count_kind, count_book, Pool, Stack, World, at_job, put, put_stack, is_piece}
+use Rattle.rayon_machine_sleep_laws.proofs.Words.{can_miss, is_pool, holds, new_call, new_gathering, after_move, after_call, after_close, step, after_choice, after_refusal, after_miss, after_end, after_spawn, after_feed, after_deal, after_broadcast, after_send, after_install, after_join}
+use Rattle.rayon_machine_sleep_laws.proofs.Words.{after_scope, after_enter, after_yield, after_end_pool, is_done}
+use Rattle.rayon_machine_places.specs.declared.act.Seen.TheVariants.{Missing, Start}
+use Rattle.rayon_machine_places.specs.Steps.{put_pieces, new_job, new_piece, new_whole}
 use Rattle.rayon_machine_laws.proofs.Claims.{AllSay, here}
 use Rattle.rayon_machine_laws.proofs.ClaimMakes.{below_new}
 use Rattle.rayon_machine_laws.proofs.Frame.{if_cond, put_same, put_new, put_old, piece_out, fifo_cases, into_cases, into_fifo_cases, into_cast_cases}
@@ -103,8 +80,7 @@ miss_turns w (Worker a b) (StealFrom k n) fs z = if_cond (Turns w) (can_miss w a
     (w.shape.pool a) (Worker a b) k n)))
 miss_turns w (Worker a b) (YieldSteal v n) fs z = if_cond (Turns w) (can_miss w a v) _ (λ d. seen_turns w (Worker a b) (w.shape.pool a) (YieldSteal v n) fs Missing z (calm_turns w (YieldSteal v n) (next_of (w.shape.pool a) (Worker a b) (YieldSteal v n) Missing) (yield_calm
     (w.shape.pool a) (Worker a b) v n)))
-miss_turns w (Worker a b) _ fs z = tt
-miss_turns w (Caller n) _ fs z = tt
+miss_turns w _ _ fs z = tt
 
 end_turns : (w : World) (q : Party) (d : Ending) (x : Place) (fs : List Place) → w.stack q ≡ record { top = x; below = fs } → IfSome (after_end w q d (record { top = x; below = fs }) x) (Turns w)
 end_turns w q d (Run t k) fs z = record {

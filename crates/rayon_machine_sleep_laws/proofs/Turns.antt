@@ -2,35 +2,13 @@
 --
 -- `Segment` is what holds of each world from an Announce on.
 use Rattle.std.proofs.Common.{rules, arith, refl, sym, ◌∙◌, ap, subst, inl, inr, ◌≢◌}
-use Rattle.std.specs.Prelude.{ℕ, suc, Bool, true, false, ◌&&◌, ◌+◌, ◌*◌, ◌/◌, ◌%◌, ◌^◌, ◌==◌, ◌<◌, ◌≤◌, nat_lt, if◌then◌else◌, Some, List, [], ◌∷◌, ◌≡◌, IfSome}
-use Rattle.std.proofs.lemmas.Bool.{eqb-true, eq-eqb, ltb-true, ltb-false}
+use Rattle.rayon_machine_sleep_laws.proofs.Words.{ℕ, suc, Bool, true, false, ◌&&◌, ◌+◌, ◌%◌, ◌==◌, ◌<◌, ◌≤◌, nat_lt, if◌then◌else◌, Some, List, [], ◌∷◌, ◌≡◌, IfSome, eqb-true, eq-eqb, ltb-true, ltb-false, Party, Worker, Caller, Termination, Answer, Latch, Terminate, OfCall, Rounds, Failed}
+use Rattle.rayon_machine_sleep_laws.proofs.Words.{Announced, Plan, Then, BeginFound, LeaveWait, Await, RunFirst, Gathers, Place, ProbeIdle, PopInjected, AnnounceSelf, LoadCounters, AddSleeping, TellNews, SetLatch, UnlockSettled, Move, Stay, Seen, Done, Refused, Yes, Task, Event, Go, PoolShape}
+use Rattle.rayon_machine_sleep_laws.proofs.Words.{Wait, Settling, same_party, plan_pool, awaits, finish, after_set, act_of, after_failure, next_of, Shape, Pool, Stack, World, Counts, counts_at, is_even, jec, Part, target_pool, target_worker, target_call, effect, after_move, step, IsRunWithout}
+use Rattle.rayon_machine_sleep_laws.proofs.Words.{is_announcing, is_announce, Act, News}
+use Rattle.std.specs.Prelude.{◌*◌, ◌/◌, ◌^◌}
 use Rattle.std.proofs.Math.Nat.{div-add-mod, mul-le-mul_left, mul-suc}
-use Rattle.rayon_machine_places.specs.declared.place.Party.{Party}
-use Rattle.rayon_machine_places.specs.declared.place.Party.TheVariants.{Worker, Caller}
-use Rattle.rayon_machine_places.specs.declared.place.Target.TheVariants.{Termination, Answer}
-use Rattle.rayon_machine_places.specs.declared.place.Latch.{Latch}
-use Rattle.rayon_machine_places.specs.declared.place.Latch.TheVariants.{Terminate, OfCall}
-use Rattle.rayon_machine_places.specs.declared.place.Rounds.{Rounds}
-use Rattle.rayon_machine_places.specs.declared.place.Rounds.TheVariants.{Failed, Announced}
-use Rattle.rayon_machine_places.specs.declared.place.Plan.{Plan}
-use Rattle.rayon_machine_places.specs.declared.place.Then.{Then}
-use Rattle.rayon_machine_places.specs.declared.place.Then.TheVariants.{BeginFound, LeaveWait, Resume, Await, RunFirst, Answers, Missing, Ran, GiveBack, Called, Gathers}
-use Rattle.rayon_machine_places.specs.declared.place.Place.{Place}
-use Rattle.rayon_machine_places.specs.declared.place.Place.TheVariants.{ProbeWorking, ProbeIdle, PopInjected, AnnounceSelf, LoadCounters, AddSleeping, TellNews, SetLatch, UnlockSettled}
-use Rattle.rayon_machine_places.specs.declared.place.Move.{Move}
-use Rattle.rayon_machine_places.specs.declared.place.Move.TheVariants.{Stay}
-use Rattle.rayon_machine_places.specs.declared.act.Act.TheVariants.{Set}
-use Rattle.rayon_machine_places.specs.declared.act.Seen.{Seen}
-use Rattle.rayon_machine_places.specs.declared.act.Seen.TheVariants.{Done, Refused, Yes, Task}
-use Rattle.rayon_machine_places.specs.declared.event.Event.{Event}
-use Rattle.rayon_machine_places.specs.declared.event.Event.TheVariants.{Go}
-use Rattle.rayon_machine_places.specs.declared.shape.PoolShape.{PoolShape}
-use Rattle.rayon_machine_places.specs.declared.place.Wait.{Wait}
-use Rattle.rayon_machine_places.specs.declared.place.Settling.{Settling}
-use Rattle.rayon_machine_places.specs.Places.{same_party, plan_pool, awaits, finish, after_set, act_of, after_failure, next_of}
-use Rattle.rayon_machine_places.specs.World.{Shape, Pool, Stack, World, Counts, counts_at, is_even, jec, Part, target_pool, target_worker, target_call, effect}
-use Rattle.rayon_machine_places.specs.Steps.{after_move, step}
-use Rattle.rayon_machine_laws.specs.Turn.{IsRunWithout, is_announcing, is_adding, is_added, is_announce, tells_news, is_news, TurnLaw}
+use Rattle.rayon_machine_laws.specs.Turn.{is_adding, is_added, tells_news, is_news, TurnLaw}
 use Rattle.rayon_machine_laws.proofs.Asides.{Aside, one_step}
 use Rattle.rayon_machine_laws.proofs.Attended.{Awake, aside_frames, step_awake, always_awake, step_shape, always_shape}
 use Rattle.rayon_machine_laws.proofs.Calm.{part_at, counts_seen, next_at, top_then}
@@ -42,6 +20,8 @@ use Rattle.rayon_machine_laws.proofs.Pushing.{tell_pool}
 use Rattle.rayon_machine_laws.proofs.Seats.{is_frame}
 use Rattle.rayon_machine_laws.proofs.Ties.{job_at, shape_at, outcome, result}
 use Rattle.rayon_machine_laws.proofs.Tops.{Tops, FramesOk}
+use Rattle.rayon_machine_sleep_laws.proofs.Parities.{Turned, act_turned, turned}
+use Rattle.rayon_machine_places.specs.declared.act.Act.TheVariants.{Announce}
 
 settled_keeps : (h : PoolShape) (q : Party) (s : Settling) (n : ℕ) → Tops (KeepsOn n) (after_set h q s s.latch)
 settled_keeps h q s n = tops_map (λ y. announced y ≡ false) (KeepsOn n) (λ y e z. absurd (cc)) (after_set h q s s.latch) (by_latch s.latch)
@@ -57,17 +37,12 @@ settled_keeps h q s n = tops_map (λ y. announced y ≡ false) (KeepsOn n) (λ y
         awaiting (Worker i j) = refl
         awaiting (Caller c) = refl
     finish_calm (RunFirst o a) = refl
-    finish_calm Resume = tt
-    finish_calm Called = tt
     finish_calm (Gathers o) = awaiting q
       where
         awaiting : (q : Party) → announced (awaits q o) ≡ false
         awaiting (Worker i j) = refl
         awaiting (Caller c) = refl
-    finish_calm (Answers o f e) = tt
-    finish_calm (Missing o f) = tt
-    finish_calm (Ran t e) = tt
-    finish_calm (GiveBack m) = tt
+    finish_calm _ = tt
 
     settle_if : (b : Bool) (y : Place) (g : Move) → announced y ≡ false → Tops (λ y. announced y ≡ false) g → Tops (λ y. announced y ≡ false) (if b then Stay y else g)
     settle_if true y g a t = a
@@ -101,16 +76,23 @@ kept_on h g p i n c m (SetLatch s) z ok = if_some_all {A = Seen × Part} (λ r. 
 kept_on h g p i n c m (UnlockSettled s) z ok = if_some_all {A = Seen × Part} (λ r. Tops (KeepsOn n) (next_of g (Worker p i) (UnlockSettled s) (r.0))) (λ r. settled_keeps g (Worker p i) s n) (effect (act_of (Worker p i) (UnlockSettled s)) h (Worker p i) c m)
 kept_on h g p i n c m _ z ok = search (rules, arith)
 
-set_up : (l : Latch) (r j : ℕ) (h : Shape) (q : Party) (c : Counts) (m : Part) → IfSome (effect (Set l r j) h q c m) (λ r. m.pool.turn ≤ r.1.pool.turn)
-set_up Terminate r j h q c m = search (rules, arith)
-set_up (OfCall n) r j h q c m = search (rules, arith)
-
 -- no turn goes back
+turned_up : (a : Act) (n : ℕ) → n ≤ turned a n
+turned_up Announce n = by (is_even n)
+  where
+    by : (b : Bool) → n ≤ (if b then n else n + 1)
+    by true = omega arith
+    by false = omega arith
+turned_up (News p e) n = by (is_even n)
+  where
+    by : (b : Bool) → n ≤ (if b then n + 1 else n)
+    by true = omega arith
+    by false = omega arith
+turned_up _ n = omega arith
+
 pub turn_up : (h : Shape) (q : Party) (c : Counts) (m : Part) (x : Place) → IfSome (effect (act_of q x) h q c m) (λ r. m.pool.turn ≤ r.1.pool.turn)
-turn_up h (Worker a b) c m (ProbeWorking k) = search (rules, arith)
-turn_up h q c m (SetLatch s) = set_up s.latch s.pool s.worker h q c m
-turn_up h (Worker a b) c m _ = search (rules, arith)
-turn_up h (Caller a) c m _ = search (rules, arith)
+turn_up h q c m x = if_some_map (Turned (act_of q x) m) (λ r. m.pool.turn ≤ r.1.pool.turn) (λ r e. subst (λ n. m.pool.turn ≤ n) (sym e) (turned_up (act_of q x) m.pool.turn)) (effect (act_of q x) h q c m)
+    (act_turned (act_of q x) h q c m)
 
 -- equal remainders less than a whole turn apart are of one number
 pub same_rest : (a b n : ℕ) → a ≤ b → b < a + n → a % n ≡ b % n → b ≡ a
@@ -139,12 +121,14 @@ turn_put f p0 v p false e h = omega arith
 
 -- a step's turn
 pub turn_step : (w : World) (q : Party) (k : Stack) (p : ℕ) → IfSome (outcome w q k) (λ r. (w.pool p).turn ≤ ((result w q k r).pool p).turn)
-turn_step w q k p = if_some_map (λ r. (w.pool (target_pool q (act_of q k.top))).turn ≤ r.1.pool.turn) (λ r. (w.pool p).turn ≤ ((result w q k r).pool p).turn) (λ r h. turn_put w.pool (target_pool q (act_of q k.top)) (r.1.pool) p (p == target_pool q (act_of q k.top)) refl h) (outcome w q k) (turn_up w.shape q (counts_seen w q k) (part_at w q k) k.top)
+turn_step w q k p = if_some_map (λ r. (w.pool (target_pool q (act_of q k.top))).turn ≤ r.1.pool.turn) (λ r. (w.pool p).turn ≤ ((result w q k r).pool p).turn) (λ r h. turn_put w.pool (target_pool q (act_of q k.top)) (r.1.pool) p (p == target_pool q (act_of q k.top)) refl h) (outcome w q k)
+    (turn_up w.shape q (counts_seen w q k) (part_at w q k) k.top)
 
 frame_keeps : (n : ℕ) (f : Place) → is_frame f ≡ true → KeepsOn n f
 frame_keeps n f e z = absurd (let k : announced f ≡ false = frame_unannounced f e in cc)
 
-kept_put : (w : World) (q : Party) (p i n : ℕ) (b : Bool) → same_party (Worker p i) q ≡ b → (b && is_announcing (w.stack q).top) ≡ false → FramesOk w → KeepsOn n (w.stack (Worker p i)).top → IfSome (outcome w q (w.stack q)) (λ r. KeepsOn n ((if b then after_move (next_at w q (w.stack q) (r.0)) (w.stack q).below else w.stack (Worker p i)).top))
+kept_put : (w : World) (q : Party) (p i n : ℕ) (b : Bool) → same_party (Worker p i) q ≡ b → (b && is_announcing (w.stack q).top) ≡ false → FramesOk w → KeepsOn n (w.stack (Worker p i)).top → IfSome (outcome w q (w.stack q))
+    (λ r. KeepsOn n ((if b then after_move (next_at w q (w.stack q) (r.0)) (w.stack q).below else w.stack (Worker p i)).top))
 kept_put w q p i n true eb calm fr k =
     let is : Worker p i ≡ q = same_party_true (Worker p i) q eb in
     let F : Party → Type 0 = λ z. (is_announcing (w.stack z).top ≡ false) → IfSome (outcome w z (w.stack z)) (λ r. KeepsOn n ((after_move (next_at w z (w.stack z) (r.0)) (w.stack z).below).top)) in
@@ -204,7 +188,8 @@ news_go w q (TellNews n v) fs p is even =
 news_go w q _ fs p is even = cc
 
 news_raises : (w : World) (e : Event) (p : ℕ) → is_news p w e ≡ true → is_even (w.pool p).turn ≡ true → IfSome (step w e) (λ u. (w.pool p).turn < (u.pool p).turn)
-news_raises w (Go q) p is even = acted_keeps w q (w.stack q) (target_pool q (act_of q (w.stack q).top)) (target_worker q (act_of q (w.stack q).top)) (target_call (act_of q (w.stack q).top)) (job_at w q (act_of q (w.stack q).top)) (outcome w q (w.stack q)) (λ u. (w.pool p).turn < (u.pool p).turn) (news_go w q (w.stack q).top (w.stack q).below p is even)
+news_raises w (Go q) p is even = acted_keeps w q (w.stack q) (target_pool q (act_of q (w.stack q).top)) (target_worker q (act_of q (w.stack q).top)) (target_call (act_of q (w.stack q).top)) (job_at w q (act_of q (w.stack q).top)) (outcome w q (w.stack q))
+    (λ u. (w.pool p).turn < (u.pool p).turn) (news_go w q (w.stack q).top (w.stack q).below p is even)
 news_raises w _ p is even = cc
 
 same_turn : (a b c : ℕ) → a ≤ b → b ≤ c → c ≡ a → b ≡ a
@@ -230,7 +215,8 @@ even_turn n true e = e
 even_turn n false e = let a : n % 2 ≢ 0 = λ z. (let y : is_even n ≡ true = eq-eqb (n % 2) 0 z in cc) in eq-eqb ((n + 1) % 2) 0 (omega arith)
 
 -- the Announce
-announce_first : (w : World) (p i : ℕ) (x : Place) (fs : List Place) → is_announcing x ≡ true → IfSome (outcome w (Worker p i) (record { top = x; below = fs })) (λ r. KeepsOn (jec w.shape (((result w (Worker p i) (record { top = x; below = fs }) r).pool p).turn)) (((result w (Worker p i) (record { top = x; below = fs }) r).stack (Worker p i)).top) × (is_even (((result w (Worker p i) (record { top = x; below = fs }) r).pool p).turn) ≡ true))
+announce_first : (w : World) (p i : ℕ) (x : Place) (fs : List Place) → is_announcing x ≡ true → IfSome (outcome w (Worker p i) (record { top = x; below = fs }))
+    (λ r. KeepsOn (jec w.shape (((result w (Worker p i) (record { top = x; below = fs }) r).pool p).turn)) (((result w (Worker p i) (record { top = x; below = fs }) r).stack (Worker p i)).top) × (is_even (((result w (Worker p i) (record { top = x; below = fs }) r).pool p).turn) ≡ true))
 announce_first w p i (AnnounceSelf k) fs is =
     let me : ((p == p) && (i == i)) ≡ true = same_refl p i in
     let mine : (p == p) ≡ true = self p in
@@ -238,7 +224,8 @@ announce_first w p i (AnnounceSelf k) fs is =
 announce_first w p i _ fs is = cc
 
 -- the TryAdd that is done
-try_last : (u : World) (p i : ℕ) (x : Place) (fs : List Place) → is_adding x ≡ true → IfSome (outcome u (Worker p i) (record { top = x; below = fs })) (λ r. is_added (((result u (Worker p i) (record { top = x; below = fs }) r).stack (Worker p i)).top) ≡ true → kept_at x ≡ jec u.shape (u.pool p).turn)
+try_last : (u : World) (p i : ℕ) (x : Place) (fs : List Place) → is_adding x ≡ true → IfSome (outcome u (Worker p i) (record { top = x; below = fs }))
+    (λ r. is_added (((result u (Worker p i) (record { top = x; below = fs }) r).stack (Worker p i)).top) ≡ true → kept_at x ≡ jec u.shape (u.pool p).turn)
 try_last u p i (AddSleeping k) fs is = at ((k.sleeping == (counts_at u p).sleeping) && (k.inactive == (counts_at u p).inactive) && (k.kept == jec u.shape (u.pool p).turn)) refl
   where
     s : Stack
@@ -247,7 +234,8 @@ try_last u p i (AddSleeping k) fs is = at ((k.sleeping == (counts_at u p).sleepi
     me : ((p == p) && (i == i)) ≡ true
     me = same_refl p i
 
-    at : (b : Bool) → ((k.sleeping == (counts_at u p).sleeping) && (k.inactive == (counts_at u p).inactive) && (k.kept == jec u.shape (u.pool p).turn)) ≡ b → IfSome (if b then Some (Done, record (part_at u (Worker p i) s) { seat = record (u.seat p i) { asleep = true } }) else Some (Refused, part_at u (Worker p i) s)) (λ r. is_added (((result u (Worker p i) s r).stack (Worker p i)).top) ≡ true → k.kept ≡ jec u.shape (u.pool p).turn)
+    at : (b : Bool) → ((k.sleeping == (counts_at u p).sleeping) && (k.inactive == (counts_at u p).inactive) && (k.kept == jec u.shape (u.pool p).turn)) ≡ b
+        → IfSome (if b then Some (Done, record (part_at u (Worker p i) s) { seat = record (u.seat p i) { asleep = true } }) else Some (Refused, part_at u (Worker p i) s)) (λ r. is_added (((result u (Worker p i) s r).stack (Worker p i)).top) ≡ true → k.kept ≡ jec u.shape (u.pool p).turn)
     at true t = λ h. eqb-true k.kept (jec u.shape (u.pool p).turn) ((and_parts ((k.sleeping == (counts_at u p).sleeping) && (k.inactive == (counts_at u p).inactive)) (k.kept == jec u.shape (u.pool p).turn) t).1)
     at false t = λ h. absurd (let n : is_added ((if ((p == p) && (i == i)) then record { top = LoadCounters k; below = fs } else u.stack (Worker p i)).top) ≡ false = rw me in cc)
 try_last u p i _ fs is = cc
@@ -264,13 +252,18 @@ turn_law shape before p i w v u z es first run last lt =
     let sv : v.shape ≡ shape = (let k : IfSome (Some v) (λ u. u.shape ≡ shape) = subst (λ o. IfSome o (λ u. u.shape ≡ shape)) first.made (step_shape shape w (Go (Worker p i)) fw.frames sw) in k) in
     let N : World → Type 0 = λ v. KeepsOn (jec w.shape ((v.pool p).turn)) ((v.stack (Worker p i)).top) × (is_even ((v.pool p).turn) ≡ true) in
     let me : Party = Worker p i in
-    let one : N v = (let k : IfSome (Some v) N = subst (λ o. IfSome o N) first.made (acted_keeps w me (w.stack me) (target_pool me (act_of me (w.stack me).top)) (target_worker me (act_of me (w.stack me).top)) (target_call (act_of me (w.stack me).top)) (job_at w me (act_of me (w.stack me).top)) (outcome w me (w.stack me)) N (announce_first w p i (w.stack me).top (w.stack me).below first.place)) in k) in
+    let one : N v = (let k : IfSome (Some v) N = subst (λ o. IfSome o N) first.made
+    (acted_keeps w me (w.stack me) (target_pool me (act_of me (w.stack me).top)) (target_worker me (act_of me (w.stack me).top)) (target_call (act_of me (w.stack me).top)) (job_at w me (act_of me (w.stack me).top)) (outcome w me (w.stack me)) N
+    (announce_first w p i (w.stack me).top (w.stack me).below first.place)) in k) in
     let n : ℕ = jec shape ((v.pool p).turn) in
     let t : ℕ = (v.pool p).turn in
     let begin : Segment shape n p i t v = record { shape = sv; frames = fv; kept = subst (λ h. KeepsOn (jec h ((v.pool p).turn)) ((v.stack (Worker p i)).top)) sw (one.0); turn = omega arith } in
     let end : Segment shape n p i t u = segment_run shape n p i t v u es begin run in
     let T : World → Type 0 = λ z. is_added ((z.stack (Worker p i)).top) ≡ true → kept_at ((u.stack (Worker p i)).top) ≡ jec u.shape (u.pool p).turn in
-    let added : kept_at ((u.stack (Worker p i)).top) ≡ jec u.shape (u.pool p).turn = (let k : IfSome (Some z) T = subst (λ o. IfSome o T) last.made (acted_keeps u me (u.stack me) (target_pool me (act_of me (u.stack me).top)) (target_worker me (act_of me (u.stack me).top)) (target_call (act_of me (u.stack me).top)) (job_at u me (act_of me (u.stack me).top)) (outcome u me (u.stack me)) T (try_last u p i (u.stack me).top (u.stack me).below last.place)) in k last.done) in
+    let added : kept_at ((u.stack (Worker p i)).top) ≡ jec u.shape
+    (u.pool p).turn = (let k : IfSome (Some z) T = subst (λ o. IfSome o T) last.made
+    (acted_keeps u me (u.stack me) (target_pool me (act_of me (u.stack me).top)) (target_worker me (act_of me (u.stack me).top)) (target_call (act_of me (u.stack me).top)) (job_at u me (act_of me (u.stack me).top)) (outcome u me (u.stack me)) T
+    (try_last u p i (u.stack me).top (u.stack me).below last.place)) in k last.done) in
     let kept : kept_at ((u.stack (Worker p i)).top) ≡ n = end.kept (adding_announced ((u.stack (Worker p i)).top) last.place) in
     let rest : (v.pool p).turn % (2 ^ shape.jec_bits) ≡ (u.pool p).turn % (2 ^ shape.jec_bits) = sym kept ∙ added ∙ ap (λ h. jec h (u.pool p).turn) (end.shape) in
     let same : (u.pool p).turn ≡ (v.pool p).turn = same_rest ((v.pool p).turn) ((u.pool p).turn) (2 ^ shape.jec_bits) (end.turn) lt rest in

@@ -3,35 +3,12 @@
 --
 -- This is `Close`.
 use Rattle.std.proofs.Common.{arith, refl, sym, ◌∙◌, ap, subst, inl, inr}
-use Rattle.std.specs.Prelude.{ℕ, Bool, true, false, ◌&&◌, ◌+◌, ◌==◌, ◌≤◌, nat_lt, if◌then◌else◌, Option, Some, None, List, [], ◌∷◌, ◌≡◌, ◌⊎◌, IfSome}
-use Rattle.std.proofs.lemmas.Bool.{eqb-true, eq-eqb}
-use Rattle.rayon_machine_places.specs.declared.place.Party.{Party}
-use Rattle.rayon_machine_places.specs.declared.place.Party.TheVariants.{Worker, Caller}
-use Rattle.rayon_machine_places.specs.declared.place.Ending.{Ending}
-use Rattle.rayon_machine_places.specs.declared.place.JobKind.{JobKind}
-use Rattle.rayon_machine_places.specs.declared.place.JobKind.TheVariants.{Detached, Stored, Direct, Scoped, BodyOf, PieceOf, WholeOf, TokenOf}
-use Rattle.rayon_machine_places.specs.declared.place.Target.TheVariants.{Termination}
-use Rattle.rayon_machine_places.specs.declared.place.Latch.{Latch}
-use Rattle.rayon_machine_places.specs.declared.place.Count.{Count}
-use Rattle.rayon_machine_places.specs.declared.place.Count.TheVariants.{OfPool, OfScope, OfCast}
-use Rattle.rayon_machine_places.specs.declared.place.Share.TheVariants.{OfJob}
-use Rattle.rayon_machine_places.specs.declared.place.Taken.TheVariants.{Plain, Token}
-use Rattle.rayon_machine_places.specs.declared.place.Place.{Place}
-use Rattle.rayon_machine_places.specs.declared.place.Place.TheVariants.{ProbeWorking, BeginTask, GrowScope, Run, RaiseCount, RaiseForAll, LowerCount, StoreResult, SecondSide, Free, Stopped}
-use Rattle.rayon_machine_places.specs.declared.place.Move.{Move}
-use Rattle.rayon_machine_places.specs.declared.act.Seen.{Seen}
-use Rattle.rayon_machine_places.specs.declared.event.Event.{Event}
-use Rattle.rayon_machine_places.specs.declared.event.Event.TheVariants.{Go}
-use Rattle.rayon_machine_places.specs.declared.state.Job.{Job}
-use Rattle.rayon_machine_places.specs.declared.shape.PoolShape.{PoolShape}
-use Rattle.rayon_machine_places.specs.Places.{act_of, next_of, same_party, count_kind, fresh}
-use Rattle.rayon_machine_places.specs.World.{Shape, Stack, World, Counts, Part, counts_at, or_none, head_of, target_pool, target_call}
-use Rattle.rayon_machine_places.specs.Steps.{put, after_move, after_close, after_resume, step}
-use Rattle.rayon_machine_places.specs.Readers.{is_done}
-use Rattle.rayon_machine_places.specs.Runs.{IsRun, first_place, start}
+use Rattle.rayon_machine_sleep_laws.proofs.Words.{ℕ, Bool, true, false, ◌&&◌, ◌+◌, ◌==◌, ◌≤◌, nat_lt, if◌then◌else◌, Option, Some, None, List, [], ◌∷◌, ◌≡◌, ◌⊎◌, IfSome, eqb-true, eq-eqb, Party, Worker, Caller, Ending, JobKind, Detached, Stored, Direct, Scoped, BodyOf, PieceOf, WholeOf, TokenOf}
+use Rattle.rayon_machine_sleep_laws.proofs.Words.{Termination, Latch, Count, OfPool, OfScope, OfCast, OfJob, Plain, Token, Place, ProbeWorking, BeginTask, GrowScope, Run, RaiseCount, RaiseForAll, LowerCount, StoreResult, SecondSide, Free, Stopped, Move, Seen, Event, Go, Job, PoolShape, act_of}
+use Rattle.rayon_machine_sleep_laws.proofs.Words.{next_of, same_party, count_kind, fresh, Shape, Stack, World, Counts, Part, counts_at, head_of, target_pool, target_call, put, after_move, after_close, after_resume, step, is_done, IsRun, first_place, start, SetsSo, IsOnce, one, stores_for}
+use Rattle.rayon_machine_sleep_laws.proofs.Words.{lowers_for}
+use Rattle.rayon_machine_places.specs.World.{or_none}
 use Rattle.rayon_machine_laws.specs.Bodies.{body, all_bodies, bodies_in}
-use Rattle.rayon_machine_laws.specs.Latch.{SetsSo}
-use Rattle.rayon_machine_laws.specs.Once.{IsOnce, one}
 use Rattle.rayon_machine_laws.proofs.Claims.{AllSay, Says, SaysRun, call_kind, here, is_body}
 use Rattle.rayon_machine_laws.proofs.ClaimMakes.{always_once, always_calls}
 use Rattle.rayon_machine_laws.proofs.ClaimRuns.{CallsHold, place_part}
@@ -48,7 +25,7 @@ use Rattle.rayon_machine_laws.proofs.Setters.{led}
 use Rattle.rayon_machine_laws.proofs.ShareEnds.{always_shares}
 use Rattle.rayon_machine_laws.proofs.ShareSteps.{self_one}
 use Rattle.rayon_machine_laws.proofs.Ties.{job_at, outcome, result}
-use Rattle.rayon_machine_sleep_laws.specs.Done.{stores_for, lowers_for, IsJobDone}
+use Rattle.rayon_machine_sleep_laws.specs.Done.{IsJobDone}
 use Rattle.rayon_machine_sleep_laws.proofs.Dones.{Keeps, always_kept, acts, stands, now_sets, Nearly, nearly_on}
 use Rattle.rayon_machine_sleep_laws.proofs.Overs.{Unended, act_unended, is_raising, gives_back, Shared, act_shared, marks, land, raises_all, Marked, act_marked, raised_job, unraised}
 use Rattle.rayon_machine_sleep_laws.proofs.Rests.{acted, stepped, goes, not_both}
@@ -97,8 +74,7 @@ pieces_unstored w q t (RaiseForAll b) s y k = not_both (is_stored (w.job t).kind
   where
     none : (n : Count) → is_stored (count_kind n) ≡ false
     none (OfPool p) = refl
-    none (OfScope c o) = refl
-    none (OfCast c o) = refl
+    none _ = refl
 pieces_unstored w q t x s y k = cc
 
 -- the job of a raise, and that of a Lower
@@ -255,20 +231,16 @@ close_go w v q so z a f t c o k d n = elim (f t c o kind ((old.0).0) ((old.0).1)
 
 -- what runs was made
 run_made : (w : World) (t : ℕ) (k : JobKind) → SaysRun w t k → t + 1 ≤ w.jobs
-run_made w t Direct s = s.made
-run_made w t (TokenOf i b) s = s.made
-run_made w t (BodyOf c o) s = s.made
-run_made w t (WholeOf c o) s = s.made
 run_made w t (Detached p) s = s.0
 run_made w t (Stored c o) s = s.0
 run_made w t (Scoped c o) s = s.0
 run_made w t (PieceOf c o) s = s.0
+run_made w t _ s = s.made
 
 -- who runs such a job goes on to store how it ended, or to give its share back
 resumed : (t : ℕ) (d : Ending) (fs : List Place) → seconds t fs ≡ true → lowers_now t (after_resume fs d).top ≡ true
-resumed t d [] e = cc
 resumed t d (SecondSide o ∷ fs) e = e
-resumed t d (f ∷ fs) e = cc
+resumed t d _ e = cc
 
 -- that is the call's own party
 abbrev party_in : Party → Option (ℕ × Party) → Party
@@ -276,22 +248,18 @@ party_in q None = q
 party_in q (Some x) = x.1
 
 owner_is : (w : World) (q : Party) (t c : ℕ) (o : Party) (fs : List Place) → AllSay w q fs → seconds t fs ≡ true → (w.job t).kind ≡ Stored c o → o ≡ q
-owner_is w q t c o [] s e k = cc
 owner_is w q t c o (SecondSide u ∷ fs) s e k = ap (party_in q) (ap call_kind (sym k ∙ ap (λ n. (w.job n).kind) (eqb-true t u.job e)) ∙ ((s.0).0).kind)
-owner_is w q t c o (f ∷ fs) s e k = cc
+owner_is w q t c o _ s e k = cc
 
 closes : (w : World) (t c : ℕ) (o : Party) (k : JobKind) (d : Ending) (fs : List Place) → (w.job t).kind ≡ Stored c o → SaysRun w t k → Backed w (Run t k ∷ fs) → (stores_now c (after_close t k d fs).top ≡ true) ⊎ ((lowers_now t (after_close t k d fs).top ≡ true) × (seconds t fs ≡ true))
 closes w t c o (Stored b p) d fs e s f = inl (eq-eqb c b (call_is b c p o (sym (s.1) ∙ e)))
   where
     call_is : (b c : ℕ) (p o : Party) → Stored b p ≡ Stored c o → c ≡ b
     call_is b c p o e = cc
-closes w t c o Direct d fs e s f = inr (let y : seconds t fs ≡ true = f.0 t refl (ap is_stored e) in (resumed t d fs y, y))
-closes w t c o (TokenOf i b) d fs e s f = inr (let y : seconds t fs ≡ true = f.0 t refl (ap is_stored e) in (resumed t d fs y, y))
-closes w t c o (BodyOf b p) d fs e s f = inr (let y : seconds t fs ≡ true = f.0 t refl (ap is_stored e) in (resumed t d fs y, y))
-closes w t c o (WholeOf b p) d fs e s f = inr (let y : seconds t fs ≡ true = f.0 t refl (ap is_stored e) in (resumed t d fs y, y))
 closes w t c o (Detached p) d fs e s f = absurd (let z : Detached p ≡ Stored c o = sym (s.1) ∙ e in cc)
 closes w t c o (Scoped b p) d fs e s f = absurd (let z : Scoped b p ≡ Stored c o = sym (s.1) ∙ e in cc)
 closes w t c o (PieceOf b p) d fs e s f = absurd (let z : PieceOf b p ≡ Stored c o = sym (s.1) ∙ e in cc)
+closes w t c o _ d fs e s f = inr (let y : seconds t fs ≡ true = f.0 t refl (ap is_stored e) in (resumed t d fs y, y))
 
 stores_goes : (c : ℕ) (x : Place) → stores_now c x ≡ true → goes x ≡ true
 stores_goes c (StoreResult d o e) y = refl

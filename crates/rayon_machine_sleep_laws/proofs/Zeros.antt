@@ -2,30 +2,10 @@
 --
 -- The places on the way to a latch are `goes` (Rests).
 use Rattle.std.proofs.Common.{arith, refl, sym, ◌∙◌, ap, subst, inl, inr, ◌≢◌}
-use Rattle.std.specs.Prelude.{ℕ, zero, suc, Bool, true, false, ◌&&◌, ◌+◌, ◌-◌, ◌==◌, ◌≤◌, ◌<◌, nat_lt, if◌then◌else◌, Some, None, List, ◌≡◌, ◌⊎◌, IfSome}
-use Rattle.std.proofs.lemmas.Bool.{eqb-true, eq-eqb, lt-ltb}
-use Rattle.rayon_machine_places.specs.declared.place.Party.{Party}
-use Rattle.rayon_machine_places.specs.declared.place.Party.TheVariants.{Worker, Caller}
-use Rattle.rayon_machine_places.specs.declared.place.Latch.{Latch}
-use Rattle.rayon_machine_places.specs.declared.place.Latch.TheVariants.{Terminate, OfCall}
-use Rattle.rayon_machine_places.specs.declared.place.JobKind.TheVariants.{Scoped}
-use Rattle.rayon_machine_places.specs.declared.place.Count.{Count}
-use Rattle.rayon_machine_places.specs.declared.place.Count.TheVariants.{OfPool, OfScope, OfCast}
-use Rattle.rayon_machine_places.specs.declared.place.Share.{Share}
-use Rattle.rayon_machine_places.specs.declared.place.Then.{Then}
-use Rattle.rayon_machine_places.specs.declared.place.Then.TheVariants.{Resume}
-use Rattle.rayon_machine_places.specs.declared.place.Pieces.{Pieces}
-use Rattle.rayon_machine_places.specs.declared.place.Place.{Place}
-use Rattle.rayon_machine_places.specs.declared.place.Place.TheVariants.{RaiseCount, LowerCount, RaiseForAll, LowerForAll, PushForAll, DealPieces, StoreResult, SetLatch, LockToSettle, WakeSettled, UnlockSettled, SetLockLatch}
-use Rattle.rayon_machine_places.specs.declared.place.Move.TheVariants.{Stay}
-use Rattle.rayon_machine_places.specs.declared.place.Settling.{Settling}
-use Rattle.rayon_machine_places.specs.declared.act.Seen.{Seen}
-use Rattle.rayon_machine_places.specs.declared.act.Seen.TheVariants.{Done, Refused, Yes, No}
-use Rattle.rayon_machine_places.specs.declared.shape.PoolShape.{PoolShape}
-use Rattle.rayon_machine_places.specs.Places.{act_of, next_of, finish, settle, after_set, set_call, ends_count, plan_count, count_call, count_kind}
-use Rattle.rayon_machine_places.specs.World.{Shape, World, Counts, Part, Outcome, count_in, count_pool, effect, raised, all_raised, lowered, all_lowered, pool_less, call_less, pool_more, call_more, target_pool, target_call}
-use Rattle.rayon_machine_places.specs.Steps.{after_move, is_piece}
-use Rattle.rayon_machine_laws.specs.Once.{one}
+use Rattle.rayon_machine_sleep_laws.proofs.Words.{ℕ, zero, suc, Bool, true, false, ◌&&◌, ◌+◌, ◌-◌, ◌==◌, ◌≤◌, ◌<◌, nat_lt, if◌then◌else◌, Some, None, List, ◌≡◌, ◌⊎◌, IfSome, eqb-true, eq-eqb, lt-ltb, Party, Worker, Caller, Latch, Terminate, OfCall, Scoped, Count, OfPool, OfScope, OfCast, Share}
+use Rattle.rayon_machine_sleep_laws.proofs.Words.{Then, Resume, Pieces, Place, RaiseCount, LowerCount, RaiseForAll, LowerForAll, PushForAll, DealPieces, StoreResult, SetLatch, LockToSettle, WakeSettled, UnlockSettled, SetLockLatch, Stay, Settling, Seen, Done, Refused, Yes, No, PoolShape, act_of}
+use Rattle.rayon_machine_sleep_laws.proofs.Words.{next_of, finish, settle, after_set, set_call, ends_count, plan_count, count_call, count_kind, Shape, World, Counts, Part, Outcome, effect, raised, all_raised, target_pool, target_call, after_move, is_piece, one}
+use Rattle.rayon_machine_places.specs.World.{count_in, count_pool, lowered, all_lowered, pool_less, call_less, pool_more, call_more}
 use Rattle.rayon_machine_laws.specs.Shares.{shares, shares_in}
 use Rattle.rayon_machine_laws.proofs.Claims.{SaysCast, KnownCount}
 use Rattle.rayon_machine_laws.proofs.ClaimRuns.{top_says, place_part}
@@ -51,18 +31,15 @@ pub record Zeroes (q : Party) (m : Part) (x : Place) (r : Seen × Part) : Type 0
 raise_zeroes : (q : Party) (m : Part) (x : Place) (k : Count) (b : Bool) → IfSome (if b then Some (Refused, m) else Some (Done, raised m k)) (Zeroes q m x)
 raise_zeroes q m x k true = record { pool = λ z. inl z; call = λ z. inl z }
 raise_zeroes q m x (OfPool p) false = record { pool = λ z. absurd (omega (arith, z)); call = λ z. inl z }
-raise_zeroes q m x (OfScope c o) false = record { pool = λ z. inl z; call = λ z. absurd (omega (arith, z)) }
-raise_zeroes q m x (OfCast c o) false = record { pool = λ z. inl z; call = λ z. absurd (omega (arith, z)) }
+raise_zeroes q m x _ false = record { pool = λ z. inl z; call = λ z. absurd (omega (arith, z)) }
 
 no_pool_more : (k : Count) (i n : ℕ) → pool_more k i n ≡ 0 → n ≡ 0
 no_pool_more (OfPool p) i n z = omega (arith, z)
-no_pool_more (OfScope c o) i n z = z
-no_pool_more (OfCast c o) i n z = z
+no_pool_more _ i n z = z
 
 no_call_more : (k : Count) (i n : ℕ) → call_more k i n ≡ 0 → n ≡ 0
 no_call_more (OfPool p) i n z = z
-no_call_more (OfScope c o) i n z = omega (arith, z)
-no_call_more (OfCast c o) i n z = omega (arith, z)
+no_call_more _ i n z = omega (arith, z)
 
 raise_all_zeroes : (q : Party) (m : Part) (x : Place) (c : Pieces) (b : Bool) → IfSome (if b then Some (Refused, m) else Some (Done, all_raised m c)) (Zeroes q m x)
 raise_all_zeroes q m x c true = record { pool = λ z. inl z; call = λ z. inl z }
@@ -110,15 +87,12 @@ lower_all_zeroes q m b = record { pool = pool b.count refl (count_in m b.count =
     pool : (k : Count) → b.count ≡ k → (z : Bool) → (count_in m k == b.workers) ≡ z → pool_less k b.workers m.pool.count ≡ 0 → (m.pool.count ≡ 0) ⊎ ((ended (LowerForAll b) (if z then Yes else No) ≡ Some (target_pool q (act_of q (LowerForAll b)))) ⊎ (count_in m b.count < b.workers))
     pool (OfPool p) i true e y = inr (inl (ap pool_at i ∙ sym (ap Some (all_pool q b ∙ ap (count_pool q) i))))
     pool (OfPool p) i false e y = inr (inr (subst (λ j. count_in m j < b.workers) (sym i) (fewer m.pool.count b.workers e y)))
-    pool (OfScope c o) i z e y = inl y
-    pool (OfCast c o) i z e y = inl y
+    pool _ i z e y = inl y
 
     call : (k : Count) → b.count ≡ k → (z : Bool) → (count_in m k == b.workers) ≡ z → call_less k b.workers m.call.count ≡ 0 → (m.call.count ≡ 0) ⊎ ((led (LowerForAll b) (if z then Yes else No) ≡ Some (target_call (act_of q (LowerForAll b)))) ⊎ (count_in m b.count < b.workers))
     call (OfPool p) i z e y = inl y
-    call (OfScope c o) i true e y = inr (inl (ap call_at i ∙ sym (ap Some (all_call q b ∙ ap count_call i))))
-    call (OfScope c o) i false e y = inr (inr (subst (λ j. count_in m j < b.workers) (sym i) (fewer m.call.count b.workers e y)))
-    call (OfCast c o) i true e y = inr (inl (ap call_at i ∙ sym (ap Some (all_call q b ∙ ap count_call i))))
-    call (OfCast c o) i false e y = inr (inr (subst (λ j. count_in m j < b.workers) (sym i) (fewer m.call.count b.workers e y)))
+    call _ i true e y = inr (inl (ap call_at i ∙ sym (ap Some (all_call q b ∙ ap count_call i))))
+    call _ i false e y = inr (inr (subst (λ j. count_in m j < b.workers) (sym i) (fewer m.call.count b.workers e y)))
 
 plain_zeroes : (q : Party) (m : Part) (x : Place) (o : Outcome) → IfSome o (Untallied m) → IfSome o (Uncalled m) → IfSome o (Zeroes q m x)
 plain_zeroes q m x o t c = if_some_map (λ r. Untallied m r × Uncalled m r) (Zeroes q m x) (λ r f. record { pool = λ z. inl (sym ((f.0).count) ∙ z); call = λ z. inl (sym ((f.1).count) ∙ z) }) o (if_some_and (Untallied m) (Uncalled m) o t c)
@@ -228,8 +202,7 @@ ended_comes g q (LowerForAll b) Yes fs p i y l = by b.count refl
   where
     by : (k : Count) → b.count ≡ k → Comes p i (ends_count b.count)
     by (OfPool r) j = subst (λ k. Comes p i (ends_count k)) (sym j) (eq-eqb p r (sym (number_is r p (ap pool_at (sym j) ∙ y))), omega arith)
-    by (OfScope d o) j = absurd (let n : None ≡ Some p = ap pool_at (sym j) ∙ y in cc)
-    by (OfCast d o) j = absurd (let n : None ≡ Some p = ap pool_at (sym j) ∙ y in cc)
+    by _ j = absurd (let n : None ≡ Some p = ap pool_at (sym j) ∙ y in cc)
 ended_comes g q x e fs p i y l = cc
 
 -- who walks over them goes on to the next worker's

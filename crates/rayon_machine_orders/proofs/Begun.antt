@@ -1,49 +1,22 @@
 -- a job that has begun stays so: no step takes a begin back
 use Rattle.rayon_machine_places.specs.declared.place.Count.{Count}
-use Rattle.rayon_machine_places.specs.declared.place.Count.TheVariants.{OfPool, OfScope, OfCast}
-use Rattle.rayon_machine_places.specs.declared.place.Pieces.{Pieces}
-use Rattle.rayon_machine_places.specs.declared.place.Mark.{Mark as Marking}
-use Rattle.rayon_machine_places.specs.declared.place.Mark.TheVariants.{Counted, Queued, Returned, Numbered, Dealt, Unnumbered}
-use Rattle.std.proofs.Common.{rules, arith, refl, ap, subst}
-use Rattle.std.specs.Prelude.{ℕ, Bool, true, false, ◌+◌, ◌==◌, ◌≤◌, if◌then◌else◌, ◌≡◌, IfSome, ◌-◌, ◌&&◌}
-use Rattle.std.proofs.lemmas.Bool.{eqb-true}
-use Rattle.rayon_machine_places.specs.declared.place.Party.{Party}
-use Rattle.rayon_machine_places.specs.declared.place.Party.TheVariants.{Worker, Caller}
-use Rattle.rayon_machine_places.specs.declared.place.Ending.{Ending}
-use Rattle.rayon_machine_places.specs.declared.place.Latch.{Latch}
-use Rattle.rayon_machine_places.specs.declared.place.Latch.TheVariants.{Terminate, OfCall}
-use Rattle.rayon_machine_places.specs.declared.place.Plan.TheVariants.{Detach, Here, Send, Fork, Feed, Open, Enter, Gather}
-use Rattle.rayon_machine_places.specs.declared.place.Place.{Place}
-use Rattle.rayon_machine_places.specs.declared.place.Place.TheVariants.{ProbeWorking, PickVictim, StealFrom, YieldPop, YieldPick, YieldSteal, LocalPop, Run, SetLatch}
-use Rattle.rayon_machine_places.specs.declared.place.Move.{Move}
-use Rattle.rayon_machine_places.specs.declared.place.Move.TheVariants.{Stay, Enter, StartRun, Back, HandBack, Discard, HandIn, Mark, HandAllBack}
-use Rattle.rayon_machine_places.specs.declared.act.Act.TheVariants.{Set}
-use Rattle.rayon_machine_places.specs.declared.event.Event.{Event}
-use Rattle.rayon_machine_places.specs.declared.event.Event.TheVariants.{Go, From, Refuse, Miss, End, Spawn, Fifo, Install, Join, Yield, YieldLocal, EndPool, Cast, Scope as OpenScope, IntoSpawn, IntoFifo, IntoCast, Broadcast}
-use Rattle.rayon_machine_places.specs.declared.state.Whereabouts.TheVariants.{HandedBack, Spent, Over}
-use Rattle.rayon_machine_places.specs.declared.state.Job.{Job}
-use Rattle.rayon_machine_places.specs.Places.{act_of, is_free, is_member}
-use Rattle.rayon_machine_places.specs.World.{Shape, Stack, World, Counts, Part, at_job, begun, effect, target_pool, target_worker, target_call}
-use Rattle.rayon_machine_places.specs.Steps.{put, jobs_after, after_choice, after_miss, after_end, after_send, after_join, after_yield, step, mark_pieces, marked, put_pieces, after_cast, after_gather, new_piece, new_whole, is_piece, is_pool}
+use Rattle.rayon_machine_orders.proofs.Words.{OfPool, OfScope, OfCast, Pieces, Marking, Counted, Returned, arith, refl, ap, subst, ℕ, Bool, true, false, ◌+◌, ◌==◌, ◌≤◌, if◌then◌else◌, ◌≡◌, IfSome, ◌-◌, ◌&&◌, eqb-true, Party, Worker, Caller, Ending, Detach, Here, Send, Fork, Feed, Open, Enter}
+use Rattle.rayon_machine_orders.proofs.Words.{Gather, Place, PickVictim, StealFrom, YieldPop, YieldPick, YieldSteal, LocalPop, Run, Move, StartRun, HandBack, Discard, HandIn, Mark, HandAllBack, Event, Go, From, Miss, End, Spawn, Fifo, Install, Join, Yield, YieldLocal, Cast, OpenScope, IntoSpawn}
+use Rattle.rayon_machine_orders.proofs.Words.{IntoFifo, IntoCast, Broadcast, HandedBack, Spent, Over, Job, act_of, is_free, is_member, Shape, Stack, World, Counts, Part, at_job, begun, effect, target_pool, target_worker, target_call, put, jobs_after, after_choice, after_miss, after_end}
+use Rattle.rayon_machine_orders.proofs.Words.{after_send, after_join, after_yield, step, mark_pieces, marked, put_pieces, after_cast, after_gather, new_piece, new_whole, is_piece, is_pool}
 use Rattle.rayon_machine_laws.proofs.Calm.{part_at, counts_seen, next_at}
 use Rattle.rayon_machine_laws.proofs.Frame.{if_some_map, if_cond, acted_keeps, fifo_cases, pieces_same, piece_range, into_cases, into_fifo_cases, into_cast_cases}
 use Rattle.rayon_machine_laws.proofs.Located.{fits}
 use Rattle.rayon_machine_laws.proofs.PlacedRuns.{JobsHold}
 use Rattle.rayon_machine_laws.proofs.Ties.{job_at, outcome, result}
+use Rattle.rayon_machine_orders.proofs.Spared.{Spared, act_spared}
 
 -- each job has begun at least as often
 abbrev pub BeginsOn : World → World → Type 0
 BeginsOn w u = (t : ℕ) → (w.job t).runs ≤ (u.job t).runs
 
-set_runs : (l : Latch) (r j : ℕ) (h : Shape) (q : Party) (c : Counts) (m : Part) → IfSome (effect (Set l r j) h q c m) (λ r. m.job.runs ≤ r.1.job.runs)
-set_runs Terminate r j h q c m = search (rules, arith)
-set_runs (OfCall n) r j h q c m = search (rules, arith)
-
 act_runs : (h : Shape) (q : Party) (c : Counts) (m : Part) (x : Place) → IfSome (effect (act_of q x) h q c m) (λ r. m.job.runs ≤ r.1.job.runs)
-act_runs h (Worker a b) c m (ProbeWorking k) = search (rules, arith)
-act_runs h q c m (SetLatch s) = set_runs s.latch s.pool s.worker h q c m
-act_runs h (Worker a b) c m _ = search (rules, arith)
-act_runs h (Caller a) c m _ = search (rules, arith)
+act_runs h q c m x = if_some_map (Spared (act_of q x) m) (λ r. m.job.runs ≤ r.1.job.runs) (λ r s. s.runs) (effect (act_of q x) h q c m) (act_spared (act_of q x) h q c m)
 
 put_runs : (f : ℕ → Job) (u : ℕ) (j : Job) → (f u).runs ≤ j.runs → (t : ℕ) → (f t).runs ≤ (put f u j t).runs
 put_runs f u j l t = at (t == u) refl
@@ -61,21 +34,14 @@ two_back f u v t = second (t == v) refl
 
 marked_runs : (k : Marking) (p i : ℕ) (j : Job) → (marked k p i j).runs ≡ j.runs
 marked_runs Counted p i j = refl
-marked_runs Queued p i j = refl
-marked_runs Returned p i j = refl
-marked_runs (Numbered n) p i j = refl
-marked_runs Dealt p i j = refl
-marked_runs Unnumbered p i j = refl
+marked_runs _ p i j = refl
 
 after_runs : (q : Party) (g : Move) (f : ℕ → Job) (t : ℕ) → (f t).runs ≤ (jobs_after q g f t).runs
-after_runs q (Stay y) f t = omega arith
 after_runs q (HandIn y k) f t = put_runs f k (at_job (f k) Spent) (omega arith) t
 after_runs q (Discard k) f t = put_runs f k (at_job (f k) Spent) (omega arith) t
 after_runs q (HandBack (Feed d)) f t = two_back f d.job d.token t
 after_runs q (Mark y c k) f t = let a : (mark_pieces c k f t).runs ≡ (f t).runs = pieces_same (λ j. j.runs) c (marked k c.pool) f t (marked_runs k c.pool) in omega (arith, a)
 after_runs q (HandAllBack c) f t = let a : (mark_pieces c Returned f t).runs ≡ (f t).runs = pieces_same (λ j. j.runs) c (marked Returned c.pool) f t (marked_runs Returned c.pool) in omega (arith, a)
-after_runs q (Enter x y) f t = omega arith
-after_runs q Back f t = omega arith
 after_runs q (StartRun x u) f t = put_runs f u (begun q (f u)) (omega arith) t
 after_runs q (HandBack (Detach p u)) f t = put_runs f u (at_job (f u) HandedBack) (omega arith) t
 after_runs q (HandBack (Here p u)) f t = put_runs f u (at_job (f u) HandedBack) (omega arith) t
@@ -84,13 +50,15 @@ after_runs q (HandBack (Open o)) f t = put_runs f o.job (at_job (f o.job) Handed
 after_runs q (HandBack (Enter o)) f t = put_runs f o.job (at_job (f o.job) HandedBack) (omega arith) t
 after_runs q (HandBack (Fork o u)) f t = two_back f u o.job t
 after_runs q (HandBack (Gather g)) f t = let a : (mark_pieces g.pieces Returned f t).runs ≡ (f t).runs = pieces_same (λ j. j.runs) g.pieces (marked Returned g.pieces.pool) f t (marked_runs Returned g.pieces.pool) in omega (arith, a)
+after_runs q _ f t = omega arith
 
 go_runs : (w : World) (q : Party) → IfSome (outcome w q (w.stack q)) (λ r. BeginsOn w (result w q (w.stack q) r))
 go_runs w q =
     let k : Stack = w.stack q in
     let n : ℕ = job_at w q (act_of q k.top) in
     if_some_map (λ r. (w.job n).runs ≤ r.1.job.runs) (λ r. BeginsOn w (result w q k r))
-    (λ r l t. (let a : (w.job t).runs ≤ (put w.job n (r.1.job) t).runs = put_runs w.job n (r.1.job) l t in let b : (put w.job n (r.1.job) t).runs ≤ (jobs_after q (next_at w q k (r.0)) (put w.job n (r.1.job)) t).runs = after_runs q (next_at w q k (r.0)) (put w.job n (r.1.job)) t in omega (arith, a, b)))
+    (λ r l t. (let a : (w.job t).runs ≤ (put w.job n (r.1.job) t).runs = put_runs w.job n (r.1.job) l t in let b : (put w.job n (r.1.job) t).runs ≤ (jobs_after q (next_at w q k (r.0)) (put w.job n (r.1.job)) t).runs = after_runs q (next_at w q k (r.0)) (put w.job n (r.1.job)) t in
+    omega (arith, a, b)))
     (outcome w q k) (act_runs w.shape q (counts_seen w q k) (part_at w q k) k.top)
 
 -- the numbers not given out have no begins
@@ -108,8 +76,7 @@ from_runs w q s _ v = tt
 miss_runs : (w : World) (q : Party) (s : Stack) (x : Place) → IfSome (after_miss w q s x) (BeginsOn w)
 miss_runs w (Worker a b) s (StealFrom k n) = if_cond (BeginsOn w) _ _ (λ b t. omega arith)
 miss_runs w (Worker a b) s (YieldSteal v n) = if_cond (BeginsOn w) _ _ (λ b t. omega arith)
-miss_runs w (Worker a b) s _ = tt
-miss_runs w (Caller n) s _ = tt
+miss_runs w _ s _ = tt
 
 end_runs : (w : World) (q : Party) (d : Ending) (s : Stack) (x : Place) → IfSome (after_end w q d s x) (BeginsOn w)
 end_runs w q d s (Run n k) = λ t. put_runs w.job n (at_job (w.job n) (Over d)) (omega arith) t
@@ -159,7 +126,6 @@ cast_runs w q p h = if_cond (BeginsOn w) (is_free ((w.stack q).top) && is_pool w
 pub step_runs : (w : World) (e : Event) → JobsHold w → IfSome (step w e) (BeginsOn w)
 step_runs w (Go q) h = acted_keeps w q (w.stack q) (target_pool q (act_of q (w.stack q).top)) (target_worker q (act_of q (w.stack q).top)) (target_call (act_of q (w.stack q).top)) (job_at w q (act_of q (w.stack q).top)) (outcome w q (w.stack q)) (BeginsOn w) (go_runs w q)
 step_runs w (From q v) h = from_runs w q (w.stack q) (w.stack q).top v
-step_runs w (Refuse q) h = if_cond (BeginsOn w) _ _ (λ b t. omega arith)
 step_runs w (Miss q) h = miss_runs w q (w.stack q) (w.stack q).top
 step_runs w (End q d) h = end_runs w q d (w.stack q) (w.stack q).top
 step_runs w (Spawn q p) h = if_cond (BeginsOn w) _ _ (λ b t. make_runs w h w.jobs _ (omega arith) t)
@@ -174,4 +140,4 @@ step_runs w (IntoCast q n) h = into_cast_cases (BeginsOn w) w q n (λ z e free h
 step_runs w (Broadcast q p) h = if_cond (BeginsOn w) (is_free ((w.stack q).top) && is_pool w.shape p) _ (λ b. gather_runs w q p h)
 step_runs w (Yield q) h = yield_runs w q YieldPop
 step_runs w (YieldLocal q) h = yield_runs w q LocalPop
-step_runs w (EndPool q p) h = if_cond (BeginsOn w) _ _ (λ b t. omega arith)
+step_runs w _ h = if_cond (BeginsOn w) _ _ (λ b t. omega arith)

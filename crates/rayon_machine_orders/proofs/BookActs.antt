@@ -1,52 +1,18 @@
 -- what each act leaves of the books: which places lead to which, and what the acts on a book do
-use Rattle.std.proofs.Common.{rules, arith, refl, sym, ◌∙◌, ap, subst, inl, inr}
-use Rattle.std.proofs.lemmas.Bool.{eqb-true}
-use Rattle.std.specs.Prelude.{ℕ, Bool, true, false, ◌&&◌, ◌+◌, ◌-◌, ◌==◌, ◌≤◌, if◌then◌else◌, Option, Some, None, List, ◌≡◌, ◌⊎◌, IfSome}
-use Rattle.rayon_machine_places.specs.declared.place.Party.{Party}
-use Rattle.rayon_machine_places.specs.declared.place.Party.TheVariants.{Worker, Caller}
-use Rattle.rayon_machine_places.specs.declared.place.JobKind.TheVariants.{Detached, Scoped, PieceOf}
-use Rattle.rayon_machine_places.specs.declared.place.Latch.{Latch}
-use Rattle.rayon_machine_places.specs.declared.place.Latch.TheVariants.{Terminate, OfCall}
-use Rattle.rayon_machine_places.specs.declared.place.Plan.{Plan}
-use Rattle.rayon_machine_places.specs.declared.place.Plan.TheVariants.{Detach, Here, Send, Fork, Feed, Open, Enter, Gather}
-use Rattle.rayon_machine_places.specs.declared.place.Feeding.{Feeding}
-use Rattle.rayon_machine_places.specs.declared.place.Gathering.{Gathering}
-use Rattle.rayon_machine_places.specs.declared.place.Pieces.{Pieces}
-use Rattle.rayon_machine_places.specs.declared.place.Mark.TheVariants.{Counted, Numbered, Queued, Dealt, Unnumbered, Returned}
-use Rattle.rayon_machine_places.specs.declared.place.Count.{Count}
-use Rattle.rayon_machine_places.specs.declared.place.Count.TheVariants.{OfPool, OfScope, OfCast}
-use Rattle.rayon_machine_places.specs.declared.place.Share.TheVariants.{OfJob}
-use Rattle.rayon_machine_places.specs.declared.place.Then.{Then}
-use Rattle.rayon_machine_places.specs.declared.place.Taken.TheVariants.{Plain}
-use Rattle.rayon_machine_places.specs.declared.place.Place.{Place}
-use Rattle.rayon_machine_places.specs.declared.place.Place.TheVariants.{ProbeWorking, GetSleepy, FallAsleep, WakeUp, RaiseCount, LookQueue, PushJob, LowerCount, SetLatch, AddToFifo, LookForToken, PushToken, TakeFromFifo, RaiseForAll, PushForAll, LowerForAll, OpenSlot, CloseSlot, StoreSlot, OpenForAll, CloseForAll, DealPieces, StorePiece}
-use Rattle.rayon_machine_places.specs.declared.place.Move.{Move}
-use Rattle.rayon_machine_places.specs.declared.place.Move.TheVariants.{Enter, Mark, HandBack, HandAllBack}
-use Rattle.rayon_machine_places.specs.declared.act.Act.TheVariants.{PushOwn, PushInj}
-use Rattle.rayon_machine_places.specs.declared.act.Seen.{Seen}
-use Rattle.rayon_machine_places.specs.declared.act.Seen.TheVariants.{Done, Refused, Yes, Task}
-use Rattle.rayon_machine_places.specs.declared.shape.PoolShape.{PoolShape}
-use Rattle.rayon_machine_places.specs.declared.state.Letter.{Letter}
-use Rattle.rayon_machine_places.specs.declared.state.Letter.TheVariants.{Set as IsSet}
-use Rattle.rayon_machine_places.specs.declared.state.Job.{Job}
-use Rattle.rayon_machine_places.specs.declared.state.Slot.TheVariants.{Closed}
-use Rattle.rayon_machine_places.specs.declared.state.Whereabouts.TheVariants.{Over}
-use Rattle.rayon_machine_places.specs.declared.place.Ending.{Ending}
-use Rattle.rayon_machine_places.specs.Places.{plan_pool, plan_job, plan_count, plan_book, is_member, latch_of, act_of, next_of, count_book, count_kind, withdraw, begin_feed, begin_cast}
-use Rattle.rayon_machine_places.specs.World.{Shape, Counts, World, Part, counts_at, count_in, target_pool, target_call, letter, with_letter, raised, effect, left_book, last_of, is_open, fifo_back}
-use Rattle.rayon_machine_places.specs.Steps.{put, after_move, jobs_after, is_piece, marked, holds_in}
-use Rattle.rayon_machine_laws.specs.Once.{one}
-use Rattle.rayon_machine_laws.specs.Shares.{is_busy}
+use Rattle.std.proofs.Common.{arith, refl, sym, ◌∙◌, ap, subst, inl, inr}
+use Rattle.rayon_machine_orders.proofs.Words.{eqb-true, ℕ, Bool, true, false, ◌&&◌, ◌+◌, ◌-◌, ◌==◌, ◌≤◌, if◌then◌else◌, Some, None, List, ◌≡◌, ◌⊎◌, IfSome, Party, Worker, Caller, Detached, Scoped, PieceOf, Plan, Detach, Here, Send, Fork, Feed, Open, Enter, Gather, Feeding, Gathering, Pieces}
+use Rattle.rayon_machine_orders.proofs.Words.{Counted, Numbered, Queued, Dealt, Unnumbered, Returned, Count, OfPool, OfScope, OfCast, OfJob, Then, Plain, Place, ProbeWorking, RaiseCount, LookQueue, PushJob, LowerCount, AddToFifo, LookForToken, PushToken, TakeFromFifo, RaiseForAll, PushForAll}
+use Rattle.rayon_machine_orders.proofs.Words.{LowerForAll, OpenSlot, CloseSlot, StoreSlot, OpenForAll, CloseForAll, DealPieces, StorePiece, Move, Mark, HandBack, HandAllBack, Seen, Done, Yes, Task, PoolShape, Job, Closed, Over, Ending, plan_pool, plan_job, plan_count, plan_book, act_of, next_of}
+use Rattle.rayon_machine_orders.proofs.Words.{count_book, count_kind, withdraw, begin_feed, begin_cast, Shape, Counts, World, Part, counts_at, target_pool, target_call, raised, effect, last_of, is_open, fifo_back, put, after_move, jobs_after, is_piece, marked, holds_in, one, is_busy, is_scoped}
+use Rattle.rayon_machine_orders.proofs.Words.{BeginTask}
 use Rattle.rayon_machine_laws.proofs.Frame.{either, if_some_map, if_some_and, if_cond, put_same, put_old, after_part, MarksKeep, stack_mine, stack_other, piece_old}
 use Rattle.rayon_machine_laws.proofs.Ties.{AllFrames, job_at, outcome}
 use Rattle.rayon_machine_laws.proofs.Tops.{top_after}
-use Rattle.rayon_machine_laws.proofs.Letters.{sleepy_keeps, asleep_keeps, wake_keeps, set_keeps}
 use Rattle.rayon_machine_laws.proofs.Claims.{is_detached, is_part, SaysThen, SaysShare, SaysGather, Says}
 use Rattle.rayon_machine_laws.proofs.ClaimRuns.{CallsHold, top_says, place_part, world_after}
 use Rattle.rayon_machine_laws.proofs.Amounts.{pushed}
 use Rattle.rayon_machine_laws.proofs.ShareActs.{with_job, one_is}
 use Rattle.rayon_machine_laws.proofs.Feeders.{FeedersHold, waits}
-use Rattle.rayon_machine_laws.specs.Counted.{is_scoped}
 use Rattle.rayon_machine_laws.proofs.ShareLowers.{owner_unscoped}
 use Rattle.rayon_machine_laws.proofs.ShareSteps.{Ready, stack_after}
 use Rattle.rayon_machine_orders.proofs.EarlyActs.{NotGiven, Stays}
@@ -54,6 +20,7 @@ use Rattle.rayon_machine_orders.proofs.EarlyStates.{EarlyHold}
 use Rattle.rayon_machine_orders.proofs.Books.{is_unfilled, writes, book_of, AtBook, AtState, IsWorker, raising, BooksHold, quiet_books}
 use Rattle.rayon_machine_orders.proofs.BookStates.{is_nothing, scope_count, fresh_state, open_state, hold_state, line_state, close_state, shut_state, fresh_all, open_all, hold_all, shut_all, book_free, holds_book, free_at, free_writes, free_raising, at_kept}
 use Rattle.rayon_machine_orders.proofs.BookMoves.{Clear, lower_clear, lower_all_clear, plan_book_is, open_not, close_not, open_all_not, close_all_not, book_next, frame_clear, is_numbering, is_numbered, numbers_next}
+use Rattle.rayon_machine_orders.proofs.Spared.{Spared, act_spared, begins, books, is_of_book, looks, pushes}
 
 -- an act that leaves the book that it touches, and the number of its job
 pub record Unbooked (m : Part) (r : Seen × Part) : Type 0 where
@@ -64,8 +31,7 @@ pub record Unbooked (m : Part) (r : Seen × Part) : Type 0 where
 -- the places whose acts do not
 abbrev pub is_scope : Count → Bool
 is_scope (OfScope c o) = true
-is_scope (OfPool p) = false
-is_scope (OfCast c o) = false
+is_scope _ = false
 
 abbrev pub is_booking : Place → Bool
 is_booking (OpenSlot n) = true
@@ -87,19 +53,16 @@ is_aside (DealPieces g) = true
 is_aside _ = false
 
 hold_scope : (k : Count) (t : ℕ) → is_nothing (hold_state k t) ≡ true → is_scope k ≡ false
-hold_scope (OfPool p) t z = refl
 hold_scope (OfScope c o) t z = cc
-hold_scope (OfCast c o) t z = refl
+hold_scope _ t z = refl
 
 line_scope : (k : Count) (t : ℕ) → is_nothing (line_state k t) ≡ true → is_scope k ≡ false
-line_scope (OfPool p) t z = refl
 line_scope (OfScope c o) t z = cc
-line_scope (OfCast c o) t z = refl
+line_scope _ t z = refl
 
 all_scope : (k : Count) (b : Pieces) → is_nothing (hold_all k b) ≡ true → is_scope k ≡ false
-all_scope (OfPool p) b z = refl
 all_scope (OfScope c o) b z = cc
-all_scope (OfCast c o) b z = refl
+all_scope _ b z = refl
 
 pub free_booking : (x : Place) → book_free x ≡ true → is_aside x ≡ false → is_booking x ≡ false
 free_booking (OpenSlot n) z a = absurd (open_not (plan_count n) (plan_job n) z)
@@ -120,62 +83,29 @@ free_numbered (CloseForAll b) z a = absurd (close_all_not b.count b z)
 free_numbered (DealPieces g) z a = cc
 free_numbered _ z a = refl
 
-letter_unbooked : (l : Latch) (m : Part) (e : Seen) (y : Letter) → Unbooked m (e, with_letter l m y)
-letter_unbooked Terminate m e y = record { slot = refl; writer = refl; slots = refl }
-letter_unbooked (OfCall c) m e y = record { slot = refl; writer = refl; slots = refl }
-
-same_unbooked : (m : Part) (e : Seen) → Unbooked m (e, m)
-same_unbooked m e = record { slot = refl; writer = refl; slots = refl }
-
-either_unbooked : (m : Part) (a b : Seen × Part) → Unbooked m a → Unbooked m b → (z : Bool) → IfSome {T = Seen × Part} (if z then Some a else Some b) (Unbooked m)
-either_unbooked m a b x y true = x
-either_unbooked m a b x y false = y
-
-push_unbooked : (h : Shape) (q : Party) (c : Counts) (m : Part) (t p : ℕ) (z : Bool) → IfSome (effect (if z then PushOwn t None else PushInj p t None) h q c m) (Unbooked m)
-push_unbooked h q c m t p true = record { slot = refl; writer = refl; slots = refl }
-push_unbooked h q c m t p false = record { slot = refl; writer = refl; slots = refl }
-
 no_book : (k : Count) → is_scope k ≡ false → count_book k ≡ None
-no_book (OfPool p) z = refl
 no_book (OfScope c o) z = cc
-no_book (OfCast c o) z = refl
+no_book _ z = refl
 
-plan_unbooked : (h : Shape) (q : Party) (c : Counts) (m : Part) (n : Plan) (z : Bool) → is_scope (plan_count n) ≡ false → IfSome (effect (if z then PushOwn (plan_job n) (plan_book n) else PushInj (plan_pool n) (plan_job n) (plan_book n)) h q c m) (Unbooked m)
-plan_unbooked h q c m n z b = subst (λ o. IfSome (effect (if z then PushOwn (plan_job n) o else PushInj (plan_pool n) (plan_job n) o) h q c m) (Unbooked m)) (sym (plan_book_is n ∙ no_book (plan_count n) b)) (push_unbooked h q c m (plan_job n) (plan_pool n) z)
+of_book : (k : Count) → is_scope k ≡ false → is_of_book (count_book k) ≡ false
+of_book k z = ap is_of_book (no_book k z)
 
-token_unbooked : (h : Shape) (q : Party) (c : Counts) (m : Part) (t : ℕ) (k : Count) → is_scope k ≡ false → IfSome (effect (PushOwn t (count_book k)) h q c m) (Unbooked m)
-token_unbooked h q c m t k b = subst (λ o. IfSome (effect (PushOwn t o) h q c m) (Unbooked m)) (sym (no_book k b)) (record { slot = refl; writer = refl; slots = refl })
-
-left_none : (q : Party) (k : Count) (r : Option Party) → is_scope k ≡ false → left_book q (count_book k) r ≡ r
-left_none q (OfPool p) r z = refl
-left_none q (OfScope c o) r z = cc
-left_none q (OfCast c o) r z = refl
+booking_act : (q : Party) (x : Place) → is_booking x ≡ false → books (act_of q x) ≡ false
+booking_act (Worker a b) (ProbeWorking k) z = z
+booking_act q (BeginTask t) z = begins books t (λ n. refl) (λ k i d. refl)
+booking_act q (LookQueue n) z = looks books q (plan_pool n) refl refl
+booking_act q (PushJob n v) z = let e : is_of_book (plan_book n) ≡ false = ap is_of_book (plan_book_is n) ∙ of_book (plan_count n) z in pushes books q (plan_pool n) (plan_job n) (plan_book n) e e
+booking_act (Worker a b) (PushToken f v) z = of_book f.count z
+booking_act (Caller c) (PushToken f v) z = refl
+booking_act (Worker a b) (PushForAll c) z = of_book c.count z
+booking_act (Caller i) (PushForAll c) z = of_book c.count z
+booking_act (Worker a b) (DealPieces g) z = of_book (g.pieces).count z
+booking_act (Caller c) (DealPieces g) z = of_book (g.pieces).count z
+booking_act (Worker a b) _ z = z
+booking_act (Caller c) _ z = z
 
 pub act_unbooked : (h : Shape) (q : Party) (c : Counts) (m : Part) (x : Place) → is_booking x ≡ false → IfSome (effect (act_of q x) h q c m) (Unbooked m)
-act_unbooked h (Worker a b) c m (ProbeWorking k) z = same_unbooked m _
-act_unbooked h (Worker a b) c m (GetSleepy k) z = sleepy_keeps (latch_of k.target) Unbooked same_unbooked (λ v e y n. letter_unbooked (latch_of k.target) v e y) m (letter (latch_of k.target) m)
-act_unbooked h (Worker a b) c m (FallAsleep k) z = asleep_keeps (latch_of k.target) Unbooked same_unbooked (λ v e y n. letter_unbooked (latch_of k.target) v e y) m (letter (latch_of k.target) m)
-act_unbooked h (Worker a b) c m (WakeUp k) z = wake_keeps (latch_of k.target) Unbooked same_unbooked (λ v e y n. letter_unbooked (latch_of k.target) v e y) m (letter (latch_of k.target) m)
-act_unbooked h (Worker a b) c m (SetLatch k) z = set_keeps k.latch Unbooked (λ v e. letter_unbooked k.latch v e IsSet) m (letter k.latch m)
-act_unbooked h (Worker a b) c m (RaiseCount i) z = either_unbooked m (Refused, m) (Done, raised m (plan_count i)) (same_unbooked m Refused) (record { slot = refl; writer = refl; slots = refl }) (count_in m (plan_count i) == 0)
-act_unbooked h (Worker a b) c m (LowerCount k s t) z = record { slot = refl; writer = refl; slots = refl }
-act_unbooked h (Worker a b) c m (RaiseForAll k) z = either_unbooked m (Refused, m) _ (same_unbooked m Refused) (record { slot = refl; writer = refl; slots = refl }) (count_in m k.count == 0)
-act_unbooked h (Worker a b) c m (LowerForAll k) z = record { slot = refl; writer = refl; slots = refl }
-act_unbooked h (Worker a b) c m (PushForAll k) z = record { slot = refl; writer = left_none (Worker a b) k.count m.call.writer z; slots = refl }
-act_unbooked h (Worker a b) c m (DealPieces g) z = record { slot = refl; writer = left_none (Worker a b) (g.pieces).count m.call.writer z; slots = refl }
-act_unbooked h (Worker a b) c m (PushJob i v) z = plan_unbooked h (Worker a b) c m i (is_member (Worker a b) (plan_pool i)) z
-act_unbooked h (Worker a b) c m (PushToken f v) z = token_unbooked h (Worker a b) c m f.token f.count z
-act_unbooked h (Worker a b) c m _ z = search (rules, arith)
-act_unbooked h (Caller n) c m (SetLatch k) z = set_keeps k.latch Unbooked (λ v e. letter_unbooked k.latch v e IsSet) m (letter k.latch m)
-act_unbooked h (Caller n) c m (RaiseCount i) z = either_unbooked m (Refused, m) (Done, raised m (plan_count i)) (same_unbooked m Refused) (record { slot = refl; writer = refl; slots = refl }) (count_in m (plan_count i) == 0)
-act_unbooked h (Caller n) c m (LowerCount k s t) z = record { slot = refl; writer = refl; slots = refl }
-act_unbooked h (Caller n) c m (RaiseForAll k) z = either_unbooked m (Refused, m) _ (same_unbooked m Refused) (record { slot = refl; writer = refl; slots = refl }) (count_in m k.count == 0)
-act_unbooked h (Caller n) c m (LowerForAll k) z = record { slot = refl; writer = refl; slots = refl }
-act_unbooked h (Caller n) c m (PushForAll k) z = record { slot = refl; writer = left_none (Caller n) k.count m.call.writer z; slots = refl }
-act_unbooked h (Caller n) c m (DealPieces g) z = record { slot = refl; writer = left_none (Caller n) (g.pieces).count m.call.writer z; slots = refl }
-act_unbooked h (Caller n) c m (PushJob i v) z = plan_unbooked h (Caller n) c m i (is_member (Caller n) (plan_pool i)) z
-act_unbooked h (Caller n) c m (PushToken f v) z = tt
-act_unbooked h (Caller n) c m _ z = search (rules, arith)
+act_unbooked h q c m x z = if_some_map (Spared (act_of q x) m) (Unbooked m) (λ r s. let e : books (act_of q x) ≡ false = booking_act q x z in record { slot = s.slot e; writer = s.writer e; slots = s.slots e }) (effect (act_of q x) h q c m) (act_spared (act_of q x) h q c m)
 
 slots_keep : (g : Move) → is_numbering g ≡ false → MarksKeep (λ (j : Job). j.slot) g
 slots_keep (Mark y c Counted) z = λ i j. refl
@@ -194,8 +124,7 @@ after_slot q g f t z = after_part (λ j. j.slot) (λ r j. refl) (λ j x. refl) q
 -- what is pushed of a scope has an open number
 flat_kind : (k : Count) (c : ℕ) (o : Party) → is_scope k ≡ false → count_kind k ≡ Scoped c o → ⊥
 flat_kind (OfPool p) c o z y = cc
-flat_kind (OfScope d r) c o z y = cc
-flat_kind (OfCast d r) c o z y = cc
+flat_kind _ c o z y = cc
 
 hold_open : (w : World) (q : Party) (k : Count) (u c : ℕ) (o : Party) → AtState w q (hold_state k u) → (w.job u).kind ≡ count_kind k → (w.job u).kind ≡ Scoped c o → is_unfilled (w.job u).slot ≡ true
 hold_open w q (OfPool p) u c o a i k = absurd (let z : Detached p ≡ Scoped c o = sym i ∙ k in cc)
@@ -296,14 +225,16 @@ quiet_act w q x fs r z h l e fe d st = quiet_books w u q h e fe (record {
 
 -- what an act does not touch of the books
 same_slot : (w : World) (q : Party) (x : Place) (fs : List Place) (r : Seen × Part) → is_numbered x ≡ false → Unbooked (place_part w q x) r → (t : ℕ) → ((world_after w q x fs r).job t).slot ≡ (w.job t).slot
-same_slot w q x fs r n un t = after_slot q (next_of (w.shape.pool (target_pool q (act_of q x))) q x (r.0)) (put w.job (job_at w q (act_of q x)) (r.1.job)) t (numbers_next (w.shape.pool (target_pool q (act_of q x))) q x (r.0) n) ∙ put_same (λ j. j.slot) w.job (job_at w q (act_of q x)) (r.1.job) t (un.slot)
+same_slot w q x fs r n un t = after_slot q (next_of (w.shape.pool (target_pool q (act_of q x))) q x (r.0)) (put w.job (job_at w q (act_of q x)) (r.1.job)) t (numbers_next (w.shape.pool (target_pool q (act_of q x))) q x (r.0) n)
+    ∙ put_same (λ j. j.slot) w.job (job_at w q (act_of q x)) (r.1.job) t (un.slot)
 
 same_book : (w : World) (q : Party) (x : Place) (fs : List Place) (r : Seen × Part) → Unbooked (place_part w q x) r → (c : ℕ) → (((world_after w q x fs r).call c).writer ≡ (w.call c).writer) × (((world_after w q x fs r).call c).slots ≡ (w.call c).slots)
 same_book w q x fs r un c = (put_same (λ k. k.writer) w.call (target_call (act_of q x)) (r.1.call) c (un.writer), put_same (λ k. k.slots) w.call (target_call (act_of q x)) (r.1.call) c (un.slots))
 
 -- where the place after it says of the books what is so still
 pub held_act : (w : World) (q : Party) (x : Place) (fs : List Place) → w.stack q ≡ record { top = x; below = fs } → BooksHold w → is_booking x ≡ false → is_numbered x ≡ false →
-    ((r : Seen × Part) → ((t : ℕ) → ((world_after w q x fs r).job t).slot ≡ (w.job t).slot) → ((c : ℕ) → (((world_after w q x fs r).call c).writer ≡ (w.call c).writer) × (((world_after w q x fs r).call c).slots ≡ (w.call c).slots)) → AtBook (world_after w q x fs r) q (stack_after w q x fs (r.0)).top) →
+    ((r : Seen × Part) → ((t : ℕ) → ((world_after w q x fs r).job t).slot ≡ (w.job t).slot) → ((c : ℕ) → (((world_after w q x fs r).call c).writer ≡ (w.call c).writer) × (((world_after w q x fs r).call c).slots ≡ (w.call c).slots)) → AtBook (world_after w q x fs r) q
+    (stack_after w q x fs (r.0)).top) →
     ((e : Seen) (c : ℕ) → writes x ≡ Some c → writes (stack_after w q x fs e).top ≡ Some c) → ((e : Seen) (c : ℕ) → raising (stack_after w q x fs e).top ≡ Some c → holds_in c (stack_after w q x fs e).below ≡ true) → IfSome (outcome w q (record { top = x; below = fs })) (Acts w q x fs)
 held_act w q x fs z h b n top wrote raised = if_some_map (Unbooked (place_part w q x)) (Acts w q x fs) (λ r un. quiet_act w q x fs r z h (record {
   slot = λ t l p. same_slot w q x fs r n un t;
@@ -325,7 +256,8 @@ pub below_frames : (w : World) (q : Party) (x : Place) (fs : List Place) → w.s
 below_frames w q x fs z h = subst (λ k. AllFrames (k.below)) z (((h.early).fills).frames q)
 
 -- where it leads to places that say nothing, and held no book
-pub clear_act : (w : World) (q : Party) (x : Place) (fs : List Place) → w.stack q ≡ record { top = x; below = fs } → BooksHold w → is_booking x ≡ false → is_numbered x ≡ false → ((e : Seen) → Clear (next_of (w.shape.pool (target_pool q (act_of q x))) q x e)) → ((c : ℕ) → writes x ≡ Some c → ⊥) → IfSome (outcome w q (record { top = x; below = fs })) (Acts w q x fs)
+pub clear_act : (w : World) (q : Party) (x : Place) (fs : List Place) → w.stack q ≡ record { top = x; below = fs } → BooksHold w → is_booking x ≡ false → is_numbered x ≡ false → ((e : Seen) → Clear (next_of (w.shape.pool (target_pool q (act_of q x))) q x e))
+    → ((c : ℕ) → writes x ≡ Some c → ⊥) → IfSome (outcome w q (record { top = x; below = fs })) (Acts w q x fs)
 clear_act w q x fs z h b n cl wr = held_act w q x fs z h b n
     (λ r s c. clear_top (world_after w q x fs r) q (next_of (w.shape.pool (target_pool q (act_of q x))) q x (r.0)) fs (below_frames w q x fs z h) (cl (r.0)))
     (λ e c y. absurd (wr c y)) (λ e c i. absurd (clear_raises (next_of (w.shape.pool (target_pool q (act_of q x))) q x e) fs c (below_frames w q x fs z h) (cl e) i))
@@ -369,7 +301,8 @@ deal_act w q g fs z h = if_some_map (Unbooked (place_part w q (DealPieces g))) (
     slot r un t y = deal_slot g0 q g (r.0) (put w.job (job_at w q (act_of q (DealPieces g))) (r.1.job)) t y ∙ put_same (λ j. j.slot) w.job (job_at w q (act_of q (DealPieces g))) (r.1.job) t (un.slot)
 
 -- and the end of one
-piece_by : (w : World) (q : Party) (c : ℕ) (o : Party) (t : ℕ) (d : Ending) (fs : List Place) (r : Seen × Part) → w.stack q ≡ record { top = StorePiece c o t d; below = fs } → BooksHold w → job_at w q (act_of q (StorePiece c o t d)) ≡ t → (r.1.call.writer ≡ (place_part w q (StorePiece c o t d)).call.writer) × (r.1.call.slots ≡ (place_part w q (StorePiece c o t d)).call.slots) → Acts w q (StorePiece c o t d) fs r
+piece_by : (w : World) (q : Party) (c : ℕ) (o : Party) (t : ℕ) (d : Ending) (fs : List Place) (r : Seen × Part) → w.stack q ≡ record { top = StorePiece c o t d; below = fs } → BooksHold w → job_at w q (act_of q (StorePiece c o t d)) ≡ t
+    → (r.1.call.writer ≡ (place_part w q (StorePiece c o t d)).call.writer) × (r.1.call.slots ≡ (place_part w q (StorePiece c o t d)).call.slots) → Acts w q (StorePiece c o t d) fs r
 piece_by w q c o t d fs r z h i un = quiet_act w q (StorePiece c o t d) fs r z h (record {
   slot = λ s l p. ap (λ j. j.slot) (put_old w.job (job_at w q (act_of q (StorePiece c o t d))) (r.1.job) s (off s p));
   fresh = λ s l. ap (λ j. j.slot) (put_old w.job (job_at w q (act_of q (StorePiece c o t d))) (r.1.job) s (far s l)) ∙ h.unmade s l;
@@ -397,7 +330,8 @@ piece_act w (Worker a b) c o t d fs z h = piece_by w (Worker a b) c o t d fs _ z
 piece_act w (Caller n) c o t d fs z h = piece_by w (Caller n) c o t d fs _ z h refl (refl, refl)
 
 -- at a place of a spawn into a scope, or of the end of a job of one
-raised_top : (u : World) (q : Party) (n : Plan) (c : ℕ) (o : Party) (g : PoolShape) (fs : List Place) (s : Seen) → plan_count n ≡ OfScope c o → AllFrames fs → (u.job (plan_job n)).slot ≡ Closed → AtBook u q ((after_move (next_of g q (RaiseCount n) s) fs).top) × ((d : ℕ) → raising ((after_move (next_of g q (RaiseCount n) s) fs).top) ≡ Some d → ⊥)
+raised_top : (u : World) (q : Party) (n : Plan) (c : ℕ) (o : Party) (g : PoolShape) (fs : List Place) (s : Seen) → plan_count n ≡ OfScope c o → AllFrames fs → (u.job (plan_job n)).slot ≡ Closed → AtBook u q ((after_move (next_of g q (RaiseCount n) s) fs).top)
+    × ((d : ℕ) → raising ((after_move (next_of g q (RaiseCount n) s) fs).top) ≡ Some d → ⊥)
 raised_top u q (Enter e) c o g fs Done k a y = (y, λ d i. cc)
 raised_top u q (Feed f) c o g fs Done k a y = (
   subst (λ x. AtState u q (book_of (begin_feed x f))) (sym k) (subst (λ x. AtState u q (open_state x f.job)) (sym k) y),
@@ -406,8 +340,7 @@ raised_top u q (Feed f) c o g fs Done k a y = (
   where
     raises_none : (x : Count) (d : ℕ) → raising (begin_feed x f) ≡ Some d → ⊥
     raises_none (OfPool p) d i = cc
-    raises_none (OfScope m r) d i = cc
-    raises_none (OfCast m r) d i = cc
+    raises_none _ d i = cc
 raised_top u q (Detach p t) c o g fs Done k a y = absurd (cc)
 raised_top u q (Here p t) c o g fs Done k a y = absurd (cc)
 raised_top u q (Send d) c o g fs Done k a y = absurd (cc)
@@ -421,8 +354,7 @@ fresh_closed w q k t c o e y = subst (λ x. AtState w q (fresh_state x t)) e y
 
 fresh_none : (k : Count) (t d : ℕ) → holds_book (fresh_state k t) ≡ Some d → ⊥
 fresh_none (OfPool p) t d y = cc
-fresh_none (OfScope c o) t d y = cc
-fresh_none (OfCast c o) t d y = cc
+fresh_none _ t d y = cc
 
 pub raise_act : (w : World) (q : Party) (n : Plan) (c : ℕ) (o : Party) (fs : List Place) → plan_count n ≡ OfScope c o → w.stack q ≡ record { top = RaiseCount n; below = fs } → BooksHold w → IfSome (outcome w q (record { top = RaiseCount n; below = fs })) (Acts w q (RaiseCount n) fs)
 raise_act w q n c o fs k z h = held_act w q (RaiseCount n) fs z h refl refl
@@ -437,7 +369,8 @@ raise_act w q n c o fs k z h = held_act w q (RaiseCount n) fs z h refl refl
     closed = fresh_closed w q (plan_count n) (plan_job n) c o k (subst (λ v. AtBook w q (v.top)) z (h.at q))
 
 -- a state that stays
-looked_top : (u : World) (q : Party) (n : Plan) (g : PoolShape) (fs : List Place) (s : Seen) → AtState u q (hold_state (plan_count n) (plan_job n)) → AtBook u q ((after_move (next_of g q (LookQueue n) s) fs).top) × ((writes (LookQueue n) ≡ writes ((after_move (next_of g q (LookQueue n) s) fs).top)) × ((d : ℕ) → raising ((after_move (next_of g q (LookQueue n) s) fs).top) ≡ Some d → ⊥))
+looked_top : (u : World) (q : Party) (n : Plan) (g : PoolShape) (fs : List Place) (s : Seen) → AtState u q (hold_state (plan_count n) (plan_job n)) → AtBook u q ((after_move (next_of g q (LookQueue n) s) fs).top)
+    × ((writes (LookQueue n) ≡ writes ((after_move (next_of g q (LookQueue n) s) fs).top)) × ((d : ℕ) → raising ((after_move (next_of g q (LookQueue n) s) fs).top) ≡ Some d → ⊥))
 looked_top u q n g fs Yes y = (y, (refl, λ d i. cc))
 looked_top u q n g fs _ y = (y, (refl, λ d i. cc))
 
@@ -453,7 +386,8 @@ look_act w q n fs z h = held_act w q (LookQueue n) fs z h refl refl
     here : AtState w q (hold_state (plan_count n) (plan_job n))
     here = subst (λ v. AtBook w q (v.top)) z (h.at q)
 
-token_top : (u : World) (q : Party) (f : Feeding) (g : PoolShape) (fs : List Place) (s : Seen) → AtState u q (line_state f.count f.job) → AtBook u q ((after_move (next_of g q (LookForToken f) s) fs).top) × ((writes (LookForToken f) ≡ writes ((after_move (next_of g q (LookForToken f) s) fs).top)) × ((d : ℕ) → raising ((after_move (next_of g q (LookForToken f) s) fs).top) ≡ Some d → ⊥))
+token_top : (u : World) (q : Party) (f : Feeding) (g : PoolShape) (fs : List Place) (s : Seen) → AtState u q (line_state f.count f.job) → AtBook u q ((after_move (next_of g q (LookForToken f) s) fs).top)
+    × ((writes (LookForToken f) ≡ writes ((after_move (next_of g q (LookForToken f) s) fs).top)) × ((d : ℕ) → raising ((after_move (next_of g q (LookForToken f) s) fs).top) ≡ Some d → ⊥))
 token_top u q f g fs Yes y = (y, (refl, λ d i. cc))
 token_top u q f g fs _ y = (y, (refl, λ d i. cc))
 
@@ -471,21 +405,21 @@ token_act w q f fs z h = held_act w q (LookForToken f) fs z h refl refl
 
 -- a worker adds its job to its list
 line_of : (u : World) (q : Party) (k : Count) (t : ℕ) → IsWorker q → AtState u q (hold_state k t) → AtState u q (line_state k t)
-line_of u q (OfPool p) t i y = tt
 line_of u q (OfScope c o) t i y = (y, i)
-line_of u q (OfCast c o) t i y = tt
+line_of u q _ t i y = tt
 
 line_writes : (k : Count) (t : ℕ) → holds_book (hold_state k t) ≡ holds_book (line_state k t)
 line_writes (OfPool p) t = refl
-line_writes (OfScope c o) t = refl
-line_writes (OfCast c o) t = refl
+line_writes _ t = refl
 
-pub close_of : (u : World) (q : Party) (k : Count) (n : Plan) → plan_count n ≡ k → AtState u q (hold_state k (plan_job n)) → AtState u q (book_of (withdraw (count_book k) n)) × ((holds_book (hold_state k (plan_job n)) ≡ writes (withdraw (count_book k) n)) × ((d : ℕ) → raising (withdraw (count_book k) n) ≡ Some d → ⊥))
+pub close_of : (u : World) (q : Party) (k : Count) (n : Plan) → plan_count n ≡ k → AtState u q (hold_state k (plan_job n)) → AtState u q (book_of (withdraw (count_book k) n))
+    × ((holds_book (hold_state k (plan_job n)) ≡ writes (withdraw (count_book k) n)) × ((d : ℕ) → raising (withdraw (count_book k) n) ≡ Some d → ⊥))
 close_of u q (OfPool p) n e y = (subst (λ c. AtState u q (shut_state c (plan_job n))) (sym e) tt, (ap (λ c. holds_book (shut_state c (plan_job n))) (sym e), λ d i. cc))
 close_of u q (OfScope c o) n e y = (subst (λ k. AtState u q (close_state k (plan_job n))) (sym e) y, (ap (λ k. holds_book (close_state k (plan_job n))) (sym e), λ d i. cc))
 close_of u q (OfCast c o) n e y = (subst (λ c. AtState u q (shut_state c (plan_job n))) (sym e) tt, (ap (λ c. holds_book (shut_state c (plan_job n))) (sym e), λ d i. cc))
 
-added_top : (u : World) (q : Party) (f : Feeding) (g : PoolShape) (fs : List Place) (s : Seen) → IsWorker q → AtState u q (hold_state f.count f.job) → AtBook u q ((after_move (next_of g q (AddToFifo f) s) fs).top) × ((writes (AddToFifo f) ≡ writes ((after_move (next_of g q (AddToFifo f) s) fs).top)) × ((d : ℕ) → raising ((after_move (next_of g q (AddToFifo f) s) fs).top) ≡ Some d → ⊥))
+added_top : (u : World) (q : Party) (f : Feeding) (g : PoolShape) (fs : List Place) (s : Seen) → IsWorker q → AtState u q (hold_state f.count f.job) → AtBook u q ((after_move (next_of g q (AddToFifo f) s) fs).top)
+    × ((writes (AddToFifo f) ≡ writes ((after_move (next_of g q (AddToFifo f) s) fs).top)) × ((d : ℕ) → raising ((after_move (next_of g q (AddToFifo f) s) fs).top) ≡ Some d → ⊥))
 added_top u q f g fs Done i y = (line_of u q f.count f.job i y, (line_writes f.count f.job, λ d i. cc))
 added_top u q f g fs _ i y = close_of u q f.count (Feed f) refl y
 
@@ -504,18 +438,19 @@ add_act w (Worker a b) f fs z h = held_act w (Worker a b) (AddToFifo f) fs z h r
 
 -- and takes it back
 hold_of : (u : World) (q : Party) (k : Count) (t : ℕ) → AtState u q (line_state k t) → AtState u q (hold_state k t)
-hold_of u q (OfPool p) t y = tt
 hold_of u q (OfScope c o) t y = y.0
-hold_of u q (OfCast c o) t y = tt
+hold_of u q _ t y = tt
 
-retaken_top : (u : World) (q : Party) (f : Feeding) (g : PoolShape) (fs : List Place) → AtState u q (hold_state f.count f.job) → AtBook u q ((after_move (next_of g q (TakeFromFifo f) (Task (Plain f.job))) fs).top) × ((holds_book (hold_state f.count f.job) ≡ writes ((after_move (next_of g q (TakeFromFifo f) (Task (Plain f.job))) fs).top)) × ((d : ℕ) → raising ((after_move (next_of g q (TakeFromFifo f) (Task (Plain f.job))) fs).top) ≡ Some d → ⊥))
+retaken_top : (u : World) (q : Party) (f : Feeding) (g : PoolShape) (fs : List Place) → AtState u q (hold_state f.count f.job) → AtBook u q ((after_move (next_of g q (TakeFromFifo f) (Task (Plain f.job))) fs).top)
+    × ((holds_book (hold_state f.count f.job) ≡ writes ((after_move (next_of g q (TakeFromFifo f) (Task (Plain f.job))) fs).top)) × ((d : ℕ) → raising ((after_move (next_of g q (TakeFromFifo f) (Task (Plain f.job))) fs).top) ≡ Some d → ⊥))
 retaken_top u q f g fs y = close_of u q f.count (Feed f) refl y
 
 pub retake_act : (w : World) (q : Party) (f : Feeding) (fs : List Place) → w.stack q ≡ record { top = TakeFromFifo f; below = fs } → BooksHold w → IfSome (outcome w q (record { top = TakeFromFifo f; below = fs })) (Acts w q (TakeFromFifo f) fs)
 retake_act w (Caller n) f fs z h = tt
 retake_act w (Worker a b) f fs z h = if_some_map (λ r. Unbooked (place_part w (Worker a b) (TakeFromFifo f)) r × (r.0 ≡ Task (Plain f.job))) (Acts w (Worker a b) (TakeFromFifo f) fs) (λ r y. taken r (y.0) (y.1)) (outcome w (Worker a b) (record { top = TakeFromFifo f; below = fs }))
     (if_some_and (Unbooked (place_part w (Worker a b) (TakeFromFifo f))) (λ r. r.0 ≡ Task (Plain f.job)) (outcome w (Worker a b) (record { top = TakeFromFifo f; below = fs })) (act_unbooked w.shape (Worker a b) (counts_at w a) (place_part w (Worker a b) (TakeFromFifo f)) (TakeFromFifo f) refl)
-    (subst (λ o. IfSome (if is_open (Worker a b) ((w.seat a b).feeder (count_book f.count)) then fifo_back (Worker a b) (place_part w (Worker a b) (TakeFromFifo f)) (count_book f.count) o else None) (λ r. r.0 ≡ Task (Plain f.job))) (sym last) (if_cond (λ (r : Seen × Part). r.0 ≡ Task (Plain f.job)) (is_open (Worker a b) ((w.seat a b).feeder (count_book f.count))) _ (λ o. refl))))
+    (subst (λ o. IfSome (if is_open (Worker a b) ((w.seat a b).feeder (count_book f.count)) then fifo_back (Worker a b) (place_part w (Worker a b) (TakeFromFifo f)) (count_book f.count) o else None) (λ r. r.0 ≡ Task (Plain f.job))) (sym last)
+    (if_cond (λ (r : Seen × Part). r.0 ≡ Task (Plain f.job)) (is_open (Worker a b) ((w.seat a b).feeder (count_book f.count))) _ (λ o. refl))))
   where
     last : last_of ((w.seat a b).fifo (count_book f.count)) ≡ Some f.job
     last = ((h.feeders).feeds a b f (ap (λ s. waits (s.top)) z)).1
@@ -532,7 +467,8 @@ retake_act w (Worker a b) f fs z h = if_some_map (λ r. Unbooked (place_part w (
       fresh = λ t l. same_slot w (Worker a b) (TakeFromFifo f) fs r refl un t ∙ h.unmade t l;
       call = same_book w (Worker a b) (TakeFromFifo f) fs r un;
       top = subst (λ e. AtBook (world_after w (Worker a b) (TakeFromFifo f) fs r) (Worker a b) ((after_move (next_of g0 (Worker a b) (TakeFromFifo f) e) fs).top)) (sym i)
-          ((retaken_top (world_after w (Worker a b) (TakeFromFifo f) fs r) (Worker a b) f g0 fs (at_kept w (world_after w (Worker a b) (TakeFromFifo f) fs r) (Worker a b) (hold_state f.count f.job) (λ t j. same_slot w (Worker a b) (TakeFromFifo f) fs r refl un t) (λ c j. same_book w (Worker a b) (TakeFromFifo f) fs r un c) here)).0);
+          ((retaken_top (world_after w (Worker a b) (TakeFromFifo f) fs r) (Worker a b) f g0 fs
+          (at_kept w (world_after w (Worker a b) (TakeFromFifo f) fs r) (Worker a b) (hold_state f.count f.job) (λ t j. same_slot w (Worker a b) (TakeFromFifo f) fs r refl un t) (λ c j. same_book w (Worker a b) (TakeFromFifo f) fs r un c) here)).0);
       wrote = λ c y. subst (λ e. writes ((after_move (next_of g0 (Worker a b) (TakeFromFifo f) e) fs).top) ≡ Some c) (sym i) (sym ((retaken_top w (Worker a b) f g0 fs here).1.0) ∙ line_writes f.count f.job ∙ y);
       raised = λ c y. absurd ((retaken_top w (Worker a b) f g0 fs here).1.1 c (ap (λ e. raising ((after_move (next_of g0 (Worker a b) (TakeFromFifo f) e) fs).top)) (sym i) ∙ y));
       opens = λ t c o k m. absurd (omega (arith, m));
@@ -541,31 +477,29 @@ retake_act w (Worker a b) f fs z h = if_some_map (λ r. Unbooked (place_part w (
 -- the share of a job goes back, and those of pieces come and go
 shut_none : (k : Count) (t d : ℕ) → holds_book (shut_state k t) ≡ Some d → ⊥
 shut_none (OfPool p) t d y = cc
-shut_none (OfScope c o) t d y = cc
-shut_none (OfCast c o) t d y = cc
+shut_none _ t d y = cc
 
 pub lower_act : (w : World) (q : Party) (k : Count) (t : ℕ) (n : Then) (fs : List Place) → w.stack q ≡ record { top = LowerCount k (OfJob t) n; below = fs } → BooksHold w → IfSome (outcome w q (record { top = LowerCount k (OfJob t) n; below = fs })) (Acts w q (LowerCount k (OfJob t) n) fs)
 lower_act w q k t n fs z h = clear_act w q (LowerCount k (OfJob t) n) fs z h refl refl (λ e. lower_clear (w.shape.pool (target_pool q (act_of q (LowerCount k (OfJob t) n)))) q k (OfJob t) n e) (λ c y. shut_none k t c y)
 
 shut_all_none : (k : Count) (b : Pieces) (d : ℕ) → holds_book (shut_all k b) ≡ Some d → ⊥
 shut_all_none (OfPool p) b d y = cc
-shut_all_none (OfScope c o) b d y = cc
-shut_all_none (OfCast c o) b d y = cc
+shut_all_none _ b d y = cc
 
 pub lower_all_act : (w : World) (q : Party) (b : Pieces) (fs : List Place) → w.stack q ≡ record { top = LowerForAll b; below = fs } → BooksHold w → IfSome (outcome w q (record { top = LowerForAll b; below = fs })) (Acts w q (LowerForAll b) fs)
 lower_all_act w q b fs z h = clear_act w q (LowerForAll b) fs z h refl refl (λ e. lower_all_clear (w.shape.pool (target_pool q (act_of q (LowerForAll b)))) q b e) (λ c y. shut_all_none b.count b c y)
 
 fresh_all_none : (k : Count) (b : Pieces) (d : ℕ) → holds_book (fresh_all k b) ≡ Some d → ⊥
 fresh_all_none (OfPool p) b d y = cc
-fresh_all_none (OfScope c o) b d y = cc
-fresh_all_none (OfCast c o) b d y = cc
+fresh_all_none _ b d y = cc
 
 begun_of : (u : World) (q : Party) (k : Count) (b : Pieces) → b.count ≡ k → AtState u q (fresh_all k b) → AtState u q (book_of (begin_cast k b)) × ((d : ℕ) → raising (begin_cast k b) ≡ Some d → scope_count b.count ≡ Some d)
 begun_of u q (OfPool p) b e y = (subst (λ c. AtState u q (hold_all c b)) (sym e) tt, λ d i. i)
 begun_of u q (OfScope c o) b e y = (subst (λ c. AtState u q (open_all c b)) (sym e) y, λ d i. i)
 begun_of u q (OfCast c o) b e y = (subst (λ c. AtState u q (hold_all c b)) (sym e) tt, λ d i. i)
 
-all_raised_top : (u : World) (q : Party) (b : Pieces) (g : PoolShape) (fs : List Place) (s : Seen) → AllFrames fs → ((d : ℕ) → scope_count b.count ≡ Some d → holds_in d fs ≡ true) → AtState u q (fresh_all b.count b) → AtBook u q ((after_move (next_of g q (RaiseForAll b) s) fs).top) × ((d : ℕ) → raising ((after_move (next_of g q (RaiseForAll b) s) fs).top) ≡ Some d → holds_in d ((after_move (next_of g q (RaiseForAll b) s) fs).below) ≡ true)
+all_raised_top : (u : World) (q : Party) (b : Pieces) (g : PoolShape) (fs : List Place) (s : Seen) → AllFrames fs → ((d : ℕ) → scope_count b.count ≡ Some d → holds_in d fs ≡ true) → AtState u q (fresh_all b.count b) → AtBook u q ((after_move (next_of g q (RaiseForAll b) s) fs).top)
+    × ((d : ℕ) → raising ((after_move (next_of g q (RaiseForAll b) s) fs).top) ≡ Some d → holds_in d ((after_move (next_of g q (RaiseForAll b) s) fs).below) ≡ true)
 all_raised_top u q b g fs Done a k y = ((begun_of u q b.count b refl y).0, λ d i. k d ((begun_of u q b.count b refl y).1 d i))
 all_raised_top u q b g fs _ a k y = (clear_top u q (HandAllBack b) fs a tt, λ d i. absurd (clear_raises (HandAllBack b) fs d a tt i))
 

@@ -3,39 +3,15 @@
 -- A number that is open has a job with a share. So at a count of 0 none is open, and nobody holds the book
 -- (`done_book`).
 use Rattle.std.proofs.Common.{arith, refl, sym, ◌∙◌, ap, subst, inl, inr}
-use Rattle.std.proofs.lemmas.Bool.{eqb-true, eq-eqb, ltb-true, ltb-false}
-use Rattle.std.proofs.Math.Dec.{ltb}
-use Rattle.std.specs.Prelude.{ℕ, Bool, true, false, ◌&&◌, ◌||◌, ◌+◌, ◌-◌, ◌==◌, ◌≤◌, ◌<◌, nat_lt, if◌then◌else◌, Option, Some, None, List, [], ◌∷◌, ◌≡◌, ◌⊎◌, IfSome, slice_get}
-use Rattle.rayon_machine_places.specs.declared.place.Party.{Party}
-use Rattle.rayon_machine_places.specs.declared.place.Party.TheVariants.{Worker, Caller}
-use Rattle.rayon_machine_places.specs.declared.place.Ending.{Ending}
-use Rattle.rayon_machine_places.specs.declared.place.Ending.TheVariants.{Fine, Fault}
-use Rattle.rayon_machine_places.specs.declared.place.JobKind.{JobKind}
-use Rattle.rayon_machine_places.specs.declared.place.JobKind.TheVariants.{Detached, Stored, Direct, Scoped, BodyOf, TokenOf, PieceOf, WholeOf}
-use Rattle.rayon_machine_places.specs.declared.place.Target.TheVariants.{Termination}
-use Rattle.rayon_machine_places.specs.declared.place.Plan.{Plan}
-use Rattle.rayon_machine_places.specs.declared.place.Plan.TheVariants.{Detach, Here, Send, Fork, Feed, Open, Enter, Gather}
-use Rattle.rayon_machine_places.specs.declared.place.OpenCall.{OpenCall}
-use Rattle.rayon_machine_places.specs.declared.place.Pieces.{Pieces}
-use Rattle.rayon_machine_places.specs.declared.place.Count.TheVariants.{OfPool, OfScope, OfCast}
-use Rattle.rayon_machine_places.specs.declared.place.Share.TheVariants.{PoolValue, OfJob, Body}
-use Rattle.rayon_machine_places.specs.declared.place.Then.TheVariants.{Resume}
-use Rattle.rayon_machine_places.specs.declared.place.Place.{Place}
-use Rattle.rayon_machine_places.specs.declared.place.Place.TheVariants.{LowerCount, ProbeWorking, PickVictim, StealFrom, YieldPop, YieldPick, YieldSteal, LocalPop, Run, RaiseCount, GrowCall, GrowScope, OpenSlot, CloseSlot, LookQueue, PushJob, AddToFifo, PushToken, TakeFromFifo, RaiseForAll, PushForAll, LowerForAll, TakeResult, FirstSide, SecondSide, ScopeBody, AtOnce, JoinProbe, Free, Stopped, LookForToken, GrowCast, CloseForAll, DealPieces, OpenForAll}
-use Rattle.rayon_machine_places.specs.declared.event.Event.{Event}
-use Rattle.rayon_machine_places.specs.declared.event.Event.TheVariants.{Go, From, Refuse, Miss, End, Spawn, Fifo, Cast, Install, Join, Scope as OpenScope, IntoSpawn, Yield, YieldLocal, EndPool, IntoFifo, IntoCast, Broadcast}
-use Rattle.rayon_machine_places.specs.declared.state.Whereabouts.TheVariants.{Over, Running}
-use Rattle.rayon_machine_places.specs.declared.state.Job.{Job}
-use Rattle.rayon_machine_places.specs.declared.state.Call.{Call}
-use Rattle.rayon_machine_places.specs.declared.state.Slot.{Slot}
-use Rattle.rayon_machine_places.specs.declared.state.Slot.TheVariants.{Closed, Open as IsOpen, Filled}
-use Rattle.rayon_machine_places.specs.Places.{own_pool, is_member, undo, after_push, next_steal, next_yield, goes_on, is_free, fresh, holds_scope, plan_job, withdraw, end_cast, count_book, count_kind, plan_count}
-use Rattle.rayon_machine_places.specs.World.{Shape, Stack, World, at_job}
-use Rattle.rayon_machine_places.specs.Steps.{put, put_stack, put_pieces, is_piece, with_stack, after_choice, after_refusal, can_miss, after_miss, after_resume, after_close, after_end, after_call, is_pool, new_job, new_piece, new_call, after_spawn, after_feed, after_fifo, after_cast, after_send, after_install, after_join, after_scope, holds, holds_in, after_yield, after_end_pool, step, after_enter_cast, after_gather, new_whole, after_enter, after_broadcast, after_deal, after_enter_fifo, new_gathering}
-use Rattle.rayon_machine_places.specs.Runs.{start, first_place, IsRun}
-use Rattle.rayon_machine_laws.specs.Once.{one, run_of, runs_in}
-use Rattle.rayon_machine_laws.specs.Counted.{ScopeEnded, is_scoped, is_of_scope}
-use Rattle.rayon_machine_laws.specs.Shares.{is_busy}
+use Rattle.rayon_machine_orders.proofs.Words.{eqb-true, eq-eqb, ltb-true, ltb-false, ltb, ℕ, Bool, true, false, ◌&&◌, ◌||◌, ◌+◌, ◌-◌, ◌==◌, ◌≤◌, ◌<◌, nat_lt, if◌then◌else◌, Option, Some, None, List, [], ◌∷◌, ◌≡◌, ◌⊎◌, IfSome, slice_get, Party, Worker, Caller, Ending, Fine, Fault, JobKind}
+use Rattle.rayon_machine_orders.proofs.Words.{Detached, Stored, Direct, Scoped, BodyOf, TokenOf, PieceOf, WholeOf, Termination, Plan, Detach, Here, Send, Fork, Feed, Open, Enter, Gather, OpenCall, Pieces, OfPool, OfScope, OfCast, PoolValue, OfJob, Body, Resume, Place, LowerCount, ProbeWorking}
+use Rattle.rayon_machine_orders.proofs.Words.{PickVictim, StealFrom, YieldPop, YieldPick, YieldSteal, LocalPop, Run, RaiseCount, GrowCall, GrowScope, OpenSlot, CloseSlot, LookQueue, PushJob, AddToFifo, PushToken, TakeFromFifo, RaiseForAll, PushForAll, LowerForAll, TakeResult, FirstSide}
+use Rattle.rayon_machine_orders.proofs.Words.{SecondSide, ScopeBody, AtOnce, JoinProbe, Free, Stopped, LookForToken, GrowCast, CloseForAll, DealPieces, OpenForAll, Event, Go, From, Refuse, Miss, End, Spawn, Fifo, Cast, Install, Join, OpenScope, IntoSpawn, Yield, YieldLocal, EndPool, IntoFifo}
+use Rattle.rayon_machine_orders.proofs.Words.{IntoCast, Broadcast, Over, Running, Job, Call, Slot, Closed, IsOpen, Filled, own_pool, is_member, undo, after_push, next_steal, next_yield, goes_on, is_free, fresh, holds_scope, plan_job, withdraw, end_cast, count_book, count_kind, plan_count, Shape}
+use Rattle.rayon_machine_orders.proofs.Words.{Stack, World, at_job, put, put_stack, put_pieces, is_piece, with_stack, after_choice, after_refusal, can_miss, after_miss, after_resume, after_close, after_end, after_call, is_pool, new_job, new_piece, new_call, after_spawn, after_feed, after_fifo}
+use Rattle.rayon_machine_orders.proofs.Words.{after_cast, after_send, after_install, after_join, after_scope, holds, holds_in, after_yield, after_end_pool, step, after_gather, new_whole, after_enter, after_broadcast, after_deal, after_enter_fifo, new_gathering, start, first_place, IsRun, one}
+use Rattle.rayon_machine_orders.proofs.Words.{run_of, runs_in, ScopeEnded, is_scoped, is_of_scope, is_busy, slot_number, Count, Scope, Feeding}
+use Rattle.rayon_machine_places.specs.Steps.{after_enter_cast}
 use Rattle.rayon_machine_laws.proofs.Frame.{either, if_some_and, if_some_map, if_cond, and_parts, put_same, put_new, put_old, stack_mine, stack_other, piece_old, piece_out, piece_in, piece_new}
 use Rattle.rayon_machine_laws.proofs.Ties.{AllFrames, outcome, result}
 use Rattle.rayon_machine_laws.proofs.Seats.{is_frame}
@@ -51,9 +27,10 @@ use Rattle.rayon_machine_laws.proofs.Scoping.{ScopesHold, CountOver, count_over}
 use Rattle.rayon_machine_laws.proofs.Spawned.{below_counts}
 use Rattle.rayon_machine_laws.proofs.ShareSteps.{Ready, self_one, plan_made}
 use Rattle.rayon_machine_laws.proofs.ShareEvents.{ready}
-use Rattle.rayon_machine_orders.specs.Books.{slot_number, InBook, BookDone, IsBooked, IsCast, Undoes, UndoesAll}
+use Rattle.rayon_machine_orders.specs.Books.{InBook, BookDone, IsBooked, IsCast, Undoes, UndoesAll}
 use Rattle.rayon_machine_orders.proofs.Takes.{seen_set, number_is}
-use Rattle.rayon_machine_orders.proofs.CallSteps.{mover, is_act, go_all}
+use Rattle.rayon_machine_orders.proofs.CallSteps.{mover, go_all}
+use Rattle.rayon_machine_orders.proofs.EventCases.{is_act}
 use Rattle.rayon_machine_orders.proofs.CallEvents.{whole}
 use Rattle.rayon_machine_orders.proofs.EarlyActs.{Stays, all_stays, go_early}
 use Rattle.rayon_machine_orders.proofs.EarlyStates.{EarlyHold}
@@ -63,13 +40,11 @@ use Rattle.rayon_machine_orders.proofs.Books.{is_unfilled, writes, AtBook, Books
 use Rattle.rayon_machine_orders.proofs.BookMoves.{steal_free, yield_free, undo_free}
 use Rattle.rayon_machine_orders.proofs.BookActs.{Acts, close_of}
 use Rattle.rayon_machine_orders.proofs.BookTouches.{act_books}
-use Rattle.rayon_machine_orders.proofs.BookStates.{open_state, hold_state, fresh_state, holds_book, shut_state, fresh_all, grow_state, book_of, none_holds, close_all, open_all, free_raising, close_state, scope_count, hold_all, plan_scoped, BookState, is_nothing, slot_says, at_kept, shut_all, none_all_holds, line_state}
-use Rattle.rayon_machine_places.specs.declared.place.Count.{Count}
+use Rattle.rayon_machine_orders.proofs.BookStates.{open_state, hold_state, fresh_state, holds_book, shut_state, fresh_all, grow_state, book_of, none_holds, close_all, open_all, free_raising, close_state, scope_count, hold_all, plan_scoped, BookState, is_nothing, slot_says, at_kept, shut_all}
+use Rattle.rayon_machine_orders.proofs.BookStates.{none_all_holds, line_state}
 use Rattle.rayon_machine_laws.proofs.Feeders.{FeedersHold, go_feeders}
 use Rattle.rayon_machine_laws.proofs.FeederEvents.{first_feeders, step_feeders}
 use Rattle.rayon_machine_orders.proofs.BookMoves.{plan_book_is}
-use Rattle.rayon_machine_places.specs.declared.state.Scope.{Scope}
-use Rattle.rayon_machine_places.specs.declared.place.Feeding.{Feeding}
 
 -- what an event that is no act leaves of the jobs that were there, and what a new one is
 pub record OldJob (j i : Job) : Type 0 where
@@ -87,7 +62,8 @@ NewJob w u t = ((u.job t).slot ≡ Closed) × (t + 1 ≤ u.jobs → is_busy (u.j
 abbrev NewCall : World → ℕ → Type 0
 NewCall u c = ((u.call c).writer ≡ None) × (((u.call c).slots ≡ 0) ⊎ ((c + 1 ≤ u.calls) × IsCast u c))
 
-event_quiet : (w u : World) (q : Party) (k : Stack) → ((r : Party) → u.stack r ≡ put_stack w.stack q k r) → w.jobs ≤ u.jobs → w.calls ≤ u.calls → ((t : ℕ) → t + 1 ≤ w.jobs → OldJob (w.job t) (u.job t)) → ((t : ℕ) → w.jobs ≤ t → NewJob w u t) → ((c : ℕ) → c + 1 ≤ w.calls → u.call c ≡ w.call c) → ((c : ℕ) → w.calls ≤ c → NewCall u c) → AtBook u q k.top → ((c : ℕ) → writes (w.stack q).top ≡ Some c → writes k.top ≡ Some c) → ((c : ℕ) → raising k.top ≡ Some c → holds_in c k.below ≡ true) → Quiet w u q
+event_quiet : (w u : World) (q : Party) (k : Stack) → ((r : Party) → u.stack r ≡ put_stack w.stack q k r) → w.jobs ≤ u.jobs → w.calls ≤ u.calls → ((t : ℕ) → t + 1 ≤ w.jobs → OldJob (w.job t) (u.job t)) → ((t : ℕ) → w.jobs ≤ t → NewJob w u t)
+    → ((c : ℕ) → c + 1 ≤ w.calls → u.call c ≡ w.call c) → ((c : ℕ) → w.calls ≤ c → NewCall u c) → AtBook u q k.top → ((c : ℕ) → writes (w.stack q).top ≡ Some c → writes k.top ≡ Some c) → ((c : ℕ) → raising k.top ≡ Some c → holds_in c k.below ≡ true) → Quiet w u q
 event_quiet w u q k s a b old new same fresh top wrote enters = record {
   jobs = a;
   calls = b;
@@ -107,12 +83,14 @@ event_quiet w u q k s a b old new same fresh top wrote enters = record {
 }
 
 -- where no job and no call is new
-stack_quiet : (w u : World) (q : Party) (k : Stack) → BooksHold w → ((r : Party) → u.stack r ≡ put_stack w.stack q k r) → u.jobs ≡ w.jobs → u.calls ≡ w.calls → ((t : ℕ) → OldJob (w.job t) (u.job t)) → ((c : ℕ) → u.call c ≡ w.call c) → AtBook u q k.top → ((c : ℕ) → writes (w.stack q).top ≡ Some c → writes k.top ≡ Some c) → ((c : ℕ) → raising k.top ≡ Some c → holds_in c k.below ≡ true) → Quiet w u q
+stack_quiet : (w u : World) (q : Party) (k : Stack) → BooksHold w → ((r : Party) → u.stack r ≡ put_stack w.stack q k r) → u.jobs ≡ w.jobs → u.calls ≡ w.calls → ((t : ℕ) → OldJob (w.job t) (u.job t)) → ((c : ℕ) → u.call c ≡ w.call c) → AtBook u q k.top
+    → ((c : ℕ) → writes (w.stack q).top ≡ Some c → writes k.top ≡ Some c) → ((c : ℕ) → raising k.top ≡ Some c → holds_in c k.below ≡ true) → Quiet w u q
 stack_quiet w u q k h s a b old same top wrote enters = event_quiet w u q k s (omega (arith, a)) (omega (arith, b)) (λ t l. old t)
     (λ t l. ((old t).slot ∙ h.unmade t l, λ m. absurd (omega (arith, a, l, m)))) (λ c l. same c) (λ c l. (ap (λ v. v.writer) (same c) ∙ (h.uncalled c l).0, inl (ap (λ v. v.slots) (same c) ∙ (h.uncalled c l).1))) top wrote enters
 
 -- from a place to another
-place_quiet : (w : World) (q : Party) (x y : Place) (fs : List Place) → w.stack q ≡ record { top = x; below = fs } → BooksHold w → AtBook (with_stack w q (record { top = y; below = fs })) q y → ((c : ℕ) → writes x ≡ Some c → writes y ≡ Some c) → ((c : ℕ) → raising y ≡ Some c → raising x ≡ Some c) → Quiet w (with_stack w q (record { top = y; below = fs })) q
+place_quiet : (w : World) (q : Party) (x y : Place) (fs : List Place) → w.stack q ≡ record { top = x; below = fs } → BooksHold w → AtBook (with_stack w q (record { top = y; below = fs })) q y → ((c : ℕ) → writes x ≡ Some c → writes y ≡ Some c)
+    → ((c : ℕ) → raising y ≡ Some c → raising x ≡ Some c) → Quiet w (with_stack w q (record { top = y; below = fs })) q
 place_quiet w q x y fs z h top wrote enters = stack_quiet w (with_stack w q (record { top = y; below = fs })) q (record { top = y; below = fs }) h (λ r. refl) refl refl (λ t. same_job (w.job t) (w.job t) refl) (λ c. refl) top
     (λ c e. wrote c (ap (λ s. writes (s.top)) (sym z) ∙ e)) (λ c i. ap (λ s. holds_in c (s.below)) (sym z) ∙ h.enters q c (ap (λ s. raising (s.top)) z ∙ enters c i))
 
@@ -128,34 +106,28 @@ from_book w q _ fs v z h = tt
 miss_book : (w : World) (q : Party) (x : Place) (fs : List Place) → w.stack q ≡ record { top = x; below = fs } → BooksHold w → IfSome (after_miss w q (record { top = x; below = fs }) x) (λ u. Quiet w u q)
 miss_book w (Worker a b) (StealFrom k n) fs z h = if_cond (λ u. Quiet w u (Worker a b)) (can_miss w a k.victim) _ (λ y. turn_quiet w (Worker a b) (StealFrom k n) (next_steal (w.shape.pool a) (Worker a b) k n) fs z h refl (steal_free (w.shape.pool a) (Worker a b) k n))
 miss_book w (Worker a b) (YieldSteal v n) fs z h = if_cond (λ u. Quiet w u (Worker a b)) (can_miss w a v) _ (λ y. turn_quiet w (Worker a b) (YieldSteal v n) (next_yield (w.shape.pool a) (Worker a b) v n) fs z h refl (yield_free (w.shape.pool a) (Worker a b) v n))
-miss_book w (Worker a b) _ fs z h = tt
-miss_book w (Caller n) _ fs z h = tt
+miss_book w _ _ fs z h = tt
 
 -- a refusal
 grow_at : (w : World) (q : Party) (k : Count) → AtState w q (grow_state k) → is_nothing (grow_state k) ≡ true
-grow_at w q (OfPool p) y = refl
 grow_at w q (OfScope c o) y = absurd y
-grow_at w q (OfCast c o) y = refl
+grow_at w q _ y = refl
 
 open_shut : (w : World) (q : Party) (k : Count) (t : ℕ) → AtState w q (open_state k t) → AtState w q (shut_state k t)
 open_shut w q (OfScope c o) t y = ap is_unfilled y
-open_shut w q (OfPool p) t y = absurd y
-open_shut w q (OfCast c o) t y = absurd y
+open_shut w q _ t y = absurd y
 
 open_shut_all : (w : World) (q : Party) (k : Count) (b : Pieces) → AtState w q (open_all k b) → AtState w q (shut_all k b)
 open_shut_all w q (OfScope c o) b y = λ t e. ap is_unfilled (y t e)
-open_shut_all w q (OfPool p) b y = absurd y
-open_shut_all w q (OfCast c o) b y = absurd y
+open_shut_all w q _ b y = absurd y
 
 open_holds : (k : Count) (t c : ℕ) → holds_book (open_state k t) ≡ Some c → ⊥
 open_holds (OfScope d o) t c y = cc
-open_holds (OfPool p) t c y = cc
-open_holds (OfCast d o) t c y = cc
+open_holds _ t c y = cc
 
 open_holds_all : (k : Count) (b : Pieces) (c : ℕ) → holds_book (open_all k b) ≡ Some c → ⊥
 open_holds_all (OfScope d o) b c y = cc
-open_holds_all (OfPool p) b c y = cc
-open_holds_all (OfCast d o) b c y = cc
+open_holds_all _ b c y = cc
 
 ended_of : (u : World) (q : Party) (k : Count) (b : Pieces) → b.count ≡ k → AtState u q (hold_all k b) → AtState u q (book_of (end_cast k b)) × ((holds_book (hold_all k b) ≡ writes (end_cast k b)) × ((d : ℕ) → raising (end_cast k b) ≡ Some d → scope_count b.count ≡ Some d))
 ended_of u q (OfPool p) b e y = (subst (λ c. AtState u q (shut_all c b)) (sym e) tt, (ap (λ c. holds_book (shut_all c b)) (sym e), λ d i. absurd (cc)))
@@ -177,12 +149,17 @@ refuse_book w q (GrowCall n) fs z h = turn_quiet w q (GrowCall n) (undo n) fs z 
 refuse_book w q (GrowScope o) fs z h = turn_quiet w q (GrowScope o) (undo (Open o)) fs z h refl refl
 refuse_book w q (GrowCast g) fs z h = turn_quiet w q (GrowCast g) (undo (Gather g)) fs z h refl refl
 refuse_book w q (DealPieces g) fs z h = turn_quiet w q (DealPieces g) (undo (Gather g)) fs z h refl refl
-refuse_book w q (OpenSlot n) fs z h = place_quiet w q (OpenSlot n) (undo n) fs z h (moved_at w q (record { top = undo n; below = fs }) (shut_state (plan_count n) (plan_job n)) (open_shut w q (plan_count n) (plan_job n) (here w q (OpenSlot n) fs z h))) (λ c y. absurd (open_holds (plan_count n) (plan_job n) c y)) (λ c i. absurd (cc))
-refuse_book w q (PushJob n v) fs z h = place_quiet w q (PushJob n v) (after_push n) fs z h (moved_at w q (record { top = after_push n; below = fs }) (book_of (after_push n)) ((unpushed w q n (here w q (PushJob n v) fs z h)).0)) (λ c y. sym ((unpushed w q n (here w q (PushJob n v) fs z h)).1.0) ∙ y) (λ c i. absurd ((unpushed w q n (here w q (PushJob n v) fs z h)).1.1 c i))
-refuse_book w q (AddToFifo f) fs z h = place_quiet w q (AddToFifo f) (after_push (Feed f)) fs z h (moved_at w q (record { top = after_push (Feed f); below = fs }) (book_of (after_push (Feed f))) ((unpushed w q (Feed f) (here w q (AddToFifo f) fs z h)).0)) (λ c y. sym ((unpushed w q (Feed f) (here w q (AddToFifo f) fs z h)).1.0) ∙ y) (λ c i. absurd ((unpushed w q (Feed f) (here w q (AddToFifo f) fs z h)).1.1 c i))
+refuse_book w q (OpenSlot n) fs z h = place_quiet w q (OpenSlot n) (undo n) fs z h (moved_at w q (record { top = undo n; below = fs }) (shut_state (plan_count n) (plan_job n)) (open_shut w q (plan_count n) (plan_job n) (here w q (OpenSlot n) fs z h)))
+    (λ c y. absurd (open_holds (plan_count n) (plan_job n) c y)) (λ c i. absurd (cc))
+refuse_book w q (PushJob n v) fs z h = place_quiet w q (PushJob n v) (after_push n) fs z h (moved_at w q (record { top = after_push n; below = fs }) (book_of (after_push n)) ((unpushed w q n (here w q (PushJob n v) fs z h)).0))
+    (λ c y. sym ((unpushed w q n (here w q (PushJob n v) fs z h)).1.0) ∙ y) (λ c i. absurd ((unpushed w q n (here w q (PushJob n v) fs z h)).1.1 c i))
+refuse_book w q (AddToFifo f) fs z h = place_quiet w q (AddToFifo f) (after_push (Feed f)) fs z h (moved_at w q (record { top = after_push (Feed f); below = fs }) (book_of (after_push (Feed f))) ((unpushed w q (Feed f) (here w q (AddToFifo f) fs z h)).0))
+    (λ c y. sym ((unpushed w q (Feed f) (here w q (AddToFifo f) fs z h)).1.0) ∙ y) (λ c i. absurd ((unpushed w q (Feed f) (here w q (AddToFifo f) fs z h)).1.1 c i))
 refuse_book w q (PushToken f v) fs z h = place_quiet w q (PushToken f v) (TakeFromFifo f) fs z h (moved_at w q (record { top = TakeFromFifo f; below = fs }) (line_state f.count f.job) (here w q (PushToken f v) fs z h)) (λ c y. y) (λ c i. absurd (cc))
-refuse_book w q (OpenForAll b) fs z h = place_quiet w q (OpenForAll b) (LowerForAll b) fs z h (moved_at w q (record { top = LowerForAll b; below = fs }) (shut_all b.count b) (open_shut_all w q b.count b (here w q (OpenForAll b) fs z h))) (λ c y. absurd (open_holds_all b.count b c y)) (λ c i. absurd (cc))
-refuse_book w q (PushForAll b) fs z h = place_quiet w q (PushForAll b) (end_cast b.count b) fs z h (moved_at w q (record { top = end_cast b.count b; below = fs }) (book_of (end_cast b.count b)) ((ended_of w q b.count b refl (here w q (PushForAll b) fs z h)).0)) (λ c y. sym ((ended_of w q b.count b refl (here w q (PushForAll b) fs z h)).1.0) ∙ y) (λ c i. (ended_of w q b.count b refl (here w q (PushForAll b) fs z h)).1.1 c i)
+refuse_book w q (OpenForAll b) fs z h = place_quiet w q (OpenForAll b) (LowerForAll b) fs z h (moved_at w q (record { top = LowerForAll b; below = fs }) (shut_all b.count b) (open_shut_all w q b.count b (here w q (OpenForAll b) fs z h))) (λ c y. absurd (open_holds_all b.count b c y))
+    (λ c i. absurd (cc))
+refuse_book w q (PushForAll b) fs z h = place_quiet w q (PushForAll b) (end_cast b.count b) fs z h (moved_at w q (record { top = end_cast b.count b; below = fs }) (book_of (end_cast b.count b)) ((ended_of w q b.count b refl (here w q (PushForAll b) fs z h)).0))
+    (λ c y. sym ((ended_of w q b.count b refl (here w q (PushForAll b) fs z h)).1.0) ∙ y) (λ c i. (ended_of w q b.count b refl (here w q (PushForAll b) fs z h)).1.1 c i)
 refuse_book w q _ fs z h = tt
 
 -- the end of a run
@@ -207,17 +184,15 @@ run_writes : (w : World) (q : Party) (t : ℕ) (k : JobKind) (fs : List Place) (
 run_writes w q t k fs c z y = let a : writes (w.stack q).top ≡ None = ap (λ s. writes (s.top)) z in let b : Some c ≡ None = sym y ∙ a in cc
 
 closed_raises : (t : ℕ) (k : JobKind) (d : Ending) (fs : List Place) (e : ℕ) → AllFrames fs → raising ((after_close t k d fs).top) ≡ Some e → ⊥
-closed_raises t (Detached p) d fs e a i = cc
-closed_raises t (Stored c o) d fs e a i = cc
-closed_raises t (Scoped c o) d fs e a i = cc
-closed_raises t (PieceOf c o) d fs e a i = cc
 closed_raises t Direct d fs e a i = free_raising ((after_resume fs d).top) e (resumed_clear fs d a) i
 closed_raises t (TokenOf n b) d fs e a i = free_raising ((after_resume fs d).top) e (resumed_clear fs d a) i
 closed_raises t (BodyOf c o) d fs e a i = free_raising ((after_resume fs d).top) e (resumed_clear fs d a) i
 closed_raises t (WholeOf c o) d fs e a i = free_raising ((after_resume fs d).top) e (resumed_clear fs d a) i
+closed_raises t _ d fs e a i = cc
 
 end_book : (w : World) (q : Party) (d : Ending) (x : Place) (fs : List Place) → w.stack q ≡ record { top = x; below = fs } → BooksHold w → AllFrames fs → IfSome (after_end w q d (record { top = x; below = fs }) x) (λ u. Quiet w u q)
-end_book w q d (Run t k) fs z h a = stack_quiet w (record w { stack = put_stack w.stack q (after_close t k d fs); job = put w.job t (at_job (w.job t) (Over d)) }) q (after_close t k d fs) h (λ r. refl) refl refl old (λ c. refl) (closed k (top_says w q (Run t k) fs calls z)) (λ c y. absurd (run_writes w q t k fs c z y)) (λ e i. absurd (closed_raises t k d fs e a i))
+end_book w q d (Run t k) fs z h a = stack_quiet w (record w { stack = put_stack w.stack q (after_close t k d fs); job = put w.job t (at_job (w.job t) (Over d)) }) q (after_close t k d fs) h (λ r. refl) refl refl old (λ c. refl) (closed k (top_says w q (Run t k) fs calls z))
+    (λ c y. absurd (run_writes w q t k fs c z y)) (λ e i. absurd (closed_raises t k d fs e a i))
   where
     calls : CallsHold w
     calls = (((h.early).fills).hold).calls
@@ -238,17 +213,16 @@ end_book w q d (Run t k) fs z h a = stack_quiet w (record w { stack = put_stack 
         by false e = e
 
     running : (w.job t).at ≡ Running q
-    running = (at_work ((w.job t).at) ((w.job t).runs) q (where_is (Work q) (loc_at (w.job t)) (let a : worked t (w.stack q) ≡ is_loc (Work q) (loc_at (w.job t)) = (((calls).jobs).ok).placed (Work q) t in let b : worked t (w.stack q) ≡ (one (t == t) + runs_in t fs) = ap (worked t) z in let c : one (t == t) ≡ 1 = self_one t in omega (arith, a, b, c)))).1
+    running = (at_work ((w.job t).at) ((w.job t).runs) q
+        (where_is (Work q) (loc_at (w.job t)) (let a : worked t (w.stack q) ≡ is_loc (Work q) (loc_at (w.job t)) = (((calls).jobs).ok).placed (Work q) t in let b : worked t (w.stack q) ≡ (one (t == t) + runs_in t fs) = ap (worked t) z in let c : one (t == t) ≡ 1 = self_one t in
+        omega (arith, a, b, c)))).1
 
     closed : (k : JobKind) → SaysRun w t k → AtBook (record w { stack = put_stack w.stack q (after_close t k d fs); job = J }) q ((after_close t k d fs).top)
     closed (Detached p) s = tt
     closed (Stored c o) s = tt
     closed (Scoped c o) s = ap (λ j. is_unfilled (j.slot)) (put_new w.job t (at_job (w.job t) (Over d))) ∙ h.busy t (s.0) c o (s.1) (ap is_busy running)
-    closed Direct s = free_at _ q ((after_resume fs d).top) (resumed_clear fs d a)
     closed (PieceOf c o) s = tt
-    closed (TokenOf i b) s = free_at _ q ((after_resume fs d).top) (resumed_clear fs d a)
-    closed (WholeOf c o) s = free_at _ q ((after_resume fs d).top) (resumed_clear fs d a)
-    closed (BodyOf c o) s = free_at _ q ((after_resume fs d).top) (resumed_clear fs d a)
+    closed _ s = free_at _ q ((after_resume fs d).top) (resumed_clear fs d a)
 end_book w q d _ fs z h a = tt
 
 -- a call that begins
@@ -262,13 +236,11 @@ place_writes x c f y = free_writes x c (place_free x f) y
 
 fresh_is : (u : World) (q : Party) (k : Count) (t : ℕ) → (u.job t).slot ≡ Closed → AtState u q (fresh_state k t)
 fresh_is u q (OfScope c o) t e = e
-fresh_is u q (OfPool p) t e = tt
-fresh_is u q (OfCast c o) t e = tt
+fresh_is u q _ t e = tt
 
 fresh_all_is : (u : World) (q : Party) (k : Count) (b : Pieces) → ((t : ℕ) → is_piece b t ≡ true → (u.job t).slot ≡ Closed) → AtState u q (fresh_all k b)
 fresh_all_is u q (OfScope c o) b e = e
-fresh_all_is u q (OfPool p) b e = tt
-fresh_all_is u q (OfCast c o) b e = tt
+fresh_all_is u q _ b e = tt
 
 old_job : (w : World) (v : Job) (t : ℕ) → t + 1 ≤ w.jobs → put w.job w.jobs v t ≡ w.job t
 old_job w v t l = put_old w.job w.jobs v t (below_new t w.jobs l)
@@ -283,7 +255,8 @@ one_new w h v s b t l = by (t == w.jobs) refl
     by true e = (s, λ m. b)
     by false e = (h.unmade t l, λ m. absurd (let i : (t == w.jobs) ≡ true = eq-eqb t w.jobs (omega (arith, l, m)) in cc))
 
-two_new : (w : World) → BooksHold w → (v x : Job) → v.slot ≡ Closed → is_busy v.at ≡ false → x.slot ≡ Closed → is_busy x.at ≡ false → (t : ℕ) → w.jobs ≤ t → ((put (put w.job w.jobs v) (w.jobs + 1) x t).slot ≡ Closed) × (t + 1 ≤ w.jobs + 2 → is_busy (put (put w.job w.jobs v) (w.jobs + 1) x t).at ≡ false)
+two_new : (w : World) → BooksHold w → (v x : Job) → v.slot ≡ Closed → is_busy v.at ≡ false → x.slot ≡ Closed → is_busy x.at ≡ false → (t : ℕ) → w.jobs ≤ t → ((put (put w.job w.jobs v) (w.jobs + 1) x t).slot ≡ Closed)
+    × (t + 1 ≤ w.jobs + 2 → is_busy (put (put w.job w.jobs v) (w.jobs + 1) x t).at ≡ false)
 two_new w h v x s b r d t l = by (t == (w.jobs + 1)) (t == w.jobs) refl refl
   where
     by : (z y : Bool) → (t == (w.jobs + 1)) ≡ z → (t == w.jobs) ≡ y → ((if z then x else (if y then v else w.job t)).slot ≡ Closed) × (t + 1 ≤ w.jobs + 2 → is_busy (if z then x else (if y then v else w.job t)).at ≡ false)
@@ -312,11 +285,14 @@ new_writer w h f n c l = by (c == w.calls)
     by false = h.uncalled c l
 
 -- with no new call
-begin_quiet : (w u : World) (q : Party) (y : Place) → BooksHold w → is_free (w.stack q).top ≡ true → ((r : Party) → u.stack r ≡ put_stack w.stack q (after_call (w.stack q) y) r) → w.jobs ≤ u.jobs → u.calls ≡ w.calls → ((t : ℕ) → t + 1 ≤ w.jobs → u.job t ≡ w.job t) → ((t : ℕ) → w.jobs ≤ t → NewJob w u t) → ((c : ℕ) → u.call c ≡ w.call c) → AtBook u q y → ((c : ℕ) → raising y ≡ Some c → holds_in c (whole (w.stack q)) ≡ true) → Quiet w u q
-begin_quiet w u q y h f s a b old new same top enters = event_quiet w u q (after_call (w.stack q) y) s a (omega (arith, b)) (λ t l. same_job (w.job t) (u.job t) (old t l)) new (λ c l. same c) (λ c l. (ap (λ v. v.writer) (same c) ∙ (h.uncalled c l).0, inl (ap (λ v. v.slots) (same c) ∙ (h.uncalled c l).1))) top (λ c e. absurd (place_writes ((w.stack q).top) c f e)) enters
+begin_quiet : (w u : World) (q : Party) (y : Place) → BooksHold w → is_free (w.stack q).top ≡ true → ((r : Party) → u.stack r ≡ put_stack w.stack q (after_call (w.stack q) y) r) → w.jobs ≤ u.jobs → u.calls ≡ w.calls → ((t : ℕ) → t + 1 ≤ w.jobs → u.job t ≡ w.job t)
+    → ((t : ℕ) → w.jobs ≤ t → NewJob w u t) → ((c : ℕ) → u.call c ≡ w.call c) → AtBook u q y → ((c : ℕ) → raising y ≡ Some c → holds_in c (whole (w.stack q)) ≡ true) → Quiet w u q
+begin_quiet w u q y h f s a b old new same top enters = event_quiet w u q (after_call (w.stack q) y) s a (omega (arith, b)) (λ t l. same_job (w.job t) (u.job t) (old t l)) new (λ c l. same c)
+    (λ c l. (ap (λ v. v.writer) (same c) ∙ (h.uncalled c l).0, inl (ap (λ v. v.slots) (same c) ∙ (h.uncalled c l).1))) top (λ c e. absurd (place_writes ((w.stack q).top) c f e)) enters
 
 spawn_book : (w : World) (q : Party) (p : ℕ) → BooksHold w → IfSome (after_spawn w q p (w.stack q)) (λ u. Quiet w u q)
-spawn_book w q p h = if_cond (λ u. Quiet w u q) (is_free ((w.stack q).top) && is_pool w.shape p) _ (λ b. begin_quiet w _ q (RaiseCount (Detach p w.jobs)) h ((and_parts (is_free ((w.stack q).top)) (is_pool w.shape p) b).0) (λ r. refl) (omega arith) refl (old_job w (new_job q p (Detached p))) (one_new w h (new_job q p (Detached p)) refl refl) (λ c. refl) tt (λ c i. absurd (cc)))
+spawn_book w q p h = if_cond (λ u. Quiet w u q) (is_free ((w.stack q).top) && is_pool w.shape p) _
+    (λ b. begin_quiet w _ q (RaiseCount (Detach p w.jobs)) h ((and_parts (is_free ((w.stack q).top)) (is_pool w.shape p) b).0) (λ r. refl) (omega arith) refl (old_job w (new_job q p (Detached p))) (one_new w h (new_job q p (Detached p)) refl refl) (λ c. refl) tt (λ c i. absurd (cc)))
 
 feed_quiet : (w : World) (k : Count) (p i : ℕ) → BooksHold w → is_free (w.stack (Worker p i)).top ≡ true → ((c : ℕ) → scope_count k ≡ Some c → holds_in c (whole (w.stack (Worker p i))) ≡ true) → Quiet w (after_feed w k p i (w.stack (Worker p i))) (Worker p i)
 feed_quiet w k p i h free held = begin_quiet w _ (Worker p i) (RaiseCount (Feed (record { count = k; pool = p; job = w.jobs; token = w.jobs + 1 }))) h free (λ r. refl) (omega arith) refl
@@ -348,12 +324,15 @@ cast_book : (w : World) (q : Party) (p : ℕ) → BooksHold w → IfSome (after_
 cast_book w q p h = if_cond (λ u. Quiet w u q) (is_free ((w.stack q).top) && is_pool w.shape p) _ (λ f. deal_quiet w q (OfPool p) p h ((and_parts (is_free ((w.stack q).top)) (is_pool w.shape p) f).0) (λ c e. absurd (cc)))
 
 -- with one
-open_quiet : (w u : World) (q : Party) (y : Place) (f : Option ℕ) (n : ℕ) → BooksHold w → is_free (w.stack q).top ≡ true → ((r : Party) → u.stack r ≡ put_stack w.stack q (after_call (w.stack q) y) r) → w.jobs ≤ u.jobs → u.calls ≡ w.calls + 1 → ((t : ℕ) → t + 1 ≤ w.jobs → u.job t ≡ w.job t) → ((t : ℕ) → w.jobs ≤ t → NewJob w u t) → ((c : ℕ) → u.call c ≡ put w.call w.calls (new_call f n) c) → AtBook u q y → ((c : ℕ) → raising y ≡ Some c → holds_in c (whole (w.stack q)) ≡ true) → Quiet w u q
-open_quiet w u q y f n h e s a b old new same top enters = event_quiet w u q (after_call (w.stack q) y) s a (omega (arith, b)) (λ t l. same_job (w.job t) (u.job t) (old t l)) new (λ c l. same c ∙ old_call w (new_call f n) c l) (λ c l. (ap (λ v. v.writer) (same c) ∙ (new_writer w h f n c l).0, inl (ap (λ v. v.slots) (same c) ∙ (new_writer w h f n c l).1))) top (λ c i. absurd (place_writes ((w.stack q).top) c e i)) enters
+open_quiet : (w u : World) (q : Party) (y : Place) (f : Option ℕ) (n : ℕ) → BooksHold w → is_free (w.stack q).top ≡ true → ((r : Party) → u.stack r ≡ put_stack w.stack q (after_call (w.stack q) y) r) → w.jobs ≤ u.jobs → u.calls ≡ w.calls + 1 → ((t : ℕ) → t + 1 ≤ w.jobs → u.job t ≡ w.job t)
+    → ((t : ℕ) → w.jobs ≤ t → NewJob w u t) → ((c : ℕ) → u.call c ≡ put w.call w.calls (new_call f n) c) → AtBook u q y → ((c : ℕ) → raising y ≡ Some c → holds_in c (whole (w.stack q)) ≡ true) → Quiet w u q
+open_quiet w u q y f n h e s a b old new same top enters = event_quiet w u q (after_call (w.stack q) y) s a (omega (arith, b)) (λ t l. same_job (w.job t) (u.job t) (old t l)) new (λ c l. same c ∙ old_call w (new_call f n) c l)
+    (λ c l. (ap (λ v. v.writer) (same c) ∙ (new_writer w h f n c l).0, inl (ap (λ v. v.slots) (same c) ∙ (new_writer w h f n c l).1))) top (λ c i. absurd (place_writes ((w.stack q).top) c e i)) enters
 
 sent_book : (w : World) (q : Party) (p : ℕ) (b : Bool) → BooksHold w → is_free ((w.stack q).top) ≡ true → Quiet w (after_send w q p (w.stack q) b) q
 sent_book w q p true h f = begin_quiet w _ q (RaiseCount (Here p w.jobs)) h f (λ r. refl) (omega arith) refl (old_job w (new_job q p Direct)) (one_new w h (new_job q p Direct) refl refl) (λ c. refl) tt (λ c i. absurd (cc))
-sent_book w q p false h f = open_quiet w _ q (RaiseCount (Send (record { number = w.calls; pool = p; job = w.jobs }))) None w.jobs h f (λ r. refl) (omega arith) refl (old_job w (new_job q p (Stored w.calls q))) (one_new w h (new_job q p (Stored w.calls q)) refl refl) (λ c. refl) tt (λ c i. absurd (cc))
+sent_book w q p false h f = open_quiet w _ q (RaiseCount (Send (record { number = w.calls; pool = p; job = w.jobs }))) None w.jobs h f (λ r. refl) (omega arith) refl (old_job w (new_job q p (Stored w.calls q))) (one_new w h (new_job q p (Stored w.calls q)) refl refl) (λ c. refl) tt
+    (λ c i. absurd (cc))
 
 install_book : (w : World) (q : Party) (p : ℕ) → BooksHold w → IfSome (after_install w q p (w.stack q)) (λ u. Quiet w u q)
 install_book w q p h = if_cond (λ u. Quiet w u q) (is_free ((w.stack q).top) && is_pool w.shape p) _ (λ e. sent_book w q p (is_member q p) h ((and_parts (is_free ((w.stack q).top)) (is_pool w.shape p) e).0))
@@ -365,15 +344,19 @@ join_book w (Worker p i) h = if_cond (λ u. Quiet w u (Worker p i)) (is_free ((w
 join_book w (Caller n) h = tt
 
 scope_book : (w : World) (q : Party) (p : ℕ) → BooksHold w → IfSome (after_scope w q p (w.stack q)) (λ u. Quiet w u q)
-scope_book w q p h = if_cond (λ u. Quiet w u q) (is_free ((w.stack q).top) && is_pool w.shape p) _ (λ b. open_quiet w _ q (RaiseCount (Open (record { number = w.calls; pool = p; job = w.jobs }))) None w.jobs h ((and_parts (is_free ((w.stack q).top)) (is_pool w.shape p) b).0) (λ r. refl) (omega arith) refl (old_job w (new_job q p (BodyOf w.calls q))) (one_new w h (new_job q p (BodyOf w.calls q)) refl refl) (λ c. refl) tt (λ c i. absurd (cc)))
+scope_book w q p h = if_cond (λ u. Quiet w u q) (is_free ((w.stack q).top) && is_pool w.shape p) _
+    (λ b. open_quiet w _ q (RaiseCount (Open (record { number = w.calls; pool = p; job = w.jobs }))) None w.jobs h ((and_parts (is_free ((w.stack q).top)) (is_pool w.shape p) b).0) (λ r. refl) (omega arith) refl (old_job w (new_job q p (BodyOf w.calls q)))
+    (one_new w h (new_job q p (BodyOf w.calls q)) refl refl) (λ c. refl) tt (λ c i. absurd (cc)))
 
 -- the calls into a scope: who makes one holds the scope
 held_on : (d : ℕ) (k : Stack) → holds d k ≡ true → (c : ℕ) → Some d ≡ Some c → holds_in c (whole k) ≡ true
 held_on d k y c i = subst (λ n. holds_in n (whole k) ≡ true) (number_is d c i) y
 
 enter_book : (w : World) (q : Party) (z : Scope) → BooksHold w → IfSome (after_enter w q (w.stack q) (Some z)) (λ u. Quiet w u q)
-enter_book w q z h = if_cond (λ u. Quiet w u q) (is_free ((w.stack q).top) && holds z.call (w.stack q)) _ (λ b. begin_quiet w _ q (RaiseCount (Enter (record { call = z.call; owner = z.owner; pool = z.pool; job = w.jobs }))) h ((and_parts (is_free ((w.stack q).top)) (holds z.call (w.stack q)) b).0) (λ r. refl) (omega arith) refl
-    (old_job w (new_job q z.pool (Scoped z.call z.owner))) (one_new w h (new_job q z.pool (Scoped z.call z.owner)) refl refl) (λ c. refl) (ap (λ j. j.slot) (put_new w.job w.jobs (new_job q z.pool (Scoped z.call z.owner)))) (held_on z.call (w.stack q) ((and_parts (is_free ((w.stack q).top)) (holds z.call (w.stack q)) b).1)))
+enter_book w q z h = if_cond (λ u. Quiet w u q) (is_free ((w.stack q).top) && holds z.call (w.stack q)) _
+    (λ b. begin_quiet w _ q (RaiseCount (Enter (record { call = z.call; owner = z.owner; pool = z.pool; job = w.jobs }))) h ((and_parts (is_free ((w.stack q).top)) (holds z.call (w.stack q)) b).0) (λ r. refl) (omega arith) refl
+    (old_job w (new_job q z.pool (Scoped z.call z.owner))) (one_new w h (new_job q z.pool (Scoped z.call z.owner)) refl refl) (λ c. refl) (ap (λ j. j.slot) (put_new w.job w.jobs (new_job q z.pool (Scoped z.call z.owner))))
+    (held_on z.call (w.stack q) ((and_parts (is_free ((w.stack q).top)) (holds z.call (w.stack q)) b).1)))
 
 into_book : (w : World) (q : Party) (s : Option Scope) → BooksHold w → IfSome (after_enter w q (w.stack q) s) (λ u. Quiet w u q)
 into_book w q None h = tt
@@ -385,15 +368,19 @@ into_fifo_book w (Caller c) (Some z) h = enter_book w (Caller c) z h
 into_fifo_book w (Worker r i) (Some z) h = by (r == z.pool) refl
   where
     fed : IfSome (if is_free ((w.stack (Worker z.pool i)).top) && holds z.call (w.stack (Worker z.pool i)) then Some (after_feed w (OfScope z.call z.owner) z.pool i (w.stack (Worker z.pool i))) else None) (λ u. Quiet w u (Worker z.pool i))
-    fed = if_cond (λ u. Quiet w u (Worker z.pool i)) (is_free ((w.stack (Worker z.pool i)).top) && holds z.call (w.stack (Worker z.pool i))) _ (λ b. feed_quiet w (OfScope z.call z.owner) z.pool i h ((and_parts (is_free ((w.stack (Worker z.pool i)).top)) (holds z.call (w.stack (Worker z.pool i))) b).0) (held_on z.call (w.stack (Worker z.pool i)) ((and_parts (is_free ((w.stack (Worker z.pool i)).top)) (holds z.call (w.stack (Worker z.pool i))) b).1)))
+    fed = if_cond (λ u. Quiet w u (Worker z.pool i)) (is_free ((w.stack (Worker z.pool i)).top) && holds z.call (w.stack (Worker z.pool i))) _
+        (λ b. feed_quiet w (OfScope z.call z.owner) z.pool i h ((and_parts (is_free ((w.stack (Worker z.pool i)).top)) (holds z.call (w.stack (Worker z.pool i))) b).0)
+        (held_on z.call (w.stack (Worker z.pool i)) ((and_parts (is_free ((w.stack (Worker z.pool i)).top)) (holds z.call (w.stack (Worker z.pool i))) b).1)))
 
-    by : (y : Bool) → (r == z.pool) ≡ y → IfSome (if y then (if is_free ((w.stack (Worker r i)).top) && holds z.call (w.stack (Worker r i)) then Some (after_feed w (OfScope z.call z.owner) z.pool i (w.stack (Worker r i))) else None) else after_enter w (Worker r i) (w.stack (Worker r i)) (Some z)) (λ u. Quiet w u (Worker r i))
+    by : (y : Bool) → (r == z.pool) ≡ y → IfSome (if y then (if is_free ((w.stack (Worker r i)).top) && holds z.call (w.stack (Worker r i)) then Some (after_feed w (OfScope z.call z.owner) z.pool i (w.stack (Worker r i))) else None) else after_enter w (Worker r i) (w.stack (Worker r i))
+        (Some z)) (λ u. Quiet w u (Worker r i))
     by true y = subst (λ n. IfSome (if is_free ((w.stack (Worker n i)).top) && holds z.call (w.stack (Worker n i)) then Some (after_feed w (OfScope z.call z.owner) z.pool i (w.stack (Worker n i))) else None) (λ u. Quiet w u (Worker n i))) (sym (eqb-true r z.pool y)) fed
     by false y = enter_book w (Worker r i) z h
 
 into_cast_book : (w : World) (q : Party) (s : Option Scope) → BooksHold w → IfSome (after_enter_cast w q (w.stack q) s) (λ u. Quiet w u q)
 into_cast_book w q None h = tt
-into_cast_book w q (Some z) h = if_cond (λ u. Quiet w u q) (is_free ((w.stack q).top) && holds z.call (w.stack q)) _ (λ b. deal_quiet w q (OfScope z.call z.owner) z.pool h ((and_parts (is_free ((w.stack q).top)) (holds z.call (w.stack q)) b).0) (held_on z.call (w.stack q) ((and_parts (is_free ((w.stack q).top)) (holds z.call (w.stack q)) b).1)))
+into_cast_book w q (Some z) h = if_cond (λ u. Quiet w u q) (is_free ((w.stack q).top) && holds z.call (w.stack q)) _
+    (λ b. deal_quiet w q (OfScope z.call z.owner) z.pool h ((and_parts (is_free ((w.stack q).top)) (holds z.call (w.stack q)) b).0) (held_on z.call (w.stack q) ((and_parts (is_free ((w.stack q).top)) (holds z.call (w.stack q)) b).1)))
 
 -- a broadcast that waits: its call's book has a number for each piece
 gather_quiet : (w : World) (q : Party) (p : ℕ) → BooksHold w → is_free (w.stack q).top ≡ true → Quiet w (after_gather w q p (w.stack q)) q
@@ -440,11 +427,14 @@ broadcast_book : (w : World) (q : Party) (p : ℕ) → BooksHold w → IfSome (a
 broadcast_book w q p h = if_cond (λ u. Quiet w u q) (is_free ((w.stack q).top) && is_pool w.shape p) _ (λ f. gather_quiet w q p h ((and_parts (is_free ((w.stack q).top)) (is_pool w.shape p) f).0))
 
 yield_book : (w : World) (q : Party) (x : Place) → book_free x ≡ true → BooksHold w → IfSome (after_yield w q (w.stack q) x) (λ u. Quiet w u q)
-yield_book w (Worker a b) x e h = if_cond (λ u. Quiet w u (Worker a b)) (is_free ((w.stack (Worker a b)).top)) _ (λ f. stack_quiet w _ (Worker a b) (after_call (w.stack (Worker a b)) x) h (λ r. refl) refl refl (λ t. same_job (w.job t) (w.job t) refl) (λ c. refl) (free_at _ (Worker a b) x e) (λ c i. absurd (place_writes ((w.stack (Worker a b)).top) c f i)) (λ c i. absurd (free_raising x c e i)))
+yield_book w (Worker a b) x e h = if_cond (λ u. Quiet w u (Worker a b)) (is_free ((w.stack (Worker a b)).top)) _
+    (λ f. stack_quiet w _ (Worker a b) (after_call (w.stack (Worker a b)) x) h (λ r. refl) refl refl (λ t. same_job (w.job t) (w.job t) refl) (λ c. refl) (free_at _ (Worker a b) x e) (λ c i. absurd (place_writes ((w.stack (Worker a b)).top) c f i)) (λ c i. absurd (free_raising x c e i)))
 yield_book w (Caller n) x e h = tt
 
 give_book : (w : World) (q : Party) (p : ℕ) → BooksHold w → IfSome (after_end_pool w q p (w.stack q)) (λ u. Quiet w u q)
-give_book w q p h = if_cond (λ u. Quiet w u q) (is_free ((w.stack q).top) && (is_pool w.shape p && (w.pool p).held)) _ (λ b. stack_quiet w _ q (after_call (w.stack q) (LowerCount (OfPool p) PoolValue Resume)) h (λ r. refl) refl refl (λ t. same_job (w.job t) (w.job t) refl) (λ c. refl) tt (λ c i. absurd (place_writes ((w.stack q).top) c ((and_parts (is_free ((w.stack q).top)) (is_pool w.shape p && (w.pool p).held) b).0) i)) (λ c i. absurd (cc)))
+give_book w q p h = if_cond (λ u. Quiet w u q) (is_free ((w.stack q).top) && (is_pool w.shape p && (w.pool p).held)) _
+    (λ b. stack_quiet w _ q (after_call (w.stack q) (LowerCount (OfPool p) PoolValue Resume)) h (λ r. refl) refl refl (λ t. same_job (w.job t) (w.job t) refl) (λ c. refl) tt
+    (λ c i. absurd (place_writes ((w.stack q).top) c ((and_parts (is_free ((w.stack q).top)) (is_pool w.shape p && (w.pool p).held) b).0) i)) (λ c i. absurd (cc)))
 
 -- each step keeps what holds of the books
 pub go_books : (w : World) (q : Party) → BooksHold w → IfSome (outcome w q (w.stack q)) (λ r. BooksHold (result w q (w.stack q) r))
@@ -457,7 +447,8 @@ go_books w q h =
     (if_some_and (Stays w q x fs) (Acts w q x fs) (outcome w q (w.stack q)) (all_stays w q (((h.early).fills).hold)) (act_books w q x fs refl h)))
 
 quiet_step : (w : World) (e : Event) (q : Party) → BooksHold w → IfSome (step w e) (λ u. Quiet w u q) → IfSome (step w e) BooksHold
-quiet_step w e q h b = if_some_map (λ u. (EarlyHold u × FeedersHold u) × Quiet w u q) BooksHold (λ u d. quiet_books w u q h ((d.0).0) ((d.0).1) (d.1)) (step w e) (if_some_and (λ u. EarlyHold u × FeedersHold u) (λ u. Quiet w u q) (step w e) (if_some_and EarlyHold FeedersHold (step w e) (step_early w e (h.early)) (step_feeders w e (h.feeders))) b)
+quiet_step w e q h b = if_some_map (λ u. (EarlyHold u × FeedersHold u) × Quiet w u q) BooksHold (λ u d. quiet_books w u q h ((d.0).0) ((d.0).1) (d.1)) (step w e)
+    (if_some_and (λ u. EarlyHold u × FeedersHold u) (λ u. Quiet w u q) (step w e) (if_some_and EarlyHold FeedersHold (step w e) (step_early w e (h.early)) (step_feeders w e (h.feeders))) b)
 
 pub event_books : (w : World) (e : Event) → is_act e ≡ false → BooksHold w → IfSome (step w e) (λ u. Quiet w u (mover e))
 event_books w (Go q) z h = absurd (let a : true ≡ false = z in cc)
@@ -531,29 +522,24 @@ abbrev Holder : World → Place → ℕ → Type 0
 Holder w x c = Writes w c ⊎ (raising x ≡ Some c)
 
 hold_writes : (w : World) (q : Party) (n : Plan) (c : ℕ) (k : Count) → plan_count n ≡ k → holds_book (hold_state k (plan_job n)) ≡ Some c → SaysPlan w q n → AtState w q (hold_state k (plan_job n)) → Writes w c
-hold_writes w q n c (OfPool p) e z s a = absurd (cc)
-hold_writes w q n c (OfCast d o) e z s a = absurd (cc)
 hold_writes w q n c (OfScope d o) e z s a = record { job = plan_job n; owner = o; made = (plan_made w q n s).0; kind = plan_scoped w q n d o s e ∙ ap (λ i. Scoped i o) (number_is d c z); slot = ap is_unfilled a.slot }
+hold_writes w q n c _ e z s a = absurd (cc)
 
 close_writes : (w : World) (q : Party) (n : Plan) (c : ℕ) (k : Count) → plan_count n ≡ k → holds_book (close_state k (plan_job n)) ≡ Some c → SaysPlan w q n → AtState w q (close_state k (plan_job n)) → Writes w c
-close_writes w q n c (OfPool p) e z s a = absurd (cc)
-close_writes w q n c (OfCast d o) e z s a = absurd (cc)
 close_writes w q n c (OfScope d o) e z s a = record { job = plan_job n; owner = o; made = (plan_made w q n s).0; kind = plan_scoped w q n d o s e ∙ ap (λ i. Scoped i o) (number_is d c z); slot = ap is_unfilled a.slot }
+close_writes w q n c _ e z s a = absurd (cc)
 
 line_of_writes : (w : World) (q : Party) (f : Feeding) (c : ℕ) (k : Count) → f.count ≡ k → holds_book (line_state k f.job) ≡ Some c → SaysPlan w q (Feed f) → AtState w q (line_state k f.job) → Writes w c
-line_of_writes w q f c (OfPool p) e z s a = absurd (cc)
-line_of_writes w q f c (OfCast d o) e z s a = absurd (cc)
 line_of_writes w q f c (OfScope d o) e z s a = record { job = f.job; owner = o; made = (plan_made w q (Feed f) s).0; kind = plan_scoped w q (Feed f) d o s e ∙ ap (λ i. Scoped i o) (number_is d c z); slot = ap is_unfilled (a.0).slot }
+line_of_writes w q f c _ e z s a = absurd (cc)
 
 hold_all_raises : (k : Count) (b : Pieces) (c : ℕ) → holds_book (hold_all k b) ≡ Some c → scope_count k ≡ Some c
 hold_all_raises (OfScope d o) b c z = z
-hold_all_raises (OfPool p) b c z = absurd (cc)
-hold_all_raises (OfCast d o) b c z = absurd (cc)
+hold_all_raises _ b c z = absurd (cc)
 
 close_all_raises : (k : Count) (b : Pieces) (c : ℕ) → holds_book (close_all k b) ≡ Some c → scope_count k ≡ Some c
 close_all_raises (OfScope d o) b c z = z
-close_all_raises (OfPool p) b c z = absurd (cc)
-close_all_raises (OfCast d o) b c z = absurd (cc)
+close_all_raises _ b c z = absurd (cc)
 
 writes_open : (w : World) (q : Party) (x : Place) (c : ℕ) → writes x ≡ Some c → Says w q x → AtBook w q x → Holder w x c
 writes_open w q (LookQueue n) c z s a = inl (hold_writes w q n c (plan_count n) refl z (queue_plan w q n s) a)
@@ -606,18 +592,15 @@ done_book w h c l z = record { count = z; writer = by ((w.call c).writer) refl; 
 -- who takes numbers back holds the book
 undo_is : (w : World) (q : Party) (k : Count) (t : ℕ) → AtState w q (close_state k t) → Undoes w q k t
 undo_is w q (OfScope c o) t y = y
-undo_is w q (OfPool p) t y = y
-undo_is w q (OfCast c o) t y = y
+undo_is w q _ t y = y
 
 undo_all_is : (w : World) (q : Party) (k : Count) (b : Pieces) → AtState w q (close_all k b) → UndoesAll w q k b
 undo_all_is w q (OfScope c o) b y = y
-undo_all_is w q (OfPool p) b y = y
-undo_all_is w q (OfCast c o) b y = y
+undo_all_is w q _ b y = y
 
 unfilled_book : (w : World) (c t : ℕ) → ((n : ℕ) → slot_number (w.job t).slot ≡ Some n → n + 1 ≤ (w.call c).slots) → (s : Slot) → (w.job t).slot ≡ s → is_unfilled s ≡ true → InBook w c t
-unfilled_book w c t f Closed e z = cc
 unfilled_book w c t f (IsOpen n) e z = record { number = n; slot = e; within = f n (ap slot_number e) }
-unfilled_book w c t f (Filled n) e z = cc
+unfilled_book w c t f _ e z = cc
 
 pub is_booked : (w : World) → BooksHold w → IsBooked w
 is_booked w h = record {

@@ -1,37 +1,13 @@
 -- which places say nothing of a book and lead to such places alone, and which moves change numbers of books
 use Rattle.std.proofs.Common.{refl, ◌∙◌, ap}
-use Rattle.std.specs.Prelude.{ℕ, Bool, true, false, ◌&&◌, ◌+◌, ◌-◌, ◌==◌, ◌≤◌, nat_lt, if◌then◌else◌, ◌≡◌}
-use Rattle.rayon_machine_places.specs.declared.place.Party.{Party}
-use Rattle.rayon_machine_places.specs.declared.place.Party.TheVariants.{Worker, Caller}
-use Rattle.rayon_machine_places.specs.declared.place.Target.{Target}
-use Rattle.rayon_machine_places.specs.declared.place.Target.TheVariants.{Termination, Answer}
-use Rattle.rayon_machine_places.specs.declared.place.Latch.{Latch}
-use Rattle.rayon_machine_places.specs.declared.place.Latch.TheVariants.{Terminate, OfCall}
-use Rattle.rayon_machine_places.specs.declared.place.Rounds.{Rounds}
-use Rattle.rayon_machine_places.specs.declared.place.Rounds.TheVariants.{Failed, Announced}
-use Rattle.rayon_machine_places.specs.declared.place.Plan.{Plan}
-use Rattle.rayon_machine_places.specs.declared.place.Plan.TheVariants.{Detach, Here, Send, Fork, Feed, Open, Enter, Gather}
-use Rattle.rayon_machine_places.specs.declared.place.Feeding.{Feeding}
-use Rattle.rayon_machine_places.specs.declared.place.Pieces.{Pieces}
-use Rattle.rayon_machine_places.specs.declared.place.Mark.TheVariants.{Numbered, Dealt, Unnumbered}
-use Rattle.rayon_machine_places.specs.declared.place.Count.{Count}
-use Rattle.rayon_machine_places.specs.declared.place.Count.TheVariants.{OfPool, OfScope, OfCast}
-use Rattle.rayon_machine_places.specs.declared.place.Share.{Share}
-use Rattle.rayon_machine_places.specs.declared.place.Then.{Then}
-use Rattle.rayon_machine_places.specs.declared.place.Then.TheVariants.{BeginFound, LeaveWait, Resume, Await, RunFirst, Answers, Missing, Ran, GiveBack, Called, Gathers}
-use Rattle.rayon_machine_places.specs.declared.place.Taken.{Taken}
-use Rattle.rayon_machine_places.specs.declared.place.Taken.TheVariants.{Plain, Token}
-use Rattle.rayon_machine_places.specs.declared.place.Wait.{Wait}
-use Rattle.rayon_machine_places.specs.declared.place.Settling.{Settling}
-use Rattle.rayon_machine_places.specs.declared.place.OpenCall.{OpenCall}
-use Rattle.rayon_machine_places.specs.declared.place.Place.{Place}
-use Rattle.rayon_machine_places.specs.declared.place.Place.TheVariants.{ProbeWorking, PopWorking, TakeCastWorking, ProbeIdle, PopIdle, TakeCastIdle, PickVictim, StealFrom, PopInjected, AnnounceSelf, GetSleepy, FallAsleep, LoadCounters, AddSleeping, LookAtCast, LookAtInjector, WakeUp, LeaveSearch, JoinProbe, JoinPop, JoinTakeCast, YieldPop, YieldTakeCast, YieldPick, YieldSteal, YieldPopInjected, LocalPop, LocalTakeCast, BeginTask, BeginHere, Run, RaiseCount, GrowCall, LookQueue, PushJob, TellNews, LockToWake, WakeWorker, UnlockWoken, TakeResult, LowerCount, StoreResult, SetLatch, UnlockSettled, SetLockLatch, FirstSide, SecondSide, AtOnce, Free, Stopped, AddToFifo, LookForToken, PushToken, TakeFromFifo, RaiseForAll, PushForAll, LowerForAll, GrowScope, OpenSlot, CloseSlot, StoreSlot, ScopeBody, OpenForAll, CloseForAll, GrowCast, DealPieces}
-use Rattle.rayon_machine_places.specs.declared.place.Move.{Move}
-use Rattle.rayon_machine_places.specs.declared.place.Move.TheVariants.{Stay, Enter, Mark}
-use Rattle.rayon_machine_places.specs.declared.act.Seen.{Seen}
-use Rattle.rayon_machine_places.specs.declared.act.Seen.TheVariants.{Done, Yes, Task, Jec, Word, Start, Wakes, Begun, Found, Handed}
-use Rattle.rayon_machine_places.specs.declared.shape.PoolShape.{PoolShape}
-use Rattle.rayon_machine_places.specs.Places.{own_pool, own_index, plan_pool, plan_job, plan_count, plan_book, after_wait, finish, walk, settle, after_set, after_found, after_news, after_raise, undo, after_push, set_call, settle_count, next_victim, not_self, after_failure, next_steal, next_yield, next_of, is_taken, taken_number, count_book, withdraw, begin_feed, begin_cast, end_cast, ends_count}
+use Rattle.rayon_machine_orders.proofs.Words.{ℕ, Bool, true, false, ◌&&◌, ◌+◌, ◌-◌, ◌==◌, ◌≤◌, nat_lt, if◌then◌else◌, ◌≡◌, Party, Worker, Caller, Target, Termination, Answer, Latch, Terminate, OfCall, Rounds, Failed, Announced, Plan, Detach, Here, Send, Fork, Feed, Open, Enter, Gather, Feeding}
+use Rattle.rayon_machine_orders.proofs.Words.{Pieces, Numbered, Dealt, Unnumbered, Count, OfPool, OfScope, OfCast, Share, Then, BeginFound, LeaveWait, Resume, Await, RunFirst, Answers, Missing, Ran, GiveBack, Called, Gathers, Taken, Plain, Token, Wait, Settling, OpenCall, Place, ProbeWorking}
+use Rattle.rayon_machine_orders.proofs.Words.{PopWorking, TakeCastWorking, ProbeIdle, PopIdle, TakeCastIdle, PickVictim, StealFrom, PopInjected, AnnounceSelf, GetSleepy, FallAsleep, LoadCounters, AddSleeping, LookAtCast, LookAtInjector, WakeUp, LeaveSearch, JoinProbe, JoinPop, JoinTakeCast}
+use Rattle.rayon_machine_orders.proofs.Words.{YieldPop, YieldTakeCast, YieldPick, YieldSteal, YieldPopInjected, LocalPop, LocalTakeCast, BeginTask, BeginHere, Run, RaiseCount, GrowCall, LookQueue, PushJob, TellNews, LockToWake, WakeWorker, UnlockWoken, TakeResult, LowerCount, StoreResult}
+use Rattle.rayon_machine_orders.proofs.Words.{SetLatch, UnlockSettled, SetLockLatch, FirstSide, SecondSide, AtOnce, Free, Stopped, AddToFifo, LookForToken, PushToken, TakeFromFifo, RaiseForAll, PushForAll, LowerForAll, GrowScope, OpenSlot, CloseSlot, StoreSlot, ScopeBody, OpenForAll}
+use Rattle.rayon_machine_orders.proofs.Words.{CloseForAll, GrowCast, DealPieces, Move, Stay, EnterAbove as Enter, Mark, Seen, Done, Yes, Task, Jec, Word, Start, Wakes, Begun, Found, Handed, PoolShape, own_pool, own_index, plan_pool, plan_job, plan_count, plan_book, after_wait, finish, walk}
+use Rattle.rayon_machine_orders.proofs.Words.{settle, after_set, after_found, after_news, after_raise, undo, after_push, set_call, settle_count, next_victim, not_self, after_failure, next_steal, next_yield, next_of, is_taken, taken_number, count_book, withdraw, begin_feed, begin_cast, end_cast}
+use Rattle.rayon_machine_orders.proofs.Words.{ends_count}
 use Rattle.rayon_machine_laws.proofs.Tops.{Tops}
 use Rattle.rayon_machine_laws.proofs.Seats.{is_frame}
 use Rattle.rayon_machine_orders.proofs.BookStates.{is_nothing, fresh_state, open_state, hold_state, line_state, close_state, shut_state, grow_state, fresh_all, open_all, hold_all, close_all, shut_all, book_free}
@@ -47,17 +23,12 @@ left_free (Answer o f) = refl
 finish_free : (q : Party) (n : Then) → Clear (finish q n)
 finish_free q (BeginFound g t) = refl
 finish_free q (LeaveWait g) = left_free g
-finish_free q Resume = tt
-finish_free q Called = tt
 finish_free (Worker a b) (Await o) = refl
 finish_free (Caller c) (Await o) = refl
 finish_free (Worker a b) (Gathers o) = refl
 finish_free (Caller c) (Gathers o) = refl
 finish_free q (RunFirst o a) = refl
-finish_free q (Answers o f e) = tt
-finish_free q (Missing o f) = tt
-finish_free q (Ran t e) = tt
-finish_free q (GiveBack n) = tt
+finish_free q _ = tt
 
 walk_free : (g : PoolShape) (q : Party) (p k i : ℕ) (n : Then) → Clear (walk g q p k i n)
 walk_free g q p k i n = by (nat_lt 0 k && nat_lt i g.workers)
@@ -125,39 +96,32 @@ lower_clear g q k a n _ = finish_free q n
 
 -- from one state to another, by the count
 grow_hold : (k : Count) (t : ℕ) → is_nothing (grow_state k) ≡ true → is_nothing (hold_state k t) ≡ true
-grow_hold (OfPool p) t z = refl
 grow_hold (OfScope c o) t z = cc
-grow_hold (OfCast c o) t z = refl
+grow_hold _ t z = refl
 
 grow_shut : (k : Count) (t : ℕ) → is_nothing (grow_state k) ≡ true → is_nothing (shut_state k t) ≡ true
-grow_shut (OfPool p) t z = refl
 grow_shut (OfScope c o) t z = cc
-grow_shut (OfCast c o) t z = refl
+grow_shut _ t z = refl
 
 hold_line : (k : Count) (t : ℕ) → is_nothing (hold_state k t) ≡ true → is_nothing (line_state k t) ≡ true
-hold_line (OfPool p) t z = refl
 hold_line (OfScope c o) t z = cc
-hold_line (OfCast c o) t z = refl
+hold_line _ t z = refl
 
 pub open_not : (k : Count) (t : ℕ) → is_nothing (open_state k t) ≡ true → ⊥
 open_not (OfPool p) t z = cc
-open_not (OfScope c o) t z = cc
-open_not (OfCast c o) t z = cc
+open_not _ t z = cc
 
 pub close_not : (k : Count) (t : ℕ) → is_nothing (close_state k t) ≡ true → ⊥
 close_not (OfPool p) t z = cc
-close_not (OfScope c o) t z = cc
-close_not (OfCast c o) t z = cc
+close_not _ t z = cc
 
 pub open_all_not : (k : Count) (b : Pieces) → is_nothing (open_all k b) ≡ true → ⊥
 open_all_not (OfPool p) b z = cc
-open_all_not (OfScope c o) b z = cc
-open_all_not (OfCast c o) b z = cc
+open_all_not _ b z = cc
 
 pub close_all_not : (k : Count) (b : Pieces) → is_nothing (close_all k b) ≡ true → ⊥
 close_all_not (OfPool p) b z = cc
-close_all_not (OfScope c o) b z = cc
-close_all_not (OfCast c o) b z = cc
+close_all_not _ b z = cc
 
 -- a spawn in order, a call that is refused, and pieces
 fed_free : (k : Count) (f : Feeding) → f.count ≡ k → is_nothing (fresh_state k f.job) ≡ true → book_free (begin_feed k f) ≡ true
@@ -166,24 +130,13 @@ fed_free (OfScope c o) f e z = cc
 fed_free (OfCast c o) f e z = ap (λ c. is_nothing (hold_state c f.job)) e
 
 raised_free : (n : Plan) → book_free (RaiseCount n) ≡ true → Clear (after_raise n)
-raised_free (Detach p t) z = refl
-raised_free (Here p t) z = refl
-raised_free (Send o) z = refl
-raised_free (Fork o a) z = refl
 raised_free (Feed f) z = fed_free f.count f refl z
-raised_free (Open o) z = refl
 raised_free (Enter e) z = cc
-raised_free (Gather g) z = refl
+raised_free _ z = refl
 
 pub plan_book_is : (n : Plan) → plan_book n ≡ count_book (plan_count n)
 plan_book_is (Detach p t) = refl
-plan_book_is (Here p t) = refl
-plan_book_is (Send o) = refl
-plan_book_is (Fork o a) = refl
-plan_book_is (Feed f) = refl
-plan_book_is (Open o) = refl
-plan_book_is (Enter e) = refl
-plan_book_is (Gather g) = refl
+plan_book_is _ = refl
 
 pub drawn_free : (k : Count) (n : Plan) → plan_count n ≡ k → is_nothing (hold_state k (plan_job n)) ≡ true → book_free (withdraw (count_book k) n) ≡ true
 drawn_free (OfPool p) n e z = ap (λ c. is_nothing (shut_state c (plan_job n))) e
@@ -197,9 +150,8 @@ pub undo_free : (n : Plan) → book_free (GrowCall n) ≡ true → book_free (un
 undo_free n z = grow_shut (plan_count n) (plan_job n) z
 
 line_hold : (k : Count) (t u : ℕ) → is_nothing (line_state k t) ≡ true → is_nothing (hold_state k u) ≡ true
-line_hold (OfPool p) t u z = refl
 line_hold (OfScope c o) t u z = cc
-line_hold (OfCast c o) t u z = refl
+line_hold _ t u z = refl
 
 begun_free : (k : Count) (b : Pieces) → b.count ≡ k → is_nothing (fresh_all k b) ≡ true → book_free (begin_cast k b) ≡ true
 begun_free (OfPool p) b e z = ap (λ c. is_nothing (hold_all c b)) e
@@ -343,16 +295,7 @@ is_numbered _ = false
 
 finish_plain : (q : Party) (n : Then) → is_numbering (finish q n) ≡ false
 finish_plain q (BeginFound g t) = refl
-finish_plain q (LeaveWait g) = refl
-finish_plain q Resume = refl
-finish_plain q Called = refl
-finish_plain q (Await o) = refl
-finish_plain q (Gathers o) = refl
-finish_plain q (RunFirst o a) = refl
-finish_plain q (Answers o f e) = refl
-finish_plain q (Missing o f) = refl
-finish_plain q (Ran t e) = refl
-finish_plain q (GiveBack n) = refl
+finish_plain q _ = refl
 
 walk_plain : (g : PoolShape) (q : Party) (p k i : ℕ) (n : Then) → is_numbering (walk g q p k i n) ≡ false
 walk_plain g q p k i n = by (nat_lt 0 k && nat_lt i g.workers)
@@ -385,8 +328,7 @@ pop_plain o u = by (is_taken u o.job)
 
 count_plain : (g : PoolShape) (q : Party) (k : Count) (n : Then) → is_numbering (settle_count g q k n) ≡ false
 count_plain g q (OfPool p) n = settle_plain g q p 0 n
-count_plain g q (OfScope c o) n = refl
-count_plain g q (OfCast c o) n = refl
+count_plain g q _ n = refl
 
 lower_plain : (g : PoolShape) (q : Party) (k : Count) (a : Share) (n : Then) (e : Seen) → is_numbering (next_of g q (LowerCount k a n) e) ≡ false
 lower_plain g q k a n Yes = count_plain g q k n
@@ -394,13 +336,7 @@ lower_plain g q k a n _ = finish_plain q n
 
 raised_plain : (n : Plan) → is_numbering (after_raise n) ≡ false
 raised_plain (Detach p t) = refl
-raised_plain (Here p t) = refl
-raised_plain (Send o) = refl
-raised_plain (Fork o a) = refl
-raised_plain (Feed f) = refl
-raised_plain (Open o) = refl
-raised_plain (Enter e) = refl
-raised_plain (Gather g) = refl
+raised_plain _ = refl
 
 -- no other place has one
 pub numbers_next : (g : PoolShape) (q : Party) (x : Place) (e : Seen) → is_numbered x ≡ false → is_numbering (next_of g q x e) ≡ false
@@ -488,7 +424,6 @@ numbers_next g q (WakeWorker k) _ z = refl
 numbers_next g q (UnlockWoken k) e z = walk_plain g q k.pool k.owed (k.worker + 1) k.then
 numbers_next g q (TakeResult o f) (Found d) z = refl
 numbers_next g q (TakeResult o f) _ z = refl
-numbers_next g q (StoreResult i o d) e z = refl
 numbers_next g q (SetLatch k) Yes z = refl
 numbers_next g q (SetLatch k) _ z = settled_plain g q k k.latch
 numbers_next g q (UnlockSettled k) e z = settled_plain g q k k.latch
@@ -505,8 +440,6 @@ numbers_next g q (PushJob n v) Done z = refl
 numbers_next g q (PushJob n v) _ z = refl
 numbers_next g q (OpenSlot n) Done z = refl
 numbers_next g q (OpenSlot n) _ z = refl
-numbers_next g q (CloseSlot n) e z = refl
-numbers_next g q (StoreSlot c o t d) e z = refl
 numbers_next g q (LowerCount k a n) e z = lower_plain g q k a n e
 numbers_next g q _ e z = refl
 

@@ -3,28 +3,9 @@
 -- What a place knows of a book is its `BookState` (`book_of`), and `AtBook` is what that says. It is nothing at most
 -- places (`book_free`), and from such a place only such places are reached (`book_next`, BookMoves).
 use Rattle.std.proofs.Common.{arith, refl, sym, ◌∙◌, ap, subst, inl, inr}
-use Rattle.std.proofs.lemmas.Bool.{eqb-true, eq-eqb}
-use Rattle.std.specs.Prelude.{ℕ, Bool, true, false, ◌+◌, ◌-◌, ◌==◌, ◌≤◌, ◌<◌, Option, Some, None, ◌≡◌, ◌⊎◌, ⊤}
-use Rattle.rayon_machine_places.specs.declared.place.Party.{Party}
-use Rattle.rayon_machine_places.specs.declared.place.Party.TheVariants.{Worker}
-use Rattle.rayon_machine_places.specs.declared.place.JobKind.TheVariants.{Scoped}
-use Rattle.rayon_machine_places.specs.declared.place.Count.{Count}
-use Rattle.rayon_machine_places.specs.declared.place.Count.TheVariants.{OfPool, OfScope, OfCast}
-use Rattle.rayon_machine_places.specs.declared.place.Pieces.{Pieces}
-use Rattle.rayon_machine_places.specs.declared.place.Feeding.{Feeding}
-use Rattle.rayon_machine_places.specs.declared.place.Share.TheVariants.{PoolValue, OfJob, Body}
-use Rattle.rayon_machine_places.specs.declared.place.Then.{Then}
-use Rattle.rayon_machine_places.specs.declared.place.Plan.{Plan}
-use Rattle.rayon_machine_places.specs.declared.place.Plan.TheVariants.{Detach, Here, Send, Fork, Feed, Open, Enter, Gather}
-use Rattle.rayon_machine_places.specs.declared.place.Place.{Place}
-use Rattle.rayon_machine_places.specs.declared.place.Place.TheVariants.{RaiseCount, GrowCall, OpenSlot, CloseSlot, LookQueue, PushJob, LowerCount, StoreSlot, AddToFifo, LookForToken, PushToken, TakeFromFifo, RaiseForAll, OpenForAll, PushForAll, CloseForAll, LowerForAll}
-use Rattle.rayon_machine_places.specs.declared.state.Slot.{Slot}
-use Rattle.rayon_machine_places.specs.declared.state.Slot.TheVariants.{Closed, Open as IsOpen}
-use Rattle.rayon_machine_places.specs.Places.{plan_job, plan_count, count_kind}
-use Rattle.rayon_machine_places.specs.World.{World}
-use Rattle.rayon_machine_places.specs.Steps.{is_piece}
-use Rattle.rayon_machine_laws.specs.Once.{one}
-use Rattle.rayon_machine_laws.specs.Shares.{share}
+use Rattle.rayon_machine_orders.proofs.Words.{eqb-true, eq-eqb, ℕ, Bool, true, false, ◌+◌, ◌-◌, ◌==◌, ◌≤◌, ◌<◌, Option, Some, None, ◌≡◌, ◌⊎◌, ⊤, Party, Worker, Scoped, Count, OfPool, OfScope, OfCast, Pieces, Feeding, PoolValue, OfJob, Body, Then, Plan, Detach, Here, Send, Fork, Feed, Open}
+use Rattle.rayon_machine_orders.proofs.Words.{Enter, Gather, Place, RaiseCount, GrowCall, OpenSlot, CloseSlot, LookQueue, PushJob, LowerCount, StoreSlot, AddToFifo, LookForToken, PushToken, TakeFromFifo, RaiseForAll, OpenForAll, PushForAll, CloseForAll, LowerForAll, Slot, Closed, IsOpen}
+use Rattle.rayon_machine_orders.proofs.Words.{plan_job, plan_count, count_kind, World, is_piece, one, share}
 use Rattle.rayon_machine_laws.proofs.Amounts.{raises}
 use Rattle.rayon_machine_laws.proofs.Claims.{Says, SaysPlan, SaysSlot, SaysPieces, KnownCount, Tied, is_part, SaysShare, queue_plan}
 use Rattle.rayon_machine_laws.proofs.ShareSteps.{plan_made}
@@ -57,63 +38,51 @@ pub data BookState : Type 0 where
 -- by the count that a call takes a share of
 abbrev pub fresh_state : Count → ℕ → BookState
 fresh_state (OfScope c o) t = Fresh t
-fresh_state (OfPool p) t = Nothing
-fresh_state (OfCast c o) t = Nothing
+fresh_state _ t = Nothing
 
 abbrev pub open_state : Count → ℕ → BookState
 open_state (OfScope c o) t = Fresh t
-open_state (OfPool p) t = Never
-open_state (OfCast c o) t = Never
+open_state _ t = Never
 
 abbrev pub hold_state : Count → ℕ → BookState
 hold_state (OfScope c o) t = Holding c t
-hold_state (OfPool p) t = Nothing
-hold_state (OfCast c o) t = Nothing
+hold_state _ t = Nothing
 
 abbrev pub line_state : Count → ℕ → BookState
 line_state (OfScope c o) t = Lined c t
-line_state (OfPool p) t = Nothing
-line_state (OfCast c o) t = Nothing
+line_state _ t = Nothing
 
 abbrev pub close_state : Count → ℕ → BookState
 close_state (OfScope c o) t = Holding c t
-close_state (OfPool p) t = Never
-close_state (OfCast c o) t = Never
+close_state _ t = Never
 
 abbrev pub shut_state : Count → ℕ → BookState
 shut_state (OfScope c o) t = Shut t
-shut_state (OfPool p) t = Nothing
-shut_state (OfCast c o) t = Nothing
+shut_state _ t = Nothing
 
 abbrev pub grow_state : Count → BookState
 grow_state (OfScope c o) = Never
-grow_state (OfPool p) = Nothing
-grow_state (OfCast c o) = Nothing
+grow_state _ = Nothing
 
 abbrev pub fresh_all : Count → Pieces → BookState
 fresh_all (OfScope c o) b = FreshAll b
-fresh_all (OfPool p) b = Nothing
-fresh_all (OfCast c o) b = Nothing
+fresh_all _ b = Nothing
 
 abbrev pub open_all : Count → Pieces → BookState
 open_all (OfScope c o) b = FreshAll b
-open_all (OfPool p) b = Never
-open_all (OfCast c o) b = Never
+open_all _ b = Never
 
 abbrev pub hold_all : Count → Pieces → BookState
 hold_all (OfScope c o) b = HoldingAll c b
-hold_all (OfPool p) b = Nothing
-hold_all (OfCast c o) b = Nothing
+hold_all _ b = Nothing
 
 abbrev pub close_all : Count → Pieces → BookState
 close_all (OfScope c o) b = HoldingAll c b
-close_all (OfPool p) b = Never
-close_all (OfCast c o) b = Never
+close_all _ b = Never
 
 abbrev pub shut_all : Count → Pieces → BookState
 shut_all (OfScope c o) b = ShutAll b
-shut_all (OfPool p) b = Nothing
-shut_all (OfCast c o) b = Nothing
+shut_all _ b = Nothing
 
 abbrev pub book_of : Place → BookState
 book_of (RaiseCount n) = fresh_state (plan_count n) (plan_job n)
@@ -186,8 +155,7 @@ AtBook w q x = AtState w q (book_of x)
 -- the scope whose count a call is to raise, and the one that a broadcast is to go into
 abbrev pub scope_count : Count → Option ℕ
 scope_count (OfScope c o) = Some c
-scope_count (OfPool p) = None
-scope_count (OfCast c o) = None
+scope_count _ = None
 
 abbrev pub raising : Place → Option ℕ
 raising (RaiseCount n) = scope_count (plan_count n)
@@ -213,28 +181,23 @@ free_writes x c z y = free_holds (book_of x) c z y
 
 fresh_raises : (k : Count) (t c : ℕ) → is_nothing (fresh_state k t) ≡ true → scope_count k ≡ Some c → ⊥
 fresh_raises (OfScope d o) t c z y = cc
-fresh_raises (OfPool p) t c z y = cc
-fresh_raises (OfCast d o) t c z y = cc
+fresh_raises _ t c z y = cc
 
 all_raises_none : (k : Count) (b : Pieces) (c : ℕ) → is_nothing (fresh_all k b) ≡ true → scope_count k ≡ Some c → ⊥
 all_raises_none (OfScope d o) b c z y = cc
-all_raises_none (OfPool p) b c z y = cc
-all_raises_none (OfCast d o) b c z y = cc
+all_raises_none _ b c z y = cc
 
 open_raises_none : (k : Count) (b : Pieces) (c : ℕ) → is_nothing (open_all k b) ≡ true → scope_count k ≡ Some c → ⊥
 open_raises_none (OfScope d o) b c z y = cc
-open_raises_none (OfPool p) b c z y = cc
-open_raises_none (OfCast d o) b c z y = cc
+open_raises_none _ b c z y = cc
 
 hold_raises_none : (k : Count) (b : Pieces) (c : ℕ) → is_nothing (hold_all k b) ≡ true → scope_count k ≡ Some c → ⊥
 hold_raises_none (OfScope d o) b c z y = cc
-hold_raises_none (OfPool p) b c z y = cc
-hold_raises_none (OfCast d o) b c z y = cc
+hold_raises_none _ b c z y = cc
 
 close_raises_none : (k : Count) (b : Pieces) (c : ℕ) → is_nothing (close_all k b) ≡ true → scope_count k ≡ Some c → ⊥
 close_raises_none (OfScope d o) b c z y = cc
-close_raises_none (OfPool p) b c z y = cc
-close_raises_none (OfCast d o) b c z y = cc
+close_raises_none _ b c z y = cc
 
 pub free_raising : (x : Place) (c : ℕ) → book_free x ≡ true → raising x ≡ Some c → ⊥
 free_raising (RaiseCount n) c z y = fresh_raises (plan_count n) (plan_job n) c z y
@@ -279,63 +242,51 @@ ScopeOf k = (c : ℕ) × ((o : Party) × (k ≡ OfScope c o))
 
 pub fresh_one : (k : Count) (u t : ℕ) → names (fresh_state k u) t ≡ true → (t ≡ u) × ScopeOf k
 fresh_one (OfScope c o) u t z = (eqb-true t u z, (c, (o, refl)))
-fresh_one (OfPool p) u t z = absurd (cc)
-fresh_one (OfCast c o) u t z = absurd (cc)
+fresh_one _ u t z = absurd (cc)
 
 pub open_one : (k : Count) (u t : ℕ) → names (open_state k u) t ≡ true → (t ≡ u) × ScopeOf k
 open_one (OfScope c o) u t z = (eqb-true t u z, (c, (o, refl)))
-open_one (OfPool p) u t z = absurd (cc)
-open_one (OfCast c o) u t z = absurd (cc)
+open_one _ u t z = absurd (cc)
 
 pub hold_one : (k : Count) (u t : ℕ) → names (hold_state k u) t ≡ true → (t ≡ u) × ScopeOf k
 hold_one (OfScope c o) u t z = (eqb-true t u z, (c, (o, refl)))
-hold_one (OfPool p) u t z = absurd (cc)
-hold_one (OfCast c o) u t z = absurd (cc)
+hold_one _ u t z = absurd (cc)
 
 pub line_one : (k : Count) (u t : ℕ) → names (line_state k u) t ≡ true → (t ≡ u) × ScopeOf k
 line_one (OfScope c o) u t z = (eqb-true t u z, (c, (o, refl)))
-line_one (OfPool p) u t z = absurd (cc)
-line_one (OfCast c o) u t z = absurd (cc)
+line_one _ u t z = absurd (cc)
 
 pub close_one : (k : Count) (u t : ℕ) → names (close_state k u) t ≡ true → (t ≡ u) × ScopeOf k
 close_one (OfScope c o) u t z = (eqb-true t u z, (c, (o, refl)))
-close_one (OfPool p) u t z = absurd (cc)
-close_one (OfCast c o) u t z = absurd (cc)
+close_one _ u t z = absurd (cc)
 
 pub shut_one : (k : Count) (u t : ℕ) → names (shut_state k u) t ≡ true → (t ≡ u) × ScopeOf k
 shut_one (OfScope c o) u t z = (eqb-true t u z, (c, (o, refl)))
-shut_one (OfPool p) u t z = absurd (cc)
-shut_one (OfCast c o) u t z = absurd (cc)
+shut_one _ u t z = absurd (cc)
 
 grow_none : (k : Count) (t : ℕ) → names (grow_state k) t ≡ true → ⊥
 grow_none (OfScope c o) t z = cc
-grow_none (OfPool p) t z = cc
-grow_none (OfCast c o) t z = cc
+grow_none _ t z = cc
 
 pub fresh_pieces : (k : Count) (b : Pieces) (t : ℕ) → names (fresh_all k b) t ≡ true → (is_piece b t ≡ true) × ScopeOf k
 fresh_pieces (OfScope c o) b t z = (z, (c, (o, refl)))
-fresh_pieces (OfPool p) b t z = absurd (cc)
-fresh_pieces (OfCast c o) b t z = absurd (cc)
+fresh_pieces _ b t z = absurd (cc)
 
 pub open_pieces : (k : Count) (b : Pieces) (t : ℕ) → names (open_all k b) t ≡ true → (is_piece b t ≡ true) × ScopeOf k
 open_pieces (OfScope c o) b t z = (z, (c, (o, refl)))
-open_pieces (OfPool p) b t z = absurd (cc)
-open_pieces (OfCast c o) b t z = absurd (cc)
+open_pieces _ b t z = absurd (cc)
 
 pub hold_pieces : (k : Count) (b : Pieces) (t : ℕ) → names (hold_all k b) t ≡ true → (is_piece b t ≡ true) × ScopeOf k
 hold_pieces (OfScope c o) b t z = (z, (c, (o, refl)))
-hold_pieces (OfPool p) b t z = absurd (cc)
-hold_pieces (OfCast c o) b t z = absurd (cc)
+hold_pieces _ b t z = absurd (cc)
 
 pub close_pieces : (k : Count) (b : Pieces) (t : ℕ) → names (close_all k b) t ≡ true → (is_piece b t ≡ true) × ScopeOf k
 close_pieces (OfScope c o) b t z = (z, (c, (o, refl)))
-close_pieces (OfPool p) b t z = absurd (cc)
-close_pieces (OfCast c o) b t z = absurd (cc)
+close_pieces _ b t z = absurd (cc)
 
 pub shut_pieces : (k : Count) (b : Pieces) (t : ℕ) → names (shut_all k b) t ≡ true → (is_piece b t ≡ true) × ScopeOf k
 shut_pieces (OfScope c o) b t z = (z, (c, (o, refl)))
-shut_pieces (OfPool p) b t z = absurd (cc)
-shut_pieces (OfCast c o) b t z = absurd (cc)
+shut_pieces _ b t z = absurd (cc)
 
 -- a job with a share, or one that its place takes a share for, or one in a FIFO list that its party holds
 abbrev Knows : ℕ → Place → Type 0
@@ -398,12 +349,7 @@ book_made w q _ t z s = cc
 pub plan_scoped : (w : World) (q : Party) (n : Plan) (c : ℕ) (o : Party) → SaysPlan w q n → plan_count n ≡ OfScope c o → (w.job (plan_job n)).kind ≡ Scoped c o
 plan_scoped w q (Enter e) c o s z = (s.0).kind ∙ ap count_kind z
 plan_scoped w q (Feed f) c o s z = (s.0).kind ∙ ap count_kind z
-plan_scoped w q (Detach p t) c o s z = cc
-plan_scoped w q (Here p t) c o s z = cc
-plan_scoped w q (Send d) c o s z = cc
-plan_scoped w q (Fork d a) c o s z = cc
-plan_scoped w q (Open d) c o s z = cc
-plan_scoped w q (Gather g) c o s z = cc
+plan_scoped w q _ c o s z = cc
 
 -- no piece of a broadcast that waits
 plan_unparted : (w : World) (q : Party) (n : Plan) (t : ℕ) → SaysPlan w q n → (t ≡ plan_job n) × ScopeOf (plan_count n) → is_part (w.job t).kind ≡ false
@@ -443,47 +389,35 @@ book_unparted w q _ t z s = cc
 pub plan_tied : (w : World) (q : Party) (n : Plan) (c : ℕ) (o : Party) → SaysPlan w q n → plan_count n ≡ OfScope c o → Tied w c o
 plan_tied w q (Enter e) c o s z = subst (λ k. KnownCount w k e.pool) z (s.1)
 plan_tied w q (Feed f) c o s z = subst (λ k. KnownCount w k f.pool) z (s.3)
-plan_tied w q (Detach p t) c o s z = cc
-plan_tied w q (Here p t) c o s z = cc
-plan_tied w q (Send d) c o s z = cc
-plan_tied w q (Fork d a) c o s z = cc
-plan_tied w q (Open d) c o s z = cc
-plan_tied w q (Gather g) c o s z = cc
+plan_tied w q _ c o s z = cc
 
 hold_call : (k : Count) (t c : ℕ) → holds_book (hold_state k t) ≡ Some c → (o : Party) × (k ≡ OfScope c o)
 hold_call (OfScope d o) t c z = (o, ap (λ n. OfScope n o) (number_is d c z))
-hold_call (OfPool p) t c z = absurd (cc)
-hold_call (OfCast d o) t c z = absurd (cc)
+hold_call _ t c z = absurd (cc)
 
 line_call : (k : Count) (t c : ℕ) → holds_book (line_state k t) ≡ Some c → (o : Party) × (k ≡ OfScope c o)
 line_call (OfScope d o) t c z = (o, ap (λ n. OfScope n o) (number_is d c z))
-line_call (OfPool p) t c z = absurd (cc)
-line_call (OfCast d o) t c z = absurd (cc)
+line_call _ t c z = absurd (cc)
 
 close_call : (k : Count) (t c : ℕ) → holds_book (close_state k t) ≡ Some c → (o : Party) × (k ≡ OfScope c o)
 close_call (OfScope d o) t c z = (o, ap (λ n. OfScope n o) (number_is d c z))
-close_call (OfPool p) t c z = absurd (cc)
-close_call (OfCast d o) t c z = absurd (cc)
+close_call _ t c z = absurd (cc)
 
 hold_all_call : (k : Count) (b : Pieces) (c : ℕ) → holds_book (hold_all k b) ≡ Some c → (o : Party) × (k ≡ OfScope c o)
 hold_all_call (OfScope d o) b c z = (o, ap (λ n. OfScope n o) (number_is d c z))
-hold_all_call (OfPool p) b c z = absurd (cc)
-hold_all_call (OfCast d o) b c z = absurd (cc)
+hold_all_call _ b c z = absurd (cc)
 
 close_all_call : (k : Count) (b : Pieces) (c : ℕ) → holds_book (close_all k b) ≡ Some c → (o : Party) × (k ≡ OfScope c o)
 close_all_call (OfScope d o) b c z = (o, ap (λ n. OfScope n o) (number_is d c z))
-close_all_call (OfPool p) b c z = absurd (cc)
-close_all_call (OfCast d o) b c z = absurd (cc)
+close_all_call _ b c z = absurd (cc)
 
 pub none_holds : (k : Count) (t c : ℕ) → (holds_book (fresh_state k t) ≡ Some c) ⊎ ((holds_book (open_state k t) ≡ Some c) ⊎ ((holds_book (shut_state k t) ≡ Some c) ⊎ (holds_book (grow_state k) ≡ Some c))) → ⊥
 none_holds (OfScope d o) t c z = absurd (elim z [ inl y ↦ cc | inr y ↦ elim y [ inl v ↦ cc | inr v ↦ elim v [ inl i ↦ cc | inr i ↦ cc ] ] ])
-none_holds (OfPool p) t c z = absurd (elim z [ inl y ↦ cc | inr y ↦ elim y [ inl v ↦ cc | inr v ↦ elim v [ inl i ↦ cc | inr i ↦ cc ] ] ])
-none_holds (OfCast d o) t c z = absurd (elim z [ inl y ↦ cc | inr y ↦ elim y [ inl v ↦ cc | inr v ↦ elim v [ inl i ↦ cc | inr i ↦ cc ] ] ])
+none_holds _ t c z = absurd (elim z [ inl y ↦ cc | inr y ↦ elim y [ inl v ↦ cc | inr v ↦ elim v [ inl i ↦ cc | inr i ↦ cc ] ] ])
 
 pub none_all_holds : (k : Count) (b : Pieces) (c : ℕ) → (holds_book (fresh_all k b) ≡ Some c) ⊎ ((holds_book (open_all k b) ≡ Some c) ⊎ (holds_book (shut_all k b) ≡ Some c)) → ⊥
 none_all_holds (OfScope d o) b c z = absurd (elim z [ inl y ↦ cc | inr y ↦ elim y [ inl v ↦ cc | inr v ↦ cc ] ])
-none_all_holds (OfPool p) b c z = absurd (elim z [ inl y ↦ cc | inr y ↦ elim y [ inl v ↦ cc | inr v ↦ cc ] ])
-none_all_holds (OfCast d o) b c z = absurd (elim z [ inl y ↦ cc | inr y ↦ elim y [ inl v ↦ cc | inr v ↦ cc ] ])
+none_all_holds _ b c z = absurd (elim z [ inl y ↦ cc | inr y ↦ elim y [ inl v ↦ cc | inr v ↦ cc ] ])
 
 pub writes_tied : (w : World) (q : Party) (x : Place) (c : ℕ) → writes x ≡ Some c → Says w q x → (o : Party) × Tied w c o
 writes_tied w q (RaiseCount n) c z s = absurd (none_holds (plan_count n) (plan_job n) c (inl z))

@@ -1,37 +1,10 @@
 -- the acts on the book of a scope: numbers are opened, taken back or filled, and a push leaves the book
 use Rattle.std.proofs.Common.{arith, refl, sym, ◌∙◌, ap, subst, inl, inr}
-use Rattle.std.proofs.lemmas.Bool.{eqb-true, eq-eqb, ltb-true, ltb-false}
-use Rattle.std.proofs.Math.Dec.{ltb}
-use Rattle.std.specs.Prelude.{ℕ, Bool, true, false, ◌+◌, ◌-◌, ◌==◌, ◌≤◌, ◌<◌, if◌then◌else◌, Option, Some, None, List, ◌≡◌, ◌⊎◌, IfSome}
-use Rattle.rayon_machine_places.specs.declared.place.Party.{Party}
-use Rattle.rayon_machine_places.specs.declared.place.Party.TheVariants.{Worker, Caller}
-use Rattle.rayon_machine_places.specs.declared.place.Ending.{Ending}
-use Rattle.rayon_machine_places.specs.declared.place.JobKind.TheVariants.{Scoped}
-use Rattle.rayon_machine_places.specs.declared.place.Count.{Count}
-use Rattle.rayon_machine_places.specs.declared.place.Count.TheVariants.{OfPool, OfScope, OfCast}
-use Rattle.rayon_machine_places.specs.declared.place.Share.TheVariants.{PoolValue, OfJob, Body}
-use Rattle.rayon_machine_places.specs.declared.place.Pieces.{Pieces}
-use Rattle.rayon_machine_places.specs.declared.place.Feeding.{Feeding}
-use Rattle.rayon_machine_places.specs.declared.place.Plan.{Plan}
-use Rattle.rayon_machine_places.specs.declared.place.Plan.TheVariants.{Detach, Here, Send, Fork, Feed, Open, Enter, Gather}
-use Rattle.rayon_machine_places.specs.declared.place.Mark.TheVariants.{Numbered, Queued, Unnumbered}
-use Rattle.rayon_machine_places.specs.declared.place.Then.TheVariants.{Resume}
-use Rattle.rayon_machine_places.specs.declared.place.Place.{Place}
-use Rattle.rayon_machine_places.specs.declared.place.Place.TheVariants.{RaiseCount, GrowCall, LookQueue, PushJob, TellNews, LowerCount, OpenSlot, CloseSlot, StoreSlot, StorePiece, AddToFifo, LookForToken, PushToken, TakeFromFifo, RaiseForAll, OpenForAll, PushForAll, CloseForAll, LowerForAll, DealPieces}
-use Rattle.rayon_machine_places.specs.declared.act.Act.{Act}
-use Rattle.rayon_machine_places.specs.declared.act.Act.TheVariants.{PushOwn, PushInj}
-use Rattle.rayon_machine_places.specs.declared.act.Seen.TheVariants.{Done}
-use Rattle.rayon_machine_places.specs.declared.state.Job.{Job}
-use Rattle.rayon_machine_places.specs.declared.state.Call.{Call}
-use Rattle.rayon_machine_places.specs.declared.state.Slot.{Slot}
-use Rattle.rayon_machine_places.specs.declared.state.Slot.TheVariants.{Closed, Open as IsOpen, Filled}
-use Rattle.rayon_machine_places.specs.declared.state.Whereabouts.{Whereabouts}
-use Rattle.rayon_machine_places.specs.declared.state.Whereabouts.TheVariants.{InDeque, Injected, Over}
-use Rattle.rayon_machine_places.specs.Places.{own_pool, own_index, is_member, undo, same_party, plan_job, plan_count, plan_pool, count_call, count_book, after_slot, call_all, count_kind}
-use Rattle.rayon_machine_places.specs.World.{World, counts_at, target_pool, target_worker, target_call, effect, filled, is_open, left_by, left_book, at_job, first_fault}
-use Rattle.rayon_machine_places.specs.Steps.{put, put_stack, put_pieces, part_of, after, is_piece, marked, mark_pieces, holds_in}
-use Rattle.rayon_machine_laws.specs.Once.{one}
-use Rattle.rayon_machine_laws.specs.Shares.{share, shares_in, shares, is_busy}
+use Rattle.rayon_machine_orders.proofs.Words.{eqb-true, eq-eqb, ltb-true, ltb-false, ltb, ℕ, Bool, true, false, ◌+◌, ◌-◌, ◌==◌, ◌≤◌, ◌<◌, if◌then◌else◌, Option, Some, None, List, ◌≡◌, ◌⊎◌, IfSome, Party, Worker, Caller, Ending, Scoped, Count, OfPool, OfScope, OfCast, PoolValue, OfJob, Body}
+use Rattle.rayon_machine_orders.proofs.Words.{Pieces, Feeding, Plan, Detach, Here, Send, Fork, Feed, Open, Enter, Gather, Numbered, Queued, Unnumbered, Resume, Place, RaiseCount, GrowCall, LookQueue, PushJob, TellNews, LowerCount, OpenSlot, CloseSlot, StoreSlot, StorePiece, AddToFifo}
+use Rattle.rayon_machine_orders.proofs.Words.{LookForToken, PushToken, TakeFromFifo, RaiseForAll, OpenForAll, PushForAll, CloseForAll, LowerForAll, DealPieces, Act, PushOwn, PushInj, Done, Job, Call, Slot, Closed, IsOpen, Filled, Whereabouts, InDeque, Injected, Over, own_pool, own_index}
+use Rattle.rayon_machine_orders.proofs.Words.{is_member, undo, same_party, plan_job, plan_count, plan_pool, count_call, count_book, after_slot, call_all, count_kind, World, counts_at, target_pool, target_worker, target_call, effect, filled, is_open, left_by, left_book, at_job, first_fault, put}
+use Rattle.rayon_machine_orders.proofs.Words.{put_stack, put_pieces, part_of, after, is_piece, marked, mark_pieces, holds_in, one, share, shares_in, shares, is_busy}
 use Rattle.rayon_machine_laws.proofs.Frame.{either, if_some_map, if_cond, put_same, put_new, put_old, stack_mine, stack_other, same_party_true, same_party_refl, piece_new, piece_old, piece_range, piece_in}
 use Rattle.rayon_machine_laws.proofs.Ties.{job_at, outcome}
 use Rattle.rayon_machine_laws.proofs.Claims.{SaysPlan, SaysCast, KnownCount, Tied, queue_plan}
@@ -48,8 +21,10 @@ use Rattle.rayon_machine_orders.proofs.BookActs.{Acts, was_busy, free_act, raise
 use Rattle.rayon_machine_laws.proofs.Feeders.{FeedersHold}
 
 -- such an act, by what it makes of the call, and where it leads
-touch : (w u : World) (q : Party) (D : ℕ → Bool) (c0 : ℕ) (owner : Party) (x y : Place) (fs : List Place) (k : Call) → w.stack q ≡ record { top = x; below = fs } → c0 + 1 ≤ w.calls → ((t : ℕ) → D t ≡ true → (t + 1 ≤ w.jobs) × ((w.job t).kind ≡ Scoped c0 owner)) → u.jobs ≡ w.jobs → u.calls ≡ w.calls →
-    ((r : Party) → u.stack r ≡ put_stack w.stack q (record { top = y; below = fs }) r) → ((t : ℕ) → (u.job t).kind ≡ (w.job t).kind) → ((t : ℕ) → D t ≡ false → (u.job t).slot ≡ (w.job t).slot) → ((c : ℕ) → u.call c ≡ put w.call c0 k c) → ((t : ℕ) → (u.job t).counted ≡ (w.job t).counted) → ((t : ℕ) → D t ≡ true → 1 ≤ share t x) → is_open q (w.call c0).writer ≡ true →
+touch : (w u : World) (q : Party) (D : ℕ → Bool) (c0 : ℕ) (owner : Party) (x y : Place) (fs : List Place) (k : Call) → w.stack q ≡ record { top = x; below = fs } → c0 + 1 ≤ w.calls → ((t : ℕ) → D t ≡ true → (t + 1 ≤ w.jobs) × ((w.job t).kind ≡ Scoped c0 owner)) → u.jobs ≡ w.jobs
+    → u.calls ≡ w.calls →
+    ((r : Party) → u.stack r ≡ put_stack w.stack q (record { top = y; below = fs }) r) → ((t : ℕ) → (u.job t).kind ≡ (w.job t).kind) → ((t : ℕ) → D t ≡ false → (u.job t).slot ≡ (w.job t).slot) → ((c : ℕ) → u.call c ≡ put w.call c0 k c) → ((t : ℕ) → (u.job t).counted ≡ (w.job t).counted)
+    → ((t : ℕ) → D t ≡ true → 1 ≤ share t x) → is_open q (w.call c0).writer ≡ true →
     AtBook u q y → ((r : Party) → k.writer ≡ Some r → (r ≡ q) × (writes y ≡ Some c0)) → ((c : ℕ) → (c == c0) ≡ false → writes x ≡ Some c → ⊥) → ((t n : ℕ) → D t ≡ true → slot_number (u.job t).slot ≡ Some n → (n + 1 ≤ k.slots) × ((slot_number (w.job t).slot ≡ Some n) ⊎ ((w.call c0).slots ≤ n))) →
     ((t s n : ℕ) → D t ≡ true → D s ≡ true → slot_number (u.job t).slot ≡ Some n → slot_number (u.job s).slot ≡ Some n → t ≡ s) → ((n : ℕ) → n + 1 ≤ (w.call c0).slots → (n + 1 ≤ k.slots) ⊎ ((t : ℕ) × ((D t ≡ true) × (slot_number (w.job t).slot ≡ Some n)))) →
     ((t n : ℕ) → D t ≡ true → slot_number (w.job t).slot ≡ Some n → n + 1 ≤ k.slots → slot_number (u.job t).slot ≡ Some n) → ((n : ℕ) → (w.call c0).slots ≤ n → n + 1 ≤ k.slots → (t : ℕ) × ((D t ≡ true) × (slot_number (u.job t).slot ≡ Some n))) →
@@ -86,7 +61,8 @@ touch w u q D c0 owner x y fs k z known named ju cu S kind slot C counted has ab
     call = C c0 ∙ put_new w.call c0 k
 
 -- what is busy after such an act
-busy_by : (w u : World) (n : ℕ → ℕ) → ((t : ℕ) → (u.job t).kind ≡ (w.job t).kind) → ((t : ℕ) → with_job (u.job t) ≤ with_job (w.job t) + n t) → ((t c : ℕ) (o : Party) → (w.job t).kind ≡ Scoped c o → 1 ≤ n t → is_unfilled (u.job t).slot ≡ true) → (t : ℕ) → t + 1 ≤ w.jobs → (c : ℕ) (o : Party) → (w.job t).kind ≡ Scoped c o → is_busy (u.job t).at ≡ true → (is_busy (w.job t).at ≡ true) ⊎ (is_unfilled (u.job t).slot ≡ true)
+busy_by : (w u : World) (n : ℕ → ℕ) → ((t : ℕ) → (u.job t).kind ≡ (w.job t).kind) → ((t : ℕ) → with_job (u.job t) ≤ with_job (w.job t) + n t) → ((t c : ℕ) (o : Party) → (w.job t).kind ≡ Scoped c o → 1 ≤ n t → is_unfilled (u.job t).slot ≡ true) → (t : ℕ) → t + 1 ≤ w.jobs
+    → (c : ℕ) (o : Party) → (w.job t).kind ≡ Scoped c o → is_busy (u.job t).at ≡ true → (is_busy (w.job t).at ≡ true) ⊎ (is_unfilled (u.job t).slot ≡ true)
 busy_by w u n kind le opens t l c o k b = elim (was_busy (w.job t) (u.job t) c o (n t) k (kind t) (le t) b) [ inl a ↦ inl a | inr a ↦ inr (opens t c o k a) ]
 
 none_open : (w u : World) (t c : ℕ) (o : Party) → (w.job t).kind ≡ Scoped c o → 1 ≤ 0 → is_unfilled (u.job t).slot ≡ true
@@ -104,28 +80,18 @@ own_count k c o e = e ∙ ap (λ n. OfScope n o) (sym (ap count_call e))
 
 slotted_state : (n : Plan) → book_of (after_slot n) ≡ hold_state (plan_count n) (plan_job n)
 slotted_state (Detach p t) = refl
-slotted_state (Here p t) = refl
-slotted_state (Send o) = refl
-slotted_state (Fork o a) = refl
-slotted_state (Feed f) = refl
-slotted_state (Open o) = refl
-slotted_state (Enter e) = refl
-slotted_state (Gather g) = refl
+slotted_state _ = refl
 
 slotted_raises : (n : Plan) (d : ℕ) → raising (after_slot n) ≡ Some d → ⊥
 slotted_raises (Detach p t) d i = cc
-slotted_raises (Here p t) d i = cc
-slotted_raises (Send o) d i = cc
-slotted_raises (Fork o a) d i = cc
-slotted_raises (Feed f) d i = cc
-slotted_raises (Open o) d i = cc
-slotted_raises (Enter e) d i = cc
-slotted_raises (Gather g) d i = cc
+slotted_raises _ d i = cc
 
 -- a number is opened
-opened : (w u : World) (q : Party) (n : Plan) (o : Party) (fs : List Place) → plan_count n ≡ OfScope (count_call (plan_count n)) o → w.stack q ≡ record { top = OpenSlot n; below = fs } → BooksHold w → is_open q (w.call (count_call (plan_count n))).writer ≡ true → u.jobs ≡ w.jobs → u.calls ≡ w.calls →
+opened : (w u : World) (q : Party) (n : Plan) (o : Party) (fs : List Place) → plan_count n ≡ OfScope (count_call (plan_count n)) o → w.stack q ≡ record { top = OpenSlot n; below = fs } → BooksHold w → is_open q (w.call (count_call (plan_count n))).writer ≡ true → u.jobs ≡ w.jobs
+    → u.calls ≡ w.calls →
     ((r : Party) → u.stack r ≡ put_stack w.stack q (record { top = after_slot n; below = fs }) r) → ((t : ℕ) → u.job t ≡ put w.job (plan_job n) (record (w.job (plan_job n)) { slot = IsOpen (w.call (count_call (plan_count n))).slots }) t) →
-    ((c : ℕ) → u.call c ≡ put w.call (count_call (plan_count n)) (record (w.call (count_call (plan_count n))) { slots = (w.call (count_call (plan_count n))).slots + 1; writer = Some q }) c) → ((t : ℕ) → with_job (u.job t) ≤ with_job (w.job t) + 0) → Touched w u q (λ t. t == plan_job n) (count_call (plan_count n))
+    ((c : ℕ) → u.call c ≡ put w.call (count_call (plan_count n)) (record (w.call (count_call (plan_count n))) { slots = (w.call (count_call (plan_count n))).slots + 1; writer = Some q }) c) → ((t : ℕ) → with_job (u.job t) ≤ with_job (w.job t) + 0) → Touched w u q (λ t. t == plan_job n)
+    (count_call (plan_count n))
 opened w u q n o fs k z h able ju cu S J C le = touch w u q (λ t. t == t0) c0 o (OpenSlot n) (after_slot n) fs call z (tied.number) named ju cu S kind (λ t d. ap (λ j. j.slot) (J t ∙ put_old w.job t0 v t d)) C (λ t. ap (λ j. j.counted) (J t) ∙ put_same (λ j. j.counted) w.job t0 v t refl)
     (λ t d. (let a : one (t == t0) ≡ 1 = ap one d in omega (arith, a))) able
     (subst (AtState u q) (sym state) (record { writer = ap (λ j. j.writer) now; number = (w.call c0).slots; slot = mine; last = sym (ap (λ j. j.slots) now) }))
@@ -180,13 +146,14 @@ opened w u q n o fs k z h able ju cu S J C le = touch w u q (λ t. t == t0) c0 o
 
     open_none : (i : Count) (t c : ℕ) → holds_book (open_state i t) ≡ Some c → ⊥
     open_none (OfPool p) t c y = cc
-    open_none (OfScope d r) t c y = cc
-    open_none (OfCast d r) t c y = cc
+    open_none _ t c y = cc
 
 -- and taken back
-unopened : (w u : World) (q : Party) (n : Plan) (o : Party) (fs : List Place) → plan_count n ≡ OfScope (count_call (plan_count n)) o → w.stack q ≡ record { top = CloseSlot n; below = fs } → BooksHold w → is_open q (w.call (count_call (plan_count n))).writer ≡ true → u.jobs ≡ w.jobs → u.calls ≡ w.calls →
+unopened : (w u : World) (q : Party) (n : Plan) (o : Party) (fs : List Place) → plan_count n ≡ OfScope (count_call (plan_count n)) o → w.stack q ≡ record { top = CloseSlot n; below = fs } → BooksHold w → is_open q (w.call (count_call (plan_count n))).writer ≡ true → u.jobs ≡ w.jobs
+    → u.calls ≡ w.calls →
     ((r : Party) → u.stack r ≡ put_stack w.stack q (record { top = undo n; below = fs }) r) → ((t : ℕ) → u.job t ≡ put w.job (plan_job n) (record (w.job (plan_job n)) { slot = Closed }) t) →
-    ((c : ℕ) → u.call c ≡ put w.call (count_call (plan_count n)) (record (w.call (count_call (plan_count n))) { slots = (w.call (count_call (plan_count n))).slots - 1; writer = None }) c) → ((t : ℕ) → with_job (u.job t) ≤ with_job (w.job t) + 0) → Touched w u q (λ t. t == plan_job n) (count_call (plan_count n))
+    ((c : ℕ) → u.call c ≡ put w.call (count_call (plan_count n)) (record (w.call (count_call (plan_count n))) { slots = (w.call (count_call (plan_count n))).slots - 1; writer = None }) c) → ((t : ℕ) → with_job (u.job t) ≤ with_job (w.job t) + 0) → Touched w u q (λ t. t == plan_job n)
+    (count_call (plan_count n))
 unopened w u q n o fs k z h able ju cu S J C le = touch w u q (λ t. t == t0) c0 o (CloseSlot n) (undo n) fs call z (tied.number) named ju cu S kind (λ t d. ap (λ j. j.slot) (J t ∙ put_old w.job t0 v t d)) C (λ t. ap (λ j. j.counted) (J t) ∙ put_same (λ j. j.counted) w.job t0 v t refl)
     (λ t d. (let a : one (t == t0) ≡ 1 = ap one d in omega (arith, a))) able
     (subst (λ i. AtState u q (shut_state i t0)) (sym k) (ap is_unfilled mine))
@@ -239,18 +206,17 @@ unopened w u q n o fs k z h able ju cu S J C le = touch w u q (λ t. t == t0) c0
 -- and filled
 filled_shut : (s : Slot) → is_unfilled (filled s) ≡ false
 filled_shut Closed = refl
-filled_shut (IsOpen n) = refl
-filled_shut (Filled n) = refl
+filled_shut _ = refl
 
 filled_number : (s : Slot) → slot_number (filled s) ≡ slot_number s
 filled_number Closed = refl
-filled_number (IsOpen n) = refl
-filled_number (Filled n) = refl
+filled_number _ = refl
 
 stored : (w u : World) (q : Party) (c : ℕ) (o : Party) (t : ℕ) (d : Ending) (fs : List Place) → w.stack q ≡ record { top = StoreSlot c o t d; below = fs } → BooksHold w → is_open q (w.call c).writer ≡ true → u.jobs ≡ w.jobs → u.calls ≡ w.calls →
     ((r : Party) → u.stack r ≡ put_stack w.stack q (record { top = LowerCount (OfScope c o) (OfJob t) Resume; below = fs }) r) → ((n : ℕ) → u.job n ≡ put w.job t (record (w.job t) { slot = filled (w.job t).slot }) n) →
     ((n : ℕ) → u.call n ≡ put w.call c (record (w.call c) { fault = first_fault (w.call c).fault t d }) n) → ((n : ℕ) → with_job (u.job n) ≤ with_job (w.job n) + 0) → Touched w u q (λ n. n == t) c
-stored w u q c o t d fs z h able ju cu S J C le = touch w u q (λ n. n == t) c o (StoreSlot c o t d) (LowerCount (OfScope c o) (OfJob t) Resume) fs k z (said.2) named ju cu S kind (λ n e. ap (λ j. j.slot) (J n ∙ put_old w.job t v n e)) C (λ n. ap (λ j. j.counted) (J n) ∙ put_same (λ j. j.counted) w.job t v n refl)
+stored w u q c o t d fs z h able ju cu S J C le = touch w u q (λ n. n == t) c o (StoreSlot c o t d) (LowerCount (OfScope c o) (OfJob t) Resume) fs k z (said.2) named ju cu S kind (λ n e. ap (λ j. j.slot) (J n ∙ put_old w.job t v n e)) C
+    (λ n. ap (λ j. j.counted) (J n) ∙ put_same (λ j. j.counted) w.job t v n refl)
     (λ n e. (let a : one (n == t) ≡ 1 = ap one e in omega (arith, a))) able
     (ap is_unfilled mine ∙ filled_shut ((w.job t).slot))
     (λ r y. absurd (unheld r y))
@@ -293,7 +259,8 @@ stored w u q c o t d fs z h able ju cu S J C le = touch w u q (λ n. n == t) c o
 left_own : (q : Party) (o : Option Party) → o ≡ Some q → left_by q o ≡ None
 left_own q o e = subst (λ v. left_by q v ≡ None) (sym e) (let a : same_party q q ≡ true = same_party_refl q in rw a refl)
 
-left_at : (w u : World) (q : Party) (c0 : ℕ) (x y : Place) (fs : List Place) (k : Call) → w.stack q ≡ record { top = x; below = fs } → c0 + 1 ≤ w.calls → u.jobs ≡ w.jobs → u.calls ≡ w.calls → ((r : Party) → u.stack r ≡ put_stack w.stack q (record { top = y; below = fs }) r) → ((t : ℕ) → (u.job t).kind ≡ (w.job t).kind) → ((t : ℕ) → (u.job t).slot ≡ (w.job t).slot) →
+left_at : (w u : World) (q : Party) (c0 : ℕ) (x y : Place) (fs : List Place) (k : Call) → w.stack q ≡ record { top = x; below = fs } → c0 + 1 ≤ w.calls → u.jobs ≡ w.jobs → u.calls ≡ w.calls → ((r : Party) → u.stack r ≡ put_stack w.stack q (record { top = y; below = fs }) r)
+    → ((t : ℕ) → (u.job t).kind ≡ (w.job t).kind) → ((t : ℕ) → (u.job t).slot ≡ (w.job t).slot) →
     ((c : ℕ) → u.call c ≡ put w.call c0 k c) → k.writer ≡ None → k.slots ≡ (w.call c0).slots → ((t : ℕ) → (u.job t).counted ≡ (w.job t).counted) → (w.call c0).writer ≡ Some q → book_free y ≡ true → AtBook u q y → ((c : ℕ) → (c == c0) ≡ false → writes x ≡ Some c → ⊥) →
     ((t : ℕ) → t + 1 ≤ w.jobs → (c : ℕ) (o : Party) → (w.job t).kind ≡ Scoped c o → is_busy (u.job t).at ≡ true → (is_busy (w.job t).at ≡ true) ⊎ (is_unfilled (u.job t).slot ≡ true)) → ((c : ℕ) → raising y ≡ Some c → ⊥) → Touched w u q (λ t. false) c0
 left_at w u q c0 x y fs k z known ju cu S kind slot C wr sl counted mine free top wrote busy raised = touch w u q (λ t. false) c0 q x y fs k z known (λ t d. absurd (cc)) ju cu S kind (λ t d. slot t) C counted (λ t d. absurd (cc))
@@ -308,9 +275,7 @@ pushed_is (Here p a) v t m = eqb-true t a (one_is (t == a) m)
 pushed_is (Feed f) v t m = eqb-true t f.job (one_is (t == f.job) m)
 pushed_is (Open o) v t m = eqb-true t o.job (one_is (t == o.job) m)
 pushed_is (Enter e) v t m = eqb-true t e.job (one_is (t == e.job) m)
-pushed_is (Send o) v t m = absurd (omega (arith, m))
-pushed_is (Fork o a) v t m = absurd (omega (arith, m))
-pushed_is (Gather g) v t m = absurd (omega (arith, m))
+pushed_is _ v t m = absurd (omega (arith, m))
 
 pushed_on : (w u : World) (q : Party) (n : Plan) (c0 : ℕ) (o : Party) (v : Bool) (fs : List Place) (at : Whereabouts) → plan_count n ≡ OfScope c0 o → w.stack q ≡ record { top = PushJob n v; below = fs } → BooksHold w → u.jobs ≡ w.jobs → u.calls ≡ w.calls →
     ((r : Party) → u.stack r ≡ put_stack w.stack q (record { top = TellNews n v; below = fs }) r) → ((t : ℕ) → u.job t ≡ put w.job (plan_job n) (at_job (w.job (plan_job n)) at) t) → ((c : ℕ) → u.call c ≡ put w.call c0 (record (w.call c0) { writer = left_by q (w.call c0).writer }) c) →
@@ -337,7 +302,8 @@ pushed_on w u q n c0 o v fs at k z h ju cu S J C le = left_at w u q c0 (PushJob 
 token_on : (w u : World) (q : Party) (f : Feeding) (c0 : ℕ) (o : Party) (v : Bool) (fs : List Place) (at : Whereabouts) → f.count ≡ OfScope c0 o → w.stack q ≡ record { top = PushToken f v; below = fs } → BooksHold w → u.jobs ≡ w.jobs → u.calls ≡ w.calls →
     ((r : Party) → u.stack r ≡ put_stack w.stack q (record { top = TellNews (Detach f.pool f.token) v; below = fs }) r) → ((t : ℕ) → u.job t ≡ put w.job (f.token) (at_job (w.job f.token) at) t) → ((c : ℕ) → u.call c ≡ put w.call c0 (record (w.call c0) { writer = left_by q (w.call c0).writer }) c) →
     ((t : ℕ) → with_job (u.job t) ≤ with_job (w.job t) + 0) → Touched w u q (λ t. false) c0
-token_on w u q f c0 o v fs at k z h ju cu S J C le = left_at w u q c0 (PushToken f v) (TellNews (Detach f.pool f.token) v) fs (record (w.call c0) { writer = left_by q (w.call c0).writer }) z (tied.number) ju cu S kind (λ t. ap (λ j. j.slot) (J t) ∙ put_same (λ j. j.slot) w.job (f.token) (at_job (w.job f.token) at) t refl) C
+token_on w u q f c0 o v fs at k z h ju cu S J C le = left_at w u q c0 (PushToken f v) (TellNews (Detach f.pool f.token) v) fs (record (w.call c0) { writer = left_by q (w.call c0).writer }) z (tied.number) ju cu S kind
+    (λ t. ap (λ j. j.slot) (J t) ∙ put_same (λ j. j.slot) w.job (f.token) (at_job (w.job f.token) at) t refl) C
     (left_own q ((w.call c0).writer) book.writer) refl (λ t. ap (λ j. j.counted) (J t) ∙ put_same (λ j. j.counted) w.job (f.token) (at_job (w.job f.token) at) t refl) book.writer refl tt
     (λ c d e. only c0 c d (ap (λ i. holds_book (line_state i f.job)) (sym k) ∙ e))
     (busy_by w u (λ t. 0) kind le (none_open w u))
@@ -436,11 +402,11 @@ opened_all w u q b o fs n0 k z h able ju cu S J C le = touch w u q (is_piece b) 
 
     open_none : (i : Count) (c : ℕ) → holds_book (open_all i b) ≡ Some c → ⊥
     open_none (OfPool p) c y = cc
-    open_none (OfScope d r) c y = cc
-    open_none (OfCast d r) c y = cc
+    open_none _ c y = cc
 
 -- and taken back
-unopened_all : (w u : World) (q : Party) (b : Pieces) (o : Party) (fs : List Place) (n0 : ℕ) → b.count ≡ OfScope (count_call b.count) o → w.stack q ≡ record { top = CloseForAll b; below = fs } → BooksHold w → is_open q (w.call (count_call b.count)).writer ≡ true → u.jobs ≡ w.jobs → u.calls ≡ w.calls →
+unopened_all : (w u : World) (q : Party) (b : Pieces) (o : Party) (fs : List Place) (n0 : ℕ) → b.count ≡ OfScope (count_call b.count) o → w.stack q ≡ record { top = CloseForAll b; below = fs } → BooksHold w → is_open q (w.call (count_call b.count)).writer ≡ true → u.jobs ≡ w.jobs
+    → u.calls ≡ w.calls →
     ((r : Party) → u.stack r ≡ put_stack w.stack q (record { top = LowerForAll b; below = fs }) r) → ((t : ℕ) → u.job t ≡ mark_pieces b Unnumbered (put w.job n0 (w.job n0)) t) →
     ((c : ℕ) → u.call c ≡ put w.call (count_call b.count) (record (w.call (count_call b.count)) { slots = (w.call (count_call b.count)).slots - b.workers; writer = None }) c) → ((t : ℕ) → with_job (u.job t) ≤ with_job (w.job t) + 0) → Touched w u q (is_piece b) (count_call b.count)
 unopened_all w u q b o fs n0 k z h able ju cu S J C le = touch w u q (is_piece b) c0 o (CloseForAll b) (LowerForAll b) fs call z (tied.number) (scope_pieces w b c0 o k said) ju cu S kind
@@ -495,7 +461,8 @@ unopened_all w u q b o fs n0 k z h able ju cu S J C le = touch w u q (is_piece b
     ]
 
 -- the push of them leaves the book
-pushed_all : (w u : World) (q : Party) (b : Pieces) (o : Party) (y : Place) (fs : List Place) (n0 : ℕ) (k1 : Call) → b.count ≡ OfScope (count_call b.count) o → w.stack q ≡ record { top = PushForAll b; below = fs } → BooksHold w → u.jobs ≡ w.jobs → u.calls ≡ w.calls → ((r : Party) → u.stack r ≡ put_stack w.stack q (record { top = y; below = fs }) r) →
+pushed_all : (w u : World) (q : Party) (b : Pieces) (o : Party) (y : Place) (fs : List Place) (n0 : ℕ) (k1 : Call) → b.count ≡ OfScope (count_call b.count) o → w.stack q ≡ record { top = PushForAll b; below = fs } → BooksHold w → u.jobs ≡ w.jobs → u.calls ≡ w.calls
+    → ((r : Party) → u.stack r ≡ put_stack w.stack q (record { top = y; below = fs }) r) →
     ((t : ℕ) → u.job t ≡ mark_pieces b Queued (put w.job n0 (w.job n0)) t) → ((c : ℕ) → u.call c ≡ put w.call (count_call b.count) k1 c) → k1.writer ≡ left_book q (count_book b.count) (w.call (count_call b.count)).writer → k1.slots ≡ (w.call (count_call b.count)).slots →
     ((t : ℕ) → with_job (u.job t) ≤ with_job (w.job t) + one (is_piece b t)) → book_free y ≡ true → Touched w u q (λ t. false) (count_call b.count)
 pushed_all w u q b o y fs n0 k1 k z h ju cu S J C wr sl le free = left_at w u q c0 (PushForAll b) y fs k1 z (tied.number) ju cu S kind slot C (wr ∙ ap (λ i. left_book q (count_book i) (w.call c0).writer) k ∙ left_own q ((w.call c0).writer) book.writer) sl
@@ -527,24 +494,34 @@ pushed_all w u q b o y fs n0 k1 k z h ju cu S J C wr sl le free = left_at w u q 
 
 -- the acts of a worker, and those of a caller
 opens : (w : World) (q : Party) (n : Plan) (o : Party) (fs : List Place) → plan_count n ≡ OfScope (count_call (plan_count n)) o → w.stack q ≡ record { top = OpenSlot n; below = fs } → BooksHold w → IfSome (outcome w q (record { top = OpenSlot n; below = fs })) (Acts w q (OpenSlot n) fs)
-opens w (Worker a b) n o fs k z h = if_cond (Acts w (Worker a b) (OpenSlot n) fs) (is_open (Worker a b) ((w.call (count_call (plan_count n))).writer)) _ (λ able early fe d st. touched_books w _ (Worker a b) (λ t. t == plan_job n) (count_call (plan_count n)) h early fe (opened w _ (Worker a b) n o fs k z h able refl refl (λ r. refl) (λ t. refl) (λ c. refl) (d.busy)))
-opens w (Caller i) n o fs k z h = if_cond (Acts w (Caller i) (OpenSlot n) fs) (is_open (Caller i) ((w.call (count_call (plan_count n))).writer)) _ (λ able early fe d st. touched_books w _ (Caller i) (λ t. t == plan_job n) (count_call (plan_count n)) h early fe (opened w _ (Caller i) n o fs k z h able refl refl (λ r. refl) (λ t. refl) (λ c. refl) (d.busy)))
+opens w (Worker a b) n o fs k z h = if_cond (Acts w (Worker a b) (OpenSlot n) fs) (is_open (Worker a b) ((w.call (count_call (plan_count n))).writer)) _
+    (λ able early fe d st. touched_books w _ (Worker a b) (λ t. t == plan_job n) (count_call (plan_count n)) h early fe (opened w _ (Worker a b) n o fs k z h able refl refl (λ r. refl) (λ t. refl) (λ c. refl) (d.busy)))
+opens w (Caller i) n o fs k z h = if_cond (Acts w (Caller i) (OpenSlot n) fs) (is_open (Caller i) ((w.call (count_call (plan_count n))).writer)) _
+    (λ able early fe d st. touched_books w _ (Caller i) (λ t. t == plan_job n) (count_call (plan_count n)) h early fe (opened w _ (Caller i) n o fs k z h able refl refl (λ r. refl) (λ t. refl) (λ c. refl) (d.busy)))
 
 undoes : (w : World) (q : Party) (n : Plan) (o : Party) (fs : List Place) → plan_count n ≡ OfScope (count_call (plan_count n)) o → w.stack q ≡ record { top = CloseSlot n; below = fs } → BooksHold w → IfSome (outcome w q (record { top = CloseSlot n; below = fs })) (Acts w q (CloseSlot n) fs)
-undoes w (Worker a b) n o fs k z h = if_cond (Acts w (Worker a b) (CloseSlot n) fs) (is_open (Worker a b) ((w.call (count_call (plan_count n))).writer)) _ (λ able early fe d st. touched_books w _ (Worker a b) (λ t. t == plan_job n) (count_call (plan_count n)) h early fe (unopened w _ (Worker a b) n o fs k z h able refl refl (λ r. refl) (λ t. refl) (λ c. refl) (d.busy)))
-undoes w (Caller i) n o fs k z h = if_cond (Acts w (Caller i) (CloseSlot n) fs) (is_open (Caller i) ((w.call (count_call (plan_count n))).writer)) _ (λ able early fe d st. touched_books w _ (Caller i) (λ t. t == plan_job n) (count_call (plan_count n)) h early fe (unopened w _ (Caller i) n o fs k z h able refl refl (λ r. refl) (λ t. refl) (λ c. refl) (d.busy)))
+undoes w (Worker a b) n o fs k z h = if_cond (Acts w (Worker a b) (CloseSlot n) fs) (is_open (Worker a b) ((w.call (count_call (plan_count n))).writer)) _
+    (λ able early fe d st. touched_books w _ (Worker a b) (λ t. t == plan_job n) (count_call (plan_count n)) h early fe (unopened w _ (Worker a b) n o fs k z h able refl refl (λ r. refl) (λ t. refl) (λ c. refl) (d.busy)))
+undoes w (Caller i) n o fs k z h = if_cond (Acts w (Caller i) (CloseSlot n) fs) (is_open (Caller i) ((w.call (count_call (plan_count n))).writer)) _
+    (λ able early fe d st. touched_books w _ (Caller i) (λ t. t == plan_job n) (count_call (plan_count n)) h early fe (unopened w _ (Caller i) n o fs k z h able refl refl (λ r. refl) (λ t. refl) (λ c. refl) (d.busy)))
 
 stores : (w : World) (q : Party) (c : ℕ) (o : Party) (t : ℕ) (x : Ending) (fs : List Place) → w.stack q ≡ record { top = StoreSlot c o t x; below = fs } → BooksHold w → IfSome (outcome w q (record { top = StoreSlot c o t x; below = fs })) (Acts w q (StoreSlot c o t x) fs)
-stores w (Worker a b) c o t x fs z h = if_cond (Acts w (Worker a b) (StoreSlot c o t x) fs) (is_open (Worker a b) ((w.call c).writer)) _ (λ able early fe d st. touched_books w _ (Worker a b) (λ n. n == t) c h early fe (stored w _ (Worker a b) c o t x fs z h able refl refl (λ r. refl) (λ n. refl) (λ n. refl) (d.busy)))
-stores w (Caller i) c o t x fs z h = if_cond (Acts w (Caller i) (StoreSlot c o t x) fs) (is_open (Caller i) ((w.call c).writer)) _ (λ able early fe d st. touched_books w _ (Caller i) (λ n. n == t) c h early fe (stored w _ (Caller i) c o t x fs z h able refl refl (λ r. refl) (λ n. refl) (λ n. refl) (d.busy)))
+stores w (Worker a b) c o t x fs z h = if_cond (Acts w (Worker a b) (StoreSlot c o t x) fs) (is_open (Worker a b) ((w.call c).writer)) _
+    (λ able early fe d st. touched_books w _ (Worker a b) (λ n. n == t) c h early fe (stored w _ (Worker a b) c o t x fs z h able refl refl (λ r. refl) (λ n. refl) (λ n. refl) (d.busy)))
+stores w (Caller i) c o t x fs z h = if_cond (Acts w (Caller i) (StoreSlot c o t x) fs) (is_open (Caller i) ((w.call c).writer)) _
+    (λ able early fe d st. touched_books w _ (Caller i) (λ n. n == t) c h early fe (stored w _ (Caller i) c o t x fs z h able refl refl (λ r. refl) (λ n. refl) (λ n. refl) (d.busy)))
 
 opens_all : (w : World) (q : Party) (b : Pieces) (o : Party) (fs : List Place) → b.count ≡ OfScope (count_call b.count) o → w.stack q ≡ record { top = OpenForAll b; below = fs } → BooksHold w → IfSome (outcome w q (record { top = OpenForAll b; below = fs })) (Acts w q (OpenForAll b) fs)
-opens_all w (Worker a i) b o fs k z h = if_cond (Acts w (Worker a i) (OpenForAll b) fs) (is_open (Worker a i) ((w.call (count_call b.count)).writer)) _ (λ able early fe d st. touched_books w _ (Worker a i) (is_piece b) (count_call b.count) h early fe (opened_all w _ (Worker a i) b o fs 0 k z h able refl refl (λ r. refl) (λ t. refl) (λ c. refl) (d.busy)))
-opens_all w (Caller i) b o fs k z h = if_cond (Acts w (Caller i) (OpenForAll b) fs) (is_open (Caller i) ((w.call (count_call b.count)).writer)) _ (λ able early fe d st. touched_books w _ (Caller i) (is_piece b) (count_call b.count) h early fe (opened_all w _ (Caller i) b o fs 0 k z h able refl refl (λ r. refl) (λ t. refl) (λ c. refl) (d.busy)))
+opens_all w (Worker a i) b o fs k z h = if_cond (Acts w (Worker a i) (OpenForAll b) fs) (is_open (Worker a i) ((w.call (count_call b.count)).writer)) _
+    (λ able early fe d st. touched_books w _ (Worker a i) (is_piece b) (count_call b.count) h early fe (opened_all w _ (Worker a i) b o fs 0 k z h able refl refl (λ r. refl) (λ t. refl) (λ c. refl) (d.busy)))
+opens_all w (Caller i) b o fs k z h = if_cond (Acts w (Caller i) (OpenForAll b) fs) (is_open (Caller i) ((w.call (count_call b.count)).writer)) _
+    (λ able early fe d st. touched_books w _ (Caller i) (is_piece b) (count_call b.count) h early fe (opened_all w _ (Caller i) b o fs 0 k z h able refl refl (λ r. refl) (λ t. refl) (λ c. refl) (d.busy)))
 
 undoes_all : (w : World) (q : Party) (b : Pieces) (o : Party) (fs : List Place) → b.count ≡ OfScope (count_call b.count) o → w.stack q ≡ record { top = CloseForAll b; below = fs } → BooksHold w → IfSome (outcome w q (record { top = CloseForAll b; below = fs })) (Acts w q (CloseForAll b) fs)
-undoes_all w (Worker a i) b o fs k z h = if_cond (Acts w (Worker a i) (CloseForAll b) fs) (is_open (Worker a i) ((w.call (count_call b.count)).writer)) _ (λ able early fe d st. touched_books w _ (Worker a i) (is_piece b) (count_call b.count) h early fe (unopened_all w _ (Worker a i) b o fs 0 k z h able refl refl (λ r. refl) (λ t. refl) (λ c. refl) (d.busy)))
-undoes_all w (Caller i) b o fs k z h = if_cond (Acts w (Caller i) (CloseForAll b) fs) (is_open (Caller i) ((w.call (count_call b.count)).writer)) _ (λ able early fe d st. touched_books w _ (Caller i) (is_piece b) (count_call b.count) h early fe (unopened_all w _ (Caller i) b o fs 0 k z h able refl refl (λ r. refl) (λ t. refl) (λ c. refl) (d.busy)))
+undoes_all w (Worker a i) b o fs k z h = if_cond (Acts w (Worker a i) (CloseForAll b) fs) (is_open (Worker a i) ((w.call (count_call b.count)).writer)) _
+    (λ able early fe d st. touched_books w _ (Worker a i) (is_piece b) (count_call b.count) h early fe (unopened_all w _ (Worker a i) b o fs 0 k z h able refl refl (λ r. refl) (λ t. refl) (λ c. refl) (d.busy)))
+undoes_all w (Caller i) b o fs k z h = if_cond (Acts w (Caller i) (CloseForAll b) fs) (is_open (Caller i) ((w.call (count_call b.count)).writer)) _
+    (λ able early fe d st. touched_books w _ (Caller i) (is_piece b) (count_call b.count) h early fe (unopened_all w _ (Caller i) b o fs 0 k z h able refl refl (λ r. refl) (λ t. refl) (λ c. refl) (d.busy)))
 
 pushes_all : (w : World) (q : Party) (b : Pieces) (o : Party) (fs : List Place) → b.count ≡ OfScope (count_call b.count) o → w.stack q ≡ record { top = PushForAll b; below = fs } → BooksHold w → IfSome (outcome w q (record { top = PushForAll b; below = fs })) (Acts w q (PushForAll b) fs)
 pushes_all w (Worker a i) b o fs k z h = λ early fe d st. touched_books w _ (Worker a i) (λ t. false) (count_call b.count) h early fe (pushed_all w _ (Worker a i) b o (call_all (w.shape.pool b.pool) b) fs 0 _ k z h refl refl (λ r. refl) (λ t. refl) (λ c. refl) refl refl (d.busy) refl)
@@ -554,22 +531,30 @@ pushes_all w (Caller i) b o fs k z h = λ early fe d st. touched_books w _ (Call
 abbrev Pushes : World → Party → Place → List Place → Act → Type 0
 Pushes w q x fs act = IfSome (effect act w.shape q (counts_at w (target_pool q act)) (part_of w (target_pool q act) (target_worker q act) (target_call act) (job_at w q act))) (λ r.
     EarlyHold (after w q (record { top = x; below = fs }) (target_pool q act) (target_worker q act) (target_call act) (job_at w q act) r) → FeedersHold (after w q (record { top = x; below = fs }) (target_pool q act) (target_worker q act) (target_call act) (job_at w q act) r) →
-    ((t : ℕ) → with_job ((after w q (record { top = x; below = fs }) (target_pool q act) (target_worker q act) (target_call act) (job_at w q act) r).job t) ≤ with_job (w.job t) + pushed t x (r.0)) → BooksHold (after w q (record { top = x; below = fs }) (target_pool q act) (target_worker q act) (target_call act) (job_at w q act) r))
+    ((t : ℕ) → with_job ((after w q (record { top = x; below = fs }) (target_pool q act) (target_worker q act) (target_call act) (job_at w q act) r).job t) ≤ with_job (w.job t) + pushed t x (r.0))
+    → BooksHold (after w q (record { top = x; below = fs }) (target_pool q act) (target_worker q act) (target_call act) (job_at w q act) r))
 
-pushes_by : (w : World) (q : Party) (n : Plan) (o : Party) (v : Bool) (fs : List Place) (a : ℕ) → plan_count n ≡ OfScope a o → w.stack q ≡ record { top = PushJob n v; below = fs } → BooksHold w → (y : Bool) → Pushes w q (PushJob n v) fs (if y then PushOwn (plan_job n) (Some a) else PushInj (plan_pool n) (plan_job n) (Some a))
+pushes_by : (w : World) (q : Party) (n : Plan) (o : Party) (v : Bool) (fs : List Place) (a : ℕ) → plan_count n ≡ OfScope a o → w.stack q ≡ record { top = PushJob n v; below = fs } → BooksHold w → (y : Bool) → Pushes w q (PushJob n v) fs
+    (if y then PushOwn (plan_job n) (Some a) else PushInj (plan_pool n) (plan_job n) (Some a))
 pushes_by w q n o v fs a k z h true = λ early fe busy. touched_books w _ q (λ t. false) a h early fe (pushed_on w _ q n a o v fs (InDeque (own_pool q) (own_index q)) k z h refl refl (λ r. refl) (λ t. refl) (λ s. refl) busy)
 pushes_by w q n o v fs a k z h false = λ early fe busy. touched_books w _ q (λ t. false) a h early fe (pushed_on w _ q n a o v fs (Injected (plan_pool n)) k z h refl refl (λ r. refl) (λ t. refl) (λ s. refl) busy)
 
 pushes : (w : World) (q : Party) (n : Plan) (c : ℕ) (o : Party) (v : Bool) (fs : List Place) → plan_count n ≡ OfScope c o → w.stack q ≡ record { top = PushJob n v; below = fs } → BooksHold w → IfSome (outcome w q (record { top = PushJob n v; below = fs })) (Acts w q (PushJob n v) fs)
-pushes w (Worker a b) n c o v fs k z h = if_some_map (λ r. EarlyHold (world_after w (Worker a b) (PushJob n v) fs r) → FeedersHold (world_after w (Worker a b) (PushJob n v) fs r) → ((t : ℕ) → with_job ((world_after w (Worker a b) (PushJob n v) fs r).job t) ≤ with_job (w.job t) + pushed t (PushJob n v) (r.0)) → BooksHold (world_after w (Worker a b) (PushJob n v) fs r))
+pushes w (Worker a b) n c o v fs k z h = if_some_map
+    (λ r. EarlyHold (world_after w (Worker a b) (PushJob n v) fs r) → FeedersHold (world_after w (Worker a b) (PushJob n v) fs r) → ((t : ℕ) → with_job ((world_after w (Worker a b) (PushJob n v) fs r).job t) ≤ with_job (w.job t) + pushed t (PushJob n v) (r.0))
+    → BooksHold (world_after w (Worker a b) (PushJob n v) fs r))
     (Acts w (Worker a b) (PushJob n v) fs) (λ r g early fe d st. g early fe (d.busy)) (outcome w (Worker a b) (record { top = PushJob n v; below = fs }))
     (subst (λ i. Pushes w (Worker a b) (PushJob n v) fs (if is_member (Worker a b) (plan_pool n) then PushOwn (plan_job n) i else PushInj (plan_pool n) (plan_job n) i)) (sym (plan_book_is n ∙ ap count_book k)) (pushes_by w (Worker a b) n o v fs c k z h (is_member (Worker a b) (plan_pool n))))
-pushes w (Caller i) n c o v fs k z h = if_some_map (λ r. EarlyHold (world_after w (Caller i) (PushJob n v) fs r) → FeedersHold (world_after w (Caller i) (PushJob n v) fs r) → ((t : ℕ) → with_job ((world_after w (Caller i) (PushJob n v) fs r).job t) ≤ with_job (w.job t) + pushed t (PushJob n v) (r.0)) → BooksHold (world_after w (Caller i) (PushJob n v) fs r))
+pushes w (Caller i) n c o v fs k z h = if_some_map
+    (λ r. EarlyHold (world_after w (Caller i) (PushJob n v) fs r) → FeedersHold (world_after w (Caller i) (PushJob n v) fs r) → ((t : ℕ) → with_job ((world_after w (Caller i) (PushJob n v) fs r).job t) ≤ with_job (w.job t) + pushed t (PushJob n v) (r.0))
+    → BooksHold (world_after w (Caller i) (PushJob n v) fs r))
     (Acts w (Caller i) (PushJob n v) fs) (λ r g early fe d st. g early fe (d.busy)) (outcome w (Caller i) (record { top = PushJob n v; below = fs }))
     (subst (λ j. Pushes w (Caller i) (PushJob n v) fs (if is_member (Caller i) (plan_pool n) then PushOwn (plan_job n) j else PushInj (plan_pool n) (plan_job n) j)) (sym (plan_book_is n ∙ ap count_book k)) (pushes_by w (Caller i) n o v fs c k z h (is_member (Caller i) (plan_pool n))))
 
 tokens : (w : World) (q : Party) (f : Feeding) (c : ℕ) (o : Party) (v : Bool) (fs : List Place) → f.count ≡ OfScope c o → w.stack q ≡ record { top = PushToken f v; below = fs } → BooksHold w → IfSome (outcome w q (record { top = PushToken f v; below = fs })) (Acts w q (PushToken f v) fs)
-tokens w (Worker a b) f c o v fs k z h = if_some_map (λ r. EarlyHold (world_after w (Worker a b) (PushToken f v) fs r) → FeedersHold (world_after w (Worker a b) (PushToken f v) fs r) → ((t : ℕ) → with_job ((world_after w (Worker a b) (PushToken f v) fs r).job t) ≤ with_job (w.job t) + pushed t (PushToken f v) (r.0)) → BooksHold (world_after w (Worker a b) (PushToken f v) fs r))
+tokens w (Worker a b) f c o v fs k z h = if_some_map
+    (λ r. EarlyHold (world_after w (Worker a b) (PushToken f v) fs r) → FeedersHold (world_after w (Worker a b) (PushToken f v) fs r) → ((t : ℕ) → with_job ((world_after w (Worker a b) (PushToken f v) fs r).job t) ≤ with_job (w.job t) + pushed t (PushToken f v) (r.0))
+    → BooksHold (world_after w (Worker a b) (PushToken f v) fs r))
     (Acts w (Worker a b) (PushToken f v) fs) (λ r g early fe d st. g early fe (d.busy)) (outcome w (Worker a b) (record { top = PushToken f v; below = fs }))
     (subst (λ i. Pushes w (Worker a b) (PushToken f v) fs (PushOwn f.token i)) (sym (ap count_book k)) by)
   where
@@ -580,48 +565,39 @@ tokens w (Caller i) f c o v fs k z h = tt
 -- each act keeps what holds of the books
 act_books_raise : (w : World) (q : Party) (n : Plan) (fs : List Place) (k : Count) → plan_count n ≡ k → w.stack q ≡ record { top = RaiseCount n; below = fs } → BooksHold w → IfSome (outcome w q (record { top = RaiseCount n; below = fs })) (Acts w q (RaiseCount n) fs)
 act_books_raise w q n fs (OfScope c o) k z h = raise_act w q n c o fs k z h
-act_books_raise w q n fs (OfPool p) k z h = free_act w q (RaiseCount n) fs z h (ap (λ i. is_nothing (fresh_state i (plan_job n))) k) refl
-act_books_raise w q n fs (OfCast c o) k z h = free_act w q (RaiseCount n) fs z h (ap (λ i. is_nothing (fresh_state i (plan_job n))) k) refl
+act_books_raise w q n fs _ k z h = free_act w q (RaiseCount n) fs z h (ap (λ i. is_nothing (fresh_state i (plan_job n))) k) refl
 
 act_books_grow : (w : World) (q : Party) (n : Plan) (fs : List Place) (k : Count) → plan_count n ≡ k → w.stack q ≡ record { top = GrowCall n; below = fs } → BooksHold w → IfSome (outcome w q (record { top = GrowCall n; below = fs })) (Acts w q (GrowCall n) fs)
 act_books_grow w q n fs (OfScope c o) k z h = absurd (subst (λ i. AtState w q (grow_state i)) k (subst (λ s. AtBook w q (s.top)) z (h.at q)))
-act_books_grow w q n fs (OfPool p) k z h = free_act w q (GrowCall n) fs z h (ap (λ i. is_nothing (grow_state i)) k) refl
-act_books_grow w q n fs (OfCast c o) k z h = free_act w q (GrowCall n) fs z h (ap (λ i. is_nothing (grow_state i)) k) refl
+act_books_grow w q n fs _ k z h = free_act w q (GrowCall n) fs z h (ap (λ i. is_nothing (grow_state i)) k) refl
 
 act_books_open : (w : World) (q : Party) (n : Plan) (fs : List Place) (k : Count) → plan_count n ≡ k → w.stack q ≡ record { top = OpenSlot n; below = fs } → BooksHold w → IfSome (outcome w q (record { top = OpenSlot n; below = fs })) (Acts w q (OpenSlot n) fs)
 act_books_open w q n fs (OfScope c o) k z h = opens w q n o fs (own_count (plan_count n) c o k) z h
-act_books_open w q n fs (OfPool p) k z h = absurd (subst (λ i. AtState w q (open_state i (plan_job n))) k (subst (λ s. AtBook w q (s.top)) z (h.at q)))
-act_books_open w q n fs (OfCast c o) k z h = absurd (subst (λ i. AtState w q (open_state i (plan_job n))) k (subst (λ s. AtBook w q (s.top)) z (h.at q)))
+act_books_open w q n fs _ k z h = absurd (subst (λ i. AtState w q (open_state i (plan_job n))) k (subst (λ s. AtBook w q (s.top)) z (h.at q)))
 
 act_books_close : (w : World) (q : Party) (n : Plan) (fs : List Place) (k : Count) → plan_count n ≡ k → w.stack q ≡ record { top = CloseSlot n; below = fs } → BooksHold w → IfSome (outcome w q (record { top = CloseSlot n; below = fs })) (Acts w q (CloseSlot n) fs)
 act_books_close w q n fs (OfScope c o) k z h = undoes w q n o fs (own_count (plan_count n) c o k) z h
-act_books_close w q n fs (OfPool p) k z h = absurd (subst (λ i. AtState w q (close_state i (plan_job n))) k (subst (λ s. AtBook w q (s.top)) z (h.at q)))
-act_books_close w q n fs (OfCast c o) k z h = absurd (subst (λ i. AtState w q (close_state i (plan_job n))) k (subst (λ s. AtBook w q (s.top)) z (h.at q)))
+act_books_close w q n fs _ k z h = absurd (subst (λ i. AtState w q (close_state i (plan_job n))) k (subst (λ s. AtBook w q (s.top)) z (h.at q)))
 
 act_books_push : (w : World) (q : Party) (n : Plan) (v : Bool) (fs : List Place) (k : Count) → plan_count n ≡ k → w.stack q ≡ record { top = PushJob n v; below = fs } → BooksHold w → IfSome (outcome w q (record { top = PushJob n v; below = fs })) (Acts w q (PushJob n v) fs)
 act_books_push w q n v fs (OfScope c o) k z h = pushes w q n c o v fs k z h
-act_books_push w q n v fs (OfPool p) k z h = free_act w q (PushJob n v) fs z h (ap (λ i. is_nothing (hold_state i (plan_job n))) k) refl
-act_books_push w q n v fs (OfCast c o) k z h = free_act w q (PushJob n v) fs z h (ap (λ i. is_nothing (hold_state i (plan_job n))) k) refl
+act_books_push w q n v fs _ k z h = free_act w q (PushJob n v) fs z h (ap (λ i. is_nothing (hold_state i (plan_job n))) k) refl
 
 act_books_token : (w : World) (q : Party) (f : Feeding) (v : Bool) (fs : List Place) (k : Count) → f.count ≡ k → w.stack q ≡ record { top = PushToken f v; below = fs } → BooksHold w → IfSome (outcome w q (record { top = PushToken f v; below = fs })) (Acts w q (PushToken f v) fs)
 act_books_token w q f v fs (OfScope c o) k z h = tokens w q f c o v fs k z h
-act_books_token w q f v fs (OfPool p) k z h = free_act w q (PushToken f v) fs z h (ap (λ i. is_nothing (line_state i f.job)) k) refl
-act_books_token w q f v fs (OfCast c o) k z h = free_act w q (PushToken f v) fs z h (ap (λ i. is_nothing (line_state i f.job)) k) refl
+act_books_token w q f v fs _ k z h = free_act w q (PushToken f v) fs z h (ap (λ i. is_nothing (line_state i f.job)) k) refl
 
 act_books_open_all : (w : World) (q : Party) (b : Pieces) (fs : List Place) (k : Count) → b.count ≡ k → w.stack q ≡ record { top = OpenForAll b; below = fs } → BooksHold w → IfSome (outcome w q (record { top = OpenForAll b; below = fs })) (Acts w q (OpenForAll b) fs)
 act_books_open_all w q b fs (OfScope c o) k z h = opens_all w q b o fs (own_count b.count c o k) z h
-act_books_open_all w q b fs (OfPool p) k z h = absurd (subst (λ i. AtState w q (open_all i b)) k (subst (λ s. AtBook w q (s.top)) z (h.at q)))
-act_books_open_all w q b fs (OfCast c o) k z h = absurd (subst (λ i. AtState w q (open_all i b)) k (subst (λ s. AtBook w q (s.top)) z (h.at q)))
+act_books_open_all w q b fs _ k z h = absurd (subst (λ i. AtState w q (open_all i b)) k (subst (λ s. AtBook w q (s.top)) z (h.at q)))
 
 act_books_close_all : (w : World) (q : Party) (b : Pieces) (fs : List Place) (k : Count) → b.count ≡ k → w.stack q ≡ record { top = CloseForAll b; below = fs } → BooksHold w → IfSome (outcome w q (record { top = CloseForAll b; below = fs })) (Acts w q (CloseForAll b) fs)
 act_books_close_all w q b fs (OfScope c o) k z h = undoes_all w q b o fs (own_count b.count c o k) z h
-act_books_close_all w q b fs (OfPool p) k z h = absurd (subst (λ i. AtState w q (close_all i b)) k (subst (λ s. AtBook w q (s.top)) z (h.at q)))
-act_books_close_all w q b fs (OfCast c o) k z h = absurd (subst (λ i. AtState w q (close_all i b)) k (subst (λ s. AtBook w q (s.top)) z (h.at q)))
+act_books_close_all w q b fs _ k z h = absurd (subst (λ i. AtState w q (close_all i b)) k (subst (λ s. AtBook w q (s.top)) z (h.at q)))
 
 act_books_push_all : (w : World) (q : Party) (b : Pieces) (fs : List Place) (k : Count) → b.count ≡ k → w.stack q ≡ record { top = PushForAll b; below = fs } → BooksHold w → IfSome (outcome w q (record { top = PushForAll b; below = fs })) (Acts w q (PushForAll b) fs)
 act_books_push_all w q b fs (OfScope c o) k z h = pushes_all w q b o fs (own_count b.count c o k) z h
-act_books_push_all w q b fs (OfPool p) k z h = free_act w q (PushForAll b) fs z h (ap (λ i. is_nothing (hold_all i b)) k) refl
-act_books_push_all w q b fs (OfCast c o) k z h = free_act w q (PushForAll b) fs z h (ap (λ i. is_nothing (hold_all i b)) k) refl
+act_books_push_all w q b fs _ k z h = free_act w q (PushForAll b) fs z h (ap (λ i. is_nothing (hold_all i b)) k) refl
 
 pub act_books : (w : World) (q : Party) (x : Place) (fs : List Place) → w.stack q ≡ record { top = x; below = fs } → BooksHold w → IfSome (outcome w q (record { top = x; below = fs })) (Acts w q x fs)
 act_books w q (RaiseCount n) fs z h = act_books_raise w q n fs (plan_count n) refl z h

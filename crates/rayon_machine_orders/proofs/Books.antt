@@ -11,24 +11,8 @@
 -- that is queued or runs is open; a job whose number is open has its share. Who is to raise a scope's count, or
 -- broadcasts into the scope, runs in it.
 use Rattle.std.proofs.Common.{arith, refl, sym, ◌∙◌, ap, subst, inl, inr}
-use Rattle.std.proofs.lemmas.Bool.{eqb-true, ltb-true, ltb-false}
-use Rattle.std.proofs.Math.Dec.{ltb}
-use Rattle.std.specs.Prelude.{ℕ, Bool, true, false, ◌+◌, ◌-◌, ◌==◌, ◌≤◌, ◌<◌, ◌&&◌, Option, Some, None, ◌≡◌, ◌⊎◌}
-use Rattle.rayon_machine_places.specs.declared.place.Party.{Party}
-use Rattle.rayon_machine_places.specs.declared.place.JobKind.TheVariants.{Scoped}
-use Rattle.rayon_machine_places.specs.declared.place.Count.{Count}
-use Rattle.rayon_machine_places.specs.declared.place.Count.TheVariants.{OfPool, OfScope, OfCast}
-use Rattle.rayon_machine_places.specs.declared.place.Feeding.{Feeding}
-use Rattle.rayon_machine_places.specs.declared.place.Plan.TheVariants.{Feed}
-use Rattle.rayon_machine_places.specs.declared.place.Place.{Place}
-use Rattle.rayon_machine_places.specs.declared.place.Place.TheVariants.{LookForToken, PushToken, TakeFromFifo}
-use Rattle.rayon_machine_places.specs.declared.state.Whereabouts.{Whereabouts}
-use Rattle.rayon_machine_places.specs.declared.state.Whereabouts.TheVariants.{InFifo}
-use Rattle.rayon_machine_places.specs.Places.{same_party, count_book}
-use Rattle.rayon_machine_places.specs.World.{World, is_open, last_of, but_last}
-use Rattle.rayon_machine_places.specs.Steps.{holds_in}
-use Rattle.rayon_machine_laws.specs.Once.{one, times, in_fifo}
-use Rattle.rayon_machine_laws.specs.Shares.{share, shares_in, shares, is_busy}
+use Rattle.rayon_machine_orders.proofs.Words.{eqb-true, ltb-true, ltb-false, ltb, ℕ, Bool, true, false, ◌+◌, ◌-◌, ◌==◌, ◌≤◌, ◌<◌, ◌&&◌, Option, Some, None, ◌≡◌, ◌⊎◌, Party, Scoped, Count, OfPool, OfScope, OfCast, Feeding, Feed, Place, LookForToken, PushToken, TakeFromFifo, Whereabouts, InFifo}
+use Rattle.rayon_machine_orders.proofs.Words.{same_party, count_book, World, is_open, last_of, but_last, holds_in, one, times, in_fifo, share, shares_in, shares, is_busy, Closed}
 use Rattle.rayon_machine_laws.proofs.Frame.{either, same_party_true, same_party_refl}
 use Rattle.rayon_machine_laws.proofs.Lists.{times_drop}
 use Rattle.rayon_machine_laws.proofs.Amounts.{raises, raises_in, all_raises}
@@ -42,11 +26,11 @@ pub use Rattle.rayon_machine_orders.specs.Books.{slot_number, Written, WrittenAl
 use Rattle.rayon_machine_orders.proofs.EarlyStates.{EarlyHold}
 pub use Rattle.rayon_machine_orders.proofs.BookStates.{is_unfilled, writes, book_of, names, AtBook, AtState, IsWorker, raising}
 use Rattle.rayon_machine_orders.proofs.BookStates.{line_state, at_kept, state_holds, book_knows, book_made, book_unparted, writes_tied, holds_book}
-use Rattle.rayon_machine_places.specs.declared.state.Slot.TheVariants.{Closed}
 
 -- the last job of a FIFO list is in it
 lined_busy : (w : World) → JobsHold w → (p i : ℕ) (b : Option ℕ) (t : ℕ) → last_of ((w.seat p i).fifo b) ≡ Some t → is_busy (w.job t).at ≡ true
-lined_busy w h p i b t e = by ((w.job t).at) (let a : times t ((w.seat p i).fifo b) ≡ one (in_fifo p i b (w.job t).at) = (once w h).fifo p i b t in let d : times t ((w.seat p i).fifo b) ≡ (one (t == t) + times t (but_last ((w.seat p i).fifo b))) = times_drop ((w.seat p i).fifo b) t t e in let c : one (t == t) ≡ 1 = self_one t in omega (arith, a, d, c))
+lined_busy w h p i b t e = by ((w.job t).at) (let a : times t ((w.seat p i).fifo b) ≡ one (in_fifo p i b (w.job t).at) = (once w h).fifo p i b t in let d : times t ((w.seat p i).fifo b) ≡ (one (t == t) + times t (but_last ((w.seat p i).fifo b))) = times_drop ((w.seat p i).fifo b) t t e in
+    let c : one (t == t) ≡ 1 = self_one t in omega (arith, a, d, c))
   where
     by : (v : Whereabouts) → 1 ≤ one (in_fifo p i b v) → is_busy v ≡ true
     by (InFifo r j d) z = refl
@@ -54,8 +38,7 @@ lined_busy w h p i b t e = by ((w.job t).at) (let a : times t ((w.seat p i).fifo
 
 line_worker : (w : World) (r : Party) (k : Count) (u t : ℕ) → names (line_state k u) t ≡ true → AtState w r (line_state k u) → IsWorker r
 line_worker w r (OfScope c o) u t z y = y.1
-line_worker w r (OfPool p) u t z y = absurd (cc)
-line_worker w r (OfCast c o) u t z y = absurd (cc)
+line_worker w r _ u t z y = absurd (cc)
 
 waits_worker : (w : World) (r : Party) (x : Place) (f : Feeding) (t : ℕ) → waits x ≡ Some f → names (book_of x) t ≡ true → AtBook w r x → IsWorker r
 waits_worker w r (LookForToken g) f t e z y = line_worker w r g.count g.job t z y

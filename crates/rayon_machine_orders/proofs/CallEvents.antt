@@ -2,44 +2,20 @@
 --
 -- Where a call's place stands in its stack after such an event is `Turned`.
 use Rattle.rayon_machine_places.specs.declared.place.Pieces.{Pieces}
-use Rattle.std.proofs.Common.{arith, refl, sym, ◌∙◌, ap, subst, inl, inr}
-use Rattle.std.specs.Prelude.{ℕ, Bool, true, false, ◌&&◌, ◌||◌, ◌+◌, ◌==◌, ◌≤◌, nat_lt, Some, None, List, [], ◌∷◌, ◌++◌, ◌≡◌, IfSome, length, ◌⊎◌, if◌then◌else◌, Option, slice_get}
-use Rattle.std.proofs.lemmas.Bool.{eqb-true, eq-eqb}
-use Rattle.std.proofs.lemmas.List.{length-append}
-use Rattle.rayon_machine_places.specs.declared.place.Party.{Party}
-use Rattle.rayon_machine_places.specs.declared.place.Party.TheVariants.{Worker, Caller}
-use Rattle.rayon_machine_places.specs.declared.place.Ending.{Ending}
-use Rattle.rayon_machine_places.specs.declared.place.Ending.TheVariants.{Fine, Fault}
-use Rattle.rayon_machine_places.specs.declared.place.JobKind.{JobKind}
-use Rattle.rayon_machine_places.specs.declared.place.JobKind.TheVariants.{Detached, Stored, Direct, Scoped, TokenOf, BodyOf, PieceOf, WholeOf}
-use Rattle.rayon_machine_places.specs.declared.place.Plan.{Plan}
-use Rattle.rayon_machine_places.specs.declared.place.Plan.TheVariants.{Detach, Here, Send, Fork, Feed, Open, Enter, Gather}
-use Rattle.rayon_machine_places.specs.declared.place.Count.TheVariants.{OfPool, OfScope, OfCast}
-use Rattle.rayon_machine_places.specs.declared.place.Share.TheVariants.{PoolValue, OfJob}
-use Rattle.rayon_machine_places.specs.declared.place.Then.TheVariants.{Resume}
-use Rattle.rayon_machine_places.specs.declared.place.Place.{Place}
-use Rattle.rayon_machine_places.specs.declared.place.Place.TheVariants.{PickVictim, StealFrom, YieldPick, YieldSteal, Run, RaiseCount, GrowCall, PushJob, LowerCount, StoreResult, FirstSide, SecondSide, AtOnce, AddToFifo, PushToken, TakeFromFifo, RaiseForAll, PushForAll, LowerForAll, GrowScope, OpenSlot, StoreSlot, OpenForAll, GrowCast, DealPieces, StorePiece}
-use Rattle.rayon_machine_places.specs.declared.event.Event.{Event}
-use Rattle.rayon_machine_places.specs.declared.event.Event.TheVariants.{From, Refuse, Miss, End, Spawn, Fifo, Install, Join, Scope as OpenScope, IntoSpawn, EndPool, Cast, IntoFifo, IntoCast, Broadcast}
-use Rattle.rayon_machine_places.specs.declared.state.Whereabouts.TheVariants.{Over}
-use Rattle.rayon_machine_places.specs.Places.{own_pool, plan_book, count_book, count_kind, is_member, undo, withdraw, end_cast, next_of, next_steal, next_yield, goes_on, is_free, same_party}
-use Rattle.rayon_machine_places.specs.World.{Stack, World, at_job}
-use Rattle.rayon_machine_places.specs.Steps.{put, put_stack, with_stack, after_choice, after_refusal, can_miss, after_miss, after_resume, after_close, after_end, after_call, is_pool, new_job, new_call, after_spawn, after_send, after_install, after_join, after_yield, after_end_pool, after_feed, after_fifo, after_cast, after_scope, after_into, after_deal, after_gather, after_broadcast, after_into_cast, after_into_fifo, after_enter, after_enter_fifo, new_gathering, new_whole, holds, is_piece, new_piece, put_pieces, after_move}
-use Rattle.rayon_machine_orders.specs.Calls.{is_at_call, is_refusal}
+use Rattle.rayon_machine_orders.proofs.Words.{arith, refl, sym, ◌∙◌, ap, subst, inl, inr, ℕ, Bool, true, false, ◌&&◌, ◌||◌, ◌+◌, ◌==◌, ◌≤◌, nat_lt, Some, None, List, [], ◌∷◌, ◌++◌, ◌≡◌, IfSome, length, ◌⊎◌, if◌then◌else◌, Option, slice_get, eqb-true, eq-eqb, length-append, Party, Worker, Caller}
+use Rattle.rayon_machine_orders.proofs.Words.{Ending, Fine, Fault, JobKind, Detached, Stored, Direct, Scoped, TokenOf, BodyOf, PieceOf, WholeOf, Plan, Detach, Here, Send, Fork, Feed, Open, Enter, Gather, OfPool, OfScope, OfCast, PoolValue, OfJob, Resume, Place, PickVictim, StealFrom, YieldPick}
+use Rattle.rayon_machine_orders.proofs.Words.{YieldSteal, Run, RaiseCount, GrowCall, PushJob, LowerCount, StoreResult, FirstSide, SecondSide, AtOnce, AddToFifo, PushToken, TakeFromFifo, RaiseForAll, PushForAll, LowerForAll, GrowScope, OpenSlot, StoreSlot, OpenForAll, GrowCast, DealPieces}
+use Rattle.rayon_machine_orders.proofs.Words.{StorePiece, Event, From, Refuse, Miss, End, Spawn, Fifo, Install, Join, OpenScope, IntoSpawn, EndPool, Cast, IntoFifo, IntoCast, Broadcast, Over, own_pool, plan_book, count_book, count_kind, is_member, undo, withdraw, end_cast, next_of, next_steal}
+use Rattle.rayon_machine_orders.proofs.Words.{next_yield, goes_on, is_free, same_party, Stack, World, at_job, put, put_stack, with_stack, after_choice, after_refusal, can_miss, after_miss, after_resume, after_close, after_end, after_call, is_pool, new_job, new_call, after_spawn, after_send}
+use Rattle.rayon_machine_orders.proofs.Words.{after_install, after_join, after_yield, after_end_pool, after_feed, after_fifo, after_cast, after_scope, after_into, after_deal, after_gather, after_broadcast, after_into_cast, after_into_fifo, after_enter, after_enter_fifo, new_gathering, new_whole}
+use Rattle.rayon_machine_orders.proofs.Words.{holds, is_piece, new_piece, put_pieces, after_move, is_at_call, is_refusal, Count, Scope, PoolShape, Seen, Refused, Start, one, Job, is_done}
 use Rattle.rayon_machine_laws.proofs.Frame.{if_cond, into_cast_cases, put_same, put_old, same_party_refl, stack_mine, piece_old, piece_out}
 use Rattle.rayon_machine_orders.proofs.CallPlaces.{Stage, Undone, Withdrawing, is_undone, Part, plan_open, plan_here, steal_part, open_job, here_job, undo_part, withdraw_part}
 use Rattle.rayon_machine_orders.proofs.CallActs.{Sofar, or_false, or_true}
-use Rattle.rayon_machine_places.specs.declared.place.Count.{Count}
-use Rattle.rayon_machine_places.specs.declared.state.Scope.{Scope}
-use Rattle.rayon_machine_places.specs.declared.shape.PoolShape.{PoolShape}
-use Rattle.rayon_machine_places.specs.declared.act.Seen.{Seen}
-use Rattle.rayon_machine_places.specs.declared.act.Seen.TheVariants.{Refused, Missing, Start}
-use Rattle.rayon_machine_laws.specs.Once.{one}
+use Rattle.rayon_machine_places.specs.declared.act.Seen.TheVariants.{Missing}
 use Rattle.rayon_machine_laws.proofs.Amounts.{raises, raises_in, all_raises, gained}
 use Rattle.rayon_machine_laws.proofs.ShareRuns.{raises_mine}
 use Rattle.rayon_machine_laws.proofs.ShareEnds.{closed_shares}
-use Rattle.rayon_machine_places.specs.declared.state.Job.{Job}
-use Rattle.rayon_machine_places.specs.Readers.{is_done}
 
 -- the frames of a stack and its top
 abbrev pub whole : Stack → List Place
@@ -103,15 +79,62 @@ moved_raises w q x fs g e t z =
     let b : all_raises t (put_stack w.stack q (after_move (next_of g q x e) fs) q) ≡ all_raises t (after_move (next_of g q x e) fs) = ap (all_raises t) (stack_mine w.stack q (after_move (next_of g q x e) fs)) in omega (arith, a, b)
 
 pub from_turned : (w : World) (q : Party) (x : Place) (fs : List Place) (v : ℕ) → w.stack q ≡ record { top = x; below = fs } → IfSome (after_choice w q (record { top = x; below = fs }) x v) (λ u. Turned w u q (From q v))
-from_turned w q (PickVictim k) fs v z = if_cond (λ u. Turned w u q (From q v)) (nat_lt v (w.shape.pool (own_pool q)).workers) _ (λ b. record { to = _; stack = λ r. refl; sides = λ c l. (l, refl, refl); counts = λ c l. refl; made = λ t l. (l, (refl, refl, refl)); ats = λ t l. inl refl; raises = λ t l. moved_raises w q (PickVictim k) fs (w.shape.pool (own_pool q)) (Start v) t z; stood = λ n r s h. same_stood _ n r s _ (topped n r s (w.stack q) (PickVictim k) _ fs z (λ y. y) h); quiet = λ r s d. refl })
-from_turned w q YieldPick fs v z = if_cond (λ u. Turned w u q (From q v)) (nat_lt v (w.shape.pool (own_pool q)).workers) _ (λ b. record { to = _; stack = λ r. refl; sides = λ c l. (l, refl, refl); counts = λ c l. refl; made = λ t l. (l, (refl, refl, refl)); ats = λ t l. inl refl; raises = λ t l. moved_raises w q YieldPick fs (w.shape.pool (own_pool q)) (Start v) t z; stood = λ n r s h. same_stood _ n r s _ (topped n r s (w.stack q) YieldPick _ fs z (λ y. absurd y) h); quiet = λ r s d. refl })
+from_turned w q (PickVictim k) fs v z = if_cond (λ u. Turned w u q (From q v)) (nat_lt v (w.shape.pool (own_pool q)).workers) _
+    (λ b. record {
+      to = _;
+      stack = λ r. refl;
+      sides = λ c l. (l, refl, refl);
+      counts = λ c l. refl;
+      made = λ t l. (l, (refl, refl, refl));
+      ats = λ t l. inl refl;
+      raises = λ t l. moved_raises w q (PickVictim k) fs (w.shape.pool (own_pool q)) (Start v) t z;
+      stood = λ n r s h. same_stood _ n r s _
+          (topped n r s (w.stack q) (PickVictim k) _ fs z (λ y. y) h);
+      quiet = λ r s d. refl;
+    })
+from_turned w q YieldPick fs v z = if_cond (λ u. Turned w u q (From q v)) (nat_lt v (w.shape.pool (own_pool q)).workers) _
+    (λ b. record {
+      to = _;
+      stack = λ r. refl;
+      sides = λ c l. (l, refl, refl);
+      counts = λ c l. refl;
+      made = λ t l. (l, (refl, refl, refl));
+      ats = λ t l. inl refl;
+      raises = λ t l. moved_raises w q YieldPick fs (w.shape.pool (own_pool q)) (Start v) t z;
+      stood = λ n r s h. same_stood _ n r s _
+          (topped n r s (w.stack q) YieldPick _ fs z (λ y. absurd y) h);
+      quiet = λ r s d. refl;
+    })
 from_turned w q _ fs v z = tt
 
 pub miss_turned : (w : World) (q : Party) (x : Place) (fs : List Place) → w.stack q ≡ record { top = x; below = fs } → IfSome (after_miss w q (record { top = x; below = fs }) x) (λ u. Turned w u q (Miss q))
-miss_turned w (Worker a b) (StealFrom k m) fs z = if_cond (λ u. Turned w u (Worker a b) (Miss (Worker a b))) (can_miss w a k.victim) _ (λ y. record { to = _; stack = λ r. refl; sides = λ c l. (l, refl, refl); counts = λ c l. refl; made = λ t l. (l, (refl, refl, refl)); ats = λ t l. inl refl; raises = λ t l. moved_raises w (Worker a b) (StealFrom k m) fs (w.shape.pool a) Missing t z; stood = λ n r s h. same_stood _ n r s _ (topped n r s (w.stack (Worker a b)) (StealFrom k m) (next_steal (w.shape.pool a) (Worker a b) k m) fs z (λ y. steal_part n r (w.shape.pool a) (Worker a b) k m y) h); quiet = λ r s d. refl })
-miss_turned w (Worker a b) (YieldSteal v m) fs z = if_cond (λ u. Turned w u (Worker a b) (Miss (Worker a b))) (can_miss w a v) _ (λ y. record { to = _; stack = λ r. refl; sides = λ c l. (l, refl, refl); counts = λ c l. refl; made = λ t l. (l, (refl, refl, refl)); ats = λ t l. inl refl; raises = λ t l. moved_raises w (Worker a b) (YieldSteal v m) fs (w.shape.pool a) Missing t z; stood = λ n r s h. same_stood _ n r s _ (topped n r s (w.stack (Worker a b)) (YieldSteal v m) (next_yield (w.shape.pool a) (Worker a b) v m) fs z (λ y. absurd y) h); quiet = λ r s d. refl })
-miss_turned w (Worker a b) _ fs z = tt
-miss_turned w (Caller n) _ fs z = tt
+miss_turned w (Worker a b) (StealFrom k m) fs z = if_cond (λ u. Turned w u (Worker a b) (Miss (Worker a b))) (can_miss w a k.victim) _
+    (λ y. record {
+      to = _;
+      stack = λ r. refl;
+      sides = λ c l. (l, refl, refl);
+      counts = λ c l. refl;
+      made = λ t l. (l, (refl, refl, refl));
+      ats = λ t l. inl refl;
+      raises = λ t l. moved_raises w (Worker a b) (StealFrom k m) fs (w.shape.pool a) Missing t z;
+      stood = λ n r s h. same_stood _ n r s _
+          (topped n r s (w.stack (Worker a b)) (StealFrom k m) (next_steal (w.shape.pool a) (Worker a b) k m) fs z (λ y. steal_part n r (w.shape.pool a) (Worker a b) k m y) h);
+      quiet = λ r s d. refl;
+    })
+miss_turned w (Worker a b) (YieldSteal v m) fs z = if_cond (λ u. Turned w u (Worker a b) (Miss (Worker a b))) (can_miss w a v) _
+    (λ y. record {
+      to = _;
+      stack = λ r. refl;
+      sides = λ c l. (l, refl, refl);
+      counts = λ c l. refl;
+      made = λ t l. (l, (refl, refl, refl));
+      ats = λ t l. inl refl;
+      raises = λ t l. moved_raises w (Worker a b) (YieldSteal v m) fs (w.shape.pool a) Missing t z;
+      stood = λ n r s h. same_stood _ n r s _
+          (topped n r s (w.stack (Worker a b)) (YieldSteal v m) (next_yield (w.shape.pool a) (Worker a b) v m) fs z (λ y. absurd y) h);
+      quiet = λ r s d. refl;
+    })
+miss_turned w _ _ fs z = tt
 
 -- the call's own step, or one inside it
 pub at_call_yes : (s k : Stack) → k.below ≡ whole s → is_at_call s k ≡ true
@@ -121,11 +144,13 @@ pub at_call_no : (s k : Stack) (gs : List Place) (p : Place) → k.below ≡ gs 
 at_call_no s k gs p e = apart (is_at_call s k) refl
   where
     apart : (b : Bool) → is_at_call s k ≡ b → is_at_call s k ≡ false
-    apart true z = absurd (let i : length k.below ≡ length s.below + 1 = eqb-true (length k.below) (length s.below + 1) z in let a : length k.below ≡ length (gs ++ (p ∷ whole s)) = ap length e in let b : length (gs ++ (p ∷ whole s)) ≡ length gs + length (p ∷ whole s) = length-append gs (p ∷ whole s) in omega (arith, a, b, i))
+    apart true z = absurd (let i : length k.below ≡ length s.below + 1 = eqb-true (length k.below) (length s.below + 1) z in let a : length k.below ≡ length (gs ++ (p ∷ whole s)) = ap length e in
+        let b : length (gs ++ (p ∷ whole s)) ≡ length gs + length (p ∷ whole s) = length-append gs (p ∷ whole s) in omega (arith, a, b, i))
     apart false z = z
 
 -- a refused act of the call, or of what runs inside it
-refused_at : (w u : World) (q : Party) (x y : Place) (fs : List Place) (n : Plan) (r v : Stage) (s : Stack) (above : List Place) (place : Place) → w.stack q ≡ record { top = x; below = fs } → is_undone v ≡ true → Sofar u v n → (Part n r x → Part n v y) → x ∷ fs ≡ above ++ (place ∷ whole s) → Part n r place → Stood u n r s (record { top = y; below = fs }) (same_party q q && is_at_call s (w.stack q))
+refused_at : (w u : World) (q : Party) (x y : Place) (fs : List Place) (n : Plan) (r v : Stage) (s : Stack) (above : List Place) (place : Place) → w.stack q ≡ record { top = x; below = fs } → is_undone v ≡ true → Sofar u v n → (Part n r x → Part n v y) → x ∷ fs ≡ above ++ (place ∷ whole s)
+    → Part n r place → Stood u n r s (record { top = y; below = fs }) (same_party q q && is_at_call s (w.stack q))
 refused_at w u q x y fs n r v s [] place z i o f e p = record {
   stage = v;
   stands = record { above = []; place = y; is = (let a : fs ≡ whole s = cc in ap (λ l. y ∷ l) a); part = f (let a : x ≡ place = cc in subst (λ l. Part n r l) (sym a) p) };
@@ -143,7 +168,8 @@ refused_at w u q x y fs n r v s (a ∷ gs) place z i o f e p = record {
 }
 
 -- a refused act that is no step of such a call: of a broadcast
-kept_above : (w u : World) (q : Party) (x y : Place) (fs : List Place) (n : Plan) (r : Stage) (s : Stack) (above : List Place) (place : Place) → w.stack q ≡ record { top = x; below = fs } → (Part n r x → ⊥) → x ∷ fs ≡ above ++ (place ∷ whole s) → Part n r place → Stood u n r s (record { top = y; below = fs }) (same_party q q && is_at_call s (w.stack q))
+kept_above : (w u : World) (q : Party) (x y : Place) (fs : List Place) (n : Plan) (r : Stage) (s : Stack) (above : List Place) (place : Place) → w.stack q ≡ record { top = x; below = fs } → (Part n r x → ⊥) → x ∷ fs ≡ above ++ (place ∷ whole s) → Part n r place
+    → Stood u n r s (record { top = y; below = fs }) (same_party q q && is_at_call s (w.stack q))
 kept_above w u q x y fs n r s [] place z f e p = absurd (f (let a : x ≡ place = cc in subst (λ v. Part n r v) (sym a) p))
 kept_above w u q x y fs n r s (a ∷ gs) place z f e p = record {
   stage = r;
@@ -154,16 +180,128 @@ kept_above w u q x y fs n r s (a ∷ gs) place z f e p = record {
 }
 
 pub refuse_turned : (w : World) (q : Party) (x : Place) (fs : List Place) → w.stack q ≡ record { top = x; below = fs } → IfSome (after_refusal w q (record { top = x; below = fs })) (λ u. Turned w u q (Refuse q))
-refuse_turned w q (GrowCall m) fs z = record { to = _; stack = λ r. refl; sides = λ c l. (l, refl, refl); counts = λ c l. refl; made = λ t l. (l, (refl, refl, refl)); ats = λ t l. inl refl; raises = λ t l. moved_raises w q (GrowCall m) fs (w.shape.pool (own_pool q)) Refused t z; stood = λ n r s h. refused_at w (with_stack w q (record { top = undo m; below = fs })) q (GrowCall m) (undo m) fs n r Undone s h.above h.place z refl tt (λ y. undo_part n m (y.0)) (ap whole (sym z) ∙ h.is) h.part; quiet = λ r s d. ap (λ v. v && is_at_call s (w.stack r)) d }
-refuse_turned w q (GrowScope o) fs z = record { to = _; stack = λ r. refl; sides = λ c l. (l, refl, refl); counts = λ c l. refl; made = λ t l. (l, (refl, refl, refl)); ats = λ t l. inl refl; raises = λ t l. moved_raises w q (GrowScope o) fs (w.shape.pool (own_pool q)) Refused t z; stood = λ n r s h. refused_at w (with_stack w q (record { top = undo (Open o); below = fs })) q (GrowScope o) (undo (Open o)) fs n r Undone s h.above h.place z refl tt (λ y. undo_part n (Open o) (sym (y.0))) (ap whole (sym z) ∙ h.is) h.part; quiet = λ r s d. ap (λ v. v && is_at_call s (w.stack r)) d }
-refuse_turned w q (GrowCast g) fs z = record { to = _; stack = λ r. refl; sides = λ c l. (l, refl, refl); counts = λ c l. refl; made = λ t l. (l, (refl, refl, refl)); ats = λ t l. inl refl; raises = λ t l. moved_raises w q (GrowCast g) fs (w.shape.pool (own_pool q)) Refused t z; stood = λ n r s h. refused_at w (with_stack w q (record { top = undo (Gather g); below = fs })) q (GrowCast g) (undo (Gather g)) fs n r Undone s h.above h.place z refl tt (λ y. undo_part n (Gather g) (sym (y.0))) (ap whole (sym z) ∙ h.is) h.part; quiet = λ r s d. ap (λ v. v && is_at_call s (w.stack r)) d }
-refuse_turned w q (DealPieces g) fs z = record { to = _; stack = λ r. refl; sides = λ c l. (l, refl, refl); counts = λ c l. refl; made = λ t l. (l, (refl, refl, refl)); ats = λ t l. inl refl; raises = λ t l. moved_raises w q (DealPieces g) fs (w.shape.pool (own_pool q)) Refused t z; stood = λ n r s h. refused_at w (with_stack w q (record { top = undo (Gather g); below = fs })) q (DealPieces g) (undo (Gather g)) fs n r Undone s h.above h.place z refl tt (λ y. undo_part n (Gather g) (sym (y.0))) (ap whole (sym z) ∙ h.is) h.part; quiet = λ r s d. ap (λ v. v && is_at_call s (w.stack r)) d }
-refuse_turned w q (OpenSlot m) fs z = record { to = _; stack = λ r. refl; sides = λ c l. (l, refl, refl); counts = λ c l. refl; made = λ t l. (l, (refl, refl, refl)); ats = λ t l. inl refl; raises = λ t l. moved_raises w q (OpenSlot m) fs (w.shape.pool (own_pool q)) Refused t z; stood = λ n r s h. refused_at w (with_stack w q (record { top = undo m; below = fs })) q (OpenSlot m) (undo m) fs n r Undone s h.above h.place z refl tt (λ y. undo_part n m (y.0)) (ap whole (sym z) ∙ h.is) h.part; quiet = λ r s d. ap (λ v. v && is_at_call s (w.stack r)) d }
-refuse_turned w q (PushJob m v) fs z = record { to = _; stack = λ r. refl; sides = λ c l. (l, refl, refl); counts = λ c l. refl; made = λ t l. (l, (refl, refl, refl)); ats = λ t l. inl refl; raises = λ t l. moved_raises w q (PushJob m v) fs (w.shape.pool (own_pool q)) Refused t z; stood = λ n r s h. refused_at w (with_stack w q (record { top = withdraw (plan_book m) m; below = fs })) q (PushJob m v) (withdraw (plan_book m) m) fs n r Undone s h.above h.place z refl tt (λ y. withdraw_part n m (plan_book m) (y.0)) (ap whole (sym z) ∙ h.is) h.part; quiet = λ r s d. ap (λ v. v && is_at_call s (w.stack r)) d }
-refuse_turned w q (AddToFifo f) fs z = record { to = _; stack = λ r. refl; sides = λ c l. (l, refl, refl); counts = λ c l. refl; made = λ t l. (l, (refl, refl, refl)); ats = λ t l. inl refl; raises = λ t l. moved_raises w q (AddToFifo f) fs (w.shape.pool (own_pool q)) Refused t z; stood = λ n r s h. refused_at w (with_stack w q (record { top = withdraw (count_book f.count) (Feed f); below = fs })) q (AddToFifo f) (withdraw (count_book f.count) (Feed f)) fs n r Undone s h.above h.place z refl tt (λ y. withdraw_part n (Feed f) (count_book f.count) (sym (y.0))) (ap whole (sym z) ∙ h.is) h.part; quiet = λ r s d. ap (λ v. v && is_at_call s (w.stack r)) d }
-refuse_turned w q (PushToken f v) fs z = record { to = _; stack = λ r. refl; sides = λ c l. (l, refl, refl); counts = λ c l. refl; made = λ t l. (l, (refl, refl, refl)); ats = λ t l. inl refl; raises = λ t l. moved_raises w q (PushToken f v) fs (w.shape.pool (own_pool q)) Refused t z; stood = λ n r s h. refused_at w (with_stack w q (record { top = TakeFromFifo f; below = fs })) q (PushToken f v) (TakeFromFifo f) fs n r Withdrawing s h.above h.place z refl tt (λ y. (y.0, refl)) (ap whole (sym z) ∙ h.is) h.part; quiet = λ r s d. ap (λ v. v && is_at_call s (w.stack r)) d }
-refuse_turned w q (PushForAll c) fs z = record { to = _; stack = λ r. refl; sides = λ c l. (l, refl, refl); counts = λ c l. refl; made = λ t l. (l, (refl, refl, refl)); ats = λ t l. inl refl; raises = λ t l. moved_raises w q (PushForAll c) fs (w.shape.pool (own_pool q)) Refused t z; stood = λ n r s h. kept_above w (with_stack w q (record { top = end_cast c.count c; below = fs })) q (PushForAll c) (end_cast c.count c) fs n r s h.above h.place z (λ y. y) (ap whole (sym z) ∙ h.is) h.part; quiet = λ r s d. ap (λ v. v && is_at_call s (w.stack r)) d }
-refuse_turned w q (OpenForAll c) fs z = record { to = _; stack = λ r. refl; sides = λ c l. (l, refl, refl); counts = λ c l. refl; made = λ t l. (l, (refl, refl, refl)); ats = λ t l. inl refl; raises = λ t l. moved_raises w q (OpenForAll c) fs (w.shape.pool (own_pool q)) Refused t z; stood = λ n r s h. kept_above w (with_stack w q (record { top = LowerForAll c; below = fs })) q (OpenForAll c) (LowerForAll c) fs n r s h.above h.place z (λ y. y) (ap whole (sym z) ∙ h.is) h.part; quiet = λ r s d. ap (λ v. v && is_at_call s (w.stack r)) d }
+refuse_turned w q (GrowCall m) fs z = record {
+  to = _;
+  stack = λ r. refl;
+  sides = λ c l. (l, refl, refl);
+  counts = λ c l. refl;
+  made = λ t l. (l, (refl, refl, refl));
+  ats = λ t l. inl refl;
+  raises = λ t l. moved_raises w q (GrowCall m) fs (w.shape.pool (own_pool q)) Refused t z;
+  stood = λ n r s h. refused_at w
+      (with_stack w q (record { top = undo m; below = fs })) q (GrowCall m) (undo m) fs n r Undone s h.above h.place z refl tt (λ y. undo_part n m (y.0)) (ap whole (sym z) ∙ h.is) h.part;
+  quiet = λ r s d. ap (λ v. v && is_at_call s (w.stack r)) d;
+}
+refuse_turned w q (GrowScope o) fs z = record {
+  to = _;
+  stack = λ r. refl;
+  sides = λ c l. (l, refl, refl);
+  counts = λ c l. refl;
+  made = λ t l. (l, (refl, refl, refl));
+  ats = λ t l. inl refl;
+  raises = λ t l. moved_raises w q (GrowScope o) fs (w.shape.pool (own_pool q)) Refused t z;
+  stood = λ n r s h. refused_at w
+      (with_stack w q (record { top = undo (Open o); below = fs })) q (GrowScope o) (undo (Open o)) fs n r Undone s h.above h.place z refl tt (λ y. undo_part n (Open o) (sym (y.0))) (ap whole (sym z) ∙ h.is) h.part;
+  quiet = λ r s d. ap (λ v. v && is_at_call s (w.stack r)) d;
+}
+refuse_turned w q (GrowCast g) fs z = record {
+  to = _;
+  stack = λ r. refl;
+  sides = λ c l. (l, refl, refl);
+  counts = λ c l. refl;
+  made = λ t l. (l, (refl, refl, refl));
+  ats = λ t l. inl refl;
+  raises = λ t l. moved_raises w q (GrowCast g) fs (w.shape.pool (own_pool q)) Refused t z;
+  stood = λ n r s h. refused_at w
+      (with_stack w q (record { top = undo (Gather g); below = fs })) q (GrowCast g) (undo (Gather g)) fs n r Undone s h.above h.place z refl tt (λ y. undo_part n (Gather g) (sym (y.0))) (ap whole (sym z) ∙ h.is) h.part;
+  quiet = λ r s d. ap (λ v. v && is_at_call s (w.stack r)) d;
+}
+refuse_turned w q (DealPieces g) fs z = record {
+  to = _;
+  stack = λ r. refl;
+  sides = λ c l. (l, refl, refl);
+  counts = λ c l. refl;
+  made = λ t l. (l, (refl, refl, refl));
+  ats = λ t l. inl refl;
+  raises = λ t l. moved_raises w q (DealPieces g) fs (w.shape.pool (own_pool q)) Refused t z;
+  stood = λ n r s h. refused_at w
+      (with_stack w q (record { top = undo (Gather g); below = fs })) q (DealPieces g) (undo (Gather g)) fs n r Undone s h.above h.place z refl tt (λ y. undo_part n (Gather g) (sym (y.0))) (ap whole (sym z) ∙ h.is) h.part;
+  quiet = λ r s d. ap (λ v. v && is_at_call s (w.stack r)) d;
+}
+refuse_turned w q (OpenSlot m) fs z = record {
+  to = _;
+  stack = λ r. refl;
+  sides = λ c l. (l, refl, refl);
+  counts = λ c l. refl;
+  made = λ t l. (l, (refl, refl, refl));
+  ats = λ t l. inl refl;
+  raises = λ t l. moved_raises w q (OpenSlot m) fs (w.shape.pool (own_pool q)) Refused t z;
+  stood = λ n r s h. refused_at w
+      (with_stack w q (record { top = undo m; below = fs })) q (OpenSlot m) (undo m) fs n r Undone s h.above h.place z refl tt (λ y. undo_part n m (y.0)) (ap whole (sym z) ∙ h.is) h.part;
+  quiet = λ r s d. ap (λ v. v && is_at_call s (w.stack r)) d;
+}
+refuse_turned w q (PushJob m v) fs z = record {
+  to = _;
+  stack = λ r. refl;
+  sides = λ c l. (l, refl, refl);
+  counts = λ c l. refl;
+  made = λ t l. (l, (refl, refl, refl));
+  ats = λ t l. inl refl;
+  raises = λ t l. moved_raises w q (PushJob m v) fs (w.shape.pool (own_pool q)) Refused t z;
+  stood = λ n r s h. refused_at w
+      (with_stack w q (record { top = withdraw (plan_book m) m; below = fs })) q (PushJob m v) (withdraw (plan_book m) m) fs n r Undone s h.above h.place z refl tt (λ y. withdraw_part n m (plan_book m) (y.0)) (ap whole (sym z) ∙ h.is) h.part;
+  quiet = λ r s d. ap
+      (λ v. v && is_at_call s (w.stack r)) d;
+}
+refuse_turned w q (AddToFifo f) fs z = record {
+  to = _;
+  stack = λ r. refl;
+  sides = λ c l. (l, refl, refl);
+  counts = λ c l. refl;
+  made = λ t l. (l, (refl, refl, refl));
+  ats = λ t l. inl refl;
+  raises = λ t l. moved_raises w q (AddToFifo f) fs (w.shape.pool (own_pool q)) Refused t z;
+  stood = λ n r s h. refused_at w
+      (with_stack w q (record { top = withdraw (count_book f.count) (Feed f); below = fs })) q (AddToFifo f) (withdraw (count_book f.count) (Feed f)) fs n r Undone s h.above h.place z refl tt (λ y. withdraw_part n (Feed f) (count_book f.count) (sym (y.0)))
+      (ap whole (sym z) ∙ h.is) h.part;
+  quiet = λ r s d. ap (λ v. v && is_at_call s (w.stack r)) d;
+}
+refuse_turned w q (PushToken f v) fs z = record {
+  to = _;
+  stack = λ r. refl;
+  sides = λ c l. (l, refl, refl);
+  counts = λ c l. refl;
+  made = λ t l. (l, (refl, refl, refl));
+  ats = λ t l. inl refl;
+  raises = λ t l. moved_raises w q (PushToken f v) fs (w.shape.pool (own_pool q)) Refused t z;
+  stood = λ n r s h. refused_at w
+      (with_stack w q (record { top = TakeFromFifo f; below = fs })) q (PushToken f v) (TakeFromFifo f) fs n r Withdrawing s h.above h.place z refl tt (λ y. (y.0, refl)) (ap whole (sym z) ∙ h.is) h.part;
+  quiet = λ r s d. ap (λ v. v && is_at_call s (w.stack r)) d;
+}
+refuse_turned w q (PushForAll c) fs z = record {
+  to = _;
+  stack = λ r. refl;
+  sides = λ c l. (l, refl, refl);
+  counts = λ c l. refl;
+  made = λ t l. (l, (refl, refl, refl));
+  ats = λ t l. inl refl;
+  raises = λ t l. moved_raises w q (PushForAll c) fs (w.shape.pool (own_pool q)) Refused t z;
+  stood = λ n r s h. kept_above w
+      (with_stack w q (record { top = end_cast c.count c; below = fs })) q (PushForAll c) (end_cast c.count c) fs n r s h.above h.place z (λ y. y) (ap whole (sym z) ∙ h.is) h.part;
+  quiet = λ r s d. ap (λ v. v && is_at_call s (w.stack r)) d;
+}
+refuse_turned w q (OpenForAll c) fs z = record {
+  to = _;
+  stack = λ r. refl;
+  sides = λ c l. (l, refl, refl);
+  counts = λ c l. refl;
+  made = λ t l. (l, (refl, refl, refl));
+  ats = λ t l. inl refl;
+  raises = λ t l. moved_raises w q (OpenForAll c) fs (w.shape.pool (own_pool q)) Refused t z;
+  stood = λ n r s h. kept_above w
+      (with_stack w q (record { top = LowerForAll c; below = fs })) q (OpenForAll c) (LowerForAll c) fs n r s h.above h.place z (λ y. y) (ap whole (sym z) ∙ h.is) h.part;
+  quiet = λ r s d. ap (λ v. v && is_at_call s (w.stack r)) d;
+}
 refuse_turned w q _ fs z = tt
 
 -- the end of a run
@@ -184,11 +322,8 @@ closed : (n : Plan) (r : Stage) (s : Stack) (t : ℕ) (k : JobKind) (e : Ending)
 closed n r s t (Detached p) e fs gs place z y = record { above = LowerCount (OfPool p) (OfJob t) Resume ∷ gs; place = place; is = ap (λ v. LowerCount (OfPool p) (OfJob t) Resume ∷ v) z; part = y }
 closed n r s t (Scoped c o) e fs gs place z y = record { above = StoreSlot c o t e ∷ gs; place = place; is = ap (λ v. StoreSlot c o t e ∷ v) z; part = y }
 closed n r s t (Stored c o) e fs gs place z y = record { above = StoreResult c o e ∷ gs; place = place; is = ap (λ v. StoreResult c o e ∷ v) z; part = y }
-closed n r s t Direct e fs gs place z y = resumed n r s e fs gs place z y
-closed n r s t (TokenOf i b) e fs gs place z y = resumed n r s e fs gs place z y
 closed n r s t (PieceOf c o) e fs gs place z y = record { above = StorePiece c o t e ∷ gs; place = place; is = ap (λ v. StorePiece c o t e ∷ v) z; part = y }
-closed n r s t (WholeOf c o) e fs gs place z y = resumed n r s e fs gs place z y
-closed n r s t (BodyOf c9 o9) e fs gs place z y = resumed n r s e fs gs place z y
+closed n r s t _ e fs gs place z y = resumed n r s e fs gs place z y
 
 ended : (n : Plan) (r : Stage) (s : Stack) (t : ℕ) (k : JobKind) (e : Ending) (fs above : List Place) (place : Place) → Run t k ∷ fs ≡ above ++ (place ∷ whole s) → Part n r place → CallStands n r s (after_close t k e fs)
 ended n r s t k e fs [] place z y = absurd (let a : Run t k ≡ place = cc in let b : Part n r (Run t k) = subst (λ v. Part n r v) (sym a) y in b)
@@ -217,7 +352,8 @@ abbrev pub Refuses : World → Event → Type 0
 Refuses w e = (r : Party) (s : Stack) → is_refusal r s w e ≡ false
 
 -- a call begins above what its party did, and changes no call and no job that was there
-called_turned : (w u : World) (q : Party) (e : Event) (x : Place) → Refuses w e → ((r : Party) → u.stack r ≡ put_stack w.stack q (after_call (w.stack q) x) r) → w.calls ≤ u.calls → w.jobs ≤ u.jobs → ((c : ℕ) → c + 1 ≤ w.calls → u.call c ≡ w.call c) → ((t : ℕ) → t + 1 ≤ w.jobs → u.job t ≡ w.job t) → ((t : ℕ) → t + 1 ≤ w.jobs → raises t x ≤ 0) → Turned w u q e
+called_turned : (w u : World) (q : Party) (e : Event) (x : Place) → Refuses w e → ((r : Party) → u.stack r ≡ put_stack w.stack q (after_call (w.stack q) x) r) → w.calls ≤ u.calls → w.jobs ≤ u.jobs → ((c : ℕ) → c + 1 ≤ w.calls → u.call c ≡ w.call c)
+    → ((t : ℕ) → t + 1 ≤ w.jobs → u.job t ≡ w.job t) → ((t : ℕ) → t + 1 ≤ w.jobs → raises t x ≤ 0) → Turned w u q e
 called_turned w u q e x f st cs js call job none = record {
   to = after_call (w.stack q) x;
   stack = st;
@@ -246,7 +382,8 @@ no_piece : (c : Pieces) (t n : ℕ) → t + 1 ≤ n → n ≤ c.first → one (i
 no_piece c t n l m = let a : one (is_piece c t) ≡ 0 = ap one (not_cast c t n l m) in omega (arith, a)
 
 spawned : (w : World) (q : Party) (p : ℕ) (e : Event) → Refuses w e → IfSome (after_spawn w q p (w.stack q)) (λ u. Turned w u q e)
-spawned w q p e f = if_cond (λ u. Turned w u q e) (is_free ((w.stack q).top) && is_pool w.shape p) _ (λ b. called_turned w _ q e (RaiseCount (Detach p w.jobs)) f (λ r. refl) (omega arith) (omega arith) (λ c l. refl) (λ t l. old_at w.job w.jobs (new_job q p (Detached p)) t l) (λ t l. (let a : one (t == w.jobs) ≤ 0 = not_new t w.jobs w.jobs l (omega arith) in omega (arith, a))))
+spawned w q p e f = if_cond (λ u. Turned w u q e) (is_free ((w.stack q).top) && is_pool w.shape p) _
+    (λ b. called_turned w _ q e (RaiseCount (Detach p w.jobs)) f (λ r. refl) (omega arith) (omega arith) (λ c l. refl) (λ t l. old_at w.job w.jobs (new_job q p (Detached p)) t l) (λ t l. (let a : one (t == w.jobs) ≤ 0 = not_new t w.jobs w.jobs l (omega arith) in omega (arith, a))))
 
 pub spawn_turned : (w : World) (q : Party) (p : ℕ) → IfSome (after_spawn w q p (w.stack q)) (λ u. Turned w u q (Spawn q p))
 spawn_turned w q p = spawned w q p (Spawn q p) (λ r s. refl)
@@ -266,7 +403,8 @@ into_cast_turned w q n = into_cast_cases (λ u. Turned w u q (IntoCast q n)) w q
 
 -- a broadcast that waits
 pub gather_turned : (w : World) (q : Party) (p : ℕ) → IfSome (after_broadcast w q p (w.stack q)) (λ u. Turned w u q (Broadcast q p))
-gather_turned w q p = if_cond (λ u. Turned w u q (Broadcast q p)) (is_free ((w.stack q).top) && is_pool w.shape p) _ (λ b. called_turned w (after_gather w q p (w.stack q)) q (Broadcast q p) (RaiseCount (Gather (record { call = record { number = w.calls; pool = p; job = w.jobs + c.workers }; pieces = c }))) (λ r s. refl) (λ r. refl) (omega arith) (omega arith)
+gather_turned w q p = if_cond (λ u. Turned w u q (Broadcast q p)) (is_free ((w.stack q).top) && is_pool w.shape p) _
+    (λ b. called_turned w (after_gather w q p (w.stack q)) q (Broadcast q p) (RaiseCount (Gather (record { call = record { number = w.calls; pool = p; job = w.jobs + c.workers }; pieces = c }))) (λ r s. refl) (λ r. refl) (omega arith) (omega arith)
     (λ i l. old_at w.call w.calls (new_gathering c.workers (w.jobs + c.workers)) i l)
     (λ t l. old_at dealt (w.jobs + c.workers) (new_whole q p w.calls) t (omega (arith, l)) ∙ piece_old c (λ i j. new_piece q c.count p i) w.job t (not_cast c t w.jobs l (omega arith)))
     (λ t l. (let a : one (t == (w.jobs + c.workers)) ≤ 0 = not_new t w.jobs (w.jobs + c.workers) l (omega arith) in let d : one (is_piece c t) ≤ 0 = no_piece c t w.jobs l (omega arith) in omega (arith, a, d))))
@@ -282,30 +420,39 @@ two_at : (w : World) (j k : Job) (t : ℕ) → t + 1 ≤ w.jobs → put (put w.j
 two_at w j k t l = old_at (put w.job w.jobs j) (w.jobs + 1) k t (omega (arith, l)) ∙ old_at w.job w.jobs j t l
 
 fed_turned : (w : World) (k : Count) (p i : ℕ) (e : Event) → Refuses w e → Turned w (after_feed w k p i (w.stack (Worker p i))) (Worker p i) e
-fed_turned w k p i e f = called_turned w (after_feed w k p i (w.stack (Worker p i))) (Worker p i) e (RaiseCount (Feed (record { count = k; pool = p; job = w.jobs; token = w.jobs + 1 }))) f (λ r. refl) (omega arith) (omega arith) (λ c l. refl) (λ t l. two_at w (new_job (Worker p i) p (count_kind k)) (new_job (Worker p i) p (TokenOf i (count_book k))) t l) (λ t l. (let a : one (t == w.jobs) ≤ 0 = not_new t w.jobs w.jobs l (omega arith) in omega (arith, a)))
+fed_turned w k p i e f = called_turned w (after_feed w k p i (w.stack (Worker p i))) (Worker p i) e (RaiseCount (Feed (record { count = k; pool = p; job = w.jobs; token = w.jobs + 1 }))) f (λ r. refl) (omega arith) (omega arith) (λ c l. refl)
+    (λ t l. two_at w (new_job (Worker p i) p (count_kind k)) (new_job (Worker p i) p (TokenOf i (count_book k))) t l) (λ t l. (let a : one (t == w.jobs) ≤ 0 = not_new t w.jobs w.jobs l (omega arith) in omega (arith, a)))
 
 pub fifo_turned : (w : World) (q : Party) (p : ℕ) → IfSome (after_fifo w q p (w.stack q)) (λ u. Turned w u q (Fifo q p))
 fifo_turned w (Caller c) p = spawned w (Caller c) p (Fifo (Caller c) p) (λ r s. refl)
 fifo_turned w (Worker r i) p = by (r == p) refl
   where
-    by : (z : Bool) → (r == p) ≡ z → IfSome (if z then (if is_free ((w.stack (Worker r i)).top) && is_pool w.shape p then Some (after_feed w (OfPool p) p i (w.stack (Worker r i))) else None) else after_spawn w (Worker r i) p (w.stack (Worker r i))) (λ u. Turned w u (Worker r i) (Fifo (Worker r i) p))
-    by true z = subst (λ n. IfSome (if is_free ((w.stack (Worker n i)).top) && is_pool w.shape p then Some (after_feed w (OfPool p) p i (w.stack (Worker n i))) else None) (λ u. Turned w u (Worker n i) (Fifo (Worker n i) p))) (sym (eqb-true r p z)) (if_cond (λ u. Turned w u (Worker p i) (Fifo (Worker p i) p)) (is_free ((w.stack (Worker p i)).top) && is_pool w.shape p) _ (λ b. fed_turned w (OfPool p) p i (Fifo (Worker p i) p) (λ k s. refl)))
+    by : (z : Bool) → (r == p) ≡ z → IfSome (if z then (if is_free ((w.stack (Worker r i)).top) && is_pool w.shape p then Some (after_feed w (OfPool p) p i (w.stack (Worker r i))) else None) else after_spawn w (Worker r i) p (w.stack (Worker r i)))
+        (λ u. Turned w u (Worker r i) (Fifo (Worker r i) p))
+    by true z = subst (λ n. IfSome (if is_free ((w.stack (Worker n i)).top) && is_pool w.shape p then Some (after_feed w (OfPool p) p i (w.stack (Worker n i))) else None) (λ u. Turned w u (Worker n i) (Fifo (Worker n i) p))) (sym (eqb-true r p z))
+        (if_cond (λ u. Turned w u (Worker p i) (Fifo (Worker p i) p)) (is_free ((w.stack (Worker p i)).top) && is_pool w.shape p) _ (λ b. fed_turned w (OfPool p) p i (Fifo (Worker p i) p) (λ k s. refl)))
     by false z = spawned w (Worker r i) p (Fifo (Worker r i) p) (λ k s. refl)
 
 -- one or two jobs and a call are new
 sent_turned : (w : World) (q : Party) (p : ℕ) (b : Bool) → Turned w (after_send w q p (w.stack q) b) q (Install q p)
-sent_turned w q p true = called_turned w (after_send w q p (w.stack q) true) q (Install q p) (RaiseCount (Here p w.jobs)) (λ r s. refl) (λ r. refl) (omega arith) (omega arith) (λ c l. refl) (λ t l. old_at w.job w.jobs (new_job q p Direct) t l) (λ t l. (let a : one (t == w.jobs) ≤ 0 = not_new t w.jobs w.jobs l (omega arith) in omega (arith, a)))
-sent_turned w q p false = called_turned w (after_send w q p (w.stack q) false) q (Install q p) (RaiseCount (Send (record { number = w.calls; pool = p; job = w.jobs }))) (λ r s. refl) (λ r. refl) (omega arith) (omega arith) (λ c l. old_at w.call w.calls (new_call None w.jobs) c l) (λ t l. old_at w.job w.jobs (new_job q p (Stored w.calls q)) t l) (λ t l. (let a : one (t == w.jobs) ≤ 0 = not_new t w.jobs w.jobs l (omega arith) in omega (arith, a)))
+sent_turned w q p true = called_turned w (after_send w q p (w.stack q) true) q (Install q p) (RaiseCount (Here p w.jobs)) (λ r s. refl) (λ r. refl) (omega arith) (omega arith) (λ c l. refl) (λ t l. old_at w.job w.jobs (new_job q p Direct) t l)
+    (λ t l. (let a : one (t == w.jobs) ≤ 0 = not_new t w.jobs w.jobs l (omega arith) in omega (arith, a)))
+sent_turned w q p false = called_turned w (after_send w q p (w.stack q) false) q (Install q p) (RaiseCount (Send (record { number = w.calls; pool = p; job = w.jobs }))) (λ r s. refl) (λ r. refl) (omega arith) (omega arith) (λ c l. old_at w.call w.calls (new_call None w.jobs) c l)
+    (λ t l. old_at w.job w.jobs (new_job q p (Stored w.calls q)) t l) (λ t l. (let a : one (t == w.jobs) ≤ 0 = not_new t w.jobs w.jobs l (omega arith) in omega (arith, a)))
 
 pub install_turned : (w : World) (q : Party) (p : ℕ) → IfSome (after_install w q p (w.stack q)) (λ u. Turned w u q (Install q p))
 install_turned w q p = if_cond (λ u. Turned w u q (Install q p)) (is_free ((w.stack q).top) && is_pool w.shape p) _ (λ b. sent_turned w q p (is_member q p))
 
 pub scope_turned : (w : World) (q : Party) (p : ℕ) → IfSome (after_scope w q p (w.stack q)) (λ u. Turned w u q (OpenScope q p))
-scope_turned w q p = if_cond (λ u. Turned w u q (OpenScope q p)) (is_free ((w.stack q).top) && is_pool w.shape p) _ (λ b. called_turned w _ q (OpenScope q p) (RaiseCount (Open (record { number = w.calls; pool = p; job = w.jobs }))) (λ r s. refl) (λ r. refl) (omega arith) (omega arith) (λ c l. old_at w.call w.calls (new_call None w.jobs) c l) (λ t l. old_at w.job w.jobs (new_job q p (BodyOf w.calls q)) t l) (λ t l. (let a : one (t == w.jobs) ≤ 0 = not_new t w.jobs w.jobs l (omega arith) in omega (arith, a))))
+scope_turned w q p = if_cond (λ u. Turned w u q (OpenScope q p)) (is_free ((w.stack q).top) && is_pool w.shape p) _
+    (λ b. called_turned w _ q (OpenScope q p) (RaiseCount (Open (record { number = w.calls; pool = p; job = w.jobs }))) (λ r s. refl) (λ r. refl) (omega arith) (omega arith) (λ c l. old_at w.call w.calls (new_call None w.jobs) c l)
+    (λ t l. old_at w.job w.jobs (new_job q p (BodyOf w.calls q)) t l) (λ t l. (let a : one (t == w.jobs) ≤ 0 = not_new t w.jobs w.jobs l (omega arith) in omega (arith, a))))
 
 -- a spawn into a scope
 entered : (w : World) (q : Party) (z : Scope) (e : Event) → Refuses w e → IfSome (after_enter w q (w.stack q) (Some z)) (λ u. Turned w u q e)
-entered w q z e f = if_cond (λ u. Turned w u q e) (is_free ((w.stack q).top) && holds z.call (w.stack q)) _ (λ b. called_turned w _ q e (RaiseCount (Enter (record { call = z.call; owner = z.owner; pool = z.pool; job = w.jobs }))) f (λ r. refl) (omega arith) (omega arith) (λ c l. refl) (λ t l. old_at w.job w.jobs (new_job q z.pool (Scoped z.call z.owner)) t l) (λ t l. (let a : one (t == w.jobs) ≤ 0 = not_new t w.jobs w.jobs l (omega arith) in omega (arith, a))))
+entered w q z e f = if_cond (λ u. Turned w u q e) (is_free ((w.stack q).top) && holds z.call (w.stack q)) _
+    (λ b. called_turned w _ q e (RaiseCount (Enter (record { call = z.call; owner = z.owner; pool = z.pool; job = w.jobs }))) f (λ r. refl) (omega arith) (omega arith) (λ c l. refl) (λ t l. old_at w.job w.jobs (new_job q z.pool (Scoped z.call z.owner)) t l)
+    (λ t l. (let a : one (t == w.jobs) ≤ 0 = not_new t w.jobs w.jobs l (omega arith) in omega (arith, a))))
 
 pub into_turned : (w : World) (q : Party) (i : ℕ) → IfSome (after_into w q i (w.stack q)) (λ u. Turned w u q (IntoSpawn q i))
 into_turned w q i = by (slice_get w.scopes i)
@@ -321,7 +468,8 @@ into_fifo_turned w q i = by q (slice_get w.scopes i)
     own z j r = if is_free ((w.stack (Worker r j)).top) && holds z.call (w.stack (Worker r j)) then Some (after_feed w (OfScope z.call z.owner) z.pool j (w.stack (Worker r j))) else None
 
     mine : (z : Scope) (j r : ℕ) (b : Bool) → (r == z.pool) ≡ b → IfSome (if b then own z j r else after_enter w (Worker r j) (w.stack (Worker r j)) (Some z)) (λ u. Turned w u (Worker r j) (IntoFifo (Worker r j) i))
-    mine z j r true e = subst (λ k. IfSome (own z j k) (λ u. Turned w u (Worker k j) (IntoFifo (Worker k j) i))) (sym (eqb-true r z.pool e)) (if_cond (λ u. Turned w u (Worker z.pool j) (IntoFifo (Worker z.pool j) i)) (is_free ((w.stack (Worker z.pool j)).top) && holds z.call (w.stack (Worker z.pool j))) _ (λ b. fed_turned w (OfScope z.call z.owner) z.pool j (IntoFifo (Worker z.pool j) i) (λ k s. refl)))
+    mine z j r true e = subst (λ k. IfSome (own z j k) (λ u. Turned w u (Worker k j) (IntoFifo (Worker k j) i))) (sym (eqb-true r z.pool e))
+        (if_cond (λ u. Turned w u (Worker z.pool j) (IntoFifo (Worker z.pool j) i)) (is_free ((w.stack (Worker z.pool j)).top) && holds z.call (w.stack (Worker z.pool j))) _ (λ b. fed_turned w (OfScope z.call z.owner) z.pool j (IntoFifo (Worker z.pool j) i) (λ k s. refl)))
     mine z j r false e = entered w (Worker r j) z (IntoFifo (Worker r j) i) (λ k s. refl)
 
     by : (q : Party) (o : Option Scope) → IfSome (after_enter_fifo w q (w.stack q) o) (λ u. Turned w u q (IntoFifo q i))
@@ -330,7 +478,9 @@ into_fifo_turned w q i = by q (slice_get w.scopes i)
     by (Worker r j) (Some z) = mine z j r (r == z.pool) refl
 
 pub join_turned : (w : World) (q : Party) → IfSome (after_join w q (w.stack q)) (λ u. Turned w u q (Join q))
-join_turned w (Worker p i) = if_cond (λ u. Turned w u (Worker p i) (Join (Worker p i))) (is_free ((w.stack (Worker p i)).top)) _ (λ b. called_turned w _ (Worker p i) (Join (Worker p i)) (RaiseCount (Fork (record { number = w.calls; pool = p; job = w.jobs + 1 }) w.jobs)) (λ r s. refl) (λ r. refl) (omega arith) (omega arith) (λ c l. old_at w.call w.calls (new_call (Some w.jobs) (w.jobs + 1)) c l) (λ t l. two_at w (new_job (Worker p i) p Direct) (new_job (Worker p i) p (Stored w.calls (Worker p i))) t l) (λ t l. (let a : one (t == (w.jobs + 1)) ≤ 0 = not_new t w.jobs (w.jobs + 1) l (omega arith) in omega (arith, a))))
+join_turned w (Worker p i) = if_cond (λ u. Turned w u (Worker p i) (Join (Worker p i))) (is_free ((w.stack (Worker p i)).top)) _
+    (λ b. called_turned w _ (Worker p i) (Join (Worker p i)) (RaiseCount (Fork (record { number = w.calls; pool = p; job = w.jobs + 1 }) w.jobs)) (λ r s. refl) (λ r. refl) (omega arith) (omega arith) (λ c l. old_at w.call w.calls (new_call (Some w.jobs) (w.jobs + 1)) c l)
+    (λ t l. two_at w (new_job (Worker p i) p Direct) (new_job (Worker p i) p (Stored w.calls (Worker p i))) t l) (λ t l. (let a : one (t == (w.jobs + 1)) ≤ 0 = not_new t w.jobs (w.jobs + 1) l (omega arith) in omega (arith, a))))
 join_turned w (Caller n) = tt
 
 pub yield_turned : (w : World) (q : Party) (x : Place) (e : Event) → Refuses w e → ((t : ℕ) → raises t x ≤ 0) → IfSome (after_yield w q (w.stack q) x) (λ u. Turned w u q e)
@@ -338,4 +488,5 @@ yield_turned w (Worker a b) x e f n = if_cond (λ u. Turned w u (Worker a b) e) 
 yield_turned w (Caller c) x e f n = tt
 
 pub give_turned : (w : World) (q : Party) (p : ℕ) → IfSome (after_end_pool w q p (w.stack q)) (λ u. Turned w u q (EndPool q p))
-give_turned w q p = if_cond (λ u. Turned w u q (EndPool q p)) (is_free ((w.stack q).top) && (is_pool w.shape p && (w.pool p).held)) _ (λ b. called_turned w _ q (EndPool q p) (LowerCount (OfPool p) PoolValue Resume) (λ r s. refl) (λ r. refl) (omega arith) (omega arith) (λ c l. refl) (λ t l. refl) (λ t l. omega arith))
+give_turned w q p = if_cond (λ u. Turned w u q (EndPool q p)) (is_free ((w.stack q).top) && (is_pool w.shape p && (w.pool p).held)) _
+    (λ b. called_turned w _ q (EndPool q p) (LowerCount (OfPool p) PoolValue Resume) (λ r s. refl) (λ r. refl) (omega arith) (omega arith) (λ c l. refl) (λ t l. refl) (λ t l. omega arith))

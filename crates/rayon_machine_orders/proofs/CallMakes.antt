@@ -2,37 +2,16 @@
 --
 -- Which call an event begins, and the numbers that it gives out, is `begun_by`.
 use Rattle.std.proofs.Common.{arith, refl, sym, ◌∙◌, ap, subst, inl, inr}
-use Rattle.std.specs.Prelude.{ℕ, Bool, true, false, ◌&&◌, ◌||◌, ◌+◌, ◌-◌, ◌==◌, ◌≤◌, ◌<◌, if◌then◌else◌, Option, Some, None, [], ◌≡◌, IfSome, ◌⊎◌, slice_get}
-use Rattle.std.proofs.lemmas.Bool.{eqb-true, eq-eqb}
-use Rattle.rayon_machine_places.specs.declared.place.Party.{Party}
-use Rattle.rayon_machine_places.specs.declared.place.Party.TheVariants.{Worker, Caller}
-use Rattle.rayon_machine_places.specs.declared.place.JobKind.TheVariants.{Detached, TokenOf, Scoped, Stored, Direct, BodyOf}
-use Rattle.rayon_machine_places.specs.declared.place.Plan.{Plan}
-use Rattle.rayon_machine_places.specs.declared.place.Plan.TheVariants.{Detach, Here, Send, Fork, Feed, Open, Enter, Gather}
-use Rattle.rayon_machine_places.specs.declared.place.Ending.TheVariants.{Fine, Fault}
-use Rattle.rayon_machine_places.specs.declared.place.Count.{Count}
-use Rattle.rayon_machine_places.specs.declared.place.Count.TheVariants.{OfPool, OfScope, OfCast}
-use Rattle.rayon_machine_places.specs.declared.place.Place.TheVariants.{RaiseCount}
-use Rattle.rayon_machine_places.specs.declared.event.Event.{Event}
-use Rattle.rayon_machine_places.specs.declared.event.Event.TheVariants.{Spawn, Fifo, Install, Join, Scope as OpenScope, IntoSpawn, IntoFifo, Broadcast}
-use Rattle.rayon_machine_places.specs.declared.state.Whereabouts.{Whereabouts}
-use Rattle.rayon_machine_places.specs.declared.state.Whereabouts.TheVariants.{Nowhere, Made, InDeque, Injected, InFifo, Running, Over, HandedBack, Spent, Retaken, InCast}
-use Rattle.rayon_machine_places.specs.declared.place.OpenCall.{OpenCall}
-use Rattle.rayon_machine_places.specs.declared.place.Pieces.{Pieces}
-use Rattle.rayon_machine_places.specs.declared.place.Gathering.{Gathering}
-use Rattle.rayon_machine_places.specs.declared.state.Scope.{Scope}
-use Rattle.rayon_machine_places.specs.declared.state.Job.{Job}
-use Rattle.rayon_machine_places.specs.Places.{is_member, plan_job, count_kind, count_book, is_free}
-use Rattle.rayon_machine_places.specs.World.{World, is_token}
-use Rattle.rayon_machine_places.specs.Steps.{after_call, is_pool, new_job, new_call, after_spawn, after_send, after_install, after_join, after_scope, after_into, after_into_fifo, after_enter, after_enter_fifo, after_gather, after_broadcast, holds, step, after_feed, after_fifo, put, put_pieces, new_piece, new_whole, new_gathering, is_piece}
-use Rattle.rayon_machine_places.specs.Readers.{is_done}
-use Rattle.rayon_machine_laws.specs.End.{HasEnded, Verdict, AllFine, FirstFault, LastFault, AllJobs, ScopeTakes, CastTakes}
-use Rattle.rayon_machine_laws.specs.Counted.{ScopeEnded}
+use Rattle.rayon_machine_orders.proofs.Words.{ℕ, Bool, true, false, ◌&&◌, ◌||◌, ◌+◌, ◌-◌, ◌==◌, ◌≤◌, ◌<◌, if◌then◌else◌, Option, Some, None, [], ◌≡◌, IfSome, ◌⊎◌, slice_get, eqb-true, eq-eqb, Party, Worker, Caller, Detached, TokenOf, Scoped, Stored, Direct, BodyOf, Plan, Detach, Here, Send}
+use Rattle.rayon_machine_orders.proofs.Words.{Fork, Feed, Open, Enter, Gather, Fine, Fault, Count, OfPool, OfScope, OfCast, RaiseCount, Event, Spawn, Fifo, Install, Join, OpenScope, IntoSpawn, IntoFifo, Broadcast, Whereabouts, Nowhere, Made, InDeque, Injected, InFifo, Running, Over, HandedBack}
+use Rattle.rayon_machine_orders.proofs.Words.{Spent, Retaken, InCast, OpenCall, Pieces, Gathering, Scope, Job, is_member, plan_job, count_kind, count_book, is_free, World, is_token, after_call, is_pool, new_job, new_call, after_spawn, after_send, after_install, after_join, after_scope}
+use Rattle.rayon_machine_orders.proofs.Words.{after_into, after_into_fifo, after_enter, after_enter_fifo, after_gather, after_broadcast, holds, step, after_feed, after_fifo, put, put_pieces, new_piece, new_whole, new_gathering, is_piece, is_done, HasEnded, Verdict, AllFine, LastFault, AllJobs}
+use Rattle.rayon_machine_orders.proofs.Words.{ScopeTakes, CastTakes, ScopeEnded, TakesFault, TakesLowest, caller_of, scope_pool, fed_jobs, numbers_of, is_awaited, is_scope, LowersSo, HoldsEnding, IsHandedOn, IsSpent}
+use Rattle.rayon_machine_laws.specs.End.{FirstFault}
 use Rattle.rayon_machine_laws.proofs.Scoping.{count_over}
 use Rattle.rayon_machine_laws.proofs.Enters.{EntersHold}
 use Rattle.rayon_machine_laws.proofs.Spawned.{scope_ended as zero_ended}
-use Rattle.rayon_machine_orders.specs.Faults.{TakesFault, TakesLowest}
-use Rattle.rayon_machine_orders.specs.Calls.{caller_of, scope_pool, fed_jobs, jobs_of, numbers_of, is_awaited, is_join, is_scope, is_broadcast, IsPrecedent, LowersSo, ScopeAnswers, CastAnswers, TakesSo, HasRun, LeavesJob, HoldsEnding, IsHandedOn, IsSpent}
+use Rattle.rayon_machine_orders.specs.Calls.{jobs_of, is_join, is_broadcast, IsPrecedent, ScopeAnswers, CastAnswers, TakesSo, HasRun, LeavesJob}
 use Rattle.rayon_machine_laws.proofs.Frame.{either, if_cond, put_new, stack_mine, put_old, piece_in, piece_new, piece_range}
 use Rattle.rayon_machine_laws.proofs.PlacedRuns.{JobsHold, once}
 use Rattle.rayon_machine_laws.proofs.Claims.{counts_detached, is_detached, is_body}
@@ -54,32 +33,19 @@ IsOf t (Fork o a) = (t ≡ a) ⊎ (t ≡ o.job)
 IsOf t (Gather g) = is_piece g.pieces t ≡ true
 
 pub all_of : (P : ℕ → Type 0) (t : ℕ) (n : Plan) → IsOf t n → AllJobs P n → P t
-all_of P t (Detach p a) e z = subst P (sym e) z
-all_of P t (Here p a) e z = subst P (sym e) z
 all_of P t (Feed f) (inl e) z = subst P (sym e) (z.0)
 all_of P t (Feed f) (inr e) z = subst P (sym e) (z.1)
-all_of P t (Send o) e z = subst P (sym e) z
-all_of P t (Open o) e z = subst P (sym e) z
-all_of P t (Enter x) e z = subst P (sym e) z
 all_of P t (Fork o a) (inl e) z = subst P (sym e) (z.0)
 all_of P t (Fork o a) (inr e) z = subst P (sym e) (z.1)
 all_of P t (Gather g) e z = z t e
+all_of P t _ e z = subst P (sym e) z
 
 has_run : (u : World) → JobsHold u → (t : ℕ) → Ended u t → HasRun u t
 has_run u h t z = record { over = z; runs = by ((u.job t).at) refl z }
   where
     by : (v : Whereabouts) → (u.job t).at ≡ v → is_done v ≡ true → (u.job t).runs ≡ 1
     by (Over e) i d = (once u h).over t e i
-    by (Made q) i d = cc
-    by (Running q) i d = cc
-    by (InDeque p j) i d = cc
-    by (Injected p) i d = cc
-    by (InFifo p j b) i d = cc
-    by (InCast p j) i d = cc
-    by (Retaken q) i d = cc
-    by HandedBack i d = cc
-    by Spent i d = cc
-    by Nowhere i d = cc
+    by _ i d = cc
 
 -- what a call of this plan answers, by how its jobs ended
 abbrev pub PlanAnswers : World → Plan → Verdict → Type 0
@@ -109,18 +75,15 @@ one_answer w u e p t l j i AllFine y = (subst (λ v. HasEnded u v Fine) i y, λ 
 
 sent_answer : (u : World) (o : OpenCall) (x : Verdict) → PlanAnswers u (Send o) x → PlanAnswers u (Here 0 o.job) x
 sent_answer u o FirstFault y = y
-sent_answer u o LastFault y = y
-sent_answer u o AllFine y = y
+sent_answer u o _ y = y
 
 open_answer : (u : World) (o : OpenCall) (l : ℕ) → o.job ≡ l → (x : Verdict) → PlanAnswers u (Open o) x → ScopeAnswers u o.number l (Some x)
 open_answer u o l i FirstFault y = absurd y
-open_answer u o l i LastFault y = (y.0 ∙ i, y.1)
-open_answer u o l i AllFine y = (y.0 ∙ i, y.1)
+open_answer u o l i _ y = (y.0 ∙ i, y.1)
 
 cast_answer : (u : World) (g : Gathering) (l : ℕ) → g.call.job ≡ l → (x : Verdict) → PlanAnswers u (Gather g) x → CastAnswers u g.call.number l (Some x)
 cast_answer u g l i FirstFault y = absurd y
-cast_answer u g l i LastFault y = (y.0 ∙ i, y.1)
-cast_answer u g l i AllFine y = (y.0 ∙ i, y.1)
+cast_answer u g l i _ y = (y.0 ∙ i, y.1)
 
 two_answer : (u : World) (q : Party) (o : OpenCall) (a l : ℕ) → o.job ≡ l → (x : Verdict) → PlanAnswers u (Fork o a) x → IsPrecedent (Join q) u a l (Some x)
 two_answer u q o a l i FirstFault y = (refl, y)
@@ -129,14 +92,11 @@ two_answer u q o a l i AllFine y = (subst (λ v. HasEnded u v Fine) i (y.0), λ 
 
 -- what a call of this plan finds where it is to take
 abbrev pub PlanTakes : World → Plan → ℕ → Type 0
-PlanTakes u (Detach p t) c = ⊥
-PlanTakes u (Here p t) c = ⊥
-PlanTakes u (Feed f) c = ⊥
-PlanTakes u (Enter e) c = ⊥
 PlanTakes u (Send o) c = HoldsEnding u c o.job
 PlanTakes u (Fork o a) c = HoldsEnding u c o.job
 PlanTakes u (Open o) c = HoldsEnding u c o.job × TakesFault u c
 PlanTakes u (Gather g) c = TakesLowest u c
+PlanTakes u _ c = ⊥
 
 -- a call with a count of its own begins: it waits for a job, a scope's body or the number of a broadcast
 pub record CountBegun (w v : World) (n : Plan) : Type 0 where
@@ -245,7 +205,9 @@ fifo_begun w (Caller c) p = spawn_as w (Caller c) p (Fifo (Caller c) p) (record 
 fifo_begun w (Worker r i) p = by (r == p) refl
   where
     by : (z : Bool) → (r == p) ≡ z → IfSome (if z then (if is_free ((w.stack (Worker r i)).top) && is_pool w.shape p then Some (after_feed w (OfPool p) p i (w.stack (Worker r i))) else None) else after_spawn w (Worker r i) p (w.stack (Worker r i))) (λ v. Begun w v (Worker r i) (Fifo (Worker r i) p))
-    by true z = subst (λ n. IfSome (if is_free ((w.stack (Worker n i)).top) && is_pool w.shape p then Some (after_feed w (OfPool p) p i (w.stack (Worker n i))) else None) (λ v. Begun w v (Worker n i) (Fifo (Worker n i) p))) (sym (eqb-true r p z)) (if_cond (λ v. Begun w v (Worker p i) (Fifo (Worker p i) p)) (is_free ((w.stack (Worker p i)).top) && is_pool w.shape p) _ (λ b. feed_as w (OfPool p) p i (Fifo (Worker p i) p) (record { two = ap (λ x. if x then 2 else 1) (eq-eqb p p refl); same = refl; free = refl; flat = refl; wide = refl; leaves = λ u t y. y })))
+    by true z = subst (λ n. IfSome (if is_free ((w.stack (Worker n i)).top) && is_pool w.shape p then Some (after_feed w (OfPool p) p i (w.stack (Worker n i))) else None) (λ v. Begun w v (Worker n i) (Fifo (Worker n i) p))) (sym (eqb-true r p z))
+        (if_cond (λ v. Begun w v (Worker p i) (Fifo (Worker p i) p)) (is_free ((w.stack (Worker p i)).top) && is_pool w.shape p) _
+        (λ b. feed_as w (OfPool p) p i (Fifo (Worker p i) p) (record { two = ap (λ x. if x then 2 else 1) (eq-eqb p p refl); same = refl; free = refl; flat = refl; wide = refl; leaves = λ u t y. y })))
     by false z = spawn_as w (Worker r i) p (Fifo (Worker r i) p) (record { one = ap (λ b. if b then 2 else 1) z; same = refl; free = refl; flat = refl; wide = refl; leaves = λ u t y. inl y })
 
 sent_begun : (w : World) (q : Party) (p : ℕ) (b : Bool) → Begun w (after_send w q p (w.stack q) b) q (Install q p)
@@ -266,7 +228,8 @@ sent_begun w q p true = record {
 sent_begun w q p false = record {
   plan = Send (record { number = w.calls; pool = p; job = w.jobs });
   made = refl;
-  inside = first_inside w _ q (Send (record { number = w.calls; pool = p; job = w.jobs })) (stack_mine w.stack q (after_call (w.stack q) (RaiseCount (Send (record { number = w.calls; pool = p; job = w.jobs }))))) ((omega arith), ap (λ k. k.first) (put_new w.call w.calls (new_call None w.jobs)), record { made = omega arith; sort = ap (λ j. is_body j.kind) (put_new w.job w.jobs (new_job q p (Stored w.calls q))) });
+  inside = first_inside w _ q (Send (record { number = w.calls; pool = p; job = w.jobs })) (stack_mine w.stack q (after_call (w.stack q) (RaiseCount (Send (record { number = w.calls; pool = p; job = w.jobs })))))
+      ((omega arith), ap (λ k. k.first) (put_new w.call w.calls (new_call None w.jobs)), record { made = omega arith; sort = ap (λ j. is_body j.kind) (put_new w.job w.jobs (new_job q p (Stored w.calls q))) });
   numbers = λ t l m. omega (arith, l, m);
   last = λ z. omega arith;
   awaited = λ z. refl;
@@ -285,7 +248,8 @@ join_begun : (w : World) (q : Party) → IfSome (after_join w q (w.stack q)) (λ
 join_begun w (Worker p i) = if_cond (λ v. Begun w v (Worker p i) (Join (Worker p i))) (is_free ((w.stack (Worker p i)).top)) _ (λ b. record {
   plan = Fork (record { number = w.calls; pool = p; job = w.jobs + 1 }) w.jobs;
   made = refl;
-  inside = first_inside w _ (Worker p i) (Fork (record { number = w.calls; pool = p; job = w.jobs + 1 }) w.jobs) (stack_mine w.stack (Worker p i) (after_call (w.stack (Worker p i)) (RaiseCount (Fork (record { number = w.calls; pool = p; job = w.jobs + 1 }) w.jobs)))) ((omega arith), ap (λ k. k.first) (put_new w.call w.calls (new_call (Some w.jobs) (w.jobs + 1))), record { made = omega arith; sort = ap (λ j. is_body j.kind) (put_new (put w.job w.jobs (new_job (Worker p i) p Direct)) (w.jobs + 1) (new_job (Worker p i) p (Stored w.calls (Worker p i)))) });
+  inside = first_inside w _ (Worker p i) (Fork (record { number = w.calls; pool = p; job = w.jobs + 1 }) w.jobs) (stack_mine w.stack (Worker p i) (after_call (w.stack (Worker p i)) (RaiseCount (Fork (record { number = w.calls; pool = p; job = w.jobs + 1 }) w.jobs))))
+      ((omega arith), ap (λ k. k.first) (put_new w.call w.calls (new_call (Some w.jobs) (w.jobs + 1))), record { made = omega arith; sort = ap (λ j. is_body j.kind) (put_new (put w.job w.jobs (new_job (Worker p i) p Direct)) (w.jobs + 1) (new_job (Worker p i) p (Stored w.calls (Worker p i)))) });
   numbers = λ t l m. two t l m (t == w.jobs) refl;
   last = λ z. omega arith;
   awaited = λ z. refl;
@@ -306,7 +270,8 @@ scope_begun : (w : World) (q : Party) (p : ℕ) → IfSome (after_scope w q p (w
 scope_begun w q p = if_cond (λ v. Begun w v q (OpenScope q p)) (is_free ((w.stack q).top) && is_pool w.shape p) _ (λ b. record {
   plan = Open (record { number = w.calls; pool = p; job = w.jobs });
   made = refl;
-  inside = first_inside w _ q (Open (record { number = w.calls; pool = p; job = w.jobs })) (stack_mine w.stack q (after_call (w.stack q) (RaiseCount (Open (record { number = w.calls; pool = p; job = w.jobs }))))) ((omega arith), ap (λ k. k.first) (put_new w.call w.calls (new_call None w.jobs)), record { made = omega arith; sort = ap (λ j. is_scope_body j.kind) (put_new w.job w.jobs (new_job q p (BodyOf w.calls q))) });
+  inside = first_inside w _ q (Open (record { number = w.calls; pool = p; job = w.jobs })) (stack_mine w.stack q (after_call (w.stack q) (RaiseCount (Open (record { number = w.calls; pool = p; job = w.jobs })))))
+      ((omega arith), ap (λ k. k.first) (put_new w.call w.calls (new_call None w.jobs)), record { made = omega arith; sort = ap (λ j. is_scope_body j.kind) (put_new w.job w.jobs (new_job q p (BodyOf w.calls q))) });
   numbers = λ t l m. omega (arith, l, m);
   last = λ z. omega arith;
   awaited = λ z. refl;
@@ -329,7 +294,8 @@ enter_as : (w : World) (q : Party) (z : Scope) (e : Event) → OneSpawned w e �
 enter_as w q z e s = if_cond (λ v. Begun w v q e) (is_free ((w.stack q).top) && holds z.call (w.stack q)) _ (λ b. record {
   plan = Enter (record { call = z.call; owner = z.owner; pool = z.pool; job = w.jobs });
   made = ap (λ n. w.jobs + n) (sym (s.same ∙ s.one));
-  inside = first_inside w _ q (Enter (record { call = z.call; owner = z.owner; pool = z.pool; job = w.jobs })) (stack_mine w.stack q (after_call (w.stack q) (RaiseCount (Enter (record { call = z.call; owner = z.owner; pool = z.pool; job = w.jobs }))))) ((omega arith), ap (λ j. is_detached j.kind) (put_new w.job w.jobs (new_job q z.pool (Scoped z.call z.owner))));
+  inside = first_inside w _ q (Enter (record { call = z.call; owner = z.owner; pool = z.pool; job = w.jobs })) (stack_mine w.stack q (after_call (w.stack q) (RaiseCount (Enter (record { call = z.call; owner = z.owner; pool = z.pool; job = w.jobs })))))
+      ((omega arith), ap (λ j. is_detached j.kind) (put_new w.job w.jobs (new_job q z.pool (Scoped z.call z.owner))));
   numbers = λ t l m. one_of w e t s.one l m;
   last = λ y. omega arith;
   awaited = λ y. absurd (let a : true ≡ false = sym y ∙ s.free in cc);
@@ -362,7 +328,9 @@ into_fifo_begun w q i = by q (slice_get w.scopes i) refl
     one q z e m = record { one = count q z false e m; same = refl; free = refl; flat = refl; wide = refl; leaves = λ u t y. inl y }
 
     mine : (z : Scope) (j r : ℕ) → slice_get w.scopes i ≡ Some z → (b : Bool) → (r == z.pool) ≡ b → IfSome (if b then own z j r else after_enter w (Worker r j) (w.stack (Worker r j)) (Some z)) (λ v. Begun w v (Worker r j) (IntoFifo (Worker r j) i))
-    mine z j r e true m = subst (λ k. IfSome (own z j k) (λ v. Begun w v (Worker k j) (IntoFifo (Worker k j) i))) (sym (eqb-true r z.pool m)) (if_cond (λ v. Begun w v (Worker z.pool j) (IntoFifo (Worker z.pool j) i)) (is_free ((w.stack (Worker z.pool j)).top) && holds z.call (w.stack (Worker z.pool j))) _ (λ b. feed_as w (OfScope z.call z.owner) z.pool j (IntoFifo (Worker z.pool j) i) (record { two = count (Worker z.pool j) z true e (eq-eqb z.pool z.pool refl); same = refl; free = refl; flat = refl; wide = refl; leaves = λ u t y. y })))
+    mine z j r e true m = subst (λ k. IfSome (own z j k) (λ v. Begun w v (Worker k j) (IntoFifo (Worker k j) i))) (sym (eqb-true r z.pool m))
+        (if_cond (λ v. Begun w v (Worker z.pool j) (IntoFifo (Worker z.pool j) i)) (is_free ((w.stack (Worker z.pool j)).top) && holds z.call (w.stack (Worker z.pool j))) _
+        (λ b. feed_as w (OfScope z.call z.owner) z.pool j (IntoFifo (Worker z.pool j) i) (record { two = count (Worker z.pool j) z true e (eq-eqb z.pool z.pool refl); same = refl; free = refl; flat = refl; wide = refl; leaves = λ u t y. y })))
     mine z j r e false m = enter_as w (Worker r j) z (IntoFifo (Worker r j) i) (one (Worker r j) z e m)
 
     by : (q : Party) (o : Option Scope) → slice_get w.scopes i ≡ o → IfSome (after_enter_fifo w q (w.stack q) o) (λ v. Begun w v q (IntoFifo q i))

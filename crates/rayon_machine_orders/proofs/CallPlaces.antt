@@ -6,49 +6,16 @@
 -- what the place says (`CallsHold`) the jobs are over; or the plan was a spawn that has queued its job; or the move
 -- hands the jobs back.
 use Rattle.std.proofs.Common.{refl, sym, ap, subst, ◌∙◌}
-use Rattle.std.specs.Prelude.{ℕ, Bool, true, false, ◌&&◌, ◌+◌, ◌-◌, ◌==◌, ◌≤◌, nat_lt, if◌then◌else◌, Option, Some, None, ◌≡◌, ⊤}
-use Rattle.rayon_machine_places.specs.declared.place.Party.{Party}
-use Rattle.rayon_machine_places.specs.declared.place.Party.TheVariants.{Worker, Caller}
-use Rattle.rayon_machine_places.specs.declared.place.Ending.{Ending}
-use Rattle.rayon_machine_places.specs.declared.place.Ending.TheVariants.{Fine, Fault}
-use Rattle.rayon_machine_places.specs.declared.place.Target.{Target}
-use Rattle.rayon_machine_places.specs.declared.place.Target.TheVariants.{Termination, Answer}
-use Rattle.rayon_machine_places.specs.declared.place.Latch.{Latch}
-use Rattle.rayon_machine_places.specs.declared.place.Latch.TheVariants.{Terminate, OfCall}
-use Rattle.rayon_machine_places.specs.declared.place.Rounds.{Rounds}
-use Rattle.rayon_machine_places.specs.declared.place.Rounds.TheVariants.{Failed, Announced}
-use Rattle.rayon_machine_places.specs.declared.place.Plan.{Plan}
-use Rattle.rayon_machine_places.specs.declared.place.Plan.TheVariants.{Detach, Here, Send, Fork, Feed, Open, Enter, Gather}
-use Rattle.rayon_machine_places.specs.declared.place.Count.{Count}
-use Rattle.rayon_machine_places.specs.declared.place.Count.TheVariants.{OfPool, OfScope, OfCast}
-use Rattle.rayon_machine_places.specs.declared.place.Share.{Share}
-use Rattle.rayon_machine_places.specs.declared.place.Share.TheVariants.{PoolValue, Body, OfJob}
-use Rattle.rayon_machine_places.specs.declared.place.Then.{Then}
-use Rattle.rayon_machine_places.specs.declared.place.Then.TheVariants.{BeginFound, LeaveWait, Resume, Await, RunFirst, Answers, Missing, Ran, GiveBack, Called, Gathers}
-use Rattle.rayon_machine_places.specs.declared.place.Place.{Place}
-use Rattle.rayon_machine_places.specs.declared.place.Place.TheVariants.{ProbeWorking, PopWorking, TakeCastWorking, BecomeInactive, ProbeIdle, PopIdle, TakeCastIdle, PickVictim, StealFrom, PopInjected, AnnounceSelf, GetSleepy, LockOwn, FallAsleep, LoadCounters, AddSleeping, LookAtCast, LookAtInjector, BlockSelf, RelockOwn, UndoSleeping, WakeUp, UnlockOwn, LeaveSearch, JoinProbe, JoinPop, JoinTakeCast, YieldPop, YieldTakeCast, YieldPick, YieldSteal, YieldPopInjected, LocalPop, LocalTakeCast, BeginTask, BeginHere, Run, RaiseCount, GrowCall, LookQueue, PushJob, TellNews, LockToWake, WakeWorker, UnlockWoken, WaitForLock, TakeResult, LowerCount, StoreResult, SetLatch, LockToSettle, WakeSettled, UnlockSettled, SetLockLatch, FirstSide, SecondSide, AtOnce, Free, Stopped, AddToFifo, LookForToken, PushToken, TakeFromFifo, RaiseForAll, PushForAll, LowerForAll, GrowScope, OpenSlot, CloseSlot, StoreBody, StoreSlot, ScopeBody, OpenForAll, CloseForAll, GrowCast, DealPieces, StorePiece}
-use Rattle.rayon_machine_places.specs.declared.place.Move.{Move}
-use Rattle.rayon_machine_places.specs.declared.place.Move.TheVariants.{Stay, Enter, StartRun, Back, HandBack, Discard, HandIn, Mark, HandAllBack}
-use Rattle.rayon_machine_places.specs.declared.act.Seen.{Seen}
-use Rattle.rayon_machine_places.specs.declared.act.Seen.TheVariants.{Done, Yes, Task, Jec, Word, Start, Wakes}
-use Rattle.rayon_machine_places.specs.declared.state.Whereabouts.TheVariants.{Over}
-use Rattle.rayon_machine_places.specs.declared.shape.PoolShape.{PoolShape}
-use Rattle.rayon_machine_places.specs.declared.place.OpenCall.{OpenCall}
-use Rattle.rayon_machine_places.specs.declared.place.Wait.{Wait}
-use Rattle.rayon_machine_places.specs.declared.place.Settling.{Settling}
-use Rattle.rayon_machine_places.specs.Places.{own_pool, own_index, plan_pool, plan_job, begin_feed, after_slot, undo, withdraw, after_wait, finish, walk, settle, after_set, after_found, after_news, after_raise, next_victim, not_self, after_failure, next_steal, next_of, is_taken, set_call, settle_count}
-use Rattle.rayon_machine_places.specs.World.{World, is_token}
-use Rattle.rayon_machine_places.specs.Readers.{is_done}
+use Rattle.rayon_machine_orders.proofs.Words.{ℕ, Bool, true, false, ◌&&◌, ◌+◌, ◌-◌, ◌==◌, ◌≤◌, nat_lt, if◌then◌else◌, Option, Some, None, ◌≡◌, ⊤, Party, Worker, Caller, Ending, Fine, Fault, Target, Termination, Answer, Latch, Terminate, OfCall, Rounds, Failed, Announced, Plan, Detach, Here}
+use Rattle.rayon_machine_orders.proofs.Words.{Send, Fork, Feed, Open, Enter, Gather, Count, OfPool, OfScope, OfCast, Share, PoolValue, Body, OfJob, Then, BeginFound, LeaveWait, Resume, Await, RunFirst, Answers, Missing, Ran, GiveBack, Called, Gathers, Place, ProbeWorking, PopWorking}
+use Rattle.rayon_machine_orders.proofs.Words.{TakeCastWorking, BecomeInactive, ProbeIdle, PopIdle, TakeCastIdle, PickVictim, StealFrom, PopInjected, AnnounceSelf, GetSleepy, LockOwn, FallAsleep, LoadCounters, AddSleeping, LookAtCast, LookAtInjector, BlockSelf, RelockOwn, UndoSleeping, WakeUp}
+use Rattle.rayon_machine_orders.proofs.Words.{UnlockOwn, LeaveSearch, JoinProbe, JoinPop, JoinTakeCast, YieldPop, YieldTakeCast, YieldPick, YieldSteal, YieldPopInjected, LocalPop, LocalTakeCast, BeginTask, BeginHere, Run, RaiseCount, GrowCall, LookQueue, PushJob, TellNews, LockToWake}
+use Rattle.rayon_machine_orders.proofs.Words.{WakeWorker, UnlockWoken, WaitForLock, TakeResult, LowerCount, StoreResult, SetLatch, LockToSettle, WakeSettled, UnlockSettled, SetLockLatch, FirstSide, SecondSide, AtOnce, Free, Stopped, AddToFifo, LookForToken, PushToken, TakeFromFifo, RaiseForAll}
+use Rattle.rayon_machine_orders.proofs.Words.{PushForAll, LowerForAll, GrowScope, OpenSlot, CloseSlot, StoreBody, StoreSlot, ScopeBody, OpenForAll, CloseForAll, GrowCast, DealPieces, StorePiece, Move, Stay, EnterAbove as Enter, StartRun, Back, HandBack, Discard, HandIn, Mark, HandAllBack, Seen}
+use Rattle.rayon_machine_orders.proofs.Words.{Done, Yes, Task, Jec, Word, Start, Wakes, Over, PoolShape, OpenCall, Wait, Settling, own_pool, own_index, plan_pool, plan_job, begin_feed, after_slot, undo, withdraw, after_wait, finish, walk, settle, after_set, after_found, after_news, after_raise}
+use Rattle.rayon_machine_orders.proofs.Words.{next_victim, not_self, after_failure, next_steal, next_of, is_taken, set_call, settle_count, World, is_token, is_done, Taken, Feeding, Gathering, Detached, Stored, Direct, TokenOf, Scoped, BodyOf, PieceOf, WholeOf, JobKind, Job, has_body, HasEnded}
+use Rattle.rayon_machine_orders.proofs.Words.{ScopeTakes, CastTakes, TakesAs, is_piece}
 use Rattle.rayon_machine_laws.proofs.Claims.{FirstEnds, is_body, is_detached, SaysThen, Says}
-use Rattle.rayon_machine_places.specs.declared.place.Taken.{Taken}
-use Rattle.rayon_machine_places.specs.declared.place.Feeding.{Feeding}
-use Rattle.rayon_machine_places.specs.declared.place.Gathering.{Gathering}
-use Rattle.rayon_machine_places.specs.declared.place.JobKind.TheVariants.{Detached, Stored, Direct, TokenOf, Scoped, BodyOf, PieceOf, WholeOf}
-use Rattle.rayon_machine_places.specs.declared.place.JobKind.{JobKind}
-use Rattle.rayon_machine_places.specs.declared.state.Job.{Job}
-use Rattle.rayon_machine_laws.specs.Counted.{has_body}
-use Rattle.rayon_machine_laws.specs.End.{HasEnded, ScopeTakes, CastTakes, Takes as TakesAs}
-use Rattle.rayon_machine_places.specs.Steps.{is_piece}
 
 -- how far a call has come: its job is not yet queued, or it is, or a scope's body runs; its share is given back; or a
 -- step of the call was refused, and then its share is given back. In between the job of a call for a FIFO list is there
@@ -120,7 +87,6 @@ abbrev pub PartThen : Plan → Stage → Then → Type 0
 PartThen n s (BeginFound g t) = PartTarget n s g
 PartThen n s (LeaveWait g) = PartTarget n s g
 PartThen n s Resume = (is_detach n ≡ true) × (s ≡ Gone)
-PartThen n s Called = ⊥
 PartThen n s (Await o) = PartOpen n s o
 PartThen n s (Gathers o) = PartOpen n s o
 PartThen n s (RunFirst o a) = (n ≡ Fork o a) × (s ≡ Gone)
@@ -216,14 +182,12 @@ Ended w t = is_done (w.job t).at ≡ true
 
 -- what is known of the jobs of a call that waited once it has given its share back: they are over
 abbrev pub AllOver : (ℕ → Job) → Plan → Type 0
-AllOver f (Detach p t) = ⊤
-AllOver f (Feed d) = ⊤
-AllOver f (Enter e) = ⊤
 AllOver f (Here p t) = is_done (f t).at ≡ true
 AllOver f (Send o) = is_done (f o.job).at ≡ true
 AllOver f (Open o) = is_done (f o.job).at ≡ true
 AllOver f (Fork o a) = (is_done (f a).at ≡ true) × (is_done (f o.job).at ≡ true)
 AllOver f (Gather g) = (t : ℕ) → is_piece g.pieces t ≡ true → is_done (f t).at ≡ true
+AllOver f _ = ⊤
 
 -- and the count of a broadcast is 0 then
 abbrev pub NoneLeft : World → Plan → Type 0
@@ -271,14 +235,12 @@ Known w _ = ⊤
 -- where a move of the call's own step leads
 abbrev pub Leads : World → Plan → Stage → Move → Type 0
 Leads w n s (Stay y) = Part n s y
-Leads w n s (HandIn y k) = ⊥
 Leads w n s (Mark y c m) = Part n s y
 Leads w n s (Enter f y) = Part n s f
 Leads w n s (StartRun f t) = Part n s f
 Leads w n s Back = Returns n s
 Leads w n s (HandBack m) = (m ≡ n) × (s ≡ Repaid)
-Leads w n s (Discard k) = ⊥
-Leads w n s (HandAllBack b9) = ⊥
+Leads w n s _ = ⊥
 
 first_ended : (w : World) (a : ℕ) (f : Option Ending) → FirstEnds w (Some a) f → Ended w a
 first_ended w a (Some e) z = ap is_done z
@@ -291,12 +253,7 @@ some_open e = cc
 pub plain_takes : (w : World) (o : OpenCall) (d : Ending) (k : JobKind) → is_body k ≡ false → TakesAs w o k d → HasEnded w o.job d
 plain_takes w o d (BodyOf c p) b y = cc
 plain_takes w o d (WholeOf c p) b y = cc
-plain_takes w o d (Detached p) b y = y
-plain_takes w o d (Stored c p) b y = y
-plain_takes w o d (Scoped c p) b y = y
-plain_takes w o d (PieceOf c p) b y = y
-plain_takes w o d (TokenOf i b9) b y = y
-plain_takes w o d Direct b y = y
+plain_takes w o d _ b y = y
 
 pub body_takes : (w : World) (o : OpenCall) (d : Ending) (k : JobKind) → is_scope_body k ≡ true → TakesAs w o k d → ScopeTakes w o.number d
 body_takes w o d (BodyOf c p) b y = y
@@ -318,14 +275,13 @@ pub record Knows (w : World) (o : OpenCall) (f : Option Ending) (d : Ending) : T
   pub count : has_body (w.job o.job).kind ≡ false → (w.call o.number).count ≡ 0
 
 pub open_over : (w : World) (n : Plan) (o : OpenCall) (f : Option Ending) (d : Ending) → Known w n → Knows w o f d → plan_open n ≡ Some o → AllOver w.job n
-open_over w (Detach p t) o f d k y e = tt
 open_over w (Here p t) o f d k y e = absurd (cc)
-open_over w (Feed g) o f d k y e = tt
-open_over w (Enter x) o f d k y e = tt
 open_over w (Send m) o f d k y e = let i : o ≡ m = sym (some_open e) in let z : Knows w m f d = subst (λ x. Knows w x f d) i y in ap is_done ((plain_takes w m d ((w.job m.job).kind) ((k.2).sort) z.took).at)
 open_over w (Open m) o f d k y e = let i : o ≡ m = sym (some_open e) in let z : Knows w m f d = subst (λ x. Knows w x f d) i y in subst (Ended w) z.own (scope_over w m.number d (body_takes w m d ((w.job m.job).kind) ((k.2).sort) z.took))
 open_over w (Fork m a) o f d k y e = let i : o ≡ m = sym (some_open e) in let z : Knows w m f d = subst (λ x. Knows w x f d) i y in (first_ended w a f (subst (λ v. FirstEnds w v f) (k.1) z.side), ap is_done ((plain_takes w m d ((w.job m.job).kind) ((k.2).sort) z.took).at))
-open_over w (Gather g) o f d k y e = let i : o ≡ g.call = sym (some_open e) in let z : Knows w g.call f d = subst (λ x. Knows w x f d) i y in let c : CastTakes w g.call.number d = subst (λ x. TakesAs w g.call x d) k.whole z.took in λ t p. pieces_over w g.call.number d c t k.owner ((k.pieces t p).0) ((k.pieces t p).1)
+open_over w (Gather g) o f d k y e = let i : o ≡ g.call = sym (some_open e) in let z : Knows w g.call f d = subst (λ x. Knows w x f d) i y in let c : CastTakes w g.call.number d = subst (λ x. TakesAs w g.call x d) k.whole z.took in
+    λ t p. pieces_over w g.call.number d c t k.owner ((k.pieces t p).0) ((k.pieces t p).1)
+open_over w _ o f d k y e = tt
 
 pub open_none : (w : World) (n : Plan) (o : OpenCall) (f : Option Ending) (d : Ending) → Known w n → Knows w o f d → plan_open n ≡ Some o → NoneLeft w n
 open_none w (Gather g) o f d k y e = let i : o ≡ g.call = sym (some_open e) in let z : Knows w g.call f d = subst (λ x. Knows w x f d) i y in z.count (ap has_body k.whole)
@@ -340,70 +296,47 @@ here_over w (Here p u) t e z y = (let b : u ≡ t = cc in subst (λ v. Ended w v
 here_over w (Feed f) t e z y = tt
 here_over w (Detach p u) t e z y = tt
 here_over w (Enter x) t e z y = tt
-here_over w (Send o) t e z y = absurd (cc)
-here_over w (Open o) t e z y = absurd (cc)
-here_over w (Fork o b) t e z y = absurd (cc)
-here_over w (Gather g) t e z y = absurd (cc)
+here_over w _ t e z y = absurd (cc)
 
 open_returns : (n : Plan) (s : Stage) (o : OpenCall) → (plan_open n ≡ Some o) × (s ≡ Paid) → Returns n s
 open_returns (Detach p t) s o y = absurd (let a : None ≡ Some o = y.0 in cc)
-open_returns (Here p t) s o y = y.1
 open_returns (Feed d) s o y = absurd (let a : None ≡ Some o = y.0 in cc)
-open_returns (Open p) s o y = y.1
 open_returns (Enter x) s o y = absurd (let a : None ≡ Some o = y.0 in cc)
-open_returns (Send p) s o y = y.1
-open_returns (Fork p a) s o y = y.1
-open_returns (Gather g) s o y = y.1
+open_returns _ s o y = y.1
 
 detach_returns : (n : Plan) (s : Stage) → (is_detach n ≡ true) × (s ≡ Gone) → Returns n s
-detach_returns (Detach p t) s y = y.1
-detach_returns (Feed f) s y = y.1
 detach_returns (Here p t) s y = absurd (let a : false ≡ true = y.0 in cc)
 detach_returns (Send o) s y = absurd (let a : false ≡ true = y.0 in cc)
 detach_returns (Open o) s y = absurd (let a : false ≡ true = y.0 in cc)
-detach_returns (Enter e) s y = y.1
 detach_returns (Fork o a) s y = absurd (let b : false ≡ true = y.0 in cc)
 detach_returns (Gather g) s y = absurd (let b : false ≡ true = y.0 in cc)
+detach_returns _ s y = y.1
 
 here_returns : (n : Plan) (s : Stage) (t : ℕ) → (plan_here n ≡ Some t) × (s ≡ Paid) → Returns n s
-here_returns (Here p u) s t y = y.1
 here_returns (Feed f) s t y = absurd (let a : None ≡ Some t = y.0 in cc)
 here_returns (Detach p u) s t y = absurd (let a : None ≡ Some t = y.0 in cc)
 here_returns (Enter x) s t y = absurd (let a : None ≡ Some t = y.0 in cc)
-here_returns (Send o) s t y = y.1
-here_returns (Open o) s t y = y.1
-here_returns (Fork o b) s t y = y.1
-here_returns (Gather g) s t y = y.1
+here_returns _ s t y = y.1
 
 finish_leads : (w : World) (q : Party) (n : Plan) (s : Stage) (t : Then) → PartThen n s t → Leads w n s (finish q t)
 finish_leads w q n s (BeginFound g t) y = y
 finish_leads w q n s (LeaveWait Termination) y = absurd y
 finish_leads w q n s (LeaveWait (Answer o f)) y = y
 finish_leads w q n s Resume y = detach_returns n s y
-finish_leads w q n s Called y = absurd y
 finish_leads w (Worker p i) n s (Await o) y = y
 finish_leads w (Caller c) n s (Await o) y = y
 finish_leads w (Worker p i) n s (Gathers o) y = y
 finish_leads w (Caller c) n s (Gathers o) y = y
 finish_leads w q n s (RunFirst o a) y = y
-finish_leads w q n s (Answers o f e) y = absurd y
-finish_leads w q n s (Missing o f) y = absurd y
-finish_leads w q n s (Ran t e) y = absurd y
-finish_leads w q n s (GiveBack m) y = absurd y
+finish_leads w q n s _ y = absurd y
 
 paid_leads : (w : World) (q : Party) (n : Plan) (s : Stage) (t : Then) → Known w n → SaysThen w q t → PartPaid n s t → Leads w n s (finish q t)
 paid_leads w q n s (Answers o f e) k z y = open_returns n s o y
 paid_leads w q n s (Ran t e) k z y = here_returns n s t y
 paid_leads w q n s (GiveBack m) k z y = y
-paid_leads w q n s (BeginFound g t) k z y = absurd y
-paid_leads w q n s (LeaveWait g) k z y = absurd y
-paid_leads w q n s Resume k z y = absurd y
-paid_leads w q n s Called k z y = absurd y
 paid_leads w (Worker p i) n s (Await o) k z y = y
 paid_leads w (Caller c) n s (Await o) k z y = y
-paid_leads w q n s (Gathers o) k z y = absurd y
-paid_leads w q n s (RunFirst o a) k z y = absurd y
-paid_leads w q n s (Missing o f) k z y = absurd y
+paid_leads w q n s _ k z y = absurd y
 
 walk_leads : (w : World) (g : PoolShape) (q : Party) (n : Plan) (s : Stage) (p h i : ℕ) (t : Then) → PartThen n s t → Leads w n s (walk g q p h i t)
 walk_leads w g q n s p h i t y = by (nat_lt 0 h && nat_lt i g.workers)
@@ -474,60 +407,34 @@ pop_leads w n s o t y = by (is_taken t o.job)
 -- what a call goes on with once its job is queued
 told_detach : (n : Plan) → is_detach (told n) ≡ is_detach n
 told_detach (Feed f) = refl
-told_detach (Detach p t) = refl
-told_detach (Here p t) = refl
-told_detach (Send o) = refl
-told_detach (Open o) = refl
-told_detach (Enter e) = refl
-told_detach (Fork o a) = refl
-told_detach (Gather g) = refl
+told_detach _ = refl
 
 told_open : (n : Plan) → plan_open (told n) ≡ plan_open n
 told_open (Feed f) = refl
-told_open (Detach p t) = refl
-told_open (Here p t) = refl
-told_open (Send o) = refl
-told_open (Open o) = refl
-told_open (Enter e) = refl
-told_open (Fork o a) = refl
-told_open (Gather g) = refl
+told_open _ = refl
 
 told_fork : (n : Plan) (o : OpenCall) (a : ℕ) → Fork o a ≡ told n → n ≡ Fork o a
 told_fork (Feed f) o a e = cc
-told_fork (Detach p t) o a e = sym e
-told_fork (Here p t) o a e = sym e
-told_fork (Send m) o a e = sym e
-told_fork (Open m) o a e = sym e
-told_fork (Enter m) o a e = sym e
-told_fork (Fork m b) o a e = sym e
-told_fork (Gather m) o a e = sym e
+told_fork _ o a e = sym e
 
 news_part : (n : Plan) (s : Stage) (m : Plan) → PartPlan (told n) s Gone m → PartThen n s (after_news m)
 news_part n s (Detach p t) y = (sym (told_detach n) ∙ ap is_detach (sym (y.0)), y.1)
-news_part n s (Here p t) y = absurd (let a : false ≡ true = y.2 in cc)
-news_part n s (Feed f) y = absurd (let a : false ≡ true = y.2 in cc)
-news_part n s (Open o) y = absurd (let a : false ≡ true = y.2 in cc)
-news_part n s (Gather g) y = absurd (let a : false ≡ true = y.2 in cc)
 news_part n s (Enter e) y = (sym (told_detach n) ∙ ap is_detach (sym (y.0)), y.1)
 news_part n s (Send o) y = (sym (told_open n) ∙ ap plan_open (sym (y.0)), y.1)
 news_part n s (Fork o a) y = (told_fork n o a (y.0), y.1)
+news_part n s _ y = absurd (let a : false ≡ true = y.2 in cc)
 
 -- what a spawn in order goes on with once it has its share
 fed_part : (n : Plan) (s : Stage) (f : Feeding) (k : Count) → (Feed f ≡ n) × (s ≡ Going) → Part n s (begin_feed k f)
-fed_part n s f (OfPool p) y = (sym (y.0), y.1)
 fed_part n s f (OfScope c o) y = (y.0, y.1, refl)
-fed_part n s f (OfCast c o) y = (sym (y.0), y.1)
+fed_part n s f _ y = (sym (y.0), y.1)
 
 -- and a spawn into a scope once it has a number of the book
 pub slot_part : (n : Plan) (s : Stage) (m : Plan) → Part n s (OpenSlot m) → Part n s (after_slot m)
 slot_part n s (Enter e) y = (y.0, y.1, refl)
 slot_part n s (Feed f) y = (sym (y.0), y.1)
-slot_part n s (Detach p t) y = absurd (let a : false ≡ true = y.2 in cc)
-slot_part n s (Here p t) y = absurd (let a : false ≡ true = y.2 in cc)
-slot_part n s (Send o) y = absurd (let a : false ≡ true = y.2 in cc)
 slot_part n s (Fork o a) y = absurd (let b : false ≡ true = y.2 in cc)
-slot_part n s (Open o) y = absurd (let a : false ≡ true = y.2 in cc)
-slot_part n s (Gather g) y = absurd (let a : false ≡ true = y.2 in cc)
+slot_part n s _ y = absurd (let a : false ≡ true = y.2 in cc)
 
 -- a refused call gives its share back, or takes its number of a book back first
 pub undo_part : (n m : Plan) → m ≡ n → Part n Undone (undo m)
@@ -539,14 +446,11 @@ withdraw_part n m (Some c) e = (e, refl)
 
 -- once its pool's count is raised for it
 pub raised_leads : (w : World) (n : Plan) (s : Stage) (m : Plan) → Known w n → (m ≡ n) × (s ≡ Going) → Leads w n s (after_raise m)
-raised_leads w n s (Detach p t) k y = (y.0, y.1, refl)
 raised_leads w n s (Feed f) k y = fed_part n s f f.count y
 raised_leads w n s (Gather g) k y = (sym (y.0), y.1)
 raised_leads w n s (Here p t) k y = (sym (y.0), y.1)
-raised_leads w n s (Send o) k y = (y.0, y.1, refl)
 raised_leads w n s (Open o) k y = (sym (y.0), y.1)
-raised_leads w n s (Enter e) k y = (y.0, y.1, refl)
-raised_leads w n s (Fork o a) k y = (y.0, y.1, refl)
+raised_leads w n s _ k y = (y.0, y.1, refl)
 
 -- the acts whose answer decides more than the place
 abbrev pub is_decisive : Place → Bool
@@ -621,14 +525,12 @@ part_leads w g q n s (SetLockLatch c t) e d h z y = paid_leads w q n s t h (z.1)
 part_leads w g q n s (GrowScope o) e d h z y = absurd (let a : true ≡ false = d in cc)
 part_leads w g q n s (OpenSlot o) e d h z y = absurd (let a : true ≡ false = d in cc)
 part_leads w g q n s (CloseSlot m) e d h z y = (ap plan_job (y.0), y)
-part_leads w g q n s (StoreBody o f) e d h z y = y
 part_leads w g q n s (StoreSlot c o t f) e d h z y = absurd y
 part_leads w g q n s (StorePiece c o t f) e d h z y = absurd y
 part_leads w g q n s (GrowCast b) e d h z y = absurd (let a : true ≡ false = d in cc)
 part_leads w g q n s (DealPieces b) e d h z y = absurd (let a : true ≡ false = d in cc)
 part_leads w g q n s (OpenForAll c) e d h z y = absurd y
 part_leads w g q n s (CloseForAll c) e d h z y = absurd y
-part_leads w g q n s (ScopeBody o) e d h z y = y
 part_leads w g q n s Free e d h z y = absurd y
 part_leads w g q n s Stopped e d h z y = absurd y
 part_leads w g q n s (RaiseCount m) e d h z y = absurd (let a : true ≡ false = d in cc)
@@ -658,21 +560,12 @@ part_leads w g q n s _ e d h z y = y
 
 -- the job of a call's plan is the one that it waits for, or runs at once
 pub open_job : (n : Plan) (o : OpenCall) → plan_open n ≡ Some o → o.job ≡ plan_job n
-open_job (Detach p t) o e = absurd (cc)
-open_job (Here p t) o e = absurd (cc)
-open_job (Feed f) o e = absurd (cc)
 open_job (Open m) o e = let a : m ≡ o = cc in ap (λ x. x.job) (sym a)
-open_job (Enter m) o e = absurd (cc)
 open_job (Send m) o e = let a : m ≡ o = cc in ap (λ x. x.job) (sym a)
 open_job (Fork m a) o e = let b : m ≡ o = cc in ap (λ x. x.job) (sym b)
 open_job (Gather g) o e = let b : g.call ≡ o = cc in ap (λ x. x.job) (sym b)
+open_job _ o e = absurd (cc)
 
 pub here_job : (n : Plan) (t : ℕ) → plan_here n ≡ Some t → t ≡ plan_job n
-here_job (Detach p u) t e = absurd (cc)
-here_job (Feed f) t e = absurd (cc)
-here_job (Open m) t e = absurd (cc)
-here_job (Enter m) t e = absurd (cc)
 here_job (Here p u) t e = (let a : u ≡ t = cc in sym a)
-here_job (Send m) t e = absurd (cc)
-here_job (Fork m a) t e = absurd (cc)
-here_job (Gather m) t e = absurd (cc)
+here_job _ t e = absurd (cc)

@@ -3,33 +3,12 @@
 -- A spawned job that is queued or running has its share, so nobody hands it back (`queued_on`). A job that is over is
 -- in nobody's hand, so nobody takes a share for it again (`unshared_on`).
 use Rattle.rayon_machine_laws.proofs.ShareLowers.{returned_jobs}
-use Rattle.rayon_machine_places.specs.declared.place.Mark.TheVariants.{Counted, Returned, Dealt}
-use Rattle.rayon_machine_places.specs.declared.place.Pieces.{Pieces}
-use Rattle.rayon_machine_places.specs.declared.place.Mark.{Mark as Marking}
-use Rattle.std.proofs.Common.{arith, refl, ◌∙◌, ap, subst, inl, inr, sym}
-use Rattle.std.specs.Prelude.{ℕ, Bool, true, false, ◌&&◌, ◌||◌, ◌+◌, ◌==◌, ◌≤◌, if◌then◌else◌, Option, Some, List, ◌≡◌, IfSome, ◌⊎◌, zero, suc, ◌-◌}
-use Rattle.std.proofs.lemmas.Bool.{eqb-true, eq-eqb}
-use Rattle.rayon_machine_places.specs.declared.place.Party.{Party}
-use Rattle.rayon_machine_places.specs.declared.place.Party.TheVariants.{Worker, Caller}
-use Rattle.rayon_machine_places.specs.declared.place.Plan.{Plan}
-use Rattle.rayon_machine_places.specs.declared.place.Plan.TheVariants.{Detach, Here, Send, Fork, Feed, Open, Enter, Gather}
-use Rattle.rayon_machine_places.specs.declared.place.Count.{Count}
-use Rattle.rayon_machine_places.specs.declared.place.Share.TheVariants.{PoolValue, OfJob, Body}
-use Rattle.rayon_machine_places.specs.declared.place.Then.{Then}
-use Rattle.rayon_machine_places.specs.declared.place.Place.{Place}
-use Rattle.rayon_machine_places.specs.declared.place.Place.TheVariants.{YieldPop, LocalPop, RaiseCount, LowerCount, TakeFromFifo, RaiseForAll, LowerForAll, DealPieces}
-use Rattle.rayon_machine_places.specs.declared.act.Seen.{Seen}
-use Rattle.rayon_machine_places.specs.declared.act.Seen.TheVariants.{Done, Refused, Task, Yes, No}
-use Rattle.rayon_machine_places.specs.declared.event.Event.{Event}
-use Rattle.rayon_machine_places.specs.declared.event.Event.TheVariants.{Go, From, Refuse, Miss, End, Spawn, Fifo, Install, Join, Scope as OpenScope, IntoSpawn, Yield, YieldLocal, EndPool, Cast, IntoFifo, IntoCast, Broadcast}
-use Rattle.rayon_machine_places.specs.declared.state.Whereabouts.{Whereabouts}
-use Rattle.rayon_machine_places.specs.declared.state.Whereabouts.TheVariants.{Nowhere, Made, InDeque, Injected, InFifo, Running, Over, HandedBack, Spent, Retaken, InCast}
-use Rattle.rayon_machine_places.specs.Places.{plan_job, plan_count, count_book, act_of, next_of, same_party, taken_number}
-use Rattle.rayon_machine_places.specs.World.{Stack, World, Part, count_in, count_pool, raised, counts_at, target_pool, target_worker, target_call, at_job, begun, is_token, last_of, or_none, effect}
-use Rattle.rayon_machine_places.specs.Steps.{put, put_stack, step, jobs_after, is_piece, mark_pieces, marked}
-use Rattle.rayon_machine_places.specs.Readers.{is_queued, is_running, is_done}
-use Rattle.rayon_machine_laws.specs.Once.{one, in_fifo, times}
-use Rattle.rayon_machine_laws.specs.Shares.{is_busy, share, shares_in, shares}
+use Rattle.rayon_machine_orders.proofs.Words.{Counted, Returned, Dealt, Pieces, Marking, arith, refl, ◌∙◌, ap, subst, inl, inr, sym, ℕ, Bool, true, false, ◌&&◌, ◌||◌, ◌+◌, ◌==◌, ◌≤◌, if◌then◌else◌, Option, Some, List, ◌≡◌, IfSome, ◌⊎◌, zero, suc, ◌-◌, eqb-true, eq-eqb, Party, Worker, Caller}
+use Rattle.rayon_machine_orders.proofs.Words.{Plan, Detach, Here, Send, Fork, Feed, Open, Enter, Gather, Count, PoolValue, OfJob, Body, Then, Place, YieldPop, LocalPop, RaiseCount, LowerCount, TakeFromFifo, RaiseForAll, LowerForAll, DealPieces, Seen, Done, Refused, Task, Yes, No, Event, Go}
+use Rattle.rayon_machine_orders.proofs.Words.{From, Refuse, Miss, End, Spawn, Fifo, Install, Join, OpenScope, IntoSpawn, Yield, YieldLocal, EndPool, Cast, IntoFifo, IntoCast, Broadcast, Whereabouts, Nowhere, Made, InDeque, Injected, InFifo, Running, Over, HandedBack, Spent, Retaken, InCast}
+use Rattle.rayon_machine_orders.proofs.Words.{plan_job, plan_count, count_book, act_of, next_of, same_party, taken_number, Stack, World, Part, count_in, count_pool, raised, counts_at, target_pool, target_worker, target_call, at_job, begun, is_token, last_of, or_none, effect, put, put_stack}
+use Rattle.rayon_machine_orders.proofs.Words.{step, jobs_after, is_piece, mark_pieces, marked, is_queued, is_running, is_done, one, in_fifo, times, is_busy, share, shares_in, shares, Back, Discard, EnterAbove as Enter, HandBack, HandIn, StartRun, Stay, Mark, HandAllBack, Detached, Direct}
+use Rattle.rayon_machine_orders.proofs.Words.{Scoped, Stored, TokenOf, BodyOf, PieceOf, WholeOf, Feeding, PoolShape, Job, JobKind, Move, Taken}
 use Rattle.rayon_machine_laws.proofs.Frame.{if_some_map, acted_keeps, put_same, after_kind, after_bound, and_parts, either, if_some_all, if_some_and, is_sharing, piece_old, same_party_true, stack_mine, stack_other}
 use Rattle.rayon_machine_laws.proofs.Ties.{job_at, outcome, result}
 use Rattle.rayon_machine_laws.proofs.Located.{is_left}
@@ -44,22 +23,15 @@ use Rattle.rayon_machine_laws.proofs.Returns.{ReturnsHold, Unbacked, act_unbacke
 use Rattle.rayon_machine_orders.proofs.CallPlaces.{Stage, Going, Gone, Paid, Undone, Repaid, Ended, Known, KnownJob, AllOver, NoneLeft, is_scope_body, Added, Withdrawing}
 use Rattle.rayon_machine_orders.proofs.CallActs.{Queued, Sofar, Unshared, HandedOn, TokenOn}
 use Rattle.rayon_machine_orders.proofs.CallEvents.{Turned, from_turned, refuse_turned, miss_turned, end_turned, spawn_turned, install_turned, join_turned, scope_turned, into_turned, into_fifo_turned, into_cast_turned, gather_turned, yield_turned, give_turned, fifo_turned, cast_turned}
-use Rattle.rayon_machine_places.specs.declared.place.Move.TheVariants.{Back, Discard, Enter, HandBack, HandIn, StartRun, Stay, Mark, HandAllBack}
 use Rattle.rayon_machine_orders.proofs.Keeping.{BusyAfter, all_busy}
-use Rattle.rayon_machine_places.specs.declared.place.JobKind.TheVariants.{Detached, Direct, Scoped, Stored, TokenOf, BodyOf, PieceOf, WholeOf}
 use Rattle.rayon_machine_laws.proofs.Feeders.{FeedersHold, feeds_now, waits}
-use Rattle.rayon_machine_places.specs.declared.place.Feeding.{Feeding}
-use Rattle.rayon_machine_places.specs.declared.shape.PoolShape.{PoolShape}
-use Rattle.rayon_machine_places.specs.declared.state.Job.{Job}
-use Rattle.rayon_machine_places.specs.declared.place.JobKind.{JobKind}
 use Rattle.rayon_machine_laws.proofs.ClaimActs.{Learned, act_learned}
-use Rattle.rayon_machine_places.specs.declared.place.Move.{Move}
 use Rattle.rayon_machine_laws.proofs.ShareSteps.{Ready, no_steady, raise_steady, lower_steady}
 use Rattle.rayon_machine_laws.proofs.ShareRuns.{StartsAwaited, after_shares, raises_all}
-use Rattle.rayon_machine_places.specs.declared.place.Taken.{Taken}
 use Rattle.rayon_machine_laws.proofs.Feeds.{all_fed, fed, fed_in, fed_move, feds}
 use Rattle.rayon_machine_laws.proofs.ShareEvents.{ready}
 use Rattle.rayon_machine_laws.proofs.Amounts.{regained, pushed, raises, all_raises, raises_in, waiting}
+use Rattle.rayon_machine_orders.proofs.EventCases.{is_act}
 
 -- calls keep their first side and the job that they wait for, and jobs their kind and what they are bound to
 pub record Carries (w u : World) : Type 0 where
@@ -98,10 +70,6 @@ mover (Yield q) = q
 mover (YieldLocal q) = q
 mover (EndPool q p) = q
 
-abbrev pub is_act : Event → Bool
-is_act (Go q) = true
-is_act _ = false
-
 pub turns : (w : World) (e : Event) → is_act e ≡ false → IfSome (step w e) (λ u. Turned w u (mover e) e)
 turns w (Go q) z = absurd (let a : true ≡ false = z in cc)
 turns w (From q v) z = from_turned w q ((w.stack q).top) ((w.stack q).below) v refl
@@ -128,26 +96,12 @@ go_all P w q h = acted_keeps w q (w.stack q) (target_pool q (act_of q (w.stack q
 by_act : (P : World → Type 0) (w : World) (e : Event) → ((q : Party) → IfSome (outcome w q (w.stack q)) (λ r. P (result w q (w.stack q) r))) → ((u : World) → Turned w u (mover e) e → P u) → (b : Bool) → is_act e ≡ b → IfSome (step w e) P
 by_act P w e go turn false z = if_some_map (λ u. Turned w u (mover e) e) P turn (step w e) (turns w e z)
 by_act P w (Go q) go turn true z = go_all P w q (go q)
-by_act P w (From q v) go turn true z = absurd (let a : false ≡ true = z in cc)
-by_act P w (Refuse q) go turn true z = absurd (let a : false ≡ true = z in cc)
-by_act P w (Miss q) go turn true z = absurd (let a : false ≡ true = z in cc)
-by_act P w (End q d) go turn true z = absurd (let a : false ≡ true = z in cc)
-by_act P w (Spawn q p) go turn true z = absurd (let a : false ≡ true = z in cc)
-by_act P w (Fifo q p) go turn true z = absurd (let a : false ≡ true = z in cc)
-by_act P w (Cast q p) go turn true z = absurd (let a : false ≡ true = z in cc)
-by_act P w (Install q p) go turn true z = absurd (let a : false ≡ true = z in cc)
-by_act P w (Join q) go turn true z = absurd (let a : false ≡ true = z in cc)
-by_act P w (OpenScope q p) go turn true z = absurd (let a : false ≡ true = z in cc)
-by_act P w (IntoSpawn q n) go turn true z = absurd (let a : false ≡ true = z in cc)
-by_act P w (IntoFifo q n) go turn true z = absurd (let a : false ≡ true = z in cc)
-by_act P w (IntoCast q n) go turn true z = absurd (let a : false ≡ true = z in cc)
-by_act P w (Broadcast q p) go turn true z = absurd (let a : false ≡ true = z in cc)
-by_act P w (Yield q) go turn true z = absurd (let a : false ≡ true = z in cc)
-by_act P w (YieldLocal q) go turn true z = absurd (let a : false ≡ true = z in cc)
-by_act P w (EndPool q p) go turn true z = absurd (let a : false ≡ true = z in cc)
+by_act P w _ go turn true z = absurd (let a : false ≡ true = z in cc)
 
 pub step_carries : (w : World) (e : Event) → IfSome (step w e) (Carries w)
-step_carries w e = by_act (Carries w) w e (λ q. if_some_map (Static (place_part w q ((w.stack q).top))) (λ r. Carries w (result w q (w.stack q) r)) (λ r s. act_carries w q ((w.stack q).top) ((w.stack q).below) r s) (outcome w q (w.stack q)) (act_static w.shape q (counts_at w (target_pool q (act_of q ((w.stack q).top)))) (place_part w q ((w.stack q).top)) ((w.stack q).top))) (λ u t. turned_carries w u (mover e) e t) (is_act e) refl
+step_carries w e = by_act (Carries w) w e
+    (λ q. if_some_map (Static (place_part w q ((w.stack q).top))) (λ r. Carries w (result w q (w.stack q) r)) (λ r s. act_carries w q ((w.stack q).top) ((w.stack q).below) r s) (outcome w q (w.stack q))
+    (act_static w.shape q (counts_at w (target_pool q (act_of q ((w.stack q).top)))) (place_part w q ((w.stack q).top)) ((w.stack q).top))) (λ u t. turned_carries w u (mover e) e t) (is_act e) refl
 
 -- what is known of the job of a call that waits stays so
 job_on : (w u : World) → Carries w u → (t : ℕ) (f : JobKind → Bool) (b : Bool) → KnownJob w t f b → KnownJob u t f b
@@ -174,7 +128,8 @@ known_on w u c (Gather g) k = record {
 self : (t : ℕ) → one (t == t) ≡ 1
 self t = ap one (eq-eqb t t refl)
 
-pub raise_counts : (w : World) (n : Plan) (t : ℕ) (g h : Part) → g.job.counted ≡ (w.job (plan_job n)).counted → h.job.counted ≡ true → (w.job t).counted ≡ true → (b : Bool) → IfSome {T = Seen × Part} (if b then Some (Refused, g) else Some (Done, h)) (λ r. (put w.job (plan_job n) (r.1.job) t).counted ≡ true)
+pub raise_counts : (w : World) (n : Plan) (t : ℕ) (g h : Part) → g.job.counted ≡ (w.job (plan_job n)).counted → h.job.counted ≡ true → (w.job t).counted ≡ true → (b : Bool) → IfSome {T = Seen × Part} (if b then Some (Refused, g) else Some (Done, h))
+    (λ r. (put w.job (plan_job n) (r.1.job) t).counted ≡ true)
 raise_counts w n t g h i k c true = put_same (λ j. j.counted) w.job (plan_job n) g.job t i ∙ c
 raise_counts w n t g h i k c false = by (t == plan_job n)
   where
@@ -189,7 +144,8 @@ lower_counts w q p u n fs t z none c = by (t == u) refl
     by true e = absurd (let a : shares t (w.stack q) ≡ (share t (LowerCount p (OfJob u) n) + shares_in t fs) = ap (shares t) z in let b : one (t == u) ≡ 1 = ap one e in omega (arith, a, b, none))
     by false e = c
 
-pub counts_on : (w : World) (q : Party) (x : Place) (fs : List Place) (r : Seen × Part) (t : ℕ) → w.stack q ≡ record { top = x; below = fs } → ((s : Party) (i : ℕ) → all_raises i (w.stack s) + one (w.job i).counted ≤ 1) → is_sharing (next_of (w.shape.pool (target_pool q (act_of q x))) q x (r.0)) ≡ false → (w.job t).counted ≡ true → (put w.job (job_at w q (act_of q x)) (r.1.job) t).counted ≡ true → ((world_after w q x fs r).job t).counted ≡ true
+pub counts_on : (w : World) (q : Party) (x : Place) (fs : List Place) (r : Seen × Part) (t : ℕ) → w.stack q ≡ record { top = x; below = fs } → ((s : Party) (i : ℕ) → all_raises i (w.stack s) + one (w.job i).counted ≤ 1)
+    → is_sharing (next_of (w.shape.pool (target_pool q (act_of q x))) q x (r.0)) ≡ false → (w.job t).counted ≡ true → (put w.job (job_at w q (act_of q x)) (r.1.job) t).counted ≡ true → ((world_after w q x fs r).job t).counted ≡ true
 counts_on w q x fs r t z un st k c = after_shares w q x fs (w.shape.pool (target_pool q (act_of q x))) (r.0) z un st (put w.job (job_at w q (act_of q x)) (r.1.job)) t (λ y. absurd (let a : true ≡ false = sym k ∙ y in cc)) ∙ c
 
 -- places whose acts give shares to all pieces of a broadcast, or take them
@@ -199,7 +155,8 @@ is_all (LowerForAll c) = true
 is_all (DealPieces g) = true
 is_all _ = false
 
-put_counts : (w : World) (q : Party) (x : Place) (fs : List Place) (t : ℕ) → is_all x ≡ false → w.stack q ≡ record { top = x; below = fs } → shares t (w.stack q) ≡ 0 → (w.job t).counted ≡ true → IfSome (outcome w q (record { top = x; below = fs })) (λ r. (put w.job (job_at w q (act_of q x)) (r.1.job) t).counted ≡ true)
+put_counts : (w : World) (q : Party) (x : Place) (fs : List Place) (t : ℕ) → is_all x ≡ false → w.stack q ≡ record { top = x; below = fs } → shares t (w.stack q) ≡ 0 → (w.job t).counted ≡ true → IfSome (outcome w q (record { top = x; below = fs }))
+    (λ r. (put w.job (job_at w q (act_of q x)) (r.1.job) t).counted ≡ true)
 put_counts w (Worker a b) (RaiseCount n) fs t y z none c = raise_counts w n t _ _ refl refl c (count_in (place_part w (Worker a b) (RaiseCount n)) (plan_count n) == 0)
 put_counts w (Caller i) (RaiseCount n) fs t y z none c = raise_counts w n t _ _ refl refl c (count_in (place_part w (Caller i) (RaiseCount n)) (plan_count n) == 0)
 put_counts w (Worker a b) (LowerCount p (OfJob u) n) fs t y z none c = lower_counts w (Worker a b) p u n fs t z none c
@@ -211,16 +168,19 @@ put_counts w (Caller i) (LowerCount p Body n) fs t y z none c = put_same (λ j. 
 put_counts w q (RaiseForAll b) fs t y z none c = cc
 put_counts w q (LowerForAll b) fs t y z none c = cc
 put_counts w q (DealPieces b) fs t y z none c = cc
-put_counts w q x fs t y z none c = if_some_map (Untallied (place_part w q x)) (λ r. (put w.job (job_at w q (act_of q x)) (r.1.job) t).counted ≡ true) (λ r k. put_same (λ j. j.counted) w.job (job_at w q (act_of q x)) (r.1.job) t k.job ∙ c) (outcome w q (record { top = x; below = fs })) (act_untallied w.shape q (counts_at w (target_pool q (act_of q x))) (place_part w q x) x refl)
+put_counts w q x fs t y z none c = if_some_map (Untallied (place_part w q x)) (λ r. (put w.job (job_at w q (act_of q x)) (r.1.job) t).counted ≡ true) (λ r k. put_same (λ j. j.counted) w.job (job_at w q (act_of q x)) (r.1.job) t k.job ∙ c) (outcome w q (record { top = x; below = fs }))
+    (act_untallied w.shape q (counts_at w (target_pool q (act_of q x))) (place_part w q x) x refl)
 
 -- an act that is not leaves who has a share as the act has it
 pub all_steady : (w : World) (q : Party) (x : Place) → is_all x ≡ false → IfSome (effect (act_of q x) w.shape q (counts_at w (target_pool q (act_of q x))) (place_part w q x)) (λ r. is_sharing (next_of (w.shape.pool (target_pool q (act_of q x))) q x (r.0)) ≡ false)
-all_steady w q (RaiseCount n) y = if_some_all {A = Seen × Part} (λ r. is_sharing (next_of (w.shape.pool (target_pool q (act_of q (RaiseCount n)))) q (RaiseCount n) (r.0)) ≡ false) (λ r. by (r.0)) (effect (act_of q (RaiseCount n)) w.shape q (counts_at w (target_pool q (act_of q (RaiseCount n)))) (place_part w q (RaiseCount n)))
+all_steady w q (RaiseCount n) y = if_some_all {A = Seen × Part} (λ r. is_sharing (next_of (w.shape.pool (target_pool q (act_of q (RaiseCount n)))) q (RaiseCount n) (r.0)) ≡ false) (λ r. by (r.0))
+    (effect (act_of q (RaiseCount n)) w.shape q (counts_at w (target_pool q (act_of q (RaiseCount n)))) (place_part w q (RaiseCount n)))
   where
     by : (e : Seen) → is_sharing (next_of (w.shape.pool (target_pool q (act_of q (RaiseCount n)))) q (RaiseCount n) e) ≡ false
     by Done = raise_steady n
     by _ = refl
-all_steady w q (LowerCount p s n) y = if_some_all {A = Seen × Part} (λ r. is_sharing (next_of (w.shape.pool (target_pool q (act_of q (LowerCount p s n)))) q (LowerCount p s n) (r.0)) ≡ false) (λ r. lower_steady (w.shape.pool (target_pool q (act_of q (LowerCount p s n)))) q p s n (r.0)) (effect (act_of q (LowerCount p s n)) w.shape q (counts_at w (target_pool q (act_of q (LowerCount p s n)))) (place_part w q (LowerCount p s n)))
+all_steady w q (LowerCount p s n) y = if_some_all {A = Seen × Part} (λ r. is_sharing (next_of (w.shape.pool (target_pool q (act_of q (LowerCount p s n)))) q (LowerCount p s n) (r.0)) ≡ false) (λ r. lower_steady (w.shape.pool (target_pool q (act_of q (LowerCount p s n)))) q p s n (r.0))
+    (effect (act_of q (LowerCount p s n)) w.shape q (counts_at w (target_pool q (act_of q (LowerCount p s n)))) (place_part w q (LowerCount p s n)))
 all_steady w q (RaiseForAll c) y = cc
 all_steady w q (LowerForAll c) y = cc
 all_steady w q (DealPieces g) y = cc
@@ -251,20 +211,25 @@ mark_counts c k f t m n = by (is_piece c t)
     by true = m c.pool (t - c.first) (f t)
     by false = n
 
-lowered_counts : (w : World) (q : Party) (c : Pieces) (fs : List Place) (t : ℕ) (g : PoolShape) (e : Seen) → w.stack q ≡ record { top = LowerForAll c; below = fs } → shares t (w.stack q) ≡ 0 → (w.job t).counted ≡ true → (jobs_after q (next_of g q (LowerForAll c) e) (put w.job 0 (w.job 0)) t).counted ≡ true
+lowered_counts : (w : World) (q : Party) (c : Pieces) (fs : List Place) (t : ℕ) (g : PoolShape) (e : Seen) → w.stack q ≡ record { top = LowerForAll c; below = fs } → shares t (w.stack q) ≡ 0 → (w.job t).counted ≡ true
+    → (jobs_after q (next_of g q (LowerForAll c) e) (put w.job 0 (w.job 0)) t).counted ≡ true
 lowered_counts w q c fs t g e z n k = ap (λ g. (g t).counted) (returned_jobs g q c e (put w.job 0 (w.job 0))) ∙ ap (λ j. j.counted) (piece_old c (marked Returned c.pool) (put w.job 0 (w.job 0)) t none) ∙ put_same (λ j. j.counted) w.job 0 (w.job 0) t refl ∙ k
   where
     none : is_piece c t ≡ false
     none = not_piece c t (shares_in t fs) (let a : shares t (w.stack q) ≡ (one (is_piece c t) + shares_in t fs) = ap (shares t) z in omega (arith, a, n))
 
-act_counts : (w : World) (q : Party) (x : Place) (fs : List Place) (t : ℕ) → w.stack q ≡ record { top = x; below = fs } → ((s : Party) (i : ℕ) → all_raises i (w.stack s) + one (w.job i).counted ≤ 1) → shares t (w.stack q) ≡ 0 → (w.job t).counted ≡ true → IfSome (outcome w q (record { top = x; below = fs })) (λ r. ((world_after w q x fs r).job t).counted ≡ true)
-act_counts w (Worker a b) (RaiseForAll c) fs t z un n k = all_cases (λ r. ((world_after w (Worker a b) (RaiseForAll c) fs r).job t).counted ≡ true) (Refused, place_part w (Worker a b) (RaiseForAll c)) _ (back_counts w (Worker a b) c fs t z k (un (Worker a b) t)) (mark_counts c Counted (put w.job 0 (w.job 0)) t (λ p i j. refl) (put_same (λ j. j.counted) w.job 0 (w.job 0) t refl ∙ k)) (count_in (place_part w (Worker a b) (RaiseForAll c)) c.count == 0)
-act_counts w (Caller g) (RaiseForAll c) fs t z un n k = all_cases (λ r. ((world_after w (Caller g) (RaiseForAll c) fs r).job t).counted ≡ true) (Refused, place_part w (Caller g) (RaiseForAll c)) _ (back_counts w (Caller g) c fs t z k (un (Caller g) t)) (mark_counts c Counted (put w.job 0 (w.job 0)) t (λ p i j. refl) (put_same (λ j. j.counted) w.job 0 (w.job 0) t refl ∙ k)) (count_in (place_part w (Caller g) (RaiseForAll c)) c.count == 0)
+act_counts : (w : World) (q : Party) (x : Place) (fs : List Place) (t : ℕ) → w.stack q ≡ record { top = x; below = fs } → ((s : Party) (i : ℕ) → all_raises i (w.stack s) + one (w.job i).counted ≤ 1) → shares t (w.stack q) ≡ 0 → (w.job t).counted ≡ true
+    → IfSome (outcome w q (record { top = x; below = fs })) (λ r. ((world_after w q x fs r).job t).counted ≡ true)
+act_counts w (Worker a b) (RaiseForAll c) fs t z un n k = all_cases (λ r. ((world_after w (Worker a b) (RaiseForAll c) fs r).job t).counted ≡ true) (Refused, place_part w (Worker a b) (RaiseForAll c)) _ (back_counts w (Worker a b) c fs t z k (un (Worker a b) t))
+    (mark_counts c Counted (put w.job 0 (w.job 0)) t (λ p i j. refl) (put_same (λ j. j.counted) w.job 0 (w.job 0) t refl ∙ k)) (count_in (place_part w (Worker a b) (RaiseForAll c)) c.count == 0)
+act_counts w (Caller g) (RaiseForAll c) fs t z un n k = all_cases (λ r. ((world_after w (Caller g) (RaiseForAll c) fs r).job t).counted ≡ true) (Refused, place_part w (Caller g) (RaiseForAll c)) _ (back_counts w (Caller g) c fs t z k (un (Caller g) t))
+    (mark_counts c Counted (put w.job 0 (w.job 0)) t (λ p i j. refl) (put_same (λ j. j.counted) w.job 0 (w.job 0) t refl ∙ k)) (count_in (place_part w (Caller g) (RaiseForAll c)) c.count == 0)
 act_counts w (Worker a b) (LowerForAll c) fs t z un n k = lowered_counts w (Worker a b) c fs t (w.shape.pool (count_pool (Worker a b) c.count)) (if count_in (place_part w (Worker a b) (LowerForAll c)) c.count == c.workers then Yes else No) z n k
 act_counts w (Caller g) (LowerForAll c) fs t z un n k = lowered_counts w (Caller g) c fs t (w.shape.pool (count_pool (Caller g) c.count)) (if count_in (place_part w (Caller g) (LowerForAll c)) c.count == c.workers then Yes else No) z n k
 act_counts w (Worker a b) (DealPieces g) fs t z un n k = mark_counts g.pieces Dealt (put w.job 0 (w.job 0)) t (λ p i j. refl) (put_same (λ j. j.counted) w.job 0 (w.job 0) t refl ∙ k)
 act_counts w (Caller i) (DealPieces g) fs t z un n k = mark_counts g.pieces Dealt (put w.job 0 (w.job 0)) t (λ p i j. refl) (put_same (λ j. j.counted) w.job 0 (w.job 0) t refl ∙ k)
-act_counts w q x fs t z un n k = if_some_map (λ r. ((put w.job (job_at w q (act_of q x)) (r.1.job) t).counted ≡ true) × (is_sharing (next_of (w.shape.pool (target_pool q (act_of q x))) q x (r.0)) ≡ false)) (λ r. ((world_after w q x fs r).job t).counted ≡ true) (λ r f. counts_on w q x fs r t z un (f.1) k (f.0)) (outcome w q (record { top = x; below = fs }))
+act_counts w q x fs t z un n k = if_some_map (λ r. ((put w.job (job_at w q (act_of q x)) (r.1.job) t).counted ≡ true) × (is_sharing (next_of (w.shape.pool (target_pool q (act_of q x))) q x (r.0)) ≡ false)) (λ r. ((world_after w q x fs r).job t).counted ≡ true)
+    (λ r f. counts_on w q x fs r t z un (f.1) k (f.0)) (outcome w q (record { top = x; below = fs }))
     (if_some_and (λ r. (put w.job (job_at w q (act_of q x)) (r.1.job) t).counted ≡ true) (λ r. is_sharing (next_of (w.shape.pool (target_pool q (act_of q x))) q x (r.0)) ≡ false) (outcome w q (record { top = x; below = fs })) (put_counts w q x fs t refl z n k) (all_steady w q x refl))
 
 pub step_counts : (w : World) (e : Event) (t : ℕ) → t + 1 ≤ w.jobs → ((q : Party) (i : ℕ) → all_raises i (w.stack q) + one (w.job i).counted ≤ 1) → ((q : Party) → shares t (w.stack q) ≡ 0) → (w.job t).counted ≡ true → IfSome (step w e) (λ u. (u.job t).counted ≡ true)
@@ -276,16 +241,7 @@ ended_on w u a t z = by ((w.job t).at) (a.final t) z
   where
     by : (v : Whereabouts) → IsFinal v ((u.job t).at) → is_done v ≡ true → is_done ((u.job t).at) ≡ true
     by (Over e) f d = ap is_done f
-    by (Made q) f d = cc
-    by (Running q) f d = cc
-    by (InDeque p i) f d = cc
-    by (Injected p) f d = cc
-    by (InFifo p i b) f d = cc
-    by (InCast p i) f d = cc
-    by HandedBack f d = cc
-    by (Retaken q) f d = cc
-    by Spent f d = cc
-    by Nowhere f d = cc
+    by _ f d = cc
 
 -- a job in a FIFO list can be taken back by its call
 lined_apart : (w : World) → JobsHold w → (p i : ℕ) (b : Option ℕ) (t : ℕ) → 1 ≤ times t ((w.seat p i).fifo b) → is_left (w.job t).at ≡ true → ⊥
@@ -300,7 +256,8 @@ abbrev Untaken : World → ℕ → Type 0
 Untaken w t = (q : Party) → IfSome (outcome w q (w.stack q)) (λ r. regained t ((w.stack q).top) (r.0) ≡ 0)
 
 -- so it is, if who takes a job back takes another
-untaken : (w : World) (t : ℕ) → ((a b : ℕ) (f : Feeding) (fs : List Place) (y : Taken) (m : Part) → w.stack (Worker a b) ≡ record { top = TakeFromFifo f; below = fs } → Learned w.shape (Worker a b) (place_part w (Worker a b) (TakeFromFifo f)) (TakeFromFifo f) (Task y, m) → (t == taken_number y) ≡ false) → Untaken w t
+untaken : (w : World) (t : ℕ) → ((a b : ℕ) (f : Feeding) (fs : List Place) (y : Taken) (m : Part) → w.stack (Worker a b) ≡ record { top = TakeFromFifo f; below = fs } → Learned w.shape (Worker a b) (place_part w (Worker a b) (TakeFromFifo f)) (TakeFromFifo f) (Task y, m)
+    → (t == taken_number y) ≡ false) → Untaken w t
 untaken w t g q = by q ((w.stack q).top) ((w.stack q).below) refl
   where
     at : (a b : ℕ) (f : Feeding) (fs : List Place) → w.stack (Worker a b) ≡ record { top = TakeFromFifo f; below = fs } → (r : Seen × Part) → Learned w.shape (Worker a b) (place_part w (Worker a b) (TakeFromFifo f)) (TakeFromFifo f) r → regained t (TakeFromFifo f) (r.0) ≡ 0
@@ -308,7 +265,8 @@ untaken w t g q = by q ((w.stack q).top) ((w.stack q).below) refl
     at a b f fs z (e, m) l = refl
 
     by : (q : Party) (x : Place) (fs : List Place) → w.stack q ≡ record { top = x; below = fs } → IfSome (outcome w q (record { top = x; below = fs })) (λ r. regained t x (r.0) ≡ 0)
-    by (Worker a b) (TakeFromFifo f) fs z = if_some_map (Learned w.shape (Worker a b) (place_part w (Worker a b) (TakeFromFifo f)) (TakeFromFifo f)) (λ r. regained t (TakeFromFifo f) (r.0) ≡ 0) (λ r l. at a b f fs z r l) (outcome w (Worker a b) (record { top = TakeFromFifo f; below = fs })) (act_learned w.shape (Worker a b) (counts_at w a) (place_part w (Worker a b) (TakeFromFifo f)) (TakeFromFifo f))
+    by (Worker a b) (TakeFromFifo f) fs z = if_some_map (Learned w.shape (Worker a b) (place_part w (Worker a b) (TakeFromFifo f)) (TakeFromFifo f)) (λ r. regained t (TakeFromFifo f) (r.0) ≡ 0) (λ r l. at a b f fs z r l)
+        (outcome w (Worker a b) (record { top = TakeFromFifo f; below = fs })) (act_learned w.shape (Worker a b) (counts_at w a) (place_part w (Worker a b) (TakeFromFifo f)) (TakeFromFifo f))
     by (Caller c) (TakeFromFifo f) fs z = tt
     by q x fs z = if_some_all {A = Seen × Part} (λ r. regained t x (r.0) ≡ 0) (λ r. refl) (outcome w q (record { top = x; below = fs }))
 
@@ -372,27 +330,17 @@ handed_on w u e made h r a t l k un z = by ((w.job t).at) refl z (a.final t)
 
     by : (v : Whereabouts) → (w.job t).at ≡ v → (is_queued v || (is_running v || is_done v)) ≡ true → IsFinal v ((u.job t).at) → HandedOn (u.job t)
     by (Over d) i y f = ap (λ v. is_queued v || (is_running v || is_done v)) f
-    by (InDeque p j) i y f = busy (ap is_busy i)
-    by (Injected p) i y f = busy (ap is_busy i)
-    by (InFifo p j b) i y f = busy (ap is_busy i)
-    by (InCast p j) i y f = busy (ap is_busy i)
-    by (Running q) i y f = busy (ap is_busy i)
     by (Made q) i y f = cc
     by (Retaken q) i y f = cc
     by HandedBack i y f = cc
     by Spent i y f = cc
     by Nowhere i y f = cc
+    by _ i y f = busy (ap is_busy i)
 
 -- a token that has left its call is not handed back
 token_kinds : (k : JobKind) → is_detached k ≡ true → is_token k ≡ true → ⊥
 token_kinds (Detached p) d e = cc
-token_kinds (TokenOf i b) d e = cc
-token_kinds (PieceOf c o) d e = cc
-token_kinds (WholeOf c o) d e = cc
-token_kinds (BodyOf c9 o9) d e = cc
-token_kinds (Stored c o) d e = cc
-token_kinds (Scoped c o) d e = cc
-token_kinds Direct d e = cc
+token_kinds _ d e = cc
 
 put_handed : (J : ℕ → Job) (a k : ℕ) → one (k == a) ≤ 0 → backs (J k).at ≤ 0 → backs (put J a (at_job (J a) HandedBack) k).at ≤ 0
 put_handed J a k n b = by (k == a) n
@@ -416,13 +364,10 @@ pieces_kept w c m J k s t b = by (is_piece c k) refl
     by false e = b
 
 land_kept : (w : World) (q : Party) (g : Move) (J : ℕ → Job) (k : ℕ) → StartsAwaited w g → is_token (w.job k).kind ≡ true → fed_move k g ≤ 0 → backs (J k).at ≤ 0 → backs (jobs_after q g J k).at ≤ 0
-land_kept w q (Stay y) J k s t f b = b
 land_kept w q (HandIn y m) J k s t f b = put_other J m k (at_job (J m) Spent) (omega arith) b
 land_kept w q (Discard m) J k s t f b = put_other J m k (at_job (J m) Spent) (omega arith) b
-land_kept w q (Enter x y) J k s t f b = b
 land_kept w q (Mark y c m) J k s t f b = pieces_kept w c m J k s t b
 land_kept w q (HandAllBack c) J k s t f b = pieces_kept w c Returned J k s t b
-land_kept w q Back J k s t f b = b
 land_kept w q (StartRun x m) J k s t f b = put_other J m k (begun q (J m)) (omega arith) b
 land_kept w q (HandBack (Detach p a)) J k s t f b = put_handed J a k f b
 land_kept w q (HandBack (Here p a)) J k s t f b = put_handed J a k f b
@@ -448,6 +393,7 @@ land_kept w q (HandBack (Feed d)) J k s t f b = by (k == d.token) refl
     by : (z : Bool) → (k == d.token) ≡ z → backs (if z then at_job (J d.token) HandedBack else put J d.job (at_job (J d.job) HandedBack) k).at ≤ 0
     by true e = absurd (let c : one (k == d.token) ≡ 1 = ap one e in omega (arith, c, f))
     by false e = apart (k == d.job) refl
+land_kept w q _ J k s t f b = b
 
 all_unbacked : (w : World) (q : Party) (x : Place) (fs : List Place) → IfSome (outcome w q (record { top = x; below = fs })) (Unbacked (place_part w q x))
 all_unbacked w (Worker a b) (RaiseCount n) fs = by (count_in (place_part w (Worker a b) (RaiseCount n)) (plan_count n) == 0)
@@ -519,23 +465,15 @@ token_on w u e made h a k l t z = (left, by ((u.job k).at) left unbacked)
     by (InFifo p i c) y b = cc
     by (Retaken q) y b = cc
     by HandedBack y b = absurd (omega (arith, b))
-    by (InDeque p i) y b = inl refl
-    by (InCast p i) y b = inl refl
-    by (Injected p) y b = inl refl
-    by (Running q) y b = inl refl
-    by (Over d) y b = inl refl
     by Spent y b = inr refl
+    by _ y b = inl refl
 
 -- a spawned job that is queued, in a hand, running or over is so still
 pub queued_on : (w u : World) (e : Event) → step w e ≡ Some u → SharesHold w → FeedersHold w → ReturnsHold u → Advance w u → (n : Plan) → Known w n → Queued w.job n → Queued u.job n
-queued_on w u e made h fe r a (Here p t) k z = tt
-queued_on w u e made h fe r a (Send o) k z = tt
-queued_on w u e made h fe r a (Open o) k z = tt
 queued_on w u e made h fe r a (Enter x) k z = (final_left ((w.job x.job).at) ((u.job x.job).at) (a.final x.job) (z.0), handed_on w u e made h r a x.job (k.0) (k.1) (left_untaken w ((h.calls).jobs) x.job (z.0)) (z.1))
-queued_on w u e made h fe r a (Fork o b) k z = tt
-queued_on w u e made h fe r a (Gather g) k z = tt
 queued_on w u e made h fe r a (Detach p t) k z = (final_left ((w.job t).at) ((u.job t).at) (a.final t) (z.0), handed_on w u e made h r a t (k.0) (k.1) (left_untaken w ((h.calls).jobs) t (z.0)) (z.1))
 queued_on w u e made h fe r a (Feed d) k z = (handed_on w u e made h r a d.job ((k.0).0) ((k.0).1) (paired_untaken w ((h.calls).jobs) fe d.job d.token (z.2) ((z.1).0)) (z.0), token_on w u e made h a d.token ((k.1).0) ((k.1).1) (z.1), z.2)
+queued_on w u e made h fe r a _ k z = tt
 
 -- nobody comes to raise a count for a job that is there
 raises_on : (w : World) (q : Party) (k : Stack) (u : World) (t : ℕ) → ((r : Party) → u.stack r ≡ put_stack w.stack q k r) → all_raises t k ≤ all_raises t (w.stack q) → (r : Party) → all_raises t (u.stack r) ≤ all_raises t (w.stack r)
@@ -545,14 +483,18 @@ raises_on w q k u t st l r = by (same_party r q) refl
     is = ap (all_raises t) (st r)
 
     by : (b : Bool) → same_party r q ≡ b → all_raises t (u.stack r) ≤ all_raises t (w.stack r)
-    by true y = let i : r ≡ q = same_party_true r q y in let a : all_raises t (put_stack w.stack q k r) ≡ all_raises t k = ap (λ s. all_raises t (put_stack w.stack q k s)) i ∙ ap (all_raises t) (stack_mine w.stack q k) in let c : all_raises t (w.stack r) ≡ all_raises t (w.stack q) = ap (λ s. all_raises t (w.stack s)) i in omega (arith, is, a, c, l)
+    by true y = let i : r ≡ q = same_party_true r q y in let a : all_raises t (put_stack w.stack q k r) ≡ all_raises t k = ap (λ s. all_raises t (put_stack w.stack q k s)) i ∙ ap (all_raises t) (stack_mine w.stack q k) in
+        let c : all_raises t (w.stack r) ≡ all_raises t (w.stack q) = ap (λ s. all_raises t (w.stack s)) i in omega (arith, is, a, c, l)
     by false y = let a : all_raises t (put_stack w.stack q k r) ≡ all_raises t (w.stack r) = ap (all_raises t) (stack_other w.stack q k r y) in omega (arith, is, a)
 
 step_raises : (w : World) (e : Event) (t : ℕ) → t + 1 ≤ w.jobs → IfSome (step w e) (λ u. (r : Party) → all_raises t (u.stack r) ≤ all_raises t (w.stack r))
-step_raises w e t l = by_act (λ u. (r : Party) → all_raises t (u.stack r) ≤ all_raises t (w.stack r)) w e (λ q. if_some_all {A = Seen × Part} (λ v. (r : Party) → all_raises t ((result w q (w.stack q) v).stack r) ≤ all_raises t (w.stack r)) (λ v r. raises_all w q ((w.stack q).top) ((w.stack q).below) (w.shape.pool (target_pool q (act_of q ((w.stack q).top)))) (v.0) t refl r) (outcome w q (w.stack q))) (λ u m. raises_on w (mover e) m.to u t m.stack (m.raises t l)) (is_act e) refl
+step_raises w e t l = by_act (λ u. (r : Party) → all_raises t (u.stack r) ≤ all_raises t (w.stack r)) w e
+    (λ q. if_some_all {A = Seen × Part} (λ v. (r : Party) → all_raises t ((result w q (w.stack q) v).stack r) ≤ all_raises t (w.stack r)) (λ v r. raises_all w q ((w.stack q).top) ((w.stack q).below) (w.shape.pool (target_pool q (act_of q ((w.stack q).top)))) (v.0) t refl r)
+    (outcome w q (w.stack q))) (λ u m. raises_on w (mover e) m.to u t m.stack (m.raises t l)) (is_act e) refl
 
 -- a job that nobody raises has no share after an act either
-raise_uncounts : (w : World) (n : Plan) (t : ℕ) (g h : Part) → g.job.counted ≡ (w.job (plan_job n)).counted → ((t == plan_job n) ≡ true → ⊥) → (w.job t).counted ≡ false → (b : Bool) → IfSome {T = Seen × Part} (if b then Some (Refused, g) else Some (Done, h)) (λ r. (put w.job (plan_job n) (r.1.job) t).counted ≡ false)
+raise_uncounts : (w : World) (n : Plan) (t : ℕ) (g h : Part) → g.job.counted ≡ (w.job (plan_job n)).counted → ((t == plan_job n) ≡ true → ⊥) → (w.job t).counted ≡ false → (b : Bool) → IfSome {T = Seen × Part} (if b then Some (Refused, g) else Some (Done, h))
+    (λ r. (put w.job (plan_job n) (r.1.job) t).counted ≡ false)
 raise_uncounts w n t g h i k c true = put_same (λ j. j.counted) w.job (plan_job n) g.job t i ∙ c
 raise_uncounts w n t g h i k c false = by (t == plan_job n) refl
   where
@@ -570,7 +512,8 @@ lower_uncounts w u t c = by (t == u)
 unraised_apart : (w : World) (q : Party) (n : Plan) (fs : List Place) (t : ℕ) → w.stack q ≡ record { top = RaiseCount n; below = fs } → all_raises t (w.stack q) ≤ 0 → (t == plan_job n) ≡ true → ⊥
 unraised_apart w q n fs t z r e = let a : all_raises t (w.stack q) ≡ ((one (t == plan_job n) + waiting t n) + raises_in t fs) = ap (all_raises t) z in let b : one (t == plan_job n) ≡ 1 = ap one e in omega (arith, a, b, r)
 
-put_uncounts : (w : World) (q : Party) (x : Place) (fs : List Place) (t : ℕ) → is_all x ≡ false → w.stack q ≡ record { top = x; below = fs } → all_raises t (w.stack q) ≤ 0 → (w.job t).counted ≡ false → IfSome (outcome w q (record { top = x; below = fs })) (λ r. (put w.job (job_at w q (act_of q x)) (r.1.job) t).counted ≡ false)
+put_uncounts : (w : World) (q : Party) (x : Place) (fs : List Place) (t : ℕ) → is_all x ≡ false → w.stack q ≡ record { top = x; below = fs } → all_raises t (w.stack q) ≤ 0 → (w.job t).counted ≡ false → IfSome (outcome w q (record { top = x; below = fs }))
+    (λ r. (put w.job (job_at w q (act_of q x)) (r.1.job) t).counted ≡ false)
 put_uncounts w (Worker a b) (RaiseCount n) fs t y z d c = raise_uncounts w n t _ _ refl (unraised_apart w (Worker a b) n fs t z d) c (count_in (place_part w (Worker a b) (RaiseCount n)) (plan_count n) == 0)
 put_uncounts w (Caller i) (RaiseCount n) fs t y z d c = raise_uncounts w n t _ _ refl (unraised_apart w (Caller i) n fs t z d) c (count_in (place_part w (Caller i) (RaiseCount n)) (plan_count n) == 0)
 put_uncounts w (Worker a b) (LowerCount p (OfJob u) n) fs t y z d c = lower_uncounts w u t c
@@ -582,7 +525,8 @@ put_uncounts w (Caller i) (LowerCount p Body n) fs t y z d c = put_same (λ j. j
 put_uncounts w q (RaiseForAll b) fs t y z d c = cc
 put_uncounts w q (LowerForAll b) fs t y z d c = cc
 put_uncounts w q (DealPieces b) fs t y z d c = cc
-put_uncounts w q x fs t y z d c = if_some_map (Untallied (place_part w q x)) (λ r. (put w.job (job_at w q (act_of q x)) (r.1.job) t).counted ≡ false) (λ r k. put_same (λ j. j.counted) w.job (job_at w q (act_of q x)) (r.1.job) t k.job ∙ c) (outcome w q (record { top = x; below = fs })) (act_untallied w.shape q (counts_at w (target_pool q (act_of q x))) (place_part w q x) x refl)
+put_uncounts w q x fs t y z d c = if_some_map (Untallied (place_part w q x)) (λ r. (put w.job (job_at w q (act_of q x)) (r.1.job) t).counted ≡ false) (λ r k. put_same (λ j. j.counted) w.job (job_at w q (act_of q x)) (r.1.job) t k.job ∙ c) (outcome w q (record { top = x; below = fs }))
+    (act_untallied w.shape q (counts_at w (target_pool q (act_of q x))) (place_part w q x) x refl)
 
 -- nor after a broadcast has given its pieces shares, or taken them
 mark_uncounts : (w : World) (c : Pieces) (k : Marking) (t : ℕ) → ((p i : ℕ) (j : Job) → j.counted ≡ false → (marked k p i j).counted ≡ false) → (w.job t).counted ≡ false → (mark_pieces c k (put w.job 0 (w.job 0)) t).counted ≡ false
@@ -601,14 +545,20 @@ off_uncounts w c k t e n = ap (λ j. j.counted) (piece_old c (marked k c.pool) (
 unraised_piece : (w : World) (q : Party) (c : Pieces) (x : Place) (fs : List Place) (t : ℕ) → w.stack q ≡ record { top = x; below = fs } → raises t x ≡ one (is_piece c t) → all_raises t (w.stack q) ≤ 0 → is_piece c t ≡ false
 unraised_piece w q c x fs t z e r = not_piece c t (raises_in t fs) (let a : all_raises t (w.stack q) ≡ (raises t x + raises_in t fs) = ap (all_raises t) z in omega (arith, a, e, r))
 
-act_uncounts : (w : World) (q : Party) (x : Place) (fs : List Place) (t : ℕ) → w.stack q ≡ record { top = x; below = fs } → ((s : Party) (i : ℕ) → all_raises i (w.stack s) + one (w.job i).counted ≤ 1) → all_raises t (w.stack q) ≤ 0 → (w.job t).counted ≡ false → IfSome (outcome w q (record { top = x; below = fs })) (λ r. ((world_after w q x fs r).job t).counted ≡ false)
-act_uncounts w (Worker a b) (RaiseForAll c) fs t z un d n = all_cases (λ r. ((world_after w (Worker a b) (RaiseForAll c) fs r).job t).counted ≡ false) (Refused, place_part w (Worker a b) (RaiseForAll c)) _ (mark_uncounts w c Returned t (λ p i j e. refl) n) (off_uncounts w c Counted t (unraised_piece w (Worker a b) c (RaiseForAll c) fs t z refl d) n) (count_in (place_part w (Worker a b) (RaiseForAll c)) c.count == 0)
-act_uncounts w (Caller g) (RaiseForAll c) fs t z un d n = all_cases (λ r. ((world_after w (Caller g) (RaiseForAll c) fs r).job t).counted ≡ false) (Refused, place_part w (Caller g) (RaiseForAll c)) _ (mark_uncounts w c Returned t (λ p i j e. refl) n) (off_uncounts w c Counted t (unraised_piece w (Caller g) c (RaiseForAll c) fs t z refl d) n) (count_in (place_part w (Caller g) (RaiseForAll c)) c.count == 0)
-act_uncounts w (Worker a b) (LowerForAll c) fs t z un d n = ap (λ g. (g t).counted) (returned_jobs (w.shape.pool (count_pool (Worker a b) c.count)) (Worker a b) c (if count_in (place_part w (Worker a b) (LowerForAll c)) c.count == c.workers then Yes else No) (put w.job 0 (w.job 0))) ∙ mark_uncounts w c Returned t (λ p i j e. refl) n
-act_uncounts w (Caller g) (LowerForAll c) fs t z un d n = ap (λ g. (g t).counted) (returned_jobs (w.shape.pool (count_pool (Caller g) c.count)) (Caller g) c (if count_in (place_part w (Caller g) (LowerForAll c)) c.count == c.workers then Yes else No) (put w.job 0 (w.job 0))) ∙ mark_uncounts w c Returned t (λ p i j e. refl) n
+act_uncounts : (w : World) (q : Party) (x : Place) (fs : List Place) (t : ℕ) → w.stack q ≡ record { top = x; below = fs } → ((s : Party) (i : ℕ) → all_raises i (w.stack s) + one (w.job i).counted ≤ 1) → all_raises t (w.stack q) ≤ 0 → (w.job t).counted ≡ false
+    → IfSome (outcome w q (record { top = x; below = fs })) (λ r. ((world_after w q x fs r).job t).counted ≡ false)
+act_uncounts w (Worker a b) (RaiseForAll c) fs t z un d n = all_cases (λ r. ((world_after w (Worker a b) (RaiseForAll c) fs r).job t).counted ≡ false) (Refused, place_part w (Worker a b) (RaiseForAll c)) _ (mark_uncounts w c Returned t (λ p i j e. refl) n)
+    (off_uncounts w c Counted t (unraised_piece w (Worker a b) c (RaiseForAll c) fs t z refl d) n) (count_in (place_part w (Worker a b) (RaiseForAll c)) c.count == 0)
+act_uncounts w (Caller g) (RaiseForAll c) fs t z un d n = all_cases (λ r. ((world_after w (Caller g) (RaiseForAll c) fs r).job t).counted ≡ false) (Refused, place_part w (Caller g) (RaiseForAll c)) _ (mark_uncounts w c Returned t (λ p i j e. refl) n)
+    (off_uncounts w c Counted t (unraised_piece w (Caller g) c (RaiseForAll c) fs t z refl d) n) (count_in (place_part w (Caller g) (RaiseForAll c)) c.count == 0)
+act_uncounts w (Worker a b) (LowerForAll c) fs t z un d n = ap (λ g. (g t).counted) (returned_jobs (w.shape.pool (count_pool (Worker a b) c.count)) (Worker a b) c (if count_in (place_part w (Worker a b) (LowerForAll c)) c.count == c.workers then Yes else No) (put w.job 0 (w.job 0)))
+    ∙ mark_uncounts w c Returned t (λ p i j e. refl) n
+act_uncounts w (Caller g) (LowerForAll c) fs t z un d n = ap (λ g. (g t).counted) (returned_jobs (w.shape.pool (count_pool (Caller g) c.count)) (Caller g) c (if count_in (place_part w (Caller g) (LowerForAll c)) c.count == c.workers then Yes else No) (put w.job 0 (w.job 0)))
+    ∙ mark_uncounts w c Returned t (λ p i j e. refl) n
 act_uncounts w (Worker a b) (DealPieces g) fs t z un d n = off_uncounts w g.pieces Dealt t (unraised_piece w (Worker a b) g.pieces (DealPieces g) fs t z refl d) n
 act_uncounts w (Caller i) (DealPieces g) fs t z un d n = off_uncounts w g.pieces Dealt t (unraised_piece w (Caller i) g.pieces (DealPieces g) fs t z refl d) n
-act_uncounts w q x fs t z un d n = if_some_map (λ r. ((put w.job (job_at w q (act_of q x)) (r.1.job) t).counted ≡ false) × (is_sharing (next_of (w.shape.pool (target_pool q (act_of q x))) q x (r.0)) ≡ false)) (λ r. ((world_after w q x fs r).job t).counted ≡ false) (λ r f. after_shares w q x fs (w.shape.pool (target_pool q (act_of q x))) (r.0) z un (f.1) (put w.job (job_at w q (act_of q x)) (r.1.job)) t (λ y. f.0) ∙ f.0) (outcome w q (record { top = x; below = fs }))
+act_uncounts w q x fs t z un d n = if_some_map (λ r. ((put w.job (job_at w q (act_of q x)) (r.1.job) t).counted ≡ false) × (is_sharing (next_of (w.shape.pool (target_pool q (act_of q x))) q x (r.0)) ≡ false)) (λ r. ((world_after w q x fs r).job t).counted ≡ false)
+    (λ r f. after_shares w q x fs (w.shape.pool (target_pool q (act_of q x))) (r.0) z un (f.1) (put w.job (job_at w q (act_of q x)) (r.1.job)) t (λ y. f.0) ∙ f.0) (outcome w q (record { top = x; below = fs }))
     (if_some_and (λ r. (put w.job (job_at w q (act_of q x)) (r.1.job) t).counted ≡ false) (λ r. is_sharing (next_of (w.shape.pool (target_pool q (act_of q x))) q x (r.0)) ≡ false) (outcome w q (record { top = x; below = fs })) (put_uncounts w q x fs t refl z d n) (all_steady w q x refl))
 
 step_uncounts : (w : World) (e : Event) (t : ℕ) → SharesHold w → Unshared w t → IfSome (step w e) (λ u. (u.job t).counted ≡ false)
@@ -619,38 +569,29 @@ unshared_on : (w u : World) (e : Event) → step w e ≡ Some u → SharesHold w
 unshared_on w u e made h t k = record {
   made = (let f : IfSome (Some u) (Carries w) = subst (λ o. IfSome o (Carries w)) made (step_carries w e) in f.made t k.made).0;
   none = (let f : IfSome (Some u) (λ v. (v.job t).counted ≡ false) = subst (λ o. IfSome o (λ v. (v.job t).counted ≡ false)) made (step_uncounts w e t h k) in f);
-  raised = λ r. (let f : IfSome (Some u) (λ v. (r : Party) → all_raises t (v.stack r) ≤ all_raises t (w.stack r)) = subst (λ o. IfSome o (λ v. (r : Party) → all_raises t (v.stack r) ≤ all_raises t (w.stack r))) made (step_raises w e t k.made) in let a : all_raises t (u.stack r) ≤ all_raises t (w.stack r) = f r in let b : all_raises t (w.stack r) ≤ 0 = k.raised r in omega (arith, a, b));
+  raised = λ r. (let f : IfSome (Some u) (λ v. (r : Party) → all_raises t (v.stack r) ≤ all_raises t (w.stack r)) = subst (λ o. IfSome o (λ v. (r : Party) → all_raises t (v.stack r) ≤ all_raises t (w.stack r))) made (step_raises w e t k.made) in
+      let a : all_raises t (u.stack r) ≤ all_raises t (w.stack r) = f r in let b : all_raises t (w.stack r) ≤ 0 = k.raised r in omega (arith, a, b));
 }
 
 over_on : (w u : World) → Advance w u → (n : Plan) → AllOver w.job n → AllOver u.job n
-over_on w u a (Detach p t) z = tt
-over_on w u a (Feed f) z = tt
-over_on w u a (Enter x) z = tt
 over_on w u a (Here p t) z = ended_on w u a t z
 over_on w u a (Send o) z = ended_on w u a o.job z
 over_on w u a (Open o) z = ended_on w u a o.job z
 over_on w u a (Fork o b) z = (ended_on w u a b (z.0), ended_on w u a o.job (z.1))
 over_on w u a (Gather g) z = λ t e. ended_on w u a t (z t e)
+over_on w u a _ z = tt
 
 -- a count of 0 stays so
 step_spent : (w : World) (e : Event) (c : ℕ) → c + 1 ≤ w.calls → SharesHold w → (w.call c).count ≡ 0 → IfSome (step w e) (λ u. (u.call c).count ≡ 0)
-step_spent w e c l h z = by_act (λ u. (u.call c).count ≡ 0) w e (λ q. if_some_map {A = Seen × Part} (Ready w q ((w.stack q).top) ((w.stack q).below)) (λ r. ((result w q (w.stack q) r).call c).count ≡ 0) (λ r f. f.last.later.spent c l z) (outcome w q (w.stack q)) (ready w q h)) (λ u m. m.counts c l ∙ z) (is_act e) refl
+step_spent w e c l h z = by_act (λ u. (u.call c).count ≡ 0) w e (λ q. if_some_map {A = Seen × Part} (Ready w q ((w.stack q).top) ((w.stack q).below)) (λ r. ((result w q (w.stack q) r).call c).count ≡ 0) (λ r f. f.last.later.spent c l z) (outcome w q (w.stack q)) (ready w q h))
+    (λ u m. m.counts c l ∙ z) (is_act e) refl
 
 left_on : (w u : World) (e : Event) → step w e ≡ Some u → SharesHold w → (n : Plan) → Known w n → NoneLeft w n → NoneLeft u n
 left_on w u e made h (Gather g) k z = let f : IfSome (Some u) (λ v. (v.call g.call.number).count ≡ 0) = subst (λ o. IfSome o (λ v. (v.call g.call.number).count ≡ 0)) made (step_spent w e g.call.number k.number h z) in f
-left_on w u e made h (Detach p t) k z = tt
-left_on w u e made h (Here p t) k z = tt
-left_on w u e made h (Feed f) k z = tt
-left_on w u e made h (Enter x) k z = tt
-left_on w u e made h (Send o) k z = tt
-left_on w u e made h (Open o) k z = tt
-left_on w u e made h (Fork o b) k z = tt
+left_on w u e made h _ k z = tt
 
 pub sofar_on : (w u : World) (e : Event) → step w e ≡ Some u → SharesHold w → FeedersHold w → ReturnsHold u → Advance w u → (n : Plan) → Known w n → (s : Stage) → Sofar w s n → Sofar u s n
-sofar_on w u e made h fe r a n k Going z = tt
-sofar_on w u e made h fe r a n k Undone z = tt
-sofar_on w u e made h fe r a n k Added z = tt
-sofar_on w u e made h fe r a n k Withdrawing z = tt
 sofar_on w u e made h fe r a n k Paid z = (unshared_on w u e made h (plan_job n) (z.0), over_on w u a n (z.1), left_on w u e made h n k (z.2))
 sofar_on w u e made h fe r a n k Repaid z = unshared_on w u e made h (plan_job n) z
 sofar_on w u e made h fe r a n k Gone z = queued_on w u e made h fe r a n k z
+sofar_on w u e made h fe r a n k _ z = tt

@@ -5,28 +5,11 @@
 -- below it, alone (`climbs`).
 -- The first world in which the stack is the old one again is the one after a move back: before it the stack is longer.
 use Rattle.std.proofs.Common.{refl, sym, ◌∙◌, ap, subst, inl, inr}
-use Rattle.std.specs.Prelude.{ℕ, Bool, true, false, ◌&&◌, ◌||◌, ◌==◌, if◌then◌else◌, Option, Some, List, [], ◌∷◌, ◌++◌, ◌≡◌, IfSome, ◌⊎◌}
-use Rattle.rayon_machine_places.specs.declared.place.Party.{Party}
-use Rattle.rayon_machine_places.specs.declared.place.JobKind.TheVariants.{Direct, WholeOf}
-use Rattle.rayon_machine_places.specs.declared.place.JobKind.{JobKind}
-use Rattle.rayon_machine_laws.specs.Counted.{has_body}
+use Rattle.rayon_machine_orders.proofs.Words.{ℕ, Bool, true, false, ◌&&◌, ◌||◌, ◌==◌, if◌then◌else◌, Option, Some, List, [], ◌∷◌, ◌++◌, ◌≡◌, IfSome, ◌⊎◌, Party, Direct, WholeOf, JobKind, has_body, Plan, Detach, Here, Send, Fork, Feed, Open, Enter, Gather, Place, Run, Move, Stay}
+use Rattle.rayon_machine_orders.proofs.Words.{EnterAbove as Enter, StartRun, Back, HandBack, Discard, HandIn, Mark, HandAllBack, Seen, Event, Go, HandedBack, Job, plan_job, same_party, act_of, next_of, Stack, World, Part as Piece, target_pool, at_job, put, after_move, is_piece, marked}
+use Rattle.rayon_machine_orders.proofs.Words.{jobs_after, step, AllJobs, follows, is_at_call, is_raise_refused, is_refusal, IsHandedOn, IsSpent, OpenCall, Ending, Answers, Returned as HandedOut}
 use Rattle.rayon_machine_orders.proofs.FaultPlaces.{told_of}
-use Rattle.rayon_machine_places.specs.declared.place.Plan.{Plan}
-use Rattle.rayon_machine_places.specs.declared.place.Plan.TheVariants.{Detach, Here, Send, Fork, Feed, Open, Enter, Gather}
-use Rattle.rayon_machine_places.specs.declared.place.Place.{Place}
-use Rattle.rayon_machine_places.specs.declared.place.Place.TheVariants.{Run}
-use Rattle.rayon_machine_places.specs.declared.place.Move.{Move}
-use Rattle.rayon_machine_places.specs.declared.place.Move.TheVariants.{Stay, Enter, StartRun, Back, HandBack, Discard, HandIn, Mark, HandAllBack}
-use Rattle.rayon_machine_places.specs.declared.act.Seen.{Seen}
-use Rattle.rayon_machine_places.specs.declared.event.Event.{Event}
-use Rattle.rayon_machine_places.specs.declared.event.Event.TheVariants.{Go}
-use Rattle.rayon_machine_places.specs.declared.state.Whereabouts.TheVariants.{HandedBack}
-use Rattle.rayon_machine_places.specs.declared.state.Job.{Job}
-use Rattle.rayon_machine_places.specs.Places.{plan_job, same_party, act_of, next_of}
-use Rattle.rayon_machine_places.specs.World.{Stack, World, Part as Piece, target_pool, at_job}
-use Rattle.rayon_machine_places.specs.Steps.{put, after_move, handed_back, is_piece, marked, jobs_after, step}
-use Rattle.rayon_machine_laws.specs.End.{AllJobs, follows}
-use Rattle.rayon_machine_orders.specs.Calls.{is_at_call, is_raise_refused, is_refusal, IsHandedOn, IsSpent}
+use Rattle.rayon_machine_places.specs.Steps.{handed_back}
 use Rattle.rayon_machine_laws.proofs.Frame.{if_some_all, if_some_map, put_new, piece_new, same_party_true, same_party_refl, stack_mine, stack_other}
 use Rattle.rayon_machine_laws.proofs.Ties.{job_at, outcome, result}
 use Rattle.rayon_machine_laws.proofs.PlacedEvents.{Advance}
@@ -46,10 +29,6 @@ use Rattle.rayon_machine_laws.proofs.Endings.{follows_says}
 use Rattle.rayon_machine_orders.proofs.Books.{BooksHold}
 use Rattle.rayon_machine_orders.proofs.Faults.{FaultsHold}
 use Rattle.rayon_machine_orders.proofs.FaultSteps.{takes_so}
-use Rattle.rayon_machine_places.specs.declared.place.OpenCall.{OpenCall}
-use Rattle.rayon_machine_places.specs.declared.place.Ending.{Ending}
-use Rattle.rayon_machine_places.specs.declared.place.Then.TheVariants.{Answers}
-use Rattle.rayon_machine_places.specs.declared.place.Mark.TheVariants.{Returned as HandedOut}
 
 -- what holds of every world
 pub record Ground (w : World) : Type 0 where
@@ -104,34 +83,20 @@ left_so u (Fork o a) s k y z = (let b : Sofar u Paid (Fork o a) = subst (λ v. S
 left_so u (Gather g) s k y z = (let b : Sofar u Paid (Gather g) = subst (λ v. Sofar u v (Gather g)) y z in b.1)
 
 paid_so : (u : World) (n : Plan) (s : Stage) → Returns n s → is_detach n ≡ false → Sofar u s n → (u.job (plan_job n)).counted ≡ false
-paid_so u (Feed f) s y d z = absurd (let a : true ≡ false = d in cc)
-paid_so u (Detach p t) s y d z = absurd (let a : true ≡ false = d in cc)
-paid_so u (Enter e) s y d z = absurd (let a : true ≡ false = d in cc)
 paid_so u (Open o) s y d z = (let k : Sofar u Paid (Open o) = subst (λ v. Sofar u v (Open o)) y z in (k.0).none)
 paid_so u (Here p t) s y d z = (let k : Sofar u Paid (Here p t) = subst (λ v. Sofar u v (Here p t)) y z in (k.0).none)
 paid_so u (Send o) s y d z = (let k : Sofar u Paid (Send o) = subst (λ v. Sofar u v (Send o)) y z in (k.0).none)
 paid_so u (Fork o b) s y d z = (let k : Sofar u Paid (Fork o b) = subst (λ v. Sofar u v (Fork o b)) y z in (k.0).none)
 paid_so u (Gather g) s y d z = (let k : Sofar u Paid (Gather g) = subst (λ v. Sofar u v (Gather g)) y z in (k.0).none)
+paid_so u _ s y d z = absurd (let a : true ≡ false = d in cc)
 
 none_so : (u : World) (n : Plan) (s : Stage) → Returns n s → Sofar u s n → NoneLeft u n
 none_so u (Gather g) s y z = (let k : Sofar u Paid (Gather g) = subst (λ v. Sofar u v (Gather g)) y z in k.2)
-none_so u (Detach p t) s y z = tt
-none_so u (Here p t) s y z = tt
-none_so u (Feed f) s y z = tt
-none_so u (Enter e) s y z = tt
-none_so u (Send o) s y z = tt
-none_so u (Open o) s y z = tt
-none_so u (Fork o b) s y z = tt
+none_so u _ s y z = tt
 
 not_undone : (n : Plan) (s : Stage) → Returns n s → is_undone s ≡ false
 not_undone (Detach p t) s y = ap is_undone y
-not_undone (Feed f) s y = ap is_undone y
-not_undone (Open o) s y = ap is_undone y
-not_undone (Enter e) s y = ap is_undone y
-not_undone (Here p t) s y = ap is_undone y
-not_undone (Send o) s y = ap is_undone y
-not_undone (Fork o b) s y = ap is_undone y
-not_undone (Gather g) s y = ap is_undone y
+not_undone _ s y = ap is_undone y
 
 two_handed : (f : ℕ → Job) (a b : ℕ) → ((put (put f a (at_job (f a) HandedBack)) b (at_job (f b) HandedBack) a).at ≡ HandedBack) × ((put (put f a (at_job (f a) HandedBack)) b (at_job (f b) HandedBack) b).at ≡ HandedBack)
 two_handed f a b = (by (a == b), ap (λ j. j.at) (put_new (put f a (at_job (f a) HandedBack)) b (at_job (f b) HandedBack)))
@@ -153,14 +118,27 @@ handed_all f (Gather g) = λ t e. ap (λ j. j.at) (piece_new g.pieces (marked Ha
 -- where the call's own act leads
 landed : (w u : World) (q : Party) (s : Stack) (n : Plan) (st : Stage) (b : Bool) (g : Move) (f : ℕ → Job) → u.stack q ≡ after_move g (whole s) → u.job ≡ jobs_after q g f → Went w u n st b g → Sofar u st n → Known u n → After u q s n (is_undone st || b)
 landed w u q s n st b (Stay y) f z j h so k = inl (record { stage = h.stage; stands = record { above = []; place = y; is = ap whole z; part = h.leads }; sofar = h.sofar so; known = k; flag = h.flag })
-landed w u q s n st b (HandIn y t) f z j h so k = absurd h.leads
 landed w u q s n st b (Mark y c m) f z j h so k = inl (record { stage = h.stage; stands = record { above = []; place = y; is = ap whole z; part = h.leads }; sofar = h.sofar so; known = k; flag = h.flag })
-landed w u q s n st b (HandAllBack c) f z j h so k = absurd h.leads
 landed w u q s n st b (Enter x y) f z j h so k = inl (record { stage = h.stage; stands = record { above = y ∷ []; place = x; is = ap whole z; part = h.leads }; sofar = h.sofar so; known = k; flag = h.flag })
 landed w u q s n st b (StartRun x t) f z j h so k = inl (record { stage = h.stage; stands = record { above = Run t Direct ∷ []; place = x; is = ap whole z; part = h.leads }; sofar = h.sofar so; known = k; flag = h.flag })
-landed w u q s n st b Back f z j h so k = inr (record { back = z; ends = λ e. left_so u n h.stage k h.leads (h.sofar so); paid = λ d. paid_so u n h.stage h.leads d (h.sofar so); refused = λ e. absurd (let c : is_undone h.stage ≡ false = not_undone n h.stage h.leads in let d : is_undone h.stage ≡ true = h.flag ∙ e in cc); left = λ e. none_so u n h.stage h.leads (h.sofar so) })
-landed w u q s n st b (HandBack m) f z j h so k = inr (record { back = z; ends = λ e. absurd (let c : is_undone h.stage ≡ true = ap is_undone ((h.leads).1) in let d : is_undone h.stage ≡ false = h.flag ∙ e in cc); paid = λ d. (let c : Sofar u Repaid n = subst (λ v. Sofar u v n) ((h.leads).1) (h.sofar so) in c.none); refused = λ e. subst (λ v. AllJobs (λ t. (u.job t).at ≡ HandedBack) v) ((h.leads).0) (subst (λ v. AllJobs (λ t. (v t).at ≡ HandedBack) m) (sym j) (handed_all f m)); left = λ e. absurd (let c : is_undone h.stage ≡ true = ap is_undone ((h.leads).1) in let d : is_undone h.stage ≡ false = h.flag ∙ e in cc) })
-landed w u q s n st b (Discard t) f z j h so k = absurd h.leads
+landed w u q s n st b Back f z j h so k = inr
+    (record {
+      back = z;
+      ends = λ e. left_so u n h.stage k h.leads (h.sofar so);
+      paid = λ d. paid_so u n h.stage h.leads d (h.sofar so);
+      refused = λ e. absurd (let c : is_undone h.stage ≡ false = not_undone n h.stage h.leads in let d : is_undone h.stage ≡ true = h.flag ∙ e in cc);
+      left = λ e. none_so u n h.stage h.leads (h.sofar so);
+    })
+landed w u q s n st b (HandBack m) f z j h so k = inr
+    (record {
+      back = z;
+      ends = λ e. absurd (let c : is_undone h.stage ≡ true = ap is_undone ((h.leads).1) in let d : is_undone h.stage ≡ false = h.flag ∙ e in cc);
+      paid = λ d. (let c : Sofar u Repaid n = subst (λ v. Sofar u v n) ((h.leads).1) (h.sofar so) in c.none);
+      refused = λ e. subst
+          (λ v. AllJobs (λ t. (u.job t).at ≡ HandedBack) v) ((h.leads).0) (subst (λ v. AllJobs (λ t. (v t).at ≡ HandedBack) m) (sym j) (handed_all f m));
+      left = λ e. absurd (let c : is_undone h.stage ≡ true = ap is_undone ((h.leads).1) in let d : is_undone h.stage ≡ false = h.flag ∙ e in cc);
+    })
+landed w u q s n st b _ f z j h so k = absurd h.leads
 
 -- what goes on above the call's place
 pub climbs : (n : Plan) (st : Stage) (s : Stack) (g : Move) (gs : List Place) (p : Place) → Part n st p → CallStands n st s (after_move g (gs ++ (p ∷ whole s)))
@@ -228,8 +206,10 @@ knows w q x fs o f d z g i = record { own = (s.0).target; side = s.1; took = tak
     s = follows_says w q (w.stack q).top (Answers o f d) is ((g.calls.says q).top)
 
 -- its act is the call's own
-own_act : (w : World) (q : Party) (s : Stack) (n : Plan) (r : Bool) (st : Stage) (x : Place) (fs : List Place) → w.stack q ≡ record { top = x; below = fs } → fs ≡ whole s → Ground w → Part n st x → Sofar w st n → Known w n → is_undone st ≡ r → IfSome (outcome w q (record { top = x; below = fs })) (λ z. Stays w (Go q) q s n r (world_after w q x fs z))
-own_act w q s n r st x fs z e g p so k fl = if_some_map (λ v. Went w (world_after w q x fs v) n st (is_raise_refused w (act_of q x)) (next_of (w.shape.pool (target_pool q (act_of q x))) q x (v.0))) (λ v. Stays w (Go q) q s n r (world_after w q x fs v)) (λ v h made d a. lands v h made d a) (outcome w q (record { top = x; below = fs }))
+own_act : (w : World) (q : Party) (s : Stack) (n : Plan) (r : Bool) (st : Stage) (x : Place) (fs : List Place) → w.stack q ≡ record { top = x; below = fs } → fs ≡ whole s → Ground w → Part n st x → Sofar w st n → Known w n → is_undone st ≡ r
+    → IfSome (outcome w q (record { top = x; below = fs })) (λ z. Stays w (Go q) q s n r (world_after w q x fs z))
+own_act w q s n r st x fs z e g p so k fl = if_some_map (λ v. Went w (world_after w q x fs v) n st (is_raise_refused w (act_of q x)) (next_of (w.shape.pool (target_pool q (act_of q x))) q x (v.0))) (λ v. Stays w (Go q) q s n r (world_after w q x fs v)) (λ v h made d a. lands v h made d a)
+    (outcome w q (record { top = x; below = fs }))
     (call_goes w q n st x fs (λ o f i c. takes_filled w g.filled q o f (ap (λ v. v.top) z ∙ i) c) (λ o f d i. knows w q x fs o f d z g i) z g.feeders (g.returns.shares) k (subst (λ v. Says w q (v.top)) z ((g.calls.says q).top)) p)
   where
     refuses : is_refusal q s w (Go q) ≡ is_raise_refused w (act_of q x)
@@ -237,10 +217,13 @@ own_act w q s n r st x fs z e g p so k fl = if_some_map (λ v. Went w (world_aft
 
     lands : (v : Seen × Piece) → Went w (world_after w q x fs v) n st (is_raise_refused w (act_of q x)) (next_of (w.shape.pool (target_pool q (act_of q x))) q x (v.0)) → Stays w (Go q) q s n r (world_after w q x fs v)
     lands v h made d a = subst (λ c. After (world_after w q x fs v) q s n c) (ap (λ c. c || is_raise_refused w (act_of q x)) fl ∙ ap (λ c. r || c) (sym refuses))
-        (landed w (world_after w q x fs v) q s n st (is_raise_refused w (act_of q x)) (next_of (w.shape.pool (target_pool q (act_of q x))) q x (v.0)) (put w.job (job_at w q (act_of q x)) (v.1.job)) (stack_mine w.stack q (after_move (next_of (w.shape.pool (target_pool q (act_of q x))) q x (v.0)) fs) ∙ ap (λ c. after_move (next_of (w.shape.pool (target_pool q (act_of q x))) q x (v.0)) c) e) refl h (sofar_on w (world_after w q x fs v) (Go q) made (g.returns.shares) g.feeders d.returns a n k st so) (keeps_known w (world_after w q x fs v) (Go q) made n k))
+        (landed w (world_after w q x fs v) q s n st (is_raise_refused w (act_of q x)) (next_of (w.shape.pool (target_pool q (act_of q x))) q x (v.0)) (put w.job (job_at w q (act_of q x)) (v.1.job))
+        (stack_mine w.stack q (after_move (next_of (w.shape.pool (target_pool q (act_of q x))) q x (v.0)) fs) ∙ ap (λ c. after_move (next_of (w.shape.pool (target_pool q (act_of q x))) q x (v.0)) c) e) refl h
+        (sofar_on w (world_after w q x fs v) (Go q) made (g.returns.shares) g.feeders d.returns a n k st so) (keeps_known w (world_after w q x fs v) (Go q) made n k))
 
 -- its act is of what runs inside the call
-inner_act : (w : World) (q : Party) (s : Stack) (n : Plan) (r : Bool) (st : Stage) (x : Place) (fs gs : List Place) (p : Place) → w.stack q ≡ record { top = x; below = fs } → fs ≡ gs ++ (p ∷ whole s) → Ground w → Part n st p → Sofar w st n → Known w n → is_undone st ≡ r → (v : Seen × Piece) → Stays w (Go q) q s n r (world_after w q x fs v)
+inner_act : (w : World) (q : Party) (s : Stack) (n : Plan) (r : Bool) (st : Stage) (x : Place) (fs gs : List Place) (p : Place) → w.stack q ≡ record { top = x; below = fs } → fs ≡ gs ++ (p ∷ whole s) → Ground w → Part n st p → Sofar w st n → Known w n → is_undone st ≡ r
+    → (v : Seen × Piece) → Stays w (Go q) q s n r (world_after w q x fs v)
 inner_act w q s n r st x fs gs p z e g h so k fl v made d a =
     let move : Move = next_of (w.shape.pool (target_pool q (act_of q x))) q x (v.0) in
     let refuses : is_refusal q s w (Go q) ≡ false = (let b : same_party q q ≡ true = same_party_refl q in let c : is_at_call s (w.stack q) ≡ false = at_call_no s (w.stack q) gs p (ap (λ y. y.below) z ∙ e) in rw b (rw c refl)) in
@@ -252,13 +235,17 @@ inner_act w q s n r st x fs gs p z e g h so k fl v made d a =
       flag = fl ∙ or_false r ∙ ap (λ y. r || y) (sym refuses);
     })
 
-party_act : (w : World) (q : Party) (s : Stack) (n : Plan) (r : Bool) (st : Stage) (x : Place) (fs above : List Place) (p : Place) → w.stack q ≡ record { top = x; below = fs } → x ∷ fs ≡ above ++ (p ∷ whole s) → Ground w → Part n st p → Sofar w st n → Known w n → is_undone st ≡ r → IfSome (outcome w q (record { top = x; below = fs })) (λ v. Stays w (Go q) q s n r (world_after w q x fs v))
+party_act : (w : World) (q : Party) (s : Stack) (n : Plan) (r : Bool) (st : Stage) (x : Place) (fs above : List Place) (p : Place) → w.stack q ≡ record { top = x; below = fs } → x ∷ fs ≡ above ++ (p ∷ whole s) → Ground w → Part n st p → Sofar w st n → Known w n → is_undone st ≡ r
+    → IfSome (outcome w q (record { top = x; below = fs })) (λ v. Stays w (Go q) q s n r (world_after w q x fs v))
 party_act w q s n r st x fs [] p z e g h so k fl = own_act w q s n r st x fs z (let a : fs ≡ whole s = cc in a) g (let a : x ≡ p = cc in subst (λ v. Part n st v) (sym a) h) so k fl
 party_act w q s n r st x fs (b ∷ gs) p z e g h so k fl = if_some_all (λ v. Stays w (Go q) q s n r (world_after w q x fs v)) (λ v. inner_act w q s n r st x fs gs p z (let a : fs ≡ gs ++ (p ∷ whole s) = cc in a) g h so k fl v) (outcome w q (record { top = x; below = fs }))
 
 go_by : (w : World) (g : Party) (q : Party) (s : Stack) (n : Plan) (r : Bool) → Ground w → Inside w q s n r → (b : Bool) → same_party q g ≡ b → IfSome (step w (Go g)) (Stays w (Go g) q s n r)
-go_by w g q s n r d i true z = subst (λ v. IfSome (step w (Go v)) (Stays w (Go v) q s n r)) (same_party_true q g z) (go_all (Stays w (Go q) q s n r) w q (party_act w q s n r i.stage ((w.stack q).top) ((w.stack q).below) i.stands.above i.stands.place refl i.stands.is d i.stands.part i.sofar i.known i.flag))
-go_by w g q s n r d i false z = go_all (Stays w (Go g) q s n r) w g (if_some_all (λ v. Stays w (Go g) q s n r (result w g (w.stack g) v)) (λ v. idle w (result w g (w.stack g) v) (Go g) q s n r d i (stack_other w.stack g (after_move (next_of (w.shape.pool (target_pool g (act_of g ((w.stack g).top)))) g ((w.stack g).top) (v.0)) ((w.stack g).below)) q z) (ap (λ c. c && (is_at_call s (w.stack q) && is_raise_refused w (act_of q ((w.stack q).top)))) z)) (outcome w g (w.stack g)))
+go_by w g q s n r d i true z = subst (λ v. IfSome (step w (Go v)) (Stays w (Go v) q s n r)) (same_party_true q g z)
+    (go_all (Stays w (Go q) q s n r) w q (party_act w q s n r i.stage ((w.stack q).top) ((w.stack q).below) i.stands.above i.stands.place refl i.stands.is d i.stands.part i.sofar i.known i.flag))
+go_by w g q s n r d i false z = go_all (Stays w (Go g) q s n r) w g
+    (if_some_all (λ v. Stays w (Go g) q s n r (result w g (w.stack g) v)) (λ v. idle w (result w g (w.stack g) v) (Go g) q s n r d i (stack_other w.stack g (after_move (next_of (w.shape.pool (target_pool g (act_of g ((w.stack g).top)))) g ((w.stack g).top) (v.0)) ((w.stack g).below)) q z)
+    (ap (λ c. c && (is_at_call s (w.stack q) && is_raise_refused w (act_of q ((w.stack q).top)))) z)) (outcome w g (w.stack g)))
 
 -- a call goes on, or it is over
 pub step_stays : (w : World) (e : Event) (q : Party) (s : Stack) (n : Plan) (r : Bool) → Ground w → Inside w q s n r → IfSome (step w e) (Stays w e q s n r)

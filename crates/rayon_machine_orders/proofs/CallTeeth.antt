@@ -8,33 +8,10 @@
 -- - `store_stores_nothing`, at `Touched::latches`. `call_leaves_out_its_lower`, at `Place::next_closing`.
 -- - `call_lowers_without_an_answer`, at `OpenCall::answered`.
 use Rattle.rayon_machine_places.specs.declared.place.Count.TheVariants.{OfPool}
-use Rattle.std.proofs.Common.{refl}
-use Rattle.std.specs.Prelude.{ℕ, Bool, true, false, ◌&&◌, ◌||◌, ◌-◌, ◌==◌, nat_lt, nat_le, Option, Some, None, List, [], ◌∷◌, ◌++◌, ◌≡◌, IfSome, length}
-use Rattle.rayon_machine_places.specs.declared.place.Party.{Party}
-use Rattle.rayon_machine_places.specs.declared.place.Ending.TheVariants.{Fine, Fault}
-use Rattle.rayon_machine_places.specs.declared.place.Target.{Target}
-use Rattle.rayon_machine_places.specs.declared.place.Target.TheVariants.{Answer}
-use Rattle.rayon_machine_places.specs.declared.place.Plan.TheVariants.{Send}
-use Rattle.rayon_machine_places.specs.declared.place.Share.TheVariants.{OfJob}
-use Rattle.rayon_machine_places.specs.declared.place.Then.TheVariants.{Resume, GiveBack}
-use Rattle.rayon_machine_places.specs.declared.place.Place.{Place}
-use Rattle.rayon_machine_places.specs.declared.place.Place.TheVariants.{ProbeWorking, TellNews, TakeResult, LowerCount, Free}
-use Rattle.rayon_machine_places.specs.declared.place.Move.{Move}
-use Rattle.rayon_machine_places.specs.declared.place.Move.TheVariants.{Stay, Back}
-use Rattle.rayon_machine_places.specs.declared.act.Act.{Act}
-use Rattle.rayon_machine_places.specs.declared.act.Act.TheVariants.{Store, Take, Lower}
-use Rattle.rayon_machine_places.specs.declared.act.Seen.{Seen}
-use Rattle.rayon_machine_places.specs.declared.act.Seen.TheVariants.{Done, No, Wakes, Found}
-use Rattle.rayon_machine_places.specs.declared.event.Event.{Event}
-use Rattle.rayon_machine_places.specs.declared.event.Event.TheVariants.{Go, Refuse, End, Spawn, Install, Join, EndPool}
-use Rattle.rayon_machine_places.specs.declared.state.Whereabouts.{Whereabouts}
-use Rattle.rayon_machine_places.specs.declared.state.Whereabouts.TheVariants.{Made, InDeque, Injected, Over, HandedBack}
-use Rattle.rayon_machine_places.specs.declared.shape.PoolShape.{PoolShape}
-use Rattle.rayon_machine_places.specs.declared.place.Wait.{Wait}
-use Rattle.rayon_machine_places.specs.Places.{walk, act_of, next_of}
-use Rattle.rayon_machine_places.specs.World.{Shape, World, Counts, Part, Outcome, effect}
-use Rattle.rayon_machine_laws.specs.End.{AllFine, follows}
-use Rattle.rayon_machine_orders.specs.Calls.{caller_of, is_awaited, verdict_of, is_at_call, is_refusal}
+use Rattle.rayon_machine_orders.proofs.Words.{refl, ℕ, Bool, true, false, ◌&&◌, ◌||◌, ◌-◌, ◌==◌, nat_lt, nat_le, Option, Some, None, List, [], ◌∷◌, ◌++◌, ◌≡◌, IfSome, length, Party, Fine, Fault, Target, Answer, Send, OfJob, Resume, GiveBack, Place, ProbeWorking, TellNews, TakeResult, LowerCount}
+use Rattle.rayon_machine_orders.proofs.Words.{Free, Move, Stay, Back, Act, Take, Lower, Seen, Done, No, Wakes, Found, Event, Go, Refuse, End, Spawn, Install, Join, EndPool, Whereabouts, Made, InDeque, Injected, Over, HandedBack, PoolShape, Wait, walk, act_of, next_of, Shape, World, Counts, Part}
+use Rattle.rayon_machine_orders.proofs.Words.{Outcome, effect, AllFine, follows, caller_of, is_awaited, verdict_of, is_at_call, is_refusal}
+use Rattle.rayon_machine_places.specs.declared.act.Act.TheVariants.{Store}
 use Rattle.rayon_machine_orders.proofs.WrongMachines.{Machine, step_by, run_by, times_go, two, b, c, right, doing, leading}
 
 -- some event of a machine's run passes the test

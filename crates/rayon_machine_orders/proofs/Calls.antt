@@ -3,42 +3,14 @@
 -- The law is `call_law`. It stands on all the records of jobs and calls but `SetsHold`, `KeepersHold` and `ExactHold`.
 -- That a scope is empty at its end is `scope_ended` (Early): its body has given back its share of the pool's count.
 use Rattle.rayon_machine_laws.proofs.ClaimRuns.{CallsHold, unqueued}
-use Rattle.std.proofs.Common.{arith, refl, sym, ◌∙◌, ap, subst, inl, inr}
-use Rattle.std.specs.Prelude.{ℕ, Bool, true, false, ◌||◌, ◌+◌, ◌-◌, ◌≤◌, ◌<◌, if◌then◌else◌, Option, Some, None, List, [], ◌∷◌, ◌++◌, ◌≡◌, IfSome, ◌⊎◌, length}
-use Rattle.std.proofs.lemmas.Bool.{eqb-true, ltb-true, ltb-false}
-use Rattle.std.proofs.lemmas.List.{append_assoc, length-append}
-use Rattle.rayon_machine_places.specs.declared.place.Party.{Party}
-use Rattle.rayon_machine_places.specs.declared.place.Party.TheVariants.{Worker, Caller}
-use Rattle.rayon_machine_places.specs.declared.place.Ending.{Ending}
-use Rattle.rayon_machine_places.specs.declared.place.JobKind.TheVariants.{Scoped, WholeOf, BodyOf}
-use Rattle.rayon_machine_places.specs.declared.place.JobKind.{JobKind}
-use Rattle.rayon_machine_places.specs.declared.place.Plan.{Plan}
-use Rattle.rayon_machine_places.specs.declared.place.Plan.TheVariants.{Detach, Here, Send, Fork, Feed, Open, Enter, Gather}
-use Rattle.rayon_machine_places.specs.declared.place.Ending.TheVariants.{Fine, Fault}
-use Rattle.rayon_machine_places.specs.declared.place.Count.{Count}
-use Rattle.rayon_machine_places.specs.declared.place.Count.TheVariants.{OfPool, OfScope, OfCast}
-use Rattle.rayon_machine_places.specs.declared.place.Share.{Share}
-use Rattle.rayon_machine_places.specs.declared.place.Share.TheVariants.{PoolValue, Body, OfJob}
-use Rattle.rayon_machine_places.specs.declared.place.Then.{Then}
-use Rattle.rayon_machine_places.specs.declared.place.Then.TheVariants.{BeginFound, LeaveWait, Resume, Await, RunFirst, Answers, Missing, Ran, GiveBack, Called, Gathers}
-use Rattle.rayon_machine_places.specs.declared.place.Place.{Place}
-use Rattle.rayon_machine_places.specs.declared.place.Place.TheVariants.{LookQueue, PushJob, TakeResult, LowerCount, BeginTask}
-use Rattle.rayon_machine_places.specs.declared.act.Act.TheVariants.{LookOwn, LookInj, PushOwn, PushInj, Take, Lower}
-use Rattle.rayon_machine_places.specs.declared.event.Event.{Event}
-use Rattle.rayon_machine_places.specs.declared.state.Whereabouts.TheVariants.{Over, HandedBack}
-use Rattle.rayon_machine_places.specs.declared.place.OpenCall.{OpenCall}
-use Rattle.rayon_machine_places.specs.declared.state.Slot.{Slot}
-use Rattle.rayon_machine_places.specs.declared.state.Slot.TheVariants.{Closed, Open as IsOpen, Filled}
-use Rattle.rayon_machine_places.specs.Places.{is_member, plan_pool, plan_job, plan_book, act_of}
-use Rattle.rayon_machine_places.specs.World.{Shape, Stack, World}
-use Rattle.rayon_machine_places.specs.Steps.{holds, step}
-use Rattle.rayon_machine_places.specs.Runs.{IsRun, start}
-use Rattle.rayon_machine_laws.specs.End.{HasEnded, Verdict, answered, follows, ScopeTakes, CastTakes, Takes as TakesAs}
-use Rattle.rayon_machine_laws.specs.Counted.{has_body}
+use Rattle.rayon_machine_orders.proofs.Words.{arith, refl, sym, ◌∙◌, ap, subst, inl, inr, ℕ, Bool, true, false, ◌||◌, ◌+◌, ◌-◌, ◌≤◌, ◌<◌, if◌then◌else◌, Option, Some, None, List, ◌∷◌, ◌++◌, ◌≡◌, IfSome, ◌⊎◌, length, eqb-true, ltb-true, ltb-false, append_assoc, length-append, Party, Worker}
+use Rattle.rayon_machine_orders.proofs.Words.{Caller, Ending, Scoped, WholeOf, BodyOf, JobKind, Plan, Here, Send, Fork, Open, Gather, Fine, Fault, Count, OfPool, OfScope, OfCast, Share, PoolValue, Body, OfJob, Then, Await, Answers, Ran, GiveBack, Place, LookQueue, PushJob, TakeResult}
+use Rattle.rayon_machine_orders.proofs.Words.{LowerCount, BeginTask, LookOwn, LookInj, PushOwn, PushInj, Take, Lower, Event, Over, HandedBack, OpenCall, Slot, Closed, IsOpen, Filled, is_member, plan_pool, plan_job, plan_book, act_of, Shape, Stack, World, step, IsRun, start, HasEnded, Verdict}
+use Rattle.rayon_machine_orders.proofs.Words.{follows, ScopeTakes, CastTakes, TakesAs, has_body, ltb, verdict_of, LowersSo, IsRunUntil, is_at_call, is_refusal, is_any, HoldsEnding, StandsOn, is_done, slot_number, Plain, Token, []}
+use Rattle.rayon_machine_laws.specs.End.{answered}
 use Rattle.rayon_machine_orders.proofs.Books.{is_unfilled}
 use Rattle.rayon_machine_orders.proofs.BookEvents.{always_books}
-use Rattle.std.proofs.Math.Dec.{ltb}
-use Rattle.rayon_machine_orders.specs.Calls.{verdict_of, LowersSo, IsRunUntil, is_at_call, is_refusal, is_any, HoldsEnding, StandsOn, CallLaw, IsGivenBack}
+use Rattle.rayon_machine_orders.specs.Calls.{CallLaw, IsGivenBack}
 use Rattle.rayon_machine_laws.proofs.Frame.{either}
 use Rattle.rayon_machine_laws.proofs.PlacedEvents.{Advance}
 use Rattle.rayon_machine_laws.proofs.PlacedRuns.{JobsHold, step_advance}
@@ -53,13 +25,11 @@ use Rattle.rayon_machine_orders.proofs.CallSteps.{Carries, step_carries, known_o
 use Rattle.rayon_machine_orders.proofs.FaultSteps.{always_faults, is_kept}
 use Rattle.rayon_machine_orders.proofs.CallEvents.{whole, CallStands, at_call_no}
 use Rattle.rayon_machine_orders.proofs.CallMakes.{all_of, PlanAnswers, PlanTakes, CountBegun, Begun, begun_by}
-use Rattle.rayon_machine_places.specs.Readers.{is_done}
-use Rattle.rayon_machine_orders.specs.Books.{slot_number}
 use Rattle.rayon_machine_laws.proofs.Enters.{always_enters}
-use Rattle.rayon_machine_orders.proofs.Fillings.{fills, always_slots}
+use Rattle.rayon_machine_orders.proofs.Fillings.{always_slots}
 use Rattle.rayon_machine_orders.proofs.CallStretch.{Ground, Inside, Returned, After, Stays, knows, step_stays}
-use Rattle.rayon_machine_places.specs.declared.place.Taken.TheVariants.{Plain, Token}
 use Rattle.rayon_machine_laws.proofs.FeederEvents.{always_feeders}
+use Rattle.rayon_machine_orders.proofs.Spared.{fills}
 
 pub run_more : (w v u : World) (es : List Event) (e : Event) → IsRun w es v → step v e ≡ Some u → IsRun w (es ++ (e ∷ [])) u
 run_more w v u [] e r one = (u, subst (λ x. step x e ≡ Some u) r one, refl)
@@ -200,14 +170,15 @@ waits_for u g q o f z = let says : Opened u q o × FirstEnds u (u.call o.number)
 
 -- what a call of this plan finds
 finds : (u : World) → Ground u → (q : Party) (n : Plan) (r : Stage) (o : OpenCall) (f : Option Ending) → Known u n → plan_open n ≡ Some o → (u.stack q).top ≡ TakeResult o f → PlanTakes u n o.number
-finds u g q (Detach p t) r o f k e z = absurd (cc)
-finds u g q (Here p t) r o f k e z = absurd (cc)
-finds u g q (Feed x) r o f k e z = absurd (cc)
-finds u g q (Enter x) r o f k e z = absurd (cc)
 finds u g q (Send m) r o f k e z = let i : m ≡ o = some_opened m o e in subst (λ x. HoldsEnding u o.number x.job) (sym i) (holds_end u g q o f z (subst (λ x. has_body (u.job x.job).kind ≡ true) i (plain_body ((u.job m.job).kind) ((k.2).sort))))
 finds u g q (Fork m a) r o f k e z = let i : m ≡ o = some_opened m o e in subst (λ x. HoldsEnding u o.number x.job) (sym i) (holds_end u g q o f z (subst (λ x. has_body (u.job x.job).kind ≡ true) i (plain_body ((u.job m.job).kind) ((k.2).sort))))
-finds u g q (Open m) r o f k e z = let i : m ≡ o = some_opened m o e in (subst (λ x. HoldsEnding u o.number x.job) (sym i) (holds_end u g q o f z (subst (λ x. has_body (u.job x.job).kind ≡ true) i (scope_body ((u.job m.job).kind) ((k.2).sort)))), (is_kept u g.faults).take q o f z (scope_is ((u.job o.job).kind) o.number q (subst (λ x. is_scope_body (u.job x.job).kind ≡ true) i ((k.2).sort)) (waits_for u g q o f z)))
+finds u g q (Open m) r o f k e z = let i : m ≡ o = some_opened m o e in (
+  subst (λ x. HoldsEnding u o.number x.job) (sym i) (holds_end u g q o f z (subst (λ x. has_body (u.job x.job).kind ≡ true) i (scope_body ((u.job m.job).kind) ((k.2).sort)))),
+  (is_kept u g.faults).take q o f z
+      (scope_is ((u.job o.job).kind) o.number q (subst (λ x. is_scope_body (u.job x.job).kind ≡ true) i ((k.2).sort)) (waits_for u g q o f z)),
+)
 finds u g q (Gather m) r o f k e z = let i : m.call ≡ o = some_opened m.call o e in (is_kept u g.faults).cast q o f z (whole_is ((u.job o.job).kind) o.number m.call.number q k.owner (ap (λ x. (u.job x.job).kind) (sym i) ∙ k.whole) (waits_for u g q o f z))
+finds u g q _ r o f k e z = absurd (cc)
 
 found_at : (u : World) → Ground u → (q : Party) (n : Plan) (r : Stage) (c : ℕ) → Known u n → Part n r (u.stack q).top → Takes (u.stack q).top c → PlanTakes u n c
 found_at u g q n r c k p t = subst (PlanTakes u n) t.number (finds u g q n r t.opened t.first k part.0 t.is)
@@ -259,10 +230,6 @@ record PoolOf (k : Count) : Type 0 where
 
 -- what the call's own Lower says of its answer
 open_answers : (u : World) → JobsHold u → (n : Plan) (o : OpenCall) (f : Option Ending) (d : Ending) → Known u n → Knows u o f d → plan_open n ≡ Some o → PlanAnswers u n (answered f d)
-open_answers u h (Detach p t) o f d k y e = absurd (cc)
-open_answers u h (Feed g) o f d k y e = absurd (cc)
-open_answers u h (Enter m) o f d k y e = absurd (cc)
-open_answers u h (Here p t) o f d k y e = absurd (cc)
 open_answers u h (Send m) o f d k y e = by f d (subst (λ x. FirstEnds u x f) (k.1) z.side) (plain_takes u m d ((u.job m.job).kind) ((k.2).sort) z.took)
   where
     z : Knows u m f d
@@ -300,49 +267,29 @@ open_answers u h (Fork m t) o f d k y e = by f d (subst (λ x. FirstEnds u x f) 
     by (Some Fault) d a b = has_ended u h t Fault a
     by (Some Fine) Fault a b = (b, has_ended u h t Fine a)
     by (Some Fine) Fine a b = (b, has_ended u h t Fine a)
+open_answers u h _ o f d k y e = absurd (cc)
 
 here_answers : (u : World) → JobsHold u → (n : Plan) (t : ℕ) (d : Ending) → (u.job t).at ≡ Over d → plan_here n ≡ Some t → PlanAnswers u n (answered None d)
-here_answers u h (Detach p i) t d z e = absurd (cc)
-here_answers u h (Feed f) t d z e = absurd (cc)
-here_answers u h (Send o) t d z e = absurd (cc)
-here_answers u h (Open o) t d z e = absurd (cc)
-here_answers u h (Enter o) t d z e = absurd (cc)
-here_answers u h (Fork o a) t d z e = absurd (cc)
-here_answers u h (Gather g) t d z e = absurd (cc)
 here_answers u h (Here p i) t d z e = by d (let a : i ≡ t = cc in subst (λ x. (u.job x).at ≡ Over d) (sym a) z)
   where
     by : (d : Ending) → (u.job i).at ≡ Over d → PlanAnswers u (Here p i) (answered None d)
     by Fault b = has_ended u h i Fault b
     by Fine b = has_ended u h i Fine b
+here_answers u h _ t d z e = absurd (cc)
 
-then_answers : (u : World) → JobsHold u → (q : Party) (n : Plan) (r : Stage) (t : Then) (P : Option Verdict → Type 0) → ((x : Verdict) → PlanAnswers u n x → P (Some x)) → Known u n → ((o : OpenCall) (f : Option Ending) (e : Ending) → t ≡ Answers o f e → Knows u o f e) → SaysThen u q t → is_undone r ≡ false → PartOwed n r t → P (verdict_of (Some t))
+then_answers : (u : World) → JobsHold u → (q : Party) (n : Plan) (r : Stage) (t : Then) (P : Option Verdict → Type 0) → ((x : Verdict) → PlanAnswers u n x → P (Some x)) → Known u n → ((o : OpenCall) (f : Option Ending) (e : Ending) → t ≡ Answers o f e → Knows u o f e) → SaysThen u q t
+    → is_undone r ≡ false → PartOwed n r t → P (verdict_of (Some t))
 then_answers u h q n r (Answers o f e) P g k v s d y = g (answered f e) (open_answers u h n o f e k (v o f e refl) (y.0))
 then_answers u h q n r (Ran t e) P g k v s d y = g (answered None e) (here_answers u h n t e s (y.0))
 then_answers u h q n r (GiveBack m) P g k v s d y = absurd (let b : is_undone r ≡ true = ap is_undone (y.1) in cc)
-then_answers u h q n r (BeginFound x t) P g k v s d y = absurd y
-then_answers u h q n r (LeaveWait x) P g k v s d y = absurd y
-then_answers u h q n r Resume P g k v s d y = absurd y
-then_answers u h q n r Called P g k v s d y = absurd y
-then_answers u h q n r (Await o) P g k v s d y = absurd y
-then_answers u h q n r (Gathers o) P g k v s d y = absurd y
-then_answers u h q n r (RunFirst o a) P g k v s d y = absurd y
-then_answers u h q n r (Missing o f) P g k v s d y = absurd y
+then_answers u h q n r _ P g k v s d y = absurd y
 
 -- and what a scope's own Lower says of its body
-body_over : (u : World) (q : Party) (n : Plan) (r : Stage) (k : Count) (t : Then) (P : Count → Option Verdict → Type 0) → ((o : OpenCall) (c : ℕ) (d : Party) → n ≡ Open o → o.number ≡ c → Ended u o.job → P (OfScope c d) None) → SaysThen u q t → SaysShare u k Body t → PartBody n r t → P k (verdict_of (Some t))
-body_over u q n r (OfPool p) t P g s h y = absurd h
-body_over u q n r (OfCast c d) t P g s h y = absurd h
+body_over : (u : World) (q : Party) (n : Plan) (r : Stage) (k : Count) (t : Then) (P : Count → Option Verdict → Type 0) → ((o : OpenCall) (c : ℕ) (d : Party) → n ≡ Open o → o.number ≡ c → Ended u o.job → P (OfScope c d) None) → SaysThen u q t → SaysShare u k Body t → PartBody n r t
+    → P k (verdict_of (Some t))
 body_over u q n r (OfScope c d) (Await o) P g s h y = g o c d (y.0) (h.2) (let a : (u.call c).job ≡ o.job = ap (λ x. (u.call x).job) (sym (h.2)) ∙ (s.0).target in subst (Ended u) a (h.1))
-body_over u q n r (OfScope c d) (Answers o f e) P g s h y = absurd y
-body_over u q n r (OfScope c d) (Ran t e) P g s h y = absurd y
-body_over u q n r (OfScope c d) (GiveBack m) P g s h y = absurd y
-body_over u q n r (OfScope c d) (BeginFound x t) P g s h y = absurd y
-body_over u q n r (OfScope c d) (LeaveWait x) P g s h y = absurd y
-body_over u q n r (OfScope c d) Resume P g s h y = absurd y
-body_over u q n r (OfScope c d) Called P g s h y = absurd y
-body_over u q n r (OfScope c d) (Gathers o) P g s h y = absurd y
-body_over u q n r (OfScope c d) (RunFirst o a) P g s h y = absurd y
-body_over u q n r (OfScope c d) (Missing o f) P g s h y = absurd y
+body_over u q n r (OfScope c d) _ P g s h y = absurd y
+body_over u q n r _ t P g s h y = absurd h
 
 -- a scope's count is lowered with no answer
 answers_pool : (u : World) (k : Count) (t : ℕ) (n : Plan) (r : Stage) (e : Then) → SaysShare u k (OfJob t) e → PartOwed n r e → is_undone r ≡ false → PoolOf k
@@ -350,29 +297,26 @@ answers_pool u (OfPool p) t n r e s y d = record { pool = p; is = refl }
 answers_pool u (OfScope c o) t n r (Answers m f e) s y d = absurd (s.3)
 answers_pool u (OfScope c o) t n r (Ran m e) s y d = absurd (s.3)
 answers_pool u (OfScope c o) t n r (GiveBack m) s y d = absurd (let a : is_undone r ≡ true = ap is_undone (y.1) in cc)
-answers_pool u (OfScope c o) t n r (BeginFound x m) s y d = absurd y
-answers_pool u (OfScope c o) t n r (LeaveWait x) s y d = absurd y
-answers_pool u (OfScope c o) t n r Resume s y d = absurd y
-answers_pool u (OfScope c o) t n r Called s y d = absurd y
-answers_pool u (OfScope c o) t n r (Await m) s y d = absurd y
-answers_pool u (OfScope c o) t n r (Gathers m) s y d = absurd y
-answers_pool u (OfScope c o) t n r (RunFirst m a) s y d = absurd y
-answers_pool u (OfScope c o) t n r (Missing m f) s y d = absurd y
 answers_pool u (OfCast c o) t n r e s y d = absurd (subst (PartOwed n r) (s.4) y)
+answers_pool u (OfScope c o) t n r _ s y d = absurd y
 
 -- what a call says at its own Lower, by whose share it gives back
-lower_answers : (u : World) → JobsHold u → (q : Party) (n : Plan) (r : Stage) (k : Count) (h : Share) (t : Then) (P : Count → Option Verdict → Type 0) → ((p : ℕ) (x : Verdict) → PlanAnswers u n x → P (OfPool p) (Some x)) → ((o : OpenCall) (c : ℕ) (d : Party) → n ≡ Open o → o.number ≡ c → Ended u o.job → P (OfScope c d) None) → Known u n → ((o : OpenCall) (f : Option Ending) (e : Ending) → t ≡ Answers o f e → Knows u o f e) → Says u q (LowerCount k h t) → is_undone r ≡ false → Part n r (LowerCount k h t) → P k (verdict_of (Some t))
+lower_answers : (u : World) → JobsHold u → (q : Party) (n : Plan) (r : Stage) (k : Count) (h : Share) (t : Then) (P : Count → Option Verdict → Type 0) → ((p : ℕ) (x : Verdict) → PlanAnswers u n x → P (OfPool p) (Some x))
+    → ((o : OpenCall) (c : ℕ) (d : Party) → n ≡ Open o → o.number ≡ c → Ended u o.job → P (OfScope c d) None) → Known u n → ((o : OpenCall) (f : Option Ending) (e : Ending) → t ≡ Answers o f e → Knows u o f e) → Says u q (LowerCount k h t) → is_undone r ≡ false
+    → Part n r (LowerCount k h t) → P k (verdict_of (Some t))
 lower_answers u j q n r k PoolValue t P f g l b s d y = absurd y
 lower_answers u j q n r k Body t P f g l b s d y = body_over u q n r k t P g (s.0) (s.1) y
 lower_answers u j q n r k (OfJob a) t P f g l b s d y = let z : PoolOf k = answers_pool u k a n r t (s.1) (y.1) d in subst (λ v. P v (verdict_of (Some t))) (sym z.is) (then_answers u j q n r t (P (OfPool z.pool)) (f z.pool) l b (s.0) d (y.1))
 
-call_answers : (u : World) → Ground u → (q : Party) (s : Stack) (n : Plan) (r : Bool) (p : Count) (h : Share) (P : Count → Option Verdict → Type 0) → ((c : ℕ) (x : Verdict) → PlanAnswers u n x → P (OfPool c) (Some x)) → ((o : OpenCall) (c : ℕ) (d : Party) → n ≡ Open o → o.number ≡ c → Ended u o.job → P (OfScope c d) None) → After u q s n r → is_at_call s (u.stack q) ≡ true → act_of q (u.stack q).top ≡ Lower p h → r ≡ false → P p (verdict_of (follows (u.stack q).top))
+call_answers : (u : World) → Ground u → (q : Party) (s : Stack) (n : Plan) (r : Bool) (p : Count) (h : Share) (P : Count → Option Verdict → Type 0) → ((c : ℕ) (x : Verdict) → PlanAnswers u n x → P (OfPool c) (Some x))
+    → ((o : OpenCall) (c : ℕ) (d : Party) → n ≡ Open o → o.number ≡ c → Ended u o.job → P (OfScope c d) None) → After u q s n r → is_at_call s (u.stack q) ≡ true → act_of q (u.stack q).top ≡ Lower p h → r ≡ false → P p (verdict_of (follows (u.stack q).top))
 call_answers u g q s n r p h P f b (inr k) z a d = absurd (not_at_itself s (subst (λ x. is_at_call s x ≡ true) k.back z))
 call_answers u g q s n r p h P f b (inl i) z a d =
     let l : Lowers (u.stack q).top p h = lowerer q ((u.stack q).top) p h a in
     let y : Part n i.stage (LowerCount l.pool l.share l.after) = subst (λ x. Part n i.stage x) l.is (at_place n i.stage s (u.stack q) i.stands.above i.stands.place i.stands.is z i.stands.part) in
     let e : Says u q (LowerCount l.pool l.share l.after) = subst (λ x. Says u q x) l.is ((g.calls.says q).top) in
-    subst (λ x. P p (verdict_of (follows x))) (sym l.is) (subst (λ x. P x (verdict_of (Some l.after))) l.same (lower_answers u (g.calls.jobs) q n i.stage l.pool l.share l.after P f b i.known (λ o v x m. knows u q ((u.stack q).top) ((u.stack q).below) o v x refl g (ap follows l.is ∙ ap Some m)) e (i.flag ∙ d) y))
+    subst (λ x. P p (verdict_of (follows x))) (sym l.is)
+    (subst (λ x. P x (verdict_of (Some l.after))) l.same (lower_answers u (g.calls.jobs) q n i.stage l.pool l.share l.after P f b i.known (λ o v x m. knows u q ((u.stack q).top) ((u.stack q).below) o v x refl g (ap follows l.is ∙ ap Some m)) e (i.flag ∙ d) y))
 
 call_takes : (u : World) → Ground u → (q : Party) (s : Stack) (n : Plan) (r : Bool) (c : ℕ) → After u q s n r → is_at_call s (u.stack q) ≡ true → act_of q (u.stack q).top ≡ Take c → PlanTakes u n c
 call_takes u g q s n r c (inl i) z a = found_at u g q n i.stage c i.known (at_place n i.stage s (u.stack q) i.stands.above i.stands.place i.stands.is z i.stands.part) (taker q ((u.stack q).top) c a)
@@ -435,6 +379,7 @@ call_law h before q e w v u between b run =
       answers = λ y p i z x d. call_answers u g q s n r p i (λ k. LowersSo e k u w.calls w.jobs (v.jobs - 1)) (begun.answer u) (λ o c b j m z. begun.body u (g.calls.jobs) o c b j m z) a z x d;
       pays = λ z y. subst (λ t. (u.job t).counted ≡ false) (begun.last (begun.awaited y)) ((is_returned u q s n r a z).paid (begun.awaited y));
       ends = λ z y t l m. begun.leaves u (g.calls.jobs) t (begun.numbers t l m) ((is_returned u q s n r a z).ends y);
-      empties = λ z i y. (let c : CountBegun w v n = begun.scope i in let k : Returned u q s n r = is_returned u q s n r a z in c.ended u ((g.books).early) g.enters (until_target v q s between u run w.calls c.calls ∙ c.target) (until_known v q s between u run n begun.inside.known) (k.ends y) (k.left y) (k.paid c.awaited));
+      empties = λ z i y. (let c : CountBegun w v n = begun.scope i in let k : Returned u q s n r = is_returned u q s n r a z in c.ended u ((g.books).early) g.enters (until_target v q s between u run w.calls c.calls ∙ c.target) (until_known v q s between u run n begun.inside.known)
+          (k.ends y) (k.left y) (k.paid c.awaited));
       refused = λ z y t l m. given_back u g t (all_of (λ x. (u.job x).at ≡ HandedBack) t n (begun.numbers t l m) ((is_returned u q s n r a z).refused y));
     }

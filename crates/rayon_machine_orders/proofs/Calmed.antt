@@ -1,39 +1,13 @@
 -- no act but the adding of a job to a FIFO list leads to where a call waits to push its token
 use Rattle.rayon_machine_places.specs.declared.place.Plan.TheVariants.{Detach, Here, Send, Fork, Feed, Open, Enter, Gather}
-use Rattle.rayon_machine_places.specs.declared.place.Plan.{Plan}
-use Rattle.rayon_machine_places.specs.declared.place.Count.TheVariants.{OfPool, OfScope, OfCast}
-use Rattle.rayon_machine_places.specs.declared.place.Count.{Count}
-use Rattle.rayon_machine_places.specs.declared.place.Share.{Share}
-use Rattle.rayon_machine_places.specs.declared.place.Pieces.{Pieces}
-use Rattle.rayon_machine_places.specs.declared.place.Gathering.{Gathering}
-use Rattle.std.proofs.Common.{rules, arith, refl, ◌∙◌}
-use Rattle.std.specs.Prelude.{ℕ, Bool, true, false, ◌&&◌, ◌+◌, ◌==◌, if◌then◌else◌, Option, Some, None, List, [], ◌∷◌, ◌≡◌, IfSome}
-use Rattle.rayon_machine_places.specs.declared.place.Party.{Party}
-use Rattle.rayon_machine_places.specs.declared.place.Party.TheVariants.{Worker, Caller}
-use Rattle.rayon_machine_places.specs.declared.place.Ending.{Ending}
-use Rattle.rayon_machine_places.specs.declared.place.Ending.TheVariants.{Fine, Fault}
-use Rattle.rayon_machine_places.specs.declared.place.JobKind.{JobKind}
-use Rattle.rayon_machine_places.specs.declared.place.JobKind.TheVariants.{Detached, Stored, Direct, TokenOf, Scoped, BodyOf, PieceOf, WholeOf}
-use Rattle.rayon_machine_places.specs.declared.place.Target.TheVariants.{Termination, Answer}
-use Rattle.rayon_machine_places.specs.declared.place.Then.{Then}
-use Rattle.rayon_machine_places.specs.declared.place.Then.TheVariants.{BeginFound, LeaveWait, Resume, Await, RunFirst, Answers, Missing, Ran, GiveBack, Called, Gathers}
-use Rattle.rayon_machine_places.specs.declared.place.Place.{Place}
-use Rattle.rayon_machine_places.specs.declared.place.Place.TheVariants.{ProbeWorking, BeginTask, RaiseCount, PushJob, LowerCount, SetLatch, UnlockSettled, FirstSide, AddToFifo, LookForToken, PushToken, TakeFromFifo, PushForAll, OpenSlot, OpenForAll, RaiseForAll, LowerForAll, DealPieces}
-use Rattle.rayon_machine_places.specs.declared.place.Move.{Move}
-use Rattle.rayon_machine_places.specs.declared.act.Seen.{Seen}
-use Rattle.rayon_machine_places.specs.declared.act.Seen.TheVariants.{Yes, Begun, Done, Handed, Opened}
-use Rattle.rayon_machine_places.specs.declared.shape.PoolShape.{PoolShape}
-use Rattle.rayon_machine_places.specs.declared.place.Settling.{Settling}
-use Rattle.rayon_machine_places.specs.Places.{finish, after_set, act_of, next_of, goes_on, after_begin, plan_book, withdraw, begin_feed, after_raise, after_slot, begin_cast, end_cast, ends_count, settle_count}
-use Rattle.rayon_machine_places.specs.World.{Shape, Counts, Part, effect}
+use Rattle.rayon_machine_orders.proofs.Words.{Plan, OfPool, OfScope, OfCast, Count, Share, Pieces, Gathering, rules, arith, refl, ◌∙◌, ℕ, Bool, true, false, ◌&&◌, ◌+◌, ◌==◌, if◌then◌else◌, Option, Some, None, List, [], ◌∷◌, ◌≡◌, IfSome, Party, Worker, Caller, Ending, Fine, Fault, JobKind}
+use Rattle.rayon_machine_orders.proofs.Words.{Detached, Stored, Direct, TokenOf, Scoped, BodyOf, PieceOf, WholeOf, Termination, Answer, Then, BeginFound, LeaveWait, Resume, Await, RunFirst, Answers, Missing, Ran, GiveBack, Called, Gathers, Place, ProbeWorking, BeginTask, RaiseCount, PushJob}
+use Rattle.rayon_machine_orders.proofs.Words.{LowerCount, SetLatch, UnlockSettled, FirstSide, AddToFifo, LookForToken, PushToken, TakeFromFifo, PushForAll, OpenSlot, OpenForAll, RaiseForAll, LowerForAll, DealPieces, Move, Seen, Yes, Begun, Done, Handed, Opened, PoolShape, Settling, finish}
+use Rattle.rayon_machine_orders.proofs.Words.{after_set, act_of, next_of, goes_on, after_begin, plan_book, withdraw, begin_feed, after_raise, after_slot, begin_cast, end_cast, ends_count, settle_count, Shape, Counts, Part, effect, Feeding, Plain, Token, Taken, after_close}
 use Rattle.rayon_machine_laws.proofs.Frame.{if_some_all}
 use Rattle.rayon_machine_laws.proofs.Seats.{is_frame}
 use Rattle.rayon_machine_laws.proofs.Ties.{AllFrames}
 use Rattle.rayon_machine_laws.proofs.Tops.{Tops}
-use Rattle.rayon_machine_places.specs.declared.place.Feeding.{Feeding}
-use Rattle.rayon_machine_places.specs.declared.place.Taken.TheVariants.{Plain, Token}
-use Rattle.rayon_machine_places.specs.declared.place.Taken.{Taken}
-use Rattle.rayon_machine_places.specs.Steps.{after_close}
 use Rattle.rayon_machine_orders.proofs.Lone.{settle_move, settled_move, walk_move}
 
 -- the places of a call that has added its job
@@ -53,14 +27,9 @@ finish_calm q (LeaveWait (Answer o f)) = refl
 finish_calm (Worker a b) (Await o) = refl
 finish_calm (Caller c) (Await o) = refl
 finish_calm q (RunFirst o a) = refl
-finish_calm q Resume = tt
-finish_calm q Called = tt
 finish_calm (Worker a b) (Gathers o) = refl
 finish_calm (Caller c) (Gathers o) = refl
-finish_calm q (Answers o f e) = tt
-finish_calm q (Missing o f) = tt
-finish_calm q (Ran t e) = tt
-finish_calm q (GiveBack m) = tt
+finish_calm q _ = tt
 
 settled_calm : (h : PoolShape) (q : Party) (s : Settling) → NoWait (after_set h q s s.latch)
 settled_calm h q s = settled_move NoWait h q s s.latch (λ k e. refl) (finish_calm q s.then)
@@ -81,28 +50,15 @@ withdraw_calm (Some c) n = refl
 
 feed_calm : (k : Count) (f : Feeding) → is_waiting (begin_feed k f) ≡ false
 feed_calm (OfPool p) f = refl
-feed_calm (OfScope c o) f = refl
-feed_calm (OfCast c o) f = refl
+feed_calm _ f = refl
 
 slot_calm : (n : Plan) → is_waiting (after_slot n) ≡ false
 slot_calm (Detach p t) = refl
-slot_calm (Here p t) = refl
-slot_calm (Send o) = refl
-slot_calm (Fork o a) = refl
-slot_calm (Feed f) = refl
-slot_calm (Open o) = refl
-slot_calm (Enter e) = refl
-slot_calm (Gather g) = refl
+slot_calm _ = refl
 
 raise_calm : (n : Plan) → NoWait (after_raise n)
-raise_calm (Detach p t) = refl
-raise_calm (Here p t) = refl
-raise_calm (Send o) = refl
-raise_calm (Fork o a) = refl
 raise_calm (Feed f) = feed_calm f.count f
-raise_calm (Open o) = refl
-raise_calm (Enter e) = refl
-raise_calm (Gather g) = refl
+raise_calm _ = refl
 
 raised_calm : (g : PoolShape) (q : Party) (n : Plan) (e : Seen) → NoWait (next_of g q (RaiseCount n) e)
 raised_calm g q n Done = raise_calm n
@@ -119,8 +75,7 @@ pushed_calm g q n v _ = withdraw_calm (plan_book n) n
 -- where a broadcast goes
 cast_calm : (k : Count) (c : Pieces) → (is_waiting (begin_cast k c) ≡ false) × (is_waiting (end_cast k c) ≡ false)
 cast_calm (OfPool p) c = (refl, refl)
-cast_calm (OfScope m o) c = (refl, refl)
-cast_calm (OfCast m o) c = (refl, refl)
+cast_calm _ c = (refl, refl)
 
 ends_calm : (k : Count) → is_waiting (ends_count k) ≡ false
 ends_calm (OfPool p) = refl
@@ -198,10 +153,6 @@ goes _ e m = cc
 
 -- and the end of a run
 pub close_calm : (t : ℕ) (k : JobKind) (d : Ending) (fs : List Place) → AllFrames fs → is_waiting (after_close t k d fs).top ≡ false
-close_calm t (Detached p) d fs a = refl
-close_calm t (Stored c o) d fs a = refl
-close_calm t (Scoped c o) d fs a = refl
-close_calm t (PieceOf c o) d fs a = refl
 close_calm t Direct d [] a = refl
 close_calm t (TokenOf i b) d [] a = refl
 close_calm t (BodyOf c o) d [] a = refl
@@ -210,3 +161,4 @@ close_calm t Direct d (f ∷ fs) a = goes f d (a.0)
 close_calm t (TokenOf i b) d (f ∷ fs) a = goes f d (a.0)
 close_calm t (BodyOf c o) d (f ∷ fs) a = goes f d (a.0)
 close_calm t (WholeOf c o) d (f ∷ fs) a = goes f d (a.0)
+close_calm t _ d fs a = refl

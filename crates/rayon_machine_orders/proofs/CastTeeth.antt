@@ -8,27 +8,8 @@
 -- - `refused_broadcast_keeps_its_shares`, at `Place::next_casting`.
 -- Pieces that are made with no worker break the law of broadcasts: any of them may stand in any list.
 use Rattle.std.proofs.Common.{refl}
-use Rattle.std.specs.Prelude.{true, false, ◌||◌, ◌+◌, ◌-◌, Some, None, List, [], ◌∷◌, ◌++◌, ◌≡◌, IfSome}
-use Rattle.rayon_machine_places.specs.declared.place.Party.{Party}
-use Rattle.rayon_machine_places.specs.declared.place.Mark.TheVariants.{Queued}
-use Rattle.rayon_machine_places.specs.declared.place.Then.TheVariants.{Called}
-use Rattle.rayon_machine_places.specs.declared.place.Place.{Place}
-use Rattle.rayon_machine_places.specs.declared.place.Place.TheVariants.{PushForAll, LockToWake}
-use Rattle.rayon_machine_places.specs.declared.place.Move.{Move}
-use Rattle.rayon_machine_places.specs.declared.place.Move.TheVariants.{Mark, HandAllBack}
-use Rattle.rayon_machine_places.specs.declared.act.Act.{Act}
-use Rattle.rayon_machine_places.specs.declared.act.Act.TheVariants.{PushCast, Begin}
-use Rattle.rayon_machine_places.specs.declared.act.Seen.{Seen}
-use Rattle.rayon_machine_places.specs.declared.act.Seen.TheVariants.{Done}
-use Rattle.rayon_machine_places.specs.declared.event.Event.{Event}
-use Rattle.rayon_machine_places.specs.declared.event.Event.TheVariants.{Cast, Refuse}
-use Rattle.rayon_machine_places.specs.declared.shape.PoolShape.{PoolShape}
-use Rattle.rayon_machine_places.specs.Places.{next_of}
-use Rattle.rayon_machine_places.specs.World.{Shape, World, Counts, Part, Outcome, count_below, effect}
-use Rattle.rayon_machine_laws.specs.Once.{one, times, in_cast}
-use Rattle.rayon_machine_laws.specs.Counted.{has_share}
-use Rattle.rayon_machine_laws.specs.Committed.{is_committed}
-use Rattle.rayon_machine_laws.specs.Attended.{is_filled, owes_cast}
+use Rattle.rayon_machine_orders.proofs.Words.{true, false, ◌||◌, ◌+◌, ◌-◌, Some, None, List, [], ◌∷◌, ◌++◌, ◌≡◌, IfSome, Party, Queued, Called, Place, PushForAll, LockToWake, Move, Mark, HandAllBack, Act, PushCast, Begin, Seen, Done, Event, Cast, Refuse, PoolShape, next_of, Shape, World, Counts}
+use Rattle.rayon_machine_orders.proofs.Words.{Part, Outcome, count_below, effect, one, times, in_cast, has_share, is_committed, is_filled, owes_cast}
 use Rattle.rayon_machine_orders.proofs.WrongMachines.{run_by, times_go, two, a, b, c, right, doing, leading}
 
 -- whoever has put tasks into all broadcast lists begins its calls at worker 1

@@ -2,43 +2,17 @@
 --
 -- The law is `cast_law`. The places of such a broadcast are no frames.
 use Rattle.std.proofs.Common.{arith, refl, sym, ◌∙◌, ap, subst, inl, inr}
-use Rattle.std.specs.Prelude.{ℕ, Bool, true, false, ◌&&◌, ◌||◌, ◌+◌, ◌-◌, ◌==◌, ◌≤◌, ◌<◌, nat_lt, if◌then◌else◌, Some, None, List, [], ◌∷◌, ◌++◌, ◌≡◌, IfSome, ◌⊎◌, ⊤, Option, length, slice_get}
-use Rattle.std.proofs.lemmas.List.{append_assoc}
-use Rattle.rayon_machine_places.specs.declared.place.Party.{Party}
-use Rattle.rayon_machine_places.specs.declared.place.Party.TheVariants.{Worker, Caller}
-use Rattle.rayon_machine_places.specs.declared.place.Pieces.{Pieces}
-use Rattle.rayon_machine_places.specs.declared.place.Ending.{Ending}
-use Rattle.rayon_machine_places.specs.declared.place.Latch.TheVariants.{Terminate, OfCall}
-use Rattle.rayon_machine_places.specs.declared.place.Latch.{Latch}
-use Rattle.rayon_machine_places.specs.declared.place.Count.{Count}
-use Rattle.rayon_machine_places.specs.declared.place.Count.TheVariants.{OfPool, OfScope, OfCast}
-use Rattle.rayon_machine_places.specs.declared.state.Scope.{Scope}
-use Rattle.rayon_machine_places.specs.declared.place.Mark.TheVariants.{Queued, Returned}
-use Rattle.rayon_machine_places.specs.declared.place.Then.{Then}
-use Rattle.rayon_machine_places.specs.declared.place.Then.TheVariants.{Resume, Called}
-use Rattle.rayon_machine_places.specs.declared.place.Settling.{Settling as Setting}
-use Rattle.rayon_machine_places.specs.declared.place.Place.{Place}
-use Rattle.rayon_machine_places.specs.declared.place.Place.TheVariants.{RaiseForAll, PushForAll, LowerForAll, LockToWake, WakeWorker, UnlockWoken, SetLatch, SetLockLatch, LockToSettle, WakeSettled, UnlockSettled, PickVictim, StealFrom, YieldPick, YieldSteal, YieldPop, LocalPop, Run, Free, OpenForAll, CloseForAll}
-use Rattle.rayon_machine_places.specs.declared.place.Move.{Move}
-use Rattle.rayon_machine_places.specs.declared.place.Move.TheVariants.{Stay, Back, Mark}
-use Rattle.rayon_machine_places.specs.declared.act.Act.{Act}
-use Rattle.rayon_machine_places.specs.declared.act.Act.TheVariants.{PushCast}
-use Rattle.rayon_machine_places.specs.declared.act.Seen.{Seen}
-use Rattle.rayon_machine_places.specs.declared.act.Seen.TheVariants.{Done, Refused, Yes, No}
-use Rattle.rayon_machine_places.specs.declared.event.Event.{Event}
-use Rattle.rayon_machine_places.specs.declared.event.Event.TheVariants.{Go, From, Refuse, Miss, End, Spawn, Fifo, Cast, Scope as OpenScope, IntoSpawn, Install, Join, Yield, YieldLocal, EndPool, IntoFifo, IntoCast, Broadcast}
-use Rattle.rayon_machine_places.specs.declared.state.Whereabouts.TheVariants.{HandedBack}
-use Rattle.rayon_machine_places.specs.declared.state.Job.{Job}
-use Rattle.rayon_machine_places.specs.declared.shape.PoolShape.{PoolShape}
-use Rattle.rayon_machine_places.specs.Places.{same_party, act_of, next_of, is_free, walk, after_set, finish, set_call, begin_cast, end_cast, ends_count}
-use Rattle.rayon_machine_places.specs.World.{Shape, Stack, World, Part, target_pool, count_pool, count_call, count_in, is_open}
-use Rattle.rayon_machine_places.specs.Steps.{put, after_move, after_choice, after_refusal, after_miss, after_end, after_call, after_spawn, after_feed, after_yield, after_into, is_pool, is_piece, mark_pieces, marked, part_of, put_pieces, new_piece, after_cast, after_deal, after_enter, after_enter_fifo, after_into_fifo, after_into_cast, holds, jobs_after, step, with_stack}
-use Rattle.rayon_machine_places.specs.Readers.{is_queued, is_running, is_done}
-use Rattle.rayon_machine_places.specs.Runs.{IsRun, start}
-use Rattle.rayon_machine_orders.specs.Calls.{IsRunUntil, is_at_call, is_any, count_of, scope_pool, IsHandedOn, StandsOn}
-use Rattle.rayon_machine_orders.specs.Placed.{belongs, cast_once, DealtLaw, own_push, push_in, pushes_of, scope_count}
+use Rattle.rayon_machine_orders.proofs.Words.{ℕ, Bool, true, false, ◌&&◌, ◌||◌, ◌+◌, ◌-◌, ◌==◌, ◌≤◌, ◌<◌, nat_lt, if◌then◌else◌, Some, None, List, [], ◌∷◌, ◌++◌, ◌≡◌, IfSome, ◌⊎◌, ⊤, Option, length, slice_get, append_assoc, Party, Worker, Caller, Pieces, Ending, Terminate, OfCall, Latch, Count}
+use Rattle.rayon_machine_orders.proofs.Words.{OfPool, OfScope, OfCast, Scope, Queued, Returned, Then, Resume, Called, Settling as Setting, Place, RaiseForAll, PushForAll, LowerForAll, LockToWake, WakeWorker, UnlockWoken, SetLatch, SetLockLatch, LockToSettle, WakeSettled, UnlockSettled}
+use Rattle.rayon_machine_orders.proofs.Words.{PickVictim, StealFrom, YieldPick, YieldSteal, YieldPop, LocalPop, Run, Free, OpenForAll, CloseForAll, Move, Stay, Back, Mark, Act, PushCast, Seen, Done, Refused, Yes, No, Event, Go, From, Refuse, Miss, End, Spawn, Fifo, Cast, OpenScope, IntoSpawn}
+use Rattle.rayon_machine_orders.proofs.Words.{Install, Join, Yield, YieldLocal, EndPool, IntoFifo, IntoCast, Broadcast, HandedBack, Job, PoolShape, same_party, act_of, next_of, is_free, walk, after_set, finish, set_call, begin_cast, end_cast, ends_count, Shape, Stack, World, Part, target_pool}
+use Rattle.rayon_machine_orders.proofs.Words.{count_pool, count_in, is_open, put, after_move, after_choice, after_refusal, after_miss, after_end, after_call, after_spawn, after_feed, after_yield, after_into, is_pool, is_piece, mark_pieces, marked, part_of, put_pieces, new_piece, after_cast}
+use Rattle.rayon_machine_orders.proofs.Words.{after_deal, after_enter, after_enter_fifo, after_into_fifo, after_into_cast, holds, jobs_after, step, with_stack, is_queued, is_running, is_done, IsRun, start, IsRunUntil, is_at_call, is_any, count_of, scope_pool, IsHandedOn, StandsOn, belongs}
+use Rattle.rayon_machine_orders.proofs.Words.{own_push, push_in, pushes_of, caster_of, cast_pool, is_cast_refusal}
+use Rattle.rayon_machine_places.specs.World.{count_call}
+use Rattle.rayon_machine_orders.specs.Placed.{cast_once, DealtLaw, scope_count}
 use Rattle.rayon_machine_orders.proofs.Pushed.{nil_right}
-use Rattle.rayon_machine_orders.specs.Casts.{caster_of, cast_pool, is_cast_refused, is_cast_refusal, CastLaw}
+use Rattle.rayon_machine_orders.specs.Casts.{is_cast_refused, CastLaw}
 use Rattle.rayon_machine_laws.proofs.Frame.{and_parts, into_cases, into_cast_cases, if_cond, if_some_all, if_some_map, same_party_true, same_party_refl, stack_mine, stack_other, piece_new, piece_range, piece_in}
 use Rattle.rayon_machine_laws.proofs.Ties.{outcome, result}
 use Rattle.rayon_machine_laws.proofs.Located.{is_left}
@@ -48,7 +22,8 @@ use Rattle.rayon_machine_laws.proofs.Claims.{counts_detached, is_detached}
 use Rattle.rayon_machine_laws.proofs.ClaimRuns.{world_after, place_part, unqueued}
 use Rattle.rayon_machine_orders.proofs.CallActs.{or_false, or_true}
 use Rattle.rayon_machine_orders.proofs.CallEvents.{whole, Turned, at_call_yes}
-use Rattle.rayon_machine_orders.proofs.CallSteps.{Carries, mover, turns, go_all, is_act, step_carries, handed_on, left_untaken}
+use Rattle.rayon_machine_orders.proofs.CallSteps.{Carries, mover, turns, go_all, step_carries, handed_on, left_untaken}
+use Rattle.rayon_machine_orders.proofs.EventCases.{is_act}
 use Rattle.rayon_machine_orders.proofs.CallStretch.{Ground}
 use Rattle.rayon_machine_orders.proofs.Calls.{ground_of, run_more, or_assoc, run_on, until_bound, given_back}
 
@@ -61,10 +36,9 @@ data Stage : Type 0 where
   Emptying : Stage
 
 abbrev is_undone : Stage → Bool
-is_undone Before = false
 is_undone Undoing = true
-is_undone Calling = false
 is_undone Emptying = true
+is_undone _ = false
 
 -- where its party stands then
 abbrev Spot : Pieces → Stage → Place → Type 0
@@ -85,13 +59,11 @@ Spot c _ _ = ⊥
 
 begin_spot : (c : Pieces) (k : Count) → Spot c Before (begin_cast k c)
 begin_spot c (OfPool p) = refl
-begin_spot c (OfScope n o) = refl
-begin_spot c (OfCast n o) = refl
+begin_spot c _ = refl
 
 end_spot : (c d : Pieces) (k : Count) → d ≡ c → Spot c Undoing (end_cast k d)
 end_spot c d (OfPool p) e = e
-end_spot c d (OfScope n o) e = e
-end_spot c d (OfCast n o) e = e
+end_spot c d _ e = e
 
 set_spot : (c : Pieces) (n : ℕ) (o : Party) → Spot c Emptying (set_call n o Resume)
 set_spot c n (Worker a b) = refl
@@ -105,8 +77,7 @@ ends_spot c (OfCast n o) = set_spot c n o
 -- the count that a broadcast raises is that of its part
 count_is : (w : World) (q : Party) (k : Count) (i t : ℕ) → count_in (part_of w (count_pool q k) i (count_call k) t) k ≡ count_of w k
 count_is w q (OfPool p) i t = refl
-count_is w q (OfScope c o) i t = refl
-count_is w q (OfCast c o) i t = refl
+count_is w q _ i t = refl
 
 -- what has become of the pieces by then
 abbrev AllOn : World → Pieces → Type 0
@@ -116,10 +87,9 @@ abbrev AllBack : World → Pieces → Type 0
 AllBack u c = (t : ℕ) → is_piece c t ≡ true → (u.job t).at ≡ HandedBack
 
 abbrev Sofar : World → Pieces → Stage → Type 0
-Sofar u c Before = ⊤
-Sofar u c Undoing = ⊤
 Sofar u c Calling = AllOn u c
 Sofar u c Emptying = AllBack u c
+Sofar u c _ = ⊤
 
 -- the pieces are jobs that were made, and detached
 abbrev AllMade : World → Pieces → Type 0
@@ -160,10 +130,9 @@ back_kept : (w u : World) → Advance w u → (c : Pieces) → AllBack w c → A
 back_kept w u a c o t y = subst (λ v. IsFinal v ((u.job t).at)) (o t y) (a.final t)
 
 sofar_kept : (w u : World) (e : Event) → step w e ≡ Some u → Ground w → Ground u → Advance w u → (c : Pieces) → AllMade w c → (st : Stage) → Sofar w c st → Sofar u c st
-sofar_kept w u e made g h a c k Before o = tt
-sofar_kept w u e made g h a c k Undoing o = tt
 sofar_kept w u e made g h a c k Calling o = on_kept w u e made g h a c k o
 sofar_kept w u e made g h a c k Emptying o = back_kept w u a c o
+sofar_kept w u e made g h a c k _ o = tt
 
 -- another party's event
 idle : (w u : World) (e : Event) (q : Party) (s : Stack) (c : Pieces) (r : Bool) → Ground w → Inside w q s c r → u.stack q ≡ w.stack q → is_cast_refusal q s w e ≡ false → Keeps w e q s c r u
@@ -251,7 +220,8 @@ landed u q s c Before Back l z o k g = cc
 landed u q s c Undoing Back l z o k g = cc
 landed u q s c st _ l z o k g = absurd l
 
-going_act : (w : World) (q : Party) (s : Stack) (c : Pieces) (r : Bool) (st : Stage) (x : Place) → w.stack q ≡ record { top = x; below = whole s } → Ground w → is_going st ≡ true → Spot c st x → Sofar w c st → AllMade w c → is_undone st ≡ r → (v : Seen × Part) → Keeps w (Go q) q s c r (world_after w q x (whole s) v)
+going_act : (w : World) (q : Party) (s : Stack) (c : Pieces) (r : Bool) (st : Stage) (x : Place) → w.stack q ≡ record { top = x; below = whole s } → Ground w → is_going st ≡ true → Spot c st x → Sofar w c st → AllMade w c → is_undone st ≡ r → (v : Seen × Part)
+    → Keeps w (Go q) q s c r (world_after w q x (whole s) v)
 going_act w q s c r st x z g y p o k f v made h a =
     let m : Move = next_of (w.shape.pool (target_pool q (act_of q x))) q x (v.0) in
     let u : World = world_after w q x (whole s) v in
@@ -265,10 +235,12 @@ all_with P none done false x y = y refl
 marked_back : (J : ℕ → Job) (c : Pieces) (t : ℕ) → is_piece c t ≡ true → (mark_pieces c Returned J t).at ≡ HandedBack
 marked_back J c t e = ap (λ j. j.at) (piece_new c (marked Returned c.pool) J t e)
 
-raise_none : (w : World) (q : Party) (s : Stack) (c : Pieces) → w.stack q ≡ record { top = RaiseForAll c; below = whole s } → is_cast_refused w (act_of q (RaiseForAll c)) ≡ true → (u : World) → u.stack q ≡ s → ((t : ℕ) → u.job t ≡ mark_pieces c Returned (put w.job 0 (w.job 0)) t) → Keeps w (Go q) q s c false u
+raise_none : (w : World) (q : Party) (s : Stack) (c : Pieces) → w.stack q ≡ record { top = RaiseForAll c; below = whole s } → is_cast_refused w (act_of q (RaiseForAll c)) ≡ true → (u : World) → u.stack q ≡ s → ((t : ℕ) → u.job t ≡ mark_pieces c Returned (put w.job 0 (w.job 0)) t)
+    → Keeps w (Go q) q s c false u
 raise_none w q s c z e u b j made h a = subst (λ f. After u q s c f) (sym (own_flag w q s (RaiseForAll c) true z e)) (inr (record { back = b; on = λ d. cc; backs = λ d t y. ap (λ v. v.at) (j t) ∙ marked_back (put w.job 0 (w.job 0)) c t y }))
 
-raise_done : (w : World) (q : Party) (s : Stack) (c : Pieces) → w.stack q ≡ record { top = RaiseForAll c; below = whole s } → is_cast_refused w (act_of q (RaiseForAll c)) ≡ false → AllMade w c → (u : World) → u.stack q ≡ record { top = begin_cast c.count c; below = whole s } → Keeps w (Go q) q s c false u
+raise_done : (w : World) (q : Party) (s : Stack) (c : Pieces) → w.stack q ≡ record { top = RaiseForAll c; below = whole s } → is_cast_refused w (act_of q (RaiseForAll c)) ≡ false → AllMade w c → (u : World) → u.stack q ≡ record { top = begin_cast c.count c; below = whole s }
+    → Keeps w (Go q) q s c false u
 raise_done w q s c z e k u b made h a = subst (λ f. After u q s c f) (sym (own_flag w q s (RaiseForAll c) false z e)) (inl (record { stage = Before; top = begin_cast c.count c; is = b; spot = begin_spot c c.count; sofar = tt; known = made_on w u (Go q) made c k; flag = refl }))
 
 -- the numbers of a book are opened, and are taken back
@@ -278,13 +250,16 @@ open_done w q s c z e k u b made h a = subst (λ f. After u q s c f) (sym (own_f
 close_done : (w : World) (q : Party) (s : Stack) (c : Pieces) (r : Bool) → r ≡ true → AllMade w c → (u : World) → u.stack q ≡ record { top = LowerForAll c; below = whole s } → Keeps w (Go q) q s c r u
 close_done w q s c r f k u b made h a = subst (λ v. After u q s c (v || is_cast_refusal q s w (Go q))) (sym f) (inl (record { stage = Undoing; top = LowerForAll c; is = b; spot = refl; sofar = tt; known = made_on w u (Go q) made c k; flag = refl }))
 
-push_done : (w : World) (q : Party) (s : Stack) (c : Pieces) → w.stack q ≡ record { top = PushForAll c; below = whole s } → is_cast_refused w (act_of q (PushForAll c)) ≡ false → AllMade w c → (n n0 : ℕ) (j0 : Job) (u : World) → u.stack q ≡ record { top = LockToWake (record { pool = c.pool; owed = n; worker = 0; then = Called }); below = whole s } → ((t : ℕ) → u.job t ≡ mark_pieces c Queued (put w.job n0 j0) t) → Keeps w (Go q) q s c false u
-push_done w q s c z e k n n0 j0 u b j made h a = subst (λ f. After u q s c f) (sym (own_flag w q s (PushForAll c) false z e)) (inl (record { stage = Calling; top = LockToWake (record { pool = c.pool; owed = n; worker = 0; then = Called }); is = b; spot = refl; sofar = on; known = made_on w u (Go q) made c k; flag = refl }))
+push_done : (w : World) (q : Party) (s : Stack) (c : Pieces) → w.stack q ≡ record { top = PushForAll c; below = whole s } → is_cast_refused w (act_of q (PushForAll c)) ≡ false → AllMade w c → (n n0 : ℕ) (j0 : Job) (u : World)
+    → u.stack q ≡ record { top = LockToWake (record { pool = c.pool; owed = n; worker = 0; then = Called }); below = whole s } → ((t : ℕ) → u.job t ≡ mark_pieces c Queued (put w.job n0 j0) t) → Keeps w (Go q) q s c false u
+push_done w q s c z e k n n0 j0 u b j made h a = subst (λ f. After u q s c f) (sym (own_flag w q s (PushForAll c) false z e))
+    (inl (record { stage = Calling; top = LockToWake (record { pool = c.pool; owed = n; worker = 0; then = Called }); is = b; spot = refl; sofar = on; known = made_on w u (Go q) made c k; flag = refl }))
   where
     on : AllOn u c
     on t y = let i : u.job t ≡ marked Queued c.pool (t - c.first) (put w.job n0 j0 t) = j t ∙ piece_new c (marked Queued c.pool) (put w.job n0 j0) t y in (ap (λ v. is_left (v.at)) i, subst (λ v. (is_queued v.at || (is_running v.at || is_done v.at)) ≡ true) (sym i) refl)
 
-lower_on : (w : World) (q : Party) (s : Stack) (c : Pieces) (r : Bool) → r ≡ true → AllMade w c → (g : PoolShape) (e : Seen) (u : World) → u.stack q ≡ after_move (next_of g q (LowerForAll c) e) (whole s) → ((t : ℕ) → u.job t ≡ jobs_after q (next_of g q (LowerForAll c) e) (put w.job 0 (w.job 0)) t) → Keeps w (Go q) q s c r u
+lower_on : (w : World) (q : Party) (s : Stack) (c : Pieces) (r : Bool) → r ≡ true → AllMade w c → (g : PoolShape) (e : Seen) (u : World) → u.stack q ≡ after_move (next_of g q (LowerForAll c) e) (whole s)
+    → ((t : ℕ) → u.job t ≡ jobs_after q (next_of g q (LowerForAll c) e) (put w.job 0 (w.job 0)) t) → Keeps w (Go q) q s c r u
 lower_on w q s c r f k g e u b j made h a = subst (λ v. After u q s c (v || is_cast_refusal q s w (Go q))) (sym f) (by e b j)
   where
     by : (e : Seen) → u.stack q ≡ after_move (next_of g q (LowerForAll c) e) (whole s) → ((t : ℕ) → u.job t ≡ jobs_after q (next_of g q (LowerForAll c) e) (put w.job 0 (w.job 0)) t) → After u q s c true
@@ -303,8 +278,12 @@ own_act w q s c r Before (RaiseForAll d) z g p o k f = subst (λ b. IfSome (outc
     (subst (λ c. AllMade w c → IfSome (outcome w q (record { top = RaiseForAll d; below = whole s })) (Keepers w q s c false (RaiseForAll d))) p (raised q z) k)
   where
     raised : (q : Party) → w.stack q ≡ record { top = RaiseForAll d; below = whole s } → AllMade w d → IfSome (outcome w q (record { top = RaiseForAll d; below = whole s })) (Keepers w q s d false (RaiseForAll d))
-    raised (Worker a b) z k = all_with (Keepers w (Worker a b) s d false (RaiseForAll d)) (Refused, place_part w (Worker a b) (RaiseForAll d)) _ (count_in (place_part w (Worker a b) (RaiseForAll d)) d.count == 0) (λ e. raise_none w (Worker a b) s d z (ap (λ n. n == 0) (sym (count_is w (Worker a b) d.count b 0)) ∙ e) (world_after w (Worker a b) (RaiseForAll d) (whole s) (Refused, place_part w (Worker a b) (RaiseForAll d))) (stack_mine w.stack (Worker a b) s) (λ t. refl)) (λ e. raise_done w (Worker a b) s d z (ap (λ n. n == 0) (sym (count_is w (Worker a b) d.count b 0)) ∙ e) k _ (stack_mine w.stack (Worker a b) (record { top = begin_cast d.count d; below = whole s })))
-    raised (Caller n) z k = all_with (Keepers w (Caller n) s d false (RaiseForAll d)) (Refused, place_part w (Caller n) (RaiseForAll d)) _ (count_in (place_part w (Caller n) (RaiseForAll d)) d.count == 0) (λ e. raise_none w (Caller n) s d z (ap (λ n. n == 0) (sym (count_is w (Caller n) d.count 0 0)) ∙ e) (world_after w (Caller n) (RaiseForAll d) (whole s) (Refused, place_part w (Caller n) (RaiseForAll d))) (stack_mine w.stack (Caller n) s) (λ t. refl)) (λ e. raise_done w (Caller n) s d z (ap (λ n. n == 0) (sym (count_is w (Caller n) d.count 0 0)) ∙ e) k _ (stack_mine w.stack (Caller n) (record { top = begin_cast d.count d; below = whole s })))
+    raised (Worker a b) z k = all_with (Keepers w (Worker a b) s d false (RaiseForAll d)) (Refused, place_part w (Worker a b) (RaiseForAll d)) _ (count_in (place_part w (Worker a b) (RaiseForAll d)) d.count == 0)
+        (λ e. raise_none w (Worker a b) s d z (ap (λ n. n == 0) (sym (count_is w (Worker a b) d.count b 0)) ∙ e) (world_after w (Worker a b) (RaiseForAll d) (whole s) (Refused, place_part w (Worker a b) (RaiseForAll d))) (stack_mine w.stack (Worker a b) s) (λ t. refl))
+        (λ e. raise_done w (Worker a b) s d z (ap (λ n. n == 0) (sym (count_is w (Worker a b) d.count b 0)) ∙ e) k _ (stack_mine w.stack (Worker a b) (record { top = begin_cast d.count d; below = whole s })))
+    raised (Caller n) z k = all_with (Keepers w (Caller n) s d false (RaiseForAll d)) (Refused, place_part w (Caller n) (RaiseForAll d)) _ (count_in (place_part w (Caller n) (RaiseForAll d)) d.count == 0)
+        (λ e. raise_none w (Caller n) s d z (ap (λ n. n == 0) (sym (count_is w (Caller n) d.count 0 0)) ∙ e) (world_after w (Caller n) (RaiseForAll d) (whole s) (Refused, place_part w (Caller n) (RaiseForAll d))) (stack_mine w.stack (Caller n) s) (λ t. refl))
+        (λ e. raise_done w (Caller n) s d z (ap (λ n. n == 0) (sym (count_is w (Caller n) d.count 0 0)) ∙ e) k _ (stack_mine w.stack (Caller n) (record { top = begin_cast d.count d; below = whole s })))
 own_act w q s c r Before (OpenForAll d) z g p o k f = subst (λ b. IfSome (outcome w q (record { top = OpenForAll d; below = whole s })) (Keepers w q s c b (OpenForAll d))) f
     (subst (λ c. AllMade w c → IfSome (outcome w q (record { top = OpenForAll d; below = whole s })) (Keepers w q s c false (OpenForAll d))) p (opened q z) k)
   where
@@ -333,7 +312,8 @@ own_act w q s c r st _ z g p o k f = absurd p
 
 -- a refusal: of the push of the pieces, or of the opening of their numbers
 refused_on : (w : World) (q : Party) (s : Stack) (c : Pieces) (r : Bool) (x y : Place) (fs : List Place) → w.stack q ≡ record { top = x; below = fs } → fs ≡ whole s → Spot c Undoing y → AllMade w c → Keeps w (Refuse q) q s c r (with_stack w q (record { top = y; below = fs }))
-refused_on w q s c r x y fs z e p k made h a = subst (λ b. After (with_stack w q (record { top = y; below = fs })) q s c b) (or_true r ∙ ap (λ v. r || v) (sym (let b : same_party q q ≡ true = same_party_refl q in let d : is_at_call s (w.stack q) ≡ true = at_call_yes s (w.stack q) (ap (λ v. v.below) z ∙ e) in rw b d)))
+refused_on w q s c r x y fs z e p k made h a = subst (λ b. After (with_stack w q (record { top = y; below = fs })) q s c b)
+    (or_true r ∙ ap (λ v. r || v) (sym (let b : same_party q q ≡ true = same_party_refl q in let d : is_at_call s (w.stack q) ≡ true = at_call_yes s (w.stack q) (ap (λ v. v.below) z ∙ e) in rw b d)))
     (inl (record { stage = Undoing; top = y; is = stack_mine w.stack q (record { top = y; below = fs }) ∙ ap (λ l. record { top = y; below = l }) e; spot = p; sofar = tt; known = made_on w (with_stack w q (record { top = y; below = fs })) (Refuse q) made c k; flag = refl }))
 
 refuse_act : (w : World) (q : Party) (s : Stack) (c : Pieces) (r : Bool) (st : Stage) (x : Place) (fs : List Place) → w.stack q ≡ record { top = x; below = fs } → fs ≡ whole s → Spot c st x → AllMade w c → IfSome (after_refusal w q (record { top = x; below = fs })) (Keeps w (Refuse q) q s c r)
@@ -387,7 +367,6 @@ spot_is c st _ p = absurd p
 
 not_free : (x : Place) → is_spot x ≡ true → is_free x ≡ true → ⊥
 not_free (Run t k) y e = cc
-not_free Free y e = cc
 not_free _ y e = cc
 
 from_none : (P : World → Type 0) (w : World) (q : Party) (k : Stack) (x : Place) (v : ℕ) → is_spot x ≡ true → IfSome (after_choice w q k x v) P
@@ -398,8 +377,7 @@ from_none P w q k _ v y = tt
 miss_none : (P : World → Type 0) (w : World) (q : Party) (k : Stack) (x : Place) → is_spot x ≡ true → IfSome (after_miss w q k x) P
 miss_none P w (Worker a b) k (StealFrom c n) y = cc
 miss_none P w (Worker a b) k (YieldSteal v n) y = cc
-miss_none P w (Worker a b) k _ y = tt
-miss_none P w (Caller n) k _ y = tt
+miss_none P w _ k _ y = tt
 
 end_none : (P : World → Type 0) (w : World) (q : Party) (d : Ending) (k : Stack) (x : Place) → is_spot x ≡ true → IfSome (after_end w q d k x) P
 end_none P w q d k (Run t j) y = cc
@@ -433,7 +411,8 @@ enter_none P w q z n = gate P w _ ((w.stack q).top) (holds z.call (w.stack q)) n
 into_fifo_none : (P : World → Type 0) (w : World) (q : Party) (n : ℕ) → (is_free ((w.stack q).top) ≡ true → ⊥) → IfSome (after_into_fifo w q n (w.stack q)) P
 into_fifo_none P w q n f = by q (slice_get w.scopes n) f
   where
-    mine : (r i : ℕ) (z : Scope) → (is_free ((w.stack (Worker r i)).top) ≡ true → ⊥) → (b : Bool) → IfSome (if b then (if is_free ((w.stack (Worker r i)).top) && holds z.call (w.stack (Worker r i)) then Some (after_feed w (OfScope z.call z.owner) z.pool i (w.stack (Worker r i))) else None) else after_enter w (Worker r i) (w.stack (Worker r i)) (Some z)) P
+    mine : (r i : ℕ) (z : Scope) → (is_free ((w.stack (Worker r i)).top) ≡ true → ⊥) → (b : Bool)
+        → IfSome (if b then (if is_free ((w.stack (Worker r i)).top) && holds z.call (w.stack (Worker r i)) then Some (after_feed w (OfScope z.call z.owner) z.pool i (w.stack (Worker r i))) else None) else after_enter w (Worker r i) (w.stack (Worker r i)) (Some z)) P
     mine r i z f true = gate P w _ ((w.stack (Worker r i)).top) (holds z.call (w.stack (Worker r i))) f
     mine r i z f false = enter_none P w (Worker r i) z f
 
@@ -452,8 +431,6 @@ is_acting (Refuse q) = true
 is_acting _ = false
 
 other_none : (P : World → Type 0) (w : World) (e : Event) → is_acting e ≡ false → is_spot ((w.stack (mover e)).top) ≡ true → IfSome (step w e) P
-other_none P w (Go q) z y = cc
-other_none P w (Refuse q) z y = cc
 other_none P w (From q v) z y = from_none P w q (w.stack q) ((w.stack q).top) v y
 other_none P w (Miss q) z y = miss_none P w q (w.stack q) ((w.stack q).top) y
 other_none P w (End q d) z y = end_none P w q d (w.stack q) ((w.stack q).top) y
@@ -470,6 +447,7 @@ other_none P w (Join q) z y = join_none P w q (not_free ((w.stack q).top) y)
 other_none P w (Yield q) z y = yield_none P w q YieldPop (not_free ((w.stack q).top) y)
 other_none P w (YieldLocal q) z y = yield_none P w q LocalPop (not_free ((w.stack q).top) y)
 other_none P w (EndPool q p) z y = gate P w _ ((w.stack q).top) (is_pool w.shape p && (w.pool p).held) (not_free ((w.stack q).top) y)
+other_none P w _ z y = cc
 
 -- the party's own events
 own_event : (w : World) (e : Event) (s : Stack) (c : Pieces) (r : Bool) → Ground w → Inside w (mover e) s c r → IfSome (step w e) (Keeps w e (mover e) s c r)
@@ -485,7 +463,8 @@ quiet w q s _ d = refl
 
 apart : (w : World) (e : Event) (q : Party) → same_party q (mover e) ≡ false → (b : Bool) → is_act e ≡ b → IfSome (step w e) (λ u. u.stack q ≡ w.stack q)
 apart w e q d false z = if_some_map (λ u. Turned w u (mover e) e) (λ u. u.stack q ≡ w.stack q) (λ u m. m.stack q ∙ stack_other w.stack (mover e) m.to q d) (step w e) (turns w e z)
-apart w (Go r) q d true z = go_all (λ u. u.stack q ≡ w.stack q) w r (if_some_all {A = Seen × Part} (λ v. (result w r (w.stack r) v).stack q ≡ w.stack q) (λ v. stack_other w.stack r (after_move (next_of (w.shape.pool (target_pool r (act_of r ((w.stack r).top)))) r ((w.stack r).top) (v.0)) ((w.stack r).below)) q d) (outcome w r (w.stack r)))
+apart w (Go r) q d true z = go_all (λ u. u.stack q ≡ w.stack q) w r
+    (if_some_all {A = Seen × Part} (λ v. (result w r (w.stack r) v).stack q ≡ w.stack q) (λ v. stack_other w.stack r (after_move (next_of (w.shape.pool (target_pool r (act_of r ((w.stack r).top)))) r ((w.stack r).top) (v.0)) ((w.stack r).below)) q d) (outcome w r (w.stack r)))
 apart w _ q d true z = cc
 
 step_keeps : (w : World) (e : Event) (q : Party) (s : Stack) (c : Pieces) (r : Bool) → Ground w → Inside w q s c r → IfSome (step w e) (Keeps w e q s c r)

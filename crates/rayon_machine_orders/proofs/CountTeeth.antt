@@ -14,47 +14,13 @@
 -- - `number_is_nobodys`: `undone_number_stays_open`, at `Touched::closing_slot`. `refused_number_is_filled`, there too.
 -- - `body_leaves_out_its_lower`: `scope_leaves_out_the_lower_of_its_body`, at `Place::next_scoping`.
 use Rattle.std.proofs.Common.{refl}
-use Rattle.std.specs.Prelude.{ℕ, true, false, ◌+◌, ◌-◌, Option, Some, None, List, [], ◌∷◌, ◌++◌, ◌≡◌, IfSome, min, if◌then◌else◌}
-use Rattle.rayon_machine_places.specs.declared.shape.Order.TheVariants.{NewestFirst}
-use Rattle.rayon_machine_places.specs.declared.place.Party.{Party}
-use Rattle.rayon_machine_places.specs.declared.place.Party.TheVariants.{Worker}
-use Rattle.rayon_machine_places.specs.declared.place.Ending.{Ending}
-use Rattle.rayon_machine_places.specs.declared.place.Ending.TheVariants.{Fine, Fault}
-use Rattle.rayon_machine_places.specs.declared.place.JobKind.{JobKind}
-use Rattle.rayon_machine_places.specs.declared.place.JobKind.TheVariants.{Scoped, BodyOf}
-use Rattle.rayon_machine_places.specs.declared.place.Target.{Target}
-use Rattle.rayon_machine_places.specs.declared.place.Target.TheVariants.{Answer}
-use Rattle.rayon_machine_places.specs.declared.place.Plan.TheVariants.{Enter}
-use Rattle.rayon_machine_places.specs.declared.place.Count.TheVariants.{OfPool, OfScope}
-use Rattle.rayon_machine_places.specs.declared.place.Share.TheVariants.{Body, OfJob}
-use Rattle.rayon_machine_places.specs.declared.place.Then.TheVariants.{Resume, Answers, Ran}
-use Rattle.rayon_machine_places.specs.declared.place.Place.{Place}
-use Rattle.rayon_machine_places.specs.declared.place.Place.TheVariants.{ProbeWorking, Run, CloseSlot, LowerCount, StoreBody, StoreSlot}
-use Rattle.rayon_machine_places.specs.declared.place.Move.{Move}
-use Rattle.rayon_machine_places.specs.declared.place.Move.TheVariants.{Stay, Enter as EnterAbove, Back}
-use Rattle.rayon_machine_places.specs.declared.place.Wait.{Wait}
-use Rattle.rayon_machine_places.specs.declared.act.Act.{Act}
-use Rattle.rayon_machine_places.specs.declared.act.Act.TheVariants.{SubInactive, News, Raise, Take, SlotUndo}
-use Rattle.rayon_machine_places.specs.declared.act.Seen.{Seen}
-use Rattle.rayon_machine_places.specs.declared.act.Seen.TheVariants.{Done, Yes, No, Wakes}
-use Rattle.rayon_machine_places.specs.declared.event.Event.{Event}
-use Rattle.rayon_machine_places.specs.declared.event.Event.TheVariants.{Refuse, End, Spawn, Install, Join, Scope as OpenScope, IntoSpawn}
-use Rattle.rayon_machine_places.specs.declared.state.Letter.TheVariants.{Set as IsSet}
-use Rattle.rayon_machine_places.specs.declared.state.Slot.{Slot}
-use Rattle.rayon_machine_places.specs.declared.state.Slot.TheVariants.{Closed, Open as IsOpen, Filled as IsFilled}
-use Rattle.rayon_machine_places.specs.declared.state.Whereabouts.TheVariants.{InDeque, Running, Over, HandedBack}
-use Rattle.rayon_machine_places.specs.declared.shape.PoolShape.{PoolShape}
-use Rattle.rayon_machine_places.specs.Places.{awaits, set_call, settle_count, act_of, next_of}
-use Rattle.rayon_machine_places.specs.World.{Shape, Stack, World, count_below, Counts, Part, Outcome, counts_at, is_open, raised, target_job, effect}
-use Rattle.rayon_machine_places.specs.Steps.{put, put_stack, step}
-use Rattle.rayon_machine_places.specs.Runs.{start}
-use Rattle.rayon_machine_laws.specs.Once.{one}
-use Rattle.rayon_machine_laws.specs.Counted.{has_entry}
+use Rattle.rayon_machine_orders.proofs.Words.{ℕ, true, false, ◌+◌, ◌-◌, Option, Some, None, List, [], ◌∷◌, ◌++◌, ◌≡◌, IfSome, min, if◌then◌else◌, NewestFirst, Party, Worker, Ending, Fine, Fault, JobKind, Scoped, BodyOf, Target, Answer, Enter, OfPool, OfScope, Body, OfJob, Resume, Answers, Ran}
+use Rattle.rayon_machine_orders.proofs.Words.{Place, ProbeWorking, Run, CloseSlot, LowerCount, StoreBody, StoreSlot, Move, Stay, EnterAbove, Back, Wait, Act, SubInactive, News, Take, Seen, Done, Yes, No, Wakes, Event, Refuse, End, Spawn, Install, Join, OpenScope, IntoSpawn, IsSet, Slot, Closed}
+use Rattle.rayon_machine_orders.proofs.Words.{IsOpen, Filled as IsFilled, InDeque, Running, Over, HandedBack, PoolShape, set_call, settle_count, act_of, next_of, Shape, Stack, World, count_below, Counts, Part, Outcome, counts_at, is_open, raised, target_job, effect, put, put_stack, step, start}
+use Rattle.rayon_machine_orders.proofs.Words.{one, has_entry, all_bodies, follows, is_busy, caller_of, is_refusal}
+use Rattle.rayon_machine_places.specs.declared.act.Act.TheVariants.{Raise, SlotUndo}
+use Rattle.rayon_machine_places.specs.Places.{awaits}
 use Rattle.rayon_machine_laws.specs.Leavers.{owed_at, passed_at}
-use Rattle.rayon_machine_laws.specs.Bodies.{all_bodies}
-use Rattle.rayon_machine_laws.specs.End.{follows}
-use Rattle.rayon_machine_laws.specs.Shares.{is_busy}
-use Rattle.rayon_machine_orders.specs.Calls.{caller_of, is_refusal}
 use Rattle.rayon_machine_orders.proofs.WrongMachines.{Machine, doing, leading, making, step_by, run_by, times_go, two, a, b, c, right}
 use Rattle.rayon_machine_orders.proofs.CallTeeth.{any_by, is_back, Ends}
 
@@ -81,7 +47,8 @@ answers_early h q (ProbeWorking k) e = skips_second h q k e k.target
 answers_early h q x e = next_of h q x e
 
 -- the clause of ends is broken: the join answers, and its second side stands in the deque
-join_skips_second_side : IfSome (run_by (leading answers_early) (two 32) (Install c 0 ∷ times_go c 5 ++ times_go b 12 ++ Join b ∷ times_go b 5 ++ End b Fault ∷ times_go b 1)) (λ w. (follows (w.stack b).top ≡ Some (Answers (record { number = 1; pool = 0; job = 2 }) (Some Fault) Fault)) × ((w.job 2).at ≡ InDeque 0 1))
+join_skips_second_side : IfSome (run_by (leading answers_early) (two 32) (Install c 0 ∷ times_go c 5 ++ times_go b 12 ++ Join b ∷ times_go b 5 ++ End b Fault ∷ times_go b 1))
+    (λ w. (follows (w.stack b).top ≡ Some (Answers (record { number = 1; pool = 0; job = 2 }) (Some Fault) Fault)) × ((w.job 2).at ≡ InDeque 0 1))
 join_skips_second_side = (refl, refl)
 
 -- a scope's count starts at 0

@@ -1,36 +1,15 @@
 -- what each step does to the own deque of a worker that is alone in its pool, and what it has taken from it
 use Rattle.std.proofs.Common.{refl, sym, ◌∙◌, ap, subst, inl, inr}
-use Rattle.std.proofs.lemmas.Bool.{eqb-true}
-use Rattle.std.specs.Prelude.{ℕ, Bool, true, false, ◌==◌, if◌then◌else◌, Option, Some, None, List, [], ◌∷◌, ◌++◌, ◌≡◌, ◌⊎◌, IfSome}
-use Rattle.rayon_machine_places.specs.declared.shape.Order.{Order}
-use Rattle.rayon_machine_places.specs.declared.place.Party.{Party}
-use Rattle.rayon_machine_places.specs.declared.place.Party.TheVariants.{Worker}
-use Rattle.rayon_machine_places.specs.declared.place.Plan.{Plan}
-use Rattle.rayon_machine_places.specs.declared.place.Place.{Place}
-use Rattle.rayon_machine_places.specs.declared.place.Place.TheVariants.{PopWorking, PopIdle, JoinPop, YieldPop, LocalPop, JoinProbe, SecondSide, BeginTask, BeginHere, PushJob, PushToken, AddToFifo, TakeFromFifo}
-use Rattle.rayon_machine_places.specs.declared.place.Move.TheVariants.{Enter, Discard}
-use Rattle.rayon_machine_places.specs.declared.act.Act.{Act}
-use Rattle.rayon_machine_places.specs.declared.act.Act.TheVariants.{PushOwn, PushInj}
-use Rattle.rayon_machine_places.specs.declared.act.Seen.{Seen}
-use Rattle.rayon_machine_places.specs.declared.act.Seen.TheVariants.{Task, Missing}
-use Rattle.rayon_machine_places.specs.declared.shape.PoolShape.{PoolShape}
-use Rattle.rayon_machine_places.specs.declared.place.OpenCall.{OpenCall}
-use Rattle.rayon_machine_places.specs.Places.{same_party, plan_pool, plan_job, act_of, next_of, after_begin, is_taken, plan_book, count_book}
-use Rattle.rayon_machine_places.specs.World.{Stack, World, counts_at, Part, own_of, own_left, popped, target_pool, target_worker, target_call, effect, head_of, left_by, or_none, put_list, taken_as}
-use Rattle.rayon_machine_places.specs.Steps.{put_seat, part_of, after_move, step}
-use Rattle.rayon_machine_orders.specs.Order.{Happening, act_happens, happening, Hands}
+use Rattle.rayon_machine_orders.proofs.Words.{eqb-true, ℕ, Bool, true, false, ◌==◌, if◌then◌else◌, Option, Some, None, List, [], ◌∷◌, ◌++◌, ◌≡◌, ◌⊎◌, IfSome, Order, Party, Worker, Plan, Place, PopWorking, PopIdle, JoinPop, YieldPop, LocalPop, JoinProbe, SecondSide, BeginTask, BeginHere, PushJob}
+use Rattle.rayon_machine_orders.proofs.Words.{PushToken, AddToFifo, TakeFromFifo, EnterAbove as Enter, Discard, Act, PushOwn, PushInj, Seen, Task, PoolShape, OpenCall, same_party, plan_pool, plan_job, act_of, next_of, after_begin, is_taken, plan_book, count_book, Stack, World, counts_at, Part}
+use Rattle.rayon_machine_orders.proofs.Words.{own_of, own_left, popped, target_pool, target_worker, target_call, effect, head_of, left_by, or_none, put_list, taken_as, put_seat, part_of, after_move, step, Happening, act_happens, happening, Hands, Event, Go, Plain, Token, Taken, run_at, JobKind}
+use Rattle.rayon_machine_places.specs.declared.act.Seen.TheVariants.{Missing}
 use Rattle.rayon_machine_laws.proofs.Calm.{part_at, counts_seen, next_at}
 use Rattle.rayon_machine_laws.proofs.Frame.{either, if_some_and, if_some_map, same_party_true, acted_keeps, out_sees}
 use Rattle.rayon_machine_orders.proofs.Lone.{Honest, Turns, is_act, is_thief, taken, turns}
 use Rattle.rayon_machine_laws.proofs.Ties.{AllFrames, job_at, shape_at, outcome, result}
 use Rattle.rayon_machine_laws.proofs.Tops.{FramesOk}
-use Rattle.rayon_machine_places.specs.declared.event.Event.{Event}
-use Rattle.rayon_machine_places.specs.declared.event.Event.TheVariants.{Go}
 use Rattle.rayon_machine_orders.proofs.Dealt.{is_pop, elsewhere, is_start, is_push, is_line, Dealt, FreeOf, own_hands, hand_on, silent, seat_mine, seat_own, stays_free, quiet_own, other_own, lands_free}
-use Rattle.rayon_machine_places.specs.declared.place.Taken.TheVariants.{Plain, Token}
-use Rattle.rayon_machine_places.specs.declared.place.Taken.{Taken}
-use Rattle.rayon_machine_orders.specs.Queue.{run_at}
-use Rattle.rayon_machine_places.specs.declared.place.JobKind.{JobKind}
 
 -- the kinds of jobs and tokens
 abbrev pub kinds : World → ℕ → JobKind
@@ -42,15 +21,23 @@ Deals o p i w u h = Dealt o (kinds w) (w.stack (Worker p i)).top (w.seat p i).ow
 
 -- over the worker's own act, after which it runs this job
 abbrev Own : World → ℕ → ℕ → Place → List Place → (Seen × Part → Option ℕ) → Type 0
-Own w p i x fs o = IfSome (outcome w (Worker p i) (record { top = x; below = fs })) (λ r. Dealt (w.shape.pool p).order (kinds w) x (w.seat p i).own ((result w (Worker p i) (record { top = x; below = fs }) r).seat p i).own (after_move (next_at w (Worker p i) (record { top = x; below = fs }) (r.0)) fs).top (act_happens (act_of (Worker p i) x) fs (o r)))
+Own w p i x fs o = IfSome (outcome w (Worker p i) (record { top = x; below = fs }))
+    (λ r. Dealt (w.shape.pool p).order (kinds w) x (w.seat p i).own ((result w (Worker p i) (record { top = x; below = fs }) r).seat p i).own (after_move (next_at w (Worker p i) (record { top = x; below = fs }) (r.0)) fs).top (act_happens (act_of (Worker p i) x) fs (o r)))
 
 -- a look in the own deque, by what it leads to
-popped_deals : (w : World) (p i : ℕ) (x : Place) (fs : List Place) (m : Part) (j : Option ℕ) → own_of (w.shape.pool p).order (w.seat p i).own ≡ j → m.seat ≡ w.seat p i → m.job ≡ w.job (or_none (own_of (w.shape.pool p).order (w.seat p i).own)) → taken x ≡ None → (taken ((after_move (next_of (w.shape.pool p) (Worker p i) x Missing) fs).top) ≡ None) → ((t : Taken) → taken ((after_move (next_of (w.shape.pool p) (Worker p i) x (Task t)) fs).top) ≡ Some t) →
+popped_deals : (w : World) (p i : ℕ) (x : Place) (fs : List Place) (m : Part) (j : Option ℕ) → own_of (w.shape.pool p).order (w.seat p i).own ≡ j → m.seat ≡ w.seat p i → m.job ≡ w.job (or_none (own_of (w.shape.pool p).order (w.seat p i).own)) → taken x ≡ None
+    → (taken ((after_move (next_of (w.shape.pool p) (Worker p i) x Missing) fs).top) ≡ None) → ((t : Taken) → taken ((after_move (next_of (w.shape.pool p) (Worker p i) x (Task t)) fs).top) ≡ Some t) →
     IfSome (popped (Worker p i) m (own_left (w.shape.pool p).order (w.seat p i).own) j) (λ r. Dealt (w.shape.pool p).order (kinds w) x (w.seat p i).own (put_seat w.seat p i (r.1.seat) p i).own (after_move (next_of (w.shape.pool p) (Worker p i) x (r.0)) fs).top None)
 popped_deals w p i x fs m None e s d n a b = inl (ap (λ z. z.own) (seat_mine w.seat p i m.seat ∙ s), inl (n, inl a))
 popped_deals w p i x fs m (Some t) e s d n a b =
     let k : m.job.kind ≡ (w.job t).kind = ap (λ j. j.kind) d ∙ ap (λ z. (w.job (or_none z)).kind) e in
-    inr (t, subst (λ z. Hands (w.shape.pool p).order (w.seat p i).own t z) (sym (ap (λ z. z.own) (seat_mine w.seat p i (record (m.seat) { own = own_left (w.shape.pool p).order (w.seat p i).own })))) (own_hands (w.shape.pool p).order (w.seat p i).own t e), n, b (taken_as t (m.job.kind)) ∙ ap (λ z. Some (taken_as t z)) k)
+    inr (
+      t,
+      subst (λ z. Hands (w.shape.pool p).order (w.seat p i).own t z) (sym (ap (λ z. z.own) (seat_mine w.seat p i (record (m.seat) { own = own_left (w.shape.pool p).order (w.seat p i).own })))) (own_hands (w.shape.pool p).order (w.seat p i).own t e),
+      n,
+      b (taken_as t (m.job.kind))
+          ∙ ap (λ z. Some (taken_as t z)) k,
+    )
 
 join_taken : (h : PoolShape) (q : Party) (o : OpenCall) (t : Taken) (fs : List Place) → taken ((after_move (next_of h q (JoinPop o) (Task t)) fs).top) ≡ Some t
 join_taken h q o t fs = at (is_taken t o.job) refl
@@ -91,7 +78,8 @@ push_deals w p i n v fs o = at (p == plan_pool n)
     me = Worker p i
 
     ByAct : Act → Type 0
-    ByAct a = IfSome (effect a w.shape me (counts_at w (target_pool me a)) (part_of w (target_pool me a) (target_worker me a) (target_call a) (job_at w me a))) (λ r. Dealt (w.shape.pool p).order (kinds w) (PushJob n v) (w.seat p i).own (put_seat w.seat (target_pool me a) (target_worker me a) (r.1.seat) p i).own (after_move (next_of (w.shape.pool (target_pool me a)) me (PushJob n v) (r.0)) fs).top (act_happens a fs (o r)))
+    ByAct a = IfSome (effect a w.shape me (counts_at w (target_pool me a)) (part_of w (target_pool me a) (target_worker me a) (target_call a) (job_at w me a)))
+        (λ r. Dealt (w.shape.pool p).order (kinds w) (PushJob n v) (w.seat p i).own (put_seat w.seat (target_pool me a) (target_worker me a) (r.1.seat) p i).own (after_move (next_of (w.shape.pool (target_pool me a)) me (PushJob n v) (r.0)) fs).top (act_happens a fs (o r)))
 
     at : (z : Bool) → ByAct (if z then PushOwn (plan_job n) (plan_book n) else PushInj (plan_pool n) (plan_job n) (plan_book n))
     at true = (ap (λ s. s.own) (seat_mine w.seat p i (record (w.seat p i) { own = (w.seat p i).own ++ plan_job n ∷ []; feeder = put_list (w.seat p i).feeder (plan_book n) (left_by (Worker p i) ((w.seat p i).feeder (plan_book n))) })), refl, refl)
@@ -104,16 +92,19 @@ push_own w p i _ fs o z = cc
 
 -- an act on a FIFO list leaves the deque
 line_deals : (w : World) (p i : ℕ) (x : Place) (fs : List Place) (o : Seen × Part → Option ℕ) → AllFrames fs → is_line x ≡ true → Own w p i x fs o
-line_deals w p i (AddToFifo f) fs o a z = if_some_map {A = Seen × Part} (λ r. (((result w (Worker p i) (record { top = AddToFifo f; below = fs }) r).seat p i).own ≡ (w.seat p i).own) × FreeOf (next_at w (Worker p i) (record { top = AddToFifo f; below = fs }) (r.0))) (λ r. (((result w (Worker p i) (record { top = AddToFifo f; below = fs }) r).seat p i).own ≡ (w.seat p i).own) × (None ≡ None) × (taken ((after_move (next_at w (Worker p i) (record { top = AddToFifo f; below = fs }) (r.0)) fs).top) ≡ None))
+line_deals w p i (AddToFifo f) fs o a z = if_some_map {A = Seen × Part} (λ r. (((result w (Worker p i) (record { top = AddToFifo f; below = fs }) r).seat p i).own ≡ (w.seat p i).own) × FreeOf (next_at w (Worker p i) (record { top = AddToFifo f; below = fs }) (r.0)))
+    (λ r. (((result w (Worker p i) (record { top = AddToFifo f; below = fs }) r).seat p i).own ≡ (w.seat p i).own) × (None ≡ None) × (taken ((after_move (next_at w (Worker p i) (record { top = AddToFifo f; below = fs }) (r.0)) fs).top) ≡ None))
     (λ r t. (t.0, refl, lands_free (next_at w (Worker p i) (record { top = AddToFifo f; below = fs }) (r.0)) fs a (t.1)))
     (outcome w (Worker p i) (record { top = AddToFifo f; below = fs }))
     (if_some_and {A = Seen × Part} (λ r. ((result w (Worker p i) (record { top = AddToFifo f; below = fs }) r).seat p i).own ≡ (w.seat p i).own) (λ r. FreeOf (next_at w (Worker p i) (record { top = AddToFifo f; below = fs }) (r.0))) (outcome w (Worker p i) (record { top = AddToFifo f; below = fs }))
     (quiet_own w (Worker p i) (record { top = AddToFifo f; below = fs }) p i refl refl refl)
     (stays_free w.shape (w.shape.pool p) (Worker p i) (counts_seen w (Worker p i) (record { top = AddToFifo f; below = fs })) (part_at w (Worker p i) (record { top = AddToFifo f; below = fs })) (AddToFifo f) refl refl refl refl))
-line_deals w p i (TakeFromFifo f) fs o a z = if_some_map {A = Seen × Part} (λ r. (((result w (Worker p i) (record { top = TakeFromFifo f; below = fs }) r).seat p i).own ≡ (w.seat p i).own) × FreeOf (next_at w (Worker p i) (record { top = TakeFromFifo f; below = fs }) (r.0))) (λ r. (((result w (Worker p i) (record { top = TakeFromFifo f; below = fs }) r).seat p i).own ≡ (w.seat p i).own) × (None ≡ None) × (taken ((after_move (next_at w (Worker p i) (record { top = TakeFromFifo f; below = fs }) (r.0)) fs).top) ≡ None))
+line_deals w p i (TakeFromFifo f) fs o a z = if_some_map {A = Seen × Part} (λ r. (((result w (Worker p i) (record { top = TakeFromFifo f; below = fs }) r).seat p i).own ≡ (w.seat p i).own) × FreeOf (next_at w (Worker p i) (record { top = TakeFromFifo f; below = fs }) (r.0)))
+    (λ r. (((result w (Worker p i) (record { top = TakeFromFifo f; below = fs }) r).seat p i).own ≡ (w.seat p i).own) × (None ≡ None) × (taken ((after_move (next_at w (Worker p i) (record { top = TakeFromFifo f; below = fs }) (r.0)) fs).top) ≡ None))
     (λ r t. (t.0, refl, lands_free (next_at w (Worker p i) (record { top = TakeFromFifo f; below = fs }) (r.0)) fs a (t.1)))
     (outcome w (Worker p i) (record { top = TakeFromFifo f; below = fs }))
-    (if_some_and {A = Seen × Part} (λ r. ((result w (Worker p i) (record { top = TakeFromFifo f; below = fs }) r).seat p i).own ≡ (w.seat p i).own) (λ r. FreeOf (next_at w (Worker p i) (record { top = TakeFromFifo f; below = fs }) (r.0))) (outcome w (Worker p i) (record { top = TakeFromFifo f; below = fs }))
+    (if_some_and {A = Seen × Part} (λ r. ((result w (Worker p i) (record { top = TakeFromFifo f; below = fs }) r).seat p i).own ≡ (w.seat p i).own) (λ r. FreeOf (next_at w (Worker p i) (record { top = TakeFromFifo f; below = fs }) (r.0)))
+    (outcome w (Worker p i) (record { top = TakeFromFifo f; below = fs }))
     (quiet_own w (Worker p i) (record { top = TakeFromFifo f; below = fs }) p i refl refl refl)
     (stays_free w.shape (w.shape.pool p) (Worker p i) (counts_seen w (Worker p i) (record { top = TakeFromFifo f; below = fs })) (part_at w (Worker p i) (record { top = TakeFromFifo f; below = fs })) (TakeFromFifo f) refl refl refl refl))
 line_deals w p i _ fs o a z = cc
@@ -147,26 +138,36 @@ own_deals w p i x fs o a z = elim (either (is_pop x)) [
 abbrev pub runs_after : World → Party → Seen × Part → Option ℕ
 runs_after w q r = run_at (((result w q (w.stack q) r).stack q).top)
 
-go_deals : (w : World) (q : Party) (p : ℕ) (b : Bool) → same_party (Worker p 0) q ≡ b → FramesOk w → Honest p w → IfSome (outcome w q (w.stack q)) (λ r. Dealt (w.shape.pool p).order (kinds w) (w.stack (Worker p 0)).top (w.seat p 0).own ((result w q (w.stack q) r).seat p 0).own ((if b then after_move (next_at w q (w.stack q) (r.0)) (w.stack q).below else w.stack (Worker p 0)).top) (if b then act_happens (act_of q (w.stack q).top) (w.stack q).below (runs_after w q r) else None))
+go_deals : (w : World) (q : Party) (p : ℕ) (b : Bool) → same_party (Worker p 0) q ≡ b → FramesOk w → Honest p w → IfSome (outcome w q (w.stack q))
+    (λ r. Dealt (w.shape.pool p).order (kinds w) (w.stack (Worker p 0)).top (w.seat p 0).own ((result w q (w.stack q) r).seat p 0).own ((if b then after_move (next_at w q (w.stack q) (r.0)) (w.stack q).below else w.stack (Worker p 0)).top)
+    (if b then act_happens (act_of q (w.stack q).top) (w.stack q).below (runs_after w q r) else None))
 go_deals w q p true eb fr ok =
     let me : Party = Worker p 0 in
-    let F : Party → Type 0 = λ z. IfSome (outcome w z (w.stack z)) (λ r. Dealt (w.shape.pool p).order (kinds w) (w.stack me).top (w.seat p 0).own ((result w z (w.stack z) r).seat p 0).own ((after_move (next_at w z (w.stack z) (r.0)) (w.stack z).below).top) (act_happens (act_of z (w.stack z).top) (w.stack z).below (runs_after w z r))) in
+    let F : Party → Type 0 = λ z. IfSome (outcome w z (w.stack z))
+    (λ r. Dealt (w.shape.pool p).order (kinds w) (w.stack me).top (w.seat p 0).own ((result w z (w.stack z) r).seat p 0).own ((after_move (next_at w z (w.stack z) (r.0)) (w.stack z).below).top) (act_happens (act_of z (w.stack z).top) (w.stack z).below (runs_after w z r))) in
     let base : F me = own_deals w p 0 (w.stack me).top (w.stack me).below (runs_after w me) (fr me) (ok 0) in
     subst F (same_party_true me q eb) base
-go_deals w q p false eb fr ok = if_some_map {A = Seen × Part} (λ r. ((result w q (w.stack q) r).seat p 0).own ≡ (w.seat p 0).own) (λ r. Dealt (w.shape.pool p).order (kinds w) (w.stack (Worker p 0)).top (w.seat p 0).own ((result w q (w.stack q) r).seat p 0).own ((w.stack (Worker p 0)).top) None) (λ r e. inl (e, inr refl)) (outcome w q (w.stack q)) (other_own w q (w.stack q).top (w.stack q).below p 0 eb (λ b is. ap (λ z. is_thief ((w.stack z).top)) is ∙ ok b))
+go_deals w q p false eb fr ok = if_some_map {A = Seen × Part} (λ r. ((result w q (w.stack q) r).seat p 0).own ≡ (w.seat p 0).own)
+    (λ r. Dealt (w.shape.pool p).order (kinds w) (w.stack (Worker p 0)).top (w.seat p 0).own ((result w q (w.stack q) r).seat p 0).own ((w.stack (Worker p 0)).top) None) (λ r e. inl (e, inr refl)) (outcome w q (w.stack q))
+    (other_own w q (w.stack q).top (w.stack q).below p 0 eb (λ b is. ap (λ z. is_thief ((w.stack z).top)) is ∙ ok b))
 
 pub nothing : (p : ℕ) (w : World) (e : Event) (v : World) → is_act e ≡ false → happening p w e v ≡ None
 nothing p w (Go q) v z = cc
 nothing p w _ v z = refl
 
 turn_deals : (w u : World) (p : ℕ) → Turns w u → Honest p w → Deals (w.shape.pool p).order p 0 w u None
-turn_deals w u p m ok = inl (ap (λ s. s.own) (m.seat p 0), subst (λ k. ((taken (w.stack (Worker p 0)).top ≡ None) × ((taken (k.top) ≡ None) ⊎ (elsewhere (w.stack (Worker p 0)).top ≡ true))) ⊎ (taken (k.top) ≡ taken (w.stack (Worker p 0)).top)) (sym (m.stack (Worker p 0))) (at (same_party (Worker p 0) (m.party)) refl))
+turn_deals w u p m ok = inl (
+  ap (λ s. s.own) (m.seat p 0),
+  subst (λ k. ((taken (w.stack (Worker p 0)).top ≡ None) × ((taken (k.top) ≡ None) ⊎ (elsewhere (w.stack (Worker p 0)).top ≡ true))) ⊎ (taken (k.top) ≡ taken (w.stack (Worker p 0)).top)) (sym (m.stack (Worker p 0))) (at (same_party (Worker p 0) (m.party)) refl),
+)
   where
-    at : (b : Bool) → same_party (Worker p 0) (m.party) ≡ b → ((taken (w.stack (Worker p 0)).top ≡ None) × ((taken ((if b then m.to else w.stack (Worker p 0)).top) ≡ None) ⊎ (elsewhere (w.stack (Worker p 0)).top ≡ true))) ⊎ (taken ((if b then m.to else w.stack (Worker p 0)).top) ≡ taken (w.stack (Worker p 0)).top)
+    at : (b : Bool) → same_party (Worker p 0) (m.party) ≡ b → ((taken (w.stack (Worker p 0)).top ≡ None) × ((taken ((if b then m.to else w.stack (Worker p 0)).top) ≡ None) ⊎ (elsewhere (w.stack (Worker p 0)).top ≡ true))) ⊎
+        (taken ((if b then m.to else w.stack (Worker p 0)).top) ≡ taken (w.stack (Worker p 0)).top)
     at true e = let is : Worker p 0 ≡ m.party = same_party_true (Worker p 0) (m.party) e in inl (ap (λ z. taken ((w.stack z).top)) is ∙ (m.empty).0, inl ((m.honest (ap (λ z. is_thief ((w.stack z).top)) (sym is) ∙ ok 0)).1))
     at false e = inr refl
 
 -- what each step does to the deque of the pool's one worker
 pub step_deals : (p : ℕ) (w : World) (e : Event) → FramesOk w → Honest p w → IfSome (step w e) (λ u. Deals (w.shape.pool p).order p 0 w u (happening p w e u))
-step_deals p w (Go q) fr ok = acted_keeps w q (w.stack q) (target_pool q (act_of q (w.stack q).top)) (target_worker q (act_of q (w.stack q).top)) (target_call (act_of q (w.stack q).top)) (job_at w q (act_of q (w.stack q).top)) (outcome w q (w.stack q)) (λ u. Deals (w.shape.pool p).order p 0 w u (happening p w (Go q) u)) (go_deals w q p (same_party (Worker p 0) q) refl fr ok)
+step_deals p w (Go q) fr ok = acted_keeps w q (w.stack q) (target_pool q (act_of q (w.stack q).top)) (target_worker q (act_of q (w.stack q).top)) (target_call (act_of q (w.stack q).top)) (job_at w q (act_of q (w.stack q).top)) (outcome w q (w.stack q))
+    (λ u. Deals (w.shape.pool p).order p 0 w u (happening p w (Go q) u)) (go_deals w q p (same_party (Worker p 0) q) refl fr ok)
 step_deals p w e fr ok = if_some_map (Turns w) (λ u. Deals (w.shape.pool p).order p 0 w u (happening p w e u)) (λ u m. subst (Deals (w.shape.pool p).order p 0 w u) (sym (nothing p w e u refl)) (turn_deals w u p m ok)) (step w e) (turns w fr e refl)

@@ -2,46 +2,21 @@
 --
 -- The worker alone pushes onto its deque, always last.
 use Rattle.rayon_machine_places.specs.declared.place.Count.TheVariants.{OfPool, OfScope, OfCast}
-use Rattle.rayon_machine_places.specs.declared.place.Count.{Count}
-use Rattle.std.proofs.Common.{rules, arith, refl, sym, ◌∙◌, ap, inl, inr}
-use Rattle.std.specs.Prelude.{ℕ, Bool, true, false, ◌&&◌, ◌==◌, if◌then◌else◌, Option, Some, None, List, [], ◌∷◌, ◌++◌, ◌≡◌, ◌⊎◌, IfSome}
-use Rattle.std.proofs.lemmas.Bool.{eqb-true}
-use Rattle.rayon_machine_places.specs.declared.shape.Order.{Order}
-use Rattle.rayon_machine_places.specs.declared.shape.Order.TheVariants.{NewestFirst, OldestFirst}
-use Rattle.rayon_machine_places.specs.declared.place.Feeding.{Feeding}
-use Rattle.rayon_machine_places.specs.declared.place.JobKind.{JobKind}
-use Rattle.rayon_machine_places.specs.declared.place.Pieces.{Pieces}
-use Rattle.rayon_machine_places.specs.declared.place.Party.{Party}
-use Rattle.rayon_machine_places.specs.declared.place.Party.TheVariants.{Worker, Caller}
-use Rattle.rayon_machine_places.specs.declared.place.Target.{Target}
-use Rattle.rayon_machine_places.specs.declared.place.Target.TheVariants.{Termination, Answer}
-use Rattle.rayon_machine_places.specs.declared.place.Latch.{Latch}
-use Rattle.rayon_machine_places.specs.declared.place.Latch.TheVariants.{Terminate, OfCall}
-use Rattle.rayon_machine_places.specs.declared.place.Plan.{Plan}
-use Rattle.rayon_machine_places.specs.declared.place.Plan.TheVariants.{Detach, Here, Send, Fork, Feed, Open, Enter, Gather}
-use Rattle.rayon_machine_places.specs.declared.place.Then.{Then}
-use Rattle.rayon_machine_places.specs.declared.place.Then.TheVariants.{BeginFound, LeaveWait, Resume, Await, RunFirst, Answers, Missing as Lacks, Ran, GiveBack, Called, Gathers}
-use Rattle.rayon_machine_places.specs.declared.place.Place.{Place}
-use Rattle.rayon_machine_places.specs.declared.place.Place.TheVariants.{ProbeWorking, PopWorking, TakeCastWorking, PopIdle, TakeCastIdle, StealFrom, PopInjected, LeaveSearch, JoinPop, JoinTakeCast, YieldPop, YieldTakeCast, YieldSteal, YieldPopInjected, LocalPop, LocalTakeCast, PickVictim, YieldPick, BeginTask, BeginHere, RaiseCount, LookQueue, PushJob, TellNews, LockToWake, WakeWorker, UnlockWoken, LowerCount, SetLatch, LockToSettle, WakeSettled, UnlockSettled, AddToFifo, PushToken, TakeFromFifo, SetLockLatch, OpenSlot, RaiseForAll, OpenForAll, PushForAll, LowerForAll, DealPieces}
-use Rattle.rayon_machine_places.specs.declared.place.Move.{Move}
-use Rattle.rayon_machine_places.specs.declared.place.Move.TheVariants.{Stay, Enter, StartRun, Back, HandBack, Discard, HandIn, Mark, HandAllBack}
-use Rattle.rayon_machine_places.specs.declared.act.Act.TheVariants.{LookOwn, LookInj, PushOwn, PushInj, Set}
-use Rattle.rayon_machine_places.specs.declared.act.Seen.{Seen}
-use Rattle.rayon_machine_places.specs.declared.act.Seen.TheVariants.{Yes, Done, Task, Opened}
-use Rattle.rayon_machine_places.specs.declared.shape.PoolShape.{PoolShape}
-use Rattle.rayon_machine_places.specs.declared.place.Settling.{Settling}
-use Rattle.rayon_machine_places.specs.Places.{same_party, is_member, plan_pool, plan_job, finish, walk, settle, after_set, after_found, after_news, act_of, next_of, settle_count, plan_book, count_book, withdraw, begin_feed, after_raise, after_slot, begin_cast, end_cast, ends_count, taken_number}
-use Rattle.rayon_machine_places.specs.World.{Shape, Seat, Stack, World, Counts, Part, last_of, but_last, own_of, own_left, target_pool, target_worker, effect, is_open, taken_as}
-use Rattle.rayon_machine_places.specs.Steps.{put_seat, after_move}
-use Rattle.rayon_machine_orders.specs.Order.{Happening, Adds, Queues, Retakes, Begins, Redeems, act_happens, Hands}
+use Rattle.rayon_machine_orders.proofs.Words.{Count, rules, arith, refl, sym, ◌∙◌, ap, inl, inr, ℕ, Bool, true, false, ◌&&◌, ◌==◌, if◌then◌else◌, Option, Some, None, List, ◌∷◌, ◌++◌, ◌≡◌, ◌⊎◌, IfSome, eqb-true, Order, NewestFirst, OldestFirst, Feeding, JobKind, Pieces, Party, Worker, Caller}
+use Rattle.rayon_machine_orders.proofs.Words.{Target, Termination, Answer, Plan, Detach, Here, Feed, Enter, Then, BeginFound, LeaveWait, Await, RunFirst, Gathers, Place, ProbeWorking, PopWorking, TakeCastWorking, PopIdle, TakeCastIdle, StealFrom, PopInjected, LeaveSearch, JoinPop, JoinTakeCast}
+use Rattle.rayon_machine_orders.proofs.Words.{YieldPop, YieldTakeCast, YieldSteal, YieldPopInjected, LocalPop, LocalTakeCast, PickVictim, YieldPick, BeginTask, BeginHere, RaiseCount, LookQueue, PushJob, TellNews, LockToWake, WakeWorker, UnlockWoken, LowerCount, SetLatch, LockToSettle}
+use Rattle.rayon_machine_orders.proofs.Words.{WakeSettled, UnlockSettled, AddToFifo, PushToken, TakeFromFifo, SetLockLatch, OpenSlot, RaiseForAll, OpenForAll, PushForAll, LowerForAll, DealPieces, Move, Stay, HandIn, Mark, LookOwn, LookInj, PushOwn, PushInj, Seen, Yes, Done, Task, Opened}
+use Rattle.rayon_machine_orders.proofs.Words.{PoolShape, Settling, same_party, is_member, plan_pool, plan_job, finish, walk, settle, after_set, after_found, after_news, act_of, next_of, settle_count, plan_book, count_book, withdraw, begin_feed, after_raise, after_slot, begin_cast, end_cast}
+use Rattle.rayon_machine_orders.proofs.Words.{ends_count, taken_number, Shape, Seat, Stack, World, Counts, Part, last_of, but_last, own_of, own_left, target_pool, target_worker, effect, taken_as, put_seat, after_move, Happening, Adds, Queues, Retakes, Begins, Redeems, act_happens, Hands, Plain}
+use Rattle.rayon_machine_orders.proofs.Words.{Token, Taken, []}
 use Rattle.rayon_machine_laws.proofs.Calm.{part_at, counts_seen}
-use Rattle.rayon_machine_laws.proofs.Frame.{either, if_some_all, if_some_map, same_index, same_refl, if_cond, out_sees, undo_sees}
+use Rattle.rayon_machine_laws.proofs.Frame.{either, if_some_all, if_some_map, same_index, same_refl}
 use Rattle.rayon_machine_orders.proofs.Lone.{is_thief, settle_move, settled_move, taken, taken_then, walk_move}
 use Rattle.rayon_machine_laws.proofs.Seats.{is_frame}
 use Rattle.rayon_machine_laws.proofs.Ties.{AllFrames, outcome, result}
 use Rattle.rayon_machine_laws.proofs.Tops.{Tops, top_after}
-use Rattle.rayon_machine_places.specs.declared.place.Taken.TheVariants.{Plain, Token}
-use Rattle.rayon_machine_places.specs.declared.place.Taken.{Taken}
+use Rattle.rayon_machine_orders.proofs.Spared.{Spared as LeftAlone, act_spared, begins, looks, moves_own}
+use Rattle.rayon_machine_orders.proofs.Words.{EnterAbove as Enter}
 
 -- a worker looks in its own deque
 abbrev pub is_pop : Place → Bool
@@ -137,22 +112,14 @@ Lands R (Stay y) = R y
 Lands R (HandIn y token) = R y
 Lands R (Mark y b9 m9) = R y
 Lands R (Enter f y) = R y
-Lands R (StartRun f t) = ⊥
-Lands R Back = ⊥
-Lands R (HandBack n) = ⊥
-Lands R (Discard n) = ⊥
-Lands R (HandAllBack b9) = ⊥
+Lands R _ = ⊥
 
 lands_top : (R : Place → Type 0) (g : Move) (fs : List Place) → Lands R g → R ((after_move g fs).top)
 lands_top R (Stay y) fs l = l
 lands_top R (HandIn y token) fs l = l
 lands_top R (Mark y b9 m9) fs l = l
 lands_top R (Enter f y) fs l = l
-lands_top R (StartRun f t) fs l = absurd l
-lands_top R Back fs l = absurd l
-lands_top R (HandBack n) fs l = absurd l
-lands_top R (Discard n) fs l = absurd l
-lands_top R (HandAllBack b9) fs l = absurd l
+lands_top R _ fs l = absurd l
 
 frame_empty : (f : Place) → is_frame f ≡ true → taken f ≡ None
 frame_empty (ProbeWorking k) e = refl
@@ -175,27 +142,13 @@ finish_free q (LeaveWait (Answer o f)) e = refl
 finish_free (Worker a b) (Await o) e = refl
 finish_free (Caller c) (Await o) e = refl
 finish_free q (RunFirst o a) e = refl
-finish_free q Resume e = tt
-finish_free q Called e = tt
-finish_free q (Answers o f d) e = tt
-finish_free q (Lacks o f) e = tt
-finish_free q (Ran t d) e = tt
-finish_free q (GiveBack m) e = tt
 finish_free (Worker a b) (Gathers o) e = refl
 finish_free (Caller c) (Gathers o) e = refl
+finish_free q _ e = tt
 
 finish_has : (q : Party) (n : Then) (t : Taken) → taken_then n ≡ Some t → Has t (finish q n)
 finish_has q (BeginFound g u) t e = e
-finish_has q (LeaveWait g) t e = absurd (cc)
-finish_has q (Await o) t e = absurd (cc)
-finish_has q (RunFirst o a) t e = absurd (cc)
-finish_has q Resume t e = absurd (cc)
-finish_has q Called t e = absurd (cc)
-finish_has q (Answers o f d) t e = absurd (cc)
-finish_has q (Lacks o f) t e = absurd (cc)
-finish_has q (Ran u d) t e = absurd (cc)
-finish_has q (GiveBack m) t e = absurd (cc)
-finish_has q (Gathers o) t e = absurd (cc)
+finish_has q _ t e = absurd (cc)
 
 settle_free : (g : PoolShape) (q : Party) (p i : ℕ) (n : Then) → taken_then n ≡ None → FreeOf (settle g q p i n)
 settle_free g q p i n e = settle_move FreeOf g q p i n (λ k d. ap taken_then d ∙ e) (finish_free q n e)
@@ -221,13 +174,7 @@ found_taken g (Some t) = refl
 
 news_taken : (n : Plan) → taken_then (after_news n) ≡ None
 news_taken (Detach p t) = refl
-news_taken (Here p t) = refl
-news_taken (Send o) = refl
-news_taken (Fork o a) = refl
-news_taken (Feed f) = refl
-news_taken (Open o) = refl
-news_taken (Enter e) = refl
-news_taken (Gather g) = refl
+news_taken _ = refl
 
 count_free : (g : PoolShape) (q : Party) (k : Count) (n : Then) → taken_then n ≡ None → FreeOf (settle_count g q k n)
 count_free g q (OfPool p) n e = settle_free g q p 0 n e
@@ -249,33 +196,21 @@ withdraw_free (Some c) n = refl
 
 feed_free : (k : Count) (f : Feeding) → taken (begin_feed k f) ≡ None
 feed_free (OfPool p) f = refl
-feed_free (OfScope c o) f = refl
-feed_free (OfCast c o) f = refl
+feed_free _ f = refl
 
 slot_free : (n : Plan) → taken (after_slot n) ≡ None
 slot_free (Detach p t) = refl
-slot_free (Here p t) = refl
-slot_free (Send o) = refl
-slot_free (Fork o a) = refl
-slot_free (Feed f) = refl
-slot_free (Open o) = refl
-slot_free (Enter e) = refl
-slot_free (Gather g) = refl
+slot_free _ = refl
 
 raise_free : (n : Plan) → is_here n ≡ false → FreeOf (after_raise n)
-raise_free (Detach p t) e = refl
 raise_free (Here p t) e = cc
-raise_free (Send o) e = refl
-raise_free (Fork o a) e = refl
 raise_free (Feed f) e = feed_free f.count f
-raise_free (Open o) e = refl
 raise_free (Enter e) d = refl
-raise_free (Gather g) e = refl
+raise_free _ e = refl
 
 cast_free : (k : Count) (c : Pieces) → (taken (begin_cast k c) ≡ None) × (taken (end_cast k c) ≡ None)
 cast_free (OfPool p) c = (refl, refl)
-cast_free (OfScope m o) c = (refl, refl)
-cast_free (OfCast m o) c = (refl, refl)
+cast_free _ c = (refl, refl)
 
 ends_free : (k : Count) → taken (ends_count k) ≡ None
 ends_free (OfPool p) = refl
@@ -373,32 +308,37 @@ option_or None = inl refl
 option_or (Some t) = inr (t, refl)
 
 -- the party's own list of taken jobs, over an act that neither pops nor begins
-pub hand_on : (h : Shape) (g : PoolShape) (q : Party) (c : Counts) (m : Part) (x : Place) (fs : List Place) → AllFrames fs → is_pop x ≡ false → is_start x ≡ false → IfSome (effect (act_of q x) h q c m) (λ r. ((taken x ≡ None) × ((taken ((after_move (next_of g q x (r.0)) fs).top) ≡ None) ⊎ (elsewhere x ≡ true))) ⊎ (taken ((after_move (next_of g q x (r.0)) fs).top) ≡ taken x))
+pub hand_on : (h : Shape) (g : PoolShape) (q : Party) (c : Counts) (m : Part) (x : Place) (fs : List Place) → AllFrames fs → is_pop x ≡ false → is_start x ≡ false → IfSome (effect (act_of q x) h q c m)
+    (λ r. ((taken x ≡ None) × ((taken ((after_move (next_of g q x (r.0)) fs).top) ≡ None) ⊎ (elsewhere x ≡ true))) ⊎ (taken ((after_move (next_of g q x (r.0)) fs).top) ≡ taken x))
 hand_on h g q c m x fs a y s = elim (option_or (taken x)) [
   | inl e ↦ elim (either (elsewhere x)) [
     | inl z ↦ if_some_all {A = Seen × Part} (λ r. ((taken x ≡ None) × ((taken ((after_move (next_of g q x (r.0)) fs).top) ≡ None) ⊎ (elsewhere x ≡ true))) ⊎ (taken ((after_move (next_of g q x (r.0)) fs).top) ≡ taken x)) (λ r. inl (e, inr z)) (effect (act_of q x) h q c m)
-    | inr z ↦ if_some_map {A = Seen × Part} (λ r. FreeOf (next_of g q x (r.0))) (λ r. ((taken x ≡ None) × ((taken ((after_move (next_of g q x (r.0)) fs).top) ≡ None) ⊎ (elsewhere x ≡ true))) ⊎ (taken ((after_move (next_of g q x (r.0)) fs).top) ≡ taken x)) (λ r t. inl (e, inl (top_after (λ y. taken y ≡ None) (next_of g q x (r.0)) fs t frame_empty a))) (effect (act_of q x) h q c m) (stays_free h g q c m x y z s e)
+    | inr z ↦ if_some_map {A = Seen × Part} (λ r. FreeOf (next_of g q x (r.0))) (λ r. ((taken x ≡ None) × ((taken ((after_move (next_of g q x (r.0)) fs).top) ≡ None) ⊎ (elsewhere x ≡ true))) ⊎ (taken ((after_move (next_of g q x (r.0)) fs).top) ≡ taken x))
+        (λ r t. inl (e, inl (top_after (λ y. taken y ≡ None) (next_of g q x (r.0)) fs t frame_empty a))) (effect (act_of q x) h q c m) (stays_free h g q c m x y z s e)
   ]
-  | inr (t, e) ↦ if_some_map {A = Seen × Part} (λ r. Has t (next_of g q x (r.0))) (λ r. ((taken x ≡ None) × ((taken ((after_move (next_of g q x (r.0)) fs).top) ≡ None) ⊎ (elsewhere x ≡ true))) ⊎ (taken ((after_move (next_of g q x (r.0)) fs).top) ≡ taken x)) (λ r l. inr (lands_top (λ y. taken y ≡ Some t) (next_of g q x (r.0)) fs l ∙ sym e)) (effect (act_of q x) h q c m) (keeps_task h g q c m x t s e)
+  | inr (t, e) ↦ if_some_map {A = Seen × Part} (λ r. Has t (next_of g q x (r.0))) (λ r. ((taken x ≡ None) × ((taken ((after_move (next_of g q x (r.0)) fs).top) ≡ None) ⊎ (elsewhere x ≡ true))) ⊎ (taken ((after_move (next_of g q x (r.0)) fs).top) ≡ taken x))
+      (λ r l. inr (lands_top (λ y. taken y ≡ Some t) (next_of g q x (r.0)) fs l ∙ sym e)) (effect (act_of q x) h q c m) (keeps_task h g q c m x t s e)
 ]
 
 -- only a look in the own deque, a steal and a push change a deque
-set_own : (l : Latch) (r j : ℕ) (h : Shape) (q : Party) (c : Counts) (m : Part) → IfSome (effect (Set l r j) h q c m) (λ r. r.1.seat.own ≡ m.seat.own)
-set_own Terminate r j h q c m = search (rules, arith)
-set_own (OfCall n) r j h q c m = search (rules, arith)
+own_act : (q : Party) (x : Place) → is_pop x ≡ false → is_thief x ≡ false → is_push x ≡ false → moves_own (act_of q x) ≡ false
+own_act (Worker a b) (ProbeWorking k) y z s = refl
+own_act q (BeginTask t) y z s = begins moves_own t (λ n. refl) (λ k i d. refl)
+own_act q (LookQueue n) y z s = looks moves_own q (plan_pool n) refl refl
+own_act q (PopWorking k) y z s = absurd (let e : true ≡ false = y in cc)
+own_act q (PopIdle k) y z s = absurd (let e : true ≡ false = y in cc)
+own_act q (JoinPop o) y z s = absurd (let e : true ≡ false = y in cc)
+own_act q YieldPop y z s = absurd (let e : true ≡ false = y in cc)
+own_act q LocalPop y z s = absurd (let e : true ≡ false = y in cc)
+own_act q (StealFrom k n) y z s = absurd (let e : true ≡ false = z in cc)
+own_act q (YieldSteal v n) y z s = absurd (let e : true ≡ false = z in cc)
+own_act q (PushJob n v) y z s = absurd (let e : true ≡ false = s in cc)
+own_act q (PushToken f v) y z s = absurd (let e : true ≡ false = s in cc)
+own_act (Worker a b) _ y z s = refl
+own_act (Caller c) _ y z s = refl
 
 pub own_same : (h : Shape) (q : Party) (c : Counts) (m : Part) (x : Place) → is_pop x ≡ false → is_thief x ≡ false → is_push x ≡ false → IfSome (effect (act_of q x) h q c m) (λ r. r.1.seat.own ≡ m.seat.own)
-own_same h (Worker a b) c m (ProbeWorking k) y z s = search (rules, arith)
-own_same h q c m (SetLatch k) y z s = set_own k.latch k.pool k.worker h q c m
-own_same h q c m (BeginTask (Plain t)) y z s = refl
-own_same h q c m (BeginTask (Token k i b8)) y z s = out_sees (λ r. r.1.seat.own ≡ m.seat.own) q m b8 refl (λ u us e. refl)
-own_same h (Worker a b) c m (AddToFifo f) y z s = if_cond (λ (r : Seen × Part). r.1.seat.own ≡ m.seat.own) (is_open (Worker a b) (m.seat.feeder (count_book f.count))) _ (λ o. refl)
-own_same h (Caller n) c m (AddToFifo f) y z s = tt
-own_same h (Worker a b) c m (TakeFromFifo f) y z s = undo_sees (λ r. r.1.seat.own ≡ m.seat.own) (Worker a b) m (count_book f.count) refl (λ u e. refl)
-own_same h (Caller n) c m (TakeFromFifo f) y z s = tt
-own_same h q c m (PushToken f v) y z s = cc
-own_same h (Worker a b) c m _ y z s = search (rules, arith)
-own_same h (Caller n) c m _ y z s = search (rules, arith)
+own_same h q c m x y z s = if_some_map (LeftAlone (act_of q x) m) (λ r. r.1.seat.own ≡ m.seat.own) (λ r t. t.own (own_act q x y z s)) (effect (act_of q x) h q c m) (act_spared (act_of q x) h q c m)
 
 -- a push elsewhere
 push_away : (h : Shape) (q : Party) (c : Counts) (m : Part) (n : Plan) (v : Bool) → is_member q (plan_pool n) ≡ false → IfSome (effect (act_of q (PushJob n v)) h q c m) (λ r. r.1.seat.own ≡ m.seat.own)
@@ -438,14 +378,17 @@ seat_own f a b p i s e = at ((p == a) && (i == b)) refl
 
 -- the deque of a worker over any act that changes none
 pub quiet_own : (w : World) (q : Party) (k : Stack) (p i : ℕ) → is_pop k.top ≡ false → is_thief k.top ≡ false → is_push k.top ≡ false → IfSome (outcome w q k) (λ r. ((result w q k r).seat p i).own ≡ (w.seat p i).own)
-quiet_own w q k p i y z s = if_some_map {A = Seen × Part} (λ r. r.1.seat.own ≡ (part_at w q k).seat.own) (λ r. ((result w q k r).seat p i).own ≡ (w.seat p i).own) (λ r e. seat_own w.seat (target_pool q (act_of q k.top)) (target_worker q (act_of q k.top)) p i (r.1.seat) e) (outcome w q k) (own_same w.shape q (counts_seen w q k) (part_at w q k) k.top y z s)
+quiet_own w q k p i y z s = if_some_map {A = Seen × Part} (λ r. r.1.seat.own ≡ (part_at w q k).seat.own) (λ r. ((result w q k r).seat p i).own ≡ (w.seat p i).own) (λ r e. seat_own w.seat (target_pool q (act_of q k.top)) (target_worker q (act_of q k.top)) p i (r.1.seat) e) (outcome w q k)
+    (own_same w.shape q (counts_seen w q k) (part_at w q k) k.top y z s)
 
 -- the deque of a worker over what another party does
 abbrev Spared : World → Party → Stack → ℕ → ℕ → Type 0
 Spared w q k p i = IfSome (outcome w q k) (λ r. ((result w q k r).seat p i).own ≡ (w.seat p i).own)
 
 away : (w : World) (a b p i : ℕ) (k : Stack) → same_party (Worker p i) (Worker a b) ≡ false → target_pool (Worker a b) (act_of (Worker a b) k.top) ≡ a → target_worker (Worker a b) (act_of (Worker a b) k.top) ≡ b → Spared w (Worker a b) k p i
-away w a b p i k d ea eb = if_some_all {A = Seen × Part} (λ r. ((result w (Worker a b) k r).seat p i).own ≡ (w.seat p i).own) (λ r. ap (λ s. s.own) (seat_away w.seat (target_pool (Worker a b) (act_of (Worker a b) k.top)) (target_worker (Worker a b) (act_of (Worker a b) k.top)) p i (r.1.seat) (ap (λ n. (p == n) && (i == target_worker (Worker a b) (act_of (Worker a b) k.top))) ea ∙ ap (λ n. (p == a) && (i == n)) eb ∙ d))) (outcome w (Worker a b) k)
+away w a b p i k d ea eb = if_some_all {A = Seen × Part} (λ r. ((result w (Worker a b) k r).seat p i).own ≡ (w.seat p i).own)
+    (λ r. ap (λ s. s.own) (seat_away w.seat (target_pool (Worker a b) (act_of (Worker a b) k.top)) (target_worker (Worker a b) (act_of (Worker a b) k.top)) p i (r.1.seat)
+    (ap (λ n. (p == n) && (i == target_worker (Worker a b) (act_of (Worker a b) k.top))) ea ∙ ap (λ n. (p == a) && (i == n)) eb ∙ d))) (outcome w (Worker a b) k)
 
 pop_other : (w : World) (q : Party) (x : Place) (fs : List Place) (p i : ℕ) → is_pop x ≡ true → same_party (Worker p i) q ≡ false → Spared w q (record { top = x; below = fs }) p i
 pop_other w (Worker a b) (PopWorking k) fs p i z d = away w a b p i (record { top = PopWorking k; below = fs }) d refl refl
@@ -461,7 +404,9 @@ pop_other w (Caller n) LocalPop fs p i z d = tt
 pop_other w q _ fs p i z d = cc
 
 steal_away : (w : World) (a b p i : ℕ) (k : Stack) → (p == a) ≡ false → target_pool (Worker a b) (act_of (Worker a b) k.top) ≡ a → Spared w (Worker a b) k p i
-steal_away w a b p i k d ea = if_some_all {A = Seen × Part} (λ r. ((result w (Worker a b) k r).seat p i).own ≡ (w.seat p i).own) (λ r. ap (λ s. s.own) (seat_away w.seat (target_pool (Worker a b) (act_of (Worker a b) k.top)) (target_worker (Worker a b) (act_of (Worker a b) k.top)) p i (r.1.seat) (ap (λ n. (p == n) && (i == target_worker (Worker a b) (act_of (Worker a b) k.top))) ea ∙ ap (λ z. z && (i == target_worker (Worker a b) (act_of (Worker a b) k.top))) d))) (outcome w (Worker a b) k)
+steal_away w a b p i k d ea = if_some_all {A = Seen × Part} (λ r. ((result w (Worker a b) k r).seat p i).own ≡ (w.seat p i).own)
+    (λ r. ap (λ s. s.own) (seat_away w.seat (target_pool (Worker a b) (act_of (Worker a b) k.top)) (target_worker (Worker a b) (act_of (Worker a b) k.top)) p i (r.1.seat)
+    (ap (λ n. (p == n) && (i == target_worker (Worker a b) (act_of (Worker a b) k.top))) ea ∙ ap (λ z. z && (i == target_worker (Worker a b) (act_of (Worker a b) k.top))) d))) (outcome w (Worker a b) k)
 
 -- a thief of another pool
 thief_other : (w : World) (q : Party) (x : Place) (fs : List Place) (p i : ℕ) → is_thief x ≡ true → ((b : ℕ) → q ≡ Worker p b → is_thief x ≡ false) → Spared w q (record { top = x; below = fs }) p i
@@ -488,11 +433,14 @@ thief_other w (Caller n) x fs p i z f = at x z
 push_other : (w : World) (q : Party) (n : Plan) (v : Bool) (fs : List Place) (p i : ℕ) → same_party (Worker p i) q ≡ false → Spared w q (record { top = PushJob n v; below = fs }) p i
 push_other w q n v fs p i d = elim (either (is_member q (plan_pool n))) [
   | inl e ↦ mine q d e
-  | inr e ↦ if_some_map {A = Seen × Part} (λ r. r.1.seat.own ≡ (part_at w q (record { top = PushJob n v; below = fs })).seat.own) (λ r. ((result w q (record { top = PushJob n v; below = fs }) r).seat p i).own ≡ (w.seat p i).own) (λ r s. seat_own w.seat (target_pool q (act_of q (PushJob n v))) (target_worker q (act_of q (PushJob n v))) p i (r.1.seat) s) (outcome w q (record { top = PushJob n v; below = fs })) (push_away w.shape q (counts_seen w q (record { top = PushJob n v; below = fs })) (part_at w q (record { top = PushJob n v; below = fs })) n v e)
+  | inr e ↦ if_some_map {A = Seen × Part} (λ r. r.1.seat.own ≡ (part_at w q (record { top = PushJob n v; below = fs })).seat.own) (λ r. ((result w q (record { top = PushJob n v; below = fs }) r).seat p i).own ≡ (w.seat p i).own)
+      (λ r s. seat_own w.seat (target_pool q (act_of q (PushJob n v))) (target_worker q (act_of q (PushJob n v))) p i (r.1.seat) s) (outcome w q (record { top = PushJob n v; below = fs }))
+      (push_away w.shape q (counts_seen w q (record { top = PushJob n v; below = fs })) (part_at w q (record { top = PushJob n v; below = fs })) n v e)
 ]
   where
     mine : (q : Party) → same_party (Worker p i) q ≡ false → is_member q (plan_pool n) ≡ true → Spared w q (record { top = PushJob n v; below = fs }) p i
-    mine (Worker a b) d e = away w a b p i (record { top = PushJob n v; below = fs }) d (ap (λ z. target_pool (Worker a b) (if z then PushOwn (plan_job n) (plan_book n) else PushInj (plan_pool n) (plan_job n) (plan_book n))) e) (ap (λ z. target_worker (Worker a b) (if z then PushOwn (plan_job n) (plan_book n) else PushInj (plan_pool n) (plan_job n) (plan_book n))) e)
+    mine (Worker a b) d e = away w a b p i (record { top = PushJob n v; below = fs }) d (ap (λ z. target_pool (Worker a b) (if z then PushOwn (plan_job n) (plan_book n) else PushInj (plan_pool n) (plan_job n) (plan_book n))) e)
+        (ap (λ z. target_worker (Worker a b) (if z then PushOwn (plan_job n) (plan_book n) else PushInj (plan_pool n) (plan_job n) (plan_book n))) e)
     mine (Caller m) d e = cc
 
 other_push : (w : World) (q : Party) (x : Place) (fs : List Place) (p i : ℕ) → is_push x ≡ true → same_party (Worker p i) q ≡ false → Spared w q (record { top = x; below = fs }) p i

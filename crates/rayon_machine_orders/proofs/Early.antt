@@ -12,20 +12,8 @@
 -- So while a scope's count is not 0 its body keeps its share of the pool (`not_given` of EarlyActs). Then the pool's
 -- count is not 0.
 use Rattle.std.proofs.Common.{arith, refl, sym, ◌∙◌, ap, inl, inr}
-use Rattle.std.specs.Prelude.{ℕ, zero, suc, Bool, true, false, ◌+◌, ◌==◌, ◌≤◌, ◌<◌, List, ◌≡◌, ◌⊎◌, IfSome}
-use Rattle.std.proofs.lemmas.Bool.{eqb-true, ltb-true, ltb-false}
-use Rattle.std.proofs.Math.Dec.{ltb}
-use Rattle.rayon_machine_places.specs.declared.place.Party.{Party}
-use Rattle.rayon_machine_places.specs.declared.place.JobKind.{JobKind}
-use Rattle.rayon_machine_places.specs.declared.place.JobKind.TheVariants.{Scoped, PieceOf}
-use Rattle.rayon_machine_places.specs.declared.place.Place.TheVariants.{YieldPop, LocalPop}
-use Rattle.rayon_machine_places.specs.declared.event.Event.{Event}
-use Rattle.rayon_machine_places.specs.declared.event.Event.TheVariants.{Go, From, Refuse, Miss, End, Spawn, Fifo, Cast, Install, Join, Scope as OpenScope, IntoSpawn, Yield, YieldLocal, EndPool, IntoFifo, IntoCast, Broadcast}
-use Rattle.rayon_machine_places.specs.World.{Shape, World}
-use Rattle.rayon_machine_places.specs.Steps.{step}
-use Rattle.rayon_machine_places.specs.Runs.{start, IsRun}
-use Rattle.rayon_machine_laws.specs.Once.{one}
-use Rattle.rayon_machine_laws.specs.Shares.{is_busy, is_scoped, NoEarlyEnd}
+use Rattle.rayon_machine_orders.proofs.Words.{ℕ, zero, suc, Bool, true, false, ◌+◌, ◌==◌, ◌≤◌, ◌<◌, List, ◌≡◌, ◌⊎◌, IfSome, eqb-true, ltb-true, ltb-false, ltb, Party, JobKind, Scoped, PieceOf, Event, Go, Shape, World, step, start, IsRun, one, is_busy, ScopeEnded, has_body, is_of_scope, is_done}
+use Rattle.rayon_machine_laws.specs.Shares.{is_scoped, NoEarlyEnd}
 use Rattle.rayon_machine_laws.proofs.Frame.{either, if_some_and, if_some_map}
 use Rattle.rayon_machine_laws.proofs.Events.{run_keeps}
 use Rattle.rayon_machine_laws.proofs.PlacedRuns.{step_advance}
@@ -39,38 +27,22 @@ use Rattle.rayon_machine_laws.proofs.ShareEnds.{gone, job_uncounted}
 use Rattle.rayon_machine_laws.proofs.Scoping.{ScopesHold, entry, entry_on, entry_kept}
 use Rattle.rayon_machine_laws.proofs.Enters.{EntersHold}
 use Rattle.rayon_machine_laws.proofs.Spawned.{through}
-use Rattle.rayon_machine_laws.specs.Counted.{ScopeEnded, has_body, is_of_scope}
-use Rattle.rayon_machine_places.specs.Readers.{is_done}
 use Rattle.rayon_machine_orders.proofs.FilledStates.{FilledHold, done_ended, unmade_ended}
 use Rattle.rayon_machine_orders.proofs.Filled.{step_fills, first_fills}
 use Rattle.rayon_machine_orders.proofs.CallSteps.{go_all}
 use Rattle.rayon_machine_orders.proofs.EarlyStates.{Entered, EarlyHold}
-use Rattle.rayon_machine_orders.proofs.EarlyEvents.{Next, early_next, from_next, refuse_next, miss_next, end_next, spawn_next, fifo_next, cast_next, install_next, join_next, scope_next, into_next, into_fifo_next, into_cast_next, gather_next, yield_next, give_next}
+use Rattle.rayon_machine_orders.proofs.EarlyEvents.{early_cases, early_next, Next}
 use Rattle.rayon_machine_orders.proofs.EarlyActs.{go_early}
+use Rattle.rayon_machine_orders.proofs.EventCases.{by_cases}
 
 event_next : (w : World) (e : Event) → EarlyHold w → IfSome (step w e) (Next w) → IfSome (step w e) EarlyHold
 event_next w e h n = if_some_map (λ u. (FilledHold u × Advance w u) × Next w u) EarlyHold (λ u d. early_next w u h ((d.0).0) ((d.0).1) (d.1)) (step w e)
-    (if_some_and (λ u. FilledHold u × Advance w u) (Next w) (step w e) (if_some_and FilledHold (Advance w) (step w e) (step_fills w e (h.fills)) (step_advance w e (unqueued w (((h.fills).hold).calls)) (((((h.fills).hold).calls).jobs).feeds) (((((h.fills).hold).calls).jobs).ok) (((((h.fills).hold).calls).jobs).unmade))) n)
+    (if_some_and (λ u. FilledHold u × Advance w u) (Next w) (step w e)
+    (if_some_and FilledHold (Advance w) (step w e) (step_fills w e (h.fills)) (step_advance w e (unqueued w (((h.fills).hold).calls)) (((((h.fills).hold).calls).jobs).feeds) (((((h.fills).hold).calls).jobs).ok) (((((h.fills).hold).calls).jobs).unmade))) n)
 
 pub step_early : (w : World) (e : Event) → EarlyHold w → IfSome (step w e) EarlyHold
 step_early w (Go q) h = go_all EarlyHold w q (go_early w q h)
-step_early w (From q v) h = event_next w (From q v) h (from_next w q ((w.stack q).top) ((w.stack q).below) v)
-step_early w (Refuse q) h = event_next w (Refuse q) h (refuse_next w q ((w.stack q).top) ((w.stack q).below))
-step_early w (Miss q) h = event_next w (Miss q) h (miss_next w q ((w.stack q).top) ((w.stack q).below))
-step_early w (End q d) h = event_next w (End q d) h (end_next w q d ((w.stack q).top) ((w.stack q).below))
-step_early w (Spawn q p) h = event_next w (Spawn q p) h (spawn_next w q p)
-step_early w (Fifo q p) h = event_next w (Fifo q p) h (fifo_next w q p)
-step_early w (Cast q p) h = event_next w (Cast q p) h (cast_next w q p)
-step_early w (Install q p) h = event_next w (Install q p) h (install_next w q p)
-step_early w (Join q) h = event_next w (Join q) h (join_next w q)
-step_early w (OpenScope q p) h = event_next w (OpenScope q p) h (scope_next w q p)
-step_early w (IntoSpawn q n) h = event_next w (IntoSpawn q n) h (into_next w q n h)
-step_early w (IntoFifo q n) h = event_next w (IntoFifo q n) h (into_fifo_next w q n h)
-step_early w (IntoCast q n) h = event_next w (IntoCast q n) h (into_cast_next w q n h)
-step_early w (Broadcast q p) h = event_next w (Broadcast q p) h (gather_next w q p)
-step_early w (Yield q) h = event_next w (Yield q) h (yield_next w q YieldPop)
-step_early w (YieldLocal q) h = event_next w (YieldLocal q) h (yield_next w q LocalPop)
-step_early w (EndPool q p) h = event_next w (EndPool q p) h (give_next w q p)
+step_early w e h = event_next w e h (by_cases w (Next w) (early_cases w h) e refl)
 
 pub first_early : (h : Shape) → EarlyHold (start h)
 first_early h = record {

@@ -4,37 +4,10 @@
 -- of the pool's while one of them has its own. The pieces get theirs all at once, as they come into their lists
 -- (`gained_piece`). Meanwhile their call keeps the pool's share.
 use Rattle.std.proofs.Common.{arith, refl, sym, ◌∙◌, ap, subst, inl, inr}
-use Rattle.std.specs.Prelude.{ℕ, Bool, true, false, ◌+◌, ◌-◌, ◌==◌, ◌≤◌, ◌<◌, if◌then◌else◌, Option, Some, None, List, ◌≡◌, ◌⊎◌, IfSome}
-use Rattle.std.proofs.lemmas.Bool.{eqb-true, ltb-true, ltb-false}
-use Rattle.std.proofs.Math.Dec.{ltb}
-use Rattle.rayon_machine_places.specs.declared.place.Party.{Party}
-use Rattle.rayon_machine_places.specs.declared.place.Party.TheVariants.{Worker, Caller}
-use Rattle.rayon_machine_places.specs.declared.place.Ending.{Ending}
-use Rattle.rayon_machine_places.specs.declared.place.JobKind.{JobKind}
-use Rattle.rayon_machine_places.specs.declared.place.JobKind.TheVariants.{Detached, Stored, Direct, Scoped, BodyOf, PieceOf, WholeOf}
-use Rattle.rayon_machine_places.specs.declared.place.OpenCall.{OpenCall}
-use Rattle.rayon_machine_places.specs.declared.place.Plan.{Plan}
-use Rattle.rayon_machine_places.specs.declared.place.Plan.TheVariants.{Detach, Here, Send, Fork, Feed, Open, Enter, Gather}
-use Rattle.rayon_machine_places.specs.declared.place.Pieces.{Pieces}
-use Rattle.rayon_machine_places.specs.declared.place.Gathering.{Gathering}
-use Rattle.rayon_machine_places.specs.declared.place.Mark.{Mark as Marking}
-use Rattle.rayon_machine_places.specs.declared.place.Mark.TheVariants.{Counted, Returned, Dealt}
-use Rattle.rayon_machine_places.specs.declared.place.Count.{Count}
-use Rattle.rayon_machine_places.specs.declared.place.Count.TheVariants.{OfPool, OfScope, OfCast}
-use Rattle.rayon_machine_places.specs.declared.place.Share.TheVariants.{PoolValue, OfJob, Body}
-use Rattle.rayon_machine_places.specs.declared.place.Then.{Then}
-use Rattle.rayon_machine_places.specs.declared.place.Then.TheVariants.{BeginFound, LeaveWait, Resume, Await, RunFirst, Answers, Missing, Ran, GiveBack, Called, Gathers}
-use Rattle.rayon_machine_places.specs.declared.place.Place.{Place}
-use Rattle.rayon_machine_places.specs.declared.place.Place.TheVariants.{RaiseCount, LowerCount, RaiseForAll, LowerForAll, DealPieces}
-use Rattle.rayon_machine_places.specs.declared.act.Seen.{Seen}
-use Rattle.rayon_machine_places.specs.declared.act.Seen.TheVariants.{Done, Refused, Yes, No}
-use Rattle.rayon_machine_places.specs.declared.state.Whereabouts.TheVariants.{Made, Spent}
-use Rattle.rayon_machine_places.specs.declared.state.Job.{Job}
-use Rattle.rayon_machine_places.specs.Places.{plan_job, plan_count, act_of, next_of, count_kind}
-use Rattle.rayon_machine_places.specs.World.{World, Part, counts_at, count_in, count_pool, target_pool}
-use Rattle.rayon_machine_places.specs.Steps.{put, is_piece, mark_pieces, marked}
-use Rattle.rayon_machine_laws.specs.Once.{one}
-use Rattle.rayon_machine_laws.specs.Shares.{shares_in, shares}
+use Rattle.rayon_machine_orders.proofs.Words.{ℕ, Bool, true, false, ◌+◌, ◌-◌, ◌==◌, ◌≤◌, ◌<◌, if◌then◌else◌, Option, Some, None, List, ◌≡◌, ◌⊎◌, IfSome, eqb-true, ltb-true, ltb-false, ltb, Party, Worker, Caller, Ending, JobKind, Detached, Stored, Direct, Scoped, BodyOf, PieceOf, WholeOf}
+use Rattle.rayon_machine_orders.proofs.Words.{OpenCall, Plan, Detach, Here, Send, Fork, Feed, Open, Enter, Gather, Pieces, Gathering, Marking, Counted, Returned, Dealt, Count, OfPool, OfScope, OfCast, PoolValue, OfJob, Body, Then, BeginFound, LeaveWait, Resume, Await, RunFirst, Answers, Missing}
+use Rattle.rayon_machine_orders.proofs.Words.{Ran, GiveBack, Called, Gathers, Place, RaiseCount, LowerCount, RaiseForAll, LowerForAll, DealPieces, Seen, Done, Refused, Yes, No, Made, Spent, Job, plan_job, plan_count, act_of, next_of, count_kind, World, Part, counts_at, count_in, count_pool}
+use Rattle.rayon_machine_orders.proofs.Words.{target_pool, put, is_piece, mark_pieces, marked, one, shares_in, shares, has_body}
 use Rattle.rayon_machine_laws.proofs.Frame.{either, is_sharing, if_some_and, if_some_map, put_same, piece_old, piece_in}
 use Rattle.rayon_machine_laws.proofs.Ties.{job_at, outcome, result}
 use Rattle.rayon_machine_laws.proofs.Hands.{is_gather}
@@ -51,7 +24,6 @@ use Rattle.rayon_machine_laws.proofs.ShareSteps.{Ready, self_one}
 use Rattle.rayon_machine_laws.proofs.ShareLowers.{returned_jobs}
 use Rattle.rayon_machine_laws.proofs.ShareEvents.{ready}
 use Rattle.rayon_machine_laws.proofs.Scoping.{entry, entry_on}
-use Rattle.rayon_machine_laws.specs.Counted.{has_body}
 use Rattle.rayon_machine_orders.proofs.Takes.{seen_set, says_missing}
 use Rattle.rayon_machine_orders.proofs.FilledActs.{go_fills}
 use Rattle.rayon_machine_orders.proofs.FilledStates.{FilledHold}
@@ -82,7 +54,8 @@ put_stays w (Caller i) (LowerCount p Body n) fs t y g c = put_same (λ j. j.coun
 put_stays w q (RaiseForAll b) fs t y g c = cc
 put_stays w q (LowerForAll b) fs t y g c = cc
 put_stays w q (DealPieces b) fs t y g c = cc
-put_stays w q x fs t y g c = if_some_map (Untallied (place_part w q x)) (λ r. (put w.job (job_at w q (act_of q x)) (r.1.job) t).counted ≡ true) (λ r k. put_same (λ j. j.counted) w.job (job_at w q (act_of q x)) (r.1.job) t k.job ∙ c) (outcome w q (record { top = x; below = fs })) (act_untallied w.shape q (counts_at w (target_pool q (act_of q x))) (place_part w q x) x refl)
+put_stays w q x fs t y g c = if_some_map (Untallied (place_part w q x)) (λ r. (put w.job (job_at w q (act_of q x)) (r.1.job) t).counted ≡ true) (λ r k. put_same (λ j. j.counted) w.job (job_at w q (act_of q x)) (r.1.job) t k.job ∙ c) (outcome w q (record { top = x; below = fs }))
+    (act_untallied w.shape q (counts_at w (target_pool q (act_of q x))) (place_part w q x) x refl)
 
 marked_stays : (w : World) (b : Pieces) (k : Marking) (t : ℕ) → is_piece b t ≡ false → (w.job t).counted ≡ true → (mark_pieces b k (put w.job 0 (w.job 0)) t).counted ≡ true
 marked_stays w b k t n c = ap (λ j. j.counted) (piece_old b (marked k b.pool) (put w.job 0 (w.job 0)) t n) ∙ put_same (λ j. j.counted) w.job 0 (w.job 0) t refl ∙ c
@@ -96,13 +69,18 @@ deal_stays w g n j t e c = by (is_piece g.pieces t)
     by false = put_same (λ j. j.counted) w.job n j t e ∙ c
 
 act_stays : (w : World) (q : Party) (x : Place) (fs : List Place) (t : ℕ) → w.stack q ≡ record { top = x; below = fs } → SharesHold w → NotGiven x t → (w.job t).counted ≡ true → IfSome (outcome w q (record { top = x; below = fs })) (λ r. ((world_after w q x fs r).job t).counted ≡ true)
-act_stays w (Worker i j) (RaiseForAll b) fs t z h g c = all_cases (λ r. ((world_after w (Worker i j) (RaiseForAll b) fs r).job t).counted ≡ true) (Refused, place_part w (Worker i j) (RaiseForAll b)) _ (marked_stays w b Returned t (g.1 b (inl refl)) c) (marked_stays w b Counted t (g.1 b (inl refl)) c) (count_in (place_part w (Worker i j) (RaiseForAll b)) b.count == 0)
-act_stays w (Caller m) (RaiseForAll b) fs t z h g c = all_cases (λ r. ((world_after w (Caller m) (RaiseForAll b) fs r).job t).counted ≡ true) (Refused, place_part w (Caller m) (RaiseForAll b)) _ (marked_stays w b Returned t (g.1 b (inl refl)) c) (marked_stays w b Counted t (g.1 b (inl refl)) c) (count_in (place_part w (Caller m) (RaiseForAll b)) b.count == 0)
-act_stays w (Worker i j) (LowerForAll b) fs t z h g c = ap (λ v. (v t).counted) (returned_jobs (w.shape.pool (count_pool (Worker i j) b.count)) (Worker i j) b (if count_in (place_part w (Worker i j) (LowerForAll b)) b.count == b.workers then Yes else No) (put w.job 0 (w.job 0))) ∙ marked_stays w b Returned t (g.1 b (inr refl)) c
-act_stays w (Caller m) (LowerForAll b) fs t z h g c = ap (λ v. (v t).counted) (returned_jobs (w.shape.pool (count_pool (Caller m) b.count)) (Caller m) b (if count_in (place_part w (Caller m) (LowerForAll b)) b.count == b.workers then Yes else No) (put w.job 0 (w.job 0))) ∙ marked_stays w b Returned t (g.1 b (inr refl)) c
+act_stays w (Worker i j) (RaiseForAll b) fs t z h g c = all_cases (λ r. ((world_after w (Worker i j) (RaiseForAll b) fs r).job t).counted ≡ true) (Refused, place_part w (Worker i j) (RaiseForAll b)) _ (marked_stays w b Returned t (g.1 b (inl refl)) c)
+    (marked_stays w b Counted t (g.1 b (inl refl)) c) (count_in (place_part w (Worker i j) (RaiseForAll b)) b.count == 0)
+act_stays w (Caller m) (RaiseForAll b) fs t z h g c = all_cases (λ r. ((world_after w (Caller m) (RaiseForAll b) fs r).job t).counted ≡ true) (Refused, place_part w (Caller m) (RaiseForAll b)) _ (marked_stays w b Returned t (g.1 b (inl refl)) c)
+    (marked_stays w b Counted t (g.1 b (inl refl)) c) (count_in (place_part w (Caller m) (RaiseForAll b)) b.count == 0)
+act_stays w (Worker i j) (LowerForAll b) fs t z h g c = ap (λ v. (v t).counted) (returned_jobs (w.shape.pool (count_pool (Worker i j) b.count)) (Worker i j) b (if count_in (place_part w (Worker i j) (LowerForAll b)) b.count == b.workers then Yes else No) (put w.job 0 (w.job 0)))
+    ∙ marked_stays w b Returned t (g.1 b (inr refl)) c
+act_stays w (Caller m) (LowerForAll b) fs t z h g c = ap (λ v. (v t).counted) (returned_jobs (w.shape.pool (count_pool (Caller m) b.count)) (Caller m) b (if count_in (place_part w (Caller m) (LowerForAll b)) b.count == b.workers then Yes else No) (put w.job 0 (w.job 0)))
+    ∙ marked_stays w b Returned t (g.1 b (inr refl)) c
 act_stays w (Worker i j) (DealPieces d) fs t z h g c = deal_stays w d (job_at w (Worker i j) (act_of (Worker i j) (DealPieces d))) _ t refl c
 act_stays w (Caller m) (DealPieces d) fs t z h g c = deal_stays w d (job_at w (Caller m) (act_of (Caller m) (DealPieces d))) _ t refl c
-act_stays w q x fs t z h g c = if_some_map (λ r. ((put w.job (job_at w q (act_of q x)) (r.1.job) t).counted ≡ true) × (is_sharing (next_of (w.shape.pool (target_pool q (act_of q x))) q x (r.0)) ≡ false)) (λ r. ((world_after w q x fs r).job t).counted ≡ true) (λ r f. counts_on w q x fs r t z (h.unraised) (f.1) c (f.0)) (outcome w q (record { top = x; below = fs }))
+act_stays w q x fs t z h g c = if_some_map (λ r. ((put w.job (job_at w q (act_of q x)) (r.1.job) t).counted ≡ true) × (is_sharing (next_of (w.shape.pool (target_pool q (act_of q x))) q x (r.0)) ≡ false)) (λ r. ((world_after w q x fs r).job t).counted ≡ true)
+    (λ r f. counts_on w q x fs r t z (h.unraised) (f.1) c (f.0)) (outcome w q (record { top = x; below = fs }))
     (if_some_and (λ r. (put w.job (job_at w q (act_of q x)) (r.1.job) t).counted ≡ true) (λ r. is_sharing (next_of (w.shape.pool (target_pool q (act_of q x))) q x (r.0)) ≡ false) (outcome w q (record { top = x; below = fs })) (put_stays w q x fs t refl g c) (all_steady w q x refl))
 
 -- the jobs of a refused call, but for one that was in a FIFO list, are as it made them
@@ -155,14 +133,11 @@ not_given w q t c o (OfPool p) n fs h e m z s y = by n z s (y.2)
         let k : all_fed (plan_job g) (w.stack q) ≡ (fed_back (plan_job g) g + fed_in (plan_job g) fs) = ap (all_fed (plan_job g)) z in
         let a : (w.job (plan_job g)).at ≡ Made q = ((((h.fills).hold).calls).jobs).feeds q (plan_job g) (omega (arith, f, k)) in
         let b : true ≡ false = sym (e.left) ∙ ap (λ b. is_left (w.job b).at) (sym (y.0)) ∙ ap is_left a in cc
-    by (BeginFound g x) z s y = y
-    by (LeaveWait g) z s y = y
-    by (Await d) z s y = y
-    by (RunFirst d a) z s y = y
-    by (Gathers d) z s y = y
+    by _ z s y = y
 
 -- nor does a broadcast a piece of which has a share
-cast_given : (w : World) (q : Party) (t c : ℕ) (o : Party) (k : Count) (n : Then) (fs : List Place) → EarlyHold w → t + 1 ≤ w.jobs → (w.job t).kind ≡ PieceOf c o → (w.job t).counted ≡ true → w.stack q ≡ record { top = LowerCount k (OfJob ((w.call c).job)) n; below = fs } → SaysThen w q n → SaysShare w k (OfJob ((w.call c).job)) n → ⊥
+cast_given : (w : World) (q : Party) (t c : ℕ) (o : Party) (k : Count) (n : Then) (fs : List Place) → EarlyHold w → t + 1 ≤ w.jobs → (w.job t).kind ≡ PieceOf c o → (w.job t).counted ≡ true → w.stack q ≡ record { top = LowerCount k (OfJob ((w.call c).job)) n; below = fs } → SaysThen w q n
+    → SaysShare w k (OfJob ((w.call c).job)) n → ⊥
 cast_given w q t c o (OfScope d r) n fs h l e m z s y = let a : Scoped d r ≡ WholeOf c o = sym (y.1) ∙ ((((h.fills).hold).calls).parts t l c o e).kind in cc
 cast_given w q t c o (OfCast d r) n fs h l e m z s y = let a : PieceOf d r ≡ WholeOf c o = sym (y.1) ∙ ((((h.fills).hold).calls).parts t l c o e).kind in cc
 cast_given w q t c o (OfPool p) n fs h l e m z s y = by n z s (y.2)
@@ -237,16 +212,11 @@ cast_given w q t c o (OfPool p) n fs h l e m z s y = by n z s (y.2)
     by (Missing d f) z s y = let a : true ≡ false = ap (λ k. says_missing (k.top)) (sym z) ∙ (h.fills).found q in cc
     by (Ran u d) z s y = let a : Direct ≡ WholeOf c o = sym (y.1) ∙ part.kind in cc
     by (GiveBack g) z s y = back g (is_gather g) refl z s (y.0)
-    by (BeginFound g x) z s y = y
-    by (LeaveWait g) z s y = y
-    by (Await d) z s y = y
-    by (Gathers d) z s y = y
-    by (RunFirst d a) z s y = y
+    by _ z s y = y
 
 bare_count : (k : Count) → is_body (count_kind k) ≡ false
 bare_count (OfPool p) = refl
-bare_count (OfScope c o) = refl
-bare_count (OfCast c o) = refl
+bare_count _ = refl
 
 -- a job that no broadcast made
 no_piece : (w : World) (b : Pieces) (t : ℕ) → SaysPieces w b → is_body (w.job t).kind ≡ true → (d : Bool) → is_piece b t ≡ d → d ≡ false
@@ -290,24 +260,24 @@ open_apart (WholeOf c o) e = refl
 open_apart _ e = absurd (cc)
 
 known_apart : (w : World) (k : Count) (p : ℕ) → KnownCount w k p → is_part (count_kind k) ≡ false
-known_apart w (OfPool r) p s = refl
-known_apart w (OfScope c o) p s = refl
 known_apart w (OfCast c o) p s = absurd s
+known_apart w _ p s = refl
 
 plan_apart : (w : World) (q : Party) (n : Plan) → SaysPlan w q n → is_part (w.job (plan_job n)).kind ≡ false
-plan_apart w q (Detach p t) s = ap is_part (s.kind)
-plan_apart w q (Here p t) s = ap is_part (s.kind)
 plan_apart w q (Send o) s = open_apart ((w.job o.job).kind) ((s.0).kind)
 plan_apart w q (Open o) s = open_apart ((w.job o.job).kind) ((s.0).kind)
 plan_apart w q (Fork o a) s = open_apart ((w.job o.job).kind) ((s.0).kind)
 plan_apart w q (Enter e) s = ap is_part ((s.0).kind)
 plan_apart w q (Gather g) s = ap is_part (s.whole)
 plan_apart w q (Feed f) s = ap is_part ((s.0).kind) ∙ known_apart w f.count f.pool (s.3)
+plan_apart w q _ s = ap is_part (s.kind)
 
 gained_piece : (w : World) (q : Party) (t c : ℕ) (o : Party) (x : Place) (fs : List Place) (e : Seen) → CallsHold w → SharesHold w → t + 1 ≤ w.jobs → (w.job t).kind ≡ PieceOf c o → w.stack q ≡ record { top = x; below = fs } → 1 ≤ gained t x e → (w.job (w.call c).job).counted ≡ true
 gained_piece w q t c o (RaiseCount n) fs Done h s l k z m = absurd (let i : t ≡ plan_job n = eqb-true t (plan_job n) (one_is (t == plan_job n) m) in let a : true ≡ false = sym (ap is_part k) ∙ ap (λ b. is_part (w.job b).kind) i ∙ plan_apart w q n (top_says w q (RaiseCount n) fs h z) in cc)
 gained_piece w q t c o (RaiseForAll b) fs Done h s l k z m = absurd (let y : SaysCast w b = top_says w q (RaiseForAll b) fs h z in let a : true ≡ false = sym (ap is_part k) ∙ ap is_part ((y.0 t (one_is (is_piece b t) m)).kind) ∙ known_apart w b.count b.pool (y.1) in cc)
-gained_piece w q t c o (DealPieces g) fs Done h s l k z m = subst (λ b. (w.job b).counted ≡ true) (sym same) (one_is ((w.job g.call.job).counted) (let a : shares g.call.job (w.stack q) + with_job (w.job g.call.job) ≤ one (w.job g.call.job).counted = (s.jobs g.call.job).alone q in let b : shares g.call.job (w.stack q) ≡ (one (g.call.job == g.call.job) + shares_in g.call.job fs) = ap (shares g.call.job) z in let d : one (g.call.job == g.call.job) ≡ 1 = self_one g.call.job in omega (arith, a, b, d)))
+gained_piece w q t c o (DealPieces g) fs Done h s l k z m = subst (λ b. (w.job b).counted ≡ true) (sym same)
+    (one_is ((w.job g.call.job).counted) (let a : shares g.call.job (w.stack q) + with_job (w.job g.call.job) ≤ one (w.job g.call.job).counted = (s.jobs g.call.job).alone q in
+    let b : shares g.call.job (w.stack q) ≡ (one (g.call.job == g.call.job) + shares_in g.call.job fs) = ap (shares g.call.job) z in let d : one (g.call.job == g.call.job) ≡ 1 = self_one g.call.job in omega (arith, a, b, d)))
   where
     y : SaysGather w q g
     y = top_says w q (DealPieces g) fs h z
@@ -374,7 +344,8 @@ all_stays w q h = stays (outcome w q (w.stack q)) (λ t g c. act_stays w q ((w.s
     stays (Some r) f = f
 
 pub go_early : (w : World) (q : Party) → EarlyHold w → IfSome (outcome w q (w.stack q)) (λ r. EarlyHold (result w q (w.stack q) r))
-go_early w q h = if_some_map (λ r. (FilledHold (result w q (w.stack q) r) × Ready w q ((w.stack q).top) ((w.stack q).below) r) × (Stays w q ((w.stack q).top) ((w.stack q).below) r × Gains w q ((w.stack q).top) ((w.stack q).below) r)) (λ r. EarlyHold (result w q (w.stack q) r)) (λ r d. early_act w q ((w.stack q).top) ((w.stack q).below) r h refl ((d.0).0) (((d.0).1).last) ((d.1).0) ((d.1).1)) (outcome w q (w.stack q))
+go_early w q h = if_some_map (λ r. (FilledHold (result w q (w.stack q) r) × Ready w q ((w.stack q).top) ((w.stack q).below) r) × (Stays w q ((w.stack q).top) ((w.stack q).below) r × Gains w q ((w.stack q).top) ((w.stack q).below) r)) (λ r. EarlyHold (result w q (w.stack q) r))
+    (λ r d. early_act w q ((w.stack q).top) ((w.stack q).below) r h refl ((d.0).0) (((d.0).1).last) ((d.1).0) ((d.1).1)) (outcome w q (w.stack q))
     (if_some_and (λ r. FilledHold (result w q (w.stack q) r) × Ready w q ((w.stack q).top) ((w.stack q).below) r) (λ r. Stays w q ((w.stack q).top) ((w.stack q).below) r × Gains w q ((w.stack q).top) ((w.stack q).below) r) (outcome w q (w.stack q))
     (if_some_and (λ r. FilledHold (result w q (w.stack q) r)) (Ready w q ((w.stack q).top) ((w.stack q).below)) (outcome w q (w.stack q)) (go_fills w q (h.fills)) (ready w q ((h.fills).hold)))
     (if_some_and (Stays w q ((w.stack q).top) ((w.stack q).below)) (Gains w q ((w.stack q).top) ((w.stack q).below)) (outcome w q (w.stack q)) (all_stays w q ((h.fills).hold)) (gains_by w q ((w.stack q).top) ((w.stack q).below) refl ((h.fills).hold))))

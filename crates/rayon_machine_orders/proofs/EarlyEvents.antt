@@ -1,34 +1,18 @@
 -- what the events that are no acts leave of scopes, of their jobs and of the pieces of broadcasts that wait
 use Rattle.std.proofs.Common.{arith, refl, sym, ◌∙◌, ap, subst, inl, inr}
-use Rattle.std.specs.Prelude.{ℕ, Bool, true, false, ◌&&◌, ◌+◌, ◌-◌, ◌==◌, ◌≤◌, ◌<◌, nat_lt, if◌then◌else◌, Some, None, List, [], ◌∷◌, ◌++◌, ◌≡◌, ◌⊎◌, IfSome, slice_get}
-use Rattle.std.proofs.lemmas.Bool.{eq-eqb, ltb-true, ltb-false}
-use Rattle.std.proofs.Math.Dec.{ltb}
-use Rattle.rayon_machine_places.specs.declared.place.Party.{Party}
-use Rattle.rayon_machine_places.specs.declared.place.Party.TheVariants.{Worker, Caller}
-use Rattle.rayon_machine_places.specs.declared.place.Ending.{Ending}
-use Rattle.rayon_machine_places.specs.declared.place.JobKind.TheVariants.{Detached, Stored, Direct, Scoped, BodyOf, TokenOf, PieceOf}
-use Rattle.rayon_machine_places.specs.declared.place.Plan.TheVariants.{Open, Enter}
-use Rattle.rayon_machine_places.specs.declared.place.Pieces.{Pieces}
-use Rattle.rayon_machine_places.specs.declared.place.Count.TheVariants.{OfPool, OfScope, OfCast}
-use Rattle.rayon_machine_places.specs.declared.place.Place.{Place}
-use Rattle.rayon_machine_places.specs.declared.place.Place.TheVariants.{PickVictim, StealFrom, YieldPick, YieldSteal, Run, RaiseCount}
-use Rattle.rayon_machine_places.specs.declared.state.Whereabouts.TheVariants.{Over}
-use Rattle.rayon_machine_places.specs.declared.state.Job.{Job}
-use Rattle.rayon_machine_places.specs.declared.state.Call.{Call}
-use Rattle.rayon_machine_places.specs.declared.state.Scope.{Scope}
-use Rattle.rayon_machine_places.specs.Places.{is_member, is_free, is_refusable, own_pool}
-use Rattle.rayon_machine_places.specs.World.{World, at_job}
-use Rattle.rayon_machine_places.specs.Steps.{put, put_stack, put_pieces, new_piece, after_choice, after_refusal, can_miss, after_miss, after_end, after_call, is_pool, new_job, new_call, after_spawn, after_feed, after_fifo, after_cast, after_send, after_install, after_join, after_scope, after_into, holds, after_yield, after_end_pool, after_enter, after_deal, after_gather, after_into_fifo, after_into_cast, after_broadcast, new_whole, new_gathering}
+use Rattle.rayon_machine_orders.proofs.Words.{ℕ, Bool, true, false, ◌+◌, ◌-◌, ◌==◌, ◌≤◌, ◌<◌, if◌then◌else◌, Some, None, List, ◌≡◌, ◌⊎◌, slice_get, eq-eqb, ltb-true, ltb-false, ltb, Party, Worker, Ending, Detached, Stored, Direct, Scoped, BodyOf, TokenOf, PieceOf, Pieces, OfPool, OfScope}
+use Rattle.rayon_machine_orders.proofs.Words.{OfCast, Place, Over, Job, Call, Scope, is_free, World, at_job, put, put_pieces, new_piece, new_job, new_call, after_feed, after_send, holds, after_deal, after_gather, new_whole, new_gathering, with_stack, Stack, JobKind, body}
 use Rattle.rayon_machine_laws.specs.Shares.{is_scoped}
-use Rattle.rayon_machine_laws.proofs.Frame.{either, if_cond, put_same, put_new, put_old, fifo_cases, into_cases, into_fifo_cases, into_cast_cases, piece_new, piece_old, piece_out, piece_in}
+use Rattle.rayon_machine_laws.proofs.Frame.{either, put_same, put_new, put_old, piece_new, piece_old, piece_out, piece_in}
 use Rattle.rayon_machine_laws.proofs.Located.{is_left}
 use Rattle.rayon_machine_laws.proofs.PlacedEvents.{Advance, final_left}
 use Rattle.rayon_machine_laws.proofs.Claims.{PartOf}
-use Rattle.rayon_machine_laws.proofs.ClaimEvents.{ended_world}
 use Rattle.rayon_machine_laws.proofs.ClaimMakes.{below_new}
 use Rattle.rayon_machine_laws.proofs.Owned.{added}
 use Rattle.rayon_machine_orders.proofs.FilledStates.{FilledHold}
 use Rattle.rayon_machine_orders.proofs.EarlyStates.{Entered, Listed, EarlyHold, holder_of, holder_gives, Steady, entered_on, listed_on, scope_pair, part_pair}
+use Rattle.rayon_machine_orders.proofs.EventCases.{Cases, entered, given, joined, opened}
+use Rattle.rayon_machine_laws.proofs.ClaimEvents.{ended_world}
 
 -- what an event leaves that is no act: new jobs of scopes are known, and no share is taken or given
 abbrev NewOnes : World → World → Type 0
@@ -97,7 +81,8 @@ unscoped_cast w u f = λ t a l c o k. absurd (let e : true ≡ false = sym (ap i
 unscoped_new : (w u : World) → ((t : ℕ) → w.jobs ≤ t → t + 1 ≤ u.jobs → is_scoped (u.job t).kind ≡ false) → NewOnes w u
 unscoped_new w u f = λ t a l c o k. absurd (let e : true ≡ false = sym (ap is_scoped k) ∙ f t a l in cc)
 
-alike : (w u : World) → w.jobs ≤ u.jobs → w.calls ≤ u.calls → ((t : ℕ) → t + 1 ≤ w.jobs → u.job t ≡ w.job t) → ((c : ℕ) → c + 1 ≤ w.calls → u.call c ≡ w.call c) → ((n : ℕ) (z : Scope) → slice_get u.scopes n ≡ Some z → (slice_get w.scopes n ≡ Some z) ⊎ Listed u z) → NewOnes w u → NewCasts w u → Next w u
+alike : (w u : World) → w.jobs ≤ u.jobs → w.calls ≤ u.calls → ((t : ℕ) → t + 1 ≤ w.jobs → u.job t ≡ w.job t) → ((c : ℕ) → c + 1 ≤ w.calls → u.call c ≡ w.call c) → ((n : ℕ) (z : Scope) → slice_get u.scopes n ≡ Some z → (slice_get w.scopes n ≡ Some z) ⊎ Listed u z) → NewOnes w u
+    → NewCasts w u → Next w u
 alike w u a b j i l n d = record {
   steady = record { jobs = a; calls = b; kind = λ t m. ap (λ v. v.kind) (j t m); pool = λ t m. ap (λ v. v.pool) (j t m); target = λ c m. ap (λ v. v.job) (i c m); first = λ c m. ap (λ v. v.first) (i c m) };
   counted = λ t m. ap (λ v. v.counted) (j t m);
@@ -110,7 +95,8 @@ alike w u a b j i l n d = record {
 quiet_next : (w u : World) → u.jobs ≤ w.jobs → w.jobs ≤ u.jobs → w.calls ≤ u.calls → ((t : ℕ) → t + 1 ≤ w.jobs → u.job t ≡ w.job t) → ((c : ℕ) → c + 1 ≤ w.calls → u.call c ≡ w.call c) → ((n : ℕ) (z : Scope) → slice_get u.scopes n ≡ Some z → (slice_get w.scopes n ≡ Some z) ⊎ Listed u z) → Next w u
 quiet_next w u d a b j i l = alike w u a b j i l (none_new w u d) (none_cast w u d)
 
-plain_next : (w u : World) → w.jobs ≤ u.jobs → w.calls ≤ u.calls → ((t : ℕ) → t + 1 ≤ w.jobs → u.job t ≡ w.job t) → ((c : ℕ) → c + 1 ≤ w.calls → u.call c ≡ w.call c) → ((n : ℕ) (z : Scope) → slice_get u.scopes n ≡ Some z → (slice_get w.scopes n ≡ Some z) ⊎ Listed u z) → ((t : ℕ) → w.jobs ≤ t → t + 1 ≤ u.jobs → is_scoped (u.job t).kind ≡ false) → Next w u
+plain_next : (w u : World) → w.jobs ≤ u.jobs → w.calls ≤ u.calls → ((t : ℕ) → t + 1 ≤ w.jobs → u.job t ≡ w.job t) → ((c : ℕ) → c + 1 ≤ w.calls → u.call c ≡ w.call c) → ((n : ℕ) (z : Scope) → slice_get u.scopes n ≡ Some z → (slice_get w.scopes n ≡ Some z) ⊎ Listed u z)
+    → ((t : ℕ) → w.jobs ≤ t → t + 1 ≤ u.jobs → is_scoped (u.job t).kind ≡ false) → Next w u
 plain_next w u a b j i l f = alike w u a b j i l (unscoped_new w u f) (unscoped_cast w u f)
 
 old_job : (w : World) (v : Job) (t : ℕ) → t + 1 ≤ w.jobs → put w.job w.jobs v t ≡ w.job t
@@ -137,22 +123,8 @@ new_two w a b x y t m l = by (t == (w.jobs + 1)) (t == w.jobs) refl refl
     ]
 
 -- the events
-pub from_next : (w : World) (q : Party) (x : Place) (fs : List Place) (v : ℕ) → IfSome (after_choice w q (record { top = x; below = fs }) x v) (Next w)
-from_next w q (PickVictim k) fs v = if_cond (Next w) (nat_lt v (w.shape.pool (own_pool q)).workers) _ (λ y. quiet_next w _ (omega arith) (omega arith) (omega arith) (λ t l. refl) (λ c l. refl) (λ n z e. inl e))
-from_next w q YieldPick fs v = if_cond (Next w) (nat_lt v (w.shape.pool (own_pool q)).workers) _ (λ y. quiet_next w _ (omega arith) (omega arith) (omega arith) (λ t l. refl) (λ c l. refl) (λ n z e. inl e))
-from_next w q _ fs v = tt
-
-pub refuse_next : (w : World) (q : Party) (x : Place) (fs : List Place) → IfSome (after_refusal w q (record { top = x; below = fs })) (Next w)
-refuse_next w q x fs = if_cond (Next w) (is_refusable x) _ (λ y. quiet_next w _ (omega arith) (omega arith) (omega arith) (λ t l. refl) (λ c l. refl) (λ n z e. inl e))
-
-pub miss_next : (w : World) (q : Party) (x : Place) (fs : List Place) → IfSome (after_miss w q (record { top = x; below = fs }) x) (Next w)
-miss_next w (Worker a b) (StealFrom k n) fs = if_cond (Next w) (can_miss w a k.victim) _ (λ y. quiet_next w _ (omega arith) (omega arith) (omega arith) (λ t l. refl) (λ c l. refl) (λ n z e. inl e))
-miss_next w (Worker a b) (YieldSteal v n) fs = if_cond (Next w) (can_miss w a v) _ (λ y. quiet_next w _ (omega arith) (omega arith) (omega arith) (λ t l. refl) (λ c l. refl) (λ n z e. inl e))
-miss_next w (Worker a b) _ fs = tt
-miss_next w (Caller n) _ fs = tt
-
-pub end_next : (w : World) (q : Party) (d : Ending) (x : Place) (fs : List Place) → IfSome (after_end w q d (record { top = x; below = fs }) x) (Next w)
-end_next w q d (Run t k) fs = record {
+end_next : (w : World) (q : Party) (d : Ending) (t : ℕ) (k : JobKind) (fs : List Place) → Next w (ended_world w q d t k fs)
+end_next w q d t k fs = record {
   steady = record { jobs = omega arith; calls = omega arith; kind = λ s l. put_same (λ j. j.kind) w.job t (at_job (w.job t) (Over d)) s refl; pool = λ s l. put_same (λ j. j.pool) w.job t (at_job (w.job t) (Over d)) s refl; target = λ c l. refl; first = λ c l. refl };
   counted = λ s l. put_same (λ j. j.counted) w.job t (at_job (w.job t) (Over d)) s refl;
   count = λ c l. refl;
@@ -160,20 +132,15 @@ end_next w q d (Run t k) fs = record {
   news = none_new w (ended_world w q d t k fs) (omega arith);
   casts = none_cast w (ended_world w q d t k fs) (omega arith);
 }
-end_next w q d _ fs = tt
-
-pub spawn_next : (w : World) (q : Party) (p : ℕ) → IfSome (after_spawn w q p (w.stack q)) (Next w)
-spawn_next w q p = if_cond (Next w) (is_free ((w.stack q).top) && is_pool w.shape p) _ (λ f. plain_next w _ (omega arith) (omega arith) (old_job w (new_job q p (Detached p))) (λ c l. refl) (λ n z e. inl e) ((λ t a l. ap (λ j. is_scoped j.kind) (new_one w (new_job q p (Detached p)) t a l))))
 
 -- detached jobs in order, and pieces
 pool_feed : (w : World) (p i : ℕ) → Next w (after_feed w (OfPool p) p i (w.stack (Worker p i)))
-pool_feed w p i = plain_next w (after_feed w (OfPool p) p i (w.stack (Worker p i))) (omega arith) (omega arith) (old_two w (new_job (Worker p i) p (Detached p)) (new_job (Worker p i) p (TokenOf i None))) (λ c l. refl) (λ n z e. inl e) ((new_two w (new_job (Worker p i) p (Detached p)) (new_job (Worker p i) p (TokenOf i None)) refl refl))
+pool_feed w p i = plain_next w (after_feed w (OfPool p) p i (w.stack (Worker p i))) (omega arith) (omega arith) (old_two w (new_job (Worker p i) p (Detached p)) (new_job (Worker p i) p (TokenOf i None))) (λ c l. refl) (λ n z e. inl e)
+    ((new_two w (new_job (Worker p i) p (Detached p)) (new_job (Worker p i) p (TokenOf i None)) refl refl))
 
-pub fifo_next : (w : World) (q : Party) (p : ℕ) → IfSome (after_fifo w q p (w.stack q)) (Next w)
-fifo_next w q p = fifo_cases (Next w) w q p (spawn_next w q p) (λ i f. pool_feed w p i)
-
-pub cast_next : (w : World) (q : Party) (p : ℕ) → IfSome (after_cast w q p (w.stack q)) (Next w)
-cast_next w q p = if_cond (Next w) (is_free ((w.stack q).top) && is_pool w.shape p) _ (λ f. plain_next w (after_deal w q (OfPool p) p (w.stack q)) (omega arith) (omega arith) (λ t l. piece_old b (λ i j. new_piece q (OfPool p) p i) w.job t (piece_out b t (omega (arith, l)))) (λ c l. refl) (λ n z e. inl e) ((λ t a l. ap (λ j. is_scoped j.kind) (piece_new b (λ i j. new_piece q (OfPool p) p i) w.job t (piece_in b t a (omega (arith, l)))))))
+cast_next : (w : World) (q : Party) (p : ℕ) → Next w (after_deal w q (OfPool p) p (w.stack q))
+cast_next w q p = plain_next w (after_deal w q (OfPool p) p (w.stack q)) (omega arith) (omega arith) (λ t l. piece_old b (λ i j. new_piece q (OfPool p) p i) w.job t (piece_out b t (omega (arith, l)))) (λ c l. refl)
+    (λ n z e. inl e) (λ t a l. ap (λ j. is_scoped j.kind) (piece_new b (λ i j. new_piece q (OfPool p) p i) w.job t (piece_in b t a (omega (arith, l)))))
   where
     b : Pieces
     b = record { count = OfPool p; pool = p; first = w.jobs; workers = (w.shape.pool p).workers }
@@ -182,38 +149,26 @@ sent_next : (w : World) (q : Party) (p : ℕ) (b : Bool) → Next w (after_send 
 sent_next w q p true = plain_next w (after_send w q p (w.stack q) true) (omega arith) (omega arith) (old_job w (new_job q p Direct)) (λ c l. refl) (λ n z e. inl e) ((λ t a l. ap (λ j. is_scoped j.kind) (new_one w (new_job q p Direct) t a l)))
 sent_next w q p false = plain_next w (after_send w q p (w.stack q) false) (omega arith) (omega arith) (old_job w (new_job q p (Stored w.calls q))) (old_call w (new_call None w.jobs)) (λ n z e. inl e) ((λ t a l. ap (λ j. is_scoped j.kind) (new_one w (new_job q p (Stored w.calls q)) t a l)))
 
-pub install_next : (w : World) (q : Party) (p : ℕ) → IfSome (after_install w q p (w.stack q)) (Next w)
-install_next w q p = if_cond (Next w) (is_free ((w.stack q).top) && is_pool w.shape p) _ (λ f. sent_next w q p (is_member q p))
+join_next : (w : World) (p i : ℕ) → Next w (joined w p i)
+join_next w p i = plain_next w (joined w p i) (omega arith) (omega arith) (old_two w (new_job (Worker p i) p Direct) (new_job (Worker p i) p (Stored w.calls (Worker p i)))) (old_call w (new_call (Some w.jobs) (w.jobs + 1))) (λ n z e. inl e)
+    (new_two w (new_job (Worker p i) p Direct) (new_job (Worker p i) p (Stored w.calls (Worker p i))) refl refl)
 
-pub join_next : (w : World) (q : Party) → IfSome (after_join w q (w.stack q)) (Next w)
-join_next w (Caller n) = tt
-join_next w (Worker p i) = if_cond (Next w) (is_free ((w.stack (Worker p i)).top)) _ (λ f. plain_next w _ (omega arith) (omega arith) (old_two w (new_job (Worker p i) p Direct) (new_job (Worker p i) p (Stored w.calls (Worker p i)))) (old_call w (new_call (Some w.jobs) (w.jobs + 1))) (λ n z e. inl e) ((new_two w (new_job (Worker p i) p Direct) (new_job (Worker p i) p (Stored w.calls (Worker p i))) refl refl)))
-
-pub scope_next : (w : World) (q : Party) (p : ℕ) → IfSome (after_scope w q p (w.stack q)) (Next w)
-scope_next w q p = if_cond (Next w) (is_free ((w.stack q).top) && is_pool w.shape p) u (λ f. plain_next w u (omega arith) (omega arith) (old_job w (new_job q p (BodyOf w.calls q))) (old_call w (new_call None w.jobs)) (λ n z e. elim (added w.scopes s n z e) [ inl old ↦ inl old | inr now ↦ inr (subst (Listed u) now mine) ]) ((λ t a l. ap (λ j. is_scoped j.kind) (new_one w (new_job q p (BodyOf w.calls q)) t a l))))
+scope_next : (w : World) (q : Party) (p : ℕ) → Next w (opened w q p)
+scope_next w q p = plain_next w (opened w q p) (omega arith) (omega arith) (old_job w (new_job q p (BodyOf w.calls q))) (old_call w (new_call None w.jobs)) (λ n z e. elim (added w.scopes s n z e) [ inl old ↦ inl old | inr now ↦ inr (subst (Listed (opened w q p)) now mine) ])
+    (λ t a l. ap (λ j. is_scoped j.kind) (new_one w (new_job q p (BodyOf w.calls q)) t a l))
   where
     s : Scope
     s = record { call = w.calls; pool = p; owner = q }
 
-    u : World
-    u = record w {
-      stack = put_stack w.stack q (after_call (w.stack q) (RaiseCount (Open (record { number = w.calls; pool = p; job = w.jobs }))));
-      job = put w.job w.jobs (new_job q p (BodyOf w.calls q));
-      call = put w.call w.calls (new_call None w.jobs);
-      jobs = w.jobs + 1;
-      calls = w.calls + 1;
-      scopes = w.scopes ++ s ∷ [];
-    }
-
-    target : (u.call w.calls).job ≡ w.jobs
+    target : ((opened w q p).call w.calls).job ≡ w.jobs
     target = ap (λ c. c.job) (put_new w.call w.calls (new_call None w.jobs))
 
-    mine : Listed u s
+    mine : Listed (opened w q p) s
     mine = record {
       call = omega arith;
       made = subst (λ n. n + 1 ≤ w.jobs + 1) (sym target) (omega arith);
-      body = ap (λ n. (u.job n).kind) target ∙ ap (λ j. j.kind) (put_new w.job w.jobs (new_job q p (BodyOf w.calls q)));
-      pool = sym (ap (λ n. (u.job n).pool) target ∙ ap (λ j. j.pool) (put_new w.job w.jobs (new_job q p (BodyOf w.calls q))));
+      body = ap (λ n. ((opened w q p).job n).kind) target ∙ ap (λ j. j.kind) (put_new w.job w.jobs (new_job q p (BodyOf w.calls q)));
+      pool = sym (ap (λ n. ((opened w q p).job n).pool) target ∙ ap (λ j. j.pool) (put_new w.job w.jobs (new_job q p (BodyOf w.calls q))));
     }
 
 -- what is known of the scope that a party holds
@@ -224,7 +179,8 @@ held_gives : (w : World) (q : Party) (n : ℕ) (z : Scope) → EarlyHold w → i
 held_gives w q n z h free held = holder_gives w q (z.call) h (holder_of w q (z.call) (((h.fills).hold).calls) ((h.fills).frames) free held)
 
 -- new jobs, each of this scope and its pool, or of none
-entering : (w u : World) (z : Scope) → Listed w z → Given w z → w.jobs ≤ u.jobs → w.calls ≤ u.calls → ((t : ℕ) → t + 1 ≤ w.jobs → u.job t ≡ w.job t) → ((c : ℕ) → c + 1 ≤ w.calls → u.call c ≡ w.call c) → ((n : ℕ) (z : Scope) → slice_get u.scopes n ≡ Some z → (slice_get w.scopes n ≡ Some z) ⊎ Listed u z) → ((t : ℕ) → w.jobs ≤ t → t + 1 ≤ u.jobs → (is_scoped (u.job t).kind ≡ false) ⊎ (((u.job t).kind ≡ Scoped z.call z.owner) × ((u.job t).pool ≡ z.pool))) → Next w u
+entering : (w u : World) (z : Scope) → Listed w z → Given w z → w.jobs ≤ u.jobs → w.calls ≤ u.calls → ((t : ℕ) → t + 1 ≤ w.jobs → u.job t ≡ w.job t) → ((c : ℕ) → c + 1 ≤ w.calls → u.call c ≡ w.call c)
+    → ((n : ℕ) (z : Scope) → slice_get u.scopes n ≡ Some z → (slice_get w.scopes n ≡ Some z) ⊎ Listed u z) → ((t : ℕ) → w.jobs ≤ t → t + 1 ≤ u.jobs → (is_scoped (u.job t).kind ≡ false) ⊎ (((u.job t).kind ≡ Scoped z.call z.owner) × ((u.job t).pool ≡ z.pool))) → Next w u
 entering w u z y g a b j i l f = alike w u a b j i l news (λ t m k c o e. elim (f t m k) [
   | inl v ↦ absurd (let x : true ≡ false = sym (ap is_scoped e) ∙ v in cc)
   | inr v ↦ absurd (let x : Scoped z.call z.owner ≡ PieceOf c o = sym (v.0) ∙ e in cc)
@@ -255,17 +211,11 @@ entering w u z y g a b j i l f = alike w u a b j i l news (λ t m k c o e. elim 
       | inr v ↦ (let p : (z.call, z.owner) ≡ (c, o) = ap scope_pair (sym (v.0) ∙ e) in subst (λ b. Entered u t (b.0) (b.1) × (1 ≤ (u.call (b.0)).count → (u.job (u.call (b.0)).job).counted ≡ true)) p (mine t (v.1), keeps))
     ]
 
-enter_next : (w : World) (q : Party) (z : Scope) → Listed w z → Given w z → IfSome (after_enter w q (w.stack q) (Some z)) (Next w)
-enter_next w q z y g = if_cond (Next w) (is_free ((w.stack q).top) && holds z.call (w.stack q)) _ (λ f. entering w u z y g (omega arith) (omega arith) (old_job w v) (λ c l. refl) (λ n z e. inl e) (λ t a l. inr (ap (λ j. j.kind) (new_one w v t a l), ap (λ j. j.pool) (new_one w v t a l))))
+enter_next : (w : World) (q : Party) (z : Scope) → Listed w z → Given w z → Next w (entered w q z)
+enter_next w q z y g = entering w (entered w q z) z y g (omega arith) (omega arith) (old_job w v) (λ c l. refl) (λ n z e. inl e) (λ t a l. inr (ap (λ j. j.kind) (new_one w v t a l), ap (λ j. j.pool) (new_one w v t a l)))
   where
     v : Job
     v = new_job q z.pool (Scoped z.call z.owner)
-
-    u : World
-    u = record w { stack = put_stack w.stack q (after_call (w.stack q) (RaiseCount (Enter (record { call = z.call; owner = z.owner; pool = z.pool; job = w.jobs })))); job = put w.job w.jobs v; jobs = w.jobs + 1 }
-
-pub into_next : (w : World) (q : Party) (n : ℕ) → EarlyHold w → IfSome (after_into w q n (w.stack q)) (Next w)
-into_next w q n h = into_cases (Next w) w q n (λ z e free held. enter_next w q z (h.listed n z e) (held_gives w q n z h free held))
 
 scope_feed : (w : World) (z : Scope) (i : ℕ) → Listed w z → Given w z → Next w (after_feed w (OfScope z.call z.owner) z.pool i (w.stack (Worker z.pool i)))
 scope_feed w z i y g = entering w (after_feed w (OfScope z.call z.owner) z.pool i (w.stack (Worker z.pool i))) z y g (omega arith) (omega arith) (old_two w a b) (λ c l. refl) (λ n z e. inl e) (λ t m l. by t m l (t == (w.jobs + 1)) refl)
@@ -286,9 +236,6 @@ scope_feed w z i y g = entering w (after_feed w (OfScope z.call z.owner) z.pool 
     by t m l true e = inl refl
     by t m l false e = inr (ap (λ j. j.kind) (new_one w a t m (near t e m l)), ap (λ j. j.pool) (new_one w a t m (near t e m l)))
 
-pub into_fifo_next : (w : World) (q : Party) (n : ℕ) → EarlyHold w → IfSome (after_into_fifo w q n (w.stack q)) (Next w)
-into_fifo_next w q n h = into_fifo_cases (Next w) w q n (λ z e free held. enter_next w q z (h.listed n z e) (held_gives w q n z h free held)) (λ z i e free held. scope_feed w z i (h.listed n z e) (held_gives w (Worker z.pool i) n z h free held))
-
 scope_deal : (w : World) (q : Party) (z : Scope) → Listed w z → Given w z → Next w (after_deal w q (OfScope z.call z.owner) z.pool (w.stack q))
 scope_deal w q z y g = entering w (after_deal w q (OfScope z.call z.owner) z.pool (w.stack q)) z y g (omega arith) (omega arith) (λ t l. piece_old b (λ i j. new_piece q (OfScope z.call z.owner) z.pool i) w.job t (piece_out b t (omega (arith, l)))) (λ c l. refl) (λ n z e. inl e)
     (λ t a l. inr (ap (λ j. j.kind) (piece_new b (λ i j. new_piece q (OfScope z.call z.owner) z.pool i) w.job t (piece_in b t a (omega (arith, l)))), ap (λ j. j.pool) (piece_new b (λ i j. new_piece q (OfScope z.call z.owner) z.pool i) w.job t (piece_in b t a (omega (arith, l))))))
@@ -296,13 +243,11 @@ scope_deal w q z y g = entering w (after_deal w q (OfScope z.call z.owner) z.poo
     b : Pieces
     b = record { count = OfScope z.call z.owner; pool = z.pool; first = w.jobs; workers = (w.shape.pool z.pool).workers }
 
-pub into_cast_next : (w : World) (q : Party) (n : ℕ) → EarlyHold w → IfSome (after_into_cast w q n (w.stack q)) (Next w)
-into_cast_next w q n h = into_cast_cases (Next w) w q n (λ z e free held. scope_deal w q z (h.listed n z e) (held_gives w q n z h free held))
-
 -- a broadcast that waits: its pieces are new, and so is its call
-pub gather_next : (w : World) (q : Party) (p : ℕ) → IfSome (after_broadcast w q p (w.stack q)) (Next w)
-gather_next w q p = if_cond (Next w) (is_free ((w.stack q).top) && is_pool w.shape p) _ (λ f. alike w (after_gather w q p (w.stack q)) (omega arith) (omega arith) (λ t l. put_old J1 t0 v t (below_new t t0 (omega (arith, l))) ∙ piece_old b (λ i j. new_piece q (OfCast w.calls q) p i) w.job t (piece_out b t (omega (arith, l)))) (old_call w (new_gathering n t0)) (λ n z e. inl e)
-    (λ t a l c o k. absurd (unscoped t a l c o (t == t0) refl k)) (λ t a l c o k. casts t a l c o (t == t0) refl k))
+gather_next : (w : World) (q : Party) (p : ℕ) → Next w (after_gather w q p (w.stack q))
+gather_next w q p = alike w (after_gather w q p (w.stack q)) (omega arith) (omega arith) (λ t l. put_old J1 t0 v t (below_new t t0 (omega (arith, l))) ∙ piece_old b (λ i j. new_piece q (OfCast w.calls q) p i) w.job t (piece_out b t (omega (arith, l)))) (old_call w (new_gathering n t0))
+    (λ n z e. inl e)
+    (λ t a l c o k. absurd (unscoped t a l c o (t == t0) refl k)) (λ t a l c o k. casts t a l c o (t == t0) refl k)
   where
     n : ℕ
     n = (w.shape.pool p).workers
@@ -339,9 +284,27 @@ gather_next w q p = if_cond (Next w) (is_free ((w.stack q).top) && is_pool w.sha
       ap (λ j. j.counted) (piece t a (near t e l)),
     )
 
-pub yield_next : (w : World) (q : Party) (x : Place) → IfSome (after_yield w q (w.stack q) x) (Next w)
-yield_next w (Worker a b) x = if_cond (Next w) (is_free ((w.stack (Worker a b)).top)) _ (λ f. quiet_next w _ (omega arith) (omega arith) (omega arith) (λ t l. refl) (λ c l. refl) (λ n z e. inl e))
-yield_next w (Caller n) x = tt
+quiet : (w : World) (q : Party) (s : Stack) → Next w (with_stack w q s)
+quiet w q s = quiet_next w (with_stack w q s) (omega arith) (omega arith) (omega arith) (λ t l. refl) (λ c l. refl) (λ n z e. inl e)
 
-pub give_next : (w : World) (q : Party) (p : ℕ) → IfSome (after_end_pool w q p (w.stack q)) (Next w)
-give_next w q p = if_cond (Next w) (is_free ((w.stack q).top) && (is_pool w.shape p && (w.pool p).held)) _ (λ f. quiet_next w _ (omega arith) (omega arith) (omega arith) (λ t l. refl) (λ c l. refl) (λ n z e. inl e))
+pub early_cases : (w : World) → EarlyHold w → Cases w (Next w)
+early_cases w h = record {
+  picks = λ q k fs v z. quiet w q _;
+  yield_picks = λ q fs v z. quiet w q _;
+  misses = λ q k n fs z. quiet w q _;
+  yield_misses = λ q v n fs z. quiet w q _;
+  refuses = λ q x fs z e. quiet w q _;
+  ends = λ q d t k fs z. end_next w q d t k fs;
+  spawns = λ q p f. plain_next w _ (omega arith) (omega arith) (old_job w (new_job q p (Detached p))) (λ c l. refl) (λ n z e. inl e) (λ t a l. ap (λ j. is_scoped j.kind) (new_one w (new_job q p (Detached p)) t a l));
+  feeds = λ p i f. pool_feed w p i;
+  deals = λ q p f. cast_next w q p;
+  sends = λ q p b f. sent_next w q p b;
+  joins = λ p i f. join_next w p i;
+  opens = λ q p f. scope_next w q p;
+  gathers = λ q p f. gather_next w q p;
+  enters = λ q n z f. enter_next w q z (h.listed n z (f.0)) (held_gives w q n z h (f.1) (f.2));
+  feeds_in = λ i n z f. scope_feed w z i (h.listed n z (f.0)) (held_gives w (Worker z.pool i) n z h (f.1) (f.2));
+  deals_in = λ q n z f. scope_deal w q z (h.listed n z (f.0)) (held_gives w q n z h (f.1) (f.2));
+  yields = λ p i x y f. quiet w (Worker p i) _;
+  gives = λ q p f. quiet_next w (given w q p) (omega arith) (omega arith) (omega arith) (λ t l. refl) (λ c l. refl) (λ n z e. inl e);
+}

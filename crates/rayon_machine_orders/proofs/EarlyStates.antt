@@ -2,21 +2,8 @@
 --
 -- A job of a scope is at the pool of the scope's body, which has left its call.
 use Rattle.std.proofs.Common.{arith, refl, sym, ◌∙◌, ap, subst, inl, inr}
-use Rattle.std.specs.Prelude.{ℕ, Bool, true, false, ◌||◌, ◌+◌, ◌==◌, ◌≤◌, Option, Some, None, List, [], ◌∷◌, ◌≡◌, ◌⊎◌, slice_get}
-use Rattle.std.proofs.lemmas.Bool.{eqb-true, eq-eqb}
-use Rattle.rayon_machine_places.specs.declared.place.Party.{Party}
-use Rattle.rayon_machine_places.specs.declared.place.Party.TheVariants.{Caller}
-use Rattle.rayon_machine_places.specs.declared.place.JobKind.{JobKind}
-use Rattle.rayon_machine_places.specs.declared.place.JobKind.TheVariants.{Direct, Scoped, BodyOf, TokenOf, PieceOf, WholeOf}
-use Rattle.rayon_machine_places.specs.declared.place.OpenCall.{OpenCall}
-use Rattle.rayon_machine_places.specs.declared.place.Place.{Place}
-use Rattle.rayon_machine_places.specs.declared.place.Place.TheVariants.{Run, ScopeBody, Free}
-use Rattle.rayon_machine_places.specs.declared.state.Scope.{Scope}
-use Rattle.rayon_machine_places.specs.Places.{is_free, holds_scope}
-use Rattle.rayon_machine_places.specs.World.{World}
-use Rattle.rayon_machine_places.specs.Steps.{holds, holds_in}
-use Rattle.rayon_machine_laws.specs.Once.{one, run_of, runs_in}
-use Rattle.rayon_machine_laws.specs.Shares.{share, shares_in, shares}
+use Rattle.rayon_machine_orders.proofs.Words.{ℕ, Bool, true, false, ◌||◌, ◌+◌, ◌==◌, ◌≤◌, Option, Some, None, List, [], ◌∷◌, ◌≡◌, ◌⊎◌, slice_get, eqb-true, eq-eqb, Party, Caller, JobKind, Direct, Scoped, BodyOf, TokenOf, PieceOf, WholeOf, OpenCall, Place, Run, ScopeBody, Free, Scope, is_free}
+use Rattle.rayon_machine_orders.proofs.Words.{holds_scope, World, holds, holds_in, one, run_of, runs_in, share, shares_in, shares}
 use Rattle.rayon_machine_laws.proofs.Ties.{AllFrames}
 use Rattle.rayon_machine_laws.proofs.Tops.{FramesOk}
 use Rattle.rayon_machine_laws.proofs.Seats.{is_frame}
@@ -105,7 +92,8 @@ held_or : (w : World) (q : Party) (c : ℕ) (f : Place) (fs : List Place) → (h
 held_or w q c f fs g h y true z = g z
 held_or w q c f fs g h y false z = h (ap (λ b. b || holds_in c fs) (sym z) ∙ y)
 
-held_below : (w : World) (q : Party) (c : ℕ) (x : Place) (fs : List Place) → JobsHold w → ((t : ℕ) → here x ≡ Some t → is_left (w.job t).at ≡ true) → Linked x fs → AllSay w q fs → AllFrames fs → ((t : ℕ) → shares_in t fs ≤ shares t (w.stack q)) → ((t : ℕ) → runs_in t fs ≤ worked t (w.stack q)) → holds_in c fs ≡ true → Holder w q c
+held_below : (w : World) (q : Party) (c : ℕ) (x : Place) (fs : List Place) → JobsHold w → ((t : ℕ) → here x ≡ Some t → is_left (w.job t).at ≡ true) → Linked x fs → AllSay w q fs → AllFrames fs → ((t : ℕ) → shares_in t fs ≤ shares t (w.stack q))
+    → ((t : ℕ) → runs_in t fs ≤ worked t (w.stack q)) → holds_in c fs ≡ true → Holder w q c
 held_below w q c x [] j up k a fr s r y = cc
 held_below w q c x (f ∷ fs) j up k a fr s r y = held_or w q c f fs
     (λ z. held_at w q c x f up (k.0) (a.0) (λ t. (let b : share t f + shares_in t fs ≤ shares t (w.stack q) = s t in omega (arith, b))) z)
@@ -140,7 +128,8 @@ holder_gives w q c h (inr s) = let e : Entered w s.job c s.owner = h.entered s.j
 holder_gives w q c h (inl s) = (
   ap (λ n. (w.call n).first) (sym s.number) ∙ s.first,
   subst (λ n. is_left (w.job n).at ≡ true) (sym target) s.left,
-  (λ m. subst (λ n. (w.job n).counted ≡ true) (sym target) (one_is ((w.job s.opened.job).counted) (let a : shares (s.opened.job) (w.stack q) + with_job (w.job s.opened.job) ≤ one (w.job s.opened.job).counted = (((h.fills).hold).jobs (s.opened.job)).alone q in let b : 1 ≤ shares (s.opened.job) (w.stack q) = s.has in omega (arith, a, b)))),
+  (λ m. subst (λ n. (w.job n).counted ≡ true) (sym target)
+      (one_is ((w.job s.opened.job).counted) (let a : shares (s.opened.job) (w.stack q) + with_job (w.job s.opened.job) ≤ one (w.job s.opened.job).counted = (((h.fills).hold).jobs (s.opened.job)).alone q in let b : 1 ≤ shares (s.opened.job) (w.stack q) = s.has in omega (arith, a, b)))),
 )
   where
     target : (w.call c).job ≡ s.opened.job

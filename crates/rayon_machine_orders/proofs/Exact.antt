@@ -3,42 +3,14 @@
 --
 -- With `Tokens` this gives `KeptOnce` (`kept_once`). What is over was running (`end_exact`; `act_end` in FaultPlaces).
 use Rattle.std.proofs.Common.{arith, refl, sym, ◌∙◌, ap, subst, inl, inr}
-use Rattle.std.specs.Prelude.{ℕ, zero, suc, Bool, true, false, ◌&&◌, ◌||◌, ◌+◌, ◌-◌, ◌==◌, ◌≤◌, ◌<◌, nat_lt, if◌then◌else◌, Some, None, List, [], ◌∷◌, ◌++◌, ◌≡◌, ◌⊎◌, IfSome}
-use Rattle.std.proofs.lemmas.Bool.{eqb-true, ltb-true, ltb-false, eq-eqb}
-use Rattle.std.proofs.Math.Dec.{ltb}
-use Rattle.rayon_machine_places.specs.declared.place.Party.{Party}
-use Rattle.rayon_machine_places.specs.declared.place.Party.TheVariants.{Worker, Caller}
-use Rattle.rayon_machine_places.specs.declared.place.Ending.{Ending}
-use Rattle.rayon_machine_places.specs.declared.place.JobKind.{JobKind}
-use Rattle.rayon_machine_places.specs.declared.place.JobKind.TheVariants.{Detached, Stored, Direct, TokenOf, Scoped, BodyOf, PieceOf, WholeOf}
-use Rattle.rayon_machine_places.specs.declared.place.Plan.{Plan}
-use Rattle.rayon_machine_places.specs.declared.place.Plan.TheVariants.{Detach, Here, Send, Fork, Feed, Open, Enter, Gather}
-use Rattle.rayon_machine_places.specs.declared.place.Count.{Count}
-use Rattle.rayon_machine_places.specs.declared.place.Count.TheVariants.{OfPool, OfScope, OfCast}
-use Rattle.rayon_machine_places.specs.declared.place.Share.TheVariants.{PoolValue}
-use Rattle.rayon_machine_places.specs.declared.place.Then.TheVariants.{Resume}
-use Rattle.rayon_machine_places.specs.declared.place.Pieces.{Pieces}
-use Rattle.rayon_machine_places.specs.declared.place.Place.{Place}
-use Rattle.rayon_machine_places.specs.declared.place.Place.TheVariants.{PickVictim, StealFrom, YieldPop, YieldPick, YieldSteal, LocalPop, Run, RaiseCount, LowerCount, RaiseForAll}
-use Rattle.rayon_machine_places.specs.declared.act.Seen.{Seen}
-use Rattle.rayon_machine_places.specs.declared.act.Seen.TheVariants.{Refused, Missing, Start}
-use Rattle.rayon_machine_places.specs.declared.event.Event.{Event}
-use Rattle.rayon_machine_places.specs.declared.event.Event.TheVariants.{Go, From, Refuse, Miss, End, Spawn, Fifo, Install, Join, Yield, YieldLocal, EndPool, Cast, Scope as OpenScope, IntoSpawn, IntoFifo, IntoCast, Broadcast}
-use Rattle.rayon_machine_places.specs.declared.state.Whereabouts.{Whereabouts}
-use Rattle.rayon_machine_places.specs.declared.state.Whereabouts.TheVariants.{Running, Over}
-use Rattle.rayon_machine_places.specs.declared.shape.PoolShape.{PoolShape}
-use Rattle.rayon_machine_places.specs.declared.state.Job.{Job}
-use Rattle.rayon_machine_places.specs.declared.state.Call.{Call}
-use Rattle.rayon_machine_places.specs.declared.state.Scope.{Scope}
-use Rattle.rayon_machine_places.specs.Places.{own_pool, same_party, is_member, act_of, next_of, is_free, is_refusable, count_kind, count_book}
-use Rattle.rayon_machine_places.specs.World.{Shape, Stack, World, count_below, target_pool, target_worker, target_call, at_job}
-use Rattle.rayon_machine_places.specs.Steps.{put, put_stack, put_pieces, new_piece, is_piece, after_move, after_choice, after_refusal, can_miss, after_miss, after_close, after_end, after_call, is_pool, new_job, new_call, new_whole, new_gathering, after_spawn, after_fifo, after_cast, after_send, after_install, after_join, after_scope, after_into, holds, after_enter, after_yield, after_end_pool, after_feed, after_deal, after_broadcast, after_into_fifo, after_into_cast, step}
-use Rattle.rayon_machine_places.specs.Runs.{start, IsRun}
-use Rattle.rayon_machine_laws.specs.Once.{one}
-use Rattle.rayon_machine_laws.specs.Counted.{keeps_own, has_share, all_values, KeptOnce, IsCounted}
-use Rattle.rayon_machine_laws.specs.Shares.{shares}
-use Rattle.rayon_machine_laws.specs.Bodies.{body, bodies_in, all_bodies}
-use Rattle.rayon_machine_laws.specs.Once.{runs_in, worked}
+use Rattle.rayon_machine_orders.proofs.Words.{ℕ, zero, suc, Bool, true, false, ◌&&◌, ◌||◌, ◌+◌, ◌-◌, ◌==◌, ◌≤◌, ◌<◌, nat_lt, if◌then◌else◌, Some, None, List, [], ◌∷◌, ◌++◌, ◌≡◌, ◌⊎◌, IfSome, eqb-true, ltb-true, ltb-false, eq-eqb, ltb, Party, Worker, Caller, Ending, JobKind, Detached, Stored}
+use Rattle.rayon_machine_orders.proofs.Words.{Direct, TokenOf, Scoped, BodyOf, PieceOf, WholeOf, Plan, Detach, Here, Send, Fork, Feed, Open, Enter, Gather, Count, OfPool, OfScope, OfCast, PoolValue, Resume, Pieces, Place, PickVictim, StealFrom, YieldPop, YieldPick, YieldSteal, LocalPop, Run}
+use Rattle.rayon_machine_orders.proofs.Words.{RaiseCount, LowerCount, RaiseForAll, Seen, Refused, Start, Event, Go, From, Refuse, Miss, End, Spawn, Fifo, Install, Join, Yield, YieldLocal, EndPool, Cast, OpenScope, IntoSpawn, IntoFifo, IntoCast, Broadcast, Whereabouts, Running, Over, PoolShape}
+use Rattle.rayon_machine_orders.proofs.Words.{Job, Call, Scope, own_pool, same_party, is_member, act_of, next_of, is_free, is_refusable, count_kind, count_book, Shape, Stack, World, count_below, target_pool, target_worker, target_call, at_job, put, put_stack, put_pieces, new_piece, is_piece}
+use Rattle.rayon_machine_orders.proofs.Words.{after_move, after_choice, after_refusal, can_miss, after_miss, after_close, after_end, after_call, is_pool, new_job, new_call, new_whole, new_gathering, after_spawn, after_fifo, after_cast, after_send, after_install, after_join, after_scope}
+use Rattle.rayon_machine_orders.proofs.Words.{after_into, holds, after_enter, after_yield, after_end_pool, after_feed, after_deal, after_broadcast, after_into_fifo, after_into_cast, step, start, IsRun, one, keeps_own, has_share, all_values, KeptOnce, IsCounted, shares, body, bodies_in}
+use Rattle.rayon_machine_orders.proofs.Words.{all_bodies, runs_in, worked}
+use Rattle.rayon_machine_places.specs.declared.act.Seen.TheVariants.{Missing}
 use Rattle.rayon_machine_laws.proofs.Frame.{either, same_party_true, if_some_and, if_some_map, if_cond, acted_keeps, put_same, put_new, put_old, piece_old, piece_out, piece_in, fifo_cases, into_cases, into_fifo_cases, into_cast_cases}
 use Rattle.rayon_machine_laws.proofs.Ties.{job_at, outcome}
 use Rattle.rayon_machine_laws.proofs.Events.{run_keeps}
@@ -79,7 +51,8 @@ still_exact w u q k st ca jo cs js le h s a = exact_keep w u q k (record {
 }) h s a
 
 -- a party goes on as if its act had seen this
-seen_exact : (w : World) (q : Party) (g : PoolShape) (x : Place) (fs : List Place) (e : Seen) → w.stack q ≡ record { top = x; below = fs } → queues_body x ≡ false → ((c : ℕ) → spent c x ≡ 0) → ((c : ℕ) → dropped c (next_of g q x e) ≤ 0) → ExactHold w → Then_exact w (record w { stack = put_stack w.stack q (after_move (next_of g q x e) fs) })
+seen_exact : (w : World) (q : Party) (g : PoolShape) (x : Place) (fs : List Place) (e : Seen) → w.stack q ≡ record { top = x; below = fs } → queues_body x ≡ false → ((c : ℕ) → spent c x ≡ 0) → ((c : ℕ) → dropped c (next_of g q x e) ≤ 0) → ExactHold w
+    → Then_exact w (record w { stack = put_stack w.stack q (after_move (next_of g q x e) fs) })
 seen_exact w q g x fs e z qb sp dr h = still_exact w (record w { stack = put_stack w.stack q (after_move (next_of g q x e) fs) }) q (after_move (next_of g q x e) fs) (λ r. refl) refl refl refl refl
     (λ c. (let i : body c x ≤ (body_move c (next_of g q x e) + dropped c (next_of g q x e)) + spent c x = more_bodies g q c x e qb in
     let j : body_move c (next_of g q x e) + bodies_in c fs ≤ all_bodies c (after_move (next_of g q x e) fs) = land_more c (next_of g q x e) fs in
@@ -102,8 +75,7 @@ refuse_exact w q x fs z qb h = if_cond (Then_exact w) (is_refusable x) _ (λ y. 
 miss_exact : (w : World) (q : Party) (x : Place) (fs : List Place) → w.stack q ≡ record { top = x; below = fs } → ExactHold w → IfSome (after_miss w q (record { top = x; below = fs }) x) (Then_exact w)
 miss_exact w (Worker a b) (StealFrom k n) fs z h = if_cond (Then_exact w) (can_miss w a k.victim) _ (λ y. seen_exact w (Worker a b) (w.shape.pool a) (StealFrom k n) fs Missing z refl (λ c. refl) (λ c. omega arith) h)
 miss_exact w (Worker a b) (YieldSteal v n) fs z h = if_cond (Then_exact w) (can_miss w a v) _ (λ y. seen_exact w (Worker a b) (w.shape.pool a) (YieldSteal v n) fs Missing z refl (λ c. refl) (λ c. omega arith) h)
-miss_exact w (Worker a b) _ fs z h = tt
-miss_exact w (Caller n) _ fs z h = tt
+miss_exact w _ _ fs z h = tt
 
 -- the end of a run: what is over was running
 end_exact : (w : World) (q : Party) (d : Ending) (x : Place) (fs : List Place) → w.stack q ≡ record { top = x; below = fs } → ExactHold w → IfSome (after_end w q d (record { top = x; below = fs }) x) (Then_exact w)
@@ -122,7 +94,9 @@ end_exact w q d (Run t k) fs z h = exact_keep w (ended_world w q d t k fs) q (af
 }) h
   where
     running : (w.job t).at ≡ Running q
-    running = (at_work ((w.job t).at) ((w.job t).runs) q (where_is (Work q) (loc_at (w.job t)) (let a : worked t (w.stack q) ≡ is_loc (Work q) (loc_at (w.job t)) = (((((h.scopes).shares).calls).jobs).ok).placed (Work q) t in let b : worked t (w.stack q) ≡ (one (t == t) + runs_in t fs) = ap (worked t) z in let c : one (t == t) ≡ 1 = self_one t in omega (arith, a, b, c)))).1
+    running = (at_work ((w.job t).at) ((w.job t).runs) q
+        (where_is (Work q) (loc_at (w.job t)) (let a : worked t (w.stack q) ≡ is_loc (Work q) (loc_at (w.job t)) = (((((h.scopes).shares).calls).jobs).ok).placed (Work q) t in let b : worked t (w.stack q) ≡ (one (t == t) + runs_in t fs) = ap (worked t) z in
+        let c : one (t == t) ≡ 1 = self_one t in omega (arith, a, b, c)))).1
 
     live : (i : ℕ) (b : Bool) → (i == t) ≡ b → is_dealt_out (if b then at_job (w.job t) (Over d) else w.job i).at ≡ true → is_dealt_out (w.job i).at ≡ true
     live i true e l = ap (λ n. is_dealt_out (w.job n).at) (eqb-true i t e) ∙ ap is_dealt_out running
@@ -130,7 +104,9 @@ end_exact w q d (Run t k) fs z h = exact_keep w (ended_world w q d t k fs) q (af
 end_exact w q d _ fs z h = tt
 
 -- a call begins: what was is as it was, and of what is new no piece is dealt
-begin_exact : (w u : World) (q : Party) (k : Stack) → ((r : Party) → u.stack r ≡ put_stack w.stack q k r) → w.calls ≤ u.calls → w.jobs ≤ u.jobs → ((t : ℕ) → t + 1 ≤ w.jobs → u.job t ≡ w.job t) → ((c : ℕ) → c + 1 ≤ w.calls → u.call c ≡ w.call c) → ((c : ℕ) → all_bodies c (w.stack q) ≤ all_bodies c k) → ((t : ℕ) → w.jobs ≤ t → t + 1 ≤ u.jobs → is_dealt_out (u.job t).at ≡ false) → ((t c : ℕ) (o : Party) → w.jobs ≤ t → t + 1 ≤ u.jobs → (u.job t).kind ≡ BodyOf c o → (c + 1 ≤ u.calls) × ((u.call c).job ≡ t) × (1 ≤ all_bodies c k)) → ExactHold w → Then_exact w u
+begin_exact : (w u : World) (q : Party) (k : Stack) → ((r : Party) → u.stack r ≡ put_stack w.stack q k r) → w.calls ≤ u.calls → w.jobs ≤ u.jobs → ((t : ℕ) → t + 1 ≤ w.jobs → u.job t ≡ w.job t) → ((c : ℕ) → c + 1 ≤ w.calls → u.call c ≡ w.call c)
+    → ((c : ℕ) → all_bodies c (w.stack q) ≤ all_bodies c k) → ((t : ℕ) → w.jobs ≤ t → t + 1 ≤ u.jobs → is_dealt_out (u.job t).at ≡ false) → ((t c : ℕ) (o : Party) → w.jobs ≤ t → t + 1 ≤ u.jobs → (u.job t).kind ≡ BodyOf c o → (c + 1 ≤ u.calls) × ((u.call c).job ≡ t) × (1 ≤ all_bodies c k))
+    → ExactHold w → Then_exact w u
 begin_exact w u q k st cs js jo ca le ma ne h s a = exact_keep w u q k (record {
   stacks = st;
   calls = cs;
@@ -188,37 +164,46 @@ no_body : (w u : World) (k : Stack) → ((t : ℕ) → w.jobs ≤ t → t + 1 �
 no_body w u k p t c o l m e = absurd (let a : is_scope_body (u.job t).kind ≡ false = (p t l m).kind in let b : is_scope_body (u.job t).kind ≡ true = ap is_scope_body e in let z : true ≡ false = sym b ∙ a in cc)
 
 -- one that opens no scope
-made_exact : (w : World) (q : Party) (n : Plan) (C : ℕ → Call) (J : ℕ → Job) (c j : ℕ) → w.calls ≤ c → w.jobs ≤ j → ((t : ℕ) → t + 1 ≤ w.jobs → J t ≡ w.job t) → ((i : ℕ) → i + 1 ≤ w.calls → C i ≡ w.call i) → ((t : ℕ) → w.jobs ≤ t → t + 1 ≤ j → IsNew (J t)) → ExactHold w → Then_exact w (calling w q n C J c j)
+made_exact : (w : World) (q : Party) (n : Plan) (C : ℕ → Call) (J : ℕ → Job) (c j : ℕ) → w.calls ≤ c → w.jobs ≤ j → ((t : ℕ) → t + 1 ≤ w.jobs → J t ≡ w.job t) → ((i : ℕ) → i + 1 ≤ w.calls → C i ≡ w.call i) → ((t : ℕ) → w.jobs ≤ t → t + 1 ≤ j → IsNew (J t)) → ExactHold w
+    → Then_exact w (calling w q n C J c j)
 made_exact w q n C J c j cs js jo ca p h = begin_exact w (calling w q n C J c j) q (after_call (w.stack q) (RaiseCount n)) (λ r. refl) cs js jo ca (λ i. omega arith) (λ t l m. (p t l m).at) (no_body w (calling w q n C J c j) (after_call (w.stack q) (RaiseCount n)) p) h
 
 spawn_exact : (w : World) (q : Party) (p : ℕ) → ExactHold w → IfSome (after_spawn w q p (w.stack q)) (Then_exact w)
-spawn_exact w q p h = if_cond (Then_exact w) (is_free ((w.stack q).top) && is_pool w.shape p) _ (λ f. made_exact w q (Detach p w.jobs) w.call (put w.job w.jobs (new_job q p (Detached p))) w.calls (w.jobs + 1) (omega arith) (omega arith) (one_old w (new_job q p (Detached p))) (λ i b. refl) (one_new w (new_job q p (Detached p)) (record { at = refl; kind = refl })) h)
+spawn_exact w q p h = if_cond (Then_exact w) (is_free ((w.stack q).top) && is_pool w.shape p) _
+    (λ f. made_exact w q (Detach p w.jobs) w.call (put w.job w.jobs (new_job q p (Detached p))) w.calls (w.jobs + 1) (omega arith) (omega arith) (one_old w (new_job q p (Detached p))) (λ i b. refl) (one_new w (new_job q p (Detached p)) (record { at = refl; kind = refl })) h)
 
 sent_exact : (w : World) (q : Party) (p : ℕ) (b : Bool) → ExactHold w → Then_exact w (after_send w q p (w.stack q) b)
 sent_exact w q p true h = made_exact w q (Here p w.jobs) w.call (put w.job w.jobs (new_job q p Direct)) w.calls (w.jobs + 1) (omega arith) (omega arith) (one_old w (new_job q p Direct)) (λ i b. refl) (one_new w (new_job q p Direct) (record { at = refl; kind = refl })) h
-sent_exact w q p false h = made_exact w q (Send (record { number = w.calls; pool = p; job = w.jobs })) (put w.call w.calls (new_call None w.jobs)) (put w.job w.jobs (new_job q p (Stored w.calls q))) (w.calls + 1) (w.jobs + 1) (omega arith) (omega arith) (one_old w (new_job q p (Stored w.calls q))) (call_old w (new_call None w.jobs)) (one_new w (new_job q p (Stored w.calls q)) (record { at = refl; kind = refl })) h
+sent_exact w q p false h = made_exact w q (Send (record { number = w.calls; pool = p; job = w.jobs })) (put w.call w.calls (new_call None w.jobs)) (put w.job w.jobs (new_job q p (Stored w.calls q))) (w.calls + 1) (w.jobs + 1) (omega arith) (omega arith)
+    (one_old w (new_job q p (Stored w.calls q))) (call_old w (new_call None w.jobs)) (one_new w (new_job q p (Stored w.calls q)) (record { at = refl; kind = refl })) h
 
 install_exact : (w : World) (q : Party) (p : ℕ) → ExactHold w → IfSome (after_install w q p (w.stack q)) (Then_exact w)
 install_exact w q p h = if_cond (Then_exact w) (is_free ((w.stack q).top) && is_pool w.shape p) _ (λ f. sent_exact w q p (is_member q p) h)
 
 join_exact : (w : World) (q : Party) → ExactHold w → IfSome (after_join w q (w.stack q)) (Then_exact w)
 join_exact w (Caller n) h = tt
-join_exact w (Worker p i) h = if_cond (Then_exact w) (is_free ((w.stack (Worker p i)).top)) _ (λ f. made_exact w (Worker p i) (Fork (record { number = w.calls; pool = p; job = w.jobs + 1 }) w.jobs) (put w.call w.calls (new_call (Some w.jobs) (w.jobs + 1))) (put (put w.job w.jobs (new_job (Worker p i) p Direct)) (w.jobs + 1) (new_job (Worker p i) p (Stored w.calls (Worker p i)))) (w.calls + 1) (w.jobs + 2) (omega arith) (omega arith) (two_old w (new_job (Worker p i) p Direct) (new_job (Worker p i) p (Stored w.calls (Worker p i)))) (call_old w (new_call (Some w.jobs) (w.jobs + 1))) (two_new w (new_job (Worker p i) p Direct) (new_job (Worker p i) p (Stored w.calls (Worker p i))) (record { at = refl; kind = refl }) (record { at = refl; kind = refl })) h)
+join_exact w (Worker p i) h = if_cond (Then_exact w) (is_free ((w.stack (Worker p i)).top)) _
+    (λ f. made_exact w (Worker p i) (Fork (record { number = w.calls; pool = p; job = w.jobs + 1 }) w.jobs) (put w.call w.calls (new_call (Some w.jobs) (w.jobs + 1)))
+    (put (put w.job w.jobs (new_job (Worker p i) p Direct)) (w.jobs + 1) (new_job (Worker p i) p (Stored w.calls (Worker p i)))) (w.calls + 1) (w.jobs + 2) (omega arith) (omega arith) (two_old w (new_job (Worker p i) p Direct) (new_job (Worker p i) p (Stored w.calls (Worker p i))))
+    (call_old w (new_call (Some w.jobs) (w.jobs + 1))) (two_new w (new_job (Worker p i) p Direct) (new_job (Worker p i) p (Stored w.calls (Worker p i))) (record { at = refl; kind = refl }) (record { at = refl; kind = refl })) h)
 
 -- a job of this count is no body
 kind_new : (q : Party) (p : ℕ) (k : Count) → IsNew (new_job q p (count_kind k))
 kind_new q p (OfPool r) = record { at = refl; kind = refl }
-kind_new q p (OfScope c o) = record { at = refl; kind = refl }
-kind_new q p (OfCast c o) = record { at = refl; kind = refl }
+kind_new q p _ = record { at = refl; kind = refl }
 
 feed_exact : (w : World) (d : Count) (p i : ℕ) → ExactHold w → Then_exact w (after_feed w d p i (w.stack (Worker p i)))
-feed_exact w d p i h = made_exact w (Worker p i) (Feed (record { count = d; pool = p; job = w.jobs; token = w.jobs + 1 })) w.call (put (put w.job w.jobs (new_job (Worker p i) p (count_kind d))) (w.jobs + 1) (new_job (Worker p i) p (TokenOf i (count_book d)))) w.calls (w.jobs + 2) (omega arith) (omega arith) (two_old w (new_job (Worker p i) p (count_kind d)) (new_job (Worker p i) p (TokenOf i (count_book d)))) (λ j b. refl) (two_new w (new_job (Worker p i) p (count_kind d)) (new_job (Worker p i) p (TokenOf i (count_book d))) (kind_new (Worker p i) p d) (record { at = refl; kind = refl })) h
+feed_exact w d p i h = made_exact w (Worker p i) (Feed (record { count = d; pool = p; job = w.jobs; token = w.jobs + 1 })) w.call (put (put w.job w.jobs (new_job (Worker p i) p (count_kind d))) (w.jobs + 1) (new_job (Worker p i) p (TokenOf i (count_book d)))) w.calls (w.jobs + 2)
+    (omega arith) (omega arith) (two_old w (new_job (Worker p i) p (count_kind d)) (new_job (Worker p i) p (TokenOf i (count_book d)))) (λ j b. refl)
+    (two_new w (new_job (Worker p i) p (count_kind d)) (new_job (Worker p i) p (TokenOf i (count_book d))) (kind_new (Worker p i) p d) (record { at = refl; kind = refl })) h
 
 fifo_exact : (w : World) (q : Party) (p : ℕ) → ExactHold w → IfSome (after_fifo w q p (w.stack q)) (Then_exact w)
 fifo_exact w q p h = fifo_cases (Then_exact w) w q p (spawn_exact w q p h) (λ i free. feed_exact w (OfPool p) p i h)
 
 enter_exact : (w : World) (q : Party) (z : Scope) → ExactHold w → IfSome (after_enter w q (w.stack q) (Some z)) (Then_exact w)
-enter_exact w q z h = if_cond (Then_exact w) (is_free ((w.stack q).top) && holds z.call (w.stack q)) _ (λ f. made_exact w q (Enter (record { call = z.call; owner = z.owner; pool = z.pool; job = w.jobs })) w.call (put w.job w.jobs (new_job q z.pool (Scoped z.call z.owner))) w.calls (w.jobs + 1) (omega arith) (omega arith) (one_old w (new_job q z.pool (Scoped z.call z.owner))) (λ i b. refl) (one_new w (new_job q z.pool (Scoped z.call z.owner)) (record { at = refl; kind = refl })) h)
+enter_exact w q z h = if_cond (Then_exact w) (is_free ((w.stack q).top) && holds z.call (w.stack q)) _
+    (λ f. made_exact w q (Enter (record { call = z.call; owner = z.owner; pool = z.pool; job = w.jobs })) w.call (put w.job w.jobs (new_job q z.pool (Scoped z.call z.owner))) w.calls (w.jobs + 1) (omega arith) (omega arith) (one_old w (new_job q z.pool (Scoped z.call z.owner)))
+    (λ i b. refl) (one_new w (new_job q z.pool (Scoped z.call z.owner)) (record { at = refl; kind = refl })) h)
 
 into_exact : (w : World) (q : Party) (n : ℕ) → ExactHold w → IfSome (after_into w q n (w.stack q)) (Then_exact w)
 into_exact w q n h = into_cases (Then_exact w) w q n (λ z e free held. enter_exact w q z h)
@@ -229,8 +214,7 @@ into_fifo_exact w q n h = into_fifo_cases (Then_exact w) w q n (λ z e free held
 -- the pieces of a broadcast are new
 piece_new_of : (q : Party) (k : Count) (p i : ℕ) → IsNew (new_piece q k p i)
 piece_new_of q (OfPool r) p i = record { at = refl; kind = refl }
-piece_new_of q (OfScope c o) p i = record { at = refl; kind = refl }
-piece_new_of q (OfCast c o) p i = record { at = refl; kind = refl }
+piece_new_of q _ p i = record { at = refl; kind = refl }
 
 pieces_new : (w : World) (q : Party) (b : Pieces) → b.first ≡ w.jobs → (t : ℕ) → w.jobs ≤ t → t + 1 ≤ w.jobs + b.workers → IsNew (put_pieces b (λ i j. new_piece q b.count b.pool i) w.job t)
 pieces_new w q b f t l m = by (is_piece b t) refl
@@ -243,7 +227,8 @@ pieces_old : (w : World) (q : Party) (b : Pieces) → b.first ≡ w.jobs → (t 
 pieces_old w q b f t l = piece_old b (λ i j. new_piece q b.count b.pool i) w.job t (piece_out b t (omega (arith, l, f)))
 
 deal_exact : (w : World) (q : Party) (d : Count) (p : ℕ) → ExactHold w → Then_exact w (after_deal w q d p (w.stack q))
-deal_exact w q d p h = begin_exact w u q (after_call (w.stack q) (RaiseForAll b)) (λ r. refl) (omega arith) (omega arith) (pieces_old w q b refl) (λ c y. refl) (λ c. omega arith) (λ t l m. (pieces_new w q b refl t l m).at) (no_body w u (after_call (w.stack q) (RaiseForAll b)) (pieces_new w q b refl)) h
+deal_exact w q d p h = begin_exact w u q (after_call (w.stack q) (RaiseForAll b)) (λ r. refl) (omega arith) (omega arith) (pieces_old w q b refl) (λ c y. refl) (λ c. omega arith) (λ t l m. (pieces_new w q b refl t l m).at)
+    (no_body w u (after_call (w.stack q) (RaiseForAll b)) (pieces_new w q b refl)) h
   where
     b : Pieces
     b = record { count = d; pool = p; first = w.jobs; workers = (w.shape.pool p).workers }
@@ -258,7 +243,9 @@ into_cast_exact : (w : World) (q : Party) (n : ℕ) → ExactHold w → IfSome (
 into_cast_exact w q n h = into_cast_cases (Then_exact w) w q n (λ z e free held. deal_exact w q (OfScope z.call z.owner) z.pool h)
 
 gather_exact : (w : World) (q : Party) (p : ℕ) → ExactHold w → IfSome (after_broadcast w q p (w.stack q)) (Then_exact w)
-gather_exact w q p h = if_cond (Then_exact w) (is_free ((w.stack q).top) && is_pool w.shape p) _ (λ f. made_exact w q (Gather (record { call = record { number = w.calls; pool = p; job = t0 }; pieces = b })) (put w.call w.calls (new_gathering b.workers t0)) (put J1 t0 (new_whole q p w.calls)) (w.calls + 1) (t0 + 1) (omega arith) (omega arith) old (call_old w (new_gathering b.workers t0)) (put_next J1 t0 w.jobs (new_whole q p w.calls) (record { at = refl; kind = refl }) (pieces_new w q b refl)) h)
+gather_exact w q p h = if_cond (Then_exact w) (is_free ((w.stack q).top) && is_pool w.shape p) _
+    (λ f. made_exact w q (Gather (record { call = record { number = w.calls; pool = p; job = t0 }; pieces = b })) (put w.call w.calls (new_gathering b.workers t0)) (put J1 t0 (new_whole q p w.calls)) (w.calls + 1) (t0 + 1) (omega arith) (omega arith) old
+    (call_old w (new_gathering b.workers t0)) (put_next J1 t0 w.jobs (new_whole q p w.calls) (record { at = refl; kind = refl }) (pieces_new w q b refl)) h)
   where
     b : Pieces
     b = record { count = OfCast w.calls q; pool = p; first = w.jobs; workers = (w.shape.pool p).workers }
@@ -274,7 +261,8 @@ gather_exact w q p h = if_cond (Then_exact w) (is_free ((w.stack q).top) && is_p
 
 -- a scope is opened: its party has the body's share from then on
 scope_exact : (w : World) (q : Party) (p : ℕ) → ExactHold w → IfSome (after_scope w q p (w.stack q)) (Then_exact w)
-scope_exact w q p h = if_cond (Then_exact w) (is_free ((w.stack q).top) && is_pool w.shape p) _ (λ f. begin_exact w u q k (λ r. refl) (omega arith) (omega arith) (one_old w j0) (call_old w (new_call None w.jobs)) (λ c. omega arith) (λ t l m. ap (λ n. is_dealt_out (put w.job w.jobs j0 n).at) (next t l m) ∙ ap (λ j. is_dealt_out (j.at)) (put_new w.job w.jobs j0)) mine h)
+scope_exact w q p h = if_cond (Then_exact w) (is_free ((w.stack q).top) && is_pool w.shape p) _
+    (λ f. begin_exact w u q k (λ r. refl) (omega arith) (omega arith) (one_old w j0) (call_old w (new_call None w.jobs)) (λ c. omega arith) (λ t l m. ap (λ n. is_dealt_out (put w.job w.jobs j0 n).at) (next t l m) ∙ ap (λ j. is_dealt_out (j.at)) (put_new w.job w.jobs j0)) mine h)
   where
     j0 : Job
     j0 = new_job q p (BodyOf w.calls q)
@@ -295,15 +283,19 @@ scope_exact w q p h = if_cond (Then_exact w) (is_free ((w.stack q).top) && is_po
         ((let g : c + 1 ≤ w.calls + 1 = omega (arith, i) in g), ap (λ n. (put w.call w.calls (new_call None w.jobs) n).job) (sym i) ∙ ap (λ v. v.job) (put_new w.call w.calls (new_call None w.jobs)) ∙ sym (next t l m), (let g : 1 ≤ all_bodies c k = omega (arith, x) in g))
 
 yield_exact : (w : World) (q : Party) (x : Place) → ExactHold w → IfSome (after_yield w q (w.stack q) x) (Then_exact w)
-yield_exact w (Worker a b) x h = if_cond (Then_exact w) (is_free ((w.stack (Worker a b)).top)) _ (λ f. still_exact w (record w { stack = put_stack w.stack (Worker a b) (after_call (w.stack (Worker a b)) x) }) (Worker a b) (after_call (w.stack (Worker a b)) x) (λ r. refl) refl refl refl refl (λ c. omega arith) h)
+yield_exact w (Worker a b) x h = if_cond (Then_exact w) (is_free ((w.stack (Worker a b)).top)) _
+    (λ f. still_exact w (record w { stack = put_stack w.stack (Worker a b) (after_call (w.stack (Worker a b)) x) }) (Worker a b) (after_call (w.stack (Worker a b)) x) (λ r. refl) refl refl refl refl (λ c. omega arith) h)
 yield_exact w (Caller n) x h = tt
 
 give_exact : (w : World) (q : Party) (p : ℕ) → ExactHold w → IfSome (after_end_pool w q p (w.stack q)) (Then_exact w)
-give_exact w q p h = if_cond (Then_exact w) (is_free ((w.stack q).top) && (is_pool w.shape p && (w.pool p).held)) _ (λ f. still_exact w (record w { stack = put_stack w.stack q (after_call (w.stack q) (LowerCount (OfPool p) PoolValue Resume)); pool = put w.pool p (record (w.pool p) { held = false }) }) q (after_call (w.stack q) (LowerCount (OfPool p) PoolValue Resume)) (λ r. refl) refl refl refl refl (λ c. omega arith) h)
+give_exact w q p h = if_cond (Then_exact w) (is_free ((w.stack q).top) && (is_pool w.shape p && (w.pool p).held)) _
+    (λ f. still_exact w (record w { stack = put_stack w.stack q (after_call (w.stack q) (LowerCount (OfPool p) PoolValue Resume)); pool = put w.pool p (record (w.pool p) { held = false }) }) q (after_call (w.stack q) (LowerCount (OfPool p) PoolValue Resume)) (λ r. refl) refl refl refl refl
+    (λ c. omega arith) h)
 
 go_exact : (w : World) (q : Party) → ExactHold w → IfSome (step w (Go q)) (Then_exact w)
 go_exact w q h = acted_keeps w q (w.stack q) (target_pool q (act_of q ((w.stack q).top))) (target_worker q (act_of q ((w.stack q).top))) (target_call (act_of q ((w.stack q).top))) (job_at w q (act_of q ((w.stack q).top))) (outcome w q (w.stack q)) (Then_exact w)
-    (if_some_map (λ r. Passes w (world_after w q ((w.stack q).top) ((w.stack q).below) r) q (stack_after w q ((w.stack q).top) ((w.stack q).below) (r.0))) (λ r. Then_exact w (world_after w q ((w.stack q).top) ((w.stack q).below) r)) (λ r p. exact_keep w (world_after w q ((w.stack q).top) ((w.stack q).below) r) q (stack_after w q ((w.stack q).top) ((w.stack q).below) (r.0)) p h) (outcome w q (w.stack q)) (go_by w q h))
+    (if_some_map (λ r. Passes w (world_after w q ((w.stack q).top) ((w.stack q).below) r) q (stack_after w q ((w.stack q).top) ((w.stack q).below) (r.0))) (λ r. Then_exact w (world_after w q ((w.stack q).top) ((w.stack q).below) r))
+    (λ r p. exact_keep w (world_after w q ((w.stack q).top) ((w.stack q).below) r) q (stack_after w q ((w.stack q).top) ((w.stack q).below) (r.0)) p h) (outcome w q (w.stack q)) (go_by w q h))
 
 each_exact : (w : World) (e : Event) → ExactHold w → IfSome (step w e) (Then_exact w)
 each_exact w (Go q) h = go_exact w q h
@@ -358,7 +350,8 @@ always_counted h es w r = counted (run_keeps KeepersHold step_keepers (start h) 
   where
     counted : KeepersHold w → ExactHold w → IsCounted w
     counted k x = record {
-      count = λ p. (let a : sum_below w.jobs (λ t. tally p (w.job t)) + one (w.pool p).counted ≡ (w.pool p).count = ((k.returns).shares).sums p in let b : count_below w.jobs (λ t. has_share p (w.job t)) ≡ sum_below w.jobs (λ t. tally p (w.job t)) = count_sum w.jobs (λ t. has_share p (w.job t)) in omega (arith, a, b));
+      count = λ p. (let a : sum_below w.jobs (λ t. tally p (w.job t)) + one (w.pool p).counted ≡ (w.pool p).count = ((k.returns).shares).sums p in
+          let b : count_below w.jobs (λ t. has_share p (w.job t)) ≡ sum_below w.jobs (λ t. tally p (w.job t)) = count_sum w.jobs (λ t. has_share p (w.job t)) in omega (arith, a, b));
       made = ((k.returns).shares).unmade;
       value = λ p. kept_once (λ q. all_values p (w.stack q)) ((w.pool p).held) ((w.pool p).counted) (((k.returns).shares).values p) (k.values p);
       jobs = λ t. kept_once (λ q. shares t (w.stack q)) (keeps_own (w.job t)) ((w.job t).counted) (((k.returns).shares).jobs t) (k.jobs t);

@@ -4,40 +4,11 @@
 -- Of the shares that wait it is enough that no act adds to them (`act_lessens`). A piece comes into a list only by the
 -- act after which none waits (`deals`, over `pushed` of Amounts).
 use Rattle.std.proofs.Common.{arith, refl, sym, ◌∙◌, ap, subst, inl, inr}
-use Rattle.std.specs.Prelude.{ℕ, zero, suc, Bool, true, false, ◌&&◌, ◌||◌, ◌+◌, ◌-◌, ◌==◌, ◌≤◌, ◌<◌, if◌then◌else◌, Some, None, List, ◌≡◌, ◌⊎◌, IfSome}
-use Rattle.std.proofs.lemmas.Bool.{eqb-true, ltb-true, ltb-false}
-use Rattle.std.proofs.Math.Dec.{ltb}
-use Rattle.rayon_machine_places.specs.declared.place.Party.{Party}
-use Rattle.rayon_machine_places.specs.declared.place.Party.TheVariants.{Worker, Caller}
-use Rattle.rayon_machine_places.specs.declared.place.Ending.{Ending}
-use Rattle.rayon_machine_places.specs.declared.place.JobKind.TheVariants.{BodyOf, PieceOf}
-use Rattle.rayon_machine_places.specs.declared.place.Plan.{Plan}
-use Rattle.rayon_machine_places.specs.declared.place.Plan.TheVariants.{Detach, Here, Send, Fork, Feed, Open, Enter, Gather}
-use Rattle.rayon_machine_places.specs.declared.place.Count.{Count}
-use Rattle.rayon_machine_places.specs.declared.place.Count.TheVariants.{OfPool, OfScope, OfCast}
-use Rattle.rayon_machine_places.specs.declared.place.Share.{Share}
-use Rattle.rayon_machine_places.specs.declared.place.Share.TheVariants.{PoolValue, OfJob, Body}
-use Rattle.rayon_machine_places.specs.declared.place.Pieces.{Pieces}
-use Rattle.rayon_machine_places.specs.declared.place.Gathering.{Gathering}
-use Rattle.rayon_machine_places.specs.declared.place.OpenCall.{OpenCall}
-use Rattle.rayon_machine_places.specs.declared.place.Place.{Place}
-use Rattle.rayon_machine_places.specs.declared.place.Place.TheVariants.{RaiseCount, LowerCount, PushJob, AddToFifo, RaiseForAll, LowerForAll, PushForAll, DealPieces}
-use Rattle.rayon_machine_places.specs.declared.place.Move.{Move}
-use Rattle.rayon_machine_places.specs.declared.place.Move.TheVariants.{HandBack}
-use Rattle.rayon_machine_places.specs.declared.act.Seen.{Seen}
-use Rattle.rayon_machine_places.specs.declared.act.Seen.TheVariants.{Done, Refused}
-use Rattle.rayon_machine_places.specs.declared.state.Whereabouts.{Whereabouts}
-use Rattle.rayon_machine_places.specs.declared.state.Whereabouts.TheVariants.{Over, HandedBack}
-use Rattle.rayon_machine_places.specs.declared.state.Job.{Job}
-use Rattle.rayon_machine_places.specs.declared.shape.PoolShape.{PoolShape}
-use Rattle.rayon_machine_places.specs.Places.{same_party, act_of, next_of, count_call, count_kind, count_book}
-use Rattle.rayon_machine_places.specs.World.{Shape, Stack, World, Counts, counts_at, Part, target_pool, target_call, at_job, lowered, raised, all_raised, undealt_after, casts_with, left_book, effect}
-use Rattle.rayon_machine_places.specs.Steps.{put, put_stack, is_piece, after_move, jobs_after}
-use Rattle.rayon_machine_places.specs.Readers.{is_done}
-use Rattle.rayon_machine_laws.specs.Once.{one}
-use Rattle.rayon_machine_laws.specs.Counted.{is_detached}
-use Rattle.rayon_machine_laws.specs.Shares.{is_busy}
-use Rattle.rayon_machine_laws.specs.Bodies.{body, bodies_in, all_bodies}
+use Rattle.rayon_machine_orders.proofs.Words.{ℕ, zero, suc, Bool, true, false, ◌&&◌, ◌||◌, ◌+◌, ◌-◌, ◌==◌, ◌≤◌, ◌<◌, if◌then◌else◌, Some, None, List, ◌≡◌, ◌⊎◌, IfSome, eqb-true, ltb-true, ltb-false, ltb, Party, Worker, Caller, Ending, BodyOf, PieceOf, Plan, Detach, Here, Send, Fork, Feed, Open}
+use Rattle.rayon_machine_orders.proofs.Words.{Enter, Gather, Count, OfPool, OfScope, OfCast, Share, PoolValue, OfJob, Body, Pieces, Gathering, OpenCall, Place, RaiseCount, LowerCount, PushJob, AddToFifo, RaiseForAll, LowerForAll, PushForAll, DealPieces, Move, HandBack, Seen, Done, Refused}
+use Rattle.rayon_machine_orders.proofs.Words.{Whereabouts, Over, HandedBack, Job, PoolShape, same_party, act_of, next_of, count_call, count_kind, count_book, Shape, Stack, World, Counts, counts_at, Part, target_pool, target_call, at_job, lowered, raised, casts_with, left_book, effect, put}
+use Rattle.rayon_machine_orders.proofs.Words.{put_stack, is_piece, after_move, jobs_after, is_done, one, is_detached, is_busy, body, bodies_in, all_bodies}
+use Rattle.rayon_machine_places.specs.World.{all_raised, undealt_after}
 use Rattle.rayon_machine_laws.proofs.Frame.{either, if_some_and, if_some_map, if_some_all, put_new, stack_mine, stack_other}
 use Rattle.rayon_machine_laws.proofs.Ties.{job_at, outcome}
 use Rattle.rayon_machine_laws.proofs.PlacedEvents.{Advance, IsFinal}
@@ -141,13 +112,11 @@ raise_all_lessens m c false = record { counted = omega arith; undealt = omega ar
 
 lower_lessens : (m : Part) (k : Count) (s : Share) (e : Seen) → Lessens m (e, lowered m k s)
 lower_lessens m k PoolValue e = record { counted = omega arith; undealt = omega arith }
-lower_lessens m k Body e = record { counted = omega arith; undealt = omega arith }
-lower_lessens m k (OfJob t) e = record { counted = omega arith; undealt = omega arith }
+lower_lessens m k _ e = record { counted = omega arith; undealt = omega arith }
 
 deal_lessens : (k : Count) (n : ℕ) → undealt_after k n ≤ n
 deal_lessens (OfPool p) n = omega arith
-deal_lessens (OfScope c o) n = omega arith
-deal_lessens (OfCast c o) n = omega arith
+deal_lessens _ n = omega arith
 
 act_lessens : (h : Shape) (q : Party) (c : Counts) (m : Part) (x : Place) → IfSome (effect (act_of q x) h q c m) (Lessens m)
 act_lessens h (Worker a b) c m (RaiseCount n) = raise_lessens m _ _
@@ -162,7 +131,8 @@ act_lessens h (Caller i) c m (LowerCount k s n) = lower_lessens m k s _
 act_lessens h (Caller i) c m (LowerForAll n) = record { counted = omega arith; undealt = omega arith }
 act_lessens h (Caller i) c m (PushForAll n) = record { counted = omega arith; undealt = deal_lessens n.count m.call.undealt }
 act_lessens h (Caller i) c m (DealPieces g) = record { counted = omega arith; undealt = deal_lessens (g.pieces).count m.call.undealt }
-act_lessens h q c m x = if_some_map (Uncalled m) (Lessens m) (λ r e. record { counted = (let i : one r.1.call.counted ≡ one m.call.counted = ap one (e.counted) in omega (arith, i)); undealt = (let i : r.1.call.undealt ≡ m.call.undealt = e.undealt in omega (arith, i)) }) (effect (act_of q x) h q c m) (act_uncalled h q c m x refl)
+act_lessens h q c m x = if_some_map (Uncalled m) (Lessens m) (λ r e. record { counted = (let i : one r.1.call.counted ≡ one m.call.counted = ap one (e.counted) in omega (arith, i)); undealt = (let i : r.1.call.undealt ≡ m.call.undealt = e.undealt in omega (arith, i)) })
+    (effect (act_of q x) h q c m) (act_uncalled h q c m x refl)
 
 -- the share of a body that is given back is not counted then
 abbrev spends : Place → Bool
@@ -209,9 +179,8 @@ is_dealer _ = false
 
 -- no other act queues one
 part_count : (w : World) (k : Count) (p : ℕ) → KnownCount w k p → is_part (count_kind k) ≡ false
-part_count w (OfPool r) p s = refl
-part_count w (OfScope c o) p s = refl
 part_count w (OfCast c o) p s = absurd s
+part_count w _ p s = refl
 
 unlike : (w : World) (t j : ℕ) → is_part (w.job t).kind ≡ true → is_part (w.job j).kind ≡ false → one (t == j) ≡ 0
 unlike w t j p d = by (t == j) refl
@@ -225,12 +194,9 @@ push_none w q (Detach p j) v Done t s k = unlike w t j k (ap is_part (s.kind))
 push_none w q (Detach p j) v _ t s k = refl
 push_none w q (Enter x) v Done t s k = unlike w t (x.job) k (ap is_part ((s.0).kind))
 push_none w q (Enter x) v _ t s k = refl
-push_none w q (Here p j) v e t s k = absurd s
-push_none w q (Feed f) v e t s k = absurd s
-push_none w q (Open o) v e t s k = absurd s
-push_none w q (Gather g) v e t s k = absurd s
 push_none w q (Send o) v e t s k = refl
 push_none w q (Fork o a) v e t s k = refl
+push_none w q _ v e t s k = absurd s
 
 pushed_none : (w : World) (q : Party) (x : Place) (e : Seen) (t : ℕ) → is_dealer x ≡ false → Says w q x → is_part (w.job t).kind ≡ true → pushed t x e ≡ 0
 pushed_none w q (PushJob n v) e t z s k = push_none w q n v e t s k
@@ -249,7 +215,8 @@ pushed_none w q _ e t z s k = refl
 abbrev Deals : World → Party → Place → List Place → Seen × Part → Type 0
 Deals w q x fs r = (t c : ℕ) (o : Party) → (w.job t).kind ≡ PieceOf c o → 1 ≤ pushed t x (r.0) → ((world_after w q x fs r).call c).undealt ≡ 0
 
-deal_deals : (w : World) (q : Party) (g : Gathering) (fs : List Place) (m : Part) → SaysGather w q g → m.call.undealt ≡ undealt_after g.pieces.count (place_part w q (DealPieces g)).call.undealt → target_call (act_of q (DealPieces g)) ≡ count_call g.pieces.count → Deals w q (DealPieces g) fs (Done, m)
+deal_deals : (w : World) (q : Party) (g : Gathering) (fs : List Place) (m : Part) → SaysGather w q g → m.call.undealt ≡ undealt_after g.pieces.count (place_part w q (DealPieces g)).call.undealt → target_call (act_of q (DealPieces g)) ≡ count_call g.pieces.count
+    → Deals w q (DealPieces g) fs (Done, m)
 deal_deals w q g fs m s un nc t c o k l = by (is_piece g.pieces t) refl l
   where
     c0 : ℕ

@@ -4,37 +4,14 @@
 -- share back (`spent` of Bodies): that takes it out of the count. Or the move hands a body back (`dropped`): that very
 -- one (`says_drop`). So neither leaves a share without a keeper.
 use Rattle.std.proofs.Common.{arith, refl}
-use Rattle.std.specs.Prelude.{ℕ, Bool, true, false, ◌&&◌, ◌+◌, ◌-◌, ◌==◌, ◌≤◌, nat_lt, if◌then◌else◌, Option, Some, None, List, [], ◌∷◌, ◌≡◌, ⊤}
-use Rattle.rayon_machine_places.specs.declared.place.Party.{Party}
-use Rattle.rayon_machine_places.specs.declared.place.Party.TheVariants.{Worker, Caller}
-use Rattle.rayon_machine_places.specs.declared.place.Ending.{Ending}
-use Rattle.rayon_machine_places.specs.declared.place.Ending.TheVariants.{Fine, Fault}
-use Rattle.rayon_machine_places.specs.declared.place.JobKind.{JobKind}
-use Rattle.rayon_machine_places.specs.declared.place.JobKind.TheVariants.{Detached, Stored, Direct, TokenOf, Scoped, BodyOf, PieceOf, WholeOf}
-use Rattle.rayon_machine_places.specs.declared.place.Target.{Target}
-use Rattle.rayon_machine_places.specs.declared.place.Latch.{Latch}
-use Rattle.rayon_machine_places.specs.declared.place.Latch.TheVariants.{Terminate, OfCall}
-use Rattle.rayon_machine_places.specs.declared.place.Plan.{Plan}
-use Rattle.rayon_machine_places.specs.declared.place.Plan.TheVariants.{Detach, Here, Send, Fork, Feed, Open, Enter, Gather}
-use Rattle.rayon_machine_places.specs.declared.place.Count.{Count}
-use Rattle.rayon_machine_places.specs.declared.place.Count.TheVariants.{OfPool, OfScope, OfCast}
-use Rattle.rayon_machine_places.specs.declared.place.Share.TheVariants.{PoolValue, OfJob, Body}
-use Rattle.rayon_machine_places.specs.declared.place.Then.{Then}
-use Rattle.rayon_machine_places.specs.declared.place.Then.TheVariants.{BeginFound, LeaveWait, Resume, Await, RunFirst, Answers, Missing, Ran, GiveBack, Called, Gathers}
-use Rattle.rayon_machine_places.specs.declared.place.Taken.{Taken}
-use Rattle.rayon_machine_places.specs.declared.place.Taken.TheVariants.{Plain, Token}
-use Rattle.rayon_machine_places.specs.declared.place.Place.{Place}
-use Rattle.rayon_machine_places.specs.declared.place.Place.TheVariants.{ProbeWorking, PopWorking, TakeCastWorking, ProbeIdle, PopIdle, TakeCastIdle, PickVictim, StealFrom, PopInjected, AnnounceSelf, GetSleepy, FallAsleep, LoadCounters, AddSleeping, LookAtCast, LookAtInjector, LeaveSearch, JoinProbe, JoinPop, JoinTakeCast, YieldPop, YieldTakeCast, YieldPick, YieldSteal, YieldPopInjected, LocalPop, LocalTakeCast, BeginTask, RaiseCount, GrowCall, LookQueue, PushJob, TellNews, LockToWake, WakeWorker, UnlockWoken, TakeResult, LowerCount, SetLatch, UnlockSettled, SetLockLatch, FirstSide, SecondSide, AtOnce, AddToFifo, LookForToken, PushToken, TakeFromFifo, RaiseForAll, PushForAll, LowerForAll, GrowScope, OpenSlot, CloseSlot, ScopeBody, OpenForAll, GrowCast, DealPieces}
-use Rattle.rayon_machine_places.specs.declared.place.Move.{Move}
-use Rattle.rayon_machine_places.specs.declared.place.Move.TheVariants.{Stay, Enter as Into, StartRun, Back, HandBack, Discard, HandIn, Mark, HandAllBack}
-use Rattle.rayon_machine_places.specs.declared.act.Seen.{Seen}
-use Rattle.rayon_machine_places.specs.declared.act.Seen.TheVariants.{Done, Yes, Task, Jec, Word, Start, Wakes, Begun, Found, Handed, Opened as Slots}
-use Rattle.rayon_machine_places.specs.declared.shape.PoolShape.{PoolShape}
-use Rattle.rayon_machine_places.specs.declared.place.Settling.{Settling}
-use Rattle.rayon_machine_places.specs.Places.{own_pool, finish, walk, settle, after_set, after_found, after_news, after_raise, set_call, next_of, is_taken, settle_count, after_push, after_slot, withdraw, plan_pool, plan_book, goes_on, is_refusable}
-use Rattle.rayon_machine_places.specs.World.{World}
-use Rattle.rayon_machine_places.specs.Steps.{after_move, after_close}
-use Rattle.rayon_machine_laws.specs.Bodies.{in_scope, plan_body, body_then, body, bodies_in, all_bodies}
+use Rattle.rayon_machine_orders.proofs.Words.{ℕ, Bool, true, false, ◌&&◌, ◌+◌, ◌-◌, ◌==◌, ◌≤◌, nat_lt, if◌then◌else◌, Option, Some, None, List, [], ◌∷◌, ◌≡◌, ⊤, Party, Worker, Caller, Ending, Fine, Fault, JobKind, Detached, Stored, Direct, TokenOf, Scoped, BodyOf, PieceOf, WholeOf, Target}
+use Rattle.rayon_machine_orders.proofs.Words.{Latch, Terminate, OfCall, Plan, Detach, Here, Send, Fork, Feed, Open, Enter, Gather, Count, OfPool, OfScope, OfCast, PoolValue, OfJob, Body, Then, BeginFound, LeaveWait, Resume, Await, RunFirst, Answers, Missing, Ran, GiveBack, Called, Gathers}
+use Rattle.rayon_machine_orders.proofs.Words.{Taken, Plain, Token, Place, ProbeWorking, PopWorking, TakeCastWorking, ProbeIdle, PopIdle, TakeCastIdle, PickVictim, StealFrom, PopInjected, AnnounceSelf, GetSleepy, FallAsleep, LoadCounters, AddSleeping, LookAtCast, LookAtInjector, LeaveSearch}
+use Rattle.rayon_machine_orders.proofs.Words.{JoinProbe, JoinPop, JoinTakeCast, YieldPop, YieldTakeCast, YieldPick, YieldSteal, YieldPopInjected, LocalPop, LocalTakeCast, BeginTask, RaiseCount, GrowCall, LookQueue, PushJob, TellNews, LockToWake, WakeWorker, UnlockWoken, TakeResult, LowerCount}
+use Rattle.rayon_machine_orders.proofs.Words.{SetLatch, UnlockSettled, SetLockLatch, FirstSide, SecondSide, AtOnce, AddToFifo, LookForToken, PushToken, TakeFromFifo, RaiseForAll, PushForAll, LowerForAll, GrowScope, OpenSlot, CloseSlot, ScopeBody, OpenForAll, GrowCast, DealPieces, Move, Stay}
+use Rattle.rayon_machine_orders.proofs.Words.{EnterAbove as Into, StartRun, Back, HandBack, Discard, HandIn, Mark, HandAllBack, Seen, Done, Yes, Task, Jec, Word, Start, Wakes, Begun, Found, Handed, Opened as Slots, PoolShape, Settling, own_pool, finish, walk, settle, after_set, after_found}
+use Rattle.rayon_machine_orders.proofs.Words.{after_news, after_raise, set_call, next_of, is_taken, settle_count, after_push, after_slot, withdraw, plan_pool, plan_book, goes_on, is_refusable, World, after_move, after_close, body, bodies_in, all_bodies}
+use Rattle.rayon_machine_laws.specs.Bodies.{in_scope, plan_body, body_then}
 use Rattle.rayon_machine_laws.proofs.Claims.{Opened, SaysPlan, SaysThen, Says}
 use Rattle.rayon_machine_laws.proofs.Bodies.{body_move, spent}
 
@@ -119,11 +96,6 @@ more_bodies g q t (SetLockLatch c n) e z = let a : body_then t n ≤ kept_move t
 more_bodies g q t x e z = omega arith
 
 pub land_more : (t : ℕ) (g : Move) (fs : List Place) → body_move t g + bodies_in t fs ≤ all_bodies t (after_move g fs)
-land_more t (Stay y) fs = omega arith
-land_more t (HandIn y token) fs = omega arith
-land_more t (Mark y b m) fs = omega arith
-land_more t (Into f y) fs = omega arith
-land_more t (StartRun f a) fs = omega arith
 land_more t Back [] = omega arith
 land_more t Back (f ∷ fs) = omega arith
 land_more t (HandBack n) [] = omega arith
@@ -132,21 +104,15 @@ land_more t (Discard n) [] = omega arith
 land_more t (Discard n) (f ∷ fs) = omega arith
 land_more t (HandAllBack b) [] = omega arith
 land_more t (HandAllBack b) (f ∷ fs) = omega arith
+land_more t _ fs = omega arith
 
 -- nor does the end of a run lose it
 more_on : (s : ℕ) (f : Place) (e : Ending) → body s f ≤ body s (goes_on f e)
 more_on s (FirstSide o a) Fine = omega arith
 more_on s (FirstSide o a) Fault = omega arith
-more_on s (SecondSide o) e = omega arith
-more_on s (ScopeBody o) e = omega arith
-more_on s (AtOnce p t) e = omega arith
 more_on s f e = omega arith
 
 pub closed_more : (s t : ℕ) (k : JobKind) (e : Ending) (fs : List Place) → bodies_in s fs ≤ all_bodies s (after_close t k e fs)
-closed_more s t (Detached p) e fs = omega arith
-closed_more s t (Stored c o) e fs = omega arith
-closed_more s t (Scoped c o) e fs = omega arith
-closed_more s t (PieceOf c o) e fs = omega arith
 closed_more s t Direct e [] = omega arith
 closed_more s t (TokenOf i b) e [] = omega arith
 closed_more s t (BodyOf c o) e [] = omega arith
@@ -155,6 +121,7 @@ closed_more s t Direct e (f ∷ fs) = let a : body s f ≤ body s (goes_on f e) 
 closed_more s t (TokenOf i b) e (f ∷ fs) = let a : body s f ≤ body s (goes_on f e) = more_on s f e in omega (arith, a)
 closed_more s t (BodyOf c o) e (f ∷ fs) = let a : body s f ≤ body s (goes_on f e) = more_on s f e in omega (arith, a)
 closed_more s t (WholeOf c o) e (f ∷ fs) = let a : body s f ≤ body s (goes_on f e) = more_on s f e in omega (arith, a)
+closed_more s t _ e fs = omega arith
 
 -- a refused act hands nothing back at once
 pub none_dropped : (g : PoolShape) (q : Party) (t : ℕ) (x : Place) (e : Seen) → is_refusable x ≡ true → dropped t (next_of g q x e) ≤ 0
@@ -221,8 +188,7 @@ drop_settled w g q k (OfCall i) s = drop_finish w q k.then s
 
 drop_count : (w : World) (g : PoolShape) (q : Party) (k : Count) (n : Then) → SaysThen w q n → SaysDrop w q (settle_count g q k n)
 drop_count w g q (OfPool r) n s = drop_settle w g q r 0 n s
-drop_count w g q (OfScope c o) n s = tt
-drop_count w g q (OfCast c o) n s = tt
+drop_count w g q _ n s = tt
 
 drop_raised : (w : World) (q : Party) (n : Plan) → SaysDrop w q (after_raise n)
 drop_raised w q (Feed f) = tt

@@ -1,7 +1,8 @@
 -- the faults that calls keep, over each act
 use Rattle.std.proofs.Common.{◌∙◌, ap, inl, inr, refl, subst, sym}
-use Rattle.std.proofs.lemmas.Bool.{eqb-true}
-use Rattle.std.specs.Prelude.{◌⊎◌, ◌≡◌, ◌==◌, ◌+◌, ◌≤◌, ℕ, if◌then◌else◌, Bool, IfSome, List, None, Option, Some, false, true}
+use Rattle.rayon_machine_orders.proofs.Words.{eqb-true, ◌⊎◌, ◌≡◌, ◌==◌, ◌+◌, ◌≤◌, ℕ, if◌then◌else◌, Bool, IfSome, List, None, Option, Some, false, true, is_of_scope, follows, IsStoredFor, stored_by, act_of, next_of, same_party, after_move, put, Counts, Outcome, Part, World, counts_at}
+use Rattle.rayon_machine_orders.proofs.Words.{target_call, target_pool, told, Seen, Found, Ending, Fault, Fine, JobKind, Scoped, WholeOf, OpenCall, Party, Caller, Worker, Place, StoreBody, StorePiece, StoreResult, StoreSlot, TakeResult, Then, Answers, Await, BeginFound, Called, Gathers}
+use Rattle.rayon_machine_orders.proofs.Words.{GiveBack, LeaveWait, Missing as NoResult, Ran, Resume, RunFirst, Over}
 use Rattle.rayon_machine_laws.proofs.ClaimActs.{Lasting, Written, act_written, stores}
 use Rattle.rayon_machine_laws.proofs.ClaimRuns.{CallsHold, place_part, top_says, world_after}
 use Rattle.rayon_machine_laws.proofs.Claims.{EndsAs, FirstEnds, IsReady, Opened, Says, SaysThen, call_kind, is_body}
@@ -11,30 +12,11 @@ use Rattle.rayon_machine_laws.proofs.ShareEvents.{ready}
 use Rattle.rayon_machine_laws.proofs.ShareSteps.{Ready}
 use Rattle.rayon_machine_laws.proofs.Ties.{AllFrames, job_at, outcome, result}
 use Rattle.rayon_machine_laws.proofs.Tops.{Tops, top_after}
-use Rattle.rayon_machine_laws.specs.Counted.{is_of_scope}
-use Rattle.rayon_machine_laws.specs.End.{follows}
 use Rattle.rayon_machine_orders.proofs.FaultPlaces.{NoEnd, On, Told, act_end, answer_of, answers_on, frame_on, is_storing, moved_end, sees_answer, then_answer, told_of}
-use Rattle.rayon_machine_orders.proofs.Faults.{Answered, FaultOf, FaultsHold, FirstOf, KeepsFor, StoredSo, TakesOf, act_first, act_takes, call_bodied, call_matches, hold_of, is_whole, keeps_fault, keeps_new, keeps_none, keeps_on, keeps_quiet, keeps_told, puts, puts_counts, puts_says, puts_stored, stored_none, stored_now, stored_so}
+use Rattle.rayon_machine_orders.proofs.Faults.{Answered, FaultOf, FaultsHold, FirstOf, KeepsFor, StoredSo, TakesOf, act_first, act_takes, call_bodied, call_matches, hold_of, is_whole, keeps_fault, keeps_new, keeps_none, keeps_on, keeps_quiet, keeps_told, puts, puts_counts, puts_says}
+use Rattle.rayon_machine_orders.proofs.Faults.{puts_stored, stored_none, stored_now, stored_so}
 use Rattle.rayon_machine_orders.proofs.FilledStates.{FilledHold}
 use Rattle.rayon_machine_orders.proofs.Takes.{seen_set}
-use Rattle.rayon_machine_orders.specs.Faults.{IsStoredFor, stored_by}
-use Rattle.rayon_machine_places.specs.Places.{act_of, next_of, same_party}
-use Rattle.rayon_machine_places.specs.Steps.{after_move, put}
-use Rattle.rayon_machine_places.specs.World.{Counts, Outcome, Part, World, counts_at, target_call, target_pool, told}
-use Rattle.rayon_machine_places.specs.declared.act.Seen.{Seen}
-use Rattle.rayon_machine_places.specs.declared.act.Seen.TheVariants.{Found}
-use Rattle.rayon_machine_places.specs.declared.place.Ending.{Ending}
-use Rattle.rayon_machine_places.specs.declared.place.Ending.TheVariants.{Fault, Fine}
-use Rattle.rayon_machine_places.specs.declared.place.JobKind.{JobKind}
-use Rattle.rayon_machine_places.specs.declared.place.JobKind.TheVariants.{Scoped, WholeOf}
-use Rattle.rayon_machine_places.specs.declared.place.OpenCall.{OpenCall}
-use Rattle.rayon_machine_places.specs.declared.place.Party.{Party}
-use Rattle.rayon_machine_places.specs.declared.place.Party.TheVariants.{Caller, Worker}
-use Rattle.rayon_machine_places.specs.declared.place.Place.{Place}
-use Rattle.rayon_machine_places.specs.declared.place.Place.TheVariants.{StoreBody, StorePiece, StoreResult, StoreSlot, TakeResult}
-use Rattle.rayon_machine_places.specs.declared.place.Then.{Then}
-use Rattle.rayon_machine_places.specs.declared.place.Then.TheVariants.{Answers, Await, BeginFound, Called, Gathers, GiveBack, LeaveWait, Missing as NoResult, Ran, Resume, RunFirst}
-use Rattle.rayon_machine_places.specs.declared.state.Whereabouts.TheVariants.{Over}
 
 -- what an act leaves of the faults
 record Act (w : World) (q : Party) (x : Place) (fs : List Place) (r : Seen × Part) : Type 0 where
@@ -46,7 +28,8 @@ record Act (w : World) (q : Party) (x : Place) (fs : List Place) (r : Seen × Pa
   goes : Tops (On (sees_answer x (r.0))) (next_of (w.shape.pool (target_pool q (act_of q x))) q x (r.0))
 
 -- an answer stays while its call keeps what it keeps
-pub answered_on : (w u : World) (o : OpenCall) (e : Ending) → ((d : Ending) → (w.job o.job).at ≡ Over d → (u.job o.job).at ≡ Over d) → (u.job o.job).kind ≡ (w.job o.job).kind → (u.call o.number).fault ≡ (w.call o.number).fault → ((w.call o.number).count ≡ 0 → (u.call o.number).count ≡ 0) → Answered w o e → Answered u o e
+pub answered_on : (w u : World) (o : OpenCall) (e : Ending) → ((d : Ending) → (w.job o.job).at ≡ Over d → (u.job o.job).at ≡ Over d) → (u.job o.job).kind ≡ (w.job o.job).kind → (u.call o.number).fault ≡ (w.call o.number).fault → ((w.call o.number).count ≡ 0 → (u.call o.number).count ≡ 0)
+    → Answered w o e → Answered u o e
 answered_on w u o e over kind fault count a = record {
   own = a.own;
   at = λ b. over a.own (a.at (ap is_whole (sym kind) ∙ b));
@@ -57,16 +40,7 @@ answered_on w u o e over kind fault count a = record {
 
 answer_then : (t : Then) (o : OpenCall) (f : Option Ending) (e : Ending) → then_answer t ≡ Some (o, (f, e)) → t ≡ Answers o f e
 answer_then (Answers a g d) o f e z = let i : ◌≡◌ {A = Told} (a, (g, d)) (o, (f, e)) = cc in ap (λ v. Answers (v.0) ((v.1).0) ((v.1).1)) i
-answer_then (BeginFound a b) o f e z = cc
-answer_then (LeaveWait a) o f e z = cc
-answer_then Resume o f e z = cc
-answer_then Called o f e z = cc
-answer_then (Gathers a) o f e z = cc
-answer_then (Await a) o f e z = cc
-answer_then (RunFirst a b) o f e z = cc
-answer_then (NoResult a b) o f e z = cc
-answer_then (Ran a b) o f e z = cc
-answer_then (GiveBack a) o f e z = cc
+answer_then _ o f e z = cc
 
 answer_follows : (k : Option Then) (o : OpenCall) (f : Option Ending) (e : Ending) → told_of k ≡ Some (o, (f, e)) → k ≡ Some (Answers o f e)
 answer_follows None o f e z = cc
@@ -170,7 +144,8 @@ faults_act : (w : World) (q : Party) (x : Place) (fs : List Place) (r : Seen × 
 faults_act w q x fs r h z d g = record {
   fills = g;
   kept = λ c t e. kept c t (keeps_new (call_sort c) (w.call c).fault (stored_by w c (act_of q x)) (u.call c).fault t (d.first c) e);
-  untold = λ t c l s a. (let i : is_of_scope c (w.job t).kind ≡ true = ap (is_of_scope c) (sym (lasts.kinds t)) ∙ s in subst (λ j. KeepsFor j (u.call c).fault t ⊎ ((p : Party) × (puts (u.stack p).top ≡ Some (c, (t, Fault))))) (sym (lasts.kinds t)) (untold t c l i (h.untold t c l i (ended t Fault a))));
+  untold = λ t c l s a. (let i : is_of_scope c (w.job t).kind ≡ true = ap (is_of_scope c) (sym (lasts.kinds t)) ∙ s in subst (λ j. KeepsFor j (u.call c).fault t ⊎ ((p : Party) × (puts (u.stack p).top ≡ Some (c, (t, Fault))))) (sym (lasts.kinds t))
+      (untold t c l i (h.untold t c l i (ended t Fault a))));
   whole = λ t c o l k. (lasts.later).gone t (h.whole t c o l (sym (lasts.kinds t) ∙ k));
   body = λ c l b e n. body c l (sym (ap is_body (lasts.kinds ((u.call c).job) ∙ ap (λ m. (w.job m).kind) (lasts.targets c))) ∙ b) n (c == target_call (act_of q x)) refl e;
   first = λ c l. (subst (λ m. m + 1 ≤ w.jobs) (sym (lasts.targets c)) ((h.first c l).0), λ b. (lasts.later).side c l ∙ (h.first c l).1 (sym (ap is_body (lasts.kinds ((u.call c).job) ∙ ap (λ m. (w.job m).kind) (lasts.targets c))) ∙ b));

@@ -1,53 +1,27 @@
 -- the faults that calls keep, over the events that are no acts
 use Rattle.std.proofs.Common.{◌∙◌, ap, arith, inl, inr, refl, subst, sym}
-use Rattle.std.proofs.Math.Dec.{ltb}
-use Rattle.std.proofs.lemmas.Bool.{eq-eqb, eqb-true, ltb-false, ltb-true}
-use Rattle.std.specs.Prelude.{◌⊎◌, ◌≡◌, ◌&&◌, ◌==◌, ◌+◌, ◌-◌, ◌≤◌, ◌<◌, ◌∷◌, ℕ, [], if◌then◌else◌, Bool, IfSome, List, None, Option, Some, false, nat_lt, true}
+use Rattle.rayon_machine_orders.proofs.Words.{ltb, eq-eqb, eqb-true, ltb-false, ltb-true, ◌⊎◌, ◌≡◌, ◌==◌, ◌+◌, ◌-◌, ◌≤◌, ◌<◌, ◌∷◌, ℕ, [], if◌then◌else◌, Bool, IfSome, List, None, Option, Some, false, true, is_detached, is_of_scope, one, runs_in, IsStoredFor, count_book, count_kind, end_cast}
+use Rattle.rayon_machine_orders.proofs.Words.{goes_on, is_free, next_steal, next_victim, next_yield, not_self, own_index, own_pool, plan_book, same_party, withdraw, after_call, after_close, after_deal, after_feed, after_resume, after_send, is_piece, new_call, new_gathering, new_job, new_piece}
+use Rattle.rayon_machine_orders.proofs.Words.{new_whole, put, put_pieces, put_stack, step, with_stack, Stack, World, at_job, told, Event, Count, OfCast, OfPool, OfScope, Ending, Fault, Fine, JobKind, BodyOf, Detached, Direct, PieceOf, Scoped, Stored, TokenOf, WholeOf, OpenCall, Party, Worker}
+use Rattle.rayon_machine_orders.proofs.Words.{Pieces, Place, AddToFifo, AtOnce, DealPieces, FirstSide, Free, GrowCall, GrowCast, GrowScope, JoinProbe, LocalPop, LowerCount, OpenForAll, OpenSlot, PopInjected, ProbeWorking, PushForAll, PushJob, PushToken, RaiseCount, RaiseForAll, Run, ScopeBody}
+use Rattle.rayon_machine_orders.proofs.Words.{SecondSide, StealFrom, Stopped, YieldPop, YieldPopInjected, YieldSteal, Plan, Detach, Enter, Feed, Fork, Gather, Here, Open, Send, PoolValue, Answer, Resume, Wait, PoolShape, Call, Job, Nowhere, Over, Running, Spent, after_gather, is_refusable}
+use Rattle.rayon_machine_orders.proofs.Words.{Refused}
 use Rattle.rayon_machine_laws.proofs.ClaimEvents.{ended_world}
 use Rattle.rayon_machine_laws.proofs.ClaimRuns.{CallsHold, top_says}
 use Rattle.rayon_machine_laws.proofs.Claims.{AllSay, FirstEnds, Linked, Opened, SaysRun, SaysTarget, is_body, relink}
-use Rattle.rayon_machine_laws.proofs.Frame.{and_parts, either, fifo_cases, if_cond, into_cases, into_cast_cases, into_fifo_cases, piece_in, piece_new, piece_old, piece_out, piece_range, put_new, put_old, put_same, same_party_true, stack_mine, stack_other}
+use Rattle.rayon_machine_laws.proofs.Frame.{either, piece_in, piece_new, piece_old, piece_out, piece_range, put_new, put_old, put_same, same_party_true, stack_mine, stack_other}
 use Rattle.rayon_machine_laws.proofs.Hands.{worked}
 use Rattle.rayon_machine_laws.proofs.Located.{Work, at_work, is_loc, loc_at, where_is}
 use Rattle.rayon_machine_laws.proofs.PlacedEvents.{Advance, IsFinal}
 use Rattle.rayon_machine_laws.proofs.Seats.{is_frame}
 use Rattle.rayon_machine_laws.proofs.ShareSteps.{self_one}
 use Rattle.rayon_machine_laws.proofs.Ties.{AllFrames}
-use Rattle.rayon_machine_laws.specs.Counted.{is_detached, is_of_scope}
-use Rattle.rayon_machine_laws.specs.Once.{one, runs_in}
 use Rattle.rayon_machine_orders.proofs.FaultActs.{answer_says, answered_on, stored_for_on}
 use Rattle.rayon_machine_orders.proofs.FaultPlaces.{Told, answer_of}
 use Rattle.rayon_machine_orders.proofs.Faults.{Answered, FaultOf, FaultsHold, KeepsFor, call_bodied, hold_of, is_whole, of_scope, over_is, puts}
 use Rattle.rayon_machine_orders.proofs.FilledStates.{FilledHold}
-use Rattle.rayon_machine_orders.specs.Faults.{IsStoredFor}
-use Rattle.rayon_machine_places.specs.Places.{count_book, count_kind, end_cast, goes_on, is_free, is_member, next_steal, next_victim, next_yield, not_self, own_index, own_pool, plan_book, same_party, withdraw}
-use Rattle.rayon_machine_places.specs.Steps.{after_broadcast, after_call, after_cast, after_choice, after_close, after_deal, after_end, after_end_pool, after_enter, after_feed, after_fifo, after_install, after_into, after_into_cast, after_into_fifo, after_join, after_miss, after_refusal, after_resume, after_scope, after_send, after_spawn, after_yield, can_miss, holds, is_piece, is_pool, new_call, new_gathering, new_job, new_piece, new_whole, put, put_pieces, put_stack, step, with_stack}
-use Rattle.rayon_machine_places.specs.World.{Stack, World, at_job, told}
-use Rattle.rayon_machine_places.specs.declared.event.Event.{Event}
-use Rattle.rayon_machine_places.specs.declared.event.Event.TheVariants.{Broadcast, Cast, End, EndPool, Fifo, From, Go, Install, IntoCast, IntoFifo, IntoSpawn, Join, Miss, Scope as OpenScope, Refuse, Spawn, Yield, YieldLocal}
-use Rattle.rayon_machine_places.specs.declared.place.Count.{Count}
-use Rattle.rayon_machine_places.specs.declared.place.Count.TheVariants.{OfCast, OfPool, OfScope}
-use Rattle.rayon_machine_places.specs.declared.place.Ending.{Ending}
-use Rattle.rayon_machine_places.specs.declared.place.Ending.TheVariants.{Fault, Fine}
-use Rattle.rayon_machine_places.specs.declared.place.JobKind.{JobKind}
-use Rattle.rayon_machine_places.specs.declared.place.JobKind.TheVariants.{BodyOf, Detached, Direct, PieceOf, Scoped, Stored, TokenOf, WholeOf}
-use Rattle.rayon_machine_places.specs.declared.place.OpenCall.{OpenCall}
-use Rattle.rayon_machine_places.specs.declared.place.Party.{Party}
-use Rattle.rayon_machine_places.specs.declared.place.Party.TheVariants.{Caller, Worker}
-use Rattle.rayon_machine_places.specs.declared.place.Pieces.{Pieces}
-use Rattle.rayon_machine_places.specs.declared.place.Place.{Place}
-use Rattle.rayon_machine_places.specs.declared.place.Place.TheVariants.{AddToFifo, AtOnce, DealPieces, FirstSide, Free, GrowCall, GrowCast, GrowScope, JoinProbe, LocalPop, LowerCount, OpenForAll, OpenSlot, PickVictim, PopInjected, ProbeWorking, PushForAll, PushJob, PushToken, RaiseCount, RaiseForAll, Run, ScopeBody, SecondSide, StealFrom, Stopped, YieldPick, YieldPop, YieldPopInjected, YieldSteal}
-use Rattle.rayon_machine_places.specs.declared.place.Plan.{Plan}
-use Rattle.rayon_machine_places.specs.declared.place.Plan.TheVariants.{Detach, Enter, Feed, Fork, Gather, Here, Open, Send}
-use Rattle.rayon_machine_places.specs.declared.place.Share.TheVariants.{PoolValue}
-use Rattle.rayon_machine_places.specs.declared.place.Target.TheVariants.{Answer}
-use Rattle.rayon_machine_places.specs.declared.place.Then.TheVariants.{Resume}
-use Rattle.rayon_machine_places.specs.declared.place.Wait.{Wait}
-use Rattle.rayon_machine_places.specs.declared.shape.PoolShape.{PoolShape}
-use Rattle.rayon_machine_places.specs.declared.state.Call.{Call}
-use Rattle.rayon_machine_places.specs.declared.state.Job.{Job}
-use Rattle.rayon_machine_places.specs.declared.state.Scope.{Scope}
-use Rattle.rayon_machine_places.specs.declared.state.Whereabouts.TheVariants.{Nowhere, Over, Running, Spent}
+use Rattle.rayon_machine_orders.proofs.EventCases.{Cases, by_cases, is_act}
+use Rattle.rayon_machine_places.specs.Steps.{seeing}
 
 -- a call that an event makes
 pub record NewCall (w u : World) (c : ℕ) : Type 0 where
@@ -217,8 +191,7 @@ two_jobs w q p k j z y = subst (NewJobs w (put (put w.job w.jobs (new_job q p k)
 
 count_no_whole : (k : Count) → is_whole (count_kind k) ≡ false
 count_no_whole (OfPool p) = refl
-count_no_whole (OfScope c o) = refl
-count_no_whole (OfCast c o) = refl
+count_no_whole _ = refl
 
 -- a piece for each worker of a pool
 pieces_jobs : (w : World) (c : Pieces) (q : Party) (k : Count) (p : ℕ) → c.first ≡ w.jobs → NewJobs w (put_pieces c (λ i j. new_piece q k p i) w.job) (w.jobs + c.workers)
@@ -267,7 +240,8 @@ calm w u q k s z j n c a = record {
 }
 
 -- and where one is
-made_call : (w u : World) (q : Party) (k : Stack) (v : Call) → ((r : Party) → u.stack r ≡ put_stack w.stack q k r) → puts (w.stack q).top ≡ None → NewJobs w u.job u.jobs → u.calls ≡ w.calls + 1 → ((c : ℕ) → u.call c ≡ put w.call w.calls v c) → v.fault ≡ None → v.cell ≡ None → v.job + 1 ≤ u.jobs → (is_body (u.job v.job).kind ≡ true → v.first ≡ None) → answer_of k.top ≡ None → Still w u
+made_call : (w u : World) (q : Party) (k : Stack) (v : Call) → ((r : Party) → u.stack r ≡ put_stack w.stack q k r) → puts (w.stack q).top ≡ None → NewJobs w u.job u.jobs → u.calls ≡ w.calls + 1 → ((c : ℕ) → u.call c ≡ put w.call w.calls v c) → v.fault ≡ None → v.cell ≡ None
+    → v.job + 1 ≤ u.jobs → (is_body (u.job v.job).kind ≡ true → v.first ≡ None) → answer_of k.top ≡ None → Still w u
 made_call w u q k v s z j n c f g m b a = record {
   party = q;
   to = k;
@@ -327,45 +301,28 @@ withdraw_none (Some c) n = refl
 
 uncast_none : (k : Count) (c : Pieces) → answer_of (end_cast k c) ≡ None
 uncast_none (OfPool p) c = refl
-uncast_none (OfScope d o) c = refl
-uncast_none (OfCast d o) c = refl
+uncast_none _ c = refl
 
-from_still : (w : World) (q : Party) (x : Place) (fs : List Place) (v : ℕ) → puts (w.stack q).top ≡ puts x → IfSome (after_choice w q (record { top = x; below = fs }) x v) (Still w)
-from_still w q (PickVictim k) fs v z = if_cond (Still w) (nat_lt v (w.shape.pool (own_pool q)).workers) _ (λ b. turned w q _ z refl)
-from_still w q YieldPick fs v z = if_cond (Still w) (nat_lt v (w.shape.pool (own_pool q)).workers) _ (λ b. turned w q _ z refl)
-from_still w q _ fs v z = tt
-
-miss_still : (w : World) (q : Party) (x : Place) (fs : List Place) → puts (w.stack q).top ≡ puts x → IfSome (after_miss w q (record { top = x; below = fs }) x) (Still w)
-miss_still w (Worker a b) (StealFrom k n) fs z = if_cond (Still w) (can_miss w a k.victim) _ (λ y. turned w (Worker a b) _ z (steal_none (w.shape.pool a) (Worker a b) k n))
-miss_still w (Worker a b) (YieldSteal v n) fs z = if_cond (Still w) (can_miss w a v) _ (λ y. turned w (Worker a b) _ z (yield_none (w.shape.pool a) (Worker a b) v n))
-miss_still w (Worker a b) _ fs z = tt
-miss_still w (Caller n) _ fs z = tt
-
-refuse_still : (w : World) (q : Party) (x : Place) (fs : List Place) → puts (w.stack q).top ≡ puts x → IfSome (after_refusal w q (record { top = x; below = fs })) (Still w)
-refuse_still w q (GrowCall n) fs z = turned w q _ z refl
-refuse_still w q (GrowScope o) fs z = turned w q _ z refl
-refuse_still w q (GrowCast g) fs z = turned w q _ z refl
-refuse_still w q (DealPieces g) fs z = turned w q _ z refl
-refuse_still w q (OpenSlot n) fs z = turned w q _ z refl
-refuse_still w q (PushJob n v) fs z = turned w q _ z (withdraw_none (plan_book n) n)
-refuse_still w q (AddToFifo f) fs z = turned w q _ z (withdraw_none (plan_book (Feed f)) (Feed f))
-refuse_still w q (PushToken f v) fs z = turned w q _ z refl
-refuse_still w q (PushForAll c) fs z = turned w q _ z (uncast_none c.count c)
-refuse_still w q (OpenForAll c) fs z = turned w q _ z refl
-refuse_still w q _ fs z = tt
+refuse_still : (w : World) (q : Party) (x : Place) (fs : List Place) → puts (w.stack q).top ≡ puts x → is_refusable x ≡ true → Still w (seeing w q (record { top = x; below = fs }) (own_pool q) Refused)
+refuse_still w q (GrowCall n) fs z e = turned w q _ z refl
+refuse_still w q (GrowScope o) fs z e = turned w q _ z refl
+refuse_still w q (GrowCast g) fs z e = turned w q _ z refl
+refuse_still w q (DealPieces g) fs z e = turned w q _ z refl
+refuse_still w q (OpenSlot n) fs z e = turned w q _ z refl
+refuse_still w q (PushJob n v) fs z e = turned w q _ z (withdraw_none (plan_book n) n)
+refuse_still w q (AddToFifo f) fs z e = turned w q _ z (withdraw_none (plan_book (Feed f)) (Feed f))
+refuse_still w q (PushToken f v) fs z e = turned w q _ z refl
+refuse_still w q (PushForAll c) fs z e = turned w q _ z (uncast_none c.count c)
+refuse_still w q (OpenForAll c) fs z e = turned w q _ z refl
+refuse_still w q _ fs z e = absurd (let a : false ≡ true = e in cc)
 
 -- a call begins above a free place
 begun : (w u : World) (q : Party) (x : Place) → is_free (w.stack q).top ≡ true → ((r : Party) → u.stack r ≡ put_stack w.stack q (after_call (w.stack q) x) r) → NewJobs w u.job u.jobs → u.calls ≡ w.calls → ((c : ℕ) → u.call c ≡ w.call c) → answer_of x ≡ None → Still w u
 begun w u q x free s j n c a = calm w u q (after_call (w.stack q) x) s (free_puts ((w.stack q).top) free) j n c a
 
-spawn_still : (w : World) (q : Party) (p : ℕ) → IfSome (after_spawn w q p (w.stack q)) (Still w)
-spawn_still w q p = if_cond (Still w) (is_free ((w.stack q).top) && is_pool w.shape p) _ (λ b. begun w _ q (RaiseCount (Detach p w.jobs)) ((and_parts (is_free ((w.stack q).top)) (is_pool w.shape p) b).0) (λ r. refl) (one_job w q p (Detached p) refl) refl (λ c. refl) refl)
-
 feed_still : (w : World) (k : Count) (p i : ℕ) → is_free ((w.stack (Worker p i)).top) ≡ true → Still w (after_feed w k p i (w.stack (Worker p i)))
-feed_still w k p i free = begun w (after_feed w k p i (w.stack (Worker p i))) (Worker p i) (RaiseCount (Feed (record { count = k; pool = p; job = w.jobs; token = w.jobs + 1 }))) free (λ r. refl) (two_jobs w (Worker p i) p (count_kind k) (TokenOf i (count_book k)) (count_no_whole k) refl) refl (λ c. refl) refl
-
-fifo_still : (w : World) (q : Party) (p : ℕ) → IfSome (after_fifo w q p (w.stack q)) (Still w)
-fifo_still w q p = fifo_cases (Still w) w q p (spawn_still w q p) (λ i free. feed_still w (OfPool p) p i free)
+feed_still w k p i free = begun w (after_feed w k p i (w.stack (Worker p i))) (Worker p i) (RaiseCount (Feed (record { count = k; pool = p; job = w.jobs; token = w.jobs + 1 }))) free (λ r. refl) (two_jobs w (Worker p i) p (count_kind k) (TokenOf i (count_book k)) (count_no_whole k) refl)
+    refl (λ c. refl) refl
 
 deal_still : (w : World) (q : Party) (k : Count) (p : ℕ) → is_free ((w.stack q).top) ≡ true → Still w (after_deal w q k p (w.stack q))
 deal_still w q k p free = begun w (after_deal w q k p (w.stack q)) q (RaiseForAll b) free (λ r. refl) (pieces_jobs w b q k p refl) refl (λ c. refl) refl
@@ -373,12 +330,10 @@ deal_still w q k p free = begun w (after_deal w q k p (w.stack q)) q (RaiseForAl
     b : Pieces
     b = record { count = k; pool = p; first = w.jobs; workers = (w.shape.pool p).workers }
 
-cast_still : (w : World) (q : Party) (p : ℕ) → IfSome (after_cast w q p (w.stack q)) (Still w)
-cast_still w q p = if_cond (Still w) (is_free ((w.stack q).top) && is_pool w.shape p) _ (λ b. deal_still w q (OfPool p) p ((and_parts (is_free ((w.stack q).top)) (is_pool w.shape p) b).0))
-
 -- a broadcast that waits
-gather_still : (w : World) (q : Party) (p : ℕ) → IfSome (after_broadcast w q p (w.stack q)) (Still w)
-gather_still w q p = if_cond (Still w) (is_free ((w.stack q).top) && is_pool w.shape p) _ (λ f. made_call w _ q (after_call (w.stack q) (RaiseCount (Gather (record { call = o; pieces = b })))) (new_gathering b.workers o.job) (λ r. refl) (free_puts ((w.stack q).top) ((and_parts (is_free ((w.stack q).top)) (is_pool w.shape p) f).0)) jobs refl (λ c. refl) refl refl (let l : o.job + 1 ≤ o.job + 1 = omega arith in l) (λ y. refl) refl)
+gather_still : (w : World) (q : Party) (p : ℕ) → is_free ((w.stack q).top) ≡ true → Still w (after_gather w q p (w.stack q))
+gather_still w q p free = made_call w _ q (after_call (w.stack q) (RaiseCount (Gather (record { call = o; pieces = b })))) (new_gathering b.workers o.job) (λ r. refl) (free_puts ((w.stack q).top) free) jobs refl (λ c. refl) refl refl
+    (let l : o.job + 1 ≤ o.job + 1 = omega arith in l) (λ y. refl) refl
   where
     b : Pieces
     b = record { count = OfCast w.calls q; pool = p; first = w.jobs; workers = (w.shape.pool p).workers }
@@ -391,38 +346,8 @@ gather_still w q p = if_cond (Still w) (is_free ((w.stack q).top) && is_pool w.s
 
 sent_still : (w : World) (q : Party) (p : ℕ) (b : Bool) → is_free ((w.stack q).top) ≡ true → Still w (after_send w q p (w.stack q) b)
 sent_still w q p true free = begun w _ q (RaiseCount (Here p w.jobs)) free (λ r. refl) (one_job w q p Direct refl) refl (λ c. refl) refl
-sent_still w q p false free = made_call w _ q (after_call (w.stack q) (RaiseCount (Send (record { number = w.calls; pool = p; job = w.jobs })))) (new_call None w.jobs) (λ r. refl) (free_puts ((w.stack q).top) free) (one_job w q p (Stored w.calls q) refl) refl (λ c. refl) refl refl (let l : w.jobs + 1 ≤ w.jobs + 1 = omega arith in l) (λ z. refl) refl
-
-install_still : (w : World) (q : Party) (p : ℕ) → IfSome (after_install w q p (w.stack q)) (Still w)
-install_still w q p = if_cond (Still w) (is_free ((w.stack q).top) && is_pool w.shape p) _ (λ e. sent_still w q p (is_member q p) ((and_parts (is_free ((w.stack q).top)) (is_pool w.shape p) e).0))
-
-join_still : (w : World) (q : Party) → IfSome (after_join w q (w.stack q)) (Still w)
-join_still w (Worker p i) = if_cond (Still w) (is_free ((w.stack (Worker p i)).top)) _ (λ f. made_call w _ (Worker p i) (after_call (w.stack (Worker p i)) (RaiseCount (Fork (record { number = w.calls; pool = p; job = w.jobs + 1 }) w.jobs))) (new_call (Some w.jobs) (w.jobs + 1)) (λ r. refl) (free_puts ((w.stack (Worker p i)).top) f) (two_jobs w (Worker p i) p Direct (Stored w.calls (Worker p i)) refl refl) refl (λ c. refl) refl refl (let l : (w.jobs + 1) + 1 ≤ w.jobs + 2 = omega arith in l)
-    (λ z. absurd (let a : is_body (put (put w.job w.jobs (new_job (Worker p i) p Direct)) (w.jobs + 1) (new_job (Worker p i) p (Stored w.calls (Worker p i))) (w.jobs + 1)).kind ≡ false = ap (λ j. is_body (j.kind)) (put_new (put w.job w.jobs (new_job (Worker p i) p Direct)) (w.jobs + 1) (new_job (Worker p i) p (Stored w.calls (Worker p i)))) in let b : true ≡ false = sym z ∙ a in cc))
-    refl)
-join_still w (Caller n) = tt
-
-scope_still : (w : World) (q : Party) (p : ℕ) → IfSome (after_scope w q p (w.stack q)) (Still w)
-scope_still w q p = if_cond (Still w) (is_free ((w.stack q).top) && is_pool w.shape p) _ (λ b. made_call w _ q (after_call (w.stack q) (RaiseCount (Open (record { number = w.calls; pool = p; job = w.jobs })))) (new_call None w.jobs) (λ r. refl) (free_puts ((w.stack q).top) ((and_parts (is_free ((w.stack q).top)) (is_pool w.shape p) b).0)) (one_job w q p (BodyOf w.calls q) refl) refl (λ c. refl) refl refl (let l : w.jobs + 1 ≤ w.jobs + 1 = omega arith in l) (λ z. refl) refl)
-
-enter_still : (w : World) (q : Party) (z : Scope) → IfSome (after_enter w q (w.stack q) (Some z)) (Still w)
-enter_still w q z = if_cond (Still w) (is_free ((w.stack q).top) && holds z.call (w.stack q)) _ (λ b. begun w _ q (RaiseCount (Enter (record { call = z.call; owner = z.owner; pool = z.pool; job = w.jobs }))) ((and_parts (is_free ((w.stack q).top)) (holds z.call (w.stack q)) b).0) (λ r. refl) (one_job w q z.pool (Scoped z.call z.owner) refl) refl (λ c. refl) refl)
-
-into_still : (w : World) (q : Party) (n : ℕ) → IfSome (after_into w q n (w.stack q)) (Still w)
-into_still w q n = into_cases (Still w) w q n (λ z e free held. enter_still w q z)
-
-into_fifo_still : (w : World) (q : Party) (n : ℕ) → IfSome (after_into_fifo w q n (w.stack q)) (Still w)
-into_fifo_still w q n = into_fifo_cases (Still w) w q n (λ z e free held. enter_still w q z) (λ z i e free held. feed_still w (OfScope z.call z.owner) z.pool i free)
-
-into_cast_still : (w : World) (q : Party) (n : ℕ) → IfSome (after_into_cast w q n (w.stack q)) (Still w)
-into_cast_still w q n = into_cast_cases (Still w) w q n (λ z e free held. deal_still w q (OfScope z.call z.owner) z.pool free)
-
-yield_still : (w : World) (q : Party) (x : Place) → answer_of x ≡ None → IfSome (after_yield w q (w.stack q) x) (Still w)
-yield_still w (Worker a b) x e = if_cond (Still w) (is_free ((w.stack (Worker a b)).top)) _ (λ f. turned w (Worker a b) (after_call (w.stack (Worker a b)) x) (free_puts ((w.stack (Worker a b)).top) f) e)
-yield_still w (Caller n) x e = tt
-
-give_still : (w : World) (q : Party) (p : ℕ) → IfSome (after_end_pool w q p (w.stack q)) (Still w)
-give_still w q p = if_cond (Still w) (is_free ((w.stack q).top) && (is_pool w.shape p && (w.pool p).held)) _ (λ b. begun w _ q (LowerCount (OfPool p) PoolValue Resume) ((and_parts (is_free ((w.stack q).top)) (is_pool w.shape p && (w.pool p).held) b).0) (λ r. refl) (no_jobs w) refl (λ c. refl) refl)
+sent_still w q p false free = made_call w _ q (after_call (w.stack q) (RaiseCount (Send (record { number = w.calls; pool = p; job = w.jobs })))) (new_call None w.jobs) (λ r. refl) (free_puts ((w.stack q).top) free) (one_job w q p (Stored w.calls q) refl) refl (λ c. refl) refl refl
+    (let l : w.jobs + 1 ≤ w.jobs + 1 = omega arith in l) (λ z. refl) refl
 
 -- the frame of a join whose second side runs
 abbrev is_second : Place → Bool
@@ -435,7 +360,6 @@ goes_none (FirstSide o a) Fine m n = refl
 goes_none (FirstSide o a) Fault m n = refl
 goes_none (ProbeWorking k) d m n = refl
 goes_none (JoinProbe o) d m n = refl
-goes_none (SecondSide o) d m n = cc
 goes_none (ScopeBody o) d m n = refl
 goes_none (AtOnce p t) d m n = refl
 goes_none (Run t k) d m n = refl
@@ -491,7 +415,8 @@ some_number a b e = cc
 told_is : (u : World) (p o : OpenCall) (g f : Option Ending) (d e : Ending) → Answered u p d → ◌≡◌ {A = Option Told} (Some (p, (g, d))) (Some (o, (f, e))) → Answered u o e
 told_is u p o g f d e a z = let i : ◌≡◌ {A = Told} (p, (g, d)) (o, (f, e)) = cc in subst (λ v. Answered u (v.0) ((v.1).1)) i a
 
-resumed_answers : (w : World) (q : Party) (d : Ending) (t : ℕ) (k : JobKind) (gs fs : List Place) → FaultsHold w → (w.job t).at ≡ Running q → Linked (Run t Direct) fs → AllSay w q fs → AllFrames fs → (o : OpenCall) (f : Option Ending) (e : Ending) → answer_of ((after_resume fs d).top) ≡ Some (o, (f, e)) → Answered (ended_world w q d t k gs) o e
+resumed_answers : (w : World) (q : Party) (d : Ending) (t : ℕ) (k : JobKind) (gs fs : List Place) → FaultsHold w → (w.job t).at ≡ Running q → Linked (Run t Direct) fs → AllSay w q fs → AllFrames fs → (o : OpenCall) (f : Option Ending) (e : Ending)
+    → answer_of ((after_resume fs d).top) ≡ Some (o, (f, e)) → Answered (ended_world w q d t k gs) o e
 resumed_answers w q d t k gs [] h r l s a o f e z = absurd (cc)
 resumed_answers w q d t k gs (SecondSide p ∷ fs) h r l s a o f e z = told_is (ended_world w q d t k gs) p o (Some Fine) f d e (second_answers w q d t k gs p h r (some_number t (p.job) ((l.0) (p.job) refl)) (s.0)) z
 resumed_answers w q d t k gs (y ∷ fs) h r l s a o f e z = absurd (let i : None ≡ Some (o, (f, e)) = sym (goes_none y d (a.0) refl) ∙ z in cc)
@@ -510,13 +435,10 @@ ends_puts w t (Scoped e o) d fs c s i = ap (λ n. Some (n, (t, d))) (sym (eqb-tr
 ends_puts w t (PieceOf e o) d fs c s i = ap (λ n. Some (n, (t, d))) (sym (eqb-true c e (sym (ap (is_of_scope c) (s.1)) ∙ i)))
 ends_puts w t (Detached p) d fs c s i = absurd (let a : is_of_scope c (w.job t).kind ≡ false = ap (is_of_scope c) (s.1) in let b : true ≡ false = sym i ∙ a in cc)
 ends_puts w t (Stored e o) d fs c s i = absurd (let a : is_of_scope c (w.job t).kind ≡ false = ap (is_of_scope c) (s.1) in let b : true ≡ false = sym i ∙ a in cc)
-ends_puts w t Direct d fs c s i = absurd (awaited_out w t c s.kind i)
-ends_puts w t (TokenOf j l) d fs c s i = absurd (awaited_out w t c s.kind i)
-ends_puts w t (BodyOf e o) d fs c s i = absurd (awaited_out w t c s.kind i)
-ends_puts w t (WholeOf e o) d fs c s i = absurd (awaited_out w t c s.kind i)
+ends_puts w t _ d fs c s i = absurd (awaited_out w t c s.kind i)
 
-end_still : (w : World) (q : Party) (d : Ending) (x : Place) (fs : List Place) → w.stack q ≡ record { top = x; below = fs } → FaultsHold w → IfSome (after_end w q d (record { top = x; below = fs }) x) (Still w)
-end_still w q d (Run t k) fs z h = record {
+end_still : (w : World) (q : Party) (d : Ending) (t : ℕ) (k : JobKind) (fs : List Place) → w.stack q ≡ record { top = Run t k; below = fs } → FaultsHold w → Still w (ended_world w q d t k fs)
+end_still w q d t k fs z h = record {
   party = q;
   to = after_close t k d fs;
   stack = λ r. refl;
@@ -535,7 +457,9 @@ end_still w q d (Run t k) fs z h = record {
     calls = hold_of w h
 
     running : (w.job t).at ≡ Running q
-    running = (at_work ((w.job t).at) ((w.job t).runs) q (where_is (Work q) (loc_at (w.job t)) (let a : worked t (w.stack q) ≡ is_loc (Work q) (loc_at (w.job t)) = (((calls).jobs).ok).placed (Work q) t in let b : worked t (w.stack q) ≡ (one (t == t) + runs_in t fs) = ap (worked t) z in let c : one (t == t) ≡ 1 = self_one t in omega (arith, a, b, c)))).1
+    running = (at_work ((w.job t).at) ((w.job t).runs) q
+        (where_is (Work q) (loc_at (w.job t)) (let a : worked t (w.stack q) ≡ is_loc (Work q) (loc_at (w.job t)) = (((calls).jobs).ok).placed (Work q) t in let b : worked t (w.stack q) ≡ (one (t == t) + runs_in t fs) = ap (worked t) z in let c : one (t == t) ≡ 1 = self_one t in
+        omega (arith, a, b, c)))).1
 
     frames : AllFrames fs
     frames = subst (λ v. AllFrames v.below) z ((h.fills).frames q)
@@ -554,37 +478,43 @@ end_still w q d (Run t k) fs z h = record {
     ended s e false y a = inl a
 
     closed : (j : JobKind) → Linked (Run t j) fs → (o : OpenCall) (f : Option Ending) (e : Ending) → answer_of ((after_close t j d fs).top) ≡ Some (o, (f, e)) → Answered (ended_world w q d t k fs) o e
-    closed (Detached p) l o f e y = absurd (cc)
-    closed (Stored c p) l o f e y = absurd (cc)
-    closed (Scoped c p) l o f e y = absurd (cc)
-    closed (PieceOf c p) l o f e y = absurd (cc)
     closed Direct l o f e y = resumed_answers w q d t k fs fs h running l says frames o f e y
     closed (TokenOf i b) l o f e y = resumed_answers w q d t k fs fs h running (relink (Run t (TokenOf i b)) (Run t Direct) fs (λ v n. n) l) says frames o f e y
     closed (BodyOf c p) l o f e y = resumed_answers w q d t k fs fs h running (relink (Run t (BodyOf c p)) (Run t Direct) fs (λ v n. n) l) says frames o f e y
     closed (WholeOf c p) l o f e y = resumed_answers w q d t k fs fs h running (relink (Run t (WholeOf c p)) (Run t Direct) fs (λ v n. n) l) says frames o f e y
-end_still w q d _ fs z h = tt
+    closed _ l o f e y = absurd (cc)
 
--- each step keeps what holds of the faults
-abbrev pub is_act : Event → Bool
-is_act (Go q) = true
-is_act _ = false
+-- the events
+at_yield : (x : Place) → (x ≡ YieldPop) ⊎ (x ≡ LocalPop) → answer_of x ≡ None
+at_yield x (inl e) = ap answer_of e
+at_yield x (inr e) = ap answer_of e
+
+fault_cases : (w : World) → FaultsHold w → Cases w (Still w)
+fault_cases w h = record {
+  picks = λ q k fs v z. turned w q _ (ap (λ s. puts s.top) z) refl;
+  yield_picks = λ q fs v z. turned w q _ (ap (λ s. puts s.top) z) refl;
+  misses = λ q k n fs z. turned w q _ (ap (λ s. puts s.top) z) (steal_none (w.shape.pool (own_pool q)) q k n);
+  yield_misses = λ q v n fs z. turned w q _ (ap (λ s. puts s.top) z) (yield_none (w.shape.pool (own_pool q)) q v n);
+  refuses = λ q x fs z e. refuse_still w q x fs (ap (λ s. puts s.top) z) e;
+  ends = λ q d t k fs z. end_still w q d t k fs z h;
+  spawns = λ q p f. begun w _ q (RaiseCount (Detach p w.jobs)) (f.0) (λ r. refl) (one_job w q p (Detached p) refl) refl (λ c. refl) refl;
+  feeds = λ p i f. feed_still w (OfPool p) p i f;
+  deals = λ q p f. deal_still w q (OfPool p) p (f.0);
+  sends = λ q p b f. sent_still w q p b (f.0);
+  joins = λ p i f. made_call w _ (Worker p i) (after_call (w.stack (Worker p i)) (RaiseCount (Fork (record { number = w.calls; pool = p; job = w.jobs + 1 }) w.jobs))) (new_call (Some w.jobs) (w.jobs + 1)) (λ r. refl) (free_puts ((w.stack (Worker p i)).top) f)
+      (two_jobs w (Worker p i) p Direct (Stored w.calls (Worker p i)) refl refl) refl (λ c. refl) refl refl (let l : (w.jobs + 1) + 1 ≤ w.jobs + 2 = omega arith in l)
+      (λ z. absurd (let a : is_body (put (put w.job w.jobs (new_job (Worker p i) p Direct)) (w.jobs + 1) (new_job (Worker p i) p (Stored w.calls (Worker p i))) (w.jobs + 1)).kind ≡ false = ap (λ j. is_body (j.kind))
+      (put_new (put w.job w.jobs (new_job (Worker p i) p Direct)) (w.jobs + 1) (new_job (Worker p i) p (Stored w.calls (Worker p i)))) in let b : true ≡ false = sym z ∙ a in cc))
+      refl;
+  opens = λ q p f. made_call w _ q (after_call (w.stack q) (RaiseCount (Open (record { number = w.calls; pool = p; job = w.jobs })))) (new_call None w.jobs) (λ r. refl) (free_puts ((w.stack q).top) (f.0))
+      (one_job w q p (BodyOf w.calls q) refl) refl (λ c. refl) refl refl (let l : w.jobs + 1 ≤ w.jobs + 1 = omega arith in l) (λ z. refl) refl;
+  gathers = λ q p f. gather_still w q p (f.0);
+  enters = λ q n z f. begun w _ q (RaiseCount (Enter (record { call = z.call; owner = z.owner; pool = z.pool; job = w.jobs }))) (f.1) (λ r. refl) (one_job w q z.pool (Scoped z.call z.owner) refl) refl (λ c. refl) refl;
+  feeds_in = λ i n z f. feed_still w (OfScope z.call z.owner) z.pool i (f.1);
+  deals_in = λ q n z f. deal_still w q (OfScope z.call z.owner) z.pool (f.1);
+  yields = λ p i x y f. turned w (Worker p i) (after_call (w.stack (Worker p i)) x) (free_puts ((w.stack (Worker p i)).top) f) (at_yield x y);
+  gives = λ q p f. begun w _ q (LowerCount (OfPool p) PoolValue Resume) (f.0) (λ r. refl) (no_jobs w) refl (λ c. refl) refl;
+}
 
 pub event_still : (w : World) (e : Event) → is_act e ≡ false → FaultsHold w → IfSome (step w e) (Still w)
-event_still w (Go q) z h = absurd (let a : true ≡ false = z in cc)
-event_still w (From q v) z h = from_still w q ((w.stack q).top) ((w.stack q).below) v refl
-event_still w (Refuse q) z h = refuse_still w q ((w.stack q).top) ((w.stack q).below) refl
-event_still w (Miss q) z h = miss_still w q ((w.stack q).top) ((w.stack q).below) refl
-event_still w (End q d) z h = end_still w q d ((w.stack q).top) ((w.stack q).below) refl h
-event_still w (Spawn q p) z h = spawn_still w q p
-event_still w (Fifo q p) z h = fifo_still w q p
-event_still w (Cast q p) z h = cast_still w q p
-event_still w (Install q p) z h = install_still w q p
-event_still w (Join q) z h = join_still w q
-event_still w (OpenScope q p) z h = scope_still w q p
-event_still w (IntoSpawn q n) z h = into_still w q n
-event_still w (IntoFifo q n) z h = into_fifo_still w q n
-event_still w (IntoCast q n) z h = into_cast_still w q n
-event_still w (Broadcast q p) z h = gather_still w q p
-event_still w (Yield q) z h = yield_still w q YieldPop refl
-event_still w (YieldLocal q) z h = yield_still w q LocalPop refl
-event_still w (EndPool q p) z h = give_still w q p
+event_still w e n h = by_cases w (Still w) (fault_cases w h) e n

@@ -1,48 +1,15 @@
 -- what a place answers, what acts leave of the faults that calls keep, and that none ends a run, over each act and move
-use Rattle.std.proofs.Common.{◌∙◌, arith, refl, rules, sym}
-use Rattle.std.specs.Prelude.{◌≡◌, ◌&&◌, ◌==◌, ◌+◌, ◌-◌, ◌∷◌, ℕ, [], if◌then◌else◌, Bool, IfSome, List, None, Option, Some, false, nat_lt, true}
-use Rattle.rayon_machine_laws.proofs.Frame.{if_cond, if_some_all, if_some_map, out_sees, undo_sees}
-use Rattle.rayon_machine_laws.proofs.Lists.{SameJobs, quiet_same}
+use Rattle.std.proofs.Common.{arith, refl, rules}
+use Rattle.rayon_machine_orders.proofs.Words.{◌≡◌, ◌&&◌, ◌==◌, ◌+◌, ◌-◌, ℕ, if◌then◌else◌, Bool, IfSome, None, Option, Some, false, nat_lt, true, follows, act_of, after_failure, after_found, after_news, after_set, after_wait, begin_cast, begin_feed, count_book, end_cast, ends_count, finish}
+use Rattle.rayon_machine_orders.proofs.Words.{next_of, own_pool, plan_book, plan_job, plan_pool, settle, taken_number, walk, withdraw, is_piece, jobs_after, mark_pieces, marked, put, Counts, Part, Shape, at_job, begun, effect, found, Seen, Done, Found, Task, Wakes, Yes, Count, OfPool, OfScope}
+use Rattle.rayon_machine_orders.proofs.Words.{OfCast, Ending, Feeding, Latch, OfCall, Terminate, Marking, Dealt, Queued, Returned, Move, Discard, HandAllBack, HandBack, HandIn, Mark, StartRun, Stay, OpenCall, Party, Caller, Worker, Pieces, Place, AddToFifo, AnnounceSelf, BeginTask, LeaveSearch}
+use Rattle.rayon_machine_orders.proofs.Words.{LockToSettle, LockToWake, LowerCount, OpenSlot, PopInjected, ProbeIdle, ProbeWorking, LowerForAll, RaiseForAll, StorePiece, PushForAll, PushJob, RaiseCount, SetLatch, SetLockLatch, StoreBody, StoreResult, StoreSlot, TakeFromFifo, TakeResult}
+use Rattle.rayon_machine_orders.proofs.Words.{TellNews, UnlockSettled, UnlockWoken, WakeSettled, Plan, Detach, Enter, Feed, Fork, Gather, Here, Open, Send, Rounds, Announced, Failed, Settling, Share, Target, Answer, Termination, Then, Answers, Await, BeginFound, Gathers, LeaveWait, RunFirst}
+use Rattle.rayon_machine_orders.proofs.Words.{Wait, PoolShape, Job, HandedBack, Over, Spent, LookQueue}
+use Rattle.rayon_machine_laws.proofs.Frame.{if_some_all, if_some_map}
 use Rattle.rayon_machine_laws.proofs.Seats.{is_frame}
 use Rattle.rayon_machine_laws.proofs.Tops.{Tops}
-use Rattle.rayon_machine_laws.specs.End.{follows}
-use Rattle.rayon_machine_places.specs.Places.{act_of, after_failure, after_found, after_news, after_set, after_wait, begin_cast, begin_feed, count_book, end_cast, ends_count, finish, is_member, next_of, own_pool, plan_book, plan_job, plan_pool, settle, taken_number, walk, withdraw}
-use Rattle.rayon_machine_places.specs.Steps.{is_piece, jobs_after, mark_pieces, marked, put}
-use Rattle.rayon_machine_places.specs.World.{Counts, Part, Shape, at_job, begun, effect, found, is_open, pop_injector, popped, take_cast}
-use Rattle.rayon_machine_places.specs.declared.act.Act.TheVariants.{PushInj, PushOwn, Set}
-use Rattle.rayon_machine_places.specs.declared.act.Seen.{Seen}
-use Rattle.rayon_machine_places.specs.declared.act.Seen.TheVariants.{Done, Found, Task, Wakes, Yes}
-use Rattle.rayon_machine_places.specs.declared.place.Count.{Count}
-use Rattle.rayon_machine_places.specs.declared.place.Count.TheVariants.{OfPool, OfScope, OfCast}
-use Rattle.rayon_machine_places.specs.declared.place.Ending.{Ending}
-use Rattle.rayon_machine_places.specs.declared.place.Feeding.{Feeding}
-use Rattle.rayon_machine_places.specs.declared.place.Latch.{Latch}
-use Rattle.rayon_machine_places.specs.declared.place.Latch.TheVariants.{OfCall, Terminate}
-use Rattle.rayon_machine_places.specs.declared.place.Mark.{Mark as Marking}
-use Rattle.rayon_machine_places.specs.declared.place.Mark.TheVariants.{Counted, Dealt, Numbered, Queued, Returned, Unnumbered}
-use Rattle.rayon_machine_places.specs.declared.place.Move.{Move}
-use Rattle.rayon_machine_places.specs.declared.place.Move.TheVariants.{Back, Discard, HandAllBack, HandBack, HandIn, Enter as Into, Mark, StartRun, Stay}
-use Rattle.rayon_machine_places.specs.declared.place.OpenCall.{OpenCall}
-use Rattle.rayon_machine_places.specs.declared.place.Party.{Party}
-use Rattle.rayon_machine_places.specs.declared.place.Party.TheVariants.{Caller, Worker}
-use Rattle.rayon_machine_places.specs.declared.place.Pieces.{Pieces}
-use Rattle.rayon_machine_places.specs.declared.place.Place.{Place}
-use Rattle.rayon_machine_places.specs.declared.place.Place.TheVariants.{AddToFifo, AnnounceSelf, BeginHere, BeginTask, JoinPop, JoinTakeCast, LeaveSearch, LocalPop, LocalTakeCast, LockToSettle, LockToWake, LowerCount, OpenSlot, PopIdle, PopInjected, PopWorking, ProbeIdle, ProbeWorking, DealPieces, LowerForAll, RaiseForAll, StorePiece, PushForAll, PushJob, PushToken, RaiseCount, SetLatch, SetLockLatch, StealFrom, StoreBody, StoreResult, StoreSlot, TakeCastIdle, TakeCastWorking, TakeFromFifo, TakeResult, TellNews, UnlockSettled, UnlockWoken, WakeSettled, YieldPop, YieldPopInjected, YieldSteal, YieldTakeCast}
-use Rattle.rayon_machine_places.specs.declared.place.Plan.{Plan}
-use Rattle.rayon_machine_places.specs.declared.place.Plan.TheVariants.{Detach, Enter, Feed, Fork, Gather, Here, Open, Send}
-use Rattle.rayon_machine_places.specs.declared.place.Rounds.{Rounds}
-use Rattle.rayon_machine_places.specs.declared.place.Rounds.TheVariants.{Announced, Failed}
-use Rattle.rayon_machine_places.specs.declared.place.Settling.{Settling}
-use Rattle.rayon_machine_places.specs.declared.place.Share.{Share}
-use Rattle.rayon_machine_places.specs.declared.place.Taken.TheVariants.{Plain, Token}
-use Rattle.rayon_machine_places.specs.declared.place.Target.{Target}
-use Rattle.rayon_machine_places.specs.declared.place.Target.TheVariants.{Answer, Termination}
-use Rattle.rayon_machine_places.specs.declared.place.Then.{Then}
-use Rattle.rayon_machine_places.specs.declared.place.Then.TheVariants.{Answers, Await, BeginFound, Called, Gathers, GiveBack, LeaveWait, Missing as NoResult, Ran, Resume, RunFirst}
-use Rattle.rayon_machine_places.specs.declared.place.Wait.{Wait}
-use Rattle.rayon_machine_places.specs.declared.shape.PoolShape.{PoolShape}
-use Rattle.rayon_machine_places.specs.declared.state.Job.{Job}
-use Rattle.rayon_machine_places.specs.declared.state.Whereabouts.TheVariants.{HandedBack, Over, Spent}
+use Rattle.rayon_machine_orders.proofs.Spared.{Spared, act_spared, begins, looks, pushes, stores_fault}
 
 -- what a call answers that a place goes on with, if the call waited
 abbrev pub Told : Type 0
@@ -90,14 +57,9 @@ finish_on s q (LeaveWait g) = left_on s g
 finish_on s (Worker i j) (Await o) = λ a e. cc
 finish_on s (Caller n) (Await o) = λ a e. cc
 finish_on s q (RunFirst o f) = λ a e. cc
-finish_on s q Resume = tt
-finish_on s q Called = tt
 finish_on s (Worker i j) (Gathers o) = λ a e. cc
 finish_on s (Caller n) (Gathers o) = λ a e. cc
-finish_on s q (Answers o f e) = tt
-finish_on s q (NoResult o f) = tt
-finish_on s q (Ran t e) = tt
-finish_on s q (GiveBack n) = tt
+finish_on s q _ = tt
 
 on_if : (R : Place → Type 0) (b : Bool) (y : Place) (g : Move) → R y → Tops R g → Tops R (if b then Stay y else g)
 on_if R true y g a t = a
@@ -127,8 +89,7 @@ tell_on h q n v _ = λ a e. cc
 
 begun_on : (s : Option Told) (k : Count) (f : Feeding) → On s (begin_feed k f)
 begun_on s (OfPool p) f = λ a e. cc
-begun_on s (OfScope c o) f = λ a e. cc
-begun_on s (OfCast c o) f = λ a e. cc
+begun_on s _ f = λ a e. cc
 
 -- where a refused call goes that has not pushed its job
 withdrawn_on : (s : Option Told) (b : Option ℕ) (n : Plan) → On s (withdraw b n)
@@ -188,13 +149,11 @@ back_on h q f _ = tt
 -- a broadcast has its shares, its push is refused, or it has given the last shares back
 cast_on : (s : Option Told) (k : Count) (c : Pieces) → On s (begin_cast k c)
 cast_on s (OfPool p) c = λ a e. cc
-cast_on s (OfScope d o) c = λ a e. cc
-cast_on s (OfCast d o) c = λ a e. cc
+cast_on s _ c = λ a e. cc
 
 uncast_on : (s : Option Told) (k : Count) (c : Pieces) → On s (end_cast k c)
 uncast_on s (OfPool p) c = λ a e. cc
-uncast_on s (OfScope d o) c = λ a e. cc
-uncast_on s (OfCast d o) c = λ a e. cc
+uncast_on s _ c = λ a e. cc
 
 ends_on : (s : Option Told) (k : Count) → On s (ends_count k)
 ends_on s (OfPool p) = λ a e. cc
@@ -272,93 +231,26 @@ is_storing _ = false
 abbrev pub SameFault : Part → Seen × Part → Type 0
 SameFault m r = r.1.call.fault ≡ m.call.fault
 
-set_fault : (l : Latch) (r j : ℕ) (h : Shape) (q : Party) (c : Counts) (m : Part) → IfSome (effect (Set l r j) h q c m) (SameFault m)
-set_fault Terminate r j h q c m = search (rules, arith)
-set_fault (OfCall n) r j h q c m = search (rules, arith)
-
-found_fault : (m : Part) (x : Option Ending) → IfSome (found m x) (SameFault m)
-found_fault m None = refl
-found_fault m (Some e) = refl
+storing_act : (q : Party) (x : Place) → is_storing x ≡ false → stores_fault (act_of q x) ≡ false
+storing_act (Worker a b) (ProbeWorking k) z = z
+storing_act (Worker a b) (BeginTask t) z = begins stores_fault t (λ n. refl) (λ k i d. refl)
+storing_act (Worker a b) (LookQueue n) z = looks stores_fault (Worker a b) (plan_pool n) refl refl
+storing_act (Worker a b) (PushJob n v) z = pushes stores_fault (Worker a b) (plan_pool n) (plan_job n) (plan_book n) refl refl
+storing_act (Worker a b) _ z = z
+storing_act (Caller c) (BeginTask t) z = begins stores_fault t (λ n. refl) (λ k i d. refl)
+storing_act (Caller c) (LookQueue n) z = looks stores_fault (Caller c) (plan_pool n) refl refl
+storing_act (Caller c) (PushJob n v) z = pushes stores_fault (Caller c) (plan_pool n) (plan_job n) (plan_book n) refl refl
+storing_act (Caller c) _ z = z
 
 pub act_fault : (h : Shape) (q : Party) (c : Counts) (m : Part) (x : Place) → is_storing x ≡ false → IfSome (effect (act_of q x) h q c m) (SameFault m)
-act_fault h (Worker a b) c m (ProbeWorking k) z = search (rules, arith)
-act_fault h q c m (SetLatch s) z = set_fault s.latch s.pool s.worker h q c m
-act_fault h q c m (StoreBody o e) z = cc
-act_fault h q c m (StoreSlot d o t e) z = cc
-act_fault h q c m (StorePiece d o t e) z = cc
-act_fault h (Worker a b) c m (TakeResult o f) z = found_fault m m.call.cell
-act_fault h (Caller n) c m (TakeResult o f) z = found_fault m m.call.cell
-act_fault h (Worker a b) c m _ z = search (rules, arith)
-act_fault h (Caller n) c m _ z = search (rules, arith)
+act_fault h q c m x z = if_some_map (Spared (act_of q x) m) (SameFault m) (λ r s. s.fault (storing_act q x z)) (effect (act_of q x) h q c m) (act_spared (act_of q x) h q c m)
 
 -- no act ends a run
 abbrev pub NoEnd : Part → Seen × Part → Type 0
 NoEnd m r = (e : Ending) → r.1.job.at ≡ Over e → m.job.at ≡ Over e
 
-popped_end : (q : Party) (m : Part) (rest : List ℕ) (o : Option ℕ) → IfSome (popped q m rest o) (NoEnd m)
-popped_end q m rest None = λ e z. z
-popped_end q m rest (Some t) = λ e z. cc
-
-cast_end : (q : Party) (m : Part) (l : List ℕ) → IfSome (take_cast q m l) (NoEnd m)
-cast_end q m [] = λ e z. z
-cast_end q m (t ∷ ts) = λ e z. cc
-
-inject_end : (q : Party) (m : Part) (l : List ℕ) → IfSome (pop_injector q m l) (NoEnd m)
-inject_end q m [] = λ e z. z
-inject_end q m (t ∷ ts) = λ e z. cc
-
-push_end : (h : Shape) (q : Party) (c : Counts) (m : Part) (t p : ℕ) (k : Option ℕ) (z : Bool) → IfSome (effect (if z then PushOwn t k else PushInj p t k) h q c m) (NoEnd m)
-push_end h q c m t p k true = λ e z. cc
-push_end h q c m t p k false = λ e z. cc
-
 pub act_end : (h : Shape) (q : Party) (c : Counts) (m : Part) (x : Place) → IfSome (effect (act_of q x) h q c m) (NoEnd m)
-act_end h (Worker a b) c m (PopWorking k) = popped_end (Worker a b) m _ _
-act_end h (Caller n) c m (PopWorking k) = tt
-act_end h (Worker a b) c m (PopIdle k) = popped_end (Worker a b) m _ _
-act_end h (Caller n) c m (PopIdle k) = tt
-act_end h (Worker a b) c m (JoinPop o) = popped_end (Worker a b) m _ _
-act_end h (Caller n) c m (JoinPop o) = tt
-act_end h (Worker a b) c m YieldPop = popped_end (Worker a b) m _ _
-act_end h (Caller n) c m YieldPop = tt
-act_end h (Worker a b) c m LocalPop = popped_end (Worker a b) m _ _
-act_end h (Caller n) c m LocalPop = tt
-act_end h (Worker a b) c m (StealFrom k n) = popped_end (Worker a b) m _ _
-act_end h (Caller g) c m (StealFrom k n) = tt
-act_end h (Worker a b) c m (YieldSteal v n) = popped_end (Worker a b) m _ _
-act_end h (Caller g) c m (YieldSteal v n) = tt
-act_end h (Worker a b) c m (PopInjected k) = inject_end (Worker a b) m m.pool.injector
-act_end h (Caller n) c m (PopInjected k) = tt
-act_end h (Worker a b) c m YieldPopInjected = inject_end (Worker a b) m m.pool.injector
-act_end h (Caller n) c m YieldPopInjected = tt
-act_end h (Worker a b) c m (TakeCastWorking k) = cast_end (Worker a b) m (m.pool.casts b)
-act_end h (Caller n) c m (TakeCastWorking k) = tt
-act_end h (Worker a b) c m (TakeCastIdle k) = cast_end (Worker a b) m (m.pool.casts b)
-act_end h (Caller n) c m (TakeCastIdle k) = tt
-act_end h (Worker a b) c m (JoinTakeCast o) = cast_end (Worker a b) m (m.pool.casts b)
-act_end h (Caller n) c m (JoinTakeCast o) = tt
-act_end h (Worker a b) c m YieldTakeCast = cast_end (Worker a b) m (m.pool.casts b)
-act_end h (Caller n) c m YieldTakeCast = tt
-act_end h (Worker a b) c m LocalTakeCast = cast_end (Worker a b) m (m.pool.casts b)
-act_end h (Caller n) c m LocalTakeCast = tt
-act_end h (Worker a b) c m (PushJob n v) = push_end h (Worker a b) c m (plan_job n) (plan_pool n) (plan_book n) (is_member (Worker a b) (plan_pool n))
-act_end h (Caller g) c m (PushJob n v) = push_end h (Caller g) c m (plan_job n) (plan_pool n) (plan_book n) (is_member (Caller g) (plan_pool n))
-act_end h (Worker a b) c m (PushToken f v) = λ e z. cc
-act_end h (Caller g) c m (PushToken f v) = tt
-act_end h (Worker a b) c m (AddToFifo f) = if_cond (NoEnd m) (is_open (Worker a b) (m.seat.feeder (count_book f.count))) _ (λ k e z. cc)
-act_end h (Caller g) c m (AddToFifo f) = tt
-act_end h (Worker a b) c m (TakeFromFifo f) = undo_sees (NoEnd m) (Worker a b) m (count_book f.count) (λ e z. z) (λ u i e z. cc)
-act_end h (Caller g) c m (TakeFromFifo f) = tt
-act_end h (Worker a b) c m (BeginTask (Plain u)) = λ e z. cc
-act_end h (Caller g) c m (BeginTask (Plain u)) = λ e z. cc
-act_end h (Worker a b) c m (BeginTask (Token k i l)) = out_sees (NoEnd m) (Worker a b) m l (λ e z. z) (λ u us y e z. cc)
-act_end h (Caller g) c m (BeginTask (Token k i l)) = out_sees (NoEnd m) (Caller g) m l (λ e z. z) (λ u us y e z. cc)
-act_end h (Worker a b) c m (BeginHere u) = λ e z. cc
-act_end h (Caller g) c m (BeginHere u) = λ e z. cc
-act_end h (Worker a b) c m (PushForAll v) = λ e z. z
-act_end h (Caller g) c m (PushForAll v) = λ e z. z
-act_end h (Worker a b) c m (DealPieces v) = λ e z. z
-act_end h (Caller g) c m (DealPieces v) = λ e z. z
-act_end h q c m x = if_some_map (SameJobs m) (NoEnd m) (λ r s e z. sym s.at ∙ z) (effect (act_of q x) h q c m) (quiet_same h q c m x refl)
+act_end h q c m x = if_some_map (Spared (act_of q x) m) (NoEnd m) (λ r s. s.ends) (effect (act_of q x) h q c m) (act_spared (act_of q x) h q c m)
 
 -- and no move does
 pub put_end : (f : ℕ → Job) (a : ℕ) (j : Job) (t : ℕ) (e : Ending) → (j.at ≡ Over e → ⊥) → (put f a j t).at ≡ Over e → (f t).at ≡ Over e
@@ -372,20 +264,15 @@ marks_end : (c : Pieces) (k : Marking) (f : ℕ → Job) (t : ℕ) (e : Ending) 
 marks_end c k f t e = by (is_piece c t) k
   where
     by : (b : Bool) (k : Marking) → (if b then marked k c.pool (t - c.first) (f t) else f t).at ≡ Over e → (f t).at ≡ Over e
-    by true Counted z = z
-    by true (Numbered n) z = z
-    by true Unnumbered z = z
     by true Queued z = cc
     by true Dealt z = cc
     by true Returned z = cc
     by false k z = z
+    by true _ z = z
 
 pub moved_end : (q : Party) (g : Move) (f : ℕ → Job) (t : ℕ) (e : Ending) → (jobs_after q g f t).at ≡ Over e → (f t).at ≡ Over e
-moved_end q (Stay y) f t e z = z
 moved_end q (HandIn y k) f t e z = put_end f k (at_job (f k) Spent) t e (λ y. cc) z
 moved_end q (Discard k) f t e z = put_end f k (at_job (f k) Spent) t e (λ y. cc) z
-moved_end q (Into a y) f t e z = z
-moved_end q Back f t e z = z
 moved_end q (StartRun a u) f t e z = put_end f u (begun q (f u)) t e (λ y. cc) z
 moved_end q (HandBack (Detach p a)) f t e z = put_end f a (at_job (f a) HandedBack) t e (λ y. cc) z
 moved_end q (HandBack (Here p a)) f t e z = put_end f a (at_job (f a) HandedBack) t e (λ y. cc) z
@@ -397,3 +284,4 @@ moved_end q (HandBack (Fork o a)) f t e z = put_end f a (at_job (f a) HandedBack
 moved_end q (HandBack (Feed d)) f t e z = put_end f d.job (at_job (f d.job) HandedBack) t e (λ y. cc) (put_end (put f d.job (at_job (f d.job) HandedBack)) d.token (at_job (f d.token) HandedBack) t e (λ y. cc) z)
 moved_end q (Mark y c k) f t e z = marks_end c k f t e z
 moved_end q (HandAllBack c) f t e z = marks_end c Returned f t e z
+moved_end q _ f t e z = z

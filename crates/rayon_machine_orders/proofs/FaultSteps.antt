@@ -1,7 +1,8 @@
 -- the faults that calls keep, over each step of each run; and what the laws say of them
 use Rattle.std.proofs.Common.{◌∙◌, ap, arith, inl, inr, refl, subst, sym}
-use Rattle.std.proofs.lemmas.Bool.{eq-eqb}
-use Rattle.std.specs.Prelude.{◌⊎◌, ◌≡◌, ◌&&◌, ◌==◌, ◌+◌, ◌-◌, ◌≤◌, ◌<◌, ℕ, if◌then◌else◌, Bool, IfSome, List, None, Option, Some, false, nat_lt, true}
+use Rattle.rayon_machine_orders.proofs.Words.{eq-eqb, ◌⊎◌, ◌≡◌, ◌&&◌, ◌==◌, ◌+◌, ◌-◌, ◌≤◌, ◌<◌, ℕ, if◌then◌else◌, Bool, IfSome, List, None, Option, Some, false, nat_lt, true, has_body, is_of_scope, CastTakes, HasEnded, ScopeTakes, TakesAs as Takes, follows, one, KeepsBy, TakesFault, TakesLowest}
+use Rattle.rayon_machine_orders.proofs.Words.{act_of, fresh, IsRun, first_place, start, holds, part_of, step, Part, Shape, World, found, target_call, target_pool, target_worker, told, Found, Event, Go, Ending, Fault, Fine, JobKind, BodyOf, Detached, Direct, PieceOf, Scoped, Stored, TokenOf}
+use Rattle.rayon_machine_orders.proofs.Words.{WholeOf, OpenCall, Party, Caller, Worker, Free, ProbeWorking, Stopped, TakeResult, Termination, Answers, Whereabouts, Nowhere, Over, is_done}
 use Rattle.rayon_machine_laws.proofs.ClaimRuns.{unqueued}
 use Rattle.rayon_machine_laws.proofs.Claims.{Opened, Says, is_body}
 use Rattle.rayon_machine_laws.proofs.Endings.{follows_says, has_ended}
@@ -11,36 +12,14 @@ use Rattle.rayon_machine_laws.proofs.PlacedEvents.{Advance}
 use Rattle.rayon_machine_laws.proofs.PlacedRuns.{JobsHold, step_advance}
 use Rattle.rayon_machine_laws.proofs.Scoping.{count_over}
 use Rattle.rayon_machine_laws.proofs.Ties.{job_at, outcome}
-use Rattle.rayon_machine_laws.specs.Counted.{has_body, is_of_scope}
-use Rattle.rayon_machine_laws.specs.End.{CastTakes, HasEnded, ScopeTakes, Takes, follows}
-use Rattle.rayon_machine_laws.specs.Once.{one}
 use Rattle.rayon_machine_orders.proofs.FaultActs.{cell_ended, go_faults, some_end, taken_count}
 use Rattle.rayon_machine_orders.proofs.FaultPlaces.{answer_of, told_of}
 use Rattle.rayon_machine_orders.proofs.Faults.{Answered, FaultOf, FaultsHold, KeepsFor, StoredSo, act_first, hold_of, is_whole, keeps_same, of_cast, of_scope, over_is, puts_counts, stored_so}
 use Rattle.rayon_machine_orders.proofs.FilledStates.{FilledHold}
 use Rattle.rayon_machine_orders.proofs.Filled.{first_fills, step_fills, takes_filled}
-use Rattle.rayon_machine_orders.specs.Faults.{FaultLaw, IsKept, KeepsBy, StoresOwn, TakesFault, TakesLowest, stored_at}
-use Rattle.rayon_machine_places.specs.Places.{act_of, fresh}
-use Rattle.rayon_machine_places.specs.Runs.{IsRun, first_place, start}
-use Rattle.rayon_machine_places.specs.Steps.{holds, part_of, step}
-use Rattle.rayon_machine_places.specs.World.{Part, Shape, World, found, target_call, target_pool, target_worker, told}
-use Rattle.rayon_machine_places.specs.declared.act.Seen.TheVariants.{Found}
-use Rattle.rayon_machine_places.specs.declared.event.Event.{Event}
-use Rattle.rayon_machine_places.specs.declared.event.Event.TheVariants.{Go}
-use Rattle.rayon_machine_places.specs.declared.place.Ending.{Ending}
-use Rattle.rayon_machine_places.specs.declared.place.Ending.TheVariants.{Fault, Fine}
-use Rattle.rayon_machine_places.specs.declared.place.JobKind.{JobKind}
-use Rattle.rayon_machine_places.specs.declared.place.JobKind.TheVariants.{BodyOf, Detached, Direct, PieceOf, Scoped, Stored, TokenOf, WholeOf}
-use Rattle.rayon_machine_places.specs.declared.place.OpenCall.{OpenCall}
-use Rattle.rayon_machine_places.specs.declared.place.Party.{Party}
-use Rattle.rayon_machine_places.specs.declared.place.Party.TheVariants.{Caller, Worker}
-use Rattle.rayon_machine_places.specs.declared.place.Place.TheVariants.{Free, ProbeWorking, Stopped, TakeResult}
-use Rattle.rayon_machine_places.specs.declared.place.Target.TheVariants.{Termination}
-use Rattle.rayon_machine_places.specs.declared.place.Then.TheVariants.{Answers}
-use Rattle.rayon_machine_places.specs.declared.state.Whereabouts.{Whereabouts}
-use Rattle.rayon_machine_places.specs.declared.state.Whereabouts.TheVariants.{Nowhere, Over}
-use Rattle.rayon_machine_places.specs.Readers.{is_done}
-use Rattle.rayon_machine_orders.proofs.FaultEvents.{NewCall, Still, event_still, is_act, less_or, some_number, still_faults, whole_body}
+use Rattle.rayon_machine_orders.specs.Faults.{FaultLaw, IsKept, StoresOwn, stored_at}
+use Rattle.rayon_machine_orders.proofs.FaultEvents.{NewCall, Still, event_still, less_or, some_number, still_faults, whole_body}
+use Rattle.rayon_machine_orders.proofs.EventCases.{is_act}
 
 event_faults : (w : World) (e : Event) → is_act e ≡ false → FaultsHold w → IfSome (step w e) FaultsHold
 event_faults w e z h = if_some_map (λ u. (FilledHold u × Advance w u) × Still w u) FaultsHold (λ u d. still_faults w u h ((d.0).0) ((d.0).1) (d.1)) (step w e)
@@ -192,12 +171,7 @@ takes_so w h q o f e z = by ((w.job o.job).kind) refl
     by : (k : JobKind) → (w.job o.job).kind ≡ k → Takes w o k e
     by (BodyOf c p) i = scope (ap is_body i) (ap is_whole i)
     by (WholeOf c p) i = cast (ap is_body i) (ap is_whole i)
-    by (Detached p) i = plain (ap is_body i) (ap is_whole i)
-    by (Stored c p) i = plain (ap is_body i) (ap is_whole i)
-    by (Scoped c p) i = plain (ap is_body i) (ap is_whole i)
-    by (PieceOf c p) i = plain (ap is_body i) (ap is_whole i)
-    by (TokenOf p l) i = plain (ap is_body i) (ap is_whole i)
-    by Direct i = plain (ap is_body i) (ap is_whole i)
+    by _ i = plain (ap is_body i) (ap is_whole i)
 
 -- and what a scope, or a broadcast, takes that is about to
 found_sees : (m : Part) (k : Option Ending) (own : Ending) → k ≡ Some own → IfSome (found m k) (λ r. r.0 ≡ Found (told m.call.fault own))
@@ -275,7 +249,8 @@ abbrev Leaves : World → Event → World → Type 0
 Leaves w e u = (c : ℕ) → KeepsBy (w.job (w.call c).job).kind (w.call c).fault (stored_at w c e) (u.call c).fault
 
 step_first : (w : World) (e : Event) → FaultsHold w → IfSome (step w e) (Leaves w e)
-step_first w (Go q) h = acted_keeps w q (w.stack q) (target_pool q (act_of q (w.stack q).top)) (target_worker q (act_of q (w.stack q).top)) (target_call (act_of q (w.stack q).top)) (job_at w q (act_of q (w.stack q).top)) (outcome w q (w.stack q)) (Leaves w (Go q)) (act_first w q ((w.stack q).top) ((w.stack q).below) h (((hold_of w h).says q).top))
+step_first w (Go q) h = acted_keeps w q (w.stack q) (target_pool q (act_of q (w.stack q).top)) (target_worker q (act_of q (w.stack q).top)) (target_call (act_of q (w.stack q).top)) (job_at w q (act_of q (w.stack q).top)) (outcome w q (w.stack q)) (Leaves w (Go q))
+    (act_first w q ((w.stack q).top) ((w.stack q).below) h (((hold_of w h).says q).top))
 step_first w e h = if_some_map (Still w) (λ u. (c : ℕ) → KeepsBy (w.job (w.call c).job).kind (w.call c).fault None (u.call c).fault) (λ u s c. still_first w u c h (s.call c)) (step w e) (event_still w e refl h)
 
 stored_own : (w : World) (e : Event) (c t : ℕ) (d : Ending) → FaultsHold w → stored_at w c e ≡ Some (t, d) → StoresOwn w c t d

@@ -11,10 +11,10 @@
 -- `FaultsHold` says too: what a call answers is how its job ended, but a fault where it keeps one; a scope or broadcast
 -- that answers has the count 0.
 use Rattle.std.proofs.Common.{◌∙◌, ap, arith, inl, inr, refl, subst, sym}
-use Rattle.std.proofs.Math.Dec.{ltb}
+use Rattle.rayon_machine_orders.proofs.Words.{ltb, eq-eqb, eqb-true, ltb-false, ltb-true, ◌⊎◌, ◌≡◌, ◌==◌, ◌+◌, ◌≤◌, ◌<◌, ℕ, if◌then◌else◌, Bool, IfSome, List, None, Option, Some, false, true, is_of_scope, one, share, shares, shares_in, IsStoredFor, KeepsBy, stored_by, act_of, is_member}
+use Rattle.rayon_machine_orders.proofs.Words.{plan_book, plan_job, plan_pool, put, Part, World, counts_at, first_fault, found, is_open, put_piece, target_call, target_pool, told, LookInj, LookOwn, PushInj, PushOwn, Seen, Found, Ending, Fault, Fine, JobKind, PieceOf, Scoped, WholeOf, OpenCall}
+use Rattle.rayon_machine_orders.proofs.Words.{Party, Caller, Worker, Place, BeginTask, LookQueue, PushJob, StoreBody, StorePiece, StoreSlot, TakeResult, Plain, Token, Call, Over, Spent}
 use Rattle.std.proofs.Math.Nat.{min-eq_left, min-eq_right}
-use Rattle.std.proofs.lemmas.Bool.{eq-eqb, eqb-true, ltb-false, ltb-true}
-use Rattle.std.specs.Prelude.{◌⊎◌, ◌≡◌, ◌==◌, ◌+◌, ◌≤◌, ◌<◌, ℕ, if◌then◌else◌, Bool, IfSome, List, None, Option, Some, false, true}
 use Rattle.rayon_machine_laws.proofs.ClaimRuns.{CallsHold, place_part}
 use Rattle.rayon_machine_laws.proofs.Claims.{Opened, Says, is_body, is_part}
 use Rattle.rayon_machine_laws.proofs.Frame.{either, if_cond, if_some_all, if_some_map, put_same}
@@ -23,31 +23,11 @@ use Rattle.rayon_machine_laws.proofs.ShareActs.{with_job}
 use Rattle.rayon_machine_laws.proofs.ShareSteps.{self_one}
 use Rattle.rayon_machine_laws.proofs.Stocked.{one_set}
 use Rattle.rayon_machine_laws.proofs.Ties.{outcome}
-use Rattle.rayon_machine_laws.specs.Counted.{is_of_scope}
-use Rattle.rayon_machine_laws.specs.Once.{one}
-use Rattle.rayon_machine_laws.specs.Shares.{share, shares, shares_in}
 use Rattle.rayon_machine_orders.proofs.FaultPlaces.{SameFault, act_fault, answer_of, is_storing}
 use Rattle.rayon_machine_orders.proofs.FilledStates.{FilledHold}
 use Rattle.rayon_machine_orders.proofs.Takes.{number_is}
-use Rattle.rayon_machine_orders.specs.Faults.{IsStoredFor, KeepsBy, KeepsFirst, KeepsLowest, stored_by}
-use Rattle.rayon_machine_places.specs.Places.{act_of, is_member, plan_book, plan_job, plan_pool}
-use Rattle.rayon_machine_places.specs.Steps.{put}
-use Rattle.rayon_machine_places.specs.World.{Part, World, counts_at, first_fault, found, is_open, lowest_fault, put_piece, target_call, target_pool, told}
-use Rattle.rayon_machine_places.specs.declared.act.Act.TheVariants.{LookInj, LookOwn, PushInj, PushOwn}
-use Rattle.rayon_machine_places.specs.declared.act.Seen.{Seen}
-use Rattle.rayon_machine_places.specs.declared.act.Seen.TheVariants.{Found}
-use Rattle.rayon_machine_places.specs.declared.place.Ending.{Ending}
-use Rattle.rayon_machine_places.specs.declared.place.Ending.TheVariants.{Fault, Fine}
-use Rattle.rayon_machine_places.specs.declared.place.JobKind.{JobKind}
-use Rattle.rayon_machine_places.specs.declared.place.JobKind.TheVariants.{PieceOf, Scoped, WholeOf}
-use Rattle.rayon_machine_places.specs.declared.place.OpenCall.{OpenCall}
-use Rattle.rayon_machine_places.specs.declared.place.Party.{Party}
-use Rattle.rayon_machine_places.specs.declared.place.Party.TheVariants.{Caller, Worker}
-use Rattle.rayon_machine_places.specs.declared.place.Place.{Place}
-use Rattle.rayon_machine_places.specs.declared.place.Place.TheVariants.{BeginTask, LookQueue, PushJob, StoreBody, StorePiece, StoreSlot, TakeResult}
-use Rattle.rayon_machine_places.specs.declared.place.Taken.TheVariants.{Plain, Token}
-use Rattle.rayon_machine_places.specs.declared.state.Call.{Call}
-use Rattle.rayon_machine_places.specs.declared.state.Whereabouts.TheVariants.{Over, Spent}
+use Rattle.rayon_machine_orders.specs.Faults.{KeepsFirst, KeepsLowest}
+use Rattle.rayon_machine_places.specs.World.{lowest_fault}
 
 -- a number that stands for a broadcast
 abbrev pub is_whole : JobKind → Bool
@@ -442,13 +422,16 @@ FirstOf w q x r = (c : ℕ) → KeepsBy (w.job (w.call c).job).kind (w.call c).f
 first_kept : (w : World) (d t : ℕ) (e : Ending) → is_whole (w.job (w.call d).job).kind ≡ false → KeepsBy (w.job (w.call d).job).kind (w.call d).fault (Some (t, e)) (first_fault (w.call d).fault t e)
 first_kept w d t e z = by_first ((w.job (w.call d).job).kind) (w.call d).fault (Some (t, e)) (first_fault (w.call d).fault t e) z (first_keeps (w.call d).fault t e)
 
-body_first : (w : World) → FaultsHold w → (q : Party) (o : OpenCall) (e : Ending) → Says w q (StoreBody o e) → (c : ℕ) → KeepsBy (w.job (w.call c).job).kind (w.call c).fault (if c == o.number then Some ((w.call o.number).job, e) else None) (put w.call o.number (record (w.call o.number) { cell = Some e; fault = first_fault (w.call o.number).fault (w.call o.number).job e }) c).fault
+body_first : (w : World) → FaultsHold w → (q : Party) (o : OpenCall) (e : Ending) → Says w q (StoreBody o e) → (c : ℕ) → KeepsBy (w.job (w.call c).job).kind (w.call c).fault (if c == o.number then Some ((w.call o.number).job, e) else None)
+    (put w.call o.number (record (w.call o.number) { cell = Some e; fault = first_fault (w.call o.number).fault (w.call o.number).job e }) c).fault
 body_first w h q o e s c = stored_keeps w o.number ((w.call o.number).job) e (record (w.call o.number) { cell = Some e; fault = first_fault (w.call o.number).fault (w.call o.number).job e }) (first_kept w o.number ((w.call o.number).job) e (body_kind w h q o e s)) c
 
-slot_first : (w : World) → CallsHold w → (q : Party) (d : ℕ) (o : Party) (t : ℕ) (e : Ending) → Says w q (StoreSlot d o t e) → (c : ℕ) → KeepsBy (w.job (w.call c).job).kind (w.call c).fault (if c == d then Some (t, e) else None) (put w.call d (record (w.call d) { fault = first_fault (w.call d).fault t e }) c).fault
+slot_first : (w : World) → CallsHold w → (q : Party) (d : ℕ) (o : Party) (t : ℕ) (e : Ending) → Says w q (StoreSlot d o t e) → (c : ℕ) → KeepsBy (w.job (w.call c).job).kind (w.call c).fault (if c == d then Some (t, e) else None)
+    (put w.call d (record (w.call d) { fault = first_fault (w.call d).fault t e }) c).fault
 slot_first w h q d o t e s c = stored_keeps w d t e (record (w.call d) { fault = first_fault (w.call d).fault t e }) (first_kept w d t e (slot_kind w h q d o t e s)) c
 
-piece_first : (w : World) → CallsHold w → (q : Party) (d : ℕ) (o : Party) (t : ℕ) (e : Ending) → Says w q (StorePiece d o t e) → (c : ℕ) → KeepsBy (w.job (w.call c).job).kind (w.call c).fault (if c == d then Some (t, e) else None) (put w.call d ((put_piece (place_part w q (StorePiece d o t e)) t e).call) c).fault
+piece_first : (w : World) → CallsHold w → (q : Party) (d : ℕ) (o : Party) (t : ℕ) (e : Ending) → Says w q (StorePiece d o t e) → (c : ℕ) → KeepsBy (w.job (w.call c).job).kind (w.call c).fault (if c == d then Some (t, e) else None)
+    (put w.call d ((put_piece (place_part w q (StorePiece d o t e)) t e).call) c).fault
 piece_first w h q d o t e s c = stored_keeps w d t e ((put_piece (place_part w q (StorePiece d o t e)) t e).call) (lowest q s) c
   where
     lowest : (q : Party) → Says w q (StorePiece d o t e) → KeepsBy (w.job (w.call d).job).kind (w.call d).fault (Some (t, e)) ((put_piece (place_part w q (StorePiece d o t e)) t e).call).fault
@@ -463,7 +446,8 @@ act_first w (Caller n) (StoreSlot d o t e) fs h s = if_cond (FirstOf w (Caller n
 act_first w (Worker i j) (StorePiece d o t e) fs h s = λ c. piece_first w (hold_of w h) (Worker i j) d o t e s c
 act_first w (Caller n) (StorePiece d o t e) fs h s = λ c. piece_first w (hold_of w h) (Caller n) d o t e s c
 act_first w q x fs h s = if_some_map (SameFault (place_part w q x)) (FirstOf w q x)
-    (λ r s c. subst (λ n. KeepsBy (w.job (w.call c).job).kind (w.call c).fault n (put w.call (target_call (act_of q x)) (r.1.call) c).fault) (sym (stored_none w c q x refl)) (keeps_same (w.job (w.call c).job).kind (w.call c).fault (put w.call (target_call (act_of q x)) (r.1.call) c).fault (put_same (λ k. k.fault) w.call (target_call (act_of q x)) (r.1.call) c s)))
+    (λ r s c. subst (λ n. KeepsBy (w.job (w.call c).job).kind (w.call c).fault n (put w.call (target_call (act_of q x)) (r.1.call) c).fault) (sym (stored_none w c q x refl))
+    (keeps_same (w.job (w.call c).job).kind (w.call c).fault (put w.call (target_call (act_of q x)) (r.1.call) c).fault (put_same (λ k. k.fault) w.call (target_call (act_of q x)) (r.1.call) c s)))
     (outcome w q (record { top = x; below = fs })) (act_fault w.shape q (counts_at w (target_pool q (act_of q x))) (place_part w q x) x refl)
 
 -- what a call that takes sees
@@ -484,6 +468,8 @@ take_sees : (w : World) (q : Party) (a : OpenCall) (g : Option Ending) (r : Seen
 take_sees w q a g r h o f e d z = subst (λ n. (own : Ending) × (((w.call n).cell ≡ Some own) × (d ≡ told (w.call n).fault own))) (taken_place a o g f e) (h d z)
 
 pub act_takes : (w : World) (q : Party) (x : Place) (fs : List Place) → IfSome (outcome w q (record { top = x; below = fs })) (TakesOf w x)
-act_takes w (Worker i j) (TakeResult a g) fs = if_some_map (λ r. (d : Ending) → r.0 ≡ Found d → (own : Ending) × (((w.call a.number).cell ≡ Some own) × (d ≡ told (w.call a.number).fault own))) (TakesOf w (TakeResult a g)) (λ r h. take_sees w (Worker i j) a g r h) (outcome w (Worker i j) (record { top = TakeResult a g; below = fs })) (taken_of (place_part w (Worker i j) (TakeResult a g)) ((w.call a.number).cell) refl)
-act_takes w (Caller n) (TakeResult a g) fs = if_some_map (λ r. (d : Ending) → r.0 ≡ Found d → (own : Ending) × (((w.call a.number).cell ≡ Some own) × (d ≡ told (w.call a.number).fault own))) (TakesOf w (TakeResult a g)) (λ r h. take_sees w (Caller n) a g r h) (outcome w (Caller n) (record { top = TakeResult a g; below = fs })) (taken_of (place_part w (Caller n) (TakeResult a g)) ((w.call a.number).cell) refl)
+act_takes w (Worker i j) (TakeResult a g) fs = if_some_map (λ r. (d : Ending) → r.0 ≡ Found d → (own : Ending) × (((w.call a.number).cell ≡ Some own) × (d ≡ told (w.call a.number).fault own))) (TakesOf w (TakeResult a g)) (λ r h. take_sees w (Worker i j) a g r h)
+    (outcome w (Worker i j) (record { top = TakeResult a g; below = fs })) (taken_of (place_part w (Worker i j) (TakeResult a g)) ((w.call a.number).cell) refl)
+act_takes w (Caller n) (TakeResult a g) fs = if_some_map (λ r. (d : Ending) → r.0 ≡ Found d → (own : Ending) × (((w.call a.number).cell ≡ Some own) × (d ≡ told (w.call a.number).fault own))) (TakesOf w (TakeResult a g)) (λ r h. take_sees w (Caller n) a g r h)
+    (outcome w (Caller n) (record { top = TakeResult a g; below = fs })) (taken_of (place_part w (Caller n) (TakeResult a g)) ((w.call a.number).cell) refl)
 act_takes w q x fs = if_some_all (TakesOf w x) (λ r o f e. absurd (cc)) (outcome w q (record { top = x; below = fs }))

@@ -5,25 +5,10 @@
 -- - `token_pushed_before_job`, at `Feeding::begin`. `list_popped_newest_first`: `fifo_list_popped_newest_first`, at
 --   `FifoList::write`.
 use Rattle.std.proofs.Common.{refl, sym, ◌∙◌, ap}
-use Rattle.std.specs.Prelude.{ℕ, if◌then◌else◌, Option, Some, None, List, [], ◌∷◌, ◌++◌, ◌≡◌, IfSome}
-use Rattle.rayon_machine_places.specs.declared.act.Act.{Act}
-use Rattle.rayon_machine_places.specs.declared.place.Place.TheVariants.{AddToFifo, LookForToken, PushToken, RaiseCount}
-use Rattle.rayon_machine_orders.specs.Queue.{Changes, Comes, change}
-use Rattle.rayon_machine_places.specs.World.{Counts, Outcome, Part, Pool, Seat, Shape, begun, but_last, effect, head_of, is_open, last_of, or_none, put_list, target_job}
-use Rattle.rayon_machine_places.specs.declared.act.Seen.TheVariants.{Done, Missing, Handed}
-use Rattle.rayon_machine_places.specs.declared.event.Event.TheVariants.{End, Fifo, Go, Install, Spawn}
-use Rattle.rayon_machine_places.specs.declared.event.Event.{Event}
-use Rattle.rayon_machine_places.specs.declared.place.Plan.TheVariants.{Feed}
-use Rattle.rayon_machine_places.specs.declared.act.Act.TheVariants.{FifoOut}
-use Rattle.rayon_machine_places.specs.declared.place.Ending.TheVariants.{Fine}
-use Rattle.rayon_machine_places.specs.declared.place.Move.{Move}
-use Rattle.rayon_machine_places.specs.declared.place.Party.{Party}
-use Rattle.rayon_machine_places.specs.declared.place.Place.{Place}
-use Rattle.rayon_machine_places.specs.declared.shape.PoolShape.{PoolShape}
-use Rattle.rayon_machine_places.specs.declared.act.Seen.{Seen}
-use Rattle.rayon_machine_places.specs.declared.place.Move.TheVariants.{Stay}
+use Rattle.rayon_machine_orders.proofs.Words.{ℕ, if◌then◌else◌, Option, Some, None, List, [], ◌∷◌, ◌++◌, ◌≡◌, IfSome, Act, AddToFifo, LookForToken, PushToken, RaiseCount, Changes, Comes, change, Counts, Outcome, Part, Pool, Seat, Shape, begun, but_last, effect, head_of, is_open, last_of}
+use Rattle.rayon_machine_orders.proofs.Words.{or_none, put_list, target_job, Done, Handed, End, Fifo, Go, Install, Spawn, Event, Feed, FifoOut, Fine, Move, Party, Place, PoolShape, Seen, Stay, act_of, next_of}
+use Rattle.rayon_machine_places.specs.declared.act.Seen.TheVariants.{Missing}
 use Rattle.rayon_machine_orders.proofs.WrongMachines.{a, b, c, lone, right, run_by, step_by, times_go, two, aiming, leading}
-use Rattle.rayon_machine_places.specs.Places.{act_of, next_of}
 
 -- a worker runs an installed job
 abbrev running : List Event

@@ -2,24 +2,8 @@
 --
 -- The number that stands for a broadcast that waits runs nowhere.
 use Rattle.rayon_machine_laws.proofs.Scoping.{first_scopes}
-use Rattle.std.proofs.Common.{arith, refl, ap, inl, inr}
-use Rattle.std.specs.Prelude.{ℕ, Bool, true, false, ◌&&◌, ◌==◌, nat_lt, if◌then◌else◌, Option, Some, None, List, ◌≡◌, ◌⊎◌, IfSome}
-use Rattle.rayon_machine_places.specs.declared.place.Party.{Party}
-use Rattle.rayon_machine_places.specs.declared.place.Party.TheVariants.{Worker, Caller}
-use Rattle.rayon_machine_places.specs.declared.place.Ending.{Ending}
-use Rattle.rayon_machine_places.specs.declared.place.Target.TheVariants.{Termination}
-use Rattle.rayon_machine_places.specs.declared.place.Then.{Then}
-use Rattle.rayon_machine_places.specs.declared.place.Then.TheVariants.{Missing}
-use Rattle.rayon_machine_places.specs.declared.place.Place.{Place}
-use Rattle.rayon_machine_places.specs.declared.place.Place.TheVariants.{ProbeWorking, YieldPop, LocalPop, TakeResult, LowerCount, SetLatch, LockToSettle, WakeSettled, UnlockSettled, SetLockLatch, Free, Stopped}
-use Rattle.rayon_machine_places.specs.declared.event.Event.{Event}
-use Rattle.rayon_machine_places.specs.declared.event.Event.TheVariants.{Go, From, Refuse, Miss, End, Spawn, Fifo, Install, Join, Yield, YieldLocal, EndPool, Cast, Scope as OpenScope, IntoSpawn, IntoFifo, IntoCast, Broadcast}
-use Rattle.rayon_machine_places.specs.declared.place.OpenCall.{OpenCall}
-use Rattle.rayon_machine_places.specs.Places.{fresh, act_of}
-use Rattle.rayon_machine_places.specs.World.{Shape, World, target_pool, target_worker, target_call}
-use Rattle.rayon_machine_places.specs.Steps.{step}
-use Rattle.rayon_machine_places.specs.Runs.{first_place, start, IsRun}
-use Rattle.rayon_machine_laws.specs.End.{follows}
+use Rattle.rayon_machine_orders.proofs.Words.{arith, refl, ap, inl, inr, ℕ, Bool, true, false, ◌&&◌, ◌==◌, nat_lt, if◌then◌else◌, Option, Some, None, List, ◌≡◌, ◌⊎◌, IfSome, Party, Worker, Caller, Ending, Termination, Then, Missing, Place, ProbeWorking, TakeResult, LowerCount, SetLatch}
+use Rattle.rayon_machine_orders.proofs.Words.{LockToSettle, WakeSettled, UnlockSettled, SetLockLatch, Free, Stopped, Event, Go, OpenCall, fresh, act_of, Shape, World, target_pool, target_worker, target_call, step, first_place, start, IsRun, follows}
 use Rattle.rayon_machine_laws.proofs.Frame.{acted_keeps}
 use Rattle.rayon_machine_laws.proofs.Ties.{job_at, outcome}
 use Rattle.rayon_machine_laws.proofs.Events.{run_keeps}
@@ -27,27 +11,12 @@ use Rattle.rayon_machine_laws.proofs.ShareEnds.{first_shares}
 use Rattle.rayon_machine_orders.proofs.Takes.{seen_set, sets_now, then_missing, says_missing}
 use Rattle.rayon_machine_orders.proofs.FilledStates.{FilledHold, take_filled}
 use Rattle.rayon_machine_orders.proofs.FilledActs.{go_fills}
-use Rattle.rayon_machine_orders.proofs.FilledEvents.{IsPlain, none_new, from_beside, refuse_beside, miss_beside, end_beside, spawn_beside, cast_beside, into_cast_beside, fifo_beside, scope_beside, into_beside, into_fifo_beside, gather_beside, install_beside, join_beside, yield_beside, give_beside, step_beside}
+use Rattle.rayon_machine_orders.proofs.FilledEvents.{IsPlain, none_new, step_beside, filled_cases, Beside}
+use Rattle.rayon_machine_orders.proofs.EventCases.{by_cases}
 
 pub step_fills : (w : World) (e : Event) → FilledHold w → IfSome (step w e) FilledHold
 step_fills w (Go q) h = acted_keeps w q (w.stack q) (target_pool q (act_of q ((w.stack q).top))) (target_worker q (act_of q ((w.stack q).top))) (target_call (act_of q ((w.stack q).top))) (job_at w q (act_of q ((w.stack q).top))) (outcome w q (w.stack q)) FilledHold (go_fills w q h)
-step_fills w (From q v) h = step_beside w (From q v) h (from_beside w q ((w.stack q).top) ((w.stack q).below) v refl)
-step_fills w (Refuse q) h = step_beside w (Refuse q) h (refuse_beside w q ((w.stack q).top) ((w.stack q).below) refl)
-step_fills w (Miss q) h = step_beside w (Miss q) h (miss_beside w q ((w.stack q).top) ((w.stack q).below) refl)
-step_fills w (End q d) h = step_beside w (End q d) h (end_beside w q d ((w.stack q).top) ((w.stack q).below) refl (h.frames q) h)
-step_fills w (Spawn q p) h = step_beside w (Spawn q p) h (spawn_beside w q p)
-step_fills w (Fifo q p) h = step_beside w (Fifo q p) h (fifo_beside w q p)
-step_fills w (Cast q p) h = step_beside w (Cast q p) h (cast_beside w q p)
-step_fills w (Install q p) h = step_beside w (Install q p) h (install_beside w q p)
-step_fills w (Join q) h = step_beside w (Join q) h (join_beside w q)
-step_fills w (OpenScope q p) h = step_beside w (OpenScope q p) h (scope_beside w q p)
-step_fills w (IntoSpawn q n) h = step_beside w (IntoSpawn q n) h (into_beside w q n)
-step_fills w (IntoFifo q n) h = step_beside w (IntoFifo q n) h (into_fifo_beside w q n)
-step_fills w (IntoCast q n) h = step_beside w (IntoCast q n) h (into_cast_beside w q n)
-step_fills w (Broadcast q p) h = step_beside w (Broadcast q p) h (gather_beside w q p)
-step_fills w (Yield q) h = step_beside w (Yield q) h (yield_beside w q YieldPop (refl, refl, refl, refl) (λ t. refl))
-step_fills w (YieldLocal q) h = step_beside w (YieldLocal q) h (yield_beside w q LocalPop (refl, refl, refl, refl) (λ t. refl))
-step_fills w (EndPool q p) h = step_beside w (EndPool q p) h (give_beside w q p)
+step_fills w e h = step_beside w e h (by_cases w (Beside w) (filled_cases w h) e refl)
 
 first_plain : (h : Shape) (q : Party) → IsPlain (first_place h q)
 first_plain h (Worker p i) = at (nat_lt i (h.pool p).workers) ((h.pool p).callers_own && (i == 0))

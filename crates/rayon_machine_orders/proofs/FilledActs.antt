@@ -1,33 +1,11 @@
 -- what acts leave of the cells of calls
 use Rattle.rayon_machine_places.specs.declared.place.Share.{Share}
+use Rattle.rayon_machine_orders.proofs.Words.{OfPool, OfScope, OfCast, Count, arith, refl, sym, ◌∙◌, ap, subst, inl, inr, ℕ, zero, suc, Bool, true, false, ◌&&◌, ◌+◌, ◌-◌, ◌==◌, ◌≤◌, if◌then◌else◌, Option, Some, None, List, ◌≡◌, ◌⊎◌, IfSome, eqb-true, Party, Worker, Caller, Ending, Plan}
+use Rattle.rayon_machine_orders.proofs.Words.{PoolValue, OfJob, Body, Then, Pieces, Place, RaiseCount, GrowCall, TakeResult, LowerCount, StoreResult, TakeFromFifo, RaiseForAll, PushForAll, LowerForAll, GrowScope, StoreBody, GrowCast, DealPieces, StorePiece, Seen, Done, Found, Task, Refused, Yes}
+use Rattle.rayon_machine_orders.proofs.Words.{No, IsSet, Whereabouts, Nowhere, Made, InDeque, Injected, InFifo, Running, Over, HandedBack, Spent, Retaken, InCast, PoolShape, OpenCall, same_party, act_of, next_of, taken_number, plan_count, count_kind, Shape, Stack, World, Counts, counts_at, Part}
+use Rattle.rayon_machine_orders.proofs.Words.{target_pool, target_call, Outcome, effect, count_in, is_open, put, put_stack, after_move, is_piece, one, has_body, is_of_scope, shares_in, shares, is_busy}
 use Rattle.rayon_machine_laws.proofs.Scoping.{ScopesHold, act_uncalled, acts_scopes, last_entry, is_counting, Uncalled, entry, entry_on}
-use Rattle.rayon_machine_places.specs.declared.place.Count.TheVariants.{OfPool, OfScope, OfCast}
-use Rattle.rayon_machine_places.specs.declared.place.Count.{Count}
-use Rattle.std.proofs.Common.{arith, refl, sym, ◌∙◌, ap, subst, inl, inr}
-use Rattle.std.specs.Prelude.{ℕ, zero, suc, Bool, true, false, ◌&&◌, ◌+◌, ◌-◌, ◌==◌, ◌≤◌, if◌then◌else◌, Option, Some, None, List, ◌≡◌, ◌⊎◌, IfSome}
-use Rattle.std.proofs.lemmas.Bool.{eqb-true}
-use Rattle.rayon_machine_places.specs.declared.place.Party.{Party}
-use Rattle.rayon_machine_places.specs.declared.place.Party.TheVariants.{Worker, Caller}
-use Rattle.rayon_machine_places.specs.declared.place.Ending.{Ending}
-use Rattle.rayon_machine_places.specs.declared.place.Plan.{Plan}
-use Rattle.rayon_machine_places.specs.declared.place.Share.TheVariants.{PoolValue, OfJob, Body}
-use Rattle.rayon_machine_places.specs.declared.place.Then.{Then}
-use Rattle.rayon_machine_places.specs.declared.place.Pieces.{Pieces}
-use Rattle.rayon_machine_places.specs.declared.place.Place.{Place}
-use Rattle.rayon_machine_places.specs.declared.place.Place.TheVariants.{RaiseCount, GrowCall, TakeResult, LowerCount, StoreResult, TakeFromFifo, RaiseForAll, PushForAll, LowerForAll, GrowScope, StoreBody, GrowCast, DealPieces, StorePiece}
-use Rattle.rayon_machine_places.specs.declared.act.Seen.{Seen}
-use Rattle.rayon_machine_places.specs.declared.act.Seen.TheVariants.{Done, Found, Task, Refused, Yes, No}
-use Rattle.rayon_machine_places.specs.declared.state.Letter.TheVariants.{Set as IsSet}
-use Rattle.rayon_machine_places.specs.declared.state.Whereabouts.{Whereabouts}
-use Rattle.rayon_machine_places.specs.declared.state.Whereabouts.TheVariants.{Nowhere, Made, InDeque, Injected, InFifo, Running, Over, HandedBack, Spent, Retaken, InCast}
-use Rattle.rayon_machine_places.specs.declared.shape.PoolShape.{PoolShape}
-use Rattle.rayon_machine_places.specs.declared.place.OpenCall.{OpenCall}
-use Rattle.rayon_machine_places.specs.Places.{same_party, act_of, next_of, taken_number, plan_count, count_kind}
-use Rattle.rayon_machine_places.specs.World.{Shape, Stack, World, Counts, counts_at, Part, target_pool, target_call, Outcome, effect, count_in, is_open, count_call}
-use Rattle.rayon_machine_places.specs.Steps.{put, put_stack, after_move, is_piece}
-use Rattle.rayon_machine_laws.specs.Once.{one}
-use Rattle.rayon_machine_laws.specs.Counted.{has_body, is_of_scope}
-use Rattle.rayon_machine_laws.specs.Shares.{shares_in, shares, is_busy}
+use Rattle.rayon_machine_places.specs.World.{count_call}
 use Rattle.rayon_machine_laws.proofs.Frame.{either, if_some_all, if_some_and, if_some_map, if_cond, put_same, put_new, stack_mine}
 use Rattle.rayon_machine_laws.proofs.Ties.{AllFrames, outcome, result}
 use Rattle.rayon_machine_laws.proofs.Tops.{Tops, FramesOk, top_after}
@@ -44,7 +22,8 @@ use Rattle.rayon_machine_laws.proofs.ShareActs.{with_job, SharesHold, one_most, 
 use Rattle.rayon_machine_laws.proofs.ShareRuns.{shares_mine}
 use Rattle.rayon_machine_laws.proofs.ShareSteps.{self_one, Ready, pieces_made}
 use Rattle.rayon_machine_laws.proofs.ShareEvents.{go_shares, ready}
-use Rattle.rayon_machine_orders.proofs.Takes.{seen_set, sees_set, count_number, lowers_now, sets_now, stores_now, is_grown_well, says_missing, finds_missing, Follows, frame_says, follows_on, is_growing, writes_cell, number_is, SeesSet, act_sees, StaysSet, act_stays_set, SameCell, act_cell, act_finds, sets_touched, sets_next}
+use Rattle.rayon_machine_orders.proofs.Takes.{seen_set, sees_set, count_number, lowers_now, sets_now, stores_now, is_grown_well, says_missing, finds_missing, Follows, frame_says, follows_on, is_growing, writes_cell, number_is, SeesSet, act_sees, StaysSet, act_stays_set, SameCell, act_cell}
+use Rattle.rayon_machine_orders.proofs.Takes.{act_finds, sets_touched, sets_next}
 use Rattle.rayon_machine_orders.proofs.FilledStates.{IsSettled, IsNamed, FilledHold, is_ended, settled_ended, in_hand, whole_gain, gained_hand, whole_none, grow_unsettled, take_target, take_filled}
 
 -- what is known of an act
@@ -83,35 +62,42 @@ entry_body : (w : World) (q : Party) (d : ℕ) (o : Party) (u : ℕ) (n : Then) 
 entry_body w q d o u n fs h z = let y : SaysThen w q n × SaysShare w (OfScope d o) (OfJob u) n = top_says w q (LowerCount (OfScope d o) (OfJob u) n) fs ((h.hold).calls) z in let a : Tied w d o = ((h.hold).calls).entries u ((y.1).0) d o ((y.1).1) in ap has_body (a.kind)
 
 -- whose latch is set next after a Lower is settled before
-lowers_by : (w : World) (q : Party) (k : Count) (a : Share) (n : Then) (fs : List Place) → FilledHold w → w.stack q ≡ record { top = LowerCount k a n; below = fs } → (p : ℕ) (b : Bool) → (count_in (place_part w q (LowerCount k a n)) k == 1) ≡ b → target_call (act_of q (LowerCount k a n)) ≡ p → (c : ℕ) → sets_next (LowerCount k a n) (if b then Yes else No) ≡ Some c → (stores_now (LowerCount k a n) ≡ Some c) ⊎ IsSettled w c
+lowers_by : (w : World) (q : Party) (k : Count) (a : Share) (n : Then) (fs : List Place) → FilledHold w → w.stack q ≡ record { top = LowerCount k a n; below = fs } → (p : ℕ) (b : Bool) → (count_in (place_part w q (LowerCount k a n)) k == 1) ≡ b
+    → target_call (act_of q (LowerCount k a n)) ≡ p → (c : ℕ) → sets_next (LowerCount k a n) (if b then Yes else No) ≡ Some c → (stores_now (LowerCount k a n) ≡ Some c) ⊎ IsSettled w c
 lowers_by w q k a n fs h z p false e t c s = absurd (cc)
 lowers_by w q (OfPool r) a n fs h z p true e t c s = absurd (cc)
 lowers_by w q (OfScope d o) PoolValue n fs h z p true e t c s = absurd (let y : SaysThen w q n × SaysShare w (OfScope d o) PoolValue n = top_says w q (LowerCount (OfScope d o) PoolValue n) fs ((h.hold).calls) z in y.1)
 lowers_by w q (OfScope d o) Body n fs h z p true e t c s = inr (inr (inl (q, ap (λ v. sets_now (v.top)) z ∙ s)))
-lowers_by (w) (Worker i j) (OfScope d o) (OfJob u) n fs h z p true e t c s = inr (inr (inr (subst (λ v. ((w.call v).counted ≡ false) × (has_body (w.job (w.call v).job).kind ≡ true)) (number_is d c s) (last_entry w (Worker i j) d o u n fs (h.scopes) z (eqb-true ((w.call d).count) 1 e), entry_body w (Worker i j) d o u n fs h z))))
-lowers_by (w) (Caller m) (OfScope d o) (OfJob u) n fs h z p true e t c s = inr (inr (inr (subst (λ v. ((w.call v).counted ≡ false) × (has_body (w.job (w.call v).job).kind ≡ true)) (number_is d c s) (last_entry w (Caller m) d o u n fs (h.scopes) z (eqb-true ((w.call d).count) 1 e), entry_body w (Caller m) d o u n fs h z))))
+lowers_by (w) (Worker i j) (OfScope d o) (OfJob u) n fs h z p true e t c s = inr
+    (inr (inr (subst (λ v. ((w.call v).counted ≡ false) × (has_body (w.job (w.call v).job).kind ≡ true)) (number_is d c s) (last_entry w (Worker i j) d o u n fs (h.scopes) z (eqb-true ((w.call d).count) 1 e), entry_body w (Worker i j) d o u n fs h z))))
+lowers_by (w) (Caller m) (OfScope d o) (OfJob u) n fs h z p true e t c s = inr
+    (inr (inr (subst (λ v. ((w.call v).counted ≡ false) × (has_body (w.job (w.call v).job).kind ≡ true)) (number_is d c s) (last_entry w (Caller m) d o u n fs (h.scopes) z (eqb-true ((w.call d).count) 1 e), entry_body w (Caller m) d o u n fs h z))))
 lowers_by w q (OfCast d o) PoolValue n fs h z p true e t c s = absurd (let y : SaysThen w q n × SaysShare w (OfCast d o) PoolValue n = top_says w q (LowerCount (OfCast d o) PoolValue n) fs ((h.hold).calls) z in y.1)
 lowers_by w q (OfCast d o) Body n fs h z p true e t c s = absurd (let y : SaysThen w q n × SaysShare w (OfCast d o) Body n = top_says w q (LowerCount (OfCast d o) Body n) fs ((h.hold).calls) z in y.1)
-lowers_by w q (OfCast d o) (OfJob u) n fs h z p true e t c s = inr (inr (inl (q, ap (λ v. sets_now (v.top)) z ∙ ap (λ m. lowers_now (OfCast d o) (OfJob u) m) (let y : SaysThen w q n × SaysShare w (OfCast d o) (OfJob u) n = top_says w q (LowerCount (OfCast d o) (OfJob u) n) fs ((h.hold).calls) z in (y.1).4) ∙ s)))
+lowers_by w q (OfCast d o) (OfJob u) n fs h z p true e t c s = inr
+    (inr (inl (q, ap (λ v. sets_now (v.top)) z ∙ ap (λ m. lowers_now (OfCast d o) (OfJob u) m) (let y : SaysThen w q n × SaysShare w (OfCast d o) (OfJob u) n = top_says w q (LowerCount (OfCast d o) (OfJob u) n) fs ((h.hold).calls) z in (y.1).4) ∙ s)))
 
 -- so it is with the shares of the pieces of a refused broadcast into a scope
 last_pieces : (w : World) (q : Party) (b : Pieces) (d : ℕ) (o : Party) (fs : List Place) → ScopesHold w → w.stack q ≡ record { top = LowerForAll b; below = fs } → b.count ≡ OfScope d o → (w.call d).count ≡ b.workers → (w.call d).counted ≡ false
 last_pieces w q b d o fs h z k all = one_not ((w.call d).counted)
     (let a : sum_below w.jobs (λ t. entry d (w.job t)) + (one (w.call d).counted + (w.call d).undealt) ≡ (w.call d).count = h.sums d in
-    let e : sum_below w.jobs (λ t. entry d (w.job t)) ≡ sum_below w.jobs (λ t. entry d (w.job t) - one (is_piece b t)) + sum_below w.jobs (λ t. one (is_piece b t)) = sum_both w.jobs (λ t. entry d (w.job t) - one (is_piece b t)) (λ t. entry d (w.job t)) (λ t. one (is_piece b t)) (λ t l. parted t (is_piece b t) refl) in
+    let e : sum_below w.jobs (λ t. entry d (w.job t)) ≡ sum_below w.jobs (λ t. entry d (w.job t) - one (is_piece b t)) + sum_below w.jobs (λ t. one (is_piece b t)) = sum_both w.jobs (λ t. entry d (w.job t) - one (is_piece b t)) (λ t. entry d (w.job t)) (λ t. one (is_piece b t))
+    (λ t l. parted t (is_piece b t) refl) in
     let f : sum_below w.jobs (λ t. one (is_piece b t)) ≡ b.workers = pieces_below w.jobs b (pieces_made w b said) in omega (arith, a, e, f, all))
   where
     said : SaysPieces w b
     said = (top_says w q (LowerForAll b) fs ((h.shares).calls) z).0
 
     had : (t : ℕ) → is_piece b t ≡ true → (w.job t).counted ≡ true
-    had t y = one_is ((w.job t).counted) (let a : shares t (w.stack q) ≡ (one (is_piece b t) + shares_in t fs) = ap (shares t) z in let e : one (is_piece b t) ≡ 1 = ap one y in let i : shares t (w.stack q) + with_job (w.job t) ≤ one (w.job t).counted = ((h.shares).jobs t).alone q in omega (arith, a, e, i))
+    had t y = one_is ((w.job t).counted) (let a : shares t (w.stack q) ≡ (one (is_piece b t) + shares_in t fs) = ap (shares t) z in let e : one (is_piece b t) ≡ 1 = ap one y in let i : shares t (w.stack q) + with_job (w.job t) ≤ one (w.job t).counted = ((h.shares).jobs t).alone q in
+        omega (arith, a, e, i))
 
     parted : (t : ℕ) (x : Bool) → is_piece b t ≡ x → entry d (w.job t) ≡ (entry d (w.job t) - one (is_piece b t)) + one (is_piece b t)
     parted t true y = let a : entry d (w.job t) ≡ one (d == d) = entry_on d (w.job t) (count_kind b.count) (had t y) ((said t y).kind) ∙ ap (λ v. one (is_of_scope d (count_kind v))) k in let e : one (d == d) ≡ 1 = self_one d in let f : one (is_piece b t) ≡ 1 = ap one y in omega (arith, a, e, f)
     parted t false y = let f : one (is_piece b t) ≡ 0 = ap one y in omega (arith, f)
 
-lowers_all : (w : World) (q : Party) (b : Pieces) (fs : List Place) → FilledHold w → w.stack q ≡ record { top = LowerForAll b; below = fs } → (p : Bool) → (count_in (place_part w q (LowerForAll b)) b.count == b.workers) ≡ p → target_call (act_of q (LowerForAll b)) ≡ count_call b.count → (c : ℕ) → sets_next (LowerForAll b) (if p then Yes else No) ≡ Some c → (stores_now (LowerForAll b) ≡ Some c) ⊎ IsSettled w c
+lowers_all : (w : World) (q : Party) (b : Pieces) (fs : List Place) → FilledHold w → w.stack q ≡ record { top = LowerForAll b; below = fs } → (p : Bool) → (count_in (place_part w q (LowerForAll b)) b.count == b.workers) ≡ p → target_call (act_of q (LowerForAll b)) ≡ count_call b.count
+    → (c : ℕ) → sets_next (LowerForAll b) (if p then Yes else No) ≡ Some c → (stores_now (LowerForAll b) ≡ Some c) ⊎ IsSettled w c
 lowers_all w q b fs h z false e t c s = inl s
 lowers_all w q b fs h z true e t c s = by b.count refl
   where
@@ -144,9 +130,8 @@ lowers_at w q (DealPieces g) fs h z = if_some_all (λ r. (c : ℕ) → sets_next
 lowers_at w q x fs h z = if_some_all (λ r. (c : ℕ) → sets_next x (r.0) ≡ Some c → (stores_now x ≡ Some c) ⊎ IsSettled w c) (λ r c s. inl (next_stores x (r.0) c refl s)) (outcome w q (record { top = x; below = fs }))
 
 -- the share of a scope's body goes with the one act that gives it back
-counts_lower : (w : World) (q : Party) (k : Count) (a : Share) (n : Then) (fs : List Place) → FilledHold w → w.stack q ≡ record { top = LowerCount k a n; below = fs } → IfSome (outcome w q (record { top = LowerCount k a n; below = fs })) (λ r. r.1.call.counted ≡ false → ((place_part w q (LowerCount k a n)).call.counted ≡ false) ⊎ (sets_now (LowerCount k a n) ≡ Some (target_call (act_of q (LowerCount k a n)))))
-counts_lower w (Worker i j) k PoolValue n fs h z = λ y. inl y
-counts_lower w (Worker i j) k (OfJob u) n fs h z = λ y. inl y
+counts_lower : (w : World) (q : Party) (k : Count) (a : Share) (n : Then) (fs : List Place) → FilledHold w → w.stack q ≡ record { top = LowerCount k a n; below = fs } → IfSome (outcome w q (record { top = LowerCount k a n; below = fs }))
+    (λ r. r.1.call.counted ≡ false → ((place_part w q (LowerCount k a n)).call.counted ≡ false) ⊎ (sets_now (LowerCount k a n) ≡ Some (target_call (act_of q (LowerCount k a n)))))
 counts_lower w (Worker i j) (OfScope d o) Body n fs h z = λ y. inr refl
 counts_lower w (Worker i j) (OfCast d o) Body n fs h z = absurd (let y : SaysThen w (Worker i j) n × SaysShare w (OfCast d o) Body n = top_says w (Worker i j) (LowerCount (OfCast d o) Body n) fs ((h.hold).calls) z in y.1)
 counts_lower w (Worker i j) (OfPool p) Body n fs h z = absurd (let y : SaysThen w (Worker i j) n × SaysShare w (OfPool p) Body n = top_says w (Worker i j) (LowerCount (OfPool p) Body n) fs ((h.hold).calls) z in y.1)
@@ -155,16 +140,20 @@ counts_lower w (Caller m) k (OfJob u) n fs h z = λ y. inl y
 counts_lower w (Caller m) (OfScope d o) Body n fs h z = λ y. inr refl
 counts_lower w (Caller m) (OfCast d o) Body n fs h z = absurd (let y : SaysThen w (Caller m) n × SaysShare w (OfCast d o) Body n = top_says w (Caller m) (LowerCount (OfCast d o) Body n) fs ((h.hold).calls) z in y.1)
 counts_lower w (Caller m) (OfPool p) Body n fs h z = absurd (let y : SaysThen w (Caller m) n × SaysShare w (OfPool p) Body n = top_says w (Caller m) (LowerCount (OfPool p) Body n) fs ((h.hold).calls) z in y.1)
+counts_lower w (Worker i j) k _ n fs h z = λ y. inl y
 
-counts_raise : (w : World) (q : Party) (n : Plan) (done : Part) → done.call.counted ≡ (place_part w q (RaiseCount n)).call.counted → (b : Bool) → IfSome {T = Seen × Part} (if b then Some (Refused, place_part w q (RaiseCount n)) else Some (Done, done)) (λ r. r.1.call.counted ≡ false → ((place_part w q (RaiseCount n)).call.counted ≡ false) ⊎ (sets_now (RaiseCount n) ≡ Some (target_call (act_of q (RaiseCount n)))))
+counts_raise : (w : World) (q : Party) (n : Plan) (done : Part) → done.call.counted ≡ (place_part w q (RaiseCount n)).call.counted → (b : Bool) → IfSome {T = Seen × Part} (if b then Some (Refused, place_part w q (RaiseCount n)) else Some (Done, done))
+    (λ r. r.1.call.counted ≡ false → ((place_part w q (RaiseCount n)).call.counted ≡ false) ⊎ (sets_now (RaiseCount n) ≡ Some (target_call (act_of q (RaiseCount n)))))
 counts_raise w q n done e true = λ y. inl y
 counts_raise w q n done e false = λ y. inl (sym e ∙ y)
 
-counts_all : (w : World) (q : Party) (b : Pieces) (done : Part) → done.call.counted ≡ (place_part w q (RaiseForAll b)).call.counted → (d : Bool) → IfSome {T = Seen × Part} (if d then Some (Refused, place_part w q (RaiseForAll b)) else Some (Done, done)) (λ r. r.1.call.counted ≡ false → ((place_part w q (RaiseForAll b)).call.counted ≡ false) ⊎ (sets_now (RaiseForAll b) ≡ Some (target_call (act_of q (RaiseForAll b)))))
+counts_all : (w : World) (q : Party) (b : Pieces) (done : Part) → done.call.counted ≡ (place_part w q (RaiseForAll b)).call.counted → (d : Bool) → IfSome {T = Seen × Part} (if d then Some (Refused, place_part w q (RaiseForAll b)) else Some (Done, done))
+    (λ r. r.1.call.counted ≡ false → ((place_part w q (RaiseForAll b)).call.counted ≡ false) ⊎ (sets_now (RaiseForAll b) ≡ Some (target_call (act_of q (RaiseForAll b)))))
 counts_all w q b done e true = λ y. inl y
 counts_all w q b done e false = λ y. inl (sym e ∙ y)
 
-counts_at_act : (w : World) (q : Party) (x : Place) (fs : List Place) → FilledHold w → w.stack q ≡ record { top = x; below = fs } → IfSome (outcome w q (record { top = x; below = fs })) (λ r. r.1.call.counted ≡ false → ((place_part w q x).call.counted ≡ false) ⊎ (sets_now x ≡ Some (target_call (act_of q x))))
+counts_at_act : (w : World) (q : Party) (x : Place) (fs : List Place) → FilledHold w → w.stack q ≡ record { top = x; below = fs } → IfSome (outcome w q (record { top = x; below = fs }))
+    (λ r. r.1.call.counted ≡ false → ((place_part w q x).call.counted ≡ false) ⊎ (sets_now x ≡ Some (target_call (act_of q x))))
 counts_at_act w q (LowerCount k a n) fs h z = counts_lower w q k a n fs h z
 counts_at_act w (Worker i j) (RaiseCount n) fs h z = counts_raise w (Worker i j) n _ refl (count_in (place_part w (Worker i j) (RaiseCount n)) (plan_count n) == 0)
 counts_at_act w (Caller m) (RaiseCount n) fs h z = counts_raise w (Caller m) n _ refl (count_in (place_part w (Caller m) (RaiseCount n)) (plan_count n) == 0)
@@ -176,13 +165,16 @@ counts_at_act w (Worker i j) (DealPieces g) fs h z = λ y. inl y
 counts_at_act w (Caller m) (LowerForAll b) fs h z = λ y. inl y
 counts_at_act w (Caller m) (PushForAll b) fs h z = λ y. inl y
 counts_at_act w (Caller m) (DealPieces g) fs h z = λ y. inl y
-counts_at_act w q x fs h z = if_some_map (Uncalled (place_part w q x)) (λ r. r.1.call.counted ≡ false → ((place_part w q x).call.counted ≡ false) ⊎ (sets_now x ≡ Some (target_call (act_of q x)))) (λ r un y. inl (sym (un.counted) ∙ y)) (outcome w q (record { top = x; below = fs })) (act_uncalled w.shape q (counts_at w (target_pool q (act_of q x))) (place_part w q x) x refl)
+counts_at_act w q x fs h z = if_some_map (Uncalled (place_part w q x)) (λ r. r.1.call.counted ≡ false → ((place_part w q x).call.counted ≡ false) ⊎ (sets_now x ≡ Some (target_call (act_of q x)))) (λ r un y. inl (sym (un.counted) ∙ y)) (outcome w q (record { top = x; below = fs }))
+    (act_uncalled w.shape q (counts_at w (target_pool q (act_of q x))) (place_part w q x) x refl)
 
 -- no act finds that a result is missing
 finds_at : (w : World) (q : Party) (x : Place) (fs : List Place) → FilledHold w → w.stack q ≡ record { top = x; below = fs } → IfSome (outcome w q (record { top = x; below = fs })) (λ r. finds_missing x (r.0) ≡ true → ⊥)
-finds_at w (Worker a b) (TakeResult o f) fs h z = if_some_map (λ r. finds_missing (TakeResult o f) (r.0) ≡ true → (w.call o.number).cell ≡ None) (λ r. finds_missing (TakeResult o f) (r.0) ≡ true → ⊥) (λ r g e. take_filled w (Worker a b) o f fs h z (g e)) (outcome w (Worker a b) (record { top = TakeResult o f; below = fs }))
+finds_at w (Worker a b) (TakeResult o f) fs h z = if_some_map (λ r. finds_missing (TakeResult o f) (r.0) ≡ true → (w.call o.number).cell ≡ None) (λ r. finds_missing (TakeResult o f) (r.0) ≡ true → ⊥) (λ r g e. take_filled w (Worker a b) o f fs h z (g e))
+    (outcome w (Worker a b) (record { top = TakeResult o f; below = fs }))
     (act_finds w.shape (Worker a b) (counts_at w (target_pool (Worker a b) (act_of (Worker a b) (TakeResult o f)))) (place_part w (Worker a b) (TakeResult o f)) o f)
-finds_at w (Caller n) (TakeResult o f) fs h z = if_some_map (λ r. finds_missing (TakeResult o f) (r.0) ≡ true → (w.call o.number).cell ≡ None) (λ r. finds_missing (TakeResult o f) (r.0) ≡ true → ⊥) (λ r g e. take_filled w (Caller n) o f fs h z (g e)) (outcome w (Caller n) (record { top = TakeResult o f; below = fs }))
+finds_at w (Caller n) (TakeResult o f) fs h z = if_some_map (λ r. finds_missing (TakeResult o f) (r.0) ≡ true → (w.call o.number).cell ≡ None) (λ r. finds_missing (TakeResult o f) (r.0) ≡ true → ⊥) (λ r g e. take_filled w (Caller n) o f fs h z (g e))
+    (outcome w (Caller n) (record { top = TakeResult o f; below = fs }))
     (act_finds w.shape (Caller n) (counts_at w (target_pool (Caller n) (act_of (Caller n) (TakeResult o f)))) (place_part w (Caller n) (TakeResult o f)) o f)
 finds_at w q x fs h z = if_some_all (λ r. finds_missing x (r.0) ≡ true → ⊥) (λ r e. absurd (let y : says_missing x ≡ false = ap (λ k. says_missing (k.top)) (sym z) ∙ h.found q in cc)) (outcome w q (record { top = x; below = fs }))
 
@@ -190,27 +182,51 @@ deed_of : (w : World) (q : Party) → FilledHold w → IfSome (outcome w q (w.st
 deed_of w q h =
     let k : Stack = w.stack q in let x : Place = k.top in
     let c : Counts = counts_at w (target_pool q (act_of q x)) in let m : Part = place_part w q x in let o : Outcome = outcome w q k in
-    let P : Seen × Part → Type 0 = λ r. ((SharesHold (result w q k r) × FramesOk (result w q k r)) × (Static m r × Written m x r)) × (((Tops (Follows x (r.0)) (next_of (w.shape.pool (target_pool q (act_of q x))) q x (r.0)) × SeesSet q m x r) × ((is_growing x ≡ false → StaysSet m r) × (writes_cell x ≡ false → SameCell m r))) × (((d : ℕ) → stores_now x ≡ Some d → (target_call (act_of q x) ≡ d) × (r.1.call.cell ≡ None → ⊥)) × (finds_missing x (r.0) ≡ true → ⊥))) in
-    let E : Seen × Part → Type 0 = λ r. ((SharesHold (world_after w q x (k.below) r) → ScopesHold (world_after w q x (k.below) r)) × (((c : ℕ) → sets_next x (r.0) ≡ Some c → (stores_now x ≡ Some c) ⊎ IsSettled w c) × (r.1.call.counted ≡ false → ((place_part w q x).call.counted ≡ false) ⊎ (sets_now x ≡ Some (target_call (act_of q x)))))) in
+    let P : Seen × Part → Type 0 = λ r. ((SharesHold (result w q k r) × FramesOk (result w q k r)) × (Static m r × Written m x r))
+    × (((Tops (Follows x (r.0)) (next_of (w.shape.pool (target_pool q (act_of q x))) q x (r.0)) × SeesSet q m x r) × ((is_growing x ≡ false → StaysSet m r) × (writes_cell x ≡ false → SameCell m r)))
+    × (((d : ℕ) → stores_now x ≡ Some d → (target_call (act_of q x) ≡ d) × (r.1.call.cell ≡ None → ⊥)) × (finds_missing x (r.0) ≡ true → ⊥))) in
+    let E : Seen × Part → Type 0 = λ r. ((SharesHold (world_after w q x (k.below) r) → ScopesHold (world_after w q x (k.below) r))
+    × (((c : ℕ) → sets_next x (r.0) ≡ Some c → (stores_now x ≡ Some c) ⊎ IsSettled w c) × (r.1.call.counted ≡ false → ((place_part w q x).call.counted ≡ false) ⊎ (sets_now x ≡ Some (target_call (act_of q x)))))) in
     if_some_map (λ r. ((P r × Regains w q x r) × E r) × Ready w q x (k.below) r)
     (λ r. Deed w q x (k.below) r)
-    (λ r f. let y = f.0 in let g = y.0 in record { last = (f.1).last; hold = (((g.0).0).0).0; scopes = (y.1).0 ((((g.0).0).0).0); lowers = ((y.1).1).0; counts = ((y.1).1).1; frames = (((g.0).0).0).1; static = (((g.0).0).1).0; written = (((g.0).0).1).1; follows = ((((g.0).1).0).0).0; sees = ((((g.0).1).0).0).1; stays = ((((g.0).1).0).1).0; cell = ((((g.0).1).0).1).1; stored = (((g.0).1).1).0; found = (((g.0).1).1).1; regains = g.1 })
+    (λ r f. let y = f.0 in let g = y.0 in record {
+      last = (f.1).last;
+      hold = (((g.0).0).0).0;
+      scopes = (y.1).0 ((((g.0).0).0).0);
+      lowers = ((y.1).1).0;
+      counts = ((y.1).1).1;
+      frames = (((g.0).0).0).1;
+      static = (((g.0).0).1).0;
+      written = (((g.0).0).1).1;
+      follows = ((((g.0).1).0).0).0;
+      sees = ((((g.0).1).0).0).1;
+      stays = ((((g.0).1).0).1).0;
+      cell = ((((g.0).1).0).1).1;
+      stored = (((g.0).1).1).0;
+      found = (((g.0).1).1).1;
+      regains = g.1;
+    })
     o
     (if_some_and (λ r. (P r × Regains w q x r) × E r) (Ready w q x (k.below)) o
     (if_some_and (λ r. P r × Regains w q x r) E o
     (if_some_and P (Regains w q x) o
-    (if_some_and (λ r. (SharesHold (result w q k r) × FramesOk (result w q k r)) × (Static m r × Written m x r)) (λ r. ((Tops (Follows x (r.0)) (next_of (w.shape.pool (target_pool q (act_of q x))) q x (r.0)) × SeesSet q m x r) × ((is_growing x ≡ false → StaysSet m r) × (writes_cell x ≡ false → SameCell m r))) × (((d : ℕ) → stores_now x ≡ Some d → (target_call (act_of q x) ≡ d) × (r.1.call.cell ≡ None → ⊥)) × (finds_missing x (r.0) ≡ true → ⊥))) o
+    (if_some_and (λ r. (SharesHold (result w q k r) × FramesOk (result w q k r)) × (Static m r × Written m x r))
+    (λ r. ((Tops (Follows x (r.0)) (next_of (w.shape.pool (target_pool q (act_of q x))) q x (r.0)) × SeesSet q m x r) × ((is_growing x ≡ false → StaysSet m r) × (writes_cell x ≡ false → SameCell m r)))
+    × (((d : ℕ) → stores_now x ≡ Some d → (target_call (act_of q x) ≡ d) × (r.1.call.cell ≡ None → ⊥)) × (finds_missing x (r.0) ≡ true → ⊥))) o
     (if_some_and (λ r. SharesHold (result w q k r) × FramesOk (result w q k r)) (λ r. Static m r × Written m x r) o
     (if_some_and (λ r. SharesHold (result w q k r)) (λ r. FramesOk (result w q k r)) o (go_shares w q h.hold) (go_frames w q k refl h.frames))
     (if_some_and (Static m) (Written m x) o (act_static w.shape q c m x) (act_written w.shape q c m x)))
-    (if_some_and (λ r. (Tops (Follows x (r.0)) (next_of (w.shape.pool (target_pool q (act_of q x))) q x (r.0)) × SeesSet q m x r) × ((is_growing x ≡ false → StaysSet m r) × (writes_cell x ≡ false → SameCell m r))) (λ r. ((d : ℕ) → stores_now x ≡ Some d → (target_call (act_of q x) ≡ d) × (r.1.call.cell ≡ None → ⊥)) × (finds_missing x (r.0) ≡ true → ⊥)) o
+    (if_some_and (λ r. (Tops (Follows x (r.0)) (next_of (w.shape.pool (target_pool q (act_of q x))) q x (r.0)) × SeesSet q m x r) × ((is_growing x ≡ false → StaysSet m r) × (writes_cell x ≡ false → SameCell m r)))
+    (λ r. ((d : ℕ) → stores_now x ≡ Some d → (target_call (act_of q x) ≡ d) × (r.1.call.cell ≡ None → ⊥)) × (finds_missing x (r.0) ≡ true → ⊥)) o
     (if_some_and (λ r. Tops (Follows x (r.0)) (next_of (w.shape.pool (target_pool q (act_of q x))) q x (r.0)) × SeesSet q m x r) (λ r. (is_growing x ≡ false → StaysSet m r) × (writes_cell x ≡ false → SameCell m r)) o
     (if_some_and (λ r. Tops (Follows x (r.0)) (next_of (w.shape.pool (target_pool q (act_of q x))) q x (r.0))) (SeesSet q m x) o (follows_on w.shape (w.shape.pool (target_pool q (act_of q x))) q c m x) (act_sees w.shape q c m x))
     (if_some_and (λ r. is_growing x ≡ false → StaysSet m r) (λ r. writes_cell x ≡ false → SameCell m r) o (if_under (is_growing x) (StaysSet m) o (act_stays_set w.shape q c m x)) (if_under (writes_cell x) (SameCell m) o (act_cell w.shape q c m x))))
     (if_some_and (λ r. (d : ℕ) → stores_now x ≡ Some d → (target_call (act_of q x) ≡ d) × (r.1.call.cell ≡ None → ⊥)) (λ r. finds_missing x (r.0) ≡ true → ⊥) o (stores_at w.shape q c m x) (finds_at w q x k.below h refl))))
     (act_regains w q x ((h.hold).calls) (once w (((h.hold).calls).jobs))))
-    (if_some_and (λ r. SharesHold (world_after w q x (k.below) r) → ScopesHold (world_after w q x (k.below) r)) (λ r. ((c : ℕ) → sets_next x (r.0) ≡ Some c → (stores_now x ≡ Some c) ⊎ IsSettled w c) × (r.1.call.counted ≡ false → ((place_part w q x).call.counted ≡ false) ⊎ (sets_now x ≡ Some (target_call (act_of q x))))) o (acts_scopes w q (h.scopes))
-    (if_some_and (λ r. (c : ℕ) → sets_next x (r.0) ≡ Some c → (stores_now x ≡ Some c) ⊎ IsSettled w c) (λ r. r.1.call.counted ≡ false → ((place_part w q x).call.counted ≡ false) ⊎ (sets_now x ≡ Some (target_call (act_of q x)))) o (lowers_at w q x (k.below) h refl) (counts_at_act w q x (k.below) h refl))))
+    (if_some_and (λ r. SharesHold (world_after w q x (k.below) r) → ScopesHold (world_after w q x (k.below) r))
+    (λ r. ((c : ℕ) → sets_next x (r.0) ≡ Some c → (stores_now x ≡ Some c) ⊎ IsSettled w c) × (r.1.call.counted ≡ false → ((place_part w q x).call.counted ≡ false) ⊎ (sets_now x ≡ Some (target_call (act_of q x))))) o (acts_scopes w q (h.scopes))
+    (if_some_and (λ r. (c : ℕ) → sets_next x (r.0) ≡ Some c → (stores_now x ≡ Some c) ⊎ IsSettled w c) (λ r. r.1.call.counted ≡ false → ((place_part w q x).call.counted ≡ false) ⊎ (sets_now x ≡ Some (target_call (act_of q x)))) o (lowers_at w q x (k.below) h refl)
+    (counts_at_act w q x (k.below) h refl))))
     (ready w q (h.hold)))
 
 none_of : (n : ℕ) → (1 ≤ n → ⊥) → n ≤ 0
@@ -237,16 +253,8 @@ regained_none w q (TakeFromFifo f) (Task y, m) g t e = by (t == taken_number y) 
   where
     idle : (v : Whereabouts) → is_ended v ≡ true → is_busy v ≡ false
     idle (Over d) z = refl
-    idle Nowhere z = cc
-    idle (Made q) z = cc
-    idle (InDeque p i) z = cc
-    idle (Injected p) z = cc
-    idle (InFifo p i b7) z = cc
-    idle (InCast p i) z = cc
-    idle (Running q) z = cc
-    idle (Retaken q) z = cc
-    idle HandedBack z = cc
     idle Spent z = refl
+    idle _ z = cc
 
     and_none : (b : Bool) → one (b && false) ≡ 0
     and_none true = refl
@@ -363,7 +371,8 @@ act_fills w q x fs r h z d = record {
     emptied s (StoreResult c o v) i y a e = absurd ((d.stored c (ap stores_now i)).1 e)
     emptied s (TakeResult o f) i y a e = subst (λ v. shares ((w.call (target_call (act_of q v))).job) ((world_after w q v fs r).stack s) ≤ paid ((w.call (target_call (act_of q v))).job) (((world_after w q v fs r).stack s).top)) (sym i) (at q s refl (z ∙ ap (λ v. record { top = v; below = fs }) i))
       where
-        at : (g s : Party) → q ≡ g → w.stack q ≡ record { top = TakeResult o f; below = fs } → shares ((w.call (target_call (act_of q (TakeResult o f)))).job) ((world_after w q (TakeResult o f) fs r).stack s) ≤ paid ((w.call (target_call (act_of q (TakeResult o f)))).job) (((world_after w q (TakeResult o f) fs r).stack s).top)
+        at : (g s : Party) → q ≡ g → w.stack q ≡ record { top = TakeResult o f; below = fs } → shares ((w.call (target_call (act_of q (TakeResult o f)))).job) ((world_after w q (TakeResult o f) fs r).stack s) ≤ paid ((w.call (target_call (act_of q (TakeResult o f)))).job)
+            (((world_after w q (TakeResult o f) fs r).stack s).top)
         at g s ig zt = subst (λ c. shares ((w.call c).job) ((world_after w q (TakeResult o f) fs r).stack s) ≤ paid ((w.call c).job) (((world_after w q (TakeResult o f) fs r).stack s).top)) (sym (take_target q o f))
             (subst (λ t. shares t ((world_after w q (TakeResult o f) fs r).stack s) ≤ paid t (((world_after w q (TakeResult o f) fs r).stack s).top)) (sym (((top_says w q (TakeResult o f) fs ((h.hold).calls) zt).0).target)) (by (same_party s q) refl))
           where

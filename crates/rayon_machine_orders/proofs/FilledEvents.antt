@@ -1,43 +1,13 @@
 -- what the events that are no acts leave of the cells of calls
 use Rattle.rayon_machine_laws.proofs.Scoping.{ScopesHold, old_call as known_call, step_scopes}
-use Rattle.rayon_machine_places.specs.declared.place.Count.TheVariants.{OfPool, OfScope, OfCast}
-use Rattle.rayon_machine_places.specs.declared.place.Count.{Count}
-use Rattle.std.proofs.Common.{arith, refl, sym, ◌∙◌, ap, subst, inl, inr}
-use Rattle.std.specs.Prelude.{ℕ, Bool, true, false, ◌&&◌, ◌+◌, ◌-◌, ◌==◌, ◌≤◌, ◌<◌, nat_lt, if◌then◌else◌, Option, Some, None, List, [], ◌∷◌, ◌≡◌, ◌⊎◌, IfSome}
-use Rattle.std.proofs.lemmas.Bool.{eqb-true, eq-eqb, ltb-true, ltb-false}
-use Rattle.std.proofs.Math.Dec.{ltb}
-use Rattle.rayon_machine_places.specs.declared.place.Party.{Party}
-use Rattle.rayon_machine_places.specs.declared.place.Party.TheVariants.{Worker, Caller}
-use Rattle.rayon_machine_places.specs.declared.place.Ending.{Ending}
-use Rattle.rayon_machine_places.specs.declared.place.Ending.TheVariants.{Fine, Fault}
-use Rattle.rayon_machine_places.specs.declared.place.JobKind.{JobKind}
-use Rattle.rayon_machine_places.specs.declared.place.JobKind.TheVariants.{Detached, Stored, Direct, TokenOf, Scoped, BodyOf, PieceOf, WholeOf}
-use Rattle.rayon_machine_places.specs.declared.place.Target.{Target}
-use Rattle.rayon_machine_places.specs.declared.place.Target.TheVariants.{Termination, Answer}
-use Rattle.rayon_machine_places.specs.declared.place.Plan.{Plan}
-use Rattle.rayon_machine_places.specs.declared.place.Plan.TheVariants.{Detach, Here, Send, Fork, Feed, Open, Enter, Gather}
-use Rattle.rayon_machine_places.specs.declared.place.Share.TheVariants.{PoolValue, OfJob}
-use Rattle.rayon_machine_places.specs.declared.place.Then.{Then}
-use Rattle.rayon_machine_places.specs.declared.place.Then.TheVariants.{LeaveWait, Resume, Answers, GiveBack}
-use Rattle.rayon_machine_places.specs.declared.place.Pieces.{Pieces}
-use Rattle.rayon_machine_places.specs.declared.state.Scope.{Scope}
-use Rattle.rayon_machine_places.specs.declared.state.Job.{Job}
-use Rattle.rayon_machine_places.specs.declared.place.Place.{Place}
-use Rattle.rayon_machine_places.specs.declared.place.Place.TheVariants.{ProbeWorking, PickVictim, StealFrom, PopInjected, LeaveSearch, JoinProbe, YieldPick, YieldSteal, YieldPopInjected, Run, RaiseCount, GrowCall, PushJob, LockToWake, WakeWorker, UnlockWoken, TakeResult, LowerCount, SetLatch, LockToSettle, WakeSettled, UnlockSettled, SetLockLatch, FirstSide, SecondSide, AtOnce, Free, Stopped, AddToFifo, PushToken, TakeFromFifo, RaiseForAll, PushForAll, LowerForAll, GrowScope, OpenSlot, ScopeBody, OpenForAll, GrowCast, DealPieces}
-use Rattle.rayon_machine_places.specs.declared.event.Event.{Event}
-use Rattle.rayon_machine_places.specs.declared.state.Letter.TheVariants.{Unset, Set as IsSet}
-use Rattle.rayon_machine_places.specs.declared.state.Whereabouts.{Whereabouts}
-use Rattle.rayon_machine_places.specs.declared.state.Whereabouts.TheVariants.{Running, Over, Spent}
-use Rattle.rayon_machine_places.specs.declared.shape.PoolShape.{PoolShape}
-use Rattle.rayon_machine_places.specs.declared.place.Wait.{Wait}
-use Rattle.rayon_machine_places.specs.declared.state.Call.{Call}
-use Rattle.rayon_machine_places.specs.Places.{same_party, own_pool, own_index, is_member, undo, next_victim, not_self, next_steal, next_yield, goes_on, is_free, after_push, plan_count, plan_job, plan_book, count_book, count_kind, withdraw, end_cast}
-use Rattle.rayon_machine_places.specs.World.{Stack, World, at_job}
-use Rattle.rayon_machine_places.specs.Steps.{put, put_stack, with_stack, after_choice, after_refusal, can_miss, after_miss, after_close, after_end, after_call, is_pool, new_call, after_spawn, after_send, after_install, after_join, after_yield, after_end_pool, step, after_fifo, after_cast, after_scope, after_into, holds, new_job, new_piece, new_whole, new_gathering, put_pieces, is_piece, after_enter, after_feed, after_deal, after_into_fifo, after_into_cast, after_broadcast}
-use Rattle.rayon_machine_laws.specs.Once.{one, runs_in}
-use Rattle.rayon_machine_laws.specs.Counted.{has_body}
-use Rattle.rayon_machine_laws.specs.Shares.{share, shares_in, shares}
-use Rattle.rayon_machine_laws.proofs.Frame.{either, and_parts, if_some_and, if_some_map, if_cond, put_same, put_new, put_old, fifo_cases, into_cases, into_fifo_cases, into_cast_cases, piece_old, piece_out}
+use Rattle.rayon_machine_orders.proofs.Words.{OfPool, OfScope, OfCast, Count, arith, refl, sym, ◌∙◌, ap, subst, inl, inr, ℕ, Bool, true, false, ◌+◌, ◌-◌, ◌==◌, ◌≤◌, ◌<◌, if◌then◌else◌, Option, Some, None, List, [], ◌∷◌, ◌≡◌, ◌⊎◌, IfSome, eqb-true, eq-eqb, ltb-true, ltb-false, ltb, Party, Worker}
+use Rattle.rayon_machine_orders.proofs.Words.{Ending, Fine, Fault, JobKind, Detached, Stored, Direct, TokenOf, Scoped, BodyOf, PieceOf, WholeOf, Target, Termination, Answer, Plan, Detach, Here, Send, Fork, Feed, Open, Enter, Gather, PoolValue, OfJob, Then, LeaveWait, Resume, Answers, GiveBack}
+use Rattle.rayon_machine_orders.proofs.Words.{Pieces, Job, Place, ProbeWorking, PickVictim, StealFrom, PopInjected, LeaveSearch, JoinProbe, YieldPick, YieldSteal, YieldPopInjected, Run, RaiseCount, GrowCall, PushJob, LockToWake, WakeWorker, UnlockWoken, TakeResult, LowerCount, SetLatch}
+use Rattle.rayon_machine_orders.proofs.Words.{LockToSettle, WakeSettled, UnlockSettled, SetLockLatch, FirstSide, SecondSide, AtOnce, Free, Stopped, AddToFifo, PushToken, TakeFromFifo, RaiseForAll, PushForAll, LowerForAll, GrowScope, OpenSlot, ScopeBody, OpenForAll, GrowCast, DealPieces, Event}
+use Rattle.rayon_machine_orders.proofs.Words.{Unset, IsSet, Whereabouts, Running, Over, Spent, PoolShape, Wait, Call, same_party, own_pool, own_index, undo, next_victim, not_self, next_steal, next_yield, goes_on, is_free, after_push, plan_count, plan_job, plan_book, count_book, count_kind}
+use Rattle.rayon_machine_orders.proofs.Words.{withdraw, end_cast, Stack, World, at_job, put, put_stack, with_stack, after_close, after_call, new_call, after_send, step, new_job, new_piece, new_whole, new_gathering, put_pieces, is_piece, after_feed, after_deal, one, runs_in, has_body, share}
+use Rattle.rayon_machine_orders.proofs.Words.{shares_in, shares, Taken, after_gather, Refused, LocalPop, YieldPop}
+use Rattle.rayon_machine_laws.proofs.Frame.{either, if_some_and, if_some_map, put_same, put_new, put_old, piece_old, piece_out}
 use Rattle.rayon_machine_laws.proofs.Ties.{AllFrames}
 use Rattle.rayon_machine_laws.proofs.Tops.{FramesOk}
 use Rattle.rayon_machine_laws.proofs.Holding.{go_frames}
@@ -57,8 +27,11 @@ use Rattle.rayon_machine_laws.proofs.ShareActs.{SharesHold}
 use Rattle.rayon_machine_laws.proofs.ShareSteps.{self_one}
 use Rattle.rayon_machine_laws.proofs.ShareEnds.{freed, closed_shares, step_shares}
 use Rattle.rayon_machine_orders.proofs.Takes.{set_found, set_then, set_lower, seen_set, lowers_now, sets_now, is_grown_well, says_missing, number_is}
-use Rattle.rayon_machine_places.specs.declared.place.Taken.{Taken}
 use Rattle.rayon_machine_orders.proofs.FilledStates.{IsSettled, IsNamed, IsTaken, FilledHold, is_ended, now_ended, settled_ended, unmade_ended, is_in}
+use Rattle.rayon_machine_orders.proofs.EventCases.{Cases, FreeAt}
+use Rattle.rayon_machine_places.specs.Steps.{seeing}
+use Rattle.rayon_machine_orders.proofs.Words.{is_refusable}
+use Rattle.rayon_machine_laws.proofs.ClaimEvents.{ended_world}
 
 -- a call whose latch a place has seen set is given out
 target_known : (w : World) (q : Party) (c : ℕ) (g : Target) → target_number g ≡ Some c → SaysTarget w q g → c + 1 ≤ w.calls
@@ -135,8 +108,7 @@ jobs_two w q p d k hd hk = subst (λ n. JobsOn w (put (put w.job w.jobs (new_job
 
 counts_body : (k : Count) → has_body (count_kind k) ≡ true
 counts_body (OfPool p) = refl
-counts_body (OfScope c o) = refl
-counts_body (OfCast c o) = refl
+counts_body _ = refl
 
 jobs_pieces : (w : World) (q : Party) (k : Count) (p n : ℕ) → JobsOn w (put_pieces (record { count = k; pool = p; first = w.jobs; workers = n }) (λ i j. new_piece q k p i) w.job) (w.jobs + n)
 jobs_pieces w q k p n = record { same = λ t b. ap (λ i. i.kind) (piece_old c (λ i j. new_piece q k p i) w.job t (piece_out c t (omega (arith, b)))); fresh = λ t l m e. by t l m (is_piece c t) refl e }
@@ -241,16 +213,10 @@ turn_beside w q x y fs z p l = record {
   line = λ t dn. (let a : shares t (w.stack q) ≡ (share t x + shares_in t fs) = ap (shares t) z in let b : share t y ≤ share t x = (l t).1 in omega (arith, a, b));
 }
 
-pub from_beside : (w : World) (q : Party) (x : Place) (fs : List Place) (v : ℕ) → w.stack q ≡ record { top = x; below = fs } → IfSome (after_choice w q (record { top = x; below = fs }) x v) (Beside w)
-from_beside w q (PickVictim k) fs v z = if_cond (Beside w) (nat_lt v (w.shape.pool (own_pool q)).workers) _ (λ b. turn_beside w q (PickVictim k) (StealFrom (record k { victim = not_self (w.shape.pool (own_pool q)).workers (own_index q) v }) ((w.shape.pool (own_pool q)).workers - 2)) fs z (refl, refl, refl, refl) (λ t. (refl, omega arith)))
-from_beside w q YieldPick fs v z = if_cond (Beside w) (nat_lt v (w.shape.pool (own_pool q)).workers) _ (λ b. turn_beside w q YieldPick (YieldSteal (not_self (w.shape.pool (own_pool q)).workers (own_index q) v) ((w.shape.pool (own_pool q)).workers - 2)) fs z (refl, refl, refl, refl) (λ t. (refl, omega arith)))
-from_beside w q _ fs v z = tt
-
 -- a refused call gives back its share, and first takes back its number of a book
 lowers_none : (k : Count) (t : ℕ) (n : Plan) → lowers_now k (OfJob t) (GiveBack n) ≡ None
 lowers_none (OfPool p) t n = refl
-lowers_none (OfScope c o) t n = refl
-lowers_none (OfCast c o) t n = refl
+lowers_none _ t n = refl
 
 drawn_plain : (b : Option ℕ) (n : Plan) → IsPlain (withdraw b n)
 drawn_plain None n = (refl, lowers_none (plan_count n) (plan_job n) n, refl, refl)
@@ -262,26 +228,24 @@ drawn_share t (Some c) n = omega arith
 
 cast_plain : (k : Count) (c : Pieces) → IsPlain (end_cast k c)
 cast_plain (OfPool p) c = (refl, refl, refl, refl)
-cast_plain (OfScope d o) c = (refl, refl, refl, refl)
-cast_plain (OfCast d o) c = (refl, refl, refl, refl)
+cast_plain _ c = (refl, refl, refl, refl)
 
 cast_share : (t : ℕ) (k : Count) (c : Pieces) → share t (end_cast k c) ≤ one (is_piece c t)
 cast_share t (OfPool p) c = omega arith
-cast_share t (OfScope d o) c = omega arith
-cast_share t (OfCast d o) c = omega arith
+cast_share t _ c = omega arith
 
-pub refuse_beside : (w : World) (q : Party) (x : Place) (fs : List Place) → w.stack q ≡ record { top = x; below = fs } → IfSome (after_refusal w q (record { top = x; below = fs })) (Beside w)
-refuse_beside w q (GrowCall n) fs z = turn_beside w q (GrowCall n) (undo n) fs z (drawn_plain None n) (λ t. (refl, drawn_share t None n))
-refuse_beside w q (AddToFifo f) fs z = turn_beside w q (AddToFifo f) (after_push (Feed f)) fs z (drawn_plain (count_book f.count) (Feed f)) (λ t. (refl, drawn_share t (count_book f.count) (Feed f)))
-refuse_beside w q (PushToken f v) fs z = turn_beside w q (PushToken f v) (TakeFromFifo f) fs z (refl, refl, refl, refl) (λ t. (refl, omega arith))
-refuse_beside w q (PushForAll c) fs z = turn_beside w q (PushForAll c) (end_cast c.count c) fs z (cast_plain c.count c) (λ t. (refl, cast_share t c.count c))
-refuse_beside w q (OpenForAll c) fs z = turn_beside w q (OpenForAll c) (LowerForAll c) fs z (refl, refl, refl, refl) (λ t. (refl, omega arith))
-refuse_beside w q (GrowCast g) fs z = turn_beside w q (GrowCast g) (undo (Gather g)) fs z (refl, refl, refl, refl) (λ t. (refl, omega arith))
-refuse_beside w q (DealPieces g) fs z = turn_beside w q (DealPieces g) (undo (Gather g)) fs z (refl, refl, refl, refl) (λ t. (refl, omega arith))
-refuse_beside w q (GrowScope o) fs z = turn_beside w q (GrowScope o) (undo (Open o)) fs z (refl, refl, refl, refl) (λ t. (refl, omega arith))
-refuse_beside w q (OpenSlot x) fs z = turn_beside w q (OpenSlot x) (undo x) fs z (drawn_plain None x) (λ t. (refl, drawn_share t None x))
-refuse_beside w q (PushJob n v) fs z = turn_beside w q (PushJob n v) (after_push n) fs z (drawn_plain (plan_book n) n) (λ t. (refl, drawn_share t (plan_book n) n))
-refuse_beside w q _ fs z = tt
+refuse_beside : (w : World) (q : Party) (x : Place) (fs : List Place) → w.stack q ≡ record { top = x; below = fs } → is_refusable x ≡ true → Beside w (seeing w q (record { top = x; below = fs }) (own_pool q) Refused)
+refuse_beside w q (GrowCall n) fs z e = turn_beside w q (GrowCall n) (undo n) fs z (drawn_plain None n) (λ t. (refl, drawn_share t None n))
+refuse_beside w q (AddToFifo f) fs z e = turn_beside w q (AddToFifo f) (after_push (Feed f)) fs z (drawn_plain (count_book f.count) (Feed f)) (λ t. (refl, drawn_share t (count_book f.count) (Feed f)))
+refuse_beside w q (PushToken f v) fs z e = turn_beside w q (PushToken f v) (TakeFromFifo f) fs z (refl, refl, refl, refl) (λ t. (refl, omega arith))
+refuse_beside w q (PushForAll c) fs z e = turn_beside w q (PushForAll c) (end_cast c.count c) fs z (cast_plain c.count c) (λ t. (refl, cast_share t c.count c))
+refuse_beside w q (OpenForAll c) fs z e = turn_beside w q (OpenForAll c) (LowerForAll c) fs z (refl, refl, refl, refl) (λ t. (refl, omega arith))
+refuse_beside w q (GrowCast g) fs z e = turn_beside w q (GrowCast g) (undo (Gather g)) fs z (refl, refl, refl, refl) (λ t. (refl, omega arith))
+refuse_beside w q (DealPieces g) fs z e = turn_beside w q (DealPieces g) (undo (Gather g)) fs z (refl, refl, refl, refl) (λ t. (refl, omega arith))
+refuse_beside w q (GrowScope o) fs z e = turn_beside w q (GrowScope o) (undo (Open o)) fs z (refl, refl, refl, refl) (λ t. (refl, omega arith))
+refuse_beside w q (OpenSlot x) fs z e = turn_beside w q (OpenSlot x) (undo x) fs z (drawn_plain None x) (λ t. (refl, drawn_share t None x))
+refuse_beside w q (PushJob n v) fs z e = turn_beside w q (PushJob n v) (after_push n) fs z (drawn_plain (plan_book n) n) (λ t. (refl, drawn_share t (plan_book n) n))
+refuse_beside w q _ fs z e = absurd (let a : false ≡ true = e in cc)
 
 steal_beside : (w : World) (q : Party) (k : Wait) (n : ℕ) (g : PoolShape) (fs : List Place) → w.stack q ≡ record { top = StealFrom k n; below = fs } → Beside w (with_stack w q (record { top = next_steal g q k n; below = fs }))
 steal_beside w q k n g fs z = at (n == 0)
@@ -296,12 +260,6 @@ skip_beside w q v n g fs z = at (n == 0)
     at : (b : Bool) → Beside w (with_stack w q (record { top = (if b then YieldPopInjected else YieldSteal (not_self g.workers (own_index q) (next_victim g.workers v)) (n - 1)); below = fs }))
     at true = turn_beside w q (YieldSteal v n) YieldPopInjected fs z (refl, refl, refl, refl) (λ t. (refl, omega arith))
     at false = turn_beside w q (YieldSteal v n) (YieldSteal (not_self g.workers (own_index q) (next_victim g.workers v)) (n - 1)) fs z (refl, refl, refl, refl) (λ t. (refl, omega arith))
-
-pub miss_beside : (w : World) (q : Party) (x : Place) (fs : List Place) → w.stack q ≡ record { top = x; below = fs } → IfSome (after_miss w q (record { top = x; below = fs }) x) (Beside w)
-miss_beside w (Worker a b) (StealFrom k n) fs z = if_cond (Beside w) (can_miss w a k.victim) _ (λ y. steal_beside w (Worker a b) k n (w.shape.pool a) fs z)
-miss_beside w (Worker a b) (YieldSteal v n) fs z = if_cond (Beside w) (can_miss w a v) _ (λ y. skip_beside w (Worker a b) v n (w.shape.pool a) fs z)
-miss_beside w (Worker a b) _ fs z = tt
-miss_beside w (Caller n) _ fs z = tt
 
 -- the end of a run
 goes_on_plain : (f : Place) (e : Ending) → is_frame f ≡ true → IsPlain (goes_on f e)
@@ -318,10 +276,6 @@ goes_on_plain Stopped e m = (refl, refl, refl, refl)
 goes_on_plain _ e m = cc
 
 closed_plain : (t : ℕ) (k : JobKind) (d : Ending) (fs : List Place) → AllFrames fs → IsPlain ((after_close t k d fs).top)
-closed_plain t (Detached p) d fs a = (refl, refl, refl, refl)
-closed_plain t (Stored c o) d fs a = (refl, refl, refl, refl)
-closed_plain t (Scoped c o) d fs a = (refl, refl, refl, refl)
-closed_plain t (PieceOf c o) d fs a = (refl, refl, refl, refl)
 closed_plain t Direct d [] a = (refl, refl, refl, refl)
 closed_plain t (TokenOf i b8) d [] a = (refl, refl, refl, refl)
 closed_plain t (WholeOf c9 o9) d [] a = (refl, refl, refl, refl)
@@ -330,10 +284,9 @@ closed_plain t Direct d (f ∷ fs) a = goes_on_plain f d (a.0)
 closed_plain t (TokenOf i b8) d (f ∷ fs) a = goes_on_plain f d (a.0)
 closed_plain t (WholeOf c9 o9) d (f ∷ fs) a = goes_on_plain f d (a.0)
 closed_plain t (BodyOf c9 o9) d (f ∷ fs) a = goes_on_plain f d (a.0)
+closed_plain t _ d fs a = (refl, refl, refl, refl)
 
 freed_paid : (v : Whereabouts) (q : Party) (s t : ℕ) (k : JobKind) (d : Ending) (fs : List Place) → v ≡ Running q → (s ≡ t → is_ended v ≡ true) → freed s t k ≤ paid s ((after_close t k d fs).top)
-freed_paid v q s t (Detached p) d fs r y = omega arith
-freed_paid v q s t (Stored c o) d fs r y = omega arith
 freed_paid v q s t (Scoped c o) d fs r y = by (s == t) refl
   where
     by : (b : Bool) → (s == t) ≡ b → one b ≤ 0
@@ -344,13 +297,10 @@ freed_paid v q s t (PieceOf c o) d fs r y = by (s == t) refl
     by : (b : Bool) → (s == t) ≡ b → one b ≤ 0
     by true e = absurd (let a : is_ended v ≡ true = y (eqb-true s t e) in let b : is_ended v ≡ false = ap is_ended r in cc)
     by false e = omega arith
-freed_paid v q s t Direct d fs r y = omega arith
-freed_paid v q s t (WholeOf c9 o9) d fs r y = omega arith
-freed_paid v q s t (TokenOf i b8) d fs r y = omega arith
-freed_paid v q s t (BodyOf c9 o9) d fs r y = omega arith
+freed_paid v q s t _ d fs r y = omega arith
 
-pub end_beside : (w : World) (q : Party) (d : Ending) (x : Place) (fs : List Place) → w.stack q ≡ record { top = x; below = fs } → AllFrames fs → FilledHold w → IfSome (after_end w q d (record { top = x; below = fs }) x) (Beside w)
-end_beside w q d (Run t k) fs z a h = record {
+end_beside : (w : World) (q : Party) (d : Ending) (t : ℕ) (k : JobKind) (fs : List Place) → w.stack q ≡ record { top = Run t k; below = fs } → AllFrames fs → FilledHold w → Beside w (ended_world w q d t k fs)
+end_beside w q d t k fs z a h = record {
   party = q;
   to = after_close t k d fs;
   stack = λ r. refl;
@@ -358,12 +308,14 @@ end_beside w q d (Run t k) fs z a h = record {
   jobs = record { same = λ i b. put_same (λ j. j.kind) w.job t (at_job (w.job t) (Over d)) i refl; fresh = λ i l m e. absurd (none_new w.jobs i l m) };
   plain = closed_plain t k d fs a;
   unpaid = λ s. ap (λ n. paid s (n.top)) z;
-  line = λ s y. (let b : shares s (w.stack q) ≡ (0 + shares_in s fs) = ap (shares s) z in let c : shares s (after_close t k d fs) ≡ freed s t k + shares_in s fs = (closed_shares s t k d fs).0 in let e : freed s t k ≤ paid s ((after_close t k d fs).top) = freed_paid ((w.job t).at) q s t k d fs running (λ i. ap (λ n. is_ended (w.job n).at) (sym i) ∙ y) in omega (arith, b, c, e));
+  line = λ s y. (let b : shares s (w.stack q) ≡ (0 + shares_in s fs) = ap (shares s) z in let c : shares s (after_close t k d fs) ≡ freed s t k + shares_in s fs = (closed_shares s t k d fs).0 in
+      let e : freed s t k ≤ paid s ((after_close t k d fs).top) = freed_paid ((w.job t).at) q s t k d fs running (λ i. ap (λ n. is_ended (w.job n).at) (sym i) ∙ y) in omega (arith, b, c, e));
 }
   where
     running : (w.job t).at ≡ Running q
-    running = (at_work ((w.job t).at) ((w.job t).runs) q (where_is (Work q) (loc_at (w.job t)) (let a : worked t (w.stack q) ≡ is_loc (Work q) (loc_at (w.job t)) = ((((h.hold).calls).jobs).ok).placed (Work q) t in let b : worked t (w.stack q) ≡ (one (t == t) + runs_in t fs) = ap (worked t) z in let c : one (t == t) ≡ 1 = self_one t in omega (arith, a, b, c)))).1
-end_beside w q d _ fs z a h = tt
+    running = (at_work ((w.job t).at) ((w.job t).runs) q
+        (where_is (Work q) (loc_at (w.job t)) (let a : worked t (w.stack q) ≡ is_loc (Work q) (loc_at (w.job t)) = ((((h.hold).calls).jobs).ok).placed (Work q) t in let b : worked t (w.stack q) ≡ (one (t == t) + runs_in t fs) = ap (worked t) z in let c : one (t == t) ≡ 1 = self_one t in
+        omega (arith, a, b, c)))).1
 
 -- a call begins above a free place
 free_unpaid : (x : Place) (t : ℕ) → is_free x ≡ true → paid t x ≡ 0
@@ -383,26 +335,15 @@ begin_beside w u q y f s c j p n = record {
   line = λ t dn. (let a : share t y ≡ 0 = n t in omega (arith, a));
 }
 
-pub spawn_beside : (w : World) (q : Party) (p : ℕ) → IfSome (after_spawn w q p (w.stack q)) (Beside w)
-spawn_beside w q p = if_cond (Beside w) (is_free ((w.stack q).top) && is_pool w.shape p) _ (λ b. begin_beside w _ q (RaiseCount (Detach p w.jobs)) ((and_parts (is_free ((w.stack q).top)) (is_pool w.shape p) b).0) (λ r. refl) (λ c. inl refl) (jobs_one w q p (Detached p) refl) (refl, refl, refl, refl) (λ t. refl))
-
 deal_beside : (w : World) (q : Party) (d : Count) (p : ℕ) → is_free ((w.stack q).top) ≡ true → Beside w (after_deal w q d p (w.stack q))
 deal_beside w q d p f = begin_beside w _ q (RaiseForAll (record { count = d; pool = p; first = w.jobs; workers = (w.shape.pool p).workers })) f (λ r. refl) (λ c. inl refl) (jobs_pieces w q d p ((w.shape.pool p).workers)) (refl, refl, refl, refl) (λ t. refl)
-
-pub cast_beside : (w : World) (q : Party) (p : ℕ) → IfSome (after_cast w q p (w.stack q)) (Beside w)
-cast_beside w q p = if_cond (Beside w) (is_free ((w.stack q).top) && is_pool w.shape p) _ (λ b. deal_beside w q (OfPool p) p ((and_parts (is_free ((w.stack q).top)) (is_pool w.shape p) b).0))
-
-pub into_cast_beside : (w : World) (q : Party) (n : ℕ) → IfSome (after_into_cast w q n (w.stack q)) (Beside w)
-into_cast_beside w q n = into_cast_cases (Beside w) w q n (λ z e free held. deal_beside w q (OfScope z.call z.owner) z.pool free)
 
 feed_beside : (w : World) (d : Count) (p i : ℕ) → is_free ((w.stack (Worker p i)).top) ≡ true → Beside w (after_feed w d p i (w.stack (Worker p i)))
 feed_beside w d p i f = begin_beside w _ (Worker p i) (RaiseCount (Feed (record { count = d; pool = p; job = w.jobs; token = w.jobs + 1 }))) f (λ r. refl) (λ c. inl refl) (jobs_two w (Worker p i) p (count_kind d) (TokenOf i (count_book d)) (counts_body d) refl) (refl, refl, refl, refl) (λ t. refl)
 
-pub fifo_beside : (w : World) (q : Party) (p : ℕ) → IfSome (after_fifo w q p (w.stack q)) (Beside w)
-fifo_beside w q p = fifo_cases (Beside w) w q p (spawn_beside w q p) (λ i f. feed_beside w (OfPool p) p i f)
-
 -- the calls after a new one
-old_call : (w : World) (v : Call) (J : ℕ → Job) (c : ℕ) → v.latch ≡ Unset → (v.counted ≡ true) ⊎ (has_body (J (v.job)).kind ≡ false) → (put w.call w.calls v c ≡ w.call c) ⊎ (((put w.call w.calls v c).latch ≡ Unset) × (w.calls ≤ c) × (((put w.call w.calls v c).counted ≡ true) ⊎ (has_body (J ((put w.call w.calls v c).job)).kind ≡ false)))
+old_call : (w : World) (v : Call) (J : ℕ → Job) (c : ℕ) → v.latch ≡ Unset → (v.counted ≡ true) ⊎ (has_body (J (v.job)).kind ≡ false) → (put w.call w.calls v c ≡ w.call c) ⊎
+    (((put w.call w.calls v c).latch ≡ Unset) × (w.calls ≤ c) × (((put w.call w.calls v c).counted ≡ true) ⊎ (has_body (J ((put w.call w.calls v c).job)).kind ≡ false)))
 old_call w v J c l k = at (c == w.calls) refl
   where
     at : (b : Bool) → (c == w.calls) ≡ b → ((if b then v else w.call c) ≡ w.call c) ⊎ (((if b then v else w.call c).latch ≡ Unset) × (w.calls ≤ c) × (((if b then v else w.call c).counted ≡ true) ⊎ (has_body (J ((if b then v else w.call c).job)).kind ≡ false)))
@@ -411,23 +352,13 @@ old_call w v J c l k = at (c == w.calls) refl
 
 sent_beside : (w : World) (q : Party) (p : ℕ) (b : Bool) → is_free ((w.stack q).top) ≡ true → Beside w (after_send w q p (w.stack q) b)
 sent_beside w q p true e = begin_beside w _ q (RaiseCount (Here p w.jobs)) e (λ r. refl) (λ c. inl refl) (jobs_one w q p Direct refl) (refl, refl, refl, refl) (λ t. refl)
-sent_beside w q p false e = begin_beside w _ q (RaiseCount (Send (record { number = w.calls; pool = p; job = w.jobs }))) e (λ r. refl) (λ c. old_call w (new_call None w.jobs) (put w.job w.jobs (new_job q p (Stored w.calls q))) c refl (inl refl)) (jobs_one w q p (Stored w.calls q) refl) (refl, refl, refl, refl) (λ t. refl)
+sent_beside w q p false e = begin_beside w _ q (RaiseCount (Send (record { number = w.calls; pool = p; job = w.jobs }))) e (λ r. refl) (λ c. old_call w (new_call None w.jobs) (put w.job w.jobs (new_job q p (Stored w.calls q))) c refl (inl refl)) (jobs_one w q p (Stored w.calls q) refl)
+    (refl, refl, refl, refl) (λ t. refl)
 
-pub scope_beside : (w : World) (q : Party) (p : ℕ) → IfSome (after_scope w q p (w.stack q)) (Beside w)
-scope_beside w q p = if_cond (Beside w) (is_free ((w.stack q).top) && is_pool w.shape p) _ (λ b. begin_beside w _ q (RaiseCount (Open (record { number = w.calls; pool = p; job = w.jobs }))) ((and_parts (is_free ((w.stack q).top)) (is_pool w.shape p) b).0) (λ r. refl) (λ c. old_call w (new_call None w.jobs) (put w.job w.jobs (new_job q p (BodyOf w.calls q))) c refl (inl refl)) (jobs_one w q p (BodyOf w.calls q) refl) (refl, refl, refl, refl) (λ t. refl))
-
-enter_beside : (w : World) (q : Party) (z : Scope) → is_free ((w.stack q).top) ≡ true → IfSome (after_enter w q (w.stack q) (Some z)) (Beside w)
-enter_beside w q z free = if_cond (Beside w) (is_free ((w.stack q).top) && holds z.call (w.stack q)) _ (λ b. begin_beside w _ q (RaiseCount (Enter (record { call = z.call; owner = z.owner; pool = z.pool; job = w.jobs }))) free (λ r. refl) (λ c. inl refl) (jobs_one w q z.pool (Scoped z.call z.owner) refl) (refl, refl, refl, refl) (λ t. refl))
-
-pub into_beside : (w : World) (q : Party) (n : ℕ) → IfSome (after_into w q n (w.stack q)) (Beside w)
-into_beside w q n = into_cases (Beside w) w q n (λ z e free held. enter_beside w q z free)
-
-pub into_fifo_beside : (w : World) (q : Party) (n : ℕ) → IfSome (after_into_fifo w q n (w.stack q)) (Beside w)
-into_fifo_beside w q n = into_fifo_cases (Beside w) w q n (λ z e free held. enter_beside w q z free) (λ z i e free held. feed_beside w (OfScope z.call z.owner) z.pool i free)
-
-pub gather_beside : (w : World) (q : Party) (p : ℕ) → IfSome (after_broadcast w q p (w.stack q)) (Beside w)
-gather_beside w q p = if_cond (Beside w) (is_free ((w.stack q).top) && is_pool w.shape p) _ (λ b. begin_beside w _ q (RaiseCount (Gather (record { call = record { number = w.calls; pool = p; job = t0 }; pieces = c }))) ((and_parts (is_free ((w.stack q).top)) (is_pool w.shape p) b).0) (λ r. refl) (λ i. old_call w (new_gathering n t0) J i refl (inr (ap (λ j. has_body (j.kind)) (put_new J1 t0 (new_whole q p w.calls)))))
-    (jobs_more w J1 t0 (new_whole q p w.calls) (omega arith) (λ e. refl) (jobs_pieces w q (OfCast w.calls q) p n)) (refl, refl, (and_parts (is_free ((w.stack q).top)) (is_pool w.shape p) b).1, refl) (λ t. refl))
+gather_beside : (w : World) (q : Party) (p : ℕ) → FreeAt w q p → Beside w (after_gather w q p (w.stack q))
+gather_beside w q p f = begin_beside w _ q (RaiseCount (Gather (record { call = record { number = w.calls; pool = p; job = t0 }; pieces = c }))) (f.0) (λ r. refl)
+    (λ i. old_call w (new_gathering n t0) J i refl (inr (ap (λ j. has_body (j.kind)) (put_new J1 t0 (new_whole q p w.calls)))))
+    (jobs_more w J1 t0 (new_whole q p w.calls) (omega arith) (λ e. refl) (jobs_pieces w q (OfCast w.calls q) p n)) (refl, refl, f.1, refl) (λ t. refl)
   where
     n : ℕ
     n = (w.shape.pool p).workers
@@ -444,19 +375,35 @@ gather_beside w q p = if_cond (Beside w) (is_free ((w.stack q).top) && is_pool w
     J : ℕ → Job
     J = put J1 t0 (new_whole q p w.calls)
 
-pub install_beside : (w : World) (q : Party) (p : ℕ) → IfSome (after_install w q p (w.stack q)) (Beside w)
-install_beside w q p = if_cond (Beside w) (is_free ((w.stack q).top) && is_pool w.shape p) _ (λ e. sent_beside w q p (is_member q p) ((and_parts (is_free ((w.stack q).top)) (is_pool w.shape p) e).0))
+yield_plain : (x : Place) → (x ≡ YieldPop) ⊎ (x ≡ LocalPop) → IsPlain x × ((t : ℕ) → share t x ≡ 0)
+yield_plain x (inl e) = subst (λ y. IsPlain y × ((t : ℕ) → share t y ≡ 0)) (sym e) ((refl, refl, refl, refl), λ t. refl)
+yield_plain x (inr e) = subst (λ y. IsPlain y × ((t : ℕ) → share t y ≡ 0)) (sym e) ((refl, refl, refl, refl), λ t. refl)
 
-pub join_beside : (w : World) (q : Party) → IfSome (after_join w q (w.stack q)) (Beside w)
-join_beside w (Worker a b) = if_cond (Beside w) (is_free ((w.stack (Worker a b)).top)) _ (λ z. begin_beside w _ (Worker a b) (RaiseCount (Fork (record { number = w.calls; pool = a; job = w.jobs + 1 }) w.jobs)) z (λ r. refl) (λ c. old_call w (new_call (Some w.jobs) (w.jobs + 1)) (put (put w.job w.jobs (new_job (Worker a b) a Direct)) (w.jobs + 1) (new_job (Worker a b) a (Stored w.calls (Worker a b)))) c refl (inl refl)) (jobs_two w (Worker a b) a Direct (Stored w.calls (Worker a b)) refl refl) (refl, refl, refl, refl) (λ t. refl))
-join_beside w (Caller n) = tt
-
-pub yield_beside : (w : World) (q : Party) (x : Place) → IsPlain x → ((t : ℕ) → share t x ≡ 0) → IfSome (after_yield w q (w.stack q) x) (Beside w)
-yield_beside w (Worker a b) x p n = if_cond (Beside w) (is_free ((w.stack (Worker a b)).top)) _ (λ z. begin_beside w _ (Worker a b) x z (λ r. refl) (λ c. inl refl) (jobs_same w) p n)
-yield_beside w (Caller n) x p m = tt
-
-pub give_beside : (w : World) (q : Party) (p : ℕ) → IfSome (after_end_pool w q p (w.stack q)) (Beside w)
-give_beside w q p = if_cond (Beside w) (is_free ((w.stack q).top) && (is_pool w.shape p && (w.pool p).held)) _ (λ b. begin_beside w _ q (LowerCount (OfPool p) PoolValue Resume) ((and_parts (is_free ((w.stack q).top)) (is_pool w.shape p && (w.pool p).held) b).0) (λ r. refl) (λ c. inl refl) (jobs_same w) (refl, refl, refl, refl) (λ t. refl))
+pub filled_cases : (w : World) → FilledHold w → Cases w (Beside w)
+filled_cases w h = record {
+  picks = λ q k fs v z. turn_beside w q (PickVictim k) (StealFrom (record k { victim = not_self (w.shape.pool (own_pool q)).workers (own_index q) v }) ((w.shape.pool (own_pool q)).workers - 2)) fs z (refl, refl, refl, refl) (λ t. (refl, omega arith));
+  yield_picks = λ q fs v z. turn_beside w q YieldPick (YieldSteal (not_self (w.shape.pool (own_pool q)).workers (own_index q) v) ((w.shape.pool (own_pool q)).workers - 2)) fs z (refl, refl, refl, refl) (λ t. (refl, omega arith));
+  misses = λ q k n fs z. steal_beside w q k n (w.shape.pool (own_pool q)) fs z;
+  yield_misses = λ q v n fs z. skip_beside w q v n (w.shape.pool (own_pool q)) fs z;
+  refuses = λ q x fs z e. refuse_beside w q x fs z e;
+  ends = λ q d t k fs z. end_beside w q d t k fs z (subst (λ s. AllFrames (s.below)) z (h.frames q)) h;
+  spawns = λ q p f. begin_beside w _ q (RaiseCount (Detach p w.jobs)) (f.0) (λ r. refl) (λ c. inl refl) (jobs_one w q p (Detached p) refl) (refl, refl, refl, refl) (λ t. refl);
+  feeds = λ p i f. feed_beside w (OfPool p) p i f;
+  deals = λ q p f. deal_beside w q (OfPool p) p (f.0);
+  sends = λ q p b f. sent_beside w q p b (f.0);
+  joins = λ p i f. begin_beside w _ (Worker p i) (RaiseCount (Fork (record { number = w.calls; pool = p; job = w.jobs + 1 }) w.jobs)) f (λ r. refl)
+      (λ c. old_call w (new_call (Some w.jobs) (w.jobs + 1)) (put (put w.job w.jobs (new_job (Worker p i) p Direct)) (w.jobs + 1) (new_job (Worker p i) p (Stored w.calls (Worker p i)))) c refl (inl refl))
+      (jobs_two w (Worker p i) p Direct (Stored w.calls (Worker p i)) refl refl) (refl, refl, refl, refl) (λ t. refl);
+  opens = λ q p f. begin_beside w _ q (RaiseCount (Open (record { number = w.calls; pool = p; job = w.jobs }))) (f.0) (λ r. refl)
+      (λ c. old_call w (new_call None w.jobs) (put w.job w.jobs (new_job q p (BodyOf w.calls q))) c refl (inl refl)) (jobs_one w q p (BodyOf w.calls q) refl) (refl, refl, refl, refl) (λ t. refl);
+  gathers = λ q p f. gather_beside w q p f;
+  enters = λ q n z f. begin_beside w _ q (RaiseCount (Enter (record { call = z.call; owner = z.owner; pool = z.pool; job = w.jobs }))) (f.1) (λ r. refl) (λ c. inl refl)
+      (jobs_one w q z.pool (Scoped z.call z.owner) refl) (refl, refl, refl, refl) (λ t. refl);
+  feeds_in = λ i n z f. feed_beside w (OfScope z.call z.owner) z.pool i (f.1);
+  deals_in = λ q n z f. deal_beside w q (OfScope z.call z.owner) z.pool (f.1);
+  yields = λ p i x y f. begin_beside w _ (Worker p i) x f (λ r. refl) (λ c. inl refl) (jobs_same w) ((yield_plain x y).0) ((yield_plain x y).1);
+  gives = λ q p f. begin_beside w _ q (LowerCount (OfPool p) PoolValue Resume) (f.0) (λ r. refl) (λ c. inl refl) (jobs_same w) (refl, refl, refl, refl) (λ t. refl);
+}
 
 -- each step keeps what the cells hold
 pub step_beside : (w : World) (e : Event) → FilledHold w → IfSome (step w e) (Beside w) → IfSome (step w e) FilledHold

@@ -13,39 +13,13 @@
 -- - Take, which empties the cell: nobody else has the share, and a Lower follows (`takes_last`, FilledActs).
 -- - every other act: the cell stays (`act_cell`, Takes), and no share comes (`shares_mine`, ShareRuns).
 use Rattle.rayon_machine_laws.proofs.Endings.{ready_over}
+use Rattle.rayon_machine_orders.proofs.Words.{OfScope, OfCast, arith, refl, sym, ◌∙◌, ap, subst, inl, inr, ℕ, Bool, true, false, ◌+◌, ◌-◌, ◌==◌, ◌≤◌, ◌<◌, nat_lt, nat_le, Option, Some, None, List, ◌≡◌, ◌⊎◌, eqb-true, eq-eqb, ltb-true, ltb-false, lt-ltb, ltb, Party, Worker, Caller, Ending}
+use Rattle.rayon_machine_orders.proofs.Words.{PieceOf, WholeOf, Latch, Terminate, OfCall, Plan, Detach, Here, Send, Fork, Feed, Open, Enter, Gather, OfJob, Body, Resume, Pieces, Gathering, Place, RaiseCount, GrowCall, TakeResult, LowerCount, SetLatch, SetLockLatch, RaiseForAll, GrowScope}
+use Rattle.rayon_machine_orders.proofs.Words.{GrowCast, DealPieces, Seen, Done, IsSet, Whereabouts, Nowhere, Made, InDeque, Injected, InFifo, Running, Over, HandedBack, Spent, Retaken, InCast, OpenCall, act_of, count_kind, World, target_call, is_piece, is_done, one, has_body, is_of_scope}
+use Rattle.rayon_machine_orders.proofs.Words.{shares_in, shares}
 use Rattle.rayon_machine_laws.proofs.Scoping.{ScopesHold, old_call as known_call, body_over, count_over, entry}
-use Rattle.rayon_machine_places.specs.declared.place.Count.TheVariants.{OfScope, OfCast}
-use Rattle.std.proofs.Common.{arith, refl, sym, ◌∙◌, ap, subst, inl, inr}
-use Rattle.std.specs.Prelude.{ℕ, Bool, true, false, ◌+◌, ◌-◌, ◌==◌, ◌≤◌, ◌<◌, nat_lt, nat_le, Option, Some, None, List, ◌≡◌, ◌⊎◌}
-use Rattle.std.proofs.lemmas.Bool.{eqb-true, eq-eqb, ltb-true, ltb-false, le-leb, lt-ltb}
-use Rattle.std.proofs.Math.Dec.{ltb}
-use Rattle.rayon_machine_places.specs.declared.place.Party.{Party}
-use Rattle.rayon_machine_places.specs.declared.place.Party.TheVariants.{Worker, Caller}
-use Rattle.rayon_machine_places.specs.declared.place.Ending.{Ending}
-use Rattle.rayon_machine_places.specs.declared.place.JobKind.TheVariants.{PieceOf, WholeOf}
-use Rattle.rayon_machine_places.specs.declared.place.Latch.{Latch}
-use Rattle.rayon_machine_places.specs.declared.place.Latch.TheVariants.{Terminate, OfCall}
-use Rattle.rayon_machine_places.specs.declared.place.Plan.{Plan}
-use Rattle.rayon_machine_places.specs.declared.place.Plan.TheVariants.{Detach, Here, Send, Fork, Feed, Open, Enter, Gather}
-use Rattle.rayon_machine_places.specs.declared.place.Share.TheVariants.{OfJob, Body}
-use Rattle.rayon_machine_places.specs.declared.place.Then.TheVariants.{Resume}
-use Rattle.rayon_machine_places.specs.declared.place.Pieces.{Pieces}
-use Rattle.rayon_machine_places.specs.declared.place.Gathering.{Gathering}
-use Rattle.rayon_machine_places.specs.declared.place.Place.{Place}
-use Rattle.rayon_machine_places.specs.declared.place.Place.TheVariants.{RaiseCount, GrowCall, TakeResult, LowerCount, SetLatch, SetLockLatch, RaiseForAll, GrowScope, GrowCast, DealPieces}
-use Rattle.rayon_machine_places.specs.declared.act.Seen.{Seen}
-use Rattle.rayon_machine_places.specs.declared.act.Seen.TheVariants.{Done}
-use Rattle.rayon_machine_places.specs.declared.state.Letter.TheVariants.{Set as IsSet}
-use Rattle.rayon_machine_places.specs.declared.state.Whereabouts.{Whereabouts}
-use Rattle.rayon_machine_places.specs.declared.state.Whereabouts.TheVariants.{Nowhere, Made, InDeque, Injected, InFifo, Running, Over, HandedBack, Spent, Retaken, InCast}
-use Rattle.rayon_machine_places.specs.declared.place.OpenCall.{OpenCall}
-use Rattle.rayon_machine_places.specs.Places.{plan_call, act_of, count_kind}
-use Rattle.rayon_machine_places.specs.World.{World, target_call}
-use Rattle.rayon_machine_places.specs.Steps.{is_piece}
-use Rattle.rayon_machine_places.specs.Readers.{is_done}
-use Rattle.rayon_machine_laws.specs.Once.{one}
-use Rattle.rayon_machine_laws.specs.Counted.{has_body, is_of_scope}
-use Rattle.rayon_machine_laws.specs.Shares.{shares_in, shares}
+use Rattle.std.proofs.lemmas.Bool.{le-leb}
+use Rattle.rayon_machine_places.specs.Places.{plan_call}
 use Rattle.rayon_machine_laws.proofs.Frame.{either}
 use Rattle.rayon_machine_laws.proofs.Tops.{FramesOk}
 use Rattle.rayon_machine_laws.proofs.Hands.{hand, held_in, held}
@@ -117,7 +91,8 @@ pub now_ended : (w : World) → ScopesHold w → Wholes w → (q : Party) (c : �
 now_ended w h n q c (SetLatch k) e s = latch_ended w h n c k.pool k.latch e (s.0)
 now_ended w h n q c (SetLockLatch d m) e s = latch_ended w h n c 0 (OfCall d) e (s.0)
 now_ended w h n q c (LowerCount (OfScope d o) Body m) e s = subst (λ i. (i + 1 ≤ w.calls) × (is_ended (w.job (w.call i).job).at ≡ true)) (number_is d c e) ((s.1).0, done_ended ((w.job (w.call d).job).at) ((s.1).1))
-now_ended w h n q c (LowerCount (OfCast d o) (OfJob u) Resume) e s = subst (λ i. (i + 1 ≤ w.calls) × (is_ended (w.job (w.call i).job).at ≡ true)) (number_is d c e) ((s.1).2, (let p : PartOf w u d o = ((h.shares).calls).parts u ((s.1).0) d o ((s.1).1) in ap is_ended (n ((w.call d).job) (p.made) (ap has_body (p.kind)))))
+now_ended w h n q c (LowerCount (OfCast d o) (OfJob u) Resume) e s = subst (λ i. (i + 1 ≤ w.calls) × (is_ended (w.job (w.call i).job).at ≡ true)) (number_is d c e)
+    ((s.1).2, (let p : PartOf w u d o = ((h.shares).calls).parts u ((s.1).0) d o ((s.1).1) in ap is_ended (n ((w.call d).job) (p.made) (ap has_body (p.kind)))))
 now_ended w h n q c _ e s = absurd (cc)
 
 pub settled_ended : (w : World) → ScopesHold w → Wholes w → (c : ℕ) → IsSettled w c → is_ended (w.job (w.call c).job).at ≡ true
@@ -128,16 +103,7 @@ settled_ended w h n c (inr (inr y)) = done_ended ((w.job (w.call c).job).at) (bo
 -- a job in hand is neither
 hand_undone : (v : Whereabouts) (n : ℕ) (l : Loc) → loc_of v n ≡ Some l → is_ended v ≡ true → ⊥
 hand_undone (Over d) n l e z = cc
-hand_undone Nowhere n l e z = cc
-hand_undone (Made q) n l e z = cc
-hand_undone (InDeque p i) n l e z = cc
-hand_undone (Injected p) n l e z = cc
-hand_undone (InFifo p i b7) n l e z = cc
-hand_undone (InCast p i) n l e z = cc
-hand_undone (Running q) n l e z = cc
-hand_undone HandedBack n l e z = cc
-hand_undone Spent n l e z = cc
-hand_undone (Retaken q) n l e z = cc
+hand_undone _ n l e z = cc
 
 pub in_hand : (w : World) → JobsHold w → (q : Party) (t : ℕ) → 1 ≤ held t (w.stack q) → is_ended (w.job t).at ≡ true → ⊥
 in_hand w h q t b z = let a : held t (w.stack q) ≡ is_loc (Hand q) (loc_at (w.job t)) = ((h.ok).placed) (Hand q) t in
@@ -275,19 +241,18 @@ whole_none w q (RaiseCount (Gather g)) fs c h z n s m = gather_unsettled w q g (
 whole_none w q x fs c h z n s m = absurd (omega (arith, m))
 
 plan_unsettled : (w : World) (q : Party) (n : Plan) (fs : List Place) → FilledHold w → w.stack q ≡ record { top = GrowCall n; below = fs } → IsSettled w (plan_call n) → ⊥
-plan_unsettled w q (Detach p t) fs h z s = absurd (let a : false ≡ true = ap (λ k. is_grown_well (k.top)) (sym z) ∙ h.grown q in cc)
-plan_unsettled w q (Here p t) fs h z s = absurd (let a : false ≡ true = ap (λ k. is_grown_well (k.top)) (sym z) ∙ h.grown q in cc)
-plan_unsettled w q (Feed f) fs h z s = absurd (let a : false ≡ true = ap (λ k. is_grown_well (k.top)) (sym z) ∙ h.grown q in cc)
-plan_unsettled w q (Open f) fs h z s = absurd (let a : false ≡ true = ap (λ k. is_grown_well (k.top)) (sym z) ∙ h.grown q in cc)
-plan_unsettled w q (Enter f) fs h z s = absurd (let a : false ≡ true = ap (λ k. is_grown_well (k.top)) (sym z) ∙ h.grown q in cc)
-plan_unsettled w q (Gather g) fs h z s = absurd (let a : false ≡ true = ap (λ k. is_grown_well (k.top)) (sym z) ∙ h.grown q in cc)
-plan_unsettled w q (Send o) fs h z s = unsettled w q o (h.scopes) (h.wholes) ((top_says w q (GrowCall (Send o)) fs ((h.hold).calls) z).0) (let a : held (o.job) (w.stack q) ≡ (one (o.job == o.job) + held_in (o.job) fs) = ap (held (o.job)) z in let b : one (o.job == o.job) ≡ 1 = self_one (o.job) in omega (arith, a, b)) s
-plan_unsettled w q (Fork o f) fs h z s = unsettled w q o (h.scopes) (h.wholes) ((top_says w q (GrowCall (Fork o f)) fs ((h.hold).calls) z).0) (let a : held (o.job) (w.stack q) ≡ ((one (o.job == f) + one (o.job == o.job)) + held_in (o.job) fs) = ap (held (o.job)) z in let b : one (o.job == o.job) ≡ 1 = self_one (o.job) in omega (arith, a, b)) s
+plan_unsettled w q (Send o) fs h z s = unsettled w q o (h.scopes) (h.wholes) ((top_says w q (GrowCall (Send o)) fs ((h.hold).calls) z).0) (let a : held (o.job) (w.stack q) ≡ (one (o.job == o.job) + held_in (o.job) fs) = ap (held (o.job)) z in
+    let b : one (o.job == o.job) ≡ 1 = self_one (o.job) in omega (arith, a, b)) s
+plan_unsettled w q (Fork o f) fs h z s = unsettled w q o (h.scopes) (h.wholes) ((top_says w q (GrowCall (Fork o f)) fs ((h.hold).calls) z).0) (let a : held (o.job) (w.stack q) ≡ ((one (o.job == f) + one (o.job == o.job)) + held_in (o.job) fs) = ap (held (o.job)) z in
+    let b : one (o.job == o.job) ≡ 1 = self_one (o.job) in omega (arith, a, b)) s
+plan_unsettled w q _ fs h z s = absurd (let a : false ≡ true = ap (λ k. is_grown_well (k.top)) (sym z) ∙ h.grown q in cc)
 
 pub grow_unsettled : (w : World) (q : Party) (x : Place) (fs : List Place) → FilledHold w → w.stack q ≡ record { top = x; below = fs } → is_growing x ≡ true → IsSettled w (target_call (act_of q x)) → ⊥
 grow_unsettled w q (GrowCall n) fs h z g s = plan_unsettled w q n fs h z (subst (IsSettled w) (grow_target q n) s)
-grow_unsettled w q (GrowScope o) fs h z g s = unsettled w q o (h.scopes) (h.wholes) ((top_says w q (GrowScope o) fs ((h.hold).calls) z).0) (let a : held (o.job) (w.stack q) ≡ (one (o.job == o.job) + held_in (o.job) fs) = ap (held (o.job)) z in let b : one (o.job == o.job) ≡ 1 = self_one (o.job) in omega (arith, a, b)) (subst (IsSettled w) (scope_target q o) s)
-grow_unsettled w q (GrowCast i) fs h z g s = gather_unsettled w q i (h.scopes) (top_says w q (GrowCast i) fs ((h.hold).calls) z) (ap (λ k. is_grown_well (k.top)) (sym z) ∙ h.grown q) (λ t. (let a : held t (w.stack q) ≡ (one (is_piece i.pieces t) + held_in t fs) = ap (held t) z in omega (arith, a))) (subst (IsSettled w) (cast_target q i) s)
+grow_unsettled w q (GrowScope o) fs h z g s = unsettled w q o (h.scopes) (h.wholes) ((top_says w q (GrowScope o) fs ((h.hold).calls) z).0) (let a : held (o.job) (w.stack q) ≡ (one (o.job == o.job) + held_in (o.job) fs) = ap (held (o.job)) z in
+    let b : one (o.job == o.job) ≡ 1 = self_one (o.job) in omega (arith, a, b)) (subst (IsSettled w) (scope_target q o) s)
+grow_unsettled w q (GrowCast i) fs h z g s = gather_unsettled w q i (h.scopes) (top_says w q (GrowCast i) fs ((h.hold).calls) z) (ap (λ k. is_grown_well (k.top)) (sym z) ∙ h.grown q)
+    (λ t. (let a : held t (w.stack q) ≡ (one (is_piece i.pieces t) + held_in t fs) = ap (held t) z in omega (arith, a))) (subst (IsSettled w) (cast_target q i) s)
 grow_unsettled w q _ fs h z g s = cc
 
 pub take_target : (q : Party) (o : OpenCall) (f : Option Ending) → target_call (act_of q (TakeResult o f)) ≡ o.number
@@ -298,7 +263,8 @@ take_target (Caller c) o f = refl
 pub take_filled : (w : World) (q : Party) (o : OpenCall) (f : Option Ending) (fs : List Place) → FilledHold w → w.stack q ≡ record { top = TakeResult o f; below = fs } → (w.call o.number).cell ≡ None → ⊥
 take_filled w q o f fs h z e =
     let s : Opened w q o × FirstEnds w (w.call o.number).first f = top_says w q (TakeResult o f) fs ((h.hold).calls) z in
-    let t : shares (o.job) (w.stack q) ≤ paid (o.job) ((w.stack q).top) = subst (λ n. shares n (w.stack q) ≤ paid n ((w.stack q).top)) ((s.0).target) (h.taken q (o.number) (q, ap (λ t. call_kind (w.job t).kind) ((s.0).target) ∙ (s.0).kind) (inl (h.seen q (o.number) (ap (λ k. seen_set (k.top)) z))) e) in
+    let t : shares (o.job) (w.stack q) ≤ paid (o.job) ((w.stack q).top) = subst (λ n. shares n (w.stack q) ≤ paid n ((w.stack q).top)) ((s.0).target)
+    (h.taken q (o.number) (q, ap (λ t. call_kind (w.job t).kind) ((s.0).target) ∙ (s.0).kind) (inl (h.seen q (o.number) (ap (λ k. seen_set (k.top)) z))) e) in
     let a : shares (o.job) (w.stack q) ≡ (one (o.job == o.job) + shares_in (o.job) fs) = ap (shares (o.job)) z in
     let b : one (o.job == o.job) ≡ 1 = self_one (o.job) in
     let d : paid (o.job) ((w.stack q).top) ≡ 0 = ap (λ k. paid (o.job) (k.top)) z in

@@ -1,36 +1,10 @@
 -- a job's number in a book is filled only where the job is over
-use Rattle.std.proofs.Common.{rules, arith, refl, sym, ◌∙◌, ap, subst, inl, inr}
-use Rattle.std.specs.Prelude.{ℕ, Bool, true, false, ◌&&◌, ◌+◌, ◌-◌, ◌==◌, ◌≤◌, if◌then◌else◌, List, ◌≡◌, ◌⊎◌, IfSome}
-use Rattle.std.proofs.lemmas.Bool.{eqb-true}
-use Rattle.rayon_machine_places.specs.declared.place.Party.{Party}
-use Rattle.rayon_machine_places.specs.declared.place.Party.TheVariants.{Worker, Caller}
-use Rattle.rayon_machine_places.specs.declared.place.Ending.{Ending}
-use Rattle.rayon_machine_places.specs.declared.place.Latch.{Latch}
-use Rattle.rayon_machine_places.specs.declared.place.Latch.TheVariants.{Terminate, OfCall}
-use Rattle.rayon_machine_places.specs.declared.place.Count.{Count}
-use Rattle.rayon_machine_places.specs.declared.place.Count.TheVariants.{OfPool, OfScope, OfCast}
-use Rattle.rayon_machine_places.specs.declared.place.Pieces.{Pieces}
-use Rattle.rayon_machine_places.specs.declared.place.Mark.{Mark as Marking}
-use Rattle.rayon_machine_places.specs.declared.place.Mark.TheVariants.{Counted, Queued, Returned, Numbered, Dealt, Unnumbered}
-use Rattle.rayon_machine_places.specs.declared.place.Plan.TheVariants.{Detach, Here, Send, Fork, Feed, Open, Enter, Gather}
-use Rattle.rayon_machine_places.specs.declared.place.Place.{Place}
-use Rattle.rayon_machine_places.specs.declared.place.Place.TheVariants.{ProbeWorking, PickVictim, StealFrom, YieldPop, YieldPick, YieldSteal, LocalPop, Run, SetLatch, StoreSlot, StorePiece}
-use Rattle.rayon_machine_places.specs.declared.place.Move.{Move}
-use Rattle.rayon_machine_places.specs.declared.place.Move.TheVariants.{Stay, Enter as EnterAbove, StartRun, Back, HandBack, Discard, HandIn, Mark, HandAllBack}
-use Rattle.rayon_machine_places.specs.declared.act.Act.TheVariants.{Set}
-use Rattle.rayon_machine_places.specs.declared.act.Seen.{Seen}
-use Rattle.rayon_machine_places.specs.declared.event.Event.{Event}
-use Rattle.rayon_machine_places.specs.declared.event.Event.TheVariants.{Go, From, Refuse, Miss, End, Spawn, Fifo, Install, Join, Yield, YieldLocal, EndPool, Cast, Scope as OpenScope, IntoSpawn, IntoFifo, IntoCast, Broadcast}
-use Rattle.rayon_machine_places.specs.declared.state.Whereabouts.{Whereabouts}
-use Rattle.rayon_machine_places.specs.declared.state.Whereabouts.TheVariants.{HandedBack, Spent, Over}
-use Rattle.rayon_machine_places.specs.declared.state.Job.{Job}
-use Rattle.rayon_machine_places.specs.declared.state.Slot.{Slot}
-use Rattle.rayon_machine_places.specs.declared.state.Slot.TheVariants.{Filled}
-use Rattle.rayon_machine_places.specs.Places.{act_of, is_free, is_member}
-use Rattle.rayon_machine_places.specs.World.{Shape, Stack, World, Counts, Part, at_job, begun, effect, target_pool, target_worker, target_call}
-use Rattle.rayon_machine_places.specs.Steps.{put, jobs_after, after_choice, after_miss, after_end, after_send, after_join, after_yield, step, mark_pieces, marked, put_pieces, after_cast, after_gather, new_piece, new_whole, is_piece, is_pool}
-use Rattle.rayon_machine_places.specs.Readers.{is_done}
-use Rattle.rayon_machine_places.specs.Runs.{start, IsRun}
+use Rattle.std.proofs.Common.{arith, refl, sym, ap, subst, inl, inr}
+use Rattle.rayon_machine_orders.proofs.Words.{ℕ, Bool, true, false, ◌&&◌, ◌+◌, ◌-◌, ◌==◌, ◌≤◌, if◌then◌else◌, List, ◌≡◌, ◌⊎◌, IfSome, eqb-true, Party, Worker, Caller, Ending, Count, OfPool, OfScope, OfCast, Pieces, Marking, Counted, Returned, Detach, Here, Send, Fork, Feed, Open, Enter, Gather}
+use Rattle.rayon_machine_orders.proofs.Words.{Place, ProbeWorking, PickVictim, StealFrom, YieldPop, YieldPick, YieldSteal, LocalPop, Run, StoreSlot, StorePiece, Move, StartRun, HandBack, Discard, HandIn, Mark, HandAllBack, Seen, Event, Go, From, Miss, End, Spawn, Fifo, Install, Join, Yield}
+use Rattle.rayon_machine_orders.proofs.Words.{YieldLocal, Cast, OpenScope, IntoSpawn, IntoFifo, IntoCast, Broadcast, Whereabouts, HandedBack, Spent, Over, Job, act_of, is_free, is_member, Shape, Stack, World, Counts, Part, at_job, begun, effect, target_pool, target_worker, target_call, put}
+use Rattle.rayon_machine_orders.proofs.Words.{jobs_after, after_choice, after_miss, after_end, after_send, after_join, after_yield, step, mark_pieces, marked, put_pieces, after_gather, new_piece, new_whole, is_piece, is_pool, is_done, start, IsRun, BeginTask, LookQueue, PushJob, plan_pool}
+use Rattle.rayon_machine_orders.proofs.Words.{plan_job, plan_book}
 use Rattle.rayon_machine_laws.proofs.Calm.{part_at, counts_seen, next_at}
 use Rattle.rayon_machine_laws.proofs.Frame.{if_some_all, if_some_and, if_some_map, if_cond, acted_keeps, fifo_cases, into_cases, into_fifo_cases, into_cast_cases, put_same}
 use Rattle.rayon_machine_laws.proofs.Events.{run_keeps}
@@ -40,11 +14,7 @@ use Rattle.rayon_machine_laws.proofs.Claims.{Says}
 use Rattle.rayon_machine_laws.proofs.ClaimRuns.{CallsHold, unqueued}
 use Rattle.rayon_machine_laws.proofs.ClaimMakes.{step_calls, first_calls}
 use Rattle.rayon_machine_laws.proofs.Ties.{job_at, outcome, result}
-
--- 1 for a number that is filled
-abbrev pub fills : Slot → ℕ
-fills (Filled n) = 1
-fills _ = 0
+use Rattle.rayon_machine_orders.proofs.Spared.{Spared, act_spared, begins, fills, fills_slot, looks, pushes}
 
 -- each number that is filled was so, or its job was over
 abbrev FillsOn : World → World → Type 0
@@ -56,17 +26,19 @@ is_filling (StoreSlot c o t e) = true
 is_filling (StorePiece c o t e) = true
 is_filling _ = false
 
-set_fills : (l : Latch) (r j : ℕ) (h : Shape) (q : Party) (c : Counts) (m : Part) → IfSome (effect (Set l r j) h q c m) (λ r. fills r.1.job.slot ≤ fills m.job.slot)
-set_fills Terminate r j h q c m = search (rules, arith)
-set_fills (OfCall n) r j h q c m = search (rules, arith)
+filling_act : (q : Party) (x : Place) → is_filling x ≡ false → fills_slot (act_of q x) ≡ false
+filling_act (Worker a b) (ProbeWorking k) z = z
+filling_act (Worker a b) (BeginTask t) z = begins fills_slot t (λ n. refl) (λ k i d. refl)
+filling_act (Worker a b) (LookQueue n) z = looks fills_slot (Worker a b) (plan_pool n) refl refl
+filling_act (Worker a b) (PushJob n v) z = pushes fills_slot (Worker a b) (plan_pool n) (plan_job n) (plan_book n) refl refl
+filling_act (Worker a b) _ z = z
+filling_act (Caller c) (BeginTask t) z = begins fills_slot t (λ n. refl) (λ k i d. refl)
+filling_act (Caller c) (LookQueue n) z = looks fills_slot (Caller c) (plan_pool n) refl refl
+filling_act (Caller c) (PushJob n v) z = pushes fills_slot (Caller c) (plan_pool n) (plan_job n) (plan_book n) refl refl
+filling_act (Caller c) _ z = z
 
 act_fills : (h : Shape) (q : Party) (c : Counts) (m : Part) (x : Place) → is_filling x ≡ false → IfSome (effect (act_of q x) h q c m) (λ r. fills r.1.job.slot ≤ fills m.job.slot)
-act_fills h (Worker a b) c m (ProbeWorking k) z = search (rules, arith)
-act_fills h q c m (SetLatch s) z = set_fills s.latch s.pool s.worker h q c m
-act_fills h q c m (StoreSlot d o t e) z = absurd (let a : true ≡ false = z in cc)
-act_fills h q c m (StorePiece d o t e) z = absurd (let a : true ≡ false = z in cc)
-act_fills h (Worker a b) c m _ z = search (rules, arith)
-act_fills h (Caller a) c m _ z = search (rules, arith)
+act_fills h q c m x z = if_some_map (Spared (act_of q x) m) (λ r. fills r.1.job.slot ≤ fills m.job.slot) (λ r s. s.fills (filling_act q x z)) (effect (act_of q x) h q c m) (act_spared (act_of q x) h q c m)
 
 -- where a job's number is filled the job is over
 filling_done : (w : World) (q : Party) (x : Place) → Says w q x → is_filling x ≡ true → is_done (w.job (job_at w q (act_of q x))).at ≡ true
@@ -89,11 +61,7 @@ two_fills f u v t = second (t == v) refl
 
 marked_fills : (k : Marking) (p i : ℕ) (j : Job) → fills (marked k p i j).slot ≤ fills j.slot
 marked_fills Counted p i j = omega arith
-marked_fills Queued p i j = omega arith
-marked_fills Returned p i j = omega arith
-marked_fills (Numbered n) p i j = omega arith
-marked_fills Dealt p i j = omega arith
-marked_fills Unnumbered p i j = omega arith
+marked_fills _ p i j = omega arith
 
 pieces_fill : (c : Pieces) (k : Marking) (f : ℕ → Job) (t : ℕ) → fills (mark_pieces c k f t).slot ≤ fills (f t).slot
 pieces_fill c k f t = at (is_piece c t)
@@ -107,13 +75,10 @@ begun_fills q f u t = let a : (put f u (begun q (f u)) t).slot ≡ (f t).slot = 
 
 -- no move fills a number
 after_fills : (q : Party) (g : Move) (f : ℕ → Job) (t : ℕ) → fills (jobs_after q g f t).slot ≤ fills (f t).slot
-after_fills q (Stay y) f t = omega arith
 after_fills q (HandIn y k) f t = put_fills f k Spent t
 after_fills q (Discard k) f t = put_fills f k Spent t
 after_fills q (Mark y c k) f t = pieces_fill c k f t
 after_fills q (HandAllBack c) f t = pieces_fill c Returned f t
-after_fills q (EnterAbove x y) f t = omega arith
-after_fills q Back f t = omega arith
 after_fills q (StartRun x u) f t = begun_fills q f u t
 after_fills q (HandBack (Detach p u)) f t = put_fills f u HandedBack t
 after_fills q (HandBack (Here p u)) f t = put_fills f u HandedBack t
@@ -123,6 +88,7 @@ after_fills q (HandBack (Enter o)) f t = put_fills f o.job HandedBack t
 after_fills q (HandBack (Feed d)) f t = two_fills f d.job d.token t
 after_fills q (HandBack (Fork o u)) f t = two_fills f u o.job t
 after_fills q (HandBack (Gather g)) f t = pieces_fill g.pieces Returned f t
+after_fills q _ f t = omega arith
 
 -- what an act leaves of the job that it touches, it leaves of all
 acted_fills : (w : World) (q : Party) (r : Seen × Part) → fills r.1.job.slot ≤ fills (w.job (job_at w q (act_of q (w.stack q).top))).slot → (t : ℕ) → fills ((result w q (w.stack q) r).job t).slot ≤ fills (w.job t).slot
@@ -152,7 +118,8 @@ go_fills w q h = by (is_filling (w.stack q).top) refl
   where
     by : (b : Bool) → is_filling (w.stack q).top ≡ b → IfSome (outcome w q (w.stack q)) (λ r. FillsOn w (result w q (w.stack q) r))
     by true z = if_some_all {A = Seen × Part} (λ r. FillsOn w (result w q (w.stack q) r)) (λ r. stored_fills w q r (filling_done w q ((w.stack q).top) ((h.says q).top) z)) (outcome w q (w.stack q))
-    by false z = if_some_map {A = Seen × Part} (λ r. fills r.1.job.slot ≤ fills (w.job (job_at w q (act_of q (w.stack q).top))).slot) (λ r. FillsOn w (result w q (w.stack q) r)) (λ r l t. inl (acted_fills w q r l t)) (outcome w q (w.stack q)) (act_fills w.shape q (counts_seen w q (w.stack q)) (part_at w q (w.stack q)) ((w.stack q).top) z)
+    by false z = if_some_map {A = Seen × Part} (λ r. fills r.1.job.slot ≤ fills (w.job (job_at w q (act_of q (w.stack q).top))).slot) (λ r. FillsOn w (result w q (w.stack q) r)) (λ r l t. inl (acted_fills w q r l t)) (outcome w q (w.stack q))
+        (act_fills w.shape q (counts_seen w q (w.stack q)) (part_at w q (w.stack q)) ((w.stack q).top) z)
 
 -- a number that is given out now has no number of a book
 same_fills : (w : World) → FillsOn w w
@@ -195,8 +162,7 @@ from_fills w q s _ v = tt
 miss_fills : (w : World) (q : Party) (s : Stack) (x : Place) → IfSome (after_miss w q s x) (FillsOn w)
 miss_fills w (Worker a b) s (StealFrom k n) = if_cond (FillsOn w) _ _ (λ b t. inl (omega arith))
 miss_fills w (Worker a b) s (YieldSteal v n) = if_cond (FillsOn w) _ _ (λ b t. inl (omega arith))
-miss_fills w (Worker a b) s _ = tt
-miss_fills w (Caller n) s _ = tt
+miss_fills w _ s _ = tt
 
 end_fills : (w : World) (q : Party) (d : Ending) (s : Stack) (x : Place) → IfSome (after_end w q d s x) (FillsOn w)
 end_fills w q d s (Run n k) = λ t. inl (put_fills w.job n (Over d) t)
@@ -217,7 +183,6 @@ yield_fills w (Caller n) x = tt
 step_fills : (w : World) (e : Event) → CallsHold w → IfSome (step w e) (FillsOn w)
 step_fills w (Go q) h = acted_keeps w q (w.stack q) (target_pool q (act_of q (w.stack q).top)) (target_worker q (act_of q (w.stack q).top)) (target_call (act_of q (w.stack q).top)) (job_at w q (act_of q (w.stack q).top)) (outcome w q (w.stack q)) (FillsOn w) (go_fills w q h)
 step_fills w (From q v) h = from_fills w q (w.stack q) (w.stack q).top v
-step_fills w (Refuse q) h = if_cond (FillsOn w) _ _ (λ b t. inl (omega arith))
 step_fills w (Miss q) h = miss_fills w q (w.stack q) (w.stack q).top
 step_fills w (End q d) h = end_fills w q d (w.stack q) (w.stack q).top
 step_fills w (Spawn q p) h = if_cond (FillsOn w) _ _ (λ b t. inl (make_fills w.job w.jobs _ refl t))
@@ -232,7 +197,7 @@ step_fills w (IntoCast q n) h = into_cast_cases (FillsOn w) w q n (λ z e free h
 step_fills w (Broadcast q p) h = if_cond (FillsOn w) (is_free ((w.stack q).top) && is_pool w.shape p) _ (λ b. gather_fills w q p)
 step_fills w (Yield q) h = yield_fills w q YieldPop
 step_fills w (YieldLocal q) h = yield_fills w q LocalPop
-step_fills w (EndPool q p) h = if_cond (FillsOn w) _ _ (λ b t. inl (omega arith))
+step_fills w _ h = if_cond (FillsOn w) _ _ (λ b t. inl (omega arith))
 
 -- where a number is filled, its job is over
 pub record SlotsHold (w : World) : Type 0 where

@@ -11,34 +11,10 @@
 -- - `broadcast_keeps_the_highest_fault` and `broadcast_answers_the_highest_fault`:
 --   `broadcast_keeps_the_fault_of_the_last_piece`, at `kept_of_pieces`.
 use Rattle.std.proofs.Common.{refl}
-use Rattle.std.specs.Prelude.{ℕ, true, false, ◌||◌, ◌+◌, ◌-◌, nat_lt, if◌then◌else◌, Option, Some, None, List, ◌∷◌, ◌++◌, ◌≡◌, IfSome}
-use Rattle.rayon_machine_places.specs.declared.place.Party.{Party}
-use Rattle.rayon_machine_places.specs.declared.place.Ending.{Ending}
-use Rattle.rayon_machine_places.specs.declared.place.Ending.TheVariants.{Fine, Fault}
-use Rattle.rayon_machine_places.specs.declared.place.JobKind.TheVariants.{PieceOf}
-use Rattle.rayon_machine_places.specs.declared.place.Mark.TheVariants.{Dealt}
-use Rattle.rayon_machine_places.specs.declared.place.Then.TheVariants.{Gathers}
-use Rattle.rayon_machine_places.specs.declared.place.Place.{Place}
-use Rattle.rayon_machine_places.specs.declared.place.Place.TheVariants.{DealPieces, LockToWake}
-use Rattle.rayon_machine_places.specs.declared.place.Move.{Move}
-use Rattle.rayon_machine_places.specs.declared.place.Move.TheVariants.{Mark}
-use Rattle.rayon_machine_places.specs.declared.act.Act.{Act}
-use Rattle.rayon_machine_places.specs.declared.act.Act.TheVariants.{Take, PushCast, StorePiece as PutPiece}
-use Rattle.rayon_machine_places.specs.declared.act.Seen.{Seen}
-use Rattle.rayon_machine_places.specs.declared.act.Seen.TheVariants.{Done}
-use Rattle.rayon_machine_places.specs.declared.event.Event.{Event}
-use Rattle.rayon_machine_places.specs.declared.event.Event.TheVariants.{End, Cast, Scope as OpenScope, IntoCast, Broadcast}
-use Rattle.rayon_machine_places.specs.declared.state.Whereabouts.TheVariants.{Over}
-use Rattle.rayon_machine_places.specs.declared.shape.PoolShape.{PoolShape}
-use Rattle.rayon_machine_places.specs.Places.{act_of, next_of}
-use Rattle.rayon_machine_places.specs.World.{Shape, World, Counts, Part, Outcome, put_piece, effect}
-use Rattle.rayon_machine_places.specs.Steps.{step}
-use Rattle.rayon_machine_laws.specs.Once.{one, times, in_cast}
-use Rattle.rayon_machine_laws.specs.Committed.{is_committed}
-use Rattle.rayon_machine_laws.specs.Attended.{is_filled, owes_cast}
-use Rattle.rayon_machine_laws.specs.End.{LastFault, follows}
-use Rattle.rayon_machine_orders.specs.Calls.{caller_of, numbers_of, is_at_call, is_refusal, verdict_of}
-use Rattle.rayon_machine_orders.specs.Casts.{cast_pool}
+use Rattle.rayon_machine_orders.proofs.Words.{ℕ, true, false, ◌||◌, ◌+◌, ◌-◌, nat_lt, if◌then◌else◌, Option, Some, None, List, ◌∷◌, ◌++◌, ◌≡◌, IfSome, Party, Ending, Fine, Fault, PieceOf, Dealt, Gathers, Place, DealPieces, LockToWake, Move, Mark, Act, Take, PushCast, Seen, Done, Event, End}
+use Rattle.rayon_machine_orders.proofs.Words.{Cast, OpenScope, IntoCast, Broadcast, Over, PoolShape, act_of, next_of, Shape, World, Counts, Part, Outcome, put_piece, effect, step, one, times, in_cast, is_committed, is_filled, owes_cast, LastFault, follows, caller_of, numbers_of, is_at_call}
+use Rattle.rayon_machine_orders.proofs.Words.{is_refusal, verdict_of, cast_pool}
+use Rattle.rayon_machine_places.specs.declared.act.Act.TheVariants.{StorePiece as PutPiece}
 use Rattle.rayon_machine_orders.proofs.WrongMachines.{Machine, doing, leading, making, step_by, run_by, times_go, two, a, b, c, right}
 use Rattle.rayon_machine_orders.proofs.CallTeeth.{any_by, is_back}
 

@@ -2,24 +2,11 @@
 --
 -- The law is `token_law`. `Held`: the token list is the deque, or has what was taken besides.
 use Rattle.rayon_machine_laws.proofs.ClaimMakes.{always_calls}
+use Rattle.rayon_machine_orders.proofs.Words.{arith, refl, sym, ◌∙◌, ap, subst, inl, inr, ℕ, Bool, true, false, ◌==◌, ◌≤◌, if◌then◌else◌, Option, Some, None, List, [], ◌∷◌, ◌++◌, ◌≡◌, ◌⊎◌, IfSome, eq-eqb, Order, Party, Worker, Then, BeginFound, Place, LeaveSearch, BeginTask, BeginHere}
+use Rattle.rayon_machine_orders.proofs.Words.{LockToWake, WakeWorker, UnlockWoken, LowerCount, SetLatch, LockToSettle, WakeSettled, UnlockSettled, SetLockLatch, Event, IsRun, start, step, Shape, World, but_last, put_list, same_list, taken_as, one, times, Happening, Adds, Queues, Retakes, Begins}
+use Rattle.rayon_machine_orders.proofs.Words.{Redeems, happening, happened, and_next, happenings, Hands, TokenList, IsLeft, Change, Changes, Joins, Leaves, Comes, Plain, Token, Taken, taken_number}
 use Rattle.rayon_machine_laws.proofs.ClaimRuns.{CallsHold}
-use Rattle.std.proofs.Common.{arith, refl, sym, ◌∙◌, ap, subst, inl, inr}
-use Rattle.std.specs.Prelude.{ℕ, Bool, true, false, ◌==◌, ◌≤◌, if◌then◌else◌, Option, Some, None, List, [], ◌∷◌, ◌++◌, ◌≡◌, ◌⊎◌, IfSome}
-use Rattle.std.proofs.lemmas.Bool.{eq-eqb}
-use Rattle.rayon_machine_places.specs.declared.shape.Order.{Order}
-use Rattle.rayon_machine_places.specs.declared.place.Party.{Party}
-use Rattle.rayon_machine_places.specs.declared.place.Party.TheVariants.{Worker}
-use Rattle.rayon_machine_places.specs.declared.place.Then.{Then}
-use Rattle.rayon_machine_places.specs.declared.place.Then.TheVariants.{BeginFound}
-use Rattle.rayon_machine_places.specs.declared.place.Place.{Place}
-use Rattle.rayon_machine_places.specs.declared.place.Place.TheVariants.{LeaveSearch, BeginTask, BeginHere, LockToWake, WakeWorker, UnlockWoken, LowerCount, SetLatch, LockToSettle, WakeSettled, UnlockSettled, SetLockLatch}
-use Rattle.rayon_machine_places.specs.declared.event.Event.{Event}
-use Rattle.rayon_machine_places.specs.Runs.{IsRun, start}
-use Rattle.rayon_machine_places.specs.Steps.{step}
-use Rattle.rayon_machine_places.specs.World.{Shape, World, but_last, put_list, same_list, taken_as}
-use Rattle.rayon_machine_laws.specs.Once.{one, times}
-use Rattle.rayon_machine_orders.specs.Order.{Happening, Adds, Queues, Retakes, Begins, Redeems, happening, happened, and_next, happenings, Hands, TokenList, IsLeft, TokenLaw}
-use Rattle.rayon_machine_orders.specs.Queue.{Change, Changes, Joins, Leaves, Comes}
+use Rattle.rayon_machine_orders.specs.Order.{TokenLaw}
 use Rattle.rayon_machine_laws.proofs.Attended.{always_shape}
 use Rattle.rayon_machine_orders.proofs.Dealing.{Deals, step_deals}
 use Rattle.rayon_machine_laws.proofs.Emptied.{ListsOk, always_lists}
@@ -30,10 +17,7 @@ use Rattle.rayon_machine_orders.proofs.Lone.{always_honest, taken, taken_then}
 use Rattle.rayon_machine_orders.proofs.Lined.{told, Lined, lined_on}
 use Rattle.rayon_machine_laws.proofs.Placed.{same_number}
 use Rattle.rayon_machine_laws.proofs.Frame.{same_list_true, same_list_refl}
-use Rattle.rayon_machine_places.specs.declared.place.Taken.TheVariants.{Plain, Token}
 use Rattle.rayon_machine_laws.proofs.PlacedRuns.{JobsHold}
-use Rattle.rayon_machine_places.specs.declared.place.Taken.{Taken}
-use Rattle.rayon_machine_places.specs.Places.{taken_number}
 
 -- a world that a run from a start leads to
 pub record Reached (h : Shape) (w : World) : Type 0 where
@@ -179,9 +163,11 @@ drawn p f w v k c r h e = at (mine ((w.seat p 0).fifo c) ((v.seat p 0).fifo c) (
     at : ((t : ℕ) × (r ≡ Some t) × ((w.seat p 0).fifo c ≡ t ∷ (v.seat p 0).fifo c)) → Drawn p f w v c r
     at (t, a, d) = record { job = t; rest = (v.seat p 0).fifo c; runs = a; first = e c ∙ d; beside = beside_put p f w v c ((v.seat p 0).fifo c) refl (λ b n. others ((w.seat p 0).fifo b) ((v.seat p 0).fifo b) (Some (Comes r)) b c n (h b)) e }
 
-token_step : (o : Order) (p : ℕ) (w v u : World) (l : List ℕ) (f : Option ℕ → List ℕ) (hs : List Happening) (hp : Option Happening) → Deals o p 0 w v hp → Lined p w v hp → JobsHold w → Held o p l w → Beside p f w → ((m : List ℕ) (g : Option ℕ → List ℕ) → Held o p m v → Beside p g v → Rest o p u m g hs) → Rest o p u l f (and_next hp hs)
+token_step : (o : Order) (p : ℕ) (w v u : World) (l : List ℕ) (f : Option ℕ → List ℕ) (hs : List Happening) (hp : Option Happening) → Deals o p 0 w v hp → Lined p w v hp → JobsHold w → Held o p l w → Beside p f w
+    → ((m : List ℕ) (g : Option ℕ → List ℕ) → Held o p m v → Beside p g v → Rest o p u m g hs) → Rest o p u l f (and_next hp hs)
 token_step o p w v u l f hs None (inl (same, k)) d j (inl e) g rec = rec l f (inl (e ∙ sym same)) (beside_same p f w v None (λ b. refl) d g)
-token_step o p w v u l f hs None (inr (t, h, n, y)) d j (inl e) g rec = rec l f (inr (taken_as t (w.job t).kind, subst (λ z. Hands o z (taken_number (taken_as t (w.job t).kind)) (v.seat p 0).own) (sym e) (subst (λ z. Hands o (w.seat p 0).own z (v.seat p 0).own) (sym (same_number t (w.job t).kind)) h), y)) (beside_same p f w v None (λ b. refl) d g)
+token_step o p w v u l f hs None (inr (t, h, n, y)) d j (inl e) g rec = rec l f
+    (inr (taken_as t (w.job t).kind, subst (λ z. Hands o z (taken_number (taken_as t (w.job t).kind)) (v.seat p 0).own) (sym e) (subst (λ z. Hands o (w.seat p 0).own z (v.seat p 0).own) (sym (same_number t (w.job t).kind)) h), y)) (beside_same p f w v None (λ b. refl) d g)
 token_step o p w v u l f hs None (inl (same, inl (n, k))) d j (inr (t, h, e)) g rec = none_some (taken (w.stack (Worker p 0)).top) t n e
 token_step o p w v u l f hs None (inl (same, inr k)) d j (inr (t, h, e)) g rec = rec l f (inr (t, subst (Hands o l (taken_number t)) (sym same) h, k ∙ e)) (beside_same p f w v None (λ b. refl) d g)
 token_step o p w v u l f hs None (inr (s, y, n, z)) d j (inr (t, h, e)) g rec = none_some (taken (w.stack (Worker p 0)).top) t n e
@@ -192,7 +178,8 @@ token_step o p w v u l f hs (Some (Queues c by t)) (same, n, z) d j (inr (s, h, 
 token_step o p w v u l f hs (Some (Retakes c)) (same, n, z) d j (inl e) g rec = queue_off o p u c l f hs (rec l (put_list f c (but_last (f c))) (inl (e ∙ sym same)) (retaken_beside p f w v c d g))
 token_step o p w v u l f hs (Some (Retakes c)) (same, n, z) d j (inr (s, h, e)) g rec = none_some (taken (w.stack (Worker p 0)).top) s n e
 token_step o p w v u l f hs (Some (Begins t)) (same, y, z) d j (inl e) g rec = come_by o p u t l f hs (ap (times t) e ∙ (taken_once w (Worker p 0) (Plain t) j y).1 p 0) (rec l f (inl (e ∙ sym same)) (beside_same p f w v (Some (Begins t)) (λ b. refl) d g))
-token_step o p w v u l f hs (Some (Begins t)) (same, y, z) d j (inr (s, h, e)) g rec = hand_out o p u t l (w.seat p 0).own f hs (subst (λ z. Hands o l (taken_number z) (w.seat p 0).own) (some_same (taken (w.stack (Worker p 0)).top) s (Plain t) e y) h) (rec (w.seat p 0).own f (inl (sym same)) (beside_same p f w v (Some (Begins t)) (λ b. refl) d g))
+token_step o p w v u l f hs (Some (Begins t)) (same, y, z) d j (inr (s, h, e)) g rec = hand_out o p u t l (w.seat p 0).own f hs (subst (λ z. Hands o l (taken_number z) (w.seat p 0).own) (some_same (taken (w.stack (Worker p 0)).top) s (Plain t) e y) h)
+    (rec (w.seat p 0).own f (inl (sym same)) (beside_same p f w v (Some (Begins t)) (λ b. refl) d g))
 token_step o p w v u l f hs (Some (Redeems k c r)) (same, (i, y), z) d j (inl e) g rec =
     let x : Drawn p f w v c r = drawn p f w v k c r d g in
     token_by o p u k c r x.job x.rest l f hs x.runs x.first (ap (times k) e ∙ (taken_once w (Worker p 0) (Token k i c) j y).1 p 0) (rec l (put_list f c x.rest) (inl (e ∙ sym same)) x.beside)

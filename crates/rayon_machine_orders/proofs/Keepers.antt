@@ -8,29 +8,11 @@
 -- The other is a push by a call that no push is made for: an install that runs its job at once queues none
 -- (`SaysQueue`).
 use Rattle.rayon_machine_places.specs.declared.place.Mark.{Mark as Marking}
-use Rattle.rayon_machine_places.specs.declared.place.Mark.TheVariants.{Counted, Queued, Returned, Numbered, Dealt, Unnumbered}
-use Rattle.rayon_machine_places.specs.declared.place.Pieces.{Pieces}
-use Rattle.std.proofs.Common.{arith, refl, sym, ◌∙◌, ap, subst, inl, inr}
-use Rattle.std.specs.Prelude.{ℕ, zero, suc, Bool, true, false, ◌&&◌, ◌+◌, ◌==◌, ◌≤◌, if◌then◌else◌, Option, Some, None, List, [], ◌∷◌, ◌≡◌, IfSome, ⊤, ◌-◌}
-use Rattle.std.proofs.lemmas.Bool.{eqb-true}
-use Rattle.rayon_machine_places.specs.declared.place.Party.{Party}
-use Rattle.rayon_machine_places.specs.declared.place.Party.TheVariants.{Worker, Caller}
-use Rattle.rayon_machine_places.specs.declared.place.Plan.{Plan}
-use Rattle.rayon_machine_places.specs.declared.place.Plan.TheVariants.{Detach, Here, Send, Fork, Feed, Open, Enter, Gather}
-use Rattle.rayon_machine_places.specs.declared.place.Place.{Place}
-use Rattle.rayon_machine_places.specs.declared.place.Place.TheVariants.{PopWorking, TakeCastWorking, PopIdle, TakeCastIdle, StealFrom, PopInjected, JoinPop, JoinTakeCast, YieldPop, YieldTakeCast, YieldSteal, YieldPopInjected, LocalPop, LocalTakeCast, BeginTask, BeginHere, PushJob, TakeFromFifo, AddToFifo, PushToken, PushForAll, OpenForAll, CloseForAll, GrowCast, DealPieces, StorePiece}
-use Rattle.rayon_machine_places.specs.declared.place.Move.{Move}
-use Rattle.rayon_machine_places.specs.declared.place.Move.TheVariants.{Stay, Enter, StartRun, Back, HandBack, Discard, HandIn, Mark, HandAllBack}
-use Rattle.rayon_machine_places.specs.declared.act.Act.TheVariants.{PushInj, PushOwn}
-use Rattle.rayon_machine_places.specs.declared.act.Seen.{Seen}
-use Rattle.rayon_machine_places.specs.declared.state.Whereabouts.TheVariants.{HandedBack, Spent}
-use Rattle.rayon_machine_places.specs.declared.state.Job.{Job}
-use Rattle.rayon_machine_places.specs.Places.{same_party, is_member, plan_pool, plan_job, act_of, next_of, plan_book, count_book}
-use Rattle.rayon_machine_places.specs.World.{Shape, Stack, World, Counts, Part, target_pool, at_job, begun, popped, take_cast, pop_injector, effect, is_open}
-use Rattle.rayon_machine_places.specs.Steps.{put, put_stack, jobs_after, mark_pieces, marked, is_piece}
-use Rattle.rayon_machine_laws.specs.Once.{one}
-use Rattle.rayon_machine_laws.specs.Counted.{is_detached, all_values}
-use Rattle.rayon_machine_laws.specs.Shares.{shares, is_busy}
+use Rattle.rayon_machine_orders.proofs.Words.{Counted, Queued, Returned, Numbered, Dealt, Unnumbered, Pieces, arith, refl, sym, ◌∙◌, ap, subst, inl, inr, ℕ, zero, suc, Bool, true, false, ◌&&◌, ◌+◌, ◌==◌, ◌≤◌, if◌then◌else◌, Option, Some, None, List, [], ◌∷◌, ◌≡◌, IfSome, ⊤, ◌-◌, eqb-true, Party}
+use Rattle.rayon_machine_orders.proofs.Words.{Worker, Caller, Plan, Detach, Here, Send, Fork, Feed, Open, Enter, Gather, Place, PopWorking, TakeCastWorking, PopIdle, TakeCastIdle, StealFrom, PopInjected, JoinPop, JoinTakeCast, YieldPop, YieldTakeCast, YieldSteal, YieldPopInjected, LocalPop}
+use Rattle.rayon_machine_orders.proofs.Words.{LocalTakeCast, BeginTask, BeginHere, PushJob, TakeFromFifo, AddToFifo, PushToken, PushForAll, OpenForAll, CloseForAll, GrowCast, DealPieces, StorePiece, Move, Stay, EnterAbove as Enter, StartRun, Back, HandBack, Discard, HandIn, Mark, HandAllBack}
+use Rattle.rayon_machine_orders.proofs.Words.{PushInj, PushOwn, Seen, HandedBack, Spent, Job, same_party, is_member, plan_pool, plan_job, act_of, next_of, plan_book, count_book, Shape, Stack, World, Counts, Part, target_pool, at_job, begun, popped, take_cast, pop_injector, effect, is_open, put}
+use Rattle.rayon_machine_orders.proofs.Words.{put_stack, jobs_after, mark_pieces, marked, is_piece, one, is_detached, all_values, shares, is_busy, Feeding, Plain, Token, Task}
 use Rattle.rayon_machine_laws.proofs.Frame.{same_party_true, if_some_map, stack_mine, stack_other, either, undo_sees, out_sees, if_cond}
 use Rattle.rayon_machine_laws.proofs.Ties.{job_at}
 use Rattle.rayon_machine_laws.proofs.Lists.{SameJobs, quiet_same}
@@ -39,10 +21,7 @@ use Rattle.rayon_machine_laws.proofs.ClaimRuns.{world_after, place_part}
 use Rattle.rayon_machine_laws.proofs.ShareActs.{with_job, one_most}
 use Rattle.rayon_machine_laws.proofs.Bares.{backs}
 use Rattle.rayon_machine_laws.proofs.Returns.{ReturnsHold}
-use Rattle.rayon_machine_places.specs.declared.place.Feeding.{Feeding}
-use Rattle.rayon_machine_places.specs.declared.place.Taken.TheVariants.{Plain, Token}
 use Rattle.rayon_machine_laws.proofs.ShareRuns.{StartsAwaited}
-use Rattle.rayon_machine_places.specs.declared.act.Seen.TheVariants.{Task}
 
 -- what a keeper has of a share
 abbrev pub kept_by : (Party → ℕ) → ℕ → Option Party → ℕ
@@ -79,7 +58,8 @@ pub record KeepersHold (w : World) : Type 0 where
   pub values : (p : ℕ) → HasKeeper (λ q. all_values p (w.stack q)) (one (w.pool p).held) (one (w.pool p).counted)
 
 -- one party has moved: a share that is in the count was so before, or has come to it now
-pub keepers_by : (w u : World) (q : Party) (k : Stack) → ((r : Party) → u.stack r ≡ put_stack w.stack q k r) → ((t : ℕ) → (u.job t).counted ≡ true → (g : ℕ) × ((one (w.job t).counted + g) ≡ 1) × (shares t (w.stack q) + with_job (w.job t) + g ≤ shares t k + with_job (u.job t))) → ((p : ℕ) → (u.pool p).counted ≡ true → ((w.pool p).counted ≡ true) × (all_values p (w.stack q) + one (w.pool p).held ≤ all_values p k + one (u.pool p).held)) → KeepersHold w → ReturnsHold u → KeepersHold u
+pub keepers_by : (w u : World) (q : Party) (k : Stack) → ((r : Party) → u.stack r ≡ put_stack w.stack q k r) → ((t : ℕ) → (u.job t).counted ≡ true → (g : ℕ) × ((one (w.job t).counted + g) ≡ 1) × (shares t (w.stack q) + with_job (w.job t) + g ≤ shares t k + with_job (u.job t)))
+    → ((p : ℕ) → (u.pool p).counted ≡ true → ((w.pool p).counted ≡ true) × (all_values p (w.stack q) + one (w.pool p).held ≤ all_values p k + one (u.pool p).held)) → KeepersHold w → ReturnsHold u → KeepersHold u
 keepers_by w u q k st fj fp h s = record { returns = s; jobs = λ t. job t ((u.job t).counted) refl; values = λ p. value p ((u.pool p).counted) refl }
   where
     mine : (f : Stack → ℕ) → f (u.stack q) ≡ f k
@@ -97,7 +77,8 @@ keepers_by w u q k st fj fp h s = record { returns = s; jobs = λ t. job t ((u.j
             (let a : shares t (u.stack q) ≡ shares t k = mine (shares t) in let b : shares t (w.stack q) + with_job (w.job t) + g ≤ shares t k + with_job (u.job t) = kept in omega (arith, a, b))
             (subst (λ c. HasKeeper (λ r. shares t (w.stack r)) (with_job (w.job t)) (one c)) z (h.jobs t))
         by false z (g, one_now, kept) = one_of_two (λ r. shares t (u.stack r)) (with_job (u.job t)) 1 q (omega arith)
-            (let a : shares t (u.stack q) ≡ shares t k = mine (shares t) in let b : shares t (w.stack q) + with_job (w.job t) + g ≤ shares t k + with_job (u.job t) = kept in let c : (one (w.job t).counted + g) ≡ 1 = one_now in let e : one (w.job t).counted ≡ 0 = ap one z in omega (arith, a, b, c, e))
+            (let a : shares t (u.stack q) ≡ shares t k = mine (shares t) in let b : shares t (w.stack q) + with_job (w.job t) + g ≤ shares t k + with_job (u.job t) = kept in let c : (one (w.job t).counted + g) ≡ 1 = one_now in let e : one (w.job t).counted ≡ 0 = ap one z in
+            omega (arith, a, b, c, e))
 
     value : (p : ℕ) (b : Bool) → (u.pool p).counted ≡ b → HasKeeper (λ r. all_values p (u.stack r)) (one (u.pool p).held) (one b)
     value p false e = (None, omega arith)
@@ -173,7 +154,8 @@ act_busies h q c m (TakeFromFifo f) z = cc
 act_busies h q c m (BeginHere t) z = one_most (is_busy m.job.at)
 act_busies h q c m (PushForAll b) z = omega arith
 act_busies h q c m (DealPieces g) z = omega arith
-act_busies h q c m (PushJob n v) z = if_some_map (λ r. is_busy r.1.job.at ≡ true) (StaysBusy m) (λ r e. (let a : one (is_busy m.job.at) ≤ 1 = one_most (is_busy m.job.at) in let b : one (is_busy r.1.job.at) ≡ 1 = ap one e in omega (arith, a, b))) (effect (act_of q (PushJob n v)) h q c m) (act_pushes h q c m n v)
+act_busies h q c m (PushJob n v) z = if_some_map (λ r. is_busy r.1.job.at ≡ true) (StaysBusy m) (λ r e. (let a : one (is_busy m.job.at) ≤ 1 = one_most (is_busy m.job.at) in let b : one (is_busy r.1.job.at) ≡ 1 = ap one e in omega (arith, a, b))) (effect (act_of q (PushJob n v)) h q c m)
+    (act_pushes h q c m n v)
 act_busies h q c m x z = if_some_map (SameJobs m) (StaysBusy m) (λ r s. (let a : one (is_busy r.1.job.at) ≡ one (is_busy m.job.at) = ap (λ v. one (is_busy v)) (s.at) in omega (arith, a))) (effect (act_of q x) h q c m) (quiet_same h q c m x refl)
 
 -- where none is taken back, the job that is touched stays as it was
@@ -218,25 +200,20 @@ marked_stays : (c : Pieces) (k : Marking) (J : ℕ → Job) (t : ℕ) → backs 
 marked_stays c k J t = by (is_piece c t)
   where
     each : (k : Marking) → backs (marked k c.pool (t - c.first) (J t)).at ≤ 0 → one (is_busy (J t).at) ≤ one (is_busy (marked k c.pool (t - c.first) (J t)).at)
-    each Counted h = omega arith
     each Queued h = one_most (is_busy (J t).at)
-    each (Numbered i) h = omega arith
     each Dealt h = one_most (is_busy (J t).at)
-    each Unnumbered h = omega arith
     each Returned h = absurd (omega (arith, h))
+    each _ h = omega arith
 
     by : (z : Bool) → backs (if z then marked k c.pool (t - c.first) (J t) else J t).at ≤ 0 → one (is_busy (J t).at) ≤ one (is_busy (if z then marked k c.pool (t - c.first) (J t) else J t).at)
     by true h = each k h
     by false h = omega arith
 
 pub moved_stays : (q : Party) (g : Move) (J : ℕ → Job) (t : ℕ) → SpendsOther t g → backs (jobs_after q g J t).at ≤ 0 → one (is_busy (J t).at) ≤ one (is_busy (jobs_after q g J t).at)
-moved_stays q (Stay y) J t n h = omega arith
 moved_stays q (HandIn y k) J t n h = spent_stays J k t n
 moved_stays q (Discard k) J t n h = spent_stays J k t n
-moved_stays q (Enter f y) J t n h = omega arith
 moved_stays q (Mark y c k) J t n h = marked_stays c k J t h
 moved_stays q (HandAllBack c) J t n h = marked_stays c Returned J t h
-moved_stays q Back J t n h = omega arith
 moved_stays q (StartRun f n) J t e h = by (t == n)
   where
     by : (z : Bool) → one (is_busy (J t).at) ≤ one (is_busy (if z then begun q (J n) else J t).at)
@@ -258,6 +235,7 @@ moved_stays q (HandBack (Fork o n)) J t e h = by (t == o.job) h
     by : (z : Bool) → backs (if z then at_job (J (o.job)) HandedBack else put J n (at_job (J n) HandedBack) t).at ≤ 0 → one (is_busy (J t).at) ≤ one (is_busy (if z then at_job (J (o.job)) HandedBack else put J n (at_job (J n) HandedBack) t).at)
     by true h = absurd (omega (arith, h))
     by false h = back_stays J n t h
+moved_stays q _ J t n h = omega arith
 
 pub both_le : (d e b c : Bool) → e ≡ d → one b ≤ one c → one (d && b) ≤ one (e && c)
 both_le true true b c z h = h
@@ -265,7 +243,8 @@ both_le true false b c z h = cc
 both_le false e b c z h = omega arith
 
 -- a job that keeps its share keeps it after an act that pushes none
-pub busy_kept : (w : World) (q : Party) (x : Place) (fs : List Place) (r : Seen × Part) → Lasting w (world_after w q x fs r) → StartsAwaited w (next_of (w.shape.pool (target_pool q (act_of q x))) q x (r.0)) → StaysBusy (place_part w q x) r → (t : ℕ) → backs ((world_after w q x fs r).job t).at ≤ 0 → with_job (w.job t) ≤ with_job ((world_after w q x fs r).job t)
+pub busy_kept : (w : World) (q : Party) (x : Place) (fs : List Place) (r : Seen × Part) → Lasting w (world_after w q x fs r) → StartsAwaited w (next_of (w.shape.pool (target_pool q (act_of q x))) q x (r.0)) → StaysBusy (place_part w q x) r → (t : ℕ)
+    → backs ((world_after w q x fs r).job t).at ≤ 0 → with_job (w.job t) ≤ with_job ((world_after w q x fs r).job t)
 busy_kept w q x fs r l sa st t b = by (is_detached (w.job t).kind) refl
   where
     touched : (z : Bool) → (t == job_at w q (act_of q x)) ≡ z → one (is_busy (w.job t).at) ≤ one (is_busy (if z then r.1.job else w.job t).at)

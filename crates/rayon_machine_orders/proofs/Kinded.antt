@@ -1,23 +1,8 @@
 -- what has been made keeps its kind
 use Rattle.std.proofs.Common.{arith, refl, ◌∙◌, ap, inl, inr}
-use Rattle.std.specs.Prelude.{ℕ, Bool, true, false, ◌&&◌, ◌+◌, ◌-◌, ◌==◌, ◌≤◌, nat_lt, if◌then◌else◌, ◌≡◌, IfSome}
-use Rattle.std.proofs.lemmas.Bool.{eqb-true}
-use Rattle.rayon_machine_places.specs.declared.place.Count.{Count}
-use Rattle.rayon_machine_places.specs.declared.place.Count.TheVariants.{OfPool, OfScope, OfCast}
-use Rattle.rayon_machine_places.specs.declared.place.Pieces.{Pieces}
-use Rattle.rayon_machine_places.specs.declared.place.Party.{Party}
-use Rattle.rayon_machine_places.specs.declared.place.Party.TheVariants.{Worker, Caller}
-use Rattle.rayon_machine_places.specs.declared.place.Ending.{Ending}
-use Rattle.rayon_machine_places.specs.declared.place.Place.{Place}
-use Rattle.rayon_machine_places.specs.declared.place.Place.TheVariants.{PickVictim, StealFrom, YieldPop, YieldPick, YieldSteal, LocalPop, Run}
-use Rattle.rayon_machine_places.specs.declared.act.Seen.{Seen}
-use Rattle.rayon_machine_places.specs.declared.event.Event.{Event}
-use Rattle.rayon_machine_places.specs.declared.event.Event.TheVariants.{Go, From, Refuse, Miss, End, Spawn, Fifo, Install, Join, Yield, YieldLocal, EndPool, Cast, Scope as OpenScope, IntoSpawn, IntoFifo, IntoCast, Broadcast}
-use Rattle.rayon_machine_places.specs.declared.state.Whereabouts.TheVariants.{Over}
-use Rattle.rayon_machine_places.specs.declared.state.Job.{Job}
-use Rattle.rayon_machine_places.specs.Places.{act_of, is_free, is_member}
-use Rattle.rayon_machine_places.specs.World.{Stack, World, Part, at_job, target_pool, target_worker, target_call}
-use Rattle.rayon_machine_places.specs.Steps.{put, put_pieces, jobs_after, after_cast, after_choice, after_end, after_gather, after_join, after_miss, after_send, after_yield, is_piece, is_pool, new_piece, new_whole, step}
+use Rattle.rayon_machine_orders.proofs.Words.{ℕ, Bool, true, false, ◌&&◌, ◌+◌, ◌-◌, ◌==◌, ◌≤◌, nat_lt, if◌then◌else◌, ◌≡◌, IfSome, eqb-true, Count, OfPool, OfScope, OfCast, Pieces, Party, Worker, Caller, Ending, Place, PickVictim, StealFrom, YieldPop, YieldPick, YieldSteal, LocalPop, Run, Seen}
+use Rattle.rayon_machine_orders.proofs.Words.{Event, Go, From, Refuse, Miss, End, Spawn, Fifo, Install, Join, Yield, YieldLocal, EndPool, Cast, OpenScope, IntoSpawn, IntoFifo, IntoCast, Broadcast, Over, Job, act_of, is_free, is_member, Stack, World, Part, at_job, target_pool, target_worker}
+use Rattle.rayon_machine_orders.proofs.Words.{target_call, put, put_pieces, jobs_after, after_cast, after_choice, after_end, after_gather, after_join, after_miss, after_send, after_yield, is_piece, is_pool, new_piece, new_whole, step}
 use Rattle.rayon_machine_laws.proofs.Calm.{part_at, counts_seen, next_at}
 use Rattle.rayon_machine_laws.proofs.Frame.{after_kind, acted_keeps, either, fifo_cases, if_cond, if_some_map, into_cases, into_cast_cases, into_fifo_cases, piece_old, piece_out, put_old, put_same}
 use Rattle.rayon_machine_laws.proofs.Later.{Static, act_static}
@@ -61,8 +46,7 @@ from_kinds w q s _ v = tt
 miss_kinds : (w : World) (q : Party) (s : Stack) (x : Place) → IfSome (after_miss w q s x) (KindsOn w)
 miss_kinds w (Worker a b) s (StealFrom k n) = if_cond (KindsOn w) _ _ (λ b t m. refl)
 miss_kinds w (Worker a b) s (YieldSteal v n) = if_cond (KindsOn w) _ _ (λ b t m. refl)
-miss_kinds w (Worker a b) s _ = tt
-miss_kinds w (Caller n) s _ = tt
+miss_kinds w _ s _ = tt
 
 end_kinds : (w : World) (q : Party) (d : Ending) (s : Stack) (x : Place) → IfSome (after_end w q d s x) (KindsOn w)
 end_kinds w q d s (Run n k) = λ t m. put_same (λ j. j.kind) w.job n (at_job (w.job n) (Over d)) t refl
@@ -83,7 +67,6 @@ yield_kinds w (Caller n) x = tt
 pub step_kinds : (w : World) (e : Event) → IfSome (step w e) (KindsOn w)
 step_kinds w (Go q) = acted_keeps w q (w.stack q) (target_pool q (act_of q (w.stack q).top)) (target_worker q (act_of q (w.stack q).top)) (target_call (act_of q (w.stack q).top)) (job_at w q (act_of q (w.stack q).top)) (outcome w q (w.stack q)) (KindsOn w) (go_kinds w q)
 step_kinds w (From q v) = from_kinds w q (w.stack q) (w.stack q).top v
-step_kinds w (Refuse q) = if_cond (KindsOn w) _ _ (λ b t m. refl)
 step_kinds w (Miss q) = miss_kinds w q (w.stack q) (w.stack q).top
 step_kinds w (End q d) = end_kinds w q d (w.stack q) (w.stack q).top
 step_kinds w (Spawn q p) = if_cond (KindsOn w) _ _ (λ b t m. made_kinds w w.jobs _ (omega arith) t m)
@@ -98,4 +81,4 @@ step_kinds w (IntoCast q n) = into_cast_cases (KindsOn w) w q n (λ z e free hel
 step_kinds w (Broadcast q p) = if_cond (KindsOn w) (is_free ((w.stack q).top) && is_pool w.shape p) _ (λ b. gather_kinds w q p)
 step_kinds w (Yield q) = yield_kinds w q YieldPop
 step_kinds w (YieldLocal q) = yield_kinds w q LocalPop
-step_kinds w (EndPool q p) = if_cond (KindsOn w) _ _ (λ b t m. refl)
+step_kinds w _ = if_cond (KindsOn w) _ _ (λ b t m. refl)

@@ -6,15 +6,7 @@
 --   `Place::next_closing`.
 -- - `end_sets_latches_again`: `end_sets_latches_at_once`, at `Place::next_closing`.
 use Rattle.std.proofs.Common.{refl}
-use Rattle.std.specs.Prelude.{List, ◌∷◌, ◌++◌, ◌≡◌, IfSome}
-use Rattle.rayon_machine_places.specs.declared.place.Ending.TheVariants.{Fine}
-use Rattle.rayon_machine_places.specs.declared.place.Latch.{Latch}
-use Rattle.rayon_machine_places.specs.declared.place.Latch.TheVariants.{Terminate, OfCall}
-use Rattle.rayon_machine_places.specs.declared.event.Event.{Event}
-use Rattle.rayon_machine_places.specs.declared.event.Event.TheVariants.{End, EndPool, Scope as OpenScope, IntoSpawn}
-use Rattle.rayon_machine_places.specs.declared.place.Party.{Party}
-use Rattle.rayon_machine_places.specs.declared.state.Letter.TheVariants.{Unset, Set as IsSet}
-use Rattle.rayon_machine_places.specs.World.{World}
+use Rattle.rayon_machine_orders.proofs.Words.{List, ◌∷◌, ◌++◌, ◌≡◌, IfSome, Fine, Latch, Terminate, OfCall, Event, End, EndPool, OpenScope, IntoSpawn, Party, Unset, IsSet, World}
 use Rattle.rayon_machine_laws.specs.Attended.{letter_at}
 use Rattle.rayon_machine_laws.specs.Latch.{setters}
 use Rattle.rayon_machine_orders.proofs.WrongMachines.{leading, run_by, times_go, two, b, c, right}

@@ -3,43 +3,20 @@
 --
 -- The law is `level_law`; `level_step` says that each step keeps to the list.
 use Rattle.std.proofs.Common.{arith, refl, sym, ◌∙◌, ap, subst, inl, inr, ◌≢◌}
-use Rattle.std.specs.Prelude.{ℕ, Bool, true, false, not, ◌&&◌, ◌+◌, ◌==◌, ◌≤◌, ◌<◌, nat_lt, if◌then◌else◌, Option, Some, None, List, [], ◌∷◌, ◌++◌, ◌≡◌, ◌⊎◌, ⊤, IfSome, length, slice_get}
-use Rattle.std.proofs.lemmas.Bool.{eqb-true, eq-eqb, ltb-true, ltb-false}
-use Rattle.std.proofs.Math.Dec.{ltb}
-use Rattle.rayon_machine_places.specs.declared.shape.Order.{Order}
-use Rattle.rayon_machine_places.specs.declared.shape.Order.TheVariants.{OldestFirst}
-use Rattle.rayon_machine_places.specs.declared.place.Feeding.{Feeding}
-use Rattle.rayon_machine_places.specs.declared.place.JobKind.{JobKind}
-use Rattle.rayon_machine_places.specs.declared.place.JobKind.TheVariants.{TokenOf}
-use Rattle.rayon_machine_places.specs.declared.place.Party.{Party}
-use Rattle.rayon_machine_places.specs.declared.place.Party.TheVariants.{Worker, Caller}
-use Rattle.rayon_machine_places.specs.declared.place.Place.{Place}
-use Rattle.rayon_machine_places.specs.declared.place.Place.TheVariants.{AddToFifo, BeginHere, BeginTask, LeaveSearch, LockToSettle, LockToWake, LookForToken, LowerCount, PushJob, PushToken, Run, SetLatch, SetLockLatch, TakeFromFifo, UnlockSettled, UnlockWoken, WakeSettled, WakeWorker}
-use Rattle.rayon_machine_places.specs.declared.act.Act.{Act}
-use Rattle.rayon_machine_places.specs.declared.act.Act.TheVariants.{Begin, FifoIn, FifoOut, FifoUndo, PushOwn}
-use Rattle.rayon_machine_places.specs.declared.place.Plan.{Plan}
-use Rattle.rayon_machine_places.specs.declared.place.Plan.TheVariants.{Feed}
-use Rattle.rayon_machine_places.specs.declared.place.Taken.{Taken}
-use Rattle.rayon_machine_places.specs.declared.place.Taken.TheVariants.{Plain, Token}
-use Rattle.rayon_machine_places.specs.declared.event.Event.{Event}
-use Rattle.rayon_machine_places.specs.declared.event.Event.TheVariants.{Go, From, Refuse, Miss, End, Spawn, Fifo, Install, Join, Yield, YieldLocal, EndPool, Cast, Scope as OpenScope, IntoSpawn, IntoFifo, IntoCast, Broadcast}
-use Rattle.rayon_machine_places.specs.declared.state.Scope.{Scope}
-use Rattle.rayon_machine_places.specs.declared.state.Whereabouts.TheVariants.{Nowhere}
-use Rattle.rayon_machine_places.specs.Places.{same_party, act_of, count_book, taken_number}
-use Rattle.rayon_machine_places.specs.World.{Shape, World, but_last, same_list, taken_as}
-use Rattle.rayon_machine_places.specs.Steps.{step}
-use Rattle.rayon_machine_places.specs.Runs.{IsRun, start}
-use Rattle.rayon_machine_laws.specs.Once.{IsOnce, one, run_of, runs_with, times, worked}
+use Rattle.rayon_machine_orders.proofs.Words.{ℕ, Bool, true, false, not, ◌&&◌, ◌+◌, ◌==◌, ◌≤◌, ◌<◌, nat_lt, if◌then◌else◌, Option, Some, None, List, [], ◌∷◌, ◌++◌, ◌≡◌, ◌⊎◌, ⊤, IfSome, length, slice_get, eqb-true, eq-eqb, ltb-true, ltb-false, ltb, Order, OldestFirst, Feeding, JobKind, TokenOf}
+use Rattle.rayon_machine_orders.proofs.Words.{Party, Worker, Caller, Place, AddToFifo, BeginHere, BeginTask, LeaveSearch, LockToSettle, LockToWake, LookForToken, LowerCount, PushJob, PushToken, Run, SetLatch, SetLockLatch, TakeFromFifo, UnlockSettled, UnlockWoken, WakeSettled, WakeWorker, Act}
+use Rattle.rayon_machine_orders.proofs.Words.{Begin, FifoIn, FifoOut, FifoUndo, PushOwn, Plan, Feed, Taken, Plain, Token, Event, Go, From, Refuse, Miss, End, Spawn, Fifo, Install, Join, Yield, YieldLocal, EndPool, Cast, OpenScope, IntoSpawn, IntoFifo, IntoCast, Broadcast, Scope, Nowhere}
+use Rattle.rayon_machine_orders.proofs.Words.{same_party, act_of, count_book, taken_number, Shape, World, but_last, same_list, taken_as, step, IsRun, start, one, run_of, times, worked, IsRunWithout, Happening, Adds, Queues, Retakes, Begins, Redeems, act_happens, happening, happened, and_next}
+use Rattle.rayon_machine_orders.proofs.Words.{happenings, Hands, IsWalk, in_line, Changes, Joins, Leaves, Comes, run_at}
+use Rattle.rayon_machine_laws.specs.Once.{IsOnce, runs_with}
 use Rattle.rayon_machine_laws.proofs.ClaimMakes.{always_once}
-use Rattle.rayon_machine_laws.specs.Turn.{IsRunWithout}
 use Rattle.rayon_machine_laws.proofs.ClaimRuns.{CallsHold}
 use Rattle.rayon_machine_laws.proofs.Claims.{Says}
 use Rattle.rayon_machine_laws.proofs.Frame.{and_parts, either, same_list_refl, same_list_true}
 use Rattle.rayon_machine_laws.proofs.Hands.{hand, held, held_in}
 use Rattle.rayon_machine_laws.proofs.Located.{Deck, Hand, Loc, is_loc, loc_at, loc_of}
 use Rattle.rayon_machine_laws.proofs.PlacedRuns.{JobsHold}
-use Rattle.rayon_machine_orders.specs.Order.{Happening, caller_of, Adds, Queues, Retakes, Begins, Redeems, act_happens, happening, happened, and_next, happenings, Hands, AreTokens, IsWalk, LevelLaw, in_line, is_of_list, is_unlisted, stays}
-use Rattle.rayon_machine_orders.specs.Queue.{Changes, Joins, Leaves, Comes, run_at}
+use Rattle.rayon_machine_orders.specs.Order.{caller_of, AreTokens, LevelLaw, is_of_list, is_unlisted, stays}
 use Rattle.rayon_machine_orders.proofs.Dealing.{Deals, kinds}
 use Rattle.rayon_machine_orders.proofs.Dealt.{elsewhere, is_push}
 use Rattle.rayon_machine_orders.proofs.Handed.{Reached, reach_on, reached_calls, reached_jobs, reached_lists, reached_shape, in_line_once, none_some, some_same, taken_once, deals_on}
@@ -116,15 +93,7 @@ fed p b w (IntoFifo q n) c = λ z i e. of i (subst (λ o. is_of_list p b o ≡ t
     of i d = let k : ((i.pool == p) ≡ true) × (same_list b (Some i.call) ≡ true) = and_parts (i.pool == p) (same_list b (Some i.call)) d in (eqb-true i.pool p (k.0), sym (same_list_true b (Some i.call) (k.1)))
 fed p b w (Spawn q n) c = λ z. absurd (not_both (same_party (Worker p 0) q) c z)
 fed p b w (IntoSpawn q n) c = λ z i e. absurd (not_both (same_party (Worker p 0) q) c z)
-fed p b w (Install q n) c = c
-fed p b w (Join q) c = c
-fed p b w (Cast q n) c = c
-fed p b w (IntoCast q n) c = c
-fed p b w (Broadcast q n) c = c
-fed p b w (OpenScope q n) c = c
-fed p b w (Yield q) c = c
-fed p b w (YieldLocal q) c = c
-fed p b w (EndPool q n) c = c
+fed p b w _ c = c
 
 -- what the worker pushes is a token of the list, and what it adds to the list is added by the run that began last
 pushes : (b : Option ℕ) (w : World) (p : ℕ) (x : Place) (fs : List Place) (r o by : Option ℕ) (t : ℕ) → Says w (Worker p 0) x → Stands (IsFed b) r x fs → act_happens (act_of (Worker p 0) x) fs o ≡ Some (Adds by t) → (w.job t).kind ≡ TokenOf 0 b
@@ -193,9 +162,8 @@ first_once : (t : ℕ) (l m : List ℕ) → l ≡ t ∷ m → times t l ≤ 1 �
 first_once t l m e n = let a : times t l ≡ one (t == t) + times t m = ap (times t) e in let c : one (t == t) ≡ 1 = ap one (eq-eqb t t refl) in omega (arith, a, c, n)
 
 drop_last : (l : List ℕ) (t : ℕ) → but_last (l ++ t ∷ []) ≡ l
-drop_last [] t = refl
-drop_last (u ∷ []) t = refl
 drop_last (u ∷ v ∷ l) t = ap (λ z. u ∷ z) (drop_last (v ∷ l) t)
+drop_last _ t = refl
 
 one_same : (b c : Option ℕ) → one (same_list b c) ≡ 1 → same_list b c ≡ true
 one_same b c = by (same_list b c)
@@ -280,7 +248,8 @@ emptied_list b p w f o n u = empty_list ((w.seat p 0).fifo b) (few (length ((w.s
 abbrev Next : Option ℕ → ℕ → World → Option ℕ → List Happening → List ℕ → Type 0
 Next b p v r hs left = (m : List ℕ) (pre : List Happening) → Tokens b p v → Grasps b p v → Under b p m v r pre → Level b r m (pre ++ hs) left
 
-none_grasps : (b : Option ℕ) (p : ℕ) (w v : World) (z : Bool) → ((z ≡ true) → ((w.seat p 0).own ≡ []) × ((w.seat p 0).fifo b ≡ [])) → (v.seat p 0).own ≡ (w.seat p 0).own → (v.seat p 0).fifo b ≡ (w.seat p 0).fifo b → ((taken (w.stack (Worker p 0)).top ≡ None) × ((taken (v.stack (Worker p 0)).top ≡ None) ⊎ (z ≡ true))) ⊎ (taken (v.stack (Worker p 0)).top ≡ taken (w.stack (Worker p 0)).top) → Grasps b p w → Grasps b p v
+none_grasps : (b : Option ℕ) (p : ℕ) (w v : World) (z : Bool) → ((z ≡ true) → ((w.seat p 0).own ≡ []) × ((w.seat p 0).fifo b ≡ [])) → (v.seat p 0).own ≡ (w.seat p 0).own → (v.seat p 0).fifo b ≡ (w.seat p 0).fifo b
+    → ((taken (w.stack (Worker p 0)).top ≡ None) × ((taken (v.stack (Worker p 0)).top ≡ None) ⊎ (z ≡ true))) ⊎ (taken (v.stack (Worker p 0)).top ≡ taken (w.stack (Worker p 0)).top) → Grasps b p w → Grasps b p v
 none_grasps b p w v z f o l (inl (n, inl y)) g = inl y
 none_grasps b p w v z f o l (inl (n, inr y)) g = inr (inl (o ∙ (f y).0, l ∙ (f y).1))
 none_grasps b p w v z f o l (inr k) (inl n) = inl (k ∙ n)
@@ -323,7 +292,8 @@ level_none h p b r w v l pre hs left x n g u rec = at x.deals
     list = x.lined b
 
     at : Deals (h.pool p).order p 0 w v None → Level b r l (pre ++ hs) left
-    at (inl (same, k)) = rec l pre (kept_tokens b p w v n x.kind same) (none_grasps b p w v (elsewhere (w.stack (Worker p 0)).top) (λ z. (x.emptied z, emptied_list b p w x.full (x.emptied z) (else_empty (w.stack (Worker p 0)).top z) (else_zero b (w.stack (Worker p 0)).top z))) same list k g) (none_under b p l w v r pre list x.owed u)
+    at (inl (same, k)) = rec l pre (kept_tokens b p w v n x.kind same)
+        (none_grasps b p w v (elsewhere (w.stack (Worker p 0)).top) (λ z. (x.emptied z, emptied_list b p w x.full (x.emptied z) (else_empty (w.stack (Worker p 0)).top z) (else_zero b (w.stack (Worker p 0)).top z))) same list k g) (none_under b p l w v r pre list x.owed u)
     at (inr (t, hd, m, y)) = rec l pre (popped_tokens b p w v (h.pool p).order t n x.kind hd) (inr (inr (t, y ∙ ap Some (taken_token b t (w.job t).kind (n t (handed_first w p (h.pool p).order t (v.seat p 0).own hd)))))) (none_under b p l w v r pre list x.owed u)
 
 level_adds : (h : Shape) (p : ℕ) (b r : Option ℕ) (w v : World) (l : List ℕ) (pre hs : List Happening) (left : List ℕ) (c : Option ℕ) (t : ℕ) → Here h p b r w v hs (Some (Adds c t)) → Tokens b p w → Under b p l w r pre → Next b p v r hs left → Level b r l (pre ++ Adds c t ∷ hs) left
@@ -334,7 +304,8 @@ level_adds h p b r w v l pre hs left c t x n u rec = at x.deals u
 
     at : Deals (h.pool p).order p 0 w v (Some (Adds c t)) → Under b p l w r pre → Level b r l (pre ++ Adds c t ∷ hs) left
     at (grow, m, y) (inl (pe, le, z)) = subst (λ q. Level b r l (q ++ Adds c t ∷ hs) left) (sym pe) (rec l [] (grown_tokens b p w v t n x.kind grow (x.pushed c t refl)) (inl y) (inl (refl, le ∙ sym list, (x.owed).1)))
-    at (grow, m, y) (inr (s, pe, fe, z)) = subst (λ q. Level b r l (q ++ Adds c t ∷ hs) left) (sym pe) (subst (λ q. Orderly OldestFirst r l q left) (sym (stayed b r s (Adds c t ∷ hs) refl)) (refl, rec (l ++ s ∷ []) [] (grown_tokens b p w v t n x.kind grow (x.pushed c t refl)) (inl y) (inl (refl, sym fe ∙ sym list, (x.owed).1))))
+    at (grow, m, y) (inr (s, pe, fe, z)) = subst (λ q. Level b r l (q ++ Adds c t ∷ hs) left) (sym pe)
+        (subst (λ q. Orderly OldestFirst r l q left) (sym (stayed b r s (Adds c t ∷ hs) refl)) (refl, rec (l ++ s ∷ []) [] (grown_tokens b p w v t n x.kind grow (x.pushed c t refl)) (inl y) (inl (refl, sym fe ∙ sym list, (x.owed).1))))
 
 level_queues : (h : Shape) (p : ℕ) (b r : Option ℕ) (w v : World) (l : List ℕ) (pre hs : List Happening) (left : List ℕ) (c by : Option ℕ) (t : ℕ) → Here h p b r w v hs (Some (Queues c by t)) → Tokens b p w → Under b p l w r pre → Next b p v r hs left → Level b r l (pre ++ Queues c by t ∷ hs) left
 level_queues h p b r w v l pre hs left c by t x n u rec = at x.deals u
@@ -360,7 +331,8 @@ level_retakes h p b r w v l pre hs left c x n u rec = at x.deals u
 
     at : Deals (h.pool p).order p 0 w v (Some (Retakes c)) → Under b p l w r pre → Level b r l (pre ++ Retakes c ∷ hs) left
     at (same, m, y) (inl (pe, le, z)) = subst (λ q. Level b r l (q ++ Retakes c ∷ hs) left) (sym pe) (rec l [] (kept_tokens b p w v n x.kind same) (inl y) (inl (refl, le ∙ sym (gone (none_same b c (sym ((x.owed).0) ∙ z))), (x.owed).1)))
-    at (same, m, y) (inr (s, pe, fe, z)) = subst (λ q. Level b r l (q ++ Retakes c ∷ hs) left) (sym pe) (subst (λ q. Orderly OldestFirst r l q left) (sym (went b r s (Retakes c ∷ hs) refl)) (rec l [] (kept_tokens b p w v n x.kind same) (inl y) (inl (refl, sym (back (one_same b c (sym ((x.owed).0) ∙ z)) ∙ ap but_last fe ∙ drop_last l s), (x.owed).1))))
+    at (same, m, y) (inr (s, pe, fe, z)) = subst (λ q. Level b r l (q ++ Retakes c ∷ hs) left) (sym pe)
+        (subst (λ q. Orderly OldestFirst r l q left) (sym (went b r s (Retakes c ∷ hs) refl)) (rec l [] (kept_tokens b p w v n x.kind same) (inl y) (inl (refl, sym (back (one_same b c (sym ((x.owed).0) ∙ z)) ∙ ap but_last fe ∙ drop_last l s), (x.owed).1))))
 
 level_begins : (h : Shape) (p : ℕ) (b r : Option ℕ) (w v : World) (l : List ℕ) (pre hs : List Happening) (left : List ℕ) (t : ℕ) → Here h p b r w v hs (Some (Begins t)) → Tokens b p w → Grasps b p w → Under b p l w r pre → Next b p v (Some t) hs left → Level b r l (pre ++ Begins t ∷ hs) left
 level_begins h p b r w v l pre hs left t x n g u rec = at x.deals g u
@@ -374,7 +346,8 @@ level_begins h p b r w v l pre hs left t x n g u rec = at x.deals g u
     at (same, y, z) (inr (inr (k, e))) (inl (pe, le, o)) = absurd (let d : Some (Plain t) ≡ Some (Token k 0 b) = sym y ∙ e in cc)
     at (same, y, z) (inr (inl (d, f))) (inl (pe, le, o)) = subst (λ q. Level b r l (q ++ Begins t ∷ hs) left) (sym pe) (comes_line b r t l hs left (le ∙ f) (x.begun t refl) (rec [] [] (kept_tokens b p w v n x.kind same) (inl z) (inl (refl, sym (list ∙ f), (x.owed).1))))
 
-level_redeems : (h : Shape) (p : ℕ) (b r : Option ℕ) (w v : World) (l : List ℕ) (pre hs : List Happening) (left : List ℕ) (k : ℕ) (c : Option ℕ) (t : ℕ) → Here h p b r w v hs (Some (Redeems k c (Some t))) → Tokens b p w → Grasps b p w → Under b p l w r pre → Next b p v (Some t) hs left → Level b r l (pre ++ Redeems k c (Some t) ∷ hs) left
+level_redeems : (h : Shape) (p : ℕ) (b r : Option ℕ) (w v : World) (l : List ℕ) (pre hs : List Happening) (left : List ℕ) (k : ℕ) (c : Option ℕ) (t : ℕ) → Here h p b r w v hs (Some (Redeems k c (Some t))) → Tokens b p w → Grasps b p w → Under b p l w r pre → Next b p v (Some t) hs left
+    → Level b r l (pre ++ Redeems k c (Some t) ∷ hs) left
 level_redeems h p b r w v l pre hs left k c t x n g u rec = at x.deals g u
   where
     -- a token of the list
@@ -386,12 +359,14 @@ level_redeems h p b r w v l pre hs left k c t x n g u rec = at x.deals g u
         draws_line b r t l ((v.seat p 0).fifo b) hs left (le ∙ first) (first_once t ((w.seat p 0).fifo b) ((v.seat p 0).fifo b) first (x.lasting b t has)) (x.drawn_once k t c refl) (rec ((v.seat p 0).fifo b) [] (kept_tokens b p w v n x.kind same) (inl z) (inl (refl, refl, (x.owed).1)))
 
     -- one of another list came from elsewhere
-    other : same_list b c ≡ false → (v.seat p 0).fifo b ≡ (w.seat p 0).fifo b → (v.seat p 0).own ≡ (w.seat p 0).own → ((i : ℕ) × (taken (w.stack (Worker p 0)).top ≡ Some (Token k i c))) → taken (v.stack (Worker p 0)).top ≡ None → l ≡ (w.seat p 0).fifo b → Grasps b p w → Level b r l (Redeems k c (Some t) ∷ hs) left
+    other : same_list b c ≡ false → (v.seat p 0).fifo b ≡ (w.seat p 0).fifo b → (v.seat p 0).own ≡ (w.seat p 0).own → ((i : ℕ) × (taken (w.stack (Worker p 0)).top ≡ Some (Token k i c))) → taken (v.stack (Worker p 0)).top ≡ None → l ≡ (w.seat p 0).fifo b → Grasps b p w
+        → Level b r l (Redeems k c (Some t) ∷ hs) left
     other e list same (i, y) z le (inl m) = none_some (taken (w.stack (Worker p 0)).top) (Token k i c) m y
     other e list same (i, y) z le (inr (inr (j, d))) = absurd (let q : Some (Token j 0 b) ≡ Some (Token k i c) = sym d ∙ y in let bc : b ≡ c = cc in let s : same_list b c ≡ true = ap (same_list b) (sym bc) ∙ same_list_refl b in cc)
     other e list same (i, y) z le (inr (inl (d, f))) = comes_line b r t l hs left (le ∙ f) (x.drawn_once k t c refl) (rec [] [] (kept_tokens b p w v n x.kind same) (inl z) (inl (refl, sym (list ∙ f), (x.owed).1)))
 
-    to : (q : Bool) → same_list b c ≡ q → Changes ((w.seat p 0).fifo b) (if q then Some (Comes (Some t)) else None) ((v.seat p 0).fifo b) → (v.seat p 0).own ≡ (w.seat p 0).own → ((i : ℕ) × (taken (w.stack (Worker p 0)).top ≡ Some (Token k i c))) → taken (v.stack (Worker p 0)).top ≡ None → l ≡ (w.seat p 0).fifo b → Level b r l (Redeems k c (Some t) ∷ hs) left
+    to : (q : Bool) → same_list b c ≡ q → Changes ((w.seat p 0).fifo b) (if q then Some (Comes (Some t)) else None) ((v.seat p 0).fifo b) → (v.seat p 0).own ≡ (w.seat p 0).own → ((i : ℕ) × (taken (w.stack (Worker p 0)).top ≡ Some (Token k i c))) → taken (v.stack (Worker p 0)).top ≡ None
+        → l ≡ (w.seat p 0).fifo b → Level b r l (Redeems k c (Some t) ∷ hs) left
     to true e f same y z le = mine f le same z
     to false e f same y z le = other e f same y z le g
 
@@ -429,13 +404,10 @@ runs_once w q t h e =
 
 redeems_run : (a : Act) (fs : List Place) (o c r : Option ℕ) (k : ℕ) → act_happens a fs o ≡ Some (Redeems k c r) → o ≡ r
 redeems_run (FifoOut m i d) fs o c r k e = cc
-redeems_run (PushOwn t d) fs o c r k e = absurd (cc)
-redeems_run (FifoIn t d) fs o c r k e = absurd (cc)
-redeems_run (FifoUndo d) fs o c r k e = absurd (cc)
-redeems_run (Begin t) fs o c r k e = absurd (cc)
 redeems_run _ fs o c r k e = absurd (cc)
 
-here_on : (h : Shape) (p : ℕ) (b r : Option ℕ) → (h.pool p).workers ≡ 1 → (w v u : World) (e : Event) (es : List Event) → Reached h w → step w e ≡ Some v → IsRunWithout (is_unlisted p b) v es u → StandsAt (IsFed b) r (w.stack (Worker p 0)) → Here h p b r w v (happenings p (Some v) es) (happening p w e v)
+here_on : (h : Shape) (p : ℕ) (b r : Option ℕ) → (h.pool p).workers ≡ 1 → (w v u : World) (e : Event) (es : List Event) → Reached h w → step w e ≡ Some v → IsRunWithout (is_unlisted p b) v es u → StandsAt (IsFed b) r (w.stack (Worker p 0)) → Here h p b r w v (happenings p (Some v) es)
+    (happening p w e v)
 here_on h p b r single w v u e es x s rest st = record {
   deals = deals_on h p single w v e x s;
   lined = lined_on h p single w v e x.events x.run s;
@@ -461,13 +433,16 @@ here_on h p b r single w v u e es x s rest st = record {
     least n true i = omega (arith, i)
     least n false i = omega (arith, i)
 
-level_run : (h : Shape) (p : ℕ) (b : Option ℕ) → (h.pool p).workers ≡ 1 → (w u : World) (es : List Event) (l : List ℕ) (r : Option ℕ) (pre : List Happening) → Reached h w → StandsAt (IsFed b) r (w.stack (Worker p 0)) → Tokens b p w → Grasps b p w → Under b p l w r pre → IsRunWithout (is_unlisted p b) w es u → Level b r l (pre ++ happenings p (Some w) es) ((u.seat p 0).fifo b)
+level_run : (h : Shape) (p : ℕ) (b : Option ℕ) → (h.pool p).workers ≡ 1 → (w u : World) (es : List Event) (l : List ℕ) (r : Option ℕ) (pre : List Happening) → Reached h w → StandsAt (IsFed b) r (w.stack (Worker p 0)) → Tokens b p w → Grasps b p w → Under b p l w r pre
+    → IsRunWithout (is_unlisted p b) w es u → Level b r l (pre ++ happenings p (Some w) es) ((u.seat p 0).fifo b)
 level_run h p b one w u [] l r pre x st n g (inl (pe, le, z)) e = subst (λ q. Level b r l (q ++ []) ((u.seat p 0).fifo b)) (sym pe) (ap (λ q. (q.seat p 0).fifo b) e ∙ sym le)
 level_run h p b one w u [] l r pre x st n g (inr (t, pe, fe, z)) e = subst (λ q. Level b r l (q ++ []) ((u.seat p 0).fifo b)) (sym pe) (subst (λ q. Orderly OldestFirst r l q ((u.seat p 0).fifo b)) (sym (stayed b r t [] refl)) (refl, ap (λ q. (q.seat p 0).fifo b) e ∙ fe))
 level_run h p b one w u (e ∷ es) l r pre x st n g k (v, calm, s, rest) =
     let me : Party = Worker p 0 in
     let y : Reached h v = reach_on h w v e x s in
-    let next : StandsAt (IsFed b) (next_run r (happening p w e v)) (v.stack me) = (let z : IfSome (Some v) (λ q. Stood (IsFed b) w p (next_run r (happening p w e q)) q) = subst (λ o. IfSome o (λ q. Stood (IsFed b) w p (next_run r (happening p w e q)) q)) s (step_stands w e p (IsFed b) r (ap (λ z. (z.pool p).workers) (reached_shape h w x) ∙ one) (fed p b w e calm) st) in z) in
+    let next : StandsAt (IsFed b) (next_run r (happening p w e v))
+    (v.stack me) = (let z : IfSome (Some v) (λ q. Stood (IsFed b) w p (next_run r (happening p w e q)) q) = subst (λ o. IfSome o (λ q. Stood (IsFed b) w p (next_run r (happening p w e q)) q)) s
+    (step_stands w e p (IsFed b) r (ap (λ z. (z.pool p).workers) (reached_shape h w x) ∙ one) (fed p b w e calm) st) in z) in
     subst (λ z. Level b r l (pre ++ and_next (happened p w e z) (happenings p z es)) ((u.seat p 0).fifo b)) (sym s)
     (level_step h p b r w v l pre (happenings p (Some v) es) ((u.seat p 0).fifo b) (happening p w e v) (here_on h p b r one w v u e es x s rest st) n g k
     (λ m q a c d. level_run h p b one v u es m (next_run r (happening p w e v)) q y next a c d rest))
@@ -480,7 +455,8 @@ all_tokens w b (s ∷ ss) a t e = elim (either (t == s)) [
 ]
 
 pub level_law : LevelLaw
-level_law shape before p b w u es one first between full run = at (level_run shape p b one w u es ((w.seat p 0).fifo b) None [] (record { events = before; run = first }) (subst (StandsAt (IsFed b) None) (sym between) (refl, tt)) (all_tokens w b (w.seat p 0).own full) (inl (ap (λ k. taken k.top) between)) (inl (refl, refl, ap (λ k. unpushed b k.top) between)) run)
+level_law shape before p b w u es one first between full run = at (level_run shape p b one w u es ((w.seat p 0).fifo b) None [] (record { events = before; run = first }) (subst (StandsAt (IsFed b) None) (sym between) (refl, tt)) (all_tokens w b (w.seat p 0).own full)
+    (inl (ap (λ k. taken k.top) between)) (inl (refl, refl, ap (λ k. unpushed b k.top) between)) run)
   where
     at : Level b None ((w.seat p 0).fifo b) (happenings p (Some w) es) ((u.seat p 0).fifo b) → IsWalk OldestFirst ((w.seat p 0).fifo b) (in_line b (happenings p (Some w) es)) ((u.seat p 0).fifo b)
     at a =

@@ -1,3 +1,6 @@
+pub mod Words
+pub mod Spared
+pub mod EventCases
 pub mod WrongMachines
 pub mod Keepers
 pub mod Keeping

@@ -1,33 +1,10 @@
 -- what happens at the one worker of a pool is what each step does to the worker's FIFO lists: no other party has a
 -- token of them
 use Rattle.std.proofs.Common.{rules, arith, refl, sym, ◌∙◌, ap, subst, inl, inr}
-use Rattle.rayon_machine_places.specs.declared.place.Plan.{Plan}
-use Rattle.rayon_machine_places.specs.declared.place.Plan.TheVariants.{Here}
-use Rattle.rayon_machine_places.specs.declared.place.Move.TheVariants.{HandBack}
-use Rattle.rayon_machine_places.specs.declared.act.Seen.TheVariants.{Begun, Done}
-use Rattle.rayon_machine_places.specs.declared.shape.PoolShape.{PoolShape}
-use Rattle.std.specs.Prelude.{ℕ, zero, suc, Bool, true, false, ◌&&◌, ◌==◌, ◌<◌, nat_lt, if◌then◌else◌, Option, Some, None, List, [], ◌∷◌, ◌++◌, ◌≡◌, ◌⊎◌, IfSome}
-use Rattle.std.proofs.lemmas.Bool.{eqb-true, eq-eqb, ltb-true}
-use Rattle.rayon_machine_places.specs.declared.place.Count.TheVariants.{OfPool, OfScope, OfCast}
-use Rattle.rayon_machine_places.specs.declared.place.Count.{Count}
-use Rattle.rayon_machine_places.specs.declared.place.Party.{Party}
-use Rattle.rayon_machine_places.specs.declared.place.Party.TheVariants.{Worker, Caller}
-use Rattle.rayon_machine_places.specs.declared.place.Place.{Place}
-use Rattle.rayon_machine_places.specs.declared.place.Place.TheVariants.{BeginTask, ProbeWorking, Stopped, Free, PopWorking, PopIdle, JoinPop, YieldPop, LocalPop, TakeCastWorking, TakeCastIdle, StealFrom, PopInjected, JoinTakeCast, YieldTakeCast, YieldSteal, YieldPopInjected, LocalTakeCast, BeginHere, RaiseCount}
-use Rattle.rayon_machine_places.specs.declared.place.Target.TheVariants.{Termination}
-use Rattle.rayon_machine_places.specs.declared.place.Taken.{Taken}
-use Rattle.rayon_machine_places.specs.declared.place.Taken.TheVariants.{Plain, Token}
-use Rattle.rayon_machine_places.specs.declared.act.Act.{Act}
-use Rattle.rayon_machine_places.specs.declared.act.Act.TheVariants.{FifoIn, FifoUndo, FifoOut, Idle}
-use Rattle.rayon_machine_places.specs.declared.act.Seen.{Seen}
-use Rattle.rayon_machine_places.specs.declared.event.Event.{Event}
-use Rattle.rayon_machine_places.specs.declared.event.Event.TheVariants.{Go}
-use Rattle.rayon_machine_places.specs.Places.{same_party, own_pool, own_index, act_of, next_of, fresh}
-use Rattle.rayon_machine_places.specs.World.{Counts, Shape, Stack, World, Part, but_last, effect, same_list, target_pool, target_worker, target_call}
-use Rattle.rayon_machine_places.specs.Steps.{step, after_move}
-use Rattle.rayon_machine_places.specs.Runs.{IsRun, start}
-use Rattle.rayon_machine_orders.specs.Order.{Happening, Adds, Queues, Retakes, Begins, Redeems, act_happens, happening}
-use Rattle.rayon_machine_orders.specs.Queue.{Change, Changes, Joins, Leaves, Comes, change, change_of, run_at}
+use Rattle.rayon_machine_orders.proofs.Words.{Plan, Here, HandBack, Begun, Done, PoolShape, ℕ, zero, suc, Bool, true, false, ◌&&◌, ◌==◌, ◌<◌, nat_lt, if◌then◌else◌, Option, Some, None, List, [], ◌∷◌, ◌++◌, ◌≡◌, ◌⊎◌, IfSome, eqb-true, eq-eqb, ltb-true, OfPool, OfScope, OfCast, Count, Party}
+use Rattle.rayon_machine_orders.proofs.Words.{Worker, Caller, Place, BeginTask, ProbeWorking, Stopped, Free, PopWorking, PopIdle, JoinPop, YieldPop, LocalPop, TakeCastWorking, TakeCastIdle, StealFrom, PopInjected, JoinTakeCast, YieldTakeCast, YieldSteal, YieldPopInjected, LocalTakeCast}
+use Rattle.rayon_machine_orders.proofs.Words.{BeginHere, RaiseCount, Termination, Taken, Plain, Token, Act, FifoIn, FifoUndo, FifoOut, Idle, Seen, Event, Go, same_party, own_pool, own_index, act_of, next_of, fresh, Counts, Shape, Stack, World, Part, but_last, effect, same_list, target_pool}
+use Rattle.rayon_machine_orders.proofs.Words.{target_worker, target_call, step, after_move, IsRun, start, Happening, Adds, Queues, Retakes, Begins, Redeems, act_happens, happening, Change, Changes, Joins, Leaves, Comes, change, change_of, run_at}
 use Rattle.rayon_machine_laws.proofs.Attended.{aside_frames}
 use Rattle.rayon_machine_laws.proofs.Redeems.{StocksHold, first_stocks, step_stocks, redeems}
 use Rattle.rayon_machine_laws.proofs.Asides.{steps_aside}
@@ -101,9 +78,11 @@ caller_next h g n c m (BeginTask y) fs a z = if_some_all {A = Seen × Part} (λ 
 caller_next h g n c m (BeginHere t) fs a z = refl
 caller_next h g n c m (RaiseCount d) fs a z = elim (either (is_here d)) [
   | inl y ↦ if_some_all {A = Seen × Part} (λ r. has_token (taken ((after_move (next_of g (Caller n) (RaiseCount d) (r.0)) fs).top)) ≡ false) (λ r. raised_plainly g (Caller n) d fs (r.0) a y) (effect (act_of (Caller n) (RaiseCount d)) h (Caller n) c m)
-  | inr y ↦ if_some_map {A = Seen × Part} (λ r. FreeOf (next_of g (Caller n) (RaiseCount d) (r.0))) (λ r. has_token (taken ((after_move (next_of g (Caller n) (RaiseCount d) (r.0)) fs).top)) ≡ false) (λ r t. none_token (taken ((after_move (next_of g (Caller n) (RaiseCount d) (r.0)) fs).top)) (lands_free (next_of g (Caller n) (RaiseCount d) (r.0)) fs a t)) (effect (act_of (Caller n) (RaiseCount d)) h (Caller n) c m) (stays_free h g (Caller n) c m (RaiseCount d) refl y refl refl)
+  | inr y ↦ if_some_map {A = Seen × Part} (λ r. FreeOf (next_of g (Caller n) (RaiseCount d) (r.0))) (λ r. has_token (taken ((after_move (next_of g (Caller n) (RaiseCount d) (r.0)) fs).top)) ≡ false)
+      (λ r t. none_token (taken ((after_move (next_of g (Caller n) (RaiseCount d) (r.0)) fs).top)) (lands_free (next_of g (Caller n) (RaiseCount d) (r.0)) fs a t)) (effect (act_of (Caller n) (RaiseCount d)) h (Caller n) c m) (stays_free h g (Caller n) c m (RaiseCount d) refl y refl refl)
 ]
-caller_next h g n c m x fs a z = if_some_map {A = Seen × Part} (λ r. ((taken x ≡ None) × ((taken ((after_move (next_of g (Caller n) x (r.0)) fs).top) ≡ None) ⊎ (elsewhere x ≡ true))) ⊎ (taken ((after_move (next_of g (Caller n) x (r.0)) fs).top) ≡ taken x)) (λ r. has_token (taken ((after_move (next_of g (Caller n) x (r.0)) fs).top)) ≡ false) (λ r t. kept (elsewhere x) (taken x) (taken ((after_move (next_of g (Caller n) x (r.0)) fs).top)) refl z t) (effect (act_of (Caller n) x) h (Caller n) c m) (hand_on h g (Caller n) c m x fs a refl refl)
+caller_next h g n c m x fs a z = if_some_map {A = Seen × Part} (λ r. ((taken x ≡ None) × ((taken ((after_move (next_of g (Caller n) x (r.0)) fs).top) ≡ None) ⊎ (elsewhere x ≡ true))) ⊎ (taken ((after_move (next_of g (Caller n) x (r.0)) fs).top) ≡ taken x))
+    (λ r. has_token (taken ((after_move (next_of g (Caller n) x (r.0)) fs).top)) ≡ false) (λ r t. kept (elsewhere x) (taken x) (taken ((after_move (next_of g (Caller n) x (r.0)) fs).top)) refl z t) (effect (act_of (Caller n) x) h (Caller n) c m) (hand_on h g (Caller n) c m x fs a refl refl)
 
 caller_honest : (h : Shape) (g : PoolShape) (n : ℕ) (c : Counts) (m : Part) (x : Place) → is_thief x ≡ false → IfSome (effect (act_of (Caller n) x) h (Caller n) c m) (λ r. NoThief (next_of g (Caller n) x (r.0)))
 caller_honest h g n c m (TakeCastIdle k) z = tt
@@ -136,7 +115,8 @@ stopped_idle w (Worker a b) Stopped fs P e = tt
 stopped_idle w (Caller n) Stopped fs P e = tt
 stopped_idle w q _ fs P e = absurd (cc)
 
-beyond_put : (w : World) (q : Party) (p i : ℕ) (b : Bool) → same_party (Worker p (suc i)) q ≡ b → is_stopped (w.stack (Worker p (suc i))).top ≡ true → IfSome (outcome w q (w.stack q)) (λ r. is_stopped ((if b then after_move (next_at w q (w.stack q) (r.0)) (w.stack q).below else w.stack (Worker p (suc i))).top) ≡ true)
+beyond_put : (w : World) (q : Party) (p i : ℕ) (b : Bool) → same_party (Worker p (suc i)) q ≡ b → is_stopped (w.stack (Worker p (suc i))).top ≡ true → IfSome (outcome w q (w.stack q))
+    (λ r. is_stopped ((if b then after_move (next_at w q (w.stack q) (r.0)) (w.stack q).below else w.stack (Worker p (suc i))).top) ≡ true)
 beyond_put w q p i true eb a = stopped_idle w q (w.stack q).top (w.stack q).below (λ r. is_stopped ((after_move (next_at w q (w.stack q) (r.0)) (w.stack q).below).top) ≡ true) (ap (λ z. is_stopped (w.stack z).top) (sym (same_party_true (Worker p (suc i)) q eb)) ∙ a)
 beyond_put w q p i false eb a = if_some_all {A = Seen × Part} (λ r. is_stopped (w.stack (Worker p (suc i))).top ≡ true) (λ r. a) (outcome w q (w.stack q))
 
@@ -156,7 +136,8 @@ turn_apart p w u m a = record {
 
 step_apart : (p : ℕ) (w : World) (e : Event) → FramesOk w → Apart p w → IfSome (step w e) (Apart p)
 step_apart p w (Go q) fr a = acted_keeps w q (w.stack q) (target_pool q (act_of q (w.stack q).top)) (target_worker q (act_of q (w.stack q).top)) (target_call (act_of q (w.stack q).top)) (job_at w q (act_of q (w.stack q).top)) (outcome w q (w.stack q)) (Apart p)
-    (if_some_map {A = Seen × Part} (λ r. ((n : ℕ) → Plainly ((result w q (w.stack q) r).stack (Caller n)).top) × ((i : ℕ) → is_stopped ((result w q (w.stack q) r).stack (Worker p (suc i))).top ≡ true)) (λ r. Apart p (result w q (w.stack q) r)) (λ r t. record { callers = t.0; beyond = t.1 }) (outcome w q (w.stack q))
+    (if_some_map {A = Seen × Part} (λ r. ((n : ℕ) → Plainly ((result w q (w.stack q) r).stack (Caller n)).top) × ((i : ℕ) → is_stopped ((result w q (w.stack q) r).stack (Worker p (suc i))).top ≡ true)) (λ r. Apart p (result w q (w.stack q) r))
+    (λ r t. record { callers = t.0; beyond = t.1 }) (outcome w q (w.stack q))
     (if_some_and {A = Seen × Part} (λ r. (n : ℕ) → Plainly ((result w q (w.stack q) r).stack (Caller n)).top) (λ r. (i : ℕ) → is_stopped ((result w q (w.stack q) r).stack (Worker p (suc i))).top ≡ true) (outcome w q (w.stack q))
     (if_some_each {I = ℕ} (λ n r. Plainly ((result w q (w.stack q) r).stack (Caller n)).top) (outcome w q (w.stack q)) (λ n. caller_put w q n (same_party (Caller n) q) refl fr (a.callers n)))
     (if_some_each {I = ℕ} (λ i r. is_stopped ((result w q (w.stack q) r).stack (Worker p (suc i))).top ≡ true) (outcome w q (w.stack q)) (λ i. beyond_put w q p i (same_party (Worker p (suc i)) q) refl (a.beyond i)))))

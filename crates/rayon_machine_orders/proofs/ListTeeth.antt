@@ -8,28 +8,11 @@
 -- - `job_of_a_scope_in_the_detached_list`: `jobs_of_a_scope_go_to_the_list_of_detached_jobs`, at `Place::feeding_act`.
 -- - `thief_takes_the_newest`: `steal_takes_the_newest`, at `Seat::write_own`.
 use Rattle.std.proofs.Common.{refl, ap, inl, inr}
-use Rattle.std.specs.Prelude.{ℕ, ◌+◌, nat_lt, if◌then◌else◌, Option, Some, None, List, [], ◌∷◌, ◌++◌, ◌≡◌, IfSome, false}
-use Rattle.rayon_machine_places.specs.declared.shape.Order.TheVariants.{OldestFirst}
-use Rattle.rayon_machine_places.specs.declared.place.Party.{Party}
-use Rattle.rayon_machine_places.specs.declared.place.Plan.TheVariants.{Feed}
-use Rattle.rayon_machine_places.specs.declared.place.Taken.TheVariants.{Plain}
-use Rattle.rayon_machine_places.specs.declared.place.Place.{Place}
-use Rattle.rayon_machine_places.specs.declared.place.Place.TheVariants.{OpenSlot, AddToFifo, LookForToken, PushToken}
-use Rattle.rayon_machine_places.specs.declared.place.Move.{Move}
-use Rattle.rayon_machine_places.specs.declared.place.Move.TheVariants.{Stay}
-use Rattle.rayon_machine_places.specs.declared.act.Act.{Act}
-use Rattle.rayon_machine_places.specs.declared.act.Act.TheVariants.{Steal, PopInj, PushCast, FifoIn, FifoUndo, FifoOut}
-use Rattle.rayon_machine_places.specs.declared.act.Seen.{Seen}
-use Rattle.rayon_machine_places.specs.declared.act.Seen.TheVariants.{Done, Missing, Task}
-use Rattle.rayon_machine_places.specs.declared.event.Event.{Event}
-use Rattle.rayon_machine_places.specs.declared.event.Event.TheVariants.{Go, Refuse, Spawn, Fifo, Cast, Scope as OpenScope, IntoFifo}
-use Rattle.rayon_machine_places.specs.declared.state.Slot.TheVariants.{Closed}
-use Rattle.rayon_machine_places.specs.declared.state.Whereabouts.TheVariants.{HandedBack, Retaken, Running}
-use Rattle.rayon_machine_places.specs.declared.shape.PoolShape.{PoolShape}
-use Rattle.rayon_machine_places.specs.Places.{after_push, act_of, next_of}
-use Rattle.rayon_machine_places.specs.World.{Shape, Seat, Pool, World, or_none, head_of, last_of, but_first, but_last, Counts, Part, Outcome, at_job, is_open, put_list, popped, taken_as, target_job, effect}
-use Rattle.rayon_machine_orders.specs.Lists.{Pushes, Takes, Shifts, shift_at, deque_shift, injector_shift, cast_shift}
-use Rattle.rayon_machine_orders.specs.Queue.{Changes, Leaves, change}
+use Rattle.rayon_machine_orders.proofs.Words.{ℕ, ◌+◌, nat_lt, if◌then◌else◌, Option, Some, None, List, [], ◌∷◌, ◌++◌, ◌≡◌, IfSome, false, OldestFirst, Party, Feed, Plain, Place, OpenSlot, AddToFifo, LookForToken, PushToken, Move, Stay, Act, Steal, PopInj, PushCast, FifoIn, FifoUndo, FifoOut}
+use Rattle.rayon_machine_orders.proofs.Words.{Seen, Done, Task, Event, Go, Refuse, Spawn, Fifo, Cast, OpenScope, IntoFifo, Closed, HandedBack, Retaken, Running, PoolShape, after_push, act_of, next_of, Shape, Seat, Pool, World, or_none, head_of, last_of, but_first, but_last, Counts, Part}
+use Rattle.rayon_machine_orders.proofs.Words.{Outcome, at_job, is_open, put_list, popped, taken_as, target_job, effect, Pushes, Takes, Shifts, deque_shift, injector_shift, cast_shift, Changes, Leaves, change}
+use Rattle.rayon_machine_places.specs.declared.act.Seen.TheVariants.{Missing}
+use Rattle.rayon_machine_orders.specs.Lists.{shift_at}
 use Rattle.rayon_machine_orders.proofs.WrongMachines.{Machine, doing, aiming, leading, step_by, run_by, times_go, lone, two, a, b, c, right}
 use Rattle.rayon_machine_orders.proofs.CallTeeth.{running}
 

@@ -1,41 +1,21 @@
 -- each step shifts each own deque, each injector and each broadcast list as a queue
 use Rattle.std.proofs.Common.{refl, sym, ◌∙◌, ap, subst, inl, inr}
-use Rattle.std.specs.Prelude.{ℕ, Bool, true, false, ◌&&◌, ◌+◌, ◌==◌, nat_lt, if◌then◌else◌, Option, Some, None, List, [], ◌∷◌, ◌++◌, ◌≡◌, IfSome}
-use Rattle.std.proofs.lemmas.Bool.{eqb-true, eq-eqb}
-use Rattle.rayon_machine_places.specs.declared.shape.Order.{Order}
-use Rattle.rayon_machine_places.specs.declared.shape.Order.TheVariants.{NewestFirst, OldestFirst}
-use Rattle.rayon_machine_places.specs.declared.place.Party.{Party}
-use Rattle.rayon_machine_places.specs.declared.place.Party.TheVariants.{Worker, Caller}
-use Rattle.rayon_machine_places.specs.declared.place.Ending.{Ending}
-use Rattle.rayon_machine_places.specs.declared.place.JobKind.{JobKind}
-use Rattle.rayon_machine_places.specs.declared.place.JobKind.TheVariants.{TokenOf}
-use Rattle.rayon_machine_places.specs.declared.place.Pieces.{Pieces}
-use Rattle.rayon_machine_places.specs.declared.place.OpenCall.{OpenCall}
-use Rattle.rayon_machine_places.specs.declared.place.Taken.{Taken}
-use Rattle.rayon_machine_places.specs.declared.place.Taken.TheVariants.{Plain, Token}
-use Rattle.rayon_machine_places.specs.declared.place.Place.{Place}
-use Rattle.rayon_machine_places.specs.declared.place.Place.TheVariants.{AddToFifo, BeginHere, BeginTask, DealPieces, JoinPop, JoinTakeCast, JoinProbe, SecondSide, LocalPop, LocalTakeCast, LookQueue, PickVictim, PopIdle, PopInjected, PopWorking, PushForAll, PushJob, PushToken, Run, StealFrom}
-use Rattle.rayon_machine_places.specs.declared.place.Place.TheVariants.{TakeCastIdle, TakeCastWorking, TakeFromFifo, YieldPick, YieldPop, YieldPopInjected, YieldSteal, YieldTakeCast}
-use Rattle.rayon_machine_places.specs.declared.place.Move.TheVariants.{Enter}
-use Rattle.rayon_machine_places.specs.declared.act.Act.{Act}
-use Rattle.rayon_machine_places.specs.declared.act.Act.TheVariants.{LookInj, LookOwn, PopInj, PopOwn, PushCast, PushInj, PushOwn, Steal, TakeCast}
-use Rattle.rayon_machine_places.specs.declared.act.Seen.{Seen}
-use Rattle.rayon_machine_places.specs.declared.act.Seen.TheVariants.{Task}
-use Rattle.rayon_machine_places.specs.declared.event.Event.{Event}
-use Rattle.rayon_machine_places.specs.declared.event.Event.TheVariants.{Go, From, Refuse, Miss, End, Spawn, Fifo, Cast, Install, Join, Scope as OpenScope, IntoSpawn, IntoFifo, IntoCast, Broadcast, Yield, YieldLocal, EndPool}
-use Rattle.rayon_machine_places.specs.declared.shape.PoolShape.{PoolShape}
-use Rattle.rayon_machine_places.specs.declared.state.Scope.{Scope}
-use Rattle.rayon_machine_places.specs.Places.{act_of, is_free, is_member, is_refusable, is_taken, next_of, own_index, own_pool, count_book, plan_book, plan_job, plan_pool, taken_number}
-use Rattle.rayon_machine_places.specs.World.{Counts, Part, Pool, Seat, Shape, Stack, World, but_first, but_last, casts_with, counts_at, effect, head_of, is_open, last_of, or_none, own_left, own_of, pop_injector, popped, take_cast, taken_as, target_call, target_pool, target_worker}
-use Rattle.rayon_machine_places.specs.Steps.{after_choice, after_end, after_enter, after_join, after_miss, after_move, after_send, after_spawn, after_yield, can_miss, holds, is_pool, part_of, put, put_seat, step}
-use Rattle.rayon_machine_orders.specs.Order.{Hands}
-use Rattle.rayon_machine_orders.specs.Lists.{Shift, Pushes, Takes, in_hand, deque_shift, injector_shift, cast_shift, Shifts, ShiftsAll, ListLaw}
+use Rattle.rayon_machine_orders.proofs.Words.{ℕ, Bool, true, false, ◌&&◌, ◌+◌, ◌==◌, nat_lt, if◌then◌else◌, Option, Some, None, List, [], ◌∷◌, ◌++◌, ◌≡◌, IfSome, eqb-true, eq-eqb, Order, NewestFirst, OldestFirst, Party, Worker, Caller, Ending, JobKind, TokenOf, Pieces, OpenCall, Taken, Plain}
+use Rattle.rayon_machine_orders.proofs.Words.{Token, Place, AddToFifo, BeginHere, BeginTask, DealPieces, JoinPop, JoinTakeCast, JoinProbe, SecondSide, LocalPop, LocalTakeCast, LookQueue, PickVictim, PopIdle, PopInjected, PopWorking, PushForAll, PushJob, PushToken, Run, StealFrom, TakeCastIdle}
+use Rattle.rayon_machine_orders.proofs.Words.{TakeCastWorking, TakeFromFifo, YieldPick, YieldPop, YieldPopInjected, YieldSteal, YieldTakeCast, EnterAbove as Enter, Act, LookInj, LookOwn, PopInj, PopOwn, PushCast, PushInj, PushOwn, Steal, Seen, Task, Event, Go, From, Refuse, Miss, End, Spawn}
+use Rattle.rayon_machine_orders.proofs.Words.{Fifo, Cast, Install, Join, OpenScope, IntoSpawn, IntoFifo, IntoCast, Broadcast, Yield, YieldLocal, EndPool, PoolShape, Scope, act_of, is_free, is_member, is_refusable, is_taken, next_of, own_index, own_pool, count_book, plan_book, plan_job}
+use Rattle.rayon_machine_orders.proofs.Words.{plan_pool, taken_number, Counts, Part, Pool, Seat, Shape, Stack, World, but_first, but_last, casts_with, counts_at, effect, head_of, is_open, last_of, or_none, own_left, own_of, pop_injector, popped, take_cast, taken_as, target_call, target_pool}
+use Rattle.rayon_machine_orders.proofs.Words.{target_worker, after_choice, after_end, after_enter, after_join, after_miss, after_move, after_send, after_spawn, after_yield, can_miss, holds, is_pool, part_of, put, put_seat, step, Hands, Pushes, Takes, deque_shift, injector_shift, cast_shift}
+use Rattle.rayon_machine_orders.proofs.Words.{Shifts}
+use Rattle.rayon_machine_places.specs.declared.act.Act.TheVariants.{TakeCast}
+use Rattle.rayon_machine_orders.specs.Lists.{Shift, in_hand, ShiftsAll, ListLaw}
 use Rattle.rayon_machine_laws.proofs.Frame.{fifo_cases, if_cond, if_some_map, into_cases, into_cast_cases, into_fifo_cases, out_sees, put_same, same_index, stack_mine, undo_sees}
 use Rattle.rayon_machine_laws.proofs.Lists.{SameJobs, quiet_same}
 use Rattle.rayon_machine_laws.proofs.Placed.{outcome_of}
 use Rattle.rayon_machine_laws.proofs.Ties.{job_at, outcome, result}
 use Rattle.rayon_machine_laws.proofs.ClaimRuns.{place_part}
-use Rattle.rayon_machine_orders.proofs.CallSteps.{go_all, is_act}
+use Rattle.rayon_machine_orders.proofs.CallSteps.{go_all}
+use Rattle.rayon_machine_orders.proofs.EventCases.{is_act}
 
 -- a list of one worker's or of one pool's is shifted, and no other
 seat_shift : (w : World) (a c : ℕ) (s : Seat) (o : ℕ → Shift) → Shifts (w.seat a c).own (Some (o a)) s.own → (p i : ℕ) → Shifts (w.seat p i).own (if (p == a) && (i == c) then Some (o p) else None) (put_seat w.seat a c s p i).own
@@ -403,8 +383,7 @@ choice_stays w q s _ v = tt
 miss_stays : (w : World) (q : Party) (s : Stack) (x : Place) → IfSome (after_miss w q s x) (Stay w)
 miss_stays w (Worker p i) s (StealFrom k n) = if_cond (Stay w) (can_miss w p k.victim) _ (λ b. record { seat = λ p i. refl; injector = λ p. refl; casts = λ p i. refl })
 miss_stays w (Worker p i) s (YieldSteal v n) = if_cond (Stay w) (can_miss w p v) _ (λ b. record { seat = λ p i. refl; injector = λ p. refl; casts = λ p i. refl })
-miss_stays w (Worker p i) s _ = tt
-miss_stays w (Caller c) s _ = tt
+miss_stays w _ s _ = tt
 
 end_stays : (w : World) (q : Party) (d : Ending) (s : Stack) (x : Place) → IfSome (after_end w q d s x) (Stay w)
 end_stays w q d s (Run t k) = record { seat = λ p i. refl; injector = λ p. refl; casts = λ p i. refl }

@@ -3,41 +3,15 @@
 -- That is `always_honest`: no worker of such a pool ever chooses a victim. What a party has taken and not begun is the
 -- table `taken`. Between the pop of a job and its Begin the worker makes neither a push nor a pop.
 use Rattle.rayon_machine_places.specs.declared.place.Plan.TheVariants.{Detach, Here, Send, Fork, Feed, Open, Enter, Gather}
-use Rattle.rayon_machine_places.specs.declared.place.Plan.{Plan}
-use Rattle.rayon_machine_places.specs.declared.place.Count.TheVariants.{OfPool, OfScope, OfCast}
-use Rattle.rayon_machine_places.specs.declared.place.Count.{Count}
-use Rattle.rayon_machine_places.specs.declared.place.Share.{Share}
-use Rattle.rayon_machine_places.specs.declared.place.Pieces.{Pieces}
-use Rattle.rayon_machine_places.specs.declared.place.Gathering.{Gathering}
-use Rattle.std.proofs.Common.{rules, arith, refl, sym, ◌∙◌, ap, subst}
-use Rattle.std.specs.Prelude.{ℕ, Bool, true, false, ◌&&◌, ◌+◌, ◌==◌, nat_lt, if◌then◌else◌, Option, Some, None, List, [], ◌∷◌, ◌≡◌, IfSome}
-use Rattle.std.proofs.lemmas.Bool.{eq-eqb}
-use Rattle.rayon_machine_places.specs.declared.place.Party.{Party}
-use Rattle.rayon_machine_places.specs.declared.place.Party.TheVariants.{Worker, Caller}
-use Rattle.rayon_machine_places.specs.declared.place.Ending.{Ending}
-use Rattle.rayon_machine_places.specs.declared.place.Ending.TheVariants.{Fine, Fault}
-use Rattle.rayon_machine_places.specs.declared.place.JobKind.{JobKind}
-use Rattle.rayon_machine_places.specs.declared.place.JobKind.TheVariants.{Detached, Stored, Direct, TokenOf, Scoped, BodyOf, PieceOf, WholeOf}
-use Rattle.rayon_machine_places.specs.declared.place.Target.TheVariants.{Termination, Answer}
-use Rattle.rayon_machine_places.specs.declared.place.Latch.{Latch}
-use Rattle.rayon_machine_places.specs.declared.place.Latch.TheVariants.{Terminate, OfCall}
-use Rattle.rayon_machine_places.specs.declared.place.Then.{Then}
-use Rattle.rayon_machine_places.specs.declared.place.Then.TheVariants.{BeginFound, LeaveWait, Resume, Await, RunFirst, Answers, Missing, Ran, GiveBack, Called, Gathers}
-use Rattle.rayon_machine_places.specs.declared.place.Place.{Place}
-use Rattle.rayon_machine_places.specs.declared.place.Place.TheVariants.{ProbeWorking, TakeCastIdle, PickVictim, StealFrom, LeaveSearch, YieldPop, YieldTakeCast, YieldPick, YieldSteal, LocalPop, BeginTask, BeginHere, Run, RaiseCount, GrowCall, PushJob, LockToWake, WakeWorker, UnlockWoken, LowerCount, SetLatch, LockToSettle, WakeSettled, UnlockSettled, FirstSide, Free, Stopped, AddToFifo, PushToken, TakeFromFifo, PushForAll, GrowScope, OpenSlot, SetLockLatch, OpenForAll, RaiseForAll, LowerForAll, GrowCast, DealPieces}
-use Rattle.rayon_machine_places.specs.declared.place.Move.{Move}
-use Rattle.rayon_machine_places.specs.declared.place.Move.TheVariants.{Stay}
-use Rattle.rayon_machine_places.specs.declared.act.Seen.{Seen}
-use Rattle.rayon_machine_places.specs.declared.act.Seen.TheVariants.{Yes, Begun, Done, Handed, Task, Opened}
-use Rattle.rayon_machine_places.specs.declared.event.Event.{Event}
-use Rattle.rayon_machine_places.specs.declared.event.Event.TheVariants.{Go, From, Refuse, Miss, End, Spawn, Fifo, Install, Join, Yield, YieldLocal, EndPool, Cast, Scope as OpenScope, IntoSpawn, IntoFifo, IntoCast, Broadcast}
-use Rattle.rayon_machine_places.specs.declared.shape.PoolShape.{PoolShape}
+use Rattle.rayon_machine_orders.proofs.Words.{Plan, OfPool, OfScope, OfCast, Count, Share, Pieces, Gathering, rules, arith, refl, sym, ◌∙◌, ap, subst, ℕ, Bool, true, false, ◌&&◌, ◌+◌, ◌==◌, nat_lt, if◌then◌else◌, Option, Some, None, List, [], ◌∷◌, ◌≡◌, IfSome, eq-eqb, Party, Worker, Caller}
+use Rattle.rayon_machine_orders.proofs.Words.{Ending, Fine, Fault, JobKind, Detached, Stored, Direct, TokenOf, Scoped, BodyOf, PieceOf, WholeOf, Termination, Answer, Latch, Terminate, OfCall, Then, BeginFound, LeaveWait, Resume, Await, RunFirst, Answers, Missing, Ran, GiveBack, Called, Gathers}
+use Rattle.rayon_machine_orders.proofs.Words.{Place, ProbeWorking, TakeCastIdle, PickVictim, StealFrom, LeaveSearch, YieldPop, YieldTakeCast, YieldPick, YieldSteal, LocalPop, BeginTask, BeginHere, Run, RaiseCount, GrowCall, PushJob, LockToWake, WakeWorker, UnlockWoken, LowerCount, SetLatch}
+use Rattle.rayon_machine_orders.proofs.Words.{LockToSettle, WakeSettled, UnlockSettled, FirstSide, Free, Stopped, AddToFifo, PushToken, TakeFromFifo, PushForAll, GrowScope, OpenSlot, SetLockLatch, OpenForAll, RaiseForAll, LowerForAll, GrowCast, DealPieces, Move, Stay, Seen, Yes, Begun, Done}
+use Rattle.rayon_machine_orders.proofs.Words.{Handed, Task, Opened, Event, Go, From, Refuse, Miss, End, Spawn, Fifo, Install, Join, Yield, YieldLocal, EndPool, Cast, OpenScope, IntoSpawn, IntoFifo, IntoCast, Broadcast, PoolShape, Settling, same_party, own_pool, is_member, finish, walk, settle}
+use Rattle.rayon_machine_orders.proofs.Words.{after_set, act_of, next_of, goes_on, is_free, fresh, after_begin, taken_back, taken_number, count_book, plan_book, undo, after_push, withdraw, begin_feed, after_raise, after_slot, begin_cast, end_cast, ends_count, settle_count, Shape, Stack, World}
+use Rattle.rayon_machine_orders.proofs.Words.{Counts, Part, target_pool, target_worker, target_call, effect, put_stack, after_choice, after_refusal, can_miss, after_miss, after_close, after_end, is_pool, after_spawn, after_send, after_install, after_join, after_yield, after_end_pool, after_move}
+use Rattle.rayon_machine_orders.proofs.Words.{step, after_fifo, after_cast, after_scope, after_into, after_into_fifo, after_into_cast, after_broadcast, holds, IsRun, start, Feeding, Plain, Token, Taken}
 use Rattle.rayon_machine_places.specs.declared.place.Walk.{Walk}
-use Rattle.rayon_machine_places.specs.declared.place.Settling.{Settling}
-use Rattle.rayon_machine_places.specs.Places.{same_party, own_pool, is_member, finish, walk, settle, after_set, act_of, next_of, goes_on, is_free, fresh, after_begin, taken_back, taken_number, count_book, plan_book, undo, after_push, withdraw, begin_feed, after_raise, after_slot, begin_cast, end_cast, ends_count, settle_count}
-use Rattle.rayon_machine_places.specs.World.{Shape, Stack, World, Counts, Part, target_pool, target_worker, target_call, effect}
-use Rattle.rayon_machine_places.specs.Steps.{put_stack, after_choice, after_refusal, can_miss, after_miss, after_close, after_end, is_pool, after_spawn, after_send, after_install, after_join, after_yield, after_end_pool, after_move, step, after_fifo, after_cast, after_scope, after_into, after_into_fifo, after_into_cast, after_broadcast, holds}
-use Rattle.rayon_machine_places.specs.Runs.{IsRun, start}
 use Rattle.rayon_machine_laws.proofs.Attended.{aside_frames, step_shape}
 use Rattle.rayon_machine_laws.proofs.Asides.{steps_aside}
 use Rattle.rayon_machine_laws.proofs.Calm.{part_at, counts_seen, next_at, top_then}
@@ -47,9 +21,6 @@ use Rattle.rayon_machine_laws.proofs.Holding.{go_frames}
 use Rattle.rayon_machine_laws.proofs.Seats.{is_frame}
 use Rattle.rayon_machine_laws.proofs.Ties.{AllFrames, job_at, shape_at, outcome, result}
 use Rattle.rayon_machine_laws.proofs.Tops.{Tops, FramesOk}
-use Rattle.rayon_machine_places.specs.declared.place.Feeding.{Feeding}
-use Rattle.rayon_machine_places.specs.declared.place.Taken.TheVariants.{Plain, Token}
-use Rattle.rayon_machine_places.specs.declared.place.Taken.{Taken}
 
 -- the places at which a worker chooses a victim or steals
 abbrev pub is_thief : Place → Bool
@@ -110,14 +81,9 @@ finish_honest q (LeaveWait (Answer o f)) = refl
 finish_honest (Worker a b) (Await o) = refl
 finish_honest (Caller c) (Await o) = refl
 finish_honest q (RunFirst o a) = refl
-finish_honest q Resume = tt
-finish_honest q Called = tt
 finish_honest (Worker a b) (Gathers o) = refl
 finish_honest (Caller c) (Gathers o) = refl
-finish_honest q (Answers o f e) = tt
-finish_honest q (Missing o f) = tt
-finish_honest q (Ran t e) = tt
-finish_honest q (GiveBack m) = tt
+finish_honest q _ = tt
 
 settled_honest : (h : PoolShape) (q : Party) (s : Settling) → NoThief (after_set h q s s.latch)
 settled_honest h q s = settled_move NoThief h q s s.latch (λ k e. refl) (finish_honest q s.then)
@@ -138,28 +104,15 @@ withdraw_honest (Some c) n = (refl, refl)
 
 feed_honest : (k : Count) (f : Feeding) → is_thief (begin_feed k f) ≡ false
 feed_honest (OfPool p) f = refl
-feed_honest (OfScope c o) f = refl
-feed_honest (OfCast c o) f = refl
+feed_honest _ f = refl
 
 slot_honest : (n : Plan) → is_thief (after_slot n) ≡ false
 slot_honest (Detach p t) = refl
-slot_honest (Here p t) = refl
-slot_honest (Send o) = refl
-slot_honest (Fork o a) = refl
-slot_honest (Feed f) = refl
-slot_honest (Open o) = refl
-slot_honest (Enter e) = refl
-slot_honest (Gather g) = refl
+slot_honest _ = refl
 
 raise_honest : (n : Plan) → NoThief (after_raise n)
-raise_honest (Detach p t) = refl
-raise_honest (Here p t) = refl
-raise_honest (Send o) = refl
-raise_honest (Fork o a) = refl
 raise_honest (Feed f) = feed_honest f.count f
-raise_honest (Open o) = refl
-raise_honest (Enter e) = refl
-raise_honest (Gather g) = refl
+raise_honest _ = refl
 
 raised_honest : (g : PoolShape) (q : Party) (n : Plan) (e : Seen) → NoThief (next_of g q (RaiseCount n) e)
 raised_honest g q n Done = raise_honest n
@@ -176,8 +129,7 @@ pushed_honest g q n v _ = (withdraw_honest (plan_book n) n).0
 -- where a broadcast goes
 cast_honest : (k : Count) (c : Pieces) → (is_thief (begin_cast k c) ≡ false) × ((is_thief (end_cast k c) ≡ false) × (taken (end_cast k c) ≡ None))
 cast_honest (OfPool p) c = (refl, (refl, refl))
-cast_honest (OfScope m o) c = (refl, (refl, refl))
-cast_honest (OfCast m o) c = (refl, (refl, refl))
+cast_honest _ c = (refl, (refl, refl))
 
 ends_honest : (k : Count) → is_thief (ends_count k) ≡ false
 ends_honest (OfPool p) = refl
@@ -299,8 +251,7 @@ from_turn w q _ fs v e = tt
 miss_turn : (w : World) (q : Party) (x : Place) (fs : List Place) → w.stack q ≡ record { top = x; below = fs } → IfSome (after_miss w q (record { top = x; below = fs }) x) (Turns w)
 miss_turn w (Worker a b) (StealFrom k n) fs e = if_cond (Turns w) (can_miss w a k.victim) _ (λ z. thief_turn w (Worker a b) (StealFrom k n) fs _ e refl (refl, refl))
 miss_turn w (Worker a b) (YieldSteal v n) fs e = if_cond (Turns w) (can_miss w a v) _ (λ z. thief_turn w (Worker a b) (YieldSteal v n) fs _ e refl (refl, refl))
-miss_turn w (Worker a b) _ fs e = tt
-miss_turn w (Caller n) _ fs e = tt
+miss_turn w _ _ fs e = tt
 
 -- where a party stands after a refusal
 refused : (w : World) (q : Party) (x y : Place) (fs : List Place) → w.stack q ≡ record { top = x; below = fs } → (taken x ≡ None) × (is_stopped x ≡ false) → (is_thief y ≡ false) × (taken y ≡ None) → Turns w (record w { stack = put_stack w.stack q (record { top = y; below = fs }) })
@@ -326,10 +277,6 @@ goes_honest (ProbeWorking k) e m = (refl, refl)
 goes_honest _ e m = (cc, cc)
 
 close_honest : (t : ℕ) (k : JobKind) (d : Ending) (fs : List Place) → AllFrames fs → (is_thief (after_close t k d fs).top ≡ false) × (taken (after_close t k d fs).top ≡ None)
-close_honest t (Detached p) d fs a = (refl, refl)
-close_honest t (Stored c o) d fs a = (refl, refl)
-close_honest t (Scoped c o) d fs a = (refl, refl)
-close_honest t (PieceOf c o) d fs a = (refl, refl)
 close_honest t Direct d [] a = (refl, refl)
 close_honest t (TokenOf i b8) d [] a = (refl, refl)
 close_honest t (BodyOf c9 o9) d [] a = (refl, refl)
@@ -338,6 +285,7 @@ close_honest t Direct d (f ∷ fs) a = goes_honest f d (a.0)
 close_honest t (TokenOf i b8) d (f ∷ fs) a = goes_honest f d (a.0)
 close_honest t (BodyOf c9 o9) d (f ∷ fs) a = goes_honest f d (a.0)
 close_honest t (WholeOf c9 o9) d (f ∷ fs) a = goes_honest f d (a.0)
+close_honest t _ d fs a = (refl, refl)
 
 end_turn : (w : World) (q : Party) (d : Ending) (x : Place) (fs : List Place) → w.stack q ≡ record { top = x; below = fs } → AllFrames fs → IfSome (after_end w q d (record { top = x; below = fs }) x) (Turns w)
 end_turn w q d (Run t k) fs e a = record { party = q; to = after_close t k d fs; stack = λ r. refl; seat = λ p i. refl; empty = at_place w q (Run t k) fs (λ y. (taken y ≡ None) × (is_stopped y ≡ false)) e (refl, refl); honest = λ h. close_honest t k d fs a }
@@ -385,7 +333,8 @@ yield_turn w (Worker a b) x m = if_cond (Turns w) (is_free ((w.stack (Worker a b
 yield_turn w (Caller n) x m = tt
 
 give_turn : (w : World) (q : Party) (p : ℕ) → IfSome (after_end_pool w q p (w.stack q)) (Turns w)
-give_turn w q p = if_cond (Turns w) (is_free ((w.stack q).top) && (is_pool w.shape p && (w.pool p).held)) _ (λ b. record { party = q; to = _; stack = λ r. refl; seat = λ p i. refl; empty = free_empty (w.stack q).top ((and_parts (is_free ((w.stack q).top)) (is_pool w.shape p && (w.pool p).held) b).0); honest = λ h. (refl, refl) })
+give_turn w q p = if_cond (Turns w) (is_free ((w.stack q).top) && (is_pool w.shape p && (w.pool p).held)) _
+    (λ b. record { party = q; to = _; stack = λ r. refl; seat = λ p i. refl; empty = free_empty (w.stack q).top ((and_parts (is_free ((w.stack q).top)) (is_pool w.shape p && (w.pool p).held) b).0); honest = λ h. (refl, refl) })
 
 pub turns : (w : World) → FramesOk w → (e : Event) → is_act e ≡ false → IfSome (step w e) (Turns w)
 turns w fr (Go q) z = cc
@@ -417,7 +366,8 @@ turn_target p i (TakeCastIdle k) e = refl
 turn_target p i YieldTakeCast e = refl
 turn_target p i _ e = cc
 
-honest_put : (w : World) (q : Party) (p i : ℕ) (b : Bool) → same_party (Worker p i) q ≡ b → (w.shape.pool p).workers ≡ 1 → FramesOk w → Honest p w → IfSome (outcome w q (w.stack q)) (λ r. is_thief ((if b then after_move (next_at w q (w.stack q) (r.0)) (w.stack q).below else w.stack (Worker p i)).top) ≡ false)
+honest_put : (w : World) (q : Party) (p i : ℕ) (b : Bool) → same_party (Worker p i) q ≡ b → (w.shape.pool p).workers ≡ 1 → FramesOk w → Honest p w → IfSome (outcome w q (w.stack q))
+    (λ r. is_thief ((if b then after_move (next_at w q (w.stack q) (r.0)) (w.stack q).below else w.stack (Worker p i)).top) ≡ false)
 honest_put w q p i true eb one fr ok =
     let F : Party → Type 0 = λ z. IfSome (outcome w z (w.stack z)) (λ r. is_thief ((after_move (next_at w z (w.stack z) (r.0)) (w.stack z).below).top) ≡ false) in
     let me : Party = Worker p i in

@@ -1,30 +1,11 @@
 -- wrong machines of looks and numbers: replays, computed by the kernel, in which a steal misses that cannot, a push is
 -- not told or told wrong, or the pieces of a broadcast have their numbers the other way round
 use Rattle.std.proofs.Common.{arith, refl, sym, ◌∙◌, ap}
-use Rattle.std.specs.Prelude.{ℕ, Bool, true, false, ◌-◌, Option, Some, None, List, [], ◌∷◌, ◌++◌, ◌≡◌, IfSome}
-use Rattle.rayon_machine_places.specs.declared.place.Party.{Party}
-use Rattle.rayon_machine_places.specs.declared.place.Party.TheVariants.{Worker}
-use Rattle.rayon_machine_places.specs.declared.place.Count.TheVariants.{OfCast}
-use Rattle.rayon_machine_places.specs.declared.place.Pieces.{Pieces}
-use Rattle.rayon_machine_places.specs.declared.place.Plan.TheVariants.{Fork}
-use Rattle.rayon_machine_places.specs.declared.place.Then.TheVariants.{RunFirst}
-use Rattle.rayon_machine_places.specs.declared.place.Place.{Place}
-use Rattle.rayon_machine_places.specs.declared.place.Place.TheVariants.{GrowCall, LookQueue, PushJob, StealFrom}
-use Rattle.rayon_machine_places.specs.declared.place.Move.{Move}
-use Rattle.rayon_machine_places.specs.declared.place.Move.TheVariants.{Stay}
-use Rattle.rayon_machine_places.specs.declared.act.Act.{Act}
-use Rattle.rayon_machine_places.specs.declared.act.Act.TheVariants.{Idle, News, PushCast, PushInj, PushOwn, Steal}
-use Rattle.rayon_machine_places.specs.declared.act.Seen.{Seen}
-use Rattle.rayon_machine_places.specs.declared.act.Seen.TheVariants.{Done, Missing}
-use Rattle.rayon_machine_places.specs.declared.event.Event.{Event}
-use Rattle.rayon_machine_places.specs.declared.event.Event.TheVariants.{Go, Miss, Spawn, Join, Broadcast}
-use Rattle.rayon_machine_places.specs.declared.state.Slot.TheVariants.{Open as IsOpen}
-use Rattle.rayon_machine_places.specs.declared.shape.PoolShape.{PoolShape}
-use Rattle.rayon_machine_places.specs.Places.{finish, act_of, next_of}
-use Rattle.rayon_machine_places.specs.World.{Stack, World}
-use Rattle.rayon_machine_places.specs.Steps.{put_pieces, seeing, step}
-use Rattle.rayon_machine_orders.specs.Looks.{MissesOne, is_look, flag_of, queue_of, HasLooked, TellsSo, is_empty, pool_of}
-use Rattle.rayon_machine_orders.specs.Numbers.{DealtFrom}
+use Rattle.rayon_machine_orders.proofs.Words.{ℕ, Bool, true, false, ◌-◌, Option, Some, None, List, [], ◌∷◌, ◌++◌, ◌≡◌, IfSome, Party, Worker, OfCast, Pieces, Fork, RunFirst, Place, GrowCall, LookQueue, PushJob, StealFrom, Move, Stay, Act, Idle, News, PushCast, PushInj, PushOwn, Steal, Seen}
+use Rattle.rayon_machine_orders.proofs.Words.{Done, Event, Go, Miss, Spawn, Join, Broadcast, IsOpen, PoolShape, finish, act_of, next_of, Stack, World, put_pieces, step, MissesOne, is_look, flag_of, queue_of, TellsSo, is_empty, pool_of, DealtFrom}
+use Rattle.rayon_machine_places.specs.declared.act.Seen.TheVariants.{Missing}
+use Rattle.rayon_machine_places.specs.Steps.{seeing}
+use Rattle.rayon_machine_orders.specs.Looks.{HasLooked}
 use Rattle.rayon_machine_orders.proofs.WrongMachines.{Machine, leading, making, right, run_by, step_by, times_go, two, a, b, c}
 use Rattle.rayon_machine_orders.proofs.CallTeeth.{running}
 use Rattle.rayon_machine_orders.proofs.ListTeeth.{stolen_run}

@@ -3,49 +3,17 @@
 --
 -- The laws are `miss_law`, `tell_law` and `number_law`.
 use Rattle.std.proofs.Common.{rules, arith, refl, sym, ◌∙◌, ap, subst}
-use Rattle.std.specs.Prelude.{ℕ, nat_lt, Option, Bool, true, false, ◌+◌, ◌-◌, ◌<◌, if◌then◌else◌, Some, None, List, [], ◌∷◌, ◌≡◌, IfSome}
-use Rattle.std.proofs.lemmas.Bool.{eqb-true}
-use Rattle.rayon_machine_places.specs.declared.shape.Order.{Order}
-use Rattle.rayon_machine_places.specs.declared.shape.Order.TheVariants.{NewestFirst, OldestFirst}
-use Rattle.rayon_machine_places.specs.declared.place.Party.{Party}
-use Rattle.rayon_machine_places.specs.declared.place.Party.TheVariants.{Worker, Caller}
-use Rattle.rayon_machine_places.specs.declared.place.Count.{Count}
-use Rattle.rayon_machine_places.specs.declared.place.Count.TheVariants.{OfPool, OfScope, OfCast}
-use Rattle.rayon_machine_places.specs.declared.place.Pieces.{Pieces}
-use Rattle.rayon_machine_places.specs.declared.place.Plan.{Plan}
-use Rattle.rayon_machine_places.specs.declared.place.Plan.TheVariants.{Feed}
-use Rattle.rayon_machine_places.specs.declared.place.Feeding.{Feeding}
-use Rattle.rayon_machine_places.specs.declared.place.Gathering.{Gathering}
-use Rattle.rayon_machine_places.specs.declared.shape.PoolShape.{PoolShape}
-use Rattle.rayon_machine_places.specs.declared.place.Mark.{Mark as Marking}
-use Rattle.rayon_machine_places.specs.declared.place.Mark.TheVariants.{Numbered, Dealt}
-use Rattle.rayon_machine_places.specs.declared.place.Taken.TheVariants.{Plain, Token}
-use Rattle.rayon_machine_places.specs.declared.place.Place.{Place}
-use Rattle.rayon_machine_places.specs.declared.place.Place.TheVariants.{BeginTask, DealPieces, LookForToken, LookQueue, OpenForAll, OpenSlot, PushForAll, PushJob, PushToken, StealFrom, YieldSteal}
-use Rattle.rayon_machine_places.specs.declared.place.Place.TheVariants.{AddToFifo, AnnounceSelf, LeaveSearch, LowerCount, LowerForAll, PopInjected, ProbeIdle, ProbeWorking, RaiseCount, RaiseForAll, SetLatch, TakeFromFifo, TellNews, UnlockSettled, UnlockWoken}
-use Rattle.rayon_machine_places.specs.declared.place.Move.{Move}
-use Rattle.rayon_machine_places.specs.declared.place.Rounds.{Rounds}
-use Rattle.rayon_machine_places.specs.declared.place.Rounds.TheVariants.{Failed, Announced}
-use Rattle.rayon_machine_places.specs.declared.place.Settling.{Settling}
-use Rattle.rayon_machine_places.specs.declared.place.Share.{Share}
-use Rattle.rayon_machine_places.specs.declared.place.Taken.{Taken}
-use Rattle.rayon_machine_places.specs.declared.place.Target.TheVariants.{Termination, Answer}
-use Rattle.rayon_machine_places.specs.declared.place.Then.{Then}
-use Rattle.rayon_machine_places.specs.declared.place.Then.TheVariants.{BeginFound, LeaveWait, Resume, Await, RunFirst, Gathers}
-use Rattle.rayon_machine_places.specs.declared.place.Wait.{Wait}
-use Rattle.rayon_machine_places.specs.declared.act.Act.{Act}
-use Rattle.rayon_machine_places.specs.declared.act.Act.TheVariants.{FifoOut, LookInj, LookOwn, News, PushCast, PushInj, PushOwn, Slot, SlotAll, Steal}
-use Rattle.rayon_machine_places.specs.declared.act.Seen.{Seen}
-use Rattle.rayon_machine_places.specs.declared.act.Seen.TheVariants.{Begun, Done, Handed, Task, Wakes, Yes}
-use Rattle.rayon_machine_places.specs.declared.event.Event.TheVariants.{Go}
-use Rattle.rayon_machine_places.specs.declared.state.Job.{Job}
-use Rattle.rayon_machine_places.specs.declared.state.Slot.TheVariants.{Open as IsOpen}
-use Rattle.rayon_machine_places.specs.Places.{act_of, after_begin, after_failure, after_found, after_news, after_raise, after_set, after_slot, begin_cast, begin_feed, count_book, count_call, end_cast, ends_count, finish, is_member, next_of, own_pool, plan_book, plan_count, plan_job, plan_pool}
-use Rattle.rayon_machine_places.specs.Places.{set_call, settle_count, taken_back, taken_number, walk, withdraw}
-use Rattle.rayon_machine_places.specs.World.{Counts, Outcome, Part, Shape, Stack, World, effect, empty_seen, is_open, target_call, target_pool, target_worker}
-use Rattle.rayon_machine_places.specs.Steps.{after, after_miss, after_move, can_miss, has_one, is_newest_first, jobs_after, mark_pieces, marked, put, step}
-use Rattle.rayon_machine_orders.specs.Looks.{MissesOne, MissLaw, is_look, flag_of, queue_of, pool_of, is_empty, TellsSo, TellLaw}
-use Rattle.rayon_machine_orders.specs.Numbers.{DealtFrom, OpensSo, NumberLaw}
+use Rattle.rayon_machine_orders.proofs.Words.{ℕ, nat_lt, Option, Bool, true, false, ◌+◌, ◌-◌, ◌<◌, if◌then◌else◌, Some, None, List, [], ◌∷◌, ◌≡◌, IfSome, eqb-true, Order, NewestFirst, OldestFirst, Party, Worker, Caller, Count, OfPool, OfScope, OfCast, Pieces, Plan, Feed, Feeding, Gathering}
+use Rattle.rayon_machine_orders.proofs.Words.{PoolShape, Marking, Numbered, Dealt, Plain, Token, Place, BeginTask, DealPieces, LookForToken, LookQueue, OpenForAll, OpenSlot, PushForAll, PushJob, PushToken, StealFrom, YieldSteal, AddToFifo, AnnounceSelf, LeaveSearch, LowerCount, LowerForAll}
+use Rattle.rayon_machine_orders.proofs.Words.{PopInjected, ProbeIdle, ProbeWorking, RaiseCount, RaiseForAll, SetLatch, TakeFromFifo, TellNews, UnlockSettled, UnlockWoken, Move, Rounds, Failed, Announced, Settling, Share, Taken, Termination, Answer, Then, BeginFound, LeaveWait, Resume, Await}
+use Rattle.rayon_machine_orders.proofs.Words.{RunFirst, Gathers, Wait, Act, FifoOut, LookInj, LookOwn, News, PushCast, PushInj, PushOwn, Steal, Seen, Begun, Done, Handed, Task, Wakes, Yes, Go, Job, IsOpen, act_of, after_begin, after_failure, after_found, after_news, after_raise, after_set}
+use Rattle.rayon_machine_orders.proofs.Words.{after_slot, begin_cast, begin_feed, count_book, count_call, end_cast, ends_count, finish, is_member, next_of, own_pool, plan_book, plan_count, plan_job, plan_pool, set_call, settle_count, taken_back, taken_number, walk, withdraw, Counts, Outcome}
+use Rattle.rayon_machine_orders.proofs.Words.{Part, Shape, Stack, World, effect, is_open, target_call, target_pool, target_worker, after, after_miss, after_move, can_miss, jobs_after, mark_pieces, marked, put, step, MissesOne, is_look, flag_of, queue_of, pool_of, is_empty, TellsSo, DealtFrom}
+use Rattle.rayon_machine_places.specs.declared.act.Act.TheVariants.{Slot, SlotAll}
+use Rattle.rayon_machine_places.specs.World.{empty_seen}
+use Rattle.rayon_machine_places.specs.Steps.{has_one, is_newest_first}
+use Rattle.rayon_machine_orders.specs.Looks.{MissLaw, TellLaw}
+use Rattle.rayon_machine_orders.specs.Numbers.{OpensSo, NumberLaw}
 use Rattle.rayon_machine_laws.proofs.Frame.{and_parts, if_cond, if_some_all, if_some_and, if_some_map, piece_in, piece_new, put_new, stack_mine}
 use Rattle.rayon_machine_laws.proofs.Calm.{counts_seen, next_at, part_at, top_then}
 use Rattle.rayon_machine_laws.proofs.ClaimMakes.{always_calls}
@@ -78,8 +46,7 @@ misses w q s p v l a b d e = by l d (and_parts (is_newest_first (w.shape.pool p)
 missed : (w : World) (q : Party) (x : Place) → (w.stack q).top ≡ x → IfSome (after_miss w q (w.stack q) x) (λ v. MissesOne w q)
 missed w (Worker p i) (StealFrom k n) e = if_cond (λ v. MissesOne w (Worker p i)) (can_miss w p k.victim) _ (misses w (Worker p i) (w.stack (Worker p i)) p k.victim ((w.seat p k.victim).own) refl (ap (act_of (Worker p i)) e) refl)
 missed w (Worker p i) (YieldSteal v n) e = if_cond (λ u. MissesOne w (Worker p i)) (can_miss w p v) _ (misses w (Worker p i) (w.stack (Worker p i)) p v ((w.seat p v).own) refl (ap (act_of (Worker p i)) e) refl)
-missed w (Worker p i) _ e = tt
-missed w (Caller c) _ e = tt
+missed w _ _ e = tt
 
 pub miss_law : MissLaw
 miss_law shape before q w v run s = let k : IfSome (Some v) (λ u. MissesOne w q) = subst (λ o. IfSome o (λ u. MissesOne w q)) s (missed w q ((w.stack q).top) refl) in k
@@ -172,8 +139,7 @@ set_unflagged c (Caller n) t = refl
 
 feed_unflagged : (k : Count) (f : Feeding) → flag_of (begin_feed k f) ≡ None
 feed_unflagged (OfPool p) f = refl
-feed_unflagged (OfScope c o) f = refl
-feed_unflagged (OfCast c o) f = refl
+feed_unflagged _ f = refl
 
 slot_unflagged : (n : Plan) → flag_of (after_slot n) ≡ None
 slot_unflagged (Feed f) = refl
@@ -343,9 +309,8 @@ all_opens w q c fs = if_cond (λ r. OpensSo w (SlotAll c) (world_by w q (SlotAll
     (λ o. (λ i l. numbered c (Numbered (w.call (count_call c.count)).slots) (put w.job 0 (w.job 0)) ((w.call (count_call c.count)).slots) i (λ j t. refl) l, ap (λ k. k.slots) (put_new w.call (count_call c.count) _)))
 
 deal_opens : (w v : World) (c : Pieces) (k : Count) (f : ℕ → Job) → ((t : ℕ) → v.job t ≡ mark_pieces c Dealt f t) → DealtFrom v c k
-deal_opens w v c (OfPool p) f e = tt
-deal_opens w v c (OfScope n o) f e = tt
 deal_opens w v c (OfCast n o) f e = λ i l. ap (λ j. j.slot) (e (c.first + i)) ∙ numbered c Dealt f 0 i (λ j t. ap IsOpen (omega arith)) l
+deal_opens w v c _ f e = tt
 
 deals : (w : World) (q : Party) (g : Gathering) (fs : List Place) → IfSome (outcome_of w q (PushCast g.pieces)) (λ r. OpensSo w (PushCast g.pieces) (world_by w q (PushCast g.pieces) (DealPieces g) fs r))
 deals w q g fs = if_some_map (λ r. r.0 ≡ Done) (λ r. OpensSo w (PushCast g.pieces) (world_by w q (PushCast g.pieces) (DealPieces g) fs r)) done (outcome_of w q (PushCast g.pieces)) refl
@@ -355,9 +320,8 @@ deals w q g fs = if_some_map (λ r. r.0 ≡ Done) (λ r. OpensSo w (PushCast g.p
 
 -- a broadcast that waits for nothing has no count of its own
 known_opens : (w v : World) (c : Pieces) (k : Count) (p : ℕ) → KnownCount w k p → DealtFrom v c k
-known_opens w v c (OfPool r) p s = tt
-known_opens w v c (OfScope n o) p s = tt
 known_opens w v c (OfCast n o) p s = absurd s
+known_opens w v c _ p s = tt
 
 cast_opens : (w : World) (q : Party) (c : Pieces) (fs : List Place) → KnownCount w c.count c.pool → IfSome (outcome_of w q (PushCast c)) (λ r. OpensSo w (PushCast c) (world_by w q (PushCast c) (PushForAll c) fs r))
 cast_opens w q c fs s = if_some_all (λ r. OpensSo w (PushCast c) (world_by w q (PushCast c) (PushForAll c) fs r)) (λ r. known_opens w (world_by w q (PushCast c) (PushForAll c) fs r) c c.count c.pool s) (outcome_of w q (PushCast c))

@@ -1,17 +1,7 @@
 -- wrong machines of events: replays, computed by the kernel, in which an event makes another job than it names
 use Rattle.std.proofs.Common.{arith, refl, sym, ◌∙◌, ap}
-use Rattle.std.specs.Prelude.{ℕ, ◌-◌, Option, Some, None, List, [], ◌∷◌, ◌++◌, ◌≡◌, IfSome, slice_get}
-use Rattle.rayon_machine_places.specs.declared.place.Party.{Party}
-use Rattle.rayon_machine_places.specs.declared.place.Ending.TheVariants.{Fine}
-use Rattle.rayon_machine_places.specs.declared.place.JobKind.TheVariants.{Detached, Scoped}
-use Rattle.rayon_machine_places.specs.declared.event.Event.{Event}
-use Rattle.rayon_machine_places.specs.declared.event.Event.TheVariants.{End, Spawn, Scope as OpenScope, IntoSpawn}
-use Rattle.rayon_machine_places.specs.declared.state.Whereabouts.TheVariants.{InDeque}
-use Rattle.rayon_machine_places.specs.declared.state.Letter.TheVariants.{Set as IsSet}
-use Rattle.rayon_machine_places.specs.declared.state.Scope.{Scope}
-use Rattle.rayon_machine_places.specs.World.{World}
-use Rattle.rayon_machine_places.specs.Steps.{after_spawn, step}
-use Rattle.rayon_machine_orders.specs.Makes.{kind_made, pool_made, scopes_after, MakesSo}
+use Rattle.rayon_machine_orders.proofs.Words.{ℕ, ◌-◌, Option, Some, None, List, [], ◌∷◌, ◌++◌, ◌≡◌, IfSome, slice_get, Party, Fine, Detached, Scoped, Event, End, Spawn, OpenScope, IntoSpawn, InDeque, IsSet, Scope, World, after_spawn, step, scopes_after, MakesSo}
+use Rattle.rayon_machine_orders.specs.Makes.{kind_made, pool_made}
 use Rattle.rayon_machine_orders.proofs.WrongMachines.{making, right, run_by, step_by, times_go, two, b, c}
 use Rattle.rayon_machine_orders.proofs.CallTeeth.{running}
 

@@ -2,29 +2,13 @@
 --
 -- The law is `make_law`.
 use Rattle.std.proofs.Common.{arith, refl, sym, ◌∙◌, ap, subst, inl, inr}
-use Rattle.std.specs.Prelude.{ℕ, Bool, true, false, ◌&&◌, ◌+◌, ◌-◌, ◌==◌, ◌≤◌, ◌<◌, nat_lt, if◌then◌else◌, Option, Some, None, ◌≡◌, IfSome, slice_get}
-use Rattle.std.proofs.lemmas.Bool.{eqb-true, eq-eqb, lt-ltb, le-ltb, ltb-true, ltb-false}
-use Rattle.std.proofs.Math.Dec.{ltb}
-use Rattle.rayon_machine_places.specs.declared.place.Party.{Party}
-use Rattle.rayon_machine_places.specs.declared.place.Party.TheVariants.{Worker, Caller}
-use Rattle.rayon_machine_places.specs.declared.place.Ending.{Ending}
-use Rattle.rayon_machine_places.specs.declared.place.JobKind.TheVariants.{Detached, Stored, Direct, Scoped, BodyOf, PieceOf, WholeOf, TokenOf}
-use Rattle.rayon_machine_places.specs.declared.place.Count.{Count}
-use Rattle.rayon_machine_places.specs.declared.place.Count.TheVariants.{OfPool, OfScope, OfCast}
-use Rattle.rayon_machine_places.specs.declared.place.Pieces.{Pieces}
-use Rattle.rayon_machine_places.specs.declared.place.Place.{Place}
-use Rattle.rayon_machine_places.specs.declared.place.Place.TheVariants.{PickVictim, StealFrom, YieldPop, YieldPick, YieldSteal, LocalPop, Run}
-use Rattle.rayon_machine_places.specs.declared.act.Act.{Act}
-use Rattle.rayon_machine_places.specs.declared.event.Event.{Event}
-use Rattle.rayon_machine_places.specs.declared.event.Event.TheVariants.{Go, From, Refuse, Miss, End, Spawn, Fifo, Cast, Install, Join, Scope as OpenScope, IntoSpawn, IntoFifo, IntoCast, Broadcast, Yield, YieldLocal, EndPool}
-use Rattle.rayon_machine_places.specs.declared.state.Job.{Job}
-use Rattle.rayon_machine_places.specs.declared.state.Scope.{Scope}
-use Rattle.rayon_machine_places.specs.Places.{own_pool, is_member, is_free, is_refusable, count_kind, count_book, act_of}
-use Rattle.rayon_machine_places.specs.World.{Stack, World, target_pool, target_worker, target_call}
-use Rattle.rayon_machine_places.specs.Steps.{put, put_pieces, new_job, new_piece, new_whole, is_pool, holds, can_miss, after_choice, after_miss, after_end, after_spawn, after_feed}
-use Rattle.rayon_machine_places.specs.Steps.{after_fifo, after_deal, after_gather, after_broadcast, after_send, after_join, after_scope, after_enter, after_enter_fifo, after_into, after_into_fifo, after_into_cast, after_yield, step}
-use Rattle.rayon_machine_orders.specs.Calls.{fed_jobs, scope_pool}
-use Rattle.rayon_machine_orders.specs.Makes.{scope_kind, scope_list, jobs_made, calls_made, scopes_after, IsMadeSo, MakesSo, MakeLaw}
+use Rattle.rayon_machine_orders.proofs.Words.{ℕ, Bool, true, false, ◌&&◌, ◌+◌, ◌-◌, ◌==◌, ◌≤◌, ◌<◌, nat_lt, if◌then◌else◌, Option, Some, None, ◌≡◌, IfSome, slice_get, eqb-true, eq-eqb, lt-ltb, ltb-true, ltb-false, ltb, Party, Worker, Caller, Ending, Detached, Stored, Direct, Scoped, BodyOf}
+use Rattle.rayon_machine_orders.proofs.Words.{PieceOf, WholeOf, TokenOf, Count, OfPool, OfScope, OfCast, Pieces, Place, PickVictim, StealFrom, YieldPop, YieldPick, YieldSteal, LocalPop, Run, Act, Event, Go, From, Refuse, Miss, End, Spawn, Fifo, Cast, Install, Join, OpenScope, IntoSpawn}
+use Rattle.rayon_machine_orders.proofs.Words.{IntoFifo, IntoCast, Broadcast, Yield, YieldLocal, EndPool, Job, Scope, own_pool, is_member, is_free, is_refusable, count_kind, count_book, act_of, Stack, World, target_pool, target_worker, target_call, put, put_pieces, new_job, new_piece, new_whole}
+use Rattle.rayon_machine_orders.proofs.Words.{is_pool, holds, can_miss, after_choice, after_miss, after_end, after_spawn, after_feed, after_fifo, after_deal, after_gather, after_broadcast, after_send, after_join, after_scope, after_enter, after_enter_fifo, after_into, after_into_fifo}
+use Rattle.rayon_machine_orders.proofs.Words.{after_into_cast, after_yield, step, fed_jobs, scope_pool, scope_list, scopes_after, MakesSo}
+use Rattle.std.proofs.lemmas.Bool.{le-ltb}
+use Rattle.rayon_machine_orders.specs.Makes.{scope_kind, jobs_made, calls_made, IsMadeSo, MakeLaw}
 use Rattle.rayon_machine_laws.proofs.Frame.{either, if_cond, if_some_all, if_some_map, acted_keeps, put_new, put_old, piece_new, piece_in, into_cases, into_cast_cases}
 use Rattle.rayon_machine_laws.proofs.Ties.{job_at, outcome}
 
@@ -259,8 +243,7 @@ choice_same w q s _ v = tt
 miss_same : (w : World) (q : Party) (s : Stack) (x : Place) → IfSome (after_miss w q s x) (Same w)
 miss_same w (Worker p i) s (StealFrom k n) = if_cond (Same w) (can_miss w p k.victim) _ (λ b. record { jobs = refl; calls = refl; scopes = refl })
 miss_same w (Worker p i) s (YieldSteal v n) = if_cond (Same w) (can_miss w p v) _ (λ b. record { jobs = refl; calls = refl; scopes = refl })
-miss_same w (Worker p i) s _ = tt
-miss_same w (Caller c) s _ = tt
+miss_same w _ s _ = tt
 
 end_same : (w : World) (q : Party) (d : Ending) (s : Stack) (x : Place) → IfSome (after_end w q d s x) (Same w)
 end_same w q d s (Run t k) = record { jobs = refl; calls = refl; scopes = refl }

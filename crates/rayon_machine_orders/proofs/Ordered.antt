@@ -1,16 +1,8 @@
 -- runs of one worker, computed by the kernel: the order of its jobs
 use Rattle.std.proofs.Common.{refl, inl, inr}
-use Rattle.std.specs.Prelude.{ℕ, zero, suc, false, Option, Some, None, List, [], ◌∷◌, ◌++◌, ◌≡◌}
-use Rattle.rayon_machine_places.specs.declared.shape.Order.{Order}
-use Rattle.rayon_machine_places.specs.declared.shape.Order.TheVariants.{NewestFirst, OldestFirst}
-use Rattle.rayon_machine_places.specs.declared.place.Party.{Party}
-use Rattle.rayon_machine_places.specs.declared.place.Party.TheVariants.{Worker, Caller}
-use Rattle.rayon_machine_places.specs.declared.place.Ending.TheVariants.{Fine}
-use Rattle.rayon_machine_places.specs.declared.event.Event.{Event}
-use Rattle.rayon_machine_places.specs.declared.event.Event.TheVariants.{Go, Refuse, End, Spawn, Fifo, YieldLocal}
-use Rattle.rayon_machine_places.specs.Runs.{start}
-use Rattle.rayon_machine_places.specs.World.{World}
-use Rattle.rayon_machine_orders.specs.Order.{Happening, Adds, Queues, Retakes, Begins, Redeems, happenings, begun_in, in_line, NoTree, Tree, walk, IsWalk, TokenList}
+use Rattle.rayon_machine_orders.proofs.Words.{ℕ, zero, suc, false, Option, Some, None, List, [], ◌∷◌, ◌++◌, ◌≡◌, Order, NewestFirst, OldestFirst, Party, Worker, Caller, Fine, Event, Go, Refuse, End, Spawn, Fifo, YieldLocal, start, World, Happening, Adds, Queues, Retakes, Begins, Redeems}
+use Rattle.rayon_machine_orders.proofs.Words.{happenings, begun_in, in_line, NoTree, Tree, IsWalk, TokenList}
+use Rattle.rayon_machine_orders.specs.Order.{walk}
 
 abbrev gos : Party → ℕ → List Event
 gos q zero = []
@@ -121,7 +113,8 @@ abbrev fifo_run : List Event
 fifo_run = Spawn c 0 ∷ gos c 4 ++ gos a 10 ++ feeds ++ fails ++ feeds ++ redeems ++ feeds ++ redeems ++ feeds ++ redeems ++ redeems
 
 -- the newest token comes first, and begins the oldest job
-in_order : happenings 0 (alone NewestFirst) fifo_run ≡ Begins 0 ∷ Queues None (Some 0) 1 ∷ Adds (Some 0) 2 ∷ Queues None (Some 0) 3 ∷ Retakes None ∷ Queues None (Some 0) 5 ∷ Adds (Some 0) 6 ∷ Redeems 6 None (Some 1) ∷ Queues None (Some 1) 7 ∷ Adds (Some 1) 8 ∷ Redeems 8 None (Some 5) ∷ Queues None (Some 5) 9 ∷ Adds (Some 5) 10 ∷ Redeems 10 None (Some 7) ∷ Redeems 2 None (Some 9) ∷ []
+in_order : happenings 0 (alone NewestFirst) fifo_run ≡ Begins 0 ∷ Queues None (Some 0) 1 ∷ Adds (Some 0) 2 ∷ Queues None (Some 0) 3 ∷ Retakes None ∷ Queues None (Some 0) 5 ∷ Adds (Some 0) 6 ∷ Redeems 6 None (Some 1) ∷ Queues None (Some 1) 7 ∷ Adds (Some 1) 8 ∷ Redeems 8 None
+    (Some 5) ∷ Queues None (Some 5) 9 ∷ Adds (Some 5) 10 ∷ Redeems 10 None (Some 7) ∷ Redeems 2 None (Some 9) ∷ []
 in_order = refl
 
 -- so the jobs begin level by level

@@ -13,36 +13,10 @@
 -- - `dealt_shares_wait_still`: `dealt_pieces_leave_the_shares_with_their_call` (there the number stays), at
 --   `Touched::dealing`.
 use Rattle.std.proofs.Common.{refl}
-use Rattle.std.specs.Prelude.{ℕ, true, false, ◌+◌, Option, Some, None, List, [], ◌∷◌, ◌++◌, ◌≡◌, IfSome}
-use Rattle.rayon_machine_places.specs.declared.place.Party.{Party}
-use Rattle.rayon_machine_places.specs.declared.place.Ending.{Ending}
-use Rattle.rayon_machine_places.specs.declared.place.Ending.TheVariants.{Fine, Fault}
-use Rattle.rayon_machine_places.specs.declared.place.JobKind.{JobKind}
-use Rattle.rayon_machine_places.specs.declared.place.JobKind.TheVariants.{PieceOf}
-use Rattle.rayon_machine_places.specs.declared.place.Count.TheVariants.{OfCast}
-use Rattle.rayon_machine_places.specs.declared.place.Mark.TheVariants.{Queued, Dealt}
-use Rattle.rayon_machine_places.specs.declared.place.Plan.TheVariants.{Gather}
-use Rattle.rayon_machine_places.specs.declared.place.Share.TheVariants.{OfJob}
-use Rattle.rayon_machine_places.specs.declared.place.Then.TheVariants.{Resume, Ran}
-use Rattle.rayon_machine_places.specs.declared.place.Place.{Place}
-use Rattle.rayon_machine_places.specs.declared.place.Place.TheVariants.{Free, Run, PushForAll, DealPieces, CloseForAll, LowerForAll, TakeResult, LowerCount, StorePiece}
-use Rattle.rayon_machine_places.specs.declared.place.Move.{Move}
-use Rattle.rayon_machine_places.specs.declared.place.Move.TheVariants.{Stay, Enter, Back, HandBack, Mark, HandAllBack}
-use Rattle.rayon_machine_places.specs.declared.act.Act.{Act}
-use Rattle.rayon_machine_places.specs.declared.act.Act.TheVariants.{PushCast, SlotUndoAll}
-use Rattle.rayon_machine_places.specs.declared.act.Seen.{Seen}
-use Rattle.rayon_machine_places.specs.declared.act.Seen.TheVariants.{Done, Yes}
-use Rattle.rayon_machine_places.specs.declared.event.Event.{Event}
-use Rattle.rayon_machine_places.specs.declared.event.Event.TheVariants.{Refuse, End, IntoCast, Broadcast}
-use Rattle.rayon_machine_places.specs.declared.state.Slot.TheVariants.{Closed, Open as IsOpen}
-use Rattle.rayon_machine_places.specs.declared.state.Whereabouts.TheVariants.{InCast, Over, HandedBack}
-use Rattle.rayon_machine_places.specs.declared.shape.PoolShape.{PoolShape}
-use Rattle.rayon_machine_places.specs.Places.{call_all, gather_all, set_call, act_of, next_of}
-use Rattle.rayon_machine_places.specs.World.{Shape, Stack, World, count_below, Counts, Part, Outcome, casts_with, target_job, effect}
-use Rattle.rayon_machine_places.specs.Steps.{put_stack, step}
-use Rattle.rayon_machine_laws.specs.Once.{one}
-use Rattle.rayon_machine_laws.specs.Shares.{shares}
-use Rattle.rayon_machine_laws.specs.Counted.{has_entry, keeps_own}
+use Rattle.rayon_machine_orders.proofs.Words.{ℕ, true, false, ◌+◌, Option, Some, None, List, [], ◌∷◌, ◌++◌, ◌≡◌, IfSome, Party, Ending, Fine, Fault, JobKind, PieceOf, OfCast, Queued, Dealt, Gather, OfJob, Resume, Ran, Place, Free, Run, PushForAll, DealPieces, CloseForAll, LowerForAll}
+use Rattle.rayon_machine_orders.proofs.Words.{TakeResult, LowerCount, StorePiece, Move, Stay, EnterAbove as Enter, Back, HandBack, Mark, HandAllBack, Act, PushCast, Seen, Done, Yes, Event, Refuse, End, IntoCast, Broadcast, Closed, IsOpen, InCast, Over, HandedBack, PoolShape, call_all}
+use Rattle.rayon_machine_orders.proofs.Words.{gather_all, set_call, act_of, next_of, Shape, Stack, World, count_below, Counts, Part, Outcome, casts_with, target_job, effect, put_stack, step, one, shares, has_entry, keeps_own}
+use Rattle.rayon_machine_places.specs.declared.act.Act.TheVariants.{SlotUndoAll}
 use Rattle.rayon_machine_orders.proofs.WrongMachines.{Machine, doing, leading, run_by, times_go, lone, two, a, c, right}
 use Rattle.rayon_machine_orders.proofs.CallTeeth.{Ends}
 use Rattle.rayon_machine_orders.proofs.GatherTeeth.{both_fault, opened}

@@ -3,29 +3,8 @@
 --
 -- The edit `worker_pushes_to_the_injector` makes the mistake of `spawn_is_injected`. The check refuses it at `push`.
 use Rattle.std.proofs.Common.{refl}
-use Rattle.std.specs.Prelude.{ℕ, false, ◌&&◌, ◌+◌, if◌then◌else◌, Option, Some, None, List, [], ◌∷◌, ◌++◌, ◌≡◌, IfSome}
-use Rattle.rayon_machine_places.specs.declared.place.Party.{Party}
-use Rattle.rayon_machine_places.specs.declared.place.Ending.TheVariants.{Fine}
-use Rattle.rayon_machine_places.specs.declared.place.Count.TheVariants.{OfPool}
-use Rattle.rayon_machine_places.specs.declared.place.Plan.TheVariants.{Detach, Feed}
-use Rattle.rayon_machine_places.specs.declared.place.Place.{Place}
-use Rattle.rayon_machine_places.specs.declared.place.Place.TheVariants.{LookQueue, PushForAll, PushJob, RaiseCount}
-use Rattle.rayon_machine_places.specs.declared.place.Move.{Move}
-use Rattle.rayon_machine_places.specs.declared.place.Move.TheVariants.{HandIn}
-use Rattle.rayon_machine_places.specs.declared.act.Act.{Act}
-use Rattle.rayon_machine_places.specs.declared.act.Act.TheVariants.{FifoIn, PushCast, PushInj, PushOwn}
-use Rattle.rayon_machine_places.specs.declared.act.Seen.{Seen}
-use Rattle.rayon_machine_places.specs.declared.act.Seen.TheVariants.{Done}
-use Rattle.rayon_machine_places.specs.declared.event.Event.{Event}
-use Rattle.rayon_machine_places.specs.declared.event.Event.TheVariants.{Go, End, Spawn, Fifo, Cast}
-use Rattle.rayon_machine_places.specs.declared.state.Whereabouts.TheVariants.{InDeque, Running}
-use Rattle.rayon_machine_places.specs.declared.shape.PoolShape.{PoolShape}
-use Rattle.rayon_machine_places.specs.Places.{act_of, next_of, plan_book, plan_job, plan_pool, same_party}
-use Rattle.rayon_machine_places.specs.World.{Stack, World, effect, target_job}
-use Rattle.rayon_machine_places.specs.Steps.{step}
-use Rattle.rayon_machine_orders.specs.Calls.{caller_of, is_at_call, is_refusal}
-use Rattle.rayon_machine_orders.specs.Casts.{caster_of, is_cast_refusal}
-use Rattle.rayon_machine_orders.specs.Placed.{belongs, push_in}
+use Rattle.rayon_machine_orders.proofs.Words.{ℕ, false, ◌&&◌, ◌+◌, if◌then◌else◌, Option, Some, None, List, [], ◌∷◌, ◌++◌, ◌≡◌, IfSome, Party, Fine, OfPool, Detach, Feed, Place, LookQueue, PushForAll, PushJob, RaiseCount, Move, HandIn, Act, FifoIn, PushCast, PushInj, PushOwn, Seen, Done, Event}
+use Rattle.rayon_machine_orders.proofs.Words.{Go, End, Spawn, Fifo, Cast, InDeque, Running, PoolShape, act_of, next_of, plan_book, plan_job, plan_pool, same_party, Stack, World, effect, target_job, step, caller_of, is_at_call, is_refusal, caster_of, is_cast_refusal, belongs, push_in}
 use Rattle.rayon_machine_orders.proofs.WrongMachines.{Machine, leading, right, run_by, step_by, times_go, two, b, c}
 use Rattle.rayon_machine_orders.proofs.CallTeeth.{any_by, is_back, running}
 

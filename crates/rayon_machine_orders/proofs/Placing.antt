@@ -2,33 +2,11 @@
 --
 -- The law is `placed_law`, by what each step queues (`Queues`). That of broadcasts is `dealt_law` in Casts.
 use Rattle.std.proofs.Common.{refl, sym, ◌∙◌, ap, subst, inl, inr}
-use Rattle.std.specs.Prelude.{ℕ, Bool, true, false, ◌&&◌, ◌||◌, ◌+◌, ◌==◌, if◌then◌else◌, Option, Some, None, List, [], ◌∷◌, ◌++◌, ◌≡◌, IfSome, ◌⊎◌, slice_get}
-use Rattle.std.proofs.lemmas.Bool.{eqb-true, eq-eqb}
-use Rattle.std.proofs.lemmas.List.{append_assoc}
-use Rattle.rayon_machine_places.specs.declared.place.Party.{Party}
-use Rattle.rayon_machine_places.specs.declared.place.Party.TheVariants.{Worker, Caller}
-use Rattle.rayon_machine_places.specs.declared.place.JobKind.TheVariants.{Direct}
-use Rattle.rayon_machine_places.specs.declared.place.Plan.{Plan}
-use Rattle.rayon_machine_places.specs.declared.place.Plan.TheVariants.{Detach, Here, Send, Fork, Feed, Open, Enter, Gather}
-use Rattle.rayon_machine_places.specs.declared.place.Count.TheVariants.{OfPool, OfScope, OfCast}
-use Rattle.rayon_machine_places.specs.declared.place.Gathering.{Gathering}
-use Rattle.rayon_machine_places.specs.declared.place.Place.{Place}
-use Rattle.rayon_machine_places.specs.declared.place.Place.TheVariants.{RaiseCount, Run}
-use Rattle.rayon_machine_places.specs.declared.place.Move.{Move}
-use Rattle.rayon_machine_places.specs.declared.place.Move.TheVariants.{Stay, Enter, StartRun, Back, HandBack, Mark}
-use Rattle.rayon_machine_places.specs.declared.act.Act.{Act}
-use Rattle.rayon_machine_places.specs.declared.act.Act.TheVariants.{FifoIn, PushOwn}
-use Rattle.rayon_machine_places.specs.declared.act.Seen.{Seen}
-use Rattle.rayon_machine_places.specs.declared.event.Event.{Event}
-use Rattle.rayon_machine_places.specs.declared.event.Event.TheVariants.{Go, Spawn, Fifo, Install, Join, Scope as OpenScope, IntoSpawn, IntoFifo, Broadcast}
-use Rattle.rayon_machine_places.specs.declared.state.Scope.{Scope}
-use Rattle.rayon_machine_places.specs.Places.{act_of, is_free, is_member, next_of, same_party}
-use Rattle.rayon_machine_places.specs.World.{Part as Piece, Shape, Stack, World, target_pool}
-use Rattle.rayon_machine_places.specs.Steps.{after_call, after_enter, after_enter_fifo, after_feed, after_fifo, after_into, after_into_fifo, after_join, after_move, after_send, after_spawn, holds, is_pool, step}
-use Rattle.rayon_machine_places.specs.Runs.{IsRun, start}
-use Rattle.rayon_machine_orders.specs.Calls.{caller_of, IsRunUntil, is_any, is_at_call, is_raise_refused, is_refusal, scope_pool}
-use Rattle.rayon_machine_orders.specs.Makes.{scope_list}
-use Rattle.rayon_machine_orders.specs.Placed.{belongs, fed_once, own_push, PlacedLaw, push_in, pushes_of, queued_once}
+use Rattle.rayon_machine_orders.proofs.Words.{ℕ, Bool, true, false, ◌&&◌, ◌||◌, ◌+◌, ◌==◌, if◌then◌else◌, Option, Some, None, List, [], ◌∷◌, ◌++◌, ◌≡◌, IfSome, ◌⊎◌, slice_get, eqb-true, eq-eqb, append_assoc, Party, Worker, Caller, Direct, Plan, Detach, Here, Send, Fork, Feed, Open, Enter}
+use Rattle.rayon_machine_orders.proofs.Words.{Gather, OfPool, OfScope, OfCast, Gathering, Place, RaiseCount, Run, Move, Stay, EnterAbove as Enter, StartRun, Back, HandBack, Mark, Act, FifoIn, PushOwn, Seen, Event, Go, Spawn, Fifo, Install, Join, OpenScope, IntoSpawn, IntoFifo, Broadcast, Scope}
+use Rattle.rayon_machine_orders.proofs.Words.{act_of, is_free, is_member, next_of, same_party, Part as Piece, Shape, Stack, World, target_pool, after_call, after_enter, after_enter_fifo, after_feed, after_fifo, after_into, after_into_fifo, after_join, after_move, after_send, after_spawn, holds}
+use Rattle.rayon_machine_orders.proofs.Words.{is_pool, step, IsRun, start, caller_of, IsRunUntil, is_any, is_at_call, is_raise_refused, is_refusal, scope_pool, scope_list, belongs, own_push, push_in, pushes_of}
+use Rattle.rayon_machine_orders.specs.Placed.{fed_once, PlacedLaw, queued_once}
 use Rattle.rayon_machine_laws.proofs.Frame.{if_cond, if_some_all, if_some_map, into_cases, same_party_refl, same_party_true, stack_mine, stack_other}
 use Rattle.rayon_machine_laws.proofs.Claims.{Says}
 use Rattle.rayon_machine_laws.proofs.ClaimRuns.{unqueued, world_after}
@@ -39,7 +17,8 @@ use Rattle.rayon_machine_orders.proofs.CallEvents.{at_call_no, at_call_yes, Call
 use Rattle.rayon_machine_orders.proofs.CallMakes.{Begun, begun_by}
 use Rattle.rayon_machine_orders.proofs.CallPlaces.{Going, is_undone, Known, Leads, Part, Returns, Stage}
 use Rattle.rayon_machine_orders.proofs.Calls.{ground_of, run_more, stands_apart}
-use Rattle.rayon_machine_orders.proofs.CallSteps.{go_all, is_act, mover, turns}
+use Rattle.rayon_machine_orders.proofs.CallSteps.{go_all, mover, turns}
+use Rattle.rayon_machine_orders.proofs.EventCases.{is_act}
 use Rattle.rayon_machine_orders.proofs.CallStretch.{climbs, Ground, Inside, Stays, step_stays}
 use Rattle.rayon_machine_orders.proofs.Filled.{takes_filled}
 use Rattle.rayon_machine_orders.proofs.Pushed.{act_sent, all_pushes, nil_right, pushed, returns_all, same_spot, Sent, stands_same}

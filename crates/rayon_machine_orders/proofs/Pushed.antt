@@ -1,40 +1,13 @@
 -- what a call has queued by how far it has come, and what its own acts queue
 use Rattle.std.proofs.Common.{arith, refl, sym, ◌∙◌, ap, subst}
-use Rattle.std.specs.Prelude.{ℕ, Bool, true, false, ◌+◌, ◌==◌, if◌then◌else◌, Option, Some, None, List, [], ◌∷◌, ◌++◌, ◌≡◌, IfSome, length}
-use Rattle.std.proofs.lemmas.List.{length-append}
-use Rattle.rayon_machine_places.specs.declared.place.Party.{Party}
-use Rattle.rayon_machine_places.specs.declared.place.Party.TheVariants.{Worker, Caller}
-use Rattle.rayon_machine_places.specs.declared.place.Ending.{Ending}
-use Rattle.rayon_machine_places.specs.declared.place.Target.{Target}
-use Rattle.rayon_machine_places.specs.declared.place.Target.TheVariants.{Termination, Answer}
-use Rattle.rayon_machine_places.specs.declared.place.Plan.{Plan}
-use Rattle.rayon_machine_places.specs.declared.place.Plan.TheVariants.{Detach, Here, Send, Fork, Feed, Open, Enter, Gather}
-use Rattle.rayon_machine_places.specs.declared.place.Count.{Count}
-use Rattle.rayon_machine_places.specs.declared.place.Share.{Share}
-use Rattle.rayon_machine_places.specs.declared.place.Share.TheVariants.{PoolValue, Body, OfJob}
-use Rattle.rayon_machine_places.specs.declared.place.OpenCall.{OpenCall}
-use Rattle.rayon_machine_places.specs.declared.place.Feeding.{Feeding}
-use Rattle.rayon_machine_places.specs.declared.place.Gathering.{Gathering}
-use Rattle.rayon_machine_places.specs.declared.place.Mark.TheVariants.{Dealt}
-use Rattle.rayon_machine_places.specs.declared.shape.PoolShape.{PoolShape}
-use Rattle.rayon_machine_places.specs.declared.place.Then.{Then}
-use Rattle.rayon_machine_places.specs.declared.place.Then.TheVariants.{BeginFound, LeaveWait, Resume, Await, RunFirst, Answers, Ran, GiveBack, Gathers}
-use Rattle.rayon_machine_places.specs.declared.place.Place.{Place}
-use Rattle.rayon_machine_places.specs.declared.place.Place.TheVariants.{ProbeWorking, PopWorking, TakeCastWorking, BecomeInactive, ProbeIdle, PopIdle, TakeCastIdle, PickVictim, StealFrom, PopInjected, AnnounceSelf, GetSleepy, LockOwn, FallAsleep}
-use Rattle.rayon_machine_places.specs.declared.place.Place.TheVariants.{LoadCounters, AddSleeping, LookAtCast, LookAtInjector, BlockSelf, RelockOwn, UndoSleeping, WakeUp, UnlockOwn, LeaveSearch, JoinProbe, JoinPop, JoinTakeCast, SecondSide, WaitForLock}
-use Rattle.rayon_machine_places.specs.declared.place.Place.TheVariants.{TakeResult, RaiseCount, GrowCall, LookQueue, PushJob, AddToFifo, LookForToken, PushToken, TakeFromFifo, TellNews, LockToWake, WakeWorker, UnlockWoken, LowerCount, SetLatch}
-use Rattle.rayon_machine_places.specs.declared.place.Place.TheVariants.{LockToSettle, WakeSettled, UnlockSettled, SetLockLatch, FirstSide, AtOnce, GrowScope, ScopeBody, StoreBody, OpenSlot, CloseSlot, GrowCast, DealPieces, PushForAll, BeginTask}
-use Rattle.rayon_machine_places.specs.declared.place.Move.{Move}
-use Rattle.rayon_machine_places.specs.declared.place.Move.TheVariants.{Stay, StartRun, Mark}
-use Rattle.rayon_machine_places.specs.declared.act.Act.{Act}
-use Rattle.rayon_machine_places.specs.declared.act.Act.TheVariants.{PushInj, PushOwn, FifoIn, PushCast, LookInj, LookOwn}
-use Rattle.rayon_machine_places.specs.declared.act.Seen.{Seen}
-use Rattle.rayon_machine_places.specs.declared.act.Seen.TheVariants.{Done, Refused}
-use Rattle.rayon_machine_places.specs.Places.{act_of, count_book, count_call, gather_all, is_member, next_of, plan_book, plan_count, plan_job, plan_pool, push_act}
-use Rattle.rayon_machine_places.specs.World.{Part as Piece, Stack, World, count_in, count_pool, counts_at, effect, found, is_open, target_call, target_pool, target_worker}
-use Rattle.rayon_machine_places.specs.Steps.{part_of}
-use Rattle.rayon_machine_orders.specs.Calls.{is_raise_refused}
-use Rattle.rayon_machine_orders.specs.Placed.{push_in}
+use Rattle.rayon_machine_orders.proofs.Words.{ℕ, Bool, true, false, ◌+◌, ◌==◌, if◌then◌else◌, Option, Some, None, List, [], ◌∷◌, ◌++◌, ◌≡◌, IfSome, length, length-append, Party, Worker, Caller, Ending, Target, Termination, Answer, Plan, Detach, Here, Send, Fork, Feed, Open, Enter, Gather, Count}
+use Rattle.rayon_machine_orders.proofs.Words.{Share, PoolValue, Body, OfJob, OpenCall, Feeding, Gathering, Dealt, PoolShape, Then, BeginFound, LeaveWait, Resume, Await, RunFirst, Answers, Ran, GiveBack, Gathers, Place, ProbeWorking, PopWorking, TakeCastWorking, BecomeInactive, ProbeIdle}
+use Rattle.rayon_machine_orders.proofs.Words.{PopIdle, TakeCastIdle, PickVictim, StealFrom, PopInjected, AnnounceSelf, GetSleepy, LockOwn, FallAsleep, LoadCounters, AddSleeping, LookAtCast, LookAtInjector, BlockSelf, RelockOwn, UndoSleeping, WakeUp, UnlockOwn, LeaveSearch, JoinProbe, JoinPop}
+use Rattle.rayon_machine_orders.proofs.Words.{JoinTakeCast, SecondSide, WaitForLock, TakeResult, RaiseCount, GrowCall, LookQueue, PushJob, AddToFifo, LookForToken, PushToken, TakeFromFifo, TellNews, LockToWake, WakeWorker, UnlockWoken, LowerCount, SetLatch, LockToSettle, WakeSettled}
+use Rattle.rayon_machine_orders.proofs.Words.{UnlockSettled, SetLockLatch, FirstSide, AtOnce, GrowScope, ScopeBody, StoreBody, OpenSlot, CloseSlot, GrowCast, DealPieces, PushForAll, BeginTask, Move, Stay, StartRun, Mark, Act, PushInj, PushOwn, FifoIn, PushCast, LookInj, LookOwn, Seen, Done}
+use Rattle.rayon_machine_orders.proofs.Words.{Refused, act_of, count_book, count_call, gather_all, is_member, next_of, plan_book, plan_count, plan_job, plan_pool, Part as Piece, Stack, World, count_in, count_pool, counts_at, effect, found, is_open, target_call, target_pool, target_worker}
+use Rattle.rayon_machine_orders.proofs.Words.{part_of, is_raise_refused, push_in}
+use Rattle.rayon_machine_places.specs.Places.{push_act}
 use Rattle.rayon_machine_laws.proofs.Frame.{if_cond, if_some_all}
 use Rattle.rayon_machine_laws.proofs.Claims.{Says, SaysThen}
 use Rattle.rayon_machine_laws.proofs.ClaimRuns.{place_part}
@@ -46,13 +19,12 @@ use Rattle.rayon_machine_orders.proofs.CallPlaces.{Stage, Going, Gone, Paid, Add
 -- all that a call of this plan queues
 abbrev pub all_pushes : Party → Plan → List Act
 all_pushes q (Detach p t) = push_act q p t None ∷ []
-all_pushes q (Here p t) = []
 all_pushes q (Send o) = push_act q o.pool o.job None ∷ []
 all_pushes q (Fork o a) = push_act q o.pool o.job None ∷ []
 all_pushes q (Feed f) = FifoIn f.job (count_book f.count) ∷ PushOwn f.token (count_book f.count) ∷ []
-all_pushes q (Open o) = []
 all_pushes q (Enter e) = push_act q e.pool e.job (Some e.call) ∷ []
 all_pushes q (Gather g) = PushCast g.pieces ∷ []
+all_pushes q _ = []
 
 -- what it has queued once its job is in a FIFO list without a token
 abbrev pub first_pushes : Plan → List Act
@@ -61,7 +33,6 @@ first_pushes _ = []
 
 -- and by how far it has come
 abbrev pub pushed : Party → Plan → Stage → List Act
-pushed q n Going = []
 pushed q n Added = first_pushes n
 pushed q n Gone = all_pushes q n
 pushed q n Paid = all_pushes q n
@@ -215,14 +186,11 @@ push_is q p t b = by (is_member q p)
     by false = refl
 
 sent_all : (q : Party) (m : Plan) → is_sent m ≡ true → all_pushes q m ≡ push_act q (plan_pool m) (plan_job m) (plan_book m) ∷ []
-sent_all q (Detach p t) e = refl
-sent_all q (Send o) e = refl
-sent_all q (Fork o a) e = refl
-sent_all q (Enter o) e = refl
 sent_all q (Here p t) e = cc
 sent_all q (Feed f) e = cc
 sent_all q (Open o) e = cc
 sent_all q (Gather g) e = cc
+sent_all q _ e = refl
 
 here_all : (q : Party) (n : Plan) (t : ℕ) → plan_here n ≡ Some t → all_pushes q n ≡ []
 here_all q (Here p u) t e = refl

@@ -1,29 +1,18 @@
 -- each step changes each worker's FIFO list as a queue
 use Rattle.std.proofs.Common.{refl, sym, ◌∙◌, ap, subst}
-use Rattle.std.specs.Prelude.{ℕ, Bool, true, false, ◌&&◌, ◌==◌, if◌then◌else◌, Option, Some, None, List, [], ◌∷◌, ◌++◌, ◌≡◌, IfSome}
-use Rattle.rayon_machine_places.specs.declared.place.Place.TheVariants.{AddToFifo, BeginHere, BeginTask, JoinPop, JoinTakeCast, LocalPop, LocalTakeCast, LookQueue, PopIdle, PopInjected, PopWorking, PushJob, PushToken, StealFrom, TakeCastIdle, TakeCastWorking, TakeFromFifo, YieldPop, YieldPopInjected, YieldSteal, YieldTakeCast, PushForAll, OpenForAll, CloseForAll, GrowCast, DealPieces, StorePiece}
-use Rattle.rayon_machine_places.specs.declared.place.Party.TheVariants.{Caller, Worker}
-use Rattle.rayon_machine_orders.specs.Queue.{Change, Changes, QueueLaw, change, change_of, run_at, Comes, Joins, Leaves}
-use Rattle.rayon_machine_places.specs.World.{Counts, Part, Seat, Shape, World, but_last, counts_at, effect, fifo_back, fifo_first, fifo_out, head_of, is_open, last_of, or_none, pop_injector, popped, put_list, same_list, take_cast, target_call, target_pool, target_worker}
-use Rattle.rayon_machine_places.specs.declared.event.Event.TheVariants.{Go}
-use Rattle.rayon_machine_places.specs.declared.event.Event.{Event}
+use Rattle.rayon_machine_orders.proofs.Words.{ℕ, Bool, true, false, ◌&&◌, ◌==◌, if◌then◌else◌, Option, Some, None, List, [], ◌∷◌, ◌++◌, ◌≡◌, IfSome, AddToFifo, BeginHere, BeginTask, JoinPop, JoinTakeCast, LocalPop, LocalTakeCast, LookQueue, PopIdle, PopInjected, PopWorking, PushJob, PushToken}
+use Rattle.rayon_machine_orders.proofs.Words.{StealFrom, TakeCastIdle, TakeCastWorking, TakeFromFifo, YieldPop, YieldPopInjected, YieldSteal, YieldTakeCast, PushForAll, OpenForAll, CloseForAll, GrowCast, DealPieces, StorePiece, Caller, Worker, Change, Changes, change, change_of, run_at, Comes}
+use Rattle.rayon_machine_orders.proofs.Words.{Joins, Leaves, Counts, Part, Seat, Shape, World, but_last, counts_at, effect, fifo_back, head_of, is_open, last_of, or_none, pop_injector, popped, put_list, same_list, take_cast, target_call, target_pool, target_worker, Go, Event, IsRun, start}
+use Rattle.rayon_machine_orders.proofs.Words.{eqb-true, Feeding, FifoOut, LookInj, LookOwn, PushInj, PushOwn, Party, Place, Plain, Token, Seen, act_of, after_begin, is_member, next_of, own_pool, plan_job, plan_pool, plan_book, count_book, after_move, part_of, put_seat, step}
+use Rattle.rayon_machine_orders.specs.Queue.{QueueLaw}
+use Rattle.rayon_machine_places.specs.World.{fifo_first, fifo_out}
 use Rattle.rayon_machine_laws.proofs.Redeems.{always_stocks, redeems}
 use Rattle.rayon_machine_laws.proofs.Emptied.{always_lists}
 use Rattle.rayon_machine_laws.proofs.Tops.{FramesOk}
 use Rattle.rayon_machine_laws.specs.Once.{IsRedeemed}
-use Rattle.rayon_machine_places.specs.Runs.{IsRun, start}
 use Rattle.rayon_machine_orders.proofs.Lone.{Turns, is_act, turns}
-use Rattle.std.proofs.lemmas.Bool.{eqb-true}
-use Rattle.rayon_machine_places.specs.declared.place.Feeding.{Feeding}
-use Rattle.rayon_machine_places.specs.declared.act.Act.TheVariants.{FifoOut, LookInj, LookOwn, PushInj, PushOwn}
-use Rattle.rayon_machine_places.specs.declared.place.Party.{Party}
-use Rattle.rayon_machine_places.specs.declared.place.Place.{Place}
-use Rattle.rayon_machine_places.specs.declared.place.Taken.TheVariants.{Plain, Token}
 use Rattle.rayon_machine_laws.proofs.Lists.{SameJobs, quiet_same}
-use Rattle.rayon_machine_places.specs.declared.act.Seen.{Seen}
-use Rattle.rayon_machine_places.specs.Places.{act_of, after_begin, is_member, next_of, own_pool, plan_job, plan_pool, plan_book, count_book}
 use Rattle.rayon_machine_laws.proofs.Frame.{acted_keeps, if_cond, if_some_map, same_index, stack_mine, same_list_true, list_new, list_old}
-use Rattle.rayon_machine_places.specs.Steps.{after_move, part_of, put_seat, step}
 use Rattle.rayon_machine_laws.proofs.Ties.{job_at, outcome, result}
 use Rattle.rayon_machine_laws.proofs.ClaimRuns.{place_part, world_after}
 
@@ -130,7 +119,8 @@ Queued w q x fs r = (p i : ℕ) (b : Option ℕ) → Changes ((w.seat p i).fifo 
 
 -- an act that leaves the lists
 left_queued : (w : World) (q : Party) (x : Place) (fs : List Place) (r : Seen × Part) → is_listing x ≡ false → Leaving (place_part w q x) r → Queued w q x fs r
-left_queued w q x fs r z e p i b = subst (λ o. Changes ((w.seat p i).fifo b) o (((world_after w q x fs r).seat p i).fifo b)) (sym (none_change p i b q x ((after_move (next_of (w.shape.pool (target_pool q (act_of q x))) q x (r.0)) fs).top) z)) (by ((p == target_pool q (act_of q x)) && (i == target_worker q (act_of q x))) refl)
+left_queued w q x fs r z e p i b = subst (λ o. Changes ((w.seat p i).fifo b) o (((world_after w q x fs r).seat p i).fifo b)) (sym (none_change p i b q x ((after_move (next_of (w.shape.pool (target_pool q (act_of q x))) q x (r.0)) fs).top) z))
+    (by ((p == target_pool q (act_of q x)) && (i == target_worker q (act_of q x))) refl)
   where
     by : (d : Bool) → ((p == target_pool q (act_of q x)) && (i == target_worker q (act_of q x))) ≡ d → (if d then r.1.seat else w.seat p i).fifo b ≡ (w.seat p i).fifo b
     by true y = let k : (p ≡ target_pool q (act_of q x)) × (i ≡ target_worker q (act_of q x)) = same_index p i (target_pool q (act_of q x)) (target_worker q (act_of q x)) y in
@@ -138,7 +128,8 @@ left_queued w q x fs r z e p i b = subst (λ o. Changes ((w.seat p i).fifo b) o 
     by false y = refl
 
 -- an act on one list of one worker
-own_queued : (w : World) (a c : ℕ) (d : Option ℕ) (o : Change) (s : Seat) (l : List ℕ) (p i : ℕ) (b : Option ℕ) → s.fifo d ≡ l → ((n : Option ℕ) → same_list n d ≡ false → s.fifo n ≡ (w.seat a c).fifo n) → Changes ((w.seat a c).fifo d) (Some o) l → Changes ((w.seat p i).fifo b) (if (p == a) && ((i == c) && same_list b d) then Some o else None) ((if (p == a) && (i == c) then s else w.seat p i).fifo b)
+own_queued : (w : World) (a c : ℕ) (d : Option ℕ) (o : Change) (s : Seat) (l : List ℕ) (p i : ℕ) (b : Option ℕ) → s.fifo d ≡ l → ((n : Option ℕ) → same_list n d ≡ false → s.fifo n ≡ (w.seat a c).fifo n) → Changes ((w.seat a c).fifo d) (Some o) l → Changes ((w.seat p i).fifo b)
+    (if (p == a) && ((i == c) && same_list b d) then Some o else None) ((if (p == a) && (i == c) then s else w.seat p i).fifo b)
 own_queued w a c d o s l p i b is rest e = by (p == a) (i == c) (same_list b d) refl refl refl
   where
     by : (x y z : Bool) → (p == a) ≡ x → (i == c) ≡ y → same_list b d ≡ z → Changes ((w.seat p i).fifo b) (if x && (y && z) then Some o else None) ((if x && y then s else w.seat p i).fifo b)
@@ -154,7 +145,9 @@ own_queued w a c d o s l p i b is rest e = by (p == a) (i == c) (same_list b d) 
     by false y z f g h = refl
 
 -- a token begins the first job of its list, which has one
-drawn_queued : (w : World) (q : Party) (k j : ℕ) (d : Option ℕ) (fs : List Place) → w.stack q ≡ record { top = BeginTask (Token k j d); below = fs } → IsRedeemed w → act_of q (BeginTask (Token k j d)) ≡ FifoOut k j d → IfSome (fifo_out q (part_of w (own_pool q) j 0 (or_none (head_of ((w.seat (own_pool q) j).fifo d)))) d) (λ r. (p i : ℕ) (b : Option ℕ) → Changes ((w.seat p i).fifo b) (if (p == own_pool q) && ((i == j) && same_list b d) then Some (Comes (run_at (after_move (after_begin (Token k j d) (r.0)) fs).top)) else None) ((put_seat w.seat (own_pool q) j (r.1.seat) p i).fifo b))
+drawn_queued : (w : World) (q : Party) (k j : ℕ) (d : Option ℕ) (fs : List Place) → w.stack q ≡ record { top = BeginTask (Token k j d); below = fs } → IsRedeemed w → act_of q (BeginTask (Token k j d)) ≡ FifoOut k j d
+    → IfSome (fifo_out q (part_of w (own_pool q) j 0 (or_none (head_of ((w.seat (own_pool q) j).fifo d)))) d)
+    (λ r. (p i : ℕ) (b : Option ℕ) → Changes ((w.seat p i).fifo b) (if (p == own_pool q) && ((i == j) && same_list b d) then Some (Comes (run_at (after_move (after_begin (Token k j d) (r.0)) fs).top)) else None) ((put_seat w.seat (own_pool q) j (r.1.seat) p i).fifo b))
 drawn_queued w q k j d fs e h is = by (is_open q ((w.seat (own_pool q) j).feeder d))
   where
     P : Seen × Part → Type 0
@@ -188,14 +181,17 @@ undo_queued w a c f fs = by (is_open (Worker a c) ((w.seat a c).feeder d))
 
     back : (o : Option ℕ) → last_of ((w.seat a c).fifo d) ≡ o → IfSome (fifo_back (Worker a c) m d o) (Queued w (Worker a c) (TakeFromFifo f) fs)
     back None n = λ p i b. own_queued w a c d Leaves (w.seat a c) ((w.seat a c).fifo d) p i b refl (λ u z. refl) (none_last ((w.seat a c).fifo d) n)
-    back (Some u) n = λ p i b. own_queued w a c d Leaves (record (w.seat a c) { fifo = put_list (w.seat a c).fifo d (but_last ((w.seat a c).fifo d)); feeder = put_list (w.seat a c).feeder d None }) (but_last ((w.seat a c).fifo d)) p i b (list_new ((w.seat a c).fifo) d (but_last ((w.seat a c).fifo d))) (list_old ((w.seat a c).fifo) d (but_last ((w.seat a c).fifo d))) refl
+    back (Some u) n = λ p i b. own_queued w a c d Leaves (record (w.seat a c) { fifo = put_list (w.seat a c).fifo d (but_last ((w.seat a c).fifo d)); feeder = put_list (w.seat a c).feeder d None }) (but_last ((w.seat a c).fifo d)) p i b
+        (list_new ((w.seat a c).fifo) d (but_last ((w.seat a c).fifo d))) (list_old ((w.seat a c).fifo) d (but_last ((w.seat a c).fifo d))) refl
 
     by : (z : Bool) → IfSome (if z then fifo_back (Worker a c) m d (last_of ((w.seat a c).fifo d)) else None) (Queued w (Worker a c) (TakeFromFifo f) fs)
     by true = back (last_of ((w.seat a c).fifo d)) refl
     by false = tt
 
 act_queued : (w : World) (q : Party) (x : Place) (fs : List Place) → w.stack q ≡ record { top = x; below = fs } → IsRedeemed w → IfSome (outcome w q (record { top = x; below = fs })) (Queued w q x fs)
-act_queued w (Worker a c) (AddToFifo f) fs e h = if_cond (Queued w (Worker a c) (AddToFifo f) fs) (is_open (Worker a c) ((w.seat a c).feeder (count_book f.count))) _ (λ o p i b. own_queued w a c (count_book f.count) (Joins f.job) (record (w.seat a c) { fifo = put_list (w.seat a c).fifo (count_book f.count) ((w.seat a c).fifo (count_book f.count) ++ f.job ∷ []); feeder = put_list (w.seat a c).feeder (count_book f.count) (Some (Worker a c)) }) ((w.seat a c).fifo (count_book f.count) ++ f.job ∷ []) p i b (list_new ((w.seat a c).fifo) (count_book f.count) ((w.seat a c).fifo (count_book f.count) ++ f.job ∷ [])) (list_old ((w.seat a c).fifo) (count_book f.count) ((w.seat a c).fifo (count_book f.count) ++ f.job ∷ [])) refl)
+act_queued w (Worker a c) (AddToFifo f) fs e h = if_cond (Queued w (Worker a c) (AddToFifo f) fs) (is_open (Worker a c) ((w.seat a c).feeder (count_book f.count))) _
+    (λ o p i b. own_queued w a c (count_book f.count) (Joins f.job) (record (w.seat a c) { fifo = put_list (w.seat a c).fifo (count_book f.count) ((w.seat a c).fifo (count_book f.count) ++ f.job ∷ []); feeder = put_list (w.seat a c).feeder (count_book f.count) (Some (Worker a c)) })
+    ((w.seat a c).fifo (count_book f.count) ++ f.job ∷ []) p i b (list_new ((w.seat a c).fifo) (count_book f.count) ((w.seat a c).fifo (count_book f.count) ++ f.job ∷ [])) (list_old ((w.seat a c).fifo) (count_book f.count) ((w.seat a c).fifo (count_book f.count) ++ f.job ∷ [])) refl)
 act_queued w (Caller n) (AddToFifo f) fs e h = tt
 act_queued w (Worker a c) (TakeFromFifo f) fs e h = undo_queued w a c f fs
 act_queued w (Caller n) (TakeFromFifo f) fs e h = tt
@@ -209,7 +205,8 @@ Steps w e v = (p i : ℕ) (b : Option ℕ) → Changes ((w.seat p i).fifo b) (ch
 
 go_queued : (w : World) (q : Party) → IsRedeemed w → IfSome (outcome w q (w.stack q)) (λ r. Steps w (Go q) (result w q (w.stack q) r))
 go_queued w q h = if_some_map (Queued w q ((w.stack q).top) ((w.stack q).below)) (λ r. Steps w (Go q) (result w q (w.stack q) r))
-    (λ r f p i b. subst (λ k. Changes ((w.seat p i).fifo b) (change_of p i b q (act_of q ((w.stack q).top)) (k.top)) (((result w q (w.stack q) r).seat p i).fifo b)) (sym (stack_mine w.stack q (after_move (next_of (w.shape.pool (target_pool q (act_of q ((w.stack q).top)))) q ((w.stack q).top) (r.0)) ((w.stack q).below)))) (f p i b))
+    (λ r f p i b. subst (λ k. Changes ((w.seat p i).fifo b) (change_of p i b q (act_of q ((w.stack q).top)) (k.top)) (((result w q (w.stack q) r).seat p i).fifo b))
+    (sym (stack_mine w.stack q (after_move (next_of (w.shape.pool (target_pool q (act_of q ((w.stack q).top)))) q ((w.stack q).top) (r.0)) ((w.stack q).below)))) (f p i b))
     (outcome w q (w.stack q)) (act_queued w q ((w.stack q).top) ((w.stack q).below) refl h)
 
 -- an event that is no act changes no list

@@ -1,28 +1,8 @@
 -- wrong machines of records: replays, computed by the kernel, in which a job's record is not as its run began or ended,
 -- names another pool than the job's, or changes its number of its book
 use Rattle.std.proofs.Common.{refl}
-use Rattle.std.specs.Prelude.{ℕ, true, false, ◌+◌, Option, Some, None, List, [], ◌∷◌, ◌++◌, ◌≡◌, IfSome}
-use Rattle.rayon_machine_places.specs.declared.place.Ending.{Ending}
-use Rattle.rayon_machine_places.specs.declared.place.Ending.TheVariants.{Fine, Fault}
-use Rattle.rayon_machine_places.specs.declared.place.Party.{Party}
-use Rattle.rayon_machine_places.specs.declared.place.Party.TheVariants.{Worker}
-use Rattle.rayon_machine_places.specs.declared.place.Place.{Place}
-use Rattle.rayon_machine_places.specs.declared.place.Place.TheVariants.{BeginTask, Run, PushJob}
-use Rattle.rayon_machine_places.specs.declared.place.Move.{Move}
-use Rattle.rayon_machine_places.specs.declared.place.Move.TheVariants.{Back}
-use Rattle.rayon_machine_places.specs.declared.act.Act.{Act}
-use Rattle.rayon_machine_places.specs.declared.act.Act.TheVariants.{Begin, PushOwn, StoreSlot as PutSlot}
-use Rattle.rayon_machine_places.specs.declared.act.Seen.{Seen}
-use Rattle.rayon_machine_places.specs.declared.act.Seen.TheVariants.{Done, Begun}
-use Rattle.rayon_machine_places.specs.declared.event.Event.{Event}
-use Rattle.rayon_machine_places.specs.declared.event.Event.TheVariants.{Go, End, Spawn, Scope as OpenScope, IntoSpawn}
-use Rattle.rayon_machine_places.specs.declared.shape.PoolShape.{PoolShape}
-use Rattle.rayon_machine_places.specs.declared.state.Slot.TheVariants.{Open, Filled}
-use Rattle.rayon_machine_places.specs.declared.state.Whereabouts.TheVariants.{InDeque, Injected, Over}
-use Rattle.rayon_machine_places.specs.Places.{act_of, next_of, plan_book, plan_job}
-use Rattle.rayon_machine_places.specs.World.{Shape, Stack, World, Counts, Part, Outcome, at_job, effect, target_job}
-use Rattle.rayon_machine_places.specs.Steps.{after_close, put, put_stack, step}
-use Rattle.rayon_machine_laws.specs.Once.{run_of}
+use Rattle.rayon_machine_orders.proofs.Words.{ℕ, true, false, ◌+◌, Option, Some, None, List, [], ◌∷◌, ◌++◌, ◌≡◌, IfSome, Ending, Fine, Fault, Party, Worker, Place, BeginTask, Run, PushJob, Move, Back, Act, Begin, PushOwn, PutSlot, Seen, Done, Begun, Event, Go, End, Spawn, OpenScope, IntoSpawn}
+use Rattle.rayon_machine_orders.proofs.Words.{PoolShape, IsOpen as Open, Filled, InDeque, Injected, Over, act_of, next_of, plan_book, plan_job, Shape, Stack, World, Counts, Part, Outcome, at_job, effect, target_job, after_close, put, put_stack, step, run_of}
 use Rattle.rayon_machine_laws.specs.Fixed.{slot_stays}
 use Rattle.rayon_machine_laws.specs.Near.{is_near}
 use Rattle.rayon_machine_orders.proofs.WrongMachines.{doing, making, run_by, times_go, two, a, b, c, right}

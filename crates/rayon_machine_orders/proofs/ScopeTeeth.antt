@@ -11,38 +11,13 @@
 -- - `book_forgets_a_fault`, at `kept_fault`. `book_keeps_the_last_fault`, at `Touched::keeping_fault`.
 -- - `take_sees_the_body_alone`, at `Touched::take`.
 use Rattle.std.proofs.Common.{refl}
-use Rattle.std.specs.Prelude.{ℕ, true, false, ◌+◌, ◌-◌, ◌==◌, if◌then◌else◌, Option, Some, None, List, [], ◌∷◌, ◌++◌, ◌≡◌, IfSome}
-use Rattle.rayon_machine_places.specs.declared.place.Party.{Party}
-use Rattle.rayon_machine_places.specs.declared.place.Ending.{Ending}
-use Rattle.rayon_machine_places.specs.declared.place.Ending.TheVariants.{Fine, Fault}
-use Rattle.rayon_machine_places.specs.declared.place.Plan.TheVariants.{Enter}
-use Rattle.rayon_machine_places.specs.declared.place.Count.TheVariants.{OfScope, OfPool}
-use Rattle.rayon_machine_places.specs.declared.place.Share.TheVariants.{Body, OfJob}
-use Rattle.rayon_machine_places.specs.declared.place.Place.{Place}
-use Rattle.rayon_machine_places.specs.declared.place.Place.TheVariants.{CloseSlot, LowerCount, GrowScope, OpenSlot, LookQueue, StoreSlot}
-use Rattle.rayon_machine_places.specs.declared.place.Move.{Move}
-use Rattle.rayon_machine_places.specs.declared.place.Move.TheVariants.{HandBack, Stay, Back}
-use Rattle.rayon_machine_places.specs.declared.act.Act.{Act}
-use Rattle.rayon_machine_places.specs.declared.act.Act.TheVariants.{Lower, Take, Slot, StoreBody as PutBody, StoreSlot as PutSlot}
-use Rattle.rayon_machine_places.specs.declared.act.Seen.{Seen}
-use Rattle.rayon_machine_places.specs.declared.act.Seen.TheVariants.{Yes, No, Done, Missing, Found}
-use Rattle.rayon_machine_places.specs.declared.event.Event.{Event}
-use Rattle.rayon_machine_places.specs.declared.event.Event.TheVariants.{Refuse, End, EndPool, Scope as OpenScope, IntoSpawn}
-use Rattle.rayon_machine_places.specs.declared.state.Slot.TheVariants.{Closed, Open as IsOpen}
-use Rattle.rayon_machine_places.specs.declared.state.Letter.TheVariants.{Unset, Set as IsSet}
-use Rattle.rayon_machine_places.specs.declared.shape.PoolShape.{PoolShape}
-use Rattle.rayon_machine_places.specs.declared.place.JobKind.TheVariants.{Scoped}
-use Rattle.rayon_machine_places.specs.declared.place.Then.TheVariants.{Await, GiveBack}
-use Rattle.rayon_machine_places.specs.declared.state.Whereabouts.TheVariants.{Made, Injected, Over, HandedBack}
-use Rattle.rayon_machine_places.specs.Places.{act_of, next_of}
-use Rattle.rayon_machine_places.specs.World.{Shape, World, Counts, Part, Outcome, count_in, count_below, lowered, filled, effect}
-use Rattle.rayon_machine_laws.specs.Once.{one}
-use Rattle.rayon_machine_laws.specs.Shares.{shares, is_busy}
-use Rattle.rayon_machine_laws.specs.Counted.{has_entry, keeps_own}
+use Rattle.rayon_machine_orders.proofs.Words.{ℕ, true, false, ◌+◌, ◌-◌, ◌==◌, if◌then◌else◌, Option, Some, None, List, [], ◌∷◌, ◌++◌, ◌≡◌, IfSome, Party, Ending, Fine, Fault, Enter, OfScope, OfPool, Body, OfJob, Place, CloseSlot, LowerCount, GrowScope, OpenSlot, LookQueue, StoreSlot, Move}
+use Rattle.rayon_machine_orders.proofs.Words.{HandBack, Stay, Back, Act, Lower, Take, PutSlot, Seen, Yes, No, Done, Found, Event, Refuse, End, EndPool, OpenScope, IntoSpawn, Closed, IsOpen, Unset, IsSet, PoolShape, Scoped, Await, GiveBack, Made, Injected, Over, HandedBack, act_of, next_of}
+use Rattle.rayon_machine_orders.proofs.Words.{Shape, World, Counts, Part, Outcome, count_in, count_below, lowered, filled, effect, one, shares, is_busy, has_entry, keeps_own, Verdict, AllFine, LastFault, follows, caller_of, is_scope, is_at_call, is_refusal, verdict_of}
+use Rattle.rayon_machine_places.specs.declared.act.Act.TheVariants.{Slot, StoreBody as PutBody}
+use Rattle.rayon_machine_places.specs.declared.act.Seen.TheVariants.{Missing}
 use Rattle.rayon_machine_orders.proofs.WrongMachines.{Machine, step_by, run_by, times_go, two, b, c, right, doing, leading}
 use Rattle.rayon_machine_orders.proofs.CallTeeth.{any_by, is_back, Ends}
-use Rattle.rayon_machine_laws.specs.End.{Verdict, AllFine, LastFault, follows}
-use Rattle.rayon_machine_orders.specs.Calls.{caller_of, is_scope, is_at_call, is_refusal, verdict_of}
 
 -- the end of a scope's body sets the scope's latch, though a job of the scope is left
 abbrev sets_early : PoolShape → Party → Place → Seen → Move

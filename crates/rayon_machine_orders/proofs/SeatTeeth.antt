@@ -1,25 +1,11 @@
 -- wrong machines of sleep: replays, computed by the kernel, in which a worker's sets, its latch or a lock are not as
 -- the places say
 use Rattle.std.proofs.Common.{refl}
-use Rattle.std.specs.Prelude.{ℕ, Bool, true, false, Some, None, List, [], ◌∷◌, ◌++◌, ◌≡◌, IfSome, min}
-use Rattle.rayon_machine_places.specs.declared.place.Latch.TheVariants.{Terminate}
-use Rattle.rayon_machine_places.specs.declared.place.Party.{Party}
-use Rattle.rayon_machine_places.specs.declared.place.Party.TheVariants.{Caller}
-use Rattle.rayon_machine_places.specs.declared.place.Place.{Place}
-use Rattle.rayon_machine_places.specs.declared.place.Place.TheVariants.{PopInjected, LeaveSearch, Stopped}
-use Rattle.rayon_machine_places.specs.declared.place.Move.{Move}
-use Rattle.rayon_machine_places.specs.declared.place.Move.TheVariants.{Stay}
-use Rattle.rayon_machine_places.specs.declared.act.Act.{Act}
-use Rattle.rayon_machine_places.specs.declared.act.Act.TheVariants.{SubInactive, Sleepy, Lock, Unlock, PushOwn}
-use Rattle.rayon_machine_places.specs.declared.act.Seen.{Seen}
-use Rattle.rayon_machine_places.specs.declared.act.Seen.TheVariants.{Done, Missing, Wakes}
-use Rattle.rayon_machine_places.specs.declared.event.Event.{Event}
-use Rattle.rayon_machine_places.specs.declared.event.Event.TheVariants.{Go, Spawn, Fifo}
-use Rattle.rayon_machine_places.specs.declared.shape.PoolShape.{PoolShape}
-use Rattle.rayon_machine_places.specs.declared.state.Letter.TheVariants.{Unset, Sleepy as IsSleepy}
-use Rattle.rayon_machine_places.specs.declared.state.Whereabouts.TheVariants.{InDeque}
-use Rattle.rayon_machine_places.specs.Places.{act_of, next_of, own_pool, own_index}
-use Rattle.rayon_machine_places.specs.World.{Shape, World, Counts, Part, Outcome, at_job, effect, is_held_by, left_book}
+use Rattle.rayon_machine_orders.proofs.Words.{ℕ, Bool, true, false, Some, None, List, [], ◌∷◌, ◌++◌, ◌≡◌, IfSome, min, Terminate, Party, Caller, Place, PopInjected, LeaveSearch, Stopped, Move, Stay, Act, SubInactive, Lock, PushOwn, Seen, Done, Wakes, Event, Go, Spawn, Fifo, PoolShape, Unset}
+use Rattle.rayon_machine_orders.proofs.Words.{IsSleepy, InDeque, act_of, next_of, own_pool, own_index, Shape, World, Counts, Part, Outcome, at_job, effect, left_book}
+use Rattle.rayon_machine_places.specs.declared.act.Act.TheVariants.{Sleepy, Unlock}
+use Rattle.rayon_machine_places.specs.declared.act.Seen.TheVariants.{Missing}
+use Rattle.rayon_machine_places.specs.World.{is_held_by}
 use Rattle.rayon_machine_laws.specs.Seats.{inactive_at}
 use Rattle.rayon_machine_laws.specs.Letters.{letter_for}
 use Rattle.rayon_machine_laws.specs.Holders.{feeds_list, locks_at, others_hold}

@@ -1,40 +1,15 @@
 -- where a worker stands that waits for the end of its pool, runs jobs and spawns
 use Rattle.rayon_machine_places.specs.declared.place.Count.TheVariants.{OfPool, OfScope, OfCast}
-use Rattle.rayon_machine_places.specs.declared.place.Count.{Count}
-use Rattle.std.proofs.Common.{rules, arith, refl, sym, subst}
-use Rattle.std.specs.Prelude.{ℕ, Bool, true, false, ◌+◌, ◌==◌, nat_lt, if◌then◌else◌, Option, Some, None, List, [], ◌∷◌, ◌≡◌, ⊤}
-use Rattle.std.proofs.lemmas.Bool.{eq-eqb}
-use Rattle.rayon_machine_places.specs.declared.place.Party.{Party}
-use Rattle.rayon_machine_places.specs.declared.place.Party.TheVariants.{Worker, Caller}
-use Rattle.rayon_machine_places.specs.declared.place.Ending.{Ending}
-use Rattle.rayon_machine_places.specs.declared.place.JobKind.{JobKind}
-use Rattle.rayon_machine_places.specs.declared.place.JobKind.TheVariants.{Detached, Stored, Direct, TokenOf, Scoped, BodyOf, PieceOf, WholeOf}
-use Rattle.rayon_machine_places.specs.declared.place.Target.{Target}
-use Rattle.rayon_machine_places.specs.declared.place.Target.TheVariants.{Termination, Answer}
-use Rattle.rayon_machine_places.specs.declared.place.Rounds.{Rounds}
-use Rattle.rayon_machine_places.specs.declared.place.Rounds.TheVariants.{Failed, Announced}
-use Rattle.rayon_machine_places.specs.declared.place.Plan.{Plan}
-use Rattle.rayon_machine_places.specs.declared.place.Plan.TheVariants.{Detach, Here, Send, Fork, Feed, Open, Enter, Gather}
-use Rattle.rayon_machine_places.specs.declared.place.Then.{Then}
-use Rattle.rayon_machine_places.specs.declared.place.Then.TheVariants.{BeginFound, LeaveWait, Resume, GiveBack, Called, Gathers}
-use Rattle.rayon_machine_places.specs.declared.place.Place.{Place}
-use Rattle.rayon_machine_places.specs.declared.place.Place.TheVariants.{ProbeWorking, PopWorking, TakeCastWorking, BecomeInactive, ProbeIdle, PopIdle, TakeCastIdle, PickVictim, PopInjected, AnnounceSelf, GetSleepy, LockOwn, FallAsleep, LoadCounters, AddSleeping, LookAtCast, LookAtInjector, BlockSelf, RelockOwn, UndoSleeping, WakeUp, UnlockOwn, LeaveSearch, BeginTask, Run, RaiseCount, LookQueue, PushJob, TellNews, LockToWake, WakeWorker, UnlockWoken, LowerCount, StoreResult, SetLatch, LockToSettle, WakeSettled, UnlockSettled, SetLockLatch, Stopped, OpenSlot, CloseSlot, StoreSlot, StorePiece, AddToFifo, LookForToken, PushToken, TakeFromFifo}
-use Rattle.rayon_machine_places.specs.declared.place.Move.{Move}
-use Rattle.rayon_machine_places.specs.declared.place.Move.TheVariants.{Stay}
-use Rattle.rayon_machine_places.specs.declared.act.Seen.{Seen}
-use Rattle.rayon_machine_places.specs.declared.act.Seen.TheVariants.{Done, Yes, Task, Jec, Word, Wakes, Begun}
-use Rattle.rayon_machine_places.specs.declared.shape.PoolShape.{PoolShape}
-use Rattle.rayon_machine_places.specs.declared.place.Feeding.{Feeding}
-use Rattle.rayon_machine_places.specs.declared.place.Settling.{Settling}
-use Rattle.rayon_machine_places.specs.Places.{own_pool, after_wait, finish, walk, settle, after_set, after_found, after_news, plan_pool, plan_book, count_book, next_of, after_failure, after_raise, after_slot, begin_feed, withdraw, settle_count, taken_number}
-use Rattle.rayon_machine_places.specs.World.{Stack}
-use Rattle.rayon_machine_places.specs.Steps.{back, after_move, after_close}
+use Rattle.rayon_machine_orders.proofs.Words.{Count, rules, arith, refl, sym, subst, ℕ, Bool, true, false, ◌+◌, ◌==◌, nat_lt, if◌then◌else◌, Option, Some, None, List, [], ◌∷◌, ◌≡◌, ⊤, eq-eqb, Party, Worker, Caller, Ending, JobKind, Detached, Stored, Direct, TokenOf, Scoped, BodyOf, PieceOf}
+use Rattle.rayon_machine_orders.proofs.Words.{WholeOf, Target, Termination, Answer, Rounds, Failed, Announced, Plan, Detach, Here, Send, Fork, Feed, Open, Enter, Gather, Then, BeginFound, LeaveWait, Resume, GiveBack, Called, Gathers, Place, ProbeWorking, PopWorking, TakeCastWorking}
+use Rattle.rayon_machine_orders.proofs.Words.{BecomeInactive, ProbeIdle, PopIdle, TakeCastIdle, PickVictim, PopInjected, AnnounceSelf, GetSleepy, LockOwn, FallAsleep, LoadCounters, AddSleeping, LookAtCast, LookAtInjector, BlockSelf, RelockOwn, UndoSleeping, WakeUp, UnlockOwn, LeaveSearch}
+use Rattle.rayon_machine_orders.proofs.Words.{BeginTask, Run, RaiseCount, LookQueue, PushJob, TellNews, LockToWake, WakeWorker, UnlockWoken, LowerCount, StoreResult, SetLatch, LockToSettle, WakeSettled, UnlockSettled, SetLockLatch, Stopped, OpenSlot, CloseSlot, StoreSlot, StorePiece, AddToFifo}
+use Rattle.rayon_machine_orders.proofs.Words.{LookForToken, PushToken, TakeFromFifo, Move, Stay, Seen, Done, Yes, Task, Jec, Word, Wakes, Begun, PoolShape, Feeding, Settling, own_pool, after_wait, finish, walk, settle, after_set, after_found, after_news, plan_pool, plan_book, count_book}
+use Rattle.rayon_machine_orders.proofs.Words.{next_of, after_failure, after_raise, after_slot, begin_feed, withdraw, settle_count, taken_number, Stack, back, after_move, after_close, Plain, Taken}
 use Rattle.rayon_machine_orders.specs.Order.{caller_of}
 use Rattle.rayon_machine_orders.proofs.Dealt.{is_start, elsewhere}
 use Rattle.rayon_machine_laws.proofs.Kept.{is_emptied}
 use Rattle.rayon_machine_orders.proofs.Lone.{settle_move, settled_move, turns_thief, walk_move}
-use Rattle.rayon_machine_places.specs.declared.place.Taken.TheVariants.{Plain}
-use Rattle.rayon_machine_places.specs.declared.place.Taken.{Taken}
 
 -- frames of the wait for the end of the pool
 abbrev pub IsBase : Place → Type 0
@@ -141,9 +116,8 @@ back_base Q r (ProbeWorking k ∷ fs) a = a
 back_base Q r (_ ∷ fs) a = absurd (a.0)
 
 back_above : (Q : Plan → Type 0) (r : Option ℕ) (fs : List Place) → Above r fs → StandsAt Q r (back fs)
-back_above Q r [] a = absurd a
 back_above Q r (Run t k ∷ fs) a = a
-back_above Q r (_ ∷ fs) a = absurd a
+back_above Q r _ a = absurd a
 
 leaves : (Q : Plan → Type 0) (r : Option ℕ) (g : Target) (fs : List Place) → (g ≡ Termination) × AllBase fs → Stands Q r (after_wait g) fs
 leaves Q r Termination fs a = a.1
@@ -177,13 +151,8 @@ found_above r g (Some t) fs a = a
 
 news_above : (r : Option ℕ) (n : Plan) (fs : List Place) → IsSpawn n × Above r fs → WakesAbove r (after_news n) fs
 news_above r (Detach p t) fs a = a.1
-news_above r (Here p t) fs a = absurd (a.0)
-news_above r (Send o) fs a = absurd (a.0)
-news_above r (Feed f) fs a = absurd (a.0)
-news_above r (Open o) fs a = absurd (a.0)
 news_above r (Enter e) fs a = a.1
-news_above r (Fork o b) fs a = absurd (a.0)
-news_above r (Gather g) fs a = absurd (a.0)
+news_above r _ fs a = absurd (a.0)
 
 -- where a refused spawn goes
 withdrawn : (Q : Plan → Type 0) (r : Option ℕ) (b : Option ℕ) (n : Plan) (fs : List Place) → Above r fs → Stands Q r (withdraw b n) fs
@@ -191,29 +160,20 @@ withdrawn Q r None n fs a = a
 withdrawn Q r (Some c) n fs a = a
 
 begun_feed : (Q : Plan → Type 0) (r : Option ℕ) (k : Count) (f : Feeding) (fs : List Place) → Q (Feed f) → Above r fs → Stands Q r (begin_feed k f) fs
-begun_feed Q r (OfPool p) f fs s a = (s, a)
 begun_feed Q r (OfScope c o) f fs s a = ((s, tt), a)
-begun_feed Q r (OfCast c o) f fs s a = (s, a)
+begun_feed Q r _ f fs s a = (s, a)
 
 raised : (Q : Plan → Type 0) (r : Option ℕ) (n : Plan) (fs : List Place) → (Q n × IsLight n) × Above r fs → Leads Q r fs (after_raise n)
 raised Q r (Detach p t) fs a = (((a.0).0, tt), a.1)
-raised Q r (Here p t) fs a = absurd ((a.0).1)
-raised Q r (Send o) fs a = absurd ((a.0).1)
 raised Q r (Feed f) fs a = begun_feed Q r f.count f fs ((a.0).0) (a.1)
-raised Q r (Open o) fs a = absurd ((a.0).1)
 raised Q r (Enter e) fs a = (((a.0).0, tt), a.1)
-raised Q r (Fork o b) fs a = absurd ((a.0).1)
-raised Q r (Gather g) fs a = absurd ((a.0).1)
+raised Q r _ fs a = absurd ((a.0).1)
 
 opened : (Q : Plan → Type 0) (r : Option ℕ) (n : Plan) (fs : List Place) → (Q n × IsLight n) × Above r fs → Stands Q r (after_slot n) fs
 opened Q r (Detach p t) fs a = (((a.0).0, tt), a.1)
-opened Q r (Here p t) fs a = absurd ((a.0).1)
-opened Q r (Send o) fs a = absurd ((a.0).1)
 opened Q r (Feed f) fs a = ((a.0).0, a.1)
-opened Q r (Open o) fs a = absurd ((a.0).1)
 opened Q r (Enter e) fs a = (((a.0).0, tt), a.1)
-opened Q r (Fork o b) fs a = absurd ((a.0).1)
-opened Q r (Gather g) fs a = absurd ((a.0).1)
+opened Q r _ fs a = absurd ((a.0).1)
 
 counts_on : (Q : Plan → Type 0) (r : Option ℕ) (g : PoolShape) (q : Party) (k : Count) (t : Then) (fs : List Place) → EndsAbove r t fs → Leads Q r fs (settle_count g q k t)
 counts_on Q r g q (OfPool p) t fs a = settles_on Q r g q p 0 t fs a
@@ -319,10 +279,6 @@ stands_begun Q g q t k r fs s = (refl, s)
 
 -- a run ends
 pub stands_closed : (Q : Plan → Type 0) (r : Option ℕ) (t : ℕ) (k : JobKind) (e : Ending) (fs : List Place) → AllBase fs → StandsAt Q r (after_close t k e fs)
-stands_closed Q r t (Detached p) e fs a = a
-stands_closed Q r t (Stored c o) e fs a = a
-stands_closed Q r t (Scoped c o) e fs a = a
-stands_closed Q r t (PieceOf c o) e fs a = a
 stands_closed Q r t Direct e [] a = tt
 stands_closed Q r t (TokenOf i b8) e [] a = tt
 stands_closed Q r t (BodyOf c9 o9) e [] a = tt
@@ -335,6 +291,7 @@ stands_closed Q r t Direct e (_ ∷ fs) a = absurd (a.0)
 stands_closed Q r t (TokenOf i b8) e (_ ∷ fs) a = absurd (a.0)
 stands_closed Q r t (BodyOf c9 o9) e (_ ∷ fs) a = absurd (a.0)
 stands_closed Q r t (WholeOf c9 o9) e (_ ∷ fs) a = absurd (a.0)
+stands_closed Q r t _ e fs a = a
 
 -- what such a worker comes by elsewhere it finds where its deque is known to be empty
 pub stands_emptied : (Q : Plan → Type 0) (r : Option ℕ) (x : Place) (fs : List Place) → Stands Q r x fs → elsewhere x ≡ true → is_emptied x ≡ true
@@ -352,9 +309,8 @@ stands_emptied Q r (RaiseCount (Fork o a)) fs s e = absurd ((s.0).1)
 stands_emptied Q r _ fs s e = search (rules, arith)
 
 pub above_caller : (r : Option ℕ) (fs : List Place) → Above r fs → caller_of fs ≡ r
-above_caller r [] a = absurd a
 above_caller r (Run t k ∷ fs) a = sym (a.0)
-above_caller r (_ ∷ fs) a = absurd a
+above_caller r _ a = absurd a
 
 -- the run that makes a spawn is the one that began last
 pub stands_caller : (Q : Plan → Type 0) (r : Option ℕ) (n : Plan) (v : Bool) (fs : List Place) → Stands Q r (PushJob n v) fs → caller_of fs ≡ r

@@ -3,26 +3,8 @@
 --
 -- This is `Full`, and `full_step` keeps it. So where the deque is empty the FIFO list is empty too.
 use Rattle.std.proofs.Common.{arith, refl, sym, ◌∙◌, ap, subst, inl, inr}
-use Rattle.std.specs.Prelude.{ℕ, Bool, true, false, ◌&&◌, ◌+◌, ◌==◌, ◌≤◌, if◌then◌else◌, Option, Some, None, List, [], ◌∷◌, ◌++◌, ◌≡◌, ◌⊎◌, IfSome, length}
-use Rattle.std.proofs.lemmas.Bool.{eqb-true, eq-eqb}
-use Rattle.std.proofs.lemmas.List.{length-append}
-use Rattle.rayon_machine_places.specs.declared.shape.Order.{Order}
-use Rattle.rayon_machine_places.specs.declared.shape.Order.TheVariants.{NewestFirst, OldestFirst}
-use Rattle.rayon_machine_places.specs.declared.place.Feeding.{Feeding}
-use Rattle.rayon_machine_places.specs.declared.place.JobKind.{JobKind}
-use Rattle.rayon_machine_places.specs.declared.place.JobKind.TheVariants.{TokenOf}
-use Rattle.rayon_machine_places.specs.declared.place.Party.{Party}
-use Rattle.rayon_machine_places.specs.declared.place.Party.TheVariants.{Worker}
-use Rattle.rayon_machine_places.specs.declared.place.Place.{Place}
-use Rattle.rayon_machine_places.specs.declared.place.Place.TheVariants.{LookForToken, PushToken, TakeFromFifo}
-use Rattle.rayon_machine_places.specs.declared.place.Taken.{Taken}
-use Rattle.rayon_machine_places.specs.declared.place.Taken.TheVariants.{Plain, Token}
-use Rattle.rayon_machine_places.specs.declared.event.Event.{Event}
-use Rattle.rayon_machine_places.specs.Places.{act_of, count_book}
-use Rattle.rayon_machine_places.specs.World.{World, but_last, same_list, taken_as}
-use Rattle.rayon_machine_orders.specs.Order.{Happening, Adds, Queues, Retakes, Begins, Redeems, Hands}
-use Rattle.rayon_machine_orders.specs.Queue.{Changes, Joins, Leaves, Comes}
-use Rattle.rayon_machine_laws.specs.Once.{one, times}
+use Rattle.rayon_machine_orders.proofs.Words.{ℕ, Bool, true, false, ◌&&◌, ◌+◌, ◌==◌, ◌≤◌, if◌then◌else◌, Option, Some, None, List, [], ◌∷◌, ◌++◌, ◌≡◌, ◌⊎◌, IfSome, length, eqb-true, eq-eqb, length-append, Order, NewestFirst, OldestFirst, Feeding, JobKind, TokenOf, Party, Worker, Place}
+use Rattle.rayon_machine_orders.proofs.Words.{LookForToken, PushToken, TakeFromFifo, Taken, Plain, Token, Event, act_of, count_book, World, but_last, same_list, taken_as, Happening, Adds, Queues, Retakes, Begins, Redeems, Hands, Changes, Joins, Leaves, Comes, one, times}
 use Rattle.rayon_machine_orders.proofs.Dealing.{Deals, kinds}
 use Rattle.rayon_machine_orders.proofs.Dealt.{elsewhere}
 use Rattle.rayon_machine_orders.proofs.Lined.{Lined, told}
@@ -84,18 +66,16 @@ grasped_as b t (TokenOf i c) = refl
 grasped_as b t _ = refl
 
 last_shorter : (l : List ℕ) → length (but_last l) ≤ length l
-last_shorter [] = omega arith
-last_shorter (t ∷ []) = omega arith
 last_shorter (t ∷ u ∷ ts) = let a : length (but_last (u ∷ ts)) ≤ length (u ∷ ts) = last_shorter (u ∷ ts) in omega (arith, a)
+last_shorter _ = omega arith
 
 last_short : (l : List ℕ) (n : ℕ) → length l ≤ n + 1 → length (but_last l) ≤ n
-last_short [] n e = omega arith
-last_short (t ∷ []) n e = omega arith
 last_short (t ∷ u ∷ ts) n e = let a : length (but_last (u ∷ ts)) + 1 ≤ length (u ∷ ts) = drop u ts in omega (arith, a, e)
   where
     drop : (u : ℕ) (ts : List ℕ) → length (but_last (u ∷ ts)) + 1 ≤ length (u ∷ ts)
     drop u [] = omega arith
     drop u (v ∷ vs) = let a : length (but_last (v ∷ vs)) + 1 ≤ length (v ∷ vs) = drop v vs in omega (arith, a)
+last_short _ n e = omega arith
 
 -- the length of the list after a step
 queued_length : (b c : Option ℕ) (l m : List ℕ) (t : ℕ) → Changes l (if same_list b c then Some (Joins t) else None) m → length m ≡ length l + one (same_list b c)
@@ -191,7 +171,8 @@ full_step o p b w v h de li ks kt un f = by h de li kt un
     by : (h : Option Happening) → Deals o p 0 w v h → Lined p w v h → ((by : Option ℕ) (t : ℕ) → h ≡ Some (Adds by t) → (v.job t).kind ≡ (w.job t).kind) → Unpushed (kinds w) b x y h → Full p b v
     by None (inl (same, k)) d kt a = kept_full l m t0 n0 (grasped b (taken x)) (grasped b (taken y)) (unpushed b x) (unpushed b y) (ap length (d b)) (same_own same) (more_grasped b (taken x) (taken y) (elsewhere x) k) a f
     by None (inr (t, hd, n, g)) d kt a = popped_full l m t0 n0 (grasped b (taken x)) (grasped b (taken y)) (unpushed b x) (unpushed b y) (one (is_of b (w.job t).kind)) (ap length (d b))
-        (tokens_hand (kinds w) b o (w.seat p 0).own (v.seat p 0).own t hd ∙ ap (λ z. one (is_of b (w.job t).kind) + z) (sym (tokens_same (kinds w) (kinds v) b (v.seat p 0).own (λ s e. ks s (let c : times s (w.seat p 0).own ≡ one (s == t) + times s (v.seat p 0).own = hands_times o (w.seat p 0).own (v.seat p 0).own t s hd in omega (arith, c, e))))))
+        (tokens_hand (kinds w) b o (w.seat p 0).own (v.seat p 0).own t hd
+        ∙ ap (λ z. one (is_of b (w.job t).kind) + z) (sym (tokens_same (kinds w) (kinds v) b (v.seat p 0).own (λ s e. ks s (let c : times s (w.seat p 0).own ≡ one (s == t) + times s (v.seat p 0).own = hands_times o (w.seat p 0).own (v.seat p 0).own t s hd in omega (arith, c, e))))))
         (none (taken x) n) (ap (grasped b) g ∙ grasped_as b t (w.job t).kind) a f
     by (Some (Adds c t)) (grow, n, g) d kt a = added_full l m t0 n0 (grasped b (taken x)) (grasped b (taken y)) (unpushed b x) (unpushed b y) (one (is_of b (w.job t).kind)) (ap length (d b))
         (ap (tokens (kinds v) b) grow ∙ tokens_push (kinds v) b (w.seat p 0).own t ∙ ap (λ z. z + one (is_of b (v.job t).kind)) (tokens_same (kinds w) (kinds v) b (w.seat p 0).own ks) ∙ ap (λ z. t0 + one (is_of b z)) (kt c t refl))
@@ -199,4 +180,5 @@ full_step o p b w v h de li ks kt un f = by h de li kt un
     by (Some (Queues c r t)) (same, n, g) d kt a = queued_full l m t0 n0 (grasped b (taken x)) (grasped b (taken y)) (unpushed b x) (unpushed b y) (one (same_list b c)) (queued_length b c ((w.seat p 0).fifo b) ((v.seat p 0).fifo b) t (d b)) (same_own same) (none (taken x) n) (a.0) (a.1) f
     by (Some (Retakes c)) (same, n, g) d kt a = retaken_full m t0 n0 (grasped b (taken y)) (unpushed b y) (retaken_length b c ((w.seat p 0).fifo b) ((v.seat p 0).fifo b) t0 (d b) (few l t0 (grasped b (taken x)) (unpushed b x) (one (same_list b c)) (none (taken x) n) (a.0) f)) (same_own same)
     by (Some (Begins t)) (same, n, g) d kt a = begun_full l m t0 n0 (grasped b (taken x)) (grasped b (taken y)) (unpushed b x) (unpushed b y) (ap length (d b)) (same_own same) (plain_grasped b (taken x) t n) (a.0) f
-    by (Some (Redeems t c r)) (same, (i, n), g) d kt a = drawn_full l m t0 n0 (grasped b (taken x)) (grasped b (taken y)) (unpushed b x) (unpushed b y) (one (same_list b c)) (drawn_length b c ((w.seat p 0).fifo b) ((v.seat p 0).fifo b) r (d b)) (same_own same) (token_grasped b (taken x) t i c n) (a.0) f
+    by (Some (Redeems t c r)) (same, (i, n), g) d kt a = drawn_full l m t0 n0 (grasped b (taken x)) (grasped b (taken y)) (unpushed b x) (unpushed b y) (one (same_list b c)) (drawn_length b c ((w.seat p 0).fifo b) ((v.seat p 0).fifo b) r (d b)) (same_own same)
+        (token_grasped b (taken x) t i c n) (a.0) f

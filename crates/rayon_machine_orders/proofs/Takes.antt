@@ -1,42 +1,14 @@
 -- what a place has seen of its call's latch, whose latch it is about to set, and what it answers, over each act and
 -- move
 use Rattle.rayon_machine_places.specs.declared.place.Share.TheVariants.{Body, OfJob}
-use Rattle.rayon_machine_places.specs.declared.place.Count.TheVariants.{OfPool, OfScope, OfCast}
-use Rattle.rayon_machine_places.specs.declared.place.Count.{Count}
-use Rattle.std.proofs.Common.{rules, arith, refl, sym, ◌∙◌, inl, inr}
-use Rattle.std.specs.Prelude.{ℕ, Bool, true, false, ◌&&◌, ◌+◌, nat_lt, if◌then◌else◌, Option, Some, None, ◌≡◌, ◌⊎◌, IfSome}
-use Rattle.rayon_machine_places.specs.declared.place.Party.{Party}
-use Rattle.rayon_machine_places.specs.declared.place.Party.TheVariants.{Worker, Caller}
-use Rattle.rayon_machine_places.specs.declared.place.Ending.{Ending}
-use Rattle.rayon_machine_places.specs.declared.place.Target.{Target}
-use Rattle.rayon_machine_places.specs.declared.place.Target.TheVariants.{Termination, Answer}
-use Rattle.rayon_machine_places.specs.declared.place.Latch.{Latch}
-use Rattle.rayon_machine_places.specs.declared.place.Latch.TheVariants.{Terminate, OfCall}
-use Rattle.rayon_machine_places.specs.declared.place.Rounds.{Rounds}
-use Rattle.rayon_machine_places.specs.declared.place.Rounds.TheVariants.{Failed, Announced}
-use Rattle.rayon_machine_places.specs.declared.place.Plan.{Plan}
-use Rattle.rayon_machine_places.specs.declared.place.Plan.TheVariants.{Detach, Here, Send, Fork, Feed, Open, Enter, Gather}
-use Rattle.rayon_machine_places.specs.declared.place.Share.{Share}
-use Rattle.rayon_machine_places.specs.declared.place.Then.{Then}
-use Rattle.rayon_machine_places.specs.declared.place.Then.TheVariants.{BeginFound, LeaveWait, Resume, Await, RunFirst, Answers, Missing as NoResult, Ran, GiveBack, Called, Gathers}
-use Rattle.rayon_machine_places.specs.declared.place.Place.{Place}
-use Rattle.rayon_machine_places.specs.declared.place.Place.TheVariants.{ProbeWorking, ProbeIdle, PopInjected, AnnounceSelf, GetSleepy, FallAsleep, WakeUp, LeaveSearch, JoinProbe, Run, RaiseCount, GrowCall, TellNews, LockToWake, WakeWorker, UnlockWoken, WaitForLock, TakeResult, LowerCount, StoreResult, SetLatch, LockToSettle, WakeSettled, UnlockSettled, SetLockLatch, FirstSide, SecondSide, AtOnce, Free, Stopped, GrowScope, StoreBody, StoreSlot, ScopeBody, PushJob, OpenSlot, CloseSlot, AddToFifo, TakeFromFifo, RaiseForAll, PushForAll, LowerForAll, OpenForAll, CloseForAll, GrowCast, DealPieces, StorePiece}
-use Rattle.rayon_machine_places.specs.declared.place.Move.{Move}
-use Rattle.rayon_machine_places.specs.declared.place.Move.TheVariants.{Stay}
-use Rattle.rayon_machine_places.specs.declared.act.Act.TheVariants.{Set}
-use Rattle.rayon_machine_places.specs.declared.act.Seen.{Seen}
-use Rattle.rayon_machine_places.specs.declared.act.Seen.TheVariants.{Done, Yes, Task, Wakes, Found, Opened}
-use Rattle.rayon_machine_places.specs.declared.state.Letter.{Letter}
-use Rattle.rayon_machine_places.specs.declared.state.Letter.TheVariants.{Unset, Sleepy as IsSleepy, Sleeping, Set as IsSet}
-use Rattle.rayon_machine_places.specs.declared.shape.PoolShape.{PoolShape}
-use Rattle.rayon_machine_places.specs.declared.place.OpenCall.{OpenCall}
-use Rattle.rayon_machine_places.specs.declared.place.Feeding.{Feeding}
-use Rattle.rayon_machine_places.specs.declared.place.Pieces.{Pieces}
-use Rattle.rayon_machine_places.specs.declared.place.Gathering.{Gathering}
-use Rattle.rayon_machine_places.specs.declared.place.Wait.{Wait}
-use Rattle.rayon_machine_places.specs.declared.place.Settling.{Settling}
-use Rattle.rayon_machine_places.specs.Places.{own_pool, after_wait, latch_of, finish, walk, settle, after_set, after_found, act_of, after_failure, next_of, settle_count, plan_count, plan_job, plan_book, count_book, taken_number, undo, withdraw, begin_feed, after_slot, begin_cast, end_cast, ends_count, set_call}
-use Rattle.rayon_machine_places.specs.World.{Shape, Counts, Part, call_of, target_call, is_set, letter, lock_wait, sleepy, fall_asleep, wake_up, set_latch, found, effect}
+use Rattle.rayon_machine_orders.proofs.Words.{OfPool, OfScope, OfCast, Count, rules, arith, refl, sym, ◌∙◌, inl, inr, ℕ, Bool, true, false, ◌&&◌, ◌+◌, nat_lt, if◌then◌else◌, Option, Some, None, ◌≡◌, ◌⊎◌, IfSome, Party, Worker, Caller, Ending, Target, Termination, Answer, Latch, Terminate}
+use Rattle.rayon_machine_orders.proofs.Words.{OfCall, Rounds, Failed, Announced, Plan, Detach, Here, Send, Fork, Feed, Open, Enter, Gather, Share, Then, BeginFound, LeaveWait, Resume, Await, RunFirst, Answers, Missing as NoResult, GiveBack, Gathers, Place, ProbeWorking, ProbeIdle, PopInjected}
+use Rattle.rayon_machine_orders.proofs.Words.{AnnounceSelf, GetSleepy, FallAsleep, WakeUp, LeaveSearch, JoinProbe, Run, RaiseCount, GrowCall, TellNews, LockToWake, WakeWorker, UnlockWoken, WaitForLock, TakeResult, LowerCount, StoreResult, SetLatch, LockToSettle, WakeSettled, UnlockSettled}
+use Rattle.rayon_machine_orders.proofs.Words.{SetLockLatch, FirstSide, SecondSide, AtOnce, Free, Stopped, GrowScope, StoreBody, StoreSlot, ScopeBody, PushJob, OpenSlot, CloseSlot, AddToFifo, TakeFromFifo, RaiseForAll, PushForAll, LowerForAll, OpenForAll, CloseForAll, GrowCast, DealPieces}
+use Rattle.rayon_machine_orders.proofs.Words.{StorePiece, Move, Stay, Seen, Done, Yes, Task, Wakes, Found, Opened, Letter, Unset, IsSleepy, Sleeping, IsSet, PoolShape, OpenCall, Feeding, Pieces, Gathering, Wait, Settling, own_pool, after_wait, latch_of, finish, walk, settle, after_set}
+use Rattle.rayon_machine_orders.proofs.Words.{after_found, act_of, after_failure, next_of, settle_count, plan_count, plan_job, plan_book, count_book, taken_number, undo, withdraw, begin_feed, after_slot, begin_cast, end_cast, ends_count, set_call, Shape, Counts, Part, target_call, letter, found}
+use Rattle.rayon_machine_orders.proofs.Words.{effect, Taken, BeginTask, LookQueue, plan_pool}
+use Rattle.rayon_machine_places.specs.World.{call_of, is_set, lock_wait, sleepy, fall_asleep, wake_up, set_latch}
 use Rattle.rayon_machine_laws.proofs.ClaimActs.{is_call, sets_call}
 use Rattle.rayon_machine_laws.proofs.Frame.{if_some_all, if_some_map}
 use Rattle.rayon_machine_laws.proofs.Latches.{SameLatches, latches_same}
@@ -44,7 +16,7 @@ use Rattle.rayon_machine_laws.proofs.Locks.{tops_map}
 use Rattle.rayon_machine_laws.proofs.Owners.{target_number}
 use Rattle.rayon_machine_laws.proofs.Seats.{is_frame}
 use Rattle.rayon_machine_laws.proofs.Tops.{Tops}
-use Rattle.rayon_machine_places.specs.declared.place.Taken.{Taken}
+use Rattle.rayon_machine_orders.proofs.Spared.{Spared, act_spared, begins, looks, puts_cell, pushes}
 
 -- the call whose latch a place has seen set, and not yet taken from
 abbrev pub set_found : Target → Option Taken → Option ℕ
@@ -119,14 +91,9 @@ sets_next x e = stores_now x
 
 -- only a call that waits for a job makes a cell so
 abbrev pub is_waiting_plan : Plan → Bool
-is_waiting_plan (Detach p t) = false
-is_waiting_plan (Here p t) = false
 is_waiting_plan (Send o) = true
 is_waiting_plan (Fork o a) = true
-is_waiting_plan (Feed f) = false
-is_waiting_plan (Open o) = false
-is_waiting_plan (Enter e) = false
-is_waiting_plan (Gather g) = false
+is_waiting_plan _ = false
 
 -- a broadcast that waits has a piece
 abbrev pub has_pieces : Plan → Bool
@@ -193,12 +160,7 @@ finish_on s w (Caller n) (Await o) = (λ c e. absurd (cc), λ c e. absurd (cc), 
 finish_on s w (Worker i j) (Gathers o) = (λ c e. absurd (cc), λ c e. absurd (cc), λ u. refl, λ e. absurd (cc))
 finish_on s w (Caller n) (Gathers o) = (λ c e. absurd (cc), λ c e. absurd (cc), λ u. refl, λ e. absurd (cc))
 finish_on s w q (RunFirst o a) = (λ c e. absurd (cc), λ c e. absurd (cc), λ u. refl, λ e. absurd (cc))
-finish_on s w q Resume = tt
-finish_on s w q Called = tt
-finish_on s w q (Answers o f e) = tt
-finish_on s w q (NoResult o f) = tt
-finish_on s w q (Ran t e) = tt
-finish_on s w q (GiveBack n) = tt
+finish_on s w q _ = tt
 
 on_if : (R : Place → Type 0) (b : Bool) (y : Place) (g : Move) → R y → Tops R g → Tops R (if b then Stay y else g)
 on_if R true y g a t = a
@@ -239,14 +201,12 @@ tell_on h q n v _ = (λ c e. absurd (cc), λ c e. absurd (cc), λ u. refl, λ e.
 
 fed_on : (f : Feeding) (k : Count) → Onward None None true false (begin_feed k f)
 fed_on f (OfPool p) = (λ c e. absurd (cc), λ c e. absurd (cc), λ u. refl, λ e. absurd (cc))
-fed_on f (OfScope n o) = (λ c e. absurd (cc), λ c e. absurd (cc), λ u. refl, λ e. absurd (cc))
-fed_on f (OfCast n o) = (λ c e. absurd (cc), λ c e. absurd (cc), λ u. refl, λ e. absurd (cc))
+fed_on f _ = (λ c e. absurd (cc), λ c e. absurd (cc), λ u. refl, λ e. absurd (cc))
 
 -- a refused call gives back its share, and first takes back its number of a book
 undone_on : (k : Count) (t : ℕ) (n : Plan) (w : Bool) → Onward None None w false (LowerCount k (OfJob t) (GiveBack n))
 undone_on (OfPool p) t n w = (λ c e. absurd (cc), λ c e. absurd (cc), λ u. refl, λ e. absurd (cc))
-undone_on (OfScope d o) t n w = (λ c e. absurd (cc), λ c e. absurd (cc), λ u. refl, λ e. absurd (cc))
-undone_on (OfCast d o) t n w = (λ c e. absurd (cc), λ c e. absurd (cc), λ u. refl, λ e. absurd (cc))
+undone_on _ t n w = (λ c e. absurd (cc), λ c e. absurd (cc), λ u. refl, λ e. absurd (cc))
 
 pub undo_on : (n : Plan) (w : Bool) → Onward None None w false (undo n)
 undo_on n w = undone_on (plan_count n) (plan_job n) n w
@@ -309,13 +269,7 @@ grow_on h q n _ = undo_on n (is_waiting_plan n)
 
 opened_on : (n : Plan) → Onward None None true false (after_slot n)
 opened_on (Feed f) = (λ c e. absurd (cc), λ c e. absurd (cc), λ u. refl, λ e. absurd (cc))
-opened_on (Detach p t) = (λ c e. absurd (cc), λ c e. absurd (cc), λ u. refl, λ e. absurd (cc))
-opened_on (Here p t) = (λ c e. absurd (cc), λ c e. absurd (cc), λ u. refl, λ e. absurd (cc))
-opened_on (Send o) = (λ c e. absurd (cc), λ c e. absurd (cc), λ u. refl, λ e. absurd (cc))
-opened_on (Fork o a) = (λ c e. absurd (cc), λ c e. absurd (cc), λ u. refl, λ e. absurd (cc))
-opened_on (Open o) = (λ c e. absurd (cc), λ c e. absurd (cc), λ u. refl, λ e. absurd (cc))
-opened_on (Enter x) = (λ c e. absurd (cc), λ c e. absurd (cc), λ u. refl, λ e. absurd (cc))
-opened_on (Gather g) = (λ c e. absurd (cc), λ c e. absurd (cc), λ u. refl, λ e. absurd (cc))
+opened_on _ = (λ c e. absurd (cc), λ c e. absurd (cc), λ u. refl, λ e. absurd (cc))
 
 open_on : (h : PoolShape) (q : Party) (n : Plan) (e : Seen) → Tops (Follows (OpenSlot n) e) (next_of h q (OpenSlot n) e)
 open_on h q n Done = opened_on n
@@ -331,13 +285,11 @@ retake_on h q f _ = tt
 
 begun_on : (c : Pieces) (k : Count) → Onward None None true false (begin_cast k c)
 begun_on c (OfPool p) = (λ c e. absurd (cc), λ c e. absurd (cc), λ u. refl, λ e. absurd (cc))
-begun_on c (OfScope n o) = (λ c e. absurd (cc), λ c e. absurd (cc), λ u. refl, λ e. absurd (cc))
-begun_on c (OfCast n o) = (λ c e. absurd (cc), λ c e. absurd (cc), λ u. refl, λ e. absurd (cc))
+begun_on c _ = (λ c e. absurd (cc), λ c e. absurd (cc), λ u. refl, λ e. absurd (cc))
 
 undealt_on : (c : Pieces) (k : Count) → Onward None None true false (end_cast k c)
 undealt_on c (OfPool p) = (λ c e. absurd (cc), λ c e. absurd (cc), λ u. refl, λ e. absurd (cc))
-undealt_on c (OfScope n o) = (λ c e. absurd (cc), λ c e. absurd (cc), λ u. refl, λ e. absurd (cc))
-undealt_on c (OfCast n o) = (λ c e. absurd (cc), λ c e. absurd (cc), λ u. refl, λ e. absurd (cc))
+undealt_on c _ = (λ c e. absurd (cc), λ c e. absurd (cc), λ u. refl, λ e. absurd (cc))
 
 raise_all_on : (h : PoolShape) (q : Party) (c : Pieces) (e : Seen) → Tops (Follows (RaiseForAll c) e) (next_of h q (RaiseForAll c) e)
 raise_all_on h q c Done = begun_on c c.count
@@ -455,27 +407,19 @@ target_set m (Answer o f) d z e = (number_is (o.number) d e, z)
 
 working_sees : (q : Party) (m : Part) (k : Wait) (d : ℕ) (x : Letter) → letter (latch_of k.target) m ≡ x → sees_set (ProbeWorking k) (is_set x) ≡ Some d → (call_of (latch_of k.target) ≡ d) × (m.call.latch ≡ IsSet)
 working_sees q m k d IsSet z e = target_set m k.target d z e
-working_sees q m k d Unset z e = absurd (cc)
-working_sees q m k d IsSleepy z e = absurd (cc)
-working_sees q m k d Sleeping z e = absurd (cc)
+working_sees q m k d _ z e = absurd (cc)
 
 idle_sees : (q : Party) (m : Part) (k : Wait) (d : ℕ) (x : Letter) → letter (latch_of k.target) m ≡ x → sees_set (ProbeIdle k) (is_set x) ≡ Some d → (call_of (latch_of k.target) ≡ d) × (m.call.latch ≡ IsSet)
 idle_sees q m k d IsSet z e = target_set m k.target d z e
-idle_sees q m k d Unset z e = absurd (cc)
-idle_sees q m k d IsSleepy z e = absurd (cc)
-idle_sees q m k d Sleeping z e = absurd (cc)
+idle_sees q m k d _ z e = absurd (cc)
 
 join_sees : (q : Party) (m : Part) (o : OpenCall) (d : ℕ) (x : Letter) → m.call.latch ≡ x → sees_set (JoinProbe o) (is_set x) ≡ Some d → (o.number ≡ d) × (m.call.latch ≡ IsSet)
 join_sees q m o d IsSet z e = (number_is (o.number) d e, z)
-join_sees q m o d Unset z e = absurd (cc)
-join_sees q m o d IsSleepy z e = absurd (cc)
-join_sees q m o d Sleeping z e = absurd (cc)
+join_sees q m o d _ z e = absurd (cc)
 
 lock_sees : (m : Part) (o : OpenCall) (x : Letter) → m.call.latch ≡ x → IfSome (lock_wait m x) (λ r. (d : ℕ) → Some o.number ≡ Some d → (seen_set (WaitForLock o) ≡ Some d) ⊎ ((o.number ≡ d) × (m.call.latch ≡ IsSet)))
 lock_sees m o IsSet z = λ d e. inr (number_is (o.number) d e, z)
-lock_sees m o Unset z = tt
-lock_sees m o IsSleepy z = tt
-lock_sees m o Sleeping z = tt
+lock_sees m o _ z = tt
 
 pub act_sees : (h : Shape) (q : Party) (c : Counts) (m : Part) (x : Place) → IfSome (effect (act_of q x) h q c m) (SeesSet q m x)
 act_sees h (Worker a b) c m (ProbeWorking k) = λ d e. inr (working_sees (Worker a b) m k d (letter (latch_of k.target) m) refl e)
@@ -496,16 +440,12 @@ StaysSet m r = m.call.latch ≡ IsSet → r.1.call.latch ≡ IsSet
 sleepy_stays : (l : Latch) (m : Part) (x : Letter) → letter l m ≡ x → IfSome (sleepy l m x) (StaysSet m)
 sleepy_stays Terminate m Unset z = λ s. s
 sleepy_stays (OfCall c) m Unset z = λ s. absurd (let k : Unset ≡ IsSet = sym z ∙ s in cc)
-sleepy_stays l m IsSleepy z = λ s. s
-sleepy_stays l m Sleeping z = λ s. s
-sleepy_stays l m IsSet z = λ s. s
+sleepy_stays l m _ z = λ s. s
 
 asleep_stays : (l : Latch) (m : Part) (x : Letter) → letter l m ≡ x → IfSome (fall_asleep l m x) (StaysSet m)
 asleep_stays Terminate m IsSleepy z = λ s. s
 asleep_stays (OfCall c) m IsSleepy z = λ s. absurd (let k : IsSleepy ≡ IsSet = sym z ∙ s in cc)
-asleep_stays l m Unset z = λ s. s
-asleep_stays l m Sleeping z = λ s. s
-asleep_stays l m IsSet z = λ s. s
+asleep_stays l m _ z = λ s. s
 
 wake_stays : (l : Latch) (m : Part) (x : Letter) → letter l m ≡ x → IfSome (wake_up l m x) (StaysSet m)
 wake_stays l m IsSet z = λ s. s
@@ -518,13 +458,9 @@ wake_stays (OfCall c) m Sleeping z = λ s. absurd (let k : Sleeping ≡ IsSet = 
 
 set_stays : (l : Latch) (m : Part) (x : Letter) → IfSome (set_latch l m x) (StaysSet m)
 set_stays Terminate m Sleeping = λ s. s
-set_stays Terminate m Unset = λ s. s
-set_stays Terminate m IsSleepy = λ s. s
-set_stays Terminate m IsSet = λ s. s
 set_stays (OfCall c) m Sleeping = λ s. refl
-set_stays (OfCall c) m Unset = λ s. refl
-set_stays (OfCall c) m IsSleepy = λ s. refl
-set_stays (OfCall c) m IsSet = λ s. refl
+set_stays Terminate m _ = λ s. s
+set_stays (OfCall c) m _ = λ s. refl
 
 pub act_stays_set : (h : Shape) (q : Party) (c : Counts) (m : Part) (x : Place) → is_growing x ≡ false → IfSome (effect (act_of q x) h q c m) (StaysSet m)
 act_stays_set h (Worker a b) c m (GetSleepy k) z = sleepy_stays (latch_of k.target) m (letter (latch_of k.target) m) refl
@@ -550,22 +486,19 @@ act_stays_set h (Caller n) c m x z = if_some_map (SameLatches m) (StaysSet m) (�
 abbrev pub SameCell : Part → Seen × Part → Type 0
 SameCell m r = r.1.call.cell ≡ m.call.cell
 
-set_cell : (l : Latch) (r j : ℕ) (h : Shape) (q : Party) (c : Counts) (m : Part) → IfSome (effect (Set l r j) h q c m) (SameCell m)
-set_cell Terminate r j h q c m = search (rules, arith)
-set_cell (OfCall n) r j h q c m = search (rules, arith)
+writing_act : (q : Party) (x : Place) → writes_cell x ≡ false → puts_cell (act_of q x) ≡ false
+writing_act (Worker a b) (ProbeWorking k) z = z
+writing_act (Worker a b) (BeginTask t) z = begins puts_cell t (λ n. refl) (λ k i d. refl)
+writing_act (Worker a b) (LookQueue n) z = looks puts_cell (Worker a b) (plan_pool n) refl refl
+writing_act (Worker a b) (PushJob n v) z = pushes puts_cell (Worker a b) (plan_pool n) (plan_job n) (plan_book n) refl refl
+writing_act (Worker a b) _ z = z
+writing_act (Caller c) (BeginTask t) z = begins puts_cell t (λ n. refl) (λ k i d. refl)
+writing_act (Caller c) (LookQueue n) z = looks puts_cell (Caller c) (plan_pool n) refl refl
+writing_act (Caller c) (PushJob n v) z = pushes puts_cell (Caller c) (plan_pool n) (plan_job n) (plan_book n) refl refl
+writing_act (Caller c) _ z = z
 
 pub act_cell : (h : Shape) (q : Party) (c : Counts) (m : Part) (x : Place) → writes_cell x ≡ false → IfSome (effect (act_of q x) h q c m) (SameCell m)
-act_cell h (Worker a b) c m (ProbeWorking k) z = search (rules, arith)
-act_cell h q c m (SetLatch s) z = set_cell s.latch s.pool s.worker h q c m
-act_cell h q c m (GrowCall n) z = cc
-act_cell h q c m (GrowScope o) z = cc
-act_cell h q c m (GrowCast g) z = cc
-act_cell h q c m (StorePiece d o t e) z = cc
-act_cell h q c m (StoreBody o e) z = cc
-act_cell h q c m (TakeResult o f) z = cc
-act_cell h q c m (StoreResult d o e) z = cc
-act_cell h (Worker a b) c m _ z = search (rules, arith)
-act_cell h (Caller n) c m _ z = search (rules, arith)
+act_cell h q c m x z = if_some_map (Spared (act_of q x) m) (SameCell m) (λ r s. s.cell (writing_act q x z)) (effect (act_of q x) h q c m) (act_spared (act_of q x) h q c m)
 
 -- what is stored is in the cell
 pub act_stores : (h : Shape) (q : Party) (c : Counts) (m : Part) (d : ℕ) (o : Party) (e : Ending) → IfSome (effect (act_of q (StoreResult d o e)) h q c m) (λ r. r.1.call.cell ≡ Some e)

@@ -1,34 +1,12 @@
 -- in a pool of one worker: what each step does to a call that has added its job to a FIFO list and not pushed its token
 use Rattle.std.proofs.Common.{rules, arith, refl, sym, ◌∙◌, ap, subst, inl, inr}
-use Rattle.std.specs.Prelude.{ℕ, zero, Bool, true, false, ◌&&◌, ◌+◌, ◌-◌, ◌==◌, ◌≤◌, nat_lt, if◌then◌else◌, Option, Some, None, List, [], ◌∷◌, ◌++◌, ◌≡◌, IfSome, length}
-use Rattle.std.proofs.lemmas.Bool.{eqb-true, eq-eqb}
-use Rattle.rayon_machine_places.specs.declared.place.Ending.{Ending}
-use Rattle.rayon_machine_places.specs.declared.place.Feeding.{Feeding}
-use Rattle.rayon_machine_places.specs.declared.place.JobKind.{JobKind}
-use Rattle.rayon_machine_places.specs.declared.place.JobKind.TheVariants.{TokenOf}
-use Rattle.rayon_machine_places.specs.declared.place.Party.{Party}
-use Rattle.rayon_machine_places.specs.declared.place.Party.TheVariants.{Worker, Caller}
-use Rattle.rayon_machine_places.specs.declared.place.Place.{Place}
-use Rattle.rayon_machine_places.specs.declared.place.Place.TheVariants.{PickVictim, StealFrom, PopInjected, YieldPop, YieldPick, YieldSteal, YieldPopInjected, LocalPop, Run, Free, GrowCall, GrowScope, GrowCast, DealPieces, OpenSlot, OpenForAll, PushForAll, PushJob, AddToFifo, LookForToken, PushToken, TakeFromFifo, BeginTask, BeginHere}
-use Rattle.rayon_machine_places.specs.declared.place.Plan.{Plan}
-use Rattle.rayon_machine_places.specs.declared.place.Plan.TheVariants.{Detach, Feed}
-use Rattle.rayon_machine_places.specs.declared.place.Move.TheVariants.{HandBack}
-use Rattle.rayon_machine_places.specs.declared.place.Count.{Count}
-use Rattle.rayon_machine_places.specs.declared.place.Count.TheVariants.{OfPool, OfScope, OfCast}
-use Rattle.rayon_machine_places.specs.declared.place.Pieces.{Pieces}
-use Rattle.rayon_machine_places.specs.declared.place.Taken.TheVariants.{Plain, Token}
-use Rattle.rayon_machine_places.specs.declared.act.Act.TheVariants.{PushOwn, PushInj}
-use Rattle.rayon_machine_places.specs.declared.act.Seen.{Seen}
-use Rattle.rayon_machine_places.specs.declared.act.Seen.TheVariants.{Refused, Yes, Missing, Start, Task}
-use Rattle.rayon_machine_places.specs.declared.event.Event.{Event}
-use Rattle.rayon_machine_places.specs.declared.event.Event.TheVariants.{Go, From, Refuse, Miss, End, Spawn, Fifo, Install, Join, Yield, YieldLocal, EndPool, Cast, Scope as OpenScope, IntoSpawn, IntoFifo, IntoCast, Broadcast}
-use Rattle.rayon_machine_places.specs.declared.shape.PoolShape.{PoolShape}
-use Rattle.rayon_machine_places.specs.Places.{same_party, own_pool, own_index, act_of, next_of, not_self, next_victim, end_cast, taken_back, taken_number, withdraw, is_free, is_member, is_refusable, plan_pool, plan_job, plan_book, count_book}
-use Rattle.rayon_machine_places.specs.World.{Shape, Stack, World, Part, is_open, same_list, target_pool, target_worker, target_call}
-use Rattle.rayon_machine_places.specs.Steps.{put_stack, after_call, after_choice, after_close, after_end, after_join, after_miss, after_move, after_refusal, after_send, after_yield, can_miss, holds, is_pool, step}
-use Rattle.rayon_machine_places.specs.Runs.{IsRun, start}
-use Rattle.rayon_machine_orders.specs.Order.{Happening, Adds, Queues, Retakes, Begins, Redeems, act_happens, happening}
-use Rattle.rayon_machine_laws.specs.Once.{one, times}
+use Rattle.rayon_machine_orders.proofs.Words.{ℕ, zero, Bool, true, false, ◌&&◌, ◌+◌, ◌-◌, ◌==◌, ◌≤◌, nat_lt, if◌then◌else◌, Option, Some, None, List, [], ◌∷◌, ◌++◌, ◌≡◌, IfSome, length, eqb-true, eq-eqb, Ending, Feeding, JobKind, TokenOf, Party, Worker, Caller, Place, PickVictim, StealFrom}
+use Rattle.rayon_machine_orders.proofs.Words.{PopInjected, YieldPop, YieldPick, YieldSteal, YieldPopInjected, LocalPop, Run, Free, GrowCall, GrowScope, GrowCast, DealPieces, OpenSlot, OpenForAll, PushForAll, PushJob, AddToFifo, LookForToken, PushToken, TakeFromFifo, BeginTask, BeginHere, Plan}
+use Rattle.rayon_machine_orders.proofs.Words.{Detach, Feed, HandBack, Count, OfPool, OfScope, OfCast, Pieces, Plain, Token, PushOwn, PushInj, Seen, Refused, Yes, Start, Task, Event, Go, From, Refuse, Miss, End, Spawn, Fifo, Install, Join, Yield, YieldLocal, EndPool, Cast, OpenScope, IntoSpawn}
+use Rattle.rayon_machine_orders.proofs.Words.{IntoFifo, IntoCast, Broadcast, PoolShape, same_party, own_pool, own_index, act_of, next_of, not_self, next_victim, end_cast, taken_back, taken_number, withdraw, is_free, is_member, is_refusable, plan_pool, plan_job, plan_book, count_book, Shape}
+use Rattle.rayon_machine_orders.proofs.Words.{Stack, World, Part, is_open, same_list, target_pool, target_worker, target_call, put_stack, after_call, after_choice, after_close, after_end, after_join, after_miss, after_move, after_refusal, after_send, after_yield, can_miss, holds, is_pool, step}
+use Rattle.rayon_machine_orders.proofs.Words.{IsRun, start, Happening, Adds, Queues, Retakes, Begins, Redeems, act_happens, happening, one, times}
+use Rattle.rayon_machine_places.specs.declared.act.Seen.TheVariants.{Missing}
 use Rattle.rayon_machine_laws.proofs.Calm.{part_at, counts_seen, next_at}
 use Rattle.rayon_machine_laws.proofs.Claims.{Says}
 use Rattle.rayon_machine_laws.proofs.Frame.{acted_keeps, and_parts, either, fifo_cases, if_cond, if_some_all, if_some_map, into_cases, into_cast_cases, into_fifo_cases, same_party_true}
@@ -67,8 +45,10 @@ free_calm Free e = refl
 free_calm _ e = absurd (cc)
 
 from_owes : (w : World) (p : ℕ) (b : Option ℕ) (q : Party) (x : Place) (v : ℕ) → (w.stack q).top ≡ x → IfSome (after_choice w q (w.stack q) x v) (Owes p b w)
-from_owes w p b q (PickVictim k) v e = if_cond (Owes p b w) (nat_lt v (w.shape.pool (own_pool q)).workers) _ (λ z. settled w p b q (after_move (next_of (w.shape.pool (own_pool q)) q (w.stack q).top (Start v)) (w.stack q).below) (ap is_waiting e) (subst (λ y. is_waiting (after_move (next_of (w.shape.pool (own_pool q)) q y (Start v)) (w.stack q).below).top ≡ false) (sym e) refl))
-from_owes w p b q YieldPick v e = if_cond (Owes p b w) (nat_lt v (w.shape.pool (own_pool q)).workers) _ (λ z. settled w p b q (after_move (next_of (w.shape.pool (own_pool q)) q (w.stack q).top (Start v)) (w.stack q).below) (ap is_waiting e) (subst (λ y. is_waiting (after_move (next_of (w.shape.pool (own_pool q)) q y (Start v)) (w.stack q).below).top ≡ false) (sym e) refl))
+from_owes w p b q (PickVictim k) v e = if_cond (Owes p b w) (nat_lt v (w.shape.pool (own_pool q)).workers) _
+    (λ z. settled w p b q (after_move (next_of (w.shape.pool (own_pool q)) q (w.stack q).top (Start v)) (w.stack q).below) (ap is_waiting e) (subst (λ y. is_waiting (after_move (next_of (w.shape.pool (own_pool q)) q y (Start v)) (w.stack q).below).top ≡ false) (sym e) refl))
+from_owes w p b q YieldPick v e = if_cond (Owes p b w) (nat_lt v (w.shape.pool (own_pool q)).workers) _
+    (λ z. settled w p b q (after_move (next_of (w.shape.pool (own_pool q)) q (w.stack q).top (Start v)) (w.stack q).below) (ap is_waiting e) (subst (λ y. is_waiting (after_move (next_of (w.shape.pool (own_pool q)) q y (Start v)) (w.stack q).below).top ≡ false) (sym e) refl))
 from_owes w p b q _ v e = tt
 
 missed_calm : (g : PoolShape) (q : Party) (x : Place) (fs : List Place) → is_thief x ≡ true → is_waiting (after_move (next_of g q x Missing) fs).top ≡ false
@@ -87,10 +67,11 @@ missed_calm g q (YieldSteal v n) fs e = by (n == 0)
 missed_calm g q _ fs e = absurd (cc)
 
 miss_owes : (w : World) (p : ℕ) (b : Option ℕ) (q : Party) (x : Place) → (w.stack q).top ≡ x → IfSome (after_miss w q (w.stack q) x) (Owes p b w)
-miss_owes w p b (Worker i j) (StealFrom k n) e = if_cond (Owes p b w) (can_miss w i k.victim) _ (λ z. settled w p b (Worker i j) (after_move (next_of (w.shape.pool i) (Worker i j) (w.stack (Worker i j)).top Missing) (w.stack (Worker i j)).below) (ap is_waiting e) (missed_calm (w.shape.pool i) (Worker i j) (w.stack (Worker i j)).top (w.stack (Worker i j)).below (ap is_thief e)))
-miss_owes w p b (Worker i j) (YieldSteal v n) e = if_cond (Owes p b w) (can_miss w i v) _ (λ z. settled w p b (Worker i j) (after_move (next_of (w.shape.pool i) (Worker i j) (w.stack (Worker i j)).top Missing) (w.stack (Worker i j)).below) (ap is_waiting e) (missed_calm (w.shape.pool i) (Worker i j) (w.stack (Worker i j)).top (w.stack (Worker i j)).below (ap is_thief e)))
-miss_owes w p b (Worker i j) _ e = tt
-miss_owes w p b (Caller n) _ e = tt
+miss_owes w p b (Worker i j) (StealFrom k n) e = if_cond (Owes p b w) (can_miss w i k.victim) _
+    (λ z. settled w p b (Worker i j) (after_move (next_of (w.shape.pool i) (Worker i j) (w.stack (Worker i j)).top Missing) (w.stack (Worker i j)).below) (ap is_waiting e) (missed_calm (w.shape.pool i) (Worker i j) (w.stack (Worker i j)).top (w.stack (Worker i j)).below (ap is_thief e)))
+miss_owes w p b (Worker i j) (YieldSteal v n) e = if_cond (Owes p b w) (can_miss w i v) _
+    (λ z. settled w p b (Worker i j) (after_move (next_of (w.shape.pool i) (Worker i j) (w.stack (Worker i j)).top Missing) (w.stack (Worker i j)).below) (ap is_waiting e) (missed_calm (w.shape.pool i) (Worker i j) (w.stack (Worker i j)).top (w.stack (Worker i j)).below (ap is_thief e)))
+miss_owes w p b _ _ e = tt
 
 end_owes : (w : World) (p : ℕ) (b : Option ℕ) (q : Party) (d : Ending) (x : Place) → AllFrames (w.stack q).below → (w.stack q).top ≡ x → IfSome (after_end w q d (w.stack q) x) (Owes p b w)
 end_owes w p b q d (Run t k) a e = settled w p b q (after_close t k d (w.stack q).below) (ap is_waiting e) (close_calm t k d (w.stack q).below a)
@@ -102,8 +83,7 @@ withdraw_zero (Some c) n b = refl
 
 cast_zero : (k : Count) (c : Pieces) (b : Option ℕ) → unpushed b (end_cast k c) ≡ 0
 cast_zero (OfPool p) c b = refl
-cast_zero (OfScope m o) c b = refl
-cast_zero (OfCast m o) c b = refl
+cast_zero _ c b = refl
 
 refused_owes : (g : PoolShape) (q : Party) (x : Place) (fs : List Place) (b : Option ℕ) → is_refusable x ≡ true → unpushed b x ≡ unpushed b (after_move (next_of g q x Refused) fs).top
 refused_owes g q (PushToken f v) fs b e = refl
@@ -167,7 +147,8 @@ same_of b c k e = subst (λ z. one (same_list b c) ≤ one (is_of b z)) (sym e) 
 rest_calm : (w : World) (p : ℕ) (x : Place) (fs : List Place) → AllFrames fs → is_waiting x ≡ false → is_adding x ≡ false → IfSome (outcome w (Worker p 0) (record { top = x; below = fs })) (λ r. is_waiting (after_move (next_at w (Worker p 0) (record { top = x; below = fs }) (r.0)) fs).top ≡ false)
 rest_calm w p x fs a y z =
     let k : Stack = record { top = x; below = fs } in let me : Party = Worker p 0 in
-    if_some_map {A = Seen × Part} (λ r. NoWait (next_at w me k (r.0))) (λ r. is_waiting (after_move (next_at w me k (r.0)) fs).top ≡ false) (λ r t. top_after (λ y. is_waiting y ≡ false) (next_at w me k (r.0)) fs t frame_calm a) (outcome w me k) (stays_calm w.shape (shape_at w me k) me (counts_seen w me k) (part_at w me k) x y z)
+    if_some_map {A = Seen × Part} (λ r. NoWait (next_at w me k (r.0))) (λ r. is_waiting (after_move (next_at w me k (r.0)) fs).top ≡ false) (λ r t. top_after (λ y. is_waiting y ≡ false) (next_at w me k (r.0)) fs t frame_calm a) (outcome w me k)
+    (stays_calm w.shape (shape_at w me k) me (counts_seen w me k) (part_at w me k) x y z)
 
 pushed_owes : (w : World) (p : ℕ) (b : Option ℕ) (n : Plan) (v : Bool) (fs : List Place) (o : Seen × Part → Option ℕ) (r : Seen × Part) → is_waiting (after_move (next_at w (Worker p 0) (record { top = PushJob n v; below = fs }) (r.0)) fs).top ≡ false → OwnOwes w p b (PushJob n v) fs o r
 pushed_owes w p b n v fs o r c = at (p == plan_pool n)
@@ -188,24 +169,30 @@ taken_zero : (f : Feeding) (e : Seen) (fs : List Place) (b : Option ℕ) → All
 taken_zero f (Task t) fs b a = withdraw_zero (count_book f.count) (Feed (record f { job = taken_number t })) b
 taken_zero f _ fs b a = calm_zero (after_move (HandBack (Detach f.pool f.token)) fs).top b (top_after (λ y. is_waiting y ≡ false) (HandBack (Detach f.pool f.token)) fs tt frame_calm a)
 
-rest_owes : (w : World) (p : ℕ) (b : Option ℕ) (x : Place) (fs : List Place) (o : Seen × Part → Option ℕ) (r : Seen × Part) → is_push x ≡ false → is_start x ≡ false → is_line x ≡ false → is_waiting x ≡ false → is_waiting (after_move (next_at w (Worker p 0) (record { top = x; below = fs }) (r.0)) fs).top ≡ false → OwnOwes w p b x fs o r
-rest_owes w p b x fs o r y z l c d = subst (Unpushed (kinds w) b x (after_move (next_at w (Worker p 0) (record { top = x; below = fs }) (r.0)) fs).top) (sym (silent (Worker p 0) x fs (o r) y z l)) (calm_zero x b c ∙ sym (calm_zero (after_move (next_at w (Worker p 0) (record { top = x; below = fs }) (r.0)) fs).top b d))
+rest_owes : (w : World) (p : ℕ) (b : Option ℕ) (x : Place) (fs : List Place) (o : Seen × Part → Option ℕ) (r : Seen × Part) → is_push x ≡ false → is_start x ≡ false → is_line x ≡ false → is_waiting x ≡ false
+    → is_waiting (after_move (next_at w (Worker p 0) (record { top = x; below = fs }) (r.0)) fs).top ≡ false → OwnOwes w p b x fs o r
+rest_owes w p b x fs o r y z l c d = subst (Unpushed (kinds w) b x (after_move (next_at w (Worker p 0) (record { top = x; below = fs }) (r.0)) fs).top) (sym (silent (Worker p 0) x fs (o r) y z l))
+    (calm_zero x b c ∙ sym (calm_zero (after_move (next_at w (Worker p 0) (record { top = x; below = fs }) (r.0)) fs).top b d))
 
 own_owes : (w : World) (p : ℕ) (b : Option ℕ) (x : Place) (fs : List Place) (o : Seen × Part → Option ℕ) → AllFrames fs → Says w (Worker p 0) x → IfSome (outcome w (Worker p 0) (record { top = x; below = fs })) (OwnOwes w p b x fs o)
 own_owes w p b (AddToFifo f) fs o a s = if_cond (OwnOwes w p b (AddToFifo f) fs o) (is_open (Worker p 0) ((w.seat p 0).feeder (count_book f.count))) _ (λ z. (refl, refl))
 own_owes w p b (LookForToken f) fs o a s = if_some_all {A = Seen × Part} (OwnOwes w p b (LookForToken f) fs o) (λ r. looked_owes b (w.shape.pool p) (Worker p 0) f fs (r.0)) (outcome w (Worker p 0) (record { top = LookForToken f; below = fs }))
 own_owes w p b (PushToken f v) fs o a s = (same_of b (count_book f.count) (w.job f.token).kind ((s.1).kind), refl)
 own_owes w p b (TakeFromFifo f) fs o a s = if_some_all {A = Seen × Part} (OwnOwes w p b (TakeFromFifo f) fs o) (λ r. (refl, taken_zero f (r.0) fs b a)) (outcome w (Worker p 0) (record { top = TakeFromFifo f; below = fs }))
-own_owes w p b (PushJob n v) fs o a s = if_some_map {A = Seen × Part} (λ r. is_waiting (after_move (next_at w (Worker p 0) (record { top = PushJob n v; below = fs }) (r.0)) fs).top ≡ false) (OwnOwes w p b (PushJob n v) fs o) (λ r c. pushed_owes w p b n v fs o r c) (outcome w (Worker p 0) (record { top = PushJob n v; below = fs })) (rest_calm w p (PushJob n v) fs a refl refl)
+own_owes w p b (PushJob n v) fs o a s = if_some_map {A = Seen × Part} (λ r. is_waiting (after_move (next_at w (Worker p 0) (record { top = PushJob n v; below = fs }) (r.0)) fs).top ≡ false) (OwnOwes w p b (PushJob n v) fs o) (λ r c. pushed_owes w p b n v fs o r c)
+    (outcome w (Worker p 0) (record { top = PushJob n v; below = fs })) (rest_calm w p (PushJob n v) fs a refl refl)
 own_owes w p b (BeginTask (Plain t)) fs o a s = (refl, refl)
-own_owes w p b (BeginTask (Token k i c)) fs o a s = if_some_map {A = Seen × Part} (λ r. is_waiting (after_move (next_at w (Worker p 0) (record { top = BeginTask (Token k i c); below = fs }) (r.0)) fs).top ≡ false) (OwnOwes w p b (BeginTask (Token k i c)) fs o) (λ r d. (refl, calm_zero (after_move (next_at w (Worker p 0) (record { top = BeginTask (Token k i c); below = fs }) (r.0)) fs).top b d)) (outcome w (Worker p 0) (record { top = BeginTask (Token k i c); below = fs })) (rest_calm w p (BeginTask (Token k i c)) fs a refl refl)
+own_owes w p b (BeginTask (Token k i c)) fs o a s = if_some_map {A = Seen × Part} (λ r. is_waiting (after_move (next_at w (Worker p 0) (record { top = BeginTask (Token k i c); below = fs }) (r.0)) fs).top ≡ false) (OwnOwes w p b (BeginTask (Token k i c)) fs o)
+    (λ r d. (refl, calm_zero (after_move (next_at w (Worker p 0) (record { top = BeginTask (Token k i c); below = fs }) (r.0)) fs).top b d)) (outcome w (Worker p 0) (record { top = BeginTask (Token k i c); below = fs })) (rest_calm w p (BeginTask (Token k i c)) fs a refl refl)
 own_owes w p b (BeginHere t) fs o a s = (refl, refl)
-own_owes w p b x fs o a s = if_some_map {A = Seen × Part} (λ r. is_waiting (after_move (next_at w (Worker p 0) (record { top = x; below = fs }) (r.0)) fs).top ≡ false) (OwnOwes w p b x fs o) (λ r d. rest_owes w p b x fs o r refl refl refl refl d) (outcome w (Worker p 0) (record { top = x; below = fs })) (rest_calm w p x fs a refl refl)
+own_owes w p b x fs o a s = if_some_map {A = Seen × Part} (λ r. is_waiting (after_move (next_at w (Worker p 0) (record { top = x; below = fs }) (r.0)) fs).top ≡ false) (OwnOwes w p b x fs o) (λ r d. rest_owes w p b x fs o r refl refl refl refl d)
+    (outcome w (Worker p 0) (record { top = x; below = fs })) (rest_calm w p x fs a refl refl)
 
 abbrev pub Owed : ℕ → Option ℕ → World → Event → World → Type 0
 Owed p b w e v = Unpushed (kinds w) b (w.stack (Worker p 0)).top (v.stack (Worker p 0)).top (happening p w e v)
 
-go_owes : (w : World) (q : Party) (p : ℕ) (b : Option ℕ) (z : Bool) → same_party (Worker p 0) q ≡ z → FramesOk w → Says w (Worker p 0) (w.stack (Worker p 0)).top → IfSome (outcome w q (w.stack q)) (λ r. Unpushed (kinds w) b (w.stack (Worker p 0)).top ((if z then after_move (next_at w q (w.stack q) (r.0)) (w.stack q).below else w.stack (Worker p 0)).top) (if z then act_happens (act_of q (w.stack q).top) (w.stack q).below (runs_after w q r) else None))
+go_owes : (w : World) (q : Party) (p : ℕ) (b : Option ℕ) (z : Bool) → same_party (Worker p 0) q ≡ z → FramesOk w → Says w (Worker p 0) (w.stack (Worker p 0)).top → IfSome (outcome w q (w.stack q))
+    (λ r. Unpushed (kinds w) b (w.stack (Worker p 0)).top ((if z then after_move (next_at w q (w.stack q) (r.0)) (w.stack q).below else w.stack (Worker p 0)).top) (if z then act_happens (act_of q (w.stack q).top) (w.stack q).below (runs_after w q r) else None))
 go_owes w q p b true eb fr s =
     let me : Party = Worker p 0 in
     let F : Party → Type 0 = λ z. IfSome (outcome w z (w.stack z)) (λ r. Unpushed (kinds w) b (w.stack me).top ((after_move (next_at w z (w.stack z) (r.0)) (w.stack z).below).top) (act_happens (act_of z (w.stack z).top) (w.stack z).below (runs_after w z r))) in
@@ -214,5 +201,6 @@ go_owes w q p b true eb fr s =
 go_owes w q p b false eb fr s = if_some_all {A = Seen × Part} (λ r. unpushed b (w.stack (Worker p 0)).top ≡ unpushed b (w.stack (Worker p 0)).top) (λ r. refl) (outcome w q (w.stack q))
 
 pub step_owes : (w : World) (e : Event) (p : ℕ) (b : Option ℕ) → FramesOk w → Says w (Worker p 0) (w.stack (Worker p 0)).top → IfSome (step w e) (Owed p b w e)
-step_owes w (Go q) p b fr s = acted_keeps w q (w.stack q) (target_pool q (act_of q (w.stack q).top)) (target_worker q (act_of q (w.stack q).top)) (target_call (act_of q (w.stack q).top)) (job_at w q (act_of q (w.stack q).top)) (outcome w q (w.stack q)) (Owed p b w (Go q)) (go_owes w q p b (same_party (Worker p 0) q) refl fr s)
+step_owes w (Go q) p b fr s = acted_keeps w q (w.stack q) (target_pool q (act_of q (w.stack q).top)) (target_worker q (act_of q (w.stack q).top)) (target_call (act_of q (w.stack q).top)) (job_at w q (act_of q (w.stack q).top)) (outcome w q (w.stack q)) (Owed p b w (Go q))
+    (go_owes w q p b (same_party (Worker p 0) q) refl fr s)
 step_owes w e p b fr s = if_some_map (Owes p b w) (Owed p b w e) (λ v h. subst (Unpushed (kinds w) b (w.stack (Worker p 0)).top (v.stack (Worker p 0)).top) (sym (nothing p w e v refl)) h) (step w e) (turn_owes w e p b fr refl)

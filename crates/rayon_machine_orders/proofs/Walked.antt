@@ -4,30 +4,13 @@
 -- calls (`Stands` of Standing). A job begins once and is added once. A search looks at the injector only after the own
 -- deque was empty.
 use Rattle.std.proofs.Common.{arith, refl, sym, ◌∙◌, ap, subst, inl, inr}
-use Rattle.std.specs.Prelude.{ℕ, Bool, true, false, ◌&&◌, ◌==◌, ◌≤◌, nat_lt, if◌then◌else◌, Option, Some, None, List, [], ◌∷◌, ◌≡◌, ⊤, IfSome, slice_get, ◌+◌}
-use Rattle.std.proofs.lemmas.Bool.{eqb-true, eq-eqb}
-use Rattle.rayon_machine_places.specs.declared.place.Party.{Party}
-use Rattle.rayon_machine_places.specs.declared.place.Party.TheVariants.{Worker, Caller}
-use Rattle.rayon_machine_places.specs.declared.place.Ending.{Ending}
-use Rattle.rayon_machine_places.specs.declared.place.Count.{Count}
-use Rattle.rayon_machine_places.specs.declared.place.Count.TheVariants.{OfPool, OfScope}
-use Rattle.rayon_machine_places.specs.declared.place.Feeding.{Feeding}
-use Rattle.rayon_machine_places.specs.declared.state.Scope.{Scope}
-use Rattle.rayon_machine_places.specs.declared.place.Plan.{Plan}
-use Rattle.rayon_machine_places.specs.declared.place.Plan.TheVariants.{Detach, Here, Send, Fork, Feed, Open, Enter, Gather}
-use Rattle.rayon_machine_places.specs.declared.place.Place.{Place}
-use Rattle.rayon_machine_places.specs.declared.place.Place.TheVariants.{ProbeWorking, PickVictim, StealFrom, YieldPick, YieldSteal, YieldPop, LocalPop, BeginTask, BeginHere, Run, RaiseCount, GrowCall, PushJob, Free, AddToFifo, PushToken, TakeFromFifo, PushForAll, GrowScope, OpenSlot, OpenForAll, GrowCast, DealPieces}
-use Rattle.rayon_machine_places.specs.declared.act.Act.TheVariants.{PushOwn, PushInj}
-use Rattle.rayon_machine_places.specs.declared.act.Seen.{Seen}
-use Rattle.rayon_machine_places.specs.declared.act.Seen.TheVariants.{Refused}
-use Rattle.rayon_machine_places.specs.declared.event.Event.{Event}
-use Rattle.rayon_machine_places.specs.declared.event.Event.TheVariants.{Go, From, Refuse, Miss, End, Spawn, Fifo, Install, Join, Yield, YieldLocal, EndPool, Cast, Scope as OpenScope, IntoSpawn, IntoFifo, IntoCast, Broadcast}
-use Rattle.rayon_machine_places.specs.Places.{same_party, own_pool, is_member, plan_pool, plan_job, act_of, is_free, is_refusable, plan_book, count_book}
-use Rattle.rayon_machine_places.specs.World.{Stack, World, Part, head_of, or_none, target_pool, target_worker, target_call}
-use Rattle.rayon_machine_places.specs.Steps.{put_stack, part_of, back, after_call, after_move, after_choice, after_refusal, after_miss, after_end, after_send, after_join, after_yield, after_fifo, after_enter, after_enter_fifo, after_into, after_into_fifo, is_pool, can_miss, step, after_feed, after_spawn, holds}
-use Rattle.rayon_machine_laws.specs.Once.{one}
-use Rattle.rayon_machine_orders.specs.Order.{Happening, Adds, Queues, Retakes, Begins, Redeems, caller_of, act_happens, happening}
-use Rattle.rayon_machine_orders.specs.Queue.{run_at}
+use Rattle.rayon_machine_orders.proofs.Words.{ℕ, Bool, true, false, ◌&&◌, ◌==◌, ◌≤◌, nat_lt, if◌then◌else◌, Option, Some, None, List, [], ◌∷◌, ◌≡◌, ⊤, IfSome, slice_get, ◌+◌, eqb-true, eq-eqb, Party, Worker, Caller, Ending, Count, OfPool, OfScope, Feeding, Scope, Plan, Detach, Here, Send, Fork}
+use Rattle.rayon_machine_orders.proofs.Words.{Feed, Open, Enter, Gather, Place, ProbeWorking, PickVictim, StealFrom, YieldPick, YieldSteal, YieldPop, LocalPop, BeginTask, BeginHere, Run, RaiseCount, GrowCall, PushJob, Free, AddToFifo, PushToken, TakeFromFifo, PushForAll, GrowScope, OpenSlot}
+use Rattle.rayon_machine_orders.proofs.Words.{OpenForAll, GrowCast, DealPieces, PushOwn, PushInj, Seen, Refused, Event, Go, From, Refuse, Miss, End, Spawn, Fifo, Install, Join, Yield, YieldLocal, EndPool, Cast, OpenScope, IntoSpawn, IntoFifo, IntoCast, Broadcast, same_party, own_pool, is_member}
+use Rattle.rayon_machine_orders.proofs.Words.{plan_pool, plan_job, act_of, is_free, is_refusable, plan_book, count_book, Stack, World, Part, head_of, or_none, target_pool, target_worker, target_call, put_stack, part_of, back, after_call, after_move, after_choice, after_refusal, after_miss}
+use Rattle.rayon_machine_orders.proofs.Words.{after_end, after_send, after_join, after_yield, after_fifo, after_enter, after_enter_fifo, after_into, after_into_fifo, is_pool, can_miss, step, after_feed, after_spawn, holds, one, Happening, Adds, Queues, Retakes, Begins, Redeems, act_happens}
+use Rattle.rayon_machine_orders.proofs.Words.{happening, run_at, Plain, Token}
+use Rattle.rayon_machine_orders.specs.Order.{caller_of}
 use Rattle.rayon_machine_orders.proofs.Dealing.{nothing, runs_after}
 use Rattle.rayon_machine_laws.proofs.Calm.{next_at}
 use Rattle.rayon_machine_orders.proofs.Dealt.{is_line, is_push, is_start, silent}
@@ -37,7 +20,6 @@ use Rattle.rayon_machine_laws.proofs.Claims.{Says, SaysQueue}
 use Rattle.rayon_machine_orders.proofs.Lone.{is_act, turn_target, turns_thief}
 use Rattle.rayon_machine_orders.proofs.Standing.{Above, AllBase, IsLight, IsSpawn, Stands, StandsAt, back_base, stands_next, stands_begun, stands_closed, stands_caller, token_caller}
 use Rattle.rayon_machine_laws.proofs.Ties.{job_at, shape_at, outcome}
-use Rattle.rayon_machine_places.specs.declared.place.Taken.TheVariants.{Plain, Token}
 
 -- the run that began last, after what happens
 abbrev pub next_run : Option ℕ → Option Happening → Option ℕ
@@ -51,10 +33,7 @@ plan_hand w q (Detach p t) s = let e : one (t == t) ≡ 1 = ap one (eq-eqb t t r
 plan_hand w q (Send o) s = let e : one (o.job == o.job) ≡ 1 = ap one (eq-eqb o.job o.job refl) in omega (arith, e)
 plan_hand w q (Enter o) s = let e : one (o.job == o.job) ≡ 1 = ap one (eq-eqb o.job o.job refl) in omega (arith, e)
 plan_hand w q (Fork o a) s = let e : one (o.job == o.job) ≡ 1 = ap one (eq-eqb o.job o.job refl) in omega (arith, e)
-plan_hand w q (Here p t) s = absurd s
-plan_hand w q (Feed f) s = absurd s
-plan_hand w q (Open o) s = absurd s
-plan_hand w q (Gather g) s = absurd s
+plan_hand w q _ s = absurd s
 
 -- only a push adds to the deque, and only a place of a FIFO list to that
 start_adds : (q : Party) (x : Place) (fs : List Place) (o by : Option ℕ) (s : ℕ) → is_start x ≡ true → act_happens (act_of q x) fs o ≡ Some (Adds by s) → ⊥
@@ -163,7 +142,8 @@ adds_caller Q q x fs r o by s st e = at x e st (adds_push q x fs o by s e)
 pub event_acts : (p : ℕ) (w : World) (e : Event) (v : World) (h : Happening) → happening p w e v ≡ Some h → act_happens (act_of (Worker p 0) (w.stack (Worker p 0)).top) (w.stack (Worker p 0)).below (run_at (v.stack (Worker p 0)).top) ≡ Some h
 event_acts p w (Go q) v h e = at (same_party (Worker p 0) q) refl e
   where
-    at : (b : Bool) → same_party (Worker p 0) q ≡ b → (if b then act_happens (act_of q (w.stack q).top) (w.stack q).below (run_at (v.stack q).top) else None) ≡ Some h → act_happens (act_of (Worker p 0) (w.stack (Worker p 0)).top) (w.stack (Worker p 0)).below (run_at (v.stack (Worker p 0)).top) ≡ Some h
+    at : (b : Bool) → same_party (Worker p 0) q ≡ b → (if b then act_happens (act_of q (w.stack q).top) (w.stack q).below (run_at (v.stack q).top) else None) ≡ Some h → act_happens (act_of (Worker p 0) (w.stack (Worker p 0)).top) (w.stack (Worker p 0)).below
+        (run_at (v.stack (Worker p 0)).top) ≡ Some h
     at true eb d = subst (λ z. act_happens (act_of z (w.stack z).top) (w.stack z).below (run_at (v.stack z).top) ≡ Some h) (sym (same_party_true (Worker p 0) q eb)) d
     at false eb d = absurd (cc)
 event_acts p w _ v h e = absurd (cc)
@@ -187,8 +167,7 @@ from_stands w p Q r q _ fs v s f = tt
 miss_stands : (w : World) (p : ℕ) (Q : Plan → Type 0) (r : Option ℕ) (q : Party) (x : Place) (fs : List Place) → StandsAt Q r (w.stack (Worker p 0)) → (same_party (Worker p 0) q ≡ true → Stands Q r x fs) → IfSome (after_miss w q (record { top = x; below = fs }) x) (Stood Q w p r)
 miss_stands w p Q r (Worker a b) (StealFrom k n) fs s f = if_cond (Stood Q w p r) (can_miss w a k.victim) _ (λ z. turned w p Q r (Worker a b) _ s (λ z. absurd (f z)))
 miss_stands w p Q r (Worker a b) (YieldSteal v n) fs s f = if_cond (Stood Q w p r) (can_miss w a v) _ (λ z. turned w p Q r (Worker a b) _ s (λ z. absurd (f z)))
-miss_stands w p Q r (Worker a b) _ fs s f = tt
-miss_stands w p Q r (Caller n) _ fs s f = tt
+miss_stands w p Q r _ _ fs s f = tt
 
 refusable_calm : (x : Place) → is_refusable x ≡ true → (is_start x ≡ false) × (turns_thief x ≡ false)
 refusable_calm (GrowCall n) e = (refl, refl)
@@ -204,7 +183,8 @@ refusable_calm (DealPieces g) e = (refl, refl)
 refusable_calm _ e = absurd (cc)
 
 refuse_stands : (w : World) (p : ℕ) (Q : Plan → Type 0) (r : Option ℕ) (q : Party) → StandsAt Q r (w.stack (Worker p 0)) → (same_party (Worker p 0) q ≡ true → StandsAt Q r (w.stack q)) → IfSome (after_refusal w q (w.stack q)) (Stood Q w p r)
-refuse_stands w p Q r q s f = if_cond (Stood Q w p r) (is_refusable (w.stack q).top) _ (λ b. turned w p Q r q _ s (λ z. stands_next Q (w.shape.pool (own_pool q)) q (w.stack q).top Refused r (w.stack q).below (f z) ((refusable_calm (w.stack q).top b).0) (λ y. absurd (let k : turns_thief (w.stack q).top ≡ false = (refusable_calm (w.stack q).top b).1 in cc))))
+refuse_stands w p Q r q s f = if_cond (Stood Q w p r) (is_refusable (w.stack q).top) _
+    (λ b. turned w p Q r q _ s (λ z. stands_next Q (w.shape.pool (own_pool q)) q (w.stack q).top Refused r (w.stack q).below (f z) ((refusable_calm (w.stack q).top b).0) (λ y. absurd (let k : turns_thief (w.stack q).top ≡ false = (refusable_calm (w.stack q).top b).1 in cc))))
 
 end_stands : (w : World) (p : ℕ) (Q : Plan → Type 0) (r : Option ℕ) (q : Party) (d : Ending) (x : Place) (fs : List Place) → StandsAt Q r (w.stack (Worker p 0)) → (same_party (Worker p 0) q ≡ true → Stands Q r x fs) → IfSome (after_end w q d (record { top = x; below = fs }) x) (Stood Q w p r)
 end_stands w p Q r q d (Run t k) fs s f = turned w p Q r q _ s (λ z. stands_closed Q r t k d fs ((f z).1))
@@ -225,7 +205,8 @@ never true e f = cc
 never false e f = cc
 
 -- a party that makes a call which is one of these
-called : (w : World) (p : ℕ) (Q : Plan → Type 0) (r : Option ℕ) (q : Party) (n : Plan) → StandsAt Q r (w.stack (Worker p 0)) → is_free ((w.stack q).top) ≡ true → (same_party (Worker p 0) q ≡ true → Q n × IsLight n) → StandsAt Q r (put_stack w.stack q (after_call (w.stack q) (RaiseCount n)) (Worker p 0))
+called : (w : World) (p : ℕ) (Q : Plan → Type 0) (r : Option ℕ) (q : Party) (n : Plan) → StandsAt Q r (w.stack (Worker p 0)) → is_free ((w.stack q).top) ≡ true → (same_party (Worker p 0) q ≡ true → Q n × IsLight n)
+    → StandsAt Q r (put_stack w.stack q (after_call (w.stack q) (RaiseCount n)) (Worker p 0))
 called w p Q r q n s free f = turned w p Q r q (after_call (w.stack q) (RaiseCount n)) s (λ z. (f z, free_above Q r (w.stack q).top (w.stack q).below free (subst (λ y. StandsAt Q r (w.stack y)) (same_party_true (Worker p 0) q z) s)))
 
 -- what a spawn of the worker may be
@@ -248,13 +229,15 @@ Spawns Q p w _ = ⊤
 spawn_stands : (w : World) (p : ℕ) (Q : Plan → Type 0) (r : Option ℕ) (q : Party) (n : ℕ) → StandsAt Q r (w.stack (Worker p 0)) → (same_party (Worker p 0) q ≡ true → Q (Detach n w.jobs)) → IfSome (after_spawn w q n (w.stack q)) (Stood Q w p r)
 spawn_stands w p Q r q n s f = if_cond (Stood Q w p r) (is_free ((w.stack q).top) && is_pool w.shape n) _ (λ b. called w p Q r q (Detach n w.jobs) s (and_left (is_free ((w.stack q).top)) (is_pool w.shape n) b) (λ z. (f z, tt)))
 
-enter_stands : (w : World) (p : ℕ) (Q : Plan → Type 0) (r : Option ℕ) (q : Party) (i : Scope) → StandsAt Q r (w.stack (Worker p 0)) → is_free ((w.stack q).top) ≡ true → (same_party (Worker p 0) q ≡ true → Q (Enter (record { call = i.call; owner = i.owner; pool = i.pool; job = w.jobs }))) → IfSome (after_enter w q (w.stack q) (Some i)) (Stood Q w p r)
+enter_stands : (w : World) (p : ℕ) (Q : Plan → Type 0) (r : Option ℕ) (q : Party) (i : Scope) → StandsAt Q r (w.stack (Worker p 0)) → is_free ((w.stack q).top) ≡ true → (same_party (Worker p 0) q ≡ true → Q (Enter (record { call = i.call; owner = i.owner; pool = i.pool; job = w.jobs })))
+    → IfSome (after_enter w q (w.stack q) (Some i)) (Stood Q w p r)
 enter_stands w p Q r q i s free f = if_cond (Stood Q w p r) (is_free ((w.stack q).top) && holds i.call (w.stack q)) _ (λ b. called w p Q r q (Enter (record { call = i.call; owner = i.owner; pool = i.pool; job = w.jobs })) s free (λ z. (f z, tt)))
 
 into_stands : (w : World) (p : ℕ) (Q : Plan → Type 0) (r : Option ℕ) (q : Party) (n : ℕ) → StandsAt Q r (w.stack (Worker p 0)) → Spawns Q p w (IntoSpawn q n) → IfSome (after_into w q n (w.stack q)) (Stood Q w p r)
 into_stands w p Q r q n s f = into_cases (Stood Q w p r) w q n (λ i e free held. enter_stands w p Q r q i s free (λ z. f z i e))
 
-fed_stands : (w : World) (p : ℕ) (Q : Plan → Type 0) (r : Option ℕ) (k : Count) (m i : ℕ) → StandsAt Q r (w.stack (Worker p 0)) → is_free ((w.stack (Worker m i)).top) ≡ true → (same_party (Worker p 0) (Worker m i) ≡ true → Q (Feed (record { count = k; pool = m; job = w.jobs; token = w.jobs + 1 }))) → Stood Q w p r (after_feed w k m i (w.stack (Worker m i)))
+fed_stands : (w : World) (p : ℕ) (Q : Plan → Type 0) (r : Option ℕ) (k : Count) (m i : ℕ) → StandsAt Q r (w.stack (Worker p 0)) → is_free ((w.stack (Worker m i)).top) ≡ true
+    → (same_party (Worker p 0) (Worker m i) ≡ true → Q (Feed (record { count = k; pool = m; job = w.jobs; token = w.jobs + 1 }))) → Stood Q w p r (after_feed w k m i (w.stack (Worker m i)))
 fed_stands w p Q r k m i s free f = called w p Q r (Worker m i) (Feed (record { count = k; pool = m; job = w.jobs; token = w.jobs + 1 })) s free (λ z. (f z, tt))
 
 fifo_stands : (w : World) (p : ℕ) (Q : Plan → Type 0) (r : Option ℕ) (q : Party) (n : ℕ) → StandsAt Q r (w.stack (Worker p 0)) → Spawns Q p w (Fifo q n) → IfSome (after_fifo w q n (w.stack q)) (Stood Q w p r)
@@ -263,7 +246,10 @@ fifo_stands w p Q r (Worker m i) n s f = by (m == n) refl
   where
     by : (z : Bool) → (m == n) ≡ z → IfSome (if z then (if is_free ((w.stack (Worker m i)).top) && is_pool w.shape n then Some (after_feed w (OfPool n) n i (w.stack (Worker m i))) else None) else after_spawn w (Worker m i) n (w.stack (Worker m i))) (Stood Q w p r)
     by true e = subst (λ k. IfSome (if is_free ((w.stack (Worker k i)).top) && is_pool w.shape n then Some (after_feed w (OfPool n) n i (w.stack (Worker k i))) else None) (Stood Q w p r)) (sym (eqb-true m n e))
-        (if_cond (Stood Q w p r) (is_free ((w.stack (Worker n i)).top) && is_pool w.shape n) _ (λ b. fed_stands w p Q r (OfPool n) n i s (and_left (is_free ((w.stack (Worker n i)).top)) (is_pool w.shape n) b) (λ z. (let g : (n ≡ p) × Q (Feed (record { count = OfPool p; pool = p; job = w.jobs; token = w.jobs + 1 })) = f (ap (λ k. same_party (Worker p 0) (Worker k i)) (eqb-true m n e) ∙ z) in subst (λ k. Q (Feed (record { count = OfPool k; pool = k; job = w.jobs; token = w.jobs + 1 }))) (sym (g.0)) (g.1)))))
+        (if_cond (Stood Q w p r) (is_free ((w.stack (Worker n i)).top) && is_pool w.shape n) _
+        (λ b. fed_stands w p Q r (OfPool n) n i s (and_left (is_free ((w.stack (Worker n i)).top)) (is_pool w.shape n) b)
+        (λ z. (let g : (n ≡ p) × Q (Feed (record { count = OfPool p; pool = p; job = w.jobs; token = w.jobs + 1 })) = f (ap (λ k. same_party (Worker p 0) (Worker k i)) (eqb-true m n e) ∙ z) in
+        subst (λ k. Q (Feed (record { count = OfPool k; pool = k; job = w.jobs; token = w.jobs + 1 }))) (sym (g.0)) (g.1)))))
     by false e = spawn_stands w p Q r (Worker m i) n s (λ z. absurd (let g : n ≡ p = (f z).0 in let same : Worker p 0 ≡ Worker m i = same_party_true (Worker p 0) (Worker m i) z in let k : m ≡ p = ap own_pool (sym same) in let d : (m == n) ≡ true = eq-eqb m n (k ∙ sym g) in cc))
 
 into_fifo_stands : (w : World) (p : ℕ) (Q : Plan → Type 0) (r : Option ℕ) (q : Party) (n : ℕ) → StandsAt Q r (w.stack (Worker p 0)) → Spawns Q p w (IntoFifo q n) → IfSome (after_into_fifo w q n (w.stack q)) (Stood Q w p r)
@@ -271,13 +257,18 @@ into_fifo_stands w p Q r q n s f = by q f (slice_get w.scopes n) refl
   where
     by : (q : Party) → Spawns Q p w (IntoFifo q n) → (o : Option Scope) → slice_get w.scopes n ≡ o → IfSome (after_enter_fifo w q (w.stack q) o) (Stood Q w p r)
     by q f None e = tt
-    by (Caller c) f (Some i) e = if_cond (Stood Q w p r) (is_free ((w.stack (Caller c)).top) && holds i.call (w.stack (Caller c))) _ (λ b. called w p Q r (Caller c) (Enter (record { call = i.call; owner = i.owner; pool = i.pool; job = w.jobs })) s (and_left (is_free ((w.stack (Caller c)).top)) (holds i.call (w.stack (Caller c))) b) (λ z. absurd (cc)))
+    by (Caller c) f (Some i) e = if_cond (Stood Q w p r) (is_free ((w.stack (Caller c)).top) && holds i.call (w.stack (Caller c))) _
+        (λ b. called w p Q r (Caller c) (Enter (record { call = i.call; owner = i.owner; pool = i.pool; job = w.jobs })) s (and_left (is_free ((w.stack (Caller c)).top)) (holds i.call (w.stack (Caller c))) b) (λ z. absurd (cc)))
     by (Worker m j) f (Some i) e = at (m == i.pool) refl
       where
-        at : (z : Bool) → (m == i.pool) ≡ z → IfSome (if z then (if is_free ((w.stack (Worker m j)).top) && holds i.call (w.stack (Worker m j)) then Some (after_feed w (OfScope i.call i.owner) i.pool j (w.stack (Worker m j))) else None) else after_enter w (Worker m j) (w.stack (Worker m j)) (Some i)) (Stood Q w p r)
+        at : (z : Bool) → (m == i.pool) ≡ z → IfSome (if z then (if is_free ((w.stack (Worker m j)).top) && holds i.call (w.stack (Worker m j)) then Some (after_feed w (OfScope i.call i.owner) i.pool j (w.stack (Worker m j))) else None) else after_enter w (Worker m j)
+            (w.stack (Worker m j)) (Some i)) (Stood Q w p r)
         at true d = subst (λ k. IfSome (if is_free ((w.stack (Worker k j)).top) && holds i.call (w.stack (Worker k j)) then Some (after_feed w (OfScope i.call i.owner) i.pool j (w.stack (Worker k j))) else None) (Stood Q w p r)) (sym (eqb-true m i.pool d))
-            (if_cond (Stood Q w p r) (is_free ((w.stack (Worker i.pool j)).top) && holds i.call (w.stack (Worker i.pool j))) _ (λ b. fed_stands w p Q r (OfScope i.call i.owner) i.pool j s (and_left (is_free ((w.stack (Worker i.pool j)).top)) (holds i.call (w.stack (Worker i.pool j))) b) (λ z. (f (ap (λ k. same_party (Worker p 0) (Worker k j)) (eqb-true m i.pool d) ∙ z) i e).1)))
-        at false d = if_cond (Stood Q w p r) (is_free ((w.stack (Worker m j)).top) && holds i.call (w.stack (Worker m j))) _ (λ b. called w p Q r (Worker m j) (Enter (record { call = i.call; owner = i.owner; pool = i.pool; job = w.jobs })) s (and_left (is_free ((w.stack (Worker m j)).top)) (holds i.call (w.stack (Worker m j))) b) (λ z. absurd (let g : i.pool ≡ p = (f z i e).0 in let same : Worker p 0 ≡ Worker m j = same_party_true (Worker p 0) (Worker m j) z in let k : m ≡ p = ap own_pool (sym same) in let y : (m == i.pool) ≡ true = eq-eqb m i.pool (k ∙ sym g) in cc)))
+            (if_cond (Stood Q w p r) (is_free ((w.stack (Worker i.pool j)).top) && holds i.call (w.stack (Worker i.pool j))) _
+            (λ b. fed_stands w p Q r (OfScope i.call i.owner) i.pool j s (and_left (is_free ((w.stack (Worker i.pool j)).top)) (holds i.call (w.stack (Worker i.pool j))) b) (λ z. (f (ap (λ k. same_party (Worker p 0) (Worker k j)) (eqb-true m i.pool d) ∙ z) i e).1)))
+        at false d = if_cond (Stood Q w p r) (is_free ((w.stack (Worker m j)).top) && holds i.call (w.stack (Worker m j))) _
+            (λ b. called w p Q r (Worker m j) (Enter (record { call = i.call; owner = i.owner; pool = i.pool; job = w.jobs })) s (and_left (is_free ((w.stack (Worker m j)).top)) (holds i.call (w.stack (Worker m j))) b)
+            (λ z. absurd (let g : i.pool ≡ p = (f z i e).0 in let same : Worker p 0 ≡ Worker m j = same_party_true (Worker p 0) (Worker m j) z in let k : m ≡ p = ap own_pool (sym same) in let y : (m == i.pool) ≡ true = eq-eqb m i.pool (k ∙ sym g) in cc)))
 
 -- another party's call
 other_stands : (w : World) (p : ℕ) (Q : Plan → Type 0) (r : Option ℕ) (q : Party) (to : Stack) → StandsAt Q r (w.stack (Worker p 0)) → same_party (Worker p 0) q ≡ false → StandsAt Q r (put_stack w.stack q to (Worker p 0))
@@ -355,13 +346,16 @@ begin_stands w p Q _ fs r z a = absurd (cc)
 own_stands : (w : World) (p : ℕ) (Q : Plan → Type 0) (x : Place) (fs : List Place) (r : Option ℕ) → (w.shape.pool p).workers ≡ 1 → Stands Q r x fs → IfSome (outcome w (Worker p 0) (record { top = x; below = fs })) (OwnStands Q w p x fs r)
 own_stands w p Q x fs r one s = elim (either (is_start x)) [
   | inl z ↦ begin_stands w p Q x fs r z s
-  | inr z ↦ if_some_all {A = Seen × Part} (OwnStands Q w p x fs r) (λ d. subst (λ n. StandsAt Q n (after_move (next_at w (Worker p 0) (record { top = x; below = fs }) (d.0)) fs)) (sym (run_same (Worker p 0) x fs r (run_at (after_move (next_at w (Worker p 0) (record { top = x; below = fs }) (d.0)) fs).top) z)) (stands_next Q (shape_at w (Worker p 0) (record { top = x; below = fs })) (Worker p 0) x (d.0) r fs s z (λ y. ap (λ n. (w.shape.pool n).workers) (turn_target p 0 x y) ∙ one))) (outcome w (Worker p 0) (record { top = x; below = fs }))
+  | inr z ↦ if_some_all {A = Seen × Part} (OwnStands Q w p x fs r)
+      (λ d. subst (λ n. StandsAt Q n (after_move (next_at w (Worker p 0) (record { top = x; below = fs }) (d.0)) fs)) (sym (run_same (Worker p 0) x fs r (run_at (after_move (next_at w (Worker p 0) (record { top = x; below = fs }) (d.0)) fs).top) z))
+      (stands_next Q (shape_at w (Worker p 0) (record { top = x; below = fs })) (Worker p 0) x (d.0) r fs s z (λ y. ap (λ n. (w.shape.pool n).workers) (turn_target p 0 x y) ∙ one))) (outcome w (Worker p 0) (record { top = x; below = fs }))
 ]
 
 abbrev After : (Plan → Type 0) → World → Event → ℕ → Option ℕ → World → Type 0
 After Q w e p r u = Stood Q w p (next_run r (happening p w e u)) u
 
-go_stands : (w : World) (q : Party) (p : ℕ) (Q : Plan → Type 0) (r : Option ℕ) (b : Bool) → same_party (Worker p 0) q ≡ b → (w.shape.pool p).workers ≡ 1 → StandsAt Q r (w.stack (Worker p 0)) → IfSome (outcome w q (w.stack q)) (λ d. StandsAt Q (next_run r (if b then act_happens (act_of q (w.stack q).top) (w.stack q).below (runs_after w q d) else None)) (if b then after_move (next_at w q (w.stack q) (d.0)) (w.stack q).below else w.stack (Worker p 0)))
+go_stands : (w : World) (q : Party) (p : ℕ) (Q : Plan → Type 0) (r : Option ℕ) (b : Bool) → same_party (Worker p 0) q ≡ b → (w.shape.pool p).workers ≡ 1 → StandsAt Q r (w.stack (Worker p 0)) → IfSome (outcome w q (w.stack q))
+    (λ d. StandsAt Q (next_run r (if b then act_happens (act_of q (w.stack q).top) (w.stack q).below (runs_after w q d) else None)) (if b then after_move (next_at w q (w.stack q) (d.0)) (w.stack q).below else w.stack (Worker p 0)))
 go_stands w q p Q r true eb one s =
     let me : Party = Worker p 0 in
     let F : Party → Type 0 = λ z. IfSome (outcome w z (w.stack z)) (λ d. StandsAt Q (next_run r (act_happens (act_of z (w.stack z).top) (w.stack z).below (runs_after w z d))) (after_move (next_at w z (w.stack z) (d.0)) (w.stack z).below)) in
@@ -376,7 +370,8 @@ still : (w : World) (e : Event) (p : ℕ) (Q : Plan → Type 0) (r : Option ℕ)
 still w e p Q r n k = if_some_map (Stood Q w p r) (After Q w e p r) (λ u h. subst (λ z. Stood Q w p (next_run r z) u) (sym (nothing p w e u n)) h) (step w e) k
 
 pub step_stands : (w : World) (e : Event) (p : ℕ) (Q : Plan → Type 0) (r : Option ℕ) → (w.shape.pool p).workers ≡ 1 → Spawns Q p w e → StandsAt Q r (w.stack (Worker p 0)) → IfSome (step w e) (After Q w e p r)
-step_stands w (Go q) p Q r one calm s = acted_keeps w q (w.stack q) (target_pool q (act_of q (w.stack q).top)) (target_worker q (act_of q (w.stack q).top)) (target_call (act_of q (w.stack q).top)) (job_at w q (act_of q (w.stack q).top)) (outcome w q (w.stack q)) (After Q w (Go q) p r) (go_stands w q p Q r (same_party (Worker p 0) q) refl one s)
+step_stands w (Go q) p Q r one calm s = acted_keeps w q (w.stack q) (target_pool q (act_of q (w.stack q).top)) (target_worker q (act_of q (w.stack q).top)) (target_call (act_of q (w.stack q).top)) (job_at w q (act_of q (w.stack q).top)) (outcome w q (w.stack q)) (After Q w (Go q) p r)
+    (go_stands w q p Q r (same_party (Worker p 0) q) refl one s)
 step_stands w (From q v) p Q r one calm s = still w (From q v) p Q r refl (from_stands w p Q r q (w.stack q).top (w.stack q).below v s (λ z. subst (λ y. StandsAt Q r (w.stack y)) (same_party_true (Worker p 0) q z) s))
 step_stands w (Refuse q) p Q r one calm s = still w (Refuse q) p Q r refl (refuse_stands w p Q r q s (λ z. subst (λ y. StandsAt Q r (w.stack y)) (same_party_true (Worker p 0) q z) s))
 step_stands w (Miss q) p Q r one calm s = still w (Miss q) p Q r refl (miss_stands w p Q r q (w.stack q).top (w.stack q).below s (λ z. subst (λ y. StandsAt Q r (w.stack y)) (same_party_true (Worker p 0) q z) s))

@@ -3,27 +3,13 @@
 --
 -- The law is `tree_law`.
 use Rattle.std.proofs.Common.{arith, refl, sym, ◌∙◌, ap, subst, inl, inr, ◌≢◌}
-use Rattle.std.specs.Prelude.{ℕ, Bool, true, false, ◌≤◌, Option, Some, None, List, [], ◌∷◌, ◌++◌, ◌≡◌, ◌⊎◌, ◌+◌, ◌==◌, if◌then◌else◌, IfSome, ◌&&◌, ⊤}
-use Rattle.rayon_machine_places.specs.declared.shape.Order.{Order}
-use Rattle.rayon_machine_places.specs.declared.place.Party.{Party}
-use Rattle.rayon_machine_places.specs.declared.place.Party.TheVariants.{Worker, Caller}
-use Rattle.rayon_machine_places.specs.declared.place.Place.{Place}
-use Rattle.rayon_machine_places.specs.declared.place.Place.TheVariants.{BeginTask, BeginHere, PushJob, PushToken, AddToFifo, TakeFromFifo}
-use Rattle.rayon_machine_places.specs.declared.act.Act.TheVariants.{PushOwn, PushInj}
-use Rattle.rayon_machine_places.specs.declared.event.Event.{Event}
-use Rattle.rayon_machine_places.specs.declared.event.Event.TheVariants.{Go, From, Refuse, Miss, End, Spawn, Fifo, Install, Join, Yield, YieldLocal, EndPool, Cast, Scope as OpenScope, IntoSpawn, IntoFifo, IntoCast, Broadcast}
-use Rattle.rayon_machine_places.specs.Places.{same_party, plan_pool, plan_job, act_of, plan_book, taken_number}
-use Rattle.rayon_machine_places.specs.World.{Shape, World, begun, taken_as, target_pool, target_worker, target_call}
-use Rattle.rayon_machine_places.specs.Steps.{put, step}
-use Rattle.rayon_machine_laws.specs.Once.{one, times}
+use Rattle.rayon_machine_orders.proofs.Words.{ℕ, Bool, true, false, ◌≤◌, Option, Some, None, List, [], ◌∷◌, ◌++◌, ◌≡◌, ◌⊎◌, ◌+◌, ◌==◌, if◌then◌else◌, IfSome, ◌&&◌, ⊤, Order, Party, Worker, Caller, Place, BeginTask, BeginHere, PushJob, PushToken, AddToFifo, TakeFromFifo, PushOwn, PushInj, Event}
+use Rattle.rayon_machine_orders.proofs.Words.{Go, From, Refuse, Miss, End, Spawn, Fifo, Install, Join, Yield, YieldLocal, EndPool, Cast, OpenScope, IntoSpawn, IntoFifo, IntoCast, Broadcast, same_party, plan_pool, plan_job, act_of, plan_book, taken_number, Shape, World, begun, taken_as}
+use Rattle.rayon_machine_orders.proofs.Words.{target_pool, target_worker, target_call, put, step, one, times, Taken, run_at, eq-eqb, Happening, Adds, Queues, Retakes, Begins, Redeems, happening, happened, and_next, happenings, Hands, act_happens, IsLeft, IsWalk, IsRunWithout, Act, Plain, Token}
 use Rattle.rayon_machine_laws.proofs.ClaimRuns.{CallsHold}
 use Rattle.rayon_machine_laws.proofs.Placed.{same_number}
-use Rattle.rayon_machine_places.specs.declared.place.Taken.{Taken}
-use Rattle.rayon_machine_orders.specs.Queue.{run_at}
 use Rattle.rayon_machine_orders.proofs.Lined.{Lined, lined_on}
-use Rattle.std.proofs.lemmas.Bool.{eq-eqb}
-use Rattle.rayon_machine_orders.specs.Order.{Happening, Adds, Queues, Retakes, Begins, Redeems, happening, happened, and_next, happenings, Hands, act_happens, IsLeft, IsWalk, is_other, TreeLaw, is_redeem}
-use Rattle.rayon_machine_laws.specs.Turn.{IsRunWithout}
+use Rattle.rayon_machine_orders.specs.Order.{is_other, TreeLaw, is_redeem}
 use Rattle.rayon_machine_laws.proofs.Ties.{job_at, outcome, result}
 use Rattle.rayon_machine_orders.proofs.Begun.{BeginsOn, step_runs}
 use Rattle.rayon_machine_orders.proofs.Dealing.{Deals}
@@ -35,8 +21,6 @@ use Rattle.rayon_machine_laws.proofs.PlacedRuns.{JobsHold}
 use Rattle.rayon_machine_orders.proofs.Standing.{IsSpawn, Stands, StandsAt, stands_emptied}
 use Rattle.rayon_machine_orders.proofs.Walked.{Spawns, next_run, event_acts, adds_hand, adds_caller, queues_hand, Stood, step_stands}
 use Rattle.rayon_machine_orders.proofs.Walks.{Absent, Orderly, Grown, grown}
-use Rattle.rayon_machine_places.specs.declared.act.Act.{Act}
-use Rattle.rayon_machine_places.specs.declared.place.Taken.TheVariants.{Plain, Token}
 
 -- a job that is added, or begins, had not begun before
 adds_unbegun : (p : ℕ) (w v : World) (e : Event) (by : Option ℕ) (s : ℕ) → CallsHold w → happening p w e v ≡ Some (Adds by s) → (w.job s).runs ≡ 0
@@ -97,13 +81,15 @@ Nothing (Some (Retakes b)) = ⊤
 Nothing (Some (Redeems k b r)) = ⊤
 Nothing _ = ⊥
 
-tree_step : (o : Order) (r : Option ℕ) (p : ℕ) (w v u : World) (l : List ℕ) (hs : List Happening) (hp : Option Happening) → Deals o p 0 w v hp → JobsHold w → (elsewhere (w.stack (Worker p 0)).top ≡ true → (w.seat p 0).own ≡ []) → ((by : Option ℕ) (t : ℕ) → hp ≡ Some (Adds by t) → by ≡ r) → ((t : ℕ) → hp ≡ Some (Begins t) → Absent t hs) → (Nothing hp → ⊥) →
+tree_step : (o : Order) (r : Option ℕ) (p : ℕ) (w v u : World) (l : List ℕ) (hs : List Happening) (hp : Option Happening) → Deals o p 0 w v hp → JobsHold w → (elsewhere (w.stack (Worker p 0)).top ≡ true → (w.seat p 0).own ≡ []) → ((by : Option ℕ) (t : ℕ) → hp ≡ Some (Adds by t) → by ≡ r)
+    → ((t : ℕ) → hp ≡ Some (Begins t) → Absent t hs) → (Nothing hp → ⊥) →
     Stocked o p l w → ((m : List ℕ) → Stocked o p m v → Grows o (next_run r hp) p u m hs) → Grows o r p u l (and_next hp hs)
 tree_step o r p w v u l hs None (inl (same, inl (n, inl y))) j em by ab nr (inl (e, a)) rec = rec l (inl (e ∙ sym same, inl y))
 tree_step o r p w v u l hs None (inl (same, inl (n, inr z))) j em by ab nr (inl (e, a)) rec = rec l (inl (e ∙ sym same, inr (same ∙ em z)))
 tree_step o r p w v u l hs None (inl (same, inr y)) j em by ab nr (inl (e, inl n)) rec = rec l (inl (e ∙ sym same, inl (y ∙ n)))
 tree_step o r p w v u l hs None (inl (same, inr y)) j em by ab nr (inl (e, inr z)) rec = rec l (inl (e ∙ sym same, inr (same ∙ z)))
-tree_step o r p w v u l hs None (inr (t, h, n, y)) j em by ab nr (inl (e, a)) rec = rec l (inr (taken_as t (w.job t).kind, subst (λ z. Hands o z (taken_number (taken_as t (w.job t).kind)) (v.seat p 0).own) (sym e) (subst (λ z. Hands o (w.seat p 0).own z (v.seat p 0).own) (sym (same_number t (w.job t).kind)) h), y))
+tree_step o r p w v u l hs None (inr (t, h, n, y)) j em by ab nr (inl (e, a)) rec = rec l
+    (inr (taken_as t (w.job t).kind, subst (λ z. Hands o z (taken_number (taken_as t (w.job t).kind)) (v.seat p 0).own) (sym e) (subst (λ z. Hands o (w.seat p 0).own z (v.seat p 0).own) (sym (same_number t (w.job t).kind)) h), y))
 tree_step o r p w v u l hs None (inl (same, inl (n, k))) j em by ab nr (inr (t, h, e)) rec = none_some (taken (w.stack (Worker p 0)).top) t n e
 tree_step o r p w v u l hs None (inl (same, inr k)) j em by ab nr (inr (t, h, e)) rec = rec l (inr (t, subst (Hands o l (taken_number t)) (sym same) h, k ∙ e))
 tree_step o r p w v u l hs None (inr (s, g, n, y)) j em by ab nr (inr (t, h, e)) rec = none_some (taken (w.stack (Worker p 0)).top) t n e
@@ -111,7 +97,8 @@ tree_step o r p w v u l hs (Some (Adds c t)) (grow, n, z) j em by ab nr (inl (e,
 tree_step o r p w v u l hs (Some (Adds c t)) (grow, n, z) j em by ab nr (inr (s, h, e)) rec = none_some (taken (w.stack (Worker p 0)).top) s n e
 tree_step o r p w v u l hs (Some (Begins t)) (same, y, z) j em by ab nr (inl (e, inl n)) rec = none_some (taken (w.stack (Worker p 0)).top) (Plain t) n y
 tree_step o r p w v u l hs (Some (Begins t)) (same, y, z) j em by ab nr (inl (e, inr k)) rec = come_grows o r p u t l hs (e ∙ k) (ab t refl) (rec [] (inl (sym (same ∙ k), inl z)))
-tree_step o r p w v u l hs (Some (Begins t)) (same, y, z) j em by ab nr (inr (s, h, e)) rec = hand_grows o r p u t l (w.seat p 0).own hs (subst (λ z. Hands o l (taken_number z) (w.seat p 0).own) (some_same (taken (w.stack (Worker p 0)).top) s (Plain t) e y) h) ((taken_once w (Worker p 0) (Plain t) j y).1 p 0) (ab t refl) (rec (w.seat p 0).own (inl (sym same, inl z)))
+tree_step o r p w v u l hs (Some (Begins t)) (same, y, z) j em by ab nr (inr (s, h, e)) rec = hand_grows o r p u t l (w.seat p 0).own hs (subst (λ z. Hands o l (taken_number z) (w.seat p 0).own) (some_same (taken (w.stack (Worker p 0)).top) s (Plain t) e y) h)
+    ((taken_once w (Worker p 0) (Plain t) j y).1 p 0) (ab t refl) (rec (w.seat p 0).own (inl (sym same, inl z)))
 tree_step o r p w v u l hs (Some (Redeems k b x)) d j em by ab nr st rec = absurd (nr tt)
 tree_step o r p w v u l hs (Some (Queues b c t)) d j em by ab nr st rec = absurd (nr tt)
 tree_step o r p w v u l hs (Some (Retakes b)) d j em by ab nr st rec = absurd (nr tt)
@@ -165,7 +152,8 @@ begin_runs w p x fs o t e = at x e (begins_start (Worker p 0) x fs o t e)
     at _ d z = absurd (cc)
 
 pub begun_step : (w v : World) (p : ℕ) (e : Event) (t : ℕ) → happening p w e v ≡ Some (Begins t) → IfSome (step w e) (λ u. 1 ≤ (u.job t).runs)
-begun_step w v p (Go q) t e = acted_keeps w q (w.stack q) (target_pool q (act_of q (w.stack q).top)) (target_worker q (act_of q (w.stack q).top)) (target_call (act_of q (w.stack q).top)) (job_at w q (act_of q (w.stack q).top)) (outcome w q (w.stack q)) (λ u. 1 ≤ (u.job t).runs) (at (same_party (Worker p 0) q) refl e)
+begun_step w v p (Go q) t e = acted_keeps w q (w.stack q) (target_pool q (act_of q (w.stack q).top)) (target_worker q (act_of q (w.stack q).top)) (target_call (act_of q (w.stack q).top)) (job_at w q (act_of q (w.stack q).top)) (outcome w q (w.stack q)) (λ u. 1 ≤ (u.job t).runs)
+    (at (same_party (Worker p 0) q) refl e)
   where
     at : (b : Bool) → same_party (Worker p 0) q ≡ b → (if b then act_happens (act_of q (w.stack q).top) (w.stack q).below (run_at (v.stack q).top) else None) ≡ Some (Begins t) → IfSome (outcome w q (w.stack q)) (λ d. 1 ≤ ((result w q (w.stack q) d).job t).runs)
     at true eb d =
@@ -217,22 +205,17 @@ spawns p w (Spawn q n) c = λ z. tt
 spawns p w (IntoSpawn q n) c = λ z i e. tt
 spawns p w (Fifo q n) c = λ z. absurd (not_both (same_party (Worker p 0) q) c z)
 spawns p w (IntoFifo q n) c = λ z i e. absurd (not_both (same_party (Worker p 0) q) c z)
-spawns p w (Install q n) c = c
-spawns p w (Join q) c = c
-spawns p w (Cast q n) c = c
-spawns p w (IntoCast q n) c = c
-spawns p w (Broadcast q n) c = c
-spawns p w (OpenScope q n) c = c
-spawns p w (Yield q) c = c
-spawns p w (YieldLocal q) c = c
-spawns p w (EndPool q n) c = c
+spawns p w _ c = c
 
-tree_run : (h : Shape) (p : ℕ) → (h.pool p).workers ≡ 1 → (w u : World) (es : List Event) (l : List ℕ) (r : Option ℕ) → Reached h w → StandsAt IsSpawn r (w.stack (Worker p 0)) → Stocked (h.pool p).order p l w → IsRunWithout (is_other p) w es u → Grows (h.pool p).order r p u l (happenings p (Some w) es)
+tree_run : (h : Shape) (p : ℕ) → (h.pool p).workers ≡ 1 → (w u : World) (es : List Event) (l : List ℕ) (r : Option ℕ) → Reached h w → StandsAt IsSpawn r (w.stack (Worker p 0)) → Stocked (h.pool p).order p l w → IsRunWithout (is_other p) w es u → Grows (h.pool p).order r p u l
+    (happenings p (Some w) es)
 tree_run h p one w u [] l r x st k e = (l, refl, subst (λ z. IsLeft z p l) (sym e) (stocked_left h p w l x k))
 tree_run h p one w u (e ∷ es) l r x st k (v, calm, s, rest) =
     let me : Party = Worker p 0 in
     let y : Reached h v = reach_on h w v e x s in
-    let next : StandsAt IsSpawn (next_run r (happening p w e v)) (v.stack me) = (let z : IfSome (Some v) (λ q. Stood IsSpawn w p (next_run r (happening p w e q)) q) = subst (λ o. IfSome o (λ q. Stood IsSpawn w p (next_run r (happening p w e q)) q)) s (step_stands w e p IsSpawn r (ap (λ z. (z.pool p).workers) (reached_shape h w x) ∙ one) (spawns p w e calm) st) in z) in
+    let next : StandsAt IsSpawn (next_run r (happening p w e v))
+    (v.stack me) = (let z : IfSome (Some v) (λ q. Stood IsSpawn w p (next_run r (happening p w e q)) q) = subst (λ o. IfSome o (λ q. Stood IsSpawn w p (next_run r (happening p w e q)) q)) s
+    (step_stands w e p IsSpawn r (ap (λ z. (z.pool p).workers) (reached_shape h w x) ∙ one) (spawns p w e calm) st) in z) in
     subst (λ z. Grows (h.pool p).order r p u l (and_next (happened p w e z) (happenings p z es))) (sym s)
     (tree_step (h.pool p).order r p w v u l (happenings p (Some v) es) (happening p w e v) (deals_on h p one w v e x s) (reached_jobs h w x)
     (λ z. (reached_lists h w x).emptied p 0 (stands_emptied IsSpawn r (w.stack me).top (w.stack me).below st z))

@@ -2,13 +2,9 @@
 --
 -- What is orderly grows trees that are walked so (`grown`).
 use Rattle.std.proofs.Common.{arith, refl, sym, ◌∙◌, ap, subst, inl, inr, ◌≢◌}
-use Rattle.std.specs.Prelude.{ℕ, true, false, ◌+◌, ◌==◌, if◌then◌else◌, Option, Some, None, List, [], ◌∷◌, ◌++◌, ◌≡◌, ◌⊎◌, ⊤}
-use Rattle.std.proofs.lemmas.Bool.{eqb-true, eq-eqb}
-use Rattle.std.proofs.lemmas.List.{append_assoc}
-use Rattle.rayon_machine_places.specs.declared.shape.Order.{Order}
-use Rattle.rayon_machine_places.specs.declared.shape.Order.TheVariants.{NewestFirst, OldestFirst}
-use Rattle.rayon_machine_laws.specs.Once.{one, times}
-use Rattle.rayon_machine_orders.specs.Order.{Happening, Adds, Queues, Retakes, Begins, Redeems, Hands, Trees, NoTree, Tree, roots, walk_back, beside, levels, joined, walk, walk_each, same_run, added_by, begun_in, AreSpawned, reversed, handed}
+use Rattle.rayon_machine_orders.proofs.Words.{ℕ, true, false, ◌+◌, ◌==◌, if◌then◌else◌, Option, Some, None, List, [], ◌∷◌, ◌++◌, ◌≡◌, ◌⊎◌, ⊤, eqb-true, eq-eqb, append_assoc, Order, NewestFirst, OldestFirst, one, times, Happening, Adds, Queues, Retakes, Begins, Redeems, Hands, NoTree, Tree}
+use Rattle.rayon_machine_orders.proofs.Words.{begun_in}
+use Rattle.rayon_machine_orders.specs.Order.{Trees, roots, walk_back, beside, levels, joined, walk, walk_each, same_run, added_by, AreSpawned, reversed, handed}
 use Rattle.rayon_machine_laws.proofs.Frame.{either}
 
 -- a job is neither added nor begun

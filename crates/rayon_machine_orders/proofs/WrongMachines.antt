@@ -11,42 +11,17 @@
 -- - `refused_push_keeps_its_share`, at `Place::next_calling`. `refused_call_loses_its_jobs`, at `move_jobs`.
 -- - `push_drops_its_job`, at `Pool::write`. `worker_pops_at_the_wrong_end`, at `Parts::peek`.
 use Rattle.std.proofs.Common.{refl, ◌∙◌, ap, inl, inr}
-use Rattle.std.specs.Prelude.{ℕ, zero, suc, Bool, true, false, not, ◌&&◌, ◌||◌, ◌+◌, ◌==◌, nat_lt, if◌then◌else◌, Option, Some, None, List, [], ◌∷◌, ◌++◌, ◌≡◌, IfSome}
-use Rattle.rayon_machine_places.specs.declared.shape.Order.TheVariants.{NewestFirst}
-use Rattle.rayon_machine_places.specs.declared.place.Party.{Party}
-use Rattle.rayon_machine_places.specs.declared.place.Party.TheVariants.{Worker, Caller}
-use Rattle.rayon_machine_places.specs.declared.place.Ending.TheVariants.{Fine}
-use Rattle.rayon_machine_places.specs.declared.place.Latch.{Latch}
-use Rattle.rayon_machine_places.specs.declared.place.Latch.TheVariants.{Terminate, OfCall}
-use Rattle.rayon_machine_places.specs.declared.place.Rounds.TheVariants.{Failed}
-use Rattle.rayon_machine_places.specs.declared.place.Then.TheVariants.{Missing}
-use Rattle.rayon_machine_places.specs.declared.place.Place.{Place}
-use Rattle.rayon_machine_places.specs.declared.place.Place.TheVariants.{LoadCounters, AddSleeping, LookAtCast, LookAtInjector, BlockSelf, WakeUp, GrowCall, PushJob, LockToWake, UnlockWoken, SetLatch, UnlockSettled, SetLockLatch}
-use Rattle.rayon_machine_places.specs.declared.place.Move.{Move}
-use Rattle.rayon_machine_places.specs.declared.place.Move.TheVariants.{Stay, Back, HandBack, Discard, HandAllBack}
-use Rattle.rayon_machine_places.specs.declared.act.Act.{Act}
-use Rattle.rayon_machine_places.specs.declared.act.Act.TheVariants.{PopOwn, Announce, Lock, SubInactive, PushInj, News, Set, LockWait, Lower}
-use Rattle.rayon_machine_places.specs.declared.act.Seen.{Seen}
-use Rattle.rayon_machine_places.specs.declared.act.Seen.TheVariants.{Done, Refused, Yes, No, Jec, Word, Wakes}
-use Rattle.rayon_machine_places.specs.declared.event.Event.{Event}
-use Rattle.rayon_machine_places.specs.declared.event.Event.TheVariants.{Go, Refuse, End, Spawn, Install, Join}
-use Rattle.rayon_machine_places.specs.declared.state.Letter.{Letter}
-use Rattle.rayon_machine_places.specs.declared.state.Letter.TheVariants.{Sleeping, Set as IsSet}
-use Rattle.rayon_machine_places.specs.declared.state.Whereabouts.TheVariants.{Injected, HandedBack}
-use Rattle.rayon_machine_places.specs.declared.shape.PoolShape.{PoolShape}
-use Rattle.rayon_machine_places.specs.declared.place.Settling.{Settling}
-use Rattle.rayon_machine_places.specs.Places.{own_pool, finish, act_of, next_of, is_refusable}
-use Rattle.rayon_machine_places.specs.World.{Shape, Seat, Pool, Stack, World, or_none, count_below, Counts, counts_at, is_even, jec, head_of, last_of, but_first, popped, Part, target_pool, target_worker, target_call, target_job, Outcome, at_job, lowered, effect, count_in}
-use Rattle.rayon_machine_places.specs.Steps.{put, put_stack, put_seat, part_of, after_move, jobs_after, step}
-use Rattle.rayon_machine_places.specs.Runs.{start}
-use Rattle.rayon_machine_laws.specs.Once.{one, times, in_injector, is_with, held}
-use Rattle.rayon_machine_laws.specs.Shares.{shares}
-use Rattle.rayon_machine_laws.specs.Counted.{keeps_own, has_share}
-use Rattle.rayon_machine_laws.specs.End.{follows}
-use Rattle.rayon_machine_laws.specs.Committed.{is_committed, is_looking}
-use Rattle.rayon_machine_laws.specs.Attended.{is_filled, has_pushed, owes_wake, settles}
+use Rattle.rayon_machine_orders.proofs.Words.{ℕ, zero, suc, Bool, true, false, not, ◌&&◌, ◌||◌, ◌+◌, ◌==◌, nat_lt, if◌then◌else◌, Option, Some, None, List, [], ◌∷◌, ◌++◌, ◌≡◌, IfSome, NewestFirst, Party, Worker, Caller, Fine, Latch, Terminate, OfCall, Failed, Missing, Place, LoadCounters}
+use Rattle.rayon_machine_orders.proofs.Words.{AddSleeping, LookAtCast, LookAtInjector, BlockSelf, WakeUp, GrowCall, PushJob, LockToWake, UnlockWoken, SetLatch, UnlockSettled, SetLockLatch, Move, Stay, Back, HandBack, Discard, HandAllBack, Act, PopOwn, Lock, SubInactive, PushInj, News, Set}
+use Rattle.rayon_machine_orders.proofs.Words.{Lower, Seen, Done, Refused, Yes, No, Jec, Word, Wakes, Event, Go, Refuse, End, Spawn, Install, Join, Letter, Sleeping, IsSet, Injected, HandedBack, PoolShape, Settling, own_pool, finish, act_of, next_of, is_refusable, Shape, Seat, Pool, Stack, World}
+use Rattle.rayon_machine_orders.proofs.Words.{or_none, count_below, Counts, counts_at, head_of, last_of, but_first, popped, Part, target_pool, target_worker, target_call, target_job, Outcome, at_job, lowered, effect, count_in, put, put_stack, put_seat, part_of, after_move, jobs_after, step}
+use Rattle.rayon_machine_orders.proofs.Words.{start, one, times, shares, keeps_own, has_share, follows, is_committed, is_filled, Happening, Adds, Begins, happened, and_next, TokenList}
+use Rattle.rayon_machine_places.specs.declared.act.Act.TheVariants.{Announce, LockWait}
+use Rattle.rayon_machine_places.specs.World.{is_even, jec}
+use Rattle.rayon_machine_laws.specs.Once.{in_injector, is_with, held}
+use Rattle.rayon_machine_laws.specs.Committed.{is_looking}
+use Rattle.rayon_machine_laws.specs.Attended.{has_pushed, owes_wake, settles}
 use Rattle.rayon_machine_laws.specs.Turn.{is_adding, is_added, is_news}
-use Rattle.rayon_machine_orders.specs.Order.{Happening, Adds, Begins, happened, and_next, TokenList}
 
 -- a machine: the act that a place names, the job that an act touches, what each act does, where it leads, and what the
 -- events make that are no act
@@ -383,9 +358,8 @@ worker_pops_at_the_wrong_end : happenings_by (aiming aims_at_oldest wrong_end) l
 worker_pops_at_the_wrong_end = refl
 
 last_entry : (l : List ℕ) (t : ℕ) → last_of (l ++ t ∷ []) ≡ Some t
-last_entry [] t = refl
-last_entry (u ∷ []) t = refl
 last_entry (u ∷ v ∷ l) t = last_entry (v ∷ l) t
+last_entry _ t = refl
 
 not_handed : (lists left_lists : Option ℕ → List ℕ) (left : List ℕ) → TokenList NewestFirst [] lists earlier_first left left_lists → ⊥
 not_handed f g left (inl (rest, h, more)) = let k : last_of [] ≡ Some 0 = ap last_of h ∙ last_entry rest 0 in cc

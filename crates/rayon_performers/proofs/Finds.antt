@@ -38,11 +38,11 @@ module _ {X G O F : Type 0} (s t u : Hands X G O F) where
   missed _ k d = d
 
   no_cast : (y : Seen) → Does acts.TakeCast y t u → Same t u
-  no_cast (Task n) d = absurd d
-  no_cast _ d = d
+  no_cast (Task n) d = absurd d.1
+  no_cast _ d = d.0
 
   local_ends : (h : PoolShape) (q : Party) (y : Seen) → Does acts.TakeCast y t u → next_of h q at.LocalTakeCast y ≡ Back
-  local_ends h q (Task n) d = absurd d
+  local_ends h q (Task n) d = absurd d.1
   local_ends h q _ d = refl
 
   -- the own deque and the broadcast list had none
@@ -53,13 +53,13 @@ module _ {X G O F : Type 0} (s t u : Hands X G O F) where
       subst (λ (m : Move). So h i first s m u) (local_ends h (Worker 0 i) y e) (by_act h i first s (Stay at.LocalTakeCast) t u y refl looked e b)
 
   pub missed_unmoved : (x y : Seen) → NoTask x → Does acts.PopOwn x s t → Does acts.TakeCast y t u → Unmoved s.own u.own
-  missed_unmoved x y k d e = subst (λ (z : Hands X G O F). Unmoved s.own z.own) (sym (no_cast y e)) (missed x k d).1
+  missed_unmoved x y k d e = subst (λ (z : Hands X G O F). Unmoved s.own z.own) (sym (no_cast y e)) (missed x k d).1.1
 
   pub missed_same : (x y : Seen) → NoTask x → Does acts.PopOwn x s t → Does acts.TakeCast y t u → SameDeque s.own u.own
-  missed_same x y k d e = subst (λ (z : Hands X G O F). SameDeque s.own z.own) (sym (no_cast y e)) (missed x k d).0
+  missed_same x y k d e = subst (λ (z : Hands X G O F). SameDeque s.own z.own) (sym (no_cast y e)) (missed x k d).1.0
 
   pub missed_left : (x y : Seen) → NoTask x → Does acts.PopOwn x s t → Does acts.TakeCast y t u → u ≡ record s { own = u.own; trace = u.trace }
-  missed_left x y k d e = subst (λ (z : Hands X G O F). z ≡ record s { own = z.own; trace = z.trace }) (sym (no_cast y e)) (ap (λ (z : Hands X G O F). record z { trace = u.trace }) (missed x k d).2)
+  missed_left x y k d e = subst (λ (z : Hands X G O F). z ≡ record s { own = z.own; trace = z.trace }) (sym (no_cast y e)) (ap (λ (z : Hands X G O F). record z { trace = u.trace }) (missed x k d).0)
 
 module _ {X G O F : Type 0} (h : PoolShape) (i : ℕ) (m : Move) (s u v : Hands X G O F) where
   -- the task that was found is given out of the hands
@@ -138,8 +138,8 @@ module _ {X G O F : Type 0} where
   -- a look that missed
   looked : (s u v : Hands X G O F) → Missed s u → Looks u v → Missed s v
   looked s u v a d =
-      let e = ap (λ (z : Hands X G O F). z.inlet) d.2 in
-      ((same_deque s.own u.own v.own a.0.0 d.0, (d.1.0 ∙ a.0.1.0, d.1.1 ∙ a.0.1.1, d.1.2 ∙ a.0.1.2), e ∙ a.0.2), subst (λ (z : Hands X G O F). z ≡ record s { own = z.own; thief = z.thief; trace = z.trace }) (sym d.2) (ap (λ (z : Hands X G O F). record z { own = v.own; trace = v.trace }) a.1))
+      let e = ap (λ (z : Hands X G O F). z.inlet) d.0 in
+      ((same_deque s.own u.own v.own a.0.0 d.1.0, (d.1.1.0 ∙ a.0.1.0, d.1.1.1 ∙ a.0.1.1, d.1.1.2 ∙ a.0.1.2), e ∙ a.0.2), subst (λ (z : Hands X G O F). z ≡ record s { own = z.own; thief = z.thief; trace = z.trace }) (sym d.0) (ap (λ (z : Hands X G O F). record z { own = v.own; trace = v.trace }) a.1))
 
   same : (s u v : Hands X G O F) → Missed s u → Same u v → Missed s v
   same s u v a d = subst (λ (z : Hands X G O F). Missed s z) (sym d) (a.0, ap (λ (z : Hands X G O F). record z { trace = v.trace }) a.1)
@@ -174,16 +174,16 @@ module _ {X G O F : Type 0} where
 
   -- one look more
   pub yield_on : (h : PoolShape) (i : ℕ) (s u v : Hands X G O F) (y : Place) (x : Seen) → IsYield y → Missed s u → Does (act_of (Worker 0 i) y) x u v → Looking s v (next_of h (Worker 0 i) y x)
-  yield_on h i s u v at.YieldPop (Task n) l a d = (d.0, found_own s u v v.task a d.1 (ap (λ (z : Hands X G O F). z.inlet) d.2), moved_on s u v a (subst (λ (z : Hands X G O F). Moved u z) (sym d.2) refl))
+  yield_on h i s u v at.YieldPop (Task n) l a d = (d.1.0, found_own s u v v.task a d.1.1 (ap (λ (z : Hands X G O F). z.inlet) d.0), moved_on s u v a (subst (λ (z : Hands X G O F). Moved u z) (sym d.0) refl))
   yield_on h i s u v at.YieldPop _ l a d = (looked s u v a d, tt)
-  yield_on h i s u v at.YieldTakeCast (Task n) l a d = absurd d
-  yield_on h i s u v at.YieldTakeCast _ l a d = either s v (h.workers == 1) (Stay at.YieldPopInjected) (Stay at.YieldPick) (same s u v a d, tt) (same s u v a d, tt)
-  yield_on h i s u v at.YieldPick (Start n) l a d = (same s u v a d, tt)
-  yield_on h i s u v at.YieldPick _ l a d = (same s u v a d, tt)
-  yield_on h i s u v (at.YieldSteal k m) (Task n) l a d = (d.0, found_other s u v k v.task a d.1 (subst (λ (z : Hands X G O F). Kept s z) (sym d.2) a.0), moved_on s u v a (subst (λ (z : Hands X G O F). Moved u z) (sym d.2) refl))
-  yield_on h i s u v (at.YieldSteal k m) _ l a d = either_place s v (m == 0) at.YieldPopInjected (at.YieldSteal (not_self h.workers i (next_victim h.workers k)) (m - 1)) (not_stolen s u v a d, tt) (not_stolen s u v a d, tt)
-  yield_on h i s u v at.YieldPopInjected (Task n) l a d = (d.0, found_injected s u v v.task a d.1 (subst (λ (z : Hands X G O F). Kept s (record z { inlet = u.inlet })) (sym d.2) a.0), moved_on s u v a (subst (λ (z : Hands X G O F). Moved u z) (sym d.2) refl))
-  yield_on h i s u v at.YieldPopInjected _ l a d = same s u v a d
+  yield_on h i s u v at.YieldTakeCast (Task n) l a d = absurd d.1
+  yield_on h i s u v at.YieldTakeCast _ l a d = either s v (h.workers == 1) (Stay at.YieldPopInjected) (Stay at.YieldPick) (same s u v a d.0, tt) (same s u v a d.0, tt)
+  yield_on h i s u v at.YieldPick (Start n) l a d = (same s u v a d.0, tt)
+  yield_on h i s u v at.YieldPick _ l a d = (same s u v a d.0, tt)
+  yield_on h i s u v (at.YieldSteal k m) (Task n) l a d = (d.1.0, found_other s u v k v.task a d.1.1 (subst (λ (z : Hands X G O F). Kept s z) (sym d.0) a.0), moved_on s u v a (subst (λ (z : Hands X G O F). Moved u z) (sym d.0) refl))
+  yield_on h i s u v (at.YieldSteal k m) _ l a d = either_place s v (m == 0) at.YieldPopInjected (at.YieldSteal (not_self h.workers i (next_victim h.workers k)) (m - 1)) (not_stolen s u v a d.0, tt) (not_stolen s u v a d.0, tt)
+  yield_on h i s u v at.YieldPopInjected (Task n) l a d = (d.1.0, found_injected s u v v.task a d.1.1 (subst (λ (z : Hands X G O F). Kept s (record z { inlet = u.inlet })) (sym d.0) a.0), moved_on s u v a (subst (λ (z : Hands X G O F). Moved u z) (sym d.0) refl))
+  yield_on h i s u v at.YieldPopInjected _ l a d = same s u v a d.0
   yield_on h i s u v _ _ l a d = absurd l
 
   -- where it goes on nothing was taken

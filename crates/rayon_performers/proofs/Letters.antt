@@ -6,12 +6,12 @@ use Rattle.rayon_machine_places.specs.declared.act.Seen.{Seen}
 use Rattle.rayon_machine_places.specs.declared.act.Seen.TheVariants.{Done, Refused}
 use Rattle.rayon_atomics.specs.declared.views.Guard.{Guard}
 use Rattle.rayon_performers.specs.Sights.{Guards, Finds, Turns, Wakes, Watches}
-use Rattle.rayon_performers.specs.Hands.{Hands, Does, Latches, answer}
+use Rattle.rayon_performers.specs.Hands.{Hands, Does, answer}
 use Rattle.rayon_performers.specs.Waits.{waiting_on}
 
 module _ {X G O F : Type 0} (l : Latch) (s t u : Hands X G O F) (e : t ≡ record s { guards = t.guards }) where
   -- a step of the seat, and then the entry
-  stepped : (R : Guard → Guard → Type 0) → Watches l R s.guards t.guards → u ≡ record t { trace = u.trace } → Latches l R s u
+  stepped : (R : Guard → Guard → Type 0) → Watches l R s.guards t.guards → u ≡ record t { trace = u.trace } → (u ≡ record s { guards = u.guards; trace = u.trace }) × Watches l R s.guards u.guards
   stepped R w f =
       let on : u ≡ record s { guards = t.guards; trace = u.trace } = subst (λ (z : Hands X G O F). u ≡ record z { trace = u.trace }) e f in
       let same : t.guards ≡ u.guards = sym (ap (λ (z : Hands X G O F). z.guards) f) in

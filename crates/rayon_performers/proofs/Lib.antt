@@ -1,12 +1,9 @@
+pub mod Drives
 pub mod Finds
-pub mod Holds
-pub mod Joins
 pub mod Letters
 pub mod Offers
 pub mod Recounts
-pub mod Seats
 pub mod Spawns
 pub mod Stretches
-pub mod Tails
 pub mod Visits
 pub mod Waits

@@ -22,7 +22,7 @@ use Rattle.rayon_machine_places.specs.declared.shape.PoolShape.{PoolShape}
 use Rattle.rayon_machine_places.specs.Places.{next_of, walk, finish, undo, taken_number}
 use Rattle.rayon_drive.specs.Traces.{Adds}
 use Rattle.rayon_performers.specs.Calls.{own_call, own_join}
-use Rattle.rayon_performers.specs.Hands.{Hands, Does, Same, Looks, Begins, answer, kind_of}
+use Rattle.rayon_performers.specs.Hands.{Hands, Does, Same, Looks, answer, kind_of}
 use Rattle.rayon_performers.proofs.Stretches.{So, so_far, by_act}
 
 module _ {X G O F : Type 0} (h : PoolShape) (i n : ℕ) (s t : Hands X G O F) where
@@ -36,15 +36,15 @@ module _ {X G O F : Type 0} (h : PoolShape) (i n : ℕ) (s t : Hands X G O F) wh
   install_raised (Ok u) d e = by_act h i (Stay (at.RaiseCount (Here 0 n))) s (Stay (at.RaiseCount (Here 0 n))) s t Done refl (so_far h i (Stay (at.RaiseCount (Here 0 n))) s) d e
   install_raised (Err u) d e = by_act h i (Stay (at.RaiseCount (Here 0 n))) s (Stay (at.RaiseCount (Here 0 n))) s t Refused refl (so_far h i (Stay (at.RaiseCount (Here 0 n))) s) d e
 
-  pub begun : (x : Seen) → Begins x s t → Adds (acts.Begin n) x s.trace t.trace → So h i (Stay (at.BeginHere n)) s (Stay (at.Run n Direct)) t
+  pub begun : (x : Seen) → Does (acts.Begin n) x s t → Adds (acts.Begin n) x s.trace t.trace → So h i (Stay (at.BeginHere n)) s (Stay (at.Run n Direct)) t
   begun x d e = by_act h i (Stay (at.BeginHere n)) s (Stay (at.BeginHere n)) s t x refl (so_far h i (Stay (at.BeginHere n)) s) d e
 
-  pub begun_task : (x : Seen) → Begins x s t → Adds (acts.Begin n) x s.trace t.trace → So h i (Stay (at.BeginTask (Plain n))) s (Stay (at.Run n (kind_of s.task))) t
-  begun_task (Begun k) d e = subst (λ (z : JobKind). So h i (Stay (at.BeginTask (Plain n))) s (Stay (at.Run n z)) t) d.0 (by_act h i (Stay (at.BeginTask (Plain n))) s (Stay (at.BeginTask (Plain n))) s t (Begun k) refl (so_far h i (Stay (at.BeginTask (Plain n))) s) d e)
-  begun_task _ d e = absurd d
+  pub begun_task : (x : Seen) → Does (acts.Begin n) x s t → Adds (acts.Begin n) x s.trace t.trace → So h i (Stay (at.BeginTask (Plain n))) s (Stay (at.Run n (kind_of s.task))) t
+  begun_task (Begun k) d e = subst (λ (z : JobKind). So h i (Stay (at.BeginTask (Plain n))) s (Stay (at.Run n z)) t) d.1 (by_act h i (Stay (at.BeginTask (Plain n))) s (Stay (at.BeginTask (Plain n))) s t (Begun k) refl (so_far h i (Stay (at.BeginTask (Plain n))) s) d e)
+  begun_task _ d e = absurd d.1
 
   -- what is taken begins, if it is this job
-  pub begun_taken : (k : Taken) (x : Seen) → k ≡ Plain n → Begins x s t → Adds (acts.Begin n) x s.trace t.trace → So h i (Stay (at.BeginTask k)) s (Stay (at.Run (taken_number k) (kind_of s.task))) t
+  pub begun_taken : (k : Taken) (x : Seen) → k ≡ Plain n → Does (acts.Begin n) x s t → Adds (acts.Begin n) x s.trace t.trace → So h i (Stay (at.BeginTask k)) s (Stay (at.Run (taken_number k) (kind_of s.task))) t
   begun_taken k x e d a = subst (λ (z : Taken). So h i (Stay (at.BeginTask z)) s (Stay (at.Run (taken_number z) (kind_of s.task))) t) (sym e) (begun_task x d a)
 
   -- the news of a pushed second side, and the walk that it owes
@@ -53,10 +53,10 @@ module _ {X G O F : Type 0} (h : PoolShape) (i n : ℕ) (s t : Hands X G O F) wh
 
 module _ {X G O F : Type 0} (h : PoolShape) (i n : ℕ) (m : Move) (s t u : Hands X G O F) where
   pub join_grown : So h i m s (Stay (at.GrowCall (own_join n))) t → Same t u → Adds (acts.Grow n) Done t.trace u.trace → So h i m s (Stay (at.LookQueue (own_join n))) u
-  join_grown a d e = by_act h i m s (Stay (at.GrowCall (own_join n))) t u Done refl a d e
+  join_grown a d e = by_act h i m s (Stay (at.GrowCall (own_join n))) t u Done refl a (d, tt) e
 
   pub join_not_grown : So h i m s (Stay (at.GrowCall (own_join n))) t → Same t u → Adds (acts.Grow n) Refused t.trace u.trace → So h i m s (Stay (undo (own_join n))) u
-  join_not_grown a d e = by_act h i m s (Stay (at.GrowCall (own_join n))) t u Refused refl a d e
+  join_not_grown a d e = by_act h i m s (Stay (at.GrowCall (own_join n))) t u Refused refl a (d, tt) e
 
   pub join_looked : (z : Bool) → So h i m s (Stay (at.LookQueue (own_join n))) t → Looks t u → Adds acts.LookOwn (answer z) t.trace u.trace → So h i m s (Stay (at.PushJob (own_join n) z)) u
   join_looked true a d e = by_act h i m s (Stay (at.LookQueue (own_join n))) t u Yes refl a d e

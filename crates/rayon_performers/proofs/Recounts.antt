@@ -8,7 +8,7 @@ use Rattle.rayon_machine_places.specs.declared.act.Seen.{Seen}
 use Rattle.rayon_machine_places.specs.declared.act.Seen.TheVariants.{Done, Refused, Yes, No}
 use Rattle.rayon_atomics.specs.declared.views.Guard.{Guard}
 use Rattle.rayon_atomics.specs.declared.views.Teller.{Teller}
-use Rattle.rayon_performers.specs.Hands.{Hands, Does, Lowers, Recounts, answer}
+use Rattle.rayon_performers.specs.Hands.{Hands, Does, answer}
 use Rattle.rayon_performers.specs.Marks.{GivesUnit, Marks, MissesUnit, NoLatch, SetBy, TakesUnit}
 
 module _ {X G O F : Type 0} (s t u : Hands X G O F) (f : u ≡ record t { trace = u.trace }) where
@@ -19,7 +19,7 @@ module _ {X G O F : Type 0} (s t u : Hands X G O F) (f : u ≡ record t { trace 
   count_stays : t.marks.count ≡ u.marks.count
   count_stays = sym (ap (λ (z : Hands X G O F). z.marks.count) f)
 
-  recounted : (n : ℕ) → t ≡ record s { holds = n; marks = record { set = s.marks.set; count = t.marks.count } } → Recounts s u n
+  recounted : (n : ℕ) → t ≡ record s { holds = n; marks = record { set = s.marks.set; count = t.marks.count } } → u ≡ record s { holds = n; marks = record { set = s.marks.set; count = u.marks.count }; trace = u.trace }
   recounted n e =
       let on : u ≡ record s { holds = n; marks = record { set = s.marks.set; count = t.marks.count }; trace = u.trace } = subst (λ (z : Hands X G O F). u ≡ record z { trace = u.trace }) e f in
       subst (λ (q : Teller). u ≡ record s { holds = n; marks = record { set = s.marks.set; count = q }; trace = u.trace }) count_stays on
@@ -30,9 +30,9 @@ module _ {X G O F : Type 0} (s t u : Hands X G O F) (f : u ≡ record t { trace 
   pub not_raises : (k : Count) (j : ℕ) → t ≡ record s { marks = record { set = s.marks.set; count = t.marks.count } } → MissesUnit (s.holds == 0) s.marks.count t.marks.count → Does (acts.Raise k j) Refused s u
   not_raises k j e w = (recounted s.holds e, subst (λ (q : Teller). MissesUnit (s.holds == 0) s.marks.count q) count_stays w)
 
-  pub lowers : (b : Bool) → t ≡ record s { holds = s.holds - 1; marks = record { set = s.marks.set; count = t.marks.count } } → GivesUnit (s.holds == 1) b s.marks.count t.marks.count → Lowers (answer b) s u
-  lowers true e w = (recounted (s.holds - 1) e, subst (λ (q : Teller). GivesUnit (s.holds == 1) true s.marks.count q) count_stays w)
-  lowers false e w = (recounted (s.holds - 1) e, subst (λ (q : Teller). GivesUnit (s.holds == 1) false s.marks.count q) count_stays w)
+  pub lowers : (k : Count) (j : Share) (b : Bool) → t ≡ record s { holds = s.holds - 1; marks = record { set = s.marks.set; count = t.marks.count } } → GivesUnit (s.holds == 1) b s.marks.count t.marks.count → Does (acts.Lower k j) (answer b) s u
+  lowers k j true e w = (recounted (s.holds - 1) e, subst (λ (q : Teller). GivesUnit (s.holds == 1) true s.marks.count q) count_stays w)
+  lowers k j false e w = (recounted (s.holds - 1) e, subst (λ (q : Teller). GivesUnit (s.holds == 1) false s.marks.count q) count_stays w)
 
   struck : t ≡ record s { marks = record { set = t.marks.set; count = s.marks.count } } → u ≡ record s { marks = record { set = u.marks.set; count = s.marks.count }; trace = u.trace }
   struck e =

@@ -1,11 +1,11 @@
 -- At each place a worker has at hand what the act there asks, and after it what belongs to where the table leads.
-use Rattle.std.specs.Prelude.{◌≡◌, ℕ, ◌+◌, ◌-◌, ◌==◌, nat_lt, ◌&&◌, if◌then◌else◌, Bool, true, false, Option, None, Some}
-use Rattle.std.proofs.Common.{refl, sym, subst, ap, true≢false}
+use Rattle.std.specs.Prelude.{◌≡◌, ℕ, ◌+◌, ◌-◌, ◌==◌, nat_lt, ◌&&◌, if◌then◌else◌, Bool, true, false, not, Option, None, Some}
+use Rattle.std.proofs.Common.{refl, sym, subst, ap}
 use Rattle.std.proofs.lemmas.Bool.{eqb-true}
-use Rattle.rayon_machine_places.specs.declared.place.Count.TheVariants.{OfPool, OfScope, OfCast}
+use Rattle.rayon_machine_places.specs.declared.place.Count.TheVariants.{OfPool}
+use Rattle.rayon_machine_places.specs.declared.place.JobKind.TheVariants.{Direct}
 use Rattle.rayon_machine_places.specs.declared.place.Party.{Party}
 use Rattle.rayon_machine_places.specs.declared.place.Party.TheVariants.{Worker, Caller}
-use Rattle.rayon_machine_places.specs.declared.place.Ending.{Ending}
 use Rattle.rayon_machine_places.specs.declared.place.Latch.{Latch}
 use Rattle.rayon_machine_places.specs.declared.place.Latch.TheVariants.{Terminate, OfCall}
 use Rattle.rayon_machine_places.specs.declared.place.Target.{Target}
@@ -14,7 +14,7 @@ use Rattle.rayon_machine_places.specs.declared.place.OpenCall.{OpenCall}
 use Rattle.rayon_machine_places.specs.declared.place.Rounds.{Rounds}
 use Rattle.rayon_machine_places.specs.declared.place.Rounds.TheVariants.{Failed, Announced}
 use Rattle.rayon_machine_places.specs.declared.place.Then.{Then}
-use Rattle.rayon_machine_places.specs.declared.place.Then.TheVariants.{BeginFound, LeaveWait, Resume, Await, RunFirst, Answers, Missing as AnswersMissing, Ran, GiveBack, Called, Gathers}
+use Rattle.rayon_machine_places.specs.declared.place.Then.TheVariants.{Resume}
 use Rattle.rayon_machine_places.specs.declared.place.Wait.{Wait}
 use Rattle.rayon_machine_places.specs.declared.place.Settling.{Settling}
 use Rattle.rayon_machine_places.specs.declared.place.Place.{Place}
@@ -22,17 +22,20 @@ use Rattle.rayon_machine_places.specs.declared.place.Place.TheVariants as at
 use Rattle.rayon_machine_places.specs.declared.place.Taken.{Taken}
 use Rattle.rayon_machine_places.specs.declared.place.Taken.TheVariants.{Plain, Token}
 use Rattle.rayon_machine_places.specs.declared.place.Move.{Move}
-use Rattle.rayon_machine_places.specs.declared.place.Move.TheVariants.{Stay, Enter}
+use Rattle.rayon_machine_places.specs.declared.place.Move.TheVariants.{Stay, Enter, HandIn, Mark}
 use Rattle.rayon_machine_places.specs.declared.act.Seen.{Seen}
-use Rattle.rayon_machine_places.specs.declared.act.Seen.TheVariants.{Done, Yes, Task, Missing, Jec, Word, Start, Wakes, Begun, Found}
+use Rattle.rayon_machine_places.specs.declared.act.Seen.TheVariants.{Done, Yes, Task, Jec, Word, Start, Wakes, Begun, Found}
 use Rattle.rayon_machine_places.specs.declared.shape.PoolShape.{PoolShape}
 use Rattle.rayon_machine_places.specs.Places.{latch_of, act_of, next_of, after_wait, finish, walk, settle, after_set, after_found, is_taken, after_failure, set_call, next_victim, not_self, is_rest}
+use Rattle.rayon_drive.specs.Paths.{goes}
+use Rattle.rayon_atomics.specs.declared.views.Watch.{Watch}
+use Rattle.rayon_sleep.specs.Berths.{Rests, Searches, Sleeps}
 use Rattle.rayon_tasks.specs.Tasks.{TaskOf}
-use Rattle.rayon_tasks.specs.Tickets.{TicketOf}
-use Rattle.rayon_performers.specs.Hands.{Hands, HasTask, HasTicket, Needs, Does, Same, Looks, Pops, PopsInjected, Steals, call_latch}
-use Rattle.rayon_performers.specs.Seating.{seat_on}
-use Rattle.rayon_performers.specs.Sights.{SeenSet, seen_set}
-use Rattle.rayon_performers.specs.Stands.{IsWorker, SawSet, SeatAt, Seated, StandsAt, Stands, call_to, call_then, task_then, left_by}
+use Rattle.rayon_performers.specs.Hands.{Hands, HasTask, HasTicket, Needs, Does, Sees, after}
+use Rattle.rayon_performers.specs.Seating.{begins, ends, held, loads, never, stays, stepped, wakes}
+use Rattle.rayon_performers.specs.Seats.{AddsInactive, Announces, Loads, Relocks, Resting, Searching, SubsInactive, SubsSleeping, Tries}
+use Rattle.rayon_performers.specs.Sights.{seen_set}
+use Rattle.rayon_performers.specs.Stands.{Anyhow, At, Ended, Going, Hand, IsWorker, Joins, Left, Next, Runs, SawSet, Waits, Where, call_to, hand}
 
 module _ {X : Type 0} where
   -- a token is no task that a worker has
@@ -40,311 +43,179 @@ module _ {X : Type 0} where
   no_token None k i b a = a
   no_token (Some x) k i b a = a
 
-module _ {X G O F : Type 0} where
-  -- what is in hand is in hand of an equal
-  via : (v u : Hands X G O F) (t : Option Taken) (c r : Option ℕ) (e : Option Ending) (z : Option Latch) → v ≡ u → StandsAt u t c r e z → StandsAt v t c r e z
-  via v u t c r e z d a = subst (λ (x : Hands X G O F). StandsAt x t c r e z) (sym d) a
+module _ {X G O F : Type 0} (E : Move → Hand X G O F → Type 0) where
+  -- where a program goes on it has what its act asks, and else it has ended
+  pub going : (q : Party) (s : Hands X G O F) (m : Move) → goes m ≡ true → At E q s m → Going E q s m
+  going q s m g a = subst (λ (z : Bool). Where z (Going E q s m) (E m (hand s) × Resting s.chair × Ended (hand s) m)) g a
 
-  same : (u v : Hands X G O F) (t : Option Taken) (c r : Option ℕ) (e : Option Ending) (z : Option Latch) → Same u v → StandsAt u t c r e z → StandsAt v t c r e z
-  same u v t c r e z d a = via v _ t c r e z d (record { task = a.task; call = a.call; reply = a.reply; done = a.done; probed = a.probed })
+  pub ended : (q : Party) (s : Hands X G O F) (m : Move) → goes m ≡ false → At E q s m → E m (hand s) × Resting s.chair × Ended (hand s) m
+  ended q s m g a = subst (λ (z : Bool). Where z (Going E q s m) (E m (hand s) × Resting s.chair × Ended (hand s) m)) g a
 
-  -- but that the seat made a step, or was given away or taken back
-  moved : (u v w : Hands X G O F) (t : Option Taken) (c r : Option ℕ) (e : Option Ending) (z : Option Latch) → v ≡ record u { chair = w.chair; trace = w.trace } → StandsAt u t c r e z → StandsAt v t c r e z
-  moved u v w t c r e z d a = via v _ t c r e z d (record { task = a.task; call = a.call; reply = a.reply; done = a.done; probed = a.probed })
+  -- what follows once workers were woken and latches set
+  next_at : (s : Hands X G O F) (p i : ℕ) (m : Move) → Next E (hand s) m × Resting s.chair → At E (Worker p i) s m
+  next_at s p i (Stay (at.ProbeWorking k)) a = (a.0.0, a)
+  next_at s p i (Stay (at.TakeResult o f)) a = (a.0.0, (a.0.1, a.0.2, a.1))
+  next_at s p i (Stay at.Stopped) a = (a.0.0, a.1, a.0.1)
+  next_at s p i (Stay _) a = absurd a.0
+  next_at s p i (Mark k c n) a = absurd a.0.1
+  next_at s p i (HandIn k n) a = absurd a.0.1
+  next_at s p i _ a = (a.0.0, a.1, a.0.1)
 
-  looked : (u v : Hands X G O F) (t : Option Taken) (c r : Option ℕ) (e : Option Ending) (z : Option Latch) → Looks u v → StandsAt u t c r e z → StandsAt v t c r e z
-  looked u v t c r e z d a = via v _ t c r e z d.2 (record { task = a.task; call = a.call; reply = a.reply; done = a.done; probed = a.probed })
-
-  -- but that a latch's seat made a step
-  latched : (u v w : Hands X G O F) (t : Option Taken) (c r : Option ℕ) (e : Option Ending) → v ≡ record u { guards = w.guards; trace = w.trace } → StandsAt u t c r e None → StandsAt v t c r e None
-  latched u v w t c r e d a = via v _ t c r e None d (record { task = a.task; call = a.call; reply = a.reply; done = a.done; probed = tt })
-
-  -- the latch was not set
-  unset : (u v : Hands X G O F) (t : Option Taken) (c r : Option ℕ) (e : Option Ending) → v ≡ record u { guards = v.guards; probed = false; trace = v.trace } → StandsAt u t c r e None → StandsAt v t c r e None
-  unset u v t c r e d a = via v _ t c r e None d (record { task = a.task; call = a.call; reply = a.reply; done = a.done; probed = tt })
-
-  -- it was
-  set : (u v : Hands X G O F) (t : Option Taken) (c r : Option ℕ) (e : Option Ending) (l : Latch) → v ≡ record u { guards = v.guards; probed = true; trace = v.trace } → SeenSet v.guards l → StandsAt u t c r e None → StandsAt v t c r e (Some l)
-  set u v t c r e l d z a = via v _ t c r e (Some l) d (record { task = a.task; call = a.call; reply = a.reply; done = a.done; probed = (refl, z) })
-
-  missed : (u v : Hands X G O F) (t : Option Taken) (c r : Option ℕ) (e : Option Ending) (z : Option Latch) → v ≡ record u { thief = v.thief; trace = v.trace } → StandsAt u t c r e z → StandsAt v t c r e z
-  missed u v t c r e z d a = via v _ t c r e z d (record { task = a.task; call = a.call; reply = a.reply; done = a.done; probed = a.probed })
-
-  lowered : (u v : Hands X G O F) (t : Option Taken) (c r : Option ℕ) (e : Option Ending) (z : Option Latch) → v ≡ record u { holds = u.holds - 1; marks = record { set = u.marks.set; count = v.marks.count }; trace = v.trace } → StandsAt u t c r e z → StandsAt v t c r e z
-  lowered u v t c r e z d a = via v _ t c r e z d (record { task = a.task; call = a.call; reply = a.reply; done = a.done; probed = a.probed })
-
-  -- a latch was set
-  struck : (u v : Hands X G O F) (t : Option Taken) (c r : Option ℕ) (e : Option Ending) (z : Option Latch) → v ≡ record u { marks = record { set = v.marks.set; count = u.marks.count }; trace = v.trace } → StandsAt u t c r e z → StandsAt v t c r e z
-  struck u v t c r e z d a = via v _ t c r e z d (record { task = a.task; call = a.call; reply = a.reply; done = a.done; probed = a.probed })
-
-  call_of : (u v : Hands X G O F) (c : Option ℕ) → v.call ≡ u.call → HasTicket u.call c → HasTicket v.call c
-  call_of u v c e k = subst (λ (x : Option TicketOf). HasTicket x c) (sym e) k
-
-  -- a task was taken
-  popped : (u v : Hands X G O F) (c : Option ℕ) (n : Taken) → HasTicket u.call c → Pops (Task n) u v → StandsAt v (Some n) c None None None
-  popped u v c n k d = record { task = d.0; call = call_of u v c (ap (λ (z : Hands X G O F). z.call) d.2) k; reply = tt; done = tt; probed = tt }
-
-  popped_injected : (u v : Hands X G O F) (c : Option ℕ) (n : Taken) → HasTicket u.call c → PopsInjected (Task n) u v → StandsAt v (Some n) c None None None
-  popped_injected u v c n k d = record { task = d.0; call = call_of u v c (ap (λ (z : Hands X G O F). z.call) d.2) k; reply = tt; done = tt; probed = tt }
-
-  stolen : (u v : Hands X G O F) (m : ℕ) (c : Option ℕ) (n : Taken) → HasTicket u.call c → Steals m (Task n) u v → StandsAt v (Some n) c None None None
-  stolen u v m c n k d = record { task = d.0; call = call_of u v c (ap (λ (z : Hands X G O F). z.call) d.2) k; reply = tt; done = tt; probed = tt }
-
-  -- less is asked
-  bare : (u : Hands X G O F) (c : Option ℕ) → HasTicket u.call c → StandsAt u None c None None None
-  bare u c k = record { task = tt; call = k; reply = tt; done = tt; probed = tt }
-
-  abbrev pub StandsThen : Hands X G O F → Then → Type 0
-  StandsThen u t = StandsAt u (task_then t) (call_then t) None None (left_by t)
-
-  left_stands : (u : Hands X G O F) (g : Target) → HasTicket u.call (call_to g) → SawSet u (Some (latch_of g)) → Stands u (Stay (after_wait g))
-  left_stands u Termination k z = (record { task = tt; call = tt; reply = tt; done = tt; probed = z }, tt)
-  left_stands u (Answer o f) k z = (record { task = tt; call = k; reply = tt; done = tt; probed = z }, tt)
-
-  pub finish_stands : (u : Hands X G O F) (p i : ℕ) (t : Then) → StandsThen u t → Stands u (finish (Worker p i) t)
-  finish_stands u p i (BeginFound g n) a = (a, tt)
-  finish_stands u p i (LeaveWait g) a = left_stands u g a.call a.probed
-  finish_stands u p i Resume a = tt
-  finish_stands u p i Called a = tt
-  finish_stands u p i (Await o) a = (a, tt)
-  finish_stands u p i (Gathers o) a = (a, tt)
-  finish_stands u p i (RunFirst o b) a = (a, tt)
-  finish_stands u p i (Answers o f e) a = tt
-  finish_stands u p i (AnswersMissing o f) a = tt
-  finish_stands u p i (Ran n e) a = tt
-  finish_stands u p i (GiveBack n) a = tt
-
-  pub walk_stands : (u : Hands X G O F) (h : PoolShape) (p i r k j : ℕ) (t : Then) → StandsThen u t → Stands u (walk h (Worker p i) r k j t)
-  walk_stands u h p i r k j t a = by (nat_lt 0 k && nat_lt j h.workers)
+  pub walk_at : (s : Hands X G O F) (h : PoolShape) (p i r k j : ℕ) (t : Then) → Next E (hand s) (finish (Worker p i) t) × Resting s.chair → At E (Worker p i) s (walk h (Worker p i) r k j t)
+  walk_at s h p i r k j t a = by (nat_lt 0 k && nat_lt j h.workers)
     where
-      by : (z : Bool) → Stands u (if z then Stay (at.LockToWake (record { pool = r; owed = k; worker = j; then = t })) else finish (Worker p i) t)
-      by true = (a, tt)
-      by false = finish_stands u p i t a
+      by : (z : Bool) → At E (Worker p i) s (if z then Stay (at.LockToWake (record { pool = r; owed = k; worker = j; then = t })) else finish (Worker p i) t)
+      by true = (tt, a)
+      by false = next_at s p i (finish (Worker p i) t) a
 
-  settle_stands : (u : Hands X G O F) (h : PoolShape) (p i r j : ℕ) (t : Then) → StandsThen u t → Stands u (settle h (Worker p i) r j t)
-  settle_stands u h p i r j t a = by (nat_lt j h.workers)
+  pub settle_at : (s : Hands X G O F) (h : PoolShape) (p i r j : ℕ) (t : Then) → Next E (hand s) (finish (Worker p i) t) × Resting s.chair → At E (Worker p i) s (settle h (Worker p i) r j t)
+  settle_at s h p i r j t a = by (nat_lt j h.workers)
     where
-      by : (z : Bool) → Stands u (if z then Stay (at.SetLatch (record { latch = Terminate; pool = r; worker = j; then = t })) else finish (Worker p i) t)
-      by true = (a, tt)
-      by false = finish_stands u p i t a
+      by : (z : Bool) → At E (Worker p i) s (if z then Stay (at.SetLatch (record { latch = Terminate; pool = r; worker = j; then = t })) else finish (Worker p i) t)
+      by true = (tt, a)
+      by false = next_at s p i (finish (Worker p i) t) a
 
-  after_set_stands : (u : Hands X G O F) (h : PoolShape) (p i : ℕ) (s : Settling) (l : Latch) → StandsThen u s.then → Stands u (after_set h (Worker p i) s l)
-  after_set_stands u h p i s Terminate a = settle_stands u h p i s.pool (s.worker + 1) s.then a
-  after_set_stands u h p i s (OfCall c) a = finish_stands u p i s.then a
+  after_set_at : (s : Hands X G O F) (h : PoolShape) (p i : ℕ) (x : Settling) (l : Latch) → Next E (hand s) (finish (Worker p i) x.then) × Resting s.chair → At E (Worker p i) s (after_set h (Worker p i) x l)
+  after_set_at s h p i x Terminate a = settle_at s h p i x.pool (x.worker + 1) x.then a
+  after_set_at s h p i x (OfCall c) a = next_at s p i (finish (Worker p i) x.then) a
 
-  found_stands : (u : Hands X G O F) (g : Target) (f : Option Taken) → StandsAt u f (call_to g) None None (elim f [ None ↦ Some (latch_of g) | Some t ↦ None ]) → StandsThen u (after_found g f)
-  found_stands u g None a = a
-  found_stands u g (Some n) a = a
+  pub told_at : (s : Hands X G O F) (p i c : ℕ) (o : Party) → HasTicket s.reply (Some c) → Next E (hand s) (finish (Worker p i) Resume) × Resting s.chair → At E (Worker p i) s (Stay (set_call c o Resume))
+  told_at s p i c (Worker r j) k a = (k, a)
+  told_at s p i c (Caller n) k a = (k, a)
 
-  failed_stands : (u : Hands X G O F) (h : PoolShape) (k : Wait) (r : Rounds) → HasTicket u.call (call_to k.target) → Stands u (Stay (after_failure h k r))
-  failed_stands u h k Announced a = (bare u (call_to k.target) a, tt)
-  failed_stands u h k (Failed n) a = by (nat_lt n h.limit)
+  -- a wait is left
+  left_next : (s : Hand X G O F) (g : Target) → HasTicket s.call (call_to g) → Left E g s.holds → SawSet s (latch_of g) → Next E s (Stay (after_wait g))
+  left_next s Termination k e z = (e s refl, z)
+  left_next s (Answer o f) k e z = (k, z, e)
+
+  failed_at : (s : Hands X G O F) (h : PoolShape) (p i : ℕ) (k : Wait) (r : Rounds) → Waits E k.target (hand s) × Searching s.chair → At E (Worker p i) s (Stay (after_failure h k r))
+  failed_at s h p i k Announced a = (a.0.0, a)
+  failed_at s h p i k (Failed n) a = by (nat_lt n h.limit)
     where
-      by : (z : Bool) → Stands u (Stay (if z then at.ProbeIdle (record k { rounds = Failed (n + 1) }) else at.AnnounceSelf k))
-      by true = (bare u (call_to k.target) a, tt)
-      by false = (bare u (call_to k.target) a, tt)
+      by : (z : Bool) → At E (Worker p i) s (Stay (if z then at.ProbeIdle (record k { rounds = Failed (n + 1) }) else at.AnnounceSelf k))
+      by true = (a.0.0, a)
+      by false = (a.1, a)
 
-  either : (u : Hands X G O F) (z : Bool) (m n : Move) → Stands u m → Stands u n → Stands u (if z then m else n)
-  either u true m n a b = a
-  either u false m n a b = b
+  either : (q : Party) (s : Hands X G O F) (z : Bool) (m n : Move) → At E q s m → At E q s n → At E q s (if z then m else n)
+  either q s true m n a b = a
+  either q s false m n a b = b
 
-  either_place : (u : Hands X G O F) (z : Bool) (m n : Place) → Stands u (Stay m) → Stands u (Stay n) → Stands u (Stay (if z then m else n))
-  either_place u true m n a b = a
-  either_place u false m n a b = b
+  either_place : (q : Party) (s : Hands X G O F) (z : Bool) (m n : Place) → At E q s (Stay m) → At E q s (Stay n) → At E q s (Stay (if z then m else n))
+  either_place q s true m n a b = a
+  either_place q s false m n a b = b
 
-  told : (u : Hands X G O F) (c : ℕ) (o : Party) → HasTicket u.reply (Some c) → Stands u (Stay (set_call c o Resume))
-  told u c (Worker p i) k = (record { task = tt; call = tt; reply = k; done = tt; probed = tt }, tt)
-  told u c (Caller n) k = (record { task = tt; call = tt; reply = k; done = tt; probed = tt }, tt)
-
-  -- without the ticket to answer
-  then_of : (u : Hands X G O F) (t : Then) (r : Option ℕ) → StandsAt u (task_then t) (call_then t) r None (left_by t) → StandsThen u t
-  then_of u t r a = record { task = a.task; call = a.call; reply = tt; done = tt; probed = a.probed }
-
-  latch_needs : (u : Hands X G O F) (g : Target) → HasTicket u.call (call_to g) → HasTicket u.call (call_latch (latch_of g))
-  latch_needs u Termination k = tt
-  latch_needs u (Answer o f) k = k
+  -- a task was found that begins
+  begins_at : (s : Hands X G O F) (p i : ℕ) (n : Taken) → HasTask s.task (Some n) → Runs E s.holds → Resting s.chair → At E (Worker p i) s (Stay (at.BeginTask n))
+  begins_at s p i (Plain n) t e r = (t, (e, r))
+  begins_at s p i (Token k j b) t e r = absurd (no_token s.task k j b t)
 
   -- a join has found its own second side, or another task
-  joined : (u : Hands X G O F) (o : OpenCall) (n : Taken) → StandsAt u (Some n) (Some o.number) None None None → Stands u (if is_taken n o.job then Enter (at.SecondSide o) (at.BeginHere o.job) else Enter (at.JoinProbe o) (at.BeginTask n))
-  joined u o (Token k i b) a = absurd (no_token u.task k i b a.task)
-  joined u o (Plain n) a = by (n == o.job) refl
+  joined_at : (s : Hands X G O F) (p i : ℕ) (o : OpenCall) (n : Taken) → HasTask s.task (Some n) → Joins E o (hand s) → Resting s.chair → At E (Worker p i) s (if is_taken n o.job then Enter (at.SecondSide o) (at.BeginHere o.job) else Enter (at.JoinProbe o) (at.BeginTask n))
+  joined_at s p i o (Token k j b) t e r = absurd (no_token s.task k j b t)
+  joined_at s p i o (Plain n) t e r = by (n == o.job) refl
     where
-      by : (z : Bool) → (n == o.job) ≡ z → Stands u (if z then Enter (at.SecondSide o) (at.BeginHere o.job) else Enter (at.JoinProbe o) (at.BeginTask (Plain n)))
-      by true e = (subst (λ (k : ℕ). StandsAt u (Some (Plain k)) (Some o.number) None None None) (eqb-true n o.job e) a, tt)
-      by false e = (a, tt)
-
-  -- what the act at a place asks is there
-  pub stands_needs : (u : Hands X G O F) (p i : ℕ) (y : Place) → is_rest y ≡ false → Stands u (Stay y) → SeatAt y u.chair → Needs (act_of (Worker p i) y) u
-  stands_needs u p i (at.ProbeWorking k) r a e = latch_needs u k.target a.0.call
-  stands_needs u p i (at.ProbeIdle k) r a e = latch_needs u k.target a.0.call
-  stands_needs u p i (at.GetSleepy k) r a e = latch_needs u k.target a.0.call
-  stands_needs u p i (at.FallAsleep k) r a e = latch_needs u k.target a.0.call
-  stands_needs u p i (at.WakeUp k) r a e = latch_needs u k.target a.0.call
-  stands_needs u p i (at.BecomeInactive k) r a e = e
-  stands_needs u p i (at.AnnounceSelf k) r a e = e
-  stands_needs u p i (at.LoadCounters k) r a e = e
-  stands_needs u p i (at.AddSleeping k) r a e = e
-  stands_needs u p i (at.BlockSelf k) r a e = e
-  stands_needs u p i (at.UndoSleeping k) r a e = e
-  stands_needs u p i (at.LeaveSearch k) r a e = e
-  stands_needs u p i (at.JoinProbe o) r a e = a.0.call
-  stands_needs u p i (at.TakeResult o f) r a e = a.0.call
-  stands_needs u p i (at.StoreResult c o z) r a e = (a.0.reply, a.0.done)
-  stands_needs u p i (at.SetLatch s) r a e = a.0.reply
-  stands_needs u p i (at.SetLockLatch c t) r a e = a.0.reply
-  stands_needs u p i (at.BeginTask (Plain t)) r a e = a.0.task
-  stands_needs u p i (at.BeginTask (Token t j b)) r a e = no_token u.task t j b a.0.task
-  stands_needs u p i (at.BeginHere t) r a e = a.0.task
-  stands_needs u p i (at.RaiseCount n) r a e = absurd a.1
-  stands_needs u p i (at.GrowCall n) r a e = absurd a.1
-  stands_needs u p i (at.LookQueue n) r a e = absurd a.1
-  stands_needs u p i (at.PushJob n z) r a e = absurd a.1
-  stands_needs u p i (at.AddToFifo f) r a e = absurd a.1
-  stands_needs u p i (at.LookForToken f) r a e = absurd a.1
-  stands_needs u p i (at.PushToken f z) r a e = absurd a.1
-  stands_needs u p i (at.TakeFromFifo f) r a e = absurd a.1
-  stands_needs u p i (at.RaiseForAll c) r a e = absurd a.1
-  stands_needs u p i (at.PushForAll c) r a e = absurd a.1
-  stands_needs u p i (at.LowerForAll c) r a e = absurd a.1
-  stands_needs u p i (at.OpenForAll c) r a e = absurd a.1
-  stands_needs u p i (at.CloseForAll c) r a e = absurd a.1
-  stands_needs u p i (at.GrowCast g) r a e = absurd a.1
-  stands_needs u p i (at.DealPieces g) r a e = absurd a.1
-  stands_needs u p i (at.TellNews n z) r a e = absurd a.1
-  stands_needs u p i (at.WaitForLock o) r a e = absurd a.1
-  stands_needs u p i (at.GrowScope o) r a e = absurd a.1
-  stands_needs u p i (at.OpenSlot z) r a e = absurd a.1
-  stands_needs u p i (at.CloseSlot z) r a e = absurd a.1
-  stands_needs u p i (at.LowerCount (OfScope c o) s t) r a e = absurd a.1
-  stands_needs u p i (at.LowerCount (OfCast c o) s t) r a e = absurd a.1
-  stands_needs u p i (at.StoreBody o z) r a e = absurd a.1
-  stands_needs u p i (at.StoreSlot c o n z) r a e = absurd a.1
-  stands_needs u p i (at.StorePiece c o n z) r a e = absurd a.1
-  stands_needs u p i (at.Run t k) r a e = absurd (true≢false r)
-  stands_needs u p i (at.FirstSide o b) r a e = absurd (true≢false r)
-  stands_needs u p i (at.SecondSide o) r a e = absurd (true≢false r)
-  stands_needs u p i (at.ScopeBody o) r a e = absurd (true≢false r)
-  stands_needs u p i (at.AtOnce m t) r a e = absurd (true≢false r)
-  stands_needs u p i at.Free r a e = absurd (true≢false r)
-  stands_needs u p i at.Stopped r a e = absurd (true≢false r)
-  stands_needs u p i _ r a e = tt
+      by : (z : Bool) → (n == o.job) ≡ z → At E (Worker p i) s (if z then Enter (at.SecondSide o) (at.BeginHere o.job) else Enter (at.JoinProbe o) (at.BeginTask (Plain n)))
+      by true is = (e.1 (hand s) refl, r, (subst (λ (k : ℕ). HasTask s.task (Some (Plain k))) (eqb-true n o.job is) t, e.0.0))
+      by false is = (e.2 (Plain n) (hand s) refl, r, (t, e.0.0))
 
   -- after the act there is what belongs to where the table leads
-  pub stands_on : (u v : Hands X G O F) (h : PoolShape) (p i : ℕ) (y : Place) (x : Seen) → is_rest y ≡ false → Stands u (Stay y) → Does (act_of (Worker p i) y) x u v → Stands v (next_of h (Worker p i) y x)
-  stands_on u v h p i (at.ProbeWorking k) Yes r a d = left_stands v k.target (call_of u v (call_to k.target) (ap (λ (z : Hands X G O F). z.call) d.0) a.0.call) (ap (λ (z : Hands X G O F). z.probed) d.0, seen_set u.guards v.guards (latch_of k.target) d.1)
-  stands_on u v h p i (at.ProbeWorking k) _ r a d = (unset u v _ _ _ _ d.0 a.0, tt)
-  stands_on u v h p i (at.PopWorking k) (Task n) r a d = (popped u v (call_to k.target) n a.0.call d, tt)
-  stands_on u v h p i (at.PopWorking k) _ r a d = (looked u v _ _ _ _ _ d a.0, tt)
-  stands_on u v h p i (at.TakeCastWorking k) (Task n) r a d = absurd d
-  stands_on u v h p i (at.TakeCastWorking k) _ r a d = (same u v _ _ _ _ _ d a.0, tt)
-  stands_on u v h p i (at.BecomeInactive k) _ r a d = (moved u v v _ _ _ _ _ d.0 a.0, tt)
-  stands_on u v h p i (at.ProbeIdle k) Yes r a d = (set u v _ _ _ _ (latch_of k.target) d.0 (seen_set u.guards v.guards (latch_of k.target) d.1) a.0, tt)
-  stands_on u v h p i (at.ProbeIdle k) _ r a d = (unset u v _ _ _ _ d.0 a.0, tt)
-  stands_on u v h p i (at.PopIdle k) (Task n) r a d = (popped u v (call_to k.target) n a.0.call d, tt)
-  stands_on u v h p i (at.PopIdle k) _ r a d = (looked u v _ _ _ _ _ d a.0, tt)
-  stands_on u v h p i (at.TakeCastIdle k) (Task n) r a d = absurd d
-  stands_on u v h p i (at.TakeCastIdle k) _ r a d = either v (h.workers == 1) (Stay (at.PopInjected k)) (Stay (at.PickVictim k)) (same u v _ _ _ _ _ d a.0, tt) (same u v _ _ _ _ _ d a.0, tt)
-  stands_on u v h p i (at.PickVictim k) (Start n) r a d = (same u v _ _ _ _ _ d a.0, tt)
-  stands_on u v h p i (at.PickVictim k) _ r a d = (same u v _ _ _ _ _ d a.0, tt)
-  stands_on u v h p i (at.StealFrom k m) (Task n) r a d = (stolen u v k.victim (call_to k.target) n a.0.call d, tt)
-  stands_on u v h p i (at.StealFrom k m) _ r a d = either_place v (m == 0) (at.PopInjected k) (at.StealFrom (record k { victim = not_self h.workers i (next_victim h.workers k.victim) }) (m - 1)) (missed u v _ _ _ _ _ d a.0, tt) (missed u v _ _ _ _ _ d a.0, tt)
-  stands_on u v h p i (at.PopInjected k) (Task n) r a d = (popped_injected u v (call_to k.target) n a.0.call d, tt)
-  stands_on u v h p i (at.PopInjected k) _ r a d = failed_stands v h k k.rounds (call_of u v (call_to k.target) (ap (λ (z : Hands X G O F). z.call) d) a.0.call)
-  stands_on u v h p i (at.AnnounceSelf k) (Jec j) r a d = (moved u v v _ _ _ _ _ d.0 a.0, tt)
-  stands_on u v h p i (at.AnnounceSelf k) _ r a d = (moved u v v _ _ _ _ _ d.0 a.0, tt)
-  stands_on u v h p i (at.GetSleepy k) Done r a d = (latched u v v _ _ _ _ d.0 a.0, tt)
-  stands_on u v h p i (at.GetSleepy k) _ r a d = (latched u v v _ _ _ _ d.0 a.0, tt)
-  stands_on u v h p i (at.LockOwn k) _ r a d = (moved u v v _ _ _ _ _ d.0 a.0, tt)
-  stands_on u v h p i (at.FallAsleep k) Done r a d = (latched u v v _ _ _ _ d.0 a.0, tt)
-  stands_on u v h p i (at.FallAsleep k) _ r a d = (latched u v v _ _ _ _ d.0 a.0, tt)
-  stands_on u v h p i (at.LoadCounters k) (Word s t j) r a d = either v (j == k.kept) (Stay (at.AddSleeping (record k { sleeping = s; inactive = t }))) (Stay (at.WakeUp (record k { rounds = Failed h.limit }))) (moved u v v _ _ _ _ _ d.0 a.0, tt) (moved u v v _ _ _ _ _ d.0 a.0, tt)
-  stands_on u v h p i (at.LoadCounters k) _ r a d = (moved u v v _ _ _ _ _ d.0 a.0, tt)
-  stands_on u v h p i (at.AddSleeping k) Done r a d = (moved u v v _ _ _ _ _ d.0 a.0, tt)
-  stands_on u v h p i (at.AddSleeping k) _ r a d = (moved u v v _ _ _ _ _ d.0 a.0, tt)
-  stands_on u v h p i (at.LookAtCast k) Yes r a d = (same u v _ _ _ _ _ d a.0, tt)
-  stands_on u v h p i (at.LookAtCast k) _ r a d = (same u v _ _ _ _ _ d a.0, tt)
-  stands_on u v h p i (at.LookAtInjector k) Yes r a d = (same u v _ _ _ _ _ d a.0, tt)
-  stands_on u v h p i (at.LookAtInjector k) _ r a d = (same u v _ _ _ _ _ d a.0, tt)
-  stands_on u v h p i (at.BlockSelf k) _ r a d = (via v _ _ _ _ _ _ d.0 (record { task = a.0.task; call = a.0.call; reply = a.0.reply; done = a.0.done; probed = a.0.probed }), tt)
-  stands_on u v h p i (at.RelockOwn k) _ r a d = (moved u v v _ _ _ _ _ d.0 a.0, tt)
-  stands_on u v h p i (at.UndoSleeping k) _ r a d = (moved u v v _ _ _ _ _ d.0 a.0, tt)
-  stands_on u v h p i (at.WakeUp k) _ r a d = (latched u v v _ _ _ _ d.0 a.0, tt)
-  stands_on u v h p i (at.UnlockOwn k) _ r a d = (same u v _ _ _ _ _ d a.0, tt)
-  stands_on u v h p i (at.LeaveSearch k) (Wakes n) r a d = walk_stands v h p i p n 0 (after_found k.target k.found) (found_stands v k.target k.found (moved u v v _ _ _ _ _ d.0 a.0))
-  stands_on u v h p i (at.LeaveSearch k) _ r a d = (moved u v v _ _ _ _ _ d.0 a.0, tt)
-  stands_on u v h p i (at.JoinProbe o) Yes r a d = (set u v _ _ _ _ (OfCall o.number) d.0 (seen_set u.guards v.guards (OfCall o.number) d.1) a.0, tt)
-  stands_on u v h p i (at.JoinProbe o) _ r a d = (unset u v _ _ _ _ d.0 a.0, tt)
-  stands_on u v h p i (at.JoinPop o) (Task n) r a d = joined v o n (popped u v (Some o.number) n a.0.call d)
-  stands_on u v h p i (at.JoinPop o) _ r a d = (looked u v _ _ _ _ _ d a.0, tt)
-  stands_on u v h p i (at.JoinTakeCast o) (Task n) r a d = absurd d
-  stands_on u v h p i (at.JoinTakeCast o) _ r a d = (same u v _ _ _ _ _ d a.0, tt)
-  stands_on u v h p i at.YieldPop (Task n) r a d = (popped u v None n tt d, tt)
-  stands_on u v h p i at.YieldPop _ r a d = (looked u v _ _ _ _ _ d a.0, tt)
-  stands_on u v h p i at.YieldTakeCast (Task n) r a d = absurd d
-  stands_on u v h p i at.YieldTakeCast _ r a d = either v (h.workers == 1) (Stay at.YieldPopInjected) (Stay at.YieldPick) (same u v _ _ _ _ _ d a.0, tt) (same u v _ _ _ _ _ d a.0, tt)
-  stands_on u v h p i at.YieldPick (Start n) r a d = (same u v _ _ _ _ _ d a.0, tt)
-  stands_on u v h p i at.YieldPick _ r a d = (same u v _ _ _ _ _ d a.0, tt)
-  stands_on u v h p i (at.YieldSteal k m) (Task n) r a d = (stolen u v k None n tt d, tt)
-  stands_on u v h p i (at.YieldSteal k m) _ r a d = either_place v (m == 0) at.YieldPopInjected (at.YieldSteal (not_self h.workers i (next_victim h.workers k)) (m - 1)) (missed u v _ _ _ _ _ d a.0, tt) (missed u v _ _ _ _ _ d a.0, tt)
-  stands_on u v h p i at.YieldPopInjected (Task n) r a d = (popped_injected u v None n tt d, tt)
-  stands_on u v h p i at.YieldPopInjected _ r a d = tt
-  stands_on u v h p i at.LocalPop (Task n) r a d = (popped u v None n tt d, tt)
-  stands_on u v h p i at.LocalPop _ r a d = (looked u v _ _ _ _ _ d a.0, tt)
-  stands_on u v h p i at.LocalTakeCast (Task n) r a d = absurd d
-  stands_on u v h p i at.LocalTakeCast _ r a d = tt
-  stands_on u v h p i (at.BeginTask (Plain t)) (Begun k) r a d = (same u v _ _ _ _ _ d.1 a.0, tt)
-  stands_on u v h p i (at.BeginTask (Plain t)) _ r a d = absurd d
-  stands_on u v h p i (at.BeginTask (Token t j b)) _ r a d = absurd (no_token u.task t j b a.0.task)
-  stands_on u v h p i (at.BeginHere t) (Begun k) r a d = (same u v _ _ _ _ _ d.1 a.0, tt)
-  stands_on u v h p i (at.BeginHere t) _ r a d = absurd d
-  stands_on u v h p i (at.LockToWake k) _ r a d = (moved u v v _ _ _ _ _ d.0 a.0, tt)
-  stands_on u v h p i (at.WakeWorker k) Yes r a d = (same u v _ _ _ _ _ d a.0, tt)
-  stands_on u v h p i (at.WakeWorker k) _ r a d = (same u v _ _ _ _ _ d a.0, tt)
-  stands_on u v h p i (at.UnlockWoken k) _ r a d = walk_stands v h p i k.pool k.owed (k.worker + 1) k.then (same u v _ _ _ _ _ d a.0)
-  stands_on u v h p i (at.TakeResult o f) (Found e) r a d = (via v _ _ _ _ _ _ d.1 (bare _ None tt), tt)
-  stands_on u v h p i (at.TakeResult o f) Missing r a d = (via v _ _ _ _ _ _ d (bare _ None tt), tt)
-  stands_on u v h p i (at.TakeResult o f) _ r a d = absurd d
-  stands_on u v h p i (at.LowerCount (OfPool m) s t) Yes r a d = settle_stands v h p i m 0 t (lowered u v _ _ _ _ _ d.0 a.0)
-  stands_on u v h p i (at.LowerCount (OfPool m) s t) _ r a d = finish_stands v p i t (lowered u v _ _ _ _ _ d.0 a.0)
-  stands_on u v h p i (at.StoreResult c o e) _ r a d = told v c o (subst (λ (z : Hands X G O F). HasTicket z.reply (Some c)) (sym d) a.0.reply)
-  stands_on u v h p i (at.SetLatch s) Yes r a d = (then_of v s.then (call_latch s.latch) (struck u v _ _ _ _ _ d.0 a.0), tt)
-  stands_on u v h p i (at.SetLatch s) _ r a d = after_set_stands v h p i s s.latch (then_of v s.then (call_latch s.latch) (struck u v _ _ _ _ _ d.0 a.0))
-  stands_on u v h p i (at.LockToSettle s) _ r a d = (moved u v v _ _ _ _ _ d.0 a.0, tt)
-  stands_on u v h p i (at.WakeSettled s) _ r a d = (same u v _ _ _ _ _ d a.0, tt)
-  stands_on u v h p i (at.UnlockSettled s) _ r a d = after_set_stands v h p i s s.latch (same u v _ _ _ _ _ d a.0)
-  stands_on u v h p i (at.SetLockLatch c t) _ r a d = finish_stands v p i t (then_of v t (Some c) (same u v _ _ _ _ _ d a.0))
-  stands_on u v h p i (at.RaiseCount n) _ r a d = absurd a.1
-  stands_on u v h p i (at.GrowCall n) _ r a d = absurd a.1
-  stands_on u v h p i (at.LookQueue n) _ r a d = absurd a.1
-  stands_on u v h p i (at.PushJob n e) _ r a d = absurd a.1
-  stands_on u v h p i (at.AddToFifo f) _ r a d = absurd a.1
-  stands_on u v h p i (at.LookForToken f) _ r a d = absurd a.1
-  stands_on u v h p i (at.PushToken f e) _ r a d = absurd a.1
-  stands_on u v h p i (at.TakeFromFifo f) _ r a d = absurd a.1
-  stands_on u v h p i (at.RaiseForAll c) _ r a d = absurd a.1
-  stands_on u v h p i (at.PushForAll c) _ r a d = absurd a.1
-  stands_on u v h p i (at.LowerForAll c) _ r a d = absurd a.1
-  stands_on u v h p i (at.OpenForAll c) _ r a d = absurd a.1
-  stands_on u v h p i (at.CloseForAll c) _ r a d = absurd a.1
-  stands_on u v h p i (at.GrowCast g) _ r a d = absurd a.1
-  stands_on u v h p i (at.DealPieces g) _ r a d = absurd a.1
-  stands_on u v h p i (at.TellNews n e) _ r a d = absurd a.1
-  stands_on u v h p i (at.WaitForLock o) _ r a d = absurd a.1
-  stands_on u v h p i (at.GrowScope o) _ r a d = absurd a.1
-  stands_on u v h p i (at.OpenSlot e) _ r a d = absurd a.1
-  stands_on u v h p i (at.CloseSlot e) _ r a d = absurd a.1
-  stands_on u v h p i (at.LowerCount (OfScope c o) s t) _ r a d = absurd a.1
-  stands_on u v h p i (at.LowerCount (OfCast c o) s t) _ r a d = absurd a.1
-  stands_on u v h p i (at.StoreBody o e) _ r a d = absurd a.1
-  stands_on u v h p i (at.StoreSlot c o n e) _ r a d = absurd a.1
-  stands_on u v h p i (at.StorePiece c o n e) _ r a d = absurd a.1
-  stands_on u v h p i _ _ r a d = absurd (true≢false r)
+  pub at_on : (s t : Hands X G O F) (h : PoolShape) (p i : ℕ) (y : Place) (x : Seen) → Going E (Worker p i) s (Stay y) → Sees (act_of (Worker p i) y) x s t → At E (Worker p i) (record (after (act_of (Worker p i) y) x t s) { trace = t.trace }) (next_of h (Worker p i) y x)
+  at_on s t h p i (at.ProbeWorking k) Yes a d =
+      let u : Hands X G O F = record s { guards = t.guards; probed = true; trace = t.trace } in
+      next_at u p i (Stay (after_wait k.target)) (left_next (hand u) k.target a.0 a.1.0.1 (refl, seen_set s.guards t.guards (latch_of k.target) d), a.1.1)
+  at_on s t h p i (at.ProbeWorking k) _ a d = (tt, a.1)
+  at_on s t h p i (at.PopWorking k) (Task n) a d = (a.1.0.2 n _ refl, a.1.1, (d.0, a.1.0.0))
+  at_on s t h p i (at.PopWorking k) _ a d = a
+  at_on s t h p i (at.TakeCastWorking k) (Task n) a d = absurd d
+  at_on s t h p i (at.TakeCastWorking k) _ a d = (a.1.1, a.1)
+  at_on s t h p i (at.BecomeInactive k) _ a d = (a.1.0.0, (a.1.0, stepped AddsInactive Rests Searches s.chair t.chair begins a.0 d))
+  at_on s t h p i (at.ProbeIdle k) Yes a d = (a.1.1, λ (c : Option Watch). left_next (hand (record s { guards = t.guards; probed = true; chair = c })) k.target a.0 a.1.0.1 (refl, seen_set s.guards t.guards (latch_of k.target) d))
+  at_on s t h p i (at.ProbeIdle k) _ a d = (tt, a.1)
+  at_on s t h p i (at.PopIdle k) (Task n) a d = (a.1.1, λ (c : Option Watch). (a.1.0.2 n _ refl, (d.0, a.1.0.0)))
+  at_on s t h p i (at.PopIdle k) _ a d = a
+  at_on s t h p i (at.TakeCastIdle k) (Task n) a d = absurd d
+  at_on s t h p i (at.TakeCastIdle k) _ a d = either (Worker p i) (record s { trace = t.trace }) (h.workers == 1) (Stay (at.PopInjected k)) (Stay (at.PickVictim k)) a a
+  at_on s t h p i (at.PickVictim k) (Start n) a d = a
+  at_on s t h p i (at.PickVictim k) _ a d = a
+  at_on s t h p i (at.StealFrom k m) (Task n) a d = (a.1.1, λ (c : Option Watch). (a.1.0.2 n _ refl, (d.0, a.1.0.0)))
+  at_on s t h p i (at.StealFrom k m) _ a d = either_place (Worker p i) (record s { thief = t.thief; trace = t.trace }) (m == 0) (at.PopInjected k) (at.StealFrom (record k { victim = not_self h.workers i (next_victim h.workers k.victim) }) (m - 1)) a a
+  at_on s t h p i (at.PopInjected k) (Task n) a d = (a.1.1, λ (c : Option Watch). (a.1.0.2 n _ refl, (d.0, a.1.0.0)))
+  at_on s t h p i (at.PopInjected k) _ a d = failed_at (record s { trace = t.trace }) h p i k k.rounds a.1
+  at_on s t h p i (at.AnnounceSelf k) (Jec j) a d = (a.1.0.0, (a.1.0, stepped (Announces (Jec j)) Searches Searches s.chair t.chair (λ v w e b. stays v w e.0 b) a.0 d))
+  at_on s t h p i (at.AnnounceSelf k) x a d = absurd (never (Announces x) s.chair t.chair (λ v w e. e) d)
+  at_on s t h p i (at.GetSleepy k) Done a d = (tt, a.1)
+  at_on s t h p i (at.GetSleepy k) _ a d = a
+  at_on s t h p i (at.LockOwn k) _ a d = (a.1.0.0, (a.1.0, subst (λ (c : Option Watch). Searching c) (held Searches s.chair t.chair a.1.1 d) a.1.1))
+  at_on s t h p i (at.FallAsleep k) Done a d = (a.1.1, a.1)
+  at_on s t h p i (at.FallAsleep k) _ a d = (tt, a.1)
+  at_on s t h p i (at.LoadCounters k) (Word n m j) a d =
+      let e : Searching t.chair = stepped (Loads (Word n m j)) Searches Searches s.chair t.chair (loads n m j) a.0 d in
+      either (Worker p i) (record s { chair = t.chair; trace = t.trace }) (j == k.kept) (Stay (at.AddSleeping (record k { sleeping = n; inactive = m }))) (Stay (at.WakeUp (record k { rounds = Failed h.limit }))) (e, (a.1.0, e)) (a.1.0.0, (a.1.0, e))
+  at_on s t h p i (at.LoadCounters k) x a d = absurd (never (Loads x) s.chair t.chair (λ v w e. e) d)
+  at_on s t h p i (at.AddSleeping k) Done a d = (tt, (a.1.0, stepped (Tries (record { sleeping = k.sleeping; inactive = k.inactive; jec = k.kept }) Done) Searches Sleeps s.chair t.chair (λ v w e b. subst (λ (z : Watch). Sleeps z) (sym e.0) (refl, refl, b.2)) a.0 d))
+  at_on s t h p i (at.AddSleeping k) x a d =
+      let e : Searching t.chair = stepped (Tries (record { sleeping = k.sleeping; inactive = k.inactive; jec = k.kept }) x) Searches Searches s.chair t.chair (λ v w e b. subst (λ (z : Watch). Searches z) (sym e) (refl, refl, b.2)) a.0 d in
+      (e, (a.1.0, e))
+  at_on s t h p i (at.LookAtCast k) Yes a d = a
+  at_on s t h p i (at.LookAtCast k) _ a d = (a.1.1, a.1)
+  at_on s t h p i (at.LookAtInjector k) Yes a d = (a.1.1, a.1)
+  at_on s t h p i (at.LookAtInjector k) _ a d = (a.1.1, a.1)
+  at_on s t h p i (at.BlockSelf k) _ a d = (tt, (a.1.0, refl))
+  at_on s t h p i (at.RelockOwn k) _ a d = (a.1.0.0, (a.1.0, subst (λ (c : Option Watch). Relocks c t.chair) a.1.1 d))
+  at_on s t h p i (at.UndoSleeping k) _ a d = (a.1.0.0, (a.1.0, stepped SubsSleeping Sleeps Searches s.chair t.chair wakes a.0 d))
+  at_on s t h p i (at.WakeUp k) _ a d = (tt, a.1)
+  at_on s t h p i (at.UnlockOwn k) _ a d = (a.1.0.0, a.1)
+  at_on s t h p i (at.LeaveSearch k) (Wakes n) a d = walk_at (record s { chair = t.chair; trace = t.trace }) h p i p n 0 (after_found k.target k.found) (a.1 t.chair, stepped (SubsInactive (Wakes n)) Searches Rests s.chair t.chair (ends n) a.0 d)
+  at_on s t h p i (at.LeaveSearch k) x a d = absurd (never (SubsInactive x) s.chair t.chair (λ v w e. e) d)
+  at_on s t h p i (at.JoinProbe o) Yes a d = (a.0, ((refl, seen_set s.guards t.guards (OfCall o.number) d), a.1.0.0.1, a.1.1))
+  at_on s t h p i (at.JoinProbe o) _ a d = (tt, a.1)
+  at_on s t h p i (at.JoinPop o) (Task n) a d = joined_at (record s { own = t.own; task = t.task; trace = t.trace }) p i o n d.0 a.1.0 a.1.1
+  at_on s t h p i (at.JoinPop o) _ a d = (tt, (a.1.0.0, a.1.1))
+  at_on s t h p i (at.JoinTakeCast o) (Task n) a d = absurd d
+  at_on s t h p i (at.JoinTakeCast o) _ a d = (a.1.0.0, a.1)
+  at_on s t h p i at.YieldPop (Task n) a d = begins_at (record s { own = t.own; task = t.task; trace = t.trace }) p i n d.0 a.1.0 a.1.2
+  at_on s t h p i at.YieldPop _ a d = a
+  at_on s t h p i at.YieldTakeCast (Task n) a d = absurd d
+  at_on s t h p i at.YieldTakeCast _ a d = either (Worker p i) (record s { trace = t.trace }) (h.workers == 1) (Stay at.YieldPopInjected) (Stay at.YieldPick) a a
+  at_on s t h p i at.YieldPick (Start n) a d = a
+  at_on s t h p i at.YieldPick _ a d = a
+  at_on s t h p i (at.YieldSteal k m) (Task n) a d = begins_at (record s { thief = t.thief; task = t.task; trace = t.trace }) p i n d.0 a.1.0 a.1.2
+  at_on s t h p i (at.YieldSteal k m) _ a d = either_place (Worker p i) (record s { thief = t.thief; trace = t.trace }) (m == 0) at.YieldPopInjected (at.YieldSteal (not_self h.workers i (next_victim h.workers k)) (m - 1)) a a
+  at_on s t h p i at.YieldPopInjected (Task n) a d = begins_at (record s { inlet = t.inlet; task = t.task; trace = t.trace }) p i n d.0 a.1.0 a.1.2
+  at_on s t h p i at.YieldPopInjected _ a d = (a.1.1 _ refl, a.1.2, tt)
+  at_on s t h p i at.LocalPop (Task n) a d = begins_at (record s { own = t.own; task = t.task; trace = t.trace }) p i n d.0 a.1.0 a.1.2
+  at_on s t h p i at.LocalPop _ a d = a
+  at_on s t h p i at.LocalTakeCast (Task n) a d = absurd d
+  at_on s t h p i at.LocalTakeCast _ a d = (a.1.1 _ refl, a.1.2, tt)
+  at_on s t h p i (at.BeginTask (Plain n)) (Begun k) a d = (a.1.0 n k _ refl, a.1.1, a.0)
+  at_on s t h p i (at.BeginTask (Plain n)) _ a d = absurd d
+  at_on s t h p i (at.BeginTask (Token n j b)) _ a d = absurd a.0
+  at_on s t h p i (at.BeginHere n) _ a d = (a.1.0 n Direct _ refl, a.1.1, a.0)
+  at_on s t h p i (at.LockToWake k) _ a d = (tt, subst (λ (c : Option Watch). Next E (record (hand s) { chair = c }) (finish (Worker p i) k.then) × Resting c) (held Rests s.chair t.chair a.1.1 d) a.1)
+  at_on s t h p i (at.WakeWorker k) Yes a d = a
+  at_on s t h p i (at.WakeWorker k) _ a d = a
+  at_on s t h p i (at.UnlockWoken k) _ a d = walk_at (record s { trace = t.trace }) h p i k.pool k.owed (k.worker + 1) k.then a.1
+  at_on s t h p i (at.TakeResult o f) (Found e) a d = (tt, ((a.1.1 _ refl, tt), a.1.2))
+  at_on s t h p i (at.TakeResult o f) _ a d = (tt, ((a.1.1 _ refl, tt), a.1.2))
+  at_on s t h p i (at.LowerCount (OfPool m) b n) Yes a d = settle_at (record s { holds = s.holds - 1; marks = record { set = s.marks.set; count = t.marks.count }; trace = t.trace }) h p i m 0 n a.1
+  at_on s t h p i (at.LowerCount (OfPool m) b n) _ a d = next_at (record s { holds = s.holds - 1; marks = record { set = s.marks.set; count = t.marks.count }; trace = t.trace }) p i (finish (Worker p i) n) a.1
+  at_on s t h p i (at.StoreResult c o e) _ a d = told_at (record s { done = None; trace = t.trace }) p i c o a.0.0 ((a.1.0, tt), a.1.1)
+  at_on s t h p i (at.SetLatch k) Yes a d = (tt, a.1)
+  at_on s t h p i (at.SetLatch k) _ a d = after_set_at (record s { marks = record { set = t.marks.set; count = s.marks.count }; trace = t.trace }) h p i k k.latch a.1
+  at_on s t h p i (at.LockToSettle k) _ a d = (tt, subst (λ (c : Option Watch). Next E (record (hand s) { chair = c }) (finish (Worker p i) k.then) × Resting c) (held Rests s.chair t.chair a.1.1 d) a.1)
+  at_on s t h p i (at.WakeSettled k) _ a d = a
+  at_on s t h p i (at.UnlockSettled k) _ a d = after_set_at (record s { trace = t.trace }) h p i k k.latch a.1
+  at_on s t h p i (at.SetLockLatch c n) _ a d = next_at (record s { trace = t.trace }) p i (finish (Worker p i) n) a.1
+  at_on s t h p i _ _ a d = absurd a.1
 
+  pub does_at : (s t : Hands X G O F) (h : PoolShape) (p i : ℕ) (y : Place) (x : Seen) → Going E (Worker p i) s (Stay y) → Does (act_of (Worker p i) y) x s t → At E (Worker p i) t (next_of h (Worker p i) y x)
+  does_at s t h p i y x a d = subst (λ (z : Hands X G O F). At E (Worker p i) z (next_of h (Worker p i) y x)) (sym d.0) (at_on s t h p i y x a d.1)
+
+module _ {X G O F : Type 0} where
   -- the laws of the running performer, which is a worker
-  pub bench_needs : (u : Hands X G O F) (q : Party) (y : Place) → is_rest y ≡ false → IsWorker q × Stands u (Stay y) × Seated u.chair (Stay y) → Needs (act_of q y) u
-  bench_needs u (Worker p i) y r a = stands_needs u p i y r a.1 a.2
-  bench_needs u (Caller c) y r a = absurd a.0
+  pub bench_needs : (u : Hands X G O F) (q : Party) (y : Place) → is_rest y ≡ false → IsWorker q × At Anyhow q u (Stay y) → Needs (act_of q y) u
+  bench_needs u q y r a = (going Anyhow q u (Stay y) (ap not r) a.1).0
 
-  pub bench_on : (u v : Hands X G O F) (h : PoolShape) (q : Party) (y : Place) (x : Seen) → is_rest y ≡ false → IsWorker q × Stands u (Stay y) × Seated u.chair (Stay y) → Does (act_of q y) x u v → IsWorker q × Stands v (next_of h q y x) × Seated v.chair (next_of h q y x)
-  bench_on u v h (Worker p i) y x r a d = (tt, stands_on u v h p i y x r a.1 d, seat_on u v h p i y x r a.1.1 a.2 d)
+  pub bench_on : (u v : Hands X G O F) (h : PoolShape) (q : Party) (y : Place) (x : Seen) → is_rest y ≡ false → IsWorker q × At Anyhow q u (Stay y) → Does (act_of q y) x u v → IsWorker q × At Anyhow q v (next_of h q y x)
+  bench_on u v h (Worker p i) y x r a d = (tt, does_at Anyhow u v h p i y x (going Anyhow (Worker p i) u (Stay y) (ap not r) a.1) d)
   bench_on u v h (Caller c) y x r a d = absurd a.0

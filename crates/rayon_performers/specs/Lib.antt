@@ -9,7 +9,6 @@ pub mod Seats
 pub mod Sights
 pub mod Spawns
 pub mod Stands
-pub mod Tails
 pub mod Visiting
 pub mod Visits
 pub mod Waits

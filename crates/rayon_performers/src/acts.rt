@@ -7,10 +7,10 @@ ghost use Rattle.rayon_machine_places.specs.declared.place.Count.TheVariants.{Of
 ghost use Rattle.rayon_machine_places.specs.declared.place.Party.TheVariants.{Worker};
 ghost use Rattle.rayon_machine_places.specs.declared.place.Taken.TheVariants.{Plain};
 ghost use Rattle.rayon_atomics.specs.Latches.{guard};
-ghost use Rattle.rayon_performers.specs.Hands.{Does, HasTicket, Looks, Lowers, Needs, Stores, Told, answer, call_latch};
+ghost use Rattle.rayon_performers.specs.Hands.{Does, HasTicket, Looks, Needs, Told, answer, call_latch};
 ghost use Rattle.rayon_performers.specs.Keeps.{bench_needs, bench_on};
 ghost use Rattle.rayon_performers.specs.Marks.{GivesUnit, MissesUnit, NoLatch, SetBy, TakesUnit};
-ghost use Rattle.rayon_performers.specs.Stands.{IsWorker, Seated, Stands};
+ghost use Rattle.rayon_performers.specs.Stands.{Anyhow, At, IsWorker};
 ghost use Rattle.rayon_queues.specs.Deques.{Pushed, SameDeque, Unmoved};
 
 use crate::bench::Bench;
@@ -32,7 +32,7 @@ impl<J: JobKind> Perform for Bench<J> {
 
     ghost trace = { λ s. s.trace };
 
-    ghost stands = { λ s q m. IsWorker q × Stands s m × Seated s.chair m };
+    ghost stands = { λ s q m. IsWorker q × At Anyhow q s m };
 
     fn perform<R: Wait>(&mut self, rt: &R, act: Act) -> Seen {
         match act {
@@ -231,7 +231,7 @@ impl<J: JobKind> Bench<J> {
 
     // Puts the result at hand into its call's cell, and of two sides the first one's into its own.
     pub(crate) fn store<R: Wait>(&mut self, rt: &R, call: u64, ending: Ending)
-        ensures does { Stores self.old self.new }
+        ensures does { Does (acts.Store call ending) saw.Done self.old self.new }
         ensures adds { Adds (acts.Store call ending) saw.Done self.old.trace self.new.trace }
     {
         if let Some((ticket, done)) = self.first.take() {
@@ -316,7 +316,7 @@ impl<J: JobKind> Bench<J> {
     // Gives a unit of the terminate count back.
     #[inline(always)]
     pub(crate) fn lower<R: Wait>(&mut self, rt: &R, count: Count, share: Share) -> bool
-        ensures does { Lowers (answer result) self.old self.new }
+        ensures does { Does (acts.Lower count share) (answer result) self.old self.new }
         ensures adds { Adds (acts.Lower count share) (answer result) self.old.trace self.new.trace }
         ensures left { self.new ≡ record self.old { holds = self.old.holds - 1; marks = self.new.marks; trace = self.new.trace } }
     {

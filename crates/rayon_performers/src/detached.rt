@@ -16,7 +16,7 @@ ghost use Rattle.rayon_performers.specs.Hands.{Told, answer};
 ghost use Rattle.rayon_performers.specs.Marks.{GivesUnit, MissesUnit, TakesUnit};
 ghost use Rattle.rayon_performers.specs.Seats.{Resting};
 ghost use Rattle.rayon_performers.specs.Spawns.{Spawned, Traced, Unspawned, detached_task};
-ghost use Rattle.rayon_performers.specs.Tails.{IsLast};
+ghost use Rattle.rayon_performers.specs.Stands.{Last, hand};
 ghost use Rattle.rayon_queues.specs.Deques.{SameDeque, Unmoved};
 
 use crate::bench::Bench;
@@ -82,7 +82,7 @@ impl<J: JobKind> Bench<J> {
     // Gives a job's unit of the terminate count back, and where it was the last sets the workers' terminate latches, before
     // this follows.
     fn lower_job_then<R: Wait>(&mut self, rt: &R, job: u64, then: Then)
-        requires last { IsLast then }
+        requires last { Last (hand self.old) (finish (Worker 0 self.old.index) then) }
         requires rests { Resting self.old.chair }
         ensures path { Traced self.old.shape (Worker 0 self.old.index) (Stay (at.LowerCount (OfPool 0) (OfJob job) then)) self.old.trace self.new.trace (finish (Worker 0 self.old.index) then) }
         ensures same { Told self.old self.new }

@@ -18,8 +18,7 @@ ghost use Rattle.rayon_performers.specs.Calls.{IsJobOf, IsOneJob, own_call, own_
 ghost use Rattle.rayon_performers.specs.Finds.{StandsLast};
 ghost use Rattle.rayon_performers.specs.Hands.{Does, HasResult, HasTask, HasTicket, Same, Told, kind_of};
 ghost use Rattle.rayon_performers.specs.Seats.{Resting};
-ghost use Rattle.rayon_performers.specs.Stands.{Seated, Stands, call_to};
-ghost use Rattle.rayon_performers.specs.Tails.{IsLast, IsTail};
+ghost use Rattle.rayon_performers.specs.Stands.{Anyhow, At, EndsIn, Last, Stands, call_to, hand};
 ghost use Rattle.rayon_performers.specs.Waits.{FoundSo, SameSeat, Waited, rejoins, units_after, waiting_on};
 ghost use Rattle.rayon_queues.specs.Deques.{SameDeque, Unmoved};
 
@@ -42,7 +41,6 @@ impl<J: JobKind> Bench<J> {
     /// Performs the program from this place on, as far as the next run or its end.
     pub fn drive<R: Wait>(&mut self, rt: &R, place: Place) -> Move
         requires hands { Stands self.old (Stay place) }
-        requires seat { Seated self.old.chair (Stay place) }
         ensures path { Driven (λ s a x t. Does a x s t) (λ s. s.trace) self.old.shape (Worker 0 self.old.index) (Stay place) self.old self.new result }
         ensures stands { Stands self.new result }
         ensures rests { Resting self.new.chair }
@@ -94,7 +92,7 @@ impl<J: JobKind> Bench<J> {
     // Goes on from what an act saw at this place, as this worker of a pool of this shape.
     #[cold]
     #[inline(never)]
-    #[tactic(auto, using(crate::proofs::Seats::rests_there))]
+    #[tactic(auto, using(crate::proofs::Drives::rests_there))]
     pub(crate) fn go_on_from<R: Wait>(
         &mut self,
         rt: &R,
@@ -103,10 +101,9 @@ impl<J: JobKind> Bench<J> {
         place: Place,
         seen: Seen,
     ) -> Move
-        requires hands { Stands self.old (next_of shape (Worker 0 index) place seen) }
-        requires seat { Seated self.old.chair (next_of shape (Worker 0 index) place seen) }
+        requires hands { At Anyhow (Worker 0 index) self.old (next_of shape (Worker 0 index) place seen) }
         ensures path { Driven (λ s a x t. Does a x s t) (λ s. s.trace) shape (Worker 0 index) (next_of shape (Worker 0 index) place seen) self.old self.new result }
-        ensures stands { Stands self.new result }
+        ensures stands { At Anyhow (Worker 0 index) self.new result }
         ensures rests { Resting self.new.chair }
         ensures stops { goes result ≡ false }
     {
@@ -129,10 +126,8 @@ impl<J: JobKind> Bench<J> {
         seen: Seen,
         then: Then,
     )
-        requires stands { Stands self.old (next_of shape (Worker 0 index) place seen) }
-        requires rests { Resting self.old.chair }
-        requires last { IsLast then }
-        requires tail { IsTail (Worker 0 index) then (next_of shape (Worker 0 index) place seen) }
+        requires hands { At Anyhow (Worker 0 index) self.old (next_of shape (Worker 0 index) place seen) }
+        requires ends { EndsIn (Worker 0 index) (finish (Worker 0 index) then) self.old (next_of shape (Worker 0 index) place seen) }
         ensures path { Driven (λ s a x t. Does a x s t) (λ s. s.trace) shape (Worker 0 index) (next_of shape (Worker 0 index) place seen) self.old self.new (finish (Worker 0 index) then) }
         ensures same { Told self.old self.new }
         ensures rests { Resting self.new.chair }
@@ -144,7 +139,7 @@ impl<J: JobKind> Bench<J> {
     /// this follows.
     #[inline(always)]
     pub fn lower_then<R: Wait>(&mut self, rt: &R, job: u64, then: Then)
-        requires last { IsLast then }
+        requires last { Last (hand self.old) (finish (Worker 0 self.old.index) then) }
         requires rests { Resting self.old.chair }
         ensures path { Driven (λ s a x t. Does a x s t) (λ s. s.trace) self.old.shape (Worker 0 self.old.index) (Stay (at.LowerCount (OfPool 0) (OfJob job) then)) self.old self.new (finish (Worker 0 self.old.index) then) }
         ensures same { self.new ≡ record self.old { holds = self.old.holds - 1; marks = self.new.marks; trace = self.new.trace } }
@@ -321,7 +316,6 @@ impl<J: JobKind> Bench<J> {
     #[inline(never)]
     fn go_on_set<R: Wait>(&mut self, rt: &R, call: OpenCall) -> Reclaimed
         requires hands { Stands self.old (next_of self.old.shape (Worker 0 self.old.index) (at.JoinProbe call) saw.Yes) }
-        requires seat { Seated self.old.chair (next_of self.old.shape (Worker 0 self.old.index) (at.JoinProbe call) saw.Yes) }
         ensures path { Driven (λ s a x t. Does a x s t) (λ s. s.trace) self.old.shape (Worker 0 self.old.index) (next_of self.old.shape (Worker 0 self.old.index) (at.JoinProbe call) saw.Yes) self.old self.new (rejoins call result) }
         ensures found { FoundSo call self.new result }
         ensures units { self.new.holds ≡ units_after (rejoins call result) self.old.holds }
@@ -339,7 +333,6 @@ impl<J: JobKind> Bench<J> {
     #[inline(never)]
     fn go_on_popped<R: Wait>(&mut self, rt: &R, call: OpenCall, popped: Seen) -> Reclaimed
         requires hands { Stands self.old (next_of self.old.shape (Worker 0 self.old.index) (at.JoinPop call) popped) }
-        requires seat { Seated self.old.chair (next_of self.old.shape (Worker 0 self.old.index) (at.JoinPop call) popped) }
         requires other { popped ≡ saw.Task (Plain call.job) → ⊥ }
         ensures path { Driven (λ s a x t. Does a x s t) (λ s. s.trace) self.old.shape (Worker 0 self.old.index) (next_of self.old.shape (Worker 0 self.old.index) (at.JoinPop call) popped) self.old self.new (rejoins call result) }
         ensures found { FoundSo call self.new result }

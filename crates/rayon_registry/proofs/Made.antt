@@ -130,13 +130,13 @@ module _ {X G O F : Type 0} where
   pub has_probed : (u : Hands X G O F) (m : Move) → m ≡ Stay at.Stopped → Stands u m → u.probed ≡ true
   has_probed u m e a =
       let here = subst (λ (z : Move). Stands u z) e a in
-      here.0.probed.0
+      here.2.0
 
   -- and its own seat of the latch has seen so
   pub has_seen : (u : Hands X G O F) (m : Move) → m ≡ Stay at.Stopped → Stands u m → u.guards.own.seen ≡ true
   has_seen u m e a =
       let here = subst (λ (z : Move). Stands u z) e a in
-      here.0.probed.1
+      here.2.1
 
 -- one more stretch, to a run of a task that was taken, and what it adds
 pub around : (h : PoolShape) (q : Party) (f : Place) (k : Taken) (t : ℕ) (o : JobKind) (e : Ending) (m : Move) (v u y z x w : Log) (n : Move) → Made h q m v u (Enter f (at.BeginTask k)) → Made h q (Stay (at.BeginTask k)) u y (Stay (at.Run t o)) → AddsRun y z → Closes h q t o e z x → Worked h q (Stay (goes_on f e)) x w n → Worked h q m v w n

@@ -1,12 +1,13 @@
-use Rattle.std.proofs.Common.{◌≡◌, refl, sym, subst}
+use Rattle.std.proofs.Common.{◌≡◌, sym, subst}
 use Rattle.rayon_machine_places.specs.declared.place.Party.TheVariants.{Worker}
 use Rattle.rayon_machine_places.specs.declared.place.Place.TheVariants as at
 use Rattle.rayon_machine_places.specs.declared.act.Seen.TheVariants.{Yes}
 use Rattle.rayon_machine_places.specs.Places.{next_of}
+use Rattle.rayon_performers.specs.Stands.{Anyhow, At}
 use Rattle.rayon_performers.specs.Waits.{units_after}
-use Rattle.rayon_performers.proofs.Holds.{drive_stays, join_holds}
-use Rattle.rayon_performers.proofs.Joins.{join_ends}
+use Rattle.rayon_performers.proofs.Drives.{drive_ends, drive_stays}
 use Rattle.rayon_performers.proofs.Stretches.{So}
+use Rattle.rayon_performers.proofs.Waits.{EndsJoin, found_so, set_ends}
 use Rattle.rayon_performers.proofs.bench.Bench.go_on_set.Goals as goal
 
 pub found_by-requires : goal.found_by-requires
@@ -18,7 +19,7 @@ found_by-requires g c =
     let t = c.go_on_from.new.self in
     let m = next_of h (Worker 0 i) (at.JoinProbe o) Yes in
     let goes = subst (λ v. So v.shape v.index (next_of v.shape (Worker 0 v.index) (at.JoinProbe o) Yes) c.args.self.now c.go_on_from.result t) c.self.view_is c.go_on_from.ensures.path in
-    join_ends h i o m s t c.go_on_from.result tt goes c.go_on_from.ensures.stops
+    (drive_ends (EndsJoin s.holds o) h i m s t c.go_on_from.result (set_ends i s o c.requires.hands) goes c.go_on_from.ensures.stops).0.0
 
 pub returns-clause-path : goal.returns-clause-path
 returns-clause-path g c =
@@ -31,6 +32,9 @@ returns-clause-path g c =
     let goes = subst (λ v. So v.shape v.index (next_of v.shape (Worker 0 v.index) (at.JoinProbe o) Yes) c.args.self.now c.go_on_from.result t) c.self.view_is c.go_on_from.ensures.path in
     subst (λ z. So h i m s z t) (sym c.found_by.ensures) goes
 
+pub returns-clause-found : goal.returns-clause-found
+returns-clause-found g c = found_so (Worker 0 c.self.inside.index) c.go_on_from.new.self c.args.call c.found_by.result (subst (λ z. At Anyhow (Worker 0 c.self.inside.index) c.go_on_from.new.self z) (sym c.found_by.ensures) c.go_on_from.ensures.stands)
+
 pub returns-clause-units : goal.returns-clause-units
 returns-clause-units g c =
     let h = c.args.self.now.shape in
@@ -41,8 +45,7 @@ returns-clause-units g c =
     let m = next_of h (Worker 0 i) (at.JoinProbe o) Yes in
     let goes = subst (λ v. So v.shape v.index (next_of v.shape (Worker 0 v.index) (at.JoinProbe o) Yes) c.args.self.now c.go_on_from.result t) c.self.view_is c.go_on_from.ensures.path in
     subst (λ z. t.holds ≡ units_after z s.holds) (sym c.found_by.ensures)
-    (join_holds h i o s.holds m s t c.go_on_from.result tt tt refl
-    goes c.go_on_from.ensures.stops)
+    (drive_ends (EndsJoin s.holds o) h i m s t c.go_on_from.result (set_ends i s o c.requires.hands) goes c.go_on_from.ensures.stops).0.1
 
 pub returns-clause-same : goal.returns-clause-same
 returns-clause-same g c =

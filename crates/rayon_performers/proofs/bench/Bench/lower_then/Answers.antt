@@ -1,4 +1,4 @@
-use Rattle.std.proofs.Common.{refl, subst}
+use Rattle.std.proofs.Common.{◌≡◌, ◌-◌, refl, sym, subst, ap}
 use Rattle.rayon_machine_places.specs.declared.place.Count.TheVariants.{OfPool}
 use Rattle.rayon_machine_places.specs.declared.place.Move.TheVariants.{Stay}
 use Rattle.rayon_machine_places.specs.declared.place.Party.TheVariants.{Worker}
@@ -7,6 +7,9 @@ use Rattle.rayon_machine_places.specs.declared.place.Share.TheVariants.{OfJob}
 use Rattle.rayon_machine_places.specs.declared.act.Seen.TheVariants.{Yes, No}
 use Rattle.rayon_machine_places.specs.Places.{finish, settle}
 use Rattle.rayon_performers.proofs.Stretches.{So, so_far, by_act, and_then}
+use Rattle.rayon_performers.specs.Keeps.{settle_at}
+use Rattle.rayon_performers.specs.Stands.{Anyhow, At, EndsIn, hand}
+use Rattle.rayon_performers.proofs.Drives.{follows}
 use Rattle.rayon_performers.proofs.bench.Bench.lower_then.Goals as goal
 
 pub returns-then-lower-clause-path : goal.returns-then-lower-clause-path
@@ -26,3 +29,18 @@ returns-else-lower-clause-path g c =
     let first = Stay (at.LowerCount (OfPool 0) (OfJob c.args.job) c.args.then) in
     let s = c.args.self.now in
     by_act h i first s first s c.lower.new.self No refl (so_far h i first s) c.if-lower.ensures.does c.if-lower.ensures.adds
+
+pub finish_from-requires-clause-hands : goal.finish_from-requires-clause-hands
+finish_from-requires-clause-hands g c =
+    let s = c.args.self.now in
+    let u = c.lower.new.self in
+    subst (λ v. At Anyhow (Worker 0 v.index) u (settle v.shape (Worker 0 v.index) 0 0 c.args.then)) (sym c.self.view_is)
+    (settle_at Anyhow u s.shape 0 s.index 0 0 c.args.then (follows Anyhow s u (s.holds - 1) 0 s.index c.args.then (ap hand c.if-lower.ensures.left) c.requires.last c.requires.rests tt))
+
+pub finish_from-requires-clause-ends : goal.finish_from-requires-clause-ends
+finish_from-requires-clause-ends g c =
+    let s = c.args.self.now in
+    let u = c.lower.new.self in
+    let last = finish (Worker 0 s.index) c.args.then in
+    subst (λ v. EndsIn (Worker 0 v.index) (finish (Worker 0 v.index) c.args.then) u (settle v.shape (Worker 0 v.index) 0 0 c.args.then)) (sym c.self.view_is)
+    (settle_at (λ m v. (m ≡ last) × (v ≡ hand u)) u s.shape 0 s.index 0 0 c.args.then (follows (λ m v. (m ≡ last) × (v ≡ hand u)) s u (s.holds - 1) 0 s.index c.args.then (ap hand c.if-lower.ensures.left) c.requires.last c.requires.rests (refl, refl)))

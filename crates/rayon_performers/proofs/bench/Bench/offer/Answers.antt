@@ -46,8 +46,8 @@ returns-in-Err-push_own-clause-path g c =
     let looked = join_looked h i n first s u v c.look_own-was_empty.result grown c.look_own-was_empty.ensures.does c.look_own-was_empty.ensures.adds in
     let w = c.push_own.new.self in
     and_then h i first s (Stay (undo (own_join n))) (HandBack (own_join n)) w c.lower_then-in-Err-push_own.new.self
-    (join_not_pushed h i n first s v w c.look_own-was_empty.result looked (c.in-Err-push_own.ensures.same.0, c.in-Err-push_own.ensures.pushed.1, c.in-Err-push_own.ensures.same.1) c.in-Err-push_own.ensures.pushed.2)
-    (of_worker s w c.lower_then-in-Err-push_own.new.self (Stay (undo (own_join n))) (HandBack (own_join n)) (ap (λ z. z.shape) c.in-Err-push_own.ensures.same.1 ∙ ap (λ z. z.shape) c.look_own-was_empty.ensures.does.2 ∙ ap (λ z. z.shape) c.in-Some.ensures.same ∙ ap (λ z. z.shape) c.in_default.ensures.does.0) (ap (λ z. z.index) c.in-Err-push_own.ensures.same.1 ∙ ap (λ z. z.index) c.look_own-was_empty.ensures.does.2 ∙ ap (λ z. z.index) c.in-Some.ensures.same ∙ ap (λ z. z.index) c.in_default.ensures.does.0) c.lower_then-in-Err-push_own.ensures.path)
+    (join_not_pushed h i n first s v w c.look_own-was_empty.result looked (c.in-Err-push_own.ensures.same.1, (c.in-Err-push_own.ensures.same.0, c.in-Err-push_own.ensures.pushed.1)) c.in-Err-push_own.ensures.pushed.2)
+    (of_worker s w c.lower_then-in-Err-push_own.new.self (Stay (undo (own_join n))) (HandBack (own_join n)) (ap (λ z. z.shape) c.in-Err-push_own.ensures.same.1 ∙ ap (λ z. z.shape) c.look_own-was_empty.ensures.does.0 ∙ ap (λ z. z.shape) c.in-Some.ensures.same ∙ ap (λ z. z.shape) c.in_default.ensures.does.0) (ap (λ z. z.index) c.in-Err-push_own.ensures.same.1 ∙ ap (λ z. z.index) c.look_own-was_empty.ensures.does.0 ∙ ap (λ z. z.index) c.in-Some.ensures.same ∙ ap (λ z. z.index) c.in_default.ensures.does.0) c.lower_then-in-Err-push_own.ensures.path)
 
 pub returns-clause-path : goal.returns-clause-path
 returns-clause-path g c =
@@ -64,5 +64,5 @@ returns-clause-path g c =
     let looked = join_looked h i n first s u v c.look_own-was_empty.result grown c.look_own-was_empty.ensures.does c.look_own-was_empty.ensures.adds in
     let w = c.push_own.new.self in
     and_then h i first s (Stay (at.TellNews (own_join n) c.look_own-was_empty.result)) (StartRun (at.FirstSide (own_call n) n) n) w c.tell_news.new.self
-    (join_pushed h i n first s v w c.look_own-was_empty.result looked (c.task_of_job.result, c.in_default-push_own.ensures.pushed.0, c.in_default-push_own.ensures.same.0, c.in_default-push_own.ensures.same.1) c.in_default-push_own.ensures.pushed.1)
-    (of_worker s w c.tell_news.new.self (Stay (at.TellNews (own_join n) c.look_own-was_empty.result)) (StartRun (at.FirstSide (own_call n) n) n) (ap (λ z. z.shape) c.in_default-push_own.ensures.same.1 ∙ ap (λ z. z.shape) c.look_own-was_empty.ensures.does.2 ∙ ap (λ z. z.shape) c.in-Some.ensures.same ∙ ap (λ z. z.shape) c.in_default.ensures.does.0) (ap (λ z. z.index) c.in_default-push_own.ensures.same.1 ∙ ap (λ z. z.index) c.look_own-was_empty.ensures.does.2 ∙ ap (λ z. z.index) c.in-Some.ensures.same ∙ ap (λ z. z.index) c.in_default.ensures.does.0) c.tell_news.ensures.path)
+    (join_pushed h i n first s v w c.look_own-was_empty.result looked (c.in_default-push_own.ensures.same.1, (c.task_of_job.result, c.in_default-push_own.ensures.pushed.0, c.in_default-push_own.ensures.same.0)) c.in_default-push_own.ensures.pushed.1)
+    (of_worker s w c.tell_news.new.self (Stay (at.TellNews (own_join n) c.look_own-was_empty.result)) (StartRun (at.FirstSide (own_call n) n) n) (ap (λ z. z.shape) c.in_default-push_own.ensures.same.1 ∙ ap (λ z. z.shape) c.look_own-was_empty.ensures.does.0 ∙ ap (λ z. z.shape) c.in-Some.ensures.same ∙ ap (λ z. z.shape) c.in_default.ensures.does.0) (ap (λ z. z.index) c.in_default-push_own.ensures.same.1 ∙ ap (λ z. z.index) c.look_own-was_empty.ensures.does.0 ∙ ap (λ z. z.index) c.in-Some.ensures.same ∙ ap (λ z. z.index) c.in_default.ensures.does.0) c.tell_news.ensures.path)

@@ -20,7 +20,7 @@ returns-in_err-push_own-clause-path g c =
     let u = c.push_own.new.self in
     let z = c.look_own-was_empty.result in
     let looked = push_looked h i n s t t z c.look_own-was_empty.ensures.does c.look_own-was_empty.ensures.adds in
-    let named = by_act h i first s (Stay (at.PushJob (Detach 0 n) z)) t u Refused refl looked (c.in_err-push_own.ensures.same.0, c.in_err-push_own.ensures.pushed.1, c.in_err-push_own.ensures.same.1) c.in_err-push_own.ensures.pushed.2 in
+    let named = by_act h i first s (Stay (at.PushJob (Detach 0 n) z)) t u Refused refl looked (c.in_err-push_own.ensures.same.1, (c.in_err-push_own.ensures.same.0, c.in_err-push_own.ensures.pushed.1)) c.in_err-push_own.ensures.pushed.2 in
     let path = subst (λ (m : ℕ). So h i (Stay (at.LookQueue (Detach 0 m))) s (Stay (undo (Detach 0 m))) u) c.number-name.ensures named in
     let p = err_from_is_err_and c.from_residual.result c.from_residual.ensures.1 in
     rw p.1 path
@@ -39,6 +39,6 @@ returns-clause-path g c =
     let looked = push_looked h i n s t t z c.look_own-was_empty.ensures.does c.look_own-was_empty.ensures.adds in
     let told = Stay (at.TellNews (Detach 0 n) z) in
     let named = and_then h i first s told Back u v
-    (by_act h i first s (Stay (at.PushJob (Detach 0 n) z)) t u Done refl looked (c.args.task, c.in_ok-push_own.ensures.pushed.0, c.in_ok-push_own.ensures.same.0, c.in_ok-push_own.ensures.same.1) c.in_ok-push_own.ensures.pushed.1)
-    (of_worker s u v told Back (ap (λ w. w.shape) c.in_ok-push_own.ensures.same.1 ∙ ap (λ w. w.shape) c.look_own-was_empty.ensures.does.2) (ap (λ w. w.index) c.in_ok-push_own.ensures.same.1 ∙ ap (λ w. w.index) c.look_own-was_empty.ensures.does.2) c.tell_pushed.ensures.path) in
+    (by_act h i first s (Stay (at.PushJob (Detach 0 n) z)) t u Done refl looked (c.in_ok-push_own.ensures.same.1, (c.args.task, c.in_ok-push_own.ensures.pushed.0, c.in_ok-push_own.ensures.same.0)) c.in_ok-push_own.ensures.pushed.1)
+    (of_worker s u v told Back (ap (λ w. w.shape) c.in_ok-push_own.ensures.same.1 ∙ ap (λ w. w.shape) c.look_own-was_empty.ensures.does.0) (ap (λ w. w.index) c.in_ok-push_own.ensures.same.1 ∙ ap (λ w. w.index) c.look_own-was_empty.ensures.does.0) c.tell_pushed.ensures.path) in
     subst (λ (m : ℕ). So h i (Stay (at.LookQueue (Detach 0 m))) s Back v) c.number-name.ensures named

@@ -1,4 +1,4 @@
-use Rattle.std.proofs.Common.{◌≡◌, false, true, sym, subst, true≢false, refl}
+use Rattle.std.proofs.Common.{◌≡◌, false, true, sym, subst, ap, ◌∙◌, true≢false, refl}
 use Rattle.rayon_machine_places.specs.declared.place.Move.TheVariants.{Stay}
 use Rattle.rayon_machine_places.specs.declared.place.Party.TheVariants.{Worker}
 use Rattle.rayon_machine_places.specs.declared.place.Place.TheVariants as at
@@ -6,23 +6,27 @@ use Rattle.rayon_machine_places.specs.declared.place.Latch.TheVariants.{OfCall}
 use Rattle.rayon_machine_places.specs.declared.act.Act.TheVariants as acts
 use Rattle.rayon_machine_places.specs.declared.act.Seen.TheVariants.{Yes, No}
 use Rattle.rayon_machine_places.specs.Places.{next_of}
-use Rattle.rayon_performers.specs.Keeps.{stands_on}
-use Rattle.rayon_performers.specs.Seating.{seat_on}
-use Rattle.rayon_performers.specs.Seats.{Resting}
+use Rattle.rayon_performers.specs.Keeps.{does_at}
+use Rattle.rayon_performers.specs.Stands.{Anyhow}
 use Rattle.rayon_performers.specs.Waits.{rejoins, units_after}
-use Rattle.rayon_performers.proofs.Holds.{chain, does_holds, does_stays, seat_then}
+use Rattle.rayon_performers.proofs.Drives.{does_stays, seat_then}
 use Rattle.rayon_performers.proofs.Offers.{join_probed, join_popped, own_popped}
 use Rattle.rayon_performers.proofs.Stretches.{So, and_then}
+use Rattle.rayon_performers.proofs.Waits.{join_stands}
 use Rattle.rayon_performers.proofs.bench.Bench.reclaim.Goals as goal
 
-pub go_on_set-requires-clause-hands : goal.go_on_set-requires-clause-hands
-go_on_set-requires-clause-hands g c = stands_on c.args.self.now c.probe.new.self c.args.self.now.shape 0 c.args.self.now.index (at.JoinProbe c.args.call) Yes refl (record { task = tt; call = c.requires.ticket; reply = tt; done = tt; probed = tt }, tt) c.if-probe.ensures.does
+pub go_on_set-requires : goal.go_on_set-requires
+go_on_set-requires g c =
+    let s = c.args.self.now in
+    record { hands = does_at Anyhow s c.probe.new.self s.shape 0 s.index (at.JoinProbe c.args.call) Yes (join_stands s.index s c.args.call c.requires.ticket c.requires.rests) c.if-probe.ensures.does }
 
-pub go_on_set-requires-clause-seat : goal.go_on_set-requires-clause-seat
-go_on_set-requires-clause-seat g c = subst (λ z. Resting z.chair) (sym c.if-probe.ensures.does.0) c.requires.rests
-
-pub go_on_popped-requires-clause-seat : goal.go_on_popped-requires-clause-seat
-go_on_popped-requires-clause-seat g c = seat_on c.probe.new.self c.pop_own-popped.new.self c.args.self.now.shape 0 c.args.self.now.index (at.JoinPop c.args.call) c.pop_own-popped.result refl tt (subst (λ z. Resting z.chair) (sym c.if-probe.ensures.does.0) c.requires.rests) c.pop_own-popped.ensures.does
+pub go_on_popped-requires-clause-hands : goal.go_on_popped-requires-clause-hands
+go_on_popped-requires-clause-hands g c =
+    let s = c.args.self.now in
+    let t = c.probe.new.self in
+    let u = c.pop_own-popped.new.self in
+    let looked = does_at Anyhow s t s.shape 0 s.index (at.JoinProbe c.args.call) No (join_stands s.index s c.args.call c.requires.ticket c.requires.rests) c.if-probe.ensures.does in
+    does_at Anyhow t u u.shape 0 u.index (at.JoinPop c.args.call) c.pop_own-popped.result looked c.pop_own-popped.ensures.does
 
 pub go_on_popped-requires-clause-other : goal.go_on_popped-requires-clause-other
 go_on_popped-requires-clause-other g c e = true≢false (sym (c.if-is_task.ensures.1 e))
@@ -72,7 +76,7 @@ returns-clause-path g c =
 pub returns-then-probe-clause-units : goal.returns-then-probe-clause-units
 returns-then-probe-clause-units g c =
     let s = c.args.self.now in
-    subst (λ z. c.go_on_set.new.self.holds ≡ units_after (rejoins c.args.call c.go_on_set.result) z) (does_holds (acts.Probe (OfCall c.args.call.number)) Yes s c.probe.new.self refl c.if-probe.ensures.does) c.go_on_set.ensures.units
+    subst (λ z. c.go_on_set.new.self.holds ≡ units_after (rejoins c.args.call c.go_on_set.result) z) (ap (λ z. z.holds) c.if-probe.ensures.does.0) c.go_on_set.ensures.units
 
 pub returns-then-probe-clause-seat : goal.returns-then-probe-clause-seat
 returns-then-probe-clause-seat g c =
@@ -86,8 +90,7 @@ returns-clause-units g c =
     let s = c.args.self.now in
     let x = c.pop_own-popped.result in
     subst (λ z. c.go_on_popped.new.self.holds ≡ units_after (rejoins c.args.call c.go_on_popped.result) z)
-    (chain (does_holds acts.PopOwn x c.probe.new.self c.pop_own-popped.new.self refl c.pop_own-popped.ensures.does)
-    (does_holds (acts.Probe (OfCall c.args.call.number)) No s c.probe.new.self refl c.if-probe.ensures.does))
+    (ap (λ z. z.holds) c.pop_own-popped.ensures.does.0 ∙ ap (λ z. z.holds) c.if-probe.ensures.does.0)
     c.go_on_popped.ensures.units
 
 pub returns-clause-seat : goal.returns-clause-seat

@@ -13,7 +13,7 @@ returns-in-Task-clause-path g c =
     let first = Stay at.LocalPop in
     let s = c.args.self.now in
     let t = c.pop_own.new.self in
-    given h i first s t c.take_task.new.self c.in-Task.field-0 c.take_task.result c.take_task.ensures.given c.take_task.ensures.left c.in-Task.ensures.does.0
+    given h i first s t c.take_task.new.self c.in-Task.field-0 c.take_task.result c.take_task.ensures.given c.take_task.ensures.left c.in-Task.ensures.does.1.0
     (by_act h i first s first s t (Task c.in-Task.field-0) refl (so_far h i first s) c.in-Task.ensures.does c.in-Task.ensures.adds)
 
 pub returns : goal.returns

@@ -1,0 +1,70 @@
+-- What a worker's drive leads to, and how it ends.
+use Rattle.std.proofs.Common.{◌≡◌, ℕ, ◌-◌, true, false, refl, sym, subst, ap, ◌∙◌}
+use Rattle.rayon_machine_places.specs.declared.place.Party.{Party}
+use Rattle.rayon_machine_places.specs.declared.place.Party.TheVariants.{Worker}
+use Rattle.rayon_machine_places.specs.declared.place.Target.TheVariants.{Termination, Answer}
+use Rattle.rayon_machine_places.specs.declared.place.Then.{Then}
+use Rattle.rayon_machine_places.specs.declared.place.Then.TheVariants.{BeginFound, LeaveWait, Await, Gathers}
+use Rattle.rayon_machine_places.specs.declared.place.Move.{Move}
+use Rattle.rayon_machine_places.specs.declared.place.Move.TheVariants.{Stay}
+use Rattle.rayon_machine_places.specs.declared.act.Act.{Act}
+use Rattle.rayon_machine_places.specs.declared.act.Act.TheVariants as acts
+use Rattle.rayon_machine_places.specs.declared.act.Seen.{Seen}
+use Rattle.rayon_machine_places.specs.declared.shape.PoolShape.{PoolShape}
+use Rattle.rayon_machine_places.specs.Places.{finish}
+use Rattle.rayon_drive.specs.declared.trace.Log.{Log}
+use Rattle.rayon_drive.specs.Paths.{goes, act_at, onward}
+use Rattle.rayon_drive.proofs.Paths.{driven_keeps}
+use Rattle.rayon_performers.specs.Hands.{Hands, Does, Told, after}
+use Rattle.rayon_performers.specs.Keeps.{does_at, ended, going}
+use Rattle.rayon_performers.specs.Marks.{Marks}
+use Rattle.rayon_performers.specs.Seats.{Resting}
+use Rattle.rayon_performers.specs.Stands.{Anyhow, At, Ended, Hand, Last, Next, hand}
+use Rattle.rayon_performers.specs.Waits.{SameSeat}
+use Rattle.rayon_performers.proofs.Stretches.{So}
+
+module _ {X G O F : Type 0} where
+  -- no act changes whose bench it is
+  after_seat : (a : Act) (x : Seen) (s t : Hands X G O F) → SameSeat s (after a x t s)
+  after_seat (acts.Probe l) x s t = (refl, refl)
+  after_seat _ x s t = (refl, refl)
+
+  pub does_stays : (a : Act) (x : Seen) (s t : Hands X G O F) → Does a x s t → SameSeat s t
+  does_stays a x s t d = subst (λ (z : Hands X G O F). SameSeat s z) (sym d.0) (after_seat a x s t)
+
+  pub seat_then : (s t u : Hands X G O F) → SameSeat s t → SameSeat t u → SameSeat s u
+  seat_then s t u a b = (b.0 ∙ a.0, b.1 ∙ a.1)
+
+  pub drive_stays : (h : PoolShape) (i : ℕ) (m : Move) (s u : Hands X G O F) (n : Move) → So h i m s n u → SameSeat s u
+  drive_stays h i m s u n d = driven_keeps (λ (a : Hands X G O F) x y b. Does x y a b) (λ (a : Hands X G O F). a.trace) (λ (v : Hands X G O F) k. SameSeat s v) h (Worker 0 i) (λ v w k x g b f. seat_then s v w b (does_stays (act_at (Worker 0 i) k) x v w f)) m s u n (refl, refl) d
+
+  pub rests_there : (q : Party) (s : Hands X G O F) (m : Move) → goes m ≡ false → At Anyhow q s m → Resting s.chair
+  rests_there q s m g a = (ended Anyhow q s m g a).1
+
+  -- with the same at hand only those seats and the trace are others
+  abbrev pub whole : Hand X G O F → Marks → Log → Hands X G O F
+  whole s k l = record { index = s.index; shape = s.shape; deques = s.deques; own = s.own; inlet = s.inlet; thief = s.thief; task = s.task; call = s.call; reply = s.reply; done = s.done; guards = s.guards; probed = s.probed; holds = s.holds; marks = k; chair = s.chair; trace = l }
+
+  pub told_by : (s u : Hands X G O F) → hand u ≡ hand s → Told s u
+  told_by s u e = ap (λ (z : Hand X G O F). whole z u.marks u.trace) e
+
+module _ {X G O F : Type 0} (E : Move → Hand X G O F → Type 0) where
+  -- a drive leads on to where it ends
+  pub drive_ends : (h : PoolShape) (i : ℕ) (m : Move) (s u : Hands X G O F) (n : Move) → At E (Worker 0 i) s m → So h i m s n u → goes n ≡ false → E n (hand u) × Resting u.chair × Ended (hand u) n
+  drive_ends h i m s u n a d g = ended E (Worker 0 i) u n g (driven_keeps (λ (b : Hands X G O F) x y c. Does x y b c) (λ (b : Hands X G O F). b.trace) (λ (v : Hands X G O F) k. At E (Worker 0 i) v k) h (Worker 0 i) keeps m s u n a d)
+    where
+      keeps : (v w : Hands X G O F) (k : Move) (x : Seen) → goes k ≡ true → At E (Worker 0 i) v k → Does (act_at (Worker 0 i) k) x v w → At E (Worker 0 i) w (onward h (Worker 0 i) k x)
+      keeps v w (Stay y) x on b f = does_at E v w h 0 i y x (going E (Worker 0 i) v (Stay y) on b) f
+      keeps v w k x on b f = absurd (going E (Worker 0 i) v k on b)
+
+  -- an end of a drive follows, in whose hand as many units are
+  last_next : (s : Hand X G O F) (n p i : ℕ) (t : Then) → Last s (finish (Worker p i) t) → E (finish (Worker p i) t) (record s { holds = n }) → Next E (record s { holds = n }) (finish (Worker p i) t)
+  last_next s n p i (BeginFound g k) l e = (e, l)
+  last_next s n p i (LeaveWait Termination) l e = (e, l)
+  last_next s n p i (LeaveWait (Answer o f)) l e = absurd l
+  last_next s n p i (Await o) l e = absurd l
+  last_next s n p i (Gathers o) l e = absurd l
+  last_next s n p i _ l e = (e, l)
+
+  pub follows : (s u : Hands X G O F) (n p i : ℕ) (t : Then) → hand u ≡ record (hand s) { holds = n } → Last (hand s) (finish (Worker p i) t) → Resting s.chair → E (finish (Worker p i) t) (hand u) → Next E (hand u) (finish (Worker p i) t) × Resting u.chair
+  follows s u n p i t e l r f = (subst (λ (z : Hand X G O F). Next E z (finish (Worker p i) t)) (sym e) (last_next (hand s) n p i t l (subst (λ (z : Hand X G O F). E (finish (Worker p i) t) z) e f)), subst (λ (z : Hand X G O F). Resting z.chair) (sym e) r)

@@ -59,6 +59,8 @@ impl Perform for Script {
         seen
     }
 
+    ghost stays = { λ s q m p e h. tt };
+
     ghost can = { λ s q p r h. tt };
 
     ghost keeps = { λ s t h q p x r a d. tt };
@@ -79,7 +81,7 @@ fn driven<R: Wait>(rt: &R, sees: Vec<Seen>, made: Vec<Made>) -> (Move, Vec<Made>
         made,
         trace: Trace::new(),
     };
-    let to = drive(rt, shape, party, place, &mut script);
+    let to = drive(rt, shape, party, Move::Stay(place), &mut script);
     (to, script.made)
 }
 

@@ -1,5 +1,5 @@
 -- What a worker's drive leads to, and how it ends.
-use Rattle.std.proofs.Common.{◌≡◌, ℕ, ◌-◌, true, false, refl, sym, subst, ap, ◌∙◌}
+use Rattle.std.proofs.Common.{◌≡◌, ℕ, false, not, refl, sym, subst, ap, ◌∙◌}
 use Rattle.rayon_machine_places.specs.declared.place.Party.{Party}
 use Rattle.rayon_machine_places.specs.declared.place.Party.TheVariants.{Worker}
 use Rattle.rayon_machine_places.specs.declared.place.Target.TheVariants.{Termination, Answer}
@@ -11,12 +11,12 @@ use Rattle.rayon_machine_places.specs.declared.act.Act.{Act}
 use Rattle.rayon_machine_places.specs.declared.act.Act.TheVariants as acts
 use Rattle.rayon_machine_places.specs.declared.act.Seen.{Seen}
 use Rattle.rayon_machine_places.specs.declared.shape.PoolShape.{PoolShape}
-use Rattle.rayon_machine_places.specs.Places.{finish}
+use Rattle.rayon_machine_places.specs.Places.{act_of, finish}
 use Rattle.rayon_drive.specs.declared.trace.Log.{Log}
-use Rattle.rayon_drive.specs.Paths.{goes, act_at, onward}
+use Rattle.rayon_drive.specs.Paths.{goes}
 use Rattle.rayon_drive.proofs.Paths.{driven_keeps}
 use Rattle.rayon_performers.specs.Hands.{Hands, Does, Told, after}
-use Rattle.rayon_performers.specs.Keeps.{does_at, ended, going}
+use Rattle.rayon_performers.specs.Keeps.{at_stays, does_at, ended, going}
 use Rattle.rayon_performers.specs.Marks.{Marks}
 use Rattle.rayon_performers.specs.Seats.{Resting}
 use Rattle.rayon_performers.specs.Stands.{Anyhow, At, Ended, Hand, Last, Next, hand}
@@ -36,7 +36,7 @@ module _ {X G O F : Type 0} where
   seat_then s t u a b = (b.0 ∙ a.0, b.1 ∙ a.1)
 
   pub drive_stays : (h : PoolShape) (i : ℕ) (m : Move) (s u : Hands X G O F) (n : Move) → So h i m s n u → SameSeat s u
-  drive_stays h i m s u n d = driven_keeps (λ (a : Hands X G O F) x y b. Does x y a b) (λ (a : Hands X G O F). a.trace) (λ (v : Hands X G O F) k. SameSeat s v) h (Worker 0 i) (λ v w k x g b f. seat_then s v w b (does_stays (act_at (Worker 0 i) k) x v w f)) m s u n (refl, refl) d
+  drive_stays h i m s u n d = driven_keeps (λ (a : Hands X G O F) x y b. Does x y a b) (λ (a : Hands X G O F). a.trace) (λ (v : Hands X G O F) k. SameSeat s v) h (Worker 0 i) (λ v k y e b. b) (λ v w y x r b f. seat_then s v w b (does_stays (act_of (Worker 0 i) y) x v w f)) m s u n (refl, refl) d
 
   pub rests_there : (q : Party) (s : Hands X G O F) (m : Move) → goes m ≡ false → At Anyhow q s m → Resting s.chair
   rests_there q s m g a = (ended Anyhow q s m g a).1
@@ -51,11 +51,7 @@ module _ {X G O F : Type 0} where
 module _ {X G O F : Type 0} (E : Move → Hand X G O F → Type 0) where
   -- a drive leads on to where it ends
   pub drive_ends : (h : PoolShape) (i : ℕ) (m : Move) (s u : Hands X G O F) (n : Move) → At E (Worker 0 i) s m → So h i m s n u → goes n ≡ false → E n (hand u) × Resting u.chair × Ended (hand u) n
-  drive_ends h i m s u n a d g = ended E (Worker 0 i) u n g (driven_keeps (λ (b : Hands X G O F) x y c. Does x y b c) (λ (b : Hands X G O F). b.trace) (λ (v : Hands X G O F) k. At E (Worker 0 i) v k) h (Worker 0 i) keeps m s u n a d)
-    where
-      keeps : (v w : Hands X G O F) (k : Move) (x : Seen) → goes k ≡ true → At E (Worker 0 i) v k → Does (act_at (Worker 0 i) k) x v w → At E (Worker 0 i) w (onward h (Worker 0 i) k x)
-      keeps v w (Stay y) x on b f = does_at E v w h 0 i y x (going E (Worker 0 i) v (Stay y) on b) f
-      keeps v w k x on b f = absurd (going E (Worker 0 i) v k on b)
+  drive_ends h i m s u n a d g = ended E (Worker 0 i) u n g (driven_keeps (λ (b : Hands X G O F) x y c. Does x y b c) (λ (b : Hands X G O F). b.trace) (λ (v : Hands X G O F) k. At E (Worker 0 i) v k) h (Worker 0 i) (λ v k y e b. at_stays E (Worker 0 i) v k y e b) (λ v w y x r b f. does_at E v w h 0 i y x (going E (Worker 0 i) v (Stay y) (ap not r) b) f) m s u n a d)
 
   -- an end of a drive follows, in whose hand as many units are
   last_next : (s : Hand X G O F) (n p i : ℕ) (t : Then) → Last s (finish (Worker p i) t) → E (finish (Worker p i) t) (record s { holds = n }) → Next E (record s { holds = n }) (finish (Worker p i) t)

@@ -1,5 +1,5 @@
 -- What a call of an outside caller leaves.
-use Rattle.std.proofs.Common.{◌≡◌, true, Option, None, Some, refl, sym, subst, ap, ◌∙◌, true≢false}
+use Rattle.std.proofs.Common.{◌≡◌, false, Option, None, Some, refl, sym, subst, ap, ◌∙◌}
 use Rattle.rayon_machine_places.specs.declared.place.Party.TheVariants.{Caller}
 use Rattle.rayon_machine_places.specs.declared.place.Plan.{Plan}
 use Rattle.rayon_machine_places.specs.declared.place.Place.{Place}
@@ -9,8 +9,9 @@ use Rattle.rayon_machine_places.specs.declared.place.Move.TheVariants.{Stay, Ent
 use Rattle.rayon_machine_places.specs.declared.act.Seen.{Seen}
 use Rattle.rayon_machine_places.specs.declared.act.Seen.TheVariants.{Done}
 use Rattle.rayon_machine_places.specs.declared.shape.PoolShape.{PoolShape}
-use Rattle.rayon_machine_places.specs.Places.{act_of, next_of, plan_job}
+use Rattle.rayon_machine_places.specs.Places.{act_of, next_of, plan_job, is_rest}
 use Rattle.rayon_drive.specs.Paths.{goes, act_at, onward, Driven}
+use Rattle.rayon_drive.specs.Moves.{stays_at}
 use Rattle.rayon_drive.proofs.Paths.{driven_keeps}
 use Rattle.rayon_queues.specs.Deques.{Visitor}
 use Rattle.rayon_tasks.specs.Tasks.{TaskOf}
@@ -38,22 +39,14 @@ module _ {X G O F : Type 0} where
   -- what a drive of a call leaves
   pub call_ends : (p : Plan) (h : PoolShape) (m : Move) (s u : Visit X G O F) (n : Move) → At p (hand s) m → So h m s n u → At p (hand u) n × Kept (plan_job p) (hand s) (hand u) × (u.shape ≡ s.shape)
   call_ends p h m s u n a d =
-      driven_keeps (λ (v : Visit X G O F) x y w. Does x y v w) (λ (v : Visit X G O F). v.trace) (λ (v : Visit X G O F) k. At p (hand v) k × Kept (plan_job p) (hand s) (hand v) × (v.shape ≡ s.shape)) h (Caller 0) keeps m s u n (a, start (hand s).load, refl) d
+      driven_keeps (λ (v : Visit X G O F) x y w. Does x y v w) (λ (v : Visit X G O F). v.trace) (λ (v : Visit X G O F) k. At p (hand v) k × Kept (plan_job p) (hand s) (hand v) × (v.shape ≡ s.shape)) h (Caller 0) (stays_at (λ (v : Visit X G O F) k. At p (hand v) k × Kept (plan_job p) (hand s) (hand v) × (v.shape ≡ s.shape)) (λ v y c k b. absurd b.0) (λ v y k b. absurd b.0)) keeps m s u n (a, start (hand s).load, refl) d
     where
       start : (l : Option (Load X G O F)) → KeptIn (plan_job p) (record (hand s) { load = l }) l s.inlet
       start None = refl
       start (Some w) = (refl, refl)
 
-      keeps : (v w : Visit X G O F) (k : Move) (x : Seen) → goes k ≡ true → At p (hand v) k × Kept (plan_job p) (hand s) (hand v) × (v.shape ≡ s.shape) → Does (act_at (Caller 0) k) x v w → At p (hand w) (onward h (Caller 0) k x) × Kept (plan_job p) (hand s) (hand w) × (w.shape ≡ s.shape)
-      keeps v w (Stay y) x go b e = (subst (λ (z : Hand X G O F). At p z (next_of h (Caller 0) y x)) (sym e.0) (at_on p (hand v) h y x b.0), subst (λ (z : Hand X G O F). Kept (plan_job p) (hand s) z) (sym e.0) (kept_on p (hand s) (hand v) y x b.0 b.1), e.1 ∙ b.2)
-      keeps v w (Enter f z) x go b e = absurd (true≢false (sym go))
-      keeps v w (StartRun f z) x go b e = absurd (true≢false (sym go))
-      keeps v w Back x go b e = absurd (true≢false (sym go))
-      keeps v w (HandBack z) x go b e = absurd (true≢false (sym go))
-      keeps v w (HandIn q z) x go b e = absurd (true≢false (sym go))
-      keeps v w (Discard z) x go b e = absurd (true≢false (sym go))
-      keeps v w (Mark q c z) x go b e = absurd (true≢false (sym go))
-      keeps v w (HandAllBack c) x go b e = absurd (true≢false (sym go))
+      keeps : (v w : Visit X G O F) (y : Place) (x : Seen) → is_rest y ≡ false → At p (hand v) (Stay y) × Kept (plan_job p) (hand s) (hand v) × (v.shape ≡ s.shape) → Does (act_of (Caller 0) y) x v w → At p (hand w) (next_of h (Caller 0) y x) × Kept (plan_job p) (hand s) (hand w) × (w.shape ≡ s.shape)
+      keeps v w y x r b e = (subst (λ (z : Hand X G O F). At p z (next_of h (Caller 0) y x)) (sym e.0) (at_on p (hand v) h y x b.0), subst (λ (z : Hand X G O F). Kept (plan_job p) (hand s) z) (sym e.0) (kept_on p (hand s) (hand v) y x b.0 b.1), e.1 ∙ b.2)
 
   -- what was found is answered
   pub answered : (h : PoolShape) (m : Move) (s v : Visit X G O F) (r d : Option (Run G O F)) → r ≡ v.first_done → d ≡ v.done → So h m s Back v → So h m s Back (record v { first_done = r; done = d })

@@ -27,7 +27,8 @@ use Rattle.rayon_machine_places.specs.declared.act.Seen.{Seen}
 use Rattle.rayon_machine_places.specs.declared.act.Seen.TheVariants.{Done, Yes, Task, Jec, Word, Start, Wakes, Begun, Found}
 use Rattle.rayon_machine_places.specs.declared.shape.PoolShape.{PoolShape}
 use Rattle.rayon_machine_places.specs.Places.{latch_of, act_of, next_of, after_wait, finish, walk, settle, after_set, after_found, is_taken, after_failure, set_call, next_victim, not_self, is_rest}
-use Rattle.rayon_drive.specs.Paths.{goes}
+use Rattle.rayon_drive.specs.Moves.{stays_at}
+use Rattle.rayon_drive.specs.Paths.{goes, place_of}
 use Rattle.rayon_atomics.specs.declared.views.Watch.{Watch}
 use Rattle.rayon_sleep.specs.Berths.{Rests, Searches, Sleeps}
 use Rattle.rayon_tasks.specs.Tasks.{TaskOf}
@@ -43,7 +44,15 @@ module _ {X : Type 0} where
   no_token None k i b a = a
   no_token (Some x) k i b a = a
 
+-- at what no drive leads to nothing stands
+nowhere : (z : Bool) (A B : Type 0) → Where z ⊥ (A × B × ⊥) → ⊥
+nowhere true A B a = a
+nowhere false A B a = a.2
+
 module _ {X G O F : Type 0} (E : Move → Hand X G O F → Type 0) where
+  pub at_stays : (q : Party) (s : Hands X G O F) (m : Move) (y : Place) → place_of m ≡ Some y → At E q s m → At E q s (Stay y)
+  at_stays q s m y e a = stays_at (λ (v : Hands X G O F) (k : Move). At E q v k) (λ v z c k b. absurd (nowhere (not (is_rest z)) (E (Mark z c k) (hand v)) (Resting v.chair) b)) (λ v z n b. absurd (nowhere (not (is_rest z)) (E (HandIn z n) (hand v)) (Resting v.chair) b)) s m y e a
+
   -- where a program goes on it has what its act asks, and else it has ended
   pub going : (q : Party) (s : Hands X G O F) (m : Move) → goes m ≡ true → At E q s m → Going E q s m
   going q s m g a = subst (λ (z : Bool). Where z (Going E q s m) (E m (hand s) × Resting s.chair × Ended (hand s) m)) g a
@@ -215,6 +224,9 @@ module _ {X G O F : Type 0} where
   -- the laws of the running performer, which is a worker
   pub bench_needs : (u : Hands X G O F) (q : Party) (y : Place) → is_rest y ≡ false → IsWorker q × At Anyhow q u (Stay y) → Needs (act_of q y) u
   bench_needs u q y r a = (going Anyhow q u (Stay y) (ap not r) a.1).0
+
+  pub bench_stays : (u : Hands X G O F) (q : Party) (m : Move) (y : Place) → place_of m ≡ Some y → IsWorker q × At Anyhow q u m → IsWorker q × At Anyhow q u (Stay y)
+  bench_stays u q m y e a = (a.0, at_stays Anyhow q u m y e a.1)
 
   pub bench_on : (u v : Hands X G O F) (h : PoolShape) (q : Party) (y : Place) (x : Seen) → is_rest y ≡ false → IsWorker q × At Anyhow q u (Stay y) → Does (act_of q y) x u v → IsWorker q × At Anyhow q v (next_of h q y x)
   bench_on u v h (Worker p i) y x r a d = (tt, does_at Anyhow u v h p i y x (going Anyhow (Worker p i) u (Stay y) (ap not r) a.1) d)

@@ -18,6 +18,8 @@ use Rattle.rayon_machine_places.specs.declared.act.Seen.{Seen}
 use Rattle.rayon_machine_places.specs.declared.act.Seen.TheVariants.{Done, Yes, Wakes, Found}
 use Rattle.rayon_machine_places.specs.declared.shape.PoolShape.{PoolShape}
 use Rattle.rayon_machine_places.specs.Places.{act_of, next_of, finish, walk, settle, after_set, after_news, after_push, after_raise, plan_call, plan_job, plan_pool, undo, is_rest}
+use Rattle.rayon_drive.specs.Moves.{stays_at}
+use Rattle.rayon_drive.specs.Paths.{place_of}
 use Rattle.rayon_queues.specs.Deques.{Visitor}
 use Rattle.rayon_tasks.specs.Tasks.{TaskOf}
 use Rattle.rayon_tasks.specs.Tickets.{TicketOf}
@@ -204,6 +206,9 @@ module _ {X G O F : Type 0} where
   -- the laws of the performer, which is an outside caller
   pub guest_needs : (u : Visit X G O F) (q : Party) (y : Place) → is_rest y ≡ false → (q ≡ Caller 0) × Stands (hand u) (Stay y) → Needs (act_of q y) (hand u)
   guest_needs u q y r a = subst (λ (z : Party). Needs (act_of z y) (hand u)) (sym a.0) a.1.1.0
+
+  pub guest_stays : (u : Visit X G O F) (q : Party) (m : Move) (y : Place) → place_of m ≡ Some y → (q ≡ Caller 0) × Stands (hand u) m → (q ≡ Caller 0) × Stands (hand u) (Stay y)
+  guest_stays u q m y e a = stays_at (λ (v : Visit X G O F) k. (q ≡ Caller 0) × Stands (hand v) k) (λ v z c k b. absurd b.1.1) (λ v z n b. absurd b.1.1) u m y e a
 
   pub guest_on : (u v : Visit X G O F) (h : PoolShape) (q : Party) (y : Place) (x : Seen) → is_rest y ≡ false → (q ≡ Caller 0) × Stands (hand u) (Stay y) → Does (act_of q y) x u v → (q ≡ Caller 0) × Stands (hand v) (next_of h q y x)
   guest_on u v h q y x r a d =

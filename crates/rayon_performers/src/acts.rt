@@ -8,7 +8,7 @@ ghost use Rattle.rayon_machine_places.specs.declared.place.Party.TheVariants.{Wo
 ghost use Rattle.rayon_machine_places.specs.declared.place.Taken.TheVariants.{Plain};
 ghost use Rattle.rayon_atomics.specs.Latches.{guard};
 ghost use Rattle.rayon_performers.specs.Hands.{Does, HasTicket, Looks, Needs, Told, answer, call_latch};
-ghost use Rattle.rayon_performers.specs.Keeps.{bench_needs, bench_on};
+ghost use Rattle.rayon_performers.specs.Keeps.{bench_needs, bench_on, bench_stays};
 ghost use Rattle.rayon_performers.specs.Marks.{GivesUnit, MissesUnit, NoLatch, SetBy, TakesUnit};
 ghost use Rattle.rayon_performers.specs.Stands.{Anyhow, At, IsWorker};
 ghost use Rattle.rayon_queues.specs.Deques.{Pushed, SameDeque, Unmoved};
@@ -101,6 +101,8 @@ impl<J: JobKind> Perform for Bench<J> {
             } => self.set(latch, pool, worker),
         }
     }
+
+    ghost stays = { λ s q m p e h. bench_stays s q m p e h };
 
     ghost can = { λ s q p r h. bench_needs s q p r h };
 

@@ -12,7 +12,7 @@ ghost use Rattle.rayon_machine_places.specs.Places.{plan_job};
 ghost use Rattle.rayon_performers.specs.Hands.{answer};
 ghost use Rattle.rayon_performers.specs.Marks.{GivesUnit, SetBy};
 ghost use Rattle.rayon_performers.specs.Pools.{shape_of};
-ghost use Rattle.rayon_performers.specs.Visiting.{At, Fits, Keeps, Kept, Stands, guest_needs, guest_on};
+ghost use Rattle.rayon_performers.specs.Visiting.{At, Fits, Keeps, Kept, Stands, guest_needs, guest_on, guest_stays};
 ghost use Rattle.rayon_performers.specs.Visits.{Does, Needs, Packed, Raises, Takes, first_of, hand, if_done, load_in, sent, task_in, ticket_of, unit_after, with_pushed};
 ghost use Rattle.rayon_queues.specs.Deques.{visitor};
 
@@ -127,6 +127,8 @@ impl<'a, J: JobKind> Perform for Guest<'a, J> {
         self.trace.add(act, seen);
         seen
     }
+
+    ghost stays = { λ s q m p e h. guest_stays s q m p e h };
 
     ghost can = { λ s q p r h. guest_needs s q p r h };
 
@@ -344,7 +346,7 @@ impl<'a, J: JobKind> Guest<'a, J> {
         ensures kept { Kept (plan_job plan) (hand self.old) (hand self.new) × (self.new.shape ≡ self.old.shape) }
     {
         let shape = self.shape;
-        drive(rt, shape, CALLER, place, self)
+        drive(rt, shape, CALLER, Move::Stay(place), self)
     }
 
     /// Makes the call of this plan with this load: it takes its unit of the terminate count, makes its tickets, queues the

@@ -48,7 +48,7 @@ impl<J: JobKind> Bench<J> {
     {
         let shape = self.shape;
         let party = self.party();
-        drive(rt, shape, party, place, self)
+        drive(rt, shape, party, Move::Stay(place), self)
     }
 
     /// Waits for this, and works meanwhile: as far as a task that it has found, or to the end of the wait. Then the
@@ -108,10 +108,7 @@ impl<J: JobKind> Bench<J> {
         ensures stops { goes result ≡ false }
     {
         let party = Party::Worker { pool: 0, index };
-        match place.next(party, shape, seen) {
-            Move::Stay(place) => drive(rt, shape, party, place, self),
-            other => other,
-        }
+        drive(rt, shape, party, place.next(party, shape, seen), self)
     }
 
     // Goes on in the same way where only workers are woken and latches are set before this follows.

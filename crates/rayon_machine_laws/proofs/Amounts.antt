@@ -26,7 +26,10 @@ use Rattle.rayon_machine_places.specs.declared.place.Then.TheVariants.{BeginFoun
 use Rattle.rayon_machine_places.specs.declared.place.Taken.{Taken}
 use Rattle.rayon_machine_places.specs.declared.place.Taken.TheVariants.{Plain, Token}
 use Rattle.rayon_machine_places.specs.declared.place.Place.{Place}
-use Rattle.rayon_machine_places.specs.declared.place.Place.TheVariants.{ProbeWorking, PopWorking, TakeCastWorking, ProbeIdle, PopIdle, TakeCastIdle, PickVictim, StealFrom, PopInjected, AnnounceSelf, GetSleepy, FallAsleep, LoadCounters, AddSleeping, LookAtCast, LookAtInjector, WakeUp, LeaveSearch, JoinProbe, JoinPop, JoinTakeCast, YieldPop, YieldTakeCast, YieldPick, YieldSteal, YieldPopInjected, LocalPop, LocalTakeCast, BeginTask, BeginHere, RaiseCount, GrowCall, LookQueue, PushJob, TellNews, LockToWake, WakeWorker, UnlockWoken, TakeResult, LowerCount, StoreResult, SetLatch, UnlockSettled, SecondSide, AddToFifo, LookForToken, PushToken, TakeFromFifo, RaiseForAll, PushForAll, LowerForAll, GrowScope, OpenSlot, SetLockLatch, OpenForAll, GrowCast, DealPieces, CloseSlot, LockToSettle, WakeSettled}
+use Rattle.rayon_machine_places.specs.declared.place.Place.TheVariants.{ProbeWorking, PopWorking, TakeCastWorking, ProbeIdle, PopIdle, TakeCastIdle, PickVictim, StealFrom, PopInjected, AnnounceSelf, GetSleepy, FallAsleep, LoadCounters, AddSleeping, LookAtCast, LookAtInjector}
+use Rattle.rayon_machine_places.specs.declared.place.Place.TheVariants.{WakeUp, LeaveSearch, JoinProbe, JoinPop, JoinTakeCast, YieldPop, YieldTakeCast, YieldPick, YieldSteal, YieldPopInjected, LocalPop, LocalTakeCast, BeginTask, BeginHere, RaiseCount, GrowCall, LookQueue}
+use Rattle.rayon_machine_places.specs.declared.place.Place.TheVariants.{PushJob, TellNews, LockToWake, WakeWorker, UnlockWoken, TakeResult, LowerCount, StoreResult, SetLatch, UnlockSettled, SecondSide, AddToFifo, LookForToken, PushToken, TakeFromFifo, RaiseForAll, PushForAll}
+use Rattle.rayon_machine_places.specs.declared.place.Place.TheVariants.{LowerForAll, GrowScope, OpenSlot, SetLockLatch, OpenForAll, GrowCast, DealPieces, CloseSlot, LockToSettle, WakeSettled}
 use Rattle.rayon_machine_places.specs.declared.place.Move.{Move}
 use Rattle.rayon_machine_places.specs.declared.place.Move.TheVariants.{Stay, Enter, StartRun, Back, HandBack, Discard, HandIn, Mark, HandAllBack}
 use Rattle.rayon_machine_places.specs.declared.act.Seen.{Seen}
@@ -35,7 +38,8 @@ use Rattle.rayon_machine_places.specs.declared.shape.PoolShape.{PoolShape}
 use Rattle.rayon_machine_places.specs.declared.place.OpenCall.{OpenCall}
 use Rattle.rayon_machine_places.specs.declared.place.Wait.{Wait}
 use Rattle.rayon_machine_places.specs.declared.place.Settling.{Settling}
-use Rattle.rayon_machine_places.specs.Places.{own_pool, own_index, plan_pool, plan_job, after_wait, finish, walk, settle, after_set, after_found, after_news, after_raise, set_call, next_victim, not_self, after_failure, next_steal, next_yield, next_of, is_taken, taken_number, settle_count, after_push, begin_feed, withdraw, plan_book, begin_cast, end_cast, ends_count, after_slot}
+use Rattle.rayon_machine_places.specs.Places.{own_pool, own_index, plan_pool, plan_job, after_wait, finish, walk, settle, after_set, after_found, after_news, after_raise, set_call, next_victim, not_self, after_failure, next_steal, next_yield, next_of, is_taken, taken_number}
+use Rattle.rayon_machine_places.specs.Places.{settle_count, after_push, begin_feed, withdraw, plan_book, begin_cast, end_cast, ends_count, after_slot}
 use Rattle.rayon_machine_places.specs.World.{Stack}
 use Rattle.rayon_machine_places.specs.Steps.{after_move, is_piece}
 use Rattle.rayon_machine_laws.specs.Once.{one}
@@ -323,7 +327,11 @@ not_pushed t (Gather g) v _ z = refl
 -- over the whole table: what a stack keeps after a move is what it kept, with what was raised, less what went with a
 -- job or was given back
 pub amounts : (g : PoolShape) (q : Party) (t p : ℕ) (x : Place) (e : Seen) → (share_move t (next_of g q x e) + (pushed t x e + paid t x) ≡ share t x + (gained t x e + regained t x e)) × (values_move p (next_of g q x e) ≡ 0)
-amounts g q t p (ProbeWorking k) Yes = (let a : Amount t p (Stay (after_wait k.target)) (share_target t k.target) = am_left t p k.target in let b : share_move t (Stay (after_wait k.target)) ≡ share_target t k.target = a.0 in omega (arith, b), (let a : Amount t p (Stay (after_wait k.target)) (share_target t k.target) = am_left t p k.target in a.1))
+amounts g q t p (ProbeWorking k) Yes = (
+  let a : Amount t p (Stay (after_wait k.target)) (share_target t k.target) = am_left t p k.target in let b : share_move t (Stay (after_wait k.target)) ≡ share_target t k.target = a.0 in
+      omega (arith, b),
+  (let a : Amount t p (Stay (after_wait k.target)) (share_target t k.target) = am_left t p k.target in a.1),
+)
 amounts g q t p (ProbeWorking k) _ = (omega arith, refl)
 amounts g q t p (PopWorking k) (Task u) = (omega arith, refl)
 amounts g q t p (PopWorking k) _ = (omega arith, refl)
@@ -334,13 +342,26 @@ amounts g q t p (ProbeIdle k) _ = (omega arith, refl)
 amounts g q t p (PopIdle k) (Task u) = (omega arith, refl)
 amounts g q t p (PopIdle k) _ = (omega arith, refl)
 amounts g q t p (TakeCastIdle k) (Task u) = (omega arith, refl)
-amounts g q t p (TakeCastIdle k) _ = (let a : Amount t p (if g.workers == 1 then Stay (PopInjected k) else Stay (PickVictim k)) (share_target t k.target) = am_if t p (share_target t k.target) (PopInjected k) (PickVictim k) (g.workers == 1) (omega arith, refl) (omega arith, refl) in let b : share_move t (if g.workers == 1 then Stay (PopInjected k) else Stay (PickVictim k)) ≡ share_target t k.target = a.0 in omega (arith, b), (let a : Amount t p (if g.workers == 1 then Stay (PopInjected k) else Stay (PickVictim k)) (share_target t k.target) = am_if t p (share_target t k.target) (PopInjected k) (PickVictim k) (g.workers == 1) (omega arith, refl) (omega arith, refl) in a.1))
+amounts g q t p (TakeCastIdle k) _ = (
+  let a : Amount t p (if g.workers == 1 then Stay (PopInjected k) else Stay (PickVictim k)) (share_target t k.target) = am_if t p (share_target t k.target) (PopInjected k) (PickVictim k) (g.workers == 1) (omega arith, refl) (omega arith, refl) in
+      let b : share_move t (if g.workers == 1 then Stay (PopInjected k) else Stay (PickVictim k)) ≡ share_target t k.target = a.0 in
+      omega (arith, b),
+  (let a : Amount t p (if g.workers == 1 then Stay (PopInjected k) else Stay (PickVictim k)) (share_target t k.target) = am_if t p (share_target t k.target) (PopInjected k) (PickVictim k) (g.workers == 1) (omega arith, refl) (omega arith, refl) in a.1),
+)
 amounts g q t p (PickVictim k) (Start v) = (omega arith, refl)
 amounts g q t p (PickVictim k) _ = (omega arith, refl)
 amounts g q t p (StealFrom k n) (Task u) = (omega arith, refl)
-amounts g q t p (StealFrom k n) _ = (let a : Amount t p (Stay (next_steal g q k n)) (share_target t k.target) = am_steal t p g q k n in let b : share_move t (Stay (next_steal g q k n)) ≡ share_target t k.target = a.0 in omega (arith, b), (let a : Amount t p (Stay (next_steal g q k n)) (share_target t k.target) = am_steal t p g q k n in a.1))
+amounts g q t p (StealFrom k n) _ = (
+  let a : Amount t p (Stay (next_steal g q k n)) (share_target t k.target) = am_steal t p g q k n in let b : share_move t (Stay (next_steal g q k n)) ≡ share_target t k.target = a.0 in
+      omega (arith, b),
+  (let a : Amount t p (Stay (next_steal g q k n)) (share_target t k.target) = am_steal t p g q k n in a.1),
+)
 amounts g q t p (PopInjected k) (Task u) = (omega arith, refl)
-amounts g q t p (PopInjected k) _ = (let a : Amount t p (Stay (after_failure g k k.rounds)) (share_target t k.target) = am_failed t p g k k.rounds in let b : share_move t (Stay (after_failure g k k.rounds)) ≡ share_target t k.target = a.0 in omega (arith, b), (let a : Amount t p (Stay (after_failure g k k.rounds)) (share_target t k.target) = am_failed t p g k k.rounds in a.1))
+amounts g q t p (PopInjected k) _ = (
+  let a : Amount t p (Stay (after_failure g k k.rounds)) (share_target t k.target) = am_failed t p g k k.rounds in let b : share_move t (Stay (after_failure g k k.rounds)) ≡ share_target t k.target = a.0 in
+      omega (arith, b),
+  (let a : Amount t p (Stay (after_failure g k k.rounds)) (share_target t k.target) = am_failed t p g k k.rounds in a.1),
+)
 amounts g q t p (AnnounceSelf k) (Jec j) = (omega arith, refl)
 amounts g q t p (AnnounceSelf k) _ = (omega arith, refl)
 amounts g q t p (GetSleepy k) Done = (omega arith, refl)
@@ -353,13 +374,30 @@ amounts g q t p (LookAtCast k) Yes = (omega arith, refl)
 amounts g q t p (LookAtCast k) _ = (omega arith, refl)
 amounts g q t p (LookAtInjector k) Yes = (omega arith, refl)
 amounts g q t p (LookAtInjector k) _ = (omega arith, refl)
-amounts g q t p (LoadCounters k) (Word a1 b1 j) = (let a : Amount t p (if j == k.kept then Stay (AddSleeping (record k { sleeping = a1; inactive = b1 })) else Stay (WakeUp (record k { rounds = Failed g.limit }))) (share_target t k.target) = am_if t p (share_target t k.target) (AddSleeping (record k { sleeping = a1; inactive = b1 })) (WakeUp (record k { rounds = Failed g.limit })) (j == k.kept) (omega arith, refl) (omega arith, refl) in let b : share_move t (if j == k.kept then Stay (AddSleeping (record k { sleeping = a1; inactive = b1 })) else Stay (WakeUp (record k { rounds = Failed g.limit }))) ≡ share_target t k.target = a.0 in omega (arith, b), (let a : Amount t p (if j == k.kept then Stay (AddSleeping (record k { sleeping = a1; inactive = b1 })) else Stay (WakeUp (record k { rounds = Failed g.limit }))) (share_target t k.target) = am_if t p (share_target t k.target) (AddSleeping (record k { sleeping = a1; inactive = b1 })) (WakeUp (record k { rounds = Failed g.limit })) (j == k.kept) (omega arith, refl) (omega arith, refl) in a.1))
+amounts g q t p (LoadCounters k) (Word a1 b1 j) = (
+  let a : Amount t p (if j == k.kept then Stay (AddSleeping (record k { sleeping = a1; inactive = b1 })) else Stay (WakeUp (record k { rounds = Failed g.limit }))) (share_target t k.target) = am_if t p (share_target t k.target)
+      (AddSleeping (record k { sleeping = a1; inactive = b1 })) (WakeUp (record k { rounds = Failed g.limit })) (j == k.kept) (omega arith, refl) (omega arith, refl) in
+      let b : share_move t (if j == k.kept then Stay (AddSleeping (record k { sleeping = a1; inactive = b1 })) else Stay (WakeUp (record k { rounds = Failed g.limit }))) ≡ share_target t k.target = a.0 in
+      omega (arith, b),
+  (let a : Amount t p (if j == k.kept then Stay (AddSleeping (record k { sleeping = a1; inactive = b1 })) else Stay (WakeUp (record k { rounds = Failed g.limit }))) (share_target t k.target) = am_if t p (share_target t k.target)
+      (AddSleeping (record k { sleeping = a1; inactive = b1 })) (WakeUp (record k { rounds = Failed g.limit })) (j == k.kept) (omega arith, refl) (omega arith, refl) in a.1),
+)
 amounts g q t p (LoadCounters k) _ = (omega arith, refl)
-amounts g q t p (LeaveSearch k) (Wakes n) = (let a : Amount t p (walk g q (own_pool q) n 0 (after_found k.target k.found)) (share_then t (after_found k.target k.found)) = am_walk t p g q (own_pool q) n 0 (after_found k.target k.found) in let b : share_move t (walk g q (own_pool q) n 0 (after_found k.target k.found)) ≡ share_then t (after_found k.target k.found) = a.0 in let c : share_then t (after_found k.target k.found) ≡ share_target t k.target = am_after t k.target k.found in omega (arith, b, c), (let a : Amount t p (walk g q (own_pool q) n 0 (after_found k.target k.found)) (share_then t (after_found k.target k.found)) = am_walk t p g q (own_pool q) n 0 (after_found k.target k.found) in a.1))
+amounts g q t p (LeaveSearch k) (Wakes n) = (
+  let a : Amount t p (walk g q (own_pool q) n 0 (after_found k.target k.found)) (share_then t (after_found k.target k.found)) = am_walk t p g q (own_pool q) n 0 (after_found k.target k.found) in
+      let b : share_move t (walk g q (own_pool q) n 0 (after_found k.target k.found)) ≡ share_then t (after_found k.target k.found) = a.0 in let c : share_then t (after_found k.target k.found) ≡ share_target t k.target = am_after t k.target k.found in
+      omega (arith, b, c),
+  (let a : Amount t p (walk g q (own_pool q) n 0 (after_found k.target k.found)) (share_then t (after_found k.target k.found)) = am_walk t p g q (own_pool q) n 0 (after_found k.target k.found) in a.1),
+)
 amounts g q t p (LeaveSearch k) _ = (omega arith, refl)
 amounts g q t p (JoinProbe o) Yes = (omega arith, refl)
 amounts g q t p (JoinProbe o) _ = (omega arith, refl)
-amounts g q t p (JoinPop o) (Task u) = (let a : Amount t p (if is_taken u o.job then Enter (SecondSide o) (BeginHere o.job) else Enter (JoinProbe o) (BeginTask u)) (one (t == o.job)) = am_pop t p o u in let b : share_move t (if is_taken u o.job then Enter (SecondSide o) (BeginHere o.job) else Enter (JoinProbe o) (BeginTask u)) ≡ one (t == o.job) = a.0 in omega (arith, b), (let a : Amount t p (if is_taken u o.job then Enter (SecondSide o) (BeginHere o.job) else Enter (JoinProbe o) (BeginTask u)) (one (t == o.job)) = am_pop t p o u in a.1))
+amounts g q t p (JoinPop o) (Task u) = (
+  let a : Amount t p (if is_taken u o.job then Enter (SecondSide o) (BeginHere o.job) else Enter (JoinProbe o) (BeginTask u)) (one (t == o.job)) = am_pop t p o u in
+      let b : share_move t (if is_taken u o.job then Enter (SecondSide o) (BeginHere o.job) else Enter (JoinProbe o) (BeginTask u)) ≡ one (t == o.job) = a.0 in
+      omega (arith, b),
+  (let a : Amount t p (if is_taken u o.job then Enter (SecondSide o) (BeginHere o.job) else Enter (JoinProbe o) (BeginTask u)) (one (t == o.job)) = am_pop t p o u in a.1),
+)
 amounts g q t p (JoinPop o) _ = (omega arith, refl)
 amounts g q t p (JoinTakeCast o) (Task u) = (omega arith, refl)
 amounts g q t p (JoinTakeCast o) _ = (omega arith, refl)
@@ -372,7 +410,11 @@ amounts g q t p LocalPop _ = (omega arith, refl)
 amounts g q t p LocalTakeCast (Task u) = (omega arith, refl)
 amounts g q t p LocalTakeCast _ = (omega arith, refl)
 amounts g q t p YieldTakeCast (Task u) = (omega arith, refl)
-amounts g q t p YieldTakeCast _ = (let a : Amount t p (if g.workers == 1 then Stay YieldPopInjected else Stay YieldPick) (0) = am_if t p 0 YieldPopInjected YieldPick (g.workers == 1) (omega arith, refl) (omega arith, refl) in let b : share_move t (if g.workers == 1 then Stay YieldPopInjected else Stay YieldPick) ≡ 0 = a.0 in omega (arith, b), (let a : Amount t p (if g.workers == 1 then Stay YieldPopInjected else Stay YieldPick) (0) = am_if t p 0 YieldPopInjected YieldPick (g.workers == 1) (omega arith, refl) (omega arith, refl) in a.1))
+amounts g q t p YieldTakeCast _ = (
+  let a : Amount t p (if g.workers == 1 then Stay YieldPopInjected else Stay YieldPick) (0) = am_if t p 0 YieldPopInjected YieldPick (g.workers == 1) (omega arith, refl) (omega arith, refl) in
+      let b : share_move t (if g.workers == 1 then Stay YieldPopInjected else Stay YieldPick) ≡ 0 = a.0 in omega (arith, b),
+  (let a : Amount t p (if g.workers == 1 then Stay YieldPopInjected else Stay YieldPick) (0) = am_if t p 0 YieldPopInjected YieldPick (g.workers == 1) (omega arith, refl) (omega arith, refl) in a.1),
+)
 amounts g q t p YieldPick (Start v) = (omega arith, refl)
 amounts g q t p YieldPick _ = (omega arith, refl)
 amounts g q t p (YieldSteal v n) (Task u) = (omega arith, refl)
@@ -387,7 +429,11 @@ amounts g q t p (LookForToken f) Yes = (omega arith, refl)
 amounts g q t p (LookForToken f) _ = (omega arith, refl)
 amounts g q t p (PushToken f v) Done = (omega arith, refl)
 amounts g q t p (PushToken f v) _ = (omega arith, refl)
-amounts g q t p (TakeFromFifo f) (Task x) = (let a : Amount t p (Stay (after_push (Feed (record f { job = taken_number x })))) (one (t == taken_number x)) = am_back t p (Feed (record f { job = taken_number x })) in let b : share t (after_push (Feed (record f { job = taken_number x }))) ≡ one (t == taken_number x) = a.0 in omega (arith, b), (am_back t p (Feed (record f { job = taken_number x }))).1)
+amounts g q t p (TakeFromFifo f) (Task x) = (
+  let a : Amount t p (Stay (after_push (Feed (record f { job = taken_number x })))) (one (t == taken_number x)) = am_back t p (Feed (record f { job = taken_number x })) in
+      let b : share t (after_push (Feed (record f { job = taken_number x }))) ≡ one (t == taken_number x) = a.0 in omega (arith, b),
+  (am_back t p (Feed (record f { job = taken_number x }))).1,
+)
 amounts g q t p (TakeFromFifo f) _ = (omega arith, refl)
 amounts g q t p (RaiseCount n) Done = (let b : share_move t (after_raise n) ≡ one (t == plan_job n) = (am_raised t p n).0 in omega (arith, b), (am_raised t p n).1)
 amounts g q t p (RaiseCount n) _ = (omega arith, refl)
@@ -408,24 +454,48 @@ amounts g q t p (GrowCall n) _ = (omega arith, refl)
 amounts g q t p (LookQueue n) Yes = (omega arith, refl)
 amounts g q t p (LookQueue n) _ = (omega arith, refl)
 amounts g q t p (PushJob n v) Done = (let b : share t (TellNews n v) + pushed t (PushJob n v) Done ≡ one (t == plan_job n) = am_push t n v in omega (arith, b), refl)
-amounts g q t p (PushJob n v) e = (let a : Amount t p (Stay (after_push n)) (one (t == plan_job n)) = am_back t p n in let c : share t (after_push n) ≡ one (t == plan_job n) = a.0 in let b : pushed t (PushJob n v) e ≡ 0 = not_pushed t n v e refl in omega (arith, b, c), (let a : Amount t p (Stay (after_push n)) (one (t == plan_job n)) = am_back t p n in a.1))
+amounts g q t p (PushJob n v) e = (
+  let a : Amount t p (Stay (after_push n)) (one (t == plan_job n)) = am_back t p n in let c : share t (after_push n) ≡ one (t == plan_job n) = a.0 in let b : pushed t (PushJob n v) e ≡ 0 = not_pushed t n v e refl in
+      omega (arith, b, c),
+  (let a : Amount t p (Stay (after_push n)) (one (t == plan_job n)) = am_back t p n in a.1),
+)
 amounts g q t p (GrowScope o) Done = (omega arith, refl)
 amounts g q t p (GrowScope o) _ = (omega arith, refl)
 amounts g q t p (OpenSlot x) Done = (let a : Amount t p (Stay (after_slot x)) (one (t == plan_job x)) = am_slot t p x in let b : share t (after_slot x) ≡ one (t == plan_job x) = a.0 in omega (arith, b), (am_slot t p x).1)
 amounts g q t p (OpenSlot x) _ = (omega arith, refl)
-amounts g q t p (TellNews n v) (Wakes k) = (let a : Amount t p (walk g q (plan_pool n) k 0 (after_news n)) (share_then t (after_news n)) = am_walk t p g q (plan_pool n) k 0 (after_news n) in let b : share_move t (walk g q (plan_pool n) k 0 (after_news n)) ≡ share_then t (after_news n) = a.0 in let c : share_then t (after_news n) ≡ share_rest t n = am_goes t n in omega (arith, b, c), (let a : Amount t p (walk g q (plan_pool n) k 0 (after_news n)) (share_then t (after_news n)) = am_walk t p g q (plan_pool n) k 0 (after_news n) in a.1))
+amounts g q t p (TellNews n v) (Wakes k) = (
+  let a : Amount t p (walk g q (plan_pool n) k 0 (after_news n)) (share_then t (after_news n)) = am_walk t p g q (plan_pool n) k 0 (after_news n) in let b : share_move t (walk g q (plan_pool n) k 0 (after_news n)) ≡ share_then t (after_news n) = a.0 in
+      let c : share_then t (after_news n) ≡ share_rest t n = am_goes t n in omega (arith, b, c),
+  (let a : Amount t p (walk g q (plan_pool n) k 0 (after_news n)) (share_then t (after_news n)) = am_walk t p g q (plan_pool n) k 0 (after_news n) in a.1),
+)
 amounts g q t p (TellNews n v) _ = (omega arith, refl)
 amounts g q t p (WakeWorker k) Yes = (omega arith, refl)
 amounts g q t p (WakeWorker k) _ = (omega arith, refl)
-amounts g q t p (UnlockWoken k) e = (let a : Amount t p (walk g q k.pool k.owed (k.worker + 1) k.then) (share_then t k.then) = am_walk t p g q k.pool k.owed (k.worker + 1) k.then in let b : share_move t (walk g q k.pool k.owed (k.worker + 1) k.then) ≡ share_then t k.then = a.0 in omega (arith, b), (let a : Amount t p (walk g q k.pool k.owed (k.worker + 1) k.then) (share_then t k.then) = am_walk t p g q k.pool k.owed (k.worker + 1) k.then in a.1))
+amounts g q t p (UnlockWoken k) e = (
+  let a : Amount t p (walk g q k.pool k.owed (k.worker + 1) k.then) (share_then t k.then) = am_walk t p g q k.pool k.owed (k.worker + 1) k.then in let b : share_move t (walk g q k.pool k.owed (k.worker + 1) k.then) ≡ share_then t k.then = a.0 in
+      omega (arith, b),
+  (let a : Amount t p (walk g q k.pool k.owed (k.worker + 1) k.then) (share_then t k.then) = am_walk t p g q k.pool k.owed (k.worker + 1) k.then in a.1),
+)
 amounts g q t p (TakeResult o f) (Found d) = (omega arith, refl)
 amounts g q t p (TakeResult o f) _ = (omega arith, refl)
-amounts g q t p (LowerCount r s n) Yes = (let a : Amount t p (settle_count g q r n) (share_then t n) = am_count t p g q r n in let b : share_move t (settle_count g q r n) ≡ share_then t n = a.0 in omega (arith, b), (let a : Amount t p (settle_count g q r n) (share_then t n) = am_count t p g q r n in a.1))
+amounts g q t p (LowerCount r s n) Yes = (
+  let a : Amount t p (settle_count g q r n) (share_then t n) = am_count t p g q r n in let b : share_move t (settle_count g q r n) ≡ share_then t n = a.0 in
+      omega (arith, b),
+  (let a : Amount t p (settle_count g q r n) (share_then t n) = am_count t p g q r n in a.1),
+)
 amounts g q t p (LowerCount r s n) _ = (let a : Amount t p (finish q n) (share_then t n) = am_finish t p q n in let b : share_move t (finish q n) ≡ share_then t n = a.0 in omega (arith, b), (let a : Amount t p (finish q n) (share_then t n) = am_finish t p q n in a.1))
 amounts g q t p (StoreResult i o d) e = (let a : Amount t p (Stay (set_call i o Resume)) (0) = am_set t p i o Resume in let b : share_move t (Stay (set_call i o Resume)) ≡ 0 = a.0 in omega (arith, b), (let a : Amount t p (Stay (set_call i o Resume)) (0) = am_set t p i o Resume in a.1))
 amounts g q t p (SetLatch k) Yes = (omega arith, refl)
-amounts g q t p (SetLatch k) _ = (let a : Amount t p (after_set g q k k.latch) (share_then t k.then) = am_settled t p g q k k.latch in let b : share_move t (after_set g q k k.latch) ≡ share_then t k.then = a.0 in omega (arith, b), (let a : Amount t p (after_set g q k k.latch) (share_then t k.then) = am_settled t p g q k k.latch in a.1))
-amounts g q t p (UnlockSettled k) e = (let a : Amount t p (after_set g q k k.latch) (share_then t k.then) = am_settled t p g q k k.latch in let b : share_move t (after_set g q k k.latch) ≡ share_then t k.then = a.0 in omega (arith, b), (let a : Amount t p (after_set g q k k.latch) (share_then t k.then) = am_settled t p g q k k.latch in a.1))
+amounts g q t p (SetLatch k) _ = (
+  let a : Amount t p (after_set g q k k.latch) (share_then t k.then) = am_settled t p g q k k.latch in let b : share_move t (after_set g q k k.latch) ≡ share_then t k.then = a.0 in
+      omega (arith, b),
+  (let a : Amount t p (after_set g q k k.latch) (share_then t k.then) = am_settled t p g q k k.latch in a.1),
+)
+amounts g q t p (UnlockSettled k) e = (
+  let a : Amount t p (after_set g q k k.latch) (share_then t k.then) = am_settled t p g q k k.latch in let b : share_move t (after_set g q k k.latch) ≡ share_then t k.then = a.0 in
+      omega (arith, b),
+  (let a : Amount t p (after_set g q k k.latch) (share_then t k.then) = am_settled t p g q k k.latch in a.1),
+)
 amounts g q t p (SetLockLatch c n) e = (let a : Amount t p (finish q n) (share_then t n) = am_finish t p q n in let b : share_move t (finish q n) ≡ share_then t n = a.0 in omega (arith, b), (let a : Amount t p (finish q n) (share_then t n) = am_finish t p q n in a.1))
 amounts g q t p _ e = (omega arith, refl)
 

@@ -18,7 +18,8 @@ use Rattle.rayon_machine_places.specs.declared.place.Plan.TheVariants.{Detach, H
 use Rattle.rayon_machine_places.specs.declared.place.Share.TheVariants.{PoolValue}
 use Rattle.rayon_machine_places.specs.declared.place.Then.TheVariants.{Resume}
 use Rattle.rayon_machine_places.specs.declared.place.Place.{Place}
-use Rattle.rayon_machine_places.specs.declared.place.Place.TheVariants.{ProbeWorking, PickVictim, StealFrom, PopInjected, JoinProbe, YieldPop, YieldPick, YieldSteal, YieldPopInjected, LocalPop, Run, RaiseCount, GrowCall, PushJob, LowerCount, FirstSide, SecondSide, AtOnce, Free, Stopped, AddToFifo, PushToken, TakeFromFifo, RaiseForAll, PushForAll, LowerForAll, GrowScope, OpenSlot, ScopeBody, OpenForAll, CloseForAll, GrowCast, DealPieces}
+use Rattle.rayon_machine_places.specs.declared.place.Place.TheVariants.{ProbeWorking, PickVictim, StealFrom, PopInjected, JoinProbe, YieldPop, YieldPick, YieldSteal, YieldPopInjected, LocalPop, Run, RaiseCount, GrowCall, PushJob, LowerCount, FirstSide, SecondSide, AtOnce, Free}
+use Rattle.rayon_machine_places.specs.declared.place.Place.TheVariants.{Stopped, AddToFifo, PushToken, TakeFromFifo, RaiseForAll, PushForAll, LowerForAll, GrowScope, OpenSlot, ScopeBody, OpenForAll, CloseForAll, GrowCast, DealPieces}
 use Rattle.rayon_machine_places.specs.declared.event.Event.{Event}
 use Rattle.rayon_machine_places.specs.declared.event.Event.TheVariants.{Go, From, Refuse, Miss, End, Spawn, Fifo, Install, Join, Yield, YieldLocal, EndPool, Cast, Scope as OpenScope, IntoSpawn, IntoFifo, IntoCast, Broadcast}
 use Rattle.rayon_machine_places.specs.declared.shape.PoolShape.{PoolShape}
@@ -26,7 +27,8 @@ use Rattle.rayon_machine_places.specs.declared.place.Wait.{Wait}
 use Rattle.rayon_machine_places.specs.declared.state.Call.{Call}
 use Rattle.rayon_machine_places.specs.Places.{own_pool, own_index, is_member, undo, next_victim, not_self, act_of, next_steal, next_yield, goes_on, is_free, after_push, withdraw, end_cast, plan_book}
 use Rattle.rayon_machine_places.specs.World.{Pool, Stack, World, target_pool, target_worker, target_call}
-use Rattle.rayon_machine_places.specs.Steps.{put, put_stack, with_stack, after_choice, after_refusal, can_miss, after_miss, after_close, after_end, after_call, is_pool, new_call, after_spawn, after_fifo, after_send, after_install, after_join, after_yield, after_end_pool, step, after_cast, after_scope, after_into, holds, after_into_fifo, after_into_cast, after_broadcast, new_gathering}
+use Rattle.rayon_machine_places.specs.Steps.{put, put_stack, with_stack, after_choice, after_refusal, can_miss, after_miss, after_close, after_end, after_call, is_pool, new_call, after_spawn, after_fifo, after_send, after_install, after_join, after_yield, after_end_pool, step}
+use Rattle.rayon_machine_places.specs.Steps.{after_cast, after_scope, after_into, holds, after_into_fifo, after_into_cast, after_broadcast, new_gathering}
 use Rattle.rayon_machine_laws.proofs.Attend.{is_owing}
 use Rattle.rayon_machine_laws.proofs.Events.{free_frame}
 use Rattle.rayon_machine_laws.proofs.Frame.{fifo_cases, and_parts, if_some_map, if_cond, acted_keeps, into_cases, into_fifo_cases, into_cast_cases}
@@ -74,7 +76,8 @@ same_below : (w : World) (q : Party) (x : Place) (fs : List Place) → w.stack q
 same_below w q x fs e a = subst (λ z. AllFrames (z.below)) e a
 
 -- from one place to another, in the same world
-aside_at : (w : World) (q : Party) (x y : Place) (fs : List Place) → w.stack q ≡ record { top = x; below = fs } → is_calm x ≡ true → is_calm y ≡ true → ((n : ℕ) → KeepsOn n x → KeepsOn n y) → (is_emptied y ≡ true → is_emptied x ≡ true) → sizes y ≡ None → Aside w (with_stack w q (record { top = y; below = fs }))
+aside_at : (w : World) (q : Party) (x y : Place) (fs : List Place) → w.stack q ≡ record { top = x; below = fs } → is_calm x ≡ true → is_calm y ≡ true → ((n : ℕ) → KeepsOn n x → KeepsOn n y) → (is_emptied y ≡ true → is_emptied x ≡ true) → sizes y ≡ None
+    → Aside w (with_stack w q (record { top = y; below = fs }))
 aside_at w q x y fs e a b k m z = record {
   party = q;
   to = record { top = y; below = fs };
@@ -131,8 +134,10 @@ begins_aside w u q y b = (
 )
 
 pub from_aside : (w : World) (q : Party) (x : Place) (fs : List Place) (v : ℕ) → w.stack q ≡ record { top = x; below = fs } → IfSome (after_choice w q (record { top = x; below = fs }) x v) (Aside w)
-from_aside w q (PickVictim k) fs v e = if_cond (Aside w) (nat_lt v (w.shape.pool (own_pool q)).workers) _ (λ b. aside_at w q (PickVictim k) (StealFrom (record k { victim = not_self (w.shape.pool (own_pool q)).workers (own_index q) v }) ((w.shape.pool (own_pool q)).workers - 2)) fs e refl refl (λ n h. h) (λ h. refl) refl)
-from_aside w q YieldPick fs v e = if_cond (Aside w) (nat_lt v (w.shape.pool (own_pool q)).workers) _ (λ b. aside_at w q YieldPick (YieldSteal (not_self (w.shape.pool (own_pool q)).workers (own_index q) v) ((w.shape.pool (own_pool q)).workers - 2)) fs e refl refl (λ n h z. absurd (cc)) (λ h. absurd (cc)) refl)
+from_aside w q (PickVictim k) fs v e = if_cond (Aside w) (nat_lt v (w.shape.pool (own_pool q)).workers) _ (λ b. aside_at w q (PickVictim k) (StealFrom (record k { victim = not_self (w.shape.pool (own_pool q)).workers (own_index q) v }) ((w.shape.pool (own_pool q)).workers - 2)) fs e refl refl
+    (λ n h. h) (λ h. refl) refl)
+from_aside w q YieldPick fs v e = if_cond (Aside w) (nat_lt v (w.shape.pool (own_pool q)).workers) _ (λ b. aside_at w q YieldPick (YieldSteal (not_self (w.shape.pool (own_pool q)).workers (own_index q) v) ((w.shape.pool (own_pool q)).workers - 2)) fs e refl refl (λ n h z. absurd (cc))
+    (λ h. absurd (cc)) refl)
 from_aside w q _ fs v e = tt
 
 steal_aside : (w : World) (q : Party) (k : Wait) (n : ℕ) (g : PoolShape) (fs : List Place) → w.stack q ≡ record { top = StealFrom k n; below = fs } → Aside w (with_stack w q (record { top = next_steal g q k n; below = fs }))
@@ -196,7 +201,11 @@ uncast_aside w q c (OfCast n o) fs e = (aside_at w q (PushForAll c) (LowerForAll
 refuse_aside : (w : World) (q : Party) (x : Place) (fs : List Place) → w.stack q ≡ record { top = x; below = fs } → IfSome (after_refusal w q (record { top = x; below = fs })) (Quietly w)
 unfolding aside_at
 refuse_aside w q (GrowCall n) fs e = (aside_at w q (GrowCall n) (undo n) fs e refl refl (λ m h z. absurd (cc)) (λ h. absurd (cc)) refl, refl)
-refuse_aside w q (AddToFifo f) fs e = (aside_at w q (AddToFifo f) (after_push (Feed f)) fs e refl (push_calm (Feed f)) (λ m h z. absurd (let k : announced (after_push (Feed f)) ≡ false = push_quiet (Feed f) in cc)) (λ h. absurd (let k : is_emptied (after_push (Feed f)) ≡ false = push_full (Feed f) in cc)) (push_unsized (Feed f)), push_full (Feed f))
+refuse_aside w q (AddToFifo f) fs e = (
+  aside_at w q (AddToFifo f) (after_push (Feed f)) fs e refl (push_calm (Feed f)) (λ m h z. absurd (let k : announced (after_push (Feed f)) ≡ false = push_quiet (Feed f) in cc))
+      (λ h. absurd (let k : is_emptied (after_push (Feed f)) ≡ false = push_full (Feed f) in cc)) (push_unsized (Feed f)),
+  push_full (Feed f),
+)
 refuse_aside w q (PushToken f v) fs e = (aside_at w q (PushToken f v) (TakeFromFifo f) fs e refl refl (λ m h z. absurd (cc)) (λ h. absurd (cc)) refl, refl)
 refuse_aside w q (PushForAll c) fs e = uncast_aside w q c c.count fs e
 refuse_aside w q (OpenForAll c) fs e = (aside_at w q (OpenForAll c) (LowerForAll c) fs e refl refl (λ m h z. absurd (cc)) (λ h. absurd (cc)) refl, refl)
@@ -267,13 +276,16 @@ end_aside w q d (Run t k) fs e a =
 end_aside w q d _ fs e a = tt
 
 spawn_aside : (w : World) (q : Party) (p : ℕ) → IfSome (after_spawn w q p (w.stack q)) (Quietly w)
-spawn_aside w q p = if_cond (Quietly w) (is_free ((w.stack q).top) && is_pool w.shape p) _ (λ b. begins_aside w _ q (RaiseCount (Detach p w.jobs)) (record { shape = refl; stack = λ r. refl; seat = λ p i. refl; injector = λ p. refl; casts = λ p i. refl; turn = λ p. refl; letters = λ c l. refl; free = (and_parts (is_free ((w.stack q).top)) (is_pool w.shape p) b).0; calm = refl; keeps = refl; emptied = refl; sized = tt }))
+spawn_aside w q p = if_cond (Quietly w) (is_free ((w.stack q).top) && is_pool w.shape p) _ (λ b. begins_aside w _ q (RaiseCount (Detach p w.jobs))
+    (record { shape = refl; stack = λ r. refl; seat = λ p i. refl; injector = λ p. refl; casts = λ p i. refl; turn = λ p. refl; letters = λ c l. refl; free = (and_parts (is_free ((w.stack q).top)) (is_pool w.shape p) b).0; calm = refl; keeps = refl; emptied = refl; sized = tt }))
 
 fifo_aside : (w : World) (q : Party) (p : ℕ) → IfSome (after_fifo w q p (w.stack q)) (Quietly w)
-fifo_aside w q p = fifo_cases (Quietly w) w q p (spawn_aside w q p) (λ i free. begins_aside w _ (Worker p i) (RaiseCount (Feed (record { count = OfPool p; pool = p; job = w.jobs; token = w.jobs + 1 }))) (record { shape = refl; stack = λ r. refl; seat = λ p i. refl; injector = λ p. refl; casts = λ p i. refl; turn = λ p. refl; letters = λ c l. refl; free = free; calm = refl; keeps = refl; emptied = refl; sized = tt }))
+fifo_aside w q p = fifo_cases (Quietly w) w q p (spawn_aside w q p) (λ i free. begins_aside w _ (Worker p i) (RaiseCount (Feed (record { count = OfPool p; pool = p; job = w.jobs; token = w.jobs + 1 })))
+    (record { shape = refl; stack = λ r. refl; seat = λ p i. refl; injector = λ p. refl; casts = λ p i. refl; turn = λ p. refl; letters = λ c l. refl; free = free; calm = refl; keeps = refl; emptied = refl; sized = tt }))
 
 cast_aside : (w : World) (q : Party) (p : ℕ) → IfSome (after_cast w q p (w.stack q)) (Quietly w)
-cast_aside w q p = if_cond (Quietly w) (is_free ((w.stack q).top) && is_pool w.shape p) _ (λ b. begins_aside w _ q (RaiseForAll (record { count = OfPool p; pool = p; first = w.jobs; workers = (w.shape.pool p).workers })) (record { shape = refl; stack = λ r. refl; seat = λ p i. refl; injector = λ p. refl; casts = λ p i. refl; turn = λ p. refl; letters = λ c l. refl; free = (and_parts (is_free ((w.stack q).top)) (is_pool w.shape p) b).0; calm = refl; keeps = refl; emptied = refl; sized = (refl, refl) }))
+cast_aside w q p = if_cond (Quietly w) (is_free ((w.stack q).top) && is_pool w.shape p) _ (λ b. begins_aside w _ q (RaiseForAll (record { count = OfPool p; pool = p; first = w.jobs; workers = (w.shape.pool p).workers }))
+    (record { shape = refl; stack = λ r. refl; seat = λ p i. refl; injector = λ p. refl; casts = λ p i. refl; turn = λ p. refl; letters = λ c l. refl; free = (and_parts (is_free ((w.stack q).top)) (is_pool w.shape p) b).0; calm = refl; keeps = refl; emptied = refl; sized = (refl, refl) }))
 
 -- the calls that were there are as they were
 old_letter : (w : World) (v : Call) (c : ℕ) → c < w.calls → (put w.call w.calls v c).latch ≡ (w.call c).latch
@@ -285,32 +297,71 @@ old_letter w v c l = at (c == w.calls) refl
 
 sent_aside : (w : World) (q : Party) (p : ℕ) (b : Bool) → is_free ((w.stack q).top) ≡ true → Quietly w (after_send w q p (w.stack q) b)
 sent_aside w q p true e = begins_aside w _ q (RaiseCount (Here p w.jobs)) (record { shape = refl; stack = λ r. refl; seat = λ p i. refl; injector = λ p. refl; casts = λ p i. refl; turn = λ p. refl; letters = λ c l. refl; free = e; calm = refl; keeps = refl; emptied = refl; sized = tt })
-sent_aside w q p false e = begins_aside w _ q (RaiseCount (Send (record { number = w.calls; pool = p; job = w.jobs }))) (record { shape = refl; stack = λ r. refl; seat = λ p i. refl; injector = λ p. refl; casts = λ p i. refl; turn = λ p. refl; letters = λ c l. old_letter w (new_call None w.jobs) c l; free = e; calm = refl; keeps = refl; emptied = refl; sized = tt })
+sent_aside w q p false e = begins_aside w _ q (RaiseCount (Send (record { number = w.calls; pool = p; job = w.jobs })))
+    (record { shape = refl; stack = λ r. refl; seat = λ p i. refl; injector = λ p. refl; casts = λ p i. refl; turn = λ p. refl; letters = λ c l. old_letter w (new_call None w.jobs) c l; free = e; calm = refl; keeps = refl; emptied = refl; sized = tt })
 
 install_aside : (w : World) (q : Party) (p : ℕ) → IfSome (after_install w q p (w.stack q)) (Quietly w)
 install_aside w q p = if_cond (Quietly w) (is_free ((w.stack q).top) && is_pool w.shape p) _ (λ e. sent_aside w q p (is_member q p) ((and_parts (is_free ((w.stack q).top)) (is_pool w.shape p) e).0))
 
 scope_aside : (w : World) (q : Party) (p : ℕ) → IfSome (after_scope w q p (w.stack q)) (Quietly w)
-scope_aside w q p = if_cond (Quietly w) (is_free ((w.stack q).top) && is_pool w.shape p) _ (λ b. begins_aside w _ q (RaiseCount (Open (record { number = w.calls; pool = p; job = w.jobs }))) (record { shape = refl; stack = λ r. refl; seat = λ p i. refl; injector = λ p. refl; casts = λ p i. refl; turn = λ p. refl; letters = λ c l. old_letter w (new_call None w.jobs) c l; free = (and_parts (is_free ((w.stack q).top)) (is_pool w.shape p) b).0; calm = refl; keeps = refl; emptied = refl; sized = tt }))
+scope_aside w q p = if_cond (Quietly w) (is_free ((w.stack q).top) && is_pool w.shape p) _ (λ b. begins_aside w _ q (RaiseCount (Open (record { number = w.calls; pool = p; job = w.jobs })))
+    (record {
+      shape = refl;
+      stack = λ r. refl;
+      seat = λ p i. refl;
+      injector = λ p. refl;
+      casts = λ p i. refl;
+      turn = λ p. refl;
+      letters = λ c l. old_letter w (new_call None w.jobs) c l;
+      free = (and_parts (is_free ((w.stack q).top)) (is_pool w.shape p) b).0;
+      calm = refl;
+      keeps = refl;
+      emptied = refl;
+      sized = tt;
+    }))
 
 into_aside : (w : World) (q : Party) (n : ℕ) → IfSome (after_into w q n (w.stack q)) (Quietly w)
-into_aside w q n = into_cases (Quietly w) w q n (λ z e free held. if_cond (Quietly w) (is_free ((w.stack q).top) && holds z.call (w.stack q)) _ (λ b. begins_aside w _ q (RaiseCount (Enter (record { call = z.call; owner = z.owner; pool = z.pool; job = w.jobs }))) (record { shape = refl; stack = λ r. refl; seat = λ p i. refl; injector = λ p. refl; casts = λ p i. refl; turn = λ p. refl; letters = λ c l. refl; free = free; calm = refl; keeps = refl; emptied = refl; sized = tt })))
+into_aside w q n = into_cases (Quietly w) w q n (λ z e free held. if_cond (Quietly w) (is_free ((w.stack q).top) && holds z.call (w.stack q)) _
+    (λ b. begins_aside w _ q (RaiseCount (Enter (record { call = z.call; owner = z.owner; pool = z.pool; job = w.jobs })))
+    (record { shape = refl; stack = λ r. refl; seat = λ p i. refl; injector = λ p. refl; casts = λ p i. refl; turn = λ p. refl; letters = λ c l. refl; free = free; calm = refl; keeps = refl; emptied = refl; sized = tt })))
 
 into_fifo_aside : (w : World) (q : Party) (n : ℕ) → IfSome (after_into_fifo w q n (w.stack q)) (Quietly w)
-into_fifo_aside w q n = into_fifo_cases (Quietly w) w q n (λ z e free held. if_cond (Quietly w) (is_free ((w.stack q).top) && holds z.call (w.stack q)) _ (λ b. begins_aside w _ q (RaiseCount (Enter (record { call = z.call; owner = z.owner; pool = z.pool; job = w.jobs }))) (record { shape = refl; stack = λ r. refl; seat = λ p i. refl; injector = λ p. refl; casts = λ p i. refl; turn = λ p. refl; letters = λ c l. refl; free = free; calm = refl; keeps = refl; emptied = refl; sized = tt }))) (λ z i e free held. begins_aside w _ (Worker z.pool i) (RaiseCount (Feed (record { count = OfScope z.call z.owner; pool = z.pool; job = w.jobs; token = w.jobs + 1 }))) (record { shape = refl; stack = λ r. refl; seat = λ p i. refl; injector = λ p. refl; casts = λ p i. refl; turn = λ p. refl; letters = λ c l. refl; free = free; calm = refl; keeps = refl; emptied = refl; sized = tt }))
+into_fifo_aside w q n = into_fifo_cases (Quietly w) w q n (λ z e free held. if_cond (Quietly w) (is_free ((w.stack q).top) && holds z.call (w.stack q)) _
+    (λ b. begins_aside w _ q (RaiseCount (Enter (record { call = z.call; owner = z.owner; pool = z.pool; job = w.jobs })))
+    (record { shape = refl; stack = λ r. refl; seat = λ p i. refl; injector = λ p. refl; casts = λ p i. refl; turn = λ p. refl; letters = λ c l. refl; free = free; calm = refl; keeps = refl; emptied = refl; sized = tt })))
+    (λ z i e free held. begins_aside w _ (Worker z.pool i) (RaiseCount (Feed (record { count = OfScope z.call z.owner; pool = z.pool; job = w.jobs; token = w.jobs + 1 })))
+    (record { shape = refl; stack = λ r. refl; seat = λ p i. refl; injector = λ p. refl; casts = λ p i. refl; turn = λ p. refl; letters = λ c l. refl; free = free; calm = refl; keeps = refl; emptied = refl; sized = tt }))
 
 into_cast_aside : (w : World) (q : Party) (n : ℕ) → IfSome (after_into_cast w q n (w.stack q)) (Quietly w)
-into_cast_aside w q n = into_cast_cases (Quietly w) w q n (λ z e free held. begins_aside w _ q (RaiseForAll (record { count = OfScope z.call z.owner; pool = z.pool; first = w.jobs; workers = (w.shape.pool z.pool).workers })) (record { shape = refl; stack = λ r. refl; seat = λ p i. refl; injector = λ p. refl; casts = λ p i. refl; turn = λ p. refl; letters = λ c l. refl; free = free; calm = refl; keeps = refl; emptied = refl; sized = (refl, refl) }))
+into_cast_aside w q n = into_cast_cases (Quietly w) w q n (λ z e free held. begins_aside w _ q (RaiseForAll (record { count = OfScope z.call z.owner; pool = z.pool; first = w.jobs; workers = (w.shape.pool z.pool).workers }))
+    (record { shape = refl; stack = λ r. refl; seat = λ p i. refl; injector = λ p. refl; casts = λ p i. refl; turn = λ p. refl; letters = λ c l. refl; free = free; calm = refl; keeps = refl; emptied = refl; sized = (refl, refl) }))
 
 broadcast_aside : (w : World) (q : Party) (p : ℕ) → IfSome (after_broadcast w q p (w.stack q)) (Quietly w)
-broadcast_aside w q p = if_cond (Quietly w) (is_free ((w.stack q).top) && is_pool w.shape p) _ (λ b. begins_aside w _ q (RaiseCount (Gather (record { call = record { number = w.calls; pool = p; job = w.jobs + (w.shape.pool p).workers }; pieces = record { count = OfCast w.calls q; pool = p; first = w.jobs; workers = (w.shape.pool p).workers } }))) (record { shape = refl; stack = λ r. refl; seat = λ p i. refl; injector = λ p. refl; casts = λ p i. refl; turn = λ p. refl; letters = λ c l. old_letter w (new_gathering ((w.shape.pool p).workers) (w.jobs + (w.shape.pool p).workers)) c l; free = (and_parts (is_free ((w.stack q).top)) (is_pool w.shape p) b).0; calm = refl; keeps = refl; emptied = refl; sized = (refl, refl) }))
+broadcast_aside w q p = if_cond (Quietly w) (is_free ((w.stack q).top) && is_pool w.shape p) _ (λ b. begins_aside w _ q
+    (RaiseCount (Gather (record { call = record { number = w.calls; pool = p; job = w.jobs + (w.shape.pool p).workers }; pieces = record { count = OfCast w.calls q; pool = p; first = w.jobs; workers = (w.shape.pool p).workers } })))
+    (record {
+      shape = refl;
+      stack = λ r. refl;
+      seat = λ p i. refl;
+      injector = λ p. refl;
+      casts = λ p i. refl;
+      turn = λ p. refl;
+      letters = λ c l. old_letter w (new_gathering ((w.shape.pool p).workers) (w.jobs + (w.shape.pool p).workers)) c l;
+      free = (and_parts (is_free ((w.stack q).top)) (is_pool w.shape p) b).0;
+      calm = refl;
+      keeps = refl;
+      emptied = refl;
+      sized = (refl, refl);
+    }))
 
 join_aside : (w : World) (q : Party) → IfSome (after_join w q (w.stack q)) (Quietly w)
-join_aside w (Worker a b) = if_cond (Quietly w) (is_free ((w.stack (Worker a b)).top)) _ (λ z. begins_aside w _ (Worker a b) (RaiseCount (Fork (record { number = w.calls; pool = a; job = w.jobs + 1 }) w.jobs)) (record { shape = refl; stack = λ r. refl; seat = λ p i. refl; injector = λ p. refl; casts = λ p i. refl; turn = λ p. refl; letters = λ c l. old_letter w (new_call (Some w.jobs) (w.jobs + 1)) c l; free = z; calm = refl; keeps = refl; emptied = refl; sized = tt }))
+join_aside w (Worker a b) = if_cond (Quietly w) (is_free ((w.stack (Worker a b)).top)) _ (λ z. begins_aside w _ (Worker a b) (RaiseCount (Fork (record { number = w.calls; pool = a; job = w.jobs + 1 }) w.jobs))
+    (record { shape = refl; stack = λ r. refl; seat = λ p i. refl; injector = λ p. refl; casts = λ p i. refl; turn = λ p. refl; letters = λ c l. old_letter w (new_call (Some w.jobs) (w.jobs + 1)) c l; free = z; calm = refl; keeps = refl; emptied = refl; sized = tt }))
 join_aside w (Caller n) = tt
 
 begin_yield : (w : World) (q : Party) (x : Place) → is_calm x ≡ true → announced x ≡ false → is_emptied x ≡ false → sizes x ≡ None → IfSome (after_yield w q (w.stack q) x) (Quietly w)
-begin_yield w (Worker a b) x m n o u = if_cond (Quietly w) (is_free ((w.stack (Worker a b)).top)) _ (λ z. begins_aside w _ (Worker a b) x (record { shape = refl; stack = λ r. refl; seat = λ p i. refl; injector = λ p. refl; casts = λ p i. refl; turn = λ p. refl; letters = λ c l. refl; free = z; calm = m; keeps = n; emptied = o; sized = subst (SizedAs w.shape) (sym u) tt }))
+begin_yield w (Worker a b) x m n o u = if_cond (Quietly w) (is_free ((w.stack (Worker a b)).top)) _ (λ z. begins_aside w _ (Worker a b) x
+    (record { shape = refl; stack = λ r. refl; seat = λ p i. refl; injector = λ p. refl; casts = λ p i. refl; turn = λ p. refl; letters = λ c l. refl; free = z; calm = m; keeps = n; emptied = o; sized = subst (SizedAs w.shape) (sym u) tt }))
 begin_yield w (Caller n) x m o z u = tt
 
 -- what is the same in a pool's record with its value given up

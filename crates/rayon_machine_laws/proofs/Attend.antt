@@ -80,7 +80,8 @@ filled_put w p0 v p true eb f h = subst (λ n. is_filled (w.pool n).injector ≡
 filled_put w p0 v p false eb f h = h
 
 -- a quiet act
-pub same_quiet : (w : World) (q : Party) (k : Stack) → w.stack q ≡ k → (r : Seen × Part) (p : ℕ) → ((i : ℕ) → Quiet w (result w q k r) p i) → (p ≡ target_pool q (act_of q k.top) → is_filled (r.1.pool.injector) ≡ true → is_filled (w.pool (target_pool q (act_of q k.top))).injector ≡ true) → ((i : ℕ) → i < (w.shape.pool p).workers → owes q k.top p i ≡ true → owes q ((after_move (next_at w q k (r.0)) k.below).top) p i ≡ true) → Same w (result w q k r) p
+pub same_quiet : (w : World) (q : Party) (k : Stack) → w.stack q ≡ k → (r : Seen × Part) (p : ℕ) → ((i : ℕ) → Quiet w (result w q k r) p i) → (p ≡ target_pool q (act_of q k.top) → is_filled (r.1.pool.injector) ≡ true → is_filled (w.pool (target_pool q (act_of q k.top))).injector ≡ true)
+    → ((i : ℕ) → i < (w.shape.pool p).workers → owes q k.top p i ≡ true → owes q ((after_move (next_at w q k (r.0)) k.below).top) p i ≡ true) → Same w (result w q k r) p
 same_quiet w q k e r p quiet inj owe = record {
   workers = refl;
   injector = filled_put w (target_pool q (act_of q k.top)) (r.1.pool) p (p == target_pool q (act_of q k.top)) refl inj;
@@ -158,7 +159,8 @@ unlock_owes w q n fs p i below o =
     unlock_pool (Caller c) n = refl
 
 -- the plain cases: a quiet act that pushes nothing, where what was owed is still owed
-pub quiet_attends : (w : World) (q : Party) (k : Stack) → w.stack q ≡ k → FramesOk w → Attended w → is_quiet k.top ≡ true → is_push k.top ≡ false → ((e : Seen) (p i : ℕ) → i < (w.shape.pool p).workers → owes q k.top p i ≡ true → owes q ((after_move (next_at w q k e) k.below).top) p i ≡ true) → IfSome (outcome w q k) (λ r. Attended (result w q k r))
+pub quiet_attends : (w : World) (q : Party) (k : Stack) → w.stack q ≡ k → FramesOk w → Attended w → is_quiet k.top ≡ true → is_push k.top ≡ false → ((e : Seen) (p i : ℕ) → i < (w.shape.pool p).workers → owes q k.top p i ≡ true → owes q ((after_move (next_at w q k e) k.below).top) p i ≡ true)
+    → IfSome (outcome w q k) (λ r. Attended (result w q k r))
 quiet_attends w q k e fr a z np owe =
     if_some_map (λ r. ((p i : ℕ) → Quiet w (result w q k r) p i) × (is_filled (r.1.pool.injector) ≡ true → is_filled (w.pool (target_pool q (act_of q k.top))).injector ≡ true)) (λ r. Attended (result w q k r))
     (λ r h p. attended_same w (result w q k r) p (same_quiet w q k e r p (h.0 p) (λ is. h.1) (λ i b. owe (r.0) p i b)) (a p))

@@ -108,7 +108,9 @@ top_then R w q k e is fr frame t = top_after R (next_at w q k e) k.below t frame
 abbrev pub Quiet : World → World → ℕ → ℕ → Type 0
 Quiet w u p i = ((w.seat p i).inactive ≡ true → (u.seat p i).inactive ≡ true) × (is_committed u p i ≡ is_committed w p i)
 
-quiet_at : (w : World) (q : Party) (k : Stack) → w.stack q ≡ k → FramesOk w → is_blocking k.top ≡ false → (r : Seen × Part) → SameSets ((part_at w q k).seat) (r.1.seat) → Tops (λ y. is_blocking y ≡ false) (next_at w q k (r.0)) → (p i : ℕ) (b d : Bool) → same_party (Worker p i) q ≡ b → ((p == target_pool q (act_of q k.top)) && (i == target_worker q (act_of q k.top))) ≡ d → ((w.seat p i).inactive ≡ true → (if d then r.1.seat else w.seat p i).inactive ≡ true) × ((is_blocking ((if b then after_move (next_at w q k (r.0)) k.below else w.stack (Worker p i)).top) || (if d then r.1.seat else w.seat p i).blocked) ≡ is_committed w p i)
+quiet_at : (w : World) (q : Party) (k : Stack) → w.stack q ≡ k → FramesOk w → is_blocking k.top ≡ false → (r : Seen × Part) → SameSets ((part_at w q k).seat) (r.1.seat) → Tops (λ y. is_blocking y ≡ false) (next_at w q k (r.0)) → (p i : ℕ) (b d : Bool) → same_party (Worker p i) q ≡ b
+    → ((p == target_pool q (act_of q k.top)) && (i == target_worker q (act_of q k.top))) ≡ d → ((w.seat p i).inactive ≡ true → (if d then r.1.seat else w.seat p i).inactive ≡ true)
+    × ((is_blocking ((if b then after_move (next_at w q k (r.0)) k.below else w.stack (Worker p i)).top) || (if d then r.1.seat else w.seat p i).blocked) ≡ is_committed w p i)
 quiet_at w q k e fr awake r s t p i b d eb ed = (seat d ed, ap (λ n. n || (if d then r.1.seat else w.seat p i).blocked) (top b eb) ∙ ap (λ n. is_blocking (w.stack (Worker p i)).top || n) (blocked d ed))
   where
     here : (p == target_pool q (act_of q k.top)) && (i == target_worker q (act_of q k.top)) ≡ true → (part_at w q k).seat ≡ w.seat p i

@@ -17,7 +17,9 @@ use Rattle.rayon_machine_places.specs.declared.place.Then.{Then}
 use Rattle.rayon_machine_places.specs.declared.place.Taken.TheVariants.{Plain, Token}
 use Rattle.rayon_machine_places.specs.declared.act.Act.TheVariants.{FifoOut, FifoUndo, PushOwn, PushInj}
 use Rattle.rayon_machine_places.specs.declared.place.Place.{Place}
-use Rattle.rayon_machine_places.specs.declared.place.Place.TheVariants.{PopWorking, TakeCastWorking, PopIdle, TakeCastIdle, StealFrom, PopInjected, GetSleepy, FallAsleep, WakeUp, JoinPop, JoinTakeCast, YieldPop, YieldTakeCast, YieldSteal, YieldPopInjected, LocalPop, LocalTakeCast, BeginTask, GrowCall, TakeResult, LowerCount, StoreResult, SetLatch, SetLockLatch, TakeFromFifo, AddToFifo, PushToken, PushJob, BeginHere, PushForAll, LowerForAll, GrowScope, StoreBody, GrowCast, DealPieces, StorePiece}
+use Rattle.rayon_machine_places.specs.declared.place.Place.TheVariants.{PopWorking, TakeCastWorking, PopIdle, TakeCastIdle, StealFrom, PopInjected, GetSleepy, FallAsleep, WakeUp, JoinPop, JoinTakeCast, YieldPop, YieldTakeCast, YieldSteal, YieldPopInjected, LocalPop}
+use Rattle.rayon_machine_places.specs.declared.place.Place.TheVariants.{LocalTakeCast, BeginTask, GrowCall, TakeResult, LowerCount, StoreResult, SetLatch, SetLockLatch, TakeFromFifo, AddToFifo, PushToken, PushJob, BeginHere, PushForAll, LowerForAll, GrowScope, StoreBody}
+use Rattle.rayon_machine_places.specs.declared.place.Place.TheVariants.{GrowCast, DealPieces, StorePiece}
 use Rattle.rayon_machine_places.specs.declared.act.Seen.{Seen}
 use Rattle.rayon_machine_places.specs.declared.act.Seen.TheVariants.{Yes, No, Task, Missing, Begun, Found, Handed}
 use Rattle.rayon_machine_places.specs.declared.state.Letter.{Letter}
@@ -25,7 +27,8 @@ use Rattle.rayon_machine_places.specs.declared.state.Letter.TheVariants.{Sleepin
 use Rattle.rayon_machine_places.specs.declared.place.OpenCall.{OpenCall}
 use Rattle.rayon_machine_places.specs.declared.place.Settling.{Settling}
 use Rattle.rayon_machine_places.specs.Places.{latch_of, act_of, next_of, taken_number, plan_job, plan_pool, is_member, plan_book, count_book}
-use Rattle.rayon_machine_places.specs.World.{Shape, Stack, World, Counts, Part, head_of, own_of, or_none, target_job, Outcome, letter, with_letter, set_latch, found, popped, take_cast, pop_injector, lowered, effect, is_open, but_last, at_job, taken_as, count_in, put_body, same_list, put_list, all_lowered, pool_less, call_less, put_piece, with_piece, told}
+use Rattle.rayon_machine_places.specs.World.{Shape, Stack, World, Counts, Part, head_of, own_of, or_none, target_job, Outcome, letter, with_letter, set_latch, found, popped, take_cast, pop_injector, lowered, effect, is_open, but_last, at_job, taken_as, count_in, put_body}
+use Rattle.rayon_machine_places.specs.World.{same_list, put_list, all_lowered, pool_less, call_less, put_piece, with_piece, told}
 use Rattle.rayon_machine_places.specs.Steps.{put, part_of, after}
 use Rattle.rayon_machine_laws.proofs.Acts.{Cell, CallLetter, SeatLetter, writes_at, keeps}
 use Rattle.rayon_machine_laws.proofs.Frame.{either, if_some_all, if_some_map, put_same, after_kind, after_pool, out_sees, undo_sees, if_cond, after_bound, book_sees, same_list_true}
@@ -219,32 +222,43 @@ as_learned h q m LocalTakeCast n z e (_, j) k = tt
 as_learned h q m _ n z e r k = cc
 
 pub act_learned : (h : Shape) (q : Party) (c : Counts) (m : Part) (x : Place) → IfSome (effect (act_of q x) h q c m) (Learned h q m x)
-act_learned h (Worker a b) c m (PopWorking k) = if_some_map (TookIt (or_none (own_of ((h.pool a).order) m.seat.own))) (Learned h (Worker a b) m (PopWorking k)) (λ r tk. as_learned h (Worker a b) m (PopWorking k) (or_none (own_of ((h.pool a).order) m.seat.own)) refl refl r tk) _ (pop_took (Worker a b) m _ (own_of ((h.pool a).order) m.seat.own))
-act_learned h (Worker a b) c m (PopIdle k) = if_some_map (TookIt (or_none (own_of ((h.pool a).order) m.seat.own))) (Learned h (Worker a b) m (PopIdle k)) (λ r tk. as_learned h (Worker a b) m (PopIdle k) (or_none (own_of ((h.pool a).order) m.seat.own)) refl refl r tk) _ (pop_took (Worker a b) m _ (own_of ((h.pool a).order) m.seat.own))
-act_learned h (Worker a b) c m (JoinPop o) = if_some_map (TookIt (or_none (own_of ((h.pool a).order) m.seat.own))) (Learned h (Worker a b) m (JoinPop o)) (λ r tk. as_learned h (Worker a b) m (JoinPop o) (or_none (own_of ((h.pool a).order) m.seat.own)) refl refl r tk) _ (pop_took (Worker a b) m _ (own_of ((h.pool a).order) m.seat.own))
-act_learned h (Worker a b) c m YieldPop = if_some_map (TookIt (or_none (own_of ((h.pool a).order) m.seat.own))) (Learned h (Worker a b) m YieldPop) (λ r tk. as_learned h (Worker a b) m YieldPop (or_none (own_of ((h.pool a).order) m.seat.own)) refl refl r tk) _ (pop_took (Worker a b) m _ (own_of ((h.pool a).order) m.seat.own))
-act_learned h (Worker a b) c m LocalPop = if_some_map (TookIt (or_none (own_of ((h.pool a).order) m.seat.own))) (Learned h (Worker a b) m LocalPop) (λ r tk. as_learned h (Worker a b) m LocalPop (or_none (own_of ((h.pool a).order) m.seat.own)) refl refl r tk) _ (pop_took (Worker a b) m _ (own_of ((h.pool a).order) m.seat.own))
+act_learned h (Worker a b) c m (PopWorking k) = if_some_map (TookIt (or_none (own_of ((h.pool a).order) m.seat.own))) (Learned h (Worker a b) m (PopWorking k)) (λ r tk. as_learned h (Worker a b) m (PopWorking k) (or_none (own_of ((h.pool a).order) m.seat.own)) refl refl r tk) _
+    (pop_took (Worker a b) m _ (own_of ((h.pool a).order) m.seat.own))
+act_learned h (Worker a b) c m (PopIdle k) = if_some_map (TookIt (or_none (own_of ((h.pool a).order) m.seat.own))) (Learned h (Worker a b) m (PopIdle k)) (λ r tk. as_learned h (Worker a b) m (PopIdle k) (or_none (own_of ((h.pool a).order) m.seat.own)) refl refl r tk) _
+    (pop_took (Worker a b) m _ (own_of ((h.pool a).order) m.seat.own))
+act_learned h (Worker a b) c m (JoinPop o) = if_some_map (TookIt (or_none (own_of ((h.pool a).order) m.seat.own))) (Learned h (Worker a b) m (JoinPop o)) (λ r tk. as_learned h (Worker a b) m (JoinPop o) (or_none (own_of ((h.pool a).order) m.seat.own)) refl refl r tk) _
+    (pop_took (Worker a b) m _ (own_of ((h.pool a).order) m.seat.own))
+act_learned h (Worker a b) c m YieldPop = if_some_map (TookIt (or_none (own_of ((h.pool a).order) m.seat.own))) (Learned h (Worker a b) m YieldPop) (λ r tk. as_learned h (Worker a b) m YieldPop (or_none (own_of ((h.pool a).order) m.seat.own)) refl refl r tk) _
+    (pop_took (Worker a b) m _ (own_of ((h.pool a).order) m.seat.own))
+act_learned h (Worker a b) c m LocalPop = if_some_map (TookIt (or_none (own_of ((h.pool a).order) m.seat.own))) (Learned h (Worker a b) m LocalPop) (λ r tk. as_learned h (Worker a b) m LocalPop (or_none (own_of ((h.pool a).order) m.seat.own)) refl refl r tk) _
+    (pop_took (Worker a b) m _ (own_of ((h.pool a).order) m.seat.own))
 act_learned h (Worker a b) c m (StealFrom k n) = if_some_map (TookIt (or_none (head_of m.seat.own))) (Learned h (Worker a b) m (StealFrom k n)) (λ r tk. as_learned h (Worker a b) m (StealFrom k n) (or_none (head_of m.seat.own)) refl refl r tk) _ (pop_took (Worker a b) m _ (head_of m.seat.own))
 act_learned h (Worker a b) c m (YieldSteal v n) = if_some_map (TookIt (or_none (head_of m.seat.own))) (Learned h (Worker a b) m (YieldSteal v n)) (λ r tk. as_learned h (Worker a b) m (YieldSteal v n) (or_none (head_of m.seat.own)) refl refl r tk) _ (pop_took (Worker a b) m _ (head_of m.seat.own))
 act_learned h (Worker a b) c m (PopInjected k) = if_some_map (TookIt (or_none (head_of m.pool.injector))) (Learned h (Worker a b) m (PopInjected k)) (λ r tk. as_learned h (Worker a b) m (PopInjected k) (or_none (head_of m.pool.injector)) refl refl r tk) _ (inj_took (Worker a b) m m.pool.injector)
 act_learned h (Worker a b) c m YieldPopInjected = if_some_map (TookIt (or_none (head_of m.pool.injector))) (Learned h (Worker a b) m YieldPopInjected) (λ r tk. as_learned h (Worker a b) m YieldPopInjected (or_none (head_of m.pool.injector)) refl refl r tk) _ (inj_took (Worker a b) m m.pool.injector)
-act_learned h (Worker a b) c m (TakeCastWorking k) = if_some_map (TookIt (or_none (head_of (m.pool.casts b)))) (Learned h (Worker a b) m (TakeCastWorking k)) (λ r tk. as_learned h (Worker a b) m (TakeCastWorking k) (or_none (head_of (m.pool.casts b))) refl refl r tk) _ (cast_took (Worker a b) m (m.pool.casts b))
-act_learned h (Worker a b) c m (TakeCastIdle k) = if_some_map (TookIt (or_none (head_of (m.pool.casts b)))) (Learned h (Worker a b) m (TakeCastIdle k)) (λ r tk. as_learned h (Worker a b) m (TakeCastIdle k) (or_none (head_of (m.pool.casts b))) refl refl r tk) _ (cast_took (Worker a b) m (m.pool.casts b))
-act_learned h (Worker a b) c m (JoinTakeCast o) = if_some_map (TookIt (or_none (head_of (m.pool.casts b)))) (Learned h (Worker a b) m (JoinTakeCast o)) (λ r tk. as_learned h (Worker a b) m (JoinTakeCast o) (or_none (head_of (m.pool.casts b))) refl refl r tk) _ (cast_took (Worker a b) m (m.pool.casts b))
+act_learned h (Worker a b) c m (TakeCastWorking k) = if_some_map (TookIt (or_none (head_of (m.pool.casts b)))) (Learned h (Worker a b) m (TakeCastWorking k)) (λ r tk. as_learned h (Worker a b) m (TakeCastWorking k) (or_none (head_of (m.pool.casts b))) refl refl r tk) _
+    (cast_took (Worker a b) m (m.pool.casts b))
+act_learned h (Worker a b) c m (TakeCastIdle k) = if_some_map (TookIt (or_none (head_of (m.pool.casts b)))) (Learned h (Worker a b) m (TakeCastIdle k)) (λ r tk. as_learned h (Worker a b) m (TakeCastIdle k) (or_none (head_of (m.pool.casts b))) refl refl r tk) _
+    (cast_took (Worker a b) m (m.pool.casts b))
+act_learned h (Worker a b) c m (JoinTakeCast o) = if_some_map (TookIt (or_none (head_of (m.pool.casts b)))) (Learned h (Worker a b) m (JoinTakeCast o)) (λ r tk. as_learned h (Worker a b) m (JoinTakeCast o) (or_none (head_of (m.pool.casts b))) refl refl r tk) _
+    (cast_took (Worker a b) m (m.pool.casts b))
 act_learned h (Worker a b) c m YieldTakeCast = if_some_map (TookIt (or_none (head_of (m.pool.casts b)))) (Learned h (Worker a b) m YieldTakeCast) (λ r tk. as_learned h (Worker a b) m YieldTakeCast (or_none (head_of (m.pool.casts b))) refl refl r tk) _ (cast_took (Worker a b) m (m.pool.casts b))
 act_learned h (Worker a b) c m LocalTakeCast = if_some_map (TookIt (or_none (head_of (m.pool.casts b)))) (Learned h (Worker a b) m LocalTakeCast) (λ r tk. as_learned h (Worker a b) m LocalTakeCast (or_none (head_of (m.pool.casts b))) refl refl r tk) _ (cast_took (Worker a b) m (m.pool.casts b))
 act_learned h (Worker a b) c m (TakeResult o f) = take_learned h (Worker a b) m o f m.call.cell refl
 act_learned h (Worker a b) c m (LowerCount p s k) = lower_learned h (Worker a b) m p s k
 act_learned h (Worker a b) c m (LowerForAll n) = lower_all_learned h (Worker a b) m n
 act_learned h (Worker a b) c m (BeginTask (Plain t)) = refl
-act_learned h (Worker a b) c m (BeginTask (Token k i b8)) = out_sees (Learned h (Worker a b) m (BeginTask (Token k i b8))) (Worker a b) m b8 tt (λ u us e. (ap (λ l. or_none (head_of l)) e, (let a : times u (m.seat.fifo b8) ≡ (one (u == u) + times u us) = ap (times u) e in let b : one (u == u) ≡ 1 = ap one (eq-eqb u u refl) in omega (arith, a, b)), refl))
-act_learned h (Worker a b) c m (TakeFromFifo f) = undo_sees (Learned h (Worker a b) m (TakeFromFifo f)) (Worker a b) m (count_book f.count) tt (λ u e. (ap or_none e, (let a : times u (m.seat.fifo (count_book f.count)) ≡ (one (u == u) + times u (but_last (m.seat.fifo (count_book f.count)))) = times_drop (m.seat.fifo (count_book f.count)) u u e in let b : one (u == u) ≡ 1 = ap one (eq-eqb u u refl) in omega (arith, a, b))))
+act_learned h (Worker a b) c m (BeginTask (Token k i b8)) = out_sees (Learned h (Worker a b) m (BeginTask (Token k i b8))) (Worker a b) m b8 tt
+    (λ u us e. (ap (λ l. or_none (head_of l)) e, (let a : times u (m.seat.fifo b8) ≡ (one (u == u) + times u us) = ap (times u) e in let b : one (u == u) ≡ 1 = ap one (eq-eqb u u refl) in omega (arith, a, b)), refl))
+act_learned h (Worker a b) c m (TakeFromFifo f) = undo_sees (Learned h (Worker a b) m (TakeFromFifo f)) (Worker a b) m (count_book f.count) tt
+    (λ u e. (ap or_none e, (let a : times u (m.seat.fifo (count_book f.count)) ≡ (one (u == u) + times u (but_last (m.seat.fifo (count_book f.count)))) = times_drop (m.seat.fifo (count_book f.count)) u u e in let b : one (u == u) ≡ 1 = ap one (eq-eqb u u refl) in omega (arith, a, b))))
 act_learned h (Worker a b) c m x = if_some_all (Learned h (Worker a b) m x) (λ r. tt) (effect (act_of (Worker a b) x) h (Worker a b) c m)
 act_learned h (Caller g) c m (TakeResult o f) = take_learned h (Caller g) m o f m.call.cell refl
 act_learned h (Caller g) c m (LowerCount p s k) = lower_learned h (Caller g) m p s k
 act_learned h (Caller g) c m (LowerForAll n) = lower_all_learned h (Caller g) m n
 act_learned h (Caller g) c m (BeginTask (Plain t)) = refl
-act_learned h (Caller g) c m (BeginTask (Token k i b8)) = out_sees (Learned h (Caller g) m (BeginTask (Token k i b8))) (Caller g) m b8 tt (λ u us e. (ap (λ l. or_none (head_of l)) e, (let a : times u (m.seat.fifo b8) ≡ (one (u == u) + times u us) = ap (times u) e in let b : one (u == u) ≡ 1 = ap one (eq-eqb u u refl) in omega (arith, a, b)), refl))
+act_learned h (Caller g) c m (BeginTask (Token k i b8)) = out_sees (Learned h (Caller g) m (BeginTask (Token k i b8))) (Caller g) m b8 tt
+    (λ u us e. (ap (λ l. or_none (head_of l)) e, (let a : times u (m.seat.fifo b8) ≡ (one (u == u) + times u us) = ap (times u) e in let b : one (u == u) ≡ 1 = ap one (eq-eqb u u refl) in omega (arith, a, b)), refl))
 act_learned h (Caller g) c m (PopWorking w) = tt
 act_learned h (Caller g) c m (TakeCastWorking w) = tt
 act_learned h (Caller g) c m (PopIdle w) = tt
@@ -344,7 +358,9 @@ line_table h (Worker a b) c m v t (PushToken f v9) = omega arith
 line_table h (Caller g) c m v t (PushToken f v9) = tt
 line_table h (Worker a b) c m v t (AddToFifo f) = if_cond (Lines m v t (AddToFifo f)) (is_open (Worker a b) (m.seat.feeder (count_book f.count))) _ (λ z. line_more m.seat.fifo (count_book f.count) v t f.job)
 line_table h (Caller g) c m v t (AddToFifo f) = tt
-line_table h (Worker a b) c m v t (TakeFromFifo f) = undo_sees (Lines m v t (TakeFromFifo f)) (Worker a b) m (count_book f.count) (omega arith) (λ u e. let k : times t (m.seat.fifo (count_book f.count)) ≡ (one (t == u) + times t (but_last (m.seat.fifo (count_book f.count)))) = times_drop (m.seat.fifo (count_book f.count)) t u e in line_less m.seat.fifo (count_book f.count) (but_last (m.seat.fifo (count_book f.count))) v t (omega (arith, k)))
+line_table h (Worker a b) c m v t (TakeFromFifo f) = undo_sees (Lines m v t (TakeFromFifo f)) (Worker a b) m (count_book f.count) (omega arith)
+    (λ u e. let k : times t (m.seat.fifo (count_book f.count)) ≡ (one (t == u) + times t (but_last (m.seat.fifo (count_book f.count)))) = times_drop (m.seat.fifo (count_book f.count)) t u e in
+    line_less m.seat.fifo (count_book f.count) (but_last (m.seat.fifo (count_book f.count))) v t (omega (arith, k)))
 line_table h (Caller g) c m v t (TakeFromFifo f) = tt
 line_table h q c m v t (BeginTask (Plain u)) = omega arith
 line_table h q c m v t (BeginTask (Token k i b8)) = out_sees (Lines m v t (BeginTask (Token k i b8))) q m b8 (omega arith) (λ u us e. let k : times t (m.seat.fifo b8) ≡ (one (t == u) + times t us) = ap (times t) e in line_less m.seat.fifo b8 us v t (omega (arith, k)))

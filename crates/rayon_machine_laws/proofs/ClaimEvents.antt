@@ -12,7 +12,8 @@ use Rattle.rayon_machine_places.specs.declared.place.JobKind.TheVariants.{Detach
 use Rattle.rayon_machine_places.specs.declared.place.Share.TheVariants.{PoolValue, OfJob}
 use Rattle.rayon_machine_places.specs.declared.place.Then.TheVariants.{Resume}
 use Rattle.rayon_machine_places.specs.declared.place.Place.{Place}
-use Rattle.rayon_machine_places.specs.declared.place.Place.TheVariants.{PickVictim, StealFrom, YieldPick, YieldSteal, Run, GrowCall, PushJob, LowerCount, StoreResult, FirstSide, SecondSide, AtOnce, Free, AddToFifo, PushToken, PushForAll, GrowScope, OpenSlot, StoreSlot, ScopeBody, OpenForAll, GrowCast, DealPieces, StorePiece}
+use Rattle.rayon_machine_places.specs.declared.place.Place.TheVariants.{PickVictim, StealFrom, YieldPick, YieldSteal, Run, GrowCall, PushJob, LowerCount, StoreResult, FirstSide, SecondSide, AtOnce, Free, AddToFifo, PushToken, PushForAll, GrowScope, OpenSlot, StoreSlot, ScopeBody}
+use Rattle.rayon_machine_places.specs.declared.place.Place.TheVariants.{OpenForAll, GrowCast, DealPieces, StorePiece}
 use Rattle.rayon_machine_places.specs.declared.act.Seen.{Seen}
 use Rattle.rayon_machine_places.specs.declared.act.Seen.TheVariants.{Refused, Missing, Start}
 use Rattle.rayon_machine_places.specs.declared.state.Whereabouts.TheVariants.{Over}
@@ -30,7 +31,8 @@ use Rattle.rayon_machine_laws.proofs.Later.{Later, later_says, later_all, later_
 use Rattle.rayon_machine_laws.proofs.ClaimRuns.{CallsHold, all_says, moved_says, later_lined}
 
 -- where one party has another stack, and pools keep what they said
-restacked : (w : World) (q : Party) (k : Stack) (P : ℕ → Pool) → ((p : ℕ) → (P p).count ≡ (w.pool p).count) → ((p : ℕ) → (w.pool p).held ≡ false → (P p).held ≡ false) → (Later w (record w { stack = put_stack w.stack q k; pool = P }) → StackSays (record w { stack = put_stack w.stack q k; pool = P }) q k) → CallsHold w → Advance w (record w { stack = put_stack w.stack q k; pool = P }) → CallsHold (record w { stack = put_stack w.stack q k; pool = P })
+restacked : (w : World) (q : Party) (k : Stack) (P : ℕ → Pool) → ((p : ℕ) → (P p).count ≡ (w.pool p).count) → ((p : ℕ) → (w.pool p).held ≡ false → (P p).held ≡ false)
+    → (Later w (record w { stack = put_stack w.stack q k; pool = P }) → StackSays (record w { stack = put_stack w.stack q k; pool = P }) q k) → CallsHold w → Advance w (record w { stack = put_stack w.stack q k; pool = P }) → CallsHold (record w { stack = put_stack w.stack q k; pool = P })
 restacked w q k P counts held s h a = record {
   jobs = jobs_advance w (record w { stack = put_stack w.stack q k; pool = P }) (h.jobs) a;
   says = all_says w (record w { stack = put_stack w.stack q k; pool = P }) later q k (s later) (h.says);
@@ -49,7 +51,8 @@ restacked w q k P counts held s h a = record {
     later = record { jobs = omega arith; calls = omega arith; over = λ t e z. z; left = λ t z. z; kind = λ t b. refl; pool = λ t b. refl; bound = λ t b. refl; target = λ c b. refl; side = λ c b. refl; shape = refl; gone = λ t z. z; ended = λ p z. counts p ∙ z; spent = λ c b z. z; given = held }
 
 -- a party goes on as if its act had seen this
-seeing_calls : (w : World) (q : Party) (g : PoolShape) (x : Place) (fs : List Place) (e : Seen) → w.stack q ≡ record { top = x; below = fs } → Learns (record w { stack = put_stack w.stack q (after_move (next_of g q x e) fs) }) x e → CallsHold w → Advance w (record w { stack = put_stack w.stack q (after_move (next_of g q x e) fs) }) → CallsHold (record w { stack = put_stack w.stack q (after_move (next_of g q x e) fs) })
+seeing_calls : (w : World) (q : Party) (g : PoolShape) (x : Place) (fs : List Place) (e : Seen) → w.stack q ≡ record { top = x; below = fs } → Learns (record w { stack = put_stack w.stack q (after_move (next_of g q x e) fs) }) x e → CallsHold w
+    → Advance w (record w { stack = put_stack w.stack q (after_move (next_of g q x e) fs) }) → CallsHold (record w { stack = put_stack w.stack q (after_move (next_of g q x e) fs) })
 seeing_calls w q g x fs e z n h a = restacked w q (after_move (next_of g q x e) fs) w.pool (λ p. refl) (λ p k. k)
     (λ l. moved_says w (record w { stack = put_stack w.stack q (after_move (next_of g q x e) fs) }) l g q (record { top = x; below = fs }) e n (subst (λ k. StackSays w q k) z (h.says q))) h a
 
@@ -103,7 +106,8 @@ yield_calls w (Caller n) x s h = tt
 pub give_calls : (w : World) (q : Party) (p : ℕ) → CallsHold w → IfSome (after_end_pool w q p (w.stack q)) (λ u. Advance w u → CallsHold u)
 give_calls w q p h = if_cond (λ u. Advance w u → CallsHold u) (is_free ((w.stack q).top) && (is_pool w.shape p && (w.pool p).held)) _
     (λ f a. restacked w q (after_call (w.stack q) (LowerCount (OfPool p) PoolValue Resume)) (put w.pool p (record (w.pool p) { held = false })) (λ r. put_same (λ v. v.count) w.pool p (record (w.pool p) { held = false }) r refl) (λ r z. gone r (r == p) refl z)
-    (λ l. called_says w (record w { stack = put_stack w.stack q (after_call (w.stack q) (LowerCount (OfPool p) PoolValue Resume)); pool = put w.pool p (record (w.pool p) { held = false }) }) l q (LowerCount (OfPool p) PoolValue Resume) ((and_parts (is_free ((w.stack q).top)) (is_pool w.shape p && (w.pool p).held) f).0)
+    (λ l. called_says w (record w { stack = put_stack w.stack q (after_call (w.stack q) (LowerCount (OfPool p) PoolValue Resume)); pool = put w.pool p (record (w.pool p) { held = false }) }) l q (LowerCount (OfPool p) PoolValue Resume)
+    ((and_parts (is_free ((w.stack q).top)) (is_pool w.shape p && (w.pool p).held) f).0)
     (tt, (ap (λ v. v.held) (put_new w.pool p (record (w.pool p) { held = false })), refl)) h) h a)
   where
     gone : (r : ℕ) (b : Bool) → (r == p) ≡ b → (w.pool r).held ≡ false → (if b then record (w.pool p) { held = false } else w.pool r).held ≡ false
@@ -134,11 +138,25 @@ says_resumed u q d t (f ∷ fs) z a k = record { top = says_goes_on u q f d t z 
 plain_links : (x y : Place) (fs : List Place) → here x ≡ None → Linked x fs → Linked y fs
 plain_links x y fs e k = relink x y fs (λ t z. cc) k
 
-pub says_closed : (w u : World) (q : Party) (d : Ending) (t : ℕ) (k : JobKind) (fs : List Place) → CallsHold w → Later w u → ((c : ℕ) → (u.call c).job ≡ (w.call c).job) → (u.job t).at ≡ Over d → (u.job t).pool ≡ (w.job t).pool → SaysRun u t k → SaysRun w t k → ((p : ℕ) → k ≡ Detached p → (w.job t).pool ≡ p) → AllSay u q fs → Linked (Run t k) fs → StackSays u q (after_close t k d fs)
+pub says_closed : (w u : World) (q : Party) (d : Ending) (t : ℕ) (k : JobKind) (fs : List Place) → CallsHold w → Later w u → ((c : ℕ) → (u.call c).job ≡ (w.call c).job) → (u.job t).at ≡ Over d → (u.job t).pool ≡ (w.job t).pool → SaysRun u t k → SaysRun w t k
+    → ((p : ℕ) → k ≡ Detached p → (w.job t).pool ≡ p) → AllSay u q fs → Linked (Run t k) fs → StackSays u q (after_close t k d fs)
 says_closed w u q d t (Detached p) fs h l c z y s s0 dp a k = record { top = (tt, (s.0, y ∙ dp p refl, (s.1, ap is_done z))); below = a; links = plain_links (Run t (Detached p)) (LowerCount (OfPool p) (OfJob t) Resume) fs refl k }
-says_closed w u q d t (Stored i o) fs h l c z y s s0 dp a k = record { top = (let b : (i + 1 ≤ w.calls) × ((w.call i).job ≡ t) = h.ties t (s0.0) i o (s0.1) in let m : w.calls ≤ u.calls = l.calls in let n : i + 1 ≤ w.calls = b.0 in ((let g : i + 1 ≤ u.calls = omega (arith, m, n) in g), ap (λ n. (u.job n).at) (c i ∙ b.1) ∙ z, (subst (λ n. n + 1 ≤ u.jobs) (sym (c i ∙ b.1)) (s.0), ap (λ n. is_body (u.job n).kind) (c i ∙ b.1) ∙ ap is_body (s.1)))); below = a; links = plain_links (Run t (Stored i o)) (StoreResult i o d) fs refl k }
-says_closed w u q d t (Scoped i o) fs h l c z y s s0 dp a k = record { top = (s.0, s.1, (let b : i + 1 ≤ w.calls = (h.entries t (s0.0) i o (s0.1)).number in let m : w.calls ≤ u.calls = l.calls in omega (arith, m, b)), z); below = a; links = plain_links (Run t (Scoped i o)) (StoreSlot i o t d) fs refl k }
-says_closed w u q d t (PieceOf i o) fs h l c z y s s0 dp a k = record { top = (s.0, s.1, (let b : i + 1 ≤ w.calls = (h.parts t (s0.0) i o (s0.1)).number in let m : w.calls ≤ u.calls = l.calls in omega (arith, m, b)), z); below = a; links = plain_links (Run t (PieceOf i o)) (StorePiece i o t d) fs refl k }
+says_closed w u q d t (Stored i o) fs h l c z y s s0 dp a k = record {
+  top = (let b : (i + 1 ≤ w.calls) × ((w.call i).job ≡ t) = h.ties t (s0.0) i o (s0.1) in let m : w.calls ≤ u.calls = l.calls in let n : i + 1 ≤ w.calls = b.0 in
+      ((let g : i + 1 ≤ u.calls = omega (arith, m, n) in g), ap (λ n. (u.job n).at) (c i ∙ b.1) ∙ z, (subst (λ n. n + 1 ≤ u.jobs) (sym (c i ∙ b.1)) (s.0), ap (λ n. is_body (u.job n).kind) (c i ∙ b.1) ∙ ap is_body (s.1))));
+  below = a;
+  links = plain_links (Run t (Stored i o)) (StoreResult i o d) fs refl k;
+}
+says_closed w u q d t (Scoped i o) fs h l c z y s s0 dp a k = record {
+  top = (s.0, s.1, (let b : i + 1 ≤ w.calls = (h.entries t (s0.0) i o (s0.1)).number in let m : w.calls ≤ u.calls = l.calls in omega (arith, m, b)), z);
+  below = a;
+  links = plain_links (Run t (Scoped i o)) (StoreSlot i o t d) fs refl k;
+}
+says_closed w u q d t (PieceOf i o) fs h l c z y s s0 dp a k = record {
+  top = (s.0, s.1, (let b : i + 1 ≤ w.calls = (h.parts t (s0.0) i o (s0.1)).number in let m : w.calls ≤ u.calls = l.calls in omega (arith, m, b)), z);
+  below = a;
+  links = plain_links (Run t (PieceOf i o)) (StorePiece i o t d) fs refl k;
+}
 says_closed w u q d t (WholeOf c9 o9) fs h l c z y s s0 dp a k = says_resumed u q d t fs z a (relink (Run t (WholeOf c9 o9)) (Run t Direct) fs (λ v e. e) k)
 says_closed w u q d t Direct fs h l c z y s s0 dp a k = says_resumed u q d t fs z a k
 says_closed w u q d t (TokenOf i b8) fs h l c z y s s0 dp a k = says_resumed u q d t fs z a (relink (Run t (TokenOf i b8)) (Run t Direct) fs (λ v e. e) k)

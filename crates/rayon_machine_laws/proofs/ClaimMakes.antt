@@ -28,7 +28,8 @@ use Rattle.rayon_machine_places.specs.declared.state.Job.{Job}
 use Rattle.rayon_machine_places.specs.declared.state.Call.{Call}
 use Rattle.rayon_machine_places.specs.Places.{is_member, fresh, act_of, is_free, count_kind, count_book}
 use Rattle.rayon_machine_places.specs.World.{Shape, World, target_pool, target_worker, target_call, at_job}
-use Rattle.rayon_machine_places.specs.Steps.{put, put_stack, after_close, after_end, after_call, is_pool, new_job, new_call, after_spawn, after_send, after_install, after_join, step, after_feed, after_fifo, after_cast, put_pieces, new_piece, is_piece, after_scope, after_into, holds, after_enter, after_deal, after_into_fifo, after_into_cast, after_broadcast, after_gather, new_whole, new_gathering}
+use Rattle.rayon_machine_places.specs.Steps.{put, put_stack, after_close, after_end, after_call, is_pool, new_job, new_call, after_spawn, after_send, after_install, after_join, step, after_feed, after_fifo, after_cast, put_pieces, new_piece, is_piece, after_scope, after_into}
+use Rattle.rayon_machine_places.specs.Steps.{holds, after_enter, after_deal, after_into_fifo, after_into_cast, after_broadcast, after_gather, new_whole, new_gathering}
 use Rattle.rayon_machine_places.specs.Runs.{start, IsRun}
 use Rattle.rayon_machine_laws.proofs.Frame.{either, and_parts, if_cond, acted_keeps, put_same, put_new, put_old, fifo_cases, piece_new, piece_old, piece_range, piece_in, piece_out, into_cases, into_fifo_cases, into_cast_cases}
 use Rattle.rayon_machine_laws.proofs.Ties.{job_at, outcome}
@@ -59,7 +60,23 @@ end_calls w q d (Run t k) fs z h = λ a. done a
     old = subst (λ s. StackSays w q s) z (h.says q)
 
     later : Advance w (ended_world w q d t k fs) → Later w (ended_world w q d t k fs)
-    later a = record { jobs = omega arith; calls = omega arith; over = final_over w (ended_world w q d t k fs) a; shape = refl; gone = final_spent w (ended_world w q d t k fs) a; left = λ s z. final_left ((w.job s).at) (((ended_world w q d t k fs).job s).at) (a.final s) z; kind = λ s b. put_same (λ j. j.kind) w.job t (at_job (w.job t) (Over d)) s refl; pool = λ s b. put_same (λ j. j.pool) w.job t (at_job (w.job t) (Over d)) s refl; bound = λ s b. put_same (λ j. j.bound) w.job t (at_job (w.job t) (Over d)) s refl; target = λ c b. refl; side = λ c b. refl; ended = λ p y. y; spent = λ c b y. y; given = λ p y. y }
+    later a = record {
+      jobs = omega arith;
+      calls = omega arith;
+      over = final_over w (ended_world w q d t k fs) a;
+      shape = refl;
+      gone = final_spent w (ended_world w q d t k fs) a;
+      left = λ s z. final_left ((w.job s).at) (((ended_world w q d t k fs).job s).at) (a.final s) z;
+      kind = λ s b. put_same (λ j. j.kind) w.job t (at_job (w.job t) (Over d)) s refl;
+      pool = λ s b. put_same (λ j. j.pool) w.job t (at_job (w.job t) (Over d)) s refl;
+      bound = λ s b. put_same (λ j. j.bound) w.job t (at_job (w.job t) (Over d)) s refl;
+      target = λ c b. refl;
+      side =
+          λ c b. refl;
+      ended = λ p y. y;
+      spent = λ c b y. y;
+      given = λ p y. y;
+    }
 
     detached : (p : ℕ) → k ≡ Detached p → (w.job t).pool ≡ p
     detached p e = let s : SaysRun w t (Detached p) = subst (λ k. SaysRun w t k) e (old.top) in h.pools t (s.0) p (s.1)
@@ -68,7 +85,8 @@ end_calls w q d (Run t k) fs z h = λ a. done a
     done a = record {
       jobs = jobs_advance w (ended_world w q d t k fs) (h.jobs) a;
       says = all_says w (ended_world w q d t k fs) (later a) q (after_close t k d fs)
-          (says_closed w (ended_world w q d t k fs) q d t k fs h (later a) (λ c. refl) now (put_same (λ j. j.pool) w.job t (at_job (w.job t) (Over d)) t refl) (later_says w (ended_world w q d t k fs) (later a) q (Run t k) (old.top)) (old.top) detached (later_all w (ended_world w q d t k fs) (later a) q fs (old.below)) (old.links)) (h.says);
+          (says_closed w (ended_world w q d t k fs) q d t k fs h (later a) (λ c. refl) now (put_same (λ j. j.pool) w.job t (at_job (w.job t) (Over d)) t refl) (later_says w (ended_world w q d t k fs) (later a) q (Run t k) (old.top)) (old.top) detached
+          (later_all w (ended_world w q d t k fs) (later a) q fs (old.below)) (old.links)) (h.says);
       ties = λ s b c o y. h.ties s b c o (sym (put_same (λ j. j.kind) w.job t (at_job (w.job t) (Over d)) s refl) ∙ y);
       pools = λ s b p y. put_same (λ j. j.pool) w.job t (at_job (w.job t) (Over d)) s refl ∙ h.pools s b p (sym (put_same (λ j. j.kind) w.job t (at_job (w.job t) (Over d)) s refl) ∙ y);
       cells = λ c e y. later_as w (ended_world w q d t k fs) (later a) ((w.call c).job) c e (h.cells c e y);
@@ -119,10 +137,16 @@ below_or : (t n : ℕ) → (t == n) ≡ false → t + 1 ≤ n + 1 → t + 1 ≤ 
 below_or t n e b = elim (either (ltb t n)) [ inl y ↦ (let z : t < n = ltb-true t n y in omega (arith, z)) | inr y ↦ absurd (let z : n ≤ t = ltb-false t n y in let k : t ≡ n = omega (arith, z, b) in let g : (t == n) ≡ true = eq-eqb t n k in cc) ]
 
 -- a call that makes one job and waits for nobody
-plain_makes : (w : World) (q : Party) (n : Plan) (p : ℕ) (k : JobKind) → ((c : ℕ) (o : Party) → k ≡ Stored c o → ⊥) → ((r : ℕ) → k ≡ Detached r → p ≡ r) → ((c : ℕ) (o : Party) → k ≡ Scoped c o → Tied w c o) → ((c : ℕ) (o : Party) → k ≡ PieceOf c o → ⊥) → ((u : World) → Later w u → MadeAs u w.jobs p k → SaysPlan u q n) → CallsHold w → Advance w (calling w q n w.call (put w.job w.jobs (new_job q p k)) w.calls (w.jobs + 1)) → Makes w (calling w q n w.call (put w.job w.jobs (new_job q p k)) w.calls (w.jobs + 1)) q n
+plain_makes : (w : World) (q : Party) (n : Plan) (p : ℕ) (k : JobKind) → ((c : ℕ) (o : Party) → k ≡ Stored c o → ⊥) → ((r : ℕ) → k ≡ Detached r → p ≡ r) → ((c : ℕ) (o : Party) → k ≡ Scoped c o → Tied w c o) → ((c : ℕ) (o : Party) → k ≡ PieceOf c o → ⊥)
+    → ((u : World) → Later w u → MadeAs u w.jobs p k → SaysPlan u q n) → CallsHold w → Advance w (calling w q n w.call (put w.job w.jobs (new_job q p k)) w.calls (w.jobs + 1)) → Makes w (calling w q n w.call (put w.job w.jobs (new_job q p k)) w.calls (w.jobs + 1)) q n
 plain_makes w q n p k ns dp en pn sp h a = record {
   later = later;
-  says = sp (calling w q n w.call (put w.job w.jobs (new_job q p k)) w.calls (w.jobs + 1)) later (record { made = omega arith; kind = ap (λ j. j.kind) (put_new w.job w.jobs (new_job q p k)); pool = ap (λ j. j.pool) (put_new w.job w.jobs (new_job q p k)); bound = ap (λ j. j.bound) (put_new w.job w.jobs (new_job q p k)) });
+  says = sp (calling w q n w.call (put w.job w.jobs (new_job q p k)) w.calls (w.jobs + 1)) later (record {
+    made = omega arith;
+    kind = ap (λ j. j.kind) (put_new w.job w.jobs (new_job q p k));
+    pool = ap (λ j. j.pool) (put_new w.job w.jobs (new_job q p k));
+    bound = ap (λ j. j.bound) (put_new w.job w.jobs (new_job q p k));
+  });
   ties = λ t b c o z. ties t b c o (t == w.jobs) refl z;
   pools = λ t b r z. pools t b r (t == w.jobs) refl z;
   cells = λ c e z. later_as w (calling w q n w.call (put w.job w.jobs (new_job q p k)) w.calls (w.jobs + 1)) later ((w.call c).job) c e (h.cells c e z);
@@ -132,7 +156,23 @@ plain_makes w q n p k ns dp en pn sp h a = record {
 }
   where
     later : Later w (calling w q n w.call (put w.job w.jobs (new_job q p k)) w.calls (w.jobs + 1))
-    later = record { jobs = omega arith; calls = omega arith; over = final_over w (calling w q n w.call (put w.job w.jobs (new_job q p k)) w.calls (w.jobs + 1)) a; shape = refl; gone = final_spent w (calling w q n w.call (put w.job w.jobs (new_job q p k)) w.calls (w.jobs + 1)) a; left = λ t z. final_left ((w.job t).at) ((((calling w q n w.call (put w.job w.jobs (new_job q p k)) w.calls (w.jobs + 1))).job t).at) (a.final t) z; kind = λ t b. ap (λ j. j.kind) (put_old w.job w.jobs (new_job q p k) t (below_new t w.jobs b)); pool = λ t b. ap (λ j. j.pool) (put_old w.job w.jobs (new_job q p k) t (below_new t w.jobs b)); bound = λ t b. ap (λ j. j.bound) (put_old w.job w.jobs (new_job q p k) t (below_new t w.jobs b)); target = λ c b. refl; side = λ c b. refl; ended = λ r z. z; spent = λ c b z. z; given = λ r z. z }
+    later = record {
+      jobs = omega arith;
+      calls = omega arith;
+      over = final_over w (calling w q n w.call (put w.job w.jobs (new_job q p k)) w.calls (w.jobs + 1)) a;
+      shape = refl;
+      gone = final_spent w (calling w q n w.call (put w.job w.jobs (new_job q p k)) w.calls (w.jobs + 1)) a;
+      left = λ t z. final_left ((w.job t).at) ((((calling w q n w.call (put w.job w.jobs (new_job q p k)) w.calls (w.jobs + 1))).job t).at) (a.final t) z;
+      kind = λ t b. ap (λ j. j.kind) (put_old w.job w.jobs (new_job q p k) t (below_new t w.jobs b));
+      pool =
+          λ t b. ap (λ j. j.pool) (put_old w.job w.jobs (new_job q p k) t (below_new t w.jobs b));
+      bound = λ t b. ap (λ j. j.bound) (put_old w.job w.jobs (new_job q p k) t (below_new t w.jobs b));
+      target = λ c b. refl;
+      side = λ c b. refl;
+      ended = λ r z. z;
+      spent = λ c b z. z;
+      given = λ r z. z;
+    }
 
     ties : (t : ℕ) → t + 1 ≤ w.jobs + 1 → (c : ℕ) (o : Party) (z : Bool) → (t == w.jobs) ≡ z → (if z then new_job q p k else w.job t).kind ≡ Stored c o → (c + 1 ≤ w.calls) × ((w.call c).job ≡ t)
     ties t b c o true e y = absurd (ns c o y)
@@ -166,10 +206,15 @@ new_latches w u n m h l c = by (c == w.calls)
     by false y = later_latch w u l 0 (OfCall c) (h.latches c y)
 
 -- a call that makes one job and waits for it
-send_makes : (w : World) (q : Party) (p : ℕ) (n : Plan) (d : JobKind) → call_kind d ≡ Some (w.calls, q) → ((c : ℕ) (o : Party) → d ≡ Stored c o → w.calls ≡ c) → is_detached d ≡ false → is_scoped d ≡ false → ((u : World) → Opened u q (record { number = w.calls; pool = p; job = w.jobs }) × ((u.call w.calls).first ≡ None) → SaysPlan u q n) → CallsHold w → Advance w (calling w q n (put w.call w.calls (new_call None w.jobs)) (put w.job w.jobs (new_job q p d)) (w.calls + 1) (w.jobs + 1)) → Makes w (calling w q n (put w.call w.calls (new_call None w.jobs)) (put w.job w.jobs (new_job q p d)) (w.calls + 1) (w.jobs + 1)) q n
+send_makes : (w : World) (q : Party) (p : ℕ) (n : Plan) (d : JobKind) → call_kind d ≡ Some (w.calls, q) → ((c : ℕ) (o : Party) → d ≡ Stored c o → w.calls ≡ c) → is_detached d ≡ false → is_scoped d ≡ false
+    → ((u : World) → Opened u q (record { number = w.calls; pool = p; job = w.jobs }) × ((u.call w.calls).first ≡ None) → SaysPlan u q n) → CallsHold w → Advance w (calling w q n (put w.call w.calls (new_call None w.jobs)) (put w.job w.jobs (new_job q p d)) (w.calls + 1) (w.jobs + 1))
+    → Makes w (calling w q n (put w.call w.calls (new_call None w.jobs)) (put w.job w.jobs (new_job q p d)) (w.calls + 1) (w.jobs + 1)) q n
 send_makes w q p n d dk dt dd ds sp h a = record {
   later = later;
-  says = sp (calling w q n (put w.call w.calls (new_call None w.jobs)) (put w.job w.jobs (new_job q p d)) (w.calls + 1) (w.jobs + 1)) (record { number = omega arith; made = omega arith; target = ap (λ c. c.job) (put_new w.call w.calls (new_call None w.jobs)); kind = ap (λ j. call_kind j.kind) (put_new w.job w.jobs (new_job q p d)) ∙ dk; pool = ap (λ j. j.pool) (put_new w.job w.jobs (new_job q p d)) }, ap (λ c. c.first) (put_new w.call w.calls (new_call None w.jobs)));
+  says = sp (calling w q n (put w.call w.calls (new_call None w.jobs)) (put w.job w.jobs (new_job q p d)) (w.calls + 1) (w.jobs + 1)) (
+    record { number = omega arith; made = omega arith; target = ap (λ c. c.job) (put_new w.call w.calls (new_call None w.jobs)); kind = ap (λ j. call_kind j.kind) (put_new w.job w.jobs (new_job q p d)) ∙ dk; pool = ap (λ j. j.pool) (put_new w.job w.jobs (new_job q p d)) },
+    ap (λ c. c.first) (put_new w.call w.calls (new_call None w.jobs)),
+  );
   ties = λ t b c o z. ties t b c o (t == w.jobs) refl z;
   pools = λ t b r z. pools t b r (t == w.jobs) refl z;
   cells = new_cells w (calling w q n (put w.call w.calls (new_call None w.jobs)) (put w.job w.jobs (new_job q p d)) (w.calls + 1) (w.jobs + 1)) (new_call None w.jobs) refl h later;
@@ -179,11 +224,31 @@ send_makes w q p n d dk dt dd ds sp h a = record {
 }
   where
     later : Later w (calling w q n (put w.call w.calls (new_call None w.jobs)) (put w.job w.jobs (new_job q p d)) (w.calls + 1) (w.jobs + 1))
-    later = record { jobs = omega arith; calls = omega arith; over = final_over w (calling w q n (put w.call w.calls (new_call None w.jobs)) (put w.job w.jobs (new_job q p d)) (w.calls + 1) (w.jobs + 1)) a; shape = refl; gone = final_spent w (calling w q n (put w.call w.calls (new_call None w.jobs)) (put w.job w.jobs (new_job q p d)) (w.calls + 1) (w.jobs + 1)) a; left = λ t z. final_left ((w.job t).at) ((((calling w q n (put w.call w.calls (new_call None w.jobs)) (put w.job w.jobs (new_job q p d)) (w.calls + 1) (w.jobs + 1))).job t).at) (a.final t) z; kind = λ t b. ap (λ j. j.kind) (put_old w.job w.jobs (new_job q p d) t (below_new t w.jobs b)); pool = λ t b. ap (λ j. j.pool) (put_old w.job w.jobs (new_job q p d) t (below_new t w.jobs b)); bound = λ t b. ap (λ j. j.bound) (put_old w.job w.jobs (new_job q p d) t (below_new t w.jobs b)); target = λ c b. ap (λ i. i.job) (put_old w.call w.calls (new_call None w.jobs) c (below_new c w.calls b)); side = λ c b. ap (λ i. i.first) (put_old w.call w.calls (new_call None w.jobs) c (below_new c w.calls b)); ended = λ r z. z; spent = λ c b z. ap (λ i. i.count) (put_old w.call w.calls (new_call None w.jobs) c (below_new c w.calls b)) ∙ z; given = λ r z. z }
+    later = record {
+      jobs = omega arith;
+      calls = omega arith;
+      over = final_over w (calling w q n (put w.call w.calls (new_call None w.jobs)) (put w.job w.jobs (new_job q p d)) (w.calls + 1) (w.jobs + 1)) a;
+      shape = refl;
+      gone = final_spent w (calling w q n (put w.call w.calls (new_call None w.jobs)) (put w.job w.jobs (new_job q p d)) (w.calls + 1) (w.jobs + 1)) a;
+      left =
+          λ t z. final_left ((w.job t).at) ((((calling w q n (put w.call w.calls (new_call None w.jobs)) (put w.job w.jobs (new_job q p d)) (w.calls + 1) (w.jobs + 1))).job t).at) (a.final t) z;
+      kind = λ t b. ap (λ j. j.kind) (put_old w.job w.jobs (new_job q p d) t (below_new t w.jobs b));
+      pool =
+          λ t b. ap (λ j. j.pool) (put_old w.job w.jobs (new_job q p d) t (below_new t w.jobs b));
+      bound = λ t b. ap (λ j. j.bound) (put_old w.job w.jobs (new_job q p d) t (below_new t w.jobs b));
+      target =
+          λ c b. ap (λ i. i.job) (put_old w.call w.calls (new_call None w.jobs) c (below_new c w.calls b));
+      side = λ c b. ap (λ i. i.first) (put_old w.call w.calls (new_call None w.jobs) c (below_new c w.calls b));
+      ended = λ r z. z;
+      spent =
+          λ c b z. ap (λ i. i.count) (put_old w.call w.calls (new_call None w.jobs) c (below_new c w.calls b)) ∙ z;
+      given = λ r z. z;
+    }
 
     ties : (t : ℕ) → t + 1 ≤ w.jobs + 1 → (c : ℕ) (o : Party) (z : Bool) → (t == w.jobs) ≡ z → (if z then new_job q p d else w.job t).kind ≡ Stored c o → (c + 1 ≤ w.calls + 1) × ((put w.call w.calls (new_call None w.jobs) c).job ≡ t)
     ties t b c o true e y = let k : w.calls ≡ c = dt c o y in ((let g : c + 1 ≤ w.calls + 1 = omega (arith, k) in g), ap (λ n. (put w.call w.calls (new_call None w.jobs) n).job) (sym k) ∙ ap (λ i. i.job) (put_new w.call w.calls (new_call None w.jobs)) ∙ sym (eqb-true t w.jobs e))
-    ties t b c o false e y = let g : (c + 1 ≤ w.calls) × ((w.call c).job ≡ t) = h.ties t (below_or t w.jobs e b) c o y in let k : c + 1 ≤ w.calls = g.0 in ((let m : c + 1 ≤ w.calls + 1 = omega (arith, k) in m), ap (λ i. i.job) (put_old w.call w.calls (new_call None w.jobs) c (below_new c w.calls k)) ∙ g.1)
+    ties t b c o false e y = let g : (c + 1 ≤ w.calls) × ((w.call c).job ≡ t) = h.ties t (below_or t w.jobs e b) c o y in let k : c + 1 ≤ w.calls = g.0 in
+        ((let m : c + 1 ≤ w.calls + 1 = omega (arith, k) in m), ap (λ i. i.job) (put_old w.call w.calls (new_call None w.jobs) c (below_new c w.calls k)) ∙ g.1)
 
     entries : (t : ℕ) → t + 1 ≤ w.jobs + 1 → (c : ℕ) (o : Party) (z : Bool) → (t == w.jobs) ≡ z → (if z then new_job q p d else w.job t).kind ≡ Scoped c o → Tied w c o
     entries t b c o true e y = absurd (let f : true ≡ false = sym (ap is_scoped y) ∙ ds in cc)
@@ -210,7 +275,11 @@ after_fork w p i = record w {
 fork_makes : (w : World) (p i : ℕ) → CallsHold w → Advance w (after_fork w p i) → Makes w (after_fork w p i) (Worker p i) (Fork (record { number = w.calls; pool = p; job = w.jobs + 1 }) w.jobs)
 fork_makes w p i h a = record {
   later = later;
-  says = (record { number = omega arith; made = omega arith; target = ap (λ c. c.job) (put_new w.call w.calls (new_call (Some w.jobs) (w.jobs + 1))); kind = ap (λ j. call_kind j.kind) second; pool = ap (λ j. j.pool) second }, ap (λ c. c.first) (put_new w.call w.calls (new_call (Some w.jobs) (w.jobs + 1))), record { made = omega arith; kind = ap (λ j. is_detached (j.kind)) first });
+  says = (
+    record { number = omega arith; made = omega arith; target = ap (λ c. c.job) (put_new w.call w.calls (new_call (Some w.jobs) (w.jobs + 1))); kind = ap (λ j. call_kind j.kind) second; pool = ap (λ j. j.pool) second },
+    ap (λ c. c.first) (put_new w.call w.calls (new_call (Some w.jobs) (w.jobs + 1))),
+    record { made = omega arith; kind = ap (λ j. is_detached (j.kind)) first },
+  );
   ties = λ t b c o z. ties t b c o (t == (w.jobs + 1)) (t == w.jobs) refl refl z;
   pools = λ t b r z. pools t b r (t == (w.jobs + 1)) (t == w.jobs) refl refl z;
   cells = new_cells w (after_fork w p i) (new_call (Some w.jobs) (w.jobs + 1)) refl h later;
@@ -229,12 +298,34 @@ fork_makes w p i h a = record {
     old t b = put_old (put w.job w.jobs (new_job (Worker p i) p Direct)) (w.jobs + 1) (new_job (Worker p i) p (Stored w.calls (Worker p i))) t (below_new t (w.jobs + 1) (omega (arith, b))) ∙ put_old w.job w.jobs (new_job (Worker p i) p Direct) t (below_new t w.jobs b)
 
     later : Later w (after_fork w p i)
-    later = record { jobs = omega arith; calls = omega arith; over = final_over w (after_fork w p i) a; shape = refl; gone = final_spent w (after_fork w p i) a; left = λ t z. final_left ((w.job t).at) ((((after_fork w p i)).job t).at) (a.final t) z; kind = λ t b. ap (λ j. j.kind) (old t b); pool = λ t b. ap (λ j. j.pool) (old t b); bound = λ t b. ap (λ j. j.bound) (old t b); target = λ c b. ap (λ i. i.job) (put_old w.call w.calls (new_call (Some w.jobs) (w.jobs + 1)) c (below_new c w.calls b)); side = λ c b. ap (λ i. i.first) (put_old w.call w.calls (new_call (Some w.jobs) (w.jobs + 1)) c (below_new c w.calls b)); ended = λ r z. z; spent = λ c b z. ap (λ i. i.count) (put_old w.call w.calls (new_call (Some w.jobs) (w.jobs + 1)) c (below_new c w.calls b)) ∙ z; given = λ r z. z }
+    later = record {
+      jobs = omega arith;
+      calls = omega arith;
+      over = final_over w (after_fork w p i) a;
+      shape = refl;
+      gone = final_spent w (after_fork w p i) a;
+      left = λ t z. final_left ((w.job t).at) ((((after_fork w p i)).job t).at) (a.final t) z;
+      kind = λ t b. ap (λ j. j.kind) (old t b);
+      pool = λ t b. ap (λ j. j.pool) (old t b);
+      bound = λ t b. ap (λ j. j.bound) (old t b);
+      target = λ c b. ap (λ i. i.job) (put_old w.call w.calls (new_call (Some w.jobs) (w.jobs + 1)) c (below_new c w.calls b));
+      side =
+          λ c b. ap (λ i. i.first) (put_old w.call w.calls (new_call (Some w.jobs) (w.jobs + 1)) c (below_new c w.calls b));
+      ended = λ r z. z;
+      spent = λ c b z. ap (λ i. i.count) (put_old w.call w.calls (new_call (Some w.jobs) (w.jobs + 1)) c (below_new c w.calls b)) ∙ z;
+      given = λ r z. z;
+    }
 
-    ties : (t : ℕ) → t + 1 ≤ w.jobs + 2 → (c : ℕ) (o : Party) (z v : Bool) → (t == (w.jobs + 1)) ≡ z → (t == w.jobs) ≡ v → (if z then new_job (Worker p i) p (Stored w.calls (Worker p i)) else (if v then new_job (Worker p i) p Direct else w.job t)).kind ≡ Stored c o → (c + 1 ≤ w.calls + 1) × ((put w.call w.calls (new_call (Some w.jobs) (w.jobs + 1)) c).job ≡ t)
-    ties t b c o true v e d y = let k : w.calls ≡ c = cc in ((let g : c + 1 ≤ w.calls + 1 = omega (arith, k) in g), ap (λ n. (put w.call w.calls (new_call (Some w.jobs) (w.jobs + 1)) n).job) (sym k) ∙ ap (λ i. i.job) (put_new w.call w.calls (new_call (Some w.jobs) (w.jobs + 1))) ∙ sym (eqb-true t (w.jobs + 1) e))
+    ties : (t : ℕ) → t + 1 ≤ w.jobs + 2 → (c : ℕ) (o : Party) (z v : Bool) → (t == (w.jobs + 1)) ≡ z → (t == w.jobs) ≡ v → (if z then new_job (Worker p i) p (Stored w.calls (Worker p i)) else (if v then new_job (Worker p i) p Direct else w.job t)).kind ≡ Stored c o
+        → (c + 1 ≤ w.calls + 1) × ((put w.call w.calls (new_call (Some w.jobs) (w.jobs + 1)) c).job ≡ t)
+    ties t b c o true v e d y = let k : w.calls ≡ c = cc in (
+      (let g : c + 1 ≤ w.calls + 1 = omega (arith, k) in g),
+      ap (λ n. (put w.call w.calls (new_call (Some w.jobs) (w.jobs + 1)) n).job) (sym k) ∙ ap (λ i. i.job) (put_new w.call w.calls (new_call (Some w.jobs) (w.jobs + 1)))
+          ∙ sym (eqb-true t (w.jobs + 1) e),
+    )
     ties t b c o false true e d y = cc
-    ties t b c o false false e d y = let g : (c + 1 ≤ w.calls) × ((w.call c).job ≡ t) = h.ties t (below_or t w.jobs d (below_or t (w.jobs + 1) e (omega (arith, b)))) c o y in let k : c + 1 ≤ w.calls = g.0 in ((let m : c + 1 ≤ w.calls + 1 = omega (arith, k) in m), ap (λ i. i.job) (put_old w.call w.calls (new_call (Some w.jobs) (w.jobs + 1)) c (below_new c w.calls k)) ∙ g.1)
+    ties t b c o false false e d y = let g : (c + 1 ≤ w.calls) × ((w.call c).job ≡ t) = h.ties t (below_or t w.jobs d (below_or t (w.jobs + 1) e (omega (arith, b)))) c o y in let k : c + 1 ≤ w.calls = g.0 in
+        ((let m : c + 1 ≤ w.calls + 1 = omega (arith, k) in m), ap (λ i. i.job) (put_old w.call w.calls (new_call (Some w.jobs) (w.jobs + 1)) c (below_new c w.calls k)) ∙ g.1)
 
     entries : (t : ℕ) → t + 1 ≤ w.jobs + 2 → (c : ℕ) (o : Party) (z v : Bool) → (t == (w.jobs + 1)) ≡ z → (t == w.jobs) ≡ v → (if z then new_job (Worker p i) p (Stored w.calls (Worker p i)) else (if v then new_job (Worker p i) p Direct else w.job t)).kind ≡ Scoped c o → Tied w c o
     entries t b c o true v e d y = absurd (cc)
@@ -246,7 +337,8 @@ fork_makes w p i h a = record {
     parts t b c o false true e d y = absurd (cc)
     parts t b c o false false e d y = h.parts t (below_or t w.jobs d (below_or t (w.jobs + 1) e (omega (arith, b)))) c o y
 
-    pools : (t : ℕ) → t + 1 ≤ w.jobs + 2 → (r : ℕ) (z v : Bool) → (t == (w.jobs + 1)) ≡ z → (t == w.jobs) ≡ v → (if z then new_job (Worker p i) p (Stored w.calls (Worker p i)) else (if v then new_job (Worker p i) p Direct else w.job t)).kind ≡ Detached r → (if z then new_job (Worker p i) p (Stored w.calls (Worker p i)) else (if v then new_job (Worker p i) p Direct else w.job t)).pool ≡ r
+    pools : (t : ℕ) → t + 1 ≤ w.jobs + 2 → (r : ℕ) (z v : Bool) → (t == (w.jobs + 1)) ≡ z → (t == w.jobs) ≡ v → (if z then new_job (Worker p i) p (Stored w.calls (Worker p i)) else (if v then new_job (Worker p i) p Direct else w.job t)).kind ≡ Detached r
+        → (if z then new_job (Worker p i) p (Stored w.calls (Worker p i)) else (if v then new_job (Worker p i) p Direct else w.job t)).pool ≡ r
     pools t b r true v e d y = cc
     pools t b r false true e d y = cc
     pools t b r false false e d y = h.pools t (below_or t w.jobs d (below_or t (w.jobs + 1) e (omega (arith, b)))) r y
@@ -310,7 +402,22 @@ deal_calls w q k p known f h a = record {
     same t b = piece_old c (λ i j. new_piece q k p i) w.job t (piece_out c t (omega (arith, b)))
 
     later : Later w u
-    later = record { jobs = omega arith; calls = omega arith; over = final_over w u a; shape = refl; gone = final_spent w u a; left = λ t z. final_left ((w.job t).at) ((u.job t).at) (a.final t) z; kind = λ t b. ap (λ j. j.kind) (same t b); pool = λ t b. ap (λ j. j.pool) (same t b); bound = λ t b. ap (λ j. j.bound) (same t b); target = λ c b. refl; side = λ c b. refl; ended = λ r z. z; spent = λ c b z. z; given = λ r z. z }
+    later = record {
+      jobs = omega arith;
+      calls = omega arith;
+      over = final_over w u a;
+      shape = refl;
+      gone = final_spent w u a;
+      left = λ t z. final_left ((w.job t).at) ((u.job t).at) (a.final t) z;
+      kind = λ t b. ap (λ j. j.kind) (same t b);
+      pool = λ t b. ap (λ j. j.pool) (same t b);
+      bound = λ t b. ap (λ j. j.bound) (same t b);
+      target = λ c b. refl;
+      side = λ c b. refl;
+      ended = λ r z. z;
+      spent = λ c b z. z;
+      given = λ r z. z;
+    }
 
     old : (t : ℕ) → t + 1 ≤ w.jobs + c.workers → is_piece c t ≡ false → t + 1 ≤ w.jobs
     old t b e = elim (either (ltb t w.jobs)) [ inl y ↦ (let z : t < w.jobs = ltb-true t w.jobs y in omega (arith, z)) | inr y ↦ absurd (let z : w.jobs ≤ t = ltb-false t w.jobs y in let v : is_piece c t ≡ true = piece_in c t z (omega (arith, b)) in cc) ]
@@ -338,7 +445,8 @@ into_cast_calls : (w : World) (q : Party) (n : ℕ) → CallsHold w → IfSome (
 into_cast_calls w q n h = into_cast_cases (λ u. Advance w u → CallsHold u) w q n (λ z e free held a. deal_calls w q (OfScope z.call z.owner) z.pool (h.scopes n z e) free h a)
 
 -- a broadcast that waits makes its pieces and the number that stands for it
-gather_makes : (w : World) (q : Party) (p : ℕ) → CallsHold w → Advance w (after_gather w q p (w.stack q)) → Makes w (after_gather w q p (w.stack q)) q (Gather (record { call = record { number = w.calls; pool = p; job = w.jobs + (w.shape.pool p).workers }; pieces = record { count = OfCast w.calls q; pool = p; first = w.jobs; workers = (w.shape.pool p).workers } }))
+gather_makes : (w : World) (q : Party) (p : ℕ) → CallsHold w → Advance w (after_gather w q p (w.stack q)) → Makes w (after_gather w q p (w.stack q)) q
+    (Gather (record { call = record { number = w.calls; pool = p; job = w.jobs + (w.shape.pool p).workers }; pieces = record { count = OfCast w.calls q; pool = p; first = w.jobs; workers = (w.shape.pool p).workers } }))
 gather_makes w q p h a = record {
   later = later;
   says = record {
@@ -391,7 +499,22 @@ gather_makes w q p h a = record {
     call i b = put_old w.call w.calls (new_gathering c.workers n) i (below_new i w.calls b)
 
     later : Later w u
-    later = record { jobs = omega arith; calls = omega arith; over = final_over w u a; shape = refl; gone = final_spent w u a; left = λ t z. final_left ((w.job t).at) ((u.job t).at) (a.final t) z; kind = λ t b. ap (λ j. j.kind) (same t b); pool = λ t b. ap (λ j. j.pool) (same t b); bound = λ t b. ap (λ j. j.bound) (same t b); target = λ i b. ap (λ v. v.job) (call i b); side = λ i b. ap (λ v. v.first) (call i b); ended = λ r z. z; spent = λ i b z. ap (λ v. v.count) (call i b) ∙ z; given = λ r z. z }
+    later = record {
+      jobs = omega arith;
+      calls = omega arith;
+      over = final_over w u a;
+      shape = refl;
+      gone = final_spent w u a;
+      left = λ t z. final_left ((w.job t).at) ((u.job t).at) (a.final t) z;
+      kind = λ t b. ap (λ j. j.kind) (same t b);
+      pool = λ t b. ap (λ j. j.pool) (same t b);
+      bound = λ t b. ap (λ j. j.bound) (same t b);
+      target = λ i b. ap (λ v. v.job) (call i b);
+      side = λ i b. ap (λ v. v.first) (call i b);
+      ended = λ r z. z;
+      spent = λ i b z. ap (λ v. v.count) (call i b) ∙ z;
+      given = λ r z. z;
+    }
 
     old : (t : ℕ) → t + 1 ≤ n + 1 → (t == n) ≡ false → is_piece c t ≡ false → t + 1 ≤ w.jobs
     old t b d e = elim (either (ltb t w.jobs)) [ inl y ↦ (let z : t < w.jobs = ltb-true t w.jobs y in omega (arith, z)) | inr y ↦ absurd (let z : w.jobs ≤ t = ltb-false t w.jobs y in let k : t + 1 ≤ n = below_or t n d b in let v : is_piece c t ≡ true = piece_in c t z (omega (arith, k)) in cc) ]
@@ -401,7 +524,8 @@ gather_makes w q p h a = record {
     ties t b i o false true d e k = absurd (cc)
     ties t b i o false false d e k = let g : (i + 1 ≤ w.calls) × ((w.call i).job ≡ t) = h.ties t (old t b d e) i o k in let m : i + 1 ≤ w.calls = g.0 in ((let v : i + 1 ≤ w.calls + 1 = omega (arith, m) in v), ap (λ v. v.job) (call i m) ∙ g.1)
 
-    pools : (t : ℕ) → t + 1 ≤ n + 1 → (r : ℕ) (y z : Bool) → (t == n) ≡ y → is_piece c t ≡ z → (if y then new_whole q p w.calls else (if z then new_piece q (OfCast w.calls q) p (t - c.first) else w.job t)).kind ≡ Detached r → (if y then new_whole q p w.calls else (if z then new_piece q (OfCast w.calls q) p (t - c.first) else w.job t)).pool ≡ r
+    pools : (t : ℕ) → t + 1 ≤ n + 1 → (r : ℕ) (y z : Bool) → (t == n) ≡ y → is_piece c t ≡ z → (if y then new_whole q p w.calls else (if z then new_piece q (OfCast w.calls q) p (t - c.first) else w.job t)).kind ≡ Detached r
+        → (if y then new_whole q p w.calls else (if z then new_piece q (OfCast w.calls q) p (t - c.first) else w.job t)).pool ≡ r
     pools t b r true z d e k = absurd (cc)
     pools t b r false true d e k = absurd (cc)
     pools t b r false false d e k = h.pools t (old t b d e) r k
@@ -418,7 +542,8 @@ gather_makes w q p h a = record {
           made = (let g : (u.call w.calls).job + 1 ≤ n + 1 = omega (arith, j) in g);
           kind = ap (λ v. (u.job v).kind) j ∙ ap (λ v. v.kind) whole;
           below = (let g : t + 1 ≤ (u.call w.calls).job = omega (arith, j, l) in g);
-          above = (let x : (w.shape.pool (u.job (u.call w.calls).job).pool).workers ≡ c.workers = ap (λ v. (w.shape.pool v).workers) (ap (λ v. (u.job v).pool) j ∙ ap (λ v. v.pool) whole) in let g : (u.call w.calls).job ≤ t + (w.shape.pool (u.job (u.call w.calls).job).pool).workers = omega (arith, j, m, x) in g);
+          above = (let x : (w.shape.pool (u.job (u.call w.calls).job).pool).workers ≡ c.workers = ap (λ v. (w.shape.pool v).workers) (ap (λ v. (u.job v).pool) j ∙ ap (λ v. v.pool) whole) in
+              let g : (u.call w.calls).job ≤ t + (w.shape.pool (u.job (u.call w.calls).job).pool).workers = omega (arith, j, m, x) in g);
           pool = ap (λ v. v.pool) (piece t e) ∙ sym (ap (λ v. (u.job v).pool) j ∙ ap (λ v. v.pool) whole);
         }
 
@@ -459,14 +584,30 @@ feed_calls w d p i known free h a = made_calls w q n w.call J w.calls (w.jobs + 
     token = put_new first (w.jobs + 1) (new_job q p (TokenOf i (count_book d)))
 
     later : Later w u
-    later = record { jobs = omega arith; calls = omega arith; over = final_over w u a; shape = refl; gone = final_spent w u a; left = λ t z. final_left ((w.job t).at) ((u.job t).at) (a.final t) z; kind = λ t b. ap (λ j. j.kind) (same t b); pool = λ t b. ap (λ j. j.pool) (same t b); bound = λ t b. ap (λ j. j.bound) (same t b); target = λ c b. refl; side = λ c b. refl; given = λ r e. e; spent = λ c b z. z; ended = λ r e. e }
+    later = record {
+      jobs = omega arith;
+      calls = omega arith;
+      over = final_over w u a;
+      shape = refl;
+      gone = final_spent w u a;
+      left = λ t z. final_left ((w.job t).at) ((u.job t).at) (a.final t) z;
+      kind = λ t b. ap (λ j. j.kind) (same t b);
+      pool = λ t b. ap (λ j. j.pool) (same t b);
+      bound = λ t b. ap (λ j. j.bound) (same t b);
+      target = λ c b. refl;
+      side = λ c b. refl;
+      given = λ r e. e;
+      spent = λ c b z. z;
+      ended = λ r e. e;
+    }
 
     ties : (t : ℕ) (c : ℕ) (o : Party) (y z : Bool) → (t == (w.jobs + 1)) ≡ y → (t == w.jobs) ≡ z → t + 1 ≤ w.jobs + 2 → (if y then new_job q p (TokenOf i (count_book d)) else (if z then new_job q p (count_kind d) else w.job t)).kind ≡ Stored c o → (c + 1 ≤ w.calls) × ((w.call c).job ≡ t)
     ties t c o true z e f b k = absurd (cc)
     ties t c o false true e f b k = absurd (no_tie c o d k)
     ties t c o false false e f b k = h.ties t (below_or t w.jobs f (below_or t (w.jobs + 1) e (omega (arith, b)))) c o k
 
-    pools : (t r : ℕ) (y z : Bool) → (t == (w.jobs + 1)) ≡ y → (t == w.jobs) ≡ z → t + 1 ≤ w.jobs + 2 → (if y then new_job q p (TokenOf i (count_book d)) else (if z then new_job q p (count_kind d) else w.job t)).kind ≡ Detached r → (if y then new_job q p (TokenOf i (count_book d)) else (if z then new_job q p (count_kind d) else w.job t)).pool ≡ r
+    pools : (t r : ℕ) (y z : Bool) → (t == (w.jobs + 1)) ≡ y → (t == w.jobs) ≡ z → t + 1 ≤ w.jobs + 2 → (if y then new_job q p (TokenOf i (count_book d)) else (if z then new_job q p (count_kind d) else w.job t)).kind ≡ Detached r
+        → (if y then new_job q p (TokenOf i (count_book d)) else (if z then new_job q p (count_kind d) else w.job t)).pool ≡ r
     pools t r true z e f b k = absurd (cc)
     pools t r false true e f b k = its_pool w p r d known k
     pools t r false false e f b k = h.pools t (below_or t w.jobs f (below_or t (w.jobs + 1) e (omega (arith, b)))) r k
@@ -484,7 +625,12 @@ feed_calls w d p i known free h a = made_calls w q n w.call J w.calls (w.jobs + 
     makes : Makes w u q n
     makes = record {
       later = later;
-      says = (record { made = omega arith; kind = ap (λ j. j.kind) mine; pool = ap (λ j. j.pool) mine; bound = ap (λ j. j.bound) mine }, record { made = omega arith; kind = ap (λ j. j.kind) token; pool = ap (λ j. j.pool) token; bound = ap (λ j. j.bound) token }, refl, later_known w u later d p known);
+      says = (
+        record { made = omega arith; kind = ap (λ j. j.kind) mine; pool = ap (λ j. j.pool) mine; bound = ap (λ j. j.bound) mine },
+        record { made = omega arith; kind = ap (λ j. j.kind) token; pool = ap (λ j. j.pool) token; bound = ap (λ j. j.bound) token },
+        refl,
+        later_known w u later d p known,
+      );
       ties = λ t b c o k. ties t c o (t == (w.jobs + 1)) (t == w.jobs) refl refl b k;
       pools = λ t b r k. pools t r (t == (w.jobs + 1)) (t == w.jobs) refl refl b k;
       cells = λ c e z. later_as w u later ((w.call c).job) c e (h.cells c e z);
@@ -498,7 +644,8 @@ fifo_calls w q p h = fifo_cases (λ u. Advance w u → CallsHold u) w q p (spawn
 
 sent_calls : (w : World) (q : Party) (p : ℕ) (b : Bool) → is_free (w.stack q).top ≡ true → CallsHold w → Advance w (after_send w q p (w.stack q) b) → CallsHold (after_send w q p (w.stack q) b)
 sent_calls w q p true f h a = made_calls w q (Here p w.jobs) w.call (put w.job w.jobs (new_job q p Direct)) w.calls (w.jobs + 1) f h (plain_makes w q (Here p w.jobs) p Direct (λ c o z. cc) (λ r z. cc) (λ c o z. absurd (cc)) (λ c o z. absurd (cc)) (λ u l s. s) h a) a
-sent_calls w q p false f h a = made_calls w q (Send (record { number = w.calls; pool = p; job = w.jobs })) (put w.call w.calls (new_call None w.jobs)) (put w.job w.jobs (new_job q p (Stored w.calls q))) (w.calls + 1) (w.jobs + 1) f h (send_makes w q p (Send (record { number = w.calls; pool = p; job = w.jobs })) (Stored w.calls q) refl (λ c o z. cc) refl refl (λ u s. s) h a) a
+sent_calls w q p false f h a = made_calls w q (Send (record { number = w.calls; pool = p; job = w.jobs })) (put w.call w.calls (new_call None w.jobs)) (put w.job w.jobs (new_job q p (Stored w.calls q))) (w.calls + 1) (w.jobs + 1) f h
+    (send_makes w q p (Send (record { number = w.calls; pool = p; job = w.jobs })) (Stored w.calls q) refl (λ c o z. cc) refl refl (λ u s. s) h a) a
 
 install_calls : (w : World) (q : Party) (p : ℕ) → CallsHold w → IfSome (after_install w q p (w.stack q)) (λ u. Advance w u → CallsHold u)
 install_calls w q p h = if_cond (λ u. Advance w u → CallsHold u) (is_free ((w.stack q).top) && is_pool w.shape p) _ (λ f a. sent_calls w q p (is_member q p) ((and_parts (is_free ((w.stack q).top)) (is_pool w.shape p) f).0) h a)
@@ -524,7 +671,9 @@ rescoped_calls u l b h = record {
 
 -- a scope is opened: its call is as one that waits for its body
 scope_calls : (w : World) (q : Party) (p : ℕ) → CallsHold w → IfSome (after_scope w q p (w.stack q)) (λ u. Advance w u → CallsHold u)
-scope_calls w q p h = if_cond (λ u. Advance w u → CallsHold u) (is_free ((w.stack q).top) && is_pool w.shape p) _ (λ f a. rescoped_calls v l (more (plain a)) (made_calls w q n (put w.call w.calls (new_call None w.jobs)) (put w.job w.jobs (new_job q p (BodyOf w.calls q))) (w.calls + 1) (w.jobs + 1) ((and_parts (is_free ((w.stack q).top)) (is_pool w.shape p) f).0) h (send_makes w q p n (BodyOf w.calls q) refl (λ c o z. absurd (cc)) refl refl (λ u s. s) h (plain a)) (plain a)))
+scope_calls w q p h = if_cond (λ u. Advance w u → CallsHold u) (is_free ((w.stack q).top) && is_pool w.shape p) _
+    (λ f a. rescoped_calls v l (more (plain a)) (made_calls w q n (put w.call w.calls (new_call None w.jobs)) (put w.job w.jobs (new_job q p (BodyOf w.calls q))) (w.calls + 1) (w.jobs + 1) ((and_parts (is_free ((w.stack q).top)) (is_pool w.shape p) f).0) h
+    (send_makes w q p n (BodyOf w.calls q) refl (λ c o z. absurd (cc)) refl refl (λ u s. s) h (plain a)) (plain a)))
   where
     n : Plan
     n = Open (record { number = w.calls; pool = p; job = w.jobs })
@@ -542,7 +691,8 @@ scope_calls w q p h = if_cond (λ u. Advance w u → CallsHold u) (is_free ((w.s
     plain a = record { feeds = a.feeds; placed = a.placed; fit = a.fit; final = a.final; unmade = a.unmade; known = a.known }
 
     mine : Tied v w.calls q
-    mine = let j : (v.call w.calls).job ≡ w.jobs = ap (λ i. i.job) (put_new w.call w.calls (new_call None w.jobs)) in record { number = omega arith; made = (let g : (v.call w.calls).job + 1 ≤ w.jobs + 1 = omega (arith, j) in g); kind = ap (λ t. (v.job t).kind) j ∙ ap (λ i. i.kind) (put_new w.job w.jobs (new_job q p (BodyOf w.calls q))) }
+    mine = let j : (v.call w.calls).job ≡ w.jobs = ap (λ i. i.job) (put_new w.call w.calls (new_call None w.jobs)) in
+        record { number = omega arith; made = (let g : (v.call w.calls).job + 1 ≤ w.jobs + 1 = omega (arith, j) in g); kind = ap (λ t. (v.job t).kind) j ∙ ap (λ i. i.kind) (put_new w.job w.jobs (new_job q p (BodyOf w.calls q))) }
 
     later : Advance w v → Later w v
     later a = (send_makes w q p n (BodyOf w.calls q) refl (λ c o z. absurd (cc)) refl refl (λ u s. s) h a).later
@@ -564,7 +714,9 @@ into_fifo_calls w q n h = into_fifo_cases (λ u. Advance w u → CallsHold u) w 
 
 join_calls : (w : World) (q : Party) → CallsHold w → IfSome (after_join w q (w.stack q)) (λ u. Advance w u → CallsHold u)
 join_calls w (Caller n) h = tt
-join_calls w (Worker p i) h = if_cond (λ u. Advance w u → CallsHold u) (is_free ((w.stack (Worker p i)).top)) _ (λ f a. made_calls w (Worker p i) (Fork (record { number = w.calls; pool = p; job = w.jobs + 1 }) w.jobs) (put w.call w.calls (new_call (Some w.jobs) (w.jobs + 1))) (put (put w.job w.jobs (new_job (Worker p i) p Direct)) (w.jobs + 1) (new_job (Worker p i) p (Stored w.calls (Worker p i)))) (w.calls + 1) (w.jobs + 2) f h (fork_makes w p i h a) a)
+join_calls w (Worker p i) h = if_cond (λ u. Advance w u → CallsHold u) (is_free ((w.stack (Worker p i)).top)) _
+    (λ f a. made_calls w (Worker p i) (Fork (record { number = w.calls; pool = p; job = w.jobs + 1 }) w.jobs) (put w.call w.calls (new_call (Some w.jobs) (w.jobs + 1))) (put (put w.job w.jobs (new_job (Worker p i) p Direct)) (w.jobs + 1) (new_job (Worker p i) p (Stored w.calls (Worker p i))))
+    (w.calls + 1) (w.jobs + 2) f h (fork_makes w p i h a) a)
 
 -- each step keeps what the places, cells and latches say
 pub step_calls : (w : World) (e : Event) → CallsHold w → IfSome (step w e) CallsHold
@@ -601,7 +753,19 @@ first_says h (Worker p i) = at (nat_lt i (h.pool p).workers) ((h.pool p).callers
     at false z = record { top = tt; below = tt; links = tt }
 
 pub first_calls : (h : Shape) → CallsHold (start h)
-first_calls h = record { jobs = first_jobs h; says = first_says h; ties = λ t b c o z. cc; pools = λ t b p z. cc; cells = λ c e z. cc; latches = λ c z. absurd (cc); entries = λ t b c o z. absurd (cc); parts = λ t b c o z. absurd (cc); scopes = λ n z e. absurd (cc); ends = λ p i z. cc; lines = λ p i v t b. absurd (omega (arith, b)) }
+first_calls h = record {
+  jobs = first_jobs h;
+  says = first_says h;
+  ties = λ t b c o z. cc;
+  pools = λ t b p z. cc;
+  cells = λ c e z. cc;
+  latches = λ c z. absurd (cc);
+  entries = λ t b c o z. absurd (cc);
+  parts = λ t b c o z. absurd (cc);
+  scopes = λ n z e. absurd (cc);
+  ends = λ p i z. cc;
+  lines = λ p i v t b. absurd (omega (arith, b));
+}
 
 pub always_calls : (h : Shape) (es : List Event) (w : World) → IsRun (start h) es w → CallsHold w
 always_calls h es w r = run_keeps CallsHold step_calls (start h) w es (first_calls h) r

@@ -28,7 +28,8 @@ use Rattle.rayon_machine_places.specs.declared.place.Latch.TheVariants.{Terminat
 use Rattle.rayon_machine_places.specs.declared.place.Plan.TheVariants.{Detach, Here, Send, Fork, Feed, Open, Enter, Gather}
 use Rattle.rayon_machine_places.specs.declared.place.Taken.TheVariants.{Plain, Token}
 use Rattle.rayon_machine_places.specs.declared.place.Place.{Place}
-use Rattle.rayon_machine_places.specs.declared.place.Place.TheVariants.{PopWorking, TakeCastWorking, PopIdle, TakeCastIdle, StealFrom, PopInjected, JoinPop, JoinTakeCast, YieldPop, YieldTakeCast, YieldSteal, YieldPopInjected, LocalPop, LocalTakeCast, BeginTask, BeginHere, Run, TakeResult, LowerCount, StoreResult, SetLatch, SetLockLatch, AddToFifo, TakeFromFifo, LowerForAll, StoreBody, StorePiece, PushJob}
+use Rattle.rayon_machine_places.specs.declared.place.Place.TheVariants.{PopWorking, TakeCastWorking, PopIdle, TakeCastIdle, StealFrom, PopInjected, JoinPop, JoinTakeCast, YieldPop, YieldTakeCast, YieldSteal, YieldPopInjected, LocalPop, LocalTakeCast, BeginTask, BeginHere, Run}
+use Rattle.rayon_machine_places.specs.declared.place.Place.TheVariants.{TakeResult, LowerCount, StoreResult, SetLatch, SetLockLatch, AddToFifo, TakeFromFifo, LowerForAll, StoreBody, StorePiece, PushJob}
 use Rattle.rayon_machine_places.specs.declared.place.Move.{Move}
 use Rattle.rayon_machine_places.specs.declared.place.Move.TheVariants.{Stay, Enter, StartRun, Back, HandBack, Discard, HandIn, Mark, HandAllBack}
 use Rattle.rayon_machine_places.specs.declared.act.Seen.{Seen}
@@ -173,15 +174,24 @@ after_left q (Mark y c k) J t z = marks_left c k J t z
 after_left q (HandAllBack c) J t z = marks_left c Returned J t z
 
 left_now : (w : World) (q : Party) (x : Place) (fs : List Place) (t : Taken) (e : Seen) (m : Part) → Took w.shape q (place_part w q x) x t m → Left (world_after w q x fs (e, m)) (taken_number t)
-left_now w q x fs t e m k = after_left q (next_of (w.shape.pool (target_pool q (act_of q x))) q x e) (put w.job (job_at w q (act_of q x)) (m.job)) (taken_number t) (subst (λ n. is_left (put w.job (job_at w q (act_of q x)) (m.job) n).at ≡ true) (k.0) (ap (λ j. is_left (j.at)) (put_new w.job (job_at w q (act_of q x)) (m.job)) ∙ k.1))
+left_now w q x fs t e m k = after_left q (next_of (w.shape.pool (target_pool q (act_of q x))) q x e) (put w.job (job_at w q (act_of q x)) (m.job)) (taken_number t)
+    (subst (λ n. is_left (put w.job (job_at w q (act_of q x)) (m.job) n).at ≡ true) (k.0) (ap (λ j. is_left (j.at)) (put_new w.job (job_at w q (act_of q x)) (m.job)) ∙ k.1))
 
 -- what has left its call was made before
 left_made : (w u : World) → JobsHold w → Kept w u → (t : ℕ) → Left u t → t + 1 ≤ w.jobs
-left_made w u h k t z = elim (either (ltb t w.jobs)) [ inl y ↦ (let b : t < w.jobs = ltb-true t w.jobs y in omega (arith, b)) | inr n ↦ absurd (let a : (w.job t).at ≡ Nowhere = (h.unmade) t (ltb-false t w.jobs n) in let c : (u.job t).at ≡ Nowhere = subst (λ v. IsOnward v ((u.job t).at)) a (k.onward t) in let d : is_left (u.job t).at ≡ false = ap is_left c in cc) ]
+left_made w u h k t z = elim (either (ltb t w.jobs)) [
+  | inl y ↦ (let b : t < w.jobs = ltb-true t w.jobs y in omega (arith, b))
+  | inr n ↦ absurd
+      (let a : (w.job t).at ≡ Nowhere = (h.unmade) t (ltb-false t w.jobs n) in let c : (u.job t).at ≡ Nowhere = subst (λ v. IsOnward v ((u.job t).at)) a (k.onward t) in let d : is_left (u.job t).at ≡ false = ap is_left c in cc)
+]
 
 taking_now : (w : World) (q : Party) (x : Place) (fs : List Place) (t : Taken) (e : Seen) (m : Part) → JobsHold w → Kept w (world_after w q x fs (e, m)) → Took w.shape q (place_part w q x) x t m → Taking (world_after w q x fs (e, m)) t
 taking_now w q x fs (Plain t) e m h o k = left_now w q x fs (Plain t) e m k
-taking_now w q x fs (Token t i b8) e m h o k = (left_now w q x fs (Token t i b8) e m k, left_made w (world_after w q x fs (e, m)) h o t (left_now w q x fs (Token t i b8) e m k), after_kind q (next_of (w.shape.pool (target_pool q (act_of q x))) q x e) (put w.job (job_at w q (act_of q x)) (m.job)) t ∙ subst (λ n. (put w.job (job_at w q (act_of q x)) (m.job) n).kind ≡ TokenOf i b8) (k.0) (ap (λ j. j.kind) (put_new w.job (job_at w q (act_of q x)) (m.job)) ∙ k.2))
+taking_now w q x fs (Token t i b8) e m h o k = (
+  left_now w q x fs (Token t i b8) e m k,
+  left_made w (world_after w q x fs (e, m)) h o t (left_now w q x fs (Token t i b8) e m k),
+  after_kind q (next_of (w.shape.pool (target_pool q (act_of q x))) q x e) (put w.job (job_at w q (act_of q x)) (m.job)) t ∙ subst (λ n. (put w.job (job_at w q (act_of q x)) (m.job) n).kind ≡ TokenOf i b8) (k.0) (ap (λ j. j.kind) (put_new w.job (job_at w q (act_of q x)) (m.job)) ∙ k.2),
+)
 
 -- the count is 0 in the world too
 zero_now : (w : World) (q : Party) (x : Place) (fs : List Place) (m : Part) (b : Pieces) (k : Count) → target_call (act_of q x) ≡ count_call b.count → target_pool q (act_of q x) ≡ count_pool q b.count → b.count ≡ k → count_in m k ≡ 0 → IsZero (world_after w q x fs (Yes, m)) k
@@ -235,7 +245,8 @@ learns w (Worker a b) (LowerCount (OfPool p) s k) fs (Yes, m) h z o l y = ap (λ
 learns w (Worker a b) (LowerCount (OfCast c g) s k) fs (Yes, m) h z o l y = ap (λ v. v.count) (put_new w.call c (m.call)) ∙ y
 learns w (Worker a b) (LowerCount (OfScope c g) s k) fs (Yes, m) h z o l y = ap (λ v. v.count) (put_new w.call c (m.call)) ∙ y
 learns w (Worker a b) (LowerForAll n) fs (Yes, m) h z o l y = zero_now w (Worker a b) (LowerForAll n) fs m n n.count refl refl refl y
-learns w (Worker a b) (TakeFromFifo f) fs (Task x, m) h z o l y = later_made w (world_after w (Worker a b) (TakeFromFifo f) fs (Task x, m)) (l.later) (taken_number x) f.pool (count_kind f.count) (from_line w f.count (taken_number x) a f.pool h (sym ((top_says w (Worker a b) (TakeFromFifo f) fs h z).2)) ((top_says w (Worker a b) (TakeFromFifo f) fs h z).3) (h.lines a b (count_book f.count) (taken_number x) (y.1)))
+learns w (Worker a b) (TakeFromFifo f) fs (Task x, m) h z o l y = later_made w (world_after w (Worker a b) (TakeFromFifo f) fs (Task x, m)) (l.later) (taken_number x) f.pool (count_kind f.count)
+    (from_line w f.count (taken_number x) a f.pool h (sym ((top_says w (Worker a b) (TakeFromFifo f) fs h z).2)) ((top_says w (Worker a b) (TakeFromFifo f) fs h z).3) (h.lines a b (count_book f.count) (taken_number x) (y.1)))
 learns w (Worker a b) (BeginTask (Plain t)) fs (Begun d, m) h z o l y = (begun_held w (h.jobs) (Worker a b) t fs z, l.kinds t ∙ y)
 learns w (Worker a b) (BeginTask (Token k i b8)) fs (Handed t d, m) h z o l y = (made_lined w (h.jobs) a i b8 t (y.1), l.kinds t ∙ ap (λ n. (w.job n).kind) (sym (y.0)) ∙ y.2)
 learns w (Caller v) (TakeResult o f) fs (Found d, m) h z k l y = took w (world_after w (Caller v) (TakeResult o f) fs (Found d, m)) (Caller v) o f d h l ((top_says w (Caller v) (TakeResult o f) fs h z).0) y
@@ -243,7 +254,8 @@ learns w (Caller v) (LowerCount (OfPool p) s k) fs (Yes, m) h z o l y = ap (λ v
 learns w (Caller v) (LowerCount (OfCast c g) s k) fs (Yes, m) h z o l y = ap (λ v. v.count) (put_new w.call c (m.call)) ∙ y
 learns w (Caller v) (LowerCount (OfScope c g) s k) fs (Yes, m) h z o l y = ap (λ v. v.count) (put_new w.call c (m.call)) ∙ y
 learns w (Caller v) (LowerForAll n) fs (Yes, m) h z o l y = zero_now w (Caller v) (LowerForAll n) fs m n n.count refl refl refl y
-learns w (Caller v) (TakeFromFifo f) fs (Task x, m) h z o l y = later_made w (world_after w (Caller v) (TakeFromFifo f) fs (Task x, m)) (l.later) (taken_number x) f.pool (count_kind f.count) (from_line w f.count (taken_number x) 0 f.pool h (sym ((top_says w (Caller v) (TakeFromFifo f) fs h z).2)) ((top_says w (Caller v) (TakeFromFifo f) fs h z).3) (h.lines 0 0 (count_book f.count) (taken_number x) (y.1)))
+learns w (Caller v) (TakeFromFifo f) fs (Task x, m) h z o l y = later_made w (world_after w (Caller v) (TakeFromFifo f) fs (Task x, m)) (l.later) (taken_number x) f.pool (count_kind f.count)
+    (from_line w f.count (taken_number x) 0 f.pool h (sym ((top_says w (Caller v) (TakeFromFifo f) fs h z).2)) ((top_says w (Caller v) (TakeFromFifo f) fs h z).3) (h.lines 0 0 (count_book f.count) (taken_number x) (y.1)))
 learns w (Caller v) (BeginTask (Plain t)) fs (Begun d, m) h z o l y = (begun_held w (h.jobs) (Caller v) t fs z, l.kinds t ∙ y)
 learns w (Caller v) (BeginTask (Token k i b8)) fs (Handed t d, m) h z o l y = (made_lined w (h.jobs) 0 i b8 t (y.1), l.kinds t ∙ ap (λ n. (w.job n).kind) (sym (y.0)) ∙ y.2)
 learns w q x fs (e, m) h z o l y = tt
@@ -306,10 +318,12 @@ line_says w (Caller c) (AddToFifo f) v t k s = line_fed w (Caller c) f v t k s
 line_says w q _ v t k s = absurd (omega (arith, k))
 
 -- one act
-pub act_calls : (w : World) (q : Party) (x : Place) (fs : List Place) (r : Seen × Part) → CallsHold w → w.stack q ≡ record { top = x; below = fs } → Static (place_part w q x) r → Kept w (world_after w q x fs r) → Learned w.shape q (place_part w q x) x r → Written (place_part w q x) x r → ((v : Option ℕ) (t : ℕ) → Lines (place_part w q x) v t x r) → CallsHold (world_after w q x fs r)
+pub act_calls : (w : World) (q : Party) (x : Place) (fs : List Place) (r : Seen × Part) → CallsHold w → w.stack q ≡ record { top = x; below = fs } → Static (place_part w q x) r → Kept w (world_after w q x fs r) → Learned w.shape q (place_part w q x) x r → Written (place_part w q x) x r
+    → ((v : Option ℕ) (t : ℕ) → Lines (place_part w q x) v t x r) → CallsHold (world_after w q x fs r)
 act_calls w q x fs r h z st ke le wr li = record {
   jobs = jobs;
-  says = all_says w u (l.later) q (after_move (next_of (w.shape.pool (target_pool q (act_of q x))) q x (r.0)) fs) (moved_says w u (l.later) (w.shape.pool (target_pool q (act_of q x))) q (record { top = x; below = fs }) (r.0) (learns w q x fs r h z ke l le) (subst (λ k. StackSays w q k) z (h.says q))) (h.says);
+  says = all_says w u (l.later) q (after_move (next_of (w.shape.pool (target_pool q (act_of q x))) q x (r.0)) fs)
+      (moved_says w u (l.later) (w.shape.pool (target_pool q (act_of q x))) q (record { top = x; below = fs }) (r.0) (learns w q x fs r h z ke l le) (subst (λ k. StackSays w q k) z (h.says q))) (h.says);
   ties = λ t b c o k. (let a : (c + 1 ≤ w.calls) × ((w.call c).job ≡ t) = h.ties t b c o (sym (l.kinds t) ∙ k) in (a.0, l.targets c ∙ a.1));
   pools = λ t b p k. (l.later).pool t b ∙ h.pools t b p (sym (l.kinds t) ∙ k);
   cells = λ c e k. cells c e (c == target_call (act_of q x)) refl k;
@@ -328,7 +342,9 @@ act_calls w q x fs r h z st ke le wr li = record {
     l = lasting w q (record { top = x; below = fs }) (target_pool q (act_of q x)) (target_worker q (act_of q x)) (target_call (act_of q x)) (job_at w q (act_of q x)) r st ke
 
     jobs : JobsHold (world_after w q x fs r)
-    jobs = let a : Advance w (world_after w q x fs r) = kept_advance w (world_after w q x fs r) (omega arith) ((h.jobs).unmade) (fed_stacks w q (after_move (next_of (w.shape.pool (target_pool q (act_of q x))) q x (r.0)) fs) (λ t. let f : all_fed t (after_move (next_of (w.shape.pool (target_pool q (act_of q x))) q x (r.0)) fs) ≤ fed t x + fed_in t fs = fed_after (w.shape.pool (target_pool q (act_of q x))) q t x fs (r.0) in let g : all_fed t (w.stack q) ≡ (fed t x + fed_in t fs) = ap (all_fed t) z in omega (arith, f, g))) ke in jobs_advance w (world_after w q x fs r) (h.jobs) a
+    jobs = let a : Advance w (world_after w q x fs r) = kept_advance w (world_after w q x fs r) (omega arith) ((h.jobs).unmade)
+        (fed_stacks w q (after_move (next_of (w.shape.pool (target_pool q (act_of q x))) q x (r.0)) fs) (λ t. let f : all_fed t (after_move (next_of (w.shape.pool (target_pool q (act_of q x))) q x (r.0)) fs) ≤ fed t x + fed_in t fs = fed_after
+        (w.shape.pool (target_pool q (act_of q x))) q t x fs (r.0) in let g : all_fed t (w.stack q) ≡ (fed t x + fed_in t fs) = ap (all_fed t) z in omega (arith, f, g))) ke in jobs_advance w (world_after w q x fs r) (h.jobs) a
 
     over_now : (c : ℕ) (e : Ending) → EndsAs w (w.call c).job c e → EndsAs (world_after w q x fs r) ((world_after w q x fs r).call c).job c e
     over_now c e k = subst (λ t. EndsAs (world_after w q x fs r) t c e) (sym (l.targets c)) (later_as w (world_after w q x fs r) (l.later) ((w.call c).job) c e k)

@@ -29,7 +29,10 @@ use Rattle.rayon_machine_places.specs.declared.place.Then.TheVariants.{BeginFoun
 use Rattle.rayon_machine_places.specs.declared.place.Taken.{Taken}
 use Rattle.rayon_machine_places.specs.declared.place.Taken.TheVariants.{Plain, Token}
 use Rattle.rayon_machine_places.specs.declared.place.Place.{Place}
-use Rattle.rayon_machine_places.specs.declared.place.Place.TheVariants.{ProbeWorking, PopWorking, TakeCastWorking, ProbeIdle, PopIdle, TakeCastIdle, PickVictim, StealFrom, PopInjected, AnnounceSelf, GetSleepy, FallAsleep, LoadCounters, AddSleeping, LookAtCast, LookAtInjector, WakeUp, LeaveSearch, JoinProbe, JoinPop, JoinTakeCast, YieldPop, YieldTakeCast, YieldPick, YieldSteal, YieldPopInjected, LocalPop, LocalTakeCast, BeginTask, BeginHere, Run, RaiseCount, GrowCall, LookQueue, PushJob, TellNews, LockToWake, WakeWorker, UnlockWoken, TakeResult, LowerCount, StoreResult, SetLatch, UnlockSettled, SetLockLatch, FirstSide, SecondSide, AtOnce, AddToFifo, LookForToken, PushToken, TakeFromFifo, RaiseForAll, PushForAll, LowerForAll, GrowScope, OpenSlot, CloseSlot, StoreBody, StoreSlot, ScopeBody, OpenForAll, CloseForAll, GrowCast, DealPieces, StorePiece}
+use Rattle.rayon_machine_places.specs.declared.place.Place.TheVariants.{ProbeWorking, PopWorking, TakeCastWorking, ProbeIdle, PopIdle, TakeCastIdle, PickVictim, StealFrom, PopInjected, AnnounceSelf, GetSleepy, FallAsleep, LoadCounters, AddSleeping, LookAtCast, LookAtInjector}
+use Rattle.rayon_machine_places.specs.declared.place.Place.TheVariants.{WakeUp, LeaveSearch, JoinProbe, JoinPop, JoinTakeCast, YieldPop, YieldTakeCast, YieldPick, YieldSteal, YieldPopInjected, LocalPop, LocalTakeCast, BeginTask, BeginHere, Run, RaiseCount, GrowCall, LookQueue}
+use Rattle.rayon_machine_places.specs.declared.place.Place.TheVariants.{PushJob, TellNews, LockToWake, WakeWorker, UnlockWoken, TakeResult, LowerCount, StoreResult, SetLatch, UnlockSettled, SetLockLatch, FirstSide, SecondSide, AtOnce, AddToFifo, LookForToken, PushToken}
+use Rattle.rayon_machine_places.specs.declared.place.Place.TheVariants.{TakeFromFifo, RaiseForAll, PushForAll, LowerForAll, GrowScope, OpenSlot, CloseSlot, StoreBody, StoreSlot, ScopeBody, OpenForAll, CloseForAll, GrowCast, DealPieces, StorePiece}
 use Rattle.rayon_machine_places.specs.declared.place.Move.{Move}
 use Rattle.rayon_machine_places.specs.declared.place.Move.TheVariants.{Stay, Enter, StartRun, Back, HandBack, Discard, HandIn, Mark, HandAllBack}
 use Rattle.rayon_machine_places.specs.declared.act.Seen.{Seen}
@@ -38,12 +41,14 @@ use Rattle.rayon_machine_places.specs.declared.shape.PoolShape.{PoolShape}
 use Rattle.rayon_machine_places.specs.declared.place.OpenCall.{OpenCall}
 use Rattle.rayon_machine_places.specs.declared.place.Wait.{Wait}
 use Rattle.rayon_machine_places.specs.declared.place.Settling.{Settling}
-use Rattle.rayon_machine_places.specs.Places.{own_pool, own_index, plan_pool, after_wait, finish, walk, settle, after_set, after_found, after_news, after_raise, undo, set_call, next_victim, not_self, after_failure, next_steal, next_yield, next_of, is_taken, taken_number, after_push, settle_count, count_kind, count_book, begin_feed, withdraw, after_slot, begin_cast, end_cast, ends_count}
+use Rattle.rayon_machine_places.specs.Places.{own_pool, own_index, plan_pool, after_wait, finish, walk, settle, after_set, after_found, after_news, after_raise, undo, set_call, next_victim, not_self, after_failure, next_steal, next_yield, next_of, is_taken, taken_number}
+use Rattle.rayon_machine_places.specs.Places.{after_push, settle_count, count_kind, count_book, begin_feed, withdraw, after_slot, begin_cast, end_cast, ends_count}
 use Rattle.rayon_machine_places.specs.World.{Stack, World}
 use Rattle.rayon_machine_places.specs.Steps.{after_move}
 use Rattle.rayon_machine_places.specs.Readers.{is_done}
 pub use Rattle.rayon_machine_laws.specs.Counted.{is_detached, is_scoped}
-pub use Rattle.rayon_machine_laws.proofs.ClaimPlaces.{call_kind, is_body, call_undetached, call_unscoped, body_unscoped, is_part, counts_detached, Opened, MadeAs, Tied, PartOf, KnownCount, PieceAs, SaysPieces, SaysCast, SaysGather, PieceEnds, EndsAs, FirstEnds, SaysTarget, Left, Taking, Spendable, Awaited, SaysFound, SaysPlan, SaysQueue, SaysSlot, SaysTold, queue_plan, SaysTaken, SaysThen, SaysOwner, SaysEntry, SaysBody, SaysShare, IsStored, IsReady, SaysLatch, IsZero, SaysRun, Says}
+pub use Rattle.rayon_machine_laws.proofs.ClaimPlaces.{call_kind, is_body, call_undetached, call_unscoped, body_unscoped, is_part, counts_detached, Opened, MadeAs, Tied, PartOf, KnownCount, PieceAs, SaysPieces, SaysCast, SaysGather, PieceEnds, EndsAs, FirstEnds, SaysTarget, Left}
+pub use Rattle.rayon_machine_laws.proofs.ClaimPlaces.{Taking, Spendable, Awaited, SaysFound, SaysPlan, SaysQueue, SaysSlot, SaysTold, queue_plan, SaysTaken, SaysThen, SaysOwner, SaysEntry, SaysBody, SaysShare, IsStored, IsReady, SaysLatch, IsZero, SaysRun, Says}
 
 -- the job whose run a frame goes on from, and the job that a place begins or runs for its call
 abbrev pub wants : Place → Option ℕ

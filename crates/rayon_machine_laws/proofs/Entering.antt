@@ -18,7 +18,10 @@ use Rattle.rayon_machine_places.specs.declared.place.Then.{Then}
 use Rattle.rayon_machine_places.specs.declared.place.Then.TheVariants.{BeginFound, LeaveWait, Resume, Await, RunFirst, Answers, Missing, Ran, GiveBack, Called, Gathers}
 use Rattle.rayon_machine_places.specs.declared.place.Taken.TheVariants.{Plain, Token}
 use Rattle.rayon_machine_places.specs.declared.place.Place.{Place}
-use Rattle.rayon_machine_places.specs.declared.place.Place.TheVariants.{ProbeWorking, PopWorking, TakeCastWorking, ProbeIdle, PopIdle, TakeCastIdle, PickVictim, StealFrom, PopInjected, AnnounceSelf, GetSleepy, FallAsleep, LoadCounters, AddSleeping, LookAtCast, LookAtInjector, WakeUp, LeaveSearch, JoinProbe, JoinPop, JoinTakeCast, YieldPop, YieldTakeCast, YieldPick, YieldSteal, YieldPopInjected, LocalPop, LocalTakeCast, BeginTask, BeginHere, RaiseCount, GrowCall, LookQueue, PushJob, TellNews, LockToWake, WakeWorker, UnlockWoken, TakeResult, LowerCount, StoreResult, SetLatch, UnlockSettled, SecondSide, AddToFifo, LookForToken, PushToken, TakeFromFifo, RaiseForAll, PushForAll, LowerForAll, GrowScope, OpenSlot, CloseSlot, SetLockLatch, OpenForAll, GrowCast, DealPieces, CloseForAll, LockToSettle, WakeSettled}
+use Rattle.rayon_machine_places.specs.declared.place.Place.TheVariants.{ProbeWorking, PopWorking, TakeCastWorking, ProbeIdle, PopIdle, TakeCastIdle, PickVictim, StealFrom, PopInjected, AnnounceSelf, GetSleepy, FallAsleep, LoadCounters, AddSleeping, LookAtCast, LookAtInjector}
+use Rattle.rayon_machine_places.specs.declared.place.Place.TheVariants.{WakeUp, LeaveSearch, JoinProbe, JoinPop, JoinTakeCast, YieldPop, YieldTakeCast, YieldPick, YieldSteal, YieldPopInjected, LocalPop, LocalTakeCast, BeginTask, BeginHere, RaiseCount, GrowCall, LookQueue}
+use Rattle.rayon_machine_places.specs.declared.place.Place.TheVariants.{PushJob, TellNews, LockToWake, WakeWorker, UnlockWoken, TakeResult, LowerCount, StoreResult, SetLatch, UnlockSettled, SecondSide, AddToFifo, LookForToken, PushToken, TakeFromFifo, RaiseForAll, PushForAll}
+use Rattle.rayon_machine_places.specs.declared.place.Place.TheVariants.{LowerForAll, GrowScope, OpenSlot, CloseSlot, SetLockLatch, OpenForAll, GrowCast, DealPieces, CloseForAll, LockToSettle, WakeSettled}
 use Rattle.rayon_machine_places.specs.declared.place.Move.{Move}
 use Rattle.rayon_machine_places.specs.declared.place.Move.TheVariants.{Stay, Enter, HandIn, Mark}
 use Rattle.rayon_machine_places.specs.declared.act.Seen.{Seen}
@@ -26,7 +29,8 @@ use Rattle.rayon_machine_places.specs.declared.act.Seen.TheVariants.{Done, Yes, 
 use Rattle.rayon_machine_places.specs.declared.shape.PoolShape.{PoolShape}
 use Rattle.rayon_machine_places.specs.declared.place.Wait.{Wait}
 use Rattle.rayon_machine_places.specs.declared.place.Settling.{Settling}
-use Rattle.rayon_machine_places.specs.Places.{own_pool, own_index, plan_pool, after_wait, finish, walk, settle, after_set, after_found, after_news, set_call, next_victim, not_self, after_failure, next_steal, next_yield, next_of, is_taken, after_raise, after_push, settle_count, begin_feed, begin_cast, end_cast, ends_count, after_slot, withdraw, plan_book, count_book, taken_number, plan_count}
+use Rattle.rayon_machine_places.specs.Places.{own_pool, own_index, plan_pool, after_wait, finish, walk, settle, after_set, after_found, after_news, set_call, next_victim, not_self, after_failure, next_steal, next_yield, next_of, is_taken, after_raise, after_push, settle_count}
+use Rattle.rayon_machine_places.specs.Places.{begin_feed, begin_cast, end_cast, ends_count, after_slot, withdraw, plan_book, count_book, taken_number, plan_count}
 use Rattle.rayon_machine_places.specs.declared.place.Plan.{Plan}
 use Rattle.rayon_machine_places.specs.declared.place.Taken.{Taken}
 use Rattle.rayon_machine_laws.specs.Once.{one}
@@ -241,13 +245,16 @@ enters_on g q m (LookAtCast k) Yes = omega arith
 enters_on g q m (LookAtCast k) _ = omega arith
 enters_on g q m (LookAtInjector k) Yes = omega arith
 enters_on g q m (LookAtInjector k) _ = omega arith
-enters_on g q m (LoadCounters k) (Word a1 b1 j) = let a : entering_move m (if j == k.kept then Stay (AddSleeping (record k { sleeping = a1; inactive = b1 })) else Stay (WakeUp (record k { rounds = Failed g.limit }))) ≤ 0 = enter_if m 0 (Stay (AddSleeping (record k { sleeping = a1; inactive = b1 }))) (Stay (WakeUp (record k { rounds = Failed g.limit }))) (j == k.kept) (omega arith) (omega arith) in omega (arith, a)
+enters_on g q m (LoadCounters k) (Word a1 b1 j) = let a : entering_move m (if j == k.kept then Stay (AddSleeping (record k { sleeping = a1; inactive = b1 })) else Stay (WakeUp (record k { rounds = Failed g.limit }))) ≤ 0 =
+    enter_if m 0 (Stay (AddSleeping (record k { sleeping = a1; inactive = b1 }))) (Stay (WakeUp (record k { rounds = Failed g.limit }))) (j == k.kept) (omega arith) (omega arith) in omega (arith, a)
 enters_on g q m (LoadCounters k) _ = omega arith
-enters_on g q m (LeaveSearch k) (Wakes n) = let a : entering_move m (walk g q (own_pool q) n 0 (after_found k.target k.found)) ≤ entering_then m (after_found k.target k.found) = enter_walk m g q (own_pool q) n 0 (after_found k.target k.found) in let b : entering_then m (after_found k.target k.found) ≤ 0 = enter_found m k.target k.found in omega (arith, a, b)
+enters_on g q m (LeaveSearch k) (Wakes n) = let a : entering_move m (walk g q (own_pool q) n 0 (after_found k.target k.found)) ≤ entering_then m (after_found k.target k.found) = enter_walk m g q (own_pool q) n 0 (after_found k.target k.found) in
+    let b : entering_then m (after_found k.target k.found) ≤ 0 = enter_found m k.target k.found in omega (arith, a, b)
 enters_on g q m (LeaveSearch k) _ = omega arith
 enters_on g q m (JoinProbe o) Yes = omega arith
 enters_on g q m (JoinProbe o) _ = omega arith
-enters_on g q m (JoinPop o) (Task u) = let a : entering_move m (if is_taken u o.job then Enter (SecondSide o) (BeginHere o.job) else Enter (JoinProbe o) (BeginTask u)) ≤ 0 = enter_if m 0 (Enter (SecondSide o) (BeginHere o.job)) (Enter (JoinProbe o) (BeginTask u)) (is_taken u o.job) (omega arith) (omega arith) in omega (arith, a)
+enters_on g q m (JoinPop o) (Task u) = let a : entering_move m (if is_taken u o.job then Enter (SecondSide o) (BeginHere o.job) else Enter (JoinProbe o) (BeginTask u)) ≤ 0 =
+    enter_if m 0 (Enter (SecondSide o) (BeginHere o.job)) (Enter (JoinProbe o) (BeginTask u)) (is_taken u o.job) (omega arith) (omega arith) in omega (arith, a)
 enters_on g q m (JoinPop o) _ = omega arith
 enters_on g q m (JoinTakeCast o) (Task u) = omega arith
 enters_on g q m (JoinTakeCast o) _ = omega arith

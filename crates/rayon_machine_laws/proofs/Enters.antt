@@ -35,7 +35,8 @@ use Rattle.rayon_machine_places.specs.declared.state.Job.{Job}
 use Rattle.rayon_machine_places.specs.declared.state.Scope.{Scope}
 use Rattle.rayon_machine_places.specs.Places.{same_party, act_of, next_of, own_pool, is_free, is_member, holds_scope, goes_on, fresh, count_kind, count_book}
 use Rattle.rayon_machine_places.specs.World.{Shape, Stack, World, Counts, Part, at_job, begun, effect, counts_at, target_pool, target_worker, target_call}
-use Rattle.rayon_machine_places.specs.Steps.{put, put_stack, after_move, after_call, after_close, after_resume, jobs_after, after_choice, after_miss, after_end, after_send, after_join, after_yield, after_feed, after_enter, seeing, step, mark_pieces, marked, put_pieces, after_gather, new_job, new_piece, new_whole, is_piece, is_pool, holds, holds_in}
+use Rattle.rayon_machine_places.specs.Steps.{put, put_stack, after_move, after_call, after_close, after_resume, jobs_after, after_choice, after_miss, after_end, after_send, after_join, after_yield, after_feed, after_enter, seeing, step, mark_pieces, marked, put_pieces}
+use Rattle.rayon_machine_places.specs.Steps.{after_gather, new_job, new_piece, new_whole, is_piece, is_pool, holds, holds_in}
 use Rattle.rayon_machine_places.specs.Runs.{start, first_place, IsRun}
 use Rattle.rayon_machine_laws.specs.Once.{one}
 use Rattle.rayon_machine_laws.proofs.Lists.{is_settled, Onward, act_on}
@@ -210,8 +211,10 @@ moved_keeps : (w u : World) (q : Party) (k : Stack) → ((r : Party) → u.stack
 moved_keeps w u q k st h f d = record { inside = moved_inside w u q k st h f; undetached = d }
 
 go_keeps : (w : World) (q : Party) → EntersHold w → IfSome (outcome w q (w.stack q)) (λ r. Keeps (result w q (w.stack q) r))
-go_keeps w q h = if_some_map (λ r. Ready w q ((w.stack q).top) ((w.stack q).below) r × Unspent (place_part w q ((w.stack q).top)) r) (λ r. Keeps (result w q (w.stack q) r)) (λ r f. moved_keeps w (result w q (w.stack q) r) q (after_move (next_of (w.shape.pool (target_pool q (act_of q (w.stack q).top))) q (w.stack q).top (r.0)) (w.stack q).below) (λ s. refl) h.enters (next_inside w q (target_pool q (act_of q (w.stack q).top)) (r.0) h) (λ t. spent r (f.0) (f.1) t))
-    (outcome w q (w.stack q)) (if_some_and (λ r. Ready w q ((w.stack q).top) ((w.stack q).below) r) (Unspent (place_part w q ((w.stack q).top))) (outcome w q (w.stack q)) (ready w q h.shares) (act_unspent w.shape q (counts_at w (target_pool q (act_of q (w.stack q).top))) (place_part w q ((w.stack q).top)) ((w.stack q).top)))
+go_keeps w q h = if_some_map (λ r. Ready w q ((w.stack q).top) ((w.stack q).below) r × Unspent (place_part w q ((w.stack q).top)) r) (λ r. Keeps (result w q (w.stack q) r))
+    (λ r f. moved_keeps w (result w q (w.stack q) r) q (after_move (next_of (w.shape.pool (target_pool q (act_of q (w.stack q).top))) q (w.stack q).top (r.0)) (w.stack q).below) (λ s. refl) h.enters (next_inside w q (target_pool q (act_of q (w.stack q).top)) (r.0) h) (λ t. spent r (f.0) (f.1) t))
+    (outcome w q (w.stack q)) (if_some_and (λ r. Ready w q ((w.stack q).top) ((w.stack q).below) r) (Unspent (place_part w q ((w.stack q).top))) (outcome w q (w.stack q)) (ready w q h.shares)
+    (act_unspent w.shape q (counts_at w (target_pool q (act_of q (w.stack q).top))) (place_part w q ((w.stack q).top)) ((w.stack q).top)))
   where
     n : ℕ
     n = job_at w q (act_of q (w.stack q).top)
@@ -230,7 +233,8 @@ go_keeps w q h = if_some_map (λ r. Ready w q ((w.stack q).top) ((w.stack q).bel
         g = next_of (w.shape.pool (target_pool q (act_of q (w.stack q).top))) q (w.stack q).top (r.0)
 
         some : 1 ≤ spent_by t g + spends (w.job t).at
-        some = let a : spends (jobs_after q g (put w.job n (r.1.job)) t).at ≤ spent_by t g + spends (put w.job n (r.1.job) t).at = land_spends q g (put w.job n (r.1.job)) t in let b : spends (put w.job n (r.1.job) t).at ≤ spends (w.job t).at = touched r l t in let c : spends (jobs_after q g (put w.job n (r.1.job)) t).at ≡ 1 = ap spends z in omega (arith, a, b, c)
+        some = let a : spends (jobs_after q g (put w.job n (r.1.job)) t).at ≤ spent_by t g + spends (put w.job n (r.1.job) t).at = land_spends q g (put w.job n (r.1.job)) t in let b : spends (put w.job n (r.1.job) t).at ≤ spends (w.job t).at = touched r l t in
+            let c : spends (jobs_after q g (put w.job n (r.1.job)) t).at ≡ 1 = ap spends z in omega (arith, a, b, c)
 
         by : (i : ℕ) → spends (w.job t).at ≡ i → is_detached (w.job t).kind ≡ false
         by zero e = spender w t g k.starts (omega (arith, some, e))
@@ -294,7 +298,8 @@ close_enters m t (WholeOf c o) e fs a = resume_enters m fs e a
 close_enters m t (TokenOf i b) e fs a = resume_enters m fs e a
 
 end_keeps : (w : World) (q : Party) (d : Ending) (x : Place) → EntersHold w → IfSome (after_end w q d (w.stack q) x) Keeps
-end_keeps w q d (Run n k) h = moved_keeps w _ q (after_close n k d (w.stack q).below) (λ r. refl) h.enters (λ m z. absurd (let a : entering m ((after_close n k d (w.stack q).below).top) ≡ 0 = close_enters m n k d ((w.stack q).below) (h.frames q) in omega (arith, a, z))) (put_undetached w.job n (at_job (w.job n) (Over d)) (λ e. absurd (cc)) h.spent)
+end_keeps w q d (Run n k) h = moved_keeps w _ q (after_close n k d (w.stack q).below) (λ r. refl) h.enters (λ m z. absurd (let a : entering m ((after_close n k d (w.stack q).below).top) ≡ 0 = close_enters m n k d ((w.stack q).below) (h.frames q) in omega (arith, a, z)))
+    (put_undetached w.job n (at_job (w.job n) (Over d)) (λ e. absurd (cc)) h.spent)
 end_keeps w q d _ h = tt
 
 -- a call that makes one job, which goes into no scope
@@ -307,22 +312,27 @@ sent_keeps w q p false h = one_keeps w (after_send w q p (w.stack q) false) q p 
 
 join_keeps : (w : World) (q : Party) → EntersHold w → IfSome (after_join w q (w.stack q)) Keeps
 join_keeps w (Caller n) h = tt
-join_keeps w (Worker a b) h = if_cond Keeps (is_free (w.stack (Worker a b)).top) _ (λ y. begins_keeps w _ (Worker a b) (RaiseCount (Fork (record { number = w.calls; pool = a; job = w.jobs + 1 }) w.jobs)) (λ r. refl) h.enters (λ m z. absurd (omega (arith, z))) (put_undetached (put w.job w.jobs (new_job (Worker a b) a Direct)) (w.jobs + 1) (new_job (Worker a b) a (Stored w.calls (Worker a b))) (λ e. absurd (cc)) (put_undetached w.job w.jobs (new_job (Worker a b) a Direct) (λ e. absurd (cc)) h.spent)))
+join_keeps w (Worker a b) h = if_cond Keeps (is_free (w.stack (Worker a b)).top) _ (λ y. begins_keeps w _ (Worker a b) (RaiseCount (Fork (record { number = w.calls; pool = a; job = w.jobs + 1 }) w.jobs)) (λ r. refl) h.enters (λ m z. absurd (omega (arith, z)))
+    (put_undetached (put w.job w.jobs (new_job (Worker a b) a Direct)) (w.jobs + 1) (new_job (Worker a b) a (Stored w.calls (Worker a b))) (λ e. absurd (cc)) (put_undetached w.job w.jobs (new_job (Worker a b) a Direct) (λ e. absurd (cc)) h.spent)))
 
 feed_keeps : (w : World) (k : Count) (p i : ℕ) → EntersHold w → ((m : ℕ) → 1 ≤ within m k → holds m (w.stack (Worker p i)) ≡ true) → Keeps (after_feed w k p i (w.stack (Worker p i)))
-feed_keeps w k p i h f = begins_keeps w (after_feed w k p i (w.stack (Worker p i))) (Worker p i) (RaiseCount (Feed (record { count = k; pool = p; job = w.jobs; token = w.jobs + 1 }))) (λ r. refl) h.enters f (put_undetached (put w.job w.jobs (new_job (Worker p i) p (count_kind k))) (w.jobs + 1) (new_job (Worker p i) p (TokenOf i (count_book k))) (λ e. absurd (cc)) (put_undetached w.job w.jobs (new_job (Worker p i) p (count_kind k)) (λ e. absurd (cc)) h.spent))
+feed_keeps w k p i h f = begins_keeps w (after_feed w k p i (w.stack (Worker p i))) (Worker p i) (RaiseCount (Feed (record { count = k; pool = p; job = w.jobs; token = w.jobs + 1 }))) (λ r. refl) h.enters f
+    (put_undetached (put w.job w.jobs (new_job (Worker p i) p (count_kind k))) (w.jobs + 1) (new_job (Worker p i) p (TokenOf i (count_book k))) (λ e. absurd (cc)) (put_undetached w.job w.jobs (new_job (Worker p i) p (count_kind k)) (λ e. absurd (cc)) h.spent))
 
-deal_keeps : (w : World) (q : Party) (k : Count) (p : ℕ) (c : Pieces) (u : World) → c.count ≡ k → ((r : Party) → u.stack r ≡ put_stack w.stack q (after_call (w.stack q) (RaiseForAll c)) r) → ((t : ℕ) → u.job t ≡ put_pieces c (λ i j. new_piece q k p i) w.job t) → EntersHold w → ((m : ℕ) → 1 ≤ within m k → holds m (w.stack q) ≡ true) → Keeps u
+deal_keeps : (w : World) (q : Party) (k : Count) (p : ℕ) (c : Pieces) (u : World) → c.count ≡ k → ((r : Party) → u.stack r ≡ put_stack w.stack q (after_call (w.stack q) (RaiseForAll c)) r) → ((t : ℕ) → u.job t ≡ put_pieces c (λ i j. new_piece q k p i) w.job t) → EntersHold w
+    → ((m : ℕ) → 1 ≤ within m k → holds m (w.stack q) ≡ true) → Keeps u
 deal_keeps w q k p c u i st jo h f = begins_keeps w u q (RaiseForAll c) st h.enters (λ m z. f m (subst (λ n. 1 ≤ within m n) i z)) (λ t z. ap (λ j. is_detached j.kind) (jo t) ∙ deal_undetached w.job q k p c h.spent t (ap (λ j. j.at) (sym (jo t)) ∙ z))
 
 gather_keeps : (w : World) (q : Party) (p : ℕ) → EntersHold w → Keeps (after_gather w q p (w.stack q))
-gather_keeps w q p h = begins_keeps w (after_gather w q p (w.stack q)) q (RaiseCount (Gather (record { call = record { number = w.calls; pool = p; job = w.jobs + c.workers }; pieces = c }))) (λ r. refl) h.enters (λ m z. absurd (omega (arith, z))) (put_undetached (put_pieces c (λ i j. new_piece q c.count p i) w.job) (w.jobs + c.workers) (new_whole q p w.calls) (λ e. refl) (deal_undetached w.job q c.count p c h.spent))
+gather_keeps w q p h = begins_keeps w (after_gather w q p (w.stack q)) q (RaiseCount (Gather (record { call = record { number = w.calls; pool = p; job = w.jobs + c.workers }; pieces = c }))) (λ r. refl) h.enters (λ m z. absurd (omega (arith, z)))
+    (put_undetached (put_pieces c (λ i j. new_piece q c.count p i) w.job) (w.jobs + c.workers) (new_whole q p w.calls) (λ e. refl) (deal_undetached w.job q c.count p c h.spent))
   where
     c : Pieces
     c = record { count = OfCast w.calls q; pool = p; first = w.jobs; workers = (w.shape.pool p).workers }
 
 enter_keeps : (w : World) (q : Party) (z : Scope) → EntersHold w → holds z.call (w.stack q) ≡ true → IfSome (after_enter w q (w.stack q) (Some z)) Keeps
-enter_keeps w q z h held = if_cond Keeps (is_free ((w.stack q).top) && holds z.call (w.stack q)) _ (λ b. one_keeps w _ q z.pool (Scoped z.call z.owner) (RaiseCount (Enter (record { call = z.call; owner = z.owner; pool = z.pool; job = w.jobs }))) (λ r. refl) (λ t. refl) h (λ m y. same_scope w q m z.call held y))
+enter_keeps w q z h held = if_cond Keeps (is_free ((w.stack q).top) && holds z.call (w.stack q)) _ (λ b. one_keeps w _ q z.pool (Scoped z.call z.owner) (RaiseCount (Enter (record { call = z.call; owner = z.owner; pool = z.pool; job = w.jobs }))) (λ r. refl) (λ t. refl) h
+    (λ m y. same_scope w q m z.call held y))
 
 yield_keeps : (w : World) (q : Party) (x : Place) → ((m : ℕ) → entering m x ≡ 0) → EntersHold w → IfSome (after_yield w q (w.stack q) x) Keeps
 yield_keeps w (Worker a b) x f h = if_cond Keeps _ _ (λ y. begins_keeps w _ (Worker a b) x (λ r. refl) h.enters (λ m z. absurd (let e : entering m x ≡ 0 = f m in omega (arith, e, z))) h.spent)
@@ -342,7 +352,8 @@ step_keeps w (Join q) h = join_keeps w q h
 step_keeps w (OpenScope q p) h = if_cond Keeps _ _ (λ b. one_keeps w _ q p (BodyOf w.calls q) (RaiseCount (Open (record { number = w.calls; pool = p; job = w.jobs }))) (λ r. refl) (λ t. refl) h (λ m z. absurd (omega (arith, z))))
 step_keeps w (IntoSpawn q n) h = into_cases Keeps w q n (λ z e free held. enter_keeps w q z h held)
 step_keeps w (IntoFifo q n) h = into_fifo_cases Keeps w q n (λ z e free held. enter_keeps w q z h held) (λ z i e free held. feed_keeps w (OfScope z.call z.owner) z.pool i h (λ m y. same_scope w (Worker z.pool i) m z.call held y))
-step_keeps w (IntoCast q n) h = into_cast_cases Keeps w q n (λ z e free held. deal_keeps w q (OfScope z.call z.owner) z.pool (record { count = OfScope z.call z.owner; pool = z.pool; first = w.jobs; workers = (w.shape.pool z.pool).workers }) _ refl (λ r. refl) (λ t. refl) h (λ m y. same_scope w q m z.call held y))
+step_keeps w (IntoCast q n) h = into_cast_cases Keeps w q n (λ z e free held. deal_keeps w q (OfScope z.call z.owner) z.pool (record { count = OfScope z.call z.owner; pool = z.pool; first = w.jobs; workers = (w.shape.pool z.pool).workers }) _ refl (λ r. refl) (λ t. refl) h
+    (λ m y. same_scope w q m z.call held y))
 step_keeps w (Broadcast q p) h = if_cond Keeps (is_free ((w.stack q).top) && is_pool w.shape p) _ (λ b. gather_keeps w q p h)
 step_keeps w (Yield q) h = yield_keeps w q YieldPop (λ m. refl) h
 step_keeps w (YieldLocal q) h = yield_keeps w q LocalPop (λ m. refl) h

@@ -21,7 +21,10 @@ use Rattle.rayon_machine_places.specs.declared.place.Then.{Then}
 use Rattle.rayon_machine_places.specs.declared.place.Then.TheVariants.{BeginFound, LeaveWait, Resume, Await, RunFirst, Answers, Missing, Ran, GiveBack, Called, Gathers}
 use Rattle.rayon_machine_places.specs.declared.place.Taken.TheVariants.{Plain, Token}
 use Rattle.rayon_machine_places.specs.declared.place.Place.{Place}
-use Rattle.rayon_machine_places.specs.declared.place.Place.TheVariants.{ProbeWorking, PopWorking, TakeCastWorking, ProbeIdle, PopIdle, TakeCastIdle, PickVictim, StealFrom, PopInjected, AnnounceSelf, GetSleepy, FallAsleep, LoadCounters, AddSleeping, LookAtCast, LookAtInjector, WakeUp, LeaveSearch, JoinProbe, JoinPop, JoinTakeCast, YieldPop, YieldTakeCast, YieldPick, YieldSteal, YieldPopInjected, LocalPop, LocalTakeCast, BeginTask, BeginHere, RaiseCount, GrowCall, LookQueue, PushJob, TellNews, LockToWake, WakeWorker, UnlockWoken, TakeResult, LowerCount, StoreResult, SetLatch, UnlockSettled, SecondSide, AddToFifo, LookForToken, PushToken, TakeFromFifo, LockToSettle, WakeSettled, RaiseForAll, PushForAll, LowerForAll, GrowScope, OpenSlot, CloseSlot, SetLockLatch, OpenForAll, CloseForAll, GrowCast, DealPieces}
+use Rattle.rayon_machine_places.specs.declared.place.Place.TheVariants.{ProbeWorking, PopWorking, TakeCastWorking, ProbeIdle, PopIdle, TakeCastIdle, PickVictim, StealFrom, PopInjected, AnnounceSelf, GetSleepy, FallAsleep, LoadCounters, AddSleeping, LookAtCast, LookAtInjector}
+use Rattle.rayon_machine_places.specs.declared.place.Place.TheVariants.{WakeUp, LeaveSearch, JoinProbe, JoinPop, JoinTakeCast, YieldPop, YieldTakeCast, YieldPick, YieldSteal, YieldPopInjected, LocalPop, LocalTakeCast, BeginTask, BeginHere, RaiseCount, GrowCall, LookQueue}
+use Rattle.rayon_machine_places.specs.declared.place.Place.TheVariants.{PushJob, TellNews, LockToWake, WakeWorker, UnlockWoken, TakeResult, LowerCount, StoreResult, SetLatch, UnlockSettled, SecondSide, AddToFifo, LookForToken, PushToken, TakeFromFifo, LockToSettle, WakeSettled}
+use Rattle.rayon_machine_places.specs.declared.place.Place.TheVariants.{RaiseForAll, PushForAll, LowerForAll, GrowScope, OpenSlot, CloseSlot, SetLockLatch, OpenForAll, CloseForAll, GrowCast, DealPieces}
 use Rattle.rayon_machine_places.specs.declared.place.Move.{Move}
 use Rattle.rayon_machine_places.specs.declared.place.Move.TheVariants.{Stay, Enter, StartRun, Back, HandBack, Discard, HandIn, Mark, HandAllBack}
 use Rattle.rayon_machine_places.specs.declared.act.Seen.{Seen}
@@ -29,7 +32,8 @@ use Rattle.rayon_machine_places.specs.declared.act.Seen.TheVariants.{Done, Yes, 
 use Rattle.rayon_machine_places.specs.declared.shape.PoolShape.{PoolShape}
 use Rattle.rayon_machine_places.specs.declared.place.Wait.{Wait}
 use Rattle.rayon_machine_places.specs.declared.place.Settling.{Settling}
-use Rattle.rayon_machine_places.specs.Places.{same_party, own_pool, own_index, plan_pool, after_wait, finish, walk, settle, after_set, after_found, after_news, set_call, next_victim, not_self, after_failure, next_steal, next_yield, next_of, is_taken, after_raise, after_push, settle_count, begin_feed, begin_cast, end_cast, ends_count, after_slot, withdraw, plan_book, count_book, taken_number}
+use Rattle.rayon_machine_places.specs.Places.{same_party, own_pool, own_index, plan_pool, after_wait, finish, walk, settle, after_set, after_found, after_news, set_call, next_victim, not_self, after_failure, next_steal, next_yield, next_of, is_taken, after_raise, after_push}
+use Rattle.rayon_machine_places.specs.Places.{settle_count, begin_feed, begin_cast, end_cast, ends_count, after_slot, withdraw, plan_book, count_book, taken_number}
 use Rattle.rayon_machine_places.specs.World.{Stack, World}
 use Rattle.rayon_machine_places.specs.Steps.{put_stack, after_move, is_piece}
 use Rattle.rayon_machine_laws.specs.Once.{one, hand_rest, hand_then}
@@ -298,13 +302,16 @@ feds g q t (LookAtCast k) Yes = omega arith
 feds g q t (LookAtCast k) _ = omega arith
 feds g q t (LookAtInjector k) Yes = omega arith
 feds g q t (LookAtInjector k) _ = omega arith
-feds g q t (LoadCounters k) (Word a1 b1 j) = let a : fed_move t (if j == k.kept then Stay (AddSleeping (record k { sleeping = a1; inactive = b1 })) else Stay (WakeUp (record k { rounds = Failed g.limit }))) ≤ 0 = fed_if t 0 (Stay (AddSleeping (record k { sleeping = a1; inactive = b1 }))) (Stay (WakeUp (record k { rounds = Failed g.limit }))) (j == k.kept) (omega arith) (omega arith) in omega (arith, a)
+feds g q t (LoadCounters k) (Word a1 b1 j) = let a : fed_move t (if j == k.kept then Stay (AddSleeping (record k { sleeping = a1; inactive = b1 })) else Stay (WakeUp (record k { rounds = Failed g.limit }))) ≤ 0 =
+    fed_if t 0 (Stay (AddSleeping (record k { sleeping = a1; inactive = b1 }))) (Stay (WakeUp (record k { rounds = Failed g.limit }))) (j == k.kept) (omega arith) (omega arith) in omega (arith, a)
 feds g q t (LoadCounters k) _ = omega arith
-feds g q t (LeaveSearch k) (Wakes n) = let a : fed_move t (walk g q (own_pool q) n 0 (after_found k.target k.found)) ≤ fed_then t (after_found k.target k.found) = fed_walk t g q (own_pool q) n 0 (after_found k.target k.found) in let b : fed_then t (after_found k.target k.found) ≤ 0 = fed_found t k.target k.found in omega (arith, a, b)
+feds g q t (LeaveSearch k) (Wakes n) = let a : fed_move t (walk g q (own_pool q) n 0 (after_found k.target k.found)) ≤ fed_then t (after_found k.target k.found) = fed_walk t g q (own_pool q) n 0 (after_found k.target k.found) in let b : fed_then t (after_found k.target k.found) ≤ 0 =
+    fed_found t k.target k.found in omega (arith, a, b)
 feds g q t (LeaveSearch k) _ = omega arith
 feds g q t (JoinProbe o) Yes = omega arith
 feds g q t (JoinProbe o) _ = omega arith
-feds g q t (JoinPop o) (Task u) = let a : fed_move t (if is_taken u o.job then Enter (SecondSide o) (BeginHere o.job) else Enter (JoinProbe o) (BeginTask u)) ≤ 0 = fed_if t 0 (Enter (SecondSide o) (BeginHere o.job)) (Enter (JoinProbe o) (BeginTask u)) (is_taken u o.job) (omega arith) (omega arith) in omega (arith, a)
+feds g q t (JoinPop o) (Task u) = let a : fed_move t (if is_taken u o.job then Enter (SecondSide o) (BeginHere o.job) else Enter (JoinProbe o) (BeginTask u)) ≤ 0 =
+    fed_if t 0 (Enter (SecondSide o) (BeginHere o.job)) (Enter (JoinProbe o) (BeginTask u)) (is_taken u o.job) (omega arith) (omega arith) in omega (arith, a)
 feds g q t (JoinPop o) _ = omega arith
 feds g q t (JoinTakeCast o) (Task u) = omega arith
 feds g q t (JoinTakeCast o) _ = omega arith

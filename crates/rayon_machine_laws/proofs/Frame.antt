@@ -296,7 +296,8 @@ out_sees P q m b none some = by (is_open q (m.seat.feeder b))
     by false = tt
 
 -- the job that was added last comes out of a list that is open, or there is none
-pub undo_sees : (P : Seen × Part → Type 0) (q : Party) (m : Part) (b : Option ℕ) → P (Missing, m) → ((u : ℕ) → last_of (m.seat.fifo b) ≡ Some u → P (Task (Plain u), record m { seat = record (m.seat) { fifo = put_list m.seat.fifo b (but_last (m.seat.fifo b)); feeder = put_list m.seat.feeder b None }; job = at_job (m.job) (Retaken q) })) → IfSome (fifo_undo q m b) P
+pub undo_sees : (P : Seen × Part → Type 0) (q : Party) (m : Part) (b : Option ℕ) → P (Missing, m) → ((u : ℕ) → last_of (m.seat.fifo b) ≡ Some u
+    → P (Task (Plain u), record m { seat = record (m.seat) { fifo = put_list m.seat.fifo b (but_last (m.seat.fifo b)); feeder = put_list m.seat.feeder b None }; job = at_job (m.job) (Retaken q) })) → IfSome (fifo_undo q m b) P
 undo_sees P q m b none some = by (is_open q (m.seat.feeder b))
   where
     back : (o : Option ℕ) → last_of (m.seat.fifo b) ≡ o → IfSome (fifo_back q m b o) P
@@ -337,7 +338,8 @@ into_cases P w q n f = by (slice_get w.scopes n) refl
     by (Some z) e = at z e (is_free ((w.stack q).top) && holds z.call (w.stack q)) refl
 
 -- a job is spawned into a scope in order by a worker of the scope's pool that holds the scope, or it is spawned there
-pub into_fifo_cases : (P : World → Type 0) (w : World) (q : Party) (n : ℕ) → ((z : Scope) → slice_get w.scopes n ≡ Some z → is_free ((w.stack q).top) ≡ true → holds z.call (w.stack q) ≡ true → IfSome (after_enter w q (w.stack q) (Some z)) P) → ((z : Scope) (i : ℕ) → slice_get w.scopes n ≡ Some z → is_free ((w.stack (Worker z.pool i)).top) ≡ true → holds z.call (w.stack (Worker z.pool i)) ≡ true → P (after_feed w (OfScope z.call z.owner) z.pool i (w.stack (Worker z.pool i)))) → IfSome (after_into_fifo w q n (w.stack q)) P
+pub into_fifo_cases : (P : World → Type 0) (w : World) (q : Party) (n : ℕ) → ((z : Scope) → slice_get w.scopes n ≡ Some z → is_free ((w.stack q).top) ≡ true → holds z.call (w.stack q) ≡ true → IfSome (after_enter w q (w.stack q) (Some z)) P)
+    → ((z : Scope) (i : ℕ) → slice_get w.scopes n ≡ Some z → is_free ((w.stack (Worker z.pool i)).top) ≡ true → holds z.call (w.stack (Worker z.pool i)) ≡ true → P (after_feed w (OfScope z.call z.owner) z.pool i (w.stack (Worker z.pool i)))) → IfSome (after_into_fifo w q n (w.stack q)) P
 into_fifo_cases P w q n f g = by q f (slice_get w.scopes n) refl
   where
     Plainly : Party → Type 0
@@ -354,7 +356,8 @@ into_fifo_cases P w q n f g = by q f (slice_get w.scopes n) refl
     own z i r = if is_free ((w.stack (Worker r i)).top) && holds z.call (w.stack (Worker r i)) then Some (after_feed w (OfScope z.call z.owner) z.pool i (w.stack (Worker r i))) else None
 
     mine : (z : Scope) (i : ℕ) → slice_get w.scopes n ≡ Some z → IfSome (own z i z.pool) P
-    mine z i e = if_cond P (is_free ((w.stack (Worker z.pool i)).top) && holds z.call (w.stack (Worker z.pool i))) _ (λ b. let a : (is_free ((w.stack (Worker z.pool i)).top) ≡ true) × (holds z.call (w.stack (Worker z.pool i)) ≡ true) = and_parts (is_free ((w.stack (Worker z.pool i)).top)) (holds z.call (w.stack (Worker z.pool i))) b in g z i e (a.0) (a.1))
+    mine z i e = if_cond P (is_free ((w.stack (Worker z.pool i)).top) && holds z.call (w.stack (Worker z.pool i))) _
+        (λ b. let a : (is_free ((w.stack (Worker z.pool i)).top) ≡ true) × (holds z.call (w.stack (Worker z.pool i)) ≡ true) = and_parts (is_free ((w.stack (Worker z.pool i)).top)) (holds z.call (w.stack (Worker z.pool i))) b in g z i e (a.0) (a.1))
 
     fed : (r i : ℕ) → Plainly (Worker r i) → (z : Scope) → slice_get w.scopes n ≡ Some z → (b : Bool) → (r == z.pool) ≡ b → IfSome (if b then own z i r else after_enter w (Worker r i) (w.stack (Worker r i)) (Some z)) P
     fed r i h z e true b = subst (λ k. IfSome (own z i k) P) (sym (eqb-true r z.pool b)) (mine z i e)
@@ -366,7 +369,8 @@ into_fifo_cases P w q n f g = by q f (slice_get w.scopes n) refl
     by (Worker r i) h (Some z) e = fed r i h z e (r == z.pool) refl
 
 -- a broadcast into a scope that is there, by a free party that holds it
-pub into_cast_cases : (P : World → Type 0) (w : World) (q : Party) (n : ℕ) → ((z : Scope) → slice_get w.scopes n ≡ Some z → is_free ((w.stack q).top) ≡ true → holds z.call (w.stack q) ≡ true → P (after_deal w q (OfScope z.call z.owner) z.pool (w.stack q))) → IfSome (after_into_cast w q n (w.stack q)) P
+pub into_cast_cases : (P : World → Type 0) (w : World) (q : Party) (n : ℕ) → ((z : Scope) → slice_get w.scopes n ≡ Some z → is_free ((w.stack q).top) ≡ true → holds z.call (w.stack q) ≡ true → P (after_deal w q (OfScope z.call z.owner) z.pool (w.stack q)))
+    → IfSome (after_into_cast w q n (w.stack q)) P
 into_cast_cases P w q n f = by (slice_get w.scopes n) refl
   where
     by : (o : Option Scope) → slice_get w.scopes n ≡ o → IfSome (after_enter_cast w q (w.stack q) o) P

@@ -53,7 +53,8 @@ own_lock w q x e ok p i is blocks =
     ap (λ n. (w.seat n (target_worker (Worker p i) (act_of (Worker p i) x))).lock) (home_pool p i x home) ∙ ap (λ n. (w.seat p n).lock) (home_worker p i x home) ∙ ((ok p i).top).lock (ap (λ z. owns_in (mode z)) (ap (λ z. (w.stack z).top) (sym is) ∙ e) ∙ ap owns_in (blocking_dozes x blocks)) in
     subst (λ z. (w.seat (target_pool z (act_of z x)) (target_worker z (act_of z x))).lock ≡ Some z) (sym is) base
 
-at_lock : (w : World) (q : Party) (k : Stack) (g : Party) (a b : ℕ) (y d : Bool) → w.stack q ≡ k → SeatsOk w → FramesOk w → LocksOk w → same_party g q ≡ y → ((a == target_pool q (act_of q k.top)) && (b == target_worker q (act_of q k.top))) ≡ d → IfSome (outcome w q k) (λ r. holds ((if y then after_move (next_of (shape_at w q k) q k.top (r.0)) k.below else w.stack g).top) a b ≡ true → (if d then r.1.seat else w.seat a b).lock ≡ Some g)
+at_lock : (w : World) (q : Party) (k : Stack) (g : Party) (a b : ℕ) (y d : Bool) → w.stack q ≡ k → SeatsOk w → FramesOk w → LocksOk w → same_party g q ≡ y → ((a == target_pool q (act_of q k.top)) && (b == target_worker q (act_of q k.top))) ≡ d
+    → IfSome (outcome w q k) (λ r. holds ((if y then after_move (next_of (shape_at w q k) q k.top (r.0)) k.below else w.stack g).top) a b ≡ true → (if d then r.1.seat else w.seat a b).lock ≡ Some g)
 at_lock w q k g a b true d e ok fr locks ey ed =
     let x : Place = k.top in
     let p0 = target_pool q (act_of q x) in
@@ -90,4 +91,5 @@ at_frames w q k g true e fr r l = below_after (next_of (shape_at w q k) q k.top 
 at_frames w q k g false e fr r l = fr g
 
 pub go_frames : (w : World) (q : Party) (k : Stack) → w.stack q ≡ k → FramesOk w → IfSome (outcome w q k) (λ r. FramesOk (result w q k r))
-go_frames w q k e fr = if_some_map {A = Seen × Part} (λ r. Leads (is_heavy k.top) (next_of (shape_at w q k) q k.top (r.0))) (λ r. FramesOk (result w q k r)) (λ r l g. at_frames w q k g (same_party g q) e fr r l) (outcome w q k) (leads w.shape (shape_at w q k) q (counts_at w (target_pool q (act_of q k.top))) (part_of w (target_pool q (act_of q k.top)) (target_worker q (act_of q k.top)) (target_call (act_of q k.top)) (job_at w q (act_of q k.top))) k.top)
+go_frames w q k e fr = if_some_map {A = Seen × Part} (λ r. Leads (is_heavy k.top) (next_of (shape_at w q k) q k.top (r.0))) (λ r. FramesOk (result w q k r)) (λ r l g. at_frames w q k g (same_party g q) e fr r l) (outcome w q k)
+    (leads w.shape (shape_at w q k) q (counts_at w (target_pool q (act_of q k.top))) (part_of w (target_pool q (act_of q k.top)) (target_worker q (act_of q k.top)) (target_call (act_of q k.top)) (job_at w q (act_of q k.top))) k.top)

@@ -8,7 +8,8 @@ use Rattle.std.specs.Prelude.{ℕ, Bool, true, false, ◌≡◌, Option, Some, N
 use Rattle.rayon_machine_places.specs.declared.place.Rounds.{Rounds}
 use Rattle.rayon_machine_places.specs.declared.place.Rounds.TheVariants.{Failed, Announced}
 use Rattle.rayon_machine_places.specs.declared.place.Place.{Place}
-use Rattle.rayon_machine_places.specs.declared.place.Place.TheVariants.{ProbeWorking, TakeCastWorking, BecomeInactive, ProbeIdle, PopIdle, TakeCastIdle, PickVictim, StealFrom, PopInjected, AnnounceSelf, GetSleepy, LockOwn, FallAsleep, LoadCounters, AddSleeping, LookAtCast, LookAtInjector, BlockSelf, RelockOwn, UndoSleeping, WakeUp, UnlockOwn, RaiseForAll, PushForAll, OpenForAll, GrowCast, DealPieces, RaiseCount}
+use Rattle.rayon_machine_places.specs.declared.place.Place.TheVariants.{ProbeWorking, TakeCastWorking, BecomeInactive, ProbeIdle, PopIdle, TakeCastIdle, PickVictim, StealFrom, PopInjected, AnnounceSelf, GetSleepy, LockOwn, FallAsleep, LoadCounters, AddSleeping, LookAtCast}
+use Rattle.rayon_machine_places.specs.declared.place.Place.TheVariants.{LookAtInjector, BlockSelf, RelockOwn, UndoSleeping, WakeUp, UnlockOwn, RaiseForAll, PushForAll, OpenForAll, GrowCast, DealPieces, RaiseCount}
 use Rattle.rayon_machine_laws.proofs.Seats.{is_frame}
 
 -- the worker has announced itself since it last was busy

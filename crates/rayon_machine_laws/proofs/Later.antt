@@ -27,7 +27,10 @@ use Rattle.rayon_machine_places.specs.declared.place.Then.{Then}
 use Rattle.rayon_machine_places.specs.declared.place.Then.TheVariants.{BeginFound, LeaveWait, Resume, Await, RunFirst, Answers, Missing, Ran, GiveBack, Called, Gathers}
 use Rattle.rayon_machine_places.specs.declared.place.Taken.{Taken}
 use Rattle.rayon_machine_places.specs.declared.place.Place.{Place}
-use Rattle.rayon_machine_places.specs.declared.place.Place.TheVariants.{ProbeWorking, PopWorking, TakeCastWorking, BecomeInactive, ProbeIdle, PopIdle, TakeCastIdle, PickVictim, StealFrom, PopInjected, AnnounceSelf, GetSleepy, LockOwn, FallAsleep, LoadCounters, AddSleeping, LookAtCast, LookAtInjector, BlockSelf, RelockOwn, UndoSleeping, WakeUp, UnlockOwn, LeaveSearch, JoinProbe, JoinPop, JoinTakeCast, BeginTask, BeginHere, Run, RaiseCount, GrowCall, LookQueue, PushJob, TellNews, LockToWake, WakeWorker, UnlockWoken, WaitForLock, TakeResult, LowerCount, StoreResult, SetLatch, LockToSettle, WakeSettled, UnlockSettled, SetLockLatch, FirstSide, SecondSide, AtOnce, AddToFifo, LookForToken, PushToken, TakeFromFifo, RaiseForAll, PushForAll, LowerForAll, GrowScope, OpenSlot, CloseSlot, StoreBody, StoreSlot, ScopeBody, OpenForAll, CloseForAll, GrowCast, DealPieces, StorePiece}
+use Rattle.rayon_machine_places.specs.declared.place.Place.TheVariants.{ProbeWorking, PopWorking, TakeCastWorking, BecomeInactive, ProbeIdle, PopIdle, TakeCastIdle, PickVictim, StealFrom, PopInjected, AnnounceSelf, GetSleepy, LockOwn, FallAsleep, LoadCounters, AddSleeping}
+use Rattle.rayon_machine_places.specs.declared.place.Place.TheVariants.{LookAtCast, LookAtInjector, BlockSelf, RelockOwn, UndoSleeping, WakeUp, UnlockOwn, LeaveSearch, JoinProbe, JoinPop, JoinTakeCast, BeginTask, BeginHere, Run, RaiseCount, GrowCall, LookQueue, PushJob, TellNews}
+use Rattle.rayon_machine_places.specs.declared.place.Place.TheVariants.{LockToWake, WakeWorker, UnlockWoken, WaitForLock, TakeResult, LowerCount, StoreResult, SetLatch, LockToSettle, WakeSettled, UnlockSettled, SetLockLatch, FirstSide, SecondSide, AtOnce, AddToFifo, LookForToken}
+use Rattle.rayon_machine_places.specs.declared.place.Place.TheVariants.{PushToken, TakeFromFifo, RaiseForAll, PushForAll, LowerForAll, GrowScope, OpenSlot, CloseSlot, StoreBody, StoreSlot, ScopeBody, OpenForAll, CloseForAll, GrowCast, DealPieces, StorePiece}
 use Rattle.rayon_machine_places.specs.declared.act.Seen.{Seen}
 use Rattle.rayon_machine_places.specs.declared.act.Seen.TheVariants.{Done, Refused, Yes, No}
 use Rattle.rayon_machine_places.specs.declared.state.Whereabouts.{Whereabouts}
@@ -37,7 +40,8 @@ use Rattle.rayon_machine_places.specs.Places.{act_of, own_index, plan_count, cou
 use Rattle.rayon_machine_places.specs.World.{Shape, Stack, World, Counts, Part, lowered, effect, count_in, raised, all_raised, all_lowered, pool_more, call_more, pool_less, call_less}
 use Rattle.rayon_machine_places.specs.Readers.{is_done}
 use Rattle.rayon_machine_laws.proofs.Acts.{Field, Fixed, PoolCount, CallCount, writes_at, keeps}
-use Rattle.rayon_machine_laws.proofs.Claims.{Opened, IsStored, call_kind, is_body, MadeAs, FirstEnds, SaysTarget, Left, Taking, is_detached, Awaited, SaysFound, SaysPlan, SaysQueue, SaysThen, SaysOwner, SaysShare, SaysLatch, SaysRun, Says, AllSay, StackSays, SaysTold, SaysPieces, SaysEntry, IsReady, Tied, PartOf, KnownCount, SaysCast, SaysGather, PieceEnds, EndsAs, SaysSlot, SaysTaken}
+use Rattle.rayon_machine_laws.proofs.Claims.{Opened, IsStored, call_kind, is_body, MadeAs, FirstEnds, SaysTarget, Left, Taking, is_detached, Awaited, SaysFound, SaysPlan, SaysQueue, SaysThen, SaysOwner, SaysShare, SaysLatch, SaysRun, Says, AllSay, StackSays, SaysTold, SaysPieces}
+use Rattle.rayon_machine_laws.proofs.Claims.{SaysEntry, IsReady, Tied, PartOf, KnownCount, SaysCast, SaysGather, PieceEnds, EndsAs, SaysSlot, SaysTaken}
 use Rattle.rayon_machine_places.specs.declared.place.Taken.TheVariants.{Plain, Token}
 
 pub record Later (w u : World) : Type 0 where
@@ -95,7 +99,8 @@ later_part w u l t c o s = record {
   kind = ap (λ t. (u.job t).kind) to ∙ l.kind ((w.call c).job) (s.made) ∙ s.kind;
   pool = l.pool t (let a : t + 1 ≤ (w.call c).job = s.below in let b : (w.call c).job + 1 ≤ w.jobs = s.made in omega (arith, a, b)) ∙ s.pool ∙ sym (ap (λ n. (u.job n).pool) to ∙ l.pool ((w.call c).job) (s.made));
   below = (let a : t + 1 ≤ (w.call c).job = s.below in omega (arith, a, to));
-  above = (let a : (w.call c).job ≤ t + (w.shape.pool (w.job (w.call c).job).pool).workers = s.above in let b : (u.shape.pool (u.job (u.call c).job).pool).workers ≡ (w.shape.pool (w.job (w.call c).job).pool).workers = ap (λ h. (h.pool (u.job (u.call c).job).pool).workers) (l.shape) ∙ ap (λ n. (w.shape.pool n).workers) (ap (λ n. (u.job n).pool) to ∙ l.pool ((w.call c).job) (s.made)) in omega (arith, a, b, to));
+  above = (let a : (w.call c).job ≤ t + (w.shape.pool (w.job (w.call c).job).pool).workers = s.above in let b : (u.shape.pool (u.job (u.call c).job).pool).workers ≡ (w.shape.pool (w.job (w.call c).job).pool).workers = ap (λ h. (h.pool (u.job (u.call c).job).pool).workers) (l.shape)
+      ∙ ap (λ n. (w.shape.pool n).workers) (ap (λ n. (u.job n).pool) to ∙ l.pool ((w.call c).job) (s.made)) in omega (arith, a, b, to));
 }
   where
     to : (u.call c).job ≡ (w.call c).job

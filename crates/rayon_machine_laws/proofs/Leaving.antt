@@ -35,7 +35,8 @@ look_still : (h : PoolShape) (q : Party) (j : Wait) (fs : List Place) (l : List 
 look_still h q j fs [] f = cc
 look_still h q j fs (y ∷ ys) f = refl
 
-pub look_attends : (w : World) (c d : ℕ) (j : Wait) (fs : List Place) → w.stack (Worker c d) ≡ record { top = LookAtInjector j; below = fs } → Attended w → IfSome (outcome w (Worker c d) (record { top = LookAtInjector j; below = fs })) (λ r. Attended (result w (Worker c d) (record { top = LookAtInjector j; below = fs }) r))
+pub look_attends : (w : World) (c d : ℕ) (j : Wait) (fs : List Place) → w.stack (Worker c d) ≡ record { top = LookAtInjector j; below = fs } → Attended w
+    → IfSome (outcome w (Worker c d) (record { top = LookAtInjector j; below = fs })) (λ r. Attended (result w (Worker c d) (record { top = LookAtInjector j; below = fs }) r))
 look_attends w c d j fs e a p i below filled has =
     let r : Seen × Part = (empty_seen (w.pool c).injector, part_at w (Worker c d) k) in
     let filled' : is_filled (w.pool p).injector ≡ true = filled_put w c (w.pool c) p (p == c) refl (λ is h. h) filled in
@@ -53,7 +54,8 @@ look_attends w c d j fs e a p i below filled has =
     at p i false eb f = (λ h. h, refl)
 
 -- a worker that blocks itself was committed, and is
-pub block_attends : (w : World) (c d : ℕ) (j : Wait) (fs : List Place) → w.stack (Worker c d) ≡ record { top = BlockSelf j; below = fs } → Attended w → IfSome (outcome w (Worker c d) (record { top = BlockSelf j; below = fs })) (λ r. Attended (result w (Worker c d) (record { top = BlockSelf j; below = fs }) r))
+pub block_attends : (w : World) (c d : ℕ) (j : Wait) (fs : List Place) → w.stack (Worker c d) ≡ record { top = BlockSelf j; below = fs } → Attended w
+    → IfSome (outcome w (Worker c d) (record { top = BlockSelf j; below = fs })) (λ r. Attended (result w (Worker c d) (record { top = BlockSelf j; below = fs }) r))
 block_attends w c d j fs e a p =
     let r : Seen × Part = (Done, record (part_at w (Worker c d) k) { seat = record (w.seat c d) { blocked = true; lock = None } }) in
     attended_same w (result w (Worker c d) k r) p (same_quiet w (Worker c d) k e r p (λ n. at p n ((p == c) && (n == d)) refl) (λ is h. h) (λ n b o. cc)) (a p)
@@ -76,7 +78,8 @@ walk_awake : (h : PoolShape) (q : Party) (r n j : ℕ) (t : Then) (fs : List Pla
 walk_awake h q r n j t fs a = top_after (λ y. is_blocking y ≡ false) (walk h q r n j t) fs (tops_map (λ y. is_light y ≡ true) (λ y. is_blocking y ≡ false) light_awake (walk h q r n j t) (leads_tops (walk h q r n j t) (walk_leads false h q r n j t))) frame_awake a
 
 -- who leaves its search wakes one if anybody sleeps
-pub leave_attends : (w : World) (c d : ℕ) (j : Wait) (fs : List Place) → w.stack (Worker c d) ≡ record { top = LeaveSearch j; below = fs } → SeatsOk w → FramesOk w → Attended w → IfSome (outcome w (Worker c d) (record { top = LeaveSearch j; below = fs })) (λ r. Attended (result w (Worker c d) (record { top = LeaveSearch j; below = fs }) r))
+pub leave_attends : (w : World) (c d : ℕ) (j : Wait) (fs : List Place) → w.stack (Worker c d) ≡ record { top = LeaveSearch j; below = fs } → SeatsOk w → FramesOk w → Attended w
+    → IfSome (outcome w (Worker c d) (record { top = LeaveSearch j; below = fs })) (λ r. Attended (result w (Worker c d) (record { top = LeaveSearch j; below = fs }) r))
 leave_attends w c d j fs e ok fr a p = by_pool p (p == c) refl
   where
     k : Stack
@@ -94,7 +97,8 @@ leave_attends w c d j fs e ok fr a p = by_pool p (p == c) refl
     frames : AllFrames fs
     frames = subst (λ z. AllFrames (z.below)) e (fr (Worker c d))
 
-    at : (p i : ℕ) (b : Bool) → ((p == c) && (i == d)) ≡ b → ((p ≡ c → ⊥) → (w.seat p i).inactive ≡ true → (if b then record (w.seat c d) { inactive = false } else w.seat p i).inactive ≡ true) × ((is_blocking ((if b then to else w.stack (Worker p i)).top) || (if b then record (w.seat c d) { inactive = false } else w.seat p i).blocked) ≡ is_committed w p i)
+    at : (p i : ℕ) (b : Bool) → ((p == c) && (i == d)) ≡ b → ((p ≡ c → ⊥) → (w.seat p i).inactive ≡ true → (if b then record (w.seat c d) { inactive = false } else w.seat p i).inactive ≡ true)
+        × ((is_blocking ((if b then to else w.stack (Worker p i)).top) || (if b then record (w.seat c d) { inactive = false } else w.seat p i).blocked) ≡ is_committed w p i)
     at p i true eb =
         let me : (p ≡ c) × (i ≡ d) = same_index p i c d eb in
         let seat : w.seat c d ≡ w.seat p i = ap (λ n. w.seat n d) (sym (me.0)) ∙ ap (λ n. w.seat p n) (sym (me.1)) in
@@ -108,5 +112,8 @@ leave_attends w c d j fs e ok fr a p = by_pool p (p == c) refl
         let con : is_committed w p i ≡ true = sym ((at p i ((p == c) && (i == d)) refl).1) ∙ has in
         let some : 0 < count_below (w.shape.pool p).workers (λ i. (w.seat p i).asleep) = count_some (w.shape.pool p).workers (λ i. (w.seat p i).asleep) i below (committed_sleeps w p i ok con) in
         let some' : 0 < (counts_at w c).sleeping = subst (λ n. 0 < (counts_at w n).sleeping) is some in
-        inr (owing_here w (Worker c d) (to.top) (result w (Worker c d) k r) p i (top_is w (Worker c d) k r) below has (owes_walk (w.shape.pool c) (Worker c d) c number 0 (after_found j.target j.found) fs p i (eq-eqb c p (sym is)) (lt-ltb 0 number (some_wakes ((counts_at w c).sleeping) some')) (omega arith) (subst (λ n. i < (w.shape.pool n).workers) is below)))
-    by_pool p false eb i below filled has = attended_same w (result w (Worker c d) k r) p (same_quiet w (Worker c d) k e r p (λ n. let q : ((p ≡ c → ⊥) → (w.seat p n).inactive ≡ true → ((result w (Worker c d) k r).seat p n).inactive ≡ true) × (is_committed (result w (Worker c d) k r) p n ≡ is_committed w p n) = at p n ((p == c) && (n == d)) refl in (q.0 (λ is. let t : (p == c) ≡ true = eq-eqb p c is in cc), q.1)) (λ is h. h) (λ n b o. cc)) (a p) i below filled has
+        inr (owing_here w (Worker c d) (to.top) (result w (Worker c d) k r) p i (top_is w (Worker c d) k r) below has
+        (owes_walk (w.shape.pool c) (Worker c d) c number 0 (after_found j.target j.found) fs p i (eq-eqb c p (sym is)) (lt-ltb 0 number (some_wakes ((counts_at w c).sleeping) some')) (omega arith) (subst (λ n. i < (w.shape.pool n).workers) is below)))
+    by_pool p false eb i below filled has = attended_same w (result w (Worker c d) k r) p (same_quiet w (Worker c d) k e r p
+        (λ n. let q : ((p ≡ c → ⊥) → (w.seat p n).inactive ≡ true → ((result w (Worker c d) k r).seat p n).inactive ≡ true) × (is_committed (result w (Worker c d) k r) p n ≡ is_committed w p n) = at p n ((p == c) && (n == d)) refl in
+        (q.0 (λ is. let t : (p == c) ≡ true = eq-eqb p c is in cc), q.1)) (λ is h. h) (λ n b o. cc)) (a p) i below filled has

@@ -199,7 +199,8 @@ given_none w t g s f p = by g s f
     by (StartRun y a) s f = omega arith
     by Back s f = omega arith
 
-pub dealt_stays : (w : World) (q : Party) (x : Place) (fs : List Place) (r : Seen × Part) → CallsHold w → w.stack q ≡ record { top = x; below = fs } → StartsAwaited w (next_of (w.shape.pool (target_pool q (act_of q x))) q x (r.0)) → Unlost (place_part w q x) r → ((t : ℕ) → Left w t → Left (world_after w q x fs r) t) → (t : ℕ) → is_part (w.job t).kind ≡ true → is_dealt (w.job t).at ≡ true → is_dealt ((world_after w q x fs r).job t).at ≡ true
+pub dealt_stays : (w : World) (q : Party) (x : Place) (fs : List Place) (r : Seen × Part) → CallsHold w → w.stack q ≡ record { top = x; below = fs } → StartsAwaited w (next_of (w.shape.pool (target_pool q (act_of q x))) q x (r.0)) → Unlost (place_part w q x) r
+    → ((t : ℕ) → Left w t → Left (world_after w q x fs r) t) → (t : ℕ) → is_part (w.job t).kind ≡ true → is_dealt (w.job t).at ≡ true → is_dealt ((world_after w q x fs r).job t).at ≡ true
 dealt_stays w q x fs r h z s un le t p d = left_dealt (((world_after w q x fs r).job t).at) (le t (dealt_left ((w.job t).at) d)) (omega (arith, landed, given, touched, was))
   where
     g : Move

@@ -129,7 +129,8 @@ end_bears w q d t k fs ow e =
     }
 
 -- a new job, of a call that was there or of none
-owned_job : (w : World) (q : Party) (t : ℕ) (v : Job) (f : Party → Stack) → Owned w → w.jobs ≤ t → ((c : ℕ) (o : Party) → owner_of v.kind ≡ Some (c, o) → Mine w o c) → (n : ℕ) → w.jobs ≤ n → Grown w (record w { stack = f; job = put w.job t v; jobs = n }) × ((u c : ℕ) (o : Party) → owner_of (put w.job t v u).kind ≡ Some (c, o) → Mine (record w { stack = f; job = put w.job t v; jobs = n }) o c)
+owned_job : (w : World) (q : Party) (t : ℕ) (v : Job) (f : Party → Stack) → Owned w → w.jobs ≤ t → ((c : ℕ) (o : Party) → owner_of v.kind ≡ Some (c, o) → Mine w o c) → (n : ℕ) → w.jobs ≤ n
+    → Grown w (record w { stack = f; job = put w.job t v; jobs = n }) × ((u c : ℕ) (o : Party) → owner_of (put w.job t v u).kind ≡ Some (c, o) → Mine (record w { stack = f; job = put w.job t v; jobs = n }) o c)
 owned_job w q t v f ow new own n more = (g, kinds)
   where
     u : World
@@ -401,7 +402,11 @@ into_scope w q n z ow e =
       kinds = h.1;
       called = λ c l. (let z : (w.call c).job < w.jobs = ow.called c l in omega arith);
       scopes = λ n z e. grown_mine w u ow (h.0) z.owner z.call (ow.scopes n z e);
-      named = called_names w u q y ow (h.0) (record { own = λ c e. absurd (cc); sets = λ c p e. grown_sets w u ow (h.0) c p (subst (SetsFor w c) (ap some_shown e) (subst (λ a. SetsFor w a (shown z.owner)) (ap number_of e) (own.0, owner_calls (w.job (w.call z.call).job).kind z.call z.owner (own.1)))) });
+      named = called_names w u q y ow (h.0) (record {
+        own = λ c e. absurd (cc);
+        sets = λ c p e. grown_sets w u ow (h.0) c p
+            (subst (SetsFor w c) (ap some_shown e) (subst (λ a. SetsFor w a (shown z.owner)) (ap number_of e) (own.0, owner_calls (w.job (w.call z.call).job).kind z.call z.owner (own.1))));
+      });
     }
 
 gather_bears : (w : World) (q : Party) (p : ℕ) → Owned w → Bears w (after_gather w q p (w.stack q))
@@ -490,7 +495,16 @@ give_bears w q p ow =
     let y : Place = LowerCount (OfPool p) PoolValue Resume in
     let u : World = record w { stack = put_stack w.stack q (after_call (w.stack q) y); pool = put w.pool p (record (w.pool p) { held = false }) } in
     let g : Grown w u = record { calls = omega arith; call = λ c l. refl; kind = λ t l. refl } in
-    record { party = q; to = after_call (w.stack q) y; stack = λ r. refl; grown = g; kinds = λ t c o k. grown_mine w u ow g o c (ow.kinds t c o k); called = ow.called; scopes = λ n z e. grown_mine w u ow g z.owner z.call (ow.scopes n z e); named = called_names w u q y ow g (nameless u q y refl refl) }
+    record {
+      party = q;
+      to = after_call (w.stack q) y;
+      stack = λ r. refl;
+      grown = g;
+      kinds = λ t c o k. grown_mine w u ow g o c (ow.kinds t c o k);
+      called = ow.called;
+      scopes = λ n z e. grown_mine w u ow g z.owner z.call (ow.scopes n z e);
+      named = called_names w u q y ow g (nameless u q y refl refl);
+    }
 
 event_bears : (w : World) → Owned w → (e : Event) → is_act e ≡ false → IfSome (step w e) (Bears w)
 event_bears w ow = event_cases (Bears w) w (record {

@@ -182,8 +182,10 @@ run_names : (w : World) (q : Party) (t : ℕ) → Owned w → Names w q (Run t (
 run_names w q t ow = record { own = λ c e. absurd (cc); sets = λ c p e. kind_sets w ow t c p e }
 
 begin_names : (w : World) (q : Party) (x : Taken) (fs : List Place) → Owned w → IfSome (outcome w q (record { top = BeginTask x; below = fs })) (λ r. Both (Names w q) (next_at w q (record { top = BeginTask x; below = fs }) (r.0)))
-begin_names w (Worker i j) (Token k v b8) fs ow = out_sees (λ r. Both (Names w (Worker i j)) (after_begin (Token k v b8) (r.0))) (Worker i j) (part_of w i v 0 (or_none (head_of ((w.seat i v).fifo b8)))) b8 tt (λ u us is. subst (λ n. Names w (Worker i j) (Run u ((w.job n).kind))) (ap (λ l. or_none (head_of l)) (sym is)) (run_names w (Worker i j) u ow))
-begin_names w (Caller n) (Token k v b8) fs ow = out_sees (λ r. Both (Names w (Caller n)) (after_begin (Token k v b8) (r.0))) (Caller n) (part_of w 0 v 0 (or_none (head_of ((w.seat 0 v).fifo b8)))) b8 tt (λ u us is. subst (λ m. Names w (Caller n) (Run u ((w.job m).kind))) (ap (λ l. or_none (head_of l)) (sym is)) (run_names w (Caller n) u ow))
+begin_names w (Worker i j) (Token k v b8) fs ow = out_sees (λ r. Both (Names w (Worker i j)) (after_begin (Token k v b8) (r.0))) (Worker i j) (part_of w i v 0 (or_none (head_of ((w.seat i v).fifo b8)))) b8 tt
+    (λ u us is. subst (λ n. Names w (Worker i j) (Run u ((w.job n).kind))) (ap (λ l. or_none (head_of l)) (sym is)) (run_names w (Worker i j) u ow))
+begin_names w (Caller n) (Token k v b8) fs ow = out_sees (λ r. Both (Names w (Caller n)) (after_begin (Token k v b8) (r.0))) (Caller n) (part_of w 0 v 0 (or_none (head_of ((w.seat 0 v).fifo b8)))) b8 tt
+    (λ u us is. subst (λ m. Names w (Caller n) (Run u ((w.job m).kind))) (ap (λ l. or_none (head_of l)) (sym is)) (run_names w (Caller n) u ow))
 begin_names w (Worker i j) (Plain t) fs ow = record { own = λ c e. absurd (cc); sets = λ c p e. kind_sets w ow t c p e }
 begin_names w (Caller n) (Plain t) fs ow = record { own = λ c e. absurd (cc); sets = λ c p e. kind_sets w ow t c p e }
 
@@ -201,7 +203,8 @@ owner_sets w q c p m e = (m.0, owner_calls (w.job (w.call c).job).kind c q (m.1)
 
 next_names : (w : World) (q : Party) (x : Place) (fs : List Place) → Owned w → w.stack q ≡ record { top = x; below = fs } → IfSome (outcome w q (record { top = x; below = fs })) (λ r. Both (Names w q) (next_at w q (record { top = x; below = fs }) (r.0)))
 next_names w q (BeginTask t) fs ow e = begin_names w q t fs ow
-next_names w q (StoreBody o d) fs ow e = if_some_all {A = Seen × Part} (λ r. Both (Names w q) (next_at w q (record { top = StoreBody o d; below = fs }) (r.0))) (λ r. record { own = λ c z. body.own c z; sets = λ c p z. owner_sets w q c p (body.own c (ap some_number z)) (ap some_shown z) }) (outcome w q (record { top = StoreBody o d; below = fs }))
+next_names w q (StoreBody o d) fs ow e = if_some_all {A = Seen × Part} (λ r. Both (Names w q) (next_at w q (record { top = StoreBody o d; below = fs }) (r.0))) (λ r. record { own = λ c z. body.own c z; sets = λ c p z. owner_sets w q c p (body.own c (ap some_number z)) (ap some_shown z) })
+    (outcome w q (record { top = StoreBody o d; below = fs }))
   where
     body : Names w q (StoreBody o d)
     body = subst (λ z. Names w q (z.top)) e ((ow.named q).top)
@@ -226,5 +229,6 @@ go_owned w ow q =
     (if_some_and (Fixed (part_at w q k)) (λ r. Both (Names w q) (next_at w q k (r.0))) (outcome w q k) (act_fixed w.shape q (counts_seen w q k) (part_at w q k) k.top) (next_names w q k.top k.below ow refl))
   where
     at : (r : Seen × Part) → Grown w (result w q (w.stack q) r) → Both (Names w q) (next_at w q (w.stack q) (r.0)) → (p : Party) (b : Bool) → same_party p q ≡ b → StackNames (result w q (w.stack q) r) p (if b then after_move (next_at w q (w.stack q) (r.0)) (w.stack q).below else w.stack p)
-    at r g t p true e = subst (λ z. StackNames (result w q (w.stack q) r) z (after_move (next_at w q (w.stack q) (r.0)) (w.stack q).below)) (sym (same_party_true p q e)) (grown_stack w (result w q (w.stack q) r) ow g q (after_move (next_at w q (w.stack q) (r.0)) (w.stack q).below) (land_names w q (next_at w q (w.stack q) (r.0)) (w.stack q).below t ((ow.named q).below)))
+    at r g t p true e = subst (λ z. StackNames (result w q (w.stack q) r) z (after_move (next_at w q (w.stack q) (r.0)) (w.stack q).below)) (sym (same_party_true p q e))
+        (grown_stack w (result w q (w.stack q) r) ow g q (after_move (next_at w q (w.stack q) (r.0)) (w.stack q).below) (land_names w q (next_at w q (w.stack q) (r.0)) (w.stack q).below t ((ow.named q).below)))
     at r g t p false e = grown_stack w (result w q (w.stack q) r) ow g p (w.stack p) (ow.named p)

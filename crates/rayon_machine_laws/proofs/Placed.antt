@@ -21,7 +21,8 @@ use Rattle.rayon_machine_places.specs.declared.place.Feeding.{Feeding}
 use Rattle.rayon_machine_places.specs.declared.place.Taken.{Taken}
 use Rattle.rayon_machine_places.specs.declared.place.Taken.TheVariants.{Plain, Token}
 use Rattle.rayon_machine_places.specs.declared.place.Place.{Place}
-use Rattle.rayon_machine_places.specs.declared.place.Place.TheVariants.{PopWorking, TakeCastWorking, PopIdle, TakeCastIdle, StealFrom, PopInjected, JoinPop, JoinTakeCast, YieldPop, YieldTakeCast, YieldSteal, YieldPopInjected, LocalPop, LocalTakeCast, BeginTask, BeginHere, Run, PushJob, AddToFifo, LookForToken, PushToken, TakeFromFifo, TellNews, PushForAll, DealPieces}
+use Rattle.rayon_machine_places.specs.declared.place.Place.TheVariants.{PopWorking, TakeCastWorking, PopIdle, TakeCastIdle, StealFrom, PopInjected, JoinPop, JoinTakeCast, YieldPop, YieldTakeCast, YieldSteal, YieldPopInjected, LocalPop, LocalTakeCast, BeginTask, BeginHere, Run}
+use Rattle.rayon_machine_places.specs.declared.place.Place.TheVariants.{PushJob, AddToFifo, LookForToken, PushToken, TakeFromFifo, TellNews, PushForAll, DealPieces}
 use Rattle.rayon_machine_places.specs.declared.place.Move.{Move}
 use Rattle.rayon_machine_places.specs.declared.place.Move.TheVariants.{Stay}
 use Rattle.rayon_machine_places.specs.declared.act.Act.{Act}
@@ -32,7 +33,8 @@ use Rattle.rayon_machine_places.specs.declared.state.Whereabouts.TheVariants.{Ma
 use Rattle.rayon_machine_places.specs.declared.shape.PoolShape.{PoolShape}
 use Rattle.rayon_machine_places.specs.declared.state.Job.{Job}
 use Rattle.rayon_machine_places.specs.Places.{same_party, own_pool, own_index, is_member, plan_pool, plan_job, act_of, next_of, taken_number, plan_book, count_book, withdraw, after_push}
-use Rattle.rayon_machine_places.specs.World.{Stack, World, counts_at, Part, target_pool, target_worker, target_call, head_of, last_of, but_last, or_none, is_open, left_by, taken_as, fifo_back, fifo_first, Outcome, at_job, begun, popped, take_cast, pop_injector, effect, left_book, same_list, put_list}
+use Rattle.rayon_machine_places.specs.World.{Stack, World, counts_at, Part, target_pool, target_worker, target_call, head_of, last_of, but_last, or_none, is_open, left_by, taken_as, fifo_back, fifo_first, Outcome, at_job, begun, popped, take_cast, pop_injector, effect, left_book}
+use Rattle.rayon_machine_places.specs.World.{same_list, put_list}
 use Rattle.rayon_machine_places.specs.Steps.{put, put_stack, put_seat, part_of, step}
 use Rattle.rayon_machine_laws.specs.Once.{one, times, run_of, runs_in}
 use Rattle.rayon_machine_laws.proofs.Frame.{same_index, same_refl, same_party_true, same_party_refl, if_some_each, if_some_and, if_some_map, same_list_true}
@@ -40,7 +42,8 @@ use Rattle.rayon_machine_laws.proofs.Ties.{job_at, shape_at, outcome}
 use Rattle.rayon_machine_laws.proofs.Hands.{hand, held_in, held, worked, paused, hand_move, run_move, land_held, land_worked, got, outs, starts, given, table, run_table, hand_plan, is_gather, queues_whole, given_plan, given_one}
 use Rattle.rayon_machine_laws.proofs.Feeds.{fed_in, all_fed}
 use Rattle.rayon_machine_laws.proofs.Lists.{moves_no_job, SameJobs, quiet_same, times_first, times_own, times_push, times_drop}
-use Rattle.rayon_machine_laws.proofs.Located.{Loc, same_loc, loc_of, loc_at, is_loc, weight, JobsPlaced, comes, Shifts, was_at, shift_ok, fits, JobsFit, IsOnward, onward_same, onward_loc, is_hand, in_hand, made_hand, at_line, is_work, unbegun, Hand, Work, Deck, Cast, Inj, Line, where_is, and_true, and_false, comes_true, comes_false, same_loc_refl}
+use Rattle.rayon_machine_laws.proofs.Located.{Loc, same_loc, loc_of, loc_at, is_loc, weight, JobsPlaced, comes, Shifts, was_at, shift_ok, fits, JobsFit, IsOnward, onward_same, onward_loc, is_hand, in_hand, made_hand, at_line, is_work, unbegun, Hand, Work, Deck, Cast, Inj, Line}
+use Rattle.rayon_machine_laws.proofs.Located.{where_is, and_true, and_false, comes_true, comes_false, same_loc_refl}
 
 -- what a step keeps of the jobs: each in its one place, begun as often as fits there, none gone back; and what is as
 -- its call has made it stays so while it is in hand
@@ -74,7 +77,12 @@ midway w q s p i c n r = record w {
 }
 
 -- the weights halfway through an act, from those of the party's own stack and of the part that it touched
-weights_mid : (w : World) (q : Party) (k : Stack) (p0 i0 c0 n0 : ℕ) (r : Seen × Part) (A B : Loc → ℕ → ℕ) → w.stack q ≡ k → ((t : ℕ) → held t (paused (next_of (w.shape.pool p0) q (k.top) (r.0)) k.below) + A (Hand q) t ≡ held t k + B (Hand q) t) → ((t : ℕ) → worked t (paused (next_of (w.shape.pool p0) q (k.top) (r.0)) k.below) + A (Work q) t ≡ worked t k + B (Work q) t) → ((t : ℕ) → times t (r.1.seat.own) + A (Deck p0 i0) t ≡ times t ((w.seat p0 i0).own) + B (Deck p0 i0) t) → ((b : Option ℕ) (t : ℕ) → times t (r.1.seat.fifo b) + A (Line p0 i0 b) t ≡ times t ((w.seat p0 i0).fifo b) + B (Line p0 i0 b) t) → ((t : ℕ) → times t (r.1.pool.injector) + A (Inj p0) t ≡ times t ((w.pool p0).injector) + B (Inj p0) t) → ((i t : ℕ) → times t (r.1.pool.casts i) + A (Cast p0 i) t ≡ times t ((w.pool p0).casts i) + B (Cast p0 i) t) → ((g : Party) (t : ℕ) → same_party g q ≡ false → A (Hand g) t ≡ B (Hand g) t) → ((g : Party) (t : ℕ) → same_party g q ≡ false → A (Work g) t ≡ B (Work g) t) → ((p i t : ℕ) → ((p == p0) && (i == i0)) ≡ false → A (Deck p i) t ≡ B (Deck p i) t) → ((p i : ℕ) (b : Option ℕ) (t : ℕ) → ((p == p0) && (i == i0)) ≡ false → A (Line p i b) t ≡ B (Line p i b) t) → ((p t : ℕ) → (p == p0) ≡ false → A (Inj p) t ≡ B (Inj p) t) → ((p i t : ℕ) → (p == p0) ≡ false → A (Cast p i) t ≡ B (Cast p i) t) → (l : Loc) (t : ℕ) → weight (midway w q k p0 i0 c0 n0 r) l t + A l t ≡ weight w l t + B l t
+weights_mid : (w : World) (q : Party) (k : Stack) (p0 i0 c0 n0 : ℕ) (r : Seen × Part) (A B : Loc → ℕ → ℕ) → w.stack q ≡ k → ((t : ℕ) → held t (paused (next_of (w.shape.pool p0) q (k.top) (r.0)) k.below) + A (Hand q) t ≡ held t k + B (Hand q) t)
+    → ((t : ℕ) → worked t (paused (next_of (w.shape.pool p0) q (k.top) (r.0)) k.below) + A (Work q) t ≡ worked t k + B (Work q) t) → ((t : ℕ) → times t (r.1.seat.own) + A (Deck p0 i0) t ≡ times t ((w.seat p0 i0).own) + B (Deck p0 i0) t)
+    → ((b : Option ℕ) (t : ℕ) → times t (r.1.seat.fifo b) + A (Line p0 i0 b) t ≡ times t ((w.seat p0 i0).fifo b) + B (Line p0 i0 b) t) → ((t : ℕ) → times t (r.1.pool.injector) + A (Inj p0) t ≡ times t ((w.pool p0).injector) + B (Inj p0) t)
+    → ((i t : ℕ) → times t (r.1.pool.casts i) + A (Cast p0 i) t ≡ times t ((w.pool p0).casts i) + B (Cast p0 i) t) → ((g : Party) (t : ℕ) → same_party g q ≡ false → A (Hand g) t ≡ B (Hand g) t) → ((g : Party) (t : ℕ) → same_party g q ≡ false → A (Work g) t ≡ B (Work g) t)
+    → ((p i t : ℕ) → ((p == p0) && (i == i0)) ≡ false → A (Deck p i) t ≡ B (Deck p i) t) → ((p i : ℕ) (b : Option ℕ) (t : ℕ) → ((p == p0) && (i == i0)) ≡ false → A (Line p i b) t ≡ B (Line p i b) t) → ((p t : ℕ) → (p == p0) ≡ false → A (Inj p) t ≡ B (Inj p) t)
+    → ((p i t : ℕ) → (p == p0) ≡ false → A (Cast p i) t ≡ B (Cast p i) t) → (l : Loc) (t : ℕ) → weight (midway w q k p0 i0 c0 n0 r) l t + A l t ≡ weight w l t + B l t
 weights_mid w q k p0 i0 c0 n0 r A B e hq hw hs hf hp hc oq ow os of op oc (Hand g) t = by (same_party g q) refl
   where
     by : (z : Bool) → same_party g q ≡ z → held t (if z then paused (next_of (w.shape.pool p0) q (k.top) (r.0)) k.below else w.stack g) + A (Hand g) t ≡ held t (w.stack g) + B (Hand g) t
@@ -126,12 +134,15 @@ job_old w u j t e = by (t == u) e
     by false e = refl
 
 -- an act that leaves the lists and the job, by a party that has and runs the same
-same_ok : (w : World) (q : Party) (k : Stack) (p0 i0 c0 n0 : ℕ) (r : Seen × Part) → w.stack q ≡ k → r.1.seat.own ≡ (w.seat p0 i0).own → r.1.seat.fifo ≡ (w.seat p0 i0).fifo → r.1.pool.casts ≡ (w.pool p0).casts → r.1.pool.injector ≡ (w.pool p0).injector → r.1.job.at ≡ (w.job n0).at → r.1.job.runs ≡ (w.job n0).runs → ((t : ℕ) → hand_move t (next_of (w.shape.pool p0) q (k.top) (r.0)) ≡ hand t (k.top)) → ((t : ℕ) → run_move t (next_of (w.shape.pool p0) q (k.top) (r.0)) ≡ run_of t (k.top)) → JobsOk w → Kept w (midway w q k p0 i0 c0 n0 r)
+same_ok : (w : World) (q : Party) (k : Stack) (p0 i0 c0 n0 : ℕ) (r : Seen × Part) → w.stack q ≡ k → r.1.seat.own ≡ (w.seat p0 i0).own → r.1.seat.fifo ≡ (w.seat p0 i0).fifo → r.1.pool.casts ≡ (w.pool p0).casts → r.1.pool.injector ≡ (w.pool p0).injector → r.1.job.at ≡ (w.job n0).at
+    → r.1.job.runs ≡ (w.job n0).runs → ((t : ℕ) → hand_move t (next_of (w.shape.pool p0) q (k.top) (r.0)) ≡ hand t (k.top)) → ((t : ℕ) → run_move t (next_of (w.shape.pool p0) q (k.top) (r.0)) ≡ run_of t (k.top)) → JobsOk w → Kept w (midway w q k p0 i0 c0 n0 r)
 same_ok w q k p0 i0 c0 n0 r e own fifo casts inj at runs less run ok = record {
   placed = λ l t.
       let f : weight (midway w q k p0 i0 c0 n0 r) l t + 0 ≡ weight w l t + 0 = weights_mid w q k p0 i0 c0 n0 r (λ l t. 0) (λ l t. 0) e
-      (λ t. let a : hand_move t (next_of (w.shape.pool p0) q (k.top) (r.0)) ≡ hand t (k.top) = less t in let b : held t (paused (next_of (w.shape.pool p0) q (k.top) (r.0)) k.below) ≡ (hand_move t (next_of (w.shape.pool p0) q (k.top) (r.0)) + held_in t k.below) = land_held t (next_of (w.shape.pool p0) q (k.top) (r.0)) k.below in omega (arith, a, b))
-      (λ t. let a : run_move t (next_of (w.shape.pool p0) q (k.top) (r.0)) ≡ run_of t (k.top) = run t in let b : worked t (paused (next_of (w.shape.pool p0) q (k.top) (r.0)) k.below) ≡ (run_move t (next_of (w.shape.pool p0) q (k.top) (r.0)) + runs_in t k.below) = land_worked t (next_of (w.shape.pool p0) q (k.top) (r.0)) k.below in omega (arith, a, b))
+      (λ t. let a : hand_move t (next_of (w.shape.pool p0) q (k.top) (r.0)) ≡ hand t (k.top) = less t in let b : held t (paused (next_of (w.shape.pool p0) q (k.top) (r.0)) k.below) ≡ (hand_move t (next_of (w.shape.pool p0) q (k.top) (r.0)) + held_in t k.below) = land_held t
+      (next_of (w.shape.pool p0) q (k.top) (r.0)) k.below in omega (arith, a, b))
+      (λ t. let a : run_move t (next_of (w.shape.pool p0) q (k.top) (r.0)) ≡ run_of t (k.top) = run t in let b : worked t (paused (next_of (w.shape.pool p0) q (k.top) (r.0)) k.below) ≡ (run_move t (next_of (w.shape.pool p0) q (k.top) (r.0)) + runs_in t k.below) = land_worked t
+      (next_of (w.shape.pool p0) q (k.top) (r.0)) k.below in omega (arith, a, b))
       (λ t. let a : times t (r.1.seat.own) ≡ times t ((w.seat p0 i0).own) = ap (times t) own in omega (arith, a))
       (λ b t. let a : times t (r.1.seat.fifo b) ≡ times t ((w.seat p0 i0).fifo b) = ap (λ f. times t (f b)) fifo in omega (arith, a))
       (λ t. let a : times t (r.1.pool.injector) ≡ times t ((w.pool p0).injector) = ap (times t) inj in omega (arith, a))
@@ -160,7 +171,8 @@ same_ok w q k p0 i0 c0 n0 r e own fifo casts inj at runs less run ok = record {
         by false z = refl
 
 -- a job that goes from one place to another, if to any: what its new record says fits, whatever else has changed
-pub gone_ok : (w u : World) (n : ℕ) (j : Job) (a : Loc) (b : Option Loc) → comes a b true ≡ 0 → Shifts (weight w) (weight u) n a b → u.job n ≡ j → ((t : ℕ) → (t == n) ≡ false → u.job t ≡ w.job t) → (is_hand a && in_hand b) ≡ false → (loc_at (w.job n) ≡ Some a → (loc_at j ≡ b) × fits (j.at) (j.runs) × IsOnward (w.job n).at (j.at)) → JobsOk w → Kept w u
+pub gone_ok : (w u : World) (n : ℕ) (j : Job) (a : Loc) (b : Option Loc) → comes a b true ≡ 0 → Shifts (weight w) (weight u) n a b → u.job n ≡ j → ((t : ℕ) → (t == n) ≡ false → u.job t ≡ w.job t) → (is_hand a && in_hand b) ≡ false
+    → (loc_at (w.job n) ≡ Some a → (loc_at j ≡ b) × fits (j.at) (j.runs) × IsOnward (w.job n).at (j.at)) → JobsOk w → Kept w u
 gone_ok w u n j a b d s now rest one_hand step ok = record {
   placed = shift_ok (weight w) (weight u) (λ t. loc_at (w.job t)) (λ t. loc_at (u.job t)) n a b d s (ok.placed) (ap (λ x. loc_at x) now ∙ good.0) (λ t e. ap (λ x. loc_at x) (rest t e));
   fit = λ t. fit_by t (t == n) refl;
@@ -190,10 +202,13 @@ gone_ok w u n j a b d s now rest one_hand step ok = record {
 
     made_by : (t : ℕ) (q : Party) → (w.job t).at ≡ Made q → in_hand (loc_at (u.job t)) ≡ true → (z : Bool) → (t == n) ≡ z → (u.job t).at ≡ (w.job t).at
     made_by t q m y false z = ap (λ x. x.at) (rest t z)
-    made_by t q m y true z = absurd (let i : t ≡ n = eqb-true t n z in let f : in_hand b ≡ false = not_hand (from_hand q (ap (λ m. (w.job m).at) (sym i) ∙ m)) in let g : in_hand (loc_at (u.job t)) ≡ in_hand b = ap (λ m. in_hand (loc_at (u.job m))) i ∙ ap (λ x. in_hand (loc_at x)) now ∙ ap in_hand (good.0) in cc)
+    made_by t q m y true z = absurd (let i : t ≡ n = eqb-true t n z in let f : in_hand b ≡ false = not_hand (from_hand q (ap (λ m. (w.job m).at) (sym i) ∙ m)) in
+        let g : in_hand (loc_at (u.job t)) ≡ in_hand b = ap (λ m. in_hand (loc_at (u.job m))) i ∙ ap (λ x. in_hand (loc_at x)) now ∙ ap in_hand (good.0) in cc)
 
 -- jobs that go together from one place to others, if to any: what their new records say fits
-pub group_ok : (w u : World) (S : ℕ → Bool) (a : Loc) (b : ℕ → Option Loc) → ((t : ℕ) → comes a (b t) true ≡ 0) → ((l : Loc) (t : ℕ) → weight u l t + one (same_loc l a && S t) ≡ weight w l t + comes l (b t) (S t)) → ((t : ℕ) → S t ≡ false → (loc_at (u.job t) ≡ loc_at (w.job t)) × ((u.job t).at ≡ (w.job t).at) × ((u.job t).runs ≡ (w.job t).runs)) → ((t : ℕ) → (is_hand a && in_hand (b t)) ≡ false) → ((t : ℕ) → S t ≡ true → loc_at (w.job t) ≡ Some a → (loc_at (u.job t) ≡ b t) × fits ((u.job t).at) ((u.job t).runs) × IsOnward (w.job t).at (u.job t).at) → JobsOk w → Kept w u
+pub group_ok : (w u : World) (S : ℕ → Bool) (a : Loc) (b : ℕ → Option Loc) → ((t : ℕ) → comes a (b t) true ≡ 0) → ((l : Loc) (t : ℕ) → weight u l t + one (same_loc l a && S t) ≡ weight w l t + comes l (b t) (S t))
+    → ((t : ℕ) → S t ≡ false → (loc_at (u.job t) ≡ loc_at (w.job t)) × ((u.job t).at ≡ (w.job t).at) × ((u.job t).runs ≡ (w.job t).runs)) → ((t : ℕ) → (is_hand a && in_hand (b t)) ≡ false)
+    → ((t : ℕ) → S t ≡ true → loc_at (w.job t) ≡ Some a → (loc_at (u.job t) ≡ b t) × fits ((u.job t).at) ((u.job t).runs) × IsOnward (w.job t).at (u.job t).at) → JobsOk w → Kept w u
 group_ok w u S a b d s rest one_hand step ok = record {
   placed = λ l t. placed l t (S t) refl;
   fit = λ t. fit t (S t) refl;
@@ -331,7 +346,8 @@ same_number u (TokenOf i b8) = refl
 same_number u _ = refl
 
 -- a pop of a deque, at whatever place and from either end
-pop_mid : (w : World) (q : Party) (k : Stack) (p0 i0 : ℕ) (rest : List ℕ) (o : Option ℕ) → w.stack q ≡ k → ((t : ℕ) → (given t (k.top) ≡ 0) × (starts t (k.top) ≡ 0)) → ((u t : ℕ) → o ≡ Some u → times t ((w.seat p0 i0).own) ≡ (one (t == u) + times t rest)) → IfSome (popped q (part_of w p0 i0 0 (or_none o)) rest o) (Tabled w q k (w.shape.pool p0)) → JobsOk w → IfSome (popped q (part_of w p0 i0 0 (or_none o)) rest o) (λ r. Kept w (midway w q k p0 i0 0 (or_none o) r))
+pop_mid : (w : World) (q : Party) (k : Stack) (p0 i0 : ℕ) (rest : List ℕ) (o : Option ℕ) → w.stack q ≡ k → ((t : ℕ) → (given t (k.top) ≡ 0) × (starts t (k.top) ≡ 0)) → ((u t : ℕ) → o ≡ Some u → times t ((w.seat p0 i0).own) ≡ (one (t == u) + times t rest))
+    → IfSome (popped q (part_of w p0 i0 0 (or_none o)) rest o) (Tabled w q k (w.shape.pool p0)) → JobsOk w → IfSome (popped q (part_of w p0 i0 0 (or_none o)) rest o) (λ r. Kept w (midway w q k p0 i0 0 (or_none o) r))
 pop_mid w q k p0 i0 rest None e none less tab ok = missing_ok w q k p0 i0 e none tab ok
 pop_mid w q k p0 i0 rest (Some u) e none less tab ok =
     let m : Part = part_of w p0 i0 0 u in
@@ -361,7 +377,8 @@ pop_mid w q k p0 i0 rest (Some u) e none less tab ok =
     (λ p i t z. omega arith))
     (job_new w u (at_job (w.job u) (Running q))) (job_old w u (at_job (w.job u) (Running q))) refl (taken_step (w.job u) q (Deck p0 i0) refl) ok
 
-inj_mid : (w : World) (q : Party) (k : Stack) (p0 i0 : ℕ) (l : List ℕ) → w.stack q ≡ k → ((t : ℕ) → (given t (k.top) ≡ 0) × (starts t (k.top) ≡ 0)) → (w.pool p0).injector ≡ l → IfSome (pop_injector q (part_of w p0 i0 0 (or_none (head_of l))) l) (Tabled w q k (w.shape.pool p0)) → JobsOk w → IfSome (pop_injector q (part_of w p0 i0 0 (or_none (head_of l))) l) (λ r. Kept w (midway w q k p0 i0 0 (or_none (head_of l)) r))
+inj_mid : (w : World) (q : Party) (k : Stack) (p0 i0 : ℕ) (l : List ℕ) → w.stack q ≡ k → ((t : ℕ) → (given t (k.top) ≡ 0) × (starts t (k.top) ≡ 0)) → (w.pool p0).injector ≡ l → IfSome (pop_injector q (part_of w p0 i0 0 (or_none (head_of l))) l) (Tabled w q k (w.shape.pool p0)) → JobsOk w
+    → IfSome (pop_injector q (part_of w p0 i0 0 (or_none (head_of l))) l) (λ r. Kept w (midway w q k p0 i0 0 (or_none (head_of l)) r))
 inj_mid w q k p0 i0 [] e none is tab ok = missing_ok w q k p0 i0 e none tab ok
 inj_mid w q k p0 i0 (u ∷ rest) e none is tab ok =
     let m : Part = part_of w p0 i0 0 u in
@@ -392,7 +409,8 @@ inj_mid w q k p0 i0 (u ∷ rest) e none is tab ok =
     (job_new w u (at_job (w.job u) (Running q))) (job_old w u (at_job (w.job u) (Running q))) refl (taken_step (w.job u) q (Inj p0) refl) ok
 
 -- a task is taken from a broadcast list
-cast_mid : (w : World) (q : Party) (k : Stack) (p0 i0 : ℕ) (l : List ℕ) → w.stack q ≡ k → own_index q ≡ i0 → ((t : ℕ) → (given t (k.top) ≡ 0) × (starts t (k.top) ≡ 0)) → (w.pool p0).casts i0 ≡ l → IfSome (take_cast q (part_of w p0 i0 0 (or_none (head_of l))) l) (Tabled w q k (w.shape.pool p0)) → JobsOk w → IfSome (take_cast q (part_of w p0 i0 0 (or_none (head_of l))) l) (λ r. Kept w (midway w q k p0 i0 0 (or_none (head_of l)) r))
+cast_mid : (w : World) (q : Party) (k : Stack) (p0 i0 : ℕ) (l : List ℕ) → w.stack q ≡ k → own_index q ≡ i0 → ((t : ℕ) → (given t (k.top) ≡ 0) × (starts t (k.top) ≡ 0)) → (w.pool p0).casts i0 ≡ l → IfSome (take_cast q (part_of w p0 i0 0 (or_none (head_of l))) l) (Tabled w q k (w.shape.pool p0))
+    → JobsOk w → IfSome (take_cast q (part_of w p0 i0 0 (or_none (head_of l))) l) (λ r. Kept w (midway w q k p0 i0 0 (or_none (head_of l)) r))
 cast_mid w q k p0 i0 [] e own none is tab ok = missing_ok w q k p0 i0 e none tab ok
 cast_mid w q k p0 i0 (u ∷ rest) e own none is tab ok =
     let m : Part = part_of w p0 i0 0 u in
@@ -435,13 +453,26 @@ cast_mid w q k p0 i0 (u ∷ rest) e own none is tab ok =
 abbrev pub outcome_of : World → Party → Act → Outcome
 outcome_of w q a = effect a w.shape q (counts_at w (target_pool q a)) (part_of w (target_pool q a) (target_worker q a) (target_call a) (job_at w q a))
 
-push_mid : (w : World) (q : Party) (n : Plan) (v : Bool) (fs : List Place) (z : Bool) → w.stack q ≡ record { top = PushJob n v; below = fs } → is_gather n ≡ false → IfSome (outcome_of w q (if z then PushOwn (plan_job n) (plan_book n) else PushInj (plan_pool n) (plan_job n) (plan_book n))) (Tabled w q (record { top = PushJob n v; below = fs }) (w.shape.pool (target_pool q (if z then PushOwn (plan_job n) (plan_book n) else PushInj (plan_pool n) (plan_job n) (plan_book n))))) → JobsOk w → IfSome (outcome_of w q (if z then PushOwn (plan_job n) (plan_book n) else PushInj (plan_pool n) (plan_job n) (plan_book n))) (λ r. Kept w (midway w q (record { top = PushJob n v; below = fs }) (target_pool q (if z then PushOwn (plan_job n) (plan_book n) else PushInj (plan_pool n) (plan_job n) (plan_book n))) (target_worker q (if z then PushOwn (plan_job n) (plan_book n) else PushInj (plan_pool n) (plan_job n) (plan_book n))) (target_call (if z then PushOwn (plan_job n) (plan_book n) else PushInj (plan_pool n) (plan_job n) (plan_book n))) (job_at w q (if z then PushOwn (plan_job n) (plan_book n) else PushInj (plan_pool n) (plan_job n) (plan_book n))) r))
+push_mid : (w : World) (q : Party) (n : Plan) (v : Bool) (fs : List Place) (z : Bool) → w.stack q ≡ record { top = PushJob n v; below = fs } → is_gather n ≡ false
+    → IfSome (outcome_of w q (if z then PushOwn (plan_job n) (plan_book n) else PushInj (plan_pool n) (plan_job n) (plan_book n)))
+    (Tabled w q (record { top = PushJob n v; below = fs }) (w.shape.pool (target_pool q (if z then PushOwn (plan_job n) (plan_book n) else PushInj (plan_pool n) (plan_job n) (plan_book n))))) → JobsOk w
+    → IfSome (outcome_of w q (if z then PushOwn (plan_job n) (plan_book n) else PushInj (plan_pool n) (plan_job n) (plan_book n)))
+    (λ r. Kept w (midway w q (record { top = PushJob n v; below = fs }) (target_pool q (if z then PushOwn (plan_job n) (plan_book n) else PushInj (plan_pool n) (plan_job n) (plan_book n)))
+    (target_worker q (if z then PushOwn (plan_job n) (plan_book n) else PushInj (plan_pool n) (plan_job n) (plan_book n))) (target_call (if z then PushOwn (plan_job n) (plan_book n) else PushInj (plan_pool n) (plan_job n) (plan_book n)))
+    (job_at w q (if z then PushOwn (plan_job n) (plan_book n) else PushInj (plan_pool n) (plan_job n) (plan_book n))) r))
 push_mid w q n v fs true e nq tab ok =
     let u = plan_job n in let p0 = own_pool q in let i0 = own_index q in
     let c0 = or_none (plan_book n) in
     let k : Stack = record { top = PushJob n v; below = fs } in
     let m : Part = part_of w p0 i0 c0 u in
-    let r : Seen × Part = (Done, record m { seat = record (m.seat) { own = m.seat.own ++ u ∷ []; feeder = put_list m.seat.feeder (plan_book n) (left_by q (m.seat.feeder (plan_book n))) }; call = record (m.call) { writer = left_book q (plan_book n) m.call.writer }; job = at_job (m.job) (InDeque p0 i0) }) in
+    let r : Seen × Part = (
+      Done,
+      record m {
+        seat = record (m.seat) { own = m.seat.own ++ u ∷ []; feeder = put_list m.seat.feeder (plan_book n) (left_by q (m.seat.feeder (plan_book n))) };
+        call = record (m.call) { writer = left_book q (plan_book n) m.call.writer };
+        job = at_job (m.job) (InDeque p0 i0);
+      },
+    ) in
     gone_ok w (midway w q k p0 i0 c0 u r) u (at_job (w.job u) (InDeque p0 i0)) (Hand q) (Some (Deck p0 i0)) refl
     (weights_mid w q k p0 i0 c0 u r (λ l t. one (same_loc l (Hand q) && (t == u))) (λ l t. one (same_loc l (Deck p0 i0) && (t == u))) e
     (λ t. let a : hand t (TellNews n v) + given_plan t n ≡ hand t (PushJob n v) + 0 = (tab t).0 in
@@ -490,7 +521,8 @@ push_mid w q n v fs false e nq tab ok =
     (job_new w u (at_job (w.job u) (Injected p0))) (job_old w u (at_job (w.job u) (Injected p0))) refl (inject_step (w.job u) q p0) ok
 
 -- a token is pushed onto the own deque
-token_mid : (w : World) (q : Party) (f : Feeding) (v : Bool) (fs : List Place) → w.stack q ≡ record { top = PushToken f v; below = fs } → JobsOk w → IfSome (outcome_of w q (PushOwn f.token (count_book f.count))) (λ r. Kept w (midway w q (record { top = PushToken f v; below = fs }) (own_pool q) (own_index q) (or_none (count_book f.count)) f.token r))
+token_mid : (w : World) (q : Party) (f : Feeding) (v : Bool) (fs : List Place) → w.stack q ≡ record { top = PushToken f v; below = fs } → JobsOk w
+    → IfSome (outcome_of w q (PushOwn f.token (count_book f.count))) (λ r. Kept w (midway w q (record { top = PushToken f v; below = fs }) (own_pool q) (own_index q) (or_none (count_book f.count)) f.token r))
 token_mid w q f v fs e ok =
     let u = f.token in let p0 = own_pool q in let i0 = own_index q in
     let b0 = count_book f.count in let c0 = or_none b0 in
@@ -517,7 +549,8 @@ token_mid w q f v fs e ok =
     (job_new w u (at_job (w.job u) (InDeque p0 i0))) (job_old w u (at_job (w.job u) (InDeque p0 i0))) refl (own_step (w.job u) q p0 i0) ok
 
 -- a job is added to the own FIFO list
-in_mid : (w : World) (q : Party) (f : Feeding) (fs : List Place) → w.stack q ≡ record { top = AddToFifo f; below = fs } → (w.job f.job).at ≡ Made q → JobsOk w → IfSome (outcome_of w q (FifoIn f.job (count_book f.count))) (λ r. Kept w (midway w q (record { top = AddToFifo f; below = fs }) (own_pool q) (own_index q) 0 f.job r))
+in_mid : (w : World) (q : Party) (f : Feeding) (fs : List Place) → w.stack q ≡ record { top = AddToFifo f; below = fs } → (w.job f.job).at ≡ Made q → JobsOk w
+    → IfSome (outcome_of w q (FifoIn f.job (count_book f.count))) (λ r. Kept w (midway w q (record { top = AddToFifo f; below = fs }) (own_pool q) (own_index q) 0 f.job r))
 in_mid w q f fs e made ok = by (is_open q ((w.seat (own_pool q) (own_index q)).feeder (count_book f.count)))
   where
     u : ℕ
@@ -575,7 +608,8 @@ run_push t n = by (plan_book n)
     by (Some c) = refl
 
 -- the job that was added last is taken back
-back_mid : (w : World) (q : Party) (f : Feeding) (fs : List Place) (o : Option ℕ) → w.stack q ≡ record { top = TakeFromFifo f; below = fs } → last_of ((w.seat (own_pool q) (own_index q)).fifo (count_book f.count)) ≡ o → JobsOk w → IfSome (fifo_back q (part_of w (own_pool q) (own_index q) 0 (or_none o)) (count_book f.count) o) (λ r. Kept w (midway w q (record { top = TakeFromFifo f; below = fs }) (own_pool q) (own_index q) 0 (or_none o) r))
+back_mid : (w : World) (q : Party) (f : Feeding) (fs : List Place) (o : Option ℕ) → w.stack q ≡ record { top = TakeFromFifo f; below = fs } → last_of ((w.seat (own_pool q) (own_index q)).fifo (count_book f.count)) ≡ o → JobsOk w
+    → IfSome (fifo_back q (part_of w (own_pool q) (own_index q) 0 (or_none o)) (count_book f.count) o) (λ r. Kept w (midway w q (record { top = TakeFromFifo f; below = fs }) (own_pool q) (own_index q) 0 (or_none o) r))
 back_mid w q f fs None e is ok = same_ok w q (record { top = TakeFromFifo f; below = fs }) (own_pool q) (own_index q) 0 0 (Missing, part_of w (own_pool q) (own_index q) 0 0) e refl refl refl refl refl refl (λ t. refl) (λ t. refl) ok
 back_mid w q f fs (Some u) e is ok =
     let p0 = own_pool q in let i0 = own_index q in
@@ -600,7 +634,8 @@ back_mid w q f fs (Some u) e is ok =
     (λ p i t z. omega arith))
     (job_new w u (at_job (w.job u) (Retaken q))) (job_old w u (at_job (w.job u) (Retaken q))) refl (retaken_step (w.job u) q p0 i0 b0) ok
 
-undo_mid : (w : World) (q : Party) (f : Feeding) (fs : List Place) → w.stack q ≡ record { top = TakeFromFifo f; below = fs } → JobsOk w → IfSome (outcome_of w q (FifoUndo (count_book f.count))) (λ r. Kept w (midway w q (record { top = TakeFromFifo f; below = fs }) (own_pool q) (own_index q) 0 (or_none (last_of ((w.seat (own_pool q) (own_index q)).fifo (count_book f.count)))) r))
+undo_mid : (w : World) (q : Party) (f : Feeding) (fs : List Place) → w.stack q ≡ record { top = TakeFromFifo f; below = fs } → JobsOk w
+    → IfSome (outcome_of w q (FifoUndo (count_book f.count))) (λ r. Kept w (midway w q (record { top = TakeFromFifo f; below = fs }) (own_pool q) (own_index q) 0 (or_none (last_of ((w.seat (own_pool q) (own_index q)).fifo (count_book f.count)))) r))
 undo_mid w q f fs e ok = by (is_open q ((w.seat (own_pool q) (own_index q)).feeder (count_book f.count)))
   where
     o : Option ℕ
@@ -611,7 +646,8 @@ undo_mid w q f fs e ok = by (is_open q ((w.seat (own_pool q) (own_index q)).feed
     by false = tt
 
 -- the first job of a FIFO list begins for a token
-first_mid : (w : World) (q : Party) (n i : ℕ) (b8 : Option ℕ) (fs : List Place) (l : List ℕ) → w.stack q ≡ record { top = BeginTask (Token n i b8); below = fs } → (w.seat (own_pool q) i).fifo b8 ≡ l → JobsOk w → IfSome (fifo_first q (part_of w (own_pool q) i 0 (or_none (head_of l))) b8 l) (λ r. Kept w (midway w q (record { top = BeginTask (Token n i b8); below = fs }) (own_pool q) i 0 (or_none (head_of l)) r))
+first_mid : (w : World) (q : Party) (n i : ℕ) (b8 : Option ℕ) (fs : List Place) (l : List ℕ) → w.stack q ≡ record { top = BeginTask (Token n i b8); below = fs } → (w.seat (own_pool q) i).fifo b8 ≡ l → JobsOk w
+    → IfSome (fifo_first q (part_of w (own_pool q) i 0 (or_none (head_of l))) b8 l) (λ r. Kept w (midway w q (record { top = BeginTask (Token n i b8); below = fs }) (own_pool q) i 0 (or_none (head_of l)) r))
 first_mid w q n i b8 fs [] e is ok = same_ok w q (record { top = BeginTask (Token n i b8); below = fs }) (own_pool q) i 0 0 (Missing, part_of w (own_pool q) i 0 0) e refl refl refl refl refl refl (λ t. refl) (λ t. refl) ok
 first_mid w q n i b8 fs (u ∷ rest) e is ok =
     let p0 = own_pool q in
@@ -634,7 +670,8 @@ first_mid w q n i b8 fs (u ∷ rest) e is ok =
     (λ p i t z. omega arith))
     (job_new w u (begun q (w.job u))) (job_old w u (begun q (w.job u))) refl (handed_step (w.job u) q p0 i b8) ok
 
-out_mid : (w : World) (q : Party) (n i : ℕ) (b8 : Option ℕ) (fs : List Place) → w.stack q ≡ record { top = BeginTask (Token n i b8); below = fs } → JobsOk w → IfSome (outcome_of w q (FifoOut n i b8)) (λ r. Kept w (midway w q (record { top = BeginTask (Token n i b8); below = fs }) (own_pool q) i 0 (or_none (head_of ((w.seat (own_pool q) i).fifo b8))) r))
+out_mid : (w : World) (q : Party) (n i : ℕ) (b8 : Option ℕ) (fs : List Place) → w.stack q ≡ record { top = BeginTask (Token n i b8); below = fs } → JobsOk w
+    → IfSome (outcome_of w q (FifoOut n i b8)) (λ r. Kept w (midway w q (record { top = BeginTask (Token n i b8); below = fs }) (own_pool q) i 0 (or_none (head_of ((w.seat (own_pool q) i).fifo b8))) r))
 out_mid w q n i b8 fs e ok = by (is_open q ((w.seat (own_pool q) i).feeder b8))
   where
     l : List ℕ
@@ -645,7 +682,9 @@ out_mid w q n i b8 fs e ok = by (is_open q ((w.seat (own_pool q) i).feeder b8))
     by false = tt
 
 -- a begin: the job is no longer in hand, but under a run
-begin_mid : (w : World) (q : Party) (x : Place) (u : ℕ) (y : JobKind → Place) (fs : List Place) → w.stack q ≡ record { top = x; below = fs } → ((t : ℕ) → hand t x ≡ one (t == u)) → ((t : ℕ) → run_of t x ≡ 0) → ((k : JobKind) (t : ℕ) → run_of t (y k) ≡ one (t == u)) → ((k : JobKind) (t : ℕ) → hand t (y k) ≡ 0) → next_of (w.shape.pool (own_pool q)) q x (Begun (w.job u).kind) ≡ Stay (y ((w.job u).kind)) → JobsOk w → Kept w (midway w q (record { top = x; below = fs }) (own_pool q) (own_index q) 0 u (Begun (w.job u).kind, record (part_of w (own_pool q) (own_index q) 0 u) { job = begun q (w.job u) }))
+begin_mid : (w : World) (q : Party) (x : Place) (u : ℕ) (y : JobKind → Place) (fs : List Place) → w.stack q ≡ record { top = x; below = fs } → ((t : ℕ) → hand t x ≡ one (t == u)) → ((t : ℕ) → run_of t x ≡ 0) → ((k : JobKind) (t : ℕ) → run_of t (y k) ≡ one (t == u))
+    → ((k : JobKind) (t : ℕ) → hand t (y k) ≡ 0) → next_of (w.shape.pool (own_pool q)) q x (Begun (w.job u).kind) ≡ Stay (y ((w.job u).kind)) → JobsOk w
+    → Kept w (midway w q (record { top = x; below = fs }) (own_pool q) (own_index q) 0 u (Begun (w.job u).kind, record (part_of w (own_pool q) (own_index q) 0 u) { job = begun q (w.job u) }))
 begin_mid w q x u y fs e had ran runs has to ok =
     let p0 = own_pool q in let i0 = own_index q in
     let k : Stack = record { top = x; below = fs } in
@@ -716,7 +755,8 @@ go_mid w q (BeginHere u) fs e z nq fe ok = begin_mid w q (BeginHere u) u (λ k. 
 go_mid w q (PushJob n v) fs e z nq fe ok = push_mid w q n v fs (is_member q (plan_pool n)) e nq (all_tables w q (record { top = PushJob n v; below = fs })) ok
 go_mid w (Worker a b) (PushToken f v) fs e z nq fe ok = token_mid w (Worker a b) f v fs e ok
 go_mid w (Caller c) (PushToken f v) fs e z nq fe ok = tt
-go_mid w (Worker a b) (AddToFifo f) fs e z nq fe ok = in_mid w (Worker a b) f fs e (fe (Worker a b) f.job (let a : all_fed f.job (w.stack (Worker a b)) ≡ ((one (f.job == f.job) + one (f.job == f.token)) + fed_in f.job fs) = ap (all_fed f.job) e in let o : one (f.job == f.job) ≡ 1 = ap one (eq-eqb f.job f.job refl) in omega (arith, a, o))) ok
+go_mid w (Worker a b) (AddToFifo f) fs e z nq fe ok = in_mid w (Worker a b) f fs e (fe (Worker a b) f.job (let a : all_fed f.job (w.stack (Worker a b)) ≡ ((one (f.job == f.job) + one (f.job == f.token)) + fed_in f.job fs) = ap (all_fed f.job) e in
+    let o : one (f.job == f.job) ≡ 1 = ap one (eq-eqb f.job f.job refl) in omega (arith, a, o))) ok
 go_mid w (Caller c) (AddToFifo f) fs e z nq fe ok = tt
 go_mid w (Worker a b) (TakeFromFifo f) fs e z nq fe ok = undo_mid w (Worker a b) f fs e ok
 go_mid w (Caller c) (TakeFromFifo f) fs e z nq fe ok = tt

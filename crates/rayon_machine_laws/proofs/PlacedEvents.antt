@@ -66,7 +66,12 @@ pieces_calm c m f n t h = by (is_piece c t) h
     by false g = (refl, refl)
 
 pub kept_then : (w v u : World) → Calm v.job u.job → Kept w v → Kept v u → Kept w u
-kept_then w v u calm a b = record { placed = b.placed; fit = b.fit; onward = λ t. go ((w.job t).at) ((v.job t).at) ((u.job t).at) (a.onward t) (b.onward t); made = λ t q z h. (let c : (loc_at (u.job t) ≡ loc_at (v.job t)) × ((u.job t).at ≡ (v.job t).at) = calm t h in c.1 ∙ a.made t q z (ap in_hand (sym (c.0)) ∙ h)) }
+kept_then w v u calm a b = record {
+  placed = b.placed;
+  fit = b.fit;
+  onward = λ t. go ((w.job t).at) ((v.job t).at) ((u.job t).at) (a.onward t) (b.onward t);
+  made = λ t q z h. (let c : (loc_at (u.job t) ≡ loc_at (v.job t)) × ((u.job t).at ≡ (v.job t).at) = calm t h in c.1 ∙ a.made t q z (ap in_hand (sym (c.0)) ∙ h));
+}
   where
     go : (x y z : Whereabouts) → IsOnward x y → IsOnward y z → IsOnward x z
     go (Made q) y z f g = onward_known y z g f
@@ -86,7 +91,8 @@ abbrev pub with_parts : World → Party → Stack → (ℕ → ℕ → Seat) →
 with_parts w q k S P C J = record w { stack = put_stack w.stack q k; seat = S; pool = P; call = C; job = J }
 
 -- a party's stack is another, which has the same in hand less one job, and that is in no place now
-drop_hand : (w : World) (q : Party) (k l : Stack) (S : ℕ → ℕ → Seat) (P : ℕ → Pool) (C : ℕ → Call) (J : ℕ → Job) (u : ℕ) (j : Job) → ((t : ℕ) → held t l + one (t == u) ≡ held t k) → ((t : ℕ) → worked t l ≡ worked t k) → (loc_at (J u) ≡ Some (Hand q) → (loc_at j ≡ None) × fits (j.at) (j.runs) × IsOnward (J u).at (j.at)) → JobsOk (with_parts w q k S P C J) → Kept (with_parts w q k S P C J) (with_parts w q l S P C (put J u j))
+drop_hand : (w : World) (q : Party) (k l : Stack) (S : ℕ → ℕ → Seat) (P : ℕ → Pool) (C : ℕ → Call) (J : ℕ → Job) (u : ℕ) (j : Job) → ((t : ℕ) → held t l + one (t == u) ≡ held t k) → ((t : ℕ) → worked t l ≡ worked t k)
+    → (loc_at (J u) ≡ Some (Hand q) → (loc_at j ≡ None) × fits (j.at) (j.runs) × IsOnward (J u).at (j.at)) → JobsOk (with_parts w q k S P C J) → Kept (with_parts w q k S P C J) (with_parts w q l S P C (put J u j))
 drop_hand w q k l S P C J u j h r step ok = gone_ok (with_parts w q k S P C J) (with_parts w q l S P C (put J u j)) u j (Hand q) None refl shift (job_new (with_parts w q k S P C J) u j) (job_old (with_parts w q k S P C J) u j) refl step ok
   where
     shift : (a : Loc) (t : ℕ) → weight (with_parts w q l S P C (put J u j)) a t + one (same_loc a (Hand q) && (t == u)) ≡ weight (with_parts w q k S P C J) a t + 0
@@ -106,10 +112,13 @@ drop_hand w q k l S P C J u j h r step ok = gone_ok (with_parts w q k S P C J) (
     shift (Line p i b7) t = omega arith
 
 -- the run that a move starts begins
-start_run : (w : World) (q : Party) (f : Place) (u : ℕ) (fs : List Place) (S : ℕ → ℕ → Seat) (P : ℕ → Pool) (C : ℕ → Call) (J : ℕ → Job) → JobsOk (with_parts w q (record { top = BeginHere u; below = f ∷ fs }) S P C J) → Kept (with_parts w q (record { top = BeginHere u; below = f ∷ fs }) S P C J) (with_parts w q (record { top = Run u Direct; below = f ∷ fs }) S P C (put J u (begun q (J u))))
-start_run w q f u fs S P C J ok = gone_ok (with_parts w q (record { top = BeginHere u; below = f ∷ fs }) S P C J) (with_parts w q (record { top = Run u Direct; below = f ∷ fs }) S P C (put J u (begun q (J u)))) u (begun q (J u)) (Hand q) (Some (Work q)) refl shift (job_new (with_parts w q (record { top = BeginHere u; below = f ∷ fs }) S P C J) u (begun q (J u))) (job_old (with_parts w q (record { top = BeginHere u; below = f ∷ fs }) S P C J) u (begun q (J u))) refl (begun_step (J u) q) ok
+start_run : (w : World) (q : Party) (f : Place) (u : ℕ) (fs : List Place) (S : ℕ → ℕ → Seat) (P : ℕ → Pool) (C : ℕ → Call) (J : ℕ → Job) → JobsOk (with_parts w q (record { top = BeginHere u; below = f ∷ fs }) S P C J)
+    → Kept (with_parts w q (record { top = BeginHere u; below = f ∷ fs }) S P C J) (with_parts w q (record { top = Run u Direct; below = f ∷ fs }) S P C (put J u (begun q (J u))))
+start_run w q f u fs S P C J ok = gone_ok (with_parts w q (record { top = BeginHere u; below = f ∷ fs }) S P C J) (with_parts w q (record { top = Run u Direct; below = f ∷ fs }) S P C (put J u (begun q (J u)))) u (begun q (J u)) (Hand q) (Some (Work q)) refl shift
+    (job_new (with_parts w q (record { top = BeginHere u; below = f ∷ fs }) S P C J) u (begun q (J u))) (job_old (with_parts w q (record { top = BeginHere u; below = f ∷ fs }) S P C J) u (begun q (J u))) refl (begun_step (J u) q) ok
   where
-    shift : (a : Loc) (t : ℕ) → weight (with_parts w q (record { top = Run u Direct; below = f ∷ fs }) S P C (put J u (begun q (J u)))) a t + one (same_loc a (Hand q) && (t == u)) ≡ weight (with_parts w q (record { top = BeginHere u; below = f ∷ fs }) S P C J) a t + one (same_loc a (Work q) && (t == u))
+    shift : (a : Loc) (t : ℕ) → weight (with_parts w q (record { top = Run u Direct; below = f ∷ fs }) S P C (put J u (begun q (J u)))) a t + one (same_loc a (Hand q) && (t == u)) ≡ weight (with_parts w q (record { top = BeginHere u; below = f ∷ fs }) S P C J) a t + one
+        (same_loc a (Work q) && (t == u))
     shift (Hand g) t = by (same_party g q)
       where
         by : (z : Bool) → held t (if z then record { top = Run u Direct; below = f ∷ fs } else w.stack g) + one (z && (t == u)) ≡ held t (if z then record { top = BeginHere u; below = f ∷ fs } else w.stack g) + 0
@@ -134,7 +143,8 @@ worked_back t [] = refl
 worked_back t (f ∷ fs) = refl
 
 -- the jobs of a refused call are handed back
-give_one : (w : World) (q : Party) (n : Plan) (u : ℕ) (fs : List Place) (S : ℕ → ℕ → Seat) (P : ℕ → Pool) (C : ℕ → Call) (J : ℕ → Job) (j : Job) → ((t : ℕ) → hand_plan t n ≡ one (t == u)) → (loc_at (J u) ≡ Some (Hand q) → (loc_at j ≡ None) × fits (j.at) (j.runs) × IsOnward (J u).at (j.at)) → JobsOk (with_parts w q (record { top = RaiseCount n; below = fs }) S P C J) → Kept (with_parts w q (record { top = RaiseCount n; below = fs }) S P C J) (with_parts w q (back fs) S P C (put J u j))
+give_one : (w : World) (q : Party) (n : Plan) (u : ℕ) (fs : List Place) (S : ℕ → ℕ → Seat) (P : ℕ → Pool) (C : ℕ → Call) (J : ℕ → Job) (j : Job) → ((t : ℕ) → hand_plan t n ≡ one (t == u)) → (loc_at (J u) ≡ Some (Hand q) → (loc_at j ≡ None) × fits (j.at) (j.runs) × IsOnward (J u).at (j.at))
+    → JobsOk (with_parts w q (record { top = RaiseCount n; below = fs }) S P C J) → Kept (with_parts w q (record { top = RaiseCount n; below = fs }) S P C J) (with_parts w q (back fs) S P C (put J u j))
 give_one w q n u fs S P C J j h step ok = drop_hand w q (record { top = RaiseCount n; below = fs }) (back fs) S P C J u j
     (λ t. let a : hand_plan t n ≡ one (t == u) = h t in let b : held t (back fs) ≡ held_in t fs = held_back t fs in omega (arith, a, b))
     (λ t. let b : worked t (back fs) ≡ runs_in t fs = worked_back t fs in omega (arith, b)) step ok
@@ -148,8 +158,10 @@ put_back_step J a u q e = by (u == a) e
     by false e = back_step (J u) q e
 
 -- the pieces of a refused broadcast leave the hand of the party that made them
-all_back : (w : World) (q : Party) (c : Pieces) (k l : Stack) (S : ℕ → ℕ → Seat) (P : ℕ → Pool) (C : ℕ → Call) (J : ℕ → Job) → ((t : ℕ) → held t l + one (is_piece c t) ≡ held t k) → ((t : ℕ) → worked t l ≡ worked t k) → JobsOk (with_parts w q k S P C J) → Kept (with_parts w q k S P C J) (with_parts w q l S P C (mark_pieces c Returned J))
-all_back w q c k l S P C J h r ok = group_ok (with_parts w q k S P C J) (with_parts w q l S P C (mark_pieces c Returned J)) (is_piece c) (Hand q) (λ t. None) (λ t. refl) shift (λ t z. (let n : mark_pieces c Returned J t ≡ J t = piece_old c (marked Returned c.pool) J t z in (ap (λ j. loc_at j) n, ap (λ j. j.at) n, ap (λ j. j.runs) n))) (λ t. refl) step ok
+all_back : (w : World) (q : Party) (c : Pieces) (k l : Stack) (S : ℕ → ℕ → Seat) (P : ℕ → Pool) (C : ℕ → Call) (J : ℕ → Job) → ((t : ℕ) → held t l + one (is_piece c t) ≡ held t k) → ((t : ℕ) → worked t l ≡ worked t k) → JobsOk (with_parts w q k S P C J)
+    → Kept (with_parts w q k S P C J) (with_parts w q l S P C (mark_pieces c Returned J))
+all_back w q c k l S P C J h r ok = group_ok (with_parts w q k S P C J) (with_parts w q l S P C (mark_pieces c Returned J)) (is_piece c) (Hand q) (λ t. None) (λ t. refl) shift
+    (λ t z. (let n : mark_pieces c Returned J t ≡ J t = piece_old c (marked Returned c.pool) J t z in (ap (λ j. loc_at j) n, ap (λ j. j.at) n, ap (λ j. j.runs) n))) (λ t. refl) step ok
   where
     shift : (a : Loc) (t : ℕ) → weight (with_parts w q l S P C (mark_pieces c Returned J)) a t + one (same_loc a (Hand q) && is_piece c t) ≡ weight (with_parts w q k S P C J) a t + 0
     shift (Hand g) t = by (same_party g q)
@@ -171,7 +183,8 @@ all_back w q c k l S P C J h r ok = group_ok (with_parts w q k S P C J) (with_pa
     step t z e = let n : mark_pieces c Returned J t ≡ marked Returned c.pool (t - c.first) (J t) = piece_new c (marked Returned c.pool) J t z in
         (ap (λ j. loc_at j) n, subst (λ j. fits (j.at) (j.runs)) (sym n) (unbegun ((J t).at) ((J t).runs) (Hand q) refl e), subst (λ j. IsOnward ((J t).at) (j.at)) (sym n) (onward_loc ((J t).at) HandedBack ((J t).runs) (Hand q) e refl))
 
-hand_back : (w : World) (q : Party) (n : Plan) (fs : List Place) (S : ℕ → ℕ → Seat) (P : ℕ → Pool) (C : ℕ → Call) (J : ℕ → Job) → JobsOk (with_parts w q (record { top = RaiseCount n; below = fs }) S P C J) → Kept (with_parts w q (record { top = RaiseCount n; below = fs }) S P C J) (with_parts w q (back fs) S P C (handed_back n J))
+hand_back : (w : World) (q : Party) (n : Plan) (fs : List Place) (S : ℕ → ℕ → Seat) (P : ℕ → Pool) (C : ℕ → Call) (J : ℕ → Job) → JobsOk (with_parts w q (record { top = RaiseCount n; below = fs }) S P C J)
+    → Kept (with_parts w q (record { top = RaiseCount n; below = fs }) S P C J) (with_parts w q (back fs) S P C (handed_back n J))
 hand_back w q (Detach p u) fs S P C J ok = give_one w q (Detach p u) u fs S P C J (at_job (J u) HandedBack) (λ t. refl) (back_step (J u) q) ok
 hand_back w q (Here p u) fs S P C J ok = give_one w q (Here p u) u fs S P C J (at_job (J u) HandedBack) (λ t. refl) (back_step (J u) q) ok
 hand_back w q (Send o) fs S P C J ok = give_one w q (Send o) (o.job) fs S P C J (at_job (J (o.job)) HandedBack) (λ t. refl) (back_step (J (o.job)) q) ok
@@ -191,7 +204,8 @@ hand_back w q (Feed d) fs S P C J ok = kept_then w1 w2 (with_parts w q (back fs)
 
     one_gone : Kept w1 w2
     one_gone = drop_hand w q (record { top = RaiseCount (Feed d); below = fs }) (record { top = RaiseCount (Detach 0 (d.token)); below = fs }) S P C J (d.job) (at_job (J (d.job)) HandedBack) (λ t. omega arith) (λ t. omega arith) (back_step (J (d.job)) q) ok
-hand_back w q (Fork o a) fs S P C J ok = kept_then (with_parts w q (record { top = RaiseCount (Fork o a); below = fs }) S P C J) (with_parts w q (record { top = RaiseCount (Detach 0 (o.job)); below = fs }) S P C (put J a (at_job (J a) HandedBack))) (with_parts w q (back fs) S P C (handed_back (Fork o a) J)) (put_calm (put J a (at_job (J a) HandedBack)) (o.job) (at_job (J (o.job)) HandedBack) refl) one_gone
+hand_back w q (Fork o a) fs S P C J ok = kept_then (with_parts w q (record { top = RaiseCount (Fork o a); below = fs }) S P C J) (with_parts w q (record { top = RaiseCount (Detach 0 (o.job)); below = fs }) S P C (put J a (at_job (J a) HandedBack)))
+    (with_parts w q (back fs) S P C (handed_back (Fork o a) J)) (put_calm (put J a (at_job (J a) HandedBack)) (o.job) (at_job (J (o.job)) HandedBack) refl) one_gone
     (give_one w q (Detach 0 (o.job)) (o.job) fs S P C (put J a (at_job (J a) HandedBack)) (at_job (J (o.job)) HandedBack) (λ t. refl) (put_back_step J a (o.job) q) (record { placed = one_gone.placed; fit = one_gone.fit }))
   where
     one_gone : Kept (with_parts w q (record { top = RaiseCount (Fork o a); below = fs }) S P C J) (with_parts w q (record { top = RaiseCount (Detach 0 (o.job)); below = fs }) S P C (put J a (at_job (J a) HandedBack)))
@@ -204,7 +218,8 @@ is_dealing (Mark y c Dealt) = true
 is_dealing _ = false
 
 -- what is told of pieces that stay where they are
-land_mark : (w : World) (q : Party) (y : Place) (c : Pieces) (k : Marking) (fs : List Place) (S : ℕ → ℕ → Seat) (P : ℕ → Pool) (C : ℕ → Call) (J : ℕ → Job) → ((i : ℕ) (j : Job) → loc_at (marked k c.pool i j) ≡ loc_at j) → ((i : ℕ) (j : Job) → (marked k c.pool i j).at ≡ j.at) → ((i : ℕ) (j : Job) → (marked k c.pool i j).runs ≡ j.runs) → JobsOk (with_parts w q (record { top = y; below = fs }) S P C J) → Kept (with_parts w q (record { top = y; below = fs }) S P C J) (with_parts w q (record { top = y; below = fs }) S P C (mark_pieces c k J))
+land_mark : (w : World) (q : Party) (y : Place) (c : Pieces) (k : Marking) (fs : List Place) (S : ℕ → ℕ → Seat) (P : ℕ → Pool) (C : ℕ → Call) (J : ℕ → Job) → ((i : ℕ) (j : Job) → loc_at (marked k c.pool i j) ≡ loc_at j) → ((i : ℕ) (j : Job) → (marked k c.pool i j).at ≡ j.at)
+    → ((i : ℕ) (j : Job) → (marked k c.pool i j).runs ≡ j.runs) → JobsOk (with_parts w q (record { top = y; below = fs }) S P C J) → Kept (with_parts w q (record { top = y; below = fs }) S P C J) (with_parts w q (record { top = y; below = fs }) S P C (mark_pieces c k J))
 land_mark w q y c k fs S P C J la at ru ok = record {
   placed = λ l t. ok.placed l t ∙ ap (is_loc l) (sym (pieces_same (λ j. loc_at j) c (marked k c.pool) J t la));
   fit = λ t. subst (λ x. fits x ((mark_pieces c k J t).runs)) (sym (pieces_same (λ j. j.at) c (marked k c.pool) J t at)) (subst (λ n. fits ((J t).at) n) (sym (pieces_same (λ j. j.runs) c (marked k c.pool) J t ru)) (ok.fit t));
@@ -213,7 +228,8 @@ land_mark w q y c k fs S P C J la at ru ok = record {
 }
 
 -- the rest of an act: the move's run begins, or jobs are handed back
-land_ok : (w : World) (q : Party) (g : Move) (fs : List Place) (S : ℕ → ℕ → Seat) (P : ℕ → Pool) (C : ℕ → Call) (J : ℕ → Job) → is_dealing g ≡ false → JobsOk (with_parts w q (paused g fs) S P C J) → Kept (with_parts w q (paused g fs) S P C J) (with_parts w q (after_move g fs) S P C (jobs_after q g J))
+land_ok : (w : World) (q : Party) (g : Move) (fs : List Place) (S : ℕ → ℕ → Seat) (P : ℕ → Pool) (C : ℕ → Call) (J : ℕ → Job) → is_dealing g ≡ false → JobsOk (with_parts w q (paused g fs) S P C J)
+    → Kept (with_parts w q (paused g fs) S P C J) (with_parts w q (after_move g fs) S P C (jobs_after q g J))
 land_ok w q (Stay y) fs S P C J d ok = record { placed = ok.placed; fit = ok.fit; onward = λ t. onward_same ((J t).at) ((J t).at) refl; made = λ t s z h. refl }
 land_ok w q (HandIn y k) fs S P C J d ok = drop_hand w q (record { top = y; below = BeginHere k ∷ fs }) (record { top = y; below = fs }) S P C J k (at_job (J k) Spent) (λ t. omega arith) (λ t. omega arith) (spent_step (J k) q) ok
 land_ok w q (Enter f y) fs S P C J d ok = record { placed = ok.placed; fit = ok.fit; onward = λ t. onward_same ((J t).at) ((J t).at) refl; made = λ t s z h. refl }
@@ -245,7 +261,8 @@ land_ok w q (HandAllBack c) fs S P C J d ok = all_back w q c (record { top = Rai
 -- what a move begins, hands back or spends is in nobody's hand
 two_calm : (J : ℕ → Job) (a b : ℕ) → Calm J (put (put J a (at_job (J a) HandedBack)) b (at_job (J b) HandedBack))
 two_calm J a b t h =
-    let c : (loc_at (put (put J a (at_job (J a) HandedBack)) b (at_job (J b) HandedBack) t) ≡ loc_at (put J a (at_job (J a) HandedBack) t)) × ((put (put J a (at_job (J a) HandedBack)) b (at_job (J b) HandedBack) t).at ≡ (put J a (at_job (J a) HandedBack) t).at) = put_calm (put J a (at_job (J a) HandedBack)) b (at_job (J b) HandedBack) refl t h in
+    let c : (loc_at (put (put J a (at_job (J a) HandedBack)) b (at_job (J b) HandedBack) t) ≡ loc_at (put J a (at_job (J a) HandedBack) t)) × ((put (put J a (at_job (J a) HandedBack)) b (at_job (J b) HandedBack) t).at ≡ (put J a (at_job (J a) HandedBack) t).at) =
+    put_calm (put J a (at_job (J a) HandedBack)) b (at_job (J b) HandedBack) refl t h in
     let d : (loc_at (put J a (at_job (J a) HandedBack) t) ≡ loc_at (J t)) × ((put J a (at_job (J a) HandedBack) t).at ≡ (J t).at) = put_calm J a (at_job (J a) HandedBack) refl t (ap in_hand (sym (c.0)) ∙ h) in
     (c.0 ∙ d.0, c.1 ∙ d.1)
 
@@ -324,11 +341,23 @@ no_deals h g (Caller n) c m _ z = search (rules, arith)
 
 -- the world after the pieces of a broadcast are dealt
 abbrev pub dealt_world : World → Party → Pieces → List Place → ℕ → World
-dealt_world w q c fs i0 = after w q (record { top = PushForAll c; below = fs }) c.pool i0 (count_call c.count) 0 (Done, record (part_of w c.pool i0 (count_call c.count) 0) { pool = record (w.pool c.pool) { casts = casts_with c (w.pool c.pool).casts }; call = record (w.call (count_call c.count)) { writer = left_book q (count_book c.count) (w.call (count_call c.count)).writer; undealt = undealt_after c.count (w.call (count_call c.count)).undealt } })
+dealt_world w q c fs i0 = after w q (record { top = PushForAll c; below = fs }) c.pool i0 (count_call c.count) 0 (
+  Done,
+  record (part_of w c.pool i0 (count_call c.count) 0) {
+    pool = record (w.pool c.pool) { casts = casts_with c (w.pool c.pool).casts };
+    call = record (w.call (count_call c.count)) { writer = left_book q (count_book c.count) (w.call (count_call c.count)).writer; undealt = undealt_after c.count (w.call (count_call c.count)).undealt };
+  },
+)
 
 -- the same of a broadcast that waits
 abbrev pub gathered_world : World → Party → Gathering → List Place → ℕ → World
-gathered_world w q d fs i0 = after w q (record { top = DealPieces d; below = fs }) d.pieces.pool i0 (count_call d.pieces.count) 0 (Done, record (part_of w d.pieces.pool i0 (count_call d.pieces.count) 0) { pool = record (w.pool d.pieces.pool) { casts = casts_with d.pieces (w.pool d.pieces.pool).casts }; call = record (w.call (count_call d.pieces.count)) { writer = left_book q (count_book d.pieces.count) (w.call (count_call d.pieces.count)).writer; undealt = undealt_after d.pieces.count (w.call (count_call d.pieces.count)).undealt } })
+gathered_world w q d fs i0 = after w q (record { top = DealPieces d; below = fs }) d.pieces.pool i0 (count_call d.pieces.count) 0 (
+  Done,
+  record (part_of w d.pieces.pool i0 (count_call d.pieces.count) 0) {
+    pool = record (w.pool d.pieces.pool) { casts = casts_with d.pieces (w.pool d.pieces.pool).casts };
+    call = record (w.call (count_call d.pieces.count)) { writer = left_book q (count_book d.pieces.count) (w.call (count_call d.pieces.count)).writer; undealt = undealt_after d.pieces.count (w.call (count_call d.pieces.count)).undealt };
+  },
+)
 
 -- whose piece this number is
 own_piece : (a n i t : ℕ) → nat_lt i n ≡ true → (t == (a + i)) ≡ ((i == (t - a)) && (nat_le a t && nat_lt t (a + n)))
@@ -379,7 +408,8 @@ deal_ok w q c fs i0 e ok = group_ok w (dealt_world w q c fs i0) (is_piece c) (Ha
         by false z = omega arith
     shift (Deck p i) t = let a : times t (put_seat w.seat c.pool i0 (w.seat c.pool i0) p i).own ≡ times t (w.seat p i).own = ap (λ s. times t s.own) (seat p i) in omega (arith, a)
     shift (Line p i b7) t = let a : times t ((put_seat w.seat c.pool i0 (w.seat c.pool i0) p i).fifo b7) ≡ times t ((w.seat p i).fifo b7) = ap (λ s. times t (s.fifo b7)) (seat p i) in omega (arith, a)
-    shift (Inj p) t = let a : times t (put w.pool c.pool (record (w.pool c.pool) { casts = casts_with c (w.pool c.pool).casts }) p).injector ≡ times t (w.pool p).injector = put_same (λ v. times t v.injector) w.pool c.pool (record (w.pool c.pool) { casts = casts_with c (w.pool c.pool).casts }) p refl in omega (arith, a)
+    shift (Inj p) t = let a : times t (put w.pool c.pool (record (w.pool c.pool) { casts = casts_with c (w.pool c.pool).casts }) p).injector ≡ times t (w.pool p).injector =
+        put_same (λ v. times t v.injector) w.pool c.pool (record (w.pool c.pool) { casts = casts_with c (w.pool c.pool).casts }) p refl in omega (arith, a)
     shift (Cast p i) t = by (p == c.pool) refl
       where
         lists : (z : Bool) → nat_lt i c.workers ≡ z → times t (if z then (w.pool c.pool).casts i ++ (c.first + i) ∷ [] else (w.pool c.pool).casts i) + 0 ≡ times t ((w.pool c.pool).casts i) + one ((i == (t - c.first)) && is_piece c t)
@@ -437,7 +467,8 @@ gather_ok w q d fs i0 e ok = group_ok w (gathered_world w q d fs i0) (is_piece c
         by false z = omega arith
     shift (Deck p i) t = let a : times t (put_seat w.seat c.pool i0 (w.seat c.pool i0) p i).own ≡ times t (w.seat p i).own = ap (λ s. times t s.own) (seat p i) in omega (arith, a)
     shift (Line p i b7) t = let a : times t ((put_seat w.seat c.pool i0 (w.seat c.pool i0) p i).fifo b7) ≡ times t ((w.seat p i).fifo b7) = ap (λ s. times t (s.fifo b7)) (seat p i) in omega (arith, a)
-    shift (Inj p) t = let a : times t (put w.pool c.pool (record (w.pool c.pool) { casts = casts_with c (w.pool c.pool).casts }) p).injector ≡ times t (w.pool p).injector = put_same (λ v. times t v.injector) w.pool c.pool (record (w.pool c.pool) { casts = casts_with c (w.pool c.pool).casts }) p refl in omega (arith, a)
+    shift (Inj p) t = let a : times t (put w.pool c.pool (record (w.pool c.pool) { casts = casts_with c (w.pool c.pool).casts }) p).injector ≡ times t (w.pool p).injector =
+        put_same (λ v. times t v.injector) w.pool c.pool (record (w.pool c.pool) { casts = casts_with c (w.pool c.pool).casts }) p refl in omega (arith, a)
     shift (Cast p i) t = by (p == c.pool) refl
       where
         lists : (z : Bool) → nat_lt i c.workers ≡ z → times t (if z then (w.pool c.pool).casts i ++ (c.first + i) ∷ [] else (w.pool c.pool).casts i) + 0 ≡ times t ((w.pool c.pool).casts i) + one ((i == (t - c.first)) && is_piece c t)
@@ -537,10 +568,18 @@ still_feeds w u le k fe q t n = k.made t q was hand ∙ was
     hand = ap in_hand (where_is (Hand q) (loc_at (u.job t)) (let a : all_fed t (u.stack q) ≤ held t (u.stack q) = fed_held t (u.stack q) in let b : held t (u.stack q) ≡ is_loc (Hand q) (loc_at (u.job t)) = k.placed (Hand q) t in omega (arith, a, b, n)))
 
 pub kept_advance : (w u : World) → u.jobs ≡ w.jobs → Unmade w → FedLess w u → Kept w u → Advance w u
-kept_advance w u e un le k = record { feeds = still_feeds w u le k; known = λ f t b. onward_known ((w.job t).at) ((u.job t).at) (k.onward t) (f t (omega (arith, b, e))); placed = k.placed; fit = k.fit; final = λ t. final_onward ((w.job t).at) ((u.job t).at) (k.onward t); unmade = λ t b. subst (λ a. IsOnward a ((u.job t).at)) (un t (omega (arith, b, e))) (k.onward t) }
+kept_advance w u e un le k = record {
+  feeds = still_feeds w u le k;
+  known = λ f t b. onward_known ((w.job t).at) ((u.job t).at) (k.onward t) (f t (omega (arith, b, e)));
+  placed = k.placed;
+  fit = k.fit;
+  final = λ t. final_onward ((w.job t).at) ((u.job t).at) (k.onward t);
+  unmade = λ t b. subst (λ a. IsOnward a ((u.job t).at)) (un t (omega (arith, b, e))) (k.onward t);
+}
 
 -- where one party has another stack, with the same jobs in it
-pub restack_ok : (w : World) (q : Party) (k : Stack) (P : ℕ → Pool) → ((t : ℕ) → held t k ≡ held t (w.stack q)) → ((t : ℕ) → worked t k ≡ worked t (w.stack q)) → ((p : ℕ) → (P p).injector ≡ (w.pool p).injector) → ((p : ℕ) → (P p).casts ≡ (w.pool p).casts) → ((t : ℕ) → all_fed t k ≤ all_fed t (w.stack q)) → JobsOk w → Unmade w → Advance w (record w { stack = put_stack w.stack q k; pool = P })
+pub restack_ok : (w : World) (q : Party) (k : Stack) (P : ℕ → Pool) → ((t : ℕ) → held t k ≡ held t (w.stack q)) → ((t : ℕ) → worked t k ≡ worked t (w.stack q)) → ((p : ℕ) → (P p).injector ≡ (w.pool p).injector) → ((p : ℕ) → (P p).casts ≡ (w.pool p).casts)
+    → ((t : ℕ) → all_fed t k ≤ all_fed t (w.stack q)) → JobsOk w → Unmade w → Advance w (record w { stack = put_stack w.stack q k; pool = P })
 restack_ok w q k P h r inj casts le ok un = kept_advance w (record w { stack = put_stack w.stack q k; pool = P }) (omega arith) un (fed_stacks w q k le) (record { placed = placed; fit = ok.fit; onward = λ t. onward_same ((w.job t).at) ((w.job t).at) refl; made = λ t s z y. refl })
   where
     placed : (l : Loc) (t : ℕ) → weight (record w { stack = put_stack w.stack q k; pool = P }) l t ≡ is_loc l (loc_at (w.job t))
@@ -560,7 +599,8 @@ restack_ok w q k P h r inj casts le ok un = kept_advance w (record w { stack = p
     placed (Inj p) t = subst (λ f. times t f ≡ is_loc (Inj p) (loc_at (w.job t))) (sym (inj p)) ((ok.placed) (Inj p) t)
 
 -- the same where the old top is known
-pub retop_ok : (w : World) (q : Party) (x : Place) (fs : List Place) (k : Stack) → w.stack q ≡ record { top = x; below = fs } → ((t : ℕ) → held t k ≡ hand t x + held_in t fs) → ((t : ℕ) → worked t k ≡ run_of t x + runs_in t fs) → ((t : ℕ) → all_fed t k ≤ fed t x + fed_in t fs) → JobsOk w → Unmade w → Advance w (record w { stack = put_stack w.stack q k })
+pub retop_ok : (w : World) (q : Party) (x : Place) (fs : List Place) (k : Stack) → w.stack q ≡ record { top = x; below = fs } → ((t : ℕ) → held t k ≡ hand t x + held_in t fs) → ((t : ℕ) → worked t k ≡ run_of t x + runs_in t fs) → ((t : ℕ) → all_fed t k ≤ fed t x + fed_in t fs) → JobsOk w
+    → Unmade w → Advance w (record w { stack = put_stack w.stack q k })
 retop_ok w q x fs k e h r le ok un = restack_ok w q k w.pool
     (λ t. let a : held t (w.stack q) ≡ (hand t x + held_in t fs) = ap (held t) e in let b : held t k ≡ hand t x + held_in t fs = h t in omega (arith, a, b))
     (λ t. let a : worked t (w.stack q) ≡ (run_of t x + runs_in t fs) = ap (worked t) e in let b : worked t k ≡ run_of t x + runs_in t fs = r t in omega (arith, a, b))

@@ -84,7 +84,8 @@ fed_closed t u (BodyOf c9 o9) e (f ∷ fs) = let a : fed t (goes_on f e) ≤ fed
 -- a run's end: the job is over, and in no place
 end_kept : (w : World) (q : Party) (d : Ending) (u : ℕ) (k : JobKind) (fs : List Place) → w.stack q ≡ record { top = Run u k; below = fs } → JobsOk w → Unmade w → Advance w (record w { stack = put_stack w.stack q (after_close u k d fs); job = put w.job u (at_job (w.job u) (Over d)) })
 end_kept w q d u k fs e ok un = kept_advance w (record w { stack = put_stack w.stack q (after_close u k d fs); job = put w.job u (at_job (w.job u) (Over d)) }) (omega arith) un (fed_stacks w q (after_close u k d fs) closed_fed)
-    (gone_ok w (record w { stack = put_stack w.stack q (after_close u k d fs); job = put w.job u (at_job (w.job u) (Over d)) }) u (at_job (w.job u) (Over d)) (Work q) None refl shift (job_new w u (at_job (w.job u) (Over d))) (job_old w u (at_job (w.job u) (Over d))) refl (λ z. (refl, (at_work ((w.job u).at) ((w.job u).runs) q z).0, onward_loc ((w.job u).at) (Over d) ((w.job u).runs) (Work q) z refl)) ok)
+    (gone_ok w (record w { stack = put_stack w.stack q (after_close u k d fs); job = put w.job u (at_job (w.job u) (Over d)) }) u (at_job (w.job u) (Over d)) (Work q) None refl shift (job_new w u (at_job (w.job u) (Over d))) (job_old w u (at_job (w.job u) (Over d))) refl
+    (λ z. (refl, (at_work ((w.job u).at) ((w.job u).runs) q z).0, onward_loc ((w.job u).at) (Over d) ((w.job u).runs) (Work q) z refl)) ok)
   where
     closed_fed : (t : ℕ) → all_fed t (after_close u k d fs) ≤ all_fed t (w.stack q)
     closed_fed t = let a : all_fed t (after_close u k d fs) ≤ fed_in t fs = fed_closed t u k d fs in let b : all_fed t (w.stack q) ≡ (0 + fed_in t fs) = ap (all_fed t) e in omega (arith, a, b)
@@ -171,10 +172,12 @@ new_feeds w q n J new old fe r t h = by (same_party r q) refl h
     by false z f = before r f
 
 -- a call that makes one job
-make_one : (w : World) (q : Party) (n : Plan) (p : ℕ) (k : JobKind) (C : ℕ → Call) (c : ℕ) → ((t : ℕ) → hand_plan t n ≡ one (t == w.jobs)) → JobsOk w → Unmade w → Advance w (record w { stack = put_stack w.stack q (after_call (w.stack q) (RaiseCount n)); call = C; job = put w.job w.jobs (new_job q p k); calls = c; jobs = w.jobs + 1 })
+make_one : (w : World) (q : Party) (n : Plan) (p : ℕ) (k : JobKind) (C : ℕ → Call) (c : ℕ) → ((t : ℕ) → hand_plan t n ≡ one (t == w.jobs)) → JobsOk w → Unmade w
+    → Advance w (record w { stack = put_stack w.stack q (after_call (w.stack q) (RaiseCount n)); call = C; job = put w.job w.jobs (new_job q p k); calls = c; jobs = w.jobs + 1 })
 make_one w q n p k C c h ok un = record {
   feeds = λ fe. new_feeds w q n (put w.job w.jobs (new_job q p k)) (λ t b. one_new w q t p k (let f : hand_plan t n ≡ one (t == w.jobs) = h t in omega (arith, f, b))) (λ t e. ap (λ j. j.at) (job_old w w.jobs (new_job q p k) t (known_old w t un e))) fe;
-  placed = make_ok (weight w) (weight (record w { stack = put_stack w.stack q (after_call (w.stack q) (RaiseCount n)) })) (λ t. loc_at (w.job t)) (λ t. loc_at (put w.job w.jobs (new_job q p k) t)) w.jobs q none le (ok.placed) (ap (λ x. loc_at x) (job_new w w.jobs (new_job q p k))) (λ t e. ap (λ x. loc_at x) (job_old w w.jobs (new_job q p k) t e));
+  placed = make_ok (weight w) (weight (record w { stack = put_stack w.stack q (after_call (w.stack q) (RaiseCount n)) })) (λ t. loc_at (w.job t)) (λ t. loc_at (put w.job w.jobs (new_job q p k) t)) w.jobs q none le (ok.placed) (ap (λ x. loc_at x) (job_new w w.jobs (new_job q p k)))
+      (λ t e. ap (λ x. loc_at x) (job_old w w.jobs (new_job q p k) t e));
   fit = λ t. fit_by t (t == w.jobs);
   final = λ t. fin_by t (t == w.jobs) refl;
   unmade = λ t b. (let e : (t == w.jobs) ≡ false = not_new w.jobs t b in rw e (un t (omega (arith, b))));
@@ -213,12 +216,14 @@ abbrev pub mid_of : World → Party → Loc → ℕ → ℕ
 mid_of w q l t = weight w l t + one (same_loc l (Hand q) && (t == w.jobs))
 
 -- a call that makes two
-make_two : (w : World) (q : Party) (n : Plan) (p : ℕ) (d k : JobKind) (C : ℕ → Call) (c : ℕ) → ((t : ℕ) → hand_plan t n ≡ one (t == w.jobs) + one (t == (w.jobs + 1))) → JobsOk w → Unmade w → Advance w (record w { stack = put_stack w.stack q (after_call (w.stack q) (RaiseCount n)); call = C; job = put (put w.job w.jobs (new_job q p d)) (w.jobs + 1) (new_job q p k); calls = c; jobs = w.jobs + 2 })
+make_two : (w : World) (q : Party) (n : Plan) (p : ℕ) (d k : JobKind) (C : ℕ → Call) (c : ℕ) → ((t : ℕ) → hand_plan t n ≡ one (t == w.jobs) + one (t == (w.jobs + 1))) → JobsOk w → Unmade w
+    → Advance w (record w { stack = put_stack w.stack q (after_call (w.stack q) (RaiseCount n)); call = C; job = put (put w.job w.jobs (new_job q p d)) (w.jobs + 1) (new_job q p k); calls = c; jobs = w.jobs + 2 })
 make_two w q n p d k C c is ok un = record {
   feeds = λ fe. new_feeds w q n (put one_made (w.jobs + 1) (new_job q p k))
       (λ t b. two_new t (t == (w.jobs + 1)) refl (let f : hand_plan t n ≡ one (t == w.jobs) + one (t == (w.jobs + 1)) = is t in omega (arith, f, b)))
       (λ t e. ap (λ j. j.at) (job_old (record w { job = one_made }) (w.jobs + 1) (new_job q p k) t (known_next w t un e) ∙ job_old w w.jobs (new_job q p d) t (known_old w t un e))) fe;
-  placed = make_ok (mid_of w q) (weight v) (λ t. loc_at (one_made t)) (λ t. loc_at (put one_made (w.jobs + 1) (new_job q p k) t)) (w.jobs + 1) q none2 le first (ap (λ x. loc_at x) (job_new (record w { job = one_made }) (w.jobs + 1) (new_job q p k))) (λ t e. ap (λ x. loc_at x) (job_old (record w { job = one_made }) (w.jobs + 1) (new_job q p k) t e));
+  placed = make_ok (mid_of w q) (weight v) (λ t. loc_at (one_made t)) (λ t. loc_at (put one_made (w.jobs + 1) (new_job q p k) t)) (w.jobs + 1) q none2 le first (ap (λ x. loc_at x) (job_new (record w { job = one_made }) (w.jobs + 1) (new_job q p k)))
+      (λ t e. ap (λ x. loc_at x) (job_old (record w { job = one_made }) (w.jobs + 1) (new_job q p k) t e));
   fit = λ t. fit_by t (t == (w.jobs + 1)) (t == w.jobs);
   final = λ t. fin_by t (t == (w.jobs + 1)) (t == w.jobs) refl refl;
   unmade = λ t b. (let e : (t == w.jobs) ≡ false = not_new w.jobs t (omega (arith, b)) in let d : (t == (w.jobs + 1)) ≡ false = not_new (w.jobs + 1) t (omega (arith, b)) in rw (d, e) (un t (omega (arith, b))));
@@ -276,7 +281,9 @@ feed_kept : (w : World) (k : Count) (p i : ℕ) → JobsOk w → Unmade w → Ad
 feed_kept w k p i ok un = make_two w (Worker p i) (Feed (record { count = k; pool = p; job = w.jobs; token = w.jobs + 1 })) p (count_kind k) (TokenOf i (count_book k)) w.call w.calls (λ t. refl) ok un
 
 -- a call that makes a piece for each worker of a pool
-pieces_kept : (w : World) (q : Party) (k : Count) (p : ℕ) (x : Place) → ((t : ℕ) → hand t x ≡ one (is_piece (record { count = k; pool = p; first = w.jobs; workers = (w.shape.pool p).workers }) t)) → ((t : ℕ) → run_of t x ≡ 0) → ((t : ℕ) → fed t x ≡ one (is_piece (record { count = k; pool = p; first = w.jobs; workers = (w.shape.pool p).workers }) t)) → JobsOk w → Unmade w → Advance w (record w { stack = put_stack w.stack q (after_call (w.stack q) x); job = put_pieces (record { count = k; pool = p; first = w.jobs; workers = (w.shape.pool p).workers }) (λ i j. new_piece q k p i) w.job; jobs = w.jobs + (w.shape.pool p).workers })
+pieces_kept : (w : World) (q : Party) (k : Count) (p : ℕ) (x : Place) → ((t : ℕ) → hand t x ≡ one (is_piece (record { count = k; pool = p; first = w.jobs; workers = (w.shape.pool p).workers }) t)) → ((t : ℕ) → run_of t x ≡ 0)
+    → ((t : ℕ) → fed t x ≡ one (is_piece (record { count = k; pool = p; first = w.jobs; workers = (w.shape.pool p).workers }) t)) → JobsOk w → Unmade w
+    → Advance w (record w { stack = put_stack w.stack q (after_call (w.stack q) x); job = put_pieces (record { count = k; pool = p; first = w.jobs; workers = (w.shape.pool p).workers }) (λ i j. new_piece q k p i) w.job; jobs = w.jobs + (w.shape.pool p).workers })
 pieces_kept w q k p x ha ra fa ok un = record {
   feeds = feeds;
   placed = placed;
@@ -406,7 +413,8 @@ whole_kept w u v C n at runs more un a = record {
 
 gather_kept : (w : World) (q : Party) (p : ℕ) → JobsOk w → Unmade w → Advance w (after_gather w q p (w.stack q))
 gather_kept w q p ok un = whole_kept w _ (new_whole q p w.calls) (put w.call w.calls (new_gathering ((w.shape.pool p).workers) (w.jobs + (w.shape.pool p).workers))) (w.calls + 1) refl refl (omega arith) un
-    (pieces_kept w q (OfCast w.calls q) p (RaiseCount (Gather (record { call = record { number = w.calls; pool = p; job = w.jobs + (w.shape.pool p).workers }; pieces = record { count = OfCast w.calls q; pool = p; first = w.jobs; workers = (w.shape.pool p).workers } }))) (λ t. refl) (λ t. refl) (λ t. refl) ok un)
+    (pieces_kept w q (OfCast w.calls q) p (RaiseCount (Gather (record { call = record { number = w.calls; pool = p; job = w.jobs + (w.shape.pool p).workers }; pieces = record { count = OfCast w.calls q; pool = p; first = w.jobs; workers = (w.shape.pool p).workers } }))) (λ t. refl) (λ t. refl)
+    (λ t. refl) ok un)
 
 pub go_fed : (w : World) (q : Party) (r : Seen × Part) → FedLess w (result w q (w.stack q) r)
 go_fed w q r = fed_stacks w q (after_move (next_of (shape_at w q (w.stack q)) q ((w.stack q).top) (r.0)) ((w.stack q).below)) (λ t. fed_after (shape_at w q (w.stack q)) q t ((w.stack q).top) ((w.stack q).below) (r.0))
@@ -468,7 +476,12 @@ first_placed h (Inj p) t = omega arith
 first_placed h (Line p i b7) t = omega arith
 
 pub first_jobs : (h : Shape) → JobsHold (start h)
-first_jobs h = record { ok = record { placed = first_placed h; fit = λ t. refl }; unmade = λ t b. refl; known = λ t b. absurd (omega (arith, b)); feeds = λ q t n. absurd (let a : all_fed t ((start h).stack q) ≤ held t ((start h).stack q) = fed_held t ((start h).stack q) in let b : hand t (first_place h q) ≡ 0 = (first_hand h q t).0 in omega (arith, a, b, n)) }
+first_jobs h = record {
+  ok = record { placed = first_placed h; fit = λ t. refl };
+  unmade = λ t b. refl;
+  known = λ t b. absurd (omega (arith, b));
+  feeds = λ q t n. absurd (let a : all_fed t ((start h).stack q) ≤ held t ((start h).stack q) = fed_held t ((start h).stack q) in let b : hand t (first_place h q) ≡ 0 = (first_hand h q t).0 in omega (arith, a, b, n));
+}
 
 -- from there to the law
 begun_once : (v : Whereabouts) (n : ℕ) → fits v n → n ≤ 1

@@ -56,7 +56,8 @@ pushing_owes : (q : Party) (n : Plan) (v : Bool) (p i : ℕ) → (plan_pool n ==
 pushing_owes q n v p i b d = let is : is_member q p ≡ false = ap (is_member q) (sym (eqb-true (plan_pool n) p b)) ∙ d in rw (b, is)
 
 -- a push makes its party a waker, unless it is onto its own deque
-pub push_attends : (w : World) (q : Party) (n : Plan) (v : Bool) (fs : List Place) → w.stack q ≡ record { top = PushJob n v; below = fs } → FramesOk w → Attended w → IfSome (outcome w q (record { top = PushJob n v; below = fs })) (λ r. Attended (result w q (record { top = PushJob n v; below = fs }) r))
+pub push_attends : (w : World) (q : Party) (n : Plan) (v : Bool) (fs : List Place) → w.stack q ≡ record { top = PushJob n v; below = fs } → FramesOk w → Attended w
+    → IfSome (outcome w q (record { top = PushJob n v; below = fs })) (λ r. Attended (result w q (record { top = PushJob n v; below = fs }) r))
 push_attends w q n v fs e fr a =
     if_some_map (λ r. ((r.0 ≡ Done) × (is_member q (plan_pool n) ≡ true → is_filled (r.1.pool.injector) ≡ true → is_filled (w.pool p0).injector ≡ true)) × ((p i : ℕ) → Quiet w (result w q k r) p i)) (λ r. Attended (result w q k r))
     (λ r h p. by_pool r ((h.0).0) ((h.0).1) (h.1) p (plan_pool n == p) (is_member q (plan_pool n)) refl refl)
@@ -71,7 +72,8 @@ push_attends w q n v fs e fr a =
     p0 : ℕ
     p0 = target_pool q (act_of q (PushJob n v))
 
-    by_pool : (r : Seen × Part) → r.0 ≡ Done → (is_member q (plan_pool n) ≡ true → is_filled (r.1.pool.injector) ≡ true → is_filled (w.pool p0).injector ≡ true) → ((p i : ℕ) → Quiet w (result w q k r) p i) → (p : ℕ) (b d : Bool) → (plan_pool n == p) ≡ b → is_member q (plan_pool n) ≡ d → AttendedAt (result w q k r) p
+    by_pool : (r : Seen × Part) → r.0 ≡ Done → (is_member q (plan_pool n) ≡ true → is_filled (r.1.pool.injector) ≡ true → is_filled (w.pool p0).injector ≡ true) → ((p i : ℕ) → Quiet w (result w q k r) p i) → (p : ℕ) (b d : Bool) → (plan_pool n == p) ≡ b → is_member q (plan_pool n) ≡ d
+        → AttendedAt (result w q k r) p
     by_pool r done inj quiet p true false eb ed i below filled has = inr (owing_here w q (TellNews n v) (result w q k r) p i (top_is w q k r ∙ ap (λ z. (after_move (next_at w q k z) fs).top) done) below has (pushing_owes q n v p i eb ed))
     by_pool r done inj quiet p b true eb ed i below filled has = attended_same w (result w q k r) p (same_quiet w q k e r p (quiet p) (λ is. inj ed) (λ i b o. cc)) (a p) i below filled has
     by_pool r done inj quiet p false false eb ed i below filled has = attended_same w (result w q k r) p (same_quiet w q k e r p (quiet p) (λ is. absurd (let s : (plan_pool n == p) ≡ true = eq-eqb (plan_pool n) p (sym (is ∙ push_pool q n v ed)) in cc)) (λ i b o. cc)) (a p) i below filled has
@@ -92,7 +94,8 @@ owes_news : (q : Party) (n : Plan) (v : Bool) (p i : ℕ) → (plan_pool n == p)
 owes_news q n v p i e = rw e
 
 -- who tells the news wakes one, or nobody sleeps, or somebody looks
-pub tell_attends : (w : World) (q : Party) (n : Plan) (v : Bool) (fs : List Place) → w.stack q ≡ record { top = TellNews n v; below = fs } → SeatsOk w → FramesOk w → Attended w → IfSome (outcome w q (record { top = TellNews n v; below = fs })) (λ r. Attended (result w q (record { top = TellNews n v; below = fs }) r))
+pub tell_attends : (w : World) (q : Party) (n : Plan) (v : Bool) (fs : List Place) → w.stack q ≡ record { top = TellNews n v; below = fs } → SeatsOk w → FramesOk w → Attended w
+    → IfSome (outcome w q (record { top = TellNews n v; below = fs })) (λ r. Attended (result w q (record { top = TellNews n v; below = fs }) r))
 tell_attends w q n v fs e ok fr a =
     if_some_map (λ r. ((r.0 ≡ Wakes (wakes_for_one v (counts_at w p0))) × (r.1.pool.injector ≡ (w.pool p0).injector)) × ((p i : ℕ) → Quiet w (result w q k r) p i)) (λ r. Attended (result w q k r))
     (λ r h p. by_pool r ((h.0).0 ∙ ap (λ z. Wakes (wakes_for_one v (counts_at w z))) (tell_pool q n v)) ((h.0).1) (h.1) p (plan_pool n == p) (nat_lt 0 number) refl refl)

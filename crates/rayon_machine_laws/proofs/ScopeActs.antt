@@ -39,10 +39,12 @@ use Rattle.rayon_machine_laws.proofs.ShareRuns.{shares_mine, other_le, after_sha
 use Rattle.rayon_machine_laws.proofs.ShareSteps.{Ready, stack_after, counted_now, self_one, raised_world, plan_made, no_steady, lower_steady, raise_steady, raise_plain, ungiven, all_raised, back_counted, pieces_made}
 use Rattle.rayon_machine_laws.proofs.ShareLowers.{lowered_world, returned_jobs, share_made, all_lowered}
 use Rattle.rayon_machine_laws.proofs.Bodies.{in_scope, all_bodies, spent}
-use Rattle.rayon_machine_laws.proofs.ScopeCounts.{piece_in, entry, is_whole, Closed, SomePiece, ScopesHold, fresh_on, some_on, or_second, closed_last, done_made, DealtOn, parts_last, entry_same, entry_off, entry_on, inside, scope_is, plan_entry, share_entry, more_at, less_of, more_one, less_at, bodies_still, unopened_still, scopes_keep, le_after, is_counting, Uncalled, same_uncalled, act_uncalled, tally_counting}
+use Rattle.rayon_machine_laws.proofs.ScopeCounts.{piece_in, entry, is_whole, Closed, SomePiece, ScopesHold, fresh_on, some_on, or_second, closed_last, done_made, DealtOn, parts_last, entry_same, entry_off, entry_on, inside, scope_is, plan_entry, share_entry, more_at, less_of}
+use Rattle.rayon_machine_laws.proofs.ScopeCounts.{more_one, less_at, bodies_still, unopened_still, scopes_keep, le_after, is_counting, Uncalled, same_uncalled, act_uncalled, tally_counting}
 
 -- an act that changes no scope's count
-plain_scopes : (w : World) (q : Party) (x : Place) (fs : List Place) (r : Seen × Part) → Ready w q x fs r → Uncalled (place_part w q x) r → is_sharing (next_of (w.shape.pool (target_pool q (act_of q x))) q x (r.0)) ≡ false → ScopesHold w → SharesHold (world_after w q x fs r) → ScopesHold (world_after w q x fs r)
+plain_scopes : (w : World) (q : Party) (x : Place) (fs : List Place) (r : Seen × Part) → Ready w q x fs r → Uncalled (place_part w q x) r → is_sharing (next_of (w.shape.pool (target_pool q (act_of q x))) q x (r.0)) ≡ false → ScopesHold w → SharesHold (world_after w q x fs r)
+    → ScopesHold (world_after w q x fs r)
 plain_scopes w q x fs r d un st h s = scopes_keep w (world_after w q x fs r) q (stack_after w q x fs (r.0)) (λ i. refl) (omega arith)
     (λ c. put_same (λ v. v.counted) w.call (target_call (act_of q x)) (r.1.call) c (un.counted))
     (λ c. put_same (λ v. v.count) w.call (target_call (act_of q x)) (r.1.call) c (un.count))
@@ -95,7 +97,8 @@ raise_scopes w q n fs l de z h s = record {
     le c = let a : all_bodies c k + 0 ≤ all_bodies c (w.stack q) = le_after w q (RaiseCount n) fs (w.shape.pool (count_pool q (plan_count n))) Done c z in omega (arith, a)
 
     counted : (t : ℕ) → (v.job t).counted ≡ (put w.job j (record (w.job j) { counted = true }) t).counted
-    counted t = after_counted q (next_of (w.shape.pool (count_pool q (plan_count n))) q (RaiseCount n) Done) (put w.job j (record (w.job j) { counted = true })) t (raise_steady n) (no_bare (next_of (w.shape.pool (count_pool q (plan_count n))) q (RaiseCount n) Done) (put w.job j (record (w.job j) { counted = true })) t (raise_plain n))
+    counted t = after_counted q (next_of (w.shape.pool (count_pool q (plan_count n))) q (RaiseCount n) Done) (put w.job j (record (w.job j) { counted = true })) t (raise_steady n)
+        (no_bare (next_of (w.shape.pool (count_pool q (plan_count n))) q (RaiseCount n) Done) (put w.job j (record (w.job j) { counted = true })) t (raise_plain n))
 
     now : (v.job j).counted ≡ true
     now = counted j ∙ ap (λ i. i.counted) (put_new w.job j (record (w.job j) { counted = true }))
@@ -107,7 +110,8 @@ raise_scopes w q n fs l de z h s = record {
     before = ungiven w (h.shares) q (RaiseCount n) fs (w.shape.pool (count_pool q (plan_count n))) Done z j (let b : one (j == j) ≡ 1 = self_one j in omega (arith, b))
 
 -- a job's share is given back
-lower_scopes : (w : World) (q : Party) (i : Count) (u : ℕ) (n : Then) (fs : List Place) (e : Seen) → Lasting w (lowered_world w q i (OfJob u) n fs e) → DealtOn w (lowered_world w q i (OfJob u) n fs e) → w.stack q ≡ record { top = LowerCount i (OfJob u) n; below = fs } → ScopesHold w → SharesHold (lowered_world w q i (OfJob u) n fs e) → ScopesHold (lowered_world w q i (OfJob u) n fs e)
+lower_scopes : (w : World) (q : Party) (i : Count) (u : ℕ) (n : Then) (fs : List Place) (e : Seen) → Lasting w (lowered_world w q i (OfJob u) n fs e) → DealtOn w (lowered_world w q i (OfJob u) n fs e) → w.stack q ≡ record { top = LowerCount i (OfJob u) n; below = fs } → ScopesHold w
+    → SharesHold (lowered_world w q i (OfJob u) n fs e) → ScopesHold (lowered_world w q i (OfJob u) n fs e)
 lower_scopes w q i u n fs e l de z h s = record {
   shares = s;
   bodies = λ c. bodies_still w v q k (λ r. refl) h c (same_call c) (le c);
@@ -163,10 +167,12 @@ lower_scopes w q i u n fs e l de z h s = record {
     same t y = counted t ∙ ap (λ j. j.counted) (put_old w.job u (record (w.job u) { counted = false }) t y)
 
     had : (w.job u).counted ≡ true
-    had = one_is ((w.job u).counted) (let a : shares u (put_stack w.stack q k q) + (0 + one (u == u)) ≡ shares u (w.stack q) + 0 = shares_mine w q (LowerCount i (OfJob u) n) fs (w.shape.pool (count_pool q i)) e u z in let b : one (u == u) ≡ 1 = self_one u in let c : shares u (w.stack q) + with_job (w.job u) ≤ one (w.job u).counted = ((h.shares).jobs u).alone q in omega (arith, a, b, c))
+    had = one_is ((w.job u).counted) (let a : shares u (put_stack w.stack q k q) + (0 + one (u == u)) ≡ shares u (w.stack q) + 0 = shares_mine w q (LowerCount i (OfJob u) n) fs (w.shape.pool (count_pool q i)) e u z in let b : one (u == u) ≡ 1 = self_one u in
+        let c : shares u (w.stack q) + with_job (w.job u) ≤ one (w.job u).counted = ((h.shares).jobs u).alone q in omega (arith, a, b, c))
 
 -- the share of a scope's body
-body_scopes : (w : World) (q : Party) (d : ℕ) (o : Party) (n : Then) (fs : List Place) (e : Seen) → Lasting w (lowered_world w q (OfScope d o) Body n fs e) → DealtOn w (lowered_world w q (OfScope d o) Body n fs e) → w.stack q ≡ record { top = LowerCount (OfScope d o) Body n; below = fs } → ScopesHold w → SharesHold (lowered_world w q (OfScope d o) Body n fs e) → ScopesHold (lowered_world w q (OfScope d o) Body n fs e)
+body_scopes : (w : World) (q : Party) (d : ℕ) (o : Party) (n : Then) (fs : List Place) (e : Seen) → Lasting w (lowered_world w q (OfScope d o) Body n fs e) → DealtOn w (lowered_world w q (OfScope d o) Body n fs e) → w.stack q ≡ record { top = LowerCount (OfScope d o) Body n; below = fs }
+    → ScopesHold w → SharesHold (lowered_world w q (OfScope d o) Body n fs e) → ScopesHold (lowered_world w q (OfScope d o) Body n fs e)
 body_scopes w q d o n fs e l de z h s = record {
   shares = s;
   bodies = λ c. held c (c == d) refl;
@@ -233,17 +239,23 @@ body_scopes w q d o n fs e l de z h s = record {
     over c b false y f = h.over c b f
 
 -- each act
-plain_act : (w : World) (q : Party) (x : Place) (fs : List Place) → is_counting x ≡ false → IfSome (outcome w q (record { top = x; below = fs })) (Ready w q x fs) → ScopesHold w → IfSome (outcome w q (record { top = x; below = fs })) (λ r. SharesHold (world_after w q x fs r) → ScopesHold (world_after w q x fs r))
-plain_act w q x fs y d h = if_some_map (λ r. Ready w q x fs r × (Uncalled (place_part w q x) r × (is_sharing (next_of (w.shape.pool (target_pool q (act_of q x))) q x (r.0)) ≡ false))) (λ r. SharesHold (world_after w q x fs r) → ScopesHold (world_after w q x fs r)) (λ r f. plain_scopes w q x fs r (f.0) ((f.1).0) ((f.1).1) h) (outcome w q (record { top = x; below = fs }))
+plain_act : (w : World) (q : Party) (x : Place) (fs : List Place) → is_counting x ≡ false → IfSome (outcome w q (record { top = x; below = fs })) (Ready w q x fs) → ScopesHold w
+    → IfSome (outcome w q (record { top = x; below = fs })) (λ r. SharesHold (world_after w q x fs r) → ScopesHold (world_after w q x fs r))
+plain_act w q x fs y d h = if_some_map (λ r. Ready w q x fs r × (Uncalled (place_part w q x) r × (is_sharing (next_of (w.shape.pool (target_pool q (act_of q x))) q x (r.0)) ≡ false))) (λ r. SharesHold (world_after w q x fs r) → ScopesHold (world_after w q x fs r))
+    (λ r f. plain_scopes w q x fs r (f.0) ((f.1).0) ((f.1).1) h) (outcome w q (record { top = x; below = fs }))
     (if_some_and (Ready w q x fs) (λ r. Uncalled (place_part w q x) r × (is_sharing (next_of (w.shape.pool (target_pool q (act_of q x))) q x (r.0)) ≡ false)) (outcome w q (record { top = x; below = fs })) d
-    (if_some_and (Uncalled (place_part w q x)) (λ r. is_sharing (next_of (w.shape.pool (target_pool q (act_of q x))) q x (r.0)) ≡ false) (outcome w q (record { top = x; below = fs })) (act_uncalled w.shape q (counts_at w (target_pool q (act_of q x))) (place_part w q x) x y) (no_steady w.shape (w.shape.pool (target_pool q (act_of q x))) q (counts_at w (target_pool q (act_of q x))) (place_part w q x) x (tally_counting x y))))
+    (if_some_and (Uncalled (place_part w q x)) (λ r. is_sharing (next_of (w.shape.pool (target_pool q (act_of q x))) q x (r.0)) ≡ false) (outcome w q (record { top = x; below = fs })) (act_uncalled w.shape q (counts_at w (target_pool q (act_of q x))) (place_part w q x) x y)
+    (no_steady w.shape (w.shape.pool (target_pool q (act_of q x))) q (counts_at w (target_pool q (act_of q x))) (place_part w q x) x (tally_counting x y))))
 
-raise_either : (w : World) (q : Party) (n : Plan) (fs : List Place) → ScopesHold w → (done : Seen × Part) → (Ready w q (RaiseCount n) fs done → SharesHold (world_after w q (RaiseCount n) fs done) → ScopesHold (world_after w q (RaiseCount n) fs done)) → (b : Bool) → IfSome (if b then Some (Refused, place_part w q (RaiseCount n)) else Some done) (Ready w q (RaiseCount n) fs) → IfSome (if b then Some (Refused, place_part w q (RaiseCount n)) else Some done) (λ r. SharesHold (world_after w q (RaiseCount n) fs r) → ScopesHold (world_after w q (RaiseCount n) fs r))
+raise_either : (w : World) (q : Party) (n : Plan) (fs : List Place) → ScopesHold w → (done : Seen × Part) → (Ready w q (RaiseCount n) fs done → SharesHold (world_after w q (RaiseCount n) fs done) → ScopesHold (world_after w q (RaiseCount n) fs done)) → (b : Bool)
+    → IfSome (if b then Some (Refused, place_part w q (RaiseCount n)) else Some done) (Ready w q (RaiseCount n) fs)
+    → IfSome (if b then Some (Refused, place_part w q (RaiseCount n)) else Some done) (λ r. SharesHold (world_after w q (RaiseCount n) fs r) → ScopesHold (world_after w q (RaiseCount n) fs r))
 raise_either w q n fs h done f true d = plain_scopes w q (RaiseCount n) fs (Refused, place_part w q (RaiseCount n)) d (same_uncalled (place_part w q (RaiseCount n)) Refused) refl h
 raise_either w q n fs h done f false d = f d
 
 -- the pieces of a broadcast that finds its count ended had no share
-refused_scopes : (w : World) (q : Party) (b : Pieces) (fs : List Place) → Ready w q (RaiseForAll b) fs (Refused, place_part w q (RaiseForAll b)) → (world_after w q (RaiseForAll b) fs (Refused, place_part w q (RaiseForAll b))).job ≡ mark_pieces b Returned (put w.job 0 (w.job 0)) → ScopesHold w → SharesHold (world_after w q (RaiseForAll b) fs (Refused, place_part w q (RaiseForAll b))) → ScopesHold (world_after w q (RaiseForAll b) fs (Refused, place_part w q (RaiseForAll b)))
+refused_scopes : (w : World) (q : Party) (b : Pieces) (fs : List Place) → Ready w q (RaiseForAll b) fs (Refused, place_part w q (RaiseForAll b)) → (world_after w q (RaiseForAll b) fs (Refused, place_part w q (RaiseForAll b))).job ≡ mark_pieces b Returned (put w.job 0 (w.job 0)) → ScopesHold w
+    → SharesHold (world_after w q (RaiseForAll b) fs (Refused, place_part w q (RaiseForAll b))) → ScopesHold (world_after w q (RaiseForAll b) fs (Refused, place_part w q (RaiseForAll b)))
 refused_scopes w q b fs d jo h s = scopes_keep w v q (stack_after w q (RaiseForAll b) fs Refused) (λ i. refl) (omega arith)
     (λ c. put_same (λ a. a.counted) w.call (target_call (act_of q (RaiseForAll b))) (w.call (target_call (act_of q (RaiseForAll b)))) c refl)
     (λ c. put_same (λ a. a.count) w.call (target_call (act_of q (RaiseForAll b))) (w.call (target_call (act_of q (RaiseForAll b)))) c refl)
@@ -325,7 +337,8 @@ raise_all_scopes w q b fs l de z h s = record {
         let x : one (v.call c).counted ≡ one (w.call c).counted = ap one (same_call c) in let u : (v.call c).undealt ≡ (w.call c).undealt = same_undealt c in omega (arith, a, e, g, x, u)
 
 -- and give them back
-lower_all_scopes : (w : World) (q : Party) (b : Pieces) (fs : List Place) (i : Seen) → Lasting w (all_lowered w q b fs i) → DealtOn w (all_lowered w q b fs i) → w.stack q ≡ record { top = LowerForAll b; below = fs } → ScopesHold w → SharesHold (all_lowered w q b fs i) → ScopesHold (all_lowered w q b fs i)
+lower_all_scopes : (w : World) (q : Party) (b : Pieces) (fs : List Place) (i : Seen) → Lasting w (all_lowered w q b fs i) → DealtOn w (all_lowered w q b fs i) → w.stack q ≡ record { top = LowerForAll b; below = fs } → ScopesHold w → SharesHold (all_lowered w q b fs i)
+    → ScopesHold (all_lowered w q b fs i)
 lower_all_scopes w q b fs i l de z h s = record {
   shares = s;
   bodies = λ c. bodies_still w v q k (λ r. refl) h c (same_call c) (le c);
@@ -366,7 +379,8 @@ lower_all_scopes w q b fs i l de z h s = record {
     now t e = ap (λ j. j.counted) (become t ∙ piece_new b (marked Returned b.pool) (put w.job 0 (w.job 0)) t e)
 
     had : (t : ℕ) → is_piece b t ≡ true → (w.job t).counted ≡ true
-    had t y = one_is ((w.job t).counted) (let a : shares t (put_stack w.stack q k q) + (0 + one (is_piece b t)) ≡ shares t (w.stack q) + 0 = shares_mine w q (LowerForAll b) fs (w.shape.pool (count_pool q b.count)) i t z in let e : one (is_piece b t) ≡ 1 = ap one y in let d : shares t (w.stack q) + with_job (w.job t) ≤ one (w.job t).counted = ((h.shares).jobs t).alone q in omega (arith, a, e, d))
+    had t y = one_is ((w.job t).counted) (let a : shares t (put_stack w.stack q k q) + (0 + one (is_piece b t)) ≡ shares t (w.stack q) + 0 = shares_mine w q (LowerForAll b) fs (w.shape.pool (count_pool q b.count)) i t z in let e : one (is_piece b t) ≡ 1 = ap one y in
+        let d : shares t (w.stack q) + with_job (w.job t) ≤ one (w.job t).counted = ((h.shares).jobs t).alone q in omega (arith, a, e, d))
 
     same : (c t : ℕ) → is_piece b t ≡ false → entry c (v.job t) ≡ entry c (w.job t)
     same c t e = ap (entry c) (become t ∙ piece_old b (marked Returned b.pool) (put w.job 0 (w.job 0)) t e ∙ put_same (λ j. j) w.job 0 (w.job 0) t refl)
@@ -418,10 +432,13 @@ undealt_is w q g fs h z = by (g.pieces.workers) refl
     by (suc n) e =
         let i : is_piece g.pieces g.pieces.first ≡ true = piece_in (g.pieces) (g.pieces.first) (omega arith) (omega (arith, e)) in
         let p : PieceAs w g.pieces.count g.pieces.first g.pieces.pool (g.pieces.first - g.pieces.first) = claim.pieces (g.pieces.first) i in
-        let at : (w.job g.pieces.first).at ≡ Made q = (((h.shares).calls).jobs).feeds q (g.pieces.first) (let a : all_fed g.pieces.first (w.stack q) ≡ (one (is_piece g.pieces g.pieces.first) + fed_in g.pieces.first fs) = ap (all_fed g.pieces.first) z in let b : one (is_piece g.pieces g.pieces.first) ≡ 1 = ap one i in omega (arith, a, b)) in
+        let at : (w.job g.pieces.first).at ≡ Made q = (((h.shares).calls).jobs).feeds q (g.pieces.first) (let a : all_fed g.pieces.first (w.stack q) ≡ (one (is_piece g.pieces g.pieces.first) + fed_in g.pieces.first fs) = ap (all_fed g.pieces.first) z in
+        let b : one (is_piece g.pieces g.pieces.first) ≡ 1 = ap one i in omega (arith, a, b)) in
         h.fresh (g.pieces.first) (p.made) (g.call.number) q (p.kind ∙ ap count_kind (claim.count)) (ap is_dealt at) ∙ ap (λ n. (w.shape.pool n).workers) (p.pool ∙ claim.pool) ∙ sym (claim.size) ∙ e
 
-deal_scopes : (w : World) (q : Party) (g : Gathering) (fs : List Place) (m : Part) → m.call.count ≡ (place_part w q (DealPieces g)).call.count → m.call.counted ≡ (place_part w q (DealPieces g)).call.counted → m.call.undealt ≡ undealt_after g.pieces.count (place_part w q (DealPieces g)).call.undealt → m.job ≡ (place_part w q (DealPieces g)).job → target_call (act_of q (DealPieces g)) ≡ count_call g.pieces.count → Ready w q (DealPieces g) fs (Done, m) → ScopesHold w → SharesHold (world_after w q (DealPieces g) fs (Done, m)) → ScopesHold (world_after w q (DealPieces g) fs (Done, m))
+deal_scopes : (w : World) (q : Party) (g : Gathering) (fs : List Place) (m : Part) → m.call.count ≡ (place_part w q (DealPieces g)).call.count → m.call.counted ≡ (place_part w q (DealPieces g)).call.counted
+    → m.call.undealt ≡ undealt_after g.pieces.count (place_part w q (DealPieces g)).call.undealt → m.job ≡ (place_part w q (DealPieces g)).job → target_call (act_of q (DealPieces g)) ≡ count_call g.pieces.count → Ready w q (DealPieces g) fs (Done, m) → ScopesHold w
+    → SharesHold (world_after w q (DealPieces g) fs (Done, m)) → ScopesHold (world_after w q (DealPieces g) fs (Done, m))
 deal_scopes w q g fs m cn co un jo nc d h s = record {
   shares = s;
   bodies = λ c. bodies_still w v q k (λ r. refl) h c (same_call c) (le c);
@@ -545,11 +562,15 @@ known_undealt w (OfPool r) p n s = refl
 known_undealt w (OfScope c o) p n s = refl
 known_undealt w (OfCast c o) p n s = absurd s
 
-all_either : (w : World) (q : Party) (b : Pieces) (fs : List Place) → (Ready w q (RaiseForAll b) fs (Refused, place_part w q (RaiseForAll b)) → SharesHold (world_after w q (RaiseForAll b) fs (Refused, place_part w q (RaiseForAll b))) → ScopesHold (world_after w q (RaiseForAll b) fs (Refused, place_part w q (RaiseForAll b)))) → (done : Seen × Part) → (Ready w q (RaiseForAll b) fs done → SharesHold (world_after w q (RaiseForAll b) fs done) → ScopesHold (world_after w q (RaiseForAll b) fs done)) → (z : Bool) → IfSome (if z then Some (Refused, place_part w q (RaiseForAll b)) else Some done) (Ready w q (RaiseForAll b) fs) → IfSome (if z then Some (Refused, place_part w q (RaiseForAll b)) else Some done) (λ r. SharesHold (world_after w q (RaiseForAll b) fs r) → ScopesHold (world_after w q (RaiseForAll b) fs r))
+all_either : (w : World) (q : Party) (b : Pieces) (fs : List Place) → (Ready w q (RaiseForAll b) fs (Refused, place_part w q (RaiseForAll b)) → SharesHold (world_after w q (RaiseForAll b) fs (Refused, place_part w q (RaiseForAll b)))
+    → ScopesHold (world_after w q (RaiseForAll b) fs (Refused, place_part w q (RaiseForAll b)))) → (done : Seen × Part) → (Ready w q (RaiseForAll b) fs done → SharesHold (world_after w q (RaiseForAll b) fs done) → ScopesHold (world_after w q (RaiseForAll b) fs done)) → (z : Bool)
+    → IfSome (if z then Some (Refused, place_part w q (RaiseForAll b)) else Some done) (Ready w q (RaiseForAll b) fs)
+    → IfSome (if z then Some (Refused, place_part w q (RaiseForAll b)) else Some done) (λ r. SharesHold (world_after w q (RaiseForAll b) fs r) → ScopesHold (world_after w q (RaiseForAll b) fs r))
 all_either w q b fs none done f true d = none d
 all_either w q b fs none done f false d = f d
 
-pub go_by : (w : World) (q : Party) (x : Place) (fs : List Place) → w.stack q ≡ record { top = x; below = fs } → ScopesHold w → IfSome (outcome w q (record { top = x; below = fs })) (Ready w q x fs) → IfSome (outcome w q (record { top = x; below = fs })) (λ r. SharesHold (world_after w q x fs r) → ScopesHold (world_after w q x fs r))
+pub go_by : (w : World) (q : Party) (x : Place) (fs : List Place) → w.stack q ≡ record { top = x; below = fs } → ScopesHold w → IfSome (outcome w q (record { top = x; below = fs })) (Ready w q x fs)
+    → IfSome (outcome w q (record { top = x; below = fs })) (λ r. SharesHold (world_after w q x fs r) → ScopesHold (world_after w q x fs r))
 go_by w (Worker a b) (RaiseCount n) fs z h d = raise_either w (Worker a b) n fs h _ (λ y s. raise_scopes w (Worker a b) n fs (y.last) (y.dealt) z h s) (count_in (place_part w (Worker a b) (RaiseCount n)) (plan_count n) == 0) d
 go_by w (Worker a b) (LowerCount i (OfJob u) n) fs z h d = λ s. lower_scopes w (Worker a b) i u n fs (if count_in (place_part w (Worker a b) (LowerCount i (OfJob u) n)) i == 1 then Yes else No) (d.last) (d.dealt) z h s
 go_by w (Worker a b) (LowerCount (OfPool r) PoolValue n) fs z h d = plain_scopes w (Worker a b) (LowerCount (OfPool r) PoolValue n) fs _ d (record { job = refl; count = refl; counted = refl; undealt = refl }) (lower_steady (w.shape.pool r) (Worker a b) (OfPool r) PoolValue n _) h

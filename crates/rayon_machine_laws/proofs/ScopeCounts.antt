@@ -242,7 +242,8 @@ more_one false n = omega arith
 pub less_at : (C : ℕ → Call) (k : Count) (u c : ℕ) → in_scope c k ≤ (C c).count → ((put C (count_call k) (record (C (count_call k)) { count = call_less k 1 (C (count_call k)).count; counted = body_stays (OfJob u) (C (count_call k)).counted }) c).count + in_scope c k) ≡ (C c).count
 less_at C k u c h = let a : (put C (count_call k) (record (C (count_call k)) { count = call_less k 1 (C (count_call k)).count }) c).count ≡ (if inside c k then (C c).count - 1 else (C c).count) = less_of C k 1 c in let b : one (inside c k) ≡ in_scope c k = scope_is c k in by (inside c k) a b
   where
-    by : (z : Bool) → (put C (count_call k) (record (C (count_call k)) { count = call_less k 1 (C (count_call k)).count }) c).count ≡ (if z then (C c).count - 1 else (C c).count) → one z ≡ in_scope c k → ((put C (count_call k) (record (C (count_call k)) { count = call_less k 1 (C (count_call k)).count }) c).count + in_scope c k) ≡ (C c).count
+    by : (z : Bool) → (put C (count_call k) (record (C (count_call k)) { count = call_less k 1 (C (count_call k)).count }) c).count ≡ (if z then (C c).count - 1 else (C c).count) → one z ≡ in_scope c k
+        → ((put C (count_call k) (record (C (count_call k)) { count = call_less k 1 (C (count_call k)).count }) c).count + in_scope c k) ≡ (C c).count
     by true a b = omega (arith, a, b, h)
     by false a b = omega (arith, a, b)
 
@@ -258,20 +259,23 @@ unopened_still w u q k st h c b le r = by (same_party r q) refl
   where
     by : (d : Bool) → same_party r q ≡ d → all_bodies c (u.stack r) ≡ 0
     by true e = let a : all_bodies c (u.stack r) ≡ all_bodies c k = ap (all_bodies c) (st r ∙ ap (put_stack w.stack q k) (same_party_true r q e) ∙ stack_mine w.stack q k) in let z : all_bodies c (w.stack q) ≡ 0 = h.unopened c b q in omega (arith, a, z, le)
-    by false e = let a : all_bodies c (u.stack r) ≡ all_bodies c (put_stack w.stack q k r) = ap (all_bodies c) (st r) in let d : all_bodies c (put_stack w.stack q k r) ≤ all_bodies c (w.stack r) = other_le (all_bodies c) w q k r e in let z : all_bodies c (w.stack r) ≡ 0 = h.unopened c b r in omega (arith, a, d, z)
+    by false e = let a : all_bodies c (u.stack r) ≡ all_bodies c (put_stack w.stack q k r) = ap (all_bodies c) (st r) in let d : all_bodies c (put_stack w.stack q k r) ≤ all_bodies c (w.stack r) = other_le (all_bodies c) w q k r e in let z : all_bodies c (w.stack r) ≡ 0 = h.unopened c b r in
+        omega (arith, a, d, z)
 
 pub old_call : (w : World) → ScopesHold w → (c : ℕ) → (w.call c).counted ≡ false → c + 1 ≤ w.calls
 old_call w h c e = elim (either (ltb c w.calls)) [ inl y ↦ (let b : c < w.calls = ltb-true c w.calls y in omega (arith, b)) | inr y ↦ absurd (let b : (w.call c).counted ≡ true = h.whole c (ltb-false c w.calls y) in cc) ]
 
 -- where no scope's count changes
-pub scopes_keep : (w u : World) (q : Party) (k : Stack) → ((r : Party) → u.stack r ≡ put_stack w.stack q k r) → w.calls ≤ u.calls → ((c : ℕ) → (u.call c).counted ≡ (w.call c).counted) → ((c : ℕ) → (u.call c).count ≡ (w.call c).count) → ((c : ℕ) → (u.call c).undealt ≡ (w.call c).undealt) → ((c : ℕ) → sum_below u.jobs (λ t. entry c (u.job t)) ≡ sum_below w.jobs (λ t. entry c (w.job t))) → ((c : ℕ) → all_bodies c k ≤ all_bodies c (w.stack q)) → ((c : ℕ) → c + 1 ≤ w.calls → Closed w c → Closed u c) → PartsOn w u → ScopesHold w → SharesHold u → ScopesHold u
+pub scopes_keep : (w u : World) (q : Party) (k : Stack) → ((r : Party) → u.stack r ≡ put_stack w.stack q k r) → w.calls ≤ u.calls → ((c : ℕ) → (u.call c).counted ≡ (w.call c).counted) → ((c : ℕ) → (u.call c).count ≡ (w.call c).count) → ((c : ℕ) → (u.call c).undealt ≡ (w.call c).undealt)
+    → ((c : ℕ) → sum_below u.jobs (λ t. entry c (u.job t)) ≡ sum_below w.jobs (λ t. entry c (w.job t))) → ((c : ℕ) → all_bodies c k ≤ all_bodies c (w.stack q)) → ((c : ℕ) → c + 1 ≤ w.calls → Closed w c → Closed u c) → PartsOn w u → ScopesHold w → SharesHold u → ScopesHold u
 scopes_keep w u q k st ca co cn un su le ov on h s = record {
   shares = s;
   bodies = λ c. bodies_still w u q k st h c (co c) (le c);
   unopened = λ c b. unopened_still w u q k st h c (omega (arith, b, ca)) (le c);
   whole = λ c b. co c ∙ h.whole c (omega (arith, b, ca));
   blank = λ c b. un c ∙ h.blank c (omega (arith, b, ca));
-  sums = λ c. (let a : sum_below w.jobs (λ t. entry c (w.job t)) + (one (w.call c).counted + (w.call c).undealt) ≡ (w.call c).count = h.sums c in let b : one (u.call c).counted ≡ one (w.call c).counted = ap one (co c) in let d : (u.call c).count ≡ (w.call c).count = cn c in let f : (u.call c).undealt ≡ (w.call c).undealt = un c in let e : sum_below u.jobs (λ t. entry c (u.job t)) ≡ sum_below w.jobs (λ t. entry c (w.job t)) = su c in omega (arith, a, b, d, e, f));
+  sums = λ c. (let a : sum_below w.jobs (λ t. entry c (w.job t)) + (one (w.call c).counted + (w.call c).undealt) ≡ (w.call c).count = h.sums c in let b : one (u.call c).counted ≡ one (w.call c).counted = ap one (co c) in let d : (u.call c).count ≡ (w.call c).count = cn c in
+      let f : (u.call c).undealt ≡ (w.call c).undealt = un c in let e : sum_below u.jobs (λ t. entry c (u.job t)) ≡ sum_below w.jobs (λ t. entry c (w.job t)) = su c in omega (arith, a, b, d, e, f));
   over = λ c b e. (let z : (w.call c).counted ≡ false = sym (co c) ∙ e in let d : c + 1 ≤ w.calls = old_call w h c z in ov c d (h.over c d z));
   fresh = fresh_on w u on un h;
   some = some_on w u on un h;
@@ -279,7 +283,8 @@ scopes_keep w u q k st ca co cn un su le ov on h s = record {
 
 -- what a move leaves of the bodies' shares
 pub le_after : (w : World) (q : Party) (x : Place) (fs : List Place) (g : PoolShape) (e : Seen) (c : ℕ) → w.stack q ≡ record { top = x; below = fs } → all_bodies c (after_move (next_of g q x e) fs) + spent c x ≤ all_bodies c (w.stack q)
-le_after w q x fs g e c z = let a : all_bodies c (after_move (next_of g q x e) fs) ≤ body_move c (next_of g q x e) + bodies_in c fs = land_bodies c (next_of g q x e) fs in let b : body_move c (next_of g q x e) + spent c x ≤ body c x = bodies g q c x e in let d : all_bodies c (w.stack q) ≡ (body c x + bodies_in c fs) = ap (all_bodies c) z in omega (arith, a, b, d)
+le_after w q x fs g e c z = let a : all_bodies c (after_move (next_of g q x e) fs) ≤ body_move c (next_of g q x e) + bodies_in c fs = land_bodies c (next_of g q x e) fs in let b : body_move c (next_of g q x e) + spent c x ≤ body c x = bodies g q c x e in
+    let d : all_bodies c (w.stack q) ≡ (body c x + bodies_in c fs) = ap (all_bodies c) z in omega (arith, a, b, d)
 
 -- places whose acts change a count
 abbrev pub is_counting : Place → Bool

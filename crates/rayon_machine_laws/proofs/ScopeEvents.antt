@@ -31,7 +31,8 @@ use Rattle.rayon_machine_places.specs.declared.shape.PoolShape.{PoolShape}
 use Rattle.rayon_machine_places.specs.declared.place.Target.TheVariants.{Termination}
 use Rattle.rayon_machine_places.specs.Places.{same_party, own_pool, is_member, act_of, next_of, is_free, is_refusable, fresh, count_kind, count_book}
 use Rattle.rayon_machine_places.specs.World.{Shape, Stack, World, target_pool, target_worker, target_call, at_job}
-use Rattle.rayon_machine_places.specs.Steps.{put, put_stack, put_pieces, new_piece, is_piece, after_move, after_choice, after_refusal, can_miss, after_miss, after_close, after_end, after_call, is_pool, new_job, new_call, after_spawn, after_fifo, after_cast, after_send, after_install, after_join, after_scope, after_into, holds, after_yield, after_end_pool, step, after_feed, after_deal, after_enter, after_gather, after_broadcast, after_into_fifo, after_into_cast, new_whole, new_gathering}
+use Rattle.rayon_machine_places.specs.Steps.{put, put_stack, put_pieces, new_piece, is_piece, after_move, after_choice, after_refusal, can_miss, after_miss, after_close, after_end, after_call, is_pool, new_job, new_call, after_spawn, after_fifo, after_cast, after_send}
+use Rattle.rayon_machine_places.specs.Steps.{after_install, after_join, after_scope, after_into, holds, after_yield, after_end_pool, step, after_feed, after_deal, after_enter, after_gather, after_broadcast, after_into_fifo, after_into_cast, new_whole, new_gathering}
 use Rattle.rayon_machine_places.specs.Readers.{is_done}
 use Rattle.rayon_machine_places.specs.Runs.{first_place, start, IsRun}
 use Rattle.rayon_machine_laws.specs.Once.{one}
@@ -69,9 +70,11 @@ final_done Spent b f d = cc
 final_done Nowhere b f d = cc
 
 -- a party goes on as if its act had seen this
-seen_scopes : (w : World) (q : Party) (g : PoolShape) (x : Place) (fs : List Place) (e : Seen) → w.stack q ≡ record { top = x; below = fs } → ScopesHold w → SharesHold (record w { stack = put_stack w.stack q (after_move (next_of g q x e) fs) }) → ScopesHold (record w { stack = put_stack w.stack q (after_move (next_of g q x e) fs) })
+seen_scopes : (w : World) (q : Party) (g : PoolShape) (x : Place) (fs : List Place) (e : Seen) → w.stack q ≡ record { top = x; below = fs } → ScopesHold w → SharesHold (record w { stack = put_stack w.stack q (after_move (next_of g q x e) fs) })
+    → ScopesHold (record w { stack = put_stack w.stack q (after_move (next_of g q x e) fs) })
 seen_scopes w q g x fs e z h s = scopes_keep w (record w { stack = put_stack w.stack q (after_move (next_of g q x e) fs) }) q (after_move (next_of g q x e) fs) (λ r. refl) (omega arith) (λ c. refl) (λ c. refl) (λ c. refl) (λ c. refl)
-    (λ c. (let a : all_bodies c (after_move (next_of g q x e) fs) + spent c x ≤ all_bodies c (w.stack q) = le_after w q x fs g e c z in omega (arith, a))) (λ c b y. record { made = y.made; closed = y.closed }) (record { jobs = omega arith; shape = refl; kinds = λ t b. refl; pools = λ t b. refl; back = λ t m p l. (m, l) }) h s
+    (λ c. (let a : all_bodies c (after_move (next_of g q x e) fs) + spent c x ≤ all_bodies c (w.stack q) = le_after w q x fs g e c z in omega (arith, a))) (λ c b y. record { made = y.made; closed = y.closed })
+    (record { jobs = omega arith; shape = refl; kinds = λ t b. refl; pools = λ t b. refl; back = λ t m p l. (m, l) }) h s
 
 -- what an event that is no act leaves of calls whose own shares are given back
 closed_event : (w u : World) → Advance w u → PartsOn w u → ((c : ℕ) → c + 1 ≤ w.calls → (u.call c).job ≡ (w.call c).job) → (c : ℕ) → c + 1 ≤ w.calls → Closed w c → Closed u c
@@ -118,7 +121,8 @@ end_scopes w q d (Run t k) fs z h = λ s a. scopes_keep w u q (after_close t k d
 end_scopes w q d _ fs z h = tt
 
 -- a call begins that is no scope: its jobs are new, and have no share yet
-made_scopes : (w : World) (q : Party) (n : Plan) (C : ℕ → Call) (J : ℕ → Job) (c j : ℕ) → w.calls ≤ c → ((i : ℕ) → (C i).counted ≡ (w.call i).counted) → ((i : ℕ) → (C i).count ≡ (w.call i).count) → ((i : ℕ) → (C i).undealt ≡ (w.call i).undealt) → ((i : ℕ) → i + 1 ≤ w.calls → (C i).job ≡ (w.call i).job) → ((i : ℕ) → sum_below j (λ t. entry i (J t)) ≡ sum_below w.jobs (λ t. entry i (w.job t))) → ((i : ℕ) → plan_body i n ≡ 0) → PartsOn w (calling w q n C J c j) → ScopesHold w → Then_scopes w (calling w q n C J c j)
+made_scopes : (w : World) (q : Party) (n : Plan) (C : ℕ → Call) (J : ℕ → Job) (c j : ℕ) → w.calls ≤ c → ((i : ℕ) → (C i).counted ≡ (w.call i).counted) → ((i : ℕ) → (C i).count ≡ (w.call i).count) → ((i : ℕ) → (C i).undealt ≡ (w.call i).undealt)
+    → ((i : ℕ) → i + 1 ≤ w.calls → (C i).job ≡ (w.call i).job) → ((i : ℕ) → sum_below j (λ t. entry i (J t)) ≡ sum_below w.jobs (λ t. entry i (w.job t))) → ((i : ℕ) → plan_body i n ≡ 0) → PartsOn w (calling w q n C J c j) → ScopesHold w → Then_scopes w (calling w q n C J c j)
 made_scopes w q n C J c j more co cn un ta su none on h s a = scopes_keep w (calling w q n C J c j) q (after_call (w.stack q) (RaiseCount n)) (λ r. refl) more co cn un su
     (λ i. (let b : plan_body i n ≡ 0 = none i in omega (arith, b)))
     (closed_event w (calling w q n C J c j) a on ta) on h s
@@ -141,8 +145,10 @@ parts_two w u q p d k sh jo ju x z = parts_made w u (omega (arith, ju)) sh (λ t
     ])
 
 one_entries : (w : World) (q : Party) (p : ℕ) (k : JobKind) (c : ℕ) → sum_below (w.jobs + 1) (λ t. entry c (put w.job w.jobs (new_job q p k) t)) ≡ sum_below w.jobs (λ t. entry c (w.job t))
-one_entries w q p k c = let a : sum_below (w.jobs + 1) (λ t. entry c (put w.job w.jobs (new_job q p k) t)) ≡ sum_below w.jobs (λ t. entry c (put w.job w.jobs (new_job q p k) t)) = sum_more w.jobs (λ t. entry c (put w.job w.jobs (new_job q p k) t)) (ap (λ j. entry c j) (put_new w.job w.jobs (new_job q p k))) in
-    let b : sum_below w.jobs (λ t. entry c (put w.job w.jobs (new_job q p k) t)) ≡ sum_below w.jobs (λ t. entry c (w.job t)) = sum_same w.jobs (λ t. entry c (put w.job w.jobs (new_job q p k) t)) (λ t. entry c (w.job t)) (λ t z. ap (λ j. entry c j) (put_old w.job w.jobs (new_job q p k) t (below_new t w.jobs z))) in omega (arith, a, b)
+one_entries w q p k c = let a : sum_below (w.jobs + 1) (λ t. entry c (put w.job w.jobs (new_job q p k) t)) ≡ sum_below w.jobs (λ t. entry c (put w.job w.jobs (new_job q p k) t)) =
+    sum_more w.jobs (λ t. entry c (put w.job w.jobs (new_job q p k) t)) (ap (λ j. entry c j) (put_new w.job w.jobs (new_job q p k))) in
+    let b : sum_below w.jobs (λ t. entry c (put w.job w.jobs (new_job q p k) t)) ≡ sum_below w.jobs (λ t. entry c (w.job t)) =
+    sum_same w.jobs (λ t. entry c (put w.job w.jobs (new_job q p k) t)) (λ t. entry c (w.job t)) (λ t z. ap (λ j. entry c j) (put_old w.job w.jobs (new_job q p k) t (below_new t w.jobs z))) in omega (arith, a, b)
 
 two_entries : (w : World) (q : Party) (p : ℕ) (d k : JobKind) (c : ℕ) → sum_below (w.jobs + 2) (λ t. entry c (put (put w.job w.jobs (new_job q p d)) (w.jobs + 1) (new_job q p k) t)) ≡ sum_below w.jobs (λ t. entry c (w.job t))
 two_entries w q p d k c = let a : sum_below ((w.jobs + 1) + 1) (λ t. entry c (J2 t)) ≡ sum_below (w.jobs + 1) (λ t. entry c (J2 t)) = sum_more (w.jobs + 1) (λ t. entry c (J2 t)) (ap (λ j. entry c j) (put_new J1 (w.jobs + 1) (new_job q p k))) in
@@ -182,7 +188,8 @@ none_next w h (suc n) b = let a : sum_below n (λ t. entry w.calls (w.job t)) �
         by (WholeOf c9 o9) e = none_of (WholeOf c9 o9) refl e
 
 -- the call that is made next has a count of 1 already, of which its body's share is not given back
-next_count : (w : World) → ScopesHold w → (f : Option ℕ) (t : ℕ) → ((c : ℕ) → (put w.call w.calls (new_call f t) c).counted ≡ (w.call c).counted) × ((c : ℕ) → (put w.call w.calls (new_call f t) c).count ≡ (w.call c).count) × ((c : ℕ) → (put w.call w.calls (new_call f t) c).undealt ≡ (w.call c).undealt)
+next_count : (w : World) → ScopesHold w → (f : Option ℕ) (t : ℕ) → ((c : ℕ) → (put w.call w.calls (new_call f t) c).counted ≡ (w.call c).counted) × ((c : ℕ) → (put w.call w.calls (new_call f t) c).count ≡ (w.call c).count)
+    × ((c : ℕ) → (put w.call w.calls (new_call f t) c).undealt ≡ (w.call c).undealt)
 next_count w h f t = (
   λ c. put_same (λ a. a.counted) w.call w.calls (new_call f t) c (sym (h.whole w.calls (omega arith))),
   λ c. put_same (λ a. a.count) w.call w.calls (new_call f t) c (sym next),
@@ -190,33 +197,40 @@ next_count w h f t = (
 )
   where
     next : (w.call w.calls).count ≡ 1
-    next = let a : sum_below w.jobs (λ t. entry w.calls (w.job t)) + (one (w.call w.calls).counted + (w.call w.calls).undealt) ≡ (w.call w.calls).count = h.sums w.calls in let b : one (w.call w.calls).counted ≡ 1 = ap one (h.whole w.calls (omega arith)) in let u : (w.call w.calls).undealt ≡ 0 = h.blank w.calls (omega arith) in let c : sum_below w.jobs (λ t. entry w.calls (w.job t)) ≡ 0 = none_next w h w.jobs (omega arith) in omega (arith, a, b, c, u)
+    next = let a : sum_below w.jobs (λ t. entry w.calls (w.job t)) + (one (w.call w.calls).counted + (w.call w.calls).undealt) ≡ (w.call w.calls).count = h.sums w.calls in let b : one (w.call w.calls).counted ≡ 1 = ap one (h.whole w.calls (omega arith)) in let u : (w.call w.calls).undealt ≡ 0 =
+        h.blank w.calls (omega arith) in let c : sum_below w.jobs (λ t. entry w.calls (w.job t)) ≡ 0 = none_next w h w.jobs (omega arith) in omega (arith, a, b, c, u)
 
 old_target : (w : World) (f : Option ℕ) (t i : ℕ) → i + 1 ≤ w.calls → (put w.call w.calls (new_call f t) i).job ≡ (w.call i).job
 old_target w f t i b = ap (λ a. a.job) (put_old w.call w.calls (new_call f t) i (below_new i w.calls b))
 
 spawn_scopes : (w : World) (q : Party) (p : ℕ) → ScopesHold w → IfSome (after_spawn w q p (w.stack q)) (Then_scopes w)
-spawn_scopes w q p h = if_cond (Then_scopes w) (is_free ((w.stack q).top) && is_pool w.shape p) _ (λ f. made_scopes w q (Detach p w.jobs) w.call (put w.job w.jobs (new_job q p (Detached p))) w.calls (w.jobs + 1) (omega arith) (λ i. refl) (λ i. refl) (λ i. refl) (λ i b. refl) (one_entries w q p (Detached p)) (λ i. refl) (parts_one w _ q p (Detached p) refl refl refl refl) h)
+spawn_scopes w q p h = if_cond (Then_scopes w) (is_free ((w.stack q).top) && is_pool w.shape p) _ (λ f. made_scopes w q (Detach p w.jobs) w.call (put w.job w.jobs (new_job q p (Detached p))) w.calls (w.jobs + 1) (omega arith) (λ i. refl) (λ i. refl) (λ i. refl) (λ i b. refl)
+    (one_entries w q p (Detached p)) (λ i. refl) (parts_one w _ q p (Detached p) refl refl refl refl) h)
 
 sent_scopes : (w : World) (q : Party) (p : ℕ) (b : Bool) → ScopesHold w → Then_scopes w (after_send w q p (w.stack q) b)
 sent_scopes w q p true h = made_scopes w q (Here p w.jobs) w.call (put w.job w.jobs (new_job q p Direct)) w.calls (w.jobs + 1) (omega arith) (λ i. refl) (λ i. refl) (λ i. refl) (λ i b. refl) (one_entries w q p Direct) (λ i. refl) (parts_one w _ q p Direct refl refl refl refl) h
-sent_scopes w q p false h = made_scopes w q (Send (record { number = w.calls; pool = p; job = w.jobs })) (put w.call w.calls (new_call None w.jobs)) (put w.job w.jobs (new_job q p (Stored w.calls q))) (w.calls + 1) (w.jobs + 1) (omega arith) ((next_count w h None w.jobs).0) ((next_count w h None w.jobs).1) ((next_count w h None w.jobs).2) (old_target w None w.jobs) (one_entries w q p (Stored w.calls q)) (λ i. refl) (parts_one w _ q p (Stored w.calls q) refl refl refl refl) h
+sent_scopes w q p false h = made_scopes w q (Send (record { number = w.calls; pool = p; job = w.jobs })) (put w.call w.calls (new_call None w.jobs)) (put w.job w.jobs (new_job q p (Stored w.calls q))) (w.calls + 1) (w.jobs + 1) (omega arith) ((next_count w h None w.jobs).0)
+    ((next_count w h None w.jobs).1) ((next_count w h None w.jobs).2) (old_target w None w.jobs) (one_entries w q p (Stored w.calls q)) (λ i. refl) (parts_one w _ q p (Stored w.calls q) refl refl refl refl) h
 
 install_scopes : (w : World) (q : Party) (p : ℕ) → ScopesHold w → IfSome (after_install w q p (w.stack q)) (Then_scopes w)
 install_scopes w q p h = if_cond (Then_scopes w) (is_free ((w.stack q).top) && is_pool w.shape p) _ (λ f. sent_scopes w q p (is_member q p) h)
 
 join_scopes : (w : World) (q : Party) → ScopesHold w → IfSome (after_join w q (w.stack q)) (Then_scopes w)
 join_scopes w (Caller n) h = tt
-join_scopes w (Worker p i) h = if_cond (Then_scopes w) (is_free ((w.stack (Worker p i)).top)) _ (λ f. made_scopes w (Worker p i) (Fork (record { number = w.calls; pool = p; job = w.jobs + 1 }) w.jobs) (put w.call w.calls (new_call (Some w.jobs) (w.jobs + 1))) (put (put w.job w.jobs (new_job (Worker p i) p Direct)) (w.jobs + 1) (new_job (Worker p i) p (Stored w.calls (Worker p i)))) (w.calls + 1) (w.jobs + 2) (omega arith) ((next_count w h (Some w.jobs) (w.jobs + 1)).0) ((next_count w h (Some w.jobs) (w.jobs + 1)).1) ((next_count w h (Some w.jobs) (w.jobs + 1)).2) (old_target w (Some w.jobs) (w.jobs + 1)) (two_entries w (Worker p i) p Direct (Stored w.calls (Worker p i))) (λ i. refl) (parts_two w _ (Worker p i) p Direct (Stored w.calls (Worker p i)) refl refl refl refl refl) h)
+join_scopes w (Worker p i) h = if_cond (Then_scopes w) (is_free ((w.stack (Worker p i)).top)) _ (λ f. made_scopes w (Worker p i) (Fork (record { number = w.calls; pool = p; job = w.jobs + 1 }) w.jobs) (put w.call w.calls (new_call (Some w.jobs) (w.jobs + 1)))
+    (put (put w.job w.jobs (new_job (Worker p i) p Direct)) (w.jobs + 1) (new_job (Worker p i) p (Stored w.calls (Worker p i)))) (w.calls + 1) (w.jobs + 2) (omega arith) ((next_count w h (Some w.jobs) (w.jobs + 1)).0) ((next_count w h (Some w.jobs) (w.jobs + 1)).1)
+    ((next_count w h (Some w.jobs) (w.jobs + 1)).2) (old_target w (Some w.jobs) (w.jobs + 1)) (two_entries w (Worker p i) p Direct (Stored w.calls (Worker p i))) (λ i. refl) (parts_two w _ (Worker p i) p Direct (Stored w.calls (Worker p i)) refl refl refl refl refl) h)
 
 feed_scopes : (w : World) (k : Count) (p i : ℕ) → is_part (count_kind k) ≡ false → ScopesHold w → Then_scopes w (after_feed w k p i (w.stack (Worker p i)))
-feed_scopes w k p i z h = made_scopes w (Worker p i) (Feed (record { count = k; pool = p; job = w.jobs; token = w.jobs + 1 })) w.call (put (put w.job w.jobs (new_job (Worker p i) p (count_kind k))) (w.jobs + 1) (new_job (Worker p i) p (TokenOf i (count_book k)))) w.calls (w.jobs + 2) (omega arith) (λ i. refl) (λ i. refl) (λ i. refl) (λ i b. refl) (two_entries w (Worker p i) p (count_kind k) (TokenOf i (count_book k))) (λ i. refl) (parts_two w _ (Worker p i) p (count_kind k) (TokenOf i (count_book k)) refl refl refl z refl) h
+feed_scopes w k p i z h = made_scopes w (Worker p i) (Feed (record { count = k; pool = p; job = w.jobs; token = w.jobs + 1 })) w.call (put (put w.job w.jobs (new_job (Worker p i) p (count_kind k))) (w.jobs + 1) (new_job (Worker p i) p (TokenOf i (count_book k)))) w.calls (w.jobs + 2)
+    (omega arith) (λ i. refl) (λ i. refl) (λ i. refl) (λ i b. refl) (two_entries w (Worker p i) p (count_kind k) (TokenOf i (count_book k))) (λ i. refl) (parts_two w _ (Worker p i) p (count_kind k) (TokenOf i (count_book k)) refl refl refl z refl) h
 
 fifo_scopes : (w : World) (q : Party) (p : ℕ) → ScopesHold w → IfSome (after_fifo w q p (w.stack q)) (Then_scopes w)
 fifo_scopes w q p h = fifo_cases (Then_scopes w) w q p (spawn_scopes w q p h) (λ i free. feed_scopes w (OfPool p) p i refl h)
 
 enter_scopes : (w : World) (q : Party) (z : Scope) → ScopesHold w → IfSome (after_enter w q (w.stack q) (Some z)) (Then_scopes w)
-enter_scopes w q z h = if_cond (Then_scopes w) (is_free ((w.stack q).top) && holds z.call (w.stack q)) _ (λ f. made_scopes w q (Enter (record { call = z.call; owner = z.owner; pool = z.pool; job = w.jobs })) w.call (put w.job w.jobs (new_job q z.pool (Scoped z.call z.owner))) w.calls (w.jobs + 1) (omega arith) (λ i. refl) (λ i. refl) (λ i. refl) (λ i b. refl) (one_entries w q (z.pool) (Scoped z.call z.owner)) (λ i. refl) (parts_one w _ q (z.pool) (Scoped z.call z.owner) refl refl refl refl) h)
+enter_scopes w q z h = if_cond (Then_scopes w) (is_free ((w.stack q).top) && holds z.call (w.stack q)) _ (λ f. made_scopes w q (Enter (record { call = z.call; owner = z.owner; pool = z.pool; job = w.jobs })) w.call (put w.job w.jobs (new_job q z.pool (Scoped z.call z.owner))) w.calls
+    (w.jobs + 1) (omega arith) (λ i. refl) (λ i. refl) (λ i. refl) (λ i b. refl) (one_entries w q (z.pool) (Scoped z.call z.owner)) (λ i. refl) (parts_one w _ q (z.pool) (Scoped z.call z.owner) refl refl refl refl) h)
 
 into_scopes : (w : World) (q : Party) (n : ℕ) → ScopesHold w → IfSome (after_into w q n (w.stack q)) (Then_scopes w)
 into_scopes w q n h = into_cases (Then_scopes w) w q n (λ z e free held. enter_scopes w q z h)
@@ -226,7 +240,8 @@ into_fifo_scopes w q n h = into_fifo_cases (Then_scopes w) w q n (λ z e free he
 
 -- the pieces of a broadcast are new, and have no shares yet
 pieces_entries : (w : World) (q : Party) (b : Pieces) → b.first ≡ w.jobs → ScopesHold w → (c : ℕ) → sum_below (w.jobs + b.workers) (λ t. entry c (put_pieces b (λ i j. new_piece q b.count b.pool i) w.job t)) ≡ sum_below w.jobs (λ t. entry c (w.job t))
-pieces_entries w q b f h c = sum_tail w.jobs b.workers (λ t. entry c (put_pieces b (λ i j. new_piece q b.count b.pool i) w.job t)) (λ t y. none t (is_piece b t) y) ∙ sum_same w.jobs (λ t. entry c (put_pieces b (λ i j. new_piece q b.count b.pool i) w.job t)) (λ t. entry c (w.job t)) (λ t y. ap (entry c) (piece_old b (λ i j. new_piece q b.count b.pool i) w.job t (piece_out b t (omega (arith, y, f)))))
+pieces_entries w q b f h c = sum_tail w.jobs b.workers (λ t. entry c (put_pieces b (λ i j. new_piece q b.count b.pool i) w.job t)) (λ t y. none t (is_piece b t) y)
+    ∙ sum_same w.jobs (λ t. entry c (put_pieces b (λ i j. new_piece q b.count b.pool i) w.job t)) (λ t. entry c (w.job t)) (λ t y. ap (entry c) (piece_old b (λ i j. new_piece q b.count b.pool i) w.job t (piece_out b t (omega (arith, y, f)))))
   where
     none : (t : ℕ) (z : Bool) → w.jobs ≤ t → entry c (if z then new_piece q b.count b.pool (t - b.first) else w.job t) ≡ 0
     none t true y = refl
@@ -305,7 +320,8 @@ gather_scopes w q p h = if_cond (Then_scopes w) (is_free ((w.stack q).top) && is
     held : (c : ℕ) (z : Bool) → (c == w.calls) ≡ z → Tokens (λ r. all_bodies c (u.stack r)) 0 (one (u.call c).counted)
     held c true e = record {
       alone = λ r. (let x : all_bodies c (u.stack r) ≡ 0 = unopened_still w u q k (λ r. refl) h c (let i : c ≡ w.calls = eqb-true c w.calls e in omega (arith, i)) (le c) r in omega (arith, x));
-      apart = λ r t d. (let x : all_bodies c (u.stack r) ≡ 0 = unopened_still w u q k (λ r. refl) h c (let i : c ≡ w.calls = eqb-true c w.calls e in omega (arith, i)) (le c) r in let v : all_bodies c (u.stack t) ≡ 0 = unopened_still w u q k (λ r. refl) h c (let i : c ≡ w.calls = eqb-true c w.calls e in omega (arith, i)) (le c) t in omega (arith, x, v));
+      apart = λ r t d. (let x : all_bodies c (u.stack r) ≡ 0 = unopened_still w u q k (λ r. refl) h c (let i : c ≡ w.calls = eqb-true c w.calls e in omega (arith, i)) (le c) r in
+          let v : all_bodies c (u.stack t) ≡ 0 = unopened_still w u q k (λ r. refl) h c (let i : c ≡ w.calls = eqb-true c w.calls e in omega (arith, i)) (le c) t in omega (arith, x, v));
     }
     held c false e = bodies_still w u q k (λ r. refl) h c (ap (λ v. v.counted) (old c e)) (le c)
 
@@ -366,19 +382,28 @@ gather_scopes w q p h = if_cond (Then_scopes w) (is_free ((w.stack q).top) && is
     some c true e m = let i : c ≡ w.calls = eqb-true c w.calls e in subst (SomePiece u) (sym i)
         (let g : (u.call w.calls).undealt ≡ b.workers = ap (λ v. v.undealt) new in
         let n : 1 ≤ b.workers = (let v : (u.call c).undealt ≡ (u.call w.calls).undealt = ap (λ n. (u.call n).undealt) i in omega (arith, v, g, m)) in
-        record { job = w.jobs; owner = q; made = omega (arith, n); kind = ap (λ j. j.kind) (put_old J1 t0 (new_whole q p w.calls) w.jobs (below_new w.jobs t0 (omega (arith, n))) ∙ piece_new b (λ i j. new_piece q (OfCast w.calls q) p i) w.job w.jobs (piece_in b w.jobs (omega arith) (omega (arith, n)))) })
+        record {
+          job = w.jobs;
+          owner = q;
+          made = omega (arith, n);
+          kind = ap (λ j. j.kind) (put_old J1 t0 (new_whole q p w.calls) w.jobs (below_new w.jobs t0 (omega (arith, n)))
+              ∙ piece_new b (λ i j. new_piece q (OfCast w.calls q) p i) w.job w.jobs (piece_in b w.jobs (omega arith) (omega (arith, n))));
+        })
     some c false e m = let x : SomePiece w c = h.some c (let v : (u.call c).undealt ≡ (w.call c).undealt = ap (λ v. v.undealt) (old c e) in omega (arith, v, m)) in
         record { job = x.job; owner = x.owner; made = (let g : x.job + 1 ≤ w.jobs = x.made in omega (arith, g)); kind = ap (λ j. j.kind) (stays (x.job) (x.made)) ∙ x.kind }
 
 -- a scope begins: its body has a share
-opened_scopes : (w : World) (q : Party) (p : ℕ) (l : List Scope) → ScopesHold w → Then_scopes w (record (calling w q (Open (record { number = w.calls; pool = p; job = w.jobs })) (put w.call w.calls (new_call None w.jobs)) (put w.job w.jobs (new_job q p (BodyOf w.calls q))) (w.calls + 1) (w.jobs + 1)) { scopes = l })
+opened_scopes : (w : World) (q : Party) (p : ℕ) (l : List Scope) → ScopesHold w → Then_scopes w (record (calling w q (Open (record { number = w.calls; pool = p; job = w.jobs })) (put w.call w.calls (new_call None w.jobs)) (put w.job w.jobs (new_job q p (BodyOf w.calls q))) (w.calls + 1)
+    (w.jobs + 1)) { scopes = l })
 opened_scopes w q p l h s a = record {
   shares = s;
   bodies = λ c. held c (c == w.calls) refl;
   unopened = λ c b r. unopened c b r (same_party r q) refl;
   whole = λ c b. (next_count w h None w.jobs).0 c ∙ h.whole c (omega (arith, b));
   blank = λ c b. (next_count w h None w.jobs).2 c ∙ h.blank c (omega (arith, b));
-  sums = λ c. (let e : sum_below w.jobs (λ t. entry c (w.job t)) + (one (w.call c).counted + (w.call c).undealt) ≡ (w.call c).count = h.sums c in let b : one (v.call c).counted ≡ one (w.call c).counted = ap one ((next_count w h None w.jobs).0 c) in let u : (v.call c).undealt ≡ (w.call c).undealt = (next_count w h None w.jobs).2 c in let d : (v.call c).count ≡ (w.call c).count = (next_count w h None w.jobs).1 c in let f : sum_below (w.jobs + 1) (λ t. entry c (v.job t)) ≡ sum_below w.jobs (λ t. entry c (w.job t)) = one_entries w q p (BodyOf w.calls q) c in omega (arith, e, b, d, f, u));
+  sums = λ c. (let e : sum_below w.jobs (λ t. entry c (w.job t)) + (one (w.call c).counted + (w.call c).undealt) ≡ (w.call c).count = h.sums c in let b : one (v.call c).counted ≡ one (w.call c).counted = ap one ((next_count w h None w.jobs).0 c) in
+      let u : (v.call c).undealt ≡ (w.call c).undealt = (next_count w h None w.jobs).2 c in let d : (v.call c).count ≡ (w.call c).count = (next_count w h None w.jobs).1 c in let f : sum_below (w.jobs + 1) (λ t. entry c (v.job t)) ≡ sum_below w.jobs (λ t. entry c (w.job t)) =
+      one_entries w q p (BodyOf w.calls q) c in omega (arith, e, b, d, f, u));
   over = λ c b e. (let z : (w.call c).counted ≡ false = sym ((next_count w h None w.jobs).0 c) ∙ e in let d : c + 1 ≤ w.calls = old_call w h c z in closed_event w v a parts (old_target w None w.jobs) c d (h.over c d z));
   fresh = fresh_on w v parts ((next_count w h None w.jobs).2) h;
   some = some_on w v parts ((next_count w h None w.jobs).2) h;
@@ -400,7 +425,8 @@ opened_scopes w q p l h s a = record {
     other c b = elim (either (c == w.calls)) [ inl y ↦ absurd (let i : c ≡ w.calls = eqb-true c w.calls y in omega (arith, i, b)) | inr y ↦ y ]
 
     unopened : (c : ℕ) → w.calls + 1 ≤ c → (r : Party) (d : Bool) → same_party r q ≡ d → all_bodies c (v.stack r) ≡ 0
-    unopened c b r true e = ap (λ m. all_bodies c (v.stack m)) (same_party_true r q e) ∙ (let f : all_bodies c (v.stack q) ≡ (one (c == w.calls) + all_bodies c (w.stack q)) = mine c in let z : all_bodies c (w.stack q) ≡ 0 = h.unopened c (omega (arith, b)) q in let g : one (c == w.calls) ≡ 0 = ap one (other c b) in omega (arith, f, z, g))
+    unopened c b r true e = ap (λ m. all_bodies c (v.stack m)) (same_party_true r q e) ∙ (let f : all_bodies c (v.stack q) ≡ (one (c == w.calls) + all_bodies c (w.stack q)) = mine c in let z : all_bodies c (w.stack q) ≡ 0 = h.unopened c (omega (arith, b)) q in
+        let g : one (c == w.calls) ≡ 0 = ap one (other c b) in omega (arith, f, z, g))
     unopened c b r false e = let f : all_bodies c (v.stack r) ≤ all_bodies c (w.stack r) = other_le (all_bodies c) w q (after_call (w.stack q) (RaiseCount n)) r e in let z : all_bodies c (w.stack r) ≡ 0 = h.unopened c (omega (arith, b)) r in omega (arith, f, z)
 
     held : (c : ℕ) (b : Bool) → (c == w.calls) ≡ b → Tokens (λ r. all_bodies c (v.stack r)) 0 (one (v.call c).counted)
@@ -419,14 +445,19 @@ scope_scopes : (w : World) (q : Party) (p : ℕ) → ScopesHold w → IfSome (af
 scope_scopes w q p h = if_cond (Then_scopes w) (is_free ((w.stack q).top) && is_pool w.shape p) _ (λ f. opened_scopes w q p (w.scopes ++ record { call = w.calls; pool = p; owner = q } ∷ []) h)
 
 yield_scopes : (w : World) (q : Party) (x : Place) → ((c : ℕ) → body c x ≡ 0) → ScopesHold w → IfSome (after_yield w q (w.stack q) x) (Then_scopes w)
-yield_scopes w (Worker a b) x none h = if_cond (Then_scopes w) (is_free ((w.stack (Worker a b)).top)) _ (λ f s d. scopes_keep w (record w { stack = put_stack w.stack (Worker a b) (after_call (w.stack (Worker a b)) x) }) (Worker a b) (after_call (w.stack (Worker a b)) x) (λ r. refl) (omega arith) (λ c. refl) (λ c. refl) (λ c. refl) (λ c. refl) (λ c. (let e : body c x ≡ 0 = none c in omega (arith, e))) (λ c e y. record { made = y.made; closed = y.closed }) (record { jobs = omega arith; shape = refl; kinds = λ t b. refl; pools = λ t b. refl; back = λ t m p l. (m, l) }) h s)
+yield_scopes w (Worker a b) x none h = if_cond (Then_scopes w) (is_free ((w.stack (Worker a b)).top)) _ (λ f s d. scopes_keep w (record w { stack = put_stack w.stack (Worker a b) (after_call (w.stack (Worker a b)) x) }) (Worker a b) (after_call (w.stack (Worker a b)) x) (λ r. refl)
+    (omega arith) (λ c. refl) (λ c. refl) (λ c. refl) (λ c. refl) (λ c. (let e : body c x ≡ 0 = none c in omega (arith, e))) (λ c e y. record { made = y.made; closed = y.closed }) (record { jobs = omega arith; shape = refl; kinds = λ t b. refl; pools = λ t b. refl; back = λ t m p l. (m, l) }) h s)
 yield_scopes w (Caller n) x none h = tt
 
 give_scopes : (w : World) (q : Party) (p : ℕ) → ScopesHold w → IfSome (after_end_pool w q p (w.stack q)) (Then_scopes w)
-give_scopes w q p h = if_cond (Then_scopes w) (is_free ((w.stack q).top) && (is_pool w.shape p && (w.pool p).held)) _ (λ f s d. scopes_keep w (record w { stack = put_stack w.stack q (after_call (w.stack q) (LowerCount (OfPool p) PoolValue Resume)); pool = put w.pool p (record (w.pool p) { held = false }) }) q (after_call (w.stack q) (LowerCount (OfPool p) PoolValue Resume)) (λ r. refl) (omega arith) (λ c. refl) (λ c. refl) (λ c. refl) (λ c. refl) (λ c. omega arith) (λ c e y. record { made = y.made; closed = y.closed }) (record { jobs = omega arith; shape = refl; kinds = λ t b. refl; pools = λ t b. refl; back = λ t m p l. (m, l) }) h s)
+give_scopes w q p h = if_cond (Then_scopes w) (is_free ((w.stack q).top) && (is_pool w.shape p && (w.pool p).held)) _
+    (λ f s d. scopes_keep w (record w { stack = put_stack w.stack q (after_call (w.stack q) (LowerCount (OfPool p) PoolValue Resume)); pool = put w.pool p (record (w.pool p) { held = false }) }) q (after_call (w.stack q) (LowerCount (OfPool p) PoolValue Resume)) (λ r. refl) (omega arith)
+    (λ c. refl) (λ c. refl) (λ c. refl) (λ c. refl) (λ c. omega arith) (λ c e y. record { made = y.made; closed = y.closed }) (record { jobs = omega arith; shape = refl; kinds = λ t b. refl; pools = λ t b. refl; back = λ t m p l. (m, l) }) h s)
 
 go_scopes : (w : World) (q : Party) → ScopesHold w → IfSome (step w (Go q)) (Then_scopes w)
-go_scopes w q h = acted_keeps w q (w.stack q) (target_pool q (act_of q ((w.stack q).top))) (target_worker q (act_of q ((w.stack q).top))) (target_call (act_of q ((w.stack q).top))) (job_at w q (act_of q ((w.stack q).top))) (outcome w q (w.stack q)) (Then_scopes w) (if_some_map (λ r. SharesHold (world_after w q ((w.stack q).top) ((w.stack q).below) r) → ScopesHold (world_after w q ((w.stack q).top) ((w.stack q).below) r)) (λ r. Then_scopes w (world_after w q ((w.stack q).top) ((w.stack q).below) r)) (λ r f s a. f s) (outcome w q (w.stack q)) (go_by w q ((w.stack q).top) ((w.stack q).below) refl h (ready w q (h.shares))))
+go_scopes w q h = acted_keeps w q (w.stack q) (target_pool q (act_of q ((w.stack q).top))) (target_worker q (act_of q ((w.stack q).top))) (target_call (act_of q ((w.stack q).top))) (job_at w q (act_of q ((w.stack q).top))) (outcome w q (w.stack q)) (Then_scopes w)
+    (if_some_map (λ r. SharesHold (world_after w q ((w.stack q).top) ((w.stack q).below) r) → ScopesHold (world_after w q ((w.stack q).top) ((w.stack q).below) r)) (λ r. Then_scopes w (world_after w q ((w.stack q).top) ((w.stack q).below) r)) (λ r f s a. f s) (outcome w q (w.stack q))
+    (go_by w q ((w.stack q).top) ((w.stack q).below) refl h (ready w q (h.shares))))
 
 each_scopes : (w : World) (e : Event) → ScopesHold w → IfSome (step w e) (Then_scopes w)
 each_scopes w (Go q) h = go_scopes w q h
@@ -450,7 +481,8 @@ each_scopes w (EndPool q p) h = give_scopes w q p h
 
 pub step_scopes : (w : World) (e : Event) → ScopesHold w → IfSome (step w e) ScopesHold
 step_scopes w e h = if_some_map (λ u. (SharesHold u × Advance w u) × Then_scopes w u) ScopesHold (λ u f. f.1 ((f.0).0) ((f.0).1)) (step w e)
-    (if_some_and (λ u. SharesHold u × Advance w u) (Then_scopes w) (step w e) (if_some_and SharesHold (Advance w) (step w e) (step_shares w e (h.shares)) (step_advance w e (unqueued w ((h.shares).calls)) ((((h.shares).calls).jobs).feeds) ((((h.shares).calls).jobs).ok) ((((h.shares).calls).jobs).unmade))) (each_scopes w e h))
+    (if_some_and (λ u. SharesHold u × Advance w u) (Then_scopes w) (step w e) (if_some_and SharesHold (Advance w) (step w e) (step_shares w e (h.shares))
+    (step_advance w e (unqueued w ((h.shares).calls)) ((((h.shares).calls).jobs).feeds) ((((h.shares).calls).jobs).ok) ((((h.shares).calls).jobs).unmade))) (each_scopes w e h))
 
 first_bodies : (h : Shape) (c : ℕ) (q : Party) → body c (first_place h q) ≡ 0
 first_bodies h c (Caller n) = at (nat_lt n h.callers)

@@ -55,7 +55,8 @@ of_scoped c (PieceOf d o) e = refl
 of_scoped c _ e = cc
 
 pub entry_kept : (w : World) → ScopesHold w → (t : ℕ) → is_scoped (w.job t).kind ≡ true → is_busy (w.job t).at ≡ true → (w.job t).counted ≡ true
-entry_kept w h t k y = one_is ((w.job t).counted) (let a : shares t (w.stack (Caller 0)) + with_job (w.job t) ≤ one (w.job t).counted = ((h.shares).jobs t).alone (Caller 0) in let b : with_job (w.job t) ≡ 1 = ap (λ v. one (v && is_busy (w.job t).at)) (scoped_detached ((w.job t).kind) k) ∙ ap one y in omega (arith, a, b))
+entry_kept w h t k y = one_is ((w.job t).counted) (let a : shares t (w.stack (Caller 0)) + with_job (w.job t) ≤ one (w.job t).counted = ((h.shares).jobs t).alone (Caller 0) in
+    let b : with_job (w.job t) ≡ 1 = ap (λ v. one (v && is_busy (w.job t).at)) (scoped_detached ((w.job t).kind) k) ∙ ap one y in omega (arith, a, b))
 
 entry_gone : (w : World) → ScopesHold w → (c : ℕ) → (w.call c).count ≡ 0 → (t : ℕ) → is_of_scope c (w.job t).kind ≡ true → (w.job t).counted ≡ false
 entry_gone w h c z t k = by ((w.job t).counted) refl
@@ -154,7 +155,8 @@ count_over w h c b z = record {
 
 pub scopes_counted : (w : World) → ScopesHold w → ((c : ℕ) → c + 1 ≤ w.calls → (w.call c).count ≡ 0 → ScopeEnded w c) → ScopesCounted w
 scopes_counted w h ended = record {
-  count = λ c. (let a : sum_below w.jobs (λ t. entry c (w.job t)) + (one (w.call c).counted + (w.call c).undealt) ≡ (w.call c).count = h.sums c in let b : count_below w.jobs (λ t. has_entry c (w.job t)) ≡ sum_below w.jobs (λ t. entry c (w.job t)) = count_sum w.jobs (λ t. has_entry c (w.job t)) in omega (arith, a, b));
+  count = λ c. (let a : sum_below w.jobs (λ t. entry c (w.job t)) + (one (w.call c).counted + (w.call c).undealt) ≡ (w.call c).count = h.sums c in
+      let b : count_below w.jobs (λ t. has_entry c (w.job t)) ≡ sum_below w.jobs (λ t. entry c (w.job t)) = count_sum w.jobs (λ t. has_entry c (w.job t)) in omega (arith, a, b));
   none = λ c f. none_waits w h c f ((w.call c).undealt) refl;
   body = λ c b e f. body_over w h c b e f;
   undealt = λ t b c o k m. h.fresh t b c o k (ap is_dealt m);
@@ -178,4 +180,5 @@ last_entry w q d o u n fs h z one_left = one_not ((w.call d).counted)
     said = top_says w q (LowerCount (OfScope d o) (OfJob u) n) fs ((h.shares).calls) z
 
     had : (w.job u).counted ≡ true
-    had = one_is ((w.job u).counted) (let a : shares u (w.stack q) ≡ ((one (u == u) + share_then u n) + shares_in u fs) = ap (shares u) z in let b : one (u == u) ≡ 1 = self_one u in let c : shares u (w.stack q) + with_job (w.job u) ≤ one (w.job u).counted = ((h.shares).jobs u).alone q in omega (arith, a, b, c))
+    had = one_is ((w.job u).counted) (let a : shares u (w.stack q) ≡ ((one (u == u) + share_then u n) + shares_in u fs) = ap (shares u) z in let b : one (u == u) ≡ 1 = self_one u in let c : shares u (w.stack q) + with_job (w.job u) ≤ one (w.job u).counted = ((h.shares).jobs u).alone q in
+        omega (arith, a, b, c))

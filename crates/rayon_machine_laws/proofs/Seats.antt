@@ -15,7 +15,9 @@ use Rattle.rayon_machine_places.specs.declared.place.Latch.TheVariants.{Terminat
 use Rattle.rayon_machine_places.specs.declared.place.Then.{Then}
 use Rattle.rayon_machine_places.specs.declared.place.Then.TheVariants.{BeginFound, LeaveWait, Await}
 use Rattle.rayon_machine_places.specs.declared.place.Place.{Place}
-use Rattle.rayon_machine_places.specs.declared.place.Place.TheVariants.{ProbeWorking, PopWorking, TakeCastWorking, BecomeInactive, ProbeIdle, PopIdle, TakeCastIdle, PickVictim, StealFrom, PopInjected, AnnounceSelf, GetSleepy, LockOwn, FallAsleep, LoadCounters, AddSleeping, LookAtCast, LookAtInjector, BlockSelf, RelockOwn, UndoSleeping, WakeUp, UnlockOwn, LeaveSearch, JoinProbe, Run, LockToWake, WakeWorker, UnlockWoken, SetLatch, LockToSettle, WakeSettled, UnlockSettled, FirstSide, SecondSide, AtOnce, Free, Stopped, ScopeBody}
+use Rattle.rayon_machine_places.specs.declared.place.Place.TheVariants.{ProbeWorking, PopWorking, TakeCastWorking, BecomeInactive, ProbeIdle, PopIdle, TakeCastIdle, PickVictim, StealFrom, PopInjected, AnnounceSelf, GetSleepy, LockOwn, FallAsleep, LoadCounters, AddSleeping}
+use Rattle.rayon_machine_places.specs.declared.place.Place.TheVariants.{LookAtCast, LookAtInjector, BlockSelf, RelockOwn, UndoSleeping, WakeUp, UnlockOwn, LeaveSearch, JoinProbe, Run, LockToWake, WakeWorker, UnlockWoken, SetLatch, LockToSettle, WakeSettled, UnlockSettled}
+use Rattle.rayon_machine_places.specs.declared.place.Place.TheVariants.{FirstSide, SecondSide, AtOnce, Free, Stopped, ScopeBody}
 use Rattle.rayon_machine_places.specs.declared.place.Move.{Move}
 use Rattle.rayon_machine_places.specs.declared.place.Move.TheVariants.{Stay, Enter, StartRun, Back, HandBack, Discard, HandIn, Mark, HandAllBack}
 use Rattle.rayon_machine_places.specs.declared.act.Act.{Act}
@@ -210,8 +212,10 @@ set_goes g p i s _ u k = out_goes p i u (after_set g (Worker p i) s s.latch) (se
 -- a worker's own act leaves its seat fitting the place that it goes to
 pub own_keeps : (h : Shape) (g : PoolShape) (p i : ℕ) (c : Counts) (m : Part) (x : Place) → SeatOk p i (mode x) m.seat → IfSome (effect (act_of (Worker p i) x) h (Worker p i) c m) (λ r. Goes (OkAt p i (r.1.seat)) (next_of g (Worker p i) x (r.0)))
 own_keeps h g p i c m (ProbeWorking k) ok = search (rules, arith)
-own_keeps h g p i c m (SetLatch s) ok = if_some_map (λ r. SeatOk p i Out (r.1.seat)) (λ r. Goes (OkAt p i (r.1.seat)) (next_of g (Worker p i) (SetLatch s) (r.0))) (λ r k. set_goes g p i s (r.0) (r.1.seat) k) (effect (act_of (Worker p i) (SetLatch s)) h (Worker p i) c m) (set_keeps s.latch s.pool s.worker h (Worker p i) c m p i Out ok)
-own_keeps h g p i c m (UnlockSettled s) ok = if_some_map (λ r. SeatOk p i Out (r.1.seat)) (λ r. Goes (OkAt p i (r.1.seat)) (next_of g (Worker p i) (UnlockSettled s) (r.0))) (λ r k. out_goes p i (r.1.seat) (after_set g (Worker p i) s s.latch) (settled_out g (Worker p i) s s.latch) k) (effect (act_of (Worker p i) (UnlockSettled s)) h (Worker p i) c m) (rest_unlocks s.pool s.worker h (Worker p i) c m p i ok)
+own_keeps h g p i c m (SetLatch s) ok = if_some_map (λ r. SeatOk p i Out (r.1.seat)) (λ r. Goes (OkAt p i (r.1.seat)) (next_of g (Worker p i) (SetLatch s) (r.0))) (λ r k. set_goes g p i s (r.0) (r.1.seat) k) (effect (act_of (Worker p i) (SetLatch s)) h (Worker p i) c m)
+    (set_keeps s.latch s.pool s.worker h (Worker p i) c m p i Out ok)
+own_keeps h g p i c m (UnlockSettled s) ok = if_some_map (λ r. SeatOk p i Out (r.1.seat)) (λ r. Goes (OkAt p i (r.1.seat)) (next_of g (Worker p i) (UnlockSettled s) (r.0))) (λ r k. out_goes p i (r.1.seat) (after_set g (Worker p i) s s.latch) (settled_out g (Worker p i) s s.latch) k)
+    (effect (act_of (Worker p i) (UnlockSettled s)) h (Worker p i) c m) (rest_unlocks s.pool s.worker h (Worker p i) c m p i ok)
 own_keeps h g p i c m _ ok = search (rules, arith)
 
 -- a seat that is the same but for its lists and its latch

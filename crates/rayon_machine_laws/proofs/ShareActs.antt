@@ -16,7 +16,8 @@ use Rattle.rayon_machine_places.specs.declared.place.Plan.{Plan}
 use Rattle.rayon_machine_places.specs.declared.place.Plan.TheVariants.{Detach, Here, Send, Fork, Feed, Open, Enter, Gather}
 use Rattle.rayon_machine_places.specs.declared.place.Taken.TheVariants.{Plain, Token}
 use Rattle.rayon_machine_places.specs.declared.place.Place.{Place}
-use Rattle.rayon_machine_places.specs.declared.place.Place.TheVariants.{PopWorking, TakeCastWorking, PopIdle, TakeCastIdle, StealFrom, PopInjected, JoinPop, JoinTakeCast, YieldPop, YieldTakeCast, YieldSteal, YieldPopInjected, LocalPop, LocalTakeCast, BeginTask, BeginHere, RaiseCount, PushJob, LowerCount, PushToken, AddToFifo, TakeFromFifo, RaiseForAll, PushForAll, LowerForAll, DealPieces}
+use Rattle.rayon_machine_places.specs.declared.place.Place.TheVariants.{PopWorking, TakeCastWorking, PopIdle, TakeCastIdle, StealFrom, PopInjected, JoinPop, JoinTakeCast, YieldPop, YieldTakeCast, YieldSteal, YieldPopInjected, LocalPop, LocalTakeCast, BeginTask, BeginHere}
+use Rattle.rayon_machine_places.specs.declared.place.Place.TheVariants.{RaiseCount, PushJob, LowerCount, PushToken, AddToFifo, TakeFromFifo, RaiseForAll, PushForAll, LowerForAll, DealPieces}
 use Rattle.rayon_machine_places.specs.declared.act.Act.TheVariants.{PushInj, PushOwn, FifoOut, FifoUndo}
 use Rattle.rayon_machine_places.specs.declared.act.Seen.{Seen}
 use Rattle.rayon_machine_places.specs.declared.act.Seen.TheVariants.{Done, Missing, Task}
@@ -156,14 +157,16 @@ inj_taken : (w : World) → IsOnce w → (p t : ℕ) → head_of (w.pool p).inje
 inj_taken w h p t e = subst (λ o. is_left (w.job (or_none o)).at ≡ true) (sym e) (inject_left w h p t (times t (but_first (w.pool p).injector)) (times_first ((w.pool p).injector) t t e))
 
 line_busy : (w : World) → IsOnce w → (p i : ℕ) (b : Option ℕ) (t : ℕ) → head_of ((w.seat p i).fifo b) ≡ Some t → is_busy (w.job (or_none (head_of ((w.seat p i).fifo b)))).at ≡ true
-line_busy w h p i b t e = subst (λ o. is_busy (w.job (or_none o)).at ≡ true) (sym e) (by ((w.job t).at) (let a : times t ((w.seat p i).fifo b) ≡ one (in_fifo p i b (w.job t).at) = h.fifo p i b t in let d : times t ((w.seat p i).fifo b) ≡ (one (t == t) + times t (but_first ((w.seat p i).fifo b))) = times_first ((w.seat p i).fifo b) t t e in let c : one (t == t) ≡ 1 = ap one (eq-eqb t t refl) in omega (arith, a, d, c)))
+line_busy w h p i b t e = subst (λ o. is_busy (w.job (or_none o)).at ≡ true) (sym e) (by ((w.job t).at) (let a : times t ((w.seat p i).fifo b) ≡ one (in_fifo p i b (w.job t).at) = h.fifo p i b t in
+    let d : times t ((w.seat p i).fifo b) ≡ (one (t == t) + times t (but_first ((w.seat p i).fifo b))) = times_first ((w.seat p i).fifo b) t t e in let c : one (t == t) ≡ 1 = ap one (eq-eqb t t refl) in omega (arith, a, d, c)))
   where
     by : (v : Whereabouts) → 1 ≤ one (in_fifo p i b v) → is_busy v ≡ true
     by (InFifo r j d) z = refl
     by _ z = absurd (omega (arith, z))
 
 cast_taken : (w : World) → IsOnce w → (p i t : ℕ) → head_of ((w.pool p).casts i) ≡ Some t → is_left (w.job (or_none (head_of ((w.pool p).casts i)))).at ≡ true
-cast_taken w h p i t e = subst (λ o. is_left (w.job (or_none o)).at ≡ true) (sym e) (by ((w.job t).at) (let a : times t ((w.pool p).casts i) ≡ one (in_cast p i (w.job t).at) = h.cast p i t in let b : times t ((w.pool p).casts i) ≡ (one (t == t) + times t (but_first ((w.pool p).casts i))) = times_first ((w.pool p).casts i) t t e in let c : one (t == t) ≡ 1 = ap one (eq-eqb t t refl) in omega (arith, a, b, c)))
+cast_taken w h p i t e = subst (λ o. is_left (w.job (or_none o)).at ≡ true) (sym e) (by ((w.job t).at) (let a : times t ((w.pool p).casts i) ≡ one (in_cast p i (w.job t).at) = h.cast p i t in
+    let b : times t ((w.pool p).casts i) ≡ (one (t == t) + times t (but_first ((w.pool p).casts i))) = times_first ((w.pool p).casts i) t t e in let c : one (t == t) ≡ 1 = ap one (eq-eqb t t refl) in omega (arith, a, b, c)))
   where
     by : (v : Whereabouts) → 1 ≤ one (in_cast p i v) → is_left v ≡ true
     by (InCast r j) z = refl
@@ -179,7 +182,10 @@ push_stays w q (Here p t) v m m' s e y z = absurd (let a : is_detached m.job.kin
 push_stays w q (Send o) v m m' s e y z = absurd (let a : is_detached m.job.kind ≡ false = ap (λ j. is_detached (j.kind)) e ∙ call_undetached ((w.job o.job).kind) (o.number, q) ((s.0).kind) in cc)
 push_stays w q (Fork o f) v m m' s e y z = absurd (let a : is_detached m.job.kind ≡ false = ap (λ j. is_detached (j.kind)) e ∙ call_undetached ((w.job o.job).kind) (o.number, q) ((s.0).kind) in cc)
 
-push_act_stays : (w : World) (q : Party) (n : Plan) (v z : Bool) → SaysPlan w q n → IfSome (outcome_of w q (if z then PushOwn (plan_job n) (plan_book n) else PushInj (plan_pool n) (plan_job n) (plan_book n))) (Stays (part_of w (target_pool q (if z then PushOwn (plan_job n) (plan_book n) else PushInj (plan_pool n) (plan_job n) (plan_book n))) (target_worker q (if z then PushOwn (plan_job n) (plan_book n) else PushInj (plan_pool n) (plan_job n) (plan_book n))) (target_call (if z then PushOwn (plan_job n) (plan_book n) else PushInj (plan_pool n) (plan_job n) (plan_book n))) (job_at w q (if z then PushOwn (plan_job n) (plan_book n) else PushInj (plan_pool n) (plan_job n) (plan_book n)))) (PushJob n v) (job_at w q (if z then PushOwn (plan_job n) (plan_book n) else PushInj (plan_pool n) (plan_job n) (plan_book n))))
+push_act_stays : (w : World) (q : Party) (n : Plan) (v z : Bool) → SaysPlan w q n → IfSome (outcome_of w q (if z then PushOwn (plan_job n) (plan_book n) else PushInj (plan_pool n) (plan_job n) (plan_book n)))
+    (Stays (part_of w (target_pool q (if z then PushOwn (plan_job n) (plan_book n) else PushInj (plan_pool n) (plan_job n) (plan_book n))) (target_worker q (if z then PushOwn (plan_job n) (plan_book n) else PushInj (plan_pool n) (plan_job n) (plan_book n)))
+    (target_call (if z then PushOwn (plan_job n) (plan_book n) else PushInj (plan_pool n) (plan_job n) (plan_book n))) (job_at w q (if z then PushOwn (plan_job n) (plan_book n) else PushInj (plan_pool n) (plan_job n) (plan_book n)))) (PushJob n v)
+    (job_at w q (if z then PushOwn (plan_job n) (plan_book n) else PushInj (plan_pool n) (plan_job n) (plan_book n))))
 push_act_stays w q n v true s = let m : Part = part_of w (own_pool q) (own_index q) (or_none (plan_book n)) (plan_job n) in push_stays w q n v m (record m { seat = record (m.seat) { own = m.seat.own ++ plan_job n ∷ [] }; job = at_job (m.job) (InDeque (own_pool q) (own_index q)) }) s refl
 push_act_stays w q n v false s = let m : Part = part_of w (plan_pool n) (own_index q) (or_none (plan_book n)) (plan_job n) in push_stays w q n v m (record m { pool = record (m.pool) { injector = m.pool.injector ++ plan_job n ∷ [] }; job = at_job (m.job) (Injected (plan_pool n)) }) s refl
 
@@ -216,13 +222,18 @@ act_stays w (Caller c) YieldTakeCast h s = tt
 act_stays w (Worker a b) LocalTakeCast h s = cast_stays (Worker a b) (place_part w (Worker a b) LocalTakeCast) LocalTakeCast (job_at w (Worker a b) (act_of (Worker a b) LocalTakeCast)) _ (λ t e. cast_taken w h a b t e)
 act_stays w (Caller c) LocalTakeCast h s = tt
 act_stays w q (BeginTask (Plain t)) h s = λ y z. absurd (let a : is_left (w.job t).at ≡ true = s in cc)
-act_stays w (Worker a b) (BeginTask (Token k i b8)) h s = out_sees (Stays (place_part w (Worker a b) (BeginTask (Token k i b8))) (BeginTask (Token k i b8)) (job_at w (Worker a b) (FifoOut k i b8))) (Worker a b) (place_part w (Worker a b) (BeginTask (Token k i b8))) b8 (same_stays (place_part w (Worker a b) (BeginTask (Token k i b8))) (BeginTask (Token k i b8)) (job_at w (Worker a b) (FifoOut k i b8)) (Missing, place_part w (Worker a b) (BeginTask (Token k i b8))) refl) (λ u us e y z. (let o : one (is_busy (w.job (or_none (head_of ((w.seat a i).fifo b8)))).at) ≡ 1 = ap one (line_busy w h a i b8 u (ap head_of e)) in omega (arith, o)))
-act_stays w (Caller c) (BeginTask (Token k i b8)) h s = out_sees (Stays (place_part w (Caller c) (BeginTask (Token k i b8))) (BeginTask (Token k i b8)) (job_at w (Caller c) (FifoOut k i b8))) (Caller c) (place_part w (Caller c) (BeginTask (Token k i b8))) b8 (same_stays (place_part w (Caller c) (BeginTask (Token k i b8))) (BeginTask (Token k i b8)) (job_at w (Caller c) (FifoOut k i b8)) (Missing, place_part w (Caller c) (BeginTask (Token k i b8))) refl) (λ u us e y z. (let o : one (is_busy (w.job (or_none (head_of ((w.seat 0 i).fifo b8)))).at) ≡ 1 = ap one (line_busy w h 0 i b8 u (ap head_of e)) in omega (arith, o)))
+act_stays w (Worker a b) (BeginTask (Token k i b8)) h s = out_sees (Stays (place_part w (Worker a b) (BeginTask (Token k i b8))) (BeginTask (Token k i b8)) (job_at w (Worker a b) (FifoOut k i b8))) (Worker a b) (place_part w (Worker a b) (BeginTask (Token k i b8))) b8
+    (same_stays (place_part w (Worker a b) (BeginTask (Token k i b8))) (BeginTask (Token k i b8)) (job_at w (Worker a b) (FifoOut k i b8)) (Missing, place_part w (Worker a b) (BeginTask (Token k i b8))) refl)
+    (λ u us e y z. (let o : one (is_busy (w.job (or_none (head_of ((w.seat a i).fifo b8)))).at) ≡ 1 = ap one (line_busy w h a i b8 u (ap head_of e)) in omega (arith, o)))
+act_stays w (Caller c) (BeginTask (Token k i b8)) h s = out_sees (Stays (place_part w (Caller c) (BeginTask (Token k i b8))) (BeginTask (Token k i b8)) (job_at w (Caller c) (FifoOut k i b8))) (Caller c) (place_part w (Caller c) (BeginTask (Token k i b8))) b8
+    (same_stays (place_part w (Caller c) (BeginTask (Token k i b8))) (BeginTask (Token k i b8)) (job_at w (Caller c) (FifoOut k i b8)) (Missing, place_part w (Caller c) (BeginTask (Token k i b8))) refl)
+    (λ u us e y z. (let o : one (is_busy (w.job (or_none (head_of ((w.seat 0 i).fifo b8)))).at) ≡ 1 = ap one (line_busy w h 0 i b8 u (ap head_of e)) in omega (arith, o)))
 act_stays w (Worker a b) (PushToken f v) h s = λ y z. absurd (let k : is_detached (w.job f.token).kind ≡ false = ap is_detached ((s.1).kind) in cc)
 act_stays w (Caller c) (PushToken f v) h s = tt
 act_stays w (Worker a b) (AddToFifo f) h s = if_cond (Stays (place_part w (Worker a b) (AddToFifo f)) (AddToFifo f) f.job) (is_open (Worker a b) ((w.seat a b).feeder (count_book f.count))) _ (λ t y z. (let o : one (f.job == f.job) ≡ 1 = ap one (eq-eqb f.job f.job refl) in omega (arith, o)))
 act_stays w (Caller c) (AddToFifo f) h s = tt
-act_stays w (Worker a b) (TakeFromFifo f) h s = undo_sees (Stays (place_part w (Worker a b) (TakeFromFifo f)) (TakeFromFifo f) (job_at w (Worker a b) (FifoUndo (count_book f.count)))) (Worker a b) (place_part w (Worker a b) (TakeFromFifo f)) (count_book f.count) (same_stays (place_part w (Worker a b) (TakeFromFifo f)) (TakeFromFifo f) (job_at w (Worker a b) (FifoUndo (count_book f.count))) (Missing, place_part w (Worker a b) (TakeFromFifo f)) refl) (λ u e y z. omega arith)
+act_stays w (Worker a b) (TakeFromFifo f) h s = undo_sees (Stays (place_part w (Worker a b) (TakeFromFifo f)) (TakeFromFifo f) (job_at w (Worker a b) (FifoUndo (count_book f.count)))) (Worker a b) (place_part w (Worker a b) (TakeFromFifo f)) (count_book f.count)
+    (same_stays (place_part w (Worker a b) (TakeFromFifo f)) (TakeFromFifo f) (job_at w (Worker a b) (FifoUndo (count_book f.count))) (Missing, place_part w (Worker a b) (TakeFromFifo f)) refl) (λ u e y z. omega arith)
 act_stays w (Caller c) (TakeFromFifo f) h s = tt
 act_stays w q (BeginHere t) h s = λ y z. absurd (let a : is_detached (w.job t).kind ≡ false = s.kind in cc)
 act_stays w q (PushForAll c) h s = λ y z. omega arith
@@ -247,6 +258,12 @@ lined_share w h o p i b t n = ap (λ k. one (k && is_busy (w.job t).at)) (lined_
     by _ z = absurd (omega (arith, z))
 
 pub act_regains : (w : World) (q : Party) (x : Place) → CallsHold w → IsOnce w → IfSome (effect (act_of q x) w.shape q (counts_at w (target_pool q (act_of q x))) (place_part w q x)) (Regains w q x)
-act_regains w (Worker a b) (TakeFromFifo f) h o = undo_sees (Regains w (Worker a b) (TakeFromFifo f)) (Worker a b) (place_part w (Worker a b) (TakeFromFifo f)) (count_book f.count) tt (λ u e. (ap or_none e, lined_share w h o a b (count_book f.count) u (let d : times u ((w.seat a b).fifo (count_book f.count)) ≡ (one (u == u) + times u (but_last ((w.seat a b).fifo (count_book f.count)))) = times_drop ((w.seat a b).fifo (count_book f.count)) u u e in let c : one (u == u) ≡ 1 = ap one (eq-eqb u u refl) in omega (arith, c, d)), refl))
+act_regains w (Worker a b) (TakeFromFifo f) h o = undo_sees (Regains w (Worker a b) (TakeFromFifo f)) (Worker a b) (place_part w (Worker a b) (TakeFromFifo f)) (count_book f.count) tt
+    (λ u e. (
+      ap or_none e,
+      lined_share w h o a b (count_book f.count) u (let d : times u ((w.seat a b).fifo (count_book f.count)) ≡ (one (u == u) + times u (but_last ((w.seat a b).fifo (count_book f.count)))) = times_drop ((w.seat a b).fifo (count_book f.count)) u u e in
+          let c : one (u == u) ≡ 1 = ap one (eq-eqb u u refl) in omega (arith, c, d)),
+      refl,
+    ))
 act_regains w (Caller c) (TakeFromFifo f) h o = tt
 act_regains w q x h o = if_some_all (Regains w q x) (λ r. tt) (effect (act_of q x) w.shape q (counts_at w (target_pool q (act_of q x))) (place_part w q x))

@@ -26,7 +26,8 @@ use Rattle.rayon_machine_places.specs.declared.state.Job.{Job}
 use Rattle.rayon_machine_places.specs.declared.state.Call.{Call}
 use Rattle.rayon_machine_places.specs.Places.{same_party, is_member, plan_job, fresh, act_of, goes_on, is_free, count_kind, count_book}
 use Rattle.rayon_machine_places.specs.World.{Shape, World, target_pool, target_worker, target_call, at_job}
-use Rattle.rayon_machine_places.specs.Steps.{put, put_stack, after_close, after_end, after_call, is_pool, new_job, new_call, after_spawn, after_fifo, after_send, after_install, after_join, step, after_cast, put_pieces, new_piece, is_piece, after_scope, after_into, holds, after_feed, after_deal, after_enter, after_into_fifo, after_into_cast, after_broadcast, new_whole, new_gathering}
+use Rattle.rayon_machine_places.specs.Steps.{put, put_stack, after_close, after_end, after_call, is_pool, new_job, new_call, after_spawn, after_fifo, after_send, after_install, after_join, step, after_cast, put_pieces, new_piece, is_piece, after_scope, after_into, holds}
+use Rattle.rayon_machine_places.specs.Steps.{after_feed, after_deal, after_enter, after_into_fifo, after_into_cast, after_broadcast, new_whole, new_gathering}
 use Rattle.rayon_machine_places.specs.Runs.{first_place, start, IsRun}
 use Rattle.rayon_machine_laws.specs.Once.{one, runs_in}
 use Rattle.rayon_machine_laws.specs.Shares.{share, shares_in, shares, is_busy, IsGone, is_scoped}
@@ -69,10 +70,26 @@ closed_shares s t Direct e [] = (omega arith, omega arith, omega arith)
 closed_shares s t (TokenOf i9 b8) e [] = (omega arith, omega arith, omega arith)
 closed_shares s t (BodyOf c9 o9) e [] = (omega arith, omega arith, omega arith)
 closed_shares s t (WholeOf c9 o9) e [] = (omega arith, omega arith, omega arith)
-closed_shares s t Direct e (f ∷ fs) = ((let a : share s (goes_on f e) ≡ share s f = (goes_on_shares s f e).0 in omega (arith, a)), (let a : values s (goes_on f e) ≡ values s f = (goes_on_shares s f e).1 in omega (arith, a)), (let a : raises s (goes_on f e) ≡ raises s f = (goes_on_shares s f e).2 in omega (arith, a)))
-closed_shares s t (TokenOf i9 b8) e (f ∷ fs) = ((let a : share s (goes_on f e) ≡ share s f = (goes_on_shares s f e).0 in omega (arith, a)), (let a : values s (goes_on f e) ≡ values s f = (goes_on_shares s f e).1 in omega (arith, a)), (let a : raises s (goes_on f e) ≡ raises s f = (goes_on_shares s f e).2 in omega (arith, a)))
-closed_shares s t (BodyOf c9 o9) e (f ∷ fs) = ((let a : share s (goes_on f e) ≡ share s f = (goes_on_shares s f e).0 in omega (arith, a)), (let a : values s (goes_on f e) ≡ values s f = (goes_on_shares s f e).1 in omega (arith, a)), (let a : raises s (goes_on f e) ≡ raises s f = (goes_on_shares s f e).2 in omega (arith, a)))
-closed_shares s t (WholeOf c9 o9) e (f ∷ fs) = ((let a : share s (goes_on f e) ≡ share s f = (goes_on_shares s f e).0 in omega (arith, a)), (let a : values s (goes_on f e) ≡ values s f = (goes_on_shares s f e).1 in omega (arith, a)), (let a : raises s (goes_on f e) ≡ raises s f = (goes_on_shares s f e).2 in omega (arith, a)))
+closed_shares s t Direct e (f ∷ fs) = (
+  (let a : share s (goes_on f e) ≡ share s f = (goes_on_shares s f e).0 in omega (arith, a)),
+  (let a : values s (goes_on f e) ≡ values s f = (goes_on_shares s f e).1 in omega (arith, a)),
+  (let a : raises s (goes_on f e) ≡ raises s f = (goes_on_shares s f e).2 in omega (arith, a)),
+)
+closed_shares s t (TokenOf i9 b8) e (f ∷ fs) = (
+  (let a : share s (goes_on f e) ≡ share s f = (goes_on_shares s f e).0 in omega (arith, a)),
+  (let a : values s (goes_on f e) ≡ values s f = (goes_on_shares s f e).1 in omega (arith, a)),
+  (let a : raises s (goes_on f e) ≡ raises s f = (goes_on_shares s f e).2 in omega (arith, a)),
+)
+closed_shares s t (BodyOf c9 o9) e (f ∷ fs) = (
+  (let a : share s (goes_on f e) ≡ share s f = (goes_on_shares s f e).0 in omega (arith, a)),
+  (let a : values s (goes_on f e) ≡ values s f = (goes_on_shares s f e).1 in omega (arith, a)),
+  (let a : raises s (goes_on f e) ≡ raises s f = (goes_on_shares s f e).2 in omega (arith, a)),
+)
+closed_shares s t (WholeOf c9 o9) e (f ∷ fs) = (
+  (let a : share s (goes_on f e) ≡ share s f = (goes_on_shares s f e).0 in omega (arith, a)),
+  (let a : values s (goes_on f e) ≡ values s f = (goes_on_shares s f e).1 in omega (arith, a)),
+  (let a : raises s (goes_on f e) ≡ raises s f = (goes_on_shares s f e).2 in omega (arith, a)),
+)
 
 and_none : (b : Bool) → one (b && false) ≡ 0
 and_none true = refl
@@ -103,31 +120,39 @@ freed_none s t (WholeOf c9 o9) e = refl
 
 end_shares : (w : World) (q : Party) (d : Ending) (x : Place) (fs : List Place) → w.stack q ≡ record { top = x; below = fs } → SharesHold w → IfSome (after_end w q d (record { top = x; below = fs }) x) (λ u. CallsHold u → SharesHold u)
 end_shares w q d (Run t k) fs z h = λ ch. still_hold w (ended_world w q d t k fs) q (after_close t k d fs) ch (λ s. refl) (omega arith) counted (λ p. refl)
-    (λ p. (let a : sum_below w.jobs (λ s. tally p ((ended_world w q d t k fs).job s)) ≡ sum_below w.jobs (λ s. tally p (w.job s)) = sum_same w.jobs (λ s. tally p ((ended_world w q d t k fs).job s)) (λ s. tally p (w.job s)) (λ s b. tally_same p ((ended_world w q d t k fs).job s) (w.job s) (counted s) (put_same (λ j. j.kind) w.job t (at_job (w.job t) (Over d)) s refl) (put_same (λ j. j.pool) w.job t (at_job (w.job t) (Over d)) s refl)) in omega (arith, a)))
+    (λ p. (let a : sum_below w.jobs (λ s. tally p ((ended_world w q d t k fs).job s)) ≡ sum_below w.jobs (λ s. tally p (w.job s)) = sum_same w.jobs (λ s. tally p ((ended_world w q d t k fs).job s)) (λ s. tally p (w.job s))
+    (λ s b. tally_same p ((ended_world w q d t k fs).job s) (w.job s) (counted s) (put_same (λ j. j.kind) w.job t (at_job (w.job t) (Over d)) s refl) (put_same (λ j. j.pool) w.job t (at_job (w.job t) (Over d)) s refl)) in omega (arith, a)))
     (λ p. refl) (λ s. line s (s == t) refl)
-    (λ p. (let a : all_values p (put_stack w.stack q (after_close t k d fs) q) ≡ all_values p (after_close t k d fs) = ap (all_values p) (stack_mine w.stack q (after_close t k d fs)) in let b : all_values p (after_close t k d fs) ≡ values_in p fs = (closed_shares p t k d fs).1 in let c : all_values p (w.stack q) ≡ (0 + values_in p fs) = ap (all_values p) z in omega (arith, a, b, c)))
+    (λ p. (let a : all_values p (put_stack w.stack q (after_close t k d fs) q) ≡ all_values p (after_close t k d fs) = ap (all_values p) (stack_mine w.stack q (after_close t k d fs)) in let b : all_values p (after_close t k d fs) ≡ values_in p fs = (closed_shares p t k d fs).1 in
+    let c : all_values p (w.stack q) ≡ (0 + values_in p fs) = ap (all_values p) z in omega (arith, a, b, c)))
     (λ s r. raised s r (same_party r q) refl) h
   where
     counted : (s : ℕ) → ((ended_world w q d t k fs).job s).counted ≡ (w.job s).counted
     counted s = put_same (λ j. j.counted) w.job t (at_job (w.job t) (Over d)) s refl
 
     running : (w.job t).at ≡ Running q
-    running = (at_work ((w.job t).at) ((w.job t).runs) q (where_is (Work q) (loc_at (w.job t)) (let a : worked t (w.stack q) ≡ is_loc (Work q) (loc_at (w.job t)) = (((h.calls).jobs).ok).placed (Work q) t in let b : worked t (w.stack q) ≡ (one (t == t) + runs_in t fs) = ap (worked t) z in let c : one (t == t) ≡ 1 = self_one t in omega (arith, a, b, c)))).1
+    running = (at_work ((w.job t).at) ((w.job t).runs) q (where_is (Work q) (loc_at (w.job t)) (let a : worked t (w.stack q) ≡ is_loc (Work q) (loc_at (w.job t)) = (((h.calls).jobs).ok).placed (Work q) t in let b : worked t (w.stack q) ≡ (one (t == t) + runs_in t fs) = ap (worked t) z in
+        let c : one (t == t) ≡ 1 = self_one t in omega (arith, a, b, c)))).1
 
     mine : (s : ℕ) → shares s (put_stack w.stack q (after_close t k d fs) q) ≤ freed s t k + shares s (w.stack q)
-    mine s = let a : shares s (put_stack w.stack q (after_close t k d fs) q) ≡ shares s (after_close t k d fs) = ap (shares s) (stack_mine w.stack q (after_close t k d fs)) in let b : shares s (after_close t k d fs) ≡ freed s t k + shares_in s fs = (closed_shares s t k d fs).0 in let c : shares s (w.stack q) ≡ (0 + shares_in s fs) = ap (shares s) z in omega (arith, a, b, c)
+    mine s = let a : shares s (put_stack w.stack q (after_close t k d fs) q) ≡ shares s (after_close t k d fs) = ap (shares s) (stack_mine w.stack q (after_close t k d fs)) in let b : shares s (after_close t k d fs) ≡ freed s t k + shares_in s fs = (closed_shares s t k d fs).0 in
+        let c : shares s (w.stack q) ≡ (0 + shares_in s fs) = ap (shares s) z in omega (arith, a, b, c)
 
     line : (s : ℕ) (b : Bool) → (s == t) ≡ b → shares s (put_stack w.stack q (after_close t k d fs) q) + with_job (if b then at_job (w.job t) (Over d) else w.job s) ≤ shares s (w.stack q) + with_job (w.job s)
-    line s true e = let a : shares s (put_stack w.stack q (after_close t k d fs) q) ≤ freed s t k + shares s (w.stack q) = mine s in let b : with_job (at_job (w.job t) (Over d)) ≡ 0 = and_none (is_detached (w.job t).kind) in let c : freed s t k ≤ with_job (w.job s) = freed_had w q s t k e (top_says w q (Run t k) fs (h.calls) z) running in omega (arith, a, b, c)
+    line s true e = let a : shares s (put_stack w.stack q (after_close t k d fs) q) ≤ freed s t k + shares s (w.stack q) = mine s in let b : with_job (at_job (w.job t) (Over d)) ≡ 0 = and_none (is_detached (w.job t).kind) in let c : freed s t k ≤ with_job (w.job s) =
+        freed_had w q s t k e (top_says w q (Run t k) fs (h.calls) z) running in omega (arith, a, b, c)
     line s false e = let a : shares s (put_stack w.stack q (after_close t k d fs) q) ≤ freed s t k + shares s (w.stack q) = mine s in let b : freed s t k ≡ 0 = freed_none s t k e in omega (arith, a, b)
 
     raised : (s : ℕ) (r : Party) (b : Bool) → same_party r q ≡ b → all_raises s (put_stack w.stack q (after_close t k d fs) r) + one (w.job s).counted ≤ 1
-    raised s r true e = subst (λ r. all_raises s (put_stack w.stack q (after_close t k d fs) r) + one (w.job s).counted ≤ 1) (sym (same_party_true r q e)) (let a : all_raises s (put_stack w.stack q (after_close t k d fs) q) ≡ all_raises s (after_close t k d fs) = ap (all_raises s) (stack_mine w.stack q (after_close t k d fs)) in let b : all_raises s (after_close t k d fs) ≡ raises_in s fs = (closed_shares s t k d fs).2 in let c : all_raises s (w.stack q) ≡ (0 + raises_in s fs) = ap (all_raises s) z in let f : all_raises s (w.stack q) + one (w.job s).counted ≤ 1 = h.unraised q s in omega (arith, a, b, c, f))
+    raised s r true e = subst (λ r. all_raises s (put_stack w.stack q (after_close t k d fs) r) + one (w.job s).counted ≤ 1) (sym (same_party_true r q e))
+        (let a : all_raises s (put_stack w.stack q (after_close t k d fs) q) ≡ all_raises s (after_close t k d fs) = ap (all_raises s) (stack_mine w.stack q (after_close t k d fs)) in let b : all_raises s (after_close t k d fs) ≡ raises_in s fs = (closed_shares s t k d fs).2 in
+        let c : all_raises s (w.stack q) ≡ (0 + raises_in s fs) = ap (all_raises s) z in let f : all_raises s (w.stack q) + one (w.job s).counted ≤ 1 = h.unraised q s in omega (arith, a, b, c, f))
     raised s r false e = let a : all_raises s (put_stack w.stack q (after_close t k d fs) r) ≤ all_raises s (w.stack r) = other_le (all_raises s) w q (after_close t k d fs) r e in let f : all_raises s (w.stack r) + one (w.job s).counted ≤ 1 = h.unraised r s in omega (arith, a, f)
 end_shares w q d _ fs z h = tt
 
 -- a call begins: its jobs are new, and have no share yet
-begun_shares : (w : World) (q : Party) (n : Plan) (C : ℕ → Call) (J : ℕ → Job) (c j : ℕ) (l : List Scope) → ((t : ℕ) → 1 ≤ raises t (RaiseCount n) → w.jobs ≤ t) → ((t : ℕ) → raises t (RaiseCount n) ≤ 1) → w.jobs ≤ j → ((t : ℕ) → (J t).counted ≡ (w.job t).counted) → ((p : ℕ) → sum_below j (λ t. tally p (J t)) ≡ sum_below w.jobs (λ t. tally p (w.job t))) → ((t : ℕ) → with_job (J t) ≤ with_job (w.job t)) → SharesHold w → CallsHold (record (calling w q n C J c j) { scopes = l }) → SharesHold (record (calling w q n C J c j) { scopes = l })
+begun_shares : (w : World) (q : Party) (n : Plan) (C : ℕ → Call) (J : ℕ → Job) (c j : ℕ) (l : List Scope) → ((t : ℕ) → 1 ≤ raises t (RaiseCount n) → w.jobs ≤ t) → ((t : ℕ) → raises t (RaiseCount n) ≤ 1) → w.jobs ≤ j → ((t : ℕ) → (J t).counted ≡ (w.job t).counted)
+    → ((p : ℕ) → sum_below j (λ t. tally p (J t)) ≡ sum_below w.jobs (λ t. tally p (w.job t))) → ((t : ℕ) → with_job (J t) ≤ with_job (w.job t)) → SharesHold w → CallsHold (record (calling w q n C J c j) { scopes = l }) → SharesHold (record (calling w q n C J c j) { scopes = l })
 begun_shares w q n C J c j l new most more co su wi h ch = still_hold w (record (calling w q n C J c j) { scopes = l }) q (after_call (w.stack q) (RaiseCount n)) ch (λ s. refl) more co (λ p. refl) su (λ p. refl)
     (λ t. (let a : shares t (put_stack w.stack q (after_call (w.stack q) (RaiseCount n)) q) ≡ (0 + shares t (w.stack q)) = above (share t) (shares_in t) (shares t) w q (RaiseCount n) (λ k. refl) (λ y ys. refl) in let b : with_job (J t) ≤ with_job (w.job t) = wi t in omega (arith, a, b)))
     (λ p. (let a : all_values p (put_stack w.stack q (after_call (w.stack q) (RaiseCount n)) q) ≡ (0 + all_values p (w.stack q)) = above (values p) (values_in p) (all_values p) w q (RaiseCount n) (λ k. refl) (λ y ys. refl) in omega (arith, a)))
@@ -143,7 +168,8 @@ begun_shares w q n C J c j l new most more co su wi h ch = still_hold w (record 
         let f : all_raises t (w.stack s) + one (w.job t).counted ≤ 1 = h.unraised s t in omega (arith, a, e, f)
 
 -- one that makes no broadcast
-made_shares : (w : World) (q : Party) (n : Plan) (C : ℕ → Call) (J : ℕ → Job) (c j : ℕ) (l : List Scope) → ((t : ℕ) → waiting t n ≡ 0) → w.jobs ≤ plan_job n → w.jobs ≤ j → ((t : ℕ) → (J t).counted ≡ (w.job t).counted) → ((p : ℕ) → sum_below j (λ t. tally p (J t)) ≡ sum_below w.jobs (λ t. tally p (w.job t))) → ((t : ℕ) → with_job (J t) ≤ with_job (w.job t)) → SharesHold w → CallsHold (record (calling w q n C J c j) { scopes = l }) → SharesHold (record (calling w q n C J c j) { scopes = l })
+made_shares : (w : World) (q : Party) (n : Plan) (C : ℕ → Call) (J : ℕ → Job) (c j : ℕ) (l : List Scope) → ((t : ℕ) → waiting t n ≡ 0) → w.jobs ≤ plan_job n → w.jobs ≤ j → ((t : ℕ) → (J t).counted ≡ (w.job t).counted)
+    → ((p : ℕ) → sum_below j (λ t. tally p (J t)) ≡ sum_below w.jobs (λ t. tally p (w.job t))) → ((t : ℕ) → with_job (J t) ≤ with_job (w.job t)) → SharesHold w → CallsHold (record (calling w q n C J c j) { scopes = l }) → SharesHold (record (calling w q n C J c j) { scopes = l })
 made_shares w q n C J c j l none new more co su wi h ch = begun_shares w q n C J c j l (λ t m. at t (t == plan_job n) refl m) (λ t. (let a : one (t == plan_job n) ≤ 1 = one_most (t == plan_job n) in let b : waiting t n ≡ 0 = none t in omega (arith, a, b))) more co su wi h ch
   where
     at : (t : ℕ) (b : Bool) → (t == plan_job n) ≡ b → 1 ≤ one (t == plan_job n) + waiting t n → w.jobs ≤ t
@@ -153,13 +179,15 @@ made_shares w q n C J c j l none new more co su wi h ch = begun_shares w q n C J
 new_with : (q : Party) (p : ℕ) (k : JobKind) (n : ℕ) → with_job (new_job q p k) ≤ n
 new_with q p k n = let a : with_job (new_job q p k) ≡ 0 = and_none (is_detached k) in omega (arith, a)
 
-one_made : (w : World) (q : Party) (p : ℕ) (k : JobKind) → SharesHold w → ((t : ℕ) → (put w.job w.jobs (new_job q p k) t).counted ≡ (w.job t).counted) × ((t : ℕ) → with_job (put w.job w.jobs (new_job q p k) t) ≤ with_job (w.job t)) × ((r : ℕ) → sum_below (w.jobs + 1) (λ t. tally r (put w.job w.jobs (new_job q p k) t)) ≡ sum_below w.jobs (λ t. tally r (w.job t)))
+one_made : (w : World) (q : Party) (p : ℕ) (k : JobKind) → SharesHold w → ((t : ℕ) → (put w.job w.jobs (new_job q p k) t).counted ≡ (w.job t).counted) × ((t : ℕ) → with_job (put w.job w.jobs (new_job q p k) t) ≤ with_job (w.job t))
+    × ((r : ℕ) → sum_below (w.jobs + 1) (λ t. tally r (put w.job w.jobs (new_job q p k) t)) ≡ sum_below w.jobs (λ t. tally r (w.job t)))
 one_made w q p k h = (
   λ t. put_same (λ j. j.counted) w.job w.jobs (new_job q p k) t (sym (h.unmade w.jobs (omega arith))),
   λ t. with_it t (t == w.jobs),
   λ r.
       (let a : sum_below (w.jobs + 1) (λ t. tally r (put w.job w.jobs (new_job q p k) t)) ≡ sum_below w.jobs (λ t. tally r (put w.job w.jobs (new_job q p k) t)) = sum_more w.jobs (λ t. tally r (put w.job w.jobs (new_job q p k) t)) (ap (λ j. tally r j) (put_new w.job w.jobs (new_job q p k))) in
-      let b : sum_below w.jobs (λ t. tally r (put w.job w.jobs (new_job q p k) t)) ≡ sum_below w.jobs (λ t. tally r (w.job t)) = sum_same w.jobs (λ t. tally r (put w.job w.jobs (new_job q p k) t)) (λ t. tally r (w.job t)) (λ t z. ap (λ j. tally r j) (put_old w.job w.jobs (new_job q p k) t (below_new t w.jobs z))) in omega (arith, a, b)),
+      let b : sum_below w.jobs (λ t. tally r (put w.job w.jobs (new_job q p k) t)) ≡ sum_below w.jobs (λ t. tally r (w.job t)) =
+      sum_same w.jobs (λ t. tally r (put w.job w.jobs (new_job q p k) t)) (λ t. tally r (w.job t)) (λ t z. ap (λ j. tally r j) (put_old w.job w.jobs (new_job q p k) t (below_new t w.jobs z))) in omega (arith, a, b)),
 )
   where
     with_it : (t : ℕ) (b : Bool) → with_job (if b then new_job q p k else w.job t) ≤ with_job (w.job t)
@@ -167,17 +195,23 @@ one_made w q p k h = (
     with_it t false = omega arith
 
 spawn_shares : (w : World) (q : Party) (p : ℕ) → SharesHold w → IfSome (after_spawn w q p (w.stack q)) (λ u. CallsHold u → SharesHold u)
-spawn_shares w q p h = if_cond (λ u. CallsHold u → SharesHold u) (is_free ((w.stack q).top) && is_pool w.shape p) _ (λ f ch. (let m = one_made w q p (Detached p) h in made_shares w q (Detach p w.jobs) w.call (put w.job w.jobs (new_job q p (Detached p))) w.calls (w.jobs + 1) w.scopes (λ t. refl) (omega arith) (omega arith) (m.0) (m.2) (m.1) h ch))
+spawn_shares w q p h = if_cond (λ u. CallsHold u → SharesHold u) (is_free ((w.stack q).top) && is_pool w.shape p) _
+    (λ f ch. (let m = one_made w q p (Detached p) h in made_shares w q (Detach p w.jobs) w.call (put w.job w.jobs (new_job q p (Detached p))) w.calls (w.jobs + 1) w.scopes (λ t. refl) (omega arith) (omega arith) (m.0) (m.2) (m.1) h ch))
 
 sent_shares : (w : World) (q : Party) (p : ℕ) (b : Bool) → SharesHold w → CallsHold (after_send w q p (w.stack q) b) → SharesHold (after_send w q p (w.stack q) b)
 sent_shares w q p true h ch = let m = one_made w q p Direct h in made_shares w q (Here p w.jobs) w.call (put w.job w.jobs (new_job q p Direct)) w.calls (w.jobs + 1) w.scopes (λ t. refl) (omega arith) (omega arith) (m.0) (m.2) (m.1) h ch
-sent_shares w q p false h ch = let m = one_made w q p (Stored w.calls q) h in made_shares w q (Send (record { number = w.calls; pool = p; job = w.jobs })) (put w.call w.calls (new_call None w.jobs)) (put w.job w.jobs (new_job q p (Stored w.calls q))) (w.calls + 1) (w.jobs + 1) w.scopes (λ t. refl) (omega arith) (omega arith) (m.0) (m.2) (m.1) h ch
+sent_shares w q p false h ch = let m = one_made w q p (Stored w.calls q) h in made_shares w q (Send (record { number = w.calls; pool = p; job = w.jobs })) (put w.call w.calls (new_call None w.jobs)) (put w.job w.jobs (new_job q p (Stored w.calls q))) (w.calls + 1) (w.jobs + 1) w.scopes
+    (λ t. refl) (omega arith) (omega arith) (m.0) (m.2) (m.1) h ch
 
 scope_shares : (w : World) (q : Party) (p : ℕ) → SharesHold w → IfSome (after_scope w q p (w.stack q)) (λ u. CallsHold u → SharesHold u)
-scope_shares w q p h = if_cond (λ u. CallsHold u → SharesHold u) (is_free ((w.stack q).top) && is_pool w.shape p) _ (λ f ch. (let m = one_made w q p (BodyOf w.calls q) h in made_shares w q (Open (record { number = w.calls; pool = p; job = w.jobs })) (put w.call w.calls (new_call None w.jobs)) (put w.job w.jobs (new_job q p (BodyOf w.calls q))) (w.calls + 1) (w.jobs + 1) (w.scopes ++ record { call = w.calls; pool = p; owner = q } ∷ []) (λ t. refl) (omega arith) (omega arith) (m.0) (m.2) (m.1) h ch))
+scope_shares w q p h = if_cond (λ u. CallsHold u → SharesHold u) (is_free ((w.stack q).top) && is_pool w.shape p) _
+    (λ f ch. (let m = one_made w q p (BodyOf w.calls q) h in made_shares w q (Open (record { number = w.calls; pool = p; job = w.jobs })) (put w.call w.calls (new_call None w.jobs)) (put w.job w.jobs (new_job q p (BodyOf w.calls q))) (w.calls + 1) (w.jobs + 1)
+    (w.scopes ++ record { call = w.calls; pool = p; owner = q } ∷ []) (λ t. refl) (omega arith) (omega arith) (m.0) (m.2) (m.1) h ch))
 
 enter_shares : (w : World) (q : Party) (z : Scope) → SharesHold w → IfSome (after_enter w q (w.stack q) (Some z)) (λ u. CallsHold u → SharesHold u)
-enter_shares w q z h = if_cond (λ u. CallsHold u → SharesHold u) (is_free ((w.stack q).top) && holds z.call (w.stack q)) _ (λ f ch. (let m = one_made w q (z.pool) (Scoped z.call z.owner) h in made_shares w q (Enter (record { call = z.call; owner = z.owner; pool = z.pool; job = w.jobs })) w.call (put w.job w.jobs (new_job q z.pool (Scoped z.call z.owner))) w.calls (w.jobs + 1) w.scopes (λ t. refl) (omega arith) (omega arith) (m.0) (m.2) (m.1) h ch))
+enter_shares w q z h = if_cond (λ u. CallsHold u → SharesHold u) (is_free ((w.stack q).top) && holds z.call (w.stack q)) _
+    (λ f ch. (let m = one_made w q (z.pool) (Scoped z.call z.owner) h in made_shares w q (Enter (record { call = z.call; owner = z.owner; pool = z.pool; job = w.jobs })) w.call (put w.job w.jobs (new_job q z.pool (Scoped z.call z.owner))) w.calls (w.jobs + 1) w.scopes (λ t. refl) (omega arith)
+    (omega arith) (m.0) (m.2) (m.1) h ch))
 
 into_shares : (w : World) (q : Party) (n : ℕ) → SharesHold w → IfSome (after_into w q n (w.stack q)) (λ u. CallsHold u → SharesHold u)
 into_shares w q n h = into_cases (λ u. CallsHold u → SharesHold u) w q n (λ z e free held. enter_shares w q z h)
@@ -186,7 +220,8 @@ install_shares : (w : World) (q : Party) (p : ℕ) → SharesHold w → IfSome (
 install_shares w q p h = if_cond (λ u. CallsHold u → SharesHold u) (is_free ((w.stack q).top) && is_pool w.shape p) _ (λ f ch. sent_shares w q p (is_member q p) h ch)
 
 -- the shares where two jobs are new
-two_made : (w : World) (q : Party) (p : ℕ) (d k : JobKind) → SharesHold w → ((t : ℕ) → (put (put w.job w.jobs (new_job q p d)) (w.jobs + 1) (new_job q p k) t).counted ≡ (w.job t).counted) × ((t : ℕ) → with_job (put (put w.job w.jobs (new_job q p d)) (w.jobs + 1) (new_job q p k) t) ≤ with_job (w.job t)) × ((r : ℕ) → sum_below (w.jobs + 2) (λ t. tally r (put (put w.job w.jobs (new_job q p d)) (w.jobs + 1) (new_job q p k) t)) ≡ sum_below w.jobs (λ t. tally r (w.job t)))
+two_made : (w : World) (q : Party) (p : ℕ) (d k : JobKind) → SharesHold w → ((t : ℕ) → (put (put w.job w.jobs (new_job q p d)) (w.jobs + 1) (new_job q p k) t).counted ≡ (w.job t).counted)
+    × ((t : ℕ) → with_job (put (put w.job w.jobs (new_job q p d)) (w.jobs + 1) (new_job q p k) t) ≤ with_job (w.job t)) × ((r : ℕ) → sum_below (w.jobs + 2) (λ t. tally r (put (put w.job w.jobs (new_job q p d)) (w.jobs + 1) (new_job q p k) t)) ≡ sum_below w.jobs (λ t. tally r (w.job t)))
 two_made w q p d k h = (counted, withs, sums)
   where
     J1 : ℕ → Job
@@ -216,10 +251,13 @@ two_made w q p d k h = (counted, withs, sums)
 
 join_shares : (w : World) (q : Party) → SharesHold w → IfSome (after_join w q (w.stack q)) (λ u. CallsHold u → SharesHold u)
 join_shares w (Caller n) h = tt
-join_shares w (Worker p i) h = if_cond (λ u. CallsHold u → SharesHold u) (is_free ((w.stack (Worker p i)).top)) _ (λ f ch. (let m = two_made w (Worker p i) p Direct (Stored w.calls (Worker p i)) h in made_shares w (Worker p i) (Fork (record { number = w.calls; pool = p; job = w.jobs + 1 }) w.jobs) (put w.call w.calls (new_call (Some w.jobs) (w.jobs + 1))) (put (put w.job w.jobs (new_job (Worker p i) p Direct)) (w.jobs + 1) (new_job (Worker p i) p (Stored w.calls (Worker p i)))) (w.calls + 1) (w.jobs + 2) w.scopes (λ t. refl) (omega arith) (omega arith) (m.0) (m.2) (m.1) h ch))
+join_shares w (Worker p i) h = if_cond (λ u. CallsHold u → SharesHold u) (is_free ((w.stack (Worker p i)).top)) _
+    (λ f ch. (let m = two_made w (Worker p i) p Direct (Stored w.calls (Worker p i)) h in made_shares w (Worker p i) (Fork (record { number = w.calls; pool = p; job = w.jobs + 1 }) w.jobs) (put w.call w.calls (new_call (Some w.jobs) (w.jobs + 1)))
+    (put (put w.job w.jobs (new_job (Worker p i) p Direct)) (w.jobs + 1) (new_job (Worker p i) p (Stored w.calls (Worker p i)))) (w.calls + 1) (w.jobs + 2) w.scopes (λ t. refl) (omega arith) (omega arith) (m.0) (m.2) (m.1) h ch))
 
 feed_shares : (w : World) (k : Count) (p i : ℕ) → SharesHold w → CallsHold (after_feed w k p i (w.stack (Worker p i))) → SharesHold (after_feed w k p i (w.stack (Worker p i)))
-feed_shares w k p i h ch = let m = two_made w (Worker p i) p (count_kind k) (TokenOf i (count_book k)) h in made_shares w (Worker p i) (Feed (record { count = k; pool = p; job = w.jobs; token = w.jobs + 1 })) w.call (put (put w.job w.jobs (new_job (Worker p i) p (count_kind k))) (w.jobs + 1) (new_job (Worker p i) p (TokenOf i (count_book k)))) w.calls (w.jobs + 2) w.scopes (λ t. refl) (omega arith) (omega arith) (m.0) (m.2) (m.1) h ch
+feed_shares w k p i h ch = let m = two_made w (Worker p i) p (count_kind k) (TokenOf i (count_book k)) h in made_shares w (Worker p i) (Feed (record { count = k; pool = p; job = w.jobs; token = w.jobs + 1 })) w.call
+    (put (put w.job w.jobs (new_job (Worker p i) p (count_kind k))) (w.jobs + 1) (new_job (Worker p i) p (TokenOf i (count_book k)))) w.calls (w.jobs + 2) w.scopes (λ t. refl) (omega arith) (omega arith) (m.0) (m.2) (m.1) h ch
 
 fifo_shares : (w : World) (q : Party) (p : ℕ) → SharesHold w → IfSome (after_fifo w q p (w.stack q)) (λ u. CallsHold u → SharesHold u)
 fifo_shares w q p h = fifo_cases (λ u. CallsHold u → SharesHold u) w q p (spawn_shares w q p h) (λ i free ch. feed_shares w (OfPool p) p i h ch)
@@ -245,7 +283,8 @@ pieces_uncounted w q c l h t = by (is_piece c t) refl
 -- a broadcast begins
 deal_shares : (w : World) (q : Party) (d : Count) (p : ℕ) → SharesHold w → CallsHold (after_deal w q d p (w.stack q)) → SharesHold (after_deal w q d p (w.stack q))
 deal_shares w q d p h ch = still_hold w u q (after_call (w.stack q) (RaiseForAll c)) ch (λ s. refl) (omega arith) (pieces_uncounted w q c (omega arith) h) (λ r. refl) sums (λ r. refl)
-    (λ t. (let a : shares t (put_stack w.stack q (after_call (w.stack q) (RaiseForAll c)) q) ≡ (0 + shares t (w.stack q)) = above (share t) (shares_in t) (shares t) w q (RaiseForAll c) (λ k. refl) (λ y ys. refl) in let b : with_job (J t) ≤ with_job (w.job t) = pieces_idle q c w.job t in omega (arith, a, b)))
+    (λ t. (let a : shares t (put_stack w.stack q (after_call (w.stack q) (RaiseForAll c)) q) ≡ (0 + shares t (w.stack q)) = above (share t) (shares_in t) (shares t) w q (RaiseForAll c) (λ k. refl) (λ y ys. refl) in let b : with_job (J t) ≤ with_job (w.job t) = pieces_idle q c w.job t in
+    omega (arith, a, b)))
     (λ r. (let a : all_values r (put_stack w.stack q (after_call (w.stack q) (RaiseForAll c)) q) ≡ (0 + all_values r (w.stack q)) = above (values r) (values_in r) (all_values r) w q (RaiseForAll c) (λ k. refl) (λ y ys. refl) in omega (arith, a)))
     (λ t s. raised t s (is_piece c t) refl) h
   where
@@ -259,7 +298,8 @@ deal_shares w q d p h ch = still_hold w u q (after_call (w.stack q) (RaiseForAll
     u = after_deal w q d p (w.stack q)
 
     sums : (r : ℕ) → sum_below (w.jobs + c.workers) (λ t. tally r (J t)) ≡ sum_below w.jobs (λ t. tally r (w.job t))
-    sums r = sum_tail w.jobs c.workers (λ t. tally r (J t)) (λ t y. tally_off r (J t) (pieces_uncounted w q c (omega arith) h t ∙ h.unmade t y)) ∙ sum_same w.jobs (λ t. tally r (J t)) (λ t. tally r (w.job t)) (λ t y. ap (tally r) (piece_old c (λ i j. new_piece q d p i) w.job t (piece_out c t (omega (arith, y)))))
+    sums r = sum_tail w.jobs c.workers (λ t. tally r (J t)) (λ t y. tally_off r (J t) (pieces_uncounted w q c (omega arith) h t ∙ h.unmade t y))
+        ∙ sum_same w.jobs (λ t. tally r (J t)) (λ t. tally r (w.job t)) (λ t y. ap (tally r) (piece_old c (λ i j. new_piece q d p i) w.job t (piece_out c t (omega (arith, y)))))
 
     raised : (t : ℕ) (s : Party) (b : Bool) → is_piece c t ≡ b → all_raises t (put_stack w.stack q (after_call (w.stack q) (RaiseForAll c)) s) + one (w.job t).counted ≤ 1
     raised t s true e = let b : w.jobs ≤ t = (piece_range c t e).0 in
@@ -278,7 +318,8 @@ into_cast_shares w q n h = into_cast_cases (λ u. CallsHold u → SharesHold u) 
 
 -- one that waits, with the number that stands for it
 gather_shares : (w : World) (q : Party) (p : ℕ) → SharesHold w → IfSome (after_broadcast w q p (w.stack q)) (λ u. CallsHold u → SharesHold u)
-gather_shares w q p h = if_cond (λ u. CallsHold u → SharesHold u) (is_free ((w.stack q).top) && is_pool w.shape p) _ (λ f ch. begun_shares w q n (put w.call w.calls (new_gathering c.workers t0)) J (w.calls + 1) (t0 + 1) w.scopes (λ t m. new t (is_piece c t) (t == t0) refl refl m) (λ t. most t (is_piece c t) (t == t0) refl refl) (omega arith) counted sums idle h ch)
+gather_shares w q p h = if_cond (λ u. CallsHold u → SharesHold u) (is_free ((w.stack q).top) && is_pool w.shape p) _
+    (λ f ch. begun_shares w q n (put w.call w.calls (new_gathering c.workers t0)) J (w.calls + 1) (t0 + 1) w.scopes (λ t m. new t (is_piece c t) (t == t0) refl refl m) (λ t. most t (is_piece c t) (t == t0) refl refl) (omega arith) counted sums idle h ch)
   where
     c : Pieces
     c = record { count = OfCast w.calls q; pool = p; first = w.jobs; workers = (w.shape.pool p).workers }
@@ -355,7 +396,8 @@ first_amounts h t (Caller n) = at (nat_lt n h.callers)
     at false = (refl, refl, refl)
 first_amounts h t (Worker p i) = at (nat_lt i (h.pool p).workers) ((h.pool p).callers_own && (i == 0))
   where
-    at : (y z : Bool) → (share t (if y then (if z then Free else ProbeWorking (fresh Termination)) else Stopped) ≡ 0) × (values t (if y then (if z then Free else ProbeWorking (fresh Termination)) else Stopped) ≡ 0) × (raises t (if y then (if z then Free else ProbeWorking (fresh Termination)) else Stopped) ≡ 0)
+    at : (y z : Bool) → (share t (if y then (if z then Free else ProbeWorking (fresh Termination)) else Stopped) ≡ 0) × (values t (if y then (if z then Free else ProbeWorking (fresh Termination)) else Stopped) ≡ 0)
+        × (raises t (if y then (if z then Free else ProbeWorking (fresh Termination)) else Stopped) ≡ 0)
     at true true = (refl, refl, refl)
     at true false = (refl, refl, refl)
     at false z = (refl, refl, refl)
@@ -364,7 +406,10 @@ pub first_shares : (h : Shape) → SharesHold (start h)
 first_shares h = record {
   calls = first_calls h;
   jobs = λ t. record { alone = λ q. (let a : share t (first_place h q) ≡ 0 = (first_amounts h t q).0 in omega (arith, a)); apart = λ q r z. (let a : share t (first_place h q) ≡ 0 = (first_amounts h t q).0 in let b : share t (first_place h r) ≡ 0 = (first_amounts h t r).0 in omega (arith, a, b)) };
-  values = λ p. record { alone = λ q. (let a : values p (first_place h q) ≡ 0 = (first_amounts h p q).1 in omega (arith, a)); apart = λ q r z. (let a : values p (first_place h q) ≡ 0 = (first_amounts h p q).1 in let b : values p (first_place h r) ≡ 0 = (first_amounts h p r).1 in omega (arith, a, b)) };
+  values = λ p. record {
+    alone = λ q. (let a : values p (first_place h q) ≡ 0 = (first_amounts h p q).1 in omega (arith, a));
+    apart = λ q r z. (let a : values p (first_place h q) ≡ 0 = (first_amounts h p q).1 in let b : values p (first_place h r) ≡ 0 = (first_amounts h p r).1 in omega (arith, a, b));
+  };
   unraised = λ q t. (let a : raises t (first_place h q) ≡ 0 = (first_amounts h t q).2 in omega (arith, a));
   unmade = λ t b. refl;
   sums = λ p. omega arith;
@@ -405,7 +450,11 @@ gone w p h z scoped = record {
 
     idle : (t : ℕ) → (w.job t).kind ≡ Detached p → (b : Bool) → is_busy (w.job t).at ≡ b → b ≡ false
     idle t e false y = refl
-    idle t e true y = absurd (let m : t + 1 ≤ w.jobs = elim (either (ltb t w.jobs)) [ inl g ↦ (let b : t < w.jobs = ltb-true t w.jobs g in omega (arith, b)) | inr g ↦ absurd (let n : (w.job t).at ≡ Nowhere = ((h.calls).jobs).unmade t (ltb-false t w.jobs g) in let k : is_busy (w.job t).at ≡ false = ap is_busy n in cc) ] in
+    idle t e true y = absurd (let m : t + 1 ≤ w.jobs = elim (either (ltb t w.jobs)) [
+      | inl g ↦ (let b : t < w.jobs = ltb-true t w.jobs g in omega (arith, b))
+      | inr g ↦ absurd
+          (let n : (w.job t).at ≡ Nowhere = ((h.calls).jobs).unmade t (ltb-false t w.jobs g) in let k : is_busy (w.job t).at ≡ false = ap is_busy n in cc)
+    ] in
         let c : (w.job t).counted ≡ false = job t ((h.calls).pools t m p e) in
         let a : shares t (w.stack (Caller 0)) + with_job (w.job t) ≤ one (w.job t).counted = (h.jobs t).alone (Caller 0) in
         let b : with_job (w.job t) ≡ 1 = ap (λ k. one (is_detached k && is_busy (w.job t).at)) e ∙ ap one y in

@@ -58,7 +58,8 @@ regain w q (TakeFromFifo f) fs (Task y, m) g t b = by (t == taken_number y) refl
         none false = refl
 
     by : (z : Bool) → (t == taken_number y) ≡ z → with_job (put w.job n0 m.job t) + one (t == taken_number y) ≤ with_job (w.job t) + 0
-    by true e = let i : t ≡ taken_number y = eqb-true t (taken_number y) e in let a : with_job (put w.job n0 m.job t) ≡ 0 = ap (λ n. with_job (put w.job n0 m.job n)) i ∙ idle in let c : with_job (w.job t) ≡ 1 = ap (λ n. with_job (w.job n)) i ∙ g.1 in let d : one (t == taken_number y) ≡ 1 = ap one e in omega (arith, a, c, d)
+    by true e = let i : t ≡ taken_number y = eqb-true t (taken_number y) e in let a : with_job (put w.job n0 m.job t) ≡ 0 = ap (λ n. with_job (put w.job n0 m.job n)) i ∙ idle in let c : with_job (w.job t) ≡ 1 = ap (λ n. with_job (w.job n)) i ∙ g.1 in let d : one (t == taken_number y) ≡ 1 =
+        ap one e in omega (arith, a, c, d)
     by false e = let d : one (t == taken_number y) ≡ 0 = ap one e in omega (arith, b, d)
 regain w q x fs r g t b = omega (arith, b)
 
@@ -77,25 +78,34 @@ deal_dealt t g q b Done = omega arith
 deal_dealt t g q b _ = omega arith
 
 act_deals : (w : World) (q : Party) (x : Place) → IfSome (effect (act_of q x) w.shape q (counts_at w (target_pool q (act_of q x))) (place_part w q x)) (λ r. (t : ℕ) → dealt t (next_of (w.shape.pool (target_pool q (act_of q x))) q x (r.0)) ≤ pushed t x (r.0))
-act_deals w q (PushForAll c) = if_some_all {A = Seen × Part} (λ r. (t : ℕ) → dealt t (next_of (w.shape.pool (target_pool q (act_of q (PushForAll c)))) q (PushForAll c) (r.0)) ≤ pushed t (PushForAll c) (r.0)) (λ r t. push_dealt t (w.shape.pool (target_pool q (act_of q (PushForAll c)))) q c (r.0)) (effect (act_of q (PushForAll c)) w.shape q (counts_at w (target_pool q (act_of q (PushForAll c)))) (place_part w q (PushForAll c)))
-act_deals w q (DealPieces b) = if_some_all {A = Seen × Part} (λ r. (t : ℕ) → dealt t (next_of (w.shape.pool (target_pool q (act_of q (DealPieces b)))) q (DealPieces b) (r.0)) ≤ pushed t (DealPieces b) (r.0)) (λ r t. deal_dealt t (w.shape.pool (target_pool q (act_of q (DealPieces b)))) q b (r.0)) (effect (act_of q (DealPieces b)) w.shape q (counts_at w (target_pool q (act_of q (DealPieces b)))) (place_part w q (DealPieces b)))
-act_deals w q x = if_some_map (λ r. is_dealing (next_of (w.shape.pool (target_pool q (act_of q x))) q x (r.0)) ≡ false) (λ r. (t : ℕ) → dealt t (next_of (w.shape.pool (target_pool q (act_of q x))) q x (r.0)) ≤ pushed t x (r.0)) (λ r z t. (let a : dealt t (next_of (w.shape.pool (target_pool q (act_of q x))) q x (r.0)) ≡ 0 = none_dealt t (next_of (w.shape.pool (target_pool q (act_of q x))) q x (r.0)) z in omega (arith, a))) _ (no_deals w.shape (w.shape.pool (target_pool q (act_of q x))) q (counts_at w (target_pool q (act_of q x))) (place_part w q x) x refl)
+act_deals w q (PushForAll c) = if_some_all {A = Seen × Part} (λ r. (t : ℕ) → dealt t (next_of (w.shape.pool (target_pool q (act_of q (PushForAll c)))) q (PushForAll c) (r.0)) ≤ pushed t (PushForAll c) (r.0))
+    (λ r t. push_dealt t (w.shape.pool (target_pool q (act_of q (PushForAll c)))) q c (r.0)) (effect (act_of q (PushForAll c)) w.shape q (counts_at w (target_pool q (act_of q (PushForAll c)))) (place_part w q (PushForAll c)))
+act_deals w q (DealPieces b) = if_some_all {A = Seen × Part} (λ r. (t : ℕ) → dealt t (next_of (w.shape.pool (target_pool q (act_of q (DealPieces b)))) q (DealPieces b) (r.0)) ≤ pushed t (DealPieces b) (r.0))
+    (λ r t. deal_dealt t (w.shape.pool (target_pool q (act_of q (DealPieces b)))) q b (r.0)) (effect (act_of q (DealPieces b)) w.shape q (counts_at w (target_pool q (act_of q (DealPieces b)))) (place_part w q (DealPieces b)))
+act_deals w q x = if_some_map (λ r. is_dealing (next_of (w.shape.pool (target_pool q (act_of q x))) q x (r.0)) ≡ false) (λ r. (t : ℕ) → dealt t (next_of (w.shape.pool (target_pool q (act_of q x))) q x (r.0)) ≤ pushed t x (r.0))
+    (λ r z t. (let a : dealt t (next_of (w.shape.pool (target_pool q (act_of q x))) q x (r.0)) ≡ 0 = none_dealt t (next_of (w.shape.pool (target_pool q (act_of q x))) q x (r.0)) z in omega (arith, a))) _
+    (no_deals w.shape (w.shape.pool (target_pool q (act_of q x))) q (counts_at w (target_pool q (act_of q x))) (place_part w q x) x refl)
 
 -- what an act deals, and that it hands nothing back itself
 abbrev DealsLess : World → Party → Place → Seen × Part → Type 0
 DealsLess w q x r = ((t : ℕ) → dealt t (next_of (w.shape.pool (target_pool q (act_of q x))) q x (r.0)) ≤ pushed t x (r.0)) × Unlost (place_part w q x) r
 
 deals_less : (w : World) (q : Party) (x : Place) → IfSome (effect (act_of q x) w.shape q (counts_at w (target_pool q (act_of q x))) (place_part w q x)) (DealsLess w q x)
-deals_less w q x = if_some_and (λ r. (t : ℕ) → dealt t (next_of (w.shape.pool (target_pool q (act_of q x))) q x (r.0)) ≤ pushed t x (r.0)) (Unlost (place_part w q x)) (effect (act_of q x) w.shape q (counts_at w (target_pool q (act_of q x))) (place_part w q x)) (act_deals w q x) (act_unlost w.shape q (counts_at w (target_pool q (act_of q x))) (place_part w q x) x)
+deals_less w q x = if_some_and (λ r. (t : ℕ) → dealt t (next_of (w.shape.pool (target_pool q (act_of q x))) q x (r.0)) ≤ pushed t x (r.0)) (Unlost (place_part w q x)) (effect (act_of q x) w.shape q (counts_at w (target_pool q (act_of q x))) (place_part w q x)) (act_deals w q x)
+    (act_unlost w.shape q (counts_at w (target_pool q (act_of q x))) (place_part w q x) x)
 
 pub ready : (w : World) (q : Party) → SharesHold w → IfSome (outcome w q (w.stack q)) (λ r. Ready w q ((w.stack q).top) ((w.stack q).below) r)
 ready w q h =
     let k = w.stack q in let x = k.top in
-    if_some_map (λ r. (((Static (place_part w q x) r × Learned w.shape q (place_part w q x) x r) × (Written (place_part w q x) x r × Kept w (result w q k r))) × Stays (place_part w q x) x (job_at w q (act_of q x)) r) × ((((i : Option ℕ × ℕ) → Lines (place_part w q x) (i.0) (i.1) x r) × Regains w q x r) × DealsLess w q x r)) (λ r. Ready w q x (k.below) r)
-    (λ r g. (let f : ((Static (place_part w q x) r × Learned w.shape q (place_part w q x) x r) × (Written (place_part w q x) x r × Kept w (result w q k r))) × Stays (place_part w q x) x (job_at w q (act_of q x)) r = g.0 in let ch : CallsHold (world_after w q x (k.below) r) = act_calls w q x (k.below) r (h.calls) refl (((f.0).0).0) (((f.0).1).1) (((f.0).0).1) (((f.0).1).0) (λ v t. ((g.1).0).0 (v, t)) in
+    if_some_map (λ r. (((Static (place_part w q x) r × Learned w.shape q (place_part w q x) x r) × (Written (place_part w q x) x r × Kept w (result w q k r))) × Stays (place_part w q x) x (job_at w q (act_of q x)) r)
+    × ((((i : Option ℕ × ℕ) → Lines (place_part w q x) (i.0) (i.1) x r) × Regains w q x r) × DealsLess w q x r)) (λ r. Ready w q x (k.below) r)
+    (λ r g. (let f : ((Static (place_part w q x) r × Learned w.shape q (place_part w q x) x r) × (Written (place_part w q x) x r × Kept w (result w q k r))) × Stays (place_part w q x) x (job_at w q (act_of q x)) r = g.0 in
+    let ch : CallsHold (world_after w q x (k.below) r) = act_calls w q x (k.below) r (h.calls) refl (((f.0).0).0) (((f.0).1).1) (((f.0).0).1) (((f.0).1).0) (λ v t. ((g.1).0).0 (v, t)) in
     let la : Lasting w (world_after w q x (k.below) r) = lasting w q k (target_pool q (act_of q x)) (target_worker q (act_of q x)) (target_call (act_of q x)) (job_at w q (act_of q x)) r (((f.0).0).0) (((f.0).1).1) in
-    let sm : SaysMove (world_after w q x (k.below) r) q (next_of (w.shape.pool (target_pool q (act_of q x))) q x (r.0)) = says_next (world_after w q x (k.below) r) (w.shape.pool (target_pool q (act_of q x))) q x (r.0) (learns w q x (k.below) r (h.calls) refl (((f.0).1).1) la (((f.0).0).1)) (later_says w (world_after w q x (k.below) r) (la.later) q x (((h.calls).says q).top)) in
-    let starts : StartsAwaited w (next_of (w.shape.pool (target_pool q (act_of q x))) q x (r.0)) = starts_back w (world_after w q x (k.below) r) la (next_of (w.shape.pool (target_pool q (act_of q x))) q x (r.0)) (says_starts (world_after w q x (k.below) r) q (next_of (w.shape.pool (target_pool q (act_of q x))) q x (r.0)) sm) in
+    let sm : SaysMove (world_after w q x (k.below) r) q (next_of (w.shape.pool (target_pool q (act_of q x))) q x (r.0)) =
+    says_next (world_after w q x (k.below) r) (w.shape.pool (target_pool q (act_of q x))) q x (r.0) (learns w q x (k.below) r (h.calls) refl (((f.0).1).1) la (((f.0).0).1)) (later_says w (world_after w q x (k.below) r) (la.later) q x (((h.calls).says q).top)) in
+    let starts : StartsAwaited w (next_of (w.shape.pool (target_pool q (act_of q x))) q x (r.0)) = starts_back w (world_after w q x (k.below) r) la (next_of (w.shape.pool (target_pool q (act_of q x))) q x (r.0))
+    (says_starts (world_after w q x (k.below) r) q (next_of (w.shape.pool (target_pool q (act_of q x))) q x (r.0)) sm) in
     let busy : (t : ℕ) → with_job ((world_after w q x (k.below) r).job t) ≤ with_job (w.job t) + pushed t x (r.0) = busy_step w q x (k.below) r (((f.0).1).1) la starts (f.1) (((g.1).1).0) in
     record {
       hold = h;
@@ -110,7 +120,8 @@ ready w q h =
       held = λ p. put_same (λ v. v.held) w.pool (target_pool q (act_of q x)) (r.1.pool) p ((((f.0).0).0).held);
     }))
     (outcome w q k)
-    (if_some_and (λ r. ((Static (place_part w q x) r × Learned w.shape q (place_part w q x) x r) × (Written (place_part w q x) x r × Kept w (result w q k r))) × Stays (place_part w q x) x (job_at w q (act_of q x)) r) (λ r. (((i : Option ℕ × ℕ) → Lines (place_part w q x) (i.0) (i.1) x r) × Regains w q x r) × DealsLess w q x r) (outcome w q k)
+    (if_some_and (λ r. ((Static (place_part w q x) r × Learned w.shape q (place_part w q x) x r) × (Written (place_part w q x) x r × Kept w (result w q k r))) × Stays (place_part w q x) x (job_at w q (act_of q x)) r)
+    (λ r. (((i : Option ℕ × ℕ) → Lines (place_part w q x) (i.0) (i.1) x r) × Regains w q x r) × DealsLess w q x r) (outcome w q k)
     (if_some_and (λ r. (Static (place_part w q x) r × Learned w.shape q (place_part w q x) x r) × (Written (place_part w q x) x r × Kept w (result w q k r))) (Stays (place_part w q x) x (job_at w q (act_of q x))) (outcome w q k)
     (if_some_and (λ r. Static (place_part w q x) r × Learned w.shape q (place_part w q x) x r) (λ r. Written (place_part w q x) x r × Kept w (result w q k r)) (outcome w q k)
     (if_some_and (Static (place_part w q x)) (Learned w.shape q (place_part w q x) x) (outcome w q k) (act_static w.shape q (counts_at w (target_pool q (act_of q x))) (place_part w q x) x) (act_learned w.shape q (counts_at w (target_pool q (act_of q x))) (place_part w q x) x))
@@ -141,7 +152,9 @@ ready w q h =
     starts_back w u l (Discard k) s = ap is_detached (sym (l.kinds k)) ∙ s
 
 -- the acts that raise a count, done or refused
-raise_go : (w : World) (q : Party) (n : Plan) (fs : List Place) → ((r : Seen × Part) → Ready w q (RaiseCount n) fs r → Untallied (place_part w q (RaiseCount n)) r → is_sharing (next_of (w.shape.pool (target_pool q (act_of q (RaiseCount n)))) q (RaiseCount n) (r.0)) ≡ false → ((t : ℕ) → gained t (RaiseCount n) (r.0) ≡ 0) → SharesHold (world_after w q (RaiseCount n) fs r)) → (done : Seen × Part) → (Ready w q (RaiseCount n) fs done → SharesHold (world_after w q (RaiseCount n) fs done)) → (b : Bool) → IfSome (if b then Some (Refused, place_part w q (RaiseCount n)) else Some done) (Ready w q (RaiseCount n) fs) → IfSome (if b then Some (Refused, place_part w q (RaiseCount n)) else Some done) (λ r. SharesHold (world_after w q (RaiseCount n) fs r))
+raise_go : (w : World) (q : Party) (n : Plan) (fs : List Place) → ((r : Seen × Part) → Ready w q (RaiseCount n) fs r → Untallied (place_part w q (RaiseCount n)) r → is_sharing (next_of (w.shape.pool (target_pool q (act_of q (RaiseCount n)))) q (RaiseCount n) (r.0)) ≡ false
+    → ((t : ℕ) → gained t (RaiseCount n) (r.0) ≡ 0) → SharesHold (world_after w q (RaiseCount n) fs r)) → (done : Seen × Part) → (Ready w q (RaiseCount n) fs done → SharesHold (world_after w q (RaiseCount n) fs done)) → (b : Bool)
+    → IfSome (if b then Some (Refused, place_part w q (RaiseCount n)) else Some done) (Ready w q (RaiseCount n) fs) → IfSome (if b then Some (Refused, place_part w q (RaiseCount n)) else Some done) (λ r. SharesHold (world_after w q (RaiseCount n) fs r))
 raise_go w q n fs plain done f true d = plain (Refused, place_part w q (RaiseCount n)) d (same_untallied (place_part w q (RaiseCount n)) Refused) refl (λ t. refl)
 raise_go w q n fs plain done f false d = f d
 
@@ -152,37 +165,58 @@ ungained t (DealPieces b) e z = cc
 ungained t _ e z = refl
 
 plain_go : (w : World) (q : Party) (x : Place) (fs : List Place) → is_tally x ≡ false → IfSome (outcome w q (record { top = x; below = fs })) (Ready w q x fs) → IfSome (outcome w q (record { top = x; below = fs })) (λ r. SharesHold (world_after w q x fs r))
-plain_go w q x fs z d = if_some_map (λ r. Ready w q x fs r × (Untallied (place_part w q x) r × (is_sharing (next_of (w.shape.pool (target_pool q (act_of q x))) q x (r.0)) ≡ false))) (λ r. SharesHold (world_after w q x fs r)) (λ r f. plain_hold w q x fs r (f.0) ((f.1).0) ((f.1).1) (λ t. ungained t x (r.0) z)) (outcome w q (record { top = x; below = fs }))
+plain_go w q x fs z d = if_some_map (λ r. Ready w q x fs r × (Untallied (place_part w q x) r × (is_sharing (next_of (w.shape.pool (target_pool q (act_of q x))) q x (r.0)) ≡ false))) (λ r. SharesHold (world_after w q x fs r))
+    (λ r f. plain_hold w q x fs r (f.0) ((f.1).0) ((f.1).1) (λ t. ungained t x (r.0) z)) (outcome w q (record { top = x; below = fs }))
     (if_some_and (Ready w q x fs) (λ r. Untallied (place_part w q x) r × (is_sharing (next_of (w.shape.pool (target_pool q (act_of q x))) q x (r.0)) ≡ false)) (outcome w q (record { top = x; below = fs })) d
-    (if_some_and (Untallied (place_part w q x)) (λ r. is_sharing (next_of (w.shape.pool (target_pool q (act_of q x))) q x (r.0)) ≡ false) (outcome w q (record { top = x; below = fs })) (act_untallied w.shape q (counts_at w (target_pool q (act_of q x))) (place_part w q x) x z) (no_steady w.shape (w.shape.pool (target_pool q (act_of q x))) q (counts_at w (target_pool q (act_of q x))) (place_part w q x) x z)))
+    (if_some_and (Untallied (place_part w q x)) (λ r. is_sharing (next_of (w.shape.pool (target_pool q (act_of q x))) q x (r.0)) ≡ false) (outcome w q (record { top = x; below = fs })) (act_untallied w.shape q (counts_at w (target_pool q (act_of q x))) (place_part w q x) x z)
+    (no_steady w.shape (w.shape.pool (target_pool q (act_of q x))) q (counts_at w (target_pool q (act_of q x))) (place_part w q x) x z)))
 
 -- the acts of a broadcast on the count
-raise_all_go : (w : World) (q : Party) (c : Pieces) (fs : List Place) → (Ready w q (RaiseForAll c) fs (Refused, place_part w q (RaiseForAll c)) → SharesHold (world_after w q (RaiseForAll c) fs (Refused, place_part w q (RaiseForAll c)))) → (done : Seen × Part) → (Ready w q (RaiseForAll c) fs done → SharesHold (world_after w q (RaiseForAll c) fs done)) → (b : Bool) → IfSome (if b then Some (Refused, place_part w q (RaiseForAll c)) else Some done) (Ready w q (RaiseForAll c) fs) → IfSome (if b then Some (Refused, place_part w q (RaiseForAll c)) else Some done) (λ r. SharesHold (world_after w q (RaiseForAll c) fs r))
+raise_all_go : (w : World) (q : Party) (c : Pieces) (fs : List Place) → (Ready w q (RaiseForAll c) fs (Refused, place_part w q (RaiseForAll c)) → SharesHold (world_after w q (RaiseForAll c) fs (Refused, place_part w q (RaiseForAll c)))) → (done : Seen × Part)
+    → (Ready w q (RaiseForAll c) fs done → SharesHold (world_after w q (RaiseForAll c) fs done)) → (b : Bool) → IfSome (if b then Some (Refused, place_part w q (RaiseForAll c)) else Some done) (Ready w q (RaiseForAll c) fs)
+    → IfSome (if b then Some (Refused, place_part w q (RaiseForAll c)) else Some done) (λ r. SharesHold (world_after w q (RaiseForAll c) fs r))
 raise_all_go w q c fs none done f true d = none d
 raise_all_go w q c fs none done f false d = f d
 
 go_by : (w : World) (q : Party) (x : Place) (fs : List Place) → w.stack q ≡ record { top = x; below = fs } → SharesHold w → IfSome (outcome w q (record { top = x; below = fs })) (Ready w q x fs) → IfSome (outcome w q (record { top = x; below = fs })) (λ r. SharesHold (world_after w q x fs r))
-go_by w (Worker a b) (RaiseCount n) fs z h d = raise_go w (Worker a b) n fs (λ r y un st none. plain_hold w (Worker a b) (RaiseCount n) fs r y un st none) _ (λ y. raise_hold w (Worker a b) n fs h z (y.calls) (λ t. (let e : with_job ((raised_world w (Worker a b) n fs).job t) ≤ with_job (w.job t) + 0 = y.busy t in omega (arith, e))) ((y.last).kinds) (y.pools) (y.held)) (count_in (place_part w (Worker a b) (RaiseCount n)) (plan_count n) == 0) d
-go_by w (Worker a b) (LowerCount (OfPool r) (OfJob u) n) fs z h d = lower_job w (Worker a b) (OfPool r) u n fs (if count_in (place_part w (Worker a b) (LowerCount (OfPool r) (OfJob u) n)) (OfPool r) == 1 then Yes else No) h z (d.calls) (λ t. (let e : with_job ((lowered_world w (Worker a b) (OfPool r) (OfJob u) n fs (if count_in (place_part w (Worker a b) (LowerCount (OfPool r) (OfJob u) n)) (OfPool r) == 1 then Yes else No)).job t) ≤ with_job (w.job t) + 0 = d.busy t in omega (arith, e))) ((d.last).kinds) (d.pools) (d.held)
-go_by w (Worker a b) (LowerCount (OfScope x o) (OfJob u) n) fs z h d = lower_job w (Worker a b) (OfScope x o) u n fs (if count_in (place_part w (Worker a b) (LowerCount (OfScope x o) (OfJob u) n)) (OfScope x o) == 1 then Yes else No) h z (d.calls) (λ t. (let e : with_job ((lowered_world w (Worker a b) (OfScope x o) (OfJob u) n fs (if count_in (place_part w (Worker a b) (LowerCount (OfScope x o) (OfJob u) n)) (OfScope x o) == 1 then Yes else No)).job t) ≤ with_job (w.job t) + 0 = d.busy t in omega (arith, e))) ((d.last).kinds) (d.pools) (d.held)
-go_by w (Worker a b) (LowerCount (OfCast x o) (OfJob u) n) fs z h d = lower_job w (Worker a b) (OfCast x o) u n fs (if count_in (place_part w (Worker a b) (LowerCount (OfCast x o) (OfJob u) n)) (OfCast x o) == 1 then Yes else No) h z (d.calls) (λ t. (let e : with_job ((lowered_world w (Worker a b) (OfCast x o) (OfJob u) n fs (if count_in (place_part w (Worker a b) (LowerCount (OfCast x o) (OfJob u) n)) (OfCast x o) == 1 then Yes else No)).job t) ≤ with_job (w.job t) + 0 = d.busy t in omega (arith, e))) ((d.last).kinds) (d.pools) (d.held)
-go_by w (Worker a b) (LowerCount (OfPool r) PoolValue n) fs z h d = lower_value w (Worker a b) r n fs (if count_in (place_part w (Worker a b) (LowerCount (OfPool r) PoolValue n)) (OfPool r) == 1 then Yes else No) h z (d.calls) (λ t. (let e : with_job ((lowered_world w (Worker a b) (OfPool r) PoolValue n fs (if count_in (place_part w (Worker a b) (LowerCount (OfPool r) PoolValue n)) (OfPool r) == 1 then Yes else No)).job t) ≤ with_job (w.job t) + 0 = d.busy t in omega (arith, e))) ((d.last).kinds) (d.pools) (d.held)
+go_by w (Worker a b) (RaiseCount n) fs z h d = raise_go w (Worker a b) n fs (λ r y un st none. plain_hold w (Worker a b) (RaiseCount n) fs r y un st none) _
+    (λ y. raise_hold w (Worker a b) n fs h z (y.calls) (λ t. (let e : with_job ((raised_world w (Worker a b) n fs).job t) ≤ with_job (w.job t) + 0 = y.busy t in omega (arith, e))) ((y.last).kinds) (y.pools) (y.held)) (count_in (place_part w (Worker a b) (RaiseCount n)) (plan_count n) == 0) d
+go_by w (Worker a b) (LowerCount (OfPool r) (OfJob u) n) fs z h d = lower_job w (Worker a b) (OfPool r) u n fs (if count_in (place_part w (Worker a b) (LowerCount (OfPool r) (OfJob u) n)) (OfPool r) == 1 then Yes else No) h z (d.calls)
+    (λ t. (let e : with_job ((lowered_world w (Worker a b) (OfPool r) (OfJob u) n fs (if count_in (place_part w (Worker a b) (LowerCount (OfPool r) (OfJob u) n)) (OfPool r) == 1 then Yes else No)).job t) ≤ with_job (w.job t) + 0 = d.busy t in omega (arith, e))) ((d.last).kinds) (d.pools) (d.held)
+go_by w (Worker a b) (LowerCount (OfScope x o) (OfJob u) n) fs z h d = lower_job w (Worker a b) (OfScope x o) u n fs (if count_in (place_part w (Worker a b) (LowerCount (OfScope x o) (OfJob u) n)) (OfScope x o) == 1 then Yes else No) h z (d.calls)
+    (λ t. (let e : with_job ((lowered_world w (Worker a b) (OfScope x o) (OfJob u) n fs (if count_in (place_part w (Worker a b) (LowerCount (OfScope x o) (OfJob u) n)) (OfScope x o) == 1 then Yes else No)).job t) ≤ with_job (w.job t) + 0 = d.busy t in omega (arith, e))) ((d.last).kinds)
+    (d.pools) (d.held)
+go_by w (Worker a b) (LowerCount (OfCast x o) (OfJob u) n) fs z h d = lower_job w (Worker a b) (OfCast x o) u n fs (if count_in (place_part w (Worker a b) (LowerCount (OfCast x o) (OfJob u) n)) (OfCast x o) == 1 then Yes else No) h z (d.calls)
+    (λ t. (let e : with_job ((lowered_world w (Worker a b) (OfCast x o) (OfJob u) n fs (if count_in (place_part w (Worker a b) (LowerCount (OfCast x o) (OfJob u) n)) (OfCast x o) == 1 then Yes else No)).job t) ≤ with_job (w.job t) + 0 = d.busy t in omega (arith, e))) ((d.last).kinds) (d.pools)
+    (d.held)
+go_by w (Worker a b) (LowerCount (OfPool r) PoolValue n) fs z h d = lower_value w (Worker a b) r n fs (if count_in (place_part w (Worker a b) (LowerCount (OfPool r) PoolValue n)) (OfPool r) == 1 then Yes else No) h z (d.calls)
+    (λ t. (let e : with_job ((lowered_world w (Worker a b) (OfPool r) PoolValue n fs (if count_in (place_part w (Worker a b) (LowerCount (OfPool r) PoolValue n)) (OfPool r) == 1 then Yes else No)).job t) ≤ with_job (w.job t) + 0 = d.busy t in omega (arith, e))) ((d.last).kinds) (d.pools) (d.held)
 go_by w (Worker a b) (LowerCount (OfPool r) Body n) fs z h d = absurd (let s : SaysThen w (Worker a b) n × SaysShare w (OfPool r) Body n = top_says w (Worker a b) (LowerCount (OfPool r) Body n) fs (h.calls) z in s.1)
 go_by w (Worker a b) (LowerCount (OfScope x o) PoolValue n) fs z h d = absurd (let s : SaysThen w (Worker a b) n × SaysShare w (OfScope x o) PoolValue n = top_says w (Worker a b) (LowerCount (OfScope x o) PoolValue n) fs (h.calls) z in s.1)
 go_by w (Worker a b) (LowerCount (OfCast x o) PoolValue n) fs z h d = absurd (let s : SaysThen w (Worker a b) n × SaysShare w (OfCast x o) PoolValue n = top_says w (Worker a b) (LowerCount (OfCast x o) PoolValue n) fs (h.calls) z in s.1)
 go_by w (Worker a b) (LowerCount (OfCast x o) Body n) fs z h d = absurd (let s : SaysThen w (Worker a b) n × SaysShare w (OfCast x o) Body n = top_says w (Worker a b) (LowerCount (OfCast x o) Body n) fs (h.calls) z in s.1)
 go_by w (Worker a b) (LowerCount (OfScope x o) Body n) fs z h d = plain_go w (Worker a b) (LowerCount (OfScope x o) Body n) fs refl d
-go_by w (Caller c) (RaiseCount n) fs z h d = raise_go w (Caller c) n fs (λ r y un st none. plain_hold w (Caller c) (RaiseCount n) fs r y un st none) _ (λ y. raise_hold w (Caller c) n fs h z (y.calls) (λ t. (let e : with_job ((raised_world w (Caller c) n fs).job t) ≤ with_job (w.job t) + 0 = y.busy t in omega (arith, e))) ((y.last).kinds) (y.pools) (y.held)) (count_in (place_part w (Caller c) (RaiseCount n)) (plan_count n) == 0) d
-go_by w (Caller c) (LowerCount (OfPool r) (OfJob u) n) fs z h d = lower_job w (Caller c) (OfPool r) u n fs (if count_in (place_part w (Caller c) (LowerCount (OfPool r) (OfJob u) n)) (OfPool r) == 1 then Yes else No) h z (d.calls) (λ t. (let e : with_job ((lowered_world w (Caller c) (OfPool r) (OfJob u) n fs (if count_in (place_part w (Caller c) (LowerCount (OfPool r) (OfJob u) n)) (OfPool r) == 1 then Yes else No)).job t) ≤ with_job (w.job t) + 0 = d.busy t in omega (arith, e))) ((d.last).kinds) (d.pools) (d.held)
-go_by w (Caller c) (LowerCount (OfScope x o) (OfJob u) n) fs z h d = lower_job w (Caller c) (OfScope x o) u n fs (if count_in (place_part w (Caller c) (LowerCount (OfScope x o) (OfJob u) n)) (OfScope x o) == 1 then Yes else No) h z (d.calls) (λ t. (let e : with_job ((lowered_world w (Caller c) (OfScope x o) (OfJob u) n fs (if count_in (place_part w (Caller c) (LowerCount (OfScope x o) (OfJob u) n)) (OfScope x o) == 1 then Yes else No)).job t) ≤ with_job (w.job t) + 0 = d.busy t in omega (arith, e))) ((d.last).kinds) (d.pools) (d.held)
-go_by w (Caller c) (LowerCount (OfCast x o) (OfJob u) n) fs z h d = lower_job w (Caller c) (OfCast x o) u n fs (if count_in (place_part w (Caller c) (LowerCount (OfCast x o) (OfJob u) n)) (OfCast x o) == 1 then Yes else No) h z (d.calls) (λ t. (let e : with_job ((lowered_world w (Caller c) (OfCast x o) (OfJob u) n fs (if count_in (place_part w (Caller c) (LowerCount (OfCast x o) (OfJob u) n)) (OfCast x o) == 1 then Yes else No)).job t) ≤ with_job (w.job t) + 0 = d.busy t in omega (arith, e))) ((d.last).kinds) (d.pools) (d.held)
-go_by w (Worker a b) (RaiseForAll c) fs z h d = raise_all_go w (Worker a b) c fs (λ y. refused_hold w (Worker a b) c fs y refl) _ (λ y. raise_all_hold w (Worker a b) c fs h z (y.calls) (λ t. (let e : with_job ((all_raised w (Worker a b) c fs).job t) ≤ with_job (w.job t) + 0 = y.busy t in omega (arith, e))) ((y.last).kinds) (y.pools) (y.held)) (count_in (place_part w (Worker a b) (RaiseForAll c)) c.count == 0) d
-go_by w (Worker a b) (LowerForAll c) fs z h d = lower_all_hold w (Worker a b) c fs (if count_in (place_part w (Worker a b) (LowerForAll c)) c.count == c.workers then Yes else No) h z (d.calls) (λ t. (let e : with_job ((all_lowered w (Worker a b) c fs (if count_in (place_part w (Worker a b) (LowerForAll c)) c.count == c.workers then Yes else No)).job t) ≤ with_job (w.job t) + 0 = d.busy t in omega (arith, e))) ((d.last).kinds) (d.pools) (d.held)
+go_by w (Caller c) (RaiseCount n) fs z h d = raise_go w (Caller c) n fs (λ r y un st none. plain_hold w (Caller c) (RaiseCount n) fs r y un st none) _
+    (λ y. raise_hold w (Caller c) n fs h z (y.calls) (λ t. (let e : with_job ((raised_world w (Caller c) n fs).job t) ≤ with_job (w.job t) + 0 = y.busy t in omega (arith, e))) ((y.last).kinds) (y.pools) (y.held)) (count_in (place_part w (Caller c) (RaiseCount n)) (plan_count n) == 0) d
+go_by w (Caller c) (LowerCount (OfPool r) (OfJob u) n) fs z h d = lower_job w (Caller c) (OfPool r) u n fs (if count_in (place_part w (Caller c) (LowerCount (OfPool r) (OfJob u) n)) (OfPool r) == 1 then Yes else No) h z (d.calls)
+    (λ t. (let e : with_job ((lowered_world w (Caller c) (OfPool r) (OfJob u) n fs (if count_in (place_part w (Caller c) (LowerCount (OfPool r) (OfJob u) n)) (OfPool r) == 1 then Yes else No)).job t) ≤ with_job (w.job t) + 0 = d.busy t in omega (arith, e))) ((d.last).kinds) (d.pools) (d.held)
+go_by w (Caller c) (LowerCount (OfScope x o) (OfJob u) n) fs z h d = lower_job w (Caller c) (OfScope x o) u n fs (if count_in (place_part w (Caller c) (LowerCount (OfScope x o) (OfJob u) n)) (OfScope x o) == 1 then Yes else No) h z (d.calls)
+    (λ t. (let e : with_job ((lowered_world w (Caller c) (OfScope x o) (OfJob u) n fs (if count_in (place_part w (Caller c) (LowerCount (OfScope x o) (OfJob u) n)) (OfScope x o) == 1 then Yes else No)).job t) ≤ with_job (w.job t) + 0 = d.busy t in omega (arith, e))) ((d.last).kinds) (d.pools)
+    (d.held)
+go_by w (Caller c) (LowerCount (OfCast x o) (OfJob u) n) fs z h d = lower_job w (Caller c) (OfCast x o) u n fs (if count_in (place_part w (Caller c) (LowerCount (OfCast x o) (OfJob u) n)) (OfCast x o) == 1 then Yes else No) h z (d.calls)
+    (λ t. (let e : with_job ((lowered_world w (Caller c) (OfCast x o) (OfJob u) n fs (if count_in (place_part w (Caller c) (LowerCount (OfCast x o) (OfJob u) n)) (OfCast x o) == 1 then Yes else No)).job t) ≤ with_job (w.job t) + 0 = d.busy t in omega (arith, e))) ((d.last).kinds) (d.pools) (d.held)
+go_by w (Worker a b) (RaiseForAll c) fs z h d = raise_all_go w (Worker a b) c fs (λ y. refused_hold w (Worker a b) c fs y refl) _
+    (λ y. raise_all_hold w (Worker a b) c fs h z (y.calls) (λ t. (let e : with_job ((all_raised w (Worker a b) c fs).job t) ≤ with_job (w.job t) + 0 = y.busy t in omega (arith, e))) ((y.last).kinds) (y.pools) (y.held)) (count_in (place_part w (Worker a b) (RaiseForAll c)) c.count == 0) d
+go_by w (Worker a b) (LowerForAll c) fs z h d = lower_all_hold w (Worker a b) c fs (if count_in (place_part w (Worker a b) (LowerForAll c)) c.count == c.workers then Yes else No) h z (d.calls)
+    (λ t. (let e : with_job ((all_lowered w (Worker a b) c fs (if count_in (place_part w (Worker a b) (LowerForAll c)) c.count == c.workers then Yes else No)).job t) ≤ with_job (w.job t) + 0 = d.busy t in omega (arith, e))) ((d.last).kinds) (d.pools) (d.held)
 go_by w (Worker a b) (DealPieces g) fs z h d = deal_hold w (Worker a b) g fs _ refl refl refl d
-go_by w (Caller g) (RaiseForAll c) fs z h d = raise_all_go w (Caller g) c fs (λ y. refused_hold w (Caller g) c fs y refl) _ (λ y. raise_all_hold w (Caller g) c fs h z (y.calls) (λ t. (let e : with_job ((all_raised w (Caller g) c fs).job t) ≤ with_job (w.job t) + 0 = y.busy t in omega (arith, e))) ((y.last).kinds) (y.pools) (y.held)) (count_in (place_part w (Caller g) (RaiseForAll c)) c.count == 0) d
-go_by w (Caller g) (LowerForAll c) fs z h d = lower_all_hold w (Caller g) c fs (if count_in (place_part w (Caller g) (LowerForAll c)) c.count == c.workers then Yes else No) h z (d.calls) (λ t. (let e : with_job ((all_lowered w (Caller g) c fs (if count_in (place_part w (Caller g) (LowerForAll c)) c.count == c.workers then Yes else No)).job t) ≤ with_job (w.job t) + 0 = d.busy t in omega (arith, e))) ((d.last).kinds) (d.pools) (d.held)
+go_by w (Caller g) (RaiseForAll c) fs z h d = raise_all_go w (Caller g) c fs (λ y. refused_hold w (Caller g) c fs y refl) _
+    (λ y. raise_all_hold w (Caller g) c fs h z (y.calls) (λ t. (let e : with_job ((all_raised w (Caller g) c fs).job t) ≤ with_job (w.job t) + 0 = y.busy t in omega (arith, e))) ((y.last).kinds) (y.pools) (y.held)) (count_in (place_part w (Caller g) (RaiseForAll c)) c.count == 0) d
+go_by w (Caller g) (LowerForAll c) fs z h d = lower_all_hold w (Caller g) c fs (if count_in (place_part w (Caller g) (LowerForAll c)) c.count == c.workers then Yes else No) h z (d.calls)
+    (λ t. (let e : with_job ((all_lowered w (Caller g) c fs (if count_in (place_part w (Caller g) (LowerForAll c)) c.count == c.workers then Yes else No)).job t) ≤ with_job (w.job t) + 0 = d.busy t in omega (arith, e))) ((d.last).kinds) (d.pools) (d.held)
 go_by w (Caller g) (DealPieces b) fs z h d = deal_hold w (Caller g) b fs _ refl refl refl d
-go_by w (Caller c) (LowerCount (OfPool r) PoolValue n) fs z h d = lower_value w (Caller c) r n fs (if count_in (place_part w (Caller c) (LowerCount (OfPool r) PoolValue n)) (OfPool r) == 1 then Yes else No) h z (d.calls) (λ t. (let e : with_job ((lowered_world w (Caller c) (OfPool r) PoolValue n fs (if count_in (place_part w (Caller c) (LowerCount (OfPool r) PoolValue n)) (OfPool r) == 1 then Yes else No)).job t) ≤ with_job (w.job t) + 0 = d.busy t in omega (arith, e))) ((d.last).kinds) (d.pools) (d.held)
+go_by w (Caller c) (LowerCount (OfPool r) PoolValue n) fs z h d = lower_value w (Caller c) r n fs (if count_in (place_part w (Caller c) (LowerCount (OfPool r) PoolValue n)) (OfPool r) == 1 then Yes else No) h z (d.calls)
+    (λ t. (let e : with_job ((lowered_world w (Caller c) (OfPool r) PoolValue n fs (if count_in (place_part w (Caller c) (LowerCount (OfPool r) PoolValue n)) (OfPool r) == 1 then Yes else No)).job t) ≤ with_job (w.job t) + 0 = d.busy t in omega (arith, e))) ((d.last).kinds) (d.pools) (d.held)
 go_by w (Caller c) (LowerCount (OfPool r) Body n) fs z h d = absurd (let s : SaysThen w (Caller c) n × SaysShare w (OfPool r) Body n = top_says w (Caller c) (LowerCount (OfPool r) Body n) fs (h.calls) z in s.1)
 go_by w (Caller c) (LowerCount (OfScope x o) PoolValue n) fs z h d = absurd (let s : SaysThen w (Caller c) n × SaysShare w (OfScope x o) PoolValue n = top_says w (Caller c) (LowerCount (OfScope x o) PoolValue n) fs (h.calls) z in s.1)
 go_by w (Caller c) (LowerCount (OfCast x o) PoolValue n) fs z h d = absurd (let s : SaysThen w (Caller c) n × SaysShare w (OfCast x o) PoolValue n = top_says w (Caller c) (LowerCount (OfCast x o) PoolValue n) fs (h.calls) z in s.1)
@@ -199,7 +233,8 @@ with_calls w None a f = tt
 with_calls w (Some u) a f = f a
 
 -- a party goes on as if its act had seen this
-seen_shares : (w : World) (q : Party) (g : PoolShape) (x : Place) (fs : List Place) (e : Seen) → w.stack q ≡ record { top = x; below = fs } → ((t : ℕ) → gained t x e + regained t x e ≡ 0) → SharesHold w → CallsHold (record w { stack = put_stack w.stack q (after_move (next_of g q x e) fs) }) → SharesHold (record w { stack = put_stack w.stack q (after_move (next_of g q x e) fs) })
+seen_shares : (w : World) (q : Party) (g : PoolShape) (x : Place) (fs : List Place) (e : Seen) → w.stack q ≡ record { top = x; below = fs } → ((t : ℕ) → gained t x e + regained t x e ≡ 0) → SharesHold w → CallsHold (record w { stack = put_stack w.stack q (after_move (next_of g q x e) fs) })
+    → SharesHold (record w { stack = put_stack w.stack q (after_move (next_of g q x e) fs) })
 seen_shares w q g x fs e z none h ch = still_hold w (record w { stack = put_stack w.stack q (after_move (next_of g q x e) fs) }) q (after_move (next_of g q x e) fs) ch (λ s. refl) (omega arith) (λ t. refl) (λ p. refl) (λ p. omega arith) (λ p. refl)
     (λ t. (let a : shares t (put_stack w.stack q (after_move (next_of g q x e) fs) q) + (pushed t x e + paid t x) ≡ shares t (w.stack q) + (gained t x e + regained t x e) = shares_mine w q x fs g e t z in let b : gained t x e + regained t x e ≡ 0 = none t in omega (arith, a, b)))
     (λ p. (let a : all_values p (put_stack w.stack q (after_move (next_of g q x e) fs) q) + values p x ≡ all_values p (w.stack q) = values_mine w q x fs g e p z in omega (arith, a)))
@@ -237,23 +272,31 @@ pub raises_called : (w : World) (q : Party) (x : Place) (t : ℕ) (s : Party) �
 raises_called w q x t s = by (same_party s q) refl
   where
     by : (b : Bool) → same_party s q ≡ b → all_raises t (put_stack w.stack q (after_call (w.stack q) x) s) ≤ raises t x + all_raises t (w.stack s)
-    by true e = subst (λ s. all_raises t (put_stack w.stack q (after_call (w.stack q) x) s) ≤ raises t x + all_raises t (w.stack s)) (sym (same_party_true s q e)) (let a : all_raises t (put_stack w.stack q (after_call (w.stack q) x) q) ≡ (raises t x + all_raises t (w.stack q)) = above (raises t) (raises_in t) (all_raises t) w q x (λ k. refl) (λ y ys. refl) in omega (arith, a))
+    by true e = subst (λ s. all_raises t (put_stack w.stack q (after_call (w.stack q) x) s) ≤ raises t x + all_raises t (w.stack s)) (sym (same_party_true s q e))
+        (let a : all_raises t (put_stack w.stack q (after_call (w.stack q) x) q) ≡ (raises t x + all_raises t (w.stack q)) = above (raises t) (raises_in t) (all_raises t) w q x (λ k. refl) (λ y ys. refl) in omega (arith, a))
     by false e = let a : all_raises t (put_stack w.stack q (after_call (w.stack q) x) s) ≤ all_raises t (w.stack s) = other_le (all_raises t) w q (after_call (w.stack q) x) s e in omega (arith, a)
 
 pub yield_shares : (w : World) (q : Party) (x : Place) → ((t : ℕ) → (share t x ≡ 0) × (raises t x ≡ 0)) → ((p : ℕ) → values p x ≡ 0) → SharesHold w → IfSome (after_yield w q (w.stack q) x) (λ u. CallsHold u → SharesHold u)
-yield_shares w (Worker a b) x sx vx h = if_cond (λ u. CallsHold u → SharesHold u) (is_free ((w.stack (Worker a b)).top)) _ (λ f ch. still_hold w (record w { stack = put_stack w.stack (Worker a b) (after_call (w.stack (Worker a b)) x) }) (Worker a b) (after_call (w.stack (Worker a b)) x) ch (λ s. refl) (omega arith) (λ t. refl) (λ p. refl) (λ p. omega arith) (λ p. refl)
-    (λ t. (let c : shares t (put_stack w.stack (Worker a b) (after_call (w.stack (Worker a b)) x) (Worker a b)) ≡ (share t x + shares t (w.stack (Worker a b))) = above (share t) (shares_in t) (shares t) w (Worker a b) x (λ k. refl) (λ y ys. refl) in let d : share t x ≡ 0 = (sx t).0 in omega (arith, c, d)))
-    (λ p. (let c : all_values p (put_stack w.stack (Worker a b) (after_call (w.stack (Worker a b)) x) (Worker a b)) ≡ (values p x + all_values p (w.stack (Worker a b))) = above (values p) (values_in p) (all_values p) w (Worker a b) x (λ k. refl) (λ y ys. refl) in let d : values p x ≡ 0 = vx p in omega (arith, c, d)))
-    (λ t s. (let c : all_raises t (put_stack w.stack (Worker a b) (after_call (w.stack (Worker a b)) x) s) ≤ raises t x + all_raises t (w.stack s) = raises_called w (Worker a b) x t s in let d : raises t x ≡ 0 = (sx t).1 in let e : all_raises t (w.stack s) + one (w.job t).counted ≤ 1 = h.unraised s t in omega (arith, c, d, e))) h)
+yield_shares w (Worker a b) x sx vx h = if_cond (λ u. CallsHold u → SharesHold u) (is_free ((w.stack (Worker a b)).top)) _
+    (λ f ch. still_hold w (record w { stack = put_stack w.stack (Worker a b) (after_call (w.stack (Worker a b)) x) }) (Worker a b) (after_call (w.stack (Worker a b)) x) ch (λ s. refl) (omega arith) (λ t. refl) (λ p. refl) (λ p. omega arith) (λ p. refl)
+    (λ t. (let c : shares t (put_stack w.stack (Worker a b) (after_call (w.stack (Worker a b)) x) (Worker a b)) ≡ (share t x + shares t (w.stack (Worker a b))) = above (share t) (shares_in t) (shares t) w (Worker a b) x (λ k. refl) (λ y ys. refl) in let d : share t x ≡ 0 = (sx t).0 in
+    omega (arith, c, d)))
+    (λ p. (let c : all_values p (put_stack w.stack (Worker a b) (after_call (w.stack (Worker a b)) x) (Worker a b)) ≡ (values p x + all_values p (w.stack (Worker a b))) = above (values p) (values_in p) (all_values p) w (Worker a b) x (λ k. refl) (λ y ys. refl) in
+    let d : values p x ≡ 0 = vx p in omega (arith, c, d)))
+    (λ t s. (let c : all_raises t (put_stack w.stack (Worker a b) (after_call (w.stack (Worker a b)) x) s) ≤ raises t x + all_raises t (w.stack s) = raises_called w (Worker a b) x t s in let d : raises t x ≡ 0 = (sx t).1 in
+    let e : all_raises t (w.stack s) + one (w.job t).counted ≤ 1 = h.unraised s t in omega (arith, c, d, e))) h)
 yield_shares w (Caller n) x sx vx h = tt
 
 pub give_shares : (w : World) (q : Party) (p : ℕ) → SharesHold w → IfSome (after_end_pool w q p (w.stack q)) (λ u. CallsHold u → SharesHold u)
-give_shares w q p h = if_cond (λ u. CallsHold u → SharesHold u) (is_free ((w.stack q).top) && (is_pool w.shape p && (w.pool p).held)) _ (λ f ch. still_hold w (record w { stack = put_stack w.stack q (after_call (w.stack q) (LowerCount (OfPool p) PoolValue Resume)); pool = put w.pool p (record (w.pool p) { held = false }) }) q (after_call (w.stack q) (LowerCount (OfPool p) PoolValue Resume)) ch (λ s. refl) (omega arith) (λ t. refl)
+give_shares w q p h = if_cond (λ u. CallsHold u → SharesHold u) (is_free ((w.stack q).top) && (is_pool w.shape p && (w.pool p).held)) _
+    (λ f ch. still_hold w (record w { stack = put_stack w.stack q (after_call (w.stack q) (LowerCount (OfPool p) PoolValue Resume)); pool = put w.pool p (record (w.pool p) { held = false }) }) q (after_call (w.stack q) (LowerCount (OfPool p) PoolValue Resume)) ch (λ s. refl) (omega arith)
+    (λ t. refl)
     (λ r. put_same (λ v. v.counted) w.pool p (record (w.pool p) { held = false }) r refl) (λ r. omega arith) (λ r. put_same (λ v. v.count) w.pool p (record (w.pool p) { held = false }) r refl)
     (λ t. (let c : shares t (put_stack w.stack q (after_call (w.stack q) (LowerCount (OfPool p) PoolValue Resume)) q) ≡ (0 + shares t (w.stack q)) = above (share t) (shares_in t) (shares t) w q (LowerCount (OfPool p) PoolValue Resume) (λ k. refl) (λ y ys. refl) in omega (arith, c)))
     (λ r. (let c : all_values r (put_stack w.stack q (after_call (w.stack q) (LowerCount (OfPool p) PoolValue Resume)) q) ≡ (one (r == p) + all_values r (w.stack q)) = above (values r) (values_in r) (all_values r) w q (LowerCount (OfPool p) PoolValue Resume) (λ k. refl) (λ y ys. refl) in
     let d : one (r == p) + one (put w.pool p (record (w.pool p) { held = false }) r).held ≤ one (w.pool r).held = given r (r == p) refl (and_held f) in omega (arith, c, d)))
-    (λ t s. (let c : all_raises t (put_stack w.stack q (after_call (w.stack q) (LowerCount (OfPool p) PoolValue Resume)) s) ≤ 0 + all_raises t (w.stack s) = raises_called w q (LowerCount (OfPool p) PoolValue Resume) t s in let e : all_raises t (w.stack s) + one (w.job t).counted ≤ 1 = h.unraised s t in omega (arith, c, e))) h)
+    (λ t s. (let c : all_raises t (put_stack w.stack q (after_call (w.stack q) (LowerCount (OfPool p) PoolValue Resume)) s) ≤ 0 + all_raises t (w.stack s) = raises_called w q (LowerCount (OfPool p) PoolValue Resume) t s in
+    let e : all_raises t (w.stack s) + one (w.job t).counted ≤ 1 = h.unraised s t in omega (arith, c, e))) h)
   where
     and_held : (is_free ((w.stack q).top) && (is_pool w.shape p && (w.pool p).held)) ≡ true → (w.pool p).held ≡ true
     and_held f = (and_parts (is_pool w.shape p) ((w.pool p).held) ((and_parts (is_free ((w.stack q).top)) (is_pool w.shape p && (w.pool p).held) f).1)).1

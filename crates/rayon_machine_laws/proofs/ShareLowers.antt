@@ -79,14 +79,17 @@ less_by (OfScope c o) n h = omega arith
 less_by (OfCast c o) n h = omega arith
 
 -- a job's share
-pub lower_job : (w : World) (q : Party) (c : Count) (u : ℕ) (n : Then) (fs : List Place) (e : Seen) → SharesHold w → w.stack q ≡ record { top = LowerCount c (OfJob u) n; below = fs } → CallsHold (lowered_world w q c (OfJob u) n fs e) → ((t : ℕ) → with_job ((lowered_world w q c (OfJob u) n fs e).job t) ≤ with_job (w.job t)) → ((t : ℕ) → ((lowered_world w q c (OfJob u) n fs e).job t).kind ≡ (w.job t).kind) → ((t : ℕ) → ((lowered_world w q c (OfJob u) n fs e).job t).pool ≡ (w.job t).pool) → ((p : ℕ) → ((lowered_world w q c (OfJob u) n fs e).pool p).held ≡ (w.pool p).held) → SharesHold (lowered_world w q c (OfJob u) n fs e)
+pub lower_job : (w : World) (q : Party) (c : Count) (u : ℕ) (n : Then) (fs : List Place) (e : Seen) → SharesHold w → w.stack q ≡ record { top = LowerCount c (OfJob u) n; below = fs } → CallsHold (lowered_world w q c (OfJob u) n fs e)
+    → ((t : ℕ) → with_job ((lowered_world w q c (OfJob u) n fs e).job t) ≤ with_job (w.job t)) → ((t : ℕ) → ((lowered_world w q c (OfJob u) n fs e).job t).kind ≡ (w.job t).kind) → ((t : ℕ) → ((lowered_world w q c (OfJob u) n fs e).job t).pool ≡ (w.job t).pool)
+    → ((p : ℕ) → ((lowered_world w q c (OfJob u) n fs e).pool p).held ≡ (w.pool p).held) → SharesHold (lowered_world w q c (OfJob u) n fs e)
 lower_job w q c u n fs e h z ch busy kinds pools keeps = record {
   calls = ch;
   jobs = λ t. jobs t (t == u) refl;
   values = λ p. subst (λ d. Tokens (λ s. all_values p (v.stack s)) (one (v.pool p).held) (one d)) (sym (put_same (λ a. a.counted) w.pool p0 less_one p refl))
       (tokens_keep (λ s. all_values p (w.stack s)) (λ s. all_values p (v.stack s)) (one (w.pool p).held) (one (v.pool p).held) (one (w.pool p).counted) q (one_most ((w.pool p).counted)) (λ s y. other_le (all_values p) w q k s y)
       (let a : all_values p (put_stack w.stack q k q) + 0 ≡ all_values p (w.stack q) = values_mine w q (LowerCount c (OfJob u) n) fs (w.shape.pool p0) e p z in let b : one (v.pool p).held ≡ one (w.pool p).held = ap one (keeps p) in omega (arith, a, b)) (h.values p));
-  unraised = λ s t. (let a : all_raises t (put_stack w.stack q k s) ≤ all_raises t (w.stack s) = raises_all w q (LowerCount c (OfJob u) n) fs (w.shape.pool p0) e t z s in let b : all_raises t (w.stack s) + one (w.job t).counted ≤ 1 = h.unraised s t in let c : one (v.job t).counted ≤ one (w.job t).counted = less t (t == u) refl in omega (arith, a, b, c));
+  unraised = λ s t. (let a : all_raises t (put_stack w.stack q k s) ≤ all_raises t (w.stack s) = raises_all w q (LowerCount c (OfJob u) n) fs (w.shape.pool p0) e t z s in let b : all_raises t (w.stack s) + one (w.job t).counted ≤ 1 = h.unraised s t in
+      let c : one (v.job t).counted ≤ one (w.job t).counted = less t (t == u) refl in omega (arith, a, b, c));
   unmade = λ t b. one_not ((v.job t).counted) (let a : one (v.job t).counted ≤ one (w.job t).counted = less t (t == u) refl in let c : one (w.job t).counted ≡ 0 = ap one (h.unmade t b) in omega (arith, a, c));
   sums = λ p. sums p (p == p0) refl;
 }
@@ -166,14 +169,17 @@ lower_job w q c u n fs e h z ch busy kinds pools keeps = record {
         let d : tally p (w.job u) ≡ 0 = on p ∙ weigh_none c (p == p0) y in omega (arith, a, b, x, d)
 
 -- the share of a pool's value
-pub lower_value : (w : World) (q : Party) (p0 : ℕ) (n : Then) (fs : List Place) (e : Seen) → SharesHold w → w.stack q ≡ record { top = LowerCount (OfPool p0) PoolValue n; below = fs } → CallsHold (lowered_world w q (OfPool p0) PoolValue n fs e) → ((t : ℕ) → with_job ((lowered_world w q (OfPool p0) PoolValue n fs e).job t) ≤ with_job (w.job t)) → ((t : ℕ) → ((lowered_world w q (OfPool p0) PoolValue n fs e).job t).kind ≡ (w.job t).kind) → ((t : ℕ) → ((lowered_world w q (OfPool p0) PoolValue n fs e).job t).pool ≡ (w.job t).pool) → ((p : ℕ) → ((lowered_world w q (OfPool p0) PoolValue n fs e).pool p).held ≡ (w.pool p).held) → SharesHold (lowered_world w q (OfPool p0) PoolValue n fs e)
+pub lower_value : (w : World) (q : Party) (p0 : ℕ) (n : Then) (fs : List Place) (e : Seen) → SharesHold w → w.stack q ≡ record { top = LowerCount (OfPool p0) PoolValue n; below = fs } → CallsHold (lowered_world w q (OfPool p0) PoolValue n fs e)
+    → ((t : ℕ) → with_job ((lowered_world w q (OfPool p0) PoolValue n fs e).job t) ≤ with_job (w.job t)) → ((t : ℕ) → ((lowered_world w q (OfPool p0) PoolValue n fs e).job t).kind ≡ (w.job t).kind) → ((t : ℕ) → ((lowered_world w q (OfPool p0) PoolValue n fs e).job t).pool ≡ (w.job t).pool)
+    → ((p : ℕ) → ((lowered_world w q (OfPool p0) PoolValue n fs e).pool p).held ≡ (w.pool p).held) → SharesHold (lowered_world w q (OfPool p0) PoolValue n fs e)
 lower_value w q p0 n fs e h z ch busy kinds pools keeps = record {
   calls = ch;
   jobs = λ t. subst (λ c. Tokens (λ s. shares t (v.stack s)) (with_job (v.job t)) (one c)) (sym (same t))
       (tokens_keep (λ s. shares t (w.stack s)) (λ s. shares t (v.stack s)) (with_job (w.job t)) (with_job (v.job t)) (one (w.job t).counted) q (one_most ((w.job t).counted)) (λ s d. other_le (shares t) w q k s d)
       (let a : shares t (put_stack w.stack q k q) + (0 + 0) ≡ shares t (w.stack q) + (0 + 0) = shares_mine w q (LowerCount (OfPool p0) PoolValue n) fs (w.shape.pool p0) e t z in let b : with_job (v.job t) ≤ with_job (w.job t) = busy t in omega (arith, a, b)) (h.jobs t));
   values = λ p. values p (p == p0) refl;
-  unraised = λ s t. (let a : all_raises t (put_stack w.stack q k s) ≤ all_raises t (w.stack s) = raises_all w q (LowerCount (OfPool p0) PoolValue n) fs (w.shape.pool p0) e t z s in let b : all_raises t (w.stack s) + one (w.job t).counted ≤ 1 = h.unraised s t in let c : one (v.job t).counted ≡ one (w.job t).counted = ap one (same t) in omega (arith, a, b, c));
+  unraised = λ s t. (let a : all_raises t (put_stack w.stack q k s) ≤ all_raises t (w.stack s) = raises_all w q (LowerCount (OfPool p0) PoolValue n) fs (w.shape.pool p0) e t z s in let b : all_raises t (w.stack s) + one (w.job t).counted ≤ 1 = h.unraised s t in
+      let c : one (v.job t).counted ≡ one (w.job t).counted = ap one (same t) in omega (arith, a, b, c));
   unmade = λ t b. same t ∙ h.unmade t b;
   sums = λ p. sums p (p == p0) refl;
 }
@@ -192,7 +198,8 @@ lower_value w q p0 n fs e h z ch busy kinds pools keeps = record {
     line p = values_mine w q (LowerCount (OfPool p0) PoolValue n) fs (w.shape.pool p0) e p z
 
     had : (w.pool p0).counted ≡ true
-    had = one_is ((w.pool p0).counted) (let a : all_values p0 (put_stack w.stack q k q) + one (p0 == p0) ≡ all_values p0 (w.stack q) = line p0 in let b : one (p0 == p0) ≡ 1 = self_one p0 in let c : all_values p0 (w.stack q) + one (w.pool p0).held ≤ one (w.pool p0).counted = (h.values p0).alone q in omega (arith, a, b, c))
+    had = one_is ((w.pool p0).counted) (let a : all_values p0 (put_stack w.stack q k q) + one (p0 == p0) ≡ all_values p0 (w.stack q) = line p0 in let b : one (p0 == p0) ≡ 1 = self_one p0 in
+        let c : all_values p0 (w.stack q) + one (w.pool p0).held ≤ one (w.pool p0).counted = (h.values p0).alone q in omega (arith, a, b, c))
 
     gone : Pool
     gone = record (w.pool p0) { count = (w.pool p0).count - 1; counted = false }
@@ -231,14 +238,16 @@ pub returned_jobs : (g : PoolShape) (q : Party) (c : Pieces) (e : Seen) (J : ℕ
 returned_jobs g q c Yes J = refl
 returned_jobs g q c _ J = refl
 
-pub lower_all_hold : (w : World) (q : Party) (c : Pieces) (fs : List Place) (e : Seen) → SharesHold w → w.stack q ≡ record { top = LowerForAll c; below = fs } → CallsHold (all_lowered w q c fs e) → ((t : ℕ) → with_job ((all_lowered w q c fs e).job t) ≤ with_job (w.job t)) → ((t : ℕ) → ((all_lowered w q c fs e).job t).kind ≡ (w.job t).kind) → ((t : ℕ) → ((all_lowered w q c fs e).job t).pool ≡ (w.job t).pool) → ((p : ℕ) → ((all_lowered w q c fs e).pool p).held ≡ (w.pool p).held) → SharesHold (all_lowered w q c fs e)
+pub lower_all_hold : (w : World) (q : Party) (c : Pieces) (fs : List Place) (e : Seen) → SharesHold w → w.stack q ≡ record { top = LowerForAll c; below = fs } → CallsHold (all_lowered w q c fs e) → ((t : ℕ) → with_job ((all_lowered w q c fs e).job t) ≤ with_job (w.job t))
+    → ((t : ℕ) → ((all_lowered w q c fs e).job t).kind ≡ (w.job t).kind) → ((t : ℕ) → ((all_lowered w q c fs e).job t).pool ≡ (w.job t).pool) → ((p : ℕ) → ((all_lowered w q c fs e).pool p).held ≡ (w.pool p).held) → SharesHold (all_lowered w q c fs e)
 lower_all_hold w q c fs e h z ch busy kinds pools keeps = record {
   calls = ch;
   jobs = λ t. jobs t (is_piece c t) refl;
   values = λ p. subst (λ d. Tokens (λ s. all_values p (v.stack s)) (one (v.pool p).held) (one d)) (sym (put_same (λ a. a.counted) w.pool p0 fewer p refl))
       (tokens_keep (λ s. all_values p (w.stack s)) (λ s. all_values p (v.stack s)) (one (w.pool p).held) (one (v.pool p).held) (one (w.pool p).counted) q (one_most ((w.pool p).counted)) (λ s y. other_le (all_values p) w q k s y)
       (let a : all_values p (put_stack w.stack q k q) + 0 ≡ all_values p (w.stack q) = values_mine w q (LowerForAll c) fs (w.shape.pool p0) e p z in let b : one (v.pool p).held ≡ one (w.pool p).held = ap one (keeps p) in omega (arith, a, b)) (h.values p));
-  unraised = λ s t. (let a : all_raises t (put_stack w.stack q k s) ≤ all_raises t (w.stack s) = raises_all w q (LowerForAll c) fs (w.shape.pool p0) e t z s in let b : all_raises t (w.stack s) + one (w.job t).counted ≤ 1 = h.unraised s t in let d : one (v.job t).counted ≤ one (w.job t).counted = less t (is_piece c t) refl in omega (arith, a, b, d));
+  unraised = λ s t. (let a : all_raises t (put_stack w.stack q k s) ≤ all_raises t (w.stack s) = raises_all w q (LowerForAll c) fs (w.shape.pool p0) e t z s in let b : all_raises t (w.stack s) + one (w.job t).counted ≤ 1 = h.unraised s t in
+      let d : one (v.job t).counted ≤ one (w.job t).counted = less t (is_piece c t) refl in omega (arith, a, b, d));
   unmade = λ t b. one_not ((v.job t).counted) (let a : one (v.job t).counted ≤ one (w.job t).counted = less t (is_piece c t) refl in let d : one (w.job t).counted ≡ 0 = ap one (h.unmade t b) in omega (arith, a, d));
   sums = λ p. sums p (p == p0) refl;
 }
@@ -281,7 +290,8 @@ lower_all_hold w q c fs e h z ch busy kinds pools keeps = record {
     line t = let a : shares t (put_stack w.stack q k q) + (0 + one (is_piece c t)) ≡ shares t (w.stack q) + 0 = shares_mine w q (LowerForAll c) fs (w.shape.pool p0) e t z in omega (arith, a)
 
     had : (t : ℕ) → is_piece c t ≡ true → (w.job t).counted ≡ true
-    had t y = one_is ((w.job t).counted) (let a : shares t (put_stack w.stack q k q) + one (is_piece c t) ≤ shares t (w.stack q) = line t in let b : one (is_piece c t) ≡ 1 = ap one y in let d : shares t (w.stack q) + with_job (w.job t) ≤ one (w.job t).counted = (h.jobs t).alone q in omega (arith, a, b, d))
+    had t y = one_is ((w.job t).counted) (let a : shares t (put_stack w.stack q k q) + one (is_piece c t) ≤ shares t (w.stack q) = line t in let b : one (is_piece c t) ≡ 1 = ap one y in let d : shares t (w.stack q) + with_job (w.job t) ≤ one (w.job t).counted = (h.jobs t).alone q in
+        omega (arith, a, b, d))
 
     jobs : (t : ℕ) (b : Bool) → is_piece c t ≡ b → Tokens (λ s. shares t (v.stack s)) (with_job (v.job t)) (one (v.job t).counted)
     jobs t true y = subst (λ d. Tokens (λ s. shares t (v.stack s)) (with_job (v.job t)) (one d)) (sym (now t y))
@@ -308,7 +318,8 @@ lower_all_hold w q c fs e h z ch busy kinds pools keeps = record {
     at : (p : ℕ) → (p == p0) ≡ true → (d : Bool) → weighs c.count true ≡ d → sum_below w.jobs (λ t. tally p (v.job t)) + one (w.pool p0).counted ≡ pool_less c.count c.workers (w.pool p0).count
     at p x true y = let i : p ≡ p0 = eqb-true p p0 x in
         let a : sum_below w.jobs (λ t. tally p (w.job t)) + one (w.pool p).counted ≡ (w.pool p).count = h.sums p in
-        let b : sum_below w.jobs (λ t. tally p (w.job t)) ≡ sum_below w.jobs (λ t. tally p (v.job t)) + sum_below w.jobs (λ t. one (is_piece c t)) = sum_both w.jobs (λ t. tally p (v.job t)) (λ t. tally p (w.job t)) (λ t. one (is_piece c t)) (λ t l. pays p t (is_piece c t) refl (ap (weighs c.count) x ∙ y)) in
+        let b : sum_below w.jobs (λ t. tally p (w.job t)) ≡ sum_below w.jobs (λ t. tally p (v.job t)) + sum_below w.jobs (λ t. one (is_piece c t)) =
+        sum_both w.jobs (λ t. tally p (v.job t)) (λ t. tally p (w.job t)) (λ t. one (is_piece c t)) (λ t l. pays p t (is_piece c t) refl (ap (weighs c.count) x ∙ y)) in
         let d : sum_below w.jobs (λ t. one (is_piece c t)) ≡ c.workers = pieces_below w.jobs c (pieces_made w c said) in
         let f : one (w.pool p0).counted ≡ one (w.pool p).counted = ap (λ m. one (w.pool m).counted) (sym i) in
         let g : (w.pool p0).count ≡ (w.pool p).count = ap (λ m. (w.pool m).count) (sym i) in

@@ -137,7 +137,8 @@ after_busy w q (Mark y c Queued) J t s z = marked_busy c Queued J t (one (is_pie
 after_busy w q (HandAllBack c) J t s z = marked_busy c Returned J t 0 (λ e. absurd (cc))
 
 -- a detached job has its share itself from its push on
-pub busy_step : (w : World) (q : Party) (x : Place) (fs : List Place) (r : Seen × Part) → Kept w (world_after w q x fs r) → Lasting w (world_after w q x fs r) → StartsAwaited w (next_of (w.shape.pool (target_pool q (act_of q x))) q x (r.0)) → Stays (place_part w q x) x (job_at w q (act_of q x)) r → ((t : ℕ) → dealt t (next_of (w.shape.pool (target_pool q (act_of q x))) q x (r.0)) ≤ pushed t x (r.0)) → (t : ℕ) → with_job ((world_after w q x fs r).job t) ≤ with_job (w.job t) + pushed t x (r.0)
+pub busy_step : (w : World) (q : Party) (x : Place) (fs : List Place) (r : Seen × Part) → Kept w (world_after w q x fs r) → Lasting w (world_after w q x fs r) → StartsAwaited w (next_of (w.shape.pool (target_pool q (act_of q x))) q x (r.0))
+    → Stays (place_part w q x) x (job_at w q (act_of q x)) r → ((t : ℕ) → dealt t (next_of (w.shape.pool (target_pool q (act_of q x))) q x (r.0)) ≤ pushed t x (r.0)) → (t : ℕ) → with_job ((world_after w q x fs r).job t) ≤ with_job (w.job t) + pushed t x (r.0)
 busy_step w q x fs r ke l sa st de t = by (is_detached (w.job t).kind) refl
   where
     u : World
@@ -145,7 +146,9 @@ busy_step w q x fs r ke l sa st de t = by (is_detached (w.job t).kind) refl
 
     by : (d : Bool) → is_detached (w.job t).kind ≡ d → one (is_detached ((world_after w q x fs r).job t).kind && is_busy ((world_after w q x fs r).job t).at) ≤ one (is_detached (w.job t).kind && is_busy (w.job t).at) + pushed t x (r.0)
     by false e = let k : is_detached ((world_after w q x fs r).job t).kind ≡ false = ap is_detached (l.kinds t) ∙ e in subst (λ b. one (b && is_busy ((world_after w q x fs r).job t).at) ≤ one (is_detached (w.job t).kind && is_busy (w.job t).at) + pushed t x (r.0)) (sym k) (omega arith)
-    by true e = let k : is_detached ((world_after w q x fs r).job t).kind ≡ true = ap is_detached (l.kinds t) ∙ e in subst (λ b. one (b && is_busy ((world_after w q x fs r).job t).at) ≤ one (is_detached (w.job t).kind && is_busy (w.job t).at) + pushed t x (r.0)) (sym k) (subst (λ b. one (is_busy ((world_after w q x fs r).job t).at) ≤ one (b && is_busy (w.job t).at) + pushed t x (r.0)) (sym e) (busy (is_left (w.job t).at) refl))
+    by true e = let k : is_detached ((world_after w q x fs r).job t).kind ≡ true = ap is_detached (l.kinds t) ∙ e in
+        subst (λ b. one (b && is_busy ((world_after w q x fs r).job t).at) ≤ one (is_detached (w.job t).kind && is_busy (w.job t).at) + pushed t x (r.0)) (sym k)
+        (subst (λ b. one (is_busy ((world_after w q x fs r).job t).at) ≤ one (b && is_busy (w.job t).at) + pushed t x (r.0)) (sym e) (busy (is_left (w.job t).at) refl))
       where
         -- what has left its call was busy before, if it is now
         left_busy : (v v2 : Whereabouts) → is_left v ≡ true → IsOnward v v2 → one (is_busy v2) ≤ one (is_busy v)
@@ -163,17 +166,20 @@ busy_step w q x fs r ke l sa st de t = by (is_detached (w.job t).kind) refl
 
         busy : (b : Bool) → is_left (w.job t).at ≡ b → one (is_busy ((world_after w q x fs r).job t).at) ≤ one (is_busy (w.job t).at) + pushed t x (r.0)
         busy true z = let a : one (is_busy ((world_after w q x fs r).job t).at) ≤ one (is_busy (w.job t).at) = left_busy ((w.job t).at) (((world_after w q x fs r).job t).at) z (ke.onward t) in omega (arith, a)
-        busy false z = let a : one (is_busy ((world_after w q x fs r).job t).at) ≤ one (is_busy (put w.job (job_at w q (act_of q x)) (r.1.job) t).at) + dealt t (next_of (w.shape.pool (target_pool q (act_of q x))) q x (r.0)) = after_busy w q (next_of (w.shape.pool (target_pool q (act_of q x))) q x (r.0)) (put w.job (job_at w q (act_of q x)) (r.1.job)) t sa e in
+        busy false z = let a : one (is_busy ((world_after w q x fs r).job t).at) ≤ one (is_busy (put w.job (job_at w q (act_of q x)) (r.1.job) t).at) + dealt t (next_of (w.shape.pool (target_pool q (act_of q x))) q x (r.0)) =
+            after_busy w q (next_of (w.shape.pool (target_pool q (act_of q x))) q x (r.0)) (put w.job (job_at w q (act_of q x)) (r.1.job)) t sa e in
             let b : one (is_busy (put w.job (job_at w q (act_of q x)) (r.1.job) t).at) ≤ one (is_busy (w.job t).at) + pushed t x (r.0) = touched (t == job_at w q (act_of q x)) refl in
             let c : dealt t (next_of (w.shape.pool (target_pool q (act_of q x))) q x (r.0)) ≤ pushed t x (r.0) = de t in
             let d : one (is_busy ((world_after w q x fs r).job t).at) ≤ 1 = one_most (is_busy ((world_after w q x fs r).job t).at) in omega (arith, a, b, c, d)
           where
             touched : (b : Bool) → (t == job_at w q (act_of q x)) ≡ b → one (is_busy (if b then r.1.job else w.job t).at) ≤ one (is_busy (w.job t).at) + pushed t x (r.0)
             touched false y = omega arith
-            touched true y = let i : t ≡ job_at w q (act_of q x) = eqb-true t (job_at w q (act_of q x)) y in subst (λ n. one (is_busy r.1.job.at) ≤ one (is_busy (w.job n).at) + pushed n x (r.0)) (sym i) (st (ap (λ n. is_left (w.job n).at) (sym i) ∙ z) (ap (λ n. is_detached (w.job n).kind) (sym i) ∙ e))
+            touched true y = let i : t ≡ job_at w q (act_of q x) = eqb-true t (job_at w q (act_of q x)) y in subst (λ n. one (is_busy r.1.job.at) ≤ one (is_busy (w.job n).at) + pushed n x (r.0)) (sym i)
+                (st (ap (λ n. is_left (w.job n).at) (sym i) ∙ z) (ap (λ n. is_detached (w.job n).kind) (sym i) ∙ e))
 
 -- the shares of a party's stack after a move, and of the others'
-pub shares_mine : (w : World) (q : Party) (x : Place) (fs : List Place) (g : PoolShape) (e : Seen) (t : ℕ) → w.stack q ≡ record { top = x; below = fs } → shares t (put_stack w.stack q (after_move (next_of g q x e) fs) q) + (pushed t x e + paid t x) ≡ shares t (w.stack q) + (gained t x e + regained t x e)
+pub shares_mine : (w : World) (q : Party) (x : Place) (fs : List Place) (g : PoolShape) (e : Seen) (t : ℕ) → w.stack q ≡ record { top = x; below = fs }
+    → shares t (put_stack w.stack q (after_move (next_of g q x e) fs) q) + (pushed t x e + paid t x) ≡ shares t (w.stack q) + (gained t x e + regained t x e)
 shares_mine w q x fs g e t z = let a : share_move t (next_of g q x e) + (pushed t x e + paid t x) ≡ share t x + (gained t x e + regained t x e) = (amounts g q t 0 x e).0 in
     let b : shares t (after_move (next_of g q x e) fs) ≡ share_move t (next_of g q x e) + shares_in t fs = land_shares t (next_of g q x e) fs in
     let c : shares t (put_stack w.stack q (after_move (next_of g q x e) fs) q) ≡ shares t (after_move (next_of g q x e) fs) = ap (shares t) (stack_mine w.stack q (after_move (next_of g q x e) fs)) in
@@ -202,25 +208,30 @@ raises_mine w q x fs g e t z = let a : raises_move t (next_of g q x e) + gained 
 
 -- the pieces of a broadcast that is handed back were waiting for their shares
 pub back_bare : (w : World) (q : Party) (x : Place) (fs : List Place) (g : PoolShape) (e : Seen) → w.stack q ≡ record { top = x; below = fs } → ((s : Party) (t : ℕ) → all_raises t (w.stack s) + one (w.job t).counted ≤ 1) → (t : ℕ) → Bare (next_of g q x e) w.job t
-back_bare w q x fs g e z un t = by (next_of g q x e) (let a : raises_move t (next_of g q x e) + gained t x e ≤ raises t x = rises_gain g q t x e in let b : all_raises t (w.stack q) ≡ (raises t x + raises_in t fs) = ap (all_raises t) z in let c : all_raises t (w.stack q) + one (w.job t).counted ≤ 1 = un q t in omega (arith, a, b, c))
+back_bare w q x fs g e z un t = by (next_of g q x e) (let a : raises_move t (next_of g q x e) + gained t x e ≤ raises t x = rises_gain g q t x e in let b : all_raises t (w.stack q) ≡ (raises t x + raises_in t fs) = ap (all_raises t) z in
+    let c : all_raises t (w.stack q) + one (w.job t).counted ≤ 1 = un q t in omega (arith, a, b, c))
   where
     by : (m : Move) → raises_move t m + one (w.job t).counted ≤ 1 → Bare m w.job t
     by (HandBack (Gather y)) l = λ d. one_not ((w.job t).counted) (let a : one (is_piece y.pieces t) ≡ 1 = ap one d in omega (arith, a, l))
     by _ l = tt
 
 -- so what a move makes of the jobs leaves each its share, or that it has none
-pub after_shares : (w : World) (q : Party) (x : Place) (fs : List Place) (g : PoolShape) (e : Seen) → w.stack q ≡ record { top = x; below = fs } → ((s : Party) (t : ℕ) → all_raises t (w.stack s) + one (w.job t).counted ≤ 1) → is_sharing (next_of g q x e) ≡ false → (f : ℕ → Job) (t : ℕ) → ((w.job t).counted ≡ false → (f t).counted ≡ false) → (jobs_after q (next_of g q x e) f t).counted ≡ (f t).counted
+pub after_shares : (w : World) (q : Party) (x : Place) (fs : List Place) (g : PoolShape) (e : Seen) → w.stack q ≡ record { top = x; below = fs } → ((s : Party) (t : ℕ) → all_raises t (w.stack s) + one (w.job t).counted ≤ 1) → is_sharing (next_of g q x e) ≡ false → (f : ℕ → Job) (t : ℕ)
+    → ((w.job t).counted ≡ false → (f t).counted ≡ false) → (jobs_after q (next_of g q x e) f t).counted ≡ (f t).counted
 after_shares w q x fs g e z un st f t l = after_counted q (next_of g q x e) f t st (bare_less (next_of g q x e) w.job f t l (back_bare w q x fs g e z un t))
 
 pub raises_all : (w : World) (q : Party) (x : Place) (fs : List Place) (g : PoolShape) (e : Seen) (t : ℕ) → w.stack q ≡ record { top = x; below = fs } → (r : Party) → all_raises t (put_stack w.stack q (after_move (next_of g q x e) fs) r) ≤ all_raises t (w.stack r)
 raises_all w q x fs g e t z r = by (same_party r q) refl
   where
     by : (b : Bool) → same_party r q ≡ b → all_raises t (put_stack w.stack q (after_move (next_of g q x e) fs) r) ≤ all_raises t (w.stack r)
-    by true y = subst (λ v. all_raises t (put_stack w.stack q (after_move (next_of g q x e) fs) v) ≤ all_raises t (w.stack v)) (sym (same_party_true r q y)) (let a : all_raises t (put_stack w.stack q (after_move (next_of g q x e) fs) q) + gained t x e ≤ all_raises t (w.stack q) = raises_mine w q x fs g e t z in omega (arith, a))
+    by true y = subst (λ v. all_raises t (put_stack w.stack q (after_move (next_of g q x e) fs) v) ≤ all_raises t (w.stack v)) (sym (same_party_true r q y))
+        (let a : all_raises t (put_stack w.stack q (after_move (next_of g q x e) fs) q) + gained t x e ≤ all_raises t (w.stack q) = raises_mine w q x fs g e t z in omega (arith, a))
     by false y = other_le (all_raises t) w q (after_move (next_of g q x e) fs) r y
 
 -- where no share is taken or given back
-pub still_hold : (w u : World) (q : Party) (k : Stack) → CallsHold u → ((r : Party) → u.stack r ≡ put_stack w.stack q k r) → w.jobs ≤ u.jobs → ((t : ℕ) → (u.job t).counted ≡ (w.job t).counted) → ((p : ℕ) → (u.pool p).counted ≡ (w.pool p).counted) → ((p : ℕ) → sum_below u.jobs (λ t. tally p (u.job t)) ≡ sum_below w.jobs (λ t. tally p (w.job t))) → ((p : ℕ) → (u.pool p).count ≡ (w.pool p).count) → ((t : ℕ) → shares t (put_stack w.stack q k q) + with_job (u.job t) ≤ shares t (w.stack q) + with_job (w.job t)) → ((p : ℕ) → all_values p (put_stack w.stack q k q) + one (u.pool p).held ≤ all_values p (w.stack q) + one (w.pool p).held) → ((t : ℕ) (r : Party) → all_raises t (put_stack w.stack q k r) + one (w.job t).counted ≤ 1) → SharesHold w → SharesHold u
+pub still_hold : (w u : World) (q : Party) (k : Stack) → CallsHold u → ((r : Party) → u.stack r ≡ put_stack w.stack q k r) → w.jobs ≤ u.jobs → ((t : ℕ) → (u.job t).counted ≡ (w.job t).counted) → ((p : ℕ) → (u.pool p).counted ≡ (w.pool p).counted)
+    → ((p : ℕ) → sum_below u.jobs (λ t. tally p (u.job t)) ≡ sum_below w.jobs (λ t. tally p (w.job t))) → ((p : ℕ) → (u.pool p).count ≡ (w.pool p).count) → ((t : ℕ) → shares t (put_stack w.stack q k q) + with_job (u.job t) ≤ shares t (w.stack q) + with_job (w.job t))
+    → ((p : ℕ) → all_values p (put_stack w.stack q k q) + one (u.pool p).held ≤ all_values p (w.stack q) + one (w.pool p).held) → ((t : ℕ) (r : Party) → all_raises t (put_stack w.stack q k r) + one (w.job t).counted ≤ 1) → SharesHold w → SharesHold u
 still_hold w u q k ch st jo co pc su pn sh va ra h = record {
   calls = ch;
   jobs = λ t. subst (λ c. Tokens (λ r. shares t (u.stack r)) (with_job (u.job t)) (one c)) (sym (co t))
@@ -233,7 +244,9 @@ still_hold w u q k ch st jo co pc su pn sh va ra h = record {
       (λ r e. (let a : all_values p (u.stack r) ≡ all_values p (put_stack w.stack q k r) = ap (all_values p) (st r) in let b : all_values p (put_stack w.stack q k r) ≤ all_values p (w.stack r) = other_le (all_values p) w q k r e in omega (arith, a, b)))
       (let a : all_values p (u.stack q) ≡ all_values p (put_stack w.stack q k q) = ap (all_values p) (st q) in let b : all_values p (put_stack w.stack q k q) + one (u.pool p).held ≤ all_values p (w.stack q) + one (w.pool p).held = va p in omega (arith, a, b))
       (h.values p));
-  unraised = λ r t. (let a : all_raises t (u.stack r) ≡ all_raises t (put_stack w.stack q k r) = ap (all_raises t) (st r) in let b : all_raises t (put_stack w.stack q k r) + one (w.job t).counted ≤ 1 = ra t r in let c : one (u.job t).counted ≡ one (w.job t).counted = ap one (co t) in omega (arith, a, b, c));
+  unraised = λ r t. (let a : all_raises t (u.stack r) ≡ all_raises t (put_stack w.stack q k r) = ap (all_raises t) (st r) in let b : all_raises t (put_stack w.stack q k r) + one (w.job t).counted ≤ 1 = ra t r in let c : one (u.job t).counted ≡ one (w.job t).counted = ap one (co t) in
+      omega (arith, a, b, c));
   unmade = λ t b. co t ∙ h.unmade t (omega (arith, b, jo));
-  sums = λ p. (let a : sum_below w.jobs (λ t. tally p (w.job t)) + one (w.pool p).counted ≡ (w.pool p).count = h.sums p in let b : sum_below u.jobs (λ t. tally p (u.job t)) ≡ sum_below w.jobs (λ t. tally p (w.job t)) = su p in let c : one (u.pool p).counted ≡ one (w.pool p).counted = ap one (pc p) in let d : (u.pool p).count ≡ (w.pool p).count = pn p in omega (arith, a, b, c, d));
+  sums = λ p. (let a : sum_below w.jobs (λ t. tally p (w.job t)) + one (w.pool p).counted ≡ (w.pool p).count = h.sums p in let b : sum_below u.jobs (λ t. tally p (u.job t)) ≡ sum_below w.jobs (λ t. tally p (w.job t)) = su p in
+      let c : one (u.pool p).counted ≡ one (w.pool p).counted = ap one (pc p) in let d : (u.pool p).count ≡ (w.pool p).count = pn p in omega (arith, a, b, c, d));
 }

@@ -124,7 +124,8 @@ weigh_none (OfPool r) b e = ap one e
 weigh_none (OfScope c o) b e = refl
 weigh_none (OfCast c o) b e = refl
 
-pub counted_now : (w : World) (q : Party) (x : Place) (fs : List Place) (r : Seen × Part) → w.stack q ≡ record { top = x; below = fs } → SharesHold w → r.1.job.counted ≡ (w.job (job_at w q (act_of q x))).counted → is_sharing (next_of (w.shape.pool (target_pool q (act_of q x))) q x (r.0)) ≡ false → (t : ℕ) → ((world_after w q x fs r).job t).counted ≡ (w.job t).counted
+pub counted_now : (w : World) (q : Party) (x : Place) (fs : List Place) (r : Seen × Part) → w.stack q ≡ record { top = x; below = fs } → SharesHold w → r.1.job.counted ≡ (w.job (job_at w q (act_of q x))).counted
+    → is_sharing (next_of (w.shape.pool (target_pool q (act_of q x))) q x (r.0)) ≡ false → (t : ℕ) → ((world_after w q x fs r).job t).counted ≡ (w.job t).counted
 counted_now w q x fs r z h un st t = let a : (put w.job (job_at w q (act_of q x)) (r.1.job) t).counted ≡ (w.job t).counted = put_same (λ j. j.counted) w.job (job_at w q (act_of q x)) (r.1.job) t un in
     after_shares w q x fs (w.shape.pool (target_pool q (act_of q x))) (r.0) z h.unraised st (put w.job (job_at w q (act_of q x)) (r.1.job)) t (λ e. a ∙ e) ∙ a
 
@@ -206,14 +207,19 @@ raise_plain (Enter e) = refl
 raise_plain (Gather g) = refl
 
 -- an act that takes no share and gives none back
-pub steady_hold : (w : World) (q : Party) (x : Place) (fs : List Place) (r : Seen × Part) → Ready w q x fs r → ((p : ℕ) → ((world_after w q x fs r).pool p).counted ≡ (w.pool p).counted) → ((p : ℕ) → ((world_after w q x fs r).pool p).count ≡ (w.pool p).count) → ((t : ℕ) → ((world_after w q x fs r).job t).counted ≡ (w.job t).counted) → ((t : ℕ) → gained t x (r.0) ≡ 0) → SharesHold (world_after w q x fs r)
+pub steady_hold : (w : World) (q : Party) (x : Place) (fs : List Place) (r : Seen × Part) → Ready w q x fs r → ((p : ℕ) → ((world_after w q x fs r).pool p).counted ≡ (w.pool p).counted) → ((p : ℕ) → ((world_after w q x fs r).pool p).count ≡ (w.pool p).count)
+    → ((t : ℕ) → ((world_after w q x fs r).job t).counted ≡ (w.job t).counted) → ((t : ℕ) → gained t x (r.0) ≡ 0) → SharesHold (world_after w q x fs r)
 steady_hold w q x fs r d pc pn counted none = still_hold w (world_after w q x fs r) q (stack_after w q x fs (r.0)) (d.calls) (λ s. refl) (omega arith) counted
     pc
-    (λ p. (let a : sum_below w.jobs (λ t. tally p ((world_after w q x fs r).job t)) ≡ sum_below w.jobs (λ t. tally p (w.job t)) = sum_same w.jobs (λ t. tally p ((world_after w q x fs r).job t)) (λ t. tally p (w.job t)) (λ t b. tally_same p ((world_after w q x fs r).job t) (w.job t) (counted t) ((d.last).kinds t) (d.pools t)) in omega (arith, a)))
+    (λ p. (let a : sum_below w.jobs (λ t. tally p ((world_after w q x fs r).job t)) ≡ sum_below w.jobs (λ t. tally p (w.job t)) = sum_same w.jobs (λ t. tally p ((world_after w q x fs r).job t)) (λ t. tally p (w.job t))
+    (λ t b. tally_same p ((world_after w q x fs r).job t) (w.job t) (counted t) ((d.last).kinds t) (d.pools t)) in omega (arith, a)))
     pn
-    (λ t. (let a : shares t (put_stack w.stack q (stack_after w q x fs (r.0)) q) + (pushed t x (r.0) + paid t x) ≡ shares t (w.stack q) + (gained t x (r.0) + regained t x (r.0)) = shares_mine w q x fs (w.shape.pool (target_pool q (act_of q x))) (r.0) t (d.stack) in let b : with_job ((world_after w q x fs r).job t) + regained t x (r.0) ≤ with_job (w.job t) + pushed t x (r.0) = d.regains t in let c : gained t x (r.0) ≡ 0 = none t in omega (arith, a, b, c)))
-    (λ p. (let a : all_values p (put_stack w.stack q (stack_after w q x fs (r.0)) q) + values p x ≡ all_values p (w.stack q) = values_mine w q x fs (w.shape.pool (target_pool q (act_of q x))) (r.0) p (d.stack) in let b : one ((world_after w q x fs r).pool p).held ≡ one (w.pool p).held = ap one (d.held p) in omega (arith, a, b)))
-    (λ t s. (let a : all_raises t (put_stack w.stack q (stack_after w q x fs (r.0)) s) ≤ all_raises t (w.stack s) = raises_all w q x fs (w.shape.pool (target_pool q (act_of q x))) (r.0) t (d.stack) s in let b : all_raises t (w.stack s) + one (w.job t).counted ≤ 1 = ((d.hold).unraised) s t in omega (arith, a, b)))
+    (λ t. (let a : shares t (put_stack w.stack q (stack_after w q x fs (r.0)) q) + (pushed t x (r.0) + paid t x) ≡ shares t (w.stack q) + (gained t x (r.0) + regained t x (r.0)) = shares_mine w q x fs (w.shape.pool (target_pool q (act_of q x))) (r.0) t (d.stack) in
+    let b : with_job ((world_after w q x fs r).job t) + regained t x (r.0) ≤ with_job (w.job t) + pushed t x (r.0) = d.regains t in let c : gained t x (r.0) ≡ 0 = none t in omega (arith, a, b, c)))
+    (λ p. (let a : all_values p (put_stack w.stack q (stack_after w q x fs (r.0)) q) + values p x ≡ all_values p (w.stack q) = values_mine w q x fs (w.shape.pool (target_pool q (act_of q x))) (r.0) p (d.stack) in
+    let b : one ((world_after w q x fs r).pool p).held ≡ one (w.pool p).held = ap one (d.held p) in omega (arith, a, b)))
+    (λ t s. (let a : all_raises t (put_stack w.stack q (stack_after w q x fs (r.0)) s) ≤ all_raises t (w.stack s) = raises_all w q x fs (w.shape.pool (target_pool q (act_of q x))) (r.0) t (d.stack) s in let b : all_raises t (w.stack s) + one (w.job t).counted ≤ 1 = ((d.hold).unraised) s t in
+    omega (arith, a, b)))
     (d.hold)
 
 pub plain_hold : (w : World) (q : Party) (x : Place) (fs : List Place) (r : Seen × Part) → Ready w q x fs r → Untallied (place_part w q x) r → is_sharing (next_of (w.shape.pool (target_pool q (act_of q x))) q x (r.0)) ≡ false → ((t : ℕ) → gained t x (r.0) ≡ 0) → SharesHold (world_after w q x fs r)
@@ -224,7 +230,8 @@ plain_hold w q x fs r d un st none = steady_hold w q x fs r d (λ p. put_same (�
 
 -- who takes a share for a job raised the count for it: it had none
 pub ungiven : (w : World) → SharesHold w → (q : Party) (x : Place) (fs : List Place) (g : PoolShape) (e : Seen) → w.stack q ≡ record { top = x; below = fs } → (t : ℕ) → 1 ≤ gained t x e → (w.job t).counted ≡ false
-ungiven w h q x fs g e z t n = one_not ((w.job t).counted) (let a : all_raises t (put_stack w.stack q (after_move (next_of g q x e) fs) q) + gained t x e ≤ all_raises t (w.stack q) = raises_mine w q x fs g e t z in let b : all_raises t (w.stack q) + one (w.job t).counted ≤ 1 = h.unraised q t in omega (arith, a, b, n))
+ungiven w h q x fs g e z t n = one_not ((w.job t).counted) (let a : all_raises t (put_stack w.stack q (after_move (next_of g q x e) fs) q) + gained t x e ≤ all_raises t (w.stack q) = raises_mine w q x fs g e t z in let b : all_raises t (w.stack q) + one (w.job t).counted ≤ 1 = h.unraised q t in
+    omega (arith, a, b, n))
 
 -- and nobody raises it for that job any more
 pub none_raise : (w : World) → SharesHold w → (q : Party) (x : Place) (fs : List Place) (g : PoolShape) (e : Seen) → w.stack q ≡ record { top = x; below = fs } → (t : ℕ) → 1 ≤ gained t x e → (s : Party) → all_raises t (put_stack w.stack q (after_move (next_of g q x e) fs) s) ≤ 0
@@ -259,13 +266,15 @@ self_one t = ap one (eq-eqb t t refl)
 abbrev pub raised_world : World → Party → Plan → List Place → World
 raised_world w q n fs = after w q (record { top = RaiseCount n; below = fs }) (count_pool q (plan_count n)) (own_index q) (count_call (plan_count n)) (plan_job n) (Done, raised (part_of w (count_pool q (plan_count n)) (own_index q) (count_call (plan_count n)) (plan_job n)) (plan_count n))
 
-pub raise_hold : (w : World) (q : Party) (n : Plan) (fs : List Place) → SharesHold w → w.stack q ≡ record { top = RaiseCount n; below = fs } → CallsHold (raised_world w q n fs) → ((t : ℕ) → with_job ((raised_world w q n fs).job t) ≤ with_job (w.job t)) → ((t : ℕ) → ((raised_world w q n fs).job t).kind ≡ (w.job t).kind) → ((t : ℕ) → ((raised_world w q n fs).job t).pool ≡ (w.job t).pool) → ((p : ℕ) → ((raised_world w q n fs).pool p).held ≡ (w.pool p).held) → SharesHold (raised_world w q n fs)
+pub raise_hold : (w : World) (q : Party) (n : Plan) (fs : List Place) → SharesHold w → w.stack q ≡ record { top = RaiseCount n; below = fs } → CallsHold (raised_world w q n fs) → ((t : ℕ) → with_job ((raised_world w q n fs).job t) ≤ with_job (w.job t))
+    → ((t : ℕ) → ((raised_world w q n fs).job t).kind ≡ (w.job t).kind) → ((t : ℕ) → ((raised_world w q n fs).job t).pool ≡ (w.job t).pool) → ((p : ℕ) → ((raised_world w q n fs).pool p).held ≡ (w.pool p).held) → SharesHold (raised_world w q n fs)
 raise_hold w q n fs h z ch busy kinds pools keeps = record {
   calls = ch;
   jobs = λ t. jobs t (t == plan_job n) refl;
   values = λ p. subst (λ c. Tokens (λ s. all_values p ((raised_world w q n fs).stack s)) (one ((raised_world w q n fs).pool p).held) (one c)) (sym (put_same (λ v. v.counted) w.pool p0 more p refl))
       (tokens_keep (λ s. all_values p (w.stack s)) (λ s. all_values p ((raised_world w q n fs).stack s)) (one (w.pool p).held) (one ((raised_world w q n fs).pool p).held) (one (w.pool p).counted) q (one_most ((w.pool p).counted)) (λ s e. other_le (all_values p) w q k s e)
-      (let a : all_values p (put_stack w.stack q k q) + values p (RaiseCount n) ≡ all_values p (w.stack q) = values_mine w q (RaiseCount n) fs (w.shape.pool p0) Done p z in let b : one ((raised_world w q n fs).pool p).held ≡ one (w.pool p).held = ap one (keeps p) in omega (arith, a, b)) (h.values p));
+      (let a : all_values p (put_stack w.stack q k q) + values p (RaiseCount n) ≡ all_values p (w.stack q) = values_mine w q (RaiseCount n) fs (w.shape.pool p0) Done p z in let b : one ((raised_world w q n fs).pool p).held ≡ one (w.pool p).held = ap one (keeps p) in omega (arith, a, b))
+      (h.values p));
   unraised = λ s t. unraised s t (t == plan_job n) refl;
   unmade = λ t b. unmade t b (t == plan_job n) refl;
   sums = λ p. sums p (p == p0) refl;
@@ -284,7 +293,8 @@ raise_hold w q n fs h z ch busy kinds pools keeps = record {
     said = plan_made w q n (top_says w q (RaiseCount n) fs (h.calls) z)
 
     counted : (t : ℕ) → ((raised_world w q n fs).job t).counted ≡ (put w.job (plan_job n) (record (w.job (plan_job n)) { counted = true }) t).counted
-    counted t = after_counted q (next_of (w.shape.pool p0) q (RaiseCount n) Done) (put w.job (plan_job n) (record (w.job (plan_job n)) { counted = true })) t (raise_steady n) (no_bare (next_of (w.shape.pool p0) q (RaiseCount n) Done) (put w.job (plan_job n) (record (w.job (plan_job n)) { counted = true })) t (raise_plain n))
+    counted t = after_counted q (next_of (w.shape.pool p0) q (RaiseCount n) Done) (put w.job (plan_job n) (record (w.job (plan_job n)) { counted = true })) t (raise_steady n)
+        (no_bare (next_of (w.shape.pool p0) q (RaiseCount n) Done) (put w.job (plan_job n) (record (w.job (plan_job n)) { counted = true })) t (raise_plain n))
 
     now : ((raised_world w q n fs).job (plan_job n)).counted ≡ true
     now = counted (plan_job n) ∙ ap (λ j. j.counted) (put_new w.job (plan_job n) (record (w.job (plan_job n)) { counted = true }))
@@ -312,8 +322,11 @@ raise_hold w q n fs h z ch busy kinds pools keeps = record {
         (let a : shares t (put_stack w.stack q k q) ≤ shares t (w.stack q) + one (t == plan_job n) = line t in let b : with_job ((raised_world w q n fs).job t) ≤ with_job (w.job t) = busy t in let c : one (t == plan_job n) ≡ 0 = ap one e in omega (arith, a, b, c)) (h.jobs t))
 
     unraised : (s : Party) (t : ℕ) (b : Bool) → (t == plan_job n) ≡ b → all_raises t ((raised_world w q n fs).stack s) + one ((raised_world w q n fs).job t).counted ≤ 1
-    unraised s t true e = subst (λ t. all_raises t ((raised_world w q n fs).stack s) + one ((raised_world w q n fs).job t).counted ≤ 1) (sym (eqb-true t (plan_job n) e)) (let a : all_raises (plan_job n) ((raised_world w q n fs).stack s) ≤ 0 = none_raise w h q (RaiseCount n) fs (w.shape.pool p0) Done z (plan_job n) gain s in let b : one ((raised_world w q n fs).job (plan_job n)).counted ≤ 1 = one_most (((raised_world w q n fs).job (plan_job n)).counted) in omega (arith, a, b))
-    unraised s t false e = let a : all_raises t (put_stack w.stack q k s) ≤ all_raises t (w.stack s) = raises_all w q (RaiseCount n) fs (w.shape.pool p0) Done t z s in let b : all_raises t (w.stack s) + one (w.job t).counted ≤ 1 = h.unraised s t in let c : one ((raised_world w q n fs).job t).counted ≡ one (w.job t).counted = ap one (same t e) in omega (arith, a, b, c)
+    unraised s t true e = subst (λ t. all_raises t ((raised_world w q n fs).stack s) + one ((raised_world w q n fs).job t).counted ≤ 1) (sym (eqb-true t (plan_job n) e))
+        (let a : all_raises (plan_job n) ((raised_world w q n fs).stack s) ≤ 0 = none_raise w h q (RaiseCount n) fs (w.shape.pool p0) Done z (plan_job n) gain s in
+        let b : one ((raised_world w q n fs).job (plan_job n)).counted ≤ 1 = one_most (((raised_world w q n fs).job (plan_job n)).counted) in omega (arith, a, b))
+    unraised s t false e = let a : all_raises t (put_stack w.stack q k s) ≤ all_raises t (w.stack s) = raises_all w q (RaiseCount n) fs (w.shape.pool p0) Done t z s in let b : all_raises t (w.stack s) + one (w.job t).counted ≤ 1 = h.unraised s t in
+        let c : one ((raised_world w q n fs).job t).counted ≡ one (w.job t).counted = ap one (same t e) in omega (arith, a, b, c)
 
     unmade : (t : ℕ) → w.jobs ≤ t → (b : Bool) → (t == plan_job n) ≡ b → ((raised_world w q n fs).job t).counted ≡ false
     unmade t y true e = absurd (let i : t ≡ plan_job n = eqb-true t (plan_job n) e in let m : plan_job n + 1 ≤ w.jobs = said.0 in omega (arith, i, m, y))
@@ -352,7 +365,8 @@ back_counted w q c fs h z t = by (is_piece c t) refl
     by true e = sym (one_not ((w.job t).counted) (let a : all_raises t (w.stack q) ≡ (one (is_piece c t) + raises_in t fs) = ap (all_raises t) z in let b : one (is_piece c t) ≡ 1 = ap one e in let d : all_raises t (w.stack q) + one (w.job t).counted ≤ 1 = h.unraised q t in omega (arith, a, b, d)))
     by false e = put_same (λ j. j.counted) w.job 0 (w.job 0) t refl
 
-pub refused_hold : (w : World) (q : Party) (c : Pieces) (fs : List Place) → Ready w q (RaiseForAll c) fs (Refused, place_part w q (RaiseForAll c)) → (world_after w q (RaiseForAll c) fs (Refused, place_part w q (RaiseForAll c))).job ≡ mark_pieces c Returned (put w.job 0 (w.job 0)) → SharesHold (world_after w q (RaiseForAll c) fs (Refused, place_part w q (RaiseForAll c)))
+pub refused_hold : (w : World) (q : Party) (c : Pieces) (fs : List Place) → Ready w q (RaiseForAll c) fs (Refused, place_part w q (RaiseForAll c)) → (world_after w q (RaiseForAll c) fs (Refused, place_part w q (RaiseForAll c))).job ≡ mark_pieces c Returned (put w.job 0 (w.job 0))
+    → SharesHold (world_after w q (RaiseForAll c) fs (Refused, place_part w q (RaiseForAll c)))
 refused_hold w q c fs d jo = steady_hold w q (RaiseForAll c) fs (Refused, place_part w q (RaiseForAll c)) d
     (λ p. put_same (λ v. v.counted) w.pool (target_pool q (act_of q (RaiseForAll c))) (w.pool (target_pool q (act_of q (RaiseForAll c)))) p refl)
     (λ p. put_same (λ v. v.count) w.pool (target_pool q (act_of q (RaiseForAll c))) (w.pool (target_pool q (act_of q (RaiseForAll c)))) p refl)
@@ -377,7 +391,8 @@ weighs_none (OfPool r) = refl
 weighs_none (OfScope c o) = refl
 weighs_none (OfCast c o) = refl
 
-pub raise_all_hold : (w : World) (q : Party) (c : Pieces) (fs : List Place) → SharesHold w → w.stack q ≡ record { top = RaiseForAll c; below = fs } → CallsHold (all_raised w q c fs) → ((t : ℕ) → with_job ((all_raised w q c fs).job t) ≤ with_job (w.job t)) → ((t : ℕ) → ((all_raised w q c fs).job t).kind ≡ (w.job t).kind) → ((t : ℕ) → ((all_raised w q c fs).job t).pool ≡ (w.job t).pool) → ((p : ℕ) → ((all_raised w q c fs).pool p).held ≡ (w.pool p).held) → SharesHold (all_raised w q c fs)
+pub raise_all_hold : (w : World) (q : Party) (c : Pieces) (fs : List Place) → SharesHold w → w.stack q ≡ record { top = RaiseForAll c; below = fs } → CallsHold (all_raised w q c fs) → ((t : ℕ) → with_job ((all_raised w q c fs).job t) ≤ with_job (w.job t))
+    → ((t : ℕ) → ((all_raised w q c fs).job t).kind ≡ (w.job t).kind) → ((t : ℕ) → ((all_raised w q c fs).job t).pool ≡ (w.job t).pool) → ((p : ℕ) → ((all_raised w q c fs).pool p).held ≡ (w.pool p).held) → SharesHold (all_raised w q c fs)
 raise_all_hold w q c fs h z ch busy kinds pools keeps = record {
   calls = ch;
   jobs = λ t. jobs t (is_piece c t) refl;
@@ -433,7 +448,8 @@ raise_all_hold w q c fs h z ch busy kinds pools keeps = record {
 
     unraised : (s : Party) (t : ℕ) (b : Bool) → is_piece c t ≡ b → all_raises t (v.stack s) + one (v.job t).counted ≤ 1
     unraised s t true e = let a : all_raises t (v.stack s) ≤ 0 = none_raise w h q (RaiseForAll c) fs (w.shape.pool p0) Done z t (gain t e) s in let b : one (v.job t).counted ≤ 1 = one_most ((v.job t).counted) in omega (arith, a, b)
-    unraised s t false e = let a : all_raises t (put_stack w.stack q k s) ≤ all_raises t (w.stack s) = raises_all w q (RaiseForAll c) fs (w.shape.pool p0) Done t z s in let b : all_raises t (w.stack s) + one (w.job t).counted ≤ 1 = h.unraised s t in let d : one (v.job t).counted ≡ one (w.job t).counted = ap one (same t e) in omega (arith, a, b, d)
+    unraised s t false e = let a : all_raises t (put_stack w.stack q k s) ≤ all_raises t (w.stack s) = raises_all w q (RaiseForAll c) fs (w.shape.pool p0) Done t z s in let b : all_raises t (w.stack s) + one (w.job t).counted ≤ 1 = h.unraised s t in
+        let d : one (v.job t).counted ≡ one (w.job t).counted = ap one (same t e) in omega (arith, a, b, d)
 
     unmade : (t : ℕ) → w.jobs ≤ t → (b : Bool) → is_piece c t ≡ b → (v.job t).counted ≡ false
     unmade t y true e = absurd (let m : t + 1 ≤ w.jobs = pieces_made w c said t e in omega (arith, m, y))
@@ -456,7 +472,8 @@ raise_all_hold w q c fs h z ch busy kinds pools keeps = record {
     at : (p : ℕ) → (p == p0) ≡ true → (d : Bool) → weighs c.count true ≡ d → sum_below w.jobs (λ t. tally p (v.job t)) + one (w.pool p0).counted ≡ pool_more c.count c.workers (w.pool p0).count
     at p e true y = let i : p ≡ p0 = eqb-true p p0 e in
         let a : sum_below w.jobs (λ t. tally p (w.job t)) + one (w.pool p).counted ≡ (w.pool p).count = h.sums p in
-        let b : sum_below w.jobs (λ t. tally p (v.job t)) ≡ sum_below w.jobs (λ t. tally p (w.job t)) + sum_below w.jobs (λ t. one (is_piece c t)) = sum_both w.jobs (λ t. tally p (w.job t)) (λ t. tally p (v.job t)) (λ t. one (is_piece c t)) (λ t l. gains p t (is_piece c t) refl (ap (weighs c.count) e ∙ y)) in
+        let b : sum_below w.jobs (λ t. tally p (v.job t)) ≡ sum_below w.jobs (λ t. tally p (w.job t)) + sum_below w.jobs (λ t. one (is_piece c t)) =
+        sum_both w.jobs (λ t. tally p (w.job t)) (λ t. tally p (v.job t)) (λ t. one (is_piece c t)) (λ t l. gains p t (is_piece c t) refl (ap (weighs c.count) e ∙ y)) in
         let d : sum_below w.jobs (λ t. one (is_piece c t)) ≡ c.workers = pieces_below w.jobs c (pieces_made w c said) in
         let f : one (w.pool p0).counted ≡ one (w.pool p).counted = ap (λ m. one (w.pool m).counted) (sym i) in
         let g : (w.pool p0).count ≡ (w.pool p).count = ap (λ m. (w.pool m).count) (sym i) in
@@ -474,7 +491,8 @@ raise_all_hold w q c fs h z ch busy kinds pools keeps = record {
         let b : sum_below w.jobs (λ t. tally p (v.job t)) ≡ sum_below w.jobs (λ t. tally p (w.job t)) = kept p (ap (weighs c.count) e ∙ weighs_none c.count) in omega (arith, a, b)
 
 -- the pieces of a broadcast that waits come into their lists, each with its share
-pub deal_hold : (w : World) (q : Party) (g : Gathering) (fs : List Place) (m : Part) → m.pool.counted ≡ (place_part w q (DealPieces g)).pool.counted → m.pool.count ≡ (place_part w q (DealPieces g)).pool.count → m.job.counted ≡ (place_part w q (DealPieces g)).job.counted → Ready w q (DealPieces g) fs (Done, m) → SharesHold (world_after w q (DealPieces g) fs (Done, m))
+pub deal_hold : (w : World) (q : Party) (g : Gathering) (fs : List Place) (m : Part) → m.pool.counted ≡ (place_part w q (DealPieces g)).pool.counted → m.pool.count ≡ (place_part w q (DealPieces g)).pool.count → m.job.counted ≡ (place_part w q (DealPieces g)).job.counted
+    → Ready w q (DealPieces g) fs (Done, m) → SharesHold (world_after w q (DealPieces g) fs (Done, m))
 deal_hold w q g fs m ec en ej d = record {
   calls = d.calls;
   jobs = λ t. jobs t (is_piece c t) refl;
@@ -545,7 +563,8 @@ deal_hold w q g fs m ec en ej d = record {
 
     unraised : (s : Party) (t : ℕ) (b : Bool) → is_piece c t ≡ b → all_raises t (v.stack s) + one (v.job t).counted ≤ 1
     unraised s t true e = let a : all_raises t (v.stack s) ≤ 0 = none_raise w h q (DealPieces g) fs (w.shape.pool p0) Done z t (gain t e) s in let b : one (v.job t).counted ≤ 1 = one_most ((v.job t).counted) in omega (arith, a, b)
-    unraised s t false e = let a : all_raises t (put_stack w.stack q k s) ≤ all_raises t (w.stack s) = raises_all w q (DealPieces g) fs (w.shape.pool p0) Done t z s in let b : all_raises t (w.stack s) + one (w.job t).counted ≤ 1 = h.unraised s t in let f : one (v.job t).counted ≡ one (w.job t).counted = ap one (same t e) in omega (arith, a, b, f)
+    unraised s t false e = let a : all_raises t (put_stack w.stack q k s) ≤ all_raises t (w.stack s) = raises_all w q (DealPieces g) fs (w.shape.pool p0) Done t z s in let b : all_raises t (w.stack s) + one (w.job t).counted ≤ 1 = h.unraised s t in
+        let f : one (v.job t).counted ≡ one (w.job t).counted = ap one (same t e) in omega (arith, a, b, f)
 
     unmade : (t : ℕ) → w.jobs ≤ t → (b : Bool) → is_piece c t ≡ b → (v.job t).counted ≡ false
     unmade t y true e = absurd (let n : t + 1 ≤ w.jobs = pieces_made w c said t e in omega (arith, n, y))

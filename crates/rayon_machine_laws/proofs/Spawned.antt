@@ -18,7 +18,8 @@ use Rattle.rayon_machine_places.specs.declared.place.Plan.TheVariants.{Detach, H
 use Rattle.rayon_machine_places.specs.declared.place.Then.{Then}
 use Rattle.rayon_machine_places.specs.declared.place.Then.TheVariants.{BeginFound, RunFirst, GiveBack}
 use Rattle.rayon_machine_places.specs.declared.place.Place.{Place}
-use Rattle.rayon_machine_places.specs.declared.place.Place.TheVariants.{ProbeWorking, LeaveSearch, BeginTask, BeginHere, Run, RaiseCount, GrowCall, LookQueue, PushJob, AddToFifo, LookForToken, PushToken, TakeFromFifo, RaiseForAll, PushForAll, LowerForAll, TellNews, LockToWake, WakeWorker, UnlockWoken, LowerCount, SetLatch, LockToSettle, WakeSettled, UnlockSettled, GrowScope, OpenSlot, CloseSlot, SetLockLatch, OpenForAll, CloseForAll, GrowCast, DealPieces, ScopeBody}
+use Rattle.rayon_machine_places.specs.declared.place.Place.TheVariants.{ProbeWorking, LeaveSearch, BeginTask, BeginHere, Run, RaiseCount, GrowCall, LookQueue, PushJob, AddToFifo, LookForToken, PushToken, TakeFromFifo, RaiseForAll, PushForAll, LowerForAll, TellNews, LockToWake}
+use Rattle.rayon_machine_places.specs.declared.place.Place.TheVariants.{WakeWorker, UnlockWoken, LowerCount, SetLatch, LockToSettle, WakeSettled, UnlockSettled, GrowScope, OpenSlot, CloseSlot, SetLockLatch, OpenForAll, CloseForAll, GrowCast, DealPieces, ScopeBody}
 use Rattle.rayon_machine_places.specs.declared.state.Whereabouts.{Whereabouts}
 use Rattle.rayon_machine_places.specs.declared.state.Whereabouts.TheVariants.{Nowhere, Made, InDeque, Injected, InFifo, InCast, Running, Over, Retaken, HandedBack, Spent}
 use Rattle.rayon_machine_places.specs.Places.{holds_scope, plan_count, count_kind, taken_number}
@@ -44,14 +45,16 @@ use Rattle.rayon_machine_laws.proofs.Scoping.{ScopesHold, entry, entry_on, entry
 -- who holds a scope keeps its count above 0: who runs its body, or a job of it
 count_of_sum : (w : World) → ScopesHold w → (c : ℕ) → (1 ≤ one (w.call c).counted) ⊎ ((t : ℕ) × ((t + 1 ≤ w.jobs) × (entry c (w.job t) ≡ 1))) → 1 ≤ (w.call c).count
 count_of_sum w h c (inl b) = let a : sum_below w.jobs (λ t. entry c (w.job t)) + (one (w.call c).counted + (w.call c).undealt) ≡ (w.call c).count = h.sums c in omega (arith, a, b)
-count_of_sum w h c (inr (t, y)) = let m : t + 1 ≤ w.jobs = y.0 in let e : entry c (w.job t) ≡ 1 = y.1 in let a : sum_below w.jobs (λ t. entry c (w.job t)) + (one (w.call c).counted + (w.call c).undealt) ≡ (w.call c).count = h.sums c in let d : entry c (w.job t) ≤ sum_below w.jobs (λ t. entry c (w.job t)) = sum_least w.jobs (λ t. entry c (w.job t)) t m in omega (arith, a, d, e)
+count_of_sum w h c (inr (t, y)) = let m : t + 1 ≤ w.jobs = y.0 in let e : entry c (w.job t) ≡ 1 = y.1 in let a : sum_below w.jobs (λ t. entry c (w.job t)) + (one (w.call c).counted + (w.call c).undealt) ≡ (w.call c).count = h.sums c in
+    let d : entry c (w.job t) ≤ sum_below w.jobs (λ t. entry c (w.job t)) = sum_least w.jobs (λ t. entry c (w.job t)) t m in omega (arith, a, d, e)
 
 frame_counts : (w : World) → ScopesHold w → (q : Party) (c : ℕ) (f : Place) → Says w q f → ((t : ℕ) → run_of t f ≤ worked t (w.stack q)) → body c f ≤ all_bodies c (w.stack q) → holds_scope c f ≡ true → 1 ≤ (w.call c).count
 frame_counts w h q c (ScopeBody o) s r b z = count_of_sum w h c (inl (let a : all_bodies c (w.stack q) + 0 ≤ one (w.call c).counted = (h.bodies c).alone q in let d : one (c == o.number) ≡ 1 = ap one (eq-eqb c (o.number) (sym (eqb-true (o.number) c z))) in omega (arith, a, b, d)))
 frame_counts w h q c (Run t (Scoped d o)) s r b z = count_of_sum w h c (inr (t, (s.0, entry_on c (w.job t) (Scoped d o) counted (s.1) ∙ ap one (eq-eqb c d (sym (eqb-true d c z))))))
   where
     running : (w.job t).at ≡ Running q
-    running = (at_work ((w.job t).at) ((w.job t).runs) q (where_is (Work q) (loc_at (w.job t)) (let a : worked t (w.stack q) ≡ is_loc (Work q) (loc_at (w.job t)) = (((((h.shares).calls).jobs).ok).placed (Work q) t) in let e : run_of t (Run t (Scoped d o)) ≤ worked t (w.stack q) = r t in let i : one (t == t) ≡ 1 = self_one t in omega (arith, a, e, i)))).1
+    running = (at_work ((w.job t).at) ((w.job t).runs) q (where_is (Work q) (loc_at (w.job t)) (let a : worked t (w.stack q) ≡ is_loc (Work q) (loc_at (w.job t)) = (((((h.shares).calls).jobs).ok).placed (Work q) t) in let e : run_of t (Run t (Scoped d o)) ≤ worked t (w.stack q) = r t in
+        let i : one (t == t) ≡ 1 = self_one t in omega (arith, a, e, i)))).1
 
     counted : (w.job t).counted ≡ true
     counted = entry_kept w h t (ap is_scoped (s.1)) (ap is_busy running)

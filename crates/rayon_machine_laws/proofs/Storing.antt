@@ -224,9 +224,11 @@ land_counted q t (HandBack (Open o)) J = same_counted J (o.job) (at_job (J (o.jo
 land_counted q t (HandBack (Enter e)) J = same_counted J (e.job) (at_job (J (e.job)) HandedBack) t refl
 land_counted q t (HandBack (Gather g)) J = marks_counted g.pieces Returned J t (one (is_piece g.pieces t)) (λ e. omega arith)
 land_counted q t (HandBack (Feed d)) J = let a : one (put J (d.job) (at_job (J (d.job)) HandedBack) t).counted ≡ one (J t).counted = ap one (put_same (λ v. v.counted) J (d.job) (at_job (J (d.job)) HandedBack) t refl) in
-    let b : one (put (put J (d.job) (at_job (J (d.job)) HandedBack)) (d.token) (at_job (J (d.token)) HandedBack) t).counted ≡ one (put J (d.job) (at_job (J (d.job)) HandedBack) t).counted = ap one (put_same (λ v. v.counted) (put J (d.job) (at_job (J (d.job)) HandedBack)) (d.token) (at_job (J (d.token)) HandedBack) t (sym (put_same (λ v. v.counted) J (d.job) (at_job (J (d.job)) HandedBack) (d.token) refl))) in omega (arith, a, b)
+    let b : one (put (put J (d.job) (at_job (J (d.job)) HandedBack)) (d.token) (at_job (J (d.token)) HandedBack) t).counted ≡ one (put J (d.job) (at_job (J (d.job)) HandedBack) t).counted =
+    ap one (put_same (λ v. v.counted) (put J (d.job) (at_job (J (d.job)) HandedBack)) (d.token) (at_job (J (d.token)) HandedBack) t (sym (put_same (λ v. v.counted) J (d.job) (at_job (J (d.job)) HandedBack) (d.token) refl))) in omega (arith, a, b)
 land_counted q t (HandBack (Fork o s)) J = let a : one (put J s (at_job (J s) HandedBack) t).counted ≡ one (J t).counted = ap one (put_same (λ v. v.counted) J s (at_job (J s) HandedBack) t refl) in
-    let b : one (put (put J s (at_job (J s) HandedBack)) (o.job) (at_job (J (o.job)) HandedBack) t).counted ≡ one (put J s (at_job (J s) HandedBack) t).counted = ap one (put_same (λ v. v.counted) (put J s (at_job (J s) HandedBack)) (o.job) (at_job (J (o.job)) HandedBack) t (sym (put_same (λ v. v.counted) J s (at_job (J s) HandedBack) (o.job) refl))) in omega (arith, a, b)
+    let b : one (put (put J s (at_job (J s) HandedBack)) (o.job) (at_job (J (o.job)) HandedBack) t).counted ≡ one (put J s (at_job (J s) HandedBack) t).counted =
+    ap one (put_same (λ v. v.counted) (put J s (at_job (J s) HandedBack)) (o.job) (at_job (J (o.job)) HandedBack) t (sym (put_same (λ v. v.counted) J s (at_job (J s) HandedBack) (o.job) refl))) in omega (arith, a, b)
 
 -- it takes them from pieces that its party has as they were made
 pub unshared_none : (t : ℕ) (g : Move) → fed_move t g ≤ 0 → unshares t g ≤ 0

@@ -28,8 +28,10 @@ tokens_keep f g own new cap q c other mine t = record { alone = λ r. alone r (s
 
     apart : (r s : Party) (y z : Bool) → same_party r q ≡ y → same_party s q ≡ z → same_party r s ≡ false → g r + g s ≤ cap
     apart r s false false y z d = let a : g r ≤ f r = other r y in let b : g s ≤ f s = other s z in let e : f r + f s ≤ cap = t.apart r s d in omega (arith, a, b, e)
-    apart r s true false y z d = let i : r ≡ q = same_party_true r q y in subst (λ p. g p + g s ≤ cap) (sym i) (let b : g s ≤ f s = other s z in let e : f s + f q ≤ cap = t.apart s q z in let h : f s + own ≤ cap = t.alone s in let k : f q + own ≤ cap = t.alone q in omega (arith, b, e, h, k, mine, c))
-    apart r s false true y z d = let i : s ≡ q = same_party_true s q z in subst (λ p. g r + g p ≤ cap) (sym i) (let b : g r ≤ f r = other r y in let e : f r + f q ≤ cap = t.apart r q y in let h : f r + own ≤ cap = t.alone r in let k : f q + own ≤ cap = t.alone q in omega (arith, b, e, h, k, mine, c))
+    apart r s true false y z d = let i : r ≡ q = same_party_true r q y in subst (λ p. g p + g s ≤ cap) (sym i)
+        (let b : g s ≤ f s = other s z in let e : f s + f q ≤ cap = t.apart s q z in let h : f s + own ≤ cap = t.alone s in let k : f q + own ≤ cap = t.alone q in omega (arith, b, e, h, k, mine, c))
+    apart r s false true y z d = let i : s ≡ q = same_party_true s q z in subst (λ p. g r + g p ≤ cap) (sym i)
+        (let b : g r ≤ f r = other r y in let e : f r + f q ≤ cap = t.apart r q y in let h : f r + own ≤ cap = t.alone r in let k : f q + own ≤ cap = t.alone q in omega (arith, b, e, h, k, mine, c))
     apart r s true true y z d = absurd (let i : r ≡ q = same_party_true r q y in let j : s ≡ q = same_party_true s q z in let k : same_party r s ≡ true = ap (λ p. same_party p s) (i ∙ sym j) ∙ same_party_refl s in cc)
 
 -- a share that nobody had comes to one party
@@ -109,7 +111,8 @@ sum_both (suc n) f g k e = let a : g n ≡ f n + k n = e n (omega arith) in let 
 -- any number of summands more that are 0
 pub sum_tail : (n m : ℕ) (f : ℕ → ℕ) → ((i : ℕ) → n ≤ i → f i ≡ 0) → sum_below (n + m) f ≡ sum_below n f
 sum_tail n zero f e = ap (λ k. sum_below k f) (let k : n + 0 ≡ n = omega arith in k)
-sum_tail n (suc m) f e = ap (λ k. sum_below k f) (let k : n + suc m ≡ suc (n + m) = omega arith in k) ∙ (let a : f (n + m) ≡ 0 = e (n + m) (omega arith) in let b : sum_below (n + m) f ≡ sum_below n f = sum_tail n m f e in let g : (f (n + m) + sum_below (n + m) f) ≡ sum_below n f = omega (arith, a, b) in g)
+sum_tail n (suc m) f e = ap (λ k. sum_below k f) (let k : n + suc m ≡ suc (n + m) = omega arith in k) ∙ (let a : f (n + m) ≡ 0 = e (n + m) (omega arith) in let b : sum_below (n + m) f ≡ sum_below n f = sum_tail n m f e in
+    let g : (f (n + m) + sum_below (n + m) f) ≡ sum_below n f = omega (arith, a, b) in g)
 
 -- how many numbers below n are pieces
 pieces_sum : (n : ℕ) (c : Pieces) → sum_below n (λ t. one (is_piece c t)) ≡ (n - c.first) - (n - (c.first + c.workers))

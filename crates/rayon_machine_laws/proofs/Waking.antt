@@ -134,7 +134,13 @@ woken_attends w q k r e a inj all lost p i below filled has =
     ]
   where
     by_party : (o : HasOwing w p) → is_committed (result w q k r) p (o.worker) ≡ true → (b : Bool) → same_party (o.party) q ≡ b → HasLooker (result w q k r) p ⊎ HasOwing (result w q k r) p
-    by_party o con false eb = inr (record { party = o.party; worker = o.worker; below = o.below; committed = con; owing = (let s : (result w q k r).stack (o.party) ≡ w.stack (o.party) = stack_other w.stack q (after_move (next_at w q k (r.0)) k.below) (o.party) eb in ap (λ y. owes (o.party) (y.top) p (o.worker)) s ∙ o.owing) })
+    by_party o con false eb = inr (record {
+      party = o.party;
+      worker = o.worker;
+      below = o.below;
+      committed = con;
+      owing = (let s : (result w q k r).stack (o.party) ≡ w.stack (o.party) = stack_other w.stack q (after_move (next_at w q k (r.0)) k.below) (o.party) eb in ap (λ y. owes (o.party) (y.top) p (o.worker)) s ∙ o.owing);
+    })
     by_party o con true eb = let is : o.party ≡ q = same_party_true (o.party) q eb in elim (lost p (o.worker) (o.below) (ap (λ y. owes q (y.top) p (o.worker)) (sym e) ∙ subst (λ z. owes z (w.stack z).top p (o.worker) ≡ true) is (o.owing)) (o.committed)) [
       | inl l ↦ inl l
       | inr n ↦ inr (owing_here w q ((after_move (next_at w q k (r.0)) k.below).top) (result w q k r) p (o.worker) (top_is w q k r) (o.below) con n)
@@ -157,7 +163,8 @@ not_committed w q k r j e ok locks h awake b = elim (either (is_committed w r j)
 ]
 
 -- the wake of one whose latch was set
-pub settled_attends : (w : World) (q : Party) (s : Settling) (fs : List Place) → w.stack q ≡ record { top = WakeSettled s; below = fs } → SeatsOk w → FramesOk w → Attended w → IfSome (outcome w q (record { top = WakeSettled s; below = fs })) (λ r. Attended (result w q (record { top = WakeSettled s; below = fs }) r))
+pub settled_attends : (w : World) (q : Party) (s : Settling) (fs : List Place) → w.stack q ≡ record { top = WakeSettled s; below = fs } → SeatsOk w → FramesOk w → Attended w
+    → IfSome (outcome w q (record { top = WakeSettled s; below = fs })) (λ r. Attended (result w q (record { top = WakeSettled s; below = fs }) r))
 settled_attends w q s fs e ok fr a =
     if_some_map (λ r. Woke (part_at w q k) r × Tops (λ y. is_blocking y ≡ false) (next_at w q k (r.0))) (λ r. Attended (result w q k r))
     (λ r h. woken_attends w q k r e a ((h.0).injector) (woken_at w q k e ok fr refl r (h.0) (h.1)) (λ p i below o has. cc))
@@ -174,7 +181,8 @@ target_wake (Worker i j) n = (refl, refl)
 target_wake (Caller c) n = (refl, refl)
 
 -- a waker's wake
-pub wake_attends : (w : World) (q : Party) (n : Walk) (fs : List Place) → w.stack q ≡ record { top = WakeWorker n; below = fs } → SeatsOk w → FramesOk w → LocksOk w → Attended w → IfSome (outcome w q (record { top = WakeWorker n; below = fs })) (λ r. Attended (result w q (record { top = WakeWorker n; below = fs }) r))
+pub wake_attends : (w : World) (q : Party) (n : Walk) (fs : List Place) → w.stack q ≡ record { top = WakeWorker n; below = fs } → SeatsOk w → FramesOk w → LocksOk w → Attended w
+    → IfSome (outcome w q (record { top = WakeWorker n; below = fs })) (λ r. Attended (result w q (record { top = WakeWorker n; below = fs }) r))
 wake_attends w q n fs e ok fr locks a =
     if_some_map (λ r. Woke (part_at w q k) r × Tops (λ y. is_blocking y ≡ false) (next_at w q k (r.0))) (λ r. Attended (result w q k r))
     (λ r h. woken_attends w q k r e a ((h.0).injector) (woken_at w q k e ok fr refl r (h.0) (h.1)) (lost r (h.0) (woken_at w q k e ok fr refl r (h.0) (h.1)) ((w.seat n.pool n.worker).blocked) refl))
@@ -190,10 +198,12 @@ wake_attends w q n fs e ok fr locks a =
     seat = ap (λ z. w.seat z (target_worker q (act_of q (WakeWorker n)))) ((target_wake q n).0) ∙ ap (λ z. w.seat n.pool z) ((target_wake q n).1)
 
     parts : (p i : ℕ) → owes q (WakeWorker n) p i ≡ true → (n.pool ≡ p) × (nat_lt 0 n.owed ≡ true) × (n.worker ≤ i)
-    parts p i o = let a : (((n.pool == p) && nat_lt 0 n.owed) ≡ true) × (nat_le n.worker i ≡ true) = and_parts ((n.pool == p) && nat_lt 0 n.owed) (nat_le n.worker i) o in let b : ((n.pool == p) ≡ true) × (nat_lt 0 n.owed ≡ true) = and_parts (n.pool == p) (nat_lt 0 n.owed) (a.0) in (eqb-true n.pool p (b.0), b.1, leb-true n.worker i (a.1))
+    parts p i o = let a : (((n.pool == p) && nat_lt 0 n.owed) ≡ true) × (nat_le n.worker i ≡ true) = and_parts ((n.pool == p) && nat_lt 0 n.owed) (nat_le n.worker i) o in let b : ((n.pool == p) ≡ true) × (nat_lt 0 n.owed ≡ true) = and_parts (n.pool == p) (nat_lt 0 n.owed) (a.0) in
+        (eqb-true n.pool p (b.0), b.1, leb-true n.worker i (a.1))
 
     free : (r : Seen × Part) → r.1.seat.blocked ≡ false → ((result w q k r).seat n.pool n.worker).blocked ≡ false
-    free r f = let at : ((n.pool == target_pool q (act_of q (WakeWorker n))) && (n.worker == target_worker q (act_of q (WakeWorker n)))) ≡ true = ap (λ z. (n.pool == z) && (n.worker == target_worker q (act_of q (WakeWorker n)))) ((target_wake q n).0) ∙ ap (λ z. (n.pool == n.pool) && (n.worker == z)) ((target_wake q n).1) ∙ same_refl n.pool n.worker in rw at f
+    free r f = let at : ((n.pool == target_pool q (act_of q (WakeWorker n))) && (n.worker == target_worker q (act_of q (WakeWorker n)))) ≡ true =
+        ap (λ z. (n.pool == z) && (n.worker == target_worker q (act_of q (WakeWorker n)))) ((target_wake q n).0) ∙ ap (λ z. (n.pool == n.pool) && (n.worker == z)) ((target_wake q n).1) ∙ same_refl n.pool n.worker in rw at f
 
     lost : (r : Seen × Part) → Woke (part_at w q k) r → AllWoken w (result w q k r) → (b : Bool) → (w.seat n.pool n.worker).blocked ≡ b → Lost w q k r
     lost r s all true b p i below o has =

@@ -2,22 +2,10 @@
 --
 -- The first is `leaves`, and `shut` names the acts that are none of who yields. A yield needs no more.
 use Rattle.std.proofs.Common.{refl, ◌∙◌, sym, ap, subst}
-use Rattle.std.specs.Prelude.{ℕ, Bool, true, false, ◌&&◌, ◌==◌, nat_lt, if◌then◌else◌, Option, Some, None, slice_get, ◌≡◌, IfSome}
-use Rattle.std.proofs.lemmas.Bool.{eqb-true}
-use Rattle.rayon_machine_places.specs.declared.place.Party.{Party}
-use Rattle.rayon_machine_places.specs.declared.place.Party.TheVariants.{Worker, Caller}
-use Rattle.rayon_machine_places.specs.declared.place.Ending.{Ending}
-use Rattle.rayon_machine_places.specs.declared.place.Count.{Count}
-use Rattle.rayon_machine_places.specs.declared.place.Count.TheVariants.{OfPool, OfScope}
-use Rattle.rayon_machine_places.specs.declared.place.Place.{Place}
-use Rattle.rayon_machine_places.specs.declared.place.Place.TheVariants.{PickVictim, StealFrom, YieldPop, YieldTakeCast, YieldPick, YieldSteal, YieldPopInjected, LocalPop, LocalTakeCast, Run}
-use Rattle.rayon_machine_places.specs.declared.act.Seen.{Seen}
-use Rattle.rayon_machine_places.specs.declared.event.Event.{Event}
-use Rattle.rayon_machine_places.specs.declared.event.Event.TheVariants.{Go, From, Refuse, Miss, End, Spawn, Fifo, Install, Join, Yield, YieldLocal, EndPool, Cast, Scope as OpenScope, IntoSpawn, IntoFifo, IntoCast, Broadcast}
-use Rattle.rayon_machine_places.specs.declared.state.Scope.{Scope}
-use Rattle.rayon_machine_places.specs.Places.{act_of, own_pool, same_party, is_free, is_member, is_refusable}
-use Rattle.rayon_machine_places.specs.World.{Part, Stack, World, target_pool, target_worker, target_call}
-use Rattle.rayon_machine_places.specs.Steps.{put_stack, with_stack, after_move, after_choice, after_miss, after_end, after_spawn, after_feed, after_fifo, after_deal, after_gather, after_send, after_join, after_enter, after_enter_fifo, after_enter_cast, after_yield, can_miss, holds, is_pool, step}
+use Rattle.rayon_machine_sleep_laws.proofs.Words.{ℕ, Bool, true, false, ◌&&◌, ◌==◌, nat_lt, if◌then◌else◌, Option, Some, None, slice_get, ◌≡◌, IfSome, eqb-true, Party, Worker, Caller, Ending, Count, OfPool, OfScope, Place, PickVictim, StealFrom, YieldPop, YieldTakeCast, YieldPick, YieldSteal}
+use Rattle.rayon_machine_sleep_laws.proofs.Words.{YieldPopInjected, LocalPop, LocalTakeCast, Run, Seen, Event, Go, From, Refuse, Miss, End, Spawn, Fifo, Install, Join, Yield, YieldLocal, EndPool, Cast, OpenScope, IntoSpawn, IntoFifo, IntoCast, Broadcast, Scope, act_of, own_pool, same_party}
+use Rattle.rayon_machine_sleep_laws.proofs.Words.{is_free, is_member, is_refusable, Part, Stack, World, target_pool, target_worker, target_call, put_stack, with_stack, after_move, after_choice, after_miss, after_end, after_spawn, after_feed, after_fifo, after_deal, after_gather, after_send}
+use Rattle.rayon_machine_sleep_laws.proofs.Words.{after_join, after_enter, after_enter_fifo, after_enter_cast, after_yield, can_miss, holds, is_pool, step}
 use Rattle.rayon_machine_laws.proofs.Frame.{acted_keeps, if_cond, if_some_all, stack_other}
 use Rattle.rayon_machine_laws.proofs.Ties.{outcome, result, job_at}
 use Rattle.rayon_machine_laws.proofs.Calm.{next_at}
@@ -171,9 +159,6 @@ and_false false = refl
 
 -- no other event of a party is enabled while it yields
 pub shut : (w : World) (e : Event) → is_search e ≡ false → is_yielding (w.stack (actor e)).top ≡ true → is_enabled w e ≡ false
-shut w (Go q) n y = cc
-shut w (From q v) n y = cc
-shut w (Miss q) n y = cc
 shut w (Refuse q) n y = some_if (is_refusable (w.stack q).top) _ ∙ (yield_busy (w.stack q).top y).2
 shut w (End q d) n y = allows_ends w q d ∙ (yield_busy (w.stack q).top y).1
 shut w (Spawn q p) n y = (allows_calls w).spawn q p ∙ ap (λ b. b && is_pool w.shape p) ((yield_busy (w.stack q).top y).0)
@@ -189,3 +174,4 @@ shut w (IntoSpawn q k) n y = (allows_calls w).into_spawn q k ∙ ap (λ b. b && 
 shut w (IntoFifo q k) n y = (allows_calls w).into_fifo q k ∙ ap (λ b. b && holds_this w q (slice_get w.scopes k)) ((yield_busy (w.stack q).top y).0)
 shut w (IntoCast q k) n y = (allows_calls w).into_cast q k ∙ ap (λ b. b && holds_this w q (slice_get w.scopes k)) ((yield_busy (w.stack q).top y).0)
 shut w (EndPool q p) n y = (allows_calls w).end_pool q p ∙ ap (λ b. b && (is_pool w.shape p && (w.pool p).held)) ((yield_busy (w.stack q).top y).0)
+shut w _ n y = cc

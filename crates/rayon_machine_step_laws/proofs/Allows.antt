@@ -3,17 +3,11 @@
 -- It stands on `HoldersHold`, `FeedersHold` and `StopsHold` of `rayon_machine_laws`: who leaves a lock holds it, and
 -- who takes a number back holds the book; no other party holds a worker's own FIFO list.
 use Rattle.std.proofs.Common.{refl, ◌∙◌, sym, ap}
-use Rattle.std.specs.Prelude.{ℕ, Bool, true, false, not, nat_lt, if◌then◌else◌, Option, Some, ◌≡◌}
-use Rattle.std.proofs.lemmas.Bool.{lt-ltb}
-use Rattle.rayon_machine_places.specs.declared.place.Party.{Party}
-use Rattle.rayon_machine_places.specs.declared.place.Party.TheVariants.{Worker, Caller}
-use Rattle.rayon_machine_places.specs.declared.place.Taken.TheVariants.{Plain, Token}
-use Rattle.rayon_machine_places.specs.declared.place.Place.{Place}
-use Rattle.rayon_machine_places.specs.declared.place.Place.TheVariants.{FallAsleep, LoadCounters, AddSleeping, LookAtCast, LookAtInjector, BlockSelf, UndoSleeping, WakeUp, UnlockOwn, BeginTask, LookQueue, PushJob, CloseSlot, AddToFifo, LookForToken, PushToken, TakeFromFifo, PushForAll, CloseForAll, WakeWorker, UnlockWoken, WakeSettled, UnlockSettled, Stopped}
-use Rattle.rayon_machine_places.specs.declared.act.Act.TheVariants.{LookInj, LookOwn, PushInj, PushOwn}
-use Rattle.rayon_machine_places.specs.Places.{act_of, is_member, is_rest, is_free, is_refusable, plan_book, plan_job, plan_pool}
-use Rattle.rayon_machine_places.specs.World.{World, is_own, same_list}
-use Rattle.rayon_machine_laws.specs.Holders.{IsHolding, book_at, feeds_list, locks_at}
+use Rattle.rayon_machine_sleep_laws.proofs.Words.{ℕ, Bool, true, false, not, nat_lt, if◌then◌else◌, Option, Some, ◌≡◌, lt-ltb, Party, Worker, Caller, Plain, Token, Place, FallAsleep, LoadCounters, AddSleeping, LookAtCast, LookAtInjector, BlockSelf, UndoSleeping, WakeUp, UnlockOwn, BeginTask}
+use Rattle.rayon_machine_sleep_laws.proofs.Words.{LookQueue, PushJob, CloseSlot, AddToFifo, PushToken, TakeFromFifo, PushForAll, CloseForAll, WakeWorker, UnlockWoken, WakeSettled, UnlockSettled, Stopped, LookInj, LookOwn, PushInj, PushOwn, act_of, is_member, is_rest, is_free, is_refusable}
+use Rattle.rayon_machine_sleep_laws.proofs.Words.{plan_book, plan_job, plan_pool, World, is_own, same_list, book_at, locks_at}
+use Rattle.rayon_machine_places.specs.declared.place.Place.TheVariants.{LookForToken}
+use Rattle.rayon_machine_laws.specs.Holders.{IsHolding, feeds_list}
 use Rattle.rayon_machine_laws.proofs.Feeders.{FeedersHold}
 use Rattle.rayon_machine_laws.proofs.Frame.{and_parts}
 use Rattle.rayon_machine_laws.proofs.Held.{HoldersHold, holding}
@@ -125,10 +119,6 @@ book_goes n w (Worker a b) (CloseForAll k) c z e = refl
 book_goes n w (Caller a) (CloseSlot m) c z e = refl
 book_goes n w (Caller a) (PushForAll k) c z e = refl
 book_goes n w (Caller a) (CloseForAll k) c z e = refl
-book_goes n w (Caller a) (AddToFifo f) c z e = absurd (cc)
-book_goes n w (Caller a) (LookForToken f) c z e = absurd (cc)
-book_goes n w (Caller a) (PushToken f v) c z e = absurd (cc)
-book_goes n w (Caller a) (TakeFromFifo f) c z e = absurd (cc)
 book_goes n w (Worker a b) _ c z e = absurd (cc)
 book_goes n w (Caller a) _ c z e = absurd (cc)
 
@@ -136,8 +126,7 @@ list_goes : (w : World) (q : Party) (x : Place) (p i : ℕ) (b : Option ℕ) →
 list_goes w (Worker a c) (LookForToken f) p i b o e = refl
 list_goes w (Worker a c) (PushToken f v) p i b o e = refl
 list_goes w (Worker a c) (TakeFromFifo f) p i b o e = refl
-list_goes w (Worker a c) _ p i b o e = absurd (cc)
-list_goes w (Caller c) _ p i b o e = absurd (cc)
+list_goes w _ _ p i b o e = absurd (cc)
 
 pub allows_holders : (w : World) → StandsHold w → HoldersHold w → FeedersHold w → AllowsHolders w
 allows_holders w s h f = record {

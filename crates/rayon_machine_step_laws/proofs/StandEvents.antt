@@ -2,34 +2,13 @@
 --
 -- This is `StandsHold`, and `always_stands` says it of every world.
 use Rattle.std.proofs.Common.{refl, ◌∙◌, sym, ap, subst}
-use Rattle.std.specs.Prelude.{ℕ, Bool, true, false, not, ◌&&◌, ◌+◌, ◌-◌, ◌==◌, nat_lt, if◌then◌else◌, Some, ◌≡◌, IfSome, List, [], ◌∷◌}
-use Rattle.rayon_machine_places.specs.declared.place.Party.{Party}
-use Rattle.rayon_machine_places.specs.declared.place.Party.TheVariants.{Worker, Caller}
-use Rattle.rayon_machine_places.specs.declared.place.Ending.{Ending}
-use Rattle.rayon_machine_places.specs.declared.place.Ending.TheVariants.{Fine, Fault}
-use Rattle.rayon_machine_places.specs.declared.place.JobKind.{JobKind}
-use Rattle.rayon_machine_places.specs.declared.place.JobKind.TheVariants.{Detached, Stored, Direct, Scoped, BodyOf, PieceOf, WholeOf, TokenOf}
-use Rattle.rayon_machine_places.specs.declared.place.Target.TheVariants.{Termination}
-use Rattle.rayon_machine_places.specs.declared.place.Plan.{Plan}
-use Rattle.rayon_machine_places.specs.declared.place.Plan.TheVariants.{Detach, Here, Send, Fork, Feed, Open, Enter, Gather}
-use Rattle.rayon_machine_places.specs.declared.place.Count.{Count}
-use Rattle.rayon_machine_places.specs.declared.place.Count.TheVariants.{OfPool, OfScope, OfCast}
-use Rattle.rayon_machine_places.specs.declared.place.Share.TheVariants.{PoolValue}
-use Rattle.rayon_machine_places.specs.declared.place.Pieces.{Pieces}
-use Rattle.rayon_machine_places.specs.declared.place.OpenCall.{OpenCall}
-use Rattle.rayon_machine_places.specs.declared.place.Wait.{Wait}
-use Rattle.rayon_machine_places.specs.declared.place.Then.TheVariants.{Resume}
-use Rattle.rayon_machine_places.specs.declared.place.Place.{Place}
-use Rattle.rayon_machine_places.specs.declared.place.Place.TheVariants.{ProbeWorking, PickVictim, StealFrom, PopInjected, YieldPop, YieldPick, YieldSteal, YieldPopInjected, LocalPop, Run, RaiseCount, GrowCall, GrowScope, OpenSlot, PushJob, AddToFifo, PushToken, TakeFromFifo, RaiseForAll, OpenForAll, PushForAll, LowerForAll, GrowCast, DealPieces, LowerCount, FirstSide, SecondSide, ScopeBody, AtOnce, Free, Stopped}
-use Rattle.rayon_machine_places.specs.declared.place.Move.TheVariants.{Stay}
-use Rattle.rayon_machine_places.specs.declared.event.Event.{Event}
-use Rattle.rayon_machine_places.specs.declared.event.Event.TheVariants.{Go, From, Refuse, Miss, End, Spawn, Fifo, Install, Join, Yield, YieldLocal, EndPool, Cast, Scope as OpenScope, IntoSpawn, IntoFifo, IntoCast, Broadcast}
-use Rattle.rayon_machine_places.specs.declared.state.Scope.{Scope}
-use Rattle.rayon_machine_places.specs.declared.shape.PoolShape.{PoolShape}
-use Rattle.rayon_machine_places.specs.Places.{act_of, own_pool, own_index, same_party, is_free, is_member, not_self, next_victim, next_steal, next_yield, plan_book, undo, after_push, end_cast, goes_on, fresh}
-use Rattle.rayon_machine_places.specs.World.{Shape, Stack, World, target_pool, target_worker, target_call}
-use Rattle.rayon_machine_places.specs.Steps.{put_stack, with_stack, after_move, after_resume, after_close, after_call, after_choice, after_refusal, after_miss, after_end, after_spawn, after_feed, after_deal, after_gather, after_broadcast, after_send, after_join, after_scope, after_enter, after_yield, can_miss, holds, is_pool, step}
-use Rattle.rayon_machine_places.specs.Runs.{IsRun, start}
+use Rattle.rayon_machine_sleep_laws.proofs.Words.{ℕ, Bool, true, false, not, ◌&&◌, ◌+◌, ◌-◌, ◌==◌, nat_lt, if◌then◌else◌, Some, ◌≡◌, IfSome, List, [], ◌∷◌, Party, Worker, Caller, Ending, Fine, Fault, JobKind, Detached, Stored, Direct, Scoped, BodyOf, PieceOf, WholeOf, TokenOf, Termination, Plan}
+use Rattle.rayon_machine_sleep_laws.proofs.Words.{Detach, Here, Send, Fork, Feed, Open, Enter, Gather, Count, OfPool, OfScope, OfCast, PoolValue, Pieces, OpenCall, Wait, Resume, Place, ProbeWorking, PickVictim, StealFrom, PopInjected, YieldPop, YieldPick, YieldSteal, YieldPopInjected, LocalPop}
+use Rattle.rayon_machine_sleep_laws.proofs.Words.{Run, RaiseCount, GrowCall, GrowScope, OpenSlot, PushJob, AddToFifo, PushToken, TakeFromFifo, RaiseForAll, OpenForAll, PushForAll, LowerForAll, GrowCast, DealPieces, LowerCount, FirstSide, SecondSide, ScopeBody, AtOnce, Free, Stopped, Stay, Event}
+use Rattle.rayon_machine_sleep_laws.proofs.Words.{Go, From, Refuse, Miss, End, Spawn, Fifo, Install, Join, Yield, YieldLocal, EndPool, Cast, OpenScope, IntoSpawn, IntoFifo, IntoCast, Broadcast, Scope, PoolShape, act_of, own_pool, own_index, same_party, is_free, is_member, not_self, next_victim}
+use Rattle.rayon_machine_sleep_laws.proofs.Words.{next_steal, next_yield, plan_book, undo, end_cast, goes_on, fresh, Shape, Stack, World, target_pool, target_worker, target_call, put_stack, with_stack, after_move, after_resume, after_close, after_call, after_choice, after_refusal, after_miss}
+use Rattle.rayon_machine_sleep_laws.proofs.Words.{after_end, after_spawn, after_feed, after_deal, after_gather, after_broadcast, after_send, after_join, after_scope, after_enter, after_yield, can_miss, holds, is_pool, step, IsRun, start}
+use Rattle.rayon_machine_places.specs.Places.{after_push}
 use Rattle.rayon_machine_laws.proofs.Frame.{acted_keeps, and_parts, fifo_cases, if_cond, if_some_and, if_some_map, into_cases, into_fifo_cases, into_cast_cases, same_party_true}
 use Rattle.rayon_machine_laws.proofs.Ties.{outcome, result, job_at, shape_at}
 use Rattle.rayon_machine_laws.proofs.Calm.{counts_seen, part_at, next_at}
@@ -110,8 +89,7 @@ skip_moved w a b v n g fs z = at (n == 0)
 miss_moved : (w : World) (q : Party) (x : Place) (fs : List Place) → w.stack q ≡ record { top = x; below = fs } → IfSome (after_miss w q (record { top = x; below = fs }) x) (Moved w)
 miss_moved w (Worker a b) (StealFrom k n) fs z = if_cond (Moved w) (can_miss w a k.victim) _ (λ y. steal_moved w a b k n (w.shape.pool a) fs z)
 miss_moved w (Worker a b) (YieldSteal v n) fs z = if_cond (Moved w) (can_miss w a v) _ (λ y. skip_moved w a b v n (w.shape.pool a) fs z)
-miss_moved w (Worker a b) _ fs z = tt
-miss_moved w (Caller n) _ fs z = tt
+miss_moved w _ _ fs z = tt
 
 -- where the frame below a run goes on
 on_sound : (n : ℕ) (q : Party) (f : Place) (d : Ending) (fs : List Place) → fits n q true f ≡ true → Frames n q (is_loose f) fs → Sound n q (record { top = goes_on f d; below = fs })

@@ -3,41 +3,14 @@
 --
 -- Which frames fit below is shown too (`Goes`).
 use Rattle.std.proofs.Common.{rules, arith, refl, ◌∙◌, sym, ap}
-use Rattle.std.specs.Prelude.{ℕ, Bool, true, false, not, ◌&&◌, ◌||◌, ◌+◌, nat_lt, if◌then◌else◌, Option, Some, None, ◌≡◌, IfSome, ⊤, List, [], ◌∷◌}
-use Rattle.rayon_machine_places.specs.declared.place.Party.{Party}
-use Rattle.rayon_machine_places.specs.declared.place.Party.TheVariants.{Worker, Caller}
-use Rattle.rayon_machine_places.specs.declared.place.JobKind.{JobKind}
-use Rattle.rayon_machine_places.specs.declared.place.JobKind.TheVariants.{Direct, BodyOf, WholeOf, TokenOf}
-use Rattle.rayon_machine_places.specs.declared.place.Target.{Target}
-use Rattle.rayon_machine_places.specs.declared.place.Target.TheVariants.{Termination, Answer}
-use Rattle.rayon_machine_places.specs.declared.place.Latch.{Latch}
-use Rattle.rayon_machine_places.specs.declared.place.Latch.TheVariants.{Terminate, OfCall}
-use Rattle.rayon_machine_places.specs.declared.place.Rounds.{Rounds}
-use Rattle.rayon_machine_places.specs.declared.place.Rounds.TheVariants.{Failed, Announced}
-use Rattle.rayon_machine_places.specs.declared.place.Plan.{Plan}
-use Rattle.rayon_machine_places.specs.declared.place.Plan.TheVariants.{Detach, Here, Send, Fork, Feed, Open, Enter, Gather}
-use Rattle.rayon_machine_places.specs.declared.place.Count.{Count}
-use Rattle.rayon_machine_places.specs.declared.place.Count.TheVariants.{OfPool, OfScope, OfCast}
-use Rattle.rayon_machine_places.specs.declared.place.Share.{Share}
-use Rattle.rayon_machine_places.specs.declared.place.Feeding.{Feeding}
-use Rattle.rayon_machine_places.specs.declared.place.Pieces.{Pieces}
-use Rattle.rayon_machine_places.specs.declared.place.Wait.{Wait}
-use Rattle.rayon_machine_places.specs.declared.place.Settling.{Settling}
-use Rattle.rayon_machine_places.specs.declared.place.Taken.{Taken}
-use Rattle.rayon_machine_places.specs.declared.place.Taken.TheVariants.{Plain, Token}
-use Rattle.rayon_machine_places.specs.declared.place.Mark.TheVariants.{Counted, Returned}
-use Rattle.rayon_machine_places.specs.declared.place.Then.{Then}
-use Rattle.rayon_machine_places.specs.declared.place.Then.TheVariants.{BeginFound, LeaveWait, Resume, Await, RunFirst, Answers, Missing as NoResult, Ran, GiveBack, Called, Gathers}
-use Rattle.rayon_machine_places.specs.declared.place.Place.{Place}
-use Rattle.rayon_machine_places.specs.declared.place.Place.TheVariants.{ProbeWorking, PopInjected, AnnounceSelf, ProbeIdle, LeaveSearch, BeginTask, BeginHere, Run, RaiseCount, GrowCall, GrowScope, OpenSlot, CloseSlot, LookQueue, PushJob, AddToFifo, TakeFromFifo, RaiseForAll, OpenForAll, PushForAll, CloseForAll, LowerForAll, GrowCast, DealPieces, TellNews, LockToWake, WakeWorker, UnlockWoken, WaitForLock, TakeResult, LowerCount, StoreResult, StoreBody, StoreSlot, StorePiece, SetLatch, LockToSettle, WakeSettled, UnlockSettled, SetLockLatch, FirstSide, SecondSide, ScopeBody, AtOnce, Free, Stopped}
-use Rattle.rayon_machine_places.specs.declared.place.Move.{Move}
-use Rattle.rayon_machine_places.specs.declared.place.Move.TheVariants.{Stay, Enter, StartRun, Back, HandBack, HandIn, Discard, Mark, HandAllBack}
-use Rattle.rayon_machine_places.specs.declared.act.Seen.{Seen}
-use Rattle.rayon_machine_places.specs.declared.act.Seen.TheVariants.{Done, Yes, Task, Wakes, Begun, Handed}
-use Rattle.rayon_machine_places.specs.declared.shape.PoolShape.{PoolShape}
-use Rattle.rayon_machine_places.specs.Places.{act_of, next_of, after_news, after_wait, finish, walk, settle, after_set, after_found, after_failure, taken_number, undo, withdraw, plan_book, plan_pool, count_book, begin_feed, after_slot, begin_cast, end_cast, ends_count, set_call}
-use Rattle.rayon_machine_places.specs.World.{Shape, Stack, Counts, Part, effect}
-use Rattle.rayon_machine_places.specs.Steps.{after_move}
+use Rattle.rayon_machine_sleep_laws.proofs.Words.{ℕ, Bool, true, false, not, ◌&&◌, ◌||◌, ◌+◌, nat_lt, if◌then◌else◌, Option, Some, None, ◌≡◌, IfSome, ⊤, List, [], ◌∷◌, Party, Worker, Caller, JobKind, Direct, BodyOf, WholeOf, TokenOf, Target, Termination, Answer, Latch, Terminate, OfCall, Rounds}
+use Rattle.rayon_machine_sleep_laws.proofs.Words.{Failed, Announced, Plan, Detach, Here, Send, Fork, Feed, Open, Enter, Gather, Count, OfPool, OfScope, OfCast, Share, Feeding, Pieces, Wait, Settling, Taken, Plain, Token, Counted, Returned, Then, BeginFound, LeaveWait, Resume, Await, RunFirst}
+use Rattle.rayon_machine_sleep_laws.proofs.Words.{Answers, Missing as NoResult, Ran, GiveBack, Called, Gathers, Place, ProbeWorking, PopInjected, AnnounceSelf, ProbeIdle, LeaveSearch, BeginTask, BeginHere, Run, RaiseCount, GrowCall, GrowScope, OpenSlot, CloseSlot, LookQueue, PushJob, AddToFifo}
+use Rattle.rayon_machine_sleep_laws.proofs.Words.{TakeFromFifo, RaiseForAll, OpenForAll, PushForAll, CloseForAll, LowerForAll, GrowCast, DealPieces, TellNews, LockToWake, WakeWorker, UnlockWoken, LowerCount, StoreResult, SetLatch, LockToSettle, WakeSettled, UnlockSettled, SetLockLatch}
+use Rattle.rayon_machine_sleep_laws.proofs.Words.{FirstSide, SecondSide, ScopeBody, AtOnce, Free, Stopped, Move, Stay, Into as Enter, StartRun, Back, HandBack, HandIn, Discard, Mark, HandAllBack, Seen, Done, Yes, Task, Wakes, PoolShape, act_of, next_of, after_news, after_wait, finish, walk}
+use Rattle.rayon_machine_sleep_laws.proofs.Words.{settle, after_set, after_found, after_failure, taken_number, undo, withdraw, plan_book, plan_pool, count_book, begin_feed, after_slot, begin_cast, end_cast, ends_count, set_call, Shape, Stack, Counts, Part, effect, after_move}
+use Rattle.rayon_machine_places.specs.declared.place.Place.TheVariants.{WaitForLock, TakeResult, StoreBody, StoreSlot, StorePiece}
+use Rattle.rayon_machine_places.specs.declared.act.Seen.TheVariants.{Begun, Handed}
 use Rattle.rayon_machine_laws.proofs.Frame.{if_some_all}
 use Rattle.rayon_machine_laws.proofs.Posts.{Steers, is_base}
 use Rattle.rayon_machine_laws.proofs.PostEvents.{is_based}
@@ -167,10 +140,7 @@ Goes n q b (HandIn y k) = (stands n q y ≡ true) × ((not b || is_loose y) ≡ 
 Goes n q b (Mark y c k) = (stands n q y ≡ true) × ((not b || is_loose y) ≡ true)
 Goes n q b (Enter f y) = (stands n q y ≡ true) × (fits n q (is_loose y) f ≡ true) × (b ≡ false)
 Goes n q b (StartRun f t) = (stands n q (Run t Direct) ≡ true) × (fits n q true f ≡ true) × (b ≡ false)
-Goes n q b Back = b ≡ false
-Goes n q b (HandBack m) = b ≡ false
-Goes n q b (Discard k) = b ≡ false
-Goes n q b (HandAllBack c) = b ≡ false
+Goes n q b _ = b ≡ false
 
 -- the frames below after a move to a place
 pub stay_frames : (n : ℕ) (q : Party) (b z : Bool) (fs : List Place) → (not b || z) ≡ true → Frames n q b fs → Frames n q z fs
@@ -221,16 +191,11 @@ finish_goes n (Worker p i) (RunFirst o a) e = (refl, refl, refl)
 finish_goes n (Caller c) (BeginFound g u) e = cc
 finish_goes n (Caller c) (LeaveWait g) e = cc
 finish_goes n (Caller c) (RunFirst o a) e = cc
-finish_goes n q Resume e = refl
 finish_goes n (Worker p i) (Await o) e = (refl, refl)
 finish_goes n (Caller c) (Await o) e = (refl, refl)
 finish_goes n (Worker p i) (Gathers o) e = (refl, refl)
 finish_goes n (Caller c) (Gathers o) e = (refl, refl)
-finish_goes n q (Answers o f d) e = refl
-finish_goes n q (NoResult o f) e = refl
-finish_goes n q (Ran t d) e = refl
-finish_goes n q (GiveBack m) e = refl
-finish_goes n q Called e = refl
+finish_goes n q _ e = refl
 
 goes_if : (n : ℕ) (q : Party) (z : Bool) (y : Place) (g : Move) → stands n q y ≡ true → Goes n q false g → Goes n q false (if z then Stay y else g)
 goes_if n q true y g s k = (s, refl)
@@ -277,12 +242,7 @@ news_plain : (q : Party) (m : Plan) → plan_stands q m ≡ true → then_stands
 news_plain (Worker p i) m e = refl
 news_plain (Caller c) (Fork o a) e = cc
 news_plain (Caller c) (Feed f) e = cc
-news_plain (Caller c) (Detach p t) e = refl
-news_plain (Caller c) (Here p t) e = refl
-news_plain (Caller c) (Send o) e = refl
-news_plain (Caller c) (Open o) e = refl
-news_plain (Caller c) (Enter x) e = refl
-news_plain (Caller c) (Gather g) e = refl
+news_plain (Caller c) _ e = refl
 
 pub undo_stands : (n : ℕ) (q : Party) (m : Plan) → stands n q (undo m) ≡ true
 undo_stands n (Worker p i) m = refl
@@ -336,8 +296,7 @@ inject_goes n g p i k z _ = by k.rounds
 
 feed_goes : (n p i : ℕ) (f : Feeding) (k : Count) → Goes n (Worker p i) false (Stay (begin_feed k f))
 feed_goes n p i f (OfPool r) = (refl, refl)
-feed_goes n p i f (OfScope c o) = (refl, refl)
-feed_goes n p i f (OfCast c o) = (refl, refl)
+feed_goes n p i f _ = (refl, refl)
 
 raise_goes : (n : ℕ) (g : PoolShape) (q : Party) (m : Plan) → At n g q (RaiseCount m)
 raise_goes n g (Worker p i) (Detach r t) z Done = (refl, refl)
@@ -372,10 +331,9 @@ look_goes n g q m z _ = (at_plan n q (PushJob m false) m refl (λ c. refl) (plan
 
 slot_goes : (n : ℕ) (q : Party) (m : Plan) → plan_stands q m ≡ true → Goes n q false (Stay (after_slot m))
 slot_goes n (Worker p i) (Feed f) e = (refl, refl)
-slot_goes n (Worker p i) _ e = (refl, refl)
 slot_goes n (Caller c) (Feed f) e = cc
 slot_goes n (Caller c) (Fork o a) e = cc
-slot_goes n (Caller c) _ e = (refl, refl)
+slot_goes n _ _ e = (refl, refl)
 
 open_goes : (n : ℕ) (g : PoolShape) (q : Party) (m : Plan) → At n g q (OpenSlot m)
 open_goes n g q m z Done = slot_goes n q m (plan_at n q (OpenSlot m) m (λ c. refl) z)
@@ -394,20 +352,18 @@ raise_all_goes n g q c z Done = by q c.count
   where
     by : (q : Party) (k : Count) → Goes n q false (Mark (begin_cast k c) c Counted)
     by (Worker p i) (OfPool r) = (refl, refl)
-    by (Worker p i) (OfScope d o) = (refl, refl)
-    by (Worker p i) (OfCast d o) = (refl, refl)
     by (Caller a) (OfPool r) = (refl, refl)
     by (Caller a) (OfScope d o) = (refl, refl)
     by (Caller a) (OfCast d o) = (refl, refl)
+    by (Worker p i) _ = (refl, refl)
 raise_all_goes n g q c z _ = refl
 
 pub end_cast_goes : (n : ℕ) (q : Party) (c : Pieces) (k : Count) → Goes n q false (Stay (end_cast k c))
 end_cast_goes n (Worker p i) c (OfPool r) = (refl, refl)
-end_cast_goes n (Worker p i) c (OfScope d o) = (refl, refl)
-end_cast_goes n (Worker p i) c (OfCast d o) = (refl, refl)
 end_cast_goes n (Caller a) c (OfPool r) = (refl, refl)
 end_cast_goes n (Caller a) c (OfScope d o) = (refl, refl)
 end_cast_goes n (Caller a) c (OfCast d o) = (refl, refl)
+end_cast_goes n (Worker p i) c _ = (refl, refl)
 
 push_all_goes : (n : ℕ) (g : PoolShape) (q : Party) (c : Pieces) → At n g q (PushForAll c)
 push_all_goes n g (Worker p i) c z Done = (refl, refl)

@@ -1,24 +1,11 @@
 -- wrong machines of steps: replays, computed by the kernel, in which a changed step breaks a clause of law_enabled or
 -- of law_yield, and that the machine as it is meets the clause there
 use Rattle.std.proofs.Common.{refl}
-use Rattle.std.specs.Prelude.{ℕ, zero, suc, Bool, true, false, ◌==◌, nat_lt, if◌then◌else◌, Option, Some, None, is_some, List, [], ◌∷◌, ◌++◌, ◌≡◌, IfSome}
-use Rattle.rayon_machine_places.specs.declared.shape.Order.TheVariants.{NewestFirst}
-use Rattle.rayon_machine_places.specs.declared.place.Party.{Party}
-use Rattle.rayon_machine_places.specs.declared.place.Party.TheVariants.{Worker, Caller}
-use Rattle.rayon_machine_places.specs.declared.place.Ending.TheVariants.{Fine, Fault}
-use Rattle.rayon_machine_places.specs.declared.place.Target.TheVariants.{Termination}
-use Rattle.rayon_machine_places.specs.declared.place.Taken.TheVariants.{Plain}
-use Rattle.rayon_machine_places.specs.declared.place.Place.{Place}
-use Rattle.rayon_machine_places.specs.declared.place.Place.TheVariants.{ProbeWorking, YieldPop, YieldTakeCast, YieldPick, YieldPopInjected, LocalTakeCast, BeginTask, TellNews, AtOnce, Free, Stopped}
-use Rattle.rayon_machine_places.specs.declared.act.Act.{Act}
-use Rattle.rayon_machine_places.specs.declared.act.Act.TheVariants.{Load, LookOwn, PushInj, News, Take}
-use Rattle.rayon_machine_places.specs.declared.event.Event.{Event}
-use Rattle.rayon_machine_places.specs.declared.event.Event.TheVariants.{Go, From, Refuse, Miss, End, Spawn, Fifo, Install, Scope as OpenScope, IntoSpawn, Yield, YieldLocal, EndPool}
-use Rattle.rayon_machine_places.specs.Places.{act_of, fresh, is_free, is_rest, victim_of}
-use Rattle.rayon_machine_places.specs.World.{Stack, World, is_held_by}
-use Rattle.rayon_machine_places.specs.Steps.{back, is_pool, step, with_stack}
-use Rattle.rayon_machine_places.specs.Runs.{start}
-use Rattle.rayon_machine_sleep_laws.specs.Searched.{Spot, OwnDeque, OwnCast, Injector, Look, and_then, whole_search}
+use Rattle.rayon_machine_sleep_laws.proofs.Words.{ℕ, zero, suc, Bool, true, false, ◌==◌, nat_lt, if◌then◌else◌, Option, Some, None, is_some, List, [], ◌∷◌, ◌++◌, ◌≡◌, IfSome, NewestFirst, Party, Worker, Caller, Fine, Fault, Termination, Plain, Place, ProbeWorking, YieldPop, YieldTakeCast}
+use Rattle.rayon_machine_sleep_laws.proofs.Words.{YieldPick, YieldPopInjected, LocalTakeCast, BeginTask, TellNews, AtOnce, Free, Stopped, Act, LookOwn, PushInj, News, Take, Event, Go, From, Refuse, Miss, End, Spawn, Fifo, Install, OpenScope, IntoSpawn, Yield, YieldLocal, EndPool, act_of, fresh}
+use Rattle.rayon_machine_sleep_laws.proofs.Words.{is_free, is_rest, victim_of, Stack, World, is_held_by, is_pool, step, with_stack, start, Spot, OwnDeque, OwnCast, Injector, Look, and_then, whole_search}
+use Rattle.rayon_machine_places.specs.declared.act.Act.TheVariants.{Load}
+use Rattle.rayon_machine_places.specs.Steps.{back}
 use Rattle.rayon_machine_step_laws.specs.Yields.{local_search, yield_look_of}
 use Rattle.rayon_machine_step_laws.specs.Enabled.{can_refuse, has_act, is_enabled, is_open_to, is_run, steal_misses}
 

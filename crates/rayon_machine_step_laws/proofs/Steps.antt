@@ -2,27 +2,15 @@
 --
 -- The table is `needs`; that `is_open_to` is all of it is shown over each act, choice, end and call.
 use Rattle.std.proofs.Common.{refl, ◌∙◌, sym, ap}
-use Rattle.std.specs.Prelude.{ℕ, Bool, true, false, not, ◌&&◌, ◌==◌, nat_lt, if◌then◌else◌, Option, Some, None, is_some, slice_get, ◌≡◌, List, [], ◌∷◌}
-use Rattle.rayon_machine_places.specs.declared.place.Party.{Party}
-use Rattle.rayon_machine_places.specs.declared.place.Party.TheVariants.{Worker, Caller}
-use Rattle.rayon_machine_places.specs.declared.place.Ending.{Ending}
-use Rattle.rayon_machine_places.specs.declared.place.Latch.{Latch}
-use Rattle.rayon_machine_places.specs.declared.place.Plan.{Plan}
-use Rattle.rayon_machine_places.specs.declared.place.Plan.TheVariants.{Feed, Enter}
-use Rattle.rayon_machine_places.specs.declared.place.Count.{Count}
-use Rattle.rayon_machine_places.specs.declared.place.Count.TheVariants.{OfPool, OfScope, OfCast}
-use Rattle.rayon_machine_places.specs.declared.place.Taken.TheVariants.{Plain, Token}
-use Rattle.rayon_machine_places.specs.declared.place.Place.{Place}
-use Rattle.rayon_machine_places.specs.declared.place.Place.TheVariants.{PickVictim, StealFrom, UnlockOwn, YieldPop, YieldPick, YieldSteal, LocalPop, BeginTask, Run, CloseSlot, LookQueue, PushJob, AddToFifo, TakeFromFifo, CloseForAll, UnlockWoken, UnlockSettled}
-use Rattle.rayon_machine_places.specs.declared.act.Act.{Act}
-use Rattle.rayon_machine_places.specs.declared.act.Act.TheVariants.{PopOwn, TakeCast, Steal, PopInj, Sleepy, Lock, Asleep, TryAdd, LookInj, LookOwn, Wakeup, Unlock, Wake, PushInj, PushOwn, FifoIn, FifoUndo, FifoOut, RaiseAll, Set, LockWait, Raise, Take, Slot, SlotUndo, SlotAll, SlotUndoAll, StoreBody as PutBody, StoreSlot as PutSlot}
-use Rattle.rayon_machine_places.specs.declared.state.Letter.{Letter}
-use Rattle.rayon_machine_places.specs.declared.state.Letter.TheVariants.{Unset, Sleepy as IsSleepy, Sleeping, Set as IsSet}
-use Rattle.rayon_machine_places.specs.declared.state.Scope.{Scope}
-use Rattle.rayon_machine_places.specs.Places.{own_pool, own_index, act_of, count_call, count_book, plan_book, plan_count, plan_job, plan_pool, is_member, is_pick, victim_of, is_free, same_party}
-use Rattle.rayon_machine_places.specs.World.{Stack, World, Part, Outcome, counts_at, target_pool, target_worker, target_call, effect, sleepy, fall_asleep, wake_up, set_latch, lock_wait, found, popped, take_cast, pop_injector, fifo_back, fifo_first, is_own, is_free_lock, is_held_by, is_open, same_list}
-use Rattle.rayon_machine_places.specs.Steps.{part_of, after_outcome, act_at, after_choice, after_miss, after_end, after_spawn, after_fifo, after_enter, after_enter_fifo, after_enter_cast, after_join, after_yield, after_feed, can_miss, holds, is_pool}
-use Rattle.rayon_machine_laws.specs.Holders.{locks_at, book_at}
+use Rattle.rayon_machine_sleep_laws.proofs.Words.{ℕ, Bool, true, false, not, ◌&&◌, ◌==◌, nat_lt, if◌then◌else◌, Option, Some, None, is_some, slice_get, ◌≡◌, List, [], ◌∷◌, Party, Worker, Caller, Ending, Latch, Plan, Feed, Enter, Count, OfPool, OfScope, OfCast, Plain, Token, Place, PickVictim}
+use Rattle.rayon_machine_sleep_laws.proofs.Words.{StealFrom, UnlockOwn, YieldPop, YieldPick, YieldSteal, LocalPop, BeginTask, Run, CloseSlot, LookQueue, PushJob, AddToFifo, TakeFromFifo, CloseForAll, UnlockWoken, UnlockSettled, Act, Sleepy, Lock, Asleep, LookInj, LookOwn, Wakeup, Unlock, Wake}
+use Rattle.rayon_machine_sleep_laws.proofs.Words.{PushInj, PushOwn, Set, Take, Letter, Unset, IsSleepy, Sleeping, IsSet, Scope, own_pool, own_index, act_of, count_call, count_book, plan_book, plan_count, plan_job, plan_pool, is_member, victim_of, is_free, same_party, Stack, World, Part, Outcome}
+use Rattle.rayon_machine_sleep_laws.proofs.Words.{counts_at, target_pool, target_worker, target_call, effect, fall_asleep, popped, take_cast, pop_injector, is_own, is_held_by, same_list, part_of, after_choice, after_miss, after_end, after_spawn, after_fifo, after_enter, after_enter_fifo}
+use Rattle.rayon_machine_sleep_laws.proofs.Words.{after_enter_cast, after_join, after_yield, after_feed, can_miss, holds, is_pool, locks_at, book_at}
+use Rattle.rayon_machine_places.specs.declared.act.Act.TheVariants.{PopOwn, TakeCast, Steal, PopInj, TryAdd, FifoIn, FifoUndo, FifoOut, RaiseAll, LockWait, Raise, Slot, SlotUndo, SlotAll, SlotUndoAll, StoreBody as PutBody, StoreSlot as PutSlot}
+use Rattle.rayon_machine_places.specs.Places.{is_pick}
+use Rattle.rayon_machine_places.specs.World.{sleepy, wake_up, set_latch, lock_wait, found, fifo_back, fifo_first, is_free_lock, is_open}
+use Rattle.rayon_machine_places.specs.Steps.{after_outcome, act_at}
 use Rattle.rayon_machine_laws.proofs.Frame.{same_party_refl, same_refl, same_list_refl}
 use Rattle.rayon_machine_laws.proofs.Feeders.{FeedersHold}
 use Rattle.rayon_machine_laws.proofs.Held.{HoldersHold}
@@ -67,9 +55,7 @@ some_set l m _ = refl
 
 some_waited : (m : Part) (x : Letter) → is_some (lock_wait m x) ≡ is_set_letter x
 some_waited m IsSet = refl
-some_waited m Unset = refl
-some_waited m IsSleepy = refl
-some_waited m Sleeping = refl
+some_waited m _ = refl
 
 some_found : (m : Part) (o : Option Ending) → is_some (found m o) ≡ true
 some_found m None = refl
@@ -153,9 +139,8 @@ own_open w p i b f = by ((w.seat p i).feeder b) refl
     by (Some g) e = ap (same_party (Worker p i)) ((f.held p i b g e).0) ∙ same_party_refl (Worker p i)
 
 count_has : (k : Count) → has (count_book k) ≡ true → count_book k ≡ Some (count_call k)
-count_has (OfPool p) e = cc
 count_has (OfScope c o) e = refl
-count_has (OfCast c o) e = cc
+count_has _ e = cc
 
 plan_has : (n : Plan) → has (plan_book n) ≡ true → plan_book n ≡ Some (count_call (plan_count n))
 plan_has (Feed f) e = count_has f.count e

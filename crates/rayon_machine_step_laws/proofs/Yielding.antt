@@ -3,30 +3,17 @@
 -- `Stage` is what the looks so far are at each place of a yield. The looks are those of specs/Searched of
 -- `rayon_machine_sleep_laws`.
 use Rattle.std.proofs.Common.{arith, refl, sym, ◌∙◌, ap, subst, inl, inr, ◌≢◌}
-use Rattle.std.specs.Prelude.{ℕ, suc, Bool, true, false, ◌+◌, ◌-◌, ◌==◌, ◌<◌, ◌≤◌, nat_lt, if◌then◌else◌, Option, Some, None, is_some, List, [], ◌∷◌, ◌++◌, ◌≡◌, ◌⊎◌, IfSome}
-use Rattle.std.proofs.lemmas.Bool.{eqb-true, eq-eqb, ltb-true, ltb-false}
-use Rattle.std.proofs.lemmas.List.{append_assoc}
-use Rattle.rayon_machine_places.specs.declared.shape.Order.{Order}
-use Rattle.rayon_machine_places.specs.declared.shape.Order.TheVariants.{NewestFirst, OldestFirst}
-use Rattle.rayon_machine_places.specs.declared.shape.PoolShape.{PoolShape}
-use Rattle.rayon_machine_places.specs.declared.place.Party.{Party}
-use Rattle.rayon_machine_places.specs.declared.place.Party.TheVariants.{Worker}
-use Rattle.rayon_machine_places.specs.declared.place.Place.{Place}
-use Rattle.rayon_machine_places.specs.declared.place.Place.TheVariants.{PickVictim, StealFrom, YieldPop, YieldTakeCast, YieldPick, YieldSteal, YieldPopInjected, LocalPop, LocalTakeCast, Run, Free}
-use Rattle.rayon_machine_places.specs.declared.place.Move.TheVariants.{Stay}
-use Rattle.rayon_machine_places.specs.declared.act.Seen.{Seen}
-use Rattle.rayon_machine_places.specs.declared.event.Event.{Event}
-use Rattle.rayon_machine_places.specs.declared.event.Event.TheVariants.{Go, From, Miss, Yield, YieldLocal}
-use Rattle.rayon_machine_places.specs.Places.{act_of, next_of, same_party, is_free, not_self, next_victim, next_yield}
-use Rattle.rayon_machine_places.specs.World.{Shape, Stack, World, Part, target_pool, target_worker, target_call, own_of, own_left, head_of, but_first, popped, take_cast, pop_injector, taken_as}
-use Rattle.rayon_machine_places.specs.Steps.{after_move, after_call, after_choice, after_miss, after_yield, can_miss, with_stack, step}
-use Rattle.rayon_machine_laws.specs.Attended.{is_filled}
+use Rattle.rayon_machine_sleep_laws.proofs.Words.{ℕ, suc, Bool, true, false, ◌+◌, ◌-◌, ◌==◌, ◌<◌, ◌≤◌, nat_lt, if◌then◌else◌, Option, Some, None, is_some, List, [], ◌∷◌, ◌++◌, ◌≡◌, ◌⊎◌, IfSome, eqb-true, eq-eqb, ltb-true, ltb-false, append_assoc, Order, NewestFirst, PoolShape, Party, Worker}
+use Rattle.rayon_machine_sleep_laws.proofs.Words.{Place, PickVictim, StealFrom, YieldPop, YieldTakeCast, YieldPick, YieldSteal, YieldPopInjected, LocalPop, LocalTakeCast, Run, Free, Stay, Seen, Event, Go, From, Miss, Yield, YieldLocal, act_of, next_of, same_party, is_free, not_self, next_victim}
+use Rattle.rayon_machine_sleep_laws.proofs.Words.{next_yield, Shape, Stack, World, Part, target_pool, target_worker, target_call, own_of, own_left, head_of, but_first, popped, take_cast, pop_injector, after_move, after_call, after_choice, after_miss, after_yield, can_miss, with_stack, step}
+use Rattle.rayon_machine_sleep_laws.proofs.Words.{is_filled, Spot, OwnDeque, OwnCast, Deque, Injector, Look, and_then, others, whole_search}
+use Rattle.rayon_machine_places.specs.declared.shape.Order.TheVariants.{OldestFirst}
+use Rattle.rayon_machine_places.specs.World.{taken_as}
 use Rattle.rayon_machine_laws.proofs.Calm.{part_at, next_at}
 use Rattle.rayon_machine_laws.proofs.Emptied.{own_none}
 use Rattle.rayon_machine_laws.proofs.Frame.{acted_keeps, either, if_cond, if_some_map, same_party_true, same_refl, stack_mine}
 use Rattle.rayon_machine_laws.proofs.Stops.{made}
 use Rattle.rayon_machine_laws.proofs.Ties.{outcome, result, job_at}
-use Rattle.rayon_machine_sleep_laws.specs.Searched.{Spot, OwnDeque, OwnCast, Deque, Injector, Look, and_then, others, whole_search}
 use Rattle.rayon_machine_step_laws.specs.Enabled.{is_enabled}
 use Rattle.rayon_machine_step_laws.specs.Yields.{GoesOn, HasFound, IsBack, IsPart, IsYieldRun, LocalLaw, YieldLaw, YieldsSo, is_yielding, local_search, yield_look_at, yield_look_of, yield_looks_in, yield_missed}
 use Rattle.rayon_machine_step_laws.proofs.Actors.{Leaves, actor, is_search, leaves, shut}
@@ -153,8 +140,7 @@ goes_on false n i base now (YieldSteal v m) l k e s = record { place = YieldStea
 goes_on false n i base now YieldPopInjected l k e s = record { place = YieldPopInjected; left = last ∷ []; yields = refl; stands = e; searched = part_of_stolen n i l s }
 goes_on true n i base now LocalPop l k e s = record { place = LocalPop; left = mine ∷ cast ∷ []; yields = refl; stands = e; searched = part_of_start true n i (first_start n i k) l _ (ap (λ z. z ++ (mine ∷ cast ∷ [])) s) }
 goes_on true n i base now LocalTakeCast l k e s = record { place = LocalTakeCast; left = cast ∷ []; yields = refl; stands = e; searched = part_of_start true n i (first_start n i k) l _ (ap (λ z. z ++ (cast ∷ [])) s) }
-goes_on false n i base now _ l k e s = absurd s
-goes_on true n i base now _ l k e s = absurd s
+goes_on _ n i base now _ l k e s = absurd s
 
 -- the act at each place
 own_some : (o : Order) (l : List ℕ) (t : ℕ) → own_of o l ≡ Some t → is_filled l ≡ true
@@ -281,8 +267,7 @@ leads_on false w p i base (YieldSteal v m) l k s = steal_leads (w.shape.pool p) 
 leads_on false w p i base YieldPopInjected l k s = last_leads (w.shape.pool p) p i (part_at w (Worker p i) (after_call base YieldPopInjected)) base l (w.pool p).injector s
 leads_on true w p i base LocalPop l k s = local_leads (w.shape.pool p) p i (part_at w (Worker p i) (after_call base LocalPop)) (w.shape.pool p).order base l (own_of (w.shape.pool p).order (w.seat p i).own) k refl s
 leads_on true w p i base LocalTakeCast l k s = local_cast_leads (w.shape.pool p) p i (part_at w (Worker p i) (after_call base LocalTakeCast)) base l ((w.pool p).casts i) k s
-leads_on false w p i base _ l k s = absurd s
-leads_on true w p i base _ l k s = absurd s
+leads_on _ w p i base _ l k s = absurd s
 
 module _ (b : Bool) (w : World) (p i : ℕ) (base : Stack) (y : Place) (l : List Look) (small : i < (w.shape.pool p).workers) (is : w.stack (Worker p i) ≡ after_call base y) (s : Stage b (w.shape.pool p).workers i y l) where
   abbrev q : Party
@@ -341,8 +326,7 @@ stage_yields false n i (YieldSteal v m) l s = refl
 stage_yields false n i YieldPopInjected l s = refl
 stage_yields true n i LocalPop l s = refl
 stage_yields true n i LocalTakeCast l s = refl
-stage_yields false n i _ l s = absurd s
-stage_yields true n i _ l s = absurd s
+stage_yields _ n i _ l s = absurd s
 
 -- each event
 yield_step : (b : Bool) (w v : World) (p i : ℕ) (base : Stack) (y : Place) (l : List Look) (e : Event) → i < (w.shape.pool p).workers → w.stack (Worker p i) ≡ after_call base y → Stage b (w.shape.pool p).workers i y l → step w e ≡ Some v

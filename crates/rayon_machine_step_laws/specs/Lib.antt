@@ -1,4 +1,5 @@
 pub mod Enabled
+pub mod Lowest
 pub mod Yields
 pub use Rattle.rayon_machine_places.specs.Places
 pub use Rattle.rayon_machine_places.specs.World

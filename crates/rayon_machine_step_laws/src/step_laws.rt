@@ -2,10 +2,15 @@
 ghost use Rattle.rayon_machine_places.specs.Runs.{Always};
 ghost use Rattle.rayon_machine_step_laws.specs.Enabled.{AllowsActs, AllowsCalls, AllowsChoices, AllowsEnds};
 ghost use Rattle.rayon_machine_step_laws.specs.Enabled.{AllowsGo, AllowsHolders, AllowsRefusals};
+ghost use Rattle.rayon_machine_step_laws.specs.Lowest.{BlocksCallers, IsFounded};
 ghost use Rattle.rayon_machine_step_laws.specs.Yields.{LocalLaw, YieldLaw};
 
 /// Which events each world of each run allows, so that no law is met by a machine that stands still.
 /// Each party runs a job, is free, has stopped, or stands at a place with an act; and no outside caller stops (`acts`).
+/// The lowest place of a worker's stack is one of its wait for the end of its pool, or where it has stopped; that of an
+/// outside caller, and of a caller's own worker, is where it is free; and no such place stands above the lowest
+/// (`lowest`). Only an outside caller waits for its call by blocking on a lock latch: a worker works meanwhile
+/// (`blocks`).
 /// A party can make its next act but in three cases: it is to take a sleep lock that is held, or its own while it is
 /// blocked; it is to pass a lock latch that is not set; or it is to open or fill a number of a book, or to redeem a
 /// token of a FIFO list, and another party holds that book or list (`goes`). Who holds such a lock, book or list can
@@ -16,6 +21,8 @@ ghost use Rattle.rayon_machine_step_laws.specs.Yields.{LocalLaw, YieldLaw};
 /// No progress and no fairness is claimed: a party that can take a step need not take it.
 pub fn law_enabled()
     ensures acts { Always AllowsActs }
+    ensures lowest { Always IsFounded }
+    ensures blocks { Always BlocksCallers }
     ensures goes { Always AllowsGo }
     ensures holders { Always AllowsHolders }
     ensures refusals { Always AllowsRefusals }

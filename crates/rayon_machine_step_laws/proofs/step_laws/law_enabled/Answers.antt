@@ -1,12 +1,19 @@
 use Rattle.rayon_machine_laws.proofs.FeederEvents.{always_feeders}
 use Rattle.rayon_machine_laws.proofs.Held.{always_holds}
 use Rattle.rayon_machine_step_laws.proofs.Allows.{allows_acts, allows_holders, allows_refusals}
+use Rattle.rayon_machine_step_laws.proofs.LowestEvents.{always_lowest, blocks_callers, is_founded}
 use Rattle.rayon_machine_step_laws.proofs.StandEvents.{always_stands}
 use Rattle.rayon_machine_step_laws.proofs.Steps.{allows_calls, allows_choices, allows_ends, allows_go}
 use Rattle.rayon_machine_step_laws.proofs.step_laws.law_enabled.Goals as goal
 
 pub returns-clause-acts : goal.returns-clause-acts
 returns-clause-acts c h es w r = allows_acts w (always_stands h es w r)
+
+pub returns-clause-lowest : goal.returns-clause-lowest
+returns-clause-lowest c h es w r = is_founded w (always_lowest h es w r)
+
+pub returns-clause-blocks : goal.returns-clause-blocks
+returns-clause-blocks c h es w r = blocks_callers w (always_lowest h es w r)
 
 pub returns-clause-goes : goal.returns-clause-goes
 returns-clause-goes c h es w r = allows_go w (always_holds h es w r) (always_feeders h es w r)

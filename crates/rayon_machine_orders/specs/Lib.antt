@@ -2,6 +2,7 @@ pub mod Books
 pub mod Calls
 pub mod Casts
 pub mod Faults
+pub mod Latched
 pub mod Lists
 pub mod Looks
 pub mod Makes

@@ -8,6 +8,7 @@ ghost use Rattle.rayon_machine_orders.specs.Books.{IsBooked};
 ghost use Rattle.rayon_machine_orders.specs.Calls.{CallLaw};
 ghost use Rattle.rayon_machine_orders.specs.Casts.{CastLaw};
 ghost use Rattle.rayon_machine_orders.specs.Faults.{FaultLaw, IsKept};
+ghost use Rattle.rayon_machine_orders.specs.Latched.{TakesOnSet};
 ghost use Rattle.rayon_machine_orders.specs.Makes.{MakeLaw};
 ghost use Rattle.rayon_machine_orders.specs.Numbers.{NumberLaw};
 
@@ -34,7 +35,8 @@ pub fn law_count()
 /// In every world of every run, a call that was not refused and makes its last steps has run each of its jobs once:
 /// each is over, what the call took from its cell is how its own job ended, and the fault that it answers is its first
 /// side's, else its own job's; but a scope takes, and answers, a fault exactly where its book keeps one. No call finds
-/// its cell empty when it takes from it, and none answers that its result is missing. A call that is refused has jobs
+/// its cell empty when it takes from it, and none answers that its result is missing. A call takes from its cell only
+/// once its latch is set (`latched`), so nobody is to set it any more. A call that is refused has jobs
 /// that stand in no list and have never run, before its last step and for ever after. The share of the terminate count
 /// that it took is given back: from the act after the one that does it, none of its jobs is in the count, and for ever
 /// after its last step. A pool's terminate latch is set only when the pool has ended: its value is given up, no call
@@ -76,6 +78,7 @@ pub fn law_count()
 /// It does not say that a call ever comes to its last step, nor that a pool ever ends.
 pub fn law_end()
     ensures ends { Always IsEnd }
+    ensures latched { Always TakesOnSet }
     ensures refused { Always IsRefused }
     ensures returned { Always IsReturned }
     ensures early { Always NoEarlyEnd }

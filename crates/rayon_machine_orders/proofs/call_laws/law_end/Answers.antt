@@ -1,7 +1,9 @@
+use Rattle.std.proofs.Common.{ap}
 use Rattle.rayon_machine_laws.proofs.ClaimMakes.{always_calls}
 use Rattle.rayon_machine_laws.proofs.Endings.{ends_so, refused_so}
 use Rattle.rayon_machine_orders.proofs.FilledStates.{FilledHold}
 use Rattle.rayon_machine_orders.proofs.Filled.{always_filled, takes_filled, none_missing}
+use Rattle.rayon_machine_orders.proofs.Takes.{seen_set}
 use Rattle.rayon_machine_laws.proofs.Returns.{always_returns, returned_so}
 use Rattle.rayon_machine_orders.proofs.Early.{always_early, no_early_end}
 use Rattle.rayon_machine_orders.proofs.BookEvents.{always_books, is_booked}
@@ -14,6 +16,9 @@ use Rattle.rayon_machine_orders.proofs.call_laws.law_end.Goals as goal
 
 pub returns-clause-ends : goal.returns-clause-ends
 returns-clause-ends c h es w r = let f : FilledHold w = always_filled h es w r in ends_so w (always_calls h es w r) (takes_so w (always_faults h es w r)) (takes_filled w f) (none_missing w f)
+
+pub returns-clause-latched : goal.returns-clause-latched
+returns-clause-latched c h es w r q o f e = (always_filled h es w r).seen q o.number (ap seen_set e)
 
 pub returns-clause-refused : goal.returns-clause-refused
 returns-clause-refused c h es w r = refused_so w ((always_calls h es w r).jobs)

@@ -1,3 +1,4 @@
+pub mod Alone
 pub mod Enabled
 pub mod Lowest
 pub mod Yields

@@ -1,5 +1,6 @@
 //! The laws of steps, each the contract of a call without arguments: it holds in every world of every run.
 ghost use Rattle.rayon_machine_places.specs.Runs.{Always};
+ghost use Rattle.rayon_machine_step_laws.specs.Alone.{OthersLaw};
 ghost use Rattle.rayon_machine_step_laws.specs.Enabled.{AllowsActs, AllowsCalls, AllowsChoices, AllowsEnds};
 ghost use Rattle.rayon_machine_step_laws.specs.Enabled.{AllowsGo, AllowsHolders, AllowsRefusals};
 ghost use Rattle.rayon_machine_step_laws.specs.Lowest.{BlocksCallers, IsFounded};
@@ -18,6 +19,7 @@ ghost use Rattle.rayon_machine_step_laws.specs.Yields.{LocalLaw, YieldLaw};
 /// An act can be refused exactly where it is one for which room may be wanting (`refusals`). A run can end either way,
 /// and nothing else ends (`ends`). A search can begin at each worker of the pool, and a steal can miss exactly where
 /// the newest is taken first and the victim has one task (`choices`). A free party can make each call (`calls`).
+/// A step is one party's alone: every other party stands where it stood (`others`).
 /// No progress and no fairness is claimed: a party that can take a step need not take it.
 pub fn law_enabled()
     ensures acts { Always AllowsActs }
@@ -29,6 +31,7 @@ pub fn law_enabled()
     ensures ends { Always AllowsEnds }
     ensures choices { Always AllowsChoices }
     ensures calls { Always AllowsCalls }
+    ensures others { OthersLaw }
 {}
 
 /// A yield of a worker is one search in order: its own deque, its own broadcast list, each other worker's deque from

@@ -1,5 +1,6 @@
 use Rattle.rayon_machine_laws.proofs.FeederEvents.{always_feeders}
 use Rattle.rayon_machine_laws.proofs.Held.{always_holds}
+use Rattle.rayon_machine_step_laws.proofs.Alone.{others_law}
 use Rattle.rayon_machine_step_laws.proofs.Allows.{allows_acts, allows_holders, allows_refusals}
 use Rattle.rayon_machine_step_laws.proofs.LowestEvents.{always_lowest, blocks_callers, is_founded}
 use Rattle.rayon_machine_step_laws.proofs.StandEvents.{always_stands}
@@ -32,3 +33,6 @@ returns-clause-choices c h es w r = allows_choices w
 
 pub returns-clause-calls : goal.returns-clause-calls
 returns-clause-calls c h es w r = allows_calls w
+
+pub returns-clause-others : goal.returns-clause-others
+returns-clause-others c = others_law

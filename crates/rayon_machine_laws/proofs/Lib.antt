@@ -84,4 +84,5 @@ pub mod Returns
 pub mod Feeders
 pub mod FeederEvents
 pub mod Stocked
+pub mod Stays
 pub mod Redeems

@@ -12,6 +12,7 @@ pub mod Turn
 pub mod End
 pub mod Latch
 pub mod Shares
+pub mod Stays
 pub mod Bodies
 pub mod Counted
 pub use Rattle.rayon_machine_places.specs.Places

@@ -10,6 +10,7 @@ ghost use Rattle.rayon_machine_laws.specs.Letters.{IsLettered, StopsOnSet};
 ghost use Rattle.rayon_machine_laws.specs.Near.{IsNear};
 ghost use Rattle.rayon_machine_laws.specs.Once.{IsBound, IsOnce, IsRedeemed};
 ghost use Rattle.rayon_machine_laws.specs.Seats.{IsSeated};
+ghost use Rattle.rayon_machine_laws.specs.Stays.{StaysLaw};
 
 /// In every world of every run each number that was given out is a job or a token, and its record says where it is. Its
 /// run has begun at most once: a job that is over has run once, and one that was made, queued or handed back has not
@@ -26,6 +27,8 @@ ghost use Rattle.rayon_machine_laws.specs.Seats.{IsSeated};
 /// stays, unless it is taken back, and once it is filled it stays so (`fixed`).
 /// A job whose run ends is over as its run ended, and comes to be over only so; and a step adds one to the number of
 /// its runs only where a party comes to stand at its run (`ends`). So a job that has run has stood at its run.
+/// A job that is over stays over, with the same ending; a spent token stays spent, and what was handed back stays so
+/// (`stays`). So no job runs again.
 /// Each job is queued and run at its own pool, a job of a FIFO list in the one of its own kind, a token in its own
 /// worker's deque, and each piece in its own worker's broadcast list; what is run at once is in no list (`near`).
 /// It does not say that a job ever runs.
@@ -35,6 +38,7 @@ pub fn law_once()
     ensures bound { Always IsBound }
     ensures fixed { FixedLaw }
     ensures ends { EndsLaw }
+    ensures stays { StaysLaw }
     ensures near { Always IsNear }
 {}
 

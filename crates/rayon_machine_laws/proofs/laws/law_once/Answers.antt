@@ -4,6 +4,7 @@ use Rattle.rayon_machine_laws.proofs.SlotEvents.{fixed_law}
 use Rattle.rayon_machine_laws.proofs.Records.{ends_law}
 use Rattle.rayon_machine_laws.proofs.NearEvents.{always_near}
 use Rattle.rayon_machine_laws.proofs.Redeems.{always_stocks, redeems}
+use Rattle.rayon_machine_laws.proofs.Stays.{stays_law}
 use Rattle.rayon_machine_laws.proofs.laws.law_once.Goals as goal
 
 pub returns-clause-once : goal.returns-clause-once
@@ -20,6 +21,9 @@ returns-clause-fixed c = fixed_law
 
 pub returns-clause-ends : goal.returns-clause-ends
 returns-clause-ends c = ends_law
+
+pub returns-clause-stays : goal.returns-clause-stays
+returns-clause-stays c = stays_law
 
 pub returns-clause-near : goal.returns-clause-near
 returns-clause-near c h es w r = always_near h es w r

@@ -3,6 +3,7 @@ pub mod Finds
 pub mod Hands
 pub mod Keeps
 pub mod Marks
+pub mod Paths
 pub mod Pools
 pub mod Seating
 pub mod Seats

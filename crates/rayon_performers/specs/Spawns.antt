@@ -1,21 +1,14 @@
 -- What a spawn of a detached job does.
 use Rattle.std.specs.Prelude.{◌≡◌, ◌⊎◌, ℕ, Bool, true}
-use Rattle.rayon_machine_places.specs.declared.act.Act.{Act}
-use Rattle.rayon_machine_places.specs.declared.act.Seen.{Seen}
-use Rattle.rayon_machine_places.specs.declared.place.Move.{Move}
 use Rattle.rayon_machine_places.specs.declared.place.Move.TheVariants.{Stay, Back, HandBack}
 use Rattle.rayon_machine_places.specs.declared.place.Party.{Party}
 use Rattle.rayon_machine_places.specs.declared.place.Place.TheVariants.{RaiseCount}
 use Rattle.rayon_machine_places.specs.declared.place.Plan.TheVariants.{Detach}
 use Rattle.rayon_machine_places.specs.declared.shape.PoolShape.{PoolShape}
 use Rattle.rayon_drive.specs.declared.trace.Log.{Log}
-use Rattle.rayon_drive.specs.Paths.{Driven}
+use Rattle.rayon_drive.specs.Paths.{Traced}
 use Rattle.rayon_tasks.specs.Tasks.{OneJob, TaskOf}
 use Rattle.rayon_tasks.specs.Tickets.{TicketOf}
-
--- the entries that the later trace has more than the earlier one are those of a path of the table, whatever its acts did
-abbrev pub Traced : PoolShape → Party → Move → Log → Log → Move → Type 0
-Traced h q m v w n = Driven (λ (s : Log) (a : Act) (x : Seen) (t : Log). Unit {0}) (λ (s : Log). s) h q m v w n
 
 -- the acts of a spawn of the job of this name, from its Raise to its end
 abbrev pub Spawned : PoolShape → Party → ℕ → Log → Log → Type 0

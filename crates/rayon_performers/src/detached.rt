@@ -11,11 +11,12 @@ ghost use Rattle.rayon_machine_places.specs.declared.place.Party.TheVariants.{Wo
 ghost use Rattle.rayon_machine_places.specs.declared.place.Place.TheVariants as at;
 ghost use Rattle.rayon_machine_places.specs.declared.place.Share.TheVariants.{OfJob};
 ghost use Rattle.rayon_machine_places.specs.declared.place.Then.TheVariants.{Resume};
+ghost use Rattle.rayon_drive.specs.Paths.{Traced};
 ghost use Rattle.rayon_performers.specs.Finds.{StandsLast};
 ghost use Rattle.rayon_performers.specs.Hands.{Told, answer};
 ghost use Rattle.rayon_performers.specs.Marks.{GivesUnit, MissesUnit, TakesUnit};
 ghost use Rattle.rayon_performers.specs.Seats.{Resting};
-ghost use Rattle.rayon_performers.specs.Spawns.{Spawned, Traced, Unspawned, detached_task};
+ghost use Rattle.rayon_performers.specs.Spawns.{Spawned, Unspawned, detached_task};
 ghost use Rattle.rayon_performers.specs.Stands.{Last, hand};
 ghost use Rattle.rayon_queues.specs.Deques.{SameDeque, Unmoved};
 

@@ -1,7 +1,7 @@
 //! An outside caller, for the time of one call: what it performs the call's acts with, and the calls.
 ghost use Rattle.std.specs.Prelude.{◌≡◌, ◌≤◌, ◌⊎◌, [], None, Some, true, false, IfOk, IfErr, MatchResult};
 ghost use Rattle.rayon_drive.specs.declared.trace.Log.TheVariants.{Empty};
-ghost use Rattle.rayon_drive.specs.Paths.{Driven, goes};
+ghost use Rattle.rayon_drive.specs.Paths.{goes};
 ghost use Rattle.rayon_machine_places.specs.declared.place.Count.TheVariants.{OfPool};
 ghost use Rattle.rayon_machine_places.specs.declared.place.Move.TheVariants.{Stay, Back, HandBack};
 ghost use Rattle.rayon_machine_places.specs.declared.place.Party.TheVariants.{Caller};
@@ -11,6 +11,7 @@ ghost use Rattle.rayon_machine_places.specs.declared.place.Then.TheVariants.{Res
 ghost use Rattle.rayon_machine_places.specs.Places.{plan_job};
 ghost use Rattle.rayon_performers.specs.Hands.{answer};
 ghost use Rattle.rayon_performers.specs.Marks.{GivesUnit, SetBy};
+ghost use Rattle.rayon_performers.specs.Paths.{CallerGoes};
 ghost use Rattle.rayon_performers.specs.Pools.{shape_of};
 ghost use Rattle.rayon_performers.specs.Visiting.{At, Fits, Keeps, Kept, Stands, guest_needs, guest_on, guest_stays};
 ghost use Rattle.rayon_performers.specs.Visits.{Does, Needs, Packed, Raises, Takes, first_of, hand, if_done, load_in, sent, task_in, ticket_of, unit_after, with_pushed};
@@ -341,7 +342,7 @@ impl<'a, J: JobKind> Guest<'a, J> {
     // Performs a call of this plan from this place on, as far as its end.
     fn drive<R: Wait>(&mut self, rt: &R, plan: Plan, place: Place) -> Move
         requires { At plan (hand self.old) (Stay place) }
-        ensures path { Driven (λ s a x t. Does a x s t) (λ s. s.trace) self.old.shape (Caller 0) (Stay place) self.old self.new result }
+        ensures path { CallerGoes (Stay place) self.old self.new result }
         ensures ends { At plan (hand self.new) result × (goes result ≡ false) }
         ensures kept { Kept (plan_job plan) (hand self.old) (hand self.new) × (self.new.shape ≡ self.old.shape) }
     {
@@ -363,8 +364,8 @@ impl<'a, J: JobKind> Guest<'a, J> {
         requires unit { self.old.holds ≡ false }
         requires fits { Fits plan (Some load) }
         ensures path { MatchResult result
-            (λ found. Driven (λ s a x t. Does a x s t) (λ s. s.trace) self.old.shape (Caller 0) (Stay (at.RaiseCount plan)) (record self.old { load = Some load }) (record self.new { first_done = found.0; done = found.1 }) Back)
-            (λ e. Driven (λ s a x t. Does a x s t) (λ s. s.trace) self.old.shape (Caller 0) (Stay (at.RaiseCount plan)) (record self.old { load = Some load }) (record self.new { load = Some e.1 }) (HandBack plan)) }
+            (λ found. CallerGoes (Stay (at.RaiseCount plan)) (record self.old { load = Some load }) (record self.new { first_done = found.0; done = found.1 }) Back)
+            (λ e. CallerGoes (Stay (at.RaiseCount plan)) (record self.old { load = Some load }) (record self.new { load = Some e.1 }) (HandBack plan)) }
         ensures pushed { MatchResult result
             (λ _. self.new.inlet ≡ with_pushed self.old.inlet (task_in (plan_job plan) load))
             (λ _. self.new.inlet ≡ self.old.inlet) }
@@ -388,7 +389,7 @@ impl<'a, J: JobKind> Guest<'a, J> {
     /// worker's terminate latch is set.
     pub fn end<R: Wait>(&mut self, rt: &R, hold: PoolHold)
         requires { (self.old.load ≡ None) × (self.old.holds ≡ false) }
-        ensures path { Driven (λ s a x t. Does a x s t) (λ s. s.trace) self.old.shape (Caller 0) (Stay (at.LowerCount (OfPool 0) PoolValue Resume)) (record self.old { holds = true }) self.new Back }
+        ensures path { CallerGoes (Stay (at.LowerCount (OfPool 0) PoolValue Resume)) (record self.old { holds = true }) self.new Back }
         ensures keeps { Keeps self.old self.new }
         ensures unit { self.new.holds ≡ false }
     {

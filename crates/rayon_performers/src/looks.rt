@@ -1,7 +1,6 @@
 //! What a worker looks for and pushes without running it. Each is a stretch of the table as far as a task's beginning,
 //! which is not performed, or to its end.
 ghost use Rattle.std.specs.Prelude.{◌≡◌, MatchOption, MatchResult, Some, None};
-ghost use Rattle.rayon_drive.specs.Paths.{Driven};
 ghost use Rattle.rayon_machine_places.specs.Places.{undo};
 ghost use Rattle.rayon_machine_places.specs.declared.place.Move.TheVariants.{Back, Stay};
 ghost use Rattle.rayon_machine_places.specs.declared.place.Party.TheVariants.{Worker};
@@ -10,6 +9,7 @@ ghost use Rattle.rayon_machine_places.specs.declared.place.Place.TheVariants as 
 ghost use Rattle.rayon_machine_places.specs.declared.place.Plan.TheVariants.{Detach};
 ghost use Rattle.rayon_performers.specs.Hands.{Does};
 ghost use Rattle.rayon_performers.specs.Finds.{Found, Kept, StandsLast};
+ghost use Rattle.rayon_performers.specs.Paths.{WorkerGoes};
 ghost use Rattle.rayon_performers.specs.Seats.{Resting};
 ghost use Rattle.rayon_queues.specs.Deques.{Popped, SameDeque, Unmoved};
 
@@ -29,8 +29,8 @@ impl<J: JobKind> Bench<J> {
     #[inline(always)]
     pub fn take_local<R: Wait>(&mut self, rt: &R) -> Option<Task<J>>
         ensures path { MatchOption result
-            (Driven (λ s a x t. Does a x s t) (λ s. s.trace) self.old.shape (Worker 0 self.old.index) (Stay at.LocalPop) self.old self.new Back)
-            (λ t. Driven (λ s a x t. Does a x s t) (λ s. s.trace) self.old.shape (Worker 0 self.old.index) (Stay at.LocalPop) self.old (record self.new { task = Some t }) (Stay (at.BeginTask (Plain t.ticket.number)))) }
+            (WorkerGoes (Stay at.LocalPop) self.old self.new Back)
+            (λ t. WorkerGoes (Stay at.LocalPop) self.old (record self.new { task = Some t }) (Stay (at.BeginTask (Plain t.ticket.number)))) }
         ensures popped { MatchOption result (Unmoved self.old.own self.new.own) (λ t. Popped self.old.own t self.new.own) }
         ensures same { SameDeque self.old.own self.new.own }
         ensures left { MatchOption result
@@ -51,8 +51,8 @@ impl<J: JobKind> Bench<J> {
     /// with the task in hand, out of which it is given.
     pub fn find_work<R: Wait>(&mut self, rt: &R) -> Option<Task<J>>
         ensures path { MatchOption result
-            (Driven (λ s a x t. Does a x s t) (λ s. s.trace) self.old.shape (Worker 0 self.old.index) (Stay at.YieldPop) self.old self.new Back)
-            (λ t. Driven (λ s a x t. Does a x s t) (λ s. s.trace) self.old.shape (Worker 0 self.old.index) (Stay at.YieldPop) self.old (record self.new { task = Some t }) (Stay (at.BeginTask (Plain t.ticket.number)))) }
+            (WorkerGoes (Stay at.YieldPop) self.old self.new Back)
+            (λ t. WorkerGoes (Stay at.YieldPop) self.old (record self.new { task = Some t }) (Stay (at.BeginTask (Plain t.ticket.number)))) }
         ensures found { MatchOption result (Kept self.old self.new) (λ t. Found t self.old self.new) }
         ensures left { MatchOption result
             (self.new ≡ record self.old { own = self.new.own; thief = self.new.thief; trace = self.new.trace })
@@ -84,8 +84,8 @@ impl<J: JobKind> Bench<J> {
     pub fn push<R: Wait>(&mut self, rt: &R, task: Task<J>) -> Result<(), Task<J>>
         requires { Resting self.old.chair }
         ensures path { MatchResult result
-            (λ _. Driven (λ s a x t. Does a x s t) (λ s. s.trace) self.old.shape (Worker 0 self.old.index) (Stay (at.LookQueue (Detach 0 task.ticket.number))) self.old self.new Back)
-            (λ _. Driven (λ s a x t. Does a x s t) (λ s. s.trace) self.old.shape (Worker 0 self.old.index) (Stay (at.LookQueue (Detach 0 task.ticket.number))) self.old self.new (Stay (undo (Detach 0 task.ticket.number)))) }
+            (λ _. WorkerGoes (Stay (at.LookQueue (Detach 0 task.ticket.number))) self.old self.new Back)
+            (λ _. WorkerGoes (Stay (at.LookQueue (Detach 0 task.ticket.number))) self.old self.new (Stay (undo (Detach 0 task.ticket.number)))) }
         ensures pushed { MatchResult result (λ _. StandsLast self.old.own task self.new.own) (λ back. (back ≡ task) × Unmoved self.old.own self.new.own) }
         ensures left { SameDeque self.old.own self.new.own × (self.new ≡ record self.old { own = self.new.own; marks = self.new.marks; chair = self.new.chair; trace = self.new.trace }) }
         ensures rests { Resting self.new.chair }
@@ -101,7 +101,7 @@ impl<J: JobKind> Bench<J> {
     #[inline(always)]
     fn tell_pushed<R: Wait>(&mut self, rt: &R, name: u64, was_empty: bool)
         requires { Resting self.old.chair }
-        ensures path { Driven (λ s a x t. Does a x s t) (λ s. s.trace) self.old.shape (Worker 0 self.old.index) (Stay (at.TellNews (Detach 0 name) was_empty)) self.old self.new Back }
+        ensures path { WorkerGoes (Stay (at.TellNews (Detach 0 name) was_empty)) self.old self.new Back }
         ensures same { self.new ≡ record self.old { marks = self.new.marks; chair = self.new.chair; trace = self.new.trace } }
         ensures rests { Resting self.new.chair }
     {

@@ -1,7 +1,7 @@
 //! Programs of the table, as far as the next run: by a drive, and the hot ones as straight stretches of a worker's own
 //! acts.
 ghost use Rattle.std.specs.Prelude.{◌≡◌, ◌⊎◌, ◌↔◌, ◌+◌, ◌-◌, ◌++◌, [], ◌∷◌, None, Some, IsTrue, IfErr, IfOk, MatchResult, false};
-ghost use Rattle.rayon_drive.specs.Paths.{Driven, goes};
+ghost use Rattle.rayon_drive.specs.Paths.{goes};
 ghost use Rattle.rayon_machine_places.specs.Places.{finish, fresh, next_of, taken_number};
 ghost use Rattle.rayon_tasks.specs.Tasks.{OneJob};
 ghost use Rattle.rayon_machine_places.specs.declared.act.Seen.TheVariants as saw;
@@ -17,6 +17,7 @@ ghost use Rattle.rayon_machine_places.specs.declared.place.Target.TheVariants.{T
 ghost use Rattle.rayon_performers.specs.Calls.{IsJobOf, IsOneJob, own_call, own_join};
 ghost use Rattle.rayon_performers.specs.Finds.{StandsLast};
 ghost use Rattle.rayon_performers.specs.Hands.{Does, HasResult, HasTask, HasTicket, Same, Told, kind_of};
+ghost use Rattle.rayon_performers.specs.Paths.{WorkerGoes, WorkerGoesIn};
 ghost use Rattle.rayon_performers.specs.Seats.{Resting};
 ghost use Rattle.rayon_performers.specs.Stands.{Anyhow, At, EndsIn, Last, Stands, call_to, hand};
 ghost use Rattle.rayon_performers.specs.Waits.{FoundSo, SameSeat, Waited, rejoins, units_after, waiting_on};
@@ -41,7 +42,7 @@ impl<J: JobKind> Bench<J> {
     /// Performs the program from this place on, as far as the next run or its end.
     pub fn drive<R: Wait>(&mut self, rt: &R, place: Place) -> Move
         requires hands { Stands self.old (Stay place) }
-        ensures path { Driven (λ s a x t. Does a x s t) (λ s. s.trace) self.old.shape (Worker 0 self.old.index) (Stay place) self.old self.new result }
+        ensures path { WorkerGoes (Stay place) self.old self.new result }
         ensures stands { Stands self.new result }
         ensures rests { Resting self.new.chair }
         ensures stops { goes result ≡ false }
@@ -56,7 +57,7 @@ impl<J: JobKind> Bench<J> {
     pub fn wait<R: Wait>(&mut self, rt: &R, target: Target) -> Move
         requires ticket { HasTicket self.old.call (call_to target) }
         requires rests { Resting self.old.chair }
-        ensures path { Driven (λ s a x t. Does a x s t) (λ s. s.trace) self.old.shape (Worker 0 self.old.index) (Stay (at.ProbeWorking (fresh target))) self.old self.new result }
+        ensures path { WorkerGoes (Stay (at.ProbeWorking (fresh target))) self.old self.new result }
         ensures stands { Stands self.new result }
         ensures rests { Resting self.new.chair }
         ensures ends { Waited target result }
@@ -75,7 +76,7 @@ impl<J: JobKind> Bench<J> {
     /// the wait is the place `Stopped`; the worker goes on after it.
     pub fn wait_on<R: Wait>(&mut self, rt: &R, latch: &mut OwnLatch) -> Move
         requires { Resting self.old.chair }
-        ensures path { Driven (λ s a x t. Does a x s t) (λ s. s.trace) self.old.shape (Worker 0 self.old.index) (Stay (at.ProbeWorking (fresh Termination))) (waiting_on latch.old self.old) (waiting_on latch.new self.new) result }
+        ensures path { WorkerGoes (Stay (at.ProbeWorking (fresh Termination))) (waiting_on latch.old self.old) (waiting_on latch.new self.new) result }
         ensures stands { Stands (waiting_on latch.new self.new) result }
         ensures rests { Resting self.new.chair }
         ensures ends { Waited Termination result }
@@ -102,7 +103,7 @@ impl<J: JobKind> Bench<J> {
         seen: Seen,
     ) -> Move
         requires hands { At Anyhow (Worker 0 index) self.old (next_of shape (Worker 0 index) place seen) }
-        ensures path { Driven (λ s a x t. Does a x s t) (λ s. s.trace) shape (Worker 0 index) (next_of shape (Worker 0 index) place seen) self.old self.new result }
+        ensures path { WorkerGoesIn shape index (next_of shape (Worker 0 index) place seen) self.old self.new result }
         ensures stands { At Anyhow (Worker 0 index) self.new result }
         ensures rests { Resting self.new.chair }
         ensures stops { goes result ≡ false }
@@ -125,7 +126,7 @@ impl<J: JobKind> Bench<J> {
     )
         requires hands { At Anyhow (Worker 0 index) self.old (next_of shape (Worker 0 index) place seen) }
         requires ends { EndsIn (Worker 0 index) (finish (Worker 0 index) then) self.old (next_of shape (Worker 0 index) place seen) }
-        ensures path { Driven (λ s a x t. Does a x s t) (λ s. s.trace) shape (Worker 0 index) (next_of shape (Worker 0 index) place seen) self.old self.new (finish (Worker 0 index) then) }
+        ensures path { WorkerGoesIn shape index (next_of shape (Worker 0 index) place seen) self.old self.new (finish (Worker 0 index) then) }
         ensures same { Told self.old self.new }
         ensures rests { Resting self.new.chair }
     {
@@ -138,7 +139,7 @@ impl<J: JobKind> Bench<J> {
     pub fn lower_then<R: Wait>(&mut self, rt: &R, job: u64, then: Then)
         requires last { Last (hand self.old) (finish (Worker 0 self.old.index) then) }
         requires rests { Resting self.old.chair }
-        ensures path { Driven (λ s a x t. Does a x s t) (λ s. s.trace) self.old.shape (Worker 0 self.old.index) (Stay (at.LowerCount (OfPool 0) (OfJob job) then)) self.old self.new (finish (Worker 0 self.old.index) then) }
+        ensures path { WorkerGoes (Stay (at.LowerCount (OfPool 0) (OfJob job) then)) self.old self.new (finish (Worker 0 self.old.index) then) }
         ensures same { self.new ≡ record self.old { holds = self.old.holds - 1; marks = self.new.marks; trace = self.new.trace } }
         ensures rests { Resting self.new.chair }
     {
@@ -169,8 +170,8 @@ impl<J: JobKind> Bench<J> {
     ) -> Result<Call<J>, (Refusal, J)>
         requires { Resting self.old.chair }
         ensures path { MatchResult result
-            (λ _. Driven (λ s a x t. Does a x s t) (λ s. s.trace) self.old.shape (Worker 0 self.old.index) (Stay (at.RaiseCount (own_join name))) self.old self.new (StartRun (at.FirstSide (own_call name) name) name))
-            (λ _. Driven (λ s a x t. Does a x s t) (λ s. s.trace) self.old.shape (Worker 0 self.old.index) (Stay (at.RaiseCount (own_join name))) self.old self.new (HandBack (own_join name))) }
+            (λ _. WorkerGoes (Stay (at.RaiseCount (own_join name))) self.old self.new (StartRun (at.FirstSide (own_call name) name) name))
+            (λ _. WorkerGoes (Stay (at.RaiseCount (own_join name))) self.old self.new (HandBack (own_join name))) }
         ensures pushed { MatchResult result
             (λ c. StandsLast self.old.own (record { work = OneJob job; injected = injected; ticket = c.ticket }) self.new.own)
             (λ e. (e.1 ≡ job) × Unmoved self.old.own self.new.own) }
@@ -208,7 +209,7 @@ impl<J: JobKind> Bench<J> {
     #[inline(always)]
     fn tell_news<R: Wait>(&mut self, rt: &R, name: u64, was_empty: bool)
         requires { Resting self.old.chair }
-        ensures path { Driven (λ s a x t. Does a x s t) (λ s. s.trace) self.old.shape (Worker 0 self.old.index) (Stay (at.TellNews (own_join name) was_empty)) self.old self.new (StartRun (at.FirstSide (own_call name) name) name) }
+        ensures path { WorkerGoes (Stay (at.TellNews (own_join name) was_empty)) self.old self.new (StartRun (at.FirstSide (own_call name) name) name) }
         ensures same { self.new ≡ record self.old { marks = self.new.marks; chair = self.new.chair; trace = self.new.trace } }
         ensures rests { Resting self.new.chair }
     {
@@ -235,8 +236,8 @@ impl<J: JobKind> Bench<J> {
     #[inline(always)]
     pub fn open_install<R: Wait>(&mut self, rt: &R, name: u64) -> Result<(), Refusal>
         ensures path { MatchResult result
-            (λ _. Driven (λ s a x t. Does a x s t) (λ s. s.trace) self.old.shape (Worker 0 self.old.index) (Stay (at.RaiseCount (Here 0 name))) self.old self.new (Enter (at.AtOnce 0 name) (at.BeginHere name)))
-            (λ _. Driven (λ s a x t. Does a x s t) (λ s. s.trace) self.old.shape (Worker 0 self.old.index) (Stay (at.RaiseCount (Here 0 name))) self.old self.new (HandBack (Here 0 name))) }
+            (λ _. WorkerGoes (Stay (at.RaiseCount (Here 0 name))) self.old self.new (Enter (at.AtOnce 0 name) (at.BeginHere name)))
+            (λ _. WorkerGoes (Stay (at.RaiseCount (Here 0 name))) self.old self.new (HandBack (Here 0 name))) }
         ensures left { MatchResult result (λ _. self.new ≡ record self.old { holds = self.old.holds + 1; marks = self.new.marks; trace = self.new.trace }) (λ _. Told self.old self.new) }
         ensures refused { IfErr result (λ r. (r ≡ Refusal.Ended) ⊎ (r ≡ Refusal.Full)) }
     {
@@ -246,7 +247,7 @@ impl<J: JobKind> Bench<J> {
     /// The run of a job that was in no queue, or of the own second side, begins.
     #[inline(always)]
     pub fn begin_here(&mut self, name: u64)
-        ensures path { Driven (λ s a x t. Does a x s t) (λ s. s.trace) self.old.shape (Worker 0 self.old.index) (Stay (at.BeginHere name)) self.old self.new (Stay (at.Run name Direct)) }
+        ensures path { WorkerGoes (Stay (at.BeginHere name)) self.old self.new (Stay (at.Run name Direct)) }
         ensures same { Same self.old self.new }
     {
         self.begin(name);
@@ -256,7 +257,7 @@ impl<J: JobKind> Bench<J> {
     /// a token in hand yet, of a FIFO list: that is asked.
     pub fn begin_task(&mut self, task: Taken)
         requires { HasTask self.old.task (Some task) }
-        ensures path { Driven (λ s a x t. Does a x s t) (λ s. s.trace) self.old.shape (Worker 0 self.old.index) (Stay (at.BeginTask task)) self.old self.new (Stay (at.Run (taken_number task) (kind_of self.old.task))) }
+        ensures path { WorkerGoes (Stay (at.BeginTask task)) self.old self.new (Stay (at.Run (taken_number task) (kind_of self.old.task))) }
         ensures same { Same self.old self.new }
     {
         let Taken::Plain(name) = task else {
@@ -271,7 +272,7 @@ impl<J: JobKind> Bench<J> {
         requires reply { HasTicket self.old.reply (Some call) }
         requires done { HasResult self.old.done (Some ending) }
         requires rests { Resting self.old.chair }
-        ensures path { Driven (λ s a x t. Does a x s t) (λ s. s.trace) self.old.shape (Worker 0 self.old.index) (Stay (at.StoreResult call owner ending)) self.old self.new Back }
+        ensures path { WorkerGoes (Stay (at.StoreResult call owner ending)) self.old self.new Back }
         ensures same { self.new ≡ record self.old { done = None; marks = self.new.marks; trace = self.new.trace } }
         ensures rests { Resting self.new.chair }
     {
@@ -292,7 +293,7 @@ impl<J: JobKind> Bench<J> {
     pub fn reclaim<R: Wait>(&mut self, rt: &R, call: OpenCall) -> Reclaimed
         requires ticket { HasTicket self.old.call (Some call.number) }
         requires rests { Resting self.old.chair }
-        ensures path { Driven (λ s a x t. Does a x s t) (λ s. s.trace) self.old.shape (Worker 0 self.old.index) (Stay (at.JoinProbe call)) self.old self.new (rejoins call result) }
+        ensures path { WorkerGoes (Stay (at.JoinProbe call)) self.old self.new (rejoins call result) }
         ensures found { FoundSo call self.new result }
         ensures units { self.new.holds ≡ units_after (rejoins call result) self.old.holds }
         ensures seat { SameSeat self.old self.new }
@@ -313,7 +314,7 @@ impl<J: JobKind> Bench<J> {
     #[inline(never)]
     fn go_on_set<R: Wait>(&mut self, rt: &R, call: OpenCall) -> Reclaimed
         requires hands { Stands self.old (next_of self.old.shape (Worker 0 self.old.index) (at.JoinProbe call) saw.Yes) }
-        ensures path { Driven (λ s a x t. Does a x s t) (λ s. s.trace) self.old.shape (Worker 0 self.old.index) (next_of self.old.shape (Worker 0 self.old.index) (at.JoinProbe call) saw.Yes) self.old self.new (rejoins call result) }
+        ensures path { WorkerGoes (next_of self.old.shape (Worker 0 self.old.index) (at.JoinProbe call) saw.Yes) self.old self.new (rejoins call result) }
         ensures found { FoundSo call self.new result }
         ensures units { self.new.holds ≡ units_after (rejoins call result) self.old.holds }
         ensures same { SameSeat self.old self.new }
@@ -331,7 +332,7 @@ impl<J: JobKind> Bench<J> {
     fn go_on_popped<R: Wait>(&mut self, rt: &R, call: OpenCall, popped: Seen) -> Reclaimed
         requires hands { Stands self.old (next_of self.old.shape (Worker 0 self.old.index) (at.JoinPop call) popped) }
         requires other { popped ≡ saw.Task (Plain call.job) → ⊥ }
-        ensures path { Driven (λ s a x t. Does a x s t) (λ s. s.trace) self.old.shape (Worker 0 self.old.index) (next_of self.old.shape (Worker 0 self.old.index) (at.JoinPop call) popped) self.old self.new (rejoins call result) }
+        ensures path { WorkerGoes (next_of self.old.shape (Worker 0 self.old.index) (at.JoinPop call) popped) self.old self.new (rejoins call result) }
         ensures found { FoundSo call self.new result }
         ensures units { self.new.holds ≡ units_after (rejoins call result) self.old.holds }
         ensures same { SameSeat self.old self.new }

@@ -25,38 +25,34 @@ use Rattle.rayon_machine_places.specs.declared.place.Target.TheVariants.{Termina
 use Rattle.rayon_machine_places.specs.declared.shape.PoolShape.{PoolShape}
 use Rattle.rayon_machine_places.specs.Places.{fresh, goes_on, taken_number}
 use Rattle.rayon_drive.specs.declared.trace.Log.{Log}
-use Rattle.rayon_drive.specs.Paths.{Driven}
 use Rattle.rayon_drive.specs.Traces.{AddsRun}
-use Rattle.rayon_drive.proofs.Paths.{driven_read}
+use Rattle.rayon_drive.specs.Paths.{Traced}
+use Rattle.rayon_drive.proofs.Traced.{traced_as}
 use Rattle.rayon_tasks.specs.Tasks.{TaskOf}
 use Rattle.rayon_tasks.specs.Tickets.{TicketOf, kind_in}
 use Rattle.rayon_performers.specs.Hands.{Hands, Does, HasTask, kind_of}
+use Rattle.rayon_performers.specs.Paths.{WorkerGoes}
 use Rattle.rayon_performers.specs.Spawns.{Unspawned}
 use Rattle.rayon_performers.specs.Stands.{Stands}
 use Rattle.rayon_performers.specs.Waits.{Waited, units_after}
-use Rattle.rayon_registry.specs.Acts.{CallMade, Closes, HandedBack, Lowered, Made, Worked, wait_end}
+use Rattle.rayon_performers.proofs.Stretches.{So, traced}
+use Rattle.rayon_registry.specs.Acts.{CallMade, Closes, HandedBack, Lowered, Worked, wait_end}
 use Rattle.rayon_registry.specs.Worker.{AfterWait, Worker as WorkerValue}
 
 module _ {X G O F : Type 0} (h : PoolShape) (i : ℕ) (m : Move) (s t : Hands X G O F) where
-  abbrev pub Goes : Hands X G O F → Move → Type 0
-  Goes u n = Driven (λ (a : Hands X G O F) x y b. Does x y a b) (λ (a : Hands X G O F). a.trace) h (Worker 0 i) m s u n
-
-  pub made : (n : Move) → Goes t n → Made h (Worker 0 i) m s.trace t.trace n
-  made n d = driven_read (λ (a : Hands X G O F) x y b. Does x y a b) (λ (a : Hands X G O F). a.trace) (λ (v : Log) a x (w : Log). Unit {0}) (λ (v : Log). v) (λ (a : Hands X G O F). a.trace) (λ a. refl) (λ a x y b d. tt) h (Worker 0 i) m s t n d
-
   -- a look for a task
-  pub made_found : (r : Option (TaskOf X)) → MatchOption r (Goes t Back) (λ x. Goes (record t { task = Some x }) (Stay (at.BeginTask (Plain x.ticket.number)))) → MatchOption r (Made h (Worker 0 i) m s.trace t.trace Back) (λ x. Made h (Worker 0 i) m s.trace t.trace (Stay (at.BeginTask (Plain x.ticket.number))))
-  made_found None d = made Back d
-  made_found (Some x) d = driven_read (λ (a : Hands X G O F) x y b. Does x y a b) (λ (a : Hands X G O F). a.trace) (λ (v : Log) a x (w : Log). Unit {0}) (λ (v : Log). v) (λ (a : Hands X G O F). a.trace) (λ a. refl) (λ a x y b d. tt) h (Worker 0 i) m s (record t { task = Some x }) (Stay (at.BeginTask (Plain x.ticket.number))) d
+  pub traced_found : (r : Option (TaskOf X)) → MatchOption r (So h i m s Back t) (λ x. So h i m s (Stay (at.BeginTask (Plain x.ticket.number))) (record t { task = Some x })) → MatchOption r (Traced h (Worker 0 i) m s.trace t.trace Back) (λ x. Traced h (Worker 0 i) m s.trace t.trace (Stay (at.BeginTask (Plain x.ticket.number))))
+  traced_found None d = traced h i m s t Back d
+  traced_found (Some x) d = traced h i m s (record t { task = Some x }) (Stay (at.BeginTask (Plain x.ticket.number))) d
 
   -- the beginning of a task's run
-  pub made_begun : (k : Taken) (x : TaskOf X) → s.task ≡ Some x → Goes t (Stay (at.Run (taken_number k) (kind_of s.task))) → Made h (Worker 0 i) m s.trace t.trace (Stay (at.Run (taken_number k) (kind_in x.ticket)))
-  made_begun k x f d = subst (λ (z : Option (TaskOf X)). Made h (Worker 0 i) m s.trace t.trace (Stay (at.Run (taken_number k) (kind_of z)))) f (made (Stay (at.Run (taken_number k) (kind_of s.task))) d)
+  pub traced_begun : (k : Taken) (x : TaskOf X) → s.task ≡ Some x → So h i m s (Stay (at.Run (taken_number k) (kind_of s.task))) t → Traced h (Worker 0 i) m s.trace t.trace (Stay (at.Run (taken_number k) (kind_in x.ticket)))
+  traced_begun k x f d = subst (λ (z : Option (TaskOf X)). Traced h (Worker 0 i) m s.trace t.trace (Stay (at.Run (taken_number k) (kind_of z)))) f (traced h i m s t (Stay (at.Run (taken_number k) (kind_of s.task))) d)
 
   -- a push
-  pub made_pushed : (n : Move) {A B : Type 0} (r : Result A B) → MatchResult r (λ _. Goes t Back) (λ _. Goes t n) → MatchResult r (λ _. Made h (Worker 0 i) m s.trace t.trace Back) (λ _. Made h (Worker 0 i) m s.trace t.trace n)
-  made_pushed n (Ok x) d = made Back d
-  made_pushed n (Err e) d = made n d
+  pub traced_pushed : (n : Move) {A B : Type 0} (r : Result A B) → MatchResult r (λ _. So h i m s Back t) (λ _. So h i m s n t) → MatchResult r (λ _. Traced h (Worker 0 i) m s.trace t.trace Back) (λ _. Traced h (Worker 0 i) m s.trace t.trace n)
+  traced_pushed n (Ok x) d = traced h i m s t Back d
+  traced_pushed n (Err e) d = traced h i m s t n d
 
 -- what holds after a refusal holds of an answer that is one
 pub on_err : {A B : Type 0} (P : A → Type 0) (Q : Type 0) (r : Result A B) → IsErr r → Q → MatchResult r P (λ _. Q)
@@ -89,15 +85,8 @@ matched_err {A} {B} {C} {D} P Q r q x y e f d =
     subst (λ (z : Result C D). MatchResult z (λ _. P) (λ _. Q)) (sym f) (subst (λ (z : Result A B). MatchResult z (λ _. P) (λ _. Q)) e d)
 
 -- the last stretch
-pub last : (h : PoolShape) (q : Party) (m : Move) (v w : Log) (n : Move) → Made h q m v w n → Worked h q m v w n
+pub last : (h : PoolShape) (q : Party) (m : Move) (v w : Log) (n : Move) → Traced h q m v w n → Worked h q m v w n
 last h q m v w n a = ([], a)
-
--- a stretch, said of equals
-pub made_as : (h k : PoolShape) (i j : ℕ) (m : Move) (v u : Log) (r n : Move) → i ≡ j → h ≡ k → r ≡ n → Made h (Worker 0 i) m v u r → Made k (Worker 0 j) m v u n
-made_as h k i j m v u r n e f d a =
-    subst (λ (z : Move). Made k (Worker 0 j) m v u z) d
-    (subst (λ (z : PoolShape). Made z (Worker 0 j) m v u r) f
-    (subst (λ (z : ℕ). Made h (Worker 0 z) m v u r) e a))
 
 -- the frame above which a wait's task begins
 pub above : (g : Target) (f p : Place) (r : Move) → r ≡ Enter f p → Waited g r → r ≡ Enter (at.ProbeWorking (fresh g)) p
@@ -139,7 +128,7 @@ module _ {X G O F : Type 0} where
       here.2.1
 
 -- one more stretch, to a run of a task that was taken, and what it adds
-pub around : (h : PoolShape) (q : Party) (f : Place) (k : Taken) (t : ℕ) (o : JobKind) (e : Ending) (m : Move) (v u y z x w : Log) (n : Move) → Made h q m v u (Enter f (at.BeginTask k)) → Made h q (Stay (at.BeginTask k)) u y (Stay (at.Run t o)) → AddsRun y z → Closes h q t o e z x → Worked h q (Stay (goes_on f e)) x w n → Worked h q m v w n
+pub around : (h : PoolShape) (q : Party) (f : Place) (k : Taken) (t : ℕ) (o : JobKind) (e : Ending) (m : Move) (v u y z x w : Log) (n : Move) → Traced h q m v u (Enter f (at.BeginTask k)) → Traced h q (Stay (at.BeginTask k)) u y (Stay (at.Run t o)) → AddsRun y z → Closes h q t o e z x → Worked h q (Stay (goes_on f e)) x w n → Worked h q m v w n
 around h q f k t o e m v u y z x w n a b l d r = (record { begins = Enter f (at.BeginTask k); job = t; kind = o; ended = e; lent = y; over = z } ∷ r.0, (u, x, a, (b, l, d), r.1))
 
 -- the acts of a run's end, said of equals
@@ -150,10 +139,10 @@ closes_as h k i j t r o e v w a b c d =
     (subst (λ (z : ℕ). Closes h (Worker 0 z) t o e v w) a d))
 
 -- the acts of the end of a detached job's run, and of one for which a call waits, by the ticket
-pub closes_detached : (h : PoolShape) (q : Party) (t : TicketOf) (e : Ending) (v w : Log) → t.detached ≡ true → Made h q (Stay (at.LowerCount (OfPool 0) (OfJob t.number) Resume)) v w Back → Closes h q t.number (kind_in t) e v w
+pub closes_detached : (h : PoolShape) (q : Party) (t : TicketOf) (e : Ending) (v w : Log) → t.detached ≡ true → Traced h q (Stay (at.LowerCount (OfPool 0) (OfJob t.number) Resume)) v w Back → Closes h q t.number (kind_in t) e v w
 closes_detached h q t e v w d m = subst (λ (b : Bool). Closes h q t.number (elim b [ true ↦ Detached 0 | false ↦ Stored t.number t.owner ]) e v w) (sym d) m
 
-pub closes_call : (h : PoolShape) (q : Party) (t : TicketOf) (e : Ending) (v w : Log) → t.detached ≡ false → Made h q (Stay (at.StoreResult t.number t.owner e)) v w Back → Closes h q t.number (kind_in t) e v w
+pub closes_call : (h : PoolShape) (q : Party) (t : TicketOf) (e : Ending) (v w : Log) → t.detached ≡ false → Traced h q (Stay (at.StoreResult t.number t.owner e)) v w Back → Closes h q t.number (kind_in t) e v w
 closes_call h q t e v w d m = subst (λ (b : Bool). Closes h q t.number (elim b [ true ↦ Detached 0 | false ↦ Stored t.number t.owner ]) e v w) (sym d) m
 
 -- a task in hand has the number by which it was taken
@@ -169,17 +158,17 @@ module _ {X G O F : Type 0} (h : PoolShape) (i : ℕ) (f : Place) (k : Taken) (x
   Told z = (e : Ending) × (o : Log) × AddsRun r.trace o × Closes r.shape (Worker 0 r.index) x.ticket.number (kind_in x.ticket) e o z
 
   pub around_task : (p : Place) (m : Move) (v u z w : Log) (n : Move) → HasTask s.task (Some k) → p ≡ at.BeginTask k → s.index ≡ i → s.shape ≡ h → s.task ≡ Some x → s.trace ≡ u → t.trace ≡ r.trace → r.index ≡ i → r.shape ≡ h
-      → Made h (Worker 0 i) m v u (Enter f p)
-      → Driven (λ (a : Hands X G O F) x y b. Does x y a b) (λ (a : Hands X G O F). a.trace) s.shape (Worker 0 s.index) (Stay (at.BeginTask k)) s t (Stay (at.Run (taken_number k) (kind_of s.task)))
+      → Traced h (Worker 0 i) m v u (Enter f p)
+      → WorkerGoes (Stay (at.BeginTask k)) s t (Stay (at.Run (taken_number k) (kind_of s.task)))
       → (told : Told z)
       → Worked h (Worker 0 i) (Stay (goes_on f told.0)) z w n → Worked h (Worker 0 i) m v w n
   around_task p m v u z w n has taken seat shape hand before after seat2 shape2 a d told rest =
       let run = Stay (at.Run (taken_number k) (kind_in x.ticket)) in
       let number = named x k (subst (λ (l : Option (TaskOf X)). HasTask l (Some k)) hand has) in
       let closes = closes_as r.shape h r.index i x.ticket.number (taken_number k) (kind_in x.ticket) told.0 told.1 z seat2 shape2 number told.3 in
-      let begun = made_as s.shape h s.index i (Stay (at.BeginTask k)) s.trace t.trace run run seat shape refl (made_begun s.shape s.index (Stay (at.BeginTask k)) s t k x hand d) in
-      let begun2 = subst (λ (l : Log). Made h (Worker 0 i) (Stay (at.BeginTask k)) l r.trace run) before (subst (λ (l : Log). Made h (Worker 0 i) (Stay (at.BeginTask k)) s.trace l run) after begun) in
-      let entered = subst (λ (l : Place). Made h (Worker 0 i) m v u (Enter f l)) taken a in
+      let begun = traced_as s.shape h s.index i (Stay (at.BeginTask k)) s.trace t.trace run run seat shape refl (traced_begun s.shape s.index (Stay (at.BeginTask k)) s t k x hand d) in
+      let begun2 = subst (λ (l : Log). Traced h (Worker 0 i) (Stay (at.BeginTask k)) l r.trace run) before (subst (λ (l : Log). Traced h (Worker 0 i) (Stay (at.BeginTask k)) s.trace l run) after begun) in
+      let entered = subst (λ (l : Place). Traced h (Worker 0 i) m v u (Enter f l)) taken a in
       around h (Worker 0 i) f k (taken_number k) (kind_in x.ticket) told.0 m v u r.trace told.1 z w n entered begun2 told.2 closes rest
 
 -- acts with runs between, said of equals
@@ -187,7 +176,7 @@ pub worked_as : (h k : PoolShape) (i j : ℕ) (m : Move) (v w : Log) (n : Move) 
 worked_as h k i j m v w n e f a = subst (λ (z : PoolShape). Worked z (Worker 0 j) m v w n) f (subst (λ (z : ℕ). Worked h (Worker 0 z) m v w n) e a)
 
 -- the own second side has run, and the join ends
-pub runs_second : (h : PoolShape) (q : Party) (o : OpenCall) (v u w : Log) → o.pool ≡ 0 → Made h q (Stay (at.JoinProbe o)) v u (Enter (at.SecondSide o) (at.BeginHere o.job)) → Lowered h q o u w → Worked h q (Stay (at.JoinProbe o)) v w Back
+pub runs_second : (h : PoolShape) (q : Party) (o : OpenCall) (v u w : Log) → o.pool ≡ 0 → Traced h q (Stay (at.JoinProbe o)) v u (Enter (at.SecondSide o) (at.BeginHere o.job)) → Lowered h q o u w → Worked h q (Stay (at.JoinProbe o)) v w Back
 runs_second h q o v u w e a l =
     let first = Stay (at.LowerCount (OfPool 0) (OfJob o.job) (Answers o (Some Fine) l.0)) in
     let x = l.1 in

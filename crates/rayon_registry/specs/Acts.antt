@@ -20,14 +20,9 @@ use Rattle.rayon_machine_places.specs.declared.place.Target.{Target}
 use Rattle.rayon_machine_places.specs.declared.place.Target.TheVariants.{Termination, Answer}
 use Rattle.rayon_machine_places.specs.Places.{goes_on}
 use Rattle.rayon_drive.specs.declared.trace.Log.{Log}
-use Rattle.rayon_drive.specs.Paths.{Driven}
 use Rattle.rayon_drive.specs.Traces.{AddsRun}
+use Rattle.rayon_drive.specs.Paths.{Traced}
 use Rattle.rayon_performers.specs.Calls.{own_call, own_join}
-
--- the entries that the later acts have more than the earlier ones are those of a path of the table, from the first move to
--- the last
-abbrev pub Made : PoolShape → Party → Move → Log → Log → Move → Type 0
-Made h q m v w n = Driven (λ (s : Log) a x (t : Log). Unit {0}) (λ (s : Log). s) h q m v w n
 
 -- a run that lay above a frame of a program: the move by which it began; its job, and what the end of its run set going; how
 -- it ended; and the worker's acts when the job was lent the worker, and when it ended. What the job itself does with the
@@ -50,11 +45,11 @@ below m e = m
 -- that waits for it or in its scope's book, or none, where the call below goes on. A token has no run, and the number that
 -- stands for a broadcast has none
 abbrev pub Closes : PoolShape → Party → ℕ → JobKind → Ending → Log → Log → Type 0
-Closes h q t (Detached p) e v w = Made h q (Stay (LowerCount (OfPool p) (OfJob t) Resume)) v w Back
-Closes h q t (Stored c o) e v w = Made h q (Stay (StoreResult c o e)) v w Back
-Closes h q t (Scoped c o) e v w = Made h q (Stay (StoreSlot c o t e)) v w Back
+Closes h q t (Detached p) e v w = Traced h q (Stay (LowerCount (OfPool p) (OfJob t) Resume)) v w Back
+Closes h q t (Stored c o) e v w = Traced h q (Stay (StoreResult c o e)) v w Back
+Closes h q t (Scoped c o) e v w = Traced h q (Stay (StoreSlot c o t e)) v w Back
 Closes h q t Direct e v w = w ≡ v
-Closes h q t (PieceOf c o) e v w = Made h q (Stay (StorePiece c o t e)) v w Back
+Closes h q t (PieceOf c o) e v w = Traced h q (Stay (StorePiece c o t e)) v w Back
 Closes h q t (BodyOf c o) e v w = w ≡ v
 Closes h q t (WholeOf c o) e v w = ⊥
 Closes h q t (TokenOf i b) e v w = ⊥
@@ -62,15 +57,15 @@ Closes h q t (TokenOf i b) e v w = ⊥
 -- what a run adds: the acts by which it begins, the entry of the run itself, and the acts of its end. The run of a first
 -- side begins and ends with none
 abbrev pub RunAdds : PoolShape → Party → Move → Lay → Log → Log → Type 0
-RunAdds h q (Enter f p) r v w = Made h q (Stay p) v r.lent (Stay (Run r.job r.kind)) × AddsRun r.lent r.over × Closes h q r.job r.kind r.ended r.over w
+RunAdds h q (Enter f p) r v w = Traced h q (Stay p) v r.lent (Stay (Run r.job r.kind)) × AddsRun r.lent r.over × Closes h q r.job r.kind r.ended r.over w
 RunAdds h q (StartRun f t) r v w = AddsRun v w
 RunAdds h q m r v w = ⊥
 
 -- a stretch of the table leads to each of these runs, from where the program goes on after the one before it, and one
 -- leads from the last of them to the last move
 abbrev pub WorkedAround : PoolShape → Party → Move → Log → List Lay → Log → Move → Type 0
-WorkedAround h q m v [] w n = Made h q m v w n
-WorkedAround h q m v (r ∷ rs) w n = (x : Log) × (y : Log) × Made h q m v x r.begins × RunAdds h q r.begins r x y × WorkedAround h q (below r.begins r.ended) y rs w n
+WorkedAround h q m v [] w n = Traced h q m v w n
+WorkedAround h q m v (r ∷ rs) w n = (x : Log) × (y : Log) × Traced h q m v x r.begins × RunAdds h q r.begins r x y × WorkedAround h q (below r.begins r.ended) y rs w n
 
 -- where a wait for this ends: the worker has stopped, or the call has its answer
 abbrev pub wait_end : Target → Move
@@ -90,11 +85,11 @@ ended_so false = Fine
 -- the acts of a join's own second side that was taken back: its run begins, and after it the join's Lower, and what that sets
 -- going
 abbrev pub Lowered : PoolShape → Party → OpenCall → Log → Log → Type 0
-Lowered h q o v w = (e : Ending) × (x : Log) × (y : Log) × Made h q (Stay (BeginHere o.job)) v x (Stay (Run o.job Direct)) × AddsRun x y × Made h q (Stay (LowerCount (OfPool 0) (OfJob o.job) (Answers o (Some Fine) e))) y w Back
+Lowered h q o v w = (e : Ending) × (x : Log) × (y : Log) × Traced h q (Stay (BeginHere o.job)) v x (Stay (Run o.job Direct)) × AddsRun x y × Traced h q (Stay (LowerCount (OfPool 0) (OfJob o.job) (Answers o (Some Fine) e))) y w Back
 
 -- the acts by which a join of this name offers its second side, from its Raise to the run of its first side
 abbrev pub Offered : PoolShape → Party → ℕ → Log → Log → Type 0
-Offered h q n v w = Made h q (Stay (RaiseCount (own_join n))) v w (StartRun (FirstSide (own_call n) n) n)
+Offered h q n v w = Traced h q (Stay (RaiseCount (own_join n))) v w (StartRun (FirstSide (own_call n) n) n)
 
 -- the acts by which it goes on where its first side ended so, to its end
 abbrev pub Met : PoolShape → Party → ℕ → Ending → Log → Log → Type 0
@@ -107,11 +102,11 @@ Joined h q e v w = (n : ℕ) × (x : Log) × (y : Log) × Offered h q n v x × A
 -- the acts of an install by a worker of the pool, from its Raise to its end, whose job ended so: as far as the run, the run's
 -- beginning, the run, and on from its end
 abbrev pub Installed : PoolShape → Party → Ending → Log → Log → Type 0
-Installed h q e v w = (n : ℕ) × (x : Log) × (y : Log) × (z : Log) × Made h q (Stay (RaiseCount (Here 0 n))) v x (Enter (AtOnce 0 n) (BeginHere n)) × Made h q (Stay (BeginHere n)) x y (Stay (Run n Direct)) × AddsRun y z × Made h q (Stay (LowerCount (OfPool 0) (OfJob n) (Ran n e))) z w Back
+Installed h q e v w = (n : ℕ) × (x : Log) × (y : Log) × (z : Log) × Traced h q (Stay (RaiseCount (Here 0 n))) v x (Enter (AtOnce 0 n) (BeginHere n)) × Traced h q (Stay (BeginHere n)) x y (Stay (Run n Direct)) × AddsRun y z × Traced h q (Stay (LowerCount (OfPool 0) (OfJob n) (Ran n e))) z w Back
 
 -- the acts of a refused call: none, or those of its plan from its Raise to where it hands its jobs back
 abbrev pub HandedBack : PoolShape → Party → (ℕ → Plan) → Log → Log → Type 0
-HandedBack h q plan v w = (w ≡ v) ⊎ ((n : ℕ) × Made h q (Stay (RaiseCount (plan n))) v w (HandBack (plan n)))
+HandedBack h q plan v w = (w ≡ v) ⊎ ((n : ℕ) × Traced h q (Stay (RaiseCount (plan n))) v w (HandBack (plan n)))
 
 -- a call has made these acts where it answers anything but a fault, these where it answers a fault, and these where it is
 -- refused

@@ -21,10 +21,11 @@ ghost use Rattle.rayon_jobs.specs.Endings.{ending_of as ended};
 ghost use Rattle.rayon_drive.specs.Traces.{AddsRun};
 ghost use Rattle.rayon_drive.specs.declared.trace.Log.{Log};
 ghost use Rattle.rayon_drive.specs.declared.trace.Log.TheVariants.{Empty};
-ghost use Rattle.rayon_registry.specs.Acts.{CallMade, Closes, HandedBack, Installed, Made, Worked, wait_end};
+ghost use Rattle.rayon_registry.specs.Acts.{CallMade, Closes, HandedBack, Installed, Worked, wait_end};
 ghost use Rattle.rayon_registry.specs.Answers.{InstallAnswers};
 ghost use Rattle.rayon_registry.specs.Worker.{AfterWait, Kept, SameWorker};
 ghost use Rattle.std.specs.Prelude.{◌≡◌, ◌⊎◌, ℕ, [], ◌∷◌, ◌++◌, ◌-◌, ◌<◌, ◌≤◌, ◌↔◌, IsTrue, List, Result, Ok, Err, IfOk, IfSome, IfNone, IfErr, MatchOption, MatchResult, None, true, false};
+ghost use Rattle.rayon_drive.specs.Paths.{Traced};
 
 use crate::context::FnContext;
 use crate::faults::SharedFaults;
@@ -223,8 +224,8 @@ impl<J: JobKind> WorkerThread<J> {
     pub fn push<R: Wait>(&mut self, rt: &R, task: Task<J>) -> Result<(), (Refusal, Task<J>)>
         ensures pushed { MatchResult result (λ _. self.new ≡ record self.old { pushed = self.old.pushed ++ task ∷ []; left = self.old.left ++ task ∷ []; acts = self.new.acts }) (λ e. (e ≡ (Refusal.NoRoom, task)) × Kept self.old self.new) }
         ensures path { MatchResult result
-            (λ _. Made self.old.shape (Worker 0 self.old.seat) (Stay (at.LookQueue (Detach 0 task.ticket.number))) self.old.acts self.new.acts Back)
-            (λ _. Made self.old.shape (Worker 0 self.old.seat) (Stay (at.LookQueue (Detach 0 task.ticket.number))) self.old.acts self.new.acts (Stay (undo (Detach 0 task.ticket.number)))) }
+            (λ _. Traced self.old.shape (Worker 0 self.old.seat) (Stay (at.LookQueue (Detach 0 task.ticket.number))) self.old.acts self.new.acts Back)
+            (λ _. Traced self.old.shape (Worker 0 self.old.seat) (Stay (at.LookQueue (Detach 0 task.ticket.number))) self.old.acts self.new.acts (Stay (undo (Detach 0 task.ticket.number)))) }
     {
         match self.bench.push(rt, task) {
             Ok(()) => Ok(()),
@@ -258,8 +259,8 @@ impl<J: JobKind> WorkerThread<J> {
         ensures none { IfNone result (self.new.left ≡ self.old.left) }
         ensures kept { self.new ≡ record self.old { left = self.new.left; acts = self.new.acts } }
         ensures path { MatchOption result
-            (Made self.old.shape (Worker 0 self.old.seat) (Stay at.LocalPop) self.old.acts self.new.acts Back)
-            (λ t. Made self.old.shape (Worker 0 self.old.seat) (Stay at.LocalPop) self.old.acts self.new.acts (Stay (at.BeginTask (Plain t.ticket.number)))) }
+            (Traced self.old.shape (Worker 0 self.old.seat) (Stay at.LocalPop) self.old.acts self.new.acts Back)
+            (λ t. Traced self.old.shape (Worker 0 self.old.seat) (Stay at.LocalPop) self.old.acts self.new.acts (Stay (at.BeginTask (Plain t.ticket.number)))) }
     {
         self.bench.take_local(rt)
     }
@@ -272,8 +273,8 @@ impl<J: JobKind> WorkerThread<J> {
         ensures none { IfNone result (self.new.left ≡ self.old.left) }
         ensures kept { self.new ≡ record self.old { left = self.new.left; acts = self.new.acts } }
         ensures path { MatchOption result
-            (Made self.old.shape (Worker 0 self.old.seat) (Stay at.YieldPop) self.old.acts self.new.acts Back)
-            (λ t. Made self.old.shape (Worker 0 self.old.seat) (Stay at.YieldPop) self.old.acts self.new.acts (Stay (at.BeginTask (Plain t.ticket.number)))) }
+            (Traced self.old.shape (Worker 0 self.old.seat) (Stay at.YieldPop) self.old.acts self.new.acts Back)
+            (λ t. Traced self.old.shape (Worker 0 self.old.seat) (Stay at.YieldPop) self.old.acts self.new.acts (Stay (at.BeginTask (Plain t.ticket.number)))) }
     {
         self.bench.find_work(rt)
     }
@@ -390,7 +391,7 @@ impl<J: JobKind> WorkerThread<J> {
     #[tactic(auto, unfolding(crate::specs::Pushes::units_of, crate::specs::Pushes::shape_at, crate::specs::Pushes::seat_of, crate::specs::Pushes::acts_of))]
     fn let_go<R: Wait>(&mut self, rt: &R, name: u64, done: Done<J>)
         ensures same { SameWorker self.old self.new }
-        ensures path { Made self.old.shape (Worker 0 self.old.seat) (Stay (at.LowerCount (OfPool 0) (OfJob name) Resume)) self.old.acts self.new.acts Back }
+        ensures path { Traced self.old.shape (Worker 0 self.old.seat) (Stay (at.LowerCount (OfPool 0) (OfJob name) Resume)) self.old.acts self.new.acts Back }
     {
         if let Err(fault) = done.into_result() {
             self.faults.keep(rt, fault);

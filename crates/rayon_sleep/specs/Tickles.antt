@@ -10,7 +10,7 @@ use Rattle.rayon_machine_places.specs.declared.place.Place.TheVariants.{LockToSe
 use Rattle.rayon_machine_places.specs.declared.place.Settling.{Settling}
 use Rattle.rayon_machine_places.specs.declared.shape.PoolShape.{PoolShape}
 use Rattle.rayon_machine_places.specs.Places.{after_set}
-use Rattle.rayon_sleep.specs.Stretches.{Logged}
+use Rattle.rayon_drive.specs.Paths.{Traced}
 use Rattle.rayon_sleep.specs.declared.tickle.Tickle.{Tickle}
 
 -- who waits on a core latch: the worker's index, and the name of the latch
@@ -21,7 +21,7 @@ pub record Waiter : Type 0 where
 -- a worker was woken that slept on a latch: the acts are a path of the table, from where that latch was set on
 abbrev pub Wakes : ℕ → Log → Type 0
 Wakes worker log =
-    (h : PoolShape) (q : Party) (s : Settling) → s.pool ≡ 0 → s.worker ≡ worker → Logged h q (Stay (LockToSettle s)) Empty log (after_set h q s s.latch)
+    (h : PoolShape) (q : Party) (s : Settling) → s.pool ≡ 0 → s.worker ≡ worker → Traced h q (Stay (LockToSettle s)) Empty log (after_set h q s s.latch)
 
 -- this latch was set, once, and its worker was woken exactly where it slept on it
 pub record Tickles (w : Waiter) (t : Tickle) : Type 0 where

@@ -5,8 +5,8 @@ use Rattle.rayon_drive.specs.declared.trace.Log.TheVariants.{Empty}
 use Rattle.rayon_machine_places.specs.declared.place.Move.TheVariants.{Stay}
 use Rattle.rayon_machine_places.specs.declared.place.Place.TheVariants.{LockToSettle}
 use Rattle.rayon_machine_places.specs.Places.{after_set}
+use Rattle.rayon_drive.specs.Paths.{Traced}
 use Rattle.rayon_sleep.specs.Tickles.{Wakes}
-use Rattle.rayon_sleep.specs.Stretches.{Logged}
 use Rattle.rayon_sleep.proofs.tickle.set_and_tickle.Goals as goal
 use Rattle.rayon_sleep.proofs.tickle.set_and_tickle.Goals.{then-slept, else-slept}
 
@@ -24,8 +24,8 @@ returns g c =
             let is : woken ≡ true = search rules in
             let same : t ≡ w.notify_worker_latch_is_set.new.trace = search rules in
             subst (λ (b : Bool). MatchBool b (Wakes c.args.worker t) (t ≡ Empty)) (sym is)
-            (λ h q s p i. subst (λ (l : Log). Logged h q (Stay (LockToSettle s)) l t (after_set h q s s.latch)) c.new-trace.ensures
-            (subst (λ (l : Log). Logged h q (Stay (LockToSettle s)) c.new-trace.result l (after_set h q s s.latch)) (sym same) (w.notify_worker_latch_is_set.ensures.path h q s p i)))
+            (λ h q s p i. subst (λ (l : Log). Traced h q (Stay (LockToSettle s)) l t (after_set h q s s.latch)) c.new-trace.ensures
+            (subst (λ (l : Log). Traced h q (Stay (LockToSettle s)) c.new-trace.result l (after_set h q s s.latch)) (sym same) (w.notify_worker_latch_is_set.ensures.path h q s p i)))
         | else-slept w ↦
             let is : woken ≡ false = search rules in
             let none : t ≡ Empty = search rules in

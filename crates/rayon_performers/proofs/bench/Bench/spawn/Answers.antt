@@ -1,4 +1,4 @@
-use Rattle.std.proofs.Common.{◌≡◌, rules, subst}
+use Rattle.std.proofs.Common.{◌≡◌, refl, rules, subst}
 use Rattle.rayon_machine_places.specs.declared.act.Act.TheVariants as acts
 use Rattle.rayon_machine_places.specs.declared.act.Seen.TheVariants as saw
 use Rattle.rayon_machine_places.specs.declared.place.Count.TheVariants.{OfPool}
@@ -8,7 +8,9 @@ use Rattle.rayon_machine_places.specs.declared.place.Place.TheVariants as at
 use Rattle.rayon_machine_places.specs.declared.place.Plan.TheVariants.{Detach}
 use Rattle.rayon_machine_places.specs.Places.{undo}
 use Rattle.rayon_drive.specs.Traces.{Adds}
-use Rattle.rayon_performers.proofs.Spawns.{not_raised, queued_as, spawned_by, traced, traced_as, traced_then, unspawned_by}
+use Rattle.rayon_drive.proofs.Traced.{traced_as, traced_then}
+use Rattle.rayon_performers.proofs.Spawns.{not_raised, queued_as, spawned_by, unspawned_by}
+use Rattle.rayon_performers.proofs.Stretches.{traced}
 use Rattle.rayon_performers.proofs.bench.Bench.spawn.Goals as goal
 
 pub returns-in-Err-raise_for_job-clause-path : goal.returns-in-Err-raise_for_job-clause-path
@@ -53,6 +55,6 @@ returns-in-Err-push-clause-path g c =
     let adds = subst (λ z. Adds (acts.Raise (OfPool 0) n) saw.Done z.trace u.trace) c.ticket_of_detached.ensures.same c.in_default.ensures.adds in
     let pushed = traced u.shape u.index (Stay (at.LookQueue (Detach 0 m))) u w (Stay (undo (Detach 0 m))) c.in-Err-push.ensures.path in
     let here = queued_as u.shape a.shape u.index a.index m n u.trace w.trace (λ k. Stay (undo (Detach 0 k))) shape index named pushed in
-    let lowered = traced_as w.shape a.shape w.index a.index undone w.trace x.trace back shape2 index2 c.lower_job_then.ensures.path in
+    let lowered = traced_as w.shape a.shape w.index a.index undone w.trace x.trace back back index2 shape2 refl c.lower_job_then.ensures.path in
     unspawned_by a.shape n a.trace u.trace (Worker 0 a.index) x.trace adds
-    (traced_then a.shape (Worker 0 a.index) first u.trace w.trace x.trace undone back here lowered)
+    (traced_then a.shape (Worker 0 a.index) first u.trace w.trace undone x.trace back here lowered)

@@ -1,11 +1,11 @@
 use Rattle.std.proofs.Common.{◌≡◌, refl, subst, sym}
-use Rattle.rayon_drive.specs.Paths.{Driven}
 use Rattle.rayon_machine_places.specs.declared.place.Move.TheVariants.{Stay}
 use Rattle.rayon_machine_places.specs.declared.place.Party.TheVariants.{Worker}
 use Rattle.rayon_machine_places.specs.declared.place.Place.TheVariants as at
 use Rattle.rayon_machine_places.specs.declared.place.Target.TheVariants.{Termination}
 use Rattle.rayon_machine_places.specs.Places.{fresh}
 use Rattle.rayon_performers.specs.Hands.{Does}
+use Rattle.rayon_performers.specs.Paths.{WorkerGoes}
 use Rattle.rayon_performers.specs.Stands.{Stands}
 use Rattle.rayon_performers.specs.Waits.{waiting_on}
 use Rattle.rayon_performers.proofs.Letters.{exchanged}
@@ -18,8 +18,8 @@ returns-clause-path g c =
     let first = Stay (at.ProbeWorking (fresh Termination)) in
     let w = waiting_on c.exchange_latch-2.new.latch c.exchange_latch-2.new.self in
     let back : w ≡ v = exchanged v c.exchange_latch-2.new.self c.exchange_latch.new.latch c.exchange_latch-2.new.latch c.exchange_latch-2.ensures.bench c.exchange_latch-2.ensures.latch in
-    subst (λ z. Driven (λ a x y b. Does x y a b) (λ a. a.trace) s.shape (Worker 0 s.index) first (waiting_on c.args.latch.now s) z c.wait-ended.result) (sym back)
-    (subst (λ z. Driven (λ a x y b. Does x y a b) (λ a. a.trace) z.shape (Worker 0 z.index) first z v c.wait-ended.result) c.exchange_latch.ensures.bench c.wait-ended.ensures.path)
+    subst (λ z. WorkerGoes first (waiting_on c.args.latch.now s) z c.wait-ended.result) (sym back)
+    (subst (λ z. WorkerGoes first z v c.wait-ended.result) c.exchange_latch.ensures.bench c.wait-ended.ensures.path)
 
 pub returns-clause-stands : goal.returns-clause-stands
 returns-clause-stands g c =

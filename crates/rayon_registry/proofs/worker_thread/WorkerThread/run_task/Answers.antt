@@ -8,9 +8,11 @@ use Rattle.rayon_machine_places.specs.declared.place.Place.TheVariants as at
 use Rattle.rayon_machine_places.specs.declared.place.Share.TheVariants.{OfJob}
 use Rattle.rayon_machine_places.specs.declared.place.Then.TheVariants.{Resume}
 use Rattle.rayon_drive.specs.declared.trace.Log.{Log}
-use Rattle.rayon_registry.specs.Acts.{Made}
+use Rattle.rayon_drive.specs.Paths.{Traced}
+use Rattle.rayon_drive.proofs.Traced.{traced_as}
 use Rattle.rayon_registry.specs.Pushes.{acts_of, seat_of, shape_at, units_of}
-use Rattle.rayon_registry.proofs.Made.{closes_call, closes_detached, made, made_as}
+use Rattle.rayon_performers.proofs.Stretches.{traced}
+use Rattle.rayon_registry.proofs.Made.{closes_call, closes_detached}
 use Rattle.rayon_registry.proofs.worker_thread.WorkerThread.run_task.Goals as goal
 
 pub returns-then-is_detached-clause-path : goal.returns-then-is_detached-clause-path
@@ -26,8 +28,8 @@ returns-then-is_detached-clause-path g c =
     let shape : w.shape ≡ a.shape = search rules in
     let numbered : n ≡ k.number = search rules in
     let detached : k.detached ≡ true = search rules in
-    let here = made_as w.shape a.shape w.seat a.seat lowers w.acts u.acts Back Back seat shape refl c.let_go.ensures.path in
-    let own = subst (λ (z : ℕ). Made a.shape (Worker 0 a.seat) (Stay (at.LowerCount (OfPool 0) (OfJob z) Resume)) w.acts u.acts Back) numbered here in
+    let here = traced_as w.shape a.shape w.seat a.seat lowers w.acts u.acts Back Back seat shape refl c.let_go.ensures.path in
+    let own = subst (λ (z : ℕ). Traced a.shape (Worker 0 a.seat) (Stay (at.LowerCount (OfPool 0) (OfJob z) Resume)) w.acts u.acts Back) numbered here in
     (Fine, w.acts, c.run_work-done.ensures.acts, closes_detached a.shape (Worker 0 a.seat) k Fine w.acts u.acts detached own)
 
 pub returns-else-is_detached-clause-path : goal.returns-else-is_detached-clause-path
@@ -45,11 +47,11 @@ returns-else-is_detached-clause-path g c =
     let seat : t.index ≡ a.seat = search rules in
     let shape : t.shape ≡ a.shape = search rules in
     let acts : t.trace ≡ w.acts = search rules in
-    let told = made_as t.shape a.shape t.index a.seat tells t.trace u.trace Back Back seat shape refl (made t.shape t.index tells t u Back c.tell.ensures.path) in
-    let after = subst (λ (l : Log). Made a.shape (Worker 0 a.seat) tells l u.trace Back) acts told in
+    let told = traced_as t.shape a.shape t.index a.seat tells t.trace u.trace Back Back seat shape refl (traced t.shape t.index tells t u Back c.tell.ensures.path) in
+    let after = subst (λ (l : Log). Traced a.shape (Worker 0 a.seat) tells l u.trace Back) acts told in
     let numbered : n ≡ k.number = search rules in
     let owned : o ≡ k.owner = search rules in
     let awaited : k.detached ≡ false = search rules in
-    let of_call = subst (λ (z : ℕ). Made a.shape (Worker 0 a.seat) (Stay (at.StoreResult z o e)) w.acts u.trace Back) numbered after in
-    let own = subst (λ (z : Party). Made a.shape (Worker 0 a.seat) (Stay (at.StoreResult k.number z e)) w.acts u.trace Back) owned of_call in
+    let of_call = subst (λ (z : ℕ). Traced a.shape (Worker 0 a.seat) (Stay (at.StoreResult z o e)) w.acts u.trace Back) numbered after in
+    let own = subst (λ (z : Party). Traced a.shape (Worker 0 a.seat) (Stay (at.StoreResult k.number z e)) w.acts u.trace Back) owned of_call in
     (e, w.acts, c.run_work-done.ensures.acts, closes_call a.shape (Worker 0 a.seat) k e w.acts u.trace awaited own)

@@ -6,9 +6,12 @@ use Rattle.rayon_machine_places.specs.declared.place.Place.TheVariants as at
 use Rattle.rayon_machine_places.specs.declared.place.Target.TheVariants.{Answer}
 use Rattle.rayon_machine_places.specs.Places.{fresh}
 use Rattle.rayon_drive.specs.declared.trace.Log.{Log}
-use Rattle.rayon_registry.specs.Acts.{Lowered, Made, Worked}
+use Rattle.rayon_drive.specs.Paths.{Traced}
+use Rattle.rayon_drive.proofs.Traced.{traced_as}
+use Rattle.rayon_registry.specs.Acts.{Lowered, Worked}
 use Rattle.rayon_registry.specs.Pushes.{acts_of, seat_of, shape_at, units_of}
-use Rattle.rayon_registry.proofs.Made.{around_task, last, lowered_as, made, made_as, runs_second, worked_as}
+use Rattle.rayon_performers.proofs.Stretches.{traced}
+use Rattle.rayon_registry.proofs.Made.{around_task, last, lowered_as, runs_second, worked_as}
 use Rattle.rayon_registry.proofs.worker_thread.WorkerThread.second_side.Goals as goal
 
 pub returns-in-Own-clause-path : goal.returns-in-Own-clause-path
@@ -22,9 +25,9 @@ returns-in-Own-clause-path g c =
     let o = c.args.call in
     let first = Stay (at.JoinProbe o) in
     let n = Enter (at.SecondSide o) (at.BeginHere o.job) in
-    let mine = subst (λ z. Made z.shape (Worker 0 z.index) first z.trace u.trace n) c.set_call.ensures (made s.shape s.index first s u n c.in-Own.ensures.path) in
-    let here = subst (λ v. Made v.shape (Worker 0 v.seat) first v.acts u.trace n) c.self.view_is mine in
-    let found = made_as l.shape a.shape l.seat a.seat first l.acts u.trace n n c.loop.invariant.5 c.loop.invariant.6 refl here in
+    let mine = subst (λ z. Traced z.shape (Worker 0 z.index) first z.trace u.trace n) c.set_call.ensures (traced s.shape s.index first s u n c.in-Own.ensures.path) in
+    let here = subst (λ v. Traced v.shape (Worker 0 v.seat) first v.acts u.trace n) c.self.view_is mine in
+    let found = traced_as l.shape a.shape l.seat a.seat first l.acts u.trace n n c.loop.invariant.5 c.loop.invariant.6 refl here in
     let t = c.take_task.new.self in
     let seat : t.index ≡ a.seat = search rules in
     let shape : t.shape ≡ a.shape = search rules in
@@ -47,10 +50,10 @@ returns-then-waits-clause-path g c =
     let first = Stay (at.JoinProbe o) in
     let n = Enter wait p in
     let waits : c.in-Other.waits ≡ true = search rules in
-    let moved = subst (λ (z : Bool). Made s.shape (Worker 0 s.index) first s.trace u.trace (Enter (if z then wait else at.JoinProbe o) p)) waits (made s.shape s.index first s u _ c.in-Other.ensures.path) in
-    let mine = subst (λ z. Made z.shape (Worker 0 z.index) first z.trace u.trace n) c.set_call.ensures moved in
-    let here = subst (λ v. Made v.shape (Worker 0 v.seat) first v.acts u.trace n) c.self.view_is mine in
-    let found = made_as l.shape a.shape l.seat a.seat first l.acts u.trace n n c.loop.invariant.5 c.loop.invariant.6 refl here in
+    let moved = subst (λ (z : Bool). Traced s.shape (Worker 0 s.index) first s.trace u.trace (Enter (if z then wait else at.JoinProbe o) p)) waits (traced s.shape s.index first s u _ c.in-Other.ensures.path) in
+    let mine = subst (λ z. Traced z.shape (Worker 0 z.index) first z.trace u.trace n) c.set_call.ensures moved in
+    let here = subst (λ v. Traced v.shape (Worker 0 v.seat) first v.acts u.trace n) c.self.view_is mine in
+    let found = traced_as l.shape a.shape l.seat a.seat first l.acts u.trace n n c.loop.invariant.5 c.loop.invariant.6 refl here in
     let x = c.run_task.new.self in
     let w = c.wait_for.new.self.acts in
     let seat : x.seat ≡ a.seat = search rules in
@@ -74,10 +77,10 @@ loop-preserved g c =
     let first = Stay (at.JoinProbe o) in
     let n = Enter (at.JoinProbe o) p in
     let looks : c.in-Other.waits ≡ false = search rules in
-    let moved = subst (λ (z : Bool). Made s.shape (Worker 0 s.index) first s.trace u.trace (Enter (if z then wait else at.JoinProbe o) p)) looks (made s.shape s.index first s u _ c.in-Other.ensures.path) in
-    let mine = subst (λ z. Made z.shape (Worker 0 z.index) first z.trace u.trace n) c.set_call.ensures moved in
-    let here = subst (λ v. Made v.shape (Worker 0 v.seat) first v.acts u.trace n) c.self.view_is mine in
-    let found = made_as l.shape a.shape l.seat a.seat first l.acts u.trace n n c.loop.invariant.5 c.loop.invariant.6 refl here in
+    let moved = subst (λ (z : Bool). Traced s.shape (Worker 0 s.index) first s.trace u.trace (Enter (if z then wait else at.JoinProbe o) p)) looks (traced s.shape s.index first s u _ c.in-Other.ensures.path) in
+    let mine = subst (λ z. Traced z.shape (Worker 0 z.index) first z.trace u.trace n) c.set_call.ensures moved in
+    let here = subst (λ v. Traced v.shape (Worker 0 v.seat) first v.acts u.trace n) c.self.view_is mine in
+    let found = traced_as l.shape a.shape l.seat a.seat first l.acts u.trace n n c.loop.invariant.5 c.loop.invariant.6 refl here in
     let t = c.take_call-held.new.self in
     let y = c.begin_task.new.self in (
       tt,
@@ -101,8 +104,8 @@ returns-in-Answered-clause-path g c =
     let u = c.reclaim.new.self in
     let o = c.args.call in
     let first = Stay (at.JoinProbe o) in
-    let mine = subst (λ z. Made z.shape (Worker 0 z.index) first z.trace u.trace Back) c.set_call.ensures (made s.shape s.index first s u Back c.in-Answered.ensures.path) in
-    let here = subst (λ v. Made v.shape (Worker 0 v.seat) first v.acts u.trace Back) c.self.view_is mine in
-    let found = made_as l.shape a.shape l.seat a.seat first l.acts u.trace Back Back c.loop.invariant.5 c.loop.invariant.6 refl here in
+    let mine = subst (λ z. Traced z.shape (Worker 0 z.index) first z.trace u.trace Back) c.set_call.ensures (traced s.shape s.index first s u Back c.in-Answered.ensures.path) in
+    let here = subst (λ v. Traced v.shape (Worker 0 v.seat) first v.acts u.trace Back) c.self.view_is mine in
+    let found = traced_as l.shape a.shape l.seat a.seat first l.acts u.trace Back Back c.loop.invariant.5 c.loop.invariant.6 refl here in
     subst (λ z. Worked a.shape (Worker 0 a.seat) first a.acts z.trace Back) (sym c.take_done.ensures.left)
     (c.loop.invariant.8 u.trace Back (last a.shape (Worker 0 a.seat) first l.acts u.trace Back found))

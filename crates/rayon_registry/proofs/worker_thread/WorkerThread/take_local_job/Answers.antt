@@ -3,9 +3,9 @@ use Rattle.rayon_machine_places.specs.declared.place.Move.TheVariants.{Back, Sta
 use Rattle.rayon_machine_places.specs.declared.place.Party.TheVariants.{Worker}
 use Rattle.rayon_machine_places.specs.declared.place.Place.TheVariants as at
 use Rattle.rayon_machine_places.specs.declared.place.Taken.TheVariants.{Plain}
-use Rattle.rayon_registry.specs.Acts.{Made}
+use Rattle.rayon_drive.specs.Paths.{Traced}
 use Rattle.rayon_registry.specs.Pushes.{acts_of, seat_of, shape_at}
-use Rattle.rayon_registry.proofs.Made.{made_found}
+use Rattle.rayon_registry.proofs.Made.{traced_found}
 use Rattle.rayon_registry.proofs.worker_thread.WorkerThread.take_local_job.Goals as goal
 
 pub returns-clause-path : goal.returns-clause-path
@@ -13,5 +13,5 @@ unfolding acts_of seat_of shape_at
 returns-clause-path g c =
     let b = c.self.inside.bench in
     let t = c.take_local.new.self in
-    subst (λ v. MatchOption c.take_local.result (Made v.shape (Worker 0 v.seat) (Stay at.LocalPop) v.acts t.trace Back) (λ x. Made v.shape (Worker 0 v.seat) (Stay at.LocalPop) v.acts t.trace (Stay (at.BeginTask (Plain x.ticket.number))))) c.self.view_is
-    (made_found b.shape b.index (Stay at.LocalPop) b t c.take_local.result c.take_local.ensures.path)
+    subst (λ v. MatchOption c.take_local.result (Traced v.shape (Worker 0 v.seat) (Stay at.LocalPop) v.acts t.trace Back) (λ x. Traced v.shape (Worker 0 v.seat) (Stay at.LocalPop) v.acts t.trace (Stay (at.BeginTask (Plain x.ticket.number))))) c.self.view_is
+    (traced_found b.shape b.index (Stay at.LocalPop) b t c.take_local.result c.take_local.ensures.path)

@@ -3,9 +3,12 @@ use Rattle.rayon_machine_places.specs.declared.place.Move.TheVariants.{Enter, St
 use Rattle.rayon_machine_places.specs.declared.place.Party.TheVariants.{Worker}
 use Rattle.rayon_machine_places.specs.declared.place.Place.TheVariants as at
 use Rattle.rayon_machine_places.specs.Places.{fresh}
-use Rattle.rayon_registry.specs.Acts.{Made, Worked, wait_end}
+use Rattle.rayon_drive.specs.Paths.{Traced}
+use Rattle.rayon_drive.proofs.Traced.{traced_as}
+use Rattle.rayon_registry.specs.Acts.{Worked, wait_end}
 use Rattle.rayon_registry.specs.Pushes.{acts_of, seat_of, shape_at, units_of}
-use Rattle.rayon_registry.proofs.Made.{above, after_wait, around_task, has_ended, last, made, made_as}
+use Rattle.rayon_performers.proofs.Stretches.{traced}
+use Rattle.rayon_registry.proofs.Made.{above, after_wait, around_task, has_ended, last}
 use Rattle.rayon_registry.proofs.worker_thread.WorkerThread.wait_for.Goals as goal
 use Rattle.rayon_registry.proofs.worker_thread.WorkerThread.wait_for.Goals.{in_default-via-in-Enter+in_default, in_default-via-in_default}
 
@@ -21,9 +24,9 @@ loop-preserved g c =
     let k = c.args.target in
     let p = c.in-Enter-default-BeginTask.place in
     let first = Stay (at.ProbeWorking (fresh k)) in
-    let mine = subst (λ z. Made z.shape (Worker 0 z.index) first z.trace u.trace r) c.set_call.ensures (made s.shape s.index first s u r c.wait.ensures.path) in
-    let here = subst (λ v. Made v.shape (Worker 0 v.seat) first v.acts u.trace r) c.self.view_is mine in
-    let found = made_as l.shape a.shape l.seat a.seat first l.acts u.trace r (Enter (at.ProbeWorking (fresh k)) p) c.loop.invariant.5 c.loop.invariant.6 (above k c.in-Enter-default-BeginTask.frame p r c.in-Enter-default-BeginTask.is c.wait.ensures.ends) here in
+    let mine = subst (λ z. Traced z.shape (Worker 0 z.index) first z.trace u.trace r) c.set_call.ensures (traced s.shape s.index first s u r c.wait.ensures.path) in
+    let here = subst (λ v. Traced v.shape (Worker 0 v.seat) first v.acts u.trace r) c.self.view_is mine in
+    let found = traced_as l.shape a.shape l.seat a.seat first l.acts u.trace r (Enter (at.ProbeWorking (fresh k)) p) c.loop.invariant.5 c.loop.invariant.6 (above k c.in-Enter-default-BeginTask.frame p r c.in-Enter-default-BeginTask.is c.wait.ensures.ends) here in
     let t = c.take_call-held.new.self in
     let y = c.begin_task.new.self in (
       tt,
@@ -48,17 +51,17 @@ returns-in_default-clause-path g c =
     let r = c.wait.result in
     let k = c.args.target in
     let first = Stay (at.ProbeWorking (fresh k)) in
-    let mine = subst (λ z. Made z.shape (Worker 0 z.index) first z.trace u.trace r) c.set_call.ensures (made s.shape s.index first s u r c.wait.ensures.path) in
-    let here = subst (λ v. Made v.shape (Worker 0 v.seat) first v.acts u.trace r) c.self.view_is mine in
+    let mine = subst (λ z. Traced z.shape (Worker 0 z.index) first z.trace u.trace r) c.set_call.ensures (traced s.shape s.index first s u r c.wait.ensures.path) in
+    let here = subst (λ v. Traced v.shape (Worker 0 v.seat) first v.acts u.trace r) c.self.view_is mine in
     elim c.in_default.branch [
       | in_default-via-in-Enter+in_default w ↦
           let ended = has_ended k r c.wait.ensures.ends (λ f n e. search rules) in
-          let end = made_as l.shape a.shape l.seat a.seat first l.acts u.trace r (wait_end k) c.loop.invariant.5 c.loop.invariant.6 ended here in
+          let end = traced_as l.shape a.shape l.seat a.seat first l.acts u.trace r (wait_end k) c.loop.invariant.5 c.loop.invariant.6 ended here in
           subst (λ z. Worked a.shape (Worker 0 a.seat) first a.acts z.trace (wait_end k)) (sym c.take_done.ensures.left)
           (c.loop.invariant.8 u.trace (wait_end k) (last a.shape (Worker 0 a.seat) first l.acts u.trace (wait_end k) end))
       | in_default-via-in_default w ↦
           let ended = has_ended k r c.wait.ensures.ends (λ f n e. search rules) in
-          let end = made_as l.shape a.shape l.seat a.seat first l.acts u.trace r (wait_end k) c.loop.invariant.5 c.loop.invariant.6 ended here in
+          let end = traced_as l.shape a.shape l.seat a.seat first l.acts u.trace r (wait_end k) c.loop.invariant.5 c.loop.invariant.6 ended here in
           subst (λ z. Worked a.shape (Worker 0 a.seat) first a.acts z.trace (wait_end k)) (sym c.take_done.ensures.left)
           (c.loop.invariant.8 u.trace (wait_end k) (last a.shape (Worker 0 a.seat) first l.acts u.trace (wait_end k) end))
     ]

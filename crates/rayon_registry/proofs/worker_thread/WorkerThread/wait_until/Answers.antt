@@ -4,9 +4,12 @@ use Rattle.rayon_machine_places.specs.declared.place.Party.TheVariants.{Worker}
 use Rattle.rayon_machine_places.specs.declared.place.Place.TheVariants as at
 use Rattle.rayon_machine_places.specs.declared.place.Target.TheVariants.{Termination}
 use Rattle.rayon_machine_places.specs.Places.{fresh}
-use Rattle.rayon_registry.specs.Acts.{Made, Worked}
+use Rattle.rayon_drive.specs.Paths.{Traced}
+use Rattle.rayon_drive.proofs.Traced.{traced_as}
+use Rattle.rayon_registry.specs.Acts.{Worked}
 use Rattle.rayon_registry.specs.Pushes.{acts_of, saw_set, seat_of, shape_at, units_of}
-use Rattle.rayon_registry.proofs.Made.{above, around_task, has_probed, has_seen, last, made, made_as}
+use Rattle.rayon_performers.proofs.Stretches.{traced}
+use Rattle.rayon_registry.proofs.Made.{above, around_task, has_probed, has_seen, last}
 use Rattle.rayon_registry.proofs.worker_thread.WorkerThread.wait_until.Goals as goal
 use Rattle.rayon_registry.proofs.worker_thread.WorkerThread.wait_until.Goals.{in_default-via-in-Enter+in_default, in_default-via-in_default}
 
@@ -21,8 +24,8 @@ loop-preserved g c =
     let f = c.in-Enter-default-BeginTask.frame in
     let p = c.in-Enter-default-BeginTask.place in
     let first = Stay (at.ProbeWorking (fresh Termination)) in
-    let here = subst (λ v. Made v.shape (Worker 0 v.seat) first v.acts u.trace r) c.self-in-loop.view_is (made b.shape b.index first _ _ r c.wait_on.ensures.path) in
-    let found = made_as l.shape a.shape l.seat a.seat first l.acts u.trace r (Enter (at.ProbeWorking (fresh Termination)) p) c.loop.invariant.5 c.loop.invariant.6 (above Termination f p r c.in-Enter-default-BeginTask.is c.wait_on.ensures.ends) here in
+    let here = subst (λ v. Traced v.shape (Worker 0 v.seat) first v.acts u.trace r) c.self-in-loop.view_is (traced b.shape b.index first _ _ r c.wait_on.ensures.path) in
+    let found = traced_as l.shape a.shape l.seat a.seat first l.acts u.trace r (Enter (at.ProbeWorking (fresh Termination)) p) c.loop.invariant.5 c.loop.invariant.6 (above Termination f p r c.in-Enter-default-BeginTask.is c.wait_on.ensures.ends) here in
     let y = c.begin_task.new.self in (
       tt,
       tt,
@@ -43,16 +46,16 @@ returns-in_default-clause-path g c =
     let u = c.wait_on.new.self in
     let r = c.wait_on.result in
     let first = Stay (at.ProbeWorking (fresh Termination)) in
-    let here = subst (λ v. Made v.shape (Worker 0 v.seat) first v.acts u.trace r) c.self-in-loop.view_is (made b.shape b.index first _ _ r c.wait_on.ensures.path) in
+    let here = subst (λ v. Traced v.shape (Worker 0 v.seat) first v.acts u.trace r) c.self-in-loop.view_is (traced b.shape b.index first _ _ r c.wait_on.ensures.path) in
     elim c.in_default.branch [
       | in_default-via-in-Enter+in_default w ↦
           let stopped : r ≡ Stay at.Stopped = search rules in
-          let end = made_as l.shape a.shape l.seat a.seat first l.acts u.trace r (Stay at.Stopped) c.loop.invariant.5 c.loop.invariant.6 stopped here in
+          let end = traced_as l.shape a.shape l.seat a.seat first l.acts u.trace r (Stay at.Stopped) c.loop.invariant.5 c.loop.invariant.6 stopped here in
           subst (λ z. Worked a.shape (Worker 0 a.seat) first a.acts z.acts (Stay at.Stopped)) (sym w.self-is)
           (c.loop.invariant.7 u.trace (Stay at.Stopped) (last a.shape (Worker 0 a.seat) first l.acts u.trace (Stay at.Stopped) end))
       | in_default-via-in_default w ↦
           let stopped : r ≡ Stay at.Stopped = search rules in
-          let end = made_as l.shape a.shape l.seat a.seat first l.acts u.trace r (Stay at.Stopped) c.loop.invariant.5 c.loop.invariant.6 stopped here in
+          let end = traced_as l.shape a.shape l.seat a.seat first l.acts u.trace r (Stay at.Stopped) c.loop.invariant.5 c.loop.invariant.6 stopped here in
           subst (λ z. Worked a.shape (Worker 0 a.seat) first a.acts z.acts (Stay at.Stopped)) (sym w.self-is)
           (c.loop.invariant.7 u.trace (Stay at.Stopped) (last a.shape (Worker 0 a.seat) first l.acts u.trace (Stay at.Stopped) end))
     ]

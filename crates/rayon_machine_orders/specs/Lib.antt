@@ -10,6 +10,7 @@ pub mod Numbers
 pub mod Order
 pub mod Placed
 pub mod Queue
+pub mod Values
 pub use Rattle.rayon_machine_places.specs.Places
 pub use Rattle.rayon_machine_places.specs.World
 pub use Rattle.rayon_machine_places.specs.Steps

@@ -11,6 +11,7 @@ ghost use Rattle.rayon_machine_orders.specs.Faults.{FaultLaw, IsKept};
 ghost use Rattle.rayon_machine_orders.specs.Latched.{TakesOnSet};
 ghost use Rattle.rayon_machine_orders.specs.Makes.{MakeLaw};
 ghost use Rattle.rayon_machine_orders.specs.Numbers.{NumberLaw};
+ghost use Rattle.rayon_machine_orders.specs.Values.{ValueLaw};
 
 /// In every world of every run a pool's terminate count is the number of the shares in it: one for the pool's value
 /// until its Lower, and one for each job at the pool that has a share, but the jobs of scopes, whose shares are in
@@ -41,7 +42,8 @@ pub fn law_count()
 /// that it took is given back: from the act after the one that does it, none of its jobs is in the count, and for ever
 /// after its last step. A pool's terminate latch is set only when the pool has ended: its value is given up, no call
 /// made at it keeps a share of a count, no job made at it has one, those of scopes and the pieces of broadcasts that
-/// wait neither, and no detached job of it is queued, in a FIFO list or running.
+/// wait neither, and no detached job of it is queued, in a FIFO list or running. A pool's value is given up by its
+/// EndPool alone, and then it is (`value`).
 /// The same is said of calls, with places named by their acts alone (`calls`): from the event by which a party begins a
 /// spawn, in order or into a scope or both, an install, a join, a scope or a broadcast that waits, to the first world
 /// in which the party's stack is again what it was, the stack stands on what it was. There each job that the event made
@@ -82,6 +84,7 @@ pub fn law_end()
     ensures refused { Always IsRefused }
     ensures returned { Always IsReturned }
     ensures early { Always NoEarlyEnd }
+    ensures value { ValueLaw }
     ensures calls { CallLaw }
     ensures casts { CastLaw }
     ensures makes { MakeLaw }

@@ -12,6 +12,7 @@ use Rattle.rayon_machine_orders.proofs.Calls.{call_law}
 use Rattle.rayon_machine_orders.proofs.Casts.{cast_law}
 use Rattle.rayon_machine_orders.proofs.Looking.{number_law}
 use Rattle.rayon_machine_orders.proofs.Making.{make_law}
+use Rattle.rayon_machine_orders.proofs.Values.{value_law}
 use Rattle.rayon_machine_orders.proofs.call_laws.law_end.Goals as goal
 
 pub returns-clause-ends : goal.returns-clause-ends
@@ -28,6 +29,9 @@ returns-clause-returned c h es w r = returned_so w (always_returns h es w r)
 
 pub returns-clause-early : goal.returns-clause-early
 returns-clause-early c h es w r = no_early_end w (always_early h es w r)
+
+pub returns-clause-value : goal.returns-clause-value
+returns-clause-value c = value_law
 
 pub returns-clause-calls : goal.returns-clause-calls
 returns-clause-calls c = call_law

@@ -2,6 +2,7 @@ pub mod Words
 pub mod Spared
 pub mod EventCases
 pub mod WrongMachines
+pub mod AgainTeeth
 pub mod Values
 pub mod Keepers
 pub mod Keeping

@@ -85,4 +85,5 @@ pub mod Feeders
 pub mod FeederEvents
 pub mod Stocked
 pub mod Stays
+pub mod Moves
 pub mod Redeems

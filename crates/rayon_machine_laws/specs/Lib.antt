@@ -13,6 +13,7 @@ pub mod End
 pub mod Latch
 pub mod Shares
 pub mod Stays
+pub mod Moves
 pub mod Bodies
 pub mod Counted
 pub use Rattle.rayon_machine_places.specs.Places

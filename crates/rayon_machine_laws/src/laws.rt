@@ -7,6 +7,7 @@ ghost use Rattle.rayon_machine_laws.specs.Fixed.{FixedLaw};
 ghost use Rattle.rayon_machine_laws.specs.Holders.{HolderLaw, IsHolding};
 ghost use Rattle.rayon_machine_laws.specs.Latch.{IsGathered, IsLatched, IsSetOnce, SetLaw};
 ghost use Rattle.rayon_machine_laws.specs.Letters.{IsLettered, StopsOnSet};
+ghost use Rattle.rayon_machine_laws.specs.Moves.{MovesLaw};
 ghost use Rattle.rayon_machine_laws.specs.Near.{IsNear};
 ghost use Rattle.rayon_machine_laws.specs.Once.{IsBound, IsOnce, IsRedeemed};
 ghost use Rattle.rayon_machine_laws.specs.Seats.{IsSeated};
@@ -28,7 +29,10 @@ ghost use Rattle.rayon_machine_laws.specs.Stays.{StaysLaw};
 /// A job whose run ends is over as its run ended, and comes to be over only so; and a step adds one to the number of
 /// its runs only where a party comes to stand at its run (`ends`). So a job that has run has stood at its run.
 /// A job that is over stays over, with the same ending; a spent token stays spent, and what was handed back stays so
-/// (`stays`). So no job runs again.
+/// (`stays`). So no job runs again. A step leaves a job or a token where it is, or moves it by one of few ways
+/// (`moves`): what a party's call has made that party queues, begins or hands back; what is queued is taken by a party
+/// to be run; of a FIFO list it is also taken back, and then handed back; a run ends; and a token that was taken is
+/// spent. So no job that was queued is handed back but by the party whose call took it back.
 /// Each job is queued and run at its own pool, a job of a FIFO list in the one of its own kind, a token in its own
 /// worker's deque, and each piece in its own worker's broadcast list; what is run at once is in no list (`near`).
 /// It does not say that a job ever runs.
@@ -39,6 +43,7 @@ pub fn law_once()
     ensures fixed { FixedLaw }
     ensures ends { EndsLaw }
     ensures stays { StaysLaw }
+    ensures moves { MovesLaw }
     ensures near { Always IsNear }
 {}
 

@@ -5,6 +5,7 @@ use Rattle.rayon_machine_laws.proofs.Records.{ends_law}
 use Rattle.rayon_machine_laws.proofs.NearEvents.{always_near}
 use Rattle.rayon_machine_laws.proofs.Redeems.{always_stocks, redeems}
 use Rattle.rayon_machine_laws.proofs.Stays.{stays_law}
+use Rattle.rayon_machine_laws.proofs.Moves.{moves_law}
 use Rattle.rayon_machine_laws.proofs.laws.law_once.Goals as goal
 
 pub returns-clause-once : goal.returns-clause-once
@@ -24,6 +25,9 @@ returns-clause-ends c = ends_law
 
 pub returns-clause-stays : goal.returns-clause-stays
 returns-clause-stays c = stays_law
+
+pub returns-clause-moves : goal.returns-clause-moves
+returns-clause-moves c = moves_law
 
 pub returns-clause-near : goal.returns-clause-near
 returns-clause-near c h es w r = always_near h es w r

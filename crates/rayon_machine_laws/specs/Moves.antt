@@ -1,6 +1,7 @@
 -- where a step may bring a job or a token, by where it was
 --
--- Broken by the wrong machine `over_runs_again`, in `rayon_machine_orders/proofs` (AgainTeeth).
+-- Broken by the wrong machines `over_runs_again` and `taken_is_handed_back`, in `rayon_machine_orders/proofs`
+-- (AgainTeeth).
 use Rattle.std.specs.Prelude.{ℕ, Bool, true, false, ◌&&◌, ◌<◌, Some, List, ◌≡◌, ◌⊎◌}
 use Rattle.rayon_machine_places.specs.declared.place.Party.{Party}
 use Rattle.rayon_machine_places.specs.declared.place.Ending.{Ending}

@@ -28,7 +28,8 @@ use Rattle.rayon_machine_places.specs.declared.place.Mark.TheVariants.{Counted, 
 use Rattle.rayon_machine_places.specs.declared.place.Plan.{Plan}
 use Rattle.rayon_machine_places.specs.declared.place.Plan.TheVariants.{Detach, Here, Send, Fork, Feed, Open, Enter as Entered, Gather}
 use Rattle.rayon_machine_places.specs.declared.place.Place.{Place}
-use Rattle.rayon_machine_places.specs.declared.place.Place.TheVariants.{JoinProbe, SecondSide, ProbeWorking, PopWorking, TakeCastWorking, PopIdle, TakeCastIdle, PickVictim, StealFrom, PopInjected, JoinPop, JoinTakeCast, YieldPop, YieldTakeCast, YieldPick, YieldSteal, YieldPopInjected, LocalPop, LocalTakeCast, BeginTask, BeginHere, Run, PushJob, AddToFifo, PushToken, TakeFromFifo, PushForAll, DealPieces, LowerCount, LowerForAll, SetLatch, UnlockSettled}
+use Rattle.rayon_machine_places.specs.declared.place.Place.TheVariants.{JoinProbe, SecondSide, ProbeWorking, PopWorking, TakeCastWorking, PopIdle, TakeCastIdle, PickVictim, StealFrom, PopInjected, JoinPop, JoinTakeCast, YieldPop, YieldTakeCast, YieldPick, YieldSteal}
+use Rattle.rayon_machine_places.specs.declared.place.Place.TheVariants.{YieldPopInjected, LocalPop, LocalTakeCast, BeginTask, BeginHere, Run, PushJob, AddToFifo, PushToken, TakeFromFifo, PushForAll, DealPieces, LowerCount, LowerForAll, SetLatch, UnlockSettled}
 use Rattle.rayon_machine_places.specs.declared.place.Move.{Move}
 use Rattle.rayon_machine_places.specs.declared.place.Move.TheVariants.{Stay, Enter, StartRun, Back, HandBack, Discard, HandIn, Mark, HandAllBack}
 use Rattle.rayon_machine_places.specs.declared.act.Act.{Act}
@@ -43,14 +44,16 @@ use Rattle.rayon_machine_places.specs.declared.shape.PoolShape.{PoolShape}
 use Rattle.rayon_machine_places.specs.declared.state.Job.{Job}
 use Rattle.rayon_machine_places.specs.Places.{same_party, act_of, next_of, own_pool, own_index, finish, after_set, plan_book, plan_job, plan_pool, count_book, is_free, is_member, is_taken}
 use Rattle.rayon_machine_places.specs.World.{Shape, Stack, World, Counts, Part, Outcome, counts_at, target_pool, target_worker, target_call, at_job, begun, head_of, last_of, but_last, is_open, or_none, own_of, own_left, taken_as, pop_injector, popped, take_cast, effect}
-use Rattle.rayon_machine_places.specs.Steps.{put, put_pieces, put_stack, after_close, jobs_after, marked, mark_pieces, handed_back, is_piece, after_choice, after_end, after_miss, after_yield, after_send, after_join, after_gather, after_deal, after_feed, new_job, new_piece, new_whole, is_pool, step}
+use Rattle.rayon_machine_places.specs.Steps.{put, put_pieces, put_stack, after_close, jobs_after, marked, mark_pieces, handed_back, is_piece, after_choice, after_end}
+use Rattle.rayon_machine_places.specs.Steps.{after_miss, after_yield, after_send, after_join, after_gather, after_deal, after_feed, new_job, new_piece, new_whole, is_pool, step}
 use Rattle.rayon_machine_places.specs.Runs.{IsRun, start}
 use Rattle.rayon_machine_laws.specs.Once.{IsOnce, one, times, in_deque, in_injector, in_fifo, in_cast, is_with, run_of, runs_with, hand, hand_plan, held, worked}
 use Rattle.rayon_machine_laws.specs.Counted.{is_detached, keeps_own}
 use Rattle.rayon_machine_laws.specs.Shares.{is_busy, share, shares}
 use Rattle.rayon_machine_laws.specs.Near.{IsNear, has_line, is_near}
 use Rattle.rayon_machine_laws.specs.Moves.{ByAct, ByEnd, MovesLaw, MovesSo, leads}
-use Rattle.rayon_machine_laws.proofs.Frame.{acted_keeps, and_parts, either, fifo_cases, if_cond, if_some_all, if_some_and, if_some_each, if_some_map, into_cases, into_cast_cases, into_fifo_cases, out_sees, piece_range, pieces_same, put_new, put_old, put_same, same_party_refl, same_party_true, undo_sees, after_kind}
+use Rattle.rayon_machine_laws.proofs.Frame.{acted_keeps, and_parts, either, fifo_cases, if_cond, if_some_all, if_some_and, if_some_each, if_some_map, into_cases, into_cast_cases}
+use Rattle.rayon_machine_laws.proofs.Frame.{into_fifo_cases, out_sees, piece_range, pieces_same, put_new, put_old, put_same, same_party_refl, same_party_true, undo_sees, after_kind}
 use Rattle.rayon_machine_laws.proofs.Ties.{outcome, result, job_at, shape_at}
 use Rattle.rayon_machine_laws.proofs.Calm.{counts_seen, next_at, part_at}
 use Rattle.rayon_machine_laws.proofs.Hands.{got, given, starts, hand_move, is_gather, queues_whole, table}
@@ -228,15 +231,18 @@ takes_idle g q LocalTakeCast _ z = refl
 takes_idle g q x e z = cc
 
 -- what a take leaves of each job, whatever follows that writes none
-pop_jobs : (q : Party) (J : ℕ → Job) (m : Part) (rest : List ℕ) (o : Option ℕ) (f : Seen → Move) → m.job ≡ J (or_none o) → ((e : Seen) → is_idle (f e) ≡ true) → ((t : ℕ) → o ≡ Some t → leads q (J t).at (Running q) ≡ true) → IfSome (popped q m rest o) (λ r. (t : ℕ) → Led q (J t).at (jobs_after q (f (r.0)) (put J (or_none o) (r.1.job)) t).at)
+pop_jobs : (q : Party) (J : ℕ → Job) (m : Part) (rest : List ℕ) (o : Option ℕ) (f : Seen → Move) → m.job ≡ J (or_none o) → ((e : Seen) → is_idle (f e) ≡ true) → ((t : ℕ) → o ≡ Some t → leads q (J t).at (Running q) ≡ true)
+    → IfSome (popped q m rest o) (λ r. (t : ℕ) → Led q (J t).at (jobs_after q (f (r.0)) (put J (or_none o) (r.1.job)) t).at)
 pop_jobs q J m rest None f e i l = idle_led q J 0 m.job (f Missing) (i Missing) (inl (ap (λ j. j.at) e))
 pop_jobs q J m rest (Some t) f e i l = idle_led q J t (at_job m.job (Running q)) (f (Task (taken_as t m.job.kind))) (i (Task (taken_as t m.job.kind))) (inr (l t refl))
 
-inj_jobs : (q : Party) (J : ℕ → Job) (m : Part) (c : List ℕ) (f : Seen → Move) → m.job ≡ J (or_none (head_of c)) → ((e : Seen) → is_idle (f e) ≡ true) → ((t : ℕ) → head_of c ≡ Some t → leads q (J t).at (Running q) ≡ true) → IfSome (pop_injector q m c) (λ r. (t : ℕ) → Led q (J t).at (jobs_after q (f (r.0)) (put J (or_none (head_of c)) (r.1.job)) t).at)
+inj_jobs : (q : Party) (J : ℕ → Job) (m : Part) (c : List ℕ) (f : Seen → Move) → m.job ≡ J (or_none (head_of c)) → ((e : Seen) → is_idle (f e) ≡ true) → ((t : ℕ) → head_of c ≡ Some t → leads q (J t).at (Running q) ≡ true)
+    → IfSome (pop_injector q m c) (λ r. (t : ℕ) → Led q (J t).at (jobs_after q (f (r.0)) (put J (or_none (head_of c)) (r.1.job)) t).at)
 inj_jobs q J m [] f e i l = idle_led q J 0 m.job (f Missing) (i Missing) (inl (ap (λ j. j.at) e))
 inj_jobs q J m (t ∷ ts) f e i l = idle_led q J t (at_job m.job (Running q)) (f (Task (taken_as t m.job.kind))) (i (Task (taken_as t m.job.kind))) (inr (l t refl))
 
-cast_jobs : (q : Party) (J : ℕ → Job) (m : Part) (c : List ℕ) (f : Seen → Move) → m.job ≡ J (or_none (head_of c)) → ((e : Seen) → is_idle (f e) ≡ true) → ((t : ℕ) → head_of c ≡ Some t → leads q (J t).at (Running q) ≡ true) → IfSome (take_cast q m c) (λ r. (t : ℕ) → Led q (J t).at (jobs_after q (f (r.0)) (put J (or_none (head_of c)) (r.1.job)) t).at)
+cast_jobs : (q : Party) (J : ℕ → Job) (m : Part) (c : List ℕ) (f : Seen → Move) → m.job ≡ J (or_none (head_of c)) → ((e : Seen) → is_idle (f e) ≡ true) → ((t : ℕ) → head_of c ≡ Some t → leads q (J t).at (Running q) ≡ true)
+    → IfSome (take_cast q m c) (λ r. (t : ℕ) → Led q (J t).at (jobs_after q (f (r.0)) (put J (or_none (head_of c)) (r.1.job)) t).at)
 cast_jobs q J m [] f e i l = idle_led q J 0 m.job (f Missing) (i Missing) (inl (ap (λ j. j.at) e))
 cast_jobs q J m (t ∷ ts) f e i l = idle_led q J t (at_job m.job (Running q)) (f (Task (taken_as t m.job.kind))) (i (Task (taken_as t m.job.kind))) (inr (l t refl))
 
@@ -418,58 +424,86 @@ module _ (w : World) (calls : CallsHold w) (h : IsOnce w) (near : IsNear w) (ret
   here_led q t e = start_led q ((w.job t).at) (with_at q (BeginHere t) t e (let n : one (t == t) ≡ 1 = one_self t in omega (arith, n))) (unretaken w near t ((says_at q (BeginHere t) e).kind))
 
   loud : (q : Party) (x : Place) → (w.stack q).top ≡ x → moves_no_job x ≡ false → (fs : List Place) → IfSome (outcome w q (record { top = x; below = fs })) (AllLed w q x)
-  loud (Worker a b) (PopWorking k) e z fs = pop_jobs (Worker a b) w.job (part_at w (Worker a b) (record { top = PopWorking k; below = fs })) _ _ (λ e. next_of (w.shape.pool a) (Worker a b) (PopWorking k) e) refl (λ e. takes_idle (w.shape.pool a) (Worker a b) (PopWorking k) e refl) (λ t l. deck_led w h (Worker a b) a b t (own_in ((w.shape.pool a).order) ((w.seat a b).own) t l))
+  loud (Worker a b) (PopWorking k) e z fs = pop_jobs (Worker a b) w.job (part_at w (Worker a b) (record { top = PopWorking k; below = fs })) _ _ (λ e. next_of (w.shape.pool a) (Worker a b) (PopWorking k) e) refl
+      (λ e. takes_idle (w.shape.pool a) (Worker a b) (PopWorking k) e refl) (λ t l. deck_led w h (Worker a b) a b t (own_in ((w.shape.pool a).order) ((w.seat a b).own) t l))
   loud (Caller c) (PopWorking k) e z fs = tt
-  loud (Worker a b) (PopIdle k) e z fs = pop_jobs (Worker a b) w.job (part_at w (Worker a b) (record { top = PopIdle k; below = fs })) _ _ (λ e. next_of (w.shape.pool a) (Worker a b) (PopIdle k) e) refl (λ e. takes_idle (w.shape.pool a) (Worker a b) (PopIdle k) e refl) (λ t l. deck_led w h (Worker a b) a b t (own_in ((w.shape.pool a).order) ((w.seat a b).own) t l))
+  loud (Worker a b) (PopIdle k) e z fs = pop_jobs (Worker a b) w.job (part_at w (Worker a b) (record { top = PopIdle k; below = fs })) _ _ (λ e. next_of (w.shape.pool a) (Worker a b) (PopIdle k) e) refl (λ e. takes_idle (w.shape.pool a) (Worker a b) (PopIdle k) e refl)
+      (λ t l. deck_led w h (Worker a b) a b t (own_in ((w.shape.pool a).order) ((w.seat a b).own) t l))
   loud (Caller c) (PopIdle k) e z fs = tt
-  loud (Worker a b) (JoinPop k) e z fs = pop_jobs (Worker a b) w.job (part_at w (Worker a b) (record { top = JoinPop k; below = fs })) _ _ (λ e. next_of (w.shape.pool a) (Worker a b) (JoinPop k) e) refl (λ e. takes_idle (w.shape.pool a) (Worker a b) (JoinPop k) e refl) (λ t l. deck_led w h (Worker a b) a b t (own_in ((w.shape.pool a).order) ((w.seat a b).own) t l))
+  loud (Worker a b) (JoinPop k) e z fs = pop_jobs (Worker a b) w.job (part_at w (Worker a b) (record { top = JoinPop k; below = fs })) _ _ (λ e. next_of (w.shape.pool a) (Worker a b) (JoinPop k) e) refl (λ e. takes_idle (w.shape.pool a) (Worker a b) (JoinPop k) e refl)
+      (λ t l. deck_led w h (Worker a b) a b t (own_in ((w.shape.pool a).order) ((w.seat a b).own) t l))
   loud (Caller c) (JoinPop k) e z fs = tt
-  loud (Worker a b) YieldPop e z fs = pop_jobs (Worker a b) w.job (part_at w (Worker a b) (record { top = YieldPop; below = fs })) _ _ (λ e. next_of (w.shape.pool a) (Worker a b) YieldPop e) refl (λ e. takes_idle (w.shape.pool a) (Worker a b) YieldPop e refl) (λ t l. deck_led w h (Worker a b) a b t (own_in ((w.shape.pool a).order) ((w.seat a b).own) t l))
+  loud (Worker a b) YieldPop e z fs = pop_jobs (Worker a b) w.job (part_at w (Worker a b) (record { top = YieldPop; below = fs })) _ _ (λ e. next_of (w.shape.pool a) (Worker a b) YieldPop e) refl (λ e. takes_idle (w.shape.pool a) (Worker a b) YieldPop e refl)
+      (λ t l. deck_led w h (Worker a b) a b t (own_in ((w.shape.pool a).order) ((w.seat a b).own) t l))
   loud (Caller c) YieldPop e z fs = tt
-  loud (Worker a b) LocalPop e z fs = pop_jobs (Worker a b) w.job (part_at w (Worker a b) (record { top = LocalPop; below = fs })) _ _ (λ e. next_of (w.shape.pool a) (Worker a b) LocalPop e) refl (λ e. takes_idle (w.shape.pool a) (Worker a b) LocalPop e refl) (λ t l. deck_led w h (Worker a b) a b t (own_in ((w.shape.pool a).order) ((w.seat a b).own) t l))
+  loud (Worker a b) LocalPop e z fs = pop_jobs (Worker a b) w.job (part_at w (Worker a b) (record { top = LocalPop; below = fs })) _ _ (λ e. next_of (w.shape.pool a) (Worker a b) LocalPop e) refl (λ e. takes_idle (w.shape.pool a) (Worker a b) LocalPop e refl)
+      (λ t l. deck_led w h (Worker a b) a b t (own_in ((w.shape.pool a).order) ((w.seat a b).own) t l))
   loud (Caller c) LocalPop e z fs = tt
-  loud (Worker a b) (StealFrom k n) e z fs = pop_jobs (Worker a b) w.job (part_at w (Worker a b) (record { top = StealFrom k n; below = fs })) _ _ (λ e. next_of (w.shape.pool a) (Worker a b) (StealFrom k n) e) refl (λ e. takes_idle (w.shape.pool a) (Worker a b) (StealFrom k n) e refl) (λ t l. deck_led w h (Worker a b) a (k.victim) t (first_in ((w.seat a (k.victim)).own) t l))
+  loud (Worker a b) (StealFrom k n) e z fs = pop_jobs (Worker a b) w.job (part_at w (Worker a b) (record { top = StealFrom k n; below = fs })) _ _ (λ e. next_of (w.shape.pool a) (Worker a b) (StealFrom k n) e) refl
+      (λ e. takes_idle (w.shape.pool a) (Worker a b) (StealFrom k n) e refl) (λ t l. deck_led w h (Worker a b) a (k.victim) t (first_in ((w.seat a (k.victim)).own) t l))
   loud (Caller c) (StealFrom k n) e z fs = tt
-  loud (Worker a b) (YieldSteal v n) e z fs = pop_jobs (Worker a b) w.job (part_at w (Worker a b) (record { top = YieldSteal v n; below = fs })) _ _ (λ e. next_of (w.shape.pool a) (Worker a b) (YieldSteal v n) e) refl (λ e. takes_idle (w.shape.pool a) (Worker a b) (YieldSteal v n) e refl) (λ t l. deck_led w h (Worker a b) a v t (first_in ((w.seat a v).own) t l))
+  loud (Worker a b) (YieldSteal v n) e z fs = pop_jobs (Worker a b) w.job (part_at w (Worker a b) (record { top = YieldSteal v n; below = fs })) _ _ (λ e. next_of (w.shape.pool a) (Worker a b) (YieldSteal v n) e) refl
+      (λ e. takes_idle (w.shape.pool a) (Worker a b) (YieldSteal v n) e refl) (λ t l. deck_led w h (Worker a b) a v t (first_in ((w.seat a v).own) t l))
   loud (Caller c) (YieldSteal v n) e z fs = tt
-  loud (Worker a b) (PopInjected k) e z fs = inj_jobs (Worker a b) w.job (part_at w (Worker a b) (record { top = PopInjected k; below = fs })) _ (λ e. next_of (w.shape.pool a) (Worker a b) (PopInjected k) e) refl (λ e. takes_idle (w.shape.pool a) (Worker a b) (PopInjected k) e refl) (λ t l. inj_led w h (Worker a b) a t (first_in ((w.pool a).injector) t l))
+  loud (Worker a b) (PopInjected k) e z fs = inj_jobs (Worker a b) w.job (part_at w (Worker a b) (record { top = PopInjected k; below = fs })) _ (λ e. next_of (w.shape.pool a) (Worker a b) (PopInjected k) e) refl
+      (λ e. takes_idle (w.shape.pool a) (Worker a b) (PopInjected k) e refl) (λ t l. inj_led w h (Worker a b) a t (first_in ((w.pool a).injector) t l))
   loud (Caller c) (PopInjected k) e z fs = tt
-  loud (Worker a b) YieldPopInjected e z fs = inj_jobs (Worker a b) w.job (part_at w (Worker a b) (record { top = YieldPopInjected; below = fs })) _ (λ e. next_of (w.shape.pool a) (Worker a b) YieldPopInjected e) refl (λ e. takes_idle (w.shape.pool a) (Worker a b) YieldPopInjected e refl) (λ t l. inj_led w h (Worker a b) a t (first_in ((w.pool a).injector) t l))
+  loud (Worker a b) YieldPopInjected e z fs = inj_jobs (Worker a b) w.job (part_at w (Worker a b) (record { top = YieldPopInjected; below = fs })) _ (λ e. next_of (w.shape.pool a) (Worker a b) YieldPopInjected e) refl
+      (λ e. takes_idle (w.shape.pool a) (Worker a b) YieldPopInjected e refl) (λ t l. inj_led w h (Worker a b) a t (first_in ((w.pool a).injector) t l))
   loud (Caller c) YieldPopInjected e z fs = tt
-  loud (Worker a b) (TakeCastWorking k) e z fs = cast_jobs (Worker a b) w.job (part_at w (Worker a b) (record { top = TakeCastWorking k; below = fs })) _ (λ e. next_of (w.shape.pool a) (Worker a b) (TakeCastWorking k) e) refl (λ e. takes_idle (w.shape.pool a) (Worker a b) (TakeCastWorking k) e refl) (λ t l. cast_led w h (Worker a b) a b t (first_in ((w.pool a).casts b) t l))
+  loud (Worker a b) (TakeCastWorking k) e z fs = cast_jobs (Worker a b) w.job (part_at w (Worker a b) (record { top = TakeCastWorking k; below = fs })) _ (λ e. next_of (w.shape.pool a) (Worker a b) (TakeCastWorking k) e) refl
+      (λ e. takes_idle (w.shape.pool a) (Worker a b) (TakeCastWorking k) e refl) (λ t l. cast_led w h (Worker a b) a b t (first_in ((w.pool a).casts b) t l))
   loud (Caller c) (TakeCastWorking k) e z fs = tt
-  loud (Worker a b) (TakeCastIdle k) e z fs = cast_jobs (Worker a b) w.job (part_at w (Worker a b) (record { top = TakeCastIdle k; below = fs })) _ (λ e. next_of (w.shape.pool a) (Worker a b) (TakeCastIdle k) e) refl (λ e. takes_idle (w.shape.pool a) (Worker a b) (TakeCastIdle k) e refl) (λ t l. cast_led w h (Worker a b) a b t (first_in ((w.pool a).casts b) t l))
+  loud (Worker a b) (TakeCastIdle k) e z fs = cast_jobs (Worker a b) w.job (part_at w (Worker a b) (record { top = TakeCastIdle k; below = fs })) _ (λ e. next_of (w.shape.pool a) (Worker a b) (TakeCastIdle k) e) refl
+      (λ e. takes_idle (w.shape.pool a) (Worker a b) (TakeCastIdle k) e refl) (λ t l. cast_led w h (Worker a b) a b t (first_in ((w.pool a).casts b) t l))
   loud (Caller c) (TakeCastIdle k) e z fs = tt
-  loud (Worker a b) (JoinTakeCast k) e z fs = cast_jobs (Worker a b) w.job (part_at w (Worker a b) (record { top = JoinTakeCast k; below = fs })) _ (λ e. next_of (w.shape.pool a) (Worker a b) (JoinTakeCast k) e) refl (λ e. takes_idle (w.shape.pool a) (Worker a b) (JoinTakeCast k) e refl) (λ t l. cast_led w h (Worker a b) a b t (first_in ((w.pool a).casts b) t l))
+  loud (Worker a b) (JoinTakeCast k) e z fs = cast_jobs (Worker a b) w.job (part_at w (Worker a b) (record { top = JoinTakeCast k; below = fs })) _ (λ e. next_of (w.shape.pool a) (Worker a b) (JoinTakeCast k) e) refl
+      (λ e. takes_idle (w.shape.pool a) (Worker a b) (JoinTakeCast k) e refl) (λ t l. cast_led w h (Worker a b) a b t (first_in ((w.pool a).casts b) t l))
   loud (Caller c) (JoinTakeCast k) e z fs = tt
-  loud (Worker a b) YieldTakeCast e z fs = cast_jobs (Worker a b) w.job (part_at w (Worker a b) (record { top = YieldTakeCast; below = fs })) _ (λ e. next_of (w.shape.pool a) (Worker a b) YieldTakeCast e) refl (λ e. takes_idle (w.shape.pool a) (Worker a b) YieldTakeCast e refl) (λ t l. cast_led w h (Worker a b) a b t (first_in ((w.pool a).casts b) t l))
+  loud (Worker a b) YieldTakeCast e z fs = cast_jobs (Worker a b) w.job (part_at w (Worker a b) (record { top = YieldTakeCast; below = fs })) _ (λ e. next_of (w.shape.pool a) (Worker a b) YieldTakeCast e) refl
+      (λ e. takes_idle (w.shape.pool a) (Worker a b) YieldTakeCast e refl) (λ t l. cast_led w h (Worker a b) a b t (first_in ((w.pool a).casts b) t l))
   loud (Caller c) YieldTakeCast e z fs = tt
-  loud (Worker a b) LocalTakeCast e z fs = cast_jobs (Worker a b) w.job (part_at w (Worker a b) (record { top = LocalTakeCast; below = fs })) _ (λ e. next_of (w.shape.pool a) (Worker a b) LocalTakeCast e) refl (λ e. takes_idle (w.shape.pool a) (Worker a b) LocalTakeCast e refl) (λ t l. cast_led w h (Worker a b) a b t (first_in ((w.pool a).casts b) t l))
+  loud (Worker a b) LocalTakeCast e z fs = cast_jobs (Worker a b) w.job (part_at w (Worker a b) (record { top = LocalTakeCast; below = fs })) _ (λ e. next_of (w.shape.pool a) (Worker a b) LocalTakeCast e) refl
+      (λ e. takes_idle (w.shape.pool a) (Worker a b) LocalTakeCast e refl) (λ t l. cast_led w h (Worker a b) a b t (first_in ((w.pool a).casts b) t l))
   loud (Caller c) LocalTakeCast e z fs = tt
   loud (Worker a b) (BeginTask (Plain t)) e z fs = put_led (Worker a b) w.job t (begun (Worker a b) (w.job t)) (plain_led (Worker a b) t e)
   loud (Worker a b) (BeginHere t) e z fs = put_led (Worker a b) w.job t (begun (Worker a b) (w.job t)) (here_led (Worker a b) t e)
   loud (Worker a b) (BeginTask (Token k i o)) e z fs = out_sees (AllLed w (Worker a b) (BeginTask (Token k i o))) (Worker a b) (part_at w (Worker a b) (record { top = BeginTask (Token k i o); below = fs })) o
-      (settle_jobs (Worker a b) w.job (put w.job (job_at w (Worker a b) (FifoOut k i o)) (w.job (job_at w (Worker a b) (FifoOut k i o)))) k Spent (same_jobs (Worker a b) w.job (job_at w (Worker a b) (FifoOut k i o))) (spent_led (Worker a b) ((w.job k).at) (token_runs (Worker a b) k i o e)))
-      (λ u us l. settle_jobs (Worker a b) w.job (put w.job (job_at w (Worker a b) (FifoOut k i o)) (begun (Worker a b) (w.job (job_at w (Worker a b) (FifoOut k i o))))) k Spent (put_led (Worker a b) w.job (job_at w (Worker a b) (FifoOut k i o)) (begun (Worker a b) (w.job (job_at w (Worker a b) (FifoOut k i o)))) (inr (subst (λ y. leads (Worker a b) (w.job (or_none (head_of y))).at (Running (Worker a b)) ≡ true) (sym l) ((line_led w h (Worker a b) a i o u (first_in ((w.seat a i).fifo o) u (ap head_of l))).0)))) (spent_led (Worker a b) ((w.job k).at) (token_runs (Worker a b) k i o e)))
+      (settle_jobs (Worker a b) w.job (put w.job (job_at w (Worker a b) (FifoOut k i o)) (w.job (job_at w (Worker a b) (FifoOut k i o)))) k Spent (same_jobs (Worker a b) w.job (job_at w (Worker a b) (FifoOut k i o))) (spent_led (Worker a b) ((w.job k).at) (token_runs
+      (Worker a b) k i o e)))
+      (λ u us l. settle_jobs (Worker a b) w.job (put w.job (job_at w (Worker a b) (FifoOut k i o)) (begun (Worker a b) (w.job (job_at w (Worker a b) (FifoOut k i o))))) k Spent (put_led (Worker a b) w.job (job_at w (Worker a b) (FifoOut k i o)) (begun (Worker a b) (w.job
+      (job_at w (Worker a b) (FifoOut k i o)))) (inr (subst (λ y. leads (Worker a b) (w.job (or_none (head_of y))).at (Running (Worker a b)) ≡ true) (sym l) ((line_led w h (Worker a b) a i o u (first_in ((w.seat a i).fifo o) u (ap head_of l))).0))))
+      (spent_led (Worker a b) ((w.job k).at) (token_runs (Worker a b) k i o e)))
   loud (Worker a b) (PushJob n v) e z fs = pushed (Worker a b) n v (is_member (Worker a b) (plan_pool n)) e
-  loud (Worker a b) (PushForAll c) e z fs = pieces_jobs (Worker a b) w.job (put w.job 0 (w.job 0)) c Queued (same_jobs (Worker a b) w.job 0) (λ t y. made_leads (Worker a b) ((w.job t).at) (InCast c.pool (t - c.first)) (fed_at (Worker a b) (PushForAll c) t e (let n : one (is_piece c t) ≡ 1 = ap one y in omega (arith, n))) (same_party_refl (Worker a b)))
-  loud (Worker a b) (DealPieces g) e z fs = pieces_jobs (Worker a b) w.job (put w.job 0 (w.job 0)) g.pieces Dealt (same_jobs (Worker a b) w.job 0) (λ t y. made_leads (Worker a b) ((w.job t).at) (InCast g.pieces.pool (t - g.pieces.first)) (fed_at (Worker a b) (DealPieces g) t e (let n : one (is_piece g.pieces t) ≡ 1 = ap one y in omega (arith, n))) (same_party_refl (Worker a b)))
+  loud (Worker a b) (PushForAll c) e z fs = pieces_jobs (Worker a b) w.job (put w.job 0 (w.job 0)) c Queued (same_jobs (Worker a b) w.job 0)
+      (λ t y. made_leads (Worker a b) ((w.job t).at) (InCast c.pool (t - c.first)) (fed_at (Worker a b) (PushForAll c) t e (let n : one (is_piece c t) ≡ 1 = ap one y in omega (arith, n))) (same_party_refl (Worker a b)))
+  loud (Worker a b) (DealPieces g) e z fs = pieces_jobs (Worker a b) w.job (put w.job 0 (w.job 0)) g.pieces Dealt (same_jobs (Worker a b) w.job 0)
+      (λ t y. made_leads (Worker a b) ((w.job t).at) (InCast g.pieces.pool (t - g.pieces.first)) (fed_at (Worker a b) (DealPieces g) t e (let n : one (is_piece g.pieces t) ≡ 1 = ap one y in omega (arith, n))) (same_party_refl (Worker a b)))
   loud (Caller c) (BeginTask (Plain t)) e z fs = put_led (Caller c) w.job t (begun (Caller c) (w.job t)) (plain_led (Caller c) t e)
   loud (Caller c) (BeginHere t) e z fs = put_led (Caller c) w.job t (begun (Caller c) (w.job t)) (here_led (Caller c) t e)
   loud (Caller c) (BeginTask (Token k i o)) e z fs = out_sees (AllLed w (Caller c) (BeginTask (Token k i o))) (Caller c) (part_at w (Caller c) (record { top = BeginTask (Token k i o); below = fs })) o
-      (settle_jobs (Caller c) w.job (put w.job (job_at w (Caller c) (FifoOut k i o)) (w.job (job_at w (Caller c) (FifoOut k i o)))) k Spent (same_jobs (Caller c) w.job (job_at w (Caller c) (FifoOut k i o))) (spent_led (Caller c) ((w.job k).at) (token_runs (Caller c) k i o e)))
-      (λ u us l. settle_jobs (Caller c) w.job (put w.job (job_at w (Caller c) (FifoOut k i o)) (begun (Caller c) (w.job (job_at w (Caller c) (FifoOut k i o))))) k Spent (put_led (Caller c) w.job (job_at w (Caller c) (FifoOut k i o)) (begun (Caller c) (w.job (job_at w (Caller c) (FifoOut k i o)))) (inr (subst (λ y. leads (Caller c) (w.job (or_none (head_of y))).at (Running (Caller c)) ≡ true) (sym l) ((line_led w h (Caller c) 0 i o u (first_in ((w.seat 0 i).fifo o) u (ap head_of l))).0)))) (spent_led (Caller c) ((w.job k).at) (token_runs (Caller c) k i o e)))
+      (settle_jobs (Caller c) w.job (put w.job (job_at w (Caller c) (FifoOut k i o)) (w.job (job_at w (Caller c) (FifoOut k i o)))) k Spent (same_jobs (Caller c) w.job (job_at w (Caller c) (FifoOut k i o))) (spent_led (Caller c) ((w.job k).at) (token_runs
+      (Caller c) k i o e)))
+      (λ u us l. settle_jobs (Caller c) w.job (put w.job (job_at w (Caller c) (FifoOut k i o)) (begun (Caller c) (w.job (job_at w (Caller c) (FifoOut k i o))))) k Spent (put_led (Caller c) w.job (job_at w (Caller c) (FifoOut k i o)) (begun (Caller c) (w.job (job_at w
+      (Caller c) (FifoOut k i o)))) (inr (subst (λ y. leads (Caller c) (w.job (or_none (head_of y))).at (Running (Caller c)) ≡ true) (sym l) ((line_led w h (Caller c) 0 i o u (first_in ((w.seat 0 i).fifo o) u (ap head_of l))).0))))
+      (spent_led (Caller c) ((w.job k).at) (token_runs (Caller c) k i o e)))
   loud (Caller c) (PushJob n v) e z fs = pushed (Caller c) n v (is_member (Caller c) (plan_pool n)) e
-  loud (Caller n) (PushForAll c) e z fs = pieces_jobs (Caller n) w.job (put w.job 0 (w.job 0)) c Queued (same_jobs (Caller n) w.job 0) (λ t y. made_leads (Caller n) ((w.job t).at) (InCast c.pool (t - c.first)) (fed_at (Caller n) (PushForAll c) t e (let n : one (is_piece c t) ≡ 1 = ap one y in omega (arith, n))) (same_party_refl (Caller n)))
-  loud (Caller c) (DealPieces g) e z fs = pieces_jobs (Caller c) w.job (put w.job 0 (w.job 0)) g.pieces Dealt (same_jobs (Caller c) w.job 0) (λ t y. made_leads (Caller c) ((w.job t).at) (InCast g.pieces.pool (t - g.pieces.first)) (fed_at (Caller c) (DealPieces g) t e (let n : one (is_piece g.pieces t) ≡ 1 = ap one y in omega (arith, n))) (same_party_refl (Caller c)))
-  loud (Worker a b) (PushToken f v) e z fs = put_led (Worker a b) w.job f.token (at_job (w.job f.token) (InDeque a b)) (made_leads (Worker a b) ((w.job f.token).at) (InDeque a b) (fed_at (Worker a b) (PushToken f v) f.token e (let n : one (f.token == f.token) ≡ 1 = one_self f.token in omega (arith, n))) (same_party_refl (Worker a b)))
+  loud (Caller n) (PushForAll c) e z fs = pieces_jobs (Caller n) w.job (put w.job 0 (w.job 0)) c Queued (same_jobs (Caller n) w.job 0)
+      (λ t y. made_leads (Caller n) ((w.job t).at) (InCast c.pool (t - c.first)) (fed_at (Caller n) (PushForAll c) t e (let n : one (is_piece c t) ≡ 1 = ap one y in omega (arith, n))) (same_party_refl (Caller n)))
+  loud (Caller c) (DealPieces g) e z fs = pieces_jobs (Caller c) w.job (put w.job 0 (w.job 0)) g.pieces Dealt (same_jobs (Caller c) w.job 0)
+      (λ t y. made_leads (Caller c) ((w.job t).at) (InCast g.pieces.pool (t - g.pieces.first)) (fed_at (Caller c) (DealPieces g) t e (let n : one (is_piece g.pieces t) ≡ 1 = ap one y in omega (arith, n))) (same_party_refl (Caller c)))
+  loud (Worker a b) (PushToken f v) e z fs = put_led (Worker a b) w.job f.token (at_job (w.job f.token) (InDeque a b))
+      (made_leads (Worker a b) ((w.job f.token).at) (InDeque a b) (fed_at (Worker a b) (PushToken f v) f.token e (let n : one (f.token == f.token) ≡ 1 = one_self f.token in omega (arith, n))) (same_party_refl (Worker a b)))
   loud (Caller c) (PushToken f v) e z fs = tt
   loud (Worker a b) (AddToFifo f) e z fs = if_cond (AllLed w (Worker a b) (AddToFifo f)) (is_open (Worker a b) ((w.seat a b).feeder (count_book f.count))) _
-      (λ o. put_led (Worker a b) w.job f.job (at_job (w.job f.job) (InFifo a b (count_book f.count))) (made_leads (Worker a b) ((w.job f.job).at) (InFifo a b (count_book f.count)) (fed_at (Worker a b) (AddToFifo f) f.job e (let n : one (f.job == f.job) ≡ 1 = one_self f.job in omega (arith, n))) (same_party_refl (Worker a b))))
+      (λ o. put_led (Worker a b) w.job f.job (at_job (w.job f.job) (InFifo a b (count_book f.count))) (made_leads (Worker a b) ((w.job f.job).at) (InFifo a b (count_book f.count)) (fed_at (Worker a b) (AddToFifo f) f.job e (let n : one
+      (f.job == f.job) ≡ 1 = one_self f.job in omega (arith, n))) (same_party_refl (Worker a b))))
   loud (Caller c) (AddToFifo f) e z fs = tt
   loud (Worker a b) (TakeFromFifo f) e z fs = undo_sees (AllLed w (Worker a b) (TakeFromFifo f)) (Worker a b) (part_at w (Worker a b) (record { top = TakeFromFifo f; below = fs })) (count_book f.count)
-      (settle_jobs (Worker a b) w.job (put w.job (job_at w (Worker a b) (FifoUndo (count_book f.count))) (w.job (job_at w (Worker a b) (FifoUndo (count_book f.count))))) f.token HandedBack (same_jobs (Worker a b) w.job (job_at w (Worker a b) (FifoUndo (count_book f.count)))) (made_leads (Worker a b) ((w.job f.token).at) HandedBack (fed_at (Worker a b) (TakeFromFifo f) f.token e (let n : one (f.token == f.token) ≡ 1 = one_self f.token in omega (arith, n))) (same_party_refl (Worker a b))))
-      (λ u l. put_led (Worker a b) w.job (job_at w (Worker a b) (FifoUndo (count_book f.count))) (at_job (w.job (job_at w (Worker a b) (FifoUndo (count_book f.count)))) (Retaken (Worker a b))) (inr (subst (λ y. leads (Worker a b) (w.job (or_none y)).at (Retaken (Worker a b)) ≡ true) (sym l) ((line_led w h (Worker a b) a b (count_book f.count) u (last_in ((w.seat a b).fifo (count_book f.count)) u l)).1))))
+      (settle_jobs (Worker a b) w.job (put w.job (job_at w (Worker a b) (FifoUndo (count_book f.count))) (w.job (job_at w (Worker a b) (FifoUndo (count_book f.count))))) f.token HandedBack (same_jobs (Worker a b) w.job (job_at w (Worker a b) (FifoUndo (count_book f.count))))
+      (made_leads (Worker a b) ((w.job f.token).at) HandedBack (fed_at (Worker a b) (TakeFromFifo f) f.token e (let n : one (f.token == f.token) ≡ 1 = one_self f.token in omega (arith, n))) (same_party_refl (Worker a b))))
+      (λ u l. put_led (Worker a b) w.job (job_at w (Worker a b) (FifoUndo (count_book f.count))) (at_job (w.job (job_at w (Worker a b) (FifoUndo (count_book f.count)))) (Retaken (Worker a b))) (inr (subst (λ y. leads (Worker a b) (w.job (or_none y)).at (Retaken
+      (Worker a b)) ≡ true) (sym l) ((line_led w h (Worker a b) a b (count_book f.count) u (last_in ((w.seat a b).fifo (count_book f.count)) u l)).1))))
   loud (Caller c) (TakeFromFifo f) e z fs = tt
   loud q _ e z fs = cc
 
@@ -509,7 +543,8 @@ module _ (w : World) (calls : CallsHold w) (h : IsOnce w) (near : IsNear w) (ret
   unrun (Gather g) t r s f b l a = unmade t r a (omega (arith, f, l))
 
   returns : (c : Pieces) (J : ℕ → Job) → ((t : ℕ) → (J t).at ≡ (w.job t).at) → ((t : ℕ) → one (is_piece c t) ≤ fed t x) → (t : ℕ) → Led q (w.job t).at (mark_pieces c Returned J t).at
-  returns c J s f t = pieces_jobs q w.job J c Returned (λ t. inl (s t)) (λ t y. made_leads q ((w.job t).at) HandedBack (fed_at w calls h near ret q x t e (let n : one (is_piece c t) ≡ 1 = ap one y in let l : one (is_piece c t) ≤ fed t x = f t in omega (arith, n, l))) (same_party_refl q)) t
+  returns c J s f t = pieces_jobs q w.job J c Returned (λ t. inl (s t)) (λ t y. made_leads q ((w.job t).at) HandedBack (fed_at w calls h near ret q x t e (let n : one (is_piece c t) ≡ 1 = ap one y in let l : one (is_piece c t) ≤ fed t x = f t in omega (arith, n, l)))
+      (same_party_refl q)) t
 
   moved : (g : Move) → Moving u q x g → (J : ℕ → Job) → ((t : ℕ) → (J t).at ≡ (w.job t).at) → (t : ℕ) → Led q (w.job t).at (jobs_after q g J t).at
   moved (Stay y) m J s t = inl (s t)
@@ -526,7 +561,8 @@ module _ (w : World) (calls : CallsHold w) (h : IsOnce w) (near : IsNear w) (ret
   moved (HandAllBack c) m J s t = returns c J s (λ t. m.feeding t) t
   moved (HandBack n) m J s t = elim (handed_job n J t) [
     | inl i ↦ inl (i ∙ s t)
-    | inr b ↦ subst (λ v. Led q (w.job t).at v) (sym (b.0)) (back_led q ((w.job t).at) (with_at w calls h near ret q x t e (let a : hand_plan t n ≡ hand t x = m.hands t in let l : 1 ≤ hand_plan t n = b.1 in omega (arith, a, l))) (λ r a. unrun n t r (m.says) (m.feeding t) (m.sharing t) (b.1) a))
+    | inr b ↦ subst (λ v. Led q (w.job t).at v) (sym (b.0)) (back_led q ((w.job t).at) (with_at w calls h near ret q x t e (let a : hand_plan t n ≡ hand t x = m.hands t in let l : 1 ≤ hand_plan t n = b.1 in omega (arith, a, l)))
+        (λ r a. unrun n t r (m.says) (m.feeding t) (m.sharing t) (b.1) a))
   ]
   moved (StartRun f a) m J s t = by (t == a) refl
     where
@@ -569,13 +605,16 @@ module _ (w : World) (calls : CallsHold w) (h : IsOnce w) (near : IsNear w) (ret
       last = lasting w q (w.stack q) (target_pool q (act_of q x)) (target_worker q (act_of q x)) (target_call (act_of q x)) (job_at w q (act_of q x)) r (k.static) (k.kept)
 
   known : (q : Party) → moves_no_job (w.stack q).top ≡ true → IfSome (outcome w q (w.stack q)) (Known w q)
-  known q z = if_some_map (λ r. (SameJobs m r × ((t : ℕ) → (hand_move t (next_at w q k (r.0)) + given t k.top) ≡ (hand t k.top + got t (r.0)))) × (((is_dealing (next_at w q k (r.0)) ≡ false) × (is_spending (next_at w q k (r.0)) ≡ false)) × ((Static m r × Learned w.shape q m k.top r) × Kept w (result w q k r)))) (Known w q)
+  known q z = if_some_map (λ r. (SameJobs m r × ((t : ℕ) → (hand_move t (next_at w q k (r.0)) + given t k.top) ≡ (hand t k.top + got t (r.0)))) × (((is_dealing (next_at w q k (r.0)) ≡ false) × (is_spending (next_at w q k (r.0)) ≡ false)) ×
+      ((Static m r × Learned w.shape q m k.top r) × Kept w (result w q k r)))) (Known w q)
       (λ r f. record { same = (f.0).0; tables = (f.0).1; deals = ((f.1).0).0; spends = ((f.1).0).1; static = (((f.1).1).0).0; learned = (((f.1).1).0).1; kept = ((f.1).1).1 }) o
-      (if_some_and (λ r. SameJobs m r × ((t : ℕ) → (hand_move t (next_at w q k (r.0)) + given t k.top) ≡ (hand t k.top + got t (r.0)))) (λ r. ((is_dealing (next_at w q k (r.0)) ≡ false) × (is_spending (next_at w q k (r.0)) ≡ false)) × ((Static m r × Learned w.shape q m k.top r) × Kept w (result w q k r))) o
+      (if_some_and (λ r. SameJobs m r × ((t : ℕ) → (hand_move t (next_at w q k (r.0)) + given t k.top) ≡ (hand t k.top + got t (r.0)))) (λ r. ((is_dealing (next_at w q k (r.0)) ≡ false) × (is_spending (next_at w q k (r.0)) ≡ false)) ×
+      ((Static m r × Learned w.shape q m k.top r) × Kept w (result w q k r))) o
       (if_some_and (SameJobs m) (λ r. (t : ℕ) → (hand_move t (next_at w q k (r.0)) + given t k.top) ≡ (hand t k.top + got t (r.0))) o (quiet_same w.shape q (counts_seen w q k) m k.top z)
       (if_some_each (λ t r. (hand_move t (next_at w q k (r.0)) + given t k.top) ≡ (hand t k.top + got t (r.0))) o (λ t. table w.shape (shape_at w q k) q (counts_seen w q k) m t k.top)))
       (if_some_and (λ r. (is_dealing (next_at w q k (r.0)) ≡ false) × (is_spending (next_at w q k (r.0)) ≡ false)) (λ r. (Static m r × Learned w.shape q m k.top r) × Kept w (result w q k r)) o
-      (if_some_and (λ r. is_dealing (next_at w q k (r.0)) ≡ false) (λ r. is_spending (next_at w q k (r.0)) ≡ false) o (no_deals w.shape (shape_at w q k) q (counts_seen w q k) m k.top ((quiet_begins k.top z).1)) (no_spends w.shape (shape_at w q k) q (counts_seen w q k) m k.top ((quiet_begins k.top z).0)))
+      (if_some_and (λ r. is_dealing (next_at w q k (r.0)) ≡ false) (λ r. is_spending (next_at w q k (r.0)) ≡ false) o (no_deals w.shape (shape_at w q k) q (counts_seen w q k) m k.top ((quiet_begins k.top z).1)) (no_spends w.shape (shape_at w q k) q (counts_seen w q k) m k.top
+      ((quiet_begins k.top z).0)))
       (if_some_and (λ r. Static m r × Learned w.shape q m k.top r) (λ r. Kept w (result w q k r)) o
       (if_some_and (Static m) (Learned w.shape q m k.top) o (act_static w.shape q (counts_seen w q k) m k.top) (act_learned w.shape q (counts_seen w q k) m k.top))
       (go_kept w q (unqueued w calls q) ((calls.jobs).feeds) ((calls.jobs).ok)))))
@@ -693,7 +732,14 @@ end_moves w h q d (Run n k) e = λ t l. by t (t == n) refl
     v = record w { stack = put_stack w.stack q (after_close n k d (w.stack q).below); job = put w.job n (at_job (w.job n) (Over d)) }
 
     by : (t : ℕ) (z : Bool) → (t == n) ≡ z → MovesSo w v (End q d) t
-    by t true z = inr (inr (record { party = q; ending = d; event = refl; before = ap (λ m. (w.job m).at) (eqb-true t n z) ∙ runs_at w h q n k e; after = ap (λ m. (put w.job n (at_job (w.job n) (Over d)) m).at) (eqb-true t n z) ∙ ap (λ j. j.at) (put_new w.job n (at_job (w.job n) (Over d))) }))
+    by t true z = inr (inr (record {
+      party = q;
+      ending = d;
+      event = refl;
+      before = ap (λ m. (w.job m).at) (eqb-true t n z) ∙ runs_at w h q n k e;
+      after = ap (λ m. (put w.job n (at_job (w.job n) (Over d)) m).at) (eqb-true t n z) ∙ ap (λ j. j.at) (put_new w.job n (at_job
+          (w.job n) (Over d)));
+    }))
     by t false z = inl (ap (λ j. j.at) (put_old w.job n (at_job (w.job n) (Over d)) t z))
 end_moves w h q d _ e = tt
 

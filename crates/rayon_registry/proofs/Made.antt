@@ -11,7 +11,6 @@ use Rattle.rayon_machine_places.specs.declared.place.OpenCall.{OpenCall}
 use Rattle.rayon_machine_places.specs.declared.place.Plan.TheVariants.{Detach}
 use Rattle.rayon_machine_places.specs.declared.place.Share.TheVariants.{OfJob}
 use Rattle.rayon_machine_places.specs.declared.place.Then.TheVariants.{Answers, Resume}
-use Rattle.rayon_machine_places.specs.declared.place.Wait.{Wait}
 use Rattle.rayon_machine_places.specs.declared.place.Party.{Party}
 use Rattle.rayon_machine_places.specs.declared.place.Party.TheVariants.{Worker}
 use Rattle.rayon_machine_places.specs.declared.place.Place.{Place}
@@ -30,7 +29,7 @@ use Rattle.rayon_drive.specs.Paths.{Traced}
 use Rattle.rayon_drive.proofs.Traced.{traced_as}
 use Rattle.rayon_tasks.specs.Tasks.{TaskOf}
 use Rattle.rayon_tasks.specs.Tickets.{TicketOf, kind_in}
-use Rattle.rayon_performers.specs.Hands.{Hands, Does, HasTask, kind_of}
+use Rattle.rayon_performers.specs.Hands.{Hands, HasTask, kind_of}
 use Rattle.rayon_performers.specs.Paths.{WorkerGoes}
 use Rattle.rayon_performers.specs.Spawns.{Unspawned}
 use Rattle.rayon_performers.specs.Stands.{Stands}

@@ -11,10 +11,13 @@ use Rattle.rayon_machine_places.specs.declared.shape.PoolShape.{PoolShape}
 use Rattle.rayon_machine_places.specs.declared.act.Act.{Act}
 use Rattle.rayon_machine_places.specs.declared.act.Act.TheVariants as acts
 use Rattle.rayon_machine_places.specs.declared.act.Seen.{Seen}
-use Rattle.rayon_machine_places.specs.declared.act.Seen.TheVariants.{Done, Missing, Found, Yes}
+use Rattle.rayon_machine_places.specs.declared.act.Seen.TheVariants.{Done, Refused, Missing, Found, Yes, No}
 use Rattle.rayon_drive.specs.declared.trace.Log.{Log}
 use Rattle.rayon_queues.specs.Deques.{Visitor, visitor}
+use Rattle.atomic_table.specs.declared.shared.Seat.{Seat}
 use Rattle.rayon_atomics.specs.declared.views.Teller.{Teller}
+use Rattle.rayon_atomics.specs.declared.views.Watch.{Watch}
+use Rattle.rayon_atomics.specs.Counted.{fresh, watch}
 use Rattle.rayon_tasks.specs.Tasks.{TaskOf, OneJob, TwoSides}
 use Rattle.rayon_tasks.specs.Tickets.{TicketOf}
 use Rattle.rayon_jobs.specs.Within.{Run}
@@ -22,11 +25,12 @@ use Rattle.rayon_performers.specs.declared.load.Load.{Load}
 use Rattle.rayon_performers.specs.declared.load.Load.TheVariants.{Job, Sides, Detached}
 use Rattle.rayon_performers.specs.Hands.{HasResult}
 use Rattle.rayon_performers.specs.Marks.{GivesUnit, Marks, MissesUnit, SetBy, TakesUnit}
+use Rattle.rayon_performers.specs.Seats.{Steps, Tells}
 
 -- what an outside caller has: the pool's shape; its pass of the injector; what its call queues, until it is queued; the
 -- ticket of its call, and where two sides are sent that of the first one's cell; the results that were found in the cells of
 -- the two; whether it holds a unit of the terminate count; its seat of that count, and the one by which it set a latch last;
--- and what it did
+-- the seat of the counters by which it told news last; and what it did
 pub record Visit (X G O F : Type 0) : Type 0 where
   pub shape : PoolShape
   pub inlet : Visitor (TaskOf X)
@@ -37,6 +41,7 @@ pub record Visit (X G O F : Type 0) : Type 0 where
   pub first_done : Option (Run G O F)
   pub holds : Bool
   pub marks : Marks
+  pub chair : Option Watch
   pub trace : Log
 
 -- what of it the places ask
@@ -72,6 +77,42 @@ IsTerminate (OfCall c) = ⊥
 abbrev pub if_done : {A : Type 0} → Seen → A → A → A
 if_done Done new old = new
 if_done _ new old = old
+
+-- it was done, or refused
+abbrev pub IsTried : Seen → Type 0
+IsTried Done = Unit {0}
+IsTried Refused = Unit {0}
+IsTried _ = ⊥
+
+-- yes or no
+abbrev pub IsAnswer : Seen → Type 0
+IsAnswer Yes = Unit {0}
+IsAnswer No = Unit {0}
+IsAnswer _ = ⊥
+
+-- what an act of a caller can see. What News and Take see is said with what they find
+abbrev pub Sees : Act → Seen → Type 0
+Sees (acts.Raise c n) x = IsTried x
+Sees (acts.Grow c) x = IsTried x
+Sees (acts.PushInj p n b) x = IsTried x
+Sees (acts.LookInj p) x = IsAnswer x
+Sees (acts.Wake p i) x = IsAnswer x
+Sees (acts.Lower c b) x = IsAnswer x
+Sees (acts.Set l p i) x = IsAnswer x
+Sees (acts.Lock p i) x = x ≡ Done
+Sees (acts.Unlock p i) x = x ≡ Done
+Sees (acts.LockWait c) x = x ≡ Done
+Sees _ x = Unit {0}
+
+-- what the seat knows by which news was told, if there is one
+abbrev pub watch_in : Option (Seat (Unit {0}) Watch) → Option Watch
+watch_in None = None
+watch_in (Some s) = Some (watch s)
+
+-- the news is told by a seat that is made for it and holds no unit
+abbrev pub TellsBy : Bool → Seen → Option Watch → Type 0
+TellsBy e x None = ⊥
+TellsBy e x (Some w) = Steps (Tells e x) (Some (fresh w.workers 0)) (Some w)
 
 -- a unit is taken where none was held, or was refused
 abbrev pub Raises : Seen → Bool → Teller → Teller → Type 0
@@ -187,6 +228,11 @@ module _ {X G O F : Type 0} where
   Marked (acts.Take c) x s t = t.marks ≡ s.marks
   Marked _ x s t = ⊥
 
+  -- and to the seat by which news is told
+  abbrev pub Told : Act → Seen → Visit X G O F → Visit X G O F → Type 0
+  Told (acts.News p e) x s t = TellsBy e x t.chair
+  Told _ x s t = t.chair ≡ s.chair
+
   -- what each act of a caller does
   abbrev pub Does : Act → Seen → Visit X G O F → Visit X G O F → Type 0
-  Does a x s t = (hand t ≡ after a x (hand s)) × (t.shape ≡ s.shape) × Finds a x s t × Marked a x s t
+  Does a x s t = (hand t ≡ after a x (hand s)) × (t.shape ≡ s.shape) × Finds a x s t × Marked a x s t × Told a x s t × Sees a x

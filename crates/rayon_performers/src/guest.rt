@@ -8,13 +8,14 @@ ghost use Rattle.rayon_machine_places.specs.declared.place.Party.TheVariants.{Ca
 ghost use Rattle.rayon_machine_places.specs.declared.place.Place.TheVariants as at;
 ghost use Rattle.rayon_machine_places.specs.declared.place.Share.TheVariants.{PoolValue};
 ghost use Rattle.rayon_machine_places.specs.declared.place.Then.TheVariants.{Resume};
+ghost use Rattle.rayon_machine_places.specs.declared.act.Seen.TheVariants as saw;
 ghost use Rattle.rayon_machine_places.specs.Places.{plan_job};
 ghost use Rattle.rayon_performers.specs.Hands.{answer};
 ghost use Rattle.rayon_performers.specs.Marks.{GivesUnit, SetBy};
 ghost use Rattle.rayon_performers.specs.Paths.{CallerGoes};
 ghost use Rattle.rayon_performers.specs.Pools.{shape_of};
 ghost use Rattle.rayon_performers.specs.Visiting.{At, Fits, Keeps, Kept, Stands, guest_needs, guest_on, guest_stays};
-ghost use Rattle.rayon_performers.specs.Visits.{Does, Needs, Packed, Raises, Takes, first_of, hand, if_done, load_in, sent, task_in, ticket_of, unit_after, with_pushed};
+ghost use Rattle.rayon_performers.specs.Visits.{Does, IsAnswer, IsTried, Needs, Packed, Raises, Takes, TellsBy, first_of, hand, if_done, load_in, sent, task_in, ticket_of, unit_after, with_pushed};
 ghost use Rattle.rayon_queues.specs.Deques.{visitor};
 
 use crate::acts::set_latch;
@@ -30,6 +31,7 @@ use rayon_machine_places::act::{Act, Seen};
 use rayon_machine_places::place::{Count, Move, Party, Place, Plan, Share, Then};
 use rayon_machine_places::shape::PoolShape;
 use rayon_queues::InjectorPass;
+use rayon_sleep::counters::CounterSeat;
 use rayon_tasks::{Pair, Task, Ticket, Work, task_of_job, task_of_pair, task_parts};
 use rayon_words::Refusal;
 use std::alloc::Global;
@@ -60,6 +62,8 @@ pub struct Guest<'a, J: JobKind> {
     count: CountSeat,
     // the seat by which a latch was set last
     setter: Option<LatchSeat>,
+    // the seat of the counters by which news was told last
+    chair: Option<CounterSeat>,
     trace: Trace,
 }
 
@@ -70,7 +74,7 @@ impl<'a, J: JobKind> Model for Guest<'a, J> {
     ghost use Rattle.rayon_drive.specs.contracts.trace.Log as logs;
     ghost use Rattle.rayon_performers.specs.Marks.{seat_in};
     ghost use Rattle.rayon_words.specs.declared.refusal.Refusal.TheVariants.{Ended, Full, NoRoom};
-    ghost use Rattle.rayon_performers.specs.Visits.{Visit};
+    ghost use Rattle.rayon_performers.specs.Visits.{Visit, watch_in};
 
     ghost Value = { Visit J J.Tag J.Output J.Fault };
 
@@ -86,6 +90,7 @@ impl<'a, J: JobKind> Model for Guest<'a, J> {
       first_done = g.first_done;
       holds = g.holds;
       marks = record { set = seat_in g.setter; count = teller g.count };
+      chair = watch_in g.chair;
       trace = g.trace;
     } };
 
@@ -107,9 +112,7 @@ impl<'a, J: JobKind> Perform for Guest<'a, J> {
             Act::Grow(name) => self.grow(name),
             Act::LookInj(_) => yes(self.registry.injector().is_empty(&mut self.inlet)),
             Act::PushInj { job, .. } => self.push(rt, job),
-            Act::News { was_empty, .. } => {
-                Seen::Wakes(self.registry.sleep().guest_news(rt, was_empty))
-            }
+            Act::News { was_empty, .. } => Seen::Wakes(self.news(rt, was_empty)),
             Act::Lock { worker, .. } => {
                 self.registry.sleep().lock(rt, worker, false);
                 Seen::Done
@@ -139,7 +142,8 @@ impl<'a, J: JobKind> Perform for Guest<'a, J> {
 // Yes or no.
 #[inline(always)]
 fn yes(yes: bool) -> Seen
-    ensures { result ≡ answer yes }
+    ensures answer { result ≡ answer yes }
+    ensures seen { IsAnswer result }
 {
     if yes { Seen::Yes } else { Seen::No }
 }
@@ -168,6 +172,7 @@ impl<'a, J: JobKind> Guest<'a, J> {
             holds: false,
             count: registry.count_seat(),
             setter: None,
+            chair: None,
             trace: Trace::new(),
         }
     }
@@ -177,6 +182,7 @@ impl<'a, J: JobKind> Guest<'a, J> {
         requires { self.old.holds ≡ false }
         ensures same { self.new ≡ record self.old { holds = if_done result true self.old.holds; marks = record { set = self.old.marks.set; count = self.new.marks.count } } }
         ensures step { Raises result self.old.holds self.old.marks.count self.new.marks.count }
+        ensures seen { IsTried result }
     {
         match self.registry.increment_terminate_count(rt, &mut self.count) {
             Ok(()) => {
@@ -192,7 +198,8 @@ impl<'a, J: JobKind> Guest<'a, J> {
 
     // Makes the tickets of a call of this name: one, and where two sides are sent another for the first one's result.
     fn grow(&mut self, name: u64) -> Seen
-        ensures { self.new ≡ record self.old { call = if_done result (Some (ticket_of name)) self.old.call; first = if_done result (first_of name self.old.load) self.old.first } }
+        ensures made { self.new ≡ record self.old { call = if_done result (Some (ticket_of name)) self.old.call; first = if_done result (first_of name self.old.load) self.old.first } }
+        ensures seen { IsTried result }
     {
         self.refusal = Refusal::NoRoom;
         let Some(alloc) = self.alloc else {
@@ -217,7 +224,8 @@ impl<'a, J: JobKind> Guest<'a, J> {
     // hand.
     fn push<R: Wait>(&mut self, rt: &R, name: u64) -> Seen
         requires { Packed name self.old.load self.old.call self.old.first }
-        ensures { self.new ≡ record self.old { inlet = if_done result (sent name self.old.load self.old.inlet) self.old.inlet; load = if_done result None self.old.load; holds = if_done result (unit_after self.old.load self.old.holds) self.old.holds } }
+        ensures pushed { self.new ≡ record self.old { inlet = if_done result (sent name self.old.load self.old.inlet) self.old.inlet; load = if_done result None self.old.load; holds = if_done result (unit_after self.old.load self.old.holds) self.old.holds } }
+        ensures seen { IsTried result }
     {
         self.refusal = Refusal::NoRoom;
         let Some(load) = self.load.take() else {
@@ -272,10 +280,23 @@ impl<'a, J: JobKind> Guest<'a, J> {
         }
     }
 
+    // Tells by a seat of its own that the load was pushed. Answers how many are to be woken.
+    fn news<R: Wait>(&mut self, rt: &R, was_empty: bool) -> u64
+        ensures same { self.new ≡ record self.old { chair = self.new.chair } }
+        ensures step { TellsBy was_empty (saw.Wakes result) self.new.chair }
+    {
+        let counters = self.registry.sleep().counters();
+        let mut seat = counters.guest_seat();
+        let owed = counters.news(rt, &mut seat, was_empty);
+        self.chair = Some(seat);
+        owed
+    }
+
     // Blocks until the latch of the call is set.
     fn wait<R: Wait>(&mut self, rt: &R) -> Seen
         requires { (n : _) × (self.old.call ≡ Some (ticket_of n)) }
-        ensures { self.new ≡ self.old }
+        ensures same { self.new ≡ self.old }
+        ensures seen { result ≡ saw.Done }
     {
         let Some(call) = &self.call else {
             unreachable!()

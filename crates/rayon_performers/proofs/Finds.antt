@@ -13,7 +13,7 @@ use Rattle.rayon_machine_places.specs.declared.place.Move.TheVariants.{Stay, Bac
 use Rattle.rayon_machine_places.specs.declared.act.Act.{Act}
 use Rattle.rayon_machine_places.specs.declared.act.Act.TheVariants as acts
 use Rattle.rayon_machine_places.specs.declared.act.Seen.{Seen}
-use Rattle.rayon_machine_places.specs.declared.act.Seen.TheVariants.{Yes, No, Task, Start, Wakes}
+use Rattle.rayon_machine_places.specs.declared.act.Seen.TheVariants.{Yes, No, Task, Missing, Start, Wakes}
 use Rattle.rayon_machine_places.specs.declared.shape.PoolShape.{PoolShape}
 use Rattle.rayon_machine_places.specs.Places.{act_of, next_of, next_victim, not_self, walk}
 use Rattle.rayon_drive.specs.Paths.{goes}
@@ -35,15 +35,16 @@ local_goes h q _ k = refl
 module _ {X G O F : Type 0} (s t u : Hands X G O F) where
   missed : (x : Seen) → NoTask x → Does acts.PopOwn x s t → Looks s t
   missed (Task n) k d = absurd (k n refl)
-  missed _ k d = d
+  missed Missing k d = d
+  missed _ k d = absurd d.1
 
   no_cast : (y : Seen) → Does acts.TakeCast y t u → Same t u
-  no_cast (Task n) d = absurd d.1
-  no_cast _ d = d.0
+  no_cast Missing d = d.0
+  no_cast _ d = absurd d.1
 
   local_ends : (h : PoolShape) (q : Party) (y : Seen) → Does acts.TakeCast y t u → next_of h q at.LocalTakeCast y ≡ Back
-  local_ends h q (Task n) d = absurd d.1
-  local_ends h q _ d = refl
+  local_ends h q Missing d = refl
+  local_ends h q _ d = absurd d.1
 
   -- the own deque and the broadcast list had none
   pub local_missed : (h : PoolShape) (i : ℕ) (x y : Seen) → NoTask x → Does acts.PopOwn x s t → Adds acts.PopOwn x s.trace t.trace → Does acts.TakeCast y t u → Adds acts.TakeCast y t.trace u.trace → So h i (Stay at.LocalPop) s Back u
@@ -175,15 +176,18 @@ module _ {X G O F : Type 0} where
   -- one look more
   pub yield_on : (h : PoolShape) (i : ℕ) (s u v : Hands X G O F) (y : Place) (x : Seen) → IsYield y → Missed s u → Does (act_of (Worker 0 i) y) x u v → Looking s v (next_of h (Worker 0 i) y x)
   yield_on h i s u v at.YieldPop (Task n) l a d = (d.1.0, found_own s u v v.task a d.1.1 (ap (λ (z : Hands X G O F). z.inlet) d.0), moved_on s u v a (subst (λ (z : Hands X G O F). Moved u z) (sym d.0) refl))
-  yield_on h i s u v at.YieldPop _ l a d = (looked s u v a d, tt)
+  yield_on h i s u v at.YieldPop Missing l a d = (looked s u v a d, tt)
+  yield_on h i s u v at.YieldPop _ l a d = absurd d.1
   yield_on h i s u v at.YieldTakeCast (Task n) l a d = absurd d.1
   yield_on h i s u v at.YieldTakeCast _ l a d = either s v (h.workers == 1) (Stay at.YieldPopInjected) (Stay at.YieldPick) (same s u v a d.0, tt) (same s u v a d.0, tt)
   yield_on h i s u v at.YieldPick (Start n) l a d = (same s u v a d.0, tt)
   yield_on h i s u v at.YieldPick _ l a d = (same s u v a d.0, tt)
   yield_on h i s u v (at.YieldSteal k m) (Task n) l a d = (d.1.0, found_other s u v k v.task a d.1.1 (subst (λ (z : Hands X G O F). Kept s z) (sym d.0) a.0), moved_on s u v a (subst (λ (z : Hands X G O F). Moved u z) (sym d.0) refl))
-  yield_on h i s u v (at.YieldSteal k m) _ l a d = either_place s v (m == 0) at.YieldPopInjected (at.YieldSteal (not_self h.workers i (next_victim h.workers k)) (m - 1)) (not_stolen s u v a d.0, tt) (not_stolen s u v a d.0, tt)
+  yield_on h i s u v (at.YieldSteal k m) Missing l a d = either_place s v (m == 0) at.YieldPopInjected (at.YieldSteal (not_self h.workers i (next_victim h.workers k)) (m - 1)) (not_stolen s u v a d.0, tt) (not_stolen s u v a d.0, tt)
+  yield_on h i s u v (at.YieldSteal k m) _ l a d = absurd d.1
   yield_on h i s u v at.YieldPopInjected (Task n) l a d = (d.1.0, found_injected s u v v.task a d.1.1 (subst (λ (z : Hands X G O F). Kept s (record z { inlet = u.inlet })) (sym d.0) a.0), moved_on s u v a (subst (λ (z : Hands X G O F). Moved u z) (sym d.0) refl))
-  yield_on h i s u v at.YieldPopInjected _ l a d = same s u v a d.0
+  yield_on h i s u v at.YieldPopInjected Missing l a d = same s u v a d.0
+  yield_on h i s u v at.YieldPopInjected _ l a d = absurd d.1
   yield_on h i s u v _ _ l a d = absurd l
 
   -- where it goes on nothing was taken

@@ -206,11 +206,12 @@ impl<J: JobKind> Bench<J> {
         ensures adds { Adds (acts.Steal pool victim) result self.old.trace self.new.trace }
     {
         let act = Act::Steal { pool, victim };
+        let stealers = self.registry.stealers();
         if victim >= self.registry.num_threads() {
             return self.add(act, Seen::Missing);
         }
-        let mut thief = self.registry.stealers().pass(victim);
-        let stolen = self.registry.stealers().steal(rt, victim, &mut thief);
+        let mut thief = stealers.pass(victim);
+        let stolen = stealers.steal(rt, victim, &mut thief);
         self.thief = Some(thief);
         match stolen {
             Some(task) => self.took(act, task),

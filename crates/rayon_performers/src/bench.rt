@@ -104,6 +104,23 @@ impl<J: JobKind> Model for Bench<J> {
     ghost invariant = { λ b. (b.inlet.injector ≡ (arc_value b.registry).injector) × (b.index < (arc_value b.registry).workers) × (b.count.table_id ≡ (arc_value b.registry).count) };
 }
 
+/// A worker's trace while it is lent to a run. Nobody can add to it, and it has no `Drop`: `Bench::put_back` alone takes it,
+/// to go on with it after the run.
+pub struct Aside {
+    trace: Trace,
+}
+
+impl Model for Aside {
+    ghost use Rattle.rayon_drive.specs.contracts.trace.Log as logs;
+    ghost use Rattle.rayon_drive.specs.declared.trace.Log.{Log};
+
+    ghost Value = { Log };
+
+    ghost coded = { logs.the_row.coded };
+
+    ghost view = { λ a. a.trace };
+}
+
 impl<J: JobKind> Bench<J> {
     /// What the worker of this index begins with: nothing at hand, and nothing done. It is made where the worker's
     /// thread runs, of a share of what the threads have in common.
@@ -158,19 +175,22 @@ impl<J: JobKind> Bench<J> {
 
     /// Takes the trace out, and begins a new one: for a run that the worker is lent to.
     #[inline(always)]
-    pub fn set_aside(&mut self) -> Trace
+    pub fn set_aside(&mut self) -> Aside
         ensures given { result ≡ self.old.trace }
         ensures left { self.new ≡ record self.old { trace = Empty } }
     {
-        mem::replace(&mut self.trace, Trace::new())
+        Aside {
+            trace: mem::replace(&mut self.trace, Trace::new()),
+        }
     }
 
     /// Goes on with a trace that was set aside, after the run.
     #[inline(always)]
-    pub fn put_back(&mut self, trace: Trace)
-        ensures run { AddsRun trace self.new.trace }
+    pub fn put_back(&mut self, aside: Aside)
+        ensures run { AddsRun aside self.new.trace }
         ensures left { self.new ≡ record self.old { trace = self.new.trace } }
     {
+        let Aside { trace } = aside;
         self.trace = trace;
         self.trace.add_run();
     }

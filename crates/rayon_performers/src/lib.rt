@@ -15,7 +15,7 @@ mod registry;
 mod stretch;
 mod terminate;
 
-pub use bench::Bench;
+pub use bench::{Aside, Bench};
 pub use guest::Guest;
 pub use kit::{WorkerKit, WorkerSeats};
 pub use load::Load;

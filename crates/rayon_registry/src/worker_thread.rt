@@ -33,10 +33,9 @@ use crate::ids::WorkerId;
 use crate::job::Waits;
 use crate::join::PairRun;
 use crate::pool_ref::{PoolRef, PoolShare};
-use rayon_drive::trace::Trace;
 use rayon_jobs::{Done, JobKind};
 use rayon_machine_places::place::{Ending, Move, Place, Target, Then};
-use rayon_performers::{Bench, WorkerKit};
+use rayon_performers::{Aside, Bench, WorkerKit};
 use rayon_sleep::latch::{OwnLatch, Owner};
 use rayon_tasks::{Call, Names, Pair, Task, Ticket, Work, task_parts};
 use rayon_words::{CallError, Refusal};
@@ -76,7 +75,7 @@ impl<J: JobKind> Model for WorkerThread<J> {
 // `Drop`: the worker value has to be taken back.
 pub(crate) struct Lent {
     levels: usize,
-    acts: Trace,
+    acts: Aside,
 }
 
 impl<J: JobKind> WorkerThread<J> {

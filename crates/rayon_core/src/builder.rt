@@ -1,6 +1,8 @@
 //! How a pool is made.
-ghost use Rattle.std.specs.Prelude.{◌≡◌, ℕ, ◌+◌, ◌-◌, ◌^◌, max, min, length, IfOk, true, false};
+ghost use Rattle.rayon_core.specs.Environment.{Says, workers_of};
+ghost use Rattle.std.specs.Prelude.{◌≡◌, ℕ, ◌+◌, ◌-◌, ◌^◌, ◌<◌, max, length, IfOk, MatchOption, None, true, false};
 
+use crate::environment::{Environment, number_in};
 use crate::thread_pool::{ThreadPool, end_workers};
 use rayon_jobs::JobKind;
 use rayon_performers::{Registry, WorkerKit, WorkerSeats};
@@ -30,13 +32,11 @@ pub enum ThreadPoolBuildError {
     NoIds,
 }
 
-/// The most workers that a pool is made with.
-const MAX_WORKERS: usize = 65_535;
-
 /// What a pool is to be like. Contracts see what was set.
 #[derive(Drop)]
 pub struct ThreadPoolBuilder<J: JobKind> {
     num_threads: usize,
+    environment: Environment,
     depth_limit: usize,
     steal_seed: u64,
     breadth_first: bool,
@@ -48,17 +48,18 @@ impl<J: JobKind> Model for ThreadPoolBuilder<J> {
 
     ghost Value = { Settings };
 
-    ghost view = { λ b. record { num_threads = b.num_threads; depth_limit = b.depth_limit; steal_seed = b.steal_seed; breadth_first = b.breadth_first } };
+    ghost view = { λ b. record { num_threads = b.num_threads; first = b.environment.first; second = b.environment.second; processors = b.environment.processors; depth_limit = b.depth_limit; steal_seed = b.steal_seed; breadth_first = b.breadth_first } };
 }
 
 impl<J: JobKind> ThreadPoolBuilder<J> {
-    /// Settings of which none was made: the builder chooses how many workers, and runs may nest as deep as the memory
-    /// of a thread allows.
+    /// Settings of which none was made: the builder chooses how many workers, with no word of the environment and an
+    /// unknown number of processors, and runs may nest as deep as the memory of a thread allows.
     pub fn new() -> ThreadPoolBuilder<J>
-        ensures { result ≡ record { num_threads = 0; depth_limit = 2 ^ 64 - 1; steal_seed = 0; breadth_first = false } }
+        ensures { result ≡ record { num_threads = 0; first = None; second = None; processors = 0; depth_limit = 2 ^ 64 - 1; steal_seed = 0; breadth_first = false } }
     {
         ThreadPoolBuilder {
             num_threads: 0,
+            environment: Environment::unknown(),
             depth_limit: usize::MAX,
             steal_seed: 0,
             breadth_first: false,
@@ -66,18 +67,48 @@ impl<J: JobKind> ThreadPoolBuilder<J> {
         }
     }
 
-    /// Asks for this many workers, of which a pool has at most 65,535; 0 leaves the choice to the builder, which takes
-    /// one for now.
+    /// Asks for this many workers, of which a pool has at most `max_num_threads()`; 0 leaves the choice to the builder
+    /// (`worker_count`).
     pub fn num_threads(self, num_threads: usize) -> ThreadPoolBuilder<J>
         ensures { result ≡ record self { num_threads = num_threads } }
     {
-        ThreadPoolBuilder {
-            num_threads,
-            depth_limit: self.depth_limit,
-            steal_seed: self.steal_seed,
-            breadth_first: self.breadth_first,
-            jobs: PhantomData,
-        }
+        let mut builder = self;
+        builder.num_threads = num_threads;
+        builder
+    }
+
+    /// Tells what the choice of the number of workers goes by where none was asked for: the word that the environment has
+    /// for `RAYON_NUM_THREADS`, the one that it has for `RAYON_RS_NUM_CPUS`, and how many processors there are, where 0
+    /// says that this is unknown. rayon-core reads these by itself; here nothing is read that is not handed in. A word
+    /// counts as absent where it is not one or more decimal digits, after a plus or none, or says more than 2^64 - 1.
+    pub fn environment(
+        self,
+        first: Option<&str>,
+        second: Option<&str>,
+        processors: usize,
+    ) -> ThreadPoolBuilder<J>
+        ensures first { MatchOption first.entry (result.first ≡ None) (λ w. Says w.now result.first) }
+        ensures second { MatchOption second.entry (result.second ≡ None) (λ w. Says w.now result.second) }
+        ensures rest { result ≡ record self { first = result.first; second = result.second; processors = processors } }
+    {
+        let mut builder = self;
+        builder.environment = Environment {
+            first: number_in(first),
+            second: number_in(second),
+            processors,
+        };
+        builder
+    }
+
+    /// How many workers the pool will have, as far as settings were made: those that were asked for. Where none were, the
+    /// number of the first word, of which 0 stands for the number of processors; where that word is absent, the number of
+    /// the second one; where this is 0 or absent too, the number of processors. There is one worker at least, and no more
+    /// than `max_num_threads()`.
+    pub fn worker_count(&self) -> usize
+        ensures count { result ≡ workers_of self.now }
+        ensures range { (0 < result) × (result < 65536) }
+    {
+        self.environment.worker_count(self.num_threads)
     }
 
     /// Sets how many runs may stand nested under one worker's own value; 0 counts as 1. What is not set is bounded by
@@ -89,26 +120,18 @@ impl<J: JobKind> ThreadPoolBuilder<J> {
     pub fn depth_limit(self, depth_limit: usize) -> ThreadPoolBuilder<J>
         ensures { result ≡ record self { depth_limit = depth_limit } }
     {
-        ThreadPoolBuilder {
-            num_threads: self.num_threads,
-            depth_limit,
-            steal_seed: self.steal_seed,
-            breadth_first: self.breadth_first,
-            jobs: PhantomData,
-        }
+        let mut builder = self;
+        builder.depth_limit = depth_limit;
+        builder
     }
 
     /// Sets what is added to each worker's index for the seed by which it chooses from whom to steal first.
     pub fn steal_seed(self, steal_seed: u64) -> ThreadPoolBuilder<J>
         ensures { result ≡ record self { steal_seed = steal_seed } }
     {
-        ThreadPoolBuilder {
-            num_threads: self.num_threads,
-            depth_limit: self.depth_limit,
-            steal_seed,
-            breadth_first: self.breadth_first,
-            jobs: PhantomData,
-        }
+        let mut builder = self;
+        builder.steal_seed = steal_seed;
+        builder
     }
 
     /// Has each worker take the oldest task of its own deque first, where else it takes the newest. Jobs that spawn then go
@@ -116,13 +139,9 @@ impl<J: JobKind> ThreadPoolBuilder<J> {
     pub fn breadth_first(self) -> ThreadPoolBuilder<J>
         ensures { result ≡ record self { breadth_first = true } }
     {
-        ThreadPoolBuilder {
-            num_threads: self.num_threads,
-            depth_limit: self.depth_limit,
-            steal_seed: self.steal_seed,
-            breadth_first: true,
-            jobs: PhantomData,
-        }
+        let mut builder = self;
+        builder.breadth_first = true;
+        builder
     }
 
     /// Makes the pool: draws its number, and starts its workers' threads. Refused `NoIds`, `NoRoom`, `IOError`, in this
@@ -139,14 +158,14 @@ impl<J: JobKind> ThreadPoolBuilder<J> {
         J::Tag: Send + Sync + 'static,
         J::Output: Send + Sync + 'static,
         J::Fault: Send + Sync + 'static,
-        ensures workers { IfOk result (λ p. p.workers ≡ min 65535 (max 1 self.num_threads)) }
+        ensures workers { IfOk result (λ p. p.workers ≡ workers_of self) }
         ensures depth { IfOk result (λ p. p.depth_limit ≡ max 1 self.depth_limit) }
         ensures order { IfOk result (λ p. p.breadth_first ≡ self.breadth_first) }
     {
         let Some(id) = ids.next(rt) else {
             return Err(ThreadPoolBuildError::NoIds);
         };
-        let num_threads = self.num_threads.clamp(1, MAX_WORKERS);
+        let num_threads = self.worker_count();
         let made = new_pool(
             rt,
             alloc,

@@ -4,12 +4,14 @@
 
 mod builder;
 mod end_after;
+mod environment;
 pub mod latch;
 mod thread_pool;
 
 // What jobs and calls are written with.
 pub use builder::{ThreadPoolBuildError, ThreadPoolBuilder};
 pub use end_after::EndAfter;
+pub use environment::max_num_threads;
 pub use rayon_jobs::{Done, JobKind};
 pub use rayon_registry::{
     BroadcastContext, FnContext, ForkJoin, Ids, Job, PoolId, PoolRef, Scope, Waits, WorkerId,

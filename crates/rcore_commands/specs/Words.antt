@@ -1,9 +1,9 @@
-use Rattle.std.specs.Prelude.{◌≡◌, ℕ, ◌≤◌, List, [], ◌∷◌, ◌++◌, ⊤}
-use Rattle.std.specs.Str.Parse.{IsNumeral, digits_value, without_leading_plus}
+use Rattle.std.specs.Prelude.{◌≡◌, ℕ, ◌≤◌, ◌<◌, ◌^◌, List, [], ◌∷◌, ◌++◌, Option, ⊤}
+use Rattle.rayon_core.specs.Environment.{Says, Writes, workers_for}
 use Rattle.std.specs.Fmt.{decimal}
 use Rattle.fibonacci.specs.Fib.{fib}
 use Rattle.rcore_commands.specs.declared.command.Command.{Command}
-use Rattle.rcore_commands.specs.declared.command.Command.TheVariants.{Fib, Replay}
+use Rattle.rcore_commands.specs.declared.command.Command.TheVariants.{Fib, Threads, Replay}
 
 -- the bytes of the word fib
 abbrev pub fib_word : List ℕ
@@ -13,9 +13,9 @@ fib_word = 102 ∷ 105 ∷ 98 ∷ []
 abbrev pub replay_word : List ℕ
 replay_word = 114 ∷ 101 ∷ 112 ∷ 108 ∷ 97 ∷ 121 ∷ []
 
--- a word that writes a number: decimal digits, one or more, after a plus or none
-abbrev pub Writes : List ℕ → ℕ → Type 0
-Writes word n = IsNumeral 10 (without_leading_plus word) × (digits_value 10 (without_leading_plus word) ≡ n)
+-- the bytes of the word threads
+abbrev pub threads_word : List ℕ
+threads_word = 116 ∷ 104 ∷ 114 ∷ 101 ∷ 97 ∷ 100 ∷ 115 ∷ []
 
 -- so many workers, and the index of a Fibonacci number, that may be asked for
 abbrev pub InRange : ℕ → ℕ → Type 0
@@ -26,17 +26,30 @@ abbrev pub AsksForFib : List (List ℕ) → ℕ → ℕ → Type 0
 AsksForFib words workers n =
     (w v : List ℕ) × (words ≡ fib_word ∷ w ∷ v ∷ []) × Writes w workers × Writes v n × InRange workers n
 
+-- so many workers has a pool for which so many were asked, by the environment's two words and so many processors
+abbrev pub Counts : ℕ → List ℕ → List ℕ → ℕ → ℕ → Type 0
+Counts asked first second processors count =
+    (a b : Option ℕ) × Says first a × Says second b × (count ≡ workers_for asked a b processors)
+
+-- five words that ask how many workers a pool has: threads, how many were asked for, the environment's two words, and how
+-- many processors there are
+abbrev pub AsksForThreads : List (List ℕ) → ℕ → Type 0
+AsksForThreads words count =
+    (w first second v : List ℕ) × (asked processors : ℕ) × (words ≡ threads_word ∷ w ∷ first ∷ second ∷ v ∷ []) × Writes w asked × (asked < 2 ^ 64) × Writes v processors × (processors < 2 ^ 64) × Counts asked first second processors count
+
 -- what the words of a command line ask for
 abbrev pub AsksFor : List (List ℕ) → Command → Type 0
 AsksFor words (Fib workers n) = AsksForFib words workers n
+AsksFor words (Threads count) = AsksForThreads words count
 AsksFor words Replay = words ≡ replay_word ∷ []
 
 -- the words of a command line are bad words
 abbrev pub AskForNothing : List (List ℕ) → Type 0
 AskForNothing words = (c : Command) → AsksFor words c → ⊥
 
--- what a command that is done has written, if the property says that this text was: the number's decimal and a line feed;
+-- what a command that is done has written, if the property says that this text was: its number's decimal and a line feed;
 -- of the world that a replay prints nothing is said
 abbrev pub IsPrinted : Command → (List ℕ → Type 0) → Type 0
 IsPrinted (Fib workers n) wrote = wrote (decimal (fib n) ++ 10 ∷ [])
+IsPrinted (Threads count) wrote = wrote (decimal count ++ 10 ∷ [])
 IsPrinted Replay wrote = ⊤

@@ -1,8 +1,10 @@
 //! What the words of a command line ask for.
-ghost use Rattle.rcore_commands.specs.Words.{AsksFor, AskForNothing, InRange};
+ghost use Rattle.rcore_commands.specs.Words.{AsksFor, AskForNothing, Counts, InRange};
 ghost use Rattle.std.specs.Prelude.{◌≡◌, ◌↔◌, ℕ, IsTrue, IfSome, IfNone, map, string_bytes};
 ghost use Rattle.std.specs.Vec.Iter.{into_iter_items};
 
+use fibonacci::Fib;
+use rayon_core::ThreadPoolBuilder;
 use std::env::Args;
 
 /// What is asked for.
@@ -14,6 +16,13 @@ pub enum Command {
         workers: usize,
         /// Which number.
         n: u8,
+    },
+    /// `threads <num> <word> <word> <cpus>`: how many workers a pool's builder takes that is told this: so many were
+    /// asked for, the environment's two words, and so many processors. A word that writes no number stands for an absent
+    /// one, as `-` does.
+    Threads {
+        /// How many workers.
+        count: usize,
     },
     /// `replay`: the replay that standard input has.
     Replay,
@@ -42,6 +51,17 @@ impl Command {
                 }
                 Some(Command::Fib { workers, n })
             }
+            "threads" => {
+                let asked: usize = words.next()?.parse().ok()?;
+                let (first, second) = (words.next()?, words.next()?);
+                let processors: usize = words.next()?.parse().ok()?;
+                match words.next() {
+                    None => Some(Command::Threads {
+                        count: worker_count(asked, &first, &second, processors),
+                    }),
+                    Some(_) => None,
+                }
+            }
             "replay" => match words.next() {
                 None => Some(Command::Replay),
                 Some(_) => None,
@@ -56,4 +76,13 @@ fn is_in_range(workers: usize, n: u8) -> bool
     ensures { IsTrue result ↔ InRange workers n }
 {
     (1..=MAX_WORKERS).contains(&workers) && n <= MAX_INDEX
+}
+
+// How many workers a pool has whose builder is told this.
+fn worker_count(asked: usize, first: &str, second: &str, processors: usize) -> usize
+    ensures { Counts asked first.now second.now processors result }
+{
+    let builder = ThreadPoolBuilder::<Fib>::new().num_threads(asked);
+    let told = builder.environment(Some(first), Some(second), processors);
+    told.worker_count()
 }

@@ -80,6 +80,7 @@ pub fn run<R: Threads + Wait + Copy + Send + 'static, I: BufRead, W: Write, E: W
     match Command::parse(words) {
         None => bad_words(err),
         Some(Command::Fib { workers, n }) => print_fib(rt, alloc, workers, n, out, err),
+        Some(Command::Threads { count }) => print_line(count as u64, out, err),
         Some(Command::Replay) => print_replay(alloc, reader, out, err),
     }
 }
@@ -105,11 +106,19 @@ fn print_fib<R: Threads + Wait + Copy + Send + 'static, W: Write, E: Write>(
     let answer = pool.install(rt, alloc, Fib(n));
     pool.end_and_join(rt);
     match answer {
-        Ok(value) => match writeln!(out, "{value}") {
-            Ok(()) => DONE,
-            Err(_) => fail(err, "Write"),
-        },
+        Ok(value) => print_line(value, out, err),
         Err(error) => fail(err, error),
+    }
+}
+
+// Prints a number on a line of its own.
+fn print_line<W: Write, E: Write>(number: u64, out: &mut W, err: &mut E) -> u8
+    ensures done { result ≡ 0 → Appends (W.contents out.old) (W.contents out.new) (decimal number ++ 10 ∷ []) }
+    ensures status { result ≡ 2 → ⊥ }
+{
+    match writeln!(out, "{number}") {
+        Ok(()) => DONE,
+        Err(_) => fail(err, "Write"),
     }
 }
 

@@ -8,7 +8,7 @@ use std::test::Fail;
 const BAD_WORDS: &str = "rcore: bad words\n";
 
 /// Command lines that are done, and what they print.
-const GOOD_LINES: [(&str, &str); 12] = [
+const GOOD_LINES: [(&str, &str); 24] = [
     ("fib 1 20", "6765\n"),
     ("fib 1 0", "0\n"),
     ("fib 1 1", "1\n"),
@@ -21,10 +21,22 @@ const GOOD_LINES: [(&str, &str); 12] = [
     ("fib 04 21", "10946\n"),
     ("fib 16 22", "17711\n"),
     ("fib 64 25", "75025\n"),
+    ("threads 0 0 8 4", "4\n"),
+    ("threads 0 x 8 4", "8\n"),
+    ("threads 0 - 0 4", "4\n"),
+    ("threads 0 +3 - 4", "3\n"),
+    ("threads 0 18446744073709551616 5 4", "5\n"),
+    ("threads 70000 - - 4", "65535\n"),
+    ("threads 0 - - 0", "1\n"),
+    ("threads 0 + 2 8", "2\n"),
+    ("threads 0 00 5 3", "3\n"),
+    ("threads 0 007 - 4", "7\n"),
+    ("threads +0 -1 6 2", "6\n"),
+    ("threads 3 9 9 9", "3\n"),
 ];
 
 /// Command lines that are bad words.
-const BAD_LINES: [&str; 21] = [
+const BAD_LINES: [&str; 28] = [
     "",
     "fib",
     "fib 1",
@@ -44,6 +56,13 @@ const BAD_LINES: [&str; 21] = [
     "Fib 1 2",
     "fibonacci 1 2",
     "order lifo",
+    "threads",
+    "threads 0 0 8",
+    "threads 0 0 8 4 2",
+    "threads x - - 1",
+    "threads -1 - - 1",
+    "threads 0 - - x",
+    "threads 18446744073709551616 - - 1",
     "replay 1",
     "Replay",
 ];

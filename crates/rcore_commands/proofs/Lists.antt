@@ -1,0 +1,17 @@
+-- Lists of words that were read one by one.
+use Rattle.std.proofs.Common.{rules, ℕ, List, [], ◌∷◌, ◌≡◌, map, length, refl, String, Global}
+use Rattle.std.specs.declared.vec.IntoIter.{IntoIter}
+use Rattle.std.specs.Vec.Iter.{into_iter_items, into_iter_len}
+
+-- a list of no length is empty
+empty : {A : Type 0} (xs : List A) → length xs ≡ 0 → xs ≡ []
+empty [] e = refl
+empty (x ∷ xs) e = search rules
+
+-- nothing is left where so many are none
+pub none_left : (it : IntoIter (String Global) Global) → into_iter_len it ≡ 0 → into_iter_items it ≡ []
+none_left it e = empty _ (search rules)
+
+-- five that were read until nothing was left, the first of which is this word
+pub five_words : {A : Type 0} (f : A → List ℕ) (is js ks ls ms ns : List A) (a b c d e : A) (name : List ℕ) → is ≡ a ∷ js → js ≡ b ∷ ks → ks ≡ c ∷ ls → ls ≡ d ∷ ms → ms ≡ e ∷ ns → ns ≡ [] → f a ≡ name → map f is ≡ name ∷ f b ∷ f c ∷ f d ∷ f e ∷ []
+five_words f is js ks ls ms ns a b c d e name p q r s t u v = cc

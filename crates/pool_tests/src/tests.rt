@@ -163,6 +163,38 @@ fn found_tasks_run_once(rt: HostRuntime) -> Result<(), Fail> {
     Ok(())
 }
 
+// A worker's thread has the stack that was asked for: 20,000 joins stand nested there, more than 8 MiB can hold.
+#[test]
+fn deep_joins_have_the_stack_that_was_asked_for(rt: HostRuntime) -> Result<(), Fail> {
+    let alloc = rt.alloc();
+    let builder = ThreadPoolBuilder::new()
+        .num_threads(1)
+        .stack_size(256 << 20);
+    let pool = builder.build(&rt, alloc, &Ids::new()).expect(&rt, "a pool");
+    let (answer, runs, _) = installed(&rt, alloc, &pool, Deed::Taker(20_000));
+    pool.end_and_join(&rt);
+    assert_eq!(rt; answer, Ok(200_010_002));
+    assert_eq!(rt; runs, 40_001);
+    Ok(())
+}
+
+// A stack that the system cannot give makes no pool.
+#[test]
+fn a_stack_without_end_is_refused(rt: HostRuntime) -> Result<(), Fail> {
+    let builder = ThreadPoolBuilder::<Errand>::new().num_threads(3);
+    match builder
+        .stack_size(usize::MAX)
+        .build(&rt, rt.alloc(), &Ids::new())
+    {
+        Ok(pool) => {
+            pool.end_and_join(&rt);
+            panic!(rt; "a stack without end");
+        }
+        Err(error) => assert!(rt; matches!(&error, ThreadPoolBuildError::IOError(_))),
+    }
+    Ok(())
+}
+
 // A thread that waits on a lock latch goes on when another thread sets it, and not before, each time anew.
 #[test]
 fn lock_latches(rt: HostRuntime) -> Result<(), Fail> {

@@ -1,6 +1,6 @@
 //! How a pool is made.
 ghost use Rattle.rayon_core.specs.Environment.{Says, workers_of};
-ghost use Rattle.std.specs.Prelude.{◌≡◌, ℕ, ◌+◌, ◌-◌, ◌^◌, ◌<◌, max, length, IfOk, MatchOption, None, true, false};
+ghost use Rattle.std.specs.Prelude.{◌≡◌, ℕ, ◌+◌, ◌-◌, ◌^◌, ◌<◌, max, length, IfOk, MatchOption, None, Some, true, false};
 
 use crate::environment::{Environment, number_in};
 use crate::thread_pool::{ThreadPool, end_workers};
@@ -37,6 +37,7 @@ pub enum ThreadPoolBuildError {
 pub struct ThreadPoolBuilder<J: JobKind> {
     num_threads: usize,
     environment: Environment,
+    stack_size: Option<usize>,
     depth_limit: usize,
     steal_seed: u64,
     breadth_first: bool,
@@ -48,18 +49,19 @@ impl<J: JobKind> Model for ThreadPoolBuilder<J> {
 
     ghost Value = { Settings };
 
-    ghost view = { λ b. record { num_threads = b.num_threads; first = b.environment.first; second = b.environment.second; processors = b.environment.processors; depth_limit = b.depth_limit; steal_seed = b.steal_seed; breadth_first = b.breadth_first } };
+    ghost view = { λ b. record { num_threads = b.num_threads; first = b.environment.first; second = b.environment.second; processors = b.environment.processors; stack_size = b.stack_size; depth_limit = b.depth_limit; steal_seed = b.steal_seed; breadth_first = b.breadth_first } };
 }
 
 impl<J: JobKind> ThreadPoolBuilder<J> {
     /// Settings of which none was made: the builder chooses how many workers, with no word of the environment and an
-    /// unknown number of processors, and runs may nest as deep as the memory of a thread allows.
+    /// unknown number of processors, and runs may nest as deep as the stack of a thread allows, which is the system's.
     pub fn new() -> ThreadPoolBuilder<J>
-        ensures { result ≡ record { num_threads = 0; first = None; second = None; processors = 0; depth_limit = 2 ^ 64 - 1; steal_seed = 0; breadth_first = false } }
+        ensures { result ≡ record { num_threads = 0; first = None; second = None; processors = 0; stack_size = None; depth_limit = 2 ^ 64 - 1; steal_seed = 0; breadth_first = false } }
     {
         ThreadPoolBuilder {
             num_threads: 0,
             environment: Environment::unknown(),
+            stack_size: None,
             depth_limit: usize::MAX,
             steal_seed: 0,
             breadth_first: false,
@@ -111,12 +113,22 @@ impl<J: JobKind> ThreadPoolBuilder<J> {
         self.environment.worker_count(self.num_threads)
     }
 
+    /// Sets how many bytes the stack of each worker's thread has, rounded up to a multiple of 128 KiB. Where that is not
+    /// set the system's limit says it, mostly 8 MiB (`ulimit -s`; 2 MiB where there is no limit). A size that the system
+    /// can't give makes `build` answer `IOError`.
+    pub fn stack_size(self, stack_size: usize) -> ThreadPoolBuilder<J>
+        ensures { result ≡ record self { stack_size = Some stack_size } }
+    {
+        let mut builder = self;
+        builder.stack_size = Some(stack_size);
+        builder
+    }
+
     /// Sets how many runs may stand nested under one worker's own value; 0 counts as 1. What is not set is bounded by
-    /// the stack of the worker's thread alone, and a call that is nested deeper than it allows ends the process. That
-    /// stack is as large as the system's limit says, mostly 8 MiB (`ulimit -s`; 2 MiB where there is no limit). A level
-    /// costs about 1,500 bytes of it by `join_jobs`, about 2,600 where a worker that waits takes the job from a queue,
-    /// and on top of that what the job's own `run` needs. A limit of 2,000 leaves 4 KiB for a level of 8 MiB (500 do so
-    /// of 2 MiB): safe for jobs whose `run` needs less than 1,400 bytes for its own variables.
+    /// the stack of the worker's thread alone (`stack_size`), and a call that is nested deeper than it allows ends the
+    /// process. A level costs about 1,500 bytes of it by `join_jobs`, about 2,600 where a worker that waits takes the job
+    /// from a queue, and on top of that what the job's own `run` needs. A limit of 2,000 leaves 4 KiB for a level of 8 MiB
+    /// (500 do so of 2 MiB): safe for jobs whose `run` needs less than 1,400 bytes for its own variables.
     pub fn depth_limit(self, depth_limit: usize) -> ThreadPoolBuilder<J>
         ensures { result ≡ record self { depth_limit = depth_limit } }
     {
@@ -179,7 +191,7 @@ impl<J: JobKind> ThreadPoolBuilder<J> {
             return Err(ThreadPoolBuildError::NoRoom);
         };
         let mut workers = Vec::new(alloc);
-        match start_workers(rt, alloc, &pool, deques, &mut workers) {
+        match start_workers(rt, alloc, &pool, deques, self.stack_size, &mut workers) {
             Ok(()) => Ok(ThreadPool::new(pool, hold, workers)),
             Err(Unstarted { error, worker }) => {
                 end_workers(rt, &pool, hold, workers);
@@ -192,9 +204,9 @@ impl<J: JobKind> ThreadPoolBuilder<J> {
     }
 }
 
-// Starts a thread that begins with these four values. They stand in types of their own: the checker finds of each that it
-// may be sent, and not of a type that holds two. Each of the functions below puts one of these types in its place, since it
-// finds that where little else stands beside the value.
+// Starts a thread with so many bytes of stack, which begins with these four values. They stand in types of their own: the
+// checker finds of each that it may be sent, and not of a type that holds two. Each of the functions below puts one of these
+// types in its place, since it finds that where little else stands beside the value.
 fn start_with<
     S: Drop + Send + 'static,
     N: Drop + Send + 'static,
@@ -204,6 +216,7 @@ fn start_with<
     F: FnOnce(&R, S, N, D, K) + Drop + Send + 'static,
 >(
     rt: &R,
+    stack_size: Option<usize>,
     shared: S,
     faults: N,
     deque: D,
@@ -213,10 +226,11 @@ fn start_with<
     requires { F.IsAlwaysCallable begin }
 {
     let theirs = *rt;
-    let started = thread::Builder::new().spawn(
-        rt,
-        move || begin(&theirs, shared, faults, deque, seats),
-    );
+    let how = match stack_size {
+        Some(size) => thread::Builder::new().stack_size(size),
+        None => thread::Builder::new(),
+    };
+    let started = how.spawn(rt, move || begin(&theirs, shared, faults, deque, seats));
     started.map_err(ThreadPoolBuildError::IOError)
 }
 
@@ -268,6 +282,7 @@ fn start_sharing<
     rt: &R,
     alloc: Global,
     worker: WorkerId,
+    stack_size: Option<usize>,
     shared: Arc<Registry<Task<J>>, Global>,
     faults: N,
     deque: D,
@@ -281,6 +296,7 @@ where
 {
     start_with(
         rt,
+        stack_size,
         shared,
         faults,
         deque,
@@ -306,6 +322,7 @@ fn start_with_deque<
     rt: &R,
     alloc: Global,
     worker: WorkerId,
+    stack_size: Option<usize>,
     shared: Arc<Registry<Task<J>>, Global>,
     faults: N,
     deque: WorkerDeque<Task<J>>,
@@ -317,7 +334,7 @@ where
     J::Output: Send + Sync + 'static,
     J::Fault: Send + Sync + 'static,
 {
-    start_sharing(rt, alloc, worker, shared, faults, deque, seats)
+    start_sharing(rt, alloc, worker, stack_size, shared, faults, deque, seats)
 }
 
 // Starts the thread of the worker with this index, which begins with this.
@@ -327,6 +344,7 @@ fn start_worker<J, R: Threads + Wait + Copy + Send + 'static>(
     pool: &PoolRef<J>,
     index: usize,
     kit: WorkerKit<Task<J>>,
+    stack_size: Option<usize>,
 ) -> Result<JoinHandle<()>, ThreadPoolBuildError>
 where
     J: Job + Send + Sync + 'static,
@@ -342,7 +360,7 @@ where
         index,
     };
     let (deque, seats) = kit.into_parts();
-    start_with_deque(rt, alloc, worker, shared, faults, deque, seats)
+    start_with_deque(rt, alloc, worker, stack_size, shared, faults, deque, seats)
 }
 
 // Why not all workers were started, and a worker that was, but whose handle found no room beside the others'. It leaves
@@ -368,6 +386,7 @@ fn start_workers<J, R: Threads + Wait + Copy + Send + 'static>(
     alloc: Global,
     pool: &PoolRef<J>,
     deques: Vec<WorkerKit<Task<J>>>,
+    stack_size: Option<usize>,
     workers: &mut Vec<JoinHandle<()>>,
 ) -> Result<(), Unstarted>
 where
@@ -378,7 +397,7 @@ where
     ensures started { IfOk result (λ _. length workers.new.items ≡ length workers.old.items + length deques.items) }
 {
     for (index, deque) in deques.into_iter().enumerate() {
-        match start_worker(rt, alloc, pool, index, deque) {
+        match start_worker(rt, alloc, pool, index, deque, stack_size) {
             Ok(worker) => {
                 if let Err(AllocFailed { value: worker }) = workers.push(worker) {
                     return Err(Unstarted {

@@ -8,12 +8,14 @@ ghost use Rattle.rayon_sleep.specs.Berths.{Rests};
 
 use crate::kit::{WorkerKit, WorkerSeats};
 use crate::terminate::PoolHold;
+use crossbeam_utils::CachePadded;
 use rayon_atomics::count::CountSeat;
 use rayon_atomics::latch::CoreLatch;
 use rayon_atomics::own_latch::OwnLatch;
 use rayon_atomics::terminate::TerminateCount;
+use rayon_locks::HeldLock;
 use rayon_machine_places::shape::{Order, PoolShape};
-use rayon_queues::{Injector, Stealers, WorkerDeque};
+use rayon_queues::{Injector, JobFifo, Stealers, WorkerDeque};
 use rayon_sleep::counters::Chair;
 use rayon_sleep::latch::Owner;
 use rayon_sleep::sleep::Sleep;
@@ -41,6 +43,8 @@ pub struct Registry<T> {
     terminate_count: TerminateCount,
     terminate: Vec<Arc<CoreLatch, Global>>,
     caller_names: Mutex<Names>,
+    // by worker, the jobs that it spawned to be run in the order of their spawns, for each of which a token is queued
+    fifos: Vec<CachePadded<HeldLock<JobFifo<T>>>>,
 }
 
 impl<T> Model for Registry<T> {
@@ -52,7 +56,7 @@ impl<T> Model for Registry<T> {
 
     ghost view = { λ r. record { workers = r.num_threads; depth_limit = r.depth_limit; breadth_first = r.breadth_first; deques = r.stealers; injector = r.injector; count = r.terminate_count.table } };
 
-    ghost invariant = { λ r. (length r.stealers ≡ r.num_threads) × (length r.terminate.items ≡ r.num_threads) × (0 < r.num_threads) × (r.num_threads < 65536) × (arc_value r.sleep ≡ r.num_threads) };
+    ghost invariant = { λ r. (length r.stealers ≡ r.num_threads) × (length r.terminate.items ≡ r.num_threads) × (length r.fifos.items ≡ r.num_threads) × (0 < r.num_threads) × (r.num_threads < 65536) × (arc_value r.sleep ≡ r.num_threads) };
 }
 
 impl<T: Drop> Registry<T> {
@@ -80,6 +84,7 @@ impl<T: Drop> Registry<T> {
         let (Ok(sleep), Ok(injector)) = (Arc::new(alloc, sleep), Injector::new(alloc)) else {
             return Err(Refusal::NoRoom);
         };
+        let fifos = new_fifos(alloc, num_threads)?;
         let mut deques = Vec::new(alloc);
         let mut stealers = Stealers::new(alloc);
         let mut terminate = Vec::new(alloc);
@@ -109,6 +114,7 @@ impl<T: Drop> Registry<T> {
             terminate_count,
             terminate,
             caller_names: Mutex::new(Names::new(num_threads, num_threads + 1)),
+            fifos,
         };
         Ok((registry, deques, PoolHold::new()))
     }
@@ -190,6 +196,14 @@ impl<T: Drop> Registry<T> {
         Some(latch)
     }
 
+    /// The FIFO list of a worker's detached jobs, if the pool has that worker: who holds its lock has the list.
+    pub(crate) fn fifo(&self, worker: usize) -> Option<&HeldLock<JobFifo<T>>>
+        ensures { is_some result ≡ false → self.now.workers ≤ worker }
+    {
+        let list: &HeldLock<JobFifo<T>> = self.fifos.get(worker)?;
+        Some(list)
+    }
+
     /// A seat of the terminate count, for one party more.
     pub(crate) fn count_seat(&self) -> CountSeat
         ensures { result.table_id ≡ self.now.count }
@@ -242,4 +256,22 @@ fn new_kit<T: Drop>(
     let deque = WorkerDeque::new(alloc, oldest_first)?;
     stealers.add(&deque)?;
     Ok(WorkerKit::new(deque, WorkerSeats::new(chair, terminate)))
+}
+
+// So many FIFO lists without jobs, each of which nobody holds. Refused `NoRoom`.
+fn new_fifos<T: Drop>(
+    alloc: Global,
+    count: usize,
+) -> Result<Vec<CachePadded<HeldLock<JobFifo<T>>>>, Refusal>
+    ensures made { IfOk result (λ fifos. length fifos.items ≡ count) }
+    ensures refused { IfErr result (λ r. r ≡ Refusal.NoRoom) }
+{
+    let mut fifos = Vec::new(alloc);
+    for _ in 0..count {
+        let list = HeldLock::new(JobFifo::new(alloc));
+        let Ok(()) = fifos.push(CachePadded::new(list)) else {
+            return Err(Refusal::NoRoom);
+        };
+    }
+    Ok(fifos)
 }

@@ -1,5 +1,5 @@
 -- The looks that run nothing, act by act: what was taken so far, and where the table leads.
-use Rattle.std.proofs.Common.{◌≡◌, inl, inr, ℕ, ◌-◌, ◌==◌, ◌≤◌, ◌++◌, [], ◌∷◌, List, ◌∙◌, Bool, true, false, if◌then◌else◌, Option, None, Some, MatchOption, slice_get, refl, sym, subst, ap, arith}
+use Rattle.std.proofs.Common.{◌≡◌, inl, inr, ℕ, ◌-◌, ◌==◌, ◌≤◌, ◌++◌, [], ◌∷◌, List, ◌∙◌, Bool, true, false, if◌then◌else◌, Option, None, Some, MatchOption, slice_get, length, length-append, refl, sym, subst, ap, arith}
 use Rattle.rayon_machine_places.specs.declared.place.Taken.{Taken}
 use Rattle.rayon_machine_places.specs.declared.place.Taken.TheVariants.{Plain, Token}
 use Rattle.rayon_machine_places.specs.declared.place.Party.{Party}
@@ -100,6 +100,18 @@ yield_goes at.YieldPopInjected l = refl
 yield_goes _ l = absurd l
 
 module _ {X : Type 0} where
+  not_empty : (xs ys : List (TaskOf X)) (t : TaskOf X) → xs ++ t ∷ ys ≡ [] → ⊥
+  not_empty xs ys t e = let whole = ap length e in absurd (omega (arith, whole, length-append xs (t ∷ ys)))
+
+  -- nothing is popped where nothing is left
+  pub none_left : (d e : Deque (TaskOf X)) (o : Option (TaskOf X)) → PoppedFrom d o e → d.left ≡ [] → ⊥
+  none_left d e None p n = p
+  none_left d e (Some t) p n = by d.oldest_first p.1.2
+    where
+      by : (z : Bool) → Leaves z d.left t e.left → ⊥
+      by false q = not_empty e.left [] t (sym q ∙ n)
+      by true q = not_empty q.0 e.left t (sym q.1 ∙ n)
+
   same_deque : (d e f : Deque (TaskOf X)) → SameDeque d e → SameDeque e f → SameDeque d f
   same_deque d e f a b =
       let x : d.room ≤ e.room = a.2 in

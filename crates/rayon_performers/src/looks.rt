@@ -1,6 +1,6 @@
 //! What a worker looks for and pushes without running it. Each is a stretch of the table as far as a task's beginning,
 //! which is not performed, or to its end.
-ghost use Rattle.std.specs.Prelude.{◌≡◌, MatchOption, MatchResult, Some, None};
+ghost use Rattle.std.specs.Prelude.{◌≡◌, [], MatchOption, MatchResult, Some, None};
 ghost use Rattle.rayon_machine_places.specs.Places.{undo};
 ghost use Rattle.rayon_machine_places.specs.declared.place.Move.TheVariants.{Back, Stay};
 ghost use Rattle.rayon_machine_places.specs.declared.place.Party.TheVariants.{Worker};
@@ -24,7 +24,7 @@ use std::sync::Wait;
 impl<J: JobKind> Bench<J> {
     /// Takes the newest task of the own deque, and does not run it: the look of a yield to the own tasks. Where the
     /// deque is empty the broadcast list is looked at too, which holds no task yet. It refuses nothing: None says that
-    /// neither gave one. The path with a task leads as far as that task's beginning, in the state with the task in
+    /// neither gave one, as where nothing is left of what the worker pushed. The path with a task leads as far as that task's beginning, in the state with the task in
     /// hand, out of which it is given.
     #[inline(always)]
     pub fn take_local<R: Wait>(&mut self, rt: &R) -> Option<Task<J>>
@@ -32,6 +32,7 @@ impl<J: JobKind> Bench<J> {
             (WorkerGoes (Stay at.LocalPop) self.old self.new Back)
             (λ t. WorkerGoes (Stay at.LocalPop) self.old (record self.new { task = Some t }) (Stay (at.BeginTask (Plain t.ticket.number)))) }
         ensures popped { MatchOption result (Unmoved self.old.own self.new.own) (λ t. Popped self.old.own t self.new.own) }
+        ensures empty { self.old.own.left ≡ [] → result ≡ None }
         ensures same { SameDeque self.old.own self.new.own }
         ensures left { MatchOption result
             (self.new ≡ record self.old { own = self.new.own; trace = self.new.trace })

@@ -89,6 +89,9 @@ pub enum Deed {
     /// Takes a task by hand and pushes it again, and joins two of these, one less, as long as it is more than 0.
     /// Answers how many the last ones were.
     Tree(u64),
+    /// Joins one of these, one less, and a job that answers 1, as long as it is more than 0. Answers how many joins stood
+    /// nested.
+    Chain(u64),
 }
 
 /// A job: its name, which is its tag, where it leaves its marks, and what it does.

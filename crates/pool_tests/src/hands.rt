@@ -56,6 +56,11 @@ pub fn run<R: Waits<Errand>>(
             };
             join(rt, alloc, w, marks, Deed::Tree(below), Deed::Tree(below))
         }
+        Deed::Chain(0) => Ok(0),
+        Deed::Chain(links) => {
+            let below = Deed::Chain(links.saturating_sub(1));
+            join(rt, alloc, w, marks, below, Deed::End(Ok(1)))
+        }
         Deed::End(_) | Deed::IsOn(_) | Deed::Note(_) | Deed::NoteLate(_) => Err(Trouble::Unlike),
     }
 }

@@ -256,6 +256,7 @@ impl<J: JobKind> WorkerThread<J> {
     pub fn take_local_job<R: Wait>(&mut self, rt: &R) -> Option<Task<J>>
         ensures some { IfSome result (λ t. Leaves self.old.oldest_first self.old.left t self.new.left) }
         ensures none { IfNone result (self.new.left ≡ self.old.left) }
+        ensures empty { self.old.left ≡ [] → result ≡ None }
         ensures kept { self.new ≡ record self.old { left = self.new.left; acts = self.new.acts } }
         ensures path { MatchOption result
             (Traced self.old.shape (Worker 0 self.old.seat) (Stay at.LocalPop) self.old.acts self.new.acts Back)

@@ -1,5 +1,6 @@
 -- What a worker's drive leads to, and how it ends.
-use Rattle.std.proofs.Common.{◌≡◌, ℕ, false, not, refl, sym, subst, ap, ◌∙◌}
+use Rattle.std.proofs.Common.{◌≡◌, ℕ, ◌≤◌, ◌-◌, ◌==◌, Bool, false, not, refl, sym, subst, ap, ◌∙◌, arith}
+use Rattle.std.proofs.Math.Nat.{le_antisymm, le_refl, le_trans, sub-le}
 use Rattle.rayon_machine_places.specs.declared.place.Party.{Party}
 use Rattle.rayon_machine_places.specs.declared.place.Party.TheVariants.{Worker}
 use Rattle.rayon_machine_places.specs.declared.place.Target.TheVariants.{Termination, Answer}
@@ -15,9 +16,11 @@ use Rattle.rayon_machine_places.specs.Places.{act_of, finish}
 use Rattle.rayon_drive.specs.declared.trace.Log.{Log}
 use Rattle.rayon_drive.specs.Paths.{goes}
 use Rattle.rayon_drive.proofs.Paths.{driven_keeps}
-use Rattle.rayon_performers.specs.Hands.{Hands, Does, Told, after}
+use Rattle.rayon_atomics.specs.declared.views.Teller.{Teller}
+use Rattle.rayon_machine_places.specs.declared.place.Count.TheVariants.{OfPool, OfScope, OfCast}
+use Rattle.rayon_performers.specs.Hands.{Hands, Does, Needs, Sees, Told, after, is_yes}
 use Rattle.rayon_performers.specs.Keeps.{at_stays, does_at, ended, going}
-use Rattle.rayon_performers.specs.Marks.{Marks}
+use Rattle.rayon_performers.specs.Marks.{GivesUnit, Marks}
 use Rattle.rayon_performers.specs.Seats.{Resting}
 use Rattle.rayon_performers.specs.Stands.{Anyhow, At, Ended, Hand, Last, Next, hand}
 use Rattle.rayon_performers.specs.Waits.{SameSeat}
@@ -64,3 +67,37 @@ module _ {X G O F : Type 0} (E : Move → Hand X G O F → Type 0) where
 
   pub follows : (s u : Hands X G O F) (n p i : ℕ) (t : Then) → hand u ≡ record (hand s) { holds = n } → Last (hand s) (finish (Worker p i) t) → Resting s.chair → E (finish (Worker p i) t) (hand u) → Next E (hand u) (finish (Worker p i) t) × Resting u.chair
   follows s u n p i t e l r f = (subst (λ (z : Hand X G O F). Next E z (finish (Worker p i) t)) (sym e) (last_next (hand s) n p i t l (subst (λ (z : Hand X G O F). E (finish (Worker p i) t) z) e f)), subst (λ (z : Hand X G O F). Resting z.chair) (sym e) r)
+
+-- no unit of the pool's count is given back where as many stand for the worker's calls afterwards
+gives_none : (n : ℕ) (b : Bool) (v w : Teller) → n - 1 ≡ n → GivesUnit (n == 1) b v w → w ≡ v
+gives_none n b v w e g =
+    let none : n ≡ 0 = omega arith in
+    (subst (λ (z : ℕ). GivesUnit (z == 1) b v w) none g).0
+
+module _ {X G O F : Type 0} where
+  -- as many units or fewer stand for the worker's calls, and where as many do its seat of the terminate count is the same
+  abbrev pub Counts : Hands X G O F → Hands X G O F → Type 0
+  Counts s t = (t.holds ≤ s.holds) × (t.holds ≡ s.holds → t.marks.count ≡ s.marks.count)
+
+  -- no act of a drive takes a unit
+  after_counts : (a : Act) (x : Seen) (s t : Hands X G O F) → Needs a s → Sees a x s t → Counts s (record (after a x t s) { trace = t.trace })
+  after_counts (acts.Lower (OfPool p) b) x s t k d = (sub-le s.holds 1, λ e. gives_none s.holds (is_yes x) s.marks.count t.marks.count e d)
+  after_counts (acts.Lower (OfScope c o) b) x s t k d = absurd k
+  after_counts (acts.Lower (OfCast c o) b) x s t k d = absurd k
+  after_counts (acts.Raise k n) x s t a d = absurd a
+  after_counts _ x s t k d = (le_refl s.holds, λ e. refl)
+
+  does_counts : (a : Act) (x : Seen) (s t : Hands X G O F) → Needs a s → Does a x s t → Counts s t
+  does_counts a x s t k d = subst (λ (z : Hands X G O F). Counts s z) (sym d.0) (after_counts a x s t k d.1)
+
+  counts_then : (s t u : Hands X G O F) → Counts s t → Counts t u → Counts s u
+  counts_then s t u a b = (
+    le_trans b.0 a.0,
+    λ e.
+        let same : t.holds ≡ s.holds = le_antisymm a.0 (subst (λ (z : ℕ). z ≤ t.holds) e b.0) in
+        b.1 (e ∙ sym same) ∙ a.1 same,
+  )
+
+  -- a drive after which as many units stand for the worker's calls leaves its seat of the terminate count
+  pub drive_counts : (E : Move → Hand X G O F → Type 0) (h : PoolShape) (i : ℕ) (m : Move) (s u : Hands X G O F) (n : Move) → At E (Worker 0 i) s m → So h i m s n u → hand u ≡ hand s → u.marks.count ≡ s.marks.count
+  drive_counts E h i m s u n a d e = (driven_keeps (λ (b : Hands X G O F) x y c. Does x y b c) (λ (b : Hands X G O F). b.trace) (λ (v : Hands X G O F) k. At E (Worker 0 i) v k × Counts s v) h (Worker 0 i) (λ v k y e b. (at_stays E (Worker 0 i) v k y e b.0, b.1)) (λ v w y x r b f. let here = going E (Worker 0 i) v (Stay y) (ap not r) b.0 in (does_at E v w h 0 i y x here f, counts_then s v w b.1 (does_counts (act_of (Worker 0 i) y) x v w here.0 f))) m s u n (a, (le_refl s.holds, λ e. refl)) d).1.1 (ap (λ (z : Hand X G O F). z.holds) e)

@@ -1,39 +1,36 @@
 //! A worker's detached jobs: each has a unit of the terminate count of its own, which the spawn takes and the end of the job's
-//! run gives back. It stands in the pool's word, whatever units the worker's calls hold, since the job may outlast them.
-ghost use Rattle.std.specs.Prelude.{◌≡◌, ◌⊎◌, true, false, IfOk, IfErr, MatchResult};
-ghost use Rattle.rayon_drive.specs.Traces.{Adds};
-ghost use Rattle.rayon_machine_places.specs.Places.{finish};
-ghost use Rattle.rayon_machine_places.specs.declared.act.Act.TheVariants as acts;
-ghost use Rattle.rayon_machine_places.specs.declared.act.Seen.TheVariants as saw;
+//! run gives back. It stands in the pool's word, whatever units the worker's calls hold, since the job may outlast them; so
+//! while the spawn and that end last the job's unit stands in the place of theirs. And the end of each run.
+ghost use Rattle.std.specs.Prelude.{◌≡◌, ◌⊎◌, ◌+◌, ◌==◌, Bool, true, false, IfOk, IfErr, MatchResult};
 ghost use Rattle.rayon_machine_places.specs.declared.place.Count.TheVariants.{OfPool};
-ghost use Rattle.rayon_machine_places.specs.declared.place.Move.TheVariants.{Back, Stay};
+ghost use Rattle.rayon_machine_places.specs.declared.place.Move.TheVariants.{Back, HandBack, Stay};
 ghost use Rattle.rayon_machine_places.specs.declared.place.Party.TheVariants.{Worker};
 ghost use Rattle.rayon_machine_places.specs.declared.place.Place.TheVariants as at;
+ghost use Rattle.rayon_machine_places.specs.declared.place.Plan.TheVariants.{Detach};
 ghost use Rattle.rayon_machine_places.specs.declared.place.Share.TheVariants.{OfJob};
 ghost use Rattle.rayon_machine_places.specs.declared.place.Then.TheVariants.{Resume};
-ghost use Rattle.rayon_drive.specs.Paths.{Traced};
 ghost use Rattle.rayon_performers.specs.Finds.{StandsLast};
-ghost use Rattle.rayon_performers.specs.Hands.{Told, answer};
-ghost use Rattle.rayon_performers.specs.Marks.{GivesUnit, MissesUnit, TakesUnit};
+ghost use Rattle.rayon_performers.specs.Hands.{Told};
+ghost use Rattle.rayon_performers.specs.Marks.{GivesUnit, KeepsUnits, TakesUnit};
+ghost use Rattle.rayon_performers.specs.Paths.{WorkerGoes};
 ghost use Rattle.rayon_performers.specs.Seats.{Resting};
-ghost use Rattle.rayon_performers.specs.Spawns.{Spawned, Unspawned, detached_task};
-ghost use Rattle.rayon_performers.specs.Stands.{Last, hand};
+ghost use Rattle.rayon_performers.specs.Spawns.{CanClose, ClosesRun, ClosesUnit, Spawns, SpawnsNone, detached_task, done_after, with_units};
 ghost use Rattle.rayon_queues.specs.Deques.{SameDeque, Unmoved};
 
 use crate::bench::Bench;
 use crate::stretch::only_job;
 use rayon_jobs::JobKind;
-use rayon_machine_places::act::{Act, Seen};
-use rayon_machine_places::place::{Count, Party, Place, Plan, Share, Then};
-use rayon_tasks::{Ticket, task_of_job};
+use rayon_machine_places::place::{Ending, JobKind as Kind, Party, Plan, Then};
+use rayon_tasks::{Task, Ticket, task_of_job};
 use rayon_words::Refusal;
 use std::alloc::Global;
+use std::mem;
 use std::sync::Wait;
 
 impl<J: JobKind> Bench<J> {
     /// Spawns a detached job of this name: Raise, LookOwn, PushOwn, News and its wakes. Refused `NoRoom` before its Raise or
     /// at the push, `Ended`, `Full`, with the job back and nothing pushed; a unit of the terminate count that was taken is
-    /// given back.
+    /// given back. The units that the worker's calls hold are as before.
     pub fn spawn<R: Wait>(
         &mut self,
         rt: &R,
@@ -42,13 +39,12 @@ impl<J: JobKind> Bench<J> {
         job: J,
     ) -> Result<(), (Refusal, J)>
         requires { Resting self.old.chair }
-        ensures path { MatchResult result
-            (λ _. Spawned self.old.shape (Worker 0 self.old.index) name self.old.trace self.new.trace)
-            (λ _. Unspawned self.old.shape (Worker 0 self.old.index) name self.old.trace self.new.trace) }
+        ensures path { MatchResult result (λ _. Spawns name self.old self.new) (λ _. SpawnsNone name self.old self.new) }
         ensures pushed { MatchResult result
             (λ _. StandsLast self.old.own (detached_task job false (Worker 0 self.old.index) name) self.new.own)
             (λ e. (e.1 ≡ job) × Unmoved self.old.own self.new.own) }
         ensures left { SameDeque self.old.own self.new.own × (self.new ≡ record self.old { own = self.new.own; marks = self.new.marks; chair = self.new.chair; trace = self.new.trace }) }
+        ensures unit { MatchResult result (λ _. TakesUnit true self.old.marks.count self.new.marks.count) (λ _. KeepsUnits self.old.marks.count self.new.marks.count) }
         ensures rests { Resting self.new.chair }
         ensures refused { IfErr result (λ e. (e.0 ≡ Refusal.Ended) ⊎ ((e.0 ≡ Refusal.Full) ⊎ (e.0 ≡ Refusal.NoRoom))) }
     {
@@ -56,87 +52,95 @@ impl<J: JobKind> Bench<J> {
             Ok(ticket) => ticket,
             Err(refusal) => return Err((refusal, job)),
         };
-        if let Err(refusal) = self.raise_for_job(rt, name) {
-            return Err((refusal, job));
+        let held = self.exchange_units(0);
+        let spawned = self.queue_job(rt, name, task_of_job(job, false, ticket));
+        self.exchange_units(held);
+        match spawned {
+            Ok(()) => Ok(()),
+            Err((refusal, task)) => Err((refusal, only_job(task))),
         }
-        match self.push(rt, task_of_job(job, false, ticket)) {
+    }
+
+    // Takes a unit of the terminate count for the job of this name and puts its task into the own deque, by the units at
+    // hand. Refused `NoRoom`, `Ended`, `Full`, with the task back and nothing pushed; a unit that was taken is given back.
+    #[inline(always)]
+    fn queue_job<R: Wait>(
+        &mut self,
+        rt: &R,
+        name: u64,
+        task: Task<J>,
+    ) -> Result<(), (Refusal, Task<J>)>
+        requires name { task.ticket.number ≡ name }
+        requires rests { Resting self.old.chair }
+        ensures path { MatchResult result
+            (λ _. WorkerGoes (Stay (at.RaiseCount (Detach 0 name))) self.old self.new Back)
+            (λ _. WorkerGoes (Stay (at.RaiseCount (Detach 0 name))) self.old self.new (HandBack (Detach 0 name))) }
+        ensures pushed { MatchResult result (λ _. StandsLast self.old.own task self.new.own) (λ e. (e.1 ≡ task) × Unmoved self.old.own self.new.own) }
+        ensures left { SameDeque self.old.own self.new.own × MatchResult result
+            (λ _. self.new ≡ record self.old { own = self.new.own; holds = self.old.holds + 1; marks = self.new.marks; chair = self.new.chair; trace = self.new.trace })
+            (λ _. self.new ≡ record self.old { own = self.new.own; marks = self.new.marks; chair = self.new.chair; trace = self.new.trace }) }
+        ensures unit { MatchResult result (λ _. TakesUnit (self.old.holds == 0) self.old.marks.count self.new.marks.count) (λ _. KeepsUnits self.old.marks.count self.new.marks.count) }
+        ensures rests { Resting self.new.chair }
+        ensures refused { IfErr result (λ e. (e.0 ≡ Refusal.Ended) ⊎ ((e.0 ≡ Refusal.Full) ⊎ (e.0 ≡ Refusal.NoRoom))) }
+    {
+        if let Err(refusal) = self.raise(rt, name) {
+            return Err((refusal, task));
+        }
+        match self.push(rt, task) {
             Ok(()) => Ok(()),
             Err(task) => {
                 let plan = Plan::Detach { pool: 0, job: name };
-                self.lower_job_then(rt, name, Then::GiveBack(plan));
-                Err((Refusal::NoRoom, only_job(task)))
+                self.lower_then(rt, name, Then::GiveBack(plan));
+                Err((Refusal::NoRoom, task))
             }
         }
     }
 
-    /// The run of a detached job of this name has ended: its unit of the terminate count is given back, and where it was the
-    /// last the workers' terminate latches are set.
-    pub fn end_detached<R: Wait>(&mut self, rt: &R, job: u64)
-        requires { Resting self.old.chair }
-        ensures path { Traced self.old.shape (Worker 0 self.old.index) (Stay (at.LowerCount (OfPool 0) (OfJob job) Resume)) self.old.trace self.new.trace Back }
-        ensures same { Told self.old self.new }
-        ensures rests { Resting self.new.chair }
-    {
-        self.lower_job_then(rt, job, Then::Resume);
-    }
-
-    // Gives a job's unit of the terminate count back, and where it was the last sets the workers' terminate latches, before
-    // this follows.
-    fn lower_job_then<R: Wait>(&mut self, rt: &R, job: u64, then: Then)
-        requires last { Last (hand self.old) (finish (Worker 0 self.old.index) then) }
+    /// The end of a run of this kind, whose job has this name and ended so. Where a call waits for the job the result at hand
+    /// goes where the call looks for it, the call's latch is set, and its owner is woken where it slept. A detached job's unit
+    /// of the terminate count is given back, and where it was the last the workers' terminate latches are set. Of a job that
+    /// was in no queue nothing is done: the call below goes on.
+    pub fn close<R: Wait>(&mut self, rt: &R, kind: Kind, job: u64, ending: Ending)
+        requires asks { CanClose kind ending self.old }
         requires rests { Resting self.old.chair }
-        ensures path { Traced self.old.shape (Worker 0 self.old.index) (Stay (at.LowerCount (OfPool 0) (OfJob job) then)) self.old.trace self.new.trace (finish (Worker 0 self.old.index) then) }
-        ensures same { Told self.old self.new }
+        ensures path { ClosesRun kind job ending self.old self.new }
+        ensures left { self.new ≡ record self.old { done = done_after kind self.old.done; marks = self.new.marks; trace = self.new.trace } }
+        ensures unit { ClosesUnit kind self.old.marks.count self.new.marks.count }
         ensures rests { Resting self.new.chair }
     {
-        let shape = self.shape;
-        let index = self.index;
-        if self.lower_for_job(rt, job) {
-            let place = Place::LowerCount {
-                count: Count::OfPool(0),
-                share: Share::OfJob(job),
-                then,
-            };
-            self.finish_from(rt, shape, index, place, Seen::Yes, then);
+        match kind {
+            Kind::Stored { call, owner } => self.tell(rt, call, owner, ending),
+            Kind::Detached(_) => self.end_detached(rt, job),
+            Kind::Direct => {}
+            Kind::Scoped { .. }
+            | Kind::BodyOf { .. }
+            | Kind::PieceOf { .. }
+            | Kind::WholeOf { .. }
+            | Kind::TokenOf { .. } => unreachable!(),
         }
     }
 
-    // Takes a unit of the terminate count for a job, in the pool's own count. Refused `Ended`, `Full`.
-    fn raise_for_job<R: Wait>(&mut self, rt: &R, job: u64) -> Result<(), Refusal>
-        ensures left { self.new ≡ record self.old { marks = record { set = self.old.marks.set; count = self.new.marks.count }; trace = self.new.trace } }
-        ensures unit { MatchResult result (λ _. TakesUnit true self.old.marks.count self.new.marks.count) (λ _. MissesUnit true self.old.marks.count self.new.marks.count) }
-        ensures adds { MatchResult result (λ _. Adds (acts.Raise (OfPool 0) job) saw.Done self.old.trace self.new.trace) (λ _. Adds (acts.Raise (OfPool 0) job) saw.Refused self.old.trace self.new.trace) }
-        ensures refused { IfErr result (λ r. (r ≡ Refusal.Ended) ⊎ (r ≡ Refusal.Full)) }
+    // The end of the run of a detached job of this name.
+    #[inline(always)]
+    fn end_detached<R: Wait>(&mut self, rt: &R, job: u64)
+        requires { Resting self.old.chair }
+        ensures path { WorkerGoes (Stay (at.LowerCount (OfPool 0) (OfJob job) Resume)) (with_units 1 self.old) (with_units 0 self.new) Back }
+        ensures same { Told self.old self.new }
+        ensures unit { (b : Bool) × GivesUnit true b self.old.marks.count self.new.marks.count }
+        ensures rests { Resting self.new.chair }
     {
-        let act = Act::Raise {
-            count: Count::OfPool(0),
-            job,
-        };
-        match self.registry.increment_terminate_count(rt, &mut self.count) {
-            Ok(()) => {
-                self.add(act, Seen::Done);
-                Ok(())
-            }
-            Err(refusal) => {
-                self.add(act, Seen::Refused);
-                Err(refusal)
-            }
-        }
+        let kept = self.exchange_units(1);
+        self.lower_then(rt, job, Then::Resume);
+        self.exchange_units(kept);
     }
 
-    // Gives a job's unit of the terminate count back, in the pool's own count. True exactly if it was the last.
-    fn lower_for_job<R: Wait>(&mut self, rt: &R, job: u64) -> bool
-        ensures left { self.new ≡ record self.old { marks = record { set = self.old.marks.set; count = self.new.marks.count }; trace = self.new.trace } }
-        ensures unit { GivesUnit true result self.old.marks.count self.new.marks.count }
-        ensures adds { Adds (acts.Lower (OfPool 0) (OfJob job)) (answer result) self.old.trace self.new.trace }
+    // So many units stand for those that the worker's calls hold. Answers how many stood there.
+    #[inline(always)]
+    fn exchange_units(&mut self, units: u64) -> u64
+        ensures bench { self.new ≡ with_units units self.old }
+        ensures given { result ≡ self.old.holds }
     {
-        let was_last = self.registry.decrement_terminate_count(rt, &mut self.count);
-        let act = Act::Lower {
-            count: Count::OfPool(0),
-            share: Share::OfJob(job),
-        };
-        self.add(act, if was_last { Seen::Yes } else { Seen::No });
-        was_last
+        mem::replace(&mut self.holds, units)
     }
 
     // The ticket of the worker's detached job of this name: a share of the one that it keeps. Refused `NoRoom`.

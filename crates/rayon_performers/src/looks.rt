@@ -89,6 +89,7 @@ impl<J: JobKind> Bench<J> {
             (λ _. WorkerGoes (Stay (at.LookQueue (Detach 0 task.ticket.number))) self.old self.new (Stay (undo (Detach 0 task.ticket.number)))) }
         ensures pushed { MatchResult result (λ _. StandsLast self.old.own task self.new.own) (λ back. (back ≡ task) × Unmoved self.old.own self.new.own) }
         ensures left { SameDeque self.old.own self.new.own × (self.new ≡ record self.old { own = self.new.own; marks = self.new.marks; chair = self.new.chair; trace = self.new.trace }) }
+        ensures count { self.new.marks.count ≡ self.old.marks.count }
         ensures rests { Resting self.new.chair }
     {
         let name = task.number();
@@ -104,6 +105,7 @@ impl<J: JobKind> Bench<J> {
         requires { Resting self.old.chair }
         ensures path { WorkerGoes (Stay (at.TellNews (Detach 0 name) was_empty)) self.old self.new Back }
         ensures same { self.new ≡ record self.old { marks = self.new.marks; chair = self.new.chair; trace = self.new.trace } }
+        ensures count { self.new.marks.count ≡ self.old.marks.count }
         ensures rests { Resting self.new.chair }
     {
         let shape = self.shape;

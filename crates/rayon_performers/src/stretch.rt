@@ -1,6 +1,6 @@
 //! Programs of the table, as far as the next run: by a drive, and the hot ones as straight stretches of a worker's own
 //! acts.
-ghost use Rattle.std.specs.Prelude.{◌≡◌, ◌⊎◌, ◌↔◌, ◌+◌, ◌-◌, ◌++◌, [], ◌∷◌, None, Some, IsTrue, IfErr, IfOk, MatchResult, false};
+ghost use Rattle.std.specs.Prelude.{◌≡◌, ◌⊎◌, ◌↔◌, ◌+◌, ◌-◌, ◌==◌, ◌++◌, [], ◌∷◌, Bool, None, Some, IsTrue, IfErr, IfOk, MatchResult, false};
 ghost use Rattle.rayon_drive.specs.Paths.{goes};
 ghost use Rattle.rayon_machine_places.specs.Places.{finish, fresh, next_of, taken_number};
 ghost use Rattle.rayon_tasks.specs.Tasks.{OneJob};
@@ -17,6 +17,7 @@ ghost use Rattle.rayon_machine_places.specs.declared.place.Target.TheVariants.{T
 ghost use Rattle.rayon_performers.specs.Calls.{IsJobOf, IsOneJob, own_call, own_join};
 ghost use Rattle.rayon_performers.specs.Finds.{StandsLast};
 ghost use Rattle.rayon_performers.specs.Hands.{Does, HasResult, HasTask, HasTicket, Same, Told, kind_of};
+ghost use Rattle.rayon_performers.specs.Marks.{GivesUnit, KeepsUnits, MissesUnit, TakesUnit};
 ghost use Rattle.rayon_performers.specs.Paths.{WorkerGoes, WorkerGoesIn};
 ghost use Rattle.rayon_performers.specs.Seats.{Resting};
 ghost use Rattle.rayon_performers.specs.Stands.{Anyhow, At, EndsIn, Last, Stands, call_to, hand};
@@ -128,6 +129,7 @@ impl<J: JobKind> Bench<J> {
         requires ends { EndsIn (Worker 0 index) (finish (Worker 0 index) then) self.old (next_of shape (Worker 0 index) place seen) }
         ensures path { WorkerGoesIn shape index (next_of shape (Worker 0 index) place seen) self.old self.new (finish (Worker 0 index) then) }
         ensures same { Told self.old self.new }
+        ensures count { self.new.marks.count ≡ self.old.marks.count }
         ensures rests { Resting self.new.chair }
     {
         self.go_on_from(rt, shape, index, place, seen);
@@ -141,6 +143,7 @@ impl<J: JobKind> Bench<J> {
         requires rests { Resting self.old.chair }
         ensures path { WorkerGoes (Stay (at.LowerCount (OfPool 0) (OfJob job) then)) self.old self.new (finish (Worker 0 self.old.index) then) }
         ensures same { self.new ≡ record self.old { holds = self.old.holds - 1; marks = self.new.marks; trace = self.new.trace } }
+        ensures unit { (b : Bool) × GivesUnit (self.old.holds == 1) b self.old.marks.count self.new.marks.count }
         ensures rests { Resting self.new.chair }
     {
         let shape = self.shape;
@@ -180,6 +183,7 @@ impl<J: JobKind> Bench<J> {
         ensures left { MatchResult result
             (λ _. self.new ≡ record self.old { own = self.new.own; holds = self.old.holds + 1; marks = self.new.marks; chair = self.new.chair; trace = self.new.trace })
             (λ _. self.new ≡ record self.old { own = self.new.own; marks = self.new.marks; trace = self.new.trace }) }
+        ensures unit { MatchResult result (λ _. TakesUnit (self.old.holds == 0) self.old.marks.count self.new.marks.count) (λ _. KeepsUnits self.old.marks.count self.new.marks.count) }
         ensures rests { Resting self.new.chair }
         ensures refused { IfErr result (λ e. (e.0 ≡ Refusal.Ended) ⊎ ((e.0 ≡ Refusal.Full) ⊎ (e.0 ≡ Refusal.NoRoom))) }
     {
@@ -211,6 +215,7 @@ impl<J: JobKind> Bench<J> {
         requires { Resting self.old.chair }
         ensures path { WorkerGoes (Stay (at.TellNews (own_join name) was_empty)) self.old self.new (StartRun (at.FirstSide (own_call name) name) name) }
         ensures same { self.new ≡ record self.old { marks = self.new.marks; chair = self.new.chair; trace = self.new.trace } }
+        ensures count { self.new.marks.count ≡ self.old.marks.count }
         ensures rests { Resting self.new.chair }
     {
         let shape = self.shape;
@@ -239,6 +244,7 @@ impl<J: JobKind> Bench<J> {
             (λ _. WorkerGoes (Stay (at.RaiseCount (Here 0 name))) self.old self.new (Enter (at.AtOnce 0 name) (at.BeginHere name)))
             (λ _. WorkerGoes (Stay (at.RaiseCount (Here 0 name))) self.old self.new (HandBack (Here 0 name))) }
         ensures left { MatchResult result (λ _. self.new ≡ record self.old { holds = self.old.holds + 1; marks = self.new.marks; trace = self.new.trace }) (λ _. Told self.old self.new) }
+        ensures unit { MatchResult result (λ _. TakesUnit (self.old.holds == 0) self.old.marks.count self.new.marks.count) (λ _. MissesUnit (self.old.holds == 0) self.old.marks.count self.new.marks.count) }
         ensures refused { IfErr result (λ r. (r ≡ Refusal.Ended) ⊎ (r ≡ Refusal.Full)) }
     {
         self.raise(rt, name)
@@ -266,14 +272,14 @@ impl<J: JobKind> Bench<J> {
         self.begin(name);
     }
 
-    /// The end of the run of a task that was taken: the result at hand goes where its call looks for it, the call's
-    /// latch is set, and its owner is woken where it slept.
-    pub fn tell<R: Wait>(&mut self, rt: &R, call: u64, owner: Party, ending: Ending)
+    // The end of the run of a task for which a call waits.
+    pub(crate) fn tell<R: Wait>(&mut self, rt: &R, call: u64, owner: Party, ending: Ending)
         requires reply { HasTicket self.old.reply (Some call) }
         requires done { HasResult self.old.done (Some ending) }
         requires rests { Resting self.old.chair }
         ensures path { WorkerGoes (Stay (at.StoreResult call owner ending)) self.old self.new Back }
         ensures same { self.new ≡ record self.old { done = None; marks = self.new.marks; trace = self.new.trace } }
+        ensures count { self.new.marks.count ≡ self.old.marks.count }
         ensures rests { Resting self.new.chair }
     {
         let shape = self.shape;

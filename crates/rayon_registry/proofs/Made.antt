@@ -6,7 +6,7 @@ use Rattle.rayon_words.specs.declared.refusal.CallError.{CallError}
 use Rattle.rayon_machine_places.specs.declared.place.Ending.{Ending}
 use Rattle.rayon_machine_places.specs.declared.place.Ending.TheVariants.{Fine}
 use Rattle.rayon_machine_places.specs.declared.place.JobKind.{JobKind}
-use Rattle.rayon_machine_places.specs.declared.place.JobKind.TheVariants.{Detached, Direct, Stored}
+use Rattle.rayon_machine_places.specs.declared.place.JobKind.TheVariants.{BodyOf, Detached, Direct, PieceOf, Scoped, Stored, TokenOf, WholeOf}
 use Rattle.rayon_machine_places.specs.declared.place.OpenCall.{OpenCall}
 use Rattle.rayon_machine_places.specs.declared.place.Plan.TheVariants.{Detach}
 use Rattle.rayon_machine_places.specs.declared.place.Share.TheVariants.{OfJob}
@@ -31,11 +31,11 @@ use Rattle.rayon_tasks.specs.Tasks.{TaskOf}
 use Rattle.rayon_tasks.specs.Tickets.{TicketOf, kind_in}
 use Rattle.rayon_performers.specs.Hands.{Hands, HasTask, kind_of}
 use Rattle.rayon_performers.specs.Paths.{WorkerGoes}
-use Rattle.rayon_performers.specs.Spawns.{Unspawned}
+use Rattle.rayon_performers.specs.Spawns.{ClosesRun, Spawned, Spawns, SpawnsNone, with_units}
 use Rattle.rayon_performers.specs.Stands.{Stands}
 use Rattle.rayon_performers.specs.Waits.{Waited, units_after}
 use Rattle.rayon_performers.proofs.Stretches.{So, traced}
-use Rattle.rayon_registry.specs.Acts.{CallMade, Closes, HandedBack, Lowered, Worked, wait_end}
+use Rattle.rayon_registry.specs.Acts.{CallMade, Closes, HandedBack, HasRun, Lowered, Worked, wait_end}
 use Rattle.rayon_registry.specs.Worker.{AfterWait, Worker as WorkerValue}
 
 module _ {X G O F : Type 0} (h : PoolShape) (i : ℕ) (m : Move) (s t : Hands X G O F) where
@@ -62,10 +62,53 @@ pub if_err : {A B : Type 0} (Q : Type 0) (r : Result A B) → Q → IfErr r (λ 
 if_err Q (Err e) q = q
 if_err Q (Ok x) q = tt
 
--- a refused spawn has made the acts of a call that is handed back
-pub unspawned : (h : PoolShape) (i n : ℕ) (v w : Log) → Unspawned h (Worker 0 i) n v w → HandedBack h (Worker 0 i) (Detach 0) v w
-unspawned h i n v w (inl e) = inl e
-unspawned h i n v w (inr d) = inr (n, d)
+module _ {X G O F : Type 0} (n : ℕ) (s t : Hands X G O F) where
+  -- a spawn, whatever unit it had at hand
+  pub spawned : Spawns n s t → Spawned s.shape (Worker 0 s.index) n s.trace t.trace
+  spawned d = traced s.shape s.index (Stay (at.RaiseCount (Detach 0 n))) (with_units 0 s) (with_units 1 t) Back d
+
+  -- a refused one has made the acts of a call that is handed back
+  pub unspawned : SpawnsNone n s t → HandedBack s.shape (Worker 0 s.index) (Detach 0) s.trace t.trace
+  unspawned (inl e) = inl (ap (λ (z : Hands X G O F). z.trace) e)
+  unspawned (inr d) = inr (n, traced s.shape s.index (Stay (at.RaiseCount (Detach 0 n))) (with_units 0 s) (with_units 0 t) (HandBack (Detach 0 n)) d)
+
+  -- the end of a run
+  pub closes : (k : JobKind) (e : Ending) → HasRun k → ClosesRun k n e s t → Closes s.shape (Worker 0 s.index) n k e s.trace t.trace
+  closes (Detached p) e r d = (tt, traced s.shape s.index (Stay (at.LowerCount (OfPool p) (OfJob n) Resume)) (with_units 1 s) (with_units 0 t) Back d)
+  closes (Stored c o) e r d = (tt, traced s.shape s.index (Stay (at.StoreResult c o e)) s t Back d)
+  closes (Scoped c o) e r d = (tt, traced s.shape s.index (Stay (at.StoreSlot c o n e)) s t Back d)
+  closes (PieceOf c o) e r d = (tt, traced s.shape s.index (Stay (at.StorePiece c o n e)) s t Back d)
+  closes Direct e r d = (tt, ap (λ (z : Hands X G O F). z.trace) d)
+  closes (BodyOf c o) e r d = (tt, ap (λ (z : Hands X G O F). z.trace) d)
+  closes (WholeOf c o) e r d = absurd r
+  closes (TokenOf i b) e r d = absurd r
+
+-- a job that a worker took has a run
+pub has_run : (t : TicketOf) → HasRun (kind_in t)
+has_run t = by t.detached
+  where
+    by : (b : Bool) → HasRun (elim b [ true ↦ Detached 0 | false ↦ Stored t.number t.owner ])
+    by true = tt
+    by false = tt
+
+-- the pool of a detached job is the own one
+abbrev pool_in : JobKind → ℕ
+pool_in (Detached p) = p
+pool_in _ = 0
+
+pub own_pool : (k : JobKind) (t : TicketOf) (p : ℕ) → k ≡ kind_in t → k ≡ Detached p → p ≡ 0
+own_pool k t p e f = by t.detached (subst (λ (z : JobKind). z ≡ Detached p) e f)
+  where
+    by : (b : Bool) → elim b [ true ↦ Detached 0 | false ↦ Stored t.number t.owner ] ≡ Detached p → p ≡ 0
+    by true g = sym (ap pool_in g)
+    by false g = sym (ap pool_in g)
+
+-- the acts of a run's end, said of equal kinds and endings
+pub closes_so : (h : PoolShape) (q : Party) (t r : ℕ) (k o : JobKind) (e f : Ending) (v w : Log) → t ≡ r → k ≡ o → e ≡ f → Closes h q t k e v w → Closes h q r o f v w
+closes_so h q t r k o e f v w a b c d =
+    subst (λ (z : Ending). Closes h q r o z v w) c
+    (subst (λ (z : JobKind). Closes h q r z e v w) b
+    (subst (λ (z : ℕ). Closes h q z k e v w) a d))
 
 -- what a call has made, by what it answers
 pub made_fine : {O F B : Type 0} (P Q R : Type 0) (r : Result O (CallError F B)) (x : O) → r ≡ Ok x → P → CallMade P Q R r
@@ -137,13 +180,6 @@ closes_as h k i j t r o e v w a b c d =
     (subst (λ (z : PoolShape). Closes z (Worker 0 j) t o e v w) b
     (subst (λ (z : ℕ). Closes h (Worker 0 z) t o e v w) a d))
 
--- the acts of the end of a detached job's run, and of one for which a call waits, by the ticket
-pub closes_detached : (h : PoolShape) (q : Party) (t : TicketOf) (e : Ending) (v w : Log) → t.detached ≡ true → Traced h q (Stay (at.LowerCount (OfPool 0) (OfJob t.number) Resume)) v w Back → Closes h q t.number (kind_in t) e v w
-closes_detached h q t e v w d m = subst (λ (b : Bool). Closes h q t.number (elim b [ true ↦ Detached 0 | false ↦ Stored t.number t.owner ]) e v w) (sym d) m
-
-pub closes_call : (h : PoolShape) (q : Party) (t : TicketOf) (e : Ending) (v w : Log) → t.detached ≡ false → Traced h q (Stay (at.StoreResult t.number t.owner e)) v w Back → Closes h q t.number (kind_in t) e v w
-closes_call h q t e v w d m = subst (λ (b : Bool). Closes h q t.number (elim b [ true ↦ Detached 0 | false ↦ Stored t.number t.owner ]) e v w) (sym d) m
-
 -- a task in hand has the number by which it was taken
 module _ {X : Type 0} where
   pub named : (x : TaskOf X) (k : Taken) → HasTask (Some x) (Some k) → x.ticket.number ≡ taken_number k
@@ -181,7 +217,7 @@ runs_second h q o v u w e a l =
     let x = l.1 in
     let y = l.2 in
     let end = subst (λ (p : ℕ). Worked h q (Stay (at.LowerCount (OfPool p) (OfJob o.job) (Answers o (Some Fine) l.0))) y w Back) (sym e) (last h q first y w Back l.5) in
-    (record { begins = Enter (at.SecondSide o) (at.BeginHere o.job); job = o.job; kind = Direct; ended = l.0; lent = x; over = y } ∷ end.0, (u, y, a, (l.3, l.4, refl), end.1))
+    (record { begins = Enter (at.SecondSide o) (at.BeginHere o.job); job = o.job; kind = Direct; ended = l.0; lent = x; over = y } ∷ end.0, (u, y, a, (l.3, l.4, (tt, refl)), end.1))
 
 pub lowered_as : (h k : PoolShape) (i j : ℕ) (o : OpenCall) (v w : Log) → i ≡ j → h ≡ k → Lowered h (Worker 0 i) o v w → Lowered k (Worker 0 j) o v w
 lowered_as h k i j o v w e f a = subst (λ (z : PoolShape). Lowered z (Worker 0 j) o v w) f (subst (λ (z : ℕ). Lowered h (Worker 0 z) o v w) e a)

@@ -1,21 +1,21 @@
 -- The acts that a worker made in a call, where runs of jobs lie between them.
 use Rattle.rayon_machine_places.specs.declared.place.Count.TheVariants.{OfPool}
-use Rattle.std.specs.Prelude.{ℕ, List, [], ◌∷◌, Bool, true, false, Some, Result, Ok, Err, ◌≡◌, ◌⊎◌}
+use Rattle.std.specs.Prelude.{ℕ, List, [], ◌∷◌, Bool, true, false, None, Some, Result, Ok, Err, ◌≡◌, ◌⊎◌}
 use Rattle.rayon_words.specs.declared.refusal.CallError.{CallError}
 use Rattle.rayon_machine_places.specs.declared.place.Ending.{Ending}
 use Rattle.rayon_machine_places.specs.declared.place.Ending.TheVariants.{Fine, Fault}
 use Rattle.rayon_machine_places.specs.declared.place.JobKind.{JobKind}
-use Rattle.rayon_machine_places.specs.declared.place.JobKind.TheVariants.{BodyOf, Detached, Direct, PieceOf, Scoped, Stored, TokenOf, WholeOf}
+use Rattle.rayon_machine_places.specs.declared.place.JobKind.TheVariants.{Direct, TokenOf, WholeOf}
 use Rattle.rayon_machine_places.specs.declared.place.OpenCall.{OpenCall}
 use Rattle.rayon_machine_places.specs.declared.place.Plan.{Plan}
 use Rattle.rayon_machine_places.specs.declared.place.Plan.TheVariants.{Here}
 use Rattle.rayon_machine_places.specs.declared.place.Share.TheVariants.{OfJob}
-use Rattle.rayon_machine_places.specs.declared.place.Then.TheVariants.{Answers, Ran, Resume}
+use Rattle.rayon_machine_places.specs.declared.place.Then.TheVariants.{Answers, Ran}
 use Rattle.rayon_machine_places.specs.declared.place.Party.{Party}
 use Rattle.rayon_machine_places.specs.declared.place.Move.{Move}
 use Rattle.rayon_machine_places.specs.declared.place.Move.TheVariants.{Stay, Enter, StartRun, Back, HandBack}
 use Rattle.rayon_machine_places.specs.declared.shape.PoolShape.{PoolShape}
-use Rattle.rayon_machine_places.specs.declared.place.Place.TheVariants.{AtOnce, BeginHere, FirstSide, LowerCount, RaiseCount, Run, Stopped, StoreResult, StoreSlot, StorePiece}
+use Rattle.rayon_machine_places.specs.declared.place.Place.TheVariants.{AtOnce, BeginHere, FirstSide, LowerCount, RaiseCount, Run, Stopped}
 use Rattle.rayon_machine_places.specs.declared.place.Target.{Target}
 use Rattle.rayon_machine_places.specs.declared.place.Target.TheVariants.{Termination, Answer}
 use Rattle.rayon_machine_places.specs.Places.{goes_on}
@@ -23,6 +23,7 @@ use Rattle.rayon_drive.specs.declared.trace.Log.{Log}
 use Rattle.rayon_drive.specs.Traces.{AddsRun}
 use Rattle.rayon_drive.specs.Paths.{Traced}
 use Rattle.rayon_performers.specs.Calls.{own_call, own_join}
+use Rattle.rayon_performers.specs.Spawns.{closing}
 
 -- a run that lay above a frame of a program: the move by which it began; its job, and what the end of its run set going; how
 -- it ended; and the worker's acts when the job was lent the worker, and when it ended. What the job itself does with the
@@ -41,18 +42,16 @@ below (Enter f p) e = Stay (goes_on f e)
 below (StartRun f t) e = Stay (goes_on f e)
 below m e = m
 
--- the acts that the end of a run of this job adds: a share of the count is given back, or its ending is stored for the call
--- that waits for it or in its scope's book, or none, where the call below goes on. A token has no run, and the number that
--- stands for a broadcast has none
+-- whether a job of this kind has a run: a token has none, and the number that stands for a broadcast has none
+abbrev pub HasRun : JobKind → Type 0
+HasRun (WholeOf c o) = ⊥
+HasRun (TokenOf i b) = ⊥
+HasRun _ = Unit {0}
+
+-- the acts that the end of a run of this job adds: those from the place where the end begins to the frame below, or none
+-- where the call below goes on
 abbrev pub Closes : PoolShape → Party → ℕ → JobKind → Ending → Log → Log → Type 0
-Closes h q t (Detached p) e v w = Traced h q (Stay (LowerCount (OfPool p) (OfJob t) Resume)) v w Back
-Closes h q t (Stored c o) e v w = Traced h q (Stay (StoreResult c o e)) v w Back
-Closes h q t (Scoped c o) e v w = Traced h q (Stay (StoreSlot c o t e)) v w Back
-Closes h q t Direct e v w = w ≡ v
-Closes h q t (PieceOf c o) e v w = Traced h q (Stay (StorePiece c o t e)) v w Back
-Closes h q t (BodyOf c o) e v w = w ≡ v
-Closes h q t (WholeOf c o) e v w = ⊥
-Closes h q t (TokenOf i b) e v w = ⊥
+Closes h q t k e v w = HasRun k × elim (closing k t e) [ None ↦ w ≡ v | Some p ↦ Traced h q (Stay p) v w Back ]
 
 -- what a run adds: the acts by which it begins, the entry of the run itself, and the acts of its end. The run of a first
 -- side begins and ends with none

@@ -8,12 +8,13 @@ ghost use Rattle.rayon_machine_places.specs.declared.place.Move.TheVariants.{Bac
 ghost use Rattle.rayon_machine_places.specs.declared.place.Party.TheVariants.{Worker};
 ghost use Rattle.rayon_machine_places.specs.declared.place.Place.TheVariants as at;
 ghost use Rattle.rayon_performers.specs.Calls.{own_join};
+ghost use Rattle.rayon_performers.specs.Marks.{TakesUnit};
 ghost use Rattle.rayon_registry.specs.Acts.{CallMade, HandedBack, Joined, Lowered, Met, Offered, Worked, ended_so};
 ghost use Rattle.rayon_registry.specs.Joins.{joins_by};
 ghost use Rattle.rayon_registry.specs.Answers.{joined, JoinAnswers};
 ghost use Rattle.rayon_registry.specs.Worker.{EndedCall, Kept, SameWorker};
 ghost use Rattle.rayon_tasks.specs.Tasks.{OneJob};
-ghost use Rattle.std.specs.Prelude.{◌≡◌, ◌⊎◌, ℕ, ◌≤◌, ◌<◌, [], ◌∷◌, ◌++◌, ◌+◌, ◌-◌, Bool, Result, Ok, Err, IfOk, IfErr, MatchResult, suc, true, false};
+ghost use Rattle.std.specs.Prelude.{◌≡◌, ◌⊎◌, ℕ, ◌≤◌, ◌<◌, [], ◌∷◌, ◌++◌, ◌+◌, ◌-◌, ◌==◌, Bool, Result, Ok, Err, IfOk, IfErr, MatchResult, suc, true, false};
 
 use crate::answers::join_answer;
 use crate::context::{Context, FnContext, Scope};
@@ -94,7 +95,7 @@ impl<J: JobKind> WorkerThread<J> {
     // Takes a unit of the terminate count, makes the ticket, pushes the second side, and tells the others of it.
     // Refused as a join is.
     #[inline(always)]
-    #[tactic(auto, unfolding(crate::specs::Pushes::pushed_by, crate::specs::Pushes::left_to, crate::specs::Pushes::takes_oldest, crate::specs::Pushes::units_of, crate::specs::Pushes::shape_at, crate::specs::Pushes::seat_of, crate::specs::Pushes::acts_of, crate::specs::Pushes::saw_set))]
+    #[tactic(auto, unfolding(crate::specs::Pushes::pushed_by, crate::specs::Pushes::left_to, crate::specs::Pushes::takes_oldest, crate::specs::Pushes::units_of, crate::specs::Pushes::count_of, crate::specs::Pushes::shape_at, crate::specs::Pushes::seat_of, crate::specs::Pushes::acts_of, crate::specs::Pushes::saw_set))]
     fn fork<R: Wait>(
         &mut self,
         rt: &R,
@@ -103,8 +104,10 @@ impl<J: JobKind> WorkerThread<J> {
         injected: bool,
     ) -> Result<Fork<J>, (Refusal, J)>
         ensures forked { IfOk result (λ f. (f.tag ≡ J.tag_of b) × (0 < self.old.levels)) }
-        ensures pushed { IfOk result (λ f. self.new ≡ record self.old { pushed = self.old.pushed ++ record { work = OneJob b; injected = injected; ticket = f.call.ticket } ∷ []; left = self.old.left ++ record { work = OneJob b; injected = injected; ticket = f.call.ticket } ∷ []; units = self.old.units + 1; acts = self.new.acts }) }
-        ensures back { IfErr result (λ e. (e.1 ≡ b) × Kept self.old self.new) }
+        ensures pushed { IfOk result (λ f. self.new ≡ record self.old { pushed = self.old.pushed ++ record { work = OneJob b; injected = injected; ticket = f.call.ticket } ∷ []; left = self.old.left ++ record { work = OneJob b; injected = injected; ticket = f.call.ticket } ∷ []; units = self.old.units + 1; count = self.new.count; acts = self.new.acts }) }
+        ensures unit { IfOk result (λ _. TakesUnit (self.old.units == 0) self.old.count self.new.count) }
+        ensures back { IfErr result (λ e. e.1 ≡ b) }
+        ensures kept { IfErr result (λ _. Kept self.old self.new) }
         ensures deep { self.old.levels ≡ 0 → result ≡ Err (Refusal.TooDeep, b) }
         ensures shallow { IfErr result (λ e. e.0 ≡ Refusal.TooDeep → self.old.levels ≡ 0) }
         ensures path { MatchResult result

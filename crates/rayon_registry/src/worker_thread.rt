@@ -1,13 +1,11 @@
 //! The value that stands for a worker.
 ghost use Rattle.rayon_performers.specs.Hands.{HasTicket};
-ghost use Rattle.rayon_performers.specs.Spawns.{Spawned, detached_task};
+ghost use Rattle.rayon_performers.specs.Marks.{TakesUnit};
+ghost use Rattle.rayon_performers.specs.Spawns.{ClosesUnit, Spawned, detached_task};
 ghost use Rattle.rayon_performers.specs.Stands.{call_to};
 ghost use Rattle.rayon_queues.specs.Deques.{Leaves};
 ghost use Rattle.rayon_tasks.specs.Calls.{ticket_in};
 ghost use Rattle.rayon_tasks.specs.Tickets.{kind_in};
-ghost use Rattle.rayon_machine_places.specs.declared.place.Count.TheVariants.{OfPool};
-ghost use Rattle.rayon_machine_places.specs.declared.place.Share.TheVariants.{OfJob};
-ghost use Rattle.rayon_machine_places.specs.declared.place.Then.TheVariants.{Resume};
 ghost use Rattle.rayon_machine_places.specs.Places.{fresh, undo};
 ghost use Rattle.rayon_machine_places.specs.declared.place.Move.TheVariants.{Back, Stay};
 ghost use Rattle.rayon_machine_places.specs.declared.place.Party.TheVariants.{Worker};
@@ -34,7 +32,7 @@ use crate::job::Waits;
 use crate::join::PairRun;
 use crate::pool_ref::{PoolRef, PoolShare};
 use rayon_jobs::{Done, JobKind};
-use rayon_machine_places::place::{Ending, Move, Place, Target, Then};
+use rayon_machine_places::place::{Ending, JobKind as Kind, Move, Place, Target, Then};
 use rayon_performers::{Aside, Bench, WorkerKit};
 use rayon_sleep::latch::{OwnLatch, Owner};
 use rayon_tasks::{Call, Names, Pair, Task, Ticket, Work, task_parts};
@@ -44,8 +42,8 @@ use std::marker::Model;
 use std::sync::Wait;
 
 /// A worker of a pool, lent to each run. Contracts see whose it is, the levels that are left, the tasks that it pushed,
-/// those of them that it did not take back, the units of the terminate count that its calls hold, and the acts that it
-/// made since it was lent.
+/// those of them that it did not take back, the units of the terminate count that its calls hold, its seat of that count, and
+/// the acts that it made since it was lent.
 #[derive(Drop)]
 pub struct WorkerThread<J: JobKind> {
     pub(crate) id: WorkerId,
@@ -60,13 +58,13 @@ impl<J: JobKind> Model for WorkerThread<J> {
     ghost use Rattle.rayon_tasks.specs.Tasks.{TaskOf};
     ghost use Rattle.std.specs.Coded.{codes};
     ghost use Rattle.rayon_drive.specs.contracts.trace.Log as logs;
-    ghost use Rattle.rayon_registry.specs.Pushes.{acts_of, left_to, pushed_by, rests, saw_set, seat_of, shape_at, takes_oldest, units_of};
+    ghost use Rattle.rayon_registry.specs.Pushes.{acts_of, count_of, left_to, pushed_by, rests, saw_set, seat_of, shape_at, takes_oldest, units_of};
 
     ghost Value = { Worker (TaskOf J) };
 
     ghost coded = { Prim.hlevel (codes, logs.the_row.coded) };
 
-    ghost view = { λ w. record { id = w.id; levels = w.levels; pushed = pushed_by w.bench; left = left_to w.bench; oldest_first = takes_oldest w.bench; units = units_of w.bench; shape = shape_at w.bench; seat = seat_of w.bench; acts = acts_of w.bench; probed = saw_set w.bench } };
+    ghost view = { λ w. record { id = w.id; levels = w.levels; pushed = pushed_by w.bench; left = left_to w.bench; oldest_first = takes_oldest w.bench; units = units_of w.bench; count = count_of w.bench; shape = shape_at w.bench; seat = seat_of w.bench; acts = acts_of w.bench; probed = saw_set w.bench } };
 
     ghost invariant = { λ w. rests w.bench };
 }
@@ -107,7 +105,7 @@ impl<J: JobKind> WorkerThread<J> {
 
     // Lends the worker value to a run: it has one level fewer, and the run's acts stand apart from those before it.
     #[inline(always)]
-    #[tactic(auto, unfolding(crate::specs::Pushes::pushed_by, crate::specs::Pushes::left_to, crate::specs::Pushes::takes_oldest, crate::specs::Pushes::units_of, crate::specs::Pushes::shape_at, crate::specs::Pushes::seat_of, crate::specs::Pushes::acts_of, crate::specs::Pushes::saw_set))]
+    #[tactic(auto, unfolding(crate::specs::Pushes::pushed_by, crate::specs::Pushes::left_to, crate::specs::Pushes::takes_oldest, crate::specs::Pushes::units_of, crate::specs::Pushes::count_of, crate::specs::Pushes::shape_at, crate::specs::Pushes::seat_of, crate::specs::Pushes::acts_of, crate::specs::Pushes::saw_set))]
     pub(crate) fn lend(&mut self) -> Lent
         requires { 0 < self.old.levels }
         ensures given { (result.levels ≡ self.old.levels) × (result.acts ≡ self.old.acts) }
@@ -123,7 +121,7 @@ impl<J: JobKind> WorkerThread<J> {
 
     // Takes the worker value back from a run, as it was lent.
     #[inline(always)]
-    #[tactic(auto, unfolding(crate::specs::Pushes::pushed_by, crate::specs::Pushes::left_to, crate::specs::Pushes::takes_oldest, crate::specs::Pushes::units_of, crate::specs::Pushes::shape_at, crate::specs::Pushes::seat_of, crate::specs::Pushes::acts_of, crate::specs::Pushes::saw_set))]
+    #[tactic(auto, unfolding(crate::specs::Pushes::pushed_by, crate::specs::Pushes::left_to, crate::specs::Pushes::takes_oldest, crate::specs::Pushes::units_of, crate::specs::Pushes::count_of, crate::specs::Pushes::shape_at, crate::specs::Pushes::seat_of, crate::specs::Pushes::acts_of, crate::specs::Pushes::saw_set))]
     pub(crate) fn take_back(&mut self, lent: Lent)
         ensures run { AddsRun lent.acts self.new.acts }
         ensures left { self.new ≡ record self.old { levels = lent.levels; acts = self.new.acts } }
@@ -166,7 +164,7 @@ impl<J: JobKind> WorkerThread<J> {
 
     /// Runs a job at once, with exactly one level fewer. Refused `TooDeep` exactly where no level is left, `Ended`,
     /// `Full`, with the job back and the worker value unchanged. It is never `Foreign` or `Missing`.
-    #[tactic(auto, unfolding(crate::specs::Pushes::pushed_by, crate::specs::Pushes::left_to, crate::specs::Pushes::takes_oldest, crate::specs::Pushes::units_of, crate::specs::Pushes::shape_at, crate::specs::Pushes::seat_of, crate::specs::Pushes::acts_of, crate::specs::Pushes::saw_set))]
+    #[tactic(auto, unfolding(crate::specs::Pushes::pushed_by, crate::specs::Pushes::left_to, crate::specs::Pushes::takes_oldest, crate::specs::Pushes::units_of, crate::specs::Pushes::count_of, crate::specs::Pushes::shape_at, crate::specs::Pushes::seat_of, crate::specs::Pushes::acts_of, crate::specs::Pushes::saw_set))]
     pub fn install<R: Waits<J>>(
         &mut self,
         rt: &R,
@@ -209,19 +207,19 @@ impl<J: JobKind> WorkerThread<J> {
 
     /// Whether nothing lies in the worker's own deque. It is so where nothing that the worker pushed is left to it;
     /// else thieves may have taken that.
-    #[tactic(auto, unfolding(crate::specs::Pushes::pushed_by, crate::specs::Pushes::left_to, crate::specs::Pushes::takes_oldest, crate::specs::Pushes::units_of, crate::specs::Pushes::shape_at, crate::specs::Pushes::seat_of, crate::specs::Pushes::acts_of, crate::specs::Pushes::saw_set))]
+    #[tactic(auto, unfolding(crate::specs::Pushes::pushed_by, crate::specs::Pushes::left_to, crate::specs::Pushes::takes_oldest, crate::specs::Pushes::units_of, crate::specs::Pushes::count_of, crate::specs::Pushes::shape_at, crate::specs::Pushes::seat_of, crate::specs::Pushes::acts_of, crate::specs::Pushes::saw_set))]
     pub fn local_deque_is_empty(&mut self) -> bool
         ensures empty { self.old.left ≡ [] → result ≡ true }
-        ensures same { Kept self.old self.new }
+        ensures same { self.new ≡ record self.old { acts = self.new.acts } }
     {
         self.bench.look_own()
     }
 
     /// Puts a task last into the worker's own deque, and wakes whom that owes a wake. Refused `NoRoom`, with the task
     /// back and nothing added. It raises no count.
-    #[tactic(auto, unfolding(crate::specs::Pushes::pushed_by, crate::specs::Pushes::left_to, crate::specs::Pushes::takes_oldest, crate::specs::Pushes::units_of, crate::specs::Pushes::shape_at, crate::specs::Pushes::seat_of, crate::specs::Pushes::acts_of, crate::specs::Pushes::saw_set))]
+    #[tactic(auto, unfolding(crate::specs::Pushes::pushed_by, crate::specs::Pushes::left_to, crate::specs::Pushes::takes_oldest, crate::specs::Pushes::units_of, crate::specs::Pushes::count_of, crate::specs::Pushes::shape_at, crate::specs::Pushes::seat_of, crate::specs::Pushes::acts_of, crate::specs::Pushes::saw_set))]
     pub fn push<R: Wait>(&mut self, rt: &R, task: Task<J>) -> Result<(), (Refusal, Task<J>)>
-        ensures pushed { MatchResult result (λ _. self.new ≡ record self.old { pushed = self.old.pushed ++ task ∷ []; left = self.old.left ++ task ∷ []; acts = self.new.acts }) (λ e. (e ≡ (Refusal.NoRoom, task)) × Kept self.old self.new) }
+        ensures pushed { MatchResult result (λ _. self.new ≡ record self.old { pushed = self.old.pushed ++ task ∷ []; left = self.old.left ++ task ∷ []; acts = self.new.acts }) (λ e. (e ≡ (Refusal.NoRoom, task)) × (self.new ≡ record self.old { acts = self.new.acts })) }
         ensures path { MatchResult result
             (λ _. Traced self.old.shape (Worker 0 self.old.seat) (Stay (at.LookQueue (Detach 0 task.ticket.number))) self.old.acts self.new.acts Back)
             (λ _. Traced self.old.shape (Worker 0 self.old.seat) (Stay (at.LookQueue (Detach 0 task.ticket.number))) self.old.acts self.new.acts (Stay (undo (Detach 0 task.ticket.number)))) }
@@ -236,10 +234,12 @@ impl<J: JobKind> WorkerThread<J> {
     /// terminate count, which the end of its run gives back, so that the pool cannot end before. Nobody is answered its
     /// output; its fault is kept by the pool (`take_fault`). Refused `Full`, `NoRoom`, `Ended`, with the job back and nothing
     /// added.
-    #[tactic(auto, unfolding(crate::specs::Pushes::pushed_by, crate::specs::Pushes::left_to, crate::specs::Pushes::takes_oldest, crate::specs::Pushes::units_of, crate::specs::Pushes::shape_at, crate::specs::Pushes::seat_of, crate::specs::Pushes::acts_of, crate::specs::Pushes::saw_set))]
+    #[tactic(auto, unfolding(crate::specs::Pushes::pushed_by, crate::specs::Pushes::left_to, crate::specs::Pushes::takes_oldest, crate::specs::Pushes::units_of, crate::specs::Pushes::count_of, crate::specs::Pushes::shape_at, crate::specs::Pushes::seat_of, crate::specs::Pushes::acts_of, crate::specs::Pushes::saw_set))]
     pub fn spawn<R: Wait>(&mut self, rt: &R, alloc: Global, job: J) -> Result<(), (Refusal, J)>
-        ensures spawned { IfOk result (λ _. (n : ℕ) × Spawned self.old.shape (Worker 0 self.old.seat) n self.old.acts self.new.acts × (self.new ≡ record self.old { pushed = self.old.pushed ++ detached_task job false (Worker 0 self.old.seat) n ∷ []; left = self.old.left ++ detached_task job false (Worker 0 self.old.seat) n ∷ []; acts = self.new.acts })) }
-        ensures back { IfErr result (λ e. (e.1 ≡ job) × Kept self.old self.new) }
+        ensures spawned { IfOk result (λ _. (n : ℕ) × Spawned self.old.shape (Worker 0 self.old.seat) n self.old.acts self.new.acts × (self.new ≡ record self.old { pushed = self.old.pushed ++ detached_task job false (Worker 0 self.old.seat) n ∷ []; left = self.old.left ++ detached_task job false (Worker 0 self.old.seat) n ∷ []; count = self.new.count; acts = self.new.acts })) }
+        ensures unit { IfOk result (λ _. TakesUnit true self.old.count self.new.count) }
+        ensures back { IfErr result (λ e. e.1 ≡ job) }
+        ensures kept { IfErr result (λ _. Kept self.old self.new) }
         ensures path { IfErr result (λ _. HandedBack self.old.shape (Worker 0 self.old.seat) (Detach 0) self.old.acts self.new.acts) }
         ensures refused { IfErr result (λ e. (e.0 ≡ Refusal.Ended) ⊎ ((e.0 ≡ Refusal.Full) ⊎ (e.0 ≡ Refusal.NoRoom))) }
     {
@@ -252,7 +252,7 @@ impl<J: JobKind> WorkerThread<J> {
 
     /// Takes the newest task of the worker's own deque, or the oldest where that is its order. None where nothing lies
     /// there.
-    #[tactic(auto, unfolding(crate::specs::Pushes::pushed_by, crate::specs::Pushes::left_to, crate::specs::Pushes::takes_oldest, crate::specs::Pushes::units_of, crate::specs::Pushes::shape_at, crate::specs::Pushes::seat_of, crate::specs::Pushes::acts_of, crate::specs::Pushes::saw_set))]
+    #[tactic(auto, unfolding(crate::specs::Pushes::pushed_by, crate::specs::Pushes::left_to, crate::specs::Pushes::takes_oldest, crate::specs::Pushes::units_of, crate::specs::Pushes::count_of, crate::specs::Pushes::shape_at, crate::specs::Pushes::seat_of, crate::specs::Pushes::acts_of, crate::specs::Pushes::saw_set))]
     pub fn take_local_job<R: Wait>(&mut self, rt: &R) -> Option<Task<J>>
         ensures some { IfSome result (λ t. Leaves self.old.oldest_first self.old.left t self.new.left) }
         ensures none { IfNone result (self.new.left ≡ self.old.left) }
@@ -267,7 +267,7 @@ impl<J: JobKind> WorkerThread<J> {
 
     /// Looks for a task: in the worker's own deque, in the other workers', from a chosen one on, each once, and last
     /// among the injected ones. None where each look missed.
-    #[tactic(auto, unfolding(crate::specs::Pushes::pushed_by, crate::specs::Pushes::left_to, crate::specs::Pushes::takes_oldest, crate::specs::Pushes::units_of, crate::specs::Pushes::shape_at, crate::specs::Pushes::seat_of, crate::specs::Pushes::acts_of, crate::specs::Pushes::saw_set))]
+    #[tactic(auto, unfolding(crate::specs::Pushes::pushed_by, crate::specs::Pushes::left_to, crate::specs::Pushes::takes_oldest, crate::specs::Pushes::units_of, crate::specs::Pushes::count_of, crate::specs::Pushes::shape_at, crate::specs::Pushes::seat_of, crate::specs::Pushes::acts_of, crate::specs::Pushes::saw_set))]
     pub fn find_work<R: Wait>(&mut self, rt: &R) -> Option<Task<J>>
         ensures some { IfSome result (λ t. Leaves self.old.oldest_first self.old.left t self.new.left ⊎ (self.new.left ≡ self.old.left)) }
         ensures none { IfNone result (self.new.left ≡ self.old.left) }
@@ -373,30 +373,39 @@ impl<J: JobKind> WorkerThread<J> {
         ensures same { SameWorker self.old self.new }
         ensures path { (e : Ending) × (x : Log) × AddsRun self.old.acts x × Closes self.old.shape (Worker 0 self.old.seat) task.ticket.number (kind_in task.ticket) e x self.new.acts }
     {
-        let (call, owner) = (task.number(), task.owner());
-        let migrated = task.injected() || !owner.is_worker(0, self.id.index);
+        let kind = task.kind();
+        let migrated = task.injected() || !task.owner().is_worker(0, self.id.index);
         let (work, _injected, ticket) = task_parts(task);
         let (done, first) = self.run_work(rt, alloc, work, migrated);
-        if ticket.is_detached() {
-            self.let_go(rt, call, done);
-        } else {
-            let ending = done.ending();
-            self.bench.set_reply(ticket, done, first);
-            self.bench.tell(rt, call, owner, ending);
-        }
+        self.end_run(rt, kind, ticket, done, first);
     }
 
-    // A detached job of this name has ended so: its fault is kept by the pool, and its unit of the terminate count is given
-    // back.
-    #[tactic(auto, unfolding(crate::specs::Pushes::units_of, crate::specs::Pushes::shape_at, crate::specs::Pushes::seat_of, crate::specs::Pushes::acts_of))]
-    fn let_go<R: Wait>(&mut self, rt: &R, name: u64, done: Done<J>)
+    // The run of this ticket's job, of this kind, has ended so. A detached job's fault is kept by the pool before its unit of
+    // the terminate count is given back; a call that waits for the job is told.
+    #[tactic(auto, unfolding(crate::specs::Pushes::units_of, crate::specs::Pushes::count_of, crate::specs::Pushes::shape_at, crate::specs::Pushes::seat_of, crate::specs::Pushes::acts_of))]
+    fn end_run<R: Wait>(
+        &mut self,
+        rt: &R,
+        kind: Kind,
+        ticket: Ticket<J>,
+        done: Done<J>,
+        first: Option<(Ticket<J>, Done<J>)>,
+    )
+        requires { kind ≡ kind_in ticket }
         ensures same { SameWorker self.old self.new }
-        ensures path { Traced self.old.shape (Worker 0 self.old.seat) (Stay (at.LowerCount (OfPool 0) (OfJob name) Resume)) self.old.acts self.new.acts Back }
+        ensures path { Closes self.old.shape (Worker 0 self.old.seat) ticket.number kind (ended done.answer) self.old.acts self.new.acts }
+        ensures unit { ClosesUnit kind self.old.count self.new.count }
     {
-        if let Err(fault) = done.into_result() {
-            self.faults.keep(rt, fault);
+        let (job, ending) = (ticket.number(), done.ending());
+        if let Kind::Detached(pool) = kind {
+            if let Err(fault) = done.into_result() {
+                self.faults.keep(rt, fault);
+            }
+            self.bench.close(rt, Kind::Detached(pool), job, ending);
+        } else {
+            self.bench.set_reply(ticket, done, first);
+            self.bench.close(rt, kind, job, ending);
         }
-        self.bench.end_detached(rt, name);
     }
 
     // Runs what there is to run of a task. Answers the result for the call's cell, and of two sides the first one's

@@ -1,4 +1,5 @@
-use Rattle.std.proofs.Common.{◌≡◌, ◌-◌, refl, sym, subst, ap}
+use Rattle.std.proofs.Common.{◌≡◌, ◌-◌, ◌==◌, true, false, refl, sym, subst, ap}
+use Rattle.rayon_atomics.specs.declared.views.Teller.{Teller}
 use Rattle.rayon_machine_places.specs.declared.place.Count.TheVariants.{OfPool}
 use Rattle.rayon_machine_places.specs.declared.place.Move.TheVariants.{Stay}
 use Rattle.rayon_machine_places.specs.declared.place.Party.TheVariants.{Worker}
@@ -8,6 +9,7 @@ use Rattle.rayon_machine_places.specs.declared.act.Seen.TheVariants.{Yes, No}
 use Rattle.rayon_machine_places.specs.Places.{finish, settle}
 use Rattle.rayon_performers.proofs.Stretches.{So, so_far, by_act, and_then}
 use Rattle.rayon_performers.specs.Keeps.{settle_at}
+use Rattle.rayon_performers.specs.Marks.{GivesUnit}
 use Rattle.rayon_performers.specs.Stands.{Anyhow, At, EndsIn, hand}
 use Rattle.rayon_performers.proofs.Drives.{follows}
 use Rattle.rayon_performers.proofs.bench.Bench.lower_then.Goals as goal
@@ -44,3 +46,11 @@ finish_from-requires-clause-ends g c =
     let last = finish (Worker 0 s.index) c.args.then in
     subst (λ v. EndsIn (Worker 0 v.index) (finish (Worker 0 v.index) c.args.then) u (settle v.shape (Worker 0 v.index) 0 0 c.args.then)) (sym c.self.view_is)
     (settle_at (λ m v. (m ≡ last) × (v ≡ hand u)) u s.shape 0 s.index 0 0 c.args.then (follows (λ m v. (m ≡ last) × (v ≡ hand u)) s u (s.holds - 1) 0 s.index c.args.then (ap hand c.if-lower.ensures.left) c.requires.last c.requires.rests (refl, refl)))
+
+pub returns-then-lower-clause-unit : goal.returns-then-lower-clause-unit
+returns-then-lower-clause-unit g c =
+    let s = c.args.self.now in
+    (true, subst (λ (z : Teller). GivesUnit (s.holds == 1) true s.marks.count z) (sym c.finish_from.ensures.count) c.if-lower.ensures.does.1)
+
+pub returns-else-lower-clause-unit : goal.returns-else-lower-clause-unit
+returns-else-lower-clause-unit g c = (false, c.if-lower.ensures.does.1)

@@ -5,9 +5,10 @@ use Rattle.rayon_machine_places.specs.declared.place.Place.TheVariants as at
 use Rattle.rayon_drive.specs.Paths.{Traced}
 use Rattle.rayon_performers.specs.Calls.{own_call, own_join}
 use Rattle.rayon_registry.specs.Acts.{Offered}
-use Rattle.rayon_registry.specs.Pushes.{acts_of, seat_of, shape_at}
+use Rattle.rayon_performers.specs.Marks.{KeepsUnits}
+use Rattle.rayon_registry.specs.Pushes.{acts_of, count_of, left_to, pushed_by, saw_set, seat_of, shape_at, takes_oldest, units_of}
 use Rattle.rayon_performers.proofs.Stretches.{traced}
-use Rattle.rayon_registry.proofs.Made.{on_err}
+use Rattle.rayon_registry.proofs.Made.{if_err, on_err}
 use Rattle.rayon_registry.proofs.worker_thread.WorkerThread.fork.Goals as goal
 
 pub returns-in_err-call-clause-path : goal.returns-in_err-call-clause-path
@@ -31,3 +32,9 @@ returns-clause-path g c =
     let named : n ≡ c.in_ok-call.call.ticket.number = search rules in
     subst (λ (z : ℕ). Offered c.args.self.now.shape (Worker 0 c.args.self.now.seat) z c.args.self.now.acts u.trace) named
     (subst (λ v. Traced v.shape (Worker 0 v.seat) first v.acts u.trace end) c.self.view_is (traced b.shape b.index first b u end c.in_ok-call.ensures.path))
+
+pub returns-in_err-call-clause-kept : goal.returns-in_err-call-clause-kept
+unfolding acts_of count_of left_to pushed_by saw_set seat_of shape_at takes_oldest units_of
+returns-in_err-call-clause-kept g c =
+    let u = c.offer.new.self in
+    if_err _ c.from_residual.result (search rules, subst (λ v. KeepsUnits v.count u.marks.count) c.self.view_is c.in_err-call.ensures.unit)

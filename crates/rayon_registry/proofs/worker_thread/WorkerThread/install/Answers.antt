@@ -1,4 +1,4 @@
-use Rattle.std.proofs.Common.{◌≡◌, inr, refl, rules, subst}
+use Rattle.std.proofs.Common.{◌≡◌, ◌==◌, inr, refl, rules, subst}
 use Rattle.rayon_machine_places.specs.declared.place.Count.TheVariants.{OfPool}
 use Rattle.rayon_machine_places.specs.declared.place.Ending.{Ending}
 use Rattle.rayon_jobs.specs.Endings.{ending_of}
@@ -12,7 +12,9 @@ use Rattle.rayon_machine_places.specs.declared.place.Then.TheVariants.{Ran}
 use Rattle.rayon_drive.specs.Paths.{Traced}
 use Rattle.rayon_drive.proofs.Traced.{traced_as}
 use Rattle.rayon_registry.specs.Acts.{Installed}
-use Rattle.rayon_registry.specs.Pushes.{acts_of, seat_of, shape_at, units_of}
+use Rattle.rayon_performers.specs.Marks.{KeepsUnits}
+use Rattle.rayon_performers.proofs.Recounts.{missed_none}
+use Rattle.rayon_registry.specs.Pushes.{acts_of, count_of, left_to, pushed_by, saw_set, seat_of, shape_at, takes_oldest, units_of}
 use Rattle.rayon_performers.proofs.Stretches.{traced}
 use Rattle.rayon_registry.proofs.Made.{made_fault, made_fine}
 use Rattle.rayon_registry.proofs.worker_thread.WorkerThread.install.Goals as goal
@@ -54,3 +56,10 @@ returns-clause-path g c =
       | in-Ok y ↦ made_fine _ _ _ c.match-answer.result _ y.result-is (subst (λ (z : Ending). Installed a.shape (Worker 0 a.seat) z a.acts v.trace) (subst (λ r. e ≡ ending_of r) y.in-Ok.is c.ending_of-ending.ensures) installed)
       | in-Err-answer y ↦ made_fault _ _ _ c.match-answer.result _ y.result-is (subst (λ (z : Ending). Installed a.shape (Worker 0 a.seat) z a.acts v.trace) (subst (λ r. e ≡ ending_of r) y.in-Err-answer.is c.ending_of-ending.ensures) installed)
     ]
+
+pub returns-in-Err-clause-kept : goal.returns-in-Err-clause-kept
+unfolding acts_of count_of left_to pushed_by saw_set seat_of shape_at takes_oldest units_of
+returns-in-Err-clause-kept g c r j e =
+    let b = c.self.inside.bench in
+    let u = c.open_install.new.self in
+    (search rules, subst (λ v. KeepsUnits v.count u.marks.count) c.self.view_is (missed_none (b.holds == 0) b.marks.count u.marks.count c.in-Err.ensures.unit))

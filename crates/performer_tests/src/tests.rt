@@ -26,7 +26,9 @@ fn number_of(task: Option<Task<Errand>>) -> Option<u8> {
 }
 
 // Ends the pool.
-fn end<R: Wait>(rt: &R, registry: &Registry<Task<Errand>>, hold: PoolHold) {
+fn end<R: Wait>(rt: &R, registry: &Registry<Task<Errand>>, hold: PoolHold)
+    requires { hold ≡ registry.now.count }
+{
     let mut guest = Guest::new(registry);
     guest.end(rt, hold);
 }
@@ -37,6 +39,7 @@ struct Lone {
     kit: WorkerKit<Task<Errand>>,
     hold: PoolHold,
     ghost workers: { (arc_value registry).workers ≡ 1 },
+    ghost own: { hold ≡ (arc_value registry).count },
 }
 
 impl Lone {
@@ -57,7 +60,8 @@ impl Lone {
         self,
         rt: &R,
     ) -> (Bench<Errand>, Arc<Registry<Task<Errand>>, Global>, PoolHold)
-        ensures { Resting result.0.chair }
+        ensures rests { Resting result.0.chair }
+        ensures own { result.2 ≡ (arc_value result.1).count }
     {
         let Lone {
             registry,

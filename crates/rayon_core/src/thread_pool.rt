@@ -25,7 +25,7 @@ impl<J: JobKind> Model for ThreadPool<J> {
 
     ghost view = { λ p. p.pool };
 
-    ghost invariant = { λ p. length p.workers.items ≡ p.pool.workers };
+    ghost invariant = { λ p. (length p.workers.items ≡ p.pool.workers) × (p.hold ≡ p.pool.count) };
 }
 
 impl<J: JobKind> Deref for ThreadPool<J> {
@@ -45,7 +45,8 @@ impl<J: JobKind> ThreadPool<J> {
         hold: PoolHold,
         workers: Vec<JoinHandle<()>>,
     ) -> ThreadPool<J>
-        requires { length workers.items ≡ pool.workers }
+        requires workers { length workers.items ≡ pool.workers }
+        requires own { hold ≡ pool.count }
         ensures { result ≡ pool }
     {
         ThreadPool {
@@ -82,13 +83,15 @@ impl<J: JobKind> ThreadPool<J> {
     }
 }
 
-// Gives up the unit of the terminate count that stands for the pool's value, and joins these workers.
+// Gives up the unit of the terminate count that stands for this pool's value, and joins these workers.
 pub(crate) fn end_workers<J: JobKind, R: Threads + Wait>(
     rt: &R,
     pool: &PoolRef<J>,
     hold: PoolHold,
     workers: Vec<JoinHandle<()>>,
-) {
+)
+    requires { hold ≡ pool.now.count }
+{
     end_pool(rt, pool, hold);
     for worker in workers {
         worker.join(rt);

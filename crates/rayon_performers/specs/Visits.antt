@@ -13,6 +13,7 @@ use Rattle.rayon_machine_places.specs.declared.act.Act.TheVariants as acts
 use Rattle.rayon_machine_places.specs.declared.act.Seen.{Seen}
 use Rattle.rayon_machine_places.specs.declared.act.Seen.TheVariants.{Done, Refused, Missing, Found, Yes, No}
 use Rattle.rayon_drive.specs.declared.trace.Log.{Log}
+use Rattle.atomic_table.specs.Seated.{TableId}
 use Rattle.rayon_queues.specs.Deques.{Visitor, visitor}
 use Rattle.atomic_table.specs.declared.shared.Seat.{Seat}
 use Rattle.rayon_atomics.specs.declared.views.Teller.{Teller}
@@ -27,11 +28,12 @@ use Rattle.rayon_performers.specs.Hands.{HasResult}
 use Rattle.rayon_performers.specs.Marks.{GivesUnit, Marks, MissesUnit, SetBy, TakesUnit}
 use Rattle.rayon_performers.specs.Seats.{Steps, Tells}
 
--- what an outside caller has: the pool's shape; its pass of the injector; what its call queues, until it is queued; the
--- ticket of its call, and where two sides are sent that of the first one's cell; the results that were found in the cells of
--- the two; whether it holds a unit of the terminate count; its seat of that count, and the one by which it set a latch last;
--- the seat of the counters by which it told news last; and what it did
+-- what an outside caller has: which terminate count the pool has; the pool's shape; its pass of the injector; what its call
+-- queues, until it is queued; the ticket of its call, and where two sides are sent that of the first one's cell; the results
+-- that were found in the cells of the two; whether it holds a unit of the terminate count; its seat of that count, and the
+-- one by which it set a latch last; the seat of the counters by which it told news last; and what it did
 pub record Visit (X G O F : Type 0) : Type 0 where
+  pub count : TableId
   pub shape : PoolShape
   pub inlet : Visitor (TaskOf X)
   pub load : Option (Load X G O F)

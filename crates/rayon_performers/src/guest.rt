@@ -1,5 +1,6 @@
 //! An outside caller, for the time of one call: what it performs the call's acts with, and the calls.
 ghost use Rattle.std.specs.Prelude.{◌≡◌, ◌≤◌, ◌⊎◌, [], None, Some, true, false, IfOk, IfErr, MatchResult};
+ghost use Rattle.rayon_atomics.specs.Tallies.{novice};
 ghost use Rattle.rayon_drive.specs.declared.trace.Log.TheVariants.{Empty};
 ghost use Rattle.rayon_drive.specs.Paths.{goes};
 ghost use Rattle.rayon_machine_places.specs.declared.place.Count.TheVariants.{OfPool};
@@ -81,6 +82,7 @@ impl<'a, J: JobKind> Model for Guest<'a, J> {
     ghost coded = { Prim.hlevel (codes, logs.the_row.coded) };
 
     ghost view = { λ g. record {
+      count = g.registry.now.count;
       shape = g.shape;
       inlet = g.inlet;
       load = g.load;
@@ -154,6 +156,7 @@ const CALLER: Party = Party::Caller(0);
 impl<'a, J: JobKind> Guest<'a, J> {
     /// An outside caller of this pool that has done nothing yet.
     pub fn new(registry: &'a Registry<Task<J>>) -> Guest<'a, J>
+        ensures count { result.count ≡ registry.now.count }
         ensures inlet { result.inlet ≡ visitor registry.now.injector [] [] }
         ensures shape { result.shape ≡ shape_of registry.now.workers registry.now.breadth_first }
         ensures empty { (result.load ≡ None) × (result.holds ≡ false) × (result.trace ≡ Empty) }
@@ -406,15 +409,16 @@ impl<'a, J: JobKind> Guest<'a, J> {
         }
     }
 
-    /// Gives the unit of the terminate count back that a pool's value holds. Where it was the last, each
-    /// worker's terminate latch is set.
+    /// Gives the unit of the terminate count back that this pool's value holds, by the seat of that unit. Where it was the
+    /// last, each worker's terminate latch is set.
     pub fn end<R: Wait>(&mut self, rt: &R, hold: PoolHold)
-        requires { (self.old.load ≡ None) × (self.old.holds ≡ false) }
-        ensures path { CallerGoes (Stay (at.LowerCount (OfPool 0) PoolValue Resume)) (record self.old { holds = true }) self.new Back }
+        requires idle { (self.old.load ≡ None) × (self.old.holds ≡ false) }
+        requires own { hold ≡ self.old.count }
+        ensures path { CallerGoes (Stay (at.LowerCount (OfPool 0) PoolValue Resume)) (record self.old { holds = true; marks = record { set = self.old.marks.set; count = novice } }) self.new Back }
         ensures keeps { Keeps self.old self.new }
         ensures unit { self.new.holds ≡ false }
     {
-        hold.spend();
+        self.count = hold.spend();
         self.holds = true;
         let place = Place::LowerCount {
             count: Count::OfPool(0),

@@ -77,10 +77,11 @@ impl<T: Drop> Registry<T> {
         ensures length { IfOk result (λ r. length r.1.items ≡ num_threads) }
         ensures deques { IfOk result (λ r. map (λ d. d.id) r.1.items ≡ r.0.deques) }
         ensures empty { IfOk result (λ r. All (IsNew breadth_first 32) r.1.items) }
+        ensures hold { IfOk result (λ r. r.2 ≡ r.0.count) }
         ensures refused { IfErr result (λ r. r ≡ Refusal.NoRoom) }
     {
         let (sleep, mut chairs) = Sleep::new(alloc, num_threads)?;
-        let (terminate_count, _) = TerminateCount::new(alloc)?;
+        let (terminate_count, seat) = TerminateCount::new(alloc)?;
         let (Ok(sleep), Ok(injector)) = (Arc::new(alloc, sleep), Injector::new(alloc)) else {
             return Err(Refusal::NoRoom);
         };
@@ -116,7 +117,7 @@ impl<T: Drop> Registry<T> {
             caller_names: Mutex::new(Names::new(num_threads, num_threads + 1)),
             fifos,
         };
-        Ok((registry, deques, PoolHold::new()))
+        Ok((registry, deques, PoolHold::new(seat)))
     }
 
     /// How many workers the pool has.

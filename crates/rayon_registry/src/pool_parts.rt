@@ -26,7 +26,7 @@ pub fn new_pool<J: JobKind, R: Wait>(
     breadth_first: bool,
 ) -> Result<(PoolRef<J>, Vec<WorkerKit<Task<J>>>, PoolHold), Refusal>
     requires { (0 < num_threads) × (num_threads < 65536) }
-    ensures made { IfOk result (λ r. r.0 ≡ record { id = id; workers = num_threads; depth_limit = max 1 depth_limit; breadth_first = breadth_first }) }
+    ensures made { IfOk result (λ r. r.0 ≡ record { id = id; workers = num_threads; depth_limit = max 1 depth_limit; breadth_first = breadth_first; count = r.2 }) }
     ensures deques { IfOk result (λ r. length r.1.items ≡ num_threads) }
     ensures refused { IfErr result (λ r. r ≡ Refusal.NoRoom) }
 {
@@ -52,6 +52,7 @@ pub fn shared_of<J: JobKind>(pool: &PoolRef<J>) -> Result<Arc<Registry<Task<J>>,
     ensures workers { IfOk result (λ s. (arc_value s).workers ≡ pool.now.workers) }
     ensures depth { IfOk result (λ s. (arc_value s).depth_limit ≡ pool.now.depth_limit) }
     ensures order { IfOk result (λ s. (arc_value s).breadth_first ≡ pool.now.breadth_first) }
+    ensures count { IfOk result (λ s. (arc_value s).count ≡ pool.now.count) }
     ensures refused { IfErr result (λ r. r ≡ Refusal.NoRoom) }
 {
     Arc::try_clone(&pool.pool.shared).map_err(|_| Refusal::NoRoom)
@@ -64,9 +65,11 @@ pub fn faults_of<J: JobKind>(pool: &PoolRef<J>) -> Result<SharedFaults<J::Fault>
     pool.faults.share()
 }
 
-/// Gives back the unit of the terminate count that the pool's value holds. Where it was the last one, the workers leave
+/// Gives back the unit of the terminate count that this pool's value holds. Where it was the last one, the workers leave
 /// their loops.
-pub fn end_pool<J: JobKind, R: Wait>(rt: &R, pool: &PoolRef<J>, hold: PoolHold) {
+pub fn end_pool<J: JobKind, R: Wait>(rt: &R, pool: &PoolRef<J>, hold: PoolHold)
+    requires { hold ≡ pool.now.count }
+{
     let mut guest = Guest::new(&*pool.pool.shared);
     guest.end(rt, hold);
 }

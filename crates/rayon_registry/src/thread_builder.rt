@@ -45,7 +45,7 @@ impl<J: JobKind> ThreadBuilder<J> {
         faults: SharedFaults<J::Fault>,
         deque: WorkerKit<Task<J>>,
     ) -> Option<ThreadBuilder<J>>
-        ensures seat { IfSome result (λ t. t ≡ record { pool = record { id = id; workers = (arc_value shared).workers; depth_limit = (arc_value shared).depth_limit; breadth_first = (arc_value shared).breadth_first }; index = index }) }
+        ensures seat { IfSome result (λ t. t ≡ record { pool = record { id = id; workers = (arc_value shared).workers; depth_limit = (arc_value shared).depth_limit; breadth_first = (arc_value shared).breadth_first; count = (arc_value shared).count }; index = index }) }
         ensures none { IfNone result ((arc_value shared).workers ≤ index) }
     {
         if index >= shared.num_threads() {

@@ -159,6 +159,10 @@ impl<J: JobKind> ThreadPoolBuilder<J> {
     /// Makes the pool: draws its number, and starts its workers' threads. Refused `NoIds`, `NoRoom`, `IOError`, in this
     /// order where more than one holds before a thread is started; what was started is ended and joined again, so no
     /// thread is left.
+    ///
+    /// Which of the three it is no clause can say: the numbers lie behind the lock of `Ids`, and memory and threads are
+    /// the system's. That a pool that was begun is ended the types say: its unit of the terminate count has no `Drop`,
+    /// and `end_pool` takes that of its own pool alone.
     pub fn build<R: Threads + Wait + Copy + Send + 'static>(
         self,
         rt: &R,

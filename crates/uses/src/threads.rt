@@ -40,7 +40,9 @@ pub fn triples_of<R: Threads + Wait + Copy + Send + 'static>(
     ensures { IfSome result (λ p. (p.0 ≡ m + m + m) × (p.1 ≡ n + n + n)) }
 {
     let theirs = *rt;
-    let their_pool = pool.pool_ref().ok()?;
+    let Ok(their_pool) = pool.pool_ref() else {
+        return None;
+    };
     let find = move || triple_of(&theirs, alloc, &their_pool, m);
     let other = thread::spawn_with(rt, TripleOf(m), find).ok()?;
     let own = triple_of(rt, alloc, pool, n);

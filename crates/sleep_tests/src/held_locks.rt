@@ -69,7 +69,8 @@ fn two_wait<R: Threads + Wait + Sync>(rt: &R, lock: &HeldLock<u64>, value: u64) 
 fn each_that_waits_goes_on_once_it_is_left(rt: HostRuntime) -> Result<(), Fail> {
     for round in 0..20 {
         let lock = HeldLock::new(round);
-        let value = lock.hold(&rt) + 10;
+        assert_eq!(rt; lock.hold(&rt), round);
+        let value = round + 10;
         let (first, second) = two_wait(&rt, &lock, value);
         assert!(rt; first.min(second) == value && first.max(second) == value + 1);
         assert_eq!(rt; lock.hold(&rt), value + 2);

@@ -19,7 +19,7 @@ fn number_of(task: Option<Task<Errand>>) -> Option<u8> {
     match task {
         Some(task) => match task_parts(task) {
             (Work::Job(job), _, _) => Some(job.0),
-            (Work::Pair(_), _, _) => None,
+            (Work::Pair(_) | Work::Token, _, _) => None,
         },
         None => None,
     }

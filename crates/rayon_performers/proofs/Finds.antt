@@ -19,7 +19,7 @@ use Rattle.rayon_machine_places.specs.Places.{act_of, next_of, next_victim, not_
 use Rattle.rayon_drive.specs.Paths.{goes}
 use Rattle.rayon_drive.specs.Traces.{Adds}
 use Rattle.rayon_queues.specs.Deques.{Deque, DequeId, Leaves, Popped, SameDeque, Thief, Unmoved, Visitor}
-use Rattle.rayon_tasks.specs.Tasks.{TaskOf}
+use Rattle.rayon_tasks.specs.Tasks.{TaskOf, taken_in}
 use Rattle.rayon_performers.specs.Hands.{Hands, HasTask, Needs, Does, Same, Looks, PoppedFrom, StolenBy, TakenBy, answer}
 use Rattle.rayon_performers.specs.Finds.{Found, Kept}
 use Rattle.rayon_performers.proofs.Stretches.{So, so_far, by_act}
@@ -64,13 +64,12 @@ module _ {X G O F : Type 0} (s t u : Hands X G O F) where
 
 module _ {X G O F : Type 0} (h : PoolShape) (i : ℕ) (m : Move) (s u v : Hands X G O F) where
   -- the task that was found is given out of the hands
-  pub given : (n : Taken) (r : Option (TaskOf X)) → r ≡ u.task → v ≡ record u { task = None } → HasTask u.task (Some n) → So h i m s (Stay (at.BeginTask n)) u → MatchOption r (So h i m s Back v) (λ t. So h i m s (Stay (at.BeginTask (Plain t.ticket.number))) (record v { task = Some t }))
+  pub given : (n : Taken) (r : Option (TaskOf X)) → r ≡ u.task → v ≡ record u { task = None } → HasTask u.task (Some n) → So h i m s (Stay (at.BeginTask n)) u → MatchOption r (So h i m s Back v) (λ t. So h i m s (Stay (at.BeginTask (taken_in t))) (record v { task = Some t }))
   given n None e f k d = absurd (subst (λ (z : Option (TaskOf X)). HasTask z (Some n)) (sym e) k)
-  given (Token n j b) (Some t) e f k d = absurd (subst (λ (z : Option (TaskOf X)). HasTask z (Some (Token n j b))) (sym e) k)
-  given (Plain n) (Some t) e f k d =
-      let is : t.ticket.number ≡ n = subst (λ (z : Option (TaskOf X)). HasTask z (Some (Plain n))) (sym e) k in
+  given n (Some t) e f k d =
+      let is : taken_in t ≡ n = subst (λ (z : Option (TaskOf X)). HasTask z (Some n)) (sym e) k in
       let same : u ≡ record v { task = Some t } = subst (λ (z : Hands X G O F). u ≡ record z { task = Some t }) (sym f) (ap (λ (z : Option (TaskOf X)). record u { task = z }) (sym e)) in
-      subst (λ (z : Hands X G O F). So h i m s (Stay (at.BeginTask (Plain t.ticket.number))) z) same (subst (λ (z : ℕ). So h i m s (Stay (at.BeginTask (Plain z))) u) (sym is) d)
+      subst (λ (z : Hands X G O F). So h i m s (Stay (at.BeginTask (taken_in t))) z) same (subst (λ (z : Taken). So h i m s (Stay (at.BeginTask z)) u) (sym is) d)
 
 module _ {X G O F : Type 0} (h : PoolShape) (i n : ℕ) (s t u : Hands X G O F) where
   -- the own deque is looked at before the push

@@ -1,4 +1,6 @@
+pub mod Begins
 pub mod Drives
+pub mod Fifos
 pub mod Finds
 pub mod Letters
 pub mod Offers

@@ -1,7 +1,6 @@
 -- The stretches of a join, of an install, and of the end of a run, act by act.
 use Rattle.std.proofs.Common.{◌≡◌, true, false, Bool, ℕ, ◌≤◌, ◌&&◌, ◌==◌, nat_lt, if◌then◌else◌, Result, Ok, Err, MatchResult, None, refl, sym, subst, arith, rules}
 use Rattle.rayon_machine_places.specs.declared.place.Count.TheVariants.{OfPool}
-use Rattle.rayon_machine_places.specs.declared.place.Taken.{Taken}
 use Rattle.rayon_machine_places.specs.declared.place.Taken.TheVariants.{Plain}
 use Rattle.rayon_machine_places.specs.declared.place.Party.{Party}
 use Rattle.rayon_machine_places.specs.declared.place.Party.TheVariants.{Worker}
@@ -19,7 +18,7 @@ use Rattle.rayon_machine_places.specs.declared.act.Act.TheVariants as acts
 use Rattle.rayon_machine_places.specs.declared.act.Seen.{Seen}
 use Rattle.rayon_machine_places.specs.declared.act.Seen.TheVariants.{Begun, Done, Refused, Yes, No, Task, Wakes}
 use Rattle.rayon_machine_places.specs.declared.shape.PoolShape.{PoolShape}
-use Rattle.rayon_machine_places.specs.Places.{next_of, walk, finish, undo, taken_number}
+use Rattle.rayon_machine_places.specs.Places.{next_of, walk, finish, undo}
 use Rattle.rayon_drive.specs.Traces.{Adds}
 use Rattle.rayon_performers.specs.Calls.{own_call, own_join}
 use Rattle.rayon_performers.specs.Hands.{Hands, Does, Same, Looks, answer, kind_of}
@@ -42,10 +41,6 @@ module _ {X G O F : Type 0} (h : PoolShape) (i n : ℕ) (s t : Hands X G O F) wh
   pub begun_task : (x : Seen) → Does (acts.Begin n) x s t → Adds (acts.Begin n) x s.trace t.trace → So h i (Stay (at.BeginTask (Plain n))) s (Stay (at.Run n (kind_of s.task))) t
   begun_task (Begun k) d e = subst (λ (z : JobKind). So h i (Stay (at.BeginTask (Plain n))) s (Stay (at.Run n z)) t) d.1 (by_act h i (Stay (at.BeginTask (Plain n))) s (Stay (at.BeginTask (Plain n))) s t (Begun k) refl (so_far h i (Stay (at.BeginTask (Plain n))) s) d e)
   begun_task _ d e = absurd d.1
-
-  -- what is taken begins, if it is this job
-  pub begun_taken : (k : Taken) (x : Seen) → k ≡ Plain n → Does (acts.Begin n) x s t → Adds (acts.Begin n) x s.trace t.trace → So h i (Stay (at.BeginTask k)) s (Stay (at.Run (taken_number k) (kind_of s.task))) t
-  begun_taken k x e d a = subst (λ (z : Taken). So h i (Stay (at.BeginTask z)) s (Stay (at.Run (taken_number z) (kind_of s.task))) t) (sym e) (begun_task x d a)
 
   -- the news of a pushed second side, and the walk that it owes
   pub told : (z : Bool) (k : ℕ) → Does (acts.News 0 z) (Wakes k) s t → Adds (acts.News 0 z) (Wakes k) s.trace t.trace → So h i (Stay (at.TellNews (own_join n) z)) s (walk h (Worker 0 i) 0 k 0 (RunFirst (own_call n) n)) t

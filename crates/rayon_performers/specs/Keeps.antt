@@ -24,41 +24,46 @@ use Rattle.rayon_machine_places.specs.declared.place.Taken.TheVariants.{Plain, T
 use Rattle.rayon_machine_places.specs.declared.place.Move.{Move}
 use Rattle.rayon_machine_places.specs.declared.place.Move.TheVariants.{Stay, Enter, HandIn, Mark}
 use Rattle.rayon_machine_places.specs.declared.act.Seen.{Seen}
-use Rattle.rayon_machine_places.specs.declared.act.Seen.TheVariants.{Done, Yes, Task, Jec, Word, Start, Wakes, Begun, Found}
+use Rattle.rayon_machine_places.specs.declared.act.Seen.TheVariants.{Done, Yes, Task, Missing, Jec, Word, Start, Wakes, Begun, Handed, Found}
 use Rattle.rayon_machine_places.specs.declared.shape.PoolShape.{PoolShape}
 use Rattle.rayon_machine_places.specs.Places.{latch_of, act_of, next_of, after_wait, finish, walk, settle, after_set, after_found, is_taken, after_failure, set_call, next_victim, not_self, is_rest}
 use Rattle.rayon_drive.specs.Moves.{stays_at}
 use Rattle.rayon_drive.specs.Paths.{goes, place_of}
 use Rattle.rayon_atomics.specs.declared.views.Watch.{Watch}
 use Rattle.rayon_sleep.specs.Berths.{Rests, Searches, Sleeps}
-use Rattle.rayon_tasks.specs.Tasks.{TaskOf}
 use Rattle.rayon_performers.specs.Hands.{Hands, HasTask, HasTicket, Needs, Does, Sees, after}
 use Rattle.rayon_performers.specs.Seating.{begins, ends, held, loads, never, stays, stepped, wakes}
 use Rattle.rayon_performers.specs.Seats.{AddsInactive, Announces, Loads, Relocks, Resting, Searching, SubsInactive, SubsSleeping, Tries}
 use Rattle.rayon_performers.specs.Sights.{seen_set}
-use Rattle.rayon_performers.specs.Stands.{Anyhow, At, Ended, Going, Hand, IsWorker, Joins, Left, Next, Runs, SawSet, Waits, Where, call_to, hand}
-
-module _ {X : Type 0} where
-  -- a token is no task that a worker has
-  no_token : (t : Option (TaskOf X)) (k i : ℕ) (b : Option ℕ) → HasTask t (Some (Token k i b)) → ⊥
-  no_token None k i b a = a
-  no_token (Some x) k i b a = a
+use Rattle.rayon_performers.specs.Stands.{Anyhow, At, Ended, Ends, Going, Hand, IsWorker, Joins, Left, Next, Runs, SawSet, Waits, Where, call_to, hand}
 
 -- at what no drive leads to nothing stands
 nowhere : (z : Bool) (A B : Type 0) → Where z ⊥ (A × B × ⊥) → ⊥
 nowhere true A B a = a
 nowhere false A B a = a.2
 
+-- where a token was spent its job's run stands
+handed : (z : Bool) (A B C D E : Type 0) → Where z ⊥ ((A × B) × C × D) → Where z E (B × C × D)
+handed true A B C D E a = absurd a
+handed false A B C D E a = (a.0.1, a.1, a.2)
+
 module _ {X G O F : Type 0} (E : Move → Hand X G O F → Type 0) where
   pub at_stays : (q : Party) (s : Hands X G O F) (m : Move) (y : Place) → place_of m ≡ Some y → At E q s m → At E q s (Stay y)
-  at_stays q s m y e a = stays_at (λ (v : Hands X G O F) (k : Move). At E q v k) (λ v z c k b. absurd (nowhere (not (is_rest z)) (E (Mark z c k) (hand v)) (Resting v.chair) b)) (λ v z n b. absurd (nowhere (not (is_rest z)) (E (HandIn z n) (hand v)) (Resting v.chair) b)) s m y e a
+  at_stays q s m y e a = stays_at (λ (v : Hands X G O F) (k : Move). At E q v k) (λ v z c k b. absurd (nowhere (not (is_rest z)) (E (Mark z c k) (hand v)) (Resting v.chair) b)) (λ v z n b. handed (not (is_rest z)) (E (HandIn z n) (hand v)) (E (Stay z) (hand v)) (Resting v.chair) (Ended (hand v) (Stay z)) (Going E q v (Stay z)) b) s m y e a
+
+  -- the end that a drive has
+  ends_so : (m : Move) (u : Hand X G O F) → Ends E m u → E m u
+  ends_so (HandIn y k) u a = a.0
+  ends_so _ u a = a
 
   -- where a program goes on it has what its act asks, and else it has ended
   pub going : (q : Party) (s : Hands X G O F) (m : Move) → goes m ≡ true → At E q s m → Going E q s m
-  going q s m g a = subst (λ (z : Bool). Where z (Going E q s m) (E m (hand s) × Resting s.chair × Ended (hand s) m)) g a
+  going q s m g a = subst (λ (z : Bool). Where z (Going E q s m) (Ends E m (hand s) × Resting s.chair × Ended (hand s) m)) g a
 
   pub ended : (q : Party) (s : Hands X G O F) (m : Move) → goes m ≡ false → At E q s m → E m (hand s) × Resting s.chair × Ended (hand s) m
-  ended q s m g a = subst (λ (z : Bool). Where z (Going E q s m) (E m (hand s) × Resting s.chair × Ended (hand s) m)) g a
+  ended q s m g a =
+      let e = subst (λ (z : Bool). Where z (Going E q s m) (Ends E m (hand s) × Resting s.chair × Ended (hand s) m)) g a in
+      (ends_so m (hand s) e.0, e.1, e.2)
 
   -- what follows once workers were woken and latches set
   next_at : (s : Hands X G O F) (p i : ℕ) (m : Move) → Next E (hand s) m × Resting s.chair → At E (Worker p i) s m
@@ -67,7 +72,7 @@ module _ {X G O F : Type 0} (E : Move → Hand X G O F → Type 0) where
   next_at s p i (Stay at.Stopped) a = (a.0.0, a.1, a.0.1)
   next_at s p i (Stay _) a = absurd a.0
   next_at s p i (Mark k c n) a = absurd a.0.1
-  next_at s p i (HandIn k n) a = absurd a.0.1
+  next_at s p i (HandIn k n) a = absurd a.0
   next_at s p i _ a = (a.0.0, a.1, a.0.1)
 
   pub walk_at : (s : Hands X G O F) (h : PoolShape) (p i r k j : ℕ) (t : Then) → Next E (hand s) (finish (Worker p i) t) × Resting s.chair → At E (Worker p i) s (walk h (Worker p i) r k j t)
@@ -116,11 +121,11 @@ module _ {X G O F : Type 0} (E : Move → Hand X G O F → Type 0) where
   -- a task was found that begins
   begins_at : (s : Hands X G O F) (p i : ℕ) (n : Taken) → HasTask s.task (Some n) → Runs E s.holds → Resting s.chair → At E (Worker p i) s (Stay (at.BeginTask n))
   begins_at s p i (Plain n) t e r = (t, (e, r))
-  begins_at s p i (Token k j b) t e r = absurd (no_token s.task k j b t)
+  begins_at s p i (Token k j b) t e r = (t, (e, r))
 
   -- a join has found its own second side, or another task
   joined_at : (s : Hands X G O F) (p i : ℕ) (o : OpenCall) (n : Taken) → HasTask s.task (Some n) → Joins E o (hand s) → Resting s.chair → At E (Worker p i) s (if is_taken n o.job then Enter (at.SecondSide o) (at.BeginHere o.job) else Enter (at.JoinProbe o) (at.BeginTask n))
-  joined_at s p i o (Token k j b) t e r = absurd (no_token s.task k j b t)
+  joined_at s p i o (Token k j b) t e r = (e.2 (Token k j b) (hand s) refl, r, (t, e.0.0))
   joined_at s p i o (Plain n) t e r = by (n == o.job) refl
     where
       by : (z : Bool) → (n == o.job) ≡ z → At E (Worker p i) s (if z then Enter (at.SecondSide o) (at.BeginHere o.job) else Enter (at.JoinProbe o) (at.BeginTask (Plain n)))
@@ -196,10 +201,12 @@ module _ {X G O F : Type 0} (E : Move → Hand X G O F → Type 0) where
   at_on s t h p i at.LocalPop _ a d = a
   at_on s t h p i at.LocalTakeCast (Task n) a d = absurd d
   at_on s t h p i at.LocalTakeCast _ a d = (a.1.1 _ refl, a.1.2, tt)
-  at_on s t h p i (at.BeginTask (Plain n)) (Begun k) a d = (a.1.0 n k _ refl, a.1.1, a.0)
+  at_on s t h p i (at.BeginTask (Plain n)) (Begun k) a d = (a.1.0.0 n k _ refl, a.1.1, a.0)
   at_on s t h p i (at.BeginTask (Plain n)) _ a d = absurd d
-  at_on s t h p i (at.BeginTask (Token n j b)) _ a d = absurd a.0
-  at_on s t h p i (at.BeginHere n) _ a d = (a.1.0 n Direct _ refl, a.1.1, a.0)
+  at_on s t h p i (at.BeginTask (Token n j b)) (Handed m k) a d = ((a.1.0.1 m k n _ refl, a.1.0.0 m k _ refl), a.1.1, d.0)
+  at_on s t h p i (at.BeginTask (Token n j b)) Missing a d = (a.1.0.2 n _ refl, a.1.1, tt)
+  at_on s t h p i (at.BeginTask (Token n j b)) _ a d = absurd d
+  at_on s t h p i (at.BeginHere n) _ a d = (a.1.0.0 n Direct _ refl, a.1.1, a.0)
   at_on s t h p i (at.LockToWake k) _ a d = (tt, subst (λ (c : Option Watch). Next E (record (hand s) { chair = c }) (finish (Worker p i) k.then) × Resting c) (held Rests s.chair t.chair a.1.1 d) a.1)
   at_on s t h p i (at.WakeWorker k) Yes a d = a
   at_on s t h p i (at.WakeWorker k) _ a d = a

@@ -1,4 +1,6 @@
+pub mod Begins
 pub mod Calls
+pub mod Fifos
 pub mod Finds
 pub mod Hands
 pub mod Keeps

@@ -15,7 +15,7 @@ use Rattle.rayon_machine_places.specs.declared.place.Taken.TheVariants.{Plain}
 use Rattle.rayon_machine_places.specs.declared.place.Place.{Place}
 use Rattle.rayon_machine_places.specs.declared.place.Place.TheVariants as at
 use Rattle.rayon_machine_places.specs.declared.place.Move.{Move}
-use Rattle.rayon_machine_places.specs.declared.place.Move.TheVariants.{Stay, Enter, StartRun, Back, HandBack}
+use Rattle.rayon_machine_places.specs.declared.place.Move.TheVariants.{Stay, Enter, StartRun, Back, HandBack, HandIn, Discard}
 use Rattle.rayon_machine_places.specs.declared.shape.PoolShape.{PoolShape}
 use Rattle.rayon_machine_places.specs.Places.{act_of, after_found, finish, fresh, latch_of}
 use Rattle.rayon_drive.specs.Paths.{goes}
@@ -107,6 +107,8 @@ module _ {X G O F : Type 0} where
   Ended s (StartRun f t) = IsFrame f
   Ended s Back = Unit {0}
   Ended s (HandBack n) = Unit {0}
+  Ended s (HandIn y k) = AtRest s y
+  Ended s (Discard k) = Unit {0}
   Ended s _ = ⊥
 
   -- a drive ends there, and what belongs to it is in hand
@@ -123,9 +125,12 @@ module _ {X G O F : Type 0} (E : Move → Hand X G O F → Type 0) where
   abbrev pub Backs : ℕ → Type 0
   Backs n = (u : Hand X G O F) → u.holds ≡ n → E Back u
 
-  -- and a run
+  -- and a run, of a task or of the job that a token stands for, and a token that got no job
   abbrev pub Runs : ℕ → Type 0
-  Runs n = (t : ℕ) (k : JobKind) (u : Hand X G O F) → u.holds ≡ n → E (Stay (at.Run t k)) u
+  Runs n =
+      ((t : ℕ) (k : JobKind) (u : Hand X G O F) → u.holds ≡ n → E (Stay (at.Run t k)) u)
+      × ((t : ℕ) (k : JobKind) (j : ℕ) (u : Hand X G O F) → u.holds ≡ n → E (HandIn (at.Run t k) j) u)
+      × ((j : ℕ) (u : Hand X G O F) → u.holds ≡ n → E (Discard j) u)
 
   -- and a wait for this that is left: the end of a call gives its unit back
   abbrev pub Left : Target → ℕ → Type 0
@@ -140,12 +145,18 @@ module _ {X G O F : Type 0} (E : Move → Hand X G O F → Type 0) where
   abbrev pub Joins : OpenCall → Hand X G O F → Type 0
   Joins o s = Waits (Answer o (Some Fine)) s × ((u : Hand X G O F) → u.holds ≡ s.holds → E (Enter (at.SecondSide o) (at.BeginHere o.job)) u) × ((t : Taken) (u : Hand X G O F) → u.holds ≡ s.holds → E (Enter (at.JoinProbe o) (at.BeginTask t)) u)
 
+  -- so ends a drive; where a token was spent so ends the one that only leads to the run of its job too
+  abbrev pub Ends : Move → Hand X G O F → Type 0
+  Ends (HandIn y k) u = E (HandIn y k) u × E (Stay y) u
+  Ends m u = E m u
+
   -- what is in hand where workers have been woken and latches set: what follows asks it
   abbrev pub Next : Hand X G O F → Move → Type 0
   Next s (Stay (at.ProbeWorking w)) = Waits w.target s
   Next s (Stay (at.TakeResult o f)) = HasTicket s.call (Some o.number) × SawSet s (OfCall o.number) × Backs (s.holds - 1)
   Next s (Stay at.Stopped) = E (Stay at.Stopped) s × SawSet s Terminate
   Next s (Stay _) = ⊥
+  Next s (HandIn y k) = ⊥
   Next s m = E m s × Ended s m
 
   -- what is at hand beside what the act asks. No drive stands at the other places: what a call queues it queues itself. The
@@ -208,7 +219,7 @@ module _ {X G O F : Type 0} (E : Move → Hand X G O F → Type 0) where
 
   -- what is at hand where a program has moved so, of this party. The seat of the counters holds no unit where a drive ends
   abbrev pub At : Party → Hands X G O F → Move → Type 0
-  At q s m = Where (goes m) (Going q s m) (E m (hand s) × Resting s.chair × Ended (hand s) m)
+  At q s m = Where (goes m) (Going q s m) (Ends m (hand s) × Resting s.chair × Ended (hand s) m)
 
 module _ {X G O F : Type 0} where
   -- what a worker has at hand where its program has moved so

@@ -19,7 +19,7 @@ use Rattle.atomic_table.specs.declared.shared.Seat.{Seat}
 use Rattle.rayon_atomics.specs.declared.views.Teller.{Teller}
 use Rattle.rayon_atomics.specs.declared.views.Watch.{Watch}
 use Rattle.rayon_atomics.specs.Counted.{fresh, watch}
-use Rattle.rayon_tasks.specs.Tasks.{TaskOf, OneJob, TwoSides}
+use Rattle.rayon_tasks.specs.Tasks.{TaskOf, NoJob, OneJob, TwoSides}
 use Rattle.rayon_tasks.specs.Tickets.{TicketOf}
 use Rattle.rayon_jobs.specs.Within.{Run}
 use Rattle.rayon_performers.specs.declared.load.Load.{Load}
@@ -151,8 +151,8 @@ module _ {X G O F : Type 0} where
   task_in n (Detached j k) = record { work = OneJob j; injected = true; ticket = k }
 
   -- the load of a task
-  abbrev pub load_in : TaskOf X → Load X G O F
-  load_in t = elim t.work [ OneJob j ↦ (if t.ticket.detached then Detached j t.ticket else Job j) | TwoSides a b k ↦ Sides a b ]
+  abbrev pub IsLoadOf : TaskOf X → Load X G O F → Type 0
+  IsLoadOf t l = elim t.work [ OneJob j ↦ l ≡ (if t.ticket.detached then Detached j t.ticket else Job j) | TwoSides a b k ↦ l ≡ Sides a b | NoJob ↦ ⊥ ]
 
   -- the pass once the load was pushed, if there was one
   abbrev pub sent : ℕ → Option (Load X G O F) → Visitor (TaskOf X) → Visitor (TaskOf X)

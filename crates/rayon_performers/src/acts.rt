@@ -5,13 +5,13 @@ ghost use Rattle.rayon_machine_places.specs.declared.act.Act.TheVariants as acts
 ghost use Rattle.rayon_machine_places.specs.declared.act.Seen.TheVariants as saw;
 ghost use Rattle.rayon_machine_places.specs.declared.place.Count.TheVariants.{OfPool};
 ghost use Rattle.rayon_machine_places.specs.declared.place.Party.TheVariants.{Worker};
-ghost use Rattle.rayon_machine_places.specs.declared.place.Taken.TheVariants.{Plain};
 ghost use Rattle.rayon_atomics.specs.Latches.{guard};
 ghost use Rattle.rayon_performers.specs.Hands.{Does, HasTicket, Looks, Needs, Told, answer, call_latch};
 ghost use Rattle.rayon_performers.specs.Keeps.{bench_needs, bench_on, bench_stays};
 ghost use Rattle.rayon_performers.specs.Marks.{GivesUnit, MissesUnit, NoLatch, SetBy, TakesUnit};
 ghost use Rattle.rayon_performers.specs.Stands.{Anyhow, At, IsWorker};
 ghost use Rattle.rayon_queues.specs.Deques.{Pushed, SameDeque, Unmoved};
+ghost use Rattle.rayon_tasks.specs.Tasks.{taken_in};
 
 use crate::bench::Bench;
 use rayon_atomics::latch::{CoreLatch, LatchSeat};
@@ -45,6 +45,11 @@ impl<J: JobKind> Perform for Bench<J> {
             Act::PopInj => self.pop_injected(rt),
             Act::Steal { pool, victim } => self.steal(rt, pool, victim),
             Act::Begin(job) => self.begin(job),
+            Act::FifoOut {
+                token,
+                worker,
+                scope,
+            } => self.redeem(rt, token, worker, scope),
             Act::Store { call, ending } => {
                 self.store(rt, call, ending);
                 Seen::Done
@@ -55,7 +60,6 @@ impl<J: JobKind> Perform for Bench<J> {
             | Act::PushInj { .. }
             | Act::FifoIn { .. }
             | Act::FifoUndo(_)
-            | Act::FifoOut { .. }
             | Act::RaiseAll(_)
             | Act::PushCast(_)
             | Act::LowerAll(_)
@@ -144,12 +148,12 @@ impl<J: JobKind> Bench<J> {
     #[inline(always)]
     fn took(&mut self, act: Act, task: Task<J>) -> Seen
         ensures same { self.new ≡ record self.old { task = Some task; trace = self.new.trace } }
-        ensures seen { result ≡ saw.Task (Plain task.ticket.number) }
+        ensures seen { result ≡ saw.Task (taken_in task) }
         ensures adds { Adds act result self.old.trace self.new.trace }
     {
-        let name = task.number();
+        let taken = task.taken();
         self.task = Some(task);
-        self.add(act, Seen::Task(Taken::Plain(name)))
+        self.add(act, Seen::Task(taken))
     }
 
     // Takes the newest task of the own deque.

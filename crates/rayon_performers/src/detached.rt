@@ -136,7 +136,7 @@ impl<J: JobKind> Bench<J> {
 
     // So many units stand for those that the worker's calls hold. Answers how many stood there.
     #[inline(always)]
-    fn exchange_units(&mut self, units: u64) -> u64
+    pub(crate) fn exchange_units(&mut self, units: u64) -> u64
         ensures bench { self.new ≡ with_units units self.old }
         ensures given { result ≡ self.old.holds }
     {
@@ -144,7 +144,11 @@ impl<J: JobKind> Bench<J> {
     }
 
     // The ticket of the worker's detached job of this name: a share of the one that it keeps. Refused `NoRoom`.
-    fn ticket_of_detached(&mut self, alloc: Global, name: u64) -> Result<Ticket<J>, Refusal>
+    pub(crate) fn ticket_of_detached(
+        &mut self,
+        alloc: Global,
+        name: u64,
+    ) -> Result<Ticket<J>, Refusal>
         ensures same { self.new ≡ self.old }
         ensures ticket { IfOk result (λ t. t ≡ record { owner = Worker 0 self.old.index; number = name; detached = true }) }
         ensures refused { IfErr result (λ r. r ≡ Refusal.NoRoom) }

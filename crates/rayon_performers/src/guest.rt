@@ -16,8 +16,9 @@ ghost use Rattle.rayon_performers.specs.Marks.{GivesUnit, SetBy};
 ghost use Rattle.rayon_performers.specs.Paths.{CallerGoes};
 ghost use Rattle.rayon_performers.specs.Pools.{shape_of};
 ghost use Rattle.rayon_performers.specs.Visiting.{At, Fits, Keeps, Kept, Stands, guest_needs, guest_on, guest_stays};
-ghost use Rattle.rayon_performers.specs.Visits.{Does, IsAnswer, IsTried, Needs, Packed, Raises, Takes, TellsBy, first_of, hand, if_done, load_in, sent, task_in, ticket_of, unit_after, with_pushed};
+ghost use Rattle.rayon_performers.specs.Visits.{Does, IsAnswer, IsLoadOf, IsTried, Needs, Packed, Raises, Takes, TellsBy, first_of, hand, if_done, sent, task_in, ticket_of, unit_after, with_pushed};
 ghost use Rattle.rayon_queues.specs.Deques.{visitor};
+ghost use Rattle.rayon_tasks.specs.Tasks.{HasJob};
 
 use crate::acts::set_latch;
 use crate::load::Load;
@@ -445,7 +446,8 @@ fn share_of<J: JobKind>(ticket: &Option<Ticket<J>>) -> Option<Ticket<J>>
 
 // The load of a task that was refused.
 fn load_of<J: JobKind>(task: Task<J>) -> Load<J>
-    ensures { result ≡ load_in task }
+    requires { HasJob task.work }
+    ensures { IsLoadOf task result }
 {
     let (work, _injected, ticket) = task_parts(task);
     match work {
@@ -457,5 +459,6 @@ fn load_of<J: JobKind>(task: Task<J>) -> Load<J>
             }
         }
         Work::Pair(Pair { first, second, .. }) => Load::Sides(first, second),
+        Work::Token => unreachable!(),
     }
 }

@@ -5,6 +5,7 @@ mod acts;
 mod bench;
 mod counting;
 mod detached;
+mod fifo;
 mod guest;
 mod kit;
 mod latches;

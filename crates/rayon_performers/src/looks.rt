@@ -4,7 +4,6 @@ ghost use Rattle.std.specs.Prelude.{◌≡◌, [], MatchOption, MatchResult, Som
 ghost use Rattle.rayon_machine_places.specs.Places.{undo};
 ghost use Rattle.rayon_machine_places.specs.declared.place.Move.TheVariants.{Back, Stay};
 ghost use Rattle.rayon_machine_places.specs.declared.place.Party.TheVariants.{Worker};
-ghost use Rattle.rayon_machine_places.specs.declared.place.Taken.TheVariants.{Plain};
 ghost use Rattle.rayon_machine_places.specs.declared.place.Place.TheVariants as at;
 ghost use Rattle.rayon_machine_places.specs.declared.place.Plan.TheVariants.{Detach};
 ghost use Rattle.rayon_performers.specs.Hands.{Does};
@@ -12,6 +11,7 @@ ghost use Rattle.rayon_performers.specs.Finds.{Found, Kept, StandsLast};
 ghost use Rattle.rayon_performers.specs.Paths.{WorkerGoes};
 ghost use Rattle.rayon_performers.specs.Seats.{Resting};
 ghost use Rattle.rayon_queues.specs.Deques.{Popped, SameDeque, Unmoved};
+ghost use Rattle.rayon_tasks.specs.Tasks.{taken_in};
 
 use crate::bench::Bench;
 use rayon_drive::drive::Perform;
@@ -24,13 +24,13 @@ use std::sync::Wait;
 impl<J: JobKind> Bench<J> {
     /// Takes the newest task of the own deque, and does not run it: the look of a yield to the own tasks. Where the
     /// deque is empty the broadcast list is looked at too, which holds no task yet. It refuses nothing: None says that
-    /// neither gave one, as where nothing is left of what the worker pushed. The path with a task leads as far as that task's beginning, in the state with the task in
-    /// hand, out of which it is given.
+    /// neither gave one, as where nothing is left of what the worker pushed. The path with a task leads as far as that
+    /// task's beginning, in the state with the task in hand, out of which it is given. A task may be a token.
     #[inline(always)]
     pub fn take_local<R: Wait>(&mut self, rt: &R) -> Option<Task<J>>
         ensures path { MatchOption result
             (WorkerGoes (Stay at.LocalPop) self.old self.new Back)
-            (λ t. WorkerGoes (Stay at.LocalPop) self.old (record self.new { task = Some t }) (Stay (at.BeginTask (Plain t.ticket.number)))) }
+            (λ t. WorkerGoes (Stay at.LocalPop) self.old (record self.new { task = Some t }) (Stay (at.BeginTask (taken_in t)))) }
         ensures popped { MatchOption result (Unmoved self.old.own self.new.own) (λ t. Popped self.old.own t self.new.own) }
         ensures empty { self.old.own.left ≡ [] → result ≡ None }
         ensures same { SameDeque self.old.own self.new.own }
@@ -49,11 +49,11 @@ impl<J: JobKind> Bench<J> {
     /// workers' deques from a chosen one on, each once, and last the injector. It refuses nothing: None says that each
     /// look missed. Before that answer other threads run first, as after each search that has found nothing; that is no
     /// act, and changes nothing of the answer. The path with a task leads as far as that task's beginning, in the state
-    /// with the task in hand, out of which it is given.
+    /// with the task in hand, out of which it is given. A task may be a token.
     pub fn find_work<R: Wait>(&mut self, rt: &R) -> Option<Task<J>>
         ensures path { MatchOption result
             (WorkerGoes (Stay at.YieldPop) self.old self.new Back)
-            (λ t. WorkerGoes (Stay at.YieldPop) self.old (record self.new { task = Some t }) (Stay (at.BeginTask (Plain t.ticket.number)))) }
+            (λ t. WorkerGoes (Stay at.YieldPop) self.old (record self.new { task = Some t }) (Stay (at.BeginTask (taken_in t)))) }
         ensures found { MatchOption result (Kept self.old self.new) (λ t. Found t self.old self.new) }
         ensures left { MatchOption result
             (self.new ≡ record self.old { own = self.new.own; thief = self.new.thief; trace = self.new.trace })
@@ -101,7 +101,7 @@ impl<J: JobKind> Bench<J> {
 
     // Tells that the task of a call that does not wait was pushed, and wakes whom that owes a wake.
     #[inline(always)]
-    fn tell_pushed<R: Wait>(&mut self, rt: &R, name: u64, was_empty: bool)
+    pub(crate) fn tell_pushed<R: Wait>(&mut self, rt: &R, name: u64, was_empty: bool)
         requires { Resting self.old.chair }
         ensures path { WorkerGoes (Stay (at.TellNews (Detach 0 name) was_empty)) self.old self.new Back }
         ensures same { self.new ≡ record self.old { marks = self.new.marks; chair = self.new.chair; trace = self.new.trace } }

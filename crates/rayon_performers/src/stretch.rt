@@ -1,8 +1,8 @@
 //! Programs of the table, as far as the next run: by a drive, and the hot ones as straight stretches of a worker's own
 //! acts.
-ghost use Rattle.std.specs.Prelude.{◌≡◌, ◌⊎◌, ◌↔◌, ◌+◌, ◌-◌, ◌==◌, ◌++◌, [], ◌∷◌, Bool, None, Some, IsTrue, IfErr, IfOk, MatchResult, false};
+ghost use Rattle.std.specs.Prelude.{◌≡◌, ◌⊎◌, ◌↔◌, ◌+◌, ◌-◌, ◌==◌, ◌++◌, [], ◌∷◌, ℕ, Bool, None, Some, IsTrue, IfErr, IfOk, MatchResult, false};
 ghost use Rattle.rayon_drive.specs.Paths.{goes};
-ghost use Rattle.rayon_machine_places.specs.Places.{finish, fresh, next_of, taken_number};
+ghost use Rattle.rayon_machine_places.specs.Places.{finish, fresh, next_of};
 ghost use Rattle.rayon_tasks.specs.Tasks.{OneJob};
 ghost use Rattle.rayon_machine_places.specs.declared.act.Seen.TheVariants as saw;
 ghost use Rattle.rayon_machine_places.specs.declared.place.Count.TheVariants.{OfPool};
@@ -14,9 +14,10 @@ ghost use Rattle.rayon_machine_places.specs.declared.place.Plan.TheVariants.{Her
 ghost use Rattle.rayon_machine_places.specs.declared.place.Share.TheVariants.{OfJob};
 ghost use Rattle.rayon_machine_places.specs.declared.place.Taken.TheVariants.{Plain};
 ghost use Rattle.rayon_machine_places.specs.declared.place.Target.TheVariants.{Termination};
+ghost use Rattle.rayon_performers.specs.Begins.{BringsJob, begins_as};
 ghost use Rattle.rayon_performers.specs.Calls.{IsJobOf, IsOneJob, own_call, own_join};
 ghost use Rattle.rayon_performers.specs.Finds.{StandsLast};
-ghost use Rattle.rayon_performers.specs.Hands.{Does, HasResult, HasTask, HasTicket, Same, Told, kind_of};
+ghost use Rattle.rayon_performers.specs.Hands.{Does, HasResult, HasTask, HasTicket, Same, Told};
 ghost use Rattle.rayon_performers.specs.Marks.{GivesUnit, KeepsUnits, MissesUnit, TakesUnit};
 ghost use Rattle.rayon_performers.specs.Paths.{WorkerGoes, WorkerGoesIn};
 ghost use Rattle.rayon_performers.specs.Seats.{Resting};
@@ -259,17 +260,25 @@ impl<J: JobKind> Bench<J> {
         self.begin(name);
     }
 
-    /// The run of a task begins that was found and is in hand, above the frame of the program that found it. No worker has
-    /// a token in hand yet, of a FIFO list: that is asked.
-    pub fn begin_task(&mut self, task: Taken)
+    /// The run of a task begins that was found and is in hand, above the frame of the program that found it: of a
+    /// token that of the first job of its FIFO list, whose lock it waits for. Answers the task whose run begins. None
+    /// where that list is empty: the token is spent then, and nothing runs.
+    pub fn begin_task<R: Wait>(&mut self, rt: &R, task: Taken) -> Option<Task<J>>
         requires { HasTask self.old.task (Some task) }
-        ensures path { WorkerGoes (Stay (at.BeginTask task)) self.old self.new (Stay (at.Run (taken_number task) (kind_of self.old.task))) }
-        ensures same { Same self.old self.new }
+        ensures path { WorkerGoes (Stay (at.BeginTask task)) self.old (record self.new { task = result }) (begins_as task result) }
+        ensures plain { (n : ℕ) → task ≡ Plain n → result ≡ self.old.task }
+        ensures job { BringsJob result }
+        ensures left { self.new ≡ record self.old { task = None; trace = self.new.trace } }
     {
-        let Taken::Plain(name) = task else {
-            unreachable!()
+        match task {
+            Taken::Plain(name) => self.begin(name),
+            Taken::Token {
+                number,
+                worker,
+                scope,
+            } => self.redeem(rt, number, worker, scope),
         };
-        self.begin(name);
+        self.take_task()
     }
 
     // The end of the run of a task for which a call waits.
@@ -370,6 +379,6 @@ pub(crate) fn only_job<J: JobKind>(task: Task<J>) -> J
     let (work, _, _) = task_parts(task);
     match work {
         Work::Job(job) => job,
-        Work::Pair(_) => unreachable!(),
+        Work::Pair(_) | Work::Token => unreachable!(),
     }
 }

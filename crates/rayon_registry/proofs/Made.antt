@@ -8,7 +8,7 @@ use Rattle.rayon_machine_places.specs.declared.place.Ending.TheVariants.{Fine}
 use Rattle.rayon_machine_places.specs.declared.place.JobKind.{JobKind}
 use Rattle.rayon_machine_places.specs.declared.place.JobKind.TheVariants.{BodyOf, Detached, Direct, PieceOf, Scoped, Stored, TokenOf, WholeOf}
 use Rattle.rayon_machine_places.specs.declared.place.OpenCall.{OpenCall}
-use Rattle.rayon_machine_places.specs.declared.place.Plan.TheVariants.{Detach}
+use Rattle.rayon_machine_places.specs.declared.place.Plan.TheVariants.{Detach, Feed}
 use Rattle.rayon_machine_places.specs.declared.place.Share.TheVariants.{OfJob}
 use Rattle.rayon_machine_places.specs.declared.place.Then.TheVariants.{Answers, Resume}
 use Rattle.rayon_machine_places.specs.declared.place.Party.{Party}
@@ -27,26 +27,24 @@ use Rattle.rayon_drive.specs.declared.trace.Log.{Log}
 use Rattle.rayon_drive.specs.Traces.{AddsRun}
 use Rattle.rayon_drive.specs.Paths.{Traced}
 use Rattle.rayon_drive.proofs.Traced.{traced_as}
-use Rattle.rayon_tasks.specs.Tasks.{TaskOf}
+use Rattle.rayon_tasks.specs.Tasks.{TaskOf, taken_in}
 use Rattle.rayon_tasks.specs.Tickets.{TicketOf, kind_in}
-use Rattle.rayon_performers.specs.Hands.{Hands, HasTask, kind_of}
+use Rattle.rayon_performers.specs.Begins.{begins_as}
+use Rattle.rayon_performers.specs.Fifos.{Fed, FeedsList, FeedsNone, feeding}
+use Rattle.rayon_performers.specs.Hands.{Hands}
 use Rattle.rayon_performers.specs.Paths.{WorkerGoes}
 use Rattle.rayon_performers.specs.Spawns.{ClosesRun, Spawned, Spawns, SpawnsNone, with_units}
 use Rattle.rayon_performers.specs.Stands.{Stands}
 use Rattle.rayon_performers.specs.Waits.{Waited, units_after}
 use Rattle.rayon_performers.proofs.Stretches.{So, traced}
-use Rattle.rayon_registry.specs.Acts.{CallMade, Closes, HandedBack, HasRun, Lowered, Worked, wait_end}
+use Rattle.rayon_registry.specs.Acts.{CallMade, Closes, Follows, HandedBack, HasRun, Lowered, Worked, resumed, wait_end}
 use Rattle.rayon_registry.specs.Worker.{AfterWait, Worker as WorkerValue}
 
 module _ {X G O F : Type 0} (h : PoolShape) (i : ℕ) (m : Move) (s t : Hands X G O F) where
   -- a look for a task
-  pub traced_found : (r : Option (TaskOf X)) → MatchOption r (So h i m s Back t) (λ x. So h i m s (Stay (at.BeginTask (Plain x.ticket.number))) (record t { task = Some x })) → MatchOption r (Traced h (Worker 0 i) m s.trace t.trace Back) (λ x. Traced h (Worker 0 i) m s.trace t.trace (Stay (at.BeginTask (Plain x.ticket.number))))
+  pub traced_found : (r : Option (TaskOf X)) → MatchOption r (So h i m s Back t) (λ x. So h i m s (Stay (at.BeginTask (taken_in x))) (record t { task = Some x })) → MatchOption r (Traced h (Worker 0 i) m s.trace t.trace Back) (λ x. Traced h (Worker 0 i) m s.trace t.trace (Stay (at.BeginTask (taken_in x))))
   traced_found None d = traced h i m s t Back d
-  traced_found (Some x) d = traced h i m s (record t { task = Some x }) (Stay (at.BeginTask (Plain x.ticket.number))) d
-
-  -- the beginning of a task's run
-  pub traced_begun : (k : Taken) (x : TaskOf X) → s.task ≡ Some x → So h i m s (Stay (at.Run (taken_number k) (kind_of s.task))) t → Traced h (Worker 0 i) m s.trace t.trace (Stay (at.Run (taken_number k) (kind_in x.ticket)))
-  traced_begun k x f d = subst (λ (z : Option (TaskOf X)). Traced h (Worker 0 i) m s.trace t.trace (Stay (at.Run (taken_number k) (kind_of z)))) f (traced h i m s t (Stay (at.Run (taken_number k) (kind_of s.task))) d)
+  traced_found (Some x) d = traced h i m s (record t { task = Some x }) (Stay (at.BeginTask (taken_in x))) d
 
   -- a push
   pub traced_pushed : (n : Move) {A B : Type 0} (r : Result A B) → MatchResult r (λ _. So h i m s Back t) (λ _. So h i m s n t) → MatchResult r (λ _. Traced h (Worker 0 i) m s.trace t.trace Back) (λ _. Traced h (Worker 0 i) m s.trace t.trace n)
@@ -71,6 +69,14 @@ module _ {X G O F : Type 0} (n : ℕ) (s t : Hands X G O F) where
   pub unspawned : SpawnsNone n s t → HandedBack s.shape (Worker 0 s.index) (Detach 0) s.trace t.trace
   unspawned (inl e) = inl (ap (λ (z : Hands X G O F). z.trace) e)
   unspawned (inr d) = inr (n, traced s.shape s.index (Stay (at.RaiseCount (Detach 0 n))) (with_units 0 s) (with_units 0 t) (HandBack (Detach 0 n)) d)
+
+  -- the same of a spawn in order, with a token of this name
+  pub fed : (k : ℕ) → FeedsList n k s t → Fed s.shape (Worker 0 s.index) n k s.trace t.trace
+  fed k d = traced s.shape s.index (Stay (at.RaiseCount (Feed (feeding n k)))) (with_units 0 s) (with_units 1 t) Back d
+
+  pub unfed : (k : ℕ) → FeedsNone n k s t → HandedBack s.shape (Worker 0 s.index) (λ j. Feed (feeding j k)) s.trace t.trace
+  unfed k (inl e) = inl (ap (λ (z : Hands X G O F). z.trace) e)
+  unfed k (inr d) = inr (n, traced s.shape s.index (Stay (at.RaiseCount (Feed (feeding n k)))) (with_units 0 s) (with_units 0 t) (HandBack (Feed (feeding n k))) d)
 
   -- the end of a run
   pub closes : (k : JobKind) (e : Ending) → HasRun k → ClosesRun k n e s t → Closes s.shape (Worker 0 s.index) n k e s.trace t.trace
@@ -169,10 +175,6 @@ module _ {X G O F : Type 0} where
       let here = subst (λ (z : Move). Stands u z) e a in
       here.2.1
 
--- one more stretch, to a run of a task that was taken, and what it adds
-pub around : (h : PoolShape) (q : Party) (f : Place) (k : Taken) (t : ℕ) (o : JobKind) (e : Ending) (m : Move) (v u y z x w : Log) (n : Move) → Traced h q m v u (Enter f (at.BeginTask k)) → Traced h q (Stay (at.BeginTask k)) u y (Stay (at.Run t o)) → AddsRun y z → Closes h q t o e z x → Worked h q (Stay (goes_on f e)) x w n → Worked h q m v w n
-around h q f k t o e m v u y z x w n a b l d r = (record { begins = Enter f (at.BeginTask k); job = t; kind = o; ended = e; lent = y; over = z } ∷ r.0, (u, x, a, (b, l, d), r.1))
-
 -- the acts of a run's end, said of equals
 pub closes_as : (h k : PoolShape) (i j : ℕ) (t r : ℕ) (o : JobKind) (e : Ending) (v w : Log) → i ≡ j → h ≡ k → t ≡ r → Closes h (Worker 0 i) t o e v w → Closes k (Worker 0 j) r o e v w
 closes_as h k i j t r o e v w a b c d =
@@ -180,31 +182,45 @@ closes_as h k i j t r o e v w a b c d =
     (subst (λ (z : PoolShape). Closes z (Worker 0 j) t o e v w) b
     (subst (λ (z : ℕ). Closes h (Worker 0 z) t o e v w) a d))
 
--- a task in hand has the number by which it was taken
-module _ {X : Type 0} where
-  pub named : (x : TaskOf X) (k : Taken) → HasTask (Some x) (Some k) → x.ticket.number ≡ taken_number k
-  named x (Plain n) a = a
-  named x (Token n i b) a = absurd a
-
--- one more stretch of a worker's, to a run of the task that it has at hand, and what the worker adds: of what it has before
--- the run begins, once it has begun, and once the task is out of its hand
-module _ {X G O F : Type 0} (h : PoolShape) (i : ℕ) (f : Place) (k : Taken) (x : TaskOf X) (s t r : Hands X G O F) where
+-- one more stretch of a worker's, to a task or a token that it has at hand, and what the worker adds: of what it has before
+-- that begins, and once it has begun and is out of its hand
+module _ {X G O F : Type 0} (h : PoolShape) (i : ℕ) (f : Place) (x : Option (TaskOf X)) (s r : Hands X G O F) where
+  -- what it adds then: the run of what has begun, and the acts of its end; or nothing, where nothing has
   abbrev pub Told : Log → Type 0
-  Told z = (e : Ending) × (o : Log) × AddsRun r.trace o × Closes r.shape (Worker 0 r.index) x.ticket.number (kind_in x.ticket) e o z
+  Told z = MatchOption x (z ≡ r.trace) (λ y. (e : Ending) × (o : Log) × AddsRun r.trace o × Closes r.shape (Worker 0 r.index) y.ticket.number (kind_in y.ticket) e o z)
 
-  pub around_task : (p : Place) (m : Move) (v u z w : Log) (n : Move) → HasTask s.task (Some k) → p ≡ at.BeginTask k → s.index ≡ i → s.shape ≡ h → s.task ≡ Some x → s.trace ≡ u → t.trace ≡ r.trace → r.index ≡ i → r.shape ≡ h
+  abbrev Goes : Move → Log → Log → Move → Type 0
+  Goes m v w n = Worked h (Worker 0 i) m v w n
+
+  module _ (k : Taken) (m : Move) (v u z w : Log) (n : Move) (found : Traced h (Worker 0 i) m v u (Enter f (at.BeginTask k))) (rest : Goes (Stay f) z w n) where
+    laid : (b : Move) (e : Ending) (o : Log) → resumed b f e ≡ f → Traced h (Worker 0 i) (Stay (at.BeginTask k)) u r.trace b → Follows h (Worker 0 i) b (record { begins = Enter f (at.BeginTask k); starts = b; ended = e; lent = r.trace; over = o }) z → Goes m v w n
+    laid b e o same begun follows =
+        let on = subst (λ (y : Place). Goes (Stay y) z w n) (sym same) rest in
+        (record { begins = Enter f (at.BeginTask k); starts = b; ended = e; lent = r.trace; over = o } ∷ on.0, (u, z, found, (begun, follows), on.1))
+
+  around_as : (k : Taken) (m : Move) (v u z w : Log) (n : Move) (y : Option (TaskOf X)) → x ≡ y → r.index ≡ i → r.shape ≡ h → ((e : Ending) → goes_on f e ≡ f)
+      → Traced h (Worker 0 i) m v u (Enter f (at.BeginTask k)) → Traced h (Worker 0 i) (Stay (at.BeginTask k)) u r.trace (begins_as k y)
+      → Told z → Goes (Stay f) z w n → Goes m v w n
+  around_as k m v u z w n None is seat shape stays found begun told rest =
+      let same = subst (λ (l : Option (TaskOf X)). MatchOption l (z ≡ r.trace) (λ y. (e : Ending) × (o : Log) × AddsRun r.trace o × Closes r.shape (Worker 0 r.index) y.ticket.number (kind_in y.ticket) e o z)) is told in
+      laid k m v u z w n found rest (Discard (taken_number k)) Fine r.trace refl begun same
+  around_as (Plain t) m v u z w n (Some y) is seat shape stays found begun told rest =
+      let ran = subst (λ (l : Option (TaskOf X)). MatchOption l (z ≡ r.trace) (λ y. (e : Ending) × (o : Log) × AddsRun r.trace o × Closes r.shape (Worker 0 r.index) y.ticket.number (kind_in y.ticket) e o z)) is told in
+      laid (Plain t) m v u z w n found rest (Stay (at.Run y.ticket.number (kind_in y.ticket))) ran.0 ran.1 (stays ran.0) begun (ran.2, closes_as r.shape h r.index i y.ticket.number y.ticket.number (kind_in y.ticket) ran.0 ran.1 z seat shape refl ran.3)
+  around_as (Token t j b) m v u z w n (Some y) is seat shape stays found begun told rest =
+      let ran = subst (λ (l : Option (TaskOf X)). MatchOption l (z ≡ r.trace) (λ y. (e : Ending) × (o : Log) × AddsRun r.trace o × Closes r.shape (Worker 0 r.index) y.ticket.number (kind_in y.ticket) e o z)) is told in
+      laid (Token t j b) m v u z w n found rest (HandIn (at.Run y.ticket.number (kind_in y.ticket)) t) ran.0 ran.1 (stays ran.0) begun (ran.2, closes_as r.shape h r.index i y.ticket.number y.ticket.number (kind_in y.ticket) ran.0 ran.1 z seat shape refl ran.3)
+
+  pub around_task : (k : Taken) (p : Place) (m : Move) (v u z w : Log) (n : Move) → p ≡ at.BeginTask k → s.index ≡ i → s.shape ≡ h → s.trace ≡ u → r.index ≡ i → r.shape ≡ h → ((e : Ending) → goes_on f e ≡ f)
       → Traced h (Worker 0 i) m v u (Enter f p)
-      → WorkerGoes (Stay (at.BeginTask k)) s t (Stay (at.Run (taken_number k) (kind_of s.task)))
-      → (told : Told z)
-      → Worked h (Worker 0 i) (Stay (goes_on f told.0)) z w n → Worked h (Worker 0 i) m v w n
-  around_task p m v u z w n has taken seat shape hand before after seat2 shape2 a d told rest =
-      let run = Stay (at.Run (taken_number k) (kind_in x.ticket)) in
-      let number = named x k (subst (λ (l : Option (TaskOf X)). HasTask l (Some k)) hand has) in
-      let closes = closes_as r.shape h r.index i x.ticket.number (taken_number k) (kind_in x.ticket) told.0 told.1 z seat2 shape2 number told.3 in
-      let begun = traced_as s.shape h s.index i (Stay (at.BeginTask k)) s.trace t.trace run run seat shape refl (traced_begun s.shape s.index (Stay (at.BeginTask k)) s t k x hand d) in
-      let begun2 = subst (λ (l : Log). Traced h (Worker 0 i) (Stay (at.BeginTask k)) l r.trace run) before (subst (λ (l : Log). Traced h (Worker 0 i) (Stay (at.BeginTask k)) s.trace l run) after begun) in
-      let entered = subst (λ (l : Place). Traced h (Worker 0 i) m v u (Enter f l)) taken a in
-      around h (Worker 0 i) f k (taken_number k) (kind_in x.ticket) told.0 m v u r.trace told.1 z w n entered begun2 told.2 closes rest
+      → WorkerGoes (Stay (at.BeginTask k)) s (record r { task = x }) (begins_as k x)
+      → Told z → Goes (Stay f) z w n → Goes m v w n
+  around_task k p m v u z w n taken seat shape before seat2 shape2 stays found path told rest =
+      let here = traced s.shape s.index (Stay (at.BeginTask k)) s (record r { task = x }) (begins_as k x) path in
+      let begun = traced_as s.shape h s.index i (Stay (at.BeginTask k)) s.trace r.trace (begins_as k x) (begins_as k x) seat shape refl here in
+      let begun2 = subst (λ (l : Log). Traced h (Worker 0 i) (Stay (at.BeginTask k)) l r.trace (begins_as k x)) before begun in
+      let entered = subst (λ (l : Place). Traced h (Worker 0 i) m v u (Enter f l)) taken found in
+      around_as k m v u z w n x refl seat2 shape2 stays entered begun2 told rest
 
 -- acts with runs between, said of equals
 pub worked_as : (h k : PoolShape) (i j : ℕ) (m : Move) (v w : Log) (n : Move) → i ≡ j → h ≡ k → Worked h (Worker 0 i) m v w n → Worked k (Worker 0 j) m v w n
@@ -217,7 +233,7 @@ runs_second h q o v u w e a l =
     let x = l.1 in
     let y = l.2 in
     let end = subst (λ (p : ℕ). Worked h q (Stay (at.LowerCount (OfPool p) (OfJob o.job) (Answers o (Some Fine) l.0))) y w Back) (sym e) (last h q first y w Back l.5) in
-    (record { begins = Enter (at.SecondSide o) (at.BeginHere o.job); job = o.job; kind = Direct; ended = l.0; lent = x; over = y } ∷ end.0, (u, y, a, (l.3, l.4, (tt, refl)), end.1))
+    (record { begins = Enter (at.SecondSide o) (at.BeginHere o.job); starts = Stay (at.Run o.job Direct); ended = l.0; lent = x; over = y } ∷ end.0, (u, y, a, (l.3, (l.4, (tt, refl))), end.1))
 
 pub lowered_as : (h k : PoolShape) (i j : ℕ) (o : OpenCall) (v w : Log) → i ≡ j → h ≡ k → Lowered h (Worker 0 i) o v w → Lowered k (Worker 0 j) o v w
 lowered_as h k i j o v w e f a = subst (λ (z : PoolShape). Lowered z (Worker 0 j) o v w) f (subst (λ (z : ℕ). Lowered h (Worker 0 z) o v w) e a)

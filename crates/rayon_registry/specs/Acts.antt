@@ -10,11 +10,12 @@ use Rattle.rayon_machine_places.specs.declared.place.OpenCall.{OpenCall}
 use Rattle.rayon_machine_places.specs.declared.place.Plan.{Plan}
 use Rattle.rayon_machine_places.specs.declared.place.Plan.TheVariants.{Here}
 use Rattle.rayon_machine_places.specs.declared.place.Share.TheVariants.{OfJob}
-use Rattle.rayon_machine_places.specs.declared.place.Then.TheVariants.{Answers, Ran}
+use Rattle.rayon_machine_places.specs.declared.place.Then.TheVariants.{Answers, Ran as RanSo}
 use Rattle.rayon_machine_places.specs.declared.place.Party.{Party}
 use Rattle.rayon_machine_places.specs.declared.place.Move.{Move}
-use Rattle.rayon_machine_places.specs.declared.place.Move.TheVariants.{Stay, Enter, StartRun, Back, HandBack}
+use Rattle.rayon_machine_places.specs.declared.place.Move.TheVariants.{Stay, Enter, StartRun, Back, HandBack, HandIn, Discard}
 use Rattle.rayon_machine_places.specs.declared.shape.PoolShape.{PoolShape}
+use Rattle.rayon_machine_places.specs.declared.place.Place.{Place}
 use Rattle.rayon_machine_places.specs.declared.place.Place.TheVariants.{AtOnce, BeginHere, FirstSide, LowerCount, RaiseCount, Run, Stopped}
 use Rattle.rayon_machine_places.specs.declared.place.Target.{Target}
 use Rattle.rayon_machine_places.specs.declared.place.Target.TheVariants.{Termination, Answer}
@@ -25,22 +26,27 @@ use Rattle.rayon_drive.specs.Paths.{Traced}
 use Rattle.rayon_performers.specs.Calls.{own_call, own_join}
 use Rattle.rayon_performers.specs.Spawns.{closing}
 
--- a run that lay above a frame of a program: the move by which it began; its job, and what the end of its run set going; how
--- it ended; and the worker's acts when the job was lent the worker, and when it ended. What the job itself does with the
--- worker stands apart from these acts, and each call that it makes says its own
+-- what lay above a frame of a program: the move by which it began; where that beginning led, to the run of a job that was in
+-- no FIFO list, to that of the job that a token stands for, or nowhere, where a token's list was empty; how the run ended; and the
+-- worker's acts when the job was lent the worker, and when it ended. What the job itself does with the worker stands apart from
+-- these acts, and each call that it makes says its own
 pub record Lay : Type 0 where
   pub begins : Move
-  pub job : ℕ
-  pub kind : JobKind
+  pub starts : Move
   pub ended : Ending
   pub lent : Log
   pub over : Log
 
--- where the program below a run goes on: at the frame above which the run began
-abbrev pub below : Move → Ending → Move
-below (Enter f p) e = Stay (goes_on f e)
-below (StartRun f t) e = Stay (goes_on f e)
-below m e = m
+-- the frame goes on above which a run was that ended so; one above which nothing ran stays as it is
+abbrev pub resumed : Move → Place → Ending → Place
+resumed (Discard k) f e = f
+resumed m f e = goes_on f e
+
+-- where the program below goes on: at the frame above which the run began
+abbrev pub below : Move → Move → Ending → Move
+below (Enter f p) s e = Stay (resumed s f e)
+below (StartRun f t) s e = Stay (goes_on f e)
+below m s e = m
 
 -- whether a job of this kind has a run: a token has none, and the number that stands for a broadcast has none
 abbrev pub HasRun : JobKind → Type 0
@@ -53,10 +59,21 @@ HasRun _ = Unit {0}
 abbrev pub Closes : PoolShape → Party → ℕ → JobKind → Ending → Log → Log → Type 0
 Closes h q t k e v w = HasRun k × elim (closing k t e) [ None ↦ w ≡ v | Some p ↦ Traced h q (Stay p) v w Back ]
 
+-- what a run of this job adds once it has begun: the entry of the run itself, and the acts of its end
+abbrev pub Ran : PoolShape → Party → ℕ → JobKind → Lay → Log → Type 0
+Ran h q t k r w = AddsRun r.lent r.over × Closes h q t k r.ended r.over w
+
+-- what follows where a beginning has led: a run, for which a token may have been spent; or nothing, where a token got no job
+abbrev pub Follows : PoolShape → Party → Move → Lay → Log → Type 0
+Follows h q (Stay (Run t k)) r w = Ran h q t k r w
+Follows h q (HandIn (Run t k) n) r w = Ran h q t k r w
+Follows h q (Discard n) r w = w ≡ r.lent
+Follows h q m r w = ⊥
+
 -- what a run adds: the acts by which it begins, the entry of the run itself, and the acts of its end. The run of a first
 -- side begins and ends with none
 abbrev pub RunAdds : PoolShape → Party → Move → Lay → Log → Log → Type 0
-RunAdds h q (Enter f p) r v w = Traced h q (Stay p) v r.lent (Stay (Run r.job r.kind)) × AddsRun r.lent r.over × Closes h q r.job r.kind r.ended r.over w
+RunAdds h q (Enter f p) r v w = Traced h q (Stay p) v r.lent r.starts × Follows h q r.starts r w
 RunAdds h q (StartRun f t) r v w = AddsRun v w
 RunAdds h q m r v w = ⊥
 
@@ -64,7 +81,7 @@ RunAdds h q m r v w = ⊥
 -- leads from the last of them to the last move
 abbrev pub WorkedAround : PoolShape → Party → Move → Log → List Lay → Log → Move → Type 0
 WorkedAround h q m v [] w n = Traced h q m v w n
-WorkedAround h q m v (r ∷ rs) w n = (x : Log) × (y : Log) × Traced h q m v x r.begins × RunAdds h q r.begins r x y × WorkedAround h q (below r.begins r.ended) y rs w n
+WorkedAround h q m v (r ∷ rs) w n = (x : Log) × (y : Log) × Traced h q m v x r.begins × RunAdds h q r.begins r x y × WorkedAround h q (below r.begins r.starts r.ended) y rs w n
 
 -- where a wait for this ends: the worker has stopped, or the call has its answer
 abbrev pub wait_end : Target → Move
@@ -101,7 +118,7 @@ Joined h q e v w = (n : ℕ) × (x : Log) × (y : Log) × Offered h q n v x × A
 -- the acts of an install by a worker of the pool, from its Raise to its end, whose job ended so: as far as the run, the run's
 -- beginning, the run, and on from its end
 abbrev pub Installed : PoolShape → Party → Ending → Log → Log → Type 0
-Installed h q e v w = (n : ℕ) × (x : Log) × (y : Log) × (z : Log) × Traced h q (Stay (RaiseCount (Here 0 n))) v x (Enter (AtOnce 0 n) (BeginHere n)) × Traced h q (Stay (BeginHere n)) x y (Stay (Run n Direct)) × AddsRun y z × Traced h q (Stay (LowerCount (OfPool 0) (OfJob n) (Ran n e))) z w Back
+Installed h q e v w = (n : ℕ) × (x : Log) × (y : Log) × (z : Log) × Traced h q (Stay (RaiseCount (Here 0 n))) v x (Enter (AtOnce 0 n) (BeginHere n)) × Traced h q (Stay (BeginHere n)) x y (Stay (Run n Direct)) × AddsRun y z × Traced h q (Stay (LowerCount (OfPool 0) (OfJob n) (RanSo n e))) z w Back
 
 -- the acts of a refused call: none, or those of its plan from its Raise to where it hands its jobs back
 abbrev pub HandedBack : PoolShape → Party → (ℕ → Plan) → Log → Log → Type 0

@@ -41,6 +41,16 @@ impl<F: Drop> SharedFaults<F> {
         drop(later);
     }
 
+    // A token was spent whose list was empty.
+    pub(crate) fn stray<R: Wait>(&self, rt: &R) {
+        self.faults.lock(rt).stray();
+    }
+
+    // How many such tokens there were, at most 2^64 - 1.
+    pub(crate) fn strays<R: Wait>(&self, rt: &R) -> u64 {
+        self.faults.lock(rt).strays()
+    }
+
     // The first fault since this was asked last, and how many there were, at most 2^64 - 1. None is kept then.
     pub(crate) fn take<R: Wait>(&self, rt: &R) -> (Option<F>, u64)
         ensures { Agrees result.0 result.1 }

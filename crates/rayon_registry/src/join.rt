@@ -13,7 +13,7 @@ ghost use Rattle.rayon_registry.specs.Acts.{CallMade, HandedBack, Joined, Lowere
 ghost use Rattle.rayon_registry.specs.Joins.{joins_by};
 ghost use Rattle.rayon_registry.specs.Answers.{joined, JoinAnswers};
 ghost use Rattle.rayon_registry.specs.Worker.{EndedCall, Kept, SameWorker};
-ghost use Rattle.rayon_tasks.specs.Tasks.{OneJob};
+ghost use Rattle.rayon_tasks.specs.Tasks.{HasJob, OneJob};
 ghost use Rattle.std.specs.Prelude.{◌≡◌, ◌⊎◌, ℕ, ◌≤◌, ◌<◌, [], ◌∷◌, ◌++◌, ◌+◌, ◌-◌, ◌==◌, Bool, Result, Ok, Err, IfOk, IfErr, MatchResult, suc, true, false};
 
 use crate::answers::join_answer;
@@ -190,11 +190,8 @@ impl<J: JobKind> WorkerThread<J> {
                 }
                 Reclaimed::Other { task: name, waits } => {
                     held = self.bench.take_call();
-                    self.bench.begin_task(name);
-                    let Some(task) = self.bench.take_task() else {
-                        unreachable!()
-                    };
-                    self.run_task(rt, alloc, task);
+                    let begun = self.bench.begin_task(rt, name);
+                    self.run_begun(rt, alloc, begun);
                     if waits {
                         let target = Target::Answer {
                             call,
@@ -222,6 +219,7 @@ impl<J: JobKind> WorkerThread<J> {
     ) -> Result<Result<J::Output, J::Fault>, Lost>
         requires some { 0 < self.old.levels }
         requires levels { self.old.levels ≤ R.levels rt.now }
+        requires job { HasJob task.work }
         ensures ok { IfOk result (λ r. J.answers tag.now r) }
         ensures ended { EndedCall self.old self.new }
         ensures path { Lowered self.old.shape (Worker 0 self.old.seat) call self.old.acts self.new.acts }
@@ -255,6 +253,7 @@ impl<J: JobKind> WorkerThread<J> {
     ) -> Done<J>
         requires some { 0 < self.old.levels }
         requires levels { self.old.levels ≤ R.levels rt.now }
+        requires job { HasJob task.work }
         ensures ended { EndedCall self.old self.new }
         ensures path { Lowered self.old.shape (Worker 0 self.old.seat) call self.old.acts self.new.acts }
     {

@@ -135,6 +135,21 @@ impl<J: JobKind> PoolRef<J> {
         }
     }
 
+    /// Spawns a detached job for a caller that is no worker, which has no FIFO list on the pool: so it is queued as by
+    /// `spawn`, among the injected jobs, of which the oldest is taken first. Refused as there.
+    pub fn spawn_fifo<R: Wait>(&self, rt: &R, alloc: Global, job: J) -> Result<(), (Refusal, J)>
+        ensures back { IfErr result (λ e. e.1 ≡ job) }
+        ensures refused { IfErr result (λ e. (e.0 ≡ Refusal.Ended) ⊎ ((e.0 ≡ Refusal.Full) ⊎ (e.0 ≡ Refusal.NoRoom))) }
+    {
+        self.spawn(rt, alloc, job)
+    }
+
+    /// How many tokens of FIFO lists found their list empty, at most 2^64 - 1. In each run of the machine it is 0;
+    /// where rayon-core finds such a token it ends the process.
+    pub fn strays<R: Wait>(&self, rt: &R) -> u64 {
+        self.faults.strays(rt)
+    }
+
     /// The first fault of a detached job since this was asked last, and how many there were; that number stops at 2^64 - 1.
     /// None and 0 are left.
     pub fn take_fault<R: Wait>(&self, rt: &R) -> (Option<J::Fault>, u64)

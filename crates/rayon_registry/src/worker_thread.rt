@@ -1,19 +1,22 @@
 //! The value that stands for a worker.
+ghost use Rattle.rayon_performers.specs.Begins.{BringsJob};
+ghost use Rattle.rayon_performers.specs.Fifos.{Fed, feeding, token_task};
 ghost use Rattle.rayon_performers.specs.Hands.{HasTicket};
 ghost use Rattle.rayon_performers.specs.Marks.{TakesUnit};
 ghost use Rattle.rayon_performers.specs.Spawns.{ClosesUnit, Spawned, detached_task};
 ghost use Rattle.rayon_performers.specs.Stands.{call_to};
 ghost use Rattle.rayon_queues.specs.Deques.{Leaves};
 ghost use Rattle.rayon_tasks.specs.Calls.{ticket_in};
+ghost use Rattle.rayon_tasks.specs.Tasks.{HasJob, taken_in};
 ghost use Rattle.rayon_tasks.specs.Tickets.{kind_in};
+ghost use Rattle.rayon_tasks.specs.Works.{work_of};
 ghost use Rattle.rayon_machine_places.specs.Places.{fresh, undo};
 ghost use Rattle.rayon_machine_places.specs.declared.place.Move.TheVariants.{Back, Stay};
 ghost use Rattle.rayon_machine_places.specs.declared.place.Party.TheVariants.{Worker};
 ghost use Rattle.rayon_machine_places.specs.declared.place.Place.TheVariants as at;
 ghost use Rattle.rayon_machine_places.specs.declared.place.Ending.{Ending};
 ghost use Rattle.rayon_machine_places.specs.declared.place.Ending.TheVariants.{Fault, Fine};
-ghost use Rattle.rayon_machine_places.specs.declared.place.Plan.TheVariants.{Detach, Here};
-ghost use Rattle.rayon_machine_places.specs.declared.place.Taken.TheVariants.{Plain};
+ghost use Rattle.rayon_machine_places.specs.declared.place.Plan.TheVariants.{Detach, Feed, Here};
 ghost use Rattle.rayon_machine_places.specs.declared.place.Target.TheVariants.{Termination};
 ghost use Rattle.rayon_jobs.specs.Endings.{ending_of as ended};
 ghost use Rattle.rayon_drive.specs.Traces.{AddsRun};
@@ -250,8 +253,33 @@ impl<J: JobKind> WorkerThread<J> {
         Ok(())
     }
 
+    /// Spawns a detached job in order: adds it last to the worker's own FIFO list, and puts a token last into its own
+    /// deque, and waits for nothing. Who takes a token, this worker or a thief, runs the first job of the list. The
+    /// list's lock is held until the token is pushed. The job has a unit of the terminate count and its fault is kept,
+    /// as with `spawn`. Refused `Full`, `NoRoom`, `Ended`, with the very job back and nothing added.
+    ///
+    /// What lies in the list no contract sees, since other threads take from it.
+    #[tactic(auto, unfolding(crate::specs::Pushes::pushed_by, crate::specs::Pushes::left_to, crate::specs::Pushes::takes_oldest, crate::specs::Pushes::units_of, crate::specs::Pushes::count_of, crate::specs::Pushes::shape_at, crate::specs::Pushes::seat_of, crate::specs::Pushes::acts_of, crate::specs::Pushes::saw_set))]
+    pub fn spawn_fifo<R: Wait>(&mut self, rt: &R, alloc: Global, job: J) -> Result<(), (Refusal, J)>
+        ensures spawned { IfOk result (λ _. (n : ℕ) × (k : ℕ) × Fed self.old.shape (Worker 0 self.old.seat) n k self.old.acts self.new.acts × (self.new ≡ record self.old { pushed = self.old.pushed ++ token_task (Worker 0 self.old.seat) k ∷ []; left = self.old.left ++ token_task (Worker 0 self.old.seat) k ∷ []; count = self.new.count; acts = self.new.acts })) }
+        ensures unit { IfOk result (λ _. TakesUnit true self.old.count self.new.count) }
+        ensures back { IfErr result (λ e. e.1 ≡ job) }
+        ensures kept { IfErr result (λ _. Kept self.old self.new) }
+        ensures path { IfErr result (λ _. (k : ℕ) × HandedBack self.old.shape (Worker 0 self.old.seat) (λ j. Feed (feeding j k)) self.old.acts self.new.acts) }
+        ensures refused { IfErr result (λ e. (e.0 ≡ Refusal.Ended) ⊎ ((e.0 ≡ Refusal.Full) ⊎ (e.0 ≡ Refusal.NoRoom))) }
+    {
+        let Some(name) = self.names.draw() else {
+            return Err((Refusal::Full, job));
+        };
+        let Some(token) = self.names.draw() else {
+            return Err((Refusal::Full, job));
+        };
+        self.bench.spawn_fifo(rt, alloc, name, token, job)?;
+        Ok(())
+    }
+
     /// Takes the newest task of the worker's own deque, or the oldest where that is its order. None where nothing lies
-    /// there.
+    /// there. It may be a token.
     #[tactic(auto, unfolding(crate::specs::Pushes::pushed_by, crate::specs::Pushes::left_to, crate::specs::Pushes::takes_oldest, crate::specs::Pushes::units_of, crate::specs::Pushes::count_of, crate::specs::Pushes::shape_at, crate::specs::Pushes::seat_of, crate::specs::Pushes::acts_of, crate::specs::Pushes::saw_set))]
     pub fn take_local_job<R: Wait>(&mut self, rt: &R) -> Option<Task<J>>
         ensures some { IfSome result (λ t. Leaves self.old.oldest_first self.old.left t self.new.left) }
@@ -260,13 +288,13 @@ impl<J: JobKind> WorkerThread<J> {
         ensures kept { self.new ≡ record self.old { left = self.new.left; acts = self.new.acts } }
         ensures path { MatchOption result
             (Traced self.old.shape (Worker 0 self.old.seat) (Stay at.LocalPop) self.old.acts self.new.acts Back)
-            (λ t. Traced self.old.shape (Worker 0 self.old.seat) (Stay at.LocalPop) self.old.acts self.new.acts (Stay (at.BeginTask (Plain t.ticket.number)))) }
+            (λ t. Traced self.old.shape (Worker 0 self.old.seat) (Stay at.LocalPop) self.old.acts self.new.acts (Stay (at.BeginTask (taken_in t)))) }
     {
         self.bench.take_local(rt)
     }
 
     /// Looks for a task: in the worker's own deque, in the other workers', from a chosen one on, each once, and last
-    /// among the injected ones. None where each look missed.
+    /// among the injected ones. None where each look missed. It may be a token.
     #[tactic(auto, unfolding(crate::specs::Pushes::pushed_by, crate::specs::Pushes::left_to, crate::specs::Pushes::takes_oldest, crate::specs::Pushes::units_of, crate::specs::Pushes::count_of, crate::specs::Pushes::shape_at, crate::specs::Pushes::seat_of, crate::specs::Pushes::acts_of, crate::specs::Pushes::saw_set))]
     pub fn find_work<R: Wait>(&mut self, rt: &R) -> Option<Task<J>>
         ensures some { IfSome result (λ t. Leaves self.old.oldest_first self.old.left t self.new.left ⊎ (self.new.left ≡ self.old.left)) }
@@ -274,7 +302,7 @@ impl<J: JobKind> WorkerThread<J> {
         ensures kept { self.new ≡ record self.old { left = self.new.left; acts = self.new.acts } }
         ensures path { MatchOption result
             (Traced self.old.shape (Worker 0 self.old.seat) (Stay at.YieldPop) self.old.acts self.new.acts Back)
-            (λ t. Traced self.old.shape (Worker 0 self.old.seat) (Stay at.YieldPop) self.old.acts self.new.acts (Stay (at.BeginTask (Plain t.ticket.number)))) }
+            (λ t. Traced self.old.shape (Worker 0 self.old.seat) (Stay at.YieldPop) self.old.acts self.new.acts (Stay (at.BeginTask (taken_in t)))) }
     {
         self.bench.find_work(rt)
     }
@@ -305,11 +333,8 @@ impl<J: JobKind> WorkerThread<J> {
                     place: Place::BeginTask(name),
                     ..
                 } => {
-                    self.bench.begin_task(name);
-                    let Some(task) = self.bench.take_task() else {
-                        unreachable!()
-                    };
-                    self.run_task(rt, alloc, task);
+                    let begun = self.bench.begin_task(rt, name);
+                    self.run_begun(rt, alloc, begun);
                 }
                 _ => return Ok(()),
             }
@@ -353,11 +378,8 @@ impl<J: JobKind> WorkerThread<J> {
                     ..
                 } => {
                     held = self.bench.take_call();
-                    self.bench.begin_task(name);
-                    let Some(task) = self.bench.take_task() else {
-                        unreachable!()
-                    };
-                    self.run_task(rt, alloc, task);
+                    let begun = self.bench.begin_task(rt, name);
+                    self.run_begun(rt, alloc, begun);
                 }
                 _ => return self.bench.take_done(),
             }
@@ -365,11 +387,26 @@ impl<J: JobKind> WorkerThread<J> {
         unreachable!()
     }
 
-    // Runs a task that was taken and has begun, and tells its call.
-    #[tactic(auto, unfolding(crate::specs::Pushes::units_of, crate::specs::Pushes::shape_at, crate::specs::Pushes::seat_of))]
-    pub(crate) fn run_task<R: Waits<J>>(&mut self, rt: &R, alloc: Global, task: Task<J>)
+    // Runs what has begun, if there is something. Else a token was spent whose list was empty: that is counted.
+    pub(crate) fn run_begun<R: Waits<J>>(&mut self, rt: &R, alloc: Global, begun: Option<Task<J>>)
         requires some { 0 < self.old.levels }
         requires levels { self.old.levels ≤ R.levels rt.now }
+        requires job { BringsJob begun }
+        ensures same { SameWorker self.old self.new }
+        ensures path { MatchOption begun (self.new.acts ≡ self.old.acts) (λ t. (e : Ending) × (x : Log) × AddsRun self.old.acts x × Closes self.old.shape (Worker 0 self.old.seat) t.ticket.number (kind_in t.ticket) e x self.new.acts) }
+    {
+        match begun {
+            Some(task) => self.run_task(rt, alloc, task),
+            None => self.faults.stray(rt),
+        }
+    }
+
+    // Runs a task that was taken and has begun, and tells its call.
+    #[tactic(auto, unfolding(crate::specs::Pushes::units_of, crate::specs::Pushes::shape_at, crate::specs::Pushes::seat_of))]
+    fn run_task<R: Waits<J>>(&mut self, rt: &R, alloc: Global, task: Task<J>)
+        requires some { 0 < self.old.levels }
+        requires levels { self.old.levels ≤ R.levels rt.now }
+        requires job { HasJob task.work }
         ensures same { SameWorker self.old self.new }
         ensures path { (e : Ending) × (x : Log) × AddsRun self.old.acts x × Closes self.old.shape (Worker 0 self.old.seat) task.ticket.number (kind_in task.ticket) e x self.new.acts }
     {
@@ -419,12 +456,14 @@ impl<J: JobKind> WorkerThread<J> {
     ) -> (Done<J>, Option<(Ticket<J>, Done<J>)>)
         requires some { 0 < self.old.levels }
         requires levels { self.old.levels ≤ R.levels rt.now }
+        requires job { HasJob (work_of work) }
         ensures same { SameWorker self.old self.new }
         ensures acts { AddsRun self.old.acts self.new.acts }
     {
         match work {
             Work::Job(job) => (self.run_to_done(rt, alloc, job, migrated), None),
             Work::Pair(pair) => self.run_sides(rt, alloc, pair),
+            Work::Token => unreachable!(),
         }
     }
 

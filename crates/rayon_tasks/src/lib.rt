@@ -11,6 +11,6 @@ mod work;
 
 pub use call::Call;
 pub use names::{Names, law_names};
-pub use task::{Task, single_parts, task_of_job, task_of_pair, task_parts};
+pub use task::{Task, single_parts, task_of_job, task_of_pair, task_parts, token_of};
 pub use ticket::Ticket;
 pub use work::{Pair, Work};

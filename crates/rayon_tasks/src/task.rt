@@ -1,40 +1,51 @@
 //! What lies in the queues of a pool.
-ghost use Rattle.rayon_tasks.specs.Tasks.{IsSingle, OneJob, TwoSides};
+ghost use Rattle.rayon_tasks.specs.Tasks.{HasJob, IsSingle, NoJob, OneJob, TwoSides, sides_with, taken_in};
 ghost use Rattle.rayon_tasks.specs.Tickets.{kind_in};
 ghost use Rattle.rayon_tasks.specs.Works.{work_of};
-ghost use Rattle.std.specs.Prelude.{◌≡◌, ◌↔◌, IsTrue, true, IfOk, IfErr};
+ghost use Rattle.std.specs.Prelude.{◌≡◌, ◌↔◌, ⊤, IsTrue, None, Some, true, false, IfOk, IfErr};
 
 use crate::ticket::Ticket;
 use crate::work::{Pair, Work};
 use rayon_jobs::JobKind;
-use rayon_machine_places::place::{JobKind as Kind, Party};
+use rayon_machine_places::place::{JobKind as Kind, Party, Taken};
 use std::alloc::Global;
 use std::marker::Model;
 
-/// What a call queued: a second side, a job that was sent to the pool, two sides that were sent to the pool, or a detached
-/// job.
+// What a task brings: its job and where its call was made, or no job.
+#[derive(Drop)]
+pub(crate) enum Load<J> {
+    // of a call by a worker of the pool
+    Inside(J),
+    // of a call from outside the pool
+    Injected(J),
+    // the first job of a worker's FIFO list is to run
+    Token,
+}
+
+/// What a call queued: a second side, a job that was sent to the pool, two sides that were sent to the pool, a detached
+/// job, or a token, which stands for the first job of the FIFO list of the worker whose ticket it has.
 ///
 /// Users of the pool see this type alone of the crate, and to them it is opaque. Tasks are made and taken apart by
 /// functions beside the type, not by its methods, so who has a task and not this crate can neither take its ticket out
 /// nor make a task with it: no task answers for a call but the one that the call queued.
 #[derive(Drop)]
 pub struct Task<J: JobKind> {
-    job: J,
-    injected: bool,
+    load: Load<J>,
     ticket: Ticket<J>,
     // of two sides, the first side's task: the job above is then the second one
     first: Option<Box<Task<J>, Global>>,
 }
 
 impl<J: JobKind> Model for Task<J> {
-    ghost use Rattle.rayon_tasks.specs.Tasks.{IsSingle, TaskOf, sides_of, work_with};
+    ghost use Rattle.rayon_tasks.specs.Loads.{BringsJob, is_injected, work_with};
+    ghost use Rattle.rayon_tasks.specs.Tasks.{IsSingle, TaskOf, sides_of};
     ghost use Rattle.std.specs.Prelude.{⊤, Some, None};
 
     ghost Value = { TaskOf J };
 
-    ghost view = { λ t. record { work = elim t.first [ None ↦ work_with t.job None | Some b ↦ work_with t.job (Some b.value) ]; injected = t.injected; ticket = t.ticket } };
+    ghost view = { λ t. record { work = elim t.first [ None ↦ work_with t.load None | Some b ↦ work_with t.load (Some b.value) ]; injected = is_injected t.load; ticket = t.ticket } };
 
-    ghost invariant = { λ t. elim t.first [ None ↦ ⊤ | Some b ↦ IsSingle b.value.work ] };
+    ghost invariant = { λ t. elim t.first [ None ↦ ⊤ | Some b ↦ IsSingle b.value.work × BringsJob t.load ] };
 
     ghost size = { λ t. sides_of t.work };
 
@@ -58,6 +69,33 @@ impl<J: JobKind> Task<J> {
         self.ticket.owner()
     }
 
+    /// What is seen of the task where it is taken: its name, and of a token whose FIFO list it is of.
+    #[inline(always)]
+    pub fn taken(&self) -> Taken
+        ensures { result ≡ taken_in self.now }
+    {
+        let number = self.number();
+        match &self.load {
+            Load::Token => Taken::Token {
+                number,
+                worker: self.owner().index(),
+                scope: None,
+            },
+            Load::Inside(_) | Load::Injected(_) => Taken::Plain(number),
+        }
+    }
+
+    /// Whether it brings a job, and so is no token.
+    #[inline(always)]
+    pub fn has_job(&self) -> bool
+        ensures { IsTrue result ↔ HasJob self.now.work }
+    {
+        match &self.load {
+            Load::Token => false,
+            Load::Inside(_) | Load::Injected(_) => true,
+        }
+    }
+
     /// What the end of the run sets going: of a detached job that its unit of the terminate count is given back, else that
     /// its result is stored for the call that waits for it.
     #[inline(always)]
@@ -78,14 +116,17 @@ impl<J: JobKind> Task<J> {
     pub fn injected(&self) -> bool
         ensures { result ≡ self.now.injected }
     {
-        self.injected
+        match &self.load {
+            Load::Injected(_) => true,
+            Load::Inside(_) | Load::Token => false,
+        }
     }
 
     /// Whether there is one job to run.
     pub fn is_single(&self) -> bool
         ensures { IsTrue result ↔ IsSingle self.now.work }
     {
-        self.first.is_none()
+        self.first.is_none() && self.has_job()
     }
 }
 
@@ -94,9 +135,25 @@ impl<J: JobKind> Task<J> {
 pub fn task_of_job<J: JobKind>(job: J, injected: bool, ticket: Ticket<J>) -> Task<J>
     ensures { result ≡ record { work = OneJob job; injected = injected; ticket = ticket } }
 {
+    let load = if injected {
+        Load::Injected(job)
+    } else {
+        Load::Inside(job)
+    };
     Task {
-        job,
-        injected,
+        load,
+        ticket,
+        first: None,
+    }
+}
+
+/// The token of this name, which stands for the first job of the FIFO list of the worker whose ticket this is. Nobody
+/// waits for a token.
+pub fn token_of<J: JobKind>(ticket: Ticket<J>) -> Task<J>
+    ensures { result ≡ record { work = NoJob; injected = false; ticket = ticket } }
+{
+    Task {
+        load: Load::Token,
         ticket,
         first: None,
     }
@@ -117,13 +174,12 @@ pub fn task_of_pair<J: JobKind>(
     let first = task_of_job(first, true, first_result);
     match Box::new(alloc, first) {
         Ok(first) => Ok(Task {
-            job: second,
-            injected: true,
+            load: Load::Injected(second),
             ticket,
             first: Some(first),
         }),
         Err(refused) => {
-            let Task { job: first, .. } = refused.value;
+            let (first, _, _) = single_parts(refused.value);
             Err((first, second))
         }
     }
@@ -138,14 +194,14 @@ pub fn single_parts<J: JobKind>(task: Task<J>) -> (J, bool, Ticket<J>)
     ensures ticket { result.2 ≡ task.ticket }
 {
     let Task {
-        job,
-        injected,
+        load,
         ticket,
         first,
     } = task;
-    match first {
-        None => (job, injected, ticket),
-        Some(_) => unreachable!(),
+    match (load, first) {
+        (Load::Inside(job), None) => (job, false, ticket),
+        (Load::Injected(job), None) => (job, true, ticket),
+        _ => unreachable!(),
     }
 }
 
@@ -157,25 +213,32 @@ pub fn task_parts<J: JobKind>(task: Task<J>) -> (Work<J>, bool, Ticket<J>)
     ensures ticket { result.2 ≡ task.ticket }
 {
     let Task {
-        job,
-        injected,
+        load,
         ticket,
         first,
     } = task;
-    let work = match first {
+    match load {
+        Load::Inside(job) => (work_beside(job, first), false, ticket),
+        Load::Injected(job) => (work_beside(job, first), true, ticket),
+        Load::Token => (Work::Token, false, ticket),
+    }
+}
+
+// What there is to run of this job, and of the first side's task if it is one of two sides.
+#[inline(always)]
+fn work_beside<J: JobKind>(job: J, first: Option<Box<Task<J>, Global>>) -> Work<J>
+    requires { elim first [ None ↦ ⊤ | Some b ↦ IsSingle b.value.work ] }
+    ensures { work_of result ≡ elim first [ None ↦ OneJob job | Some b ↦ sides_with job b.value ] }
+{
+    match first {
         None => Work::Job(job),
         Some(first) => {
-            let Task {
-                job: first,
-                ticket: first_result,
-                ..
-            } = Box::into_inner(first);
+            let (first, _, first_result) = single_parts(Box::into_inner(first));
             Work::Pair(Pair {
                 first,
                 second: job,
                 first_result,
             })
         }
-    };
-    (work, injected, ticket)
+    }
 }

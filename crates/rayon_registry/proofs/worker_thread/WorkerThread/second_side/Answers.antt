@@ -54,13 +54,13 @@ returns-then-waits-clause-path g c =
     let mine = subst (λ z. Traced z.shape (Worker 0 z.index) first z.trace u.trace n) c.set_call.ensures moved in
     let here = subst (λ v. Traced v.shape (Worker 0 v.seat) first v.acts u.trace n) c.self.view_is mine in
     let found = traced_as l.shape a.shape l.seat a.seat first l.acts u.trace n n c.loop.invariant.5 c.loop.invariant.6 refl here in
-    let x = c.run_task.new.self in
+    let x = c.run_begun.new.self in
     let w = c.wait_for.new.self.acts in
     let seat : x.seat ≡ a.seat = search rules in
     let shape : x.shape ≡ a.shape = search rules in
     let t = c.take_call-held.new.self in
-    let y = c.begin_task.new.self in
-    c.loop.invariant.8 w Back (around_task a.shape a.seat wait c.in-Other.name c.in-Some-take_task-2.task t y c.take_task-in-Other.new.self p first l.acts u.trace x.acts w Back (search rules) (search rules) (search rules) (search rules) (search rules) (search rules) (search rules) (search rules) (search rules) found c.begin_task.ensures.path c.run_task.ensures.path
+    let y = c.begin_task-begun.new.self in
+    c.loop.invariant.8 w Back (around_task a.shape a.seat wait c.begin_task-begun.result t y c.in-Other.name p first l.acts u.trace x.acts w Back refl (search rules) (search rules) (search rules) (search rules) (search rules) (λ e. refl) found c.begin_task-begun.ensures.path c.run_begun.ensures.path
     (worked_as x.shape a.shape x.seat a.seat (Stay wait) x.acts w Back seat shape c.wait_for.ensures.path))
 
 pub loop-preserved : goal.loop-preserved
@@ -82,7 +82,7 @@ loop-preserved g c =
     let here = subst (λ v. Traced v.shape (Worker 0 v.seat) first v.acts u.trace n) c.self.view_is mine in
     let found = traced_as l.shape a.shape l.seat a.seat first l.acts u.trace n n c.loop.invariant.5 c.loop.invariant.6 refl here in
     let t = c.take_call-held.new.self in
-    let y = c.begin_task.new.self in (
+    let y = c.begin_task-begun.new.self in (
       tt,
       tt,
       search rules,
@@ -91,7 +91,7 @@ loop-preserved g c =
       search rules,
       search rules,
       search rules,
-      λ w m x. c.loop.invariant.8 w m (around_task a.shape a.seat (at.JoinProbe o) c.in-Other.name c.in-Some-take_task-2.task t y c.take_task-in-Other.new.self p first l.acts u.trace c.run_task.new.self.acts w m (search rules) (search rules) (search rules) (search rules) (search rules) (search rules) (search rules) (search rules) (search rules) found c.begin_task.ensures.path c.run_task.ensures.path x),
+      λ w m x. c.loop.invariant.8 w m (around_task a.shape a.seat (at.JoinProbe o) c.begin_task-begun.result t y c.in-Other.name p first l.acts u.trace c.run_begun.new.self.acts w m refl (search rules) (search rules) (search rules) (search rules) (search rules) (λ e. refl) found c.begin_task-begun.ensures.path c.run_begun.ensures.path x),
     )
 
 pub returns-in-Answered-clause-path : goal.returns-in-Answered-clause-path

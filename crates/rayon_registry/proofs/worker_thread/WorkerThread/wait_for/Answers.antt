@@ -1,4 +1,4 @@
-use Rattle.std.proofs.Common.{rules, subst, sym}
+use Rattle.std.proofs.Common.{refl, rules, subst, sym}
 use Rattle.rayon_machine_places.specs.declared.place.Move.TheVariants.{Enter, Stay}
 use Rattle.rayon_machine_places.specs.declared.place.Party.TheVariants.{Worker}
 use Rattle.rayon_machine_places.specs.declared.place.Place.TheVariants as at
@@ -28,7 +28,7 @@ loop-preserved g c =
     let here = subst (λ v. Traced v.shape (Worker 0 v.seat) first v.acts u.trace r) c.self.view_is mine in
     let found = traced_as l.shape a.shape l.seat a.seat first l.acts u.trace r (Enter (at.ProbeWorking (fresh k)) p) c.loop.invariant.5 c.loop.invariant.6 (above k c.in-Enter-default-BeginTask.frame p r c.in-Enter-default-BeginTask.is c.wait.ensures.ends) here in
     let t = c.take_call-held.new.self in
-    let y = c.begin_task.new.self in (
+    let y = c.begin_task-begun.new.self in (
       tt,
       tt,
       search rules,
@@ -37,7 +37,7 @@ loop-preserved g c =
       search rules,
       search rules,
       search rules,
-      λ w n x. c.loop.invariant.8 w n (around_task a.shape a.seat (at.ProbeWorking (fresh k)) c.in-Enter-default-BeginTask.name c.in-Some-take_task.task t y c.take_task.new.self p first l.acts u.trace c.run_task.new.self.acts w n (search rules) (search rules) (search rules) (search rules) (search rules) (search rules) (search rules) (search rules) (search rules) found c.begin_task.ensures.path c.run_task.ensures.path x),
+      λ w n x. c.loop.invariant.8 w n (around_task a.shape a.seat (at.ProbeWorking (fresh k)) c.begin_task-begun.result t y c.in-Enter-default-BeginTask.name p first l.acts u.trace c.run_begun.new.self.acts w n (search rules) (search rules) (search rules) (search rules) (search rules) (search rules) (λ e. refl) found c.begin_task-begun.ensures.path c.run_begun.ensures.path x),
     )
 
 pub returns-in_default-clause-path : goal.returns-in_default-clause-path

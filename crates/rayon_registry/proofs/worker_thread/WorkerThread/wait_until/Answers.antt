@@ -26,7 +26,7 @@ loop-preserved g c =
     let first = Stay (at.ProbeWorking (fresh Termination)) in
     let here = subst (λ v. Traced v.shape (Worker 0 v.seat) first v.acts u.trace r) c.self-in-loop.view_is (traced b.shape b.index first _ _ r c.wait_on.ensures.path) in
     let found = traced_as l.shape a.shape l.seat a.seat first l.acts u.trace r (Enter (at.ProbeWorking (fresh Termination)) p) c.loop.invariant.5 c.loop.invariant.6 (above Termination f p r c.in-Enter-default-BeginTask.is c.wait_on.ensures.ends) here in
-    let y = c.begin_task.new.self in (
+    let y = c.begin_task-begun.new.self in (
       tt,
       tt,
       search rules,
@@ -34,7 +34,7 @@ loop-preserved g c =
       search rules,
       search rules,
       search rules,
-      λ w n k. c.loop.invariant.7 w n (around_task a.shape a.seat (at.ProbeWorking (fresh Termination)) c.in-Enter-default-BeginTask.name c.in-Some-take_task.task u y c.take_task.new.self p first l.acts u.trace c.run_task.new.self.acts w n (search rules) (search rules) (search rules) (search rules) (search rules) refl (search rules) (search rules) (search rules) found c.begin_task.ensures.path c.run_task.ensures.path k),
+      λ w n k. c.loop.invariant.7 w n (around_task a.shape a.seat (at.ProbeWorking (fresh Termination)) c.begin_task-begun.result u y c.in-Enter-default-BeginTask.name p first l.acts u.trace c.run_begun.new.self.acts w n (search rules) (search rules) (search rules) refl (search rules) (search rules) (λ e. refl) found c.begin_task-begun.ensures.path c.run_begun.ensures.path k),
     )
 
 pub returns-in_default-clause-path : goal.returns-in_default-clause-path

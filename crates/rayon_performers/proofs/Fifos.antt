@@ -1,0 +1,42 @@
+-- A job goes into a FIFO list, and its token onto the own deque, act by act.
+use Rattle.std.proofs.Common.{◌≡◌, Bool, true, false, ℕ, None, refl, subst}
+use Rattle.rayon_machine_places.specs.declared.act.Act.TheVariants as acts
+use Rattle.rayon_machine_places.specs.declared.act.Seen.{Seen}
+use Rattle.rayon_machine_places.specs.declared.act.Seen.TheVariants.{Done, Refused, Yes, No, Task}
+use Rattle.rayon_machine_places.specs.declared.place.Count.TheVariants.{OfPool}
+use Rattle.rayon_machine_places.specs.declared.place.Move.{Move}
+use Rattle.rayon_machine_places.specs.declared.place.Move.TheVariants.{Stay, HandBack}
+use Rattle.rayon_machine_places.specs.declared.place.Place.TheVariants as at
+use Rattle.rayon_machine_places.specs.declared.place.Plan.TheVariants.{Feed}
+use Rattle.rayon_machine_places.specs.declared.place.Taken.{Taken}
+use Rattle.rayon_machine_places.specs.declared.place.Taken.TheVariants.{Plain}
+use Rattle.rayon_machine_places.specs.declared.shape.PoolShape.{PoolShape}
+use Rattle.rayon_machine_places.specs.Places.{undo}
+use Rattle.rayon_drive.specs.Traces.{Adds}
+use Rattle.rayon_performers.specs.Fifos.{feeding}
+use Rattle.rayon_performers.specs.Hands.{Hands, Does, Looks, Same, answer}
+use Rattle.rayon_performers.proofs.Stretches.{So, so_far, by_act}
+
+module _ {X G O F : Type 0} (h : PoolShape) (i n k : ℕ) (s t u : Hands X G O F) where
+  -- a Raise leads to where the job is added to the list
+  pub fed_raised : Does (acts.Raise (OfPool 0) n) Done s t → Adds (acts.Raise (OfPool 0) n) Done s.trace t.trace → So h i (Stay (at.RaiseCount (Feed (feeding n k)))) s (Stay (at.AddToFifo (feeding n k))) t
+  fed_raised d e = by_act h i (Stay (at.RaiseCount (Feed (feeding n k)))) s (Stay (at.RaiseCount (Feed (feeding n k)))) s t Done refl (so_far h i (Stay (at.RaiseCount (Feed (feeding n k)))) s) d e
+
+  pub fed_not_raised : Does (acts.Raise (OfPool 0) n) Refused s t → Adds (acts.Raise (OfPool 0) n) Refused s.trace t.trace → So h i (Stay (at.RaiseCount (Feed (feeding n k)))) s (HandBack (Feed (feeding n k))) t
+  fed_not_raised d e = by_act h i (Stay (at.RaiseCount (Feed (feeding n k)))) s (Stay (at.RaiseCount (Feed (feeding n k)))) s t Refused refl (so_far h i (Stay (at.RaiseCount (Feed (feeding n k)))) s) d e
+
+  -- the job is added, or there was no room
+  pub fed_added : Same s t → Adds (acts.FifoIn n None) Done s.trace t.trace → So h i (Stay (at.AddToFifo (feeding n k))) s (Stay (at.LookForToken (feeding n k))) t
+  fed_added d e = by_act h i (Stay (at.AddToFifo (feeding n k))) s (Stay (at.AddToFifo (feeding n k))) s t Done refl (so_far h i (Stay (at.AddToFifo (feeding n k))) s) (d, tt) e
+
+  pub fed_not_added : Same s t → Adds (acts.FifoIn n None) Refused s.trace t.trace → So h i (Stay (at.AddToFifo (feeding n k))) s (Stay (undo (Feed (feeding n k)))) t
+  fed_not_added d e = by_act h i (Stay (at.AddToFifo (feeding n k))) s (Stay (at.AddToFifo (feeding n k))) s t Refused refl (so_far h i (Stay (at.AddToFifo (feeding n k))) s) (d, tt) e
+
+  -- the own deque is looked at before the push of the token
+  pub fed_looked : (m : Move) (z : Bool) → So h i m s (Stay (at.LookForToken (feeding n k))) t → Looks t u → Adds acts.LookOwn (answer z) t.trace u.trace → So h i m s (Stay (at.PushToken (feeding n k) z)) u
+  fed_looked m true a d e = by_act h i m s (Stay (at.LookForToken (feeding n k))) t u Yes refl a d e
+  fed_looked m false a d e = by_act h i m s (Stay (at.LookForToken (feeding n k))) t u No refl a d e
+
+  -- the token was refused, and the job is taken back out of the list
+  pub fed_undone : (m : Move) (x : Taken) → x ≡ Plain n → So h i m s (Stay (at.TakeFromFifo (feeding n k))) t → Same t u → Adds (acts.FifoUndo None) (Task x) t.trace u.trace → So h i m s (Stay (undo (Feed (feeding n k)))) u
+  fed_undone m x is a d e = by_act h i m s (Stay (at.TakeFromFifo (feeding n k))) t u (Task (Plain n)) refl a (d, tt) (subst (λ (z : Taken). Adds (acts.FifoUndo None) (Task z) t.trace u.trace) is e)

@@ -19,7 +19,7 @@ pub use rayon_registry::{
 };
 pub use rayon_sleep::latch::{Owner, SpinLatch};
 pub use rayon_words::{CallError, Refusal};
-pub use thread_pool::ThreadPool;
+pub use thread_pool::{DetachedPool, ThreadPool};
 
 // What is pushed and taken by hand. To users it is opaque: none answers for a call but the one that the call queued.
 pub use rayon_tasks::Task;

@@ -70,6 +70,20 @@ impl<J: JobKind> ThreadPool<J> {
         drop(workers);
     }
 
+    /// The same pool without the handles of its workers' threads, which belong to the thread that started them: so any
+    /// thread may keep this and end it, and none can join the workers.
+    pub fn detach(self) -> DetachedPool<J>
+        ensures { result ≡ self }
+    {
+        let ThreadPool {
+            pool,
+            hold,
+            workers,
+        } = self;
+        drop(workers);
+        DetachedPool { pool, hold }
+    }
+
     /// Ends the pool as `end` does, and joins the workers' threads, which leave once nothing holds the pool. So this
     /// waits for detached jobs and for the waiting calls that other threads have made, and no thread of the pool is
     /// left.
@@ -80,6 +94,42 @@ impl<J: JobKind> ThreadPool<J> {
             workers,
         } = self;
         end_workers(rt, &pool, hold, workers);
+    }
+}
+
+/// A pool whose workers' threads are joined by nobody (`ThreadPool::detach`). It has no `Drop`: it must be spent by `end`.
+/// Contracts see of it what they see of its `PoolRef`, which it lends.
+pub struct DetachedPool<J: JobKind> {
+    pool: PoolRef<J>,
+    hold: PoolHold,
+}
+
+impl<J: JobKind> Model for DetachedPool<J> {
+    ghost use Rattle.rayon_registry.specs.Worker.{Pool};
+    ghost use Rattle.std.specs.Prelude.{◌≡◌};
+
+    ghost Value = { Pool };
+
+    ghost view = { λ p. p.pool };
+
+    ghost invariant = { λ p. p.hold ≡ p.pool.count };
+}
+
+impl<J: JobKind> Deref for DetachedPool<J> {
+    type Target = PoolRef<J>;
+
+    ghost deref_gives = { λ p r. r ≡ p };
+
+    fn deref(&self) -> &PoolRef<J> {
+        &self.pool
+    }
+}
+
+impl<J: JobKind> DetachedPool<J> {
+    /// Ends the pool, as `ThreadPool::end` does.
+    pub fn end<R: Wait>(self, rt: &R) {
+        let DetachedPool { pool, hold } = self;
+        end_pool(rt, &pool, hold);
     }
 }
 

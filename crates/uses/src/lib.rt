@@ -1,7 +1,8 @@
-//! Uses of `rayon_core`, as a caller writes them: one file for each feature, and one for the pools.
+//! Uses of `rayon_core` and `rayon_global`, as a caller writes them: one file for each feature, and one for the pools.
 #![tactic(auto)]
 
 pub mod closure;
+pub mod global;
 pub mod migrated;
 pub mod pools;
 pub mod sort;

@@ -1,6 +1,7 @@
 //! How a pool is made for each feature, lent and ended.
 ghost use Rattle.std.specs.Prelude.{◌≡◌, IfOk, false};
 
+use crate::global::halves;
 use crate::migrated::Tell;
 use crate::sort::Sort;
 use crate::sum::Sum;
@@ -107,5 +108,7 @@ pub fn print_all<R: Runtime + Threads + Wait + Copy + Send + 'static>(
     println!(rt; "triples: {triples:?}")?;
     let (job, closure) = first_sides(rt, alloc, &ids)?;
     println!(rt; "migrated: {job} {closure}")?;
+    let (left, right) = halves(rt, alloc)?;
+    println!(rt; "halves: {left} + {right}")?;
     Ok(())
 }

@@ -1,0 +1,114 @@
+//! The jobs of the tests, which call their pool by the free functions.
+ghost use Rattle.rayon_core.specs.Worker.{SameWorker};
+ghost use Rattle.std.specs.Prelude.{◌≡◌, ◌≤◌};
+
+use rayon_core::latch::LockLatch;
+use rayon_core::{
+    BroadcastContext, CallError, FnContext, Job, JobKind, Refusal, Waits, WorkerThread,
+};
+use rayon_global::{current_thread_index, install, join, join_context, spawn};
+use std::alloc::Global;
+use std::sync::Arc;
+
+/// A job.
+#[derive(Drop)]
+pub enum Deed {
+    /// Answers twice this number, found by joins, contexts and installs below.
+    Twice(u64),
+    /// Answers the index of the worker that runs it.
+    Where,
+    /// Sets this latch.
+    Set(Arc<LockLatch>),
+    /// Spawns a job that sets this latch.
+    SpawnSet(Arc<LockLatch>),
+}
+
+impl JobKind for Deed {
+    type Tag = u64;
+
+    type Output = u64;
+
+    type Fault = Refusal;
+
+    ghost answers = { λ t r. Unit {0} };
+
+    ghost tag_of = { λ j. 0 };
+
+    fn tag(&self) -> u64 {
+        0
+    }
+
+    ghost same_answers = { λ t u e. (λ r h. h, λ i n r h. h) };
+}
+
+impl Job for Deed {
+    fn run<R: Waits<Self>>(
+        self,
+        rt: &R,
+        alloc: Global,
+        w: &mut WorkerThread<Self>,
+        _ctx: &mut FnContext<Self>,
+    ) -> Result<u64, Refusal> {
+        match self {
+            Deed::Twice(n) => twice(rt, alloc, w, n),
+            Deed::Where => match current_thread_index(w) {
+                Some(index) => Ok(index as u64),
+                None => Err(Refusal::Ended),
+            },
+            Deed::Set(latch) => {
+                latch.set(rt);
+                Ok(0)
+            }
+            Deed::SpawnSet(latch) => match spawn(rt, alloc, w, Deed::Set(latch)) {
+                Ok(()) => Ok(0),
+                Err((refusal, _)) => Err(refusal),
+            },
+        }
+    }
+
+    fn run_on<R: Waits<Self>>(
+        &self,
+        _rt: &R,
+        _alloc: Global,
+        _w: &mut WorkerThread<Self>,
+        _ctx: &mut BroadcastContext<Self>,
+    ) -> Result<u64, Refusal> {
+        Err(Refusal::Ended)
+    }
+}
+
+// Twice a number: by a join, by one with contexts and by an install, in turn.
+fn twice<R: Waits<Deed>>(
+    rt: &R,
+    alloc: Global,
+    w: &mut WorkerThread<Deed>,
+    n: u64,
+) -> Result<u64, Refusal>
+    requires { w.old.levels ≤ R.levels rt.now }
+    ensures same { SameWorker w.old w.new }
+{
+    if n < 2 {
+        return Ok(n + n);
+    }
+    let (half, rest) = (n / 2, n - n / 2);
+    if n % 3 == 0 {
+        let one = once(install(rt, alloc, w, Deed::Twice(n - 1)))?;
+        return one.checked_add(2).ok_or(Refusal::Full);
+    }
+    let sides = if n % 3 == 1 {
+        join(rt, alloc, w, Deed::Twice(half), Deed::Twice(rest))
+    } else {
+        join_context(rt, alloc, w, Deed::Twice(half), Deed::Twice(rest))
+    };
+    let (a, b) = once(sides)?;
+    a.checked_add(b).ok_or(Refusal::Full)
+}
+
+/// What a call gave, without what it handed back.
+pub fn once<O: Drop, B: Drop>(answer: Result<O, CallError<Refusal, B>>) -> Result<O, Refusal> {
+    match answer {
+        Ok(output) => Ok(output),
+        Err(CallError::Fault(refusal) | CallError::Refused(refusal, _)) => Err(refusal),
+        Err(CallError::Foreign | CallError::Missing) => Err(Refusal::Ended),
+    }
+}

@@ -1,0 +1,195 @@
+//! The tests.
+use crate::deed::{Deed, once};
+use rayon_core::latch::LockLatch;
+use rayon_core::{EndAfter, Ids, PoolRef, Refusal, ThreadPoolBuildError, ThreadPoolBuilder};
+use rayon_global::{
+    GlobalPool, GlobalPoolBuildError, Outside, builder_of_environment, current_thread_index,
+    install, join, join_context, max_num_threads, spawn,
+};
+use std::alloc::Global;
+use std::process::Abort;
+use std::sync::{Arc, Wait};
+use std::test::Fail;
+use std::thread;
+use std::thread::Threads;
+
+// A builder for so many workers.
+fn workers(n: usize) -> ThreadPoolBuilder<Deed> {
+    ThreadPoolBuilder::new().num_threads(n)
+}
+
+// A latch that is not set, in two shares.
+fn latch<R: Abort>(rt: &R, alloc: Global) -> (Arc<LockLatch>, Arc<LockLatch>) {
+    let latch = Arc::new(alloc, LockLatch::new()).expect(rt, "room");
+    let again = Arc::try_clone(&latch).expect(rt, "room");
+    (latch, again)
+}
+
+// The pool is made where it is first used, by that builder, and then it is the same one for all.
+#[test]
+fn first_use_fills(rt: HostRuntime) -> Result<(), Fail> {
+    let (alloc, ids, global) = (rt.alloc(), Ids::new(), GlobalPool::new());
+    let empty = global.get().is_none();
+    let (first, second) = global.end_after(&rt, |global| {
+        let first = global
+            .filled(&rt, alloc, &ids, workers(3))
+            .expect(&rt, "a pool");
+        let second = global
+            .filled(&rt, alloc, &ids, workers(5))
+            .expect(&rt, "a pool");
+        assert!(rt; global.get().is_some());
+        let numbers = (first.current_num_threads(), second.current_num_threads());
+        (first.id() == second.id(), numbers)
+    });
+    assert!(rt; empty && first);
+    assert_eq!(rt; second, (3, 3));
+    Ok(())
+}
+
+// Each call outside of a run, and each within one.
+#[test]
+fn calls_are_answered_on_both_sides(rt: HostRuntime) -> Result<(), Fail> {
+    let (alloc, ids, global) = (rt.alloc(), Ids::new(), GlobalPool::new());
+    global.end_after(&rt, |global| {
+        let filled = global.filled(&rt, alloc, &ids, workers(2));
+        let mut outside = filled.expect(&rt, "a pool");
+        assert!(rt; current_thread_index(&outside).is_none());
+        let one = install(&rt, alloc, &mut outside, Deed::Twice(50));
+        assert_eq!(rt; once(one), Ok(100));
+        let two = join(&rt, alloc, &mut outside, Deed::Twice(7), Deed::Twice(40));
+        assert_eq!(rt; once(two), Ok((14, 80)));
+        let two = join_context(&rt, alloc, &mut outside, Deed::Twice(9), Deed::Twice(0));
+        assert_eq!(rt; once(two), Ok((18, 0)));
+        let index = once(install(&rt, alloc, &mut outside, Deed::Where));
+        assert!(rt; index.is_ok_and(|index| index < 2));
+        let (ours, theirs) = latch(&rt, alloc);
+        assert!(rt; spawn(&rt, alloc, &mut outside, Deed::Set(theirs)).is_ok());
+        ours.wait(&rt);
+        let (ours, theirs) = latch(&rt, alloc);
+        assert_eq!(rt;
+            once(install(&rt, alloc, &mut outside, Deed::SpawnSet(theirs))),
+            Ok(0)
+        );
+        ours.wait(&rt);
+        assert_eq!(rt; outside.take_fault(&rt), (None, 0));
+    });
+    Ok(())
+}
+
+// The first word of the environment says how many workers the pool has.
+#[test]
+fn first_word_of_one_gives_one_worker(rt: HostRuntime) -> Result<(), Fail> {
+    let (alloc, ids, global) = (rt.alloc(), Ids::new(), GlobalPool::new());
+    let builder = ThreadPoolBuilder::new().environment(Some("1"), Some("7"), 9);
+    let (workers, index) = global.end_after(&rt, |global| {
+        let filled = global.filled(&rt, alloc, &ids, builder);
+        let mut outside = filled.expect(&rt, "a pool");
+        let index = install(&rt, alloc, &mut outside, Deed::Where);
+        (outside.current_num_threads(), once(index))
+    });
+    assert_eq!(rt; (workers, index), (1, Ok(0)));
+    Ok(())
+}
+
+// What the environment says is some number of workers, and a pool of that builder has as many.
+#[test]
+fn surroundings_give_workers(rt: HostRuntime) -> Result<(), Fail> {
+    let (alloc, ids, global) = (rt.alloc(), Ids::new(), GlobalPool::new());
+    let builder = builder_of_environment::<Deed, _>(&rt, alloc).expect(&rt, "room");
+    let count = builder.worker_count();
+    let workers = global.end_after(&rt, |global| {
+        let built = global.build_global(&rt, alloc, &ids, builder);
+        built.expect(&rt, "a pool").current_num_threads()
+    });
+    assert_eq!(rt; workers, count);
+    assert!(rt; 1 <= count && count <= max_num_threads());
+    Ok(())
+}
+
+// The pool is built once: asked again it is refused, and then no number is drawn.
+#[test]
+fn second_build_is_refused(rt: HostRuntime) -> Result<(), Fail> {
+    let (alloc, ids, global) = (rt.alloc(), Ids::new(), GlobalPool::new());
+    let workers = global.end_after(&rt, |global| {
+        let first = global.build_global(&rt, alloc, &ids, workers(2));
+        assert!(rt; first.is_ok());
+        let second = global.build_global(&rt, alloc, &ids, workers(4));
+        assert!(rt;
+            matches!(
+                &second,
+                Err(GlobalPoolBuildError::GlobalPoolAlreadyInitialized)
+            )
+        );
+        let filled = global.filled(&rt, alloc, &ids, workers(5));
+        filled.expect(&rt, "a pool").current_num_threads()
+    });
+    assert_eq!(rt; workers, 2);
+    let others = Ids::new();
+    let _first = others.next(&rt);
+    assert_eq!(rt; ids.next(&rt), others.next(&rt));
+    Ok(())
+}
+
+// Where no pool can be made there is none, and a later call makes one.
+#[test]
+fn failed_fill_leaves_it_empty(rt: HostRuntime) -> Result<(), Fail> {
+    let (alloc, ids, global) = (rt.alloc(), Ids::new(), GlobalPool::new());
+    let workers = global.end_after(&rt, |global| {
+        let spent = Ids::spent();
+        let filled = global.filled(&rt, alloc, &spent, workers(2));
+        assert!(rt; matches!(&filled, Err(ThreadPoolBuildError::NoIds)));
+        assert!(rt; global.get().is_none());
+        let built = global.build_global(&rt, alloc, &spent, workers(2));
+        assert!(rt;
+            matches!(
+                &built,
+                Err(GlobalPoolBuildError::NotBuilt(ThreadPoolBuildError::NoIds))
+            )
+        );
+        let stack = workers(2).stack_size(usize::MAX);
+        let filled = global.filled(&rt, alloc, &ids, stack);
+        assert!(rt; matches!(&filled, Err(ThreadPoolBuildError::IOError(_))));
+        assert!(rt; global.get().is_none());
+        let filled = global.filled(&rt, alloc, &ids, workers(3));
+        filled.expect(&rt, "a pool").current_num_threads()
+    });
+    assert_eq!(rt; workers, 3);
+    Ok(())
+}
+
+// Another thread calls by a copy of the pool's `PoolRef`. Once the pool has ended it is refused, with the job back.
+#[test]
+fn other_threads_have_a_copy(rt: HostRuntime) -> Result<(), Fail> {
+    let (alloc, ids, global) = (rt.alloc(), Ids::new(), GlobalPool::new());
+    let (found, copy) = global.end_after(&rt, |global| {
+        let filled = global.filled(&rt, alloc, &ids, workers(2));
+        let outside = filled.expect(&rt, "a pool");
+        let Ok(copy) = outside.pool_ref() else {
+            panic!(rt; "room");
+        };
+        (twice_elsewhere(&rt, alloc, copy), outside.pool_ref())
+    });
+    assert_eq!(rt; found, Ok(80));
+    let Ok(copy) = copy else {
+        panic!(rt; "room");
+    };
+    assert_eq!(rt; twice_elsewhere(&rt, alloc, copy), Err(Refusal::Ended));
+    Ok(())
+}
+
+// Twice 40, as a thread of its own asks this pool for it.
+fn twice_elsewhere<R: Threads + Wait + Abort + Copy + Send + 'static>(
+    rt: &R,
+    alloc: Global,
+    pool: PoolRef<Deed>,
+) -> Result<u64, Refusal> {
+    let theirs = *rt;
+    let call = move || {
+        let mut outside = Outside::of(&pool);
+        once(install(&theirs, alloc, &mut outside, Deed::Twice(40)))
+    };
+    let Ok(other) = thread::spawn(rt, call) else {
+        panic!(rt; "a thread");
+    };
+    other.join(rt)
+}

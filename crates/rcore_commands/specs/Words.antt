@@ -1,13 +1,32 @@
-use Rattle.std.specs.Prelude.{◌≡◌, ℕ, ◌≤◌, ◌<◌, ◌^◌, List, [], ◌∷◌, ◌++◌, Option, ⊤}
+use Rattle.std.specs.Prelude.{◌≡◌, ℕ, ℤ, ◌≤◌, ◌<◌, ◌^◌, List, [], ◌∷◌, ◌++◌, Option, Some, None, ⊤}
 use Rattle.rayon_core.specs.Environment.{Says, Writes, workers_for}
 use Rattle.std.specs.Fmt.{decimal}
+use Rattle.std.specs.List.Sorted.{IsPermutation}
 use Rattle.fibonacci.specs.Fib.{fib}
+use Rattle.spawn_orders.specs.Orders.{numbers_of}
+use Rattle.spawn_orders.specs.declared.order.Order.{Order}
+use Rattle.spawn_orders.specs.declared.order.Order.TheVariants.{Lifo, Fifo, LifoFifo, FifoLifo, Breadth, MixedLifoFifo, MixedFifoLifo}
+use Rattle.rcore_commands.specs.Lines.{spaced}
 use Rattle.rcore_commands.specs.declared.command.Command.{Command}
 use Rattle.rcore_commands.specs.declared.command.Command.TheVariants.{Fib, Threads, Replay}
 
 -- the bytes of the word fib
 abbrev pub fib_word : List ℕ
 fib_word = 102 ∷ 105 ∷ 98 ∷ []
+
+-- the bytes of the word order
+abbrev pub order_word : List ℕ
+order_word = 111 ∷ 114 ∷ 100 ∷ 101 ∷ 114 ∷ []
+
+-- the bytes of the word for an order: lifo, fifo, lifo-fifo, fifo-lifo, breadth, mixed-lifo-fifo, mixed-fifo-lifo
+abbrev pub kind_word : Order → List ℕ
+kind_word Lifo = 108 ∷ 105 ∷ 102 ∷ 111 ∷ []
+kind_word Fifo = 102 ∷ 105 ∷ 102 ∷ 111 ∷ []
+kind_word LifoFifo = 108 ∷ 105 ∷ 102 ∷ 111 ∷ 45 ∷ 102 ∷ 105 ∷ 102 ∷ 111 ∷ []
+kind_word FifoLifo = 102 ∷ 105 ∷ 102 ∷ 111 ∷ 45 ∷ 108 ∷ 105 ∷ 102 ∷ 111 ∷ []
+kind_word Breadth = 98 ∷ 114 ∷ 101 ∷ 97 ∷ 100 ∷ 116 ∷ 104 ∷ []
+kind_word MixedLifoFifo = 109 ∷ 105 ∷ 120 ∷ 101 ∷ 100 ∷ 45 ∷ 108 ∷ 105 ∷ 102 ∷ 111 ∷ 45 ∷ 102 ∷ 105 ∷ 102 ∷ 111 ∷ []
+kind_word MixedFifoLifo = 109 ∷ 105 ∷ 120 ∷ 101 ∷ 100 ∷ 45 ∷ 102 ∷ 105 ∷ 102 ∷ 111 ∷ 45 ∷ 108 ∷ 105 ∷ 102 ∷ 111 ∷ []
 
 -- the bytes of the word replay
 abbrev pub replay_word : List ℕ
@@ -26,6 +45,10 @@ abbrev pub AsksForFib : List (List ℕ) → ℕ → ℕ → Type 0
 AsksForFib words workers n =
     (w v : List ℕ) × (words ≡ fib_word ∷ w ∷ v ∷ []) × Writes w workers × Writes v n × InRange workers n
 
+-- two words that ask for the n-th Fibonacci number on as many workers as the surroundings say: fib and the number
+abbrev pub AsksForFibHere : List (List ℕ) → ℕ → Type 0
+AsksForFibHere words n = (v : List ℕ) × (words ≡ fib_word ∷ v ∷ []) × Writes v n × (n ≤ 30)
+
 -- so many workers has a pool for which so many were asked, by the environment's two words and so many processors
 abbrev pub Counts : ℕ → List ℕ → List ℕ → ℕ → ℕ → Type 0
 Counts asked first second processors count =
@@ -39,7 +62,9 @@ AsksForThreads words count =
 
 -- what the words of a command line ask for
 abbrev pub AsksFor : List (List ℕ) → Command → Type 0
-AsksFor words (Fib workers n) = AsksForFib words workers n
+AsksFor words (Fib (Some workers) n) = AsksForFib words workers n
+AsksFor words (Fib None n) = AsksForFibHere words n
+AsksFor words (Command.Order order) = words ≡ order_word ∷ kind_word order ∷ []
 AsksFor words (Threads count) = AsksForThreads words count
 AsksFor words Replay = words ≡ replay_word ∷ []
 
@@ -48,8 +73,10 @@ abbrev pub AskForNothing : List (List ℕ) → Type 0
 AskForNothing words = (c : Command) → AsksFor words c → ⊥
 
 -- what a command that is done has written, if the property says that this text was: its number's decimal and a line feed;
--- of the world that a replay prints nothing is said
+-- of an order each of its numbers once, in whatever order they came, with single spaces between, and a line feed; of the
+-- world that a replay prints nothing is said
 abbrev pub IsPrinted : Command → (List ℕ → Type 0) → Type 0
 IsPrinted (Fib workers n) wrote = wrote (decimal (fib n) ++ 10 ∷ [])
+IsPrinted (Command.Order order) wrote = (ns : List ℤ) × IsPermutation ns (numbers_of order) × wrote (spaced ns ++ 10 ∷ [])
 IsPrinted (Threads count) wrote = wrote (decimal count ++ 10 ∷ [])
 IsPrinted Replay wrote = ⊤

@@ -2,6 +2,7 @@
 #![tactic(auto)]
 
 pub mod command;
+mod order_command;
 mod replay;
 mod replay_command;
 mod replay_print;

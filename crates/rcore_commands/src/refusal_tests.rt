@@ -4,6 +4,7 @@ use crate::run::{build_error_name, fail, run_args};
 use fibonacci::FibFault;
 use rayon_core::{CallError, Refusal, ThreadPoolBuildError};
 use rayon_machine::error::{StartError, StepError};
+use spawn_orders::OrderFault;
 use std::alloc::Global;
 use std::env::Args;
 use std::fmt::Display;
@@ -32,6 +33,7 @@ fn names_of_refused_calls(rt: HostRuntime) -> Result<(), Fail> {
     for (refusal, name) in REFUSALS {
         prints(&rt, alloc, &refusal, name)?;
         prints(&rt, alloc, &FibFault::Refused(refusal), name)?;
+        prints(&rt, alloc, &OrderFault::Refused(refusal), name)?;
         let error: CallError<FibFault, ()> = CallError::Refused(refusal, ());
         prints(&rt, alloc, &error, name)?;
     }
@@ -46,6 +48,8 @@ fn names_of_lost_results(rt: HostRuntime) -> Result<(), Fail> {
     let fault: CallError<FibFault, ()> = CallError::Fault(FibFault::TooLarge);
     prints(&rt, alloc, &foreign, "Foreign")?;
     prints(&rt, alloc, &missing, "Missing")?;
+    prints(&rt, alloc, &OrderFault::Foreign, "Foreign")?;
+    prints(&rt, alloc, &OrderFault::Missing, "Missing")?;
     prints(&rt, alloc, &fault, "TooLarge")?;
     prints(&rt, alloc, &FibFault::from(foreign), "Foreign")?;
     prints(&rt, alloc, &FibFault::from(missing), "Missing")?;

@@ -2,7 +2,7 @@
 
 use crate::run::run;
 use std::alloc::{AllocError, Global};
-use std::env::Args;
+use std::env::{Args, Env};
 use std::io::{BufRead, Error, ErrorKind, Read, Result as IoResult};
 use std::process::Abort;
 use std::sync::Wait;
@@ -164,7 +164,7 @@ impl BufRead for Broken {
 }
 
 // Asserts what a text prints.
-fn prints<R: Threads + Wait + Abort + Copy + Send + 'static>(
+fn prints<R: Threads + Wait + Env + Abort + Copy + Send + 'static>(
     rt: &R,
     alloc: Global,
     text: &[u8],

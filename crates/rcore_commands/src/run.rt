@@ -9,11 +9,13 @@ ghost use Rattle.std.specs.Prelude.{◌≡◌, ◌≢◌, ℕ, ◌∷◌, ◌++�
 ghost use Rattle.std.specs.Vec.Iter.{into_iter_items};
 
 use crate::command::Command;
+use crate::order_command::print_order;
 use crate::replay_command::print_replay;
 use fibonacci::Fib;
 use rayon_core::{Ids, Refusal, ThreadPoolBuildError, ThreadPoolBuilder};
+use rayon_global::builder_of_environment;
 use std::alloc::Global;
-use std::env::Args;
+use std::env::{Args, Env};
 use std::fmt::Display;
 use std::io;
 use std::io::{BufRead, ErrorKind, Write};
@@ -32,7 +34,7 @@ const BAD_WORDS: u8 = 2;
 /// Does what a command line asks for, and answers the status: 0 done; 1 a fault, a refusal or a failed write, with its
 /// name on `err`; 2 bad words, with nothing on `out`. The first of the arguments is the program's name. Where memory
 /// was refused while they were read the status is 1 with `NoRoom`; an argument that is no text makes them bad words.
-pub fn run_args<R: Threads + Wait + Copy + Send + 'static, I: BufRead, W: Write, E: Write>(
+pub fn run_args<R: Threads + Wait + Env + Copy + Send + 'static, I: BufRead, W: Write, E: Write>(
     rt: &R,
     alloc: Global,
     args: io::Result<Args>,
@@ -64,7 +66,7 @@ fn without_name(args: Args) -> Args
 }
 
 /// Does what the words ask for, and answers the status, as `run_args` does.
-pub fn run<R: Threads + Wait + Copy + Send + 'static, I: BufRead, W: Write, E: Write>(
+pub fn run<R: Threads + Wait + Env + Copy + Send + 'static, I: BufRead, W: Write, E: Write>(
     rt: &R,
     alloc: Global,
     words: Args,
@@ -80,16 +82,17 @@ pub fn run<R: Threads + Wait + Copy + Send + 'static, I: BufRead, W: Write, E: W
     match Command::parse(words) {
         None => bad_words(err),
         Some(Command::Fib { workers, n }) => print_fib(rt, alloc, workers, n, out, err),
+        Some(Command::Order { order }) => print_order(rt, alloc, order, out, err),
         Some(Command::Threads { count }) => print_line(count as u64, out, err),
         Some(Command::Replay) => print_replay(alloc, reader, out, err),
     }
 }
 
-// Finds a Fibonacci number on a pool, and prints it.
-fn print_fib<R: Threads + Wait + Copy + Send + 'static, W: Write, E: Write>(
+// Finds a Fibonacci number on a pool of so many workers, or of as many as the surroundings say, and prints it.
+fn print_fib<R: Threads + Wait + Env + Copy + Send + 'static, W: Write, E: Write>(
     rt: &R,
     alloc: Global,
-    workers: usize,
+    workers: Option<usize>,
     n: u8,
     out: &mut W,
     err: &mut E,
@@ -97,9 +100,14 @@ fn print_fib<R: Threads + Wait + Copy + Send + 'static, W: Write, E: Write>(
     ensures done { result ≡ 0 → Appends (W.contents out.old) (W.contents out.new) (decimal (fib n) ++ 10 ∷ []) }
     ensures status { result ≡ 2 → ⊥ }
 {
-    let ids = Ids::new();
-    let builder = ThreadPoolBuilder::<Fib>::new().num_threads(workers);
-    let pool = match builder.build(rt, alloc, &ids) {
+    let builder = match workers {
+        Some(workers) => ThreadPoolBuilder::<Fib>::new().num_threads(workers),
+        None => match builder_of_environment(rt, alloc) {
+            Ok(builder) => builder,
+            Err(refusal) => return fail(err, refusal),
+        },
+    };
+    let pool = match builder.build(rt, alloc, &Ids::new()) {
         Ok(pool) => pool,
         Err(error) => return fail(err, build_error_name(&error)),
     };

@@ -7,8 +7,36 @@ use std::test::Fail;
 
 const BAD_WORDS: &str = "rcore: bad words\n";
 
+/// What `order lifo` prints.
+const DOWN_FROM_99: &str =
+    "99 98 97 96 95 94 93 92 91 90 89 88 87 86 85 84 83 82 81 80 79 78 77 76 75 74 73 72 71 \
+    70 69 68 67 66 65 64 63 62 61 60 59 58 57 56 55 54 53 52 51 50 49 48 47 46 45 44 43 42 \
+    41 40 39 38 37 36 35 34 33 32 31 30 29 28 27 26 25 24 23 22 21 20 19 18 17 16 15 14 13 \
+    12 11 10 9 8 7 6 5 4 3 2 1 0\n";
+
+/// What `order breadth` prints.
+const UP_TO_99: &str =
+    "0 1 2 3 4 5 6 7 8 9 10 11 12 13 14 15 16 17 18 19 20 21 22 23 24 25 26 27 28 29 30 31 \
+    32 33 34 35 36 37 38 39 40 41 42 43 44 45 46 47 48 49 50 51 52 53 54 55 56 57 58 59 60 \
+    61 62 63 64 65 66 67 68 69 70 71 72 73 74 75 76 77 78 79 80 81 82 83 84 85 86 87 88 89 \
+    90 91 92 93 94 95 96 97 98 99\n";
+
+/// What `order lifo-fifo` prints.
+const TENS_DOWN: &str =
+    "90 91 92 93 94 95 96 97 98 99 80 81 82 83 84 85 86 87 88 89 70 71 72 73 74 75 76 77 \
+    78 79 60 61 62 63 64 65 66 67 68 69 50 51 52 53 54 55 56 57 58 59 40 41 42 43 44 45 \
+    46 47 48 49 30 31 32 33 34 35 36 37 38 39 20 21 22 23 24 25 26 27 28 29 10 11 12 13 \
+    14 15 16 17 18 19 0 1 2 3 4 5 6 7 8 9\n";
+
+/// What `order fifo-lifo` prints.
+const TENS_UP: &str =
+    "9 8 7 6 5 4 3 2 1 0 19 18 17 16 15 14 13 12 11 10 29 28 27 26 25 24 23 22 21 20 39 \
+    38 37 36 35 34 33 32 31 30 49 48 47 46 45 44 43 42 41 40 59 58 57 56 55 54 53 52 51 \
+    50 69 68 67 66 65 64 63 62 61 60 79 78 77 76 75 74 73 72 71 70 89 88 87 86 85 84 83 \
+    82 81 80 99 98 97 96 95 94 93 92 91 90\n";
+
 /// Command lines that are done, and what they print.
-const GOOD_LINES: [(&str, &str); 24] = [
+const GOOD_LINES: [(&str, &str); 35] = [
     ("fib 1 20", "6765\n"),
     ("fib 1 0", "0\n"),
     ("fib 1 1", "1\n"),
@@ -20,7 +48,18 @@ const GOOD_LINES: [(&str, &str); 24] = [
     ("fib 2 20", "6765\n"),
     ("fib 04 21", "10946\n"),
     ("fib 16 22", "17711\n"),
+    ("fib 20", "6765\n"),
+    ("fib 0", "0\n"),
+    ("fib +007", "13\n"),
+    ("fib 13", "233\n"),
     ("fib 64 25", "75025\n"),
+    ("order lifo", DOWN_FROM_99),
+    ("order breadth", UP_TO_99),
+    ("order fifo", UP_TO_99),
+    ("order lifo-fifo", TENS_DOWN),
+    ("order fifo-lifo", TENS_UP),
+    ("order mixed-lifo-fifo", "3 -1 2 -2 1 -3 0\n"),
+    ("order mixed-fifo-lifo", "0 -3 1 -2 2 -1 3\n"),
     ("threads 0 0 8 4", "4\n"),
     ("threads 0 x 8 4", "8\n"),
     ("threads 0 - 0 4", "4\n"),
@@ -36,10 +75,14 @@ const GOOD_LINES: [(&str, &str); 24] = [
 ];
 
 /// Command lines that are bad words.
-const BAD_LINES: [&str; 28] = [
+const BAD_LINES: [&str; 41] = [
     "",
     "fib",
-    "fib 1",
+    "fib x",
+    "fib 31",
+    "fib 256",
+    "fib -1",
+    "fib 18446744073709551616",
     "fib 1 x",
     "fib x 1",
     "fib 0 5",
@@ -55,7 +98,16 @@ const BAD_LINES: [&str; 28] = [
     "fib 1 2 3",
     "Fib 1 2",
     "fibonacci 1 2",
-    "order lifo",
+    "order",
+    "order x",
+    "order Lifo",
+    "order lifo 1",
+    "order breadth breadth",
+    "order mixed",
+    "order fifo lifo",
+    "order scope-lifo",
+    "order scope-fifo",
+    "Order lifo",
     "threads",
     "threads 0 0 8",
     "threads 0 0 8 4 2",
@@ -109,12 +161,17 @@ fn bad_lines(rt: HostRuntime) -> Result<(), Fail> {
 #[test]
 fn failed_writes(rt: HostRuntime) -> Result<(), Fail> {
     let alloc = rt.alloc();
-    // A slice without room takes no byte, and one with room for two takes two of the five.
-    for room in [0, 2] {
+    // A slice without room takes no byte, and one with room for two takes two of them.
+    for (line, room) in [
+        ("fib 1 20", 0),
+        ("fib 1 20", 2),
+        ("order lifo", 0),
+        ("order lifo", 2),
+    ] {
         let mut bytes = [0u8; 2];
         let mut out = &mut bytes[..room];
         let mut err: Vec<u8> = Vec::new(alloc);
-        let words = words_of(alloc, "fib 1 20")?;
+        let words = words_of(alloc, line)?;
         let status = run(&rt, alloc, words, &mut rt.reader(), &mut out, &mut err);
         assert_eq!(rt; status, 1);
         assert!(rt; err.as_slice() == "rcore: Write\n".as_bytes());

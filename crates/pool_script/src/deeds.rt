@@ -90,6 +90,7 @@ fn act(names: &Directory, job: usize, words: &[&str]) -> Result<Act, Bad>
         ["serve", gate, times] => Ok(Act::Serve(names.gate(gate)?, number(times)?)),
         ["install", call] => Ok(Act::One(Verb::Install, call_below(names, job, call)?)),
         ["spawn", call] => Ok(Act::One(Verb::Spawn, call_below(names, job, call)?)),
+        ["spawn_fifo", call] => Ok(Act::One(Verb::SpawnFifo, call_below(names, job, call)?)),
         ["join", second, "with", "install", first] => {
             let first = call_below(names, job, first)?;
             Ok(Act::JoinInstall(first, call_below(names, job, second)?))

@@ -40,6 +40,7 @@ fn step(names: &Directory, words: &[&str]) -> Result<Step, Bad> {
     match words {
         ["install", pool, job] => one(names, pool, Verb::Install, job),
         ["spawn", pool, job] => one(names, pool, Verb::Spawn, job),
+        ["spawn_fifo", pool, job] => one(names, pool, Verb::SpawnFifo, job),
         ["join", pool, first, second] => {
             let (first, second) = (call_outside(names, first)?, call_outside(names, second)?);
             Ok(Step::Join(names.pool(pool)?, first, second))

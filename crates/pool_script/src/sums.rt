@@ -29,7 +29,7 @@ impl Act {
     {
         match self {
             Act::Plain(plain) => plain.adds(own, turn),
-            Act::One(Verb::Spawn, _) | Act::Serve(..) => Some(0),
+            Act::One(Verb::Spawn | Verb::SpawnFifo, _) | Act::Serve(..) => Some(0),
             Act::One(Verb::Install, _) | Act::Join(..) | Act::JoinWith(..) | Act::JoinInstall(..) =>
                 None,
         }

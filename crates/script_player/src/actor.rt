@@ -2,7 +2,7 @@
 use crate::play::{Play, trouble_of, trouble_of_both};
 use crate::stage::{Here, Stage, Told, Trouble};
 use pool_script::script::{Ask, Call, Line, Plain, Step, Verb};
-use rayon_core::{CallError, JobKind, PoolRef};
+use rayon_core::{CallError, JobKind, PoolRef, Refusal};
 use std::alloc::{AllocError, Global};
 use std::fmt::Write;
 use std::sync::{Arc, Wait};
@@ -228,12 +228,20 @@ impl Actor {
                 }
                 Err(error) => self.tell(is_fault(&error), trouble_of(error), said),
             },
-            Verb::Spawn => match pool.spawn(rt, alloc, job) {
-                Ok(()) => Ok(false),
-                Err((refusal, job)) => {
-                    self.tell(false, Trouble::Refused(refusal, job.tag()), said)
-                }
-            },
+            Verb::Spawn => self.spawned(pool.spawn(rt, alloc, job), said),
+            Verb::SpawnFifo => self.spawned(pool.spawn_fifo(rt, alloc, job), said),
+        }
+    }
+
+    // Writes why a spawn was refused. One that was not has no answer.
+    fn spawned(
+        &self,
+        spawned: Result<(), (Refusal, Play)>,
+        said: &mut String,
+    ) -> Result<bool, AllocError> {
+        match spawned {
+            Ok(()) => Ok(false),
+            Err((refusal, job)) => self.tell(false, Trouble::Refused(refusal, job.tag()), said),
         }
     }
 

@@ -1,7 +1,7 @@
 //! The commands of `join_bench` on the original's pools: for each timed run the nanoseconds that it took and what it
 //! answered.
 
-use rayon_core::{join, spawn, ThreadPool, ThreadPoolBuilder};
+use rayon_core::{join, spawn, spawn_fifo, ThreadPool, ThreadPoolBuilder};
 use std::error::Error;
 use std::hint::black_box;
 use std::sync::atomic::{AtomicU64, Ordering};
@@ -40,9 +40,10 @@ fn main() -> Result<(), Box<dyn Error>> {
             let pool = pool_of(workers.parse()?)?;
             time_calls(n.parse()?, |n| joined_twice(&pool, n))
         }
-        ["spawn", workers, _] => time_spawns(&pool_of(workers.parse()?)?),
+        ["spawn", workers, _] => time_spawns(&pool_of(workers.parse()?)?, false),
+        ["spawn_fifo", workers, _] => time_spawns(&pool_of(workers.parse()?)?, true),
         ["idle", workers, n] => idle(&pool_of(workers.parse()?)?, n.parse()?),
-        _ => Err("join|leaves|sequential|install|pool_join|spawn|idle WORKERS N, or nothing".into()),
+        _ => Err("join|leaves|sequential|install|pool_join|spawn|spawn_fifo|idle WORKERS N, or nothing".into()),
     }
 }
 
@@ -82,16 +83,21 @@ fn time_calls(n: u8, call: impl Fn(u8) -> Result<u64, &'static str>) -> Result<(
     Ok(())
 }
 
-fn time_spawns(pool: &ThreadPool) -> Result<(), Box<dyn Error>> {
+fn time_spawns(pool: &ThreadPool, in_order: bool) -> Result<(), Box<dyn Error>> {
     for _ in 0..RUNS {
         let counter = Arc::new(AtomicU64::new(0));
         let start = Instant::now();
         pool.install(|| {
             for _ in 0..SPAWNS {
                 let counter = Arc::clone(&counter);
-                spawn(move || {
+                let count = move || {
                     counter.fetch_add(1, Ordering::SeqCst);
-                });
+                };
+                if in_order {
+                    spawn_fifo(count);
+                } else {
+                    spawn(count);
+                }
             }
         });
         while counter.load(Ordering::SeqCst) < SPAWNS {

@@ -21,6 +21,8 @@ pub enum Timed {
     PoolJoin,
     /// Spawns of jobs that only count, by one job.
     Spawn,
+    /// The same, spawned in order.
+    SpawnFifo,
     /// Nothing: the pool is idle for some seconds after it has found F(n).
     Idle,
 }
@@ -38,6 +40,7 @@ impl Timed {
             "install" => Some(Timed::Install),
             "pool_join" => Some(Timed::PoolJoin),
             "spawn" => Some(Timed::Spawn),
+            "spawn_fifo" => Some(Timed::SpawnFifo),
             "idle" => Some(Timed::Idle),
             _ => None,
         }

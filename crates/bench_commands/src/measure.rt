@@ -51,7 +51,12 @@ pub fn run<R: Runtime + Threads + Wait + Copy + Send + 'static>(
             what: Timed::Spawn,
             workers,
             ..
-        } => run_spawns(rt, alloc, workers),
+        } => run_spawns(rt, alloc, workers, false),
+        Command::Time {
+            what: Timed::SpawnFifo,
+            workers,
+            ..
+        } => run_spawns(rt, alloc, workers, true),
         Command::Time { what, workers, n } => run_on_pool(rt, alloc, workers, Some((what, n))),
     }
 }
@@ -89,16 +94,17 @@ fn run_leaves<R: Runtime + Threads + Wait + Copy + Send + 'static>(
     outcome
 }
 
-// The same of jobs that are spawned.
+// The same of jobs that are spawned, in order or not.
 fn run_spawns<R: Runtime + Threads + Wait + Copy + Send + 'static>(
     rt: &R,
     alloc: Global,
     workers: usize,
+    in_order: bool,
 ) -> Result<()> {
     let ids = Ids::new();
     let builder = ThreadPoolBuilder::<Spawning>::new().num_threads(workers);
     let pool = builder.build(rt, alloc, &ids)?;
-    let outcome = time_spawns(rt, alloc, &pool);
+    let outcome = time_spawns(rt, alloc, &pool, in_order);
     pool.end_and_join(rt);
     outcome
 }
@@ -116,7 +122,7 @@ fn time<R: Runtime + Wait>(
         Timed::Install => time_installs(rt, alloc, pool, n),
         Timed::PoolJoin => time_pool_joins(rt, alloc, pool, n),
         Timed::Idle => idle(rt, alloc, pool, n),
-        Timed::Leaves | Timed::Sequential | Timed::Spawn => Ok(()),
+        Timed::Leaves | Timed::Sequential | Timed::Spawn | Timed::SpawnFifo => Ok(()),
     }
 }
 
@@ -199,12 +205,13 @@ fn time_spawns<R: Runtime + Wait>(
     rt: &R,
     alloc: Global,
     pool: &ThreadPool<Spawning>,
+    in_order: bool,
 ) -> Result<()> {
     for _ in 0..RUNS {
         let counter = Arc::new(alloc, AtomicU64::new(0)).context("NoRoom")?;
         let mine = Arc::try_clone(&counter).context("NoRoom")?;
         let start = Instant::now(rt)?;
-        let job = Spawning::new(mine, SPAWNS);
+        let job = Spawning::new(mine, SPAWNS, in_order);
         let spawned = pool
             .install(rt, alloc, job)
             .map_err(CallError::without_sides)?;

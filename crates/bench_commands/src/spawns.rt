@@ -16,17 +16,22 @@ pub enum SpawnFault {
     Refused(Refusal),
 }
 
-/// A job that spawns so many that count one each, or that counts one itself where that is none.
+/// A job that spawns so many that count one each, in order or not, or that counts one itself where that is none.
 #[derive(Drop)]
 pub struct Spawning {
     counter: Arc<AtomicU64>,
     count: u64,
+    in_order: bool,
 }
 
 impl Spawning {
     /// A job that spawns so many.
-    pub fn new(counter: Arc<AtomicU64>, count: u64) -> Spawning {
-        Spawning { counter, count }
+    pub fn new(counter: Arc<AtomicU64>, count: u64, in_order: bool) -> Spawning {
+        Spawning {
+            counter,
+            count,
+            in_order,
+        }
     }
 }
 
@@ -59,7 +64,7 @@ impl Job for Spawning {
         if self.count == 0 {
             self.counter.fetch_add(1, Ordering::SeqCst);
         } else {
-            spawn_all(rt, alloc, w, &self.counter, self.count)?;
+            spawn_all(rt, alloc, w, &self.counter, self.count, self.in_order)?;
         }
         Ok(self.count)
     }
@@ -75,13 +80,14 @@ impl Job for Spawning {
     }
 }
 
-// Spawns so many jobs that count one.
+// Spawns so many jobs that count one, in order or not.
 fn spawn_all<R: Waits<Spawning>>(
     rt: &R,
     alloc: Global,
     w: &mut WorkerThread<Spawning>,
     counter: &Arc<AtomicU64>,
     count: u64,
+    in_order: bool,
 ) -> Result<(), SpawnFault>
     ensures same { SameWorker w.old w.new }
 {
@@ -89,7 +95,13 @@ fn spawn_all<R: Waits<Spawning>>(
         let Ok(counter) = Arc::try_clone(counter) else {
             return Err(SpawnFault::Refused(Refusal::NoRoom));
         };
-        if let Err((refusal, _job)) = w.spawn(rt, alloc, Spawning::new(counter, 0)) {
+        let job = Spawning::new(counter, 0, in_order);
+        let spawned = if in_order {
+            w.spawn_fifo(rt, alloc, job)
+        } else {
+            w.spawn(rt, alloc, job)
+        };
+        if let Err((refusal, _job)) = spawned {
             return Err(SpawnFault::Refused(refusal));
         }
     }

@@ -41,6 +41,7 @@ impl Call {
             "pool_join" => Call::OnPool(PoolCall::Join),
             "pool_spawn" => Call::OnPool(PoolCall::Spawn),
             "spawn" => Call::OnPool(PoolCall::OnWorker(WorkerCall::Spawn)),
+            "spawn_fifo" => Call::OnPool(PoolCall::OnWorker(WorkerCall::SpawnFifo)),
             "join" => Call::OnPool(PoolCall::OnWorker(WorkerCall::Join)),
             "worker_install" => Call::OnPool(PoolCall::OnWorker(WorkerCall::Install)),
             "wait_until" => Call::OnPool(PoolCall::OnWorker(WorkerCall::WaitUntil)),
@@ -65,7 +66,7 @@ impl PoolCall {
     // Whether the job runs after the call: the number of runs is told once the pool has ended.
     fn spawns(self) -> bool {
         match self {
-            PoolCall::Spawn | PoolCall::OnWorker(WorkerCall::Spawn) => true,
+            PoolCall::Spawn | PoolCall::OnWorker(WorkerCall::Spawn | WorkerCall::SpawnFifo) => true,
             _ => false,
         }
     }

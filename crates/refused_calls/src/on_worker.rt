@@ -23,6 +23,8 @@ pub enum WorkerCall {
     WaitUntil,
     /// `WorkerThread::spawn`.
     Spawn,
+    /// `WorkerThread::spawn_fifo`.
+    SpawnFifo,
     /// `WorkerThread::owner`.
     Owner,
     /// `WorkerThread::push`, of a second side that was taken before.
@@ -78,7 +80,8 @@ fn make_once<R: Waits<Work>>(
         WorkerCall::Install => install(rt, alloc, w, runs),
         WorkerCall::WaitUntil => Ok(wait_until(rt, alloc, w, runs)),
         WorkerCall::Owner => Ok(owner(w, runs)),
-        WorkerCall::Spawn => spawn(rt, alloc, w, runs),
+        WorkerCall::Spawn => spawn(rt, alloc, w, runs, false),
+        WorkerCall::SpawnFifo => spawn(rt, alloc, w, runs, true),
         WorkerCall::Deep => Ok(Outcome::Unlike),
     }
 }
@@ -130,12 +133,13 @@ fn install<R: Waits<Work>>(
     })
 }
 
-// Spawns a job that counts its run.
+// Spawns a job that counts its run, in order or not.
 fn spawn<R: Waits<Work>>(
     rt: &R,
     alloc: Global,
     w: &mut WorkerThread<Work>,
     runs: &Arc<AtomicU64>,
+    in_order: bool,
 ) -> Result<Outcome, Refusal>
     ensures id { w.new.id ≡ w.old.id }
     ensures level { w.new.levels ≡ w.old.levels }
@@ -144,7 +148,12 @@ fn spawn<R: Waits<Work>>(
     ensures shape { w.new.shape ≡ w.old.shape }
 {
     let job = Work::new(Name::First, runs, Deed::Number(7))?;
-    Ok(spawned(w.spawn(rt, alloc, job), runs, Name::First))
+    let answer = if in_order {
+        w.spawn_fifo(rt, alloc, job)
+    } else {
+        w.spawn(rt, alloc, job)
+    };
+    Ok(spawned(answer, runs, Name::First))
 }
 
 // Makes a latch, and waits until it is set, which it is.

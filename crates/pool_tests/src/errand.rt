@@ -86,6 +86,8 @@ pub enum Deed {
     /// Joins one of these, one less, and a job that notes this digit; at 0 takes two tasks at most out of the own
     /// deque, and pushes each again in the order in which they were taken. Answers their number and the digits' sum.
     Taker(u64),
+    /// The same, but pushes each into the own FIFO list, and at last once more what was pushed last: a token.
+    TakerInOrder(u64),
     /// Takes a task by hand and pushes it again, and joins two of these, one less, as long as it is more than 0.
     /// Answers how many the last ones were.
     Tree(u64),

@@ -48,6 +48,11 @@ pub fn run<R: Waits<Errand>>(
             let below = Deed::Taker(digit.saturating_sub(1));
             join(rt, alloc, w, marks, below, Deed::Note(digit))
         }
+        Deed::TakerInOrder(0) => take_and_list(rt, alloc, w),
+        Deed::TakerInOrder(digit) => {
+            let below = Deed::TakerInOrder(digit.saturating_sub(1));
+            join(rt, alloc, w, marks, below, Deed::Note(digit))
+        }
         Deed::Tree(depth) => {
             let found = w.find_work(rt);
             push_again(rt, w, found)?;
@@ -115,6 +120,28 @@ fn take_and_push<R: Wait>(rt: &R, w: &mut WorkerThread<Errand>) -> Result<u64, T
     }
 }
 
+// Takes two tasks at most out of the own deque, pushes each into the own FIFO list in the order in which they were taken,
+// and so too the token of the last one, which it takes out of the deque again. Answers how many tasks there were.
+fn take_and_list<R: Wait>(
+    rt: &R,
+    alloc: Global,
+    w: &mut WorkerThread<Errand>,
+) -> Result<u64, Trouble>
+    ensures same { SameWorker w.old w.new }
+{
+    let newer = w.take_local_job(rt);
+    let older = w.take_local_job(rt);
+    let is_empty = w.local_deque_is_empty();
+    let newer = push_in_order(rt, alloc, w, newer);
+    let older = push_in_order(rt, alloc, w, older);
+    let token = w.take_local_job(rt);
+    let token = push_in_order(rt, alloc, w, token);
+    match (newer, older, token) {
+        (Ok(newer), Ok(older), Ok(1)) if is_empty => Ok(newer.saturating_add(older)),
+        _ => Err(Trouble::Unlike),
+    }
+}
+
 // Looks for a task by hand until one is found.
 fn find<R: Wait>(rt: &R, w: &mut WorkerThread<Errand>) -> Option<Task<Errand>>
     ensures same { SameWorker w.old w.new }
@@ -145,6 +172,24 @@ fn push_again<R: Wait>(
     match task {
         None => Ok(0),
         Some(task) => match w.push(rt, task) {
+            Ok(()) => Ok(1),
+            Err(_) => Err(Trouble::NoMemory),
+        },
+    }
+}
+
+// Pushes a task into the own FIFO list, where there is one, and answers how many there were.
+fn push_in_order<R: Wait>(
+    rt: &R,
+    alloc: Global,
+    w: &mut WorkerThread<Errand>,
+    task: Option<Task<Errand>>,
+) -> Result<u64, Trouble>
+    ensures same { SameWorker w.old w.new }
+{
+    match task {
+        None => Ok(0),
+        Some(task) => match w.push_fifo(rt, alloc, task) {
             Ok(()) => Ok(1),
             Err(_) => Err(Trouble::NoMemory),
         },

@@ -115,6 +115,23 @@ fn own_deque(rt: HostRuntime) -> Result<(), Fail> {
     Ok(())
 }
 
+// Tasks that are pushed into a worker's FIFO list by hand run in the order in which they were pushed, whatever they are;
+// a token that is pushed so is one token as before.
+#[test]
+fn own_list(rt: HostRuntime) -> Result<(), Fail> {
+    let alloc = rt.alloc();
+    let pool = pool_of(&rt, alloc, 1);
+    let listed = installed(&rt, alloc, &pool, Deed::TakerInOrder(2));
+    assert_eq!(rt; pool.strays(&rt), 0);
+    pool.end_and_join(&rt);
+    assert_eq!(rt;
+        listed,
+        (Ok(5), 5, 12),
+        "two tasks, and the one that was pushed first has run first"
+    );
+    Ok(())
+}
+
 // A worker that sleeps is woken by what is pushed by hand: the two sides of the join wait for each other.
 #[test]
 fn a_pushed_task_wakes_a_worker(rt: HostRuntime) -> Result<(), Fail> {

@@ -13,9 +13,17 @@ use Rattle.rayon_machine_places.specs.declared.place.Taken.TheVariants.{Plain}
 use Rattle.rayon_machine_places.specs.declared.shape.PoolShape.{PoolShape}
 use Rattle.rayon_machine_places.specs.Places.{undo}
 use Rattle.rayon_drive.specs.Traces.{Adds}
+use Rattle.rayon_tasks.specs.Tasks.{WorkOf, OneJob, TwoSides, NoJob, HasJob, taken_by}
+use Rattle.rayon_tasks.specs.Tickets.{TicketOf}
 use Rattle.rayon_performers.specs.Fifos.{feeding}
 use Rattle.rayon_performers.specs.Hands.{Hands, Does, Looks, Same, answer}
 use Rattle.rayon_performers.proofs.Stretches.{So, so_far, by_act}
+
+-- what is seen of a task that brings a job is its name
+pub taken_plain : {X : Type 0} (w : WorkOf X) (u : TicketOf) → HasJob w → taken_by w u ≡ Plain u.number
+taken_plain (OneJob j) u h = refl
+taken_plain (TwoSides a b t) u h = refl
+taken_plain NoJob u h = absurd h
 
 module _ {X G O F : Type 0} (h : PoolShape) (i n k : ℕ) (s t u : Hands X G O F) where
   -- a Raise leads to where the job is added to the list

@@ -165,6 +165,13 @@ impl<J: JobKind> Bench<J> {
         }
     }
 
+    /// How many workers the pool has.
+    pub fn num_threads(&self) -> usize
+        ensures { result ≡ self.now.shape.workers }
+    {
+        self.shape.workers
+    }
+
     /// What stands for the worker where a latch is set that it may sleep on. Refused `NoRoom`.
     pub fn owner(&self) -> Result<Owner, Refusal>
         ensures owner { IfOk result (λ o. o ≡ self.now.index) }

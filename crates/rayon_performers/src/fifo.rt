@@ -84,6 +84,37 @@ impl<J: JobKind> Bench<J> {
         }
     }
 
+    /// Adds a task last to the own FIFO list, and pushes a token of this name: a spawn in order without its Raise, and as
+    /// far as its end. Refused for want of room alone, with the task back and nothing added: before any act, or so that the
+    /// path leads to where the table has such a call give its unit of the terminate count back. That Lower is not performed
+    /// here, as with `push`.
+    pub fn push_fifo<R: Wait>(
+        &mut self,
+        rt: &R,
+        alloc: Global,
+        token: u64,
+        task: Task<J>,
+    ) -> Result<(), Task<J>>
+        requires job { HasJob task.work }
+        requires rests { Resting self.old.chair }
+        ensures path { MatchResult result
+            (λ _. WorkerGoes (Stay (at.AddToFifo (feeding task.ticket.number token))) self.old self.new Back)
+            (λ _. (self.new ≡ self.old) ⊎ WorkerGoes (Stay (at.AddToFifo (feeding task.ticket.number token))) self.old self.new (Stay (undo (Feed (feeding task.ticket.number token))))) }
+        ensures pushed { MatchResult result
+            (λ _. StandsLast self.old.own (token_task (Worker 0 self.old.index) token) self.new.own)
+            (λ back. (back ≡ task) × Unmoved self.old.own self.new.own) }
+        ensures left { SameDeque self.old.own self.new.own × (self.new ≡ record self.old { own = self.new.own; marks = self.new.marks; chair = self.new.chair; trace = self.new.trace }) }
+        ensures count { self.new.marks.count ≡ self.old.marks.count }
+        ensures rests { Resting self.new.chair }
+    {
+        let name = task.number();
+        let ticket = match self.ticket_of_detached(alloc, token) {
+            Ok(ticket) => ticket,
+            Err(_) => return Err(task),
+        };
+        self.feed(rt, name, task, ticket)
+    }
+
     // Takes a unit of the terminate count for the job of this name, by the units at hand, adds it last to the own FIFO
     // list, and pushes its token, which is this ticket's. Refused `NoRoom`, `Ended`, `Full`, with the task back and
     // nothing added; a unit that was taken is given back.

@@ -1,5 +1,5 @@
 -- The acts of a performer's path are those of a path, whatever they did.
-use Rattle.std.proofs.Common.{◌≡◌, inl, inr, Bool, true, false, true≢false, ℕ, [], ◌∷◌, Option, None, Some, Result, Ok, Err, MatchOption, MatchResult, IfErr, refl, sym, subst, ap}
+use Rattle.std.proofs.Common.{◌≡◌, ◌⊎◌, inl, inr, Bool, true, false, true≢false, ℕ, [], ◌∷◌, Option, None, Some, Result, Ok, Err, MatchOption, MatchResult, IfErr, refl, sym, subst, ap}
 use Rattle.rayon_machine_places.specs.declared.place.Count.TheVariants.{OfPool}
 use Rattle.std.specs.Result.{IsErr}
 use Rattle.rayon_words.specs.declared.refusal.CallError.{CallError}
@@ -22,7 +22,7 @@ use Rattle.rayon_machine_places.specs.declared.place.Taken.TheVariants.{Plain, T
 use Rattle.rayon_machine_places.specs.declared.place.Target.{Target}
 use Rattle.rayon_machine_places.specs.declared.place.Target.TheVariants.{Termination, Answer}
 use Rattle.rayon_machine_places.specs.declared.shape.PoolShape.{PoolShape}
-use Rattle.rayon_machine_places.specs.Places.{fresh, goes_on, taken_number}
+use Rattle.rayon_machine_places.specs.Places.{fresh, goes_on, taken_number, undo}
 use Rattle.rayon_drive.specs.declared.trace.Log.{Log}
 use Rattle.rayon_drive.specs.Traces.{AddsRun}
 use Rattle.rayon_drive.specs.Paths.{Traced}
@@ -37,7 +37,7 @@ use Rattle.rayon_performers.specs.Spawns.{ClosesRun, Spawned, Spawns, SpawnsNone
 use Rattle.rayon_performers.specs.Stands.{Stands}
 use Rattle.rayon_performers.specs.Waits.{Waited, units_after}
 use Rattle.rayon_performers.proofs.Stretches.{So, traced}
-use Rattle.rayon_registry.specs.Acts.{CallMade, Closes, Follows, HandedBack, HasRun, Lowered, Worked, resumed, wait_end}
+use Rattle.rayon_registry.specs.Acts.{CallMade, Closes, Follows, HandedBack, HasRun, Lowered, Unlisted, Worked, resumed, wait_end}
 use Rattle.rayon_registry.specs.Worker.{AfterWait, Worker as WorkerValue}
 
 module _ {X G O F : Type 0} (h : PoolShape) (i : ℕ) (m : Move) (s t : Hands X G O F) where
@@ -77,6 +77,14 @@ module _ {X G O F : Type 0} (n : ℕ) (s t : Hands X G O F) where
   pub unfed : (k : ℕ) → FeedsNone n k s t → HandedBack s.shape (Worker 0 s.index) (λ j. Feed (feeding j k)) s.trace t.trace
   unfed k (inl e) = inl (ap (λ (z : Hands X G O F). z.trace) e)
   unfed k (inr d) = inr (n, traced s.shape s.index (Stay (at.RaiseCount (Feed (feeding n k)))) (with_units 0 s) (with_units 0 t) (HandBack (Feed (feeding n k))) d)
+
+  -- a task of this name is added to the own FIFO list, or not
+  pub listed : (k : ℕ) → WorkerGoes (Stay (at.AddToFifo (feeding n k))) s t Back → Traced s.shape (Worker 0 s.index) (Stay (at.AddToFifo (feeding n k))) s.trace t.trace Back
+  listed k d = traced s.shape s.index (Stay (at.AddToFifo (feeding n k))) s t Back d
+
+  pub unlisted : (k : ℕ) → (t ≡ s) ⊎ WorkerGoes (Stay (at.AddToFifo (feeding n k))) s t (Stay (undo (Feed (feeding n k)))) → Unlisted s.shape (Worker 0 s.index) n s.trace t.trace
+  unlisted k (inl e) = inl (ap (λ (z : Hands X G O F). z.trace) e)
+  unlisted k (inr d) = inr (k, traced s.shape s.index (Stay (at.AddToFifo (feeding n k))) s t (Stay (undo (Feed (feeding n k)))) d)
 
   -- the end of a run
   pub closes : (k : JobKind) (e : Ending) → HasRun k → ClosesRun k n e s t → Closes s.shape (Worker 0 s.index) n k e s.trace t.trace

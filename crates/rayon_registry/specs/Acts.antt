@@ -8,7 +8,7 @@ use Rattle.rayon_machine_places.specs.declared.place.JobKind.{JobKind}
 use Rattle.rayon_machine_places.specs.declared.place.JobKind.TheVariants.{Direct, TokenOf, WholeOf}
 use Rattle.rayon_machine_places.specs.declared.place.OpenCall.{OpenCall}
 use Rattle.rayon_machine_places.specs.declared.place.Plan.{Plan}
-use Rattle.rayon_machine_places.specs.declared.place.Plan.TheVariants.{Here}
+use Rattle.rayon_machine_places.specs.declared.place.Plan.TheVariants.{Feed, Here}
 use Rattle.rayon_machine_places.specs.declared.place.Share.TheVariants.{OfJob}
 use Rattle.rayon_machine_places.specs.declared.place.Then.TheVariants.{Answers, Ran as RanSo}
 use Rattle.rayon_machine_places.specs.declared.place.Party.{Party}
@@ -16,14 +16,15 @@ use Rattle.rayon_machine_places.specs.declared.place.Move.{Move}
 use Rattle.rayon_machine_places.specs.declared.place.Move.TheVariants.{Stay, Enter, StartRun, Back, HandBack, HandIn, Discard}
 use Rattle.rayon_machine_places.specs.declared.shape.PoolShape.{PoolShape}
 use Rattle.rayon_machine_places.specs.declared.place.Place.{Place}
-use Rattle.rayon_machine_places.specs.declared.place.Place.TheVariants.{AtOnce, BeginHere, FirstSide, LowerCount, RaiseCount, Run, Stopped}
+use Rattle.rayon_machine_places.specs.declared.place.Place.TheVariants.{AddToFifo, AtOnce, BeginHere, FirstSide, LowerCount, RaiseCount, Run, Stopped}
 use Rattle.rayon_machine_places.specs.declared.place.Target.{Target}
 use Rattle.rayon_machine_places.specs.declared.place.Target.TheVariants.{Termination, Answer}
-use Rattle.rayon_machine_places.specs.Places.{goes_on}
+use Rattle.rayon_machine_places.specs.Places.{goes_on, undo}
 use Rattle.rayon_drive.specs.declared.trace.Log.{Log}
 use Rattle.rayon_drive.specs.Traces.{AddsRun}
 use Rattle.rayon_drive.specs.Paths.{Traced}
 use Rattle.rayon_performers.specs.Calls.{own_call, own_join}
+use Rattle.rayon_performers.specs.Fifos.{feeding}
 use Rattle.rayon_performers.specs.Spawns.{closing}
 
 -- what lay above a frame of a program: the move by which it began; where that beginning led, to the run of a job that was in
@@ -123,6 +124,11 @@ Installed h q e v w = (n : ℕ) × (x : Log) × (y : Log) × (z : Log) × Traced
 -- the acts of a refused call: none, or those of its plan from its Raise to where it hands its jobs back
 abbrev pub HandedBack : PoolShape → Party → (ℕ → Plan) → Log → Log → Type 0
 HandedBack h q plan v w = (w ≡ v) ⊎ ((n : ℕ) × Traced h q (Stay (RaiseCount (plan n))) v w (HandBack (plan n)))
+
+-- the acts of a task of this name that could not be added to the own FIFO list: none, or those of the adding as far as it was
+-- taken back
+abbrev pub Unlisted : PoolShape → Party → ℕ → Log → Log → Type 0
+Unlisted h q n v w = (w ≡ v) ⊎ ((k : ℕ) × Traced h q (Stay (AddToFifo (feeding n k))) v w (Stay (undo (Feed (feeding n k)))))
 
 -- a call has made these acts where it answers anything but a fault, these where it answers a fault, and these where it is
 -- refused

@@ -22,7 +22,7 @@ ghost use Rattle.rayon_jobs.specs.Endings.{ending_of as ended};
 ghost use Rattle.rayon_drive.specs.Traces.{AddsRun};
 ghost use Rattle.rayon_drive.specs.declared.trace.Log.{Log};
 ghost use Rattle.rayon_drive.specs.declared.trace.Log.TheVariants.{Empty};
-ghost use Rattle.rayon_registry.specs.Acts.{CallMade, Closes, HandedBack, Installed, Worked, wait_end};
+ghost use Rattle.rayon_registry.specs.Acts.{CallMade, Closes, HandedBack, Installed, Unlisted, Worked, wait_end};
 ghost use Rattle.rayon_registry.specs.Answers.{InstallAnswers};
 ghost use Rattle.rayon_registry.specs.Worker.{AfterWait, Kept, SameWorker};
 ghost use Rattle.std.specs.Prelude.{◌≡◌, ◌⊎◌, ℕ, [], ◌∷◌, ◌++◌, ◌-◌, ◌<◌, ◌≤◌, ◌↔◌, IsTrue, List, Result, Ok, Err, IfOk, IfSome, IfNone, IfErr, MatchOption, MatchResult, None, true, false};
@@ -148,6 +148,14 @@ impl<J: JobKind> WorkerThread<J> {
         self.id
     }
 
+    /// How many workers its pool has.
+    #[tactic(auto, unfolding(crate::specs::Pushes::shape_at))]
+    pub fn current_num_threads(&self) -> usize
+        ensures { result ≡ self.now.shape.workers }
+    {
+        self.bench.num_threads()
+    }
+
     /// How many runs may still be nested under the run that was lent this value.
     pub fn levels(&self) -> usize
         ensures { result ≡ self.now.levels }
@@ -231,6 +239,38 @@ impl<J: JobKind> WorkerThread<J> {
             Ok(()) => Ok(()),
             Err(task) => Err((Refusal::NoRoom, task)),
         }
+    }
+
+    /// Puts a task last into the worker's own FIFO list, and a token last into its own deque, and wakes whom that owes a
+    /// wake: who takes the token runs the first job of the list, as with `spawn_fifo`. A task that is a token itself has its
+    /// job in a list already, and is pushed as by `push`. Refused `Full`, `NoRoom`, with the task back and nothing added. It
+    /// raises no count: a task that was taken has what it needs.
+    #[tactic(auto, unfolding(crate::specs::Pushes::pushed_by, crate::specs::Pushes::left_to, crate::specs::Pushes::takes_oldest, crate::specs::Pushes::units_of, crate::specs::Pushes::count_of, crate::specs::Pushes::shape_at, crate::specs::Pushes::seat_of, crate::specs::Pushes::acts_of, crate::specs::Pushes::saw_set))]
+    pub fn push_fifo<R: Wait>(
+        &mut self,
+        rt: &R,
+        alloc: Global,
+        task: Task<J>,
+    ) -> Result<(), (Refusal, Task<J>)>
+        ensures listed { HasJob task.work → MatchResult result
+            (λ _. (k : ℕ) × Traced self.old.shape (Worker 0 self.old.seat) (Stay (at.AddToFifo (feeding task.ticket.number k))) self.old.acts self.new.acts Back × (self.new ≡ record self.old { pushed = self.old.pushed ++ token_task (Worker 0 self.old.seat) k ∷ []; left = self.old.left ++ token_task (Worker 0 self.old.seat) k ∷ []; acts = self.new.acts }))
+            (λ _. Unlisted self.old.shape (Worker 0 self.old.seat) task.ticket.number self.old.acts self.new.acts) }
+        ensures pushed { (HasJob task.work → ⊥) → MatchResult result
+            (λ _. Traced self.old.shape (Worker 0 self.old.seat) (Stay (at.LookQueue (Detach 0 task.ticket.number))) self.old.acts self.new.acts Back × (self.new ≡ record self.old { pushed = self.old.pushed ++ task ∷ []; left = self.old.left ++ task ∷ []; acts = self.new.acts }))
+            (λ _. Traced self.old.shape (Worker 0 self.old.seat) (Stay (at.LookQueue (Detach 0 task.ticket.number))) self.old.acts self.new.acts (Stay (undo (Detach 0 task.ticket.number)))) }
+        ensures back { IfErr result (λ e. (e.1 ≡ task) × (self.new ≡ record self.old { acts = self.new.acts })) }
+        ensures refused { IfErr result (λ e. (e.0 ≡ Refusal.Full) ⊎ (e.0 ≡ Refusal.NoRoom)) }
+    {
+        if !task.has_job() {
+            return self.push(rt, task);
+        }
+        let Some(token) = self.names.draw() else {
+            return Err((Refusal::Full, task));
+        };
+        if let Err(task) = self.bench.push_fifo(rt, alloc, token, task) {
+            return Err((Refusal::NoRoom, task));
+        }
+        Ok(())
     }
 
     /// Spawns a detached job: puts it last into the worker's own deque, and waits for nothing. The job has a unit of the

@@ -47,6 +47,7 @@ impl Call {
             "wait_until" => Call::OnPool(PoolCall::OnWorker(WorkerCall::WaitUntil)),
             "owner" => Call::OnPool(PoolCall::OnWorker(WorkerCall::Owner)),
             "push" => Call::OnPool(PoolCall::OnWorker(WorkerCall::Push)),
+            "push_fifo" => Call::OnPool(PoolCall::OnWorker(WorkerCall::PushFifo)),
             "deep" => Call::OnPool(PoolCall::OnWorker(WorkerCall::Deep)),
             _ => return None,
         };
@@ -58,7 +59,7 @@ impl PoolCall {
     // How many workers the pool has: one where the call is of a task in the own deque that none may steal, else two.
     fn workers(self) -> usize {
         match self {
-            PoolCall::OnWorker(WorkerCall::Push | WorkerCall::Deep) => 1,
+            PoolCall::OnWorker(WorkerCall::Push | WorkerCall::PushFifo | WorkerCall::Deep) => 1,
             _ => 2,
         }
     }

@@ -29,6 +29,8 @@ pub enum WorkerCall {
     Owner,
     /// `WorkerThread::push`, of a second side that was taken before.
     Push,
+    /// `WorkerThread::push_fifo`, likewise.
+    PushFifo,
     /// `WorkerThread::join_jobs` within the first side of another, so often.
     Deep,
 }
@@ -77,6 +79,7 @@ fn make_once<R: Waits<Work>>(
     match call {
         WorkerCall::Join => join(rt, alloc, w, runs, Deed::Number(20)),
         WorkerCall::Push => join(rt, alloc, w, runs, Deed::Push),
+        WorkerCall::PushFifo => join(rt, alloc, w, runs, Deed::PushFifo),
         WorkerCall::Install => install(rt, alloc, w, runs),
         WorkerCall::WaitUntil => Ok(wait_until(rt, alloc, w, runs)),
         WorkerCall::Owner => Ok(owner(w, runs)),
@@ -214,6 +217,30 @@ pub fn push_again<R: Wait>(rt: &R, w: &mut WorkerThread<Work>) -> Result<Answer,
     match w.push(rt, task) {
         Ok(()) => Ok(Answer::Number(20)),
         Err((_, task)) => match w.push(rt, task) {
+            Ok(()) => Ok(Answer::Number(19)),
+            Err((refusal, _)) => Err(refusal),
+        },
+    }
+}
+
+/// The same, but pushes it into the worker's own FIFO list.
+pub fn push_in_order<R: Wait>(
+    rt: &R,
+    alloc: Global,
+    w: &mut WorkerThread<Work>,
+) -> Result<Answer, Refusal>
+    ensures id { w.new.id ≡ w.old.id }
+    ensures level { w.new.levels ≡ w.old.levels }
+    ensures units { w.new.units ≡ w.old.units }
+    ensures seat { w.new.seat ≡ w.old.seat }
+    ensures shape { w.new.shape ≡ w.old.shape }
+{
+    let Some(task) = w.take_local_job(rt) else {
+        return Ok(Answer::Number(0));
+    };
+    match w.push_fifo(rt, alloc, task) {
+        Ok(()) => Ok(Answer::Number(20)),
+        Err((_, task)) => match w.push_fifo(rt, alloc, task) {
             Ok(()) => Ok(Answer::Number(19)),
             Err((refusal, _)) => Err(refusal),
         },

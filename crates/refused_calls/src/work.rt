@@ -1,7 +1,7 @@
 //! The jobs of the program.
 ghost use Rattle.std.specs.Prelude.{◌≡◌, ℕ};
 
-use crate::on_worker::{WorkerCall, deep, make_on_worker, push_again};
+use crate::on_worker::{WorkerCall, deep, make_on_worker, push_again, push_in_order};
 use crate::outcome::{Outcome, Report};
 use rayon_core::{
     BroadcastContext, CallError, FnContext, Job, JobKind, Refusal, Waits, WorkerThread,
@@ -30,6 +30,8 @@ pub enum Deed {
     Call(WorkerCall),
     /// Takes the newest task out of its worker's deque, and pushes it again.
     Push,
+    /// The same, but pushes it into its worker's FIFO list.
+    PushFifo,
     /// Joins the same one less deep, and a job that answers 1.
     Deep(u32),
 }
@@ -134,6 +136,7 @@ impl Job for Work {
                 Ok(Answer::Reported(report))
             }
             Deed::Push => push_again(rt, w),
+            Deed::PushFifo => push_in_order(rt, alloc, w),
             Deed::Deep(depth) => Ok(Answer::Reported(deep(rt, alloc, w, &self.runs, depth)?)),
         }
     }

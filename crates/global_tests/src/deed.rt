@@ -6,7 +6,9 @@ use rayon_core::latch::LockLatch;
 use rayon_core::{
     BroadcastContext, CallError, FnContext, Job, JobKind, Refusal, Waits, WorkerThread,
 };
-use rayon_global::{current_thread_index, install, join, join_context, spawn};
+use rayon_global::{
+    current_num_threads, current_thread_index, install, join, join_context, spawn, spawn_fifo,
+};
 use std::alloc::Global;
 use std::sync::Arc;
 
@@ -17,10 +19,14 @@ pub enum Deed {
     Twice(u64),
     /// Answers the index of the worker that runs it.
     Where,
+    /// Answers how many workers its pool has.
+    Workers,
     /// Sets this latch.
     Set(Arc<LockLatch>),
     /// Spawns a job that sets this latch.
     SpawnSet(Arc<LockLatch>),
+    /// Spawns it in order.
+    SpawnFifoSet(Arc<LockLatch>),
 }
 
 impl JobKind for Deed {
@@ -55,14 +61,13 @@ impl Job for Deed {
                 Some(index) => Ok(index as u64),
                 None => Err(Refusal::Ended),
             },
+            Deed::Workers => Ok(current_num_threads(w) as u64),
             Deed::Set(latch) => {
                 latch.set(rt);
                 Ok(0)
             }
-            Deed::SpawnSet(latch) => match spawn(rt, alloc, w, Deed::Set(latch)) {
-                Ok(()) => Ok(0),
-                Err((refusal, _)) => Err(refusal),
-            },
+            Deed::SpawnSet(latch) => spawned(spawn(rt, alloc, w, Deed::Set(latch))),
+            Deed::SpawnFifoSet(latch) => spawned(spawn_fifo(rt, alloc, w, Deed::Set(latch))),
         }
     }
 
@@ -74,6 +79,14 @@ impl Job for Deed {
         _ctx: &mut BroadcastContext<Self>,
     ) -> Result<u64, Refusal> {
         Err(Refusal::Ended)
+    }
+}
+
+// What the run answers whose spawn gave this.
+fn spawned(answer: Result<(), (Refusal, Deed)>) -> Result<u64, Refusal> {
+    match answer {
+        Ok(()) => Ok(0),
+        Err((refusal, _)) => Err(refusal),
     }
 }
 

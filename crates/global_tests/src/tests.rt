@@ -3,8 +3,8 @@ use crate::deed::{Deed, once};
 use rayon_core::latch::LockLatch;
 use rayon_core::{EndAfter, Ids, PoolRef, Refusal, ThreadPoolBuildError, ThreadPoolBuilder};
 use rayon_global::{
-    GlobalPool, GlobalPoolBuildError, Outside, builder_of_environment, current_thread_index,
-    install, join, join_context, max_num_threads, spawn,
+    GlobalPool, GlobalPoolBuildError, Outside, builder_of_environment, current_num_threads,
+    current_thread_index, install, join, join_context, max_num_threads, spawn, spawn_fifo,
 };
 use std::alloc::Global;
 use std::process::Abort;
@@ -62,8 +62,19 @@ fn calls_are_answered_on_both_sides(rt: HostRuntime) -> Result<(), Fail> {
         assert_eq!(rt; once(two), Ok((18, 0)));
         let index = once(install(&rt, alloc, &mut outside, Deed::Where));
         assert!(rt; index.is_ok_and(|index| index < 2));
+        let workers = once(install(&rt, alloc, &mut outside, Deed::Workers));
+        assert_eq!(rt; (current_num_threads(&outside), workers), (2, Ok(2)));
         let (ours, theirs) = latch(&rt, alloc);
         assert!(rt; spawn(&rt, alloc, &mut outside, Deed::Set(theirs)).is_ok());
+        ours.wait(&rt);
+        let (ours, theirs) = latch(&rt, alloc);
+        assert!(rt; spawn_fifo(&rt, alloc, &mut outside, Deed::Set(theirs)).is_ok());
+        ours.wait(&rt);
+        let (ours, theirs) = latch(&rt, alloc);
+        assert_eq!(rt;
+            once(install(&rt, alloc, &mut outside, Deed::SpawnFifoSet(theirs))),
+            Ok(0)
+        );
         ours.wait(&rt);
         let (ours, theirs) = latch(&rt, alloc);
         assert_eq!(rt;

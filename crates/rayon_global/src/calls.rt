@@ -72,6 +72,33 @@ pub fn spawn<J: JobKind, R, C: Current<J, R>>(
     here.spawn_here(rt, alloc, job)
 }
 
+/// Spawns a detached job in order, and waits for nothing: a worker's jobs that were spawned so begin in that order
+/// where it runs them itself. Outside it is a spawn, and the pool begins its oldest job first. Refused as `spawn` is.
+pub fn spawn_fifo<J: JobKind, R, C: Current<J, R>>(
+    rt: &R,
+    alloc: Global,
+    here: &mut C,
+    job: J,
+) -> Result<(), (Refusal, J)>
+    requires levels { C.has_levels here.old rt.now }
+    ensures spawned { IfOk result (λ _. C.fed here.old job here.new) }
+    ensures back { IfErr result (λ e. e.1 ≡ job) }
+    ensures kept { IfErr result (λ _. C.kept here.old here.new) }
+    ensures path { IfErr result (λ _. C.feed_handed_back here.old here.new) }
+    ensures refused { IfErr result (λ e. (e.0 ≡ Refusal.Ended) ⊎ ((e.0 ≡ Refusal.Full) ⊎ (e.0 ≡ Refusal.NoRoom))) }
+    ensures same { C.same here.old here.new }
+{
+    here.spawn_fifo_here(rt, alloc, job)
+}
+
+/// How many workers the pool has in which this run is, or which calls are made on from outside. rayon-core asks for no
+/// value, and takes the global pool outside of a run.
+pub fn current_num_threads<C: Stands>(here: &C) -> usize
+    ensures { result ≡ C.workers here.now }
+{
+    here.thread_count()
+}
+
 /// The index of the worker whose run this is, from 0. None outside.
 pub fn current_thread_index<C: Stands>(here: &C) -> Option<usize>
     ensures { result ≡ C.index here.now }

@@ -4,8 +4,9 @@ ghost use Rattle.rayon_core.specs.Worker.{Kept, SameWorker};
 ghost use Rattle.rayon_machine_places.specs.declared.place.Ending.{Ending};
 ghost use Rattle.rayon_machine_places.specs.declared.place.Ending.TheVariants.{Fault, Fine};
 ghost use Rattle.rayon_machine_places.specs.declared.place.Party.TheVariants.{Worker};
-ghost use Rattle.rayon_machine_places.specs.declared.place.Plan.TheVariants.{Detach, Here};
+ghost use Rattle.rayon_machine_places.specs.declared.place.Plan.TheVariants.{Detach, Feed, Here};
 ghost use Rattle.rayon_performers.specs.Calls.{own_join};
+ghost use Rattle.rayon_performers.specs.Fifos.{Fed, feeding, token_task};
 ghost use Rattle.rayon_performers.specs.Marks.{TakesUnit};
 ghost use Rattle.rayon_performers.specs.Spawns.{Spawned, detached_task};
 ghost use Rattle.rayon_registry.specs.Acts.{CallMade, HandedBack, Installed, Joined};
@@ -21,24 +22,43 @@ pub trait Stands {
     /// The index of the worker whose run this is. None outside.
     ghost index: { Self → Option ℕ };
 
+    /// How many workers the pool has.
+    ghost workers: { Self → ℕ };
+
     /// The index of the worker whose run this is. None outside.
     fn thread_index(&self) -> Option<usize>
         ensures { result ≡ index self.now };
+
+    /// How many workers the pool has.
+    fn thread_count(&self) -> usize
+        ensures { result ≡ workers self.now };
 }
 
 impl<J: JobKind> Stands for WorkerThread<J> {
     ghost index = { λ w. Some w.id.index };
 
+    ghost workers = { λ w. w.shape.workers };
+
     fn thread_index(&self) -> Option<usize> {
         Some(self.index())
+    }
+
+    fn thread_count(&self) -> usize {
+        self.current_num_threads()
     }
 }
 
 impl<'p, J: JobKind> Stands for Outside<'p, J> {
     ghost index = { λ o. None };
 
+    ghost workers = { λ o. o.workers };
+
     fn thread_index(&self) -> Option<usize> {
         None
+    }
+
+    fn thread_count(&self) -> usize {
+        self.current_num_threads()
     }
 }
 
@@ -87,6 +107,12 @@ pub trait Current<J: JobKind, R>: Stands {
     /// Whether the acts between are those of a refused spawn.
     ghost spawn_handed_back: { Self → Self → Type 0 };
 
+    /// What a spawn in order leaves.
+    ghost fed: { Self → J → Self → Type 0 };
+
+    /// Whether the acts between are those of a refused spawn in order.
+    ghost feed_handed_back: { Self → Self → Type 0 };
+
     /// Joins two jobs.
     fn join_here(
         &mut self,
@@ -130,6 +156,16 @@ pub trait Current<J: JobKind, R>: Stands {
         ensures path { IfErr result (λ _. spawn_handed_back self.old self.new) }
         ensures refused { IfErr result (λ e. (e.0 ≡ Refusal.Ended) ⊎ ((e.0 ≡ Refusal.Full) ⊎ (e.0 ≡ Refusal.NoRoom))) }
         ensures same { same self.old self.new };
+
+    /// Spawns a detached job in order.
+    fn spawn_fifo_here(&mut self, rt: &R, alloc: Global, job: J) -> Result<(), (Refusal, J)>
+        requires levels { has_levels self.old rt.now }
+        ensures spawned { IfOk result (λ _. fed self.old job self.new) }
+        ensures back { IfErr result (λ e. e.1 ≡ job) }
+        ensures kept { IfErr result (λ _. kept self.old self.new) }
+        ensures path { IfErr result (λ _. feed_handed_back self.old self.new) }
+        ensures refused { IfErr result (λ e. (e.0 ≡ Refusal.Ended) ⊎ ((e.0 ≡ Refusal.Full) ⊎ (e.0 ≡ Refusal.NoRoom))) }
+        ensures same { same self.old self.new };
 }
 
 impl<J: JobKind, R: Waits<J>> Current<J, R> for WorkerThread<J> {
@@ -161,6 +197,10 @@ impl<J: JobKind, R: Waits<J>> Current<J, R> for WorkerThread<J> {
 
     ghost spawn_handed_back = { λ v w. HandedBack v.shape (Worker 0 v.seat) (Detach 0) v.acts w.acts };
 
+    ghost fed = { λ v job w. ((n : ℕ) × (k : ℕ) × Fed v.shape (Worker 0 v.seat) n k v.acts w.acts × (w ≡ record v { pushed = v.pushed ++ token_task (Worker 0 v.seat) k ∷ []; left = v.left ++ token_task (Worker 0 v.seat) k ∷ []; count = w.count; acts = w.acts })) × TakesUnit true v.count w.count };
+
+    ghost feed_handed_back = { λ v w. (k : ℕ) × HandedBack v.shape (Worker 0 v.seat) (λ j. Feed (feeding j k)) v.acts w.acts };
+
     fn join_here(
         &mut self,
         rt: &R,
@@ -182,6 +222,10 @@ impl<J: JobKind, R: Waits<J>> Current<J, R> for WorkerThread<J> {
 
     fn spawn_here(&mut self, rt: &R, alloc: Global, job: J) -> Result<(), (Refusal, J)> {
         self.spawn(rt, alloc, job)
+    }
+
+    fn spawn_fifo_here(&mut self, rt: &R, alloc: Global, job: J) -> Result<(), (Refusal, J)> {
+        self.spawn_fifo(rt, alloc, job)
     }
 }
 
@@ -214,6 +258,10 @@ impl<'p, J: JobKind, R: Wait> Current<J, R> for Outside<'p, J> {
 
     ghost spawn_handed_back = { λ o p. Unit {0} };
 
+    ghost fed = { λ o job p. Unit {0} };
+
+    ghost feed_handed_back = { λ o p. Unit {0} };
+
     fn join_here(
         &mut self,
         rt: &R,
@@ -235,5 +283,9 @@ impl<'p, J: JobKind, R: Wait> Current<J, R> for Outside<'p, J> {
 
     fn spawn_here(&mut self, rt: &R, alloc: Global, job: J) -> Result<(), (Refusal, J)> {
         self.spawn(rt, alloc, job)
+    }
+
+    fn spawn_fifo_here(&mut self, rt: &R, alloc: Global, job: J) -> Result<(), (Refusal, J)> {
+        self.spawn_fifo(rt, alloc, job)
     }
 }

@@ -7,7 +7,10 @@ mod global_pool;
 mod outside;
 mod surroundings;
 
-pub use calls::{current_thread_index, install, join, join as join_context, spawn};
+pub use calls::{
+    current_num_threads, current_thread_index, install, join, join as join_context, spawn,
+    spawn_fifo,
+};
 pub use current::{Current, Stands};
 pub use global_pool::{GlobalPool, GlobalPoolBuildError};
 pub use outside::Outside;

@@ -83,6 +83,11 @@ impl Actor {
         Ok((Arc::try_clone(&self.stage)?, pools))
     }
 
+    /// Whether a token of one of the pools found its FIFO list empty.
+    pub fn has_strays<R: Wait>(&self, rt: &R) -> bool {
+        self.pools.iter().any(|pool| pool.strays(rt) > 0)
+    }
+
     /// All that it said.
     pub fn into_text(self) -> Result<String, AllocError> {
         let Actor {

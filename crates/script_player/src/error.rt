@@ -12,6 +12,9 @@ pub enum PlayError {
     /// A thread was refused.
     #[error("no thread")]
     NoThread,
+    /// A token found its FIFO list empty.
+    #[error("a token found no job")]
+    Stray,
 }
 
 impl From<AllocError> for PlayError {

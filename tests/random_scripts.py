@@ -21,6 +21,7 @@ KINDS = ("exact", "many", "meet", "deep")
 # How many runs a step may lead to, faults left out.
 MOST_RUNS = {"exact": 400, "many": 600, "meet": 300, "deep": 400}
 WORKERS = {"many": "1 2 3 4 8", "meet": "2 3 4 8"}
+SPAWNS = ["spawn", "spawn", "spawn_fifo"]
 NUMBERS = ["n", "n+1", "10n", "10n+k", "k", "2n+3", "n-1", "3k+1"]
 NUMBERS_OF_CALLS = ["", "n", "n-1", "k", "n+k", "1", "2", "3", "4", "5"]
 MEETING_JOBS = """\
@@ -72,7 +73,7 @@ class Jobs:
         if self.told and self.draw.random() < 0.4:
             yield Deed(0, NO_LIMIT, 1, "note migrated", [])
         if self.faults and self.draw.random() < 0.3:
-            yield Deed(0, NO_LIMIT, 1, f"spawn fails(n+{10 * (at + 1)})", ["fails(n)"])
+            yield Deed(0, NO_LIMIT, 1, f"{self.draw.choice(SPAWNS)} fails(n+{10 * (at + 1)})", ["fails(n)"])
 
     def lines(self):
         for name in self.names:
@@ -114,7 +115,7 @@ class Jobs:
             return f"join {one} with install {other}", [one, other]
         if self.faults and draw.random() < 0.4:
             one = f"fails({draw.choice(NUMBERS)})"
-        return f"spawn {one}", [one]
+        return f"{draw.choice(SPAWNS)} {one}", [one]
 
     def plain(self, chance):
         draw = self.draw
@@ -219,7 +220,7 @@ class Drawing:
             return f"{'join' if chance < 0.5 else 'join_context'} {pool} {one} {other}"
         if chance < 0.63:
             return f"{draw.randint(2, 4)} times: install {pool} {one}"
-        return f"spawn {pool} {one}"
+        return f"{draw.choice(SPAWNS)} {pool} {one}"
 
     def main(self):
         draw = self.draw

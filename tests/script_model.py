@@ -96,13 +96,13 @@ class Run:
         """What is added by this deed."""
         if words[0] == "join":
             return self.join(words, turn)
-        if words[0] not in ("install", "spawn"):
+        if words[0] not in ("install", "spawn", "spawn_fifo"):
             return self.plain(words, turn, self.migrated)
         call = call_of(words[1], self.call[1], turn)
-        if call and words[0] == "spawn":
-            self.pool.tasks.append(Task(call, False, False))
-        elif call:
+        if call and words[0] == "install":
             return self.install(call, self.levels)
+        if call:
+            self.pool.spawn(Task(call, False, False), in_order=words[0] == "spawn_fifo")
         return 0
 
     def install(self, call, levels):
@@ -150,7 +150,10 @@ class Run:
 
 
 class Pool:
-    """A pool of one worker: its levels, its order, its queue, and its faults."""
+    """A pool of one worker: its levels, its order, its queue, the jobs spawned in order, and its faults."""
+
+    # A task that stands for the first of the jobs that were spawned in order.
+    TOKEN = None
 
     def __init__(self, model, words):
         self.model = model
@@ -159,7 +162,18 @@ class Pool:
         depth = int(words[words.index("depth") + 1]) if "depth" in words else NO_LIMIT
         self.levels = max(1, depth) - 1
         self.next = 0 if "breadth_first" in words else -1
-        self.tasks, self.first, self.faults, self.has_ended = [], None, 0, False
+        self.tasks, self.listed = [], []
+        self.first, self.faults, self.has_ended = None, 0, False
+
+    def spawn(self, task, in_order):
+        if in_order:
+            self.listed.append(task)
+        self.tasks.append(self.TOKEN if in_order else task)
+
+    def take(self):
+        """The task that is next, or the job that it stands for."""
+        task = self.tasks.pop(self.next)
+        return self.listed.pop(0) if task is self.TOKEN else task
 
     def execute(self, task, levels):
         """Runs a task to its end."""
@@ -181,14 +195,14 @@ class Pool:
         except Fault as raised:
             fault = raised
         while not task.done:
-            self.execute(self.tasks.pop(self.next), levels - 1)
+            self.execute(self.take(), levels - 1)
         if fault or task.fault:
             raise fault or task.fault
         return answer, task.answer
 
     def drain(self):
         while self.tasks:
-            self.execute(self.tasks.pop(self.next), self.levels)
+            self.execute(self.take(), self.levels)
 
     def asked(self, verb, calls):
         """What a call from outside answers, or None where nothing is to be said."""
@@ -197,7 +211,7 @@ class Pool:
         if self.has_ended:
             return shown(ENDED, *calls)
         try:
-            if verb == "spawn":
+            if verb in ("spawn", "spawn_fifo"):
                 return self.execute(Task(calls[0], False, True), self.levels)
             if verb == "install":
                 return str(Run(self, calls[0], self.levels, True).answer())

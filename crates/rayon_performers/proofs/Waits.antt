@@ -12,16 +12,20 @@ use Rattle.rayon_machine_places.specs.declared.place.Target.TheVariants.{Termina
 use Rattle.rayon_machine_places.specs.declared.place.Place.TheVariants as at
 use Rattle.rayon_machine_places.specs.declared.place.Move.{Move}
 use Rattle.rayon_machine_places.specs.declared.place.Move.TheVariants.{Stay, Enter, Back, StartRun, HandBack, HandIn, Discard, Mark, HandAllBack}
+use Rattle.rayon_machine_places.specs.declared.act.Act.TheVariants as acts
 use Rattle.rayon_machine_places.specs.declared.act.Seen.{Seen}
 use Rattle.rayon_machine_places.specs.declared.act.Seen.TheVariants.{Task}
 use Rattle.rayon_machine_places.specs.declared.shape.PoolShape.{PoolShape}
-use Rattle.rayon_machine_places.specs.Places.{fresh, next_of}
+use Rattle.rayon_machine_places.specs.Places.{fresh, latch_of, next_of}
+use Rattle.rayon_drive.specs.Traces.{Adds}
 use Rattle.rayon_performers.specs.declared.reclaimed.Reclaimed.{Reclaimed}
 use Rattle.rayon_performers.specs.declared.reclaimed.Reclaimed.TheVariants.{Own, Other, Answered}
-use Rattle.rayon_performers.specs.Hands.{Hands, HasTicket}
+use Rattle.rayon_performers.specs.Hands.{Does, Hands, HasTicket, answer}
+use Rattle.rayon_performers.specs.Keeps.{does_at}
 use Rattle.rayon_performers.specs.Seats.{Resting}
 use Rattle.rayon_performers.specs.Stands.{Anyhow, At, Hand, Joins, Left, call_to, hand}
 use Rattle.rayon_performers.specs.Waits.{FoundSo, Rejoined, Waited, rejoins, units_after}
+use Rattle.rayon_performers.proofs.Stretches.{So, by_act, so_far}
 
 module _ {X G O F : Type 0} where
   -- so ends a wait, and so a join's look, that began with so many units
@@ -74,3 +78,19 @@ module _ {X G O F : Type 0} where
 pub stops_even : (h : ℕ) (m : Move) → Waited Termination m → units_after m h ≡ h
 stops_even h Back a = absurd a
 stops_even h _ a = refl
+
+module _ {X G O F : Type 0} (h : PoolShape) (i : ℕ) (g : Target) (s t u : Hands X G O F) where
+  -- a wait looks at its latch first
+  pub working_probed : (z : Bool) → Does (acts.Probe (latch_of g)) (answer z) s t → Adds (acts.Probe (latch_of g)) (answer z) s.trace t.trace → So h i (Stay (at.ProbeWorking (fresh g))) s (next_of h (Worker 0 i) (at.ProbeWorking (fresh g)) (answer z)) t
+  working_probed z d e = by_act h i (Stay (at.ProbeWorking (fresh g))) s (Stay (at.ProbeWorking (fresh g))) s t (answer z) refl (so_far h i (Stay (at.ProbeWorking (fresh g))) s) d e
+
+  -- and then into the own deque
+  pub working_popped : (x : Seen) → So h i (Stay (at.ProbeWorking (fresh g))) s (Stay (at.PopWorking (fresh g))) t → Does acts.PopOwn x t u → Adds acts.PopOwn x t.trace u.trace → So h i (Stay (at.ProbeWorking (fresh g))) s (next_of h (Worker 0 i) (at.PopWorking (fresh g)) x) u
+  working_popped x a d e = by_act h i (Stay (at.ProbeWorking (fresh g))) s (Stay (at.PopWorking (fresh g))) t u x refl a d e
+
+  -- what it has at hand after the first look, and after both
+  pub probed_stands : (z : Bool) → HasTicket s.call (call_to g) → Resting s.chair → Does (acts.Probe (latch_of g)) (answer z) s t → At Anyhow (Worker 0 i) t (next_of h (Worker 0 i) (at.ProbeWorking (fresh g)) (answer z))
+  probed_stands z k r d = does_at Anyhow s t h 0 i (at.ProbeWorking (fresh g)) (answer z) (wait_stands i s g k r) d
+
+  pub popped_stands : (x : Seen) → At Anyhow (Worker 0 i) t (Stay (at.PopWorking (fresh g))) → Does acts.PopOwn x t u → At Anyhow (Worker 0 i) u (next_of h (Worker 0 i) (at.PopWorking (fresh g)) x)
+  popped_stands x a d = does_at Anyhow t u h 0 i (at.PopWorking (fresh g)) x a d

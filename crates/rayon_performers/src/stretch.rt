@@ -66,7 +66,45 @@ impl<J: JobKind> Bench<J> {
         ensures units { self.new.holds ≡ units_after result self.old.holds }
         ensures seat { SameSeat self.old self.new }
     {
-        self.drive(rt, Place::ProbeWorking(target.wait()))
+        self.first_looks(rt, target)
+    }
+
+    // The first two looks of a wait, of which the second one mostly finds a task, and from there on all others: as far as
+    // a task that was found, or to the end of the wait.
+    #[inline(always)]
+    fn first_looks<R: Wait>(&mut self, rt: &R, target: Target) -> Move
+        requires ticket { HasTicket self.old.call (call_to target) }
+        requires rests { Resting self.old.chair }
+        ensures path { WorkerGoes (Stay (at.ProbeWorking (fresh target))) self.old self.new result }
+        ensures stands { Stands self.new result }
+        ensures stops { goes result ≡ false }
+    {
+        let wait = target.wait();
+        if self.probe(target.latch()) {
+            return self.go_on_waiting(rt, Place::ProbeWorking(wait), Seen::Yes);
+        }
+        let popped = self.pop_own();
+        if let Seen::Task(task) = popped {
+            return Move::Enter {
+                frame: Place::ProbeWorking(wait),
+                place: Place::BeginTask(task),
+            };
+        }
+        self.go_on_waiting(rt, Place::PopWorking(wait), popped)
+    }
+
+    // A wait goes on from what a look at this place saw.
+    #[cold]
+    #[inline(never)]
+    fn go_on_waiting<R: Wait>(&mut self, rt: &R, place: Place, seen: Seen) -> Move
+        requires { Stands self.old (next_of self.old.shape (Worker 0 self.old.index) place seen) }
+        ensures path { WorkerGoes (next_of self.old.shape (Worker 0 self.old.index) place seen) self.old self.new result }
+        ensures stands { Stands self.new result }
+        ensures stops { goes result ≡ false }
+    {
+        let shape = self.shape;
+        let index = self.index;
+        self.go_on_from(rt, shape, index, place, seen)
     }
 
     /// Waits until this latch is set, which is no call's, and works meanwhile: as far as a task that it has found, or

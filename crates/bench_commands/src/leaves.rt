@@ -4,7 +4,7 @@ ghost use Rattle.std.proofs.Common.{rules};
 ghost use Rattle.std.specs.Prelude.{◌≡◌, ◌≤◌, ℕ};
 
 use fibonacci::{FibFault, sequential};
-use rayon_core::{BroadcastContext, FnContext, Job, JobKind, Waits, WorkerThread};
+use rayon_core::{BroadcastContext, FnContext, Job, JobKind, NoHandler, Waits, WorkerThread};
 use std::alloc::Global;
 
 /// The largest index that is found by plain recursion, which takes some 10 microseconds.
@@ -21,6 +21,8 @@ impl JobKind for Leaves {
     type Output = u64;
 
     type Fault = FibFault;
+
+    type Handler = NoHandler;
 
     ghost answers = { AnswersFib };
 

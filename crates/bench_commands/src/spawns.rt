@@ -2,7 +2,9 @@
 ghost use Rattle.rayon_core.specs.Worker.{SameWorker};
 ghost use Rattle.std.specs.Prelude.{◌≡◌, ◌≤◌, ℕ};
 
-use rayon_core::{BroadcastContext, FnContext, Job, JobKind, Refusal, Waits, WorkerThread};
+use rayon_core::{
+    BroadcastContext, FnContext, Job, JobKind, NoHandler, Refusal, Waits, WorkerThread,
+};
 use std::alloc::Global;
 use std::sync::Arc;
 use std::sync::atomic::{AtomicU64, Ordering};
@@ -41,6 +43,8 @@ impl JobKind for Spawning {
     type Output = u64;
 
     type Fault = SpawnFault;
+
+    type Handler = NoHandler;
 
     ghost answers = { λ t r. Unit {0} };
 

@@ -6,7 +6,7 @@ ghost use Rattle.std.proofs.Common.{rules};
 ghost use Rattle.std.specs.Prelude.{◌≡◌, ◌≤◌, ◌^◌, ℕ, IfSome, IfNone};
 
 use rayon_core::{
-    BroadcastContext, CallError, FnContext, Job, JobKind, Refusal, Waits, WorkerThread,
+    BroadcastContext, CallError, FnContext, Job, JobKind, NoHandler, Refusal, Waits, WorkerThread,
 };
 use std::alloc::Global;
 use thiserror::Error;
@@ -54,6 +54,8 @@ impl JobKind for Fib {
     type Output = u64;
 
     type Fault = FibFault;
+
+    type Handler = NoHandler;
 
     ghost answers = { AnswersFib };
 

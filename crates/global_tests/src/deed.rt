@@ -4,7 +4,7 @@ ghost use Rattle.std.specs.Prelude.{◌≡◌, ◌≤◌};
 
 use rayon_core::latch::LockLatch;
 use rayon_core::{
-    BroadcastContext, CallError, FnContext, Job, JobKind, Refusal, Waits, WorkerThread,
+    BroadcastContext, CallError, FnContext, Job, JobKind, NoHandler, Refusal, Waits, WorkerThread,
 };
 use rayon_global::{
     current_num_threads, current_thread_index, install, join, join_context, spawn, spawn_fifo,
@@ -35,6 +35,8 @@ impl JobKind for Deed {
     type Output = u64;
 
     type Fault = Refusal;
+
+    type Handler = NoHandler;
 
     ghost answers = { λ t r. Unit {0} };
 

@@ -11,7 +11,9 @@ fn main(rt: HostRuntime) -> Result<()> {
     let mut words = env::args(&rt)?;
     let _ = words.next();
     let Some(command) = Command::parse(words) else {
-        bail!("join|leaves|sequential|install|pool_join|spawn|idle WORKERS N, or nothing");
+        bail!(
+            "join|leaves|sequential|install|pool_join|spawn|spawn_fifo|idle WORKERS N, or nothing"
+        );
     };
     run(&rt, alloc, command)
 }

@@ -1,5 +1,5 @@
 //! The job of the tests.
-use rayon_jobs::JobKind;
+use rayon_jobs::{JobKind, NoHandler};
 
 /// A job that is known by its number.
 #[derive(Drop)]
@@ -11,6 +11,8 @@ impl JobKind for Errand {
     type Output = u8;
 
     type Fault = u8;
+
+    type Handler = NoHandler;
 
     ghost answers = { λ t r. Unit {0} };
 

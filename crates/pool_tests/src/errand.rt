@@ -3,17 +3,20 @@ ghost use Rattle.std.specs.Prelude.{◌≡◌, ℕ};
 
 use crate::hands;
 use rayon_core::{
-    BroadcastContext, CallError, FnContext, Job, JobKind, Refusal, Waits, WorkerId, WorkerThread,
+    BroadcastContext, CallError, FnContext, Job, JobKind, PanicHandler, Refusal, Waits, WorkerId,
+    WorkerThread,
 };
 use std::alloc::Global;
 use std::sync::atomic::{AtomicU64, Ordering};
-use std::sync::{Arc, Barrier};
+use std::sync::{Arc, Barrier, Wait};
 
-/// What the runs of a test's jobs leave behind: how many have begun, and the digits that were noted.
+/// What the runs of a test's jobs leave behind: how many have begun, the digits that were noted, and how many faults a
+/// pool's handler was told.
 #[derive(Drop)]
 pub struct Marks {
     runs: AtomicU64,
     noted: AtomicU64,
+    told: AtomicU64,
 }
 
 impl Marks {
@@ -22,6 +25,7 @@ impl Marks {
         let marks = Marks {
             runs: AtomicU64::new(0),
             noted: AtomicU64::new(0),
+            told: AtomicU64::new(0),
         };
         Arc::new(alloc, marks).map_err(|_| Trouble::NoMemory)
     }
@@ -41,6 +45,36 @@ impl Marks {
     /// The digits that were noted.
     pub fn noted(&self) -> u64 {
         self.noted.load(Ordering::SeqCst)
+    }
+
+    /// How many faults a pool's handler was told.
+    pub fn told(&self) -> u64 {
+        self.told.load(Ordering::SeqCst)
+    }
+}
+
+/// A handler that counts the faults that it is told, and notes the digit of each that has one.
+#[derive(Drop)]
+pub struct Teller {
+    marks: Arc<Marks>,
+}
+
+impl Teller {
+    /// A handler that leaves its marks there. Refused `NoMemory`.
+    pub fn new(marks: &Arc<Marks>) -> Result<Teller, Trouble> {
+        match Arc::try_clone(marks) {
+            Ok(marks) => Ok(Teller { marks }),
+            Err(_) => Err(Trouble::NoMemory),
+        }
+    }
+}
+
+impl PanicHandler<Trouble> for Teller {
+    fn panicked<R: Wait>(&self, _rt: &R, fault: Trouble) {
+        if let Trouble::Number(digit) = fault {
+            self.marks.note(digit);
+        }
+        self.marks.told.fetch_add(1, Ordering::SeqCst);
     }
 }
 
@@ -94,6 +128,8 @@ pub enum Deed {
     /// Joins one of these, one less, and a job that answers 1, as long as it is more than 0. Answers how many joins stood
     /// nested.
     Chain(u64),
+    /// Spawns four jobs that fault with this digit, two of them in order, and faults with it.
+    FaultByFive(u64),
 }
 
 /// A job: its name, which is its tag, where it leaves its marks, and what it does.
@@ -120,6 +156,8 @@ impl JobKind for Errand {
     type Output = u64;
 
     type Fault = Trouble;
+
+    type Handler = Teller;
 
     ghost answers = { λ t r. Unit {0} };
 

@@ -3,7 +3,7 @@ ghost use Rattle.rayon_core.specs.Worker.{SameWorker};
 ghost use Rattle.std.specs.Prelude.{◌≡◌, ℕ, ◌≤◌};
 
 use crate::errand::{Deed, Errand, Marks, Trouble, outcomes};
-use rayon_core::{Task, Waits, WorkerThread};
+use rayon_core::{Refusal, Task, Waits, WorkerThread};
 use std::alloc::Global;
 use std::sync::{Arc, Barrier, Wait};
 use std::thread;
@@ -66,6 +66,7 @@ pub fn run<R: Waits<Errand>>(
             let below = Deed::Chain(links.saturating_sub(1));
             join(rt, alloc, w, marks, below, Deed::End(Ok(1)))
         }
+        Deed::FaultByFive(digit) => fault_by_five(rt, alloc, w, marks, digit),
         Deed::End(_) | Deed::IsOn(_) | Deed::Note(_) | Deed::NoteLate(_) => Err(Trouble::Unlike),
     }
 }
@@ -100,6 +101,49 @@ fn join<R: Waits<Errand>>(
     match outcomes(w.join_jobs(rt, alloc, a, b)) {
         Ok((first, second)) => Ok(first.saturating_add(second)),
         Err(trouble) => Err(trouble),
+    }
+}
+
+// Spawns four jobs that fault with this digit, two of them in order, and faults with it.
+fn fault_by_five<R: Wait>(
+    rt: &R,
+    alloc: Global,
+    w: &mut WorkerThread<Errand>,
+    marks: &Arc<Marks>,
+    digit: u64,
+) -> Result<u64, Trouble>
+    ensures same { SameWorker w.old w.new }
+{
+    spawn_fault(rt, alloc, w, marks, digit, false)?;
+    spawn_fault(rt, alloc, w, marks, digit, true)?;
+    spawn_fault(rt, alloc, w, marks, digit, false)?;
+    spawn_fault(rt, alloc, w, marks, digit, true)?;
+    Err(Trouble::Number(digit))
+}
+
+// Spawns a job that faults with this digit, in order or not.
+fn spawn_fault<R: Wait>(
+    rt: &R,
+    alloc: Global,
+    w: &mut WorkerThread<Errand>,
+    marks: &Arc<Marks>,
+    digit: u64,
+    in_order: bool,
+) -> Result<(), Trouble>
+    ensures same { SameWorker w.old w.new }
+{
+    let job = Errand::new(digit, marks, Deed::End(Err(digit)))?;
+    if in_order {
+        return spawned(w.spawn_fifo(rt, alloc, job));
+    }
+    spawned(w.spawn(rt, alloc, job))
+}
+
+// What is told of a spawn that gave this.
+fn spawned(answer: Result<(), (Refusal, Errand)>) -> Result<(), Trouble> {
+    match answer {
+        Ok(()) => Ok(()),
+        Err(_) => Err(Trouble::NoMemory),
     }
 }
 

@@ -1,11 +1,14 @@
 //! Tests of a running pool that no script of calls can say: tasks that a job takes and pushes by hand, a pool's number,
-//! a pool that is lent, a pool that ends under calls at any moment, and a latch between two threads.
+//! a pool that is lent, a pool that ends under calls at any moment, a pool that tells a handler the faults of detached
+//! jobs, and a latch between two threads.
 #![tactic(auto)]
 
 #[cfg(test)]
 mod ending;
 #[cfg(test)]
 mod errand;
+#[cfg(test)]
+mod handlers;
 #[cfg(test)]
 mod hands;
 #[cfg(test)]

@@ -4,7 +4,7 @@ ghost use Rattle.std.proofs.Common.{rules};
 ghost use Rattle.std.specs.Prelude.{◌≡◌, ◌*◌, ◌<◌, IfOk, IfSome, None};
 
 use rayon_books::{Ended, NoOutputs, Receipt, ScopeBook, are_met};
-use rayon_jobs::{Done, JobKind};
+use rayon_jobs::{Done, JobKind, NoHandler};
 use std::alloc::Global;
 use std::test::*;
 
@@ -18,6 +18,8 @@ impl JobKind for Square {
     type Output = u64;
 
     type Fault = u64;
+
+    type Handler = NoHandler;
 
     ghost answers = { λ t r. IfOk r (λ o. o ≡ t * t) };
 

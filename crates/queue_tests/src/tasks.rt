@@ -2,7 +2,7 @@
 //! result is taken once, and that tasks are made at all. What a task is made of stands in the contracts.
 ghost use Rattle.std.proofs.Common.{rules};
 
-use rayon_jobs::{Done, JobKind};
+use rayon_jobs::{Done, JobKind, NoHandler};
 use rayon_machine_places::place::Ending;
 use rayon_tasks::{Call, Ticket, Work, task_of_job, task_of_pair, task_parts};
 use std::alloc::Global;
@@ -19,6 +19,8 @@ impl JobKind for Errand {
     type Output = u64;
 
     type Fault = ();
+
+    type Handler = NoHandler;
 
     ghost answers = { λ t r. Unit {0} };
 

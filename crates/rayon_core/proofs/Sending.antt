@@ -10,15 +10,15 @@ use Rattle.rayon_tasks.proofs.task.Task.TheLaws.TheKnot.{both_send-Task, both_sy
 use Rattle.rayon_tasks.proofs.task.Load.TheSendSync as load
 use Rattle.rayon_tasks.proofs.ticket.Ticket.TheSendSync as ticket
 
-module _ (J T O F : RattleType) (g : kind.Ghosts J.Denot T.Denot O.Denot F.Denot) (e : equal.Ghosts T.Denot) where
-  pub task_send : IsSend J → IsSync J → IsSend T → IsSend O → IsSend F → IsSend (task.the_row J T O F g e)
+module _ (J T O F H : RattleType) (g : kind.Ghosts J.Denot T.Denot O.Denot F.Denot H.Denot) (e : equal.Ghosts T.Denot) where
+  pub task_send : IsSend J → IsSync J → IsSend T → IsSend O → IsSend F → IsSend (task.the_row J T O F H g e)
   task_send s y a b c =
-      both_send-Task J T O F g e
-      (load.the_send J s) (ticket.the_send J T O F g e a b c) (λ h p q. search (sendable, crosses) depth 20)
-      (load.the_sync J y) (ticket.the_sync J T O F g e a b c) (λ h p q. search (sendable, crosses) depth 20)
+      both_send-Task J T O F H g e
+      (load.the_send J s) (ticket.the_send J T O F H g e a b c) (λ h p q. search (sendable, crosses) depth 20)
+      (load.the_sync J y) (ticket.the_sync J T O F H g e a b c) (λ h p q. search (sendable, crosses) depth 20)
 
-  pub task_sync : IsSend J → IsSync J → IsSend T → IsSend O → IsSend F → IsSync (task.the_row J T O F g e)
+  pub task_sync : IsSend J → IsSync J → IsSend T → IsSend O → IsSend F → IsSync (task.the_row J T O F H g e)
   task_sync s y a b c =
-      both_sync-Task J T O F g e
-      (load.the_send J s) (ticket.the_send J T O F g e a b c) (λ h p q. search (sendable, crosses) depth 20)
-      (load.the_sync J y) (ticket.the_sync J T O F g e a b c) (λ h p q. search (sendable, crosses) depth 20)
+      both_sync-Task J T O F H g e
+      (load.the_send J s) (ticket.the_send J T O F H g e a b c) (λ h p q. search (sendable, crosses) depth 20)
+      (load.the_sync J y) (ticket.the_sync J T O F H g e a b c) (λ h p q. search (sendable, crosses) depth 20)

@@ -4,7 +4,7 @@ ghost use Rattle.std.specs.Prelude.{◌≡◌, ℕ, ◌+◌, ◌-◌, ◌^◌, �
 
 use crate::environment::{Environment, number_in};
 use crate::thread_pool::{ThreadPool, end_workers};
-use rayon_jobs::JobKind;
+use rayon_jobs::{JobKind, PanicHandler};
 use rayon_performers::{Registry, WorkerKit, WorkerSeats};
 use rayon_queues::WorkerDeque;
 use rayon_registry::{
@@ -41,22 +41,23 @@ pub struct ThreadPoolBuilder<J: JobKind> {
     depth_limit: usize,
     steal_seed: u64,
     breadth_first: bool,
+    handler: Option<J::Handler>,
     jobs: PhantomData<J>,
 }
 
 impl<J: JobKind> Model for ThreadPoolBuilder<J> {
     ghost use Rattle.rayon_core.specs.Settings.{Settings};
 
-    ghost Value = { Settings };
+    ghost Value = { Settings J.Handler };
 
-    ghost view = { λ b. record { num_threads = b.num_threads; first = b.environment.first; second = b.environment.second; processors = b.environment.processors; stack_size = b.stack_size; depth_limit = b.depth_limit; steal_seed = b.steal_seed; breadth_first = b.breadth_first } };
+    ghost view = { λ b. record { num_threads = b.num_threads; first = b.environment.first; second = b.environment.second; processors = b.environment.processors; stack_size = b.stack_size; depth_limit = b.depth_limit; steal_seed = b.steal_seed; breadth_first = b.breadth_first; handler = b.handler } };
 }
 
 impl<J: JobKind> ThreadPoolBuilder<J> {
     /// Settings of which none was made: the builder chooses how many workers, with no word of the environment and an
     /// unknown number of processors, and runs may nest as deep as the stack of a thread allows, which is the system's.
     pub fn new() -> ThreadPoolBuilder<J>
-        ensures { result ≡ record { num_threads = 0; first = None; second = None; processors = 0; stack_size = None; depth_limit = 2 ^ 64 - 1; steal_seed = 0; breadth_first = false } }
+        ensures { result ≡ record { num_threads = 0; first = None; second = None; processors = 0; stack_size = None; depth_limit = 2 ^ 64 - 1; steal_seed = 0; breadth_first = false; handler = None } }
     {
         ThreadPoolBuilder {
             num_threads: 0,
@@ -65,6 +66,7 @@ impl<J: JobKind> ThreadPoolBuilder<J> {
             depth_limit: usize::MAX,
             steal_seed: 0,
             breadth_first: false,
+            handler: None,
             jobs: PhantomData,
         }
     }
@@ -156,6 +158,17 @@ impl<J: JobKind> ThreadPoolBuilder<J> {
         builder
     }
 
+    /// Sets what the pool tells the faults of its detached jobs to, in place of keeping them for `take_fault`. The worker
+    /// that ran a job tells it, with no lock of the pool held, before the job's unit of the terminate count is given
+    /// back; several workers may do so at a time. rayon-core takes a closure, and ends the process where there is none.
+    pub fn panic_handler(self, handler: J::Handler) -> ThreadPoolBuilder<J>
+        ensures { result ≡ record self { handler = Some handler } }
+    {
+        let mut builder = self;
+        builder.handler = Some(handler);
+        builder
+    }
+
     /// Makes the pool: draws its number, and starts its workers' threads. Refused `NoIds`, `NoRoom`, `IOError`, in this
     /// order where more than one holds before a thread is started; what was started is ended and joined again, so no
     /// thread is left.
@@ -174,6 +187,7 @@ impl<J: JobKind> ThreadPoolBuilder<J> {
         J::Tag: Send + Sync + 'static,
         J::Output: Send + Sync + 'static,
         J::Fault: Send + Sync + 'static,
+        J::Handler: Send + Sync + 'static,
         ensures workers { IfOk result (λ p. p.workers ≡ workers_of self) }
         ensures depth { IfOk result (λ p. p.depth_limit ≡ max 1 self.depth_limit) }
         ensures order { IfOk result (λ p. p.breadth_first ≡ self.breadth_first) }
@@ -190,6 +204,7 @@ impl<J: JobKind> ThreadPoolBuilder<J> {
             self.depth_limit,
             self.steal_seed,
             self.breadth_first,
+            self.handler,
         );
         let Ok((pool, deques, hold)) = made else {
             return Err(ThreadPoolBuildError::NoRoom);
@@ -263,13 +278,13 @@ impl OwnSeats for WorkerSeats {
 }
 
 // A share of the faults of a pool's detached jobs.
-trait OwnFaults<F>: Drop {
+trait OwnFaults<F, H>: Drop {
     // It itself.
-    fn into_faults(self) -> SharedFaults<F>;
+    fn into_faults(self) -> SharedFaults<F, H>;
 }
 
-impl<F: Drop> OwnFaults<F> for SharedFaults<F> {
-    fn into_faults(self) -> SharedFaults<F> {
+impl<F: Drop, H: PanicHandler<F>> OwnFaults<F, H> for SharedFaults<F, H> {
+    fn into_faults(self) -> SharedFaults<F, H> {
         self
     }
 }
@@ -278,7 +293,7 @@ impl<F: Drop> OwnFaults<F> for SharedFaults<F> {
 // these seats.
 fn start_sharing<
     J,
-    N: OwnFaults<J::Fault> + Send + 'static,
+    N: OwnFaults<J::Fault, J::Handler> + Send + 'static,
     D: OwnDeque<J> + Send + 'static,
     K: OwnSeats + Send + 'static,
     R: Threads + Wait + Copy + Send + 'static,
@@ -297,6 +312,7 @@ where
     J::Tag: Send + Sync + 'static,
     J::Output: Send + Sync + 'static,
     J::Fault: Send + Sync + 'static,
+    J::Handler: Send + Sync + 'static,
 {
     start_with(
         rt,
@@ -319,7 +335,7 @@ where
 // Starts the thread of this worker, whose own deque this is.
 fn start_with_deque<
     J,
-    N: OwnFaults<J::Fault> + Send + 'static,
+    N: OwnFaults<J::Fault, J::Handler> + Send + 'static,
     K: OwnSeats + Send + 'static,
     R: Threads + Wait + Copy + Send + 'static,
 >(
@@ -337,6 +353,7 @@ where
     J::Tag: Send + Sync + 'static,
     J::Output: Send + Sync + 'static,
     J::Fault: Send + Sync + 'static,
+    J::Handler: Send + Sync + 'static,
 {
     start_sharing(rt, alloc, worker, stack_size, shared, faults, deque, seats)
 }
@@ -355,6 +372,7 @@ where
     J::Tag: Send + Sync + 'static,
     J::Output: Send + Sync + 'static,
     J::Fault: Send + Sync + 'static,
+    J::Handler: Send + Sync + 'static,
 {
     let (Ok(shared), Ok(faults)) = (shared_of(pool), faults_of(pool)) else {
         return Err(ThreadPoolBuildError::NoRoom);
@@ -398,6 +416,7 @@ where
     J::Tag: Send + Sync + 'static,
     J::Output: Send + Sync + 'static,
     J::Fault: Send + Sync + 'static,
+    J::Handler: Send + Sync + 'static,
     ensures started { IfOk result (λ _. length workers.new.items ≡ length workers.old.items + length deques.items) }
 {
     for (index, deque) in deques.into_iter().enumerate() {

@@ -12,7 +12,7 @@ mod thread_pool;
 pub use builder::{ThreadPoolBuildError, ThreadPoolBuilder};
 pub use end_after::EndAfter;
 pub use environment::max_num_threads;
-pub use rayon_jobs::{Done, JobKind};
+pub use rayon_jobs::{Done, JobKind, NoHandler, PanicHandler};
 pub use rayon_registry::{
     BroadcastContext, FnContext, ForkJoin, Ids, Job, PoolId, PoolRef, Scope, Waits, WorkerId,
     WorkerThread,

@@ -53,8 +53,8 @@ pub fn install<J: JobKind, R, C: Current<J, R>>(
 }
 
 /// Spawns a detached job, and waits for nothing: on the worker's own deque inside a run, and on the pool outside.
-/// Nobody is answered its output, and its fault is kept by the pool (`take_fault`). Refused `Full`, `NoRoom`, `Ended`,
-/// with the job back.
+/// Nobody is answered its output; its fault goes to the pool's handler, or is kept where it has none (`take_fault`).
+/// Refused `Full`, `NoRoom`, `Ended`, with the job back.
 pub fn spawn<J: JobKind, R, C: Current<J, R>>(
     rt: &R,
     alloc: Global,

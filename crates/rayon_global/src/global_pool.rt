@@ -72,6 +72,7 @@ impl<J: JobKind> GlobalPool<J> {
         J::Tag: Send + Sync + 'static,
         J::Output: Send + Sync + 'static,
         J::Fault: Send + Sync + 'static,
+        J::Handler: Send + Sync + 'static,
     {
         if let Some(outside) = self.get() {
             return Ok(outside);
@@ -96,6 +97,7 @@ impl<J: JobKind> GlobalPool<J> {
         J::Tag: Send + Sync + 'static,
         J::Output: Send + Sync + 'static,
         J::Fault: Send + Sync + 'static,
+        J::Handler: Send + Sync + 'static,
         ensures workers { IfOk result (λ o. o.workers ≡ workers_of builder) }
         ensures depth { IfOk result (λ o. o.depth_limit ≡ max 1 builder.depth_limit) }
         ensures order { IfOk result (λ o. o.breadth_first ≡ builder.breadth_first) }
@@ -122,6 +124,7 @@ impl<J: JobKind> GlobalPool<J> {
         J::Tag: Send + Sync + 'static,
         J::Output: Send + Sync + 'static,
         J::Fault: Send + Sync + 'static,
+        J::Handler: Send + Sync + 'static,
         ensures workers { (p : _) → result ≡ Ok (Filled.Made p) → p.now.workers ≡ workers_of builder }
         ensures depth { (p : _) → result ≡ Ok (Filled.Made p) → p.now.depth_limit ≡ max 1 builder.depth_limit }
         ensures order { (p : _) → result ≡ Ok (Filled.Made p) → p.now.breadth_first ≡ builder.breadth_first }

@@ -4,11 +4,13 @@
 mod cell;
 mod done;
 mod faults;
+mod handler;
 mod kind;
 mod lost;
 
 pub use cell::Cell;
 pub use done::Done;
 pub use faults::Faults;
+pub use handler::{NoHandler, PanicHandler};
 pub use kind::JobKind;
 pub use lost::{Lost, claimed};

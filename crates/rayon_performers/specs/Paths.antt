@@ -17,6 +17,7 @@ module _ {X G O F : Type 0} where
   abbrev pub WorkerGoes : Move → Hands X G O F → Hands X G O F → Move → Type 0
   WorkerGoes m s t n = WorkerGoesIn s.shape s.index m s t n
 
+module _ {X G O F H : Type 0} where
   -- an outside caller made the acts of a path of the table, and no other
-  abbrev pub CallerGoes : Move → Visit X G O F → Visit X G O F → Move → Type 0
-  CallerGoes m s t n = Driven (λ (u : Visit X G O F) a x v. CallerDoes a x u v) (λ (u : Visit X G O F). u.trace) s.shape (Caller 0) m s t n
+  abbrev pub CallerGoes : Move → Visit X G O F H → Visit X G O F H → Move → Type 0
+  CallerGoes m s t n = Driven (λ (u : Visit X G O F H) a x v. CallerDoes a x u v) (λ (u : Visit X G O F H). u.trace) s.shape (Caller 0) m s t n

@@ -32,11 +32,11 @@ use Rattle.rayon_performers.specs.Seats.{Steps, Tells}
 -- queues, until it is queued; the ticket of its call, and where two sides are sent that of the first one's cell; the results
 -- that were found in the cells of the two; whether it holds a unit of the terminate count; its seat of that count, and the
 -- one by which it set a latch last; the seat of the counters by which it told news last; and what it did
-pub record Visit (X G O F : Type 0) : Type 0 where
+pub record Visit (X G O F H : Type 0) : Type 0 where
   pub count : TableId
   pub shape : PoolShape
   pub inlet : Visitor (TaskOf X)
-  pub load : Option (Load X G O F)
+  pub load : Option (Load X G O F H)
   pub call : Option TicketOf
   pub first : Option TicketOf
   pub done : Option (Run G O F)
@@ -47,9 +47,9 @@ pub record Visit (X G O F : Type 0) : Type 0 where
   pub trace : Log
 
 -- what of it the places ask
-pub record Hand (X G O F : Type 0) : Type 0 where
+pub record Hand (X G O F H : Type 0) : Type 0 where
   pub inlet : Visitor (TaskOf X)
-  pub load : Option (Load X G O F)
+  pub load : Option (Load X G O F H)
   pub call : Option TicketOf
   pub first : Option TicketOf
   pub holds : Bool
@@ -143,44 +143,44 @@ module _ {X : Type 0} where
   abbrev pub with_pushed : Visitor (TaskOf X) → TaskOf X → Visitor (TaskOf X)
   with_pushed v x = visitor v.injector (v.pushed ++ x ∷ []) v.taken
 
-module _ {X G O F : Type 0} where
+module _ {X G O F H : Type 0} where
   -- the task of a load in the call of this name
-  abbrev pub task_in : ℕ → Load X G O F → TaskOf X
+  abbrev pub task_in : ℕ → Load X G O F H → TaskOf X
   task_in n (Job j) = record { work = OneJob j; injected = true; ticket = ticket_of n }
   task_in n (Sides a b) = record { work = TwoSides a b (ticket_of n); injected = true; ticket = ticket_of n }
   task_in n (Detached j k) = record { work = OneJob j; injected = true; ticket = k }
 
   -- the load of a task
-  abbrev pub IsLoadOf : TaskOf X → Load X G O F → Type 0
+  abbrev pub IsLoadOf : TaskOf X → Load X G O F H → Type 0
   IsLoadOf t l = elim t.work [ OneJob j ↦ l ≡ (if t.ticket.detached then Detached j t.ticket else Job j) | TwoSides a b k ↦ l ≡ Sides a b | NoJob ↦ ⊥ ]
 
   -- the pass once the load was pushed, if there was one
-  abbrev pub sent : ℕ → Option (Load X G O F) → Visitor (TaskOf X) → Visitor (TaskOf X)
+  abbrev pub sent : ℕ → Option (Load X G O F H) → Visitor (TaskOf X) → Visitor (TaskOf X)
   sent n None v = v
   sent n (Some w) v = with_pushed v (task_in n w)
 
   -- the ticket to whose cell the first side's result goes, where there are two
-  abbrev pub first_of : ℕ → Option (Load X G O F) → Option TicketOf
+  abbrev pub first_of : ℕ → Option (Load X G O F H) → Option TicketOf
   first_of n (Some (Sides a b)) = Some (ticket_of n)
   first_of n _ = None
 
   -- whether the caller still holds a unit once the load was pushed: that of a detached job goes with the job
-  abbrev pub unit_after : Option (Load X G O F) → Bool → Bool
+  abbrev pub unit_after : Option (Load X G O F H) → Bool → Bool
   unit_after (Some (Detached j k)) b = false
   unit_after _ b = b
 
   -- the load and the tickets of its results are in hand
-  abbrev pub Packed : ℕ → Option (Load X G O F) → Option TicketOf → Option TicketOf → Type 0
+  abbrev pub Packed : ℕ → Option (Load X G O F H) → Option TicketOf → Option TicketOf → Type 0
   Packed n None k f = ⊥
   Packed n (Some (Job j)) k f = k ≡ Some (ticket_of n)
   Packed n (Some (Sides a b)) k f = (k ≡ Some (ticket_of n)) × (f ≡ Some (ticket_of n))
   Packed n (Some (Detached j t)) k f = t.detached ≡ true
 
-  abbrev pub hand : Visit X G O F → Hand X G O F
+  abbrev pub hand : Visit X G O F H → Hand X G O F H
   hand s = record { inlet = s.inlet; load = s.load; call = s.call; first = s.first; holds = s.holds }
 
   -- what an act asks. The acts that stand under ⊥ are no caller's
-  abbrev pub Needs : Act → Hand X G O F → Type 0
+  abbrev pub Needs : Act → Hand X G O F H → Type 0
   Needs (acts.Raise (OfPool p) n) s = (p ≡ 0) × (s.holds ≡ false)
   Needs (acts.Grow c) s = Unit {0}
   Needs (acts.LookInj p) s = p ≡ 0
@@ -196,7 +196,7 @@ module _ {X G O F : Type 0} where
   Needs _ s = ⊥
 
   -- what an act leaves in hand: a unit is taken or given back, tickets are made, the load is pushed
-  abbrev pub after : Act → Seen → Hand X G O F → Hand X G O F
+  abbrev pub after : Act → Seen → Hand X G O F H → Hand X G O F H
   after (acts.Raise c n) x s = record s { holds = if_done x true s.holds }
   after (acts.Grow c) x s = record s { call = if_done x (Some (ticket_of c)) s.call; first = if_done x (first_of c s.load) s.first }
   after (acts.PushInj p n b) x s = record s { inlet = if_done x (sent n s.load s.inlet) s.inlet; load = if_done x None s.load; holds = if_done x (unit_after s.load s.holds) s.holds }
@@ -204,18 +204,18 @@ module _ {X G O F : Type 0} where
   after _ x s = s
 
   -- what it finds
-  abbrev pub Finds : Act → Seen → Visit X G O F → Visit X G O F → Type 0
+  abbrev pub Finds : Act → Seen → Visit X G O F H → Visit X G O F H → Type 0
   Finds (acts.Take c) x s t = Takes x s.first t.done t.first_done
   Finds _ x s t = (t.done ≡ s.done) × (t.first_done ≡ s.first_done)
 
   -- a worker's terminate latch is set, by the one step that makes a seat of it; its owner slept or not. Or the pool has no
   -- such worker
-  abbrev pub Sets : ℕ → Seen → Visit X G O F → Visit X G O F → Type 0
+  abbrev pub Sets : ℕ → Seen → Visit X G O F H → Visit X G O F H → Type 0
   Sets i Yes s t = SetBy (s.shape.workers ≤ i) true t.marks.set
   Sets i _ s t = SetBy (s.shape.workers ≤ i) false t.marks.set
 
   -- what it does to the seats. There is no other act of a caller
-  abbrev pub Marked : Act → Seen → Visit X G O F → Visit X G O F → Type 0
+  abbrev pub Marked : Act → Seen → Visit X G O F H → Visit X G O F H → Type 0
   Marked (acts.Raise (OfPool p) n) x s t = (t.marks.set ≡ s.marks.set) × Raises x s.holds s.marks.count t.marks.count
   Marked (acts.Lower (OfPool p) b) x s t = (t.marks.set ≡ s.marks.set) × Lowers x s.holds s.marks.count t.marks.count
   Marked (acts.Set l p i) x s t = (t.marks.count ≡ s.marks.count) × Sets i x s t
@@ -231,10 +231,10 @@ module _ {X G O F : Type 0} where
   Marked _ x s t = ⊥
 
   -- and to the seat by which news is told
-  abbrev pub Told : Act → Seen → Visit X G O F → Visit X G O F → Type 0
+  abbrev pub Told : Act → Seen → Visit X G O F H → Visit X G O F H → Type 0
   Told (acts.News p e) x s t = TellsBy e x t.chair
   Told _ x s t = t.chair ≡ s.chair
 
   -- what each act of a caller does
-  abbrev pub Does : Act → Seen → Visit X G O F → Visit X G O F → Type 0
+  abbrev pub Does : Act → Seen → Visit X G O F H → Visit X G O F H → Type 0
   Does a x s t = (hand t ≡ after a x (hand s)) × (t.shape ≡ s.shape) × Finds a x s t × Marked a x s t × Told a x s t × Sees a x

@@ -78,7 +78,7 @@ impl<'a, J: JobKind> Model for Guest<'a, J> {
     ghost use Rattle.rayon_words.specs.declared.refusal.Refusal.TheVariants.{Ended, Full, NoRoom};
     ghost use Rattle.rayon_performers.specs.Visits.{Visit, watch_in};
 
-    ghost Value = { Visit J J.Tag J.Output J.Fault };
+    ghost Value = { Visit J J.Tag J.Output J.Fault J.Handler };
 
     ghost coded = { Prim.hlevel (codes, logs.the_row.coded) };
 

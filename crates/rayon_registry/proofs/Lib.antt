@@ -1,2 +1,3 @@
+mod Installs
 mod Joins
 mod Made

@@ -32,7 +32,7 @@ pub(crate) struct PoolShare<T> {
 #[derive(Drop)]
 pub struct PoolRef<J: JobKind> {
     pub(crate) pool: PoolShare<Task<J>>,
-    pub(crate) faults: SharedFaults<J::Fault>,
+    pub(crate) faults: SharedFaults<J::Fault, J::Handler>,
 }
 
 impl<J: JobKind> Model for PoolRef<J> {
@@ -49,7 +49,7 @@ impl<J: JobKind> PoolRef<J> {
     pub(crate) fn of(
         id: PoolId,
         shared: Arc<rayon_performers::Registry<Task<J>>, Global>,
-        faults: SharedFaults<J::Fault>,
+        faults: SharedFaults<J::Fault, J::Handler>,
     ) -> PoolRef<J>
         ensures { result ≡ record { id = id; workers = (arc_value shared).workers; depth_limit = (arc_value shared).depth_limit; breadth_first = (arc_value shared).breadth_first; count = (arc_value shared).count } }
     {
@@ -113,9 +113,9 @@ impl<J: JobKind> PoolRef<J> {
         }
     }
 
-    /// Spawns a detached job on the pool, for a caller that is no worker, and waits for nothing. The job keeps the pool from
-    /// ending until its run is over. Nobody is answered its output, and its fault is kept for `take_fault`. Refused `Full`,
-    /// `NoRoom`, `Ended`, with the job back.
+    /// Spawns a detached job on the pool, for a caller that is no worker, and waits for nothing. The job keeps the pool
+    /// from ending until its run is over. Nobody is answered its output; its fault goes to the pool's handler, or is kept
+    /// for `take_fault` where it has none. Refused `Full`, `NoRoom`, `Ended`, with the job back.
     pub fn spawn<R: Wait>(&self, rt: &R, alloc: Global, job: J) -> Result<(), (Refusal, J)>
         ensures back { IfErr result (λ e. e.1 ≡ job) }
         ensures refused { IfErr result (λ e. (e.0 ≡ Refusal.Ended) ⊎ ((e.0 ≡ Refusal.Full) ⊎ (e.0 ≡ Refusal.NoRoom))) }
@@ -150,8 +150,8 @@ impl<J: JobKind> PoolRef<J> {
         self.faults.strays(rt)
     }
 
-    /// The first fault of a detached job since this was asked last, and how many there were; that number stops at 2^64 - 1.
-    /// None and 0 are left.
+    /// The first fault of a detached job since this was asked last, and how many there were; that number stops at
+    /// 2^64 - 1. None and 0 are left, and so it is always where the pool has a handler, which is told each fault.
     pub fn take_fault<R: Wait>(&self, rt: &R) -> (Option<J::Fault>, u64)
         ensures { Agrees result.0 result.1 }
     {

@@ -42,7 +42,7 @@ impl<J: JobKind> ThreadBuilder<J> {
         id: PoolId,
         index: usize,
         shared: Arc<Registry<Task<J>>, Global>,
-        faults: SharedFaults<J::Fault>,
+        faults: SharedFaults<J::Fault, J::Handler>,
         deque: WorkerKit<Task<J>>,
     ) -> Option<ThreadBuilder<J>>
         ensures seat { IfSome result (λ t. t ≡ record { pool = record { id = id; workers = (arc_value shared).workers; depth_limit = (arc_value shared).depth_limit; breadth_first = (arc_value shared).breadth_first; count = (arc_value shared).count }; index = index }) }

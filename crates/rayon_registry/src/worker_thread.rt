@@ -52,7 +52,7 @@ pub struct WorkerThread<J: JobKind> {
     pub(crate) id: WorkerId,
     pub(crate) levels: usize,
     pub(crate) names: Names,
-    pub(crate) faults: SharedFaults<J::Fault>,
+    pub(crate) faults: SharedFaults<J::Fault, J::Handler>,
     pub(crate) bench: Bench<J>,
 }
 
@@ -273,10 +273,10 @@ impl<J: JobKind> WorkerThread<J> {
         Ok(())
     }
 
-    /// Spawns a detached job: puts it last into the worker's own deque, and waits for nothing. The job has a unit of the
-    /// terminate count, which the end of its run gives back, so that the pool cannot end before. Nobody is answered its
-    /// output; its fault is kept by the pool (`take_fault`). Refused `Full`, `NoRoom`, `Ended`, with the job back and nothing
-    /// added.
+    /// Spawns a detached job: puts it last into the worker's own deque, and waits for nothing. The job has a unit of
+    /// the terminate count, which the end of its run gives back, so that the pool cannot end before. Nobody is answered
+    /// its output; its fault goes to the pool's handler, or is kept where it has none (`take_fault`). Refused `Full`,
+    /// `NoRoom`, `Ended`, with the job back and nothing added.
     #[tactic(auto, unfolding(crate::specs::Pushes::pushed_by, crate::specs::Pushes::left_to, crate::specs::Pushes::takes_oldest, crate::specs::Pushes::units_of, crate::specs::Pushes::count_of, crate::specs::Pushes::shape_at, crate::specs::Pushes::seat_of, crate::specs::Pushes::acts_of, crate::specs::Pushes::saw_set))]
     pub fn spawn<R: Wait>(&mut self, rt: &R, alloc: Global, job: J) -> Result<(), (Refusal, J)>
         ensures spawned { IfOk result (λ _. (n : ℕ) × Spawned self.old.shape (Worker 0 self.old.seat) n self.old.acts self.new.acts × (self.new ≡ record self.old { pushed = self.old.pushed ++ detached_task job false (Worker 0 self.old.seat) n ∷ []; left = self.old.left ++ detached_task job false (Worker 0 self.old.seat) n ∷ []; count = self.new.count; acts = self.new.acts })) }
@@ -295,8 +295,8 @@ impl<J: JobKind> WorkerThread<J> {
 
     /// Spawns a detached job in order: adds it last to the worker's own FIFO list, and puts a token last into its own
     /// deque, and waits for nothing. Who takes a token, this worker or a thief, runs the first job of the list. The
-    /// list's lock is held until the token is pushed. The job has a unit of the terminate count and its fault is kept,
-    /// as with `spawn`. Refused `Full`, `NoRoom`, `Ended`, with the very job back and nothing added.
+    /// list's lock is held until the token is pushed. The job has a unit of the terminate count and its fault is told
+    /// or kept, as with `spawn`. Refused `Full`, `NoRoom`, `Ended`, with the very job back and nothing added.
     ///
     /// What lies in the list no contract sees, since other threads take from it.
     #[tactic(auto, unfolding(crate::specs::Pushes::pushed_by, crate::specs::Pushes::left_to, crate::specs::Pushes::takes_oldest, crate::specs::Pushes::units_of, crate::specs::Pushes::count_of, crate::specs::Pushes::shape_at, crate::specs::Pushes::seat_of, crate::specs::Pushes::acts_of, crate::specs::Pushes::saw_set))]
@@ -457,8 +457,8 @@ impl<J: JobKind> WorkerThread<J> {
         self.end_run(rt, kind, ticket, done, first);
     }
 
-    // The run of this ticket's job, of this kind, has ended so. A detached job's fault is kept by the pool before its unit of
-    // the terminate count is given back; a call that waits for the job is told.
+    // The run of this ticket's job, of this kind, has ended so. A detached job's fault is told to the pool's handler, or
+    // kept, before its unit of the terminate count is given back; a call that waits for the job is told.
     #[tactic(auto, unfolding(crate::specs::Pushes::units_of, crate::specs::Pushes::count_of, crate::specs::Pushes::shape_at, crate::specs::Pushes::seat_of, crate::specs::Pushes::acts_of))]
     fn end_run<R: Wait>(
         &mut self,

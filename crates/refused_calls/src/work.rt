@@ -4,7 +4,7 @@ ghost use Rattle.std.specs.Prelude.{◌≡◌, ℕ};
 use crate::on_worker::{WorkerCall, deep, make_on_worker, push_again, push_in_order};
 use crate::outcome::{Outcome, Report};
 use rayon_core::{
-    BroadcastContext, CallError, FnContext, Job, JobKind, Refusal, Waits, WorkerThread,
+    BroadcastContext, CallError, FnContext, Job, JobKind, NoHandler, Refusal, Waits, WorkerThread,
 };
 use std::alloc::Global;
 use std::sync::Arc;
@@ -106,6 +106,8 @@ impl JobKind for Work {
     type Output = Answer;
 
     type Fault = Refusal;
+
+    type Handler = NoHandler;
 
     ghost answers = { λ t r. Unit {0} };
 

@@ -6,7 +6,7 @@ ghost use Rattle.std.proofs.Common.{rules};
 ghost use Rattle.std.specs.Prelude.{◌≡◌, ℕ, ◌+◌, IfOk, sum, take};
 
 use rayon_core::{
-    BroadcastContext, CallError, EndAfter, FnContext, Ids, Job, JobKind, Refusal,
+    BroadcastContext, CallError, EndAfter, FnContext, Ids, Job, JobKind, NoHandler, Refusal,
     ThreadPoolBuilder, Waits, WorkerThread,
 };
 use std::alloc::Global;
@@ -32,6 +32,8 @@ impl JobKind for Total {
     type Output = u64;
 
     type Fault = TotalFault;
+
+    type Handler = NoHandler;
 
     ghost answers = { λ t r. IfOk r (λ v. sum (take t.0 NUMBERS) + v ≡ sum (take t.1 NUMBERS)) };
 

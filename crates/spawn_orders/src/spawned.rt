@@ -5,7 +5,9 @@ ghost use Rattle.std.specs.Prelude.{◌≡◌, ◌≤◌, ◌*◌, ℕ, pos, IfO
 
 use crate::fault::OrderFault;
 use crate::ledger::Ledger;
-use rayon_core::{BroadcastContext, FnContext, Job, JobKind, Refusal, Waits, WorkerThread};
+use rayon_core::{
+    BroadcastContext, FnContext, Job, JobKind, NoHandler, Refusal, Waits, WorkerThread,
+};
 use std::alloc::Global;
 use std::sync::Arc;
 
@@ -133,6 +135,8 @@ impl JobKind for Spawned {
     type Output = ();
 
     type Fault = OrderFault;
+
+    type Handler = NoHandler;
 
     ghost answers = { λ t r. Unit {0} };
 

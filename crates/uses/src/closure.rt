@@ -4,7 +4,8 @@ ghost use Rattle.std.specs.Prelude.{◌≡◌, ℕ, ◌+◌, ◌≤◌, IfOk};
 ghost use Rattle.std.proofs.Common.{rules};
 
 use rayon_core::{
-    BroadcastContext, CallError, FnContext, ForkJoin, Job, JobKind, Refusal, Waits, WorkerThread,
+    BroadcastContext, CallError, FnContext, ForkJoin, Job, JobKind, NoHandler, Refusal, Waits,
+    WorkerThread,
 };
 use std::alloc::Global;
 use thiserror::Error;
@@ -48,6 +49,8 @@ impl JobKind for Ask {
     type Output = u32;
 
     type Fault = AskFault;
+
+    type Handler = NoHandler;
 
     ghost use Rattle.uses.specs.declared.closure.Ask.TheVariants.{Double, Triple};
 

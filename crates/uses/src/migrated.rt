@@ -4,7 +4,8 @@ ghost use Rattle.std.specs.Prelude.{◌≡◌, ℕ, ⊤, IfOk, false};
 ghost use Rattle.std.proofs.Common.{rules};
 
 use rayon_core::{
-    BroadcastContext, CallError, FnContext, ForkJoin, Job, JobKind, Refusal, Waits, WorkerThread,
+    BroadcastContext, CallError, FnContext, ForkJoin, Job, JobKind, NoHandler, Refusal, Waits,
+    WorkerThread,
 };
 use std::alloc::Global;
 use thiserror::Error;
@@ -47,6 +48,8 @@ impl JobKind for Tell {
     type Output = bool;
 
     type Fault = TellFault;
+
+    type Handler = NoHandler;
 
     ghost use Rattle.uses.specs.declared.migrated.Tell.TheVariants.{Own, FirstJob, Closure};
 

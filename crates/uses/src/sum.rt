@@ -4,7 +4,7 @@ ghost use Rattle.std.proofs.Common.{rules};
 ghost use Rattle.uses.specs.declared.sum.TheConstants.{DATA};
 
 use rayon_core::{
-    BroadcastContext, CallError, FnContext, Job, JobKind, Refusal, Waits, WorkerThread,
+    BroadcastContext, CallError, FnContext, Job, JobKind, NoHandler, Refusal, Waits, WorkerThread,
 };
 use std::alloc::Global;
 use thiserror::Error;
@@ -53,6 +53,8 @@ impl JobKind for Sum {
     type Output = u64;
 
     type Fault = SumFault;
+
+    type Handler = NoHandler;
 
     ghost answers = { λ t r. IfOk r (λ v. sum (take t.start DATA) + v ≡ sum (take t.end DATA)) };
 

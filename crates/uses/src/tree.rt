@@ -4,7 +4,7 @@ ghost use Rattle.std.specs.Cmp.{partial_equiv_from_equiv};
 ghost use Rattle.uses.specs.Expressions.{Evaluates, applied, same, same_equivalence, same_evaluates};
 
 use rayon_core::{
-    BroadcastContext, CallError, FnContext, Job, JobKind, Refusal, Waits, WorkerThread,
+    BroadcastContext, CallError, FnContext, Job, JobKind, NoHandler, Refusal, Waits, WorkerThread,
 };
 use std::alloc::{AllocError, Global};
 use thiserror::Error;
@@ -119,6 +119,8 @@ impl JobKind for Evaluate {
     type Output = u64;
 
     type Fault = TreeFault;
+
+    type Handler = NoHandler;
 
     ghost answers = { λ t r. Evaluates t.now r };
 

@@ -8,7 +8,7 @@ use Rattle.rayon_registry.proofs.join.ForkJoin.join.Goals as goal
 
 pub returns-clause-answers : goal.returns-clause-answers
 returns-clause-answers g c =
-    let post = (words g.row.Self g.row.J g.row.Self-Fork g.row.Self-Scope g.row.J-Tag g.row.J-Output g.row.J-Fault g.row.R g.row.RA g.row.A g.A.FnOnce).post c.args.a in
+    let post = (words g.row.Self g.row.J g.row.Self-Fork g.row.Self-Scope g.row.J-Tag g.row.J-Output g.row.J-Fault g.row.J-Handler g.row.R g.row.RA g.row.A g.A.FnOnce).post c.args.a in
     closure_join_answers post (λ ctx. ctx.now.migrated ≡ false) (λ r. g.J.JobKind.answers (g.J.JobKind.tag_of c.args.b) r) (c.args.a, c.args.b) _ _ _ _ c.a-first.result c.join_answer.result
     c.a-first.ensures c.new.ensures
     (IfOk-weaker c.join_answer.result _ _ (λ r h. (h.0, rw c.in-Ok.ensures.forked.0 at rw h.1 at c.end_join-second.ensures.ok)) c.join_answer.ensures.ok)

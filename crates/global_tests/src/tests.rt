@@ -3,8 +3,8 @@ use crate::deed::{Deed, once};
 use rayon_core::latch::LockLatch;
 use rayon_core::{EndAfter, Ids, PoolRef, Refusal, ThreadPoolBuildError, ThreadPoolBuilder};
 use rayon_global::{
-    GlobalPool, GlobalPoolBuildError, Outside, builder_of_environment, current_num_threads,
-    current_thread_index, install, join, join_context, max_num_threads, spawn, spawn_fifo,
+    GlobalPool, Outside, builder_of_environment, current_num_threads, current_thread_index,
+    install, join, join_context, max_num_threads, spawn, spawn_fifo,
 };
 use std::alloc::Global;
 use std::process::Abort;
@@ -128,7 +128,7 @@ fn second_build_is_refused(rt: HostRuntime) -> Result<(), Fail> {
         assert!(rt;
             matches!(
                 &second,
-                Err(GlobalPoolBuildError::GlobalPoolAlreadyInitialized)
+                Err(ThreadPoolBuildError::GlobalPoolAlreadyInitialized)
             )
         );
         let filled = global.filled(&rt, alloc, &ids, workers(5));
@@ -151,12 +151,7 @@ fn failed_fill_leaves_it_empty(rt: HostRuntime) -> Result<(), Fail> {
         assert!(rt; matches!(&filled, Err(ThreadPoolBuildError::NoIds)));
         assert!(rt; global.get().is_none());
         let built = global.build_global(&rt, alloc, &spent, workers(2));
-        assert!(rt;
-            matches!(
-                &built,
-                Err(GlobalPoolBuildError::NotBuilt(ThreadPoolBuildError::NoIds))
-            )
-        );
+        assert!(rt; matches!(&built, Err(ThreadPoolBuildError::NoIds)));
         let stack = workers(2).stack_size(usize::MAX);
         let filled = global.filled(&rt, alloc, &ids, stack);
         assert!(rt; matches!(&filled, Err(ThreadPoolBuildError::IOError(_))));

@@ -1,7 +1,9 @@
 //! How a pool is made.
 ghost use Rattle.rayon_core.specs.Environment.{Says, workers_of};
-ghost use Rattle.std.specs.Prelude.{◌≡◌, ℕ, ◌+◌, ◌-◌, ◌^◌, ◌<◌, max, length, IfOk, MatchOption, None, Some, true, false};
+ghost use Rattle.rayon_core.specs.Texts.{fixed_text};
+ghost use Rattle.std.specs.Prelude.{◌≡◌, ℕ, ◌+◌, ◌-◌, ◌^◌, ◌<◌, max, length, IfOk, IfErr, MatchOption, None, Some, true, false};
 
+use crate::build_error::ThreadPoolBuildError;
 use crate::environment::{Environment, number_in};
 use crate::thread_pool::{ThreadPool, end_workers};
 use rayon_jobs::{JobKind, PanicHandler};
@@ -14,23 +16,8 @@ use rayon_tasks::Task;
 use std::alloc::{AllocFailed, Global};
 use std::marker::{Model, PhantomData};
 use std::sync::{Arc, Wait};
+use std::thread;
 use std::thread::{JoinHandle, Threads};
-use std::{io, thread};
-use thiserror::Error;
-
-/// Why a pool was not made. What was started for it has been ended again.
-#[derive(Debug, Drop, Error)]
-pub enum ThreadPoolBuildError {
-    /// A worker's thread could not be started.
-    #[error("IOError: {0}")]
-    IOError(io::Error),
-    /// Memory was refused.
-    #[error("NoRoom")]
-    NoRoom,
-    /// The last pool number was drawn.
-    #[error("NoIds")]
-    NoIds,
-}
 
 /// What a pool is to be like. Contracts see what was set.
 #[derive(Drop)]
@@ -191,6 +178,7 @@ impl<J: JobKind> ThreadPoolBuilder<J> {
         ensures workers { IfOk result (λ p. p.workers ≡ workers_of self) }
         ensures depth { IfOk result (λ p. p.depth_limit ≡ max 1 self.depth_limit) }
         ensures order { IfOk result (λ p. p.breadth_first ≡ self.breadth_first) }
+        ensures cause { IfErr result (λ e. fixed_text e ≡ None) }
     {
         let Some(id) = ids.next(rt) else {
             return Err(ThreadPoolBuildError::NoIds);
@@ -243,6 +231,7 @@ fn start_with<
     begin: F,
 ) -> Result<JoinHandle<()>, ThreadPoolBuildError>
     requires { F.IsAlwaysCallable begin }
+    ensures cause { IfErr result (λ e. fixed_text e ≡ None) }
 {
     let theirs = *rt;
     let how = match stack_size {
@@ -313,6 +302,7 @@ where
     J::Output: Send + Sync + 'static,
     J::Fault: Send + Sync + 'static,
     J::Handler: Send + Sync + 'static,
+    ensures cause { IfErr result (λ e. fixed_text e ≡ None) }
 {
     start_with(
         rt,
@@ -354,6 +344,7 @@ where
     J::Output: Send + Sync + 'static,
     J::Fault: Send + Sync + 'static,
     J::Handler: Send + Sync + 'static,
+    ensures cause { IfErr result (λ e. fixed_text e ≡ None) }
 {
     start_sharing(rt, alloc, worker, stack_size, shared, faults, deque, seats)
 }
@@ -373,6 +364,7 @@ where
     J::Output: Send + Sync + 'static,
     J::Fault: Send + Sync + 'static,
     J::Handler: Send + Sync + 'static,
+    ensures cause { IfErr result (λ e. fixed_text e ≡ None) }
 {
     let (Ok(shared), Ok(faults)) = (shared_of(pool), faults_of(pool)) else {
         return Err(ThreadPoolBuildError::NoRoom);
@@ -392,16 +384,6 @@ struct Unstarted {
     worker: Option<JoinHandle<()>>,
 }
 
-impl Unstarted {
-    // No worker is left over.
-    fn of(error: ThreadPoolBuildError) -> Unstarted {
-        Unstarted {
-            error,
-            worker: None,
-        }
-    }
-}
-
 // Starts the threads of the workers whose deques these are, by index, and adds them to those that were started.
 fn start_workers<J, R: Threads + Wait + Copy + Send + 'static>(
     rt: &R,
@@ -418,6 +400,7 @@ where
     J::Fault: Send + Sync + 'static,
     J::Handler: Send + Sync + 'static,
     ensures started { IfOk result (λ _. length workers.new.items ≡ length workers.old.items + length deques.items) }
+    ensures cause { IfErr result (λ u. fixed_text u.error ≡ None) }
 {
     for (index, deque) in deques.into_iter().enumerate() {
         match start_worker(rt, alloc, pool, index, deque, stack_size) {
@@ -429,7 +412,12 @@ where
                     });
                 }
             }
-            Err(error) => return Err(Unstarted::of(error)),
+            Err(error) => {
+                return Err(Unstarted {
+                    error,
+                    worker: None,
+                });
+            }
         }
     }
     Ok(())

@@ -2,6 +2,7 @@
 //! that was handed in, and is one that the job's relation allows.
 #![tactic(auto)]
 
+mod build_error;
 mod builder;
 mod end_after;
 mod environment;
@@ -9,7 +10,8 @@ pub mod latch;
 mod thread_pool;
 
 // What jobs and calls are written with.
-pub use builder::{ThreadPoolBuildError, ThreadPoolBuilder};
+pub use build_error::ThreadPoolBuildError;
+pub use builder::ThreadPoolBuilder;
 pub use end_after::EndAfter;
 pub use environment::max_num_threads;
 pub use rayon_jobs::{Done, JobKind, NoHandler, PanicHandler};

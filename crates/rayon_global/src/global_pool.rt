@@ -1,6 +1,7 @@
 //! The pool of a program that builds none itself.
 ghost use Rattle.rayon_core.specs.Environment.{workers_of};
-ghost use Rattle.std.specs.Prelude.{◌≡◌, max, Ok, IfOk};
+ghost use Rattle.rayon_core.specs.Texts.{fixed_text};
+ghost use Rattle.std.specs.Prelude.{◌≡◌, max, None, Ok, IfOk, IfErr};
 
 use crate::outside::Outside;
 use rayon_core::{
@@ -9,7 +10,6 @@ use rayon_core::{
 use std::alloc::Global;
 use std::sync::{Mutex, OnceLock, Wait};
 use std::thread::Threads;
-use thiserror::Error;
 
 /// A pool that is made on first use, or by `build_global` before that. Nothing is global to the process: it is a value
 /// that `main` makes and hands on, and it has no `Drop`, so that it must be spent by `end`.
@@ -21,17 +21,6 @@ pub struct GlobalPool<J: JobKind> {
     pool: OnceLock<PoolRef<J>>,
     // The same pool, which has to be ended. Whoever fills has this lock meanwhile, so no second pool is made.
     held: Mutex<Option<DetachedPool<J>>>,
-}
-
-/// Why a global pool was not made as asked. There is none more than before.
-#[derive(Debug, Drop, Error)]
-pub enum GlobalPoolBuildError {
-    /// There is one already.
-    #[error("GlobalPoolAlreadyInitialized")]
-    GlobalPoolAlreadyInitialized,
-    /// None could be made.
-    #[error("{0}")]
-    NotBuilt(ThreadPoolBuildError),
 }
 
 // What a fill leaves.
@@ -73,6 +62,7 @@ impl<J: JobKind> GlobalPool<J> {
         J::Output: Send + Sync + 'static,
         J::Fault: Send + Sync + 'static,
         J::Handler: Send + Sync + 'static,
+        ensures cause { IfErr result (λ e. fixed_text e ≡ None) }
     {
         if let Some(outside) = self.get() {
             return Ok(outside);
@@ -83,15 +73,15 @@ impl<J: JobKind> GlobalPool<J> {
     }
 
     /// Makes the global pool by this builder. Refused `GlobalPoolAlreadyInitialized` where there is one, and then no
-    /// number is drawn and no thread started. `NotBuilt` where none can be made: it stays empty, and a later call may
-    /// fill it.
+    /// number is drawn and no thread started. Where none can be made the answer is the builder's, it stays empty, and a
+    /// later call may fill it.
     pub fn build_global<R: Threads + Wait + Copy + Send + 'static>(
         &self,
         rt: &R,
         alloc: Global,
         ids: &Ids,
         builder: ThreadPoolBuilder<J>,
-    ) -> Result<Outside<'_, J>, GlobalPoolBuildError>
+    ) -> Result<Outside<'_, J>, ThreadPoolBuildError>
     where
         J: Job + Send + Sync + 'static,
         J::Tag: Send + Sync + 'static,
@@ -104,8 +94,8 @@ impl<J: JobKind> GlobalPool<J> {
     {
         match self.fill(rt, alloc, ids, builder) {
             Ok(Filled::Made(pool)) => Ok(Outside::of(pool)),
-            Ok(Filled::Found(_)) => Err(GlobalPoolBuildError::GlobalPoolAlreadyInitialized),
-            Err(error) => Err(GlobalPoolBuildError::NotBuilt(error)),
+            Ok(Filled::Found(_)) => Err(ThreadPoolBuildError::GlobalPoolAlreadyInitialized),
+            Err(error) => Err(error),
         }
     }
 
@@ -128,6 +118,7 @@ impl<J: JobKind> GlobalPool<J> {
         ensures workers { (p : _) → result ≡ Ok (Filled.Made p) → p.now.workers ≡ workers_of builder }
         ensures depth { (p : _) → result ≡ Ok (Filled.Made p) → p.now.depth_limit ≡ max 1 builder.depth_limit }
         ensures order { (p : _) → result ≡ Ok (Filled.Made p) → p.now.breadth_first ≡ builder.breadth_first }
+        ensures cause { IfErr result (λ e. fixed_text e ≡ None) }
     {
         let mut held = self.held.lock(rt);
         if let Some(pool) = self.pool.get() {

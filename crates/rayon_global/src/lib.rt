@@ -12,7 +12,7 @@ pub use calls::{
     spawn_fifo,
 };
 pub use current::{Current, Stands};
-pub use global_pool::{GlobalPool, GlobalPoolBuildError};
+pub use global_pool::GlobalPool;
 pub use outside::Outside;
 pub use rayon_core::max_num_threads;
 pub use surroundings::builder_of_environment;

@@ -63,11 +63,30 @@ fn names_of_refused_pools_and_worlds(rt: HostRuntime) -> Result<(), Fail> {
     let text = format!(in alloc; "IOError: {}", Error::from(ErrorKind::WouldBlock))?;
     prints(&rt, alloc, &io_error, text.as_str())?;
     prints(&rt, alloc, &build_error_name(&io_error), "IOError")?;
+    assert!(rt; io_error.text().is_none());
     for (error, name) in [
         (ThreadPoolBuildError::NoRoom, "NoRoom"),
         (ThreadPoolBuildError::NoIds, "NoIds"),
     ] {
         prints(&rt, alloc, &error, name)?;
+        prints(&rt, alloc, &build_error_name(&error), name)?;
+    }
+    let global = ThreadPoolBuildError::GlobalPoolAlreadyInitialized;
+    let current = ThreadPoolBuildError::CurrentThreadAlreadyInPool;
+    for (error, name, text) in [
+        (
+            global,
+            "GlobalPoolAlreadyInitialized",
+            "The global thread pool has already been initialized.",
+        ),
+        (
+            current,
+            "CurrentThreadAlreadyInPool",
+            "The current thread is already part of another thread pool.",
+        ),
+    ] {
+        prints(&rt, alloc, &error, text)?;
+        assert_eq!(rt; error.text(), Some(text));
         prints(&rt, alloc, &build_error_name(&error), name)?;
     }
     let no_shape = "these pools are no shape of a world";

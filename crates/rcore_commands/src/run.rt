@@ -133,6 +133,8 @@ fn print_line<W: Write, E: Write>(number: u64, out: &mut W, err: &mut E) -> u8
 // The name of why a pool was not made, without the system's text.
 pub(crate) fn build_error_name(error: &ThreadPoolBuildError) -> &'static str {
     match error {
+        ThreadPoolBuildError::GlobalPoolAlreadyInitialized => "GlobalPoolAlreadyInitialized",
+        ThreadPoolBuildError::CurrentThreadAlreadyInPool => "CurrentThreadAlreadyInPool",
         ThreadPoolBuildError::IOError(_) => "IOError",
         ThreadPoolBuildError::NoRoom => "NoRoom",
         ThreadPoolBuildError::NoIds => "NoIds",

@@ -11,6 +11,8 @@ pub enum NoPool {
     IOError,
     /// The last pool number was drawn.
     NoIds,
+    /// Another cause, which no call of these meets.
+    Other,
 }
 
 impl NoPool {
@@ -20,6 +22,7 @@ impl NoPool {
             ThreadPoolBuildError::IOError(_) => NoPool::IOError,
             ThreadPoolBuildError::NoRoom => NoPool::NoRoom,
             ThreadPoolBuildError::NoIds => NoPool::NoIds,
+            _ => NoPool::Other,
         }
     }
 }

@@ -32,8 +32,8 @@ impl<T: Drop> From<AllocFailed<T>> for PlayError {
 impl From<ThreadPoolBuildError> for PlayError {
     fn from(error: ThreadPoolBuildError) -> PlayError {
         match error {
-            ThreadPoolBuildError::IOError(_) => PlayError::NoThread,
             ThreadPoolBuildError::NoRoom | ThreadPoolBuildError::NoIds => PlayError::NoMemory,
+            _ => PlayError::NoThread,
         }
     }
 }

@@ -3,20 +3,22 @@ ghost use Rattle.std.specs.Prelude.{◌≡◌, ℕ};
 
 use crate::hands;
 use rayon_core::{
-    BroadcastContext, CallError, FnContext, Job, JobKind, PanicHandler, Refusal, Waits, WorkerId,
+    BroadcastContext, CallError, FnContext, Job, JobKind, PoolHandler, Refusal, Waits, WorkerId,
     WorkerThread,
 };
 use std::alloc::Global;
 use std::sync::atomic::{AtomicU64, Ordering};
 use std::sync::{Arc, Barrier, Wait};
 
-/// What the runs of a test's jobs leave behind: how many have begun, the digits that were noted, and how many faults a
-/// pool's handler was told.
+/// What the runs of a test's jobs leave behind: how many have begun, the digits that were noted, how many faults a pool's
+/// handler was told, and of which workers' threads it was told that they began, and that they end.
 #[derive(Drop)]
 pub struct Marks {
     runs: AtomicU64,
     noted: AtomicU64,
     told: AtomicU64,
+    started: AtomicU64,
+    exited: AtomicU64,
 }
 
 impl Marks {
@@ -26,6 +28,8 @@ impl Marks {
             runs: AtomicU64::new(0),
             noted: AtomicU64::new(0),
             told: AtomicU64::new(0),
+            started: AtomicU64::new(0),
+            exited: AtomicU64::new(0),
         };
         Arc::new(alloc, marks).map_err(|_| Trouble::NoMemory)
     }
@@ -51,30 +55,64 @@ impl Marks {
     pub fn told(&self) -> u64 {
         self.told.load(Ordering::SeqCst)
     }
+
+    /// The sum of 2^i over each time that a handler was told of the beginning of the thread of worker i, below 64.
+    pub fn started(&self) -> u64 {
+        self.started.load(Ordering::SeqCst)
+    }
+
+    /// The same of the ends.
+    pub fn exited(&self) -> u64 {
+        self.exited.load(Ordering::SeqCst)
+    }
 }
 
-/// A handler that counts the faults that it is told, and notes the digit of each that has one.
+/// A handler that counts the faults that it is told, notes the digit of each that has one, and marks the threads of
+/// which it is told. It may answer a fault for each of these.
 #[derive(Drop)]
 pub struct Teller {
     marks: Arc<Marks>,
+    faults: bool,
 }
 
 impl Teller {
     /// A handler that leaves its marks there. Refused `NoMemory`.
     pub fn new(marks: &Arc<Marks>) -> Result<Teller, Trouble> {
+        Teller::of(marks, false)
+    }
+
+    /// The same, which faults with the number of each worker that it is told of where `faults` says so.
+    pub fn of(marks: &Arc<Marks>, faults: bool) -> Result<Teller, Trouble> {
         match Arc::try_clone(marks) {
-            Ok(marks) => Ok(Teller { marks }),
+            Ok(marks) => Ok(Teller { marks, faults }),
             Err(_) => Err(Trouble::NoMemory),
         }
     }
+
+    // Marks the thread of this worker.
+    fn mark(&self, threads: &AtomicU64, index: usize) -> Result<(), Trouble> {
+        threads.fetch_add(1 << (index % 64), Ordering::SeqCst);
+        if self.faults {
+            return Err(Trouble::Number(index as u64));
+        }
+        Ok(())
+    }
 }
 
-impl PanicHandler<Trouble> for Teller {
+impl PoolHandler<Trouble> for Teller {
     fn panicked<R: Wait>(&self, _rt: &R, fault: Trouble) {
         if let Trouble::Number(digit) = fault {
             self.marks.note(digit);
         }
         self.marks.told.fetch_add(1, Ordering::SeqCst);
+    }
+
+    fn started<R: Wait>(&self, _rt: &R, index: usize) -> Result<(), Trouble> {
+        self.mark(&self.marks.started, index)
+    }
+
+    fn exited<R: Wait>(&self, _rt: &R, index: usize) -> Result<(), Trouble> {
+        self.mark(&self.marks.exited, index)
     }
 }
 

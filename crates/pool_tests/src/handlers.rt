@@ -1,6 +1,6 @@
-//! The tests of who is told of the faults of detached jobs.
-use crate::errand::{Deed, Errand, Marks, Teller, Trouble};
-use rayon_core::{Ids, ThreadPool, ThreadPoolBuilder};
+//! The tests of who is told of the faults of detached jobs, and of the beginning and the end of a pool's threads.
+use crate::errand::{Deed, Errand, Marks, Teller, Trouble, outcome};
+use rayon_core::{Ids, ThreadPool, ThreadPoolBuildError, ThreadPoolBuilder};
 use std::alloc::Global;
 use std::process::Abort;
 use std::sync::{Arc, Wait};
@@ -65,5 +65,101 @@ fn each_fault_is_told_once(rt: HostRuntime) -> Result<(), Fail> {
         (shared.take_fault(&rt), shared.strays(&rt)),
         ((None, 0), 0)
     );
+    Ok(())
+}
+
+// A pool of so many workers, each of whose threads tells of its beginning and its end; where they fault the pool tells
+// a handler of that, if it has one.
+fn watched_pool<R: Threads + Wait + Abort + Copy + Send + 'static>(
+    rt: &R,
+    alloc: Global,
+    workers: usize,
+    marks: &Arc<Marks>,
+    fault: bool,
+    has_handler: bool,
+) -> ThreadPool<Errand> {
+    let builder = ThreadPoolBuilder::new()
+        .num_threads(workers)
+        .start_handler(Teller::of(marks, fault).expect(rt, "room"))
+        .exit_handler(Teller::of(marks, fault).expect(rt, "room"));
+    let builder = if has_handler {
+        builder.panic_handler(Teller::new(marks).expect(rt, "room"))
+    } else {
+        builder
+    };
+    builder.build(rt, alloc, &Ids::new()).expect(rt, "a pool")
+}
+
+// The start handler and the exit handler are told each worker's index once, whether the pool has run a job or not, and
+// faults of neither keep the pool from running one.
+#[test]
+fn each_thread_tells_its_index(rt: HostRuntime) -> Result<(), Fail> {
+    let alloc = rt.alloc();
+    for (jobs, fault) in [(0, false), (3, false), (3, true)] {
+        let marks = Marks::new(alloc).expect(&rt, "room");
+        let pool = watched_pool(&rt, alloc, 7, &marks, fault, true);
+        for digit in 0..jobs {
+            let job = Errand::new(digit, &marks, Deed::End(Ok(digit))).expect(&rt, "room");
+            assert_eq!(rt; outcome(pool.install(&rt, alloc, job)), Ok(digit));
+        }
+        pool.end_and_join(&rt);
+        assert_eq!(rt; (marks.started(), marks.exited()), (127, 127));
+        assert_eq!(rt; (marks.runs(), marks.told()), (jobs, 14 * u64::from(fault)));
+    }
+    Ok(())
+}
+
+// Sixteen workers whose start and exit handlers fault: the panic handler is told each of the 32 faults. Where there is
+// none the pool keeps the first, and their number.
+#[test]
+fn faults_of_handlers_go_to_the_handler(rt: HostRuntime) -> Result<(), Fail> {
+    let alloc = rt.alloc();
+    for (has_handler, told, kept) in [(true, 32, 0), (false, 0, 32)] {
+        let marks = Marks::new(alloc).expect(&rt, "room");
+        let pool = watched_pool(&rt, alloc, 16, &marks, true, has_handler);
+        let shared = pool.pool_ref().expect(&rt, "room");
+        pool.end_and_join(&rt);
+        assert_eq!(rt; (marks.started(), marks.exited()), (65535, 65535));
+        assert_eq!(rt; marks.told(), told);
+        let (first, count) = shared.take_fault(&rt);
+        assert_eq!(rt; count, kept);
+        assert_eq!(rt; matches!(first, Some(Trouble::Number(_))), kept > 0);
+        assert_eq!(rt; shared.take_fault(&rt), (None, 0));
+    }
+    Ok(())
+}
+
+// A worker runs its first job only once the start handler was told of its thread.
+#[test]
+fn start_is_told_before_a_job(rt: HostRuntime) -> Result<(), Fail> {
+    let alloc = rt.alloc();
+    let marks = Marks::new(alloc).expect(&rt, "room");
+    let pool = watched_pool(&rt, alloc, 1, &marks, false, false);
+    let job = Errand::new(0, &marks, Deed::End(Ok(5))).expect(&rt, "room");
+    assert_eq!(rt; outcome(pool.install(&rt, alloc, job)), Ok(5));
+    assert_eq!(rt; (marks.started(), marks.exited()), (1, 0));
+    pool.end_and_join(&rt);
+    assert_eq!(rt; (marks.started(), marks.exited()), (1, 1));
+    Ok(())
+}
+
+// A thread that the system cannot start tells of nothing.
+#[test]
+fn thread_that_is_not_started_tells_nothing(rt: HostRuntime) -> Result<(), Fail> {
+    let alloc = rt.alloc();
+    let marks = Marks::new(alloc).expect(&rt, "room");
+    let builder = ThreadPoolBuilder::<Errand>::new()
+        .num_threads(3)
+        .stack_size(usize::MAX)
+        .start_handler(Teller::new(&marks).expect(&rt, "room"))
+        .exit_handler(Teller::new(&marks).expect(&rt, "room"));
+    match builder.build(&rt, alloc, &Ids::new()) {
+        Ok(pool) => {
+            pool.end(&rt);
+            panic!(rt; "a pool");
+        }
+        Err(error) => assert!(rt; matches!(&error, ThreadPoolBuildError::IOError(_))),
+    }
+    assert_eq!(rt; (marks.started(), marks.exited()), (0, 0));
     Ok(())
 }

@@ -6,11 +6,12 @@ ghost use Rattle.std.specs.Prelude.{◌≡◌, ℕ, ◌+◌, ◌-◌, ◌^◌, �
 use crate::build_error::ThreadPoolBuildError;
 use crate::environment::{Environment, number_in};
 use crate::thread_pool::{ThreadPool, end_workers};
-use rayon_jobs::{JobKind, PanicHandler};
+use rayon_jobs::{JobKind, PoolHandler};
 use rayon_performers::{Registry, WorkerKit, WorkerSeats};
 use rayon_queues::WorkerDeque;
 use rayon_registry::{
-    Ids, Job, PoolRef, SharedFaults, ThreadBuilder, WorkerId, faults_of, new_pool, shared_of,
+    Handlers, Ids, Job, PoolRef, SharedFaults, ThreadBuilder, WorkerId, faults_of, new_pool,
+    shared_of,
 };
 use rayon_tasks::Task;
 use std::alloc::{AllocFailed, Global};
@@ -28,7 +29,7 @@ pub struct ThreadPoolBuilder<J: JobKind> {
     depth_limit: usize,
     steal_seed: u64,
     breadth_first: bool,
-    handler: Option<J::Handler>,
+    handlers: Handlers<J::Handler>,
     jobs: PhantomData<J>,
 }
 
@@ -37,14 +38,14 @@ impl<J: JobKind> Model for ThreadPoolBuilder<J> {
 
     ghost Value = { Settings J.Handler };
 
-    ghost view = { λ b. record { num_threads = b.num_threads; first = b.environment.first; second = b.environment.second; processors = b.environment.processors; stack_size = b.stack_size; depth_limit = b.depth_limit; steal_seed = b.steal_seed; breadth_first = b.breadth_first; handler = b.handler } };
+    ghost view = { λ b. record { num_threads = b.num_threads; first = b.environment.first; second = b.environment.second; processors = b.environment.processors; stack_size = b.stack_size; depth_limit = b.depth_limit; steal_seed = b.steal_seed; breadth_first = b.breadth_first; panic_handler = b.handlers.panic; start_handler = b.handlers.start; exit_handler = b.handlers.exit } };
 }
 
 impl<J: JobKind> ThreadPoolBuilder<J> {
     /// Settings of which none was made: the builder chooses how many workers, with no word of the environment and an
     /// unknown number of processors, and runs may nest as deep as the stack of a thread allows, which is the system's.
     pub fn new() -> ThreadPoolBuilder<J>
-        ensures { result ≡ record { num_threads = 0; first = None; second = None; processors = 0; stack_size = None; depth_limit = 2 ^ 64 - 1; steal_seed = 0; breadth_first = false; handler = None } }
+        ensures { result ≡ record { num_threads = 0; first = None; second = None; processors = 0; stack_size = None; depth_limit = 2 ^ 64 - 1; steal_seed = 0; breadth_first = false; panic_handler = None; start_handler = None; exit_handler = None } }
     {
         ThreadPoolBuilder {
             num_threads: 0,
@@ -53,7 +54,11 @@ impl<J: JobKind> ThreadPoolBuilder<J> {
             depth_limit: usize::MAX,
             steal_seed: 0,
             breadth_first: false,
-            handler: None,
+            handlers: Handlers {
+                panic: None,
+                start: None,
+                exit: None,
+            },
             jobs: PhantomData,
         }
     }
@@ -145,14 +150,38 @@ impl<J: JobKind> ThreadPoolBuilder<J> {
         builder
     }
 
-    /// Sets what the pool tells the faults of its detached jobs to, in place of keeping them for `take_fault`. The worker
-    /// that ran a job tells it, with no lock of the pool held, before the job's unit of the terminate count is given
-    /// back; several workers may do so at a time. rayon-core takes a closure, and ends the process where there is none.
+    /// Sets what the pool tells the faults of its detached jobs to, and those of the other two handlers, in place of
+    /// keeping them for `take_fault`. The worker that ran a job tells it (`PoolHandler::panicked`), with no lock of the
+    /// pool held, before the job's unit of the terminate count is given back; several workers may do so at a time.
+    /// rayon-core takes a closure, and ends the process where there is none.
     pub fn panic_handler(self, handler: J::Handler) -> ThreadPoolBuilder<J>
-        ensures { result ≡ record self { handler = Some handler } }
+        ensures { result ≡ record self { panic_handler = Some handler } }
     {
         let mut builder = self;
-        builder.handler = Some(handler);
+        builder.handlers.panic = Some(handler);
+        builder
+    }
+
+    /// Sets what each worker's thread tells its index to when it begins (`PoolHandler::started`), before it runs a job;
+    /// several threads may do so at a time, and `build` does not wait for it. A fault goes where that of a detached job
+    /// goes, and the worker goes on. A build that is refused has each thread that it started tell this and the exit
+    /// handler before it answers. rayon-core takes a closure.
+    pub fn start_handler(self, handler: J::Handler) -> ThreadPoolBuilder<J>
+        ensures { result ≡ record self { start_handler = Some handler } }
+    {
+        let mut builder = self;
+        builder.handlers.start = Some(handler);
+        builder
+    }
+
+    /// Sets what each worker's thread tells its index to once it has run its last job (`PoolHandler::exited`), before it
+    /// ends: so all was told once the threads are joined (`end_and_join`). A fault goes where that of a detached job
+    /// goes. rayon-core takes a closure, which may spawn jobs on a pool that has ended; this one is handed no pool.
+    pub fn exit_handler(self, handler: J::Handler) -> ThreadPoolBuilder<J>
+        ensures { result ≡ record self { exit_handler = Some handler } }
+    {
+        let mut builder = self;
+        builder.handlers.exit = Some(handler);
         builder
     }
 
@@ -192,7 +221,7 @@ impl<J: JobKind> ThreadPoolBuilder<J> {
             self.depth_limit,
             self.steal_seed,
             self.breadth_first,
-            self.handler,
+            self.handlers,
         );
         let Ok((pool, deques, hold)) = made else {
             return Err(ThreadPoolBuildError::NoRoom);
@@ -266,13 +295,13 @@ impl OwnSeats for WorkerSeats {
     }
 }
 
-// A share of the faults of a pool's detached jobs.
+// A share of the faults of a pool's detached jobs, and of its handlers.
 trait OwnFaults<F, H>: Drop {
     // It itself.
     fn into_faults(self) -> SharedFaults<F, H>;
 }
 
-impl<F: Drop, H: PanicHandler<F>> OwnFaults<F, H> for SharedFaults<F, H> {
+impl<F: Drop, H: PoolHandler<F>> OwnFaults<F, H> for SharedFaults<F, H> {
     fn into_faults(self) -> SharedFaults<F, H> {
         self
     }

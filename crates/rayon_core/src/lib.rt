@@ -14,7 +14,7 @@ pub use build_error::ThreadPoolBuildError;
 pub use builder::ThreadPoolBuilder;
 pub use end_after::EndAfter;
 pub use environment::max_num_threads;
-pub use rayon_jobs::{Done, JobKind, NoHandler, PanicHandler};
+pub use rayon_jobs::{Done, JobKind, NoHandler, PoolHandler};
 pub use rayon_registry::{
     BroadcastContext, FnContext, ForkJoin, Ids, Job, PoolId, PoolRef, Scope, Waits, WorkerId,
     WorkerThread,

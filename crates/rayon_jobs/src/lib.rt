@@ -11,6 +11,6 @@ mod lost;
 pub use cell::Cell;
 pub use done::Done;
 pub use faults::Faults;
-pub use handler::{NoHandler, PanicHandler};
+pub use handler::{NoHandler, PoolHandler};
 pub use kind::JobKind;
 pub use lost::{Lost, claimed};

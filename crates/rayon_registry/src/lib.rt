@@ -14,7 +14,7 @@ mod thread_builder;
 mod worker_thread;
 
 pub use context::{BroadcastContext, Context, FnContext, PieceContext, Scope};
-pub use faults::SharedFaults;
+pub use faults::{Handlers, SharedFaults};
 pub use ids::{IdSource, Ids, PoolId, WorkerId};
 pub use job::{Job, Waits};
 pub use join::{ForkJoin, PairRun};

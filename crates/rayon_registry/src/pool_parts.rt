@@ -2,7 +2,7 @@
 ghost use Rattle.std.specs.Arc.{arc_value};
 ghost use Rattle.std.specs.Prelude.{◌≡◌, ◌<◌, max, length, IfOk, IfErr};
 
-use crate::faults::SharedFaults;
+use crate::faults::{Handlers, SharedFaults};
 use crate::ids::PoolId;
 use crate::pool_ref::PoolRef;
 use rayon_jobs::JobKind;
@@ -15,7 +15,8 @@ use std::sync::{Arc, Wait};
 /// A pool of so many workers, none of which runs yet; what each worker begins with by index; and the unit of the
 /// terminate count that the pool's value holds. A `depth_limit` of 0 counts as 1; `steal_seed` is added to each
 /// worker's index for the seed of its choice of victims; `breadth_first` has each worker take the oldest task of its own
-/// deque first; the faults of detached jobs go to `handler`, and are kept where it is None. Refused `NoRoom`.
+/// deque first; `handlers` are told what is theirs, and the faults of detached jobs are kept where `panic` of them is
+/// None. Refused `NoRoom`.
 pub fn new_pool<J: JobKind, R: Wait>(
     rt: &R,
     alloc: Global,
@@ -24,14 +25,14 @@ pub fn new_pool<J: JobKind, R: Wait>(
     depth_limit: usize,
     steal_seed: u64,
     breadth_first: bool,
-    handler: Option<J::Handler>,
+    handlers: Handlers<J::Handler>,
 ) -> Result<(PoolRef<J>, Vec<WorkerKit<Task<J>>>, PoolHold), Refusal>
     requires { (0 < num_threads) × (num_threads < 65536) }
     ensures made { IfOk result (λ r. r.0 ≡ record { id = id; workers = num_threads; depth_limit = max 1 depth_limit; breadth_first = breadth_first; count = r.2 }) }
     ensures deques { IfOk result (λ r. length r.1.items ≡ num_threads) }
     ensures refused { IfErr result (λ r. r ≡ Refusal.NoRoom) }
 {
-    let faults = SharedFaults::new(alloc, handler)?;
+    let faults = SharedFaults::new(alloc, handlers)?;
     let (shared, deques, hold) = Registry::new(
         alloc,
         num_threads,
@@ -59,7 +60,7 @@ pub fn shared_of<J: JobKind>(pool: &PoolRef<J>) -> Result<Arc<Registry<Task<J>>,
     Arc::try_clone(&pool.pool.shared).map_err(|_| Refusal::NoRoom)
 }
 
-/// The faults of the pool's detached jobs, for one thread more. Refused `NoRoom`.
+/// The faults of the pool's detached jobs and its handlers, for one thread more. Refused `NoRoom`.
 pub fn faults_of<J: JobKind>(
     pool: &PoolRef<J>,
 ) -> Result<SharedFaults<J::Fault, J::Handler>, Refusal>

@@ -65,14 +65,18 @@ impl<J: JobKind> ThreadBuilder<J> {
         self.index
     }
 
-    /// The worker's loop: runs what is queued, sleeps where nothing is, and ends when the pool has ended.
+    /// Tells the pool's start handler, where it has one; then the worker's loop: runs what is queued, sleeps where nothing
+    /// is, and ends when the pool has ended; at last tells the pool's exit handler. A handler's fault goes where that of
+    /// a detached job goes, and keeps nothing else from being done.
     pub fn run<R: Wait>(self, rt: &R, alloc: Global)
     where
         J: Job,
     {
         let ThreadBuilder { pool, index, deque } = self;
+        pool.faults.started(rt, index);
         let mut worker = WorkerThread::new(pool, index, deque);
         let level = Level::new(worker.levels());
         work_at(rt, &level, alloc, &mut worker);
+        worker.faults.exited(rt, index);
     }
 }

@@ -1,6 +1,6 @@
 //! Tests of a running pool that no script of calls can say: tasks that a job takes and pushes by hand, a pool's number,
-//! a pool that is lent, a pool that ends under calls at any moment, a pool that tells a handler the faults of detached
-//! jobs, and a latch between two threads.
+//! a pool that is lent, a pool that ends under calls at any moment, a pool that tells handlers the faults of detached
+//! jobs and of its threads, names of threads, and a latch between two threads.
 #![tactic(auto)]
 
 #[cfg(test)]
@@ -11,5 +11,7 @@ mod errand;
 mod handlers;
 #[cfg(test)]
 mod hands;
+#[cfg(test)]
+mod names;
 #[cfg(test)]
 mod tests;

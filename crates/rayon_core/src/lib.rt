@@ -7,6 +7,7 @@ mod builder;
 mod end_after;
 mod environment;
 pub mod latch;
+mod thread_names;
 mod thread_pool;
 
 // What jobs and calls are written with.
@@ -21,6 +22,7 @@ pub use rayon_registry::{
 };
 pub use rayon_sleep::latch::{Owner, SpinLatch};
 pub use rayon_words::{CallError, Refusal};
+pub use thread_names::{NamesBy, NoNames, ThreadNames};
 pub use thread_pool::{DetachedPool, ThreadPool};
 
 // What is pushed and taken by hand. To users it is opaque: none answers for a call but the one that the call queued.

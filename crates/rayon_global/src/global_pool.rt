@@ -5,7 +5,8 @@ ghost use Rattle.std.specs.Prelude.{◌≡◌, max, None, Ok, IfOk, IfErr};
 
 use crate::outside::Outside;
 use rayon_core::{
-    DetachedPool, EndAfter, Ids, Job, JobKind, PoolRef, ThreadPoolBuildError, ThreadPoolBuilder,
+    DetachedPool, EndAfter, Ids, Job, JobKind, PoolRef, ThreadNames, ThreadPoolBuildError,
+    ThreadPoolBuilder,
 };
 use std::alloc::Global;
 use std::sync::{Mutex, OnceLock, Wait};
@@ -49,12 +50,12 @@ impl<J: JobKind> GlobalPool<J> {
     /// builder is let go. Two threads that call this at once make one pool. Where none can be made the answer is the
     /// builder's, it stays empty, and a later call may fill it. rayon-core makes its own by `ThreadPoolBuilder::new()`,
     /// which reads the environment; here `builder_of_environment` does that.
-    pub fn filled<R: Threads + Wait + Copy + Send + 'static>(
+    pub fn filled<N: ThreadNames, R: Threads + Wait + Copy + Send + 'static>(
         &self,
         rt: &R,
         alloc: Global,
         ids: &Ids,
-        builder: ThreadPoolBuilder<J>,
+        builder: ThreadPoolBuilder<J, N>,
     ) -> Result<Outside<'_, J>, ThreadPoolBuildError>
     where
         J: Job + Send + Sync + 'static,
@@ -62,6 +63,7 @@ impl<J: JobKind> GlobalPool<J> {
         J::Output: Send + Sync + 'static,
         J::Fault: Send + Sync + 'static,
         J::Handler: Send + Sync + 'static,
+        requires names { N.can_name builder.names }
         ensures cause { IfErr result (λ e. fixed_text e ≡ None) }
     {
         if let Some(outside) = self.get() {
@@ -75,12 +77,12 @@ impl<J: JobKind> GlobalPool<J> {
     /// Makes the global pool by this builder. Refused `GlobalPoolAlreadyInitialized` where there is one, and then no
     /// number is drawn and no thread started. Where none can be made the answer is the builder's, it stays empty, and a
     /// later call may fill it.
-    pub fn build_global<R: Threads + Wait + Copy + Send + 'static>(
+    pub fn build_global<N: ThreadNames, R: Threads + Wait + Copy + Send + 'static>(
         &self,
         rt: &R,
         alloc: Global,
         ids: &Ids,
-        builder: ThreadPoolBuilder<J>,
+        builder: ThreadPoolBuilder<J, N>,
     ) -> Result<Outside<'_, J>, ThreadPoolBuildError>
     where
         J: Job + Send + Sync + 'static,
@@ -88,6 +90,7 @@ impl<J: JobKind> GlobalPool<J> {
         J::Output: Send + Sync + 'static,
         J::Fault: Send + Sync + 'static,
         J::Handler: Send + Sync + 'static,
+        requires names { N.can_name builder.names }
         ensures workers { IfOk result (λ o. o.workers ≡ workers_of builder) }
         ensures depth { IfOk result (λ o. o.depth_limit ≡ max 1 builder.depth_limit) }
         ensures order { IfOk result (λ o. o.breadth_first ≡ builder.breadth_first) }
@@ -102,12 +105,12 @@ impl<J: JobKind> GlobalPool<J> {
     // Makes a pool where there is none. The lock is held meanwhile, in which no job is called: so of two threads that
     // fill at once one makes the pool, and the other finds it. That `held` has one where none is shown does not
     // happen.
-    fn fill<R: Threads + Wait + Copy + Send + 'static>(
+    fn fill<N: ThreadNames, R: Threads + Wait + Copy + Send + 'static>(
         &self,
         rt: &R,
         alloc: Global,
         ids: &Ids,
-        builder: ThreadPoolBuilder<J>,
+        builder: ThreadPoolBuilder<J, N>,
     ) -> Result<Filled<'_, J>, ThreadPoolBuildError>
     where
         J: Job + Send + Sync + 'static,
@@ -115,6 +118,7 @@ impl<J: JobKind> GlobalPool<J> {
         J::Output: Send + Sync + 'static,
         J::Fault: Send + Sync + 'static,
         J::Handler: Send + Sync + 'static,
+        requires names { N.can_name builder.names }
         ensures workers { (p : _) → result ≡ Ok (Filled.Made p) → p.now.workers ≡ workers_of builder }
         ensures depth { (p : _) → result ≡ Ok (Filled.Made p) → p.now.depth_limit ≡ max 1 builder.depth_limit }
         ensures order { (p : _) → result ≡ Ok (Filled.Made p) → p.now.breadth_first ≡ builder.breadth_first }

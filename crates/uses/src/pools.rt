@@ -3,6 +3,7 @@ ghost use Rattle.std.specs.Prelude.{◌≡◌, IfOk, false};
 
 use crate::global::halves;
 use crate::migrated::Tell;
+use crate::server::serve;
 use crate::sort::Sort;
 use crate::sum::Sum;
 use crate::threads::triples_of;
@@ -110,5 +111,8 @@ pub fn print_all<R: Runtime + Threads + Wait + Copy + Send + 'static>(
     println!(rt; "migrated: {job} {closure}")?;
     let (left, right) = halves(rt, alloc)?;
     println!(rt; "halves: {left} + {right}")?;
+    let batch = [1, 2, 3, u32::MAX, 4, 5, u32::MAX, 6];
+    let (begun, ended, total, failed) = serve(rt, alloc, &ids, &batch)?;
+    println!(rt; "server: {begun} threads, {ended} ended, {total} paid, {failed} failed")?;
     Ok(())
 }

@@ -129,6 +129,31 @@ fn faults_of_handlers_go_to_the_handler(rt: HostRuntime) -> Result<(), Fail> {
     Ok(())
 }
 
+// Of three handlers that are set each is told what is its own, and nothing else.
+#[test]
+fn each_handler_is_told_its_own(rt: HostRuntime) -> Result<(), Fail> {
+    let alloc = rt.alloc();
+    let panic = Marks::new(alloc).expect(&rt, "room");
+    let start = Marks::new(alloc).expect(&rt, "room");
+    let exit = Marks::new(alloc).expect(&rt, "room");
+    let pool = ThreadPoolBuilder::<Errand>::new()
+        .num_threads(4)
+        .panic_handler(Teller::new(&panic).expect(&rt, "room"))
+        .start_handler(Teller::of(&start, true).expect(&rt, "room"))
+        .exit_handler(Teller::of(&exit, true).expect(&rt, "room"))
+        .build(&rt, alloc, &Ids::new())
+        .expect(&rt, "a pool");
+    pool.end_and_join(&rt);
+    for (marks, told) in [
+        (&panic, (8, 0, 0)),
+        (&start, (0, 15, 0)),
+        (&exit, (0, 0, 15)),
+    ] {
+        assert_eq!(rt; (marks.told(), marks.started(), marks.exited()), told);
+    }
+    Ok(())
+}
+
 // A worker runs its first job only once the start handler was told of its thread.
 #[test]
 fn start_is_told_before_a_job(rt: HostRuntime) -> Result<(), Fail> {

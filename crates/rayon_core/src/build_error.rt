@@ -5,8 +5,8 @@ ghost use Rattle.std.specs.Prelude.{◌≡◌, option_map};
 use std::io;
 use thiserror::Error;
 
-/// Why a pool was not made. What was started for it has been ended again. In rayon-core the type is opaque, and the text of
-/// an `IOError` is the system's alone.
+/// Why a pool was not made. What was started for it has been ended again. In rayon-core the type is opaque, and the
+/// text of an `IOError` is the system's alone.
 #[derive(Debug, Drop, Error)]
 pub enum ThreadPoolBuildError {
     /// There is a global pool already. Only the call that makes the global pool answers this.

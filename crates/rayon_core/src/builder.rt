@@ -21,8 +21,8 @@ use std::sync::{Arc, Wait};
 use std::thread;
 use std::thread::{JoinHandle, Threads};
 
-/// What a pool is to be like. Contracts see what was set. `N` is what names its threads: nothing, until `thread_name` is
-/// called.
+/// What a pool is to be like. Contracts see what was set. `N` is what names its threads: nothing, until `thread_name`
+/// is called.
 #[derive(Drop)]
 pub struct ThreadPoolBuilder<J: JobKind, N = NoNames> {
     num_threads: usize,
@@ -92,10 +92,11 @@ impl<J: JobKind, N> ThreadPoolBuilder<J, N> {
         builder
     }
 
-    /// Tells what the choice of the number of workers goes by where none was asked for: the word that the environment has
-    /// for `RAYON_NUM_THREADS`, the one that it has for `RAYON_RS_NUM_CPUS`, and how many processors there are, where 0
-    /// says that this is unknown. rayon-core reads these by itself; here nothing is read that is not handed in. A word
-    /// counts as absent where it is not one or more decimal digits, after a plus or none, or says more than 2^64 - 1.
+    /// Tells what the choice of the number of workers goes by where none was asked for: the word that the environment
+    /// has for `RAYON_NUM_THREADS`, the one that it has for `RAYON_RS_NUM_CPUS`, and how many processors there are,
+    /// where 0 says that this is unknown. rayon-core reads these by itself; here nothing is read that is not handed in.
+    /// A word counts as absent where it is not one or more decimal digits, after a plus or none, or says more than 2^64
+    /// - 1.
     pub fn environment(
         self,
         first: Option<&str>,
@@ -115,10 +116,10 @@ impl<J: JobKind, N> ThreadPoolBuilder<J, N> {
         builder
     }
 
-    /// How many workers the pool will have, as far as settings were made: those that were asked for. Where none were, the
-    /// number of the first word, of which 0 stands for the number of processors; where that word is absent, the number of
-    /// the second one; where this is 0 or absent too, the number of processors. There is one worker at least, and no more
-    /// than `max_num_threads()`.
+    /// How many workers the pool will have, as far as settings were made: those that were asked for. Where none were,
+    /// the number of the first word, of which 0 stands for the number of processors; where that word is absent, the
+    /// number of the second one; where this is 0 or absent too, the number of processors. There is one worker at least,
+    /// and no more than `max_num_threads()`.
     pub fn worker_count(&self) -> usize
         ensures count { result ≡ workers_of self.now }
         ensures range { (0 < result) × (result < 65536) }
@@ -126,9 +127,9 @@ impl<J: JobKind, N> ThreadPoolBuilder<J, N> {
         self.environment.worker_count(self.num_threads)
     }
 
-    /// Sets how many bytes the stack of each worker's thread has, rounded up to a multiple of 128 KiB. Where that is not
-    /// set the system's limit says it, mostly 8 MiB (`ulimit -s`; 2 MiB where there is no limit). A size that the system
-    /// can't give makes `build` answer `IOError`.
+    /// Sets how many bytes the stack of each worker's thread has, rounded up to a multiple of 128 KiB. Where that is
+    /// not set the system's limit says it, mostly 8 MiB (`ulimit -s`; 2 MiB where there is no limit). A size that the
+    /// system can't give makes `build` answer `IOError`.
     pub fn stack_size(self, stack_size: usize) -> ThreadPoolBuilder<J, N>
         ensures { result ≡ record self { stack_size = Some stack_size } }
     {
@@ -139,9 +140,9 @@ impl<J: JobKind, N> ThreadPoolBuilder<J, N> {
 
     /// Sets how many runs may stand nested under one worker's own value; 0 counts as 1. What is not set is bounded by
     /// the stack of the worker's thread alone (`stack_size`), and a call that is nested deeper than it allows ends the
-    /// process. A level costs about 1,500 bytes of it by `join_jobs`, about 2,600 where a worker that waits takes the job
-    /// from a queue, and on top of that what the job's own `run` needs. A limit of 2,000 leaves 4 KiB for a level of 8 MiB
-    /// (500 do so of 2 MiB): safe for jobs whose `run` needs less than 1,400 bytes for its own variables.
+    /// process. A level costs about 1,500 bytes of it by `join_jobs`, about 2,600 where a worker that waits takes the
+    /// job from a queue, and on top of that what the job's own `run` needs. A limit of 2,000 leaves 4 KiB for a level
+    /// of 8 MiB (500 do so of 2 MiB): safe for jobs whose `run` needs less than 1,400 bytes for its own variables.
     pub fn depth_limit(self, depth_limit: usize) -> ThreadPoolBuilder<J, N>
         ensures { result ≡ record self { depth_limit = depth_limit } }
     {
@@ -159,8 +160,9 @@ impl<J: JobKind, N> ThreadPoolBuilder<J, N> {
         builder
     }
 
-    /// Has each worker take the oldest task of its own deque first, where else it takes the newest. Jobs that spawn then go
-    /// breadth first, and the second side of a join is found behind what was queued before it. No answer depends on it.
+    /// Has each worker take the oldest task of its own deque first, where else it takes the newest. Jobs that spawn
+    /// then go breadth first, and the second side of a join is found behind what was queued before it. No answer
+    /// depends on it.
     pub fn breadth_first(self) -> ThreadPoolBuilder<J, N>
         ensures { result ≡ record self { breadth_first = true } }
     {
@@ -193,8 +195,8 @@ impl<J: JobKind, N> ThreadPoolBuilder<J, N> {
         builder
     }
 
-    /// Sets what each worker's thread tells its index to once it has run its last job (`PoolHandler::exited`), before it
-    /// ends: so all was told once the threads are joined (`end_and_join`). A fault goes where that of a detached job
+    /// Sets what each worker's thread tells its index to once it has run its last job (`PoolHandler::exited`), before
+    /// it ends: so all was told once the threads are joined (`end_and_join`). A fault goes where that of a detached job
     /// goes. rayon-core takes a closure, which may spawn jobs on a pool that has ended; this one is handed no pool.
     pub fn exit_handler(self, handler: J::Handler) -> ThreadPoolBuilder<J, N>
         ensures { result ≡ record self { exit_handler = Some handler } }
@@ -204,10 +206,10 @@ impl<J: JobKind, N> ThreadPoolBuilder<J, N> {
         builder
     }
 
-    /// Sets what the worker's thread is called, by its index: tools such as `ps` show the first 15 bytes. `build` asks for
-    /// one name before it starts each thread, in the order of the indices. An error of the closure is want of memory,
-    /// and makes `build` answer `NoRoom`; a name with a NUL byte makes it answer `IOError` of the kind `InvalidInput`,
-    /// where rayon-core panics. What was started by then is ended and joined.
+    /// Sets what the worker's thread is called, by its index: tools such as `ps` show the first 15 bytes. `build` asks
+    /// for one name before it starts each thread, in the order of the indices. An error of the closure is want of
+    /// memory, and makes `build` answer `NoRoom`; a name with a NUL byte makes it answer `IOError` of the kind
+    /// `InvalidInput`, where rayon-core panics. What was started by then is ended and joined.
     pub fn thread_name<F: FnMut(usize) -> Result<String, AllocError>>(
         self,
         name: F,
@@ -243,9 +245,9 @@ impl<J: JobKind, N> ThreadPoolBuilder<J, N> {
     }
 
     /// Makes the pool: draws its number, and starts its workers' threads, each after its name was asked for. Refused
-    /// `NoIds`, `NoRoom`, `IOError`, in this order where more than one holds before a thread is started; what was started
-    /// is ended and joined again, so no thread is left. It asks that a closure which names the threads may be called
-    /// with any index, and again after that.
+    /// `NoIds`, `NoRoom`, `IOError`, in this order where more than one holds before a thread is started; what was
+    /// started is ended and joined again, so no thread is left. It asks that a closure which names the threads may be
+    /// called with any index, and again after that.
     ///
     /// Which of the three it is no clause can say: the numbers lie behind the lock of `Ids`, and memory and threads are
     /// the system's. That a pool that was begun is ended the types say: its unit of the terminate count has no `Drop`,
@@ -371,8 +373,8 @@ impl<F: Drop, H: PoolHandler<F>> OwnFaults<F, H> for SharedFaults<F, H> {
     }
 }
 
-// Starts the thread of this worker, which begins with what the pool's threads share, and with these faults, this deque and
-// these seats.
+// Starts the thread of this worker, which begins with what the pool's threads share, and with these faults, this deque
+// and these seats.
 fn start_sharing<
     J,
     N: OwnFaults<J::Fault, J::Handler> + Send + 'static,

@@ -2,7 +2,8 @@
 ghost use Rattle.rayon_core.specs.Environment.{Says, workers_for};
 ghost use Rattle.std.specs.Prelude.{◌≡◌, MatchOption, None};
 
-/// The most workers that a pool may have: 65,535. As in rayon-core, whose counters have 16 bits for a number of workers.
+/// The most workers that a pool may have: 65,535. As in rayon-core, whose counters have 16 bits for a number of
+/// workers.
 pub fn max_num_threads() -> usize
     ensures { result ≡ 65535 }
 {

@@ -61,7 +61,8 @@ impl<F: FnMut(usize) -> Result<String, AllocError> + Drop> ThreadNames for Names
     }
 }
 
-// The name, where the system can give it to a thread. Refused `IOError` of the kind `InvalidInput` where it holds a NUL.
+// The name, where the system can give it to a thread. Refused `IOError` of the kind `InvalidInput` where it holds a
+// NUL.
 pub(crate) fn given_name(name: String) -> Result<String, ThreadPoolBuildError>
     ensures kept { IfOk result (λ n. (n ≡ name) × (has_nul name ≡ false)) }
     ensures refused { IfErr result (λ e. (has_nul name ≡ true) × ((x : _) × (e ≡ ThreadPoolBuildError.IOError x) × (error_kind x ≡ ErrorKind.InvalidInput))) }

@@ -9,8 +9,8 @@ use std::ops::Deref;
 use std::sync::Wait;
 use std::thread::{JoinHandle, Threads};
 
-/// A pool, held by its value. It has no `Drop`: it must be spent by `end` or `end_and_join`. Contracts see of it what they
-/// see of its `PoolRef`, which it lends: so it has all calls that this one has.
+/// A pool, held by its value. It has no `Drop`: it must be spent by `end` or `end_and_join`. Contracts see of it what
+/// they see of its `PoolRef`, which it lends: so it has all calls that this one has.
 pub struct ThreadPool<J: JobKind> {
     pool: PoolRef<J>,
     hold: PoolHold,
@@ -97,8 +97,8 @@ impl<J: JobKind> ThreadPool<J> {
     }
 }
 
-/// A pool whose workers' threads are joined by nobody (`ThreadPool::detach`). It has no `Drop`: it must be spent by `end`.
-/// Contracts see of it what they see of its `PoolRef`, which it lends.
+/// A pool whose workers' threads are joined by nobody (`ThreadPool::detach`). It has no `Drop`: it must be spent by
+/// `end`. Contracts see of it what they see of its `PoolRef`, which it lends.
 pub struct DetachedPool<J: JobKind> {
     pool: PoolRef<J>,
     hold: PoolHold,

@@ -2,10 +2,12 @@
 //! spawned, each met by the output at its number.
 #![tactic(auto)]
 
+mod outcome;
 mod receipt;
 mod scope_book;
 mod slot;
 
+pub use outcome::Outcome;
 pub use receipt::{Ended, Receipt, are_met, is_met};
 pub use scope_book::ScopeBook;
 pub use slot::{First, NoOutputs, Slot};

@@ -51,8 +51,8 @@ pub struct Ended<V, O> {
 }
 
 impl<V, J: JobKind> Ended<V, Vec<Done<J>>> {
-    /// The output of the job of this receipt: the one at its number, which the job's relation allows at the receipt's own
-    /// tag and place. None where the outputs don't meet the receipt.
+    /// The output of the job of this receipt: the one at its number, which the job's relation allows at the receipt's
+    /// own tag and place. None where the outputs don't meet the receipt.
     pub fn output(&self, receipt: &Receipt<J::Tag>) -> Option<&J::Output>
         ensures within { IfSome result (λ o. Within J.answers (J.answers_on J.answers) (record { tag = receipt.now.tag; place = receipt.now.place; answer = Ok o.now })) }
         ensures at { IfSome result (λ o. HoldsAt (λ d. d.answer ≡ Ok o.now) self.now.outputs.items receipt.now.number) }

@@ -107,8 +107,8 @@ impl<J: JobKind> ScopeBook<J> {
     }
 
     /// Stores what the job of this number answered, and keeps its fault where that is the first. Nothing changes where
-    /// the slot was never opened or is filled. What the book does not keep comes back, a later fault or what no slot takes:
-    /// so its value is let go where the book is not held any more.
+    /// the slot was never opened or is filled. What the book does not keep comes back, a later fault or what no slot
+    /// takes: so its value is let go where the book is not held any more.
     pub fn close_slot(&mut self, number: u64, done: Done<J>) -> Option<Done<J>>
         ensures stored { self.new ≡ stored self.old number done }
         ensures unkept { result ≡ unkept self.old number done }

@@ -1,0 +1,68 @@
+//! What a scope's book gives once the scope has ended.
+ghost use Rattle.rayon_books.specs.Books.{Allowed, Lacks};
+ghost use Rattle.rayon_books.specs.Outcomes.{ending_in};
+ghost use Rattle.std.specs.Prelude.{◌≡◌, All, IfErr, IfOk, IsOk, MatchResult, Err, None, Ok, map};
+ghost use Rattle.rayon_books.specs.Books.{no_book, ending_by};
+ghost use Rattle.rayon_books.specs.declared.slot.Slot.TheVariants.{Filled};
+
+use crate::scope_book::ScopeBook;
+use crate::slot::NoOutputs;
+use rayon_jobs::{Done, JobKind};
+use rayon_machine_places::place::Ending;
+use std::marker::Model;
+
+/// What a scope's book gave once the scope had ended: its outputs by number, or why it has none. By its type a job's
+/// fault is one that the job's relation allows.
+#[derive(Drop)]
+pub struct Outcome<J: JobKind> {
+    result: Result<Vec<Done<J>>, NoOutputs<J::Fault>>,
+}
+
+impl<J: JobKind> Model for Outcome<J> {
+    ghost use Rattle.rayon_books.specs.Books.{Allowed};
+    ghost use Rattle.rayon_books.specs.declared.slot.NoOutputs.{NoOutputs};
+    ghost use Rattle.rayon_jobs.specs.Within.{Run};
+    ghost use Rattle.std.specs.Prelude.{All, IfErr, IfOk, IsOk, List, Result, Err, Ok};
+
+    ghost Value = { Result (List (Run J.Tag J.Output J.Fault)) (NoOutputs J.Fault) };
+
+    ghost view = { λ o. elim o.result [ Ok v ↦ Ok v.items | Err e ↦ Err e ] };
+
+    ghost invariant = { λ o. IfOk o.result (λ v. All (λ d. IsOk d.answer) v.items) × IfErr o.result (Allowed J.answers (J.answers_on J.answers)) };
+}
+
+impl<J: JobKind> Outcome<J> {
+    /// What this book gives: the outputs by number, where each job has one. The first fault comes before that a slot is
+    /// open. The book is empty afterwards.
+    pub fn of_book(book: &mut ScopeBook<J>) -> Outcome<J>
+        ensures given { MatchResult result
+            (λ v. (book.old.first ≡ None) × (map Filled v ≡ book.old.slots))
+            (λ e. Lacks book.old e) }
+        ensures ending { ending_in result ≡ ending_by book.old }
+        ensures empty { book.new ≡ no_book }
+    {
+        Outcome {
+            result: book.outputs(),
+        }
+    }
+
+    /// How the scope ended: with a fault where the body's or a job's was the first.
+    pub fn ending(&self) -> Ending
+        ensures { result ≡ ending_in self.now }
+    {
+        match &self.result {
+            Err(NoOutputs::Body | NoOutputs::Fault(_)) => Ending::Fault,
+            Ok(_) | Err(NoOutputs::Missing | NoOutputs::Foreign) => Ending::Fine,
+        }
+    }
+
+    /// The outputs, or why there are none.
+    pub fn into_result(self) -> Result<Vec<Done<J>>, NoOutputs<J::Fault>>
+        ensures same { MatchResult result (λ v. self ≡ Ok v.items) (λ e. self ≡ Err e) }
+        ensures fine { IfOk result (λ v. All (λ d. IsOk d.answer) v.items) }
+        ensures fault { IfErr result (Allowed J.answers (J.answers_on J.answers)) }
+    {
+        let Outcome { result } = self;
+        result
+    }
+}

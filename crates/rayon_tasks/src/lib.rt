@@ -5,12 +5,14 @@
 mod call;
 mod call_latch;
 mod names;
+mod scope;
 mod task;
 mod ticket;
 mod work;
 
 pub use call::Call;
 pub use names::{Names, law_names};
+pub use scope::ScopeCore;
 pub use task::{Task, single_parts, task_of_job, task_of_pair, task_parts, token_of};
 pub use ticket::Ticket;
 pub use work::{Pair, Work};

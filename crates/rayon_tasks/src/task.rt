@@ -96,19 +96,26 @@ impl<J: JobKind> Task<J> {
         }
     }
 
-    /// What the end of the run sets going: of a detached job that its unit of the terminate count is given back, else that
-    /// its result is stored for the call that waits for it.
+    /// What the end of the run sets going: of a scope's job that its result is stored in the scope's book, of a
+    /// detached job that its unit of the terminate count is given back, else that its result is stored for the call
+    /// that waits for it.
     #[inline(always)]
     pub fn kind(&self) -> Kind
         ensures { result ≡ kind_in self.now.ticket }
     {
+        let owner = self.owner();
+        if let Some(scope) = self.ticket.scope() {
+            return Kind::Scoped {
+                call: scope.call(),
+                owner,
+            };
+        }
         if self.ticket.is_detached() {
-            Kind::Detached(0)
-        } else {
-            Kind::Stored {
-                call: self.number(),
-                owner: self.owner(),
-            }
+            return Kind::Detached(0);
+        }
+        Kind::Stored {
+            call: self.number(),
+            owner,
         }
     }
 
